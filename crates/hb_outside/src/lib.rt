@@ -1,13 +1,12 @@
-// A library with one function.
+//! The outside as sources and sinks of bytes, and numbers as bytes.
+//!
+//! The one contract: a source moves the first bytes of what it has left, a sink appends what it is
+//! given, and each answers `Failed` only where its count of faults rose in that call.
+//!
+//! Each may tell its bytes or not. What is proved of a caller over every source or sink holds over
+//! one that tells nothing too, as a file or a terminal.
 #![tactic(auto)]
 
-ghost use Rattle.std.specs.Prelude.{◌≡◌};
-ghost use Rattle.hb_outside.specs.Echo.{echo_of};
+mod traits;
 
-// The `ensures` clause is the contract: what `echo` returns is `echo_of` of its argument, a definition
-// in `specs/Echo.antt`, which a caller's clause can cite too.
-pub fn echo(x: usize) -> usize
-    ensures { result ≡ echo_of x }
-{
-    x
-}
+pub use traits::{Failed, Sink, Source};

@@ -1,13 +1,16 @@
-// A library with one function.
+//! The plain record set: commands, replies, scripts, and a set of records that answers.
+//!
+//! The one contract: `Set::answer` is the record set machine. For each command it gives the
+//! machine's reply and leaves the machine's next set; for want of memory alone it answers
+//! `Reply::NoMemory`, and then leaves the set as it was. The machine is a function of a finite map
+//! from points to bodies (`specs/Machine.antt`), and legal orders of answered lines are its runs
+//! (`specs/Order.antt`).
+//!
+//! Invariants: the records of a `Set` stand in the order of their points, each point once.
 #![tactic(auto)]
 
-ghost use Rattle.std.specs.Prelude.{◌≡◌};
-ghost use Rattle.hb_set.specs.Echo.{echo_of};
+mod commands;
+mod scripts;
 
-// The `ensures` clause is the contract: what `echo` returns is `echo_of` of its argument, a definition
-// in `specs/Echo.antt`, which a caller's clause can cite too.
-pub fn echo(x: usize) -> usize
-    ensures { result ≡ echo_of x }
-{
-    x
-}
+pub use commands::{Command, Reply};
+pub use scripts::{Answered, Line, Lines, Script, Steps};

@@ -1,0 +1,37 @@
+use hb_space::{Area, Body, Point, Record, Records};
+
+/// A command of the text.
+#[derive(Debug, Drop)]
+pub enum Command {
+    /// Adds the record, unless its point is there.
+    Insert(Record),
+    /// Takes away the record of the point.
+    Delete(Point),
+    /// Asks for the body under the point.
+    Lookup(Point),
+    /// Asks for all records that the box holds.
+    Search(Area),
+}
+
+/// What a command is answered.
+#[derive(Debug, Drop)]
+pub enum Reply {
+    /// An insert or a delete was done.
+    Done,
+    /// The point of an insert is there.
+    Duplicate,
+    /// The point of a delete isn't there.
+    Absent,
+    /// The body under the point of a lookup.
+    Found(Body),
+    /// The point of a lookup isn't there.
+    Missing,
+    /// The records that the box of a search holds, in the order of their points.
+    Within(Records),
+    /// No page was free for the record.
+    Full,
+    /// Memory was refused.
+    NoMemory,
+    /// A page could not be read.
+    ReadFault,
+}
