@@ -1,13 +1,14 @@
-// A library with one function.
+//! Command text and output text.
+//!
+//! The one contract: `read_commands` gives the script that the text says, or the first line that
+//! breaks a rule with the first rule that it breaks, as the grammar in `specs/Grammar.antt` has it;
+//! `put_reply` and `put_order` write the lines of `specs/Output.antt`.
 #![tactic(auto)]
 
-ghost use Rattle.std.specs.Prelude.{◌≡◌};
-ghost use Rattle.hb_text.specs.Echo.{echo_of};
+mod numbers;
+mod rules;
+mod verbs;
+mod words;
 
-// The `ensures` clause is the contract: what `echo` returns is `echo_of` of its argument, a definition
-// in `specs/Echo.antt`, which a caller's clause can cite too.
-pub fn echo(x: usize) -> usize
-    ensures { result ≡ echo_of x }
-{
-    x
-}
+pub use numbers::{NumberFault, read_number};
+pub use rules::{BadLine, TextRule};

@@ -1,0 +1,46 @@
+-- Where a line is cut into words.
+use Rattle.std.proofs.Common.{◌≡◌, ℕ, suc, ◌+◌, ◌-◌, ◌<◌, ◌≤◌, Bool, true, false, not, cond, eqb, ltb, List, [], ◌∷◌, length, take, drop, Some, None, Option, refl, sym, ap, ◌∙◌, arith}
+use Rattle.std.specs.List.{slice_split, onto_first, position, position_or_len, count_by}
+use Rattle.std.proofs.Math.Seq.{take-length}
+use Rattle.std.proofs.lemmas.List.{length-drop}
+use Rattle.std.proofs.lemmas.Bool.Decides.{nat_tests}
+use Rattle.std.proofs.lemmas.List.Splits.{slice_split_first, length-slice_split}
+use Rattle.hb_text.specs.Grammar.{words_of}
+
+-- an option that a test makes tells the test and the value
+made : (b : Bool) (n at : ℕ) → cond b (Some n) None ≡ Some at → (b ≡ true) × (n ≡ at)
+made true n at e = (refl, cc)
+made false n at e = cc
+
+not_made : (b : Bool) (n : ℕ) → cond b (Some n) None ≡ None → b ≡ false
+not_made true n e = cc
+not_made false n e = refl
+
+take_rest : (n : ℕ) (xs : List ℕ) → take (length xs - n) (drop n xs) ≡ drop n xs
+take_rest n xs = ap (λ m. take m (drop n xs)) (sym (length-drop n xs)) ∙ take-length (drop n xs)
+
+-- a line with a space is its first word, and the words behind that space
+pub words_at_space : (line : List ℕ) (at : ℕ) → position (λ c. eqb c 32) line ≡ Some at → words_of line ≡ take at line ∷ words_of (take (length line - (at + 1)) (drop (at + 1) line))
+words_at_space line at e =
+    let h = made _ (position_or_len (λ c. eqb c 32) line) at e in
+    let within : position_or_len (λ c. eqb c 32) line < length line = grind (arith, nat_tests, h.0) in
+    slice_split_first (λ c. eqb c 32) line 0 within ∙ ap (λ n. take n line ∷ words_of (drop (n + 1) line)) h.1
+    ∙ ap (λ rest. take at line ∷ words_of rest) (sym (take_rest (at + 1) line))
+
+-- a line without a space is one word
+none_split : (line : List ℕ) → length line ≤ position_or_len (λ c. eqb c 32) line → words_of line ≡ line ∷ []
+none_split [] h = refl
+none_split (c ∷ line) h =
+    elim (eqb c 32) as (λ b. suc (length line) ≤ cond (not b) (1 + position_or_len (λ c. eqb c 32) line) 0 → cond b ([] ∷ words_of line) (onto_first c (words_of line)) ≡ (c ∷ line) ∷ []) [
+      | true ↦ λ past. absurd (omega arith)
+      | false ↦ λ past. ap (onto_first c) (none_split line (omega arith))
+    ] h
+
+pub words_at_end : (line : List ℕ) → position (λ c. eqb c 32) line ≡ None → words_of line ≡ line ∷ []
+words_at_end line e =
+    let h = not_made _ (position_or_len (λ c. eqb c 32) line) e in
+    none_split line (grind (arith, nat_tests, h))
+
+-- there is one word more than there are spaces
+pub words_counted : (line : List ℕ) → length (words_of line) ≡ count_by (λ c. eqb c 32) line + 1
+words_counted line = length-slice_split (λ c. eqb c 32) line

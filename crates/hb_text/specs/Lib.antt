@@ -1,0 +1,9 @@
+pub use Rattle.hb_space.specs.Points
+pub use Rattle.hb_space.specs.Boxes
+pub use Rattle.hb_outside.specs.Streams
+pub use Rattle.hb_set.specs.Machine
+pub use Rattle.hb_set.specs.Order
+pub use Rattle.hb_set.specs.Scripts
+pub mod Numbers
+pub mod Grammar
+pub mod Output

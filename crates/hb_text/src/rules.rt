@@ -1,0 +1,37 @@
+/// What is wrong with a line of command text. The rules stand in the order in which they are
+/// tried, and the first that a line breaks is named.
+#[derive(Clone, Copy, Debug, PartialEq, Eq)]
+pub enum TextRule {
+    /// It is line 1,000,001.
+    TooMany,
+    /// It has more than `form::LINE` bytes.
+    LongLine,
+    /// It has a byte outside the printable ones.
+    BadByte,
+    /// A space stands at either end, or two stand together.
+    BadSpacing,
+    /// It is a step line where none is allowed, or its words are no steps.
+    BadStep,
+    /// The first word is no number from 1 to 16.
+    BadSession,
+    /// The second word is no verb.
+    BadVerb,
+    /// The number of words doesn't fit the verb.
+    BadCount,
+    /// A value is no number.
+    BadNumber,
+    /// A value is above the greatest number.
+    TooLarge,
+    /// A lower value exceeds its upper one.
+    EmptyBox,
+    /// The last word of an insert is no body.
+    BadBody,
+}
+
+/// The first line that breaks a rule, and the first rule that it breaks.
+#[derive(Clone, Copy, Debug, PartialEq, Eq)]
+pub struct BadLine {
+    /// The number of the line, from 1.
+    pub line: u32,
+    pub rule: TextRule,
+}

@@ -1,0 +1,40 @@
+ghost use Rattle.std.specs.Prelude.{◌≡◌};
+ghost use Rattle.hb_text.specs.Grammar.{verb_of, operand_count};
+
+/// What a command line asks for.
+#[derive(Clone, Copy, Debug, PartialEq, Eq)]
+pub(crate) enum Verb {
+    Insert,
+    Delete,
+    Lookup,
+    Search,
+}
+
+/// The verb that the word names.
+pub(crate) fn named_verb(word: &[u8]) -> Option<Verb>
+    ensures { result ≡ verb_of word.now }
+{
+    if word == b"insert".as_slice() {
+        Some(Verb::Insert)
+    } else if word == b"delete".as_slice() {
+        Some(Verb::Delete)
+    } else if word == b"lookup".as_slice() {
+        Some(Verb::Lookup)
+    } else if word == b"search".as_slice() {
+        Some(Verb::Search)
+    } else {
+        None
+    }
+}
+
+/// How many words follow the verb, over so many attributes.
+pub(crate) fn wanted_operands(verb: Verb, attributes: u8) -> usize
+    ensures { result ≡ operand_count verb attributes }
+{
+    let attributes = usize::from(attributes);
+    match verb {
+        Verb::Insert => attributes + 1,
+        Verb::Delete | Verb::Lookup => attributes,
+        Verb::Search => 2 * attributes,
+    }
+}
