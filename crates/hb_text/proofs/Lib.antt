@@ -1,2 +1,5 @@
 pub mod NumberWords
 pub mod WordCuts
+pub mod ValueWords
+pub mod LineCuts
+pub mod TextLines

@@ -8,15 +8,15 @@ use Rattle.std.proofs.lemmas.List.Splits.{slice_split_first, length-slice_split}
 use Rattle.hb_text.specs.Grammar.{words_of}
 
 -- an option that a test makes tells the test and the value
-made : (b : Bool) (n at : ℕ) → cond b (Some n) None ≡ Some at → (b ≡ true) × (n ≡ at)
+pub made : (b : Bool) (n at : ℕ) → cond b (Some n) None ≡ Some at → (b ≡ true) × (n ≡ at)
 made true n at e = (refl, cc)
 made false n at e = cc
 
-not_made : (b : Bool) (n : ℕ) → cond b (Some n) None ≡ None → b ≡ false
+pub not_made : (b : Bool) (n : ℕ) → cond b (Some n) None ≡ None → b ≡ false
 not_made true n e = cc
 not_made false n e = refl
 
-take_rest : (n : ℕ) (xs : List ℕ) → take (length xs - n) (drop n xs) ≡ drop n xs
+pub take_rest : (n : ℕ) (xs : List ℕ) → take (length xs - n) (drop n xs) ≡ drop n xs
 take_rest n xs = ap (λ m. take m (drop n xs)) (sym (length-drop n xs)) ∙ take-length (drop n xs)
 
 -- a line with a space is its first word, and the words behind that space

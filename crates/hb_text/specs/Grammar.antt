@@ -4,6 +4,7 @@ use Rattle.std.specs.List.{slice_split, onto_first, list_any, list_all}
 use Rattle.std.specs.Option.{option_to_list}
 use Rattle.std.specs.Str.{bytes_eq}
 use Rattle.hb_space.specs.declared.form.TheConstants.{BMAX, LINE}
+use Rattle.hb_space.specs.Boxes.{Area}
 use Rattle.hb_set.specs.declared.commands.Command.{Command}
 use Rattle.hb_set.specs.declared.commands.Command.TheVariants.{Insert, Delete, Lookup, Search}
 use Rattle.hb_set.specs.declared.scripts.Line.{Line}
@@ -134,6 +135,12 @@ abbrev pub are_ordered : List ℕ → Bool
 are_ordered (lo ∷ hi ∷ rest) = nat_le lo hi && are_ordered rest
 are_ordered _ = true
 
+abbrev pub box_read : List ℕ → Result Area TextRule
+box_read values = if are_ordered values then Ok (record { lo = lows values; hi = highs values }) else Err EmptyBox
+
+abbrev pub box_words_read : List (List ℕ) → Result Area TextRule
+box_words_read words = values_read words >>= box_read
+
 -- a body stands behind an equals sign
 abbrev pub body_read : List (List ℕ) → Result (List ℕ) TextRule
 body_read ((c ∷ body) ∷ rest) = if c == 61 && nat_le (length body) BMAX then Ok body else Err BadBody
@@ -152,8 +159,8 @@ operands_read verbs.Lookup k words = do
   key ← values_read words
   Ok (Lookup key)
 operands_read verbs.Search k words = do
-  values ← values_read words
-  if are_ordered values then Ok (Search (record { lo = lows values; hi = highs values })) else Err EmptyBox
+  area ← box_words_read words
+  Ok (Search area)
 
 abbrev pub verb_read : Option Verb → ℕ → List (List ℕ) → Result Command TextRule
 verb_read None k words = Err BadVerb
@@ -197,6 +204,16 @@ line_read allowed k taken number line =
     else (if not (list_all is_printable line) then Err BadByte
     else (if list_any is_empty (words_of line) then Err BadSpacing
     else words_read allowed k taken number (words_of line)))))
+
+-- What a call on the words of a line answered is what they say, where step lines aren't allowed.
+abbrev pub SaysCommand : Result Line TextRule → Result Said TextRule → Type 0
+SaysCommand (Ok line) read = read ≡ Ok (record { line = Some line; steps = [] })
+SaysCommand (Err rule) read = read ≡ Err rule
+
+-- What a call on one line answered is what the line says, where step lines aren't allowed.
+abbrev pub SaysLine : Result (Option Line) TextRule → Result Said TextRule → Type 0
+SaysLine (Ok line) read = read ≡ Ok (record { line = line; steps = [] })
+SaysLine (Err rule) read = read ≡ Err rule
 
 abbrev pub at_line : ℕ → Result Said TextRule → Result Said BadLine
 at_line number (Ok said) = Ok said

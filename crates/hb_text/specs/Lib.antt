@@ -7,3 +7,5 @@ pub use Rattle.hb_set.specs.Scripts
 pub mod Numbers
 pub mod Grammar
 pub mod Output
+pub mod Reading
+pub mod ScriptLaws

@@ -5,10 +5,15 @@
 //! `put_reply` and `put_order` write the lines of `specs/Output.antt`.
 #![tactic(auto)]
 
+mod commands;
+mod lines;
 mod numbers;
+mod operands;
+mod reading;
 mod rules;
 mod verbs;
 mod words;
 
 pub use numbers::{NumberFault, read_number};
-pub use rules::{BadLine, TextRule};
+pub use reading::read_commands;
+pub use rules::{BadLine, TextError, TextRule};

@@ -1,3 +1,8 @@
+ghost use Rattle.std.specs.Prelude.{◌≡◌};
+ghost use Rattle.hb_text.specs.declared.rules.TextError.TheVariants.{NoMemory};
+
+use std::alloc::AllocFailed;
+
 /// What is wrong with a line of command text. The rules stand in the order in which they are
 /// tried, and the first that a line breaks is named.
 #[derive(Clone, Copy, Debug, PartialEq, Eq)]
@@ -34,4 +39,21 @@ pub struct BadLine {
     /// The number of the line, from 1.
     pub line: u32,
     pub rule: TextRule,
+}
+
+/// Why a text gave no script.
+#[derive(Clone, Copy, Debug, PartialEq, Eq)]
+pub enum TextError {
+    /// A line breaks a rule.
+    Bad(BadLine),
+    /// Memory was refused.
+    NoMemory,
+}
+
+impl<T: Drop> From<AllocFailed<T>> for TextError {
+    ghost from_gives = { λ _ error. error ≡ NoMemory };
+
+    fn from(_refused: AllocFailed<T>) -> TextError {
+        TextError::NoMemory
+    }
 }

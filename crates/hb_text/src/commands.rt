@@ -1,0 +1,64 @@
+ghost use Rattle.std.specs.Prelude.{◌≡◌, ◌<◌, ◌≤◌, length};
+ghost use Rattle.hb_text.specs.Grammar.{session_of, operand_count, operands_read, command_read};
+
+use crate::numbers::read_number;
+use crate::operands::{read_body, read_box, read_point};
+use crate::rules::TextRule;
+use crate::verbs::{Verb, named_verb, wanted_operands};
+use crate::words::Words;
+use hb_set::Command;
+use hb_space::Record;
+use hb_space::form::KMAX;
+
+/// The session that a word names: a number from 1 to 16.
+pub(crate) fn read_session(word: &[u8]) -> Option<u8>
+    ensures { result ≡ session_of word.now }
+{
+    match read_number(word) {
+        Ok(number) if 1 <= number && number <= 16 => Some(number as u8),
+        _ => None,
+    }
+}
+
+/// The command of a verb, whose words are those that are left.
+#[tactic(auto, unfolding(crate::specs::Grammar::operands_read))]
+fn read_operands(
+    verb: Verb,
+    attributes: u8,
+    words: &mut Words<'_>,
+) -> Result<Command, TextRule>
+    requires some { 0 < attributes }
+    requires few { attributes ≤ KMAX }
+    requires count { length words.old ≡ operand_count verb attributes }
+    ensures { result ≡ operands_read verb attributes words.old }
+{
+    match verb {
+        Verb::Insert => {
+            let key = read_point(attributes, words)?;
+            let body = read_body(words)?;
+            Ok(Command::Insert(Record { key, body }))
+        }
+        Verb::Delete => Ok(Command::Delete(read_point(attributes, words)?)),
+        Verb::Lookup => Ok(Command::Lookup(read_point(attributes, words)?)),
+        Verb::Search => Ok(Command::Search(read_box(attributes, words)?)),
+    }
+}
+
+/// The command that the words behind the session say.
+#[tactic(auto, unfolding(crate::specs::Grammar::command_read))]
+pub(crate) fn read_command(attributes: u8, words: &mut Words<'_>) -> Result<Command, TextRule>
+    requires some { 0 < attributes }
+    requires few { attributes ≤ KMAX }
+    ensures { result ≡ command_read attributes words.old }
+{
+    let Some(word) = words.next_word() else {
+        return Err(TextRule::BadVerb);
+    };
+    let Some(verb) = named_verb(word) else {
+        return Err(TextRule::BadVerb);
+    };
+    if words.count() != wanted_operands(verb, attributes) {
+        return Err(TextRule::BadCount);
+    }
+    read_operands(verb, attributes, words)
+}

@@ -1,0 +1,106 @@
+ghost use Rattle.std.specs.Prelude.{◌≡◌, ◌==◌, ◌<◌, ◌≤◌, false, ◌∷◌, length, position, OnOk};
+ghost use Rattle.std.specs.List.{list_all, list_any};
+ghost use Rattle.hb_text.specs.Grammar.{lines_of, words_of, is_printable, is_empty, words_read, line_read, SaysLine, SaysCommand};
+
+use crate::commands::{read_command, read_session};
+use crate::rules::TextRule;
+use crate::words::Words;
+use hb_set::Line;
+use hb_space::form::{KMAX, LINE};
+
+/// The greatest number of lines.
+const LINES: u32 = 1_000_000;
+
+fn first_line_feed(text: &[u8]) -> Option<usize>
+    ensures { result ≡ position (λ c. c == 10) text.now }
+{
+    text.iter().position(|c| *c == b'\n')
+}
+
+/// The first line of a text, and the text behind its line feed.
+#[tactic(auto, using(crate::proofs::LineCuts::lines_at_feed, crate::proofs::LineCuts::lines_at_end))]
+pub(crate) fn first_line(text: &[u8]) -> (&[u8], &[u8])
+    requires { 0 < length text.now }
+    ensures cut { lines_of text.now ≡ result.0.now ∷ lines_of result.1.now }
+    ensures shorter { length result.1.now < length text.now }
+{
+    match first_line_feed(text) {
+        Some(at) => (&text[..at], &text[at + 1..]),
+        None => (text, &text[text.len()..]),
+    }
+}
+
+fn is_printable_line(line: &[u8]) -> bool
+    ensures { result ≡ list_all is_printable line.now }
+{
+    line.iter().all(|c| 32 <= *c && *c <= 126)
+}
+
+/// Whether a space stands at either end of the line, or two stand together.
+fn has_empty_word(line: &[u8]) -> bool
+    ensures { result ≡ list_any is_empty (words_of line.now) }
+{
+    let mut words = Words::of_line(line);
+    while let Some(word) = words.next_word() {
+        if word.is_empty() {
+            return true;
+        }
+    }
+    false
+}
+
+/// The command line that the words of a line say, or the first rule that they break.
+#[tactic(auto, unfolding(crate::specs::Grammar::words_read))]
+fn read_words(attributes: u8, number: u32, line: &[u8]) -> Result<Line, TextRule>
+    requires some { 0 < attributes }
+    requires few { attributes ≤ KMAX }
+    ensures { SaysCommand result (words_read false attributes 0 number (words_of line.now)) }
+{
+    let mut words = Words::of_line(line);
+    let Some(first) = words.next_word() else {
+        return Err(TextRule::BadSession);
+    };
+    if first == b"step".as_slice() {
+        return Err(TextRule::BadStep);
+    }
+    let Some(session) = read_session(first) else {
+        return Err(TextRule::BadSession);
+    };
+    let command = read_command(attributes, &mut words)?;
+    Ok(Line {
+        number,
+        session,
+        command,
+    })
+}
+
+/// What a line says: a command of a session, or nothing where it is empty; or the first rule that
+/// it breaks.
+#[tactic(auto, unfolding(crate::specs::Grammar::line_read))]
+pub(crate) fn read_line(
+    attributes: u8,
+    number: u32,
+    line: &[u8],
+) -> Result<Option<Line>, TextRule>
+    requires some { 0 < attributes }
+    requires few { attributes ≤ KMAX }
+    ensures says { SaysLine result (line_read false attributes 0 number line.now) }
+    ensures number { OnOk result (number ≤ 1000000) }
+{
+    if number > LINES {
+        return Err(TextRule::TooMany);
+    }
+    if line.is_empty() {
+        return Ok(None);
+    }
+    if line.len() > LINE {
+        return Err(TextRule::LongLine);
+    }
+    if !is_printable_line(line) {
+        return Err(TextRule::BadByte);
+    }
+    if has_empty_word(line) {
+        return Err(TextRule::BadSpacing);
+    }
+    Ok(Some(read_words(attributes, number, line)?))
+}
