@@ -1,0 +1,88 @@
+-- The words of the program.
+use Rattle.std.specs.Prelude.{ℕ, Bool, true, false, ◌&&◌, nat_le, if◌then◌else◌, List, [], ◌∷◌, codes, Option, Some, None}
+use Rattle.std.specs.Str.{bytes_eq}
+use Rattle.std.specs.Result.{result_ok}
+use Rattle.hb_text.specs.Numbers.{number_read}
+use Rattle.hbpi.specs.declared.forms.Form.{Form}
+use Rattle.hbpi.specs.declared.forms.Form.TheVariants.{Create, Dry, Run, Drive, Check, Map, Tidy, Gen, Work}
+
+infixl 10 ◌>>=◌
+abbrev pub ◌>>=◌ : {A B : Type 0} → Option A → (A → Option B) → Option B
+(Some x) >>= f = f x
+None >>= f = None
+
+-- a number word: decimal digits without a leading zero, at most 2 ^ 64 - 1
+abbrev pub number_of : List ℕ → Option ℕ
+number_of word = result_ok (number_read word)
+
+-- 1 to 4 attributes, and at most 1,000,000 lines
+abbrev pub attributes_of : List ℕ → Option ℕ
+attributes_of word = do
+  k ← number_of word
+  if nat_le 1 k && nat_le k 4 then Some k else None
+
+abbrev pub lines_of : List ℕ → Option ℕ
+lines_of word = do
+  n ← number_of word
+  if nat_le n 1000000 then Some n else None
+
+-- the words behind each first word
+abbrev pub create_of : List (List ℕ) → Option Form
+create_of (k ∷ pages ∷ log ∷ dcap ∷ icap ∷ []) = do
+  k ← number_of k
+  pages ← number_of pages
+  log ← number_of log
+  dcap ← number_of dcap
+  icap ← number_of icap
+  Some (Create k pages log dcap icap)
+create_of _ = None
+
+abbrev pub dry_of : List (List ℕ) → Option Form
+dry_of (k ∷ []) = do
+  k ← attributes_of k
+  Some (Dry k)
+dry_of _ = None
+
+abbrev pub gen_of : List (List ℕ) → Option Form
+gen_of (x ∷ n ∷ k ∷ []) = do
+  x ← number_of x
+  n ← lines_of n
+  k ← attributes_of k
+  Some (Gen x n k)
+gen_of _ = None
+
+abbrev pub work_of : List (List ℕ) → Option Form
+work_of (x ∷ n ∷ []) = do
+  x ← number_of x
+  n ← lines_of n
+  Some (Work x n)
+work_of _ = None
+
+-- a word that stands alone
+abbrev pub alone : Form → List (List ℕ) → Option Form
+alone form [] = Some form
+alone form (word ∷ words) = None
+
+-- the form that the words are, if they are one
+abbrev pub form_from : List ℕ → List (List ℕ) → Option Form
+form_from first words =
+    if bytes_eq first (codes "create") then create_of words
+    else (if bytes_eq first (codes "dry") then dry_of words
+    else (if bytes_eq first (codes "run") then alone Run words
+    else (if bytes_eq first (codes "drive") then alone Drive words
+    else (if bytes_eq first (codes "check") then alone Check words
+    else (if bytes_eq first (codes "map") then alone Map words
+    else (if bytes_eq first (codes "tidy") then alone Tidy words
+    else (if bytes_eq first (codes "gen") then gen_of words
+    else (if bytes_eq first (codes "work") then work_of words
+    else None))))))))
+
+unfoldable pub form_of : List (List ℕ) → Option Form
+form_of [] = None
+form_of (first ∷ words) = form_from first words
+
+-- a form whose command isn't built yet
+abbrev pub IsUnbuilt : Option Form → Type 0
+IsUnbuilt None = ⊥
+IsUnbuilt (Some (Dry k)) = ⊥
+IsUnbuilt (Some form) = Unit {0}

@@ -1,0 +1,157 @@
+ghost use Rattle.std.specs.Prelude.{◌≡◌, map, string_bytes};
+ghost use Rattle.hbpi.specs.Forms.{number_of, attributes_of, lines_of, create_of, dry_of, gen_of, work_of, alone, form_from, form_of};
+
+use hb_text::read_number;
+
+/// What the program is asked to do, by its words.
+#[derive(Clone, Copy, Debug, PartialEq, Eq)]
+pub enum Form {
+    /// A new file of this layout, whose fields may be out of their limits.
+    Create {
+        k: u64,
+        pages: u64,
+        log: u64,
+        dcap: u64,
+        icap: u64,
+    },
+    /// The plain record set over so many attributes.
+    Dry {
+        k: u8,
+    },
+    Run,
+    Drive,
+    Check,
+    Map,
+    Tidy,
+    /// So many lines of text from a state of the generator.
+    Gen {
+        x: u64,
+        n: u32,
+        k: u8,
+    },
+    /// The generated text, run on a file.
+    Work {
+        x: u64,
+        n: u32,
+    },
+}
+
+/// The number that a word says.
+fn read_word(word: &String) -> Option<u64>
+    ensures { result ≡ number_of (string_bytes word.now) }
+{
+    read_number(word.as_bytes()).ok()
+}
+
+/// A number of attributes.
+fn read_attributes(word: &String) -> Option<u8>
+    ensures { result ≡ attributes_of (string_bytes word.now) }
+{
+    let k = read_word(word)?;
+    if 1 <= k && k <= 4 { Some(k as u8) } else { None }
+}
+
+/// A number of lines.
+fn read_lines(word: &String) -> Option<u32>
+    ensures { result ≡ lines_of (string_bytes word.now) }
+{
+    let n = read_word(word)?;
+    if n <= 1_000_000 { Some(n as u32) } else { None }
+}
+
+fn read_create(words: &[String]) -> Option<Form>
+    ensures { result ≡ create_of (map string_bytes words.now) }
+{
+    match words {
+        [k, pages, log, dcap, icap] => Some(Form::Create {
+            k: read_word(k)?,
+            pages: read_word(pages)?,
+            log: read_word(log)?,
+            dcap: read_word(dcap)?,
+            icap: read_word(icap)?,
+        }),
+        _ => None,
+    }
+}
+
+fn read_dry(words: &[String]) -> Option<Form>
+    ensures { result ≡ dry_of (map string_bytes words.now) }
+{
+    match words {
+        [k] => Some(Form::Dry {
+            k: read_attributes(k)?,
+        }),
+        _ => None,
+    }
+}
+
+fn read_gen(words: &[String]) -> Option<Form>
+    ensures { result ≡ gen_of (map string_bytes words.now) }
+{
+    match words {
+        [x, n, k] => Some(Form::Gen {
+            x: read_word(x)?,
+            n: read_lines(n)?,
+            k: read_attributes(k)?,
+        }),
+        _ => None,
+    }
+}
+
+fn read_work(words: &[String]) -> Option<Form>
+    ensures { result ≡ work_of (map string_bytes words.now) }
+{
+    match words {
+        [x, n] => Some(Form::Work {
+            x: read_word(x)?,
+            n: read_lines(n)?,
+        }),
+        _ => None,
+    }
+}
+
+fn stands_alone(form: Form, words: &[String]) -> Option<Form>
+    ensures { result ≡ alone form (map string_bytes words.now) }
+{
+    if words.is_empty() { Some(form) } else { None }
+}
+
+/// The form that a first word begins.
+fn read_form(first: &str, words: &[String]) -> Option<Form>
+    ensures { result ≡ form_from first.now (map string_bytes words.now) }
+{
+    if first == "create" {
+        read_create(words)
+    } else if first == "dry" {
+        read_dry(words)
+    } else if first == "run" {
+        stands_alone(Form::Run, words)
+    } else if first == "drive" {
+        stands_alone(Form::Drive, words)
+    } else if first == "check" {
+        stands_alone(Form::Check, words)
+    } else if first == "map" {
+        stands_alone(Form::Map, words)
+    } else if first == "tidy" {
+        stands_alone(Form::Tidy, words)
+    } else if first == "gen" {
+        read_gen(words)
+    } else if first == "work" {
+        read_work(words)
+    } else {
+        None
+    }
+}
+
+impl Form {
+    /// The form that the words are. `None` where they are none.
+    #[tactic(auto, unfolding(crate::specs::Forms::form_of))]
+    pub fn of_words(words: &[String]) -> Option<Form>
+        ensures { result ≡ form_of (map string_bytes words.now) }
+    {
+        match words {
+            [] => None,
+            [first, others @ ..] => read_form(first.as_str(), others),
+        }
+    }
+}
