@@ -2,3 +2,4 @@ pub use Rattle.hb_space.specs.Points
 pub use Rattle.hb_space.specs.Boxes
 pub mod Machine
 pub mod Order
+pub mod Kept

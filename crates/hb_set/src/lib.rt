@@ -11,6 +11,8 @@
 
 mod commands;
 mod scripts;
+mod set;
 
 pub use commands::{Command, Reply};
 pub use scripts::{Answered, Line, Lines, Script, Steps};
+pub use set::Set;
