@@ -16,11 +16,8 @@ use Rattle.std.proofs.lemmas.List.Sorted.{searchable_from_sorted}
 use Rattle.std.proofs.lemmas.Grind.{common_steps}
 use Rattle.hb_space.specs.Points.{point_cmp}
 use Rattle.hb_space.specs.declared.records.Record.{Record}
+use Rattle.hb_set.specs.MachineLaws.{exact_points, without}
 use Rattle.hb_set.specs.Kept.{records_behind, entries_behind, PointsRise, IsAt, IsGapFor}
-
--- points that compare alike are one
-pub exact_points : IsAntisymmetric point_cmp
-exact_points = slice_cmp-IsAntisymmetric nat_cmp-IsAntisymmetric
 
 pub less_so : (o : Ordering) → is_lt o ≡ true → o ≡ Less
 less_so Less h = refl
@@ -107,10 +104,6 @@ put_gap (h ∷ hs) n zero gap = ap (λ o. by_order o ((n.value.key, n.value.body
 put_gap (h ∷ hs) n (suc i) gap =
     ap (λ o. by_order o ((n.value.key, n.value.body) ∷ entries_behind (h ∷ hs)) ((h.value.key, n.value.body) ∷ entries_behind hs) ((h.value.key, h.value.body) ∷ put point_cmp n.value.key n.value.body (entries_behind hs))) (turned h.value.key n.value.key Less (gap.lesser_before 0 h (omega arith) (omega arith)))
     ∙ ap (λ es. (h.value.key, h.value.body) ∷ es) (put_gap hs n i (gap_tail h hs n.value.key i gap))
-
--- what is left without the point p
-abbrev pub without : List ℕ → List (List ℕ × List ℕ) → List (List ℕ × List ℕ)
-without p es = where_key point_cmp (λ x. not (eq_by_cmp point_cmp p x)) es
 
 -- a first entry stays or goes
 abbrev pub kept_first : List (List ℕ × List ℕ) → Box Record Global → Bool → List (List ℕ × List ℕ)

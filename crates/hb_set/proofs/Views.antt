@@ -17,8 +17,9 @@ use Rattle.hb_space.specs.Boxes.{Area, holds}
 use Rattle.hb_set.specs.declared.commands.Command.TheVariants.{Insert, Delete, Lookup, Search}
 use Rattle.hb_set.specs.declared.commands.Reply.TheVariants.{Done, Duplicate, Absent, Found, Missing, Within}
 use Rattle.hb_set.specs.Machine.{RecordSet, record_of, records_of, HasAttributes, Answers, if_there, found_or_missing, reply_of}
+use Rattle.hb_set.specs.MachineLaws.{without, entries-remove}
 use Rattle.hb_set.specs.Kept.{records_behind, entries_behind, PointsRise, KeysHave, IsAt, IsGapFor}
-use Rattle.hb_set.proofs.Places.{exact_points, find_at, find_gap, put_gap, without, without_at}
+use Rattle.hb_set.proofs.Places.{find_at, find_gap, put_gap, without_at}
 
 -- the set of the records behind the handles
 abbrev pub set_behind : List (Box Record Global) → RecordSet
@@ -30,10 +31,6 @@ sorted_T hs r = subst T (sym r) tt
 T_true : (b : Bool) → T b → b ≡ true
 T_true true t = refl
 T_true false t = absurd t
-
-turned : {A : Type 0} (b : Bool) (x y : A) → cond (not b) x y ≡ cond b y x
-turned true x y = refl
-turned false x y = refl
 
 pub entries_are : (hs : List (Box Record Global)) → PointsRise hs → map.entries (set_behind hs) ≡ entries_behind hs
 entries_are hs r = map.entries-from_sorted point_cmp (entries_behind hs) (sorted_T hs r)
@@ -59,13 +56,9 @@ pub rise_remove : (hs : List (Box Record Global)) (p : List ℕ) (i : ℕ) → P
 rise_remove hs p i r at = T_true _ (subst (λ es. T (is_sorted point_cmp es)) (without_at hs p i r at) (is_sorted-where_key point_cmp (λ x. not (eq_by_cmp point_cmp p x)) (entries_behind hs) (sorted_T hs r)))
 
 pub set_remove : (hs : List (Box Record Global)) (p : List ℕ) (i : ℕ) → PointsRise hs → IsAt hs p i → set_behind (remove hs i) ≡ map.remove (set_behind hs) p
-set_remove hs p i r at = map.same_map nat_list_cmp_total exact_points _ _ (λ q.
-    map.get-from_sorted point_cmp (entries_behind (remove hs i)) q (sorted_T (remove hs i) (rise_remove hs p i r at))
-    ∙ ap (map.find point_cmp q) (sym (without_at hs p i r at))
-    ∙ find-where_key point_cmp (λ x. not (eq_by_cmp point_cmp p x)) q (λ x t. ap (λ o. not (is_eq o)) (sym (alike_right nat_list_cmp_total q x p t))) (entries_behind hs)
-    ∙ turned (eq_by_cmp point_cmp p q) _ _
-    ∙ ap (λ b. cond b None (map.find point_cmp q (entries_behind hs))) ((eq_by_cmp_equiv nat_list_cmp_total).symm p q)
-    ∙ sym (map.get-remove nat_list_cmp_total (set_behind hs) p q ∙ ap (cond (eq_by_cmp point_cmp q p) None) (map.get-from_sorted point_cmp (entries_behind hs) q (sorted_T hs r))))
+set_remove hs p i r at = map.same_entries_map _ _ (
+    entries_are (remove hs i) (rise_remove hs p i r at)
+    ∙ sym (entries-remove (set_behind hs) p ∙ ap (without p) (entries_are hs r) ∙ without_at hs p i r at))
 
 -- its records, in order
 pub records_are : (hs : List (Box Record Global)) → PointsRise hs → records_of (set_behind hs) ≡ records_behind hs
@@ -91,22 +84,6 @@ pub keys_have : (k : ℕ) (hs : List (Box Record Global)) → PointsRise hs → 
 keys_have k hs r all i d lt =
     let each = subst (All (λ (r : Record). length r.key ≡ k)) (records_are hs r) all in
     subst (λ (r : Record). length r.key ≡ k) (get_or-map (λ (h : Box Record Global). h.value) hs i d) (each i d.value (simp length-map lt))
-
-pub attributes_are : (k : ℕ) (hs : List (Box Record Global)) → PointsRise hs → KeysHave k hs → HasAttributes k (set_behind hs)
-attributes_are k hs r all = subst (All (λ (r : Record). length r.key ≡ k)) (sym (records_are hs r)) (All-map (λ (r : Record). length r.key ≡ k) (λ (h : Box Record Global). h.value) hs all)
-
--- the records that stay have as many attributes, and so has one that comes
-pub attributes_insert : (k : ℕ) (hs : List (Box Record Global)) (n : Box Record Global) (i : ℕ) → PointsRise hs → IsGapFor hs n.value.key i → length n.value.key ≡ k → HasAttributes k (set_behind hs) → HasAttributes k (set_behind (insert hs i n))
-attributes_insert k hs n i r gap new all =
-    let each = keys_have k hs r all in
-    let P = λ (h : Box Record Global). length h.value.key ≡ k in
-    attributes_are k (insert hs i n) (rise_insert hs n i r gap) (All-append P (take i hs) (n ∷ drop i hs) (All-take P i hs each) (All-cons P n (drop i hs) new (All-drop P i hs each)))
-
-pub attributes_remove : (k : ℕ) (hs : List (Box Record Global)) (p : List ℕ) (i : ℕ) → PointsRise hs → IsAt hs p i → HasAttributes k (set_behind hs) → HasAttributes k (set_behind (remove hs i))
-attributes_remove k hs p i r at all =
-    let each = keys_have k hs r all in
-    let P = λ (h : Box Record Global). length h.value.key ≡ k in
-    attributes_are k (remove hs i) (rise_remove hs p i r at) (All-append P (take i hs) (drop (suc i) hs) (All-take P i hs each) (All-drop P (suc i) hs each))
 
 -- a point at a place is there
 there : (hs : List (Box Record Global)) (p : List ℕ) (i : ℕ) → PointsRise hs → IsAt hs p i → (body : List ℕ) × (map.get (set_behind hs) p ≡ Some body)

@@ -1,5 +1,8 @@
 pub use Rattle.hb_space.specs.Points
 pub use Rattle.hb_space.specs.Boxes
 pub mod Machine
+pub mod MachineLaws
 pub mod Order
+pub mod Laws
+pub mod OrderLaws
 pub mod Kept

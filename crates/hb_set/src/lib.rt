@@ -10,6 +10,7 @@
 #![tactic(auto)]
 
 mod commands;
+pub mod laws;
 mod scripts;
 mod set;
 

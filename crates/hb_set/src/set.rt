@@ -1,4 +1,4 @@
-ghost use Rattle.std.specs.Prelude.{◌≡◌, ◌≢◌, ◌==◌, length, filter, None, IfOk, IfErr};
+ghost use Rattle.std.specs.Prelude.{◌≡◌, ◌≢◌, ◌==◌, ℕ, length, filter, None, IfOk, IfErr};
 ghost use Rattle.std.specs.FinMap as map;
 ghost use Rattle.hb_space.specs.Boxes.{holds};
 ghost use Rattle.hb_set.specs.Machine.{Answers, HasAttributes, MayWantMemory, attributes, reply_of};
@@ -37,7 +37,8 @@ const ROOM: usize = 16;
 impl Set {
     /// The empty set, with room for a few records.
     pub fn new(alloc: Global) -> Result<Set, NoMemory>
-        ensures { IfOk result (λ s. s ≡ map.empty) }
+        ensures empty { IfOk result (λ s. s ≡ map.empty) }
+        ensures attributes { IfOk result (λ s. (k : ℕ) → HasAttributes k s) }
     {
         Ok(Set {
             records: Vec::with_capacity(alloc, ROOM)?,
@@ -75,10 +76,8 @@ impl Set {
     }
 
     fn insert(&mut self, added: &Record) -> Reply
-        requires { HasAttributes (length added.now.key) self.old }
         ensures answers { Answers self.old (Command.Insert added.now) result self.new }
         ensures memory { result ≡ Reply.NoMemory → map.get self.old added.now.key ≡ None }
-        ensures attributes { HasAttributes (length added.now.key) self.new }
     {
         let place = match place_of(&self.records, &added.key) {
             Ok(_) => return Reply::Duplicate,
@@ -94,10 +93,8 @@ impl Set {
     }
 
     fn delete(&mut self, point: &Point) -> Reply
-        requires { HasAttributes (length point.now) self.old }
         ensures answers { Answers self.old (Command.Delete point.now) result self.new }
         ensures memory { result ≢ Reply.NoMemory }
-        ensures attributes { HasAttributes (length point.now) self.new }
     {
         match place_of(&self.records, point) {
             Ok(place) => {

@@ -1,7 +1,7 @@
 use Rattle.std.proofs.Common.{◌≡◌, ◌∙◌, ap, not, rules, insert}
 use Rattle.std.proofs.lemmas.Bool.{cond-true}
 use Rattle.hb_set.specs.Kept.{IsGapFor}
-use Rattle.hb_set.proofs.Views.{get_gap, rise_insert, insert_there, insert_done, attributes_insert}
+use Rattle.hb_set.proofs.Views.{get_gap, rise_insert, insert_there, insert_done}
 use Rattle.hb_set.proofs.set.Set.insert.Goals as goal
 
 pub returns-in-Ok-clause-answers : goal.returns-in-Ok-clause-answers
@@ -30,5 +30,3 @@ invariant_of-self-2 c = rw (added c) (rise_insert _ c.in-Ok-new.handle _ c.self.
 pub returns-clause-answers : goal.returns-clause-answers
 returns-clause-answers c = rw (added c, ← c.self.view_is, ← same_record c) (insert_done _ c.in-Ok-new.handle _ c.self.invariant (in_gap c))
 
-pub returns-clause-attributes : goal.returns-clause-attributes
-returns-clause-attributes c = rw (added c) (attributes_insert _ _ c.in-Ok-new.handle _ c.self.invariant (in_gap c) (rw (same_record c)) (rw (← c.self.view_is) at c.requires))
