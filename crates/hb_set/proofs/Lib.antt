@@ -1,0 +1,4 @@
+mod Places
+mod Views
+mod Windows
+mod Boxes

@@ -1,5 +1,9 @@
 pub use Rattle.hb_space.specs.Points
 pub use Rattle.hb_space.specs.Boxes
 pub mod Machine
+pub mod MachineLaws
 pub mod Order
+pub mod OrderLaws
+pub mod Laws
 pub mod Scripts
+pub mod Kept

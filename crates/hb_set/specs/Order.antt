@@ -1,11 +1,11 @@
 -- Legal orders of answered lines.
-use Rattle.std.specs.Prelude.{◌≡◌, ◌≢◌, ℕ, ◌<◌, List, [], ◌∷◌}
+use Rattle.std.specs.Prelude.{◌≡◌, ◌≢◌, ℕ, ◌<◌, List, [], ◌∷◌, map}
 use Rattle.std.specs.List.{AllByRecursion}
 use Rattle.hb_set.specs.declared.commands.Reply.{Reply}
 use Rattle.hb_set.specs.declared.commands.Reply.TheVariants.{Full, NoMemory, ReadFault}
 use Rattle.hb_set.specs.declared.scripts.Line.{Line}
 use Rattle.hb_set.specs.declared.scripts.Answered.{Answered}
-use Rattle.hb_set.specs.Machine.{RecordSet, reply_of, set_after}
+use Rattle.hb_set.specs.Machine.{RecordSet, reply_of, set_after, Answers}
 
 -- a script line with the reply that it got
 pub record Entry : Type 0 where
@@ -21,6 +21,13 @@ AreReplies m (e ∷ es) = (e.reply ≡ reply_of e.line.command m) × AreReplies 
 abbrev pub result_of : RecordSet → List Entry → RecordSet
 result_of m [] = m
 result_of m (e ∷ es) = result_of (set_after e.line.command m) es
+
+-- its lines, and their numbers
+abbrev pub lines_of : List Entry → List Line
+lines_of es = map (λ e. e.line) es
+
+abbrev pub order_of : List Entry → List ℕ
+order_of es = map (λ e. e.line.number) es
 
 -- one entry before another: another line, and a lower one where both are of one session
 pub record MayPrecede (a b : Entry) : Type 0 where
@@ -57,3 +64,17 @@ IsAbove l ls = AllByRecursion (λ after. l.number < after.number) ls
 abbrev pub AreRising : List Line → Type 0
 AreRising [] = Unit {0}
 AreRising (l ∷ ls) = IsAbove l ls × AreRising ls
+
+-- an answer to a line, which leaves the set `next`
+pub record IsAnswerTo (m : RecordSet) (l : Line) (a : Answered) (next : RecordSet) : Type 0 where
+  pub number : a.line ≡ l.number
+  pub untimed : a.at ≡ 0
+  pub answers : Answers m l.command a.reply next
+
+-- Each line was answered in turn, from the first set to the last one: by the machine, or for want of
+-- memory not at all. The answer has the line's number, and no time.
+abbrev pub Ran : RecordSet → List Line → List Answered → RecordSet → Type 0
+Ran m [] [] n = n ≡ m
+Ran m [] (a ∷ rest) n = ⊥
+Ran m (l ∷ ls) [] n = ⊥
+Ran m (l ∷ ls) (a ∷ rest) n = (next : RecordSet) × IsAnswerTo m l a next × Ran next ls rest n

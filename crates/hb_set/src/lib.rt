@@ -10,7 +10,10 @@
 #![tactic(auto)]
 
 mod commands;
+pub mod laws;
 mod scripts;
+mod set;
 
 pub use commands::{Command, Reply};
 pub use scripts::{Answered, Line, Lines, Script, Steps};
+pub use set::Set;

@@ -1,0 +1,113 @@
+-- Which records a box may hold, by the order of points: those between two places.
+use Rattle.std.proofs.Common.{◌≡◌, ℕ, zero, suc, ◌+◌, ◌-◌, ◌<◌, ◌≤◌, Bool, true, false, cond, ◌&&◌, List, [], ◌∷◌, ◌++◌, length, get_or, take, drop, map, filter, Box, All, ltb, leb, eqb, refl, sym, ap, subst, ◌∙◌, inl, inr, arith, get_or-take, get_or-drop, length-take, length-drop}
+use Rattle.std.specs.List.{AllWithin, HoldsAt}
+use Rattle.std.specs.List.Sorted.{IsPartitionedBy, IsPartitionPoint}
+use Rattle.std.specs.Ordering.{is_lt, nat_cmp, ordering_then}
+use Rattle.std.specs.declared.alloc.Global.{Global}
+use Rattle.std.specs.declared.cmp.Ordering.{Ordering}
+use Rattle.std.specs.declared.cmp.Ordering.TheVariants.{Less, Equal, Greater}
+use Rattle.std.proofs.lemmas.Cmp.{nat_list_cmp_total, ranked, by_ranked}
+use Rattle.std.proofs.lemmas.Bool.{false≢true, cases_lt, lt-leb, le-leb, leb-true, leb-false, and_parts, and_left, and_right}
+use Rattle.std.proofs.lemmas.Bool.Decides.{nat_tests}
+use Rattle.std.proofs.lemmas.Grind.{common_steps}
+use Rattle.std.proofs.lemmas.List.{take-append-drop, take_all, map-append, append-nil}
+use Rattle.std.proofs.lemmas.List.Elements.{filter-append}
+use Rattle.hb_space.specs.Points.{point_cmp}
+use Rattle.hb_space.specs.Boxes.{Area, is_between, holds}
+use Rattle.hb_space.specs.declared.records.Record.{Record}
+use Rattle.hb_set.specs.Kept.{records_behind, entries_behind, PointsRise}
+use Rattle.hb_set.proofs.Places.{rise_at, less_so}
+
+-- a point below the lower corner is not held
+pub outside_below : (lo hi p : List ℕ) → point_cmp p lo ≡ Less → is_between lo hi p ≡ false
+outside_below [] hi [] h = absurd (false≢true (ap is_lt h))
+outside_below [] [] (x ∷ xs) h = refl
+outside_below [] (y ∷ ys) (x ∷ xs) h = refl
+outside_below (l ∷ ls) [] p h = refl
+outside_below (l ∷ ls) (y ∷ ys) [] h = refl
+outside_below (l ∷ ls) (y ∷ ys) (x ∷ xs) h = by_ranked (x < l) (x ≡ l) (l < x) (nat_cmp x l) (ranked x l _ refl)
+    (λ o lt. and_left _ _ (and_left _ _ (lt-leb l x lt)))
+    (λ o same. and_right _ _ (outside_below ls ys xs (subst (λ (r : Ordering). ordering_then r (point_cmp xs ls) ≡ Less) o h)))
+    (λ o gt. absurd (false≢true (ap is_lt (subst (λ (r : Ordering). ordering_then r (point_cmp xs ls) ≡ Less) o h))))
+
+-- nor is one whose first value is above the greatest one
+pub outside_above : (lo hi p : List ℕ) → get_or hi 0 0 < get_or p 0 0 → is_between lo hi p ≡ false
+outside_above lo hi [] h = absurd (omega arith)
+outside_above [] [] (x ∷ xs) h = refl
+outside_above [] (y ∷ ys) (x ∷ xs) h = refl
+outside_above (l ∷ ls) [] (x ∷ xs) h = refl
+outside_above (l ∷ ls) (y ∷ ys) (x ∷ xs) h = and_left _ _ (and_right _ _ (lt-leb x y h))
+
+-- the first values don't fall where points rise
+pub first_values_rise : (p q : List ℕ) → point_cmp p q ≡ Less → get_or p 0 0 ≤ get_or q 0 0
+first_values_rise [] q h = omega arith
+first_values_rise (x ∷ xs) [] h = absurd (false≢true (ap is_lt h))
+first_values_rise (x ∷ xs) (y ∷ ys) h = by_ranked (x < y) (x ≡ y) (y < x) (nat_cmp x y) (ranked x y _ refl)
+    (λ o lt. omega arith)
+    (λ o same. omega arith)
+    (λ o gt. absurd (false≢true (ap is_lt (subst (λ (r : Ordering). ordering_then r (point_cmp xs ys) ≡ Less) o h))))
+
+-- the records below a corner stand before the others
+pub below_parts : (hs : List (Box Record Global)) (lo : List ℕ) → PointsRise hs → IsPartitionedBy (λ h. is_lt (point_cmp h.value.key lo)) hs
+below_parts hs lo r i j d le lt later = elim (cases_lt i j) [
+  | inl before ↦ ap is_lt (nat_list_cmp_total.trans (get_or hs i d).value.key (get_or hs j d).value.key lo (rise_at hs r i j d before lt) (less_so _ later))
+  | inr after ↦ subst (λ k. is_lt (point_cmp (get_or hs k d).value.key lo) ≡ true) {x = j} (omega arith) later
+]
+
+-- so do those whose first value is not above the greatest one
+pub reach_parts : (hs : List (Box Record Global)) (limit : ℕ) → PointsRise hs → IsPartitionedBy (λ h. leb (get_or h.value.key 0 0) limit) hs
+reach_parts hs limit r i j d le lt later = elim (cases_lt i j) [
+  | inl before ↦ le-leb _ _ (omega (arith, first_values_rise (get_or hs i d).value.key (get_or hs j d).value.key (rise_at hs r i j d before lt), leb-true _ _ later))
+  | inr after ↦ subst (λ k. leb (get_or (get_or hs k d).value.key 0 0) limit ≡ true) {x = j} (omega arith) later
+]
+
+-- so does each part of them
+pub rise_drop : (hs : List (Box Record Global)) (n : ℕ) → PointsRise hs → PointsRise (drop n hs)
+rise_drop hs zero r = r
+rise_drop [] (suc n) r = r
+rise_drop (h ∷ hs) (suc n) r = rise_drop hs n (and_parts _ _ r).1
+
+-- none of these records is held
+none_held : (p : Record → Bool) (hs : List (Box Record Global)) → All (λ h. p h.value ≡ false) hs → filter p (records_behind hs) ≡ []
+none_held p [] none = refl
+none_held p (h ∷ hs) none = ap (λ b. cond b (h.value ∷ filter p (records_behind hs)) (filter p (records_behind hs))) (none 0 h (omega arith)) ∙ none_held p hs (λ k d lt. none (suc k) d (omega arith))
+
+-- the filter of two parts, one after the other
+filter_parts : (p : Record → Bool) (hs : List (Box Record Global)) (n : ℕ) → filter p (records_behind hs) ≡ filter p (records_behind (take n hs)) ++ filter p (records_behind (drop n hs))
+filter_parts p hs n =
+    ap (λ (xs : List (Box Record Global)). filter p (records_behind xs)) (sym (take-append-drop n hs))
+    ∙ ap (filter p) (map-append (λ (h : Box Record Global). h.value) (take n hs) (drop n hs))
+    ∙ filter-append p (records_behind (take n hs)) (records_behind (drop n hs))
+
+-- where a part has none, the other has all
+pub filter_rest : (p : Record → Bool) (hs : List (Box Record Global)) (n : ℕ) → All (λ h. p h.value ≡ false) (take n hs) → filter p (records_behind (drop n hs)) ≡ filter p (records_behind hs)
+filter_rest p hs n none = sym (filter_parts p hs n ∙ ap (λ rs. rs ++ filter p (records_behind (drop n hs))) (none_held p (take n hs) none))
+
+pub filter_front : (p : Record → Bool) (hs : List (Box Record Global)) (n : ℕ) → All (λ h. p h.value ≡ false) (drop n hs) → filter p (records_behind (take n hs)) ≡ filter p (records_behind hs)
+filter_front p hs n none = sym (filter_parts p hs n ∙ ap (λ rs. filter p (records_behind (take n hs)) ++ rs) (none_held p (drop n hs) none) ∙ append-nil (filter p (records_behind (take n hs))))
+
+-- before the place for the lower corner no record is held
+none_below : (a : Area) (hs : List (Box Record Global)) (n : ℕ) → n ≤ length hs → AllWithin (λ h. is_lt (point_cmp h.value.key a.lo) ≡ true) hs 0 n → All (λ h. holds a h.value.key ≡ false) (take n hs)
+none_below a hs n le below k d lt =
+    let within : k < n = omega (arith, simp length-take at lt) in
+    rw get_or-take (outside_below a.lo a.hi (get_or hs k d).value.key (less_so _ (below k d (omega arith) within)))
+
+-- nor behind the place for the greatest first value
+none_above : (a : Area) (hs : List (Box Record Global)) (n : ℕ) → n ≤ length hs → AllWithin (λ h. leb (get_or h.value.key 0 0) (get_or a.hi 0 0) ≡ false) hs n (length hs) → All (λ h. holds a h.value.key ≡ false) (drop n hs)
+none_above a hs n le above k d lt =
+    let within : n + k < length hs = omega (arith, simp length-drop at lt) in
+    rw get_or-drop (outside_above a.lo a.hi (get_or hs (n + k) d).value.key (leb-false _ _ (above (n + k) d (omega arith) within)))
+
+-- what `hs[m..]` is
+pub rest_is : (hs : List (Box Record Global)) (m : ℕ) → take (length hs - m) (drop m hs) ≡ drop m hs
+rest_is hs m = take_all (length hs - m) (drop m hs) (omega (arith, length-drop m hs))
+
+-- so the records between the two places are all that the box may hold
+pub filter_window : (a : Area) (hs rest : List (Box Record Global)) (m n : ℕ) → rest ≡ drop m hs → m ≤ length hs → n ≤ length rest
+    → IsPartitionPoint (λ h. is_lt (point_cmp h.value.key a.lo) ≡ true) (λ h. is_lt (point_cmp h.value.key a.lo) ≡ false) hs m
+    → IsPartitionPoint (λ h. leb (get_or h.value.key 0 0) (get_or a.hi 0 0) ≡ true) (λ h. leb (get_or h.value.key 0 0) (get_or a.hi 0 0) ≡ false) rest n
+    → filter (λ r. holds a r.key) (records_behind (take n rest)) ≡ filter (λ r. holds a r.key) (records_behind hs)
+filter_window a hs rest m n is mle nle below above =
+    filter_front (λ r. holds a r.key) rest n (none_above a rest n nle above.1)
+    ∙ ap (λ (xs : List (Box Record Global)). filter (λ r. holds a r.key) (records_behind xs)) is
+    ∙ filter_rest (λ r. holds a r.key) hs m (none_below a hs m mle below.0)

@@ -1,0 +1,190 @@
+ghost use Rattle.std.specs.Prelude.{◌≡◌, ◌≢◌, ◌==◌, ℕ, length, filter, None, IfOk, IfErr};
+ghost use Rattle.std.specs.FinMap as map;
+ghost use Rattle.hb_space.specs.Boxes.{holds};
+ghost use Rattle.hb_set.specs.Machine.{Answers, HasAttributes, MayWantMemory, attributes, reply_of};
+ghost use Rattle.hb_set.specs.Kept.{records_behind, PointsRise, KeysHave, IsAt, IsGapFor};
+
+use crate::{Command, Reply};
+use hb_space::{Area, Body, NoMemory, Point, Record, Records};
+use std::alloc::Global;
+use std::marker::Model;
+
+/// A set of records: at most one for each point.
+#[derive(Debug, Drop)]
+pub struct Set {
+    records: Vec<Box<Record>>,
+}
+
+impl Model for Set {
+    ghost use Rattle.std.specs.Prelude.{ℕ, List, map as list_map};
+    ghost use Rattle.std.specs.FinMap as map;
+    ghost use Rattle.std.specs.Coded.{coded_list, coded_ℕ};
+    ghost use Rattle.hb_space.specs.Points.{point_cmp};
+    ghost use Rattle.hb_set.specs.Kept.{entries_behind, PointsRise};
+
+    ghost Value = { map.FinMap point_cmp (List ℕ) };
+
+    ghost coded = { map.code (coded_list coded_ℕ) (coded_list coded_ℕ) };
+
+    ghost view = { λ s. map.from_sorted (entries_behind s.records.items) };
+
+    ghost invariant = { λ s. PointsRise s.records.items };
+}
+
+/// How many records a new set has room for.
+const ROOM: usize = 16;
+
+impl Set {
+    /// The empty set, with room for a few records.
+    pub fn new(alloc: Global) -> Result<Set, NoMemory>
+        ensures empty { IfOk result (λ s. s ≡ map.empty) }
+        ensures attributes { IfOk result (λ s. (k : ℕ) → HasAttributes k s) }
+    {
+        Ok(Set {
+            records: Vec::with_capacity(alloc, ROOM)?,
+        })
+    }
+
+    /// How many records the set has.
+    pub fn len(&self) -> usize
+        ensures { result ≡ map.len self.now }
+    {
+        self.records.len()
+    }
+
+    /// Whether the set has no record.
+    pub fn is_empty(&self) -> bool
+        ensures { result ≡ (map.len self.now == 0) }
+    {
+        self.records.is_empty()
+    }
+
+    /// Answers the command, of as many attributes as the records that are there have. For want of
+    /// memory the answer is `NoMemory`, and then the set stays as it was.
+    pub fn answer(&mut self, command: &Command) -> Reply
+        requires { HasAttributes (attributes command.now) self.old }
+        ensures answers { Answers self.old command.now result self.new }
+        ensures memory { result ≡ Reply.NoMemory → MayWantMemory command.now self.old }
+        ensures attributes { HasAttributes (attributes command.now) self.new }
+    {
+        match command {
+            Command::Insert(record) => self.insert(record),
+            Command::Delete(point) => self.delete(point),
+            Command::Lookup(point) => self.lookup(point),
+            Command::Search(area) => self.search(area),
+        }
+    }
+
+    fn insert(&mut self, added: &Record) -> Reply
+        ensures answers { Answers self.old (Command.Insert added.now) result self.new }
+        ensures memory { result ≡ Reply.NoMemory → map.get self.old added.now.key ≡ None }
+    {
+        let place = match place_of(&self.records, &added.key) {
+            Ok(_) => return Reply::Duplicate,
+            Err(place) => place,
+        };
+        let Ok(handle) = Box::new(*self.records.allocator(), copied(added)) else {
+            return Reply::NoMemory;
+        };
+        if self.records.insert(place, handle).is_err() {
+            return Reply::NoMemory;
+        }
+        Reply::Done
+    }
+
+    fn delete(&mut self, point: &Point) -> Reply
+        ensures answers { Answers self.old (Command.Delete point.now) result self.new }
+        ensures memory { result ≢ Reply.NoMemory }
+    {
+        match place_of(&self.records, point) {
+            Ok(place) => {
+                self.records.remove(place);
+                Reply::Done
+            }
+            Err(_) => Reply::Absent,
+        }
+    }
+
+    fn lookup(&self, point: &Point) -> Reply
+        ensures answers { result ≡ reply_of (Command.Lookup point.now) self.now }
+    {
+        match place_of(&self.records, point) {
+            Ok(place) => Reply::Found(Body::new(self.records[place].body.bytes())),
+            Err(_) => Reply::Missing,
+        }
+    }
+
+    fn search(&self, area: &Area) -> Reply
+        requires { HasAttributes (length area.now.lo) self.now }
+        ensures answers { Answers self.now (Command.Search area.now) result self.now }
+    {
+        match held_by(*self.records.allocator(), &self.records, area) {
+            Ok(held) => Reply::Within(Records::new(held)),
+            Err(_) => Reply::NoMemory,
+        }
+    }
+}
+
+// Where the point is, or where it would go.
+fn place_of(records: &[Box<Record>], point: &Point) -> Result<usize, usize>
+    requires { PointsRise records.now }
+    ensures found { IfOk result (IsAt records.now point.now) }
+    ensures absent { IfErr result (IsGapFor records.now point.now) }
+{
+    records.binary_search_by(|handle| handle.key.cmp(point))
+}
+
+// A second record of the same point and body.
+fn copied(source: &Record) -> Record
+    ensures { result ≡ source.now }
+{
+    Record {
+        key: Point::new(source.key.values()),
+        body: Body::new(source.body.bytes()),
+    }
+}
+
+// Copies of the records that the box holds, in their order.
+fn held_by(alloc: Global, records: &[Box<Record>], area: &Area) -> Result<Vec<Record>, NoMemory>
+    requires rise { PointsRise records.now }
+    requires attributes { KeysHave (length area.now.lo) records.now }
+    ensures { IfOk result (λ held. held.items ≡ filter (λ r. holds area.now r.key) (records_behind records.now)) }
+{
+    let mut held = Vec::new(alloc);
+    for record in window(records, area) {
+        if is_held(area, &record.key) {
+            held.push(copied(record))?;
+        }
+    }
+    Ok(held)
+}
+
+// The records among which those of the box stand: from the first whose point is not below the
+// lower corner, up to the last whose first value is not above the greatest one.
+fn window<'a>(records: &'a [Box<Record>], area: &Area) -> &'a [Box<Record>]
+    requires rise { PointsRise records.now }
+    requires attributes { KeysHave (length area.now.lo) records.now }
+    ensures held { filter (λ r. holds area.now r.key) (records_behind result.now) ≡ filter (λ r. holds area.now r.key) (records_behind records.now) }
+    ensures attributes { KeysHave (length area.now.lo) result.now }
+{
+    let start = records.partition_point(|handle| handle.key.cmp(area.lo()).is_lt());
+    let rest = &records[start..];
+    let greatest = area.hi().values()[0];
+    let count = rest.partition_point(|handle| handle.key.values()[0] <= greatest);
+    &rest[..count]
+}
+
+// Whether the box holds the point.
+fn is_held(area: &Area, point: &Point) -> bool
+    requires { length point.now ≡ length area.now.lo }
+    ensures { result ≡ holds area.now point.now }
+{
+    let least = area.lo().values();
+    let greatest = area.hi().values();
+    for (i, value) in point.values().iter().enumerate() {
+        if *value < least[i] || greatest[i] < *value {
+            return false;
+        }
+    }
+    true
+}
