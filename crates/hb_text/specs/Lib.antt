@@ -9,3 +9,4 @@ pub mod Grammar
 pub mod Output
 pub mod Reading
 pub mod ScriptLaws
+pub mod TextLength
