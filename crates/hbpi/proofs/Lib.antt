@@ -1,1 +1,2 @@
 pub mod FormWords
+pub mod TextPieces

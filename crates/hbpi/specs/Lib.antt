@@ -1,2 +1,3 @@
 pub mod Forms
+pub mod Taking
 pub mod Outcome
