@@ -7,3 +7,4 @@ pub use Rattle.hb_set.specs.Scripts
 pub mod Numbers
 pub mod Grammar
 pub mod Output
+pub mod OutputLaws

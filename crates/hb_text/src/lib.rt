@@ -6,9 +6,12 @@
 #![tactic(auto)]
 
 mod numbers;
+mod output;
+mod output_line;
 mod rules;
 mod verbs;
 mod words;
 
 pub use numbers::{NumberFault, read_number};
+pub use output::{put_left, put_reply};
 pub use rules::{BadLine, TextRule};
