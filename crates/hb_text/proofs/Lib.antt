@@ -1,2 +1,3 @@
 pub mod NumberWords
 pub mod WordCuts
+pub mod OutputText

@@ -1,4 +1,4 @@
--- Laws of pieces that are put one after the other.
+-- Pieces that are put one after the other, and laws of them.
 use Rattle.std.specs.Prelude.{◌≡◌, ℕ, ◌+◌, ◌-◌, ◌^◌, ◌<◌, ◌≤◌, ◌⊎◌, List, [], ◌∷◌, ◌++◌, length, take, drop, Option, Some, None, Result, Ok, Err, OnErr, refl}
 use Rattle.std.specs.List.{flat_map}
 use Rattle.std.proofs.Common.{suc, get_or, ap, subst, sym, ◌∙◌, append_assoc, arith, inl, inr}
@@ -6,6 +6,12 @@ use Rattle.std.proofs.Math.Seq.{split_at, take-suc}
 use Rattle.std.proofs.lemmas.List.{append-nil}
 use Rattle.std.proofs.lemmas.Grind.{flat_map-append}
 use Rattle.hb_outside.specs.Streams.{IsFront, Appends, AppendsFront, Rose}
+
+-- of a text, a front was put, and the rest waits to be put
+pub record Waits (before after : Option (List ℕ)) (waiting text : List ℕ) : Type 0 where
+  pub front : List ℕ
+  pub is_text : front ++ waiting ≡ text
+  pub is_put : Appends before after front
 
 -- two pieces that were put are their join
 pub Appends-both : (a b c : Option (List ℕ)) (p q : List ℕ) → Appends a b p → Appends b c q → Appends a c (p ++ q)
@@ -34,6 +40,36 @@ Appends-none (Some w) = sym (ap Some (append-nil w))
 pub Rose-later : (a b c : ℕ) → a ≤ b → Rose b c → Rose a c
 Rose-later a b c le (inl lt) = inl (omega arith)
 Rose-later a b c le (inr e) = inr e
+
+-- a text of which nothing was put waits whole
+pub Waits-start : (a : Option (List ℕ)) (text : List ℕ) → Waits a a text text
+Waits-start a text = record { front = []; is_text = refl; is_put = Appends-none a }
+
+-- what is added to the rest is added to the text
+pub Waits-more : {a b : Option (List ℕ)} {waiting text : List ℕ} → Waits a b waiting text → (more : List ℕ) → Waits a b (waiting ++ more) (text ++ more)
+Waits-more {waiting = waiting} w more =
+    record { front = w.front; is_text = sym (append_assoc w.front waiting more) ∙ ap (λ x. x ++ more) w.is_text; is_put = w.is_put }
+
+-- of the rest too a front was put
+pub Waits-then : {a b c : Option (List ℕ)} {rest waiting text : List ℕ} → Waits a b waiting text → Waits b c rest waiting → Waits a c rest text
+Waits-then {a = a} {b = b} {c = c} {rest = rest} v w =
+    record {
+      front = v.front ++ w.front;
+      is_text = append_assoc v.front w.front rest ∙ ap (λ x. v.front ++ x) w.is_text ∙ v.is_text;
+      is_put = Appends-both a b c v.front w.front v.is_put w.is_put;
+    }
+
+-- once the rest was put, the text was
+pub Waits-done : {a b : Option (List ℕ)} {waiting text : List ℕ} → (c : Option (List ℕ)) → Waits a b waiting text → Appends b c waiting → Appends a c text
+Waits-done {a = a} {b = b} {waiting = waiting} c w last =
+    let P : List ℕ → Type 0 = λ x. Appends a c x in
+    subst P w.is_text (Appends-both a b c w.front waiting w.is_put last)
+
+-- where only a front of the rest was, a front of the text was
+pub Waits-front : {a b : Option (List ℕ)} {waiting text : List ℕ} → (c : Option (List ℕ)) → Waits a b waiting text → AppendsFront b c waiting → AppendsFront a c text
+Waits-front {a = a} {b = b} {waiting = waiting} c w last =
+    let P : List ℕ → Type 0 = λ x. AppendsFront a c x in
+    subst P w.is_text (Appends-front a b c w.front waiting w.is_put last)
 
 -- the pieces of all items are those before one, that one's, and those behind it
 pub flat_map-at : {X : Type 0} (f : X → List ℕ) (xs : List X) (i : ℕ) (d : X) → i < length xs → flat_map f xs ≡ (flat_map f (take i xs) ++ f (get_or xs i d)) ++ flat_map f (drop (suc i) xs)

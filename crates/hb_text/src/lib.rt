@@ -13,5 +13,5 @@ mod verbs;
 mod words;
 
 pub use numbers::{NumberFault, read_number};
-pub use output::{put_left, put_reply};
+pub use output::{put_left, put_order, put_reply};
 pub use rules::{BadLine, TextRule};

@@ -1,13 +1,17 @@
 // The lines of the output text, each put to a sink from a buffer on the stack.
-ghost use Rattle.std.specs.Prelude.{◌≡◌, ◌+◌, ◌≤◌, ◌++◌, length, codes, decimal, if◌then◌else◌, OnOk, OnErr};
+ghost use Rattle.std.specs.Prelude.{◌≡◌, ◌+◌, ◌≤◌, max, [], ◌++◌, length, take, drop, codes, decimal, if◌then◌else◌, OnOk, OnErr};
 ghost use Rattle.hb_outside.specs.Streams.{Rose, Appends, AppendsFront};
 ghost use Rattle.hb_text.specs.Output.{numbers_text, record_text, reply_text, left_text, order_text};
+ghost use Rattle.hb_text.specs.OutputLaws.{Waits};
 ghost use Rattle.std.specs.List.{flat_map};
 
 use crate::output_line::LineBuffer;
 use hb_outside::{Failed, Sink};
 use hb_set::Reply;
 use hb_space::{Body, Record};
+
+// A piece with more bytes is put before another number is added.
+const FULL: usize = 160;
 
 /// Puts the lines of a reply to the line of this number: one put for each line. After `Failed` a
 /// front of them was put.
@@ -51,6 +55,78 @@ fn left_word(stopped: bool) -> &'static [u8]
     } else {
         b" unfinished\n"
     }
+}
+
+/// Puts the order, with a bar before the first line that isn't settled: `settled` of them are, or
+/// all where it exceeds their count. A put takes as many numbers as the buffer has room for. After
+/// `Failed` a front of the order was put.
+pub fn put_order<K: Sink>(sink: &mut K, order: &[u32], settled: u32) -> Result<(), Failed>
+    ensures ok { OnOk result (Appends (K.written sink.old) (K.written sink.new) (order_text order.now settled)) }
+    ensures failed { OnErr result (AppendsFront (K.written sink.old) (K.written sink.new) (order_text order.now settled)) }
+    ensures cause { OnErr result (Rose (K.faults sink.old) (K.faults sink.new)) }
+    ensures later { K.faults sink.old ≤ K.faults sink.new }
+{
+    let settled = settled as usize;
+    let (front, rest) = cut_at(order, settled);
+    let mut piece = LineBuffer::new();
+    piece.add(b"order");
+    put_numbers(sink, &mut piece, front)?;
+    piece.add(bar(settled < order.len()));
+    put_numbers(sink, &mut piece, rest)?;
+    piece.add(b"\n");
+    sink.put(piece.as_slice())
+}
+
+// The first so many numbers, or all where there are fewer, and the rest.
+fn cut_at(numbers: &[u32], count: usize) -> (&[u32], &[u32])
+    ensures front { result.0.now ≡ take count numbers.now }
+    ensures rest { result.1.now ≡ drop count numbers.now }
+{
+    if count < numbers.len() {
+        numbers.split_at(count)
+    } else {
+        (numbers, &[])
+    }
+}
+
+// What stands before the first line that isn't settled, if there is one.
+fn bar(is_left: bool) -> &'static [u8]
+    ensures word { result.now ≡ (if is_left then codes " |" else []) }
+    ensures short { length result.now ≤ 2 }
+{
+    if is_left { b" |" } else { b"" }
+}
+
+// Adds numbers to a piece, each after a space, and puts the piece whenever it is full. What is in
+// the piece at the end still has to be put.
+fn put_numbers<K: Sink>(sink: &mut K, piece: &mut LineBuffer, numbers: &[u32]) -> Result<(), Failed>
+    ensures ok { OnOk result (Waits (K.written sink.old) (K.written sink.new) piece.new.bytes.items (piece.old.bytes.items ++ numbers_text numbers.now)) }
+    ensures room { OnOk result (length piece.new.bytes.items ≤ max (FULL + 21) (length piece.old.bytes.items)) }
+    ensures failed { OnErr result (AppendsFront (K.written sink.old) (K.written sink.new) (piece.old.bytes.items ++ numbers_text numbers.now)) }
+    ensures cause { OnErr result (Rose (K.faults sink.old) (K.faults sink.new)) }
+    ensures later { K.faults sink.old ≤ K.faults sink.new }
+{
+    for number in numbers {
+        make_room(sink, piece)?;
+        piece.add_word(u64::from(*number));
+    }
+    Ok(())
+}
+
+// Puts a piece that is full.
+fn make_room<K: Sink>(sink: &mut K, piece: &mut LineBuffer) -> Result<(), Failed>
+    ensures ok { OnOk result (Waits (K.written sink.old) (K.written sink.new) piece.new.bytes.items piece.old.bytes.items) }
+    ensures room { OnOk result (length piece.new.bytes.items ≤ FULL) }
+    ensures failed { OnErr result (AppendsFront (K.written sink.old) (K.written sink.new) piece.old.bytes.items) }
+    ensures cause { OnErr result (Rose (K.faults sink.old) (K.faults sink.new)) }
+    ensures later { K.faults sink.old ≤ K.faults sink.new }
+{
+    if piece.len() <= FULL {
+        return Ok(());
+    }
+    sink.put(piece.as_slice())?;
+    piece.clear();
+    Ok(())
 }
 
 // Puts a line's number and what is said of that line, which is short.

@@ -1,5 +1,5 @@
 // A line of output text while it is built, in a buffer on the stack.
-ghost use Rattle.std.specs.Prelude.{◌≡◌, ◌+◌, ◌*◌, ◌≤◌, [], ◌++◌, length, decimal};
+ghost use Rattle.std.specs.Prelude.{◌≡◌, ◌+◌, ◌*◌, ◌≤◌, [], ◌∷◌, ◌++◌, length, decimal};
 ghost use Rattle.hb_text.specs.Output.{numbers_text};
 
 use arrayvec::ArrayVec;
@@ -22,6 +22,20 @@ impl LineBuffer {
         LineBuffer {
             bytes: ArrayVec::new(),
         }
+    }
+
+    // How many bytes it has.
+    pub fn len(&self) -> usize
+        ensures { result ≡ length self.now.bytes.items }
+    {
+        self.bytes.len()
+    }
+
+    // Makes it empty.
+    pub fn clear(&mut self)
+        ensures { self.new.bytes.items ≡ [] }
+    {
+        self.bytes.clear();
     }
 
     // The bytes.
@@ -48,6 +62,16 @@ impl LineBuffer {
         let mut digits = Buffer::new();
         self.add(digits.format(n).as_bytes());
     }
+    // Adds a space and a number in decimal, for which there is room.
+    pub fn add_word(&mut self, n: u64)
+        requires { length self.old.bytes.items + 21 ≤ ROOM }
+        ensures text { self.new.bytes.items ≡ self.old.bytes.items ++ 32 ∷ decimal n }
+        ensures longer { length self.new.bytes.items ≤ length self.old.bytes.items + 21 }
+    {
+        self.add(b" ");
+        self.add_number(n);
+    }
+
     // Adds numbers, each after a space, for which there is room.
     pub fn add_numbers(&mut self, numbers: &[u64])
         requires { length self.old.bytes.items + 21 * length numbers.now ≤ ROOM }
@@ -55,8 +79,7 @@ impl LineBuffer {
         ensures longer { length self.new.bytes.items ≤ length self.old.bytes.items + 21 * length numbers.now }
     {
         for number in numbers {
-            self.add(b" ");
-            self.add_number(*number);
+            self.add_word(*number);
         }
     }
 }
