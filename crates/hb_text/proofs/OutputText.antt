@@ -1,5 +1,5 @@
 -- The order's text in pieces.
-use Rattle.std.proofs.Common.{◌≡◌, ℕ, suc, ◌+◌, ◌<◌, List, [], ◌∷◌, ◌++◌, length, take, drop, get_or, Option, sym, ap, ◌∙◌, append_assoc}
+use Rattle.std.proofs.Common.{◌≡◌, ℕ, ◌+◌, ◌<◌, List, [], ◌∷◌, ◌++◌, length, take, drop, get_or, Option, sym, ap, ◌∙◌, append_assoc}
 use Rattle.std.specs.Prelude.{codes, nat_lt, if◌then◌else◌}
 use Rattle.std.specs.Fmt.{decimal}
 use Rattle.std.proofs.lemmas.List.{take-append-drop, flat_map_more}
@@ -12,7 +12,7 @@ use Rattle.hb_text.specs.OutputLaws.{Waits, Waits-more, Waits-then, Waits-front,
 pub numbers_end_early : (a c : Option (List ℕ)) (before ns : List ℕ) (i : ℕ) → AppendsFront a c (before ++ numbers_text (take i ns)) → AppendsFront a c (before ++ numbers_text ns)
 numbers_end_early a c before ns i h =
     let parts : numbers_text ns ≡ numbers_text (take i ns) ++ numbers_text (drop i ns) =
-      ap numbers_text (sym (take-append-drop i ns)) ∙ flat_map-append (λ n. 32 ∷ decimal n) (take i ns) (drop i ns) in
+    ap numbers_text (sym (take-append-drop i ns)) ∙ flat_map-append (λ n. 32 ∷ decimal n) (take i ns) (drop i ns) in
     let P : List ℕ → Type 0 = λ t. AppendsFront a c t in
     rw (parts, ← append_assoc before (numbers_text (take i ns)) (numbers_text (drop i ns)))
     (AppendsFront-longer a c (before ++ numbers_text (take i ns)) (numbers_text (drop i ns)) h)
@@ -21,7 +21,7 @@ numbers_end_early a c before ns i h =
 pub number_added : {a c : Option (List ℕ)} {waiting : List ℕ} (before ns : List ℕ) (i n : ℕ) (longer : List ℕ) → Waits a c waiting (before ++ numbers_text (take i ns)) → i < length ns → n ≡ get_or ns i 0 → longer ≡ waiting ++ 32 ∷ decimal n → Waits a c longer (before ++ numbers_text (take (i + 1) ns))
 number_added before ns i n longer w lt at e =
     let text : (before ++ numbers_text (take i ns)) ++ (32 ∷ decimal (get_or ns i 0)) ≡ before ++ numbers_text (take (i + 1) ns) =
-      flat_map_more (λ n. 32 ∷ decimal n) before (take i ns) (get_or ns i 0) ∙ ap (λ l. before ++ numbers_text l) (sym (take_at_read ns i 0 lt).1) in
+    flat_map_more (λ n. 32 ∷ decimal n) before (take i ns) (get_or ns i 0) ∙ ap (λ l. before ++ numbers_text l) (sym (take_at_read ns i 0 lt).1) in
     rw (e, at, ← text) (Waits-more w (32 ∷ decimal (get_or ns i 0)))
 
 -- the order ends among the settled lines

@@ -217,3 +217,6 @@ fn record_line(record: &Record) -> LineBuffer
     line.add(b"\n");
     line
 }
+
+#[cfg(test)]
+mod tests;

@@ -7,4 +7,4 @@ pub returns-in_err-put_record-clause-failed : goal.returns-in_err-put_record-cla
 returns-in_err-put_record-clause-failed g c =
     OnErr-from _
     (AppendsFront-in_turn record_text c.args.records.now c.loop-record.record-index c.record-item.result _ _ _
-        c.loop-record-test.true c.record-item.is c.loop-record.invariant.0 c.in_err-put_record.ensures.failed)
+    c.loop-record-test.true c.record-item.is c.loop-record.invariant.0 c.in_err-put_record.ensures.failed)

@@ -14,4 +14,3 @@ returns-in-ReadFault-clause-ok g c = rw c.in-ReadFault.is c.put_said-in-ReadFaul
 
 pub returns-in-ReadFault-clause-failed : goal.returns-in-ReadFault-clause-failed
 returns-in-ReadFault-clause-failed g c = rw c.in-ReadFault.is c.put_said-in-ReadFault.ensures.failed
-
