@@ -3,3 +3,4 @@ pub mod WordCuts
 pub mod ValueWords
 pub mod LineCuts
 pub mod TextLines
+pub mod OutputText

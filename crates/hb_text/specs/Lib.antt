@@ -10,3 +10,4 @@ pub mod Output
 pub mod Reading
 pub mod ScriptLaws
 pub mod TextLength
+pub mod OutputLaws

@@ -1,0 +1,54 @@
+-- The order's text in pieces.
+use Rattle.std.proofs.Common.{◌≡◌, ℕ, ◌+◌, ◌<◌, List, [], ◌∷◌, ◌++◌, length, take, drop, get_or, Option, sym, ap, ◌∙◌, append_assoc}
+use Rattle.std.specs.Prelude.{codes, nat_lt, if◌then◌else◌}
+use Rattle.std.specs.Fmt.{decimal}
+use Rattle.std.proofs.lemmas.List.{take-append-drop, flat_map_more}
+use Rattle.std.proofs.lemmas.Grind.{flat_map-append, take_at_read}
+use Rattle.hb_outside.specs.Streams.{AppendsFront}
+use Rattle.hb_text.specs.Output.{numbers_text, order_text}
+use Rattle.hb_text.specs.OutputLaws.{Waits, Waits-more, Waits-then, Waits-front, AppendsFront-longer}
+
+-- numbers that end early are a front of all
+pub numbers_end_early : (a c : Option (List ℕ)) (before ns : List ℕ) (i : ℕ) → AppendsFront a c (before ++ numbers_text (take i ns)) → AppendsFront a c (before ++ numbers_text ns)
+numbers_end_early a c before ns i h =
+    let parts : numbers_text ns ≡ numbers_text (take i ns) ++ numbers_text (drop i ns) =
+    ap numbers_text (sym (take-append-drop i ns)) ∙ flat_map-append (λ n. 32 ∷ decimal n) (take i ns) (drop i ns) in
+    let P : List ℕ → Type 0 = λ t. AppendsFront a c t in
+    rw (parts, ← append_assoc before (numbers_text (take i ns)) (numbers_text (drop i ns)))
+    (AppendsFront-longer a c (before ++ numbers_text (take i ns)) (numbers_text (drop i ns)) h)
+
+-- one number more
+pub number_added : {a c : Option (List ℕ)} {waiting : List ℕ} (before ns : List ℕ) (i n : ℕ) (longer : List ℕ) → Waits a c waiting (before ++ numbers_text (take i ns)) → i < length ns → n ≡ get_or ns i 0 → longer ≡ waiting ++ 32 ∷ decimal n → Waits a c longer (before ++ numbers_text (take (i + 1) ns))
+number_added before ns i n longer w lt at e =
+    let text : (before ++ numbers_text (take i ns)) ++ (32 ∷ decimal (get_or ns i 0)) ≡ before ++ numbers_text (take (i + 1) ns) =
+    flat_map_more (λ n. 32 ∷ decimal n) before (take i ns) (get_or ns i 0) ∙ ap (λ l. before ++ numbers_text l) (sym (take_at_read ns i 0 lt).1) in
+    rw (e, at, ← text) (Waits-more w (32 ∷ decimal (get_or ns i 0)))
+
+-- the order ends among the settled lines
+pub order_ends_settled : (a b : Option (List ℕ)) (order : List ℕ) (settled : ℕ) (head front : List ℕ) → head ≡ codes "order" → front ≡ take settled order → AppendsFront a b (head ++ numbers_text front) → AppendsFront a b (order_text order settled)
+order_ends_settled a b order settled head front is_head is_front h =
+    let bar = (if nat_lt settled (length order) then codes " |" else []) in
+    let start = codes "order" ++ numbers_text (take settled order) in
+    let rest = numbers_text (drop settled order) in
+    let h' : AppendsFront a b start = rw (is_head, is_front) at h in
+    AppendsFront-longer a b ((start ++ bar) ++ rest) (codes "\n") (AppendsFront-longer a b (start ++ bar) rest (AppendsFront-longer a b start bar h'))
+
+-- the order ends behind them
+pub order_ends_later : {a b : Option (List ℕ)} {waiting : List ℕ} (c : Option (List ℕ)) (order : List ℕ) (settled : ℕ) (head front bar rest more : List ℕ) → Waits a b waiting (head ++ numbers_text front) → head ≡ codes "order" → front ≡ take settled order → bar ≡ (if nat_lt settled (length order) then codes " |" else []) → more ≡ waiting ++ bar → rest ≡ drop settled order → AppendsFront b c (more ++ numbers_text rest) → AppendsFront a c (order_text order settled)
+order_ends_later {a = a} {b = b} {waiting = waiting} c order settled head front bar rest more w is_head is_front is_bar is_more is_rest h =
+    let the_bar = (if nat_lt settled (length order) then codes " |" else []) in
+    let start = codes "order" ++ numbers_text (take settled order) in
+    let the_rest = numbers_text (drop settled order) in
+    let w' : Waits a b waiting start = rw (is_head, is_front) at w in
+    let h' : AppendsFront b c ((waiting ++ the_bar) ++ the_rest) = rw (is_more, is_bar, is_rest) at h in
+    AppendsFront-longer a c ((start ++ the_bar) ++ the_rest) (codes "\n") (Waits-front c (Waits-more (Waits-more w' the_bar) the_rest) h')
+
+-- what waits at the end, with a line feed, is the rest of the order
+pub order_waits : {a b c : Option (List ℕ)} {waiting later : List ℕ} (order : List ℕ) (settled : ℕ) (head front bar rest more last : List ℕ) → Waits a b waiting (head ++ numbers_text front) → head ≡ codes "order" → front ≡ take settled order → bar ≡ (if nat_lt settled (length order) then codes " |" else []) → more ≡ waiting ++ bar → rest ≡ drop settled order → Waits b c later (more ++ numbers_text rest) → last ≡ later ++ codes "\n" → Waits a c last (order_text order settled)
+order_waits {a = a} {b = b} {c = c} {waiting = waiting} {later = later} order settled head front bar rest more last w is_head is_front is_bar is_more is_rest v is_last =
+    let the_bar = (if nat_lt settled (length order) then codes " |" else []) in
+    let start = codes "order" ++ numbers_text (take settled order) in
+    let the_rest = numbers_text (drop settled order) in
+    let w' : Waits a b waiting start = rw (is_head, is_front) at w in
+    let v' : Waits b c later ((waiting ++ the_bar) ++ the_rest) = rw (is_more, is_bar, is_rest) at v in
+    rw is_last (Waits-more (Waits-then (Waits-more (Waits-more w' the_bar) the_rest) v') (codes "\n"))

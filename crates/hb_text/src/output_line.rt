@@ -1,0 +1,85 @@
+// A line of output text while it is built, in a buffer on the stack.
+ghost use Rattle.std.specs.Prelude.{◌≡◌, ◌+◌, ◌*◌, ◌≤◌, [], ◌∷◌, ◌++◌, length, decimal};
+ghost use Rattle.hb_text.specs.Output.{numbers_text};
+
+use arrayvec::ArrayVec;
+use itoa::Buffer;
+
+// Room for the longest line, which is a record's: 1 + 4 * 21 + 2 + 32 + 1 bytes.
+const ROOM: usize = 192;
+
+// The bytes of a line so far.
+#[derive(Drop)]
+pub struct LineBuffer {
+    bytes: ArrayVec<u8, ROOM>,
+}
+
+impl LineBuffer {
+    // An empty line.
+    pub fn new() -> LineBuffer
+        ensures { result.bytes.items ≡ [] }
+    {
+        LineBuffer {
+            bytes: ArrayVec::new(),
+        }
+    }
+
+    // How many bytes it has.
+    pub fn len(&self) -> usize
+        ensures { result ≡ length self.now.bytes.items }
+    {
+        self.bytes.len()
+    }
+
+    // Makes it empty.
+    pub fn clear(&mut self)
+        ensures { self.new.bytes.items ≡ [] }
+    {
+        self.bytes.clear();
+    }
+
+    // The bytes.
+    pub fn as_slice(&self) -> &[u8]
+        ensures { result.now ≡ self.now.bytes.items }
+    {
+        self.bytes.as_slice()
+    }
+
+    // Adds a piece, for which there is room.
+    pub fn add(&mut self, piece: &[u8])
+        requires { length self.old.bytes.items + length piece.now ≤ ROOM }
+        ensures { self.new.bytes.items ≡ self.old.bytes.items ++ piece.now }
+    {
+        let _fits = self.bytes.try_extend_from_slice(piece);
+    }
+
+    // Adds a number in decimal, for which there is room.
+    pub fn add_number(&mut self, n: u64)
+        requires { length self.old.bytes.items + 20 ≤ ROOM }
+        ensures text { self.new.bytes.items ≡ self.old.bytes.items ++ decimal n }
+        ensures longer { length self.new.bytes.items ≤ length self.old.bytes.items + 20 }
+    {
+        let mut digits = Buffer::new();
+        self.add(digits.format(n).as_bytes());
+    }
+    // Adds a space and a number in decimal, for which there is room.
+    pub fn add_word(&mut self, n: u64)
+        requires { length self.old.bytes.items + 21 ≤ ROOM }
+        ensures text { self.new.bytes.items ≡ self.old.bytes.items ++ 32 ∷ decimal n }
+        ensures longer { length self.new.bytes.items ≤ length self.old.bytes.items + 21 }
+    {
+        self.add(b" ");
+        self.add_number(n);
+    }
+
+    // Adds numbers, each after a space, for which there is room.
+    pub fn add_numbers(&mut self, numbers: &[u64])
+        requires { length self.old.bytes.items + 21 * length numbers.now ≤ ROOM }
+        ensures text { self.new.bytes.items ≡ self.old.bytes.items ++ numbers_text numbers.now }
+        ensures longer { length self.new.bytes.items ≤ length self.old.bytes.items + 21 * length numbers.now }
+    {
+        for number in numbers {
+            self.add_word(*number);
+        }
+    }
+}
