@@ -1,3 +1,4 @@
 pub mod Forms
 pub mod Taking
 pub mod Outcome
+pub mod Ends

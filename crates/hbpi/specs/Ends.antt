@@ -1,0 +1,85 @@
+-- What each status says of a run: its cause, and what it leaves.
+use Rattle.std.specs.Prelude.{◌≡◌, ℕ, ◌≤◌, ◌⊎◌, Bool, true, false, List, [], length, Option, Some, None, Ok, Err}
+use Rattle.hb_outside.specs.Streams.{Rose, Appends, AppendsFront}
+use Rattle.hb_set.specs.declared.scripts.Line.{Line}
+use Rattle.hb_set.specs.declared.scripts.Answered.{Answered}
+use Rattle.hb_set.specs.Scripts.{IsScriptFor}
+use Rattle.hb_text.specs.declared.rules.BadLine.{BadLine}
+use Rattle.hb_text.specs.Grammar.{text_read}
+use Rattle.hb_text.specs.Output.{output_text}
+use Rattle.hbpi.specs.declared.forms.Form.{Form}
+use Rattle.hbpi.specs.declared.forms.Form.TheVariants.{Dry}
+use Rattle.hbpi.specs.declared.statuses.Status.{Status}
+use Rattle.hbpi.specs.declared.statuses.Status.TheVariants.{Done, Usage, BadText, SourceFault, SinkFault, NoMemory, NotBuilt}
+use Rattle.hbpi.specs.Outcome.{fault_line, GetsLine, IsTextOf, IsWholeText, IsDryRun}
+
+-- what is seen of a run from outside: what the source had left and has left, what the sink held and holds, both counts
+-- of faults before and after, and what was answered, in which order
+pub record Seen : Type 0 where
+  pub left : Option (List ℕ)
+  pub rest : Option (List ℕ)
+  pub source_before : ℕ
+  pub source_after : ℕ
+  pub held : Option (List ℕ)
+  pub holds : Option (List ℕ)
+  pub sink_before : ℕ
+  pub sink_after : ℕ
+  pub answered : List Answered
+  pub order : List ℕ
+
+-- no command was done, and the fault line was written last
+pub record IsRefused (seen : Seen) (status : Status) : Type 0 where
+  pub line : GetsLine seen.held seen.holds seen.sink_before seen.sink_after (fault_line status)
+  pub none_answered : seen.answered ≡ []
+  pub none_ordered : seen.order ≡ []
+
+-- the source was not read
+pub record IsUnread (seen : Seen) : Type 0 where
+  pub rest : seen.rest ≡ seen.left
+  pub faults : seen.source_after ≡ seen.source_before
+
+-- the text was read whole, says these lines, and they were answered
+pub record IsAnswered (k : ℕ) (seen : Seen) (lines : List Line) : Type 0 where
+  pub text : List ℕ
+  pub whole : IsWholeText seen.left seen.rest text
+  pub says : text_read false k text ≡ Ok (record { lines = lines; steps = [] })
+  pub run : IsDryRun lines seen.answered seen.order
+
+-- the output of a run in which every line has an answer, and every line of the order is settled
+abbrev pub whole_output : Seen → List ℕ
+whole_output seen = output_text seen.answered [] false seen.order (length seen.order)
+
+-- the plain record set over k attributes
+abbrev pub DryEnds : ℕ → Seen → Status → Type 0
+DryEnds k seen Done = (lines : List Line) × IsAnswered k seen lines × Appends seen.held seen.holds (whole_output seen)
+DryEnds k seen SinkFault = (lines : List Line) × IsAnswered k seen lines × AppendsFront seen.held seen.holds (whole_output seen) × Rose seen.sink_before seen.sink_after
+DryEnds k seen (BadText bad) = (text : List ℕ) × IsTextOf seen.left seen.rest text × (text_read false k text ≡ Err bad) × IsRefused seen (BadText bad)
+DryEnds k seen SourceFault = Rose seen.source_before seen.source_after × IsRefused seen SourceFault
+DryEnds k seen NoMemory = IsRefused seen NoMemory
+DryEnds k seen Usage = ⊥
+DryEnds k seen NotBuilt = ⊥
+
+-- words that are no form, and forms that aren't built, are refused before anything is read
+abbrev pub UsageEnds : Seen → Status → Type 0
+UsageEnds seen Usage = IsRefused seen Usage × IsUnread seen
+UsageEnds seen _ = ⊥
+
+abbrev pub UnbuiltEnds : Seen → Status → Type 0
+UnbuiltEnds seen NotBuilt = IsRefused seen NotBuilt × IsUnread seen
+UnbuiltEnds seen _ = ⊥
+
+-- how a run of a form ends
+abbrev pub Ends : Option Form → Seen → Status → Type 0
+Ends None seen status = UsageEnds seen status
+Ends (Some (Dry k)) seen status = DryEnds k seen status
+Ends (Some form) seen status = UnbuiltEnds seen status
+
+-- What was put of a text so far: all of it, or a front where the sink failed.
+abbrev pub HasPut : Option (List ℕ) → Option (List ℕ) → ℕ → ℕ → Bool → List ℕ → Type 0
+HasPut before after faults_before faults_after false text = Appends before after text × (faults_before ≤ faults_after)
+HasPut before after faults_before faults_after true text = AppendsFront before after text × Rose faults_before faults_after × (faults_before ≤ faults_after)
+
+-- One piece more is put only where none failed before.
+abbrev pub PutsMore : Option (List ℕ) → Option (List ℕ) → ℕ → ℕ → Bool → Bool → List ℕ → Type 0
+PutsMore before after faults_before faults_after false failed piece = HasPut before after faults_before faults_after failed piece
+PutsMore before after faults_before faults_after true failed piece = (after ≡ before) × (faults_after ≡ faults_before) × (failed ≡ true)
