@@ -1,2 +1,4 @@
 pub mod FormWords
 pub mod TextPieces
+pub mod PutTexts
+pub mod RunLines

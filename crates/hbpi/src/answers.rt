@@ -1,4 +1,4 @@
-ghost use Rattle.std.specs.Prelude.{◌≡◌, ℕ, ◌+◌, ◌^◌, ◌<◌, ◌≤◌, [], ◌++◌, length, vec_len, IfOk, OnErr};
+ghost use Rattle.std.specs.Prelude.{◌≡◌, ℕ, ◌+◌, ◌^◌, ◌<◌, ◌≤◌, [], ◌∷◌, ◌++◌, length, vec_len, IfOk, OnErr};
 ghost use Rattle.std.specs.Vec.{vec_capacity};
 ghost use Rattle.std.specs.List.{flat_map};
 ghost use Rattle.hb_set.specs.Order.{joined, order_of};
@@ -52,4 +52,43 @@ fn join_order(order: &mut Vec<u32>, line: &Line, reply: &Reply)
         Reply::Full | Reply::NoMemory | Reply::ReadFault => {}
         _ => order.push(line.number).unwrap(),
     }
+}
+
+/// Keeps the answer to a line. There has to be room.
+fn keep_answer(answered: &mut Vec<Answered>, line: u32, reply: Reply)
+    requires { vec_len answered.old < vec_capacity answered.old }
+    ensures kept { answered.new.items ≡ answered.old.items ++ record { line = line; reply = reply; at = 0 } ∷ [] }
+    ensures room { vec_capacity answered.old ≤ vec_capacity answered.new }
+{
+    answered.push(Answered { line, reply, at: 0 }).unwrap();
+}
+
+/// Answers the lines of a script in the order of the text, from the empty set on, and puts each
+/// reply until the sink fails. Memory is refused before the first line, or not at all.
+pub(crate) fn answer_lines<K: Sink>(
+    alloc: Global,
+    lines: &[Line],
+    sink: &mut K,
+) -> Result<Answers, NoMemory>
+    requires { (k : ℕ) × IsScriptFor k lines.now }
+    ensures run { IfOk result (λ a. IsDryRun lines.now a.answered.items a.order.items) }
+    ensures put { IfOk result (λ a. HasPut (K.written sink.old) (K.written sink.new) (K.faults sink.old) (K.faults sink.new) a.failed (flat_map answer_text a.answered.items)) }
+    ensures few { IfOk result (λ a. length a.order.items ≤ 1000000) }
+    ensures err { OnErr result (sink.new ≡ sink.old) }
+{
+    let mut set = Set::new(alloc)?;
+    let mut answered = Vec::with_capacity(alloc, lines.len())?;
+    let mut order = Vec::with_capacity(alloc, lines.len())?;
+    let mut failed = false;
+    for line in lines {
+        let reply = set.answer(&line.command);
+        failed = put_answer(sink, failed, line.number, &reply);
+        join_order(&mut order, line, &reply);
+        keep_answer(&mut answered, line.number, reply);
+    }
+    Ok(Answers {
+        answered,
+        order,
+        failed,
+    })
 }

@@ -1,0 +1,29 @@
+-- Texts that are put piece by piece, until the sink fails.
+use Rattle.std.proofs.Common.{◌≡◌, ℕ, suc, ◌+◌, ◌≤◌, Bool, true, false, List, [], ◌∷◌, ◌++◌, length, take, Option, refl, sym, ap, subst, ◌∙◌, arith, append_assoc, append-nil}
+use Rattle.std.specs.Prelude.{map}
+use Rattle.std.specs.List.{flat_map}
+use Rattle.std.proofs.lemmas.Grind.{flat_map-append}
+use Rattle.hb_outside.specs.Streams.{Rose, Appends, AppendsFront}
+use Rattle.hb_set.specs.declared.scripts.Answered.{Answered}
+use Rattle.hb_text.specs.Output.{answer_text}
+use Rattle.hb_text.specs.OutputLaws.{Appends-both, Appends-front, AppendsFront-longer, Appends-none, Rose-later}
+use Rattle.hbpi.specs.Ends.{HasPut, PutsMore}
+
+-- nothing was put yet
+pub has_put_none : (a : Option (List ℕ)) (faults : ℕ) (answered : List Answered) → answered ≡ [] → HasPut a a faults faults false (flat_map answer_text answered)
+has_put_none a faults answered none = rw none (Appends-none a, omega arith)
+
+-- one piece more, unless the sink failed before
+pub has_put_more : (a b c : Option (List ℕ)) (f g h : ℕ) (failed next : Bool) (text piece : List ℕ) → HasPut a b f g failed text → PutsMore b c g h failed next piece → HasPut a c f h next (text ++ piece)
+has_put_more a b c f g h false false text piece put more = (Appends-both a b c text piece put.0 more.0, omega (arith, put.1, more.1))
+has_put_more a b c f g h false true text piece put more = (Appends-front a b c text piece put.0 more.0, Rose-later f g h put.1 more.1, omega (arith, put.1, more.2))
+has_put_more a b c f g h true false text piece put more = cc (more.2)
+has_put_more a b c f g h true true text piece put more = (
+  subst (λ (x : Option (List ℕ)). AppendsFront a x (text ++ piece)) (sym more.0) (AppendsFront-longer a b text piece put.0),
+  subst (Rose f) (sym more.1) put.1,
+  omega (arith, put.2, more.1),
+)
+
+-- the text of one answer more
+pub answer_texts : (answered : List Answered) (a : Answered) (new : List Answered) → new ≡ answered ++ a ∷ [] → flat_map answer_text new ≡ flat_map answer_text answered ++ answer_text a
+answer_texts answered a new is = ap (flat_map answer_text) is ∙ flat_map-append answer_text answered (a ∷ []) ∙ ap (λ t. flat_map answer_text answered ++ t) (append-nil (answer_text a))
