@@ -1,4 +1,4 @@
-ghost use Rattle.std.specs.Prelude.{◌<◌, ◌≤◌, false, length, OnOk, IfOk};
+ghost use Rattle.std.specs.Prelude.{◌≡◌, ◌<◌, ◌≤◌, false, [], length, OnOk, IfOk};
 ghost use Rattle.hb_set.specs.Scripts.{IsScriptFor};
 ghost use Rattle.hb_text.specs.Grammar.{line_read, text_read};
 ghost use Rattle.hb_text.specs.Reading.{Reads, AddsLine};
@@ -37,6 +37,7 @@ pub fn read_commands(alloc: Global, text: &[u8], attributes: u8) -> Result<Scrip
     requires some { 0 < attributes }
     requires few { attributes ≤ KMAX }
     ensures exact { Reads result (text_read false attributes text.now) }
+    ensures no_steps { IfOk result (λ script. script.steps ≡ []) }
     ensures short { OnOk result (length text.now ≤ 257000000) }
     ensures script { IfOk result (λ script. IsScriptFor attributes script.lines) }
 {

@@ -1,8 +1,8 @@
 -- A text that is read piece by piece.
-use Rattle.std.proofs.Common.{◌≡◌, ℕ, ◌+◌, ◌-◌, ◌<◌, ◌≤◌, ◌⊎◌, inl, inr, List, [], ◌∷◌, ◌++◌, length, take, drop, Option, Some, None, refl, sym, ap, ◌∙◌, arith, subst, ⊎_elim, Bool, true, false, cond, length-append, length-drop, drop-drop, take-add}
+use Rattle.std.proofs.Common.{◌≡◌, ℕ, ◌+◌, ◌-◌, ◌<◌, ◌≤◌, ◌⊎◌, inl, inr, List, [], ◌∷◌, ◌++◌, length, take, drop, Option, Some, None, refl, sym, ap, ◌∙◌, arith, subst, ⊎_elim, Bool, true, false, cond, length-append, length-drop, length-take, drop-drop, take-add}
 use Rattle.std.proofs.lemmas.List.{drop_all, take_all, length-take-le}
 use Rattle.hbpi.specs.Taking.{TakesPiece, TakesSoFar, IsAtEnd}
-use Rattle.hbpi.specs.Outcome.{IsTextOf, greatest_text}
+use Rattle.hbpi.specs.Outcome.{IsTextOf, IsWholeText, greatest_text}
 
 some_same : {A : Type 0} (x y : A) → Some x ≡ Some y → x ≡ y
 some_same x y e = cc
@@ -59,3 +59,11 @@ pub turns_fall : (before after : Bool) (n m most : ℕ) → before ≡ true → 
 turns_fall true true n m most on room kept grows within = omega (arith, grows refl)
 turns_fall true false n m most on room kept grows within = omega arith
 turns_fall false after n m most on room kept grows within = cc
+
+-- a text that is shorter than the greatest is all that there was
+pub short_is_whole : (first after : Option (List ℕ)) (text : List ℕ) → IsTextOf first after text → length text ≤ 257000000 → IsWholeText first after text
+unfolding greatest_text
+short_is_whole None after text read short = read
+short_is_whole (Some left) after text read short =
+    let within : length left ≤ 257000001 = omega (arith, ap length read.0, length-take 257000001 left, short) in
+    (read.0 ∙ take_all 257000001 left within, read.1 ∙ ap Some (drop_all 257000001 left within))

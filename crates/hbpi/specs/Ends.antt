@@ -6,7 +6,7 @@ use Rattle.hb_set.specs.declared.scripts.Answered.{Answered}
 use Rattle.hb_set.specs.Scripts.{IsScriptFor}
 use Rattle.hb_text.specs.declared.rules.BadLine.{BadLine}
 use Rattle.hb_text.specs.Grammar.{text_read}
-use Rattle.hb_text.specs.Output.{output_text}
+use Rattle.hb_text.specs.Output.{order_text, output_text}
 use Rattle.hbpi.specs.declared.forms.Form.{Form}
 use Rattle.hbpi.specs.declared.forms.Form.TheVariants.{Dry}
 use Rattle.hbpi.specs.declared.statuses.Status.{Status}
@@ -83,3 +83,23 @@ HasPut before after faults_before faults_after true text = AppendsFront before a
 abbrev pub PutsMore : Option (List ℕ) → Option (List ℕ) → ℕ → ℕ → Bool → Bool → List ℕ → Type 0
 PutsMore before after faults_before faults_after false failed piece = HasPut before after faults_before faults_after failed piece
 PutsMore before after faults_before faults_after true failed piece = (after ≡ before) × (faults_after ≡ faults_before) × (failed ≡ true)
+
+-- a text that was read and says a script over k attributes
+pub record IsRead (k : ℕ) (left rest : Option (List ℕ)) (lines : List Line) : Type 0 where
+  pub text : List ℕ
+  pub whole : IsWholeText left rest text
+  pub says : text_read false k text ≡ Ok (record { lines = lines; steps = [] })
+  pub script : IsScriptFor k lines
+
+-- why no script was read
+abbrev pub NotRead : ℕ → Option (List ℕ) → Option (List ℕ) → ℕ → ℕ → Status → Type 0
+NotRead k left rest before after (BadText bad) = (text : List ℕ) × IsTextOf left rest text × (text_read false k text ≡ Err bad)
+NotRead k left rest before after SourceFault = Rose before after
+NotRead k left rest before after NoMemory = Unit {0}
+NotRead k left rest before after _ = ⊥
+
+-- the order is put behind the answers, and the status tells whether the sink failed
+abbrev pub EndsBySink : Option (List ℕ) → Option (List ℕ) → ℕ → ℕ → Bool → List ℕ → Status → Type 0
+EndsBySink before after faults_before faults_after failed order Done = PutsMore before after faults_before faults_after failed false (order_text order (length order))
+EndsBySink before after faults_before faults_after failed order SinkFault = PutsMore before after faults_before faults_after failed true (order_text order (length order))
+EndsBySink before after faults_before faults_after failed order _ = ⊥

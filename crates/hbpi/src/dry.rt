@@ -1,0 +1,74 @@
+ghost use Rattle.std.specs.Prelude.{◌≡◌, ◌<◌, ◌≤◌, [], length, IfOk, IfErr};
+ghost use Rattle.hb_outside.specs.Streams.{Rose};
+ghost use Rattle.hbpi.specs.Outcome.{fault_line, GetsLine};
+ghost use Rattle.hbpi.specs.Ends.{IsRead, NotRead, EndsBySink};
+
+use crate::answers::{Answers, answer_lines, put_whole_order};
+use crate::faults::put_fault;
+use crate::finished::Finished;
+use crate::statuses::Status;
+use crate::texts::{TextStop, read_text};
+use hb_outside::{Sink, Source};
+use hb_set::Script;
+use hb_space::form::KMAX;
+use hb_text::{TextError, read_commands};
+use std::alloc::Global;
+
+/// Reads the script of a text over `k` attributes, or the status that refuses it.
+fn read_script<S: Source>(alloc: Global, k: u8, source: &mut S) -> Result<Script, Status>
+    requires some { 0 < k }
+    requires few { k ≤ KMAX }
+    ensures read { IfOk result (λ script. IsRead k (S.left source.old) (S.left source.new) script.lines) }
+    ensures refused { IfErr result (λ status. NotRead k (S.left source.old) (S.left source.new) (S.faults source.old) (S.faults source.new) status) }
+    ensures later { S.faults source.old ≤ S.faults source.new }
+{
+    let text = match read_text(alloc, source) {
+        Ok(text) => text,
+        Err(TextStop::SourceFault) => return Err(Status::SourceFault),
+        Err(TextStop::NoMemory) => return Err(Status::NoMemory),
+    };
+    match read_commands(alloc, text.as_slice(), k) {
+        Ok(script) => Ok(script),
+        Err(TextError::Bad(bad)) => Err(Status::BadText(bad)),
+        Err(TextError::NoMemory) => Err(Status::NoMemory),
+    }
+}
+
+/// Refuses with this status: its fault line is written, and no command is done.
+pub(crate) fn refused<K: Sink>(alloc: Global, status: Status, mut sink: K) -> Finished<K>
+    ensures status { result.status ≡ status }
+    ensures line { GetsLine (K.written sink) (K.written result.sink) (K.faults sink) (K.faults result.sink) (fault_line status) }
+    ensures later { K.faults sink ≤ K.faults result.sink }
+    ensures answered { result.answered.items ≡ [] }
+    ensures order { result.order.items ≡ [] }
+{
+    put_fault(&mut sink, status);
+    Finished {
+        status,
+        sink,
+        answered: Vec::new(alloc),
+        order: Vec::new(alloc),
+    }
+}
+
+/// Writes the order behind the answers, unless the sink failed, and ends the run.
+fn finish<K: Sink>(answers: Answers, mut sink: K) -> Finished<K>
+    requires { length answers.order.items ≤ 1000000 }
+    ensures answered { result.answered.items ≡ answers.answered.items }
+    ensures order { result.order.items ≡ answers.order.items }
+    ensures ends { EndsBySink (K.written sink) (K.written result.sink) (K.faults sink) (K.faults result.sink) answers.failed answers.order.items result.status }
+{
+    let Answers {
+        answered,
+        order,
+        failed,
+    } = answers;
+    let failed = put_whole_order(&mut sink, failed, order.as_slice());
+    let status = if failed { Status::SinkFault } else { Status::Done };
+    Finished {
+        status,
+        sink,
+        answered,
+        order,
+    }
+}
