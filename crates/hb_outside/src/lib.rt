@@ -7,6 +7,19 @@
 //! one that tells nothing too, as a file or a terminal.
 #![tactic(auto)]
 
+mod memory_sink;
+mod memory_source;
+mod numbers;
+mod read_source;
+mod threads;
 mod traits;
+mod write_sink;
 
+pub use memory_sink::MemSink;
+pub use memory_source::MemSource;
+pub use numbers::{
+    big_endian_law, give_u16, give_u32, give_u64, take_u8, take_u16, take_u32, take_u64,
+};
+pub use read_source::ReadSource;
 pub use traits::{Failed, Sink, Source};
+pub use write_sink::WriteSink;
