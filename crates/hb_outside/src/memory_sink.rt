@@ -24,11 +24,12 @@ impl Model for MemSink {
     ghost Value = { SinkState };
 
     ghost view = { λ s. record {
-        written = s.bytes.items;
-        calls = s.calls.items;
-        call = s.call;
-        faults = s.faults;
-        starved = s.starved } };
+      written = s.bytes.items;
+      calls = s.calls.items;
+      call = s.call;
+      faults = s.faults;
+      starved = s.starved;
+    } };
 }
 
 impl MemSink {

@@ -23,10 +23,11 @@ impl Model for MemSource {
     ghost Value = { SourceState };
 
     ghost view = { λ s. record {
-        left = drop s.at s.bytes.items;
-        calls = s.calls.items;
-        call = s.call;
-        faults = s.faults } };
+      left = drop s.at s.bytes.items;
+      calls = s.calls.items;
+      call = s.call;
+      faults = s.faults;
+    } };
 
     ghost invariant = { λ s. s.at ≤ vec_len s.bytes };
 }

@@ -11,8 +11,7 @@ pub fn big_endian_law()
     ensures bytes { (width n : ℕ) → All (λ b. b < 256) (big_endian width n) }
     ensures injective { (width m n : ℕ) → m < 256 ^ width → n < 256 ^ width →
         big_endian width m ≡ big_endian width n → m ≡ n }
-{
-}
+{}
 
 /// The byte at a place. `None` where there is none.
 pub fn take_u8(bytes: &[u8], at: usize) -> Option<u8>

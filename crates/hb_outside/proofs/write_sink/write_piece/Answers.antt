@@ -23,7 +23,7 @@ loop-preserved g c =
     let contents = g.W.Write.contents in
     let piece = c.args.piece.now in
     elim c.match-write.branch [
-      in-Ok w ↦ rw w.at-is (record {
+      | in-Ok w ↦ rw w.at-is (record {
         within = omega (arith, simp (length-take, length-drop) at w.in-Ok.ensures.bound);
         written = Appends-more (contents c.args.writer.now) (contents c.loop.writer) (contents c.write.new.self) piece c.loop.at w.in-Ok.n c.loop.invariant.written w.in-Ok.ensures.bytes;
       })
