@@ -1,10 +1,11 @@
 -- Numbers as bytes: what `big_endian` spells, and what the reads and writes of `byteorder` make of it.
-use Rattle.std.proofs.Common.{◌≡◌, ℕ, zero, suc, ◌+◌, ◌-◌, ◌^◌, ◌%◌, ◌<◌, ◌≤◌, List, [], ◌∷◌, ◌++◌, All, length, get_or, take, drop, append_assoc, refl, sym, ap, ◌∙◌, arith}
+use Rattle.std.proofs.Common.{◌≡◌, ℕ, zero, suc, ◌+◌, ◌-◌, ◌^◌, ◌%◌, ◌<◌, ◌≤◌, List, [], ◌∷◌, ◌++◌, All, length, get_or, take, drop, append_assoc, refl, sym, ap, ◌∙◌, arith, slice_range}
 use Rattle.std.proofs.lemmas.List.{append-nil}
 use Rattle.std.proofs.lemmas.Nat.{be_bytes_2, be_bytes_4, be_bytes_8}
 use Rattle.byteorder.specs.Endian.{big_number, big_bytes, big_from}
 use Rattle.byteorder.specs.Numbers.{length-bytes_high_first, big_number-reads_back}
 use Rattle.std.specs.Int.{byte_at, bytes_high_first}
+use Rattle.std.proofs.lemmas.Slice.{between_is, between-put_mid, take-put_mid_below, drop-put_mid}
 use borrow.Rule.Slice.PartMut.{put_mid, Post-is}
 use Rattle.std.proofs.lemmas.List.{length-take}
 use Rattle.std.proofs.Math.ListN.{drop_of_length-le}
@@ -55,7 +56,13 @@ pub big_endian-small : (width n : ℕ) → All (λ b. b < 256) (big_endian width
 unfolding big_endian
 big_endian-small width n = bytes-small width n
 
--- what is left of a list after a number was written into the part of its width
+-- a list with other bytes in place of those from `at` on, as a write to a part leaves it
+joined : (at k : ℕ) (old bytes : List ℕ) → take at old ++ bytes ++ drop (at + k) old ≡ put_mid at (at + k - at) old bytes
+joined at k old bytes =
+    let rest : drop (at + k - at) (drop at old) ≡ drop (at + k) old = Post-is at (at + k) old (omega arith) in
+    rw (rest, append_assoc) refl
+
+-- what a list is after a number was written into the part of its width
 pub given : (at k n : ℕ) (old new : List ℕ) → at + k ≤ length old
     → new ≡ big_bytes k n ++ drop k (take (at + k - at) (drop at old))
     → put_mid at (at + k - at) old new ≡ take at old ++ big_endian k n ++ drop (at + k) old
@@ -64,5 +71,29 @@ given at k n old new room e =
     let short : length (take (at + k - at) (drop at old)) ≤ k = simp length-take (omega arith) in
     let none = drop_of_length-le (take (at + k - at) (drop at old)) {i = k} short in
     let same : new ≡ big_bytes k n = e ∙ ap (λ (rest : List ℕ). big_bytes k n ++ rest) none ∙ append-nil (big_bytes k n) in
-    let rest : drop (at + k - at) (drop at old) ≡ drop (at + k) old = Post-is at (at + k) old (omega arith) in
-    rw (same, rest, append_assoc) refl
+    sym (joined at k old new) ∙ ap (λ (bytes : List ℕ). take at old ++ bytes ++ drop (at + k) old) same
+
+-- a number's bytes stand where they were written
+pub slice_range-given : (width n at : ℕ) (old : List ℕ) → at ≤ length old
+    → slice_range (take at old ++ big_endian width n ++ drop (at + width) old) at (at + width) ≡ big_endian width n
+slice_range-given width n at old within =
+    let count : length (big_endian width n) ≡ at + width - at = length-big_endian width n ∙ omega arith in
+    ap (λ (bytes : List ℕ). slice_range bytes at (at + width)) (joined at width old (big_endian width n))
+    ∙ between-put_mid at (at + width - at) old (big_endian width n) (at + width) within count
+
+-- what stands in front of them stays
+pub slice_range-given_before : (width n at : ℕ) (old : List ℕ) (i j : ℕ) → j ≤ at → at ≤ length old
+    → slice_range (take at old ++ big_endian width n ++ drop (at + width) old) i j ≡ slice_range old i j
+slice_range-given_before width n at old i j below within =
+    ap (λ (bytes : List ℕ). slice_range bytes i j) (joined at width old (big_endian width n))
+    ∙ between_is (put_mid at (at + width - at) old (big_endian width n)) i j
+    ∙ ap (λ (bytes : List ℕ). drop i bytes) (take-put_mid_below at (at + width - at) old (big_endian width n) j below within)
+    ∙ sym (between_is old i j)
+
+-- and what stands behind them
+pub slice_range-given_behind : (width n at : ℕ) (old : List ℕ) (i j : ℕ) → at + width ≤ i → at ≤ length old
+    → slice_range (take at old ++ big_endian width n ++ drop (at + width) old) i j ≡ slice_range old i j
+slice_range-given_behind width n at old i j above within =
+    let count : length (big_endian width n) ≡ at + width - at = length-big_endian width n ∙ omega arith in
+    ap (λ (bytes : List ℕ). slice_range bytes i j) (joined at width old (big_endian width n))
+    ∙ ap (λ (bytes : List ℕ). take (j - i) bytes) (drop-put_mid at (at + width - at) old (big_endian width n) i (omega arith) within count)

@@ -20,7 +20,7 @@ mod write_sink;
 pub use memory_sink::MemSink;
 pub use memory_source::MemSource;
 pub use numbers::{
-    big_endian_law, give_u16, give_u32, give_u64, take_u8, take_u16, take_u32, take_u64,
+    big_endian_law, give_law, give_u16, give_u32, give_u64, take_u8, take_u16, take_u32, take_u64,
 };
 pub use read_source::ReadSource;
 pub use traits::{Failed, Sink, Source};

@@ -1,16 +1,29 @@
 //! Numbers as bytes, the highest first.
-ghost use Rattle.std.specs.Prelude.{◌≡◌, ℕ, ◌+◌, ◌^◌, ◌<◌, ◌≤◌, ◌↔◌, ◌++◌, All, Some, length, take, drop, IsSome, slice_get, slice_range};
+ghost use Rattle.std.specs.Prelude.{◌≡◌, ℕ, List, ◌+◌, ◌^◌, ◌<◌, ◌≤◌, ◌↔◌, ◌++◌, All, Some, length, take, drop, IsSome, slice_get, slice_range};
 ghost use Rattle.hb_outside.specs.Numbers.{big_endian};
 
 use byteorder::{BigEndian, ByteOrder};
 
-/// Two numbers of a width that have the same bytes are the same, and the bytes are as many as the
-/// width says, each below 256.
+/// The bytes of a number are as many as its width says, each below 256, and two numbers that have
+/// the same bytes are the same.
 pub fn big_endian_law()
     ensures count { (width n : ℕ) → length (big_endian width n) ≡ width }
     ensures bytes { (width n : ℕ) → All (λ b. b < 256) (big_endian width n) }
     ensures injective { (width m n : ℕ) → m < 256 ^ width → n < 256 ^ width →
         big_endian width m ≡ big_endian width n → m ≡ n }
+{}
+
+/// The bytes of a number stand where they were given, and all others stay.
+pub fn give_law()
+    ensures given { (width n at : ℕ) (old : List ℕ) → at ≤ length old →
+        slice_range (take at old ++ big_endian width n ++ drop (at + width) old) at (at + width)
+        ≡ big_endian width n }
+    ensures before { (width n at : ℕ) (old : List ℕ) (i j : ℕ) → j ≤ at → at ≤ length old →
+        slice_range (take at old ++ big_endian width n ++ drop (at + width) old) i j
+        ≡ slice_range old i j }
+    ensures behind { (width n at : ℕ) (old : List ℕ) (i j : ℕ) → at + width ≤ i → at ≤ length old →
+        slice_range (take at old ++ big_endian width n ++ drop (at + width) old) i j
+        ≡ slice_range old i j }
 {}
 
 /// The byte at a place. `None` where there is none.
