@@ -1,13 +1,9 @@
 -- Writes one after another, by the bytes of the writer that are known.
-use Rattle.std.proofs.Common.{◌≡◌, ℕ, ◌+◌, ◌-◌, ◌<◌, ◌≤◌, Bool, true, false, List, [], ◌++◌, length, take, drop, Option, None, Some, Result, Ok, Err, IsTrue, IsSome, IfOk, OnOk, OnErr, refl, sym, ap, ◌∙◌, subst, arith, append_assoc}
-use Rattle.std.proofs.lemmas.List.{append-nil, length-append, length-take, take-append-drop, take_rest}
-use Rattle.std.proofs.lemmas.Bool.{false≢true}
-use Rattle.std.proofs.Math.Seq.{take-add, take-append_seam, drop-append_seam}
-use Rattle.std.specs.Io.KnownBytes.{Keeps, Consumes, ReadConsumes, Appends, WriteAppends, IsAtEnd}
-use Rattle.hb_outside.specs.Streams.{Takes, TakesFront, IsFront}
-use Rattle.hb_outside.specs.Streams as stream
-use Rattle.hb_outside.specs.declared.traits.Failed.{Failed}
-use Rattle.hb_outside.specs.Told.{told_bytes, AppendsSome}
+use Rattle.std.proofs.Common.{ℕ, ◌+◌, ◌-◌, List, ◌++◌, length, take, drop, Option, None, Some, sym, ap, ◌∙◌, subst, append_assoc}
+use Rattle.std.proofs.lemmas.List.{take-append-drop, take_rest}
+use Rattle.std.proofs.Math.Seq.{take-add}
+use Rattle.std.specs.Io.KnownBytes.{Keeps, Appends}
+use Rattle.hb_outside.specs.Told.{AppendsSome}
 
 -- writes one after another
 pub Appends-Appends : (a b c : Option (List ℕ)) (front back : List ℕ) → Appends a b front → Appends b c back → Appends a c (front ++ back)

@@ -1,5 +1,5 @@
 -- The bytes of readers and writers, as sources and sinks tell them.
-use Rattle.std.specs.Prelude.{◌≡◌, ℕ, Bool, true, false, List, Option, None, Some}
+use Rattle.std.specs.Prelude.{ℕ, Bool, true, false, List, Option, None}
 use Rattle.std.specs.Io.KnownBytes.{Appends}
 use Rattle.hb_outside.specs.Streams.{IsFront}
 

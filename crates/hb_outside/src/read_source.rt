@@ -75,6 +75,9 @@ impl<R: Read> Source for ReadSource<R> {
         ensures cause { OnErr result (Rose self.old.faults self.new.faults) }
         ensures later { self.old.faults ≤ self.new.faults }
 
+        // The bytes are the reader's, whether this source tells or not.
+        ensures read { ReadConsumes (R.remaining self.old.inner) (R.remaining self.new.inner) result into.new }
+
         // Each failed call is counted, and no other.
         ensures fault { OnErr result (self.new.faults ≡ next_count self.old.faults) }
         ensures no_fault { OnOk result (self.new.faults ≡ self.old.faults) }

@@ -1,6 +1,6 @@
 //! A writer of std as a sink of bytes.
 ghost use Rattle.std.specs.Prelude.{◌≡◌, ℕ, ◌<◌, ◌≤◌, None, Some, length, IsTrue, IsSome, IfSome, OnErr, OnOk};
-ghost use Rattle.std.specs.Io.KnownBytes.{Appends as WriterAppends};
+ghost use Rattle.std.specs.Io.KnownBytes.{Appends as WriterAppends, Keeps};
 ghost use Rattle.hb_outside.specs.Streams.{Rose, Appends, AppendsFront};
 ghost use Rattle.hb_outside.specs.Memory.{next_count};
 ghost use Rattle.hb_outside.specs.Told.{told_bytes, AppendsSome};
@@ -62,6 +62,7 @@ impl<W: Write> WriteSink<W> {
     /// Flushes the writer. What was written stays as it is, and an error is a fault.
     pub fn flush(&mut self) -> Result<(), Failed>
         ensures written { ⟦<WriteSink<W> as Sink>⟧.written self.new ≡ ⟦<WriteSink<W> as Sink>⟧.written self.old }
+        ensures kept { Keeps (W.contents self.old.inner) (W.contents self.new.inner) }
         ensures fault { OnErr result (self.new.faults ≡ next_count self.old.faults) }
         ensures no_fault { OnOk result (self.new.faults ≡ self.old.faults) }
     {
@@ -86,6 +87,10 @@ impl<W: Write> Sink for WriteSink<W> {
             (told_bytes self.new.tells (W.contents self.new.inner)) piece.now) }
         ensures cause { OnErr result (Rose self.old.faults self.new.faults) }
         ensures later { self.old.faults ≤ self.new.faults }
+
+        // The bytes go to the writer, whether this sink tells or not.
+        ensures wrote { OnOk result (WriterAppends (W.contents self.old.inner) (W.contents self.new.inner) piece.now) }
+        ensures front { OnErr result (AppendsSome (W.contents self.old.inner) (W.contents self.new.inner) piece.now) }
 
         // Each failed call is counted, and no other.
         ensures fault { OnErr result (self.new.faults ≡ next_count self.old.faults) }

@@ -1,4 +1,4 @@
-use Rattle.std.proofs.Common.{length, take, drop, ◌+◌, ◌-◌, ◌≤◌, arith, rules}
+use Rattle.std.proofs.Common.{length, take, drop, ◌+◌, ◌-◌, arith, rules}
 use Rattle.std.proofs.lemmas.List.{length-take, length-drop}
 use Rattle.std.specs.Io.KnownBytes.{Appends}
 use Rattle.hb_outside.proofs.KnownLemmas.{AppendsSome-front, Appends-Keeps, Appends-more}
