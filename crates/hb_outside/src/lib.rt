@@ -3,7 +3,12 @@
 //! The one contract: a source moves the first bytes of what it has left, a sink appends what it is
 //! given, and each answers `Failed` only where its count of faults rose in that call.
 //!
-//! Each may tell its bytes or not. What is proved of a caller over every source or sink holds over
+//! In memory, `MemSource` and `MemSink` tell all: a source fails at the listed calls and at no
+//! other, a sink at those and for want of memory. `ReadSource` and `WriteSink` go over a reader and
+//! a writer of std. A take gives a number exactly where the bytes are those that the give of its
+//! width writes.
+//!
+//! Each source or sink may tell its bytes or not. What is proved of a caller over every source or sink holds over
 //! one that tells nothing too, as a file or a terminal.
 #![tactic(auto)]
 

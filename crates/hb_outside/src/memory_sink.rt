@@ -36,7 +36,13 @@ impl MemSink {
     /// A sink with nothing in it. The calls of `put` are counted from 0, and those whose numbers
     /// stand in `calls` fail.
     pub fn new(alloc: Global, calls: Vec<u64>) -> MemSink
-        ensures { result ≡ record { written = []; calls = calls.items; call = 0; faults = 0; starved = 0 } }
+        ensures { result ≡ record {
+          written = [];
+          calls = calls.items;
+          call = 0;
+          faults = 0;
+          starved = 0;
+        } }
     {
         MemSink {
             bytes: Vec::new(alloc),
@@ -75,8 +81,10 @@ impl Sink for MemSink {
     ghost faults = { λ s. s.faults };
 
     fn put(&mut self, piece: &[u8]) -> Result<(), Failed>
-        ensures ok { OnOk result (Appends (Some self.old.written) (Some self.new.written) piece.now) }
-        ensures failed { OnErr result (AppendsFront (Some self.old.written) (Some self.new.written) piece.now) }
+        ensures ok { OnOk result
+            (Appends (Some self.old.written) (Some self.new.written) piece.now) }
+        ensures failed { OnErr result
+            (AppendsFront (Some self.old.written) (Some self.new.written) piece.now) }
         ensures cause { OnErr result (Rose self.old.faults self.new.faults) }
         ensures later { self.old.faults ≤ self.new.faults }
 

@@ -36,7 +36,12 @@ impl MemSource {
     /// A source of these bytes. The calls of `take` are counted from 0, and those whose numbers
     /// stand in `calls` fail.
     pub fn new(bytes: Vec<u8>, calls: Vec<u64>) -> MemSource
-        ensures { result ≡ record { left = bytes.items; calls = calls.items; call = 0; faults = 0 } }
+        ensures { result ≡ record {
+          left = bytes.items;
+          calls = calls.items;
+          call = 0;
+          faults = 0;
+        } }
     {
         MemSource {
             bytes,
@@ -70,7 +75,8 @@ impl Source for MemSource {
     fn take(&mut self, into: &mut [u8]) -> Result<usize, Failed>
         requires { 0 < length into.old }
         ensures bound { IfOk result (λ n. n ≤ length into.old) }
-        ensures moved { IfOk result (λ n. Takes (Some self.old.left) (Some self.new.left) into.new n) }
+        ensures moved { IfOk result
+            (λ n. Takes (Some self.old.left) (Some self.new.left) into.new n) }
         ensures failed { OnErr result (self.new.left ≡ self.old.left) }
         ensures cause { OnErr result (Rose self.old.faults self.new.faults) }
         ensures later { self.old.faults ≤ self.new.faults }

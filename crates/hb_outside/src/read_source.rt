@@ -10,9 +10,9 @@ use std::io::{ErrorKind, Read};
 
 /// A reader as a source. An interrupted read is tried again, and any other error is a fault.
 ///
-/// It tells what is left where it was made by `telling`, of a reader whose bytes are known. A reader
-/// of std that doesn't know its bytes may know them later on, which a source may not: so one that
-/// was made by `new` tells nothing.
+/// It tells what is left where it was made by `telling`, of a reader whose bytes are known. std
+/// doesn't rule out that a reader's bytes are unknown at first and known later, and a source that
+/// tells nothing goes on so: one that was made by `new` never tells.
 #[derive(Drop)]
 pub struct ReadSource<R: Read> {
     inner: R,
@@ -52,7 +52,8 @@ impl<R: Read> ReadSource<R> {
     /// The reader, with what is left in it.
     pub fn into_inner(self) -> R
         ensures reader { result ≡ self.inner }
-        ensures left { IfSome (⟦<ReadSource<R> as Source>⟧.left self) (λ bytes. R.remaining result ≡ Some bytes) }
+        ensures left { IfSome (⟦<ReadSource<R> as Source>⟧.left self)
+            (λ bytes. R.remaining result ≡ Some bytes) }
     {
         let ReadSource { inner, .. } = self;
         inner
@@ -76,7 +77,8 @@ impl<R: Read> Source for ReadSource<R> {
         ensures later { self.old.faults ≤ self.new.faults }
 
         // The bytes are the reader's, whether this source tells or not.
-        ensures read { ReadConsumes (R.remaining self.old.inner) (R.remaining self.new.inner) result into.new }
+        ensures read { ReadConsumes (R.remaining self.old.inner) (R.remaining self.new.inner)
+            result into.new }
 
         // Each failed call is counted, and no other.
         ensures fault { OnErr result (self.new.faults ≡ next_count self.old.faults) }

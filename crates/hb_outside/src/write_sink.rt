@@ -11,9 +11,9 @@ use std::io::{ErrorKind, Write};
 /// A writer as a sink. An interrupted write is tried again. Any other error is a fault, and so is a
 /// write that takes nothing.
 ///
-/// It tells what was written where it was made by `telling`, of a writer whose bytes are known. A
-/// writer of std that doesn't know its bytes may know them later on, which a sink may not: so one
-/// that was made by `new` tells nothing.
+/// It tells what was written where it was made by `telling`, of a writer whose bytes are known. std
+/// doesn't rule out that a writer's bytes are unknown at first and known later, and a sink that
+/// tells nothing goes on so: one that was made by `new` never tells.
 #[derive(Drop)]
 pub struct WriteSink<W: Write> {
     inner: W,
@@ -53,7 +53,8 @@ impl<W: Write> WriteSink<W> {
     /// The writer, with what was written in it.
     pub fn into_inner(self) -> W
         ensures writer { result ≡ self.inner }
-        ensures written { IfSome (⟦<WriteSink<W> as Sink>⟧.written self) (λ bytes. W.contents result ≡ Some bytes) }
+        ensures written { IfSome (⟦<WriteSink<W> as Sink>⟧.written self)
+            (λ bytes. W.contents result ≡ Some bytes) }
     {
         let WriteSink { inner, .. } = self;
         inner
@@ -61,7 +62,8 @@ impl<W: Write> WriteSink<W> {
 
     /// Flushes the writer. What was written stays as it is, and an error is a fault.
     pub fn flush(&mut self) -> Result<(), Failed>
-        ensures written { ⟦<WriteSink<W> as Sink>⟧.written self.new ≡ ⟦<WriteSink<W> as Sink>⟧.written self.old }
+        ensures written { ⟦<WriteSink<W> as Sink>⟧.written self.new
+            ≡ ⟦<WriteSink<W> as Sink>⟧.written self.old }
         ensures kept { Keeps (W.contents self.old.inner) (W.contents self.new.inner) }
         ensures fault { OnErr result (self.new.faults ≡ next_count self.old.faults) }
         ensures no_fault { OnOk result (self.new.faults ≡ self.old.faults) }
@@ -89,8 +91,10 @@ impl<W: Write> Sink for WriteSink<W> {
         ensures later { self.old.faults ≤ self.new.faults }
 
         // The bytes go to the writer, whether this sink tells or not.
-        ensures wrote { OnOk result (WriterAppends (W.contents self.old.inner) (W.contents self.new.inner) piece.now) }
-        ensures front { OnErr result (AppendsSome (W.contents self.old.inner) (W.contents self.new.inner) piece.now) }
+        ensures wrote { OnOk result
+            (WriterAppends (W.contents self.old.inner) (W.contents self.new.inner) piece.now) }
+        ensures front { OnErr result
+            (AppendsSome (W.contents self.old.inner) (W.contents self.new.inner) piece.now) }
 
         // Each failed call is counted, and no other.
         ensures fault { OnErr result (self.new.faults ≡ next_count self.old.faults) }
@@ -106,8 +110,10 @@ impl<W: Write> Sink for WriteSink<W> {
 
 /// Writes the whole piece, by as many writes as it takes.
 fn write_piece<W: Write>(writer: &mut W, piece: &[u8]) -> Result<(), Failed>
-    ensures ok { OnOk result (WriterAppends (W.contents writer.old) (W.contents writer.new) piece.now) }
-    ensures failed { OnErr result (AppendsSome (W.contents writer.old) (W.contents writer.new) piece.now) }
+    ensures ok { OnOk result
+        (WriterAppends (W.contents writer.old) (W.contents writer.new) piece.now) }
+    ensures failed { OnErr result
+        (AppendsSome (W.contents writer.old) (W.contents writer.new) piece.now) }
 {
     let mut at = 0;
     for _ in 0..u64::MAX {
