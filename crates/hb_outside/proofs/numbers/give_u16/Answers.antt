@@ -1,0 +1,5 @@
+use Rattle.hb_outside.proofs.Spelling.{given}
+use Rattle.hb_outside.proofs.numbers.give_u16.Goals as goal
+
+pub returns : goal.returns
+returns c = given c.args.at 2 c.args.n c.args.into.now _ c.requires c.write_u16.ensures
