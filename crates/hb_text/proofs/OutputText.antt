@@ -13,7 +13,6 @@ pub numbers_end_early : (a c : Option (List ℕ)) (before ns : List ℕ) (i : �
 numbers_end_early a c before ns i h =
     let parts : numbers_text ns ≡ numbers_text (take i ns) ++ numbers_text (drop i ns) =
     ap numbers_text (sym (take-append-drop i ns)) ∙ flat_map-append (λ n. 32 ∷ decimal n) (take i ns) (drop i ns) in
-    let P : List ℕ → Type 0 = λ t. AppendsFront a c t in
     rw (parts, ← append_assoc before (numbers_text (take i ns)) (numbers_text (drop i ns)))
     (AppendsFront-longer a c (before ++ numbers_text (take i ns)) (numbers_text (drop i ns)) h)
 

@@ -1,7 +1,8 @@
 -- Pieces that are put one after the other, and laws of them.
 use Rattle.std.specs.Prelude.{◌≡◌, ℕ, ◌<◌, ◌≤◌, List, [], ◌∷◌, ◌++◌, length, take, drop, Option, Some, None, Result, Ok, Err, OnErr, refl}
 use Rattle.std.specs.List.{flat_map}
-use Rattle.std.proofs.Common.{suc, get_or, ap, subst, sym, ◌∙◌, append_assoc, arith, inl, inr}
+use Rattle.std.proofs.Common.{suc, get_or, ap, subst, sym, ◌∙◌, append_assoc, inl, inr}
+use Rattle.std.proofs.Math.Nat.{lt_of_le_of_lt}
 use Rattle.std.proofs.Math.Seq.{split_at}
 use Rattle.std.proofs.lemmas.List.{append-nil}
 use Rattle.std.proofs.lemmas.Grind.{flat_map-append}
@@ -38,7 +39,7 @@ Appends-none (Some w) = sym (ap Some (append-nil w))
 
 -- a count of faults that rose in the later of two calls rose in both
 pub Rose-later : (a b c : ℕ) → a ≤ b → Rose b c → Rose a c
-Rose-later a b c le (inl lt) = inl (omega arith)
+Rose-later a b c le (inl lt) = inl (lt_of_le_of_lt le lt)
 Rose-later a b c le (inr e) = inr e
 
 -- a text of which nothing was put waits whole

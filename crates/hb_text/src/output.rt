@@ -16,8 +16,10 @@ const FULL: usize = 160;
 /// Puts the lines of a reply to the line of this number: one put for each line. After `Failed` a
 /// front of them was put.
 pub fn put_reply<K: Sink>(sink: &mut K, line: u32, reply: &Reply) -> Result<(), Failed>
-    ensures ok { OnOk result (Appends (K.written sink.old) (K.written sink.new) (reply_text line reply.now)) }
-    ensures failed { OnErr result (AppendsFront (K.written sink.old) (K.written sink.new) (reply_text line reply.now)) }
+    ensures ok { OnOk result
+        (Appends (K.written sink.old) (K.written sink.new) (reply_text line reply.now)) }
+    ensures failed { OnErr result
+        (AppendsFront (K.written sink.old) (K.written sink.new) (reply_text line reply.now)) }
     ensures cause { OnErr result (Rose (K.faults sink.old) (K.faults sink.new)) }
     ensures later { K.faults sink.old ≤ K.faults sink.new }
 {
@@ -37,8 +39,10 @@ pub fn put_reply<K: Sink>(sink: &mut K, line: u32, reply: &Reply) -> Result<(), 
 /// Puts a line that has no answer, because the run was stopped or the schedule ended before it.
 /// After `Failed` a front of it was put.
 pub fn put_left<K: Sink>(sink: &mut K, line: u32, stopped: bool) -> Result<(), Failed>
-    ensures ok { OnOk result (Appends (K.written sink.old) (K.written sink.new) (left_text stopped line)) }
-    ensures failed { OnErr result (AppendsFront (K.written sink.old) (K.written sink.new) (left_text stopped line)) }
+    ensures ok { OnOk result
+        (Appends (K.written sink.old) (K.written sink.new) (left_text stopped line)) }
+    ensures failed { OnErr result
+        (AppendsFront (K.written sink.old) (K.written sink.new) (left_text stopped line)) }
     ensures cause { OnErr result (Rose (K.faults sink.old) (K.faults sink.new)) }
     ensures later { K.faults sink.old ≤ K.faults sink.new }
 {
@@ -61,8 +65,10 @@ fn left_word(stopped: bool) -> &'static [u8]
 /// all where it exceeds their count. A put takes as many numbers as the buffer has room for. After
 /// `Failed` a front of the order was put.
 pub fn put_order<K: Sink>(sink: &mut K, order: &[u32], settled: u32) -> Result<(), Failed>
-    ensures ok { OnOk result (Appends (K.written sink.old) (K.written sink.new) (order_text order.now settled)) }
-    ensures failed { OnErr result (AppendsFront (K.written sink.old) (K.written sink.new) (order_text order.now settled)) }
+    ensures ok { OnOk result
+        (Appends (K.written sink.old) (K.written sink.new) (order_text order.now settled)) }
+    ensures failed { OnErr result
+        (AppendsFront (K.written sink.old) (K.written sink.new) (order_text order.now settled)) }
     ensures cause { OnErr result (Rose (K.faults sink.old) (K.faults sink.new)) }
     ensures later { K.faults sink.old ≤ K.faults sink.new }
 {
@@ -100,9 +106,14 @@ fn bar(is_left: bool) -> &'static [u8]
 // Adds numbers to a piece, each after a space, and puts the piece whenever it is full. What is in
 // the piece at the end still has to be put.
 fn put_numbers<K: Sink>(sink: &mut K, piece: &mut LineBuffer, numbers: &[u32]) -> Result<(), Failed>
-    ensures ok { OnOk result (Waits (K.written sink.old) (K.written sink.new) piece.new.bytes.items (piece.old.bytes.items ++ numbers_text numbers.now)) }
-    ensures room { OnOk result (length piece.new.bytes.items ≤ max (FULL + 21) (length piece.old.bytes.items)) }
-    ensures failed { OnErr result (AppendsFront (K.written sink.old) (K.written sink.new) (piece.old.bytes.items ++ numbers_text numbers.now)) }
+    ensures ok { OnOk result
+        (Waits (K.written sink.old) (K.written sink.new)
+        piece.new.bytes.items (piece.old.bytes.items ++ numbers_text numbers.now)) }
+    ensures room { OnOk result
+        (length piece.new.bytes.items ≤ max (FULL + 21) (length piece.old.bytes.items)) }
+    ensures failed { OnErr result
+        (AppendsFront (K.written sink.old) (K.written sink.new)
+        (piece.old.bytes.items ++ numbers_text numbers.now)) }
     ensures cause { OnErr result (Rose (K.faults sink.old) (K.faults sink.new)) }
     ensures later { K.faults sink.old ≤ K.faults sink.new }
 {
@@ -115,9 +126,12 @@ fn put_numbers<K: Sink>(sink: &mut K, piece: &mut LineBuffer, numbers: &[u32]) -
 
 // Puts a piece that is full.
 fn make_room<K: Sink>(sink: &mut K, piece: &mut LineBuffer) -> Result<(), Failed>
-    ensures ok { OnOk result (Waits (K.written sink.old) (K.written sink.new) piece.new.bytes.items piece.old.bytes.items) }
+    ensures ok { OnOk result
+        (Waits (K.written sink.old) (K.written sink.new)
+        piece.new.bytes.items piece.old.bytes.items) }
     ensures room { OnOk result (length piece.new.bytes.items ≤ FULL) }
-    ensures failed { OnErr result (AppendsFront (K.written sink.old) (K.written sink.new) piece.old.bytes.items) }
+    ensures failed { OnErr result
+        (AppendsFront (K.written sink.old) (K.written sink.new) piece.old.bytes.items) }
     ensures cause { OnErr result (Rose (K.faults sink.old) (K.faults sink.new)) }
     ensures later { K.faults sink.old ≤ K.faults sink.new }
 {
@@ -132,8 +146,10 @@ fn make_room<K: Sink>(sink: &mut K, piece: &mut LineBuffer) -> Result<(), Failed
 // Puts a line's number and what is said of that line, which is short.
 fn put_said<K: Sink>(sink: &mut K, line: u32, said: &[u8]) -> Result<(), Failed>
     requires { length said.now ≤ 64 }
-    ensures ok { OnOk result (Appends (K.written sink.old) (K.written sink.new) (decimal line ++ said.now)) }
-    ensures failed { OnErr result (AppendsFront (K.written sink.old) (K.written sink.new) (decimal line ++ said.now)) }
+    ensures ok { OnOk result
+        (Appends (K.written sink.old) (K.written sink.new) (decimal line ++ said.now)) }
+    ensures failed { OnErr result
+        (AppendsFront (K.written sink.old) (K.written sink.new) (decimal line ++ said.now)) }
     ensures cause { OnErr result (Rose (K.faults sink.old) (K.faults sink.new)) }
     ensures later { K.faults sink.old ≤ K.faults sink.new }
 {
@@ -145,8 +161,12 @@ fn put_said<K: Sink>(sink: &mut K, line: u32, said: &[u8]) -> Result<(), Failed>
 
 // Puts the reply to a lookup that found a body.
 fn put_found<K: Sink>(sink: &mut K, line: u32, body: &Body) -> Result<(), Failed>
-    ensures ok { OnOk result (Appends (K.written sink.old) (K.written sink.new) (reply_text line (Reply.Found body.now))) }
-    ensures failed { OnErr result (AppendsFront (K.written sink.old) (K.written sink.new) (reply_text line (Reply.Found body.now))) }
+    ensures ok { OnOk result
+        (Appends (K.written sink.old) (K.written sink.new)
+        (reply_text line (Reply.Found body.now))) }
+    ensures failed { OnErr result
+        (AppendsFront (K.written sink.old) (K.written sink.new)
+        (reply_text line (Reply.Found body.now))) }
     ensures cause { OnErr result (Rose (K.faults sink.old) (K.faults sink.new)) }
     ensures later { K.faults sink.old ≤ K.faults sink.new }
 {
@@ -159,8 +179,12 @@ fn put_found<K: Sink>(sink: &mut K, line: u32, body: &Body) -> Result<(), Failed
 
 // Puts the reply to a search: how many records the box holds, and a line for each.
 fn put_box<K: Sink>(sink: &mut K, line: u32, records: &[Record]) -> Result<(), Failed>
-    ensures ok { OnOk result (Appends (K.written sink.old) (K.written sink.new) (reply_text line (Reply.Within records.now))) }
-    ensures failed { OnErr result (AppendsFront (K.written sink.old) (K.written sink.new) (reply_text line (Reply.Within records.now))) }
+    ensures ok { OnOk result
+        (Appends (K.written sink.old) (K.written sink.new)
+        (reply_text line (Reply.Within records.now))) }
+    ensures failed { OnErr result
+        (AppendsFront (K.written sink.old) (K.written sink.new)
+        (reply_text line (Reply.Within records.now))) }
     ensures cause { OnErr result (Rose (K.faults sink.old) (K.faults sink.new)) }
     ensures later { K.faults sink.old ≤ K.faults sink.new }
 {
@@ -183,8 +207,11 @@ fn count_word(count: usize) -> LineBuffer
 
 // Puts a line for each record.
 fn put_records<K: Sink>(sink: &mut K, records: &[Record]) -> Result<(), Failed>
-    ensures ok { OnOk result (Appends (K.written sink.old) (K.written sink.new) (flat_map record_text records.now)) }
-    ensures failed { OnErr result (AppendsFront (K.written sink.old) (K.written sink.new) (flat_map record_text records.now)) }
+    ensures ok { OnOk result
+        (Appends (K.written sink.old) (K.written sink.new) (flat_map record_text records.now)) }
+    ensures failed { OnErr result
+        (AppendsFront (K.written sink.old) (K.written sink.new)
+        (flat_map record_text records.now)) }
     ensures cause { OnErr result (Rose (K.faults sink.old) (K.faults sink.new)) }
     ensures later { K.faults sink.old ≤ K.faults sink.new }
 {
@@ -196,8 +223,10 @@ fn put_records<K: Sink>(sink: &mut K, records: &[Record]) -> Result<(), Failed>
 
 // Puts the line of a record.
 fn put_record<K: Sink>(sink: &mut K, record: &Record) -> Result<(), Failed>
-    ensures ok { OnOk result (Appends (K.written sink.old) (K.written sink.new) (record_text «record».now)) }
-    ensures failed { OnErr result (AppendsFront (K.written sink.old) (K.written sink.new) (record_text «record».now)) }
+    ensures ok { OnOk result
+        (Appends (K.written sink.old) (K.written sink.new) (record_text «record».now)) }
+    ensures failed { OnErr result
+        (AppendsFront (K.written sink.old) (K.written sink.new) (record_text «record».now)) }
     ensures cause { OnErr result (Rose (K.faults sink.old) (K.faults sink.new)) }
     ensures later { K.faults sink.old ≤ K.faults sink.new }
 {
