@@ -5,9 +5,13 @@ use Rattle.std.specs.List.{flat_map}
 use Rattle.std.proofs.lemmas.Grind.{flat_map-append}
 use Rattle.hb_outside.specs.Streams.{Rose, Appends, AppendsFront}
 use Rattle.hb_set.specs.declared.scripts.Answered.{Answered}
-use Rattle.hb_text.specs.Output.{answer_text}
+use Rattle.hb_text.specs.Output.{answer_text, order_text, output_text}
 use Rattle.hb_text.specs.OutputLaws.{Appends-both, Appends-front, AppendsFront-longer, Appends-none, Rose-later}
-use Rattle.hbpi.specs.Ends.{HasPut, PutsMore}
+use Rattle.hbpi.specs.Ends.{HasPut, PutsMore, EndsBySink, EndsRun}
+use Rattle.hbpi.specs.Outcome.{IsDryRun}
+use Rattle.hb_set.specs.declared.scripts.Line.{Line}
+use Rattle.hbpi.specs.declared.statuses.Status.{Status}
+use Rattle.hbpi.specs.declared.statuses.Status.TheVariants.{Done, Usage, BadText, SourceFault, SinkFault, NoMemory, NotBuilt}
 
 -- nothing was put yet
 pub has_put_none : (a : Option (List ℕ)) (faults : ℕ) (answered : List Answered) → answered ≡ [] → HasPut a a faults faults false (flat_map answer_text answered)
@@ -27,3 +31,24 @@ has_put_more a b c f g h true true text piece put more = (
 -- the text of one answer more
 pub answer_texts : (answered : List Answered) (a : Answered) (new : List Answered) → new ≡ answered ++ a ∷ [] → flat_map answer_text new ≡ flat_map answer_text answered ++ answer_text a
 answer_texts answered a new is = ap (flat_map answer_text) is ∙ flat_map-append answer_text answered (a ∷ []) ∙ ap (λ t. flat_map answer_text answered ++ t) (append-nil (answer_text a))
+
+-- the whole output is the texts of the answers and the order
+output_parts : (answered : List Answered) (order : List ℕ) → flat_map answer_text answered ++ order_text order (length order) ≡ output_text answered [] false order (length order)
+output_parts answered order = ap (λ t. t ++ order_text order (length order)) (sym (append-nil (flat_map answer_text answered)))
+
+run_ends : (held mid holds : Option (List ℕ)) (f g h : ℕ) (failed : Bool) (lines : List Line) (answered : List Answered) (order : List ℕ) (status : Status) → IsDryRun lines answered order → HasPut held mid f g failed (flat_map answer_text answered) → EndsBySink mid holds g h failed order status → EndsRun held holds f h lines answered order status
+run_ends held mid holds f g h failed lines answered order Done run put more =
+    let all = has_put_more held mid holds f g h failed false (flat_map answer_text answered) (order_text order (length order)) put more in
+    (run, subst (Appends held holds) (output_parts answered order) all.0)
+run_ends held mid holds f g h failed lines answered order SinkFault run put more =
+    let all = has_put_more held mid holds f g h failed true (flat_map answer_text answered) (order_text order (length order)) put more in
+    (run, subst (AppendsFront held holds) (output_parts answered order) all.0, all.1)
+run_ends held mid holds f g h failed lines answered order Usage run put more = absurd more
+run_ends held mid holds f g h failed lines answered order (BadText bad) run put more = absurd more
+run_ends held mid holds f g h failed lines answered order SourceFault run put more = absurd more
+run_ends held mid holds f g h failed lines answered order NoMemory run put more = absurd more
+run_ends held mid holds f g h failed lines answered order NotBuilt run put more = absurd more
+
+pub finished_run : (held mid holds : Option (List ℕ)) (f g h : ℕ) (failed : Bool) (lines : List Line) (answered kept : List Answered) (order ordered : List ℕ) (status : Status) → IsDryRun lines answered order → HasPut held mid f g failed (flat_map answer_text answered) → EndsBySink mid holds g h failed order status → kept ≡ answered → ordered ≡ order → EndsRun held holds f h lines kept ordered status
+finished_run held mid holds f g h failed lines answered kept order ordered status run put more kept_is ordered_is =
+    rw (kept_is, ordered_is) (run_ends held mid holds f g h failed lines answered order status run put more)

@@ -103,3 +103,10 @@ abbrev pub EndsBySink : Option (List ℕ) → Option (List ℕ) → ℕ → ℕ 
 EndsBySink before after faults_before faults_after failed order Done = PutsMore before after faults_before faults_after failed false (order_text order (length order))
 EndsBySink before after faults_before faults_after failed order SinkFault = PutsMore before after faults_before faults_after failed true (order_text order (length order))
 EndsBySink before after faults_before faults_after failed order _ = ⊥
+
+-- how a run of these lines ends
+abbrev pub EndsRun : Option (List ℕ) → Option (List ℕ) → ℕ → ℕ → List Line → List Answered → List ℕ → Status → Type 0
+EndsRun held holds before after lines answered order Done = IsDryRun lines answered order × Appends held holds (output_text answered [] false order (length order))
+EndsRun held holds before after lines answered order SinkFault = IsDryRun lines answered order × AppendsFront held holds (output_text answered [] false order (length order)) × Rose before after
+EndsRun held holds before after lines answered order NoMemory = GetsLine held holds before after (fault_line NoMemory) × (answered ≡ []) × (order ≡ [])
+EndsRun held holds before after lines answered order _ = ⊥

@@ -1,7 +1,8 @@
-ghost use Rattle.std.specs.Prelude.{◌≡◌, ◌<◌, ◌≤◌, [], length, IfOk, IfErr};
+ghost use Rattle.std.specs.Prelude.{◌≡◌, ℕ, ◌<◌, ◌≤◌, [], length, IfOk, IfErr};
 ghost use Rattle.hb_outside.specs.Streams.{Rose};
+ghost use Rattle.hb_set.specs.Scripts.{IsScriptFor};
 ghost use Rattle.hbpi.specs.Outcome.{fault_line, GetsLine};
-ghost use Rattle.hbpi.specs.Ends.{IsRead, NotRead, EndsBySink};
+ghost use Rattle.hbpi.specs.Ends.{IsRead, NotRead, EndsBySink, EndsRun, DryEnds};
 
 use crate::answers::{Answers, answer_lines, put_whole_order};
 use crate::faults::put_fault;
@@ -70,5 +71,37 @@ fn finish<K: Sink>(answers: Answers, mut sink: K) -> Finished<K>
         sink,
         answered,
         order,
+    }
+}
+
+/// Runs a script over the plain record set, and writes its output.
+fn run_script<K: Sink>(alloc: Global, script: &Script, mut sink: K) -> Finished<K>
+    requires { (k : ℕ) × IsScriptFor k script.now.lines }
+    ensures { EndsRun (K.written sink) (K.written result.sink) (K.faults sink) (K.faults result.sink) script.now.lines result.answered.items result.order.items result.status }
+{
+    match answer_lines(alloc, script.lines.as_slice(), &mut sink) {
+        Ok(answers) => finish(answers, sink),
+        Err(_) => refused(alloc, Status::NoMemory, sink),
+    }
+}
+
+/// The command `dry`: reads a text, answers its lines over the plain record set over `k`
+/// attributes, and writes the replies and the order.
+pub(crate) fn dry<S: Source, K: Sink>(
+    alloc: Global,
+    k: u8,
+    source: &mut S,
+    sink: K,
+) -> Finished<K>
+    requires some { 0 < k }
+    requires few { k ≤ KMAX }
+    ensures ends { DryEnds k (record {
+        left = S.left source.old; rest = S.left source.new; source_before = S.faults source.old; source_after = S.faults source.new;
+        held = K.written sink; holds = K.written result.sink; sink_before = K.faults sink; sink_after = K.faults result.sink;
+        answered = result.answered.items; order = result.order.items }) result.status }
+{
+    match read_script(alloc, k, source) {
+        Ok(script) => run_script(alloc, &script, sink),
+        Err(status) => refused(alloc, status, sink),
     }
 }

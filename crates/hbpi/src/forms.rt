@@ -1,6 +1,7 @@
-ghost use Rattle.std.specs.Prelude.{◌≡◌, map, string_bytes};
+ghost use Rattle.std.specs.Prelude.{◌≡◌, ℕ, ◌<◌, ◌≤◌, Some, map, string_bytes};
 ghost use Rattle.hbpi.specs.Forms.{number_of, attributes_of, lines_of, create_of, dry_of, gen_of, work_of, alone, form_from, form_of};
 
+use hb_space::form::KMAX;
 use hb_text::read_number;
 
 /// What the program is asked to do, by its words.
@@ -143,15 +144,22 @@ fn read_form(first: &str, words: &[String]) -> Option<Form>
     }
 }
 
+#[tactic(auto, unfolding(crate::specs::Forms::form_of))]
+fn read_words(words: &[String]) -> Option<Form>
+    ensures { result ≡ form_of (map string_bytes words.now) }
+{
+    match words {
+        [] => None,
+        [first, others @ ..] => read_form(first.as_str(), others),
+    }
+}
+
 impl Form {
     /// The form that the words are. `None` where they are none.
-    #[tactic(auto, unfolding(crate::specs::Forms::form_of))]
     pub fn of_words(words: &[String]) -> Option<Form>
-        ensures { result ≡ form_of (map string_bytes words.now) }
+        ensures form { result ≡ form_of (map string_bytes words.now) }
+        ensures attributes { (k : ℕ) → result ≡ Some (Form.Dry k) → (0 < k) × (k ≤ KMAX) }
     {
-        match words {
-            [] => None,
-            [first, others @ ..] => read_form(first.as_str(), others),
-        }
+        read_words(words)
     }
 }

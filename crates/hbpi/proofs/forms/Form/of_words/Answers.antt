@@ -1,0 +1,6 @@
+use Rattle.std.proofs.Common.{sym, ◌∙◌, map, string_bytes, Global}
+use Rattle.hbpi.proofs.FormWords.{form_fits}
+use Rattle.hbpi.proofs.forms.Form.of_words.Goals as goal
+
+pub returns-clause-attributes : goal.returns-clause-attributes
+returns-clause-attributes c k is = form_fits (map (string_bytes {Z = Global}) c.args.words.now) k (sym c.read_words.ensures ∙ is)
