@@ -49,12 +49,12 @@ sorted_without m p = is_sorted-where_key point_cmp (λ x. not (eq_by_cmp point_c
 pub entries-remove : (m : RecordSet) (p : List ℕ) → map.entries (map.remove m p) ≡ without p (map.entries m)
 entries-remove m p =
     let same : map.remove m p ≡ map.from_sorted (without p (map.entries m)) = map.same_map nat_list_cmp_total exact_points _ _ (λ q.
-        map.get-remove nat_list_cmp_total m p q
-        ∙ ap (cond (eq_by_cmp point_cmp q p) None) (map.get-entries m q)
-        ∙ sym (map.get-from_sorted point_cmp (without p (map.entries m)) q (sorted_without m p)
-        ∙ find-where_key point_cmp (λ x. not (eq_by_cmp point_cmp p x)) q (λ x t. ap (λ o. not (is_eq o)) (sym (alike_right nat_list_cmp_total q x p t))) (map.entries m)
-        ∙ turned (eq_by_cmp point_cmp p q) _ _
-        ∙ ap (λ b. cond b None (map.find point_cmp q (map.entries m))) ((eq_by_cmp_equiv nat_list_cmp_total).symm p q))) in
+    map.get-remove nat_list_cmp_total m p q
+    ∙ ap (cond (eq_by_cmp point_cmp q p) None) (map.get-entries m q)
+    ∙ sym (map.get-from_sorted point_cmp (without p (map.entries m)) q (sorted_without m p)
+    ∙ find-where_key point_cmp (λ x. not (eq_by_cmp point_cmp p x)) q (λ x t. ap (λ o. not (is_eq o)) (sym (alike_right nat_list_cmp_total q x p t))) (map.entries m)
+    ∙ turned (eq_by_cmp point_cmp p q) _ _
+    ∙ ap (λ b. cond b None (map.find point_cmp q (map.entries m))) ((eq_by_cmp_equiv nat_list_cmp_total).symm p q))) in
     ap map.entries same ∙ map.entries-from_sorted point_cmp (without p (map.entries m)) (sorted_without m p)
 
 -- an empty set has records of any number of attributes

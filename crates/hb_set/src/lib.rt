@@ -13,6 +13,9 @@ mod commands;
 pub mod laws;
 mod scripts;
 mod set;
+#[cfg(test)]
+mod tests;
+pub mod threads;
 
 pub use commands::{Command, Reply};
 pub use scripts::{Answered, Line, Lines, Script, Steps};
