@@ -1,4 +1,4 @@
-use Rattle.std.proofs.Common.{◌≡◌, ◌∙◌, ap, not, rules, insert}
+use Rattle.std.proofs.Common.{◌≡◌, ◌∙◌, ap, not, insert}
 use Rattle.std.proofs.lemmas.Bool.{cond-true}
 use Rattle.hb_set.specs.Kept.{IsGapFor}
 use Rattle.hb_set.proofs.Views.{get_gap, rise_insert, insert_there, insert_done}
