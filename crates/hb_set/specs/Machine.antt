@@ -7,7 +7,7 @@ use Rattle.hb_space.specs.declared.records.Record.{Record}
 use Rattle.hb_set.specs.declared.commands.Command.{Command}
 use Rattle.hb_set.specs.declared.commands.Command.TheVariants.{Insert, Delete, Lookup, Search}
 use Rattle.hb_set.specs.declared.commands.Reply.{Reply}
-use Rattle.hb_set.specs.declared.commands.Reply.TheVariants.{Done, Duplicate, Absent, Found, Missing, Within, Full, NoMemory, ReadFault}
+use Rattle.hb_set.specs.declared.commands.Reply.TheVariants.{Done, Duplicate, Absent, Found, Missing, Within, NoMemory}
 
 -- a record set: at most one body for each point
 abbrev pub RecordSet : Type 0

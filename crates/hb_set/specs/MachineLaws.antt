@@ -1,5 +1,5 @@
 -- What follows from the machine's definitions.
-use Rattle.std.proofs.Common.{◌≡◌, ◌≢◌, ℕ, Bool, true, false, cond, not, List, [], ◌∷◌, length, map, Option, Some, None, All, T, refl, sym, ap, subst, ◌∙◌, arith}
+use Rattle.std.proofs.Common.{◌≡◌, ℕ, Bool, true, false, cond, not, List, [], ◌∷◌, length, map, Option, Some, None, T, refl, sym, ap, subst, ◌∙◌, arith}
 use Rattle.std.specs.Ordering.{is_eq, eq_by_cmp}
 use Rattle.std.specs.declared.cmp.Ordering.TheVariants.{Less, Equal, Greater}
 use Rattle.std.specs.List.{AllByRecursion}
@@ -14,7 +14,7 @@ use Rattle.hb_space.specs.declared.records.Record.{Record}
 use Rattle.hb_set.specs.declared.commands.Command.{Command}
 use Rattle.hb_set.specs.declared.commands.Command.TheVariants.{Insert, Delete, Lookup, Search}
 use Rattle.hb_set.specs.declared.commands.Reply.{Reply}
-use Rattle.hb_set.specs.declared.commands.Reply.TheVariants.{Done, Duplicate, Absent, Found, Missing, Within, Full, NoMemory, ReadFault}
+use Rattle.hb_set.specs.declared.commands.Reply.TheVariants.{Done, Duplicate, Absent, Full, NoMemory, ReadFault}
 use Rattle.hb_set.specs.Machine.{RecordSet, record_of, records_of, if_there, found_or_missing, reply_of, set_after, Answers, attributes, HasAttributes}
 
 -- points that compare alike are one
@@ -49,12 +49,12 @@ sorted_without m p = is_sorted-where_key point_cmp (λ x. not (eq_by_cmp point_c
 pub entries-remove : (m : RecordSet) (p : List ℕ) → map.entries (map.remove m p) ≡ without p (map.entries m)
 entries-remove m p =
     let same : map.remove m p ≡ map.from_sorted (without p (map.entries m)) = map.same_map nat_list_cmp_total exact_points _ _ (λ q.
-        map.get-remove nat_list_cmp_total m p q
-        ∙ ap (cond (eq_by_cmp point_cmp q p) None) (map.get-entries m q)
-        ∙ sym (map.get-from_sorted point_cmp (without p (map.entries m)) q (sorted_without m p)
-        ∙ find-where_key point_cmp (λ x. not (eq_by_cmp point_cmp p x)) q (λ x t. ap (λ o. not (is_eq o)) (sym (alike_right nat_list_cmp_total q x p t))) (map.entries m)
-        ∙ turned (eq_by_cmp point_cmp p q) _ _
-        ∙ ap (λ b. cond b None (map.find point_cmp q (map.entries m))) ((eq_by_cmp_equiv nat_list_cmp_total).symm p q))) in
+    map.get-remove nat_list_cmp_total m p q
+    ∙ ap (cond (eq_by_cmp point_cmp q p) None) (map.get-entries m q)
+    ∙ sym (map.get-from_sorted point_cmp (without p (map.entries m)) q (sorted_without m p)
+    ∙ find-where_key point_cmp (λ x. not (eq_by_cmp point_cmp p x)) q (λ x t. ap (λ o. not (is_eq o)) (sym (alike_right nat_list_cmp_total q x p t))) (map.entries m)
+    ∙ turned (eq_by_cmp point_cmp p q) _ _
+    ∙ ap (λ b. cond b None (map.find point_cmp q (map.entries m))) ((eq_by_cmp_equiv nat_list_cmp_total).symm p q))) in
     ap map.entries same ∙ map.entries-from_sorted point_cmp (without p (map.entries m)) (sorted_without m p)
 
 -- an empty set has records of any number of attributes

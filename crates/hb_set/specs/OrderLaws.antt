@@ -1,5 +1,5 @@
 -- What follows from the definitions of legal orders.
-use Rattle.std.proofs.Common.{◌≡◌, ◌≢◌, ℕ, suc, ◌<◌, true, false, List, [], ◌∷◌, ◌++◌, length, map, refl, sym, ap, subst, ◌∙◌, arith}
+use Rattle.std.proofs.Common.{◌≡◌, suc, false, List, [], ◌∷◌, ◌++◌, refl, sym, ap, subst, ◌∙◌, arith}
 use Rattle.std.specs.List.{AllByRecursion}
 use Rattle.std.proofs.lemmas.Bool.{false≢true}
 use Rattle.hb_set.specs.declared.commands.Reply.{Reply}
@@ -9,7 +9,7 @@ use Rattle.hb_set.specs.declared.scripts.Answered.{Answered}
 use Rattle.hb_set.specs.Machine.{RecordSet, reply_of, set_after, Answers}
 use Rattle.hb_set.specs.MachineLaws.{is_replied, replied}
 use Rattle.hb_set.specs.Laws.{OneAnswer, PartsAreLegal, ResultIsByParts, RepliesAreByParts, RepliesGrow, ResultGrows, TextKeepsSessions, EntriesGrow, RunsGrow, RunsReply, RunsAreLegal, RunsAnswerEach}
-use Rattle.hb_set.specs.Order.{Entry, AreReplies, result_of, lines_of, MayPrecede, KeepsSessions, IsLegalOrder, joined, entries_of, IsAbove, AreRising, IsAnswerTo, Ran}
+use Rattle.hb_set.specs.Order.{Entry, AreReplies, result_of, lines_of, MayPrecede, KeepsSessions, joined, entries_of, IsAbove, IsAnswerTo}
 
 -- lists of the same lines that both have the machine's replies are one
 pub same_entries : (m : RecordSet) (es fs : List Entry) → lines_of es ≡ lines_of fs → AreReplies m es → AreReplies m fs → es ≡ fs

@@ -1,3 +1,5 @@
+ghost use Rattle.std.specs.Prelude.{◌≡◌};
+
 use hb_space::{Area, Body, Point, Record, Records};
 
 /// A command of the text.
@@ -34,4 +36,20 @@ pub enum Reply {
     NoMemory,
     /// A page could not be read.
     ReadFault,
+}
+
+impl Command {
+    ghost use Rattle.hb_set.specs.Machine.{attributes};
+
+    /// How many attributes the command's point or box has.
+    pub fn attributes(&self) -> usize
+        ensures { result ≡ attributes self.now }
+    {
+        match self {
+            Command::Insert(added) => added.key.values().len(),
+            Command::Delete(point) => point.values().len(),
+            Command::Lookup(point) => point.values().len(),
+            Command::Search(area) => area.lo().values().len(),
+        }
+    }
 }

@@ -9,30 +9,26 @@ ghost use Rattle.hb_set.specs.Laws.{OneAnswer, PartsAreLegal, ResultIsByParts, R
 /// One machine, one answer: the lines determine the replies, and the replies the result.
 pub fn one_machine_one_answer()
     ensures { OneAnswer }
-{
-}
+{}
 
 /// A legal order may be cut anywhere.
 pub fn legal_orders_may_be_cut()
     ensures legal { PartsAreLegal }
     ensures result { ResultIsByParts }
     ensures replies { RepliesAreByParts }
-{
-}
+{}
 
 /// An order that grows by one entry at its end.
 pub fn orders_grow_at_the_end()
     ensures replies { RepliesGrow }
     ensures result { ResultGrows }
-{
-}
+{}
 
 /// Lines that are answered in the order of the text.
 pub fn text_order_keeps_sessions()
     ensures sessions { TextKeepsSessions }
     ensures grown { EntriesGrow }
-{
-}
+{}
 
 /// A run, in which each line is answered in turn.
 pub fn runs_are_legal_orders()
@@ -40,12 +36,10 @@ pub fn runs_are_legal_orders()
     ensures replies { RunsReply }
     ensures legal { RunsAreLegal }
     ensures each { RunsAnswerEach }
-{
-}
+{}
 
 /// The records of a set keep their number of attributes.
 pub fn attributes_stay()
     ensures empty { (k : ℕ) → HasAttributes k map.empty }
     ensures answered { AttributesStay }
-{
-}
+{}

@@ -10,13 +10,16 @@ use std::alloc::Global;
 use std::marker::Model;
 
 /// A set of records: at most one for each point.
+///
+/// A lookup is a binary search, and an insert and a delete move the handles of the later records.
+/// A search goes over the records whose first value lies between the box's least and greatest one.
 #[derive(Debug, Drop)]
 pub struct Set {
     records: Vec<Box<Record>>,
 }
 
 impl Model for Set {
-    ghost use Rattle.std.specs.Prelude.{ℕ, List, map as list_map};
+    ghost use Rattle.std.specs.Prelude.{ℕ, List};
     ghost use Rattle.std.specs.FinMap as map;
     ghost use Rattle.std.specs.Coded.{coded_list, coded_ℕ};
     ghost use Rattle.hb_space.specs.Points.{point_cmp};

@@ -1,6 +1,3 @@
-use Rattle.std.proofs.Common.{subst}
-use Rattle.hb_set.specs.Kept.{IsAt, IsGapFor}
-use Rattle.hb_set.specs.Machine.{HasAttributes}
 use Rattle.hb_set.proofs.Views.{rise_remove, delete_done, delete_absent}
 use Rattle.hb_set.proofs.set.Set.delete.Goals as goal
 

@@ -1,4 +1,4 @@
-use Rattle.std.proofs.Common.{◌≡◌, ◌∙◌, ap, not, rules, insert}
+use Rattle.std.proofs.Common.{◌≡◌, ◌∙◌, ap, not, insert}
 use Rattle.std.proofs.lemmas.Bool.{cond-true}
 use Rattle.hb_set.specs.Kept.{IsGapFor}
 use Rattle.hb_set.proofs.Views.{get_gap, rise_insert, insert_there, insert_done}
@@ -29,4 +29,3 @@ invariant_of-self-2 c = rw (added c) (rise_insert _ c.in-Ok-new.handle _ c.self.
 
 pub returns-clause-answers : goal.returns-clause-answers
 returns-clause-answers c = rw (added c, ← c.self.view_is, ← same_record c) (insert_done _ c.in-Ok-new.handle _ c.self.invariant (in_gap c))
-

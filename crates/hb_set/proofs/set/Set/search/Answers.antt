@@ -1,6 +1,4 @@
-use Rattle.std.proofs.Common.{◌∙◌, subst, sym}
-use Rattle.hb_set.specs.Kept.{KeysHave}
-use Rattle.hb_set.specs.Machine.{HasAttributes}
+use Rattle.std.proofs.Common.{◌∙◌}
 use Rattle.hb_set.proofs.Views.{keys_have, search_done}
 use Rattle.hb_set.proofs.set.Set.search.Goals as goal
 
