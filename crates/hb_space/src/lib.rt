@@ -13,6 +13,7 @@ mod bodies;
 pub mod form;
 mod points;
 mod records;
+mod sides;
 
 use std::alloc::AllocError;
 
