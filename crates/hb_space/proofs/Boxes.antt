@@ -77,6 +77,13 @@ pub Within-from_points : (a b : Area) → IsArea a → ((p : List ℕ) → Holds
 Within-from_points a b h points i k =
     (((points a.lo (lo_held a h)).between i k).0, ((points a.hi (hi_held a h)).between i (omega (arith, h.same))).1)
 
+-- the common box lies within both
+pub Within-common_area : (a b : Area) → IsArea a → IsArea b → length a.lo ≡ length b.lo → Meets a b → Within (common_area a b) a × Within (common_area a b) b
+Within-common_area a b ha hb e m =
+    let hc = IsArea-common_area a b ha hb e m in
+    (Within-from_points (common_area a b) a hc (λ p h. ((Holds-common_area a b p ha hb e).0 h).0),
+     Within-from_points (common_area a b) b hc (λ p h. ((Holds-common_area a b p ha hb e).0 h).1))
+
 -- areas that hold the same points are the same
 pub same_corners : (a b : Area) → a.lo ≡ b.lo → a.hi ≡ b.hi → a ≡ b
 same_corners a b l h =

@@ -126,6 +126,7 @@ impl Area {
         ensures value { IfSome result (λ c. c ≡ common_area self.now o.now) }
         ensures points { IfSome result
             (λ c. (p : List ℕ) → Holds c p ↔ (Holds self.now p × Holds o.now p)) }
+        ensures inside { IfSome result (λ c. Within c self.now × Within c o.now) }
     {
         if self.meets(o) {
             let lo = self.lo().greater(o.lo());

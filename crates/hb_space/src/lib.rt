@@ -11,6 +11,7 @@
 mod areas;
 mod bodies;
 pub mod form;
+mod pieces;
 mod points;
 mod records;
 mod sides;
@@ -19,6 +20,7 @@ use std::alloc::AllocError;
 
 pub use areas::Area;
 pub use bodies::Body;
+pub use pieces::Areas;
 pub use points::Point;
 pub use records::{Record, Records};
 

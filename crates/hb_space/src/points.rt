@@ -46,6 +46,14 @@ impl Point {
         self.values.as_slice()
     }
 
+    /// How many attributes it has.
+    pub fn attributes(&self) -> u8
+        ensures value { result ≡ length self.now }
+        ensures point { IsPoint self.now }
+    {
+        self.values().len() as u8
+    }
+
     /// The same point once more.
     pub(crate) fn copy(&self) -> Point
         ensures { result ≡ self.now }

@@ -1,6 +1,6 @@
 use Rattle.std.proofs.Common.{◌≡◌, ap, ◌∙◌, subst, sym, rules}
 use Rattle.hb_space.specs.Boxes.{Area, IsArea, Meets, Holds, common_area}
-use Rattle.hb_space.proofs.Boxes.{same_corners, IsArea-common_area, Holds-common_area}
+use Rattle.hb_space.proofs.Boxes.{IsArea-common_area, Holds-common_area, Within-common_area}
 use Rattle.hb_space.proofs.areas.Area.common.Goals as goal
 
 pub of_corners-requires : goal.of_corners-requires
@@ -13,3 +13,9 @@ pub returns-then-meets-clause-points : goal.returns-then-meets-clause-points
 returns-then-meets-clause-points c = λ p.
     let e : c.of_corners.result ≡ common_area c.args.self.now c.args.o.now = search rules in
     rw e (Holds-common_area _ _ p c.lo.ensures.area c.hi-then-meets.ensures.area c.requires)
+
+pub returns-then-meets-clause-inside : goal.returns-then-meets-clause-inside
+returns-then-meets-clause-inside c =
+    let m : Meets c.args.self.now c.args.o.now = search rules in
+    let e : c.of_corners.result ≡ common_area c.args.self.now c.args.o.now = search rules in
+    rw e (Within-common_area _ _ c.lo.ensures.area c.hi-then-meets.ensures.area c.requires m)
