@@ -3,8 +3,9 @@ use Rattle.std.proofs.Common.{◌≡◌, ℕ, zero, suc, ◌<◌, ◌≤◌, ◌
 use Rattle.std.proofs.lemmas.Grind.{same_number_lists}
 use Rattle.std.proofs.lemmas.List.{length-set, length-replicate, get_or-set_same, get_or-set_other, get_or-replicate}
 use Rattle.std.proofs.lemmas.List.Elements.{All-replicate, All-set}
+use Rattle.std.proofs.lemmas.Bool.{cases_lt}
 use Rattle.std.proofs.lemmas.Bool.Decides.{nat_tests}
-use Rattle.hb_space.specs.Boxes.{Area, IsArea, Holds, Meets, Within, Cuts, holds, is_between, whole_area, point_area, side_below, side_from, common_area, zip_by}
+use Rattle.hb_space.specs.Boxes.{Area, IsArea, Holds, Meets, Within, Cuts, Disjoint, holds, is_between, whole_area, point_area, side_below, side_from, common_area, zip_by}
 use Rattle.hb_space.specs.Points.{IsPoint, AtMost}
 use Rattle.hb_space.proofs.Lists.{length-zip_by, get_or-zip_by, set_cases, IsPoint-zip_by, IsPoint-set, max_chooses, min_chooses}
 
@@ -231,3 +232,26 @@ Holds-side_from a axis value p cuts =
               inl w ↦ (omega (arith, s.1, w.1, ap (λ j. get_or p j 0) w.0), (s.0.between i l).1)
             | inr w ↦ (omega (arith, (s.0.between i l).0, w.1), (s.0.between i l).1)
             ] })
+
+pub meets_by_points : (a b : Area) → IsArea a → IsArea b → length a.lo ≡ length b.lo → Meets a b ↔ ((p : List ℕ) × Holds a p × Holds b p)
+meets_by_points a b ha hb e = (point_from_meeting a b ha hb e, λ w. Meets-from_point a b w.0 w.1 w.2)
+
+pub disjoint_by_meeting : (a b : Area) → IsArea a → IsArea b → length a.lo ≡ length b.lo → (¬ (Meets a b)) ↔ Disjoint a b
+disjoint_by_meeting a b ha hb e =
+    (λ apart p in_a in_b. apart (Meets-from_point a b p in_a in_b),
+     λ apart m. let w = point_from_meeting a b ha hb e m in apart w.0 w.1 w.2)
+
+pub same_from_points : (a b : Area) → IsArea a → IsArea b → ((p : List ℕ) → Holds a p ↔ Holds b p) → a ≡ b
+same_from_points a b ha hb points =
+    let held = (points a.lo).0 (lo_held a ha) in
+    same_from_within a b ha hb held.same
+      (Within-from_points a b ha (λ p h. (points p).0 h))
+      (Within-from_points b a hb (λ p h. (points p).1 h))
+
+-- every point of a box that a plane parts lies on one side
+pub side_cover : (a : Area) (axis value : ℕ) (p : List ℕ) → IsArea a → Cuts a axis value → Holds a p ↔ (Holds (side_below a axis value) p ⊎ Holds (side_from a axis value) p)
+side_cover a axis value p h cuts =
+    let below = Holds-side_below a axis value p h cuts in
+    let from = Holds-side_from a axis value p cuts in
+    (λ held. elim (cases_lt (get_or p axis 0) value) [ inl l ↦ inl (below.1 (held, l)) | inr l ↦ inr (from.1 (held, l)) ],
+     λ side. elim side [ inl s ↦ (below.0 s).0 | inr s ↦ (from.0 s).0 ])

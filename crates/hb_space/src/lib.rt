@@ -11,6 +11,7 @@
 mod areas;
 mod bodies;
 pub mod form;
+pub mod laws;
 mod pieces;
 mod points;
 mod records;

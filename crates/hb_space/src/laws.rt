@@ -1,0 +1,93 @@
+//! What follows of boxes from their definitions alone. Each law is the contract of a function
+//! that does nothing: a caller learns it by the call.
+
+ghost use Rattle.std.specs.Prelude.{◌≡◌, ◌≢◌, ◌<◌, ◌≤◌, ◌↔◌, ◌⊎◌, ℕ, List, length, slice_index, IsTrue};
+ghost use Rattle.hb_space.specs.Points.{IsPoint};
+ghost use Rattle.hb_space.specs.Boxes.{Area, IsArea, Holds, Meets, Within, Disjoint, Cuts, side_below, side_from, common_area, holds};
+
+use crate::{Areas, Body, Point, Record, Records};
+
+/// Two boxes meet exactly where a point lies in both.
+pub fn meeting_is_by_points()
+    ensures { (a b : Area) → IsArea a → IsArea b → length a.lo ≡ length b.lo →
+        (Meets a b ↔ ((p : List ℕ) × Holds a p × Holds b p)) }
+{
+}
+
+/// Boxes that do not meet share no point, and the other way round.
+pub fn apart_is_disjoint()
+    ensures { (a b : Area) → IsArea a → IsArea b → length a.lo ≡ length b.lo →
+        ((¬ (Meets a b)) ↔ Disjoint a b) }
+{
+}
+
+/// One box lies within another exactly where the other holds each of its points.
+pub fn within_is_by_points()
+    ensures { (a b : Area) → IsArea a → IsArea b → length a.lo ≡ length b.lo →
+        (Within a b ↔ ((p : List ℕ) → Holds a p → Holds b p)) }
+{
+}
+
+/// Lying within is an order: two boxes that lie within each other are the same.
+pub fn within_is_an_order()
+    ensures reflexive { (a : Area) → Within a a }
+    ensures transitive { (a b c : Area) → length a.lo ≡ length b.lo →
+        Within a b → Within b c → Within a c }
+    ensures antisymmetric { (a b : Area) → IsArea a → IsArea b → length a.lo ≡ length b.lo →
+        Within a b → Within b a → a ≡ b }
+{
+}
+
+/// Boxes that hold the same points are the same.
+pub fn points_tell_a_box()
+    ensures { (a b : Area) → IsArea a → IsArea b →
+        ((p : List ℕ) → Holds a p ↔ Holds b p) → a ≡ b }
+{
+}
+
+/// The two sides of a plane that parts a box are boxes that share no point, hold its points and
+/// no others, lie within it, and are each less than it.
+pub fn sides_part_a_box()
+    ensures areas { (a : Area) (axis value : ℕ) → IsArea a → Cuts a axis value →
+        IsArea (side_below a axis value) × IsArea (side_from a axis value) }
+    ensures disjoint { (a : Area) (axis value : ℕ) → IsArea a → Cuts a axis value →
+        Disjoint (side_below a axis value) (side_from a axis value) }
+    ensures cover { (a : Area) (axis value : ℕ) (p : List ℕ) → IsArea a → Cuts a axis value →
+        (Holds a p ↔ (Holds (side_below a axis value) p ⊎ Holds (side_from a axis value) p)) }
+    ensures within { (a : Area) (axis value : ℕ) → IsArea a → Cuts a axis value →
+        Within (side_below a axis value) a × Within (side_from a axis value) a }
+    ensures proper { (a : Area) (axis value : ℕ) → IsArea a → Cuts a axis value →
+        (side_below a axis value ≢ a) × (side_from a axis value ≢ a) }
+{
+}
+
+/// The test of a point answers as the definition.
+pub fn test_tells_the_points()
+    ensures { (a : Area) (p : List ℕ) → IsArea a → length p ≡ length a.lo →
+        (IsTrue (holds a p) ↔ Holds a p) }
+{
+}
+
+/// The common box of two that meet is a box, holds what both hold, and lies within both.
+pub fn common_box_is_a_box()
+    ensures area { (a b : Area) → IsArea a → IsArea b → length a.lo ≡ length b.lo → Meets a b →
+        IsArea (common_area a b) }
+    ensures points { (a b : Area) (p : List ℕ) → IsArea a → IsArea b → length a.lo ≡ length b.lo →
+        (Holds (common_area a b) p ↔ (Holds a p × Holds b p)) }
+    ensures within { (a b : Area) → IsArea a → IsArea b → length a.lo ≡ length b.lo → Meets a b →
+        Within (common_area a b) a × Within (common_area a b) b }
+{
+}
+
+/// Values of the type may be sent to other threads, and shared with them.
+fn is_shared<T: Send + Sync>() {}
+
+/// The types of the crate may be sent to other threads, and shared with them.
+pub fn types_are_shared() {
+    is_shared::<Point>();
+    is_shared::<Body>();
+    is_shared::<Record>();
+    is_shared::<Records>();
+    is_shared::<crate::Area>();
+    is_shared::<Areas>();
+}
