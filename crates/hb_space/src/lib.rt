@@ -16,6 +16,8 @@ mod pieces;
 mod points;
 mod records;
 mod sides;
+#[cfg(test)]
+mod tests;
 
 use std::alloc::AllocError;
 
