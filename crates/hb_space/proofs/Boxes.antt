@@ -16,17 +16,6 @@ lo_held a h = record { same = refl; between = λ i k. (omega arith, h.ordered i 
 pub hi_held : (a : Area) → IsArea a → Holds a a.hi
 hi_held a h = record { same = sym h.same; between = λ i k. (h.ordered i (omega (arith, h.same)), omega arith) }
 
--- two boxes meet where each one's least corner is at most the other's greatest
-pub Meets-from_corners : (a b : Area) → IsArea a → IsArea b → length a.lo ≡ length b.lo → AtMost a.lo b.hi → AtMost b.lo a.hi → Meets a b
-Meets-from_corners a b ha hb e h k i l =
-    omega (arith, h i l, k i (omega (arith, e)), ha.ordered i l, hb.ordered i (omega (arith, e)))
-
-pub AtMost-from_meeting : (a b : Area) → Meets a b → AtMost a.lo b.hi
-AtMost-from_meeting a b m i l = omega (arith, m i l)
-
-pub AtMost-from_meeting_other : (a b : Area) → length a.lo ≡ length b.lo → Meets a b → AtMost b.lo a.hi
-AtMost-from_meeting_other a b e m i l = omega (arith, m i (omega (arith, e)))
-
 -- the greater of the least corners lies in both boxes
 pub IsArea-common_area : (a b : Area) → IsArea a → IsArea b → length a.lo ≡ length b.lo → Meets a b → IsArea (common_area a b)
 IsArea-common_area a b ha hb e m =
@@ -68,12 +57,6 @@ point_from_meeting a b ha hb e m =
     let both = (Holds-common_area a b c.lo ha hb e).0 (lo_held c (IsArea-common_area a b ha hb e m)) in
     (c.lo, both.0, both.1)
 
--- within another box: by corners, and by points
-pub Holds-wider : (a b : Area) (p : List ℕ) → length a.lo ≡ length b.lo → Within a b → Holds a p → Holds b p
-Holds-wider a b p e w h = record { same = omega (arith, h.same, e); between = λ i k.
-    let k' : i < length a.lo = omega (arith, h.same) in
-    (omega (arith, (h.between i k).0, (w i k').0), omega (arith, (h.between i k).1, (w i k').1)) }
-
 pub Within-from_points : (a b : Area) → IsArea a → ((p : List ℕ) → Holds a p → Holds b p) → Within a b
 Within-from_points a b h points i k =
     (((points a.lo (lo_held a h)).between i k).0, ((points a.hi (hi_held a h)).between i (omega (arith, h.same))).1)
@@ -99,47 +82,6 @@ same_from_within a b ha hb e v w =
       (same_number_lists a.hi b.hi (omega (arith, ha.same, hb.same, e)) (λ k l.
         let l' : k < length a.lo = omega (arith, ha.same) in
         omega (arith, (v k l').1, (w k (omega (arith, e))).1)))
-
--- the box of one point holds that point alone
-pub Holds-point_area : (p q : List ℕ) → Holds (point_area p) q ↔ (q ≡ p)
-Holds-point_area p q =
-    (λ h. same_number_lists q p h.same (λ k l. omega (arith, (h.between k l).0, (h.between k l).1)),
-     λ e. record { same = ap length e; between = λ i l. (omega (arith, ap (λ xs. get_or xs i 0) e), omega (arith, ap (λ xs. get_or xs i 0) e)) })
-
-pub IsArea-point_area : (p : List ℕ) → IsPoint p → IsArea (point_area p)
-IsArea-point_area p h = record { lo_point = h; hi_point = h; same = refl; ordered = λ i l. omega arith }
-
--- the whole space holds every point of as many attributes
-pub IsPoint-replicate : (k v : ℕ) → 1 ≤ k → k ≤ 4 → v < 2 ^ 64 → IsPoint (replicate k v)
-IsPoint-replicate k v some few fits = record {
-  some = omega (arith, length-replicate k v);
-  few = omega (arith, length-replicate k v);
-  fits = All-replicate (λ x. x < 2 ^ 64) k v fits
-}
-
-pub IsArea-replicate : (k v w : ℕ) → 1 ≤ k → k ≤ 4 → v ≤ w → w < 2 ^ 64 → IsArea (record { lo = replicate k v; hi = replicate k w })
-IsArea-replicate k v w some few below fits = record {
-  lo_point = IsPoint-replicate k v some few (omega arith);
-  hi_point = IsPoint-replicate k w some few fits;
-  same = omega (arith, length-replicate k v, length-replicate k w);
-  ordered = λ i l.
-    let l' : i < k = omega (arith, length-replicate k v) in
-    omega (arith, get_or-replicate k i v 0 l', get_or-replicate k i w 0 l')
-}
-
-pub Holds-replicate : (k v w : ℕ) (p : List ℕ) → length p ≡ k → ((i : ℕ) → i < k → (v ≤ get_or p i 0) × (get_or p i 0 ≤ w)) → Holds (record { lo = replicate k v; hi = replicate k w }) p
-Holds-replicate k v w p e fits = record {
-  same = omega (arith, length-replicate k v);
-  between = λ i l.
-    let l' : i < k = omega (arith, e) in
-    (omega (arith, (fits i l').0, get_or-replicate k i v 0 l'), omega (arith, (fits i l').1, get_or-replicate k i w 0 l'))
-}
-
-pub IsArea-whole_area : (k : ℕ) → 1 ≤ k → k ≤ 4 → IsArea (whole_area k)
-IsArea-whole_area k some few = IsArea-replicate k 0 (2 ^ 64 - 1) some few (omega arith) (omega arith)
-
-pub Holds-whole_area : (k : ℕ) (p : List ℕ) → IsPoint p → length p ≡ k → Holds (whole_area k) p
-Holds-whole_area k p h e = Holds-replicate k 0 (2 ^ 64 - 1) p e (λ i l. (omega arith, omega (arith, h.fits i 0 (omega (arith, e)))))
 
 -- the test holds exactly where the point lies in the box
 pub between-from_test : (lo hi p : List ℕ) → length lo ≡ length hi → length p ≡ length lo → IsTrue (is_between lo hi p) → EachIndex p (λ i. (get_or lo i 0 ≤ get_or p i 0) × (get_or p i 0 ≤ get_or hi i 0))
@@ -177,34 +119,6 @@ same_tests false false f g = refl
 pub test_is_holds : (a : Area) (p : List ℕ) (r : Bool) → IsArea a → length p ≡ length a.lo → (IsTrue r ↔ Holds a p) → r ≡ holds a p
 test_is_holds a p r h e tells =
     same_tests r (holds a p) (λ t. test-from_Holds a p h (tells.0 t)) (λ t. tells.1 (Holds-from_test a p h e t))
-
--- a plane that parts a box: its sides are boxes
-pub IsArea-side_below : (a : Area) (axis value : ℕ) → IsArea a → Cuts a axis value → IsArea (side_below a axis value)
-IsArea-side_below a axis value h cuts =
-    let in_hi : axis < length a.hi = omega (arith, h.same, cuts.attribute) in
-    record {
-      lo_point = h.lo_point;
-      hi_point = IsPoint-set a.hi axis (value - 1) h.hi_point (omega (arith, h.hi_point.fits axis 0 in_hi, cuts.up_to_greatest));
-      same = omega (arith, length-set a.hi axis (value - 1), h.same);
-      ordered = λ i l. elim (set_cases a.hi axis (value - 1) i in_hi) [
-          inl w ↦ rw (w.1, w.0) (omega (arith, cuts.above_least))
-        | inr w ↦ rw w.1 (h.ordered i l)
-        ]
-    }
-
-pub IsArea-side_from : (a : Area) (axis value : ℕ) → IsArea a → Cuts a axis value → IsArea (side_from a axis value)
-IsArea-side_from a axis value h cuts =
-    let in_hi : axis < length a.hi = omega (arith, h.same, cuts.attribute) in
-    let n = length-set a.lo axis value in
-    record {
-      lo_point = IsPoint-set a.lo axis value h.lo_point (omega (arith, h.hi_point.fits axis 0 in_hi, cuts.up_to_greatest));
-      hi_point = h.hi_point;
-      same = omega (arith, n, h.same);
-      ordered = λ i l. elim (set_cases a.lo axis value i cuts.attribute) [
-          inl w ↦ rw (w.1, w.0) cuts.up_to_greatest
-        | inr w ↦ rw w.1 (h.ordered i (omega (arith, n)))
-        ]
-    }
 
 -- which points they hold
 pub Holds-side_below : (a : Area) (axis value : ℕ) (p : List ℕ) → IsArea a → Cuts a axis value → Holds (side_below a axis value) p ↔ (Holds a p × (get_or p axis 0 < value))

@@ -7,7 +7,7 @@ use Rattle.std.proofs.lemmas.Bool.Decides.{nat_tests}
 use Rattle.hb_space.specs.Boxes.{Area, IsArea, Holds, Meets, Within, Cuts, Disjoint, side_below, side_from, common_area, pieces_below, pieces_above, rest_between, pieces_from, pieces_outside}
 use Rattle.hb_space.specs.Points.{IsPoint}
 use Rattle.hb_space.proofs.Lists.{set_cases, IsPoint-set}
-use Rattle.hb_space.proofs.Boxes.{Holds-side_below, Holds-side_from}
+use Rattle.hb_space.proofs.Boxes.{Holds-side_below, Holds-side_from, Meets-from_point}
 
 -- some box of the list holds the point
 abbrev pub SomeHolds : List Area → List ℕ → Type 0
@@ -293,17 +293,6 @@ pub record IsPeeled (a c rest : Area) (axis : ℕ) (pieces : List Area) : Type 0
   pub inside : Within c rest
   pub so_far : pieces ++ pieces_from (length a.lo - axis) axis rest c ≡ pieces_outside a c
 
-pub peeled_none : (a c : Area) → IsArea a → Within c a → IsPeeled a c a 0 []
-peeled_none a c h w =
-    let start : length a.lo - 0 ≡ length a.lo = omega arith in
-    record { same = refl; area = h; inside = w; so_far = ap (λ n. pieces_from n 0 a c) start }
-
-pub peeled_all : (a c rest : Area) (axis : ℕ) (pieces : List Area) → length a.lo ≤ axis → IsPeeled a c rest axis pieces → pieces ≡ pieces_outside a c
-peeled_all a c rest axis pieces l h =
-    let none : length a.lo - axis ≡ zero = omega arith in
-    let at_end : pieces ++ pieces_from (length a.lo - axis) axis rest c ≡ pieces ++ [] = ap (λ n. pieces ++ pieces_from n axis rest c) none in
-    sym (append-nil pieces) ∙ sym at_end ∙ h.so_far
-
 regrouped : (ps bs us rs : List Area) → ps ++ bs ++ us ++ rs ≡ ps ++ ((bs ++ us) ++ rs)
 regrouped ps bs us rs = simp append_assoc
 
@@ -350,3 +339,10 @@ disjoint_from_pieces a c v e ha hc s w =
 
 pub count_from_pieces : (a c : Area) (v : List Area) → v ≡ pieces_outside a c → length v ≤ 2 * length a.lo
 count_from_pieces a c v e = rw e (length-pieces_outside a c)
+
+-- a box alone, where the two do not meet
+pub cover_where_apart : (a o : Area) (v : List Area) (p : List ℕ) → v ≡ a ∷ [] → ¬ (Meets a o) → Any (λ x. Holds x p) v ↔ (Holds a p × ¬ (Holds o p))
+cover_where_apart a o v p e apart =
+    subst (λ (t : List Area). Any (λ x. Holds x p) t ↔ (Holds a p × ¬ (Holds o p))) (sym e)
+      (λ x. (let held = (SomeHolds-one a p).0 (recursion_from_Any (a ∷ []) p x) in (held, λ in_o. apart (Meets-from_point a o p held in_o))),
+       λ y. Any-from_recursion (a ∷ []) p (inl y.0))

@@ -3,8 +3,9 @@
 
 ghost use Rattle.std.specs.Prelude.{◌≡◌, ◌≢◌, ◌<◌, ◌≤◌, ◌↔◌, ◌⊎◌, ℕ, List, length, slice_index, IsTrue};
 ghost use Rattle.hb_space.specs.Points.{IsPoint};
-ghost use Rattle.hb_space.specs.Boxes.{Area, IsArea, Holds, Meets, Within, Disjoint, Cuts, side_below, side_from, common_area, holds};
+ghost use Rattle.hb_space.specs.Boxes.{Area, IsArea, Holds, Meets, Within, Disjoint, Cuts, whole_area, point_area, side_below, side_from, common_area, holds};
 
+use crate::form::KMAX;
 use crate::{Areas, Body, Point, Record, Records};
 
 /// Two boxes meet exactly where a point lies in both.
@@ -76,6 +77,20 @@ pub fn common_box_is_a_box()
         (Holds (common_area a b) p ↔ (Holds a p × Holds b p)) }
     ensures within { (a b : Area) → IsArea a → IsArea b → length a.lo ≡ length b.lo → Meets a b →
         Within (common_area a b) a × Within (common_area a b) b }
+{
+}
+
+/// The whole space of some attributes is a box that holds every point of as many.
+pub fn whole_space_holds_every_point()
+    ensures area { (k : ℕ) → 1 ≤ k → k ≤ KMAX → IsArea (whole_area k) }
+    ensures points { (k : ℕ) (p : List ℕ) → IsPoint p → length p ≡ k → Holds (whole_area k) p }
+{
+}
+
+/// The box of a point holds that point alone.
+pub fn box_of_a_point_holds_it_alone()
+    ensures area { (p : List ℕ) → IsPoint p → IsArea (point_area p) }
+    ensures points { (p q : List ℕ) → Holds (point_area p) q ↔ (q ≡ p) }
 {
 }
 
