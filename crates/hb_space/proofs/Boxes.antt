@@ -1,13 +1,11 @@
 -- Boxes and the points that they hold.
-use Rattle.std.proofs.Common.{◌≡◌, ℕ, zero, suc, ◌<◌, ◌≤◌, ◌+◌, ◌-◌, ◌^◌, Bool, true, false, List, [], ◌∷◌, length, get_or, set, replicate, All, EachIndex, IsTrue, ◌↔◌, refl, ap, sym, ◌∙◌, arith, min, max, inl, inr, ◌⊎◌}
+use Rattle.std.proofs.Common.{◌≡◌, ℕ, zero, suc, ◌<◌, ◌≤◌, ◌-◌, Bool, true, false, List, [], ◌∷◌, length, get_or, EachIndex, IsTrue, ◌↔◌, refl, ap, sym, ◌∙◌, arith, min, max, inl, inr, ◌⊎◌}
 use Rattle.std.proofs.lemmas.Grind.{same_number_lists}
-use Rattle.std.proofs.lemmas.List.{length-set, length-replicate, get_or-set_same, get_or-set_other, get_or-replicate}
-use Rattle.std.proofs.lemmas.List.Elements.{All-replicate, All-set}
+use Rattle.std.proofs.lemmas.List.{length-set, get_or-set_same}
 use Rattle.std.proofs.lemmas.Bool.{cases_lt}
 use Rattle.std.proofs.lemmas.Bool.Decides.{nat_tests}
-use Rattle.hb_space.specs.Boxes.{Area, IsArea, Holds, Meets, Within, Cuts, Disjoint, holds, is_between, whole_area, point_area, side_below, side_from, common_area, zip_by}
-use Rattle.hb_space.specs.Points.{IsPoint, AtMost}
-use Rattle.hb_space.proofs.Lists.{length-zip_by, get_or-zip_by, set_cases, IsPoint-zip_by, IsPoint-set, max_chooses, min_chooses}
+use Rattle.hb_space.specs.Boxes.{Area, IsArea, Holds, Meets, Within, Cuts, Disjoint, holds, is_between, side_below, side_from, common_area}
+use Rattle.hb_space.proofs.Lists.{length-zip_by, get_or-zip_by, set_cases, IsPoint-zip_by, max_chooses, min_chooses}
 
 -- the least corner and the greatest corner lie in the box
 pub lo_held : (a : Area) → IsArea a → Holds a a.lo
@@ -25,26 +23,38 @@ IsArea-common_area a b ha hb e m =
       hi_point = IsPoint-zip_by min min_chooses a.hi b.hi e' ha.hi_point hb.hi_point;
       same = omega (arith, length-zip_by max a.lo b.lo e, length-zip_by min a.hi b.hi e', ha.same);
       ordered = λ i k.
-        let k' : i < length a.lo = omega (arith, length-zip_by max a.lo b.lo e) in
-        omega (arith, get_or-zip_by max a.lo b.lo i e k', get_or-zip_by min a.hi b.hi i e' (omega (arith, ha.same)), m i k')
+          let k' : i < length a.lo = omega (arith, length-zip_by max a.lo b.lo e) in
+          omega (arith, get_or-zip_by max a.lo b.lo i e k', get_or-zip_by min a.hi b.hi i e' (omega (arith, ha.same)), m i k');
     }
 
 -- the common box holds what both hold
 pub Holds-common_area : (a b : Area) (p : List ℕ) → IsArea a → IsArea b → length a.lo ≡ length b.lo → Holds (common_area a b) p ↔ (Holds a p × Holds b p)
 Holds-common_area a b p ha hb e =
     let e' : length a.hi ≡ length b.hi = omega (arith, e, ha.same, hb.same) in
-    let n = length-zip_by max a.lo b.lo e in
-    (λ h. let s : length p ≡ length a.lo = omega (arith, h.same, n) in
-        (record { same = s; between = λ i k.
-            let k' : i < length a.lo = omega (arith, s) in
-            (omega (arith, (h.between i k).0, get_or-zip_by max a.lo b.lo i e k'), omega (arith, (h.between i k).1, get_or-zip_by min a.hi b.hi i e' (omega (arith, ha.same)))) },
-         record { same = omega (arith, s, e); between = λ i k.
-            let k' : i < length a.lo = omega (arith, s) in
-            (omega (arith, (h.between i k).0, get_or-zip_by max a.lo b.lo i e k'), omega (arith, (h.between i k).1, get_or-zip_by min a.hi b.hi i e' (omega (arith, ha.same)))) }),
-     λ h. record { same = omega (arith, h.0.same, n); between = λ i k.
-            let k' : i < length a.lo = omega (arith, h.0.same) in
-            (omega (arith, (h.0.between i k).0, (h.1.between i k).0, get_or-zip_by max a.lo b.lo i e k'),
-             omega (arith, (h.0.between i k).1, (h.1.between i k).1, get_or-zip_by min a.hi b.hi i e' (omega (arith, ha.same)))) })
+    let n = length-zip_by max a.lo b.lo e in (
+      λ h. let s : length p ≡ length a.lo = omega (arith, h.same, n) in (
+        record {
+          same = s;
+          between = λ i k.
+              let k' : i < length a.lo = omega (arith, s) in
+              (omega (arith, (h.between i k).0, get_or-zip_by max a.lo b.lo i e k'), omega (arith, (h.between i k).1, get_or-zip_by min a.hi b.hi i e' (omega (arith, ha.same))));
+        },
+        record {
+          same = omega (arith, s, e);
+          between = λ i k.
+              let k' : i < length a.lo = omega (arith, s) in
+              (omega (arith, (h.between i k).0, get_or-zip_by max a.lo b.lo i e k'), omega (arith, (h.between i k).1, get_or-zip_by min a.hi b.hi i e' (omega (arith, ha.same))));
+        },
+      ),
+      λ h. record {
+        same = omega (arith, h.0.same, n);
+        between = λ i k.
+            let k' : i < length a.lo = omega (arith, h.0.same) in (
+              omega (arith, (h.0.between i k).0, (h.1.between i k).0, get_or-zip_by max a.lo b.lo i e k'),
+              omega (arith, (h.0.between i k).1, (h.1.between i k).1, get_or-zip_by min a.hi b.hi i e' (omega (arith, ha.same))),
+            );
+      },
+    )
 
 pub Meets-from_point : (a b : Area) (p : List ℕ) → Holds a p → Holds b p → Meets a b
 Meets-from_point a b p ha hb i k =
@@ -64,9 +74,10 @@ Within-from_points a b h points i k =
 -- the common box lies within both
 pub Within-common_area : (a b : Area) → IsArea a → IsArea b → length a.lo ≡ length b.lo → Meets a b → Within (common_area a b) a × Within (common_area a b) b
 Within-common_area a b ha hb e m =
-    let hc = IsArea-common_area a b ha hb e m in
-    (Within-from_points (common_area a b) a hc (λ p h. ((Holds-common_area a b p ha hb e).0 h).0),
-     Within-from_points (common_area a b) b hc (λ p h. ((Holds-common_area a b p ha hb e).0 h).1))
+    let hc = IsArea-common_area a b ha hb e m in (
+      Within-from_points (common_area a b) a hc (λ p h. ((Holds-common_area a b p ha hb e).0 h).0),
+      Within-from_points (common_area a b) b hc (λ p h. ((Holds-common_area a b p ha hb e).0 h).1),
+    )
 
 -- areas that hold the same points are the same
 pub same_corners : (a b : Area) → a.lo ≡ b.lo → a.hi ≡ b.hi → a ≡ b
@@ -78,10 +89,10 @@ same_corners a b l h =
 pub same_from_within : (a b : Area) → IsArea a → IsArea b → length a.lo ≡ length b.lo → Within a b → Within b a → a ≡ b
 same_from_within a b ha hb e v w =
     same_corners a b
-      (same_number_lists a.lo b.lo e (λ k l. omega (arith, (v k l).0, (w k (omega (arith, e))).0)))
-      (same_number_lists a.hi b.hi (omega (arith, ha.same, hb.same, e)) (λ k l.
-        let l' : k < length a.lo = omega (arith, ha.same) in
-        omega (arith, (v k l').1, (w k (omega (arith, e))).1)))
+    (same_number_lists a.lo b.lo e (λ k l. omega (arith, (v k l).0, (w k (omega (arith, e))).0)))
+    (same_number_lists a.hi b.hi (omega (arith, ha.same, hb.same, e)) (λ k l.
+    let l' : k < length a.lo = omega (arith, ha.same) in
+    omega (arith, (v k l').1, (w k (omega (arith, e))).1)))
 
 -- the test holds exactly where the point lies in the box
 pub between-from_test : (lo hi p : List ℕ) → length lo ≡ length hi → length p ≡ length lo → IsTrue (is_between lo hi p) → EachIndex p (λ i. (get_or lo i 0 ≤ get_or p i 0) × (get_or p i 0 ≤ get_or hi i 0))
@@ -123,49 +134,69 @@ test_is_holds a p r h e tells =
 -- which points they hold
 pub Holds-side_below : (a : Area) (axis value : ℕ) (p : List ℕ) → IsArea a → Cuts a axis value → Holds (side_below a axis value) p ↔ (Holds a p × (get_or p axis 0 < value))
 Holds-side_below a axis value p h cuts =
-    let in_hi : axis < length a.hi = omega (arith, h.same, cuts.attribute) in
-    (λ s. (record { same = s.same; between = λ i l. elim (set_cases a.hi axis (value - 1) i in_hi) [
-              inl w ↦ ((s.between i l).0, omega (arith, (s.between i l).1, w.1, cuts.up_to_greatest, ap (λ j. get_or a.hi j 0) w.0))
+    let in_hi : axis < length a.hi = omega (arith, h.same, cuts.attribute) in (
+      λ s. (
+        record {
+          same = s.same;
+          between = λ i l. elim (set_cases a.hi axis (value - 1) i in_hi) [
+            | inl w ↦ ((s.between i l).0, omega (arith, (s.between i l).1, w.1, cuts.up_to_greatest, ap (λ j. get_or a.hi j 0) w.0))
             | inr w ↦ ((s.between i l).0, omega (arith, (s.between i l).1, w.1))
-            ] },
-           omega (arith, (s.between axis (omega (arith, s.same, cuts.attribute))).1, get_or-set_same a.hi axis (value - 1) 0 in_hi, cuts.above_least)),
-     λ s. record { same = s.0.same; between = λ i l. elim (set_cases a.hi axis (value - 1) i in_hi) [
-              inl w ↦ ((s.0.between i l).0, omega (arith, s.1, w.1, ap (λ j. get_or p j 0) w.0))
-            | inr w ↦ ((s.0.between i l).0, omega (arith, (s.0.between i l).1, w.1))
-            ] })
+          ];
+        },
+        omega (arith, (s.between axis (omega (arith, s.same, cuts.attribute))).1, get_or-set_same a.hi axis (value - 1) 0 in_hi, cuts.above_least),
+      ),
+      λ s. record {
+        same = s.0.same;
+        between = λ i l. elim (set_cases a.hi axis (value - 1) i in_hi) [
+          | inl w ↦ ((s.0.between i l).0, omega (arith, s.1, w.1, ap (λ j. get_or p j 0) w.0))
+          | inr w ↦ ((s.0.between i l).0, omega (arith, (s.0.between i l).1, w.1))
+        ];
+      },
+    )
 
 pub Holds-side_from : (a : Area) (axis value : ℕ) (p : List ℕ) → Cuts a axis value → Holds (side_from a axis value) p ↔ (Holds a p × (value ≤ get_or p axis 0))
 Holds-side_from a axis value p cuts =
-    let n = length-set a.lo axis value in
-    (λ s. (record { same = omega (arith, s.same, n); between = λ i l. elim (set_cases a.lo axis value i cuts.attribute) [
-              inl w ↦ (omega (arith, (s.between i l).0, w.1, cuts.above_least, ap (λ j. get_or a.lo j 0) w.0), (s.between i l).1)
+    let n = length-set a.lo axis value in (
+      λ s. (
+        record {
+          same = omega (arith, s.same, n);
+          between = λ i l. elim (set_cases a.lo axis value i cuts.attribute) [
+            | inl w ↦ (omega (arith, (s.between i l).0, w.1, cuts.above_least, ap (λ j. get_or a.lo j 0) w.0), (s.between i l).1)
             | inr w ↦ (omega (arith, (s.between i l).0, w.1), (s.between i l).1)
-            ] },
-           omega (arith, (s.between axis (omega (arith, s.same, n, cuts.attribute))).0, get_or-set_same a.lo axis value 0 cuts.attribute)),
-     λ s. record { same = omega (arith, s.0.same, n); between = λ i l. elim (set_cases a.lo axis value i cuts.attribute) [
-              inl w ↦ (omega (arith, s.1, w.1, ap (λ j. get_or p j 0) w.0), (s.0.between i l).1)
-            | inr w ↦ (omega (arith, (s.0.between i l).0, w.1), (s.0.between i l).1)
-            ] })
+          ];
+        },
+        omega (arith, (s.between axis (omega (arith, s.same, n, cuts.attribute))).0, get_or-set_same a.lo axis value 0 cuts.attribute),
+      ),
+      λ s. record {
+        same = omega (arith, s.0.same, n);
+        between = λ i l. elim (set_cases a.lo axis value i cuts.attribute) [
+          | inl w ↦ (omega (arith, s.1, w.1, ap (λ j. get_or p j 0) w.0), (s.0.between i l).1)
+          | inr w ↦ (omega (arith, (s.0.between i l).0, w.1), (s.0.between i l).1)
+        ];
+      },
+    )
 
 pub meets_by_points : (a b : Area) → IsArea a → IsArea b → length a.lo ≡ length b.lo → Meets a b ↔ ((p : List ℕ) × Holds a p × Holds b p)
 meets_by_points a b ha hb e = (point_from_meeting a b ha hb e, λ w. Meets-from_point a b w.0 w.1 w.2)
 
 pub disjoint_by_meeting : (a b : Area) → IsArea a → IsArea b → length a.lo ≡ length b.lo → (¬ (Meets a b)) ↔ Disjoint a b
-disjoint_by_meeting a b ha hb e =
-    (λ apart p in_a in_b. apart (Meets-from_point a b p in_a in_b),
-     λ apart m. let w = point_from_meeting a b ha hb e m in apart w.0 w.1 w.2)
+disjoint_by_meeting a b ha hb e = (
+  λ apart p in_a in_b. apart (Meets-from_point a b p in_a in_b),
+  λ apart m. let w = point_from_meeting a b ha hb e m in apart w.0 w.1 w.2,
+)
 
 pub same_from_points : (a b : Area) → IsArea a → IsArea b → ((p : List ℕ) → Holds a p ↔ Holds b p) → a ≡ b
 same_from_points a b ha hb points =
     let held = (points a.lo).0 (lo_held a ha) in
     same_from_within a b ha hb held.same
-      (Within-from_points a b ha (λ p h. (points p).0 h))
-      (Within-from_points b a hb (λ p h. (points p).1 h))
+    (Within-from_points a b ha (λ p h. (points p).0 h))
+    (Within-from_points b a hb (λ p h. (points p).1 h))
 
 -- every point of a box that a plane parts lies on one side
 pub side_cover : (a : Area) (axis value : ℕ) (p : List ℕ) → IsArea a → Cuts a axis value → Holds a p ↔ (Holds (side_below a axis value) p ⊎ Holds (side_from a axis value) p)
 side_cover a axis value p h cuts =
     let below = Holds-side_below a axis value p h cuts in
-    let from = Holds-side_from a axis value p cuts in
-    (λ held. elim (cases_lt (get_or p axis 0) value) [ inl l ↦ inl (below.1 (held, l)) | inr l ↦ inr (from.1 (held, l)) ],
-     λ side. elim side [ inl s ↦ (below.0 s).0 | inr s ↦ (from.0 s).0 ])
+    let from = Holds-side_from a axis value p cuts in (
+      λ held. elim (cases_lt (get_or p axis 0) value) [ inl l ↦ inl (below.1 (held, l)) | inr l ↦ inr (from.1 (held, l)) ],
+      λ side. elim side [ inl s ↦ (below.0 s).0 | inr s ↦ (from.0 s).0 ],
+    )

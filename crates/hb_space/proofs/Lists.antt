@@ -1,5 +1,5 @@
 -- Lists of numbers, place by place.
-use Rattle.std.proofs.Common.{◌≡◌, ℕ, zero, suc, ◌<◌, ◌≤◌, ◌+◌, ◌^◌, List, [], ◌∷◌, ◌++◌, length, get_or, set, take, replicate, All, ◌⊎◌, inl, inr, ◌≢◌, refl, ap, sym, ◌∙◌, arith, min, max}
+use Rattle.std.proofs.Common.{◌≡◌, ℕ, zero, suc, ◌<◌, ◌≤◌, ◌+◌, ◌^◌, List, [], ◌∷◌, ◌++◌, length, get_or, set, take, replicate, ◌⊎◌, inl, inr, ◌≢◌, refl, ap, sym, ◌∙◌, arith, min, max}
 use Rattle.std.proofs.lemmas.List.{take_more, take_all, take-replicate, length-set, get_or-set_other}
 use Rattle.std.proofs.lemmas.Grind.{get_or-set_at}
 use Rattle.std.proofs.lemmas.Bool.{cases_eq}
@@ -35,9 +35,9 @@ IsPoint-zip_by f chooses p q e hp hq =
       some = rw l hp.some;
       few = rw l hp.few;
       fits = All-from_get_or (λ x. x < 2 ^ 64) (zip_by f p q) 0 (λ i h.
-        let h' : i < length p = rw (sym l) h in
-        let h'' : i < length q = rw (sym e) h' in
-        rw (get_or-zip_by f p q i e h') (chooses _ _ _ (hp.fits i 0 h') (hq.fits i 0 h'')))
+          let h' : i < length p = rw (sym l) h in
+          let h'' : i < length q = rw (sym e) h' in
+          rw (get_or-zip_by f p q i e h') (chooses _ _ _ (hp.fits i 0 h') (hq.fits i 0 h'')));
     }
 
 pub max_chooses : (x y n : ℕ) → x < n → y < n → max x y < n
@@ -54,13 +54,13 @@ first_of_four p j k v h e few = h ∙ ap (λ n. take n (v ∷ v ∷ v ∷ v ∷ 
 pub set_cases : (xs : List ℕ) (i v j : ℕ) → i < length xs → ((j ≡ i) × (get_or (set xs i v) j 0 ≡ v)) ⊎ ((j ≢ i) × (get_or (set xs i v) j 0 ≡ get_or xs j 0))
 set_cases xs i v j h =
     elim (cases_eq j i) [
-      inl e ↦ inl (e, get_or-set_at xs i j v 0 e h)
-    | inr n ↦ inr (n, get_or-set_other xs i j v 0 n)
+      | inl e ↦ inl (e, get_or-set_at xs i j v 0 e h)
+      | inr n ↦ inr (n, get_or-set_other xs i j v 0 n)
     ]
 
 pub IsPoint-set : (p : List ℕ) (i v : ℕ) → IsPoint p → v < 2 ^ 64 → IsPoint (set p i v)
 IsPoint-set p i v h fits = record {
   some = omega (arith, length-set p i v, h.some);
   few = omega (arith, length-set p i v, h.few);
-  fits = All-set (λ x. x < 2 ^ 64) p i v fits h.fits
+  fits = All-set (λ x. x < 2 ^ 64) p i v fits h.fits;
 }

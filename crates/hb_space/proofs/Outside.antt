@@ -1,11 +1,10 @@
 -- What of a box lies outside another box within it, piece by piece.
-use Rattle.std.proofs.Common.{◌≡◌, ◌≢◌, ℕ, zero, suc, ◌<◌, ◌≤◌, ◌+◌, ◌-◌, ◌*◌, ◌^◌, Bool, true, false, cond, ltb, List, [], ◌∷◌, ◌++◌, length, get_or, set, ◌↔◌, ◌⊎◌, inl, inr, refl, ap, sym, subst, ◌∙◌, arith}
+use Rattle.std.proofs.Common.{◌≡◌, ℕ, zero, suc, ◌<◌, ◌≤◌, ◌+◌, ◌-◌, ◌*◌, cond, ltb, List, [], ◌∷◌, ◌++◌, length, get_or, set, ◌↔◌, ◌⊎◌, inl, inr, refl, ap, sym, subst, ◌∙◌, arith}
 use Rattle.std.specs.List.{Any, AllPairs}
-use Rattle.std.proofs.lemmas.List.{length-set, length-append, append-nil, append_assoc, get_or-set_same, set-set}
+use Rattle.std.proofs.lemmas.List.{length-set, length-append, append_assoc, get_or-set_same, set-set}
 use Rattle.std.proofs.lemmas.Bool.{cases_lt, cases_eq}
 use Rattle.std.proofs.lemmas.Bool.Decides.{nat_tests}
-use Rattle.hb_space.specs.Boxes.{Area, IsArea, Holds, Meets, Within, Cuts, Disjoint, side_below, side_from, common_area, pieces_below, pieces_above, rest_between, pieces_from, pieces_outside}
-use Rattle.hb_space.specs.Points.{IsPoint}
+use Rattle.hb_space.specs.Boxes.{Area, IsArea, Holds, Meets, Within, Cuts, Disjoint, side_below, side_from, pieces_below, pieces_above, rest_between, pieces_from, pieces_outside}
 use Rattle.hb_space.proofs.Lists.{set_cases, IsPoint-set}
 use Rattle.hb_space.proofs.Boxes.{Holds-side_below, Holds-side_from, Meets-from_point}
 
@@ -51,9 +50,10 @@ Apart (a ∷ us) = ((p : List ℕ) → Holds a p → SomeHolds us p → ⊥) × 
 
 pub Apart-append : (us vs : List Area) → Apart us → Apart vs → ((p : List ℕ) → SomeHolds us p → SomeHolds vs p → ⊥) → Apart (us ++ vs)
 Apart-append [] vs h k none = k
-Apart-append (a ∷ us) vs h k none =
-    (λ p in_a later. elim (SomeHolds-append_cases us vs p later) [ inl x ↦ h.0 p in_a x | inr y ↦ none p (inl in_a) y ],
-     Apart-append us vs h.1 k (λ p x. none p (inr x)))
+Apart-append (a ∷ us) vs h k none = (
+  λ p in_a later. elim (SomeHolds-append_cases us vs p later) [ inl x ↦ h.0 p in_a x | inr y ↦ none p (inl in_a) y ],
+  Apart-append us vs h.1 k (λ p x. none p (inr x)),
+)
 
 pub AllPairs-from_recursion : (us : List Area) → Apart us → AllPairs Disjoint us
 AllPairs-from_recursion [] h i j d before l = absurd (omega arith)
@@ -103,25 +103,25 @@ pieces_above-not_less axis rest c not_less = grind (arith, nat_tests)
 
 pub SomeHolds-pieces_below : (axis : ℕ) (rest c : Area) (p : List ℕ) → Inner axis rest c → SomeHolds (pieces_below axis rest c) p ↔ (Holds rest p × IsBelow axis c p)
 SomeHolds-pieces_below axis rest c p h = elim (cases_lt (get_or rest.lo axis 0) (get_or c.lo axis 0)) [
-    inl less ↦
+  | inl less ↦
       let side = Holds-side_below rest axis (get_or c.lo axis 0) p h.rest_area (below_cuts axis rest c h less) in
       subst (λ (us : List Area). SomeHolds us p ↔ (Holds rest p × IsBelow axis c p)) (sym (pieces_below-less axis rest c less))
-        (λ x. side.0 ((SomeHolds-one _ p).0 x), λ y. inl (side.1 y))
+      (λ x. side.0 ((SomeHolds-one _ p).0 x), λ y. inl (side.1 y))
   | inr not_less ↦
       subst (λ (us : List Area). SomeHolds us p ↔ (Holds rest p × IsBelow axis c p)) (sym (pieces_below-not_less axis rest c not_less))
-        (λ x. absurd x, λ y. absurd (omega (arith, y.1, (y.0.between axis (omega (arith, y.0.same, h.attribute))).0)))
-  ]
+      (λ x. absurd x, λ y. absurd (omega (arith, y.1, (y.0.between axis (omega (arith, y.0.same, h.attribute))).0)))
+]
 
 pub SomeHolds-pieces_above : (axis : ℕ) (rest c : Area) (p : List ℕ) → Inner axis rest c → SomeHolds (pieces_above axis rest c) p ↔ (Holds rest p × IsAbove axis c p)
 SomeHolds-pieces_above axis rest c p h = elim (cases_lt (get_or c.hi axis 0) (get_or rest.hi axis 0)) [
-    inl less ↦
+  | inl less ↦
       let side = Holds-side_from rest axis (get_or c.hi axis 0 + 1) p (above_cuts axis rest c h less) in
       subst (λ (us : List Area). SomeHolds us p ↔ (Holds rest p × IsAbove axis c p)) (sym (pieces_above-less axis rest c less))
-        (λ x. (let in_side = side.0 ((SomeHolds-one _ p).0 x) in (in_side.0, omega arith)), λ y. inl (side.1 (y.0, omega (arith, y.1))))
+      (λ x. (let in_side = side.0 ((SomeHolds-one _ p).0 x) in (in_side.0, omega arith)), λ y. inl (side.1 (y.0, omega (arith, y.1))))
   | inr not_less ↦
       subst (λ (us : List Area). SomeHolds us p ↔ (Holds rest p × IsAbove axis c p)) (sym (pieces_above-not_less axis rest c not_less))
-        (λ x. absurd x, λ y. absurd (omega (arith, y.1, (y.0.between axis (omega (arith, y.0.same, h.attribute))).1)))
-  ]
+      (λ x. absurd x, λ y. absurd (omega (arith, y.1, (y.0.between axis (omega (arith, y.0.same, h.attribute))).1)))
+]
 
 -- the rest between is a box that the next attributes are taken from
 pub Inner-rest_between : (axis : ℕ) (rest c : Area) → Inner axis rest c → IsArea (rest_between axis rest c) × Within c (rest_between axis rest c)
@@ -130,61 +130,73 @@ Inner-rest_between axis rest c h =
     let m = length-set rest.hi axis (get_or c.hi axis 0) in
     let l : axis < length c.lo = omega (arith, h.same, h.attribute) in
     let in_hi : axis < length rest.hi = omega (arith, h.rest_area.same, h.attribute) in
-    let same_hi : length c.hi ≡ length rest.hi = omega (arith, h.rest_area.same, h.area.same, h.same) in
-    (record {
-       lo_point = IsPoint-set rest.lo axis _ h.rest_area.lo_point (h.area.lo_point.fits axis 0 l);
-       hi_point = IsPoint-set rest.hi axis _ h.rest_area.hi_point (h.area.hi_point.fits axis 0 (omega (arith, same_hi)));
-       same = omega (arith, n, m, h.rest_area.same);
-       ordered = λ i k.
-         let k' : i < length rest.lo = omega (arith, n) in
-         elim (set_cases rest.lo axis (get_or c.lo axis 0) i h.attribute) [
-           inl x ↦ elim (set_cases rest.hi axis (get_or c.hi axis 0) i in_hi) [
-               inl y ↦ omega (arith, x.1, y.1, h.area.ordered axis l)
-             | inr y ↦ absurd (y.0 x.0)
-             ]
-         | inr x ↦ elim (set_cases rest.hi axis (get_or c.hi axis 0) i in_hi) [
-               inl y ↦ absurd (x.0 y.0)
-             | inr y ↦ omega (arith, x.1, y.1, h.rest_area.ordered i k')
-             ]
-         ]
-     },
-     λ i k.
-       (elim (set_cases rest.lo axis (get_or c.lo axis 0) i h.attribute) [
-          inl x ↦ omega (arith, x.1, ap (λ j. get_or c.lo j 0) x.0)
-        | inr x ↦ omega (arith, x.1, (h.inside i k).0)
+    let same_hi : length c.hi ≡ length rest.hi = omega (arith, h.rest_area.same, h.area.same, h.same) in (
+      record {
+        lo_point = IsPoint-set rest.lo axis _ h.rest_area.lo_point (h.area.lo_point.fits axis 0 l);
+        hi_point = IsPoint-set rest.hi axis _ h.rest_area.hi_point (h.area.hi_point.fits axis 0 (omega (arith, same_hi)));
+        same = omega (arith, n, m, h.rest_area.same);
+        ordered = λ i k.
+            let k' : i < length rest.lo = omega (arith, n) in
+            elim (set_cases rest.lo axis (get_or c.lo axis 0) i h.attribute) [
+              | inl x ↦ elim (set_cases rest.hi axis (get_or c.hi axis 0) i in_hi) [
+                | inl y ↦ omega (arith, x.1, y.1, h.area.ordered axis l)
+                | inr y ↦ absurd (y.0 x.0)
+              ]
+              | inr x ↦ elim (set_cases rest.hi axis (get_or c.hi axis 0) i in_hi) [
+                | inl y ↦ absurd (x.0 y.0)
+                | inr y ↦ omega (arith, x.1, y.1, h.rest_area.ordered i k')
+              ]
+            ];
+      },
+      λ i k. (
+        elim (set_cases rest.lo axis (get_or c.lo axis 0) i h.attribute) [
+          | inl x ↦ omega (arith, x.1, ap (λ j. get_or c.lo j 0) x.0)
+          | inr x ↦ omega (arith, x.1, (h.inside i k).0)
         ],
         elim (set_cases rest.hi axis (get_or c.hi axis 0) i in_hi) [
-          inl x ↦ omega (arith, x.1, ap (λ j. get_or c.hi j 0) x.0)
-        | inr x ↦ omega (arith, x.1, (h.inside i k).1)
-        ]))
+          | inl x ↦ omega (arith, x.1, ap (λ j. get_or c.hi j 0) x.0)
+          | inr x ↦ omega (arith, x.1, (h.inside i k).1)
+        ],
+      ),
+    )
 
 pub Holds-rest_between : (axis : ℕ) (rest c : Area) (p : List ℕ) → Inner axis rest c → Holds (rest_between axis rest c) p ↔ (Holds rest p × (get_or c.lo axis 0 ≤ get_or p axis 0) × (get_or p axis 0 ≤ get_or c.hi axis 0))
 Holds-rest_between axis rest c p h =
     let n = length-set rest.lo axis (get_or c.lo axis 0) in
     let l : axis < length c.lo = omega (arith, h.same, h.attribute) in
-    let in_hi : axis < length rest.hi = omega (arith, h.rest_area.same, h.attribute) in
-    (λ s.
-       let k : axis < length p = omega (arith, s.same, n, h.attribute) in
-       (record { same = omega (arith, s.same, n); between = λ i j.
-          (elim (set_cases rest.lo axis (get_or c.lo axis 0) i h.attribute) [
-             inl x ↦ omega (arith, x.1, (s.between i j).0, (h.inside axis l).0, ap (λ y. get_or rest.lo y 0) x.0)
-           | inr x ↦ omega (arith, x.1, (s.between i j).0)
-           ],
-           elim (set_cases rest.hi axis (get_or c.hi axis 0) i in_hi) [
-             inl x ↦ omega (arith, x.1, (s.between i j).1, (h.inside axis l).1, ap (λ y. get_or rest.hi y 0) x.0)
-           | inr x ↦ omega (arith, x.1, (s.between i j).1)
-           ]) },
-        omega (arith, (s.between axis k).0, get_or-set_same rest.lo axis (get_or c.lo axis 0) 0 h.attribute),
-        omega (arith, (s.between axis k).1, get_or-set_same rest.hi axis (get_or c.hi axis 0) 0 in_hi)),
-     λ s. record { same = omega (arith, s.0.same, n); between = λ i j.
-          (elim (set_cases rest.lo axis (get_or c.lo axis 0) i h.attribute) [
-             inl x ↦ omega (arith, x.1, s.1, ap (λ y. get_or p y 0) x.0)
-           | inr x ↦ omega (arith, x.1, (s.0.between i j).0)
-           ],
-           elim (set_cases rest.hi axis (get_or c.hi axis 0) i in_hi) [
-             inl x ↦ omega (arith, x.1, s.2, ap (λ y. get_or p y 0) x.0)
-           | inr x ↦ omega (arith, x.1, (s.0.between i j).1)
-           ]) })
+    let in_hi : axis < length rest.hi = omega (arith, h.rest_area.same, h.attribute) in (
+      λ s.
+          let k : axis < length p = omega (arith, s.same, n, h.attribute) in (
+            record {
+              same = omega (arith, s.same, n);
+              between = λ i j. (
+                elim (set_cases rest.lo axis (get_or c.lo axis 0) i h.attribute) [
+                  | inl x ↦ omega (arith, x.1, (s.between i j).0, (h.inside axis l).0, ap (λ y. get_or rest.lo y 0) x.0)
+                  | inr x ↦ omega (arith, x.1, (s.between i j).0)
+                ],
+                elim (set_cases rest.hi axis (get_or c.hi axis 0) i in_hi) [
+                  | inl x ↦ omega (arith, x.1, (s.between i j).1, (h.inside axis l).1, ap (λ y. get_or rest.hi y 0) x.0)
+                  | inr x ↦ omega (arith, x.1, (s.between i j).1)
+                ],
+              );
+            },
+            omega (arith, (s.between axis k).0, get_or-set_same rest.lo axis (get_or c.lo axis 0) 0 h.attribute),
+            omega (arith, (s.between axis k).1, get_or-set_same rest.hi axis (get_or c.hi axis 0) 0 in_hi),
+          ),
+      λ s. record {
+        same = omega (arith, s.0.same, n);
+        between = λ i j. (
+          elim (set_cases rest.lo axis (get_or c.lo axis 0) i h.attribute) [
+            | inl x ↦ omega (arith, x.1, s.1, ap (λ y. get_or p y 0) x.0)
+            | inr x ↦ omega (arith, x.1, (s.0.between i j).0)
+          ],
+          elim (set_cases rest.hi axis (get_or c.hi axis 0) i in_hi) [
+            | inl x ↦ omega (arith, x.1, s.2, ap (λ y. get_or p y 0) x.0)
+            | inr x ↦ omega (arith, x.1, (s.0.between i j).1)
+          ],
+        );
+      },
+    )
 
 -- the point lies between the corners in this attribute and in each later one
 abbrev InsideFrom : ℕ → Area → List ℕ → Type 0
@@ -202,42 +214,48 @@ SomeHolds-pieces_from (suc n) axis rest c p e hr hc s w =
     let below = SomeHolds-pieces_below axis rest c p h in
     let above = SomeHolds-pieces_above axis rest c p h in
     let between = Holds-rest_between axis rest c p h in
-    let later = SomeHolds-pieces_from n (axis + 1) (rest_between axis rest c) c p (omega (arith, len)) r.0 hc (omega (arith, len)) r.1 in
-    (λ x. elim (SomeHolds-append_cases (pieces_below axis rest c ++ pieces_above axis rest c) _ p x) [
-        inl y ↦ elim (SomeHolds-append_cases (pieces_below axis rest c) _ p y) [
-            inl z ↦ ((below.0 z).0, λ inside. absurd (omega (arith, (below.0 z).1, (inside axis (omega arith) l).0)))
+    let later = SomeHolds-pieces_from n (axis + 1) (rest_between axis rest c) c p (omega (arith, len)) r.0 hc (omega (arith, len)) r.1 in (
+      λ x. elim (SomeHolds-append_cases (pieces_below axis rest c ++ pieces_above axis rest c) _ p x) [
+        | inl y ↦ elim (SomeHolds-append_cases (pieces_below axis rest c) _ p y) [
+          | inl z ↦ ((below.0 z).0, λ inside. absurd (omega (arith, (below.0 z).1, (inside axis (omega arith) l).0)))
           | inr z ↦ ((above.0 z).0, λ inside. absurd (omega (arith, (above.0 z).1, (inside axis (omega arith) l).1)))
-          ]
-      | inr y ↦ ((between.0 (later.0 y).0).0, λ inside. (later.0 y).1 (λ i k j. inside i (omega arith) j))
+        ]
+        | inr y ↦ ((between.0 (later.0 y).0).0, λ inside. (later.0 y).1 (λ i k j. inside i (omega arith) j))
       ],
-     λ y. elim (cases_lt (get_or p axis 0) (get_or c.lo axis 0)) [
-        inl z ↦ SomeHolds-append_left _ _ p (SomeHolds-append_left _ _ p (below.1 (y.0, z)))
-      | inr z ↦ elim (cases_lt (get_or c.hi axis 0) (get_or p axis 0)) [
-            inl u ↦ SomeHolds-append_left _ _ p (SomeHolds-append_right (pieces_below axis rest c) _ p (above.1 (y.0, u)))
-          | inr u ↦ SomeHolds-append_right (pieces_below axis rest c ++ pieces_above axis rest c) _ p (later.1 (between.1 (y.0, z, u), λ inside. y.1 (λ i k j. elim (cases_eq i axis) [
-                inl q ↦ (omega (arith, z, ap (λ v. get_or c.lo v 0) q, ap (λ v. get_or p v 0) q), omega (arith, u, ap (λ v. get_or c.hi v 0) q, ap (λ v. get_or p v 0) q))
+      λ y. elim (cases_lt (get_or p axis 0) (get_or c.lo axis 0)) [
+        | inl z ↦ SomeHolds-append_left _ _ p (SomeHolds-append_left _ _ p (below.1 (y.0, z)))
+        | inr z ↦ elim (cases_lt (get_or c.hi axis 0) (get_or p axis 0)) [
+          | inl u ↦ SomeHolds-append_left _ _ p (SomeHolds-append_right (pieces_below axis rest c) _ p (above.1 (y.0, u)))
+          | inr u ↦ SomeHolds-append_right (pieces_below axis rest c ++ pieces_above axis rest c) _ p (later.1 (
+            between.1 (y.0, z, u),
+            λ inside. y.1 (λ i k j. elim (cases_eq i axis) [
+              | inl q ↦ (omega (arith, z, ap (λ v. get_or c.lo v 0) q, ap (λ v. get_or p v 0) q), omega (arith, u, ap (λ v. get_or c.hi v 0) q, ap (λ v. get_or p v 0) q))
               | inr q ↦ inside i (omega (arith, q)) j
-              ])))
-          ]
-      ])
+            ]),
+          ))
+        ]
+      ],
+    )
 
 -- the pieces outside a box within hold what the box holds and the inner one does not
 pub SomeHolds-pieces_outside : (a c : Area) (p : List ℕ) → IsArea a → IsArea c → length c.lo ≡ length a.lo → Within c a → SomeHolds (pieces_outside a c) p ↔ (Holds a p × ¬ (Holds c p))
 SomeHolds-pieces_outside a c p ha hc s w =
-    let from = SomeHolds-pieces_from (length a.lo) 0 a c p (omega arith) ha hc s w in
-    (λ x. ((from.0 x).0, λ held. (from.0 x).1 (λ i l k. held.between i (omega (arith, held.same)))),
-     λ y. from.1 (y.0, λ inside. y.1 (record { same = omega (arith, y.0.same, s); between = λ i k. inside i (omega arith) (omega (arith, y.0.same, s)) })))
+    let from = SomeHolds-pieces_from (length a.lo) 0 a c p (omega arith) ha hc s w in (
+      λ x. ((from.0 x).0, λ held. (from.0 x).1 (λ i l k. held.between i (omega (arith, held.same)))),
+      λ y. from.1 (y.0, λ inside. y.1 (record { same = omega (arith, y.0.same, s); between = λ i k. inside i (omega arith) (omega (arith, y.0.same, s)) })),
+    )
 
 Apart-one_or_none : (axis : ℕ) (rest c : Area) → Apart (pieces_below axis rest c) × Apart (pieces_above axis rest c)
-Apart-one_or_none axis rest c =
-    (elim (cases_lt (get_or rest.lo axis 0) (get_or c.lo axis 0)) [
-       inl less ↦ subst Apart (sym (pieces_below-less axis rest c less)) (λ p x y. y, tt)
-     | inr not_less ↦ subst Apart (sym (pieces_below-not_less axis rest c not_less)) tt
-     ],
-     elim (cases_lt (get_or c.hi axis 0) (get_or rest.hi axis 0)) [
-       inl less ↦ subst Apart (sym (pieces_above-less axis rest c less)) (λ p x y. y, tt)
-     | inr not_less ↦ subst Apart (sym (pieces_above-not_less axis rest c not_less)) tt
-     ])
+Apart-one_or_none axis rest c = (
+  elim (cases_lt (get_or rest.lo axis 0) (get_or c.lo axis 0)) [
+    | inl less ↦ subst Apart (sym (pieces_below-less axis rest c less)) (λ p x y. y, tt)
+    | inr not_less ↦ subst Apart (sym (pieces_below-not_less axis rest c not_less)) tt
+  ],
+  elim (cases_lt (get_or c.hi axis 0) (get_or rest.hi axis 0)) [
+    | inl less ↦ subst Apart (sym (pieces_above-less axis rest c less)) (λ p x y. y, tt)
+    | inr not_less ↦ subst Apart (sym (pieces_above-not_less axis rest c not_less)) tt
+  ],
+)
 
 Apart-pieces_from : (n axis : ℕ) (rest c : Area) → n + axis ≡ length rest.lo → IsArea rest → IsArea c → length c.lo ≡ length rest.lo → Within c rest → Apart (pieces_from n axis rest c)
 Apart-pieces_from zero axis rest c e hr hc s w = tt
@@ -249,38 +267,44 @@ Apart-pieces_from (suc n) axis rest c e hr hc s w =
     let one = Apart-one_or_none axis rest c in
     let later = Apart-pieces_from n (axis + 1) (rest_between axis rest c) c (omega (arith, len)) r.0 hc (omega (arith, len)) r.1 in
     Apart-append (pieces_below axis rest c ++ pieces_above axis rest c) _
-      (Apart-append (pieces_below axis rest c) _ one.0 one.1 (λ p x y.
-        absurd (omega (arith, ((SomeHolds-pieces_below axis rest c p h).0 x).1, ((SomeHolds-pieces_above axis rest c p h).0 y).1, hc.ordered axis l))))
-      later
-      (λ p x y.
-        let t = (SomeHolds-pieces_from n (axis + 1) (rest_between axis rest c) c p (omega (arith, len)) r.0 hc (omega (arith, len)) r.1).0 y in
-        let b = (Holds-rest_between axis rest c p h).0 t.0 in
-        elim (SomeHolds-append_cases (pieces_below axis rest c) _ p x) [
-          inl z ↦ absurd (omega (arith, ((SomeHolds-pieces_below axis rest c p h).0 z).1, b.1))
-        | inr z ↦ absurd (omega (arith, ((SomeHolds-pieces_above axis rest c p h).0 z).1, b.2))
-        ])
+    (Apart-append (pieces_below axis rest c) _ one.0 one.1 (λ p x y.
+    absurd (omega (arith, ((SomeHolds-pieces_below axis rest c p h).0 x).1, ((SomeHolds-pieces_above axis rest c p h).0 y).1, hc.ordered axis l))))
+    later
+    (λ p x y.
+    let t = (SomeHolds-pieces_from n (axis + 1) (rest_between axis rest c) c p (omega (arith, len)) r.0 hc (omega (arith, len)) r.1).0 y in
+    let b = (Holds-rest_between axis rest c p h).0 t.0 in
+    elim (SomeHolds-append_cases (pieces_below axis rest c) _ p x) [
+      | inl z ↦ absurd (omega (arith, ((SomeHolds-pieces_below axis rest c p h).0 z).1, b.1))
+      | inr z ↦ absurd (omega (arith, ((SomeHolds-pieces_above axis rest c p h).0 z).1, b.2))
+    ])
 
 pub Apart-pieces_outside : (a c : Area) → IsArea a → IsArea c → length c.lo ≡ length a.lo → Within c a → Apart (pieces_outside a c)
 Apart-pieces_outside a c ha hc s w = Apart-pieces_from (length a.lo) 0 a c (omega arith) ha hc s w
 
 length-one_or_none : (axis : ℕ) (rest c : Area) → (length (pieces_below axis rest c) ≤ 1) × (length (pieces_above axis rest c) ≤ 1)
-length-one_or_none axis rest c =
-    (elim (cases_lt (get_or rest.lo axis 0) (get_or c.lo axis 0)) [
-       inl less ↦ rw (pieces_below-less axis rest c less) (omega arith)
-     | inr not_less ↦ rw (pieces_below-not_less axis rest c not_less) (omega arith)
-     ],
-     elim (cases_lt (get_or c.hi axis 0) (get_or rest.hi axis 0)) [
-       inl less ↦ rw (pieces_above-less axis rest c less) (omega arith)
-     | inr not_less ↦ rw (pieces_above-not_less axis rest c not_less) (omega arith)
-     ])
+length-one_or_none axis rest c = (
+  elim (cases_lt (get_or rest.lo axis 0) (get_or c.lo axis 0)) [
+    | inl less ↦ rw (pieces_below-less axis rest c less) (omega arith)
+    | inr not_less ↦ rw (pieces_below-not_less axis rest c not_less) (omega arith)
+  ],
+  elim (cases_lt (get_or c.hi axis 0) (get_or rest.hi axis 0)) [
+    | inl less ↦ rw (pieces_above-less axis rest c less) (omega arith)
+    | inr not_less ↦ rw (pieces_above-not_less axis rest c not_less) (omega arith)
+  ],
+)
 
 length-pieces_from : (n axis : ℕ) (rest c : Area) → length (pieces_from n axis rest c) ≤ 2 * n
 length-pieces_from zero axis rest c = omega arith
 length-pieces_from (suc n) axis rest c =
     let one = length-one_or_none axis rest c in
-    omega (arith, one.0, one.1, length-pieces_from n (axis + 1) (rest_between axis rest c) c,
-           length-append (pieces_below axis rest c ++ pieces_above axis rest c) (pieces_from n (axis + 1) (rest_between axis rest c) c),
-           length-append (pieces_below axis rest c) (pieces_above axis rest c))
+    omega (
+      arith,
+      one.0,
+      one.1,
+      length-pieces_from n (axis + 1) (rest_between axis rest c) c,
+      length-append (pieces_below axis rest c ++ pieces_above axis rest c) (pieces_from n (axis + 1) (rest_between axis rest c) c),
+      length-append (pieces_below axis rest c) (pieces_above axis rest c),
+    )
 
 pub length-pieces_outside : (a c : Area) → length (pieces_outside a c) ≤ 2 * length a.lo
 length-pieces_outside a c = length-pieces_from (length a.lo) 0 a c
@@ -311,7 +335,7 @@ peeled_more a c rest next axis pieces more l hc s h e k =
       same = omega (arith, h.same, length-set rest.lo axis (get_or c.lo axis 0));
       area = r.0;
       inside = r.1;
-      so_far = ap (λ (t : List Area). t ++ later) k ∙ regrouped pieces (pieces_below axis rest c) (pieces_above axis rest c) later ∙ sym step ∙ h.so_far
+      so_far = ap (λ (t : List Area). t ++ later) k ∙ regrouped pieces (pieces_below axis rest c) (pieces_above axis rest c) later ∙ sym step ∙ h.so_far;
     })
 
 -- what one attribute's two steps leave, and the pieces that they add
@@ -329,9 +353,10 @@ pieces-from_steps axis rest c mid pieces more most e k j =
 pub cover_from_pieces : (a o c : Area) (v : List Area) (p : List ℕ) → v ≡ pieces_outside a c → IsArea a → IsArea c → length c.lo ≡ length a.lo → Within c a → (Holds c p ↔ (Holds a p × Holds o p)) → Any (λ x. Holds x p) v ↔ (Holds a p × ¬ (Holds o p))
 cover_from_pieces a o c v p e ha hc s w both =
     let some = SomeHolds-pieces_outside a c p ha hc s w in
-    subst (λ (t : List Area). Any (λ x. Holds x p) t ↔ (Holds a p × ¬ (Holds o p))) (sym e)
-      (λ x. (let y = some.0 (recursion_from_Any _ p x) in (y.0, λ in_o. y.1 (both.1 (y.0, in_o)))),
-       λ y. Any-from_recursion _ p (some.1 (y.0, λ in_c. y.1 (both.0 in_c).1)))
+    subst (λ (t : List Area). Any (λ x. Holds x p) t ↔ (Holds a p × ¬ (Holds o p))) (sym e) (
+      λ x. (let y = some.0 (recursion_from_Any _ p x) in (y.0, λ in_o. y.1 (both.1 (y.0, in_o)))),
+      λ y. Any-from_recursion _ p (some.1 (y.0, λ in_c. y.1 (both.0 in_c).1)),
+    )
 
 pub disjoint_from_pieces : (a c : Area) (v : List Area) → v ≡ pieces_outside a c → IsArea a → IsArea c → length c.lo ≡ length a.lo → Within c a → AllPairs Disjoint v
 disjoint_from_pieces a c v e ha hc s w =
@@ -343,6 +368,7 @@ count_from_pieces a c v e = rw e (length-pieces_outside a c)
 -- a box alone, where the two do not meet
 pub cover_where_apart : (a o : Area) (v : List Area) (p : List ℕ) → v ≡ a ∷ [] → ¬ (Meets a o) → Any (λ x. Holds x p) v ↔ (Holds a p × ¬ (Holds o p))
 cover_where_apart a o v p e apart =
-    subst (λ (t : List Area). Any (λ x. Holds x p) t ↔ (Holds a p × ¬ (Holds o p))) (sym e)
-      (λ x. (let held = (SomeHolds-one a p).0 (recursion_from_Any (a ∷ []) p x) in (held, λ in_o. apart (Meets-from_point a o p held in_o))),
-       λ y. Any-from_recursion (a ∷ []) p (inl y.0))
+    subst (λ (t : List Area). Any (λ x. Holds x p) t ↔ (Holds a p × ¬ (Holds o p))) (sym e) (
+      λ x. (let held = (SomeHolds-one a p).0 (recursion_from_Any (a ∷ []) p x) in (held, λ in_o. apart (Meets-from_point a o p held in_o))),
+      λ y. Any-from_recursion (a ∷ []) p (inl y.0),
+    )

@@ -1,9 +1,9 @@
-ghost use Rattle.std.specs.Prelude.{◌≡◌, ◌<◌, ◌≤◌, ◌↔◌, ℕ, List, length, IsSome, IfSome, IsTrue};
-ghost use Rattle.hb_space.specs.Points.{IsPoint, AtMost};
+ghost use Rattle.std.specs.Prelude.{◌≡◌, ◌<◌, ◌≤◌, ◌↔◌, ℕ, List, length, slice_index, EachIndex, IsSome, IfSome, IsTrue};
+ghost use Rattle.hb_space.specs.Points.{IsPoint};
 ghost use Rattle.hb_space.specs.Boxes.{IsArea, Holds, Meets, Within, whole_area, point_area, common_area, holds};
 
-use crate::form::KMAX;
 use crate::Point;
+use crate::form::KMAX;
 use std::alloc::AllocError;
 use std::marker::Model;
 
@@ -30,7 +30,7 @@ impl Area {
     /// The box between these corners. `None` where a lower value exceeds its upper one.
     pub fn between(lo: Point, hi: Point) -> Option<Area>
         requires { length lo ≡ length hi }
-        ensures made { IsSome result ↔ AtMost lo hi }
+        ensures made { IsSome result ↔ EachIndex lo (λ i. slice_index lo i ≤ slice_index hi i) }
         ensures corners { IfSome result (λ a. (a.lo ≡ lo) × (a.hi ≡ hi)) }
     {
         if lo.is_at_most(&hi) {

@@ -12,22 +12,19 @@ use crate::{Areas, Body, Point, Record, Records};
 pub fn meeting_is_by_points()
     ensures { (a b : Area) → IsArea a → IsArea b → length a.lo ≡ length b.lo →
         (Meets a b ↔ ((p : List ℕ) × Holds a p × Holds b p)) }
-{
-}
+{}
 
 /// Boxes that do not meet share no point, and the other way round.
 pub fn apart_is_disjoint()
     ensures { (a b : Area) → IsArea a → IsArea b → length a.lo ≡ length b.lo →
         ((¬ (Meets a b)) ↔ Disjoint a b) }
-{
-}
+{}
 
 /// One box lies within another exactly where the other holds each of its points.
 pub fn within_is_by_points()
     ensures { (a b : Area) → IsArea a → IsArea b → length a.lo ≡ length b.lo →
         (Within a b ↔ ((p : List ℕ) → Holds a p → Holds b p)) }
-{
-}
+{}
 
 /// Lying within is an order: two boxes that lie within each other are the same.
 pub fn within_is_an_order()
@@ -36,15 +33,13 @@ pub fn within_is_an_order()
         Within a b → Within b c → Within a c }
     ensures antisymmetric { (a b : Area) → IsArea a → IsArea b → length a.lo ≡ length b.lo →
         Within a b → Within b a → a ≡ b }
-{
-}
+{}
 
 /// Boxes that hold the same points are the same.
 pub fn points_tell_a_box()
     ensures { (a b : Area) → IsArea a → IsArea b →
         ((p : List ℕ) → Holds a p ↔ Holds b p) → a ≡ b }
-{
-}
+{}
 
 /// The two sides of a plane that parts a box are boxes that share no point, hold its points and
 /// no others, lie within it, and are each less than it.
@@ -59,15 +54,18 @@ pub fn sides_part_a_box()
         Within (side_below a axis value) a × Within (side_from a axis value) a }
     ensures proper { (a : Area) (axis value : ℕ) → IsArea a → Cuts a axis value →
         (side_below a axis value ≢ a) × (side_from a axis value ≢ a) }
-{
-}
+{}
 
 /// The test of a point answers as the definition.
 pub fn test_tells_the_points()
     ensures { (a : Area) (p : List ℕ) → IsArea a → length p ≡ length a.lo →
         (IsTrue (holds a p) ↔ Holds a p) }
-{
-}
+{}
+
+/// What lies in a box is a point.
+pub fn held_is_a_point()
+    ensures { (a : Area) (p : List ℕ) → IsArea a → Holds a p → IsPoint p }
+{}
 
 /// The common box of two that meet is a box, holds what both hold, and lies within both.
 pub fn common_box_is_a_box()
@@ -77,22 +75,19 @@ pub fn common_box_is_a_box()
         (Holds (common_area a b) p ↔ (Holds a p × Holds b p)) }
     ensures within { (a b : Area) → IsArea a → IsArea b → length a.lo ≡ length b.lo → Meets a b →
         Within (common_area a b) a × Within (common_area a b) b }
-{
-}
+{}
 
 /// The whole space of some attributes is a box that holds every point of as many.
 pub fn whole_space_holds_every_point()
     ensures area { (k : ℕ) → 1 ≤ k → k ≤ KMAX → IsArea (whole_area k) }
     ensures points { (k : ℕ) (p : List ℕ) → IsPoint p → length p ≡ k → Holds (whole_area k) p }
-{
-}
+{}
 
 /// The box of a point holds that point alone.
 pub fn box_of_a_point_holds_it_alone()
     ensures area { (p : List ℕ) → IsPoint p → IsArea (point_area p) }
     ensures points { (p q : List ℕ) → Holds (point_area p) q ↔ (q ≡ p) }
-{
-}
+{}
 
 /// Values of the type may be sent to other threads, and shared with them.
 fn is_shared<T: Send + Sync>() {}

@@ -87,12 +87,7 @@ impl Area {
     }
 
     /// Moves what lies below `least` in the attribute to the pieces, and answers the rest.
-    fn without_below(
-        self,
-        axis: u8,
-        least: u64,
-        pieces: &mut Vec<Area>,
-    ) -> Result<Area, NoMemory>
+    fn without_below(self, axis: u8, least: u64, pieces: &mut Vec<Area>) -> Result<Area, NoMemory>
         requires attribute { axis < length self.lo }
         requires low { slice_index self.lo axis ≤ least }
         requires high { least ≤ slice_index self.hi axis }

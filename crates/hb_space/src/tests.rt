@@ -84,9 +84,18 @@ fn holds_in_more_attributes(rt: HostRuntime) {
 
 #[test]
 fn makes_boxes(rt: HostRuntime) -> Result<(), Fail> {
-    assert_eq!(rt; Area::whole(4), area(&rt, &[0, 0, 0, 0], &[MAX, MAX, MAX, MAX]));
-    assert_eq!(rt; Area::of_point(&Point::new(&[3, MAX])), area(&rt, &[3, MAX], &[3, MAX]));
-    assert_eq!(rt; Area::between(Point::new(&[1, 5]), Point::new(&[2, 4])), None);
+    assert_eq!(rt;
+        Area::whole(4),
+        area(&rt, &[0, 0, 0, 0], &[MAX, MAX, MAX, MAX])
+    );
+    assert_eq!(rt;
+        Area::of_point(&Point::new(&[3, MAX])),
+        area(&rt, &[3, MAX], &[3, MAX])
+    );
+    assert_eq!(rt;
+        Area::between(Point::new(&[1, 5]), Point::new(&[2, 4])),
+        None
+    );
     assert_eq!(rt; Area::whole(1).clone()?, Area::whole(1));
     Ok(())
 }
@@ -156,14 +165,26 @@ fn pieces_of_two_attributes(rt: HostRuntime) -> Result<(), Fail> {
     let below = area(&rt, &[0, 0], &[2, 9]);
     let above = area(&rt, &[6, 0], &[9, 9]);
     let under = area(&rt, &[3, 0], &[5, 3]);
-    expect_pieces(&rt, rt.alloc(), &all, &area(&rt, &[3, 4], &[5, 20]), &[below, above, under])
+    expect_pieces(
+        &rt,
+        rt.alloc(),
+        &all,
+        &area(&rt, &[3, 4], &[5, 20]),
+        &[below, above, under],
+    )
 }
 
 #[test]
 fn pieces_up_to_both_ends(rt: HostRuntime) -> Result<(), Fail> {
     let below = area(&rt, &[0, 0], &[0, MAX]);
     let above = area(&rt, &[2, 0], &[MAX, MAX]);
-    expect_pieces(&rt, rt.alloc(), &Area::whole(2), &area(&rt, &[1, 0], &[1, MAX]), &[below, above])
+    expect_pieces(
+        &rt,
+        rt.alloc(),
+        &Area::whole(2),
+        &area(&rt, &[1, 0], &[1, MAX]),
+        &[below, above],
+    )
 }
 
 #[test]

@@ -1,5 +1,5 @@
-use Rattle.std.proofs.Common.{◌≡◌, ap, ◌∙◌, subst, sym, rules}
-use Rattle.hb_space.specs.Boxes.{Area, IsArea, Meets, Holds, common_area}
+use Rattle.std.proofs.Common.{◌≡◌, subst, rules}
+use Rattle.hb_space.specs.Boxes.{IsArea, Meets, common_area}
 use Rattle.hb_space.proofs.Boxes.{IsArea-common_area, Holds-common_area, Within-common_area}
 use Rattle.hb_space.proofs.areas.Area.common.Goals as goal
 
