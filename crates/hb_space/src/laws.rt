@@ -2,6 +2,7 @@
 //! that does nothing: a caller learns it by the call.
 
 ghost use Rattle.std.specs.Prelude.{◌≡◌, ◌≢◌, ◌<◌, ◌≤◌, ◌↔◌, ◌⊎◌, ℕ, List, length, slice_index, IsTrue};
+ghost use Rattle.std.specs.Thread.{IsSend, IsSync};
 ghost use Rattle.hb_space.specs.Points.{IsPoint};
 ghost use Rattle.hb_space.specs.Boxes.{Area, IsArea, Holds, Meets, Within, Disjoint, Cuts, whole_area, point_area, side_below, side_from, common_area, holds};
 
@@ -90,7 +91,10 @@ pub fn box_of_a_point_holds_it_alone()
 {}
 
 /// Values of the type may be sent to other threads, and shared with them.
-fn is_shared<T: Send + Sync>() {}
+fn is_shared<T: Send + Sync>()
+    ensures sent { IsSend T.row }
+    ensures shared { IsSync T.row }
+{}
 
 /// The types of the crate may be sent to other threads, and shared with them.
 pub fn types_are_shared() {
