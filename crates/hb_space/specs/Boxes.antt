@@ -27,6 +27,10 @@ Meets a b = EachIndex a.lo (λ i. max (slice_index a.lo i) (slice_index b.lo i) 
 abbrev pub Within : Area → Area → Type 0
 Within a b = EachIndex a.lo (λ i. (slice_index b.lo i ≤ slice_index a.lo i) × (slice_index a.hi i ≤ slice_index b.hi i))
 
+-- no point lies in both boxes
+abbrev pub Disjoint : Area → Area → Type 0
+Disjoint a b = (p : List ℕ) → Holds a p → Holds b p → ⊥
+
 -- the plane parts the box: it holds points below the value, and points from it on
 pub record Cuts (a : Area) (axis value : ℕ) : Type 0 where
   pub attribute : axis < length a.lo

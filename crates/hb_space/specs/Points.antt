@@ -1,5 +1,5 @@
 -- What contracts see of points, bodies and records.
-use Rattle.std.specs.Prelude.{ℕ, ◌<◌, ◌≤◌, ◌^◌, List, length, All}
+use Rattle.std.specs.Prelude.{ℕ, ◌<◌, ◌≤◌, ◌^◌, List, length, slice_index, EachIndex, All}
 use Rattle.std.specs.Ordering.{nat_cmp}
 use Rattle.std.specs.Cmp.Lexicographic.{slice_cmp}
 use Rattle.std.specs.declared.cmp.Ordering.{Ordering}
@@ -19,3 +19,7 @@ pub record IsBody (b : List ℕ) : Type 0 where
 -- points are ordered by their first attribute, then by their second, and so on
 abbrev pub point_cmp : List ℕ → List ℕ → Ordering
 point_cmp p q = slice_cmp nat_cmp p q
+
+-- no value of the first point exceeds that of the second in the same attribute
+abbrev pub AtMost : List ℕ → List ℕ → Type 0
+AtMost p q = EachIndex p (λ i. slice_index p i ≤ slice_index q i)

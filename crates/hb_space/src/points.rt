@@ -1,5 +1,6 @@
-ghost use Rattle.std.specs.Prelude.{◌≡◌, ◌<◌, ◌≤◌, length, ⊤, IsOk};
-ghost use Rattle.hb_space.specs.Points.{IsPoint};
+ghost use Rattle.std.specs.Prelude.{◌≡◌, ◌<◌, ◌≤◌, ◌^◌, ◌↔◌, max, min, length, slice_set, ⊤, IsOk, IsTrue};
+ghost use Rattle.hb_space.specs.Points.{IsPoint, AtMost};
+ghost use Rattle.hb_space.specs.Boxes.{zip_by};
 
 use crate::form::KMAX;
 use arrayvec::ArrayVec;
@@ -44,6 +45,68 @@ impl Point {
     {
         self.values.as_slice()
     }
+
+    /// How many attributes it has.
+    pub fn attributes(&self) -> u8
+        ensures value { result ≡ length self.now }
+        ensures point { IsPoint self.now }
+    {
+        self.values().len() as u8
+    }
+
+    /// The same point once more.
+    pub(crate) fn copy(&self) -> Point
+        ensures { result ≡ self.now }
+    {
+        Point::new(self.values())
+    }
+
+    /// The point with another value in one attribute.
+    pub(crate) fn with(&self, axis: usize, value: u64) -> Point
+        requires { axis < length self.now }
+        ensures { result ≡ slice_set self.now axis value }
+    {
+        let mut values = [0; KMAX];
+        let count = self.values().len();
+        values[..count].copy_from_slice(self.values());
+        values[axis] = value;
+        Point::new(&values[..count])
+    }
+
+    /// Whether no value exceeds that of the other point in the same attribute.
+    pub(crate) fn is_at_most(&self, other: &Point) -> bool
+        requires { length self.now ≡ length other.now }
+        ensures { IsTrue result ↔ AtMost self.now other.now }
+    {
+        let mut pairs = self.values().iter().zip(other.values());
+        pairs.all(|(value, bound)| value <= bound)
+    }
+
+    /// In each attribute the greater of the two points' values.
+    pub(crate) fn greater(&self, other: &Point) -> Point
+        requires { length self.now ≡ length other.now }
+        ensures { result ≡ zip_by max self.now other.now }
+    {
+        let others = other.values();
+        let mut values = ArrayVec::new();
+        for (axis, value) in self.values().iter().enumerate() {
+            values.push(u64::max(*value, others[axis]));
+        }
+        Point { values }
+    }
+
+    /// In each attribute the lesser of the two points' values.
+    pub(crate) fn lesser(&self, other: &Point) -> Point
+        requires { length self.now ≡ length other.now }
+        ensures { result ≡ zip_by min self.now other.now }
+    {
+        let others = other.values();
+        let mut values = ArrayVec::new();
+        for (axis, value) in self.values().iter().enumerate() {
+            values.push(u64::min(*value, others[axis]));
+        }
+        Point { values }
+    }
 }
 
 impl Clone for Point {
@@ -52,6 +115,6 @@ impl Clone for Point {
     ghost is_infallible = { λ _. ⊤ };
 
     fn clone(&self) -> Result<Point, AllocError> {
-        Ok(Point::new(self.values()))
+        Ok(self.copy())
     }
 }
