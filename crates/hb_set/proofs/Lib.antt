@@ -1,4 +1,3 @@
 mod Places
 mod Views
 mod Windows
-mod Boxes

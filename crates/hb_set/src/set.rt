@@ -155,7 +155,7 @@ fn held_by(alloc: Global, records: &[Box<Record>], area: &Area) -> Result<Vec<Re
 {
     let mut held = Vec::new(alloc);
     for record in window(records, area) {
-        if is_held(area, &record.key) {
+        if area.holds(&record.key) {
             held.push(copied(record))?;
         }
     }
@@ -175,19 +175,4 @@ fn window<'a>(records: &'a [Box<Record>], area: &Area) -> &'a [Box<Record>]
     let greatest = area.hi().values()[0];
     let count = rest.partition_point(|handle| handle.key.values()[0] <= greatest);
     &rest[..count]
-}
-
-// Whether the box holds the point.
-fn is_held(area: &Area, point: &Point) -> bool
-    requires { length point.now ≡ length area.now.lo }
-    ensures { result ≡ holds area.now point.now }
-{
-    let least = area.lo().values();
-    let greatest = area.hi().values();
-    for (i, value) in point.values().iter().enumerate() {
-        if *value < least[i] || greatest[i] < *value {
-            return false;
-        }
-    }
-    true
 }

@@ -2,6 +2,7 @@ use crate::statuses::Status;
 use hb_set::Answered;
 
 /// What a run of the program leaves.
+#[derive(Drop)]
 pub struct Finished<K> {
     pub status: Status,
     /// The sink that it was given.
