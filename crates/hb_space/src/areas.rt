@@ -1,4 +1,4 @@
-ghost use Rattle.std.specs.Prelude.{◌≡◌, ◌<◌, ◌≤◌, ◌↔◌, ℕ, List, length, slice_index, EachIndex, IsSome, IfSome, IsTrue};
+ghost use Rattle.std.specs.Prelude.{◌≡◌, ◌≤◌, ◌↔◌, ℕ, List, length, slice_index, EachIndex, IsSome, IfSome, IsTrue};
 ghost use Rattle.hb_space.specs.Points.{IsPoint};
 ghost use Rattle.hb_space.specs.Boxes.{IsArea, Holds, Meets, Within, whole_area, point_area, common_area, holds};
 

@@ -1,7 +1,7 @@
 //! What follows of boxes from their definitions alone. Each law is the contract of a function
 //! that does nothing: a caller learns it by the call.
 
-ghost use Rattle.std.specs.Prelude.{◌≡◌, ◌≢◌, ◌<◌, ◌≤◌, ◌↔◌, ◌⊎◌, ℕ, List, length, slice_index, IsTrue};
+ghost use Rattle.std.specs.Prelude.{◌≡◌, ◌≢◌, ◌≤◌, ◌↔◌, ◌⊎◌, ℕ, List, length, IsTrue};
 ghost use Rattle.std.specs.Thread.{IsSend, IsSync};
 ghost use Rattle.hb_space.specs.Points.{IsPoint};
 ghost use Rattle.hb_space.specs.Boxes.{Area, IsArea, Holds, Meets, Within, Disjoint, Cuts, whole_area, point_area, side_below, side_from, common_area, holds};
