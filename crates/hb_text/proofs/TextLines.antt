@@ -1,10 +1,10 @@
 -- Lines of a text, one after the other.
-use Rattle.std.proofs.Common.{◌≡◌, ℕ, ◌+◌, Bool, false, List, [], ◌∷◌, ◌++◌, length, Ok, Err, Result, Option, refl, sym, ap, ◌∙◌, arith, append_assoc, append-nil}
+use Rattle.std.proofs.Common.{◌≡◌, ℕ, ◌+◌, false, List, [], ◌∷◌, ◌++◌, length, Ok, Err, Result, Option, refl, sym, ap, ◌∙◌, arith, append_assoc, append-nil}
 use Rattle.std.specs.Option.{option_to_list}
 use Rattle.hb_set.specs.declared.scripts.Line.{Line}
 use Rattle.hb_text.specs.declared.rules.BadLine.{BadLine}
 use Rattle.hb_text.specs.declared.rules.TextRule.{TextRule}
-use Rattle.hb_text.specs.Grammar.{◌>>=◌, Said, Reading, with_said, at_line, line_read, lines_read, lines_of, text_read}
+use Rattle.hb_text.specs.Grammar.{◌>>=◌, Reading, with_said, line_read, lines_read, lines_of, text_read}
 use Rattle.hb_text.specs.declared.rules.TextError.{TextError}
 use Rattle.hb_text.specs.declared.rules.TextError.TheVariants as errors
 use Rattle.hb_text.specs.Reading.{Reads, AddsLine}

@@ -1,5 +1,5 @@
 -- Value words, one after the other.
-use Rattle.std.proofs.Common.{◌≡◌, ℕ, zero, suc, ◌+◌, ◌-◌, ◌*◌, ◌<◌, ◌≤◌, Bool, true, false, cond, List, [], ◌∷◌, ◌++◌, length, take, drop, Ok, Err, Result, refl, sym, ap, ◌∙◌, subst, arith, append_assoc, append-nil, drop-drop}
+use Rattle.std.proofs.Common.{◌≡◌, ℕ, zero, suc, ◌+◌, ◌-◌, ◌*◌, ◌<◌, ◌≤◌, true, false, cond, List, [], ◌∷◌, ◌++◌, length, take, drop, Ok, Err, Result, refl, sym, ap, ◌∙◌, arith, append_assoc, append-nil, drop-drop}
 use Rattle.std.specs.Prelude.{EachIndex, slice_index, ◌↔◌, IsSome, IfSome, Option, Some, None}
 use Rattle.std.specs.Option.{ok_or}
 use mathlib.Core.Bool.{false≢true}

@@ -1,6 +1,6 @@
 -- What a text says is a script.
-use Rattle.std.specs.Prelude.{◌≡◌, ℕ, suc, ◌⊎◌, ◌+◌, ◌-◌, ◌*◌, ◌<◌, ◌≤◌, Bool, true, false, not, cond, ◌&&◌, ◌==◌, nat_lt, nat_le, List, [], ◌∷◌, ◌++◌, length, take, drop, Option, Some, None, Result, Ok, Err, refl, codes, if◌then◌else◌}
-use Rattle.std.proofs.Common.{inl, inr, sym, ap, subst, ◌∙◌, arith, append_assoc}
+use Rattle.std.specs.Prelude.{◌≡◌, ℕ, suc, ◌⊎◌, ◌+◌, ◌-◌, ◌*◌, ◌≤◌, Bool, true, false, not, cond, ◌&&◌, ◌==◌, nat_lt, nat_le, List, [], ◌∷◌, ◌++◌, length, take, drop, Option, Some, None, Result, Ok, Err, refl, codes, if◌then◌else◌}
+use Rattle.std.proofs.Common.{inl, inr, sym, ap, ◌∙◌, arith}
 use Rattle.std.specs.List.{list_all, list_any, AllByRecursion}
 use Rattle.std.specs.Option.{option_to_list}
 use Rattle.std.specs.Str.{bytes_eq}
@@ -15,11 +15,10 @@ use Rattle.hb_text.specs.Numbers.{number_read}
 use Rattle.hb_text.specs.declared.numbers.NumberFault.{NumberFault}
 use Rattle.hb_text.specs.declared.rules.TextRule.{TextRule}
 use Rattle.hb_text.specs.declared.rules.TextRule.TheVariants.{TooMany, LongLine, BadByte, BadSpacing, BadStep, BadCount, EmptyBox}
-use Rattle.hb_text.specs.declared.rules.BadLine.{BadLine}
 use Rattle.hb_space.specs.declared.form.TheConstants.{LINE}
 use Rattle.hb_text.specs.declared.verbs.Verb.{Verb}
 use Rattle.hb_text.specs.declared.verbs.Verb.TheVariants as verbs
-use Rattle.hb_text.specs.Grammar.{◌>>=◌, or_fault, values_read, lows, highs, are_ordered, box_read, box_words_read, body_read, operand_count, operands_read, verb_of, verb_read, command_read, session_number, session_of, says_command, says_steps, session_read, words_read, words_of, line_read, lines_read, lines_of, at_line, with_said, text_read, Said, Reading, is_empty, is_printable}
+use Rattle.hb_text.specs.Grammar.{◌>>=◌, or_fault, values_read, lows, highs, are_ordered, box_read, box_words_read, body_read, operand_count, operands_read, verb_of, verb_read, command_read, session_number, session_of, says_command, session_read, words_read, words_of, line_read, lines_read, lines_of, at_line, text_read, Said, Reading, is_empty, is_printable}
 use Rattle.std.proofs.lemmas.Bool.Decides.{nat_tests}
 use Rattle.std.proofs.lemmas.List.{length-take}
 
@@ -181,8 +180,8 @@ lines_fit k taken number (line ∷ lines) reading n_from e =
     let said = bound (at_line number (line_read false k taken number line)) _ reading e in
     let more = bound (lines_read false k (taken + length said.0.steps) (number + 1) lines) _ reading said.2 in
     rw (← ok_same _ _ more.2) (one_more k number said.0.line more.0.lines
-        (line_fits k taken number line said.0 n_from (at_line_ok number _ said.0 said.1))
-        (lines_fit k (taken + length said.0.steps) (number + 1) lines more.0 (omega arith) more.1))
+    (line_fits k taken number line said.0 n_from (at_line_ok number _ said.0 said.1))
+    (lines_fit k (taken + length said.0.steps) (number + 1) lines more.0 (omega arith) more.1))
 
 -- what a text says is a script over its attributes
 pub text_is_script : (k : ℕ) (text : List ℕ) (reading : Reading) → text_read false k text ≡ Ok reading → IsScriptFor k reading.lines

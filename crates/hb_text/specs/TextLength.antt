@@ -1,12 +1,11 @@
 -- A text that breaks no rule has at most 1,000,000 lines of at most 256 bytes, each with a line feed.
-use Rattle.std.specs.Prelude.{◌≡◌, ℕ, suc, ◌+◌, ◌-◌, ◌*◌, ◌<◌, ◌≤◌, Bool, true, false, not, cond, ◌==◌, nat_lt, List, [], ◌∷◌, length, Option, None, Result, Ok, Err, refl, if◌then◌else◌}
-use Rattle.std.proofs.Common.{inl, inr, sym, ap, ◌∙◌, arith}
+use Rattle.std.specs.Prelude.{◌≡◌, ℕ, suc, ◌+◌, ◌-◌, ◌*◌, ◌≤◌, true, false, not, cond, ◌==◌, nat_lt, List, [], ◌∷◌, length, None, Result, Ok, Err, if◌then◌else◌}
+use Rattle.std.proofs.Common.{inl, inr, arith}
 use Rattle.std.specs.List.{list_all, list_any, onto_first}
 use Rattle.hb_text.specs.declared.rules.TextRule.{TextRule}
 use Rattle.hb_text.specs.declared.rules.TextRule.TheVariants.{TooMany, LongLine, BadByte, BadSpacing}
-use Rattle.hb_text.specs.declared.rules.BadLine.{BadLine}
 use Rattle.hb_space.specs.declared.form.TheConstants.{LINE}
-use Rattle.hb_text.specs.Grammar.{◌>>=◌, words_of, words_read, line_read, lines_read, lines_of, at_line, text_read, Said, Reading, is_empty, is_printable}
+use Rattle.hb_text.specs.Grammar.{words_of, words_read, line_read, lines_read, lines_of, at_line, text_read, Said, Reading, is_empty, is_printable}
 use Rattle.hb_text.specs.ScriptLaws.{bound, chosen, at_line_ok}
 use Rattle.std.proofs.lemmas.Bool.Decides.{nat_tests}
 

@@ -22,11 +22,7 @@ pub(crate) fn read_session(word: &[u8]) -> Option<u8>
 
 /// The command of a verb, whose words are those that are left.
 #[tactic(auto, unfolding(crate::specs::Grammar::operands_read))]
-fn read_operands(
-    verb: Verb,
-    attributes: u8,
-    words: &mut Words<'_>,
-) -> Result<Command, TextRule>
+fn read_operands(verb: Verb, attributes: u8, words: &mut Words<'_>) -> Result<Command, TextRule>
     requires some { 0 < attributes }
     requires few { attributes ≤ KMAX }
     requires count { length words.old ≡ operand_count verb attributes }

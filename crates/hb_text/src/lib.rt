@@ -17,6 +17,6 @@ mod verbs;
 mod words;
 
 pub use numbers::{NumberFault, read_number};
+pub use output::{put_left, put_order, put_reply};
 pub use reading::read_commands;
 pub use rules::{BadLine, TextError, TextRule};
-pub use output::{put_left, put_order, put_reply};

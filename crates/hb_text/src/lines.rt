@@ -77,11 +77,7 @@ fn read_words(attributes: u8, number: u32, line: &[u8]) -> Result<Line, TextRule
 /// What a line says: a command of a session, or nothing where it is empty; or the first rule that
 /// it breaks.
 #[tactic(auto, unfolding(crate::specs::Grammar::line_read))]
-pub(crate) fn read_line(
-    attributes: u8,
-    number: u32,
-    line: &[u8],
-) -> Result<Option<Line>, TextRule>
+pub(crate) fn read_line(attributes: u8, number: u32, line: &[u8]) -> Result<Option<Line>, TextRule>
     requires some { 0 < attributes }
     requires few { attributes ≤ KMAX }
     ensures says { SaysLine result (line_read false attributes 0 number line.now) }

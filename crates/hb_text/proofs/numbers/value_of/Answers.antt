@@ -1,5 +1,4 @@
-use Rattle.std.proofs.Common.{arith, length, drop, ◌≡◌, ◌<◌, sym, ◌∙◌}
-use Rattle.std.specs.Str.Parse.{digits_value, digits_value_after}
+use Rattle.std.proofs.Common.{arith}
 use Rattle.hb_text.proofs.NumberWords.{digit_at, carried, passes, all_read}
 use Rattle.hb_text.proofs.numbers.value_of.Goals as goal
 

@@ -1,4 +1,4 @@
-use Rattle.std.proofs.Common.{◌≡◌, sym, ◌∙◌, ap, arith, length-append}
+use Rattle.std.proofs.Common.{sym, ◌∙◌, arith}
 use Rattle.std.proofs.lemmas.Result.{err_from_is_err_and}
 use Rattle.hb_text.proofs.ValueWords.{value_ok, value_err, values_done, drop_next}
 use Rattle.hb_text.proofs.operands.read_values.Goals as goal

@@ -1,10 +1,9 @@
-use Rattle.std.proofs.Common.{◌≡◌, Ok, ◌∙◌, sym, ap, arith, false, nat_eq, length}
+use Rattle.std.proofs.Common.{◌≡◌, Ok, ◌∙◌, sym, ap, arith, length}
 use Rattle.std.proofs.lemmas.Result.{err_from_is_err_and}
 use Rattle.std.proofs.lemmas.Bool.Decides.{nat_tests}
 use Rattle.hb_text.specs.ScriptLaws.{text_is_script}
 use Rattle.hb_text.specs.TextLength.{text_is_short}
 use Rattle.hb_text.proofs.TextLines.{text_err, line_ok, text_done}
-use Rattle.hb_text.specs.Grammar.{lines_read, lines_of}
 use Rattle.hb_text.proofs.reading.read_commands.Goals as goal
 
 pub returns-in_err-add_line : goal.returns-in_err-add_line
