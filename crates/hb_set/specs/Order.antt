@@ -5,7 +5,7 @@ use Rattle.hb_set.specs.declared.commands.Reply.{Reply}
 use Rattle.hb_set.specs.declared.commands.Reply.TheVariants.{Full, NoMemory, ReadFault}
 use Rattle.hb_set.specs.declared.scripts.Line.{Line}
 use Rattle.hb_set.specs.declared.scripts.Answered.{Answered}
-use Rattle.hb_set.specs.Machine.{RecordSet, reply_of, set_after, Answers}
+use Rattle.hb_set.specs.Machine.{RecordSet, reply_of, set_after, Answers, MayWantMemory}
 
 -- a script line with the reply that it got
 pub record Entry : Type 0 where
@@ -70,6 +70,7 @@ pub record IsAnswerTo (m : RecordSet) (l : Line) (a : Answered) (next : RecordSe
   pub number : a.line ≡ l.number
   pub untimed : a.at ≡ 0
   pub answers : Answers m l.command a.reply next
+  pub wanted : a.reply ≡ NoMemory → MayWantMemory l.command m
 
 -- Each line was answered in turn, from the first set to the last one: by the machine, or for want of
 -- memory not at all. The answer has the line's number, and no time.

@@ -6,7 +6,8 @@ use Rattle.std.proofs.lemmas.List.{take_more, take_all, length-take-le, map-appe
 use Rattle.hb_set.specs.declared.scripts.Line.{Line}
 use Rattle.hb_set.specs.declared.scripts.Answered.{Answered}
 use Rattle.hb_set.specs.declared.commands.Reply.{Reply}
-use Rattle.hb_set.specs.Machine.{RecordSet, Answers}
+use Rattle.hb_set.specs.declared.commands.Reply.TheVariants.{NoMemory}
+use Rattle.hb_set.specs.Machine.{RecordSet, Answers, MayWantMemory}
 use Rattle.hb_set.specs.Order.{Ran, IsAnswerTo, entries_of, joined, order_of}
 use Rattle.hb_set.specs.OrderLaws.{ran_grown, entries_of-push, ran_legal}
 use Rattle.hb_set.specs.Scripts.{IsScriptFor}
@@ -16,9 +17,9 @@ use Rattle.hbpi.specs.Outcome.{IsDryRun}
 pub one_line_more : (lines : List Line) (i : ℕ) (l : Line) → i < length lines → l ≡ get_or lines i l → take (i + 1) lines ≡ take i lines ++ l ∷ []
 one_line_more lines i l lt at = take_more lines i l lt ∙ ap (λ x. take i lines ++ x ∷ []) (sym at)
 
-pub ran_more : (lines : List Line) (i : ℕ) (l : Line) (answered new : List Answered) (set next : RecordSet) (r : Reply) → i < length lines → l ≡ get_or lines i l → Ran finite.empty (take i lines) answered set → Answers set l.command r next → new ≡ answered ++ record { line = l.number; reply = r; at = 0 } ∷ [] → Ran finite.empty (take (i + 1) lines) new next
-ran_more lines i l answered new set next r lt at ran answers is =
-    rw (one_line_more lines i l lt at, is) (ran_grown finite.empty (take i lines) answered set l (record { line = l.number; reply = r; at = 0 }) next ran (record { number = refl; untimed = refl; answers = answers }))
+pub ran_more : (lines : List Line) (i : ℕ) (l : Line) (answered new : List Answered) (set next : RecordSet) (r : Reply) → i < length lines → l ≡ get_or lines i l → Ran finite.empty (take i lines) answered set → Answers set l.command r next → (r ≡ NoMemory → MayWantMemory l.command set) → new ≡ answered ++ record { line = l.number; reply = r; at = 0 } ∷ [] → Ran finite.empty (take (i + 1) lines) new next
+ran_more lines i l answered new set next r lt at ran answers wanted is =
+    rw (one_line_more lines i l lt at, is) (ran_grown finite.empty (take i lines) answered set l (record { line = l.number; reply = r; at = 0 }) next ran (record { number = refl; untimed = refl; answers = answers; wanted = wanted }))
 
 pub order_more : (lines : List Line) (i : ℕ) (l : Line) (answered new : List Answered) (order grown : List ℕ) (r : Reply) → i < length lines → l ≡ get_or lines i l → length answered ≡ i → order ≡ order_of (entries_of (take i lines) answered) → grown ≡ order ++ order_of (joined l r []) → new ≡ answered ++ record { line = l.number; reply = r; at = 0 } ∷ [] → grown ≡ order_of (entries_of (take (i + 1) lines) new)
 order_more lines i l answered new order grown r lt at count order_is grown_is is =

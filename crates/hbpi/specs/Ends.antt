@@ -1,17 +1,17 @@
 -- What each status says of a run: its cause, and what it leaves.
-use Rattle.std.specs.Prelude.{◌≡◌, ℕ, ◌≤◌, ◌⊎◌, Bool, true, false, List, [], length, Option, Some, None, Ok, Err}
+use Rattle.std.specs.Prelude.{◌≡◌, ℕ, ◌≤◌, ◌⊎◌, Bool, true, false, List, [], length, take, Option, Some, None, Ok, Err}
 use Rattle.hb_outside.specs.Streams.{Rose, Appends, AppendsFront}
 use Rattle.hb_set.specs.declared.scripts.Line.{Line}
 use Rattle.hb_set.specs.declared.scripts.Answered.{Answered}
 use Rattle.hb_set.specs.Scripts.{IsScriptFor}
 use Rattle.hb_text.specs.declared.rules.BadLine.{BadLine}
-use Rattle.hb_text.specs.Grammar.{text_read}
+use Rattle.hb_text.specs.Grammar.{Reading, text_read}
 use Rattle.hb_text.specs.Output.{order_text, output_text}
 use Rattle.hbpi.specs.declared.forms.Form.{Form}
 use Rattle.hbpi.specs.declared.forms.Form.TheVariants.{Dry}
 use Rattle.hbpi.specs.declared.statuses.Status.{Status}
 use Rattle.hbpi.specs.declared.statuses.Status.TheVariants.{Done, Usage, BadText, SourceFault, SinkFault, NoMemory, NotBuilt}
-use Rattle.hbpi.specs.Outcome.{fault_line, GetsLine, IsTextOf, IsWholeText, IsDryRun}
+use Rattle.hbpi.specs.Outcome.{fault_line, GetsLine, greatest_text, IsTextOf, IsWholeText, IsDryRun}
 
 -- what is seen of a run from outside: what the source had left and has left, what the sink held and holds, both counts
 -- of faults before and after, and what was answered, in which order
@@ -110,3 +110,11 @@ EndsRun held holds before after lines answered order Done = IsDryRun lines answe
 EndsRun held holds before after lines answered order SinkFault = IsDryRun lines answered order × AppendsFront held holds (output_text answered [] false order (length order)) × Rose before after
 EndsRun held holds before after lines answered order NoMemory = GetsLine held holds before after (fault_line NoMemory) × (answered ≡ []) × (order ≡ [])
 EndsRun held holds before after lines answered order _ = ⊥
+
+-- A good text is answered whole, unless the source or the sink failed or memory was refused.
+abbrev pub IsComplete : Option Form → Seen → Status → Type 0
+IsComplete form seen status = (k : ℕ) (left : List ℕ) (reading : Reading) → form ≡ Some (Dry k) → seen.left ≡ Some left → text_read false k left ≡ Ok reading → ¬ (Rose seen.source_before seen.source_after) → ¬ (Rose seen.sink_before seen.sink_after) → (status ≡ Done) ⊎ (status ≡ NoMemory)
+
+-- A text that breaks a rule is refused with its first bad line, unless the source failed or memory was refused.
+abbrev pub RefusesBadText : Option Form → Seen → Status → Type 0
+RefusesBadText form seen status = (k : ℕ) (left : List ℕ) (bad : BadLine) → form ≡ Some (Dry k) → seen.left ≡ Some left → text_read false k (take greatest_text left) ≡ Err bad → ¬ (Rose seen.source_before seen.source_after) → (status ≡ BadText bad) ⊎ (status ≡ NoMemory)

@@ -22,7 +22,8 @@ pub(crate) struct Answers {
 
 /// Puts a reply, unless the sink failed before. True where it has failed.
 fn put_answer<K: Sink>(sink: &mut K, failed: bool, line: u32, reply: &Reply) -> bool
-    ensures { PutsMore (K.written sink.old) (K.written sink.new) (K.faults sink.old) (K.faults sink.new) failed result (reply_text line reply.now) }
+    ensures puts { PutsMore (K.written sink.old) (K.written sink.new) (K.faults sink.old) (K.faults sink.new) failed result (reply_text line reply.now) }
+    ensures later { K.faults sink.old ≤ K.faults sink.new }
 {
     if failed {
         return true;
@@ -33,7 +34,8 @@ fn put_answer<K: Sink>(sink: &mut K, failed: bool, line: u32, reply: &Reply) -> 
 /// Puts the order, all of it settled, unless the sink failed before. True where it has failed.
 pub(crate) fn put_whole_order<K: Sink>(sink: &mut K, failed: bool, order: &[u32]) -> bool
     requires { length order.now < 2 ^ 32 }
-    ensures { PutsMore (K.written sink.old) (K.written sink.new) (K.faults sink.old) (K.faults sink.new) failed result (order_text order.now (length order.now)) }
+    ensures puts { PutsMore (K.written sink.old) (K.written sink.new) (K.faults sink.old) (K.faults sink.new) failed result (order_text order.now (length order.now)) }
+    ensures later { K.faults sink.old ≤ K.faults sink.new }
 {
     if failed {
         return true;
@@ -75,6 +77,7 @@ pub(crate) fn answer_lines<K: Sink>(
     ensures put { IfOk result (λ a. HasPut (K.written sink.old) (K.written sink.new) (K.faults sink.old) (K.faults sink.new) a.failed (flat_map answer_text a.answered.items)) }
     ensures few { IfOk result (λ a. length a.order.items ≤ 1000000) }
     ensures err { OnErr result (sink.new ≡ sink.old) }
+    ensures later { K.faults sink.old ≤ K.faults sink.new }
 {
     let mut set = Set::new(alloc)?;
     let mut answered = Vec::with_capacity(alloc, lines.len())?;

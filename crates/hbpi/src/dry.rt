@@ -58,6 +58,7 @@ fn finish<K: Sink>(answers: Answers, mut sink: K) -> Finished<K>
     ensures answered { result.answered.items ≡ answers.answered.items }
     ensures order { result.order.items ≡ answers.order.items }
     ensures ends { EndsBySink (K.written sink) (K.written result.sink) (K.faults sink) (K.faults result.sink) answers.failed answers.order.items result.status }
+    ensures later { K.faults sink ≤ K.faults result.sink }
 {
     let Answers {
         answered,
@@ -77,7 +78,8 @@ fn finish<K: Sink>(answers: Answers, mut sink: K) -> Finished<K>
 /// Runs a script over the plain record set, and writes its output.
 fn run_script<K: Sink>(alloc: Global, script: &Script, mut sink: K) -> Finished<K>
     requires { (k : ℕ) × IsScriptFor k script.now.lines }
-    ensures { EndsRun (K.written sink) (K.written result.sink) (K.faults sink) (K.faults result.sink) script.now.lines result.answered.items result.order.items result.status }
+    ensures ends { EndsRun (K.written sink) (K.written result.sink) (K.faults sink) (K.faults result.sink) script.now.lines result.answered.items result.order.items result.status }
+    ensures later { K.faults sink ≤ K.faults result.sink }
 {
     match answer_lines(alloc, script.lines.as_slice(), &mut sink) {
         Ok(answers) => finish(answers, sink),
@@ -99,6 +101,8 @@ pub(crate) fn dry<S: Source, K: Sink>(
         left = S.left source.old; rest = S.left source.new; source_before = S.faults source.old; source_after = S.faults source.new;
         held = K.written sink; holds = K.written result.sink; sink_before = K.faults sink; sink_after = K.faults result.sink;
         answered = result.answered.items; order = result.order.items }) result.status }
+    ensures source_later { S.faults source.old ≤ S.faults source.new }
+    ensures sink_later { K.faults sink ≤ K.faults result.sink }
 {
     match read_script(alloc, k, source) {
         Ok(script) => run_script(alloc, &script, sink),

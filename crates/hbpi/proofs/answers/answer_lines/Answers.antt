@@ -21,6 +21,7 @@ loop-line-init g c = record {
   answered_room = omega (arith, c.in_ok-answered.ensures.exact);
   order_count = omega (arith, ap length c.in_ok-order.ensures.items);
   order_room = omega (arith, c.in_ok-order.ensures.exact);
+  later = omega arith;
   put = has_put_none _ _ _ c.in_ok-answered.ensures.items;
 }
 
@@ -36,7 +37,7 @@ loop-line-preserved g c =
     let before = c.loop-line.invariant in
     let kept = c.keep_answer.ensures.kept in
     record {
-      ran = ran_more c.args.lines.now c.loop-line.line-index c.line-item.result _ _ c.loop-line.set _ _ (omega arith) c.line-item.is before.ran c.answer-reply.ensures.answers kept;
+      ran = ran_more c.args.lines.now c.loop-line.line-index c.line-item.result _ _ c.loop-line.set _ _ (omega arith) c.line-item.is before.ran c.answer-reply.ensures.answers c.answer-reply.ensures.memory kept;
       order = order_more c.args.lines.now c.loop-line.line-index c.line-item.result _ _ _ _ _ (omega arith) c.line-item.is before.answered_count before.order c.join_order.ensures.order kept;
       attributes = λ k script. subst (λ (n : ℕ). HasAttributes n c.answer-reply.new.self)
           (line_attributes k c.args.lines.now c.loop-line.line-index c.line-item.result script.lines (omega arith) c.line-item.is)
@@ -45,7 +46,8 @@ loop-line-preserved g c =
       answered_room = omega (arith, c.keep_answer.ensures.room, before.answered_room);
       order_count = omega (arith, c.join_order.ensures.one, before.order_count, c.join_order.new.order.ok.0, c.loop-line.order.ok.0);
       order_room = omega (arith, c.join_order.ensures.room, before.order_room);
-      put = rw (answer_texts c.loop-line.answered.items _ _ kept) (has_put_more _ _ _ _ _ _ _ _ _ _ before.put c.put_answer-failed.ensures);
+      later = omega (arith, c.put_answer-failed.ensures.later, before.later);
+      put = rw (answer_texts c.loop-line.answered.items _ _ kept) (has_put_more _ _ _ _ _ _ _ _ _ _ before.put c.put_answer-failed.ensures.puts);
     }
 
 pub returns-clause-run : goal.returns-clause-run

@@ -19,5 +19,6 @@ invariant-loop-line g l = record {
   answered_room : length l.lines ≤ vec_capacity l.answered;
   order_count : length l.order.items ≤ l.line-index;
   order_room : length l.lines ≤ vec_capacity l.order;
+  later : g.K.Sink.faults l.fn.sink ≤ g.K.Sink.faults l.sink;
   put : HasPut (g.K.Sink.written l.fn.sink) (g.K.Sink.written l.sink) (g.K.Sink.faults l.fn.sink) (g.K.Sink.faults l.sink) l.failed (flat_map answer_text l.answered.items);
 }

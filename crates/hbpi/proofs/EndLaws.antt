@@ -1,0 +1,67 @@
+-- What follows from how a run ends.
+use Rattle.std.proofs.Common.{◌≡◌, ℕ, ◌≤◌, ◌⊎◌, inl, inr, Bool, false, List, [], length, take, Option, Some, None, Result, Ok, Err, refl, sym, ap, subst, ◌∙◌, arith}
+use Rattle.std.proofs.lemmas.List.{take_all}
+use Rattle.hb_text.specs.declared.rules.BadLine.{BadLine}
+use Rattle.hb_text.specs.Grammar.{Reading, text_read}
+use Rattle.hb_text.specs.TextLength.{text_is_short}
+use Rattle.hbpi.specs.declared.forms.Form.{Form}
+use Rattle.hbpi.specs.declared.forms.Form.TheVariants.{Create, Dry, Run, Drive, Check, Map, Tidy, Gen, Work}
+use Rattle.hbpi.specs.declared.statuses.Status.{Status}
+use Rattle.hbpi.specs.declared.statuses.Status.TheVariants.{Done, Usage, BadText, SourceFault, SinkFault, NoMemory, NotBuilt}
+use Rattle.hb_outside.specs.Streams.{Rose}
+use Rattle.hbpi.specs.Outcome.{greatest_text, IsTextOf, IsWholeText}
+use Rattle.hbpi.specs.Ends.{Seen, Ends, DryEnds, IsAnswered, IsComplete, RefusesBadText}
+
+-- a good text is read whole
+good_is_whole : (k : ℕ) (left : List ℕ) (reading : Reading) → text_read false k left ≡ Ok reading → take greatest_text left ≡ left
+unfolding greatest_text
+good_is_whole k left reading good = take_all 257000001 left (omega (arith, text_is_short k left reading good))
+
+not_both : (k : ℕ) (text : List ℕ) (reading : Reading) (bad : BadLine) → text_read false k text ≡ Ok reading → text_read false k text ≡ Err bad → ⊥
+not_both k text reading bad good e = cc
+
+same_attributes : (m n : ℕ) → ◌≡◌ {A = Option Form} (Some (Dry m)) (Some (Dry n)) → m ≡ n
+same_attributes m n e = cc
+
+dry_complete : (k : ℕ) (seen : Seen) (status : Status) → DryEnds k seen status → (left : List ℕ) (reading : Reading) → seen.left ≡ Some left → text_read false k left ≡ Ok reading → ¬ (Rose seen.source_before seen.source_after) → ¬ (Rose seen.sink_before seen.sink_after) → (status ≡ Done) ⊎ (status ≡ NoMemory)
+dry_complete k seen Done ends left reading told good source sink = inl refl
+dry_complete k seen Usage ends left reading told good source sink = absurd ends
+dry_complete k seen (BadText bad) ends left reading told good source sink =
+    let read = subst (λ (o : Option (List ℕ)). IsTextOf o seen.rest ends.0) told ends.1 in
+    absurd (not_both k left reading bad good (ap (text_read false k) (sym (read.0 ∙ good_is_whole k left reading good)) ∙ ends.2))
+dry_complete k seen SourceFault ends left reading told good source sink = absurd (source ends.0)
+dry_complete k seen SinkFault ends left reading told good source sink = absurd (sink ends.3)
+dry_complete k seen NoMemory ends left reading told good source sink = inr refl
+dry_complete k seen NotBuilt ends left reading told good source sink = absurd ends
+
+answered_not_bad : (k : ℕ) (seen : Seen) (lines : _) (left : List ℕ) (bad : BadLine) → IsAnswered k seen lines → seen.left ≡ Some left → text_read false k (take greatest_text left) ≡ Err bad → ⊥
+answered_not_bad k seen lines left bad answered told wrong =
+    let whole = subst (λ (o : Option (List ℕ)). IsWholeText o seen.rest answered.text) told answered.whole in
+    let good = ap (text_read false k) (sym whole.0) ∙ answered.says in
+    not_both k left _ bad good (ap (text_read false k) (sym (good_is_whole k left _ good)) ∙ wrong)
+
+same_bad : (a b : BadLine) (read : Result Reading BadLine) → read ≡ Err a → read ≡ Err b → a ≡ b
+same_bad a b read e f = cc
+
+dry_refuses : (k : ℕ) (seen : Seen) (status : Status) → DryEnds k seen status → (left : List ℕ) (bad : BadLine) → seen.left ≡ Some left → text_read false k (take greatest_text left) ≡ Err bad → ¬ (Rose seen.source_before seen.source_after) → (status ≡ BadText bad) ⊎ (status ≡ NoMemory)
+dry_refuses k seen Done ends left bad told wrong source = absurd (answered_not_bad k seen ends.0 left bad ends.1 told wrong)
+dry_refuses k seen Usage ends left bad told wrong source = absurd ends
+dry_refuses k seen (BadText found) ends left bad told wrong source =
+    let read = subst (λ (o : Option (List ℕ)). IsTextOf o seen.rest ends.0) told ends.1 in
+    inl (ap BadText (same_bad found bad (text_read false k (take greatest_text left)) (ap (text_read false k) (sym read.0) ∙ ends.2) wrong))
+dry_refuses k seen SourceFault ends left bad told wrong source = absurd (source ends.0)
+dry_refuses k seen SinkFault ends left bad told wrong source = absurd (answered_not_bad k seen ends.0 left bad ends.1 told wrong)
+dry_refuses k seen NoMemory ends left bad told wrong source = inr refl
+dry_refuses k seen NotBuilt ends left bad told wrong source = absurd ends
+
+pub ends_complete : (form : Option Form) (seen : Seen) (status : Status) → Ends form seen status → IsComplete form seen status
+ends_complete None seen status ends k left reading is told good source sink = cc
+ends_complete (Some (Dry n)) seen status ends k left reading is told good source sink =
+    dry_complete n seen status ends left reading told (rw (same_attributes n k is) good) source sink
+ends_complete (Some form) seen status ends k left reading is told good source sink = cc
+
+pub ends_refuses : (form : Option Form) (seen : Seen) (status : Status) → Ends form seen status → RefusesBadText form seen status
+ends_refuses None seen status ends k left bad is told wrong source = cc
+ends_refuses (Some (Dry n)) seen status ends k left bad is told wrong source =
+    dry_refuses n seen status ends left bad told (rw (same_attributes n k is) wrong) source
+ends_refuses (Some form) seen status ends k left bad is told wrong source = cc
