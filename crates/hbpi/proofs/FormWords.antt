@@ -5,7 +5,7 @@ use Rattle.std.specs.Str.{bytes_eq}
 use Rattle.std.proofs.lemmas.Bool.Decides.{nat_tests}
 use Rattle.hbpi.specs.declared.forms.Form.{Form}
 use Rattle.hbpi.specs.declared.forms.Form.TheVariants.{Create, Dry, Run, Drive, Check, Map, Tidy, Gen, Work}
-use Rattle.hbpi.specs.Forms.{◌>>=◌, number_of, attributes_of, lines_of, create_of, dry_of, gen_of, work_of, alone, form_from, form_of}
+use Rattle.hbpi.specs.Forms.{◌>>=◌, number_of, attributes_of, line_count_of, create_of, dry_of, gen_of, work_of, alone, form_from, form_of}
 
 pub create_short : (ws : List (List ℕ)) → length ws < 5 → create_of ws ≡ None
 create_short [] h = refl
@@ -95,7 +95,7 @@ gen_other (a ∷ []) k e = cc
 gen_other (a ∷ b ∷ []) k e = cc
 gen_other (a ∷ b ∷ c ∷ []) k e =
     let one = fed (number_of a) _ (Dry k) e in
-    let two = fed (lines_of b) _ (Dry k) one.1 in
+    let two = fed (line_count_of b) _ (Dry k) one.1 in
     let three = fed (attributes_of c) _ (Dry k) two.1 in
     cc (three.1)
 gen_other (a ∷ b ∷ c ∷ d ∷ words) k e = cc
@@ -105,7 +105,7 @@ work_other [] k e = cc
 work_other (a ∷ []) k e = cc
 work_other (a ∷ b ∷ []) k e =
     let one = fed (number_of a) _ (Dry k) e in
-    let two = fed (lines_of b) _ (Dry k) one.1 in
+    let two = fed (line_count_of b) _ (Dry k) one.1 in
     cc (two.1)
 work_other (a ∷ b ∷ c ∷ words) k e = cc
 

@@ -26,7 +26,7 @@ order_more lines i l answered new order grown r lt at count order_is grown_is is
     let a : Answered = record { line = l.number; reply = r; at = 0 } in
     let same : length (take i lines) ≡ length answered = length-take-le i lines (omega arith) ∙ sym count in
     rw (one_line_more lines i l lt at, is, entries_of-push (take i lines) answered l a same)
-      (grown_is ∙ ap (λ o. o ++ order_of (joined l r [])) order_is ∙ sym (map-append _ (entries_of (take i lines) answered) (joined l r [])))
+    (grown_is ∙ ap (λ o. o ++ order_of (joined l r [])) order_is ∙ sym (map-append _ (entries_of (take i lines) answered) (joined l r [])))
 
 -- when all lines were answered, the run is whole
 pub run_is_dry : (k : ℕ) (lines : List Line) (i : ℕ) (answered : List Answered) (order : List ℕ) (set : RecordSet) → length lines ≤ i → IsScriptFor k lines → Ran finite.empty (take i lines) answered set → order ≡ order_of (entries_of (take i lines) answered) → IsDryRun lines answered order

@@ -15,8 +15,7 @@ none_taken (Some left) = (omega arith, refl, refl)
 -- the front that was taken and a piece of what was left are a longer front
 joined : (left old new : List ℕ) (n : ℕ) → length old ≤ length left → old ≡ take (length old) left → n ≤ length (drop (length old) left) → new ≡ old ++ take n (drop (length old) left) → (length new ≡ length old + n) × (new ≡ take (length old + n) left)
 joined left old new n within front room is =
-    let piece_length : length (take n (drop (length old) left)) ≡ n = length-take-le n _ room in
-    (
+    let piece_length : length (take n (drop (length old) left)) ≡ n = length-take-le n _ room in (
       omega (arith, ap length is, length-append old (take n (drop (length old) left)), piece_length),
       is ∙ ap (λ xs. xs ++ take n (drop (length old) left)) front ∙ sym (take-add (length old) n left),
     )
@@ -27,8 +26,7 @@ piece_joins None before after old new so_far piece = subst (λ (b : Option (List
 piece_joins (Some left) before after old new so_far piece =
     let taken = subst (λ (b : Option (List ℕ)). TakesPiece b after old new) so_far.2 piece in
     let n = taken.0 in
-    let more = joined left old new n so_far.0 so_far.1 taken.1 taken.2 in
-    (
+    let more = joined left old new n so_far.0 so_far.1 taken.1 taken.2 in (
       omega (arith, more.0, taken.1, length-drop (length old) left, so_far.0),
       rw more.0 more.1,
       rw more.0 (taken.3 ∙ ap Some (drop-drop n (length old) left)),

@@ -2,6 +2,7 @@
 use Rattle.std.specs.Prelude.{ℕ, Bool, true, false, ◌&&◌, nat_le, if◌then◌else◌, List, [], ◌∷◌, codes, Option, Some, None}
 use Rattle.std.specs.Str.{bytes_eq}
 use Rattle.std.specs.Result.{result_ok}
+use Rattle.hb_space.specs.declared.form.TheConstants.{KMAX}
 use Rattle.hb_text.specs.Numbers.{number_read}
 use Rattle.hbpi.specs.declared.forms.Form.{Form}
 use Rattle.hbpi.specs.declared.forms.Form.TheVariants.{Create, Dry, Run, Drive, Check, Map, Tidy, Gen, Work}
@@ -19,10 +20,10 @@ number_of word = result_ok (number_read word)
 abbrev pub attributes_of : List ℕ → Option ℕ
 attributes_of word = do
   k ← number_of word
-  if nat_le 1 k && nat_le k 4 then Some k else None
+  if nat_le 1 k && nat_le k KMAX then Some k else None
 
-abbrev pub lines_of : List ℕ → Option ℕ
-lines_of word = do
+abbrev pub line_count_of : List ℕ → Option ℕ
+line_count_of word = do
   n ← number_of word
   if nat_le n 1000000 then Some n else None
 
@@ -46,7 +47,7 @@ dry_of _ = None
 abbrev pub gen_of : List (List ℕ) → Option Form
 gen_of (x ∷ n ∷ k ∷ []) = do
   x ← number_of x
-  n ← lines_of n
+  n ← line_count_of n
   k ← attributes_of k
   Some (Gen x n k)
 gen_of _ = None
@@ -54,7 +55,7 @@ gen_of _ = None
 abbrev pub work_of : List (List ℕ) → Option Form
 work_of (x ∷ n ∷ []) = do
   x ← number_of x
-  n ← lines_of n
+  n ← line_count_of n
   Some (Work x n)
 work_of _ = None
 

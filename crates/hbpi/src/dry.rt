@@ -66,7 +66,11 @@ fn finish<K: Sink>(answers: Answers, mut sink: K) -> Finished<K>
         failed,
     } = answers;
     let failed = put_whole_order(&mut sink, failed, order.as_slice());
-    let status = if failed { Status::SinkFault } else { Status::Done };
+    let status = if failed {
+        Status::SinkFault
+    } else {
+        Status::Done
+    };
     Finished {
         status,
         sink,
@@ -89,18 +93,21 @@ fn run_script<K: Sink>(alloc: Global, script: &Script, mut sink: K) -> Finished<
 
 /// The command `dry`: reads a text, answers its lines over the plain record set over `k`
 /// attributes, and writes the replies and the order.
-pub(crate) fn dry<S: Source, K: Sink>(
-    alloc: Global,
-    k: u8,
-    source: &mut S,
-    sink: K,
-) -> Finished<K>
+pub(crate) fn dry<S: Source, K: Sink>(alloc: Global, k: u8, source: &mut S, sink: K) -> Finished<K>
     requires some { 0 < k }
     requires few { k ≤ KMAX }
     ensures ends { DryEnds k (record {
-        left = S.left source.old; rest = S.left source.new; source_before = S.faults source.old; source_after = S.faults source.new;
-        held = K.written sink; holds = K.written result.sink; sink_before = K.faults sink; sink_after = K.faults result.sink;
-        answered = result.answered.items; order = result.order.items }) result.status }
+      left = S.left source.old;
+      rest = S.left source.new;
+      source_before = S.faults source.old;
+      source_after = S.faults source.new;
+      held = K.written sink;
+      holds = K.written result.sink;
+      sink_before = K.faults sink;
+      sink_after = K.faults result.sink;
+      answered = result.answered.items;
+      order = result.order.items;
+    }) result.status }
     ensures source_later { S.faults source.old ≤ S.faults source.new }
     ensures sink_later { K.faults sink ≤ K.faults result.sink }
 {

@@ -1,5 +1,5 @@
 ghost use Rattle.std.specs.Prelude.{◌≡◌, ℕ, ◌<◌, ◌≤◌, Some, map, string_bytes};
-ghost use Rattle.hbpi.specs.Forms.{number_of, attributes_of, lines_of, create_of, dry_of, gen_of, work_of, alone, form_from, form_of};
+ghost use Rattle.hbpi.specs.Forms.{number_of, attributes_of, line_count_of, create_of, dry_of, gen_of, work_of, alone, form_from, form_of};
 
 use hb_space::form::KMAX;
 use hb_text::read_number;
@@ -49,12 +49,16 @@ fn read_attributes(word: &String) -> Option<u8>
     ensures { result ≡ attributes_of (string_bytes word.now) }
 {
     let k = read_word(word)?;
-    if 1 <= k && k <= 4 { Some(k as u8) } else { None }
+    if 1 <= k && k <= 4 {
+        Some(k as u8)
+    } else {
+        None
+    }
 }
 
 /// A number of lines.
 fn read_lines(word: &String) -> Option<u32>
-    ensures { result ≡ lines_of (string_bytes word.now) }
+    ensures { result ≡ line_count_of (string_bytes word.now) }
 {
     let n = read_word(word)?;
     if n <= 1_000_000 { Some(n as u32) } else { None }

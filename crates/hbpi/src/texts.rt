@@ -30,11 +30,7 @@ const PIECE: usize = 16384;
 
 /// Takes a piece of at most so many bytes, and adds it to the text. False where the source has
 /// ended. An `Err` leaves the text without the piece.
-fn take_piece<S: Source>(
-    source: &mut S,
-    text: &mut Vec<u8>,
-    most: usize,
-) -> Result<bool, TextStop>
+fn take_piece<S: Source>(source: &mut S, text: &mut Vec<u8>, most: usize) -> Result<bool, TextStop>
     requires { 0 < most }
     ensures piece { OnOk result (TakesPiece (S.left source.old) (S.left source.new) text.old.items text.new.items) }
     ensures bound { OnOk result (length text.new.items ≤ length text.old.items + most) }

@@ -19,9 +19,17 @@ pub fn top<S: Source, K: Sink>(
 ) -> Finished<K>
     // What each status says: its cause, what was read and written, and what was answered.
     ensures ends { Ends (form_of (map string_bytes words.now)) (record {
-        left = S.left source.old; rest = S.left source.new; source_before = S.faults source.old; source_after = S.faults source.new;
-        held = K.written sink; holds = K.written result.sink; sink_before = K.faults sink; sink_after = K.faults result.sink;
-        answered = result.answered.items; order = result.order.items }) result.status }
+      left = S.left source.old;
+      rest = S.left source.new;
+      source_before = S.faults source.old;
+      source_after = S.faults source.new;
+      held = K.written sink;
+      holds = K.written result.sink;
+      sink_before = K.faults sink;
+      sink_after = K.faults result.sink;
+      answered = result.answered.items;
+      order = result.order.items;
+    }) result.status }
 
     // The words alone decide these two.
     ensures usage { (result.status ≡ Status.Usage) ↔ (form_of (map string_bytes words.now) ≡ None) }
@@ -29,13 +37,29 @@ pub fn top<S: Source, K: Sink>(
 
     // A good text is answered, and a bad one refused, unless something failed.
     ensures complete { IsComplete (form_of (map string_bytes words.now)) (record {
-        left = S.left source.old; rest = S.left source.new; source_before = S.faults source.old; source_after = S.faults source.new;
-        held = K.written sink; holds = K.written result.sink; sink_before = K.faults sink; sink_after = K.faults result.sink;
-        answered = result.answered.items; order = result.order.items }) result.status }
+      left = S.left source.old;
+      rest = S.left source.new;
+      source_before = S.faults source.old;
+      source_after = S.faults source.new;
+      held = K.written sink;
+      holds = K.written result.sink;
+      sink_before = K.faults sink;
+      sink_after = K.faults result.sink;
+      answered = result.answered.items;
+      order = result.order.items;
+    }) result.status }
     ensures bad_text { RefusesBadText (form_of (map string_bytes words.now)) (record {
-        left = S.left source.old; rest = S.left source.new; source_before = S.faults source.old; source_after = S.faults source.new;
-        held = K.written sink; holds = K.written result.sink; sink_before = K.faults sink; sink_after = K.faults result.sink;
-        answered = result.answered.items; order = result.order.items }) result.status }
+      left = S.left source.old;
+      rest = S.left source.new;
+      source_before = S.faults source.old;
+      source_after = S.faults source.new;
+      held = K.written sink;
+      holds = K.written result.sink;
+      sink_before = K.faults sink;
+      sink_after = K.faults result.sink;
+      answered = result.answered.items;
+      order = result.order.items;
+    }) result.status }
 
     // No count of faults falls.
     ensures source_later { S.faults source.old ≤ S.faults source.new }

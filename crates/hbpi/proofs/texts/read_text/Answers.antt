@@ -7,10 +7,10 @@ use Rattle.hbpi.proofs.texts.read_text.Goals.{then-loop-more-test+else-len-lt-GR
 pub loop-more-smaller : goal.loop-more-smaller
 loop-more-smaller g c =
     turns_fall c.loop-more.more c.in_ok-more.more (length c.loop-more.text.items) (length c.take_piece.new.text.items) 257000001 c.loop-more-test.true
-        (omega (arith, c.if-len-lt-GREATEST.true, c.len.ensures, c.loop-more.text.ok.0))
-        c.in_ok-more.ensures.kept
-        c.in_ok-more.ensures.grows
-        (omega (arith, c.in_ok-more.ensures.bound, c.len-most.ensures, c.loop-more.text.ok.0, c.loop-more.invariant.room))
+    (omega (arith, c.if-len-lt-GREATEST.true, c.len.ensures, c.loop-more.text.ok.0))
+    c.in_ok-more.ensures.kept
+    c.in_ok-more.ensures.grows
+    (omega (arith, c.in_ok-more.ensures.bound, c.len-most.ensures, c.loop-more.text.ok.0, c.loop-more.invariant.room))
 
 pub loop-more-preserved : goal.loop-more-preserved
 loop-more-preserved g c = record {
