@@ -10,4 +10,5 @@ pub mod Output
 pub mod Reading
 pub mod ScriptLaws
 pub mod TextLength
+pub mod TextFront
 pub mod OutputLaws

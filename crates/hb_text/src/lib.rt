@@ -7,6 +7,7 @@
 
 mod commands;
 mod lines;
+mod long_texts;
 mod numbers;
 mod operands;
 mod output;
@@ -16,6 +17,7 @@ mod rules;
 mod verbs;
 mod words;
 
+pub use long_texts::a_long_text_is_refused_by_its_front;
 pub use numbers::{NumberFault, read_number};
 pub use output::{put_left, put_order, put_reply};
 pub use reading::read_commands;
