@@ -1,6 +1,9 @@
 -- What follows from how a run ends.
 use Rattle.std.proofs.Common.{◌≡◌, ℕ, ◌≤◌, ◌⊎◌, inl, inr, Bool, false, List, [], length, take, Option, Some, None, Result, Ok, Err, refl, sym, ap, subst, ◌∙◌, arith}
 use Rattle.std.proofs.lemmas.List.{take_all}
+use Rattle.std.proofs.Common.{drop, ◌<◌, length-take, take-append-drop}
+use Rattle.std.proofs.lemmas.Bool.{cases_lt}
+use Rattle.hb_text.specs.TextFront.{front_is_all}
 use Rattle.hb_text.specs.declared.rules.BadLine.{BadLine}
 use Rattle.hb_text.specs.Grammar.{Reading, text_read}
 use Rattle.hb_text.specs.TextLength.{text_is_short}
@@ -10,12 +13,22 @@ use Rattle.hbpi.specs.declared.statuses.Status.{Status}
 use Rattle.hbpi.specs.declared.statuses.Status.TheVariants.{Done, Usage, BadText, SourceFault, SinkFault, NoMemory, NotBuilt}
 use Rattle.hb_outside.specs.Streams.{Rose}
 use Rattle.hbpi.specs.Outcome.{greatest_text, IsTextOf, IsWholeText}
-use Rattle.hbpi.specs.Ends.{Seen, Ends, DryEnds, IsAnswered, IsComplete, RefusesBadText}
+use Rattle.hbpi.specs.Ends.{Seen, Ends, DryEnds, IsAnswered, IsComplete, RefusesBadText, NamesBadLine}
 
 -- a good text is read whole
 good_is_whole : (k : ℕ) (left : List ℕ) (reading : Reading) → text_read false k left ≡ Ok reading → take greatest_text left ≡ left
 unfolding greatest_text
 good_is_whole k left reading good = take_all 257000001 left (omega (arith, text_is_short k left reading good))
+
+-- the text that is read is read as all that was left
+front_reads : (k : ℕ) (left : List ℕ) → text_read false k (take greatest_text left) ≡ text_read false k left
+unfolding greatest_text
+front_reads k left = elim (cases_lt 257000000 (length left)) [
+  | inl long ↦
+      let front : 257000000 < length (take 257000001 left) = omega (arith, length-take 257000001 left) in
+      sym (front_is_all k (take 257000001 left) (drop 257000001 left) front) ∙ ap (text_read false k) (take-append-drop 257000001 left)
+  | inr short ↦ ap (text_read false k) (take_all 257000001 left (omega arith))
+]
 
 not_both : (k : ℕ) (text : List ℕ) (reading : Reading) (bad : BadLine) → text_read false k text ≡ Ok reading → text_read false k text ≡ Err bad → ⊥
 not_both k text reading bad good e = cc
@@ -63,5 +76,22 @@ ends_complete (Some form) seen status ends k left reading is told good source si
 pub ends_refuses : (form : Option Form) (seen : Seen) (status : Status) → Ends form seen status → RefusesBadText form seen status
 ends_refuses None seen status ends k left bad is told wrong source = cc
 ends_refuses (Some (Dry n)) seen status ends k left bad is told wrong source =
-    dry_refuses n seen status ends left bad told (rw (same_attributes n k is) wrong) source
+    dry_refuses n seen status ends left bad told (front_reads n left ∙ rw (same_attributes n k is) wrong) source
 ends_refuses (Some form) seen status ends k left bad is told wrong source = cc
+
+dry_names : (k : ℕ) (seen : Seen) (status : Status) → DryEnds k seen status → (left : List ℕ) (bad : BadLine) → seen.left ≡ Some left → status ≡ BadText bad → text_read false k left ≡ Err bad
+dry_names k seen (BadText found) ends left bad told is =
+    let read = subst (λ (o : Option (List ℕ)). IsTextOf o seen.rest ends.0) told ends.1 in
+    let same : found ≡ bad = cc (is) in
+    sym (front_reads k left) ∙ ap (text_read false k) (sym read.0) ∙ ends.2 ∙ ap Err same
+dry_names k seen Done ends left bad told is = cc
+dry_names k seen Usage ends left bad told is = cc
+dry_names k seen SourceFault ends left bad told is = cc
+dry_names k seen SinkFault ends left bad told is = cc
+dry_names k seen NoMemory ends left bad told is = cc
+dry_names k seen NotBuilt ends left bad told is = cc
+
+pub ends_names : (form : Option Form) (seen : Seen) (status : Status) → Ends form seen status → NamesBadLine form seen status
+ends_names None seen status ends k left bad is told named = cc
+ends_names (Some (Dry n)) seen status ends k left bad is told named = rw (← same_attributes n k is) (dry_names n seen status ends left bad told named)
+ends_names (Some form) seen status ends k left bad is told named = cc

@@ -1,5 +1,5 @@
 -- What each status says of a run: its cause, and what it leaves.
-use Rattle.std.specs.Prelude.{◌≡◌, ℕ, ◌≤◌, ◌⊎◌, Bool, true, false, List, [], length, take, Option, Some, None, Ok, Err}
+use Rattle.std.specs.Prelude.{◌≡◌, ℕ, ◌≤◌, ◌⊎◌, Bool, true, false, List, [], length, Option, Some, None, Ok, Err}
 use Rattle.hb_outside.specs.Streams.{Rose, Appends, AppendsFront}
 use Rattle.hb_set.specs.declared.scripts.Line.{Line}
 use Rattle.hb_set.specs.declared.scripts.Answered.{Answered}
@@ -11,7 +11,7 @@ use Rattle.hbpi.specs.declared.forms.Form.{Form}
 use Rattle.hbpi.specs.declared.forms.Form.TheVariants.{Dry}
 use Rattle.hbpi.specs.declared.statuses.Status.{Status}
 use Rattle.hbpi.specs.declared.statuses.Status.TheVariants.{Done, Usage, BadText, SourceFault, SinkFault, NoMemory, NotBuilt}
-use Rattle.hbpi.specs.Outcome.{fault_line, GetsLine, greatest_text, IsTextOf, IsWholeText, IsDryRun}
+use Rattle.hbpi.specs.Outcome.{fault_line, GetsLine, IsTextOf, IsWholeText, IsDryRun}
 
 -- what is seen of a run from outside: what the source had left and has left, what the sink held and holds, both counts
 -- of faults before and after, and what was answered, in which order
@@ -117,4 +117,8 @@ IsComplete form seen status = (k : ℕ) (left : List ℕ) (reading : Reading) �
 
 -- A text that breaks a rule is refused with its first bad line, unless the source failed or memory was refused.
 abbrev pub RefusesBadText : Option Form → Seen → Status → Type 0
-RefusesBadText form seen status = (k : ℕ) (left : List ℕ) (bad : BadLine) → form ≡ Some (Dry k) → seen.left ≡ Some left → text_read false k (take greatest_text left) ≡ Err bad → ¬ (Rose seen.source_before seen.source_after) → (status ≡ BadText bad) ⊎ (status ≡ NoMemory)
+RefusesBadText form seen status = (k : ℕ) (left : List ℕ) (bad : BadLine) → form ≡ Some (Dry k) → seen.left ≡ Some left → text_read false k left ≡ Err bad → ¬ (Rose seen.source_before seen.source_after) → (status ≡ BadText bad) ⊎ (status ≡ NoMemory)
+
+-- The line and the rule that are named are the first bad line of all that the source had left, and its first rule.
+abbrev pub NamesBadLine : Option Form → Seen → Status → Type 0
+NamesBadLine form seen status = (k : ℕ) (left : List ℕ) (bad : BadLine) → form ≡ Some (Dry k) → seen.left ≡ Some left → status ≡ BadText bad → text_read false k left ≡ Err bad

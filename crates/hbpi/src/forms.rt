@@ -49,7 +49,7 @@ fn read_attributes(word: &String) -> Option<u8>
     ensures { result ≡ attributes_of (string_bytes word.now) }
 {
     let k = read_word(word)?;
-    if 1 <= k && k <= 4 {
+    if 1 <= k && k <= KMAX as u64 {
         Some(k as u8)
     } else {
         None

@@ -1,6 +1,6 @@
 ghost use Rattle.std.specs.Prelude.{◌≡◌, ◌≤◌, ◌↔◌, None, map, string_bytes};
 ghost use Rattle.hbpi.specs.Forms.{form_of, IsUnbuilt};
-ghost use Rattle.hbpi.specs.Ends.{Ends, IsComplete, RefusesBadText};
+ghost use Rattle.hbpi.specs.Ends.{Ends, IsComplete, RefusesBadText, NamesBadLine};
 
 use crate::dry::{dry, refused};
 use crate::finished::Finished;
@@ -10,7 +10,7 @@ use hb_outside::{Sink, Source};
 use std::alloc::Global;
 
 /// The program over any source and sink: does what the words ask for.
-#[tactic(auto, using(crate::proofs::EndLaws::ends_complete, crate::proofs::EndLaws::ends_refuses))]
+#[tactic(auto, using(crate::proofs::EndLaws::ends_complete, crate::proofs::EndLaws::ends_refuses, crate::proofs::EndLaws::ends_names))]
 pub fn top<S: Source, K: Sink>(
     alloc: Global,
     words: &[String],
@@ -49,6 +49,18 @@ pub fn top<S: Source, K: Sink>(
       order = result.order.items;
     }) result.status }
     ensures bad_text { RefusesBadText (form_of (map string_bytes words.now)) (record {
+      left = S.left source.old;
+      rest = S.left source.new;
+      source_before = S.faults source.old;
+      source_after = S.faults source.new;
+      held = K.written sink;
+      holds = K.written result.sink;
+      sink_before = K.faults sink;
+      sink_after = K.faults result.sink;
+      answered = result.answered.items;
+      order = result.order.items;
+    }) result.status }
+    ensures named { NamesBadLine (form_of (map string_bytes words.now)) (record {
       left = S.left source.old;
       rest = S.left source.new;
       source_before = S.faults source.old;
