@@ -11,3 +11,4 @@ pub mod Reading
 pub mod ScriptLaws
 pub mod TextLength
 pub mod OutputLaws
+pub mod TextLaws

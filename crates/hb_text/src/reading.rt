@@ -55,3 +55,6 @@ pub fn read_commands(alloc: Global, text: &[u8], attributes: u8) -> Result<Scrip
         steps: Steps::new(Vec::new(alloc)),
     })
 }
+
+#[cfg(test)]
+mod tests;
