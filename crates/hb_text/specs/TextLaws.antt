@@ -1,7 +1,7 @@
 -- What a number, a line and a word are, seen from the writer of a text: laws of the definitions in Numbers and Grammar.
-use Rattle.std.specs.Prelude.{◌≡◌, ◌≢◌, ℕ, suc, ◌+◌, ◌<◌, ◌≤◌, ◌^◌, ◌↔◌, Bool, true, false, not, cond, ◌&&◌, ◌==◌, nat_lt, List, [], ◌∷◌, ◌++◌, length, Result, Ok, Err}
-use Rattle.std.proofs.Common.{rules, zero, refl, sym, ap, ◌∙◌, inl, inr, arith, get_or, append_assoc}
-use Rattle.std.specs.List.{list_all, flat_map, AllByRecursion, onto_first, join_with_byte, slice_split}
+use Rattle.std.specs.Prelude.{◌≡◌, ◌≢◌, ℕ, suc, ◌<◌, ◌^◌, ◌↔◌, Bool, true, false, cond, ◌&&◌, ◌==◌, nat_lt, List, [], ◌∷◌, ◌++◌, length, Ok, Err}
+use Rattle.std.proofs.Common.{rules, zero, refl, sym, ap, ◌∙◌, inl, inr, arith, get_or}
+use Rattle.std.specs.List.{list_all, flat_map, AllByRecursion, onto_first, join_with_byte}
 use Rattle.std.specs.Char.{is_ascii_digit}
 use Rattle.std.specs.Fmt.{decimal}
 use Rattle.std.specs.Str.Parse.{digits_value}
@@ -9,7 +9,6 @@ use Rattle.std.proofs.lemmas.Bool.Decides.{nat_tests}
 use Rattle.std.proofs.lemmas.Fmt.{decimal_digit, first_decimal, decimal_nonempty, digits_decimal, digits_value-decimal, decimal-digits_value}
 use Rattle.std.proofs.lemmas.Str.Parse.{IsNumeralModel, numerals_by_value}
 use Rattle.std.proofs.lemmas.List.Splits.{join_with_byte-slice_split}
-use Rattle.hb_text.specs.declared.numbers.NumberFault.{NumberFault}
 use Rattle.hb_text.specs.declared.numbers.NumberFault.TheVariants.{NotANumber, AboveLimit}
 use Rattle.hb_text.specs.Numbers.{is_number, number_read}
 use Rattle.hb_text.specs.Grammar.{lines_of, words_of}
@@ -49,7 +48,7 @@ plain (c ∷ d ∷ rest) e =
 number_from : (ds : List ℕ) → list_all is_ascii_digit ds ≡ true → 0 < length ds → 48 < get_or ds 0 0 → is_number ds ≡ true
 number_from [] digits some high = absurd (omega arith)
 number_from (c ∷ []) digits some high = (both (is_ascii_digit c) true digits).0
-number_from (c ∷ d ∷ rest) digits some high = 
+number_from (c ∷ d ∷ rest) digits some high =
     let first : nat_lt 48 c ≡ true = grind (arith, nat_tests, high) in
     rw (first, digits) refl
 
