@@ -3,4 +3,5 @@ pub mod WordCuts
 pub mod ValueWords
 pub mod LineCuts
 pub mod TextLines
+pub mod TextMemory
 pub mod OutputText

@@ -12,3 +12,4 @@ pub mod ScriptLaws
 pub mod TextLength
 pub mod TextFront
 pub mod OutputLaws
+pub mod TextLaws

@@ -6,6 +6,7 @@
 #![tactic(auto)]
 
 mod commands;
+pub mod laws;
 mod lines;
 mod long_texts;
 mod numbers;

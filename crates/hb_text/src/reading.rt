@@ -1,7 +1,7 @@
 ghost use Rattle.std.specs.Prelude.{◌≡◌, ◌<◌, ◌≤◌, false, [], length, OnOk, IfOk};
 ghost use Rattle.hb_set.specs.Scripts.{IsScriptFor};
 ghost use Rattle.hb_text.specs.Grammar.{line_read, text_read};
-ghost use Rattle.hb_text.specs.Reading.{Reads, AddsLine};
+ghost use Rattle.hb_text.specs.Reading.{Reads, AddsLine, WantsMemory};
 
 use crate::lines::{first_line, read_line};
 use crate::rules::{BadLine, TextError};
@@ -32,11 +32,13 @@ fn add_line(
 }
 
 /// The script that a text says over so many attributes, where no line is a step line; or the first
-/// line that breaks a rule, with the first rule that it breaks.
+/// line that breaks a rule, with the first rule that it breaks. Memory can be refused only where a
+/// command stands before that line.
 pub fn read_commands(alloc: Global, text: &[u8], attributes: u8) -> Result<Script, TextError>
     requires some { 0 < attributes }
     requires few { attributes ≤ KMAX }
     ensures exact { Reads result (text_read false attributes text.now) }
+    ensures memory { WantsMemory result (text_read false attributes text.now) }
     ensures no_steps { IfOk result (λ script. script.steps ≡ []) }
     ensures short { OnOk result (length text.now ≤ 257000000) }
     ensures script { IfOk result (λ script. IsScriptFor attributes script.lines) }
@@ -55,3 +57,6 @@ pub fn read_commands(alloc: Global, text: &[u8], attributes: u8) -> Result<Scrip
         steps: Steps::new(Vec::new(alloc)),
     })
 }
+
+#[cfg(test)]
+mod tests;

@@ -8,6 +8,7 @@ abbrev pub invariant-loop-rest : goal.invariant-loop-rest
 invariant-loop-rest l = record {
   told : after_lines l.lines.items (lines_read false l.attributes 0 l.number (lines_of l.rest)) ≡ text_read false l.attributes l.text;
   number : l.number ≤ 1000001;
+  from : 1 ≤ l.number;
 }
 
 abbrev pub decreases-loop-rest : goal.decreases-loop-rest

@@ -1,0 +1,44 @@
+-- Where memory is refused, a command was read.
+use Rattle.std.proofs.Common.{◌≡◌, ℕ, ◌+◌, ◌≤◌, false, List, [], ◌∷◌, ◌++◌, length, Ok, Err, Result, Some, refl, sym, ap, subst, ◌∙◌, inl, inr, ◌⊎◌, arith}
+use Rattle.std.proofs.lemmas.List.{length-append}
+use Rattle.hb_set.specs.declared.scripts.Line.{Line}
+use Rattle.hb_text.specs.declared.rules.BadLine.{BadLine}
+use Rattle.hb_text.specs.declared.rules.TextRule.{TextRule}
+use Rattle.hb_text.specs.declared.rules.TextError.{TextError}
+use Rattle.hb_text.specs.declared.rules.TextError.TheVariants as errors
+use Rattle.hb_text.specs.Grammar.{◌>>=◌, Said, Reading, at_line, line_read, lines_read, lines_of, text_read}
+use Rattle.hb_text.specs.Reading.{AddsLine, SaysSome, WantsMemory}
+use Rattle.hb_text.proofs.TextLines.{after_lines, line_ok}
+
+bound_err : {A B E : Type 0} (r : Result A E) (f : A → Result B E) (d : E) → (r >>= f) ≡ Err d → (r ≡ Err d) ⊎ ((x : A) × (r ≡ Ok x) × (f x ≡ Err d))
+bound_err (Ok x) f d e = inr (x, refl, e)
+bound_err (Err c) f d e = inl (cc)
+
+at_line_err : (number : ℕ) (read : Result Said TextRule) (bad : BadLine) → at_line number read ≡ Err bad → bad.line ≡ number
+at_line_err number (Ok said) bad e = cc
+at_line_err number (Err rule) bad e =
+    let same : record { line = number; rule = rule } ≡ bad = cc in
+    sym (ap (λ (b : BadLine). b.line) same)
+
+-- no bad line stands before the first that is read
+bad_from : (k taken number : ℕ) (lines : List (List ℕ)) (bad : BadLine) → lines_read false k taken number lines ≡ Err bad → number ≤ bad.line
+unfolding lines_read
+bad_from k taken number [] bad e = cc
+bad_from k taken number (line ∷ lines) bad e = elim (bound_err (at_line number (line_read false k taken number line)) _ bad e) [
+  | inl here ↦ omega (arith, at_line_err number (line_read false k taken number line) bad here)
+  | inr good ↦ elim (bound_err (lines_read false k (taken + length good.0.steps) (number + 1) lines) _ bad good.2) [
+    | inl later ↦ omega (arith, bad_from k (taken + length good.0.steps) (number + 1) lines bad later)
+    | inr none ↦ cc (none.2)
+  ]
+]
+
+after_some : (front : List Line) (said : Line) (number : ℕ) (read : Result Reading BadLine) → 1 ≤ number → ((bad : BadLine) → read ≡ Err bad → number + 1 ≤ bad.line) → SaysSome (after_lines (front ++ said ∷ []) read)
+after_some front said number (Ok more) from later = λ none. absurd (omega (arith, ap length none, length-append (front ++ said ∷ []) more.lines, length-append front (said ∷ [])))
+after_some front said number (Err bad) from later = omega (arith, later bad refl)
+
+pub text_starved : (front new : List Line) (k number : ℕ) (text rest behind line : List ℕ) (error : TextError) → 1 ≤ number → lines_of rest ≡ line ∷ lines_of behind → AddsLine number front new (Err error) (line_read false k 0 number line) → after_lines front (lines_read false k 0 number (lines_of rest)) ≡ text_read false k text → WantsMemory (Err error) (text_read false k text)
+text_starved front new k number text rest behind line (errors.Bad bad) from cut adds told = tt
+text_starved front new k number text rest behind line errors.NoMemory from cut adds told =
+    let read = lines_read false k 0 (number + 1) (lines_of behind) in
+    let is : after_lines front (lines_read false k 0 number (lines_of rest)) ≡ after_lines (front ++ adds.0 ∷ []) read = line_ok front (front ++ adds.0 ∷ []) k number rest behind line (Some adds.0) cut adds.1 refl in
+    subst SaysSome (sym is ∙ told) (after_some front adds.0 number read from (λ bad e. bad_from k 0 (number + 1) (lines_of behind) bad e))

@@ -1,0 +1,35 @@
+//! What follows of the command text from the definitions alone. Each law is the contract of a
+//! function that does nothing: a caller learns it by the call.
+
+ghost use Rattle.std.specs.Prelude.{◌≡◌, ◌≢◌, ◌<◌, ◌^◌, ◌↔◌, ℕ, List, [], ◌∷◌, ◌++◌, length, Ok};
+ghost use Rattle.std.specs.List.{AllByRecursion, join_with_byte};
+ghost use Rattle.std.specs.Fmt.{decimal};
+ghost use Rattle.hb_text.specs.Numbers.{number_read};
+ghost use Rattle.hb_text.specs.Grammar.{lines_of, words_of};
+ghost use Rattle.hb_text.specs.TextLaws.{HasNo, with_line_feeds};
+
+/// A word says a number exactly where it is that number's decimal spelling.
+#[tactic(auto, using(crate::specs::TextLaws::numbers_are_decimal))]
+pub fn numbers_are_decimal()
+    ensures { (word : List ℕ) (n : ℕ) → n < 2 ^ 64 → ((number_read word ≡ Ok n) ↔ (word ≡ decimal n)) }
+{}
+
+/// A text that ends in a line feed is its lines, each with a line feed behind it, and any lines
+/// without a line feed in them come back from such a text. Without its last line feed a text has
+/// the same lines.
+#[tactic(auto, using(crate::specs::TextLaws::lines_give_the_text, crate::specs::TextLaws::lines_come_back, crate::specs::TextLaws::last_feed_is_free, crate::specs::TextLaws::lines_have_no_feed))]
+pub fn lines_make_the_text()
+    ensures whole { (text : List ℕ) → with_line_feeds (lines_of (text ++ 10 ∷ [])) ≡ text ++ 10 ∷ [] }
+    ensures back { (lines : List (List ℕ)) → AllByRecursion (HasNo 10) lines → lines_of (with_line_feeds lines) ≡ lines }
+    ensures last { (text : List ℕ) (c : ℕ) → c ≢ 10 → lines_of (text ++ c ∷ []) ≡ lines_of (text ++ c ∷ 10 ∷ []) }
+    ensures cut { (text : List ℕ) → AllByRecursion (HasNo 10) (lines_of text) }
+{}
+
+/// A line is its words with a space between any two, and any words without a space in them come
+/// back from such a line.
+#[tactic(auto, using(crate::specs::TextLaws::words_give_the_line, crate::specs::TextLaws::words_come_back, crate::specs::TextLaws::words_have_no_space))]
+pub fn words_make_the_line()
+    ensures whole { (line : List ℕ) → join_with_byte 32 (words_of line) ≡ line }
+    ensures back { (words : List (List ℕ)) → 0 < length words → AllByRecursion (HasNo 32) words → words_of (join_with_byte 32 words) ≡ words }
+    ensures cut { (line : List ℕ) → AllByRecursion (HasNo 32) (words_of line) }
+{}
