@@ -1,10 +1,10 @@
 -- Too few words, or too many, are no form.
-use Rattle.std.proofs.Common.{◌≡◌, ℕ, suc, ◌<◌, ◌≤◌, ◌⊎◌, inl, inr, Bool, true, false, cond, ◌&&◌, List, [], ◌∷◌, length, Option, Some, None, refl, arith}
+use Rattle.std.proofs.Common.{◌≡◌, ℕ, ◌<◌, ◌≤◌, ◌⊎◌, inl, inr, Bool, true, false, cond, ◌&&◌, List, [], ◌∷◌, length, Option, Some, None, refl, arith}
 use Rattle.std.specs.Prelude.{nat_le, codes}
 use Rattle.std.specs.Str.{bytes_eq}
 use Rattle.std.proofs.lemmas.Bool.Decides.{nat_tests}
 use Rattle.hbpi.specs.declared.forms.Form.{Form}
-use Rattle.hbpi.specs.declared.forms.Form.TheVariants.{Create, Dry, Run, Drive, Check, Map, Tidy, Gen, Work}
+use Rattle.hbpi.specs.declared.forms.Form.TheVariants.{Dry, Run, Drive, Check, Map, Tidy}
 use Rattle.hbpi.specs.Forms.{◌>>=◌, number_of, attributes_of, line_count_of, create_of, dry_of, gen_of, work_of, alone, form_from, form_of}
 
 pub create_short : (ws : List (List ℕ)) → length ws < 5 → create_of ws ≡ None

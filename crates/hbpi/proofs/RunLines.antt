@@ -1,6 +1,5 @@
 -- Lines that are answered one after the other.
-use Rattle.std.proofs.Common.{◌≡◌, ℕ, suc, ◌+◌, ◌<◌, ◌≤◌, List, [], ◌∷◌, ◌++◌, length, take, get_or, refl, sym, ap, subst, ◌∙◌, arith}
-use Rattle.std.specs.Prelude.{map}
+use Rattle.std.proofs.Common.{◌≡◌, ℕ, ◌+◌, ◌<◌, ◌≤◌, List, [], ◌∷◌, ◌++◌, length, take, get_or, refl, sym, ap, subst, ◌∙◌, arith}
 use Rattle.std.specs.FinMap as finite
 use Rattle.std.proofs.lemmas.List.{take_more, take_all, length-take-le, map-append}
 use Rattle.hb_set.specs.declared.scripts.Line.{Line}
@@ -8,7 +7,7 @@ use Rattle.hb_set.specs.declared.scripts.Answered.{Answered}
 use Rattle.hb_set.specs.declared.commands.Reply.{Reply}
 use Rattle.hb_set.specs.declared.commands.Reply.TheVariants.{NoMemory}
 use Rattle.hb_set.specs.Machine.{RecordSet, Answers, MayWantMemory}
-use Rattle.hb_set.specs.Order.{Ran, IsAnswerTo, entries_of, joined, order_of}
+use Rattle.hb_set.specs.Order.{Ran, entries_of, joined, order_of}
 use Rattle.hb_set.specs.OrderLaws.{ran_grown, entries_of-push, ran_legal}
 use Rattle.hb_set.specs.Scripts.{IsScriptFor}
 use Rattle.hbpi.specs.Outcome.{IsDryRun}

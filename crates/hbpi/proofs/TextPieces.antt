@@ -1,5 +1,5 @@
 -- A text that is read piece by piece.
-use Rattle.std.proofs.Common.{◌≡◌, ℕ, ◌+◌, ◌-◌, ◌<◌, ◌≤◌, ◌⊎◌, inl, inr, List, [], ◌∷◌, ◌++◌, length, take, drop, Option, Some, None, refl, sym, ap, ◌∙◌, arith, subst, ⊎_elim, Bool, true, false, cond, length-append, length-drop, length-take, drop-drop, take-add}
+use Rattle.std.proofs.Common.{◌≡◌, ℕ, ◌+◌, ◌-◌, ◌<◌, ◌≤◌, ◌⊎◌, inl, inr, List, [], ◌++◌, length, take, drop, Option, Some, None, refl, sym, ap, ◌∙◌, arith, subst, ⊎_elim, Bool, true, false, cond, length-append, length-drop, length-take, drop-drop, take-add}
 use Rattle.std.proofs.lemmas.List.{drop_all, take_all, length-take-le}
 use Rattle.hbpi.specs.Taking.{TakesPiece, TakesSoFar, IsAtEnd}
 use Rattle.hbpi.specs.Outcome.{IsTextOf, IsWholeText, greatest_text}

@@ -1,5 +1,5 @@
 -- The words of the program.
-use Rattle.std.specs.Prelude.{ℕ, Bool, true, false, ◌&&◌, nat_le, if◌then◌else◌, List, [], ◌∷◌, codes, Option, Some, None}
+use Rattle.std.specs.Prelude.{ℕ, ◌&&◌, nat_le, if◌then◌else◌, List, [], ◌∷◌, codes, Option, Some, None}
 use Rattle.std.specs.Str.{bytes_eq}
 use Rattle.std.specs.Result.{result_ok}
 use Rattle.hb_space.specs.declared.form.TheConstants.{KMAX}

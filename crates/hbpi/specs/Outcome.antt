@@ -1,5 +1,5 @@
 -- How a run of the program ends, and what it leaves in the source and the sink.
-use Rattle.std.specs.Prelude.{◌≡◌, ℕ, ◌<◌, ◌⊎◌, List, [], ◌∷◌, ◌++◌, length, take, drop, codes, Option, Some, None, true, false}
+use Rattle.std.specs.Prelude.{◌≡◌, ℕ, ◌⊎◌, List, [], ◌++◌, take, drop, codes, Option, Some, None}
 use Rattle.std.specs.FinMap as map
 use Rattle.std.specs.Fmt.{decimal}
 use Rattle.hb_outside.specs.Streams.{Rose, Appends, AppendsFront}
@@ -7,7 +7,6 @@ use Rattle.hb_set.specs.Machine.{RecordSet}
 use Rattle.hb_set.specs.Order.{IsLegalOrder, entries_of, order_of, Ran}
 use Rattle.hb_set.specs.declared.scripts.Line.{Line}
 use Rattle.hb_set.specs.declared.scripts.Answered.{Answered}
-use Rattle.hb_text.specs.declared.rules.BadLine.{BadLine}
 use Rattle.hb_text.specs.declared.rules.TextRule.{TextRule}
 use Rattle.hb_text.specs.declared.rules.TextRule.TheVariants.{TooMany, LongLine, BadByte, BadSpacing, BadStep, BadSession, BadVerb, BadCount, BadNumber, TooLarge, EmptyBox, BadBody}
 use Rattle.hbpi.specs.declared.statuses.Status.{Status}

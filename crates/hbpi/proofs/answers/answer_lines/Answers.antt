@@ -1,13 +1,7 @@
-use Rattle.std.proofs.Common.{◌≡◌, ℕ, ◌≤◌, ◌∙◌, sym, ap, subst, arith, length, take, length-append}
-use Rattle.std.specs.FinMap as finite
-use Rattle.std.proofs.lemmas.List.{take_all}
-use Rattle.hb_set.specs.Machine.{HasAttributes, attributes}
-use Rattle.hb_set.specs.Order.{Ran, entries_of, order_of}
-use Rattle.hb_set.specs.Scripts.{IsScriptFor, line_attributes, script_is_short}
-use Rattle.hb_set.specs.OrderLaws.{ran_legal}
+use Rattle.std.proofs.Common.{ℕ, sym, ap, subst, arith, length, length-append}
+use Rattle.hb_set.specs.Machine.{HasAttributes}
+use Rattle.hb_set.specs.Scripts.{line_attributes, script_is_short}
 use Rattle.hb_set.specs.declared.scripts.Answered.{Answered}
-use Rattle.hb_text.specs.Output.{answer_text}
-use Rattle.hbpi.specs.Ends.{HasPut}
 use Rattle.hbpi.proofs.PutTexts.{has_put_none, has_put_more, answer_texts}
 use Rattle.hbpi.proofs.RunLines.{ran_more, order_more, run_is_dry}
 use Rattle.hbpi.proofs.answers.answer_lines.Goals as goal

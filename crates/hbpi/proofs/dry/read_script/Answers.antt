@@ -1,4 +1,4 @@
-use Rattle.std.proofs.Common.{◌≡◌, Ok, ◌∙◌, ap}
+use Rattle.std.proofs.Common.{Ok, ◌∙◌, ap}
 use Rattle.hbpi.proofs.TextPieces.{short_is_whole}
 use Rattle.hbpi.proofs.dry.read_script.Goals as goal
 

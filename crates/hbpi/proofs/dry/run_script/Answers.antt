@@ -1,4 +1,3 @@
-use Rattle.std.proofs.Common.{◌≡◌}
 use Rattle.hbpi.proofs.PutTexts.{finished_run}
 use Rattle.hbpi.proofs.dry.run_script.Goals as goal
 

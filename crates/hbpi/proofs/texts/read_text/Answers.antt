@@ -1,5 +1,4 @@
-use Rattle.std.proofs.Common.{◌≡◌, ◌≤◌, inl, inr, arith, length, Bool, true, false, cond}
-use Rattle.std.proofs.lemmas.Bool.Decides.{nat_tests}
+use Rattle.std.proofs.Common.{inl, inr, arith, length}
 use Rattle.hbpi.proofs.TextPieces.{piece_joins, text_whole, turns_fall}
 use Rattle.hbpi.proofs.texts.read_text.Goals as goal
 use Rattle.hbpi.proofs.texts.read_text.Goals.{then-loop-more-test+else-len-lt-GREATEST, else-loop-more-test}
