@@ -2,7 +2,15 @@
 //!
 //! The one contract: `read_commands` gives the script that the text says, or the first line that
 //! breaks a rule with the first rule that it breaks, as the grammar in `specs/Grammar.antt` has it;
-//! `put_reply` and `put_order` write the lines of `specs/Output.antt`.
+//! want of memory is its answer only where a command stands before that line. `read_number` gives
+//! the number that a word says, and tells a word that is none from a number that is too large.
+//! `put_reply`, `put_left` and `put_order` write the lines of an answer, of a line that has none,
+//! and of the order, as `specs/Output.antt` has them: all of them, or the front that a failing sink
+//! took. The functions of `laws` say what follows from the grammar alone: numbers are decimal
+//! spellings, lines and words make the text that they were cut from.
+//!
+//! Invariants: a line that is read has a number from 1 to 1,000,000 and a session from 1 to 16, its
+//! command has as many attributes as were asked for, and lines stand in the order of their numbers.
 #![tactic(auto)]
 
 mod commands;
