@@ -126,10 +126,13 @@ rise_take (h ∷ hs) (suc n) r = and_from _ _ (below_take h.value.key hs n (and_
 agree_first : (x y : ℕ) (ps qs ls : List ℕ) → point_cmp (x ∷ ps) (y ∷ qs) ≡ Less → point_cmp (y ∷ qs) (x ∷ ls) ≡ Less → (point_cmp ps qs ≡ Less) × (point_cmp qs ls ≡ Less)
 agree_first x y ps qs ls after before = by_ranked (x < y) (x ≡ y) (y < x) (nat_cmp x y) (ranked x y _ refl)
     (λ o lt. absurd (omega (arith, first_values_rise (y ∷ qs) (x ∷ ls) before)))
-    (λ o same. (subst (λ (r : Ordering). ordering_then r (point_cmp ps qs) ≡ Less) o after, by_ranked (y < x) (y ≡ x) (x < y) (nat_cmp y x) (ranked y x _ refl)
-      (λ u lt. absurd (omega arith))
-      (λ u alike. subst (λ (r : Ordering). ordering_then r (point_cmp qs ls) ≡ Less) u before)
-      (λ u gt. absurd (omega arith))))
+    (λ o same. (
+      subst (λ (r : Ordering). ordering_then r (point_cmp ps qs) ≡ Less) o after,
+      by_ranked (y < x) (y ≡ x) (x < y) (nat_cmp y x) (ranked y x _ refl)
+          (λ u lt. absurd (omega arith))
+          (λ u alike. subst (λ (r : Ordering). ordering_then r (point_cmp qs ls) ≡ Less) u before)
+          (λ u gt. absurd (omega arith)),
+    ))
     (λ o gt. absurd (omega (arith, first_values_rise (x ∷ ps) (y ∷ qs) after)))
 
 -- no point comes after itself as nothing
@@ -161,15 +164,17 @@ outside_greatest (suc a) m (l ∷ ls) (h ∷ hs) (x ∷ ps) (y ∷ qs) lt above 
     let rest = agree_first x y ps qs (take a ps ++ m ∷ []) after before in
     and_right _ _ (outside_greatest a m ls hs ps qs (omega arith) (omega arith) rest.0 rest.1)
 
--- so the records behind p and before a limit like these are not held
-pub filter_limit : (a : Area) (p limit : List ℕ) (hs : List (Box Record Global)) (n : ℕ) → n ≤ length hs
+-- so the records behind p and before a limit like these are not held, as far as one looked
+pub filter_limit : (a : Area) (p limit : List ℕ) (hs : List (Box Record Global)) (m n : ℕ) → n ≤ m → m ≤ length hs
     → ((q : List ℕ) → point_cmp p q ≡ Less → point_cmp q limit ≡ Less → holds a q ≡ false)
     → All (λ h. point_cmp p h.value.key ≡ Less) hs
-    → AllWithin (λ h. is_lt (point_cmp h.value.key limit) ≡ true) hs 0 n
+    → AllWithin (λ h. is_lt (point_cmp h.value.key limit) ≡ true) (take m hs) 0 n
     → filter (λ r. holds a r.key) (records_behind (drop n hs)) ≡ filter (λ r. holds a r.key) (records_behind hs)
-filter_limit a p limit hs n le skips behind below = filter_rest (λ r. holds a r.key) hs n (λ k d lt.
+filter_limit a p limit hs m n near le skips behind below = filter_rest (λ r. holds a r.key) hs n (λ k d lt.
     let within : k < n = omega (arith, simp length-take at lt) in
-    rw get_or-take (skips (get_or hs k d).value.key (behind k d (omega arith)) (less_so _ (below k d (omega arith) within))))
+    let looked_at : k < m = omega arith in
+    let under : is_lt (point_cmp (get_or (take m hs) k d).value.key limit) ≡ true = below k d (omega arith) within in
+    rw get_or-take (skips (get_or hs k d).value.key (behind k d (omega arith)) (less_so _ (rw get_or-take at under))))
 
 -- what holds of records holds of those behind the first
 pub rise_tail : (hs later : List (Box Record Global)) (h : Box Record Global) → hs ≡ h ∷ later → PointsRise hs → PointsRise later

@@ -21,7 +21,11 @@ pub(crate) fn copied(source: &Record) -> Record
 }
 
 // Copies of the records that the box holds, in their order.
-pub(crate) fn held_by(alloc: Global, records: &[Box<Record>], area: &Area) -> Result<Vec<Record>, NoMemory>
+pub(crate) fn held_by(
+    alloc: Global,
+    records: &[Box<Record>],
+    area: &Area,
+) -> Result<Vec<Record>, NoMemory>
     requires rise { PointsRise records.now }
     requires attributes { KeysHave (length area.now.lo) records.now }
     ensures { IfOk result (λ held. held.items ≡ filter (λ r. holds area.now r.key) (records_behind records.now)) }
@@ -69,8 +73,21 @@ fn past_outside<'a>(outside: &Point, later: &'a [Box<Record>], area: &Area) -> &
     let Some(limit) = limit_behind(outside, area) else {
         return later;
     };
-    let count = later.partition_point(|handle| handle.key.values().cmp(limit.as_slice()).is_lt());
+    let near = &later[..reach(later, limit.as_slice())];
+    let count = near.partition_point(|handle| handle.key.values().cmp(limit.as_slice()).is_lt());
     &later[count..]
+}
+
+// How many records to look through for the first at the limit or above it: twice as many again and
+// again, until the last of them is not below it.
+fn reach(records: &[Box<Record>], limit: &[u64]) -> usize
+    ensures { result ≤ length records.now }
+{
+    let mut count = 1;
+    while count < records.len() && records[count - 1].key.values().cmp(limit).is_lt() {
+        count *= 2;
+    }
+    count.min(records.len())
 }
 
 // Where the box may go on behind a point outside it: no point between the two is in the box.

@@ -1,4 +1,4 @@
-use Rattle.std.proofs.Common.{◌≡◌, ◌∙◌, List, ℕ, ◌<◌, ◌++◌, ◌∷◌, [], take, drop, get_or, subst, sym, ap}
+use Rattle.std.proofs.Common.{◌≡◌, ◌∙◌, List, ℕ, subst}
 use Rattle.std.specs.declared.cmp.Ordering.TheVariants.{Less}
 use Rattle.hb_space.specs.Points.{point_cmp}
 use Rattle.hb_set.proofs.Windows.{outside_least, outside_greatest, rest_is}
