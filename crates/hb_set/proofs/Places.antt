@@ -26,7 +26,7 @@ turned : (p q : List ℕ) (o : Ordering) → point_cmp p q ≡ o → point_cmp q
 turned p q o h = nat_list_cmp_total.antisymm q p ∙ ap ordering_reverse h
 
 -- a point below all others is below each of them
-below_at : (p : List ℕ) (hs : List (Box Record Global)) (i : ℕ) (d : Box Record Global) → below_all point_cmp p (entries_behind hs) ≡ true → i < length hs → point_cmp p (get_or hs i d).value.key ≡ Less
+pub below_at : (p : List ℕ) (hs : List (Box Record Global)) (i : ℕ) (d : Box Record Global) → below_all point_cmp p (entries_behind hs) ≡ true → i < length hs → point_cmp p (get_or hs i d).value.key ≡ Less
 below_at p [] i d b lt = absurd (omega arith)
 below_at p (h ∷ hs) zero d b lt = less_so _ (and_parts _ _ b).0
 below_at p (h ∷ hs) (suc i) d b lt = below_at p hs i d (and_parts _ _ b).1 (omega arith)

@@ -1,20 +1,21 @@
 -- Which records a box may hold, by the order of points: those between two places.
-use Rattle.std.proofs.Common.{◌≡◌, ℕ, zero, suc, ◌+◌, ◌-◌, ◌<◌, ◌≤◌, Bool, true, false, cond, List, [], ◌∷◌, ◌++◌, length, get_or, take, drop, filter, Box, All, leb, refl, sym, ap, subst, ◌∙◌, inl, inr, arith, get_or-take, get_or-drop, length-take, length-drop}
+use Rattle.std.proofs.Common.{◌≡◌, ℕ, zero, suc, ◌+◌, ◌-◌, ◌<◌, ◌≤◌, Bool, true, false, cond, List, [], ◌∷◌, ◌++◌, length, get_or, take, drop, filter, append_assoc, Box, All, leb, refl, sym, ap, subst, ◌∙◌, inl, inr, arith, get_or-take, get_or-drop, length-take, length-drop}
 use Rattle.std.specs.List.{AllWithin}
 use Rattle.std.specs.List.Sorted.{IsPartitionedBy, IsPartitionPoint}
+use Rattle.std.specs.FinMap.Entries.{below_all}
 use Rattle.std.specs.Ordering.{is_lt, nat_cmp, ordering_then}
 use Rattle.std.specs.declared.alloc.Global.{Global}
 use Rattle.std.specs.declared.cmp.Ordering.{Ordering}
 use Rattle.std.specs.declared.cmp.Ordering.TheVariants.{Less}
 use Rattle.std.proofs.lemmas.Cmp.{nat_list_cmp_total, ranked, by_ranked}
-use Rattle.std.proofs.lemmas.Bool.{false≢true, cases_lt, lt-leb, le-leb, leb-true, leb-false, and_parts, and_left, and_right}
+use Rattle.std.proofs.lemmas.Bool.{false≢true, cases_lt, lt-leb, le-leb, leb-true, leb-false, and_parts, and_left, and_right, and_from}
 use Rattle.std.proofs.lemmas.List.{take-append-drop, take_all, map-append, append-nil}
 use Rattle.std.proofs.lemmas.List.Elements.{filter-append}
 use Rattle.hb_space.specs.Points.{point_cmp}
 use Rattle.hb_space.specs.Boxes.{Area, is_between, holds}
 use Rattle.hb_space.specs.declared.records.Record.{Record}
-use Rattle.hb_set.specs.Kept.{records_behind, PointsRise}
-use Rattle.hb_set.proofs.Places.{rise_at, less_so}
+use Rattle.hb_set.specs.Kept.{records_behind, entries_behind, PointsRise, KeysHave}
+use Rattle.hb_set.proofs.Places.{rise_at, below_at, less_so}
 
 -- a point below the lower corner is not held
 pub outside_below : (lo hi p : List ℕ) → point_cmp p lo ≡ Less → is_between lo hi p ≡ false
@@ -97,8 +98,8 @@ none_above a hs n le above k d lt =
     rw get_or-drop (outside_above a.lo a.hi (get_or hs (n + k) d).value.key (leb-false _ _ (above (n + k) d (omega arith) within)))
 
 -- what `hs[m..]` is
-pub rest_is : (hs : List (Box Record Global)) (m : ℕ) → take (length hs - m) (drop m hs) ≡ drop m hs
-rest_is hs m = take_all (length hs - m) (drop m hs) (omega (arith, length-drop m hs))
+pub rest_is : {T : Type 0} (xs : List T) (m : ℕ) → take (length xs - m) (drop m xs) ≡ drop m xs
+rest_is xs m = take_all (length xs - m) (drop m xs) (omega (arith, length-drop m xs))
 
 -- so the records between the two places are all that the box may hold
 pub filter_window : (a : Area) (hs rest : List (Box Record Global)) (m n : ℕ) → rest ≡ drop m hs → m ≤ length hs → n ≤ length rest
@@ -109,3 +110,86 @@ filter_window a hs rest m n is mle nle below above =
     filter_front (λ r. holds a r.key) rest n (none_above a rest n nle above.1)
     ∙ ap (λ (xs : List (Box Record Global)). filter (λ r. holds a r.key) (records_behind xs)) is
     ∙ filter_rest (λ r. holds a r.key) hs m (none_below a hs m mle below.0)
+
+-- what is below all of them is below each part of them
+below_take : (p : List ℕ) (hs : List (Box Record Global)) (n : ℕ) → below_all point_cmp p (entries_behind hs) ≡ true → below_all point_cmp p (entries_behind (take n hs)) ≡ true
+below_take p hs zero b = refl
+below_take p [] (suc n) b = refl
+below_take p (h ∷ hs) (suc n) b = and_from _ _ (and_parts _ _ b).0 (below_take p hs n (and_parts _ _ b).1)
+
+pub rise_take : (hs : List (Box Record Global)) (n : ℕ) → PointsRise hs → PointsRise (take n hs)
+rise_take hs zero r = refl
+rise_take [] (suc n) r = refl
+rise_take (h ∷ hs) (suc n) r = and_from _ _ (below_take h.value.key hs n (and_parts _ _ r).0) (rise_take hs n (and_parts _ _ r).1)
+
+-- a point between one and another that starts with the same value starts with it too
+agree_first : (x y : ℕ) (ps qs ls : List ℕ) → point_cmp (x ∷ ps) (y ∷ qs) ≡ Less → point_cmp (y ∷ qs) (x ∷ ls) ≡ Less → (point_cmp ps qs ≡ Less) × (point_cmp qs ls ≡ Less)
+agree_first x y ps qs ls after before = by_ranked (x < y) (x ≡ y) (y < x) (nat_cmp x y) (ranked x y _ refl)
+    (λ o lt. absurd (omega (arith, first_values_rise (y ∷ qs) (x ∷ ls) before)))
+    (λ o same. (
+      subst (λ (r : Ordering). ordering_then r (point_cmp ps qs) ≡ Less) o after,
+      by_ranked (y < x) (y ≡ x) (x < y) (nat_cmp y x) (ranked y x _ refl)
+          (λ u lt. absurd (omega arith))
+          (λ u alike. subst (λ (r : Ordering). ordering_then r (point_cmp qs ls) ≡ Less) u before)
+          (λ u gt. absurd (omega arith)),
+    ))
+    (λ o gt. absurd (omega (arith, first_values_rise (x ∷ ps) (y ∷ qs) after)))
+
+-- no point comes after itself as nothing
+no_end : (p : List ℕ) → point_cmp p [] ≡ Less → ⊥
+no_end [] h = false≢true (ap is_lt h)
+no_end (x ∷ xs) h = false≢true (ap is_lt h)
+
+-- No point of the box lies between p and what agrees with p before an attribute and goes on as the lower corner does.
+pub outside_least : (a : ℕ) (lo hi p q : List ℕ) → a < length p → point_cmp p q ≡ Less → point_cmp q (take a p ++ drop a lo) ≡ Less → is_between lo hi q ≡ false
+outside_least zero lo hi p q lt after before = outside_below lo hi q before
+outside_least (suc a) lo hi [] q lt after before = absurd (omega arith)
+outside_least (suc a) lo hi (x ∷ ps) [] lt after before = absurd (no_end (x ∷ ps) after)
+outside_least (suc a) [] [] (x ∷ ps) (y ∷ qs) lt after before = refl
+outside_least (suc a) [] (h ∷ hs) (x ∷ ps) (y ∷ qs) lt after before = refl
+outside_least (suc a) (l ∷ ls) [] (x ∷ ps) (y ∷ qs) lt after before = refl
+outside_least (suc a) (l ∷ ls) (h ∷ hs) (x ∷ ps) (y ∷ qs) lt after before =
+    let rest = agree_first x y ps qs (take a ps ++ drop a ls) after before in
+    and_right _ _ (outside_least a ls hs ps qs (omega arith) rest.0 rest.1)
+
+-- Nor between p, whose value there is above the greatest one, and what agrees with p before the attribute.
+pub outside_greatest : (a m : ℕ) (lo hi p q : List ℕ) → a < length p → get_or hi a 0 < get_or p a 0 → point_cmp p q ≡ Less → point_cmp q (take a p ++ m ∷ []) ≡ Less → is_between lo hi q ≡ false
+outside_greatest zero m lo hi p q lt above after before = outside_above lo hi q (omega (arith, first_values_rise p q after))
+outside_greatest (suc a) m lo hi [] q lt above after before = absurd (omega arith)
+outside_greatest (suc a) m lo hi (x ∷ ps) [] lt above after before = absurd (no_end (x ∷ ps) after)
+outside_greatest (suc a) m [] [] (x ∷ ps) (y ∷ qs) lt above after before = refl
+outside_greatest (suc a) m [] (h ∷ hs) (x ∷ ps) (y ∷ qs) lt above after before = refl
+outside_greatest (suc a) m (l ∷ ls) [] (x ∷ ps) (y ∷ qs) lt above after before = refl
+outside_greatest (suc a) m (l ∷ ls) (h ∷ hs) (x ∷ ps) (y ∷ qs) lt above after before =
+    let rest = agree_first x y ps qs (take a ps ++ m ∷ []) after before in
+    and_right _ _ (outside_greatest a m ls hs ps qs (omega arith) (omega arith) rest.0 rest.1)
+
+-- so the records behind p and before a limit like these are not held, as far as one looked
+pub filter_limit : (a : Area) (p limit : List ℕ) (hs : List (Box Record Global)) (m n : ℕ) → n ≤ m → m ≤ length hs
+    → ((q : List ℕ) → point_cmp p q ≡ Less → point_cmp q limit ≡ Less → holds a q ≡ false)
+    → All (λ h. point_cmp p h.value.key ≡ Less) hs
+    → AllWithin (λ h. is_lt (point_cmp h.value.key limit) ≡ true) (take m hs) 0 n
+    → filter (λ r. holds a r.key) (records_behind (drop n hs)) ≡ filter (λ r. holds a r.key) (records_behind hs)
+filter_limit a p limit hs m n near le skips behind below = filter_rest (λ r. holds a r.key) hs n (λ k d lt.
+    let within : k < n = omega (arith, simp length-take at lt) in
+    let looked_at : k < m = omega arith in
+    let under : is_lt (point_cmp (get_or (take m hs) k d).value.key limit) ≡ true = below k d (omega arith) within in
+    rw get_or-take (skips (get_or hs k d).value.key (behind k d (omega arith)) (less_so _ (rw get_or-take at under))))
+
+-- what holds of records holds of those behind the first
+pub rise_tail : (hs later : List (Box Record Global)) (h : Box Record Global) → hs ≡ h ∷ later → PointsRise hs → PointsRise later
+rise_tail hs later h is r = (and_parts _ _ (subst PointsRise is r)).1
+
+pub keys_tail : (k : ℕ) (hs later : List (Box Record Global)) (h : Box Record Global) → hs ≡ h ∷ later → KeysHave k hs → KeysHave k later
+keys_tail k hs later h is all i d lt = subst (KeysHave k) is all (suc i) d (omega arith)
+
+-- and the first point is below the others
+pub first_below : (hs later : List (Box Record Global)) (h : Box Record Global) → hs ≡ h ∷ later → PointsRise hs → All (λ x. point_cmp h.value.key x.value.key ≡ Less) later
+first_below hs later h is r k d lt = below_at h.value.key later k d (and_parts _ _ (subst PointsRise is r)).0 lt
+
+-- a record that the box holds goes from the rest to those that are held
+pub held_more : (a : Area) (held : List Record) (hs later : List (Box Record Global)) (h : Box Record Global) → hs ≡ h ∷ later → holds a h.value.key ≡ true
+    → (held ++ h.value ∷ []) ++ filter (λ r. holds a r.key) (records_behind later) ≡ held ++ filter (λ r. holds a r.key) (records_behind hs)
+held_more a held hs later h is in_box =
+    append_assoc held (h.value ∷ []) (filter (λ r. holds a r.key) (records_behind later))
+    ∙ ap (λ rs. held ++ rs) (sym (ap (λ xs. filter (λ r. holds a r.key) (records_behind xs)) is ∙ ap (λ b. cond b (h.value ∷ filter (λ r. holds a r.key) (records_behind later)) (filter (λ r. holds a r.key) (records_behind later))) in_box))

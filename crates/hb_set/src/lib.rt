@@ -13,6 +13,7 @@
 mod commands;
 pub mod laws;
 mod scripts;
+mod search;
 mod set;
 #[cfg(test)]
 mod tests;

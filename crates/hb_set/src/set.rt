@@ -1,9 +1,9 @@
-ghost use Rattle.std.specs.Prelude.{◌≡◌, ◌≢◌, ◌==◌, ℕ, length, filter, None, IfOk, IfErr};
+ghost use Rattle.std.specs.Prelude.{◌≡◌, ◌≢◌, ◌==◌, ℕ, length, None, IfOk, IfErr};
 ghost use Rattle.std.specs.FinMap as map;
-ghost use Rattle.hb_space.specs.Boxes.{holds};
 ghost use Rattle.hb_set.specs.Machine.{Answers, HasAttributes, MayWantMemory, attributes, reply_of};
-ghost use Rattle.hb_set.specs.Kept.{records_behind, PointsRise, KeysHave, IsAt, IsGapFor};
+ghost use Rattle.hb_set.specs.Kept.{PointsRise, IsAt, IsGapFor};
 
+use crate::search::{copied, held_by};
 use crate::{Command, Reply};
 use hb_space::{Area, Body, NoMemory, Point, Record, Records};
 use std::alloc::Global;
@@ -12,7 +12,8 @@ use std::marker::Model;
 /// A set of records: at most one for each point.
 ///
 /// A lookup is a binary search, and an insert and a delete move the handles of the later records.
-/// A search goes over the records whose first value lies between the box's least and greatest one.
+/// A search goes over the records whose first value lies between the box's least and greatest one,
+/// and from a record outside the box leaps over those that lie outside for the same reason.
 #[derive(Debug, Drop)]
 pub struct Set {
     records: Vec<Box<Record>>,
@@ -135,44 +136,4 @@ fn place_of(records: &[Box<Record>], point: &Point) -> Result<usize, usize>
     ensures absent { IfErr result (IsGapFor records.now point.now) }
 {
     records.binary_search_by(|handle| handle.key.cmp(point))
-}
-
-// A second record of the same point and body.
-fn copied(source: &Record) -> Record
-    ensures { result ≡ source.now }
-{
-    Record {
-        key: Point::new(source.key.values()),
-        body: Body::new(source.body.bytes()),
-    }
-}
-
-// Copies of the records that the box holds, in their order.
-fn held_by(alloc: Global, records: &[Box<Record>], area: &Area) -> Result<Vec<Record>, NoMemory>
-    requires rise { PointsRise records.now }
-    requires attributes { KeysHave (length area.now.lo) records.now }
-    ensures { IfOk result (λ held. held.items ≡ filter (λ r. holds area.now r.key) (records_behind records.now)) }
-{
-    let mut held = Vec::new(alloc);
-    for record in window(records, area) {
-        if area.holds(&record.key) {
-            held.push(copied(record))?;
-        }
-    }
-    Ok(held)
-}
-
-// The records among which those of the box stand: from the first whose point is not below the
-// lower corner, up to the last whose first value is not above the greatest one.
-fn window<'a>(records: &'a [Box<Record>], area: &Area) -> &'a [Box<Record>]
-    requires rise { PointsRise records.now }
-    requires attributes { KeysHave (length area.now.lo) records.now }
-    ensures held { filter (λ r. holds area.now r.key) (records_behind result.now) ≡ filter (λ r. holds area.now r.key) (records_behind records.now) }
-    ensures attributes { KeysHave (length area.now.lo) result.now }
-{
-    let start = records.partition_point(|handle| handle.key.cmp(area.lo()).is_lt());
-    let rest = &records[start..];
-    let greatest = area.hi().values()[0];
-    let count = rest.partition_point(|handle| handle.key.values()[0] <= greatest);
-    &rest[..count]
 }
