@@ -17,7 +17,7 @@ mod search;
 mod set;
 #[cfg(test)]
 mod tests;
-pub mod threads;
+mod threads;
 
 pub use commands::{Command, Reply};
 pub use scripts::{Answered, Line, Lines, Script, Steps};

@@ -1,9 +1,11 @@
 //! The types of this crate may go to another thread, and be read by several.
 
+ghost use Rattle.std.specs.Thread.{IsSend, IsSync};
+
 use crate::{Answered, Command, Line, Lines, Reply, Script, Set, Steps};
 
-/// Each type of the crate may go to another thread, and be read by several.
-pub fn types_cross_threads() {
+/// Each type of the crate does.
+fn types_cross_threads() {
     crosses::<Command>();
     crosses::<Reply>();
     crosses::<Line>();
@@ -14,4 +16,8 @@ pub fn types_cross_threads() {
     crosses::<Set>();
 }
 
-fn crosses<T: Send + Sync>() {}
+/// Values of the type may go to another thread, and be read by several.
+fn crosses<T: Send + Sync>()
+    ensures sent { IsSend T.row }
+    ensures read_by_several { IsSync T.row }
+{}

@@ -9,7 +9,7 @@ use Rattle.hb_text.specs.declared.rules.TextRule.{TextRule}
 use Rattle.hb_text.specs.declared.rules.BadLine.{BadLine}
 use Rattle.hb_text.specs.Grammar.{Said, Reading}
 
--- The script is what the text says, and the bad line the first that breaks a rule. Want of memory has no cause.
+-- The script is what the text says, and the bad line the first that breaks a rule. `WantsMemory` bounds want of memory.
 abbrev pub Reads : Result Script TextError → Result Reading BadLine → Type 0
 Reads (Ok script) read = read ≡ Ok (record { lines = script.lines; steps = script.steps })
 Reads (Err (errors.Bad bad)) read = read ≡ Err bad
@@ -21,7 +21,7 @@ AddsLine number old new (Ok done) read = (line : Option Line) × (read ≡ Ok (r
 AddsLine number old new (Err (errors.Bad bad)) read = (bad.line ≡ number) × (read ≡ Err bad.rule)
 AddsLine number old new (Err errors.NoMemory) read = (line : Line) × (read ≡ Ok (record { line = Some line; steps = [] }))
 
--- A command is read before the first bad line: the text says one, or its first line isn't the bad one.
+-- A command may be read before the first bad line: the text says one, or its first line isn't the bad one.
 abbrev pub SaysSome : Result Reading BadLine → Type 0
 SaysSome (Ok reading) = reading.lines ≢ []
 SaysSome (Err bad) = 1 < bad.line

@@ -43,7 +43,7 @@ fn bad_text_line(bad: &BadLine) -> ArrayVec<u8, 64>
     line
 }
 
-/// Puts the line of a fault. True where the sink failed in it.
+/// Puts the line of a fault. Where the sink fails in it, nobody can be told.
 fn put_line<K: Sink>(sink: &mut K, line: &[u8])
     ensures line { GetsLine (K.written sink.old) (K.written sink.new) (K.faults sink.old) (K.faults sink.new) line.now }
     ensures later { K.faults sink.old ≤ K.faults sink.new }
