@@ -1,5 +1,5 @@
 -- Where memory is refused, a command was read.
-use Rattle.std.proofs.Common.{◌≡◌, ℕ, ◌+◌, ◌≤◌, false, List, [], ◌∷◌, ◌++◌, length, Ok, Err, Result, Some, refl, sym, ap, subst, ◌∙◌, inl, inr, ◌⊎◌, arith}
+use Rattle.std.proofs.Common.{◌≡◌, ℕ, ◌+◌, ◌<◌, ◌≤◌, false, List, [], ◌∷◌, ◌++◌, length, Ok, Err, Result, Some, refl, sym, ap, subst, ◌∙◌, inl, inr, ◌⊎◌, arith, append_assoc, IfErr}
 use Rattle.std.proofs.lemmas.List.{length-append}
 use Rattle.hb_set.specs.declared.scripts.Line.{Line}
 use Rattle.hb_text.specs.declared.rules.BadLine.{BadLine}
@@ -7,7 +7,7 @@ use Rattle.hb_text.specs.declared.rules.TextRule.{TextRule}
 use Rattle.hb_text.specs.declared.rules.TextError.{TextError}
 use Rattle.hb_text.specs.declared.rules.TextError.TheVariants as errors
 use Rattle.hb_text.specs.Grammar.{◌>>=◌, Said, Reading, at_line, line_read, lines_read, lines_of, text_read}
-use Rattle.hb_text.specs.Reading.{AddsLine, SaysSome, WantsMemory}
+use Rattle.hb_text.specs.Reading.{AddsLine, WantsMemory}
 use Rattle.hb_text.proofs.TextLines.{after_lines, line_ok}
 
 bound_err : {A B E : Type 0} (r : Result A E) (f : A → Result B E) (d : E) → (r >>= f) ≡ Err d → (r ≡ Err d) ⊎ ((x : A) × (r ≡ Ok x) × (f x ≡ Err d))
@@ -32,13 +32,31 @@ bad_from k taken number (line ∷ lines) bad e = elim (bound_err (at_line number
   ]
 ]
 
-after_some : (front : List Line) (said : Line) (number : ℕ) (read : Result Reading BadLine) → 1 ≤ number → ((bad : BadLine) → read ≡ Err bad → number + 1 ≤ bad.line) → SaysSome (after_lines (front ++ said ∷ []) read)
-after_some front said number (Ok more) from later = λ none. absurd (omega (arith, ap length none, length-append (front ++ said ∷ []) more.lines, length-append front (said ∷ [])))
-after_some front said number (Err bad) from later = omega (arith, later bad refl)
+after_some : (front : List Line) (number : ℕ) (read : Result Reading BadLine) → ((bad : BadLine) → read ≡ Err bad → number + 1 ≤ bad.line) → IfErr (after_lines front read) (λ bad. number < bad.line)
+after_some front number (Ok more) later = tt
+after_some front number (Err bad) later = omega (arith, later bad refl)
 
-pub text_starved : (front new : List Line) (k number : ℕ) (text rest behind line : List ℕ) (error : TextError) → 1 ≤ number → lines_of rest ≡ line ∷ lines_of behind → AddsLine number front new (Err error) (line_read false k 0 number line) → after_lines front (lines_read false k 0 number (lines_of rest)) ≡ text_read false k text → WantsMemory (Err error) (text_read false k text)
-text_starved front new k number text rest behind line (errors.Bad bad) from cut adds told = tt
-text_starved front new k number text rest behind line errors.NoMemory from cut adds told =
+-- The lines in front of the number-th one, and the rest of the text, are all its lines.
+abbrev pub Behind : List ℕ → ℕ → List ℕ → Type 0
+Behind text number rest = (front : List (List ℕ)) × (lines_of text ≡ front ++ lines_of rest) × (length front + 1 ≡ number)
+
+pub behind_start : (text : List ℕ) → Behind text 1 text
+behind_start text = ([], refl, refl)
+
+pub behind_next : (text rest behind line : List ℕ) (number : ℕ) → lines_of rest ≡ line ∷ lines_of behind → Behind text number rest → Behind text (number + 1) behind
+behind_next text rest behind line number cut (front, all, count) = (front ++ line ∷ [], all ∙ ap (λ ls. front ++ ls) cut ∙ sym (append_assoc front (line ∷ []) (lines_of behind)), omega (arith, count, length-append front (line ∷ [])))
+
+pub text_starved : (front new : List Line) (k number : ℕ) (text rest behind line : List ℕ) (error : TextError) → Behind text number rest → lines_of rest ≡ line ∷ lines_of behind → AddsLine number front new (Err error) (line_read false k 0 number line) → after_lines front (lines_read false k 0 number (lines_of rest)) ≡ text_read false k text → WantsMemory k text (Err error)
+text_starved front new k number text rest behind line (errors.Bad bad) before cut adds told = tt
+text_starved front new k number text rest behind line errors.NoMemory (lines, all, count) cut adds told =
     let read = lines_read false k 0 (number + 1) (lines_of behind) in
     let is : after_lines front (lines_read false k 0 number (lines_of rest)) ≡ after_lines (front ++ adds.0 ∷ []) read = line_ok front (front ++ adds.0 ∷ []) k number rest behind line (Some adds.0) cut adds.1 refl in
-    subst SaysSome (sym is ∙ told) (after_some front adds.0 number read from (λ bad e. bad_from k 0 (number + 1) (lines_of behind) bad e))
+    record {
+      front = lines;
+      line = line;
+      behind = lines_of behind;
+      said = adds.0;
+      parts = all ∙ ap (λ ls. lines ++ ls) cut;
+      reads = subst (λ n. line_read false k 0 n line ≡ Ok (record { line = Some adds.0; steps = [] })) (sym count) adds.1;
+      first_bad = subst (λ r. IfErr r (λ bad. length lines + 1 < bad.line)) (sym is ∙ told) (subst (λ n. IfErr (after_lines (front ++ adds.0 ∷ []) read) (λ bad. n < bad.line)) (sym count) (after_some (front ++ adds.0 ∷ []) number read (λ bad e. bad_from k 0 (number + 1) (lines_of behind) bad e)));
+    }

@@ -1,5 +1,5 @@
 -- What a call on a text answers.
-use Rattle.std.specs.Prelude.{◌≡◌, ◌≢◌, ◌<◌, ℕ, List, [], ◌++◌, Option, Some, Result, Ok, Err}
+use Rattle.std.specs.Prelude.{◌≡◌, ℕ, ◌+◌, ◌<◌, false, List, [], ◌∷◌, ◌++◌, length, Option, Some, Result, Ok, Err, IfErr}
 use Rattle.std.specs.Option.{option_to_list}
 use Rattle.hb_set.specs.declared.scripts.Line.{Line}
 use Rattle.hb_set.specs.declared.scripts.Script.{Script}
@@ -7,7 +7,7 @@ use Rattle.hb_text.specs.declared.rules.TextError.{TextError}
 use Rattle.hb_text.specs.declared.rules.TextError.TheVariants as errors
 use Rattle.hb_text.specs.declared.rules.TextRule.{TextRule}
 use Rattle.hb_text.specs.declared.rules.BadLine.{BadLine}
-use Rattle.hb_text.specs.Grammar.{Said, Reading}
+use Rattle.hb_text.specs.Grammar.{Said, Reading, line_read, lines_of, text_read}
 
 -- The script is what the text says, and the bad line the first that breaks a rule. `WantsMemory` bounds want of memory.
 abbrev pub Reads : Result Script TextError → Result Reading BadLine → Type 0
@@ -21,13 +21,18 @@ AddsLine number old new (Ok done) read = (line : Option Line) × (read ≡ Ok (r
 AddsLine number old new (Err (errors.Bad bad)) read = (bad.line ≡ number) × (read ≡ Err bad.rule)
 AddsLine number old new (Err errors.NoMemory) read = (line : Line) × (read ≡ Ok (record { line = Some line; steps = [] }))
 
--- A command may be read before the first bad line: the text says one, or its first line isn't the bad one.
-abbrev pub SaysSome : Result Reading BadLine → Type 0
-SaysSome (Ok reading) = reading.lines ≢ []
-SaysSome (Err bad) = 1 < bad.line
+-- A line of the text says a command, and the first bad line, if there is one, stands behind it.
+pub record SaysSome (k : ℕ) (text : List ℕ) : Type 0 where
+  pub front : List (List ℕ)
+  pub line : List ℕ
+  pub behind : List (List ℕ)
+  pub said : Line
+  pub parts : lines_of text ≡ front ++ line ∷ behind
+  pub reads : line_read false k 0 (length front + 1) line ≡ Ok (record { line = Some said; steps = [] })
+  pub first_bad : IfErr (text_read false k text) (λ bad. length front + 1 < bad.line)
 
 -- Memory is wanted for a command alone.
-abbrev pub WantsMemory : Result Script TextError → Result Reading BadLine → Type 0
-WantsMemory (Ok script) read = Unit {0}
-WantsMemory (Err (errors.Bad bad)) read = Unit {0}
-WantsMemory (Err errors.NoMemory) read = SaysSome read
+abbrev pub WantsMemory : ℕ → List ℕ → Result Script TextError → Type 0
+WantsMemory k text (Ok script) = Unit {0}
+WantsMemory k text (Err (errors.Bad bad)) = Unit {0}
+WantsMemory k text (Err errors.NoMemory) = SaysSome k text

@@ -32,13 +32,13 @@ fn add_line(
 }
 
 /// The script that a text says over so many attributes, where no line is a step line; or the first
-/// line that breaks a rule, with the first rule that it breaks. Memory can be refused only where the
-/// text says a command, or where a line stands before that line.
+/// line that breaks a rule, with the first rule that it breaks. Memory can be refused only where a
+/// command stands before that line.
 pub fn read_commands(alloc: Global, text: &[u8], attributes: u8) -> Result<Script, TextError>
     requires some { 0 < attributes }
     requires few { attributes ≤ KMAX }
     ensures exact { Reads result (text_read false attributes text.now) }
-    ensures memory { WantsMemory result (text_read false attributes text.now) }
+    ensures memory { WantsMemory attributes text.now result }
     ensures no_steps { IfOk result (λ script. script.steps ≡ []) }
     ensures short { OnOk result (length text.now ≤ 257000000) }
     ensures script { IfOk result (λ script. IsScriptFor attributes script.lines) }
