@@ -70,7 +70,10 @@ fn past_outside<'a>(outside: &Point, later: &'a [Box<Record>], area: &Area) -> &
     ensures rise { PointsRise result.now }
     ensures fewer { length result.now ≤ length later.now }
 {
-    let Some(limit) = limit_behind(outside, area) else {
+    let Some(next) = later.first() else {
+        return later;
+    };
+    let Some(limit) = limit_behind(outside, &next.key, area) else {
         return later;
     };
     let near = &later[..reach(later, limit.as_slice())];
@@ -90,9 +93,11 @@ fn reach(records: &[Box<Record>], limit: &[u64]) -> usize
     count.min(records.len())
 }
 
-// Where the box may go on behind a point outside it: no point between the two is in the box.
-fn limit_behind(outside: &Point, area: &Area) -> Option<ArrayVec<u64, KMAX>>
-    requires { length outside.now ≡ length area.now.lo }
+// Where the box may go on behind a point outside it: no point between the two is in the box. None
+// where the next point lies behind that already.
+fn limit_behind(outside: &Point, next: &Point, area: &Area) -> Option<ArrayVec<u64, KMAX>>
+    requires same { length outside.now ≡ length area.now.lo }
+    requires next { length next.now ≡ length area.now.lo }
     ensures { IfSome result (λ limit. (q : List ℕ) → point_cmp outside.now q ≡ Less → point_cmp q limit.items ≡ Less → holds area.now q ≡ false) }
 {
     let values = outside.values();
@@ -104,6 +109,9 @@ fn limit_behind(outside: &Point, area: &Area) -> Option<ArrayVec<u64, KMAX>>
         }
         if greatest[axis] < *value {
             return Some(joined(&values[..axis], &[u64::MAX]));
+        }
+        if next.values()[axis] != *value {
+            return None;
         }
     }
     None
