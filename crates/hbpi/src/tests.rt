@@ -1,5 +1,7 @@
 //! Runs of the program over memory, as tables of words, text and what is left of it.
 
+mod plain_list;
+
 use crate::top::top;
 use hb_outside::{MemSink, MemSource};
 use std::alloc::Global;
@@ -137,6 +139,23 @@ fn refuses_words(rt: HostRuntime) {
         "work 1 1000001",
         "work 01 1",
         "work 1 1 1",
+        "run run",
+        "dry dry 1",
+        "dry 18446744073709551615",
+        "dry 18446744073709551616",
+        "create 01 64 65536 6 32",
+        "create 1 064 65536 6 32",
+        "create 1 64 065536 6 32",
+        "create 1 64 65536 06 32",
+        "create 1 64 65536 6 032",
+        "create create 1 64 65536 6 32",
+        "gen 01 1 1",
+        "gen 1 01 1",
+        "gen 1 1 01",
+        "gen 1 18446744073709551616 1",
+        "work 1 01",
+        "work 18446744073709551616 1",
+        "work",
     ];
     for words in usage {
         let got = plain(rt.alloc(), words, "x").expect(&rt, "memory");
@@ -179,8 +198,25 @@ fn faults_in_turn(rt: HostRuntime) {
         let got = outcome(rt.alloc(), "dry 1", text, reads, writes).expect(&rt, "memory");
         assert_eq!(rt; got.as_str(), want);
     }
-    let usage = outcome(rt.alloc(), "dry", text, &[0], &[0]).expect(&rt, "memory");
-    assert_eq!(rt; usage.as_str(), "2 ");
-    let bad = outcome(rt.alloc(), "dry 2", text, &[], &[0]).expect(&rt, "memory");
-    assert_eq!(rt; bad.as_str(), "3 ");
+}
+
+#[test]
+fn faults_over_each_text(rt: HostRuntime) {
+    let bad = "1 lookup 01\n";
+    let rows: [(&str, &str, &[u64], &[u64], &str); 10] = [
+        ("dry 1", "", &[0], &[], "4 source fault\n"),
+        ("dry 1", "", &[], &[0], "5 "),
+        ("dry 1", bad, &[], &[], "3 bad text 1 BadNumber\n"),
+        ("dry 1", bad, &[0], &[], "4 source fault\n"),
+        ("dry 1", bad, &[1], &[], "4 source fault\n"),
+        ("dry 1", bad, &[], &[0], "3 "),
+        ("dry 1", bad, &[0], &[0], "4 "),
+        ("dry", bad, &[0], &[0], "2 "),
+        ("run", bad, &[0], &[], "11 not built\n"),
+        ("run", bad, &[0], &[0], "11 "),
+    ];
+    for (words, text, reads, writes, want) in rows {
+        let got = outcome(rt.alloc(), words, text.as_bytes(), reads, writes).expect(&rt, "memory");
+        assert_eq!(rt; got.as_str(), want);
+    }
 }

@@ -1,0 +1,123 @@
+//! `dry` compared with a plain list of records, over generated texts of two attributes.
+
+use super::plain;
+use std::alloc::Global;
+use std::test::Fail;
+
+/// A record of the plain list: its two values and its body.
+type Plain = (u64, u64, char);
+
+/// A text, and what a run over a plain list of records gives for it.
+#[derive(Drop)]
+struct Case {
+    alloc: Global,
+    records: Vec<Plain>,
+    text: String,
+    want: String,
+}
+
+impl Case {
+    fn insert(&mut self, line: u32, one: Plain) -> Result<(), Fail> {
+        write!(self.text, "1 insert {} {} ={}\n", one.0, one.1, one.2)?;
+        match found(&self.records, one) {
+            Some(_) => write!(self.want, "{line} duplicate\n")?,
+            None => {
+                self.records.push(one)?;
+                write!(self.want, "{line} ok\n")?;
+            }
+        }
+        Ok(())
+    }
+
+    fn delete(&mut self, line: u32, one: Plain) -> Result<(), Fail> {
+        write!(self.text, "2 delete {} {}\n", one.0, one.1)?;
+        match found(&self.records, one) {
+            Some(_) => write!(self.want, "{line} ok\n")?,
+            None => write!(self.want, "{line} absent\n")?,
+        }
+        self.records
+            .retain(|each| each.0 != one.0 || each.1 != one.1);
+        Ok(())
+    }
+
+    fn lookup(&mut self, line: u32, one: Plain) -> Result<(), Fail> {
+        write!(self.text, "3 lookup {} {}\n", one.0, one.1)?;
+        match found(&self.records, one) {
+            Some(there) => write!(self.want, "{line} found ={}\n", there.2)?,
+            None => write!(self.want, "{line} none\n")?,
+        }
+        Ok(())
+    }
+
+    fn search(&mut self, line: u32, lo: Plain, hi: (u64, u64)) -> Result<(), Fail> {
+        write!(self.text, "4 search {} {} {} {}\n", lo.0, hi.0, lo.1, hi.1)?;
+        let mut held = Vec::new(self.alloc);
+        for each in &self.records {
+            if lo.0 <= each.0 && each.0 <= hi.0 && lo.1 <= each.1 && each.1 <= hi.1 {
+                held.push(*each)?;
+            }
+        }
+        held.sort()?;
+        write!(self.want, "{line} box {}\n", held.len())?;
+        for each in &held {
+            write!(self.want, "+ {} {} ={}\n", each.0, each.1, each.2)?;
+        }
+        Ok(())
+    }
+}
+
+/// The record at the point of another.
+fn found(records: &[Plain], one: Plain) -> Option<Plain> {
+    records
+        .iter()
+        .find(|each| each.0 == one.0 && each.1 == one.1)
+        .copied()
+}
+
+/// A number of 0 to 7.
+fn drawn(seed: &mut u64) -> u64 {
+    *seed = seed
+        .wrapping_mul(6364136223846793005)
+        .wrapping_add(1442695040888963407);
+    *seed >> 61
+}
+
+/// A line for each letter, drawn from the seed.
+fn drawn_case(alloc: Global, seed: u64) -> Result<Case, Fail> {
+    let mut seed = seed;
+    let mut line = 0;
+    let mut case = Case {
+        alloc,
+        records: Vec::new(alloc),
+        text: String::new(alloc),
+        want: String::from_str(alloc, "0 ")?,
+    };
+    let mut order = String::from_str(alloc, "order")?;
+    for body in "abcdefghijklmnopqrstuvwxyzABCDEFGHIJKLMNOPQRSTUVWXYZ0123456789".chars() {
+        line += 1;
+        let one = (drawn(&mut seed), drawn(&mut seed), body);
+        match drawn(&mut seed) {
+            0 | 1 | 2 | 3 => case.insert(line, one)?,
+            4 => case.delete(line, one)?,
+            5 => case.lookup(line, one)?,
+            _ => {
+                let hi = (one.0.max(drawn(&mut seed)), one.1.max(drawn(&mut seed)));
+                case.search(line, one, hi)?;
+            }
+        }
+        write!(order, " {line}")?;
+    }
+    write!(case.want, "{order}\n")?;
+    Ok(case)
+}
+
+#[test]
+fn answers_as_a_plain_list(rt: HostRuntime) -> Result<(), Fail> {
+    let alloc = rt.alloc();
+    for seed in [1, 2, 3, 5, 8, 13, 21, 34] {
+        let case = drawn_case(alloc, seed)?;
+        let got = plain(alloc, "dry 2", case.text.as_str()).ok_or("no memory")?;
+        assert_eq!(rt; got.as_str(), case.want.as_str(), "{}", case.text);
+    }
+    Ok(())
+}
