@@ -94,7 +94,7 @@ fn drawn_case(alloc: Global, seed: u64) -> Result<Case, Fail> {
     };
     let mut order = String::from_str(alloc, "order")?;
     for body in "abcdefghijklmnopqrstuvwxyzABCDEFGHIJKLMNOPQRSTUVWXYZ0123456789".chars() {
-        line += 1;
+        line = u32::wrapping_add(line, 1);
         let one = (drawn(&mut seed), drawn(&mut seed), body);
         match drawn(&mut seed) {
             0 | 1 | 2 | 3 => case.insert(line, one)?,
