@@ -1,0 +1,59 @@
+-- What each call does to a disk, by the disk model.
+use Rattle.std.specs.Prelude.{◌≡◌, ◌⊎◌, ℕ, ◌+◌, ◌<◌, ◌≤◌, List, ◌∷◌, length, take, drop, get_or, Option, Some, None, IfSome, IsSome, Result, IsErr, OnOk, OnErr}
+use Rattle.hb_outside.specs.Streams.{Rose}
+use Rattle.hb_disk.specs.Model.{DiskModel, last_value, overwritten, Torn, Elapses, Stays}
+
+-- A write, zero or sync is one tick of the clock, whether it fails or not. Where the clock stands at its last value
+-- the call fails and changes nothing.
+pub record Ticks {T E : Type 0} (result : Result T E) (old new : DiskModel) : Type 0 where
+  pub tick : IsSome old.told → old.clock < last_value → new.clock ≡ old.clock + 1
+  pub later : old.clock ≤ new.clock
+  pub ended : IsSome old.told → old.clock ≡ last_value → IsErr result × Stays old new
+  pub time : Elapses old new
+  pub size : new.size ≡ old.size
+
+-- The fault of a write, zero or sync: no count falls, and a failure has raised the count of failed writes.
+pub record WriteFaults {T E : Type 0} (result : Result T E) (old new : DiskModel) : Type 0 where
+  pub cause : OnErr result (Rose old.write_faults new.write_faults)
+  pub later : old.write_faults ≤ new.write_faults
+  pub reads : new.read_faults ≡ old.read_faults
+
+-- Writing a piece at a place. A crash may leave any bytes in the range, until a sync; and where the call failed, the
+-- range may read as any bytes.
+pub record Writes {T E : Type 0} (at : ℕ) (piece : List ℕ) (result : Result T E) (old new : DiskModel) : Type 0 where
+  pub written : OnOk result (IfSome old.told (λ b. new.told ≡ Some (overwritten b at piece)))
+  pub tried : OnErr result (IfSome old.told (λ b. (c : List ℕ) × (new.told ≡ Some c) × Torn at (length piece) b c))
+  pub silent : old.told ≡ None → new.told ≡ None
+  pub crash : (c : List ℕ) → new.Image c → (b : List ℕ) × old.Image b × Torn at (length piece) b c
+
+-- A sync. After it a crash leaves what a read gives, and nothing else.
+pub record Syncs {T E : Type 0} (result : Result T E) (old new : DiskModel) : Type 0 where
+  pub same : new.told ≡ old.told
+  pub durable : OnOk result (IfSome old.told (λ b. (c : List ℕ) → new.Image c → c ≡ b))
+  pub crash : (c : List ℕ) → new.Image c → old.Image c
+
+-- A read gives the told bytes of the range.
+abbrev pub Reads : ℕ → List ℕ → DiskModel → Type 0
+Reads at into old = IfSome old.told (λ b. into ≡ take (length into) (drop at b))
+
+-- The fault of a read: no count falls, and a failure has raised the count of failed reads.
+pub record ReadFaults {T E : Type 0} (result : Result T E) (old new : DiskModel) : Type 0 where
+  pub cause : OnErr result (Rose old.read_faults new.read_faults)
+  pub later : old.read_faults ≤ new.read_faults
+  pub writes : new.write_faults ≡ old.write_faults
+
+-- Every image of a moment since old, up to now, has P. The last field is for a run that began before.
+pub record Leaves (old new : DiskModel) (P : List ℕ → Type 0) : Type 0 where
+  pub later : old.clock ≤ new.clock
+  pub each : (c : List ℕ) → new.ImageSince old.clock c → P c
+  pub before : (t : ℕ) (c : List ℕ) → t ≤ old.clock → new.ImageSince t c → old.ImageSince t c ⊎ P c
+
+-- The bytes at the place have a closed gate there: a byte other than the open one.
+abbrev pub is_open : List ℕ → ℕ → Type 0
+is_open bytes at = get_or bytes at 0 ≡ 165
+
+-- One list of bytes is another with a frame at the place, whole behind its open gate, or with a gate that is closed.
+-- Outside the frame's range they are the same.
+pub record FrameOrNot (at : ℕ) (body : List ℕ) (before after : List ℕ) : Type 0 where
+  pub elsewhere : Torn at (1 + length body) before after
+  pub whole : get_or after at 0 ≡ 165 → after ≡ overwritten before at (165 ∷ body)

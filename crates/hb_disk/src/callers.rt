@@ -1,0 +1,30 @@
+ghost use Rattle.std.specs.Prelude.{◌≡◌, ◌≢◌, ℕ, ◌+◌, ◌<◌, ◌≤◌, List, ◌∷◌, Some, length, get_or, IsSome, IfSome, OnOk};
+ghost use Rattle.hb_disk.specs.Model.{overwritten};
+ghost use Rattle.hb_disk.specs.Calls.{Leaves, FrameOrNot, WriteFaults};
+
+use crate::Disk;
+use hb_outside::Failed;
+
+/// The byte of an open gate.
+pub const OPEN: u8 = 0xA5;
+
+/// Writes the body behind a closed gate, syncs, opens the gate, and syncs.
+///
+/// Each image of a moment inside has the frame whole, or a closed gate in its place.
+pub fn write_behind_gate<D: Disk>(disk: &mut D, gate: u64, body: &[u8]) -> Result<(), Failed>
+    requires inside { gate + 1 + length body.now ≤ (D.model disk.old).size }
+    requires closed { IsSome (D.model disk.old).told →
+        (c : List ℕ) → (D.model disk.old).Image c → get_or c gate 0 ≢ 165 }
+    ensures written { OnOk result (IfSome (D.model disk.old).told
+        (λ b. (D.model disk.new).told ≡ Some (overwritten b gate (165 ∷ body.now)))) }
+    ensures durable { OnOk result (IfSome (D.model disk.new).told
+        (λ b. (c : List ℕ) → (D.model disk.new).Image c → c ≡ b)) }
+    ensures moments { IsSome (D.model disk.old).told → Leaves (D.model disk.old) (D.model disk.new)
+        (λ c. (b : List ℕ) × (D.model disk.old).Image b × FrameOrNot gate body.now b c) }
+    ensures faults { WriteFaults result (D.model disk.old) (D.model disk.new) }
+{
+    disk.write(gate + 1, body)?;
+    disk.sync()?;
+    disk.write(gate, &[OPEN])?;
+    disk.sync()
+}

@@ -1,0 +1,8 @@
+//! A disk as calls with places, and what a crash may leave of it.
+#![tactic(auto)]
+
+mod callers;
+mod traits;
+
+pub use callers::{OPEN, write_behind_gate};
+pub use traits::Disk;

@@ -1,0 +1,51 @@
+ghost use Rattle.std.specs.Prelude.{◌≡◌, ℕ, ◌+◌, ◌<◌, ◌≤◌, List, replicate, length, IsSome, OnOk};
+ghost use Rattle.hb_disk.specs.Model.{DiskModel, IsDisk, Stays};
+ghost use Rattle.hb_disk.specs.Calls.{Ticks, WriteFaults, Writes, Syncs, Reads, ReadFaults};
+
+use hb_outside::Failed;
+
+/// A disk: a fixed number of bytes, with calls that may fail and that a crash may cut short.
+///
+/// A call with a place wants its range to lie within the disk.
+pub trait Disk {
+    /// The disk as contracts see it.
+    ghost model: { Self → DiskModel };
+
+    /// How many bytes it has. No call changes it.
+    fn size(&self) -> u64
+        ensures { result ≡ (model self.now).size };
+
+    /// The clock where the disk tells, and any number where it doesn't.
+    fn clock(&self) -> u64
+        ensures { IsSome (model self.now).told → result ≡ (model self.now).clock };
+
+    /// Fills `into` with the bytes from the place on. After `Failed` it holds any bytes.
+    fn read(&mut self, at: u64, into: &mut [u8]) -> Result<(), Failed>
+        requires { at + length into.old ≤ (model self.old).size }
+        ensures bytes { OnOk result (Reads at into.new (model self.old)) }
+        ensures stays { Stays (model self.old) (model self.new) }
+        ensures faults { ReadFaults result (model self.old) (model self.new) };
+
+    /// Puts the bytes at the place.
+    fn write(&mut self, at: u64, from: &[u8]) -> Result<(), Failed>
+        requires { at + length from.now ≤ (model self.old).size }
+        ensures writes { Writes at from.now result (model self.old) (model self.new) }
+        ensures ticks { Ticks result (model self.old) (model self.new) }
+        ensures faults { WriteFaults result (model self.old) (model self.new) };
+
+    /// Puts `len` zero bytes at the place, as one range.
+    fn zero(&mut self, at: u64, len: u64) -> Result<(), Failed>
+        requires { at + len ≤ (model self.old).size }
+        ensures writes { Writes at (replicate len 0) result (model self.old) (model self.new) }
+        ensures ticks { Ticks result (model self.old) (model self.new) }
+        ensures faults { WriteFaults result (model self.old) (model self.new) };
+
+    /// Makes all that was written last: after it a crash leaves what a read gives.
+    fn sync(&mut self) -> Result<(), Failed>
+        ensures syncs { Syncs result (model self.old) (model self.new) }
+        ensures ticks { Ticks result (model self.old) (model self.new) }
+        ensures faults { WriteFaults result (model self.old) (model self.new) };
+
+    /// What holds of the disk at all times.
+    ghost is_disk: { (disk : Self) → IsDisk (model disk) };
+}
