@@ -48,12 +48,26 @@ pub record Leaves (old new : DiskModel) (P : List ℕ → Type 0) : Type 0 where
   pub each : (c : List ℕ) → new.ImageSince old.clock c → P c
   pub before : (t : ℕ) (c : List ℕ) → t ≤ old.clock → new.ImageSince t c → old.ImageSince t c ⊎ P c
 
--- The bytes at the place have a closed gate there: a byte other than the open one.
-abbrev pub is_open : List ℕ → ℕ → Type 0
-is_open bytes at = get_or bytes at 0 ≡ 165
+-- the byte of an open gate; a gate that has any other byte is closed
+abbrev pub open_gate : ℕ
+open_gate = 165
 
 -- One list of bytes is another with a frame at the place, whole behind its open gate, or with a gate that is closed.
 -- Outside the frame's range they are the same.
 pub record FrameOrNot (at : ℕ) (body : List ℕ) (before after : List ℕ) : Type 0 where
   pub elsewhere : Torn at (1 + length body) before after
-  pub whole : get_or after at 0 ≡ 165 → after ≡ overwritten before at (165 ∷ body)
+  pub whole : get_or after at 0 ≡ open_gate → after ≡ overwritten before at (open_gate ∷ body)
+
+-- One list of bytes is another after two pieces in order, the second begun only where the first stands: the first
+-- range is torn and nothing else, or the first piece stands whole and the second range is torn. A torn range may hold
+-- what stood there before, or the piece whole.
+abbrev pub InOrder : ℕ → List ℕ → ℕ → List ℕ → List ℕ → List ℕ → Type 0
+InOrder first a second b before after = Torn first (length a) before after ⊎ Torn second (length b) (overwritten before first a) after
+
+-- two ranges that share no place
+abbrev pub Apart : ℕ → ℕ → ℕ → ℕ → Type 0
+Apart at n from m = (at + n ≤ from) ⊎ (from + m ≤ at)
+
+-- In a range a crash now leaves what a read gives, where the disk tells.
+pub record IsSynced (d : DiskModel) (at n : ℕ) : Type 0 where
+  pub each : (b c : List ℕ) → d.told ≡ Some b → d.Image c → take n (drop at c) ≡ take n (drop at b)

@@ -1,2 +1,4 @@
 pub mod Model
 pub mod Calls
+pub mod TornLaws
+pub mod RunLaws

@@ -1,6 +1,6 @@
 ghost use Rattle.std.specs.Prelude.{◌≡◌, ◌≢◌, ℕ, ◌+◌, ◌<◌, ◌≤◌, List, ◌∷◌, Some, length, get_or, IsSome, IfSome, OnOk};
 ghost use Rattle.hb_disk.specs.Model.{overwritten};
-ghost use Rattle.hb_disk.specs.Calls.{Leaves, FrameOrNot, WriteFaults};
+ghost use Rattle.hb_disk.specs.Calls.{Leaves, FrameOrNot, WriteFaults, open_gate};
 
 use crate::Disk;
 use hb_outside::Failed;
@@ -14,9 +14,9 @@ pub const OPEN: u8 = 0xA5;
 pub fn write_behind_gate<D: Disk>(disk: &mut D, gate: u64, body: &[u8]) -> Result<(), Failed>
     requires inside { gate + 1 + length body.now ≤ (D.model disk.old).size }
     requires closed { IsSome (D.model disk.old).told →
-        (c : List ℕ) → (D.model disk.old).Image c → get_or c gate 0 ≢ 165 }
+        (c : List ℕ) → (D.model disk.old).Image c → get_or c gate 0 ≢ open_gate }
     ensures written { OnOk result (IfSome (D.model disk.old).told
-        (λ b. (D.model disk.new).told ≡ Some (overwritten b gate (165 ∷ body.now)))) }
+        (λ b. (D.model disk.new).told ≡ Some (overwritten b gate (open_gate ∷ body.now)))) }
     ensures durable { OnOk result (IfSome (D.model disk.new).told
         (λ b. (c : List ℕ) → (D.model disk.new).Image c → c ≡ b)) }
     ensures moments { IsSome (D.model disk.old).told → Leaves (D.model disk.old) (D.model disk.new)

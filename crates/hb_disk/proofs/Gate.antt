@@ -1,0 +1,88 @@
+-- What a crash leaves in each step of a write behind a gate.
+use Rattle.std.proofs.Common.{◌≡◌, ◌≢◌, inl, inr, ⊎_elim, ℕ, ◌+◌, ◌-◌, ◌<◌, ◌≤◌, List, [], ◌∷◌, length, get_or, Some, Result, Ok, OnOk, refl, sym, ap, ◌∙◌, subst, arith}
+use Rattle.std.proofs.lemmas.Bool.{cases_lt, cases_order}
+use Rattle.std.proofs.lemmas.List.{ext_get_or}
+use Rattle.hb_disk.specs.Model.{DiskModel, IsDisk, overwritten, Torn}
+use Rattle.hb_disk.specs.Calls.{Ticks, Writes, Syncs, Leaves, FrameOrNot, open_gate}
+use Rattle.hb_disk.specs.TornLaws.{cases_range, Torn-from, Torn-same, Torn-wider, Torn-twice, length-overwritten, overwritten-outside, overwritten-from, overwritten-joined}
+use Rattle.hb_disk.specs.RunLaws.{told_written, only_told, Leaves-start, Leaves-call}
+
+module _ (old : DiskModel) (gate : ℕ) (body : List ℕ) where
+  -- an image of before, with the frame whole or a closed gate in its place
+  abbrev pub Framed : List ℕ → Type 0
+  Framed c = (b : List ℕ) × old.Image b × FrameOrNot gate body b c
+
+  module _ (b : List ℕ) (told : old.told ≡ Some b) (disk : IsDisk old) (inside : gate + 1 + length body ≤ old.size)
+    (closed : (c : List ℕ) → old.Image c → get_or c gate 0 ≢ open_gate) where
+    fits : gate + 1 + length body ≤ length b
+    fits = omega (arith, disk.long b (disk.as_read b told))
+
+    -- nothing was written yet
+    pub same_framed : (c : List ℕ) → old.Image c → Framed c
+    same_framed c image = (c, image, record {
+      elsewhere = Torn-from gate (1 + length body) c c refl (disk.bytes c image) (λ i h outside. refl);
+      whole = λ is_open. absurd (closed c image is_open);
+    })
+
+    -- the body is torn behind the closed gate
+    pub body_framed : (a c : List ℕ) → old.Image a → Torn (gate + 1) (length body) a c → Framed c
+    body_framed a c image torn = (a, image, record {
+      elsewhere = Torn-wider (gate + 1) (length body) gate (1 + length body) a c (omega arith) (omega arith) torn;
+      whole = λ is_open. absurd (closed a image (sym (Torn-same (gate + 1) (length body) a c torn gate (inl (omega arith))) ∙ is_open));
+    })
+
+    -- the bytes with the body behind the closed gate
+    abbrev staged : List ℕ
+    staged = overwritten b (gate + 1) body
+
+    -- where the gate is torn open the frame is whole
+    pub opened : (c : List ℕ) → Torn gate 1 staged c → get_or c gate 0 ≡ open_gate → c ≡ overwritten b gate (open_gate ∷ body)
+    opened c torn is_open =
+        overwritten-from staged gate (open_gate ∷ []) (omega (arith, fits, length-overwritten b (gate + 1) body fits)) c torn (λ i h. at_gate c is_open i h)
+        ∙ overwritten-joined b gate (open_gate ∷ []) body fits
+      where
+        at_gate : (c : List ℕ) → get_or c gate 0 ≡ open_gate → (i : ℕ) → i < 1 → get_or c (gate + i) 0 ≡ get_or (open_gate ∷ []) i 0
+        at_gate c is_open i h =
+            let first : i ≡ 0 = omega arith in
+            let here : gate + i ≡ gate = omega arith in
+            ap (λ (j : ℕ). get_or c j 0) here ∙ is_open ∙ ap (λ (j : ℕ). get_or (open_gate ∷ []) j 0) (sym first)
+
+    pub gate_framed : (c : List ℕ) → Torn gate 1 staged c → Framed c
+    gate_framed c torn = (b, disk.as_read b told, record {
+      elsewhere = Torn-from gate (1 + length body) b c (torn.as_long ∙ length-overwritten b (gate + 1) body fits) torn.bytes (λ i h outside.
+          Torn-same gate 1 staged c torn i (elim outside [ inl front ↦ inl front | inr behind ↦ inr (omega arith) ])
+          ∙ overwritten-outside b (gate + 1) body fits i (elim outside [ inl front ↦ inl (omega arith) | inr behind ↦ inr (omega arith) ]));
+      whole = opened c torn;
+    })
+
+    module _ {T E : Type 0} (first : Result T E) (one : DiskModel) (body_written : Writes (gate + 1) body first old one) (body_ticks : Ticks first old one) where
+      pub run_one : Leaves old one Framed
+      run_one = Leaves-call first old old one Framed (Leaves-start old Framed disk same_framed) body_ticks
+          (λ c image. let from = body_written.crash c image in body_framed from.0 c from.1 from.2)
+
+      module _ (second : Result T E) (two : DiskModel) (body_synced : Syncs second one two) (sync_ticks : Ticks second one two) where
+        pub run_two : Leaves old two Framed
+        run_two = Leaves-call second old one two Framed run_one sync_ticks
+            (λ c image. let from = body_written.crash c (body_synced.crash c image) in body_framed from.0 c from.1 from.2)
+
+        module _ (v w : T) (first_ok : first ≡ Ok v) (second_ok : second ≡ Ok w) (third : Result T E) (three : DiskModel) (gate_written : Writes gate (open_gate ∷ []) third two three) (gate_ticks : Ticks third two three) where
+          staged_told : two.told ≡ Some staged
+          staged_told = body_synced.same ∙ told_written first v (gate + 1) body old one b first_ok told body_written
+
+          three_framed : (c : List ℕ) → three.Image c → Framed c
+          three_framed c image =
+              let from = gate_written.crash c image in
+              let is : from.0 ≡ staged = only_told second w one two staged second_ok (told_written first v (gate + 1) body old one b first_ok told body_written) body_synced from.0 from.1 in
+              gate_framed c (subst (λ (l : List ℕ). Torn gate 1 l c) is from.2)
+
+          pub run_three : Leaves old three Framed
+          run_three = Leaves-call third old two three Framed run_two gate_ticks three_framed
+
+          module _ (last : Result T E) (new : DiskModel) (gate_synced : Syncs last three new) (last_ticks : Ticks last three new) where
+            pub run_four : Leaves old new Framed
+            run_four = Leaves-call last old three new Framed run_three last_ticks (λ c image. three_framed c (gate_synced.crash c image))
+
+            pub new_told : (u : T) → third ≡ Ok u → new.told ≡ Some (overwritten b gate (open_gate ∷ body))
+            new_told u third_ok =
+                gate_synced.same ∙ told_written third u gate (open_gate ∷ []) two three staged third_ok staged_told gate_written
+                ∙ ap Some (overwritten-joined b gate (open_gate ∷ []) body fits)
