@@ -2,7 +2,9 @@
 #![tactic(auto)]
 
 mod callers;
+mod faults;
 mod traits;
 
 pub use callers::{OPEN, write_behind_gate};
+pub use faults::DiskFault;
 pub use traits::Disk;

@@ -1,0 +1,13 @@
+use Rattle.std.proofs.Common.{◌≡◌, ap, arith}
+use Rattle.hb_wal.specs.Log.{LogState, pending_bytes}
+use Rattle.hb_wal.specs.Kept.{seen_as}
+use Rattle.hb_wal.proofs.Kept.{pending-seen, total_fits}
+use Rattle.hb_wal.proofs.log.Wal.pending.Goals as goal
+
+pub overflow_cast-result : goal.overflow_cast-result
+overflow_cast-result c = omega (arith, c.len.ensures, c.self.inside.bytes.ok.0, c.self.invariant.bytes_len, total_fits c.self.inside c.self.invariant)
+
+pub returns : goal.returns
+returns c =
+    let same : pending_bytes (seen_as c.self.inside).groups ≡ pending_bytes c.args.self.now.groups = ap (λ (s : LogState). pending_bytes s.groups) c.self.view_is in
+    omega (arith, c.len.ensures, c.self.inside.bytes.ok.0, c.self.invariant.bytes_len, pending-seen c.self.inside c.self.invariant, same)

@@ -1,0 +1,35 @@
+-- What a force finds and leaves on the disk.
+use Rattle.std.specs.Prelude.{◌≡◌, ◌⊎◌, ℕ, ◌+◌, ◌-◌, ◌<◌, List, [], ◌∷◌, ◌++◌, length, replicate, All, IfSome}
+use Rattle.hb_disk.specs.Model.{DiskModel, Torn}
+use Rattle.hb_disk.specs.Calls.{IsSynced}
+use Rattle.hb_wal.specs.Frames.{frames, IsPayload, HasFrames, range}
+use Rattle.hb_wal.specs.Log.{Waiting, LogState}
+
+-- The disk has this log, where it tells: the area is synced, the written bytes are frames of these payloads, and the
+-- rest of the area reads as zeros.
+pub record HasLog (d : DiskModel) (log : LogState) (payloads : List (List ℕ)) : Type 0 where
+  pub synced : IsSynced d log.area log.len
+  pub payloads_fit : All IsPayload payloads
+  pub count : length (frames payloads) ≡ log.written
+  pub reads : IfSome d.told (λ b. range log.area log.len b ≡ frames payloads ++ replicate (log.len - log.written) 0)
+
+-- The payloads that the next force writes, a frame each.
+abbrev pub forced : List Waiting → List (List ℕ)
+forced [] = []
+forced (first ∷ rest) = first.bytes ∷ []
+
+abbrev pub left_waiting : List Waiting → List Waiting
+left_waiting [] = []
+left_waiting (first ∷ rest) = rest
+
+-- The log after a force.
+abbrev pub after_force : LogState → LogState
+after_force log = record { area = log.area; len = log.len; written = log.written + length (frames (forced log.groups)); groups = left_waiting log.groups }
+
+-- What a crash may leave inside a force: a list of bytes that a crash could leave before, where the area has the
+-- frames that it had, or those and one more.
+pub record ForceLeaves (d : DiskModel) (log : LogState) (payloads : List (List ℕ)) (c : List ℕ) : Type 0 where
+  pub before : List ℕ
+  pub image : d.Image before
+  pub elsewhere : Torn log.area log.len before c
+  pub frames_of : HasFrames (range log.area log.len c) payloads ⊎ HasFrames (range log.area log.len c) (payloads ++ forced log.groups)

@@ -1,0 +1,4 @@
+pub mod Frames
+pub mod Log
+pub mod Forces
+pub mod Kept

@@ -1,0 +1,43 @@
+-- The log in memory: where its area is, how much of it is written, and the groups that wait.
+use Rattle.std.specs.Prelude.{ℕ, ◌+◌, ◌-◌, ◌<◌, ◌≤◌, List, [], ◌∷◌, length, All, AllPairs}
+use Rattle.hb_space.specs.declared.form.TheConstants.{PENDING}
+
+-- a group that waits: its bytes, and its mark
+pub record Waiting : Type 0 where
+  pub bytes : List ℕ
+  pub mark : ℕ
+
+-- what contracts see of a log; the groups wait in this order
+pub record LogState : Type 0 where
+  pub area : ℕ
+  pub len : ℕ
+  pub written : ℕ
+  pub groups : List Waiting
+
+-- the bytes of the groups that wait
+abbrev pub pending_bytes : List Waiting → ℕ
+pending_bytes [] = 0
+pending_bytes (first ∷ rest) = length first.bytes + pending_bytes rest
+
+-- what they take as a frame each
+abbrev pub framed_bytes : List Waiting → ℕ
+framed_bytes [] = 0
+framed_bytes (first ∷ rest) = length first.bytes + 5 + framed_bytes rest
+
+-- The longest group that fits now: what the written frames, a frame for each group that waits and 5 bytes of the new
+-- frame leave of the area.
+abbrev pub room_of : LogState → ℕ
+room_of log = log.len - log.written - framed_bytes log.groups - 5
+
+-- What a log keeps: its frames fit the area, no group is empty, the groups fit the memory that was reserved, and marks don't fall.
+pub record IsLog (log : LogState) : Type 0 where
+  pub fits : log.written + framed_bytes log.groups ≤ log.len
+  pub groups : All (λ g. 0 < length g.bytes) log.groups
+  pub reserved : pending_bytes log.groups ≤ PENDING
+  pub marks : AllPairs (λ g h. g.mark ≤ h.mark) log.groups
+
+
+-- the mark of the first group that waits, or another number where none does
+abbrev pub mark_of : List Waiting → ℕ → ℕ
+mark_of [] now = now
+mark_of (first ∷ rest) now = first.mark

@@ -1,0 +1,114 @@
+ghost use Rattle.std.specs.Prelude.{◌≡◌, ◌<◌, ◌≤◌, ◌+◌, ◌*◌, [], ◌∷◌, ◌++◌, length, All, IfOk};
+ghost use Rattle.hb_space.specs.declared.form.TheConstants.{PENDING};
+ghost use Rattle.hb_wal.specs.Log.{LogState, room_of, pending_bytes, mark_of};
+
+use crate::groups::Group;
+use hb_space::NoMemory;
+use hb_space::form::PENDING;
+use std::alloc::Global;
+use std::marker::Model;
+
+/// Bytes of a frame's length.
+const LENGTH: usize = 4;
+
+/// Bytes of a frame beside its payload: the gate and the length.
+const FRAME: u32 = 5;
+
+/// The log of a file: its area, and the groups that wait for a force.
+#[derive(Drop)]
+pub struct Wal {
+    area: u64,
+    len: u32,
+    written: u32,
+    /// Room for a frame's length, and behind it the bytes of the groups that wait.
+    bytes: Vec<u8>,
+    groups: Vec<Group>,
+}
+
+impl Model for Wal {
+    ghost use Rattle.hb_wal.specs.Log.{LogState};
+
+    ghost Value = { LogState };
+
+    ghost use Rattle.hb_wal.specs.Kept.{seen_as, Keeps};
+
+    ghost view = { seen_as };
+
+    ghost invariant = { Keeps };
+}
+
+impl Wal {
+    /// The log of an empty area of `len` bytes that begins at the byte `area` of the disk. It reserves all memory
+    /// that it will take.
+    pub fn new(alloc: Global, area: u64, len: u32) -> Result<Wal, NoMemory>
+        ensures { IfOk result (λ w. w ≡ record { area = area; len = len; written = 0; groups = [] }) }
+    {
+        let mut bytes = Vec::with_capacity(alloc, LENGTH + PENDING)?;
+        bytes.extend_from_slice(&[0; LENGTH])?;
+        Ok(Wal {
+            area,
+            len,
+            written: 0,
+            bytes,
+            groups: Vec::with_capacity(alloc, PENDING)?,
+        })
+    }
+
+    /// The bytes of the groups that wait. 0 exactly where none does.
+    pub fn pending(&self) -> u32
+        ensures { result ≡ pending_bytes self.now.groups }
+    {
+        (self.bytes.len() - LENGTH) as u32
+    }
+
+    /// The bytes of the written frames. 0 exactly where there is none.
+    pub fn written(&self) -> u32
+        ensures { result ≡ self.now.written }
+    {
+        self.written
+    }
+
+    /// The longest group that fits now.
+    pub fn room(&self) -> u32
+        ensures { result ≡ room_of self.now }
+    {
+        let framed = self.pending() + FRAME * self.groups.len() as u32;
+        (self.len - self.written - framed).saturating_sub(FRAME)
+    }
+
+    /// The mark of the oldest group that waits, or `now` where none does.
+    pub fn settled(&self, now: u32) -> u32
+        ensures { result ≡ mark_of self.now.groups now }
+    {
+        match self.groups.first() {
+            Some(oldest) => oldest.mark,
+            None => now,
+        }
+    }
+
+    /// Lets a group wait, behind those that do.
+    pub fn append(&mut self, group: &[u8], mark: u32)
+        requires some { 0 < length group.now }
+        requires room { length group.now ≤ room_of self.old }
+        requires reserved { pending_bytes self.old.groups + length group.now ≤ PENDING }
+        requires marks { All (λ g. g.mark ≤ mark) self.old.groups }
+        ensures { self.new ≡ record { area = self.old.area; len = self.old.len; written = self.old.written;
+            groups = self.old.groups ++ record { bytes = group.now; mark = mark } ∷ [] } }
+    {
+        let added = Group {
+            len: group.len() as u32,
+            mark,
+        };
+        self.bytes.extend_from_slice(group).unwrap();
+        self.groups.push(added).unwrap();
+    }
+
+    /// Moves the log to another area of the same length, where it has no frame.
+    pub fn move_to(&mut self, area: u64)
+        requires { self.old.groups ≡ [] }
+        ensures { self.new ≡ record { area = area; len = self.old.len; written = 0; groups = [] } }
+    {
+        self.area = area;
+        self.written = 0;
+    }
+}
