@@ -4,5 +4,5 @@
 mod callers;
 mod traits;
 
-pub use callers::{OPEN, write_behind_gate};
+pub use callers::{OPEN, write_behind_gate, write_in_order};
 pub use traits::Disk;
