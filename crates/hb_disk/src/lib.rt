@@ -2,6 +2,8 @@
 #![tactic(auto)]
 
 mod callers;
+mod event;
+mod history;
 mod traits;
 
 pub use callers::{OPEN, write_behind_gate, write_in_order};
