@@ -3,9 +3,9 @@ use Rattle.std.proofs.Common.{◌≡◌, ◌≢◌, inl, inr, ⊎_elim, ℕ, ◌
 use Rattle.std.proofs.lemmas.Bool.{cases_lt, cases_order}
 use Rattle.std.proofs.lemmas.List.{ext_get_or}
 use Rattle.hb_disk.specs.Model.{DiskModel, IsDisk, overwritten, Torn}
-use Rattle.hb_disk.specs.Calls.{Ticks, Writes, Syncs, Leaves, FrameOrNot, open_gate}
+use Rattle.hb_disk.specs.Calls.{Ticks, Writes, Syncs, Leaves, Becomes, FrameOrNot, open_gate}
 use Rattle.hb_disk.specs.TornLaws.{cases_range, Torn-from, Torn-same, Torn-wider, Torn-twice, length-overwritten, overwritten-outside, overwritten-from, overwritten-joined}
-use Rattle.hb_disk.specs.RunLaws.{told_written, only_told, Leaves-start, Leaves-call}
+use Rattle.hb_disk.specs.RunLaws.{told_written, only_told, Leaves-start, Leaves-call, Becomes-torn, Becomes-torn_write, Becomes-torn_sync}
 
 module _ (old : DiskModel) (gate : ℕ) (body : List ℕ) where
   -- an image of before, with the frame whole or a closed gate in its place
@@ -86,3 +86,22 @@ module _ (old : DiskModel) (gate : ℕ) (body : List ℕ) where
             new_told u third_ok =
                 gate_synced.same ∙ told_written third u gate (open_gate ∷ []) two three staged third_ok staged_told gate_written
                 ∙ ap Some (overwritten-joined b gate (open_gate ∷ []) body fits)
+
+  -- the calls touched the frame's range alone
+  module _ (disk : IsDisk old) (inside : gate + 1 + length body ≤ old.size) (one : DiskModel) (is_one : IsDisk one) {T E : Type 0}
+    (first : Result T E) (body_written : Writes (gate + 1) body first old one) (body_ticks : Ticks first old one)
+    (second : Result T E) (two : DiskModel) (body_synced : Syncs second one two) (sync_ticks : Ticks second one two) where
+    pub place_two : Becomes (Torn gate (1 + length body)) old two
+    place_two = Becomes-torn gate (1 + length body) old one two
+        (Becomes-torn_write first (gate + 1) body gate (1 + length body) old one disk is_one inside (omega arith) (omega arith) body_written body_ticks)
+        (Becomes-torn_sync second gate (1 + length body) one two is_one body_synced sync_ticks)
+
+    module _ (is_two : IsDisk two) (third : Result T E) (three : DiskModel) (is_three : IsDisk three)
+      (gate_written : Writes gate (open_gate ∷ []) third two three) (gate_ticks : Ticks third two three) where
+      pub place_three : Becomes (Torn gate (1 + length body)) old three
+      place_three = Becomes-torn gate (1 + length body) old two three place_two
+          (Becomes-torn_write third gate (open_gate ∷ []) gate (1 + length body) two three is_two is_three (omega (arith, sync_ticks.size, body_ticks.size, inside)) (omega arith) (omega arith) gate_written gate_ticks)
+
+      pub place_four : (last : Result T E) (new : DiskModel) → Syncs last three new → Ticks last three new → Becomes (Torn gate (1 + length body)) old new
+      place_four last new syncs ticks = Becomes-torn gate (1 + length body) old three new place_three
+          (Becomes-torn_sync last gate (1 + length body) three new is_three syncs ticks)

@@ -1,1 +1,3 @@
 pub mod Gate
+pub mod InOrder
+pub mod Histories

@@ -71,3 +71,14 @@ Apart at n from m = (at + n ≤ from) ⊎ (from + m ≤ at)
 -- In a range a crash now leaves what a read gives, where the disk tells.
 pub record IsSynced (d : DiskModel) (at n : ℕ) : Type 0 where
   pub each : (b c : List ℕ) → d.told ≡ Some b → d.Image c → take n (drop at c) ≡ take n (drop at b)
+
+-- What calls made of a disk as a whole: what a read gives, and each image, became by the relation what it is now.
+pub record Becomes (R : List ℕ → List ℕ → Type 0) (old new : DiskModel) : Type 0 where
+  pub size : new.size ≡ old.size
+  pub silent : old.told ≡ None → new.told ≡ None
+  pub told : IfSome old.told (λ b. (c : List ℕ) × (new.told ≡ Some c) × R b c)
+  pub crash : (c : List ℕ) → new.Image c → (b : List ℕ) × old.Image b × R b c
+
+-- one relation after another
+abbrev pub Then : (List ℕ → List ℕ → Type 0) → (List ℕ → List ℕ → Type 0) → List ℕ → List ℕ → Type 0
+Then R S before after = (between : List ℕ) × R before between × S between after

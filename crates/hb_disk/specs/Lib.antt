@@ -2,3 +2,4 @@ pub mod Model
 pub mod Calls
 pub mod TornLaws
 pub mod RunLaws
+pub mod Events

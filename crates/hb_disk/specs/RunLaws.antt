@@ -1,9 +1,11 @@
 -- How a run of calls of a disk goes on, and what a write or a sync makes of the images.
-use Rattle.std.proofs.Common.{◌≡◌, ◌⊎◌, inl, inr, ⊎_elim, ℕ, ◌+◌, ◌-◌, ◌≤◌, List, length, take, drop, Option, Some, None, IfSome, IsSome, is_some, Result, Ok, Err, OnOk, refl, sym, ap, ◌∙◌, subst, arith}
+use Rattle.std.proofs.Common.{◌≡◌, ◌⊎◌, inl, inr, ⊎_elim, ℕ, ◌+◌, ◌-◌, ◌^◌, ◌<◌, ◌≤◌, List, length, take, drop, Option, Some, None, IfSome, IsSome, is_some, Result, Ok, Err, OnOk, refl, sym, ap, ◌∙◌, subst, arith}
+use Rattle.std.specs.List.{All}
+use Rattle.std.proofs.Math.Nat.{eq-or-lt_of_le}
 use Rattle.std.proofs.lemmas.List.{drop-take, take-take, drop-drop}
 use Rattle.hb_disk.specs.Model.{DiskModel, IsDisk, overwritten, Torn, Elapses, Stays}
-use Rattle.hb_disk.specs.Calls.{Ticks, Writes, Syncs, Leaves, Apart, IsSynced}
-use Rattle.hb_disk.specs.TornLaws.{Torn-from, Torn-elsewhere, length-overwritten, overwritten-outside}
+use Rattle.hb_disk.specs.Calls.{Ticks, Writes, Syncs, Leaves, Apart, IsSynced, Becomes, Then}
+use Rattle.hb_disk.specs.TornLaws.{Torn-from, Torn-itself, Torn-wider, Torn-twice, Torn-elsewhere, length-overwritten, overwritten-outside}
 
 -- the value of an option that has one
 pub some_value : {X : Type 0} (o : Option X) → IsSome o → (x : X) × (o ≡ Some x)
@@ -30,6 +32,10 @@ has_value o x is = ap is_some is
 pub on_ok : {T E : Type 0} (r : Result T E) (P : Type 0) → P → OnOk r P
 on_ok (Ok v) P h = h
 on_ok (Err e) P h = tt
+
+pub on_ok_weaker : {T E : Type 0} (r : Result T E) (P Q : Type 0) → (P → Q) → OnOk r P → OnOk r Q
+on_ok_weaker (Ok v) P Q f h = f h
+on_ok_weaker (Err e) P Q f h = tt
 
 pub some_same : {X : Type 0} (x y : X) → Some x ≡ Some y → x ≡ y
 some_same x y is = cc
@@ -122,34 +128,113 @@ IsSynced-sync r v old new at n ok syncs = record {
   each = λ b c told image. ap (λ (l : List ℕ). take n (drop at l)) (only_told r v old new b ok (sym syncs.same ∙ told) syncs c image);
 }
 
--- A sync that fails leaves no range less synced.
-pub IsSynced-after_sync : {T E : Type 0} (r : Result T E) (old new : DiskModel) (at n : ℕ) → Syncs r old new → IsSynced old at n → IsSynced new at n
-IsSynced-after_sync r old new at n syncs was = record { each = λ b c told image. was.each b c (sym syncs.same ∙ told) (syncs.crash c image) }
+-- A write makes the disk torn in its range, whether it fails or not.
+pub Becomes-write : {T E : Type 0} (r : Result T E) (at : ℕ) (piece : List ℕ) (old new : DiskModel) → IsDisk old → IsDisk new → at + length piece ≤ old.size
+    → Writes at piece r old new → Ticks r old new → Becomes (Torn at (length piece)) old new
+Becomes-write r at piece old new is_old is_new fits writes ticks = record {
+  size = ticks.size;
+  silent = writes.silent;
+  told = if_value old.told (λ b. (c : List ℕ) × (new.told ≡ Some c) × Torn at (length piece) b c) (λ b told.
+      told_torn r at piece old new b is_new told (omega (arith, fits, is_old.long b (is_old.as_read b told))) writes);
+  crash = writes.crash;
+}
+
+-- A sync makes nothing other: by each relation that allows a list of bytes to stay.
+pub Becomes-sync : {T E : Type 0} (r : Result T E) (R : List ℕ → List ℕ → Type 0) (old new : DiskModel) → IsDisk old
+    → ((b : List ℕ) → All (λ x. x < 2 ^ 8) b → R b b) → Syncs r old new → Ticks r old new → Becomes R old new
+Becomes-sync r R old new is_old stay syncs ticks = record {
+  size = ticks.size;
+  silent = λ none. syncs.same ∙ none;
+  told = if_value old.told (λ b. (c : List ℕ) × (new.told ≡ Some c) × R b c) (λ b told.
+      (b, syncs.same ∙ told, stay b (is_old.bytes b (is_old.as_read b told))));
+  crash = λ c image. let was = syncs.crash c image in (c, was, stay c (is_old.bytes c was));
+}
 
 -- Nor does a read.
-pub IsSynced-after_read : (old new : DiskModel) (at n : ℕ) → Stays old new → IsSynced old at n → IsSynced new at n
-IsSynced-after_read old new at n stays was = record { each = λ b c told image. was.each b c (sym stays.told ∙ told) (stays.image c image) }
+pub Becomes-read : (R : List ℕ → List ℕ → Type 0) (old new : DiskModel) → IsDisk old → ((b : List ℕ) → All (λ x. x < 2 ^ 8) b → R b b) → Stays old new → Becomes R old new
+Becomes-read R old new is_old stay stays = record {
+  size = stays.size;
+  silent = λ none. stays.told ∙ none;
+  told = if_value old.told (λ b. (c : List ℕ) × (new.told ≡ Some c) × R b c) (λ b told.
+      (b, stays.told ∙ told, stay b (is_old.bytes b (is_old.as_read b told))));
+  crash = λ c image. let was = stays.image c image in (c, was, stay c (is_old.bytes c was));
+}
 
--- A write elsewhere keeps a range synced, whether it fails or not. In it the told bytes stay.
-pub IsSynced-after_write : {T E : Type 0} (r : Result T E) (from : ℕ) (piece : List ℕ) (old new : DiskModel) (b : List ℕ) (at n : ℕ) → IsDisk new
-    → old.told ≡ Some b → from + length piece ≤ length b → Apart at n from (length piece) → Writes from piece r old new → IsSynced old at n → IsSynced new at n
-IsSynced-after_write r from piece old new b at n is_new told fits apart writes was =
-    let after = told_torn r from piece old new b is_new told fits writes in record {
-      each = λ d c told_new image.
+-- one run after another
+pub Becomes-then : (R S : List ℕ → List ℕ → Type 0) (old mid new : DiskModel) → Becomes R old mid → Becomes S mid new → Becomes (Then R S) old new
+Becomes-then R S old mid new first second = record {
+  size = second.size ∙ first.size;
+  silent = λ none. second.silent (first.silent none);
+  told = if_value old.told (λ b. (c : List ℕ) × (new.told ≡ Some c) × Then R S b c) (λ b told.
+      let one = at_value old.told (λ b. (c : List ℕ) × (mid.told ≡ Some c) × R b c) b told first.told in
+      let two = at_value mid.told (λ b. (c : List ℕ) × (new.told ≡ Some c) × S b c) one.0 one.1 second.told in
+      (two.0, two.1, (one.0, one.2, two.2)));
+  crash = λ c image.
+      let two = second.crash c image in
+      let one = first.crash two.0 two.1 in
+      (one.0, one.1, (two.0, one.2, two.2));
+}
+
+-- a relation that says less
+pub Becomes-weaker : (R S : List ℕ → List ℕ → Type 0) (old new : DiskModel) → ((b c : List ℕ) → R b c → S b c) → Becomes R old new → Becomes S old new
+Becomes-weaker R S old new weaker run = record {
+  size = run.size;
+  silent = run.silent;
+  told = if_value old.told (λ b. (c : List ℕ) × (new.told ≡ Some c) × S b c) (λ b told.
+      let one = at_value old.told (λ b. (c : List ℕ) × (new.told ≡ Some c) × R b c) b told run.told in
+      (one.0, one.1, weaker b one.0 one.2));
+  crash = λ c image. let one = run.crash c image in (one.0, one.1, weaker one.0 c one.2);
+}
+
+-- Two runs that are torn in one range are one.
+pub Becomes-torn : (at n : ℕ) (old mid new : DiskModel) → Becomes (Torn at n) old mid → Becomes (Torn at n) mid new → Becomes (Torn at n) old new
+Becomes-torn at n old mid new first second =
+    Becomes-weaker (Then (Torn at n) (Torn at n)) (Torn at n) old new (λ b c both. Torn-twice at n b both.0 c both.1 both.2)
+    (Becomes-then (Torn at n) (Torn at n) old mid new first second)
+
+-- A write within a wider range, and a sync, after what was torn in it.
+pub Becomes-torn_write : {T E : Type 0} (r : Result T E) (from : ℕ) (piece : List ℕ) (at n : ℕ) (old new : DiskModel) → IsDisk old → IsDisk new → from + length piece ≤ old.size
+    → at ≤ from → from + length piece ≤ at + n → Writes from piece r old new → Ticks r old new → Becomes (Torn at n) old new
+Becomes-torn_write r from piece at n old new is_old is_new fits low high writes ticks =
+    Becomes-weaker (Torn from (length piece)) (Torn at n) old new (λ b c torn. Torn-wider from (length piece) at n b c low high torn)
+    (Becomes-write r from piece old new is_old is_new fits writes ticks)
+
+pub Becomes-torn_sync : {T E : Type 0} (r : Result T E) (at n : ℕ) (old new : DiskModel) → IsDisk old → Syncs r old new → Ticks r old new → Becomes (Torn at n) old new
+Becomes-torn_sync r at n old new is_old syncs ticks = Becomes-sync r (Torn at n) old new is_old (λ b fit. Torn-itself at n b fit) syncs ticks
+
+-- Calls that leave a range alone keep it synced.
+pub IsSynced-kept : (R : List ℕ → List ℕ → Type 0) (old new : DiskModel) (at n : ℕ) → ((b c : List ℕ) → R b c → take n (drop at c) ≡ take n (drop at b))
+    → Becomes R old new → IsSynced old at n → IsSynced new at n
+IsSynced-kept R old new at n alone run was = record {
+  each = λ d c told_new image. by_cases (old.told) refl d c told_new image;
+}
+  where
+    by_cases : (o : Option (List ℕ)) → old.told ≡ o → (d c : List ℕ) → new.told ≡ Some d → new.Image c → take n (drop at c) ≡ take n (drop at d)
+    by_cases None none d c told_new image = cc (run.silent none)
+    by_cases (Some b) told d c told_new image =
+        let after = at_value old.told (λ b. (c : List ℕ) × (new.told ≡ Some c) × R b c) b told run.told in
         let same : after.0 ≡ d = some_same after.0 d (sym after.1 ∙ told_new) in
-        let before = writes.crash c image in
-        Torn-elsewhere from (length piece) at n before.0 c apart before.2
-        ∙ was.each b before.0 told before.1
-        ∙ sym (Torn-elsewhere from (length piece) at n b after.0 apart after.2)
-        ∙ ap (λ (l : List ℕ). take n (drop at l)) same;
-    }
+        let before = run.crash c image in
+        alone before.0 c before.2 ∙ was.each b before.0 told before.1 ∙ sym (alone b after.0 after.2) ∙ ap (λ (l : List ℕ). take n (drop at l)) same
 
--- what a read gives of a range that a write elsewhere left alone
-pub told_elsewhere : {T E : Type 0} (r : Result T E) (from : ℕ) (piece : List ℕ) (old new : DiskModel) (b c : List ℕ) (at n : ℕ) → IsDisk new
-    → old.told ≡ Some b → new.told ≡ Some c → from + length piece ≤ length b → Apart at n from (length piece) → Writes from piece r old new → take n (drop at c) ≡ take n (drop at b)
-told_elsewhere r from piece old new b c at n is_new told told_new fits apart writes =
-    let after = told_torn r from piece old new b is_new told fits writes in
-    ap (λ (l : List ℕ). take n (drop at l)) (some_same c after.0 (sym told_new ∙ after.1)) ∙ Torn-elsewhere from (length piece) at n b after.0 apart after.2
+-- So does a run that is torn in a range apart from it.
+pub IsSynced-elsewhere : (old new : DiskModel) (at n from m : ℕ) → Apart at n from m → Becomes (Torn from m) old new → IsSynced old at n → IsSynced new at n
+IsSynced-elsewhere old new at n from m apart run was =
+    IsSynced-kept (Torn from m) old new at n (λ b c torn. Torn-elsewhere from m at n b c apart torn) run was
+
+-- What a read gives of a range that calls left alone.
+pub told_elsewhere : (old new : DiskModel) (b c : List ℕ) (at n from m : ℕ) → old.told ≡ Some b → new.told ≡ Some c → Apart at n from m
+    → Becomes (Torn from m) old new → take n (drop at c) ≡ take n (drop at b)
+told_elsewhere old new b c at n from m told told_new apart run =
+    let after = at_value old.told (λ b. (c : List ℕ) × (new.told ≡ Some c) × Torn from m b c) b told run.told in
+    ap (λ (l : List ℕ). take n (drop at l)) (some_same c after.0 (sym told_new ∙ after.1)) ∙ Torn-elsewhere from m at n b after.0 apart after.2
+
+-- A call is at most one tick, where the disk tells.
+pub one_tick : {T E : Type 0} (r : Result T E) (old new : DiskModel) → IsDisk old → Ticks r old new → IsSome old.told → new.clock ≤ old.clock + 1
+one_tick r old new is_old ticks tells = elim (eq-or-lt_of_le is_old.clock_fits) [
+  | inl at_end ↦ let stays = (ticks.ended tells at_end).1 in omega (arith, stays.clock)
+  | inr before ↦ omega (arith, ticks.tick tells before)
+]
 
 -- a part of a range that is synced
 pub IsSynced-part : (d : DiskModel) (at n from m : ℕ) → at ≤ from → from + m ≤ at + n → IsSynced d at n → IsSynced d from m

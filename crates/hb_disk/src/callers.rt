@@ -1,6 +1,6 @@
 ghost use Rattle.std.specs.Prelude.{◌≡◌, ◌≢◌, ℕ, ◌+◌, ◌<◌, ◌≤◌, List, ◌∷◌, Some, length, get_or, IsSome, IfSome, OnOk};
-ghost use Rattle.hb_disk.specs.Model.{overwritten};
-ghost use Rattle.hb_disk.specs.Calls.{Leaves, FrameOrNot, WriteFaults, open_gate};
+ghost use Rattle.hb_disk.specs.Model.{overwritten, Torn};
+ghost use Rattle.hb_disk.specs.Calls.{Leaves, FrameOrNot, InOrder, WriteFaults, Becomes, Then, open_gate};
 
 use crate::Disk;
 use hb_outside::Failed;
@@ -21,10 +21,41 @@ pub fn write_behind_gate<D: Disk>(disk: &mut D, gate: u64, body: &[u8]) -> Resul
         (λ b. (c : List ℕ) → (D.model disk.new).Image c → c ≡ b)) }
     ensures moments { IsSome (D.model disk.old).told → Leaves (D.model disk.old) (D.model disk.new)
         (λ c. (b : List ℕ) × (D.model disk.old).Image b × FrameOrNot gate body.now b c) }
+    ensures place { Becomes (Torn gate (1 + length body.now)) (D.model disk.old) (D.model disk.new) }
+    ensures clock { IsSome (D.model disk.old).told → (D.model disk.new).clock ≤ (D.model disk.old).clock + 4 }
     ensures faults { WriteFaults result (D.model disk.old) (D.model disk.new) }
 {
     disk.write(gate + 1, body)?;
     disk.sync()?;
     disk.write(gate, &[OPEN])?;
+    disk.sync()
+}
+
+/// Writes the first piece, syncs, writes the second, and syncs.
+///
+/// In each image of a moment inside, the second is begun only where the first stands.
+pub fn write_in_order<D: Disk>(
+    disk: &mut D,
+    first: u64,
+    a: &[u8],
+    second: u64,
+    b: &[u8],
+) -> Result<(), Failed>
+    requires first_inside { first + length a.now ≤ (D.model disk.old).size }
+    requires second_inside { second + length b.now ≤ (D.model disk.old).size }
+    ensures written { OnOk result (IfSome (D.model disk.old).told (λ t.
+        (D.model disk.new).told ≡ Some (overwritten (overwritten t first a.now) second b.now))) }
+    ensures durable { OnOk result (IfSome (D.model disk.new).told
+        (λ t. (c : List ℕ) → (D.model disk.new).Image c → c ≡ t)) }
+    ensures moments { IsSome (D.model disk.old).told → Leaves (D.model disk.old) (D.model disk.new)
+        (λ c. (t : List ℕ) × (D.model disk.old).Image t × InOrder first a.now second b.now t c) }
+    ensures place { Becomes (Then (Torn first (length a.now)) (Torn second (length b.now)))
+        (D.model disk.old) (D.model disk.new) }
+    ensures clock { IsSome (D.model disk.old).told → (D.model disk.new).clock ≤ (D.model disk.old).clock + 4 }
+    ensures faults { WriteFaults result (D.model disk.old) (D.model disk.new) }
+{
+    disk.write(first, a)?;
+    disk.sync()?;
+    disk.write(second, b)?;
     disk.sync()
 }

@@ -2,9 +2,11 @@
 #![tactic(auto)]
 
 mod callers;
+mod event;
 mod faults;
+mod history;
 mod traits;
 
-pub use callers::{OPEN, write_behind_gate};
+pub use callers::{OPEN, write_behind_gate, write_in_order};
 pub use faults::DiskFault;
 pub use traits::Disk;

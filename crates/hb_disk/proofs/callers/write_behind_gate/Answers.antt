@@ -2,7 +2,7 @@ use Rattle.std.proofs.Common.{◌≡◌, ℕ, List, ◌∷◌, Some, IfSome}
 use Rattle.hb_disk.specs.Model.{overwritten}
 use Rattle.hb_disk.specs.Calls.{open_gate}
 use Rattle.hb_disk.specs.RunLaws.{some_value, if_value, has_value, on_ok}
-use Rattle.hb_disk.proofs.Gate.{run_one, run_two, run_three, run_four, new_told}
+use Rattle.hb_disk.proofs.Gate.{run_one, run_two, run_three, run_four, new_told, place_two, place_three, place_four}
 use Rattle.hb_disk.proofs.callers.write_behind_gate.Goals as goal
 
 pub returns-in_err-write-clause-moments : goal.returns-in_err-write-clause-moments
@@ -54,3 +54,34 @@ returns-clause-written g c =
       c.write-2.result (g.D.Disk.model c.write-2.new.self) c.write-2.ensures.writes c.write-2.ensures.ticks
       c.sync-2.result new c.sync-2.ensures.syncs c.sync-2.ensures.ticks
       c.in_ok-write-2.field-0 c.in_ok-write-2.was))
+
+-- What the calls so far made of the disk.
+pub returns-in_err-sync-clause-place : goal.returns-in_err-sync-clause-place
+returns-in_err-sync-clause-place g c =
+    let is_disk = g.met.D.Disk.is_disk in
+    let model = g.D.Disk.model in
+    let old = model c.args.disk.now in
+    let one = model c.write.new.self in
+    place_two old c.args.gate c.args.body.now (is_disk c.args.disk.now) c.requires.inside one (is_disk c.write.new.self)
+    c.write.result c.write.ensures.writes c.write.ensures.ticks c.sync.result (model c.sync.new.self) c.sync.ensures.syncs c.sync.ensures.ticks
+
+pub returns-in_err-write-2-clause-place : goal.returns-in_err-write-2-clause-place
+returns-in_err-write-2-clause-place g c =
+    let is_disk = g.met.D.Disk.is_disk in
+    let model = g.D.Disk.model in
+    let old = model c.args.disk.now in
+    let one = model c.write.new.self in
+    place_three old c.args.gate c.args.body.now (is_disk c.args.disk.now) c.requires.inside one (is_disk c.write.new.self)
+    c.write.result c.write.ensures.writes c.write.ensures.ticks c.sync.result (model c.sync.new.self) c.sync.ensures.syncs c.sync.ensures.ticks
+    (is_disk c.sync.new.self) c.write-2.result (model c.write-2.new.self) (is_disk c.write-2.new.self) c.write-2.ensures.writes c.write-2.ensures.ticks
+
+pub returns-clause-place : goal.returns-clause-place
+returns-clause-place g c =
+    let is_disk = g.met.D.Disk.is_disk in
+    let model = g.D.Disk.model in
+    let old = model c.args.disk.now in
+    let one = model c.write.new.self in
+    place_four old c.args.gate c.args.body.now (is_disk c.args.disk.now) c.requires.inside one (is_disk c.write.new.self)
+    c.write.result c.write.ensures.writes c.write.ensures.ticks c.sync.result (model c.sync.new.self) c.sync.ensures.syncs c.sync.ensures.ticks
+    (is_disk c.sync.new.self) c.write-2.result (model c.write-2.new.self) (is_disk c.write-2.new.self) c.write-2.ensures.writes c.write-2.ensures.ticks
+    c.sync-2.result (model c.sync-2.new.self) c.sync-2.ensures.syncs c.sync-2.ensures.ticks

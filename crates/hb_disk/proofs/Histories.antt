@@ -1,0 +1,193 @@
+-- What a record of calls keeps of the disk model.
+use Rattle.std.proofs.Common.{◌≡◌, ◌⊎◌, inl, inr, ⊎_elim, ℕ, ◌+◌, ◌-◌, ◌^◌, ◌<◌, ◌≤◌, min, List, [], ◌∷◌, ◌++◌, length, take, drop, get_or, reverse, Option, Some, None, IsSome, Result, Ok, Err, OnOk, OnErr, IsErr, MatchOption, refl, sym, ap, ◌∙◌, subst, arith, length-take, length-drop}
+use Rattle.std.specs.List.{All}
+use Rattle.std.proofs.lemmas.List.{reverse-append, get_or-take, get_or-drop, ext_get_or}
+use Rattle.std.proofs.lemmas.List.Elements.{All-take, All-drop}
+use Rattle.hb_outside.specs.Memory.{next_count}
+use Rattle.hb_disk.specs.Model.{DiskModel, IsDisk, overwritten, last_value, Torn, Elapses, Stays}
+use Rattle.hb_disk.specs.Calls.{Ticks, Writes, Syncs}
+use Rattle.hb_disk.specs.TornLaws.{IsOutside, cases_range, Torn-from, Torn-itself, Torn-overwritten, length-overwritten, overwritten-inside, overwritten-outside, All-overwritten, overwritten-from}
+use Rattle.hb_disk.specs.Events.{IsOpen, IsImage, IsImageSince, undone, range_of, disk_of, Notes, IsOver}
+use Rattle.hb_disk.specs.declared.event.Change.{Change}
+use Rattle.hb_disk.specs.declared.event.Change.TheVariants.{Wrote, Tried, Synced}
+use Rattle.hb_disk.specs.declared.event.Event.{Event}
+
+pub Notes-weaker : (P Q : Change → Type 0) (clock call : ℕ) (old new : List Event) → ((d : Change) → P d → Q d) → Notes P clock call old new → Notes Q clock call old new
+Notes-weaker P Q clock call old new weaker noted = record {
+  event = noted.event;
+  added = noted.added;
+  at_clock = noted.at_clock;
+  at_call = noted.at_call;
+  change = weaker noted.event.change noted.change;
+  time_left = noted.time_left;
+}
+
+-- with the newest first the new event is the first
+pub newest : (P : Change → Type 0) (clock call : ℕ) (old new : List Event) → (noted : Notes P clock call old new) → reverse new ≡ noted.event ∷ reverse old
+newest P clock call old new noted = ap reverse noted.added ∙ reverse-append old (noted.event ∷ [])
+
+-- what stands in a range, place by place
+read_at : (bytes : List ℕ) (at n i : ℕ) → at ≤ i → i < at + n → get_or (take n (drop at bytes)) (i - at) 0 ≡ get_or bytes i 0
+read_at bytes at n i low high =
+    let e : at + (i - at) ≡ i = omega (arith, low) in
+    get_or-take n (drop at bytes) (i - at) 0 (omega (arith, low, high)) ∙ get_or-drop at bytes (i - at) 0 ∙ ap (λ (j : ℕ). get_or bytes j 0) e
+
+range_long : (bytes : List ℕ) (at n : ℕ) → at + n ≤ length bytes → length (take n (drop at bytes)) ≡ n
+range_long bytes at n fits = omega (arith, length-take n (drop at bytes), length-drop at bytes, fits)
+
+-- putting back what stood in a range undoes what was put there
+pub put_back : (bytes : List ℕ) (at : ℕ) (piece before : List ℕ) → at + length piece ≤ length bytes → before ≡ take (length piece) (drop at bytes)
+    → overwritten (overwritten bytes at piece) at before ≡ bytes
+put_back bytes at piece before fits is =
+    let now = overwritten bytes at piece in
+    let now_long : length now ≡ length bytes = length-overwritten bytes at piece fits in
+    let long : length before ≡ length piece = ap length is ∙ range_long bytes at (length piece) fits in
+    let fits_back : at + length before ≤ length now = omega (arith, long, now_long, fits) in
+    ext_get_or 0 (overwritten now at before) bytes (length-overwritten now at before fits_back ∙ now_long) (λ i h.
+      elim (cases_range at (length before) i) [
+        | inl within ↦
+            let high : i < at + length piece = omega (arith, within.1, long) in
+            overwritten-inside now at before fits_back i within.0 within.1
+            ∙ ap (λ (l : List ℕ). get_or l (i - at) 0) is ∙ read_at bytes at (length piece) i within.0 high
+        | inr outside ↦
+            overwritten-outside now at before fits_back i outside
+            ∙ overwritten-outside bytes at piece fits i (subst (λ n. IsOutside at n i) long outside)
+      ])
+
+module _ (bytes now : List ℕ) (es : List Event) (e : Event) (at n : ℕ) (ranges : range_of e.change ≡ Some (at, n)) (fits : at + n ≤ length bytes)
+  (fit : All (λ x. x < 2 ^ 8) bytes) (long : length now ≡ length bytes) (same : (i : ℕ) → IsOutside at n i → get_or now i 0 ≡ get_or bytes i 0) where
+  -- a place outside the range is open only if it was
+  still_shut : (i : ℕ) → IsOutside at n i → (IsOpen es i → ⊥) → IsOpen (e ∷ es) i → ⊥
+  still_shut i outside shut is_open =
+      let Q : Option (ℕ × ℕ) → Type 0 = λ o. MatchOption o ⊥ (λ range. ((range.0 ≤ i) × (i < range.0 + range.1)) ⊎ IsOpen es i) in
+      ⊎_elim (λ within. not_both at n i within outside) shut (subst Q ranges is_open)
+    where
+      not_both : (at n i : ℕ) → (at ≤ i) × (i < at + n) → IsOutside at n i → ⊥
+      not_both at n i within (inl front) = omega (arith, within.0, front)
+      not_both at n i within (inr behind) = omega (arith, within.1, behind)
+
+  -- an image of after the event is one of before it, torn in the range
+  pub image_torn : (c : List ℕ) → IsImage now (e ∷ es) c → (x : List ℕ) × IsImage bytes es x × Torn at n x c
+  image_torn c image =
+      let stood = take n (drop at bytes) in
+      let stood_long : length stood ≡ n = range_long bytes at n fits in
+      let x = overwritten c at stood in
+      let c_long : length c ≡ length bytes = image.long ∙ long in
+      let fits_c : at + length stood ≤ length c = omega (arith, stood_long, c_long, fits) in
+      let x_long : length x ≡ length c = length-overwritten c at stood fits_c in (
+        x,
+        record {
+          long = x_long ∙ c_long;
+          fit = All-overwritten c at stood fits_c image.fit (All-take (λ x. x < 2 ^ 8) n (drop at bytes) (All-drop (λ x. x < 2 ^ 8) at bytes fit));
+          kept = λ i shut. elim (cases_range at (length stood) i) [
+            | inl within ↦ overwritten-inside c at stood fits_c i within.0 within.1 ∙ read_at bytes at n i within.0 (omega (arith, within.1, stood_long))
+            | inr outside ↦
+                let out = subst (λ k. IsOutside at k i) stood_long outside in
+                overwritten-outside c at stood fits_c i outside ∙ image.kept i (still_shut i out shut) ∙ same i out
+          ];
+        },
+        Torn-from at n x c (sym x_long) image.fit (λ i h outside. sym (overwritten-outside c at stood fits_c i (subst (λ k. IsOutside at k i) (sym stood_long) outside))),
+      )
+
+-- a disk after one event more
+module _ (bytes now : List ℕ) (es es_now : List Event) (e : Event) (first : es_now ≡ e ∷ es) (undoes : undone e.change now ≡ bytes)
+  (clock next f g h k : ℕ) (at_clock : e.clock ≡ clock) where
+  pub elapses_noted : Elapses (disk_of bytes es clock f g) (disk_of now es_now next h k)
+  elapses_noted = record {
+    nothing_else = λ t c le left.
+        let split : IsImageSince t now (e ∷ es) c = subst (λ (l : List Event). IsImageSince t now l c) first left in
+        ⊎_elim (λ image. inr (subst (λ (l : List Event). IsImage now l c) (sym first) image))
+        (λ past. inl (subst (λ (l : List ℕ). IsImageSince t l es c) undoes past.1)) split;
+    keeps = λ t c le left. subst (λ (l : List Event). IsImageSince t now l c) (sym first)
+        (inr (omega (arith, le, at_clock), subst (λ (l : List ℕ). IsImageSince t l es c) (sym undoes) left));
+  }
+
+-- a disk after a call that left nothing on record
+pub elapses_same : (bytes : List ℕ) (es : List Event) (clock next f g h k : ℕ) → Elapses (disk_of bytes es clock f g) (disk_of bytes es next h k)
+elapses_same bytes es clock next f g h k = record { nothing_else = λ t c le left. inl left; keeps = λ t c le left. left }
+
+pub next_clock : (clock : ℕ) → clock < last_value → next_count clock ≡ clock + 1
+next_clock clock before = omega arith
+
+-- The three kinds of ends of a call. `reads` and `writes` are any counts of faults.
+module _ (bytes : List ℕ) (es : List Event) (clock : ℕ) (fit : All (λ x. x < 2 ^ 8) bytes) (clock_fits : clock ≤ last_value) (f g h k : ℕ) where
+  -- one that left nothing on record, and failed
+  pub ticks_missed : {T E : Type 0} (err : E) → Ticks {T = T} (Err err) (disk_of bytes es clock f g) (disk_of bytes es (next_count clock) h k)
+  ticks_missed err = record {
+    tick = λ tells before. next_clock clock before;
+    later = omega arith;
+    ended = λ tells at_end. (refl, record {
+      told = refl;
+      size = refl;
+      clock = omega arith;
+      image = λ c image. image;
+      image_kept = λ c image. image;
+      since = λ t c left. left;
+      since_kept = λ t c left. left;
+    });
+    time = elapses_same bytes es clock (next_count clock) f g h k;
+    size = refl;
+  }
+
+  pub writes_missed : {T E : Type 0} (err : E) (at : ℕ) (piece : List ℕ) (next : ℕ) → Writes {T = T} at piece (Err err) (disk_of bytes es clock f g) (disk_of bytes es next h k)
+  writes_missed err at piece next = record {
+    written = tt;
+    tried = (bytes, refl, Torn-itself at (length piece) bytes fit);
+    silent = λ none. cc;
+    crash = λ c image. (c, image, Torn-itself at (length piece) c image.fit);
+  }
+
+  pub syncs_missed : {T E : Type 0} (err : E) (next : ℕ) → Syncs {T = T} (Err err) (disk_of bytes es clock f g) (disk_of bytes es next h k)
+  syncs_missed err next = record { same = refl; durable = tt; crash = λ c image. image }
+
+  -- one that left an event on record
+  pub ticks_noted : {T E : Type 0} (r : Result T E) (now : List ℕ) (es_now : List Event) (e : Event) → es_now ≡ e ∷ es → undone e.change now ≡ bytes → e.clock ≡ clock → clock < last_value
+      → length now ≡ length bytes → Ticks r (disk_of bytes es clock f g) (disk_of now es_now (next_count clock) h k)
+  ticks_noted r now es_now e first undoes at_clock before long = record {
+    tick = λ tells not_last. next_clock clock not_last;
+    later = omega arith;
+    ended = λ tells at_end. absurd (omega (arith, at_end, before));
+    time = elapses_noted bytes now es es_now e first undoes clock (next_count clock) f g h k at_clock;
+    size = long;
+  }
+
+  -- a write that was done
+  pub writes_done : {T E : Type 0} (v : T) (at : ℕ) (piece : List ℕ) (es_now : List Event) (e : Event) (next : ℕ) → es_now ≡ e ∷ es → IsOver at (length piece) bytes e.change → at + length piece ≤ length bytes
+      → Writes {E = E} at piece (Ok v) (disk_of bytes es clock f g) (disk_of (overwritten bytes at piece) es_now next h k)
+  writes_done v at piece es_now e next first over fits = record {
+    written = refl;
+    tried = tt;
+    silent = λ none. cc;
+    crash = λ c image.
+        let long : length over.0.items ≡ length piece = ap length over.2 ∙ range_long bytes at (length piece) fits in
+        let ranges : range_of e.change ≡ Some (at, length piece) = ap range_of over.1 ∙ ap (λ (n : ℕ). Some (at, n)) long in
+        image_torn bytes (overwritten bytes at piece) es e at (length piece) ranges fits fit (length-overwritten bytes at piece fits) (overwritten-outside bytes at piece fits)
+        c (subst (λ (l : List Event). IsImage (overwritten bytes at piece) l c) first image);
+  }
+
+  -- a write that was tried
+  pub writes_tried : {T E : Type 0} (err : E) (at : ℕ) (piece : List ℕ) (es_now : List Event) (e : Event) (next : ℕ) → es_now ≡ e ∷ es → e.change ≡ Tried at (length piece) → at + length piece ≤ length bytes
+      → Writes {T = T} at piece (Err err) (disk_of bytes es clock f g) (disk_of bytes es_now next h k)
+  writes_tried err at piece es_now e next first is fits = record {
+    written = tt;
+    tried = (bytes, refl, Torn-itself at (length piece) bytes fit);
+    silent = λ none. cc;
+    crash = λ c image.
+        image_torn bytes bytes es e at (length piece) (ap range_of is) fits fit refl (λ i outside. refl) c (subst (λ (l : List Event). IsImage bytes l c) first image);
+  }
+
+  -- a sync that was done
+  pub syncs_done : {T E : Type 0} (v : T) (es_now : List Event) (e : Event) (next : ℕ) → es_now ≡ e ∷ es → e.change ≡ Synced
+      → Syncs {E = E} (Ok v) (disk_of bytes es clock f g) (disk_of bytes es_now next h k)
+  syncs_done v es_now e next first is = record {
+    same = refl;
+    durable = λ c image. all_same c (subst (λ (l : List Event). IsImage bytes l c) first image);
+    crash = λ c image.
+        let here = all_same c (subst (λ (l : List Event). IsImage bytes l c) first image) in
+        subst (λ (l : List ℕ). IsImage bytes es l) (sym here) (record { long = refl; fit = fit; kept = λ i shut. refl });
+  }
+    where
+      all_same : (c : List ℕ) → IsImage bytes (e ∷ es) c → c ≡ bytes
+      all_same c image = ext_get_or 0 c bytes image.long (λ i low. image.kept i (λ is_open.
+          let Q : Option (ℕ × ℕ) → Type 0 = λ o. MatchOption o ⊥ (λ range. ((range.0 ≤ i) × (i < range.0 + range.1)) ⊎ IsOpen es i) in
+          subst Q (ap range_of is) is_open))

@@ -1,0 +1,101 @@
+//! Bytes in memory with the record of all that changed them.
+ghost use Rattle.std.specs.Prelude.{◌≡◌, ◌⊎◌, ℕ, ◌+◌, ◌^◌, ◌<◌, ◌≤◌, ◌↔◌, List, [], length, reverse, replicate, All, IsTrue, true, false, IsErr, IfErr, OnOk, OnErr, Ok, Err};
+ghost use Rattle.std.proofs.Props.{props};
+ghost use Rattle.hb_outside.specs.Memory.{next_count};
+ghost use Rattle.hb_disk.specs.Model.{last_value, overwritten};
+ghost use Rattle.hb_disk.specs.Calls.{Ticks, Writes, Syncs};
+ghost use Rattle.hb_disk.specs.Events.{Reaches, AreKept, disk_of, Notes, IsOver, Explains};
+
+use crate::event::{Change, Event, Refused};
+use std::alloc::Global;
+
+/// The bytes as they read now, each event that changed them, oldest first, and the clock.
+#[derive(Drop)]
+pub(crate) struct History {
+    pub(crate) bytes: Vec<u8>,
+    pub(crate) events: Vec<Event>,
+    pub(crate) clock: u64,
+    ghost bytes_fit: { All (λ x. x < 2 ^ 8) bytes.items },
+    ghost size_fits: { length bytes.items ≤ last_value },
+    ghost clock_fits: { clock ≤ last_value },
+    ghost events_fit: { AreKept clock (length bytes.items) (reverse events.items) } by { Prim.hlevel props },
+}
+
+impl History {
+    /// These bytes, before any event.
+    pub(crate) fn new(alloc: Global, bytes: Vec<u8>) -> History
+        ensures bytes { result.bytes ≡ bytes }
+        ensures events { result.events.items ≡ [] }
+        ensures clock { result.clock ≡ 0 }
+    {
+        History {
+            bytes,
+            events: Vec::new(alloc),
+            clock: 0,
+        }
+    }
+
+    /// A call passes that leaves nothing on record.
+    fn miss(&mut self) -> Result<(), Refused>
+        ensures failed { IsErr result }
+        ensures bytes { self.new.bytes ≡ self.old.bytes }
+        ensures events { self.new.events ≡ self.old.events }
+        ensures clock { self.new.clock ≡ next_count self.old.clock }
+        ensures why { IfErr result (Explains false self.old.clock) }
+    {
+        if self.clock == u64::MAX {
+            return Err(Refused::Over);
+        }
+        self.clock += 1;
+        Err(Refused::NoMemory)
+    }
+
+    /// A call passes that leaves this change on record.
+    fn note(&mut self, call: u64, change: Change) -> Result<(), Refused>
+        requires { Reaches change (length self.old.bytes.items) }
+        ensures done { OnOk result (Notes (λ c. c ≡ change) self.old.clock call
+            self.old.events.items self.new.events.items) }
+        ensures refused { OnErr result (self.new.events.items ≡ self.old.events.items) }
+        ensures bytes { self.new.bytes ≡ self.old.bytes }
+        ensures clock { self.new.clock ≡ next_count self.old.clock }
+        ensures why { IfErr result (Explains false self.old.clock) }
+    {
+        let clock = self.clock;
+        if clock == u64::MAX {
+            return Err(Refused::Over);
+        }
+        self.clock = clock + 1;
+        let event = Event {
+            clock,
+            call,
+            change,
+        };
+        if self.events.push(event).is_err() {
+            return Err(Refused::NoMemory);
+        }
+        Ok(())
+    }
+
+    /// Keeps the bytes of a range on record, before others are put there. A listed call fails, with its range on
+    /// record where there is memory for it.
+    fn keep(&mut self, alloc: Global, call: u64, listed: bool, at: usize, len: usize) -> Result<(), Refused>
+        requires { at + len ≤ length self.old.bytes.items }
+        ensures done { OnOk result (Notes (IsOver at len self.old.bytes.items) self.old.clock call
+            self.old.events.items self.new.events.items) }
+        ensures refused { OnErr result ((self.new.events.items ≡ self.old.events.items)
+            ⊎ Notes (λ c. c ≡ Change.Tried at len) self.old.clock call self.old.events.items self.new.events.items) }
+        ensures bytes { self.new.bytes ≡ self.old.bytes }
+        ensures clock { self.new.clock ≡ next_count self.old.clock }
+        ensures why { IfErr result (Explains listed self.old.clock) }
+        ensures listed { IsTrue listed → IsErr result }
+    {
+        if listed {
+            let _ = self.note(call, Change::Tried { at, len });
+            return Err(Refused::Listed);
+        }
+        match self.bytes[at..at + len].to_vec(alloc) {
+            Ok(before) => self.note(call, Change::Wrote { at, before }),
+            Err(_) => self.miss(),
+        }
+    }
+}
