@@ -1,15 +1,22 @@
 -- What a log keeps, in numbers, and when a group joins.
-use Rattle.std.proofs.Common.{◌≡◌, ℕ, ◌+◌, ◌*◌, ◌<◌, ◌≤◌, List, [], ◌∷◌, ◌++◌, length, drop, ap, ◌∙◌, arith, length-drop}
-use Rattle.std.specs.List.{All}
-use Rattle.std.proofs.lemmas.List.{drop-append-le}
-use Rattle.std.proofs.lemmas.List.Elements.{All-push}
+use Rattle.std.proofs.Common.{◌≡◌, ℕ, ◌+◌, ◌-◌, ◌*◌, ◌<◌, ◌≤◌, ◌⊎◌, inl, inr, Bool, true, false, cond, List, [], ◌∷◌, ◌++◌, length, get_or, take, drop, refl, sym, ap, ◌∙◌, subst, arith, append_assoc, length-append, length-take, length-drop}
+use Rattle.std.specs.List.{All, AllPairs}
+use Rattle.std.specs.Prelude.{vec_capacity}
+use Rattle.std.proofs.Math.Dec.{eqb}
+use Rattle.std.proofs.lemmas.Bool.{eqb-true, eqb-false}
+use Rattle.std.proofs.lemmas.List.{take_at, drop_at, nil_from_length}
+use Rattle.std.proofs.lemmas.List.Elements.{All-push, All-get_or}
 use Rattle.std.proofs.lemmas.List.Quantifiers.{all_pairs_push}
+use Rattle.std.proofs.Math.Seq.{take-add}
+use Rattle.byteorder.specs.Numbers.{length-bytes_high_first}
+use Rattle.hb_outside.specs.Numbers.{big_endian}
 use Rattle.hb_space.specs.declared.form.TheConstants.{PENDING}
+use Rattle.hb_wal.specs.Frames.{frame_body}
 use Rattle.hb_wal.specs.declared.groups.Group.{Group}
 use Rattle.hb_wal.specs.declared.log.Wal.TheInside.{Inside}
-use Rattle.hb_wal.specs.Log.{LogState, IsLog, pending_bytes, framed_bytes, room_of}
+use Rattle.hb_wal.specs.Log.{Waiting, LogState, IsLog, pending_bytes, framed_bytes, room_of}
 use Rattle.hb_wal.specs.Kept.{waiting_of, total_of, seen_as, Keeps}
-use Rattle.hb_wal.proofs.Waiting.{length-waiting_of, pending-waiting_of, framed-pending, count-pending, pending-push, framed-push, waiting-push}
+use Rattle.hb_wal.proofs.Waiting.{length-waiting_of, pending-waiting_of, framed-pending, count-pending, total-push, pending-push, framed-push, waiting-push}
 
 module _ (w : Inside) (keeps : Keeps w) where
   rest : length (drop 4 w.bytes.items) ≡ total_of w.groups.items
@@ -31,11 +38,84 @@ module _ (w : Inside) (keeps : Keeps w) where
   framed-seen = omega (arith, framed-pending (seen_as w).groups, pending-seen, count-seen)
 
   -- the groups when one more joins
-  pub seen-push : (group : List ℕ) (g : Group) → length group ≡ g.len
-      → waiting_of (drop 4 (w.bytes.items ++ group)) (w.groups.items ++ g ∷ []) ≡ (seen_as w).groups ++ record { bytes = group; mark = g.mark } ∷ []
-  seen-push group g long =
-      ap (λ (l : List ℕ). waiting_of l (w.groups.items ++ g ∷ [])) (drop-append-le 4 w.bytes.items group (omega (arith, keeps.bytes_len)))
+  pub seen-push : (bytes group : List ℕ) (g : Group) → drop 4 bytes ≡ drop 4 w.bytes.items ++ group → length group ≡ g.len
+      → waiting_of (drop 4 bytes) (w.groups.items ++ g ∷ []) ≡ (seen_as w).groups ++ record { bytes = group; mark = g.mark } ∷ []
+  seen-push bytes group g after long =
+      ap (λ (l : List ℕ). waiting_of l (w.groups.items ++ g ∷ [])) after
       ∙ waiting-push (drop 4 w.bytes.items) group w.groups.items g rest long
+
+-- the front and the rest of bytes whose first four were written
+pub front_of : (front behind : List ℕ) → length front ≡ 4 → take 4 (front ++ behind) ≡ front
+front_of front behind four = take_at front behind 4 four
+
+pub rest_of : (front behind : List ℕ) → length front ≡ 4 → drop 4 (front ++ behind) ≡ behind
+rest_of front behind four = drop_at front behind 4 four
+
+-- four bytes spell a length
+pub four_bytes : (n : ℕ) → length (big_endian 4 n) ≡ 4
+unfolding big_endian
+four_bytes n = length-bytes_high_first 4 n
+
+-- the first of some groups and one more behind them
+pub first-push : (groups : List Group) (g first : Group) (rest : List Group) → groups ++ g ∷ [] ≡ first ∷ rest → (groups ≡ []) × (first ≡ g) ⊎ ((others : List Group) × (groups ≡ first ∷ others))
+first-push [] g first rest e = inl (refl, sym (ap (λ (l : List Group). get_or l 0 g) e))
+first-push (h ∷ hs) g first rest e = inr (hs, ap (λ (l : List Group). get_or l 0 h ∷ hs) e)
+
+-- the body of the oldest group's frame
+pub body_is : (bytes : List ℕ) (g : Group) → 4 + g.len ≤ length bytes → take 4 bytes ≡ big_endian 4 g.len → take (4 + g.len) bytes ≡ frame_body (take g.len (drop 4 bytes))
+body_is bytes g fits front =
+    let cut : length (take g.len (drop 4 bytes)) ≡ g.len = omega (arith, length-take g.len (drop 4 bytes), length-drop 4 bytes, fits) in
+    take-add 4 g.len bytes ∙ ap (λ (l : List ℕ). l ++ take g.len (drop 4 bytes)) (front ∙ ap (big_endian 4) (sym cut))
+
+-- writing the length at the front leaves as many bytes
+pub first_length : (w : Inside) → Keeps w → (len : ℕ) (first : Bool) (bytes : List ℕ) → bytes ≡ cond first (big_endian 4 len) (take 4 w.bytes.items) ++ drop 4 w.bytes.items → length bytes ≡ length w.bytes.items
+first_length w keeps len true bytes is = omega (arith, ap (λ (l : List ℕ). length l) is, length-append (big_endian 4 len) (drop 4 w.bytes.items), four_bytes len, length-drop 4 w.bytes.items, keeps.bytes_len)
+first_length w keeps len false bytes is = omega (arith, ap (λ (l : List ℕ). length l) is, length-append (take 4 w.bytes.items) (drop 4 w.bytes.items), length-take 4 w.bytes.items, length-drop 4 w.bytes.items, keeps.bytes_len)
+
+-- whether a group waits
+pub no_groups : (n : ℕ) (groups : List Group) → n ≡ length groups → eqb n 0 ≡ true → groups ≡ []
+no_groups n groups count e = nil_from_length groups (sym count ∙ eqb-true n 0 e)
+
+pub some_groups : (n : ℕ) (groups : List Group) → n ≡ length groups → eqb n 0 ≡ false → groups ≡ [] → ⊥
+some_groups n groups count e none = eqb-false n 0 e (count ∙ ap (λ (l : List Group). length l) none)
+
+-- The bytes when a group joins behind the others, with its length at the front where it is the first.
+module _ (w : Inside) (keeps : Keeps w) (group : List ℕ) (g : Group) (long : length group ≡ g.len) (first : Bool) (tells : first ≡ true → w.groups.items ≡ []) (tells_not : first ≡ false → w.groups.items ≡ [] → ⊥) where
+  abbrev front : List ℕ
+  front = cond first (big_endian 4 g.len) (take 4 w.bytes.items)
+
+  by_case : (b : Bool) → length (cond b (big_endian 4 g.len) (take 4 w.bytes.items)) ≡ 4
+  by_case true = four_bytes g.len
+  by_case false = omega (arith, length-take 4 w.bytes.items, keeps.bytes_len)
+
+  module _ (bytes : List ℕ) (is : bytes ≡ (front ++ drop 4 w.bytes.items) ++ group) where
+    regrouped : bytes ≡ front ++ (drop 4 w.bytes.items ++ group)
+    regrouped = is ∙ append_assoc front (drop 4 w.bytes.items) group
+
+    pub joined_rest : drop 4 bytes ≡ drop 4 w.bytes.items ++ group
+    joined_rest = ap (λ (l : List ℕ). drop 4 l) regrouped ∙ rest_of front (drop 4 w.bytes.items ++ group) (by_case first)
+
+    pub joined_front : take 4 bytes ≡ front
+    joined_front = ap (λ (l : List ℕ). take 4 l) regrouped ∙ front_of front (drop 4 w.bytes.items ++ group) (by_case first)
+
+    pub joined_length : length bytes ≡ 4 + total_of (w.groups.items ++ g ∷ [])
+    joined_length = omega (arith, ap (λ (l : List ℕ). length l) is, length-append (front ++ drop 4 w.bytes.items) group, length-append front (drop 4 w.bytes.items), by_case first, length-drop 4 w.bytes.items, keeps.bytes_len, long, total-push w.groups.items g)
+
+    by_front : (b : Bool) → first ≡ b → (h : Group) (rest : List Group) → w.groups.items ++ g ∷ [] ≡ h ∷ rest → cond b (big_endian 4 g.len) (take 4 w.bytes.items) ≡ big_endian 4 h.len
+    by_front true is_first h rest e = elim (first-push w.groups.items g h rest e) [
+      | inl alone ↦ ap (λ (x : Group). big_endian 4 x.len) (sym alone.1)
+      | inr behind ↦ absurd (not_both (tells is_first) behind.1)
+    ]
+      where
+        not_both : w.groups.items ≡ [] → {others : List Group} → w.groups.items ≡ h ∷ others → ⊥
+        not_both none some = cc
+    by_front false not_first h rest e = elim (first-push w.groups.items g h rest e) [
+      | inl alone ↦ absurd (tells_not not_first alone.0)
+      | inr behind ↦ keeps.front h behind.0 behind.1
+    ]
+
+    pub joined_first : (h : Group) (rest : List Group) → w.groups.items ++ g ∷ [] ≡ h ∷ rest → take 4 bytes ≡ big_endian 4 h.len
+    joined_first h rest e = joined_front ∙ by_front first refl h rest e
 
 -- a log with one group more is one
 pub log-push : (log : LogState) (group : List ℕ) (mark : ℕ) → IsLog log → 0 < length group → length group ≤ room_of log → pending_bytes log.groups + length group ≤ PENDING

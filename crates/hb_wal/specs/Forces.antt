@@ -3,7 +3,7 @@ use Rattle.std.specs.Prelude.{◌≡◌, ◌⊎◌, ℕ, ◌+◌, ◌-◌, ◌<�
 use Rattle.hb_disk.specs.Model.{DiskModel, Torn}
 use Rattle.hb_disk.specs.Calls.{IsSynced}
 use Rattle.hb_wal.specs.Frames.{frames, IsPayload, HasFrames, range}
-use Rattle.hb_wal.specs.Log.{Waiting, LogState}
+use Rattle.hb_wal.specs.Log.{LogState, forced}
 
 -- The disk has this log, where it tells: the area is synced, the written bytes are frames of these payloads, and the
 -- rest of the area reads as zeros.
@@ -12,19 +12,6 @@ pub record HasLog (d : DiskModel) (log : LogState) (payloads : List (List ℕ)) 
   pub payloads_fit : All IsPayload payloads
   pub count : length (frames payloads) ≡ log.written
   pub reads : IfSome d.told (λ b. range log.area log.len b ≡ frames payloads ++ replicate (log.len - log.written) 0)
-
--- The payloads that the next force writes, a frame each.
-abbrev pub forced : List Waiting → List (List ℕ)
-forced [] = []
-forced (first ∷ rest) = first.bytes ∷ []
-
-abbrev pub left_waiting : List Waiting → List Waiting
-left_waiting [] = []
-left_waiting (first ∷ rest) = rest
-
--- The log after a force.
-abbrev pub after_force : LogState → LogState
-after_force log = record { area = log.area; len = log.len; written = log.written + length (frames (forced log.groups)); groups = left_waiting log.groups }
 
 -- What a crash may leave inside a force: a list of bytes that a crash could leave before, where the area has the
 -- frames that it had, or those and one more.

@@ -1,5 +1,6 @@
 -- How the log keeps the groups that wait: their bytes one after the other, and the length and mark of each.
 use Rattle.std.specs.Prelude.{◌≡◌, ℕ, ◌+◌, ◌≤◌, List, [], ◌∷◌, length, take, drop, vec_capacity}
+use Rattle.hb_outside.specs.Numbers.{big_endian}
 use Rattle.hb_space.specs.declared.form.TheConstants.{PENDING}
 use Rattle.hb_wal.specs.declared.groups.Group.{Group}
 use Rattle.hb_wal.specs.declared.log.Wal.TheInside.{Inside}
@@ -19,6 +20,7 @@ seen_as w = record { area = w.area; len = w.len; written = w.written; groups = w
 -- Four bytes of room stand before the groups, all memory is reserved, and the log is one.
 pub record Keeps (w : Inside) : Type 0 where
   pub bytes_len : length w.bytes.items ≡ 4 + total_of w.groups.items
+  pub front : (first : Group) (rest : List Group) → w.groups.items ≡ first ∷ rest → take 4 w.bytes.items ≡ big_endian 4 first.len
   pub bytes_room : 4 + PENDING ≤ vec_capacity w.bytes
   pub groups_room : PENDING ≤ vec_capacity w.groups
   pub log : IsLog (seen_as w)

@@ -1,6 +1,7 @@
 -- The log in memory: where its area is, how much of it is written, and the groups that wait.
-use Rattle.std.specs.Prelude.{ℕ, ◌+◌, ◌-◌, ◌<◌, ◌≤◌, List, [], ◌∷◌, length, All, AllPairs}
+use Rattle.std.specs.Prelude.{◌≡◌, ℕ, ◌+◌, ◌-◌, ◌<◌, ◌≤◌, List, [], ◌∷◌, length, All, AllPairs}
 use Rattle.hb_space.specs.declared.form.TheConstants.{PENDING}
+use Rattle.hb_wal.specs.Frames.{frames, frame_body}
 
 -- a group that waits: its bytes, and its mark
 pub record Waiting : Type 0 where
@@ -41,3 +42,21 @@ pub record IsLog (log : LogState) : Type 0 where
 abbrev pub mark_of : List Waiting → ℕ → ℕ
 mark_of [] now = now
 mark_of (first ∷ rest) now = first.mark
+
+-- The payloads that the next force writes, a frame each.
+abbrev pub forced : List Waiting → List (List ℕ)
+forced [] = []
+forced (first ∷ rest) = first.bytes ∷ []
+
+abbrev pub left_waiting : List Waiting → List Waiting
+left_waiting [] = []
+left_waiting (first ∷ rest) = rest
+
+-- The log after a force.
+abbrev pub after_force : LogState → LogState
+after_force log = record { area = log.area; len = log.len; written = log.written + length (frames (forced log.groups)); groups = left_waiting log.groups }
+
+-- a frame's body of the first group that waits
+abbrev pub BeginsWith : List Waiting → List ℕ → Type 0
+BeginsWith [] body = ⊥
+BeginsWith (first ∷ rest) body = body ≡ frame_body first.bytes

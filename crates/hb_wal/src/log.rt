@@ -1,8 +1,10 @@
-ghost use Rattle.std.specs.Prelude.{◌≡◌, ◌<◌, ◌≤◌, ◌+◌, ◌*◌, [], ◌∷◌, ◌++◌, length, All, IfOk};
+ghost use Rattle.std.specs.Prelude.{◌≡◌, ◌<◌, ◌≤◌, ◌+◌, ◌*◌, ◌^◌, [], ◌∷◌, ◌++◌, length, take, drop, if◌then◌else◌, All, IfOk, IsNone, IfSome, vec_capacity};
+ghost use Rattle.hb_outside.specs.Numbers.{big_endian};
 ghost use Rattle.hb_space.specs.declared.form.TheConstants.{PENDING};
-ghost use Rattle.hb_wal.specs.Log.{LogState, room_of, pending_bytes, mark_of};
+ghost use Rattle.hb_wal.specs.Log.{LogState, BeginsWith, after_force, room_of, pending_bytes, mark_of};
 
 use crate::groups::Group;
+use hb_outside::give_u32;
 use hb_space::NoMemory;
 use hb_space::form::PENDING;
 use std::alloc::Global;
@@ -99,8 +101,41 @@ impl Wal {
             len: group.len() as u32,
             mark,
         };
+        set_first_length(&mut self.bytes, self.groups.is_empty(), added.len);
         self.bytes.extend_from_slice(group).unwrap();
         self.groups.push(added).unwrap();
+    }
+
+    /// Where the next frame begins on the disk.
+    pub(crate) fn frame_gate(&self) -> u64
+        requires { self.now.area + self.now.len < 2 ^ 64 }
+        ensures { result ≡ self.now.area + self.now.written }
+    {
+        self.area + u64::from(self.written)
+    }
+
+    /// The body of the frame that the oldest group that waits will be: its length and its bytes.
+    pub(crate) fn oldest_body(&self) -> Option<&[u8]>
+        ensures none { self.now.groups ≡ [] → IsNone result }
+        ensures some { IfSome result (λ body. BeginsWith self.now.groups body.now) }
+    {
+        match self.groups.first() {
+            Some(oldest) => Some(&self.bytes[..LENGTH + oldest.len as usize]),
+            None => None,
+        }
+    }
+
+    /// The oldest group that waits is written: it is forgotten.
+    pub(crate) fn forget_oldest(&mut self)
+        requires { 0 < length self.old.groups }
+        ensures { self.new ≡ after_force self.old }
+    {
+        let oldest = self.groups.remove(0);
+        remove_part(&mut self.bytes, LENGTH, oldest.len as usize);
+        self.written += FRAME + oldest.len;
+        if let Some(next) = self.groups.first() {
+            give_u32(&mut self.bytes, 0, next.len);
+        }
     }
 
     /// Moves the log to another area of the same length, where it has no frame.
@@ -111,4 +146,26 @@ impl Wal {
         self.area = area;
         self.written = 0;
     }
+}
+
+/// Writes the length at the front, where the group is the first that waits.
+fn set_first_length(bytes: &mut Vec<u8>, first: bool, len: u32)
+    requires { 4 ≤ length bytes.old.items }
+    ensures items { bytes.new.items ≡ (if first then big_endian 4 len else take 4 bytes.old.items) ++ drop 4 bytes.old.items }
+    ensures capacity { vec_capacity bytes.new ≡ vec_capacity bytes.old }
+{
+    if first {
+        give_u32(bytes, 0, len);
+    }
+}
+
+/// Takes a part of the bytes away.
+fn remove_part(bytes: &mut Vec<u8>, at: usize, count: usize)
+    requires { at + count ≤ length bytes.old.items }
+    ensures items { bytes.new.items ≡ take at bytes.old.items ++ drop (at + count) bytes.old.items }
+    ensures capacity { vec_capacity bytes.new ≡ vec_capacity bytes.old }
+{
+    let left = bytes.len() - count;
+    bytes.copy_within(at + count.., at);
+    bytes.truncate(left);
 }

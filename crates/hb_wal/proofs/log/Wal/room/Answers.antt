@@ -1,6 +1,6 @@
 use Rattle.std.proofs.Common.{◌≡◌, ◌+◌, ◌*◌, ◌≤◌, length, ap, arith}
 use Rattle.hb_wal.specs.Log.{LogState, pending_bytes, framed_bytes}
-use Rattle.hb_wal.specs.Kept.{seen_as, total_of}
+use Rattle.hb_wal.specs.Kept.{total_of}
 use Rattle.hb_wal.proofs.Kept.{pending-seen, total_fits, count_fits, framed-seen}
 use Rattle.hb_wal.proofs.log.Wal.room.Goals as goal
 
