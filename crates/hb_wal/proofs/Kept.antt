@@ -1,20 +1,21 @@
 -- What a log keeps, in numbers, and when a group joins.
-use Rattle.std.proofs.Common.{◌≡◌, ℕ, ◌+◌, ◌-◌, ◌*◌, ◌<◌, ◌≤◌, ◌⊎◌, inl, inr, Bool, true, false, cond, List, [], ◌∷◌, ◌++◌, length, get_or, take, drop, refl, sym, ap, ◌∙◌, subst, arith, append_assoc, length-append, length-take, length-drop}
+use Rattle.std.proofs.Common.{◌≡◌, ℕ, suc, ◌+◌, ◌-◌, ◌*◌, ◌<◌, ◌≤◌, ◌⊎◌, inl, inr, Bool, true, false, cond, List, [], ◌∷◌, ◌++◌, length, get_or, take, drop, refl, sym, ap, ◌∙◌, subst, arith, append_assoc, length-append, length-take, length-drop}
 use Rattle.std.specs.List.{All, AllPairs}
-use Rattle.std.specs.Prelude.{vec_capacity}
+use Rattle.std.specs.Prelude.{vec_capacity, slice_get, Some}
+use Rattle.std.specs.List.{remove}
 use Rattle.std.proofs.Math.Dec.{eqb}
 use Rattle.std.proofs.lemmas.Bool.{eqb-true, eqb-false}
-use Rattle.std.proofs.lemmas.List.{take_at, drop_at, nil_from_length}
-use Rattle.std.proofs.lemmas.List.Elements.{All-push, All-get_or}
+use Rattle.std.proofs.lemmas.List.{take_at, drop_at, drop-drop, nil_from_length}
+use Rattle.std.proofs.lemmas.List.Elements.{All-push, All-tail}
 use Rattle.std.proofs.lemmas.List.Quantifiers.{all_pairs_push}
 use Rattle.std.proofs.Math.Seq.{take-add}
 use Rattle.byteorder.specs.Numbers.{length-bytes_high_first}
 use Rattle.hb_outside.specs.Numbers.{big_endian}
 use Rattle.hb_space.specs.declared.form.TheConstants.{PENDING}
-use Rattle.hb_wal.specs.Frames.{frame_body}
+use Rattle.hb_wal.specs.Frames.{frames, frame_bytes, frame_body}
 use Rattle.hb_wal.specs.declared.groups.Group.{Group}
 use Rattle.hb_wal.specs.declared.log.Wal.TheInside.{Inside}
-use Rattle.hb_wal.specs.Log.{Waiting, LogState, IsLog, pending_bytes, framed_bytes, room_of}
+use Rattle.hb_wal.specs.Log.{Waiting, LogState, IsLog, BeginsWith, after_force, pending_bytes, framed_bytes, room_of}
 use Rattle.hb_wal.specs.Kept.{waiting_of, total_of, seen_as, Keeps}
 use Rattle.hb_wal.proofs.Waiting.{length-waiting_of, pending-waiting_of, framed-pending, count-pending, total-push, pending-push, framed-push, waiting-push}
 
@@ -116,6 +117,75 @@ module _ (w : Inside) (keeps : Keeps w) (group : List ℕ) (g : Group) (long : l
 
     pub joined_first : (h : Group) (rest : List Group) → w.groups.items ++ g ∷ [] ≡ h ∷ rest → take 4 bytes ≡ big_endian 4 h.len
     joined_first h rest e = joined_front ∙ by_front first refl h rest e
+
+-- the first of some groups, by its place
+pub first_of : (groups : List Group) (g : Group) → slice_get groups 0 ≡ Some g → (rest : List Group) × (groups ≡ g ∷ rest)
+first_of [] g e = cc e
+first_of (h ∷ rest) g e = (rest, ap (λ (x : Group). x ∷ rest) (some_is h g e))
+  where
+    some_is : (x y : Group) → Some x ≡ Some y → x ≡ y
+    some_is x y e = cc e
+
+-- the body of the oldest group's frame stands at the front
+pub oldest_begins : (w : Inside) → Keeps w → (g : Group) (rest : List Group) → w.groups.items ≡ g ∷ rest → BeginsWith (seen_as w).groups (take (4 + g.len) w.bytes.items)
+oldest_begins w keeps g rest e =
+    let shown : BeginsWith (waiting_of (drop 4 w.bytes.items) (g ∷ rest)) (take (4 + g.len) w.bytes.items) =
+    body_is w.bytes.items g (omega (arith, keeps.bytes_len, ap total_of e)) (keeps.front g rest e) in
+    subst (λ (l : List Group). BeginsWith (waiting_of (drop 4 w.bytes.items) l) (take (4 + g.len) w.bytes.items)) (sym e) shown
+
+-- a frame has five bytes more than its payload
+pub length-frame : (payload : List ℕ) → length (frames (payload ∷ [])) ≡ 5 + length payload
+length-frame payload = omega (arith, length-append (frame_bytes payload) [], length-append (big_endian 4 (length payload)) payload, four_bytes (length payload))
+
+-- a log without its first group is one, where that was written as a frame
+pub log-pop : (log : LogState) (first : Waiting) (rest : List Waiting) → log.groups ≡ first ∷ rest → (n : ℕ) → length first.bytes ≡ n → IsLog log
+    → IsLog (record { area = log.area; len = log.len; written = log.written + (5 + n); groups = rest })
+log-pop log first others e n count is =
+    let Log : List Waiting → Type 0 = λ groups. IsLog (record { area = log.area; len = log.len; written = log.written; groups = groups }) in
+    let here : Log (first ∷ others) = subst Log e is in
+    record {
+      fits = omega (arith, here.fits, count);
+      groups = All-tail (λ g. 0 < length g.bytes) first others here.groups;
+      reserved = omega (arith, here.reserved);
+      marks = λ i j d low high. here.marks (suc i) (suc j) d (omega (arith, low)) (omega (arith, high));
+    }
+
+-- the first group, and those that are left when it is taken away
+pub removed_first : (groups : List Group) (g : Group) (left : List Group) → 0 < length groups → g ≡ get_or groups 0 g → left ≡ remove groups 0 → groups ≡ g ∷ left
+removed_first [] g left some first is = absurd (omega (arith, some))
+removed_first (h ∷ hs) g left some first is = λ i. sym first i ∷ sym is i
+
+-- The oldest group goes, written as a frame.
+module _ (w : Inside) (keeps : Keeps w) (g : Group) (rest : List Group) (is : w.groups.items ≡ g ∷ rest) (bytes : List ℕ) (count : length bytes + g.len ≡ length w.bytes.items) (behind : drop 4 bytes ≡ drop (4 + g.len) w.bytes.items) where
+  abbrev gone : LogState
+  gone = record { area = w.area; len = w.len; written = w.written + (5 + g.len); groups = waiting_of (drop 4 bytes) rest }
+
+  cut : length (take g.len (drop 4 w.bytes.items)) ≡ g.len
+  cut = omega (arith, length-take g.len (drop 4 w.bytes.items), length-drop 4 w.bytes.items, keeps.bytes_len, ap total_of is)
+
+  others : waiting_of (drop 4 bytes) rest ≡ waiting_of (drop g.len (drop 4 w.bytes.items)) rest
+  others = ap (λ (l : List ℕ). waiting_of l rest) (behind ∙ sym (drop-drop g.len 4 w.bytes.items ∙ ap (λ (n : ℕ). drop n w.bytes.items) (omega arith)))
+
+  split : (seen_as w).groups ≡ record { bytes = take g.len (drop 4 w.bytes.items); mark = g.mark } ∷ waiting_of (drop 4 bytes) rest
+  split = ap (waiting_of (drop 4 w.bytes.items)) is ∙ ap (λ (l : List Waiting). record { bytes = take g.len (drop 4 w.bytes.items); mark = g.mark } ∷ l) (sym others)
+
+  pub gone_length : length bytes ≡ 4 + total_of rest
+  gone_length = omega (arith, count, keeps.bytes_len, ap total_of is)
+
+  abbrev oldest : Waiting
+  oldest = record { bytes = take g.len (drop 4 w.bytes.items); mark = g.mark }
+
+  pub gone_is : gone ≡ after_force (seen_as w)
+  gone_is =
+      let frame : length (frames (oldest.bytes ∷ [])) ≡ 5 + g.len = omega (arith, length-frame oldest.bytes, cut) in
+      let After : List Waiting → Type 0 = λ groups. gone ≡ after_force (record { area = w.area; len = w.len; written = w.written; groups = groups }) in
+      let here : After (oldest ∷ waiting_of (drop 4 bytes) rest) = ap (λ (n : ℕ). record { area = w.area; len = w.len; written = w.written + n; groups = waiting_of (drop 4 bytes) rest }) (sym frame) in
+      subst After (sym split) here
+
+  pub gone_log : IsLog gone
+  gone_log =
+      let Log : List Waiting → Type 0 = λ groups. IsLog (record { area = w.area; len = w.len; written = w.written; groups = groups }) in
+      log-pop (record { area = w.area; len = w.len; written = w.written; groups = oldest ∷ waiting_of (drop 4 bytes) rest }) oldest (waiting_of (drop 4 bytes) rest) refl g.len cut (subst Log split keeps.log)
 
 -- a log with one group more is one
 pub log-push : (log : LogState) (group : List ℕ) (mark : ℕ) → IsLog log → 0 < length group → length group ≤ room_of log → pending_bytes log.groups + length group ≤ PENDING

@@ -1,4 +1,5 @@
-ghost use Rattle.std.specs.Prelude.{◌≡◌, ◌<◌, ◌≤◌, ◌+◌, ◌*◌, ◌^◌, [], ◌∷◌, ◌++◌, length, take, drop, if◌then◌else◌, All, IfOk, IsNone, IfSome, vec_capacity};
+ghost use Rattle.std.specs.Prelude.{◌≡◌, ◌<◌, ◌≤◌, ◌+◌, ◌*◌, ◌^◌, [], ◌∷◌, ◌++◌, List, length, take, drop, if◌then◌else◌, All, IfOk, IsNone, IfSome, vec_capacity};
+ghost use Rattle.hb_wal.specs.declared.groups.Group.{Group};
 ghost use Rattle.hb_outside.specs.Numbers.{big_endian};
 ghost use Rattle.hb_space.specs.declared.form.TheConstants.{PENDING};
 ghost use Rattle.hb_wal.specs.Log.{LogState, BeginsWith, after_force, room_of, pending_bytes, mark_of};
@@ -132,10 +133,8 @@ impl Wal {
     {
         let oldest = self.groups.remove(0);
         remove_part(&mut self.bytes, LENGTH, oldest.len as usize);
+        set_next_length(&mut self.bytes, &self.groups);
         self.written += FRAME + oldest.len;
-        if let Some(next) = self.groups.first() {
-            give_u32(&mut self.bytes, 0, next.len);
-        }
     }
 
     /// Moves the log to another area of the same length, where it has no frame.
@@ -156,6 +155,19 @@ fn set_first_length(bytes: &mut Vec<u8>, first: bool, len: u32)
 {
     if first {
         give_u32(bytes, 0, len);
+    }
+}
+
+/// Writes the length of the first group at the front, where there is one.
+fn set_next_length(bytes: &mut Vec<u8>, groups: &[Group])
+    requires { 4 ≤ length bytes.old.items }
+    ensures len { length bytes.new.items ≡ length bytes.old.items }
+    ensures rest { drop 4 bytes.new.items ≡ drop 4 bytes.old.items }
+    ensures front { (g : Group) (rest : List Group) → groups.now ≡ g ∷ rest → take 4 bytes.new.items ≡ big_endian 4 g.len }
+    ensures capacity { vec_capacity bytes.new ≡ vec_capacity bytes.old }
+{
+    if let Some(next) = groups.first() {
+        give_u32(bytes, 0, next.len);
     }
 }
 
