@@ -4,7 +4,9 @@
 mod callers;
 mod event;
 mod history;
+mod mem_disk;
 mod traits;
 
 pub use callers::{OPEN, write_behind_gate, write_in_order};
+pub use mem_disk::MemDisk;
 pub use traits::Disk;
