@@ -87,6 +87,7 @@ fn answer(done: Result<(), Refused>, faults: &mut u64, starved: &mut u64) -> Res
     ensures alike { Alike done result }
     ensures faults { faults.new ≡ faults_after done faults.old }
     ensures starved { starved.new ≡ starved_after done starved.old }
+    ensures later { faults.old ≤ faults.new }
 {
     let Err(refused) = done else {
         return Ok(());
