@@ -191,3 +191,49 @@ module _ (bytes : List ℕ) (es : List Event) (clock : ℕ) (fit : All (λ x. x 
       all_same c image = ext_get_or 0 c bytes image.long (λ i low. image.kept i (λ is_open.
           let Q : Option (ℕ × ℕ) → Type 0 = λ o. MatchOption o ⊥ (λ range. ((range.0 ≤ i) × (i < range.0 + range.1)) ⊎ IsOpen es i) in
           subst Q (ap range_of is) is_open))
+
+both_same : (Q : List ℕ → List Event → Type 0) (bytes now : List ℕ) (events after : List Event) → now ≡ bytes → after ≡ events → Q bytes events → Q now after
+both_same Q bytes now events after same none h = subst (λ (es : List Event). Q now es) (sym none) (subst (λ (l : List ℕ). Q l events) (sym same) h)
+
+-- the same, of the calls of a history
+module _ (bytes : List ℕ) (events : List Event) (clock : ℕ) (fit : All (λ x. x < 2 ^ 8) bytes) (clock_fits : clock ≤ last_value) (call : ℕ) where
+  pub sync_noted : {T E : Type 0} (r : Result T E) (now : List ℕ) (after : List Event) (next : ℕ) → now ≡ bytes
+      → OnOk r (Notes (λ d. d ≡ Synced) clock call events after) → OnErr r (after ≡ events)
+      → (f g h k : ℕ) → Syncs r (disk_of bytes (reverse events) clock f g) (disk_of now (reverse after) next h k)
+  sync_noted {T = T} {E = E} (Ok v) now after next same done refused f g h k =
+      let Q : List ℕ → Type 0 = λ l. Syncs {T = T} {E = E} (Ok v) (disk_of bytes (reverse events) clock f g) (disk_of l (reverse after) next h k) in
+      subst Q (sym same) (syncs_done bytes (reverse events) clock fit clock_fits f g h k v (reverse after) done.event next (newest (λ d. d ≡ Synced) clock call events after done) done.change)
+  sync_noted {T = T} {E = E} (Err e) now after next same done refused f g h k =
+      let Q : List ℕ → List Event → Type 0 = λ l es. Syncs {T = T} {E = E} (Err e) (disk_of bytes (reverse events) clock f g) (disk_of l (reverse es) next h k) in
+      both_same Q bytes now events after same refused (syncs_missed bytes (reverse events) clock fit clock_fits f g h k e next)
+
+  pub write_refused : {T E : Type 0} (r : Result T E) (at : ℕ) (piece : List ℕ) (now : List ℕ) (after : List Event) (next : ℕ) → IsErr r → at + length piece ≤ length bytes → now ≡ bytes
+      → (after ≡ events) ⊎ Notes (λ d. d ≡ Tried at (length piece)) clock call events after
+      → (f g h k : ℕ) → Writes at piece r (disk_of bytes (reverse events) clock f g) (disk_of now (reverse after) next h k)
+  write_refused (Ok v) at piece now after next failed fits same how f g h k = cc
+  write_refused {T = T} {E = E} (Err e) at piece now after next failed fits same (inl none) f g h k =
+      let Q : List ℕ → List Event → Type 0 = λ l es. Writes {T = T} {E = E} at piece (Err e) (disk_of bytes (reverse events) clock f g) (disk_of l (reverse es) next h k) in
+      both_same Q bytes now events after same none (writes_missed bytes (reverse events) clock fit clock_fits f g h k e at piece next)
+  write_refused {T = T} {E = E} (Err e) at piece now after next failed fits same (inr tried) f g h k =
+      let Q : List ℕ → Type 0 = λ l. Writes {T = T} {E = E} at piece (Err e) (disk_of bytes (reverse events) clock f g) (disk_of l (reverse after) next h k) in
+      subst Q (sym same) (writes_tried bytes (reverse events) clock fit clock_fits f g h k e at piece (reverse after) tried.event next
+        (newest (λ d. d ≡ Tried at (length piece)) clock call events after tried) tried.change fits)
+
+  pub write_kept : {T E : Type 0} (v : T) (at : ℕ) (piece : List ℕ) (now : List ℕ) (after : List Event) (next : ℕ) → at + length piece ≤ length bytes → now ≡ overwritten bytes at piece
+      → Notes (IsOver at (length piece) bytes) clock call events after
+      → (f g h k : ℕ) → Writes {E = E} at piece (Ok v) (disk_of bytes (reverse events) clock f g) (disk_of now (reverse after) next h k)
+  write_kept {T = T} {E = E} v at piece now after next fits same noted f g h k =
+      let Q : List ℕ → Type 0 = λ l. Writes {T = T} {E = E} at piece (Ok v) (disk_of bytes (reverse events) clock f g) (disk_of l (reverse after) next h k) in
+      subst Q (sym same) (writes_done bytes (reverse events) clock fit clock_fits f g h k v at piece (reverse after) noted.event next
+        (newest (IsOver at (length piece) bytes) clock call events after noted) noted.change fits)
+
+  pub ticks_kept : {T E : Type 0} (r : Result T E) (at : ℕ) (piece : List ℕ) (now : List ℕ) (after : List Event) (next : ℕ) → at + length piece ≤ length bytes → now ≡ overwritten bytes at piece
+      → next ≡ next_count clock → Notes (IsOver at (length piece) bytes) clock call events after
+      → (f g h k : ℕ) → Ticks r (disk_of bytes (reverse events) clock f g) (disk_of now (reverse after) next h k)
+  ticks_kept {T = T} {E = E} r at piece now after next fits same ticked noted f g h k =
+      let Q : List ℕ → ℕ → Type 0 = λ l t. Ticks r (disk_of bytes (reverse events) clock f g) (disk_of l (reverse after) t h k) in
+      let over = noted.change in
+      let undoes : undone noted.event.change (overwritten bytes at piece) ≡ bytes = ap (λ d. undone d (overwritten bytes at piece)) over.1 ∙ put_back bytes at piece over.0.items fits over.2 in
+      subst (λ t. Q now t) (sym ticked) (subst (λ (l : List ℕ). Q l (next_count clock)) (sym same)
+        (ticks_noted bytes (reverse events) clock fit clock_fits f g h k r (overwritten bytes at piece) (reverse after) noted.event
+          (newest (IsOver at (length piece) bytes) clock call events after noted) undoes noted.at_clock noted.time_left (length-overwritten bytes at piece fits)))

@@ -1,6 +1,7 @@
 -- What a record of calls says of the bytes: which they were at each moment, and which places a crash leaves open.
-use Rattle.std.specs.Prelude.{Bool, true, false, ◌≡◌, ◌⊎◌, ℕ, ◌+◌, ◌^◌, ◌<◌, ◌≤◌, List, [], ◌∷◌, ◌++◌, length, get_or, take, drop, All, Vec, Option, Some, None, IfSome, MatchOption, if◌then◌else◌, ltb}
+use Rattle.std.specs.Prelude.{Bool, true, false, ◌≡◌, ◌⊎◌, ℕ, ◌+◌, ◌^◌, ◌<◌, ◌≤◌, List, [], ◌∷◌, ◌++◌, length, get_or, take, drop, All, Vec, Option, Some, None, IfSome, MatchOption, Result, Ok, Err, ⊤, if◌then◌else◌, ltb}
 use Rattle.std.specs.declared.alloc.Global.{Global}
+use Rattle.hb_outside.specs.Memory.{next_count}
 use Rattle.hb_disk.specs.Model.{DiskModel, overwritten, last_value}
 use Rattle.hb_disk.specs.declared.event.Change.{Change}
 use Rattle.hb_disk.specs.declared.event.Change.TheVariants.{Wrote, Tried, Synced}
@@ -93,3 +94,22 @@ abbrev pub Explains : Bool → ℕ → Refused → Type 0
 Explains listed clock Listed = listed ≡ true
 Explains listed clock Over = (listed ≡ false) × (clock ≡ last_value)
 Explains listed clock NoMemory = (listed ≡ false) × (clock < last_value)
+
+-- two results are both a success, or both a failure
+abbrev pub Alike : {T E F : Type 0} → Result T E → Result T F → Type 0
+Alike (Ok v) (Ok w) = ⊤
+Alike (Ok v) (Err f) = ⊥
+Alike (Err e) (Ok w) = ⊥
+Alike (Err e) (Err f) = ⊤
+
+-- the count of faults after a call
+abbrev pub faults_after : {T : Type 0} → Result T Refused → ℕ → ℕ
+faults_after (Ok v) count = count
+faults_after (Err refused) count = next_count count
+
+-- the count of calls that found no memory, after a call
+abbrev pub starved_after : {T : Type 0} → Result T Refused → ℕ → ℕ
+starved_after (Ok v) count = count
+starved_after (Err Listed) count = count
+starved_after (Err Over) count = count
+starved_after (Err NoMemory) count = next_count count

@@ -1,5 +1,6 @@
 //! What the calls of a disk in memory leave on record.
-ghost use Rattle.std.specs.Prelude.{◌≡◌, ◌≤◌, length};
+ghost use Rattle.std.specs.Prelude.{◌≡◌, ◌+◌, ◌≤◌, length, replicate};
+ghost use Rattle.hb_disk.specs.Model.{overwritten};
 ghost use Rattle.hb_disk.specs.Events.{undone, range_of, Reaches};
 
 /// Why a call wasn't done.
@@ -39,7 +40,7 @@ impl Change {
         ensures { bytes.new ≡ undone self.now bytes.old }
     {
         if let Change::Wrote { at, before } = self {
-            bytes[*at..*at + before.len()].copy_from_slice(before);
+            put_at(bytes, *at, before);
         }
     }
 
@@ -53,4 +54,20 @@ impl Change {
             Change::Synced => None,
         }
     }
+}
+
+/// Puts the piece at the place.
+pub(crate) fn put_at(bytes: &mut [u8], at: usize, piece: &[u8])
+    requires { at + length piece.now ≤ length bytes.old }
+    ensures { bytes.new ≡ overwritten bytes.old at piece.now }
+{
+    bytes[at..at + piece.len()].copy_from_slice(piece);
+}
+
+/// Puts so many bytes of one value at the place.
+pub(crate) fn fill_at(bytes: &mut [u8], at: usize, len: usize, byte: u8)
+    requires { at + len ≤ length bytes.old }
+    ensures { bytes.new ≡ overwritten bytes.old at (replicate len byte) }
+{
+    bytes[at..at + len].fill(byte);
 }

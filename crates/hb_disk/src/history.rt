@@ -6,7 +6,7 @@ ghost use Rattle.hb_disk.specs.Model.{last_value, overwritten};
 ghost use Rattle.hb_disk.specs.Calls.{Ticks, Writes, Syncs};
 ghost use Rattle.hb_disk.specs.Events.{Reaches, AreKept, disk_of, Notes, IsOver, Explains};
 
-use crate::event::{Change, Event, Refused};
+use crate::event::{Change, Event, Refused, fill_at, put_at};
 use std::alloc::Global;
 
 /// The bytes as they read now, each event that changed them, oldest first, and the clock.
@@ -97,5 +97,80 @@ impl History {
             Ok(before) => self.note(call, Change::Wrote { at, before }),
             Err(_) => self.miss(),
         }
+    }
+
+    /// Puts the piece at the place, and leaves the record as it is.
+    fn put(&mut self, at: usize, piece: &[u8])
+        requires { at + length piece.now ≤ length self.old.bytes.items }
+        ensures bytes { self.new.bytes.items ≡ overwritten self.old.bytes.items at piece.now }
+        ensures events { self.new.events ≡ self.old.events }
+        ensures clock { self.new.clock ≡ self.old.clock }
+    {
+        put_at(&mut self.bytes, at, piece);
+    }
+
+    /// The same with zero bytes.
+    fn clear(&mut self, at: usize, len: usize)
+        requires { at + len ≤ length self.old.bytes.items }
+        ensures bytes { self.new.bytes.items ≡ overwritten self.old.bytes.items at (replicate len 0) }
+        ensures events { self.new.events ≡ self.old.events }
+        ensures clock { self.new.clock ≡ self.old.clock }
+    {
+        fill_at(&mut self.bytes, at, len, 0);
+    }
+
+    /// Puts the bytes at the place.
+    pub(crate) fn write(&mut self, alloc: Global, call: u64, listed: bool, at: usize, piece: &[u8]) -> Result<(), Refused>
+        requires { at + length piece.now ≤ length self.old.bytes.items }
+        ensures writes { (f g h k : ℕ) → Writes at piece.now result
+            (disk_of self.old.bytes.items (reverse self.old.events.items) self.old.clock f g)
+            (disk_of self.new.bytes.items (reverse self.new.events.items) self.new.clock h k) }
+        ensures ticks { (f g h k : ℕ) → Ticks result
+            (disk_of self.old.bytes.items (reverse self.old.events.items) self.old.clock f g)
+            (disk_of self.new.bytes.items (reverse self.new.events.items) self.new.clock h k) }
+        ensures same { OnErr result (self.new.bytes.items ≡ self.old.bytes.items) }
+        ensures why { IfErr result (Explains listed self.old.clock) }
+        ensures listed { IsTrue listed → IsErr result }
+    {
+        self.keep(alloc, call, listed, at, piece.len())?;
+        self.put(at, piece);
+        Ok(())
+    }
+
+    /// Puts zero bytes at the place.
+    pub(crate) fn zero(&mut self, alloc: Global, call: u64, listed: bool, at: usize, len: usize) -> Result<(), Refused>
+        requires { at + len ≤ length self.old.bytes.items }
+        ensures writes { (f g h k : ℕ) → Writes at (replicate len 0) result
+            (disk_of self.old.bytes.items (reverse self.old.events.items) self.old.clock f g)
+            (disk_of self.new.bytes.items (reverse self.new.events.items) self.new.clock h k) }
+        ensures ticks { (f g h k : ℕ) → Ticks result
+            (disk_of self.old.bytes.items (reverse self.old.events.items) self.old.clock f g)
+            (disk_of self.new.bytes.items (reverse self.new.events.items) self.new.clock h k) }
+        ensures same { OnErr result (self.new.bytes.items ≡ self.old.bytes.items) }
+        ensures why { IfErr result (Explains listed self.old.clock) }
+        ensures listed { IsTrue listed → IsErr result }
+    {
+        self.keep(alloc, call, listed, at, len)?;
+        self.clear(at, len);
+        Ok(())
+    }
+
+    /// Makes all that was written last.
+    pub(crate) fn sync(&mut self, call: u64, listed: bool) -> Result<(), Refused>
+        ensures syncs { (f g h k : ℕ) → Syncs result
+            (disk_of self.old.bytes.items (reverse self.old.events.items) self.old.clock f g)
+            (disk_of self.new.bytes.items (reverse self.new.events.items) self.new.clock h k) }
+        ensures ticks { (f g h k : ℕ) → Ticks result
+            (disk_of self.old.bytes.items (reverse self.old.events.items) self.old.clock f g)
+            (disk_of self.new.bytes.items (reverse self.new.events.items) self.new.clock h k) }
+        ensures same { self.new.bytes.items ≡ self.old.bytes.items }
+        ensures why { IfErr result (Explains listed self.old.clock) }
+        ensures listed { IsTrue listed → IsErr result }
+    {
+        if listed {
+            let _ = self.miss();
+            return Err(Refused::Listed);
+        }
+        self.note(call, Change::Synced)
     }
 }

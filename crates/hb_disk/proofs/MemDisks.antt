@@ -1,0 +1,109 @@
+-- What a disk in memory answers, from what its history did.
+use Rattle.std.proofs.Common.{◌≡◌, ◌⊎◌, ◌↔◌, inl, inr, ⊎_elim, ℕ, ◌+◌, ◌-◌, ◌^◌, ◌<◌, ◌≤◌, min, Bool, true, false, List, length, Result, Ok, Err, IsTrue, IsErr, IfErr, OnOk, OnErr, refl, sym, ap, ◌∙◌, subst, arith}
+use Rattle.std.proofs.lemmas.Bool.{cases_lt}
+use Rattle.hb_outside.specs.Streams.{Rose}
+use Rattle.hb_outside.specs.Memory.{next_count}
+use Rattle.hb_disk.specs.Model.{DiskModel, last_value}
+use Rattle.hb_disk.specs.Calls.{Ticks, Writes, Syncs, WriteFaults}
+use Rattle.hb_disk.specs.Events.{Alike, Explains, faults_after, starved_after}
+use Rattle.hb_disk.specs.MemDisk.{bytes_of, seen_as, IsListed, CalledExactly}
+use Rattle.hb_disk.specs.declared.event.Refused.{Refused}
+use Rattle.hb_disk.specs.declared.event.Refused.TheVariants.{Listed, Over, NoMemory}
+use Rattle.hb_disk.specs.declared.mem_disk.MemDisk.{MemDisk}
+
+-- What is said of one result holds of another that is alike.
+pub told_writes : {T E F : Type 0} (done : Result T E) (r : Result T F) (at : ℕ) (piece : List ℕ) (old new : DiskModel) → Alike done r → Writes at piece done old new → Writes at piece r old new
+told_writes (Ok v) (Ok w) at piece old new alike writes = record { written = writes.written; tried = tt; silent = writes.silent; crash = writes.crash }
+told_writes (Ok v) (Err f) at piece old new alike writes = absurd alike
+told_writes (Err e) (Ok w) at piece old new alike writes = absurd alike
+told_writes (Err e) (Err f) at piece old new alike writes = record { written = tt; tried = writes.tried; silent = writes.silent; crash = writes.crash }
+
+pub told_syncs : {T E F : Type 0} (done : Result T E) (r : Result T F) (old new : DiskModel) → Alike done r → Syncs done old new → Syncs r old new
+told_syncs (Ok v) (Ok w) old new alike syncs = record { same = syncs.same; durable = syncs.durable; crash = syncs.crash }
+told_syncs (Ok v) (Err f) old new alike syncs = absurd alike
+told_syncs (Err e) (Ok w) old new alike syncs = absurd alike
+told_syncs (Err e) (Err f) old new alike syncs = record { same = syncs.same; durable = tt; crash = syncs.crash }
+
+told_err : {T E F : Type 0} (done : Result T E) (r : Result T F) → Alike done r → IsErr done → IsErr r
+told_err (Ok v) (Ok w) alike err = cc
+told_err (Ok v) (Err f) alike err = refl
+told_err (Err e) (Ok w) alike err = absurd alike
+told_err (Err e) (Err f) alike err = refl
+
+pub told_ticks : {T E F : Type 0} (done : Result T E) (r : Result T F) (old new : DiskModel) → Alike done r → Ticks done old new → Ticks r old new
+told_ticks done r old new alike ticks = record {
+  tick = ticks.tick;
+  later = ticks.later;
+  ended = λ tells at_end. let was = ticks.ended tells at_end in (told_err done r alike was.0, was.1);
+  time = ticks.time;
+  size = ticks.size;
+}
+
+rose_next : (count : ℕ) → Rose count (next_count count)
+rose_next count = elim (cases_lt count last_value) [ inl before ↦ inl (omega arith) | inr at_end ↦ inr (omega arith) ]
+
+pub told_faults : {T F : Type 0} (done : Result T Refused) (r : Result T F) (old new : DiskModel) → Alike done r → new.write_faults ≡ faults_after done old.write_faults
+    → old.write_faults ≤ new.write_faults → new.read_faults ≡ old.read_faults → WriteFaults r old new
+told_faults (Ok v) (Ok w) old new alike is later reads = record { cause = tt; later = later; reads = reads }
+told_faults (Ok v) (Err f) old new alike is later reads = absurd alike
+told_faults (Err e) (Ok w) old new alike is later reads = absurd alike
+told_faults (Err e) (Err f) old new alike is later reads =
+    record { cause = subst (λ n. Rose old.write_faults n) (sym is) (rose_next old.write_faults); later = later; reads = reads }
+
+-- exactly when a call fails, and what it counts
+module _ (old new : MemDisk) (listed : Bool) (listing : IsTrue listed ↔ IsListed old) (calls : new.calls ≡ next_count old.calls) (failing : new.failing ≡ old.failing)
+  (reads : new.read_faults ≡ old.read_faults) {T F : Type 0} where
+  pub called_exactly : (done : Result T Refused) (r : Result T F) → Alike done r → (IsTrue listed → IsErr done) → (old.history.clock ≡ last_value → IsErr done)
+      → IfErr done (Explains listed old.history.clock) → OnErr done (bytes_of new ≡ bytes_of old)
+      → new.write_faults ≡ faults_after done old.write_faults → new.starved ≡ starved_after done old.starved → CalledExactly r old new
+  called_exactly (Ok v) (Ok w) alike must over why same faults starved = record {
+    listed = λ l. cc (must (listing.1 l));
+    ended = λ at_end. cc (over at_end);
+    blame = tt;
+    unchanged = tt;
+    calls = calls;
+    failing = failing;
+    fault = tt;
+    no_fault = (faults, starved);
+    read_faults = reads;
+  }
+  called_exactly (Ok v) (Err f) alike must over why same faults starved = absurd alike
+  called_exactly (Err e) (Ok w) alike must over why same faults starved = absurd alike
+  called_exactly (Err Listed) (Err f) alike must over why same faults starved = record {
+    listed = λ l. (refl, starved);
+    ended = λ at_end. (refl, starved);
+    blame = inl (listing.0 why);
+    unchanged = same;
+    calls = calls;
+    failing = failing;
+    fault = faults;
+    no_fault = tt;
+    read_faults = reads;
+  }
+  called_exactly (Err Over) (Err f) alike must over why same faults starved = record {
+    listed = λ l. (refl, starved);
+    ended = λ at_end. (refl, starved);
+    blame = inr (inl why.1);
+    unchanged = same;
+    calls = calls;
+    failing = failing;
+    fault = faults;
+    no_fault = tt;
+    read_faults = reads;
+  }
+  called_exactly (Err NoMemory) (Err f) alike must over why same faults starved = record {
+    listed = λ l. cc (listing.1 l, why.0);
+    ended = λ at_end. absurd (omega (arith, at_end, why.1));
+    blame = inr (inr starved);
+    unchanged = same;
+    calls = calls;
+    failing = failing;
+    fault = faults;
+    no_fault = tt;
+    read_faults = reads;
+  }
+
+-- what holds anyway holds on failure
+pub on_err : {T E : Type 0} (r : Result T E) (P : Type 0) → P → OnErr r P
+on_err (Ok v) P h = tt
+on_err (Err e) P h = h

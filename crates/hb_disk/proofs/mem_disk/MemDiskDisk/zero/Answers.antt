@@ -1,0 +1,38 @@
+use Rattle.std.proofs.Common.{◌↔◌, ℕ, List, IsTrue, subst, refl, replicate}
+use Rattle.std.specs.List.{Contains}
+use Rattle.hb_disk.specs.MemDisk.{seen_as}
+use Rattle.hb_disk.specs.declared.mem_disk.MemDisk.{MemDisk}
+use Rattle.hb_disk.proofs.MemDisks.{told_writes, told_ticks, told_faults, called_exactly}
+use Rattle.hb_disk.proofs.mem_disk.MemDiskDisk.zero.Goals as goal
+
+-- the disk as the call leaves it
+abbrev new_of : goal.After-answer → MemDisk
+new_of c = record {
+  alloc = c.args.self.now.alloc;
+  history = c.zero-done.new.self;
+  failing = c.args.self.now.failing;
+  calls = c.saturating_add-self.result;
+  read_faults = c.args.self.now.read_faults;
+  write_faults = c.answer.new.faults;
+  starved = c.answer.new.starved;
+}
+
+pub returns-clause-writes : goal.returns-clause-writes
+returns-clause-writes c =
+    told_writes c.zero-done.result c.answer.result c.args.at (replicate c.args.len 0) (seen_as c.args.self.now) (seen_as (new_of c)) c.answer.ensures.alike
+    (c.zero-done.ensures.writes c.args.self.now.read_faults c.args.self.now.write_faults c.args.self.now.read_faults c.answer.new.faults)
+
+pub returns-clause-ticks : goal.returns-clause-ticks
+returns-clause-ticks c =
+    told_ticks c.zero-done.result c.answer.result (seen_as c.args.self.now) (seen_as (new_of c)) c.answer.ensures.alike
+    (c.zero-done.ensures.ticks c.args.self.now.read_faults c.args.self.now.write_faults c.args.self.now.read_faults c.answer.new.faults)
+
+pub returns-clause-faults : goal.returns-clause-faults
+returns-clause-faults c =
+    told_faults c.zero-done.result c.answer.result (seen_as c.args.self.now) (seen_as (new_of c)) c.answer.ensures.alike c.answer.ensures.faults c.answer.ensures.later refl
+
+pub returns-clause-exact : goal.returns-clause-exact
+returns-clause-exact c =
+    called_exactly c.args.self.now (new_of c) c.is_listed-listed.result (subst (λ (l : List ℕ). IsTrue c.is_listed-listed.result ↔ Contains l c.args.self.now.calls) c.deref.ensures.value c.is_listed-listed.ensures) c.saturating_add-self.ensures refl refl
+    c.zero-done.result c.answer.result c.answer.ensures.alike c.zero-done.ensures.listed (λ at_end. ((c.zero-done.ensures.ticks 0 0 0 0).ended refl at_end).0)
+    c.zero-done.ensures.why c.zero-done.ensures.same c.answer.ensures.faults c.answer.ensures.starved

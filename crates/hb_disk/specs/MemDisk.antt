@@ -1,0 +1,58 @@
+-- A disk in memory, as its own contracts see it.
+use Rattle.std.specs.Prelude.{◌≡◌, ◌⊎◌, ◌↔◌, ℕ, List, [], reverse, Contains, Result, IsErr, OnOk, OnErr}
+use Rattle.hb_outside.specs.Memory.{next_count}
+use Rattle.hb_disk.specs.Model.{DiskModel, last_value}
+use Rattle.hb_disk.specs.Events.{disk_of}
+use Rattle.hb_disk.specs.declared.event.Event.{Event}
+use Rattle.hb_disk.specs.declared.mem_disk.MemDisk.{MemDisk}
+
+-- the bytes as they read now
+abbrev pub bytes_of : MemDisk → List ℕ
+bytes_of d = d.history.bytes.items
+
+-- what changed them, the newest first
+abbrev pub events_of : MemDisk → List Event
+events_of d = reverse d.history.events.items
+
+-- the disk that it is
+abbrev pub seen_as : MemDisk → DiskModel
+seen_as d = disk_of (bytes_of d) (events_of d) d.history.clock d.read_faults d.write_faults
+
+-- the next call is one of those that fail
+abbrev pub IsListed : MemDisk → Type 0
+IsListed d = Contains d.failing.items d.calls
+
+-- A disk that was never called, of these bytes, and that fails at these calls.
+pub record StartsWith (bytes failing : List ℕ) (d : MemDisk) : Type 0 where
+  pub holds : bytes_of d ≡ bytes
+  pub nothing : d.history.events.items ≡ []
+  pub clock : d.history.clock ≡ 0
+  pub listed : d.failing.items ≡ failing
+  pub calls : d.calls ≡ 0
+  pub read_faults : d.read_faults ≡ 0
+  pub write_faults : d.write_faults ≡ 0
+  pub starved : d.starved ≡ 0
+
+-- A read fails exactly at a listed call. It changes nothing but the counts.
+pub record ReadExactly {T E : Type 0} (result : Result T E) (old new : MemDisk) : Type 0 where
+  pub fails : IsErr result ↔ IsListed old
+  pub history : new.history ≡ old.history
+  pub calls : new.calls ≡ next_count old.calls
+  pub failing : new.failing ≡ old.failing
+  pub fault : OnErr result (new.read_faults ≡ next_count old.read_faults)
+  pub no_fault : OnOk result (new.read_faults ≡ old.read_faults)
+  pub write_faults : new.write_faults ≡ old.write_faults
+  pub starved : new.starved ≡ old.starved
+
+-- A write, zero or sync fails at a listed call, where the clock is at its last value, and else only for want of memory,
+-- which it counts. The bytes of a call that failed are as they were.
+pub record CalledExactly {T E : Type 0} (result : Result T E) (old new : MemDisk) : Type 0 where
+  pub listed : IsListed old → IsErr result × (new.starved ≡ old.starved)
+  pub ended : old.history.clock ≡ last_value → IsErr result × (new.starved ≡ old.starved)
+  pub blame : OnErr result (IsListed old ⊎ ((old.history.clock ≡ last_value) ⊎ (new.starved ≡ next_count old.starved)))
+  pub unchanged : OnErr result (bytes_of new ≡ bytes_of old)
+  pub calls : new.calls ≡ next_count old.calls
+  pub failing : new.failing ≡ old.failing
+  pub fault : OnErr result (new.write_faults ≡ next_count old.write_faults)
+  pub no_fault : OnOk result ((new.write_faults ≡ old.write_faults) × (new.starved ≡ old.starved))
+  pub read_faults : new.read_faults ≡ old.read_faults

@@ -1,0 +1,176 @@
+//! A disk in memory that keeps a record of its calls and fails at chosen ones.
+ghost use Rattle.std.specs.Prelude.{◌≡◌, ◌⊎◌, ℕ, ◌+◌, ◌<◌, ◌≤◌, ◌↔◌, [], length, reverse, replicate, Contains, IsTrue, IsErr, IfErr, OnOk, OnErr, Err};
+ghost use Rattle.hb_outside.specs.Streams.{Rose};
+ghost use Rattle.hb_outside.specs.Memory.{next_count};
+ghost use Rattle.hb_disk.specs.Model.{Stays, last_value};
+ghost use Rattle.hb_disk.specs.Calls.{Ticks, WriteFaults, Writes, Syncs, Reads, ReadFaults};
+ghost use Rattle.hb_disk.specs.Events.{disk_of, Alike, faults_after, starved_after};
+ghost use Rattle.hb_disk.specs.EventLaws.{history_is_disk};
+
+use crate::Disk;
+use crate::event::Refused;
+use crate::history::History;
+use hb_outside::Failed;
+use std::alloc::Global;
+
+/// A disk in memory. It tells its bytes, and it can tell what a crash might have left at each moment of its life.
+///
+/// A read, write, zero or sync is a call, and the calls are counted from 0. The calls of chosen numbers fail. No other
+/// fails, but for want of memory for the record of a write, zero or sync, or where the clock stands at its last value.
+#[derive(Drop)]
+pub struct MemDisk {
+    alloc: Global,
+    history: History,
+    failing: Vec<u64>,
+    calls: u64,
+    read_faults: u64,
+    write_faults: u64,
+    starved: u64,
+}
+
+impl MemDisk {
+    ghost use Rattle.hb_disk.specs.MemDisk.{bytes_of, StartsWith};
+
+    /// A disk of these bytes that fails at no call.
+    pub fn new(alloc: Global, bytes: Vec<u8>) -> MemDisk
+        ensures { StartsWith bytes.items [] result }
+    {
+        MemDisk::failing(alloc, bytes, Vec::new(alloc))
+    }
+
+    /// A disk of these bytes that fails at the calls of these numbers.
+    pub fn failing(alloc: Global, bytes: Vec<u8>, calls: Vec<u64>) -> MemDisk
+        ensures { StartsWith bytes.items calls.items result }
+    {
+        MemDisk {
+            alloc,
+            history: History::new(alloc, bytes),
+            failing: calls,
+            calls: 0,
+            read_faults: 0,
+            write_faults: 0,
+            starved: 0,
+        }
+    }
+
+    /// How many calls were made, up to the greatest `u64`: the number of the next one.
+    pub fn calls(&self) -> u64
+        ensures { result ≡ self.now.calls }
+    {
+        self.calls
+    }
+
+    /// The bytes as they read now.
+    pub fn bytes(&self) -> &[u8]
+        ensures { result.now ≡ bytes_of self.now }
+    {
+        &self.history.bytes
+    }
+
+    /// How many calls failed for want of memory, up to the greatest `u64`.
+    pub fn starved(&self) -> u64
+        ensures { result ≡ self.now.starved }
+    {
+        self.starved
+    }
+}
+
+/// Whether the number is in the list.
+fn is_listed(numbers: &[u64], number: u64) -> bool
+    ensures { IsTrue result ↔ Contains numbers.now number }
+{
+    numbers.contains(&number)
+}
+
+/// What a write, zero or sync answers. It counts the fault, and whether memory was wanting.
+fn answer(done: Result<(), Refused>, faults: &mut u64, starved: &mut u64) -> Result<(), Failed>
+    ensures alike { Alike done result }
+    ensures faults { faults.new ≡ faults_after done faults.old }
+    ensures starved { starved.new ≡ starved_after done starved.old }
+    ensures later { faults.old ≤ faults.new }
+{
+    let Err(refused) = done else {
+        return Ok(());
+    };
+    *faults = faults.saturating_add(1);
+    if refused == Refused::NoMemory {
+        *starved = starved.saturating_add(1);
+    }
+    Err(Failed)
+}
+
+impl Disk for MemDisk {
+    ghost use Rattle.hb_disk.specs.MemDisk.{seen_as, ReadExactly, CalledExactly};
+
+    ghost model = { λ d. disk_of d.history.bytes.items (reverse d.history.events.items) d.history.clock
+        d.read_faults d.write_faults };
+
+    fn size(&self) -> u64 {
+        self.history.bytes.len() as u64
+    }
+
+    fn clock(&self) -> u64
+        ensures { result ≡ (seen_as self.now).clock }
+    {
+        self.history.clock
+    }
+
+    fn read(&mut self, at: u64, into: &mut [u8]) -> Result<(), Failed>
+        requires { at + length into.old ≤ (seen_as self.old).size }
+        ensures bytes { OnOk result (Reads at into.new (seen_as self.old)) }
+        ensures stays { Stays (seen_as self.old) (seen_as self.new) }
+        ensures faults { ReadFaults result (seen_as self.old) (seen_as self.new) }
+        ensures exact { ReadExactly result self.old self.new }
+    {
+        let listed = is_listed(&self.failing, self.calls);
+        self.calls = self.calls.saturating_add(1);
+        if listed {
+            self.read_faults = self.read_faults.saturating_add(1);
+            return Err(Failed);
+        }
+        let at = at as usize;
+        into.copy_from_slice(&self.history.bytes[at..at + into.len()]);
+        Ok(())
+    }
+
+    fn write(&mut self, at: u64, from: &[u8]) -> Result<(), Failed>
+        requires { at + length from.now ≤ (seen_as self.old).size }
+        ensures writes { Writes at from.now result (seen_as self.old) (seen_as self.new) }
+        ensures ticks { Ticks result (seen_as self.old) (seen_as self.new) }
+        ensures faults { WriteFaults result (seen_as self.old) (seen_as self.new) }
+        ensures exact { CalledExactly result self.old self.new }
+    {
+        let listed = is_listed(&self.failing, self.calls);
+        let done = self.history.write(self.alloc, self.calls, listed, at as usize, from);
+        self.calls = self.calls.saturating_add(1);
+        answer(done, &mut self.write_faults, &mut self.starved)
+    }
+
+    fn zero(&mut self, at: u64, len: u64) -> Result<(), Failed>
+        requires { at + len ≤ (seen_as self.old).size }
+        ensures writes { Writes at (replicate len 0) result (seen_as self.old) (seen_as self.new) }
+        ensures ticks { Ticks result (seen_as self.old) (seen_as self.new) }
+        ensures faults { WriteFaults result (seen_as self.old) (seen_as self.new) }
+        ensures exact { CalledExactly result self.old self.new }
+    {
+        let listed = is_listed(&self.failing, self.calls);
+        let done = self.history.zero(self.alloc, self.calls, listed, at as usize, len as usize);
+        self.calls = self.calls.saturating_add(1);
+        answer(done, &mut self.write_faults, &mut self.starved)
+    }
+
+    fn sync(&mut self) -> Result<(), Failed>
+        ensures syncs { Syncs result (seen_as self.old) (seen_as self.new) }
+        ensures ticks { Ticks result (seen_as self.old) (seen_as self.new) }
+        ensures faults { WriteFaults result (seen_as self.old) (seen_as self.new) }
+        ensures exact { CalledExactly result self.old self.new }
+    {
+        let listed = is_listed(&self.failing, self.calls);
+        let done = self.history.sync(self.calls, listed);
+        self.calls = self.calls.saturating_add(1);
+        answer(done, &mut self.write_faults, &mut self.starved)
+    }
+
+    ghost is_disk = { λ d. history_is_disk d.history.bytes.items (reverse d.history.events.items) d.history.clock
+        d.read_faults d.write_faults d.history.bytes_fit d.history.size_fits d.history.clock_fits d.history.events_fit };
+}
