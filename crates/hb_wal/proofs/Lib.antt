@@ -1,2 +1,4 @@
 mod Waiting
 mod Kept
+mod Areas
+mod Forces

@@ -1,8 +1,8 @@
-ghost use Rattle.std.specs.Prelude.{◌≡◌, ◌<◌, ◌≤◌, ◌+◌, ◌*◌, ◌^◌, [], ◌∷◌, ◌++◌, List, length, take, drop, if◌then◌else◌, All, IfOk, IsNone, IfSome, vec_capacity};
+ghost use Rattle.std.specs.Prelude.{◌≡◌, ◌↔◌, ◌<◌, ◌≤◌, ◌+◌, ◌*◌, ◌^◌, [], ◌∷◌, ◌++◌, List, length, take, drop, if◌then◌else◌, All, IfOk, IsNone, IfSome, vec_capacity};
 ghost use Rattle.hb_wal.specs.declared.groups.Group.{Group};
 ghost use Rattle.hb_outside.specs.Numbers.{big_endian};
 ghost use Rattle.hb_space.specs.declared.form.TheConstants.{PENDING};
-ghost use Rattle.hb_wal.specs.Log.{LogState, BeginsWith, after_force, room_of, pending_bytes, mark_of};
+ghost use Rattle.hb_wal.specs.Log.{LogState, IsLog, BeginsWith, after_force, room_of, pending_bytes, mark_of};
 
 use crate::groups::Group;
 use hb_outside::give_u32;
@@ -110,14 +110,15 @@ impl Wal {
     /// Where the next frame begins on the disk.
     pub(crate) fn frame_gate(&self) -> u64
         requires { self.now.area + self.now.len < 2 ^ 64 }
-        ensures { result ≡ self.now.area + self.now.written }
+        ensures value { result ≡ self.now.area + self.now.written }
+        ensures log { IsLog self.now }
     {
         self.area + u64::from(self.written)
     }
 
     /// The body of the frame that the oldest group that waits will be: its length and its bytes.
     pub(crate) fn oldest_body(&self) -> Option<&[u8]>
-        ensures none { self.now.groups ≡ [] → IsNone result }
+        ensures none { IsNone result ↔ (self.now.groups ≡ []) }
         ensures some { IfSome result (λ body. BeginsWith self.now.groups body.now) }
     {
         match self.groups.first() {
