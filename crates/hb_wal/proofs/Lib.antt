@@ -1,4 +1,4 @@
 mod Waiting
 mod Kept
-mod Areas
+mod AreaBytes
 mod Forces
