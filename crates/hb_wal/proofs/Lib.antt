@@ -2,3 +2,5 @@ mod Waiting
 mod Kept
 mod AreaBytes
 mod Forces
+mod HeadBytes
+mod AreaReads

@@ -2,3 +2,6 @@ pub mod Frames
 pub mod Log
 pub mod Forces
 pub mod Kept
+pub mod Reading
+pub mod Stops
+pub mod Loops

@@ -1,9 +1,9 @@
-use Rattle.std.proofs.Common.{◌≡◌, ◌+◌, [], ◌∷◌, ◌++◌, List, ℕ, length, take, drop, arith, sym, ap, ◌∙◌, is_ok, length-append, length-take, length-drop, refl, cond, true, false}
+use Rattle.std.proofs.Common.{◌≡◌, ◌+◌, [], ◌∷◌, ◌++◌, List, ℕ, length, take, drop, arith, sym, ap, ◌∙◌, is_ok, refl, cond, true, false}
 use Rattle.std.proofs.lemmas.Bool.{cond-true}
 use Rattle.hb_outside.specs.Numbers.{big_endian}
 use Rattle.hb_wal.specs.declared.groups.Group.{Group}
-use Rattle.hb_wal.specs.Log.{LogState, IsLog, pending_bytes, Waiting}
-use Rattle.hb_wal.specs.Kept.{Keeps, seen_as, total_of}
+use Rattle.hb_wal.specs.Log.{LogState, pending_bytes}
+use Rattle.hb_wal.specs.Kept.{seen_as, total_of}
 use Rattle.hb_wal.proofs.Kept.{pending-seen, count_fits, seen-push, log-push, joined_rest, joined_length, joined_first, first_length, no_groups, some_groups}
 use Rattle.hb_wal.proofs.log.Wal.append.Goals as goal
 

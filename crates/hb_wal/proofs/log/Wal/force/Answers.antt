@@ -1,8 +1,5 @@
-use Rattle.std.proofs.Common.{◌≡◌, ℕ, ◌+◌, List, ◌++◌, Some, IfSome, OnOk, ap, sym, ◌∙◌, refl}
-use Rattle.hb_disk.specs.Model.{DiskModel}
-use Rattle.hb_disk.specs.RunLaws.{some_value, if_value, at_value}
-use Rattle.hb_wal.specs.Log.{LogState, forced, after_force}
-use Rattle.hb_wal.specs.Forces.{HasLog}
+use Rattle.std.proofs.Common.{refl}
+use Rattle.hb_disk.specs.RunLaws.{some_value}
 use Rattle.hb_wal.proofs.Forces.{body_inside, at_closed, place_within, moments_within, log_anyway, nothing_left}
 use Rattle.hb_wal.proofs.log.Wal.force.Goals as goal
 

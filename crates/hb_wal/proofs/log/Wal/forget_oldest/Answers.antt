@@ -1,8 +1,8 @@
-use Rattle.std.proofs.Common.{◌≡◌, ◌+◌, ◌<◌, ◌≤◌, ◌∷◌, List, ℕ, length, take, drop, sym, ap, ◌∙◌, arith, length-append, length-take, length-drop}
+use Rattle.std.proofs.Common.{◌≡◌, ◌+◌, ◌<◌, ◌≤◌, ◌∷◌, List, ℕ, length, take, drop, ap, ◌∙◌, arith, length-append, length-take, length-drop}
 use Rattle.std.proofs.lemmas.List.{drop_at}
 use Rattle.hb_wal.specs.declared.groups.Group.{Group}
-use Rattle.hb_wal.specs.Log.{LogState, Waiting, after_force}
-use Rattle.hb_wal.specs.Kept.{total_of, seen_as}
+use Rattle.hb_wal.specs.Log.{LogState, after_force}
+use Rattle.hb_wal.specs.Kept.{total_of}
 use Rattle.hb_wal.proofs.Kept.{count-seen, removed_first, gone_length, gone_is, gone_log}
 use Rattle.hb_wal.proofs.log.Wal.forget_oldest.Goals as goal
 

@@ -1,7 +1,6 @@
-use Rattle.std.proofs.Common.{◌≡◌, ◌+◌, List, ℕ, take, sym, ap, ◌∙◌, subst}
+use Rattle.std.proofs.Common.{◌≡◌, List, sym, ap, ◌∙◌}
 use Rattle.std.specs.Prelude.{slice_get, Some}
 use Rattle.hb_wal.specs.declared.groups.Group.{Group}
-use Rattle.hb_wal.specs.Log.{BeginsWith, LogState}
 use Rattle.hb_wal.proofs.Kept.{first_of, oldest_begins}
 use Rattle.hb_wal.proofs.log.Wal.oldest_body.Goals as goal
 

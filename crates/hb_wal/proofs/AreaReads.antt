@@ -1,0 +1,67 @@
+-- One frame more is read of an area.
+use Rattle.std.proofs.Common.{◌≡◌, ℕ, ◌+◌, ◌-◌, ◌<◌, ◌≤◌, List, [], ◌∷◌, ◌++◌, length, take, drop, Some, IfSome, refl, sym, ap, ◌∙◌, subst, arith, append_assoc, length-append}
+use Rattle.std.specs.List.{All}
+use Rattle.std.proofs.lemmas.List.{drop_at, drop-take, drop-drop}
+use Rattle.std.proofs.lemmas.List.Elements.{All-push}
+use Rattle.hb_outside.specs.Numbers.{big_endian}
+use Rattle.hb_disk.specs.Model.{DiskModel, Stays}
+use Rattle.hb_disk.specs.RunLaws.{if_value, at_value}
+use Rattle.hb_wal.specs.Frames.{frames, frame_bytes, IsPayload, range}
+use Rattle.hb_wal.specs.Reading.{BeginsFrame, FrameIs, OnlyReads}
+use Rattle.hb_wal.specs.Loops.{HasRead}
+use Rattle.hb_wal.proofs.Kept.{four_bytes, length-frame}
+use Rattle.hb_wal.proofs.AreaBytes.{frames-push}
+
+-- there are no more frames than bytes
+pub frames_count : (payloads : List (List ℕ)) → length payloads ≤ length (frames payloads)
+frames_count [] = omega arith
+frames_count (p ∷ payloads) = omega (arith, frames_count payloads, length-append (frame_bytes p) (frames payloads))
+
+pub reads_then : (old mid new : DiskModel) → OnlyReads old mid → OnlyReads mid new → OnlyReads old new
+reads_then old mid new first second = record {
+  stays = record {
+        told = second.stays.told ∙ first.stays.told;
+        size = second.stays.size ∙ first.stays.size;
+        clock = second.stays.clock ∙ first.stays.clock;
+        image = λ c h. first.stays.image c (second.stays.image c h);
+        image_kept = λ c h. second.stays.image_kept c (first.stays.image_kept c h);
+        since = λ t c h. first.stays.since t c (second.stays.since t c h);
+        since_kept = λ t c h. second.stays.since_kept t c (first.stays.since_kept t c h);
+      };
+  later = omega (arith, first.later, second.later);
+  writes = second.writes ∙ first.writes;
+}
+
+module _ (area len left : ℕ) (b payload behind : List ℕ) (payloads : List (List ℕ)) (fits : 5 + length payload ≤ left) (inside : left ≤ len)
+  (is : range (area + (len - left)) left b ≡ frame_bytes payload ++ behind) where
+  abbrev after : ℕ
+  after = left - (5 + length payload)
+
+  behind_is : behind ≡ range (area + (len - after)) after b
+  behind_is =
+      let long : length (frame_bytes payload) ≡ 5 + length payload = omega (arith, length-append (frame_bytes payload) [], length-frame payload) in
+      let split : left ≡ (5 + length payload) + after = omega (arith, fits) in
+      let place : area + (len - left) + (5 + length payload) ≡ area + (len - after) = omega (arith, fits, inside) in
+      sym (drop_at (frame_bytes payload) behind (5 + length payload) long)
+      ∙ ap (λ (l : List ℕ). drop (5 + length payload) l) (sym is)
+      ∙ ap (λ (n : ℕ). drop (5 + length payload) (take n (drop (area + (len - left)) b))) split
+      ∙ drop-take (5 + length payload) after (drop (area + (len - left)) b)
+      ∙ ap (λ (l : List ℕ). take after l) (drop-drop (5 + length payload) (area + (len - left)) b ∙ ap (λ (n : ℕ). drop n b) place)
+
+  pub read_more : range area len b ≡ frames payloads ++ range (area + (len - left)) left b → range area len b ≡ frames (payloads ++ payload ∷ []) ++ range (area + (len - after)) after b
+  read_more so_far =
+      so_far ∙ ap (λ (l : List ℕ). frames payloads ++ l) (is ∙ ap (λ (l : List ℕ). frame_bytes payload ++ l) behind_is)
+      ∙ sym (append_assoc (frames payloads) (frame_bytes payload) (range (area + (len - after)) after b))
+      ∙ ap (λ (l : List ℕ). l ++ range (area + (len - after)) after b) (sym (frames-push payloads payload))
+
+pub HasRead-more : (old now new : DiskModel) (area len left : ℕ) (payloads : List (List ℕ)) (payload : List ℕ) → HasRead old now area len left payloads → OnlyReads now new
+    → IsPayload payload → 5 + length payload ≤ left → IfSome now.told (λ b. FrameIs (Some payload) (range (area + (len - left)) left b))
+    → HasRead old new area len (left - (5 + length payload)) (payloads ++ payload ∷ [])
+HasRead-more old now new area len left payloads payload so_far reads is_payload fits frame = record {
+  only_reads = reads_then old now new so_far.only_reads reads;
+  fits = All-push IsPayload payloads payload so_far.fits is_payload;
+  count = omega (arith, ap (λ (l : List ℕ). length l) (frames-push payloads payload), length-append (frames payloads) (frame_bytes payload), length-append (frame_bytes payload) [], length-frame payload, so_far.count, fits);
+  read = if_value old.told (λ b. range area len b ≡ frames (payloads ++ payload ∷ []) ++ range (area + (len - (left - (5 + length payload)))) (left - (5 + length payload)) b) (λ b told.
+      let here = at_value now.told (λ b. FrameIs (Some payload) (range (area + (len - left)) left b)) b (so_far.only_reads.stays.told ∙ told) frame in
+      read_more area len left b payload here.behind payloads fits (omega (arith, so_far.count)) here.bytes (at_value old.told (λ b. range area len b ≡ frames payloads ++ range (area + (len - left)) left b) b told so_far.read));
+}
