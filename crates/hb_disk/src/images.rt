@@ -1,6 +1,6 @@
 //! The bytes of a past moment, and what a crash then might have left.
 ghost use Rattle.std.specs.Prelude.{◌≡◌, ◌≤◌, ◌<◌, length, reverse};
-ghost use Rattle.hb_disk.specs.Events.{AllReach, rewound, as_synced, IsNoise, IsPicked, IsImage};
+ghost use Rattle.hb_disk.specs.Events.{AllReach, rewound, as_synced, IsNoise, IsPicked, IsImage, IsImageSince};
 
 use crate::event::{Event, Pick, fill_at};
 
@@ -69,6 +69,7 @@ pub(crate) fn choose_before(bytes: &mut [u8], events: &[Event], before: u64, pic
     requires { AllReach (length bytes.old) (reverse events.now) }
     ensures picked { let moment = rewound before bytes.old (reverse events.now) in IsPicked pick moment.0 moment.1 bytes.new }
     ensures image { let moment = rewound before bytes.old (reverse events.now) in IsImage moment.0 moment.1 bytes.new }
+    ensures since { IsImageSince 0 bytes.old (reverse events.now) bytes.new }
 {
     let earlier = rewind(bytes, events, before);
     choose(bytes, earlier, pick);
