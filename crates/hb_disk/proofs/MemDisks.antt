@@ -52,7 +52,7 @@ told_faults (Err e) (Err f) old new alike is later reads =
 
 -- exactly when a call fails, and what it counts
 module _ (old new : MemDisk) (listed : Bool) (listing : IsTrue listed ↔ IsListed old) (calls : new.calls ≡ next_count old.calls) (failing : new.failing ≡ old.failing)
-  (reads : new.read_faults ≡ old.read_faults) {T F : Type 0} where
+    (reads : new.read_faults ≡ old.read_faults) {T F : Type 0} where
   pub called_exactly : (done : Result T Refused) (r : Result T F) → Alike done r → (IsTrue listed → IsErr done) → (old.history.clock ≡ last_value → IsErr done)
       → IfErr done (Explains listed old.history.clock) → OnErr done (bytes_of new ≡ bytes_of old)
       → new.write_faults ≡ faults_after done old.write_faults → new.starved ≡ starved_after done old.starved → CalledExactly r old new

@@ -69,7 +69,7 @@ noise_more byte bytes e es at n image is fits noise =
     let now = overwritten bytes at piece in
     let now_long : length now ≡ length bytes = length-overwritten bytes at piece fits_piece in
     let filled : (i : ℕ) → (at ≤ i) → (i < at + n) → get_or now i 0 ≡ byte = λ i low high.
-        overwritten-inside bytes at piece fits_piece i low (omega (arith, piece_long, high)) ∙ get_or-replicate n (i - at) byte 0 (omega (arith, low, high)) in
+    overwritten-inside bytes at piece fits_piece i low (omega (arith, piece_long, high)) ∙ get_or-replicate n (i - at) byte 0 (omega (arith, low, high)) in
     record {
       long = noise.long ∙ now_long;
       noisy = λ i low is_open. ⊎_elim

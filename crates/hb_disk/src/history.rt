@@ -93,7 +93,14 @@ impl History {
 
     /// Keeps the bytes of a range on record, before others are put there. A listed call fails, with its range on
     /// record where there is memory for it.
-    fn keep(&mut self, alloc: Global, call: u64, listed: bool, at: usize, len: usize) -> Result<(), Refused>
+    fn keep(
+        &mut self,
+        alloc: Global,
+        call: u64,
+        listed: bool,
+        at: usize,
+        len: usize,
+    ) -> Result<(), Refused>
         requires { at + len ≤ length self.old.bytes.items }
         ensures done { OnOk result (Notes (IsOver at len self.old.bytes.items) self.old.clock call
             self.old.events.items self.new.events.items) }
@@ -135,7 +142,14 @@ impl History {
     }
 
     /// Puts the bytes at the place.
-    pub(crate) fn write(&mut self, alloc: Global, call: u64, listed: bool, at: usize, piece: &[u8]) -> Result<(), Refused>
+    pub(crate) fn write(
+        &mut self,
+        alloc: Global,
+        call: u64,
+        listed: bool,
+        at: usize,
+        piece: &[u8],
+    ) -> Result<(), Refused>
         requires { at + length piece.now ≤ length self.old.bytes.items }
         ensures writes { (f g h k : ℕ) → Writes at piece.now result
             (disk_of self.old.bytes.items (reverse self.old.events.items) self.old.clock f g)
@@ -153,7 +167,14 @@ impl History {
     }
 
     /// Puts zero bytes at the place.
-    pub(crate) fn zero(&mut self, alloc: Global, call: u64, listed: bool, at: usize, len: usize) -> Result<(), Refused>
+    pub(crate) fn zero(
+        &mut self,
+        alloc: Global,
+        call: u64,
+        listed: bool,
+        at: usize,
+        len: usize,
+    ) -> Result<(), Refused>
         requires { at + len ≤ length self.old.bytes.items }
         ensures writes { (f g h k : ℕ) → Writes at (replicate len 0) result
             (disk_of self.old.bytes.items (reverse self.old.events.items) self.old.clock f g)

@@ -159,7 +159,9 @@ impl Disk for MemDisk {
         ensures exact { CalledExactly result self.old self.new }
     {
         let listed = is_listed(&self.failing, self.calls);
-        let done = self.history.write(self.alloc, self.calls, listed, at as usize, from);
+        let done = self
+            .history
+            .write(self.alloc, self.calls, listed, at as usize, from);
         self.calls = self.calls.saturating_add(1);
         answer(done, &mut self.write_faults, &mut self.starved)
     }
@@ -172,7 +174,9 @@ impl Disk for MemDisk {
         ensures exact { CalledExactly result self.old self.new }
     {
         let listed = is_listed(&self.failing, self.calls);
-        let done = self.history.zero(self.alloc, self.calls, listed, at as usize, len as usize);
+        let done = self
+            .history
+            .zero(self.alloc, self.calls, listed, at as usize, len as usize);
         self.calls = self.calls.saturating_add(1);
         answer(done, &mut self.write_faults, &mut self.starved)
     }
