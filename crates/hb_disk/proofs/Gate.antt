@@ -1,10 +1,8 @@
 -- What a crash leaves in each step of a write behind a gate.
-use Rattle.std.proofs.Common.{◌≡◌, ◌≢◌, inl, inr, ⊎_elim, ℕ, ◌+◌, ◌-◌, ◌<◌, ◌≤◌, List, [], ◌∷◌, length, get_or, Some, Result, Ok, OnOk, refl, sym, ap, ◌∙◌, subst, arith}
-use Rattle.std.proofs.lemmas.Bool.{cases_lt, cases_order}
-use Rattle.std.proofs.lemmas.List.{ext_get_or}
+use Rattle.std.proofs.Common.{◌≡◌, ◌≢◌, inl, inr, ℕ, ◌+◌, ◌<◌, ◌≤◌, List, [], ◌∷◌, length, get_or, Some, Result, Ok, refl, sym, ap, ◌∙◌, subst, arith}
 use Rattle.hb_disk.specs.Model.{DiskModel, IsDisk, overwritten, Torn}
 use Rattle.hb_disk.specs.Calls.{Ticks, Writes, Syncs, Leaves, Becomes, FrameOrNot, open_gate}
-use Rattle.hb_disk.specs.TornLaws.{cases_range, Torn-from, Torn-same, Torn-wider, Torn-twice, length-overwritten, overwritten-outside, overwritten-from, overwritten-joined}
+use Rattle.hb_disk.specs.TornLaws.{Torn-from, Torn-same, Torn-wider, length-overwritten, overwritten-outside, overwritten-from, overwritten-joined}
 use Rattle.hb_disk.specs.RunLaws.{told_written, only_told, Leaves-start, Leaves-call, Becomes-torn, Becomes-torn_write, Becomes-torn_sync}
 
 module _ (old : DiskModel) (gate : ℕ) (body : List ℕ) where

@@ -1,15 +1,15 @@
 -- What a record of calls keeps of the disk model.
-use Rattle.std.proofs.Common.{◌≡◌, ◌⊎◌, inl, inr, ⊎_elim, ℕ, ◌+◌, ◌-◌, ◌^◌, ◌<◌, ◌≤◌, min, List, [], ◌∷◌, ◌++◌, length, take, drop, get_or, reverse, Option, Some, None, IsSome, Result, Ok, Err, OnOk, OnErr, IsErr, MatchOption, refl, sym, ap, ◌∙◌, subst, arith, length-take, length-drop}
+use Rattle.std.proofs.Common.{◌≡◌, ◌⊎◌, inl, inr, ⊎_elim, ℕ, ◌+◌, ◌-◌, ◌^◌, ◌<◌, ◌≤◌, List, [], ◌∷◌, length, take, drop, get_or, reverse, Option, Some, Result, Ok, Err, OnOk, OnErr, IsErr, MatchOption, refl, sym, ap, ◌∙◌, subst, arith, length-take, length-drop}
 use Rattle.std.specs.List.{All}
 use Rattle.std.proofs.lemmas.List.{reverse-append, get_or-take, get_or-drop, ext_get_or}
 use Rattle.std.proofs.lemmas.List.Elements.{All-take, All-drop}
 use Rattle.hb_outside.specs.Memory.{next_count}
-use Rattle.hb_disk.specs.Model.{DiskModel, IsDisk, overwritten, last_value, Torn, Elapses, Stays}
+use Rattle.hb_disk.specs.Model.{overwritten, last_value, Torn, Elapses}
 use Rattle.hb_disk.specs.Calls.{Ticks, Writes, Syncs}
-use Rattle.hb_disk.specs.TornLaws.{IsOutside, cases_range, Torn-from, Torn-itself, Torn-overwritten, length-overwritten, overwritten-inside, overwritten-outside, All-overwritten, overwritten-from}
+use Rattle.hb_disk.specs.TornLaws.{IsOutside, cases_range, Torn-from, Torn-itself, length-overwritten, overwritten-inside, overwritten-outside, All-overwritten}
 use Rattle.hb_disk.specs.Events.{IsOpen, IsImage, IsImageSince, undone, range_of, disk_of, Notes, IsOver}
 use Rattle.hb_disk.specs.declared.event.Change.{Change}
-use Rattle.hb_disk.specs.declared.event.Change.TheVariants.{Wrote, Tried, Synced}
+use Rattle.hb_disk.specs.declared.event.Change.TheVariants.{Tried, Synced}
 use Rattle.hb_disk.specs.declared.event.Event.{Event}
 
 pub Notes-weaker : (P Q : Change → Type 0) (clock call : ℕ) (old new : List Event) → ((d : Change) → P d → Q d) → Notes P clock call old new → Notes Q clock call old new

@@ -1,5 +1,5 @@
 -- What a crash leaves in each step of two writes in order.
-use Rattle.std.proofs.Common.{◌≡◌, inl, inr, ℕ, ◌+◌, ◌≤◌, List, length, Some, Result, Ok, sym, ap, ◌∙◌, subst, arith}
+use Rattle.std.proofs.Common.{◌≡◌, inl, inr, ℕ, ◌+◌, ◌≤◌, List, length, Some, Result, Ok, subst, arith}
 use Rattle.hb_disk.specs.Model.{DiskModel, IsDisk, overwritten, Torn}
 use Rattle.hb_disk.specs.Calls.{Ticks, Writes, Syncs, Leaves, Becomes, Then}
 use Rattle.hb_disk.specs.Calls as calls

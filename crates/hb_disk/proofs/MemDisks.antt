@@ -1,12 +1,12 @@
 -- What a disk in memory answers, from what its history did.
-use Rattle.std.proofs.Common.{◌≡◌, ◌⊎◌, ◌↔◌, inl, inr, ⊎_elim, ℕ, ◌+◌, ◌-◌, ◌^◌, ◌<◌, ◌≤◌, min, Bool, true, false, List, length, Result, Ok, Err, IsTrue, IsErr, IfErr, OnOk, OnErr, refl, sym, ap, ◌∙◌, subst, arith}
+use Rattle.std.proofs.Common.{◌≡◌, ◌↔◌, inl, inr, ℕ, ◌≤◌, Bool, List, Result, Ok, Err, IsTrue, IsErr, IfErr, OnErr, refl, sym, subst, arith}
 use Rattle.std.proofs.lemmas.Bool.{cases_lt}
 use Rattle.hb_outside.specs.Streams.{Rose}
 use Rattle.hb_outside.specs.Memory.{next_count}
 use Rattle.hb_disk.specs.Model.{DiskModel, last_value}
 use Rattle.hb_disk.specs.Calls.{Ticks, Writes, Syncs, WriteFaults}
 use Rattle.hb_disk.specs.Events.{Alike, Explains, faults_after, starved_after}
-use Rattle.hb_disk.specs.MemDisk.{bytes_of, seen_as, IsListed, CalledExactly}
+use Rattle.hb_disk.specs.MemDisk.{bytes_of, IsListed, CalledExactly}
 use Rattle.hb_disk.specs.declared.event.Refused.{Refused}
 use Rattle.hb_disk.specs.declared.event.Refused.TheVariants.{Listed, Over, NoMemory}
 use Rattle.hb_disk.specs.declared.mem_disk.MemDisk.{MemDisk}

@@ -1,5 +1,5 @@
 -- A disk in which one byte goes bad, as its own contracts see it.
-use Rattle.std.specs.Prelude.{ℕ, length}
+use Rattle.std.specs.Prelude.{length}
 use Rattle.hb_disk.specs.Model.{DiskModel}
 use Rattle.hb_disk.specs.MemDisk.{bytes_of, SetsByte}
 use Rattle.hb_disk.specs.Untold.{untold_of}

@@ -1,5 +1,5 @@
 -- A disk that tells nothing: only its size and its counts of faults are known, and no image is.
-use Rattle.std.specs.Prelude.{◌≡◌, ℕ, ◌≤◌, List, Option, Some, None}
+use Rattle.std.specs.Prelude.{ℕ, ◌≤◌, None}
 use Rattle.std.proofs.Common.{arith}
 use Rattle.hb_disk.specs.Model.{DiskModel, IsDisk, last_value}
 

@@ -1,7 +1,5 @@
-use Rattle.std.proofs.Common.{sym, ap, ◌∙◌, subst, length, reverse, replicate, arith}
-use Rattle.std.proofs.lemmas.List.{length-replicate}
+use Rattle.std.proofs.Common.{sym, subst, length, reverse}
 use Rattle.hb_disk.specs.Events.{AllReach}
-use Rattle.hb_disk.specs.TornLaws.{length-overwritten}
 use Rattle.hb_disk.proofs.Picked.{reach_of, reach_range, noise_step}
 use Rattle.hb_disk.proofs.images.spoil.Goals as goal
 

@@ -1,4 +1,4 @@
-use Rattle.std.proofs.Common.{◌≡◌, List, ℕ, length, reverse}
+use Rattle.std.proofs.Common.{List, ℕ, length, reverse}
 use Rattle.hb_disk.specs.Events.{AllReach, IsNoise}
 use Rattle.hb_disk.proofs.images.spoil.Given as goal
 
