@@ -1,10 +1,8 @@
 -- What a crash leaves in each step of a write behind a gate.
-use Rattle.std.proofs.Common.{◌≡◌, ◌≢◌, inl, inr, ⊎_elim, ℕ, ◌+◌, ◌-◌, ◌<◌, ◌≤◌, List, [], ◌∷◌, length, get_or, Some, Result, Ok, OnOk, refl, sym, ap, ◌∙◌, subst, arith}
-use Rattle.std.proofs.lemmas.Bool.{cases_lt, cases_order}
-use Rattle.std.proofs.lemmas.List.{ext_get_or}
+use Rattle.std.proofs.Common.{◌≡◌, ◌≢◌, inl, inr, ℕ, ◌+◌, ◌<◌, ◌≤◌, List, [], ◌∷◌, length, get_or, Some, Result, Ok, refl, sym, ap, ◌∙◌, subst, arith}
 use Rattle.hb_disk.specs.Model.{DiskModel, IsDisk, overwritten, Torn}
 use Rattle.hb_disk.specs.Calls.{Ticks, Writes, Syncs, Leaves, Becomes, FrameOrNot, open_gate}
-use Rattle.hb_disk.specs.TornLaws.{cases_range, Torn-from, Torn-same, Torn-wider, Torn-twice, length-overwritten, overwritten-outside, overwritten-from, overwritten-joined}
+use Rattle.hb_disk.specs.TornLaws.{Torn-from, Torn-same, Torn-wider, length-overwritten, overwritten-outside, overwritten-from, overwritten-joined}
 use Rattle.hb_disk.specs.RunLaws.{told_written, only_told, Leaves-start, Leaves-call, Becomes-torn, Becomes-torn_write, Becomes-torn_sync}
 
 module _ (old : DiskModel) (gate : ℕ) (body : List ℕ) where
@@ -13,23 +11,31 @@ module _ (old : DiskModel) (gate : ℕ) (body : List ℕ) where
   Framed c = (b : List ℕ) × old.Image b × FrameOrNot gate body b c
 
   module _ (b : List ℕ) (told : old.told ≡ Some b) (disk : IsDisk old) (inside : gate + 1 + length body ≤ old.size)
-    (closed : (c : List ℕ) → old.Image c → get_or c gate 0 ≢ open_gate) where
+      (closed : (c : List ℕ) → old.Image c → get_or c gate 0 ≢ open_gate) where
     fits : gate + 1 + length body ≤ length b
     fits = omega (arith, disk.long b (disk.as_read b told))
 
     -- nothing was written yet
     pub same_framed : (c : List ℕ) → old.Image c → Framed c
-    same_framed c image = (c, image, record {
-      elsewhere = Torn-from gate (1 + length body) c c refl (disk.bytes c image) (λ i h outside. refl);
-      whole = λ is_open. absurd (closed c image is_open);
-    })
+    same_framed c image = (
+      c,
+      image,
+      record {
+        elsewhere = Torn-from gate (1 + length body) c c refl (disk.bytes c image) (λ i h outside. refl);
+        whole = λ is_open. absurd (closed c image is_open);
+      },
+    )
 
     -- the body is torn behind the closed gate
     pub body_framed : (a c : List ℕ) → old.Image a → Torn (gate + 1) (length body) a c → Framed c
-    body_framed a c image torn = (a, image, record {
-      elsewhere = Torn-wider (gate + 1) (length body) gate (1 + length body) a c (omega arith) (omega arith) torn;
-      whole = λ is_open. absurd (closed a image (sym (Torn-same (gate + 1) (length body) a c torn gate (inl (omega arith))) ∙ is_open));
-    })
+    body_framed a c image torn = (
+      a,
+      image,
+      record {
+        elsewhere = Torn-wider (gate + 1) (length body) gate (1 + length body) a c (omega arith) (omega arith) torn;
+        whole = λ is_open. absurd (closed a image (sym (Torn-same (gate + 1) (length body) a c torn gate (inl (omega arith))) ∙ is_open));
+      },
+    )
 
     -- the bytes with the body behind the closed gate
     abbrev staged : List ℕ
@@ -48,12 +54,16 @@ module _ (old : DiskModel) (gate : ℕ) (body : List ℕ) where
             ap (λ (j : ℕ). get_or c j 0) here ∙ is_open ∙ ap (λ (j : ℕ). get_or (open_gate ∷ []) j 0) (sym first)
 
     pub gate_framed : (c : List ℕ) → Torn gate 1 staged c → Framed c
-    gate_framed c torn = (b, disk.as_read b told, record {
-      elsewhere = Torn-from gate (1 + length body) b c (torn.as_long ∙ length-overwritten b (gate + 1) body fits) torn.bytes (λ i h outside.
-          Torn-same gate 1 staged c torn i (elim outside [ inl front ↦ inl front | inr behind ↦ inr (omega arith) ])
-          ∙ overwritten-outside b (gate + 1) body fits i (elim outside [ inl front ↦ inl (omega arith) | inr behind ↦ inr (omega arith) ]));
-      whole = opened c torn;
-    })
+    gate_framed c torn = (
+      b,
+      disk.as_read b told,
+      record {
+        elsewhere = Torn-from gate (1 + length body) b c (torn.as_long ∙ length-overwritten b (gate + 1) body fits) torn.bytes (λ i h outside.
+            Torn-same gate 1 staged c torn i (elim outside [ inl front ↦ inl front | inr behind ↦ inr (omega arith) ])
+            ∙ overwritten-outside b (gate + 1) body fits i (elim outside [ inl front ↦ inl (omega arith) | inr behind ↦ inr (omega arith) ]));
+        whole = opened c torn;
+      },
+    )
 
     module _ {T E : Type 0} (first : Result T E) (one : DiskModel) (body_written : Writes (gate + 1) body first old one) (body_ticks : Ticks first old one) where
       pub run_one : Leaves old one Framed
@@ -89,15 +99,15 @@ module _ (old : DiskModel) (gate : ℕ) (body : List ℕ) where
 
   -- the calls touched the frame's range alone
   module _ (disk : IsDisk old) (inside : gate + 1 + length body ≤ old.size) (one : DiskModel) (is_one : IsDisk one) {T E : Type 0}
-    (first : Result T E) (body_written : Writes (gate + 1) body first old one) (body_ticks : Ticks first old one)
-    (second : Result T E) (two : DiskModel) (body_synced : Syncs second one two) (sync_ticks : Ticks second one two) where
+      (first : Result T E) (body_written : Writes (gate + 1) body first old one) (body_ticks : Ticks first old one)
+      (second : Result T E) (two : DiskModel) (body_synced : Syncs second one two) (sync_ticks : Ticks second one two) where
     pub place_two : Becomes (Torn gate (1 + length body)) old two
     place_two = Becomes-torn gate (1 + length body) old one two
         (Becomes-torn_write first (gate + 1) body gate (1 + length body) old one disk is_one inside (omega arith) (omega arith) body_written body_ticks)
         (Becomes-torn_sync second gate (1 + length body) one two is_one body_synced sync_ticks)
 
     module _ (is_two : IsDisk two) (third : Result T E) (three : DiskModel) (is_three : IsDisk three)
-      (gate_written : Writes gate (open_gate ∷ []) third two three) (gate_ticks : Ticks third two three) where
+        (gate_written : Writes gate (open_gate ∷ []) third two three) (gate_ticks : Ticks third two three) where
       pub place_three : Becomes (Torn gate (1 + length body)) old three
       place_three = Becomes-torn gate (1 + length body) old two three place_two
           (Becomes-torn_write third gate (open_gate ∷ []) gate (1 + length body) two three is_two is_three (omega (arith, sync_ticks.size, body_ticks.size, inside)) (omega arith) (omega arith) gate_written gate_ticks)

@@ -1,15 +1,15 @@
 -- What a record of calls keeps of the disk model.
-use Rattle.std.proofs.Common.{◌≡◌, ◌⊎◌, inl, inr, ⊎_elim, ℕ, ◌+◌, ◌-◌, ◌^◌, ◌<◌, ◌≤◌, min, List, [], ◌∷◌, ◌++◌, length, take, drop, get_or, reverse, Option, Some, None, IsSome, Result, Ok, Err, OnOk, OnErr, IsErr, MatchOption, refl, sym, ap, ◌∙◌, subst, arith, length-take, length-drop}
+use Rattle.std.proofs.Common.{◌≡◌, ◌⊎◌, inl, inr, ⊎_elim, ℕ, ◌+◌, ◌-◌, ◌^◌, ◌<◌, ◌≤◌, List, [], ◌∷◌, length, take, drop, get_or, reverse, Option, Some, Result, Ok, Err, OnOk, OnErr, IsErr, MatchOption, refl, sym, ap, ◌∙◌, subst, arith, length-take, length-drop}
 use Rattle.std.specs.List.{All}
 use Rattle.std.proofs.lemmas.List.{reverse-append, get_or-take, get_or-drop, ext_get_or}
 use Rattle.std.proofs.lemmas.List.Elements.{All-take, All-drop}
 use Rattle.hb_outside.specs.Memory.{next_count}
-use Rattle.hb_disk.specs.Model.{DiskModel, IsDisk, overwritten, last_value, Torn, Elapses, Stays}
+use Rattle.hb_disk.specs.Model.{overwritten, last_value, Torn, Elapses}
 use Rattle.hb_disk.specs.Calls.{Ticks, Writes, Syncs}
-use Rattle.hb_disk.specs.TornLaws.{IsOutside, cases_range, Torn-from, Torn-itself, Torn-overwritten, length-overwritten, overwritten-inside, overwritten-outside, All-overwritten, overwritten-from}
+use Rattle.hb_disk.specs.TornLaws.{IsOutside, cases_range, Torn-from, Torn-itself, length-overwritten, overwritten-inside, overwritten-outside, All-overwritten}
 use Rattle.hb_disk.specs.Events.{IsOpen, IsImage, IsImageSince, undone, range_of, disk_of, Notes, IsOver}
 use Rattle.hb_disk.specs.declared.event.Change.{Change}
-use Rattle.hb_disk.specs.declared.event.Change.TheVariants.{Wrote, Tried, Synced}
+use Rattle.hb_disk.specs.declared.event.Change.TheVariants.{Tried, Synced}
 use Rattle.hb_disk.specs.declared.event.Event.{Event}
 
 pub Notes-weaker : (P Q : Change → Type 0) (clock call : ℕ) (old new : List Event) → ((d : Change) → P d → Q d) → Notes P clock call old new → Notes Q clock call old new
@@ -44,18 +44,18 @@ put_back bytes at piece before fits is =
     let long : length before ≡ length piece = ap length is ∙ range_long bytes at (length piece) fits in
     let fits_back : at + length before ≤ length now = omega (arith, long, now_long, fits) in
     ext_get_or 0 (overwritten now at before) bytes (length-overwritten now at before fits_back ∙ now_long) (λ i h.
-      elim (cases_range at (length before) i) [
-        | inl within ↦
-            let high : i < at + length piece = omega (arith, within.1, long) in
-            overwritten-inside now at before fits_back i within.0 within.1
-            ∙ ap (λ (l : List ℕ). get_or l (i - at) 0) is ∙ read_at bytes at (length piece) i within.0 high
-        | inr outside ↦
-            overwritten-outside now at before fits_back i outside
-            ∙ overwritten-outside bytes at piece fits i (subst (λ n. IsOutside at n i) long outside)
-      ])
+    elim (cases_range at (length before) i) [
+      | inl within ↦
+          let high : i < at + length piece = omega (arith, within.1, long) in
+          overwritten-inside now at before fits_back i within.0 within.1
+          ∙ ap (λ (l : List ℕ). get_or l (i - at) 0) is ∙ read_at bytes at (length piece) i within.0 high
+      | inr outside ↦
+          overwritten-outside now at before fits_back i outside
+          ∙ overwritten-outside bytes at piece fits i (subst (λ n. IsOutside at n i) long outside)
+    ])
 
 module _ (bytes now : List ℕ) (es : List Event) (e : Event) (at n : ℕ) (ranges : range_of e.change ≡ Some (at, n)) (fits : at + n ≤ length bytes)
-  (fit : All (λ x. x < 2 ^ 8) bytes) (long : length now ≡ length bytes) (same : (i : ℕ) → IsOutside at n i → get_or now i 0 ≡ get_or bytes i 0) where
+    (fit : All (λ x. x < 2 ^ 8) bytes) (long : length now ≡ length bytes) (same : (i : ℕ) → IsOutside at n i → get_or now i 0 ≡ get_or bytes i 0) where
   -- a place outside the range is open only if it was
   still_shut : (i : ℕ) → IsOutside at n i → (IsOpen es i → ⊥) → IsOpen (e ∷ es) i → ⊥
   still_shut i outside shut is_open =
@@ -91,7 +91,7 @@ module _ (bytes now : List ℕ) (es : List Event) (e : Event) (at n : ℕ) (rang
 
 -- a disk after one event more
 module _ (bytes now : List ℕ) (es es_now : List Event) (e : Event) (first : es_now ≡ e ∷ es) (undoes : undone e.change now ≡ bytes)
-  (clock next f g h k : ℕ) (at_clock : e.clock ≡ clock) where
+    (clock next f g h k : ℕ) (at_clock : e.clock ≡ clock) where
   pub elapses_noted : Elapses (disk_of bytes es clock f g) (disk_of now es_now next h k)
   elapses_noted = record {
     nothing_else = λ t c le left.
@@ -116,15 +116,18 @@ module _ (bytes : List ℕ) (es : List Event) (clock : ℕ) (fit : All (λ x. x 
   ticks_missed err = record {
     tick = λ tells before. next_clock clock before;
     later = omega arith;
-    ended = λ tells at_end. (refl, record {
-      told = refl;
-      size = refl;
-      clock = omega arith;
-      image = λ c image. image;
-      image_kept = λ c image. image;
-      since = λ t c left. left;
-      since_kept = λ t c left. left;
-    });
+    ended = λ tells at_end. (
+      refl,
+      record {
+        told = refl;
+        size = refl;
+        clock = omega arith;
+        image = λ c image. image;
+        image_kept = λ c image. image;
+        since = λ t c left. left;
+        since_kept = λ t c left. left;
+      },
+    );
     time = elapses_same bytes es clock (next_count clock) f g h k;
     size = refl;
   }
@@ -217,7 +220,7 @@ module _ (bytes : List ℕ) (events : List Event) (clock : ℕ) (fit : All (λ x
   write_refused {T = T} {E = E} (Err e) at piece now after next failed fits same (inr tried) f g h k =
       let Q : List ℕ → Type 0 = λ l. Writes {T = T} {E = E} at piece (Err e) (disk_of bytes (reverse events) clock f g) (disk_of l (reverse after) next h k) in
       subst Q (sym same) (writes_tried bytes (reverse events) clock fit clock_fits f g h k e at piece (reverse after) tried.event next
-        (newest (λ d. d ≡ Tried at (length piece)) clock call events after tried) tried.change fits)
+      (newest (λ d. d ≡ Tried at (length piece)) clock call events after tried) tried.change fits)
 
   pub write_kept : {T E : Type 0} (v : T) (at : ℕ) (piece : List ℕ) (now : List ℕ) (after : List Event) (next : ℕ) → at + length piece ≤ length bytes → now ≡ overwritten bytes at piece
       → Notes (IsOver at (length piece) bytes) clock call events after
@@ -225,7 +228,7 @@ module _ (bytes : List ℕ) (events : List Event) (clock : ℕ) (fit : All (λ x
   write_kept {T = T} {E = E} v at piece now after next fits same noted f g h k =
       let Q : List ℕ → Type 0 = λ l. Writes {T = T} {E = E} at piece (Ok v) (disk_of bytes (reverse events) clock f g) (disk_of l (reverse after) next h k) in
       subst Q (sym same) (writes_done bytes (reverse events) clock fit clock_fits f g h k v at piece (reverse after) noted.event next
-        (newest (IsOver at (length piece) bytes) clock call events after noted) noted.change fits)
+      (newest (IsOver at (length piece) bytes) clock call events after noted) noted.change fits)
 
   pub ticks_kept : {T E : Type 0} (r : Result T E) (at : ℕ) (piece : List ℕ) (now : List ℕ) (after : List Event) (next : ℕ) → at + length piece ≤ length bytes → now ≡ overwritten bytes at piece
       → next ≡ next_count clock → Notes (IsOver at (length piece) bytes) clock call events after
@@ -235,5 +238,5 @@ module _ (bytes : List ℕ) (events : List Event) (clock : ℕ) (fit : All (λ x
       let over = noted.change in
       let undoes : undone noted.event.change (overwritten bytes at piece) ≡ bytes = ap (λ d. undone d (overwritten bytes at piece)) over.1 ∙ put_back bytes at piece over.0.items fits over.2 in
       subst (λ t. Q now t) (sym ticked) (subst (λ (l : List ℕ). Q l (next_count clock)) (sym same)
-        (ticks_noted bytes (reverse events) clock fit clock_fits f g h k r (overwritten bytes at piece) (reverse after) noted.event
-          (newest (IsOver at (length piece) bytes) clock call events after noted) undoes noted.at_clock noted.time_left (length-overwritten bytes at piece fits)))
+      (ticks_noted bytes (reverse events) clock fit clock_fits f g h k r (overwritten bytes at piece) (reverse after) noted.event
+      (newest (IsOver at (length piece) bytes) clock call events after noted) undoes noted.at_clock noted.time_left (length-overwritten bytes at piece fits)))

@@ -1,5 +1,5 @@
 -- What a crash leaves in each step of two writes in order.
-use Rattle.std.proofs.Common.{◌≡◌, inl, inr, ℕ, ◌+◌, ◌≤◌, List, length, Some, Result, Ok, sym, ap, ◌∙◌, subst, arith}
+use Rattle.std.proofs.Common.{◌≡◌, inl, inr, ℕ, ◌+◌, ◌≤◌, List, length, Some, Result, Ok, subst, arith}
 use Rattle.hb_disk.specs.Model.{DiskModel, IsDisk, overwritten, Torn}
 use Rattle.hb_disk.specs.Calls.{Ticks, Writes, Syncs, Leaves, Becomes, Then}
 use Rattle.hb_disk.specs.Calls as calls
@@ -12,8 +12,8 @@ module _ (old : DiskModel) (first : ℕ) (a : List ℕ) (second : ℕ) (b : List
   Ordered c = (t : List ℕ) × old.Image t × calls.InOrder first a second b t c
 
   module _ (t : List ℕ) (told : old.told ≡ Some t) (disk : IsDisk old) {T E : Type 0}
-    (r : Result T E) (one : DiskModel) (written : Writes first a r old one) (ticks : Ticks r old one)
-    (s : Result T E) (two : DiskModel) (synced : Syncs s one two) (sync_ticks : Ticks s one two) where
+      (r : Result T E) (one : DiskModel) (written : Writes first a r old one) (ticks : Ticks r old one)
+      (s : Result T E) (two : DiskModel) (synced : Syncs s one two) (sync_ticks : Ticks s one two) where
     one_ordered : (c : List ℕ) → one.Image c → Ordered c
     one_ordered c image = let from = written.crash c image in (from.0, from.1, inl from.2)
 
@@ -21,8 +21,8 @@ module _ (old : DiskModel) (first : ℕ) (a : List ℕ) (second : ℕ) (b : List
     run_two =
         Leaves-call s old one two Ordered
         (Leaves-call r old old one Ordered
-          (Leaves-start old Ordered disk (λ c image. (c, image, inl (Torn-itself first (length a) c (disk.bytes c image)))))
-          ticks one_ordered)
+        (Leaves-start old Ordered disk (λ c image. (c, image, inl (Torn-itself first (length a) c (disk.bytes c image)))))
+        ticks one_ordered)
         sync_ticks (λ c image. one_ordered c (synced.crash c image))
 
     module _ (v w : T) (r_ok : r ≡ Ok v) (s_ok : s ≡ Ok w) (q : Result T E) (three : DiskModel) (written_2 : Writes second b q two three) (ticks_2 : Ticks q two three) where
@@ -43,8 +43,8 @@ module _ (old : DiskModel) (first : ℕ) (a : List ℕ) (second : ℕ) (b : List
   InTwo = Then (Torn first (length a)) (Torn second (length b))
 
   module _ (disk : IsDisk old) (first_inside : first + length a ≤ old.size) (one : DiskModel) (is_one : IsDisk one) {T E : Type 0}
-    (r : Result T E) (written : Writes first a r old one) (ticks : Ticks r old one)
-    (s : Result T E) (two : DiskModel) (synced : Syncs s one two) (sync_ticks : Ticks s one two) where
+      (r : Result T E) (written : Writes first a r old one) (ticks : Ticks r old one)
+      (s : Result T E) (two : DiskModel) (synced : Syncs s one two) (sync_ticks : Ticks s one two) where
     torn_two : Becomes (Torn first (length a)) old two
     torn_two = Becomes-torn first (length a) old one two (Becomes-write r first a old one disk is_one first_inside written ticks) (Becomes-torn_sync s first (length a) one two is_one synced sync_ticks)
 
@@ -52,7 +52,7 @@ module _ (old : DiskModel) (first : ℕ) (a : List ℕ) (second : ℕ) (b : List
     place_two = Becomes-weaker (Torn first (length a)) InTwo old two (λ x c torn. (c, torn, Torn-itself second (length b) c torn.bytes)) torn_two
 
     module _ (second_inside : second + length b ≤ old.size) (is_two : IsDisk two) (q : Result T E) (three : DiskModel) (is_three : IsDisk three)
-      (written_2 : Writes second b q two three) (ticks_2 : Ticks q two three) where
+        (written_2 : Writes second b q two three) (ticks_2 : Ticks q two three) where
       torn_three : Becomes (Torn second (length b)) two three
       torn_three = Becomes-write q second b two three is_two is_three (omega (arith, second_inside, sync_ticks.size, ticks.size)) written_2 ticks_2
 

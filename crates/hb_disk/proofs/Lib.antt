@@ -2,3 +2,4 @@ pub mod Gate
 pub mod InOrder
 pub mod Histories
 pub mod MemDisks
+pub mod Picked

@@ -1,12 +1,12 @@
 -- What a disk in memory answers, from what its history did.
-use Rattle.std.proofs.Common.{◌≡◌, ◌⊎◌, ◌↔◌, inl, inr, ⊎_elim, ℕ, ◌+◌, ◌-◌, ◌^◌, ◌<◌, ◌≤◌, min, Bool, true, false, List, length, Result, Ok, Err, IsTrue, IsErr, IfErr, OnOk, OnErr, refl, sym, ap, ◌∙◌, subst, arith}
+use Rattle.std.proofs.Common.{◌≡◌, ◌↔◌, inl, inr, ℕ, ◌≤◌, Bool, List, Result, Ok, Err, IsTrue, IsErr, IfErr, OnErr, refl, sym, subst, arith}
 use Rattle.std.proofs.lemmas.Bool.{cases_lt}
 use Rattle.hb_outside.specs.Streams.{Rose}
 use Rattle.hb_outside.specs.Memory.{next_count}
 use Rattle.hb_disk.specs.Model.{DiskModel, last_value}
 use Rattle.hb_disk.specs.Calls.{Ticks, Writes, Syncs, WriteFaults}
 use Rattle.hb_disk.specs.Events.{Alike, Explains, faults_after, starved_after}
-use Rattle.hb_disk.specs.MemDisk.{bytes_of, seen_as, IsListed, CalledExactly}
+use Rattle.hb_disk.specs.MemDisk.{bytes_of, IsListed, CalledExactly}
 use Rattle.hb_disk.specs.declared.event.Refused.{Refused}
 use Rattle.hb_disk.specs.declared.event.Refused.TheVariants.{Listed, Over, NoMemory}
 use Rattle.hb_disk.specs.declared.mem_disk.MemDisk.{MemDisk}
@@ -52,7 +52,7 @@ told_faults (Err e) (Err f) old new alike is later reads =
 
 -- exactly when a call fails, and what it counts
 module _ (old new : MemDisk) (listed : Bool) (listing : IsTrue listed ↔ IsListed old) (calls : new.calls ≡ next_count old.calls) (failing : new.failing ≡ old.failing)
-  (reads : new.read_faults ≡ old.read_faults) {T F : Type 0} where
+    (reads : new.read_faults ≡ old.read_faults) {T F : Type 0} where
   pub called_exactly : (done : Result T Refused) (r : Result T F) → Alike done r → (IsTrue listed → IsErr done) → (old.history.clock ≡ last_value → IsErr done)
       → IfErr done (Explains listed old.history.clock) → OnErr done (bytes_of new ≡ bytes_of old)
       → new.write_faults ≡ faults_after done old.write_faults → new.starved ≡ starved_after done old.starved → CalledExactly r old new

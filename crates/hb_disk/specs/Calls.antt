@@ -1,5 +1,5 @@
 -- What each call does to a disk, by the disk model.
-use Rattle.std.specs.Prelude.{◌≡◌, ◌⊎◌, ℕ, ◌+◌, ◌<◌, ◌≤◌, List, ◌∷◌, length, take, drop, get_or, Option, Some, None, IfSome, IsSome, Result, IsErr, OnOk, OnErr}
+use Rattle.std.specs.Prelude.{◌≡◌, ◌⊎◌, ℕ, ◌+◌, ◌<◌, ◌≤◌, List, ◌∷◌, length, take, drop, get_or, Some, None, IfSome, IsSome, Result, IsErr, OnOk, OnErr}
 use Rattle.hb_outside.specs.Streams.{Rose}
 use Rattle.hb_disk.specs.Model.{DiskModel, last_value, overwritten, Torn, Elapses, Stays}
 

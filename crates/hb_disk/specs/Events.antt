@@ -1,11 +1,13 @@
 -- What a record of calls says of the bytes: which they were at each moment, and which places a crash leaves open.
-use Rattle.std.specs.Prelude.{Bool, true, false, ◌≡◌, ◌⊎◌, ℕ, ◌+◌, ◌^◌, ◌<◌, ◌≤◌, List, [], ◌∷◌, ◌++◌, length, get_or, take, drop, All, Vec, Option, Some, None, IfSome, MatchOption, Result, Ok, Err, ⊤, if◌then◌else◌, ltb}
+use Rattle.std.specs.Prelude.{Bool, true, false, ◌≡◌, ◌⊎◌, ℕ, ◌+◌, ◌^◌, ◌<◌, ◌≤◌, List, [], ◌∷◌, ◌++◌, length, get_or, take, drop, All, Vec, Option, Some, None, IfSome, MatchOption, Result, Ok, Err, ⊤, if◌then◌else◌, ltb, is_some}
 use Rattle.std.specs.declared.alloc.Global.{Global}
 use Rattle.hb_outside.specs.Memory.{next_count}
 use Rattle.hb_disk.specs.Model.{DiskModel, overwritten, last_value}
 use Rattle.hb_disk.specs.declared.event.Change.{Change}
 use Rattle.hb_disk.specs.declared.event.Change.TheVariants.{Wrote, Tried, Synced}
 use Rattle.hb_disk.specs.declared.event.Event.{Event}
+use Rattle.hb_disk.specs.declared.event.Pick.{Pick}
+use Rattle.hb_disk.specs.declared.event.Pick.TheVariants.{Old, New, Noise}
 use Rattle.hb_disk.specs.declared.event.Refused.{Refused}
 use Rattle.hb_disk.specs.declared.event.Refused.TheVariants.{Listed, Over, NoMemory}
 
@@ -49,16 +51,26 @@ abbrev pub rewound : ℕ → List ℕ → List Event → List ℕ × List Event
 rewound before bytes [] = (bytes, [])
 rewound before bytes (e ∷ es) = if ltb e.call before then (bytes, e ∷ es) else rewound before (undone e.change bytes) es
 
--- the first at a sync, and at any other change the second
-abbrev pub at_sync : Change → List ℕ → List ℕ → List ℕ
-at_sync (Wrote at before) here earlier = earlier
-at_sync (Tried at len) here earlier = earlier
-at_sync Synced here earlier = here
-
 -- the bytes as they were when a sync last succeeded, or at first
 abbrev pub as_synced : List ℕ → List Event → List ℕ
 as_synced bytes [] = bytes
-as_synced bytes (e ∷ es) = at_sync e.change bytes (as_synced (undone e.change bytes) es)
+as_synced bytes (e ∷ es) = if is_some (range_of e.change) then as_synced (undone e.change bytes) es else bytes
+
+-- one byte in each open place, and the bytes everywhere else
+pub record IsNoise (byte : ℕ) (bytes : List ℕ) (events : List Event) (image : List ℕ) : Type 0 where
+  pub long : length image ≡ length bytes
+  pub noisy : (i : ℕ) → i < length bytes → IsOpen events i → get_or image i 0 ≡ byte
+  pub kept : (i : ℕ) → (IsOpen events i → ⊥) → get_or image i 0 ≡ get_or bytes i 0
+
+-- the image that was picked
+abbrev pub IsPicked : Pick → List ℕ → List Event → List ℕ → Type 0
+IsPicked Old bytes events image = image ≡ as_synced bytes events
+IsPicked New bytes events image = image ≡ bytes
+IsPicked (Noise byte) bytes events image = IsNoise byte bytes events image
+
+-- each event lies within so many bytes
+abbrev pub AllReach : ℕ → List Event → Type 0
+AllReach size events = All (λ e. Reaches e.change size) events
 
 -- each event came before this value of the clock and lies within so many bytes
 abbrev pub AreKept : ℕ → ℕ → List Event → Type 0

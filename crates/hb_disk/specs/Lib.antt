@@ -5,3 +5,5 @@ pub mod RunLaws
 pub mod Events
 pub mod EventLaws
 pub mod MemDisk
+pub mod Untold
+pub mod RotDisk

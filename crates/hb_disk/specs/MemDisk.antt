@@ -1,7 +1,7 @@
 -- A disk in memory, as its own contracts see it.
-use Rattle.std.specs.Prelude.{◌≡◌, ◌⊎◌, ◌↔◌, ℕ, List, [], reverse, Contains, Result, IsErr, OnOk, OnErr}
+use Rattle.std.specs.Prelude.{◌≡◌, ◌⊎◌, ◌↔◌, ℕ, ◌<◌, ◌≤◌, List, [], ◌∷◌, length, reverse, Contains, Result, IsErr, OnOk, OnErr}
 use Rattle.hb_outside.specs.Memory.{next_count}
-use Rattle.hb_disk.specs.Model.{DiskModel, last_value}
+use Rattle.hb_disk.specs.Model.{DiskModel, overwritten, last_value}
 use Rattle.hb_disk.specs.Events.{disk_of}
 use Rattle.hb_disk.specs.declared.event.Event.{Event}
 use Rattle.hb_disk.specs.declared.mem_disk.MemDisk.{MemDisk}
@@ -56,3 +56,16 @@ pub record CalledExactly {T E : Type 0} (result : Result T E) (old new : MemDisk
   pub fault : OnErr result (new.write_faults ≡ next_count old.write_faults)
   pub no_fault : OnOk result ((new.write_faults ≡ old.write_faults) × (new.starved ≡ old.starved))
   pub read_faults : new.read_faults ≡ old.read_faults
+
+-- A disk in which one byte is set at its time: where the next call is that one, and the place lies in the disk.
+-- All else is as it was.
+pub record SetsByte (before at byte : ℕ) (old new : MemDisk) : Type 0 where
+  pub set : old.calls ≡ before → at < length (bytes_of old) → bytes_of new ≡ overwritten (bytes_of old) at (byte ∷ [])
+  pub not_yet : (old.calls ≡ before → ⊥) → bytes_of new ≡ bytes_of old
+  pub outside : length (bytes_of old) ≤ at → bytes_of new ≡ bytes_of old
+  pub size : length (bytes_of new) ≡ length (bytes_of old)
+  pub calls : new.calls ≡ old.calls
+  pub failing : new.failing ≡ old.failing
+  pub read_faults : new.read_faults ≡ old.read_faults
+  pub write_faults : new.write_faults ≡ old.write_faults
+  pub starved : new.starved ≡ old.starved

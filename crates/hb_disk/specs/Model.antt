@@ -1,5 +1,5 @@
 -- The disk model: what a disk reads as, and what a crash may leave of it.
-use Rattle.std.specs.Prelude.{◌≡◌, ◌⊎◌, ℕ, ◌+◌, ◌-◌, ◌^◌, ◌<◌, ◌≤◌, List, ◌++◌, length, take, drop, All, Option, Some, None, IfSome, IsSome}
+use Rattle.std.specs.Prelude.{◌≡◌, ◌⊎◌, ℕ, ◌+◌, ◌-◌, ◌^◌, ◌<◌, ◌≤◌, List, ◌++◌, length, take, drop, All, Option, Some}
 
 -- A disk as contracts see it. `told` is what a read gives, where the disk tells it. `clock` counts the writes, zeroes
 -- and syncs, failed ones included. `Image` holds of what a crash now may leave, and `ImageSince t` of what a crash at

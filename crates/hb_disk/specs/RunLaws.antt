@@ -1,9 +1,9 @@
 -- How a run of calls of a disk goes on, and what a write or a sync makes of the images.
-use Rattle.std.proofs.Common.{◌≡◌, ◌⊎◌, inl, inr, ⊎_elim, ℕ, ◌+◌, ◌-◌, ◌^◌, ◌<◌, ◌≤◌, List, length, take, drop, Option, Some, None, IfSome, IsSome, is_some, Result, Ok, Err, OnOk, refl, sym, ap, ◌∙◌, subst, arith}
+use Rattle.std.proofs.Common.{◌≡◌, inl, inr, ⊎_elim, ℕ, ◌+◌, ◌-◌, ◌^◌, ◌<◌, ◌≤◌, List, length, take, drop, Option, Some, None, IfSome, IsSome, is_some, Result, Ok, Err, OnOk, refl, sym, ap, ◌∙◌, subst, arith}
 use Rattle.std.specs.List.{All}
 use Rattle.std.proofs.Math.Nat.{eq-or-lt_of_le}
 use Rattle.std.proofs.lemmas.List.{drop-take, take-take, drop-drop}
-use Rattle.hb_disk.specs.Model.{DiskModel, IsDisk, overwritten, Torn, Elapses, Stays}
+use Rattle.hb_disk.specs.Model.{DiskModel, IsDisk, overwritten, Torn, Stays}
 use Rattle.hb_disk.specs.Calls.{Ticks, Writes, Syncs, Leaves, Apart, IsSynced, Becomes, Then}
 use Rattle.hb_disk.specs.TornLaws.{Torn-from, Torn-itself, Torn-wider, Torn-twice, Torn-elsewhere, length-overwritten, overwritten-outside}
 
@@ -121,6 +121,12 @@ only_told {T = T} {E = E} r v old new b ok told syncs c image =
     let S : Result T E → Type 0 = λ q. Syncs q old new in
     let here = subst S ok syncs in
     at_value old.told (λ b. (c : List ℕ) → new.Image c → c ≡ b) b told here.durable c image
+
+-- Where a crash leaves nothing but what a read gives, every range is synced.
+pub IsSynced-durable : (d : DiskModel) (at n : ℕ) → IfSome d.told (λ b. (c : List ℕ) → d.Image c → c ≡ b) → IsSynced d at n
+IsSynced-durable d at n only = record {
+  each = λ b c told image. ap (λ (l : List ℕ). take n (drop at l)) (at_value d.told (λ b. (c : List ℕ) → d.Image c → c ≡ b) b told only c image);
+}
 
 -- After a sync that succeeds every range is synced.
 pub IsSynced-sync : {T E : Type 0} (r : Result T E) (v : T) (old new : DiskModel) (at n : ℕ) → r ≡ Ok v → Syncs r old new → IsSynced new at n

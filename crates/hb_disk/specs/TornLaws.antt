@@ -1,8 +1,8 @@
 -- What follows of bytes that are overwritten or torn, place by place.
-use Rattle.std.proofs.Common.{◌≡◌, ◌⊎◌, inl, inr, ℕ, ◌+◌, ◌-◌, ◌^◌, ◌<◌, ◌≤◌, List, ◌∷◌, [], ◌++◌, length, take, drop, get_or, refl, sym, ap, ◌∙◌, subst, arith, length-append, length-take, length-drop}
+use Rattle.std.proofs.Common.{◌≡◌, ◌⊎◌, inl, inr, ℕ, ◌+◌, ◌-◌, ◌^◌, ◌<◌, ◌≤◌, List, ◌++◌, length, take, drop, get_or, refl, sym, ap, ◌∙◌, subst, arith, length-append, length-take, length-drop}
 use Rattle.std.specs.List.{All}
 use Rattle.std.proofs.lemmas.Bool.{cases_lt}
-use Rattle.std.proofs.lemmas.List.{get_or-take, get_or-drop, get_or_append_left, get_or-append_right, length-take-le, ext_get_or, get_or_past, get_or_default}
+use Rattle.std.proofs.lemmas.List.{get_or-take, get_or-drop, get_or_append_left, get_or-append_right, length-take-le, ext_get_or}
 use Rattle.std.proofs.lemmas.List.Elements.{All-append, All-take, All-drop}
 use Rattle.hb_disk.specs.Model.{overwritten, Torn}
 use Rattle.hb_disk.specs.Calls.{Apart}
@@ -24,13 +24,13 @@ pub Torn-from : (at n : ℕ) (before after : List ℕ) → length after ≡ leng
 Torn-from at n before after long bytes same = record {
   in_front = ext_get_or 0 (take at after) (take at before) (omega (arith, length-take at after, length-take at before, long))
       (λ i h.
-        let here : i < at = omega (arith, length-take at after, h) in
-        let near : i < length after = omega (arith, length-take at after, h) in
-        get_or-take at after i 0 here ∙ same i near (inl here) ∙ sym (get_or-take at before i 0 here));
+      let here : i < at = omega (arith, length-take at after, h) in
+      let near : i < length after = omega (arith, length-take at after, h) in
+      get_or-take at after i 0 here ∙ same i near (inl here) ∙ sym (get_or-take at before i 0 here));
   behind = ext_get_or 0 (drop (at + n) after) (drop (at + n) before) (omega (arith, length-drop (at + n) after, length-drop (at + n) before, long))
       (λ i h.
-        let near : at + n + i < length after = omega (arith, length-drop (at + n) after, h) in
-        get_or-drop (at + n) after i 0 ∙ same (at + n + i) near (inr (omega arith)) ∙ sym (get_or-drop (at + n) before i 0));
+      let near : at + n + i < length after = omega (arith, length-drop (at + n) after, h) in
+      get_or-drop (at + n) after i 0 ∙ same (at + n + i) near (inr (omega arith)) ∙ sym (get_or-drop (at + n) before i 0));
   as_long = long;
   bytes = bytes;
 }
@@ -70,10 +70,10 @@ pub Torn-elsewhere : (at n from m : ℕ) (before after : List ℕ) → Apart fro
 Torn-elsewhere at n from m before after apart torn =
     let long : length (take m (drop from after)) ≡ length (take m (drop from before)) = omega (arith, length-take m (drop from after), length-take m (drop from before), length-drop from after, length-drop from before, torn.as_long) in
     ext_get_or 0 (take m (drop from after)) (take m (drop from before)) long (λ i h.
-      let here : i < m = omega (arith, length-take m (drop from after), h) in
-      let outside : IsOutside at n (from + i) = elim apart [ inl front ↦ inl (omega arith) | inr behind ↦ inr (omega arith) ] in
-      get_or-take m (drop from after) i 0 here ∙ get_or-drop from after i 0 ∙ Torn-same at n before after torn (from + i) outside
-      ∙ sym (get_or-drop from before i 0) ∙ sym (get_or-take m (drop from before) i 0 here))
+    let here : i < m = omega (arith, length-take m (drop from after), h) in
+    let outside : IsOutside at n (from + i) = elim apart [ inl front ↦ inl (omega arith) | inr behind ↦ inr (omega arith) ] in
+    get_or-take m (drop from after) i 0 here ∙ get_or-drop from after i 0 ∙ Torn-same at n before after torn (from + i) outside
+    ∙ sym (get_or-drop from before i 0) ∙ sym (get_or-take m (drop from before) i 0 here))
 
 -- the bytes with a piece in its place
 module _ (bytes : List ℕ) (at : ℕ) (piece : List ℕ) (fits : at + length piece ≤ length bytes) where
@@ -119,10 +119,10 @@ module _ (bytes : List ℕ) (at : ℕ) (piece : List ℕ) (fits : at + length pi
       let whole = overwritten bytes at piece in
       let long : length (take (length piece) (drop at whole)) ≡ length piece = omega (arith, length-take (length piece) (drop at whole), length-drop at whole, length-overwritten, fits) in
       ext_get_or 0 (take (length piece) (drop at whole)) piece long (λ i h.
-        let here : i < length piece = omega (arith, long, h) in
-        let e : at + i - at ≡ i = omega arith in
-        get_or-take (length piece) (drop at whole) i 0 here ∙ get_or-drop at whole i 0
-        ∙ overwritten-inside (at + i) (omega arith) (omega arith) ∙ ap (λ (j : ℕ). get_or piece j 0) e)
+      let here : i < length piece = omega (arith, long, h) in
+      let e : at + i - at ≡ i = omega arith in
+      get_or-take (length piece) (drop at whole) i 0 here ∙ get_or-drop at whole i 0
+      ∙ overwritten-inside (at + i) (omega arith) (omega arith) ∙ ap (λ (j : ℕ). get_or piece j 0) e)
 
   -- bytes that are torn in the range and have the piece there have been overwritten
   pub overwritten-from : (after : List ℕ) → Torn at (length piece) bytes after → ((i : ℕ) → i < length piece → get_or after (at + i) 0 ≡ get_or piece i 0)
@@ -167,7 +167,38 @@ overwritten-joined bytes at p q fits =
   where
     minus_minus : (i a n : ℕ) → i - (a + n) ≡ i - a - n
     minus_minus i a n = omega arith
+
     beyond_both : (at : ℕ) (p q : List ℕ) (i : ℕ) → IsOutside at (length p) i → IsOutside (at + length p) (length q) i → IsOutside at (length (p ++ q)) i
     beyond_both at p q i (inl front) b = inl front
     beyond_both at p q i (inr behind) (inl front) = absurd (omega (arith, behind, front))
     beyond_both at p q i (inr behind) (inr after) = inr (omega (arith, after, length-append p q))
+
+-- of two pieces in ranges that share no place it doesn't matter which is put first
+pub overwritten-apart : (bytes : List ℕ) (at : ℕ) (p : List ℕ) (from : ℕ) (q : List ℕ) → at + length p ≤ length bytes → from + length q ≤ length bytes → Apart at (length p) from (length q)
+    → overwritten (overwritten bytes at p) from q ≡ overwritten (overwritten bytes from q) at p
+overwritten-apart bytes at p from q fits_p fits_q apart =
+    let with_p = overwritten bytes at p in
+    let with_q = overwritten bytes from q in
+    let p_long : length with_p ≡ length bytes = length-overwritten bytes at p fits_p in
+    let q_long : length with_q ≡ length bytes = length-overwritten bytes from q fits_q in
+    let q_fits : from + length q ≤ length with_p = omega (arith, p_long, fits_q) in
+    let p_fits : at + length p ≤ length with_q = omega (arith, q_long, fits_p) in
+    ext_get_or 0 (overwritten with_p from q) (overwritten with_q at p)
+    (length-overwritten with_p from q q_fits ∙ p_long ∙ sym q_long ∙ sym (length-overwritten with_q at p p_fits))
+    (λ i h. elim (cases_range from (length q) i) [
+      | inl within ↦
+          let not_p : IsOutside at (length p) i = elim apart [ inl front ↦ inr (omega (arith, front, within.0)) | inr behind ↦ inl (omega (arith, behind, within.1)) ] in
+          overwritten-inside with_p from q q_fits i within.0 within.1
+          ∙ sym (overwritten-inside bytes from q fits_q i within.0 within.1)
+          ∙ sym (overwritten-outside with_q at p p_fits i not_p)
+      | inr not_q ↦
+          overwritten-outside with_p from q q_fits i not_q
+          ∙ elim (cases_range at (length p) i) [
+            | inl within ↦
+                overwritten-inside bytes at p fits_p i within.0 within.1 ∙ sym (overwritten-inside with_q at p p_fits i within.0 within.1)
+            | inr not_p ↦
+                overwritten-outside bytes at p fits_p i not_p
+                ∙ sym (overwritten-outside bytes from q fits_q i not_q)
+                ∙ sym (overwritten-outside with_q at p p_fits i not_p)
+          ]
+    ])

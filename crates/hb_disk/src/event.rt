@@ -14,6 +14,17 @@ pub(crate) enum Refused {
     NoMemory,
 }
 
+/// Which bytes stand in an image at each place that wasn't synced.
+#[derive(Clone, Copy, Debug, PartialEq, Eq)]
+pub enum Pick {
+    /// Those of the last sync that succeeded, or the first ones where none did.
+    Old,
+    /// Those that a read gives.
+    New,
+    /// This byte.
+    Noise(u8),
+}
+
 /// What a call did to the bytes.
 #[derive(Drop)]
 pub(crate) enum Change {

@@ -1,12 +1,14 @@
 //! Bytes in memory with the record of all that changed them.
-ghost use Rattle.std.specs.Prelude.{◌≡◌, ◌⊎◌, ℕ, ◌+◌, ◌^◌, ◌<◌, ◌≤◌, ◌↔◌, List, [], length, reverse, replicate, All, IsTrue, true, false, IsErr, IfErr, OnOk, OnErr, Ok, Err};
+ghost use Rattle.std.specs.Prelude.{◌≡◌, ◌⊎◌, ℕ, ◌+◌, ◌^◌, ◌<◌, ◌≤◌, ◌↔◌, List, [], length, reverse, replicate, All, IsTrue, true, false, IsErr, IfOk, IfErr, OnOk, OnErr, Ok, Err};
 ghost use Rattle.std.proofs.Props.{props};
 ghost use Rattle.hb_outside.specs.Memory.{next_count};
 ghost use Rattle.hb_disk.specs.Model.{last_value, overwritten};
 ghost use Rattle.hb_disk.specs.Calls.{Ticks, Writes, Syncs};
-ghost use Rattle.hb_disk.specs.Events.{Reaches, AreKept, disk_of, Notes, IsOver, Explains};
+ghost use Rattle.hb_disk.specs.Events.{Reaches, AreKept, IsImage, IsImageSince, IsPicked, rewound, disk_of, Notes, IsOver, Explains};
 
-use crate::event::{Change, Event, Refused, fill_at, put_at};
+use crate::event::{Change, Event, Pick, Refused, fill_at, put_at};
+use crate::images::choose_before;
+use hb_space::NoMemory;
 use std::alloc::Global;
 
 /// The bytes as they read now, each event that changed them, oldest first, and the clock.
@@ -33,6 +35,19 @@ impl History {
             events: Vec::new(alloc),
             clock: 0,
         }
+    }
+
+    /// The image that is picked, of the moment before the call of that number.
+    pub(crate) fn image(&self, alloc: Global, before: u64, pick: Pick) -> Result<Vec<u8>, NoMemory>
+        ensures picked { IfOk result (λ v. let moment = rewound before self.now.bytes.items (reverse self.now.events.items) in
+            IsPicked pick moment.0 moment.1 v.items) }
+        ensures image { IfOk result (λ v. let moment = rewound before self.now.bytes.items (reverse self.now.events.items) in
+            IsImage moment.0 moment.1 v.items) }
+        ensures since { IfOk result (λ v. IsImageSince 0 self.now.bytes.items (reverse self.now.events.items) v.items) }
+    {
+        let mut bytes = self.bytes.to_vec(alloc)?;
+        choose_before(&mut bytes, &self.events, before, pick);
+        Ok(bytes)
     }
 
     /// A call passes that leaves nothing on record.
@@ -78,7 +93,14 @@ impl History {
 
     /// Keeps the bytes of a range on record, before others are put there. A listed call fails, with its range on
     /// record where there is memory for it.
-    fn keep(&mut self, alloc: Global, call: u64, listed: bool, at: usize, len: usize) -> Result<(), Refused>
+    fn keep(
+        &mut self,
+        alloc: Global,
+        call: u64,
+        listed: bool,
+        at: usize,
+        len: usize,
+    ) -> Result<(), Refused>
         requires { at + len ≤ length self.old.bytes.items }
         ensures done { OnOk result (Notes (IsOver at len self.old.bytes.items) self.old.clock call
             self.old.events.items self.new.events.items) }
@@ -100,7 +122,7 @@ impl History {
     }
 
     /// Puts the piece at the place, and leaves the record as it is.
-    fn put(&mut self, at: usize, piece: &[u8])
+    pub(crate) fn put(&mut self, at: usize, piece: &[u8])
         requires { at + length piece.now ≤ length self.old.bytes.items }
         ensures bytes { self.new.bytes.items ≡ overwritten self.old.bytes.items at piece.now }
         ensures events { self.new.events ≡ self.old.events }
@@ -120,7 +142,14 @@ impl History {
     }
 
     /// Puts the bytes at the place.
-    pub(crate) fn write(&mut self, alloc: Global, call: u64, listed: bool, at: usize, piece: &[u8]) -> Result<(), Refused>
+    pub(crate) fn write(
+        &mut self,
+        alloc: Global,
+        call: u64,
+        listed: bool,
+        at: usize,
+        piece: &[u8],
+    ) -> Result<(), Refused>
         requires { at + length piece.now ≤ length self.old.bytes.items }
         ensures writes { (f g h k : ℕ) → Writes at piece.now result
             (disk_of self.old.bytes.items (reverse self.old.events.items) self.old.clock f g)
@@ -138,7 +167,14 @@ impl History {
     }
 
     /// Puts zero bytes at the place.
-    pub(crate) fn zero(&mut self, alloc: Global, call: u64, listed: bool, at: usize, len: usize) -> Result<(), Refused>
+    pub(crate) fn zero(
+        &mut self,
+        alloc: Global,
+        call: u64,
+        listed: bool,
+        at: usize,
+        len: usize,
+    ) -> Result<(), Refused>
         requires { at + len ≤ length self.old.bytes.items }
         ensures writes { (f g h k : ℕ) → Writes at (replicate len 0) result
             (disk_of self.old.bytes.items (reverse self.old.events.items) self.old.clock f g)

@@ -1,16 +1,17 @@
 //! A disk in memory that keeps a record of its calls and fails at chosen ones.
-ghost use Rattle.std.specs.Prelude.{◌≡◌, ◌⊎◌, ℕ, ◌+◌, ◌<◌, ◌≤◌, ◌↔◌, [], length, reverse, replicate, Contains, IsTrue, IsErr, IfErr, OnOk, OnErr, Err};
+ghost use Rattle.std.specs.Prelude.{◌≡◌, ◌⊎◌, ℕ, ◌+◌, ◌<◌, ◌≤◌, ◌↔◌, [], length, reverse, replicate, Contains, IsTrue, IsSome, IsErr, IfOk, IfSome, IfErr, OnOk, OnErr, Err};
 ghost use Rattle.hb_outside.specs.Streams.{Rose};
 ghost use Rattle.hb_outside.specs.Memory.{next_count};
 ghost use Rattle.hb_disk.specs.Model.{Stays, last_value};
 ghost use Rattle.hb_disk.specs.Calls.{Ticks, WriteFaults, Writes, Syncs, Reads, ReadFaults};
-ghost use Rattle.hb_disk.specs.Events.{disk_of, Alike, faults_after, starved_after};
+ghost use Rattle.hb_disk.specs.Events.{rewound, IsPicked, IsImage, disk_of, Alike, faults_after, starved_after};
 ghost use Rattle.hb_disk.specs.EventLaws.{history_is_disk};
 
 use crate::Disk;
-use crate::event::Refused;
+use crate::event::{Pick, Refused};
 use crate::history::History;
 use hb_outside::Failed;
+use hb_space::NoMemory;
 use std::alloc::Global;
 
 /// A disk in memory. It tells its bytes, and it can tell what a crash might have left at each moment of its life.
@@ -20,16 +21,16 @@ use std::alloc::Global;
 #[derive(Drop)]
 pub struct MemDisk {
     alloc: Global,
-    history: History,
+    pub(crate) history: History,
     failing: Vec<u64>,
-    calls: u64,
-    read_faults: u64,
-    write_faults: u64,
+    pub(crate) calls: u64,
+    pub(crate) read_faults: u64,
+    pub(crate) write_faults: u64,
     starved: u64,
 }
 
 impl MemDisk {
-    ghost use Rattle.hb_disk.specs.MemDisk.{bytes_of, StartsWith};
+    ghost use Rattle.hb_disk.specs.MemDisk.{bytes_of, events_of, seen_as, StartsWith};
 
     /// A disk of these bytes that fails at no call.
     pub fn new(alloc: Global, bytes: Vec<u8>) -> MemDisk
@@ -65,6 +66,23 @@ impl MemDisk {
         ensures { result.now ≡ bytes_of self.now }
     {
         &self.history.bytes
+    }
+
+    /// What a crash at the moment before the call of that number might have left, and `None` exactly where there was no
+    /// such moment yet. `pick` says which bytes stand in it at each place that wasn't synced then.
+    pub fn image(&self, before: u64, pick: Pick) -> Result<Option<Vec<u8>>, NoMemory>
+        ensures exists { IfOk result (λ o. IsSome o ↔ before ≤ self.now.calls) }
+        ensures picked { IfOk result (λ o. IfSome o (λ v. let moment = rewound before (bytes_of self.now) (events_of self.now) in
+            IsPicked pick moment.0 moment.1 v.items)) }
+        ensures image { IfOk result (λ o. IfSome o (λ v. let moment = rewound before (bytes_of self.now) (events_of self.now) in
+            IsImage moment.0 moment.1 v.items)) }
+        ensures since { IfOk result (λ o. IfSome o (λ v. (seen_as self.now).ImageSince 0 v.items)) }
+    {
+        if before > self.calls {
+            return Ok(None);
+        }
+        let image = self.history.image(self.alloc, before, pick)?;
+        Ok(Some(image))
     }
 
     /// How many calls failed for want of memory, up to the greatest `u64`.
@@ -141,7 +159,9 @@ impl Disk for MemDisk {
         ensures exact { CalledExactly result self.old self.new }
     {
         let listed = is_listed(&self.failing, self.calls);
-        let done = self.history.write(self.alloc, self.calls, listed, at as usize, from);
+        let done = self
+            .history
+            .write(self.alloc, self.calls, listed, at as usize, from);
         self.calls = self.calls.saturating_add(1);
         answer(done, &mut self.write_faults, &mut self.starved)
     }
@@ -154,7 +174,9 @@ impl Disk for MemDisk {
         ensures exact { CalledExactly result self.old self.new }
     {
         let listed = is_listed(&self.failing, self.calls);
-        let done = self.history.zero(self.alloc, self.calls, listed, at as usize, len as usize);
+        let done = self
+            .history
+            .zero(self.alloc, self.calls, listed, at as usize, len as usize);
         self.calls = self.calls.saturating_add(1);
         answer(done, &mut self.write_faults, &mut self.starved)
     }

@@ -47,13 +47,13 @@ returns-clause-written g c =
     let new = g.D.Disk.model c.sync-2.new.self in
     let Told : List ℕ → Type 0 = λ b. new.told ≡ Some (overwritten b c.args.gate (open_gate ∷ c.args.body.now)) in
     on_ok c.sync-2.result (IfSome old.told Told) (if_value old.told Told (λ b told.
-      new_told old c.args.gate c.args.body.now b told (g.met.D.Disk.is_disk c.args.disk.now) c.requires.inside (c.requires.closed (has_value old.told b told))
-      c.write.result (g.D.Disk.model c.write.new.self) c.write.ensures.writes c.write.ensures.ticks
-      c.sync.result (g.D.Disk.model c.sync.new.self) c.sync.ensures.syncs c.sync.ensures.ticks
-      c.in_ok-write.field-0 c.in_ok-sync.field-0 c.in_ok-write.was c.in_ok-sync.was
-      c.write-2.result (g.D.Disk.model c.write-2.new.self) c.write-2.ensures.writes c.write-2.ensures.ticks
-      c.sync-2.result new c.sync-2.ensures.syncs c.sync-2.ensures.ticks
-      c.in_ok-write-2.field-0 c.in_ok-write-2.was))
+    new_told old c.args.gate c.args.body.now b told (g.met.D.Disk.is_disk c.args.disk.now) c.requires.inside (c.requires.closed (has_value old.told b told))
+    c.write.result (g.D.Disk.model c.write.new.self) c.write.ensures.writes c.write.ensures.ticks
+    c.sync.result (g.D.Disk.model c.sync.new.self) c.sync.ensures.syncs c.sync.ensures.ticks
+    c.in_ok-write.field-0 c.in_ok-sync.field-0 c.in_ok-write.was c.in_ok-sync.was
+    c.write-2.result (g.D.Disk.model c.write-2.new.self) c.write-2.ensures.writes c.write-2.ensures.ticks
+    c.sync-2.result new c.sync-2.ensures.syncs c.sync-2.ensures.ticks
+    c.in_ok-write-2.field-0 c.in_ok-write-2.was))
 
 -- What the calls so far made of the disk.
 pub returns-in_err-sync-clause-place : goal.returns-in_err-sync-clause-place

@@ -23,7 +23,7 @@ invariant_of-self-clause-bytes_fit c =
     let P : ℕ → Type 0 = λ x. x < 2 ^ 8 in
     let was : All P c.deref_mut.result.now = All-same P c.deref_mut.result.now old.bytes.items c.deref_mut.ensures.value old.bytes_fit in
     let now = All-same P c.fill_at.new.bytes _ c.fill_at.ensures
-        (All-overwritten c.deref_mut.result.now c.args.at (replicate c.args.len 0) (fits c) was (All-replicate P c.args.len 0 (omega arith))) in
+    (All-overwritten c.deref_mut.result.now c.args.at (replicate c.args.len 0) (fits c) was (All-replicate P c.args.len 0 (omega arith))) in
     All-same P _ c.fill_at.new.bytes (items c) now
 
 pub invariant_of-self-clause-size_fits : goal.invariant_of-self-clause-size_fits

@@ -1,4 +1,4 @@
-use Rattle.std.proofs.Common.{◌≡◌, ◌+◌, ◌-◌, take, drop, refl, rules, arith}
+use Rattle.std.proofs.Common.{◌≡◌, take, drop, rules}
 use Rattle.hb_disk.specs.RunLaws.{on_ok_weaker}
 use Rattle.hb_disk.specs.Events.{Notes, IsOver}
 use Rattle.hb_disk.specs.declared.event.Change.TheVariants.{Wrote}
