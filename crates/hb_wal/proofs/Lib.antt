@@ -4,3 +4,4 @@ mod AreaBytes
 mod Forces
 mod HeadBytes
 mod AreaReads
+mod FrameSplits

@@ -5,3 +5,4 @@ pub mod Kept
 pub mod Reading
 pub mod Stops
 pub mod Loops
+pub mod FrameLaws

@@ -1,0 +1,17 @@
+//! What follows of frames from their definitions alone.
+
+ghost use Rattle.hb_wal.specs.FrameLaws.{ReadsOneWay, ReadsSomehow};
+
+use hb_outside::big_endian_law;
+
+/// An area is read in one way: its frames are determined, and so is whether a bad one follows them.
+pub fn an_area_is_read_in_one_way()
+    ensures { ReadsOneWay }
+{
+    big_endian_law();
+}
+
+/// Every area is read to an end, or to a frame with a bad length.
+pub fn every_area_is_read()
+    ensures { ReadsSomehow }
+{}
