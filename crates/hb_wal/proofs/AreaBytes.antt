@@ -30,17 +30,17 @@ range-overwritten area len k bytes piece inside fits =
     ext_get_or 0 (range area len (overwritten bytes (area + k) piece)) (overwritten (range area len bytes) k piece)
     (omega (arith, after, length-overwritten (range area len bytes) k piece part, count))
     (λ i h.
-      let here : i < len = omega (arith, after, h) in
-      get_or-range area len i (overwritten bytes (area + k) piece) here
-      ∙ elim (cases_range k (length piece) i) [
-        | inl within ↦
-            let e : area + i - (area + k) ≡ i - k = omega (arith, within.0) in
-            overwritten-inside bytes (area + k) piece whole (area + i) (omega (arith, within.0)) (omega (arith, within.1))
-            ∙ ap (λ (j : ℕ). get_or piece j 0) e ∙ sym (overwritten-inside (range area len bytes) k piece part i within.0 within.1)
-        | inr outside ↦
-            overwritten-outside bytes (area + k) piece whole (area + i) (elim outside [ inl front ↦ inl (omega arith) | inr behind ↦ inr (omega arith) ])
-            ∙ sym (get_or-range area len i bytes here) ∙ sym (overwritten-outside (range area len bytes) k piece part i outside)
-      ])
+    let here : i < len = omega (arith, after, h) in
+    get_or-range area len i (overwritten bytes (area + k) piece) here
+    ∙ elim (cases_range k (length piece) i) [
+      | inl within ↦
+          let e : area + i - (area + k) ≡ i - k = omega (arith, within.0) in
+          overwritten-inside bytes (area + k) piece whole (area + i) (omega (arith, within.0)) (omega (arith, within.1))
+          ∙ ap (λ (j : ℕ). get_or piece j 0) e ∙ sym (overwritten-inside (range area len bytes) k piece part i within.0 within.1)
+      | inr outside ↦
+          overwritten-outside bytes (area + k) piece whole (area + i) (elim outside [ inl front ↦ inl (omega arith) | inr behind ↦ inr (omega arith) ])
+          ∙ sym (get_or-range area len i bytes here) ∙ sym (overwritten-outside (range area len bytes) k piece part i outside)
+    ])
 
 -- a piece in the zeros behind some bytes
 pub overwritten-zeros : (front piece : List ℕ) (m : ℕ) → overwritten (front ++ replicate m 0) (length front) piece ≡ front ++ piece ++ replicate (m - length piece) 0

@@ -20,20 +20,20 @@ frames_count (p ∷ payloads) = omega (arith, frames_count payloads, length-appe
 pub reads_then : (old mid new : DiskModel) → OnlyReads old mid → OnlyReads mid new → OnlyReads old new
 reads_then old mid new first second = record {
   stays = record {
-        told = second.stays.told ∙ first.stays.told;
-        size = second.stays.size ∙ first.stays.size;
-        clock = second.stays.clock ∙ first.stays.clock;
-        image = λ c h. first.stays.image c (second.stays.image c h);
-        image_kept = λ c h. second.stays.image_kept c (first.stays.image_kept c h);
-        since = λ t c h. first.stays.since t c (second.stays.since t c h);
-        since_kept = λ t c h. second.stays.since_kept t c (first.stays.since_kept t c h);
-      };
+    told = second.stays.told ∙ first.stays.told;
+    size = second.stays.size ∙ first.stays.size;
+    clock = second.stays.clock ∙ first.stays.clock;
+    image = λ c h. first.stays.image c (second.stays.image c h);
+    image_kept = λ c h. second.stays.image_kept c (first.stays.image_kept c h);
+    since = λ t c h. first.stays.since t c (second.stays.since t c h);
+    since_kept = λ t c h. second.stays.since_kept t c (first.stays.since_kept t c h);
+  };
   later = omega (arith, first.later, second.later);
   writes = second.writes ∙ first.writes;
 }
 
 module _ (area len left : ℕ) (b payload behind : List ℕ) (payloads : List (List ℕ)) (fits : 5 + length payload ≤ left) (inside : left ≤ len)
-  (is : range (area + (len - left)) left b ≡ frame_bytes payload ++ behind) where
+    (is : range (area + (len - left)) left b ≡ frame_bytes payload ++ behind) where
   abbrev after : ℕ
   after = left - (5 + length payload)
 

@@ -103,17 +103,17 @@ module _ (log : LogState) (is_log : IsLog log) (first : Waiting) (others : List 
       elsewhere = Torn-wider gate (1 + length (frame_body first.bytes)) log.area log.len a c (omega arith) (omega (arith, body_long, frame_fits)) frame.elsewhere;
       frames_of = elim (cases_Bool (eqb (get_or c gate 0) open_gate)) [
         | inl is_open ↦ inr (subst (λ (l : List (List ℕ)). HasFrames (range log.area log.len c) (payloads ++ l)) (sym forced_is) (record {
-              payloads_fit = fits_more;
-              rest = replicate (log.len - log.written - (5 + length first.bytes)) 0;
-              bytes = ap (range log.area log.len) (frame.whole (eqb-true (get_or c gate 0) open_gate is_open)) ∙ written_area a image;
-              at_end = end_zeros (log.len - log.written - (5 + length first.bytes));
-            }))
+          payloads_fit = fits_more;
+          rest = replicate (log.len - log.written - (5 + length first.bytes)) 0;
+          bytes = ap (range log.area log.len) (frame.whole (eqb-true (get_or c gate 0) open_gate is_open)) ∙ written_area a image;
+          at_end = end_zeros (log.len - log.written - (5 + length first.bytes));
+        }))
         | inr closed ↦ inl (record {
-              payloads_fit = has.payloads_fit;
-              rest = drop log.written (range log.area log.len c);
-              bytes = closed_bytes a c image frame.elsewhere;
-              at_end = closed_end a c image frame.elsewhere closed;
-            })
+          payloads_fit = has.payloads_fit;
+          rest = drop log.written (range log.area log.len c);
+          bytes = closed_bytes a c image frame.elsewhere;
+          at_end = closed_end a c image frame.elsewhere closed;
+        })
       ];
     }
 
@@ -138,11 +138,11 @@ module _ (log : LogState) (none : log.groups ≡ []) (d : DiskModel) (is_disk : 
     image = image;
     elsewhere = Torn-itself log.area log.len c (is_disk.bytes c image);
     frames_of = inl (record {
-          payloads_fit = has.payloads_fit;
-          rest = replicate (log.len - log.written) 0;
-          bytes = has.synced.each b c told image ∙ at_value d.told (λ b. range log.area log.len b ≡ frames payloads ++ replicate (log.len - log.written) 0) b told has.reads;
-          at_end = end_zeros (log.len - log.written);
-        });
+      payloads_fit = has.payloads_fit;
+      rest = replicate (log.len - log.written) 0;
+      bytes = has.synced.each b c told image ∙ at_value d.told (λ b. range log.area log.len b ≡ frames payloads ++ replicate (log.len - log.written) 0) b told has.reads;
+      at_end = end_zeros (log.len - log.written);
+    });
   }
 
   pub nothing_left : Leaves d d (ForceLeaves d log payloads)

@@ -29,8 +29,7 @@ module _ (injective : Injective) where
   same_frame p q xs ys p_fits q_fits e =
       let tails : big_endian 4 (length p) ++ (p ++ xs) ≡ big_endian 4 (length q) ++ (q ++ ys) =
       sym (append_assoc (big_endian 4 (length p)) p xs) ∙ ap (λ (l : List ℕ). drop 1 l) e ∙ append_assoc (big_endian 4 (length q)) q ys in
-      let both = same_length (length p) (length q) (p ++ xs) (q ++ ys) p_fits.short q_fits.short tails in
-      (
+      let both = same_length (length p) (length q) (p ++ xs) (q ++ ys) p_fits.short q_fits.short tails in (
         sym (take_at p xs (length p) refl) ∙ ap (λ (l : List ℕ). take (length p) l) both.1 ∙ take_at q ys (length p) (sym both.0),
         sym (drop_at p xs (length p) refl) ∙ ap (λ (l : List ℕ). drop (length p) l) both.1 ∙ drop_at q ys (length p) (sym both.0),
       )
@@ -150,38 +149,44 @@ module _ (area : List ℕ) (long : 5 ≤ length area) (all : All (λ x. x < 2 ^ 
         ∙ sym (append_assoc (open_gate ∷ big_endian 4 (length payload)) payload (drop len behind))
 
     pub frame_here : Total (drop len behind) → Total area
-    frame_here (inl more) = inl (payload ∷ more.0, record {
-      payloads_fit = All-cons IsPayload payload more.0 payload_fits more.1.payloads_fit;
-      rest = more.1.rest;
-      bytes = frame_is ∙ ap (λ (l : List ℕ). frame_bytes payload ++ l) more.1.bytes ∙ sym (append_assoc (frame_bytes payload) (frames more.0) more.1.rest);
-      at_end = more.1.at_end;
-    })
-    frame_here (inr more) = inr (payload ∷ more.0, record {
-      payloads_fit = All-cons IsPayload payload more.0 payload_fits more.1.payloads_fit;
-      rest = more.1.rest;
-      bytes = frame_is ∙ ap (λ (l : List ℕ). frame_bytes payload ++ l) more.1.bytes ∙ sym (append_assoc (frame_bytes payload) (frames more.0) more.1.rest);
-      bad = more.1.bad;
-    })
+    frame_here (inl more) = inl (
+      payload ∷ more.0,
+      record {
+        payloads_fit = All-cons IsPayload payload more.0 payload_fits more.1.payloads_fit;
+        rest = more.1.rest;
+        bytes = frame_is ∙ ap (λ (l : List ℕ). frame_bytes payload ++ l) more.1.bytes ∙ sym (append_assoc (frame_bytes payload) (frames more.0) more.1.rest);
+        at_end = more.1.at_end;
+      },
+    )
+    frame_here (inr more) = inr (
+      payload ∷ more.0,
+      record {
+        payloads_fit = All-cons IsPayload payload more.0 payload_fits more.1.payloads_fit;
+        rest = more.1.rest;
+        bytes = frame_is ∙ ap (λ (l : List ℕ). frame_bytes payload ++ l) more.1.bytes ∙ sym (append_assoc (frame_bytes payload) (frames more.0) more.1.rest);
+        bad = more.1.bad;
+      },
+    )
 
 total : (n : ℕ) (area : List ℕ) → length area ≤ n → All (λ x. x < 2 ^ 8) area → Total area
 total zero area fits all = ends_here area (few_end area (omega (arith, fits)))
 total (suc n) area fits all = elim (cases_lt (length area) 5) [
   | inl few ↦ ends_here area (few_end area few)
   | inr long ↦ elim (cases_Bool (eqb (get_or area 0 0) open_gate)) [
-      | inr closed ↦ ends_here area (subst IsEnd (sym (drop_more area 0 0 (omega (arith, long)))) (inr (eqb-false (get_or area 0 0) open_gate closed)))
-      | inl gate ↦
-          let is_open = eqb-true (get_or area 0 0) open_gate gate in
-          elim (cases_Bool (eqb (len area long all is_open) 0)) [
-            | inl none ↦ bad_here area long all is_open (inl (eqb-true (len area long all is_open) 0 none))
-            | inr some ↦ elim (cases_lt (length (behind area long all is_open)) (len area long all is_open)) [
-                | inl short ↦ bad_here area long all is_open (inr short)
-                | inr whole ↦ frame_here area long all is_open (eqb-false (len area long all is_open) 0 some) whole
-                    (total n (drop (len area long all is_open) (behind area long all is_open))
-                      (omega (arith, fits, long, length-drop (len area long all is_open) (behind area long all is_open), length-drop 5 area))
-                      (All-drop (λ x. x < 2 ^ 8) (len area long all is_open) (behind area long all is_open) (All-drop (λ x. x < 2 ^ 8) 5 area all)))
-              ]
+    | inr closed ↦ ends_here area (subst IsEnd (sym (drop_more area 0 0 (omega (arith, long)))) (inr (eqb-false (get_or area 0 0) open_gate closed)))
+    | inl gate ↦
+        let is_open = eqb-true (get_or area 0 0) open_gate gate in
+        elim (cases_Bool (eqb (len area long all is_open) 0)) [
+          | inl none ↦ bad_here area long all is_open (inl (eqb-true (len area long all is_open) 0 none))
+          | inr some ↦ elim (cases_lt (length (behind area long all is_open)) (len area long all is_open)) [
+            | inl short ↦ bad_here area long all is_open (inr short)
+            | inr whole ↦ frame_here area long all is_open (eqb-false (len area long all is_open) 0 some) whole
+                (total n (drop (len area long all is_open) (behind area long all is_open))
+                (omega (arith, fits, long, length-drop (len area long all is_open) (behind area long all is_open), length-drop 5 area))
+                (All-drop (λ x. x < 2 ^ 8) (len area long all is_open) (behind area long all is_open) (All-drop (λ x. x < 2 ^ 8) 5 area all)))
           ]
-    ]
+        ]
+  ]
 ]
 
 pub somehow : (area : List ℕ) → All (λ x. x < 2 ^ 8) area → Total area

@@ -37,7 +37,6 @@ pub record IsLog (log : LogState) : Type 0 where
   pub reserved : pending_bytes log.groups ≤ PENDING
   pub marks : AllPairs (λ g h. g.mark ≤ h.mark) log.groups
 
-
 -- the mark of the first group that waits, or another number where none does
 abbrev pub mark_of : List Waiting → ℕ → ℕ
 mark_of [] now = now

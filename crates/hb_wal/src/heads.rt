@@ -97,7 +97,12 @@ pub(crate) fn read_frame<D: Disk>(
 }
 
 /// Reads the bytes of a payload.
-fn read_payload<D: Disk>(alloc: Global, disk: &mut D, at: u64, len: u32) -> Result<Vec<u8>, FrameStop>
+fn read_payload<D: Disk>(
+    alloc: Global,
+    disk: &mut D,
+    at: u64,
+    len: u32,
+) -> Result<Vec<u8>, FrameStop>
     requires inside { at + len ≤ (D.model disk.old).size }
     ensures bytes { IfOk result (λ v. IfSome (D.model disk.old).told (λ b. v.items ≡ range at len b)) }
     ensures long { IfOk result (λ v. length v.items ≡ len) }

@@ -95,8 +95,12 @@ impl Wal {
         requires room { length group.now ≤ room_of self.old }
         requires reserved { pending_bytes self.old.groups + length group.now ≤ PENDING }
         requires marks { All (λ g. g.mark ≤ mark) self.old.groups }
-        ensures { self.new ≡ record { area = self.old.area; len = self.old.len; written = self.old.written;
-            groups = self.old.groups ++ record { bytes = group.now; mark = mark } ∷ [] } }
+        ensures { self.new ≡ record {
+          area = self.old.area;
+          len = self.old.len;
+          written = self.old.written;
+          groups = self.old.groups ++ record { bytes = group.now; mark = mark } ∷ [];
+        } }
     {
         let added = Group {
             len: group.len() as u32,

@@ -51,7 +51,12 @@ impl FrameStop {
 }
 
 /// Reads the payloads of the open frames of an area, the oldest first, to the first place that has none.
-pub fn read_area<D: Disk>(alloc: Global, disk: &mut D, area: u64, len: u32) -> Result<Payloads, ReadStop>
+pub fn read_area<D: Disk>(
+    alloc: Global,
+    disk: &mut D,
+    area: u64,
+    len: u32,
+) -> Result<Payloads, ReadStop>
     requires inside { area + len ≤ (D.model disk.old).size }
     ensures read { IfOk result (λ payloads. IfSome (D.model disk.old).told (λ b. HasFrames (range area len b) payloads)) }
     ensures stopped { IfErr result (λ stop. IfSome (D.model disk.old).told (λ b. StopsAt stop (range area len b))) }
