@@ -1,5 +1,5 @@
 -- What a force finds and leaves on the disk.
-use Rattle.std.specs.Prelude.{◌≡◌, ◌⊎◌, ℕ, ◌+◌, ◌-◌, ◌<◌, List, [], ◌∷◌, ◌++◌, length, replicate, All, IfSome}
+use Rattle.std.specs.Prelude.{◌≡◌, ◌⊎◌, ℕ, ◌+◌, ◌-◌, ◌<◌, ◌≤◌, List, [], ◌∷◌, ◌++◌, length, replicate, All, IfSome, IsSome}
 use Rattle.hb_disk.specs.Model.{DiskModel, Torn}
 use Rattle.hb_disk.specs.Calls.{IsSynced}
 use Rattle.hb_wal.specs.Frames.{frames, IsPayload, HasFrames, range}
@@ -12,6 +12,11 @@ pub record HasLog (d : DiskModel) (log : LogState) (payloads : List (List ℕ)) 
   pub payloads_fit : All IsPayload payloads
   pub count : length (frames payloads) ≡ log.written
   pub reads : IfSome d.told (λ b. range log.area log.len b ≡ frames payloads ++ replicate (log.len - log.written) 0)
+
+-- The log lies within the disk, and the disk has it, where it tells: then it may be forced.
+pub record IsReady (d : DiskModel) (log : LogState) : Type 0 where
+  pub inside : log.area + log.len ≤ d.size
+  pub log : IsSome d.told → (payloads : List (List ℕ)) × HasLog d log payloads
 
 -- What a crash may leave inside a force: a list of bytes that a crash could leave before, where the area has the
 -- frames that it had, or those and one more.

@@ -1,8 +1,9 @@
 //! Frames by hand: a log's life over a disk in memory, what crashes and faults leave, and areas that
 //! are good, cut short or bad.
-ghost use Rattle.std.specs.Prelude.{◌≤◌, ◌+◌, length};
+ghost use Rattle.std.specs.Prelude.{◌≤◌, IfOk, IsTrue};
+ghost use Rattle.hb_wal.specs.Forces.{IsReady};
 
-use crate::{Payloads, ReadStop, Wal, read_area, zero_area};
+use crate::{ReadStop, Wal, read_area, zero_area};
 use hb_disk::{Disk, MemDisk, Pick};
 use std::alloc::Global;
 use std::test::Fail;
@@ -18,11 +19,12 @@ const FRAME: [u8; 21] = [
 /// How many payloads are read from the whole of the bytes, and how the reading ends.
 fn read_whole(alloc: Global, bytes: &[u8]) -> Result<(usize, char), Fail> {
     let mut disk = MemDisk::new(alloc, bytes.to_vec(alloc)?);
-    let len = disk.size();
-    let read = read_area(alloc, &mut disk, 0, len as u32);
-    Ok(match read {
+    let Ok(len) = u32::try_from(disk.size()) else {
+        return Err(Fail::from("so long an area isn't read here"));
+    };
+    Ok(match read_area(alloc, &mut disk, 0, len) {
         Ok(payloads) => (payloads.len(), 'e'),
-        Err(ReadStop::BadFrame { frame, before }) => { (before.len() + 10 * frame as usize, 'b') }
+        Err(ReadStop::BadFrame { frame, before }) => (before.len() + 10 * (frame as usize), 'b'),
         Err(ReadStop::NoMemory) => (0, 'm'),
         Err(ReadStop::DiskFault) => (0, 'd'),
     })
@@ -50,61 +52,60 @@ fn areas(rt: HostRuntime) -> Result<(), Fail> {
     Ok(())
 }
 
-/// A disk of 30 bytes of which none is zero, a log of 24 bytes zeroed behind the first two, and two groups that wait.
-fn begun(alloc: Global, failing: &[u64]) -> Result<(MemDisk, Wal), Fail> {
-    let bytes = b"##############################".to_vec(alloc)?;
-    let mut disk = MemDisk::failing(alloc, bytes, failing.to_vec(alloc)?);
-    if zero_area(&mut disk, 2, 24).is_err() {
+/// 30 bytes of which none is zero.
+const NOISE: &[u8; 30] = b"##############################";
+
+/// A log of 24 bytes behind the first two, with two groups that wait.
+fn begun<D: Disk>(alloc: Global, disk: &mut D) -> Result<Wal, Fail>
+    requires { 26 ≤ (D.model disk.old).size }
+    ensures ready { IfOk result (λ log. IsReady (D.model disk.new) log) }
+{
+    if zero_area(disk, 2, 24).is_err() {
         return Err(Fail::from("the area wasn't zeroed"));
     }
     let mut log = Wal::new(alloc, 2, 24)?;
     log.append(b"ab", 3);
     log.append(b"c", 5);
-    Ok((disk, log))
+    Ok(log)
+}
+
+/// Whether a force succeeds.
+fn forced<D: Disk>(disk: &mut D, log: &mut Wal) -> bool
+    requires { IsReady (D.model disk.old) log.old }
+    ensures { IsTrue result → IsReady (D.model disk.new) log.new }
+{
+    log.force(disk).is_ok()
 }
 
 #[test]
 fn a_log_lives(rt: HostRuntime) -> Result<(), Fail> {
-    let (mut disk, mut log) = begun(rt.alloc(), &[])?;
-    let rows: [(u32, u32, u32, u64, &[u8]); 3] = [
-        (
-            6,
-            7,
-            5,
-            6,
-            b"##\xA5\0\0\0\x02ab\0\0\0\0\0\0\0\0\0\0\0\0\0\0\0\0\0####",
-        ),
-        (
-            6,
-            13,
-            9,
-            10,
-            b"##\xA5\0\0\0\x02ab\xA5\0\0\0\x01c\0\0\0\0\0\0\0\0\0\0\0####",
-        ),
-        (
-            6,
-            13,
-            9,
-            10,
-            b"##\xA5\0\0\0\x02ab\xA5\0\0\0\x01c\0\0\0\0\0\0\0\0\0\0\0####",
-        ),
-    ];
+    let mut disk = MemDisk::new(rt.alloc(), NOISE.to_vec(rt.alloc())?);
+    let mut log = begun(rt.alloc(), &mut disk)?;
     assert_eq!(rt;
-        (log.pending(), log.room(), log.written(), log.settled(9)),
-        (3, 6, 0, 3)
+        [log.pending(), log.room(), log.written(), log.settled(9)],
+        [3, 6, 0, 3]
     );
-    for (room, written, settled, calls, bytes) in rows {
-        assert!(rt; log.force(&mut disk).is_ok());
-        assert_eq!(rt;
-            (log.room(), log.written(), log.settled(9)),
-            (room, written, settled)
-        );
-        assert_eq!(rt; disk.calls(), calls);
-        assert_eq!(rt; disk.bytes(), bytes);
-    }
-    assert_eq!(rt; log.pending(), 0);
-    log.move_to(4);
-    assert_eq!(rt; (log.room(), log.written(), log.settled(7)), (19, 0, 7));
+    assert!(rt; forced(&mut disk, &mut log));
+    assert_eq!(rt;
+        [log.pending(), log.room(), log.written(), log.settled(9)],
+        [1, 6, 7, 5]
+    );
+    assert_eq!(rt;
+        disk.bytes(),
+        b"##\xA5\0\0\0\x02ab\0\0\0\0\0\0\0\0\0\0\0\0\0\0\0\0\0####".as_slice()
+    );
+    assert!(rt; forced(&mut disk, &mut log));
+    assert_eq!(rt;
+        [log.pending(), log.room(), log.written(), log.settled(9)],
+        [0, 6, 13, 9]
+    );
+    assert_eq!(rt;
+        disk.bytes(),
+        b"##\xA5\0\0\0\x02ab\xA5\0\0\0\x01c\0\0\0\0\0\0\0\0\0\0\0####".as_slice()
+    );
+    assert_eq!(rt; disk.calls(), 10);
+    assert!(rt; forced(&mut disk, &mut log));
+    assert_eq!(rt; disk.calls(), 10);
     Ok(())
 }
 
@@ -119,6 +120,14 @@ fn frames_in(alloc: Global, disk: &MemDisk, before: u64, pick: Pick) -> Result<u
     Ok(read_whole(alloc, &image[2..26])?.0)
 }
 
+/// How many frames the three images of a moment have: with the old bytes, the new ones, and noise of 165.
+fn frames_of_all(alloc: Global, disk: &MemDisk, before: u64) -> Result<[usize; 3], Fail> {
+    let old = frames_in(alloc, disk, before, Pick::Old)?;
+    let new = frames_in(alloc, disk, before, Pick::New)?;
+    let noise = frames_in(alloc, disk, before, Pick::Noise(165))?;
+    Ok([old, new, noise])
+}
+
 #[test]
 fn a_force_is_stopped(rt: HostRuntime) -> Result<(), Fail> {
     let rows = [
@@ -128,13 +137,11 @@ fn a_force_is_stopped(rt: HostRuntime) -> Result<(), Fail> {
         (5, [0, 1, 1]),
         (6, [1, 1, 1]),
     ];
-    let (mut disk, mut log) = begun(rt.alloc(), &[])?;
-    assert!(rt; log.force(&mut disk).is_ok());
+    let mut disk = MemDisk::new(rt.alloc(), NOISE.to_vec(rt.alloc())?);
+    let mut log = begun(rt.alloc(), &mut disk)?;
+    assert!(rt; forced(&mut disk, &mut log));
     for (before, frames) in rows {
-        let old = frames_in(rt.alloc(), &disk, before, Pick::Old)?;
-        let new = frames_in(rt.alloc(), &disk, before, Pick::New)?;
-        let noise = frames_in(rt.alloc(), &disk, before, Pick::Noise(165))?;
-        assert_eq!(rt; [old, new, noise], frames);
+        assert_eq!(rt; frames_of_all(rt.alloc(), &disk, before)?, frames);
     }
     Ok(())
 }
@@ -148,37 +155,47 @@ fn each_call_fails(rt: HostRuntime) -> Result<(), Fail> {
         (5, [0, 1, 1]),
     ];
     for (call, frames) in rows {
-        let (mut disk, mut log) = begun(rt.alloc(), &[call])?;
-        assert!(rt; log.force(&mut disk).is_err());
-        assert_eq!(rt; (log.pending(), log.settled(9), log.written()), (3, 3, 0));
-        let old = frames_in(rt.alloc(), &disk, call + 1, Pick::Old)?;
-        let new = frames_in(rt.alloc(), &disk, call + 1, Pick::New)?;
-        let noise = frames_in(rt.alloc(), &disk, call + 1, Pick::Noise(165))?;
-        assert_eq!(rt; [old, new, noise], frames);
+        let failing = [call].to_vec(rt.alloc())?;
+        let mut disk = MemDisk::failing(rt.alloc(), NOISE.to_vec(rt.alloc())?, failing);
+        let mut log = begun(rt.alloc(), &mut disk)?;
+        assert!(rt; !forced(&mut disk, &mut log));
+        assert_eq!(rt; [log.pending(), log.settled(9), log.written()], [3, 3, 0]);
+        assert_eq!(rt; frames_of_all(rt.alloc(), &disk, call + 1)?, frames);
     }
-    let mut disk = MemDisk::failing(
-        rt.alloc(),
-        FRAME.to_vec(rt.alloc())?,
-        [1].to_vec(rt.alloc())?,
-    );
-    assert!(rt;
-        matches!(
-            read_area(rt.alloc(), &mut disk, 0, 21),
-            Err(ReadStop::DiskFault)
-        )
-    );
-    assert!(rt; zero_area(&mut disk, 0, 21).is_ok());
     Ok(())
 }
 
 #[test]
-fn the_frame_of_a_put(rt: HostRuntime) -> Result<(), Fail> {
-    let mut disk = MemDisk::new(rt.alloc(), [0; 24].to_vec(rt.alloc())?);
-    let mut log = Wal::new(rt.alloc(), 1, 21)?;
-    assert_eq!(rt; log.room(), 16);
+fn a_read_fails(rt: HostRuntime) -> Result<(), Fail> {
+    let failing = [1].to_vec(rt.alloc())?;
+    let mut disk = MemDisk::failing(rt.alloc(), FRAME.to_vec(rt.alloc())?, failing);
+    let read = read_area(rt.alloc(), &mut disk, 0, 21);
+    assert!(rt; matches!(read, Err(ReadStop::DiskFault)));
+    Ok(())
+}
+
+/// Forces a put's group into an area of exactly its frame's length, and tells the room before and between.
+fn put<D: Disk>(alloc: Global, disk: &mut D) -> Result<[u32; 3], Fail>
+    requires { 22 ≤ (D.model disk.old).size }
+{
+    if zero_area(disk, 1, 21).is_err() {
+        return Err(Fail::from("the area wasn't zeroed"));
+    }
+    let mut log = Wal::new(alloc, 1, 21)?;
+    let before = log.room();
     log.append(&PUT, 0);
-    assert_eq!(rt; log.room(), 0);
-    assert!(rt; log.force(&mut disk).is_ok());
+    let between = log.room();
+    if log.force(disk).is_err() {
+        return Err(Fail::from("the frame wasn't written"));
+    }
+    log.move_to(0);
+    Ok([before, between, log.room()])
+}
+
+#[test]
+fn the_frame_of_a_put(rt: HostRuntime) -> Result<(), Fail> {
+    let mut disk = MemDisk::new(rt.alloc(), NOISE.to_vec(rt.alloc())?);
+    assert_eq!(rt; put(rt.alloc(), &mut disk)?, [16, 0, 16]);
     assert_eq!(rt; &disk.bytes()[1..22], FRAME.as_slice());
     Ok(())
 }
