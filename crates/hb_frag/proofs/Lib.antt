@@ -1,0 +1,4 @@
+pub mod Sides
+pub mod Cuts
+pub mod Points
+pub mod NamesListed
