@@ -49,12 +49,28 @@ pub ruleset finding = (siblings-append, named_in_front, named_behind)
 pub tail_named : (name : ℕ) (x : ℕ × Area) (xs : List (ℕ × Area)) → Any (λ s. s.0 ≡ name) xs → Any (λ s. s.0 ≡ name) (x ∷ xs)
 tail_named name x xs w = (suc w.0, w.1, omega (arith, w.2), w.3, w.4)
 
+pub not_the_first : (name : ℕ) (x : ℕ × Area) (xs : List (ℕ × Area)) → x.0 ≢ name → (k : ℕ) (s : ℕ × Area) → k < length (x ∷ xs) → get_or (x ∷ xs) k s ≡ s → s.0 ≡ name → Any (λ s. s.0 ≡ name) xs
+not_the_first name x xs n zero s l e h = absurd (n (ap (λ y. y.0) e ∙ h))
+not_the_first name x xs n (suc k) s l e h = (k, s, omega arith, e, h)
+
 pub named_found : (name : ℕ) (xs : List (ℕ × Area)) → IsSome (first_named name xs) ↔ Any (λ s. s.0 ≡ name) xs
-named_found name [] = (λ t. absurd t, λ w. absurd (omega (arith, w.2)))
+named_found name [] = (λ t. absurd (cc), λ w. absurd (omega (arith, w.2)))
 named_found name (x ∷ xs) = elim (cases_eq x.0 name) [
-  | inl e ↦ (λ t. (zero, x, omega arith, refl, e), λ w. rw (eq-eqb x.0 name e) tt)
+  | inl e ↦ (λ t. (zero, x, omega arith, refl, e), λ w. rw (eq-eqb x.0 name e) refl)
   | inr n ↦ (
     λ t. tail_named name x xs ((named_found name xs).0 (rw (ne_eqb x.0 name n) at t)),
-    λ w. rw (ne_eqb x.0 name n) ((named_found name xs).1 (elim w.0 as (λ k. k ≡ w.0 → Any (λ s. s.0 ≡ name) xs) [ zero ↦ λ z. absurd (n ?) | suc k ↦ λ z. ? ] refl)),
+    λ w. rw (ne_eqb x.0 name n) ((named_found name xs).1 (not_the_first name x xs n w.0 w.1 w.2 w.3 w.4)),
   )
 ]
+
+-- adding the names one after another lists each where it stands first
+pub unlisted : List ℕ → ℕ → Bool
+unlisted seen name = not (list_any (λ other. other == name) seen)
+
+pub filter-unlisted : (seen : List ℕ) (name : ℕ) (rest : List ℕ) → filter (unlisted (seen ++ name ∷ [])) rest ≡ filter (unlisted seen) (filter (λ other. not (other == name)) rest)
+filter-unlisted seen name [] = refl
+filter-unlisted seen name (x ∷ rest) = ?
+
+pub with_names-firsts : (seen names : List ℕ) → with_names seen names ≡ seen ++ filter (unlisted seen) (firsts names)
+with_names-firsts seen [] = sym (append-nil seen)
+with_names-firsts seen (name ∷ rest) = ?

@@ -194,8 +194,7 @@ impl Frag {
         ensures { IsTrue result ↔ All (λ s. ¬ (Meets s.1 a.now)) (siblings (leaves_of self.now area)) }
     {
         match &self.node {
-            Node::Tip(Leaf::Sibling(_)) => !area.meets(a),
-            Node::Tip(_) => true,
+            Node::Tip(leaf) => leaf.is_clear_of(area, a),
             Node::Cut {
                 axis,
                 value,

@@ -1,8 +1,8 @@
-use Rattle.std.proofs.Common.{◌≡◌, ◌++◌, ◌↔◌, IsTrue, sym, ap, ◌∙◌}
+use Rattle.std.proofs.Common.{◌≡◌, ◌↔◌, IsTrue, sym, ap, ◌∙◌}
 use Rattle.std.specs.List.{Contains}
 use Rattle.hb_frag.specs.declared.leaves.Leaf.TheVariants.{Child}
 use Rattle.hb_frag.specs.Nodes.{tree_of}
-use Rattle.hb_frag.specs.Trees.{Tree, Cut}
+use Rattle.hb_frag.specs.Trees.{Cut}
 use Rattle.hb_frag.specs.Leaves.{leaves}
 use Rattle.hb_frag.proofs.Cuts.{at_cut}
 use Rattle.hb_frag.proofs.NamesListed.{in_second}
