@@ -1,5 +1,5 @@
 -- Names of pages in lists.
-use Rattle.std.proofs.Common.{◌≡◌, ◌≢◌, ℕ, eq-eqb, ◌==◌, ◌<◌, Bool, true, false, not, cond, ◌||◌, ◌⊎◌, inl, inr, ◌↔◌, zero, suc, List, [], ◌∷◌, ◌++◌, length, get_or, Option, Some, None, IsTrue, IsSome, refl, sym, ap, subst, ◌∙◌, arith}
+use Rattle.std.proofs.Common.{◌≡◌, ◌≢◌, ℕ, eq-eqb, ◌==◌, ◌<◌, Bool, true, false, not, cond, ◌||◌, ◌&&◌, ◌⊎◌, inl, inr, ◌↔◌, zero, suc, List, [], ◌∷◌, ◌++◌, length, get_or, Option, Some, None, IsTrue, IsSome, refl, sym, ap, subst, ◌∙◌, arith}
 use Rattle.std.specs.List.{Contains, list_any, filter, Any, All}
 use Rattle.std.proofs.lemmas.List.{append_assoc, append-nil}
 use Rattle.std.proofs.lemmas.List.Elements.{Contains-append_left, Contains-append_right, Contains-append_cases}
@@ -64,13 +64,57 @@ named_found name (x ∷ xs) = elim (cases_eq x.0 name) [
 ]
 
 -- adding the names one after another lists each where it stands first
-pub unlisted : List ℕ → ℕ → Bool
+abbrev pub unlisted : List ℕ → ℕ → Bool
 unlisted seen name = not (list_any (λ other. other == name) seen)
 
-pub filter-unlisted : (seen : List ℕ) (name : ℕ) (rest : List ℕ) → filter (unlisted (seen ++ name ∷ [])) rest ≡ filter (unlisted seen) (filter (λ other. not (other == name)) rest)
+unlisted_more : (seen : List ℕ) (name x : ℕ) → unlisted (seen ++ name ∷ []) x ≡ (not (x == name) && unlisted seen x)
+unlisted_more seen name x =
+    rw (list_any-append (λ other. other == x) seen (name ∷ [])) (elim (cases_eq x name) [
+      | inl e ↦ rw (eq-eqb x name e, eq-eqb name x (sym e)) (or_true (list_any (λ other. other == x) seen))
+      | inr n ↦ rw (ne_eqb x name n, ne_eqb name x (λ e. n (sym e))) (or_false (list_any (λ other. other == x) seen))
+    ])
+  where
+    or_true : (b : Bool) → not (b || true) ≡ false
+    or_true true = refl
+    or_true false = refl
+
+    or_false : (b : Bool) → not (b || false) ≡ not b
+    or_false true = refl
+    or_false false = refl
+
+filtered_step : (a b : Bool) (seen : List ℕ) (x : ℕ) (fs gs : List ℕ) → unlisted seen x ≡ b → fs ≡ filter (unlisted seen) gs → cond (a && b) (x ∷ fs) fs ≡ filter (unlisted seen) (cond a (x ∷ gs) gs)
+filtered_step true b seen x fs gs e h = rw (e, h) refl
+filtered_step false b seen x fs gs e h = h
+
+pub filter-unlisted : (seen : List ℕ) (name : ℕ) (xs : List ℕ) → filter (unlisted (seen ++ name ∷ [])) xs ≡ filter (unlisted seen) (filter (λ other. not (other == name)) xs)
 filter-unlisted seen name [] = refl
-filter-unlisted seen name (x ∷ rest) = ?
+filter-unlisted seen name (x ∷ xs) =
+    let h = filter-unlisted seen name xs in
+    rw (unlisted_more seen name x) (filtered_step (not (x == name)) (unlisted seen x) seen x (filter (unlisted (seen ++ name ∷ [])) xs) (filter (λ other. not (other == name)) xs) refl h)
+
+pub filter-listed : (seen : List ℕ) (name : ℕ) (xs : List ℕ) → unlisted seen name ≡ false → filter (unlisted seen) (filter (λ other. not (other == name)) xs) ≡ filter (unlisted seen) xs
+filter-listed seen name [] h = refl
+filter-listed seen name (x ∷ xs) h =
+    let k = filter-listed seen name xs h in
+    elim (cases_eq x name) [
+      | inl e ↦ let u : unlisted seen x ≡ false = ap (unlisted seen) e ∙ h in rw (eq-eqb x name e, u) k
+      | inr n ↦ rw (ne_eqb x name n) (ap (λ rest. cond (unlisted seen x) (x ∷ rest) rest) k)
+    ]
+
+listed_step : (b : Bool) (seen : List ℕ) (name : ℕ) (rest : List ℕ) → list_any (λ other. other == name) seen ≡ b → ((more : List ℕ) → with_names more rest ≡ more ++ filter (unlisted more) (firsts rest)) → with_names (cond b seen (seen ++ name ∷ [])) rest ≡ seen ++ cond (not b) (name ∷ filter (unlisted seen) (filter (λ other. not (other == name)) (firsts rest))) (filter (unlisted seen) (filter (λ other. not (other == name)) (firsts rest)))
+listed_step true seen name rest e h =
+    let u : unlisted seen name ≡ false = ap not e in
+    rw (filter-listed seen name (firsts rest) u) (h seen)
+listed_step false seen name rest e h =
+    h (seen ++ name ∷ []) ∙ append_assoc seen (name ∷ []) (filter (unlisted (seen ++ name ∷ [])) (firsts rest)) ∙ ap (λ xs. seen ++ name ∷ xs) (filter-unlisted seen name (firsts rest))
 
 pub with_names-firsts : (seen names : List ℕ) → with_names seen names ≡ seen ++ filter (unlisted seen) (firsts names)
 with_names-firsts seen [] = sym (append-nil seen)
-with_names-firsts seen (name ∷ rest) = ?
+with_names-firsts seen (name ∷ rest) = listed_step (list_any (λ other. other == name) seen) seen name rest refl (λ more. with_names-firsts more rest)
+
+filter-all : (xs : List ℕ) → filter (unlisted []) xs ≡ xs
+filter-all [] = refl
+filter-all (x ∷ xs) = ap (λ rest. x ∷ rest) (filter-all xs)
+
+pub all_firsts : (names : List ℕ) → with_names [] names ≡ firsts names
+all_firsts names = with_names-firsts [] names ∙ filter-all (firsts names)
