@@ -53,29 +53,33 @@ way_ends (Tip leaf) area p h cut held =
 way_ends (Cut axis value left right) area p h cut held =
     elim (cases_lt (get_or p axis 0) value) [
       | inl l ↦
-        let w = way_ends left (side_below area axis value) p (IsArea-side_below area axis value h cut.0) cut.1 ((Holds-side_below area axis value p h cut.0).1 (held, l)) in
-        let same = kept_outside right (side_from area axis value) p in
-        (w.0, record {
-          first = going_left axis value left right area p w.0 w.1.first;
-          part = rw (is_below _ _ l) w.1.part;
-          held = w.1.held;
-          changed = λ change. 
-              let here = w.1.changed change in
-              let there = same change (IsArea-side_from area axis value h cut.0) cut.2 (held.same ∙ sym (same-side_from area axis value)) (not_from area axis value p cut.0 l) in
-              rw (is_below _ _ l) (cc (here, there));
-        })
+          let w = way_ends left (side_below area axis value) p (IsArea-side_below area axis value h cut.0) cut.1 ((Holds-side_below area axis value p h cut.0).1 (held, l)) in
+          let same = kept_outside right (side_from area axis value) p in (
+            w.0,
+            record {
+              first = going_left axis value left right area p w.0 w.1.first;
+              part = rw (is_below _ _ l) w.1.part;
+              held = w.1.held;
+              changed = λ change.
+                  let here = w.1.changed change in
+                  let there = same change (IsArea-side_from area axis value h cut.0) cut.2 (held.same ∙ sym (same-side_from area axis value)) (not_from area axis value p cut.0 l) in
+                  rw (is_below _ _ l) (cc (here, there));
+            },
+          )
       | inr l ↦
-        let w = way_ends right (side_from area axis value) p (IsArea-side_from area axis value h cut.0) cut.2 ((Holds-side_from area axis value p cut.0).1 (held, l)) in
-        let same = kept_outside left (side_below area axis value) p in
-        (w.0, record {
-          first = going_right axis value left right area p h cut held.same l ∙ w.1.first;
-          part = rw (isnt_below _ _ l) w.1.part;
-          held = w.1.held;
-          changed = λ change. 
-              let here = w.1.changed change in
-              let there = same change (IsArea-side_below area axis value h cut.0) cut.1 held.same (not_below area axis value p h cut.0 l) in
-              rw (isnt_below _ _ l) (cc (here, there));
-        })
+          let w = way_ends right (side_from area axis value) p (IsArea-side_from area axis value h cut.0) cut.2 ((Holds-side_from area axis value p cut.0).1 (held, l)) in
+          let same = kept_outside left (side_below area axis value) p in (
+            w.0,
+            record {
+              first = going_right axis value left right area p h cut held.same l ∙ w.1.first;
+              part = rw (isnt_below _ _ l) w.1.part;
+              held = w.1.held;
+              changed = λ change.
+                  let here = w.1.changed change in
+                  let there = same change (IsArea-side_below area axis value h cut.0) cut.1 held.same (not_below area axis value p h cut.0 l) in
+                  rw (isnt_below _ _ l) (cc (here, there));
+            },
+          )
     ]
 
 -- so the way leads to the leaf at the point

@@ -142,9 +142,9 @@ first_is (x ∷ xs) p w h e =
     let here = held_from_test x.area p (h zero x (omega arith)) in
     elim (holds x.area p) as (λ b. (b ≡ true → Holds x.area p) → cond b (Some x) (first_at p xs) ≡ Some w → Contains (x ∷ xs) w × Holds w.area p) [
       | true ↦ λ here e.
-        let same : x ≡ w = cc in
-        let P : Placed → Type 0 = λ l. Contains (x ∷ xs) l × Holds l.area p in
-        subst P same ((zero, omega arith, refl), here refl)
+          let same : x ≡ w = cc in
+          let P : Placed → Type 0 = λ l. Contains (x ∷ xs) l × Holds l.area p in
+          subst P same ((zero, omega arith, refl), here refl)
       | false ↦ λ here e. let v = rest e in ((suc v.0.0, omega (arith, v.0.1), v.0.2), v.1)
     ] here e
 

@@ -76,8 +76,29 @@ impl Frag {
         }
     }
 
-    #[tactic(auto, using(crate::proofs::Points::going_left, crate::proofs::Points::going_right, crate::proofs::Sides::held_test))]
+    /// Whether every cut cuts its box, in a part with this box.
+    pub(crate) fn is_well_cut(&self, area: Area) -> bool
+        ensures { IsTrue result ↔ IsWellCut self.now area }
+    {
+        match &self.node {
+            Node::Tip(_) => true,
+            Node::Cut {
+                axis,
+                value,
+                left,
+                right,
+            } => {
+                if !area.cuts(*axis, *value) {
+                    return false;
+                }
+                let (below, from) = area.cut(*axis, *value);
+                left.is_well_cut(below) && right.is_well_cut(from)
+            }
+        }
+    }
+
     /// The leaf whose box holds the point, and that box, in a part with this box.
+    #[tactic(auto, using(crate::proofs::Points::going_left, crate::proofs::Points::going_right, crate::proofs::Sides::held_test))]
     pub(crate) fn leaf_at(&self, area: Area, p: &Point) -> (&Leaf, Area)
         requires well_cut { IsWellCut self.now area }
         requires held { Holds area p.now }
@@ -149,8 +170,8 @@ impl Frag {
         }
     }
 
-    #[tactic(auto, using(crate::proofs::NamesListed::listing))]
     /// Adds the pages that child leaves name to the list, each that isn't in it yet.
+    #[tactic(auto, using(crate::proofs::NamesListed::listing))]
     pub(crate) fn list_children(&self, pages: &mut Pages) -> Result<(), NoMemory>
         ensures { OnOk result (pages.new ≡ with_names pages.old (child_names (leaves self.now))) }
     {
@@ -163,9 +184,9 @@ impl Frag {
         }
     }
 
-    #[tactic(auto, using(crate::proofs::NamesListed::finding))]
     /// The box of the first sibling leaf from the left that names the page, in a part with this
     /// box.
+    #[tactic(auto, using(crate::proofs::NamesListed::finding))]
     pub(crate) fn sibling_area(&self, area: Area, id: u32) -> Option<Area>
         requires { IsWellCut self.now area }
         ensures { result ≡ first_named id (siblings (leaves_of self.now area)) }

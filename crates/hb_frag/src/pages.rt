@@ -31,6 +31,14 @@ pub enum Page {
 }
 
 impl LivePage {
+    /// Whether every cut cuts its box: some points of the box lie below the cut's value, and
+    /// others don't.
+    pub fn is_well_cut(&self) -> bool
+        ensures { IsTrue result ↔ WellCut self.now }
+    {
+        self.frag.is_well_cut(same_box(&self.area))
+    }
+
     /// The leaf whose box holds the point, and that box.
     pub fn leaf_at(&self, p: &Point) -> (&Leaf, Area)
         requires well_cut { WellCut self.now }
@@ -72,8 +80,8 @@ impl LivePage {
         self.frag.names(id)
     }
 
-    #[tactic(auto, using(crate::proofs::NamesListed::all_firsts))]
     /// The pages that child leaves name, each once, where it stands first from the left.
+    #[tactic(auto, using(crate::proofs::NamesListed::all_firsts))]
     pub fn children(&self, alloc: Global) -> Result<Pages, NoMemory>
         ensures { IfOk result (λ pages. pages ≡ firsts (child_names (leaves self.now.frag))) }
     {
