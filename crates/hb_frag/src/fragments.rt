@@ -1,4 +1,4 @@
-ghost use Rattle.std.specs.Prelude.{◌≡◌, ◌<◌, ◌^◌, ◌↔◌, ◌++◌, Some, None, length, All, IfOk, IsTrue, MatchOption, OnOk};
+ghost use Rattle.std.specs.Prelude.{◌≡◌, ◌<◌, ◌^◌, ◌↔◌, ◌++◌, Some, None, length, All, IfOk, IsSome, IsTrue, MatchOption, OnOk};
 ghost use Rattle.std.specs.List.{Contains};
 ghost use Rattle.hb_space.specs.Boxes.{Holds, Meets};
 ghost use Rattle.hb_frag.specs.Trees.{Tip, Cut};
@@ -114,7 +114,8 @@ impl Frag {
                 right,
             } => {
                 let (below, from) = area.cut(*axis, *value);
-                if p.values()[usize::from(*axis)] < *value {
+                let at = usize::from(*axis);
+                if p.values()[at] < *value {
                     left.leaf_at(below, p)
                 } else {
                     right.leaf_at(from, p)
@@ -231,9 +232,10 @@ impl Frag {
     /// The part to which the steps lead, and its box, in a part with this box.
     pub(crate) fn part(&self, area: Area, path: &[Side]) -> Option<(&Frag, Area)>
         requires { IsWellCut self.now area }
-        ensures { MatchOption result
+        ensures value { MatchOption result
             (part_at path.now self.now area ≡ None)
             (λ part. part_at path.now self.now area ≡ Some (part.0.now, part.1)) }
+        ensures inside { IsSome result ↔ StaysInside path.now self.now }
     {
         match path {
             [] => Some((self, area)),

@@ -3,7 +3,7 @@ ghost use Rattle.std.specs.List.{Contains};
 ghost use Rattle.hb_space.specs.Boxes.{Holds};
 ghost use Rattle.hb_frag.specs.Trees.{Tip};
 ghost use Rattle.hb_frag.specs.Leaves.{Placed, leaf_at, with_leaf_at, leaves, child_names, firsts, first_named, siblings_of, weight_of, DirectlyCovers, WellCut};
-ghost use Rattle.hb_frag.specs.Paths.{part_at, with_part, way_to};
+ghost use Rattle.hb_frag.specs.Paths.{part_at, with_part, way_to, StaysInside};
 
 use crate::records::same_box;
 use crate::{Frag, Leaf, Pages, Path};
@@ -114,9 +114,10 @@ impl LivePage {
     /// page.
     pub fn subtree(&self, path: &Path) -> Option<(&Frag, Area)>
         requires { WellCut self.now }
-        ensures { MatchOption result
+        ensures value { MatchOption result
             (part_at path.now self.now.frag self.now.area ≡ None)
             (λ part. part_at path.now self.now.frag self.now.area ≡ Some (part.0.now, part.1)) }
+        ensures inside { IsSome result ↔ StaysInside path.now self.now.frag }
     {
         self.frag.part(same_box(&self.area), path.as_slice())
     }
