@@ -1,11 +1,10 @@
 -- The leaf at a point, and the way to it.
-use Rattle.std.proofs.Common.{◌≡◌, ℕ, ◌<◌, ◌≤◌, ◌⊎◌, inl, inr, Bool, true, false, cond, List, [], ◌∷◌, ◌++◌, length, get_or, Option, Some, None, IsTrue, refl, sym, ap, ◌∙◌, arith, nat_lt}
+use Rattle.std.proofs.Common.{◌≡◌, ℕ, ◌≤◌, inl, inr, List, [], ◌∷◌, ◌++◌, length, get_or, Some, None, refl, sym, ◌∙◌, arith}
 use Rattle.std.proofs.lemmas.Bool.{cases_lt}
-use Rattle.hb_space.specs.Boxes.{Area, IsArea, Holds, Cuts, holds, side_below, side_from}
+use Rattle.hb_space.specs.Boxes.{Area, IsArea, Holds, side_below, side_from}
 use Rattle.hb_space.proofs.Boxes.{Holds-side_below, Holds-side_from}
 use Rattle.hb_frag.specs.declared.leaves.Leaf.{Leaf}
 use Rattle.hb_frag.specs.declared.paths.Side.{Side}
-use Rattle.hb_frag.specs.declared.paths.Side.TheVariants.{Left, Right}
 use Rattle.hb_frag.specs.Trees.{Tree, Tip, Cut}
 use Rattle.hb_frag.specs.Leaves.{Placed, IsWellCut, first_at, leaves_of, with_leaf_at}
 use Rattle.hb_frag.specs.Paths.{part_at, with_part, way_to}

@@ -1,10 +1,10 @@
 //! Tables of points, boxes, pages and paths on a page that was drawn by hand, each with the answer
-//! that was read off the drawing, and a chain of as many cuts as a page may have.
+//! that was read off the drawing.
 
 ghost use Rattle.std.specs.Prelude.{◌≡◌, ◌+◌, ◌≤◌, length, IfOk};
 ghost use Rattle.hb_frag.specs.Leaves.{leaf_weight, weight_of};
 
-use crate::{Frag, Leaf, LivePage, Node, Path, Side, replace};
+use crate::{Frag, Leaf, LivePage, Node, Path, Side};
 use hb_space::{Area, Body, NoMemory, Point, Record, Records};
 use std::alloc::Global;
 use std::test::Fail;
@@ -100,12 +100,6 @@ fn push_area(text: &mut String, area: &Area) -> Result<(), NoMemory> {
     Ok(())
 }
 
-fn shown(alloc: Global, frag: &Frag) -> Result<String, NoMemory> {
-    let mut text = String::new(alloc);
-    push_frag(&mut text, frag)?;
-    Ok(text)
-}
-
 fn shown_part(alloc: Global, part: Option<(&Frag, Area)>) -> Result<String, NoMemory> {
     let mut text = String::new(alloc);
     match part {
@@ -116,35 +110,6 @@ fn shown_part(alloc: Global, part: Option<(&Frag, Area)>) -> Result<String, NoMe
         None => text.push_str("none")?,
     }
     Ok(text)
-}
-
-#[test]
-fn leaves_at_points(rt: HostRuntime) -> Result<(), Fail> {
-    let alloc = rt.alloc();
-    let page = drawn(alloc)?;
-    for (point, want) in [
-        ([0, 0], "child 7 0..49 0..29"),
-        ([49, 29], "child 7 0..49 0..29"),
-        ([49, 30], "hole 9 0..49 30..99"),
-        ([50, 29], "child 8 50..99 0..59"),
-        ([79, 60], "child 7 50..79 60..99"),
-        ([80, 60], "hole 9 80..99 60..99"),
-        ([99, 99], "hole 9 80..99 60..99"),
-    ] {
-        let point = Point::new(&point);
-        if !page.area.holds(&point) || !page.is_well_cut() {
-            return Err("not on the drawing".into());
-        }
-        let (leaf, area) = page.leaf_at(&point);
-        let mut text = String::new(alloc);
-        push_leaf(&mut text, leaf)?;
-        push_area(&mut text, &area)?;
-        assert_eq!(rt; text.as_str(), want);
-        let path = page.path_to(alloc, &point)?;
-        let part = page.subtree(&path);
-        assert_eq!(rt; shown_part(alloc, part)?.as_str(), want);
-    }
-    Ok(())
 }
 
 #[test]
@@ -219,45 +184,6 @@ fn parts_at_paths(rt: HostRuntime) -> Result<(), Fail> {
     Ok(())
 }
 
-// The drawn page with a hole to 4 where the steps lead, once as a copy and once in place.
-fn holed(alloc: Global, steps: &str) -> Result<(String, String), Fail> {
-    let page = drawn(alloc)?;
-    let path = steps_of(alloc, steps)?;
-    if !page.is_well_cut() || page.subtree(&path).is_none() {
-        return Err("no such part".into());
-    }
-    let four = Frag::tip(Leaf::Sibling(4));
-    let copied = page.frag.copy_with(alloc, &path, four)?;
-    let four = Frag::tip(Leaf::Sibling(4));
-    let replaced = replace(page.frag.copy(alloc)?, &path, four)?;
-    Ok((shown(alloc, &copied)?, shown(alloc, &replaced)?))
-}
-
-#[test]
-fn parts_replaced(rt: HostRuntime) -> Result<(), Fail> {
-    let alloc = rt.alloc();
-    for (steps, want) in [
-        ("", "hole 4"),
-        (
-            "L",
-            "(hole 4 |0:50| (child 8 |1:60| (child 7 |0:80| hole 9)))",
-        ),
-        (
-            "LR",
-            "((child 7 |1:30| hole 4) |0:50| (child 8 |1:60| (child 7 |0:80| hole 9)))",
-        ),
-        (
-            "RRL",
-            "((child 7 |1:30| hole 9) |0:50| (child 8 |1:60| (hole 4 |0:80| hole 9)))",
-        ),
-    ] {
-        let (copied, replaced) = holed(alloc, steps)?;
-        assert_eq!(rt; copied.as_str(), want);
-        assert_eq!(rt; replaced.as_str(), want);
-    }
-    Ok(())
-}
-
 #[test]
 fn leaves_weighed(rt: HostRuntime) -> Result<(), Fail> {
     let alloc = rt.alloc();
@@ -276,65 +202,5 @@ fn leaves_weighed(rt: HostRuntime) -> Result<(), Fail> {
     }
     let page = drawn(alloc)?;
     assert_eq!(rt; page.weight(), 5);
-    Ok(())
-}
-
-// As many cuts as asked for, one below the other on the left: a hole to 500 below 1, then child 1
-// below 2, and so on.
-fn chain(alloc: Global, cuts: u32) -> Result<Frag, NoMemory>
-    requires { cuts ≤ 400 }
-    ensures { IfOk result (λ frag. weight_of frag ≡ cuts + 1) }
-{
-    let mut frag = Frag::tip(Leaf::Sibling(500));
-    for below in 0..cuts {
-        let value = below + 1;
-        frag = cut(
-            alloc,
-            0,
-            u64::from(value),
-            frag,
-            Frag::tip(Leaf::Child(value)),
-        )?;
-    }
-    Ok(frag)
-}
-
-fn chained(alloc: Global) -> Result<LivePage, Fail>
-    ensures { IfOk result (λ page. weight_of page.frag ≡ 401) }
-{
-    Ok(LivePage {
-        level: 1,
-        area: area_of([0, 0], [1000, 9])?,
-        frag: chain(alloc, 400)?,
-    })
-}
-
-#[test]
-fn a_chain_of_cuts(rt: HostRuntime) -> Result<(), Fail> {
-    let alloc = rt.alloc();
-    let page = chained(alloc)?;
-    assert_eq!(rt; page.weight(), 401);
-    assert_eq!(rt; page.children(alloc)?.as_slice().len(), 400);
-    let page = page.copy(alloc)?;
-    assert!(rt; page.names(1) && page.names(400) && !page.names(500));
-    let point = Point::new(&[0, 5]);
-    let area = area_of([1, 0], [1000, 9])?;
-    let all = page.area.lo().attributes();
-    if !page.is_well_cut() || !page.area.holds(&point) || area.lo().attributes() != all {
-        return Err("no chain".into());
-    }
-    assert!(rt; page.directly(&area));
-    assert!(rt; page.sibling_area(500).is_some());
-    let path = page.path_to(alloc, &point)?;
-    assert_eq!(rt; path.as_slice().len(), 400);
-    assert!(rt; matches!(page.leaf_at(&point), (Leaf::Sibling(500), _)));
-    if page.subtree(&path).is_none() {
-        return Err("no end".into());
-    }
-    let copied = page
-        .frag
-        .copy_with(alloc, &path, Frag::tip(Leaf::Child(600)))?;
-    let replaced = replace(page.frag, &path, Frag::tip(Leaf::Child(600)))?;
-    assert!(rt; copied.names(600) && replaced.names(600));
     Ok(())
 }
