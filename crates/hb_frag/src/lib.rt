@@ -14,9 +14,10 @@
 //! (`specs/Grammar.antt`).
 //!
 //! The calls go down a page by recursion, one call for each cut on the way. Nothing in this crate
-//! bounds that depth. It is less than the page weighs, since each leaf weighs at least 1, and a
-//! page with a spelling has fewer than 400 cuts, since each takes ten of its 4,096 bytes. Pages
-//! come from such bytes, or from operations that keep the weight within a capacity.
+//! bounds that depth. It is less than the page weighs, since each leaf weighs at least 1. A page
+//! with a spelling has fewer than 320 cuts, since a cut takes ten of its 4,096 bytes, and a leaf at
+//! least three. Pages come from such bytes, or from operations that keep the weight within a
+//! capacity.
 #![tactic(auto)]
 
 mod fragments;
