@@ -1,0 +1,5 @@
+pub mod Loops
+pub mod Spelled
+pub mod Ordered
+pub mod Refusals
+pub mod Depth

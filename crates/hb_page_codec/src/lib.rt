@@ -1,0 +1,10 @@
+//! Pages as bytes.
+#![tactic(auto)]
+
+mod decoding;
+mod errors;
+mod fragments;
+mod numbers;
+mod records;
+
+pub use errors::PageError;
