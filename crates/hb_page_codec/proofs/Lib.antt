@@ -3,3 +3,8 @@ pub mod Spelled
 pub mod Ordered
 pub mod Refusals
 pub mod Depth
+pub mod Fields
+pub mod TreeLaws
+pub mod PageLaws
+pub mod Writes
+pub mod Weights

@@ -21,7 +21,7 @@ ordered_test (l ∷ ls) (k ∷ ks) same h = and_from _ _ (le-leb l k (h 0 (omega
 
 pub is_between : (lo hi : List ℕ) (made : Option Area) → length lo ≡ length hi → (IsSome made ↔ AreOrdered lo hi) → IfSome made (λ a. (a.lo ≡ lo) × (a.hi ≡ hi)) → Reads (λ a. a) made (area_between lo hi)
 is_between lo hi (Some a) same is corners =
-    let test = ordered_test lo hi same (is.0 tt) in
+    let test = ordered_test lo hi same (is.0 refl) in
     rw (test, sym corners.0, sym corners.1) refl
 is_between lo hi None same is corners =
     let area : Area = record { lo = lo; hi = hi } in

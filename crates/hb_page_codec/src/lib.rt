@@ -2,6 +2,7 @@
 #![tactic(auto)]
 
 mod decoding;
+mod encoding;
 mod errors;
 mod fragments;
 mod numbers;
