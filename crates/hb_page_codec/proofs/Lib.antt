@@ -8,3 +8,4 @@ pub mod TreeLaws
 pub mod PageLaws
 pub mod Writes
 pub mod Weights
+pub mod Decoded

@@ -16,18 +16,18 @@ use Rattle.hb_page_codec.proofs.Fields.{IsBytes, IsBytes-rest, Takes, Takes-then
 use Rattle.hb_page_codec.proofs.TreeLaws.{tree_takes, tree_again}
 
 -- the level and the number of attributes
-record TakesHead (bytes : List ℕ) (x : ℕ × ℕ × List ℕ) : Type 0 where
-  parts : bytes ≡ x.0 ∷ x.1 ∷ 0 ∷ x.2
-  rest_fits : IsBytes x.2
-  level : x.0 < 2 ^ 8
-  some : 0 < x.1
-  few : x.1 ≤ KMAX
+pub record TakesHead (bytes : List ℕ) (x : ℕ × ℕ × List ℕ) : Type 0 where
+  pub parts : bytes ≡ x.0 ∷ x.1 ∷ 0 ∷ x.2
+  pub rest_fits : IsBytes x.2
+  pub level : x.0 < 2 ^ 8
+  pub some : 0 < x.1
+  pub few : x.1 ≤ KMAX
 
 zero_or_more : (k : ℕ) → eqb k 0 ≡ false → 0 < k
 zero_or_more zero e = absurd cc
 zero_or_more (suc k) e = omega arith
 
-head_takes : (bytes : List ℕ) (x : ℕ × ℕ × List ℕ) → IsBytes bytes → head_at bytes ≡ Some x → TakesHead bytes x
+pub head_takes : (bytes : List ℕ) (x : ℕ × ℕ × List ℕ) → IsBytes bytes → head_at bytes ≡ Some x → TakesHead bytes x
 unfolding head_at
 head_takes [] x fits e = absurd cc
 head_takes (level ∷ []) x fits e = absurd cc

@@ -4,9 +4,10 @@ use Rattle.std.specs.List.{flat_map}
 use Rattle.std.proofs.lemmas.List.{append-nil, take_all}
 use Rattle.std.proofs.lemmas.List.Concat.{flat_map-cons}
 use Rattle.hb_outside.specs.Numbers.{big_endian}
+use Rattle.hb_frag.specs.declared.leaves.Leaf.TheVariants.{Records, Child, Sibling}
 use Rattle.hb_frag.specs.Trees.{Tree, Tip, Cut}
-use Rattle.hb_frag.specs.Grammar.{tree_bytes}
-use Rattle.hb_page_codec.specs.Writing.{Wrote}
+use Rattle.hb_frag.specs.Grammar.{tree_bytes, FitsTree}
+use Rattle.hb_page_codec.specs.Writing.{Wrote, AreCountable}
 use Rattle.hb_page_codec.proofs.Fields.{length_number}
 
 -- one thing and then another
@@ -57,3 +58,10 @@ length-cut axis value left right =
 pub wrote_all : {A : Type 0} (f : A → List ℕ) (xs : List A) (i : ℕ) (old : List ℕ) (at : ℕ) (new : List ℕ) (end : ℕ) → length xs ≤ i
     → Wrote old at (flat_map f (take i xs)) new end → Wrote old at (flat_map f xs) new end
 wrote_all f xs i old at new end le w = subst (λ ys. Wrote old at (flat_map f ys) new end) (take_all i xs le) w
+
+-- a tree that has its place can be counted
+pub countable : (k : ℕ) (t : Tree) → FitsTree k t → AreCountable t
+countable k (Tip (Records rs)) fits = fits.0
+countable k (Tip (Child page)) fits = tt
+countable k (Tip (Sibling page)) fits = tt
+countable k (Cut axis value left right) fits = (countable k left fits.2, countable k right fits.3)

@@ -1,6 +1,11 @@
 //! Pages from bytes.
-ghost use Rattle.std.specs.Prelude.{◌≡◌, ◌<◌, ◌≤◌, ◌==◌, length, IfSome};
+ghost use Rattle.std.specs.Prelude.{◌≡◌, ◌<◌, ◌≤◌, ◌⊎◌, ◌==◌, ◌∷◌, length, IfSome, IfOk, Ok, Err};
 ghost use Rattle.std.specs.List.{list_all};
+ghost use Rattle.hb_frag.specs.declared.pages.Page.{Page as Content};
+ghost use Rattle.hb_frag.specs.Grammar.{SpellsPage};
+ghost use Rattle.hb_page_codec.specs.Memory.{WantsOnly, BeginsWithMany, MayWantMemory};
+ghost use Rattle.hb_page_codec.specs.Weight.{IsLight};
+ghost use Rattle.hb_page_codec.specs.declared.errors.PageError.TheVariants.{NoMemory};
 ghost use Rattle.hb_page_codec.specs.Reading.{Reads, Gives, head_at, live_at, fields_at, page_at};
 
 use crate::errors::PageError;
@@ -31,7 +36,8 @@ fn head_of(bytes: &[u8]) -> Option<(u8, u8, &[u8])>
 /// A live page, behind its tag.
 #[tactic(auto, unfolding(crate::specs::Reading::live_at))]
 fn live_of(alloc: Global, bytes: &[u8]) -> Result<(Page, &[u8]), PageError>
-    ensures { Gives (λ x. (x.0, x.1.now)) result (live_at bytes.now) }
+    ensures gives { Gives (λ x. (x.0, x.1.now)) result (live_at bytes.now) }
+    ensures memory { WantsOnly result (BeginsWithMany (1 ∷ bytes.now)) }
 {
     let (level, k, rest) = head_of(bytes).ok_or(PageError::BadPage)?;
     let (area, rest) = area_of(k, rest).ok_or(PageError::BadPage)?;
@@ -42,7 +48,8 @@ fn live_of(alloc: Global, bytes: &[u8]) -> Result<(Page, &[u8]), PageError>
 /// All fields of a page.
 #[tactic(auto, unfolding(crate::specs::Reading::fields_at))]
 fn fields_of(alloc: Global, bytes: &[u8]) -> Result<(Page, &[u8]), PageError>
-    ensures { Gives (λ x. (x.0, x.1.now)) result (fields_at bytes.now) }
+    ensures gives { Gives (λ x. (x.0, x.1.now)) result (fields_at bytes.now) }
+    ensures memory { WantsOnly result (BeginsWithMany bytes.now) }
 {
     match bytes {
         [1, rest @ ..] => live_of(alloc, rest),
@@ -62,7 +69,8 @@ fn is_zero(bytes: &[u8]) -> bool
 
 #[tactic(auto, unfolding(crate::specs::Reading::page_at))]
 fn page_of(alloc: Global, bytes: &[u8]) -> Result<Page, PageError>
-    ensures { Gives (λ x. x) result (page_at bytes.now) }
+    ensures gives { Gives (λ x. x) result (page_at bytes.now) }
+    ensures memory { WantsOnly result (MayWantMemory bytes.now) }
 {
     if bytes.len() != PAGE {
         return Err(PageError::BadPage);
@@ -73,4 +81,22 @@ fn page_of(alloc: Global, bytes: &[u8]) -> Result<Page, PageError>
     } else {
         Err(PageError::BadPage)
     }
+}
+
+/// The page that the bytes spell. They are as many as a page has.
+///
+/// `BadPage` comes exactly where they spell no page. `NoMemory` may come only where they begin as
+/// those of a live page, and its root is a cut or a leaf with records.
+pub fn decode(alloc: Global, bytes: &[u8]) -> Result<Page, PageError>
+    // What is read is what the bytes spell.
+    ensures found { IfOk result (λ page. SpellsPage bytes.now page) }
+    // What they spell is read, unless memory was refused.
+    ensures only { (page : Content) → SpellsPage bytes.now page →
+        ((result ≡ Ok page) ⊎ (result ≡ Err NoMemory)) }
+    // Where memory may be wanted.
+    ensures memory { WantsOnly result (MayWantMemory bytes.now) }
+    // What is read weighs no more than a page has bytes.
+    ensures light { IfOk result (λ page. IsLight page) }
+{
+    page_of(alloc, bytes)
 }

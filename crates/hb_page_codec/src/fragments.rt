@@ -1,5 +1,6 @@
 //! A page's inside, from the front of bytes.
 ghost use Rattle.std.specs.Prelude.{◌≡◌, ◌<◌, ◌≤◌, length};
+ghost use Rattle.hb_page_codec.specs.Memory.{WantsOnly, IsSomeCount, IsCutOrRecords};
 ghost use Rattle.hb_page_codec.specs.Reading.{Reads, Gives, count_at, records_at, axis_at, cut_at, records_tip_at, node_at, tree_at};
 ghost use Rattle.hb_frag.specs.Nodes.{tree_of};
 
@@ -34,7 +35,8 @@ fn records_of(
 ) -> Result<(Records, &[u8]), PageError>
     requires some { 0 < k }
     requires few { k ≤ KMAX }
-    ensures { Gives (λ x. (x.0, x.1.now)) result (records_at k count bytes.now) }
+    ensures gives { Gives (λ x. (x.0, x.1.now)) result (records_at k count bytes.now) }
+    ensures memory { WantsOnly result (0 < count) }
 {
     let mut records = Vec::with_capacity(alloc, usize::from(count))?;
     let mut rest = bytes;
@@ -51,7 +53,8 @@ fn records_of(
 fn records_tip_of(alloc: Global, k: u8, bytes: &[u8]) -> Result<(Node, &[u8]), PageError>
     requires some { 0 < k }
     requires few { k ≤ KMAX }
-    ensures { Gives (λ x. (tree_of x.0, x.1.now)) result (records_tip_at k bytes.now) }
+    ensures gives { Gives (λ x. (tree_of x.0, x.1.now)) result (records_tip_at k bytes.now) }
+    ensures memory { WantsOnly result (IsSomeCount bytes.now) }
 {
     let (count, rest) = count_of(k, bytes).ok_or(PageError::BadPage)?;
     let (records, rest) = records_of(alloc, k, count, rest)?;
@@ -96,7 +99,8 @@ fn cut_of(alloc: Global, k: u8, bytes: &[u8]) -> Result<(Node, &[u8]), PageError
 fn node_of(alloc: Global, k: u8, bytes: &[u8]) -> Result<(Node, &[u8]), PageError>
     requires some { 0 < k }
     requires few { k ≤ KMAX }
-    ensures { Gives (λ x. (tree_of x.0, x.1.now)) result (node_at (tree_at k) k bytes.now) }
+    ensures gives { Gives (λ x. (tree_of x.0, x.1.now)) result (node_at (tree_at k) k bytes.now) }
+    ensures memory { WantsOnly result (IsCutOrRecords bytes.now) }
 {
     match bytes {
         [0, rest @ ..] => cut_of(alloc, k, rest),
@@ -118,7 +122,8 @@ fn node_of(alloc: Global, k: u8, bytes: &[u8]) -> Result<(Node, &[u8]), PageErro
 pub(crate) fn fragment_of(alloc: Global, k: u8, bytes: &[u8]) -> Result<(Frag, &[u8]), PageError>
     requires some { 0 < k }
     requires few { k ≤ KMAX }
-    ensures { Gives (λ x. (x.0, x.1.now)) result (tree_at k bytes.now) }
+    ensures gives { Gives (λ x. (x.0, x.1.now)) result (tree_at k bytes.now) }
+    ensures memory { WantsOnly result (IsCutOrRecords bytes.now) }
 {
     let (node, rest) = node_of(alloc, k, bytes)?;
     Ok((Frag { node }, rest))

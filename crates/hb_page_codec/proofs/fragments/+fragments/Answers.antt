@@ -21,13 +21,13 @@ cut_of-fragment_of-requires-2 t c =
     let value = read_some _ c.u64_of.result (c.in_ok-value.value, c.in_ok-value.rest) (number_at 8 c.in_ok-axis.rest.now) c.in_ok-value.ensures.ok_part c.u64_of.ensures in
     let la = left_by _ _ _ (axis_shortens k c.args.bytes.now) axis in
     let lv = left_by _ _ _ (number_shortens 8 c.in_ok-axis.rest.now) value in
-    let ll = left_by _ _ _ (tree_shortens k c.in_ok-value.rest.now) c.in_ok-left.ensures in
+    let ll = left_by _ _ _ (tree_shortens k c.in_ok-value.rest.now) c.in_ok-left.ensures.gives in
     (omega (arith, la, lv, ll, c.decreases), (c.requires.some, c.requires.few))
 
-pub fragment_of-returns-in_err-node : goal.fragment_of-returns-in_err-node
-fragment_of-returns-in_err-node t c =
+pub fragment_of-returns-in_err-node-clause-gives : goal.fragment_of-returns-in_err-node-clause-gives
+fragment_of-returns-in_err-node-clause-gives t c =
     let p = err_from_is_err_and c.from_residual.result c.from_residual.ensures.1 in
-    rw (p.1, p.2) (subst (Fails c.in_err-node.field-0.0) (sym (tree_is c.args.k c.args.bytes.now)) c.in_err-node.ensures)
+    rw (p.1, p.2) (subst (Fails c.in_err-node.field-0.0) (sym (tree_is c.args.k c.args.bytes.now)) c.in_err-node.ensures.gives)
 
-pub fragment_of-returns : goal.fragment_of-returns
-fragment_of-returns t c = tree_is c.args.k c.args.bytes.now ∙ c.in_ok-node.ensures
+pub fragment_of-returns-clause-gives : goal.fragment_of-returns-clause-gives
+fragment_of-returns-clause-gives t c = tree_is c.args.k c.args.bytes.now ∙ c.in_ok-node.ensures.gives
