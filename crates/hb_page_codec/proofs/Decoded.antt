@@ -1,17 +1,17 @@
 -- What follows for what was read.
-use Rattle.std.proofs.Common.{◌≡◌, ℕ, zero, suc, ◌<◌, ◌≤◌, ◌+◌, ◌*◌, ◌^◌, cond, List, [], ◌∷◌, ◌++◌, length, drop, Option, Some, None, Result, Ok, Err, ltb, refl, sym, ap, ◌∙◌, inl, inr, ◌⊎◌, append_assoc, arith}
+use Rattle.std.proofs.Common.{◌≡◌, ℕ, zero, suc, ◌<◌, ◌+◌, ◌*◌, cond, List, [], ◌∷◌, length, drop, Some, None, Result, Ok, Err, ltb, refl, sym, ap, ◌∙◌, inl, inr, ◌⊎◌, arith}
 use Rattle.std.specs.Prelude.{IfOk}
 use Rattle.byteorder.specs.Endian.{big_number}
 use Rattle.hb_space.specs.Boxes.{Area}
 use Rattle.hb_frag.specs.declared.pages.Page.{Page}
-use Rattle.hb_frag.specs.Grammar.{SpellsPage, point_bytes}
+use Rattle.hb_frag.specs.Grammar.{HasSpelling, SpellsPage}
 use Rattle.hb_page_codec.specs.declared.errors.PageError.{PageError}
 use Rattle.hb_page_codec.specs.declared.errors.PageError.TheVariants as errors
 use Rattle.hb_page_codec.specs.Memory.{Wants, IsSomeCount, IsCutOrRecords, BeginsWithMany}
 use Rattle.hb_page_codec.specs.Reading.{Gives, number_at, count_at, head_at, area_at, page_at}
 use Rattle.hb_page_codec.specs.Weight.{IsLight}
 use Rattle.hb_page_codec.proofs.Fields.{IsBytes, some_is, bind_some, unless_some, area_takes}
-use Rattle.hb_page_codec.proofs.PageLaws.{page_takes, page_again, head_takes}
+use Rattle.hb_page_codec.proofs.PageLaws.{page_takes, page_again, has_spelling, head_takes}
 use Rattle.hb_page_codec.proofs.Weights.{is_light}
 
 pub is_found : (bytes : List ℕ) (r : Result Page PageError) → IsBytes bytes → Gives (λ x. x) r (page_at bytes) → IfOk r (λ page. SpellsPage bytes page)
@@ -21,6 +21,10 @@ is_found bytes (Err e) fits given = tt
 pub is_light_page : (bytes : List ℕ) (r : Result Page PageError) → IsBytes bytes → Gives (λ x. x) r (page_at bytes) → IfOk r (λ page. IsLight page)
 is_light_page bytes (Ok page) fits given = is_light bytes page (page_takes bytes page fits given)
 is_light_page bytes (Err e) fits given = tt
+
+pub is_writable : (bytes : List ℕ) (r : Result Page PageError) → IsBytes bytes → Gives (λ x. x) r (page_at bytes) → IfOk r (λ page. HasSpelling page)
+is_writable bytes (Ok page) fits given = (has_spelling page).1 (bytes, page_takes bytes page fits given)
+is_writable bytes (Err e) fits given = tt
 
 pub is_only : (bytes : List ℕ) (r : Result Page PageError) (page : Page) → Gives (λ x. x) r (page_at bytes) → SpellsPage bytes page → (r ≡ Ok page) ⊎ (r ≡ Err errors.NoMemory)
 is_only bytes (Ok found) page given s = inl (ap Ok (some_is found page (sym given ∙ page_again bytes page s)))

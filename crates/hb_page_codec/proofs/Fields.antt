@@ -5,16 +5,17 @@ use Rattle.std.proofs.lemmas.Bool.{cases_lt, ltb-false, le-ltb, lt-ltb, ltb-true
 use Rattle.std.proofs.lemmas.List.{take_at, drop_at, take-append-drop, length-append, length-take, get_or-drop, get_or-take, get_or_past}
 use Rattle.std.proofs.lemmas.List.Concat.{flat_map-cons}
 use Rattle.std.proofs.lemmas.List.Elements.{All-from_recursion, recursion_from_All, All-from_get_or}
+use Rattle.std.proofs.lemmas.Option.{some_pair_parts}
 use Rattle.std.proofs.lemmas.Nat.{be_bytes_2, be_bytes_4, be_bytes_8}
-use Rattle.byteorder.specs.Endian.{big_number, big_bytes}
+use Rattle.byteorder.specs.Endian.{big_number}
 use Rattle.byteorder.specs.Numbers.{length-bytes_high_first}
 use Rattle.hb_outside.specs.Numbers.{big_endian}
-use Rattle.hb_space.specs.Points.{IsPoint, IsBody}
+use Rattle.hb_space.specs.Points.{IsBody}
 use Rattle.hb_space.specs.Boxes.{Area, IsArea}
 use Rattle.hb_space.specs.declared.form.TheConstants.{KMAX, BMAX}
 use Rattle.hb_space.specs.declared.records.Record.{Record}
 use Rattle.hb_frag.specs.Grammar.{point_bytes, record_bytes, FitsRecord}
-use Rattle.hb_page_codec.specs.Reading.{◌>>=◌, byte_at, number_at, many_at, point_at, are_ordered, area_between, area_at, body_at, record_at, records_at, count_at, axis_at}
+use Rattle.hb_page_codec.specs.Reading.{◌>>=◌, byte_at, number_at, many_at, point_at, are_ordered, area_between, area_at, body_at, record_at, count_at, axis_at}
 use Rattle.hb_page_codec.proofs.Spelled.{big_number-spelled}
 use Rattle.hb_page_codec.proofs.Ordered.{ordered, ordered_test}
 
@@ -189,11 +190,12 @@ area_takes k bytes x some few fits e =
       same = same;
       ordered = ordered a.0.0 b.0.0 same g.0;
     } in
-    let whole : made ≡ x.0 = some_is made c.0 g.1 ∙ ap (λ (y : Area × List ℕ). y.0) (some_is (c.0, b.0.1) x c.2) in
-    let rest : b.0.1 ≡ x.1 = ap (λ (y : Area × List ℕ). y.1) (some_is (c.0, b.0.1) x c.2) in
+    let parts = some_pair_parts c.0 x.0 b.0.1 x.1 c.2 in
+    let whole : made ≡ x.0 = subst (λ (z : Area). made ≡ z) parts.0 (some_is made c.0 g.1) in
+    let rest : b.0.1 ≡ x.1 = parts.1 in
     let all : (y : Area) (r : List ℕ) → made ≡ y → b.0.1 ≡ r → Takes bytes (point_bytes y.lo ++ point_bytes y.hi) r × (length y.lo ≡ k) × IsArea y = λ y r p q.
-      subst (λ (z : Area). Takes bytes (point_bytes z.lo ++ point_bytes z.hi) r × (length z.lo ≡ k) × IsArea z) p
-      (subst (λ (s : List ℕ). Takes bytes (point_bytes a.0.0 ++ point_bytes b.0.0) s) q (Takes-then bytes (point_bytes a.0.0) a.0.1 (point_bytes b.0.0) b.0.1 lo.0 hi.0), lo.1, is_area) in
+    subst (λ (z : Area). Takes bytes (point_bytes z.lo ++ point_bytes z.hi) r × (length z.lo ≡ k) × IsArea z) p
+    (subst (λ (s : List ℕ). Takes bytes (point_bytes a.0.0 ++ point_bytes b.0.0) s) q (Takes-then bytes (point_bytes a.0.0) a.0.1 (point_bytes b.0.0) b.0.1 lo.0 hi.0), lo.1, is_area) in
     all x.0 x.1 whole rest
 
 pub area_again : (area : Area) (rest : List ℕ) → IsArea area → area_at (length area.lo) (point_bytes area.lo ++ point_bytes area.hi ++ rest) ≡ Some (area, rest)
@@ -205,7 +207,6 @@ area_again area rest fits =
     ∙ rw (point_again area.lo (point_bytes area.hi ++ rest) fits.lo_point.fits, hi, ordered_test area.lo area.hi fits.same fits.ordered) refl
 
 -- ---- bodies and records
-
 
 pub body_takes : (bytes : List ℕ) (x : List ℕ × List ℕ) → IsBytes bytes → body_at bytes ≡ Some x → Takes bytes (length x.0 ∷ x.0) x.1 × IsBody x.0
 unfolding body_at

@@ -1,9 +1,7 @@
 -- Reading one thing after the other, as a loop does.
 use Rattle.std.proofs.Common.{◌≡◌, ℕ, suc, ◌-◌, ◌+◌, ◌≤◌, ◌<◌, List, [], ◌∷◌, ◌++◌, Option, Some, None, refl, sym, ap, ◌∙◌, append_assoc, arith}
 use Rattle.std.proofs.lemmas.List.{append-nil}
-use Rattle.hb_page_codec.specs.declared.errors.PageError.{PageError}
-use Rattle.hb_page_codec.specs.declared.errors.PageError.TheVariants as errors
-use Rattle.hb_page_codec.specs.Reading.{◌>>=◌, Fails, many_at}
+use Rattle.hb_page_codec.specs.Reading.{◌>>=◌, many_at}
 
 -- what was read before, and what is still read
 abbrev pub with_front : {A : Type 0} → List A → Option (List A × List ℕ) → Option (List A × List ℕ)

@@ -1,5 +1,5 @@
 -- The test for the corners of a box.
-use Rattle.std.proofs.Common.{◌≡◌, ℕ, zero, suc, ◌<◌, ◌≤◌, Bool, true, false, cond, List, [], ◌∷◌, length, get_or, leb, Option, Some, None, refl, sym, ap, subst, ◌∙◌, arith}
+use Rattle.std.proofs.Common.{◌≡◌, ℕ, zero, suc, ◌≤◌, true, false, cond, List, [], ◌∷◌, length, Option, Some, None, refl, sym, arith}
 use Rattle.std.specs.Prelude.{◌↔◌, IsSome, IfSome, EachIndex, slice_index}
 use Rattle.std.proofs.lemmas.Bool.{and_parts, and_from, le-leb, leb-true, false≢true}
 use Rattle.hb_space.specs.Boxes.{Area}
@@ -26,6 +26,6 @@ is_between lo hi (Some a) same is corners =
 is_between lo hi None same is corners =
     let area : Area = record { lo = lo; hi = hi } in
     elim (are_ordered lo hi) as (λ b. are_ordered lo hi ≡ b → cond b (Some area) None ≡ None) [
-  | true ↦ λ e. absurd (false≢true (is.1 (ordered lo hi same e)))
-  | false ↦ λ e. refl
-] refl
+      | true ↦ λ e. absurd (false≢true (is.1 (ordered lo hi same e)))
+      | false ↦ λ e. refl
+    ] refl

@@ -1,15 +1,12 @@
 -- A page that is read is the page that was spelled, and what was spelled is read again.
-use Rattle.std.proofs.Common.{◌≡◌, ℕ, zero, suc, ◌+◌, ◌-◌, ◌*◌, ◌^◌, ◌<◌, ◌≤◌, Bool, true, false, cond, eqb, ltb, List, [], ◌∷◌, ◌++◌, length, All, Option, Some, None, Result, Ok, Err, refl, sym, ap, subst, ◌∙◌, append_assoc, length-append, arith}
-use Rattle.std.specs.Prelude.{◌↔◌, replicate, IfOk}
+use Rattle.std.proofs.Common.{◌≡◌, ℕ, zero, suc, ◌+◌, ◌-◌, ◌^◌, ◌<◌, ◌≤◌, true, false, cond, eqb, ltb, List, [], ◌∷◌, ◌++◌, length, Some, None, refl, sym, ap, subst, ◌∙◌, append_assoc, length-append, arith}
+use Rattle.std.specs.Prelude.{◌↔◌, replicate}
 use Rattle.std.specs.List.{list_all}
-use Rattle.std.proofs.lemmas.Bool.{eqb-true, eq-eqb, ltb-false, le-ltb, and_parts, and_from}
+use Rattle.std.proofs.lemmas.Bool.{eqb-true, eq-eqb, ltb-false, le-ltb, and_parts}
 use Rattle.std.proofs.lemmas.List.{length-replicate}
-use Rattle.hb_outside.specs.Numbers.{big_endian}
-use Rattle.hb_space.specs.Boxes.{Area, IsArea}
 use Rattle.hb_space.specs.declared.form.TheConstants.{PAGE, KMAX}
 use Rattle.hb_frag.specs.declared.pages.Page.{Page}
 use Rattle.hb_frag.specs.declared.pages.Page.TheVariants.{Live, Free}
-use Rattle.hb_frag.specs.Trees.{Tree}
 use Rattle.hb_frag.specs.Grammar.{point_bytes, tree_bytes, page_fields, FitsTree, FitsPage, HasSpelling, SpellsPage}
 use Rattle.hb_page_codec.specs.Reading.{◌>>=◌, number_at, area_at, tree_at, head_at, live_at, fields_at, page_at}
 use Rattle.hb_page_codec.proofs.Fields.{IsBytes, IsBytes-rest, Takes, Takes-then, Takes-byte, bind_some, some_is, unless_some, when_some, wide_4, number_takes, number_again, area_takes, area_again}
@@ -140,10 +137,13 @@ one_spelling a b page s t =
 -- a page has a spelling exactly where its fields have their places and are no longer than a page
 pub has_spelling : (page : Page) → HasSpelling page ↔ ((bytes : List ℕ) × SpellsPage bytes page)
 has_spelling page = (
-  λ h. (page_fields page ++ replicate (PAGE - length (page_fields page)) 0, record {
-    fits = h.fits;
-    long = length-append (page_fields page) (replicate (PAGE - length (page_fields page)) 0) ∙ ap (λ (n : ℕ). length (page_fields page) + n) (length-replicate (PAGE - length (page_fields page)) 0) ∙ omega (arith, h.short);
-    spelled = (PAGE - length (page_fields page), refl);
-  }),
+  λ h. (
+    page_fields page ++ replicate (PAGE - length (page_fields page)) 0,
+    record {
+      fits = h.fits;
+      long = length-append (page_fields page) (replicate (PAGE - length (page_fields page)) 0) ∙ ap (λ (n : ℕ). length (page_fields page) + n) (length-replicate (PAGE - length (page_fields page)) 0) ∙ omega (arith, h.short);
+      spelled = (PAGE - length (page_fields page), refl);
+    },
+  ),
   λ s. record { fits = s.1.fits; short = omega (arith, zeros_left s.0 page s.1) },
 )

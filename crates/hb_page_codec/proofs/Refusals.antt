@@ -1,5 +1,5 @@
 -- What is read, and what is refused, as the exits of a reader hand it on.
-use Rattle.std.proofs.Common.{◌≡◌, List, ℕ, Option, Some, None, subst}
+use Rattle.std.proofs.Common.{◌≡◌, Option, Some, None, subst}
 use Rattle.hb_page_codec.specs.declared.errors.PageError.{PageError}
 use Rattle.hb_page_codec.specs.declared.errors.PageError.TheVariants as errors
 use Rattle.hb_page_codec.specs.Reading.{Reads, Fails}

@@ -1,14 +1,12 @@
 -- How many bytes a page takes, by what it weighs.
-use Rattle.std.proofs.Common.{◌≡◌, ℕ, zero, suc, ◌+◌, ◌*◌, ◌<◌, ◌≤◌, ◌^◌, max, List, [], ◌∷◌, ◌++◌, length, All, get_or, refl, sym, ap, subst, ◌∙◌, length-append, arith}
+use Rattle.std.proofs.Common.{◌≡◌, ℕ, zero, suc, ◌+◌, ◌*◌, ◌<◌, ◌≤◌, ◌^◌, List, [], ◌∷◌, ◌++◌, length, sym, ap, ◌∙◌, length-append, arith}
 use Rattle.std.specs.List.{flat_map, AllByRecursion, sum_by}
 use Rattle.std.proofs.lemmas.List.Sums.{sum-map, sum_by-append}
 use Rattle.std.proofs.lemmas.List.Concat.{flat_map-cons}
 use Rattle.std.proofs.lemmas.List.Elements.{recursion_from_All}
 use Rattle.hb_outside.specs.Numbers.{big_endian}
-use Rattle.hb_space.specs.Boxes.{IsArea}
-use Rattle.hb_space.specs.declared.form.TheConstants.{PAGE, KMAX}
+use Rattle.hb_space.specs.declared.form.TheConstants.{KMAX}
 use Rattle.hb_space.specs.declared.records.Record.{Record}
-use Rattle.hb_frag.specs.declared.leaves.Leaf.{Leaf}
 use Rattle.hb_frag.specs.declared.leaves.Leaf.TheVariants.{Records, Child, Sibling}
 use Rattle.hb_frag.specs.declared.pages.LivePage.{LivePage}
 use Rattle.hb_frag.specs.declared.pages.Page.{Page}
@@ -16,7 +14,7 @@ use Rattle.hb_frag.specs.declared.pages.Page.TheVariants.{Live, Free}
 use Rattle.hb_frag.specs.Trees.{Tree, Tip, Cut}
 use Rattle.hb_frag.specs.Leaves.{leaves, leaf_weight, weight_of}
 use Rattle.hb_frag.specs.Rules.{BelongsAt, IsFilledRight, capacity_of}
-use Rattle.hb_frag.specs.Grammar.{point_bytes, record_bytes, tree_bytes, page_fields, FitsRecord, FitsLeaf, FitsTree, FitsPage, HasSpelling, SpellsPage}
+use Rattle.hb_frag.specs.Grammar.{point_bytes, record_bytes, tree_bytes, page_fields, FitsRecord, FitsTree, FitsPage, HasSpelling, SpellsPage}
 use Rattle.hb_page_codec.specs.Weight.{IsLight}
 use Rattle.hb_page_codec.proofs.Fields.{length_number, length_point, length_record}
 use Rattle.hb_page_codec.proofs.Writes.{length-cut}

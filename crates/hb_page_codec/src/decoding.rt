@@ -2,7 +2,7 @@
 ghost use Rattle.std.specs.Prelude.{◌≡◌, ◌<◌, ◌≤◌, ◌⊎◌, ◌==◌, ◌∷◌, length, IfSome, IfOk, Ok, Err};
 ghost use Rattle.std.specs.List.{list_all};
 ghost use Rattle.hb_frag.specs.declared.pages.Page.{Page as Content};
-ghost use Rattle.hb_frag.specs.Grammar.{SpellsPage};
+ghost use Rattle.hb_frag.specs.Grammar.{HasSpelling, SpellsPage};
 ghost use Rattle.hb_page_codec.specs.Memory.{WantsOnly, BeginsWithMany, MayWantMemory};
 ghost use Rattle.hb_page_codec.specs.Weight.{IsLight};
 ghost use Rattle.hb_page_codec.specs.declared.errors.PageError.TheVariants.{NoMemory};
@@ -95,6 +95,8 @@ pub fn decode(alloc: Global, bytes: &[u8]) -> Result<Page, PageError>
         ((result ≡ Ok page) ⊎ (result ≡ Err NoMemory)) }
     // Where memory may be wanted.
     ensures memory { WantsOnly result (MayWantMemory bytes.now) }
+    // What is read can be written again.
+    ensures writable { IfOk result (λ page. HasSpelling page) }
     // What is read weighs no more than a page has bytes.
     ensures light { IfOk result (λ page. IsLight page) }
 {

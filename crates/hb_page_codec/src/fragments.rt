@@ -8,8 +8,8 @@ use crate::errors::PageError;
 use crate::numbers::{u16_of, u32_of, u64_of};
 use crate::records::record_of;
 use hb_frag::{Frag, Leaf, Node};
+use hb_space::Records;
 use hb_space::form::KMAX;
-use hb_space::{Record, Records};
 use std::alloc::Global;
 
 /// How many records follow, each with `k` attributes: no more than there is room for.
@@ -27,12 +27,7 @@ fn count_of(k: u8, bytes: &[u8]) -> Option<(u16, &[u8])>
 }
 
 /// So many records.
-fn records_of(
-    alloc: Global,
-    k: u8,
-    count: u16,
-    bytes: &[u8],
-) -> Result<(Records, &[u8]), PageError>
+fn records_of(alloc: Global, k: u8, count: u16, bytes: &[u8]) -> Result<(Records, &[u8]), PageError>
     requires some { 0 < k }
     requires few { k ≤ KMAX }
     ensures gives { Gives (λ x. (x.0, x.1.now)) result (records_at k count bytes.now) }

@@ -1,4 +1,4 @@
-use Rattle.std.proofs.Common.{◌≡◌, length, ap, sym, subst, arith}
+use Rattle.std.proofs.Common.{length, ap, subst, arith}
 use Rattle.hb_space.specs.declared.records.Record.{Record}
 use Rattle.hb_frag.specs.Grammar.{record_bytes}
 use Rattle.hb_page_codec.specs.Writing.{Wrote}

@@ -1,4 +1,3 @@
-use Rattle.std.proofs.Common.{arith}
 use Rattle.hb_page_codec.proofs.Ordered.{is_between}
 use Rattle.hb_page_codec.proofs.records.area_of_corners.Goals as goal
 
