@@ -61,12 +61,14 @@ fn fields_of(alloc: Global, bytes: &[u8]) -> Result<(Page, &[u8]), PageError>
     }
 }
 
+/// Whether each byte is 0.
 fn is_zero(bytes: &[u8]) -> bool
     ensures { result ≡ list_all (λ b. b == 0) bytes.now }
 {
     bytes.iter().all(|b| *b == 0)
 }
 
+/// The page that all of the bytes spell.
 #[tactic(auto, unfolding(crate::specs::Reading::page_at))]
 fn page_of(alloc: Global, bytes: &[u8]) -> Result<Page, PageError>
     ensures gives { Gives (λ x. x) result (page_at bytes.now) }
@@ -83,10 +85,11 @@ fn page_of(alloc: Global, bytes: &[u8]) -> Result<Page, PageError>
     }
 }
 
-/// The page that the bytes spell. They are as many as a page has.
+/// The page that the bytes spell, all of them. Any bytes may be given.
 ///
-/// `BadPage` comes exactly where they spell no page. `NoMemory` may come only where they begin as
-/// those of a live page, and its root is a cut or a leaf with records.
+/// `BadPage` comes only where they spell no page, and a page is never read from such bytes.
+/// `NoMemory` comes only where there are `PAGE` of them, and they begin as those of a live page
+/// whose root is a cut or a leaf with records.
 pub fn decode(alloc: Global, bytes: &[u8]) -> Result<Page, PageError>
     // What is read is what the bytes spell.
     ensures found { IfOk result (λ page. SpellsPage bytes.now page) }
