@@ -1,5 +1,6 @@
 -- The leaves of a page and their boxes, as lists from the left.
-use Rattle.std.specs.Prelude.{ℕ, max, if◌then◌else◌, List, [], ◌∷◌, ◌++◌, length, map, sum, All, Option, Some, None}
+use Rattle.std.specs.Prelude.{ℕ, ◌==◌, max, not, if◌then◌else◌, List, [], ◌∷◌, ◌++◌, length, map, filter, sum, All, Option, Some, None}
+use Rattle.std.specs.List.{list_any}
 use Rattle.hb_space.specs.Boxes.{Area, Holds, Meets, Within, Cuts, holds, side_below, side_from}
 use Rattle.hb_space.specs.declared.records.Record.{Record}
 use Rattle.hb_frag.specs.declared.leaves.Leaf.{Leaf}
@@ -63,6 +64,19 @@ child_names (Records records ∷ rest) = child_names rest
 child_names (Child page ∷ rest) = page ∷ child_names rest
 child_names (Sibling page ∷ rest) = child_names rest
 
+-- each name once, where it stands first
+abbrev pub firsts : List ℕ → List ℕ
+firsts [] = []
+firsts (name ∷ rest) = name ∷ filter (λ other. not (other == name)) (firsts rest)
+
+-- a list of names with one more at the end, where it isn't there yet
+abbrev pub with_name : List ℕ → ℕ → List ℕ
+with_name seen name = if list_any (λ other. other == name) seen then seen else seen ++ name ∷ []
+
+abbrev pub with_names : List ℕ → List ℕ → List ℕ
+with_names seen [] = seen
+with_names seen (name ∷ rest) = with_names (with_name seen name) rest
+
 -- the boxes of the sibling leaves, with the page that each names
 abbrev pub siblings : List Placed → List (ℕ × Area)
 siblings [] = []
@@ -75,6 +89,11 @@ siblings (placed ∷ rest) = sibling_of placed.leaf placed.area ++ siblings rest
 
 abbrev pub siblings_of : LivePage → List (ℕ × Area)
 siblings_of page = siblings (leaves_of page.frag page.area)
+
+-- the first of these boxes that has the name
+abbrev pub first_named : ℕ → List (ℕ × Area) → Option Area
+first_named name [] = None
+first_named name (s ∷ rest) = if s.0 == name then Some s.1 else first_named name rest
 
 -- A page directly holds a point: its box does, and no sibling leaf's box does.
 pub record DirectlyHolds (page : LivePage) (p : List ℕ) : Type 0 where

@@ -1,5 +1,5 @@
 -- Parts of a tree, by the path that leads to them from the root.
-use Rattle.std.specs.Prelude.{List, [], ◌∷◌, Option, Some, None}
+use Rattle.std.specs.Prelude.{ℕ, nat_lt, if◌then◌else◌, List, [], ◌∷◌, slice_index, Option, Some, None}
 use Rattle.hb_space.specs.Boxes.{Area, side_below, side_from}
 use Rattle.hb_frag.specs.declared.paths.Side.{Side}
 use Rattle.hb_frag.specs.declared.paths.Side.TheVariants.{Left, Right}
@@ -18,6 +18,11 @@ with_part [] tree part = part
 with_part (Left ∷ path) (Cut axis value left right) part = Cut axis value (with_part path left part) right
 with_part (Right ∷ path) (Cut axis value left right) part = Cut axis value left (with_part path right part)
 with_part (side ∷ path) (Tip leaf) part = Tip leaf
+
+-- the path to the leaf at a point: left where its value in the cut's attribute is below the cut's
+abbrev pub way_to : List ℕ → Tree → List Side
+way_to p (Tip leaf) = []
+way_to p (Cut axis value left right) = if nat_lt (slice_index p axis) value then Left ∷ way_to p left else Right ∷ way_to p right
 
 -- the path stays in the tree
 abbrev pub StaysInside : List Side → Tree → Type 0

@@ -54,4 +54,20 @@ impl Path {
     {
         Ok(self.steps.push(side)?)
     }
+
+    /// The path of these steps.
+    pub fn of_steps(alloc: Global, steps: &[Side]) -> Result<Path, NoMemory>
+        ensures { IfOk result (λ path. path ≡ steps.now) }
+    {
+        Ok(Path {
+            steps: SmallVec::from_slice(alloc, steps)?,
+        })
+    }
+
+    /// The same path once more.
+    pub fn copy(&self, alloc: Global) -> Result<Path, NoMemory>
+        ensures { IfOk result (λ path. path ≡ self.now) }
+    {
+        Path::of_steps(alloc, self.as_slice())
+    }
 }
