@@ -3,10 +3,12 @@
 
 mod change;
 mod laws;
+mod local;
 mod meta;
 mod operations;
 
 pub use change::{ChangeError, Changed};
+pub use local::local_rule;
 pub use laws::{delete_takes_one_record, operations_keep_a_file_sound, put_adds_one_record};
 pub use meta::Meta;
 pub use operations::Op;
