@@ -76,6 +76,7 @@ impl Frag {
         }
     }
 
+    #[tactic(auto, using(crate::proofs::Points::going_left, crate::proofs::Points::going_right, crate::proofs::Sides::held_test))]
     /// The leaf whose box holds the point, and that box, in a part with this box.
     pub(crate) fn leaf_at(&self, area: Area, p: &Point) -> (&Leaf, Area)
         requires well_cut { IsWellCut self.now area }
@@ -148,6 +149,7 @@ impl Frag {
         }
     }
 
+    #[tactic(auto, using(crate::proofs::NamesListed::listing))]
     /// Adds the pages that child leaves name to the list, each that isn't in it yet.
     pub(crate) fn list_children(&self, pages: &mut Pages) -> Result<(), NoMemory>
         ensures { OnOk result (pages.new ≡ with_names pages.old (child_names (leaves self.now))) }
@@ -161,6 +163,7 @@ impl Frag {
         }
     }
 
+    #[tactic(auto, using(crate::proofs::NamesListed::finding))]
     /// The box of the first sibling leaf from the left that names the page, in a part with this
     /// box.
     pub(crate) fn sibling_area(&self, area: Area, id: u32) -> Option<Area>
@@ -177,8 +180,8 @@ impl Frag {
             } => {
                 let (below, from) = area.cut(*axis, *value);
                 match left.sibling_area(below, id) {
+                    Some(found) => Some(found),
                     None => right.sibling_area(from, id),
-                    found => found,
                 }
             }
         }
@@ -191,8 +194,7 @@ impl Frag {
         ensures { IsTrue result ↔ All (λ s. ¬ (Meets s.1 a.now)) (siblings (leaves_of self.now area)) }
     {
         match &self.node {
-            Node::Tip(Leaf::Sibling(_)) => !area.meets(a),
-            Node::Tip(_) => true,
+            Node::Tip(leaf) => leaf.is_clear_of(area, a),
             Node::Cut {
                 axis,
                 value,

@@ -1,4 +1,5 @@
-ghost use Rattle.std.specs.Prelude.{◌≡◌, ◌<◌, ◌^◌, ◌↔◌, [], ◌∷◌, IfOk, IsTrue, OnOk};
+ghost use Rattle.std.specs.Prelude.{◌≡◌, ◌<◌, ◌^◌, ◌↔◌, [], ◌∷◌, length, All, IfOk, IsTrue, OnOk};
+ghost use Rattle.hb_space.specs.Boxes.{Meets};
 ghost use Rattle.hb_frag.specs.Leaves.{leaf_weight, child_names, with_names, first_named, siblings};
 
 use crate::Pages;
@@ -67,6 +68,17 @@ impl Leaf {
         match self {
             Leaf::Sibling(page) if *page == id => Some(area),
             _ => None,
+        }
+    }
+
+    /// Whether it isn't a sibling leaf whose box, `area`, meets the box `a`.
+    pub(crate) fn is_clear_of(&self, area: Area, a: &Area) -> bool
+        requires { length a.now.lo ≡ length area.lo }
+        ensures { IsTrue result ↔ All (λ s. ¬ (Meets s.1 a.now)) (siblings (record { leaf = self.now; area = area } ∷ [])) }
+    {
+        match self {
+            Leaf::Sibling(_) => !area.meets(a),
+            Leaf::Records(_) | Leaf::Child(_) => true,
         }
     }
 }

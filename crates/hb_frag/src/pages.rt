@@ -72,6 +72,7 @@ impl LivePage {
         self.frag.names(id)
     }
 
+    #[tactic(auto, using(crate::proofs::NamesListed::all_firsts))]
     /// The pages that child leaves name, each once, where it stands first from the left.
     pub fn children(&self, alloc: Global) -> Result<Pages, NoMemory>
         ensures { IfOk result (λ pages. pages ≡ firsts (child_names (leaves self.now.frag))) }

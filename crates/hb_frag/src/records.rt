@@ -1,4 +1,5 @@
 ghost use Rattle.std.specs.Prelude.{◌≡◌, IfOk};
+ghost use Rattle.hb_space.specs.Boxes.{IsArea};
 
 use hb_space::{Area, Body, NoMemory, Point, Record, Records};
 use std::alloc::Global;
@@ -27,7 +28,8 @@ pub(crate) fn copies(alloc: Global, source: &Records) -> Result<Records, NoMemor
 
 /// The same box once more.
 pub(crate) fn same_box(source: &Area) -> Area
-    ensures { result ≡ source.now }
+    ensures value { result ≡ source.now }
+    ensures area { IsArea source.now }
 {
     let lo = Point::new(source.lo().values());
     let hi = Point::new(source.hi().values());

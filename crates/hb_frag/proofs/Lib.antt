@@ -1,0 +1,5 @@
+pub mod Sides
+pub mod Cuts
+pub mod Points
+pub mod NamesListed
+pub mod Clear
