@@ -3,3 +3,6 @@ pub mod Cuts
 pub mod Points
 pub mod NamesListed
 pub mod Clear
+pub mod Tiles
+pub mod Parts
+pub mod Direct

@@ -9,6 +9,7 @@ use Rattle.hb_frag.specs.declared.paths.Side.TheVariants.{Left, Right}
 use Rattle.hb_frag.specs.Trees.{Tree, Tip, Cut}
 use Rattle.hb_frag.specs.Leaves.{Placed, IsWellCut, first_at, leaves_of, with_leaf_at}
 use Rattle.hb_frag.specs.Paths.{part_at, with_part, way_to}
+use Rattle.hb_frag.specs.Laws.{LeadsTo}
 use Rattle.hb_frag.proofs.Sides.{held_test, failed_test, IsArea-side_below, IsArea-side_from, same-side_from, not_from, not_below, outside_below, outside_from, is_below, isnt_below}
 
 -- the first of two lists' leaves at a point
@@ -45,13 +46,7 @@ going_right axis value left right area p h cut e from =
     first_behind p (leaves_of left (side_below area axis value)) (leaves_of right (side_from area axis value)) (none_outside left (side_below area axis value) p (IsArea-side_below area axis value h cut.0) cut.1 e (not_below area axis value p h cut.0 from))
 
 -- where the search ends
-pub record EndsAt (p : List ℕ) (t : Tree) (area : Area) (w : Placed) : Type 0 where
-  pub first : first_at p (leaves_of t area) ≡ Some w
-  pub part : part_at (way_to p t) t area ≡ Some (Tip w.leaf, w.area)
-  pub held : Holds w.area p
-  pub changed : (change : Leaf → Leaf) → with_part (way_to p t) t (Tip (change w.leaf)) ≡ with_leaf_at p change t area
-
-pub way_ends : (t : Tree) (area : Area) (p : List ℕ) → IsArea area → IsWellCut t area → Holds area p → (w : Placed) × EndsAt p t area w
+pub way_ends : (t : Tree) (area : Area) (p : List ℕ) → IsArea area → IsWellCut t area → Holds area p → (w : Placed) × LeadsTo p t area w
 way_ends (Tip leaf) area p h cut held =
     let e = held_test area p h held in
     (record { leaf = leaf; area = area }, record { first = rw e; part = refl; held = held; changed = λ change. rw e })

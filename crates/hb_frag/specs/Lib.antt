@@ -5,3 +5,4 @@ pub mod Leaves
 pub mod Paths
 pub mod Rules
 pub mod Grammar
+pub mod Laws

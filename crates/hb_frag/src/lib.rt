@@ -2,6 +2,7 @@
 #![tactic(auto)]
 
 mod fragments;
+pub mod laws;
 mod leaves;
 mod names;
 mod pages;
