@@ -54,8 +54,8 @@ in_below a axis value p cuts h =
         same = h.same;
         between = λ i lt. elim (cases_eq i axis) [
           | inl e ↦
-            let here : get_or a.hi i 0 ≡ get_or a.hi axis 0 = ap (λ (n : ℕ). get_or a.hi n 0) e in
-            ((h.between i lt).0, omega (arith, (h.between i lt).1, get_or-set_at a.hi axis i (value - 1) 0 e room, cuts.up_to_greatest))
+              let here : get_or a.hi i 0 ≡ get_or a.hi axis 0 = ap (λ (n : ℕ). get_or a.hi n 0) e in
+              ((h.between i lt).0, omega (arith, (h.between i lt).1, get_or-set_at a.hi axis i (value - 1) 0 e room, cuts.up_to_greatest))
           | inr n ↦ ((h.between i lt).0, omega (arith, (h.between i lt).1, get_or-set_other a.hi axis i (value - 1) 0 n))
         ];
       },
@@ -69,8 +69,8 @@ in_from a axis value p cuts h =
         same = same;
         between = λ i lt. elim (cases_eq i axis) [
           | inl e ↦
-            let here : get_or a.lo i 0 ≡ get_or a.lo axis 0 = ap (λ (n : ℕ). get_or a.lo n 0) e in
-            (omega (arith, (h.between i lt).0, get_or-set_at a.lo axis i value 0 e cuts.attribute, cuts.above_least), (h.between i lt).1)
+              let here : get_or a.lo i 0 ≡ get_or a.lo axis 0 = ap (λ (n : ℕ). get_or a.lo n 0) e in
+              (omega (arith, (h.between i lt).0, get_or-set_at a.lo axis i value 0 e cuts.attribute, cuts.above_least), (h.between i lt).1)
           | inr n ↦ (omega (arith, (h.between i lt).0, get_or-set_other a.lo axis i value 0 n), (h.between i lt).1)
         ];
       },

@@ -89,14 +89,13 @@ pub put_adds_one : PutAddsOne
 put_adds_one s id rec allowed has others =
     let on = put_on id rec s.meta (live_page s id) (nth_read s (Put id rec) 1) (nth_read s (Put id rec) 2) allowed in
     let fits = on.2 in
-    let here = around s id rec.key on.0 fits.absent.records fits.absent.area on.1 fits.level fits.made.well_cut fits.made.in_order fits.absent.leaf others in
-    (
+    let here = around s id rec.key on.0 fits.absent.records fits.absent.area on.1 fits.level fits.made.well_cut fits.made.in_order fits.absent.leaf others in (
       ap (λ (rs : List Record). finite.get (contents rs) rec.key) here.is
-      ∙ absent here.before fits.absent.records here.after rec.key here.lack_before here.lack_after (recursion_from_All (λ (r : Record). r.key ≢ rec.key) fits.absent.records fits.absent.keeps),
+          ∙ absent here.before fits.absent.records here.after rec.key here.lack_before here.lack_after (recursion_from_All (λ (r : Record). r.key ≢ rec.key) fits.absent.records fits.absent.keeps),
       ap (λ (pages : List Page). contents (flat_map page_records pages)) (put_pages s id rec on.0 on.1)
-      ∙ ap contents (here.changed (joined rec))
-      ∙ put_done here.before fits.absent.records here.after rec.key here.lack_before here.lack_after rec refl
-      ∙ ap (λ (rs : List Record). finite.insert (contents rs) rec.key rec.body) (sym here.is),
+          ∙ ap contents (here.changed (joined rec))
+          ∙ put_done here.before fits.absent.records here.after rec.key here.lack_before here.lack_after rec refl
+          ∙ ap (λ (rs : List Record). finite.insert (contents rs) rec.key rec.body) (sym here.is),
     )
 
 pub del_takes_one : DelTakesOne
@@ -106,11 +105,10 @@ del_takes_one s id point allowed has others =
     let records = fits.there.records in
     let here = around s id point on.0 records fits.there.area on.1 fits.level fits.made.well_cut fits.made.in_order fits.there.leaf others in
     let any = fits.there.keeps in
-    let found = there here.before records here.after point here.lack_before here.lack_after any.0 any.1 any.2 (ap (λ (r : Record). r.key) any.3 ∙ any.4) in
-    (
+    let found = there here.before records here.after point here.lack_before here.lack_after any.0 any.1 any.2 (ap (λ (r : Record). r.key) any.3 ∙ any.4) in (
       (found.0, ap (λ (rs : List Record). finite.get (contents rs) point) here.is ∙ found.1),
       ap (λ (pages : List Page). contents (flat_map page_records pages)) (del_pages s id point on.0 on.1)
-      ∙ ap contents (here.changed (without point))
-      ∙ del_done here.before records here.after point here.lack_before here.lack_after
-      ∙ ap (λ (rs : List Record). finite.remove (contents rs) point) (sym here.is),
+          ∙ ap contents (here.changed (without point))
+          ∙ del_done here.before records here.after point here.lack_before here.lack_after
+          ∙ ap (λ (rs : List Record). finite.remove (contents rs) point) (sym here.is),
     )

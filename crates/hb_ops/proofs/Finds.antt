@@ -121,13 +121,12 @@ module _ (before records after : List Record) (p : List ℕ) (lack : AllByRecurs
 
   pub there : (k : ℕ) (d : Record) → k < length records → (get_or records k d).key ≡ p → (body : List ℕ) × (finite.get (contents (before ++ (records ++ after))) p ≡ Some body)
   there k d lt e =
-      let found = body_there p records k d lt e in
-      (
+      let found = body_there p records k d lt e in (
         found.0,
         get-contents (before ++ (records ++ after)) p
-        ∙ at_middle p records
-        ∙ ap (λ (o : Option (List ℕ)). option_or o (option_or (body_at p records) (body_at p after))) (body-lacking p before lack)
-        ∙ ap (λ (o : Option (List ℕ)). option_or o (body_at p after)) found.1,
+            ∙ at_middle p records
+            ∙ ap (λ (o : Option (List ℕ)). option_or o (option_or (body_at p records) (body_at p after))) (body-lacking p before lack)
+            ∙ ap (λ (o : Option (List ℕ)). option_or o (body_at p after)) found.1,
       )
 
   put_cases : (q body : List ℕ) (b : Bool) → eq_by_cmp point_cmp q p ≡ b → option_or (body_at q before) (option_or (cond b (Some body) (body_at q records)) (body_at q after)) ≡ cond b (Some body) (option_or (body_at q before) (option_or (body_at q records) (body_at q after)))

@@ -89,35 +89,35 @@ parted p (Cut axis value left right) area placed cut e =
     let from = side_from area axis value in
     elim (first_append p (leaves_of left below) (leaves_of right from) placed e) [
       | inl l ↦
-        let there = parted p left below placed cut.1 l in
-        let out : ¬ (Holds from p) = λ h. apart area axis value p cut.0 (first_held p left below placed cut.1 l) h in
-        record {
-          before = there.before;
-          after = there.after ++ leaves right;
-          is = ap (λ (ls : List Leaf). ls ++ leaves right) there.is ∙ append_assoc there.before (placed.leaf ∷ there.after) (leaves right);
-          changed = λ change.
-              ap (λ (t : Tree). leaves (with_leaf_at p change left below) ++ leaves t) (unchanged p change right from cut.2 out)
-              ∙ ap (λ (ls : List Leaf). ls ++ leaves right) (there.changed change)
-              ∙ append_assoc there.before (change placed.leaf ∷ there.after) (leaves right);
-          lack_before = λ order. there.lack_before (parts IsInOrder (leaves_of left below) (leaves_of right from) order).0;
-          lack_after = λ order.
-              let both = parts IsInOrder (leaves_of left below) (leaves_of right from) order in
-              whole (LeafLacks p) there.after (leaves right) (there.lack_after both.0) (lacks p right from cut.2 both.1 out);
-        }
+          let there = parted p left below placed cut.1 l in
+          let out : ¬ (Holds from p) = λ h. apart area axis value p cut.0 (first_held p left below placed cut.1 l) h in
+          record {
+            before = there.before;
+            after = there.after ++ leaves right;
+            is = ap (λ (ls : List Leaf). ls ++ leaves right) there.is ∙ append_assoc there.before (placed.leaf ∷ there.after) (leaves right);
+            changed = λ change.
+                ap (λ (t : Tree). leaves (with_leaf_at p change left below) ++ leaves t) (unchanged p change right from cut.2 out)
+                ∙ ap (λ (ls : List Leaf). ls ++ leaves right) (there.changed change)
+                ∙ append_assoc there.before (change placed.leaf ∷ there.after) (leaves right);
+            lack_before = λ order. there.lack_before (parts IsInOrder (leaves_of left below) (leaves_of right from) order).0;
+            lack_after = λ order.
+                let both = parts IsInOrder (leaves_of left below) (leaves_of right from) order in
+                whole (LeafLacks p) there.after (leaves right) (there.lack_after both.0) (lacks p right from cut.2 both.1 out);
+          }
       | inr r ↦
-        let there = parted p right from placed cut.2 r in
-        let out : ¬ (Holds below p) = λ h. apart area axis value p cut.0 h (first_held p right from placed cut.2 r) in
-        record {
-          before = leaves left ++ there.before;
-          after = there.after;
-          is = ap (λ (ls : List Leaf). leaves left ++ ls) there.is ∙ sym (append_assoc (leaves left) there.before (placed.leaf ∷ there.after));
-          changed = λ change.
-              ap (λ (t : Tree). leaves t ++ leaves (with_leaf_at p change right from)) (unchanged p change left below cut.1 out)
-              ∙ ap (λ (ls : List Leaf). leaves left ++ ls) (there.changed change)
-              ∙ sym (append_assoc (leaves left) there.before (change placed.leaf ∷ there.after));
-          lack_before = λ order.
-              let both = parts IsInOrder (leaves_of left below) (leaves_of right from) order in
-              whole (LeafLacks p) (leaves left) there.before (lacks p left below cut.1 both.0 out) (there.lack_before both.1);
-          lack_after = λ order. there.lack_after (parts IsInOrder (leaves_of left below) (leaves_of right from) order).1;
-        }
+          let there = parted p right from placed cut.2 r in
+          let out : ¬ (Holds below p) = λ h. apart area axis value p cut.0 h (first_held p right from placed cut.2 r) in
+          record {
+            before = leaves left ++ there.before;
+            after = there.after;
+            is = ap (λ (ls : List Leaf). leaves left ++ ls) there.is ∙ sym (append_assoc (leaves left) there.before (placed.leaf ∷ there.after));
+            changed = λ change.
+                ap (λ (t : Tree). leaves t ++ leaves (with_leaf_at p change right from)) (unchanged p change left below cut.1 out)
+                ∙ ap (λ (ls : List Leaf). leaves left ++ ls) (there.changed change)
+                ∙ sym (append_assoc (leaves left) there.before (change placed.leaf ∷ there.after));
+            lack_before = λ order.
+                let both = parts IsInOrder (leaves_of left below) (leaves_of right from) order in
+                whole (LeafLacks p) (leaves left) there.before (lacks p left below cut.1 both.0 out) (there.lack_before both.1);
+            lack_after = λ order. there.lack_after (parts IsInOrder (leaves_of left below) (leaves_of right from) order).1;
+          }
     ]

@@ -4,3 +4,4 @@ pub mod Operations
 pub mod LocalRule
 pub mod Given
 pub mod LawsOfContents
+pub mod Edits
