@@ -5,3 +5,5 @@ pub mod Tips
 pub mod Finds
 pub mod Pages
 pub mod Contents
+pub mod Places
+pub mod Opened

@@ -16,7 +16,7 @@ abbrev pub LeafLacks : List ℕ → Leaf → Type 0
 LeafLacks p leaf = AllByRecursion (λ (r : Record). r.key ≢ p) (records_of leaf)
 
 -- the first of two lists stands in one of them
-first_append : (p : List ℕ) (xs ys : List Placed) (placed : Placed) → first_at p (xs ++ ys) ≡ Some placed → (first_at p xs ≡ Some placed) ⊎ (first_at p ys ≡ Some placed)
+pub first_append : (p : List ℕ) (xs ys : List Placed) (placed : Placed) → first_at p (xs ++ ys) ≡ Some placed → (first_at p xs ≡ Some placed) ⊎ (first_at p ys ≡ Some placed)
 first_append p [] ys placed e = inr e
 first_append p (x ∷ xs) ys placed e = elim (holds x.area p) as (λ b. cond b (Some x) (first_at p (xs ++ ys)) ≡ Some placed → (cond b (Some x) (first_at p xs) ≡ Some placed) ⊎ (first_at p ys ≡ Some placed)) [
   | true ↦ λ e. inl e
@@ -24,7 +24,7 @@ first_append p (x ∷ xs) ys placed e = elim (holds x.area p) as (λ b. cond b (
 ] e
 
 -- a leaf alone
-tip_at : (p : List ℕ) (leaf : Leaf) (area : Area) (placed : Placed) → first_at p (record { leaf = leaf; area = area } ∷ []) ≡ Some placed → IsTrue (holds area p) × (record { leaf = leaf; area = area } ≡ placed)
+pub tip_at : (p : List ℕ) (leaf : Leaf) (area : Area) (placed : Placed) → first_at p (record { leaf = leaf; area = area } ∷ []) ≡ Some placed → IsTrue (holds area p) × (record { leaf = leaf; area = area } ≡ placed)
 tip_at p leaf area placed e =
     let here : Placed = record { leaf = leaf; area = area } in
     elim (holds area p) as (λ b. cond b (Some here) None ≡ Some placed → IsTrue b × (here ≡ placed)) [

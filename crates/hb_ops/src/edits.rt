@@ -76,7 +76,8 @@ fn gap_for<'a>(page: &'a LivePage, meta: &Meta, rec: &Record) -> Option<(&'a Rec
         Some(records) => match place_of(records.as_slice(), &rec.key) {
             Ok(_) => None,
             Err(place) => {
-                if weight_with_one_more(page, records) <= u32::from(meta.dcap) {
+                let capacity = meta.dcap;
+                if weight_with_one_more(page, records) <= u32::from(capacity) {
                     Some((records, place))
                 } else {
                     None
