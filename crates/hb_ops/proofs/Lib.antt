@@ -7,3 +7,5 @@ pub mod Pages
 pub mod Contents
 pub mod Places
 pub mod Opened
+pub mod Remade
+pub mod Sound
