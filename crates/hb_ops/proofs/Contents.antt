@@ -17,7 +17,7 @@ use Rattle.hb_ops.specs.declared.meta.Meta.{Meta}
 use Rattle.hb_ops.specs.declared.operations.Op.TheVariants.{Put, Del}
 use Rattle.hb_ops.specs.Files.{FileState, contents_of, file_records, live_page, page_of, page_records}
 use Rattle.hb_ops.specs.Operations.{FitsDel, FitsPut, HasRecordsAt, IsAllowedOn, change_of, effect_of, joined, nth_read, on_records, page_with, put_page, del_page, with_page, with_pages, without}
-use Rattle.hb_ops.specs.LawsOfContents.{DelTakesOne, OthersLack, PutAddsOne}
+use Rattle.hb_ops.specs.LawsOfContents.{DelTakesOne, LonePage, OthersLack, PutAddsOne}
 use Rattle.hb_ops.proofs.Finds.{absent, contents, del_done, put_done, there}
 use Rattle.hb_ops.proofs.Lists.{whole}
 use Rattle.hb_ops.proofs.Pages.{Lack, in_range, live_so, page_at-suc, place_of, stands_among, with_page-there}
@@ -112,3 +112,10 @@ del_takes_one s id point allowed has others =
           ∙ del_done here.before records here.after point here.lack_before here.lack_after
           ∙ ap (λ (rs : List Record). finite.remove (contents rs) point) (sym here.is),
     )
+
+-- a file of one page has no other
+pub lone_page : LonePage
+lone_page s point one other page ne e =
+    let here = place_of s.pages other page e in
+    let lt = in_range s.pages here.0 page here.2 in
+    absurd (ne (omega (arith, here.1)))

@@ -14,6 +14,10 @@ use Rattle.hb_ops.specs.Operations.{IsAllowed, IsLicensed, effect_of, OpHas}
 abbrev pub OthersLack : FileState → ℕ → List ℕ → Type 0
 OthersLack s id point = (other : ℕ) (page : Page) → other ≢ id → page_of s other ≡ Some page → All (λ r. r.key ≢ point) (page_records page)
 
+-- In a file of one page no other page has a record.
+abbrev pub LonePage : Type 0
+LonePage = (s : FileState) (point : List ℕ) → length s.pages ≡ 1 → OthersLack s 1 point
+
 -- An allowed put adds exactly one record to the contents: its point wasn't there, and is now, with its body.
 abbrev pub PutAddsOne : Type 0
 PutAddsOne = (s : FileState) (id : ℕ) (rec : Record) → IsAllowed s (Put id rec) → length rec.key ≡ s.meta.k → OthersLack s id rec.key →
