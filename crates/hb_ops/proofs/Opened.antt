@@ -149,15 +149,15 @@ same_change p f g (Cut axis value left right) area placed cut e same =
     let from = side_from area axis value in
     elim (first_append p (leaves_of left below) (leaves_of right from) placed e) [
       | inl l ↦
-        let out : ¬ (Holds from p) = λ h. apart area axis value p cut.0 (first_held p left below placed cut.1 l) h in
-        let one = same_change p f g left below placed cut.1 l same in
-        let other : with_leaf_at p f right from ≡ with_leaf_at p g right from = unchanged p f right from cut.2 out ∙ sym (unchanged p g right from cut.2 out) in
-        λ i. Cut axis value (one i) (other i)
+          let out : ¬ (Holds from p) = λ h. apart area axis value p cut.0 (first_held p left below placed cut.1 l) h in
+          let one = same_change p f g left below placed cut.1 l same in
+          let other : with_leaf_at p f right from ≡ with_leaf_at p g right from = unchanged p f right from cut.2 out ∙ sym (unchanged p g right from cut.2 out) in
+          λ i. Cut axis value (one i) (other i)
       | inr r ↦
-        let out : ¬ (Holds below p) = λ h. apart area axis value p cut.0 h (first_held p right from placed cut.2 r) in
-        let one : with_leaf_at p f left below ≡ with_leaf_at p g left below = unchanged p f left below cut.1 out ∙ sym (unchanged p g left below cut.1 out) in
-        let other = same_change p f g right from placed cut.2 r same in
-        λ i. Cut axis value (one i) (other i)
+          let out : ¬ (Holds below p) = λ h. apart area axis value p cut.0 h (first_held p right from placed cut.2 r) in
+          let one : with_leaf_at p f left below ≡ with_leaf_at p g left below = unchanged p f left below cut.1 out ∙ sym (unchanged p g left below cut.1 out) in
+          let other = same_change p f g right from placed cut.2 r same in
+          λ i. Cut axis value (one i) (other i)
     ]
 
 -- the page that a change makes, from the records that it makes of the leaf's

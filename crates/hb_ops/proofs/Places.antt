@@ -124,11 +124,11 @@ without_at records p i rise here =
       here = λ d. ap (λ (x : List ℕ). is_ne (point_cmp x p)) (here.same_point d) ∙ ap is_ne (tied_itself nat_list_cmp_total p);
       others = λ k d ne lt. elim (cases_lt k i) [
         | inl before ↦
-          let less : point_cmp (get_or records k d).key p ≡ Less = subst (λ (x : List ℕ). point_cmp (get_or records k d).key x ≡ Less) (here.same_point d) (rise k i d before here.in_range) in
-          ap is_ne less
+            let less : point_cmp (get_or records k d).key p ≡ Less = subst (λ (x : List ℕ). point_cmp (get_or records k d).key x ≡ Less) (here.same_point d) (rise k i d before here.in_range) in
+            ap is_ne less
         | inr after ↦
-          let less : point_cmp p (get_or records k d).key ≡ Less = subst (λ (x : List ℕ). point_cmp x (get_or records k d).key ≡ Less) (here.same_point d) (rise i k d (omega arith) lt) in
-          ap is_ne (turned p (get_or records k d).key Less less)
+            let less : point_cmp p (get_or records k d).key ≡ Less = subst (λ (x : List ℕ). point_cmp x (get_or records k d).key ≡ Less) (here.same_point d) (rise i k d (omega arith) lt) in
+            ap is_ne (turned p (get_or records k d).key Less less)
       ];
     })
     ∙ ap (λ (n : ℕ). take i records ++ drop n records) (sym (add-one i))

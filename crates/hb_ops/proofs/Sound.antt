@@ -81,16 +81,16 @@ module _ (s : FileState) (n : ℕ) (page made : LivePage) (at : slice_get s.page
   pair_of_old : (id : ℕ) (old : LivePage) → live_page s id ≡ Some old → (new : LivePage) × Pair id old new
   pair_of_old id old e = elim (cases_eq id (suc n)) [
     | inl is ↦
-      let was : page ≡ old = same_live page old (sym (ap if_live page_before) ∙ ap (λ (m : ℕ). live_page s m) (sym is) ∙ e) in
-      (made, record { before = e; later = ap (λ (m : ℕ). live_page after m) is ∙ ap if_live page_after; alike = subst (λ (q : LivePage). IsLike s.meta q made) was like })
+        let was : page ≡ old = same_live page old (sym (ap if_live page_before) ∙ ap (λ (m : ℕ). live_page s m) (sym is) ∙ e) in
+        (made, record { before = e; later = ap (λ (m : ℕ). live_page after m) is ∙ ap if_live page_after; alike = subst (λ (q : LivePage). IsLike s.meta q made) was like })
     | inr ne ↦ (old, record { before = e; later = ap if_live (other_page id ne) ∙ e; alike = like_itself s.meta old })
   ]
 
   pair_of_new : (id : ℕ) (new : LivePage) → live_page after id ≡ Some new → (old : LivePage) × Pair id old new
   pair_of_new id new e = elim (cases_eq id (suc n)) [
     | inl is ↦
-      let now : made ≡ new = same_live made new (sym (ap if_live page_after) ∙ ap (λ (m : ℕ). live_page after m) (sym is) ∙ e) in
-      (page, record { before = ap (λ (m : ℕ). live_page s m) is ∙ ap if_live page_before; later = e; alike = subst (λ (q : LivePage). IsLike s.meta page q) now like })
+        let now : made ≡ new = same_live made new (sym (ap if_live page_after) ∙ ap (λ (m : ℕ). live_page after m) (sym is) ∙ e) in
+        (page, record { before = ap (λ (m : ℕ). live_page s m) is ∙ ap if_live page_before; later = e; alike = subst (λ (q : LivePage). IsLike s.meta page q) now like })
     | inr ne ↦ (new, record { before = sym (ap if_live (other_page id ne)) ∙ e; later = e; alike = like_itself s.meta new })
   ]
 

@@ -12,15 +12,17 @@
 //! the list, from 1.
 #![tactic(auto)]
 
-mod change;
+mod changes;
 mod edits;
 mod laws;
 mod local;
 mod meta;
 mod operations;
+#[cfg(test)]
+mod tests;
 mod threads;
 
-pub use change::{ChangeError, Changed, ChangedPage};
+pub use changes::{ChangeError, Changed, ChangedPage, change};
 pub use laws::{
     delete_takes_one_record, lone_page_has_no_others, operations_keep_a_file_sound,
     put_adds_one_record,

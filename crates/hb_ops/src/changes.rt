@@ -3,7 +3,7 @@ ghost use Rattle.hb_frag.specs.Leaves.{weight_of};
 ghost use Rattle.hb_frag.specs.declared.pages.Page.TheVariants.{Live};
 ghost use Rattle.hb_ops.specs.Operations.{IsAllowedOn, change_of, OpHas};
 ghost use Rattle.hb_ops.specs.Given.{given};
-ghost use Rattle.hb_ops.specs.declared.change.ChangeError.TheVariants.{Unfit, NoMemory};
+ghost use Rattle.hb_ops.specs.declared.changes.ChangeError.TheVariants.{Unfit, NoMemory};
 
 use crate::edits::{delete, put};
 use crate::{Meta, Op};
