@@ -1,5 +1,5 @@
 -- What a put and a delete make of the contents.
-use Rattle.std.proofs.Common.{◌≡◌, ◌≢◌, ℕ, zero, suc, ◌==◌, Bool, cond, List, [], ◌∷◌, ◌++◌, length, flat_map, slice_get, All, Any, Option, Some, None, refl, sym, ap, subst, ◌∙◌, arith, append_assoc, eq-eqb}
+use Rattle.std.proofs.Common.{◌≡◌, ◌≢◌, ℕ, suc, Bool, cond, List, [], ◌∷◌, ◌++◌, flat_map, slice_get, Option, Some, None, refl, sym, ap, ◌∙◌, arith, append_assoc, eq-eqb}
 use Rattle.std.specs.List.{AllByRecursion}
 use Rattle.std.specs.FinMap as finite
 use Rattle.std.proofs.lemmas.List.Concat.{flat_map-append}
@@ -15,8 +15,8 @@ use Rattle.hb_frag.specs.Leaves.{WellCut, leaf_at, leaves, leaves_of, records_of
 use Rattle.hb_frag.specs.Rules.{AreInOrder, IsInOrder}
 use Rattle.hb_ops.specs.declared.meta.Meta.{Meta}
 use Rattle.hb_ops.specs.declared.operations.Op.TheVariants.{Put, Del}
-use Rattle.hb_ops.specs.Files.{FileState, contents_of, file_records, live_page, page_of, page_records}
-use Rattle.hb_ops.specs.Operations.{FitsDel, FitsPut, HasRecordsAt, IsAllowedOn, change_of, effect_of, joined, nth_read, on_records, page_with, put_page, del_page, with_page, with_pages, without}
+use Rattle.hb_ops.specs.Files.{FileState, file_records, live_page, page_of, page_records}
+use Rattle.hb_ops.specs.Operations.{FitsDel, FitsPut, IsAllowedOn, change_of, effect_of, joined, nth_read, on_records, page_with, put_page, del_page, with_page, with_pages, without}
 use Rattle.hb_ops.specs.LawsOfContents.{DelTakesOne, LonePage, OthersLack, PutAddsOne}
 use Rattle.hb_ops.proofs.Finds.{absent, contents, del_done, put_done, there}
 use Rattle.hb_ops.proofs.Lists.{whole}

@@ -1,18 +1,16 @@
 -- A page whose leaf at a point has records: its weight and its tree once they are changed.
-use Rattle.std.proofs.Common.{◌≡◌, ◌≢◌, ℕ, zero, suc, ◌+◌, ◌<◌, ◌≤◌, ◌==◌, max, Bool, true, false, cond, IsTrue, List, [], ◌∷◌, ◌++◌, length, get_or, map, sum, take, drop, All, AllPairs, Any, Option, Some, None, refl, sym, ap, subst, ◌∙◌, arith, inl, inr, eq-eqb, ne_eqb, nat_lt}
-use Rattle.std.specs.List.{sum_by}
+use Rattle.std.proofs.Common.{◌≡◌, ◌≢◌, ℕ, ◌+◌, ◌<◌, ◌≤◌, ◌==◌, max, Bool, true, false, cond, List, [], ◌∷◌, ◌++◌, length, get_or, map, sum, take, drop, All, AllPairs, Any, Option, Some, None, sym, ap, subst, ◌∙◌, arith, inl, inr, eq-eqb, ne_eqb, nat_lt}
 use Rattle.std.proofs.lemmas.List.{map-append, length-append, length-take, length-drop}
-use Rattle.std.proofs.lemmas.List.Elements.{All-head, All-tail, recursion_from_All}
+use Rattle.std.proofs.lemmas.List.Elements.{All-head, All-tail}
 use Rattle.std.proofs.lemmas.List.Sums.{sum_by-append, sum_by-cons}
 use Rattle.hb_space.specs.Boxes.{Area, Holds, holds, side_below, side_from}
 use Rattle.hb_space.specs.declared.records.Record.{Record}
 use Rattle.hb_frag.specs.declared.leaves.Leaf.{Leaf}
 use Rattle.hb_frag.specs.declared.leaves.Leaf.TheVariants.{Records}
 use Rattle.hb_frag.specs.declared.pages.LivePage.{LivePage}
-use Rattle.hb_frag.specs.declared.paths.Side.{Side}
 use Rattle.hb_frag.specs.declared.paths.Side.TheVariants.{Left, Right}
 use Rattle.hb_frag.specs.Trees.{Tree, Tip, Cut}
-use Rattle.hb_frag.specs.Leaves.{IsWellCut, Placed, WellCut, first_at, leaf_at, leaf_weight, leaves, leaves_of, records_of, weight_of, with_leaf_at}
+use Rattle.hb_frag.specs.Leaves.{IsWellCut, Placed, WellCut, first_at, leaf_at, leaf_weight, leaves_of, records_of, weight_of, with_leaf_at}
 use Rattle.hb_frag.specs.Paths.{StaysInside, way_to}
 use Rattle.hb_frag.specs.Rules.{AreInOrder, IsInOrder, Precedes, capacity_of}
 use Rattle.hb_ops.specs.declared.meta.Meta.{Meta}

@@ -1,6 +1,5 @@
 -- A page whose leaf at a point has its records changed: what stays, and when it is well made again.
-use Rattle.std.proofs.Common.{◌≡◌, ◌≢◌, ℕ, zero, suc, ◌+◌, ◌<◌, ◌≤◌, ◌==◌, max, Bool, true, false, cond, IsTrue, List, [], ◌∷◌, ◌++◌, length, get_or, filter, All, AllPairs, Contains, Some, refl, sym, ap, subst, ◌∙◌, ◌⊎◌, arith, inl, inr, eq-eqb, append_assoc}
-use Rattle.std.specs.List.{AllByRecursion}
+use Rattle.std.proofs.Common.{◌≡◌, ℕ, zero, suc, ◌<◌, ◌≤◌, Bool, true, false, cond, List, [], ◌∷◌, ◌++◌, length, get_or, filter, All, AllPairs, Contains, Some, refl, sym, ap, subst, ◌∙◌, arith, inl, inr, eq-eqb}
 use Rattle.std.specs.Ordering.{is_gt, is_lt, is_ne, ordering_reverse}
 use Rattle.std.specs.declared.cmp.Ordering.{Ordering}
 use Rattle.std.specs.declared.cmp.Ordering.TheVariants.{Less, Equal, Greater}
@@ -15,8 +14,8 @@ use Rattle.hb_frag.specs.declared.leaves.Leaf.{Leaf}
 use Rattle.hb_frag.specs.declared.leaves.Leaf.TheVariants.{Records, Child, Sibling}
 use Rattle.hb_frag.specs.declared.pages.LivePage.{LivePage}
 use Rattle.hb_frag.specs.Trees.{Tree, Tip, Cut}
-use Rattle.hb_frag.specs.Leaves.{IsWellCut, Placed, WellCut, leaf_at, leaves, leaves_of, records_of, siblings, siblings_of, weight_of, with_leaf_at}
-use Rattle.hb_frag.specs.Rules.{AreAlike, AreInOrder, BelongsAt, IsInOrder, IsNormal, IsSiblingTip, Precedes, capacity_of}
+use Rattle.hb_frag.specs.Leaves.{IsWellCut, Placed, WellCut, leaf_at, leaves, leaves_of, siblings, weight_of, with_leaf_at}
+use Rattle.hb_frag.specs.Rules.{AreAlike, BelongsAt, IsInOrder, IsNormal, IsSiblingTip, Precedes, capacity_of}
 use Rattle.hb_ops.specs.declared.meta.Meta.{Meta}
 use Rattle.hb_ops.specs.Sound.{FitsFile}
 use Rattle.hb_ops.specs.Operations.{FitsDel, FitsPut, del_page, joined, on_records, page_with, put_page, without}

@@ -1,8 +1,8 @@
 -- A file with the records of one leaf changed: it is as sound as before.
-use Rattle.std.proofs.Common.{◌≡◌, ◌≢◌, ℕ, zero, suc, ◌+◌, ◌<◌, ◌==◌, Bool, cond, List, [], ◌∷◌, ◌++◌, length, set, slice_get, Contains, Option, Some, None, refl, sym, ap, subst, ◌∙◌, arith, inl, inr}
+use Rattle.std.proofs.Common.{◌≡◌, ◌≢◌, ℕ, zero, suc, ◌+◌, ◌<◌, List, [], ◌∷◌, length, set, slice_get, Contains, Option, Some, refl, sym, ap, subst, ◌∙◌, arith, inl, inr}
 use Rattle.std.proofs.lemmas.Bool.{cases_eq}
 use Rattle.std.proofs.lemmas.List.{length-set}
-use Rattle.hb_space.specs.Boxes.{Area, Within, whole_area}
+use Rattle.hb_space.specs.Boxes.{Area, Within}
 use Rattle.hb_space.specs.declared.records.Record.{Record}
 use Rattle.hb_frag.specs.declared.leaves.Leaf.TheVariants.{Child}
 use Rattle.hb_frag.specs.declared.pages.LivePage.{LivePage}
@@ -11,10 +11,10 @@ use Rattle.hb_frag.specs.declared.pages.Page.TheVariants.{Live, Free}
 use Rattle.hb_frag.specs.Leaves.{leaves_of, siblings_of}
 use Rattle.hb_ops.specs.declared.meta.Meta.{Meta}
 use Rattle.hb_ops.specs.declared.operations.Op.TheVariants.{Put, Del}
-use Rattle.hb_ops.specs.Files.{FileState, if_live, live_page, page_at, page_of}
-use Rattle.hb_ops.specs.Operations.{change_of, effect_of, joined, nth_read, page_with, put_page, del_page, with_page, with_pages, without}
+use Rattle.hb_ops.specs.Files.{FileState, if_live, live_page, page_of}
+use Rattle.hb_ops.specs.Operations.{change_of, joined, nth_read, page_with, with_page, with_pages, without}
 use Rattle.hb_ops.specs.LawsOfContents.{StaysSound}
-use Rattle.hb_ops.specs.Sound.{AreWellMade, ChildrenMatch, FitsFile, IsChain, IsCounted, IsCovered, IsRooted, IsSound, SiblingsMatch, count_live, count_name, times_named}
+use Rattle.hb_ops.specs.Sound.{ChildrenMatch, FitsFile, IsChain, IsCounted, IsCovered, IsRooted, IsSound, SiblingsMatch, count_live, count_name, times_named}
 use Rattle.hb_ops.proofs.Contents.{del_on, put_on}
 use Rattle.hb_ops.proofs.Pages.{in_range, live_so, page_at-suc, page_at-zero, place_of, with_page-there}
 use Rattle.hb_ops.proofs.Remade.{children_again, del_made, placed, put_made, siblings_again}

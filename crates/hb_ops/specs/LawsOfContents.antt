@@ -1,7 +1,6 @@
 -- What a put and a delete make of a file, as laws.
 use Rattle.std.specs.Prelude.{◌≡◌, ◌≢◌, ℕ, List, length, All, Some, None}
 use Rattle.std.specs.FinMap as finite
-use Rattle.hb_space.specs.Points.{IsPoint}
 use Rattle.hb_space.specs.declared.records.Record.{Record}
 use Rattle.hb_frag.specs.declared.pages.Page.{Page}
 use Rattle.hb_ops.specs.declared.operations.Op.{Op}

@@ -182,10 +182,20 @@ fn shown(alloc: Global, changed: &Changed) -> Result<String, NoMemory> {
     Ok(text)
 }
 
-// What the operation makes of a page of the level, as text.
-fn told(alloc: Global, dcap: u16, level: u8, page: &str, op: &str) -> Result<String, Fail> {
-    let meta = meta_of(dcap);
-    let page = page_of(alloc, level, page)?;
+// The page of the level and the text that stand behind `LEVEL `.
+fn leveled(alloc: Global, text: &str) -> Result<LivePage, Fail>
+    ensures { IfOk result (λ page. weight_of page.frag < 2 ^ 32) }
+{
+    let (level, page) = text.split_once(' ').ok_or("no level")?;
+    page_of(alloc, level.parse()?, page)
+}
+
+// What the operation makes of a page, from `DCAP LEVEL PAGE | OPERATION`.
+fn told(alloc: Global, text: &str) -> Result<String, Fail> {
+    let (file, op) = text.split_once(" | ").ok_or("no operation")?;
+    let (dcap, page) = file.split_once(' ').ok_or("no capacity")?;
+    let meta = meta_of(dcap.parse()?);
+    let page = leveled(alloc, page)?;
     let op = op_of(op)?;
     match change(alloc, &op, &meta, Some(&page), None, None) {
         Ok(changed) => Ok(shown(alloc, &changed)?),
@@ -196,50 +206,39 @@ fn told(alloc: Global, dcap: u16, level: u8, page: &str, op: &str) -> Result<Str
 #[test]
 fn puts_and_deletes(rt: HostRuntime) -> Result<(), Fail> {
     let alloc = rt.alloc();
-    for (dcap, level, page, op, wanted) in [
+    for row in [
         // an empty page, and the places before, between and behind others
-        (6, 0, "", "put 7=a", "3: 7=a"),
-        (6, 0, "10=a 20=b", "put 5=c", "3: 5=c 10=a 20=b"),
-        (6, 0, "10=a 20=b", "put 15=c", "3: 10=a 15=c 20=b"),
-        (6, 0, "10=a 20=b", "put 25=c", "3: 10=a 20=b 25=c"),
+        "6 0  | put 7=a => 3: 7=a",
+        "6 0 10=a 20=b | put 5=c => 3: 5=c 10=a 20=b",
+        "6 0 10=a 20=b | put 15=c => 3: 10=a 15=c 20=b",
+        "6 0 10=a 20=b | put 25=c => 3: 10=a 20=b 25=c",
         // an empty leaf weighs 1 already, so a full page takes its first record
-        (
-            5,
-            0,
-            "1=a 2=b 3=c / 5: >2 / 8:",
-            "put 9=d",
-            "3: 1=a 2=b 3=c / 5:>2 / 8: 9=d",
-        ),
-        (5, 0, "1=a 2=b 3=c / 5: >2 / 8:", "put 4=d", "Unfit"),
-        (
-            6,
-            0,
-            "1=a 2=b 3=c / 5: >2 / 8:",
-            "put 4=d",
-            "3: 1=a 2=b 3=c 4=d / 5:>2 / 8:",
-        ),
-        (5, 0, "1=a 2=b 3=c / 5: >2 / 8: 9=d", "put 8=e", "Unfit"),
+        "5 0 1=a 2=b 3=c / 5: >2 / 8: | put 9=d => 3: 1=a 2=b 3=c / 5:>2 / 8: 9=d",
+        "5 0 1=a 2=b 3=c / 5: >2 / 8: | put 4=d => Unfit",
+        "6 0 1=a 2=b 3=c / 5: >2 / 8: | put 4=d => 3: 1=a 2=b 3=c 4=d / 5:>2 / 8:",
+        "5 0 1=a 2=b 3=c / 5: >2 / 8: 9=d | put 8=e => Unfit",
         // a point that is there, one in a box that was given away, a page of a higher level
-        (6, 0, "10=a 20=b", "put 20=c", "Unfit"),
-        (6, 0, "10=a / 40: >2", "put 40=c", "Unfit"),
-        (6, 0, "10=a / 40: >2", "put 39=c", "3: 10=a 39=c / 40:>2"),
-        (6, 1, "^2 / 40: ^1", "put 7=c", "Unfit"),
+        "6 0 10=a 20=b | put 20=c => Unfit",
+        "6 0 10=a / 40: >2 | put 40=c => Unfit",
+        "6 0 10=a / 40: >2 | put 39=c => 3: 10=a 39=c / 40:>2",
+        "6 1 ^2 / 40: ^1 | put 7=c => Unfit",
         // a page that breaks a rule of its own
-        (6, 0, "10=a / 40: 50=b", "put 7=c", "Unfit"),
-        (6, 2, "^2", "put 7=c", "Unfit"),
+        "6 0 10=a / 40: 50=b | put 7=c => Unfit",
+        "6 2 ^2 | put 7=c => Unfit",
         // what is there goes, and nothing else
-        (6, 0, "10=a 20=b 30=c", "del 10", "3: 20=b 30=c"),
-        (6, 0, "10=a 20=b 30=c", "del 20", "3: 10=a 30=c"),
-        (6, 0, "10=a 20=b 30=c", "del 30", "3: 10=a 20=b"),
-        (6, 0, "10=a / 40: >2", "del 10", "3: / 40:>2"),
-        (6, 0, "10=a 20=b 30=c", "del 25", "Unfit"),
-        (6, 0, "10=a / 40: >2", "del 40", "Unfit"),
-        (6, 0, "", "del 0", "Unfit"),
-        (2, 0, "10=a 20=b 30=c", "del 10", "Unfit"),
-        (6, 1, "^2 / 40: ^1", "del 7", "Unfit"),
+        "6 0 10=a 20=b 30=c | del 10 => 3: 20=b 30=c",
+        "6 0 10=a 20=b 30=c | del 20 => 3: 10=a 30=c",
+        "6 0 10=a 20=b 30=c | del 30 => 3: 10=a 20=b",
+        "6 0 10=a / 40: >2 | del 10 => 3: / 40:>2",
+        "6 0 10=a 20=b 30=c | del 25 => Unfit",
+        "6 0 10=a / 40: >2 | del 40 => Unfit",
+        "6 0  | del 0 => Unfit",
+        "2 0 10=a 20=b 30=c | del 10 => Unfit",
+        "6 1 ^2 / 40: ^1 | del 7 => Unfit",
     ] {
-        let told = told(alloc, dcap, level, page, op)?;
-        assert_eq!(rt; told.as_str(), wanted, "{page} {op}");
+        let (given, wanted) = row.split_once(" => ").ok_or("no row")?;
+        let told = told(alloc, given)?;
+        assert_eq!(rt; told.as_str(), wanted, "{given}");
     }
     Ok(())
 }
@@ -255,43 +254,57 @@ fn pages_out_of_use(rt: HostRuntime) -> Result<(), Fail> {
     Ok(())
 }
 
+// The first rule that a page breaks, from `LEVEL PAGE`. 0 where it keeps them all.
+fn broken_rule(alloc: Global, text: &str) -> Result<u8, Fail> {
+    let page = leveled(alloc, text)?;
+    Ok(local_rule(&page, &meta_of(6)).unwrap_or(0))
+}
+
 #[test]
 fn first_broken_rules(rt: HostRuntime) -> Result<(), Fail> {
     let alloc = rt.alloc();
-    for (level, page, wanted) in [
-        (0, "", None),
-        (0, "10=a 20=b / 40: >2 / 60: 70=c", None),
-        (1, "^2 / 40: ^3 / 60: >2", None),
-        (1, "^2 / 40: >2", None),
+    for row in [
+        "0  => 0",
+        "0 10=a 20=b / 40: >2 / 60: 70=c => 0",
+        "1 ^2 / 40: ^3 / 60: >2 => 0",
+        "1 ^2 / 40: >2 => 0",
         // the level
-        (2, "^2", Some(3)),
+        "2 ^2 => 3",
         // cuts at and above the edges of a box
-        (0, "10=a / 0: >2", Some(4)),
-        (0, "10=a / 40: >2 / 30: 70=c", Some(4)),
+        "0 10=a / 0: >2 => 4",
+        "0 10=a / 40: >2 / 30: 70=c => 4",
         // kinds of leaves, the weight, a lone sibling leaf
-        (0, "^2", Some(5)),
-        (1, "10=a", Some(5)),
-        (0, "1=a 2=b 3=c 4=d 5=e 6=f 7=g", Some(5)),
-        (0, "1=a 2=b 3=c 4=d 5=e 6=f", None),
-        (1, "^2 / 2: ^3 / 3: ^2 / 4: ^3 / 5: ^2", Some(5)),
-        (0, ">2", Some(5)),
+        "0 ^2 => 5",
+        "1 10=a => 5",
+        "0 1=a 2=b 3=c 4=d 5=e 6=f 7=g => 5",
+        "0 1=a 2=b 3=c 4=d 5=e 6=f => 0",
+        "1 ^2 / 2: ^3 / 3: ^2 / 4: ^3 / 5: ^2 => 5",
+        "0 >2 => 5",
         // a record outside its box, and points that are equal and that fall
-        (0, "50=a / 40: >2", Some(6)),
-        (0, "10=a 10=b", Some(6)),
-        (0, "20=a 10=b", Some(6)),
+        "0 50=a / 40: >2 => 6",
+        "0 10=a 10=b => 6",
+        "0 20=a 10=b => 6",
         // sides that should be one leaf
-        (0, "10=a / 40: 50=b", Some(10)),
-        (1, "^2 / 40: ^2", Some(10)),
+        "0 10=a / 40: 50=b => 10",
+        "1 ^2 / 40: ^2 => 10",
         // two rules at once
-        (2, "10=a / 0: >2", Some(3)),
-        (0, "^2 / 0: ^2", Some(4)),
-        (0, "50=a / 40: ^2", Some(5)),
-        (0, "50=a / 40: 60=b", Some(6)),
+        "2 10=a / 0: >2 => 3",
+        "0 ^2 / 0: ^2 => 4",
+        "0 50=a / 40: ^2 => 5",
+        "0 50=a / 40: 60=b => 6",
     ] {
-        let made = page_of(alloc, level, page)?;
-        let rule = local_rule(&made, &meta_of(6));
-        assert!(rt; rule == wanted, "{page}");
+        let (given, wanted) = row.split_once(" => ").ok_or("no row")?;
+        assert_eq!(rt;
+            broken_rule(alloc, given)?,
+            wanted.parse::<u8>()?,
+            "{given}"
+        );
     }
+    Ok(())
+}
+
+#[test]
+fn box_of_two_attributes(rt: HostRuntime) -> Result<(), Fail> {
     let wide = LivePage {
         level: 0,
         area: Area::whole(2),
