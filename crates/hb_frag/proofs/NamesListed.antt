@@ -1,11 +1,10 @@
 -- Names of pages in lists.
-use Rattle.std.proofs.Common.{◌≡◌, ◌≢◌, ℕ, eq-eqb, ◌==◌, ◌<◌, Bool, true, false, not, cond, ◌||◌, ◌&&◌, ◌⊎◌, inl, inr, ◌↔◌, zero, suc, List, [], ◌∷◌, ◌++◌, length, get_or, Option, Some, None, IsTrue, IsSome, refl, sym, ap, subst, ◌∙◌, arith}
-use Rattle.std.specs.List.{Contains, list_any, filter, Any, All}
+use Rattle.std.proofs.Common.{◌≡◌, ◌≢◌, ℕ, eq-eqb, ◌==◌, ◌<◌, Bool, true, false, not, cond, ◌||◌, ◌&&◌, inl, inr, ◌↔◌, zero, suc, List, [], ◌∷◌, ◌++◌, length, get_or, Some, None, IsTrue, IsSome, refl, sym, ap, ◌∙◌, arith}
+use Rattle.std.specs.List.{Contains, list_any, filter, Any}
 use Rattle.std.proofs.lemmas.List.{append_assoc, append-nil}
-use Rattle.std.proofs.lemmas.List.Elements.{Contains-append_left, Contains-append_right, Contains-append_cases}
+use Rattle.std.proofs.lemmas.List.Elements.{Contains-append_right, Contains-append_cases}
 use Rattle.std.proofs.lemmas.List.Folds.{list_any-append}
 use Rattle.std.proofs.lemmas.Bool.{cases_eq, ne_eqb}
-use Rattle.std.proofs.lemmas.Bool.Decides.{nat_tests}
 use Rattle.hb_space.specs.Boxes.{Area}
 use Rattle.hb_frag.specs.declared.leaves.Leaf.{Leaf}
 use Rattle.hb_frag.specs.declared.leaves.Leaf.TheVariants.{Records, Child, Sibling}

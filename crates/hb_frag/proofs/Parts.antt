@@ -1,15 +1,13 @@
 -- Parts of a tree, and another part in the place of one.
-use Rattle.std.proofs.Common.{◌≡◌, ℕ, zero, suc, ◌+◌, ◌↔◌, List, [], ◌∷◌, ◌++◌, map, Option, Some, None, IsSome, refl, sym, ap, subst, ◌∙◌, arith}
-use Rattle.std.specs.List.{sum}
-use Rattle.std.proofs.lemmas.List.{append_assoc, append-nil, map-append}
+use Rattle.std.proofs.Common.{◌≡◌, ℕ, ◌+◌, ◌↔◌, List, [], ◌∷◌, ◌++◌, Some, IsSome, refl, sym, ap, subst, ◌∙◌, arith}
+use Rattle.std.proofs.lemmas.List.{append_assoc, append-nil}
 use Rattle.std.proofs.lemmas.Grind.{common_steps}
-use Rattle.hb_space.specs.Boxes.{Area, IsArea, Holds, Within, side_below, side_from}
-use Rattle.hb_space.proofs.Boxes.{Holds-side_below, Holds-side_from, Within-from_points}
-use Rattle.hb_frag.specs.declared.leaves.Leaf.{Leaf}
+use Rattle.hb_space.specs.Boxes.{Area, IsArea, side_below, side_from}
+use Rattle.hb_space.proofs.Boxes.{Holds-side_below, Holds-side_from}
 use Rattle.hb_frag.specs.declared.paths.Side.{Side}
 use Rattle.hb_frag.specs.declared.paths.Side.TheVariants.{Left, Right}
 use Rattle.hb_frag.specs.Trees.{Tree, Tip, Cut}
-use Rattle.hb_frag.specs.Leaves.{Placed, IsWellCut, leaves_of, leaves, leaf_weight, weight_of}
+use Rattle.hb_frag.specs.Leaves.{IsWellCut, leaves_of, weight_of}
 use Rattle.hb_frag.specs.Paths.{part_at, with_part, StaysInside}
 use Rattle.hb_frag.specs.Laws.{IsStretch, IsPart}
 use Rattle.hb_frag.proofs.Sides.{IsArea-side_below, IsArea-side_from}

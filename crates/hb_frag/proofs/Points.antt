@@ -1,11 +1,10 @@
 -- The leaf at a point, and the way to it.
-use Rattle.std.proofs.Common.{◌≡◌, ℕ, ◌<◌, ◌≤◌, ◌⊎◌, inl, inr, Bool, true, false, cond, List, [], ◌∷◌, ◌++◌, length, get_or, Option, Some, None, IsTrue, refl, sym, ap, ◌∙◌, arith, nat_lt}
+use Rattle.std.proofs.Common.{◌≡◌, ℕ, ◌≤◌, inl, inr, List, [], ◌∷◌, ◌++◌, length, get_or, Some, None, refl, sym, ◌∙◌, arith}
 use Rattle.std.proofs.lemmas.Bool.{cases_lt}
-use Rattle.hb_space.specs.Boxes.{Area, IsArea, Holds, Cuts, holds, side_below, side_from}
+use Rattle.hb_space.specs.Boxes.{Area, IsArea, Holds, side_below, side_from}
 use Rattle.hb_space.proofs.Boxes.{Holds-side_below, Holds-side_from}
 use Rattle.hb_frag.specs.declared.leaves.Leaf.{Leaf}
 use Rattle.hb_frag.specs.declared.paths.Side.{Side}
-use Rattle.hb_frag.specs.declared.paths.Side.TheVariants.{Left, Right}
 use Rattle.hb_frag.specs.Trees.{Tree, Tip, Cut}
 use Rattle.hb_frag.specs.Leaves.{Placed, IsWellCut, first_at, leaves_of, with_leaf_at}
 use Rattle.hb_frag.specs.Paths.{part_at, with_part, way_to}
@@ -53,29 +52,33 @@ way_ends (Tip leaf) area p h cut held =
 way_ends (Cut axis value left right) area p h cut held =
     elim (cases_lt (get_or p axis 0) value) [
       | inl l ↦
-        let w = way_ends left (side_below area axis value) p (IsArea-side_below area axis value h cut.0) cut.1 ((Holds-side_below area axis value p h cut.0).1 (held, l)) in
-        let same = kept_outside right (side_from area axis value) p in
-        (w.0, record {
-          first = going_left axis value left right area p w.0 w.1.first;
-          part = rw (is_below _ _ l) w.1.part;
-          held = w.1.held;
-          changed = λ change. 
-              let here = w.1.changed change in
-              let there = same change (IsArea-side_from area axis value h cut.0) cut.2 (held.same ∙ sym (same-side_from area axis value)) (not_from area axis value p cut.0 l) in
-              rw (is_below _ _ l) (cc (here, there));
-        })
+          let w = way_ends left (side_below area axis value) p (IsArea-side_below area axis value h cut.0) cut.1 ((Holds-side_below area axis value p h cut.0).1 (held, l)) in
+          let same = kept_outside right (side_from area axis value) p in (
+            w.0,
+            record {
+              first = going_left axis value left right area p w.0 w.1.first;
+              part = rw (is_below _ _ l) w.1.part;
+              held = w.1.held;
+              changed = λ change.
+                  let here = w.1.changed change in
+                  let there = same change (IsArea-side_from area axis value h cut.0) cut.2 (held.same ∙ sym (same-side_from area axis value)) (not_from area axis value p cut.0 l) in
+                  rw (is_below _ _ l) (cc (here, there));
+            },
+          )
       | inr l ↦
-        let w = way_ends right (side_from area axis value) p (IsArea-side_from area axis value h cut.0) cut.2 ((Holds-side_from area axis value p cut.0).1 (held, l)) in
-        let same = kept_outside left (side_below area axis value) p in
-        (w.0, record {
-          first = going_right axis value left right area p h cut held.same l ∙ w.1.first;
-          part = rw (isnt_below _ _ l) w.1.part;
-          held = w.1.held;
-          changed = λ change. 
-              let here = w.1.changed change in
-              let there = same change (IsArea-side_below area axis value h cut.0) cut.1 held.same (not_below area axis value p h cut.0 l) in
-              rw (isnt_below _ _ l) (cc (here, there));
-        })
+          let w = way_ends right (side_from area axis value) p (IsArea-side_from area axis value h cut.0) cut.2 ((Holds-side_from area axis value p cut.0).1 (held, l)) in
+          let same = kept_outside left (side_below area axis value) p in (
+            w.0,
+            record {
+              first = going_right axis value left right area p h cut held.same l ∙ w.1.first;
+              part = rw (isnt_below _ _ l) w.1.part;
+              held = w.1.held;
+              changed = λ change.
+                  let here = w.1.changed change in
+                  let there = same change (IsArea-side_below area axis value h cut.0) cut.1 held.same (not_below area axis value p h cut.0 l) in
+                  rw (isnt_below _ _ l) (cc (here, there));
+            },
+          )
     ]
 
 -- so the way leads to the leaf at the point

@@ -1,10 +1,7 @@
 -- The sides of a box that a plane parts.
-use Rattle.std.proofs.Common.{◌≡◌, ℕ, ◌<◌, ◌≤◌, ◌-◌, Bool, true, false, List, length, get_or, set, IsTrue, inl, inr, refl, sym, ap, ◌∙◌, arith, nat_lt}
+use Rattle.std.proofs.Common.{◌≡◌, ℕ, ◌<◌, ◌≤◌, ◌-◌, true, false, List, length, get_or, inl, inr, refl, ap, arith, nat_lt}
 use Rattle.std.proofs.lemmas.List.{length-set}
-use Rattle.std.proofs.lemmas.Bool.{cases_lt}
 use Rattle.std.proofs.lemmas.Bool.Decides.{nat_tests}
-use Rattle.std.specs.List.{All}
-use Rattle.hb_space.specs.Points.{IsPoint}
 use Rattle.hb_space.specs.Boxes.{Area, IsArea, Holds, Cuts, holds, side_below, side_from}
 use Rattle.hb_space.proofs.Lists.{set_cases, IsPoint-set}
 use Rattle.hb_space.proofs.Boxes.{test-from_Holds, Holds-from_test, Holds-side_below, Holds-side_from}

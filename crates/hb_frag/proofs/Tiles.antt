@@ -1,10 +1,10 @@
 -- The boxes of a tree's leaves part its box.
-use Rattle.std.proofs.Common.{◌≡◌, ℕ, zero, suc, ◌<◌, ◌≤◌, ◌⊎◌, inl, inr, ◌↔◌, Bool, true, false, cond, List, [], ◌∷◌, ◌++◌, length, get_or, map, Option, Some, None, IsTrue, IsSome, refl, sym, ap, subst, ◌∙◌, arith}
+use Rattle.std.proofs.Common.{◌≡◌, ℕ, zero, suc, ◌<◌, ◌⊎◌, inl, inr, ◌↔◌, true, false, cond, List, [], ◌∷◌, ◌++◌, length, get_or, map, Some, IsSome, refl, sym, ap, subst, ◌∙◌, arith}
 use Rattle.std.specs.List.{All, Any, AllPairs, Contains}
 use Rattle.std.proofs.lemmas.Bool.{and_parts}
-use Rattle.std.proofs.lemmas.List.{map-append, append_assoc}
+use Rattle.std.proofs.lemmas.List.{map-append}
 use Rattle.std.proofs.lemmas.List.Elements.{All-append}
-use Rattle.hb_space.specs.Boxes.{Area, IsArea, Holds, Meets, Within, Cuts, Disjoint, holds, is_between, side_below, side_from}
+use Rattle.hb_space.specs.Boxes.{Area, IsArea, Holds, Within, Disjoint, holds, is_between, side_below, side_from}
 use Rattle.hb_space.proofs.Boxes.{Holds-side_below, Holds-side_from, side_cover, Holds-from_test, Within-from_points}
 use Rattle.hb_frag.specs.declared.leaves.Leaf.{Leaf}
 use Rattle.hb_frag.specs.Trees.{Tree, Tip, Cut}
@@ -142,9 +142,9 @@ first_is (x ∷ xs) p w h e =
     let here = held_from_test x.area p (h zero x (omega arith)) in
     elim (holds x.area p) as (λ b. (b ≡ true → Holds x.area p) → cond b (Some x) (first_at p xs) ≡ Some w → Contains (x ∷ xs) w × Holds w.area p) [
       | true ↦ λ here e.
-        let same : x ≡ w = cc in
-        let P : Placed → Type 0 = λ l. Contains (x ∷ xs) l × Holds l.area p in
-        subst P same ((zero, omega arith, refl), here refl)
+          let same : x ≡ w = cc in
+          let P : Placed → Type 0 = λ l. Contains (x ∷ xs) l × Holds l.area p in
+          subst P same ((zero, omega arith, refl), here refl)
       | false ↦ λ here e. let v = rest e in ((suc v.0.0, omega (arith, v.0.1), v.0.2), v.1)
     ] here e
 

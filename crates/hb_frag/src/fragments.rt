@@ -1,4 +1,4 @@
-ghost use Rattle.std.specs.Prelude.{◌≡◌, ◌<◌, ◌^◌, ◌↔◌, ◌++◌, Some, None, length, All, IfOk, IsTrue, MatchOption, OnOk};
+ghost use Rattle.std.specs.Prelude.{◌≡◌, ◌<◌, ◌^◌, ◌↔◌, ◌++◌, Some, None, length, All, IfOk, IsSome, IsTrue, MatchOption, OnOk};
 ghost use Rattle.std.specs.List.{Contains};
 ghost use Rattle.hb_space.specs.Boxes.{Holds, Meets};
 ghost use Rattle.hb_frag.specs.Trees.{Tip, Cut};
@@ -76,8 +76,29 @@ impl Frag {
         }
     }
 
-    #[tactic(auto, using(crate::proofs::Points::going_left, crate::proofs::Points::going_right, crate::proofs::Sides::held_test))]
+    /// Whether every cut cuts its box, in a part with this box.
+    pub(crate) fn is_well_cut(&self, area: Area) -> bool
+        ensures { IsTrue result ↔ IsWellCut self.now area }
+    {
+        match &self.node {
+            Node::Tip(_) => true,
+            Node::Cut {
+                axis,
+                value,
+                left,
+                right,
+            } => {
+                if !area.cuts(*axis, *value) {
+                    return false;
+                }
+                let (below, from) = area.cut(*axis, *value);
+                left.is_well_cut(below) && right.is_well_cut(from)
+            }
+        }
+    }
+
     /// The leaf whose box holds the point, and that box, in a part with this box.
+    #[tactic(auto, using(crate::proofs::Points::going_left, crate::proofs::Points::going_right, crate::proofs::Sides::held_test))]
     pub(crate) fn leaf_at(&self, area: Area, p: &Point) -> (&Leaf, Area)
         requires well_cut { IsWellCut self.now area }
         requires held { Holds area p.now }
@@ -93,7 +114,8 @@ impl Frag {
                 right,
             } => {
                 let (below, from) = area.cut(*axis, *value);
-                if p.values()[usize::from(*axis)] < *value {
+                let at = usize::from(*axis);
+                if p.values()[at] < *value {
                     left.leaf_at(below, p)
                 } else {
                     right.leaf_at(from, p)
@@ -149,8 +171,8 @@ impl Frag {
         }
     }
 
-    #[tactic(auto, using(crate::proofs::NamesListed::listing))]
     /// Adds the pages that child leaves name to the list, each that isn't in it yet.
+    #[tactic(auto, using(crate::proofs::NamesListed::listing))]
     pub(crate) fn list_children(&self, pages: &mut Pages) -> Result<(), NoMemory>
         ensures { OnOk result (pages.new ≡ with_names pages.old (child_names (leaves self.now))) }
     {
@@ -163,9 +185,9 @@ impl Frag {
         }
     }
 
-    #[tactic(auto, using(crate::proofs::NamesListed::finding))]
     /// The box of the first sibling leaf from the left that names the page, in a part with this
     /// box.
+    #[tactic(auto, using(crate::proofs::NamesListed::finding))]
     pub(crate) fn sibling_area(&self, area: Area, id: u32) -> Option<Area>
         requires { IsWellCut self.now area }
         ensures { result ≡ first_named id (siblings (leaves_of self.now area)) }
@@ -210,9 +232,10 @@ impl Frag {
     /// The part to which the steps lead, and its box, in a part with this box.
     pub(crate) fn part(&self, area: Area, path: &[Side]) -> Option<(&Frag, Area)>
         requires { IsWellCut self.now area }
-        ensures { MatchOption result
+        ensures value { MatchOption result
             (part_at path.now self.now area ≡ None)
             (λ part. part_at path.now self.now area ≡ Some (part.0.now, part.1)) }
+        ensures inside { IsSome result ↔ StaysInside path.now self.now }
     {
         match path {
             [] => Some((self, area)),

@@ -3,7 +3,7 @@ ghost use Rattle.std.specs.List.{Contains};
 ghost use Rattle.hb_space.specs.Boxes.{Holds};
 ghost use Rattle.hb_frag.specs.Trees.{Tip};
 ghost use Rattle.hb_frag.specs.Leaves.{Placed, leaf_at, with_leaf_at, leaves, child_names, firsts, first_named, siblings_of, weight_of, DirectlyCovers, WellCut};
-ghost use Rattle.hb_frag.specs.Paths.{part_at, with_part, way_to};
+ghost use Rattle.hb_frag.specs.Paths.{part_at, with_part, way_to, StaysInside};
 
 use crate::records::same_box;
 use crate::{Frag, Leaf, Pages, Path};
@@ -31,6 +31,14 @@ pub enum Page {
 }
 
 impl LivePage {
+    /// Whether every cut cuts its box: some points of the box lie below the cut's value, and
+    /// others don't.
+    pub fn is_well_cut(&self) -> bool
+        ensures { IsTrue result ↔ WellCut self.now }
+    {
+        self.frag.is_well_cut(same_box(&self.area))
+    }
+
     /// The leaf whose box holds the point, and that box.
     pub fn leaf_at(&self, p: &Point) -> (&Leaf, Area)
         requires well_cut { WellCut self.now }
@@ -72,8 +80,8 @@ impl LivePage {
         self.frag.names(id)
     }
 
-    #[tactic(auto, using(crate::proofs::NamesListed::all_firsts))]
     /// The pages that child leaves name, each once, where it stands first from the left.
+    #[tactic(auto, using(crate::proofs::NamesListed::all_firsts))]
     pub fn children(&self, alloc: Global) -> Result<Pages, NoMemory>
         ensures { IfOk result (λ pages. pages ≡ firsts (child_names (leaves self.now.frag))) }
     {
@@ -106,9 +114,10 @@ impl LivePage {
     /// page.
     pub fn subtree(&self, path: &Path) -> Option<(&Frag, Area)>
         requires { WellCut self.now }
-        ensures { MatchOption result
+        ensures value { MatchOption result
             (part_at path.now self.now.frag self.now.area ≡ None)
             (λ part. part_at path.now self.now.frag self.now.area ≡ Some (part.0.now, part.1)) }
+        ensures inside { IsSome result ↔ StaysInside path.now self.now.frag }
     {
         self.frag.part(same_box(&self.area), path.as_slice())
     }

@@ -1,4 +1,4 @@
-use Rattle.std.proofs.Common.{◌≡◌, ◌↔◌, IsTrue, not, [], ◌∷◌, sym, subst}
+use Rattle.std.proofs.Common.{◌↔◌, IsTrue, not, [], ◌∷◌, sym, subst}
 use Rattle.hb_frag.specs.declared.leaves.Leaf.{Leaf}
 use Rattle.hb_frag.specs.Leaves.{siblings}
 use Rattle.hb_frag.proofs.Clear.{AllClear, clear_alone}
