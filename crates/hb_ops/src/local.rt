@@ -22,7 +22,7 @@ pub fn local_rule(page: &LivePage, meta: &Meta) -> Option<u8>
     if !fits(page, meta) {
         return Some(3);
     }
-    if !is_well_cut(&page.frag, &page.area) {
+    if !page.is_well_cut() {
         return Some(4);
     }
     if !is_filled_right(page, meta) {
@@ -42,28 +42,6 @@ fn fits(page: &LivePage, meta: &Meta) -> bool
     ensures { IsTrue result ↔ Fits page.now meta.now.k meta.now.height }
 {
     page.level < meta.height && page.area.lo().attributes() == meta.k
-}
-
-// Rule 4: every cut cuts its box, in a part with this box.
-fn is_well_cut(frag: &Frag, area: &Area) -> bool
-    ensures { IsTrue result ↔ IsWellCut frag.now area.now }
-{
-    match &frag.node {
-        Node::Tip(_) => true,
-        Node::Cut {
-            axis,
-            value,
-            left,
-            right,
-        } => {
-            if area.cuts(*axis, *value) {
-                let (below, from) = area.cut(*axis, *value);
-                is_well_cut(left, &below) && is_well_cut(right, &from)
-            } else {
-                false
-            }
-        }
-    }
 }
 
 // Rule 5: leaves of the right kinds, a weight that the page may have, and no lone sibling leaf.
@@ -146,21 +124,21 @@ fn is_in_order(leaf: &Leaf, area: &Area) -> bool
 fn all_inside(records: &[Record], area: &Area) -> bool
     ensures { IsTrue result ↔ All (λ r. Holds area.now r.key) records.now }
 {
-    records.iter().all(|record| lies_in(record, area))
+    records.iter().all(|each| lies_in(each, area))
 }
 
 // Whether the record lies in the box.
-fn lies_in(record: &Record, area: &Area) -> bool
-    ensures { IsTrue result ↔ Holds area.now record.now.key }
+fn lies_in(each: &Record, area: &Area) -> bool
+    ensures { IsTrue result ↔ Holds area.now each.now.key }
 {
-    record.key.attributes() == area.lo().attributes() && area.holds(&record.key)
+    each.key.attributes() == area.lo().attributes() && area.holds(&each.key)
 }
 
 // Whether the points of the records rise.
 fn are_rising(records: &[Record]) -> bool
     ensures { IsTrue result ↔ AllPairs Precedes records.now }
 {
-    records.is_sorted_by(|record, next| record.key.cmp(&next.key).is_lt())
+    records.is_sorted_by(|each, next| each.key.cmp(&next.key).is_lt())
 }
 
 // Rule 10: no cut has two sides that should be one leaf.
