@@ -15,6 +15,7 @@
 
 mod callers;
 mod event;
+mod faults;
 mod history;
 mod images;
 pub mod laws;
@@ -27,6 +28,7 @@ mod traits;
 
 pub use callers::{OPEN, write_behind_gate, write_in_order};
 pub use event::Pick;
+pub use faults::DiskFault;
 pub use mem_disk::MemDisk;
 pub use rot_disk::RotDisk;
 pub use traits::Disk;

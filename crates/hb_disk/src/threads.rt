@@ -2,13 +2,14 @@
 
 ghost use Rattle.std.specs.Thread.{IsSend, IsSync};
 
-use crate::{MemDisk, Pick, RotDisk};
+use crate::{DiskFault, MemDisk, Pick, RotDisk};
 
 /// Each type of the crate does.
 fn types_cross_threads() {
     crosses::<MemDisk>();
     crosses::<RotDisk>();
     crosses::<Pick>();
+    crosses::<DiskFault>();
 }
 
 /// Values of the type may go to another thread, and be read by several.

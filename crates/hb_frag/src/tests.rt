@@ -1,10 +1,12 @@
 //! Tables of points, boxes, pages and paths on a page that was drawn by hand, each with the answer
 //! that was read off the drawing.
 
-ghost use Rattle.std.specs.Prelude.{◌≡◌, ◌+◌, ◌≤◌, length, IfOk};
-ghost use Rattle.hb_frag.specs.Leaves.{leaf_weight, weight_of};
+ghost use Rattle.std.specs.Prelude.{◌≡◌, ◌+◌, ◌≤◌, length, IfOk, IsTrue};
+ghost use Rattle.hb_space.specs.Boxes.{Holds};
+ghost use Rattle.hb_frag.specs.Leaves.{leaf_weight, weight_of, WellCut};
+ghost use Rattle.hb_frag.specs.Paths.{StaysInside};
 
-use crate::{Frag, Leaf, LivePage, Node, Path, Side};
+use crate::{Frag, Leaf, LivePage, Node, Path, Side, replace};
 use hb_space::{Area, Body, NoMemory, Point, Record, Records};
 use std::alloc::Global;
 use std::test::Fail;
@@ -51,6 +53,23 @@ fn drawn(alloc: Global) -> Result<LivePage, Fail>
         area: area_of([0, 0], [99, 99])?,
         frag: cut(alloc, 0, 50, low, high)?,
     })
+}
+
+// Whether the point lies in the page's box, and the page is well cut.
+fn reaches(page: &LivePage, point: &Point) -> bool
+    ensures cut { IsTrue result → WellCut page.now }
+    ensures held { IsTrue result → Holds page.now.area point.now }
+{
+    page.area.lo().attributes() == point.attributes()
+        && page.area.holds(point)
+        && page.is_well_cut()
+}
+
+// Whether the page is well cut, and the path leads to a part of it.
+fn leads(page: &LivePage, path: &Path) -> bool
+    ensures { IsTrue result → StaysInside path.now page.now.frag }
+{
+    page.is_well_cut() && page.subtree(path).is_some()
 }
 
 fn steps_of(alloc: Global, text: &str) -> Result<Path, Fail> {
@@ -100,6 +119,19 @@ fn push_area(text: &mut String, area: &Area) -> Result<(), NoMemory> {
     Ok(())
 }
 
+fn shown(alloc: Global, frag: &Frag) -> Result<String, NoMemory> {
+    let mut text = String::new(alloc);
+    push_frag(&mut text, frag)?;
+    Ok(text)
+}
+
+fn shown_leaf(alloc: Global, leaf: &Leaf, area: &Area) -> Result<String, NoMemory> {
+    let mut text = String::new(alloc);
+    push_leaf(&mut text, leaf)?;
+    push_area(&mut text, area)?;
+    Ok(text)
+}
+
 fn shown_part(alloc: Global, part: Option<(&Frag, Area)>) -> Result<String, NoMemory> {
     let mut text = String::new(alloc);
     match part {
@@ -110,6 +142,37 @@ fn shown_part(alloc: Global, part: Option<(&Frag, Area)>) -> Result<String, NoMe
         None => text.push_str("none")?,
     }
     Ok(text)
+}
+
+// The leaf at the point and its box, and what the path to the point leads to.
+fn found(alloc: Global, page: &LivePage, point: &Point) -> Result<(String, String), Fail> {
+    if !reaches(page, point) {
+        return Err("not on the drawing".into());
+    }
+    let path = page.path_to(alloc, point)?;
+    let part = shown_part(alloc, page.subtree(&path))?;
+    let (leaf, area) = page.leaf_at(point);
+    Ok((shown_leaf(alloc, leaf, &area)?, part))
+}
+
+#[test]
+fn leaves_at_points(rt: HostRuntime) -> Result<(), Fail> {
+    let alloc = rt.alloc();
+    let page = drawn(alloc)?;
+    for (point, want) in [
+        ([0, 0], "child 7 0..49 0..29"),
+        ([49, 29], "child 7 0..49 0..29"),
+        ([49, 30], "hole 9 0..49 30..99"),
+        ([50, 29], "child 8 50..99 0..59"),
+        ([79, 60], "child 7 50..79 60..99"),
+        ([80, 60], "hole 9 80..99 60..99"),
+        ([99, 99], "hole 9 80..99 60..99"),
+    ] {
+        let (leaf, part) = found(alloc, &page, &Point::new(&point))?;
+        assert_eq!(rt; leaf.as_str(), want);
+        assert_eq!(rt; part.as_str(), want);
+    }
+    Ok(())
 }
 
 #[test]
@@ -180,6 +243,45 @@ fn parts_at_paths(rt: HostRuntime) -> Result<(), Fail> {
         assert_eq!(rt; shown_part(alloc, part)?.as_str(), want);
         let again = path.copy(alloc)?;
         assert_eq!(rt; again.as_slice().len(), steps.len());
+    }
+    Ok(())
+}
+
+// The drawn page with a hole to 4 where the steps lead, once as a copy and once in place.
+fn holed(alloc: Global, steps: &str) -> Result<(String, String), Fail> {
+    let page = drawn(alloc)?;
+    let path = steps_of(alloc, steps)?;
+    if !leads(&page, &path) {
+        return Err("no such part".into());
+    }
+    let four = Frag::tip(Leaf::Sibling(4));
+    let copied = page.frag.copy_with(alloc, &path, four)?;
+    let four = Frag::tip(Leaf::Sibling(4));
+    let replaced = replace(page.frag.copy(alloc)?, &path, four)?;
+    Ok((shown(alloc, &copied)?, shown(alloc, &replaced)?))
+}
+
+#[test]
+fn parts_replaced(rt: HostRuntime) -> Result<(), Fail> {
+    let alloc = rt.alloc();
+    for (steps, want) in [
+        ("", "hole 4"),
+        (
+            "L",
+            "(hole 4 |0:50| (child 8 |1:60| (child 7 |0:80| hole 9)))",
+        ),
+        (
+            "LR",
+            "((child 7 |1:30| hole 4) |0:50| (child 8 |1:60| (child 7 |0:80| hole 9)))",
+        ),
+        (
+            "RRL",
+            "((child 7 |1:30| hole 9) |0:50| (child 8 |1:60| (hole 4 |0:80| hole 9)))",
+        ),
+    ] {
+        let (copied, replaced) = holed(alloc, steps)?;
+        assert_eq!(rt; copied.as_str(), want);
+        assert_eq!(rt; replaced.as_str(), want);
     }
     Ok(())
 }
