@@ -30,6 +30,13 @@ pub enum Page {
     Free { next: u32 },
 }
 
+impl Default for Page {
+    /// A free page that ends its chain: a stand-in until a page comes.
+    fn default() -> Page {
+        Page::Free { next: 0 }
+    }
+}
+
 impl LivePage {
     /// Whether every cut cuts its box: some points of the box lie below the cut's value, and
     /// others don't.

@@ -1,4 +1,4 @@
-ghost use Rattle.std.specs.Prelude.{◌≡◌, ◌<◌, ◌≤◌, ◌^◌, [], ◌∷◌, map, Option, IfSome, IfOk, IsErrOf};
+ghost use Rattle.std.specs.Prelude.{◌≡◌, ◌<◌, ◌≤◌, ◌^◌, [], ◌∷◌, Option, IfSome, IfOk, IsErrOf};
 ghost use Rattle.hb_frag.specs.Leaves.{weight_of};
 ghost use Rattle.hb_frag.specs.declared.pages.Page.TheVariants.{Live};
 ghost use Rattle.hb_ops.specs.Operations.{IsAllowedOn, change_of, OpHas};
@@ -17,26 +17,8 @@ use std::alloc::Global;
 pub struct Changed {
     /// What the file says of itself afterwards.
     pub meta: Meta,
-    /// The pages that change.
-    pub pages: ArrayVec<ChangedPage, 3>,
-}
-
-/// A page that changes.
-#[derive(Debug, Drop)]
-pub struct ChangedPage {
-    /// Its number.
-    pub id: u32,
-    /// What it is afterwards.
-    pub page: Page,
-}
-
-impl Default for ChangedPage {
-    fn default() -> ChangedPage {
-        ChangedPage {
-            id: 0,
-            page: Page::Free { next: 0 },
-        }
-    }
+    /// The pages that change, by their numbers.
+    pub pages: ArrayVec<(u32, Page), 3>,
 }
 
 /// Why an operation wasn't done.
@@ -65,7 +47,7 @@ pub fn change(
     requires points { OpHas meta.now.k op.now }
     requires light { IfSome first (λ p. weight_of p.now.frag < 2 ^ 32) }
     ensures allowed { IfOk result (λ c. IsAllowedOn op.now meta.now (given first.entry) (given second.entry) (given third.entry)) }
-    ensures effect { IfOk result (λ c. record { meta = c.meta; pages = map (λ p. (p.id, p.page)) c.pages.items } ≡ change_of op.now meta.now (given first.entry) (given second.entry) (given third.entry)) }
+    ensures effect { IfOk result (λ c. record { meta = c.meta; pages = c.pages.items } ≡ change_of op.now meta.now (given first.entry) (given second.entry) (given third.entry)) }
     ensures unfit { IsErrOf result Unfit → ¬ (IsAllowedOn op.now meta.now (given first.entry) (given second.entry) (given third.entry)) }
     ensures memory { IsErrOf result NoMemory → IsAllowedOn op.now meta.now (given first.entry) (given second.entry) (given third.entry) }
 {
@@ -84,12 +66,9 @@ pub fn change(
 // One page that changes, in a file that says the same of itself as before.
 fn one_changed(meta: &Meta, id: u32, page: LivePage) -> Changed
     ensures meta { result.meta ≡ meta.now }
-    ensures pages { result.pages.items ≡ record { id = id; page = Live page } ∷ [] }
+    ensures pages { result.pages.items ≡ (id, Live page) ∷ [] }
 {
     let mut pages = ArrayVec::new();
-    pages.push(ChangedPage {
-        id,
-        page: Page::Live(page),
-    });
+    pages.push((id, Page::Live(page)));
     Changed { meta: *meta, pages }
 }

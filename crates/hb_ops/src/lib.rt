@@ -22,7 +22,7 @@ mod operations;
 mod tests;
 mod threads;
 
-pub use changes::{ChangeError, Changed, ChangedPage, change};
+pub use changes::{ChangeError, Changed, change};
 pub use laws::{
     delete_takes_one_record, lone_page_has_no_others, operations_keep_a_file_sound,
     put_adds_one_record,

@@ -172,9 +172,9 @@ fn push_frag(text: &mut String, frag: &Frag) -> Result<(), NoMemory> {
 
 fn shown(alloc: Global, changed: &Changed) -> Result<String, NoMemory> {
     let mut text = String::new(alloc);
-    for each in &changed.pages {
-        write!(text, "{}:", each.id)?;
-        match &each.page {
+    for (id, page) in &changed.pages {
+        write!(text, "{id}:")?;
+        match page {
             Page::Live(page) => push_frag(&mut text, &page.frag)?,
             Page::Free { next } => write!(text, " free {next}")?,
         }

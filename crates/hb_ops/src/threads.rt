@@ -2,14 +2,13 @@
 
 ghost use Rattle.std.specs.Thread.{IsSend, IsSync};
 
-use crate::{ChangeError, Changed, ChangedPage, Meta, Op};
+use crate::{ChangeError, Changed, Meta, Op};
 
 /// Each type of the crate does.
 fn types_cross_threads() {
     crosses::<Meta>();
     crosses::<Op>();
     crosses::<Changed>();
-    crosses::<ChangedPage>();
     crosses::<ChangeError>();
 }
 
