@@ -1,5 +1,5 @@
 -- What a disk in memory answers, from what its history did.
-use Rattle.std.proofs.Common.{◌≡◌, ◌↔◌, inl, inr, ℕ, ◌≤◌, Bool, List, Result, Ok, Err, IsTrue, IsErr, IfErr, OnErr, refl, sym, subst, arith}
+use Rattle.std.proofs.Common.{◌≡◌, ◌↔◌, inl, inr, ℕ, ◌≤◌, Bool, List, Result, Ok, Err, IsTrue, IsErr, IfErr, OnOk, OnErr, refl, sym, subst, arith}
 use Rattle.std.proofs.lemmas.Bool.{cases_lt}
 use Rattle.hb_outside.specs.Streams.{Rose}
 use Rattle.hb_outside.specs.Memory.{next_count}
@@ -107,3 +107,16 @@ module _ (old new : MemDisk) (listed : Bool) (listing : IsTrue listed ↔ IsList
 pub on_err : {T E : Type 0} (r : Result T E) (P : Type 0) → P → OnErr r P
 on_err (Ok v) P h = tt
 on_err (Err e) P h = h
+
+-- what a success, or a failure, says of one holds of the other
+pub told_on_ok : {T E F : Type 0} (done : Result T E) (r : Result T F) (P : Type 0) → Alike done r → OnOk done P → OnOk r P
+told_on_ok (Ok v) (Ok w) P alike h = h
+told_on_ok (Ok v) (Err f) P alike h = tt
+told_on_ok (Err e) (Ok w) P alike h = absurd alike
+told_on_ok (Err e) (Err f) P alike h = tt
+
+pub told_on_err : {T E F : Type 0} (done : Result T E) (r : Result T F) (P : Type 0) → Alike done r → OnErr done P → OnErr r P
+told_on_err (Ok v) (Ok w) P alike h = tt
+told_on_err (Ok v) (Err f) P alike h = absurd alike
+told_on_err (Err e) (Ok w) P alike h = tt
+told_on_err (Err e) (Err f) P alike h = h

@@ -101,6 +101,14 @@ pub record Notes (P : Change → Type 0) (clock call : ℕ) (old new : List Even
 abbrev pub IsOver : ℕ → ℕ → List ℕ → Change → Type 0
 IsOver at len bytes change = (before : Vec ℕ Global) × (change ≡ Wrote at before) × (before.items ≡ take len (drop at bytes))
 
+-- the change is a try at a range that failed
+abbrev pub IsTry : ℕ → ℕ → Change → Type 0
+IsTry at len change = change ≡ Tried at len
+
+-- the change is a sync
+abbrev pub IsSync : Change → Type 0
+IsSync change = change ≡ Synced
+
 -- Why a call was refused: it is a listed one; or else the clock was at its last value; or else memory was wanting.
 abbrev pub Explains : Bool → ℕ → Refused → Type 0
 Explains listed clock Listed = listed ≡ true

@@ -4,7 +4,7 @@ ghost use Rattle.std.proofs.Props.{props};
 ghost use Rattle.hb_outside.specs.Memory.{next_count};
 ghost use Rattle.hb_disk.specs.Model.{last_value, overwritten};
 ghost use Rattle.hb_disk.specs.Calls.{Ticks, Writes, Syncs};
-ghost use Rattle.hb_disk.specs.Events.{Reaches, AreKept, IsImage, IsImageSince, IsPicked, rewound, disk_of, Notes, IsOver, Explains};
+ghost use Rattle.hb_disk.specs.Events.{Reaches, AreKept, IsImage, IsImageSince, IsPicked, rewound, disk_of, Notes, IsOver, IsTry, IsSync, Explains};
 
 use crate::event::{Change, Event, Pick, Refused, fill_at, put_at};
 use crate::images::choose_before;
@@ -105,7 +105,7 @@ impl History {
         ensures done { OnOk result (Notes (IsOver at len self.old.bytes.items) self.old.clock call
             self.old.events.items self.new.events.items) }
         ensures refused { OnErr result ((self.new.events.items ≡ self.old.events.items)
-            ⊎ Notes (λ c. c ≡ Change.Tried at len) self.old.clock call self.old.events.items self.new.events.items) }
+            ⊎ Notes (IsTry at len) self.old.clock call self.old.events.items self.new.events.items) }
         ensures bytes { self.new.bytes ≡ self.old.bytes }
         ensures clock { self.new.clock ≡ next_count self.old.clock }
         ensures why { IfErr result (Explains listed self.old.clock) }
@@ -157,6 +157,10 @@ impl History {
         ensures ticks { (f g h k : ℕ) → Ticks result
             (disk_of self.old.bytes.items (reverse self.old.events.items) self.old.clock f g)
             (disk_of self.new.bytes.items (reverse self.new.events.items) self.new.clock h k) }
+        ensures done { OnOk result (Notes (IsOver at (length piece.now) self.old.bytes.items) self.old.clock call
+            self.old.events.items self.new.events.items) }
+        ensures refused { OnErr result ((self.new.events.items ≡ self.old.events.items)
+            ⊎ Notes (IsTry at (length piece.now)) self.old.clock call self.old.events.items self.new.events.items) }
         ensures same { OnErr result (self.new.bytes.items ≡ self.old.bytes.items) }
         ensures why { IfErr result (Explains listed self.old.clock) }
         ensures listed { IsTrue listed → IsErr result }
@@ -182,6 +186,10 @@ impl History {
         ensures ticks { (f g h k : ℕ) → Ticks result
             (disk_of self.old.bytes.items (reverse self.old.events.items) self.old.clock f g)
             (disk_of self.new.bytes.items (reverse self.new.events.items) self.new.clock h k) }
+        ensures done { OnOk result (Notes (IsOver at len self.old.bytes.items) self.old.clock call
+            self.old.events.items self.new.events.items) }
+        ensures refused { OnErr result ((self.new.events.items ≡ self.old.events.items)
+            ⊎ Notes (IsTry at len) self.old.clock call self.old.events.items self.new.events.items) }
         ensures same { OnErr result (self.new.bytes.items ≡ self.old.bytes.items) }
         ensures why { IfErr result (Explains listed self.old.clock) }
         ensures listed { IsTrue listed → IsErr result }
@@ -199,6 +207,8 @@ impl History {
         ensures ticks { (f g h k : ℕ) → Ticks result
             (disk_of self.old.bytes.items (reverse self.old.events.items) self.old.clock f g)
             (disk_of self.new.bytes.items (reverse self.new.events.items) self.new.clock h k) }
+        ensures done { OnOk result (Notes IsSync self.old.clock call self.old.events.items self.new.events.items) }
+        ensures refused { OnErr result (self.new.events.items ≡ self.old.events.items) }
         ensures same { self.new.bytes.items ≡ self.old.bytes.items }
         ensures why { IfErr result (Explains listed self.old.clock) }
         ensures listed { IsTrue listed → IsErr result }

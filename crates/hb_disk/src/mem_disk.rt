@@ -118,7 +118,8 @@ fn answer(done: Result<(), Refused>, faults: &mut u64, starved: &mut u64) -> Res
 }
 
 impl Disk for MemDisk {
-    ghost use Rattle.hb_disk.specs.MemDisk.{seen_as, ReadExactly, CalledExactly};
+    ghost use Rattle.hb_disk.specs.MemDisk.{bytes_of, seen_as, ReadExactly, CalledExactly};
+    ghost use Rattle.hb_disk.specs.Events.{Notes, IsOver, IsTry, IsSync};
 
     ghost model = { λ d. disk_of d.history.bytes.items (reverse d.history.events.items) d.history.clock
         d.read_faults d.write_faults };
@@ -157,6 +158,11 @@ impl Disk for MemDisk {
         ensures ticks { Ticks result (seen_as self.old) (seen_as self.new) }
         ensures faults { WriteFaults result (seen_as self.old) (seen_as self.new) }
         ensures exact { CalledExactly result self.old self.new }
+        ensures recorded { OnOk result (Notes (IsOver at (length from.now) (bytes_of self.old)) self.old.history.clock
+            self.old.calls self.old.history.events.items self.new.history.events.items) }
+        ensures tried { OnErr result ((self.new.history.events.items ≡ self.old.history.events.items)
+            ⊎ Notes (IsTry at (length from.now)) self.old.history.clock self.old.calls
+            self.old.history.events.items self.new.history.events.items) }
     {
         let listed = is_listed(&self.failing, self.calls);
         let done = self
@@ -172,6 +178,11 @@ impl Disk for MemDisk {
         ensures ticks { Ticks result (seen_as self.old) (seen_as self.new) }
         ensures faults { WriteFaults result (seen_as self.old) (seen_as self.new) }
         ensures exact { CalledExactly result self.old self.new }
+        ensures recorded { OnOk result (Notes (IsOver at len (bytes_of self.old)) self.old.history.clock
+            self.old.calls self.old.history.events.items self.new.history.events.items) }
+        ensures tried { OnErr result ((self.new.history.events.items ≡ self.old.history.events.items)
+            ⊎ Notes (IsTry at len) self.old.history.clock self.old.calls
+            self.old.history.events.items self.new.history.events.items) }
     {
         let listed = is_listed(&self.failing, self.calls);
         let done = self
@@ -186,6 +197,9 @@ impl Disk for MemDisk {
         ensures ticks { Ticks result (seen_as self.old) (seen_as self.new) }
         ensures faults { WriteFaults result (seen_as self.old) (seen_as self.new) }
         ensures exact { CalledExactly result self.old self.new }
+        ensures recorded { OnOk result (Notes IsSync self.old.history.clock self.old.calls
+            self.old.history.events.items self.new.history.events.items) }
+        ensures tried { OnErr result (self.new.history.events.items ≡ self.old.history.events.items) }
     {
         let listed = is_listed(&self.failing, self.calls);
         let done = self.history.sync(self.calls, listed);

@@ -24,3 +24,8 @@ returns-clause-ticks c =
     let new = c.put.new.self in
     ticks_kept old.bytes.items old.events.items old.clock old.bytes_fit old.clock_fits c.args.call _ c.args.at c.args.piece.now new.bytes.items new.events.items new.clock
     c.requires (c.put.ensures.bytes ∙ ap (λ v. overwritten v.items c.args.at c.args.piece.now) c.in_ok-keep.ensures.bytes) (c.put.ensures.clock ∙ c.in_ok-keep.ensures.clock) (subst (λ es. Notes (IsOver c.args.at (length c.args.piece.now) old.bytes.items) old.clock c.args.call old.events.items es) (sym (ap (λ v. v.items) c.put.ensures.events)) c.in_ok-keep.ensures.done)
+
+pub returns-clause-done : goal.returns-clause-done
+returns-clause-done c =
+    let old = c.args.self.now in
+    subst (λ es. Notes (IsOver c.args.at (length c.args.piece.now) old.bytes.items) old.clock c.args.call old.events.items es) (sym (ap (λ v. v.items) c.put.ensures.events)) c.in_ok-keep.ensures.done

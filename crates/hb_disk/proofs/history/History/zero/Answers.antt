@@ -26,3 +26,8 @@ returns-clause-ticks c =
     let new = c.clear.new.self in
     ticks_kept old.bytes.items old.events.items old.clock old.bytes_fit old.clock_fits c.args.call _ c.args.at (replicate c.args.len 0) new.bytes.items new.events.items new.clock
     (subst (λ n. c.args.at + n ≤ length old.bytes.items) (sym (length-replicate c.args.len 0)) c.requires) (c.clear.ensures.bytes ∙ ap (λ v. overwritten v.items c.args.at (replicate c.args.len 0)) c.in_ok-keep.ensures.bytes) (c.clear.ensures.clock ∙ c.in_ok-keep.ensures.clock) (subst (λ es. Notes (IsOver c.args.at (length (replicate c.args.len 0)) old.bytes.items) old.clock c.args.call old.events.items es) (sym (ap (λ v. v.items) c.clear.ensures.events)) (subst (λ n. Notes (IsOver c.args.at n old.bytes.items) old.clock c.args.call old.events.items c.keep.new.self.events.items) (sym (length-replicate c.args.len 0)) c.in_ok-keep.ensures.done))
+
+pub returns-clause-done : goal.returns-clause-done
+returns-clause-done c =
+    let old = c.args.self.now in
+    subst (λ es. Notes (IsOver c.args.at c.args.len old.bytes.items) old.clock c.args.call old.events.items es) (sym (ap (λ v. v.items) c.clear.ensures.events)) c.in_ok-keep.ensures.done

@@ -1,0 +1,8 @@
+use Rattle.hb_frag.proofs.Tiles.{leaves_changed, cuts_kept}
+use Rattle.hb_frag.proofs.laws.a_change_stays_at_its_leaf.Goals as goal
+
+pub returns-clause-leaves : goal.returns-clause-leaves
+returns-clause-leaves c = leaves_changed
+
+pub returns-clause-cuts : goal.returns-clause-cuts
+returns-clause-cuts c = cuts_kept

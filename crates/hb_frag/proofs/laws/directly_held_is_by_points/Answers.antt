@@ -1,0 +1,5 @@
+use Rattle.hb_frag.proofs.Direct.{direct_by_points}
+use Rattle.hb_frag.proofs.laws.directly_held_is_by_points.Goals as goal
+
+pub returns : goal.returns
+returns c = direct_by_points

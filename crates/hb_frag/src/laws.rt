@@ -1,0 +1,77 @@
+//! What follows of pages from their definitions alone. Each law is the contract of a function
+//! that does nothing: a caller learns it by the call.
+
+ghost use Rattle.std.specs.Prelude.{◌≡◌, ◌↔◌, ◌+◌, ℕ, List, length, map, All, Any, AllPairs, Some, IsSome};
+ghost use Rattle.std.specs.List.{Contains};
+ghost use Rattle.hb_space.specs.Boxes.{Area, IsArea, Holds, Within, Disjoint};
+ghost use Rattle.hb_frag.specs.declared.pages.LivePage.{LivePage as OnePage};
+ghost use Rattle.hb_frag.specs.declared.leaves.Leaf.{Leaf as OneLeaf};
+ghost use Rattle.hb_frag.specs.declared.paths.Side.{Side as Step};
+ghost use Rattle.hb_frag.specs.Trees.{Tree};
+ghost use Rattle.hb_frag.specs.Leaves.{Placed, IsWellCut, first_at, leaves_of, leaves, with_leaf_at, weight_of, DirectlyHolds, DirectlyCovers, WellCut};
+ghost use Rattle.hb_frag.specs.Paths.{part_at, with_part, StaysInside};
+ghost use Rattle.hb_frag.specs.Laws.{changed_at, LeadsTo, IsStretch, IsPart};
+
+/// The boxes of a tree's leaves are boxes within the tree's box, of as many attributes. No two
+/// share a point, and together they hold exactly its points.
+pub fn leaves_part_the_box()
+    ensures areas { (t : Tree) (a : Area) → IsArea a → IsWellCut t a → All (λ l. IsArea l.area) (leaves_of t a) }
+    ensures attributes { (t : Tree) (a : Area) → All (λ l. length l.area.lo ≡ length a.lo) (leaves_of t a) }
+    ensures within { (t : Tree) (a : Area) → IsArea a → IsWellCut t a → All (λ l. Within l.area a) (leaves_of t a) }
+    ensures disjoint { (t : Tree) (a : Area) → IsArea a → IsWellCut t a →
+        AllPairs (λ l m. Disjoint l.area m.area) (leaves_of t a) }
+    ensures cover { (t : Tree) (a : Area) (p : List ℕ) → IsArea a → IsWellCut t a →
+        Any (λ l. Holds l.area p) (leaves_of t a) ↔ Holds a p }
+{}
+
+/// Each point of a tree's box has one leaf, the one whose box holds it, and other points have
+/// none.
+pub fn each_point_has_one_leaf()
+    ensures some { (t : Tree) (a : Area) (p : List ℕ) → IsArea a → IsWellCut t a →
+        IsSome (first_at p (leaves_of t a)) ↔ Holds a p }
+    ensures only { (t : Tree) (a : Area) (p : List ℕ) (l : Placed) → IsArea a → IsWellCut t a →
+        (first_at p (leaves_of t a) ≡ Some l) ↔ (Contains (leaves_of t a) l × Holds l.area p) }
+{}
+
+/// The way to a point of a tree's box leads to the leaf there.
+pub fn ways_lead_to_leaves()
+    ensures { (t : Tree) (a : Area) (p : List ℕ) → IsArea a → IsWellCut t a → Holds a p →
+        (l : Placed) × LeadsTo p t a l }
+{}
+
+/// The leaves without their boxes are the tree's leaves, whatever its box.
+pub fn placed_leaves_are_the_leaves()
+    ensures { (t : Tree) (a : Area) → map (λ l. l.leaf) (leaves_of t a) ≡ leaves t }
+{}
+
+/// A change at a point changes the leaf whose box holds it. The boxes and the cuts stay.
+pub fn a_change_stays_at_its_leaf()
+    ensures leaves { (t : Tree) (a : Area) (p : List ℕ) (change : OneLeaf → OneLeaf) →
+        leaves_of (with_leaf_at p change t a) a ≡ map (changed_at p change) (leaves_of t a) }
+    ensures cuts { (t : Tree) (a : Area) (p : List ℕ) (change : OneLeaf → OneLeaf) →
+        IsWellCut (with_leaf_at p change t a) a ↔ IsWellCut t a }
+{}
+
+/// A path stays in a tree exactly where it leads to a part, whatever the tree's box.
+pub fn paths_inside_lead_to_parts()
+    ensures { (path : List Step) (t : Tree) (a : Area) → StaysInside path t ↔ IsSome (part_at path t a) }
+{}
+
+/// A part's leaves are a stretch of the tree's. Another part in its place changes no other leaf,
+/// no box but those of the part's leaves, and the weight by the difference of the two.
+pub fn parts_are_stretches()
+    ensures leaves { (path : List Step) (t : Tree) (a : Area) (part : Tree × Area) →
+        part_at path t a ≡ Some part → IsStretch path t a part }
+    ensures cuts { (path : List Step) (t : Tree) (a : Area) (part : Tree × Area) →
+        part_at path t a ≡ Some part → IsArea a → IsWellCut t a → IsPart path t a part }
+    ensures weight { (path : List Step) (t : Tree) (a : Area) (part : Tree × Area) (other : Tree) →
+        part_at path t a ≡ Some part →
+        weight_of (with_part path t other) + weight_of part.0 ≡ weight_of t + weight_of other }
+{}
+
+/// A page directly holds a box exactly where it directly holds each of its points.
+pub fn directly_held_is_by_points()
+    ensures { (page : OnePage) (a : Area) → IsArea page.area → WellCut page → IsArea a →
+        length a.lo ≡ length page.area.lo →
+        DirectlyCovers page a ↔ ((p : List ℕ) → Holds a p → DirectlyHolds page p) }
+{}

@@ -1,0 +1,11 @@
+pub mod Lists
+pub mod Orders
+pub mod Boxes
+pub mod Tips
+pub mod Finds
+pub mod Pages
+pub mod Contents
+pub mod Places
+pub mod Opened
+pub mod Remade
+pub mod Sound

@@ -1,0 +1,8 @@
+use Rattle.std.proofs.Common.{rules}
+use Rattle.std.proofs.lemmas.Fn.{always_returns_same}
+use Rattle.hb_ops.proofs.Orders.{is_before, rising_tells}
+use Rattle.hb_ops.proofs.local.are_rising.Goals as goal
+
+-- the closure compares two records' points
+pub returns : goal.returns
+returns c = rising_tells c.args.records.now c.is_sorted_by.result (c.is_sorted_by.ensures.cases is_before (always_returns_same _ _ _ (λ a r g called. search rules)))

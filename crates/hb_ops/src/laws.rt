@@ -1,0 +1,24 @@
+//! What follows of operations from their definitions alone.
+
+ghost use Rattle.hb_ops.specs.LawsOfContents.{DelTakesOne, LonePage, PutAddsOne, StaysSound};
+
+/// An allowed put adds exactly one record to the contents.
+pub fn put_adds_one_record()
+    ensures { PutAddsOne }
+{}
+
+/// An allowed delete takes exactly one record away from the contents.
+pub fn delete_takes_one_record()
+    ensures { DelTakesOne }
+{}
+
+/// In a file of one page no other page has a record, so there the two laws above hold of every
+/// allowed put and delete.
+pub fn lone_page_has_no_others()
+    ensures { LonePage }
+{}
+
+/// An operation that is allowed and licensed leaves a sound file sound.
+pub fn operations_keep_a_file_sound()
+    ensures { StaysSound }
+{}

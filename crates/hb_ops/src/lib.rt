@@ -1,0 +1,32 @@
+//! The changes of a file: when each is allowed, and what it does.
+//!
+//! The one contract: `change` answers with pages exactly where the operation is allowed on the
+//! pages that it reads, and they are those that the operation is defined to make. Whether it is
+//! allowed is decided before any memory is taken. `local_rule` names the first rule that a page
+//! breaks by itself, and `laws` has what follows of operations from their definitions alone: a put
+//! adds one record to the contents of a file, a delete takes one away, and both keep the file
+//! sound.
+//!
+//! Contracts see a page as its level, its box and its tree, a file as what it says of itself with
+//! a list of pages, and its contents as a map from points to bodies. A page number is its place in
+//! the list, from 1.
+#![tactic(auto)]
+
+mod changes;
+mod edits;
+mod laws;
+mod local;
+mod meta;
+mod operations;
+#[cfg(test)]
+mod tests;
+mod threads;
+
+pub use changes::{ChangeError, Changed, change};
+pub use laws::{
+    delete_takes_one_record, lone_page_has_no_others, operations_keep_a_file_sound,
+    put_adds_one_record,
+};
+pub use local::local_rule;
+pub use meta::Meta;
+pub use operations::Op;

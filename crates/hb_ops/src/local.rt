@@ -1,0 +1,175 @@
+//! Which of its own rules a page breaks.
+
+ghost use Rattle.std.specs.Prelude.{◌≡◌, ◌<◌, ◌^◌, ◌↔◌, All, AllPairs, IfSome, IsNone, IsTrue};
+ghost use Rattle.hb_space.specs.Boxes.{Holds};
+ghost use Rattle.hb_frag.specs.Leaves.{IsWellCut, leaves, leaves_of, weight_of};
+ghost use Rattle.hb_frag.specs.Trees.{Tip};
+ghost use Rattle.hb_frag.specs.Rules.{AreAlike, BelongsAt, Fits, IsFilledRight, IsInOrder, IsNormal, IsSiblingTip, Precedes, capacity_of};
+ghost use Rattle.hb_ops.specs.Sound.{FitsFile};
+ghost use Rattle.hb_ops.specs.LocalRule.{BreaksFirst};
+
+use crate::Meta;
+use hb_frag::{Frag, Leaf, LivePage, Node};
+use hb_space::{Area, Record};
+
+/// The least of the rules 3, 4, 5, 6 and 10 that the page breaks by itself in a file that says
+/// this of itself. `None` where it keeps them all.
+pub fn local_rule(page: &LivePage, meta: &Meta) -> Option<u8>
+    requires { weight_of page.now.frag < 2 ^ 32 }
+    ensures none { IsNone result ↔ FitsFile meta.now page.now }
+    ensures first { IfSome result (λ r. BreaksFirst r page.now meta.now) }
+{
+    if !fits(page, meta) {
+        return Some(3);
+    }
+    if !page.is_well_cut() {
+        return Some(4);
+    }
+    if !is_filled_right(page, meta) {
+        return Some(5);
+    }
+    if !are_in_order(&page.frag, &page.area) {
+        return Some(6);
+    }
+    if !is_normal(&page.frag) {
+        return Some(10);
+    }
+    None
+}
+
+// Rule 3: the level and the number of attributes are those of a page of the file.
+fn fits(page: &LivePage, meta: &Meta) -> bool
+    ensures { IsTrue result ↔ Fits page.now meta.now.k meta.now.height }
+{
+    page.level < meta.height && page.area.lo().attributes() == meta.k
+}
+
+// Rule 5: leaves of the right kinds, a weight that the page may have, and no lone sibling leaf.
+fn is_filled_right(page: &LivePage, meta: &Meta) -> bool
+    requires { weight_of page.now.frag < 2 ^ 32 }
+    ensures { IsTrue result ↔ IsFilledRight page.now meta.now.dcap meta.now.icap }
+{
+    all_belong(&page.frag, page.level)
+        && page.weight() <= u32::from(capacity(page.level, meta))
+        && !is_sibling_tip(&page.frag)
+}
+
+// What a page of the level may weigh.
+fn capacity(level: u8, meta: &Meta) -> u16
+    ensures { result ≡ capacity_of level meta.now.dcap meta.now.icap }
+{
+    if level == 0 { meta.dcap } else { meta.icap }
+}
+
+// Whether each leaf is of a kind that stands at the level.
+fn all_belong(frag: &Frag, level: u8) -> bool
+    ensures { IsTrue result ↔ All (BelongsAt level) (leaves frag.now) }
+{
+    match &frag.node {
+        Node::Tip(leaf) => belongs(leaf, level),
+        Node::Cut { left, right, .. } => all_belong(left, level) && all_belong(right, level),
+    }
+}
+
+// Whether the leaf is.
+fn belongs(leaf: &Leaf, level: u8) -> bool
+    ensures { IsTrue result ↔ BelongsAt level leaf.now }
+{
+    match leaf {
+        Leaf::Records(_) => level == 0,
+        Leaf::Child(_) => level > 0,
+        Leaf::Sibling(_) => true,
+    }
+}
+
+// Whether all of the part is one sibling leaf.
+fn is_sibling_tip(frag: &Frag) -> bool
+    ensures { IsTrue result ↔ IsSiblingTip frag.now }
+{
+    matches!(&frag.node, Node::Tip(Leaf::Sibling(_)))
+}
+
+// Rule 6: the records of each leaf lie in its box and rise, in a part with this box.
+fn are_in_order(frag: &Frag, area: &Area) -> bool
+    requires { IsWellCut frag.now area.now }
+    ensures { IsTrue result ↔ All IsInOrder (leaves_of frag.now area.now) }
+{
+    match &frag.node {
+        Node::Tip(leaf) => is_in_order(leaf, area),
+        Node::Cut {
+            axis,
+            value,
+            left,
+            right,
+        } => {
+            let (below, from) = area.cut(*axis, *value);
+            are_in_order(left, &below) && are_in_order(right, &from)
+        }
+    }
+}
+
+// Whether those of the leaf do.
+fn is_in_order(leaf: &Leaf, area: &Area) -> bool
+    ensures { IsTrue result ↔ IsInOrder (record { leaf = leaf.now; area = area.now }) }
+{
+    match leaf {
+        Leaf::Records(records) => {
+            all_inside(records.as_slice(), area) && are_rising(records.as_slice())
+        }
+        Leaf::Child(_) | Leaf::Sibling(_) => true,
+    }
+}
+
+// Whether each record lies in the box.
+fn all_inside(records: &[Record], area: &Area) -> bool
+    ensures { IsTrue result ↔ All (λ r. Holds area.now r.key) records.now }
+{
+    records.iter().all(|each| lies_in(each, area))
+}
+
+// Whether the record lies in the box.
+fn lies_in(each: &Record, area: &Area) -> bool
+    ensures { IsTrue result ↔ Holds area.now each.now.key }
+{
+    each.key.attributes() == area.lo().attributes() && area.holds(&each.key)
+}
+
+// Whether the points of the records rise.
+fn are_rising(records: &[Record]) -> bool
+    ensures { IsTrue result ↔ AllPairs Precedes records.now }
+{
+    records.is_sorted_by(|each, next| each.key.cmp(&next.key).is_lt())
+}
+
+// Rule 10: no cut has two sides that should be one leaf.
+fn is_normal(frag: &Frag) -> bool
+    ensures { IsTrue result ↔ IsNormal frag.now }
+{
+    match &frag.node {
+        Node::Tip(_) => true,
+        Node::Cut { left, right, .. } => {
+            !are_alike(left, right) && is_normal(left) && is_normal(right)
+        }
+    }
+}
+
+// Whether two sides should be one leaf.
+fn are_alike(left: &Frag, right: &Frag) -> bool
+    ensures { IsTrue result ↔ AreAlike left.now right.now }
+{
+    match (&left.node, &right.node) {
+        (Node::Tip(one), Node::Tip(other)) => are_alike_leaves(one, other),
+        _ => false,
+    }
+}
+
+// Whether two leaves are both of records, or name the same child.
+fn are_alike_leaves(one: &Leaf, other: &Leaf) -> bool
+    ensures { IsTrue result ↔ AreAlike (Tip one.now) (Tip other.now) }
+{
+    match (one, other) {
+        (Leaf::Records(_), Leaf::Records(_)) => true,
+        (Leaf::Child(page), Leaf::Child(named)) => page == named,
+        _ => false,
+    }
+}

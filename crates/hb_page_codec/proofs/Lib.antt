@@ -1,0 +1,11 @@
+pub mod Loops
+pub mod Spelled
+pub mod Ordered
+pub mod Refusals
+pub mod Depth
+pub mod Fields
+pub mod TreeLaws
+pub mod PageLaws
+pub mod Writes
+pub mod Weights
+pub mod Decoded

@@ -1,0 +1,4 @@
+pub mod Reading
+pub mod Memory
+pub mod Writing
+pub mod Weight
