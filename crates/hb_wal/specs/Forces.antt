@@ -16,7 +16,7 @@ pub record HasLog (d : DiskModel) (log : LogState) (payloads : List (List ℕ)) 
 -- The log lies within the disk, and the disk has it, where it tells: then it may be forced.
 pub record IsReady (d : DiskModel) (log : LogState) : Type 0 where
   pub inside : log.area + log.len ≤ d.size
-  pub log : IsSome d.told → (payloads : List (List ℕ)) × HasLog d log payloads
+  pub has : IsSome d.told → (payloads : List (List ℕ)) × HasLog d log payloads
 
 -- What a crash may leave inside a force: a list of bytes that a crash could leave before, where the area has the
 -- frames that it had, or those and one more.

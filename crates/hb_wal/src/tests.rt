@@ -60,9 +60,9 @@ fn begun<D: Disk>(alloc: Global, disk: &mut D) -> Result<Wal, Fail>
     requires { 26 ≤ (D.model disk.old).size }
     ensures ready { IfOk result (λ log. IsReady (D.model disk.new) log) }
 {
-    if zero_area(disk, 2, 24).is_err() {
+    let Ok(()) = zero_area(disk, 2, 24) else {
         return Err(Fail::from("the area wasn't zeroed"));
-    }
+    };
     let mut log = Wal::new(alloc, 2, 24)?;
     log.append(b"ab", 3);
     log.append(b"c", 5);
@@ -196,6 +196,7 @@ fn put<D: Disk>(alloc: Global, disk: &mut D) -> Result<[u32; 3], Fail>
 fn the_frame_of_a_put(rt: HostRuntime) -> Result<(), Fail> {
     let mut disk = MemDisk::new(rt.alloc(), NOISE.to_vec(rt.alloc())?);
     assert_eq!(rt; put(rt.alloc(), &mut disk)?, [16, 0, 16]);
-    assert_eq!(rt; &disk.bytes()[1..22], FRAME.as_slice());
+    let written = disk.bytes().get(1..22);
+    assert_eq!(rt; written, Some(FRAME.as_slice()));
     Ok(())
 }
