@@ -1,15 +1,11 @@
 -- The log's area of a disk, byte by byte: where the next frame begins, and what the area is when that frame was torn
 -- or written.
-use Rattle.std.proofs.Common.{◌≡◌, ◌≢◌, ◌⊎◌, inl, inr, ℕ, zero, suc, ◌+◌, ◌-◌, ◌<◌, ◌≤◌, List, [], ◌∷◌, ◌++◌, length, get_or, take, drop, replicate, Some, refl, sym, ap, ◌∙◌, subst, arith, append_assoc, length-append, length-take, length-drop}
-use Rattle.std.specs.List.{All, flat_map}
-use Rattle.std.proofs.lemmas.List.{take_at, drop_at, take_all, ext_get_or, get_or-take, get_or-drop, get_or-append_right, get_or_append_left, drop_more, append-nil, drop-replicate}
+use Rattle.std.proofs.Common.{◌≡◌, inl, inr, ℕ, zero, suc, ◌+◌, ◌-◌, ◌<◌, ◌≤◌, List, [], ◌∷◌, ◌++◌, length, get_or, drop, replicate, refl, sym, ap, ◌∙◌, arith, append_assoc, length-take, length-drop}
+use Rattle.std.proofs.lemmas.List.{take_at, ext_get_or, get_or-take, get_or-drop, append-nil, drop-replicate}
 use Rattle.std.proofs.Math.Seq.{drop-append-add}
-use Rattle.hb_outside.specs.Numbers.{big_endian}
-use Rattle.hb_disk.specs.Model.{DiskModel, IsDisk, overwritten, Torn}
-use Rattle.hb_disk.specs.Calls.{IsSynced, FrameOrNot, open_gate}
-use Rattle.hb_disk.specs.TornLaws.{IsOutside, cases_range, Torn-same, length-overwritten, overwritten-inside, overwritten-outside}
-use Rattle.hb_wal.specs.Frames.{frames, frame_bytes, frame_body, IsPayload, IsEnd, HasFrames, range}
-use Rattle.hb_wal.proofs.Kept.{four_bytes, length-frame}
+use Rattle.hb_disk.specs.Model.{overwritten}
+use Rattle.hb_disk.specs.TornLaws.{cases_range, length-overwritten, overwritten-inside, overwritten-outside}
+use Rattle.hb_wal.specs.Frames.{frames, frame_bytes, IsEnd, range}
 
 -- a byte of a range
 pub get_or-range : (area len i : ℕ) (bytes : List ℕ) → i < len → get_or (range area len bytes) i 0 ≡ get_or bytes (area + i) 0

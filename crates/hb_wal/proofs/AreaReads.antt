@@ -1,15 +1,13 @@
 -- One frame more is read of an area.
-use Rattle.std.proofs.Common.{◌≡◌, ℕ, ◌+◌, ◌-◌, ◌<◌, ◌≤◌, List, [], ◌∷◌, ◌++◌, length, take, drop, Some, IfSome, refl, sym, ap, ◌∙◌, subst, arith, append_assoc, length-append}
-use Rattle.std.specs.List.{All}
+use Rattle.std.proofs.Common.{◌≡◌, ℕ, ◌+◌, ◌-◌, ◌≤◌, List, [], ◌∷◌, ◌++◌, length, take, drop, Some, IfSome, sym, ap, ◌∙◌, arith, append_assoc, length-append}
 use Rattle.std.proofs.lemmas.List.{drop_at, drop-take, drop-drop}
 use Rattle.std.proofs.lemmas.List.Elements.{All-push}
-use Rattle.hb_outside.specs.Numbers.{big_endian}
-use Rattle.hb_disk.specs.Model.{DiskModel, Stays}
+use Rattle.hb_disk.specs.Model.{DiskModel}
 use Rattle.hb_disk.specs.RunLaws.{if_value, at_value}
 use Rattle.hb_wal.specs.Frames.{frames, frame_bytes, IsPayload, range}
-use Rattle.hb_wal.specs.Reading.{BeginsFrame, FrameIs, OnlyReads}
+use Rattle.hb_wal.specs.Reading.{FrameIs, OnlyReads}
 use Rattle.hb_wal.specs.Loops.{HasRead}
-use Rattle.hb_wal.proofs.Kept.{four_bytes, length-frame}
+use Rattle.hb_wal.proofs.Kept.{length-frame}
 use Rattle.hb_wal.proofs.AreaBytes.{frames-push}
 
 -- there are no more frames than bytes

@@ -1,19 +1,18 @@
 -- What a crash leaves inside a force, and what stands after it.
-use Rattle.std.proofs.Common.{◌≡◌, ◌≢◌, ◌⊎◌, inl, inr, ⊎_elim, ℕ, zero, suc, ◌+◌, ◌-◌, ◌^◌, ◌<◌, ◌≤◌, Bool, true, false, List, [], ◌∷◌, ◌++◌, length, get_or, take, drop, replicate, Option, Some, None, IfSome, IsSome, refl, sym, ap, ◌∙◌, subst, arith, append_assoc, length-append, length-take, length-drop}
+use Rattle.std.proofs.Common.{◌≡◌, ◌≢◌, inl, inr, ℕ, ◌+◌, ◌-◌, ◌<◌, ◌≤◌, false, List, [], ◌∷◌, ◌++◌, length, get_or, take, drop, replicate, Option, Some, None, IfSome, refl, sym, ap, ◌∙◌, subst, arith, length-append}
 use Rattle.std.specs.List.{All}
 use Rattle.std.proofs.Math.Dec.{eqb}
 use Rattle.std.proofs.lemmas.Bool.{cases_Bool, eqb-true, eqb-false}
-use Rattle.std.proofs.lemmas.List.{take_at, take-take, take-append-drop, drop_more, get_or-append_right, append-nil, get_or-replicate}
+use Rattle.std.proofs.lemmas.List.{take_at, take-take, take-append-drop, drop_more, get_or-append_right, get_or-replicate}
 use Rattle.std.proofs.lemmas.List.Elements.{All-head, All-append, All-cons, All-nil}
-use Rattle.hb_space.specs.declared.form.TheConstants.{PENDING}
-use Rattle.hb_disk.specs.Model.{DiskModel, IsDisk, Stays, overwritten, Torn}
-use Rattle.hb_disk.specs.Calls.{Leaves, IsSynced, FrameOrNot, Becomes, open_gate}
+use Rattle.hb_disk.specs.Model.{DiskModel, IsDisk, overwritten, Torn}
+use Rattle.hb_disk.specs.Calls.{Leaves, FrameOrNot, Becomes, open_gate}
 use Rattle.hb_disk.specs.TornLaws.{Torn-itself, Torn-wider, Torn-elsewhere}
 use Rattle.hb_disk.specs.RunLaws.{at_value, of_value, if_value, Leaves-start, Leaves-weaker, Becomes-weaker}
 use Rattle.hb_wal.specs.Frames.{frames, frame_bytes, frame_body, IsPayload, IsEnd, HasFrames, range}
 use Rattle.hb_wal.specs.Log.{Waiting, LogState, IsLog, BeginsWith, forced, after_force, framed_bytes, pending_bytes}
 use Rattle.hb_wal.specs.Forces.{HasLog, ForceLeaves}
-use Rattle.hb_wal.proofs.Kept.{four_bytes, length-frame}
+use Rattle.hb_wal.proofs.Kept.{length-frame}
 use Rattle.hb_wal.proofs.AreaBytes.{get_or-range, length-range, range-overwritten, overwritten-zeros, frames-push, end_zeros}
 
 -- the first group that waits, where a body is its frame's

@@ -1,15 +1,15 @@
 -- How the bytes of an area are taken apart into frames.
-use Rattle.std.proofs.Common.{◌≡◌, ◌≢◌, ◌⊎◌, inl, inr, ℕ, zero, suc, ◌+◌, ◌-◌, ◌*◌, ◌^◌, ◌<◌, ◌≤◌, Bool, true, false, List, [], ◌∷◌, ◌++◌, length, get_or, take, drop, refl, sym, ap, ◌∙◌, subst, arith, append_assoc, length-append, length-take, length-drop}
+use Rattle.std.proofs.Common.{◌≡◌, ◌≢◌, ◌⊎◌, inl, inr, ℕ, zero, suc, ◌^◌, ◌<◌, ◌≤◌, List, [], ◌∷◌, ◌++◌, length, get_or, take, drop, refl, sym, ap, ◌∙◌, subst, arith, append_assoc, length-append, length-take, length-drop}
 use Rattle.std.specs.List.{All}
 use Rattle.std.proofs.Math.Dec.{eqb}
 use Rattle.std.proofs.lemmas.Bool.{cases_Bool, cases_lt, eqb-true, eqb-false}
 use Rattle.std.proofs.lemmas.List.{take_at, drop_at, drop_more, drop-drop, get_or_past, take-append-drop}
 use Rattle.std.proofs.lemmas.List.Elements.{All-head, All-tail, All-cons, All-nil, All-drop, All-take, All-get_or}
 use Rattle.std.proofs.lemmas.Nat.{be_bytes_4}
-use Rattle.byteorder.specs.Endian.{big_number, big_bytes}
+use Rattle.byteorder.specs.Endian.{big_number}
 use Rattle.hb_outside.specs.Numbers.{big_endian}
 use Rattle.hb_disk.specs.Calls.{open_gate}
-use Rattle.hb_wal.specs.Frames.{frames, frame_bytes, frame_body, IsPayload, IsEnd, IsBadFrame, HasFrames, HasBadFrame}
+use Rattle.hb_wal.specs.Frames.{frames, frame_bytes, IsPayload, IsEnd, IsBadFrame, HasFrames, HasBadFrame}
 use Rattle.hb_wal.specs.FrameLaws.{OneWay}
 use Rattle.hb_wal.proofs.Kept.{four_bytes}
 use Rattle.hb_wal.proofs.HeadBytes.{few_end}

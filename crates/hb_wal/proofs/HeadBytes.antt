@@ -1,11 +1,11 @@
 -- What five bytes at a place tell of the frame that begins there.
-use Rattle.std.proofs.Common.{◌≡◌, ◌≢◌, ◌⊎◌, inl, inr, ℕ, ◌+◌, ◌-◌, ◌^◌, ◌<◌, ◌≤◌, List, [], ◌∷◌, ◌++◌, length, get_or, take, drop, refl, sym, ap, ◌∙◌, subst, arith, append_assoc, length-append, length-take, length-drop}
-use Rattle.std.proofs.lemmas.List.{take-take, drop-take, drop-drop, take-append-drop, drop_more, get_or-take, get_or-drop}
+use Rattle.std.proofs.Common.{◌≡◌, ◌≢◌, ◌⊎◌, inl, inr, ℕ, ◌+◌, ◌-◌, ◌^◌, ◌<◌, ◌≤◌, List, [], ◌∷◌, ◌++◌, length, get_or, take, drop, sym, ap, ◌∙◌, subst, arith, append_assoc, length-take, length-drop}
+use Rattle.std.proofs.lemmas.List.{take-take, drop-take, drop-drop, take-append-drop, drop_more, get_or-take}
 use Rattle.hb_outside.specs.Numbers.{big_endian}
 use Rattle.hb_disk.specs.Calls.{open_gate}
-use Rattle.hb_wal.specs.Frames.{frame_bytes, IsPayload, IsEnd, IsBadFrame, range}
+use Rattle.hb_wal.specs.Frames.{IsEnd, IsBadFrame, range}
 use Rattle.hb_wal.specs.Reading.{BeginsFrame}
-use Rattle.hb_wal.proofs.AreaBytes.{get_or-range, length-range}
+use Rattle.hb_wal.proofs.AreaBytes.{length-range}
 
 -- a few bytes are an end
 pub few_end : (rest : List ℕ) → length rest < 5 → IsEnd rest

@@ -1,10 +1,10 @@
 -- Where reading an area's frames stops before an end.
-use Rattle.std.specs.Prelude.{◌≡◌, ℕ, ◌++◌, List, length, All}
+use Rattle.std.specs.Prelude.{◌≡◌, ℕ, ◌++◌, List, length}
 use Rattle.hb_wal.specs.declared.heads.FrameStop.{FrameStop}
 use Rattle.hb_wal.specs.declared.heads.FrameStop.TheVariants as frame_stops
 use Rattle.hb_wal.specs.declared.reading.ReadStop.{ReadStop}
 use Rattle.hb_wal.specs.declared.reading.ReadStop.TheVariants as stops
-use Rattle.hb_wal.specs.Frames.{frames, IsPayload, HasBadFrame}
+use Rattle.hb_wal.specs.Frames.{frames, HasBadFrame}
 use Rattle.hb_wal.specs.Reading.{BeginsFrame}
 
 -- The area has a frame that reading takes memory for.

@@ -1,8 +1,6 @@
-use Rattle.std.proofs.Common.{◌≡◌, ℕ, ◌+◌, ◌-◌, ◌≤◌, List, [], ◌∷◌, ◌++◌, length, ap, sym, ◌∙◌, arith, subst}
-use Rattle.hb_disk.specs.Model.{DiskModel}
+use Rattle.std.proofs.Common.{◌≡◌, ℕ, ◌+◌, ◌-◌, ◌≤◌, length, ap, ◌∙◌, arith}
 use Rattle.hb_disk.specs.RunLaws.{at_value}
 use Rattle.hb_wal.specs.Frames.{IsPayload}
-use Rattle.hb_wal.specs.Loops.{HasRead}
 use Rattle.hb_wal.proofs.AreaReads.{frames_count, HasRead-more}
 use Rattle.hb_wal.proofs.reading.read_area.Goals as goal
 
