@@ -1,1 +1,3 @@
 pub mod Superblocks
+pub mod Reading
+pub mod Moments
