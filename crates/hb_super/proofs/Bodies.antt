@@ -17,8 +17,8 @@ Known P = P ⊎ (P → ⊥)
 
 both : {P Q : Type 0} → Known P → Known Q → Known (P × Q)
 both (inl p) (inl q) = inl (p, q)
-both (inl p) (inr no) = inr (λ pq. no pq.1)
-both (inr no) q = inr (λ pq. no pq.0)
+both (inl p) (inr fails) = inr (λ pq. fails pq.1)
+both (inr fails) q = inr (λ pq. fails pq.0)
 
 known_le : (n m : ℕ) → Known (n ≤ m)
 known_le n m = elim (cases_lt m n) [ inl above ↦ inr (λ le. absurd (omega (arith, above, le))) | inr le ↦ inl le ]
@@ -28,8 +28,8 @@ known_lt n m = elim (cases_lt n m) [ inl lt ↦ inl lt | inr above ↦ inr (λ l
 
 known_same : (xs ys : List ℕ) → Known (xs ≡ ys)
 known_same xs ys = elim (cases_Bool (bytes_eq xs ys)) [
-  | inl yes ↦ inl ((bytes_eq-Decides xs ys).0 yes)
-  | inr no ↦ inr (λ e. true≢false (sym ((bytes_eq-Decides xs ys).1 e) ∙ no))
+  | inl holds ↦ inl ((bytes_eq-Decides xs ys).0 holds)
+  | inr fails ↦ inr (λ e. true≢false (sym ((bytes_eq-Decides xs ys).1 e) ∙ fails))
 ]
 
 -- the number that its bytes are of
@@ -64,7 +64,7 @@ fields_back : (turn : ℕ) (meta : Meta) → said_in (body_bytes turn meta) ≡ 
   live = big_number 4 (big_endian 4 meta.live);
   free = big_number 4 (big_endian 4 meta.free);
 }
-unfolding big_endian
+unfolding big_endian said_in
 fields_back turn meta = refl
 
 said_back : (turn : ℕ) (meta : Meta) → IsLegal turn meta → said_in (body_bytes turn meta) ≡ meta
@@ -83,46 +83,33 @@ said_back turn meta legal =
 known_layout : (meta : Meta) → Known (IsLayout meta)
 known_layout meta = elim (both (known_le 1 meta.k) (both (known_le meta.k KMAX) (both (known_le 1 meta.pages) (both (known_le meta.pages 65536) (both (known_le 65536 meta.log) (both (known_le meta.log 67108864)
     (both (known_le 6 meta.dcap) (both (known_le meta.dcap 48) (both (known_le ICAP_MIN meta.icap) (both (known_le meta.icap 256) (both (known_le 1 meta.height) (known_le meta.height 12)))))))))))) [
-  | inl yes ↦ inl (record {
-      some_attributes = yes.0;
-      few_attributes = yes.1;
-      some_pages = yes.2;
-      few_pages = yes.3;
-      log_room = yes.4;
-      log_limit = yes.5;
-      dcap_least = yes.6;
-      dcap_most = yes.7;
-      icap_least = yes.8;
-      icap_most = yes.9;
-      some_height = yes.10;
-      few_levels = yes.11;
+  | inl holds ↦ inl (record {
+      some_attributes = holds.0;
+      few_attributes = holds.1.0;
+      some_pages = holds.1.1.0;
+      few_pages = holds.1.1.1.0;
+      log_room = holds.1.1.1.1.0;
+      log_limit = holds.1.1.1.1.1.0;
+      dcap_least = holds.1.1.1.1.1.1.0;
+      dcap_most = holds.1.1.1.1.1.1.1.0;
+      icap_least = holds.1.1.1.1.1.1.1.1.0;
+      icap_most = holds.1.1.1.1.1.1.1.1.1.0;
+      some_height = holds.1.1.1.1.1.1.1.1.1.1.0;
+      few_levels = holds.1.1.1.1.1.1.1.1.1.1.1;
     })
-  | inr no ↦ inr (λ is. no (
-      is.some_attributes,
-      is.few_attributes,
-      is.some_pages,
-      is.few_pages,
-      is.log_room,
-      is.log_limit,
-      is.dcap_least,
-      is.dcap_most,
-      is.icap_least,
-      is.icap_most,
-      is.some_height,
-      is.few_levels,
-    ))
+  | inr fails ↦ inr (λ is. fails (is.some_attributes, (is.few_attributes, (is.some_pages, (is.few_pages, (is.log_room, (is.log_limit, (is.dcap_least, (is.dcap_most, (is.icap_least, (is.icap_most, (is.some_height, is.few_levels))))))))))))
 ]
 
 known_marks : (meta : Meta) → Known (FitsMarks meta)
 known_marks meta = elim (both (known_lt meta.root (2 ^ 32)) (both (known_lt meta.high (2 ^ 32)) (both (known_lt meta.live (2 ^ 32)) (known_lt meta.free (2 ^ 32))))) [
-  | inl yes ↦ inl (record { root = yes.0; high = yes.1; live = yes.2; free = yes.3 })
-  | inr no ↦ inr (λ is. no (is.root, is.high, is.live, is.free))
+  | inl holds ↦ inl (record { root = holds.0; high = holds.1.0; live = holds.1.1.0; free = holds.1.1.1 })
+  | inr fails ↦ inr (λ is. fails (is.root, (is.high, (is.live, is.free))))
 ]
 
 known_legal : (turn : ℕ) (meta : Meta) → Known (IsLegal turn meta)
 known_legal turn meta = elim (both (known_le turn 3) (both (known_layout meta) (known_marks meta))) [
-  | inl yes ↦ inl (record { turn_fits = yes.0; layout = yes.1; marks = yes.2 })
-  | inr no ↦ inr (λ is. no (is.turn_fits, is.layout, is.marks))
+  | inl holds ↦ inl (record { turn_fits = holds.0; layout = holds.1.0; marks = holds.1.1 })
+  | inr fails ↦ inr (λ is. fails (is.turn_fits, (is.layout, is.marks)))
 ]
 
 -- the bytes are a legal body of this turn
@@ -131,8 +118,8 @@ HasBody bytes turn = (meta : Meta) × IsLegal turn meta × (bytes ≡ body_bytes
 
 pub known_body : (bytes : List ℕ) (turn : ℕ) → Known (HasBody bytes turn)
 known_body bytes turn = elim (both (known_legal turn (said_in bytes)) (known_same bytes (body_bytes turn (said_in bytes)))) [
-  | inl yes ↦ inl (said_in bytes, yes.0, yes.1)
-  | inr no ↦ inr (λ has.
+  | inl holds ↦ inl (said_in bytes, holds.0, holds.1)
+  | inr fails ↦ inr (λ has.
       let is : said_in bytes ≡ has.0 = ap said_in has.2 ∙ said_back turn has.0 has.1 in
-      no (subst (λ (m : Meta). IsLegal turn m) (sym is) has.1, has.2 ∙ ap (body_bytes turn) (sym is)))
+      fails (subst (λ (m : Meta). IsLegal turn m) (sym is) has.1, has.2 ∙ ap (body_bytes turn) (sym is)))
 ]

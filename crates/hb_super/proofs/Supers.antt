@@ -46,6 +46,25 @@ second_alone bytes (Some said) none one = alone bytes said.0 said.1 one.0 (λ s 
     even : (s : ℕ) → s % 2 ≢ 1 → s % 2 ≡ 0
     even s differs = omega (arith, differs)
 
+-- the gate and the body of a place in its first bytes
+module _ (bytes : List ℕ) (at : ℕ) where
+  pub gate_at : get_or (take 41 (drop at bytes)) 0 0 ≡ get_or bytes at 0
+  gate_at = get_or-take 41 (drop at bytes) 0 0 (omega arith) ∙ get_or-drop at bytes 0 0 ∙ ap (λ (i : ℕ). get_or bytes i 0) (plus_none at)
+    where
+      plus_none : (i : ℕ) → i + 0 ≡ i
+      plus_none i = omega arith
+
+  pub body_at : drop 1 (take 41 (drop at bytes)) ≡ take 40 (drop (at + 1) bytes)
+  body_at = drop-take 1 40 (drop at bytes) ∙ ap (λ (l : List ℕ). take 40 l) (drop-drop 1 at bytes)
+
+-- A superblock stands in each list of bytes that has the same in its place.
+pub same_place : (xs ys : List ℕ) (turn : ℕ) (meta : Meta) → take 41 (drop (place_of turn) ys) ≡ take 41 (drop (place_of turn) xs) → HasSuper xs turn meta → HasSuper ys turn meta
+same_place xs ys turn meta same has = record {
+  legal = has.legal;
+  gate = sym (gate_at ys (place_of turn)) ∙ ap (λ (l : List ℕ). get_or l 0 0) same ∙ gate_at xs (place_of turn) ∙ has.gate;
+  body = sym (body_at ys (place_of turn)) ∙ ap (λ (l : List ℕ). drop 1 l) same ∙ body_at xs (place_of turn) ∙ has.body;
+}
+
 -- What the first bytes of a place are of stands in it.
 module _ (bytes : List ℕ) (long : 8192 ≤ length bytes) (place : ℕ) (of_two : place < 2) where
   abbrev head : List ℕ
@@ -54,15 +73,6 @@ module _ (bytes : List ℕ) (long : 8192 ≤ length bytes) (place : ℕ) (of_two
   head_long : length head ≡ 41
   head_long = omega (arith, length-take 41 (drop (place_of place) bytes), length-drop (place_of place) bytes, long, of_two)
 
-  gate_at : get_or head 0 0 ≡ get_or bytes (place_of place) 0
-  gate_at = get_or-take 41 (drop (place_of place) bytes) 0 0 (omega arith) ∙ get_or-drop (place_of place) bytes 0 0 ∙ ap (λ (i : ℕ). get_or bytes i 0) (plus_none (place_of place))
-    where
-      plus_none : (i : ℕ) → i + 0 ≡ i
-      plus_none i = omega arith
-
-  body_at : drop 1 head ≡ take 40 (drop (place_of place + 1) bytes)
-  body_at = drop-take 1 40 (drop (place_of place) bytes) ∙ ap (λ (l : List ℕ). take 40 l) (drop-drop 1 (place_of place) bytes)
-
   place_same : (turn : ℕ) → turn % 2 ≡ place → place_of turn ≡ place_of place
   place_same turn here = omega (arith, here, of_two)
 
@@ -70,14 +80,14 @@ module _ (bytes : List ℕ) (long : 8192 ≤ length bytes) (place : ℕ) (of_two
   stands None none = λ turn meta has here. none turn meta (record {
       legal = has.legal;
       here = here;
-      gate = gate_at ∙ ap (λ (i : ℕ). get_or bytes i 0) (sym (place_same turn here)) ∙ has.gate;
-      body = body_at ∙ ap (λ (i : ℕ). take 40 (drop (i + 1) bytes)) (sym (place_same turn here)) ∙ has.body;
+      gate = gate_at bytes (place_of place) ∙ ap (λ (i : ℕ). get_or bytes i 0) (sym (place_same turn here)) ∙ has.gate;
+      body = body_at bytes (place_of place) ∙ ap (λ (i : ℕ). take 40 (drop (i + 1) bytes)) (sym (place_same turn here)) ∙ has.body;
     })
   stands (Some said) is = (
     record {
       legal = is.legal;
-      gate = ap (λ (i : ℕ). get_or bytes i 0) (place_same said.0 is.here) ∙ sym gate_at ∙ is.gate;
-      body = ap (λ (i : ℕ). take 40 (drop (i + 1) bytes)) (place_same said.0 is.here) ∙ sym body_at ∙ is.body;
+      gate = ap (λ (i : ℕ). get_or bytes i 0) (place_same said.0 is.here) ∙ sym (gate_at bytes (place_of place)) ∙ is.gate;
+      body = ap (λ (i : ℕ). take 40 (drop (i + 1) bytes)) (place_same said.0 is.here) ∙ sym (body_at bytes (place_of place)) ∙ is.body;
     },
     is.here,
   )

@@ -1,3 +1,4 @@
 pub mod Superblocks
 pub mod Reading
 pub mod Moments
+pub mod SuperLaws
