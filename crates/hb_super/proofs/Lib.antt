@@ -1,3 +1,4 @@
 mod Bodies
 mod Supers
 mod Writes
+mod Newest

@@ -1,0 +1,1 @@
+//! Superblocks by hand.
