@@ -83,22 +83,22 @@ said_back turn meta legal =
 known_layout : (meta : Meta) → Known (IsLayout meta)
 known_layout meta = elim (both (known_le 1 meta.k) (both (known_le meta.k KMAX) (both (known_le 1 meta.pages) (both (known_le meta.pages 65536) (both (known_le 65536 meta.log) (both (known_le meta.log 67108864)
     (both (known_le 6 meta.dcap) (both (known_le meta.dcap 48) (both (known_le ICAP_MIN meta.icap) (both (known_le meta.icap 256) (both (known_le 1 meta.height) (known_le meta.height 12)))))))))))) [
-  | inl holds ↦ inl (record {
-      some_attributes = holds.0;
-      few_attributes = holds.1.0;
-      some_pages = holds.1.1.0;
-      few_pages = holds.1.1.1.0;
-      log_room = holds.1.1.1.1.0;
-      log_limit = holds.1.1.1.1.1.0;
-      dcap_least = holds.1.1.1.1.1.1.0;
-      dcap_most = holds.1.1.1.1.1.1.1.0;
-      icap_least = holds.1.1.1.1.1.1.1.1.0;
-      icap_most = holds.1.1.1.1.1.1.1.1.1.0;
-      some_height = holds.1.1.1.1.1.1.1.1.1.1.0;
-      few_levels = holds.1.1.1.1.1.1.1.1.1.1.1;
-    })
-  | inr fails ↦ inr (λ is. fails (is.some_attributes, (is.few_attributes, (is.some_pages, (is.few_pages, (is.log_room, (is.log_limit, (is.dcap_least, (is.dcap_most, (is.icap_least, (is.icap_most, (is.some_height, is.few_levels))))))))))))
-]
+      | inl holds ↦ inl (record {
+        some_attributes = holds.0;
+        few_attributes = holds.1.0;
+        some_pages = holds.1.1.0;
+        few_pages = holds.1.1.1.0;
+        log_room = holds.1.1.1.1.0;
+        log_limit = holds.1.1.1.1.1.0;
+        dcap_least = holds.1.1.1.1.1.1.0;
+        dcap_most = holds.1.1.1.1.1.1.1.0;
+        icap_least = holds.1.1.1.1.1.1.1.1.0;
+        icap_most = holds.1.1.1.1.1.1.1.1.1.0;
+        some_height = holds.1.1.1.1.1.1.1.1.1.1.0;
+        few_levels = holds.1.1.1.1.1.1.1.1.1.1.1;
+      })
+      | inr fails ↦ inr (λ is. fails (is.some_attributes, (is.few_attributes, (is.some_pages, (is.few_pages, (is.log_room, (is.log_limit, (is.dcap_least, (is.dcap_most, (is.icap_least, (is.icap_most, (is.some_height, is.few_levels))))))))))))
+    ]
 
 known_marks : (meta : Meta) → Known (FitsMarks meta)
 known_marks meta = elim (both (known_lt meta.root (2 ^ 32)) (both (known_lt meta.high (2 ^ 32)) (both (known_lt meta.live (2 ^ 32)) (known_lt meta.free (2 ^ 32))))) [

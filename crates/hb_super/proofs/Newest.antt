@@ -72,15 +72,15 @@ module _ (bytes : List ℕ) (place : ℕ) where
             elim (cases_Bool (eqb (get_or bytes (PAGE * place) 0) open_gate)) [
               | inl gate ↦ elim (known_body body t) [
                 | inl has ↦ inl (record {
-                    turn = t;
-                    said = has.0;
-                    there = record {
-                      legal = has.1;
-                      gate = ap (λ (p : ℕ). get_or bytes (PAGE * p) 0) here ∙ eqb-true (get_or bytes (PAGE * place) 0) open_gate gate;
-                      body = ap (λ (p : ℕ). take 40 (drop (PAGE * p + 1) bytes)) here ∙ has.2;
-                    };
-                    here = here;
-                  })
+                  turn = t;
+                  said = has.0;
+                  there = record {
+                    legal = has.1;
+                    gate = ap (λ (p : ℕ). get_or bytes (PAGE * p) 0) here ∙ eqb-true (get_or bytes (PAGE * place) 0) open_gate gate;
+                    body = ap (λ (p : ℕ). take 40 (drop (PAGE * p + 1) bytes)) here ∙ has.2;
+                  };
+                  here = here;
+                })
                 | inr none ↦ inr (λ is.
                     let same : is.turn ≡ t = turn_is is in
                     none (

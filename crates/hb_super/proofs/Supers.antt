@@ -78,11 +78,11 @@ module _ (bytes : List ℕ) (long : 8192 ≤ length bytes) (place : ℕ) (of_two
 
   pub stands : (found : Option (ℕ × Meta)) → IsOf place found head → Stands place found bytes
   stands None none = λ turn meta has here. none turn meta (record {
-      legal = has.legal;
-      here = here;
-      gate = gate_at bytes (place_of place) ∙ ap (λ (i : ℕ). get_or bytes i 0) (sym (place_same turn here)) ∙ has.gate;
-      body = body_at bytes (place_of place) ∙ ap (λ (i : ℕ). take 40 (drop (i + 1) bytes)) (sym (place_same turn here)) ∙ has.body;
-    })
+    legal = has.legal;
+    here = here;
+    gate = gate_at bytes (place_of place) ∙ ap (λ (i : ℕ). get_or bytes i 0) (sym (place_same turn here)) ∙ has.gate;
+    body = body_at bytes (place_of place) ∙ ap (λ (i : ℕ). take 40 (drop (i + 1) bytes)) (sym (place_same turn here)) ∙ has.body;
+  })
   stands (Some said) is = (
     record {
       legal = is.legal;
