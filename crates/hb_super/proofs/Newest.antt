@@ -1,14 +1,14 @@
 -- That one superblock is the newest, and what a place has.
-use Rattle.std.proofs.Common.{◌≡◌, ◌≢◌, ◌⊎◌, inl, inr, ℕ, ◌+◌, ◌*◌, ◌%◌, ◌^◌, ◌<◌, ◌≤◌, List, take, drop, slice_range, get_or, refl, sym, ap, ◌∙◌, subst, arith}
+use Rattle.std.proofs.Common.{◌≡◌, ◌≢◌, ◌⊎◌, inl, inr, ℕ, ◌+◌, ◌*◌, ◌%◌, ◌^◌, ◌<◌, ◌≤◌, List, take, drop, slice_range, get_or, sym, ap, ◌∙◌, subst, arith}
 use Rattle.std.proofs.Math.Dec.{eqb}
 use Rattle.std.proofs.lemmas.Bool.{cases_Bool, eqb-true, eqb-false}
 use Rattle.hb_outside.specs.Numbers.{big_endian}
 use Rattle.hb_space.specs.declared.form.TheConstants.{PAGE}
 use Rattle.hb_disk.specs.Calls.{open_gate}
 use Rattle.hb_ops.specs.declared.meta.Meta.{Meta}
-use Rattle.hb_super.specs.Superblocks.{IsLegal, HasSuper, IsNewest, HasNone, body_bytes, place_of, next_turn}
+use Rattle.hb_super.specs.Superblocks.{IsLegal, HasSuper, IsNewest, HasNone, body_bytes, next_turn}
 use Rattle.hb_super.specs.SuperLaws.{OneNewest}
-use Rattle.hb_super.proofs.Supers.{turn_of, same_turn, other_parity, after_other, alone}
+use Rattle.hb_super.proofs.Supers.{same_turn, after_other, alone}
 use Rattle.hb_super.proofs.Bodies.{Known, known_body}
 
 pub next_or_before : (t s : ℕ) → t ≤ 3 → s ≤ 3 → t % 2 ≢ s % 2 → (t ≡ next_turn s) ⊎ (s ≡ next_turn t)

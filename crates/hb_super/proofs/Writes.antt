@@ -1,19 +1,18 @@
 -- What a crash leaves in each step of the writing of a superblock.
-use Rattle.std.proofs.Common.{◌≡◌, ◌≢◌, ◌⊎◌, inl, inr, ℕ, ◌+◌, ◌-◌, ◌*◌, ◌%◌, ◌^◌, ◌<◌, ◌≤◌, List, [], ◌∷◌, ◌++◌, length, take, drop, get_or, Option, Some, None, IfSome, IsSome, Result, Ok, refl, sym, ap, ◌∙◌, subst, arith}
+use Rattle.std.proofs.Common.{◌≡◌, ◌≢◌, inl, inr, ℕ, ◌+◌, ◌-◌, ◌%◌, ◌≤◌, List, [], ◌∷◌, length, take, drop, get_or, Option, Some, None, IfSome, IsSome, Result, Ok, refl, sym, ap, ◌∙◌, subst, arith}
 use Rattle.std.proofs.Math.Dec.{eqb}
 use Rattle.std.proofs.lemmas.Bool.{cases_Bool, eqb-true, eqb-false}
 use Rattle.std.proofs.lemmas.List.{ext_get_or}
 use Rattle.hb_outside.specs.Numbers.{big_endian}
-use Rattle.hb_space.specs.declared.form.TheConstants.{PAGE}
 use Rattle.hb_disk.specs.Model.{DiskModel, IsDisk, overwritten, Torn}
 use Rattle.hb_disk.specs.Calls.{Ticks, Writes, Syncs, Leaves, Becomes, IsSynced, FrameOrNot, Apart, open_gate}
-use Rattle.hb_disk.specs.TornLaws.{cases_range, Torn-same, Torn-itself, Torn-wider, Torn-twice, Torn-elsewhere, length-overwritten, overwritten-inside, overwritten-outside, overwritten-reads}
+use Rattle.hb_disk.specs.TornLaws.{cases_range, Torn-itself, Torn-wider, Torn-twice, Torn-elsewhere, length-overwritten, overwritten-inside, overwritten-outside, overwritten-reads}
 use Rattle.hb_disk.specs.RunLaws.{some_same, some_value, at_value, has_value, told_written, only_told, part_of, Leaves-start, Leaves-call, Leaves-weaker, Leaves-then, Becomes-torn, Becomes-torn_write, Becomes-torn_sync}
 use Rattle.hb_ops.specs.declared.meta.Meta.{Meta}
 use Rattle.hb_super.specs.Superblocks.{IsLegal, HasSuper, IsNewest, body_bytes, place_of, next_turn}
 use Rattle.hb_super.specs.Moments.{WriteLeaves, IsUncovered}
-use Rattle.hb_super.proofs.Supers.{gate_at, body_at, same_place, same_turn, after_other}
-use Rattle.hb_super.proofs.Bodies.{HasBody, known_body}
+use Rattle.hb_super.proofs.Supers.{gate_at, body_at, same_place, after_other}
+use Rattle.hb_super.proofs.Bodies.{known_body}
 
 -- there are 40 bytes of a body
 pub body_long : (turn : ℕ) (meta : Meta) → length (body_bytes turn meta) ≡ 40

@@ -2,6 +2,7 @@
 ghost use Rattle.std.specs.Prelude.{◌≡◌, ◌≢◌, ◌⊎◌, ℕ, ◌%◌, ◌≤◌, List};
 ghost use Rattle.hb_ops.specs.declared.meta.Meta.{Meta as Said};
 ghost use Rattle.hb_super.specs.Superblocks.{HasSuper, IsNewest, HasNone, next_turn};
+ghost use Rattle.hb_super.specs.Moments.{IsUncovered, HidesNoOther};
 ghost use Rattle.hb_super.specs.SuperLaws.{OneNewest};
 
 use hb_outside::big_endian_law;
@@ -30,3 +31,9 @@ pub fn one_superblock_is_newest()
 {
     a_place_has_one_superblock();
 }
+
+/// Where a place hides no other body of the turn behind its closed gate, what is uncovered is what is written.
+pub fn a_known_body_is_uncovered()
+    ensures { (before c : List ℕ) (turn : ℕ) (meta : Said) → HidesNoOther before turn meta →
+        IsUncovered before turn c → IsNewest c turn meta }
+{}

@@ -1,4 +1,4 @@
-use Rattle.std.proofs.Common.{◌≡◌, ℕ, List, Option, Some, None, sym, ap, ◌∙◌, subst, refl}
+use Rattle.std.proofs.Common.{ℕ, Option, subst}
 use Rattle.hb_ops.specs.declared.meta.Meta.{Meta}
 use Rattle.hb_super.specs.Reading.{Stands}
 use Rattle.hb_super.proofs.Supers.{first_alone, second_alone}

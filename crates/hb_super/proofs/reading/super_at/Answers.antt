@@ -1,4 +1,4 @@
-use Rattle.std.proofs.Common.{◌≡◌, ℕ, ◌*◌, ◌%◌, ◌+◌, List, length, take, drop, IfSome, arith, sym, ap, ◌∙◌, subst, refl}
+use Rattle.std.proofs.Common.{◌≡◌, ℕ, List, length, take, drop, arith, ap, ◌∙◌, subst}
 use Rattle.hb_disk.specs.RunLaws.{if_value, at_value}
 use Rattle.hb_super.specs.Superblocks.{place_of}
 use Rattle.hb_super.specs.Reading.{IsOf, Stands}

@@ -1,7 +1,7 @@
-use Rattle.std.proofs.Common.{◌≡◌, ℕ, ◌+◌, List, [], ◌∷◌, Some, IfSome, length, sym, ap, ◌∙◌, subst}
+use Rattle.std.proofs.Common.{◌≡◌, ℕ, ◌+◌, List, [], ◌∷◌, Some, IfSome, length, subst}
 use Rattle.hb_disk.specs.Model.{overwritten, Torn}
 use Rattle.hb_disk.specs.Calls.{Leaves, Writes, Becomes, FrameOrNot, open_gate}
-use Rattle.hb_disk.specs.RunLaws.{if_value, of_value, has_value}
+use Rattle.hb_disk.specs.RunLaws.{if_value, of_value}
 use Rattle.hb_super.specs.Superblocks.{IsNewest, body_bytes, place_of}
 use Rattle.hb_super.specs.Moments.{WriteLeaves}
 use Rattle.hb_super.proofs.Writes.{run_one, run_two, run_all, gate_closed, new_told, place_one, place_two, place_all, newest_written, still_tells}
