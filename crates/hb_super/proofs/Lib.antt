@@ -1,0 +1,4 @@
+mod Bodies
+mod Supers
+mod Writes
+mod Newest

@@ -1,0 +1,256 @@
+-- What a crash leaves in each step of the writing of a superblock.
+use Rattle.std.proofs.Common.{◌≡◌, ◌≢◌, inl, inr, ℕ, ◌+◌, ◌-◌, ◌%◌, ◌≤◌, List, [], ◌∷◌, length, take, drop, get_or, Option, Some, None, IfSome, IsSome, Result, Ok, refl, sym, ap, ◌∙◌, subst, arith}
+use Rattle.std.proofs.Math.Dec.{eqb}
+use Rattle.std.proofs.lemmas.Bool.{cases_Bool, eqb-true, eqb-false}
+use Rattle.std.proofs.lemmas.List.{ext_get_or}
+use Rattle.hb_outside.specs.Numbers.{big_endian}
+use Rattle.hb_disk.specs.Model.{DiskModel, IsDisk, overwritten, Torn}
+use Rattle.hb_disk.specs.Calls.{Ticks, Writes, Syncs, Leaves, Becomes, IsSynced, FrameOrNot, Apart, open_gate}
+use Rattle.hb_disk.specs.TornLaws.{cases_range, Torn-itself, Torn-wider, Torn-twice, Torn-elsewhere, length-overwritten, overwritten-inside, overwritten-outside, overwritten-reads}
+use Rattle.hb_disk.specs.RunLaws.{some_same, some_value, at_value, has_value, told_written, only_told, part_of, Leaves-start, Leaves-call, Leaves-weaker, Leaves-then, Becomes-torn, Becomes-torn_write, Becomes-torn_sync}
+use Rattle.hb_ops.specs.declared.meta.Meta.{Meta}
+use Rattle.hb_super.specs.Superblocks.{IsLegal, HasSuper, IsNewest, body_bytes, place_of, next_turn}
+use Rattle.hb_super.specs.Moments.{WriteLeaves, IsUncovered}
+use Rattle.hb_super.proofs.Supers.{gate_at, body_at, same_place, after_other}
+use Rattle.hb_super.proofs.Bodies.{known_body}
+
+-- there are 40 bytes of a body
+pub body_long : (turn : ℕ) (meta : Meta) → length (body_bytes turn meta) ≡ 40
+unfolding big_endian
+body_long turn meta = refl
+
+pub one_more : (turn : ℕ) (meta : Meta) → 1 + length (body_bytes turn meta) ≡ 41
+unfolding big_endian
+one_more turn meta = refl
+
+pub frame_long : (turn : ℕ) (meta : Meta) → length (open_gate ∷ body_bytes turn meta) ≡ 41
+frame_long turn meta = omega (arith, body_long turn meta)
+
+-- a place lies in the first two pages
+pub place_fits : (turn : ℕ) → place_of turn + 41 ≤ 8192
+place_fits turn = omega arith
+
+-- the places of a turn and the next
+pub next_apart : (turn old : ℕ) → turn ≡ next_turn old → turn % 2 ≢ old % 2
+next_apart turn old next = omega (arith, next)
+
+pub places_apart : (turn old : ℕ) → turn ≡ next_turn old → Apart (place_of old) 41 (place_of turn) 41
+places_apart turn old next = elim (cases_Bool (eqb (old % 2) 0)) [
+  | inl even ↦ inl (omega (arith, next, eqb-true (old % 2) 0 even))
+  | inr odd ↦ inr (omega (arith, next, eqb-false (old % 2) 0 odd))
+]
+
+-- a turn of the same place as the next is the next, or comes before the old
+before_old : (turn old other : ℕ) → turn ≡ next_turn old → old ≤ 3 → other ≤ 3 → other % 2 ≢ old % 2 → other ≢ turn → old ≡ next_turn other
+before_old turn old other next old_fits other_fits differs not_it = omega (arith, next, old_fits, other_fits, differs, not_it)
+
+never_both : (turn old : ℕ) → turn ≡ next_turn old → old ≡ next_turn turn → ⊥
+never_both turn old next back = omega (arith, next, back)
+
+-- bytes with a frame in their place
+module _ (bytes : List ℕ) (turn : ℕ) (meta : Meta) (legal : IsLegal turn meta) (long : 8192 ≤ length bytes) where
+  abbrev frame : List ℕ
+  frame = open_gate ∷ body_bytes turn meta
+
+  fits : place_of turn + length frame ≤ length bytes
+  fits = omega (arith, long, frame_long turn meta, place_fits turn)
+
+  pub framed_super : HasSuper (overwritten bytes (place_of turn) frame) turn meta
+  framed_super =
+      let whole = overwritten bytes (place_of turn) frame in
+      let read : take 41 (drop (place_of turn) whole) ≡ frame =
+      ap (λ (n : ℕ). take n (drop (place_of turn) whole)) (sym (frame_long turn meta)) ∙ overwritten-reads bytes (place_of turn) frame fits in
+      record {
+        legal = legal;
+        gate = sym (gate_at whole (place_of turn)) ∙ ap (λ (l : List ℕ). get_or l 0 0) read;
+        body = sym (body_at whole (place_of turn)) ∙ ap (λ (l : List ℕ). drop 1 l) read;
+      }
+
+  -- the closed gate is overwritten too
+  pub overwritten_again : overwritten (overwritten bytes (place_of turn) (0 ∷ [])) (place_of turn) frame ≡ overwritten bytes (place_of turn) frame
+  overwritten_again =
+      let closed = overwritten bytes (place_of turn) (0 ∷ []) in
+      let one_fits : place_of turn + length {A = ℕ} (0 ∷ []) ≤ length bytes = omega (arith, fits) in
+      let as_long : length closed ≡ length bytes = length-overwritten bytes (place_of turn) (0 ∷ []) one_fits in
+      let still : place_of turn + length frame ≤ length closed = omega (arith, as_long, fits) in
+      ext_get_or 0 (overwritten closed (place_of turn) frame) (overwritten bytes (place_of turn) frame)
+      (length-overwritten closed (place_of turn) frame still ∙ as_long ∙ sym (length-overwritten bytes (place_of turn) frame fits))
+      (λ i h. elim (cases_range (place_of turn) (length frame) i) [
+        | inl within ↦ overwritten-inside closed (place_of turn) frame still i within.0 within.1 ∙ sym (overwritten-inside bytes (place_of turn) frame fits i within.0 within.1)
+        | inr outside ↦
+            overwritten-outside closed (place_of turn) frame still i outside
+            ∙ overwritten-outside bytes (place_of turn) (0 ∷ []) one_fits i (elim outside [ inl front ↦ inl front | inr behind ↦ inr (omega (arith, behind)) ])
+            ∙ sym (overwritten-outside bytes (place_of turn) frame fits i outside)
+      ])
+
+  pub closed_gate : get_or (overwritten bytes (place_of turn) (0 ∷ [])) (place_of turn) 0 ≡ 0
+  closed_gate =
+      overwritten-inside bytes (place_of turn) (0 ∷ []) (omega (arith, fits)) (place_of turn) (omega arith) (omega arith)
+      ∙ ap (λ (i : ℕ). get_or (0 ∷ []) i 0) (none_left (place_of turn))
+    where
+      none_left : (i : ℕ) → i - i ≡ 0
+      none_left i = omega arith
+
+-- a disk that tells still does
+pub still_tells : (at n : ℕ) (d new : DiskModel) (b : List ℕ) → d.told ≡ Some b → Becomes (Torn at n) d new → IsSome new.told
+still_tells at n d new b told run =
+    let after = at_value d.told (λ b. (c : List ℕ) × (new.told ≡ Some c) × Torn at n b c) b told run.told in
+    has_value new.told after.0 after.1
+
+module _ (d : DiskModel) (is_disk : IsDisk d) (room : 8192 ≤ d.size) (turn : ℕ) (meta : Meta) (legal : IsLegal turn meta) where
+  abbrev place : ℕ
+  place = place_of turn
+
+  abbrev body : List ℕ
+  body = body_bytes turn meta
+
+  long : (c : List ℕ) → d.Image c → 8192 ≤ length c
+  long c image = omega (arith, is_disk.long c image, room)
+
+  module _ (old : ℕ) (said : Meta) (next : turn ≡ next_turn old) (synced : IsSynced d 0 8192) (b : List ℕ) (told : d.told ≡ Some b) (newest : IsNewest b old said) where
+    abbrev Left : List ℕ → Type 0
+    Left = WriteLeaves d b old said turn meta
+
+    -- a part of an image that lies in the two places
+    image_part : (a : List ℕ) → d.Image a → (at n : ℕ) → at + n ≤ 8192 → take n (drop at a) ≡ take n (drop at b)
+    image_part a image at n within = part_of 0 8192 at n a b (omega arith) within (synced.each b a told image)
+
+    old_there : (a c : List ℕ) → d.Image a → Torn place 41 a c → HasSuper c old said
+    old_there a c image torn =
+        same_place b c old said
+        (Torn-elsewhere place 41 (place_of old) 41 a c (places_apart turn old next) torn ∙ image_part a image (place_of old) 41 (place_fits old))
+        newest.there
+
+    -- the old one is the newest where the other place has none of the new turn
+    old_newest : (a c : List ℕ) → d.Image a → Torn place 41 a c → ((m : Meta) → HasSuper c turn m → ⊥) → IsNewest c old said
+    old_newest a c image torn none = record {
+      there = old_there a c image torn;
+      newer = λ other m has differs. before_old turn old other next newest.there.legal.turn_fits has.legal.turn_fits differs
+          (λ e. none m (subst (λ (t : ℕ). HasSuper c t m) e has));
+    }
+
+    closed_left : (a c : List ℕ) → d.Image a → Torn place 41 a c → get_or c place 0 ≢ open_gate → Left c
+    closed_left a c image torn closed = record {
+      base = a;
+      image = image;
+      elsewhere = torn;
+      newest = inl (old_newest a c image torn (λ m has. closed has.gate));
+    }
+
+    -- the gate is torn, and what stands behind it is as it was
+    module _ (a c : List ℕ) (image : d.Image a) (torn : Torn place 1 a c) where
+      wide : Torn place 41 a c
+      wide = Torn-wider place 1 place 41 a c (omega arith) (omega arith) torn
+
+      body_kept : take 40 (drop (place + 1) c) ≡ take 40 (drop (place + 1) b)
+      body_kept = Torn-elsewhere place 1 (place + 1) 40 a c (inr (omega arith)) torn ∙ image_part a image (place + 1) 40 (omega (arith, place_fits turn))
+
+      uncovered : get_or c place 0 ≡ open_gate → (m : Meta) → IsLegal turn m → take 40 (drop (place + 1) c) ≡ body_bytes turn m → IsUncovered b turn c
+      uncovered is_open m m_legal is = record {
+        said = m;
+        closed = λ was_open. never_both turn old next
+            (newest.newer turn m (record { legal = m_legal; gate = was_open; body = sym body_kept ∙ is }) (next_apart turn old next));
+        body = sym body_kept ∙ is;
+        newest = after_other c turn old m said (record { legal = m_legal; gate = is_open; body = is }) (old_there a c image wide) (next_apart turn old next) next;
+      }
+
+      pub gate_left : Left c
+      gate_left = record {
+        base = a;
+        image = image;
+        elsewhere = wide;
+        newest = elim (cases_Bool (eqb (get_or c place 0) open_gate)) [
+          | inl is_open ↦ elim (known_body (take 40 (drop (place + 1) c)) turn) [
+            | inl has ↦ inr (inr (uncovered (eqb-true (get_or c place 0) open_gate is_open) has.0 has.1 has.2))
+            | inr none ↦ inl (old_newest a c image wide (λ m has. none (m, has.legal, has.body)))
+          ]
+          | inr closed ↦ inl (old_newest a c image wide (λ m has. eqb-false (get_or c place 0) open_gate closed has.gate))
+        ];
+      }
+
+    pub start_left : (c : List ℕ) → d.Image c → Left c
+    start_left c image = gate_left c c image (Torn-itself place 1 c (is_disk.bytes c image))
+
+    -- the frame is whole behind its open gate, or the gate is closed
+    framed_left : (a e c : List ℕ) → d.Image a → Torn place 1 a e → FrameOrNot place body e c → Left c
+    framed_left a e c image torn framed =
+        let e_long : 8192 ≤ length e = omega (arith, torn.as_long, long a image) in
+        let elsewhere : Torn place 41 e c = subst (λ (n : ℕ). Torn place n e c) (one_more turn meta) framed.elsewhere in
+        let wide : Torn place 41 a c = Torn-twice place 41 a e c (Torn-wider place 1 place 41 a e (omega arith) (omega arith) torn) elsewhere in
+        elim (cases_Bool (eqb (get_or c place 0) open_gate)) [
+          | inl is_open ↦
+              let whole : c ≡ overwritten e place (open_gate ∷ body) = framed.whole (eqb-true (get_or c place 0) open_gate is_open) in
+              let here : HasSuper c turn meta = subst (λ (l : List ℕ). HasSuper l turn meta) (sym whole) (framed_super e turn meta legal e_long) in
+              record {
+                base = a;
+                image = image;
+                elsewhere = wide;
+                newest = inr (inl (after_other c turn old meta said here (old_there a c image wide) (next_apart turn old next) next));
+              }
+          | inr closed ↦ closed_left a c image wide (eqb-false (get_or c place 0) open_gate closed)
+        ]
+
+    module _ {T E : Type 0} (first : Result T E) (one : DiskModel) (gate_written : Writes place (0 ∷ []) first d one) (gate_ticks : Ticks first d one) where
+      pub run_one : Leaves d one Left
+      run_one = Leaves-call first d d one Left (Leaves-start d Left is_disk start_left) gate_ticks
+          (λ c image. let from = gate_written.crash c image in gate_left from.0 c from.1 from.2)
+
+      module _ (second : Result T E) (two : DiskModel) (gate_synced : Syncs second one two) (sync_ticks : Ticks second one two) where
+        pub run_two : Leaves d two Left
+        run_two = Leaves-call second d one two Left run_one sync_ticks
+            (λ c image. let from = gate_written.crash c (gate_synced.crash c image) in gate_left from.0 c from.1 from.2)
+
+        pub run_all : (new : DiskModel) → Leaves two new (λ c. (e : List ℕ) × two.Image e × FrameOrNot place body e c) → Leaves d new Left
+        run_all new run = Leaves-then d two new Left run_two
+            (Leaves-weaker two new (λ c. (e : List ℕ) × two.Image e × FrameOrNot place body e c) Left
+            (λ c framed.
+            let from = gate_written.crash framed.0 (gate_synced.crash framed.0 framed.1) in
+            framed_left from.0 framed.0 c from.1 from.2 framed.2) run)
+
+  -- What a read then gives.
+  module _ {T E : Type 0} (first : Result T E) (v : T) (first_ok : first ≡ Ok v) (one : DiskModel) (gate_written : Writes place (0 ∷ []) first d one)
+      (second : Result T E) (w : T) (second_ok : second ≡ Ok w) (two : DiskModel) (gate_synced : Syncs second one two) where
+    closed_told : (b : List ℕ) → d.told ≡ Some b → one.told ≡ Some (overwritten b place (0 ∷ []))
+    closed_told b told = told_written first v place (0 ∷ []) d one b first_ok told gate_written
+
+    pub gate_closed : IsSome two.told → (c : List ℕ) → two.Image c → get_or c place 0 ≢ open_gate
+    gate_closed tells c image = by_cases d.told refl
+      where
+        by_cases : (o : Option (List ℕ)) → d.told ≡ o → get_or c place 0 ≢ open_gate
+        by_cases None none =
+            let some = some_value two.told tells in
+            absurd (cc (sym some.1 ∙ gate_synced.same ∙ gate_written.silent none))
+        by_cases (Some b) told =
+            let only : c ≡ overwritten b place (0 ∷ []) = only_told second w one two (overwritten b place (0 ∷ [])) second_ok (closed_told b told) gate_synced c image in
+            λ is_open. cc (sym (ap (λ (l : List ℕ). get_or l place 0) only ∙ closed_gate b turn meta legal (long b (is_disk.as_read b told))) ∙ is_open)
+
+    pub new_told : (b : List ℕ) → d.told ≡ Some b → (new : DiskModel) → IfSome two.told (λ e. new.told ≡ Some (overwritten e place (open_gate ∷ body)))
+        → new.told ≡ Some (overwritten b place (open_gate ∷ body))
+    new_told b told new written =
+        at_value two.told (λ e. new.told ≡ Some (overwritten e place (open_gate ∷ body))) (overwritten b place (0 ∷ [])) (gate_synced.same ∙ closed_told b told) written
+        ∙ ap Some (overwritten_again b turn meta legal (long b (is_disk.as_read b told)))
+
+  -- the place alone was touched
+  module _ {T E : Type 0} (first : Result T E) (one : DiskModel) (is_one : IsDisk one) (gate_written : Writes place (0 ∷ []) first d one) (gate_ticks : Ticks first d one) where
+    pub place_one : Becomes (Torn place 41) d one
+    place_one = Becomes-torn_write first place (0 ∷ []) place 41 d one is_disk is_one (omega (arith, room, place_fits turn)) (omega arith) (omega arith) gate_written gate_ticks
+
+    module _ (second : Result T E) (two : DiskModel) (gate_synced : Syncs second one two) (sync_ticks : Ticks second one two) where
+      pub place_two : Becomes (Torn place 41) d two
+      place_two = Becomes-torn place 41 d one two place_one (Becomes-torn_sync second place 41 one two is_one gate_synced sync_ticks)
+
+      pub place_all : (new : DiskModel) → Becomes (Torn place (1 + length body)) two new → Becomes (Torn place 41) d new
+      place_all new run = Becomes-torn place 41 d two new place_two (subst (λ (n : ℕ). Becomes (Torn place n) two new) (one_more turn meta) run)
+
+  -- the new one is the newest
+  pub newest_written : (old : ℕ) (said : Meta) → turn ≡ next_turn old → (b : List ℕ) → d.told ≡ Some b → IsNewest b old said → (new : DiskModel) → Becomes (Torn place 41) d new
+      → new.told ≡ Some (overwritten b place (open_gate ∷ body)) → IsNewest (overwritten b place (open_gate ∷ body)) turn meta
+  newest_written old said next b told newest new run new_told =
+      let c = overwritten b place (open_gate ∷ body) in
+      let after = at_value d.told (λ b. (c : List ℕ) × (new.told ≡ Some c) × Torn place 41 b c) b told run.told in
+      let same : after.0 ≡ c = some_same after.0 c (sym after.1 ∙ new_told) in
+      let torn : Torn place 41 b c = subst (λ (l : List ℕ). Torn place 41 b l) same after.2 in
+      after_other c turn old meta said
+      (framed_super b turn meta legal (long b (is_disk.as_read b told)))
+      (same_place b c old said (Torn-elsewhere place 41 (place_of old) 41 b c (places_apart turn old next) torn) newest.there)
+      (next_apart turn old next) next

@@ -1,0 +1,4 @@
+pub mod Superblocks
+pub mod Reading
+pub mod Moments
+pub mod SuperLaws

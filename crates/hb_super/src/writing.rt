@@ -1,0 +1,43 @@
+ghost use Rattle.std.specs.Prelude.{◌≡◌, ℕ, ◌+◌, ◌*◌, ◌≤◌, ◌∷◌, List, Some, IsSome, IfSome, OnOk, ◌⊎◌};
+ghost use Rattle.hb_disk.specs.Model.{overwritten, Torn};
+ghost use Rattle.hb_disk.specs.Calls.{Leaves, WriteFaults, Becomes, IsSynced, open_gate};
+ghost use Rattle.hb_ops.specs.declared.meta.Meta.{Meta as Said};
+ghost use Rattle.hb_super.specs.Superblocks.{IsLegal, IsNewest, body_bytes, place_of, next_turn};
+ghost use Rattle.hb_super.specs.Moments.{WriteLeaves};
+
+use crate::body::body_of;
+use crate::reading::place_at;
+use hb_disk::{Disk, DiskFault, write_behind_gate};
+use hb_ops::Meta;
+
+/// The byte that a gate is closed with.
+const CLOSED: u8 = 0;
+
+/// Writes the superblock of a turn in its place: the gate is closed, the body written, the gate opened, each with a
+/// sync. Six device calls.
+///
+/// Where both places were synced, and the newest turn was the one before, each image of a moment inside has the old
+/// superblock as its newest or one of the new turn. It is the new one, unless the place had a body of the new turn
+/// behind its closed gate, as a write that was cut short leaves it, and a crash tore that gate open.
+pub fn write_super<D: Disk>(disk: &mut D, turn: u8, meta: &Meta) -> Result<(), DiskFault>
+    requires room { 2 * 4096 ≤ (D.model disk.old).size }
+    requires legal { IsLegal turn meta.now }
+    ensures written { OnOk result (IfSome (D.model disk.old).told (λ b. (D.model disk.new).told
+        ≡ Some (overwritten b (place_of turn) (open_gate ∷ body_bytes turn meta.now)))) }
+    ensures durable { OnOk result (IfSome (D.model disk.new).told
+        (λ b. (c : List ℕ) → (D.model disk.new).Image c → c ≡ b)) }
+    ensures newest { (old : ℕ) (said : Said) → turn ≡ next_turn old → OnOk result (IfSome (D.model disk.old).told (λ b.
+        IsNewest b old said → IfSome (D.model disk.new).told (λ c. IsNewest c turn meta.now))) }
+    ensures moments { (old : ℕ) (said : Said) → turn ≡ next_turn old → IsSynced (D.model disk.old) 0 8192 →
+        IfSome (D.model disk.old).told (λ b. IsNewest b old said →
+        Leaves (D.model disk.old) (D.model disk.new) (WriteLeaves (D.model disk.old) b old said turn meta.now)) }
+    ensures place { Becomes (Torn (place_of turn) 41) (D.model disk.old) (D.model disk.new) }
+    ensures clock { IsSome (D.model disk.old).told → (D.model disk.new).clock ≤ (D.model disk.old).clock + 6 }
+    ensures faults { WriteFaults result (D.model disk.old) (D.model disk.new) }
+{
+    let place = place_at(turn);
+    let body = body_of(turn, meta);
+    disk.write(place, &[CLOSED])?;
+    disk.sync()?;
+    Ok(write_behind_gate(disk, place, &body)?)
+}
