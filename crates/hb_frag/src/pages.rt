@@ -5,7 +5,6 @@ ghost use Rattle.hb_frag.specs.Trees.{Tip};
 ghost use Rattle.hb_frag.specs.Leaves.{Placed, leaf_at, with_leaf_at, leaves, child_names, firsts, first_named, siblings_of, weight_of, DirectlyCovers, WellCut};
 ghost use Rattle.hb_frag.specs.Paths.{part_at, with_part, way_to, StaysInside};
 
-use crate::records::same_box;
 use crate::{Frag, Leaf, Pages, Path};
 use hb_space::{Area, NoMemory, Point};
 use std::alloc::Global;
@@ -43,7 +42,7 @@ impl LivePage {
     pub fn is_well_cut(&self) -> bool
         ensures { IsTrue result ↔ WellCut self.now }
     {
-        self.frag.is_well_cut(same_box(&self.area))
+        self.frag.is_well_cut(self.area.copy())
     }
 
     /// The leaf whose box holds the point, and that box.
@@ -53,7 +52,7 @@ impl LivePage {
         ensures value { leaf_at self.now p.now ≡ Some (record { leaf = result.0.now; area = result.1 }) }
         ensures inside { Holds result.1 p.now }
     {
-        self.frag.leaf_at(same_box(&self.area), p)
+        self.frag.leaf_at(self.area.copy(), p)
     }
 
     /// The path to the leaf whose box holds the point.
@@ -68,7 +67,7 @@ impl LivePage {
             with_part path self.now.frag (Tip leaf) ≡ with_leaf_at p.now (λ _. leaf) self.now.frag self.now.area) }
     {
         let mut path = Path::new(alloc);
-        self.frag.trace(same_box(&self.area), p, &mut path)?;
+        self.frag.trace(self.area.copy(), p, &mut path)?;
         Ok(path)
     }
 
@@ -104,7 +103,7 @@ impl LivePage {
         ensures value { result ≡ first_named id (siblings_of self.now) }
         ensures found { IsSome result ↔ Any (λ s. s.0 ≡ id) (siblings_of self.now) }
     {
-        self.frag.sibling_area(same_box(&self.area), id)
+        self.frag.sibling_area(self.area.copy(), id)
     }
 
     /// Whether the page directly holds the box: it lies in the page's and meets no sibling
@@ -114,7 +113,7 @@ impl LivePage {
         requires attributes { length a.now.lo ≡ length self.now.area.lo }
         ensures { IsTrue result ↔ DirectlyCovers self.now a.now }
     {
-        a.within(&self.area) && self.frag.is_clear_of(same_box(&self.area), a)
+        a.within(&self.area) && self.frag.is_clear_of(self.area.copy(), a)
     }
 
     /// The part to which the path leads, and its box. `None` where the path leads out of the
@@ -126,7 +125,7 @@ impl LivePage {
             (λ part. part_at path.now self.now.frag self.now.area ≡ Some (part.0.now, part.1)) }
         ensures inside { IsSome result ↔ StaysInside path.now self.now.frag }
     {
-        self.frag.part(same_box(&self.area), path.as_slice())
+        self.frag.part(self.area.copy(), path.as_slice())
     }
 
     /// The same page once more.
@@ -135,7 +134,7 @@ impl LivePage {
     {
         Ok(LivePage {
             level: self.level,
-            area: same_box(&self.area),
+            area: self.area.copy(),
             frag: self.frag.copy(alloc)?,
         })
     }

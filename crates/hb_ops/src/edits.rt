@@ -13,7 +13,7 @@ ghost use Rattle.hb_ops.specs.declared.changes.ChangeError.TheVariants.{Unfit, N
 use crate::local::local_rule;
 use crate::{ChangeError, Meta};
 use hb_frag::{Frag, Leaf, LivePage};
-use hb_space::{Body, NoMemory, Point, Record, Records};
+use hb_space::{NoMemory, Point, Record, Records};
 use std::alloc::Global;
 
 /// The page with the record, where a put of it is allowed.
@@ -202,7 +202,7 @@ fn with_records(
     let path = page.path_to(alloc, point)?;
     let leaf = Frag::tip(Leaf::Records(records));
     let frag = page.frag.copy_with(alloc, &path, leaf)?;
-    let area = page.area.clone()?;
+    let area = page.area.copy();
     Ok(LivePage {
         level: page.level,
         area,
@@ -223,7 +223,7 @@ fn records_with(
     let (before, after) = records.split_at(place);
     let mut made = Vec::with_capacity(alloc, records.len() + 1)?;
     push_copies(&mut made, before)?;
-    made.push(copied(rec))?;
+    made.push(rec.copy())?;
     push_copies(&mut made, after)?;
     Ok(Records::new(made))
 }
@@ -244,17 +244,7 @@ fn push_copies(made: &mut Vec<Record>, records: &[Record]) -> Result<(), NoMemor
     ensures { OnOk result (made.new.items ≡ made.old.items ++ records.now) }
 {
     for record in records {
-        made.push(copied(record))?;
+        made.push(record.copy())?;
     }
     Ok(())
-}
-
-// The same record once more.
-fn copied(source: &Record) -> Record
-    ensures { result ≡ source.now }
-{
-    Record {
-        key: Point::new(source.key.values()),
-        body: Body::new(source.body.bytes()),
-    }
 }

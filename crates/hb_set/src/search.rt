@@ -7,18 +7,8 @@ ghost use Rattle.hb_set.specs.Kept.{records_behind, PointsRise, KeysHave};
 
 use arrayvec::ArrayVec;
 use hb_space::form::KMAX;
-use hb_space::{Area, Body, NoMemory, Point, Record};
+use hb_space::{Area, NoMemory, Point, Record};
 use std::alloc::Global;
-
-// A second record of the same point and body.
-pub(crate) fn copied(source: &Record) -> Record
-    ensures { result ≡ source.now }
-{
-    Record {
-        key: Point::new(source.key.values()),
-        body: Body::new(source.body.bytes()),
-    }
-}
 
 // Copies of the records that the box holds, in their order.
 pub(crate) fn held_by(
@@ -34,7 +24,7 @@ pub(crate) fn held_by(
     let mut rest = window(records, area);
     while let Some((record, later)) = rest.split_first() {
         if area.holds(&record.key) {
-            held.push(copied(record))?;
+            held.push(record.copy())?;
             rest = later;
         } else {
             rest = past_outside(&record.key, later, area);

@@ -3,7 +3,7 @@ ghost use Rattle.std.specs.FinMap as map;
 ghost use Rattle.hb_set.specs.Machine.{Answers, HasAttributes, MayWantMemory, attributes, reply_of};
 ghost use Rattle.hb_set.specs.Kept.{PointsRise, IsAt, IsGapFor};
 
-use crate::search::{copied, held_by};
+use crate::search::held_by;
 use crate::{Command, Reply};
 use hb_space::{Area, Body, NoMemory, Point, Record, Records};
 use std::alloc::Global;
@@ -87,7 +87,7 @@ impl Set {
             Ok(_) => return Reply::Duplicate,
             Err(place) => place,
         };
-        let Ok(handle) = Box::new(*self.records.allocator(), copied(added)) else {
+        let Ok(handle) = Box::new(*self.records.allocator(), added.copy()) else {
             return Reply::NoMemory;
         };
         if self.records.insert(place, handle).is_err() {

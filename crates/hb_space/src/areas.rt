@@ -86,8 +86,9 @@ impl Area {
     }
 
     /// The same box once more.
-    pub(crate) fn copy(&self) -> Area
-        ensures { result ≡ self.now }
+    pub fn copy(&self) -> Area
+        ensures value { result ≡ self.now }
+        ensures area { IsArea self.now }
     {
         Area::of_corners(self.lo.copy(), self.hi.copy())
     }

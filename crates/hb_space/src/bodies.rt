@@ -43,6 +43,13 @@ impl Body {
     {
         self.bytes.as_slice()
     }
+
+    /// The same body once more.
+    pub fn copy(&self) -> Body
+        ensures { result ≡ self.now }
+    {
+        Body::new(self.bytes())
+    }
 }
 
 impl Clone for Body {
@@ -51,6 +58,6 @@ impl Clone for Body {
     ghost is_infallible = { λ _. ⊤ };
 
     fn clone(&self) -> Result<Body, AllocError> {
-        Ok(Body::new(self.bytes()))
+        Ok(self.copy())
     }
 }

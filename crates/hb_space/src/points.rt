@@ -55,7 +55,7 @@ impl Point {
     }
 
     /// The same point once more.
-    pub(crate) fn copy(&self) -> Point
+    pub fn copy(&self) -> Point
         ensures { result ≡ self.now }
     {
         Point::new(self.values())

@@ -10,6 +10,18 @@ pub struct Record {
     pub body: Body,
 }
 
+impl Record {
+    /// The same record once more.
+    pub fn copy(&self) -> Record
+        ensures { result ≡ self.now }
+    {
+        Record {
+            key: self.key.copy(),
+            body: self.body.copy(),
+        }
+    }
+}
+
 /// A list of records.
 #[derive(Debug, Drop)]
 pub struct Records {

@@ -194,6 +194,8 @@ fn keeps_points_and_bodies(rt: HostRuntime) -> Result<(), Fail> {
     assert_eq!(rt; point.clone()?, point);
     let body = Body::new(b"ab");
     assert_eq!(rt; body.clone()?, body);
+    let record = Record { key: point, body };
+    assert_eq!(rt; record.copy(), record);
     Ok(())
 }
 

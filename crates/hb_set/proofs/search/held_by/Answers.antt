@@ -6,7 +6,7 @@ use Rattle.hb_set.proofs.search.held_by.Goals as goal
 pub loop-record-preserved-then-holds : goal.loop-record-preserved-then-holds
 loop-record-preserved-then-holds c =
     let in_box : holds c.args.area.now c.in-Some.record.now.value.key ≡ true = rw c.deref.ensures at (sym c.holds.ensures.value ∙ c.if-holds.true) in (
-      rw (c.in_ok-push.ensures.items, c.copied.ensures, c.deref-then-holds.ensures) (held_more c.args.area.now c.loop-record.held.items c.loop-record.rest.now c.in-Some.later.now c.in-Some.record.now c.in-Some.ensures.cases.0 in_box) ∙ c.loop-record.invariant.0,
+      rw (c.in_ok-push.ensures.items, c.copy.ensures, c.deref-then-holds.ensures) (held_more c.args.area.now c.loop-record.held.items c.loop-record.rest.now c.in-Some.later.now c.in-Some.record.now c.in-Some.ensures.cases.0 in_box) ∙ c.loop-record.invariant.0,
       rise_tail _ _ _ c.in-Some.ensures.cases.0 c.loop-record.invariant.1,
       keys_tail _ _ _ _ c.in-Some.ensures.cases.0 c.loop-record.invariant.2,
     )

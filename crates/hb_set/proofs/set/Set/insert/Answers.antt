@@ -16,7 +16,7 @@ returns-then-is_err-clause-memory c _ = rw (← c.self.view_is) (get_gap _ _ _ c
 
 -- what was added is what was asked, and it went into its gap
 same_record : (c : goal.Else-is_err) → c.in-Ok-new.handle.value ≡ c.args.added.now
-same_record c = c.in-Ok-new.ensures.ok ∙ c.copied.ensures
+same_record c = c.in-Ok-new.ensures.ok ∙ c.copy.ensures
 
 in_gap : (c : goal.Else-is_err) → IsGapFor c.self.inside.records.items c.in-Ok-new.handle.value.key c.in-Err.place
 in_gap c = rw (same_record c, ← c.deref.ensures.value) c.in-Err.ensures.absent
