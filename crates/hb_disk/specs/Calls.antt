@@ -42,6 +42,12 @@ pub record ReadFaults {T E : Type 0} (result : Result T E) (old new : DiskModel)
   pub later : old.read_faults ≤ new.read_faults
   pub writes : new.write_faults ≡ old.write_faults
 
+-- Reads leave the disk as it was, and no count falls.
+pub record OnlyReads (old new : DiskModel) : Type 0 where
+  pub stays : Stays old new
+  pub later : old.read_faults ≤ new.read_faults
+  pub writes : new.write_faults ≡ old.write_faults
+
 -- Every image of a moment since old, up to now, has P. The last field is for a run that began before.
 pub record Leaves (old new : DiskModel) (P : List ℕ → Type 0) : Type 0 where
   pub later : old.clock ≤ new.clock

@@ -4,7 +4,7 @@ use Rattle.std.specs.List.{All}
 use Rattle.std.proofs.Math.Nat.{eq-or-lt_of_le}
 use Rattle.std.proofs.lemmas.List.{drop-take, take-take, drop-drop}
 use Rattle.hb_disk.specs.Model.{DiskModel, IsDisk, overwritten, Torn, Stays}
-use Rattle.hb_disk.specs.Calls.{Ticks, Writes, Syncs, Leaves, Apart, IsSynced, Becomes, Then}
+use Rattle.hb_disk.specs.Calls.{Ticks, Writes, Syncs, Leaves, Apart, IsSynced, Becomes, Then, ReadFaults, OnlyReads}
 use Rattle.hb_disk.specs.TornLaws.{Torn-from, Torn-itself, Torn-wider, Torn-twice, Torn-elsewhere, length-overwritten, overwritten-outside}
 
 -- the value of an option that has one
@@ -246,4 +246,40 @@ one_tick r old new is_old ticks tells = elim (eq-or-lt_of_le is_old.clock_fits) 
 pub IsSynced-part : (d : DiskModel) (at n from m : ℕ) → at ≤ from → from + m ≤ at + n → IsSynced d at n → IsSynced d from m
 IsSynced-part d at n from m low high was = record {
   each = λ b c told image. part_of at n from m c b low high (was.each b c told image);
+}
+
+-- no read
+pub OnlyReads-none : (d : DiskModel) → OnlyReads d d
+OnlyReads-none d = record {
+  stays = record {
+    told = refl;
+    size = refl;
+    clock = refl;
+    image = λ c h. h;
+    image_kept = λ c h. h;
+    since = λ t c h. h;
+    since_kept = λ t c h. h;
+  };
+  later = omega arith;
+  writes = refl;
+}
+
+-- one read
+pub OnlyReads-read : {T E : Type 0} (r : Result T E) (old new : DiskModel) → Stays old new → ReadFaults r old new → OnlyReads old new
+OnlyReads-read r old new stays faults = record { stays = stays; later = faults.later; writes = faults.writes }
+
+-- reads after reads
+pub OnlyReads-then : (old mid new : DiskModel) → OnlyReads old mid → OnlyReads mid new → OnlyReads old new
+OnlyReads-then old mid new first second = record {
+  stays = record {
+    told = second.stays.told ∙ first.stays.told;
+    size = second.stays.size ∙ first.stays.size;
+    clock = second.stays.clock ∙ first.stays.clock;
+    image = λ c h. first.stays.image c (second.stays.image c h);
+    image_kept = λ c h. second.stays.image_kept c (first.stays.image_kept c h);
+    since = λ t c h. first.stays.since t c (second.stays.since t c h);
+    since_kept = λ t c h. second.stays.since_kept t c (first.stays.since_kept t c h);
+  };
+  later = omega (arith, first.later, second.later);
+  writes = second.writes ∙ first.writes;
 }

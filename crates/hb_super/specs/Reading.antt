@@ -1,6 +1,5 @@
 -- What reading the superblocks tells.
-use Rattle.std.specs.Prelude.{◌≡◌, ◌≢◌, ℕ, ◌≤◌, ◌%◌, List, drop, get_or, Option, Some, None}
-use Rattle.hb_disk.specs.Model.{DiskModel, Stays}
+use Rattle.std.specs.Prelude.{◌≡◌, ◌≢◌, ℕ, ◌%◌, List, drop, get_or, Option, Some, None}
 use Rattle.hb_disk.specs.Calls.{open_gate}
 use Rattle.hb_ops.specs.declared.meta.Meta.{Meta}
 use Rattle.hb_super.specs.Superblocks.{IsLegal, HasSuper, IsNewest, HasNone, body_bytes}
@@ -31,9 +30,3 @@ NewestIs (Some said) bytes = IsNewest bytes said.0 said.1
 abbrev pub MayBeLegal : Option (ℕ × Meta) → Type 0
 MayBeLegal None = Unit {0}
 MayBeLegal (Some said) = IsLegal said.0 said.1
-
--- Reads leave the disk as it was, and no count falls.
-pub record OnlyReads (old new : DiskModel) : Type 0 where
-  pub stays : Stays old new
-  pub later : old.read_faults ≤ new.read_faults
-  pub writes : new.write_faults ≡ old.write_faults

@@ -1,9 +1,10 @@
 ghost use Rattle.std.specs.Prelude.{◌≡◌, ℕ, ◌+◌, ◌*◌, ◌%◌, ◌<◌, ◌≤◌, List, length, Some, IsTrue, IfOk, IfSome, IsErrOf, OnErr};
 ghost use Rattle.hb_outside.specs.Streams.{Rose};
+ghost use Rattle.hb_disk.specs.Calls.{OnlyReads};
 ghost use Rattle.hb_ops.specs.declared.meta.Meta.{Meta as Said};
 ghost use Rattle.hb_super.specs.declared.reading.SuperStop.TheVariants.{NoSuper, DiskFault};
 ghost use Rattle.hb_super.specs.Superblocks.{IsLayout, IsLegal, IsNewest, HasNone, place_of, next_turn};
-ghost use Rattle.hb_super.specs.Reading.{IsOf, Stands, NewestIs, MayBeLegal, OnlyReads};
+ghost use Rattle.hb_super.specs.Reading.{IsOf, Stands, NewestIs, MayBeLegal};
 
 use crate::body::{BODY, body_of, fields_of, is_layout};
 use hb_disk::{Disk, OPEN};

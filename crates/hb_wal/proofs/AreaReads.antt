@@ -3,9 +3,10 @@ use Rattle.std.proofs.Common.{◌≡◌, ℕ, ◌+◌, ◌-◌, ◌≤◌, List,
 use Rattle.std.proofs.lemmas.List.{drop_at, drop-take, drop-drop}
 use Rattle.std.proofs.lemmas.List.Elements.{All-push}
 use Rattle.hb_disk.specs.Model.{DiskModel}
-use Rattle.hb_disk.specs.RunLaws.{if_value, at_value}
+use Rattle.hb_disk.specs.Calls.{OnlyReads}
+use Rattle.hb_disk.specs.RunLaws.{if_value, at_value, OnlyReads-then}
 use Rattle.hb_wal.specs.Frames.{frames, frame_bytes, IsPayload, range}
-use Rattle.hb_wal.specs.Reading.{FrameIs, OnlyReads}
+use Rattle.hb_wal.specs.Reading.{FrameIs}
 use Rattle.hb_wal.specs.Loops.{HasRead}
 use Rattle.hb_wal.proofs.Kept.{length-frame}
 use Rattle.hb_wal.proofs.AreaBytes.{frames-push}
@@ -14,21 +15,6 @@ use Rattle.hb_wal.proofs.AreaBytes.{frames-push}
 pub frames_count : (payloads : List (List ℕ)) → length payloads ≤ length (frames payloads)
 frames_count [] = omega arith
 frames_count (p ∷ payloads) = omega (arith, frames_count payloads, length-append (frame_bytes p) (frames payloads))
-
-pub reads_then : (old mid new : DiskModel) → OnlyReads old mid → OnlyReads mid new → OnlyReads old new
-reads_then old mid new first second = record {
-  stays = record {
-    told = second.stays.told ∙ first.stays.told;
-    size = second.stays.size ∙ first.stays.size;
-    clock = second.stays.clock ∙ first.stays.clock;
-    image = λ c h. first.stays.image c (second.stays.image c h);
-    image_kept = λ c h. second.stays.image_kept c (first.stays.image_kept c h);
-    since = λ t c h. first.stays.since t c (second.stays.since t c h);
-    since_kept = λ t c h. second.stays.since_kept t c (first.stays.since_kept t c h);
-  };
-  later = omega (arith, first.later, second.later);
-  writes = second.writes ∙ first.writes;
-}
 
 module _ (area len left : ℕ) (b payload behind : List ℕ) (payloads : List (List ℕ)) (fits : 5 + length payload ≤ left) (inside : left ≤ len)
     (is : range (area + (len - left)) left b ≡ frame_bytes payload ++ behind) where
@@ -56,7 +42,7 @@ pub HasRead-more : (old now new : DiskModel) (area len left : ℕ) (payloads : L
     → IsPayload payload → 5 + length payload ≤ left → IfSome now.told (λ b. FrameIs (Some payload) (range (area + (len - left)) left b))
     → HasRead old new area len (left - (5 + length payload)) (payloads ++ payload ∷ [])
 HasRead-more old now new area len left payloads payload so_far reads is_payload fits frame = record {
-  only_reads = reads_then old now new so_far.only_reads reads;
+  only_reads = OnlyReads-then old now new so_far.only_reads reads;
   fits = All-push IsPayload payloads payload so_far.fits is_payload;
   count = omega (arith, ap (λ (l : List ℕ). length l) (frames-push payloads payload), length-append (frames payloads) (frame_bytes payload), length-append (frame_bytes payload) [], length-frame payload, so_far.count, fits);
   read = if_value old.told (λ b. range area len b ≡ frames (payloads ++ payload ∷ []) ++ range (area + (len - (left - (5 + length payload)))) (left - (5 + length payload)) b) (λ b told.

@@ -1,8 +1,8 @@
 -- What the reading of an area keeps.
 use Rattle.std.specs.Prelude.{◌≡◌, ℕ, ◌+◌, ◌-◌, List, ◌++◌, length, All, IfSome}
 use Rattle.hb_disk.specs.Model.{DiskModel}
+use Rattle.hb_disk.specs.Calls.{OnlyReads}
 use Rattle.hb_wal.specs.Frames.{frames, IsPayload, range}
-use Rattle.hb_wal.specs.Reading.{OnlyReads}
 
 -- The frames of these payloads were read from the front of the area, and so many bytes are left.
 pub record HasRead (old now : DiskModel) (area len left : ℕ) (payloads : List (List ℕ)) : Type 0 where

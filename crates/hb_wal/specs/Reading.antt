@@ -1,7 +1,6 @@
 -- What reading an area's frames tells.
-use Rattle.std.specs.Prelude.{◌≡◌, ◌≢◌, ℕ, ◌<◌, ◌≤◌, ◌^◌, List, ◌∷◌, ◌++◌, get_or, Option, Some, None}
+use Rattle.std.specs.Prelude.{◌≡◌, ◌≢◌, ℕ, ◌<◌, ◌^◌, List, ◌∷◌, ◌++◌, get_or, Option, Some, None}
 use Rattle.hb_outside.specs.Numbers.{big_endian}
-use Rattle.hb_disk.specs.Model.{DiskModel, Stays}
 use Rattle.hb_disk.specs.Calls.{open_gate}
 use Rattle.hb_wal.specs.Frames.{frame_bytes, IsPayload, IsEnd}
 
@@ -20,9 +19,3 @@ HeadIs (Some len) head = (len < 2 ^ 32) × (head ≡ open_gate ∷ big_endian 4 
 abbrev pub FrameIs : Option (List ℕ) → List ℕ → Type 0
 FrameIs None rest = IsEnd rest
 FrameIs (Some payload) rest = BeginsFrame rest payload
-
--- Reads leave the disk as it was, and no count falls.
-pub record OnlyReads (old new : DiskModel) : Type 0 where
-  pub stays : Stays old new
-  pub later : old.read_faults ≤ new.read_faults
-  pub writes : new.write_faults ≡ old.write_faults

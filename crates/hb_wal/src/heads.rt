@@ -1,8 +1,9 @@
 ghost use Rattle.std.specs.Prelude.{◌≡◌, ◌⊎◌, ℕ, ◌<◌, ◌≤◌, ◌+◌, ◌-◌, ◌^◌, List, length, take, drop, IfSome, IsErrOf, IfOk, IfErr, OnErr, option_map};
 ghost use Rattle.hb_outside.specs.Streams.{Rose};
+ghost use Rattle.hb_disk.specs.Calls.{OnlyReads};
 ghost use Rattle.hb_wal.specs.declared.heads.FrameStop.TheVariants.{BadLength, NoMemory, DiskFault};
 ghost use Rattle.hb_wal.specs.Frames.{IsPayload, IsBadFrame, range};
-ghost use Rattle.hb_wal.specs.Reading.{HeadIs, FrameIs, BeginsFrame, OnlyReads};
+ghost use Rattle.hb_wal.specs.Reading.{HeadIs, FrameIs, BeginsFrame};
 
 use hb_disk::{Disk, OPEN};
 use hb_outside::{Failed, take_u32};
