@@ -1,0 +1,75 @@
+-- What the calls of a store do to what it is seen as.
+use Rattle.std.specs.Prelude.{◌≡◌, ◌≢◌, ℕ, ◌≤◌, true, List, [], ◌∷◌, ◌++◌, get_or, Option, IsSome}
+use Rattle.hb_frag.specs.declared.pages.LivePage.{LivePage}
+use Rattle.hb_ops.specs.declared.operations.Op.{Op}
+use Rattle.hb_ops.specs.Files.{FileState, if_live}
+use Rattle.hb_ops.specs.Operations.{Change, IsAllowedOn, change_of, effect_of, reads_of}
+use Rattle.hb_wal.specs.Log.{LogState, after_force, pending_bytes, room_of}
+use Rattle.hb_store.specs.Replay.{set_pages}
+use Rattle.hb_store.specs.Keeps.{StoreState, last_of}
+
+-- the page in use that an operation reads at a place of its list, among those in frames
+abbrev pub framed_read : StoreState → Op → ℕ → Option LivePage
+framed_read st op place = if_live (st.frame (get_or (reads_of op) place 0))
+
+-- an operation is allowed on the pages in frames, and what it makes of them
+abbrev pub IsAllowedHere : StoreState → Op → Type 0
+IsAllowedHere st op = IsAllowedOn op st.meta (framed_read st op 0) (framed_read st op 1) (framed_read st op 2)
+
+abbrev pub change_here : StoreState → Op → Change
+change_here st op = change_of op st.meta (framed_read st op 0) (framed_read st op 1) (framed_read st op 2)
+
+-- all but the frames is the same
+pub record KeepsAllButFrames (old new : StoreState) : Type 0 where
+  pub turn : new.turn ≡ old.turn
+  pub meta : new.meta ≡ old.meta
+  pub log : new.log ≡ old.log
+  pub imaged : (id : ℕ) → new.imaged id ≡ old.imaged id
+  pub stopped : new.stopped ≡ old.stopped
+
+-- A fetch: the page of the number is in a frame now, and the other frames are as before.
+pub record Fetched (id : ℕ) (old new : StoreState) : Type 0 where
+  pub rest : KeepsAllButFrames old new
+  pub there : IsSome (new.frame id)
+  pub kept : (q : ℕ) → IsSome (old.frame q) → new.frame q ≡ old.frame q
+  pub others : (q : ℕ) → q ≢ id → new.frame q ≡ old.frame q
+
+-- A commit: the changed pages are in their frames, and one group more waits, with its mark.
+pub record Commits (op : Op) (mark : ℕ) (old new : StoreState) : Type 0 where
+  pub turn : new.turn ≡ old.turn
+  pub stopped : new.stopped ≡ old.stopped
+  pub meta : new.meta ≡ (change_here old op).meta
+  pub frame : (id : ℕ) → new.frame id ≡ set_pages (change_here old op).pages old.frame id
+  pub area : new.log.area ≡ old.log.area
+  pub len : new.log.len ≡ old.log.len
+  pub written : new.log.written ≡ old.log.written
+  pub group : List ℕ
+  pub groups : new.log.groups ≡ old.log.groups ++ record { bytes = group; mark = mark } ∷ []
+
+-- a store after a force: the first group that waited doesn't any more
+abbrev pub with_log : LogState → StoreState → StoreState
+with_log log st = record { turn = st.turn; meta = st.meta; log = log; frame = st.frame; imaged = st.imaged; stopped = st.stopped }
+
+abbrev pub forced_state : StoreState → StoreState
+forced_state st = with_log (after_force st.log) st
+
+-- a store that a fault has stopped
+abbrev pub stopped_state : StoreState → StoreState
+stopped_state st = record { turn = st.turn; meta = st.meta; log = st.log; frame = st.frame; imaged = st.imaged; stopped = true }
+
+-- The files after a force: the next one is durable, where a group waited.
+abbrev pub durable_after : FileState → List FileState → FileState
+durable_after durable [] = durable
+durable_after durable (next ∷ later) = next
+
+abbrev pub later_after : List FileState → List FileState
+later_after [] = []
+later_after (next ∷ later) = later
+
+-- The store may take an operation: room for the longest group, few pending bytes.
+abbrev pub IsReady : StoreState → Type 0
+IsReady st = (16384 ≤ room_of st.log) × (pending_bytes st.log.groups ≤ 49152)
+
+-- the files after a commit
+abbrev pub with_op : FileState → List FileState → Op → List FileState
+with_op durable later op = later ++ effect_of (last_of durable later) op ∷ []

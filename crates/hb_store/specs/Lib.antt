@@ -1,0 +1,9 @@
+pub mod Groups
+pub mod Replay
+pub mod Opening
+pub mod Keeps
+pub mod Frames
+pub mod Propositions
+pub mod Seen
+pub mod Calls
+pub mod Stops

@@ -1,0 +1,78 @@
+-- What a list of bytes opens to: the newest superblock, the replay of its log, and the pages in their places.
+use Rattle.std.specs.Prelude.{◌≡◌, ◌⊎◌, ℕ, ◌+◌, ◌-◌, ◌*◌, ◌%◌, ◌≤◌, List, ◌++◌, length, Option, Some, None, IsSome}
+use Rattle.hb_space.specs.declared.form.TheConstants.{PAGE}
+use Rattle.hb_disk.specs.Model.{DiskModel}
+use Rattle.hb_wal.specs.Frames.{frames, range, HasFrames, IsBadFrame}
+use Rattle.hb_wal.specs.Reading.{BeginsFrame}
+use Rattle.hb_super.specs.Superblocks.{IsNewest}
+use Rattle.hb_frag.specs.declared.pages.Page.{Page}
+use Rattle.hb_frag.specs.Grammar.{SpellsPage}
+use Rattle.hb_ops.specs.declared.meta.Meta.{Meta}
+use Rattle.hb_ops.specs.Files.{FileState, page_of}
+use Rattle.hb_store.specs.Groups.{Logged, SpellAll, SpellsGroups}
+use Rattle.hb_store.specs.Replay.{Replayed, untouched, replay, MayReplay}
+
+-- where the log area of a turn begins, and the page of a number
+abbrev pub log_place : ℕ → Meta → ℕ
+log_place turn meta = 8192 + (turn % 2) * meta.log
+
+abbrev pub page_place : Meta → ℕ → ℕ
+page_place meta id = 8192 + 2 * meta.log + PAGE * (id - 1)
+
+-- how many bytes a file has
+abbrev pub file_size : Meta → ℕ
+file_size meta = 8192 + 2 * meta.log + PAGE * meta.pages
+
+-- the bytes of a turn's log area, and those in the place of a page
+abbrev pub log_bytes : ℕ → Meta → List ℕ → List ℕ
+log_bytes turn meta bytes = range (log_place turn meta) meta.log bytes
+
+abbrev pub place_bytes : Meta → ℕ → List ℕ → List ℕ
+place_bytes meta id bytes = range (page_place meta id) PAGE bytes
+
+-- A page of the file is the touched one, or where it wasn't touched the one that its place spells.
+abbrev pub IsPageIn : List ℕ → Meta → ℕ → Option Page → Page → Type 0
+IsPageIn bytes meta id None page = SpellsPage (place_bytes meta id bytes) page
+IsPageIn bytes meta id (Some touched) page = touched ≡ page
+
+-- the file that a replay and the places of this layout make
+pub record Shows (bytes : List ℕ) (said : Meta) (t : Replayed) (s : FileState) : Type 0 where
+  pub meta : s.meta ≡ t.meta
+  pub count : length s.pages ≡ t.meta.high
+  pub each : (id : ℕ) (page : Page) → page_of s id ≡ Some page → IsPageIn bytes said id (t.page id) page
+
+-- Bytes open to a file by this superblock, the frames of these payloads, and these groups.
+pub record OpensBy (bytes : List ℕ) (turn : ℕ) (said : Meta) (payloads : List (List ℕ)) (groups : List Logged) (s : FileState) : Type 0 where
+  pub newest : IsNewest bytes turn said
+  pub fits : file_size said ≤ length bytes
+  pub framed : HasFrames (log_bytes turn said bytes) payloads
+  pub spelled : SpellAll said.k payloads groups
+  pub replayed : MayReplay (untouched said) groups
+  pub shows : Shows bytes said (replay (untouched said) groups) s
+
+pub record OpensTo (bytes : List ℕ) (s : FileState) : Type 0 where
+  pub turn : ℕ
+  pub said : Meta
+  pub payloads : List (List ℕ)
+  pub groups : List Logged
+  pub by : OpensBy bytes turn said payloads groups s
+
+-- A payload isn't a list of groups that may be replayed here.
+abbrev pub IsBadPayload : ℕ → Replayed → List ℕ → Type 0
+IsBadPayload k t payload = (groups : List Logged) → SpellsGroups k payload groups → MayReplay t groups → ⊥
+
+-- The frame of this number, counted from 0, is the first bad one: its length is bad, or its payload.
+pub record HasBadGroup (bytes : List ℕ) (turn : ℕ) (said : Meta) (frame : ℕ) : Type 0 where
+  pub before : List (List ℕ)
+  pub groups : List Logged
+  pub rest : List ℕ
+  pub counted : frame ≡ length before
+  pub framed : log_bytes turn said bytes ≡ frames before ++ rest
+  pub spelled : SpellAll said.k before groups
+  pub replayed : MayReplay (untouched said) groups
+  pub bad : IsBadFrame rest ⊎ ((payload : List ℕ) × BeginsFrame rest payload × IsBadPayload said.k (replay (untouched said) groups) payload)
+
+-- An even disk: every image of now opens to this file.
+pub record IsEven (d : DiskModel) (s : FileState) : Type 0 where
+  pub told : IsSome d.told
+  pub images : (c : List ℕ) → d.Image c → OpensTo c s

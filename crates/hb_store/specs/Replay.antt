@@ -1,0 +1,58 @@
+-- What the groups of a log make of the pages that they touch.
+use Rattle.std.specs.Prelude.{ℕ, ◌≤◌, ◌==◌, if◌then◌else◌, List, [], ◌∷◌, get_or, All, Option, Some, None}
+use Rattle.hb_frag.specs.declared.pages.LivePage.{LivePage}
+use Rattle.hb_frag.specs.declared.pages.Page.{Page}
+use Rattle.hb_ops.specs.declared.meta.Meta.{Meta}
+use Rattle.hb_ops.specs.declared.operations.Op.{Op}
+use Rattle.hb_ops.specs.Files.{if_live}
+use Rattle.hb_ops.specs.Operations.{Change, IsAllowedOn, change_of, reads_of}
+use Rattle.hb_store.specs.Groups.{Logged}
+
+-- What the file says of itself, and the pages that were touched so far.
+pub record Replayed : Type 0 where
+  pub meta : Meta
+  pub page : ℕ → Option Page
+
+-- no page was touched
+abbrev pub untouched : Meta → Replayed
+untouched meta = record { meta = meta; page = λ id. None }
+
+-- pages with others set under their numbers, one after the other
+abbrev pub set_pages : List (ℕ × Page) → (ℕ → Option Page) → ℕ → Option Page
+set_pages [] page = page
+set_pages (one ∷ rest) page = set_pages rest (λ id. if id == one.0 then Some one.1 else page id)
+
+abbrev pub with_images : Replayed → Logged → Replayed
+with_images t g = record { meta = t.meta; page = set_pages g.images t.page }
+
+-- the page in use that an operation reads at a place of its list, among those that were touched
+abbrev pub touched_read : Replayed → Op → ℕ → Option LivePage
+touched_read t op place = if_live (t.page (get_or (reads_of op) place 0))
+
+-- an operation is allowed on the touched pages, and what it makes of them
+abbrev pub IsAllowedIn : Replayed → Op → Type 0
+IsAllowedIn t op = IsAllowedOn op t.meta (touched_read t op 0) (touched_read t op 1) (touched_read t op 2)
+
+abbrev pub change_in : Replayed → Op → Change
+change_in t op = change_of op t.meta (touched_read t op 0) (touched_read t op 1) (touched_read t op 2)
+
+abbrev pub after_op : Replayed → Op → Replayed
+after_op t op = record { meta = (change_in t op).meta; page = set_pages (change_in t op).pages t.page }
+
+-- first each image sets its page, then the operation is applied to touched pages alone
+abbrev pub after_group : Replayed → Logged → Replayed
+after_group t g = after_op (with_images t g) g.op
+
+-- A group may be replayed here: its images are of pages of the file, and its operation is allowed then.
+pub record MayFollow (t : Replayed) (g : Logged) : Type 0 where
+  pub images : All (λ i. (1 ≤ i.0) × (i.0 ≤ t.meta.high)) g.images
+  pub allowed : IsAllowedIn (with_images t g) g.op
+
+abbrev pub replay : Replayed → List Logged → Replayed
+replay t [] = t
+replay t (g ∷ rest) = replay (after_group t g) rest
+
+-- each group may be replayed after those before it
+abbrev pub MayReplay : Replayed → List Logged → Type 0
+MayReplay t [] = Unit {0}
+MayReplay t (g ∷ rest) = MayFollow t g × MayReplay (after_group t g) rest

@@ -1,0 +1,18 @@
+//! Log, pages in memory and superblock together: a file that changes by whole operations.
+#![tactic(auto)]
+
+mod commits;
+mod fetches;
+mod forces;
+mod frames;
+mod looks;
+mod opening;
+mod reading;
+mod stops;
+mod store;
+mod touched;
+
+pub use reading::read_log;
+pub use stops::{FetchStop, Flushed, Why, WriteFault};
+pub use store::Store;
+pub use touched::{LogStop, Touched};

@@ -1,0 +1,86 @@
+ghost use Rattle.std.specs.Prelude.{◌≡◌, ◌-◌, ◌≤◌, ◌↔◌, ℕ, IsTrue, MatchOption, IsSome, Some, None};
+ghost use Rattle.hb_wal.specs.Log.{room_of, pending_bytes, mark_of};
+ghost use Rattle.hb_store.specs.Keeps.{IsStore};
+ghost use Rattle.hb_store.specs.Seen.{seen_as};
+ghost use Rattle.hb_store.specs.Calls.{IsReady};
+
+use crate::store::Store;
+use hb_disk::Disk;
+use hb_frag::Page;
+use hb_ops::Meta;
+
+impl<D: Disk> Store<D> {
+    /// What the file says of itself.
+    pub fn meta(&self) -> &Meta
+        ensures meta { result.now ≡ (seen_as self.now).meta }
+        ensures store { IsStore (D.model self.now.disk).size (seen_as self.now) }
+    {
+        &self.meta
+    }
+
+    /// The page of a number. `None` exactly where it is in no frame.
+    pub fn get(&self, id: u32) -> Option<&Page>
+        requires stub { ⊥ }
+        ensures page { MatchOption result ((seen_as self.now).frame id ≡ None) (λ page. (seen_as self.now).frame id ≡ Some page.now) }
+        ensures store { IsStore (D.model self.now.disk).size (seen_as self.now) }
+    {
+        None
+    }
+
+    /// The bytes of the longest group that fits the log now.
+    pub fn room(&self) -> u32
+        ensures { result ≡ room_of (seen_as self.now).log }
+    {
+        self.log.room()
+    }
+
+    /// The mark of the oldest group that waits, or `now` where none does.
+    pub fn settled(&self, now: u32) -> u32
+        ensures { result ≡ mark_of (seen_as self.now).log.groups now }
+    {
+        self.log.settled(now)
+    }
+
+    /// The bytes of the groups that wait. 0 exactly where none does.
+    pub fn pending(&self) -> u32
+        ensures { result ≡ pending_bytes (seen_as self.now).log.groups }
+    {
+        self.log.pending()
+    }
+
+    /// How many pages may still be taken into use.
+    pub fn free_pages(&self) -> u32
+        ensures { result ≡ (seen_as self.now).meta.pages - (seen_as self.now).meta.live }
+    {
+        self.meta.pages - self.meta.live
+    }
+
+    /// Whether an operation may be committed: there is room for the longest group, and few bytes wait.
+    pub fn ready(&self) -> bool
+        ensures { IsTrue result ↔ IsReady (seen_as self.now) }
+    {
+        self.room() >= 16_384 && self.pending() <= 49_152
+    }
+
+    /// The disk's clock, where the disk tells, and any number where it doesn't.
+    pub fn clock(&self) -> u64
+        ensures { IsSome (D.model self.now.disk).told → result ≡ (D.model self.now.disk).clock }
+    {
+        self.disk.clock()
+    }
+
+    /// Whether a write, zero or sync failed.
+    pub fn stopped(&self) -> bool
+        ensures { result ≡ (seen_as self.now).stopped }
+    {
+        self.stopped
+    }
+
+    /// The disk.
+    pub fn into_disk(self) -> D
+        ensures { result ≡ self.disk }
+    {
+        let Store { disk, .. } = self;
+        disk
+    }
+}

@@ -1,0 +1,29 @@
+ghost use Rattle.std.specs.Prelude.{◌≡◌, [], IfOk, IfErr, IsSome};
+ghost use Rattle.hb_ops.specs.Files.{FileState};
+ghost use Rattle.hb_store.specs.Keeps.{MayHold, IsNew, IsFresh, StoreKeeps};
+ghost use Rattle.hb_store.specs.Seen.{seen_as};
+
+use crate::store::Store;
+use hb_disk::Disk;
+use hb_ops::Meta;
+use hb_space::NoMemory;
+use hb_wal::Wal;
+use std::alloc::Global;
+use std::collections::BTreeMap;
+
+impl<D: Disk> Store<D> {
+    /// The store of a file that stands whole on the disk: its newest superblock has this turn and says this, the log
+    /// area of the turn has no frame, and every page stands in its place. For want of memory the disk comes back.
+    pub fn opened(alloc: Global, disk: D, turn: u8, meta: Meta) -> Result<Store<D>, (NoMemory, D)>
+        requires holds { MayHold (D.model disk).size turn meta }
+        requires fresh { IsSome (D.model disk).told → (s : FileState) × IsFresh (D.model disk) turn meta s }
+        requires stub { ⊥ }
+        ensures new { IfOk result (λ st. IsNew turn meta (seen_as st)) }
+        ensures disk { IfOk result (λ st. st.disk ≡ disk) }
+        ensures keeps { IfOk result (λ st. (s : FileState) → IsFresh (D.model disk) turn meta s →
+            StoreKeeps (D.model st.disk) (seen_as st) s []) }
+        ensures back { IfErr result (λ e. e.1 ≡ disk) }
+    {
+        Err((std::alloc::AllocError, disk))
+    }
+}
