@@ -1,6 +1,6 @@
 ghost use Rattle.std.specs.Prelude.{◌≡◌, ◌≢◌, ℕ, ◌≤◌, List, IfErr, IsErrOf, OnOk, OnErr, IsSome};
 ghost use Rattle.hb_outside.specs.Streams.{Rose};
-ghost use Rattle.hb_wal.specs.Reading.{OnlyReads};
+ghost use Rattle.hb_disk.specs.Calls.{OnlyReads};
 ghost use Rattle.hb_ops.specs.Files.{FileState};
 ghost use Rattle.hb_ops.specs.Sound.{IsSound};
 ghost use Rattle.hb_store.specs.Keeps.{StoreKeeps, last_of};

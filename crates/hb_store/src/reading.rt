@@ -1,6 +1,6 @@
 ghost use Rattle.std.specs.Prelude.{◌≡◌, ◌≤◌, IfOk, IfErr, IfSome, IsErrOf};
 ghost use Rattle.hb_outside.specs.Streams.{Rose};
-ghost use Rattle.hb_wal.specs.Reading.{OnlyReads};
+ghost use Rattle.hb_disk.specs.Calls.{OnlyReads};
 ghost use Rattle.hb_store.specs.Keeps.{MayHold};
 ghost use Rattle.hb_store.specs.Stops.{ReadsLog, ReadsNoLog, IsTouched};
 ghost use Rattle.hb_store.specs.declared.touched.LogStop.TheVariants.{DiskFault};
