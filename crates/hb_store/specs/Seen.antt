@@ -6,3 +6,7 @@ use Rattle.hb_store.specs.declared.store.Store.{Store}
 
 abbrev pub seen_as : {D : Type 0} {g : Ghosts D} → Store D g → StoreState
 seen_as st = state_of st.turn st.meta st.log st.frames st.stopped
+
+-- its disk
+abbrev pub disk_of : {D : Type 0} {g : Ghosts D} → Store D g → D
+disk_of st = st.disk

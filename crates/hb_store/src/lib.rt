@@ -13,6 +13,6 @@ mod store;
 mod touched;
 
 pub use reading::read_log;
-pub use stops::{FetchStop, Flushed, Why, WriteFault};
+pub use stops::{FetchStop, Flushed, StopWhy, Why, WriteFault};
 pub use store::Store;
 pub use touched::{LogStop, Touched};

@@ -24,6 +24,15 @@ pub enum FetchStop {
     NoMemory,
 }
 
+/// Why nothing more is done with a file.
+#[derive(Debug, Drop)]
+pub enum StopWhy {
+    /// A write, zero or sync failed.
+    WriteFault,
+    /// The page of this number isn't the one that was asked for.
+    Damaged { page: u32, why: Why },
+}
+
 /// A write, zero or sync of the disk failed. The store is stopped then.
 #[derive(Clone, Copy, Debug, PartialEq, Eq)]
 pub struct WriteFault;
