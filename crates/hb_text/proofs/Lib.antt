@@ -1,5 +1,6 @@
 pub mod NumberWords
 pub mod WordCuts
+pub mod StepWords
 pub mod ValueWords
 pub mod LineCuts
 pub mod TextLines

@@ -1,6 +1,7 @@
 -- Where memory is refused, a command was read.
-use Rattle.std.proofs.Common.{◌≡◌, ℕ, ◌+◌, ◌<◌, ◌≤◌, false, List, [], ◌∷◌, ◌++◌, length, Ok, Err, Result, Some, refl, sym, ap, subst, ◌∙◌, inl, inr, ◌⊎◌, arith, append_assoc, IfErr}
+use Rattle.std.proofs.Common.{◌≡◌, ℕ, ◌+◌, ◌<◌, ◌≤◌, List, [], ◌∷◌, ◌++◌, length, Ok, Err, Result, Some, refl, sym, ap, subst, ◌∙◌, inl, inr, ◌⊎◌, Bool, arith, append_assoc, IfErr}
 use Rattle.std.proofs.lemmas.List.{length-append}
+use Rattle.std.specs.Option.{option_to_list}
 use Rattle.hb_set.specs.declared.scripts.Line.{Line}
 use Rattle.hb_text.specs.declared.rules.BadLine.{BadLine}
 use Rattle.hb_text.specs.declared.rules.TextRule.{TextRule}
@@ -21,20 +22,20 @@ at_line_err number (Err rule) bad e =
     sym (ap (λ (b : BadLine). b.line) same)
 
 -- no bad line stands before the first that is read
-bad_from : (k taken number : ℕ) (lines : List (List ℕ)) (bad : BadLine) → lines_read false k taken number lines ≡ Err bad → number ≤ bad.line
+bad_from : (allowed : Bool) (k taken number : ℕ) (lines : List (List ℕ)) (bad : BadLine) → lines_read allowed k taken number lines ≡ Err bad → number ≤ bad.line
 unfolding lines_read
-bad_from k taken number [] bad e = cc
-bad_from k taken number (line ∷ lines) bad e = elim (bound_err (at_line number (line_read false k taken number line)) _ bad e) [
-  | inl here ↦ omega (arith, at_line_err number (line_read false k taken number line) bad here)
-  | inr good ↦ elim (bound_err (lines_read false k (taken + length good.0.steps) (number + 1) lines) _ bad good.2) [
-    | inl later ↦ omega (arith, bad_from k (taken + length good.0.steps) (number + 1) lines bad later)
+bad_from allowed k taken number [] bad e = cc
+bad_from allowed k taken number (line ∷ lines) bad e = elim (bound_err (at_line number (line_read allowed k taken number line)) _ bad e) [
+  | inl here ↦ omega (arith, at_line_err number (line_read allowed k taken number line) bad here)
+  | inr good ↦ elim (bound_err (lines_read allowed k (taken + length good.0.steps) (number + 1) lines) _ bad good.2) [
+    | inl later ↦ omega (arith, bad_from allowed k (taken + length good.0.steps) (number + 1) lines bad later)
     | inr none ↦ cc (none.2)
   ]
 ]
 
-after_some : (front : List Line) (number : ℕ) (read : Result Reading BadLine) → ((bad : BadLine) → read ≡ Err bad → number + 1 ≤ bad.line) → IfErr (after_lines front read) (λ bad. number < bad.line)
-after_some front number (Ok more) later = tt
-after_some front number (Err bad) later = omega (arith, later bad refl)
+after_some : (front : List Line) (before : List ℕ) (number : ℕ) (read : Result Reading BadLine) → ((bad : BadLine) → read ≡ Err bad → number + 1 ≤ bad.line) → IfErr (after_lines front before read) (λ bad. number < bad.line)
+after_some front before number (Ok more) later = tt
+after_some front before number (Err bad) later = omega (arith, later bad refl)
 
 -- The lines in front of the number-th one, and the rest of the text, are all its lines.
 abbrev pub Behind : List ℕ → ℕ → List ℕ → Type 0
@@ -46,17 +47,22 @@ behind_start text = ([], refl, refl)
 pub behind_next : (text rest behind line : List ℕ) (number : ℕ) → lines_of rest ≡ line ∷ lines_of behind → Behind text number rest → Behind text (number + 1) behind
 behind_next text rest behind line number cut (front, all, count) = (front ++ line ∷ [], all ∙ ap (λ ls. front ++ ls) cut ∙ sym (append_assoc front (line ∷ []) (lines_of behind)), omega (arith, count, length-append front (line ∷ [])))
 
-pub text_starved : (front new : List Line) (k number : ℕ) (text rest behind line : List ℕ) (error : TextError) → Behind text number rest → lines_of rest ≡ line ∷ lines_of behind → AddsLine number front new (Err error) (line_read false k 0 number line) → after_lines front (lines_read false k 0 number (lines_of rest)) ≡ text_read false k text → WantsMemory k text (Err error)
-text_starved front new k number text rest behind line (errors.Bad bad) before cut adds told = tt
-text_starved front new k number text rest behind line errors.NoMemory (lines, all, count) cut adds told =
-    let read = lines_read false k 0 (number + 1) (lines_of behind) in
-    let is : after_lines front (lines_read false k 0 number (lines_of rest)) ≡ after_lines (front ++ adds.0 ∷ []) read = line_ok front (front ++ adds.0 ∷ []) k number rest behind line (Some adds.0) cut adds.1 refl in
+pub text_starved : (allowed : Bool) (front new : List Line) (before after : List ℕ) (k number : ℕ) (text rest behind line : List ℕ) (error : TextError) → Behind text number rest → lines_of rest ≡ line ∷ lines_of behind → AddsLine number front new before after (Err error) (line_read allowed k (length before) number line) → after_lines front before (lines_read allowed k (length before) number (lines_of rest)) ≡ text_read allowed k text → WantsMemory allowed k text (Err error)
+text_starved allowed front new before after k number text rest behind line (errors.Bad bad) place cut adds told = tt
+text_starved allowed front new before after k number text rest behind line errors.NoMemory (lines, all, count) cut adds told =
+    let said = adds.0 in
+    let ls : List Line = front ++ option_to_list said.line in
+    let ss : List ℕ = before ++ said.steps in
+    let read = lines_read allowed k (length ss) (number + 1) (lines_of behind) in
+    let is : after_lines front before (lines_read allowed k (length before) number (lines_of rest)) ≡ after_lines ls ss read = line_ok allowed front ls before ss k number rest behind line said cut adds.1 refl refl in
     record {
       front = lines;
       line = line;
       behind = lines_of behind;
-      said = adds.0;
+      taken = length before;
+      said = said;
       parts = all ∙ ap (λ ls. lines ++ ls) cut;
-      reads = subst (λ n. line_read false k 0 n line ≡ Ok (record { line = Some adds.0; steps = [] })) (sym count) adds.1;
-      first_bad = subst (λ r. IfErr r (λ bad. length lines + 1 < bad.line)) (sym is ∙ told) (subst (λ n. IfErr (after_lines (front ++ adds.0 ∷ []) read) (λ bad. n < bad.line)) (sym count) (after_some (front ++ adds.0 ∷ []) number read (λ bad e. bad_from k 0 (number + 1) (lines_of behind) bad e)));
+      reads = subst (λ n. line_read allowed k (length before) n line ≡ Ok said) (sym count) adds.1;
+      something = adds.2;
+      first_bad = subst (λ r. IfErr r (λ bad. length lines + 1 < bad.line)) (sym is ∙ told) (subst (λ n. IfErr (after_lines ls ss read) (λ bad. n < bad.line)) (sym count) (after_some ls ss number read (λ bad e. bad_from allowed k (length ss) (number + 1) (lines_of behind) bad e)));
     }

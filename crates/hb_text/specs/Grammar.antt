@@ -1,5 +1,5 @@
 -- The command text: how it is cut into lines and words, and what a line says, or the first rule that it breaks.
-use Rattle.std.specs.Prelude.{◌≡◌, ℕ, ◌+◌, ◌*◌, Bool, true, not, ◌&&◌, ◌==◌, nat_lt, nat_le, if◌then◌else◌, List, [], ◌∷◌, ◌++◌, length, take, drop, replicate, codes, Option, Some, None, Result, Ok, Err}
+use Rattle.std.specs.Prelude.{◌≡◌, ℕ, ◌+◌, ◌*◌, ◌<◌, Bool, true, not, ◌&&◌, ◌==◌, nat_lt, nat_le, if◌then◌else◌, List, [], ◌∷◌, ◌++◌, length, take, drop, replicate, codes, Option, Some, None, Result, Ok, Err}
 use Rattle.std.specs.List.{slice_split, onto_first, list_any, list_all}
 use Rattle.std.specs.Option.{option_to_list}
 use Rattle.std.specs.Str.{bytes_eq}
@@ -14,6 +14,8 @@ use Rattle.hb_text.specs.declared.numbers.NumberFault.TheVariants.{NotANumber, A
 use Rattle.hb_text.specs.declared.rules.TextRule.{TextRule}
 use Rattle.hb_text.specs.declared.rules.TextRule.TheVariants.{TooMany, LongLine, BadByte, BadSpacing, BadStep, BadSession, BadVerb, BadCount, BadNumber, TooLarge, EmptyBox, BadBody}
 use Rattle.hb_text.specs.declared.rules.BadLine.{BadLine}
+use Rattle.hb_text.specs.declared.lines.Meaning.{Meaning}
+use Rattle.hb_text.specs.declared.lines.Meaning.TheVariants as meanings
 use Rattle.hb_text.specs.declared.verbs.Verb.{Verb}
 use Rattle.hb_text.specs.declared.verbs.Verb.TheVariants as verbs
 
@@ -78,9 +80,12 @@ joined_steps (Some steps) (Some more) = Some (steps ++ more)
 joined_steps (Some steps) None = None
 joined_steps None more = None
 
+abbrev pub word_steps : List ℕ → Option (List ℕ)
+word_steps word = steps_of_parts (slice_split (λ c. c == 120) word)
+
 abbrev pub steps_of : List (List ℕ) → Option (List ℕ)
 steps_of [] = Some []
-steps_of (word ∷ words) = joined_steps (steps_of_parts (slice_split (λ c. c == 120) word)) (steps_of words)
+steps_of (word ∷ words) = joined_steps (word_steps word) (steps_of words)
 
 abbrev pub within_schedule : ℕ → Option (List ℕ) → Result (List ℕ) TextRule
 within_schedule taken None = Err BadStep
@@ -205,15 +210,19 @@ line_read allowed k taken number line =
     else (if list_any is_empty (words_of line) then Err BadSpacing
     else words_read allowed k taken number (words_of line)))))
 
--- What a call on the words of a line answered is what they say, where step lines aren't allowed.
-abbrev pub SaysCommand : Result Line TextRule → Result Said TextRule → Type 0
-SaysCommand (Ok line) read = read ≡ Ok (record { line = Some line; steps = [] })
-SaysCommand (Err rule) read = read ≡ Err rule
+-- What a call on the words behind `step` answered is what they say.
+abbrev pub SaysSteps : List (List ℕ) → Result Meaning TextRule → Result Said TextRule → Type 0
+SaysSteps words (Ok meanings.Nothing) read = ⊥
+SaysSteps words (Ok (meanings.Command line)) read = ⊥
+SaysSteps words (Ok meanings.Steps) read = (steps : List ℕ) × (read ≡ Ok (record { line = None; steps = steps })) × (steps_of words ≡ Some steps) × (0 < length steps)
+SaysSteps words (Err rule) read = read ≡ Err rule
 
--- What a call on one line answered is what the line says, where step lines aren't allowed.
-abbrev pub SaysLine : Result (Option Line) TextRule → Result Said TextRule → Type 0
-SaysLine (Ok line) read = read ≡ Ok (record { line = line; steps = [] })
-SaysLine (Err rule) read = read ≡ Err rule
+-- What a call on a line answered is what the line of these words says. The steps of a step line stand behind its first word.
+abbrev pub SaysLine : List (List ℕ) → Result Meaning TextRule → Result Said TextRule → Type 0
+SaysLine words (Ok meanings.Nothing) read = read ≡ Ok (record { line = None; steps = [] })
+SaysLine words (Ok (meanings.Command line)) read = read ≡ Ok (record { line = Some line; steps = [] })
+SaysLine words (Ok meanings.Steps) read = (steps : List ℕ) × (read ≡ Ok (record { line = None; steps = steps })) × (steps_of (drop 1 words) ≡ Some steps) × (0 < length steps)
+SaysLine words (Err rule) read = read ≡ Err rule
 
 abbrev pub at_line : ℕ → Result Said TextRule → Result Said BadLine
 at_line number (Ok said) = Ok said

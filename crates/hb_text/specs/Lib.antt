@@ -6,9 +6,11 @@ pub use Rattle.hb_set.specs.Order
 pub use Rattle.hb_set.specs.Scripts
 pub mod Numbers
 pub mod Grammar
+pub mod Steps
 pub mod Output
 pub mod Reading
 pub mod ScriptLaws
+pub mod StepLaws
 pub mod TextLength
 pub mod TextFront
 pub mod OutputLaws

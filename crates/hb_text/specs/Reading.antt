@@ -1,5 +1,5 @@
 -- What a call on a text answers.
-use Rattle.std.specs.Prelude.{◌≡◌, ℕ, ◌+◌, ◌<◌, false, List, [], ◌∷◌, ◌++◌, length, Option, Some, Result, Ok, Err, IfErr}
+use Rattle.std.specs.Prelude.{◌≡◌, ◌⊎◌, ℕ, ◌+◌, ◌<◌, Bool, List, ◌∷◌, ◌++◌, length, Option, Result, Ok, Err, IfErr, IsSome}
 use Rattle.std.specs.Option.{option_to_list}
 use Rattle.hb_set.specs.declared.scripts.Line.{Line}
 use Rattle.hb_set.specs.declared.scripts.Script.{Script}
@@ -15,24 +15,31 @@ Reads (Ok script) read = read ≡ Ok (record { lines = script.lines; steps = scr
 Reads (Err (errors.Bad bad)) read = read ≡ Err bad
 Reads (Err errors.NoMemory) read = Unit {0}
 
--- The command of one line joins the commands so far, or its first broken rule is the answer.
-abbrev pub AddsLine : ℕ → List Line → List Line → Result (Unit {0}) TextError → Result Said TextRule → Type 0
-AddsLine number old new (Ok done) read = (line : Option Line) × (read ≡ Ok (record { line = line; steps = [] })) × (new ≡ old ++ option_to_list line)
-AddsLine number old new (Err (errors.Bad bad)) read = (bad.line ≡ number) × (read ≡ Err bad.rule)
-AddsLine number old new (Err errors.NoMemory) read = (line : Line) × (read ≡ Ok (record { line = Some line; steps = [] }))
+-- What one line says joins the commands and the steps so far, or its first broken rule is the answer. Memory is wanted
+-- for a command, or for steps.
+abbrev pub IsSomething : Said → Type 0
+IsSomething said = IsSome said.line ⊎ (0 < length said.steps)
 
--- A line of the text says a command, and the first bad line, if there is one, stands behind it.
-pub record SaysSome (k : ℕ) (text : List ℕ) : Type 0 where
+abbrev pub AddsLine : ℕ → List Line → List Line → List ℕ → List ℕ → Result (Unit {0}) TextError → Result Said TextRule → Type 0
+AddsLine number old new before after (Ok done) read = (said : Said) × (read ≡ Ok said) × (new ≡ old ++ option_to_list said.line) × (after ≡ before ++ said.steps)
+AddsLine number old new before after (Err (errors.Bad bad)) read = (bad.line ≡ number) × (read ≡ Err bad.rule)
+AddsLine number old new before after (Err errors.NoMemory) read = (said : Said) × (read ≡ Ok said) × IsSomething said
+
+-- A line of the text says a command or steps, where so many steps were taken before it; and the first bad line, if there
+-- is one, stands behind it.
+pub record SaysSome (allowed : Bool) (k : ℕ) (text : List ℕ) : Type 0 where
   pub front : List (List ℕ)
   pub line : List ℕ
   pub behind : List (List ℕ)
-  pub said : Line
+  pub taken : ℕ
+  pub said : Said
   pub parts : lines_of text ≡ front ++ line ∷ behind
-  pub reads : line_read false k 0 (length front + 1) line ≡ Ok (record { line = Some said; steps = [] })
-  pub first_bad : IfErr (text_read false k text) (λ bad. length front + 1 < bad.line)
+  pub reads : line_read allowed k taken (length front + 1) line ≡ Ok said
+  pub something : IsSomething said
+  pub first_bad : IfErr (text_read allowed k text) (λ bad. length front + 1 < bad.line)
 
--- Memory is wanted for a command alone.
-abbrev pub WantsMemory : ℕ → List ℕ → Result Script TextError → Type 0
-WantsMemory k text (Ok script) = Unit {0}
-WantsMemory k text (Err (errors.Bad bad)) = Unit {0}
-WantsMemory k text (Err errors.NoMemory) = SaysSome k text
+-- Memory is wanted for commands and steps alone.
+abbrev pub WantsMemory : Bool → ℕ → List ℕ → Result Script TextError → Type 0
+WantsMemory allowed k text (Ok script) = Unit {0}
+WantsMemory allowed k text (Err (errors.Bad bad)) = Unit {0}
+WantsMemory allowed k text (Err errors.NoMemory) = SaysSome allowed k text

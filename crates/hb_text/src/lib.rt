@@ -23,6 +23,7 @@ mod output;
 mod output_line;
 mod reading;
 mod rules;
+mod steps;
 mod verbs;
 mod words;
 

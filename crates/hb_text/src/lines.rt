@@ -1,9 +1,10 @@
-ghost use Rattle.std.specs.Prelude.{◌≡◌, ◌==◌, ◌<◌, ◌≤◌, false, ◌∷◌, length, position, OnOk};
+ghost use Rattle.std.specs.Prelude.{◌≡◌, ◌==◌, ◌<◌, ◌≤◌, ◌∷◌, if◌then◌else◌, length, position, OnOk, Err};
 ghost use Rattle.std.specs.List.{list_all, list_any};
-ghost use Rattle.hb_text.specs.Grammar.{lines_of, words_of, is_printable, is_empty, words_read, line_read, SaysLine, SaysCommand};
+ghost use Rattle.hb_text.specs.Grammar.{lines_of, words_of, is_printable, is_empty, words_read, line_read, steps_read, says_steps, SaysLine, SaysSteps};
 
 use crate::commands::{read_command, read_session};
 use crate::rules::TextRule;
+use crate::steps::{STEPS, left_behind};
 use crate::words::Words;
 use hb_set::Line;
 use hb_space::form::{KMAX, LINE};
@@ -49,45 +50,84 @@ fn has_empty_word(line: &[u8]) -> bool
     false
 }
 
-/// The command line that the words of a line say, or the first rule that they break.
+/// What a line says.
+#[derive(Debug, Drop)]
+pub(crate) enum Meaning {
+    /// The line is empty.
+    Nothing,
+    /// A command of a session.
+    Command(Line),
+    /// The steps of the words behind its first one.
+    Steps,
+}
+
+/// What the words behind `step` say: steps, where step lines are allowed and no more are said than
+/// the schedule may still take.
+fn read_step_line(allowed: bool, taken: usize, words: &mut Words<'_>) -> Result<Meaning, TextRule>
+    requires { taken ≤ 10000000 }
+    ensures { SaysSteps words.old result (if allowed then says_steps (steps_read taken words.old) else Err TextRule.BadStep) }
+{
+    if !allowed || words.is_done() {
+        return Err(TextRule::BadStep);
+    }
+    match left_behind(words, STEPS - taken) {
+        Some(_) => Ok(Meaning::Steps),
+        None => Err(TextRule::BadStep),
+    }
+}
+
+/// What the words of a line say, or the first rule that they break.
 #[tactic(auto, unfolding(crate::specs::Grammar::words_read))]
-fn read_words(attributes: u8, number: u32, line: &[u8]) -> Result<Line, TextRule>
+fn read_words(
+    allowed: bool,
+    attributes: u8,
+    taken: usize,
+    number: u32,
+    line: &[u8],
+) -> Result<Meaning, TextRule>
     requires some { 0 < attributes }
     requires few { attributes ≤ KMAX }
-    ensures { SaysCommand result (words_read false attributes 0 number (words_of line.now)) }
+    requires taken { taken ≤ 10000000 }
+    ensures { SaysLine (words_of line.now) result (words_read allowed attributes taken number (words_of line.now)) }
 {
     let mut words = Words::of_line(line);
     let Some(first) = words.next_word() else {
         return Err(TextRule::BadSession);
     };
     if first == b"step".as_slice() {
-        return Err(TextRule::BadStep);
+        return read_step_line(allowed, taken, &mut words);
     }
     let Some(session) = read_session(first) else {
         return Err(TextRule::BadSession);
     };
     let command = read_command(attributes, &mut words)?;
-    Ok(Line {
+    Ok(Meaning::Command(Line {
         number,
         session,
         command,
-    })
+    }))
 }
 
-/// What a line says: a command of a session, or nothing where it is empty; or the first rule that
-/// it breaks.
+/// What a line says, or the first rule that it breaks. So many steps were taken before it.
 #[tactic(auto, unfolding(crate::specs::Grammar::line_read))]
-pub(crate) fn read_line(attributes: u8, number: u32, line: &[u8]) -> Result<Option<Line>, TextRule>
+pub(crate) fn read_line(
+    allowed: bool,
+    attributes: u8,
+    taken: usize,
+    number: u32,
+    line: &[u8],
+) -> Result<Meaning, TextRule>
     requires some { 0 < attributes }
     requires few { attributes ≤ KMAX }
-    ensures says { SaysLine result (line_read false attributes 0 number line.now) }
+    requires taken { taken ≤ 10000000 }
+    ensures says { SaysLine (words_of line.now) result (line_read allowed attributes taken number line.now) }
     ensures number { OnOk result (number ≤ 1000000) }
 {
     if number > LINES {
         return Err(TextRule::TooMany);
     }
     if line.is_empty() {
-        return Ok(None);
+        return Ok(Meaning::Nothing);
     }
     if line.len() > LINE {
         return Err(TextRule::LongLine);
@@ -98,5 +138,5 @@ pub(crate) fn read_line(attributes: u8, number: u32, line: &[u8]) -> Result<Opti
     if has_empty_word(line) {
         return Err(TextRule::BadSpacing);
     }
-    Ok(Some(read_words(attributes, number, line)?))
+    read_words(allowed, attributes, taken, number, line)
 }

@@ -1,7 +1,7 @@
 ghost use Rattle.std.specs.Prelude.{◌≡◌};
 ghost use Rattle.hb_text.specs.declared.rules.TextError.TheVariants.{NoMemory};
 
-use std::alloc::AllocFailed;
+use std::alloc::{AllocError, AllocFailed};
 
 /// What is wrong with a line of command text. The rules stand in the order in which they are
 /// tried, and the first that a line breaks is named.
@@ -54,6 +54,14 @@ impl<T: Drop> From<AllocFailed<T>> for TextError {
     ghost from_gives = { λ _ error. error ≡ NoMemory };
 
     fn from(_refused: AllocFailed<T>) -> TextError {
+        TextError::NoMemory
+    }
+}
+
+impl From<AllocError> for TextError {
+    ghost from_gives = { λ _ error. error ≡ NoMemory };
+
+    fn from(_refused: AllocError) -> TextError {
         TextError::NoMemory
     }
 }

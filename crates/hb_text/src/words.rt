@@ -1,4 +1,4 @@
-ghost use Rattle.std.specs.Prelude.{◌≡◌, ◌==◌, [], ◌∷◌, length, count_by, position, MatchOption};
+ghost use Rattle.std.specs.Prelude.{◌≡◌, ◌==◌, [], ◌∷◌, length, count_by, position, MatchOption, IsTrue, ◌↔◌};
 ghost use Rattle.hb_text.specs.Grammar.{words_of};
 
 use std::marker::Model;
@@ -71,6 +71,14 @@ impl<'a> Words<'a> {
                 Some(self.rest)
             }
         }
+    }
+
+    /// Whether no word is left.
+    #[tactic(auto, using(crate::proofs::WordCuts::some_word))]
+    pub(crate) fn is_done(&self) -> bool
+        ensures { IsTrue result ↔ (self.now ≡ []) }
+    {
+        self.done
     }
 
     /// How many words are left.

@@ -17,7 +17,7 @@ fn answered(alloc: Global, text: &[u8], attributes: u8) -> Outcome
     requires some { 0 < attributes }
     requires few { attributes ≤ KMAX }
 {
-    match read_commands(alloc, text, attributes) {
+    match read_commands(alloc, text, attributes, false) {
         Ok(script) => Outcome::Commands(script.lines.as_slice().len()),
         Err(TextError::Bad(bad)) => Outcome::Bad(bad.line, bad.rule),
         Err(TextError::NoMemory) => Outcome::NoMemory,
@@ -67,7 +67,7 @@ fn good_script(rt: HostRuntime) {
         (4, 2, ("search", &[1, 3], &[2, 3], b"")),
         (5, 9, ("lookup", &[3, 4], &[], b"")),
     ];
-    let Ok(script) = read_commands(rt.alloc(), text, 2) else {
+    let Ok(script) = read_commands(rt.alloc(), text, 2, false) else {
         panic!(rt; "no script");
     };
     assert_eq!(rt; script.lines.as_slice().len(), table.len());
@@ -183,4 +183,68 @@ fn limits(rt: HostRuntime) {
         answered(rt.alloc(), &feeds, 1),
         Outcome::Bad(1_000_001, TextRule::TooMany)
     );
+}
+
+// What a text of one attribute with step lines says: how many commands, and the steps.
+#[derive(Clone, Copy, Debug, PartialEq, Eq)]
+enum Schedule<'a> {
+    Steps(usize, &'a [u8]),
+    Bad(u32, TextRule),
+    NoMemory,
+}
+
+#[test]
+fn step_lines(rt: HostRuntime) {
+    let table: [(&str, Schedule); 20] = [
+        ("", Schedule::Steps(0, &[])),
+        ("step 1", Schedule::Steps(0, &[1])),
+        ("step 1x3 2\n", Schedule::Steps(0, &[1, 1, 1, 2])),
+        ("step p c f 16x2", Schedule::Steps(0, &[17, 18, 19, 16, 16])),
+        (
+            "1 lookup 1\nstep 1 px2\n\n2 delete 3\nstep f",
+            Schedule::Steps(2, &[1, 17, 17, 19]),
+        ),
+        ("step", Schedule::Bad(1, TextRule::BadStep)),
+        ("step 0", Schedule::Bad(1, TextRule::BadStep)),
+        ("step 17", Schedule::Bad(1, TextRule::BadStep)),
+        ("step 01", Schedule::Bad(1, TextRule::BadStep)),
+        ("step 1x0", Schedule::Bad(1, TextRule::BadStep)),
+        ("step 1x01", Schedule::Bad(1, TextRule::BadStep)),
+        ("step 1x1000001", Schedule::Bad(1, TextRule::BadStep)),
+        ("step px", Schedule::Bad(1, TextRule::BadStep)),
+        ("step x3", Schedule::Bad(1, TextRule::BadStep)),
+        ("step p x3", Schedule::Bad(1, TextRule::BadStep)),
+        ("step 1x2x3", Schedule::Bad(1, TextRule::BadStep)),
+        ("step pp", Schedule::Bad(1, TextRule::BadStep)),
+        ("step 1\nstep 2 q", Schedule::Bad(2, TextRule::BadStep)),
+        ("step 1 ", Schedule::Bad(1, TextRule::BadSpacing)),
+        ("Step 1", Schedule::Bad(1, TextRule::BadSession)),
+    ];
+    for (text, wanted) in &table {
+        let script = read_commands(rt.alloc(), text.as_bytes(), 1, true);
+        let answer = match &script {
+            Ok(script) => Schedule::Steps(script.lines.as_slice().len(), script.steps.as_slice()),
+            Err(TextError::Bad(bad)) => Schedule::Bad(bad.line, bad.rule),
+            Err(TextError::NoMemory) => Schedule::NoMemory,
+        };
+        assert!(rt; answer == *wanted, "at {text}");
+    }
+}
+
+// A schedule of 10,000,000 steps, and one more.
+#[test]
+fn longest_schedule(rt: HostRuntime) {
+    let whole =
+        "step 1x1000000 2x1000000 3x1000000 4x1000000 5x1000000 6x1000000 7x1000000 8x1000000 9x1000000 px1000000\n";
+    let more =
+        "step 1x1000000 2x1000000 3x1000000 4x1000000 5x1000000 6x1000000 7x1000000 8x1000000 9x1000000 px1000000\nstep 1\n";
+    let Ok(script) = read_commands(rt.alloc(), whole.as_bytes(), 1, true) else {
+        panic!(rt; "no script");
+    };
+    assert_eq!(rt; script.steps.as_slice().len(), 10_000_000);
+    let Err(TextError::Bad(bad)) = read_commands(rt.alloc(), more.as_bytes(), 1, true) else {
+        panic!(rt; "too many steps were taken");
+    };
+    assert_eq!(rt; bad.line, 2);
+    assert_eq!(rt; bad.rule, TextRule::BadStep);
 }

@@ -1,0 +1,131 @@
+//! The steps of a step line.
+ghost use Rattle.std.specs.Prelude.{◌≡◌, ◌+◌, ◌≤◌, ◌==◌, ℕ, List, ◌++◌, ◌∷◌, length, position, replicate, Some, None, option_map, MatchOption, IfSome, OnOk};
+ghost use Rattle.hb_text.specs.Numbers.{number_read};
+ghost use Rattle.hb_text.specs.Grammar.{actor_of, count_number, repeated, word_steps, steps_of};
+ghost use Rattle.hb_text.specs.Steps.{steps_left};
+
+use crate::commands::read_session;
+use crate::numbers::read_number;
+use crate::words::Words;
+use hb_space::{Actor, NoMemory};
+
+/// The poster, the consolidator and the flusher.
+const POSTER: Actor = 17;
+
+const CONSOLIDATOR: Actor = 18;
+
+const FLUSHER: Actor = 19;
+
+/// The greatest number of steps of a schedule.
+pub(crate) const STEPS: usize = 10_000_000;
+
+/// Steps of one actor, one after the other.
+#[derive(Clone, Copy, Debug, PartialEq, Eq)]
+struct Turns {
+    actor: Actor,
+    count: usize,
+}
+
+/// The actor that a word names.
+fn read_actor(word: &[u8]) -> Option<Actor>
+    ensures { result ≡ actor_of word.now }
+{
+    if word == b"p".as_slice() {
+        Some(POSTER)
+    } else if word == b"c".as_slice() {
+        Some(CONSOLIDATOR)
+    } else if word == b"f".as_slice() {
+        Some(FLUSHER)
+    } else {
+        read_session(word)
+    }
+}
+
+/// The count of steps that a word says: a number from 1 to 1,000,000.
+fn read_count(word: &[u8]) -> Option<usize>
+    ensures count { result ≡ count_number (number_read word.now) }
+    ensures few { IfSome result (λ n. n ≤ 1000000) }
+{
+    match read_number(word) {
+        Ok(number) if 1 <= number && number <= 1_000_000 => Some(number as usize),
+        _ => None,
+    }
+}
+
+/// Where the first `x` of the word stands.
+fn first_x(word: &[u8]) -> Option<usize>
+    ensures { result ≡ position (λ c. c == 120) word.now }
+{
+    word.iter().position(|c| *c == b'x')
+}
+
+/// What stands before the first `x` of a word, and behind it. `None` where the word has none.
+#[tactic(auto, using(crate::proofs::StepWords::steps_at_x, crate::proofs::StepWords::steps_without_x))]
+fn cut_at_x(word: &[u8]) -> Option<(&[u8], &[u8])>
+    ensures { MatchOption result
+        (word_steps word.now ≡ repeated (actor_of word.now) (Some 1))
+        (λ cut. word_steps word.now ≡ repeated (actor_of cut.0.now) (count_number (number_read cut.1.now))) }
+{
+    match first_x(word) {
+        Some(at) => Some((&word[..at], &word[at + 1..])),
+        None => None,
+    }
+}
+
+/// So many steps of an actor, where both were read.
+fn turns_of(actor: Option<Actor>, count: Option<usize>) -> Option<Turns>
+    requires { IfSome count (λ n. n ≤ 1000000) }
+    ensures steps { option_map (λ t. replicate t.count t.actor) result ≡ repeated actor count }
+    ensures few { IfSome result (λ t. t.count ≤ 1000000) }
+{
+    match (actor, count) {
+        (Some(actor), Some(count)) => Some(Turns { actor, count }),
+        _ => None,
+    }
+}
+
+/// The steps that a word says: an actor, alone or with `x` and a count behind it.
+fn read_turns(word: &[u8]) -> Option<Turns>
+    ensures steps { option_map (λ t. replicate t.count t.actor) result ≡ word_steps word.now }
+    ensures few { IfSome result (λ t. t.count ≤ 1000000) }
+{
+    match cut_at_x(word) {
+        None => turns_of(read_actor(word), Some(1)),
+        Some((actor, count)) => turns_of(read_actor(actor), read_count(count)),
+    }
+}
+
+/// How many of so many steps are left behind those that the words say. `None` where a word says no steps, or too many
+/// are said.
+pub(crate) fn left_behind(words: &mut Words<'_>, left: usize) -> Option<usize>
+    ensures { result ≡ steps_left left words.old }
+{
+    let mut left = left;
+    while let Some(word) = words.next_word() {
+        let turns = read_turns(word)?;
+        left = left.checked_sub(turns.count)?;
+    }
+    Some(left)
+}
+
+/// Adds steps of one actor.
+fn push_turns(steps: &mut Vec<Actor>, turns: Turns) -> Result<(), NoMemory>
+    requires { length steps.old.items + turns.count ≤ 10000000 }
+    ensures { OnOk result (steps.new.items ≡ steps.old.items ++ replicate turns.count turns.actor) }
+{
+    steps.resize(steps.len() + turns.count, turns.actor)
+}
+
+/// Adds the steps that the words say.
+pub(crate) fn push_steps(words: &mut Words<'_>, steps: &mut Vec<Actor>) -> Result<(), NoMemory>
+    requires { (said : List ℕ) × (steps_of words.old ≡ Some said) × (length steps.old.items + length said ≤ 10000000) }
+    ensures { OnOk result ((said : List ℕ) → steps_of words.old ≡ Some said → steps.new.items ≡ steps.old.items ++ said) }
+{
+    while let Some(word) = words.next_word() {
+        let Some(turns) = read_turns(word) else {
+            return Ok(());
+        };
+        push_turns(steps, turns)?;
+    }
+    Ok(())
+}
