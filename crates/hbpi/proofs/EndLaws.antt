@@ -18,7 +18,7 @@ use Rattle.hbpi.specs.Ends.{Seen, Ends, DryEnds, IsAnswered, IsComplete, Refuses
 -- a good text is read whole
 good_is_whole : (k : ℕ) (left : List ℕ) (reading : Reading) → text_read false k left ≡ Ok reading → take greatest_text left ≡ left
 unfolding greatest_text
-good_is_whole k left reading good = take_all 257000001 left (omega (arith, text_is_short k left reading good))
+good_is_whole k left reading good = take_all 257000001 left (omega (arith, text_is_short false k left reading good))
 
 -- the text that is read is read as all that was left
 front_reads : (k : ℕ) (left : List ℕ) → text_read false k (take greatest_text left) ≡ text_read false k left
@@ -26,7 +26,7 @@ unfolding greatest_text
 front_reads k left = elim (cases_lt 257000000 (length left)) [
   | inl long ↦
       let front : 257000000 < length (take 257000001 left) = omega (arith, length-take 257000001 left) in
-      sym (front_is_all k (take 257000001 left) (drop 257000001 left) front) ∙ ap (text_read false k) (take-append-drop 257000001 left)
+      sym (front_is_all false k (take 257000001 left) (drop 257000001 left) front) ∙ ap (text_read false k) (take-append-drop 257000001 left)
   | inr short ↦ ap (text_read false k) (take_all 257000001 left (omega arith))
 ]
 

@@ -6,3 +6,5 @@ pub mod Ends
 pub mod Layouts
 pub mod Audit
 pub mod Restart
+pub mod Core
+pub mod CoreSeen

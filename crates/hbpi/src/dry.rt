@@ -28,7 +28,7 @@ fn read_script<S: Source>(alloc: Global, k: u8, source: &mut S) -> Result<Script
         Err(TextStop::SourceFault) => return Err(Status::SourceFault),
         Err(TextStop::NoMemory) => return Err(Status::NoMemory),
     };
-    match read_commands(alloc, text.as_slice(), k) {
+    match read_commands(alloc, text.as_slice(), k, false) {
         Ok(script) => Ok(script),
         Err(TextError::Bad(bad)) => Err(Status::BadText(bad)),
         Err(TextError::NoMemory) => Err(Status::NoMemory),
