@@ -9,3 +9,4 @@ pub mod Places
 pub mod Opened
 pub mod Remade
 pub mod Sound
+pub mod Looks

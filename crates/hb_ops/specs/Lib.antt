@@ -5,3 +5,5 @@ pub mod LocalRule
 pub mod Given
 pub mod LawsOfContents
 pub mod Edits
+pub mod Standing
+pub mod Looked

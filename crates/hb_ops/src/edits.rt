@@ -64,7 +64,7 @@ pub(crate) fn delete(
 
 // The records of the leaf at the record's point, and the place among them to which it would go.
 // `None` where a put of it isn't allowed.
-fn gap_for<'a>(page: &'a LivePage, meta: &Meta, rec: &Record) -> Option<(&'a Records, usize)>
+pub(crate) fn gap_for<'a>(page: &'a LivePage, meta: &Meta, rec: &Record) -> Option<(&'a Records, usize)>
     requires points { length rec.now.key ≡ meta.now.k }
     requires light { weight_of page.now.frag < 2 ^ 32 }
     ensures { MatchOption result
@@ -131,7 +131,7 @@ fn open_at<'a>(page: &'a LivePage, meta: &Meta, point: &Point) -> Option<&'a Rec
 }
 
 // Where the point is, or where it would go.
-fn place_of(records: &[Record], point: &Point) -> Result<usize, usize>
+pub(crate) fn place_of(records: &[Record], point: &Point) -> Result<usize, usize>
     requires { AllPairs Precedes records.now }
     ensures found { IfOk result (IsAt records.now point.now) }
     ensures absent { IfErr result (IsGapFor records.now point.now) }

@@ -1,6 +1,7 @@
 //! What follows of operations from their definitions alone.
 
 ghost use Rattle.hb_ops.specs.LawsOfContents.{DelTakesOne, LonePage, PutAddsOne, StaysSound};
+ghost use Rattle.hb_ops.specs.Standing.{AbsenceIsContents, RecordsAreContents};
 
 /// An allowed put adds exactly one record to the contents.
 pub fn put_adds_one_record()
@@ -21,4 +22,10 @@ pub fn lone_page_has_no_others()
 /// An operation that is allowed and licensed leaves a sound file sound.
 pub fn operations_keep_a_file_sound()
     ensures { StaysSound }
+{}
+
+/// What a page of level 0 has at a point is what the contents of the file have there, where no other page has the point.
+pub fn what_stands_is_in_the_contents()
+    ensures there { RecordsAreContents }
+    ensures absent { AbsenceIsContents }
 {}

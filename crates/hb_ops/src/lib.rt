@@ -18,6 +18,7 @@ mod laws;
 mod local;
 mod meta;
 mod operations;
+mod looking;
 #[cfg(test)]
 mod tests;
 mod threads;
@@ -25,8 +26,9 @@ mod threads;
 pub use changes::{ChangeError, Changed, change};
 pub use laws::{
     delete_takes_one_record, lone_page_has_no_others, operations_keep_a_file_sound,
-    put_adds_one_record,
+    put_adds_one_record, what_stands_is_in_the_contents,
 };
 pub use local::local_rule;
 pub use meta::Meta;
 pub use operations::Op;
+pub use looking::{Standing, has_room, look_at};
