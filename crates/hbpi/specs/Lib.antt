@@ -8,3 +8,4 @@ pub mod Audit
 pub mod Restart
 pub mod Core
 pub mod CoreSeen
+pub mod Drives
