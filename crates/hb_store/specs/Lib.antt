@@ -7,3 +7,4 @@ pub mod Propositions
 pub mod Seen
 pub mod Calls
 pub mod Stops
+pub mod Images

@@ -5,6 +5,7 @@ mod commits;
 mod fetches;
 mod forces;
 mod frames;
+mod group_writing;
 mod looks;
 mod opening;
 mod reading;
