@@ -1,6 +1,6 @@
 //! What follows of operations from their definitions alone.
 
-ghost use Rattle.hb_ops.specs.LawsOfContents.{DelTakesOne, LonePage, PutAddsOne, StaysSound};
+ghost use Rattle.hb_ops.specs.LawsOfContents.{DelMakesWell, DelTakesOne, LonePage, PutAddsOne, PutMakesWell, StaysSound};
 
 /// An allowed put adds exactly one record to the contents.
 pub fn put_adds_one_record()
@@ -21,4 +21,10 @@ pub fn lone_page_has_no_others()
 /// An operation that is allowed and licensed leaves a sound file sound.
 pub fn operations_keep_a_file_sound()
     ensures { StaysSound }
+{}
+
+/// What an allowed operation makes of a page keeps the rules that speak of the page alone.
+pub fn changed_pages_are_well_made()
+    ensures put { PutMakesWell }
+    ensures del { DelMakesWell }
 {}

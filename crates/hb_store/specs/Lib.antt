@@ -8,3 +8,6 @@ pub mod Seen
 pub mod Calls
 pub mod Stops
 pub mod Images
+pub mod ReplayLists
+pub mod ReplayLaws
+pub mod Marks
