@@ -1,2 +1,4 @@
 mod Marking
 mod Grouped
+mod Changed
+mod Touching

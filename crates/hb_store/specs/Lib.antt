@@ -11,3 +11,4 @@ pub mod Images
 pub mod ReplayLists
 pub mod ReplayLaws
 pub mod Marks
+pub mod StoreLaws
