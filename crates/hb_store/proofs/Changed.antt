@@ -120,3 +120,8 @@ module _ (spells : LiveSpells) (put_well : PutMakesWell) (del_well : DelMakesWel
       → ChangesWell turn meta frame (change_of op meta (if_live (frame (get_or (reads_of op) 0 0))) second third)
   changes_well (Put id rec) second third fits allowed = put_changes id rec (frame id) refl second third fits.1 allowed
   changes_well (Del id point) second third fits allowed = del_changes id point (frame id) refl second third allowed
+
+  -- so for a change that is the one made here
+  pub made_well : (op : Op) (second third : Option LivePage) (change : Change) → change ≡ change_of op meta (if_live (frame (get_or (reads_of op) 0 0))) second third → FitsOp meta.k op
+      → IsAllowedOn op meta (if_live (frame (get_or (reads_of op) 0 0))) second third → ChangesWell turn meta frame change
+  made_well op second third change is fits allowed = subst (λ (c : Change). ChangesWell turn meta frame c) (sym is) (changes_well op second third fits allowed)

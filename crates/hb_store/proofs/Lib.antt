@@ -2,3 +2,4 @@ mod Marking
 mod Grouped
 mod Changed
 mod Touching
+mod Committed

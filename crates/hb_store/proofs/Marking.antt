@@ -45,7 +45,7 @@ set_one (x ∷ xs) rest whole one new f start lt is left e there set =
 
 -- ---- the pages in frames that were marked and set
 
-set_pages-same : (pages : List (ℕ × Page)) (f g : ℕ → Option Page) → ((q : ℕ) → f q ≡ g q) → (q : ℕ) → set_pages pages f q ≡ set_pages pages g q
+pub set_pages-same : (pages : List (ℕ × Page)) (f g : ℕ → Option Page) → ((q : ℕ) → f q ≡ g q) → (q : ℕ) → set_pages pages f q ≡ set_pages pages g q
 set_pages-same [] f g e q = e q
 set_pages-same (one ∷ rest) f g e q =
     set_pages-same rest (λ r. cond (r == one.0) (Some one.1) (f r)) (λ r. cond (r == one.0) (Some one.1) (g r)) (λ r. ap (λ (o : Option Page). cond (r == one.0) (Some one.1) o) (e r)) q
@@ -91,3 +91,9 @@ pub page_in-after : (ids : List ℕ) (pages : List (ℕ × Page)) (F : ℕ → O
 page_in-after ids pages F q =
     page_in-set pages (mark_frames ids F) q
     ∙ set_pages-same pages (λ r. page_in (mark_frames ids F r)) (λ r. page_in (F r)) (page_in-mark ids F) q
+
+-- the frames after both calls
+pub frames_are : (ids as_read : List ℕ) (pages : List (ℕ × Page)) (F marked all : ℕ → Option Frame) → as_read ≡ ids → ((q : ℕ) → marked q ≡ mark_frames as_read F q) → ((q : ℕ) → all q ≡ set_frames pages marked q)
+    → (q : ℕ) → all q ≡ frames_after ids pages F q
+frames_are ids as_read pages F marked all same mark set q =
+    set q ∙ set_frames-same pages marked (mark_frames ids F) (λ r. mark r ∙ ap (λ (l : List ℕ). mark_frames l F r) same) q
