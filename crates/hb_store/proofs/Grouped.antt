@@ -1,5 +1,5 @@
 -- The group of an operation: which images it has, and how long its bytes are.
-use Rattle.std.proofs.Common.{◌≡◌, ◌≢◌, ℕ, zero, suc, ◌+◌, ◌-◌, ◌*◌, ◌^◌, ◌<◌, ◌≤◌, Bool, true, false, cond, List, [], ◌∷◌, ◌++◌, length, get_or, replicate, All, AllPairs, Option, Some, None, Result, Ok, Err, refl, sym, ap, ◌∙◌, subst, arith}
+use Rattle.std.proofs.Common.{◌≡◌, ◌≢◌, ℕ, zero, suc, ◌-◌, ◌*◌, ◌^◌, ◌<◌, ◌≤◌, true, false, cond, List, [], ◌∷◌, ◌++◌, length, get_or, replicate, All, AllPairs, Option, Some, None, Result, Ok, Err, refl, ap, arith}
 use Rattle.std.specs.List.{flat_map}
 use Rattle.std.specs.Option.{IfSome}
 use Rattle.std.specs.Result.{IfOk, OnOk}
@@ -8,7 +8,6 @@ use Rattle.std.proofs.lemmas.List.Elements.{All-append, All-cons, All-head, All-
 use Rattle.std.proofs.lemmas.List.Kept.{AllPairs-cons}
 use Rattle.byteorder.specs.Numbers.{length-bytes_high_first}
 use Rattle.hb_space.specs.declared.form.TheConstants.{PAGE, KMAX}
-use Rattle.hb_space.specs.Points.{IsBody}
 use Rattle.hb_outside.specs.Numbers.{big_endian}
 use Rattle.hb_frag.specs.declared.pages.Page.{Page}
 use Rattle.hb_frag.specs.declared.pages.Page.TheVariants.{Live, Free}
@@ -16,7 +15,7 @@ use Rattle.hb_frag.specs.Grammar.{HasSpelling, page_fields, point_bytes, record_
 use Rattle.hb_ops.specs.declared.meta.Meta.{Meta}
 use Rattle.hb_ops.specs.declared.operations.Op.{Op}
 use Rattle.hb_ops.specs.declared.operations.Op.TheVariants.{Put, Del}
-use Rattle.hb_ops.specs.Operations.{OpHas, reads_of}
+use Rattle.hb_ops.specs.Operations.{reads_of}
 use Rattle.hb_store.specs.Groups.{FitsGroup, FitsImage, FitsOp, Logged, group_bytes, image_bytes, op_bytes, page_bytes}
 use Rattle.hb_store.specs.Keeps.{IsGoodPage, MayHold}
 use Rattle.hb_store.specs.Frames.{page_in}

@@ -1,7 +1,7 @@
 -- The pages that are marked as imaged are those that the groups touch; and once a group's images are set, the touched
 -- pages that its operation reads are those in frames.
-use Rattle.std.proofs.Common.{◌≡◌, ◌≢◌, ◌⊎◌, ◌↔◌, inl, inr, ℕ, zero, suc, ◌<◌, ◌≤◌, ◌==◌, Bool, true, false, cond, List, [], ◌∷◌, ◌++◌, length, get_or, Option, Some, None, IsSome, IsTrue, refl, sym, ap, ◌∙◌, subst, arith}
-use Rattle.std.proofs.lemmas.Bool.{cases_Bool, cases_lt, eqb-true, eqb-false}
+use Rattle.std.proofs.Common.{◌≡◌, ◌⊎◌, ◌↔◌, inl, inr, ℕ, zero, suc, ◌<◌, ◌==◌, true, false, cond, List, [], ◌∷◌, ◌++◌, length, get_or, Option, Some, None, IsSome, IsTrue, refl, sym, ap, ◌∙◌, subst, arith}
+use Rattle.std.proofs.lemmas.Bool.{cases_lt, eqb-true}
 use Rattle.std.proofs.lemmas.List.{get_or_past}
 use Rattle.hb_frag.specs.declared.pages.Page.{Page}
 use Rattle.hb_store.specs.declared.frames.Frame.{Frame}
@@ -9,7 +9,7 @@ use Rattle.hb_store.specs.Frames.{imaged_in, page_in}
 use Rattle.hb_store.specs.Images.{image_due}
 use Rattle.hb_store.specs.Marks.{as_imaged, mark_frames, set_frames, with_frame, with_mark}
 use Rattle.hb_store.specs.Replay.{set_pages}
-use Rattle.hb_store.specs.ReplayLists.{set_one-same, set_one-other}
+use Rattle.hb_store.specs.ReplayLists.{set_one-same}
 use Rattle.hb_store.proofs.Grouped.{due}
 use Rattle.hb_store.proofs.Marking.{frames_after}
 
