@@ -1,9 +1,9 @@
-ghost use Rattle.std.specs.Prelude.{◌≡◌, ℕ, ◌<◌, ◌≤◌, false, List, All, length, IfOk, OnOk, OnErr, Some};
+ghost use Rattle.std.specs.Prelude.{◌≡◌, ◌<◌, ◌≤◌, ◌∷◌, ◌++◌, [], false, List, All, length, IfOk, OnOk, OnErr, Some};
 ghost use Rattle.hb_ops.specs.Given.{given as live_given};
 ghost use Rattle.hb_ops.specs.Files.{FileState, if_live};
-ghost use Rattle.hb_ops.specs.Operations.{IsLicensed, OpHas, reads_of};
+ghost use Rattle.hb_ops.specs.Operations.{IsLicensed, OpHas};
 ghost use Rattle.hb_store.specs.Groups.{FitsGroup, group_bytes};
-ghost use Rattle.hb_store.specs.Images.{images_due};
+ghost use Rattle.hb_store.specs.Images.{group_here};
 ghost use Rattle.hb_store.specs.Keeps.{StoreKeeps, last_of};
 ghost use Rattle.hb_store.specs.Seen.{seen_as};
 ghost use Rattle.hb_store.specs.Calls.{Commits, IsAllowedHere, IsReady, change_here, framed_read, with_op};
@@ -29,6 +29,7 @@ impl<D: Disk> Store<D> {
             IsLicensed (last_of durable later) op }
         requires marks { All (λ g. g.mark ≤ mark) (seen_as self.old).log.groups }
         ensures commits { OnOk result (Commits op mark (seen_as self.old) (seen_as self.new)) }
+        ensures group { OnOk result ((seen_as self.new).log.groups ≡ (seen_as self.old).log.groups ++ record { bytes = group_bytes (group_here (seen_as self.old) op); mark = mark } ∷ []) }
         ensures kept { OnErr result (seen_as self.new ≡ seen_as self.old) }
         ensures disk { self.new.disk ≡ self.old.disk }
         ensures keeps { (durable : FileState) (later : List FileState) → StoreKeeps (D.model self.old.disk) (seen_as self.old) durable later →
@@ -75,8 +76,8 @@ impl<D: Disk> Store<D> {
     // The bytes of an operation's group. It fits the log wherever the store is ready.
     fn group(&self, op: &Op) -> Result<Vec<u8>, NoMemory>
         requires points { OpHas (seen_as self.now).meta.k op.now }
-        ensures bytes { IfOk result (λ group. group.items ≡ group_bytes (record { images = images_due self.now.frames (reads_of op.now); op = op.now })) }
-        ensures fits { OnOk result (FitsGroup (seen_as self.now).meta.k (record { images = images_due self.now.frames (reads_of op.now); op = op.now })) }
+        ensures bytes { IfOk result (λ group. group.items ≡ group_bytes (group_here (seen_as self.now) op.now)) }
+        ensures fits { OnOk result (FitsGroup (seen_as self.now).meta.k (group_here (seen_as self.now) op.now)) }
         ensures some { IfOk result (λ group. 0 < length group.items) }
         ensures short { IfOk result (λ group. length group.items ≤ 16384) }
     {
