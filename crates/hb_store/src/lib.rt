@@ -7,6 +7,7 @@ mod forces;
 mod frames;
 mod looks;
 mod opening;
+mod places;
 mod reading;
 mod stops;
 mod store;
