@@ -1,1 +1,3 @@
 mod Openings
+mod AreaTorn
+mod AfterForce
