@@ -60,7 +60,7 @@ image_frames d log payloads has b told c image = record {
 written_fits : (d : DiskModel) (log : LogState) (payloads : List (List ℕ)) → HasLog d log payloads → (b : List ℕ) → d.told ≡ Some b → log.written ≤ log.len
 written_fits d log payloads has b told =
     let reads : range log.area log.len b ≡ frames payloads ++ replicate (log.len - log.written) 0
-        = at_value d.told (λ b. range log.area log.len b ≡ frames payloads ++ replicate (log.len - log.written) 0) b told has.reads in
+    = at_value d.told (λ b. range log.area log.len b ≡ frames payloads ++ replicate (log.len - log.written) 0) b told has.reads in
     let long = ap (λ (l : List ℕ). length l) reads in
     omega (arith, long, length-take log.len (drop log.area b), length-append (frames payloads) (replicate (log.len - log.written) 0), has.count)
 
