@@ -3,6 +3,8 @@
 
 mod commits;
 mod fetches;
+#[cfg(test)]
+mod force_tests;
 mod forces;
 mod frames;
 mod looks;
