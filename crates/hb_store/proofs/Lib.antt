@@ -1,3 +1,6 @@
+mod Openings
+mod AreaTorn
+mod AfterForce
 mod Marking
 mod Grouped
 mod Changed

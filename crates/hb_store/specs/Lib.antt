@@ -8,7 +8,7 @@ pub mod Seen
 pub mod Calls
 pub mod Stops
 pub mod Images
+pub mod Marks
 pub mod ReplayLists
 pub mod ReplayLaws
-pub mod Marks
 pub mod StoreLaws

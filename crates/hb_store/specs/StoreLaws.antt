@@ -77,8 +77,8 @@ module _ (b c : List ℕ) (same : take 8192 (drop 0 c) ≡ take 8192 (drop 0 b))
   gate_same : (turn : ℕ) → get_or c (place_of turn) 0 ≡ get_or b (place_of turn) 0
   gate_same turn =
       let at : (l : List ℕ) → get_or (take 1 (drop (place_of turn) l)) 0 0 ≡ get_or l (place_of turn) 0
-          = λ l. get_or-take 1 (drop (place_of turn) l) 0 0 (omega arith) ∙ get_or-drop (place_of turn) l 0 0
-          ∙ ap (λ (k : ℕ). get_or l k 0) (let e : place_of turn + 0 ≡ place_of turn = omega arith in e) in
+      = λ l. get_or-take 1 (drop (place_of turn) l) 0 0 (omega arith) ∙ get_or-drop (place_of turn) l 0 0
+      ∙ ap (λ (k : ℕ). get_or l k 0) (let e : place_of turn + 0 ≡ place_of turn = omega arith in e) in
       sym (at c) ∙ ap (λ (l : List ℕ). get_or l 0 0) (part_of 0 8192 (place_of turn) 1 c b (omega arith) (omega arith) same) ∙ at b
 
   body_same : (turn : ℕ) → take 40 (drop (place_of turn + 1) c) ≡ take 40 (drop (place_of turn + 1) b)
