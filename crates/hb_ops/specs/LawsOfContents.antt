@@ -6,8 +6,10 @@ use Rattle.hb_frag.specs.declared.pages.Page.{Page}
 use Rattle.hb_ops.specs.declared.operations.Op.{Op}
 use Rattle.hb_ops.specs.declared.operations.Op.TheVariants.{Put, Del}
 use Rattle.hb_ops.specs.Files.{FileState, page_of, page_records, contents_of}
-use Rattle.hb_ops.specs.Sound.{IsSound}
-use Rattle.hb_ops.specs.Operations.{IsAllowed, IsLicensed, effect_of, OpHas}
+use Rattle.hb_frag.specs.declared.pages.LivePage.{LivePage}
+use Rattle.hb_ops.specs.declared.meta.Meta.{Meta}
+use Rattle.hb_ops.specs.Sound.{FitsFile, IsSound}
+use Rattle.hb_ops.specs.Operations.{FitsDel, FitsPut, IsAllowed, IsLicensed, del_page, effect_of, put_page, OpHas}
 
 -- no other page of level 0 has a record of the point
 abbrev pub OthersLack : FileState → ℕ → List ℕ → Type 0
@@ -30,3 +32,10 @@ DelTakesOne = (s : FileState) (id : ℕ) (point : List ℕ) → IsAllowed s (Del
 -- A sound file stays sound.
 abbrev pub StaysSound : Type 0
 StaysSound = (s : FileState) (op : Op) → IsSound s → OpHas s.meta.k op → IsAllowed s op → IsLicensed s op → IsSound (effect_of s op)
+
+-- What an allowed put and an allowed delete make of a page is well made again.
+abbrev pub PutMakesWell : Type 0
+PutMakesWell = (meta : Meta) (page : LivePage) (rec : Record) → FitsPut meta page rec → FitsFile meta (put_page rec page)
+
+abbrev pub DelMakesWell : Type 0
+DelMakesWell = (meta : Meta) (page : LivePage) (point : List ℕ) → FitsDel meta page point → FitsFile meta (del_page point page)

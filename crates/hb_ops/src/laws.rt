@@ -1,6 +1,6 @@
 //! What follows of operations from their definitions alone.
 
-ghost use Rattle.hb_ops.specs.LawsOfContents.{DelTakesOne, LonePage, PutAddsOne, StaysSound};
+ghost use Rattle.hb_ops.specs.LawsOfContents.{DelMakesWell, DelTakesOne, LonePage, PutAddsOne, PutMakesWell, StaysSound};
 ghost use Rattle.hb_ops.specs.Standing.{AbsenceIsContents, RecordsAreContents};
 
 /// An allowed put adds exactly one record to the contents.
@@ -28,4 +28,10 @@ pub fn operations_keep_a_file_sound()
 pub fn what_stands_is_in_the_contents()
     ensures there { RecordsAreContents }
     ensures absent { AbsenceIsContents }
+{}
+
+/// What an allowed operation makes of a page keeps the rules that speak of the page alone.
+pub fn changed_pages_are_well_made()
+    ensures put { PutMakesWell }
+    ensures del { DelMakesWell }
 {}

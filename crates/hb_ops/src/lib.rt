@@ -25,8 +25,8 @@ mod threads;
 
 pub use changes::{ChangeError, Changed, change};
 pub use laws::{
-    delete_takes_one_record, lone_page_has_no_others, operations_keep_a_file_sound,
-    put_adds_one_record, what_stands_is_in_the_contents,
+    changed_pages_are_well_made, delete_takes_one_record, lone_page_has_no_others,
+    operations_keep_a_file_sound, put_adds_one_record, what_stands_is_in_the_contents,
 };
 pub use local::local_rule;
 pub use meta::Meta;

@@ -7,3 +7,8 @@ pub mod Propositions
 pub mod Seen
 pub mod Calls
 pub mod Stops
+pub mod Images
+pub mod Marks
+pub mod ReplayLists
+pub mod ReplayLaws
+pub mod StoreLaws

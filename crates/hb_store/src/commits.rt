@@ -1,13 +1,20 @@
-ghost use Rattle.std.specs.Prelude.{◌≡◌, ℕ, ◌≤◌, false, List, All, OnOk, OnErr};
-ghost use Rattle.hb_ops.specs.Files.{FileState};
+ghost use Rattle.std.specs.Prelude.{◌≡◌, ◌<◌, ◌≤◌, ◌∷◌, ◌++◌, [], false, List, All, length, IfOk, OnOk, OnErr, Some};
+ghost use Rattle.hb_ops.specs.Given.{given as live_given};
+ghost use Rattle.hb_ops.specs.Files.{FileState, if_live};
 ghost use Rattle.hb_ops.specs.Operations.{IsLicensed, OpHas};
+ghost use Rattle.hb_store.specs.Groups.{FitsGroup, group_bytes};
+ghost use Rattle.hb_store.specs.Images.{group_here};
 ghost use Rattle.hb_store.specs.Keeps.{StoreKeeps, last_of};
 ghost use Rattle.hb_store.specs.Seen.{seen_as};
-ghost use Rattle.hb_store.specs.Calls.{Commits, IsAllowedHere, IsReady, with_op};
+ghost use Rattle.hb_store.specs.Calls.{Commits, IsAllowedHere, IsReady, change_here, framed_read, with_op};
 
+use crate::frames::{mark_imaged, set_changed};
+use crate::group_writing::{group_for, reads};
 use crate::store::Store;
 use hb_disk::Disk;
-use hb_ops::Op;
+use hb_frag::{LivePage, Page};
+use hb_ops::{ChangeError, Changed, Op, change, changed_pages_are_well_made};
+use hb_page_codec::laws::page_within_capacity_has_spelling;
 use hb_space::NoMemory;
 
 impl<D: Disk> Store<D> {
@@ -21,13 +28,69 @@ impl<D: Disk> Store<D> {
         requires licensed { (durable : FileState) (later : List FileState) → StoreKeeps (D.model self.old.disk) (seen_as self.old) durable later →
             IsLicensed (last_of durable later) op }
         requires marks { All (λ g. g.mark ≤ mark) (seen_as self.old).log.groups }
-        requires stub { ⊥ }
         ensures commits { OnOk result (Commits op mark (seen_as self.old) (seen_as self.new)) }
+        ensures group { OnOk result ((seen_as self.new).log.groups ≡ (seen_as self.old).log.groups ++ record { bytes = group_bytes (group_here (seen_as self.old) op); mark = mark } ∷ []) }
         ensures kept { OnErr result (seen_as self.new ≡ seen_as self.old) }
         ensures disk { self.new.disk ≡ self.old.disk }
         ensures keeps { (durable : FileState) (later : List FileState) → StoreKeeps (D.model self.old.disk) (seen_as self.old) durable later →
             OnOk result (StoreKeeps (D.model self.new.disk) (seen_as self.new) durable (with_op durable later op)) }
     {
-        Err(std::alloc::AllocError)
+        changed_pages_are_well_made();
+        page_within_capacity_has_spelling();
+        let changed = self.changed(&op)?;
+        let group = self.group(&op)?;
+        self.log.append(&group, mark);
+        mark_imaged(&mut self.frames, &reads(&op));
+        set_changed(&mut self.frames, changed.pages);
+        self.meta = changed.meta;
+        Ok(())
+    }
+
+    // What an operation makes of the pages in frames.
+    fn changed(&self, op: &Op) -> Result<Changed, NoMemory>
+        requires points { OpHas (seen_as self.now).meta.k op.now }
+        requires allowed { IsAllowedHere (seen_as self.now) op.now }
+        ensures { IfOk result (λ c. record { meta = c.meta; pages = c.pages.items } ≡ change_here (seen_as self.now) op.now) }
+    {
+        let first = self.read(op, 0);
+        let second = self.read(op, 1);
+        let third = self.read(op, 2);
+        match change(self.alloc, op, &self.meta, first, second, third) {
+            Ok(changed) => Ok(changed),
+            Err(ChangeError::NoMemory) => Err(std::alloc::AllocError),
+            Err(ChangeError::Unfit) => unreachable!(),
+        }
+    }
+
+    // The page in use that an operation reads at a place of its list, where it is in a frame.
+    fn read(&self, op: &Op, place: usize) -> Option<&LivePage>
+        ensures { live_given result ≡ framed_read (seen_as self.now) op.now place }
+    {
+        let id = reads(op).get(place).copied().unwrap_or(0);
+        match self.frames.get(&id) {
+            Some(frame) => live_of(&frame.page),
+            None => None,
+        }
+    }
+
+    // The bytes of an operation's group. It fits the log wherever the store is ready.
+    fn group(&self, op: &Op) -> Result<Vec<u8>, NoMemory>
+        requires points { OpHas (seen_as self.now).meta.k op.now }
+        ensures bytes { IfOk result (λ group. group.items ≡ group_bytes (group_here (seen_as self.now) op.now)) }
+        ensures fits { OnOk result (FitsGroup (seen_as self.now).meta.k (group_here (seen_as self.now) op.now)) }
+        ensures some { IfOk result (λ group. 0 < length group.items) }
+        ensures short { IfOk result (λ group. length group.items ≤ 16384) }
+    {
+        group_for(self.alloc, &self.frames, op)
+    }
+}
+
+// The page, where it is in use.
+fn live_of(page: &Page) -> Option<&LivePage>
+    ensures { live_given result ≡ if_live (Some page.now) }
+{
+    match page {
+        Page::Live(page) => Some(page),
+        Page::Free { .. } => None,
     }
 }

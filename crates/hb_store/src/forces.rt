@@ -1,4 +1,4 @@
-ghost use Rattle.std.specs.Prelude.{◌≡◌, ◌≢◌, ℕ, ◌+◌, ◌≤◌, false, List, [], IsOk, IsSome, OnOk, OnErr, IfOk, ◌↔◌};
+ghost use Rattle.std.specs.Prelude.{◌≡◌, ◌≢◌, ℕ, ◌+◌, ◌≤◌, false, List, [], IsOk, IsSome, OnOk, OnErr, IfOk, IsTrue, ◌↔◌};
 ghost use Rattle.hb_disk.specs.Model.{Stays, Torn};
 ghost use Rattle.hb_disk.specs.Calls.{Leaves, WriteFaults, Becomes};
 ghost use Rattle.hb_ops.specs.Files.{FileState};
@@ -16,7 +16,6 @@ impl<D: Disk> Store<D> {
     pub fn force(&mut self) -> Result<(), WriteFault>
         requires running { (seen_as self.old).stopped ≡ false }
         requires kept { IsSome (D.model self.old.disk).told → (durable : FileState) × (later : List FileState) × StoreKeeps (D.model self.old.disk) (seen_as self.old) durable later }
-        requires stub { ⊥ }
         ensures nothing { (seen_as self.old).log.groups ≡ [] → IsOk result × Stays (D.model self.old.disk) (D.model self.new.disk) }
         ensures forced { OnOk result (seen_as self.new ≡ forced_state (seen_as self.old)) }
         ensures stopped { OnErr result (seen_as self.new ≡ stopped_state (seen_as self.old)) }
@@ -30,14 +29,19 @@ impl<D: Disk> Store<D> {
         ensures clock { IsSome (D.model self.old.disk).told → (D.model self.new.disk).clock ≤ (D.model self.old.disk).clock + 4 }
         ensures faults { WriteFaults result (D.model self.old.disk) (D.model self.new.disk) }
     {
-        Err(WriteFault)
+        match self.log.force(&mut self.disk) {
+            Ok(()) => Ok(()),
+            Err(_fault) => {
+                self.stopped = true;
+                Err(WriteFault)
+            }
+        }
     }
 
     /// Forces the oldest group that waits: `Forced`; or `Nothing` where none does. It takes no memory.
     pub fn flush_step(&mut self) -> Result<Flushed, WriteFault>
         requires running { (seen_as self.old).stopped ≡ false }
         requires kept { IsSome (D.model self.old.disk).told → (durable : FileState) × (later : List FileState) × StoreKeeps (D.model self.old.disk) (seen_as self.old) durable later }
-        requires stub { ⊥ }
         ensures which { IfOk result (λ flushed. (flushed ≡ Flushed.Nothing) ↔ ((seen_as self.old).log.groups ≡ [])) }
         ensures nothing { (seen_as self.old).log.groups ≡ [] → IsOk result × Stays (D.model self.old.disk) (D.model self.new.disk) }
         ensures forced { OnOk result (seen_as self.new ≡ forced_state (seen_as self.old)) }
@@ -52,6 +56,17 @@ impl<D: Disk> Store<D> {
         ensures clock { IsSome (D.model self.old.disk).told → (D.model self.new.disk).clock ≤ (D.model self.old.disk).clock + 4 }
         ensures faults { WriteFaults result (D.model self.old.disk) (D.model self.new.disk) }
     {
-        Err(WriteFault)
+        if self.is_idle() {
+            return Ok(Flushed::Nothing);
+        }
+        self.force()?;
+        Ok(Flushed::Forced)
+    }
+
+    /// Whether no group waits: then any time is settled, and else only the oldest group's mark is.
+    fn is_idle(&self) -> bool
+        ensures { IsTrue result ↔ ((seen_as self.now).log.groups ≡ []) }
+    {
+        self.log.settled(0) != self.log.settled(1)
     }
 }

@@ -3,10 +3,14 @@
 
 mod commits;
 mod fetches;
+#[cfg(test)]
+mod force_tests;
 mod forces;
 mod frames;
+mod group_writing;
 mod looks;
 mod opening;
+mod places;
 mod reading;
 mod stops;
 mod store;

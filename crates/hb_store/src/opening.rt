@@ -3,6 +3,7 @@ ghost use Rattle.hb_ops.specs.Files.{FileState};
 ghost use Rattle.hb_store.specs.Keeps.{MayHold, IsNew, IsFresh, StoreKeeps};
 ghost use Rattle.hb_store.specs.Seen.{seen_as};
 
+use crate::places::log_place;
 use crate::store::Store;
 use hb_disk::Disk;
 use hb_ops::Meta;
@@ -17,13 +18,24 @@ impl<D: Disk> Store<D> {
     pub fn opened(alloc: Global, disk: D, turn: u8, meta: Meta) -> Result<Store<D>, (NoMemory, D)>
         requires holds { MayHold (D.model disk).size turn meta }
         requires fresh { IsSome (D.model disk).told → (s : FileState) × IsFresh (D.model disk) turn meta s }
-        requires stub { ⊥ }
         ensures new { IfOk result (λ st. IsNew turn meta (seen_as st)) }
         ensures disk { IfOk result (λ st. st.disk ≡ disk) }
         ensures keeps { IfOk result (λ st. (s : FileState) → IsFresh (D.model disk) turn meta s →
             StoreKeeps (D.model st.disk) (seen_as st) s []) }
         ensures back { IfErr result (λ e. e.1 ≡ disk) }
     {
-        Err((std::alloc::AllocError, disk))
+        let log = match Wal::new(alloc, log_place(turn, &meta), meta.log) {
+            Ok(log) => log,
+            Err(no_memory) => return Err((no_memory, disk)),
+        };
+        Ok(Store {
+            alloc,
+            disk,
+            turn,
+            meta,
+            log,
+            frames: BTreeMap::new(alloc),
+            stopped: false,
+        })
     }
 }

@@ -1,0 +1,259 @@
+-- What a force leaves of a running store: inside, after a fault, and once the frame is written.
+use Rattle.std.proofs.Common.{◌≡◌, ◌≢◌, ◌⊎◌, ◌↔◌, inl, inr, ℕ, zero, suc, ◌+◌, ◌*◌, ◌-◌, ◌%◌, ◌≤◌, Bool, true, false, IsTrue, List, [], ◌∷◌, ◌++◌, length, map, take, drop, replicate, Option, Some, None, IsSome, refl, sym, ap, ◌∙◌, subst, arith, append_assoc, length-take, length-append}
+use Rattle.std.specs.List.{All}
+use Rattle.std.proofs.lemmas.Grind.{flat_map-append}
+use Rattle.std.proofs.lemmas.List.{append-nil, take_at, take-take, length-take-le}
+use Rattle.std.proofs.lemmas.List.Elements.{All-head, All-tail}
+use Rattle.hb_space.specs.declared.form.TheConstants.{PAGE}
+use Rattle.hb_disk.specs.Model.{DiskModel, IsDisk, Torn}
+use Rattle.hb_disk.specs.Calls.{Leaves, Becomes, IsSynced}
+use Rattle.hb_disk.specs.RunLaws.{at_value, some_value, has_value, some_same, Leaves-weaker, IsSynced-part, IsSynced-elsewhere}
+use Rattle.hb_wal.specs.Frames.{frames, frame_bytes, range, HasFrames}
+use Rattle.hb_wal.specs.Log.{Waiting, LogState, forced, left_waiting, after_force}
+use Rattle.hb_wal.specs.Forces.{HasLog, ForceLeaves}
+use Rattle.hb_super.specs.Superblocks.{place_of}
+use Rattle.hb_frag.specs.declared.pages.Page.{Page}
+use Rattle.hb_frag.specs.Grammar.{SpellsPage}
+use Rattle.hb_ops.specs.declared.meta.Meta.{Meta}
+use Rattle.hb_ops.specs.Files.{FileState, page_of}
+use Rattle.hb_ops.specs.Operations.{effect_of}
+use Rattle.hb_store.specs.Groups.{Logged, FitsGroup, group_bytes}
+use Rattle.hb_store.specs.Replay.{Replayed, untouched, replay, after_group}
+use Rattle.hb_store.specs.Opening.{OpensBy, log_place, log_bytes, page_place, place_bytes}
+use Rattle.hb_store.specs.Keeps.{StoreState, StoreKeeps, IsStore, IsRunning, Leads, OpensNext, OpensToFirst, last_of}
+use Rattle.hb_store.specs.Calls.{stopped_state, forced_state, with_log, durable_after, later_after}
+use Rattle.hb_store.specs.ReplayLaws.{replay-append, zeros_end}
+use Rattle.hb_store.specs.StoreLaws.{opens_first, StoreKeeps-by}
+use Rattle.hb_store.proofs.AreaTorn.{area_end, spelled_kept, opens_same, opens_more}
+
+-- The bytes open to the durable file, or to the next one where the first group's frame is there.
+inside_by : (turn : ℕ) (said : Meta) (b c : List ℕ) → Torn (log_place turn said) said.log b c → (payloads : List (List ℕ)) (written : List Logged) (durable : FileState)
+    → OpensBy b turn said payloads written durable → (groups : List Waiting) (waiting : List Logged) (later : List FileState)
+    → map (λ w. w.bytes) groups ≡ map group_bytes waiting → All (FitsGroup said.k) waiting → Leads (replay (untouched said) written) durable waiting later
+    → HasFrames (log_bytes turn said c) payloads ⊎ HasFrames (log_bytes turn said c) (payloads ++ forced groups)
+    → OpensBy c turn said payloads written durable ⊎ OpensNext c turn said payloads written waiting later
+inside_by turn said b c torn payloads written durable opens groups waiting later same fits leads (inl framed) =
+    inl (opens_same turn said b c torn payloads written durable opens framed)
+inside_by turn said b c torn payloads written durable opens [] waiting later same fits leads (inr framed) =
+    let Q : List (List ℕ) → Type 0 = λ ps. HasFrames (log_bytes turn said c) ps in
+    inl (opens_same turn said b c torn payloads written durable opens (subst Q (append-nil payloads) framed))
+inside_by turn said b c torn payloads written durable opens (w ∷ groups) [] later same fits leads (inr framed) = cc same
+inside_by turn said b c torn payloads written durable opens (w ∷ groups) (g ∷ waiting) [] same fits leads (inr framed) = absurd leads
+inside_by turn said b c torn payloads written durable opens (w ∷ groups) (g ∷ waiting) (next ∷ later) same fits leads (inr framed) =
+    let bytes_are : w.bytes ≡ group_bytes g = cc in
+    let Q : List ℕ → Type 0 = λ l. HasFrames (log_bytes turn said c) (payloads ++ l ∷ []) in
+    let N : FileState → Type 0 = λ s. OpensBy c turn said (payloads ++ group_bytes g ∷ []) (written ++ g ∷ []) s in
+    inr (subst N (sym leads.4)
+    (opens_more turn said b c torn payloads written durable opens g (subst Q bytes_are framed) (All-head (FitsGroup said.k) g waiting fits) leads.0 leads.1 leads.2))
+
+-- a log that stands on the disk: each image has its frames
+image_frames : (d : DiskModel) (log : LogState) (payloads : List (List ℕ)) → HasLog d log payloads → (b : List ℕ) → d.told ≡ Some b → (c : List ℕ) → d.Image c
+    → HasFrames (range log.area log.len c) payloads
+image_frames d log payloads has b told c image = record {
+  payloads_fit = has.payloads_fit;
+  rest = replicate (log.len - log.written) 0;
+  bytes = has.synced.each b c told image ∙ at_value d.told (λ b. range log.area log.len b ≡ frames payloads ++ replicate (log.len - log.written) 0) b told has.reads;
+  at_end = zeros_end (log.len - log.written);
+}
+
+-- the written frames are no longer than the area
+written_fits : (d : DiskModel) (log : LogState) (payloads : List (List ℕ)) → HasLog d log payloads → (b : List ℕ) → d.told ≡ Some b → log.written ≤ log.len
+written_fits d log payloads has b told =
+    let reads : range log.area log.len b ≡ frames payloads ++ replicate (log.len - log.written) 0
+    = at_value d.told (λ b. range log.area log.len b ≡ frames payloads ++ replicate (log.len - log.written) 0) b told has.reads in
+    let long = ap (λ (l : List ℕ). length l) reads in
+    omega (arith, long, length-take log.len (drop log.area b), length-append (frames payloads) (replicate (log.len - log.written) 0), has.count)
+
+-- the first bytes of an area that has these frames and maybe more
+front_of : (area len written : ℕ) (payloads more : List (List ℕ)) (c : List ℕ) → written ≤ len → length (frames payloads) ≡ written
+    → HasFrames (range area len c) (payloads ++ more) → take written (drop area c) ≡ frames payloads
+front_of area len written payloads more c fits count framed =
+    sym (take-take written len (drop area c) fits)
+    ∙ ap (λ (l : List ℕ). take written l) (framed.bytes ∙ ap (λ (l : List ℕ). l ++ framed.rest) (flat_map-append frame_bytes payloads more) ∙ append_assoc (frames payloads) (frames more) framed.rest)
+    ∙ take_at (frames payloads) (frames more ++ framed.rest) written count
+
+front_of_both : (area len written : ℕ) (payloads more : List (List ℕ)) (c : List ℕ) → written ≤ len → length (frames payloads) ≡ written
+    → HasFrames (range area len c) payloads ⊎ HasFrames (range area len c) (payloads ++ more) → take written (drop area c) ≡ frames payloads
+front_of_both area len written payloads more c fits count (inl framed) =
+    let Q : List (List ℕ) → Type 0 = λ ps. HasFrames (range area len c) ps in
+    front_of area len written payloads [] c fits count (subst Q (sym (append-nil payloads)) framed)
+front_of_both area len written payloads more c fits count (inr framed) = front_of area len written payloads more c fits count framed
+
+module _ (d : DiskModel) (is_disk : IsDisk d) (st : StoreState) (is_store : IsStore d.size st) (going : st.stopped ≡ false) (durable : FileState) (later : List FileState) (keeps : StoreKeeps d st durable later) where
+  area_is : st.log.area ≡ log_place st.turn keeps.said
+  area_is = is_store.area ∙ ap (λ (n : ℕ). 8192 + (st.turn % 2) * n) keeps.layout.log
+
+  len_is : st.log.len ≡ keeps.said.log
+  len_is = is_store.len ∙ keeps.layout.log
+
+  torn_there : (b c : List ℕ) → Torn st.log.area st.log.len b c → Torn (log_place st.turn keeps.said) keeps.said.log b c
+  torn_there b c torn =
+      let Q : ℕ → ℕ → Type 0 = λ at n. Torn at n b c in
+      subst (λ (n : ℕ). Q (log_place st.turn keeps.said) n) len_is (subst (λ (at : ℕ). Q at st.log.len) area_is torn)
+
+  frames_there : (c : List ℕ) (payloads : List (List ℕ)) → HasFrames (range st.log.area st.log.len c) payloads → HasFrames (log_bytes st.turn keeps.said c) payloads
+  frames_there c payloads framed =
+      let Q : ℕ → ℕ → Type 0 = λ at n. HasFrames (range at n c) payloads in
+      subst (λ (n : ℕ). Q (log_place st.turn keeps.said) n) len_is (subst (λ (at : ℕ). Q at st.log.len) area_is framed)
+
+  pub may_force : (payloads : List (List ℕ)) × HasLog d st.log payloads
+  may_force = (keeps.payloads, (keeps.running going).logged)
+
+  -- inside
+  pub inside_opens : (c : List ℕ) → ForceLeaves d st.log keeps.payloads c
+      → OpensBy c st.turn keeps.said keeps.payloads keeps.written durable ⊎ OpensNext c st.turn keeps.said keeps.payloads keeps.written keeps.waiting later
+  inside_opens c leaves =
+      inside_by st.turn keeps.said leaves.before c (torn_there leaves.before c leaves.elsewhere) keeps.payloads keeps.written durable
+      (StoreKeeps-by d st durable later keeps going leaves.before leaves.image) st.log.groups keeps.waiting later keeps.spelled keeps.fits keeps.leads
+      (elim leaves.frames_of [
+        | inl same ↦ inl (frames_there c keeps.payloads same)
+        | inr more ↦ inr (frames_there c (keeps.payloads ++ forced st.log.groups) more)
+      ])
+
+  pub moments_open : (new : DiskModel) → Leaves d new (ForceLeaves d st.log keeps.payloads) → Leaves d new (OpensToFirst durable later)
+  moments_open new run = Leaves-weaker d new (ForceLeaves d st.log keeps.payloads) (OpensToFirst durable later)
+      (λ c leaves. opens_first c st.turn keeps.said keeps.payloads keeps.written keeps.waiting durable later (inside_opens c leaves)) run
+
+  module _ (new : DiskModel) (is_new : IsDisk new) (place : Becomes (Torn st.log.area st.log.len) d new) (b : List ℕ) (told : d.told ≡ Some b) where
+    abbrev after : (c : List ℕ) × (new.told ≡ Some c) × Torn st.log.area st.log.len b c
+    after = at_value d.told (λ b. (c : List ℕ) × (new.told ≡ Some c) × Torn st.log.area st.log.len b c) b told place.told
+
+    logged : HasLog d st.log keeps.payloads
+    logged = (keeps.running going).logged
+
+    still_told : IsSome new.told
+    still_told = has_value new.told after.0 after.1
+
+    -- superblock places and page places stand as before
+    places_synced : IsSynced new 0 8192
+    places_synced = IsSynced-elsewhere d new 0 8192 st.log.area st.log.len (inl (omega (arith, area_is))) place (keeps.running going).places
+
+    place_synced : IsSynced new (place_of st.turn) PAGE
+    place_synced = IsSynced-part new 0 8192 (place_of st.turn) PAGE (omega arith) (omega arith) places_synced
+
+    page_synced : (id : ℕ) (page : Page) → ((c : List ℕ) → d.Image c → SpellsPage (place_bytes keeps.said id c) page) → (c : List ℕ) → new.Image c → SpellsPage (place_bytes keeps.said id c) page
+    page_synced id page was c image =
+        let old = place.crash c image in
+        spelled_kept st.turn keeps.said old.0 c (torn_there old.0 c old.2) id page (was old.0 old.1)
+
+    page_reads : (id : ℕ) (page : Page) → ((b : List ℕ) → d.told ≡ Some b → SpellsPage (place_bytes keeps.said id b) page) → (e : List ℕ) → new.told ≡ Some e → SpellsPage (place_bytes keeps.said id e) page
+    page_reads id page was e tells =
+        let same : after.0 ≡ e = some_same after.0 e (sym after.1 ∙ tells) in
+        let Q : List ℕ → Type 0 = λ l. SpellsPage (place_bytes keeps.said id l) page in
+        subst Q same (spelled_kept st.turn keeps.said b after.0 (torn_there b after.0 after.2) id page (was b told))
+
+    -- after a fault
+    module _ (run : Leaves d new (ForceLeaves d st.log keeps.payloads)) where
+      image_inside : (c : List ℕ) → new.Image c → ForceLeaves d st.log keeps.payloads c
+      image_inside c image = run.each c (is_new.counts_now d.clock c run.later image)
+
+      front_there : (c : List ℕ) → new.Image c → take st.log.written (drop st.log.area c) ≡ frames keeps.payloads
+      front_there c image = front_of_both st.log.area st.log.len st.log.written keeps.payloads (forced st.log.groups) c
+          (written_fits d st.log keeps.payloads logged b told) keeps.count (image_inside c image).frames_of
+
+      stopped_images : (A B : Type 0) → A ⊎ B → A ⊎ (IsTrue true × B)
+      stopped_images A B (inl a) = inl a
+      stopped_images A B (inr b) = inr (refl, b)
+
+      pub keeps_stopped : StoreKeeps new (stopped_state st) durable later
+      keeps_stopped = record {
+        said = keeps.said;
+        payloads = keeps.payloads;
+        written = keeps.written;
+        waiting = keeps.waiting;
+        told = still_told;
+        layout = record { k = keeps.layout.k; pages = keeps.layout.pages; log = keeps.layout.log; dcap = keeps.layout.dcap; icap = keeps.layout.icap };
+        count = keeps.count;
+        images = λ c image. stopped_images (OpensBy c st.turn keeps.said keeps.payloads keeps.written durable) (OpensNext c st.turn keeps.said keeps.payloads keeps.written keeps.waiting later)
+            (inside_opens c (image_inside c image));
+        running = λ never. cc never;
+        kept = (
+          place_synced,
+          record { each = λ e c tells image. front_there c image ∙ sym (front_there e (is_new.as_read e tells)) },
+        );
+        spelled = keeps.spelled;
+        fits = keeps.fits;
+        leads = keeps.leads;
+        touched = keeps.touched;
+        synced = λ id page off is c image. page_synced id page (keeps.synced id page off is) c image;
+        meta_is = keeps.meta_is;
+        framed = keeps.framed;
+        unframed = λ id page e none is tells. page_reads id page (λ b told. keeps.unframed id page b none is told) e tells;
+      }
+
+    -- once the frame is written, or where none was: a log of this area with these groups left
+    module _ (n : ℕ) (groups : List Waiting) where
+      abbrev moved : LogState
+      moved = record { area = st.log.area; len = st.log.len; written = n; groups = groups }
+
+      framed_image : (payloads : List (List ℕ)) → HasLog new moved payloads → (c : List ℕ) → new.Image c → HasFrames (log_bytes st.turn keeps.said c) payloads
+      framed_image payloads has c image = frames_there c payloads (image_frames new moved payloads has after.0 after.1 c image)
+
+      -- a store whose durable file goes on, and whose file is the same
+      forced_with : (payloads : List (List ℕ)) (written waiting : List Logged) (s : FileState) (files : List FileState) → HasLog new moved payloads
+          → ((c : List ℕ) → new.Image c → OpensBy c st.turn keeps.said payloads written s)
+          → map (λ w. w.bytes) groups ≡ map group_bytes waiting → All (FitsGroup keeps.said.k) waiting → Leads (replay (untouched keeps.said) written) s waiting files
+          → keeps.written ++ keeps.waiting ≡ written ++ waiting → last_of s files ≡ last_of durable later → StoreKeeps new (with_log moved st) s files
+      forced_with payloads written waiting s files has opens spelled fits leads all last = record {
+        said = keeps.said;
+        payloads = payloads;
+        written = written;
+        waiting = waiting;
+        told = still_told;
+        layout = record { k = keeps.layout.k; pages = keeps.layout.pages; log = keeps.layout.log; dcap = keeps.layout.dcap; icap = keeps.layout.icap };
+        count = has.count;
+        images = λ c image. inl (opens c image);
+        running = λ going. record { places = places_synced; logged = has };
+        kept = (
+          place_synced,
+          IsSynced-part new st.log.area st.log.len st.log.area n (omega arith) (let fits : n ≤ st.log.len = written_fits new moved payloads has after.0 after.1 in omega (arith, fits)) has.synced,
+        );
+        spelled = spelled;
+        fits = fits;
+        leads = leads;
+        touched = λ id. let Q : List Logged → Type 0 = λ gs. IsTrue (st.imaged id) ↔ IsSome ((replay (untouched keeps.said) gs).page id) in subst Q all (keeps.touched id);
+        synced = λ id page off is c image. page_synced id page (keeps.synced id page off (ap (λ (f : FileState). page_of f id) (sym last) ∙ is)) c image;
+        meta_is = ap (λ (f : FileState). f.meta) last ∙ keeps.meta_is;
+        framed = λ id page is. ap (λ (f : FileState). page_of f id) last ∙ keeps.framed id page is;
+        unframed = λ id page e none is tells.
+            page_reads id page (λ b told. keeps.unframed id page b none (ap (λ (f : FileState). page_of f id) (sym last) ∙ is) told) e tells;
+      }
+
+    forced_by : (n : ℕ) (groups : List Waiting) (waiting : List Logged) (files : List FileState) → map (λ w. w.bytes) groups ≡ map group_bytes waiting
+        → All (FitsGroup keeps.said.k) waiting → Leads (replay (untouched keeps.said) keeps.written) durable waiting files
+        → HasLog new (moved n (left_waiting groups)) (keeps.payloads ++ forced groups)
+        → keeps.written ++ keeps.waiting ≡ keeps.written ++ waiting → last_of durable files ≡ last_of durable later
+        → StoreKeeps new (with_log (moved n (left_waiting groups)) st) (durable_after durable files) (later_after files)
+    forced_by n [] [] [] same fits leads has all last =
+        let L : List (List ℕ) → Type 0 = λ ps. HasLog new (moved n []) ps in
+        let log : HasLog new (moved n []) keeps.payloads = subst L (append-nil keeps.payloads) has in
+        forced_with n [] keeps.payloads keeps.written [] durable [] log
+        (λ c image.
+        let old = place.crash c image in
+        opens_same st.turn keeps.said old.0 c (torn_there old.0 c old.2) keeps.payloads keeps.written durable
+        (StoreKeeps-by d st durable later keeps going old.0 old.1) (framed_image n [] keeps.payloads log c image))
+        refl fits refl all last
+    forced_by n [] [] (next ∷ files) same fits leads has all last = cc leads
+    forced_by n [] (g ∷ waiting) files same fits leads has all last = cc same
+    forced_by n (w ∷ groups) [] files same fits leads has all last = cc same
+    forced_by n (w ∷ groups) (g ∷ waiting) [] same fits leads has all last = absurd leads
+    forced_by n (w ∷ groups) (g ∷ waiting) (next ∷ files) same fits leads has all last =
+        let bytes_are : w.bytes ≡ group_bytes g = cc in
+        let rest : map (λ (w : Waiting). w.bytes) groups ≡ map group_bytes waiting = cc in
+        let payloads : List (List ℕ) = keeps.payloads ++ group_bytes g ∷ [] in
+        let L : List ℕ → Type 0 = λ l. HasLog new (moved n groups) (keeps.payloads ++ l ∷ []) in
+        let log : HasLog new (moved n groups) payloads = subst L bytes_are has in
+        let N : FileState → Type 0 = λ s. (c : List ℕ) → new.Image c → OpensBy c st.turn keeps.said payloads (keeps.written ++ g ∷ []) s in
+        let T : Replayed → Type 0 = λ t. Leads t next waiting files in
+        forced_with n groups payloads (keeps.written ++ g ∷ []) waiting next files log
+        (subst N (sym leads.4) (λ c image.
+        let old = place.crash c image in
+        opens_more st.turn keeps.said old.0 c (torn_there old.0 c old.2) keeps.payloads keeps.written durable
+        (StoreKeeps-by d st durable later keeps going old.0 old.1) g (framed_image n groups payloads log c image)
+        (All-head (FitsGroup keeps.said.k) g waiting fits) leads.0 leads.1 leads.2))
+        rest (All-tail (FitsGroup keeps.said.k) g waiting fits)
+        (subst T (sym (replay-append (untouched keeps.said) keeps.written (g ∷ []))) leads.5)
+        (all ∙ sym (append_assoc keeps.written (g ∷ []) waiting)) last
+
+    pub keeps_forced : HasLog new (after_force st.log) (keeps.payloads ++ forced st.log.groups) → StoreKeeps new (forced_state st) (durable_after durable later) (later_after later)
+    keeps_forced has = forced_by (after_force st.log).written st.log.groups keeps.waiting later keeps.spelled keeps.fits keeps.leads has refl refl

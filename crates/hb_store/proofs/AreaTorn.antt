@@ -1,0 +1,79 @@
+-- A log area that was torn: what stands outside it, and what the bytes open to by the frames that it has then.
+use Rattle.std.proofs.Common.{◌≡◌, inl, inr, ℕ, ◌+◌, ◌*◌, ◌-◌, ◌%◌, ◌≤◌, List, [], ◌∷◌, ◌++◌, length, take, drop, Option, Some, None, refl, sym, ap, ◌∙◌, subst, arith}
+use Rattle.std.proofs.Math.Nat.{mul-le-mul_right}
+use Rattle.std.proofs.lemmas.List.{append-nil}
+use Rattle.std.proofs.lemmas.List.Elements.{All-cons, All-nil}
+use Rattle.hb_space.specs.declared.form.TheConstants.{PAGE}
+use Rattle.hb_disk.specs.Model.{Torn}
+use Rattle.hb_disk.specs.TornLaws.{Torn-elsewhere}
+use Rattle.hb_wal.specs.Frames.{HasFrames}
+use Rattle.hb_frag.specs.declared.pages.Page.{Page}
+use Rattle.hb_frag.specs.Grammar.{SpellsPage}
+use Rattle.hb_super.specs.Superblocks.{IsNewest}
+use Rattle.hb_ops.specs.declared.meta.Meta.{Meta}
+use Rattle.hb_ops.specs.Files.{FileState, page_of}
+use Rattle.hb_ops.specs.Operations.{IsAllowed, effect_of}
+use Rattle.hb_store.specs.Groups.{Logged, FitsGroup, SpellAll, SpellsGroups, group_bytes}
+use Rattle.hb_store.specs.Replay.{Replayed, untouched, replay, after_group, MayFollow, MayReplay}
+use Rattle.hb_store.specs.Opening.{OpensBy, Shows, IsPageIn, log_place, log_bytes, page_place, place_bytes}
+use Rattle.hb_store.specs.Keeps.{AreImagesOf}
+use Rattle.hb_store.specs.ReplayLaws.{replay-append, MayReplay-append, SpellAll-append, Shows-after}
+use Rattle.hb_store.specs.StoreLaws.{IsNewest-elsewhere}
+
+-- the area of a turn ends in front of the pages
+pub area_end : (turn : ℕ) (said : Meta) → log_place turn said + said.log ≤ 8192 + 2 * said.log
+area_end turn said =
+    let one : turn % 2 ≤ 1 = omega arith in
+    omega (arith, mul-le-mul_right said.log one)
+
+-- one group is spelled by its own bytes
+one_spelled : (k : ℕ) (g : Logged) → FitsGroup k g → SpellAll k (group_bytes g ∷ []) (g ∷ [])
+one_spelled k g fits = (g ∷ [], [], refl, record { fits = All-cons (FitsGroup k) g [] fits (All-nil (FitsGroup k)); bytes_are = sym (append-nil (group_bytes g)) }, refl)
+
+module _ (turn : ℕ) (said : Meta) (b c : List ℕ) (torn : Torn (log_place turn said) said.log b c) where
+  pub places_kept : take 8192 (drop 0 c) ≡ take 8192 (drop 0 b)
+  places_kept = Torn-elsewhere (log_place turn said) said.log 0 8192 b c (inl (omega arith)) torn
+
+  pub page_kept : (id : ℕ) → place_bytes said id c ≡ place_bytes said id b
+  page_kept id = Torn-elsewhere (log_place turn said) said.log (page_place said id) PAGE b c (inr (omega (arith, area_end turn said))) torn
+
+  pub spelled_kept : (id : ℕ) (page : Page) → SpellsPage (place_bytes said id b) page → SpellsPage (place_bytes said id c) page
+  spelled_kept id page spells = let Q : List ℕ → Type 0 = λ l. SpellsPage l page in subst Q (sym (page_kept id)) spells
+
+  shows_kept : (t : Replayed) (s : FileState) → Shows b said t s → Shows c said t s
+  shows_kept t s shows = record {
+    meta = shows.meta;
+    count = shows.count;
+    each = λ id page is. page_in id page (t.page id) (shows.each id page is);
+  }
+    where
+      page_in : (id : ℕ) (page : Page) (o : Option Page) → IsPageIn b said id o page → IsPageIn c said id o page
+      page_in id page None spells = spelled_kept id page spells
+      page_in id page (Some touched) same = same
+
+  module _ (payloads : List (List ℕ)) (groups : List Logged) (s : FileState) (opens : OpensBy b turn said payloads groups s) where
+    -- with the same frames to the same file
+    pub opens_same : HasFrames (log_bytes turn said c) payloads → OpensBy c turn said payloads groups s
+    opens_same framed = record {
+      newest = IsNewest-elsewhere b c places_kept turn said opens.newest;
+      fits = omega (arith, opens.fits, torn.as_long);
+      framed = framed;
+      spelled = opens.spelled;
+      replayed = opens.replayed;
+      shows = shows_kept (replay (untouched said) groups) s opens.shows;
+    }
+
+    -- with a frame more to the file after its group
+    pub opens_more : (g : Logged) → HasFrames (log_bytes turn said c) (payloads ++ group_bytes g ∷ []) → FitsGroup said.k g → MayFollow (replay (untouched said) groups) g
+        → AreImagesOf s g.images → IsAllowed s g.op → OpensBy c turn said (payloads ++ group_bytes g ∷ []) (groups ++ g ∷ []) (effect_of s g.op)
+    opens_more g framed fits may are allowed = record {
+      newest = IsNewest-elsewhere b c places_kept turn said opens.newest;
+      fits = omega (arith, opens.fits, torn.as_long);
+      framed = framed;
+      spelled = SpellAll-append said.k payloads (group_bytes g ∷ []) groups (g ∷ []) opens.spelled (one_spelled said.k g fits);
+      replayed = MayReplay-append (untouched said) groups (g ∷ []) opens.replayed (may, tt);
+      shows =
+          let Q : Replayed → Type 0 = λ t. Shows c said t (effect_of s g.op) in
+          subst Q (sym (replay-append (untouched said) groups (g ∷ [])))
+          (Shows-after c said (replay (untouched said) groups) s g (shows_kept (replay (untouched said) groups) s opens.shows) may are allowed);
+    }

@@ -1,0 +1,8 @@
+mod Openings
+mod AreaTorn
+mod AfterForce
+mod Marking
+mod Grouped
+mod Changed
+mod Touching
+mod Committed

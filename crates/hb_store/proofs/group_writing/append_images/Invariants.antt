@@ -1,0 +1,13 @@
+use Rattle.std.proofs.Common.{◌≡◌, ◌≤◌, ◌++◌, length, take}
+use Rattle.std.specs.List.{flat_map}
+use Rattle.hb_store.specs.Groups.{image_bytes}
+use Rattle.hb_store.specs.Images.{images_due}
+use Rattle.hb_store.proofs.group_writing.append_images.Given as goal
+
+-- the images of the numbers so far were added and counted
+abbrev pub invariant-loop-id : goal.invariant-loop-id
+invariant-loop-id l = record {
+  few : l.count ≤ l.id-index;
+  count : l.count ≡ length (images_due l.frames (take l.id-index l.ids));
+  bytes : l.into.items ≡ l.fn.into.items ++ flat_map image_bytes (images_due l.frames (take l.id-index l.ids));
+}
