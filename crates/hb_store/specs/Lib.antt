@@ -7,3 +7,9 @@ pub mod Propositions
 pub mod Seen
 pub mod Calls
 pub mod Stops
+pub mod FieldLaws
+pub mod GroupFields
+pub mod GroupLaws
+pub mod GroupReading
+pub mod NumberLaws
+pub mod OpLaws
