@@ -1,1 +1,2 @@
+pub mod GroupReads
 pub mod Loops

@@ -42,7 +42,7 @@ pub length_page : (page : Page) → HasSpelling page → length (page_bytes page
 length_page page h = (spells_page_bytes page h).long
 
 -- two lists that begin with as many bytes of a front have the same front and the same rest
-same_fronts : (a b r s : List ℕ) → length a ≡ length b → a ++ r ≡ b ++ s → (a ≡ b) × (r ≡ s)
+pub same_fronts : (a b r s : List ℕ) → length a ≡ length b → a ++ r ≡ b ++ s → (a ≡ b) × (r ≡ s)
 same_fronts a b r s long e = (
   sym (take_at a r (length a) refl) ∙ ap (λ (l : List ℕ). take (length a) l) e ∙ take_at b s (length a) (sym long),
   sym (drop_at a r (length a) refl) ∙ ap (λ (l : List ℕ). drop (length a) l) e ∙ drop_at b s (length a) (sym long),

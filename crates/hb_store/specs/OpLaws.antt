@@ -44,5 +44,5 @@ op_takes k (suc (suc zero) ∷ rest) x fits e =
     let point = point_takes k a.0.1 b.0 page.0.rest_fits b.1 in
     let made : Op × List ℕ = (Del a.0.0 b.0.0, b.0.1) in
     subst (λ (y : Op × List ℕ). Takes (2 ∷ rest) (op_bytes y.0) y.1 × FitsOp k y.0) (some_is made x b.2)
-    (Takes-byte 2 rest _ b.0.1 (Takes-then rest (big_endian 4 a.0.0) a.0.1 (point_bytes b.0.0) b.0.1 page.0 point.0), (page.1, (point.1, point.2)))
+    (Takes-byte 2 rest _ b.0.1 (Takes-then rest (big_endian 4 a.0.0) a.0.1 (point_bytes b.0.0) b.0.1 page.0 point.0), (page.1, point.1, point.2))
 op_takes k (suc (suc (suc b)) ∷ rest) x fits e = absurd cc

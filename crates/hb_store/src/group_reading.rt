@@ -1,5 +1,5 @@
 //! Groups from bytes.
-ghost use Rattle.std.specs.Prelude.{◌≡◌, ◌≢◌, ◌<◌, ◌≤◌, ◌↔◌, length, map, AllPairs, IfOk, IfErr, IsTrue};
+ghost use Rattle.std.specs.Prelude.{◌≡◌, ◌≢◌, ◌<◌, ◌≤◌, ◌↔◌, ◌∷◌, length, map, AllPairs, IfOk, IfErr, IsTrue};
 ghost use Rattle.hb_space.specs.declared.form.TheConstants.{PAGE as PageBytes};
 ghost use Rattle.hb_store.specs.Groups.{FitsImage, FitsOp, FitsGroup, SpellsGroups, image_bytes, op_bytes, group_bytes};
 ghost use Rattle.hb_store.specs.GroupReading.{FitImages, Finds, GroupsEnd, images_bytes, logged, stop_at};
@@ -122,9 +122,30 @@ fn operation_of(k: u8, bytes: &[u8]) -> Result<(Op, &[u8]), GroupStop>
     ensures { Finds (FitsOp k) op_bytes bytes.now (λ x. (x.0, x.1.now)) result }
 {
     match op_of(k, bytes) {
-        Some(read) => Ok(read),
+        Some((op, rest)) => Ok((op, rest)),
         None => Err(GroupStop::Bad),
     }
+}
+
+/// A group over `k` attributes, behind the count of its images.
+fn group_behind(
+    alloc: Global,
+    k: u8,
+    count: u8,
+    bytes: &[u8],
+) -> Result<(Group, &[u8]), GroupStop>
+    requires some { 0 < k }
+    requires few { k ≤ KMAX }
+    requires images { count ≤ 3 }
+    ensures { Finds (FitsGroup k) group_bytes (count ∷ bytes.now) (λ x. (logged x.0, x.1.now)) result }
+{
+    spelling_law();
+    let (images, rest) = images_of(alloc, count, bytes)?;
+    if !are_distinct(images.as_slice()) {
+        return Err(GroupStop::Bad);
+    }
+    let (op, rest) = operation_of(k, rest)?;
+    Ok((Group { images, op }, rest))
 }
 
 /// A group over `k` attributes.
@@ -133,17 +154,15 @@ fn group_of(alloc: Global, k: u8, bytes: &[u8]) -> Result<(Group, &[u8]), GroupS
     requires few { k ≤ KMAX }
     ensures { Finds (FitsGroup k) group_bytes bytes.now (λ x. (logged x.0, x.1.now)) result }
 {
-    spelling_law();
-    let (count, rest) = bytes.split_first().ok_or(GroupStop::Bad)?;
-    if *count > 3 {
-        return Err(GroupStop::Bad);
+    match bytes {
+        [count, rest @ ..] => {
+            if *count > 3 {
+                return Err(GroupStop::Bad);
+            }
+            group_behind(alloc, k, *count, rest)
+        }
+        [] => Err(GroupStop::Bad),
     }
-    let (images, rest) = images_of(alloc, *count, rest)?;
-    if !are_distinct(images.as_slice()) {
-        return Err(GroupStop::Bad);
-    }
-    let (op, rest) = operation_of(k, rest)?;
-    Ok((Group { images, op }, rest))
 }
 
 /// The groups over `k` attributes that the bytes spell, all of them. Any bytes may be given.
