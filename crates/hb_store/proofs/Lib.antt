@@ -1,2 +1,4 @@
 pub mod GroupReads
 pub mod Loops
+pub mod Touching
+pub mod Writable

@@ -13,3 +13,4 @@ pub mod GroupLaws
 pub mod GroupReading
 pub mod NumberLaws
 pub mod OpLaws
+pub mod Replaying
