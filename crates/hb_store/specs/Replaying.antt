@@ -1,5 +1,5 @@
 -- What the replay of groups over touched pages gives.
-use Rattle.std.specs.Prelude.{◌≡◌, ℕ, ◌<◌, ◌≤◌, ◌^◌, List, [], ◌++◌, ◌∷◌, length, map, All, Option, Some}
+use Rattle.std.specs.Prelude.{◌≡◌, ◌⊎◌, ℕ, ◌<◌, ◌≤◌, ◌^◌, List, [], ◌++◌, ◌∷◌, length, map, All, Option, Some}
 use Rattle.std.specs.Ordering.{nat_cmp}
 use Rattle.std.specs.BTreeMap.{get}
 use Rattle.hb_space.specs.declared.form.TheConstants.{KMAX}
@@ -11,6 +11,8 @@ use Rattle.hb_ops.specs.declared.changes.ChangeError.TheVariants as changes
 use Rattle.hb_store.specs.Groups.{Logged, SpellAll, SpellsGroups}
 use Rattle.hb_store.specs.Replay.{Replayed, untouched, set_pages, replay, MayReplay}
 use Rattle.hb_store.specs.Opening.{IsBadPayload}
+use Rattle.hb_store.specs.declared.touched.LogStop.{LogStop}
+use Rattle.hb_store.specs.declared.touched.LogStop.TheVariants as logs
 use Rattle.hb_store.specs.declared.touched.Touched.{Touched}
 use Rattle.hb_store.specs.declared.touched.ReplayStop.{ReplayStop}
 use Rattle.hb_store.specs.declared.touched.ReplayStop.TheVariants as replays
@@ -72,3 +74,15 @@ pub record IsFirstBad (said : Meta) (payloads : List (List ℕ)) (frame : ℕ) :
   pub reached : Replayed
   pub replayed : HasReplayed said before reached
   pub bad : IsBadPayload said.k reached payload
+
+-- Why payloads weren't replayed: the first bad one. Want of memory says nothing of them.
+abbrev pub NamesBad : Meta → List (List ℕ) → LogStop → Type 0
+NamesBad said payloads (logs.BadGroup frame) = IsFirstBad said payloads frame
+NamesBad said payloads logs.NoMemory = Unit {0}
+NamesBad said payloads logs.DiskFault = ⊥
+
+-- The same where a bad frame is behind the payloads: it is the first bad one where all of them were replayed.
+abbrev pub NamesBadOr : Meta → List (List ℕ) → LogStop → Type 0
+NamesBadOr said payloads (logs.BadGroup frame) = IsFirstBad said payloads frame ⊎ ((frame ≡ length payloads) × (reached : Replayed) × HasReplayed said payloads reached)
+NamesBadOr said payloads logs.NoMemory = Unit {0}
+NamesBadOr said payloads logs.DiskFault = ⊥
