@@ -1,4 +1,5 @@
 pub mod GroupReads
+pub mod LogReads
 pub mod Loops
 pub mod Replays
 pub mod Touching

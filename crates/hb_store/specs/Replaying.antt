@@ -75,6 +75,11 @@ pub record IsFirstBad (said : Meta) (payloads : List (List ℕ)) (frame : ℕ) :
   pub replayed : HasReplayed said before reached
   pub bad : IsBadPayload said.k reached payload
 
+-- the stop of reading a log, where a replay stops at the frame of this number
+abbrev pub log_stop : ℕ → ReplayStop → LogStop
+log_stop frame replays.Unfit = logs.BadGroup frame
+log_stop frame replays.NoMemory = logs.NoMemory
+
 -- Why payloads weren't replayed: the first bad one. Want of memory says nothing of them.
 abbrev pub NamesBad : Meta → List (List ℕ) → LogStop → Type 0
 NamesBad said payloads (logs.BadGroup frame) = IsFirstBad said payloads frame

@@ -3,9 +3,9 @@ ghost use Rattle.hb_outside.specs.Streams.{Rose};
 ghost use Rattle.hb_disk.specs.Calls.{OnlyReads};
 ghost use Rattle.hb_store.specs.Keeps.{MayHold};
 ghost use Rattle.hb_store.specs.Opening.{log_place};
-ghost use Rattle.hb_store.specs.Replaying.{HasLimits, HasReplayed, NamesBad, NamesBadOr, replayed_of};
+ghost use Rattle.hb_store.specs.Replaying.{HasLimits, HasReplayed, NamesBad, NamesBadOr, log_stop, replayed_of};
 ghost use Rattle.hb_store.specs.Stops.{ReadsLog, ReadsNoLog, IsTouched};
-ghost use Rattle.hb_store.specs.declared.touched.LogStop.TheVariants.{BadGroup, DiskFault};
+ghost use Rattle.hb_store.specs.declared.touched.LogStop.TheVariants.{DiskFault};
 
 use crate::touched::{LogStop, ReplayStop, Touched};
 use hb_disk::Disk;
@@ -23,8 +23,8 @@ fn area_of(turn: u8, meta: &Meta) -> u64
 impl ReplayStop {
     /// The stop of reading a log, at the frame of this number.
     fn at(self, frame: usize) -> LogStop
-        ensures bad { frame < 2 ^ 32 → self ≡ ReplayStop.Unfit → result ≡ BadGroup frame }
-        ensures memory { self ≡ ReplayStop.NoMemory → result ≡ LogStop.NoMemory }
+        ensures stop { frame < 2 ^ 32 → result ≡ log_stop frame self }
+        ensures no_fault { result ≡ DiskFault → ⊥ }
     {
         match self {
             ReplayStop::Unfit => LogStop::BadGroup {
@@ -45,8 +45,9 @@ fn replayed(alloc: Global, meta: &Meta, payloads: &Payloads) -> Result<Touched, 
 {
     let mut touched = Touched::new(alloc, meta);
     for (frame, payload) in payloads.as_slice().iter().enumerate() {
-        if let Err(stop) = touched.follow_all(alloc, payload) {
-            return Err(stop.at(frame));
+        match touched.follow_all(alloc, payload) {
+            Ok(()) => {}
+            Err(stop) => return Err(stop.at(frame)),
         }
     }
     Ok(touched)
@@ -56,7 +57,7 @@ fn replayed(alloc: Global, meta: &Meta, payloads: &Payloads) -> Result<Touched, 
 fn before_bad(alloc: Global, meta: &Meta, frame: u32, before: &Payloads) -> LogStop
     requires limits { HasLimits meta.now }
     ensures stopped { length before.now < 2 ^ 32 → frame ≡ length before.now → NamesBadOr meta.now before.now result }
-    ensures no_fault { result ≡ LogStop.DiskFault → ⊥ }
+    ensures no_fault { result ≡ DiskFault → ⊥ }
 {
     match replayed(alloc, meta, before) {
         Ok(_) => LogStop::BadGroup { frame },
@@ -80,7 +81,10 @@ pub fn read_log<D: Disk>(
 {
     match read_area(alloc, disk, area_of(turn, meta), meta.log) {
         Ok(payloads) => replayed(alloc, meta, &payloads),
-        Err(ReadStop::BadFrame { frame, before }) => Err(before_bad(alloc, meta, frame, &before)),
+        Err(ReadStop::BadFrame { frame, before }) => {
+            let stop = before_bad(alloc, meta, frame, &before);
+            Err(stop)
+        }
         Err(ReadStop::NoMemory) => Err(LogStop::NoMemory),
         Err(ReadStop::DiskFault) => Err(LogStop::DiskFault),
     }
