@@ -7,6 +7,7 @@ pub mod Propositions
 pub mod Seen
 pub mod Calls
 pub mod Stops
+pub mod Fetching
 pub mod FieldLaws
 pub mod GroupFields
 pub mod GroupLaws
