@@ -2,5 +2,5 @@ pub mod GroupReads
 pub mod LogReads
 pub mod Loops
 pub mod Replays
-pub mod Touching
+pub mod Touches
 pub mod Writable
