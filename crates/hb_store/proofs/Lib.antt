@@ -6,3 +6,9 @@ mod Grouped
 mod Changed
 mod Touching
 mod Committed
+pub mod GroupReads
+pub mod LogReads
+pub mod Loops
+pub mod Replays
+pub mod Touches
+pub mod Writable

@@ -12,3 +12,11 @@ pub mod Marks
 pub mod ReplayLists
 pub mod ReplayLaws
 pub mod StoreLaws
+pub mod Fetching
+pub mod FieldLaws
+pub mod GroupFields
+pub mod GroupLaws
+pub mod GroupReading
+pub mod NumberLaws
+pub mod OpLaws
+pub mod Replaying

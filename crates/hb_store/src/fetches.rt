@@ -1,17 +1,28 @@
-ghost use Rattle.std.specs.Prelude.{◌≡◌, ◌≢◌, ℕ, ◌≤◌, List, IfErr, IsErrOf, OnOk, OnErr, IsSome};
+ghost use Rattle.std.specs.Prelude.{◌≡◌, ◌≢◌, ℕ, ◌≤◌, List, None, IfOk, IfErr, IfSome, IsErrOf, OnOk, OnErr, IsSome};
 ghost use Rattle.hb_outside.specs.Streams.{Rose};
 ghost use Rattle.hb_disk.specs.Calls.{OnlyReads};
 ghost use Rattle.hb_ops.specs.Files.{FileState};
 ghost use Rattle.hb_ops.specs.Sound.{IsSound};
-ghost use Rattle.hb_store.specs.Keeps.{StoreKeeps, last_of};
+ghost use Rattle.hb_frag.specs.Grammar.{HasSpelling, SpellsPage};
+ghost use Rattle.hb_page_codec.specs.Weight.{IsLight};
+ghost use Rattle.hb_store.specs.Keeps.{IsGoodPage, StoreKeeps, last_of};
+ghost use Rattle.hb_store.specs.Opening.{page_place, place_bytes};
+ghost use Rattle.hb_store.specs.Fetching.{BreaksHere, HoldsNot, IsFetchStop, with_frame};
 ghost use Rattle.hb_store.specs.Seen.{seen_as};
 ghost use Rattle.hb_store.specs.Calls.{Fetched};
 ghost use Rattle.hb_store.specs.Stops.{FetchesNot, IsNoPage};
 ghost use Rattle.hb_store.specs.declared.stops.FetchStop.TheVariants.{ReadFault};
 
-use crate::stops::FetchStop;
+use crate::frames::Frame;
+use crate::stops::{FetchStop, Why};
 use crate::store::Store;
 use hb_disk::Disk;
+use hb_frag::Page;
+use hb_ops::{Meta, local_rule};
+use hb_page_codec::{PageError, decode};
+use hb_space::NoMemory;
+use hb_space::form::PAGE;
+use std::alloc::Global;
 
 impl<D: Disk> Store<D> {
     /// Brings the page of a number into a frame, where it is in none. At most one read.
@@ -19,7 +30,6 @@ impl<D: Disk> Store<D> {
     /// `Damaged` exactly where the number isn't 1 to the high mark, which is tested first and reads nothing, or the
     /// page's bytes are no page or break one of the rules that `local_rule` tests.
     pub fn fetch(&mut self, id: u32) -> Result<(), FetchStop>
-        requires stub { ⊥ }
         ensures fetched { OnOk result (Fetched id (seen_as self.old) (seen_as self.new)) }
         ensures kept { OnErr result (seen_as self.new ≡ seen_as self.old) }
         ensures only_reads { OnlyReads (D.model self.old.disk) (D.model self.new.disk) }
@@ -32,6 +42,102 @@ impl<D: Disk> Store<D> {
         ensures sound { (durable : FileState) (later : List FileState) → StoreKeeps (D.model self.old.disk) (seen_as self.old) durable later →
             IsSound (last_of durable later) → IfErr result (λ stop. (stop ≢ FetchStop.ReadFault) → (stop ≢ FetchStop.NoMemory) → IsNoPage (seen_as self.old).meta id) }
     {
-        Err(FetchStop::NoMemory)
+        if id == 0 || id > self.meta.high {
+            return Err(damaged(id, 1));
+        }
+        if self.frames.contains_key(&id) {
+            return Ok(());
+        }
+        let page = self.read_page(id)?;
+        self.set_frame(id, page)?;
+        Ok(())
+    }
+
+    /// The page of a number, from its place. One read.
+    fn read_page(&mut self, id: u32) -> Result<Page, FetchStop>
+        requires some { 1 ≤ id }
+        requires high { id ≤ (seen_as self.old).meta.high }
+        ensures there { IfOk result (λ page. IfSome (D.model self.old.disk).told (λ b. SpellsPage (place_bytes (seen_as self.old).meta id b) page)) }
+        ensures good { IfOk result (λ page. IsGoodPage (seen_as self.old).meta page) }
+        ensures why { IfErr result (λ stop. IfSome (D.model self.old.disk).told (λ b. HoldsNot (seen_as self.old).meta (place_bytes (seen_as self.old).meta id b) id stop)) }
+        ensures kinds { IfErr result (IsFetchStop id) }
+        ensures kept { seen_as self.new ≡ seen_as self.old }
+        ensures only_reads { OnlyReads (D.model self.old.disk) (D.model self.new.disk) }
+        ensures cause { IsErrOf result ReadFault → Rose (D.model self.old.disk).read_faults (D.model self.new.disk).read_faults }
+    {
+        let mut bytes = [0; PAGE];
+        let place = place_of(&self.meta, id);
+        match self.disk.read(place, &mut bytes) {
+            Ok(()) => page_in(self.alloc, &self.meta, id, &bytes),
+            Err(_) => Err(FetchStop::ReadFault),
+        }
+    }
+
+    /// Puts a page into a frame, where it is in none.
+    fn set_frame(&mut self, id: u32, page: Page) -> Result<(), NoMemory>
+        requires some { 1 ≤ id }
+        requires high { id ≤ (seen_as self.old).meta.high }
+        requires good { IsGoodPage (seen_as self.old).meta page }
+        requires absent { (seen_as self.old).frame id ≡ None }
+        ensures set { OnOk result (seen_as self.new ≡ with_frame id page (seen_as self.old)) }
+        ensures kept { OnErr result (seen_as self.new ≡ seen_as self.old) }
+        ensures disk { self.new.disk ≡ self.old.disk }
+    {
+        let frame = Frame {
+            page,
+            imaged: false,
+        };
+        self.frames.insert(id, frame)?;
+        Ok(())
+    }
+}
+
+/// Where the page of a number stands.
+fn place_of(meta: &Meta, id: u32) -> u64
+    requires { 1 ≤ id }
+    ensures { result ≡ page_place meta.now id }
+{
+    8192 + 2 * u64::from(meta.log) + PAGE as u64 * u64::from(id - 1)
+}
+
+/// The stop for a page that breaks the rule of this number.
+fn damaged(page: u32, rule: u8) -> FetchStop
+    ensures { result ≡ FetchStop.Damaged page (Why.Rule rule) }
+{
+    FetchStop::Damaged {
+        page,
+        why: Why::Rule(rule),
+    }
+}
+
+/// The page that these bytes spell, where it keeps the rules that speak of it alone.
+fn page_in(alloc: Global, meta: &Meta, id: u32, bytes: &[u8]) -> Result<Page, FetchStop>
+    ensures there { IfOk result (λ page. SpellsPage bytes.now page) }
+    ensures good { IfOk result (λ page. IsGoodPage meta.now page) }
+    ensures why { IfErr result (HoldsNot meta.now bytes.now id) }
+    ensures no_fault { IsErrOf result ReadFault → ⊥ }
+{
+    match decode(alloc, bytes) {
+        Ok(page) => good_page(meta, id, page),
+        Err(PageError::BadPage) => Err(damaged(id, 0)),
+        Err(PageError::NoMemory) => Err(FetchStop::NoMemory),
+    }
+}
+
+/// A page that has a spelling, where it keeps the rules that speak of it alone.
+fn good_page(meta: &Meta, id: u32, page: Page) -> Result<Page, FetchStop>
+    requires spelled { HasSpelling page }
+    requires light { IsLight page }
+    ensures same { IfOk result (λ found. found ≡ page) }
+    ensures good { IfOk result (λ found. IsGoodPage meta.now found) }
+    ensures broken { IfErr result (BreaksHere meta.now id page) }
+{
+    let rule = match &page {
+        Page::Live(live) => local_rule(live, meta),
+        Page::Free { .. } => None,
+    };
+    match rule {
+        None => Ok(page),
+        Some(rule) => Err(damaged(id, rule)),
     }
 }

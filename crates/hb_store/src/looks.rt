@@ -20,11 +20,13 @@ impl<D: Disk> Store<D> {
 
     /// The page of a number. `None` exactly where it is in no frame.
     pub fn get(&self, id: u32) -> Option<&Page>
-        requires stub { ⊥ }
         ensures page { MatchOption result ((seen_as self.now).frame id ≡ None) (λ page. (seen_as self.now).frame id ≡ Some page.now) }
         ensures store { IsStore (D.model self.now.disk).size (seen_as self.now) }
     {
-        None
+        match self.frames.get(&id) {
+            Some(frame) => Some(&frame.page),
+            None => None,
+        }
     }
 
     /// The bytes of the longest group that fits the log now.

@@ -1,14 +1,69 @@
-ghost use Rattle.std.specs.Prelude.{◌≡◌, ◌≤◌, IfOk, IfErr, IfSome, IsErrOf};
+ghost use Rattle.std.specs.Prelude.{◌≡◌, ◌<◌, ◌≤◌, ◌^◌, length, IfOk, IfErr, IfSome, IsErrOf, IsOk};
 ghost use Rattle.hb_outside.specs.Streams.{Rose};
 ghost use Rattle.hb_disk.specs.Calls.{OnlyReads};
 ghost use Rattle.hb_store.specs.Keeps.{MayHold};
+ghost use Rattle.hb_store.specs.Opening.{log_place};
+ghost use Rattle.hb_store.specs.Replaying.{HasLimits, HasReplayed, NamesBad, NamesBadOr, log_stop, replayed_of};
 ghost use Rattle.hb_store.specs.Stops.{ReadsLog, ReadsNoLog, IsTouched};
 ghost use Rattle.hb_store.specs.declared.touched.LogStop.TheVariants.{DiskFault};
 
-use crate::touched::{LogStop, Touched};
+use crate::touched::{LogStop, ReplayStop, Touched};
 use hb_disk::Disk;
 use hb_ops::Meta;
+use hb_wal::{Payloads, ReadStop, read_area};
 use std::alloc::Global;
+
+/// Where the log area of a turn begins.
+fn area_of(turn: u8, meta: &Meta) -> u64
+    ensures { result ≡ log_place turn meta.now }
+{
+    8192 + u64::from(turn % 2) * u64::from(meta.log)
+}
+
+impl ReplayStop {
+    /// The stop of reading a log, at the frame of this number.
+    fn at(self, frame: usize) -> LogStop
+        ensures stop { frame < 2 ^ 32 → result ≡ log_stop frame self }
+        ensures no_fault { result ≡ DiskFault → ⊥ }
+    {
+        match self {
+            ReplayStop::Unfit => LogStop::BadGroup {
+                frame: frame.min(u32::MAX as usize) as u32,
+            },
+            ReplayStop::NoMemory => LogStop::NoMemory,
+        }
+    }
+}
+
+/// What the payloads make of a file that says this of itself, one after the other.
+fn replayed(alloc: Global, meta: &Meta, payloads: &Payloads) -> Result<Touched, LogStop>
+    requires limits { HasLimits meta.now }
+    ensures read { IfOk result (λ t. HasReplayed meta.now payloads.now (replayed_of t)) }
+    ensures touched { IfOk result (λ t. IsTouched meta.now t) }
+    ensures stopped { length payloads.now < 2 ^ 32 → IfErr result (NamesBad meta.now payloads.now) }
+    ensures no_fault { IsErrOf result DiskFault → ⊥ }
+{
+    let mut touched = Touched::new(alloc, meta);
+    for (frame, payload) in payloads.as_slice().iter().enumerate() {
+        match touched.follow_all(alloc, payload) {
+            Ok(()) => {}
+            Err(stop) => return Err(stop.at(frame)),
+        }
+    }
+    Ok(touched)
+}
+
+/// Why a log isn't read whose frame of this number has a bad length, behind frames of these payloads.
+fn before_bad(alloc: Global, meta: &Meta, frame: u32, before: &Payloads) -> LogStop
+    requires limits { HasLimits meta.now }
+    ensures stopped { length before.now < 2 ^ 32 → frame ≡ length before.now → NamesBadOr meta.now before.now result }
+    ensures no_fault { result ≡ DiskFault → ⊥ }
+{
+    match replayed(alloc, meta, before) {
+        Ok(_) => LogStop::BadGroup { frame },
+        Err(stop) => stop,
+    }
+}
 
 /// Reads the log area of a turn and replays its groups, over pages that they touch alone.
 pub fn read_log<D: Disk>(
@@ -18,12 +73,19 @@ pub fn read_log<D: Disk>(
     meta: &Meta,
 ) -> Result<Touched, LogStop>
     requires fits { MayHold (D.model disk.old).size turn meta.now }
-    requires stub { ⊥ }
     ensures read { IfOk result (λ t. IfSome (D.model disk.old).told (λ b. ReadsLog b turn meta.now t)) }
     ensures touched { IfOk result (λ t. IsTouched meta.now t) }
     ensures stopped { IfErr result (λ stop. IfSome (D.model disk.old).told (λ b. ReadsNoLog b turn meta.now stop)) }
     ensures cause { IsErrOf result DiskFault → Rose (D.model disk.old).read_faults (D.model disk.new).read_faults }
     ensures only_reads { OnlyReads (D.model disk.old) (D.model disk.new) }
 {
-    Err(LogStop::NoMemory)
+    match read_area(alloc, disk, area_of(turn, meta), meta.log) {
+        Ok(payloads) => replayed(alloc, meta, &payloads),
+        Err(ReadStop::BadFrame { frame, before }) => {
+            let stop = before_bad(alloc, meta, frame, &before);
+            Err(stop)
+        }
+        Err(ReadStop::NoMemory) => Err(LogStop::NoMemory),
+        Err(ReadStop::DiskFault) => Err(LogStop::DiskFault),
+    }
 }

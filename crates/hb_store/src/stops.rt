@@ -1,5 +1,5 @@
 //! Why a call of the store stops.
-use hb_space::Area;
+use hb_space::{Area, NoMemory};
 
 /// Why a page isn't the one that was asked for.
 #[derive(Debug, Drop)]
@@ -31,6 +31,17 @@ pub enum StopWhy {
     WriteFault,
     /// The page of this number isn't the one that was asked for.
     Damaged { page: u32, why: Why },
+}
+
+impl From<NoMemory> for FetchStop {
+    ghost use Rattle.std.specs.Prelude.{◌≡◌};
+    ghost use Rattle.hb_store.specs.declared.stops.FetchStop.TheVariants.{NoMemory as Refused};
+
+    ghost from_gives = { λ _ e. e ≡ Refused };
+
+    fn from(_refused: NoMemory) -> FetchStop {
+        FetchStop::NoMemory
+    }
 }
 
 /// A write, zero or sync of the disk failed. The store is stopped then.

@@ -1,0 +1,124 @@
+-- What reading a log tells, from what its payloads make of the file.
+use Rattle.std.proofs.Common.{◌≡◌, ◌⊎◌, inl, inr, ℕ, zero, suc, ◌+◌, ◌<◌, ◌≤◌, ◌^◌, List, [], ◌∷◌, ◌++◌, length, get_or, map, take, drop, All, Option, Some, None, Result, Ok, Err, refl, sym, ap, subst, ◌∙◌, append_assoc, length-append, arith}
+use Rattle.std.specs.Prelude.{IfErr, IfSome}
+use Rattle.std.proofs.lemmas.List.{drop_more, get_or-map, length-map, length-take, take-append-drop, take_more}
+use Rattle.std.proofs.lemmas.Grind.{flat_map-append}
+use Rattle.std.proofs.lemmas.List.Elements.{All-append, All-head, All-tail}
+use Rattle.hb_ops.specs.declared.meta.Meta.{Meta}
+use Rattle.hb_wal.specs.Frames.{frames, frame_bytes, range, IsPayload, HasFrames, HasBadFrame}
+use Rattle.hb_store.specs.Replay.{Replayed, untouched, replay}
+use Rattle.hb_store.specs.Opening.{IsBadPayload, HasBadGroup, log_bytes, log_place}
+use Rattle.hb_store.specs.Replaying.{AreItsPages, HasReplayed, IsFirstBad, NamesBad, NamesBadOr, log_stop, replayed_of}
+use Rattle.hb_store.specs.Stops.{IsTouched, ReadsNoLog}
+use Rattle.hb_store.specs.declared.touched.Touched.{Touched}
+use Rattle.hb_store.specs.declared.touched.LogStop.{LogStop}
+use Rattle.hb_store.specs.declared.touched.LogStop.TheVariants as logs
+use Rattle.hb_store.specs.declared.touched.ReplayStop.{ReplayStop}
+use Rattle.hb_store.specs.declared.touched.ReplayStop.TheVariants as replays
+
+pub none_its : (said : Meta) → AreItsPages (untouched said)
+none_its said id page e = absurd cc
+
+-- the item at a place, by the items that a list was made of
+pub item_here : {A B : Type 0} (f : A → B) (xs : List A) (ys : List B) (i : ℕ) (x : A) (y : B) → map f xs ≡ ys → i < length xs → x ≡ get_or xs i x → y ≡ f x → (i < length ys) × (get_or ys i y ≡ y)
+item_here f xs ys i x y same lt here is = (
+  omega (arith, lt, length-map xs f, ap length same),
+  ap (λ l. get_or l i y) (sym same) ∙ get_or-map f xs i x y lt ∙ ap f (sym here) ∙ sym is,
+)
+
+-- a list is taken apart there
+pub parted : {B : Type 0} (ys : List B) (i : ℕ) (y : B) → (i < length ys) × (get_or ys i y ≡ y) → ys ≡ take i ys ++ y ∷ drop (i + 1) ys
+parted ys i y item = sym (take-append-drop i ys) ∙ ap (λ l. take i ys ++ l) (drop_more ys i y item.0 ∙ ap (λ z. z ∷ drop (i + 1) ys) item.1)
+
+pub taken_more : {B : Type 0} (ys : List B) (i : ℕ) (y : B) → (i < length ys) × (get_or ys i y ≡ y) → take (i + 1) ys ≡ take i ys ++ y ∷ []
+taken_more ys i y item = take_more ys i y item.0 ∙ ap (λ z. take i ys ++ z ∷ []) item.1
+
+pub touched_is : (said : Meta) (t : Touched) → t.meta ≡ said → AreItsPages (replayed_of t) → IsTouched said t
+touched_is said t same its = record {
+  layout = (ap (λ (m : Meta). m.k) same, ap (λ (m : Meta). m.log) same, ap (λ (m : Meta). m.pages) same, ap (λ (m : Meta). m.high) same);
+  pages = λ id page e. let good = its id page e in (good.0.0, good.0.1, good.1);
+}
+
+pub first_bad : (said : Meta) (payloads : List (List ℕ)) (i : ℕ) (payload : List ℕ) (t : Replayed) (stop : ReplayStop) → payloads ≡ take i payloads ++ payload ∷ drop (i + 1) payloads → i < length payloads
+    → HasReplayed said (take i payloads) t → (stop ≡ replays.Unfit → IsBadPayload said.k t payload) → NamesBad said payloads (log_stop i stop)
+first_bad said payloads i payload t replays.NoMemory parts lt so_far bad = tt
+first_bad said payloads i payload t replays.Unfit parts lt so_far bad = record {
+  before = take i payloads;
+  payload = payload;
+  behind = drop (i + 1) payloads;
+  parts = parts;
+  counted = omega (arith, length-take i payloads, lt);
+  reached = t;
+  replayed = so_far;
+  bad = bad refl;
+}
+
+-- ---- the bytes of the area
+
+frames_many : (payloads : List (List ℕ)) → length payloads ≤ length (frames payloads)
+frames_many [] = omega arith
+frames_many (p ∷ ps) = omega (arith, frames_many ps, length-append (frame_bytes p) (frames ps))
+
+in_middle : (P : List ℕ → Type 0) (before : List (List ℕ)) (p : List ℕ) (behind : List (List ℕ)) → All P (before ++ p ∷ behind) → P p
+in_middle P [] p behind h = All-head P p behind h
+in_middle P (x ∷ xs) p behind h = in_middle P xs p behind (All-tail P x (xs ++ p ∷ behind) h)
+
+bad_payload : (bytes : List ℕ) (turn : ℕ) (said : Meta) (payloads : List (List ℕ)) (rest : List ℕ) (frame : ℕ) → All IsPayload payloads → log_bytes turn said bytes ≡ frames payloads ++ rest → IsFirstBad said payloads frame → HasBadGroup bytes turn said frame
+bad_payload bytes turn said payloads rest frame fit parts first =
+    let p = first.payload in
+    let behind = frames first.behind ++ rest in
+    let split : frames payloads ++ rest ≡ frames first.before ++ (frame_bytes p ++ behind) =
+    ap (λ l. frames l ++ rest) first.parts ∙ ap (λ (l : List ℕ). l ++ rest) (flat_map-append frame_bytes first.before (p ∷ first.behind))
+    ∙ append_assoc (frames first.before) (frames (p ∷ first.behind)) rest ∙ ap (λ (l : List ℕ). frames first.before ++ l) (append_assoc (frame_bytes p) (frames first.behind) rest) in
+    record {
+      before = first.before;
+      groups = first.replayed.groups;
+      rest = frame_bytes p ++ behind;
+      counted = first.counted;
+      framed = parts ∙ split;
+      spelled = first.replayed.spelled;
+      replayed = first.replayed.may;
+      bad = inr (
+        p,
+        record { fits = in_middle IsPayload first.before p first.behind (subst (λ l. All IsPayload l) first.parts fit); behind = behind; bytes = refl },
+        subst (λ r. IsBadPayload said.k r p) first.replayed.leads first.bad,
+      );
+    }
+
+stop_in_frames : (bytes : List ℕ) (turn : ℕ) (said : Meta) (payloads : List (List ℕ)) (stop : LogStop) → HasFrames (log_bytes turn said bytes) payloads → NamesBad said payloads stop → ReadsNoLog bytes turn said stop
+stop_in_frames bytes turn said payloads (logs.BadGroup frame) framed names = bad_payload bytes turn said payloads framed.rest frame framed.payloads_fit framed.bytes names
+stop_in_frames bytes turn said payloads logs.NoMemory framed names = tt
+stop_in_frames bytes turn said payloads logs.DiskFault framed names = tt
+
+pub no_log_ok : (turn : ℕ) (said : Meta) (payloads : List (List ℕ)) (told : Option (List ℕ)) (result : Result Touched LogStop) → IfSome told (λ b. HasFrames (log_bytes turn said b) payloads) → IfErr result (NamesBad said payloads)
+    → IfErr result (λ stop. IfSome told (λ b. ReadsNoLog b turn said stop))
+no_log_ok turn said payloads told (Ok t) framed names = tt
+no_log_ok turn said payloads None (Err stop) framed names = tt
+no_log_ok turn said payloads (Some b) (Err stop) framed names = stop_in_frames b turn said payloads stop framed names
+
+at_bad_frame : (bytes : List ℕ) (turn : ℕ) (said : Meta) (before : List (List ℕ)) (stop : LogStop) → HasBadFrame (log_bytes turn said bytes) before → NamesBadOr said before stop → ReadsNoLog bytes turn said stop
+at_bad_frame bytes turn said before (logs.BadGroup frame) framed (inl names) = bad_payload bytes turn said before framed.rest frame framed.payloads_fit framed.bytes names
+at_bad_frame bytes turn said before (logs.BadGroup frame) framed (inr names) = record {
+  before = before;
+  groups = names.2.groups;
+  rest = framed.rest;
+  counted = names.0;
+  framed = framed.bytes;
+  spelled = names.2.spelled;
+  replayed = names.2.may;
+  bad = inl framed.bad;
+}
+at_bad_frame bytes turn said before logs.NoMemory framed names = tt
+at_bad_frame bytes turn said before logs.DiskFault framed names = tt
+
+pub no_log_bad : (turn : ℕ) (said : Meta) (frame : ℕ) (before : List (List ℕ)) (told : Option (List ℕ)) (stop : LogStop) → said.log ≤ 67108864 → IfSome told (λ b. (frame ≡ length before) × HasBadFrame (log_bytes turn said b) before)
+    → (length before < 2 ^ 32 → frame ≡ length before → NamesBadOr said before stop) → IfSome told (λ b. ReadsNoLog b turn said stop)
+no_log_bad turn said frame before None stop limit framed names = tt
+no_log_bad turn said frame before (Some b) stop limit framed names =
+    let area = log_bytes turn said b in
+    let short : length area ≤ said.log = omega (arith, length-take said.log (drop (log_place turn said) b)) in
+    let few : length before < 2 ^ 32 = omega (arith, frames_many before, ap (λ (l : List ℕ). length l) framed.1.bytes, length-append (frames before) framed.1.rest, short, limit) in
+    at_bad_frame b turn said before stop framed.1 (names few framed.0)
+
+pub few_payloads : (payloads : List (List ℕ)) (len : ℕ) → length (frames payloads) ≤ len → len ≤ 67108864 → length payloads < 2 ^ 32
+few_payloads payloads len short limit = omega (arith, frames_many payloads, short, limit)

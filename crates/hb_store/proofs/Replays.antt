@@ -1,0 +1,85 @@
+-- Replaying groups one after the other.
+use Rattle.std.proofs.Common.{◌≡◌, ℕ, zero, suc, ◌+◌, ◌<◌, ◌≤◌, List, [], ◌∷◌, ◌++◌, length, get_or, map, take, drop, All, refl, sym, ap, subst, ◌∙◌, append_assoc, arith}
+use Rattle.std.proofs.lemmas.List.{append-nil, drop_more, map-append, take-append-drop}
+use Rattle.std.proofs.lemmas.List.Elements.{All-head, All-tail}
+use Rattle.hb_ops.specs.declared.meta.Meta.{Meta}
+use Rattle.hb_store.specs.declared.groups.Group.{Group}
+use Rattle.hb_store.specs.Groups.{Logged, FitsGroup, SpellsGroups, SpellAll}
+use Rattle.hb_store.specs.GroupReading.{logged}
+use Rattle.hb_store.specs.GroupLaws.{SpelledOnce, same_groups}
+use Rattle.hb_store.specs.Replay.{Replayed, MayFollow, MayReplay, after_group, replay, untouched}
+use Rattle.hb_store.specs.Opening.{IsBadPayload}
+use Rattle.hb_store.specs.Replaying.{Follows, HasReplayed}
+
+pub may_append : (t : Replayed) (xs ys : List Logged) → MayReplay t xs → MayReplay (replay t xs) ys → MayReplay t (xs ++ ys)
+may_append t [] ys one two = two
+may_append t (x ∷ xs) ys one two = (one.0, may_append (after_group t x) xs ys one.1 two)
+
+pub may_front : (t : Replayed) (xs ys : List Logged) → MayReplay t (xs ++ ys) → MayReplay t xs
+may_front t [] ys may = tt
+may_front t (x ∷ xs) ys may = (may.0, may_front (after_group t x) xs ys may.1)
+
+pub may_back : (t : Replayed) (xs ys : List Logged) → MayReplay t (xs ++ ys) → MayReplay (replay t xs) ys
+may_back t [] ys may = may
+may_back t (x ∷ xs) ys may = may_back (after_group t x) xs ys may.1
+
+pub replay-append : (t : Replayed) (xs ys : List Logged) → replay t (xs ++ ys) ≡ replay (replay t xs) ys
+replay-append t [] ys = refl
+replay-append t (x ∷ xs) ys = replay-append (after_group t x) xs ys
+
+-- ---- the groups of a payload, one after the other
+
+all_of : {A : Type 0} (xs : List A) → map (λ y. y) xs ≡ xs
+all_of [] = refl
+all_of (x ∷ xs) = ap (λ ys. x ∷ ys) (all_of xs)
+
+-- a list is what came so far, the next one and those behind
+pub splits : {A : Type 0} (all xs : List A) (x : A) → map (λ y. y) xs ≡ take (length xs) all → (length xs < length all) × (x ≡ get_or all (length xs) x) → all ≡ xs ++ x ∷ drop (length xs + 1) all
+splits all xs x front next =
+    sym (take-append-drop (length xs) all) ∙ (λ i. (sym front ∙ all_of xs) i ++ (drop_more all (length xs) x next.0 ∙ (λ j. sym next.1 j ∷ drop (length xs + 1) all)) i)
+
+pub next_fits : (k : ℕ) (all xs : List Group) (x : Group) (behind : List Group) → all ≡ xs ++ x ∷ behind → All (FitsGroup k) (map logged all) → FitsGroup k (logged x)
+next_fits k all xs x behind split fits = in_middle xs (subst (λ l. All (FitsGroup k) (map logged l)) split fits)
+  where
+    in_middle : (ys : List Group) → All (FitsGroup k) (map logged (ys ++ x ∷ behind)) → FitsGroup k (logged x)
+    in_middle [] h = All-head (FitsGroup k) (logged x) (map logged behind) h
+    in_middle (y ∷ ys) h = in_middle ys (All-tail (FitsGroup k) (logged y) (map logged (ys ++ x ∷ behind)) h)
+
+-- one more group
+pub may_more : (t : Replayed) (xs : List Group) (x : Group) → MayReplay t (map logged xs) → MayFollow (replay t (map logged xs)) (logged x) → MayReplay t (map logged (xs ++ x ∷ []))
+may_more t xs x may next = subst (MayReplay t) (sym (map-append logged xs (x ∷ []))) (may_append t (map logged xs) (logged x ∷ []) may (next, tt))
+
+pub replay_more : (t u v : Replayed) (xs : List Group) (x : Group) → u ≡ replay t (map logged xs) → v ≡ after_group u (logged x) → v ≡ replay t (map logged (xs ++ x ∷ []))
+replay_more t u v xs x so_far next =
+    next ∙ (λ i. after_group (so_far i) (logged x)) ∙ sym (replay-append t (map logged xs) (logged x ∷ [])) ∙ ap (replay t) (sym (map-append logged xs (x ∷ [])))
+
+-- a group that may not be replayed where those before it led
+pub bad_here : SpelledOnce → (k : ℕ) (t u : Replayed) (payload : List ℕ) (all xs : List Group) (x : Group) (behind : List Group) → SpellsGroups k payload (map logged all) → all ≡ xs ++ x ∷ behind
+    → u ≡ replay t (map logged xs) → (MayFollow u (logged x) → ⊥) → IsBadPayload k t payload
+bad_here once k t u payload all xs x behind spelled split so_far bad groups other may =
+    let same : groups ≡ map logged xs ++ map logged (x ∷ behind) = same_groups once k payload groups (map logged all) other spelled ∙ ap (map logged) split ∙ map-append logged xs (x ∷ behind) in
+    let here = may_back t (map logged xs) (map logged (x ∷ behind)) (subst (MayReplay t) same may) in
+    bad (subst (λ r. MayFollow r (logged x)) (sym so_far) here.0)
+
+-- ---- payloads
+
+pub spelled_more : (k : ℕ) (payloads : List (List ℕ)) (groups : List Logged) (payload : List ℕ) (more : List Logged) → SpellAll k payloads groups → SpellsGroups k payload more → SpellAll k (payloads ++ payload ∷ []) (groups ++ more)
+spelled_more k [] groups payload more spelled next = (more, [], ap (λ (l : List Logged). l ++ more) spelled ∙ sym (append-nil more), next, refl)
+spelled_more k (first ∷ rest) groups payload more spelled next = (
+  spelled.0,
+  spelled.1 ++ more,
+  ap (λ (l : List Logged). l ++ more) spelled.2 ∙ append_assoc spelled.0 spelled.1 more,
+  spelled.3,
+  spelled_more k rest spelled.1 payload more spelled.4 next,
+)
+
+pub replayed_none : (said : Meta) → HasReplayed said [] (untouched said)
+replayed_none said = record { groups = []; spelled = refl; may = tt; leads = refl }
+
+pub replayed_more : (said : Meta) (payloads : List (List ℕ)) (t u : Replayed) (payload : List ℕ) → HasReplayed said payloads t → Follows said.k t payload u → HasReplayed said (payloads ++ payload ∷ []) u
+replayed_more said payloads t u payload so_far next = record {
+  groups = so_far.groups ++ next.groups;
+  spelled = spelled_more said.k payloads so_far.groups payload next.groups so_far.spelled next.spelled;
+  may = may_append (untouched said) so_far.groups next.groups so_far.may (subst (λ r. MayReplay r next.groups) so_far.leads next.may);
+  leads = next.leads ∙ ap (λ r. replay r next.groups) so_far.leads ∙ sym (replay-append (untouched said) so_far.groups next.groups);
+}

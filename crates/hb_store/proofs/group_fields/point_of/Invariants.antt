@@ -1,0 +1,11 @@
+use Rattle.std.proofs.Common.{◌≡◌, ◌-◌, length}
+use Rattle.hb_page_codec.specs.Reading.{number_at, point_at, many_at}
+use Rattle.hb_store.proofs.Loops.{with_front}
+use Rattle.hb_store.proofs.group_fields.point_of.Given as goal
+
+-- the values so far, and those that are still read, are all
+abbrev pub invariant-loop : goal.invariant-loop
+invariant-loop l = record {
+  count : length l.values.items ≡ l.counter;
+  read : with_front l.values.items (many_at (number_at 8) (l.k - l.counter) l.rest) ≡ point_at l.k l.bytes;
+}

@@ -1,0 +1,49 @@
+use Rattle.std.proofs.Common.{◌≡◌, All, ap, refl, sym, subst, ◌∙◌}
+use Rattle.hb_store.specs.GroupReading.{logged}
+use Rattle.hb_store.specs.Replay.{IsAllowedIn, MayFollow, Replayed, after_op}
+use Rattle.hb_store.specs.Replaying.{AreItsPages, IsPageOf, replayed_of}
+use Rattle.hb_store.proofs.Touches.{images_its, group_its, meta_stays, on_ok, on_both}
+use Rattle.hb_store.proofs.touched.Touched.follow.Goals as goal
+
+pub apply-requires-clause-pages : goal.apply-requires-clause-pages
+apply-requires-clause-pages c =
+    let t = replayed_of c.args.self.now in
+    let g = logged c.args.group in
+    let range : All (λ i. IsPageOf t.meta i.0) g.images = subst (λ l. All (λ i. IsPageOf t.meta i.0) l) c.as_slice.ensures.value (c.if-not-has_all.ensures.0 refl) in
+    subst AreItsPages (sym c.in_ok-set_all.ensures) (images_its t g t.meta.k c.requires.pages c.requires.fits range)
+
+pub returns-clause-allowed : goal.returns-clause-allowed
+returns-clause-allowed c =
+    let t = replayed_of c.args.self.now in
+    let g = logged c.args.group in
+    let range : All (λ i. IsPageOf t.meta i.0) g.images = subst (λ l. All (λ i. IsPageOf t.meta i.0) l) c.as_slice.ensures.value (c.if-not-has_all.ensures.0 refl) in
+    on_ok c.apply.result (λ allowed. record { images = range; allowed = subst (λ u. IsAllowedIn u g.op) c.in_ok-set_all.ensures allowed }) c.apply.ensures.allowed
+
+pub returns-clause-effect : goal.returns-clause-effect
+returns-clause-effect c =
+    let g = logged c.args.group in
+    on_ok c.apply.result (λ same. same ∙ (λ i. after_op (c.in_ok-set_all.ensures i) g.op)) c.apply.ensures.effect
+
+pub returns-clause-pages : goal.returns-clause-pages
+returns-clause-pages c =
+    let t = replayed_of c.args.self.now in
+    let g = logged c.args.group in
+    let range : All (λ i. IsPageOf t.meta i.0) g.images = subst (λ l. All (λ i. IsPageOf t.meta i.0) l) c.as_slice.ensures.value (c.if-not-has_all.ensures.0 refl) in
+    let may : IsAllowedIn (replayed_of c.set_all.new.self) g.op → MayFollow t g = λ allowed. record { images = range; allowed = subst (λ u. IsAllowedIn u g.op) c.in_ok-set_all.ensures allowed } in
+    on_both c.apply.result
+    (λ allowed same. subst AreItsPages (sym (same ∙ (λ i. after_op (c.in_ok-set_all.ensures i) g.op)))
+    (group_its c.page_within_capacity_has_spelling.ensures.live t g c.requires.pages c.requires.limits c.requires.fits (may allowed)))
+    c.apply.ensures.allowed c.apply.ensures.effect
+
+pub returns-clause-meta : goal.returns-clause-meta
+returns-clause-meta c =
+    let t = replayed_of c.args.self.now in
+    let g = logged c.args.group in
+    on_ok c.apply.result
+    (λ same. ap (λ (r : Replayed). r.meta) (same ∙ (λ i. after_op (c.in_ok-set_all.ensures i) g.op)) ∙ meta_stays g.op t.meta _ _ _)
+    c.apply.ensures.effect
+
+pub returns-clause-unfit : goal.returns-clause-unfit
+returns-clause-unfit c =
+    let g = logged c.args.group in
+    λ is may. c.apply.ensures.unfit is (subst (λ u. IsAllowedIn u g.op) (sym c.in_ok-set_all.ensures) may.allowed)

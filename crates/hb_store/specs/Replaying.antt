@@ -1,0 +1,93 @@
+-- What the replay of groups over touched pages gives.
+use Rattle.std.specs.Prelude.{◌≡◌, ◌⊎◌, ℕ, ◌<◌, ◌≤◌, ◌^◌, List, [], ◌++◌, ◌∷◌, length, map, All, Option, Some}
+use Rattle.std.specs.Ordering.{nat_cmp}
+use Rattle.std.specs.BTreeMap.{get}
+use Rattle.hb_space.specs.declared.form.TheConstants.{KMAX}
+use Rattle.hb_frag.specs.declared.pages.Page.{Page}
+use Rattle.hb_frag.specs.Grammar.{HasSpelling}
+use Rattle.hb_ops.specs.declared.meta.Meta.{Meta}
+use Rattle.hb_ops.specs.declared.changes.ChangeError.{ChangeError}
+use Rattle.hb_ops.specs.declared.changes.ChangeError.TheVariants as changes
+use Rattle.hb_store.specs.Groups.{Logged, SpellAll, SpellsGroups}
+use Rattle.hb_store.specs.Replay.{Replayed, untouched, set_pages, replay, MayReplay}
+use Rattle.hb_store.specs.Opening.{IsBadPayload}
+use Rattle.hb_store.specs.declared.touched.LogStop.{LogStop}
+use Rattle.hb_store.specs.declared.touched.LogStop.TheVariants as logs
+use Rattle.hb_store.specs.declared.touched.Touched.{Touched}
+use Rattle.hb_store.specs.declared.touched.ReplayStop.{ReplayStop}
+use Rattle.hb_store.specs.declared.touched.ReplayStop.TheVariants as replays
+use Rattle.hb_store.specs.declared.group_reading.GroupsStop.{GroupsStop}
+use Rattle.hb_store.specs.declared.group_reading.GroupsStop.TheVariants as groups
+
+-- what touched pages are seen as
+abbrev pub replayed_of : Touched → Replayed
+replayed_of t = record { meta = t.meta; page = λ id. get nat_cmp t.pages id }
+
+abbrev pub with_pages : List (ℕ × Page) → Replayed → Replayed
+with_pages pages t = record { meta = t.meta; page = set_pages pages t.page }
+
+-- the number is of a page of the file
+abbrev pub IsPageOf : Meta → ℕ → Type 0
+IsPageOf meta id = (1 ≤ id) × (id ≤ meta.high)
+
+-- The pages that were touched are the file's, and each can be written.
+abbrev pub AreItsPages : Replayed → Type 0
+AreItsPages t = (id : ℕ) (page : Page) → t.page id ≡ Some page → IsPageOf t.meta id × HasSpelling page
+
+-- the limits of a file that a put rests on
+pub record HasLimits (meta : Meta) : Type 0 where
+  pub some : 1 ≤ meta.k
+  pub few : meta.k ≤ KMAX
+  pub dcap : meta.dcap ≤ 48
+  pub icap : meta.icap ≤ 256
+
+-- the stop of a replay, by that of a change and that of reading groups
+abbrev pub change_stop : ChangeError → ReplayStop
+change_stop changes.Unfit = replays.Unfit
+change_stop changes.NoMemory = replays.NoMemory
+
+abbrev pub groups_stop : GroupsStop → ReplayStop
+groups_stop (groups.BadBytes at) = replays.Unfit
+groups_stop groups.NoMemory = replays.NoMemory
+
+-- The groups of a payload lead from some touched pages to others.
+pub record Follows (k : ℕ) (old : Replayed) (payload : List ℕ) (new : Replayed) : Type 0 where
+  pub groups : List Logged
+  pub spelled : SpellsGroups k payload groups
+  pub may : MayReplay old groups
+  pub leads : new ≡ replay old groups
+
+-- Payloads were replayed from an untouched file, and led here.
+pub record HasReplayed (said : Meta) (payloads : List (List ℕ)) (t : Replayed) : Type 0 where
+  pub groups : List Logged
+  pub spelled : SpellAll said.k payloads groups
+  pub may : MayReplay (untouched said) groups
+  pub leads : t ≡ replay (untouched said) groups
+
+-- The payload of this number, counted from 0, is the first that isn't a list of groups that may be replayed there.
+pub record IsFirstBad (said : Meta) (payloads : List (List ℕ)) (frame : ℕ) : Type 0 where
+  pub before : List (List ℕ)
+  pub payload : List ℕ
+  pub behind : List (List ℕ)
+  pub parts : payloads ≡ before ++ payload ∷ behind
+  pub counted : frame ≡ length before
+  pub reached : Replayed
+  pub replayed : HasReplayed said before reached
+  pub bad : IsBadPayload said.k reached payload
+
+-- the stop of reading a log, where a replay stops at the frame of this number
+abbrev pub log_stop : ℕ → ReplayStop → LogStop
+log_stop frame replays.Unfit = logs.BadGroup frame
+log_stop frame replays.NoMemory = logs.NoMemory
+
+-- Why payloads weren't replayed: the first bad one. Want of memory says nothing of them.
+abbrev pub NamesBad : Meta → List (List ℕ) → LogStop → Type 0
+NamesBad said payloads (logs.BadGroup frame) = IsFirstBad said payloads frame
+NamesBad said payloads logs.NoMemory = Unit {0}
+NamesBad said payloads logs.DiskFault = ⊥
+
+-- The same where a bad frame is behind the payloads: it is the first bad one where all of them were replayed.
+abbrev pub NamesBadOr : Meta → List (List ℕ) → LogStop → Type 0
+NamesBadOr said payloads (logs.BadGroup frame) = IsFirstBad said payloads frame ⊎ ((frame ≡ length payloads) × (reached : Replayed) × HasReplayed said payloads reached)
+NamesBadOr said payloads logs.NoMemory = Unit {0}
+NamesBadOr said payloads logs.DiskFault = ⊥
