@@ -186,5 +186,5 @@ groups_more k bytes groups rest group after fit parts next =
     let all = map-append logged groups (group ∷ []) in (
       subst (λ l. All (FitsGroup k) l) (sym all) (All-append (FitsGroup k) (map logged groups) (logged group ∷ []) fit (All-cons (FitsGroup k) (logged group) [] next.fits (All-nil (FitsGroup k)))),
       parts ∙ ap (λ (t : List ℕ). flat_map group_bytes (map logged groups) ++ t) next.parts ∙ sym (append_assoc (flat_map group_bytes (map logged groups)) (group_bytes (logged group)) after)
-      ∙ ap (λ (t : List ℕ). t ++ after) (flat_map_more group_bytes [] (map logged groups) (logged group) ∙ ap (flat_map group_bytes) (sym all)),
+          ∙ ap (λ (t : List ℕ). t ++ after) (flat_map_more group_bytes [] (map logged groups) (logged group) ∙ ap (flat_map group_bytes) (sym all)),
     )

@@ -202,4 +202,3 @@ record_again k r rest fits =
     let regrouped : record_bytes r ++ rest ≡ point_bytes r.key ++ (length r.body ∷ r.body ++ rest) = append_assoc (point_bytes r.key) (length r.body ∷ r.body) rest in
     let key : point_at k (point_bytes r.key ++ (length r.body ∷ r.body ++ rest)) ≡ Some (r.key, length r.body ∷ r.body ++ rest) = ap (λ (n : ℕ). point_at n (point_bytes r.key ++ (length r.body ∷ r.body ++ rest))) (sym fits.attributes) ∙ point_again r.key (length r.body ∷ r.body ++ rest) fits.values in
     ap (record_at k) regrouped ∙ rw (key, body_again r.body rest fits.body) refl
-

@@ -6,6 +6,3 @@ pub mod Ends
 pub mod Layouts
 pub mod Audit
 pub mod Restart
-pub mod Core
-pub mod CoreSeen
-pub mod Drives
