@@ -7,3 +7,5 @@ pub mod Propositions
 pub mod Seen
 pub mod Calls
 pub mod Stops
+pub mod ReplayLists
+pub mod ReplayLaws

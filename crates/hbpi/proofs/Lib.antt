@@ -3,3 +3,4 @@ pub mod TextPieces
 pub mod PutTexts
 pub mod RunLines
 pub mod EndLaws
+pub mod NewFile
