@@ -80,6 +80,10 @@ said_back turn meta legal =
     fields_back turn meta
     ∙ (λ i. record { k = meta.k; pages = pages i; log = log i; dcap = dcap i; icap = icap i; root = root i; height = meta.height; high = high i; live = live i; free = free i })
 
+-- and so one body says one thing
+pub one_body : (turn : ℕ) (m n : Meta) → IsLegal turn m → IsLegal turn n → body_bytes turn m ≡ body_bytes turn n → m ≡ n
+one_body turn m n first second same = sym (said_back turn m first) ∙ ap said_in same ∙ said_back turn n second
+
 known_layout : (meta : Meta) → Known (IsLayout meta)
 known_layout meta = elim (both (known_le 1 meta.k) (both (known_le meta.k KMAX) (both (known_le 1 meta.pages) (both (known_le meta.pages 65536) (both (known_le 65536 meta.log) (both (known_le meta.log 67108864)
     (both (known_le 6 meta.dcap) (both (known_le meta.dcap 48) (both (known_le ICAP_MIN meta.icap) (both (known_le meta.icap 256) (both (known_le 1 meta.height) (known_le meta.height 12)))))))))))) [

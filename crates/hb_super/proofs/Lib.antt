@@ -2,3 +2,4 @@ mod Bodies
 mod Supers
 mod Writes
 mod Newest
+mod Clears

@@ -1,4 +1,5 @@
 pub mod Superblocks
 pub mod Reading
 pub mod Moments
+pub mod Hidden
 pub mod SuperLaws

@@ -20,7 +20,10 @@ pub record WriteLeaves (d : DiskModel) (before : List ℕ) (old : ℕ) (said : M
   pub elsewhere : Torn (place_of turn) 41 base c
   pub newest : IsNewest c old said ⊎ IsNewest c turn meta ⊎ IsUncovered before turn c
 
+-- A gate that is closed has no other body of this turn behind it than the one that says this.
+abbrev pub NoOther : ℕ → Meta → ℕ → List ℕ → Type 0
+NoOther turn meta gate body = gate ≢ open_gate → (said : Meta) → IsLegal turn said → body ≡ body_bytes turn said → said ≡ meta
+
 -- Behind a closed gate the place of this turn has no other body of the turn than the one that says this.
 abbrev pub HidesNoOther : List ℕ → ℕ → Meta → Type 0
-HidesNoOther before turn meta = get_or before (place_of turn) 0 ≢ open_gate → (said : Meta) → IsLegal turn said
-    → take 40 (drop (place_of turn + 1) before) ≡ body_bytes turn said → said ≡ meta
+HidesNoOther before turn meta = NoOther turn meta (get_or before (place_of turn) 0) (take 40 (drop (place_of turn + 1) before))

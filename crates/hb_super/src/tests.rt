@@ -1,7 +1,7 @@
 //! Superblocks by hand: their bytes, which of two is the newest, which bytes are none, and what crashes and faults leave.
 ghost use Rattle.std.specs.Prelude.{◌≡◌, ◌<◌, ◌≤◌, IfOk, length};
 
-use crate::{SuperStop, read_super, write_super};
+use crate::{SuperStop, clear_hidden, read_super, write_super};
 use hb_disk::{Disk, MemDisk, Pick};
 use hb_ops::Meta;
 use std::alloc::Global;
@@ -201,6 +201,41 @@ fn a_gate_is_torn_open(rt: HostRuntime) -> Result<(), Fail> {
     assert!(rt; wrote(&mut disk, 1));
     for (before, turns) in rows {
         assert_eq!(rt; turns_of_all(rt.alloc(), &disk, before)?, turns);
+    }
+    Ok(())
+}
+
+/// The superblock of META with a turn, behind a gate with this byte.
+fn behind(gate: u8, turn: u8) -> [u8; 41] {
+    let mut bytes = with(10, turn);
+    bytes[0] = gate;
+    bytes
+}
+
+/// Whether the place of turn 1 is made to hide nothing but what META says.
+fn cleared<D: Disk>(disk: &mut D) -> bool
+    requires { 8192 ≤ (D.model disk.old).size }
+{
+    clear_hidden(disk, 1, &META).is_ok()
+}
+
+#[test]
+fn a_hidden_body_is_cleared(rt: HostRuntime) -> Result<(), Fail> {
+    let mut open = CUT_SHORT;
+    open[0] = 0xA5;
+    let rows = [
+        (CUT_SHORT, [0; 41], 3),
+        (behind(0, 1), behind(0, 1), 1),
+        (behind(0, 3), behind(0, 3), 1),
+        (open, open, 1),
+        ([0; 41], [0; 41], 1),
+    ];
+    for (place, after, calls) in rows {
+        let bytes = places(rt.alloc(), &SUPER, &place)?;
+        let mut disk = MemDisk::new(rt.alloc(), bytes);
+        assert!(rt; cleared(&mut disk));
+        assert_eq!(rt; disk.calls(), calls);
+        assert_eq!(rt; disk.bytes().get(4096..4137), Some(after.as_slice()));
     }
     Ok(())
 }

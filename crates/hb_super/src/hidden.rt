@@ -1,0 +1,111 @@
+//! What stands behind a closed gate.
+ghost use Rattle.std.specs.Prelude.{◌≡◌, ◌≢◌, ◌⊎◌, ℕ, ◌+◌, ◌*◌, ◌≤◌, List, length, drop, get_or, IsTrue, IsSome, IfSome, IfOk, OnOk, OnErr};
+ghost use Rattle.hb_outside.specs.Streams.{Rose};
+ghost use Rattle.hb_disk.specs.Model.{Torn, Stays};
+ghost use Rattle.hb_disk.specs.Calls.{Leaves, WriteFaults, Becomes, IsSynced, OnlyReads, open_gate};
+ghost use Rattle.hb_ops.specs.declared.meta.Meta.{Meta as Said};
+ghost use Rattle.hb_super.specs.Superblocks.{IsLegal, IsNewest, place_of, next_turn};
+ghost use Rattle.hb_super.specs.Moments.{HidesNoOther};
+ghost use Rattle.hb_super.specs.Hidden.{SaysOf, DifferIs, OtherIs, HidesIs, ClearLeaves};
+
+use crate::body::{BODY, body_of, fields_of, is_layout};
+use crate::reading::place_at;
+use hb_disk::{Disk, DiskFault, OPEN};
+use hb_ops::Meta;
+use hb_outside::Failed;
+
+/// What a body of the turn says. None: it is no legal body of this turn.
+fn said_in(body: &[u8], turn: u8) -> Option<Meta>
+    requires long { length body.now ≡ 40 }
+    requires turn { turn ≤ 3 }
+    ensures { SaysOf turn result body.now }
+{
+    let (found, said) = fields_of(body);
+    if found == turn && is_layout(&said) && body == body_of(turn, &said).as_slice() {
+        Some(said)
+    } else {
+        None
+    }
+}
+
+/// Whether two say something else.
+fn differ(one: &Meta, other: &Meta) -> bool
+    ensures { DifferIs result one.now other.now }
+{
+    *one != *other
+}
+
+/// Whether the first 41 bytes of a place are a closed gate over a body of the turn that says something else.
+fn is_other(bytes: &[u8], turn: u8, meta: &Meta) -> bool
+    requires long { length bytes.now ≡ 41 }
+    requires turn { turn ≤ 3 }
+    ensures { OtherIs result turn meta.now (get_or bytes.now 0 0) (drop 1 bytes.now) }
+{
+    match said_in(&bytes[1..], turn) {
+        Some(said) => bytes[0] != OPEN && differ(&said, meta),
+        None => false,
+    }
+}
+
+/// Whether the place of the turn is closed over a body of the turn that says something else.
+fn hides_other<D: Disk>(disk: &mut D, turn: u8, meta: &Meta) -> Result<bool, Failed>
+    requires room { 8192 ≤ (D.model disk.old).size }
+    requires turn { turn ≤ 3 }
+    ensures hides { IfOk result (λ hides. IfSome (D.model disk.old).told (λ b. HidesIs hides b turn meta.now)) }
+    ensures cause { OnErr result (Rose (D.model disk.old).read_faults (D.model disk.new).read_faults) }
+    ensures only_reads { OnlyReads (D.model disk.old) (D.model disk.new) }
+{
+    let mut bytes = [0; 1 + BODY];
+    disk.read(place_at(turn), &mut bytes)?;
+    Ok(is_other(&bytes, turn, meta))
+}
+
+/// Zeroes the body of the turn's place, and syncs.
+fn zero_body<D: Disk>(disk: &mut D, turn: u8) -> Result<(), Failed>
+    requires room { 8192 ≤ (D.model disk.old).size }
+    ensures hidden { OnOk result (IfSome (D.model disk.new).told (λ b. (meta : Said) → HidesNoOther b turn meta)) }
+    ensures durable { OnOk result (IfSome (D.model disk.new).told
+        (λ b. (c : List ℕ) → (D.model disk.new).Image c → c ≡ b)) }
+    ensures moments { Leaves (D.model disk.old) (D.model disk.new)
+        (λ c. (a : List ℕ) × (D.model disk.old).Image a × Torn (place_of turn + 1) 40 a c) }
+    ensures place { Becomes (Torn (place_of turn + 1) 40) (D.model disk.old) (D.model disk.new) }
+    ensures clock { IsSome (D.model disk.old).told → (D.model disk.new).clock ≤ (D.model disk.old).clock + 2 }
+    ensures faults { WriteFaults result (D.model disk.old) (D.model disk.new) }
+{
+    disk.zero(place_at(turn) + 1, BODY as u64)?;
+    disk.sync()
+}
+
+/// Where the place of this turn stands closed over a body of the turn that says something else than `meta`, zeroes that
+/// body and syncs: a write that was cut short left it there, and a crash while the gate is next closed could uncover
+/// it. Else it does nothing. One read, and at most two device calls that write.
+///
+/// It fails where the disk does. Then the body may hold any bytes, still behind its closed gate.
+pub fn clear_hidden<D: Disk>(disk: &mut D, turn: u8, meta: &Meta) -> Result<(), DiskFault>
+    requires room { 2 * 4096 ≤ (D.model disk.old).size }
+    requires legal { IsLegal turn meta.now }
+    ensures hidden { OnOk result (IfSome (D.model disk.new).told (λ b. HidesNoOther b turn meta.now)) }
+    ensures nothing { IfSome (D.model disk.old).told (λ b.
+        HidesNoOther b turn meta.now → OnlyReads (D.model disk.old) (D.model disk.new)) }
+    ensures closed { IfSome (D.model disk.old).told (λ b.
+        (get_or b (place_of turn) 0 ≢ open_gate) ⊎ OnlyReads (D.model disk.old) (D.model disk.new)) }
+    ensures place { Becomes (Torn (place_of turn + 1) 40) (D.model disk.old) (D.model disk.new) }
+    ensures moments { (old : ℕ) (said : Said) → turn ≡ next_turn old → IsSynced (D.model disk.old) 0 8192 →
+        IfSome (D.model disk.old).told (λ b. IsNewest b old said →
+        Leaves (D.model disk.old) (D.model disk.new) (ClearLeaves (D.model disk.old) old said turn)) }
+    ensures newest { (old : ℕ) (said : Said) → turn ≡ next_turn old → IfSome (D.model disk.old).told (λ b.
+        IsNewest b old said → IfSome (D.model disk.new).told (λ c. IsNewest c old said)) }
+    ensures synced { IsSynced (D.model disk.old) 0 8192 → OnOk result (IsSynced (D.model disk.new) 0 8192) }
+    ensures durable { OnOk result (OnlyReads (D.model disk.old) (D.model disk.new)
+        ⊎ IfSome (D.model disk.new).told (λ b. (c : List ℕ) → (D.model disk.new).Image c → c ≡ b)) }
+    ensures clock { IsSome (D.model disk.old).told → (D.model disk.new).clock ≤ (D.model disk.old).clock + 2 }
+    ensures cause { OnErr result (Rose (D.model disk.old).read_faults (D.model disk.new).read_faults
+        ⊎ Rose (D.model disk.old).write_faults (D.model disk.new).write_faults) }
+    ensures reads_later { (D.model disk.old).read_faults ≤ (D.model disk.new).read_faults }
+    ensures writes_later { (D.model disk.old).write_faults ≤ (D.model disk.new).write_faults }
+{
+    if !hides_other(disk, turn, meta)? {
+        return Ok(());
+    }
+    Ok(zero_body(disk, turn)?)
+}
