@@ -1,14 +1,13 @@
 -- The file that is made first: its page has a spelling, it is sound, and it has no record.
-use Rattle.std.proofs.Common.{◌≡◌, ◌≢◌, inl, inr, ℕ, zero, suc, ◌+◌, ◌-◌, ◌*◌, ◌^◌, ◌<◌, ◌≤◌, nat_le, cond, List, [], ◌∷◌, ◌++◌, length, replicate, flat_map, slice_index, get_or, Option, Some, None, IsNone, refl, sym, ap, ◌∙◌, subst, arith, rules, length-append}
-use Rattle.std.specs.List.{All, EachIndex}
+use Rattle.std.proofs.Common.{◌≡◌, ℕ, zero, suc, ◌+◌, ◌-◌, ◌*◌, ◌^◌, ◌<◌, ◌≤◌, List, [], ◌++◌, length, replicate, slice_index, refl, sym, ◌∙◌, arith, length-append}
 use Rattle.std.proofs.lemmas.List.{length-replicate}
 use Rattle.std.proofs.lemmas.List.Elements.{All-replicate, All-nil}
 use Rattle.hb_space.specs.Boxes.{IsArea, whole_area}
 use Rattle.hb_space.specs.Points.{IsPoint}
-use Rattle.hb_space.specs.declared.form.TheConstants.{KMAX, PAGE}
+use Rattle.hb_space.specs.declared.form.TheConstants.{KMAX}
 use Rattle.hb_outside.specs.Numbers.{big_endian}
 use Rattle.hb_frag.specs.declared.leaves.Leaf.TheVariants.{Records}
-use Rattle.hb_frag.specs.Grammar.{HasSpelling, FitsRecord, leaf_bytes, tree_bytes, page_fields, point_bytes}
+use Rattle.hb_frag.specs.Grammar.{HasSpelling, FitsRecord, leaf_bytes, tree_bytes, point_bytes}
 use Rattle.hb_frag.specs.Trees.{Tip}
 use Rattle.hbpi.specs.Restart.{new_page}
 
@@ -45,15 +44,14 @@ empty_leaf : length (leaf_bytes (Records [])) ≡ 3
 unfolding big_endian
 empty_leaf = refl
 
+three_long : (a b c : List ℕ) (n : ℕ) → length a ≡ n → length b ≡ n → length c ≡ 3 → length (a ++ b ++ c) ≡ n + n + 3
+three_long a b c n first second third = omega (arith, length-append (a ++ b) c, length-append a b)
+
 pub new_page_spelling : (k : ℕ) → 1 ≤ k → k ≤ KMAX → HasSpelling (new_page k)
 new_page_spelling k some few = record {
   fits = (omega arith, whole_is_area k some few, (omega arith, All-nil (FitsRecord (length (replicate k 0)))));
   short =
-      let lo = point_bytes (whole_area k).lo in
-      let hi = point_bytes (whole_area k).hi in
-      let leaf = tree_bytes (Tip (Records [])) in
-      let lo_long : length (point_bytes (whole_area k).lo) ≡ 8 * k = long_point k 0 in
-      let hi_long : length (point_bytes (whole_area k).hi) ≡ 8 * k = long_point k (2 ^ 64 - 1) in
-      let leaf_long : length (tree_bytes (Tip (Records []))) ≡ 3 = empty_leaf in
-      omega (arith, few, lo_long, hi_long, leaf_long, length-append hi leaf, length-append lo (hi ++ leaf));
+      let long : length (point_bytes (whole_area k).lo ++ point_bytes (whole_area k).hi ++ tree_bytes (Tip (Records []))) ≡ 8 * k + 8 * k + 3 =
+          three_long (point_bytes (whole_area k).lo) (point_bytes (whole_area k).hi) (tree_bytes (Tip (Records []))) (8 * k) (long_point k 0) (long_point k (2 ^ 64 - 1)) empty_leaf in
+      omega (arith, few, long);
 }
