@@ -4,3 +4,7 @@ pub mod PutTexts
 pub mod RunLines
 pub mod EndLaws
 pub mod NewFile
+pub mod Boxes
+pub mod PartTests
+pub mod Own
+pub mod Lone

@@ -6,3 +6,4 @@ pub mod Ends
 pub mod Layouts
 pub mod Audit
 pub mod Restart
+pub mod OnePage
