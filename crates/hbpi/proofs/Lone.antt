@@ -1,5 +1,5 @@
 -- A file of one page: where it is sound, and which rule it breaks.
-use Rattle.std.proofs.Common.{◌≡◌, ◌≢◌, ◌⊎◌, ◌↔◌, inl, inr, ℕ, zero, suc, ◌+◌, ◌<◌, ◌≤◌, ◌==◌, Bool, true, false, cond, List, [], ◌∷◌, ◌++◌, length, Contains, Option, Some, None, refl, sym, ap, ◌∙◌, subst, arith, ne_eqb}
+use Rattle.std.proofs.Common.{◌≡◌, ◌⊎◌, inl, inr, ℕ, ◌+◌, ◌<◌, ◌≤◌, ◌==◌, Bool, true, false, cond, List, [], ◌∷◌, length, flat_map, Contains, Option, Some, None, refl, sym, ap, ◌∙◌, subst, arith, ne_eqb}
 use Rattle.std.specs.List.{All}
 use Rattle.std.proofs.lemmas.Bool.{cases_eq}
 use Rattle.hb_space.specs.Boxes.{Area, IsArea, whole_area}
@@ -8,13 +8,16 @@ use Rattle.hb_frag.specs.declared.leaves.Leaf.TheVariants.{Records, Child, Sibli
 use Rattle.hb_frag.specs.declared.pages.LivePage.{LivePage}
 use Rattle.hb_frag.specs.declared.pages.Page.{Page}
 use Rattle.hb_frag.specs.declared.pages.Page.TheVariants.{Live, Free}
-use Rattle.hb_frag.specs.Leaves.{Placed, WellCut, IsWellCut, leaves, leaves_of, siblings, siblings_of}
+use Rattle.std.proofs.lemmas.List.{append-nil}
+use Rattle.hb_frag.specs.Leaves.{records_of, Placed, WellCut, IsWellCut, leaves, leaves_of, siblings, siblings_of}
 use Rattle.hb_frag.specs.Rules.{BelongsAt, Fits, IsFilledRight, IsSiblingTip}
 use Rattle.hb_frag.specs.Trees.{Tree, Tip, Cut}
 use Rattle.hb_ops.specs.declared.meta.Meta.{Meta}
-use Rattle.hb_ops.specs.Files.{FileState, if_live, page_at, page_of, live_page}
-use Rattle.hb_ops.specs.Sound.{FitsFile, IsRooted, IsCounted, IsChain, AreWellMade, SiblingsMatch, ChildrenMatch, IsCovered, IsSound, count_name, times_named}
-use Rattle.hbpi.specs.OnePage.{lone, IsTop, IsOwn, HasNoSibling}
+use Rattle.hb_ops.specs.LocalRule.{BreaksFirst}
+use Rattle.hbpi.specs.Audit.{Names, KeepsLocally}
+use Rattle.hb_ops.specs.Files.{page_records, file_records, FileState, if_live, page_at, live_page}
+use Rattle.hb_ops.specs.Sound.{FitsFile, IsRooted, IsCounted, IsChain, AreWellMade, SiblingsMatch, ChildrenMatch, IsCovered, IsSound, count_name}
+use Rattle.hbpi.specs.OnePage.{lone, IsTop, HasNoSibling, PageRule}
 use Rattle.hbpi.proofs.Boxes.{contains_one, leaf_is_smaller}
 use Rattle.hbpi.proofs.Own.{placed, leaf_sibling, no_siblings, all_own, no_child}
 
@@ -146,3 +149,86 @@ module _ (meta : Meta) (page : LivePage) where
   pub no_siblings_match : WellCut page → IsFilledRight page meta.dcap meta.icap → IsArea page.area → ¬ (HasNoSibling page) → ¬ (SiblingsMatch file)
   no_siblings_match cut filled is_area some matches =
       some (all_own page.frag page.area (own_or page.frag refl cut is_area.same filled.own matches))
+
+-- what a page keeps whose one broken rule is 10
+ten_parts : (page : LivePage) (meta : Meta) → BreaksFirst 10 page meta
+    → Fits page meta.k meta.height × WellCut page × IsFilledRight page meta.dcap meta.icap
+ten_parts page meta (inl three) = absurd (let e = three.0 in omega (arith, e))
+ten_parts page meta (inr (inl four)) = absurd (let e = four.0 in omega (arith, e))
+ten_parts page meta (inr (inr (inl five))) = absurd (let e = five.0 in omega (arith, e))
+ten_parts page meta (inr (inr (inr (inl six)))) = absurd (let e = six.0 in omega (arith, e))
+ten_parts page meta (inr (inr (inr (inr ten)))) = (ten.1, ten.2, ten.3)
+
+breaks_some : (rule : ℕ) (page : LivePage) (meta : Meta) → BreaksFirst rule page meta → 3 ≤ rule
+breaks_some rule page meta (inl three) = let e = three.0 in omega (arith, e)
+breaks_some rule page meta (inr (inl four)) = let e = four.0 in omega (arith, e)
+breaks_some rule page meta (inr (inr (inl five))) = let e = five.0 in omega (arith, e)
+breaks_some rule page meta (inr (inr (inr (inl six)))) = let e = six.0 in omega (arith, e)
+breaks_some rule page meta (inr (inr (inr (inr ten)))) = let e = ten.0 in omega (arith, e)
+
+module _ (meta : Meta) (page : LivePage) (high : meta.high ≡ 1) (low : meta.height ≤ 1) (rooted : IsRooted (lone meta (Live page))) (counted : IsCounted (lone meta (Live page))) where
+  top : IsTop meta page
+  top = (from_rooted meta page high rooted).3
+
+  sound_with : FitsFile meta page → HasNoSibling page → IsSound (lone meta (Live page))
+  sound_with fits own = record {
+    rooted = rooted;
+    counted = counted;
+    well_made = to_well_made meta page fits;
+    siblings = to_siblings meta page top low fits.filled own;
+    children = to_children meta page top low fits.filled own;
+    covered = to_covered meta page top low fits.filled own;
+  }
+
+  -- a page that breaks none of the rules
+  pub page_sound : (rule : ℕ) → rule ≡ 0 → PageRule rule meta page → IsSound (lone meta (Live page))
+  page_sound rule none (inl keeps) = sound_with keeps.1 keeps.2
+  page_sound rule none (inr (inl first)) = absurd (let some = breaks_some rule page meta first.1 in omega (arith, some, none))
+  page_sound rule none (inr (inr (inl seven))) = absurd (let e = seven.0 in omega (arith, e, none))
+  page_sound rule none (inr (inr (inr ten))) = absurd (let e = ten.0 in omega (arith, e, none))
+
+  pub page_count : (rule : ℕ) → rule ≡ 0 → PageRule rule meta page → file_records (lone meta (Live page)) ≡ flat_map records_of (leaves page.frag)
+  page_count rule none breaks =
+      let e = top.0 in
+      let level : page.level ≡ 0 = omega (arith, e, low) in
+      let shown : (n : ℕ) → n ≡ 0 → cond (n == 0) (flat_map records_of (leaves page.frag)) [] ≡ flat_map records_of (leaves page.frag) =
+          λ n zero_is. let Q : ℕ → Type 0 = λ m. cond (m == 0) (flat_map records_of (leaves page.frag)) [] ≡ flat_map records_of (leaves page.frag) in subst Q (sym zero_is) refl in
+      append-nil (page_records (Live page)) ∙ shown page.level level
+
+  keeps_locally : FitsFile meta page ⊎ BreaksFirst 10 page meta → KeepsLocally (lone meta (Live page))
+  keeps_locally keeps id q is = let Q : LivePage → Type 0 = λ p. FitsFile meta p ⊎ BreaksFirst 10 p meta in subst Q (alone meta page id q is).1 keeps
+
+  cut_and_filled : FitsFile meta page ⊎ BreaksFirst 10 page meta → WellCut page × IsFilledRight page meta.dcap meta.icap
+  cut_and_filled (inl fits) = (fits.well_cut, fits.filled)
+  cut_and_filled (inr ten) = let parts = ten_parts page meta ten in (parts.1, parts.2)
+
+  -- the rule that it breaks is named
+  pub page_names : IsArea page.area → (rule : ℕ) → 0 < rule → PageRule rule meta page → Names (lone meta (Live page)) 1 rule
+  page_names is_area rule some (inl keeps) = absurd (let e = keeps.0 in omega (arith, e, some))
+  page_names is_area rule some (inr (inl first)) = inr (inr (inl (first.0, rooted, counted, (page, refl, first.1))))
+  page_names is_area rule some (inr (inr (inl seven))) =
+      let parts = cut_and_filled seven.1 in
+      inr (inr (inr (inl (seven.0, refl, rooted, counted, keeps_locally seven.1, no_siblings_match meta page parts.0 parts.1 is_area seven.2))))
+  page_names is_area rule some (inr (inr (inr ten))) =
+      let parts = ten_parts page meta ten.1 in
+      inr (inr (inr (inr (inr (inr (ten.0, rooted, counted, to_siblings meta page top low parts.2 ten.2, to_children meta page top low parts.2 ten.2, to_covered meta page top low parts.2 ten.2,
+      (page, refl, ten.1)))))))
+
+not_broken : (rule : ℕ) (page : LivePage) (meta : Meta) → BreaksFirst rule page meta → FitsFile meta page → ⊥
+not_broken rule page meta (inl three) fits = three.1 fits.fits
+not_broken rule page meta (inr (inl four)) fits = four.2 fits.well_cut
+not_broken rule page meta (inr (inr (inl five))) fits = five.3 fits.filled
+not_broken rule page meta (inr (inr (inr (inl six)))) fits = six.4 fits.in_order
+not_broken rule page meta (inr (inr (inr (inr ten)))) fits = ten.5 fits.normal
+
+-- a sound file breaks no rule
+pub sound_breaks_none : (s : FileState) (page rule : ℕ) → Names s page rule → IsSound s → ⊥
+sound_breaks_none s page rule (inl one) sound = one.2 sound.rooted
+sound_breaks_none s page rule (inr (inl two)) sound = two.3 sound.counted
+sound_breaks_none s page rule (inr (inr (inl first))) sound =
+    let b = first.3 in not_broken rule b.0 s.meta b.2 (sound.well_made page b.0 b.1)
+sound_breaks_none s page rule (inr (inr (inr (inl seven)))) sound = seven.5 sound.siblings
+sound_breaks_none s page rule (inr (inr (inr (inr (inl eight))))) sound = eight.6 sound.children
+sound_breaks_none s page rule (inr (inr (inr (inr (inr (inl nine)))))) sound = nine.6 sound.covered
+sound_breaks_none s page rule (inr (inr (inr (inr (inr (inr ten)))))) sound =
+    let b = ten.6 in not_broken 10 b.0 s.meta b.2 (sound.well_made page b.0 b.1)

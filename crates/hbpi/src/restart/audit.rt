@@ -110,3 +110,52 @@ fn own_rule(local: Option<u8>, own: bool) -> u8
         None => 0,
     }
 }
+
+/// The first rule that the file of this page in use breaks, or the number of its records.
+fn audit_page(meta: &Meta, page: &LivePage) -> Result<u64, Broken>
+    requires layout { IsLayout meta.now }
+    requires one { meta.now.high ≡ 1 }
+    requires low { meta.now.height ≤ 1 }
+    requires spelling { HasSpelling (Live page.now) }
+    ensures sound { IfOk result (λ n. IsSound (lone meta.now (Live page.now)) × (n ≡ length (file_records (lone meta.now (Live page.now))))) }
+    ensures names { IfErr result (λ b. Names (lone meta.now (Live page.now)) b.page b.rule) }
+{
+    spelling_law();
+    if !is_rooted(meta, page) {
+        return Err(Broken { page: 0, rule: 1 });
+    }
+    if !is_counted(meta) {
+        return Err(Broken {
+            page: meta.free,
+            rule: 2,
+        });
+    }
+    let rule = page_rule(meta, page);
+    if rule > 0 {
+        return Err(Broken { page: 1, rule });
+    }
+    Ok(count_records(&page.frag))
+}
+
+/// The first rule that a file of one page breaks, or the number of its records. The rules are tested in their order.
+/// No file of one page keeps the rules 3 to 7 and breaks the rule 8 or 9.
+pub(crate) fn audit(meta: &Meta, page: &Page) -> Result<u64, Broken>
+    requires layout { IsLayout meta.now }
+    requires one { meta.now.high ≡ 1 }
+    requires low { meta.now.height ≤ 1 }
+    requires spelling { HasSpelling page.now }
+    ensures sound { IfOk result (λ n. IsSound (lone meta.now page.now) × (n ≡ length (file_records (lone meta.now page.now)))) }
+    ensures names { IfErr result (λ b. Names (lone meta.now page.now) b.page b.rule) }
+{
+    match page {
+        Page::Live(page) => audit_page(meta, page),
+        // a free page is no root
+        Page::Free { .. } => Err(Broken { page: 0, rule: 1 }),
+    }
+}
+
+/// A sound file breaks no rule.
+#[tactic(auto, using(crate::proofs::Lone::sound_breaks_none))]
+pub(crate) fn a_sound_file_breaks_no_rule()
+    ensures { (s : FileState) (page rule : ℕ) → Names s page rule → IsSound s → ⊥ }
+{}
