@@ -8,3 +8,4 @@ pub mod Boxes
 pub mod PartTests
 pub mod Own
 pub mod Lone
+pub mod Made

@@ -7,3 +7,4 @@ pub mod Layouts
 pub mod Audit
 pub mod Restart
 pub mod OnePage
+pub mod Creation

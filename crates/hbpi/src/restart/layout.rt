@@ -1,8 +1,12 @@
 //! What a new file is to be.
-ghost use Rattle.std.specs.Prelude.{◌≡◌, ℕ, ◌≤◌, Some, IsNone, IfOk, IfErr, IfSome};
+ghost use Rattle.std.specs.Prelude.{◌≡◌, [], ◌≤◌, Some, IsNone, IfOk, IfErr, IfSome};
 ghost use Rattle.hb_space.specs.declared.form.TheConstants.{KMAX};
 ghost use Rattle.hb_frag.specs.Grammar.{HasSpelling};
-ghost use Rattle.hbpi.specs.Restart.{new_meta, new_page};
+ghost use Rattle.std.specs.FinMap as finite;
+ghost use Rattle.hb_ops.specs.Files.{contents_of};
+ghost use Rattle.hb_ops.specs.Sound.{IsSound};
+ghost use Rattle.hbpi.specs.Restart.{new_file, new_meta, new_page};
+ghost use Rattle.hbpi.specs.declared.restart.layout.Layout.{Layout as Kind};
 ghost use Rattle.hbpi.specs.Layouts.{first_fault, layout_fault, layout_size};
 
 use crate::restart::faults::{Field, OpenFault};
@@ -129,3 +133,9 @@ pub(crate) fn empty_page(alloc: Global, k: u8) -> Page
         frag: Frag::tip(Leaf::Records(Records::new(Vec::new(alloc)))),
     })
 }
+
+/// A new file is sound and has no record.
+pub(crate) fn a_new_file_is_sound()
+    ensures sound { (l : Kind) → IsNone (layout_fault l) → IsSound (new_file l) }
+    ensures empty { (l : Kind) → contents_of (new_file l) ≡ finite.from_entries [] }
+{}
