@@ -1,19 +1,19 @@
 -- What the bytes of a new file are.
 use Rattle.std.specs.Result.{is_err}
-use Rattle.std.proofs.Common.{true, false, ◌≡◌, ◌≢◌, ◌⊎◌, inl, inr, ℕ, ◌+◌, ◌*◌, ◌-◌, ◌%◌, ◌<◌, ◌≤◌, List, [], ◌∷◌, ◌++◌, length, take, drop, replicate, get_or, Option, Some, None, IsSome, IfSome, Result, Ok, Err, OnOk, refl, sym, ap, ◌∙◌, subst, arith, length-take, length-drop}
+use Rattle.std.proofs.Common.{true, false, ◌≡◌, ◌⊎◌, inl, inr, ℕ, ◌+◌, ◌*◌, ◌-◌, ◌<◌, ◌≤◌, List, [], ◌∷◌, ◌++◌, length, take, drop, replicate, get_or, Option, Some, None, IsSome, IfSome, Result, Ok, Err, OnOk, refl, sym, ap, ◌∙◌, subst, arith, length-take, length-drop}
 use Rattle.std.proofs.lemmas.List.{get_or-take, get_or-drop, ext_get_or, length-replicate, get_or-replicate}
 use Rattle.hb_space.specs.declared.form.TheConstants.{PAGE}
 use Rattle.hb_outside.specs.Numbers.{big_endian}
 use Rattle.hb_disk.specs.Model.{DiskModel, IsDisk, overwritten}
-use Rattle.hb_disk.specs.Calls.{Apart, IsSynced, open_gate}
-use Rattle.hb_disk.specs.RunLaws.{some_value, at_value, of_value, if_value, has_value, some_same, IsSynced-durable}
+use Rattle.hb_disk.specs.Calls.{open_gate}
+use Rattle.hb_disk.specs.RunLaws.{at_value, of_value, has_value, IsSynced-durable}
 use Rattle.hb_disk.specs.TornLaws.{IsOutside, length-overwritten, overwritten-inside, overwritten-outside, overwritten-reads}
 use Rattle.hb_frag.specs.declared.pages.Page.{Page}
 use Rattle.hb_frag.specs.Grammar.{SpellsPage}
-use Rattle.hb_wal.specs.Frames.{range, IsPayload}
+use Rattle.hb_wal.specs.Frames.{range}
 use Rattle.hb_super.specs.Superblocks.{IsNewest, body_bytes}
 use Rattle.hb_ops.specs.declared.meta.Meta.{Meta}
-use Rattle.hb_ops.specs.Files.{FileState, page_of}
+use Rattle.hb_ops.specs.Files.{page_of}
 use Rattle.hb_store.specs.Opening.{file_size, log_bytes, log_place, page_place, place_bytes, OpensTo}
 use Rattle.hb_store.specs.Keeps.{IsFresh}
 use Rattle.hb_store.specs.ReplayLaws.{opens_fresh}

@@ -1,5 +1,5 @@
 -- The file that is made first: its page has a spelling, it is sound, and it has no record.
-use Rattle.std.proofs.Common.{◌≡◌, inl, nat_le, ◌&&◌, Bool, true, false, cond, ◌∷◌, Option, Some, None, IsNone, AllPairs, ℕ, zero, suc, ◌+◌, ◌-◌, ◌*◌, ◌^◌, ◌<◌, ◌≤◌, List, [], ◌++◌, length, replicate, slice_index, refl, sym, ◌∙◌, arith, length-append}
+use Rattle.std.proofs.Common.{◌≡◌, inl, nat_le, ◌&&◌, Bool, true, false, cond, Option, Some, None, IsNone, ℕ, zero, suc, ◌+◌, ◌-◌, ◌*◌, ◌^◌, ◌<◌, ◌≤◌, List, [], ◌++◌, length, replicate, slice_index, refl, sym, ◌∙◌, arith, length-append}
 use Rattle.std.proofs.lemmas.List.{length-replicate}
 use Rattle.std.proofs.lemmas.List.Elements.{All-replicate, All-nil}
 use Rattle.hb_space.specs.Boxes.{IsArea, whole_area}
@@ -14,7 +14,7 @@ use Rattle.std.proofs.lemmas.List.Elements.{All-cons}
 use Rattle.hb_space.specs.Boxes.{Holds}
 use Rattle.hb_space.specs.declared.form.TheConstants.{ICAP_MIN}
 use Rattle.hb_frag.specs.declared.pages.LivePage.{LivePage}
-use Rattle.hb_frag.specs.Rules.{BelongsAt, IsInOrder, Precedes}
+use Rattle.hb_frag.specs.Rules.{BelongsAt, IsInOrder}
 use Rattle.hb_super.specs.Superblocks.{IsLayout}
 use Rattle.hb_ops.specs.Sound.{FitsFile, IsSound}
 use Rattle.hb_ops.specs.Files.{file_records}
