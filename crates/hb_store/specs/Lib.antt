@@ -9,3 +9,4 @@ pub mod Calls
 pub mod Stops
 pub mod ReplayLists
 pub mod ReplayLaws
+pub mod StoreLaws

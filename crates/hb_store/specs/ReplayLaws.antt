@@ -194,7 +194,7 @@ opens_elsewhere b c turn said payloads groups s opens newest long same_log same_
         subst Q (sym (same_places id page is none)) spells
     page_in id page is (Some touched) some same = same
 
-zeros_end : (m : ℕ) → IsEnd (replicate m 0)
+pub zeros_end : (m : ℕ) → IsEnd (replicate m 0)
 zeros_end zero = tt
 zeros_end (suc m) = inr (λ e. cc e)
 

@@ -1,7 +1,8 @@
 ghost use Rattle.std.specs.Prelude.{◌≡◌, ◌≤◌, IfOk, IfErr, IfSome, IsErrOf};
 ghost use Rattle.hb_outside.specs.Streams.{Rose};
 ghost use Rattle.hb_disk.specs.Calls.{OnlyReads};
-ghost use Rattle.hb_store.specs.Keeps.{MayHold};
+ghost use Rattle.hb_super.specs.Superblocks.{IsLegal};
+ghost use Rattle.hb_store.specs.Opening.{file_size};
 ghost use Rattle.hb_store.specs.Stops.{ReadsLog, ReadsNoLog, IsTouched};
 ghost use Rattle.hb_store.specs.declared.touched.LogStop.TheVariants.{DiskFault};
 
@@ -17,7 +18,8 @@ pub fn read_log<D: Disk>(
     turn: u8,
     meta: &Meta,
 ) -> Result<Touched, LogStop>
-    requires fits { MayHold (D.model disk.old).size turn meta.now }
+    requires legal { IsLegal turn meta.now }
+    requires room { file_size meta.now ≤ (D.model disk.old).size }
     requires stub { ⊥ }
     ensures read { IfOk result (λ t. IfSome (D.model disk.old).told (λ b. ReadsLog b turn meta.now t)) }
     ensures touched { IfOk result (λ t. IsTouched meta.now t) }
