@@ -8,3 +8,4 @@ pub mod Audit
 pub mod Restart
 pub mod OnePage
 pub mod Creation
+pub mod Looking

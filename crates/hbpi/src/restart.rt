@@ -4,4 +4,5 @@ pub(crate) mod audit;
 pub(crate) mod creation;
 pub(crate) mod faults;
 pub(crate) mod layout;
+pub(crate) mod looking;
 pub(crate) mod recovery;
