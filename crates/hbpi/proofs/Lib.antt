@@ -9,3 +9,4 @@ pub mod PartTests
 pub mod Own
 pub mod Lone
 pub mod Made
+pub mod Found

@@ -90,3 +90,8 @@ pub record IsAudited (told : Option (List ℕ)) (said : Meta) (touched : Option 
   pub sound : IsSound (lone said page)
   pub counted : count ≡ length (file_records (lone said page))
   pub there : IfSome told (λ b. IsPageIn b said 1 touched page)
+
+-- the rule that the audit names of a page's file
+abbrev pub IsNamed : OpenFault → Meta → Page → Type 0
+IsNamed (faults.Unsound page rule) said p = Names (lone said p) page rule
+IsNamed _ said p = ⊥
