@@ -1,8 +1,8 @@
 ghost use Rattle.std.specs.Prelude.{◌≡◌, ◌<◌, ◌≤◌, ◌^◌, length, IfOk, IfErr, IfSome, IsErrOf, IsOk};
 ghost use Rattle.hb_outside.specs.Streams.{Rose};
 ghost use Rattle.hb_disk.specs.Calls.{OnlyReads};
-ghost use Rattle.hb_store.specs.Keeps.{MayHold};
-ghost use Rattle.hb_store.specs.Opening.{log_place};
+ghost use Rattle.hb_super.specs.Superblocks.{IsLegal};
+ghost use Rattle.hb_store.specs.Opening.{file_size, log_place};
 ghost use Rattle.hb_store.specs.Replaying.{HasLimits, HasReplayed, NamesBad, NamesBadOr, log_stop, replayed_of};
 ghost use Rattle.hb_store.specs.Stops.{ReadsLog, ReadsNoLog, IsTouched};
 ghost use Rattle.hb_store.specs.declared.touched.LogStop.TheVariants.{DiskFault};
@@ -72,7 +72,8 @@ pub fn read_log<D: Disk>(
     turn: u8,
     meta: &Meta,
 ) -> Result<Touched, LogStop>
-    requires fits { MayHold (D.model disk.old).size turn meta.now }
+    requires legal { IsLegal turn meta.now }
+    requires room { file_size meta.now ≤ (D.model disk.old).size }
     ensures read { IfOk result (λ t. IfSome (D.model disk.old).told (λ b. ReadsLog b turn meta.now t)) }
     ensures touched { IfOk result (λ t. IsTouched meta.now t) }
     ensures stopped { IfErr result (λ stop. IfSome (D.model disk.old).told (λ b. ReadsNoLog b turn meta.now stop)) }

@@ -3,3 +3,4 @@ mod Supers
 mod Writes
 mod Newest
 mod Clears
+mod Firsts

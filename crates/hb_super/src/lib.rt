@@ -24,4 +24,4 @@ mod writing;
 
 pub use hidden::clear_hidden;
 pub use reading::{SuperStop, read_super};
-pub use writing::write_super;
+pub use writing::{write_first_super, write_super};

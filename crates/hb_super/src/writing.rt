@@ -1,6 +1,6 @@
-ghost use Rattle.std.specs.Prelude.{◌≡◌, ℕ, ◌+◌, ◌*◌, ◌≤◌, ◌∷◌, List, Some, IsSome, IfSome, OnOk, ◌⊎◌};
+ghost use Rattle.std.specs.Prelude.{◌≢◌, get_or, ◌≡◌, ℕ, ◌+◌, ◌*◌, ◌≤◌, ◌∷◌, List, Some, IsSome, IfSome, OnOk, ◌⊎◌};
 ghost use Rattle.hb_disk.specs.Model.{overwritten, Torn};
-ghost use Rattle.hb_disk.specs.Calls.{Leaves, WriteFaults, Becomes, IsSynced, open_gate};
+ghost use Rattle.hb_disk.specs.Calls.{Leaves, FrameOrNot, WriteFaults, Becomes, IsSynced, open_gate};
 ghost use Rattle.hb_ops.specs.declared.meta.Meta.{Meta as Said};
 ghost use Rattle.hb_super.specs.Superblocks.{IsLegal, IsNewest, body_bytes, place_of, next_turn};
 ghost use Rattle.hb_super.specs.Moments.{WriteLeaves};
@@ -40,4 +40,27 @@ pub fn write_super<D: Disk>(disk: &mut D, turn: u8, meta: &Meta) -> Result<(), D
     disk.write(place, &[CLOSED])?;
     disk.sync()?;
     Ok(write_behind_gate(disk, place, &body)?)
+}
+
+/// Writes the superblock of turn 0 of a new file, in places that were zeroed and synced: the body, then the gate, each
+/// with a sync. Four device calls. Each image of a moment inside has the superblock whole, or none in its place.
+pub fn write_first_super<D: Disk>(disk: &mut D, meta: &Meta) -> Result<(), DiskFault>
+    requires room { 2 * 4096 ≤ (D.model disk.old).size }
+    requires legal { IsLegal 0 meta.now }
+    requires closed { IsSome (D.model disk.old).told →
+        (c : List ℕ) → (D.model disk.old).Image c → get_or c 0 0 ≢ open_gate }
+    ensures written { OnOk result (IfSome (D.model disk.old).told (λ b. (D.model disk.new).told
+        ≡ Some (overwritten b 0 (open_gate ∷ body_bytes 0 meta.now)))) }
+    ensures durable { OnOk result (IfSome (D.model disk.new).told
+        (λ b. (c : List ℕ) → (D.model disk.new).Image c → c ≡ b)) }
+    ensures newest { OnOk result (IfSome (D.model disk.old).told (λ b. get_or b 4096 0 ≢ open_gate →
+        IfSome (D.model disk.new).told (λ c. IsNewest c 0 meta.now))) }
+    ensures moments { IsSome (D.model disk.old).told → Leaves (D.model disk.old) (D.model disk.new)
+        (λ c. (b : List ℕ) × (D.model disk.old).Image b × FrameOrNot 0 (body_bytes 0 meta.now) b c) }
+    ensures place { Becomes (Torn 0 41) (D.model disk.old) (D.model disk.new) }
+    ensures clock { IsSome (D.model disk.old).told → (D.model disk.new).clock ≤ (D.model disk.old).clock + 4 }
+    ensures faults { WriteFaults result (D.model disk.old) (D.model disk.new) }
+{
+    let body = body_of(0, meta);
+    Ok(write_behind_gate(disk, place_at(0), &body)?)
 }

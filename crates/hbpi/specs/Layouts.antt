@@ -1,7 +1,6 @@
 -- The limits of a layout, and how many bytes it has.
 use Rattle.std.specs.Prelude.{ℕ, ◌+◌, ◌*◌, ◌&&◌, nat_le, if◌then◌else◌, Option, Some, None}
 use Rattle.hb_space.specs.declared.form.TheConstants.{PAGE, KMAX, ICAP_MIN}
-use Rattle.hbpi.specs.declared.restart.faults.Field.{Field}
 use Rattle.hbpi.specs.declared.restart.faults.Field.TheVariants as fields
 use Rattle.hbpi.specs.declared.restart.faults.OpenFault.{OpenFault}
 use Rattle.hbpi.specs.declared.restart.faults.OpenFault.TheVariants as faults

@@ -6,3 +6,6 @@ pub mod Ends
 pub mod Layouts
 pub mod Audit
 pub mod Restart
+pub mod OnePage
+pub mod Creation
+pub mod Looking

@@ -1,8 +1,8 @@
 -- What making and opening a file answer.
-use Rattle.std.specs.Prelude.{◌≡◌, ◌⊎◌, ℕ, ◌≤◌, ◌<◌, List, [], ◌∷◌, length, Option, Some, None}
+use Rattle.std.specs.Prelude.{◌≡◌, ◌⊎◌, ℕ, ◌≤◌, ◌<◌, List, [], ◌∷◌, length, None}
 use Rattle.hb_space.specs.Boxes.{whole_area}
 use Rattle.hb_wal.specs.Frames.{HasFrames}
-use Rattle.hb_super.specs.Superblocks.{IsLayout, IsNewest, HasNone}
+use Rattle.hb_super.specs.Superblocks.{IsNewest, HasNone}
 use Rattle.hb_frag.specs.declared.leaves.Leaf.TheVariants.{Records}
 use Rattle.hb_frag.specs.declared.pages.Page.{Page}
 use Rattle.hb_frag.specs.declared.pages.Page.TheVariants.{Live}
