@@ -1,16 +1,22 @@
 -- What follows of what a store keeps: what its disk opens to, and how many files are to come.
-use Rattle.std.proofs.Common.{◌≡◌, ◌≢◌, ◌⊎◌, inl, inr, ℕ, ◌+◌, ◌*◌, ◌%◌, ◌<◌, ◌≤◌, Bool, true, false, IsTrue, List, [], ◌∷◌, ◌++◌, length, map, get_or, take, drop, refl, sym, ap, ◌∙◌, subst, arith}
+use Rattle.std.proofs.Common.{◌≡◌, ◌⊎◌, inl, inr, ℕ, ◌+◌, ◌-◌, ◌≤◌, Bool, false, IsTrue, List, [], ◌∷◌, ◌++◌, length, map, get_or, take, drop, replicate, Some, IsSome, refl, sym, ap, ◌∙◌, arith}
 use Rattle.std.proofs.lemmas.List.{get_or-take, get_or-drop}
-use Rattle.hb_disk.specs.Model.{DiskModel}
-use Rattle.hb_disk.specs.RunLaws.{part_of}
+use Rattle.hb_disk.specs.Model.{DiskModel, IsDisk}
+use Rattle.hb_disk.specs.Calls.{IsSynced}
+use Rattle.hb_disk.specs.RunLaws.{part_of, some_value, at_value}
+use Rattle.hb_wal.specs.Frames.{range}
+use Rattle.hb_wal.specs.Forces.{HasLog}
 use Rattle.hb_wal.specs.Log.{Waiting}
 use Rattle.hb_super.specs.Superblocks.{HasSuper, IsNewest, place_of}
 use Rattle.hb_ops.specs.declared.meta.Meta.{Meta}
-use Rattle.hb_ops.specs.Files.{FileState}
+use Rattle.hb_ops.specs.Files.{FileState, page_of}
+use Rattle.hb_frag.specs.declared.pages.Page.{Page}
+use Rattle.hb_frag.specs.Grammar.{SpellsPage}
 use Rattle.hb_store.specs.Groups.{Logged, group_bytes}
 use Rattle.hb_store.specs.Replay.{Replayed}
-use Rattle.hb_store.specs.Opening.{OpensBy, OpensTo}
-use Rattle.hb_store.specs.Keeps.{StoreState, StoreKeeps, Leads, OpensNext, OpensToFirst}
+use Rattle.hb_store.specs.Opening.{OpensBy, OpensTo, log_place, file_size, place_bytes}
+use Rattle.hb_store.specs.Keeps.{StoreState, StoreKeeps, Leads, OpensNext, OpensToFirst, IsFresh}
+use Rattle.hb_store.specs.ReplayLaws.{opens_fresh}
 
 -- by the durable file's groups, or by those and the first that waits
 pub opens_first : (c : List ℕ) (turn : ℕ) (said : Meta) (payloads : List (List ℕ)) (written waiting : List Logged) (durable : FileState) (later : List FileState)
@@ -92,3 +98,25 @@ IsNewest-elsewhere b c same turn meta newest = record {
   there = HasSuper-elsewhere b c same turn meta newest.there;
   newer = λ other said has apart. newest.newer other said (HasSuper-elsewhere c b (sym same) other said has) apart;
 }
+
+-- A store may start from a disk of such a size whose images all have this superblock, a log of zeros and these pages.
+pub IsFresh-from : (d : DiskModel) → IsDisk d → IsSome d.told → (turn : ℕ) (meta : Meta) (s : FileState) → file_size meta ≤ d.size → s.meta ≡ meta → length s.pages ≡ meta.high
+    → ((c : List ℕ) → d.Image c → IsNewest c turn meta) → IsSynced d 0 8192 → HasLog d (record { area = log_place turn meta; len = meta.log; written = 0; groups = [] }) []
+    → ((id : ℕ) (page : Page) → page_of s id ≡ Some page → (c : List ℕ) → d.Image c → SpellsPage (place_bytes meta id c) page) → IsFresh d turn meta s
+IsFresh-from d is_disk tells turn meta s room meta_is count newest places logged pages = record {
+  told = tells;
+  meta_is = meta_is;
+  newest = newest;
+  images = λ c image. record { turn = turn; said = meta; payloads = []; groups = []; by = fresh_image c image };
+  places = places;
+  logged = logged;
+  pages = pages;
+}
+  where
+    fresh_image : (c : List ℕ) → d.Image c → OpensBy c turn meta [] [] s
+    fresh_image c image =
+        let told = some_value d.told tells in
+        opens_fresh c turn meta s (newest c image) (omega (arith, is_disk.long c image, room))
+        (logged.synced.each told.0 c told.1 image ∙ at_value d.told (λ b. range (log_place turn meta) meta.log b ≡ replicate (meta.log - 0) 0) told.0 told.1 logged.reads
+        ∙ ap (λ (k : ℕ). replicate k 0) (let e : meta.log - 0 ≡ meta.log = omega arith in e))
+        meta_is count (λ id page is. pages id page is c image)

@@ -7,6 +7,7 @@ mod fetches;
 mod force_tests;
 mod forces;
 mod frames;
+mod laws;
 mod looks;
 mod opening;
 mod places;
@@ -15,6 +16,7 @@ mod stops;
 mod store;
 mod touched;
 
+pub use laws::an_image_of_a_store_opens;
 pub use reading::read_log;
 pub use stops::{FetchStop, Flushed, Why, WriteFault};
 pub use store::Store;
