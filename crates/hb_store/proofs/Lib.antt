@@ -1,3 +1,4 @@
 mod Openings
 mod AreaTorn
 mod AfterForce
+mod OnePage
