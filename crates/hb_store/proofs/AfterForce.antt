@@ -1,13 +1,13 @@
 -- What a force leaves of a running store: inside, after a fault, and once the frame is written.
-use Rattle.std.proofs.Common.{◌≡◌, ◌≢◌, ◌⊎◌, ◌↔◌, inl, inr, ℕ, zero, suc, ◌+◌, ◌*◌, ◌-◌, ◌%◌, ◌≤◌, Bool, true, false, IsTrue, List, [], ◌∷◌, ◌++◌, length, map, take, drop, replicate, Option, Some, None, IsSome, refl, sym, ap, ◌∙◌, subst, arith, append_assoc, length-take, length-append}
+use Rattle.std.proofs.Common.{◌≡◌, ◌⊎◌, ◌↔◌, inl, inr, ℕ, ◌+◌, ◌*◌, ◌-◌, ◌%◌, ◌≤◌, true, false, IsTrue, List, [], ◌∷◌, ◌++◌, length, map, take, drop, replicate, Some, IsSome, refl, sym, ap, ◌∙◌, subst, arith, append_assoc, length-take, length-append}
 use Rattle.std.specs.List.{All}
 use Rattle.std.proofs.lemmas.Grind.{flat_map-append}
-use Rattle.std.proofs.lemmas.List.{append-nil, take_at, take-take, length-take-le}
+use Rattle.std.proofs.lemmas.List.{append-nil, take_at, take-take}
 use Rattle.std.proofs.lemmas.List.Elements.{All-head, All-tail}
 use Rattle.hb_space.specs.declared.form.TheConstants.{PAGE}
 use Rattle.hb_disk.specs.Model.{DiskModel, IsDisk, Torn}
 use Rattle.hb_disk.specs.Calls.{Leaves, Becomes, IsSynced}
-use Rattle.hb_disk.specs.RunLaws.{at_value, some_value, has_value, some_same, Leaves-weaker, IsSynced-part, IsSynced-elsewhere}
+use Rattle.hb_disk.specs.RunLaws.{at_value, has_value, some_same, Leaves-weaker, IsSynced-part, IsSynced-elsewhere}
 use Rattle.hb_wal.specs.Frames.{frames, frame_bytes, range, HasFrames}
 use Rattle.hb_wal.specs.Log.{Waiting, LogState, forced, left_waiting, after_force}
 use Rattle.hb_wal.specs.Forces.{HasLog, ForceLeaves}
@@ -16,15 +16,14 @@ use Rattle.hb_frag.specs.declared.pages.Page.{Page}
 use Rattle.hb_frag.specs.Grammar.{SpellsPage}
 use Rattle.hb_ops.specs.declared.meta.Meta.{Meta}
 use Rattle.hb_ops.specs.Files.{FileState, page_of}
-use Rattle.hb_ops.specs.Operations.{effect_of}
 use Rattle.hb_store.specs.Groups.{Logged, FitsGroup, group_bytes}
-use Rattle.hb_store.specs.Replay.{Replayed, untouched, replay, after_group}
-use Rattle.hb_store.specs.Opening.{OpensBy, log_place, log_bytes, page_place, place_bytes}
-use Rattle.hb_store.specs.Keeps.{StoreState, StoreKeeps, IsStore, IsRunning, Leads, OpensNext, OpensToFirst, last_of}
+use Rattle.hb_store.specs.Replay.{Replayed, untouched, replay}
+use Rattle.hb_store.specs.Opening.{OpensBy, log_place, log_bytes, place_bytes}
+use Rattle.hb_store.specs.Keeps.{StoreState, StoreKeeps, IsStore, Leads, OpensNext, OpensToFirst, last_of}
 use Rattle.hb_store.specs.Calls.{stopped_state, forced_state, with_log, durable_after, later_after}
 use Rattle.hb_store.specs.ReplayLaws.{replay-append, zeros_end}
 use Rattle.hb_store.specs.StoreLaws.{opens_first, StoreKeeps-by}
-use Rattle.hb_store.proofs.AreaTorn.{area_end, spelled_kept, opens_same, opens_more}
+use Rattle.hb_store.proofs.AreaTorn.{spelled_kept, opens_same, opens_more}
 
 -- The bytes open to the durable file, or to the next one where the first group's frame is there.
 inside_by : (turn : ℕ) (said : Meta) (b c : List ℕ) → Torn (log_place turn said) said.log b c → (payloads : List (List ℕ)) (written : List Logged) (durable : FileState)

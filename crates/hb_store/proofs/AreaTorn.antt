@@ -1,5 +1,5 @@
 -- A log area that was torn: what stands outside it, and what the bytes open to by the frames that it has then.
-use Rattle.std.proofs.Common.{◌≡◌, inl, inr, ℕ, ◌+◌, ◌*◌, ◌-◌, ◌%◌, ◌≤◌, List, [], ◌∷◌, ◌++◌, length, take, drop, Option, Some, None, refl, sym, ap, ◌∙◌, subst, arith}
+use Rattle.std.proofs.Common.{◌≡◌, inl, inr, ℕ, ◌+◌, ◌*◌, ◌%◌, ◌≤◌, List, [], ◌∷◌, ◌++◌, take, drop, Option, Some, None, refl, sym, subst, arith}
 use Rattle.std.proofs.Math.Nat.{mul-le-mul_right}
 use Rattle.std.proofs.lemmas.List.{append-nil}
 use Rattle.std.proofs.lemmas.List.Elements.{All-cons, All-nil}
@@ -9,12 +9,11 @@ use Rattle.hb_disk.specs.TornLaws.{Torn-elsewhere}
 use Rattle.hb_wal.specs.Frames.{HasFrames}
 use Rattle.hb_frag.specs.declared.pages.Page.{Page}
 use Rattle.hb_frag.specs.Grammar.{SpellsPage}
-use Rattle.hb_super.specs.Superblocks.{IsNewest}
 use Rattle.hb_ops.specs.declared.meta.Meta.{Meta}
-use Rattle.hb_ops.specs.Files.{FileState, page_of}
+use Rattle.hb_ops.specs.Files.{FileState}
 use Rattle.hb_ops.specs.Operations.{IsAllowed, effect_of}
-use Rattle.hb_store.specs.Groups.{Logged, FitsGroup, SpellAll, SpellsGroups, group_bytes}
-use Rattle.hb_store.specs.Replay.{Replayed, untouched, replay, after_group, MayFollow, MayReplay}
+use Rattle.hb_store.specs.Groups.{Logged, FitsGroup, SpellAll, group_bytes}
+use Rattle.hb_store.specs.Replay.{Replayed, untouched, replay, MayFollow}
 use Rattle.hb_store.specs.Opening.{OpensBy, Shows, IsPageIn, log_place, log_bytes, page_place, place_bytes}
 use Rattle.hb_store.specs.Keeps.{AreImagesOf}
 use Rattle.hb_store.specs.ReplayLaws.{replay-append, MayReplay-append, SpellAll-append, Shows-after}

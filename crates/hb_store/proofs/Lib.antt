@@ -12,3 +12,4 @@ pub mod Loops
 pub mod Replays
 pub mod Touches
 pub mod Writable
+mod OnePage

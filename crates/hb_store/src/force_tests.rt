@@ -1,7 +1,10 @@
-//! A file of one page, by hand: it is opened, and groups that wait are forced. The disk tells nothing, and no byte of it
-//! goes bad.
-ghost use Rattle.std.specs.Prelude.{◌≡◌, ◌≤◌, ℕ, false, IfOk, [], length};
+//! A file of one page, by hand: it is opened, and groups that wait are forced. Where they do, the disk tells nothing, and
+//! no byte of it goes bad.
+ghost use Rattle.std.specs.Prelude.{◌≡◌, false, List, [], IfOk, length};
+ghost use Rattle.hb_disk.specs.MemDisk as memory;
 ghost use Rattle.hb_disk.specs.RotDisk.{hidden};
+ghost use Rattle.hb_ops.specs.Files.{FileState};
+ghost use Rattle.hb_store.specs.Keeps.{IsFresh, StoreKeeps};
 ghost use Rattle.hb_store.specs.Seen.{seen_as};
 
 use crate::{Flushed, Store, WriteFault};
@@ -59,7 +62,41 @@ fn disk(alloc: Global, failing: &[u64]) -> Result<RotDisk, Fail>
     })
 }
 
+/// A disk that tells, with that file.
+fn fresh_disk(alloc: Global) -> Result<MemDisk, Fail>
+    ensures size { IfOk result (λ d. (memory.seen_as d).size ≡ 143360) }
+    ensures fresh { IfOk result (λ d. (s : FileState) × IsFresh (memory.seen_as d) 0
+        (record { k = 1; pages = 1; log = 65536; dcap = 6; icap = 32; root = 1; height = 1; high = 1; live = 1; free = 0 }) s) }
+{
+    let mut bytes = SUPER.to_vec(alloc)?;
+    bytes.extend_from_slice(&vec![in alloc; 0; 139_223]?)?;
+    bytes.extend_from_slice(&EMPTY)?;
+    bytes.extend_from_slice(&vec![in alloc; 0; 4_073]?)?;
+    Ok(MemDisk::new(alloc, bytes))
+}
+
 /// The store of that file.
+fn telling(alloc: Global) -> Result<Store<MemDisk>, Fail>
+    ensures running { IfOk result (λ store. (seen_as store).stopped ≡ false) }
+    ensures kept { IfOk result (λ store. (durable : FileState) × (later : List FileState) × StoreKeeps (memory.seen_as store.disk) (seen_as store) durable later) }
+{
+    match Store::opened(alloc, fresh_disk(alloc)?, 0, META) {
+        Ok(store) => Ok(store),
+        Err(_no_memory) => Err(Fail::from("memory was refused")),
+    }
+}
+
+#[test]
+fn a_force_of_nothing(rt: HostRuntime) -> Result<(), Fail> {
+    let mut store = telling(rt.alloc())?;
+    let Ok(()) = store.force() else {
+        return Err(Fail::from("the force failed"));
+    };
+    assert_eq!(rt; store.into_disk().calls(), 0);
+    Ok(())
+}
+
+/// The store of that file over a disk that tells nothing.
 fn opened(alloc: Global, failing: &[u64]) -> Result<Store<RotDisk>, Fail>
     ensures running { IfOk result (λ store. (seen_as store).stopped ≡ false) }
     ensures log { IfOk result (λ store. (seen_as store).log ≡ record { area = 8192; len = 65536; written = 0; groups = [] }) }

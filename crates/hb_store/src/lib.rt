@@ -11,6 +11,7 @@ mod group_fields;
 mod group_reading;
 mod group_writing;
 mod groups;
+mod laws;
 mod looks;
 mod opening;
 mod places;
@@ -19,6 +20,7 @@ mod stops;
 mod store;
 mod touched;
 
+pub use laws::an_image_of_a_store_opens;
 pub use reading::read_log;
 pub use stops::{FetchStop, Flushed, StopWhy, Why, WriteFault};
 pub use store::Store;

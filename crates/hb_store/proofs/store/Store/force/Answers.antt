@@ -1,7 +1,6 @@
-use Rattle.std.proofs.Common.{◌≡◌, ◌++◌, List, sym, subst}
-use Rattle.hb_disk.specs.Model.{DiskModel}
+use Rattle.std.proofs.Common.{◌++◌, sym, subst}
 use Rattle.hb_disk.specs.RunLaws.{some_value}
-use Rattle.hb_wal.specs.Log.{LogState, forced, after_force}
+use Rattle.hb_wal.specs.Log.{LogState, forced}
 use Rattle.hb_wal.specs.Forces.{HasLog}
 use Rattle.hb_store.specs.Keeps.{StoreKeeps}
 use Rattle.hb_store.specs.Seen.{seen_as}
