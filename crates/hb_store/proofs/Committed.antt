@@ -145,12 +145,12 @@ module _ (turn : ℕ) (meta : Meta) (log : LogState) (F : ℕ → Option Frame) 
     area = ap (λ (l : LogState). l.area) log_is ∙ store.area ∙ sym (ap (λ (n : ℕ). 8192 + (turn % 2) * n) well.layout.log);
     len = ap (λ (l : LogState). l.len) log_is ∙ store.len ∙ sym well.layout.log;
     frames_in = λ id page e.
-      let P = λ (n : ℕ) (p : Page). (1 ≤ n) × (n ≤ change.meta.high) × IsGoodPage change.meta p in
-      all_set P change.pages (λ n. page_in (F n))
-      (λ k d lt. let c = well.pages k d lt in let there = some_page (page_in (F (get_or change.pages k d).0)) c.0 in let old = store.frames_in (get_or change.pages k d).0 there.0 there.1 in
-          (old.0, omega (arith, old.1, well.high), c.1))
-      (λ n p is. let old = store.frames_in n p is in (old.0, omega (arith, old.1, well.high), well.others p old.2))
-      id page (sym (frame_after id) ∙ e);
+        let P = λ (n : ℕ) (p : Page). (1 ≤ n) × (n ≤ change.meta.high) × IsGoodPage change.meta p in
+        all_set P change.pages (λ n. page_in (F n))
+        (λ k d lt. let c = well.pages k d lt in let there = some_page (page_in (F (get_or change.pages k d).0)) c.0 in let old = store.frames_in (get_or change.pages k d).0 there.0 there.1 in
+        (old.0, omega (arith, old.1, well.high), c.1))
+        (λ n p is. let old = store.frames_in n p is in (old.0, omega (arith, old.1, well.high), well.others p old.2))
+        id page (sym (frame_after id) ∙ e);
   }
     where
       some_page : (o : Option Page) → IsSome o → (page : Page) × (o ≡ Some page)
@@ -275,7 +275,7 @@ module _ (turn : ℕ) (meta : Meta) (log : LogState) (F : ℕ → Option Frame) 
     touched_after : (q : ℕ) → Tells (F' q) ((replay (untouched keeps.said) (keeps.written ++ (keeps.waiting ++ logged ∷ []))).page q)
     touched_after q =
         let whole : replay (untouched keeps.said) (keeps.written ++ (keeps.waiting ++ logged ∷ [])) ≡ after_group t logged =
-            replay-append (untouched keeps.said) keeps.written (keeps.waiting ++ logged ∷ []) ∙ replay-append (replay (untouched keeps.said) keeps.written) keeps.waiting (logged ∷ []) in
+        replay-append (untouched keeps.said) keeps.written (keeps.waiting ++ logged ∷ []) ∙ replay-append (replay (untouched keeps.said) keeps.written) keeps.waiting (logged ∷ []) in
         subst (λ (r : Replayed). Tells (F' q) (r.page q)) (sym whole)
         (subst (λ (c : Change). Tells (F' q) (set_pages c.pages (set_pages (due F (reads_of op)) t.page) q)) change_touched
         (subst (λ (o : Option Frame). Tells o (set_pages change.pages (set_pages (due F (reads_of op)) t.page) q)) (sym (F'_is q))
@@ -292,7 +292,7 @@ module _ (turn : ℕ) (meta : Meta) (log : LogState) (F : ℕ → Option Frame) 
         record {
           places = run.places;
           logged = let Q : LogState → Type 0 = λ l. HasLog d l keeps.payloads in subst Q (sym log_is)
-            (record { synced = run.logged.synced; payloads_fit = run.logged.payloads_fit; count = run.logged.count; reads = run.logged.reads });
+              (record { synced = run.logged.synced; payloads_fit = run.logged.payloads_fit; count = run.logged.count; reads = run.logged.reads });
         }
 
     spelled_after : map (λ w. w.bytes) log'.groups ≡ map group_bytes (keeps.waiting ++ logged ∷ [])
@@ -323,17 +323,17 @@ module _ (turn : ℕ) (meta : Meta) (log : LogState) (F : ℕ → Option Frame) 
       kept = (keeps.kept.0, let Q : LogState → Type 0 = λ l. IsSynced d l.area l.written in subst Q (sym log_is) keeps.kept.1);
       spelled = spelled_after;
       fits =
-        let k_is : meta.k ≡ keeps.said.k = keeps.layout.k in
-        All-append (FitsGroup keeps.said.k) keeps.waiting (logged ∷ []) keeps.fits
-        (All-cons (FitsGroup keeps.said.k) logged [] (subst (λ (k : ℕ). FitsGroup k logged) k_is fits) (All-nil (FitsGroup keeps.said.k)));
+          let k_is : meta.k ≡ keeps.said.k = keeps.layout.k in
+          All-append (FitsGroup keeps.said.k) keeps.waiting (logged ∷ []) keeps.fits
+          (All-cons (FitsGroup keeps.said.k) logged [] (subst (λ (k : ℕ). FitsGroup k logged) k_is fits) (All-nil (FitsGroup keeps.said.k)));
       leads = Leads-append (replay (untouched keeps.said) keeps.written) durable keeps.waiting later logged keeps.leads may are allowed_file licensed;
       touched = touched_after;
       synced = λ id page no e c image.
-        let before = unmarked id no in
-        keeps.synced id page before.0 (sym (before.1.same (page_of s)) ∙ sym (page_after id) ∙ ap (λ (f : FileState). page_of f id) (sym last) ∙ e) c image;
+          let before = unmarked id no in
+          keeps.synced id page before.0 (sym (before.1.same (page_of s)) ∙ sym (page_after id) ∙ ap (λ (f : FileState). page_of f id) (sym last) ∙ e) c image;
       meta_is = ap (λ (f : FileState). f.meta) last ∙ ap (λ (c : Change). c.meta) (sym change_file);
       framed = λ id page e. ap (λ (f : FileState). page_of f id) last ∙ page_after id ∙ set_both change.pages (λ q. page_in (F q)) (page_of s) keeps.framed id page (sym (frame_after id) ∙ e);
       unframed = λ id page b none e is_told.
-        let before = set_none change.pages (λ q. page_in (F q)) id (sym (frame_after id) ∙ none) in
-        keeps.unframed id page b before.0 (sym (before.1.same (page_of s)) ∙ sym (page_after id) ∙ ap (λ (f : FileState). page_of f id) (sym last) ∙ e) is_told;
+          let before = set_none change.pages (λ q. page_in (F q)) id (sym (frame_after id) ∙ none) in
+          keeps.unframed id page b before.0 (sym (before.1.same (page_of s)) ∙ sym (page_after id) ∙ ap (λ (f : FileState). page_of f id) (sym last) ∙ e) is_told;
     }

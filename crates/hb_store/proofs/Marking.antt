@@ -65,7 +65,7 @@ page_in-set [] F q = refl
 page_in-set (one ∷ rest) F q =
     page_in-set rest (with_frame one.0 one.1 F) q
     ∙ set_pages-same rest (λ r. page_in (with_frame one.0 one.1 F r)) (λ r. cond (r == one.0) (Some one.1) (page_in (F r)))
-      (λ r. elim (r == one.0) as (λ b. page_in (cond b (Some (record { page = one.1; imaged = true })) (F r)) ≡ cond b (Some one.1) (page_in (F r))) [ true ↦ refl | false ↦ refl ]) q
+    (λ r. elim (r == one.0) as (λ b. page_in (cond b (Some (record { page = one.1; imaged = true })) (F r)) ≡ cond b (Some one.1) (page_in (F r))) [ true ↦ refl | false ↦ refl ]) q
 
 -- what holds of the pages set and of the others holds of each that is there then
 pub all_set : (P : ℕ → Page → Type 0) (pages : List (ℕ × Page)) (f : ℕ → Option Page) → All (λ c. P c.0 c.1) pages → ((q : ℕ) (page : Page) → f q ≡ Some page → P q page)
