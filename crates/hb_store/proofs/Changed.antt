@@ -1,6 +1,8 @@
 -- What an allowed operation makes of the pages in frames: they can be written, and keep the rules that speak of each alone.
 use Rattle.std.proofs.Common.{◌≡◌, ℕ, ◌+◌, ◌^◌, ◌<◌, ◌≤◌, ◌==◌, Bool, true, false, cond, List, [], ◌∷◌, ◌++◌, length, get_or, map, sum, All, Option, Some, None, IsSome, refl, sym, ap, ◌∙◌, subst, arith}
 use Rattle.std.specs.List.{filter}
+use Rattle.std.specs.Option.{IfSome}
+use denote.Bor.{Bor}
 use Rattle.std.specs.Ordering.{is_lt, is_gt, is_ne}
 use Rattle.std.proofs.lemmas.List.{map-append}
 use Rattle.std.proofs.lemmas.List.Sums.{sum_by-append}
@@ -21,12 +23,14 @@ use Rattle.hb_ops.specs.declared.meta.Meta.{Meta}
 use Rattle.hb_ops.specs.declared.operations.Op.{Op}
 use Rattle.hb_ops.specs.declared.operations.Op.TheVariants.{Put, Del}
 use Rattle.hb_ops.specs.Files.{if_live}
+use Rattle.hb_ops.specs.Given.{given}
 use Rattle.hb_ops.specs.LawsOfContents.{DelMakesWell, PutMakesWell}
 use Rattle.hb_ops.specs.Operations.{Change, IsAllowedOn, change_of, joined, on_records, page_with, reads_of, without}
 use Rattle.hb_ops.specs.Sound.{FitsFile}
 use Rattle.hb_super.specs.Superblocks.{IsLayout}
 use Rattle.hb_store.specs.Groups.{FitsOp}
 use Rattle.hb_store.specs.Keeps.{IsGoodPage, IsSameLayout, MayHold}
+use Rattle.hb_store.specs.ReplayLists.{live_so}
 
 -- ---- a page whose leaf has other records can be written, where it isn't too heavy
 
@@ -125,3 +129,12 @@ module _ (spells : LiveSpells) (put_well : PutMakesWell) (del_well : DelMakesWel
   pub made_well : (op : Op) (second third : Option LivePage) (change : Change) → change ≡ change_of op meta (if_live (frame (get_or (reads_of op) 0 0))) second third → FitsOp meta.k op
       → IsAllowedOn op meta (if_live (frame (get_or (reads_of op) 0 0))) second third → ChangesWell turn meta frame change
   made_well op second third change is fits allowed = subst (λ (c : Change). ChangesWell turn meta frame c) (sym is) (changes_well op second third fits allowed)
+
+-- a page in use in a frame is light
+pub live_light : (o : Option (Bor LivePage)) (meta : Meta) (page : Option Page) → IsLayout meta → ((p : Page) → page ≡ Some p → IsGoodPage meta p) → given o ≡ if_live page → IfSome o (λ p. weight_of p.now.frag < 2 ^ 32)
+live_light None meta page layout good e = tt
+live_light (Some p) meta page layout good e =
+    let there : page ≡ Some (Live p.now) = live_so page p.now (sym e) in
+    let well = good (Live p.now) there in
+    let small : weight_of p.now.frag < 2 ^ 16 = capacity_small p.now.level meta.dcap meta.icap layout.dcap_most layout.icap_most well.1.filled.light in
+    omega (arith, small)

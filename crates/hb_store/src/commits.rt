@@ -1,4 +1,5 @@
-ghost use Rattle.std.specs.Prelude.{◌≡◌, ◌<◌, ◌≤◌, ◌∷◌, ◌++◌, [], false, List, All, length, IfOk, OnOk, OnErr, Some};
+ghost use Rattle.std.specs.Prelude.{◌≡◌, ◌<◌, ◌≤◌, ◌^◌, ◌∷◌, ◌++◌, [], false, List, All, length, IfOk, IfSome, OnOk, OnErr, Some};
+ghost use Rattle.hb_frag.specs.Leaves.{weight_of};
 ghost use Rattle.hb_ops.specs.Given.{given as live_given};
 ghost use Rattle.hb_ops.specs.Files.{FileState, if_live};
 ghost use Rattle.hb_ops.specs.Operations.{IsLicensed, OpHas};
@@ -16,6 +17,7 @@ use hb_frag::{LivePage, Page};
 use hb_ops::{ChangeError, Changed, Op, change, changed_pages_are_well_made};
 use hb_page_codec::laws::page_within_capacity_has_spelling;
 use hb_space::NoMemory;
+use std::alloc::AllocError;
 
 impl<D: Disk> Store<D> {
     /// Does an operation in memory, and lets its group wait for a force. No device call. For want of memory nothing
@@ -35,6 +37,7 @@ impl<D: Disk> Store<D> {
         ensures keeps { (durable : FileState) (later : List FileState) → StoreKeeps (D.model self.old.disk) (seen_as self.old) durable later →
             OnOk result (StoreKeeps (D.model self.new.disk) (seen_as self.new) durable (with_op durable later op)) }
     {
+        // Laws: what is changed keeps the rules of pages and can be written.
         changed_pages_are_well_made();
         page_within_capacity_has_spelling();
         let changed = self.changed(&op)?;
@@ -57,14 +60,15 @@ impl<D: Disk> Store<D> {
         let third = self.read(op, 2);
         match change(self.alloc, op, &self.meta, first, second, third) {
             Ok(changed) => Ok(changed),
-            Err(ChangeError::NoMemory) => Err(std::alloc::AllocError),
+            Err(ChangeError::NoMemory) => Err(AllocError),
             Err(ChangeError::Unfit) => unreachable!(),
         }
     }
 
     // The page in use that an operation reads at a place of its list, where it is in a frame.
-    fn read(&self, op: &Op, place: usize) -> Option<&LivePage>
-        ensures { live_given result ≡ framed_read (seen_as self.now) op.now place }
+    pub(crate) fn read(&self, op: &Op, place: usize) -> Option<&LivePage>
+        ensures page { live_given result ≡ framed_read (seen_as self.now) op.now place }
+        ensures light { IfSome result (λ page. weight_of page.now.frag < 2 ^ 32) }
     {
         let id = reads(op).get(place).copied().unwrap_or(0);
         match self.frames.get(&id) {

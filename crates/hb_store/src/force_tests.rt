@@ -14,7 +14,7 @@ use std::alloc::Global;
 use std::test::Fail;
 
 /// What a file of one attribute and one page says.
-const META: Meta = Meta {
+pub(crate) const META: Meta = Meta {
     k: 1,
     pages: 1,
     log: 65536,
@@ -35,7 +35,7 @@ const SUPER: [u8; 41] = [
 ];
 
 /// The fields of a page of records for the whole space, which has none.
-const EMPTY: [u8; 23] = [
+pub(crate) const EMPTY: [u8; 23] = [
     1, 0, 1, 0, 0, 0, 0, 0, 0, 0, 0, 0, 255, 255, 255, 255, 255, 255, 255, 255, 1, 0, 0,
 ];
 
@@ -43,7 +43,7 @@ const EMPTY: [u8; 23] = [
 const PUT: [u8; 16] = [0, 1, 0, 0, 0, 1, 0, 0, 0, 0, 0, 0, 0, 5, 1, 0x61];
 
 /// The frame of that group.
-const FRAME: [u8; 21] = [
+pub(crate) const FRAME: [u8; 21] = [
     0xA5, 0, 0, 0, 16, 0, 1, 0, 0, 0, 1, 0, 0, 0, 0, 0, 0, 0, 5, 1, 0x61,
 ];
 
@@ -97,7 +97,7 @@ fn a_force_of_nothing(rt: HostRuntime) -> Result<(), Fail> {
 }
 
 /// The store of that file over a disk that tells nothing.
-fn opened(alloc: Global, failing: &[u64]) -> Result<Store<RotDisk>, Fail>
+pub(crate) fn opened(alloc: Global, failing: &[u64]) -> Result<Store<RotDisk>, Fail>
     ensures running { IfOk result (λ store. (seen_as store).stopped ≡ false) }
     ensures log { IfOk result (λ store. (seen_as store).log ≡ record { area = 8192; len = 65536; written = 0; groups = [] }) }
 {

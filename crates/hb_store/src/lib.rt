@@ -1,6 +1,8 @@
 //! Log, pages in memory and superblock together: a file that changes by whole operations.
 #![tactic(auto)]
 
+#[cfg(test)]
+mod commit_tests;
 mod commits;
 mod fetches;
 #[cfg(test)]
