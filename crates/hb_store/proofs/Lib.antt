@@ -1,3 +1,5 @@
+pub mod Counted
+pub mod Fetched
 pub mod GroupReads
 pub mod LogReads
 pub mod Loops
