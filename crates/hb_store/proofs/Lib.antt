@@ -3,6 +3,7 @@ pub mod Fetched
 pub mod GroupReads
 pub mod LogReads
 pub mod Loops
+pub mod OneFile
 pub mod Replays
 pub mod Touching
 pub mod Writable

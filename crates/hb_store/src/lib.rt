@@ -8,6 +8,7 @@ mod frames;
 mod group_fields;
 mod group_reading;
 mod groups;
+mod image_laws;
 mod looks;
 mod opening;
 mod reading;
@@ -15,6 +16,7 @@ mod stops;
 mod store;
 mod touched;
 
+pub use image_laws::an_image_opens_to_one_file;
 pub use reading::read_log;
 pub use stops::{FetchStop, Flushed, Why, WriteFault};
 pub use store::Store;
