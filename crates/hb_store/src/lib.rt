@@ -7,8 +7,12 @@ mod forces;
 mod frames;
 mod group_fields;
 mod group_reading;
+#[cfg(test)]
+mod group_tests;
 mod groups;
 mod image_laws;
+#[cfg(test)]
+mod log_tests;
 mod looks;
 mod opening;
 mod reading;
