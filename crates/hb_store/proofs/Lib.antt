@@ -6,9 +6,12 @@ mod Grouped
 mod Changed
 mod Touching
 mod Committed
+pub mod Counted
+pub mod Fetched
 pub mod GroupReads
 pub mod LogReads
 pub mod Loops
+pub mod OneFile
 pub mod Replays
 pub mod Touches
 pub mod Writable

@@ -17,6 +17,7 @@ pub mod FieldLaws
 pub mod GroupFields
 pub mod GroupLaws
 pub mod GroupReading
+pub mod ImageLaws
 pub mod NumberLaws
 pub mod OpLaws
 pub mod Replaying

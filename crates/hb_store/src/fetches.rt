@@ -7,7 +7,7 @@ ghost use Rattle.hb_frag.specs.Grammar.{HasSpelling, SpellsPage};
 ghost use Rattle.hb_page_codec.specs.Weight.{IsLight};
 ghost use Rattle.hb_store.specs.Keeps.{IsGoodPage, StoreKeeps, last_of};
 ghost use Rattle.hb_store.specs.Opening.{page_place, place_bytes};
-ghost use Rattle.hb_store.specs.Fetching.{BreaksHere, HoldsNot, IsFetchStop, with_frame};
+ghost use Rattle.hb_store.specs.Fetching.{BreaksHere, HasPut, HoldsNot, IsFetchStop, SameFrames, with_frame};
 ghost use Rattle.hb_store.specs.Seen.{seen_as};
 ghost use Rattle.hb_store.specs.Calls.{Fetched};
 ghost use Rattle.hb_store.specs.Stops.{FetchesNot, IsNoPage};
@@ -19,10 +19,12 @@ use crate::store::Store;
 use hb_disk::Disk;
 use hb_frag::Page;
 use hb_ops::{Meta, local_rule};
+use hb_page_codec::laws::spelling_law;
 use hb_page_codec::{PageError, decode};
 use hb_space::NoMemory;
 use hb_space::form::PAGE;
 use std::alloc::Global;
+use std::collections::BTreeMap;
 
 impl<D: Disk> Store<D> {
     /// Brings the page of a number into a frame, where it is in none. At most one read.
@@ -48,6 +50,7 @@ impl<D: Disk> Store<D> {
         if self.frames.contains_key(&id) {
             return Ok(());
         }
+        spelling_law();
         let page = self.read_page(id)?;
         self.set_frame(id, page)?;
         Ok(())
@@ -83,13 +86,21 @@ impl<D: Disk> Store<D> {
         ensures kept { OnErr result (seen_as self.new ≡ seen_as self.old) }
         ensures disk { self.new.disk ≡ self.old.disk }
     {
-        let frame = Frame {
-            page,
-            imaged: false,
-        };
-        self.frames.insert(id, frame)?;
-        Ok(())
+        put_frame(&mut self.frames, id, page)
     }
+}
+
+/// Puts a page that isn't imaged in this turn among the frames, under its number.
+fn put_frame(frames: &mut BTreeMap<u32, Frame>, id: u32, page: Page) -> Result<(), NoMemory>
+    ensures set { OnOk result (HasPut id page frames.old frames.new) }
+    ensures kept { OnErr result (SameFrames frames.old frames.new) }
+{
+    let frame = Frame {
+        page,
+        imaged: false,
+    };
+    frames.insert(id, frame)?;
+    Ok(())
 }
 
 /// Where the page of a number stands.

@@ -11,9 +11,14 @@ mod forces;
 mod frames;
 mod group_fields;
 mod group_reading;
+#[cfg(test)]
+mod group_tests;
 mod group_writing;
 mod groups;
+mod image_laws;
 mod laws;
+#[cfg(test)]
+mod log_tests;
 mod looks;
 mod opening;
 mod places;
@@ -22,6 +27,7 @@ mod stops;
 mod store;
 mod touched;
 
+pub use image_laws::an_image_opens_to_one_file;
 pub use laws::an_image_of_a_store_opens;
 pub use reading::read_log;
 pub use stops::{FetchStop, Flushed, StopWhy, Why, WriteFault};

@@ -1,0 +1,16 @@
+//! What an image opens to.
+ghost use Rattle.hb_store.specs.ImageLaws.{OpensToOne, OpensWhole};
+
+use hb_page_codec::laws::spelling_law;
+use hb_super::laws::one_superblock_is_newest;
+use hb_wal::laws::an_area_is_read_in_one_way;
+
+/// Bytes open to one file at most, and where they do no frame of their log is bad.
+pub fn an_image_opens_to_one_file()
+    ensures one { OpensToOne }
+    ensures whole { OpensWhole }
+{
+    spelling_law();
+    one_superblock_is_newest();
+    an_area_is_read_in_one_way();
+}
