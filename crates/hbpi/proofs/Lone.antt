@@ -192,7 +192,7 @@ module _ (meta : Meta) (page : LivePage) (high : meta.high ≡ 1) (low : meta.he
       let e = top.0 in
       let level : page.level ≡ 0 = omega (arith, e, low) in
       let shown : (n : ℕ) → n ≡ 0 → cond (n == 0) (flat_map records_of (leaves page.frag)) [] ≡ flat_map records_of (leaves page.frag) =
-          λ n zero_is. let Q : ℕ → Type 0 = λ m. cond (m == 0) (flat_map records_of (leaves page.frag)) [] ≡ flat_map records_of (leaves page.frag) in subst Q (sym zero_is) refl in
+      λ n zero_is. let Q : ℕ → Type 0 = λ m. cond (m == 0) (flat_map records_of (leaves page.frag)) [] ≡ flat_map records_of (leaves page.frag) in subst Q (sym zero_is) refl in
       append-nil (page_records (Live page)) ∙ shown page.level level
 
   keeps_locally : FitsFile meta page ⊎ BreaksFirst 10 page meta → KeepsLocally (lone meta (Live page))
@@ -211,8 +211,15 @@ module _ (meta : Meta) (page : LivePage) (high : meta.high ≡ 1) (low : meta.he
       inr (inr (inr (inl (seven.0, refl, rooted, counted, keeps_locally seven.1, no_siblings_match meta page parts.0 parts.1 is_area seven.2))))
   page_names is_area rule some (inr (inr (inr ten))) =
       let parts = ten_parts page meta ten.1 in
-      inr (inr (inr (inr (inr (inr (ten.0, rooted, counted, to_siblings meta page top low parts.2 ten.2, to_children meta page top low parts.2 ten.2, to_covered meta page top low parts.2 ten.2,
-      (page, refl, ten.1)))))))
+      inr (inr (inr (inr (inr (inr (
+        ten.0,
+        rooted,
+        counted,
+        to_siblings meta page top low parts.2 ten.2,
+        to_children meta page top low parts.2 ten.2,
+        to_covered meta page top low parts.2 ten.2,
+        (page, refl, ten.1),
+      ))))))
 
 not_broken : (rule : ℕ) (page : LivePage) (meta : Meta) → BreaksFirst rule page meta → FitsFile meta page → ⊥
 not_broken rule page meta (inl three) fits = three.1 fits.fits

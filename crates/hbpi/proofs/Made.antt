@@ -38,8 +38,7 @@ part_kept b at piece from m fits apart =
 pub zeroed_gates : (b : List ℕ) (n : ℕ) → 4096 < n → n ≤ length b → (get_or (overwritten b 0 (replicate n 0)) 0 0 ≡ 0) × (get_or (overwritten b 0 (replicate n 0)) 4096 0 ≡ 0)
 zeroed_gates b n some fits =
     let long : length {A = ℕ} (replicate n 0) ≡ n = length-replicate n 0 in
-    let inside : 0 + length {A = ℕ} (replicate n 0) ≤ length b = omega (arith, long, fits) in
-    (
+    let inside : 0 + length {A = ℕ} (replicate n 0) ≤ length b = omega (arith, long, fits) in (
       overwritten-inside b 0 (replicate n 0) inside 0 (omega arith) (omega (arith, long, some)) ∙ get_or-replicate n 0 0 0 (omega (arith, some)),
       overwritten-inside b 0 (replicate n 0) inside 4096 (omega arith) (omega (arith, long, some)) ∙ get_or-replicate n 4096 0 0 (omega (arith, some)),
     )

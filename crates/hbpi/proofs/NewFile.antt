@@ -68,7 +68,7 @@ new_page_spelling k some few = record {
   fits = (omega arith, whole_is_area k some few, (omega arith, All-nil (FitsRecord (length (replicate k 0)))));
   short =
       let long : length (point_bytes (whole_area k).lo ++ point_bytes (whole_area k).hi ++ tree_bytes (Tip (Records []))) ≡ 8 * k + 8 * k + 3 =
-          three_long (point_bytes (whole_area k).lo) (point_bytes (whole_area k).hi) (tree_bytes (Tip (Records []))) (8 * k) (long_point k 0) (long_point k (2 ^ 64 - 1)) empty_leaf in
+      three_long (point_bytes (whole_area k).lo) (point_bytes (whole_area k).hi) (tree_bytes (Tip (Records []))) (8 * k) (long_point k 0) (long_point k (2 ^ 64 - 1)) empty_leaf in
       omega (arith, few, long);
 }
 

@@ -23,5 +23,8 @@ first_fault k pages log dcap icap =
 abbrev pub layout_fault : Layout → Option OpenFault
 layout_fault l = first_fault l.k l.pages l.log l.dcap l.icap
 
+abbrev pub size_of : ℕ → ℕ → ℕ
+size_of pages log = 8192 + 2 * log + PAGE * pages
+
 abbrev pub layout_size : Layout → ℕ
-layout_size l = 8192 + 2 * l.log + PAGE * l.pages
+layout_size l = size_of l.pages l.log

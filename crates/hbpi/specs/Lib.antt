@@ -2,8 +2,9 @@ pub mod Forms
 pub mod Codes
 pub mod Taking
 pub mod Outcome
-pub mod Ends
 pub mod Layouts
+pub mod Ends
+pub mod Created
 pub mod Audit
 pub mod Restart
 pub mod OnePage

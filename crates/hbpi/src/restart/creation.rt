@@ -70,7 +70,11 @@ fn lay_out<D: Disk>(disk: &mut D, meta: &Meta, page: &[u8; PAGE]) -> Result<(), 
 }
 
 /// Writes a new file: its places, its log area and its page, and at last its superblock. Nine device calls.
-fn write_file<D: Disk>(disk: &mut D, meta: &Meta, page: &[u8; PAGE]) -> Result<(), hb_disk::DiskFault>
+fn write_file<D: Disk>(
+    disk: &mut D,
+    meta: &Meta,
+    page: &[u8; PAGE],
+) -> Result<(), hb_disk::DiskFault>
     requires room { file_size meta.now ≤ (D.model disk.old).size }
     requires layout { IsLayout meta.now }
     requires one { (meta.now.root ≡ 1) × (meta.now.high ≡ 1) × (meta.now.live ≡ 1) × (meta.now.free ≡ 0) }

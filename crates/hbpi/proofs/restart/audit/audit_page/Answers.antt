@@ -29,9 +29,8 @@ pub returns-clause-sound : goal.returns-clause-sound
 returns-clause-sound c =
     let rooted = c.is_rooted.ensures.0 c.if-not-is_rooted.false in
     let parts = c.is_counted.ensures.0 c.if-not-is_counted.false in
-    let counted = to_counted c.args.meta.now c.args.page.now parts.0 parts.1 in
-    (
+    let counted = to_counted c.args.meta.now c.args.page.now parts.0 parts.1 in (
       page_sound c.args.meta.now c.args.page.now c.requires.one c.requires.low rooted counted c.page_rule-rule.result (omega (arith, c.if-rule-gt0.false)) c.page_rule-rule.ensures,
       c.count_records.ensures.count ∙ sym (ap (λ (l : List Record). length l)
-      (page_count c.args.meta.now c.args.page.now c.requires.one c.requires.low rooted counted c.page_rule-rule.result (omega (arith, c.if-rule-gt0.false)) c.page_rule-rule.ensures)),
+          (page_count c.args.meta.now c.args.page.now c.requires.one c.requires.low rooted counted c.page_rule-rule.result (omega (arith, c.if-rule-gt0.false)) c.page_rule-rule.ensures)),
     )

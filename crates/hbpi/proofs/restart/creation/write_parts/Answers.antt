@@ -17,13 +17,12 @@ returns-clause-laid g c =
     let P : List ℕ → Type 0 = λ b. get_or b 0 0 ≡ 0 → get_or b 4096 0 ≡ 0 → (x : List ℕ) × (new.told ≡ Some x) × IsLaidOut x meta page in
     on_ok c.sync.result (IfSome d.told P) (if_value d.told P (λ b told first second.
     let zeroed : IfSome d.told (λ x. one.told ≡ Some (overwritten x 8192 (replicate meta.log 0))) =
-        subst (λ (n : ℕ). IfSome d.told (λ x. one.told ≡ Some (overwritten x 8192 (replicate n 0)))) c.from.ensures c.in_ok-zero.ensures.writes.written in
+    subst (λ (n : ℕ). IfSome d.told (λ x. one.told ≡ Some (overwritten x 8192 (replicate n 0)))) c.from.ensures c.in_ok-zero.ensures.writes.written in
     let written : IfSome one.told (λ x. two.told ≡ Some (overwritten x (8192 + 2 * meta.log) page)) =
-        subst (λ (n : ℕ). IfSome one.told (λ x. two.told ≡ Some (overwritten x (8192 + 2 * n) page))) c.from-2.ensures c.in_ok-write.ensures.writes.written in
+    subst (λ (n : ℕ). IfSome one.told (λ x. two.told ≡ Some (overwritten x (8192 + 2 * n) page))) c.from-2.ensures c.in_ok-write.ensures.writes.written in
     let after = at_value d.told (λ x. one.told ≡ Some (overwritten x 8192 (replicate meta.log 0))) b told zeroed in
     let both = at_value one.told (λ x. two.told ≡ Some (overwritten x (8192 + 2 * meta.log) page)) (overwritten b 8192 (replicate meta.log 0)) after written in
-    let fits : 8192 + 2 * meta.log + 4096 * meta.pages ≤ length b = omega (arith, c.requires.room, is_disk.long b (is_disk.as_read b told)) in
-    (
+    let fits : 8192 + 2 * meta.log + 4096 * meta.pages ≤ length b = omega (arith, c.requires.room, is_disk.long b (is_disk.as_read b told)) in (
       overwritten (overwritten b 8192 (replicate meta.log 0)) (8192 + 2 * meta.log) page,
       c.sync.ensures.syncs.same ∙ both,
       laid_out b meta page c.requires.some fits c.told-page first second,
