@@ -4,5 +4,5 @@ mod AfterForce
 mod Marking
 mod Grouped
 mod Changed
-mod Touching
+mod Imaging
 mod Committed
