@@ -4,8 +4,8 @@
 //! pages that it reads, and they are those that the operation is defined to make. Whether it is
 //! allowed is decided before any memory is taken. `local_rule` names the first rule that a page
 //! breaks by itself, and `laws` has what follows of operations from their definitions alone: a put
-//! adds one record to the contents of a file, a delete takes one away, and both keep the file
-//! sound.
+//! adds one record to the contents of a file, a delete takes one away, both keep the file sound, and
+//! the page that they make is well made.
 //!
 //! Contracts see a page as its level, its box and its tree, a file as what it says of itself with
 //! a list of pages, and its contents as a map from points to bodies. A page number is its place in

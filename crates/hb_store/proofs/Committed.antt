@@ -28,7 +28,7 @@ use Rattle.hb_store.specs.declared.frames.Frame.{Frame}
 use Rattle.hb_store.proofs.Changed.{ChangesWell}
 use Rattle.hb_store.proofs.Grouped.{all_due, due}
 use Rattle.hb_store.proofs.Marking.{all_set, frames_after, page_in-after, set_pages-same}
-use Rattle.hb_store.proofs.Touching.{Agrees, Marks, Tells, marks_after, read_page}
+use Rattle.hb_store.proofs.Imaging.{Agrees, Marks, Tells, marks_after, read_page}
 
 -- what a store with these frames is seen as
 abbrev pub seen : ℕ → Meta → LogState → (ℕ → Option Frame) → Bool → StoreState

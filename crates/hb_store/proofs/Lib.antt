@@ -4,7 +4,7 @@ mod AfterForce
 mod Marking
 mod Grouped
 mod Changed
-mod Touching
+mod Imaging
 mod Committed
 pub mod Counted
 pub mod Fetched

@@ -1,3 +1,4 @@
+//! Operations in memory, and the groups that wait for them.
 ghost use Rattle.std.specs.Prelude.{◌≡◌, ◌<◌, ◌≤◌, ◌^◌, ◌∷◌, ◌++◌, [], false, List, All, length, IfOk, IfSome, OnOk, OnErr, Some};
 ghost use Rattle.hb_frag.specs.Leaves.{weight_of};
 ghost use Rattle.hb_ops.specs.Given.{given as live_given};
@@ -49,7 +50,7 @@ impl<D: Disk> Store<D> {
         Ok(())
     }
 
-    // What an operation makes of the pages in frames.
+    /// What an operation makes of the pages in frames.
     fn changed(&self, op: &Op) -> Result<Changed, NoMemory>
         requires points { OpHas (seen_as self.now).meta.k op.now }
         requires allowed { IsAllowedHere (seen_as self.now) op.now }
@@ -65,7 +66,7 @@ impl<D: Disk> Store<D> {
         }
     }
 
-    // The page in use that an operation reads at a place of its list, where it is in a frame.
+    /// The page in use that an operation reads at a place of its list, where it is in a frame.
     pub(crate) fn read(&self, op: &Op, place: usize) -> Option<&LivePage>
         ensures page { live_given result ≡ framed_read (seen_as self.now) op.now place }
         ensures light { IfSome result (λ page. weight_of page.now.frag < 2 ^ 32) }
@@ -77,7 +78,7 @@ impl<D: Disk> Store<D> {
         }
     }
 
-    // The bytes of an operation's group. It fits the log wherever the store is ready.
+    /// The bytes of an operation's group. It fits the log wherever the store is ready.
     fn group(&self, op: &Op) -> Result<Vec<u8>, NoMemory>
         requires points { OpHas (seen_as self.now).meta.k op.now }
         ensures bytes { IfOk result (λ group. group.items ≡ group_bytes (group_here (seen_as self.now) op.now)) }
@@ -89,7 +90,7 @@ impl<D: Disk> Store<D> {
     }
 }
 
-// The page, where it is in use.
+/// The page, where it is in use.
 fn live_of(page: &Page) -> Option<&LivePage>
     ensures { live_given result ≡ if_live (Some page.now) }
 {

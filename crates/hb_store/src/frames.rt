@@ -1,3 +1,4 @@
+//! Pages in memory.
 ghost use Rattle.std.specs.Prelude.{◌≡◌, ℕ, All, IsSome};
 ghost use Rattle.std.specs.Ordering.{nat_cmp};
 ghost use Rattle.std.specs.BTreeMap.{get};
