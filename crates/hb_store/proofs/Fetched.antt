@@ -1,5 +1,5 @@
 -- A page that a fetch brings into a frame is the file's.
-use Rattle.std.proofs.Common.{◌≡◌, ◌≢◌, ◌⊎◌, inl, inr, ℕ, ◌+◌, ◌-◌, ◌*◌, ◌≤◌, ◌++◌, Bool, true, false, cond, eqb, List, length, take, drop, Option, Some, None, Result, Ok, Err, refl, sym, ap, subst, ◌∙◌, arith}
+use Rattle.std.proofs.Common.{◌≡◌, ◌≢◌, inl, inr, ℕ, ◌+◌, ◌-◌, ◌*◌, ◌≤◌, ◌++◌, Bool, true, false, cond, eqb, List, length, take, drop, Option, Some, None, Result, Ok, Err, refl, sym, ap, subst, ◌∙◌, arith}
 use Rattle.std.specs.Prelude.{replicate, IfOk, IfErr, IfSome, IsSome, OnOk, OnErr}
 use Rattle.std.specs.Option.{is_some}
 use Rattle.std.specs.Ordering.{nat_cmp}
@@ -18,14 +18,13 @@ use Rattle.hb_ops.specs.Files.{FileState, if_live, page_of}
 use Rattle.hb_ops.specs.LocalRule.{BreaksFirst}
 use Rattle.hb_ops.specs.Sound.{FitsFile, IsSound}
 use Rattle.hb_wal.specs.Frames.{frames, range}
-use Rattle.hb_wal.specs.Forces.{HasLog}
 use Rattle.hb_wal.specs.Log.{LogState}
 use Rattle.hb_store.specs.GroupLaws.{SpelledOnce}
 use Rattle.hb_store.specs.Opening.{page_place, place_bytes}
 use Rattle.hb_store.specs.Keeps.{IsGoodPage, IsStore, StoreKeeps, StoreState, last_of}
 use Rattle.hb_store.specs.Frames.{page_in, imaged_in, state_of}
 use Rattle.hb_store.specs.Calls.{Fetched}
-use Rattle.hb_store.specs.Stops.{IsDamagedBy, IsNoPage}
+use Rattle.hb_store.specs.Stops.{IsDamagedBy}
 use Rattle.hb_store.specs.Fetching.{HasPut, HoldsNot, SameFrames, with_frame}
 use Rattle.hb_store.specs.declared.frames.Frame.{Frame}
 use Rattle.hb_store.specs.declared.stops.FetchStop.{FetchStop}
@@ -72,6 +71,7 @@ put_state turn meta log stopped old new id page absent put =
     framed : (q : ℕ) (b : Bool) → page_in (cond b (Some (record { page = page; imaged = false })) (get nat_cmp old q)) ≡ cond b (Some page) (page_in (get nat_cmp old q))
     framed q true = refl
     framed q false = refl
+
     imaged : (q : ℕ) → imaged_in (cond (eqb q id) (Some (record { page = page; imaged = false })) (get nat_cmp old q)) ≡ imaged_in (get nat_cmp old q)
     imaged q = elim (eqb q id) as (λ b. eqb q id ≡ b → imaged_in (cond b (Some (record { page = page; imaged = false })) (get nat_cmp old q)) ≡ imaged_in (get nat_cmp old q)) [
       | true ↦ λ here. sym (ap (λ n. imaged_in (get nat_cmp old n)) (eqb-true q id here) ∙ no_frame (get nat_cmp old id) absent)

@@ -128,12 +128,7 @@ fn operation_of(k: u8, bytes: &[u8]) -> Result<(Op, &[u8]), GroupStop>
 }
 
 /// A group over `k` attributes, behind the count of its images.
-fn group_behind(
-    alloc: Global,
-    k: u8,
-    count: u8,
-    bytes: &[u8],
-) -> Result<(Group, &[u8]), GroupStop>
+fn group_behind(alloc: Global, k: u8, count: u8, bytes: &[u8]) -> Result<(Group, &[u8]), GroupStop>
     requires some { 0 < k }
     requires few { k ≤ KMAX }
     requires images { count ≤ 3 }

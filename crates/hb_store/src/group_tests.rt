@@ -36,7 +36,10 @@ fn payloads(rt: HostRuntime) {
         // a byte behind a group
         (b"\x00\x01\0\0\0\x01\0\0\0\0\0\0\0\x05\x01a\x00", (16, 'b')),
         // a group cut short behind another
-        (b"\x00\x02\0\0\0\x07\0\0\0\0\0\0\0\x05\x00\x01\0\0", (14, 'b')),
+        (
+            b"\x00\x02\0\0\0\x07\0\0\0\0\0\0\0\x05\x00\x01\0\0",
+            (14, 'b'),
+        ),
         // tags that no operation has
         (b"\x00\x00\0\0\0\x01\0\0\0\0\0\0\0\x05\x01a", (0, 'b')),
         (b"\x00\x03\0\0\0\x01\0\0\0\0\0\0\0\x05\x01a", (0, 'b')),

@@ -132,10 +132,12 @@ fn fetched(alloc: Global, id: u32, page: &[u8], failing: &[u64]) -> Result<(u8, 
     let mut store = store_over(alloc, disk(alloc, &[], page, failing)?)?;
     Ok(match store.fetch(id) {
         Ok(()) => (0, shown(&store, id)),
-        Err(FetchStop::Damaged {
-            why: Why::Rule(rule),
-            ..
-        }) => (rule, 'r'),
+        Err(
+            FetchStop::Damaged {
+                why: Why::Rule(rule),
+                ..
+            },
+        ) => (rule, 'r'),
         Err(FetchStop::Damaged { .. }) => (0, 'o'),
         Err(FetchStop::ReadFault) => (0, 'd'),
         Err(FetchStop::NoMemory) => (0, 'm'),
