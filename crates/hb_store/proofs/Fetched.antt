@@ -24,7 +24,7 @@ use Rattle.hb_store.specs.Opening.{page_place, place_bytes}
 use Rattle.hb_store.specs.Keeps.{IsGoodPage, IsStore, StoreKeeps, StoreState, last_of}
 use Rattle.hb_store.specs.Frames.{page_in, imaged_in, state_of}
 use Rattle.hb_store.specs.Calls.{Fetched}
-use Rattle.hb_store.specs.Stops.{IsDamagedBy}
+use Rattle.hb_store.specs.Stops.{IsDamagedBy, IsNoPage}
 use Rattle.hb_store.specs.Fetching.{HasPut, HoldsNot, SameFrames, with_frame}
 use Rattle.hb_store.specs.declared.frames.Frame.{Frame}
 use Rattle.hb_store.specs.declared.stops.FetchStop.{FetchStop}
@@ -264,3 +264,13 @@ sound_stop once d st durable later id stop disk k some high none why sound fault
     by_stop (fetches.Damaged at (Extent asked found)) holds fault memory p = holds
     by_stop fetches.ReadFault holds fault memory p = fault refl
     by_stop fetches.NoMemory holds fault memory p = memory refl
+
+-- a number that is no page's has no frame
+pub no_frame_there : (size : ℕ) (st : StoreState) (id : ℕ) → IsStore size st → IsSome (st.frame id) → IsNoPage st.meta id → ⊥
+no_frame_there size st id is framed none =
+    let page = some_value (st.frame id) framed in
+    let range = is.frames_in id page.0 page.1 in
+    elim none [
+      | inl zero ↦ omega (arith, zero, range.0)
+      | inr above ↦ omega (arith, above, range.1)
+    ]
