@@ -5,5 +5,5 @@ pub mod LogReads
 pub mod Loops
 pub mod OneFile
 pub mod Replays
-pub mod Touching
+pub mod Touches
 pub mod Writable

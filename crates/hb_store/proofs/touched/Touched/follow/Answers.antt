@@ -2,7 +2,7 @@ use Rattle.std.proofs.Common.{All, ap, refl, sym, subst, ◌∙◌}
 use Rattle.hb_store.specs.GroupReading.{logged}
 use Rattle.hb_store.specs.Replay.{IsAllowedIn, MayFollow, Replayed, after_op}
 use Rattle.hb_store.specs.Replaying.{AreItsPages, IsPageOf, replayed_of}
-use Rattle.hb_store.proofs.Touching.{images_its, group_its, meta_stays, on_ok, on_both}
+use Rattle.hb_store.proofs.Touches.{images_its, group_its, meta_stays, on_ok, on_both}
 use Rattle.hb_store.proofs.touched.Touched.follow.Goals as goal
 
 pub apply-requires-clause-pages : goal.apply-requires-clause-pages

@@ -1,6 +1,6 @@
 use Rattle.std.proofs.Common.{Some, ap, sym, ◌∙◌}
 use Rattle.hb_frag.specs.declared.pages.Page.TheVariants.{Live}
-use Rattle.hb_store.proofs.Touching.{light_enough}
+use Rattle.hb_store.proofs.Touches.{light_enough}
 use Rattle.hb_store.proofs.touched.Touched.live.Goals as goal
 
 pub returns-in-Some-Live-clause-light : goal.returns-in-Some-Live-clause-light

@@ -1,6 +1,6 @@
 use Rattle.std.proofs.Common.{rules}
 use Rattle.hb_store.specs.Replaying.{replayed_of, with_pages}
-use Rattle.hb_store.proofs.Touching.{set_next}
+use Rattle.hb_store.proofs.Touches.{set_next}
 use Rattle.hb_store.proofs.touched.Touched.set_all.Goals as goal
 
 pub loop-rest-preserved : goal.loop-rest-preserved
