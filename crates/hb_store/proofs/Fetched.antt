@@ -1,5 +1,5 @@
 -- A page that a fetch brings into a frame is the file's.
-use Rattle.std.proofs.Common.{◌≡◌, ◌≢◌, ◌⊎◌, inl, inr, ℕ, ◌+◌, ◌-◌, ◌*◌, ◌≤◌, ◌++◌, Bool, true, false, cond, eqb, List, length, take, drop, Option, Some, None, Result, Ok, Err, refl, sym, ap, subst, ◌∙◌, arith}
+use Rattle.std.proofs.Common.{◌≡◌, ◌≢◌, inl, inr, ℕ, ◌+◌, ◌-◌, ◌*◌, ◌≤◌, ◌++◌, Bool, true, false, cond, eqb, List, length, take, drop, Option, Some, None, Result, Ok, Err, refl, sym, ap, subst, ◌∙◌, arith}
 use Rattle.std.specs.Prelude.{replicate, IfOk, IfErr, IfSome, IsSome, OnOk, OnErr}
 use Rattle.std.specs.Option.{is_some}
 use Rattle.std.specs.Ordering.{nat_cmp}
@@ -18,7 +18,6 @@ use Rattle.hb_ops.specs.Files.{FileState, if_live, page_of}
 use Rattle.hb_ops.specs.LocalRule.{BreaksFirst}
 use Rattle.hb_ops.specs.Sound.{FitsFile, IsSound}
 use Rattle.hb_wal.specs.Frames.{frames, range}
-use Rattle.hb_wal.specs.Forces.{HasLog}
 use Rattle.hb_wal.specs.Log.{LogState}
 use Rattle.hb_store.specs.GroupLaws.{SpelledOnce}
 use Rattle.hb_store.specs.Opening.{page_place, place_bytes}
@@ -265,3 +264,13 @@ sound_stop once d st durable later id stop disk k some high none why sound fault
     by_stop (fetches.Damaged at (Extent asked found)) holds fault memory p = holds
     by_stop fetches.ReadFault holds fault memory p = fault refl
     by_stop fetches.NoMemory holds fault memory p = memory refl
+
+-- a number that is no page's has no frame
+pub no_frame_there : (size : ℕ) (st : StoreState) (id : ℕ) → IsStore size st → IsSome (st.frame id) → IsNoPage st.meta id → ⊥
+no_frame_there size st id is framed none =
+    let page = some_value (st.frame id) framed in
+    let range = is.frames_in id page.0 page.1 in
+    elim none [
+      | inl zero ↦ omega (arith, zero, range.0)
+      | inr above ↦ omega (arith, above, range.1)
+    ]

@@ -1,5 +1,5 @@
 -- What the readers of images, operations and groups find, step by step.
-use Rattle.std.proofs.Common.{◌≡◌, ◌≢◌, ◌⊎◌, inl, inr, ℕ, zero, suc, ◌+◌, ◌-◌, ◌^◌, ◌<◌, ◌≤◌, List, [], ◌∷◌, ◌++◌, length, map, take, drop, All, Option, Some, None, Result, Ok, Err, refl, sym, ap, subst, ◌∙◌, append_assoc, length-append, arith}
+use Rattle.std.proofs.Common.{◌≡◌, ◌≢◌, ◌⊎◌, inl, inr, ℕ, ◌+◌, ◌-◌, ◌^◌, ◌<◌, List, [], ◌∷◌, ◌++◌, length, map, take, drop, All, Option, Some, None, Result, Ok, Err, refl, sym, ap, subst, ◌∙◌, append_assoc, length-append, arith}
 use Rattle.std.specs.Prelude.{AllPairs}
 use Rattle.std.specs.List.{flat_map}
 use Rattle.std.proofs.lemmas.List.{take_at, drop_at, take-append-drop, length-take, length-drop, map-append, flat_map_more}
@@ -8,15 +8,15 @@ use Rattle.std.proofs.lemmas.List.Elements.{All-head, All-tail, All-cons, All-ni
 use Rattle.hb_space.specs.declared.form.TheConstants.{PAGE}
 use Rattle.hb_outside.specs.Numbers.{big_endian}
 use Rattle.hb_frag.specs.declared.pages.Page.{Page}
-use Rattle.hb_frag.specs.Grammar.{HasSpelling, SpellsPage}
+use Rattle.hb_frag.specs.Grammar.{SpellsPage}
 use Rattle.hb_ops.specs.declared.operations.Op.{Op}
 use Rattle.hb_page_codec.specs.declared.errors.PageError.{PageError}
 use Rattle.hb_page_codec.specs.declared.errors.PageError.TheVariants as pages
 use Rattle.hb_page_codec.specs.Reading.{Reads, number_at}
-use Rattle.hb_store.specs.Groups.{Logged, FitsGroup, FitsImage, FitsOp, SpellsGroups, group_bytes, image_bytes, op_bytes, page_bytes}
+use Rattle.hb_store.specs.Groups.{Logged, FitsGroup, FitsImage, FitsOp, group_bytes, image_bytes, op_bytes, page_bytes}
 use Rattle.hb_store.specs.GroupFields.{op_at}
-use Rattle.hb_store.specs.GroupReading.{Begins, BeginsNone, StopsFor, FitImages, IsBadAt, GroupsEnd, images_bytes, logged, stop_of, stop_at}
-use Rattle.hb_store.specs.GroupLaws.{SpelledOnce, spells_page_bytes, page_bytes_spell, length_page, same_fronts, same_op, same_images, same_group}
+use Rattle.hb_store.specs.GroupReading.{Begins, BeginsNone, StopsFor, FitImages, GroupsEnd, images_bytes, logged, stop_of, stop_at}
+use Rattle.hb_store.specs.GroupLaws.{SpelledOnce, spells_page_bytes, page_bytes_spell, length_page, same_fronts, same_images, same_group}
 use Rattle.hb_store.specs.FieldLaws.{IsBytes, some_is, wide_4, number_takes, number_again}
 use Rattle.hb_store.specs.OpLaws.{op_takes, op_again}
 use Rattle.hb_store.specs.declared.groups.Group.{Group}

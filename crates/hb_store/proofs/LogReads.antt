@@ -1,12 +1,12 @@
 -- What reading a log tells, from what its payloads make of the file.
-use Rattle.std.proofs.Common.{◌≡◌, ◌⊎◌, inl, inr, ℕ, zero, suc, ◌+◌, ◌<◌, ◌≤◌, ◌^◌, List, [], ◌∷◌, ◌++◌, length, get_or, map, take, drop, All, Option, Some, None, Result, Ok, Err, refl, sym, ap, subst, ◌∙◌, append_assoc, length-append, arith}
+use Rattle.std.proofs.Common.{◌≡◌, inl, inr, ℕ, ◌+◌, ◌<◌, ◌≤◌, ◌^◌, List, [], ◌∷◌, ◌++◌, length, get_or, map, take, drop, All, Option, Some, None, Result, Ok, Err, refl, sym, ap, subst, ◌∙◌, append_assoc, length-append, arith}
 use Rattle.std.specs.Prelude.{IfErr, IfSome}
 use Rattle.std.proofs.lemmas.List.{drop_more, get_or-map, length-map, length-take, take-append-drop, take_more}
 use Rattle.std.proofs.lemmas.Grind.{flat_map-append}
-use Rattle.std.proofs.lemmas.List.Elements.{All-append, All-head, All-tail}
+use Rattle.std.proofs.lemmas.List.Elements.{All-head, All-tail}
 use Rattle.hb_ops.specs.declared.meta.Meta.{Meta}
-use Rattle.hb_wal.specs.Frames.{frames, frame_bytes, range, IsPayload, HasFrames, HasBadFrame}
-use Rattle.hb_store.specs.Replay.{Replayed, untouched, replay}
+use Rattle.hb_wal.specs.Frames.{frames, frame_bytes, IsPayload, HasFrames, HasBadFrame}
+use Rattle.hb_store.specs.Replay.{Replayed, untouched}
 use Rattle.hb_store.specs.Opening.{IsBadPayload, HasBadGroup, log_bytes, log_place}
 use Rattle.hb_store.specs.Replaying.{AreItsPages, HasReplayed, IsFirstBad, NamesBad, NamesBadOr, log_stop, replayed_of}
 use Rattle.hb_store.specs.Stops.{IsTouched, ReadsNoLog}

@@ -1,15 +1,14 @@
 -- Bytes open to one file at most, and where they do no frame of their log is bad.
-use Rattle.std.proofs.Common.{◌≡◌, ◌≢◌, ◌⊎◌, inl, inr, ℕ, zero, suc, ◌+◌, ◌-◌, ◌<◌, ◌≤◌, ◌^◌, true, false, cond, eqb, List, [], ◌∷◌, ◌++◌, length, get_or, take, drop, All, Option, Some, None, refl, sym, ap, subst, ◌∙◌, append_assoc, length-append, arith}
+use Rattle.std.proofs.Common.{◌≡◌, ◌⊎◌, inl, inr, ℕ, ◌+◌, ◌-◌, ◌<◌, ◌≤◌, ◌^◌, cond, eqb, List, [], ◌∷◌, ◌++◌, length, get_or, drop, All, Option, Some, None, refl, sym, ap, subst, ◌∙◌, append_assoc, length-append, arith}
 use Rattle.std.proofs.lemmas.Bool.{ne_eqb}
 use Rattle.std.proofs.lemmas.List.{length-take}
 use Rattle.std.proofs.lemmas.List.Elements.{All-head, All-nil, All-tail}
 use Rattle.hb_outside.specs.Numbers.{big_endian}
-use Rattle.hb_disk.specs.Calls.{open_gate}
 use Rattle.hb_frag.specs.declared.pages.Page.{Page}
 use Rattle.hb_ops.specs.declared.meta.Meta.{Meta}
 use Rattle.hb_ops.specs.Files.{FileState, page_at}
 use Rattle.hb_super.specs.Superblocks.{IsNewest}
-use Rattle.hb_wal.specs.Frames.{frames, frame_bytes, IsPayload, IsEnd, IsBadFrame, HasFrames}
+use Rattle.hb_wal.specs.Frames.{frames, frame_bytes, IsPayload, IsEnd, IsBadFrame}
 use Rattle.hb_wal.specs.FrameLaws.{ReadsOneWay}
 use Rattle.hb_wal.specs.Reading.{BeginsFrame}
 use Rattle.hb_store.specs.FieldLaws.{length_number}
@@ -17,7 +16,7 @@ use Rattle.hb_store.specs.OpLaws.{same_number}
 use Rattle.hb_store.specs.Groups.{Logged, SpellAll, SpellsGroups}
 use Rattle.hb_store.specs.GroupLaws.{SpelledOnce, same_fronts, same_groups, same_spelled}
 use Rattle.hb_store.specs.Replay.{Replayed, MayReplay, replay, untouched}
-use Rattle.hb_store.specs.Opening.{HasBadGroup, IsBadPayload, IsPageIn, OpensBy, OpensTo, Shows, log_bytes, log_place}
+use Rattle.hb_store.specs.Opening.{IsBadPayload, IsPageIn, OpensBy, OpensTo, Shows, log_bytes, log_place}
 use Rattle.hb_store.specs.ImageLaws.{OpensToOne, OpensWhole}
 use Rattle.hb_store.proofs.Counted.{page_in_range}
 use Rattle.hb_store.proofs.Replays.{may_front, may_back, replay-append}

@@ -1,5 +1,5 @@
 -- What images and operations make of touched pages.
-use Rattle.std.proofs.Common.{◌≡◌, ℕ, ◌<◌, ◌≤◌, ◌^◌, ◌⊎◌, Bool, true, false, cond, eqb, List, [], ◌∷◌, length, get_or, All, Option, Some, None, Result, Ok, Err, refl, sym, ap, subst, ◌∙◌, arith}
+use Rattle.std.proofs.Common.{◌≡◌, ℕ, ◌<◌, ◌^◌, true, false, cond, eqb, List, [], ◌∷◌, length, get_or, All, Option, Some, None, Result, Ok, Err, refl, sym, ap, subst, ◌∙◌, arith}
 use Rattle.std.specs.Prelude.{◌↔◌, OnOk}
 use Rattle.std.specs.List.{remove}
 use Rattle.std.proofs.lemmas.Bool.{eqb-true}
@@ -16,7 +16,7 @@ use Rattle.hb_ops.specs.declared.operations.Op.TheVariants.{Put, Del}
 use Rattle.hb_ops.specs.Files.{if_live}
 use Rattle.hb_ops.specs.Operations.{Change, IsAllowedOn, OpHas, change_of, put_page, del_page}
 use Rattle.hb_store.specs.Groups.{Logged, FitsGroup, FitsOp}
-use Rattle.hb_store.specs.Replay.{Replayed, set_pages, with_images, IsAllowedIn, after_op, after_group, change_in, MayFollow}
+use Rattle.hb_store.specs.Replay.{Replayed, set_pages, with_images, IsAllowedIn, after_op, after_group, MayFollow}
 use Rattle.hb_store.specs.Replaying.{AreItsPages, HasLimits, IsPageOf, with_pages}
 use Rattle.hb_store.proofs.Writable.{WithinCapacity, put_written, del_written}
 

@@ -1,9 +1,8 @@
 -- What follows of groups from how they are spelled: bytes spell one list of groups at most.
-use Rattle.std.proofs.Common.{◌≡◌, ◌≢◌, ℕ, zero, suc, ◌+◌, ◌-◌, ◌<◌, ◌≤◌, ◌^◌, List, [], ◌∷◌, ◌++◌, length, take, drop, All, Some, refl, sym, ap, subst, ◌∙◌, append_assoc, length-append, arith}
-use Rattle.std.specs.Prelude.{◌↔◌, replicate, AllPairs}
+use Rattle.std.proofs.Common.{◌≡◌, ℕ, ◌+◌, ◌-◌, List, [], ◌∷◌, ◌++◌, length, take, drop, All, refl, sym, ap, subst, ◌∙◌, append_assoc, length-append, arith}
+use Rattle.std.specs.Prelude.{replicate}
 use Rattle.std.specs.List.{flat_map}
 use Rattle.std.proofs.lemmas.List.{take_at, drop_at, length-replicate}
-use Rattle.std.proofs.lemmas.List.Concat.{flat_map-cons}
 use Rattle.std.proofs.lemmas.List.Elements.{All-head, All-tail}
 use Rattle.hb_space.specs.declared.form.TheConstants.{PAGE}
 use Rattle.hb_outside.specs.Numbers.{big_endian}
@@ -12,8 +11,8 @@ use Rattle.hb_frag.specs.Grammar.{HasSpelling, SpellsPage, page_fields}
 use Rattle.hb_ops.specs.declared.operations.Op.{Op}
 use Rattle.hb_store.specs.Groups.{Logged, FitsGroup, FitsImage, FitsOp, SpellsGroups, SpellAll, group_bytes, image_bytes, op_bytes, page_bytes}
 use Rattle.hb_store.specs.GroupFields.{op_at}
-use Rattle.hb_store.specs.GroupReading.{FitImages, images_bytes}
-use Rattle.hb_store.specs.FieldLaws.{some_is, length_number}
+use Rattle.hb_store.specs.GroupReading.{images_bytes}
+use Rattle.hb_store.specs.FieldLaws.{some_is}
 use Rattle.hb_store.specs.OpLaws.{op_again, same_number}
 
 -- bytes spell at most one page

@@ -1,9 +1,9 @@
 -- Reading groups from left to right: what stands at the front of the bytes, and the bytes behind it.
-use Rattle.std.specs.Prelude.{◌≡◌, ℕ, zero, suc, ◌<◌, List, [], ◌∷◌, ◌++◌, length, take, drop, flat_map, map, All, Option, Some, None, Result, Ok, Err}
+use Rattle.std.specs.Prelude.{◌≡◌, ℕ, ◌<◌, List, ◌++◌, length, take, drop, flat_map, All, Result, Ok, Err}
 use Rattle.hb_frag.specs.declared.pages.Page.{Page}
 use Rattle.hb_page_codec.specs.declared.errors.PageError.{PageError}
 use Rattle.hb_page_codec.specs.declared.errors.PageError.TheVariants as pages
-use Rattle.hb_store.specs.Groups.{Logged, FitsGroup, FitsImage, FitsOp, SpellsGroups, group_bytes, image_bytes, op_bytes}
+use Rattle.hb_store.specs.Groups.{Logged, FitsGroup, FitsImage, SpellsGroups, group_bytes, image_bytes}
 use Rattle.hb_store.specs.declared.groups.Group.{Group}
 use Rattle.hb_store.specs.declared.group_reading.GroupStop.{GroupStop}
 use Rattle.hb_store.specs.declared.group_reading.GroupStop.TheVariants as stops

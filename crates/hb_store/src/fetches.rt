@@ -1,4 +1,4 @@
-ghost use Rattle.std.specs.Prelude.{◌≡◌, ◌≢◌, ℕ, ◌≤◌, List, None, IfOk, IfErr, IfSome, IsErrOf, OnOk, OnErr, IsSome};
+ghost use Rattle.std.specs.Prelude.{◌≡◌, ◌≢◌, ℕ, ◌≤◌, List, None, IfOk, IfErr, IfSome, IsErrOf, IsOk, OnOk, OnErr, IsSome};
 ghost use Rattle.hb_outside.specs.Streams.{Rose};
 ghost use Rattle.hb_disk.specs.Calls.{OnlyReads};
 ghost use Rattle.hb_ops.specs.Files.{FileState};
@@ -38,6 +38,8 @@ impl<D: Disk> Store<D> {
         ensures why { IfErr result (FetchesNot (seen_as self.old).meta (D.model self.old.disk) id) }
         ensures cause { IsErrOf result ReadFault → Rose (D.model self.old.disk).read_faults (D.model self.new.disk).read_faults }
         ensures framed { IsSome ((seen_as self.old).frame id) → OnOk result (seen_as self.new ≡ seen_as self.old) }
+        ensures in_frame { IsSome ((seen_as self.old).frame id) → IsOk result × (self.new.disk ≡ self.old.disk) }
+        ensures unread { IsNoPage (seen_as self.old).meta id → self.new.disk ≡ self.old.disk }
         ensures keeps { (durable : FileState) (later : List FileState) → StoreKeeps (D.model self.old.disk) (seen_as self.old) durable later →
             StoreKeeps (D.model self.new.disk) (seen_as self.new) durable later }
         // in a sound file no page is damaged

@@ -177,7 +177,7 @@ impl Touched {
     /// Replays a group: sets its images under their numbers, then applies its operation to touched pages.
     ///
     /// `Unfit` exactly where it may not be replayed here. After an error some of it may be done.
-    pub(crate) fn follow(&mut self, alloc: Global, group: Group) -> Result<(), ReplayStop>
+    fn follow(&mut self, alloc: Global, group: Group) -> Result<(), ReplayStop>
         requires limits { HasLimits self.old.meta }
         requires pages { AreItsPages (replayed_of self.old) }
         requires fits { FitsGroup self.old.meta.k (logged group) }

@@ -1,4 +1,4 @@
-use Rattle.std.proofs.Common.{◌≡◌, ◌-◌, rules, length, refl}
+use Rattle.std.proofs.Common.{◌-◌, rules, length, refl}
 use Rattle.std.specs.Prelude.{map}
 use Rattle.hb_store.specs.GroupReading.{logged}
 use Rattle.hb_store.proofs.GroupReads.{groups_more, groups_end}

@@ -1,4 +1,3 @@
-use Rattle.std.proofs.Common.{◌<◌}
 use Rattle.std.proofs.lemmas.Result.{err_from_is_err_and}
 use Rattle.hb_store.proofs.GroupReads.{images_more, images_stop}
 use Rattle.hb_store.proofs.group_reading.images_of.Goals as goal

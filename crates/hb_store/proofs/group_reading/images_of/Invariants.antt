@@ -1,4 +1,3 @@
-use Rattle.std.proofs.Common.{◌≡◌, length}
 use Rattle.hb_store.specs.GroupReading.{Begins, FitImages, images_bytes}
 use Rattle.hb_store.proofs.group_reading.images_of.Given as goal
 

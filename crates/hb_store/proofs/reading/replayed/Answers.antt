@@ -1,4 +1,4 @@
-use Rattle.std.proofs.Common.{◌≡◌, ◌<◌, ◌^◌, ℕ, ◌+◌, ◌∷◌, ◌++◌, length, take, drop, ap, sym, subst, ◌∙◌, arith}
+use Rattle.std.proofs.Common.{take, ap, sym, subst, ◌∙◌, arith}
 use Rattle.hb_ops.specs.declared.meta.Meta.{Meta}
 use Rattle.hb_store.specs.Opening.{IsBadPayload}
 use Rattle.hb_store.specs.Replay.{Replayed}

@@ -1,4 +1,4 @@
-use Rattle.std.proofs.Common.{◌≡◌, None, ap, sym, subst, ◌∙◌, rules, arith}
+use Rattle.std.proofs.Common.{inl, inr, ◌≡◌, None, ap, sym, subst, ◌∙◌, arith}
 use Rattle.std.proofs.lemmas.Result.{err_from_is_err_and}
 use Rattle.std.specs.Ordering.{nat_cmp}
 use Rattle.std.specs.BTreeMap.{get}
@@ -6,7 +6,9 @@ use Rattle.hb_store.specs.Calls.{Fetched}
 use Rattle.hb_store.specs.Fetching.{with_frame}
 use Rattle.hb_store.specs.Keeps.{StoreKeeps, StoreState}
 use Rattle.hb_store.specs.Seen.{seen_as}
-use Rattle.hb_store.proofs.Fetched.{no_page_in, keeps_read, keeps_framed, is_the_page, fetched_frame, sound_stop}
+use Rattle.hb_store.specs.Stops.{IsNoPage}
+use Rattle.hb_store.proofs.Fetched.{no_frame_there, no_page_in, keeps_read, keeps_framed, is_the_page, fetched_frame, sound_stop}
+use Rattle.hb_store.proofs.store.Store.fetch.Goals.{then-id-eq0-via-then-id-eq0, then-id-eq0-via-else-id-eq0+then-id-self}
 use Rattle.hb_store.proofs.store.Store.fetch.Goals as goal
 
 pub returns-in_err-page-clause-keeps : goal.returns-in_err-page-clause-keeps
@@ -53,3 +55,12 @@ returns-clause-keeps g c =
     let there = is_the_page c.spelling_law.ensures.one_page d st durable later c.args.id page (g.met.D.Disk.is_disk c.args.self.now.disk) k (omega (arith, c.if-id-eq0.false)) (omega (arith, c.if-id-self.false)) none c.in_ok-page.ensures.there in
     subst (λ disk. StoreKeeps (g.D.Disk.model disk) (seen_as c.set_frame.new.self) durable later) (sym c.set_frame.ensures.disk)
     (subst (λ s. StoreKeeps e s durable later) (sym same) (keeps_framed e st durable later c.args.id page there (keeps_read d e st durable later c.read_page.ensures.only_reads.stays k)))
+
+pub returns-then-id-eq0-clause-in_frame : goal.returns-then-id-eq0-clause-in_frame
+returns-then-id-eq0-clause-in_frame g c =
+    let st = c.args.self.now in
+    let none : IsNoPage st.meta c.args.id = elim c.then-id-eq0.branch [
+      | then-id-eq0-via-then-id-eq0 w ↦ inl (omega (arith, w.if-id-eq0.true))
+      | then-id-eq0-via-else-id-eq0+then-id-self w ↦ inr (omega (arith, w.if-id-self.true))
+    ] in
+    λ framed. absurd (no_frame_there (g.D.Disk.model st.disk).size (seen_as st) c.args.id st.is_store framed none)

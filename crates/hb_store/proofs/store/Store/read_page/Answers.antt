@@ -1,7 +1,6 @@
 use Rattle.std.proofs.Common.{◌≡◌}
 use Rattle.std.specs.Prelude.{IfSome}
 use Rattle.hb_store.specs.Opening.{place_bytes}
-use Rattle.hb_store.specs.Seen.{seen_as}
 use Rattle.hb_store.proofs.Fetched.{placed_read, read_there, read_not}
 use Rattle.hb_store.proofs.store.Store.read_page.Goals as goal
 
