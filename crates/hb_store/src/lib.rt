@@ -1,4 +1,23 @@
 //! Log, pages in memory and superblock together: a file that changes by whole operations.
+//!
+//! The one contract: what a crash leaves of a store is the file before the groups that wait, and
+//! while a force runs perhaps the file after the first of them. `StoreKeeps` says so of a disk that
+//! tells, and each call keeps it, also where it fails and the store is stopped: `opened` begins it,
+//! `fetch` brings a page of the file into memory, `commit` does an operation there and lets its
+//! group wait, `force` makes the first group that waits last. `read_log` reads what a log makes of
+//! the pages that it touches, or names its first bad frame.
+//!
+//! What a list of bytes opens to is defined in `specs/Opening.antt`: the newest superblock, the
+//! frames of its log area, the groups that they spell and the replay of these, and for every page
+//! that they don't touch the one in its place. The functions of `laws` and `image_laws` say that an
+//! image opens to one file at most, and that an image of a store opens.
+//!
+//! Invariants of `Store`, over every disk: its turn, its layout and its marks are within their
+//! limits, the log is that of its turn, and every page in a frame is one of the file, has a
+//! spelling, and keeps the rules that speak of it alone.
+//!
+//! A page is brought into the log as an image before an operation of this turn first reads it. So
+//! a replay needs no page from its place. Pages stay in memory once they are fetched.
 #![tactic(auto)]
 
 #[cfg(test)]
@@ -25,6 +44,7 @@ mod places;
 mod reading;
 mod stops;
 mod store;
+mod threads;
 mod touched;
 
 pub use image_laws::an_image_opens_to_one_file;

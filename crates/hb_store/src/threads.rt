@@ -1,0 +1,24 @@
+//! The types of this crate may go to another thread, and be read by several.
+
+ghost use Rattle.std.specs.Thread.{IsSend, IsSync};
+
+use crate::{FetchStop, Flushed, LogStop, StopWhy, Store, Touched, Why, WriteFault};
+use hb_disk::Disk;
+
+/// Each type of the crate does, a store where its disk does.
+fn types_cross_threads<D: Disk + Send + Sync>() {
+    crosses::<Store<D>>();
+    crosses::<Touched>();
+    crosses::<LogStop>();
+    crosses::<FetchStop>();
+    crosses::<StopWhy>();
+    crosses::<Why>();
+    crosses::<WriteFault>();
+    crosses::<Flushed>();
+}
+
+/// Values of the type may go to another thread, and be read by several.
+fn crosses<T: Send + Sync>()
+    ensures sent { IsSend T.row }
+    ensures read_by_several { IsSync T.row }
+{}
