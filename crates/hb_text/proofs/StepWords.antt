@@ -1,19 +1,17 @@
 -- Where the word of a step line is cut, and how many steps are left behind words.
-use Rattle.std.proofs.Common.{◌≡◌, ℕ, suc, ◌+◌, ◌-◌, ◌<◌, ◌≤◌, Bool, true, false, not, cond, eqb, ◌&&◌, List, [], ◌∷◌, ◌++◌, length, take, drop, replicate, Option, Some, None, Result, Ok, Err, refl, sym, ap, subst, ◌∙◌, arith, append_assoc, nat_le, nat_lt, inl, inr}
+use Rattle.std.proofs.Common.{◌≡◌, ℕ, ◌+◌, ◌-◌, ◌<◌, ◌≤◌, Bool, true, false, cond, eqb, ◌&&◌, List, [], ◌∷◌, ◌++◌, length, take, drop, replicate, Option, Some, None, Result, Ok, Err, refl, sym, ap, subst, ◌∙◌, arith, append_assoc, nat_le, nat_lt, inl, inr}
 use Rattle.std.specs.List.{position, position_or_len, slice_split, list_all}
 use Rattle.std.specs.Char.{is_ascii_digit}
 use Rattle.std.proofs.lemmas.Bool.Decides.{nat_tests}
 use Rattle.std.proofs.lemmas.List.{length-append, length-replicate}
 use Rattle.std.proofs.lemmas.List.Splits.{length-slice_split}
 use Rattle.hb_text.specs.declared.numbers.NumberFault.{NumberFault}
-use Rattle.hb_text.specs.declared.numbers.NumberFault.TheVariants.{NotANumber}
-use Rattle.hb_text.specs.declared.rules.TextRule.{TextRule}
 use Rattle.hb_text.specs.declared.rules.TextRule.TheVariants.{BadStep}
 use Rattle.hb_text.specs.Numbers.{is_number, number_read}
 use Rattle.hb_text.specs.Grammar.{actor_of, count_number, repeated, steps_of_parts, word_steps, joined_steps, steps_of, within_schedule, steps_read}
 use Rattle.hb_text.specs.Steps.{left_after, then_left, steps_left}
 use Rattle.hb_text.specs.ScriptLaws.{chosen}
-use Rattle.hb_text.proofs.WordCuts.{cut_at, cut_nowhere, made, not_made}
+use Rattle.hb_text.proofs.WordCuts.{cut_at, cut_nowhere, made}
 
 abbrev parts : List ℕ → List (List ℕ)
 parts word = slice_split (λ c. eqb c 120) word

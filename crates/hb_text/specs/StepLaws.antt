@@ -1,5 +1,5 @@
 -- What the steps of a text are: actors, no more than a schedule has, and none where step lines aren't allowed.
-use Rattle.std.specs.Prelude.{◌≡◌, ◌⊎◌, ℕ, zero, suc, ◌+◌, ◌-◌, ◌<◌, ◌≤◌, Bool, true, false, not, cond, ◌&&◌, ◌==◌, nat_lt, nat_le, List, [], ◌∷◌, ◌++◌, length, replicate, All, Option, Some, None, Result, Ok, Err, refl, codes, if◌then◌else◌}
+use Rattle.std.specs.Prelude.{◌≡◌, ℕ, zero, suc, ◌+◌, ◌≤◌, Bool, true, false, not, ◌&&◌, ◌==◌, nat_lt, nat_le, List, [], ◌∷◌, ◌++◌, length, replicate, All, Option, Some, None, Result, Ok, Err, refl, codes, if◌then◌else◌}
 use Rattle.std.proofs.Common.{inl, inr, sym, ap, ◌∙◌, arith, subst}
 use Rattle.std.specs.List.{AllByRecursion, list_all, list_any, slice_split}
 use Rattle.std.specs.Str.{bytes_eq}
@@ -12,7 +12,7 @@ use Rattle.hb_text.specs.Numbers.{number_read}
 use Rattle.hb_text.specs.declared.numbers.NumberFault.{NumberFault}
 use Rattle.hb_text.specs.declared.rules.TextRule.{TextRule}
 use Rattle.hb_text.specs.declared.rules.TextRule.TheVariants.{TooMany, LongLine, BadByte, BadSpacing, BadStep}
-use Rattle.hb_text.specs.Grammar.{◌>>=◌, Said, Reading, actor_of, count_number, repeated, steps_of_parts, word_steps, joined_steps, steps_of, within_schedule, steps_read, says_steps, says_command, session_number, session_of, session_read, command_read, words_read, words_of, line_read, lines_read, lines_of, at_line, text_read, is_empty, is_printable}
+use Rattle.hb_text.specs.Grammar.{Said, Reading, actor_of, count_number, repeated, steps_of_parts, word_steps, joined_steps, steps_of, within_schedule, steps_read, says_steps, says_command, session_number, session_of, session_read, command_read, words_read, words_of, line_read, lines_read, lines_of, at_line, text_read, is_empty, is_printable}
 use Rattle.hb_text.specs.ScriptLaws.{bound, chosen, at_line_ok}
 
 -- an actor: 1 to 16 the sessions, then the poster, the consolidator and the flusher

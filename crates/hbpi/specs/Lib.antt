@@ -2,11 +2,4 @@ pub mod Forms
 pub mod Codes
 pub mod Taking
 pub mod Outcome
-pub mod Layouts
 pub mod Ends
-pub mod Created
-pub mod Audit
-pub mod Restart
-pub mod OnePage
-pub mod Creation
-pub mod Looking

@@ -1,7 +1,6 @@
-use Rattle.std.proofs.Common.{◌≡◌, Bool, true, false, cond, sym, ◌∙◌, ap, refl, Err, Ok, Result, Some}
+use Rattle.std.proofs.Common.{◌∙◌, ap}
 use Rattle.std.proofs.lemmas.Bool.{false≢true}
-use Rattle.hb_text.specs.declared.rules.TextRule.TheVariants.{BadStep}
-use Rattle.hb_text.specs.Grammar.{says_steps, steps_read}
+use Rattle.hb_text.specs.Grammar.{says_steps}
 use Rattle.hb_text.proofs.StepWords.{read_some, read_none, when}
 use Rattle.hb_text.proofs.lines.read_step_line.Goals as goal
 

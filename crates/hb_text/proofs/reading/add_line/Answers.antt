@@ -1,4 +1,4 @@
-use Rattle.std.proofs.Common.{◌≡◌, ℕ, ◌+◌, ◌≤◌, Bool, List, ◌++◌, length, drop, sym, ap, subst, ◌∙◌, arith, Some, None, Ok}
+use Rattle.std.proofs.Common.{◌≡◌, ℕ, ◌+◌, ◌≤◌, Bool, List, length, drop, ap, subst, ◌∙◌, arith, Some, None, Ok}
 use Rattle.std.proofs.lemmas.List.{length-append}
 use Rattle.hb_text.specs.declared.lines.Meaning.{Meaning}
 use Rattle.hb_text.specs.declared.lines.Meaning.TheVariants.{Steps}
