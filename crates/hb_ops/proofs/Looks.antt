@@ -45,8 +45,8 @@ records_are_contents s id page p r live made level others stands =
     let here = around s id p page stands.records stands.area live level made.well_cut made.in_order stands.leaf others in
     let rising = rising_at page p stands.records stands.area made.in_order stands.leaf in
     let before : (i : ℕ) (d : Record) → i < stands.place → (get_or stands.records i d).key ≢ p = λ i d lt same.
-        let at = at_place stands.records stands.place r d stands.among in
-        lesser (get_or stands.records i d).key (get_or stands.records stands.place d).key (rising i stands.place d lt at.0) (same ∙ sym (ap (λ (r : Record). r.key) at.1 ∙ stands.key)) in
+    let at = at_place stands.records stands.place r d stands.among in
+    lesser (get_or stands.records i d).key (get_or stands.records stands.place d).key (rising i stands.place d lt at.0) (same ∙ sym (ap (λ (r : Record). r.key) at.1 ∙ stands.key)) in
     ap (λ (rs : List Record). finite.get (contents rs) p) here.is
     ∙ get-contents (here.before ++ (stands.records ++ here.after)) p
     ∙ body-append p here.before (stands.records ++ here.after)

@@ -64,7 +64,11 @@ pub(crate) fn delete(
 
 // The records of the leaf at the record's point, and the place among them to which it would go.
 // `None` where a put of it isn't allowed.
-pub(crate) fn gap_for<'a>(page: &'a LivePage, meta: &Meta, rec: &Record) -> Option<(&'a Records, usize)>
+pub(crate) fn gap_for<'a>(
+    page: &'a LivePage,
+    meta: &Meta,
+    rec: &Record,
+) -> Option<(&'a Records, usize)>
     requires points { length rec.now.key ≡ meta.now.k }
     requires light { weight_of page.now.frag < 2 ^ 32 }
     ensures { MatchOption result

@@ -16,9 +16,9 @@ mod changes;
 mod edits;
 mod laws;
 mod local;
+mod looking;
 mod meta;
 mod operations;
-mod looking;
 #[cfg(test)]
 mod tests;
 mod threads;
@@ -29,6 +29,6 @@ pub use laws::{
     operations_keep_a_file_sound, put_adds_one_record, what_stands_is_in_the_contents,
 };
 pub use local::local_rule;
+pub use looking::{Standing, has_room, look_at};
 pub use meta::Meta;
 pub use operations::Op;
-pub use looking::{Standing, has_room, look_at};
