@@ -8,12 +8,12 @@ use Rattle.hb_text.specs.declared.rules.BadLine.{BadLine}
 use Rattle.hb_text.specs.Grammar.{Reading, text_read}
 use Rattle.hb_text.specs.TextLength.{text_is_short}
 use Rattle.hbpi.specs.declared.forms.Form.{Form}
-use Rattle.hbpi.specs.declared.forms.Form.TheVariants.{Dry}
+use Rattle.hbpi.specs.declared.forms.Form.TheVariants.{Create, Dry}
 use Rattle.hbpi.specs.declared.statuses.Status.{Status}
-use Rattle.hbpi.specs.declared.statuses.Status.TheVariants.{Done, Usage, BadText, SourceFault, SinkFault, NoMemory, NotBuilt}
+use Rattle.hbpi.specs.declared.statuses.Status.TheVariants.{Done, Usage, BadText, SourceFault, SinkFault, DiskFault, Damaged, NoMemory, BadLayout, Small, NotBuilt}
 use Rattle.hb_outside.specs.Streams.{Rose}
 use Rattle.hbpi.specs.Outcome.{greatest_text, IsTextOf, IsWholeText}
-use Rattle.hbpi.specs.Ends.{Seen, Ends, DryEnds, IsAnswered, IsComplete, RefusesBadText, NamesBadLine}
+use Rattle.hbpi.specs.Ends.{Seen, DiskSeen, Ends, CreateEnds, IsMadeWhole, DryEnds, IsAnswered, IsComplete, RefusesBadText, NamesBadLine}
 
 -- a good text is read whole
 good_is_whole : (k : ℕ) (left : List ℕ) (reading : Reading) → text_read false k left ≡ Ok reading → take greatest_text left ≡ left
@@ -45,6 +45,10 @@ dry_complete k seen (BadText bad) ends left reading told good source sink =
 dry_complete k seen SourceFault ends left reading told good source sink = absurd (source ends.0)
 dry_complete k seen SinkFault ends left reading told good source sink = absurd (sink ends.3)
 dry_complete k seen NoMemory ends left reading told good source sink = inr refl
+dry_complete k seen DiskFault ends left reading told good source sink = absurd ends
+dry_complete k seen (Damaged damage) ends left reading told good source sink = absurd ends
+dry_complete k seen (BadLayout field value) ends left reading told good source sink = absurd ends
+dry_complete k seen (Small needed found) ends left reading told good source sink = absurd ends
 dry_complete k seen NotBuilt ends left reading told good source sink = absurd ends
 
 answered_not_bad : (k : ℕ) (seen : Seen) (lines : _) (left : List ℕ) (bad : BadLine) → IsAnswered k seen lines → seen.left ≡ Some left → text_read false k (take greatest_text left) ≡ Err bad → ⊥
@@ -65,19 +69,23 @@ dry_refuses k seen (BadText found) ends left bad told wrong source =
 dry_refuses k seen SourceFault ends left bad told wrong source = absurd (source ends.0)
 dry_refuses k seen SinkFault ends left bad told wrong source = absurd (answered_not_bad k seen ends.0 left bad ends.1 told wrong)
 dry_refuses k seen NoMemory ends left bad told wrong source = inr refl
+dry_refuses k seen DiskFault ends left bad told wrong source = absurd ends
+dry_refuses k seen (Damaged damage) ends left bad told wrong source = absurd ends
+dry_refuses k seen (BadLayout field value) ends left bad told wrong source = absurd ends
+dry_refuses k seen (Small needed found) ends left bad told wrong source = absurd ends
 dry_refuses k seen NotBuilt ends left bad told wrong source = absurd ends
 
-pub ends_complete : (form : Option Form) (seen : Seen) (status : Status) → Ends form seen status → IsComplete form seen status
-ends_complete None seen status ends k left reading is told good source sink = cc
-ends_complete (Some (Dry n)) seen status ends k left reading is told good source sink =
+pub ends_complete : (form : Option Form) (seen : Seen) (disk : DiskSeen) (status : Status) → Ends form seen disk status → IsComplete form seen status
+ends_complete None seen disk status ends k left reading is told good source sink = cc
+ends_complete (Some (Dry n)) seen disk status ends k left reading is told good source sink =
     dry_complete n seen status ends left reading told (rw (same_attributes n k is) good) source sink
-ends_complete (Some form) seen status ends k left reading is told good source sink = cc
+ends_complete (Some form) seen disk status ends k left reading is told good source sink = cc
 
-pub ends_refuses : (form : Option Form) (seen : Seen) (status : Status) → Ends form seen status → RefusesBadText form seen status
-ends_refuses None seen status ends k left bad is told wrong source = cc
-ends_refuses (Some (Dry n)) seen status ends k left bad is told wrong source =
+pub ends_refuses : (form : Option Form) (seen : Seen) (disk : DiskSeen) (status : Status) → Ends form seen disk status → RefusesBadText form seen status
+ends_refuses None seen disk status ends k left bad is told wrong source = cc
+ends_refuses (Some (Dry n)) seen disk status ends k left bad is told wrong source =
     dry_refuses n seen status ends left bad told (front_reads n left ∙ rw (same_attributes n k is) wrong) source
-ends_refuses (Some form) seen status ends k left bad is told wrong source = cc
+ends_refuses (Some form) seen disk status ends k left bad is told wrong source = cc
 
 dry_names : (k : ℕ) (seen : Seen) (status : Status) → DryEnds k seen status → (left : List ℕ) (bad : BadLine) → seen.left ≡ Some left → status ≡ BadText bad → text_read false k left ≡ Err bad
 dry_names k seen (BadText found) ends left bad told is =
@@ -89,9 +97,22 @@ dry_names k seen Usage ends left bad told is = cc
 dry_names k seen SourceFault ends left bad told is = cc
 dry_names k seen SinkFault ends left bad told is = cc
 dry_names k seen NoMemory ends left bad told is = cc
+dry_names k seen DiskFault ends left bad told is = cc
+dry_names k seen (Damaged damage) ends left bad told is = cc
+dry_names k seen (BadLayout field value) ends left bad told is = cc
+dry_names k seen (Small needed found) ends left bad told is = cc
 dry_names k seen NotBuilt ends left bad told is = cc
 
-pub ends_names : (form : Option Form) (seen : Seen) (status : Status) → Ends form seen status → NamesBadLine form seen status
-ends_names None seen status ends k left bad is told named = cc
-ends_names (Some (Dry n)) seen status ends k left bad is told named = rw (← same_attributes n k is) (dry_names n seen status ends left bad told named)
-ends_names (Some form) seen status ends k left bad is told named = cc
+pub ends_names : (form : Option Form) (seen : Seen) (disk : DiskSeen) (status : Status) → Ends form seen disk status → NamesBadLine form seen status
+ends_names None seen disk status ends k left bad is told named = cc
+ends_names (Some (Dry n)) seen disk status ends k left bad is told named = rw (← same_attributes n k is) (dry_names n seen status ends left bad told named)
+ends_names (Some form) seen disk status ends k left bad is told named = cc
+
+same_layout : (a b c d e f g h i j : ℕ) (P : ℕ → ℕ → ℕ → ℕ → ℕ → Type 0) → ◌≡◌ {A = Option Form} (Some (Create a b c d e)) (Some (Create f g h i j)) → P f g h i j → P a b c d e
+same_layout a b c d e f g h i j P is p =
+    let k : f ≡ a = cc in
+    let pages : g ≡ b = cc in
+    let log : h ≡ c = cc in
+    let dcap : i ≡ d = cc in
+    let icap : j ≡ e = cc in
+    subst (λ (x : ℕ). P x b c d e) k (subst (λ (x : ℕ). P f x c d e) pages (subst (λ (x : ℕ). P f g x d e) log (subst (λ (x : ℕ). P f g h x e) dcap (subst (λ (x : ℕ). P f g h i x) icap p))))

@@ -3,3 +3,10 @@ pub mod TextPieces
 pub mod PutTexts
 pub mod RunLines
 pub mod EndLaws
+pub mod NewFile
+pub mod Boxes
+pub mod PartTests
+pub mod Own
+pub mod Lone
+pub mod Made
+pub mod Found

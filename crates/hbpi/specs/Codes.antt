@@ -1,7 +1,10 @@
 -- Exit statuses.
 use Rattle.std.specs.Prelude.{ℕ}
+use Rattle.hbpi.specs.declared.restart.faults.OpenFault.{OpenFault}
+use Rattle.hbpi.specs.declared.restart.faults.OpenFault.TheVariants as faults
+use Rattle.hbpi.specs.declared.statuses.Damage.TheVariants as damages
 use Rattle.hbpi.specs.declared.statuses.Status.{Status}
-use Rattle.hbpi.specs.declared.statuses.Status.TheVariants.{Done, Usage, BadText, SourceFault, SinkFault, NoMemory, NotBuilt}
+use Rattle.hbpi.specs.declared.statuses.Status.TheVariants.{Done, Usage, BadText, SourceFault, SinkFault, DiskFault, Damaged, NoMemory, BadLayout, Small, NotBuilt}
 
 abbrev pub code_of : Status → ℕ
 code_of Done = 0
@@ -9,5 +12,20 @@ code_of Usage = 2
 code_of (BadText bad) = 3
 code_of SourceFault = 4
 code_of SinkFault = 5
+code_of DiskFault = 6
+code_of (Damaged damage) = 7
 code_of NoMemory = 8
+code_of (BadLayout field value) = 9
+code_of (Small needed found) = 9
 code_of NotBuilt = 11
+
+-- the status of a run that a file refused
+abbrev pub status_of : OpenFault → Status
+status_of (faults.BadLayout field value) = BadLayout field value
+status_of (faults.Small needed found) = Small needed found
+status_of faults.NoSuper = Damaged damages.NoSuper
+status_of faults.NotBuilt = NotBuilt
+status_of (faults.BadGroup frame) = Damaged (damages.BadGroup frame)
+status_of (faults.Unsound page rule) = Damaged (damages.Rule page rule)
+status_of faults.DiskFault = DiskFault
+status_of faults.NoMemory = NoMemory

@@ -1,5 +1,5 @@
 -- What each status says of a run: its cause, and what it leaves.
-use Rattle.std.specs.Prelude.{◌≡◌, ℕ, ◌≤◌, ◌⊎◌, Bool, true, false, List, [], length, Option, Some, None, Ok, Err}
+use Rattle.std.specs.Prelude.{◌≡◌, ℕ, ◌<◌, ◌≤◌, ◌⊎◌, Bool, true, false, List, [], length, codes, Option, Some, None, Ok, Err}
 use Rattle.hb_outside.specs.Streams.{Rose, Appends, AppendsFront}
 use Rattle.hb_set.specs.declared.scripts.Line.{Line}
 use Rattle.hb_set.specs.declared.scripts.Answered.{Answered}
@@ -8,9 +8,12 @@ use Rattle.hb_text.specs.declared.rules.BadLine.{BadLine}
 use Rattle.hb_text.specs.Grammar.{Reading, text_read}
 use Rattle.hb_text.specs.Output.{order_text, output_text}
 use Rattle.hbpi.specs.declared.forms.Form.{Form}
-use Rattle.hbpi.specs.declared.forms.Form.TheVariants.{Dry}
+use Rattle.hbpi.specs.declared.forms.Form.TheVariants.{Create, Dry}
 use Rattle.hbpi.specs.declared.statuses.Status.{Status}
-use Rattle.hbpi.specs.declared.statuses.Status.TheVariants.{Done, Usage, BadText, SourceFault, SinkFault, NoMemory, NotBuilt}
+use Rattle.hbpi.specs.declared.statuses.Status.TheVariants.{Done, Usage, BadText, SourceFault, SinkFault, DiskFault, Damaged, NoMemory, BadLayout, Small, NotBuilt}
+use Rattle.hbpi.specs.declared.restart.faults.OpenFault.{OpenFault}
+use Rattle.hbpi.specs.declared.restart.faults.OpenFault.TheVariants as opens
+use Rattle.hbpi.specs.Layouts.{first_fault, size_of}
 use Rattle.hbpi.specs.Outcome.{fault_line, GetsLine, IsTextOf, IsWholeText, IsDryRun}
 
 -- what is seen of a run from outside: what the source had left and has left, what the sink held and holds, both counts
@@ -57,6 +60,10 @@ DryEnds k seen (BadText bad) = (text : List ℕ) × IsTextOf seen.left seen.rest
 DryEnds k seen SourceFault = Rose seen.source_before seen.source_after × IsRefused seen SourceFault
 DryEnds k seen NoMemory = IsRefused seen NoMemory
 DryEnds k seen Usage = ⊥
+DryEnds k seen DiskFault = ⊥
+DryEnds k seen (Damaged damage) = ⊥
+DryEnds k seen (BadLayout field value) = ⊥
+DryEnds k seen (Small needed found) = ⊥
 DryEnds k seen NotBuilt = ⊥
 
 -- words that are no form, and forms that aren't built, are refused before anything is read
@@ -68,11 +75,66 @@ abbrev pub UnbuiltEnds : Seen → Status → Type 0
 UnbuiltEnds seen NotBuilt = IsRefused seen NotBuilt × IsUnread seen
 UnbuiltEnds seen _ = ⊥
 
+-- what a run saw of the disk: its size, and its counts of faults before and after
+pub record DiskSeen : Type 0 where
+  pub size : ℕ
+  pub reads_before : ℕ
+  pub reads_after : ℕ
+  pub writes_before : ℕ
+  pub writes_after : ℕ
+
+-- a file was made: its layout is within the limits, and the disk has room for it
+pub record IsMade (fault : Option OpenFault) (needed : ℕ) (seen : Seen) (disk : DiskSeen) : Type 0 where
+  pub good : fault ≡ None
+  pub large : needed ≤ disk.size
+  pub unread : IsUnread seen
+  pub none_answered : seen.answered ≡ []
+  pub none_ordered : seen.order ≡ []
+
+-- making a file was refused behind the test of the layout
+pub record IsNotMade (fault : Option OpenFault) (seen : Seen) (status : Status) : Type 0 where
+  pub good : fault ≡ None
+  pub refused : IsRefused seen status
+  pub unread : IsUnread seen
+
+-- a new file, whose layout has this fault and wants so many bytes
+abbrev pub CreateEnds : Option OpenFault → ℕ → Seen → DiskSeen → Status → Type 0
+CreateEnds fault needed seen disk Done = IsMade fault needed seen disk × Appends seen.held seen.holds (codes "created\n")
+CreateEnds fault needed seen disk SinkFault = IsMade fault needed seen disk × AppendsFront seen.held seen.holds (codes "created\n") × Rose seen.sink_before seen.sink_after
+CreateEnds fault needed seen disk (BadLayout field value) = (fault ≡ Some (opens.BadLayout field value)) × IsRefused seen (BadLayout field value) × IsUnread seen
+CreateEnds fault needed seen disk (Small wanted found) = (wanted ≡ needed) × (found ≡ disk.size) × (disk.size < needed) × IsNotMade fault seen (Small wanted found)
+CreateEnds fault needed seen disk DiskFault = (needed ≤ disk.size) × Rose disk.writes_before disk.writes_after × IsNotMade fault seen DiskFault
+CreateEnds fault needed seen disk NoMemory = (needed ≤ disk.size) × IsNotMade fault seen NoMemory
+CreateEnds fault needed seen disk Usage = ⊥
+CreateEnds fault needed seen disk (BadText bad) = ⊥
+CreateEnds fault needed seen disk SourceFault = ⊥
+CreateEnds fault needed seen disk (Damaged damage) = ⊥
+CreateEnds fault needed seen disk NotBuilt = ⊥
+
 -- how a run of a form ends
-abbrev pub Ends : Option Form → Seen → Status → Type 0
-Ends None seen status = UsageEnds seen status
-Ends (Some (Dry k)) seen status = DryEnds k seen status
-Ends (Some form) seen status = UnbuiltEnds seen status
+abbrev pub Ends : Option Form → Seen → DiskSeen → Status → Type 0
+Ends None seen disk status = UsageEnds seen status
+Ends (Some (Dry k)) seen disk status = DryEnds k seen status
+Ends (Some (Create k pages log dcap icap)) seen disk status = CreateEnds (first_fault k pages log dcap icap) (size_of pages log) seen disk status
+Ends (Some form) seen disk status = UnbuiltEnds seen status
+
+-- A layout within its limits on a disk with room for it is made into a file, unless the disk or the sink failed or memory
+-- was refused.
+abbrev pub IsMadeWhole : Option Form → Seen → DiskSeen → Status → Type 0
+IsMadeWhole form seen disk status = (k pages log dcap icap : ℕ) → form ≡ Some (Create k pages log dcap icap) → first_fault k pages log dcap icap ≡ None → size_of pages log ≤ disk.size →
+    ¬ (Rose disk.writes_before disk.writes_after) → ¬ (Rose seen.sink_before seen.sink_after) → (status ≡ Done) ⊎ (status ≡ NoMemory)
+
+-- only a new file is written
+abbrev pub WritesNothing : Option Form → Type 0
+WritesNothing None = Unit {0}
+WritesNothing (Some (Create k pages log dcap icap)) = ⊥
+WritesNothing (Some form) = Unit {0}
+
+-- after a status of a file that was made
+abbrev pub HasMade : Status → Type 0
+HasMade Done = Unit {0}
+HasMade SinkFault = Unit {0}
+HasMade _ = ⊥
 
 -- What was put of a text so far: all of it, or a front where the sink failed.
 abbrev pub HasPut : Option (List ℕ) → Option (List ℕ) → ℕ → ℕ → Bool → List ℕ → Type 0

@@ -86,4 +86,5 @@ form_of (first ∷ words) = form_from first words
 abbrev pub IsUnbuilt : Option Form → Type 0
 IsUnbuilt None = ⊥
 IsUnbuilt (Some (Dry k)) = ⊥
+IsUnbuilt (Some (Create k pages log dcap icap)) = ⊥
 IsUnbuilt (Some form) = Unit {0}

@@ -2,4 +2,15 @@ pub mod Forms
 pub mod Codes
 pub mod Taking
 pub mod Outcome
+pub mod Layouts
 pub mod Ends
+pub mod Created
+pub mod Audit
+pub mod Restart
+pub mod OnePage
+pub mod Creation
+pub mod Looking
+pub mod Core
+pub mod CoreSeen
+pub mod Drives
+pub mod Moves

@@ -10,7 +10,11 @@ use Rattle.hb_set.specs.declared.scripts.Answered.{Answered}
 use Rattle.hb_text.specs.declared.rules.TextRule.{TextRule}
 use Rattle.hb_text.specs.declared.rules.TextRule.TheVariants.{TooMany, LongLine, BadByte, BadSpacing, BadStep, BadSession, BadVerb, BadCount, BadNumber, TooLarge, EmptyBox, BadBody}
 use Rattle.hbpi.specs.declared.statuses.Status.{Status}
-use Rattle.hbpi.specs.declared.statuses.Status.TheVariants.{Done, Usage, BadText, SourceFault, SinkFault, NoMemory, NotBuilt}
+use Rattle.hbpi.specs.declared.statuses.Status.TheVariants.{Done, Usage, BadText, SourceFault, SinkFault, DiskFault, Damaged, NoMemory, BadLayout, Small, NotBuilt}
+use Rattle.hbpi.specs.declared.statuses.Damage.{Damage}
+use Rattle.hbpi.specs.declared.statuses.Damage.TheVariants as damages
+use Rattle.hbpi.specs.declared.restart.faults.Field.{Field}
+use Rattle.hbpi.specs.declared.restart.faults.Field.TheVariants as fields
 
 -- the name of a rule
 abbrev pub rule_name : TextRule → List ℕ
@@ -27,6 +31,20 @@ rule_name TooLarge = codes "TooLarge"
 rule_name EmptyBox = codes "EmptyBox"
 rule_name BadBody = codes "BadBody"
 
+-- the name of a field
+abbrev pub field_name : Field → List ℕ
+field_name fields.K = codes "K"
+field_name fields.Pages = codes "PAGES"
+field_name fields.Log = codes "LOG"
+field_name fields.Dcap = codes "DCAP"
+field_name fields.Icap = codes "ICAP"
+
+-- what is wrong with a file
+abbrev pub damage_text : Damage → List ℕ
+damage_text damages.NoSuper = codes "no super"
+damage_text (damages.BadGroup frame) = codes "bad group " ++ decimal frame
+damage_text (damages.Rule page rule) = codes "damaged " ++ decimal page ++ codes " S" ++ decimal rule
+
 -- the line that a status writes last
 abbrev pub fault_line : Status → List ℕ
 fault_line Done = []
@@ -34,6 +52,10 @@ fault_line Usage = codes "usage\n"
 fault_line (BadText bad) = codes "bad text " ++ decimal bad.line ++ codes " " ++ rule_name bad.rule ++ codes "\n"
 fault_line SourceFault = codes "source fault\n"
 fault_line SinkFault = []
+fault_line DiskFault = codes "disk fault\n"
+fault_line (Damaged damage) = damage_text damage ++ codes "\n"
+fault_line (BadLayout field value) = codes "bad layout " ++ field_name field ++ codes " " ++ decimal value ++ codes "\n"
+fault_line (Small needed found) = codes "small " ++ decimal needed ++ codes " " ++ decimal found ++ codes "\n"
 fault_line NoMemory = codes "no memory\n"
 fault_line NotBuilt = codes "not built\n"
 

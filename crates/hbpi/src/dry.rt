@@ -36,8 +36,14 @@ fn read_script<S: Source>(alloc: Global, k: u8, source: &mut S) -> Result<Script
 }
 
 /// Refuses with this status: its fault line is written, and no command is done.
-pub(crate) fn refused<K: Sink>(alloc: Global, status: Status, mut sink: K) -> Finished<K>
+pub(crate) fn refused<K: Sink, D>(
+    alloc: Global,
+    status: Status,
+    mut sink: K,
+    disk: D,
+) -> Finished<K, D>
     ensures status { result.status ≡ status }
+    ensures disk { result.disk ≡ disk }
     ensures line { GetsLine (K.written sink) (K.written result.sink) (K.faults sink) (K.faults result.sink) (fault_line status) }
     ensures later { K.faults sink ≤ K.faults result.sink }
     ensures answered { result.answered.items ≡ [] }
@@ -47,14 +53,16 @@ pub(crate) fn refused<K: Sink>(alloc: Global, status: Status, mut sink: K) -> Fi
     Finished {
         status,
         sink,
+        disk,
         answered: Vec::new(alloc),
         order: Vec::new(alloc),
     }
 }
 
 /// Writes the order behind the answers, unless the sink failed, and ends the run.
-fn finish<K: Sink>(answers: Answers, mut sink: K) -> Finished<K>
+fn finish<K: Sink, D>(answers: Answers, mut sink: K, disk: D) -> Finished<K, D>
     requires { length answers.order.items ≤ 1000000 }
+    ensures disk { result.disk ≡ disk }
     ensures answered { result.answered.items ≡ answers.answered.items }
     ensures order { result.order.items ≡ answers.order.items }
     ensures ends { EndsBySink (K.written sink) (K.written result.sink) (K.faults sink) (K.faults result.sink) answers.failed answers.order.items result.status }
@@ -74,26 +82,34 @@ fn finish<K: Sink>(answers: Answers, mut sink: K) -> Finished<K>
     Finished {
         status,
         sink,
+        disk,
         answered,
         order,
     }
 }
 
 /// Runs a script over the plain record set, and writes its output.
-fn run_script<K: Sink>(alloc: Global, script: &Script, mut sink: K) -> Finished<K>
+fn run_script<K: Sink, D>(alloc: Global, script: &Script, mut sink: K, disk: D) -> Finished<K, D>
     requires { (k : ℕ) × IsScriptFor k script.now.lines }
+    ensures disk { result.disk ≡ disk }
     ensures ends { EndsRun (K.written sink) (K.written result.sink) (K.faults sink) (K.faults result.sink) script.now.lines result.answered.items result.order.items result.status }
     ensures later { K.faults sink ≤ K.faults result.sink }
 {
     match answer_lines(alloc, script.lines.as_slice(), &mut sink) {
-        Ok(answers) => finish(answers, sink),
-        Err(_) => refused(alloc, Status::NoMemory, sink),
+        Ok(answers) => finish(answers, sink, disk),
+        Err(_) => refused(alloc, Status::NoMemory, sink, disk),
     }
 }
 
 /// The command `dry`: reads a text, answers its lines over the plain record set over `k`
 /// attributes, and writes the replies and the order.
-pub(crate) fn dry<S: Source, K: Sink>(alloc: Global, k: u8, source: &mut S, sink: K) -> Finished<K>
+pub(crate) fn dry<S: Source, K: Sink, D>(
+    alloc: Global,
+    k: u8,
+    source: &mut S,
+    sink: K,
+    disk: D,
+) -> Finished<K, D>
     requires some { 0 < k }
     requires few { k ≤ KMAX }
     ensures ends { DryEnds k (record {
@@ -108,11 +124,12 @@ pub(crate) fn dry<S: Source, K: Sink>(alloc: Global, k: u8, source: &mut S, sink
       answered = result.answered.items;
       order = result.order.items;
     }) result.status }
+    ensures disk { result.disk ≡ disk }
     ensures source_later { S.faults source.old ≤ S.faults source.new }
     ensures sink_later { K.faults sink ≤ K.faults result.sink }
 {
     match read_script(alloc, k, source) {
-        Ok(script) => run_script(alloc, &script, sink),
-        Err(status) => refused(alloc, status, sink),
+        Ok(script) => run_script(alloc, &script, sink, disk),
+        Err(status) => refused(alloc, status, sink, disk),
     }
 }

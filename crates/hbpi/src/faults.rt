@@ -1,8 +1,9 @@
 ghost use Rattle.std.specs.Prelude.{◌≡◌, ◌≤◌, ◌++◌, [], length, codes, decimal, OnErr, OnOk, IsTrue};
 ghost use Rattle.hb_outside.specs.Streams.{Rose, Appends, AppendsFront};
-ghost use Rattle.hbpi.specs.Outcome.{rule_name, fault_line, GetsLine};
+ghost use Rattle.hbpi.specs.Outcome.{rule_name, field_name, fault_line, GetsLine};
 
-use crate::statuses::Status;
+use crate::restart::faults::Field;
+use crate::statuses::{Damage, Status};
 use arrayvec::ArrayVec;
 use hb_outside::Sink;
 use hb_text::{BadLine, TextRule};
@@ -43,6 +44,86 @@ fn bad_text_line(bad: &BadLine) -> ArrayVec<u8, 64>
     line
 }
 
+/// The name of a field in the output.
+fn field_of(field: Field) -> &'static [u8]
+    ensures name { result.now ≡ field_name field }
+    ensures short { length result.now ≤ 5 }
+{
+    match field {
+        Field::K => b"K",
+        Field::Pages => b"PAGES",
+        Field::Log => b"LOG",
+        Field::Dcap => b"DCAP",
+        Field::Icap => b"ICAP",
+    }
+}
+
+/// The line that says which field of a layout is out of its limits.
+fn bad_layout_line(field: Field, value: u64) -> ArrayVec<u8, 64>
+    ensures { result.items ≡ fault_line (Status.BadLayout field value) }
+{
+    let mut number = Buffer::new();
+    let mut line = ArrayVec::new();
+    let _fits = line.try_extend_from_slice(b"bad layout ");
+    let _fits = line.try_extend_from_slice(field_of(field));
+    let _fits = line.try_extend_from_slice(b" ");
+    let _fits = line.try_extend_from_slice(number.format(value).as_bytes());
+    let _fits = line.try_extend_from_slice(b"\n");
+    line
+}
+
+/// The line that says that a disk is too small.
+fn small_line(needed: u64, found: u64) -> ArrayVec<u8, 64>
+    ensures { result.items ≡ fault_line (Status.Small needed found) }
+{
+    let mut number = Buffer::new();
+    let mut line = ArrayVec::new();
+    let _fits = line.try_extend_from_slice(b"small ");
+    let _fits = line.try_extend_from_slice(number.format(needed).as_bytes());
+    let _fits = line.try_extend_from_slice(b" ");
+    let _fits = line.try_extend_from_slice(number.format(found).as_bytes());
+    let _fits = line.try_extend_from_slice(b"\n");
+    line
+}
+
+/// The line that names the first bad frame of a log.
+fn bad_group_line(frame: u32) -> ArrayVec<u8, 64>
+    ensures { result.items ≡ fault_line (Status.Damaged (Damage.BadGroup frame)) }
+{
+    let mut number = Buffer::new();
+    let mut line = ArrayVec::new();
+    let _fits = line.try_extend_from_slice(b"bad group ");
+    let _fits = line.try_extend_from_slice(number.format(frame).as_bytes());
+    let _fits = line.try_extend_from_slice(b"\n");
+    line
+}
+
+/// The line that names the rule that a file breaks, and the page.
+fn rule_line(page: u32, rule: u8) -> ArrayVec<u8, 64>
+    ensures { result.items ≡ fault_line (Status.Damaged (Damage.Rule page rule)) }
+{
+    let mut number = Buffer::new();
+    let mut line = ArrayVec::new();
+    let _fits = line.try_extend_from_slice(b"damaged ");
+    let _fits = line.try_extend_from_slice(number.format(page).as_bytes());
+    let _fits = line.try_extend_from_slice(b" S");
+    let _fits = line.try_extend_from_slice(number.format(rule).as_bytes());
+    let _fits = line.try_extend_from_slice(b"\n");
+    line
+}
+
+/// Puts the line of what is wrong with a file.
+fn put_damage<K: Sink>(sink: &mut K, damage: Damage)
+    ensures line { GetsLine (K.written sink.old) (K.written sink.new) (K.faults sink.old) (K.faults sink.new) (fault_line (Status.Damaged damage)) }
+    ensures later { K.faults sink.old ≤ K.faults sink.new }
+{
+    match damage {
+        Damage::NoSuper => put_line(sink, b"no super\n"),
+        Damage::BadGroup { frame } => put_line(sink, bad_group_line(frame).as_slice()),
+        Damage::Rule { page, rule } => put_line(sink, rule_line(page, rule).as_slice()),
+    }
+}
+
 /// Puts the line of a fault. Where the sink fails in it, nobody can be told.
 fn put_line<K: Sink>(sink: &mut K, line: &[u8])
     ensures line { GetsLine (K.written sink.old) (K.written sink.new) (K.faults sink.old) (K.faults sink.new) line.now }
@@ -61,7 +142,13 @@ pub(crate) fn put_fault<K: Sink>(sink: &mut K, status: Status)
         Status::Usage => put_line(sink, b"usage\n"),
         Status::BadText(bad) => put_line(sink, bad_text_line(&bad).as_slice()),
         Status::SourceFault => put_line(sink, b"source fault\n"),
+        Status::DiskFault => put_line(sink, b"disk fault\n"),
+        Status::Damaged(damage) => put_damage(sink, damage),
         Status::NoMemory => put_line(sink, b"no memory\n"),
+        Status::BadLayout { field, value } => {
+            put_line(sink, bad_layout_line(field, value).as_slice());
+        }
+        Status::Small { needed, found } => put_line(sink, small_line(needed, found).as_slice()),
         Status::NotBuilt => put_line(sink, b"not built\n"),
     }
 }

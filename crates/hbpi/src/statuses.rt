@@ -1,7 +1,19 @@
 ghost use Rattle.std.specs.Prelude.{◌≡◌, ◌≢◌};
-ghost use Rattle.hbpi.specs.Codes.{code_of};
+ghost use Rattle.hbpi.specs.Codes.{code_of, status_of};
 
+use crate::restart::faults::{Field, OpenFault};
 use hb_text::BadLine;
+
+/// What is wrong with a file.
+#[derive(Clone, Copy, Debug, PartialEq, Eq)]
+pub enum Damage {
+    /// Neither superblock place is open over a legal body.
+    NoSuper,
+    /// The frame of this number is the first bad one of the log.
+    BadGroup { frame: u32 },
+    /// The file breaks the rule of this number at this page.
+    Rule { page: u32, rule: u8 },
+}
 
 /// How a run of the program ends.
 #[derive(Clone, Copy, Debug, PartialEq, Eq)]
@@ -16,8 +28,16 @@ pub enum Status {
     SourceFault,
     /// The sink failed.
     SinkFault,
+    /// The disk failed.
+    DiskFault,
+    /// The file is damaged.
+    Damaged(Damage),
     /// Memory was refused before the first command.
     NoMemory,
+    /// A field of the layout is out of its limits.
+    BadLayout { field: Field, value: u64 },
+    /// The disk has fewer bytes than are needed.
+    Small { needed: u64, found: u64 },
     /// The words are a form whose command isn't built.
     NotBuilt,
 }
@@ -33,7 +53,10 @@ impl Status {
             Status::BadText(_) => 3,
             Status::SourceFault => 4,
             Status::SinkFault => 5,
+            Status::DiskFault => 6,
+            Status::Damaged(_) => 7,
             Status::NoMemory => 8,
+            Status::BadLayout { .. } | Status::Small { .. } => 9,
             Status::NotBuilt => 11,
         }
     }
@@ -47,6 +70,27 @@ impl Status {
         match self {
             Status::Done => Status::SinkFault,
             other => other,
+        }
+    }
+}
+
+impl From<OpenFault> for Status {
+    ghost use Rattle.std.specs.Prelude.{◌≡◌};
+    ghost use Rattle.hbpi.specs.Codes.{status_of};
+
+    ghost from_gives = { λ fault status. status ≡ status_of fault };
+
+    /// The status of a run that a file refused.
+    fn from(fault: OpenFault) -> Status {
+        match fault {
+            OpenFault::BadLayout { field, value } => Status::BadLayout { field, value },
+            OpenFault::Small { needed, found } => Status::Small { needed, found },
+            OpenFault::NoSuper => Status::Damaged(Damage::NoSuper),
+            OpenFault::NotBuilt => Status::NotBuilt,
+            OpenFault::BadGroup { frame } => Status::Damaged(Damage::BadGroup { frame }),
+            OpenFault::Unsound { page, rule } => Status::Damaged(Damage::Rule { page, rule }),
+            OpenFault::DiskFault => Status::DiskFault,
+            OpenFault::NoMemory => Status::NoMemory,
         }
     }
 }

@@ -3,6 +3,7 @@
 mod plain_list;
 
 use crate::top::top;
+use hb_disk::MemDisk;
 use hb_outside::{MemSink, MemSource};
 use std::alloc::Global;
 use std::str;
@@ -23,7 +24,8 @@ fn outcome(
     let text = Vec::from_slice(alloc, text).ok()?;
     let mut source = MemSource::new(text, Vec::from_slice(alloc, reads).ok()?);
     let sink = MemSink::new(alloc, Vec::from_slice(alloc, writes).ok()?);
-    let finished = top(alloc, list.as_slice(), &mut source, sink);
+    let disk = MemDisk::new(alloc, Vec::new(alloc));
+    let finished = top(alloc, list.as_slice(), &mut source, sink, disk);
     let code = finished.status.code();
     let written = str::from_utf8(finished.sink.bytes()).ok()?;
     format!(in alloc; "{code} {written}").ok()

@@ -1,0 +1,29 @@
+use Rattle.std.proofs.Common.{◌≡◌, ℕ, ◌+◌, ◌*◌, ◌≤◌, ◌∙◌, List, replicate, get_or, Some, IfSome, length, subst, arith}
+use Rattle.hb_disk.specs.Model.{overwritten}
+use Rattle.hb_disk.specs.RunLaws.{if_value, at_value, on_ok}
+use Rattle.hbpi.specs.Creation.{IsLaidOut}
+use Rattle.hbpi.proofs.Made.{laid_out}
+use Rattle.hbpi.proofs.restart.creation.write_parts.Goals as goal
+
+pub returns-clause-laid : goal.returns-clause-laid
+returns-clause-laid g c =
+    let d = g.D.Disk.model c.args.disk.now in
+    let one = g.D.Disk.model c.zero.new.self in
+    let two = g.D.Disk.model c.write.new.self in
+    let new = g.D.Disk.model c.sync.new.self in
+    let meta = c.args.meta.now in
+    let page = c.args.page.now in
+    let is_disk = g.met.D.Disk.is_disk c.args.disk.now in
+    let P : List ℕ → Type 0 = λ b. get_or b 0 0 ≡ 0 → get_or b 4096 0 ≡ 0 → (x : List ℕ) × (new.told ≡ Some x) × IsLaidOut x meta page in
+    on_ok c.sync.result (IfSome d.told P) (if_value d.told P (λ b told first second.
+    let zeroed : IfSome d.told (λ x. one.told ≡ Some (overwritten x 8192 (replicate meta.log 0))) =
+    subst (λ (n : ℕ). IfSome d.told (λ x. one.told ≡ Some (overwritten x 8192 (replicate n 0)))) c.from.ensures c.in_ok-zero.ensures.writes.written in
+    let written : IfSome one.told (λ x. two.told ≡ Some (overwritten x (8192 + 2 * meta.log) page)) =
+    subst (λ (n : ℕ). IfSome one.told (λ x. two.told ≡ Some (overwritten x (8192 + 2 * n) page))) c.from-2.ensures c.in_ok-write.ensures.writes.written in
+    let after = at_value d.told (λ x. one.told ≡ Some (overwritten x 8192 (replicate meta.log 0))) b told zeroed in
+    let both = at_value one.told (λ x. two.told ≡ Some (overwritten x (8192 + 2 * meta.log) page)) (overwritten b 8192 (replicate meta.log 0)) after written in
+    let fits : 8192 + 2 * meta.log + 4096 * meta.pages ≤ length b = omega (arith, c.requires.room, is_disk.long b (is_disk.as_read b told)) in (
+      overwritten (overwritten b 8192 (replicate meta.log 0)) (8192 + 2 * meta.log) page,
+      c.sync.ensures.syncs.same ∙ both,
+      laid_out b meta page c.requires.some fits c.told-page first second,
+    )))

@@ -1,0 +1,55 @@
+-- What a run of a schedule leaves.
+use Rattle.std.specs.Prelude.{◌≡◌, ◌≢◌, ◌⊎◌, ℕ, Bool, List, [], length, Option, Some, None, IsSome, IsNone, All, Any, is_some}
+use Rattle.hb_disk.specs.Model.{DiskModel}
+use Rattle.hb_outside.specs.Streams.{Rose, Appends, AppendsFront}
+use Rattle.hb_set.specs.Machine.{RecordSet}
+use Rattle.hb_set.specs.Order.{IsLegalOrder}
+use Rattle.hb_set.specs.declared.commands.Reply.TheVariants.{ReadFault}
+use Rattle.hb_set.specs.declared.scripts.Line.{Line}
+use Rattle.hb_set.specs.declared.scripts.Answered.{Answered}
+use Rattle.hb_ops.specs.Files.{FileState}
+use Rattle.hb_store.specs.Keeps.{last_of}
+use Rattle.hb_text.specs.Output.{output_text}
+use Rattle.hbpi.specs.Core.{CoreState, CoreKeeps, Reaches, CrashesTo, IsReplied, AnswersFirst, entries_from, left_lines, settled_of}
+use Rattle.hbpi.specs.declared.engine.session.Session.TheVariants.{Idle}
+use Rattle.hbpi.specs.declared.drive.End.{End}
+use Rattle.hbpi.specs.declared.drive.End.TheVariants as ends
+
+-- no line was taken yet
+pub record IsStart (c : CoreState) : Type 0 where
+  pub taken : c.taken ≡ 0
+  pub session : c.session ≡ Idle
+  pub order : c.order ≡ []
+  pub going : c.stop ≡ None
+
+-- So many steps lead from the one core over its file to the other and give these answers, with the clock after each step
+-- that gave one. The answers are to the first lines, in order. The lines that took effect, with the machine's replies, are
+-- a legal order from the set, and the answers have these replies. What the core keeps is kept; and crashes leave the set
+-- after a prefix of the order.
+pub record RunsTo (steps : ℕ) (d : DiskModel) (core : CoreState) (file : FileState) (answered : List Answered) (e : DiskModel) (after : CoreState) (n : RecordSet) : Type 0 where
+  pub file_after : FileState
+  pub reaches : Reaches steps (record { clock = d.clock; core = core; file = file }) answered (record { clock = e.clock; core = after; file = file_after })
+  pub done : List Line
+  pub keeps : CoreKeeps e after n done
+  pub file_is : last_of keeps.durable keeps.later ≡ file_after
+  pub legal : IsLegalOrder n (entries_from n done)
+  pub first : AnswersFirst after answered
+  pub replied : All (IsReplied n done) answered
+  pub crashes : CrashesTo d e n done answered
+
+-- the output of a run
+abbrev pub run_output : List Answered → CoreState → List ℕ
+run_output answered c = output_text answered (left_lines c.lines answered) (is_some c.stop) c.order (settled_of c)
+
+-- some reply is a read fault
+abbrev pub HasReadFault : List Answered → Type 0
+HasReadFault answered = Any (λ (a : Answered). a.reply ≡ ReadFault) answered
+
+-- How it ended: the whole output was written, or the sink failed and has a front of it. Of the other ends a fault of the
+-- sink comes first, then a stop, then a read fault.
+abbrev pub DriveEnds : End → Option (List ℕ) → Option (List ℕ) → ℕ → ℕ → List Answered → CoreState → Type 0
+DriveEnds ends.NoMemory held holds before after answered c = Appends held holds []
+DriveEnds ends.SinkFault held holds before after answered c = AppendsFront held holds (run_output answered c) × Rose before after
+DriveEnds ends.Stopped held holds before after answered c = Appends held holds (run_output answered c) × IsSome c.stop
+DriveEnds ends.ReadFault held holds before after answered c = Appends held holds (run_output answered c) × (c.stop ≡ None) × HasReadFault answered
+DriveEnds ends.Finished held holds before after answered c = Appends held holds (run_output answered c) × (c.stop ≡ None) × (¬ (HasReadFault answered))

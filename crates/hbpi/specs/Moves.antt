@@ -1,0 +1,69 @@
+-- What a step does over every disk, also over one that doesn't tell its bytes: which line it takes, answers or puts into
+-- the order. Nothing is said of the file.
+use Rattle.std.specs.Prelude.{◌≡◌, ◌≢◌, ◌⊎◌, ℕ, zero, suc, ◌+◌, ◌<◌, ◌≤◌, List, [], ◌∷◌, ◌++◌, length, map, take, None, IsSome}
+use Rattle.hb_set.specs.declared.commands.Reply.{Reply}
+use Rattle.hb_set.specs.declared.scripts.Line.{Line}
+use Rattle.hb_set.specs.declared.scripts.Answered.{Answered}
+use Rattle.hbpi.specs.Core.{CoreState, IsCurrent, IsOutside, AreAmong, settled_of, answers_of}
+use Rattle.hbpi.specs.declared.engine.session.Session.TheVariants as sessions
+use Rattle.hbpi.specs.declared.engine.session.Outcome.{Outcome}
+use Rattle.hbpi.specs.declared.engine.session.Outcome.TheVariants as outcomes
+
+-- the session, the order and the lines that were taken stay
+pub record StaysThere (old new : CoreState) : Type 0 where
+  pub taken : new.taken ≡ old.taken
+  pub session : new.session ≡ old.session
+  pub order : new.order ≡ old.order
+
+-- the next line is taken
+pub record TakesLine (old new : CoreState) : Type 0 where
+  pub left : old.taken < length old.lines
+  pub was : old.session ≡ sessions.Idle
+  pub taken : new.taken ≡ old.taken + 1
+  pub session : new.session ≡ sessions.Walk
+  pub order : new.order ≡ old.order
+
+-- the line that was taken last joins the order, and its reply is kept until its place is settled
+pub record JoinsOrder (old new : CoreState) : Type 0 where
+  pub line : Line
+  pub reply : Reply
+  pub current : IsCurrent old line
+  pub was : old.session ≡ sessions.Walk
+  pub taken : new.taken ≡ old.taken
+  pub session : new.session ≡ sessions.Await reply (length old.order)
+  pub order : new.order ≡ old.order ++ line.number ∷ []
+
+-- The line that was taken last is answered: outside the order, or with the reply that was kept once its place is settled.
+pub record GetsAnswer (old : CoreState) (number : ℕ) (reply : Reply) (new : CoreState) : Type 0 where
+  pub line : Line
+  pub current : IsCurrent old line
+  pub number_is : number ≡ line.number
+  pub why : ((old.session ≡ sessions.Walk) × IsOutside reply) ⊎ ((place : ℕ) × (old.session ≡ sessions.Await reply place) × (place < settled_of old))
+  pub taken : new.taken ≡ old.taken
+  pub session : new.session ≡ sessions.Idle
+  pub order : new.order ≡ old.order
+
+abbrev pub MovesBy : Outcome → CoreState → CoreState → Type 0
+MovesBy outcomes.Stopped old new = IsSome new.stop × StaysThere old new
+MovesBy outcomes.Idle old new = (old.session ≡ sessions.Idle) × (length old.lines ≤ old.taken) × (new ≡ old)
+MovesBy outcomes.Helped old new = (old.session ≡ sessions.Walk) × StaysThere old new
+MovesBy (outcomes.Answered number reply) old new = GetsAnswer old number reply new
+MovesBy outcomes.Moved old new = TakesLine old new ⊎ JoinsOrder old new ⊎ ((old.session ≢ sessions.Walk) × StaysThere old new)
+
+-- One step. A core that is stopped stays so, and any other is stopped by the outcome alone.
+pub record Moves (old : CoreState) (outcome : Outcome) (new : CoreState) : Type 0 where
+  pub lines : new.lines ≡ old.lines
+  pub stopped : IsSome old.stop → (outcome ≡ outcomes.Stopped) × (new ≡ old)
+  pub going : outcome ≢ outcomes.Stopped → new.stop ≡ None
+  pub by : MovesBy outcome old new
+
+-- So many steps lead from one core to another, and give these answers in this sequence.
+abbrev pub MovesOn : ℕ → CoreState → List Answered → CoreState → Type 0
+MovesOn zero from answered to = (to ≡ from) × (answered ≡ [])
+MovesOn (suc n) from answered to = (mid : CoreState) × (before : List Answered) × (outcome : Outcome) × (at : ℕ) × MovesOn n from before mid × Moves mid outcome to × (answered ≡ before ++ answers_of outcome at)
+
+-- The order has some of the lines that were taken, in their order.
+pub record HasOrder (c : CoreState) : Type 0 where
+  pub done : List Line
+  pub ordered : map (λ (l : Line). l.number) done ≡ c.order
+  pub among : AreAmong done (take c.taken c.lines)

@@ -1,0 +1,72 @@
+-- What making and opening a file answer.
+use Rattle.std.specs.Prelude.{◌≡◌, ◌⊎◌, ℕ, ◌≤◌, ◌<◌, List, [], ◌∷◌, length, None}
+use Rattle.hb_space.specs.Boxes.{whole_area}
+use Rattle.hb_wal.specs.Frames.{HasFrames}
+use Rattle.hb_super.specs.Superblocks.{IsNewest, HasNone}
+use Rattle.hb_frag.specs.declared.leaves.Leaf.TheVariants.{Records}
+use Rattle.hb_frag.specs.declared.pages.Page.{Page}
+use Rattle.hb_frag.specs.declared.pages.Page.TheVariants.{Live}
+use Rattle.hb_frag.specs.Grammar.{SpellsPage}
+use Rattle.hb_frag.specs.Trees.{Tip}
+use Rattle.hb_ops.specs.declared.meta.Meta.{Meta}
+use Rattle.hb_ops.specs.Files.{FileState}
+use Rattle.hb_store.specs.Groups.{Logged, SpellAll}
+use Rattle.hb_store.specs.Replay.{untouched, replay, MayReplay}
+use Rattle.hb_store.specs.Opening.{HasBadGroup, Shows, file_size, log_bytes, place_bytes}
+use Rattle.hbpi.specs.Audit.{Names}
+use Rattle.hbpi.specs.declared.restart.faults.OpenFault.{OpenFault}
+use Rattle.hbpi.specs.declared.restart.faults.OpenFault.TheVariants as faults
+use Rattle.hbpi.specs.declared.restart.layout.Layout.{Layout}
+
+-- what a new file says of itself, and the file: one page, which is empty
+abbrev pub new_meta : Layout → Meta
+new_meta l = record { k = l.k; pages = l.pages; log = l.log; dcap = l.dcap; icap = l.icap; root = 1; height = 1; high = 1; live = 1; free = 0 }
+
+abbrev pub new_page : ℕ → Page
+new_page k = Live (record { level = 0; area = whole_area k; frag = Tip (Records []) })
+
+abbrev pub new_file : Layout → FileState
+new_file l = record { meta = new_meta l; pages = new_page l.k ∷ [] }
+
+-- the newest superblock, on bytes that have room for its layout
+pub record HasLayout (bytes : List ℕ) (turn : ℕ) (said : Meta) : Type 0 where
+  pub newest : IsNewest bytes turn said
+  pub fits : file_size said ≤ length bytes
+
+-- a file of one page and one level
+abbrev pub IsOnePage : Meta → Type 0
+IsOnePage said = (said.high ≤ 1) × (said.height ≤ 1)
+
+-- what the log of a file gives, where it has no bad frame
+pub record HasLog (bytes : List ℕ) (turn : ℕ) (said : Meta) (groups : List Logged) : Type 0 where
+  pub payloads : List (List ℕ)
+  pub framed : HasFrames (log_bytes turn said bytes) payloads
+  pub spelled : SpellAll said.k payloads groups
+  pub replayed : MayReplay (untouched said) groups
+
+-- The audit refuses: the page in the place of 1 is none, or the file breaks a rule.
+abbrev pub IsUnsound : List ℕ → Meta → List Logged → ℕ → ℕ → Type 0
+IsUnsound bytes said groups page rule =
+    ((rule ≡ 0) × (page ≡ 1) × (said.high ≡ 1) × ((replay (untouched said) groups).page 1 ≡ None) × ((p : Page) → SpellsPage (place_bytes said 1 bytes) p → ⊥))
+    ⊎ ((s : FileState) × Shows bytes said (replay (untouched said) groups) s × Names s page rule)
+
+abbrev pub IsSmall : List ℕ → ℕ → ℕ → Type 0
+IsSmall bytes needed found = (found ≡ length bytes) × (found < needed)
+    × ((needed ≡ 8192) ⊎ ((8192 ≤ found) × (turn : ℕ) × (said : Meta) × IsNewest bytes turn said × (needed ≡ file_size said)))
+
+-- Why bytes aren't opened, in the order in which it is tested. A fault of the disk and want of memory say nothing of them.
+abbrev pub Refuses : OpenFault → List ℕ → Type 0
+Refuses (faults.BadLayout field value) bytes = ⊥
+Refuses (faults.Small needed found) bytes = IsSmall bytes needed found
+Refuses faults.NoSuper bytes = (8192 ≤ length bytes) × HasNone bytes
+Refuses faults.NotBuilt bytes = (turn : ℕ) × (said : Meta) × HasLayout bytes turn said × (¬ (IsOnePage said))
+Refuses (faults.BadGroup frame) bytes = (turn : ℕ) × (said : Meta) × HasLayout bytes turn said × IsOnePage said × HasBadGroup bytes turn said frame
+Refuses (faults.Unsound page rule) bytes = (turn : ℕ) × (said : Meta) × HasLayout bytes turn said × IsOnePage said × (groups : List Logged) × HasLog bytes turn said groups × IsUnsound bytes said groups page rule
+Refuses faults.DiskFault bytes = Unit {0}
+Refuses faults.NoMemory bytes = Unit {0}
+
+-- nothing is written before these
+abbrev pub IsUnwritten : OpenFault → Type 0
+IsUnwritten faults.DiskFault = ⊥
+IsUnwritten faults.NoMemory = ⊥
+IsUnwritten other = Unit {0}

@@ -1,0 +1,109 @@
+//! The command `create`.
+ghost use Rattle.std.specs.Prelude.{◌≡◌, ℕ, ◌≤◌, List, IsSome, Some};
+ghost use Rattle.hb_store.specs.Opening.{OpensTo};
+ghost use Rattle.hbpi.specs.Ends.{CreateEnds, HasMade};
+ghost use Rattle.hbpi.specs.Layouts.{first_fault, size_of};
+ghost use Rattle.hbpi.specs.Restart.{new_file};
+ghost use Rattle.hbpi.specs.Created.{IsMadeOn, NotMadeOn};
+
+use crate::dry::refused;
+use crate::finished::Finished;
+use crate::restart::creation::create;
+use crate::restart::faults::OpenFault;
+use crate::restart::layout::Layout;
+use crate::statuses::Status;
+use hb_disk::Disk;
+use hb_outside::Sink;
+use hb_store::an_image_of_a_store_opens;
+use std::alloc::Global;
+
+/// Makes the file of these numbers, and gives the disk back.
+fn make<D: Disk>(
+    alloc: Global,
+    disk: D,
+    k: u64,
+    pages: u64,
+    log: u64,
+    dcap: u64,
+    icap: u64,
+) -> Result<D, (OpenFault, D)>
+    ensures made { IfOk result (λ e. (first_fault k pages log dcap icap ≡ None) × (size_of pages log ≤ (D.model disk).size)) }
+    ensures opens { IfOk result (λ e. IsSome (D.model disk).told → (c : List ℕ) → (D.model e).Image c →
+        OpensTo c (new_file (record { k = k; pages = pages; log = log; dcap = dcap; icap = icap }))) }
+    ensures refused { IfErr result (λ e. NotMadeOn (first_fault k pages log dcap icap) (size_of pages log) (D.model disk).size (D.model disk).write_faults (D.model e.1).write_faults e.0) }
+    ensures later { IfOk result (λ e. ((D.model disk).read_faults ≤ (D.model e).read_faults) × ((D.model disk).write_faults ≤ (D.model e).write_faults)) }
+    ensures later_after_fault { IfErr result (λ e. ((D.model disk).read_faults ≤ (D.model e.1).read_faults) × ((D.model disk).write_faults ≤ (D.model e.1).write_faults)) }
+{
+    let layout = match Layout::of_numbers(k, pages, log, dcap, icap) {
+        Ok(layout) => layout,
+        Err(fault) => return Err((fault, disk)),
+    };
+    match create(alloc, disk, layout) {
+        Ok(store) => {
+            an_image_of_a_store_opens(&store);
+            Ok(store.into_disk())
+        }
+        Err(refused) => Err(refused),
+    }
+}
+
+/// Says that the file was made.
+fn put_created<K: Sink>(sink: &mut K) -> Status
+    ensures done { IsMadeOn (K.written sink.old) (K.written sink.new) (K.faults sink.old) (K.faults sink.new) result }
+    ensures later { K.faults sink.old ≤ K.faults sink.new }
+{
+    match sink.put(b"created\n") {
+        Ok(()) => Status::Done,
+        Err(_) => Status::SinkFault,
+    }
+}
+
+/// The command `create`: makes a new file of this layout on the disk.
+pub(crate) fn create_file<K: Sink, D: Disk>(
+    alloc: Global,
+    k: u64,
+    pages: u64,
+    log: u64,
+    dcap: u64,
+    icap: u64,
+    mut sink: K,
+    disk: D,
+) -> Finished<K, D>
+    ensures ends { (left : Option (List ℕ)) (faults : ℕ) → CreateEnds (first_fault k pages log dcap icap) (size_of pages log) (record {
+      left = left;
+      rest = left;
+      source_before = faults;
+      source_after = faults;
+      held = K.written sink;
+      holds = K.written result.sink;
+      sink_before = K.faults sink;
+      sink_after = K.faults result.sink;
+      answered = result.answered.items;
+      order = result.order.items;
+    }) (record {
+      size = (D.model disk).size;
+      reads_before = (D.model disk).read_faults;
+      reads_after = (D.model result.disk).read_faults;
+      writes_before = (D.model disk).write_faults;
+      writes_after = (D.model result.disk).write_faults;
+    }) result.status }
+    ensures opens { HasMade result.status → IsSome (D.model disk).told → (c : List ℕ) → (D.model result.disk).Image c →
+        OpensTo c (new_file (record { k = k; pages = pages; log = log; dcap = dcap; icap = icap })) }
+    ensures sink_later { K.faults sink ≤ K.faults result.sink }
+    ensures reads_later { (D.model disk).read_faults ≤ (D.model result.disk).read_faults }
+    ensures writes_later { (D.model disk).write_faults ≤ (D.model result.disk).write_faults }
+{
+    match make(alloc, disk, k, pages, log, dcap, icap) {
+        Ok(disk) => {
+            let status = put_created(&mut sink);
+            Finished {
+                status,
+                sink,
+                disk,
+                answered: Vec::new(alloc),
+                order: Vec::new(alloc),
+            }
+        }
+        Err((fault, disk)) => refused(alloc, Status::from(fault), sink, disk),
+    }
+}

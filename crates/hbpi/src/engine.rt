@@ -1,0 +1,5 @@
+//! The private core of `drive`: it takes the steps of one session, without latches and locks.
+
+pub(crate) mod session;
+pub(crate) mod state;
+mod steps;

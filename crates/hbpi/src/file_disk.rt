@@ -1,0 +1,145 @@
+//! A file as a disk.
+ghost use Rattle.std.specs.Prelude.{◌≡◌, ◌+◌, ◌≤◌, length, replicate, OnOk, OnErr};
+ghost use Rattle.hb_disk.specs.Model.{Stays, last_value};
+ghost use Rattle.hb_disk.specs.Calls.{Ticks, WriteFaults, Writes, Syncs, Reads, ReadFaults};
+ghost use Rattle.hb_outside.specs.Streams.{Rose};
+ghost use Rattle.hb_disk.specs.Untold.{untold_of, untold_is_disk};
+
+use hb_disk::Disk;
+use hb_outside::Failed;
+use std::fs::File;
+use std::io::{ErrorKind, Read, Seek, SeekFrom, Write};
+
+/// A file of fixed size as a disk. It tells nothing of its bytes: that a file behaves as a disk that
+/// tells is assumed wherever a promise speaks of crashes.
+#[derive(Drop)]
+pub(crate) struct FileDisk {
+    file: File,
+    size: u64,
+    read_faults: u64,
+    write_faults: u64,
+    ghost size_fits: { size ≤ last_value },
+}
+
+impl FileDisk {
+    /// The disk of an open file of so many bytes.
+    pub(crate) fn new(file: File, size: u64) -> FileDisk {
+        FileDisk {
+            file,
+            size,
+            read_faults: 0,
+            write_faults: 0,
+        }
+    }
+}
+
+/// Fills the bytes from a place of the file on.
+fn read_at(file: &mut File, at: u64, into: &mut [u8]) -> Result<(), Failed>
+    ensures { length into.new ≡ length into.old }
+{
+    if file.seek(SeekFrom::Start(at)).is_err() {
+        return Err(Failed);
+    }
+    let mut done = 0;
+    for _ in 0..u64::MAX {
+        if done == into.len() {
+            return Ok(());
+        }
+        match file.read(&mut into[done..]) {
+            Ok(0) => return Err(Failed),
+            Ok(n) => done += n,
+            Err(e) if e.kind() == ErrorKind::Interrupted => {}
+            Err(_) => return Err(Failed),
+        }
+    }
+    Err(Failed)
+}
+
+/// Writes all of the bytes where the file stands.
+fn write_here(file: &mut File, from: &[u8]) -> Result<(), Failed> {
+    let mut done = 0;
+    for _ in 0..u64::MAX {
+        if done == from.len() {
+            return Ok(());
+        }
+        match file.write(&from[done..]) {
+            Ok(0) => return Err(Failed),
+            Ok(n) => done += n,
+            Err(e) if e.kind() == ErrorKind::Interrupted => {}
+            Err(_) => return Err(Failed),
+        }
+    }
+    Err(Failed)
+}
+
+/// Writes all of the bytes from a place of the file on.
+fn write_at(file: &mut File, at: u64, from: &[u8]) -> Result<(), Failed> {
+    if file.seek(SeekFrom::Start(at)).is_err() {
+        return Err(Failed);
+    }
+    write_here(file, from)
+}
+
+/// Bytes that are written at once where zeros are.
+const ZEROS: usize = 4096;
+
+/// Writes so many zero bytes from a place of the file on.
+fn zero_at(file: &mut File, at: u64, len: u64) -> Result<(), Failed> {
+    if file.seek(SeekFrom::Start(at)).is_err() {
+        return Err(Failed);
+    }
+    let mut left = len;
+    while left > 0 {
+        let count = left.min(ZEROS as u64);
+        write_here(file, &[0; ZEROS][..count as usize])?;
+        left -= count;
+    }
+    Ok(())
+}
+
+/// Counts a call that failed.
+fn counted(done: Result<(), Failed>, faults: &mut u64) -> Result<(), Failed>
+    ensures same { result ≡ done }
+    ensures ok { OnOk result (faults.new ≡ faults.old) }
+    ensures failed { OnErr result (Rose faults.old faults.new) }
+    ensures later { faults.old ≤ faults.new }
+{
+    if done.is_err() {
+        *faults = faults.saturating_add(1);
+    }
+    done
+}
+
+impl Disk for FileDisk {
+    ghost model = { λ d. untold_of d.size d.read_faults d.write_faults };
+
+    fn size(&self) -> u64 {
+        self.size
+    }
+
+    fn clock(&self) -> u64 {
+        0
+    }
+
+    fn read(&mut self, at: u64, into: &mut [u8]) -> Result<(), Failed> {
+        counted(read_at(&mut self.file, at, into), &mut self.read_faults)
+    }
+
+    fn write(&mut self, at: u64, from: &[u8]) -> Result<(), Failed> {
+        counted(write_at(&mut self.file, at, from), &mut self.write_faults)
+    }
+
+    fn zero(&mut self, at: u64, len: u64) -> Result<(), Failed> {
+        counted(zero_at(&mut self.file, at, len), &mut self.write_faults)
+    }
+
+    fn sync(&mut self) -> Result<(), Failed> {
+        let done = match self.file.sync_data() {
+            Ok(()) => Ok(()),
+            Err(_) => Err(Failed),
+        };
+        counted(done, &mut self.write_faults)
+    }
+
+    ghost is_disk = { λ d. untold_is_disk d.size d.read_faults d.write_faults d.size_fits };
+}

@@ -1,0 +1,46 @@
+//! Opening a file.
+ghost use Rattle.std.specs.Prelude.{◌≡◌, ◌⊎◌, ◌+◌, ◌≤◌, [], ℕ, List, length, IfOk, IfErr, IfSome, IsSome};
+ghost use Rattle.hb_outside.specs.Streams.{Rose};
+ghost use Rattle.hb_disk.specs.Calls.{Leaves, OnlyReads};
+ghost use Rattle.hb_ops.specs.declared.meta.Meta.{Meta as Said};
+ghost use Rattle.hb_ops.specs.Files.{FileState, file_records};
+ghost use Rattle.hb_ops.specs.Sound.{IsSound};
+ghost use Rattle.hb_store.specs.Opening.{OpensTo, IsEven};
+ghost use Rattle.hb_store.specs.Keeps.{StoreKeeps, IsNew};
+ghost use Rattle.hb_store.specs.Seen.{seen_as, disk_of};
+ghost use Rattle.hbpi.specs.Restart.{Refuses, IsUnwritten};
+ghost use Rattle.hbpi.specs.declared.restart.faults.OpenFault.TheVariants.{DiskFault};
+
+use crate::restart::faults::OpenFault;
+use hb_disk::Disk;
+use hb_store::Store;
+use std::alloc::Global;
+
+/// Opens the file of a disk: reads the newest superblock and its log, replays it, and tests all rules. Then it syncs,
+/// writes the touched pages to their places, and switches to the next turn. It gives the store and the number of
+/// records. The refusals come in the order of `OpenFault`, and nothing is written before them.
+pub(crate) fn recover<D: Disk>(alloc: Global, disk: D) -> Result<(Store<D>, u64), (OpenFault, D)>
+    requires stub { ⊥ }
+    ensures opened { IfOk result (λ r. IfSome (D.model disk).told (λ b. (s : FileState) × OpensTo b s × IsSound s
+        × (r.1 ≡ length (file_records s)) × StoreKeeps (D.model (disk_of r.0)) (seen_as r.0) s [])) }
+    // over every disk the store is new, and of one page
+    ensures new { IfOk result (λ r. IsNew (seen_as r.0).turn (seen_as r.0).meta (seen_as r.0)) }
+    ensures one_page { IfOk result (λ r. ((seen_as r.0).meta.root ≡ 1) × ((seen_as r.0).meta.high ≡ 1) × ((seen_as r.0).meta.height ≡ 1) × ((seen_as r.0).meta.live ≡ 1)) }
+    ensures refused { IfErr result (λ e. IfSome (D.model disk).told (Refuses e.0)) }
+    ensures unwritten { IfErr result (λ e. IsUnwritten e.0 → OnlyReads (D.model disk) (D.model e.1)) }
+    // over an even disk every image since the call opens to the same file, also after a fault
+    ensures even { (s : FileState) → IsEven (D.model disk) s → IfOk result (λ r. Leaves (D.model disk) (D.model (disk_of r.0)) (λ c. OpensTo c s)) }
+    ensures even_after_fault { (s : FileState) → IsEven (D.model disk) s → IfErr result (λ e. Leaves (D.model disk) (D.model e.1) (λ c. OpensTo c s)) }
+    // over any other disk that tells, every image since the first sync succeeded does
+    ensures late { IfOk result (λ r. IfSome (D.model disk).told (λ b. (s : FileState) → OpensTo b s → (c : List ℕ) →
+        (D.model (disk_of r.0)).ImageSince ((D.model disk).clock + 1) c → OpensTo c s)) }
+    // a second tick of the clock comes only after the first sync has succeeded
+    ensures late_after_fault { IfErr result (λ e. IfSome (D.model disk).told (λ b. (s : FileState) → OpensTo b s → (D.model disk).clock + 2 ≤ (D.model e.1).clock → (c : List ℕ) →
+        (D.model e.1).ImageSince ((D.model disk).clock + 1) c → OpensTo c s)) }
+    ensures silent { IfOk result (λ r. IsSome (D.model (disk_of r.0)).told → IsSome (D.model disk).told) }
+    ensures cause { IfErr result (λ e. e.0 ≡ DiskFault → (Rose (D.model disk).read_faults (D.model e.1).read_faults) ⊎ (Rose (D.model disk).write_faults (D.model e.1).write_faults)) }
+    ensures later { IfOk result (λ r. ((D.model disk).read_faults ≤ (D.model (disk_of r.0)).read_faults) × ((D.model disk).write_faults ≤ (D.model (disk_of r.0)).write_faults)) }
+    ensures later_after_fault { IfErr result (λ e. ((D.model disk).read_faults ≤ (D.model e.1).read_faults) × ((D.model disk).write_faults ≤ (D.model e.1).write_faults)) }
+{
+    Err((OpenFault::NoMemory, disk))
+}
