@@ -12,7 +12,7 @@ ghost use Rattle.hbpi.specs.Core.{CoreKeeps, IsCore, IsServed, AnswersFirst, ans
 ghost use Rattle.hbpi.specs.Moves.{MovesOn, HasOrder};
 ghost use Rattle.hbpi.specs.CoreSeen.{core_seen, core_disk};
 ghost use Rattle.hb_store.specs.Keeps.{last_of};
-ghost use Rattle.hbpi.specs.Drives.{DriveEnds, HasReadFault, IsStart, RunsTo};
+ghost use Rattle.hbpi.specs.Drives.{DriveEnds, EndsAs, HasReadFault, IsStart, RunsTo};
 
 use crate::engine::session::Outcome;
 use crate::engine::state::Core;
@@ -88,7 +88,27 @@ fn take_steps<D: Disk, K: Sink>(
     steps: usize,
     sink: &mut K,
     answered: &mut Vec<Answered>,
-) -> bool {
+) -> bool
+    requires script { IsScriptFor (core_seen core.old).store.meta.k (core_seen core.old).lines }
+    requires served { IsServed (core_seen core.old).lines }
+    requires start { IsStart (core_seen core.old) }
+    requires whole { IsCore (core_seen core.old) }
+    requires kept { IsSome (D.model (core_disk core.old)).told → (n : RecordSet) × CoreKeeps (D.model (core_disk core.old)) (core_seen core.old) n [] }
+    requires none { answered.old.items ≡ [] }
+    requires room { length (core_seen core.old).lines ≤ vec_capacity answered.old }
+    ensures runs { (n : RecordSet) (kept : CoreKeeps (D.model (core_disk core.old)) (core_seen core.old) n []) →
+        RunsTo steps (D.model (core_disk core.old)) (core_seen core.old) (last_of kept.durable kept.later) answered.new.items (D.model (core_disk core.new)) (core_seen core.new) n }
+    ensures moves { MovesOn steps (core_seen core.old) answered.new.items (core_seen core.new) }
+    ensures first { AnswersFirst (core_seen core.new) answered.new.items }
+    ensures order { HasOrder (core_seen core.new) }
+    ensures whole { IsCore (core_seen core.new) }
+    ensures lines { (core_seen core.new).lines ≡ (core_seen core.old).lines }
+    ensures put { HasPut (K.written sink.old) (K.written sink.new) (K.faults sink.old) (K.faults sink.new) result (flat_map answer_text answered.new.items) }
+    ensures read_fault { HasReadFault answered.new.items → Rose (D.model (core_disk core.old)).read_faults (D.model (core_disk core.new)).read_faults }
+    ensures write_fault { IsSome (D.model (core_disk core.old)).told → IsSome (core_seen core.new).stop → Rose (D.model (core_disk core.old)).write_faults (D.model (core_disk core.new)).write_faults }
+    ensures reads_later { (D.model (core_disk core.old)).read_faults ≤ (D.model (core_disk core.new)).read_faults }
+    ensures writes_later { (D.model (core_disk core.old)).write_faults ≤ (D.model (core_disk core.new)).write_faults }
+{
     let mut failed = false;
     for _ in 0..steps {
         let outcome = core.step();
@@ -155,7 +175,9 @@ fn has_read_fault(answered: &[Answered]) -> bool
 }
 
 /// How a run ended.
-fn end_of(failed: bool, stopped: bool, answered: &[Answered]) -> End {
+fn end_of(failed: bool, stopped: bool, answered: &[Answered]) -> End
+    ensures { EndsAs result failed stopped answered.now }
+{
     if failed {
         End::SinkFault
     } else if stopped {
