@@ -12,3 +12,5 @@ pub mod Made
 pub mod Found
 pub mod LinesInOrder
 pub mod FirstAnswers
+pub mod SettledLater
+pub mod Running
