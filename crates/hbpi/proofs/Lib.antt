@@ -14,3 +14,4 @@ pub mod LinesInOrder
 pub mod FirstAnswers
 pub mod SettledLater
 pub mod Running
+pub mod TakenSteps
