@@ -14,3 +14,4 @@ pub mod Core
 pub mod CoreSeen
 pub mod Drives
 pub mod Moves
+pub mod Driven

@@ -54,7 +54,6 @@ pub(crate) fn drive<D: Disk, K: Sink>(
     requires start { IsStart (core_seen core) }
     requires whole { IsCore (core_seen core) }
     requires kept { IsSome (D.model (core_disk core)).told → (n : RecordSet) × CoreKeeps (D.model (core_disk core)) (core_seen core) n [] }
-    requires stub { ⊥ }
     // over a disk that tells: exactly these steps were taken, and crashes leave the set after a prefix of the order
     ensures runs { (n : RecordSet) (kept : CoreKeeps (D.model (core_disk core)) (core_seen core) n []) → result.end ≢ End.NoMemory →
         RunsTo steps (D.model (core_disk core)) (core_seen core) (last_of kept.durable kept.later) result.answered.items (D.model (core_disk result.core)) (core_seen result.core) n }

@@ -30,7 +30,6 @@ impl<D: Disk> Core<D> {
         store: Store<D>,
         lines: Vec<Line>,
     ) -> Result<Core<D>, (NoMemory, Store<D>)>
-        requires stub { ⊥ }
         ensures seen { IfOk result (λ c. core_seen c ≡ record { lines = lines.items; taken = 0; session = Session.Idle; order = []; stop = None; store = seen_as store }) }
         ensures disk { IfOk result (λ c. core_disk c ≡ disk_of store) }
         ensures keeps { IfOk result (λ c. (s : FileState) → IsNew (seen_as store).turn (seen_as store).meta (seen_as store) → IsSound s → s.meta.root ≡ 1 → s.meta.high ≡ 1 → s.meta.height ≡ 1 →
@@ -47,7 +46,6 @@ impl<D: Disk> Core<D> {
         requires served { IsServed (core_seen self.old).lines }
         requires whole { IsCore (core_seen self.old) }
         requires kept { IsSome (D.model (core_disk self.old)).told → (n : RecordSet) × (done : List Entry) × CoreKeeps (D.model (core_disk self.old)) (core_seen self.old) n done }
-        requires stub { ⊥ }
         ensures keeps { (n : RecordSet) (done : List Entry) (kept : CoreKeeps (D.model (core_disk self.old)) (core_seen self.old) n done) →
             StepKeeps (D.model (core_disk self.old)) (core_seen self.old) (last_of kept.durable kept.later) result (D.model (core_disk self.new)) (core_seen self.new) n done }
         // over every disk
