@@ -15,3 +15,4 @@ pub mod CoreSeen
 pub mod Drives
 pub mod Moves
 pub mod Driven
+pub mod Runs
