@@ -10,6 +10,7 @@ pub mod Restart
 pub mod OnePage
 pub mod Creation
 pub mod Looking
+pub mod Renewing
 pub mod Core
 pub mod CoreSeen
 pub mod Drives

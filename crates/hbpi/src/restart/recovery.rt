@@ -12,6 +12,8 @@ ghost use Rattle.hbpi.specs.Restart.{Refuses, IsShut, IsUnwritten};
 ghost use Rattle.hbpi.specs.declared.restart.faults.OpenFault.TheVariants.{DiskFault};
 
 use crate::restart::faults::OpenFault;
+use crate::restart::looking::look;
+use crate::restart::renewal::{renew, turn_after};
 use hb_disk::Disk;
 use hb_store::Store;
 use std::alloc::Global;
@@ -44,5 +46,16 @@ pub(crate) fn recover<D: Disk>(alloc: Global, disk: D) -> Result<(Store<D>, u64)
     ensures later { IfOk result (λ r. ((D.model disk).read_faults ≤ (D.model (disk_of r.0)).read_faults) × ((D.model disk).write_faults ≤ (D.model (disk_of r.0)).write_faults)) }
     ensures later_after_fault { IfErr result (λ e. ((D.model disk).read_faults ≤ (D.model e.1).read_faults) × ((D.model disk).write_faults ≤ (D.model e.1).write_faults)) }
 {
-    Err((OpenFault::NoMemory, disk))
+    let mut disk = disk;
+    let found = match look(alloc, &mut disk) {
+        Ok(found) => found,
+        Err(fault) => return Err((fault, disk)),
+    };
+    if renew(&mut disk, &found).is_err() {
+        return Err((OpenFault::DiskFault, disk));
+    }
+    match Store::opened(alloc, disk, turn_after(found.turn), found.meta) {
+        Ok(store) => Ok((store, found.count)),
+        Err((_, disk)) => Err((OpenFault::NoMemory, disk)),
+    }
 }
