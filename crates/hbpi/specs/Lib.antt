@@ -10,7 +10,10 @@ pub mod Restart
 pub mod OnePage
 pub mod Creation
 pub mod Looking
+pub mod Renewing
 pub mod Core
 pub mod CoreSeen
 pub mod Drives
 pub mod Moves
+pub mod Driven
+pub mod Runs
