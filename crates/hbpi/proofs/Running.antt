@@ -1,5 +1,5 @@
 -- What holds over a disk that tells while steps are taken: one step more.
-use Rattle.std.proofs.Common.{◌≡◌, ◌≢◌, ◌⊎◌, inl, inr, ⊎_elim, ℕ, zero, suc, ◌+◌, ◌-◌, ◌<◌, ◌≤◌, false, List, [], ◌∷◌, ◌++◌, length, map, take, get_or, Option, Some, None, MatchOption, IsSome, refl, sym, ap, ◌∙◌, subst, arith, append-nil, length-append}
+use Rattle.std.proofs.Common.{◌≡◌, ◌≢◌, ◌⊎◌, inl, inr, ⊎_elim, ℕ, zero, suc, ◌+◌, ◌-◌, ◌<◌, ◌≤◌, false, List, [], ◌∷◌, ◌++◌, length, map, take, get_or, Option, Some, None, MatchOption, IsSome, refl, sym, ap, ◌∙◌, subst, arith, append-nil, length-append, add-one}
 use Rattle.std.proofs.lemmas.List.{take-append-le}
 use Rattle.std.proofs.lemmas.List.Elements.{All-nil, All-push, All-append, All-from_recursion}
 use Rattle.std.proofs.lemmas.Option.{slice_get_within}
@@ -257,7 +257,7 @@ kept_held e f old new file outcome n done at answered rising was first next join
 pub running_more : (steps : ℕ) (d : DiskModel) (core : CoreState) (file : FileState) (answered : List Answered) (e f : DiskModel) (old new : CoreState) (n : RecordSet) (outcome : Outcome) (at : ℕ) (ordered : List Line)
     → AreRising old.lines → AnswersFirst old answered → Ordered old ordered → (run : Running steps d core file answered e old n)
     → NextStep e old (last_of run.keeps.durable run.keeps.later) outcome f new n run.done at
-    → Running (suc steps) d core file (answered ++ answers_of outcome at) f new n
+    → Running (steps + 1) d core file (answered ++ answers_of outcome at) f new n
 running_more steps d core file answered e f old new n outcome at ordered rising first order run next =
     let done = run.done in
     let from = last_of run.keeps.durable run.keeps.later in
@@ -270,12 +270,13 @@ running_more steps d core file answered e f old new n outcome at ordered rising 
     let new_done = ordered_done f new n after grows.after (subst R (sym next.moves.lines) rising) next.step.keeps grows.ordered in
     let J : List Line → Type 0 = λ ls. Joined old done ls in
     let joined = subst J new_done grows.joined in
-    let passes = settled_later e old new from next.step.file_after outcome n done run.keeps next.step.steps in
+    let later = settled_later e old new from next.step.file_after outcome n done run.keeps next.step.steps in
     let more = grown old done after joined in
     let F : FileState → Type 0 = λ s. StepsTo old s outcome new next.step.file_after in
+    let T : ℕ → Type 0 = λ k. Reaches k (record { clock = d.clock; core = core; file = file }) (answered ++ answers_of outcome at) (record { clock = f.clock; core = new; file = next.step.file_after }) in
     record {
       file_after = next.step.file_after;
-      reaches = (
+      reaches = subst T (sym (add-one steps)) (
         record { clock = e.clock; core = old; file = run.file_after },
         answered,
         answers_of outcome at,
@@ -293,8 +294,8 @@ running_more steps d core file answered e f old new n outcome at ordered rising 
       keeps = next.step.keeps;
       file_is = next.step.file_is;
       held = All-append (Held f n after (settled_of new)) answered (answers_of outcome at)
-          (kept_held e f old new from outcome n done at answered rising run.keeps first next joined passes.later run.held)
-          (given_held e f old new from outcome n done at rising run.keeps mine next joined passes.later);
+          (kept_held e f old new from outcome n done at answered rising run.keeps first next joined later run.held)
+          (given_held e f old new from outcome n done at rising run.keeps mine next joined later);
       each = Leaves-then d e f (OpensToPrefix n after 0)
           (Leaves-weaker d e (OpensToPrefix n done 0) (OpensToPrefix n after 0) (λ c opens. prefix_grows n done more.0 after 0 c more.1 opens) run.each)
           (Leaves-weaker e f (OpensToPrefix n after (settled_of old)) (OpensToPrefix n after 0) (λ c opens. prefix_least n after 0 (settled_of old) c (omega arith) opens) next.step.moments);

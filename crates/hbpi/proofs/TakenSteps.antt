@@ -27,7 +27,6 @@ use Rattle.hbpi.specs.declared.engine.session.Outcome.TheVariants as outcomes
 use Rattle.hbpi.proofs.PutTexts.{has_put_more}
 use Rattle.hbpi.proofs.LinesInOrder.{numbers, among_more}
 use Rattle.hbpi.proofs.FirstAnswers.{Ordered, effects_in}
-use Rattle.hbpi.proofs.SettledLater.{Passes}
 
 -- so many lines have an answer
 pub answered_length : (c : CoreState) (answered : List Answered) → AnswersFirst c answered → length answered ≡ min (answered_count c) (length c.lines)
@@ -107,18 +106,15 @@ some_or_none : (o : Option StopWhy) → (o ≡ None) ⊎ IsSome o
 some_or_none None = inl refl
 some_or_none (Some why) = inr refl
 
--- a core is stopped only where a write failed
-pub write_fault_more : (first before after : ℕ) (old new : CoreState) → Passes old new → first ≤ before → before ≤ after → (IsSome old.stop → Rose first before)
-    → (old.stop ≡ None → new.stop ≡ Some WriteFault → Rose before after) → IsSome new.stop → Rose first after
-write_fault_more first before after old new passes le later was now stopped = elim (some_or_none old.stop) [
-  | inr some ↦ rose_longer first before after le later (was some)
-  | inl none ↦ by_stop none passes.stop
+-- a core that is stopped for a write that failed
+pub write_fault_more : (first before after : ℕ) (old new : CoreState) (outcome : Outcome) → Moves old outcome new → first ≤ before → before ≤ after → (old.stop ≡ Some WriteFault → Rose first before)
+    → (old.stop ≡ None → new.stop ≡ Some WriteFault → Rose before after) → new.stop ≡ Some WriteFault → Rose first after
+write_fault_more first before after old new outcome moves le later was now stopped = elim (some_or_none old.stop) [
+  | inl none ↦ Rose-later first before after le (now none stopped)
+  | inr some ↦
+      let same = (moves.stopped some).1 in
+      rose_longer first before after le later (was (sym (ap (λ (c : CoreState). c.stop) same) ∙ stopped))
 ]
-  where
-    by_stop : old.stop ≡ None → (new.stop ≡ None) ⊎ (new.stop ≡ Some WriteFault) ⊎ (new.stop ≡ old.stop) → Rose first after
-    by_stop none (inl goes) = absurd (let Q : Option StopWhy → Type 0 = λ o. IsSome o in let never = subst Q goes stopped in cc)
-    by_stop none (inr (inl fault)) = Rose-later first before after le (now none fault)
-    by_stop none (inr (inr same)) = absurd (let Q : Option StopWhy → Type 0 = λ o. IsSome o in let never = subst Q (same ∙ none) stopped in cc)
 
 -- a disk that tells now told before
 pub told_before : {X : Type 0} (before after : Option X) → (before ≡ None → after ≡ None) → IsSome after → IsSome before
@@ -133,6 +129,13 @@ starts_first c answered start none =
 
 pub starts_order : (c : CoreState) → IsStart c → Ordered c []
 starts_order c start = record { ordered = sym start.order; among = tt }
+
+pub starts_unread : (answered : List Answered) → answered ≡ [] → HasReadFault answered → ⊥
+starts_unread answered none has =
+    let Q : List Answered → Type 0 = λ l. HasReadFault l in
+    let there = subst Q none has in
+    let lt = there.2 in
+    omega (arith, lt)
 
 among_taken : (done lines : List Line) (session : Session) (taken : ℕ) → AreAmong done (take (effects_in session taken) lines) → AreAmong done (take taken lines)
 among_taken done lines sessions.Idle taken among = among
