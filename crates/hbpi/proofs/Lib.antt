@@ -15,3 +15,4 @@ pub mod FirstAnswers
 pub mod SettledLater
 pub mod Running
 pub mod TakenSteps
+pub mod RestOfOutput

@@ -1,5 +1,5 @@
 -- What holds over a disk that tells while steps are taken: one step more.
-use Rattle.std.proofs.Common.{◌≡◌, ◌≢◌, ◌⊎◌, inl, inr, ⊎_elim, ℕ, zero, suc, ◌+◌, ◌-◌, ◌<◌, ◌≤◌, false, List, [], ◌∷◌, ◌++◌, length, map, take, get_or, Option, Some, None, MatchOption, IsSome, refl, sym, ap, ◌∙◌, subst, arith, append-nil, length-append, add-one}
+use Rattle.std.proofs.Common.{◌≡◌, ◌≢◌, ◌⊎◌, inl, inr, ⊎_elim, ℕ, zero, suc, ◌+◌, ◌-◌, ◌<◌, ◌≤◌, List, [], ◌∷◌, ◌++◌, length, take, get_or, Some, None, refl, sym, ap, ◌∙◌, subst, arith, append-nil, length-append, add-one}
 use Rattle.std.proofs.lemmas.List.{take-append-le}
 use Rattle.std.proofs.lemmas.List.Elements.{All-nil, All-push, All-append, All-from_recursion}
 use Rattle.std.proofs.lemmas.Option.{slice_get_within}
@@ -7,27 +7,22 @@ use Rattle.std.specs.List.{All, AllByRecursion, slice_get}
 use Rattle.hb_disk.specs.Model.{DiskModel, IsDisk}
 use Rattle.hb_disk.specs.Calls.{Leaves}
 use Rattle.hb_disk.specs.RunLaws.{Leaves-start, Leaves-then, Leaves-weaker}
-use Rattle.hb_wal.specs.Log.{Waiting, mark_of, left_waiting}
-use Rattle.hb_ops.specs.Files.{FileState, contents_of}
-use Rattle.hb_ops.specs.declared.operations.Op.{Op}
-use Rattle.hb_ops.specs.Operations.{effect_of}
+use Rattle.hb_ops.specs.Files.{FileState}
 use Rattle.hb_set.specs.Machine.{RecordSet, reply_of}
 use Rattle.hb_set.specs.Order.{AreRising}
 use Rattle.hb_set.specs.declared.commands.Reply.{Reply}
 use Rattle.hb_set.specs.declared.scripts.Line.{Line}
 use Rattle.hb_set.specs.declared.scripts.Answered.{Answered}
 use Rattle.hb_store.specs.Keeps.{last_of}
-use Rattle.hb_store.specs.declared.stops.StopWhy.{StopWhy}
-use Rattle.hb_store.specs.declared.stops.StopWhy.TheVariants.{WriteFault}
-use Rattle.hbpi.specs.Core.{CoreState, CoreKeeps, StepKeeps, StepsTo, StepsOn, StepsAt, TakesNext, Walks, Awaits, Forces, Refuses, TakesEffect, Reaches, CrashesTo, HoldsAnswers, OpensToPrefix, AwaitsOne, StandsIn, StandsAt, IsReplied, IsOutside, AreAmong, IsCurrent, AnswersFirst, entries_from, set_of, settled_of, answers_of}
-use Rattle.hbpi.specs.Moves.{Moves, GetsAnswer}
+use Rattle.hbpi.specs.Core.{CoreState, CoreKeeps, StepKeeps, StepsTo, Reaches, OpensToPrefix, StandsIn, IsReplied, IsOutside, AreAmong, IsCurrent, AnswersFirst, set_of, settled_of, answers_of}
+use Rattle.hbpi.specs.Moves.{Moves}
 use Rattle.hbpi.specs.Drives.{RunsTo}
 use Rattle.hbpi.specs.declared.engine.session.Session.{Session}
 use Rattle.hbpi.specs.declared.engine.session.Session.TheVariants as sessions
 use Rattle.hbpi.specs.declared.engine.session.Outcome.{Outcome}
 use Rattle.hbpi.specs.declared.engine.session.Outcome.TheVariants as outcomes
-use Rattle.hbpi.proofs.LinesInOrder.{numbers, Below, legal, among_whole, front_lower, same_numbers}
-use Rattle.hbpi.proofs.FirstAnswers.{Ordered, Joined, NextOrder, effects_in, order_more, answered_lower}
+use Rattle.hbpi.proofs.LinesInOrder.{Below, legal, among_whole, front_lower, same_numbers}
+use Rattle.hbpi.proofs.FirstAnswers.{Ordered, Joined, effects_in, order_more, answered_lower}
 use Rattle.hbpi.proofs.SettledLater.{settled_later}
 
 -- of an answered line: its reply, and what crashes leave since its answer; and its place is settled

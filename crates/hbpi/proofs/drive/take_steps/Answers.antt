@@ -1,4 +1,4 @@
-use Rattle.std.proofs.Common.{◌≡◌, ℕ, ◌+◌, ◌<◌, ◌≤◌, List, [], ◌++◌, length, Option, None, IsSome, refl, sym, ap, ◌∙◌, subst, arith}
+use Rattle.std.proofs.Common.{◌≡◌, ℕ, ◌+◌, List, [], length, refl, sym, ap, ◌∙◌, subst, arith}
 use Rattle.hb_set.specs.Machine.{RecordSet}
 use Rattle.hb_set.specs.Order.{AreRising}
 use Rattle.hb_set.specs.declared.scripts.Line.{Line}
@@ -8,13 +8,10 @@ use Rattle.hbpi.specs.Core.{CoreKeeps, AnswersFirst, answers_of}
 use Rattle.hbpi.specs.CoreSeen.{core_seen, core_disk}
 use Rattle.hbpi.specs.Drives.{RunsTo}
 use Rattle.hbpi.proofs.PutTexts.{has_put_none}
-use Rattle.hbpi.proofs.FirstAnswers.{Ordered, first_more, order_more}
+use Rattle.hbpi.proofs.FirstAnswers.{first_more, order_more}
 use Rattle.hbpi.proofs.Running.{Running, running_starts, running_more, running_ends}
 use Rattle.hbpi.proofs.TakenSteps.{room_for, moves_more, puts_more, read_fault_more, write_fault_more, told_before, starts_first, starts_order, starts_unread, has_order}
 use Rattle.hbpi.proofs.drive.take_steps.Goals as goal
-
-pub step-outcome-requires-clause-stub : goal.step-outcome-requires-clause-stub
-step-outcome-requires-clause-stub g c = ?
 
 pub loop-init : goal.loop-init
 loop-init g c =

@@ -1,4 +1,4 @@
-use Rattle.std.proofs.Common.{◌≡◌, ◌≤◌, ℕ, List, length, [], Some, None}
+use Rattle.std.proofs.Common.{◌≡◌, ◌≤◌, List, length, [], Some, None}
 use Rattle.std.specs.Vec.{vec_capacity}
 use Rattle.std.specs.List.{flat_map}
 use Rattle.hb_outside.specs.Streams.{Rose}
