@@ -16,3 +16,4 @@ pub mod SettledLater
 pub mod Running
 pub mod TakenSteps
 pub mod RestOfOutput
+pub mod ScheduleRuns

@@ -154,7 +154,7 @@ module _ (held mid holds : Option (List ℕ)) (f g h : ℕ) (early failed stoppe
       let P : List ℕ → Type 0 = λ t. HasPut held holds f h failed t in
       let lefts = flat_map (left_text (is_some c.stop)) (numbers (drop from c.lines)) in
       subst P (sym (append_assoc (flat_map answer_text answered) lefts (order_text c.order (settled_of c)))
-        ∙ ap (λ (ns : List ℕ). flat_map answer_text answered ++ flat_map (left_text (is_some c.stop)) ns ++ order_text c.order (settled_of c)) (sym left))
+      ∙ ap (λ (ns : List ℕ). flat_map answer_text answered ++ flat_map (left_text (is_some c.stop)) ns ++ order_text c.order (settled_of c)) (sym left))
       (has_put_more held mid holds f g h early failed (flat_map answer_text answered) (lefts ++ order_text c.order (settled_of c)) put more)
 
   good_put : failed ≡ false → Appends held holds (run_output answered c)

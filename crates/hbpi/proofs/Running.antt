@@ -145,11 +145,11 @@ module _ (e f : DiskModel) (n : RecordSet) (old new : CoreState) (done after : L
       record {
         replied = still_replied a lower held.replied;
         since = λ place line is number c image.
-        let there = still_there a lower place line is number in
-        let lt = held.placed place line there number in
-        ⊎_elim (λ before. prefix_grows n done more.0 after (place + 1) c more.1 (held.since place line there number c before))
-        (λ here. prefix_least n after (place + 1) (settled_of old) c (omega (arith, lt)) here)
-        (moments.before a.at c held.earlier image);
+            let there = still_there a lower place line is number in
+            let lt = held.placed place line there number in
+            ⊎_elim (λ before. prefix_grows n done more.0 after (place + 1) c more.1 (held.since place line there number c before))
+            (λ here. prefix_least n after (place + 1) (settled_of old) c (omega (arith, lt)) here)
+            (moments.before a.at c held.earlier image);
         earlier = let one = held.earlier in let two = moments.later in omega (arith, one, two);
         placed = λ place line is number. let lt = held.placed place line (still_there a lower place line is number) number in omega (arith, lt, later);
       }
@@ -159,10 +159,10 @@ module _ (e f : DiskModel) (n : RecordSet) (old new : CoreState) (done after : L
   held_now a at replied placed = record {
     replied = replied;
     since = λ place line is number c image.
-    let T : ℕ → Type 0 = λ t. f.ImageSince t c in
-    let now = disk.only_now c (subst T at image) in
-    let lt = placed place line is number in
-    prefix_least n after (place + 1) (settled_of old) c (omega (arith, lt)) (moments.each c (disk.counts_now e.clock c moments.later now));
+        let T : ℕ → Type 0 = λ t. f.ImageSince t c in
+        let now = disk.only_now c (subst T at image) in
+        let lt = placed place line is number in
+        prefix_least n after (place + 1) (settled_of old) c (omega (arith, lt)) (moments.each c (disk.counts_now e.clock c moments.later now));
     earlier = omega (arith, at);
     placed = λ place line is number. let lt = placed place line is number in omega (arith, lt, later);
   }
@@ -232,7 +232,7 @@ given_held e f old new file (outcomes.Answered number reply) n done at rising wa
     let after = next.step.after in
     let L : List Line → Type 0 = λ ls. AreAmong after (take new.taken ls) in
     let same = same_numbers after done old.lines rising (among_whole after old.lines new.taken (subst L next.moves.lines next.step.keeps.among))
-        (among_whole done old.lines old.taken was.among) (next.step.keeps.ordered ∙ gets.order ∙ sym was.ordered) in
+    (among_whole done old.lines old.taken was.among) (next.step.keeps.ordered ∙ gets.order ∙ sym was.ordered) in
     let one : Held f n after (settled_of new) (record { line = number; reply = reply; at = at }) = elim gets.why [
       | inl walk ↦ refused e f n old new done after rising joined was later next.step.moments next.disk number reply at gets.line next.at_is same order gets.current gets.number_is walk.0 walk.1
       | inr wait ↦ waited e f n old new done after rising joined was later next.step.moments next.disk number reply at wait.0 gets.line next.at_is same gets.current gets.number_is wait.1 wait.2

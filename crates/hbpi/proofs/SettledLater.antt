@@ -67,7 +67,7 @@ module _ (old new : CoreState) (s t : FileState) where
           let Q : List Waiting → Type 0 = λ g. settled_of old ≤ mark_of g (length new.order) in
           let R : ℕ → Type 0 = λ k. settled_of old ≤ mark_of (left_waiting old.store.log.groups) k in
           subst Q (sym (ap (λ (st : StoreState). st.log.groups) good.2))
-            (subst R (sym (ap length forces.order)) (mark_forced old.store.log.groups done (length old.order) one count))
+          (subst R (sym (ap length forces.order)) (mark_forced old.store.log.groups done (length old.order) one count))
       by_case (inr bad) = same_core old new (ap (λ (st : StoreState). st.log.groups) bad.2) forces.order
 
   module _ (outcome : Outcome) (done : List Line) (one : AwaitsOne old.store.log.groups done) (count : length done ≡ length old.order) where

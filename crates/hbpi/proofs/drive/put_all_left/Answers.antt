@@ -24,5 +24,5 @@ pub returns-clause-puts : goal.returns-clause-puts
 returns-clause-puts g c =
     let end : length c.args.lines.now ≤ c.loop-line.line-index = omega arith in
     let P : List Line → Type 0 = λ ls. PutsMore (g.K.Sink.written c.args.sink.now) (g.K.Sink.written c.loop-line.sink) (g.K.Sink.faults c.args.sink.now) (g.K.Sink.faults c.loop-line.sink) c.args.failed c.loop-line.failed
-        (flat_map (left_text c.args.stopped) (numbers ls)) in
+    (flat_map (left_text c.args.stopped) (numbers ls)) in
     subst P (take_all c.loop-line.line-index c.args.lines.now end) c.loop-line.invariant.puts

@@ -18,7 +18,7 @@ loop-init g c =
     let none = c.requires.none in
     let start = c.requires.start in
     let R : List Answered → Type 0 = λ answered. (n : RecordSet) (kept : CoreKeeps (g.D.Disk.model (core_disk c.args.core.now)) (core_seen c.args.core.now) n []) →
-        Running 0 (g.D.Disk.model (core_disk c.args.core.now)) (core_seen c.args.core.now) (last_of kept.durable kept.later) answered (g.D.Disk.model (core_disk c.args.core.now)) (core_seen c.args.core.now) n in
+    Running 0 (g.D.Disk.model (core_disk c.args.core.now)) (core_seen c.args.core.now) (last_of kept.durable kept.later) answered (g.D.Disk.model (core_disk c.args.core.now)) (core_seen c.args.core.now) n in
     record {
       moves = (refl, none);
       first = starts_first (core_seen c.args.core.now) c.args.answered.now.items start none;
@@ -45,8 +45,12 @@ step-outcome-requires-clause-kept g c = λ told.
 pub take_answer-failed-requires : goal.take_answer-failed-requires
 take_answer-failed-requires g c =
     let before = c.loop.invariant in
-    omega (arith, room_for (core_seen c.loop.core) (core_seen c.step-outcome.new.self) c.step-outcome.result c.clock-at.result c.loop.answered.items c.step-outcome.ensures.moves before.first before.whole.few,
-      c.loop.answered.ok.0, before.room)
+    omega (
+      arith,
+      room_for (core_seen c.loop.core) (core_seen c.step-outcome.new.self) c.step-outcome.result c.clock-at.result c.loop.answered.items c.step-outcome.ensures.moves before.first before.whole.few,
+      c.loop.answered.ok.0,
+      before.room,
+    )
 
 pub loop-preserved : goal.loop-preserved
 loop-preserved g c =
@@ -73,17 +77,17 @@ loop-preserved g c =
       runs = λ n first.
           let run = before.runs n first in
           let R : List Answered → Type 0 = λ answered. Running (c.loop.counter + 1) (g.D.Disk.model (core_disk c.args.core.now)) (core_seen c.args.core.now) (last_of first.durable first.later) answered
-              (g.D.Disk.model (core_disk c.step-outcome.new.self)) new n in
+          (g.D.Disk.model (core_disk c.step-outcome.new.self)) new n in
           let keeps = step.keeps n run.done run.keeps in
           subst R (sym kept) (running_more c.loop.counter (g.D.Disk.model (core_disk c.args.core.now)) (core_seen c.args.core.now) (last_of first.durable first.later) c.loop.answered.items
-            (g.D.Disk.model (core_disk c.loop.core)) (g.D.Disk.model (core_disk c.step-outcome.new.self)) old new n outcome at before.order.0 rising before.first before.order.1 run
-            (record {
-              step = keeps;
-              moves = step.moves;
-              disk = g.met.D.Disk.is_disk (core_disk c.step-outcome.new.self);
-              soon = step.clock run.keeps.keeps.told;
-              at_is = c.clock-at.ensures keeps.keeps.keeps.told;
-            }));
+          (g.D.Disk.model (core_disk c.loop.core)) (g.D.Disk.model (core_disk c.step-outcome.new.self)) old new n outcome at before.order.0 rising before.first before.order.1 run
+          (record {
+            step = keeps;
+            moves = step.moves;
+            disk = g.met.D.Disk.is_disk (core_disk c.step-outcome.new.self);
+            soon = step.clock run.keeps.keeps.told;
+            at_is = c.clock-at.ensures keeps.keeps.keeps.told;
+          }));
       read_fault = read_fault_more _ (g.D.Disk.model (core_disk c.loop.core)).read_faults _ c.loop.answered.items _ outcome at kept before.reads_later step.reads_later before.read_fault step.read_fault;
       write_fault = write_fault_more _ (g.D.Disk.model (core_disk c.loop.core)).write_faults _ old new outcome step.moves before.writes_later step.writes_later before.write_fault step.write_fault;
       reads_later = omega (arith, before.reads_later, step.reads_later);
@@ -96,7 +100,7 @@ returns-clause-runs g c = λ n kept.
     let rising = subst (λ (ls : List Line). AreRising ls) (sym before.lines) c.requires.script.rising in
     let all : c.loop.counter ≡ c.args.steps = omega arith in
     let S : ℕ → Type 0 = λ steps. RunsTo steps (g.D.Disk.model (core_disk c.args.core.now)) (core_seen c.args.core.now) (last_of kept.durable kept.later) c.loop.answered.items
-        (g.D.Disk.model (core_disk c.loop.core)) (core_seen c.loop.core) n in
+    (g.D.Disk.model (core_disk c.loop.core)) (core_seen c.loop.core) n in
     subst S all (running_ends c.loop.counter _ (core_seen c.args.core.now) _ c.loop.answered.items _ (core_seen c.loop.core) n rising before.first (before.runs n kept))
 
 pub returns-clause-order : goal.returns-clause-order
