@@ -17,3 +17,4 @@ pub mod Running
 pub mod TakenSteps
 pub mod RestOfOutput
 pub mod ScheduleRuns
+pub mod Reopened
