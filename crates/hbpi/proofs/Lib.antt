@@ -18,3 +18,4 @@ pub mod TakenSteps
 pub mod RestOfOutput
 pub mod ScheduleRuns
 pub mod Reopened
+pub mod Promises
