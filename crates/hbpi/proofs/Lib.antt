@@ -19,3 +19,5 @@ pub mod RestOfOutput
 pub mod ScheduleRuns
 pub mod Reopened
 pub mod Promises
+pub mod NotRefused
+pub mod DriveGiven
