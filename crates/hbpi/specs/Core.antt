@@ -175,10 +175,11 @@ AwaitsOne [] done = Unit {0}
 AwaitsOne (first ∷ []) done = first.mark + 1 ≡ length done
 AwaitsOne (first ∷ second ∷ rest) done = ⊥
 
--- Between two steps a session that awaits stands last in the order, with the machine's reply; and only for it a group waits.
+-- Between two steps a session that awaits stands last in the order, with the machine's reply; and only for it a group
+-- waits. A line that walks hasn't joined the order.
 abbrev pub StandsIn : Session → CoreState → RecordSet → List Line → Type 0
 StandsIn sessions.Idle c n done = c.stop ≡ None → c.store.log.groups ≡ []
-StandsIn sessions.Walk c n done = ((c.stop ≡ None → c.store.log.groups ≡ [])) × (line : Line) × IsCurrent c line
+StandsIn sessions.Walk c n done = (c.stop ≡ None → c.store.log.groups ≡ []) × AreAmong done (take (c.taken - 1) c.lines) × (line : Line) × IsCurrent c line
 StandsIn (sessions.Await reply place) c n done = (before : List Line) × (line : Line) × (done ≡ before ++ line ∷ []) × IsCurrent c line × (place ≡ length before) × (reply ≡ reply_of line.command (set_of n before))
 
 -- What every core is, over every disk.
@@ -189,6 +190,7 @@ pub record IsCore (c : CoreState) : Type 0 where
   pub short : length c.order ≤ c.taken
   pub walking : c.session ≡ sessions.Walk → length c.order < c.taken
   pub marks : All (λ g. g.mark ≤ length c.order) c.store.log.groups
+  pub replies : (reply : Reply) (place : ℕ) → c.session ≡ sessions.Await reply place → reply ≢ ReadFault
   pub one_page : (c.store.meta.root ≡ 1) × (c.store.meta.high ≡ 1) × (c.store.meta.height ≡ 1)
 
 -- What a core keeps over a disk that tells, from the set on that its file had first: the lines that took effect, in order.

@@ -14,3 +14,5 @@ pub mod Core
 pub mod CoreSeen
 pub mod Drives
 pub mod Moves
+pub mod Steps
+pub mod Plans
