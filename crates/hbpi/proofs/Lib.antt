@@ -10,3 +10,7 @@ pub mod Own
 pub mod Lone
 pub mod Made
 pub mod Found
+mod LinesDone
+mod PrefixOpens
+mod CoreStays
+mod AnswerSteps
