@@ -38,7 +38,7 @@ stopped_keeps d is_disk old some n done kept =
     (quiet_moments d old n done kept is_disk d (OnlyReads-none d) done (inl refl))
   where
     stopped : (o : Option StopWhy) → IsSome o → MatchOption o ((old.lines ≡ old.lines) × StepsOn old.session old (last_of kept.durable kept.later) outcomes.Stopped old (last_of kept.durable kept.later)) (λ why. (outcomes.Stopped ≡ outcomes.Stopped) × (old ≡ old) × (last_of kept.durable kept.later ≡ last_of kept.durable kept.later))
-    stopped None some = absurd some
+    stopped None some = cc some
     stopped (Some why) some = (refl, refl, refl)
 
 module _ (d : DiskModel) (is_disk : IsDisk d) (old : CoreState) (going : old.stop ≡ None) where
@@ -55,7 +55,7 @@ module _ (d : DiskModel) (is_disk : IsDisk d) (old : CoreState) (going : old.sto
       (inl (lt, refl, ap (λ (o : Option StopWhy). going_core old (old.taken + 1) sessions.Walk o) going, refl)))
       (inl refl)
       (stays_kept d old n done kept d (old.taken + 1) sessions.Walk old.stop old.store kept.keeps refl (among_next done old.lines old.taken lt kept.among) (omega (arith, lt))
-      kept.running (there, before_next done old.lines old.taken kept.among, next_is_current old.lines old.taken lt))
+      kept.running (there, before_next done old.lines old.taken kept.among, (next_is_current old.lines old.taken lt).0, (next_is_current old.lines old.taken lt).1))
       (quiet_moments d old n done kept is_disk d (OnlyReads-none d) done (inl refl)))
   next_keeps outcome new was (inr none) n done kept =
       let file = last_of kept.durable kept.later in

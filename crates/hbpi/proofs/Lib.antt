@@ -14,3 +14,5 @@ mod LinesDone
 mod PrefixOpens
 mod CoreStays
 mod AnswerSteps
+mod ForceSteps
+mod AwaitSteps

@@ -1,26 +1,18 @@
-use Rattle.std.proofs.Common.{rules, ◌≡◌, ◌≢◌, ◌⊎◌, ℕ, ◌+◌, ◌<◌, ◌≤◌, List, [], length, IfOk, IfErr, IsSome, Some, None, ◌-◌, ◌*◌, ◌/◌, ◌%◌, Bool, true, false, nat_eq, nat_lt, ◌∷◌, ◌++◌, slice_index_or, slice_set, bit_and, bit_or, Fits, w8, w32, w64, Bor, MutBor}
-use Rattle.hb_outside.specs.Streams.{Rose}
-use Rattle.hb_ops.specs.Files.{FileState, contents_of}
-use Rattle.hb_ops.specs.Sound.{IsSound}
-use Rattle.hb_set.specs.Machine.{RecordSet}
-use Rattle.hb_set.specs.Scripts.{IsScriptFor}
-use Rattle.hb_set.specs.declared.commands.Reply.TheVariants.{ReadFault}
-use Rattle.hb_set.specs.declared.scripts.Line.{Line as Entry}
-use Rattle.hb_ops.specs.declared.meta.Meta.{Meta as Said}
-use Rattle.hb_store.specs.Keeps.{StoreKeeps, IsNew, last_of}
-use Rattle.hb_store.specs.Seen.{seen_as, disk_of}
-use Rattle.hb_store.specs.declared.stops.StopWhy.TheVariants.{WriteFault}
-use Rattle.hbpi.specs.Core.{CoreKeeps, StepKeeps, IsCore, IsServed}
-use Rattle.hbpi.specs.Moves.{Moves}
+use Rattle.std.proofs.Common.{◌∙◌, sym, subst}
 use Rattle.hbpi.specs.CoreSeen.{core_seen, core_disk}
-use Rattle.hbpi.specs.Steps.{AnswersIt, IsAwaiting, KeepsAt, StepsSafely, TookNext}
-use Rattle.hb_set.specs.declared.commands.Reply.{Reply}
+use Rattle.hbpi.specs.Steps.{KeepsAt}
+use Rattle.hbpi.proofs.AnswerSteps.{next_keeps, stopped_keeps}
+use Rattle.hbpi.proofs.ForceSteps.{none_so, some_so}
 use Rattle.hbpi.proofs.engine.state.Core.step.Goals as goal
 
--- src/engine/steps.rt:76:13
 pub returns-then-is_some-clause-keeps : goal.returns-then-is_some-clause-keeps
-returns-then-is_some-clause-keeps g c = ?
+returns-then-is_some-clause-keeps g c =
+    stopped_keeps (g.D.Disk.model (core_disk c.args.self.now)) (g.met.D.Disk.is_disk (core_disk c.args.self.now)) (core_seen c.args.self.now)
+    (some_so c.args.self.now.stop (sym c.is_some.ensures ∙ c.if-is_some.true))
 
--- src/engine/steps.rt:57:5
 pub returns-in-Idle-clause-keeps : goal.returns-in-Idle-clause-keeps
-returns-in-Idle-clause-keeps g c = ?
+returns-in-Idle-clause-keeps g c =
+    let P : g.row.D.Denot → Type 0 = λ x. KeepsAt (g.D.Disk.model (core_disk c.args.self.now)) (core_seen c.args.self.now) c.take_line.result (g.D.Disk.model x) (core_seen c.take_line.new.self) in
+    subst P (sym c.take_line.ensures.disk)
+    (next_keeps (g.D.Disk.model (core_disk c.args.self.now)) (g.met.D.Disk.is_disk (core_disk c.args.self.now)) (core_seen c.args.self.now)
+    (none_so c.args.self.now.stop (sym c.is_some.ensures ∙ c.if-is_some.false)) c.take_line.result (core_seen c.take_line.new.self) c.in-Idle.is c.take_line.ensures.took)
