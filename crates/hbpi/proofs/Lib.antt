@@ -16,3 +16,4 @@ mod CoreStays
 mod AnswerSteps
 mod ForceSteps
 mod AwaitSteps
+mod RootPages

@@ -57,6 +57,7 @@ pub(crate) fn top_of<'a>(page: &'a Page, meta: &Meta) -> Result<&'a LivePage, Wh
 
 /// What a line with this command does, by the root. A leaf that names a page breaks the rule of sibling leaves there.
 pub(crate) fn plan_on(page: &LivePage, meta: &Meta, command: &Command) -> Plan
+    requires layout { IsLayout meta.now }
     requires made { FitsFile meta.now page.now }
     requires level { page.now.level ≡ 0 }
     requires whole { page.now.area ≡ whole_area meta.now.k }
@@ -85,6 +86,7 @@ fn standing_at<'a>(page: &'a LivePage, meta: &Meta, point: &Point) -> Standing<'
 
 /// What an insert does.
 fn insert_on(page: &LivePage, meta: &Meta, rec: &Record) -> Plan
+    requires layout { IsLayout meta.now }
     requires made { FitsFile meta.now page.now }
     requires level { page.now.level ≡ 0 }
     requires whole { page.now.area ≡ whole_area meta.now.k }
@@ -100,6 +102,7 @@ fn insert_on(page: &LivePage, meta: &Meta, rec: &Record) -> Plan
 
 /// What an insert of an absent point does.
 fn put_on(page: &LivePage, meta: &Meta, rec: &Record) -> Plan
+    requires layout { IsLayout meta.now }
     requires made { FitsFile meta.now page.now }
     requires level { page.now.level ≡ 0 }
     requires attributes { length rec.now.key ≡ meta.now.k }
