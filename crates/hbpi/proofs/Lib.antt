@@ -17,3 +17,6 @@ mod AnswerSteps
 mod ForceSteps
 mod AwaitSteps
 mod RootPages
+mod Acting
+mod PlansHold
+mod RefusedSteps

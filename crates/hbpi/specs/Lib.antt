@@ -16,3 +16,4 @@ pub mod Drives
 pub mod Moves
 pub mod Steps
 pub mod Plans
+pub mod FileLaws

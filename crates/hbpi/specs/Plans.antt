@@ -85,11 +85,11 @@ abbrev pub ChangesOr : ℕ → Op → DiskModel → CoreState → Outcome → Di
 ChangesOr number op d old outcome e new = Refused number old outcome new ⊎ ((outcome ≡ outcomes.Moved) × Changes number op d old e new)
 
 -- what the core does by a plan
-abbrev pub Does : Line → Plan → DiskModel → CoreState → Outcome → DiskModel → CoreState → Type 0
-Does line (plans.Answer reply) d old outcome e new = (outcome ≡ outcomes.Moved) × (new ≡ joined_core line.number reply old)
-Does line (plans.Change op) d old outcome e new = ChangesOr line.number op d old outcome e new
-Does line plans.Full d old outcome e new = (outcome ≡ outcomes.Answered line.number replies.Full) × (new ≡ with_session sessions.Idle old)
-Does line (plans.Damaged why) d old outcome e new = (outcome ≡ outcomes.Stopped) × (page : ℕ) × (new ≡ with_stop (stops.Damaged page why) old)
+abbrev pub Does : ℕ → Plan → DiskModel → CoreState → Outcome → DiskModel → CoreState → Type 0
+Does number (plans.Answer reply) d old outcome e new = (outcome ≡ outcomes.Moved) × (new ≡ joined_core number reply old)
+Does number (plans.Change op) d old outcome e new = ChangesOr number op d old outcome e new
+Does number plans.Full d old outcome e new = (outcome ≡ outcomes.Answered number replies.Full) × (new ≡ with_session sessions.Idle old)
+Does number (plans.Damaged why) d old outcome e new = (outcome ≡ outcomes.Stopped) × (page : ℕ) × (new ≡ with_stop (stops.Damaged page why) old)
 
 -- The root is in a frame, and the line does what is planned by it.
 pub record Acts (d : DiskModel) (old : CoreState) (outcome : Outcome) (e : DiskModel) (new : CoreState) : Type 0 where
@@ -99,4 +99,4 @@ pub record Acts (d : DiskModel) (old : CoreState) (outcome : Outcome) (e : DiskM
   pub framed : old.store.frame old.store.meta.root ≡ Some page
   pub plan : Plan
   pub planned : PlansBy old.store.meta page line.command plan
-  pub does : Does line plan d old outcome e new
+  pub does : Does line.number plan d old outcome e new

@@ -12,6 +12,7 @@ ghost use Rattle.hb_store.specs.Keeps.{StoreKeeps, OpensToFirst};
 ghost use Rattle.hb_store.specs.Seen.{seen_as};
 ghost use Rattle.hbpi.specs.Core.{CoreKeeps, IsCore, IsCurrent, IsServed, IsServedCommand, MayCommit};
 ghost use Rattle.hbpi.specs.CoreSeen.{core_seen, core_disk};
+ghost use Rattle.hbpi.specs.FileLaws.{FileLaws};
 ghost use Rattle.hbpi.specs.Plans.{Acts, ChangesOr, PlansBy};
 ghost use Rattle.hbpi.specs.Steps.{Forced, GivesUp, KeepsAt, StepsSafely, joined_core, with_session, with_stop};
 ghost use Rattle.hb_store.specs.declared.stops.StopWhy.TheVariants.{Damaged};
@@ -20,7 +21,10 @@ use crate::engine::plans::{Plan, plan_on, top_of};
 use crate::engine::session::{Outcome, Session};
 use crate::engine::state::Core;
 use hb_disk::Disk;
-use hb_ops::Op;
+use hb_ops::{
+    Op, delete_takes_one_record, lone_page_has_no_others, operations_keep_a_file_sound,
+    put_adds_one_record, what_stands_is_in_the_contents,
+};
 use hb_set::{Command, Reply};
 use hb_store::{FetchStop, StopWhy, Store, Why};
 
@@ -51,6 +55,17 @@ fn plan_of<D: Disk>(store: &Store<D>, command: &Command) -> Plan
     }
 }
 
+/// Laws: in a file of one page an operation does to the contents what the machine does to the set.
+fn operations_do_as_the_machine()
+    ensures { FileLaws }
+{
+    put_adds_one_record();
+    delete_takes_one_record();
+    lone_page_has_no_others();
+    operations_keep_a_file_sound();
+    what_stands_is_in_the_contents();
+}
+
 impl<D: Disk> Core<D> {
     /// One step of a session that walks. A command that may change the file waits until the store is ready.
     pub(crate) fn walk(&mut self) -> Outcome
@@ -68,7 +83,10 @@ impl<D: Disk> Core<D> {
         }
         let root = self.store.meta().root;
         match self.store.fetch(root) {
-            Ok(()) => self.act(),
+            Ok(()) => {
+                operations_do_as_the_machine();
+                self.act()
+            }
             Err(stop) => self.give_up(stop),
         }
     }
