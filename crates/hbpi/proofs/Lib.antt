@@ -20,3 +20,5 @@ mod RootPages
 mod Acting
 mod PlansHold
 mod RefusedSteps
+mod EffectSteps
+mod WalkSteps

@@ -43,7 +43,7 @@ live_so (Some (Free next)) page e = cc
 pub live_alone : (meta : Meta) (p : Page) (id : ℕ) (q : LivePage) → live_page (lone meta p) id ≡ Some q → (id ≡ 1) × (p ≡ Live q)
 live_alone meta p id q e = page_alone p id (Live q) (live_so (page_at (p ∷ []) id) q e)
 
-live_is : (p q : LivePage) → Live p ≡ Live q → p ≡ q
+pub live_is : (p q : LivePage) → Live p ≡ Live q → p ≡ q
 live_is p q e = cc
 
 -- a free page is no root

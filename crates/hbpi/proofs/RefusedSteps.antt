@@ -2,6 +2,7 @@
 use Rattle.std.proofs.Common.{◌≡◌, ◌≢◌, ◌⊎◌, inl, inr, ℕ, ◌+◌, ◌-◌, ◌<◌, ◌≤◌, Bool, true, false, List, [], ◌∷◌, ◌++◌, length, take, Option, Some, None, IsSome, refl, sym, ap, subst, ◌∙◌, arith}
 use Rattle.hb_disk.specs.Model.{DiskModel, IsDisk}
 use Rattle.hb_disk.specs.Calls.{OnlyReads}
+use Rattle.hb_disk.specs.RunLaws.{OnlyReads-none}
 use Rattle.hb_wal.specs.Log.{LogState, Waiting}
 use Rattle.hb_ops.specs.Files.{FileState}
 use Rattle.hb_set.specs.declared.scripts.Line.{Line}
@@ -57,6 +58,20 @@ module _ (d : DiskModel) (is_disk : IsDisk d) (old : CoreState) (going : old.sto
         (stays_kept d old n done kept e old.taken sessions.Idle old.stop st (pass kept.durable kept.later kept.keeps) groups kept.among kept.few (λ h. same.stopped ∙ kept.running h)
         (λ h. groups ∙ none_waits n done kept))
         (quiet_moments d old n done kept is_disk e reads done (inl refl)))
+
+  -- the store isn't ready, and nothing waits
+  pub full_keeps : (outcome : Outcome) (new : CoreState) (number : ℕ) → ((line : Line) × IsCurrent old line × (number ≡ line.number))
+      → ((line : Line) × IsCurrent old line × MayCommit line.command × (¬ (IsReady old.store)))
+      → outcome ≡ outcomes.Answered number replies.Full → new ≡ with_session sessions.Idle old → KeepsAt d old outcome d new
+  full_keeps outcome new number numbered waits is new_is n done kept =
+      let same = same_current numbered.0 waits.0 numbered.1 waits.1 in
+      let number_is : number ≡ waits.0.number = numbered.2 ∙ ap (λ (l : Line). l.number) same in
+      refused_keeps d (OnlyReads-none d) old.store (same_frames old.store) (λ durable later keeps. keeps) outcome new waits.0 replies.Full waits.1
+      (is ∙ ap (λ (m : ℕ). outcomes.Answered m replies.Full) number_is) new_is n done kept
+      (λ r. inr (inl (waits.2, waits.3, none_waits n done kept, r)))
+    where
+      same_current : (a b : Line) → IsCurrent old a → IsCurrent old b → a ≡ b
+      same_current a b here there = let both : Some a ≡ Some b = sym here.1 ∙ there.1 in cc
 
   -- the root wasn't fetched: it is in no frame, and isn't damaged
   pub gave_up_keeps : (e : DiskModel) → OnlyReads d e → (outcome : Outcome) (new : CoreState) (stop : FetchStop) → GivesUp stop old outcome new
