@@ -22,3 +22,4 @@ mod PlansHold
 mod RefusedSteps
 mod EffectSteps
 mod WalkSteps
+mod WalkSafe

@@ -4,7 +4,10 @@ use Rattle.hb_disk.specs.Model.{DiskModel, IsDisk}
 use Rattle.hb_disk.specs.Calls.{OnlyReads}
 use Rattle.hb_disk.specs.RunLaws.{OnlyReads-none}
 use Rattle.hb_wal.specs.Log.{LogState, Waiting}
+use Rattle.hb_frag.specs.declared.pages.Page.{Page}
+use Rattle.hb_ops.specs.declared.meta.Meta.{Meta}
 use Rattle.hb_ops.specs.Files.{FileState}
+use Rattle.hb_store.specs.Stops.{IsNoPage}
 use Rattle.hb_set.specs.declared.scripts.Line.{Line}
 use Rattle.hb_set.specs.declared.commands.Reply.{Reply}
 use Rattle.hb_set.specs.declared.commands.Reply.TheVariants as replies
@@ -21,6 +24,19 @@ use Rattle.hbpi.specs.Steps.{AnswersIt, GivesUp, KeepsAt, with_session, with_sto
 use Rattle.hbpi.proofs.PrefixOpens.{quiet_moments}
 use Rattle.hbpi.proofs.CoreStays.{stands, stays_kept, step_kept, steps_going}
 use Rattle.hbpi.proofs.AnswerSteps.{along}
+
+-- a page that isn't in a frame, where the number is given by an equation
+pub not_framed : (frame : ℕ → Option Page) (id root : ℕ) → id ≡ root → (IsSome (frame id) → ⊥) → frame root ≡ None
+not_framed frame id root e none = let Q : ℕ → Type 0 = λ n. frame n ≡ None in subst Q e (nothing (frame id) none)
+  where
+    nothing : (o : Option Page) → (IsSome o → ⊥) → o ≡ None
+    nothing None h = refl
+    nothing (Some page) h = absurd (h refl)
+
+-- the root of a file of one page is a page
+pub is_a_page : (meta : Meta) (id : ℕ) → id ≡ meta.root → (meta.root ≡ 1) × (meta.high ≡ 1) × (meta.height ≡ 1) → IsNoPage meta id → ⊥
+is_a_page meta id e one (inl zero_is) = let root = one.0 in absurd (omega (arith, e, root, zero_is))
+is_a_page meta id e one (inr above) = let root = one.0 in let high = one.1 in absurd (omega (arith, e, root, high, above))
 
 -- the store that a walk leaves, but for the frames
 pub record FramesOnly (old new : StoreState) : Type 0 where
