@@ -36,23 +36,25 @@ module _ (d : DiskModel) (c : CoreState) (n : RecordSet) (done : List Line) (kep
       → (k : CoreKeeps e (stays_core taken session stop st) n done) × (last_of k.durable k.later ≡ last_of kept.durable kept.later)
   stays_kept e taken session stop st keeps groups among few running there =
       let S : List Waiting → Type 0 = λ g. contents_of kept.durable ≡ set_of n (take (mark_of g (length c.order)) done) in
-      let A : List Waiting → Type 0 = λ g. AwaitsOne g done in
-      (record {
-        durable = kept.durable;
-        later = kept.later;
-        keeps = keeps;
-        sound = kept.sound;
-        sound_durable = kept.sound_durable;
-        one_page = kept.one_page;
-        ordered = kept.ordered;
-        among = among;
-        set = kept.set;
-        durable_set = subst S (sym groups) kept.durable_set;
-        awaits = subst A (sym groups) kept.awaits;
-        session = there;
-        few = few;
-        running = running;
-      }, refl)
+      let A : List Waiting → Type 0 = λ g. AwaitsOne g done in (
+        record {
+          durable = kept.durable;
+          later = kept.later;
+          keeps = keeps;
+          sound = kept.sound;
+          sound_durable = kept.sound_durable;
+          one_page = kept.one_page;
+          ordered = kept.ordered;
+          among = among;
+          set = kept.set;
+          durable_set = subst S (sym groups) kept.durable_set;
+          awaits = subst A (sym groups) kept.awaits;
+          session = there;
+          few = few;
+          running = running;
+        },
+        refl,
+      )
 
 -- a step, from its parts
 pub step_kept : (d e : DiskModel) (old new : CoreState) (file file_after : FileState) (outcome : Outcome) (n : RecordSet) (done after : List Line)

@@ -84,29 +84,31 @@ module _ (d : DiskModel) (is_disk : IsDisk d) (old : CoreState) (going : old.sto
     answer_kept =
         let S : List Waiting → Type 0 = λ g. contents_of kept.durable ≡ set_of n (take (mark_of g (length (old.order ++ line.number ∷ []))) after) in
         let A : List Waiting → Type 0 = λ g. AwaitsOne g after in
-        let order_more = length-append old.order (line.number ∷ []) in
-        (record {
-          durable = kept.durable;
-          later = kept.later;
-          keeps = pass kept.durable kept.later kept.keeps;
-          sound = kept.sound;
-          sound_durable = kept.sound_durable;
-          one_page = kept.one_page;
-          ordered = more_ordered;
-          among = among_current done old.lines old.taken line current.0 current.1 (stands sessions.Walk old n done was kept.session).1;
-          set = answer_set;
-          durable_set = subst S (sym groups_none) (durable_is ∙ answer_set
-            ∙ ap (λ (l : List Line). set_of n l) (sym (take_all (length (old.order ++ line.number ∷ [])) after (omega (arith, long, order_more)))));
-          awaits = subst A (sym groups_none) tt;
-          session = (done, line, refl, current, order_long d old n done kept, holds.1 ∙ ap (reply_of line.command) kept.set);
-          few = kept.few;
-          running = λ h. same.stopped ∙ kept.running h;
-        }, refl)
+        let order_more = length-append old.order (line.number ∷ []) in (
+          record {
+            durable = kept.durable;
+            later = kept.later;
+            keeps = pass kept.durable kept.later kept.keeps;
+            sound = kept.sound;
+            sound_durable = kept.sound_durable;
+            one_page = kept.one_page;
+            ordered = more_ordered;
+            among = among_current done old.lines old.taken line current.0 current.1 (stands sessions.Walk old n done was kept.session).1;
+            set = answer_set;
+            durable_set = subst S (sym groups_none) (durable_is ∙ answer_set
+                ∙ ap (λ (l : List Line). set_of n l) (sym (take_all (length (old.order ++ line.number ∷ [])) after (omega (arith, long, order_more)))));
+            awaits = subst A (sym groups_none) tt;
+            session = (done, line, refl, current, order_long d old n done kept, holds.1 ∙ ap (reply_of line.command) kept.set);
+            few = kept.few;
+            running = λ h. same.stopped ∙ kept.running h;
+          },
+          refl,
+        )
 
     answer_effect : TakesEffect line old file outcomes.Moved answer_core file
     answer_effect =
         let M : Option Op → Type 0 = λ o. MatchOption o ((file ≡ file) × (st.log ≡ old.store.log))
-          (λ op. (file ≡ effect_of file op) × (group : List ℕ) × (st.log.groups ≡ old.store.log.groups ++ record { bytes = group; mark = length old.order } ∷ []) × (st.log.written ≡ old.store.log.written)) in
+        (λ op. (file ≡ effect_of file op) × (group : List ℕ) × (st.log.groups ≡ old.store.log.groups ++ record { bytes = group; mark = length old.order } ∷ []) × (st.log.written ≡ old.store.log.written)) in
         record {
           moved = refl;
           taken = refl;
@@ -146,10 +148,11 @@ module _ (d : DiskModel) (is_disk : IsDisk d) (old : CoreState) (going : old.sto
 
     changed_one : (length changed.pages ≡ 1) × (changed.meta.root ≡ 1) × (changed.meta.height ≡ 1)
     changed_one =
-        let meta = effect_meta file op in
-        (sound.rooted.numbered ∙ ap (λ (x : Meta). x.high) meta ∙ sym kept.sound.rooted.numbered ∙ kept.one_page.0,
-        ap (λ (x : Meta). x.root) meta ∙ kept.one_page.1,
-        ap (λ (x : Meta). x.height) meta ∙ kept.one_page.2)
+        let meta = effect_meta file op in (
+          sound.rooted.numbered ∙ ap (λ (x : Meta). x.high) meta ∙ sym kept.sound.rooted.numbered ∙ kept.one_page.0,
+          ap (λ (x : Meta). x.root) meta ∙ kept.one_page.1,
+          ap (λ (x : Meta). x.height) meta ∙ kept.one_page.2,
+        )
 
     groups_are : store.log.groups ≡ old.store.log.groups ++ record { bytes = commits.group; mark = length old.order } ∷ []
     groups_are = commits.groups ∙ ap (λ (l : LogState). l.groups ++ record { bytes = commits.group; mark = length old.order } ∷ []) same.log
@@ -163,29 +166,31 @@ module _ (d : DiskModel) (is_disk : IsDisk d) (old : CoreState) (going : old.sto
         let A : List Waiting → Type 0 = λ g. AwaitsOne g after in
         let F : FileState → Type 0 = λ s. IsSound s in
         let O : FileState → Type 0 = λ s. (length s.pages ≡ 1) × (s.meta.root ≡ 1) × (s.meta.height ≡ 1) in
-        let order_is = order_long d old n done kept in
-        (record {
-          durable = kept.durable;
-          later = with_op kept.durable kept.later op;
-          keeps = keeps kept.durable kept.later (pass kept.durable kept.later kept.keeps);
-          sound = subst F (sym last_is) sound;
-          sound_durable = kept.sound_durable;
-          one_page = subst O (sym last_is) changed_one;
-          ordered = more_ordered;
-          among = among_current done old.lines old.taken line current.0 current.1 (stands sessions.Walk old n done was kept.session).1;
-          set = ap contents_of last_is ∙ more_set (contents_of changed) holds.2;
-          durable_set = subst S (sym one_group) (durable_is ∙ kept.set
-            ∙ ap (λ (l : List Line). set_of n l) (sym (take-append-le (length old.order) done (line ∷ []) (omega (arith, order_is)) ∙ take_all (length old.order) done (omega (arith, order_is)))));
-          awaits = subst A (sym one_group) (sym long);
-          session = (done, line, refl, current, order_is, holds.1 ∙ ap (reply_of line.command) kept.set);
-          few = kept.few;
-          running = λ h. commits.stopped ∙ same.stopped ∙ kept.running h;
-        }, last_is)
+        let order_is = order_long d old n done kept in (
+          record {
+            durable = kept.durable;
+            later = with_op kept.durable kept.later op;
+            keeps = keeps kept.durable kept.later (pass kept.durable kept.later kept.keeps);
+            sound = subst F (sym last_is) sound;
+            sound_durable = kept.sound_durable;
+            one_page = subst O (sym last_is) changed_one;
+            ordered = more_ordered;
+            among = among_current done old.lines old.taken line current.0 current.1 (stands sessions.Walk old n done was kept.session).1;
+            set = ap contents_of last_is ∙ more_set (contents_of changed) holds.2;
+            durable_set = subst S (sym one_group) (durable_is ∙ kept.set
+                ∙ ap (λ (l : List Line). set_of n l) (sym (take-append-le (length old.order) done (line ∷ []) (omega (arith, order_is)) ∙ take_all (length old.order) done (omega (arith, order_is)))));
+            awaits = subst A (sym one_group) (sym long);
+            session = (done, line, refl, current, order_is, holds.1 ∙ ap (reply_of line.command) kept.set);
+            few = kept.few;
+            running = λ h. commits.stopped ∙ same.stopped ∙ kept.running h;
+          },
+          last_is,
+        )
 
     change_effect : TakesEffect line old file outcomes.Moved change_core changed
     change_effect =
         let M : Option Op → Type 0 = λ o. MatchOption o ((changed ≡ file) × (store.log ≡ old.store.log))
-          (λ op. (changed ≡ effect_of file op) × (group : List ℕ) × (store.log.groups ≡ old.store.log.groups ++ record { bytes = group; mark = length old.order } ∷ []) × (store.log.written ≡ old.store.log.written)) in
+        (λ op. (changed ≡ effect_of file op) × (group : List ℕ) × (store.log.groups ≡ old.store.log.groups ++ record { bytes = group; mark = length old.order } ∷ []) × (store.log.written ≡ old.store.log.written)) in
         record {
           moved = refl;
           taken = refl;

@@ -90,23 +90,25 @@ module _ (d e : DiskModel) (old : CoreState) (going : old.stop ≡ None) where
         let same = same_last kept.durable kept.later in
         let count = StoreKeeps-one d old.store kept.durable kept.later kept.keeps in
         let S : FileState → Type 0 = λ s. IsSound s in
-        let O : FileState → Type 0 = λ s. (length s.pages ≡ 1) × (s.meta.root ≡ 1) × (s.meta.height ≡ 1) in
-        (record {
-          durable = durable_after kept.durable kept.later;
-          later = later_after kept.later;
-          keeps = keeps;
-          sound = subst S (sym same) kept.sound;
-          sound_durable = after_force_sound kept.durable kept.later (few_wait old.store.log.groups done kept.later count kept.awaits) kept.sound_durable kept.sound;
-          one_page = subst O (sym same) kept.one_page;
-          ordered = kept.ordered;
-          among = kept.among;
-          set = ap contents_of same ∙ kept.set;
-          durable_set = after_force_set n done (length old.order) old.store.log.groups kept.durable kept.later (order_long d old n done kept) kept.awaits count kept.set kept.durable_set;
-          awaits = after_force_awaits old.store.log.groups done kept.awaits;
-          session = there;
-          few = kept.few;
-          running = kept.running;
-        }, same)
+        let O : FileState → Type 0 = λ s. (length s.pages ≡ 1) × (s.meta.root ≡ 1) × (s.meta.height ≡ 1) in (
+          record {
+            durable = durable_after kept.durable kept.later;
+            later = later_after kept.later;
+            keeps = keeps;
+            sound = subst S (sym same) kept.sound;
+            sound_durable = after_force_sound kept.durable kept.later (few_wait old.store.log.groups done kept.later count kept.awaits) kept.sound_durable kept.sound;
+            one_page = subst O (sym same) kept.one_page;
+            ordered = kept.ordered;
+            among = kept.among;
+            set = ap contents_of same ∙ kept.set;
+            durable_set = after_force_set n done (length old.order) old.store.log.groups kept.durable kept.later (order_long d old n done kept) kept.awaits count kept.set kept.durable_set;
+            awaits = after_force_awaits old.store.log.groups done kept.awaits;
+            session = there;
+            few = kept.few;
+            running = kept.running;
+          },
+          same,
+        )
 
     halted_kept : StandsIn old.session halted_core n done → StoreKeeps e (stopped_state old.store) kept.durable kept.later
         → (k : CoreKeeps e halted_core n done) × (last_of k.durable k.later ≡ last_of kept.durable kept.later)

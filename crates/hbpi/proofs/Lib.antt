@@ -23,3 +23,4 @@ mod RefusedSteps
 mod EffectSteps
 mod WalkSteps
 mod WalkSafe
+mod NewCore

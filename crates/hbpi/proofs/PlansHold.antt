@@ -107,43 +107,51 @@ module _ (laws : FileLaws) (s : FileState) (sound : IsSound s) (count : length s
 
   insert_holds : (rec : Record) (plan : Plan) → length rec.key ≡ s.meta.k → InsertsBy s.meta top rec plan → PlanHolds (Insert rec) s plan
   insert_holds rec (plans.Answer reply) long h =
-      let get : finite.get (contents_of s) rec.key ≡ Some h.1.body = is_there rec.key h.1 h.2 in
-      (ap (λ (o : Option (List ℕ)). op_if o None (Some (Put s.meta.root rec))) get,
-      h.0 ∙ sym (ap (λ (o : Option (List ℕ)). if_there o replies.Duplicate replies.Done) get),
-      ap (λ (o : Option (List ℕ)). if_there o (contents_of s) (finite.insert (contents_of s) rec.key rec.body)) get,
-      λ full. none_or_some (finite.get (contents_of s) rec.key) h.1.body full.0 get)
+      let get : finite.get (contents_of s) rec.key ≡ Some h.1.body = is_there rec.key h.1 h.2 in (
+        ap (λ (o : Option (List ℕ)). op_if o None (Some (Put s.meta.root rec))) get,
+        h.0 ∙ sym (ap (λ (o : Option (List ℕ)). if_there o replies.Duplicate replies.Done) get),
+        ap (λ (o : Option (List ℕ)). if_there o (contents_of s) (finite.insert (contents_of s) rec.key rec.body)) get,
+        λ full. none_or_some (finite.get (contents_of s) rec.key) h.1.body full.0 get,
+      )
   insert_holds rec (plans.Change op) long h =
       let allowed = may_put rec h.1 in
       let adds = laws.put s s.meta.root rec allowed long (others rec.key) in
       let C : Op → Type 0 = λ o. PlanHolds (Insert rec) s (plans.Change o) in
-      subst C (sym h.0)
-      (ap (λ (o : Option (List ℕ)). op_if o None (Some (Put s.meta.root rec))) adds.0,
-      sym (ap (λ (o : Option (List ℕ)). if_there o replies.Duplicate replies.Done) adds.0),
-      adds.1 ∙ sym (ap (λ (o : Option (List ℕ)). if_there o (contents_of s) (finite.insert (contents_of s) rec.key rec.body)) adds.0),
-      allowed, tt, long,
-      λ full. full.1 top live h.1)
+      subst C (sym h.0) (
+        ap (λ (o : Option (List ℕ)). op_if o None (Some (Put s.meta.root rec))) adds.0,
+        sym (ap (λ (o : Option (List ℕ)). if_there o replies.Duplicate replies.Done) adds.0),
+        adds.1 ∙ sym (ap (λ (o : Option (List ℕ)). if_there o (contents_of s) (finite.insert (contents_of s) rec.key rec.body)) adds.0),
+        allowed,
+        tt,
+        long,
+        λ full. full.1 top live h.1,
+      )
   insert_holds rec plans.Full long h =
       (is_absent rec.key h.0, λ page is may. h.1 (let F : LivePage → Type 0 = λ p. FitsPut s.meta p rec in subst F (one_live page top (live_page s s.meta.root) is live) may))
   insert_holds rec (plans.Damaged why) long h = none_elsewhere rec.key h.0 h.1
 
   delete_holds : (p : List ℕ) (plan : Plan) → length p ≡ s.meta.k → DeletesBy s.meta top p plan → PlanHolds (Delete p) s plan
   delete_holds p (plans.Answer reply) long h =
-      let get = is_absent p h.1 in
-      (ap (λ (o : Option (List ℕ)). op_if o (Some (Del s.meta.root p)) None) get,
-      h.0 ∙ sym (ap (λ (o : Option (List ℕ)). if_there o replies.Done replies.Absent) get),
-      ap (λ (o : Option (List ℕ)). if_there o (finite.remove (contents_of s) p) (contents_of s)) get,
-      λ full. full)
+      let get = is_absent p h.1 in (
+        ap (λ (o : Option (List ℕ)). op_if o (Some (Del s.meta.root p)) None) get,
+        h.0 ∙ sym (ap (λ (o : Option (List ℕ)). if_there o replies.Done replies.Absent) get),
+        ap (λ (o : Option (List ℕ)). if_there o (finite.remove (contents_of s) p) (contents_of s)) get,
+        λ full. full,
+      )
   delete_holds p (plans.Change op) long h =
       let allowed = may_del p h.1 in
       let takes = laws.del s s.meta.root p allowed long (others p) in
       let get = takes.0.1 in
       let C : Op → Type 0 = λ o. PlanHolds (Delete p) s (plans.Change o) in
-      subst C (sym h.0)
-      (ap (λ (o : Option (List ℕ)). op_if o (Some (Del s.meta.root p)) None) get,
-      sym (ap (λ (o : Option (List ℕ)). if_there o replies.Done replies.Absent) get),
-      takes.1 ∙ sym (ap (λ (o : Option (List ℕ)). if_there o (finite.remove (contents_of s) p) (contents_of s)) get),
-      allowed, tt, long,
-      λ full. full)
+      subst C (sym h.0) (
+        ap (λ (o : Option (List ℕ)). op_if o (Some (Del s.meta.root p)) None) get,
+        sym (ap (λ (o : Option (List ℕ)). if_there o replies.Done replies.Absent) get),
+        takes.1 ∙ sym (ap (λ (o : Option (List ℕ)). if_there o (finite.remove (contents_of s) p) (contents_of s)) get),
+        allowed,
+        tt,
+        long,
+        λ full. full,
+      )
   delete_holds p plans.Full long h = absurd h
   delete_holds p (plans.Damaged why) long h = none_elsewhere p h.0 h.1
 

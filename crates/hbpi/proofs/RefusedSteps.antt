@@ -59,7 +59,7 @@ module _ (d : DiskModel) (is_disk : IsDisk d) (old : CoreState) (going : old.sto
     pub refused_keeps : (outcome : Outcome) (new : CoreState) (line : Line) (reply : Reply) → IsCurrent old line → outcome ≡ outcomes.Answered line.number reply → new ≡ idle_core
         → (n : RecordSet) (done : List Line) (kept : CoreKeeps d old n done)
         → (Refuses line reply old (last_of kept.durable kept.later) (outcomes.Answered line.number reply) idle_core (last_of kept.durable kept.later)
-            → Walks line old (last_of kept.durable kept.later) (outcomes.Answered line.number reply) idle_core (last_of kept.durable kept.later))
+        → Walks line old (last_of kept.durable kept.later) (outcomes.Answered line.number reply) idle_core (last_of kept.durable kept.later))
         → StepKeeps d old (last_of kept.durable kept.later) outcome e new n done
     refused_keeps outcome new line reply current is new_is n done kept walks =
         let file = last_of kept.durable kept.later in
