@@ -1,20 +1,19 @@
 -- The steps that leave the disk and the store as they are: a line is taken, none is left, or the line is answered with the
 -- reply that was kept; and a core that is stopped.
-use Rattle.std.proofs.Common.{◌≡◌, ◌≢◌, ◌⊎◌, inl, inr, ℕ, ◌+◌, ◌-◌, ◌<◌, ◌≤◌, false, List, [], ◌∷◌, ◌++◌, length, take, Option, Some, None, IsSome, refl, sym, ap, subst, ◌∙◌, arith, length-append}
+use Rattle.std.proofs.Common.{◌≡◌, inl, inr, ℕ, ◌+◌, ◌<◌, List, [], ◌∷◌, ◌++◌, length, Option, Some, None, IsSome, refl, sym, ap, subst, arith, length-append}
 use Rattle.std.specs.Prelude.{MatchOption}
 use Rattle.hb_disk.specs.Model.{DiskModel, IsDisk}
 use Rattle.hb_disk.specs.RunLaws.{OnlyReads-none}
 use Rattle.hb_wal.specs.Log.{Waiting, mark_of}
 use Rattle.hb_set.specs.declared.scripts.Line.{Line}
 use Rattle.hb_set.specs.declared.commands.Reply.{Reply}
-use Rattle.hb_set.specs.Machine.{RecordSet}
 use Rattle.hb_store.specs.Keeps.{last_of}
 use Rattle.hb_store.specs.declared.stops.StopWhy.{StopWhy}
 use Rattle.hbpi.specs.declared.engine.session.Session.{Session}
 use Rattle.hbpi.specs.declared.engine.session.Session.TheVariants as sessions
 use Rattle.hbpi.specs.declared.engine.session.Outcome.{Outcome}
 use Rattle.hbpi.specs.declared.engine.session.Outcome.TheVariants as outcomes
-use Rattle.hbpi.specs.Core.{AwaitsOne, CoreKeeps, CoreState, IsCurrent, StepKeeps, StepsOn, StepsTo, settled_of}
+use Rattle.hbpi.specs.Core.{AwaitsOne, CoreState, StepKeeps, StepsOn, settled_of}
 use Rattle.hbpi.specs.Steps.{AnswersIt, KeepsAt, TookNext, next_core, with_session}
 use Rattle.hbpi.proofs.LinesDone.{among_next, before_next, next_is_current}
 use Rattle.hbpi.proofs.PrefixOpens.{order_long, quiet_moments}

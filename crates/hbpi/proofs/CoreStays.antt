@@ -1,8 +1,8 @@
 -- What a core keeps where the lines that took effect, and the groups that wait, stay.
-use Rattle.std.proofs.Common.{◌≡◌, ◌⊎◌, inl, inr, ℕ, ◌+◌, ◌-◌, ◌<◌, ◌≤◌, false, List, [], ◌∷◌, ◌++◌, length, take, map, Option, Some, None, refl, sym, ap, subst, ◌∙◌, arith}
+use Rattle.std.proofs.Common.{◌≡◌, ℕ, ◌≤◌, false, List, length, take, Option, None, refl, sym, subst}
 use Rattle.std.specs.Prelude.{MatchOption}
-use Rattle.hb_disk.specs.Model.{DiskModel, IsDisk}
-use Rattle.hb_disk.specs.Calls.{Leaves, OnlyReads}
+use Rattle.hb_disk.specs.Model.{DiskModel}
+use Rattle.hb_disk.specs.Calls.{Leaves}
 use Rattle.hb_wal.specs.Log.{Waiting, mark_of}
 use Rattle.hb_ops.specs.Files.{FileState, contents_of}
 use Rattle.hb_set.specs.declared.scripts.Line.{Line}

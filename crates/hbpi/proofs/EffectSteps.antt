@@ -1,5 +1,5 @@
 -- A step in which a walking line takes effect.
-use Rattle.std.proofs.Common.{◌≡◌, ◌≢◌, ◌⊎◌, inl, inr, ℕ, ◌+◌, ◌-◌, ◌<◌, ◌≤◌, Bool, true, false, List, [], ◌∷◌, ◌++◌, length, map, take, Option, Some, None, IsSome, refl, sym, ap, subst, ◌∙◌, arith, length-append}
+use Rattle.std.proofs.Common.{◌≡◌, ◌⊎◌, inr, ℕ, ◌+◌, List, [], ◌∷◌, ◌++◌, length, map, take, Option, Some, None, refl, sym, ap, subst, ◌∙◌, arith, length-append}
 use Rattle.std.specs.Prelude.{MatchOption}
 use Rattle.std.proofs.lemmas.List.{map-append, take_all, take-append-le}
 use Rattle.hb_disk.specs.Model.{DiskModel, IsDisk}
@@ -22,9 +22,8 @@ use Rattle.hb_store.specs.ReplayLaws.{last_of-append}
 use Rattle.hbpi.specs.declared.engine.session.Session.TheVariants as sessions
 use Rattle.hbpi.specs.declared.engine.session.Outcome.{Outcome}
 use Rattle.hbpi.specs.declared.engine.session.Outcome.TheVariants as outcomes
-use Rattle.hbpi.specs.Core.{AwaitsOne, CoreKeeps, CoreState, IsCurrent, MayCommit, StepKeeps, TakesEffect, op_of, set_of}
+use Rattle.hbpi.specs.Core.{AwaitsOne, CoreKeeps, CoreState, IsCurrent, MayCommit, StepKeeps, TakesEffect, set_of}
 use Rattle.hbpi.specs.FileLaws.{FileLaws}
-use Rattle.hbpi.specs.Plans.{Changes}
 use Rattle.hbpi.specs.Steps.{joined_core, with_store}
 use Rattle.hbpi.specs.declared.engine.plans.Plan.TheVariants as plans
 use Rattle.hbpi.proofs.LinesDone.{among_current, set_of-append}

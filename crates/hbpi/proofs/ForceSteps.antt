@@ -1,10 +1,10 @@
 -- A step that forces.
-use Rattle.std.proofs.Common.{◌≡◌, ◌≢◌, ◌⊎◌, inl, inr, ℕ, ◌+◌, ◌-◌, ◌<◌, ◌≤◌, Bool, true, false, List, [], ◌∷◌, ◌++◌, length, take, Option, Some, None, IsSome, refl, sym, ap, subst, ◌∙◌, arith}
+use Rattle.std.proofs.Common.{◌≡◌, ◌≢◌, inl, inr, ℕ, ◌≤◌, true, false, List, [], ◌∷◌, length, take, Option, Some, None, IsSome, refl, sym, ap, subst, ◌∙◌, arith}
 use Rattle.std.specs.Option.{is_some}
 use Rattle.std.specs.List.{All}
 use Rattle.std.proofs.lemmas.List.{take_all}
-use Rattle.std.proofs.lemmas.List.Elements.{All-nil, All-tail}
-use Rattle.hb_disk.specs.Model.{DiskModel, IsDisk}
+use Rattle.std.proofs.lemmas.List.Elements.{All-tail}
+use Rattle.hb_disk.specs.Model.{DiskModel}
 use Rattle.hb_wal.specs.Log.{Waiting, left_waiting, mark_of}
 use Rattle.hb_ops.specs.Files.{FileState, contents_of}
 use Rattle.hb_ops.specs.Sound.{IsSound}
@@ -15,15 +15,14 @@ use Rattle.hb_set.specs.Machine.{RecordSet}
 use Rattle.hb_store.specs.Keeps.{StoreKeeps, last_of}
 use Rattle.hb_store.specs.Calls.{forced_state, stopped_state, durable_after, later_after}
 use Rattle.hb_store.specs.StoreLaws.{StoreKeeps-one}
-use Rattle.hb_store.specs.declared.stops.StopWhy.{StopWhy}
 use Rattle.hb_store.specs.declared.stops.StopWhy.TheVariants.{WriteFault}
 use Rattle.hbpi.specs.declared.engine.session.Session.{Session}
 use Rattle.hbpi.specs.declared.engine.session.Session.TheVariants as sessions
 use Rattle.hbpi.specs.declared.engine.session.Outcome.{Outcome}
 use Rattle.hbpi.specs.declared.engine.session.Outcome.TheVariants as outcomes
-use Rattle.hbpi.specs.Core.{AwaitsOne, CoreKeeps, CoreState, Forces, IsCore, IsCurrent, StandsIn, StepKeeps, StepsTo, set_of, settled_of}
-use Rattle.hbpi.specs.Moves.{Moves, MovesBy, StaysThere}
-use Rattle.hbpi.specs.Steps.{Forced, ForcesOnce, KeepsAt, StepsSafely, with_session, with_stop, with_store}
+use Rattle.hbpi.specs.Core.{AwaitsOne, CoreKeeps, CoreState, IsCore, IsCurrent, StandsIn, StepKeeps, set_of, settled_of}
+use Rattle.hbpi.specs.Moves.{MovesBy, StaysThere}
+use Rattle.hbpi.specs.Steps.{Forced, ForcesOnce, KeepsAt, StepsSafely, with_stop, with_store}
 use Rattle.hbpi.proofs.PrefixOpens.{force_moments, order_long}
 use Rattle.hbpi.proofs.CoreStays.{stands, stays_kept, step_kept, steps_going}
 use Rattle.hbpi.proofs.AnswerSteps.{along}

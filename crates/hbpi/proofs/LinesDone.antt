@@ -1,11 +1,11 @@
 -- Lines that took effect, one after the other: among which lines they are, and what set they leave.
-use Rattle.std.proofs.Common.{◌≡◌, ◌⊎◌, inl, inr, ℕ, zero, suc, ◌+◌, ◌-◌, ◌<◌, ◌≤◌, List, [], ◌∷◌, ◌++◌, length, get_or, take, Some, refl, sym, ap, subst, ◌∙◌, arith, length-append}
+use Rattle.std.proofs.Common.{◌≡◌, inl, inr, ℕ, zero, suc, ◌+◌, ◌-◌, ◌<◌, ◌≤◌, List, [], ◌∷◌, ◌++◌, length, take, Some, refl, sym, ap, subst, ◌∙◌, arith, length-append}
 use Rattle.std.specs.List.{AllByRecursion, slice_get}
-use Rattle.std.proofs.lemmas.List.{take_more, take-append-le, take_all}
-use Rattle.std.proofs.lemmas.Option.{slice_get_within, slice_get-get_or, slice_get_cases, get_or_from_slice_get}
+use Rattle.std.proofs.lemmas.List.{take_more, take-append-le}
+use Rattle.std.proofs.lemmas.Option.{slice_get_within, get_or_from_slice_get}
 use Rattle.hb_set.specs.declared.scripts.Line.{Line}
 use Rattle.hb_set.specs.Machine.{RecordSet, set_after}
-use Rattle.hbpi.specs.Core.{AreAmong, CoreState, Grows, IsCurrent, set_of}
+use Rattle.hbpi.specs.Core.{AreAmong, Grows, set_of}
 
 -- the set after one line more
 pub set_of-append : (n : RecordSet) (done : List Line) (line : Line) → set_of n (done ++ line ∷ []) ≡ set_after line.command (set_of n done)

@@ -1,5 +1,5 @@
 -- What a new core keeps.
-use Rattle.std.proofs.Common.{◌≡◌, ℕ, ◌≤◌, List, [], length, take, None, refl, sym, ap, subst, ◌∙◌, arith}
+use Rattle.std.proofs.Common.{◌≡◌, ℕ, List, [], None, refl, sym, ap, subst, ◌∙◌, arith}
 use Rattle.std.proofs.lemmas.List.{take_all}
 use Rattle.hb_disk.specs.Model.{DiskModel}
 use Rattle.hb_wal.specs.Log.{LogState, Waiting, mark_of}

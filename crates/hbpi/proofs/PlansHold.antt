@@ -1,20 +1,17 @@
 -- What a plan by the root says of a sound file of one page.
-use Rattle.std.proofs.Common.{◌≡◌, ◌≢◌, ◌⊎◌, inl, inr, ℕ, ◌+◌, ◌<◌, ◌≤◌, Bool, true, false, cond, List, [], ◌∷◌, length, replicate, Contains, Option, Some, None, refl, sym, ap, subst, ◌∙◌, arith}
+use Rattle.std.proofs.Common.{◌≡◌, ◌⊎◌, inl, inr, ℕ, Bool, true, false, cond, List, [], ◌∷◌, length, Contains, Option, Some, None, refl, sym, ap, subst, ◌∙◌, arith}
 use Rattle.std.specs.List.{All}
 use Rattle.std.specs.FinMap as finite
 use Rattle.std.proofs.lemmas.List.{length-replicate}
 use Rattle.std.proofs.lemmas.List.Elements.{Contains-append_right}
-use Rattle.hb_space.specs.Points.{point_cmp}
 use Rattle.hb_space.specs.Boxes.{Area, holds, whole_area}
 use Rattle.hb_space.specs.declared.records.Record.{Record}
-use Rattle.hb_frag.specs.declared.leaves.Leaf.{Leaf}
 use Rattle.hb_frag.specs.declared.leaves.Leaf.TheVariants.{Child, Sibling}
 use Rattle.hb_frag.specs.declared.pages.LivePage.{LivePage}
 use Rattle.hb_frag.specs.declared.pages.Page.{Page}
 use Rattle.hb_frag.specs.declared.pages.Page.TheVariants.{Live}
 use Rattle.hb_frag.specs.Leaves.{Placed, first_at, leaf_at, leaves, leaves_of}
 use Rattle.hb_frag.specs.Rules.{BelongsAt}
-use Rattle.hb_ops.specs.declared.meta.Meta.{Meta}
 use Rattle.hb_ops.specs.declared.operations.Op.{Op}
 use Rattle.hb_ops.specs.declared.operations.Op.TheVariants.{Put, Del}
 use Rattle.hb_ops.specs.Files.{FileState, contents_of, if_live, live_page, page_at}
@@ -24,12 +21,10 @@ use Rattle.hb_ops.specs.Sound.{FitsFile, IsSound, SiblingsMatch}
 use Rattle.hb_ops.specs.Standing.{StandsElsewhere, StandsNot, StandsThere}
 use Rattle.hb_set.specs.declared.commands.Command.{Command}
 use Rattle.hb_set.specs.declared.commands.Command.TheVariants.{Insert, Delete, Lookup, Search}
-use Rattle.hb_set.specs.declared.commands.Reply.{Reply}
 use Rattle.hb_set.specs.declared.commands.Reply.TheVariants as replies
-use Rattle.hb_set.specs.Machine.{RecordSet, attributes, found_or_missing, if_there, reply_of, set_after}
+use Rattle.hb_set.specs.Machine.{attributes, found_or_missing, if_there, reply_of, set_after}
 use Rattle.hbpi.specs.Core.{HasNoRoom, op_if, op_of}
 use Rattle.hbpi.specs.FileLaws.{FileLaws}
-use Rattle.hbpi.specs.OnePage.{lone}
 use Rattle.hbpi.specs.Plans.{DeletesBy, InsertsBy, LooksBy, PlansOn}
 use Rattle.hbpi.specs.declared.engine.plans.Plan.{Plan}
 use Rattle.hbpi.specs.declared.engine.plans.Plan.TheVariants as plans
@@ -63,7 +58,7 @@ PlanHolds command s (plans.Answer reply) = (op_of command s ≡ None) × (reply 
 PlanHolds command s (plans.Change op) = (op_of command s ≡ Some op) × (replies.Done ≡ reply_of command (contents_of s)) × (contents_of (effect_of s op) ≡ set_after command (contents_of s))
     × IsAllowed s op × IsLicensed s op × OpHas s.meta.k op × (HasNoRoom command s → ⊥)
 PlanHolds command s plans.Full = HasNoRoom command s
-PlanHolds command s (plans.Damaged why) = ⊥
+PlanHolds command s (plans.Damaged id why) = ⊥
 
 module _ (laws : FileLaws) (s : FileState) (sound : IsSound s) (count : length s.pages ≡ 1) (root : s.meta.root ≡ 1) (top : LivePage) (live : live_page s s.meta.root ≡ Some top)
     (level : top.level ≡ 0) (whole : top.area ≡ whole_area s.meta.k) where
@@ -128,7 +123,7 @@ module _ (laws : FileLaws) (s : FileState) (sound : IsSound s) (count : length s
       )
   insert_holds rec plans.Full long h =
       (is_absent rec.key h.0, λ page is may. h.1 (let F : LivePage → Type 0 = λ p. FitsPut s.meta p rec in subst F (one_live page top (live_page s s.meta.root) is live) may))
-  insert_holds rec (plans.Damaged why) long h = none_elsewhere rec.key h.0 h.1
+  insert_holds rec (plans.Damaged id why) long h = none_elsewhere rec.key id h
 
   delete_holds : (p : List ℕ) (plan : Plan) → length p ≡ s.meta.k → DeletesBy s.meta top p plan → PlanHolds (Delete p) s plan
   delete_holds p (plans.Answer reply) long h =
@@ -153,7 +148,7 @@ module _ (laws : FileLaws) (s : FileState) (sound : IsSound s) (count : length s
         λ full. full,
       )
   delete_holds p plans.Full long h = absurd h
-  delete_holds p (plans.Damaged why) long h = none_elsewhere p h.0 h.1
+  delete_holds p (plans.Damaged id why) long h = none_elsewhere p id h
 
   look_holds : (p : List ℕ) (plan : Plan) → LooksBy top p plan → PlanHolds (Lookup p) s plan
   look_holds p (plans.Answer reply) (inl h) =
@@ -162,7 +157,7 @@ module _ (laws : FileLaws) (s : FileState) (sound : IsSound s) (count : length s
       (refl, h.0 ∙ sym (ap found_or_missing (is_absent p h.1)), refl, λ full. full)
   look_holds p (plans.Change op) h = absurd h
   look_holds p plans.Full h = absurd h
-  look_holds p (plans.Damaged why) h = none_elsewhere p h.0 h.1
+  look_holds p (plans.Damaged id why) h = none_elsewhere p id h
 
   pub plan_holds : (command : Command) (plan : Plan) → attributes command ≡ s.meta.k → PlansOn s.meta top command plan → PlanHolds command s plan
   plan_holds (Insert rec) plan long h = insert_holds rec plan long h

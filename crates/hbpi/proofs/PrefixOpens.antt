@@ -1,11 +1,11 @@
 -- What a crash leaves of a core's disk opens to the set after a prefix of the lines that took effect.
-use Rattle.std.proofs.Common.{◌≡◌, ◌⊎◌, inl, inr, ℕ, ◌+◌, ◌<◌, ◌≤◌, List, [], ◌∷◌, ◌++◌, length, map, take, refl, sym, ap, subst, ◌∙◌, arith}
+use Rattle.std.proofs.Common.{◌≡◌, inl, inr, ℕ, ◌≤◌, List, [], ◌∷◌, length, sym, ap, ◌∙◌, arith}
 use Rattle.std.proofs.lemmas.List.{take_all, length-map}
 use Rattle.hb_disk.specs.Model.{DiskModel, IsDisk}
 use Rattle.hb_disk.specs.Calls.{Leaves, OnlyReads}
 use Rattle.hb_disk.specs.RunLaws.{Leaves-start, Leaves-read, Leaves-weaker}
 use Rattle.hb_wal.specs.Log.{Waiting, mark_of}
-use Rattle.hb_ops.specs.Files.{FileState, contents_of}
+use Rattle.hb_ops.specs.Files.{FileState}
 use Rattle.hb_set.specs.declared.scripts.Line.{Line}
 use Rattle.hb_set.specs.Machine.{RecordSet}
 use Rattle.hb_store.specs.Opening.{OpensTo}

@@ -1,9 +1,9 @@
 -- The root of a file of one page, as the core reads it.
-use Rattle.std.proofs.Common.{◌≡◌, ℕ, ◌+◌, ◌^◌, ◌<◌, ◌≤◌, Option, Some, refl, sym, ap, subst, ◌∙◌, arith}
+use Rattle.std.proofs.Common.{◌≡◌, ℕ, ◌<◌, ◌≤◌, sym, subst, arith}
 use Rattle.hb_frag.specs.declared.pages.LivePage.{LivePage}
 use Rattle.hb_frag.specs.declared.pages.Page.{Page}
 use Rattle.hb_frag.specs.Leaves.{weight_of}
-use Rattle.hb_frag.specs.Rules.{IsFilledRight, capacity_of}
+use Rattle.hb_frag.specs.Rules.{capacity_of}
 use Rattle.hb_ops.specs.declared.meta.Meta.{Meta}
 use Rattle.hb_ops.specs.Sound.{FitsFile}
 use Rattle.hb_super.specs.Superblocks.{IsLayout}

@@ -1,5 +1,5 @@
 -- What a step of a session that walks does over every disk, once the root is in a frame.
-use Rattle.std.proofs.Common.{◌≡◌, ◌≢◌, ◌⊎◌, inl, inr, ℕ, ◌+◌, ◌-◌, ◌<◌, ◌≤◌, Bool, true, false, List, [], ◌∷◌, ◌++◌, length, Option, Some, None, IsSome, refl, sym, ap, subst, ◌∙◌, arith, length-append}
+use Rattle.std.proofs.Common.{◌≡◌, ◌≢◌, inl, inr, ℕ, ◌+◌, ◌≤◌, List, [], ◌∷◌, ◌++◌, length, Option, Some, None, IsSome, refl, sym, ap, subst, ◌∙◌, arith, length-append}
 use Rattle.std.specs.List.{All}
 use Rattle.std.proofs.lemmas.List.Elements.{All-push, All-weaker}
 use Rattle.hb_disk.specs.Model.{DiskModel}
@@ -16,15 +16,14 @@ use Rattle.hb_set.specs.declared.commands.Reply.TheVariants as replies
 use Rattle.hb_set.specs.declared.scripts.Line.{Line}
 use Rattle.hb_store.specs.Keeps.{StoreState}
 use Rattle.hb_store.specs.Calls.{Commits, Fetched, framed_read}
-use Rattle.hb_store.specs.declared.stops.StopWhy.{StopWhy}
 use Rattle.hb_store.specs.declared.stops.Why.{Why}
 use Rattle.hb_store.specs.declared.stops.StopWhy.TheVariants as stops
 use Rattle.hbpi.specs.declared.engine.session.Session.TheVariants as sessions
 use Rattle.hbpi.specs.declared.engine.session.Outcome.{Outcome}
 use Rattle.hbpi.specs.declared.engine.session.Outcome.TheVariants as outcomes
 use Rattle.hbpi.specs.Core.{CoreState, IsCore, IsCurrent, IsOutside}
-use Rattle.hbpi.specs.Moves.{Moves, MovesBy}
-use Rattle.hbpi.specs.Plans.{Acts, Changes, Does, LooksBy, PlansBy}
+use Rattle.hbpi.specs.Moves.{Moves}
+use Rattle.hbpi.specs.Plans.{Acts, Does, LooksBy, PlansBy}
 use Rattle.hbpi.specs.Steps.{StepsSafely, joined_core, with_session, with_stop, with_store}
 use Rattle.hbpi.specs.declared.engine.plans.Plan.{Plan}
 use Rattle.hbpi.specs.declared.engine.plans.Plan.TheVariants as plans
@@ -195,8 +194,8 @@ module _ (d m : DiskModel) (reads : OnlyReads d m) (old : CoreState) (going : ol
         joined_safe did.1.store (goes_changed op did.1.store did.1.commits) outcome new line replies.Done current (λ e. cc e) did.0 did.1.new_is
     does_safe outcome new line page plans.Full current planned does =
         refused_safe st goes outcome new line replies.Full current tt (λ e. cc e) does.0 does.1
-    does_safe outcome new line page (plans.Damaged why) current planned does =
-        damaged_safe st goes outcome new does.1 why does.0 does.2
+    does_safe outcome new line page (plans.Damaged id why) current planned does =
+        damaged_safe st goes outcome new id why does.0 does.1
 
     pub acts_safe : (outcome : Outcome) (new : CoreState) → Acts m (with_store st old) outcome m new → StepsSafely d old outcome m new
     acts_safe outcome new acts = does_safe outcome new acts.line acts.page acts.plan acts.current acts.planned acts.does

@@ -1,5 +1,5 @@
 -- A step of a session that walks, once the root is in a frame.
-use Rattle.std.proofs.Common.{◌≡◌, ◌≢◌, ◌⊎◌, inl, inr, ℕ, ◌+◌, ◌-◌, ◌<◌, ◌≤◌, Bool, true, false, List, [], ◌∷◌, ◌++◌, length, Option, Some, None, IsSome, refl, sym, ap, subst, ◌∙◌, arith}
+use Rattle.std.proofs.Common.{◌≡◌, ◌⊎◌, inl, inr, ℕ, ◌-◌, List, Option, Some, None, IsSome, refl, sym, ap, subst, ◌∙◌, arith}
 use Rattle.hb_disk.specs.Model.{DiskModel, IsDisk}
 use Rattle.hb_disk.specs.Calls.{OnlyReads}
 use Rattle.hb_space.specs.Boxes.{whole_area}
@@ -9,7 +9,6 @@ use Rattle.hb_frag.specs.declared.pages.Page.TheVariants.{Live}
 use Rattle.hb_ops.specs.declared.meta.Meta.{Meta}
 use Rattle.hb_ops.specs.declared.operations.Op.{Op}
 use Rattle.hb_ops.specs.Files.{FileState, live_page, page_of}
-use Rattle.hb_set.specs.declared.commands.Command.{Command}
 use Rattle.hb_set.specs.declared.commands.Reply.TheVariants as replies
 use Rattle.hb_set.specs.declared.scripts.Line.{Line}
 use Rattle.hb_set.specs.Machine.{RecordSet, attributes}
@@ -99,7 +98,7 @@ module _ (laws : FileLaws) (d m : DiskModel) (is_disk : IsDisk d) (old : CoreSta
     does_keeps outcome new line plans.Full current holds does =
         refused_keeps d is_disk old going was m reads st same pass outcome new line replies.Full current does.0 does.1 n done kept
         (λ r. inr (inr (inl (ready line current, holds, r))))
-    does_keeps outcome new line (plans.Damaged why) current holds does = absurd holds
+    does_keeps outcome new line (plans.Damaged page why) current holds does = absurd holds
 
   pub acts_keeps : (outcome : Outcome) (new : CoreState) → Acts m (with_store st old) outcome m new → KeepsAt d old outcome m new
   acts_keeps outcome new acts n done kept =

@@ -1,5 +1,5 @@
 -- What a line does with the root: a page of level 0 that has the whole space.
-use Rattle.std.specs.Prelude.{◌≡◌, ◌≢◌, ◌⊎◌, ℕ, ◌++◌, ◌∷◌, [], List, length, Some}
+use Rattle.std.specs.Prelude.{◌≡◌, ◌⊎◌, ℕ, List, length, Some}
 use Rattle.hb_space.specs.Boxes.{whole_area}
 use Rattle.hb_space.specs.declared.records.Record.{Record}
 use Rattle.hb_disk.specs.Model.{DiskModel}
@@ -38,19 +38,19 @@ abbrev pub InsertsBy : Meta → LivePage → Record → Plan → Type 0
 InsertsBy meta page rec (plans.Answer reply) = (reply ≡ replies.Duplicate) × (there : Record) × StandsThere page rec.key there
 InsertsBy meta page rec (plans.Change op) = (op ≡ Put meta.root rec) × FitsPut meta page rec
 InsertsBy meta page rec plans.Full = StandsNot page rec.key × (FitsPut meta page rec → ⊥)
-InsertsBy meta page rec (plans.Damaged why) = (id : ℕ) × StandsElsewhere page rec.key id
+InsertsBy meta page rec (plans.Damaged id why) = StandsElsewhere page rec.key id
 
 abbrev pub DeletesBy : Meta → LivePage → List ℕ → Plan → Type 0
 DeletesBy meta page point (plans.Answer reply) = (reply ≡ replies.Absent) × StandsNot page point
 DeletesBy meta page point (plans.Change op) = (op ≡ Del meta.root point) × FitsDel meta page point
 DeletesBy meta page point plans.Full = ⊥
-DeletesBy meta page point (plans.Damaged why) = (id : ℕ) × StandsElsewhere page point id
+DeletesBy meta page point (plans.Damaged id why) = StandsElsewhere page point id
 
 abbrev pub LooksBy : LivePage → List ℕ → Plan → Type 0
 LooksBy page point (plans.Answer reply) = ((there : Record) × (reply ≡ replies.Found there.body) × StandsThere page point there) ⊎ ((reply ≡ replies.Missing) × StandsNot page point)
 LooksBy page point (plans.Change op) = ⊥
 LooksBy page point plans.Full = ⊥
-LooksBy page point (plans.Damaged why) = (id : ℕ) × StandsElsewhere page point id
+LooksBy page point (plans.Damaged id why) = StandsElsewhere page point id
 
 -- what a command does
 abbrev pub PlansOn : Meta → LivePage → Command → Plan → Type 0
@@ -64,7 +64,7 @@ abbrev pub IsDamaged : Plan → Type 0
 IsDamaged (plans.Answer reply) = ⊥
 IsDamaged (plans.Change op) = ⊥
 IsDamaged plans.Full = ⊥
-IsDamaged (plans.Damaged why) = Unit {0}
+IsDamaged (plans.Damaged page why) = Unit {0}
 
 abbrev pub PlansBy : Meta → Page → Command → Plan → Type 0
 PlansBy meta page command plan =
@@ -89,7 +89,7 @@ abbrev pub Does : ℕ → Plan → DiskModel → CoreState → Outcome → DiskM
 Does number (plans.Answer reply) d old outcome e new = (outcome ≡ outcomes.Moved) × (new ≡ joined_core number reply old)
 Does number (plans.Change op) d old outcome e new = ChangesOr number op d old outcome e new
 Does number plans.Full d old outcome e new = (outcome ≡ outcomes.Answered number replies.Full) × (new ≡ with_session sessions.Idle old)
-Does number (plans.Damaged why) d old outcome e new = (outcome ≡ outcomes.Stopped) × (page : ℕ) × (new ≡ with_stop (stops.Damaged page why) old)
+Does number (plans.Damaged page why) d old outcome e new = (outcome ≡ outcomes.Stopped) × (new ≡ with_stop (stops.Damaged page why) old)
 
 -- The root is in a frame, and the line does what is planned by it.
 pub record Acts (d : DiskModel) (old : CoreState) (outcome : Outcome) (e : DiskModel) (new : CoreState) : Type 0 where

@@ -26,8 +26,8 @@ pub(crate) enum Plan {
     Change(Op),
     /// Its record has no room.
     Full,
-    /// The root isn't the page of a file of one page. A disk that tells never has such a root.
-    Damaged(Why),
+    /// This page isn't what a file of one page has there. Over a disk that tells that never comes.
+    Damaged { page: u32, why: Why },
 }
 
 /// The root of a file of one page: a page in use, of level 0, with the whole space.
@@ -55,7 +55,19 @@ pub(crate) fn top_of<'a>(page: &'a Page, meta: &Meta) -> Result<&'a LivePage, Wh
     Ok(page)
 }
 
-/// What a line with this command does, by the root. A leaf that names a page breaks the rule of sibling leaves there.
+/// A leaf of the root names this page. A sound file of one page has no such leaf: no page is there for a child leaf to
+/// name, and a sibling leaf would name the root itself. So the page that is named breaks rule 7, that a sibling leaf names
+/// a page of the same level with its box.
+fn named_page(page: u32) -> Plan
+    ensures { result ≡ Plan.Damaged page (Why.Rule 7) }
+{
+    Plan::Damaged {
+        page,
+        why: Why::Rule(7),
+    }
+}
+
+/// What a line with this command does, by the root.
 pub(crate) fn plan_on(page: &LivePage, meta: &Meta, command: &Command) -> Plan
     requires layout { IsLayout meta.now }
     requires made { FitsFile meta.now page.now }
@@ -95,7 +107,7 @@ fn insert_on(page: &LivePage, meta: &Meta, rec: &Record) -> Plan
 {
     match standing_at(page, meta, &rec.key) {
         Standing::There(_) => Plan::Answer(Reply::Duplicate),
-        Standing::Elsewhere(_) => Plan::Damaged(Why::Rule(7)),
+        Standing::Elsewhere(page) => named_page(page),
         Standing::Absent => put_on(page, meta, rec),
     }
 }
@@ -132,7 +144,7 @@ fn delete_on(page: &LivePage, meta: &Meta, point: &Point) -> Plan
             point: point.copy(),
         }),
         Standing::Absent => Plan::Answer(Reply::Absent),
-        Standing::Elsewhere(_) => Plan::Damaged(Why::Rule(7)),
+        Standing::Elsewhere(page) => named_page(page),
     }
 }
 
@@ -147,6 +159,6 @@ fn lookup_on(page: &LivePage, meta: &Meta, point: &Point) -> Plan
     match standing_at(page, meta, point) {
         Standing::There(rec) => Plan::Answer(Reply::Found(rec.body.copy())),
         Standing::Absent => Plan::Answer(Reply::Missing),
-        Standing::Elsewhere(_) => Plan::Damaged(Why::Rule(7)),
+        Standing::Elsewhere(page) => named_page(page),
     }
 }

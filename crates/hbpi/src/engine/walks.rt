@@ -49,7 +49,10 @@ fn plan_of<D: Disk>(store: &Store<D>, command: &Command) -> Plan
     match store.get(meta.root) {
         Some(page) => match top_of(page, meta) {
             Ok(top) => plan_on(top, meta, command),
-            Err(why) => Plan::Damaged(why),
+            Err(why) => Plan::Damaged {
+                page: meta.root,
+                why,
+            },
         },
         None => unreachable!(),
     }
@@ -168,10 +171,7 @@ impl<D: Disk> Core<D> {
             Plan::Answer(reply) => self.take_effect(number, reply),
             Plan::Change(op) => self.change(number, op),
             Plan::Full => self.refuse(number, Reply::Full),
-            Plan::Damaged(why) => {
-                let root = self.store.meta().root;
-                self.stop_at(root, why)
-            }
+            Plan::Damaged { page, why } => self.stop_at(page, why),
         }
     }
 

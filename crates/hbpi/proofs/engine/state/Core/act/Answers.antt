@@ -1,6 +1,5 @@
 use Rattle.std.proofs.Common.{length, arith}
 use Rattle.hb_set.specs.Scripts.{script_is_short}
-use Rattle.hbpi.proofs.PlansHold.{plan_holds}
 use Rattle.hb_store.specs.Calls.{IsReady}
 use Rattle.hbpi.specs.CoreSeen.{core_seen, core_disk}
 use Rattle.hbpi.specs.declared.engine.plans.Plan.TheVariants.{Answer, Change, Full, Damaged}
@@ -40,4 +39,4 @@ returns-in-Full-clause-acts g c =
 pub returns-in-Damaged-clause-acts : goal.returns-in-Damaged-clause-acts
 returns-in-Damaged-clause-acts g c =
     acts_by (g.D.Disk.model (core_disk c.args.self.now)) (core_seen c.args.self.now) c.stop_at.result (g.D.Disk.model (core_disk c.stop_at.new.self)) (core_seen c.stop_at.new.self)
-    c.number-number.result c.index.result.now (Damaged c.in-Damaged.why) c.number-number.ensures (found_at c.args.self.now.lines.items c.args.self.now.taken (length c.args.self.now.order.items) c.index.result.now (c.requires.whole.walking c.requires.walking) c.requires.whole.few c.index.ensures) c.in-Damaged.ensures (c.stop_at.ensures.stopped, c.meta.result.now.root, c.stop_at.ensures.why)
+    c.number-number.result c.index.result.now (Damaged c.in-Damaged.page c.in-Damaged.why) c.number-number.ensures (found_at c.args.self.now.lines.items c.args.self.now.taken (length c.args.self.now.order.items) c.index.result.now (c.requires.whole.walking c.requires.walking) c.requires.whole.few c.index.ensures) c.in-Damaged.ensures (c.stop_at.ensures.stopped, c.stop_at.ensures.why)

@@ -1,7 +1,7 @@
 use Rattle.std.proofs.Common.{◌≡◌, ℕ, inr, length, arith, sym, subst}
 use Rattle.hb_store.specs.Calls.{Commits, with_op}
 use Rattle.hb_store.specs.Keeps.{StoreKeeps}
-use Rattle.hb_store.specs.Seen.{seen_as, disk_of}
+use Rattle.hb_store.specs.Seen.{seen_as}
 use Rattle.hbpi.proofs.engine.state.Core.change.Goals as goal
 
 pub returns-in-Ok-clause-changes : goal.returns-in-Ok-clause-changes

@@ -1,13 +1,9 @@
-use Rattle.std.proofs.Common.{inl, inr, sym, subst}
-use Rattle.hb_disk.specs.RunLaws.{OnlyReads-none}
-use Rattle.hb_set.specs.declared.commands.Reply.TheVariants.{Full}
-use Rattle.hb_store.specs.Seen.{seen_as}
+use Rattle.std.proofs.Common.{sym, subst}
 use Rattle.hbpi.specs.CoreSeen.{core_seen, core_disk}
 use Rattle.hbpi.specs.Steps.{KeepsAt}
 use Rattle.hbpi.specs.declared.engine.session.Outcome.TheVariants as outcomes
 use Rattle.hbpi.proofs.ForceSteps.{force_safe}
 use Rattle.hbpi.proofs.RefusedSteps.{full_keeps}
-use Rattle.hbpi.proofs.WalkSteps.{acts_keeps}
 use Rattle.hbpi.proofs.engine.state.Core.make_room.Goals as goal
 
 pub returns-then-pending-eq0-clause-keeps : goal.returns-then-pending-eq0-clause-keeps

@@ -1,4 +1,4 @@
-use Rattle.std.proofs.Common.{◌≡◌, ◌∙◌, ℕ, ap, sym, subst}
+use Rattle.std.proofs.Common.{ℕ, ap, sym, subst}
 use Rattle.hb_ops.specs.declared.meta.Meta.{Meta}
 use Rattle.hb_store.specs.Calls.{Fetched}
 use Rattle.hb_store.specs.Keeps.{StoreKeeps, StoreState}
