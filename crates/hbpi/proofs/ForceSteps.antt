@@ -180,6 +180,7 @@ module _ (d e : DiskModel) (old : CoreState) (going : old.stop ≡ None) where
             writes_later = forced.writes_later;
             clock = forced.clock;
             tells = forced.tells;
+            silent = forced.silent;
           })
       by_which (inr f) =
           let P : Outcome → CoreState → Type 0 = λ o x. StepsSafely d old o e x in
@@ -207,4 +208,5 @@ module _ (d e : DiskModel) (old : CoreState) (going : old.stop ≡ None) where
             writes_later = forced.writes_later;
             clock = forced.clock;
             tells = forced.tells;
+            silent = forced.silent;
           })

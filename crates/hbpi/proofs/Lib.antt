@@ -24,3 +24,11 @@ mod EffectSteps
 mod WalkSteps
 mod WalkSafe
 mod NewCore
+pub mod LinesInOrder
+pub mod FirstAnswers
+pub mod SettledLater
+pub mod Running
+pub mod TakenSteps
+pub mod RestOfOutput
+pub mod ScheduleRuns
+pub mod Reopened

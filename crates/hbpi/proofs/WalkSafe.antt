@@ -62,6 +62,7 @@ module _ (d m : DiskModel) (reads : OnlyReads d m) (old : CoreState) (going : ol
     writes_later = omega (arith, reads.writes);
     clock = λ told. omega (arith, reads.stays.clock);
     tells = λ told. (let Q : Option (List ℕ) → Type 0 = λ o. IsSome o in subst Q (sym reads.stays.told) told);
+    silent = λ none. reads.stays.told ∙ none;
   }
 
   no_stop : old.stop ≡ Some stops.WriteFault → ⊥

@@ -10,6 +10,7 @@ pub mod Restart
 pub mod OnePage
 pub mod Creation
 pub mod Looking
+pub mod Renewing
 pub mod Core
 pub mod CoreSeen
 pub mod Drives
@@ -17,3 +18,5 @@ pub mod Moves
 pub mod Steps
 pub mod Plans
 pub mod FileLaws
+pub mod Driven
+pub mod Runs

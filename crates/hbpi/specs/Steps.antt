@@ -79,6 +79,7 @@ pub record Forced (done : Outcome) (d : DiskModel) (old : CoreState) (outcome : 
   pub moments : (durable : FileState) (later : List FileState) → StoreKeeps d old.store durable later → Leaves d e (OpensToFirst durable later)
   pub clock : IsSome d.told → e.clock ≤ d.clock + 4
   pub tells : IsSome d.told → IsSome e.told
+  pub silent : d.told ≡ None → e.told ≡ None
   pub writes_later : d.write_faults ≤ e.write_faults
   pub reads_same : e.read_faults ≡ d.read_faults
 
@@ -93,6 +94,7 @@ pub record StepsSafely (d : DiskModel) (old : CoreState) (outcome : Outcome) (e 
   pub writes_later : d.write_faults ≤ e.write_faults
   pub clock : IsSome d.told → e.clock ≤ d.clock + 4
   pub tells : IsSome d.told → IsSome e.told
+  pub silent : d.told ≡ None → e.told ≡ None
 
 -- what it keeps over a disk that tells
 abbrev pub KeepsAt : DiskModel → CoreState → Outcome → DiskModel → CoreState → Type 0

@@ -6,3 +6,4 @@ pub(crate) mod faults;
 pub(crate) mod layout;
 pub(crate) mod looking;
 pub(crate) mod recovery;
+pub(crate) mod renewal;

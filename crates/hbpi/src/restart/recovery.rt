@@ -8,10 +8,12 @@ ghost use Rattle.hb_ops.specs.Sound.{IsSound};
 ghost use Rattle.hb_store.specs.Opening.{OpensTo, IsEven};
 ghost use Rattle.hb_store.specs.Keeps.{StoreKeeps, IsNew};
 ghost use Rattle.hb_store.specs.Seen.{seen_as, disk_of};
-ghost use Rattle.hbpi.specs.Restart.{Refuses, IsUnwritten};
+ghost use Rattle.hbpi.specs.Restart.{Refuses, IsShut, IsUnwritten};
 ghost use Rattle.hbpi.specs.declared.restart.faults.OpenFault.TheVariants.{DiskFault};
 
 use crate::restart::faults::OpenFault;
+use crate::restart::looking::look;
+use crate::restart::renewal::{renew, turn_after};
 use hb_disk::Disk;
 use hb_store::Store;
 use std::alloc::Global;
@@ -20,7 +22,6 @@ use std::alloc::Global;
 /// writes the touched pages to their places, and switches to the next turn. It gives the store and the number of
 /// records. The refusals come in the order of `OpenFault`, and nothing is written before them.
 pub(crate) fn recover<D: Disk>(alloc: Global, disk: D) -> Result<(Store<D>, u64), (OpenFault, D)>
-    requires stub { ⊥ }
     ensures opened { IfOk result (λ r. IfSome (D.model disk).told (λ b. (s : FileState) × OpensTo b s × IsSound s
         × (r.1 ≡ length (file_records s)) × StoreKeeps (D.model (disk_of r.0)) (seen_as r.0) s [])) }
     // over every disk the store is new, and of one page
@@ -38,9 +39,23 @@ pub(crate) fn recover<D: Disk>(alloc: Global, disk: D) -> Result<(Store<D>, u64)
     ensures late_after_fault { IfErr result (λ e. IfSome (D.model disk).told (λ b. (s : FileState) → OpensTo b s → (D.model disk).clock + 2 ≤ (D.model e.1).clock → (c : List ℕ) →
         (D.model e.1).ImageSince ((D.model disk).clock + 1) c → OpensTo c s)) }
     ensures silent { IfOk result (λ r. IsSome (D.model (disk_of r.0)).told → IsSome (D.model disk).told) }
+    ensures shut { IfErr result (λ e. IsShut (D.model disk).size e.0) }
+    ensures time { IfOk result (λ r. (D.model disk).clock ≤ (D.model (disk_of r.0)).clock) }
+    ensures meta { IfOk result (λ r. IfSome (D.model disk).told (λ b. (s : FileState) → OpensTo b s → s.meta ≡ (seen_as r.0).meta)) }
     ensures cause { IfErr result (λ e. e.0 ≡ DiskFault → (Rose (D.model disk).read_faults (D.model e.1).read_faults) ⊎ (Rose (D.model disk).write_faults (D.model e.1).write_faults)) }
     ensures later { IfOk result (λ r. ((D.model disk).read_faults ≤ (D.model (disk_of r.0)).read_faults) × ((D.model disk).write_faults ≤ (D.model (disk_of r.0)).write_faults)) }
     ensures later_after_fault { IfErr result (λ e. ((D.model disk).read_faults ≤ (D.model e.1).read_faults) × ((D.model disk).write_faults ≤ (D.model e.1).write_faults)) }
 {
-    Err((OpenFault::NoMemory, disk))
+    let mut disk = disk;
+    let found = match look(alloc, &mut disk) {
+        Ok(found) => found,
+        Err(fault) => return Err((fault, disk)),
+    };
+    if renew(&mut disk, &found).is_err() {
+        return Err((OpenFault::DiskFault, disk));
+    }
+    match Store::opened(alloc, disk, turn_after(found.turn), found.meta) {
+        Ok(store) => Ok((store, found.count)),
+        Err((_, disk)) => Err((OpenFault::NoMemory, disk)),
+    }
 }

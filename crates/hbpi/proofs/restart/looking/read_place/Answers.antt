@@ -1,0 +1,15 @@
+use Rattle.std.proofs.Common.{◌≡◌, ℕ, ◌*◌, ◌+◌, List, length, take, drop, IfSome, arith}
+use Rattle.hb_disk.specs.RunLaws.{on_ok_weaker}
+use Rattle.hb_store.specs.Opening.{place_bytes}
+use Rattle.hbpi.proofs.Found.{place_read}
+use Rattle.hbpi.proofs.restart.looking.read_place.Goals as goal
+
+pub returns-clause-there : goal.returns-clause-there
+returns-clause-there g c =
+    let told = (g.D.Disk.model c.args.disk.now).told in
+    let meta = c.args.meta.now in
+    let into = c.read.new.into in
+    on_ok_weaker c.read.result (IfSome told (λ b. into ≡ take (length into) (drop (8192 + 2 * c.from.result) b)))
+    (IfSome told (λ b. into ≡ place_bytes meta 1 b))
+    (λ reads. place_read told into meta c.from.result c.from.ensures (omega (arith, c.told-into, c.read.auto.into)) reads)
+    c.read.ensures.bytes
