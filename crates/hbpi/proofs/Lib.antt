@@ -10,6 +10,20 @@ pub mod Own
 pub mod Lone
 pub mod Made
 pub mod Found
+mod LinesDone
+mod PrefixOpens
+mod CoreStays
+mod AnswerSteps
+mod ForceSteps
+mod AwaitSteps
+mod RootPages
+mod Acting
+mod PlansHold
+mod RefusedSteps
+mod EffectSteps
+mod WalkSteps
+mod WalkSafe
+mod NewCore
 pub mod LinesInOrder
 pub mod FirstAnswers
 pub mod SettledLater
