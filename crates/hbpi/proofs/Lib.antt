@@ -10,3 +10,5 @@ pub mod Own
 pub mod Lone
 pub mod Made
 pub mod Found
+pub mod RunSteps
+pub mod Renewed
