@@ -12,7 +12,7 @@ rose_since : (a b c : ℕ) → a ≤ b → Rose b c → Rose a c
 rose_since a b c le (inl more) = inl (omega (arith, le, more))
 rose_since a b c le (inr top) = inr top
 
-told_on : (R : List ℕ → List ℕ → Type 0) (old new : DiskModel) → Becomes R old new → IsSome old.told → IsSome new.told
+pub told_on : (R : List ℕ → List ℕ → Type 0) (old new : DiskModel) → Becomes R old new → IsSome old.told → IsSome new.told
 told_on R old new run tells =
     let b = some_value old.told tells in
     let c = at_value old.told (λ b. (c : List ℕ) × (new.told ≡ Some c) × R b c) b.0 b.1 run.told in
@@ -26,7 +26,6 @@ Runs-none {T = T} {E = E} r v d ok =
       size = refl;
       silent = λ none. none;
       tells = λ some. some;
-      later = omega arith;
       clock = λ some. omega arith;
       cause = tt;
       reads = omega arith;
@@ -39,7 +38,6 @@ Runs-sync r old new is_old syncs ticks faults = record {
   size = ticks.size;
   silent = λ none. syncs.same ∙ none;
   tells = λ some. ap is_some syncs.same ∙ some;
-  later = ticks.later;
   clock = λ some. one_tick r old new is_old ticks some;
   cause = on_err_weaker r (λ rose. inr rose) faults.cause;
   reads = omega (arith, faults.reads);
@@ -47,13 +45,12 @@ Runs-sync r old new is_old syncs ticks faults = record {
 }
 
 -- calls that say how they leave the disk
-pub Runs-becomes : {T E : Type 0} (r : Result T E) (n : ℕ) (R : List ℕ → List ℕ → Type 0) (old new : DiskModel) → Becomes R old new → old.clock ≤ new.clock
+pub Runs-becomes : {T E : Type 0} (r : Result T E) (n : ℕ) (R : List ℕ → List ℕ → Type 0) (old new : DiskModel) → Becomes R old new
     → (IsSome old.told → new.clock ≤ old.clock + n) → WriteFaults r old new → Runs n r old new
-Runs-becomes r n R old new run later clock faults = record {
+Runs-becomes r n R old new run clock faults = record {
   size = run.size;
   silent = run.silent;
   tells = told_on R old new run;
-  later = later;
   clock = clock;
   cause = on_err_weaker r (λ rose. inr rose) faults.cause;
   reads = omega (arith, faults.reads);
@@ -61,14 +58,13 @@ Runs-becomes r n R old new run later clock faults = record {
 }
 
 -- the same where reads may fail too
-pub Runs-mixed : {T E : Type 0} (r : Result T E) (n : ℕ) (R : List ℕ → List ℕ → Type 0) (old new : DiskModel) → Becomes R old new → old.clock ≤ new.clock
+pub Runs-mixed : {T E : Type 0} (r : Result T E) (n : ℕ) (R : List ℕ → List ℕ → Type 0) (old new : DiskModel) → Becomes R old new
     → (IsSome old.told → new.clock ≤ old.clock + n) → OnErr r (Rose old.read_faults new.read_faults ⊎ Rose old.write_faults new.write_faults)
     → old.read_faults ≤ new.read_faults → old.write_faults ≤ new.write_faults → Runs n r old new
-Runs-mixed r n R old new run later clock cause reads writes = record {
+Runs-mixed r n R old new run clock cause reads writes = record {
   size = run.size;
   silent = run.silent;
   tells = told_on R old new run;
-  later = later;
   clock = clock;
   cause = cause;
   reads = reads;
@@ -81,7 +77,6 @@ Runs-then q r n m old mid new first second = record {
   size = second.size ∙ first.size;
   silent = λ none. second.silent (first.silent none);
   tells = λ some. second.tells (first.tells some);
-  later = omega (arith, first.later, second.later);
   clock = λ some. omega (arith, first.clock some, second.clock (first.tells some));
   cause = on_err_weaker r (λ rose. ⊎_elim (λ read. inl (rose_since old.read_faults mid.read_faults new.read_faults first.reads read)) (λ write. inr (rose_since old.write_faults mid.write_faults new.write_faults first.writes write)) rose) second.cause;
   reads = omega (arith, first.reads, second.reads);
@@ -94,7 +89,6 @@ Runs-err {T = T} {E = E} q e r n m old new err more run = record {
   size = run.size;
   silent = run.silent;
   tells = run.tells;
-  later = run.later;
   clock = λ some. omega (arith, run.clock some, more);
   cause = any_err r (let Q : Result T E → Type 0 = λ x. OnErr x (Rose old.read_faults new.read_faults ⊎ Rose old.write_faults new.write_faults) in subst Q err run.cause);
   reads = run.reads;
@@ -110,7 +104,6 @@ Runs-more r n m old new more run = record {
   size = run.size;
   silent = run.silent;
   tells = run.tells;
-  later = run.later;
   clock = λ some. omega (arith, run.clock some, more);
   cause = run.cause;
   reads = run.reads;

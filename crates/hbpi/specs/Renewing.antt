@@ -39,13 +39,12 @@ pub record IsReadyFor (d : DiskModel) (turn : ℕ) (meta : Meta) (touched : Opti
   pub zeroed : (b : List ℕ) → d.told ≡ Some b → log_bytes (next_turn turn) meta b ≡ replicate meta.log 0
   pub hides : (b : List ℕ) → d.told ≡ Some b → HidesNoOther b (next_turn turn) meta
 
--- A run of at most n calls that write: no size changes, no count falls, a disk tells after it exactly where it told
+-- A run of at most n calls that write: the size stays, no count falls, the disk tells after it exactly where it told
 -- before, and an error has raised a count of failed calls.
 pub record Runs {T E : Type 0} (n : ℕ) (result : Result T E) (old new : DiskModel) : Type 0 where
   pub size : new.size ≡ old.size
   pub silent : old.told ≡ None → new.told ≡ None
   pub tells : IsSome old.told → IsSome new.told
-  pub later : old.clock ≤ new.clock
   pub clock : IsSome old.told → new.clock ≤ old.clock + n
   pub cause : OnErr result (Rose old.read_faults new.read_faults ⊎ Rose old.write_faults new.write_faults)
   pub reads : old.read_faults ≤ new.read_faults
