@@ -11,4 +11,5 @@ pub mod Lone
 pub mod Made
 pub mod Found
 pub mod RunSteps
+pub mod PageWrites
 pub mod Renewed

@@ -60,6 +60,9 @@ areas turn next meta small is =
     let N : ℕ → Type 0 = λ n. Areas turn n meta in
     subst N (sym is) (areas_of turn (next_turn turn) meta (parities turn small))
 
+pub still_to : (turn : ℕ) (meta : Meta) (touched : Option Page) (page : Page) (c : List ℕ) → StillOpens turn meta touched page c → OpensTo c (lone meta page)
+still_to turn meta touched page c opens = record { turn = turn; said = meta; payloads = opens.payloads; groups = opens.groups; by = opens.by }
+
 -- The file still opens, its page stands in its place, the log area of the next turn reads as zeros, and a crash leaves
 -- what a read gives.
 pub record IsZeroed (turn next : ℕ) (meta : Meta) (touched : Option Page) (page : Page) (d : DiskModel) : Type 0 where
@@ -120,12 +123,6 @@ module _ (turn next : ℕ) (meta : Meta) (small : turn ≤ 3) (is : next ≡ nex
       let Q : Page → Type 0 = λ x. SpellsPage (place_bytes meta id c) x in
       subst Q alone.1 (subst I (sym alone.0) there)
 
-  to_file : (c : List ℕ) → StillOpens turn meta touched page c → OpensTo c (lone meta page)
-  to_file c opens = record { turn = turn; said = meta; payloads = opens.payloads; groups = opens.groups; by = opens.by }
-
-  pub still_to : (c : List ℕ) → StillOpens turn meta touched page c → OpensTo c (lone meta page)
-  still_to = to_file
-
   -- Bytes with the place of the next turn torn open, by the old superblock or by the new one.
   module _ (d : DiskModel) (ready : IsReadyFor d turn meta touched page) (b : List ℕ) (told : d.told ≡ Some b) (long : file_size meta ≤ length b) (high : meta.high ≡ 1) where
     there_after : (c : List ℕ) → Torn (place_of next) 41 b c → SpellsPage (place_bytes meta 1 c) page
@@ -162,7 +159,7 @@ module _ (turn next : ℕ) (meta : Meta) (small : turn ≤ 3) (is : next ≡ nex
         let T : List ℕ → Type 0 = λ l. Torn (place_of next) 41 l c in
         let torn : Torn (place_of next) 41 b c = subst T same left.elsewhere in
         elim left.newest [
-          | inl old ↦ to_file c (still_place b c (place_of next) 41 lies.place (ready.placed.here.images b (is_disk.as_read b told)) torn old)
+          | inl old ↦ still_to turn meta touched page c (still_place b c (place_of next) 41 lies.place (ready.placed.here.images b (is_disk.as_read b told)) torn old)
           | inr (inl new) ↦ new_opens c torn new
           | inr (inr un) ↦ new_opens c torn (uncovered c un)
         ]
@@ -345,3 +342,6 @@ module _ (turn next : ℕ) (meta : Meta) (small : turn ≤ 3) (is : next ≡ nex
         let N : ℕ → Type 0 = λ n. IsFresh new n meta (lone meta page) in
         subst N is (written_fresh old ready b.0 b.1 super_long high new is_new run (omega (arith, room, run.size)) durable
         (at_value old.told (λ b. IsNewest b turn meta → IfSome new.told (λ c. IsNewest c next meta)) b.0 b.1 newest super_newest))
+
+pub not_none : {X : Type 0} (o : Option X) (x : X) → o ≡ Some x → o ≡ None → ⊥
+not_none o x is none = cc

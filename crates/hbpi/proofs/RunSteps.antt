@@ -128,3 +128,12 @@ ok_tick {T = T} {E = E} r v old new ok is_old tells ticks = elim (eq-or-lt_of_le
 pub on_ok_two : {T E : Type 0} (r : Result T E) (P Q S : Type 0) → (P → Q → S) → OnOk r P → OnOk r Q → OnOk r S
 on_ok_two (Ok v) P Q S f p q = f p q
 on_ok_two (Err e) P Q S f p q = tt
+
+-- the disk has as much room after a run
+pub size_after : {T E : Type 0} {n : ℕ} (r : Result T E) (m : ℕ) (old new : DiskModel) → Runs m r old new → n ≤ old.size → n ≤ new.size
+size_after r m old new run room = omega (arith, run.size, room)
+
+-- what a success gives where something holds
+pub on_ok_given : {T E : Type 0} (r : Result T E) (P Q : Type 0) → (P → OnOk r Q) → OnOk r (P → Q)
+on_ok_given (Ok v) P Q f = f
+on_ok_given (Err e) P Q f = tt
