@@ -13,3 +13,4 @@ pub mod Found
 pub mod RunSteps
 pub mod PageWrites
 pub mod Renewed
+pub mod SyncedRuns
