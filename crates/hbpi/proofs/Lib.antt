@@ -14,3 +14,4 @@ pub mod RunSteps
 pub mod PageWrites
 pub mod Renewed
 pub mod SyncedRuns
+pub mod Recovered
