@@ -1,5 +1,5 @@
 //! The command `create`.
-ghost use Rattle.std.specs.Prelude.{◌≡◌, ℕ, ◌≤◌, List, IsSome, Some};
+ghost use Rattle.std.specs.Prelude.{◌≡◌, ℕ, ◌≤◌, List, IfOk, IfErr, IsSome, None, Option};
 ghost use Rattle.hb_store.specs.Opening.{OpensTo};
 ghost use Rattle.hbpi.specs.Ends.{CreateEnds, HasMade};
 ghost use Rattle.hbpi.specs.Layouts.{first_fault, size_of};
