@@ -1,7 +1,6 @@
 -- A file that was found goes on to open while its next turn is made ready, and stands whole once it begins.
-use Rattle.std.proofs.Common.{◌≡◌, ◌≢◌, ◌⊎◌, inl, inr, ⊎_elim, ℕ, zero, suc, ◌+◌, ◌*◌, ◌-◌, ◌%◌, ◌<◌, ◌≤◌, List, [], ◌∷◌, ◌++◌, length, take, drop, replicate, Option, Some, None, IsSome, is_some, IfSome, Result, Ok, Err, OnOk, refl, sym, ap, ◌∙◌, subst, arith}
+use Rattle.std.proofs.Common.{◌≡◌, ◌⊎◌, inl, inr, ℕ, zero, suc, ◌+◌, ◌*◌, ◌-◌, ◌%◌, ◌≤◌, List, [], ◌++◌, length, take, drop, replicate, Option, Some, None, IsSome, is_some, IfSome, Result, refl, sym, ap, ◌∙◌, subst, arith}
 use Rattle.std.proofs.lemmas.List.{length-replicate}
-use Rattle.std.proofs.lemmas.List.Elements.{All-nil}
 use Rattle.hb_space.specs.declared.form.TheConstants.{PAGE}
 use Rattle.hb_disk.specs.Model.{DiskModel, IsDisk, overwritten, Torn}
 use Rattle.hb_disk.specs.Calls.{Ticks, Syncs, Leaves, Becomes, Apart, IsSynced, OnlyReads}
@@ -10,15 +9,13 @@ use Rattle.hb_disk.specs.TornLaws.{Torn-elsewhere, overwritten-reads}
 use Rattle.hb_frag.specs.declared.pages.Page.{Page}
 use Rattle.hb_frag.specs.Grammar.{SpellsPage}
 use Rattle.hb_wal.specs.Frames.{range}
-use Rattle.hb_wal.specs.Forces.{HasLog}
-use Rattle.hb_super.specs.Superblocks.{IsLegal, IsNewest, place_of, next_turn}
+use Rattle.hb_super.specs.Superblocks.{IsNewest, place_of, next_turn}
 use Rattle.hb_super.specs.Moments.{WriteLeaves, IsUncovered, HidesNoOther}
 use Rattle.hb_super.specs.Hidden.{ClearLeaves}
 use Rattle.hb_ops.specs.declared.meta.Meta.{Meta}
-use Rattle.hb_ops.specs.Files.{FileState, page_of}
-use Rattle.hb_store.specs.Groups.{Logged}
+use Rattle.hb_ops.specs.Files.{page_of}
 use Rattle.hb_store.specs.Replay.{untouched, replay}
-use Rattle.hb_store.specs.Opening.{OpensBy, OpensTo, IsPageIn, file_size, log_place, page_place, log_bytes, place_bytes}
+use Rattle.hb_store.specs.Opening.{OpensTo, IsPageIn, file_size, log_place, page_place, log_bytes, place_bytes}
 use Rattle.hb_store.specs.Keeps.{IsFresh}
 use Rattle.hb_store.specs.ReplayLaws.{opens_elsewhere, opens_fresh}
 use Rattle.hb_store.specs.StoreLaws.{IsNewest-elsewhere, IsFresh-from}

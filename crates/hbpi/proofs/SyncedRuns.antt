@@ -1,8 +1,8 @@
 -- What a run leaves that began with a sync: to a disk whose file was found.
-use Rattle.std.proofs.Common.{◌≡◌, ℕ, ◌+◌, ◌≤◌, List, Option, Some, IsSome, IfSome, Result, Ok, OnOk, sym, ◌∙◌, subst}
+use Rattle.std.proofs.Common.{◌≡◌, ℕ, ◌+◌, ◌≤◌, List, Option, Some, IfSome, Result, Ok, sym, ◌∙◌, subst}
 use Rattle.hb_disk.specs.Model.{DiskModel, IsDisk}
 use Rattle.hb_disk.specs.Calls.{Ticks, Syncs, Leaves}
-use Rattle.hb_disk.specs.RunLaws.{if_value, has_value, only_told, IsSynced-sync, Leaves-start, Leaves-call, Leaves-then, on_ok_weaker}
+use Rattle.hb_disk.specs.RunLaws.{if_value, has_value, only_told, IsSynced-sync, Leaves-start, Leaves-call, Leaves-then}
 use Rattle.hb_super.specs.Superblocks.{next_turn}
 use Rattle.hb_frag.specs.declared.pages.Page.{Page}
 use Rattle.hb_ops.specs.declared.meta.Meta.{Meta}

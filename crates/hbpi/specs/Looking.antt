@@ -1,8 +1,8 @@
 -- What opening a file finds before it writes.
-use Rattle.std.specs.Prelude.{◌≡◌, ◌⊎◌, ℕ, ◌≤◌, List, length, Option, Some, None, IfSome}
+use Rattle.std.specs.Prelude.{◌≡◌, ◌⊎◌, ℕ, ◌≤◌, List, length, Option, None, IfSome}
 use Rattle.hb_frag.specs.declared.pages.Page.{Page}
 use Rattle.hb_frag.specs.Grammar.{SpellsPage}
-use Rattle.hb_super.specs.Superblocks.{IsLegal, IsNewest, HasNone}
+use Rattle.hb_super.specs.Superblocks.{IsLegal, HasNone}
 use Rattle.hb_ops.specs.declared.meta.Meta.{Meta}
 use Rattle.hb_ops.specs.Files.{file_records}
 use Rattle.hb_ops.specs.Sound.{IsSound}

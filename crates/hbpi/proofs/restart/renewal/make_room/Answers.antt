@@ -1,4 +1,4 @@
-use Rattle.std.proofs.Common.{◌≡◌, ◌⊎◌, ◌≤◌, ℕ, List, IfSome, Option, arith}
+use Rattle.std.proofs.Common.{◌≡◌, ◌⊎◌, ℕ, List, IfSome, Option, arith}
 use Rattle.hb_disk.specs.Calls.{IsSynced, OnlyReads}
 use Rattle.hb_disk.specs.RunLaws.{Leaves-then}
 use Rattle.hb_super.specs.Moments.{HidesNoOther}

@@ -1,8 +1,8 @@
-use Rattle.std.proofs.Common.{◌≡◌, ◌≤◌, ◌+◌, ◌*◌, ℕ, List, Some, IfSome, length, arith}
+use Rattle.std.proofs.Common.{◌≡◌, ◌+◌, ◌*◌, ℕ, List, Some, IfSome, length, arith}
 use Rattle.hb_disk.specs.Model.{overwritten}
 use Rattle.hb_disk.specs.RunLaws.{on_ok_weaker, Becomes-write}
 use Rattle.hb_frag.specs.Grammar.{SpellsPage}
-use Rattle.hb_store.specs.Opening.{place_bytes, page_place}
+use Rattle.hb_store.specs.Opening.{place_bytes}
 use Rattle.hbpi.proofs.PageWrites.{page_at_place, page_written, becomes_there}
 use Rattle.hbpi.proofs.restart.renewal.write_page.Goals as goal
 
