@@ -13,7 +13,9 @@ use Rattle.hbpi.specs.declared.statuses.Status.{Status}
 use Rattle.hbpi.specs.declared.statuses.Status.TheVariants.{Done, Usage, BadText, SourceFault, SinkFault, DiskFault, Damaged, NoMemory, BadLayout, Small, NotBuilt}
 use Rattle.hb_outside.specs.Streams.{Rose}
 use Rattle.hbpi.specs.Outcome.{greatest_text, IsTextOf, IsWholeText}
-use Rattle.hbpi.specs.Ends.{Seen, DiskSeen, Ends, CreateEnds, IsMadeWhole, DryEnds, IsAnswered, IsComplete, RefusesBadText, NamesBadLine}
+use Rattle.hb_disk.specs.Model.{DiskModel}
+use Rattle.hbpi.specs.Runs.{RunEnds}
+use Rattle.hbpi.specs.Ends.{Seen, DiskSeen, CreateEnds, IsMadeWhole, DryEnds, IsAnswered, IsComplete, RefusesBadText, NamesBadLine}
 
 -- a good text is read whole
 good_is_whole : (k : ℕ) (left : List ℕ) (reading : Reading) → text_read false k left ≡ Ok reading → take greatest_text left ≡ left
@@ -75,17 +77,17 @@ dry_refuses k seen (BadLayout field value) ends left bad told wrong source = abs
 dry_refuses k seen (Small needed found) ends left bad told wrong source = absurd ends
 dry_refuses k seen NotBuilt ends left bad told wrong source = absurd ends
 
-pub ends_complete : (form : Option Form) (seen : Seen) (disk : DiskSeen) (status : Status) → Ends form seen disk status → IsComplete form seen status
-ends_complete None seen disk status ends k left reading is told good source sink = cc
-ends_complete (Some (Dry n)) seen disk status ends k left reading is told good source sink =
+pub ends_complete : (form : Option Form) (seen : Seen) (d e : DiskModel) (status : Status) → RunEnds form d e seen status → IsComplete form seen status
+ends_complete None seen d e status ends k left reading is told good source sink = cc
+ends_complete (Some (Dry n)) seen d e status ends k left reading is told good source sink =
     dry_complete n seen status ends left reading told (rw (same_attributes n k is) good) source sink
-ends_complete (Some form) seen disk status ends k left reading is told good source sink = cc
+ends_complete (Some form) seen d e status ends k left reading is told good source sink = cc
 
-pub ends_refuses : (form : Option Form) (seen : Seen) (disk : DiskSeen) (status : Status) → Ends form seen disk status → RefusesBadText form seen status
-ends_refuses None seen disk status ends k left bad is told wrong source = cc
-ends_refuses (Some (Dry n)) seen disk status ends k left bad is told wrong source =
+pub ends_refuses : (form : Option Form) (seen : Seen) (d e : DiskModel) (status : Status) → RunEnds form d e seen status → RefusesBadText form seen status
+ends_refuses None seen d e status ends k left bad is told wrong source = cc
+ends_refuses (Some (Dry n)) seen d e status ends k left bad is told wrong source =
     dry_refuses n seen status ends left bad told (front_reads n left ∙ rw (same_attributes n k is) wrong) source
-ends_refuses (Some form) seen disk status ends k left bad is told wrong source = cc
+ends_refuses (Some form) seen d e status ends k left bad is told wrong source = cc
 
 dry_names : (k : ℕ) (seen : Seen) (status : Status) → DryEnds k seen status → (left : List ℕ) (bad : BadLine) → seen.left ≡ Some left → status ≡ BadText bad → text_read false k left ≡ Err bad
 dry_names k seen (BadText found) ends left bad told is =
@@ -103,10 +105,10 @@ dry_names k seen (BadLayout field value) ends left bad told is = cc
 dry_names k seen (Small needed found) ends left bad told is = cc
 dry_names k seen NotBuilt ends left bad told is = cc
 
-pub ends_names : (form : Option Form) (seen : Seen) (disk : DiskSeen) (status : Status) → Ends form seen disk status → NamesBadLine form seen status
-ends_names None seen disk status ends k left bad is told named = cc
-ends_names (Some (Dry n)) seen disk status ends k left bad is told named = rw (← same_attributes n k is) (dry_names n seen status ends left bad told named)
-ends_names (Some form) seen disk status ends k left bad is told named = cc
+pub ends_names : (form : Option Form) (seen : Seen) (d e : DiskModel) (status : Status) → RunEnds form d e seen status → NamesBadLine form seen status
+ends_names None seen d e status ends k left bad is told named = cc
+ends_names (Some (Dry n)) seen d e status ends k left bad is told named = rw (← same_attributes n k is) (dry_names n seen status ends left bad told named)
+ends_names (Some form) seen d e status ends k left bad is told named = cc
 
 same_layout : (a b c d e f g h i j : ℕ) (P : ℕ → ℕ → ℕ → ℕ → ℕ → Type 0) → ◌≡◌ {A = Option Form} (Some (Create a b c d e)) (Some (Create f g h i j)) → P f g h i j → P a b c d e
 same_layout a b c d e f g h i j P is p =

@@ -15,3 +15,11 @@ pub mod PageWrites
 pub mod Renewed
 pub mod SyncedRuns
 pub mod Recovered
+pub mod LinesInOrder
+pub mod FirstAnswers
+pub mod SettledLater
+pub mod Running
+pub mod TakenSteps
+pub mod RestOfOutput
+pub mod ScheduleRuns
+pub mod Reopened

@@ -2,6 +2,9 @@
 use Rattle.std.specs.Prelude.{ℕ}
 use Rattle.hbpi.specs.declared.restart.faults.OpenFault.{OpenFault}
 use Rattle.hbpi.specs.declared.restart.faults.OpenFault.TheVariants as faults
+use Rattle.hb_store.specs.declared.stops.Why.{Why}
+use Rattle.hb_store.specs.declared.stops.Why.TheVariants as whys
+use Rattle.hbpi.specs.declared.statuses.Damage.{Damage}
 use Rattle.hbpi.specs.declared.statuses.Damage.TheVariants as damages
 use Rattle.hbpi.specs.declared.statuses.Status.{Status}
 use Rattle.hbpi.specs.declared.statuses.Status.TheVariants.{Done, Usage, BadText, SourceFault, SinkFault, DiskFault, Damaged, NoMemory, BadLayout, Small, NotBuilt}
@@ -18,6 +21,12 @@ code_of NoMemory = 8
 code_of (BadLayout field value) = 9
 code_of (Small needed found) = 9
 code_of NotBuilt = 11
+
+-- what is wrong with a page that a run met
+abbrev pub damage_of : ℕ → Why → Damage
+damage_of page (whys.Rule rule) = damages.Rule page rule
+damage_of page (whys.Level asked found) = damages.Level page
+damage_of page (whys.Extent asked found) = damages.Extent page
 
 -- the status of a run that a file refused
 abbrev pub status_of : OpenFault → Status

@@ -260,11 +260,17 @@ abbrev pub Reaches : ℕ → Moment → List Answered → Moment → Type 0
 Reaches zero from answered to = (to ≡ from) × (answered ≡ [])
 Reaches (suc n) from answered to = (mid : Moment) × (before : List Answered) × (given : List Answered) × Reaches n from before mid × StepsAt mid given to × (answered ≡ before ++ given)
 
+-- Since an answer crashes leave the set after a prefix of the lines that took effect which holds the answered line, where
+-- it is among these.
+abbrev pub HoldsAnswers : DiskModel → RecordSet → List Line → List Answered → Type 0
+HoldsAnswers e n done answered = All (λ (a : Answered). (place : ℕ) (line : Line) → slice_get done place ≡ Some line → line.number ≡ a.line → (c : List ℕ) → e.ImageSince a.at c → OpensToPrefix n done (place + 1) c) answered
+
 -- What crashes leave of a run from one moment of the disk to another: the set after a prefix of the lines that took
--- effect; and since an answer one that holds the answered line, where it is among these.
+-- effect; and since an answer one that holds it. (`each` is a run of hb_disk: it speaks of all images since the beginning,
+-- and can be joined to the run before it.)
 pub record CrashesTo (d e : DiskModel) (n : RecordSet) (done : List Line) (answered : List Answered) : Type 0 where
-  pub each : (c : List ℕ) → e.ImageSince d.clock c → OpensToPrefix n done 0 c
-  pub since : All (λ (a : Answered). (place : ℕ) (line : Line) → slice_get done place ≡ Some line → line.number ≡ a.line → (c : List ℕ) → e.ImageSince a.at c → OpensToPrefix n done (place + 1) c) answered
+  pub each : Leaves d e (OpensToPrefix n done 0)
+  pub since : HoldsAnswers e n done answered
 
 -- The answered line stands in the order with the machine's reply at its place, or its reply stands outside the order.
 pub record StandsAt (n : RecordSet) (done : List Line) (a : Answered) : Type 0 where

@@ -1,5 +1,5 @@
 -- What a run of a schedule leaves.
-use Rattle.std.specs.Prelude.{◌≡◌, ◌≢◌, ◌⊎◌, ℕ, Bool, List, [], length, Option, Some, None, IsSome, IsNone, All, Any, is_some}
+use Rattle.std.specs.Prelude.{◌≡◌, ◌≢◌, ◌⊎◌, ℕ, Bool, true, false, List, [], length, Option, Some, None, IsSome, IsNone, All, Any, is_some}
 use Rattle.hb_disk.specs.Model.{DiskModel}
 use Rattle.hb_outside.specs.Streams.{Rose, Appends, AppendsFront}
 use Rattle.hb_set.specs.Machine.{RecordSet}
@@ -44,6 +44,14 @@ run_output answered c = output_text answered (left_lines c.lines answered) (is_s
 -- some reply is a read fault
 abbrev pub HasReadFault : List Answered → Type 0
 HasReadFault answered = Any (λ (a : Answered). a.reply ≡ ReadFault) answered
+
+-- Which end it is: a fault of the sink comes first, then a stop, then a read fault.
+abbrev pub EndsAs : End → Bool → Bool → List Answered → Type 0
+EndsAs ends.NoMemory failed stopped answered = ⊥
+EndsAs ends.SinkFault failed stopped answered = failed ≡ true
+EndsAs ends.Stopped failed stopped answered = (failed ≡ false) × (stopped ≡ true)
+EndsAs ends.ReadFault failed stopped answered = (failed ≡ false) × (stopped ≡ false) × HasReadFault answered
+EndsAs ends.Finished failed stopped answered = (failed ≡ false) × (stopped ≡ false) × (¬ (HasReadFault answered))
 
 -- How it ended: the whole output was written, or the sink failed and has a front of it. Of the other ends a fault of the
 -- sink comes first, then a stop, then a read fault.

@@ -8,7 +8,7 @@ use Rattle.hb_text.specs.declared.rules.BadLine.{BadLine}
 use Rattle.hb_text.specs.Grammar.{Reading, text_read}
 use Rattle.hb_text.specs.Output.{order_text, output_text}
 use Rattle.hbpi.specs.declared.forms.Form.{Form}
-use Rattle.hbpi.specs.declared.forms.Form.TheVariants.{Create, Dry}
+use Rattle.hbpi.specs.declared.forms.Form.TheVariants.{Create, Dry, Drive}
 use Rattle.hbpi.specs.declared.statuses.Status.{Status}
 use Rattle.hbpi.specs.declared.statuses.Status.TheVariants.{Done, Usage, BadText, SourceFault, SinkFault, DiskFault, Damaged, NoMemory, BadLayout, Small, NotBuilt}
 use Rattle.hbpi.specs.declared.restart.faults.OpenFault.{OpenFault}
@@ -29,6 +29,13 @@ pub record Seen : Type 0 where
   pub sink_after : ℕ
   pub answered : List Answered
   pub order : List ℕ
+
+abbrev pub seen_by : Option (List ℕ) → Option (List ℕ) → ℕ → ℕ → Option (List ℕ) → Option (List ℕ) → ℕ → ℕ → List Answered → List ℕ → Seen
+seen_by left rest source_before source_after held holds sink_before sink_after answered order = record {
+  left = left; rest = rest; source_before = source_before; source_after = source_after;
+  held = held; holds = holds; sink_before = sink_before; sink_after = sink_after;
+  answered = answered; order = order;
+}
 
 -- no command was done, and the fault line was written last
 pub record IsRefused (seen : Seen) (status : Status) : Type 0 where
@@ -111,24 +118,18 @@ CreateEnds fault needed seen disk SourceFault = ⊥
 CreateEnds fault needed seen disk (Damaged damage) = ⊥
 CreateEnds fault needed seen disk NotBuilt = ⊥
 
--- how a run of a form ends
-abbrev pub Ends : Option Form → Seen → DiskSeen → Status → Type 0
-Ends None seen disk status = UsageEnds seen status
-Ends (Some (Dry k)) seen disk status = DryEnds k seen status
-Ends (Some (Create k pages log dcap icap)) seen disk status = CreateEnds (first_fault k pages log dcap icap) (size_of pages log) seen disk status
-Ends (Some form) seen disk status = UnbuiltEnds seen status
-
 -- A layout within its limits on a disk with room for it is made into a file, unless the disk or the sink failed or memory
 -- was refused.
 abbrev pub IsMadeWhole : Option Form → Seen → DiskSeen → Status → Type 0
 IsMadeWhole form seen disk status = (k pages log dcap icap : ℕ) → form ≡ Some (Create k pages log dcap icap) → first_fault k pages log dcap icap ≡ None → size_of pages log ≤ disk.size →
     ¬ (Rose disk.writes_before disk.writes_after) → ¬ (Rose seen.sink_before seen.sink_after) → (status ≡ Done) ⊎ (status ≡ NoMemory)
 
--- only a new file is written
-abbrev pub WritesNothing : Option Form → Type 0
-WritesNothing None = Unit {0}
-WritesNothing (Some (Create k pages log dcap icap)) = ⊥
-WritesNothing (Some form) = Unit {0}
+-- only these commands use the disk
+abbrev pub UsesNoDisk : Option Form → Type 0
+UsesNoDisk None = Unit {0}
+UsesNoDisk (Some (Create k pages log dcap icap)) = ⊥
+UsesNoDisk (Some Drive) = ⊥
+UsesNoDisk (Some form) = Unit {0}
 
 -- after a status of a file that was made
 abbrev pub HasMade : Status → Type 0

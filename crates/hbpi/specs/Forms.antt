@@ -87,4 +87,5 @@ abbrev pub IsUnbuilt : Option Form → Type 0
 IsUnbuilt None = ⊥
 IsUnbuilt (Some (Dry k)) = ⊥
 IsUnbuilt (Some (Create k pages log dcap icap)) = ⊥
+IsUnbuilt (Some Drive) = ⊥
 IsUnbuilt (Some form) = Unit {0}

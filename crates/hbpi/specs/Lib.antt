@@ -15,3 +15,5 @@ pub mod Core
 pub mod CoreSeen
 pub mod Drives
 pub mod Moves
+pub mod Driven
+pub mod Runs

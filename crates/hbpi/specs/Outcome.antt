@@ -44,6 +44,8 @@ abbrev pub damage_text : Damage → List ℕ
 damage_text damages.NoSuper = codes "no super"
 damage_text (damages.BadGroup frame) = codes "bad group " ++ decimal frame
 damage_text (damages.Rule page rule) = codes "damaged " ++ decimal page ++ codes " S" ++ decimal rule
+damage_text (damages.Level page) = codes "damaged " ++ decimal page ++ codes " level"
+damage_text (damages.Extent page) = codes "damaged " ++ decimal page ++ codes " extent"
 
 -- the line that a status writes last
 abbrev pub fault_line : Status → List ℕ

@@ -65,6 +65,17 @@ Refuses (faults.Unsound page rule) bytes = (turn : ℕ) × (said : Meta) × HasL
 Refuses faults.DiskFault bytes = Unit {0}
 Refuses faults.NoMemory bytes = Unit {0}
 
+-- Whatever the disk was: a layout is refused only by making a file, and a disk is small by its size.
+abbrev pub IsShut : ℕ → OpenFault → Type 0
+IsShut size (faults.BadLayout field value) = ⊥
+IsShut size (faults.Small needed found) = (found ≡ size) × (found < needed)
+IsShut size faults.NoSuper = Unit {0}
+IsShut size faults.NotBuilt = Unit {0}
+IsShut size (faults.BadGroup frame) = Unit {0}
+IsShut size (faults.Unsound page rule) = Unit {0}
+IsShut size faults.DiskFault = Unit {0}
+IsShut size faults.NoMemory = Unit {0}
+
 -- nothing is written before these
 abbrev pub IsUnwritten : OpenFault → Type 0
 IsUnwritten faults.DiskFault = ⊥

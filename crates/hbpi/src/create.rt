@@ -1,6 +1,6 @@
 //! The command `create`.
-ghost use Rattle.std.specs.Prelude.{◌≡◌, ℕ, ◌≤◌, List, IfOk, IfErr, IsSome, None, Option};
-ghost use Rattle.hb_store.specs.Opening.{OpensTo};
+ghost use Rattle.std.specs.Prelude.{◌≡◌, ℕ, ◌≤◌, ◌<◌, List, Option, IfOk, IfErr, IsSome, Some, None};
+ghost use Rattle.hb_store.specs.Opening.{IsEven};
 ghost use Rattle.hbpi.specs.Ends.{CreateEnds, HasMade};
 ghost use Rattle.hbpi.specs.Layouts.{first_fault, size_of};
 ghost use Rattle.hbpi.specs.Restart.{new_file};
@@ -28,8 +28,8 @@ fn make<D: Disk>(
     icap: u64,
 ) -> Result<D, (OpenFault, D)>
     ensures made { IfOk result (λ e. (first_fault k pages log dcap icap ≡ None) × (size_of pages log ≤ (D.model disk).size)) }
-    ensures opens { IfOk result (λ e. IsSome (D.model disk).told → (c : List ℕ) → (D.model e).Image c →
-        OpensTo c (new_file (record { k = k; pages = pages; log = log; dcap = dcap; icap = icap }))) }
+    ensures opens { IfOk result (λ e. IsSome (D.model disk).told → IsEven (D.model e)
+        (new_file (record { k = k; pages = pages; log = log; dcap = dcap; icap = icap }))) }
     ensures refused { IfErr result (λ e. NotMadeOn (first_fault k pages log dcap icap) (size_of pages log) (D.model disk).size (D.model disk).write_faults (D.model e.1).write_faults e.0) }
     ensures later { IfOk result (λ e. ((D.model disk).read_faults ≤ (D.model e).read_faults) × ((D.model disk).write_faults ≤ (D.model e).write_faults)) }
     ensures later_after_fault { IfErr result (λ e. ((D.model disk).read_faults ≤ (D.model e.1).read_faults) × ((D.model disk).write_faults ≤ (D.model e.1).write_faults)) }
@@ -87,8 +87,8 @@ pub(crate) fn create_file<K: Sink, D: Disk>(
       writes_before = (D.model disk).write_faults;
       writes_after = (D.model result.disk).write_faults;
     }) result.status }
-    ensures opens { HasMade result.status → IsSome (D.model disk).told → (c : List ℕ) → (D.model result.disk).Image c →
-        OpensTo c (new_file (record { k = k; pages = pages; log = log; dcap = dcap; icap = icap })) }
+    ensures opens { HasMade result.status → IsSome (D.model disk).told → IsEven (D.model result.disk)
+        (new_file (record { k = k; pages = pages; log = log; dcap = dcap; icap = icap })) }
     ensures sink_later { K.faults sink ≤ K.faults result.sink }
     ensures reads_later { (D.model disk).read_faults ≤ (D.model result.disk).read_faults }
     ensures writes_later { (D.model disk).write_faults ≤ (D.model result.disk).write_faults }

@@ -1,19 +1,26 @@
 //! The steps of a schedule, and the output of its run.
-ghost use Rattle.std.specs.Prelude.{◌≡◌, ◌⊎◌, ◌≢◌, ℕ, ◌≤◌, List, [], length, IsSome, Some, None, IsTrue};
+ghost use Rattle.std.specs.Prelude.{◌≡◌, ◌⊎◌, ◌≢◌, ◌↔◌, ℕ, ◌+◌, ◌^◌, ◌<◌, ◌≤◌, List, [], ◌++◌, length, map, drop, vec_len, IsSome, is_some, Some, None, IsTrue};
+ghost use Rattle.std.specs.List.{flat_map};
+ghost use Rattle.std.specs.Vec.{vec_capacity};
 ghost use Rattle.hb_outside.specs.Streams.{Rose, Appends, AppendsFront};
 ghost use Rattle.hb_set.specs.Machine.{RecordSet};
 ghost use Rattle.hb_set.specs.Scripts.{IsScriptFor};
 ghost use Rattle.hb_set.specs.declared.scripts.Line.{Line as Entry};
-ghost use Rattle.hbpi.specs.Core.{CoreKeeps, IsCore, IsServed, AnswersFirst};
+ghost use Rattle.hb_text.specs.Output.{reply_text, answer_text, left_text, order_text};
+ghost use Rattle.hbpi.specs.Ends.{HasPut, PutsMore};
+ghost use Rattle.hb_store.specs.declared.stops.StopWhy.TheVariants.{WriteFault};
+ghost use Rattle.hbpi.specs.Core.{CoreKeeps, IsCore, IsServed, AnswersFirst, answers_of, settled_of};
 ghost use Rattle.hbpi.specs.Moves.{MovesOn, HasOrder};
 ghost use Rattle.hbpi.specs.CoreSeen.{core_seen, core_disk};
 ghost use Rattle.hb_store.specs.Keeps.{last_of};
-ghost use Rattle.hbpi.specs.Drives.{DriveEnds, IsStart, RunsTo};
+ghost use Rattle.hbpi.specs.Drives.{DriveEnds, EndsAs, HasReadFault, IsStart, RunsTo};
 
+use crate::engine::session::Outcome;
 use crate::engine::state::Core;
 use hb_disk::Disk;
 use hb_outside::Sink;
-use hb_set::Answered;
+use hb_set::{Answered, Line, Reply};
+use hb_text::{put_left, put_order, put_reply};
 use std::alloc::Global;
 
 /// How a run of a schedule ended.
@@ -41,20 +48,160 @@ pub(crate) struct Ran<D: Disk, K> {
     pub(crate) end: End,
 }
 
+/// Puts a reply, unless the sink failed before. True where it has failed.
+fn put_answer<K: Sink>(sink: &mut K, failed: bool, line: u32, reply: &Reply) -> bool
+    ensures puts { PutsMore (K.written sink.old) (K.written sink.new) (K.faults sink.old) (K.faults sink.new) failed result (reply_text line reply.now) }
+    ensures later { K.faults sink.old ≤ K.faults sink.new }
+{
+    if failed {
+        return true;
+    }
+    put_reply(sink, line, reply).is_err()
+}
+
+/// Puts and keeps the answer that a step gave, where it gave one. There has to be room. True where the sink has failed.
+fn take_answer<K: Sink>(
+    sink: &mut K,
+    failed: bool,
+    outcome: Outcome,
+    at: u64,
+    answered: &mut Vec<Answered>,
+) -> bool
+    requires { vec_len answered.old + length (answers_of outcome at) ≤ vec_capacity answered.old }
+    ensures kept { answered.new.items ≡ answered.old.items ++ answers_of outcome at }
+    ensures room { vec_capacity answered.old ≤ vec_capacity answered.new }
+    ensures puts { PutsMore (K.written sink.old) (K.written sink.new) (K.faults sink.old) (K.faults sink.new) failed result (flat_map answer_text (answers_of outcome at)) }
+    ensures later { K.faults sink.old ≤ K.faults sink.new }
+{
+    match outcome {
+        Outcome::Answered { line, reply } => {
+            let failed = put_answer(sink, failed, line, &reply);
+            answered.push(Answered { line, reply, at }).unwrap();
+            failed
+        }
+        _ => failed,
+    }
+}
+
+/// Takes so many steps, and keeps each answer with the disk's clock after its step. True where the sink failed.
+fn take_steps<D: Disk, K: Sink>(
+    core: &mut Core<D>,
+    steps: usize,
+    sink: &mut K,
+    answered: &mut Vec<Answered>,
+) -> bool
+    requires script { IsScriptFor (core_seen core.old).store.meta.k (core_seen core.old).lines }
+    requires served { IsServed (core_seen core.old).lines }
+    requires start { IsStart (core_seen core.old) }
+    requires whole { IsCore (core_seen core.old) }
+    requires kept { IsSome (D.model (core_disk core.old)).told → (n : RecordSet) × CoreKeeps (D.model (core_disk core.old)) (core_seen core.old) n [] }
+    requires none { answered.old.items ≡ [] }
+    requires room { length (core_seen core.old).lines ≤ vec_capacity answered.old }
+    ensures runs { (n : RecordSet) (kept : CoreKeeps (D.model (core_disk core.old)) (core_seen core.old) n []) →
+        RunsTo steps (D.model (core_disk core.old)) (core_seen core.old) (last_of kept.durable kept.later) answered.new.items (D.model (core_disk core.new)) (core_seen core.new) n }
+    ensures moves { MovesOn steps (core_seen core.old) answered.new.items (core_seen core.new) }
+    ensures first { AnswersFirst (core_seen core.new) answered.new.items }
+    ensures order { HasOrder (core_seen core.new) }
+    ensures whole { IsCore (core_seen core.new) }
+    ensures lines { (core_seen core.new).lines ≡ (core_seen core.old).lines }
+    ensures put { HasPut (K.written sink.old) (K.written sink.new) (K.faults sink.old) (K.faults sink.new) result (flat_map answer_text answered.new.items) }
+    ensures read_fault { HasReadFault answered.new.items → Rose (D.model (core_disk core.old)).read_faults (D.model (core_disk core.new)).read_faults }
+    ensures write_fault { (core_seen core.new).stop ≡ Some WriteFault → Rose (D.model (core_disk core.old)).write_faults (D.model (core_disk core.new)).write_faults }
+    ensures reads_later { (D.model (core_disk core.old)).read_faults ≤ (D.model (core_disk core.new)).read_faults }
+    ensures writes_later { (D.model (core_disk core.old)).write_faults ≤ (D.model (core_disk core.new)).write_faults }
+{
+    let mut failed = false;
+    for _ in 0..steps {
+        let outcome = core.step();
+        let at = core.store.clock();
+        failed = take_answer(sink, failed, outcome, at, answered);
+    }
+    failed
+}
+
+/// Puts a line that has no answer, unless the sink failed before. True where it has failed.
+fn put_one_left<K: Sink>(sink: &mut K, failed: bool, line: u32, stopped: bool) -> bool
+    ensures puts { PutsMore (K.written sink.old) (K.written sink.new) (K.faults sink.old) (K.faults sink.new) failed result (left_text stopped line) }
+    ensures later { K.faults sink.old ≤ K.faults sink.new }
+{
+    if failed {
+        return true;
+    }
+    put_left(sink, line, stopped).is_err()
+}
+
+/// Puts lines that have no answer, until the sink fails. True where it has failed.
+fn put_all_left<K: Sink>(sink: &mut K, mut failed: bool, lines: &[Line], stopped: bool) -> bool
+    ensures puts { PutsMore (K.written sink.old) (K.written sink.new) (K.faults sink.old) (K.faults sink.new) failed result (flat_map (left_text stopped) (map (λ (l : Entry). l.number) lines.now)) }
+    ensures later { K.faults sink.old ≤ K.faults sink.new }
+{
+    for line in lines {
+        failed = put_one_left(sink, failed, line.number, stopped);
+    }
+    failed
+}
+
+/// Puts the order, so many of it settled, unless the sink failed before. True where it has failed.
+fn put_settled_order<K: Sink>(sink: &mut K, failed: bool, order: &[u32], settled: u32) -> bool
+    ensures puts { PutsMore (K.written sink.old) (K.written sink.new) (K.faults sink.old) (K.faults sink.new) failed result (order_text order.now settled) }
+    ensures later { K.faults sink.old ≤ K.faults sink.new }
+{
+    if failed {
+        return true;
+    }
+    put_order(sink, order, settled).is_err()
+}
+
+/// Puts what follows the replies: the lines that have no answer, all behind the first so many, and the order. True where
+/// the sink has failed.
+fn put_rest<D: Disk, K: Sink>(core: &Core<D>, sink: &mut K, failed: bool, answered: usize) -> bool
+    requires few { answered ≤ length (core_seen core.now).lines }
+    requires short { length (core_seen core.now).order < 2 ^ 32 }
+    ensures puts { PutsMore (K.written sink.old) (K.written sink.new) (K.faults sink.old) (K.faults sink.new) failed result
+        (flat_map (left_text (is_some (core_seen core.now).stop)) (map (λ (l : Entry). l.number) (drop answered (core_seen core.now).lines)) ++ order_text (core_seen core.now).order (settled_of (core_seen core.now))) }
+    ensures later { K.faults sink.old ≤ K.faults sink.new }
+{
+    let left = &core.lines.as_slice()[answered..];
+    let failed = put_all_left(sink, failed, left, core.stop.is_some());
+    let settled = core.store.settled(core.order.len() as u32);
+    put_settled_order(sink, failed, core.order.as_slice(), settled)
+}
+
+/// Whether some reply is `read fault`.
+fn has_read_fault(answered: &[Answered]) -> bool
+    ensures { IsTrue result ↔ HasReadFault answered.now }
+{
+    answered.iter().any(|a| matches!(a.reply, Reply::ReadFault))
+}
+
+/// How a run ended.
+fn end_of(failed: bool, stopped: bool, answered: &[Answered]) -> End
+    ensures { EndsAs result failed stopped answered.now }
+{
+    if failed {
+        End::SinkFault
+    } else if stopped {
+        End::Stopped
+    } else if has_read_fault(answered) {
+        End::ReadFault
+    } else {
+        End::Finished
+    }
+}
+
 /// Takes so many steps of the session, and writes the output of the run: the reply of each line as it is answered, then
 /// the lines that have no answer, then the order. After a fault of the sink nothing more is written, and the steps go on.
 pub(crate) fn drive<D: Disk, K: Sink>(
     alloc: Global,
-    core: Core<D>,
+    mut core: Core<D>,
     steps: usize,
-    sink: K,
+    mut sink: K,
 ) -> Ran<D, K>
     requires script { IsScriptFor (core_seen core).store.meta.k (core_seen core).lines }
     requires served { IsServed (core_seen core).lines }
     requires start { IsStart (core_seen core) }
     requires whole { IsCore (core_seen core) }
     requires kept { IsSome (D.model (core_disk core)).told → (n : RecordSet) × CoreKeeps (D.model (core_disk core)) (core_seen core) n [] }
-    requires stub { ⊥ }
     // over a disk that tells: exactly these steps were taken, and crashes leave the set after a prefix of the order
     ensures runs { (n : RecordSet) (kept : CoreKeeps (D.model (core_disk core)) (core_seen core) n []) → result.end ≢ End.NoMemory →
         RunsTo steps (D.model (core_disk core)) (core_seen core) (last_of kept.durable kept.later) result.answered.items (D.model (core_disk result.core)) (core_seen result.core) n }
@@ -65,15 +212,26 @@ pub(crate) fn drive<D: Disk, K: Sink>(
     ensures unbegun { result.end ≡ End.NoMemory → (result.core ≡ core) × (result.sink ≡ sink) × (result.answered.items ≡ []) }
     ensures ends { DriveEnds result.end (K.written sink) (K.written result.sink) (K.faults sink) (K.faults result.sink) result.answered.items (core_seen result.core) }
     ensures read_fault { result.end ≡ End.ReadFault → Rose (D.model (core_disk core)).read_faults (D.model (core_disk result.core)).read_faults }
-    ensures write_fault { IsSome (D.model (core_disk core)).told → result.end ≡ End.Stopped → Rose (D.model (core_disk core)).write_faults (D.model (core_disk result.core)).write_faults }
+    ensures write_fault { (core_seen result.core).stop ≡ Some WriteFault → Rose (D.model (core_disk core)).write_faults (D.model (core_disk result.core)).write_faults }
     ensures reads_later { (D.model (core_disk core)).read_faults ≤ (D.model (core_disk result.core)).read_faults }
     ensures writes_later { (D.model (core_disk core)).write_faults ≤ (D.model (core_disk result.core)).write_faults }
     ensures sink_later { K.faults sink ≤ K.faults result.sink }
 {
+    let Ok(mut answered) = Vec::with_capacity(alloc, core.lines.len()) else {
+        return Ran {
+            core,
+            sink,
+            answered: Vec::new(alloc),
+            end: End::NoMemory,
+        };
+    };
+    let failed = take_steps(&mut core, steps, &mut sink, &mut answered);
+    let failed = put_rest(&core, &mut sink, failed, answered.len());
+    let end = end_of(failed, core.stop.is_some(), answered.as_slice());
     Ran {
         core,
         sink,
-        answered: Vec::new(alloc),
-        end: End::NoMemory,
+        answered,
+        end,
     }
 }

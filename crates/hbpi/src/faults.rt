@@ -112,6 +112,19 @@ fn rule_line(page: u32, rule: u8) -> ArrayVec<u8, 64>
     line
 }
 
+/// The line that says in what a page isn't the one that was asked for.
+fn page_line(page: u32, what: &[u8]) -> ArrayVec<u8, 64>
+    requires { length what.now ≤ 10 }
+    ensures { result.items ≡ codes "damaged " ++ decimal page ++ what.now }
+{
+    let mut number = Buffer::new();
+    let mut line = ArrayVec::new();
+    let _fits = line.try_extend_from_slice(b"damaged ");
+    let _fits = line.try_extend_from_slice(number.format(page).as_bytes());
+    let _fits = line.try_extend_from_slice(what);
+    line
+}
+
 /// Puts the line of what is wrong with a file.
 fn put_damage<K: Sink>(sink: &mut K, damage: Damage)
     ensures line { GetsLine (K.written sink.old) (K.written sink.new) (K.faults sink.old) (K.faults sink.new) (fault_line (Status.Damaged damage)) }
@@ -121,6 +134,8 @@ fn put_damage<K: Sink>(sink: &mut K, damage: Damage)
         Damage::NoSuper => put_line(sink, b"no super\n"),
         Damage::BadGroup { frame } => put_line(sink, bad_group_line(frame).as_slice()),
         Damage::Rule { page, rule } => put_line(sink, rule_line(page, rule).as_slice()),
+        Damage::Level { page } => put_line(sink, page_line(page, b" level\n").as_slice()),
+        Damage::Extent { page } => put_line(sink, page_line(page, b" extent\n").as_slice()),
     }
 }
 
@@ -135,10 +150,11 @@ fn put_line<K: Sink>(sink: &mut K, line: &[u8])
 /// Puts the fault line of a status that has one.
 pub(crate) fn put_fault<K: Sink>(sink: &mut K, status: Status)
     ensures line { GetsLine (K.written sink.old) (K.written sink.new) (K.faults sink.old) (K.faults sink.new) (fault_line status) }
+    ensures silent { status ≡ Status.SinkFault → sink.new ≡ sink.old }
     ensures later { K.faults sink.old ≤ K.faults sink.new }
 {
     match status {
-        Status::Done | Status::SinkFault => put_line(sink, b""),
+        Status::Done | Status::SinkFault => {}
         Status::Usage => put_line(sink, b"usage\n"),
         Status::BadText(bad) => put_line(sink, bad_text_line(&bad).as_slice()),
         Status::SourceFault => put_line(sink, b"source fault\n"),

@@ -1,7 +1,8 @@
 ghost use Rattle.std.specs.Prelude.{◌≡◌, ◌≢◌};
-ghost use Rattle.hbpi.specs.Codes.{code_of, status_of};
+ghost use Rattle.hbpi.specs.Codes.{code_of, damage_of, status_of};
 
 use crate::restart::faults::{Field, OpenFault};
+use hb_store::Why;
 use hb_text::BadLine;
 
 /// What is wrong with a file.
@@ -13,6 +14,23 @@ pub enum Damage {
     BadGroup { frame: u32 },
     /// The file breaks the rule of this number at this page.
     Rule { page: u32, rule: u8 },
+    /// The level of this page isn't the one that was asked for.
+    Level { page: u32 },
+    /// The box of this page isn't the one that was asked for.
+    Extent { page: u32 },
+}
+
+impl Damage {
+    /// What is wrong with a page that a run met.
+    pub(crate) fn of_page(page: u32, why: &Why) -> Damage
+        ensures { result ≡ damage_of page why.now }
+    {
+        match why {
+            Why::Rule(rule) => Damage::Rule { page, rule: *rule },
+            Why::Level { .. } => Damage::Level { page },
+            Why::Extent { .. } => Damage::Extent { page },
+        }
+    }
 }
 
 /// How a run of the program ends.

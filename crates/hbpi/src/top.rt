@@ -1,10 +1,14 @@
-ghost use Rattle.std.specs.Prelude.{◌≡◌, ℕ, ◌≤◌, ◌↔◌, List, Some, None, IsSome, map, string_bytes};
-ghost use Rattle.hb_store.specs.Opening.{OpensTo};
+ghost use Rattle.std.specs.Prelude.{◌≡◌, ◌⊎◌, ℕ, ◌≤◌, ◌↔◌, List, Some, None, IsSome, map, string_bytes};
+ghost use Rattle.hb_ops.specs.Files.{FileState};
+ghost use Rattle.hb_ops.specs.Sound.{IsSound};
+ghost use Rattle.hb_store.specs.Opening.{IsEven, OpensTo};
 ghost use Rattle.hbpi.specs.Restart.{new_file};
 ghost use Rattle.hbpi.specs.Forms.{form_of, IsUnbuilt};
-ghost use Rattle.hbpi.specs.Ends.{Ends, HasMade, IsComplete, IsMadeWhole, RefusesBadText, NamesBadLine, WritesNothing};
+ghost use Rattle.hbpi.specs.Ends.{seen_by, HasMade, IsComplete, IsMadeWhole, RefusesBadText, NamesBadLine, UsesNoDisk};
+ghost use Rattle.hbpi.specs.Runs.{RunEnds, KeepsPromise, disk_seen};
 
 use crate::create::create_file;
+use crate::drive_file::drive_file;
 use crate::dry::{dry, refused};
 use crate::finished::Finished;
 use crate::forms::Form;
@@ -22,93 +26,37 @@ pub fn top<S: Source, K: Sink, D: Disk>(
     sink: K,
     disk: D,
 ) -> Finished<K, D>
-    // What each status says: its cause, what was read and written, and what was answered.
-    ensures ends { Ends (form_of (map string_bytes words.now)) (record {
-      left = S.left source.old;
-      rest = S.left source.new;
-      source_before = S.faults source.old;
-      source_after = S.faults source.new;
-      held = K.written sink;
-      holds = K.written result.sink;
-      sink_before = K.faults sink;
-      sink_after = K.faults result.sink;
-      answered = result.answered.items;
-      order = result.order.items;
-    }) (record {
-      size = (D.model disk).size;
-      reads_before = (D.model disk).read_faults;
-      reads_after = (D.model result.disk).read_faults;
-      writes_before = (D.model disk).write_faults;
-      writes_after = (D.model result.disk).write_faults;
-    }) result.status }
+    // What each status says: its cause, what was read and written, what was answered, and what is on the disk.
+    ensures ends { RunEnds (form_of (map string_bytes words.now)) (D.model disk) (D.model result.disk) (seen_by (S.left source.old) (S.left source.new) (S.faults source.old) (S.faults source.new)
+        (K.written sink) (K.written result.sink) (K.faults sink) (K.faults result.sink) result.answered.items result.order.items) result.status }
 
-    // The words alone decide these two.
+    // The words alone decide these.
     ensures usage { (result.status ≡ Status.Usage) ↔ (form_of (map string_bytes words.now) ≡ None) }
-    ensures not_built { (result.status ≡ Status.NotBuilt) ↔ IsUnbuilt (form_of (map string_bytes words.now)) }
+    ensures not_built { IsUnbuilt (form_of (map string_bytes words.now)) → result.status ≡ Status.NotBuilt }
+    ensures built { result.status ≡ Status.NotBuilt → IsUnbuilt (form_of (map string_bytes words.now)) ⊎ (form_of (map string_bytes words.now) ≡ Some Form.Drive) }
 
     // A good text is answered, and a bad one refused, unless something failed.
-    ensures complete { IsComplete (form_of (map string_bytes words.now)) (record {
-      left = S.left source.old;
-      rest = S.left source.new;
-      source_before = S.faults source.old;
-      source_after = S.faults source.new;
-      held = K.written sink;
-      holds = K.written result.sink;
-      sink_before = K.faults sink;
-      sink_after = K.faults result.sink;
-      answered = result.answered.items;
-      order = result.order.items;
-    }) result.status }
-    ensures bad_text { RefusesBadText (form_of (map string_bytes words.now)) (record {
-      left = S.left source.old;
-      rest = S.left source.new;
-      source_before = S.faults source.old;
-      source_after = S.faults source.new;
-      held = K.written sink;
-      holds = K.written result.sink;
-      sink_before = K.faults sink;
-      sink_after = K.faults result.sink;
-      answered = result.answered.items;
-      order = result.order.items;
-    }) result.status }
-    ensures named { NamesBadLine (form_of (map string_bytes words.now)) (record {
-      left = S.left source.old;
-      rest = S.left source.new;
-      source_before = S.faults source.old;
-      source_after = S.faults source.new;
-      held = K.written sink;
-      holds = K.written result.sink;
-      sink_before = K.faults sink;
-      sink_after = K.faults result.sink;
-      answered = result.answered.items;
-      order = result.order.items;
-    }) result.status }
+    ensures complete { IsComplete (form_of (map string_bytes words.now)) (seen_by (S.left source.old) (S.left source.new) (S.faults source.old) (S.faults source.new)
+        (K.written sink) (K.written result.sink) (K.faults sink) (K.faults result.sink) result.answered.items result.order.items) result.status }
+    ensures bad_text { RefusesBadText (form_of (map string_bytes words.now)) (seen_by (S.left source.old) (S.left source.new) (S.faults source.old) (S.faults source.new)
+        (K.written sink) (K.written result.sink) (K.faults sink) (K.faults result.sink) result.answered.items result.order.items) result.status }
+    ensures named { NamesBadLine (form_of (map string_bytes words.now)) (seen_by (S.left source.old) (S.left source.new) (S.faults source.old) (S.faults source.new)
+        (K.written sink) (K.written result.sink) (K.faults sink) (K.faults result.sink) result.answered.items result.order.items) result.status }
 
     // A good layout is made into a file, on a disk that has room for it, unless something failed.
-    ensures made { IsMadeWhole (form_of (map string_bytes words.now)) (record {
-      left = S.left source.old;
-      rest = S.left source.new;
-      source_before = S.faults source.old;
-      source_after = S.faults source.new;
-      held = K.written sink;
-      holds = K.written result.sink;
-      sink_before = K.faults sink;
-      sink_after = K.faults result.sink;
-      answered = result.answered.items;
-      order = result.order.items;
-    }) (record {
-      size = (D.model disk).size;
-      reads_before = (D.model disk).read_faults;
-      reads_after = (D.model result.disk).read_faults;
-      writes_before = (D.model disk).write_faults;
-      writes_after = (D.model result.disk).write_faults;
-    }) result.status }
+    ensures made { IsMadeWhole (form_of (map string_bytes words.now)) (seen_by (S.left source.old) (S.left source.new) (S.faults source.old) (S.faults source.new)
+        (K.written sink) (K.written result.sink) (K.faults sink) (K.faults result.sink) result.answered.items result.order.items) (disk_seen (D.model disk) (D.model result.disk)) result.status }
 
-    // Once a file is made, a crash leaves that file: it has no record.
+    // Once a file is made, every image of the disk opens to that file: it has no record.
     ensures created { (k pages log dcap icap : ℕ) → form_of (map string_bytes words.now) ≡ Some (Form.Create k pages log dcap icap) →
-        HasMade result.status → IsSome (D.model disk).told → (c : List ℕ) → (D.model result.disk).Image c →
-        OpensTo c (new_file (record { k = k; pages = pages; log = log; dcap = dcap; icap = icap })) }
-    ensures untouched { WritesNothing (form_of (map string_bytes words.now)) → result.disk ≡ disk }
+        HasMade result.status → IsSome (D.model disk).told → IsEven (D.model result.disk)
+        (new_file (record { k = k; pages = pages; log = log; dcap = dcap; icap = icap })) }
+
+    // Over a disk that tells and opens to a sound file, `drive` keeps its promise: replies, order and crashes.
+    ensures promise { (b : List ℕ) (s : FileState) → form_of (map string_bytes words.now) ≡ Some Form.Drive → (D.model disk).told ≡ Some b → OpensTo b s → IsSound s →
+        KeepsPromise s (D.model disk) (D.model result.disk) (seen_by (S.left source.old) (S.left source.new) (S.faults source.old) (S.faults source.new)
+        (K.written sink) (K.written result.sink) (K.faults sink) (K.faults result.sink) result.answered.items result.order.items) result.status }
+    ensures untouched { UsesNoDisk (form_of (map string_bytes words.now)) → result.disk ≡ disk }
 
     // No count of faults falls.
     ensures source_later { S.faults source.old ≤ S.faults source.new }
@@ -128,6 +76,7 @@ pub fn top<S: Source, K: Sink, D: Disk>(
                 icap,
             },
         ) => create_file(alloc, k, pages, log, dcap, icap, sink, disk),
+        Some(Form::Drive) => drive_file(alloc, source, sink, disk),
         Some(_) => refused(alloc, Status::NotBuilt, sink, disk),
     }
 }

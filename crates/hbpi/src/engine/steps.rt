@@ -22,6 +22,7 @@ use hb_set::Line;
 use hb_space::NoMemory;
 use hb_store::Store;
 use std::alloc::Global;
+use std::mem;
 
 impl<D: Disk> Core<D> {
     /// A core over a store that is new. It reserves the order. For want of memory the store comes back.
@@ -30,7 +31,6 @@ impl<D: Disk> Core<D> {
         store: Store<D>,
         lines: Vec<Line>,
     ) -> Result<Core<D>, (NoMemory, Store<D>)>
-        requires stub { ⊥ }
         ensures seen { IfOk result (λ c. core_seen c ≡ record { lines = lines.items; taken = 0; session = Session.Idle; order = []; stop = None; store = seen_as store }) }
         ensures disk { IfOk result (λ c. core_disk c ≡ disk_of store) }
         ensures keeps { IfOk result (λ c. (s : FileState) → IsNew (seen_as store).turn (seen_as store).meta (seen_as store) → IsSound s → s.meta.root ≡ 1 → s.meta.high ≡ 1 → s.meta.height ≡ 1 →
@@ -38,7 +38,17 @@ impl<D: Disk> Core<D> {
         ensures whole { IfOk result (λ c. (turn : ℕ) (meta : Said) → IsNew turn meta (seen_as store) → meta.root ≡ 1 → meta.high ≡ 1 → meta.height ≡ 1 → IsCore (core_seen c)) }
         ensures back { IfErr result (λ e. e.1 ≡ store) }
     {
-        Err((std::alloc::AllocError, store))
+        match Vec::with_capacity(alloc, lines.len()) {
+            Ok(order) => Ok(Core {
+                store,
+                lines,
+                taken: 0,
+                session: Session::Idle,
+                order,
+                stop: None,
+            }),
+            Err(refused) => Err((refused, store)),
+        }
     }
 
     /// Takes one step of the session.
@@ -47,7 +57,6 @@ impl<D: Disk> Core<D> {
         requires served { IsServed (core_seen self.old).lines }
         requires whole { IsCore (core_seen self.old) }
         requires kept { IsSome (D.model (core_disk self.old)).told → (n : RecordSet) × (done : List Entry) × CoreKeeps (D.model (core_disk self.old)) (core_seen self.old) n done }
-        requires stub { ⊥ }
         ensures keeps { (n : RecordSet) (done : List Entry) (kept : CoreKeeps (D.model (core_disk self.old)) (core_seen self.old) n done) →
             StepKeeps (D.model (core_disk self.old)) (core_seen self.old) (last_of kept.durable kept.later) result (D.model (core_disk self.new)) (core_seen self.new) n done }
         // over every disk
@@ -60,7 +69,47 @@ impl<D: Disk> Core<D> {
         ensures writes_later { (D.model (core_disk self.old)).write_faults ≤ (D.model (core_disk self.new)).write_faults }
         ensures clock { IsSome (D.model (core_disk self.old)).told → (D.model (core_disk self.new)).clock ≤ (D.model (core_disk self.old)).clock + 4 }
         ensures tells { IsSome (D.model (core_disk self.old)).told → IsSome (D.model (core_disk self.new)).told }
+        ensures silent { (D.model (core_disk self.old)).told ≡ None → (D.model (core_disk self.new)).told ≡ None }
     {
-        Outcome::Stopped
+        if self.stop.is_some() {
+            return Outcome::Stopped;
+        }
+        match &self.session {
+            Session::Idle => self.take_line(),
+            Session::Walk => self.walk(),
+            Session::Await { place, .. } => {
+                let place = *place;
+                self.await_place(place)
+            }
+        }
+    }
+
+    /// Takes the next line, where one is left.
+    fn take_line(&mut self) -> Outcome {
+        if self.taken == self.lines.len() {
+            return Outcome::Idle;
+        }
+        self.taken += 1;
+        self.session = Session::Walk;
+        Outcome::Moved
+    }
+
+    /// Answers the line, where its place is settled, and else forces.
+    fn await_place(&mut self, place: u32) -> Outcome {
+        if place < self.store.settled(self.order.len() as u32) {
+            return self.answer_kept();
+        }
+        self.force(Outcome::Moved)
+    }
+
+    /// Answers the line with the reply that was kept.
+    fn answer_kept(&mut self) -> Outcome {
+        match mem::replace(&mut self.session, Session::Idle) {
+            Session::Await { reply, .. } => Outcome::Answered {
+                line: self.lines[self.taken - 1].number,
+                reply,
+            },
+            Session::Idle | Session::Walk => unreachable!(),
+        }
     }
 }

@@ -1,0 +1,43 @@
+-- How a run of the program ends, by its words; and the promise of `drive`.
+use Rattle.std.specs.Prelude.{◌≡◌, ◌⊎◌, ℕ, ◌≤◌, List, [], length, map, take, All, Option, Some, None}
+use Rattle.hb_disk.specs.Model.{DiskModel}
+use Rattle.hb_ops.specs.Files.{FileState, contents_of}
+use Rattle.hb_ops.specs.Sound.{IsSound}
+use Rattle.hb_set.specs.Order.{IsLegalOrder}
+use Rattle.hb_set.specs.declared.scripts.Line.{Line}
+use Rattle.hb_store.specs.Opening.{IsEven}
+use Rattle.hbpi.specs.Core.{AreAmong, HoldsAnswers, CrashesTo, IsReplied, entries_from, set_of}
+use Rattle.hbpi.specs.Driven.{DriveCommandEnds, IsScheduled}
+use Rattle.hbpi.specs.Ends.{Seen, DiskSeen, DryEnds, CreateEnds, UsageEnds, UnbuiltEnds}
+use Rattle.hbpi.specs.Layouts.{first_fault, size_of}
+use Rattle.hbpi.specs.declared.forms.Form.{Form}
+use Rattle.hbpi.specs.declared.forms.Form.TheVariants.{Create, Dry, Drive}
+use Rattle.hbpi.specs.declared.statuses.Status.{Status}
+use Rattle.hbpi.specs.declared.statuses.Status.TheVariants.{Done}
+
+-- the size of a disk, and its counts of faults before and after a run
+abbrev pub disk_seen : DiskModel → DiskModel → DiskSeen
+disk_seen d e = record { size = d.size; reads_before = d.read_faults; reads_after = e.read_faults; writes_before = d.write_faults; writes_after = e.write_faults }
+
+-- how a run of a form ends
+abbrev pub RunEnds : Option Form → DiskModel → DiskModel → Seen → Status → Type 0
+RunEnds None d e seen status = UsageEnds seen status
+RunEnds (Some (Dry k)) d e seen status = DryEnds k seen status
+RunEnds (Some (Create k pages log dcap icap)) d e seen status = CreateEnds (first_fault k pages log dcap icap) (size_of pages log) seen (disk_seen d e) status
+RunEnds (Some Drive) d e seen status = DriveCommandEnds d e seen status
+RunEnds (Some form) d e seen status = UnbuiltEnds seen status
+
+-- The promise of `drive` over a disk that tells and opens to a sound file. There are lines of the text that took effect:
+-- their numbers are the order. They are a legal order from the records of the file, and every answer is the machine's at
+-- its place, or stands outside the order. Every image that a crash may leave since an answer opens to the records after
+-- a prefix of them that holds it. Where every image opened to this file when the run began, each image since then opens to
+-- the records after a prefix. And when the run is done every image of the disk opens to one sound file.
+pub record KeepsPromise (s : FileState) (d e : DiskModel) (seen : Seen) (status : Status) : Type 0 where
+  pub done : List Line
+  pub numbers : map (λ (l : Line). l.number) done ≡ seen.order
+  pub said : (done ≡ []) ⊎ ((lines : List Line) × (steps : List ℕ) × IsScheduled s.meta.k seen.left seen.rest lines steps × AreAmong done lines)
+  pub legal : IsLegalOrder (contents_of s) (entries_from (contents_of s) done)
+  pub replied : All (IsReplied (contents_of s) done) seen.answered
+  pub held : HoldsAnswers e (contents_of s) done seen.answered
+  pub crashes : IsEven d s → CrashesTo d e (contents_of s) done seen.answered
+  pub even : status ≡ Done → (t : FileState) × (count : ℕ) × IsEven e t × IsSound t × (count ≤ length done) × (contents_of t ≡ set_of (contents_of s) (take count done))

@@ -1,0 +1,222 @@
+//! The command `drive`.
+ghost use Rattle.std.specs.Prelude.{◌≡◌, ℕ, ◌<◌, ◌≤◌, ◌↔◌, [], List, length, Option, All, IfOk, IfErr, IsSome, IsTrue, Some, None};
+ghost use Rattle.hb_outside.specs.Streams.{Rose};
+ghost use Rattle.hb_ops.specs.Files.{FileState};
+ghost use Rattle.hb_ops.specs.Sound.{IsSound};
+ghost use Rattle.hb_set.specs.Scripts.{IsScriptFor};
+ghost use Rattle.hb_store.specs.Keeps.{StoreKeeps, IsNew};
+ghost use Rattle.hb_store.specs.Seen.{seen_as, disk_of};
+ghost use Rattle.hbpi.specs.Core.{IsServed, IsServedCommand};
+ghost use Rattle.hbpi.specs.CoreSeen.{core_seen, core_disk};
+ghost use Rattle.hbpi.specs.Driven.{IsScheduled, IsServedScript, NotScheduled, OpenedEnds, DriveCommandEnds, status_after};
+ghost use Rattle.hbpi.specs.Outcome.{GetsLine, fault_line};
+
+use crate::drive::{End, Ran, drive};
+use crate::dry::refused;
+use crate::engine::state::Core;
+use crate::faults::put_fault;
+use crate::finished::Finished;
+use crate::restart::recovery::recover;
+use crate::statuses::{Damage, Status};
+use crate::texts::{TextStop, read_text};
+use hb_disk::Disk;
+use hb_outside::{Sink, Source};
+use hb_set::{Command, Line, Script};
+use hb_space::form::KMAX;
+use hb_store::{StopWhy, Store, an_image_opens_to_one_file};
+use hb_text::{TextError, read_commands};
+use std::alloc::Global;
+
+/// Whether the core serves a line: it is of session 1, and no search.
+fn serves_line(line: &Line) -> bool
+    ensures { IsTrue result ↔ ((line.now.session ≡ 1) × IsServedCommand line.now.command) }
+{
+    let served = match &line.command {
+        Command::Insert(_) | Command::Delete(_) | Command::Lookup(_) => true,
+        Command::Search(_) => false,
+    };
+    line.session == 1 && served
+}
+
+/// Whether the core serves these lines.
+fn serves_lines(lines: &[Line]) -> bool
+    ensures { IsTrue result ↔ IsServed lines.now }
+{
+    lines.iter().all(|line| serves_line(line))
+}
+
+/// Whether the core serves a script: the steps too are of session 1.
+fn serves(script: &Script) -> bool
+    ensures { IsTrue result ↔ IsServedScript script.now.lines script.now.steps }
+{
+    serves_lines(script.lines.as_slice()) && script.steps.as_slice().iter().all(|actor| *actor == 1)
+}
+
+/// Reads the script of a text over `k` attributes with its steps, or the status that refuses it.
+fn read_schedule<S: Source>(alloc: Global, k: u8, source: &mut S) -> Result<Script, Status>
+    requires some { 0 < k }
+    requires few { k ≤ KMAX }
+    ensures read { IfOk result (λ script. IsScheduled k (S.left source.old) (S.left source.new) script.lines script.steps) }
+    ensures script { IfOk result (λ script. IsScriptFor k script.lines × IsServedScript script.lines script.steps) }
+    ensures refused { IfErr result (NotScheduled k (S.left source.old) (S.left source.new) (S.faults source.old) (S.faults source.new)) }
+    ensures later { S.faults source.old ≤ S.faults source.new }
+{
+    let text = match read_text(alloc, source) {
+        Ok(text) => text,
+        Err(TextStop::SourceFault) => return Err(Status::SourceFault),
+        Err(TextStop::NoMemory) => return Err(Status::NoMemory),
+    };
+    match read_commands(alloc, text.as_slice(), k, true) {
+        Ok(script) if serves(&script) => Ok(script),
+        Ok(_) => Err(Status::NotBuilt),
+        Err(TextError::Bad(bad)) => Err(Status::BadText(bad)),
+        Err(TextError::NoMemory) => Err(Status::NoMemory),
+    }
+}
+
+/// The status behind the last step.
+fn status_of(end: End, stop: &Option<StopWhy>) -> Status
+    ensures { result ≡ status_after end stop.now }
+{
+    match end {
+        End::Finished => Status::Done,
+        End::NoMemory => Status::NoMemory,
+        End::SinkFault => Status::SinkFault,
+        End::ReadFault => Status::DiskFault,
+        End::Stopped => match stop {
+            Some(StopWhy::Damaged { page, why }) => Status::Damaged(Damage::of_page(*page, why)),
+            Some(StopWhy::WriteFault) | None => Status::DiskFault,
+        },
+    }
+}
+
+/// Writes the fault line behind the output of a run, and gives back what it leaves.
+fn finish<K: Sink, D: Disk>(ran: Ran<D, K>) -> Finished<K, D>
+    ensures status { result.status ≡ status_after ran.end (core_seen ran.core).stop }
+    ensures disk { result.disk ≡ core_disk ran.core }
+    ensures answered { result.answered.items ≡ ran.answered.items }
+    ensures order { result.order.items ≡ (core_seen ran.core).order }
+    ensures silent { ran.end ≡ End.SinkFault → result.sink ≡ ran.sink }
+    ensures line { GetsLine (K.written ran.sink) (K.written result.sink) (K.faults ran.sink) (K.faults result.sink) (fault_line result.status) }
+    ensures later { K.faults ran.sink ≤ K.faults result.sink }
+{
+    let Ran {
+        core,
+        mut sink,
+        answered,
+        end,
+    } = ran;
+    let status = status_of(end, &core.stop);
+    put_fault(&mut sink, status);
+    let Core { store, order, .. } = core;
+    Finished {
+        status,
+        sink,
+        disk: store.into_disk(),
+        answered,
+        order,
+    }
+}
+
+/// Takes the steps of a script over a store that was just opened.
+fn drive_script<K: Sink, D: Disk>(
+    alloc: Global,
+    script: Script,
+    sink: K,
+    store: Store<D>,
+) -> Finished<K, D>
+    requires script { IsScriptFor (seen_as store).meta.k script.lines }
+    requires served { IsServedScript script.lines script.steps }
+    requires new { IsNew (seen_as store).turn (seen_as store).meta (seen_as store) }
+    requires one_page { ((seen_as store).meta.root ≡ 1) × ((seen_as store).meta.high ≡ 1) × ((seen_as store).meta.height ≡ 1) }
+    requires kept { IsSome (D.model (disk_of store)).told → (s : FileState) × IsSound s × StoreKeeps (D.model (disk_of store)) (seen_as store) s [] }
+    ensures ends { (left rest : Option (List ℕ)) (before after : ℕ) → IsScheduled (seen_as store).meta.k left rest script.lines script.steps →
+        OpenedEnds (D.model (disk_of store)) (D.model result.disk) (record {
+      left = left;
+      rest = rest;
+      source_before = before;
+      source_after = after;
+      held = K.written sink;
+      holds = K.written result.sink;
+      sink_before = K.faults sink;
+      sink_after = K.faults result.sink;
+      answered = result.answered.items;
+      order = result.order.items;
+    }) result.status }
+    ensures sink_later { K.faults sink ≤ K.faults result.sink }
+    ensures reads_later { (D.model (disk_of store)).read_faults ≤ (D.model result.disk).read_faults }
+    ensures writes_later { (D.model (disk_of store)).write_faults ≤ (D.model result.disk).write_faults }
+{
+    let Script { lines, steps } = script;
+    match Core::over(alloc, store, lines.into_vec()) {
+        Ok(core) => finish(drive(alloc, core, steps.as_slice().len(), sink)),
+        Err((_, store)) => refused(alloc, Status::NoMemory, sink, store.into_disk()),
+    }
+}
+
+/// Reads the script, and takes its steps over a store that was just opened.
+fn drive_store<S: Source, K: Sink, D: Disk>(
+    alloc: Global,
+    source: &mut S,
+    sink: K,
+    store: Store<D>,
+) -> Finished<K, D>
+    requires new { IsNew (seen_as store).turn (seen_as store).meta (seen_as store) }
+    requires one_page { ((seen_as store).meta.root ≡ 1) × ((seen_as store).meta.high ≡ 1) × ((seen_as store).meta.height ≡ 1) }
+    requires kept { IsSome (D.model (disk_of store)).told → (s : FileState) × IsSound s × StoreKeeps (D.model (disk_of store)) (seen_as store) s [] }
+    ensures ends { OpenedEnds (D.model (disk_of store)) (D.model result.disk) (record {
+      left = S.left source.old;
+      rest = S.left source.new;
+      source_before = S.faults source.old;
+      source_after = S.faults source.new;
+      held = K.written sink;
+      holds = K.written result.sink;
+      sink_before = K.faults sink;
+      sink_after = K.faults result.sink;
+      answered = result.answered.items;
+      order = result.order.items;
+    }) result.status }
+    ensures source_later { S.faults source.old ≤ S.faults source.new }
+    ensures sink_later { K.faults sink ≤ K.faults result.sink }
+    ensures reads_later { (D.model (disk_of store)).read_faults ≤ (D.model result.disk).read_faults }
+    ensures writes_later { (D.model (disk_of store)).write_faults ≤ (D.model result.disk).write_faults }
+{
+    let k = store.meta().k;
+    match read_schedule(alloc, k, source) {
+        Ok(script) => drive_script(alloc, script, sink, store),
+        Err(status) => refused(alloc, status, sink, store.into_disk()),
+    }
+}
+
+/// The command `drive`: opens the file of the disk, reads a text with steps, takes these, and writes the replies and the
+/// order.
+pub(crate) fn drive_file<S: Source, K: Sink, D: Disk>(
+    alloc: Global,
+    source: &mut S,
+    sink: K,
+    disk: D,
+) -> Finished<K, D>
+    ensures ends { DriveCommandEnds (D.model disk) (D.model result.disk) (record {
+      left = S.left source.old;
+      rest = S.left source.new;
+      source_before = S.faults source.old;
+      source_after = S.faults source.new;
+      held = K.written sink;
+      holds = K.written result.sink;
+      sink_before = K.faults sink;
+      sink_after = K.faults result.sink;
+      answered = result.answered.items;
+      order = result.order.items;
+    }) result.status }
+    ensures source_later { S.faults source.old ≤ S.faults source.new }
+    ensures sink_later { K.faults sink ≤ K.faults result.sink }
+    ensures reads_later { (D.model disk).read_faults ≤ (D.model result.disk).read_faults }
+    ensures writes_later { (D.model disk).write_faults ≤ (D.model result.disk).write_faults }
+{
+    // Law: the file that is opened is the one that the bytes open to.
+    an_image_opens_to_one_file();
+    match recover(alloc, disk) {
+        Ok((store, _)) => drive_store(alloc, source, sink, store),
+        Err((fault, disk)) => refused(alloc, Status::from(fault), sink, disk),
+    }
+}
