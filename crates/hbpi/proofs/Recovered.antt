@@ -1,5 +1,5 @@
 -- What an opening leaves: reads, then a run that began with a sync.
-use Rattle.std.proofs.Common.{◌≡◌, ℕ, ◌+◌, List, length, Option, Some, None, IsSome, IfSome, sym, ◌∙◌, subst}
+use Rattle.std.proofs.Common.{◌≡◌, ℕ, ◌+◌, ◌≤◌, List, length, Option, Some, None, IsSome, IfSome, sym, ◌∙◌, subst, arith}
 use Rattle.hb_disk.specs.Model.{DiskModel, IsDisk}
 use Rattle.hb_disk.specs.Calls.{Leaves, OnlyReads}
 use Rattle.hb_disk.specs.RunLaws.{some_value, at_value, if_value, has_value, Leaves-start, Leaves-read, Leaves-then}
@@ -30,6 +30,13 @@ module _ (old mid new : DiskModel) (reads : OnlyReads old mid) (turn : ℕ) (met
       Leaves-then old mid new (λ c. OpensTo c s) (Leaves-read old old mid (λ c. OpensTo c s) (Leaves-start old (λ c. OpensTo c s) is_old is_even.images) stays)
       (at_value mid.told (λ b. IsFoundIn b turn meta touched count → (s : FileState) → IsEven mid s → Leaves mid new (λ c. OpensTo c s)) b.0 (stays.told ∙ b.1) run (found_at b.0 b.1) s still)
 
+  -- no call sets the clock back
+  pub recovered_time : IfSome mid.told (λ b. IsFoundIn b turn meta touched count → mid.clock ≤ new.clock) → IsSome old.told → old.clock ≤ new.clock
+  recovered_time run tells =
+      let b = some_value old.told tells in
+      let since : mid.clock ≤ new.clock = at_value mid.told (λ b. IsFoundIn b turn meta touched count → mid.clock ≤ new.clock) b.0 (reads.stays.told ∙ b.1) run (found_at b.0 b.1) in
+      omega (arith, reads.stays.clock, since)
+
   -- once the next turn has begun
   module _ (next : ℕ) (is : next ≡ next_turn turn) (renewed : IfSome mid.told (λ b. IsFoundIn b turn meta touched count → (s : FileState) → OpensTo b s → IsFresh new (next_turn turn) meta s
       × ((c : List ℕ) → new.ImageSince (mid.clock + 1) c → OpensTo c s))) where
@@ -54,6 +61,11 @@ module _ (old mid new : DiskModel) (reads : OnlyReads old mid) (turn : ℕ) (met
     recovered_opened K keeps = if_value old.told (λ b. (s : FileState) × OpensTo b s × IsSound s × (count ≡ length (file_records s)) × K s) (λ b told.
         let here = found_at b told in
         (lone meta here.page, found_to b turn meta touched count here, here.sound, here.counted, keeps (lone meta here.page) (fresh_at b told)))
+
+    -- the bytes open to no file that says anything else of itself
+    pub recovered_meta : (said : Meta) → said ≡ meta → IfSome old.told (λ b. (s : FileState) → OpensTo b s → s.meta ≡ said)
+    recovered_meta said same = if_value old.told (λ b. (s : FileState) → OpensTo b s → s.meta ≡ said) (λ b told s opens.
+        (renewed_at b told s opens).0.meta_is ∙ sym same)
 
     pub recovered_late : IfSome old.told (λ b. (s : FileState) → OpensTo b s → (c : List ℕ) → new.ImageSince (old.clock + 1) c → OpensTo c s)
     recovered_late = if_value old.told (λ b. (s : FileState) → OpensTo b s → (c : List ℕ) → new.ImageSince (old.clock + 1) c → OpensTo c s) (λ b told s opens c left.

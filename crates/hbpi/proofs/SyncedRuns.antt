@@ -1,5 +1,5 @@
 -- What a run leaves that began with a sync: to a disk whose file was found.
-use Rattle.std.proofs.Common.{◌≡◌, ℕ, ◌+◌, ◌≤◌, List, Option, Some, IfSome, Result, Ok, sym, ◌∙◌, subst}
+use Rattle.std.proofs.Common.{◌≡◌, ℕ, ◌+◌, ◌≤◌, List, Option, Some, IfSome, Result, Ok, sym, ◌∙◌, subst, arith}
 use Rattle.hb_disk.specs.Model.{DiskModel, IsDisk}
 use Rattle.hb_disk.specs.Calls.{Ticks, Syncs, Leaves}
 use Rattle.hb_disk.specs.RunLaws.{if_value, has_value, only_told, IsSynced-sync, Leaves-start, Leaves-call, Leaves-then}
@@ -58,6 +58,10 @@ module _ {T E : Type 0} (q : Result T E) (v : T) (ok : q ≡ Ok v) (old mid new 
   pub synced_late : IfSome old.told (λ b. IsFoundIn b turn meta touched count → (s : FileState) → OpensTo b s → old.clock + 2 ≤ new.clock → (c : List ℕ) → new.ImageSince (old.clock + 1) c → OpensTo c s)
   synced_late = if_value old.told (λ b. IsFoundIn b turn meta touched count → (s : FileState) → OpensTo b s → old.clock + 2 ≤ new.clock → (c : List ℕ) → new.ImageSince (old.clock + 1) c → OpensTo c s)
       (λ b told found s opens later. late b told found s opens)
+
+  pub synced_time : IfSome old.told (λ b. IsFoundIn b turn meta touched count → old.clock ≤ new.clock)
+  synced_time = if_value old.told (λ b. IsFoundIn b turn meta touched count → old.clock ≤ new.clock)
+      (λ b told found. omega (arith, ticks.later, (moments found.page (here b told found)).later))
 
   pub synced_renewed : ((page : Page) → IsHere mid turn meta touched page → IsFresh new (next_turn turn) meta (lone meta page))
       → IfSome old.told (λ b. IsFoundIn b turn meta touched count → (s : FileState) → OpensTo b s → IsFresh new (next_turn turn) meta s

@@ -33,6 +33,12 @@ pub record IsWhole (size turn : ℕ) (meta : Meta) : Type 0 where
   pub height : meta.height ≡ 1
   pub live : meta.live ≡ 1
 
+-- no refusal of a layout, and none by the size of the disk
+abbrev pub NamesNoSize : OpenFault → Type 0
+NamesNoSize (faults.BadLayout field value) = ⊥
+NamesNoSize (faults.Small needed found) = ⊥
+NamesNoSize _ = Unit {0}
+
 -- why no superblock is found
 abbrev pub FindsNone : OpenFault → List ℕ → Type 0
 FindsNone faults.NoSuper bytes = HasNone bytes

@@ -128,6 +128,8 @@ pub(crate) fn renew<D: Disk>(disk: &mut D, found: &Found) -> Result<(), DiskFaul
     requires whole { IsWhole (D.model disk.old).size found.now.turn found.now.meta }
     requires touched { IsTouched found.now.meta found.now.touched }
     ensures run { Runs 13 result (D.model disk.old) (D.model disk.new) }
+    ensures time { IfSome (D.model disk.old).told (λ b. IsFoundIn b found.now.turn found.now.meta (get nat_cmp found.now.touched.pages 1) found.now.count →
+        (D.model disk.old).clock ≤ (D.model disk.new).clock) }
     ensures even { IfSome (D.model disk.old).told (λ b. IsFoundIn b found.now.turn found.now.meta (get nat_cmp found.now.touched.pages 1) found.now.count →
         (s : FileState) → IsEven (D.model disk.old) s → Leaves (D.model disk.old) (D.model disk.new) (λ c. OpensTo c s)) }
     // a second tick of the clock comes only after the first sync has succeeded

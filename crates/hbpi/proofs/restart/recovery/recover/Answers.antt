@@ -1,4 +1,4 @@
-use Rattle.std.proofs.Common.{◌∙◌, ◌+◌, ℕ, List, [], IfSome, sym, subst}
+use Rattle.std.proofs.Common.{◌∙◌, ◌+◌, ◌≤◌, ℕ, List, [], IfSome, IsSome, sym, subst}
 use Rattle.std.specs.Ordering.{nat_cmp}
 use Rattle.std.specs.BTreeMap.{get}
 use Rattle.hb_disk.specs.Calls.{Leaves}
@@ -9,7 +9,7 @@ use Rattle.hb_store.specs.Keeps.{IsFresh, StoreKeeps}
 use Rattle.hb_store.specs.Seen.{seen_as, disk_of}
 use Rattle.hbpi.specs.Looking.{IsFoundIn}
 use Rattle.hbpi.proofs.Made.{no_error}
-use Rattle.hbpi.proofs.Recovered.{recovered_even, recovered_fresh, recovered_opened, recovered_late}
+use Rattle.hbpi.proofs.Recovered.{recovered_even, recovered_time, recovered_fresh, recovered_opened, recovered_meta, recovered_late}
 use Rattle.hbpi.proofs.restart.recovery.recover.Goals as goal
 
 pub returns-then-is_err-clause-even_after_fault : goal.returns-then-is_err-clause-even_after_fault
@@ -57,6 +57,23 @@ returns-in-Ok-opened-clause-late g c =
     → IsFresh (g.D.Disk.model c.renew.new.disk) (next_turn c.in-Ok.found.turn) c.in-Ok.found.meta s
     × ((x : List ℕ) → (g.D.Disk.model c.renew.new.disk).ImageSince ((g.D.Disk.model c.look.new.disk).clock + 1) x → OpensTo x s)))
     (sym c.is_err.ensures.value ∙ c.if-is_err.false) c.renew.ensures.renewed))
+
+pub returns-in-Ok-opened-clause-time : goal.returns-in-Ok-opened-clause-time
+returns-in-Ok-opened-clause-time g c =
+    subst (λ (x : g.row.D.Denot). IsSome (g.D.Disk.model c.args.disk).told → (g.D.Disk.model c.args.disk).clock ≤ (g.D.Disk.model x).clock) (sym c.in-Ok-opened.ensures.disk)
+    (recovered_time (g.D.Disk.model c.args.disk) (g.D.Disk.model c.look.new.disk) (g.D.Disk.model c.renew.new.disk) c.look.ensures.only_reads
+    c.in-Ok.found.turn c.in-Ok.found.meta (get nat_cmp c.in-Ok.found.touched.pages 1) c.in-Ok.found.count c.in-Ok.ensures.found c.renew.ensures.time)
+
+pub returns-in-Ok-opened-clause-meta : goal.returns-in-Ok-opened-clause-meta
+returns-in-Ok-opened-clause-meta g c =
+    recovered_meta (g.D.Disk.model c.args.disk) (g.D.Disk.model c.look.new.disk) (g.D.Disk.model c.renew.new.disk) c.look.ensures.only_reads
+    c.in-Ok.found.turn c.in-Ok.found.meta (get nat_cmp c.in-Ok.found.touched.pages 1) c.in-Ok.found.count c.in-Ok.ensures.found
+    c.turn_after.result c.turn_after.ensures (no_error c.renew.result
+    (IfSome (g.D.Disk.model c.look.new.disk).told (λ b. IsFoundIn b c.in-Ok.found.turn c.in-Ok.found.meta (get nat_cmp c.in-Ok.found.touched.pages 1) c.in-Ok.found.count → (s : FileState) → OpensTo b s
+    → IsFresh (g.D.Disk.model c.renew.new.disk) (next_turn c.in-Ok.found.turn) c.in-Ok.found.meta s
+    × ((x : List ℕ) → (g.D.Disk.model c.renew.new.disk).ImageSince ((g.D.Disk.model c.look.new.disk).clock + 1) x → OpensTo x s)))
+    (sym c.is_err.ensures.value ∙ c.if-is_err.false) c.renew.ensures.renewed)
+    (seen_as c.in-Ok-opened.store).meta c.in-Ok-opened.ensures.new.meta_is
 
 pub returns-clause-even_after_fault : goal.returns-clause-even_after_fault
 returns-clause-even_after_fault g c = λ s is_even.
