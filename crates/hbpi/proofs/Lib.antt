@@ -24,6 +24,11 @@ mod EffectSteps
 mod WalkSteps
 mod WalkSafe
 mod NewCore
+pub mod RunSteps
+pub mod PageWrites
+pub mod Renewed
+pub mod SyncedRuns
+pub mod Recovered
 pub mod LinesInOrder
 pub mod FirstAnswers
 pub mod SettledLater
