@@ -1,6 +1,7 @@
 //! Files that are damaged or cut short. Nothing is written to any of them.
 
 use super::{Left, drive_on, new_file};
+use hb_disk::Disk;
 use std::alloc::Global;
 
 /// A file in which a line was put into the log area 1.

@@ -209,17 +209,19 @@ fn six_left(alloc: Global) -> Option<Vec<u8>> {
     six(alloc)?.disk.bytes().to_vec(alloc).ok()
 }
 
-/// The device calls of a recovery that a log makes write the page: one more than of a new file.
-const WITH_LOG: u64 = 18;
+/// The device calls of a recovery over the log of five frames. It reads two superblocks, two pieces of each frame and the
+/// closed gate behind them; then come a sync, the write of the page, a sync, a zero, a sync, a read, and the six calls of
+/// the superblock.
+const WITH_LOG: u64 = 25;
 
 #[test]
 fn a_stopped_recovery_changes_no_record(rt: HostRuntime) {
     let bytes = six_left(rt.alloc()).expect(&rt, "memory");
     let left = failing(rt.alloc(), "drive", "", &bytes, NEVER).expect(&rt, "memory");
     assert_eq!(rt; left.said.as_str(), "0 order\n");
-    let calls = left.disk.calls();
+    assert_eq!(rt; left.disk.calls(), WITH_LOG);
     let wants = [PREFIXES[6], PREFIXES[6]];
-    for before in 0..calls + 1 {
+    for before in 0..WITH_LOG + 1 {
         let said = all_say(rt.alloc(), &left.disk, before, ALL, wants).expect(&rt, "memory");
         assert!(rt; said, "{before}");
     }
