@@ -12,3 +12,4 @@ pub mod Made
 pub mod Found
 pub mod LinesInOrder
 pub mod FirstAnswers
+pub mod ScheduleRuns

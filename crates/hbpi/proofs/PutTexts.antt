@@ -10,7 +10,7 @@ use Rattle.hbpi.specs.Ends.{HasPut, PutsMore, EndsBySink, EndsRun}
 use Rattle.hbpi.specs.Outcome.{IsDryRun}
 use Rattle.hb_set.specs.declared.scripts.Line.{Line}
 use Rattle.hbpi.specs.declared.statuses.Status.{Status}
-use Rattle.hbpi.specs.declared.statuses.Status.TheVariants.{Done, Usage, BadText, SourceFault, SinkFault, NoMemory, NotBuilt}
+use Rattle.hbpi.specs.declared.statuses.Status.TheVariants.{Done, Usage, BadText, SourceFault, SinkFault, DiskFault, Damaged, NoMemory, BadLayout, Small, NotBuilt}
 
 -- nothing was put yet
 pub has_put_none : (a : Option (List ℕ)) (faults : ℕ) (answered : List Answered) → answered ≡ [] → HasPut a a faults faults false (flat_map answer_text answered)
@@ -47,6 +47,10 @@ run_ends held mid holds f g h failed lines answered order (BadText bad) run put 
 run_ends held mid holds f g h failed lines answered order SourceFault run put more = absurd more
 run_ends held mid holds f g h failed lines answered order NoMemory run put more = absurd more
 run_ends held mid holds f g h failed lines answered order NotBuilt run put more = absurd more
+run_ends held mid holds f g h failed lines answered order DiskFault run put more = absurd more
+run_ends held mid holds f g h failed lines answered order (Damaged damage) run put more = absurd more
+run_ends held mid holds f g h failed lines answered order (BadLayout field value) run put more = absurd more
+run_ends held mid holds f g h failed lines answered order (Small needed found) run put more = absurd more
 
 pub finished_run : (held mid holds : Option (List ℕ)) (f g h : ℕ) (failed : Bool) (lines : List Line) (answered kept : List Answered) (order ordered : List ℕ) (status : Status) → IsDryRun lines answered order → HasPut held mid f g failed (flat_map answer_text answered) → EndsBySink mid holds g h failed order status → kept ≡ answered → ordered ≡ order → EndsRun held holds f h lines kept ordered status
 finished_run held mid holds f g h failed lines answered kept order ordered status run put more kept_is ordered_is =

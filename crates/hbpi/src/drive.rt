@@ -8,6 +8,7 @@ ghost use Rattle.hb_set.specs.Scripts.{IsScriptFor};
 ghost use Rattle.hb_set.specs.declared.scripts.Line.{Line as Entry};
 ghost use Rattle.hb_text.specs.Output.{reply_text, answer_text, left_text, order_text};
 ghost use Rattle.hbpi.specs.Ends.{HasPut, PutsMore};
+ghost use Rattle.hb_store.specs.declared.stops.StopWhy.TheVariants.{WriteFault};
 ghost use Rattle.hbpi.specs.Core.{CoreKeeps, IsCore, IsServed, AnswersFirst, answers_of, settled_of};
 ghost use Rattle.hbpi.specs.Moves.{MovesOn, HasOrder};
 ghost use Rattle.hbpi.specs.CoreSeen.{core_seen, core_disk};
@@ -105,7 +106,7 @@ fn take_steps<D: Disk, K: Sink>(
     ensures lines { (core_seen core.new).lines ≡ (core_seen core.old).lines }
     ensures put { HasPut (K.written sink.old) (K.written sink.new) (K.faults sink.old) (K.faults sink.new) result (flat_map answer_text answered.new.items) }
     ensures read_fault { HasReadFault answered.new.items → Rose (D.model (core_disk core.old)).read_faults (D.model (core_disk core.new)).read_faults }
-    ensures write_fault { IsSome (D.model (core_disk core.old)).told → IsSome (core_seen core.new).stop → Rose (D.model (core_disk core.old)).write_faults (D.model (core_disk core.new)).write_faults }
+    ensures write_fault { (core_seen core.new).stop ≡ Some WriteFault → Rose (D.model (core_disk core.old)).write_faults (D.model (core_disk core.new)).write_faults }
     ensures reads_later { (D.model (core_disk core.old)).read_faults ≤ (D.model (core_disk core.new)).read_faults }
     ensures writes_later { (D.model (core_disk core.old)).write_faults ≤ (D.model (core_disk core.new)).write_faults }
 {
@@ -212,7 +213,7 @@ pub(crate) fn drive<D: Disk, K: Sink>(
     ensures unbegun { result.end ≡ End.NoMemory → (result.core ≡ core) × (result.sink ≡ sink) × (result.answered.items ≡ []) }
     ensures ends { DriveEnds result.end (K.written sink) (K.written result.sink) (K.faults sink) (K.faults result.sink) result.answered.items (core_seen result.core) }
     ensures read_fault { result.end ≡ End.ReadFault → Rose (D.model (core_disk core)).read_faults (D.model (core_disk result.core)).read_faults }
-    ensures write_fault { IsSome (D.model (core_disk core)).told → result.end ≡ End.Stopped → Rose (D.model (core_disk core)).write_faults (D.model (core_disk result.core)).write_faults }
+    ensures write_fault { (core_seen result.core).stop ≡ Some WriteFault → Rose (D.model (core_disk core)).write_faults (D.model (core_disk result.core)).write_faults }
     ensures reads_later { (D.model (core_disk core)).read_faults ≤ (D.model (core_disk result.core)).read_faults }
     ensures writes_later { (D.model (core_disk core)).write_faults ≤ (D.model (core_disk result.core)).write_faults }
     ensures sink_later { K.faults sink ≤ K.faults result.sink }

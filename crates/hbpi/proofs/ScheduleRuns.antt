@@ -1,0 +1,226 @@
+-- What a run of a schedule leaves, as the command `drive` says it.
+use Rattle.std.proofs.Common.{◌≡◌, ◌≢◌, ◌⊎◌, inl, inr, ⊎_elim, ℕ, zero, suc, ◌≤◌, List, [], ◌++◌, length, map, take, Option, Some, None, IfSome, IsSome, IsTrue, false, refl, sym, ap, subst, ◌∙◌, arith, MatchOption, append-nil}
+use Rattle.hb_disk.specs.Model.{DiskModel}
+use Rattle.hb_disk.specs.Calls.{Leaves}
+use Rattle.hb_disk.specs.RunLaws.{at_value, if_value}
+use Rattle.hb_outside.specs.Streams.{Rose, Appends, AppendsFront}
+use Rattle.hb_ops.specs.Files.{FileState, contents_of}
+use Rattle.hb_ops.specs.Sound.{IsSound}
+use Rattle.hb_set.specs.declared.scripts.Line.{Line}
+use Rattle.hb_set.specs.declared.scripts.Answered.{Answered}
+use Rattle.hb_store.specs.Keeps.{IsNew, StoreKeeps, last_of}
+use Rattle.hb_store.specs.Opening.{OpensTo, IsEven}
+use Rattle.hb_store.specs.declared.stops.StopWhy.{StopWhy}
+use Rattle.hb_store.specs.declared.stops.StopWhy.TheVariants as stops
+use Rattle.hb_store.specs.declared.stops.Why.{Why}
+use Rattle.hb_text.specs.OutputLaws.{Appends-both, Appends-front, AppendsFront-longer, Appends-none, Rose-later}
+use Rattle.hbpi.specs.Core.{CoreState, CoreKeeps, StepsTo, StepsOn, Walks, Awaits, TakesNext, Moment, StepsAt, Reaches, AnswersFirst, set_of, settled_of}
+use Rattle.hbpi.specs.Drives.{IsStart, RunsTo, DriveEnds, HasReadFault, run_output}
+use Rattle.hbpi.specs.Driven.{IsScheduled, IsServedScript, HasRun, RunsFrom, Drove, IsTurnedAway, IsMetDamaged, GetsOutput, OpenedEnds, status_after, status_by}
+use Rattle.hbpi.specs.Ends.{Seen}
+use Rattle.hbpi.specs.Moves.{MovesOn, HasOrder}
+use Rattle.hbpi.specs.Outcome.{GetsLine, fault_line}
+use Rattle.hbpi.specs.declared.drive.End.{End}
+use Rattle.hbpi.specs.declared.drive.End.TheVariants as ends
+use Rattle.hbpi.specs.declared.engine.session.Session.{Session}
+use Rattle.hbpi.specs.declared.engine.session.Session.TheVariants as sessions
+use Rattle.hbpi.specs.declared.engine.session.Outcome.{Outcome}
+use Rattle.hbpi.specs.declared.statuses.Status.{Status}
+use Rattle.hbpi.specs.declared.statuses.Status.TheVariants.{Done, DiskFault, Damaged, NoMemory, SinkFault}
+
+-- a stop, if any, by a fault of writing
+abbrev MayStop : Option StopWhy → Type 0
+MayStop None = Unit {0}
+MayStop (Some stops.WriteFault) = Unit {0}
+MayStop (Some (stops.Damaged page why)) = ⊥
+
+may_none : (stop : Option StopWhy) → stop ≡ None → MayStop stop
+may_none stop is = subst MayStop (sym is) tt
+
+may_fault : (stop : Option StopWhy) → stop ≡ Some stops.WriteFault → MayStop stop
+may_fault stop is = subst MayStop (sym is) tt
+
+-- over a sound file a core is stopped by a fault of writing alone
+goes_on : (session : Session) (old : CoreState) (s : FileState) (outcome : Outcome) (new : CoreState) (t : FileState) → old.stop ≡ None → StepsOn session old s outcome new t → MayStop new.stop
+goes_on sessions.Idle old s outcome new t going steps = elim steps [
+  | inl takes ↦ may_none new.stop (ap (λ (c : CoreState). c.stop) takes.2)
+  | inr idle ↦ may_none new.stop (ap (λ (c : CoreState). c.stop) idle.2 ∙ going)
+]
+goes_on sessions.Walk old s outcome new t going steps = elim steps.2 [
+  | inl helped ↦ elim helped.3.forced [
+    | inl done ↦ may_none new.stop done.1
+    | inr failed ↦ may_fault new.stop failed.1
+  ]
+  | inr more ↦ elim more [
+    | inl full ↦ may_none new.stop full.3.stop
+    | inr more ↦ elim more [
+      | inl full ↦ may_none new.stop full.2.stop
+      | inr more ↦ elim more [
+        | inl refused ↦ may_none new.stop refused.3.stop
+        | inr effect ↦ may_none new.stop effect.2.stop
+      ]
+    ]
+  ]
+]
+goes_on (sessions.Await reply place) old s outcome new t going steps = elim steps.2 [
+  | inl answered ↦ may_none new.stop (ap (λ (c : CoreState). c.stop) answered.2)
+  | inr forces ↦ elim forces.1.forced [
+    | inl done ↦ may_none new.stop done.1
+    | inr failed ↦ may_fault new.stop failed.1
+  ]
+]
+
+step_may : (stop : Option StopWhy) (old : CoreState) (s : FileState) (outcome : Outcome) (new : CoreState) (t : FileState) → old.stop ≡ stop
+    → MatchOption stop ((new.lines ≡ old.lines) × StepsOn old.session old s outcome new t) (λ why. (outcome ≡ Outcome.Stopped) × (new ≡ old) × (t ≡ s)) → MayStop old.stop → MayStop new.stop
+step_may None old s outcome new t is steps may = goes_on old.session old s outcome new t is steps.1
+step_may (Some why) old s outcome new t is steps may = subst (λ (c : CoreState). MayStop c.stop) (sym steps.1) may
+
+steps_may : (n : ℕ) (from : Moment) (answered : List Answered) (to : Moment) → Reaches n from answered to → MayStop from.core.stop → MayStop to.core.stop
+steps_may zero from answered to reaches may = subst (λ (m : Moment). MayStop m.core.stop) (sym reaches.0) may
+steps_may (suc n) from answered to reaches may =
+    let mid = reaches.0 in
+    let step = reaches.4 in
+    step_may mid.core.stop mid.core mid.file step.outcome to.core to.file refl step.steps (steps_may n from reaches.1 mid reaches.3 may)
+
+-- What is known of a run of a schedule.
+pub record IsRun (d e : DiskModel) (seen : Seen) (k : ℕ) (before after : CoreState) (steps : List ℕ) (end : End) (mid : Option (List ℕ)) (faults : ℕ) : Type 0 where
+  pub scheduled : IsScheduled k seen.left seen.rest before.lines steps
+  pub served : IsServedScript before.lines steps
+  pub start : IsStart before
+  pub opened : IsNew before.store.turn before.store.meta before.store
+  pub attributes : before.store.meta.k ≡ k
+  pub told : IfSome d.told (λ b. (s : FileState) × OpensTo b s × IsSound s × (s.meta ≡ before.store.meta) × (end ≢ ends.NoMemory → RunsTo (length steps) d before s seen.answered e after (contents_of s)))
+  pub moves : end ≢ ends.NoMemory → MovesOn (length steps) before seen.answered after
+  pub first : AnswersFirst after seen.answered
+  pub ordered : HasOrder after
+  pub order : seen.order ≡ after.order
+  pub put : DriveEnds end seen.held mid seen.sink_before faults seen.answered after
+  pub read_fault : end ≡ ends.ReadFault → Rose d.read_faults e.read_faults
+  pub write_fault : after.stop ≡ Some stops.WriteFault → Rose d.write_faults e.write_faults
+  pub sooner : seen.sink_before ≤ faults
+  pub later : faults ≤ seen.sink_after
+
+-- a store that runs is over an even disk
+pub even_store : (d : DiskModel) (st : _) (durable : FileState) (later : List FileState) → StoreKeeps d st durable later → st.stopped ≡ false → IsEven d durable
+even_store d st durable later keeps running = record {
+  told = keeps.told;
+  images = λ c image. elim (keeps.images c image) [
+    | inl by ↦ record { turn = st.turn; said = keeps.said; payloads = keeps.payloads; groups = keeps.written; by = by }
+    | inr stopped ↦ cc (stopped.0, running)
+  ];
+}
+
+even_run : (e : DiskModel) (s : FileState) (after : CoreState) (done : List Line) → CoreKeeps e after (contents_of s) done → after.stop ≡ None
+    → (t : FileState) × IsEven e t × IsSound t × (contents_of t ≡ set_of (contents_of s) (take (settled_of after) done))
+even_run e s after done keeps going =
+    (keeps.durable, even_store e after.store keeps.durable keeps.later keeps.keeps (keeps.running going), keeps.sound_durable, keeps.durable_set)
+
+runs_from : (s : FileState) (steps : ℕ) (d e : DiskModel) (before after : CoreState) (answered : List Answered) → RunsTo steps d before s answered e after (contents_of s) → RunsFrom s steps d e before after answered
+runs_from s steps d e before after answered runs = record {
+  start = d.clock;
+  begun = omega arith;
+  file = runs.file_after;
+  reaches = runs.reaches;
+  done = runs.done;
+  ordered = runs.keeps.ordered;
+  among = runs.keeps.among;
+  legal = runs.legal;
+  replied = runs.replied;
+  sound = subst IsSound runs.file_is runs.keeps.sound;
+  set = ap contents_of (sym runs.file_is) ∙ runs.keeps.set;
+  even = λ going. even_run e s after runs.done runs.keeps going;
+  held = runs.crashes.since;
+  crashes = λ even. runs.crashes;
+}
+
+drove : (d e : DiskModel) (seen : Seen) (k : ℕ) (before after : CoreState) (steps : List ℕ) (end : End) (mid : Option (List ℕ)) (faults : ℕ) → IsRun d e seen k before after steps end mid faults → end ≢ ends.NoMemory → Drove d e seen after
+drove d e seen k before after steps end mid faults run ran = record {
+  k = k;
+  before = before;
+  run = record { steps = steps; scheduled = run.scheduled; served = run.served; start = run.start; opened = run.opened; attributes = run.attributes; moves = run.moves ran; first = run.first; ordered = run.ordered; order = run.order };
+  told = if_value d.told _ (λ b is.
+      let here = at_value d.told _ b is run.told in
+      (here.0, here.1, here.2, here.3, runs_from here.0 (length steps) d e before after seen.answered (here.4 ran)));
+}
+
+-- a line behind an output that was put whole, or in front
+line_behind : (a b c : Option (List ℕ)) (f g : ℕ) (text line : List ℕ) → Appends a b text → GetsLine b c f g line → Appends a c (text ++ line) ⊎ (AppendsFront a c (text ++ line) × Rose f g)
+line_behind a b c f g text line put more = elim more [
+  | inl whole ↦ inl (Appends-both a b c text line put whole)
+  | inr front ↦ inr (Appends-front a b c text line put front.0, front.1)
+]
+
+nothing_behind : (b c : Option (List ℕ)) (f g : ℕ) → GetsLine b c f g [] → Appends b c []
+nothing_behind b c f g more = elim more [
+  | inl whole ↦ whole
+  | inr front ↦ subst (λ (l : List ℕ). Appends b c l) (no_front front.0.0 front.0.1.0 front.0.1.1) front.0.2
+]
+  where
+    no_front : (xs ys : List ℕ) → xs ++ ys ≡ [] → xs ≡ []
+    no_front [] ys is = refl
+    no_front (x ∷ xs) ys is = cc
+
+whole_output : (a b c : Option (List ℕ)) (f g : ℕ) (text : List ℕ) → Appends a b text → GetsLine b c f g [] → Appends a c text
+whole_output a b c f g text put more = subst (λ (l : List ℕ). Appends a c l) (append-nil text) (Appends-both a b c text [] put (nothing_behind b c f g more))
+
+same_sink : (b c : Option (List ℕ)) → Appends b c [] → c ≡ b
+same_sink None c is = is
+same_sink (Some w) c is = is ∙ ap Some (append-nil w)
+
+front_output : (a b c : Option (List ℕ)) (f g : ℕ) (text : List ℕ) → AppendsFront a b text → GetsLine b c f g [] → AppendsFront a c text
+front_output a b c f g text put more = subst (λ (o : Option (List ℕ)). AppendsFront a o text) (sym (same_sink b c (nothing_behind b c f g more))) put
+
+rose_sooner : (a b c : ℕ) → a ≤ b → Rose b c → Rose a c
+rose_sooner a b c le rose = elim rose [
+  | inl lt ↦ inl (omega (arith, le, lt))
+  | inr at_end ↦ inr at_end
+]
+
+gets_output : (d e : DiskModel) (seen : Seen) (k : ℕ) (before after : CoreState) (steps : List ℕ) (end : End) (mid : Option (List ℕ)) (faults : ℕ) (status : Status) → IsRun d e seen k before after steps end mid faults
+    → Appends seen.held mid (run_output seen.answered after) → GetsLine mid seen.holds faults seen.sink_after (fault_line status) → GetsOutput seen after status
+gets_output d e seen k before after steps end mid faults status run put line = elim (line_behind seen.held mid seen.holds faults seen.sink_after (run_output seen.answered after) (fault_line status) put line) [
+  | inl whole ↦ inl whole
+  | inr front ↦ inr (front.0, rose_sooner seen.sink_before faults seen.sink_after run.sooner front.1)
+]
+
+-- over a disk that tells the core is never met damaged
+untold : (d e : DiskModel) (seen : Seen) (k : ℕ) (before after : CoreState) (steps : List ℕ) (end : End) (mid : Option (List ℕ)) (faults page : ℕ) (why : Why) → IsRun d e seen k before after steps end mid faults → end ≢ ends.NoMemory → after.stop ≡ Some (stops.Damaged page why)
+    → (told : Option (List ℕ)) → d.told ≡ told → told ≡ None
+untold d e seen k before after steps end mid faults page why run ran stop None is = refl
+untold d e seen k before after steps end mid faults page why run ran stop (Some b) is =
+    let here = at_value d.told _ b is run.told in
+    let runs = here.4 ran in
+    absurd (subst MayStop stop (steps_may (length steps) _ seen.answered _ runs.reaches (may_none before.stop run.start.going)))
+
+stopped_ends : (stop : Option StopWhy) (d e : DiskModel) (seen : Seen) (k : ℕ) (before after : CoreState) (steps : List ℕ) (mid : Option (List ℕ)) (faults : ℕ) → IsRun d e seen k before after steps ends.Stopped mid faults → after.stop ≡ stop
+    → GetsLine mid seen.holds faults seen.sink_after (fault_line (status_by stop)) → OpenedEnds d e seen (status_by stop)
+stopped_ends None d e seen k before after steps mid faults run is line = cc (run.put.1, is)
+stopped_ends (Some stops.WriteFault) d e seen k before after steps mid faults run is line =
+    (after, inr (run.write_fault is), drove d e seen k before after steps ends.Stopped mid faults run cc, inl is, gets_output d e seen k before after steps ends.Stopped mid faults DiskFault run run.put.0 line)
+stopped_ends (Some (stops.Damaged page why)) d e seen k before after steps mid faults run is line = record {
+  untold = untold d e seen k before after steps ends.Stopped mid faults page why run cc is d.told refl;
+  after = after;
+  drove = drove d e seen k before after steps ends.Stopped mid faults run cc;
+  page = page;
+  why = why;
+  stop = is;
+  damage_is = refl;
+  output = gets_output d e seen k before after steps ends.Stopped mid faults (status_by (Some (stops.Damaged page why))) run run.put.0 line;
+}
+
+run_ends : (end : End) (d e : DiskModel) (seen : Seen) (k : ℕ) (before after : CoreState) (steps : List ℕ) (mid : Option (List ℕ)) (faults : ℕ) → IsRun d e seen k before after steps end mid faults
+    → (end ≡ ends.NoMemory → IsTurnedAway d e seen NoMemory) → GetsLine mid seen.holds faults seen.sink_after (fault_line (status_after end after.stop)) → OpenedEnds d e seen (status_after end after.stop)
+run_ends ends.Finished d e seen k before after steps mid faults run idle line =
+    (after, drove d e seen k before after steps ends.Finished mid faults run cc, whole_output seen.held mid seen.holds faults seen.sink_after (run_output seen.answered after) run.put.0 line, run.put.1, run.put.2)
+run_ends ends.NoMemory d e seen k before after steps mid faults run idle line = idle refl
+run_ends ends.SinkFault d e seen k before after steps mid faults run idle line =
+    (after, drove d e seen k before after steps ends.SinkFault mid faults run cc, front_output seen.held mid seen.holds faults seen.sink_after (run_output seen.answered after) run.put.0 line, Rose-later seen.sink_before faults seen.sink_after run.put.1 run.later)
+run_ends ends.ReadFault d e seen k before after steps mid faults run idle line =
+    (after, inl (run.read_fault refl), drove d e seen k before after steps ends.ReadFault mid faults run cc, inr (run.put.1, run.put.2), gets_output d e seen k before after steps ends.ReadFault mid faults DiskFault run run.put.0 line)
+run_ends ends.Stopped d e seen k before after steps mid faults run idle line = stopped_ends after.stop d e seen k before after steps mid faults run refl line
+
+pub schedule_ends : (end : End) (status : Status) (d e : DiskModel) (seen : Seen) (k : ℕ) (before after : CoreState) (steps : List ℕ) (mid : Option (List ℕ)) (faults : ℕ) → IsRun d e seen k before after steps end mid faults
+    → status ≡ status_after end after.stop → (end ≡ ends.NoMemory → IsTurnedAway d e seen NoMemory) → GetsLine mid seen.holds faults seen.sink_after (fault_line status) → OpenedEnds d e seen status
+schedule_ends end status d e seen k before after steps mid faults run is idle line =
+    let onward : GetsLine mid seen.holds faults seen.sink_after (fault_line (status_after end after.stop)) = subst (λ (x : Status). GetsLine mid seen.holds faults seen.sink_after (fault_line x)) is line in
+    subst (λ (x : Status). OpenedEnds d e seen x) (sym is) (run_ends end d e seen k before after steps mid faults run idle onward)
