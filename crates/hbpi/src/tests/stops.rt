@@ -132,7 +132,9 @@ fn six(alloc: Global) -> Option<Left> {
     failing(alloc, "drive", SIX, new_file(alloc)?.as_slice(), NEVER)
 }
 
-// It was tried whether this test can fail: see the notes in trials/README.md, "A force without a sync".
+// That this test can fail was tried on 2026-11-27 in a throwaway copy, in which a second write of the same bytes stood in
+// the place of a sync of `Wal::force`. Without its first sync the rows 19, 23, 27, 31 and 35 broke, without its second one
+// the rows 20, 21, 24, 25, 28, 29, 32, 33 and 36 (trials/README.md).
 #[test]
 fn a_stopped_drive_leaves_a_prefix(rt: HostRuntime) {
     let left = six(rt.alloc()).expect(&rt, "memory");
