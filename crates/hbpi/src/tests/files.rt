@@ -213,6 +213,38 @@ fn drives_what_was_left(rt: HostRuntime) {
     }
 }
 
+/// Changes that fill a log area of 65,536 bytes: an insert and a delete of the point 1 in turn, so many, and a lookup.
+///
+/// The first frame has the image and 4,120 bytes, each later delete 19 and each later insert 20. A change is begun where
+/// the log has at most 49,147 bytes, so that a group of 16,384 fits. Behind the 2,310th change it has 4,120 + 1,154 * 39
+/// + 19 = 49,145, and behind the 2,311th 49,165. So the 2,312th line is `full`, though it is a delete.
+fn filling(alloc: Global) -> Option<(String, String)> {
+    let mut text = String::new(alloc);
+    let mut want = String::from_str(alloc, "0 ").ok()?;
+    let mut order = String::from_str(alloc, "order").ok()?;
+    for line in 1..2312 {
+        let verb = if line % 2 == 1 { "insert 1 =" } else { "delete 1" };
+        write!(text, "1 {verb}\n").ok()?;
+        write!(want, "{line} ok\n").ok()?;
+        write!(order, " {line}").ok()?;
+    }
+    write!(text, "1 delete 1\n1 lookup 1\nstep 1x9249\n").ok()?;
+    write!(want, "2312 full\n2313 found =\n{order} 2313\n").ok()?;
+    Some((text, want))
+}
+
+#[test]
+fn a_log_fills(rt: HostRuntime) {
+    let (text, want) = filling(rt.alloc()).expect(&rt, "memory");
+    let bytes = new_file(rt.alloc()).expect(&rt, "memory");
+    let left = drive_on(rt.alloc(), text.as_str(), &bytes).expect(&rt, "memory");
+    assert_eq!(rt; left.said.as_str(), want.as_str());
+    // the next run has an empty log
+    let text = "1 lookup 1\n1 delete 1\n1 lookup 1\nstep 1x10\n";
+    let next = drive_on(rt.alloc(), text, left.disk.bytes()).expect(&rt, "memory");
+    assert_eq!(rt; next.said.as_str(), "0 1 found =\n2 ok\n3 none\norder 1 2 3\n");
+}
+
 /// The bytes that a number of runs of `drive`, each inserting its own number, leave of a new file.
 fn inserted(alloc: Global, runs: u64) -> Option<Vec<u8>> {
     let mut bytes = new_file(alloc)?;

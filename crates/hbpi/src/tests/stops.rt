@@ -1,6 +1,6 @@
 //! A crash before each device call, and each device call failing.
 
-use super::{Left, SIZE, drive_on, new_file, run_over};
+use super::{Left, SIZE, drive_on, new_file, run_on, run_over};
 use hb_disk::{Disk, MemDisk, Pick};
 use std::alloc::Global;
 
@@ -239,5 +239,47 @@ fn a_call_of_a_recovery_fails(rt: HostRuntime) {
         let calls = left.disk.calls();
         let said = all_say(rt.alloc(), &left.disk, calls, ALL, wants).expect(&rt, "memory");
         assert!(rt; said, "{call}");
+    }
+}
+
+/// The bytes that the six commands leave of a new file of one page.
+fn six_on_one_page(alloc: Global) -> Option<Vec<u8>> {
+    let zeros = vec![in alloc; 0; 143_360].ok()?;
+    let left = run_on(alloc, "create 1 1 65536 6 32", "", zeros)?;
+    let left = drive_on(alloc, SIX, left.disk.bytes())?;
+    left.disk.bytes().to_vec(alloc).ok()
+}
+
+/// The first call of a recovery before which a crash that leaves noise loses a record; the number of calls where none
+/// does.
+fn first_loss(alloc: Global, disk: &MemDisk) -> Option<u64> {
+    let calls = disk.calls();
+    let wants = [PREFIXES[6], PREFIXES[6]];
+    for before in 0..calls {
+        if !one_says(alloc, disk, before, Pick::Noise(165), ALL, wants)? {
+            return Some(before);
+        }
+    }
+    Some(calls)
+}
+
+/// Whether a recovery of what a crash before this call might have left, stopped in its turn before each of its calls,
+/// keeps all records.
+fn stops_twice(alloc: Global, disk: &MemDisk, before: u64, pick: Pick) -> Option<bool> {
+    let image = disk.image(before, pick).ok()??;
+    let second = drive_on(alloc, "", image.as_slice())?;
+    let calls = second.disk.calls();
+    Some(calls >= 12 && first_loss(alloc, &second.disk)? == calls)
+}
+
+#[test]
+fn a_recovery_stops_twice(rt: HostRuntime) {
+    let bytes = six_on_one_page(rt.alloc()).expect(&rt, "memory");
+    let left = failing(rt.alloc(), "drive", "", &bytes, NEVER).expect(&rt, "memory");
+    assert_eq!(rt; left.disk.calls(), WITH_LOG);
+    // the calls behind the reads of the log
+    for before in 13..WITH_LOG + 1 {
+        let kept = stops_twice(rt.alloc(), &left.disk, before, Pick::Noise(165));
+        assert!(rt; kept == Some(true), "{before}");
     }
 }
