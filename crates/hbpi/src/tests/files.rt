@@ -92,8 +92,18 @@ fn over_sevens(alloc: Global, words: &str, count: usize) -> Option<(String, bool
 #[test]
 fn refusals_leave_the_disk(rt: HostRuntime) {
     let rows = [
-        ("create 2 64 65536 6 32", 401_407, "9 small 401408 401407\n", true),
-        ("create 2 64 65536 5 32", 401_408, "9 bad layout DCAP 5\n", true),
+        (
+            "create 2 64 65536 6 32",
+            401_407,
+            "9 small 401408 401407\n",
+            true,
+        ),
+        (
+            "create 2 64 65536 5 32",
+            401_408,
+            "9 bad layout DCAP 5\n",
+            true,
+        ),
         ("create 2 64 65536 6 32", 401_408, "0 created\n", false),
         ("create 2 64 65536 6 32", 401_409, "0 created\n", false),
         ("drive", 8_191, "9 small 8192 8191\n", true),
@@ -223,7 +233,11 @@ fn filling(alloc: Global) -> Option<(String, String)> {
     let mut want = String::from_str(alloc, "0 ").ok()?;
     let mut order = String::from_str(alloc, "order").ok()?;
     for line in 1..2312 {
-        let verb = if line % 2 == 1 { "insert 1 =" } else { "delete 1" };
+        let verb = if line % 2 == 1 {
+            "insert 1 ="
+        } else {
+            "delete 1"
+        };
         write!(text, "1 {verb}\n").ok()?;
         write!(want, "{line} ok\n").ok()?;
         write!(order, " {line}").ok()?;
@@ -242,7 +256,10 @@ fn a_log_fills(rt: HostRuntime) {
     // the next run has an empty log
     let text = "1 lookup 1\n1 delete 1\n1 lookup 1\nstep 1x10\n";
     let next = drive_on(rt.alloc(), text, left.disk.bytes()).expect(&rt, "memory");
-    assert_eq!(rt; next.said.as_str(), "0 1 found =\n2 ok\n3 none\norder 1 2 3\n");
+    assert_eq!(rt;
+        next.said.as_str(),
+        "0 1 found =\n2 ok\n3 none\norder 1 2 3\n"
+    );
 }
 
 /// The bytes that a number of runs of `drive`, each inserting its own number, leave of a new file.
@@ -376,14 +393,24 @@ fn streams_fail(rt: HostRuntime) {
     let text = b"1 insert 1 =a\n1 lookup 2\n1 delete 1\nstep 1x9\n";
     let bad = b"step 0\n";
     let rows: [(&[u8], &[u64], &[u64], &str); 12] = [
-        (text, &[], &[], "0 1 ok\n2 none\n3 unfinished\norder 1 2 | 3\n"),
+        (
+            text,
+            &[],
+            &[],
+            "0 1 ok\n2 none\n3 unfinished\norder 1 2 | 3\n",
+        ),
         (text, &[0], &[], "4 source fault\n"),
         (text, &[1], &[], "4 source fault\n"),
         (text, &[], &[0], "5 "),
         (text, &[], &[1], "5 1 ok\n"),
         (text, &[], &[2], "5 1 ok\n2 none\n"),
         (text, &[], &[3], "5 1 ok\n2 none\n3 unfinished\n"),
-        (text, &[], &[4], "0 1 ok\n2 none\n3 unfinished\norder 1 2 | 3\n"),
+        (
+            text,
+            &[],
+            &[4],
+            "0 1 ok\n2 none\n3 unfinished\norder 1 2 | 3\n",
+        ),
         (text, &[0], &[0], "4 "),
         (bad, &[], &[], "3 bad text 1 BadStep\n"),
         (bad, &[], &[0], "3 "),

@@ -47,8 +47,8 @@ const TWO_LEAVES: [u8; 36] = [
 
 /// A page with the records of 6 and of 5, in this order.
 const UNORDERED: [u8; 41] = [
-    1, 0, 1, 0, 0, 0, 0, 0, 0, 0, 0, 0, 255, 255, 255, 255, 255, 255, 255, 255, 1, 0, 2, 0, 0, 0, 0,
-    0, 0, 0, 6, 0, 0, 0, 0, 0, 0, 0, 0, 5, 0,
+    1, 0, 1, 0, 0, 0, 0, 0, 0, 0, 0, 0, 255, 255, 255, 255, 255, 255, 255, 255, 1, 0, 2, 0, 0, 0,
+    0, 0, 0, 0, 6, 0, 0, 0, 0, 0, 0, 0, 0, 5, 0,
 ];
 
 /// Where page 1 stands.
@@ -76,7 +76,10 @@ fn damaged_files_are_refused(rt: HostRuntime) {
         // page 1
         ([(PAGE_1, b"\x09"), none], "7 damaged 1 S0\n"),
         ([(PAGE_1 + 4095, b"\x01"), none], "7 damaged 1 S0\n"),
-        ([(PAGE_1, b"\x02\0\0\0\0"), (PAGE_1 + 12, &[0; 9])], "7 damaged 0 S1\n"),
+        (
+            [(PAGE_1, b"\x02\0\0\0\0"), (PAGE_1 + 12, &[0; 9])],
+            "7 damaged 0 S1\n",
+        ),
         ([(PAGE_1 + 1, b"\x01"), none], "7 damaged 0 S1\n"),
         ([(PAGE_1 + 11, b"\x01"), none], "7 damaged 0 S1\n"),
         ([(PAGE_1, &NO_CUT), none], "7 damaged 1 S4\n"),
@@ -121,7 +124,10 @@ fn damaged_logs_are_refused(rt: HostRuntime) {
         ([(77_854, b"\x01"), none], "7 bad group 1\n"),
         // a put of 5 once more, a delete of 6, which isn't there, and a body that is longer than its frame
         ([(77_867, b"\x05"), none], "7 bad group 1\n"),
-        ([(77_850, b"\0\0\0\x0E\0\x02\0\0\0\x01"), none], "7 bad group 1\n"),
+        (
+            [(77_850, b"\0\0\0\x0E\0\x02\0\0\0\x01"), none],
+            "7 bad group 1\n",
+        ),
         ([(77_868, b"\x02"), none], "7 bad group 1\n"),
         ([(77_870, b"\xA5\0\0\0\0"), none], "7 bad group 2\n"),
         // the superblock of the old turn has no group and the page without a record

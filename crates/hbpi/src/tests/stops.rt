@@ -45,6 +45,7 @@ fn all_say(
 
 /// A text that asks for one record, and what it says where there is none.
 const ONE: &str = "1 lookup 1\nstep 1x3\n";
+
 const NONE: &str = "0 1 none\norder 1\n";
 
 #[test]
@@ -55,8 +56,14 @@ fn a_stopped_create_leaves_no_record(rt: HostRuntime) {
         let bytes = vec![in rt.alloc(); byte; SIZE].expect(&rt, "memory");
         let left = failing(rt.alloc(), words, "", &bytes, NEVER).expect(&rt, "memory");
         assert_eq!(rt; left.disk.calls(), 9);
-        assert!(rt; stops_say(rt.alloc(), &left.disk, 9, ["7 no super\n", NONE]) == Some(9), "{byte}");
-        assert!(rt; all_say(rt.alloc(), &left.disk, 9, ONE, [NONE, NONE]) == Some(true), "{byte}");
+        assert!(rt;
+            stops_say(rt.alloc(), &left.disk, 9, ["7 no super\n", NONE]) == Some(9),
+            "{byte}"
+        );
+        assert!(rt;
+            all_say(rt.alloc(), &left.disk, 9, ONE, [NONE, NONE]) == Some(true),
+            "{byte}"
+        );
     }
 }
 
@@ -80,7 +87,10 @@ fn a_call_of_create_fails(rt: HostRuntime) {
         let calls = left.disk.calls();
         assert_eq!(rt; calls, call + 1);
         let wants = ["7 no super\n", NONE];
-        assert!(rt; all_say(rt.alloc(), &left.disk, calls, ONE, wants) == Some(true), "{call}");
+        assert!(rt;
+            all_say(rt.alloc(), &left.disk, calls, ONE, wants) == Some(true),
+            "{call}"
+        );
     }
     let left = failing(rt.alloc(), words, "", &zeros, 9).expect(&rt, "memory");
     assert_eq!(rt; left.said.as_str(), "0 created\n");
@@ -153,7 +163,18 @@ fn answers_come_behind_their_forces(rt: HostRuntime) {
     let left = six(rt.alloc()).expect(&rt, "memory");
     // the calls behind which one more line is answered
     let rows = [
-        (0, 0), (15, 0), (19, 0), (20, 1), (23, 1), (24, 2), (27, 2), (28, 3), (31, 3), (32, 5), (35, 5), (36, 6),
+        (0, 0),
+        (15, 0),
+        (19, 0),
+        (20, 1),
+        (23, 1),
+        (24, 2),
+        (27, 2),
+        (28, 3),
+        (31, 3),
+        (32, 5),
+        (35, 5),
+        (36, 6),
     ];
     for (calls, want) in rows {
         assert_eq!(rt; answered_by(&left, calls), want, "{calls}");
