@@ -52,6 +52,13 @@ fn run_over(
     })
 }
 
+/// Puts bytes at a place, as far as there are places.
+fn put_at(bytes: &mut Vec<u8>, at: usize, piece: &[u8]) {
+    for (place, byte) in bytes.iter_mut().skip(at).zip(piece) {
+        *place = *byte;
+    }
+}
+
 /// The exit status of a run over an empty disk, and what its sink got.
 fn outcome(
     alloc: Global,

@@ -1,6 +1,6 @@
 //! Files that are made and driven. Places and bytes are worked out from `docs/FORMAT.md`.
 
-use super::{SIZE, drive_on, made, new_file, plain, run_on, run_over};
+use super::{SIZE, drive_on, made, new_file, plain, put_at, run_on, run_over};
 use crate::restart::creation::create;
 use crate::restart::layout::Layout;
 use crate::restart::recovery::recover;
@@ -295,7 +295,13 @@ fn keeps_records_over_many_turns(rt: HostRuntime) {
 fn makes_these_bytes(rt: HostRuntime) {
     let bytes = new_file(rt.alloc()).expect(&rt, "memory");
     assert!(rt; stands(&bytes, 0, &SUPER));
-    assert!(rt; bytes[SUPER.len()..PAGE_1].iter().all(|byte| *byte == 0));
+    assert!(rt;
+        bytes
+            .iter()
+            .take(PAGE_1)
+            .skip(SUPER.len())
+            .all(|byte| *byte == 0)
+    );
     assert!(rt; stands_page(&bytes, PAGE_1, &EMPTY));
     assert!(rt; bytes.iter().skip(PAGE_1 + 4096).all(|byte| *byte == 0));
     assert_eq!(rt; bytes.len(), SIZE);
@@ -374,7 +380,7 @@ fn files_of_more_pages_are_not_built(rt: HostRuntime) {
     // the last byte of the high mark, and the height
     for (at, byte) in [(32, 2), (32, 65), (29, 1), (12, 2), (12, 12)] {
         let mut bytes = new_file(rt.alloc()).expect(&rt, "memory");
-        bytes[at] = byte;
+        put_at(&mut bytes, at, &[byte]);
         let text = "1 insert 1 =a\nstep 1x4\n";
         let left = drive_on(rt.alloc(), text, &bytes).expect(&rt, "memory");
         assert_eq!(rt; left.said.as_str(), "11 not built\n", "{at}");

@@ -1,6 +1,6 @@
 //! Files that are damaged or cut short. Nothing is written to any of them.
 
-use super::{Left, drive_on, new_file};
+use super::{Left, drive_on, new_file, put_at};
 use hb_disk::Disk;
 use std::alloc::Global;
 
@@ -9,13 +9,6 @@ fn logged(alloc: Global) -> Option<Vec<u8>> {
     let text = "1 insert 5 =a\n1 insert 6 =b\nstep 1x8\n";
     let left = drive_on(alloc, text, new_file(alloc)?.as_slice())?;
     left.disk.bytes().to_vec(alloc).ok()
-}
-
-/// Puts bytes at a place, as far as there are places.
-fn put_at(bytes: &mut Vec<u8>, at: usize, piece: &[u8]) {
-    for (place, byte) in bytes.iter_mut().skip(at).zip(piece) {
-        *place = *byte;
-    }
 }
 
 /// What `drive` of an insert leaves of a file in which these bytes were put at two places.
