@@ -1,5 +1,5 @@
 -- The answered lines are the first ones, and the order has lines that were taken: both stay so over a step.
-use Rattle.std.proofs.Common.{◌≡◌, ◌≢◌, ◌⊎◌, inl, inr, ℕ, zero, suc, ◌+◌, ◌-◌, ◌<◌, ◌≤◌, List, [], ◌∷◌, ◌++◌, length, map, take, Option, Some, None, refl, sym, ap, ◌∙◌, subst, arith, append-nil}
+use Rattle.std.proofs.Common.{◌≡◌, ◌≢◌, ◌⊎◌, inl, inr, ℕ, zero, suc, ◌+◌, ◌-◌, ◌<◌, List, [], ◌∷◌, ◌++◌, map, take, Some, refl, sym, ap, ◌∙◌, subst, arith, append-nil}
 use Rattle.std.proofs.lemmas.List.{map-append}
 use Rattle.std.specs.List.{AllByRecursion, slice_get}
 use Rattle.hb_set.specs.Order.{AreRising}
@@ -172,7 +172,8 @@ order_more old new outcomes.Helped done moves was = same_order old new done move
 order_more old new (outcomes.Answered number reply) done moves was = gets_order old new done number reply moves.lines moves.by was
 order_more old new outcomes.Moved done moves was = moved_order old new done moves.lines moves.by was
 
-lower_lines : (n : ℕ) (answered : List Answered) (ls : List Line) → answer_numbers answered ≡ numbers ls → Below n ls → AllByRecursion (λ (a : Answered). a.line < n) answered
+-- answers to lines whose numbers are below one
+pub lower_lines : (n : ℕ) (answered : List Answered) (ls : List Line) → answer_numbers answered ≡ numbers ls → Below n ls → AllByRecursion (λ (a : Answered). a.line < n) answered
 lower_lines n [] ls same below = tt
 lower_lines n (a ∷ rest) [] same below = cc
 lower_lines n (a ∷ rest) (l ∷ ls) same below =

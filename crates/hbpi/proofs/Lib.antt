@@ -12,4 +12,10 @@ pub mod Made
 pub mod Found
 pub mod LinesInOrder
 pub mod FirstAnswers
+pub mod SettledLater
+pub mod Running
+pub mod TakenSteps
+pub mod RestOfOutput
 pub mod ScheduleRuns
+pub mod Reopened
+pub mod Promises

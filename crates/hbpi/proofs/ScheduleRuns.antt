@@ -1,14 +1,15 @@
 -- What a run of a schedule leaves, as the command `drive` says it.
-use Rattle.std.proofs.Common.{◌≡◌, ◌≢◌, ◌⊎◌, inl, inr, ⊎_elim, ℕ, zero, suc, ◌≤◌, List, [], ◌++◌, length, map, take, Option, Some, None, IfSome, IsSome, IsTrue, false, refl, sym, ap, subst, ◌∙◌, arith, MatchOption, append-nil}
-use Rattle.hb_disk.specs.Model.{DiskModel}
+use Rattle.std.proofs.Common.{◌≡◌, ◌≢◌, ◌⊎◌, inl, inr, ⊎_elim, ℕ, zero, suc, ◌≤◌, List, [], ◌∷◌, ◌++◌, length, map, take, Option, Some, None, IfSome, IsSome, IsTrue, false, refl, sym, ap, subst, ◌∙◌, arith, MatchOption, append-nil}
+use Rattle.hb_disk.specs.Model.{DiskModel, IsDisk}
+use Rattle.hb_ops.specs.declared.meta.Meta.{Meta}
 use Rattle.hb_disk.specs.Calls.{Leaves}
-use Rattle.hb_disk.specs.RunLaws.{at_value, if_value}
+use Rattle.hb_disk.specs.RunLaws.{at_value, if_value, has_value, Leaves-start}
 use Rattle.hb_outside.specs.Streams.{Rose, Appends, AppendsFront}
 use Rattle.hb_ops.specs.Files.{FileState, contents_of}
 use Rattle.hb_ops.specs.Sound.{IsSound}
 use Rattle.hb_set.specs.declared.scripts.Line.{Line}
 use Rattle.hb_set.specs.declared.scripts.Answered.{Answered}
-use Rattle.hb_store.specs.Keeps.{IsNew, StoreKeeps, last_of}
+use Rattle.hb_store.specs.Keeps.{StoreState, IsNew, StoreKeeps, last_of}
 use Rattle.hb_store.specs.Opening.{OpensTo, IsEven}
 use Rattle.hb_store.specs.declared.stops.StopWhy.{StopWhy}
 use Rattle.hb_store.specs.declared.stops.StopWhy.TheVariants as stops
@@ -16,8 +17,8 @@ use Rattle.hb_store.specs.declared.stops.Why.{Why}
 use Rattle.hb_text.specs.OutputLaws.{Appends-both, Appends-front, AppendsFront-longer, Appends-none, Rose-later}
 use Rattle.hbpi.specs.Core.{CoreState, CoreKeeps, StepsTo, StepsOn, Walks, Awaits, TakesNext, Moment, StepsAt, Reaches, AnswersFirst, set_of, settled_of}
 use Rattle.hbpi.specs.Drives.{IsStart, RunsTo, DriveEnds, HasReadFault, run_output}
-use Rattle.hbpi.specs.Driven.{IsScheduled, IsServedScript, HasRun, RunsFrom, Drove, IsTurnedAway, IsMetDamaged, GetsOutput, OpenedEnds, status_after, status_by}
-use Rattle.hbpi.specs.Ends.{Seen}
+use Rattle.hbpi.specs.Driven.{IsScheduled, IsServedScript, HasRun, RunsFrom, Drove, IsTurnedAway, IsMetDamaged, GetsOutput, OpenedEnds, NotScheduled, status_after, status_by}
+use Rattle.hbpi.specs.Ends.{Seen, IsRefused}
 use Rattle.hbpi.specs.Moves.{MovesOn, HasOrder}
 use Rattle.hbpi.specs.Outcome.{GetsLine, fault_line}
 use Rattle.hbpi.specs.declared.drive.End.{End}
@@ -26,7 +27,7 @@ use Rattle.hbpi.specs.declared.engine.session.Session.{Session}
 use Rattle.hbpi.specs.declared.engine.session.Session.TheVariants as sessions
 use Rattle.hbpi.specs.declared.engine.session.Outcome.{Outcome}
 use Rattle.hbpi.specs.declared.statuses.Status.{Status}
-use Rattle.hbpi.specs.declared.statuses.Status.TheVariants.{Done, DiskFault, Damaged, NoMemory, SinkFault}
+use Rattle.hbpi.specs.declared.statuses.Status.TheVariants.{Done, Usage, BadText, SourceFault, SinkFault, DiskFault, Damaged, NoMemory, BadLayout, Small, NotBuilt}
 
 -- a stop, if any, by a fault of writing
 abbrev MayStop : Option StopWhy → Type 0
@@ -56,7 +57,7 @@ goes_on sessions.Walk old s outcome new t going steps = elim steps.2 [
     | inr more ↦ elim more [
       | inl full ↦ may_none new.stop full.2.stop
       | inr more ↦ elim more [
-        | inl refused ↦ may_none new.stop refused.3.stop
+        | inl refused ↦ may_none new.stop refused.1.2.stop
         | inr effect ↦ may_none new.stop effect.2.stop
       ]
     ]
@@ -98,10 +99,13 @@ pub record IsRun (d e : DiskModel) (seen : Seen) (k : ℕ) (before after : CoreS
   pub read_fault : end ≡ ends.ReadFault → Rose d.read_faults e.read_faults
   pub write_fault : after.stop ≡ Some stops.WriteFault → Rose d.write_faults e.write_faults
   pub sooner : seen.sink_before ≤ faults
-  pub later : faults ≤ seen.sink_after
+  pub silent : end ≡ ends.SinkFault → (seen.holds ≡ mid) × (seen.sink_after ≡ faults)
+
+apart_stopped : ends.Stopped ≢ ends.NoMemory
+apart_stopped same = cc (same)
 
 -- a store that runs is over an even disk
-pub even_store : (d : DiskModel) (st : _) (durable : FileState) (later : List FileState) → StoreKeeps d st durable later → st.stopped ≡ false → IsEven d durable
+pub even_store : (d : DiskModel) (st : StoreState) (durable : FileState) (later : List FileState) → StoreKeeps d st durable later → st.stopped ≡ false → IsEven d durable
 even_store d st durable later keeps running = record {
   told = keeps.told;
   images = λ c image. elim (keeps.images c image) [
@@ -109,6 +113,24 @@ even_store d st durable later keeps running = record {
     | inr stopped ↦ cc (stopped.0, running)
   ];
 }
+
+-- no command was done over a store that was just opened
+pub turned_away : (d : DiskModel) (st : StoreState) (seen : Seen) (status : Status) → IsDisk d → (IsSome d.told → (s : FileState) × IsSound s × StoreKeeps d st s []) → st.stopped ≡ false → IsRefused seen status → IsTurnedAway st.meta.k d d seen status
+turned_away d st seen status disk kept running refused = record {
+  refused = refused;
+  told = if_value d.told _ (λ b is.
+      let here = kept (has_value d.told b is) in
+      let even = even_store d st here.0 [] here.2 running in
+      (here.0, even.images b (disk.as_read b is), here.1, ap (λ (m : Meta). m.k) here.2.meta_is, even, λ was. Leaves-start d _ disk even.images));
+}
+
+-- the same over a disk that is another's
+pub away_on : {X : Type 0} (M : X → DiskModel) (k : ℕ) (d : DiskModel) (seen : Seen) (status : Status) (x y : X) → y ≡ x → IsTurnedAway k d (M x) seen status → IsTurnedAway k d (M y) seen status
+away_on {X = X} M k d seen status x y same away = subst (λ (z : X). IsTurnedAway k d (M z) seen status) (sym same) away
+
+-- a line of a refusal, with nothing done
+pub refused_on : {X : Type 0} (W : X → Option (List ℕ)) (F : X → ℕ) (x y : X) (holds : Option (List ℕ)) (after : ℕ) (line : List ℕ) → y ≡ x → GetsLine (W y) holds (F y) after line → GetsLine (W x) holds (F x) after line
+refused_on {X = X} W F x y holds after line same gets = subst (λ (z : X). GetsLine (W z) holds (F z) after line) same gets
 
 even_run : (e : DiskModel) (s : FileState) (after : CoreState) (done : List Line) → CoreKeeps e after (contents_of s) done → after.stop ≡ None
     → (t : FileState) × IsEven e t × IsSound t × (contents_of t ≡ set_of (contents_of s) (take (settled_of after) done))
@@ -163,24 +185,11 @@ nothing_behind b c f g more = elim more [
 whole_output : (a b c : Option (List ℕ)) (f g : ℕ) (text : List ℕ) → Appends a b text → GetsLine b c f g [] → Appends a c text
 whole_output a b c f g text put more = subst (λ (l : List ℕ). Appends a c l) (append-nil text) (Appends-both a b c text [] put (nothing_behind b c f g more))
 
-same_sink : (b c : Option (List ℕ)) → Appends b c [] → c ≡ b
-same_sink None c is = is
-same_sink (Some w) c is = is ∙ ap Some (append-nil w)
-
-front_output : (a b c : Option (List ℕ)) (f g : ℕ) (text : List ℕ) → AppendsFront a b text → GetsLine b c f g [] → AppendsFront a c text
-front_output a b c f g text put more = subst (λ (o : Option (List ℕ)). AppendsFront a o text) (sym (same_sink b c (nothing_behind b c f g more))) put
-
-rose_sooner : (a b c : ℕ) → a ≤ b → Rose b c → Rose a c
-rose_sooner a b c le rose = elim rose [
-  | inl lt ↦ inl (omega (arith, le, lt))
-  | inr at_end ↦ inr at_end
-]
-
 gets_output : (d e : DiskModel) (seen : Seen) (k : ℕ) (before after : CoreState) (steps : List ℕ) (end : End) (mid : Option (List ℕ)) (faults : ℕ) (status : Status) → IsRun d e seen k before after steps end mid faults
     → Appends seen.held mid (run_output seen.answered after) → GetsLine mid seen.holds faults seen.sink_after (fault_line status) → GetsOutput seen after status
 gets_output d e seen k before after steps end mid faults status run put line = elim (line_behind seen.held mid seen.holds faults seen.sink_after (run_output seen.answered after) (fault_line status) put line) [
   | inl whole ↦ inl whole
-  | inr front ↦ inr (front.0, rose_sooner seen.sink_before faults seen.sink_after run.sooner front.1)
+  | inr front ↦ inr (front.0, Rose-later seen.sink_before faults seen.sink_after run.sooner front.1)
 ]
 
 -- over a disk that tells the core is never met damaged
@@ -196,11 +205,11 @@ stopped_ends : (stop : Option StopWhy) (d e : DiskModel) (seen : Seen) (k : ℕ)
     → GetsLine mid seen.holds faults seen.sink_after (fault_line (status_by stop)) → OpenedEnds d e seen (status_by stop)
 stopped_ends None d e seen k before after steps mid faults run is line = cc (run.put.1, is)
 stopped_ends (Some stops.WriteFault) d e seen k before after steps mid faults run is line =
-    (after, inr (run.write_fault is), drove d e seen k before after steps ends.Stopped mid faults run cc, inl is, gets_output d e seen k before after steps ends.Stopped mid faults DiskFault run run.put.0 line)
+    (after, inr (run.write_fault is), drove d e seen k before after steps ends.Stopped mid faults run apart_stopped, inl is, gets_output d e seen k before after steps ends.Stopped mid faults DiskFault run run.put.0 line)
 stopped_ends (Some (stops.Damaged page why)) d e seen k before after steps mid faults run is line = record {
-  untold = untold d e seen k before after steps ends.Stopped mid faults page why run cc is d.told refl;
+  untold = untold d e seen k before after steps ends.Stopped mid faults page why run apart_stopped is d.told refl;
   after = after;
-  drove = drove d e seen k before after steps ends.Stopped mid faults run cc;
+  drove = drove d e seen k before after steps ends.Stopped mid faults run apart_stopped;
   page = page;
   why = why;
   stop = is;
@@ -209,18 +218,35 @@ stopped_ends (Some (stops.Damaged page why)) d e seen k before after steps mid f
 }
 
 run_ends : (end : End) (d e : DiskModel) (seen : Seen) (k : ℕ) (before after : CoreState) (steps : List ℕ) (mid : Option (List ℕ)) (faults : ℕ) → IsRun d e seen k before after steps end mid faults
-    → (end ≡ ends.NoMemory → IsTurnedAway d e seen NoMemory) → GetsLine mid seen.holds faults seen.sink_after (fault_line (status_after end after.stop)) → OpenedEnds d e seen (status_after end after.stop)
+    → (end ≡ ends.NoMemory → IsTurnedAway k d e seen NoMemory) → GetsLine mid seen.holds faults seen.sink_after (fault_line (status_after end after.stop)) → OpenedEnds d e seen (status_after end after.stop)
 run_ends ends.Finished d e seen k before after steps mid faults run idle line =
-    (after, drove d e seen k before after steps ends.Finished mid faults run cc, whole_output seen.held mid seen.holds faults seen.sink_after (run_output seen.answered after) run.put.0 line, run.put.1, run.put.2)
-run_ends ends.NoMemory d e seen k before after steps mid faults run idle line = idle refl
+    (after, drove d e seen k before after steps ends.Finished mid faults run (λ same. cc (same)), whole_output seen.held mid seen.holds faults seen.sink_after (run_output seen.answered after) run.put.0 line, run.put.1, run.put.2)
+run_ends ends.NoMemory d e seen k before after steps mid faults run idle line = (k, idle refl)
 run_ends ends.SinkFault d e seen k before after steps mid faults run idle line =
-    (after, drove d e seen k before after steps ends.SinkFault mid faults run cc, front_output seen.held mid seen.holds faults seen.sink_after (run_output seen.answered after) run.put.0 line, Rose-later seen.sink_before faults seen.sink_after run.put.1 run.later)
+    let still = run.silent refl in
+    (after, drove d e seen k before after steps ends.SinkFault mid faults run (λ same. cc (same)),
+      subst (λ (o : Option (List ℕ)). AppendsFront seen.held o (run_output seen.answered after)) (sym still.0) run.put.0,
+      subst (λ (n : ℕ). Rose seen.sink_before n) (sym still.1) run.put.1)
 run_ends ends.ReadFault d e seen k before after steps mid faults run idle line =
-    (after, inl (run.read_fault refl), drove d e seen k before after steps ends.ReadFault mid faults run cc, inr (run.put.1, run.put.2), gets_output d e seen k before after steps ends.ReadFault mid faults DiskFault run run.put.0 line)
+    (after, inl (run.read_fault refl), drove d e seen k before after steps ends.ReadFault mid faults run (λ same. cc (same)), inr (run.put.1, run.put.2), gets_output d e seen k before after steps ends.ReadFault mid faults DiskFault run run.put.0 line)
 run_ends ends.Stopped d e seen k before after steps mid faults run idle line = stopped_ends after.stop d e seen k before after steps mid faults run refl line
 
 pub schedule_ends : (end : End) (status : Status) (d e : DiskModel) (seen : Seen) (k : ℕ) (before after : CoreState) (steps : List ℕ) (mid : Option (List ℕ)) (faults : ℕ) → IsRun d e seen k before after steps end mid faults
-    → status ≡ status_after end after.stop → (end ≡ ends.NoMemory → IsTurnedAway d e seen NoMemory) → GetsLine mid seen.holds faults seen.sink_after (fault_line status) → OpenedEnds d e seen status
+    → status ≡ status_after end after.stop → (end ≡ ends.NoMemory → IsTurnedAway k d e seen NoMemory) → GetsLine mid seen.holds faults seen.sink_after (fault_line status) → OpenedEnds d e seen status
 schedule_ends end status d e seen k before after steps mid faults run is idle line =
     let onward : GetsLine mid seen.holds faults seen.sink_after (fault_line (status_after end after.stop)) = subst (λ (x : Status). GetsLine mid seen.holds faults seen.sink_after (fault_line x)) is line in
     subst (λ (x : Status). OpenedEnds d e seen x) (sym is) (run_ends end d e seen k before after steps mid faults run idle onward)
+
+-- why no schedule was read of the text
+pub not_scheduled_ends : (status : Status) (k : ℕ) (d e : DiskModel) (seen : Seen) → NotScheduled k seen.left seen.rest seen.source_before seen.source_after status → IsTurnedAway k d e seen status → OpenedEnds d e seen status
+not_scheduled_ends (BadText bad) k d e seen why away = (k, away, why.0, why.1, why.2)
+not_scheduled_ends SourceFault k d e seen why away = (k, away, why)
+not_scheduled_ends NotBuilt k d e seen why away = (k, away, why.0, why.1, why.2, why.3)
+not_scheduled_ends NoMemory k d e seen why away = (k, away)
+not_scheduled_ends Done k d e seen why away = absurd why
+not_scheduled_ends SinkFault k d e seen why away = absurd why
+not_scheduled_ends DiskFault k d e seen why away = absurd why
+not_scheduled_ends Usage k d e seen why away = absurd why
+not_scheduled_ends (Damaged damage) k d e seen why away = absurd why
+not_scheduled_ends (Small needed found) k d e seen why away = absurd why
+not_scheduled_ends (BadLayout field value) k d e seen why away = absurd why

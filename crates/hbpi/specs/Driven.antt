@@ -96,10 +96,9 @@ pub record IsShutOut (d e : DiskModel) (seen : Seen) (fault : OpenFault) : Type 
   pub unwritten : IsUnwritten fault → OnlyReads d e
   pub even : (s : FileState) → IsEven d s → Leaves d e (λ c. OpensTo c s)
 
--- The file was opened, over so many attributes, and no command was done. Every image of now opens to the file; and over
+-- The file was opened, over k attributes, and no command was done. Every image of now opens to the file; and over
 -- an even disk every image since the run began does.
-pub record IsTurnedAway (d e : DiskModel) (seen : Seen) (status : Status) : Type 0 where
-  pub k : ℕ
+pub record IsTurnedAway (k : ℕ) (d e : DiskModel) (seen : Seen) (status : Status) : Type 0 where
   pub refused : IsRefused seen status
   pub told : IfSome d.told (λ b. (s : FileState) × OpensTo b s × IsSound s × (s.meta.k ≡ k) × IsEven e s × (IsEven d s → Leaves d e (λ c. OpensTo c s)))
 
@@ -126,12 +125,12 @@ pub record IsMetDamaged (d e : DiskModel) (seen : Seen) (damage : Damage) : Type
 abbrev pub OpenedEnds : DiskModel → DiskModel → Seen → Status → Type 0
 OpenedEnds d e seen Done = (after : CoreState) × Drove d e seen after × Appends seen.held seen.holds (run_output seen.answered after) × (after.stop ≡ None) × (¬ (HasReadFault seen.answered))
 OpenedEnds d e seen SinkFault = (after : CoreState) × Drove d e seen after × AppendsFront seen.held seen.holds (run_output seen.answered after) × Rose seen.sink_before seen.sink_after
-OpenedEnds d e seen (BadText bad) = (away : IsTurnedAway d e seen (BadText bad)) × (text : List ℕ) × IsTextOf seen.left seen.rest text × (text_read true away.k text ≡ Err bad)
-OpenedEnds d e seen SourceFault = Rose seen.source_before seen.source_after × IsTurnedAway d e seen SourceFault
-OpenedEnds d e seen NotBuilt = (away : IsTurnedAway d e seen NotBuilt) × (lines : List Line) × (steps : List ℕ) × IsScheduled away.k seen.left seen.rest lines steps × (¬ (IsServedScript lines steps))
+OpenedEnds d e seen (BadText bad) = (k : ℕ) × IsTurnedAway k d e seen (BadText bad) × (text : List ℕ) × IsTextOf seen.left seen.rest text × (text_read true k text ≡ Err bad)
+OpenedEnds d e seen SourceFault = (k : ℕ) × IsTurnedAway k d e seen SourceFault × Rose seen.source_before seen.source_after
+OpenedEnds d e seen NotBuilt = (k : ℕ) × IsTurnedAway k d e seen NotBuilt × (lines : List Line) × (steps : List ℕ) × IsScheduled k seen.left seen.rest lines steps × (¬ (IsServedScript lines steps))
 OpenedEnds d e seen DiskFault = (after : CoreState) × HasFailed d e × Drove d e seen after × EndsByFault seen after × GetsOutput seen after DiskFault
 OpenedEnds d e seen (Damaged damage) = IsMetDamaged d e seen damage
-OpenedEnds d e seen NoMemory = IsTurnedAway d e seen NoMemory
+OpenedEnds d e seen NoMemory = (k : ℕ) × IsTurnedAway k d e seen NoMemory
 OpenedEnds d e seen (Small needed found) = ⊥
 OpenedEnds d e seen Usage = ⊥
 OpenedEnds d e seen (BadLayout field value) = ⊥

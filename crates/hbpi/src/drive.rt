@@ -131,11 +131,10 @@ fn put_one_left<K: Sink>(sink: &mut K, failed: bool, line: u32, stopped: bool) -
 }
 
 /// Puts lines that have no answer, until the sink fails. True where it has failed.
-fn put_all_left<K: Sink>(sink: &mut K, failed: bool, lines: &[Line], stopped: bool) -> bool
+fn put_all_left<K: Sink>(sink: &mut K, mut failed: bool, lines: &[Line], stopped: bool) -> bool
     ensures puts { PutsMore (K.written sink.old) (K.written sink.new) (K.faults sink.old) (K.faults sink.new) failed result (flat_map (left_text stopped) (map (λ (l : Entry). l.number) lines.now)) }
     ensures later { K.faults sink.old ≤ K.faults sink.new }
 {
-    let mut failed = failed;
     for line in lines {
         failed = put_one_left(sink, failed, line.number, stopped);
     }

@@ -23,7 +23,7 @@ use hb_disk::Disk;
 use hb_outside::{Sink, Source};
 use hb_set::{Command, Line, Script};
 use hb_space::form::KMAX;
-use hb_store::{StopWhy, Store};
+use hb_store::{StopWhy, Store, an_image_opens_to_one_file};
 use hb_text::{TextError, read_commands};
 use std::alloc::Global;
 
@@ -96,6 +96,7 @@ fn finish<K: Sink, D: Disk>(ran: Ran<D, K>) -> Finished<K, D>
     ensures disk { result.disk ≡ core_disk ran.core }
     ensures answered { result.answered.items ≡ ran.answered.items }
     ensures order { result.order.items ≡ (core_seen ran.core).order }
+    ensures silent { ran.end ≡ End.SinkFault → result.sink ≡ ran.sink }
     ensures line { GetsLine (K.written ran.sink) (K.written result.sink) (K.faults ran.sink) (K.faults result.sink) (fault_line result.status) }
     ensures later { K.faults ran.sink ≤ K.faults result.sink }
 {
@@ -212,6 +213,8 @@ pub(crate) fn drive_file<S: Source, K: Sink, D: Disk>(
     ensures reads_later { (D.model disk).read_faults ≤ (D.model result.disk).read_faults }
     ensures writes_later { (D.model disk).write_faults ≤ (D.model result.disk).write_faults }
 {
+    // Law: the file that is opened is the one that the bytes open to.
+    an_image_opens_to_one_file();
     match recover(alloc, disk) {
         Ok((store, _)) => drive_store(alloc, source, sink, store),
         Err((fault, disk)) => refused(alloc, Status::from(fault), sink, disk),

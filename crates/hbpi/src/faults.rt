@@ -150,10 +150,11 @@ fn put_line<K: Sink>(sink: &mut K, line: &[u8])
 /// Puts the fault line of a status that has one.
 pub(crate) fn put_fault<K: Sink>(sink: &mut K, status: Status)
     ensures line { GetsLine (K.written sink.old) (K.written sink.new) (K.faults sink.old) (K.faults sink.new) (fault_line status) }
+    ensures silent { status ≡ Status.SinkFault → sink.new ≡ sink.old }
     ensures later { K.faults sink.old ≤ K.faults sink.new }
 {
     match status {
-        Status::Done | Status::SinkFault => put_line(sink, b""),
+        Status::Done | Status::SinkFault => {}
         Status::Usage => put_line(sink, b"usage\n"),
         Status::BadText(bad) => put_line(sink, bad_text_line(&bad).as_slice()),
         Status::SourceFault => put_line(sink, b"source fault\n"),

@@ -69,6 +69,7 @@ impl<D: Disk> Core<D> {
         ensures writes_later { (D.model (core_disk self.old)).write_faults ≤ (D.model (core_disk self.new)).write_faults }
         ensures clock { IsSome (D.model (core_disk self.old)).told → (D.model (core_disk self.new)).clock ≤ (D.model (core_disk self.old)).clock + 4 }
         ensures tells { IsSome (D.model (core_disk self.old)).told → IsSome (D.model (core_disk self.new)).told }
+        ensures silent { (D.model (core_disk self.old)).told ≡ None → (D.model (core_disk self.new)).told ≡ None }
     {
         if self.stop.is_some() {
             return Outcome::Stopped;

@@ -1,4 +1,4 @@
-use Rattle.std.proofs.Common.{◌≡◌, ◌≤◌, ℕ, List, length, [], IsSome}
+use Rattle.std.proofs.Common.{◌≡◌, ◌≤◌, List, length, [], Some, None}
 use Rattle.std.specs.Vec.{vec_capacity}
 use Rattle.std.specs.List.{flat_map}
 use Rattle.hb_outside.specs.Streams.{Rose}
@@ -6,12 +6,14 @@ use Rattle.hb_set.specs.Machine.{RecordSet}
 use Rattle.hb_set.specs.declared.scripts.Line.{Line}
 use Rattle.hb_text.specs.Output.{answer_text}
 use Rattle.hb_store.specs.Keeps.{last_of}
+use Rattle.hb_store.specs.declared.stops.StopWhy.TheVariants.{WriteFault}
 use Rattle.hbpi.specs.Ends.{HasPut}
 use Rattle.hbpi.specs.Core.{CoreKeeps, IsCore, AnswersFirst}
 use Rattle.hbpi.specs.Moves.{MovesOn}
 use Rattle.hbpi.specs.CoreSeen.{core_seen, core_disk}
 use Rattle.hbpi.specs.Drives.{HasReadFault}
 use Rattle.hbpi.proofs.FirstAnswers.{Ordered}
+use Rattle.hbpi.proofs.Running.{Running}
 use Rattle.hbpi.proofs.drive.take_steps.Given as goal
 
 abbrev pub invariant-loop : goal.invariant-loop
@@ -24,9 +26,11 @@ invariant-loop g l = record {
   attributes : (core_seen l.core).store.meta.k ≡ (core_seen l.fn.core).store.meta.k;
   put : HasPut (g.K.Sink.written l.fn.sink) (g.K.Sink.written l.sink) (g.K.Sink.faults l.fn.sink) (g.K.Sink.faults l.sink) l.failed (flat_map answer_text l.answered.items);
   room : length (core_seen l.core).lines ≤ vec_capacity l.answered;
-  tells : IsSome (g.D.Disk.model (core_disk l.fn.core)).told → IsSome (g.D.Disk.model (core_disk l.core)).told;
+  silent : (g.D.Disk.model (core_disk l.fn.core)).told ≡ None → (g.D.Disk.model (core_disk l.core)).told ≡ None;
+  runs : (n : RecordSet) (kept : CoreKeeps (g.D.Disk.model (core_disk l.fn.core)) (core_seen l.fn.core) n []) →
+      Running l.counter (g.D.Disk.model (core_disk l.fn.core)) (core_seen l.fn.core) (last_of kept.durable kept.later) l.answered.items (g.D.Disk.model (core_disk l.core)) (core_seen l.core) n;
   read_fault : HasReadFault l.answered.items → Rose (g.D.Disk.model (core_disk l.fn.core)).read_faults (g.D.Disk.model (core_disk l.core)).read_faults;
-  write_fault : IsSome (g.D.Disk.model (core_disk l.fn.core)).told → IsSome (core_seen l.core).stop → Rose (g.D.Disk.model (core_disk l.fn.core)).write_faults (g.D.Disk.model (core_disk l.core)).write_faults;
+  write_fault : (core_seen l.core).stop ≡ Some WriteFault → Rose (g.D.Disk.model (core_disk l.fn.core)).write_faults (g.D.Disk.model (core_disk l.core)).write_faults;
   reads_later : (g.D.Disk.model (core_disk l.fn.core)).read_faults ≤ (g.D.Disk.model (core_disk l.core)).read_faults;
   writes_later : (g.D.Disk.model (core_disk l.fn.core)).write_faults ≤ (g.D.Disk.model (core_disk l.core)).write_faults;
 }

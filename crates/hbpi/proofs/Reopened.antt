@@ -1,0 +1,112 @@
+-- A run over a file that was just opened, seen from before the opening.
+use Rattle.std.proofs.Common.{◌≡◌, ◌⊎◌, inl, inr, ⊎_elim, ℕ, ◌≤◌, List, [], length, take, Option, Some, None, IfSome, IsSome, refl, sym, ap, subst, ◌∙◌, arith}
+use Rattle.hb_disk.specs.Model.{DiskModel, IsDisk}
+use Rattle.hb_disk.specs.Calls.{Leaves}
+use Rattle.hb_disk.specs.RunLaws.{at_value, if_value, some_value, Leaves-then, Leaves-weaker}
+use Rattle.hb_ops.specs.Files.{FileState, contents_of}
+use Rattle.hb_ops.specs.Sound.{IsSound}
+use Rattle.hb_set.specs.declared.scripts.Line.{Line}
+use Rattle.hb_set.specs.declared.scripts.Answered.{Answered}
+use Rattle.hb_store.specs.ImageLaws.{OpensToOne}
+use Rattle.hb_store.specs.Opening.{OpensTo, IsEven}
+use Rattle.hb_text.specs.OutputLaws.{Rose-later}
+use Rattle.hbpi.specs.Core.{CoreState, OpensToPrefix}
+use Rattle.hbpi.specs.Driven.{RunsFrom, Drove, HasFailed, IsTurnedAway, IsMetDamaged, OpenedEnds}
+use Rattle.hbpi.specs.Ends.{Seen}
+use Rattle.hbpi.specs.declared.statuses.Status.{Status}
+use Rattle.hbpi.specs.declared.statuses.Status.TheVariants.{Done, Usage, BadText, SourceFault, SinkFault, DiskFault, Damaged, NoMemory, BadLayout, Small, NotBuilt}
+
+-- What an opening makes of a disk.
+pub record IsOpening (d m : DiskModel) : Type 0 where
+  pub disk : IsDisk m
+  pub told : IfSome d.told (λ b. (s : FileState) × OpensTo b s × IsSound s × IsEven m s)
+  pub time : d.clock ≤ m.clock
+  pub even : (s : FileState) → IsEven d s → Leaves d m (λ c. OpensTo c s)
+  pub reads : d.read_faults ≤ m.read_faults
+  pub writes : d.write_faults ≤ m.write_faults
+
+-- what is said of the file that the bytes open to behind the opening is said of the one before it: they are the same
+from_before : (d m : DiskModel) (R : FileState → Type 0) (F G : List ℕ → Type 0) → OpensToOne → IsOpening d m → ((b : List ℕ) → F b → (s : FileState) × OpensTo b s × R s)
+    → ((b : List ℕ) (s : FileState) → OpensTo b s → IsSound s → IsEven m s → R s → G b) → IfSome m.told F → IfSome d.told G
+from_before d m R F G one opening takes makes here = if_value d.told G (λ b is.
+    let was = at_value d.told _ b is opening.told in
+    let now = some_value m.told was.3.told in
+    let found = takes now.0 (at_value m.told F now.0 now.1 here) in
+    let same : found.0 ≡ was.0 = one now.0 found.0 was.0 found.1 (was.3.images now.0 (opening.disk.as_read now.0 now.1)) in
+    makes b was.0 was.1 was.2 was.3 (subst R same found.2))
+
+pub no_line_yet : (s : FileState) (done : List Line) (c : List ℕ) → IsSound s → OpensTo c s → OpensToPrefix (contents_of s) done 0 c
+no_line_yet s done c sound opens = record { count = 0; enough = omega arith; within = omega arith; file = s; opens = opens; sound = sound; set_is = refl }
+
+run_before : (s : FileState) (steps : ℕ) (d m e : DiskModel) (before after : CoreState) (answered : List Answered) → IsOpening d m → IsSound s → IsEven m s → RunsFrom s steps m e before after answered → RunsFrom s steps d e before after answered
+run_before s steps d m e before after answered opening sound even run = record {
+  start = run.start;
+  begun = omega (arith, opening.time, run.begun);
+  file = run.file;
+  reaches = run.reaches;
+  done = run.done;
+  ordered = run.ordered;
+  among = run.among;
+  legal = run.legal;
+  replied = run.replied;
+  sound = run.sound;
+  set = run.set;
+  even = run.even;
+  held = run.held;
+  crashes = λ was. let crashes = run.crashes even in record {
+    each = Leaves-then d m e (OpensToPrefix (contents_of s) run.done 0) (Leaves-weaker d m (λ c. OpensTo c s) (OpensToPrefix (contents_of s) run.done 0) (λ c opens. no_line_yet s run.done c sound opens) (opening.even s was)) crashes.each;
+    since = crashes.since;
+  };
+}
+
+drove_before : (d m e : DiskModel) (seen : Seen) (after : CoreState) → OpensToOne → IsOpening d m → Drove m e seen after → Drove d e seen after
+drove_before d m e seen after one opening drove = record {
+  k = drove.k;
+  before = drove.before;
+  run = drove.run;
+  told = from_before d m (λ s. (s.meta ≡ drove.before.store.meta) × RunsFrom s (length drove.run.steps) m e drove.before after seen.answered) _ _ one opening
+      (λ b f. (f.0, f.1, (f.3, f.4)))
+      (λ b s opens sound even run. (s, opens, sound, run.0, run_before s (length drove.run.steps) d m e drove.before after seen.answered opening sound even run.1)) drove.told;
+}
+
+away_before : (k : ℕ) (d m e : DiskModel) (seen : Seen) (status : Status) → OpensToOne → IsOpening d m → IsTurnedAway k m e seen status → IsTurnedAway k d e seen status
+away_before k d m e seen status one opening away = record {
+  refused = away.refused;
+  told = from_before d m (λ s. (s.meta.k ≡ k) × IsEven e s × (IsEven m s → Leaves m e (λ c. OpensTo c s))) _ _ one opening
+      (λ b f. (f.0, f.1, (f.3, f.4, f.5)))
+      (λ b s opens sound even here. (s, opens, sound, here.0, here.1, λ was. Leaves-then d m e (λ c. OpensTo c s) (opening.even s was) (here.2 even))) away.told;
+}
+
+failed_before : (d m e : DiskModel) → IsOpening d m → HasFailed m e → HasFailed d e
+failed_before d m e opening failed = elim failed [
+  | inl read ↦ inl (Rose-later d.read_faults m.read_faults e.read_faults opening.reads read)
+  | inr write ↦ inr (Rose-later d.write_faults m.write_faults e.write_faults opening.writes write)
+]
+
+untold_before : (d m : DiskModel) → IsOpening d m → m.told ≡ None → (told : Option (List ℕ)) → d.told ≡ told → told ≡ None
+untold_before d m opening none None is = refl
+untold_before d m opening none (Some b) is =
+    let was = at_value d.told _ b is opening.told in
+    cc (was.3.told, none)
+
+pub ends_before : (status : Status) (d m e : DiskModel) (seen : Seen) → OpensToOne → IsOpening d m → OpenedEnds m e seen status → OpenedEnds d e seen status
+ends_before Done d m e seen one opening ends = (ends.0, drove_before d m e seen ends.0 one opening ends.1, ends.2, ends.3, ends.4)
+ends_before SinkFault d m e seen one opening ends = (ends.0, drove_before d m e seen ends.0 one opening ends.1, ends.2, ends.3)
+ends_before (BadText bad) d m e seen one opening ends = (ends.0, away_before ends.0 d m e seen (BadText bad) one opening ends.1, ends.2, ends.3, ends.4)
+ends_before SourceFault d m e seen one opening ends = (ends.0, away_before ends.0 d m e seen SourceFault one opening ends.1, ends.2)
+ends_before NotBuilt d m e seen one opening ends = (ends.0, away_before ends.0 d m e seen NotBuilt one opening ends.1, ends.2, ends.3, ends.4, ends.5)
+ends_before DiskFault d m e seen one opening ends = (ends.0, failed_before d m e opening ends.1, drove_before d m e seen ends.0 one opening ends.2, ends.3, ends.4)
+ends_before (Damaged damage) d m e seen one opening ends = record {
+  untold = untold_before d m opening ends.untold d.told refl;
+  after = ends.after;
+  drove = drove_before d m e seen ends.after one opening ends.drove;
+  page = ends.page;
+  why = ends.why;
+  stop = ends.stop;
+  damage_is = ends.damage_is;
+  output = ends.output;
+}
+ends_before NoMemory d m e seen one opening ends = (ends.0, away_before ends.0 d m e seen NoMemory one opening ends.1)
+ends_before Usage d m e seen one opening ends = absurd ends
+ends_before (BadLayout field value) d m e seen one opening ends = absurd ends
+ends_before (Small needed found) d m e seen one opening ends = absurd ends

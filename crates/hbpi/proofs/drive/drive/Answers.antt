@@ -1,0 +1,26 @@
+use Rattle.std.proofs.Common.{List, length, sym, ap, ◌∙◌, subst, arith}
+use Rattle.hb_set.specs.Order.{AreRising}
+use Rattle.hb_set.specs.Scripts.{script_is_short}
+use Rattle.hb_set.specs.declared.scripts.Line.{Line}
+use Rattle.hb_set.specs.declared.scripts.Answered.{Answered}
+use Rattle.hbpi.specs.CoreSeen.{core_seen}
+use Rattle.hbpi.specs.Drives.{EndsAs}
+use Rattle.hbpi.proofs.RestOfOutput.{left_behind, drive_ends}
+use Rattle.hbpi.proofs.drive.drive.Goals as goal
+
+pub put_rest-failed-requires-clause-short : goal.put_rest-failed-requires-clause-short
+put_rest-failed-requires-clause-short g c =
+    let taken = c.take_steps-failed.ensures in
+    omega (arith, script_is_short _ _ c.requires.script, taken.whole.short, taken.whole.few, ap length taken.lines)
+
+pub returns-clause-ends : goal.returns-clause-ends
+returns-clause-ends g c =
+    let taken = c.take_steps-failed.ensures in
+    let core = core_seen c.take_steps-failed.new.core in
+    let answered = c.take_steps-failed.new.answered in
+    let rising = subst (λ (ls : List Line). AreRising ls) (sym taken.lines) c.requires.script.rising in
+    let E : List Answered → Type 0 = λ l. EndsAs c.end_of-end.result c.put_rest-failed.result c.is_some.result l in
+    drive_ends _ (g.K.Sink.written c.take_steps-failed.new.sink) _ _ (g.K.Sink.faults c.take_steps-failed.new.sink) _ c.take_steps-failed.result c.put_rest-failed.result c.is_some.result
+    answered.items core c.len-2.result taken.put c.put_rest-failed.ensures.puts
+    (left_behind core answered.items c.len-2.result rising taken.first (c.len-2.ensures ∙ answered.ok.0))
+    c.is_some.ensures c.end_of-end.result (subst E c.as_slice.ensures.value c.end_of-end.ensures)

@@ -1,0 +1,63 @@
+use Rattle.std.proofs.Common.{◌≡◌, ℕ, [], inl, inr, refl, sym, ap, subst, ◌∙◌}
+use Rattle.hb_disk.specs.Model.{DiskModel}
+use Rattle.hb_disk.specs.RunLaws.{at_value, if_value}
+use Rattle.hb_store.specs.Seen.{seen_as, disk_of}
+use Rattle.hbpi.specs.Codes.{status_of}
+use Rattle.hbpi.specs.Driven.{DriveCommandEnds, IsShutOut, OpenedEnds}
+use Rattle.hbpi.specs.Ends.{Seen, IsRefused}
+use Rattle.hbpi.specs.Outcome.{GetsLine, fault_line}
+use Rattle.hbpi.specs.declared.statuses.Status.{Status}
+use Rattle.hbpi.proofs.Reopened.{IsOpening, ends_before}
+use Rattle.hbpi.proofs.ScheduleRuns.{even_store}
+use Rattle.hbpi.proofs.drive_file.drive_file.Goals as goal
+
+pub returns-in-Ok-clause-ends : goal.returns-in-Ok-clause-ends
+returns-in-Ok-clause-ends g c =
+    let d : DiskModel = g.D.Disk.model c.args.disk in
+    let m : DiskModel = g.D.Disk.model (disk_of c.in-Ok.store) in
+    let facts = c.in-Ok.ensures in
+    let opening : IsOpening d m = record {
+      disk = g.met.D.Disk.is_disk (disk_of c.in-Ok.store);
+      told = if_value d.told _ (λ b is.
+          let found = at_value d.told _ b is facts.opened in
+          (found.0, found.1, found.2, even_store m (seen_as c.in-Ok.store) found.0 [] found.4 facts.new.running));
+      time = facts.time;
+      even = facts.even;
+      reads = facts.later.0;
+      writes = facts.later.1;
+    } in
+    inr (ends_before c.drive_store.result.status d m (g.D.Disk.model c.drive_store.result.disk) _ c.an_image_opens_to_one_file.ensures.one opening c.drive_store.ensures.ends)
+
+pub returns-in-Err-clause-ends : goal.returns-in-Err-clause-ends
+returns-in-Err-clause-ends g c =
+    let M : g.row.D.Denot → DiskModel = g.D.Disk.model in
+    let d : DiskModel = M c.args.disk in
+    let facts = c.in-Err.ensures in
+    let fault = c.in-Err.fault in
+    let seen : Seen = record {
+      left = g.S.Source.left c.args.source.now;
+      rest = g.S.Source.left c.args.source.now;
+      source_before = g.S.Source.faults c.args.source.now;
+      source_after = g.S.Source.faults c.args.source.now;
+      held = g.K.Sink.written c.args.sink;
+      holds = g.K.Sink.written c.refused.result.sink;
+      sink_before = g.K.Sink.faults c.args.sink;
+      sink_after = g.K.Sink.faults c.refused.result.sink;
+      answered = c.refused.result.answered.items;
+      order = c.refused.result.order.items;
+    } in
+    let status : c.refused.result.status ≡ status_of fault = c.refused.ensures.status ∙ c.from.ensures in
+    let out : IsShutOut d (M c.in-Err.disk) seen fault = record {
+      refused = record {
+        line = subst (λ (x : Status). GetsLine seen.held seen.holds seen.sink_before seen.sink_after (fault_line x)) c.from.ensures c.refused.ensures.line;
+        none_answered = c.refused.ensures.answered;
+        none_ordered = c.refused.ensures.order;
+      };
+      unread = record { rest = refl; faults = refl };
+      why = facts.refused;
+      shut = facts.shut;
+      failed = facts.cause;
+      unwritten = facts.unwritten;
+      even = facts.even_after_fault;
+    } in
+    subst (λ (x : g.row.D.Denot). DriveCommandEnds d (M x) seen c.refused.result.status) (sym c.refused.ensures.disk) (inl (fault, status, out))
