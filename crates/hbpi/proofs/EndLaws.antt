@@ -1,7 +1,7 @@
 -- What follows from how a run ends.
 use Rattle.std.proofs.Common.{◌≡◌, ℕ, ◌⊎◌, inl, inr, false, List, length, take, Option, Some, None, Result, Ok, Err, refl, sym, ap, subst, ◌∙◌, arith}
 use Rattle.std.proofs.lemmas.List.{take_all}
-use Rattle.std.proofs.Common.{drop, ◌<◌, length-take, take-append-drop}
+use Rattle.std.proofs.Common.{drop, ◌<◌, ◌≤◌, length-take, take-append-drop}
 use Rattle.std.proofs.lemmas.Bool.{cases_lt}
 use Rattle.hb_text.specs.TextFront.{front_is_all}
 use Rattle.hb_text.specs.declared.rules.BadLine.{BadLine}
@@ -14,7 +14,9 @@ use Rattle.hbpi.specs.declared.statuses.Status.TheVariants.{Done, Usage, BadText
 use Rattle.hb_outside.specs.Streams.{Rose}
 use Rattle.hbpi.specs.Outcome.{greatest_text, IsTextOf, IsWholeText}
 use Rattle.hb_disk.specs.Model.{DiskModel}
-use Rattle.hbpi.specs.Runs.{RunEnds}
+use Rattle.hbpi.specs.Layouts.{first_fault, size_of}
+use Rattle.hbpi.specs.declared.restart.faults.OpenFault.{OpenFault}
+use Rattle.hbpi.specs.Runs.{RunEnds, disk_seen}
 use Rattle.hbpi.specs.Ends.{Seen, DiskSeen, CreateEnds, IsMadeWhole, DryEnds, IsAnswered, IsComplete, RefusesBadText, NamesBadLine}
 
 -- a good text is read whole
@@ -118,3 +120,30 @@ same_layout a b c d e f g h i j P is p =
     let dcap : i ≡ d = cc in
     let icap : j ≡ e = cc in
     subst (λ (x : ℕ). P x b c d e) k (subst (λ (x : ℕ). P f x c d e) pages (subst (λ (x : ℕ). P f g x d e) log (subst (λ (x : ℕ). P f g h x e) dcap (subst (λ (x : ℕ). P f g h i x) icap p))))
+
+create_complete : (fault : Option OpenFault) (needed : ℕ) (seen : Seen) (disk : DiskSeen) (status : Status) → CreateEnds fault needed seen disk status → fault ≡ None → needed ≤ disk.size → ¬ (Rose disk.writes_before disk.writes_after) → ¬ (Rose seen.sink_before seen.sink_after) → (status ≡ Done) ⊎ (status ≡ NoMemory)
+create_complete fault needed seen disk Done ends good large writes sink = inl refl
+create_complete fault needed seen disk SinkFault ends good large writes sink = absurd (sink ends.2)
+create_complete fault needed seen disk (BadLayout field value) ends good large writes sink = cc (ends.0, good)
+create_complete fault needed seen disk (Small wanted found) ends good large writes sink = absurd (omega (arith, ends.2, large))
+create_complete fault needed seen disk DiskFault ends good large writes sink = absurd (writes ends.1)
+create_complete fault needed seen disk NoMemory ends good large writes sink = inr refl
+create_complete fault needed seen disk Usage ends good large writes sink = absurd ends
+create_complete fault needed seen disk (BadText bad) ends good large writes sink = absurd ends
+create_complete fault needed seen disk SourceFault ends good large writes sink = absurd ends
+create_complete fault needed seen disk (Damaged damage) ends good large writes sink = absurd ends
+create_complete fault needed seen disk NotBuilt ends good large writes sink = absurd ends
+
+pub ends_made : (form : Option Form) (seen : Seen) (d e : DiskModel) (status : Status) → RunEnds form d e seen status → IsMadeWhole form seen (disk_seen d e) status
+ends_made None seen d e status ends k pages log dcap icap is good large writes sink = cc (is)
+ends_made (Some (Create a b c x y)) seen d e status ends k pages log dcap icap is good large writes sink =
+    create_complete (first_fault k pages log dcap icap) (size_of pages log) seen (disk_seen d e) status
+      (same_layout k pages log dcap icap a b c x y (λ k pages log dcap icap. CreateEnds (first_fault k pages log dcap icap) (size_of pages log) seen (disk_seen d e) status) (sym is) ends)
+      good large writes sink
+ends_made (Some form) seen d e status ends k pages log dcap icap is good large writes sink = cc (is)
+
+pub never_usage : (fault : Option OpenFault) (needed : ℕ) (seen : Seen) (disk : DiskSeen) (status : Status) → CreateEnds fault needed seen disk status → status ≡ Usage → ⊥
+never_usage fault needed seen disk status ends is = subst (λ (x : Status). CreateEnds fault needed seen disk x) is ends
+
+pub never_unbuilt : (fault : Option OpenFault) (needed : ℕ) (seen : Seen) (disk : DiskSeen) (status : Status) → CreateEnds fault needed seen disk status → status ≡ NotBuilt → ⊥
+never_unbuilt fault needed seen disk status ends is = subst (λ (x : Status). CreateEnds fault needed seen disk x) is ends

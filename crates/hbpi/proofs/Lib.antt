@@ -23,3 +23,4 @@ pub mod TakenSteps
 pub mod RestOfOutput
 pub mod ScheduleRuns
 pub mod Reopened
+pub mod Promises

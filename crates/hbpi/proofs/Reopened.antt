@@ -35,7 +35,7 @@ from_before d m R F G one opening takes makes here = if_value d.told G (λ b is.
     let same : found.0 ≡ was.0 = one now.0 found.0 was.0 found.1 (was.3.images now.0 (opening.disk.as_read now.0 now.1)) in
     makes b was.0 is was.1 was.2 was.3 (subst R same found.2))
 
-no_line_yet : (s : FileState) (done : List Line) (c : List ℕ) → IsSound s → OpensTo c s → OpensToPrefix (contents_of s) done 0 c
+pub no_line_yet : (s : FileState) (done : List Line) (c : List ℕ) → IsSound s → OpensTo c s → OpensToPrefix (contents_of s) done 0 c
 no_line_yet s done c sound opens = record { count = 0; enough = omega arith; within = omega arith; file = s; opens = opens; sound = sound; set_is = refl }
 
 run_before : (s : FileState) (steps : ℕ) (d m e : DiskModel) (before after : CoreState) (answered : List Answered) → IsOpening d m → IsSome d.told → IsSound s → IsEven m s → RunsFrom s steps m e before after answered → RunsFrom s steps d e before after answered

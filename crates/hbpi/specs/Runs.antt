@@ -31,7 +31,8 @@ RunEnds (Some form) d e seen status = UnbuiltEnds seen status
 -- their numbers are the order. They are a legal order from the records of the file, and every answer is the machine's at
 -- its place, or stands outside the order. Every image that a crash may leave since an answer opens to the records after
 -- a prefix of them that holds it. Where every image opened to this file when the run began, each image since then opens to
--- the records after a prefix. And when the run is done every image of the disk opens to one sound file.
+-- the records after a prefix. And when the run is done every image of the disk opens to one sound file, which has the
+-- records after a prefix.
 pub record KeepsPromise (s : FileState) (d e : DiskModel) (seen : Seen) (status : Status) : Type 0 where
   pub done : List Line
   pub numbers : map (λ (l : Line). l.number) done ≡ seen.order
@@ -40,4 +41,4 @@ pub record KeepsPromise (s : FileState) (d e : DiskModel) (seen : Seen) (status 
   pub replied : All (IsReplied (contents_of s) done) seen.answered
   pub held : HoldsAnswers e (contents_of s) done seen.answered
   pub crashes : IsEven d s → CrashesTo d e (contents_of s) done seen.answered
-  pub even : status ≡ Done → (t : FileState) × (count : ℕ) × IsEven e t × IsSound t × (count ≤ length done) × (contents_of t ≡ set_of (contents_of s) (take count done))
+  pub even : status ≡ Done → (t : FileState) × (count : ℕ) × IsEven e t × IsSound t × (contents_of t ≡ set_of (contents_of s) (take count done))

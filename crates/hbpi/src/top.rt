@@ -15,6 +15,7 @@ use crate::forms::Form;
 use crate::statuses::Status;
 use hb_disk::Disk;
 use hb_outside::{Sink, Source};
+use hb_store::an_image_opens_to_one_file;
 use std::alloc::Global;
 
 /// The program over any source, sink and disk: does what the words ask for.
@@ -64,6 +65,8 @@ pub fn top<S: Source, K: Sink, D: Disk>(
     ensures reads_later { (D.model disk).read_faults ≤ (D.model result.disk).read_faults }
     ensures writes_later { (D.model disk).write_faults ≤ (D.model result.disk).write_faults }
 {
+    // Law: bytes open to one file at most.
+    an_image_opens_to_one_file();
     match Form::of_words(words) {
         None => refused(alloc, Status::Usage, sink, disk),
         Some(Form::Dry { k }) => dry(alloc, k, source, sink, disk),

@@ -1,8 +1,10 @@
 use Rattle.std.proofs.Common.{◌∙◌, Option, Some, sym, ap, subst}
 use Rattle.hbpi.specs.declared.forms.Form.{Form}
-use Rattle.hbpi.specs.declared.forms.Form.TheVariants.{Dry}
-use Rattle.hbpi.specs.Ends.{Seen, IsComplete, RefusesBadText, NamesBadLine}
-use Rattle.hbpi.proofs.EndLaws.{ends_complete, ends_refuses, ends_names}
+use Rattle.hbpi.specs.declared.forms.Form.TheVariants.{Create, Dry}
+use Rattle.hbpi.specs.Ends.{Seen, seen_by, IsComplete, IsMadeWhole, RefusesBadText, NamesBadLine}
+use Rattle.hbpi.specs.Runs.{RunEnds, disk_seen}
+use Rattle.hbpi.proofs.EndLaws.{ends_complete, ends_refuses, ends_names, ends_made, never_usage, never_unbuilt}
+use Rattle.hbpi.proofs.Promises.{keeps_promise}
 use Rattle.hbpi.proofs.top.top.Goals as goal
 
 pub returns-in-Some-Dry-clause-complete : goal.returns-in-Some-Dry-clause-complete
@@ -19,7 +21,7 @@ returns-in-Some-Dry-clause-complete g c =
       answered = c.dry.result.answered.items;
       order = c.dry.result.order.items;
     } in
-    subst (λ (form : Option Form). IsComplete form seen c.dry.result.status) (sym (ap Some c.in-Some-Dry.field-0-is) ∙ c.in-Some-Dry.ensures.form) (ends_complete (Some (Dry c.in-Some-Dry.k)) seen c.dry.result.status c.dry.ensures.ends)
+    subst (λ (form : Option Form). IsComplete form seen c.dry.result.status) (sym (ap Some c.in-Some-Dry.field-0-is) ∙ c.in-Some-Dry.ensures.form) (ends_complete (Some (Dry c.in-Some-Dry.k)) seen (g.D.Disk.model c.args.disk) (g.D.Disk.model c.dry.result.disk) c.dry.result.status c.dry.ensures.ends)
 
 pub returns-in-Some-Dry-clause-bad_text : goal.returns-in-Some-Dry-clause-bad_text
 returns-in-Some-Dry-clause-bad_text g c =
@@ -35,7 +37,7 @@ returns-in-Some-Dry-clause-bad_text g c =
       answered = c.dry.result.answered.items;
       order = c.dry.result.order.items;
     } in
-    subst (λ (form : Option Form). RefusesBadText form seen c.dry.result.status) (sym (ap Some c.in-Some-Dry.field-0-is) ∙ c.in-Some-Dry.ensures.form) (ends_refuses (Some (Dry c.in-Some-Dry.k)) seen c.dry.result.status c.dry.ensures.ends)
+    subst (λ (form : Option Form). RefusesBadText form seen c.dry.result.status) (sym (ap Some c.in-Some-Dry.field-0-is) ∙ c.in-Some-Dry.ensures.form) (ends_refuses (Some (Dry c.in-Some-Dry.k)) seen (g.D.Disk.model c.args.disk) (g.D.Disk.model c.dry.result.disk) c.dry.result.status c.dry.ensures.ends)
 
 pub returns-in-Some-Dry-clause-named : goal.returns-in-Some-Dry-clause-named
 returns-in-Some-Dry-clause-named g c =
@@ -51,4 +53,33 @@ returns-in-Some-Dry-clause-named g c =
       answered = c.dry.result.answered.items;
       order = c.dry.result.order.items;
     } in
-    subst (λ (form : Option Form). NamesBadLine form seen c.dry.result.status) (sym (ap Some c.in-Some-Dry.field-0-is) ∙ c.in-Some-Dry.ensures.form) (ends_names (Some (Dry c.in-Some-Dry.k)) seen c.dry.result.status c.dry.ensures.ends)
+    subst (λ (form : Option Form). NamesBadLine form seen c.dry.result.status) (sym (ap Some c.in-Some-Dry.field-0-is) ∙ c.in-Some-Dry.ensures.form) (ends_names (Some (Dry c.in-Some-Dry.k)) seen (g.D.Disk.model c.args.disk) (g.D.Disk.model c.dry.result.disk) c.dry.result.status c.dry.ensures.ends)
+
+pub returns-in-Some-Drive-clause-promise : goal.returns-in-Some-Drive-clause-promise
+returns-in-Some-Drive-clause-promise g c b s is told opens sound =
+    keeps_promise c.drive_file.result.status b s (g.D.Disk.model c.args.disk) (g.D.Disk.model c.drive_file.result.disk) _ c.an_image_opens_to_one_file.ensures.one told opens sound c.drive_file.ensures.ends
+
+pub returns-in-Some-Create-clause-ends : goal.returns-in-Some-Create-clause-ends
+returns-in-Some-Create-clause-ends g c =
+    let seen = seen_by (g.S.Source.left c.args.source.now) (g.S.Source.left c.args.source.now) (g.S.Source.faults c.args.source.now) (g.S.Source.faults c.args.source.now)
+        (g.K.Sink.written c.args.sink) (g.K.Sink.written c.create_file.result.sink) (g.K.Sink.faults c.args.sink) (g.K.Sink.faults c.create_file.result.sink) c.create_file.result.answered.items c.create_file.result.order.items in
+    subst (λ (form : Option Form). RunEnds form (g.D.Disk.model c.args.disk) (g.D.Disk.model c.create_file.result.disk) seen c.create_file.result.status) (sym (ap Some c.in-Some-Create.field-0-is) ∙ c.in-Some-Create.ensures.form)
+      (c.create_file.ensures.ends (g.S.Source.left c.args.source.now) (g.S.Source.faults c.args.source.now))
+
+pub returns-in-Some-Create-clause-usage : goal.returns-in-Some-Create-clause-usage
+returns-in-Some-Create-clause-usage g c =
+    (λ is. absurd (never_usage _ _ _ _ c.create_file.result.status (c.create_file.ensures.ends (g.S.Source.left c.args.source.now) (g.S.Source.faults c.args.source.now)) is),
+     λ none. cc (c.in-Some-Create.ensures.form, none))
+
+pub returns-in-Some-Create-clause-built : goal.returns-in-Some-Create-clause-built
+returns-in-Some-Create-clause-built g c is = absurd (never_unbuilt _ _ _ _ c.create_file.result.status (c.create_file.ensures.ends (g.S.Source.left c.args.source.now) (g.S.Source.faults c.args.source.now)) is)
+
+pub returns-in-Some-Create-clause-made : goal.returns-in-Some-Create-clause-made
+returns-in-Some-Create-clause-made g c =
+    let seen = seen_by (g.S.Source.left c.args.source.now) (g.S.Source.left c.args.source.now) (g.S.Source.faults c.args.source.now) (g.S.Source.faults c.args.source.now)
+        (g.K.Sink.written c.args.sink) (g.K.Sink.written c.create_file.result.sink) (g.K.Sink.faults c.args.sink) (g.K.Sink.faults c.create_file.result.sink) c.create_file.result.answered.items c.create_file.result.order.items in
+    let d = g.D.Disk.model c.args.disk in
+    let e = g.D.Disk.model c.create_file.result.disk in
+    let form = Create c.in-Some-Create.k c.in-Some-Create.pages c.in-Some-Create.log c.in-Some-Create.dcap c.in-Some-Create.icap in
+    subst (λ (form : Option Form). IsMadeWhole form seen (disk_seen d e) c.create_file.result.status) (sym (ap Some c.in-Some-Create.field-0-is) ∙ c.in-Some-Create.ensures.form)
+      (ends_made (Some form) seen d e c.create_file.result.status (c.create_file.ensures.ends (g.S.Source.left c.args.source.now) (g.S.Source.faults c.args.source.now)))
