@@ -1,5 +1,5 @@
 -- What follows from how a run ends.
-use Rattle.std.proofs.Common.{◌≡◌, ℕ, ◌⊎◌, inl, inr, false, List, length, take, Option, Some, None, Result, Ok, Err, refl, sym, ap, subst, ◌∙◌, arith}
+use Rattle.std.proofs.Common.{◌≡◌, ℕ, ◌⊎◌, inl, inr, Bool, false, List, length, take, Option, Some, None, Result, Ok, Err, refl, sym, ap, subst, ◌∙◌, arith}
 use Rattle.std.proofs.lemmas.List.{take_all}
 use Rattle.std.proofs.Common.{drop, ◌<◌, ◌≤◌, length-take, take-append-drop}
 use Rattle.std.proofs.lemmas.Bool.{cases_lt}
@@ -20,18 +20,18 @@ use Rattle.hbpi.specs.Runs.{RunEnds, disk_seen}
 use Rattle.hbpi.specs.Ends.{Seen, DiskSeen, CreateEnds, IsMadeWhole, DryEnds, IsAnswered, IsComplete, RefusesBadText, NamesBadLine}
 
 -- a good text is read whole
-good_is_whole : (k : ℕ) (left : List ℕ) (reading : Reading) → text_read false k left ≡ Ok reading → take greatest_text left ≡ left
+pub good_is_whole : (allowed : Bool) (k : ℕ) (left : List ℕ) (reading : Reading) → text_read allowed k left ≡ Ok reading → take greatest_text left ≡ left
 unfolding greatest_text
-good_is_whole k left reading good = take_all 257000001 left (omega (arith, text_is_short false k left reading good))
+good_is_whole allowed k left reading good = take_all 257000001 left (omega (arith, text_is_short allowed k left reading good))
 
 -- the text that is read is read as all that was left
-front_reads : (k : ℕ) (left : List ℕ) → text_read false k (take greatest_text left) ≡ text_read false k left
+pub front_reads : (allowed : Bool) (k : ℕ) (left : List ℕ) → text_read allowed k (take greatest_text left) ≡ text_read allowed k left
 unfolding greatest_text
-front_reads k left = elim (cases_lt 257000000 (length left)) [
+front_reads allowed k left = elim (cases_lt 257000000 (length left)) [
   | inl long ↦
       let front : 257000000 < length (take 257000001 left) = omega (arith, length-take 257000001 left) in
-      sym (front_is_all false k (take 257000001 left) (drop 257000001 left) front) ∙ ap (text_read false k) (take-append-drop 257000001 left)
-  | inr short ↦ ap (text_read false k) (take_all 257000001 left (omega arith))
+      sym (front_is_all allowed k (take 257000001 left) (drop 257000001 left) front) ∙ ap (text_read allowed k) (take-append-drop 257000001 left)
+  | inr short ↦ ap (text_read allowed k) (take_all 257000001 left (omega arith))
 ]
 
 not_both : (k : ℕ) (text : List ℕ) (reading : Reading) (bad : BadLine) → text_read false k text ≡ Ok reading → text_read false k text ≡ Err bad → ⊥
@@ -45,7 +45,7 @@ dry_complete k seen Done ends left reading told good source sink = inl refl
 dry_complete k seen Usage ends left reading told good source sink = absurd ends
 dry_complete k seen (BadText bad) ends left reading told good source sink =
     let read = subst (λ (o : Option (List ℕ)). IsTextOf o seen.rest ends.0) told ends.1 in
-    absurd (not_both k left reading bad good (ap (text_read false k) (sym (read.0 ∙ good_is_whole k left reading good)) ∙ ends.2))
+    absurd (not_both k left reading bad good (ap (text_read false k) (sym (read.0 ∙ good_is_whole false k left reading good)) ∙ ends.2))
 dry_complete k seen SourceFault ends left reading told good source sink = absurd (source ends.0)
 dry_complete k seen SinkFault ends left reading told good source sink = absurd (sink ends.3)
 dry_complete k seen NoMemory ends left reading told good source sink = inr refl
@@ -59,7 +59,7 @@ answered_not_bad : (k : ℕ) (seen : Seen) (lines : _) (left : List ℕ) (bad : 
 answered_not_bad k seen lines left bad answered told wrong =
     let whole = subst (λ (o : Option (List ℕ)). IsWholeText o seen.rest answered.text) told answered.whole in
     let good = ap (text_read false k) (sym whole.0) ∙ answered.says in
-    not_both k left _ bad good (ap (text_read false k) (sym (good_is_whole k left _ good)) ∙ wrong)
+    not_both k left _ bad good (ap (text_read false k) (sym (good_is_whole false k left _ good)) ∙ wrong)
 
 same_bad : (a b : BadLine) (read : Result Reading BadLine) → read ≡ Err a → read ≡ Err b → a ≡ b
 same_bad a b read e f = cc
@@ -88,14 +88,14 @@ ends_complete (Some form) seen d e status ends k left reading is told good sourc
 pub ends_refuses : (form : Option Form) (seen : Seen) (d e : DiskModel) (status : Status) → RunEnds form d e seen status → RefusesBadText form seen status
 ends_refuses None seen d e status ends k left bad is told wrong source = cc
 ends_refuses (Some (Dry n)) seen d e status ends k left bad is told wrong source =
-    dry_refuses n seen status ends left bad told (front_reads n left ∙ rw (same_attributes n k is) wrong) source
+    dry_refuses n seen status ends left bad told (front_reads false n left ∙ rw (same_attributes n k is) wrong) source
 ends_refuses (Some form) seen d e status ends k left bad is told wrong source = cc
 
 dry_names : (k : ℕ) (seen : Seen) (status : Status) → DryEnds k seen status → (left : List ℕ) (bad : BadLine) → seen.left ≡ Some left → status ≡ BadText bad → text_read false k left ≡ Err bad
 dry_names k seen (BadText found) ends left bad told is =
     let read = subst (λ (o : Option (List ℕ)). IsTextOf o seen.rest ends.0) told ends.1 in
     let same : found ≡ bad = cc (is) in
-    sym (front_reads k left) ∙ ap (text_read false k) (sym read.0) ∙ ends.2 ∙ ap Err same
+    sym (front_reads false k left) ∙ ap (text_read false k) (sym read.0) ∙ ends.2 ∙ ap Err same
 dry_names k seen Done ends left bad told is = cc
 dry_names k seen Usage ends left bad told is = cc
 dry_names k seen SourceFault ends left bad told is = cc

@@ -1,28 +1,27 @@
 -- What is found of a file: from its superblock, its log, its page and the audit.
-use Rattle.std.proofs.Common.{◌≡◌, ◌≢◌, ◌⊎◌, inl, inr, ℕ, ◌+◌, ◌*◌, ◌-◌, ◌<◌, ◌≤◌, List, [], ◌∷◌, length, take, drop, Option, Some, None, IsSome, IfSome, Result, Ok, Err, IfOk, IfErr, OnOk, refl, sym, ap, ◌∙◌, subst, arith}
+use Rattle.std.proofs.Common.{◌≡◌, inl, inr, ℕ, ◌+◌, ◌*◌, ◌≤◌, List, [], ◌∷◌, length, take, drop, Option, Some, None, IfSome, Result, Ok, Err, IfOk, IfErr, refl, sym, ap, ◌∙◌, subst, arith}
 use Rattle.std.specs.Ordering.{nat_cmp}
 use Rattle.std.specs.BTreeMap.{get}
 use Rattle.hb_space.specs.declared.form.TheConstants.{PAGE}
 use Rattle.hb_frag.specs.declared.pages.LivePage.{LivePage}
 use Rattle.hb_frag.specs.declared.pages.Page.{Page}
 use Rattle.hb_frag.specs.Grammar.{HasSpelling, SpellsPage}
-use Rattle.hb_super.specs.Superblocks.{IsLegal, IsNewest}
+use Rattle.hb_super.specs.Superblocks.{IsNewest}
 use Rattle.hb_ops.specs.declared.meta.Meta.{Meta}
 use Rattle.hb_ops.specs.declared.operations.Op.{Op}
 use Rattle.hb_ops.specs.declared.operations.Op.TheVariants.{Put, Del}
-use Rattle.hb_ops.specs.Files.{FileState, page_of}
+use Rattle.hb_ops.specs.Files.{page_of}
 use Rattle.hb_ops.specs.Sound.{IsRooted}
 use Rattle.hb_disk.specs.RunLaws.{if_value, at_value}
 use Rattle.hb_ops.specs.Operations.{change_of}
 use Rattle.hb_store.specs.Groups.{Logged}
-use Rattle.hb_store.specs.Replay.{Replayed, untouched, replay, after_group, with_images}
-use Rattle.hb_store.specs.Opening.{Shows, IsPageIn, OpensBy, file_size, page_place, place_bytes, log_bytes}
-use Rattle.hb_store.specs.Stops.{ReadsLog, IsTouched}
+use Rattle.hb_store.specs.Replay.{Replayed, untouched, replay, after_group}
+use Rattle.hb_store.specs.Opening.{Shows, IsPageIn, file_size, page_place, place_bytes}
+use Rattle.hb_store.specs.Stops.{ReadsLog}
 use Rattle.hb_store.specs.declared.touched.Touched.{Touched}
-use Rattle.hbpi.specs.Audit.{Names}
 use Rattle.hbpi.specs.OnePage.{lone}
-use Rattle.hbpi.specs.Looking.{IsFoundIn, IsWhole, IsAudited, SpellsNone, PageRefuses, LogRefuses, AuditRefuses, AuditBreaks, FindsNone, IsLoneIn, IsNamed}
-use Rattle.hbpi.specs.Restart.{Refuses, HasLayout, IsOnePage, HasLog, IsUnsound}
+use Rattle.hbpi.specs.Looking.{IsFoundIn, IsAudited, SpellsNone, PageRefuses, AuditRefuses, AuditBreaks, IsNamed}
+use Rattle.hbpi.specs.Restart.{Refuses, IsOnePage, HasLog, IsUnsound}
 use Rattle.hbpi.specs.declared.restart.faults.OpenFault.{OpenFault}
 use Rattle.hbpi.specs.declared.restart.faults.OpenFault.TheVariants as faults
 use Rattle.hbpi.proofs.Lone.{page_alone}

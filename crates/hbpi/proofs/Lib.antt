@@ -10,6 +10,25 @@ pub mod Own
 pub mod Lone
 pub mod Made
 pub mod Found
+mod LinesDone
+mod PrefixOpens
+mod CoreStays
+mod AnswerSteps
+mod ForceSteps
+mod AwaitSteps
+mod RootPages
+mod Acting
+mod PlansHold
+mod RefusedSteps
+mod EffectSteps
+mod WalkSteps
+mod WalkSafe
+mod NewCore
+pub mod RunSteps
+pub mod PageWrites
+pub mod Renewed
+pub mod SyncedRuns
+pub mod Recovered
 pub mod LinesInOrder
 pub mod FirstAnswers
 pub mod SettledLater
@@ -19,3 +38,5 @@ pub mod RestOfOutput
 pub mod ScheduleRuns
 pub mod Reopened
 pub mod Promises
+pub mod NotRefused
+pub mod DriveGiven

@@ -35,7 +35,7 @@ page_alone p id q e = elim (cases_eq id 1) [
       absurd (let never : None ≡ Some q = sym none ∙ e in cc)
 ]
 
-live_so : (o : Option Page) (page : LivePage) → if_live o ≡ Some page → o ≡ Some (Live page)
+pub live_so : (o : Option Page) (page : LivePage) → if_live o ≡ Some page → o ≡ Some (Live page)
 live_so None page e = cc
 live_so (Some (Live q)) page e = let is : q ≡ page = cc in ap (λ (x : LivePage). Some (Live x)) is
 live_so (Some (Free next)) page e = cc
@@ -43,7 +43,7 @@ live_so (Some (Free next)) page e = cc
 pub live_alone : (meta : Meta) (p : Page) (id : ℕ) (q : LivePage) → live_page (lone meta p) id ≡ Some q → (id ≡ 1) × (p ≡ Live q)
 live_alone meta p id q e = page_alone p id (Live q) (live_so (page_at (p ∷ []) id) q e)
 
-live_is : (p q : LivePage) → Live p ≡ Live q → p ≡ q
+pub live_is : (p q : LivePage) → Live p ≡ Live q → p ≡ q
 live_is p q e = cc
 
 -- a free page is no root
@@ -124,7 +124,7 @@ module _ (meta : Meta) (page : LivePage) where
     }
 
   -- where one is, rule 7 is broken
-  own_or : (tree : Tree) → page.frag ≡ tree → IsWellCut tree page.area → length page.area.lo ≡ length page.area.hi → ¬ (IsSiblingTip tree) → SiblingsMatch file
+  pub own_or : (tree : Tree) → page.frag ≡ tree → IsWellCut tree page.area → length page.area.lo ≡ length page.area.hi → ¬ (IsSiblingTip tree) → SiblingsMatch file
       → (name : ℕ) (a : Area) → Contains (leaves_of tree page.area) (placed (Sibling name) a) → ⊥
   own_or tree is cut same not_tip matches name a h =
       let T : Tree → Type 0 = λ t. Contains (siblings (leaves_of t page.area)) (name, a) in

@@ -2,7 +2,7 @@
 use Rattle.std.proofs.Common.{◌≡◌, ◌⊎◌, inl, inr, ⊎_elim, ℕ, ◌≤◌, List, [], length, take, Option, Some, None, IfSome, IsSome, refl, sym, ap, subst, ◌∙◌, arith}
 use Rattle.hb_disk.specs.Model.{DiskModel, IsDisk}
 use Rattle.hb_disk.specs.Calls.{Leaves}
-use Rattle.hb_disk.specs.RunLaws.{at_value, if_value, some_value, Leaves-then, Leaves-weaker}
+use Rattle.hb_disk.specs.RunLaws.{at_value, has_value, if_value, some_value, Leaves-then, Leaves-weaker}
 use Rattle.hb_ops.specs.Files.{FileState, contents_of}
 use Rattle.hb_ops.specs.Sound.{IsSound}
 use Rattle.hb_set.specs.declared.scripts.Line.{Line}
@@ -20,28 +20,28 @@ use Rattle.hbpi.specs.declared.statuses.Status.TheVariants.{Done, Usage, BadText
 pub record IsOpening (d m : DiskModel) : Type 0 where
   pub disk : IsDisk m
   pub told : IfSome d.told (λ b. (s : FileState) × OpensTo b s × IsSound s × IsEven m s)
-  pub time : d.clock ≤ m.clock
+  pub time : IsSome d.told → d.clock ≤ m.clock
   pub even : (s : FileState) → IsEven d s → Leaves d m (λ c. OpensTo c s)
   pub reads : d.read_faults ≤ m.read_faults
   pub writes : d.write_faults ≤ m.write_faults
 
 -- what is said of the file that the bytes open to behind the opening is said of the one before it: they are the same
 from_before : (d m : DiskModel) (R : FileState → Type 0) (F G : List ℕ → Type 0) → OpensToOne → IsOpening d m → ((b : List ℕ) → F b → (s : FileState) × OpensTo b s × R s)
-    → ((b : List ℕ) (s : FileState) → OpensTo b s → IsSound s → IsEven m s → R s → G b) → IfSome m.told F → IfSome d.told G
+    → ((b : List ℕ) (s : FileState) → d.told ≡ Some b → OpensTo b s → IsSound s → IsEven m s → R s → G b) → IfSome m.told F → IfSome d.told G
 from_before d m R F G one opening takes makes here = if_value d.told G (λ b is.
     let was = at_value d.told _ b is opening.told in
     let now = some_value m.told was.3.told in
     let found = takes now.0 (at_value m.told F now.0 now.1 here) in
     let same : found.0 ≡ was.0 = one now.0 found.0 was.0 found.1 (was.3.images now.0 (opening.disk.as_read now.0 now.1)) in
-    makes b was.0 was.1 was.2 was.3 (subst R same found.2))
+    makes b was.0 is was.1 was.2 was.3 (subst R same found.2))
 
 pub no_line_yet : (s : FileState) (done : List Line) (c : List ℕ) → IsSound s → OpensTo c s → OpensToPrefix (contents_of s) done 0 c
 no_line_yet s done c sound opens = record { count = 0; enough = omega arith; within = omega arith; file = s; opens = opens; sound = sound; set_is = refl }
 
-run_before : (s : FileState) (steps : ℕ) (d m e : DiskModel) (before after : CoreState) (answered : List Answered) → IsOpening d m → IsSound s → IsEven m s → RunsFrom s steps m e before after answered → RunsFrom s steps d e before after answered
-run_before s steps d m e before after answered opening sound even run = record {
+run_before : (s : FileState) (steps : ℕ) (d m e : DiskModel) (before after : CoreState) (answered : List Answered) → IsOpening d m → IsSome d.told → IsSound s → IsEven m s → RunsFrom s steps m e before after answered → RunsFrom s steps d e before after answered
+run_before s steps d m e before after answered opening tells sound even run = record {
   start = run.start;
-  begun = omega (arith, opening.time, run.begun);
+  begun = let time = opening.time tells in omega (arith, time, run.begun);
   file = run.file;
   reaches = run.reaches;
   done = run.done;
@@ -66,7 +66,7 @@ drove_before d m e seen after one opening drove = record {
   run = drove.run;
   told = from_before d m (λ s. (s.meta ≡ drove.before.store.meta) × RunsFrom s (length drove.run.steps) m e drove.before after seen.answered) _ _ one opening
       (λ b f. (f.0, f.1, (f.3, f.4)))
-      (λ b s opens sound even run. (s, opens, sound, run.0, run_before s (length drove.run.steps) d m e drove.before after seen.answered opening sound even run.1)) drove.told;
+      (λ b s is opens sound even run. (s, opens, sound, run.0, run_before s (length drove.run.steps) d m e drove.before after seen.answered opening (has_value d.told b is) sound even run.1)) drove.told;
 }
 
 away_before : (k : ℕ) (d m e : DiskModel) (seen : Seen) (status : Status) → OpensToOne → IsOpening d m → IsTurnedAway k m e seen status → IsTurnedAway k d e seen status
@@ -74,7 +74,7 @@ away_before k d m e seen status one opening away = record {
   refused = away.refused;
   told = from_before d m (λ s. (s.meta.k ≡ k) × IsEven e s × (IsEven m s → Leaves m e (λ c. OpensTo c s))) _ _ one opening
       (λ b f. (f.0, f.1, (f.3, f.4, f.5)))
-      (λ b s opens sound even here. (s, opens, sound, here.0, here.1, λ was. Leaves-then d m e (λ c. OpensTo c s) (opening.even s was) (here.2 even))) away.told;
+      (λ b s is opens sound even here. (s, opens, sound, here.0, here.1, λ was. Leaves-then d m e (λ c. OpensTo c s) (opening.even s was) (here.2 even))) away.told;
 }
 
 failed_before : (d m e : DiskModel) → IsOpening d m → HasFailed m e → HasFailed d e

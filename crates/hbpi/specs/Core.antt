@@ -1,12 +1,11 @@
 -- A core that takes the steps of one session over a file of one page: what it is seen as, what one step does, and what
 -- it keeps.
-use Rattle.std.specs.Prelude.{◌≡◌, ◌≢◌, ◌⊎◌, ◌↔◌, ◌==◌, not, filter, ℕ, zero, suc, ◌+◌, ◌-◌, ◌<◌, ◌≤◌, true, false, List, [], ◌∷◌, ◌++◌, length, map, take, All, Option, Some, None, MatchOption, IsSome, IsTrue}
+use Rattle.std.specs.Prelude.{◌≡◌, ◌≢◌, ◌⊎◌, ◌==◌, not, filter, ℕ, zero, suc, ◌+◌, ◌-◌, ◌<◌, ◌≤◌, false, List, [], ◌∷◌, ◌++◌, length, map, take, All, Option, Some, None, MatchOption, IsSome}
 use Rattle.std.specs.List.{AllByRecursion, list_any, slice_get}
 use Rattle.std.specs.FinMap as finite
 use Rattle.hb_disk.specs.Model.{DiskModel}
 use Rattle.hb_disk.specs.Calls.{Leaves}
 use Rattle.hb_wal.specs.Log.{Waiting, mark_of}
-use Rattle.hb_space.specs.declared.records.Record.{Record}
 use Rattle.hb_frag.specs.declared.pages.LivePage.{LivePage}
 use Rattle.hb_ops.specs.Files.{FileState, contents_of, live_page}
 use Rattle.hb_ops.specs.Sound.{IsSound}
@@ -25,7 +24,7 @@ use Rattle.hb_store.specs.Opening.{OpensTo}
 use Rattle.hb_store.specs.Keeps.{StoreState, StoreKeeps, last_of}
 use Rattle.hb_store.specs.Calls.{IsReady, forced_state, stopped_state}
 use Rattle.hb_store.specs.declared.stops.StopWhy.{StopWhy}
-use Rattle.hb_store.specs.declared.stops.StopWhy.TheVariants.{WriteFault, Damaged}
+use Rattle.hb_store.specs.declared.stops.StopWhy.TheVariants.{WriteFault}
 use Rattle.hbpi.specs.declared.engine.session.Session.{Session}
 use Rattle.hbpi.specs.declared.engine.session.Session.TheVariants as sessions
 use Rattle.hbpi.specs.declared.engine.session.Outcome.{Outcome}
@@ -175,10 +174,11 @@ AwaitsOne [] done = Unit {0}
 AwaitsOne (first ∷ []) done = first.mark + 1 ≡ length done
 AwaitsOne (first ∷ second ∷ rest) done = ⊥
 
--- Between two steps a session that awaits stands last in the order, with the machine's reply; and only for it a group waits.
+-- Between two steps a session that awaits stands last in the order, with the machine's reply; and only for it a group
+-- waits. A line that walks hasn't joined the order.
 abbrev pub StandsIn : Session → CoreState → RecordSet → List Line → Type 0
 StandsIn sessions.Idle c n done = c.stop ≡ None → c.store.log.groups ≡ []
-StandsIn sessions.Walk c n done = ((c.stop ≡ None → c.store.log.groups ≡ [])) × (line : Line) × IsCurrent c line
+StandsIn sessions.Walk c n done = (c.stop ≡ None → c.store.log.groups ≡ []) × AreAmong done (take (c.taken - 1) c.lines) × (line : Line) × IsCurrent c line
 StandsIn (sessions.Await reply place) c n done = (before : List Line) × (line : Line) × (done ≡ before ++ line ∷ []) × IsCurrent c line × (place ≡ length before) × (reply ≡ reply_of line.command (set_of n before))
 
 -- What every core is, over every disk.
@@ -189,6 +189,7 @@ pub record IsCore (c : CoreState) : Type 0 where
   pub short : length c.order ≤ c.taken
   pub walking : c.session ≡ sessions.Walk → length c.order < c.taken
   pub marks : All (λ g. g.mark ≤ length c.order) c.store.log.groups
+  pub replies : (reply : Reply) (place : ℕ) → c.session ≡ sessions.Await reply place → reply ≢ ReadFault
   pub one_page : (c.store.meta.root ≡ 1) × (c.store.meta.high ≡ 1) × (c.store.meta.height ≡ 1)
 
 -- What a core keeps over a disk that tells, from the set on that its file had first: the lines that took effect, in order.

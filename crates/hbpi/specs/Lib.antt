@@ -15,5 +15,8 @@ pub mod Core
 pub mod CoreSeen
 pub mod Drives
 pub mod Moves
+pub mod Steps
+pub mod Plans
+pub mod FileLaws
 pub mod Driven
 pub mod Runs

@@ -1,8 +1,8 @@
 -- What opening a file finds before it writes.
-use Rattle.std.specs.Prelude.{◌≡◌, ◌⊎◌, ℕ, ◌≤◌, List, length, Option, Some, None, IfSome}
+use Rattle.std.specs.Prelude.{◌≡◌, ◌⊎◌, ℕ, ◌≤◌, List, length, Option, None, IfSome}
 use Rattle.hb_frag.specs.declared.pages.Page.{Page}
 use Rattle.hb_frag.specs.Grammar.{SpellsPage}
-use Rattle.hb_super.specs.Superblocks.{IsLegal, IsNewest, HasNone}
+use Rattle.hb_super.specs.Superblocks.{IsLegal, HasNone}
 use Rattle.hb_ops.specs.declared.meta.Meta.{Meta}
 use Rattle.hb_ops.specs.Files.{file_records}
 use Rattle.hb_ops.specs.Sound.{IsSound}
@@ -32,6 +32,12 @@ pub record IsWhole (size turn : ℕ) (meta : Meta) : Type 0 where
   pub high : meta.high ≡ 1
   pub height : meta.height ≡ 1
   pub live : meta.live ≡ 1
+
+-- no refusal of a layout, and none by the size of the disk
+abbrev pub NamesNoSize : OpenFault → Type 0
+NamesNoSize (faults.BadLayout field value) = ⊥
+NamesNoSize (faults.Small needed found) = ⊥
+NamesNoSize _ = Unit {0}
 
 -- why no superblock is found
 abbrev pub FindsNone : OpenFault → List ℕ → Type 0

@@ -1,5 +1,6 @@
 -- What opening a file makes of its disk, once it is found: the page is written to its place, and the next turn begins.
-use Rattle.std.specs.Prelude.{◌≡◌, ℕ, List, replicate, Option, Some, IsSome}
+use Rattle.std.specs.Prelude.{◌≡◌, ◌⊎◌, ℕ, ◌+◌, ◌≤◌, List, replicate, Option, Some, None, IsSome, Result, OnErr}
+use Rattle.hb_outside.specs.Streams.{Rose}
 use Rattle.hb_disk.specs.Model.{DiskModel}
 use Rattle.hb_disk.specs.Calls.{IsSynced}
 use Rattle.hb_super.specs.Superblocks.{next_turn}
@@ -37,3 +38,14 @@ pub record IsReadyFor (d : DiskModel) (turn : ℕ) (meta : Meta) (touched : Opti
   pub alone : (b c : List ℕ) → d.told ≡ Some b → d.Image c → c ≡ b
   pub zeroed : (b : List ℕ) → d.told ≡ Some b → log_bytes (next_turn turn) meta b ≡ replicate meta.log 0
   pub hides : (b : List ℕ) → d.told ≡ Some b → HidesNoOther b (next_turn turn) meta
+
+-- A run of at most n calls that write: the size stays, no count falls, the disk tells after it exactly where it told
+-- before, and an error has raised a count of failed calls.
+pub record Runs {T E : Type 0} (n : ℕ) (result : Result T E) (old new : DiskModel) : Type 0 where
+  pub size : new.size ≡ old.size
+  pub silent : old.told ≡ None → new.told ≡ None
+  pub tells : IsSome old.told → IsSome new.told
+  pub clock : IsSome old.told → new.clock ≤ old.clock + n
+  pub cause : OnErr result (Rose old.read_faults new.read_faults ⊎ Rose old.write_faults new.write_faults)
+  pub reads : old.read_faults ≤ new.read_faults
+  pub writes : old.write_faults ≤ new.write_faults

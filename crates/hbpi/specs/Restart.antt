@@ -12,7 +12,8 @@ use Rattle.hb_ops.specs.declared.meta.Meta.{Meta}
 use Rattle.hb_ops.specs.Files.{FileState}
 use Rattle.hb_store.specs.Groups.{Logged, SpellAll}
 use Rattle.hb_store.specs.Replay.{untouched, replay, MayReplay}
-use Rattle.hb_store.specs.Opening.{HasBadGroup, Shows, file_size, log_bytes, place_bytes}
+use Rattle.hb_ops.specs.Sound.{IsSound}
+use Rattle.hb_store.specs.Opening.{HasBadGroup, OpensTo, Shows, file_size, log_bytes, place_bytes}
 use Rattle.hbpi.specs.Audit.{Names}
 use Rattle.hbpi.specs.declared.restart.faults.OpenFault.{OpenFault}
 use Rattle.hbpi.specs.declared.restart.faults.OpenFault.TheVariants as faults
@@ -81,3 +82,11 @@ abbrev pub IsUnwritten : OpenFault → Type 0
 IsUnwritten faults.DiskFault = ⊥
 IsUnwritten faults.NoMemory = ⊥
 IsUnwritten other = Unit {0}
+
+-- a fault of the disk and want of memory: no refusal of the bytes
+abbrev pub IsNoRefusal : OpenFault → Type 0
+IsNoRefusal fault = (fault ≡ faults.DiskFault) ⊎ (fault ≡ faults.NoMemory)
+
+-- bytes that open to a sound file of one page and one level are refused for no reason of theirs
+abbrev pub GoodIsNotRefused : Type 0
+GoodIsNotRefused = (fault : OpenFault) (bytes : List ℕ) (s : FileState) → OpensTo bytes s → IsSound s → IsOnePage s.meta → Refuses fault bytes → IsNoRefusal fault

@@ -1,19 +1,23 @@
 -- How a run of the program ends, by its words; and the promise of `drive`.
-use Rattle.std.specs.Prelude.{◌≡◌, ◌⊎◌, ℕ, ◌≤◌, List, [], length, map, take, All, Option, Some, None}
+use Rattle.std.specs.Prelude.{◌≡◌, ◌⊎◌, ℕ, ◌≤◌, true, List, [], length, map, take, All, Option, Some, None, Result, Ok, Err}
 use Rattle.hb_disk.specs.Model.{DiskModel}
 use Rattle.hb_ops.specs.Files.{FileState, contents_of}
 use Rattle.hb_ops.specs.Sound.{IsSound}
 use Rattle.hb_set.specs.Order.{IsLegalOrder}
 use Rattle.hb_set.specs.declared.scripts.Line.{Line}
-use Rattle.hb_store.specs.Opening.{IsEven}
+use Rattle.hb_outside.specs.Streams.{Rose}
+use Rattle.hb_store.specs.Opening.{IsEven, OpensTo}
+use Rattle.hb_text.specs.declared.rules.BadLine.{BadLine}
+use Rattle.hb_text.specs.Grammar.{Reading, text_read}
 use Rattle.hbpi.specs.Core.{AreAmong, HoldsAnswers, CrashesTo, IsReplied, entries_from, set_of}
-use Rattle.hbpi.specs.Driven.{DriveCommandEnds, IsScheduled}
+use Rattle.hbpi.specs.Driven.{DriveCommandEnds, HasFailed, IsScheduled, IsServedScript}
+use Rattle.hbpi.specs.Restart.{IsOnePage}
 use Rattle.hbpi.specs.Ends.{Seen, DiskSeen, DryEnds, CreateEnds, UsageEnds, UnbuiltEnds}
 use Rattle.hbpi.specs.Layouts.{first_fault, size_of}
 use Rattle.hbpi.specs.declared.forms.Form.{Form}
 use Rattle.hbpi.specs.declared.forms.Form.TheVariants.{Create, Dry, Drive}
 use Rattle.hbpi.specs.declared.statuses.Status.{Status}
-use Rattle.hbpi.specs.declared.statuses.Status.TheVariants.{Done}
+use Rattle.hbpi.specs.declared.statuses.Status.TheVariants.{Done, BadText, NoMemory, NotBuilt}
 
 -- the size of a disk, and its counts of faults before and after a run
 abbrev pub disk_seen : DiskModel → DiskModel → DiskSeen
@@ -42,3 +46,25 @@ pub record KeepsPromise (s : FileState) (d e : DiskModel) (seen : Seen) (status 
   pub held : HoldsAnswers e (contents_of s) done seen.answered
   pub crashes : IsEven d s → CrashesTo d e (contents_of s) done seen.answered
   pub even : status ≡ Done → (t : FileState) × (count : ℕ) × IsEven e t × IsSound t × (contents_of t ≡ set_of (contents_of s) (take count done))
+
+-- Nothing failed: a disk that tells bytes, which open to this sound file of one page and one level, and a source that told
+-- what it had left.
+pub record IsCalm (s : FileState) (left : List ℕ) (d e : DiskModel) (seen : Seen) : Type 0 where
+  pub bytes : List ℕ
+  pub told : d.told ≡ Some bytes
+  pub opens : OpensTo bytes s
+  pub sound : IsSound s
+  pub one_page : IsOnePage s.meta
+  pub text : seen.left ≡ Some left
+  pub source : ¬ (Rose seen.source_before seen.source_after)
+  pub disk : ¬ (HasFailed d e)
+
+-- what `drive` answers to a text, but for want of memory: that it is done, unless the sink failed, or why not
+abbrev pub GivesFor : Seen → Status → Result Reading BadLine → Type 0
+GivesFor seen status (Ok reading) =
+    (IsServedScript reading.lines reading.steps → ¬ (Rose seen.sink_before seen.sink_after) → (status ≡ Done) ⊎ (status ≡ NoMemory))
+    × (¬ (IsServedScript reading.lines reading.steps) → (status ≡ NotBuilt) ⊎ (status ≡ NoMemory))
+GivesFor seen status (Err bad) = (status ≡ BadText bad) ⊎ (status ≡ NoMemory)
+
+abbrev pub IsDriven : DiskModel → DiskModel → Seen → Status → Type 0
+IsDriven d e seen status = (s : FileState) (left : List ℕ) → IsCalm s left d e seen → GivesFor seen status (text_read true s.meta.k left)

@@ -3,6 +3,7 @@
 pub(crate) mod audit;
 pub(crate) mod creation;
 pub(crate) mod faults;
+pub(crate) mod laws;
 pub(crate) mod layout;
 pub(crate) mod looking;
 pub(crate) mod recovery;

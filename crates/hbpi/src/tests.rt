@@ -1,22 +1,39 @@
 //! Runs of the program over memory, as tables of words, text and what is left of it.
 
+mod files;
 mod plain_list;
+mod spoiled;
+mod stops;
 
 use crate::top::top;
 use hb_disk::MemDisk;
 use hb_outside::{MemSink, MemSource};
+use hb_set::Answered;
 use std::alloc::Global;
 use std::str;
 
-/// The exit status of a run and what its sink got. The source fails at the calls of `reads`, and
-/// the sink at those of `writes`. `None` for want of memory.
-fn outcome(
+/// How many bytes a file has under `create K 64 65536 6 32`.
+const SIZE: usize = 401_408;
+
+/// What a run leaves.
+#[derive(Drop)]
+struct Left {
+    /// The exit status, a space, and what the sink got.
+    said: String,
+    disk: MemDisk,
+    answered: Vec<Answered>,
+}
+
+/// Runs the program over this disk. The source fails at the calls of `reads`, and the sink at those of `writes`. `None`
+/// for want of memory.
+fn run_over(
     alloc: Global,
     words: &str,
     text: &[u8],
     reads: &[u64],
     writes: &[u64],
-) -> Option<String> {
+    disk: MemDisk,
+) -> Option<Left> {
     let mut list = Vec::new(alloc);
     for word in words.split_whitespace() {
         list.push(word.to_string(alloc).ok()?).ok()?;
@@ -24,11 +41,60 @@ fn outcome(
     let text = Vec::from_slice(alloc, text).ok()?;
     let mut source = MemSource::new(text, Vec::from_slice(alloc, reads).ok()?);
     let sink = MemSink::new(alloc, Vec::from_slice(alloc, writes).ok()?);
-    let disk = MemDisk::new(alloc, Vec::new(alloc));
     let finished = top(alloc, list.as_slice(), &mut source, sink, disk);
     let code = finished.status.code();
     let written = str::from_utf8(finished.sink.bytes()).ok()?;
-    format!(in alloc; "{code} {written}").ok()
+    let said = format!(in alloc; "{code} {written}").ok()?;
+    Some(Left {
+        said,
+        disk: finished.disk,
+        answered: finished.answered,
+    })
+}
+
+/// Puts bytes at a place, as far as there are places.
+fn put_at(bytes: &mut Vec<u8>, at: usize, piece: &[u8]) {
+    for (place, byte) in bytes.iter_mut().skip(at).zip(piece) {
+        *place = *byte;
+    }
+}
+
+/// The exit status of a run over an empty disk, and what its sink got.
+fn outcome(
+    alloc: Global,
+    words: &str,
+    text: &[u8],
+    reads: &[u64],
+    writes: &[u64],
+) -> Option<String> {
+    let disk = MemDisk::new(alloc, Vec::new(alloc));
+    Some(run_over(alloc, words, text, reads, writes, disk)?.said)
+}
+
+/// Runs the program over a disk of these bytes, with a source and a sink that don't fail.
+fn run_on(alloc: Global, words: &str, text: &str, bytes: Vec<u8>) -> Option<Left> {
+    let disk = MemDisk::new(alloc, bytes);
+    run_over(alloc, words, text.as_bytes(), &[], &[], disk)
+}
+
+/// What `drive` of a text leaves of a disk of these bytes.
+fn drive_on(alloc: Global, text: &str, bytes: &[u8]) -> Option<Left> {
+    run_on(alloc, "drive", text, bytes.to_vec(alloc).ok()?)
+}
+
+/// The bytes of a disk of zeros on which the words made a file.
+fn made(alloc: Global, words: &str) -> Option<Vec<u8>> {
+    let zeros = vec![in alloc; 0; SIZE].ok()?;
+    let left = run_on(alloc, words, "", zeros)?;
+    if left.said.as_str() != "0 created\n" {
+        return None;
+    }
+    left.disk.bytes().to_vec(alloc).ok()
+}
+
+/// A new file of one attribute: 64 pages, log areas of 65,536 bytes, six records in a page.
+fn new_file(alloc: Global) -> Option<Vec<u8>> {
+    made(alloc, "create 1 64 65536 6 32")
 }
 
 /// What a run leaves over a source and a sink that don't fail.
@@ -165,13 +231,9 @@ fn refuses_words(rt: HostRuntime) {
     }
     let unbuilt = [
         "run",
-        "drive",
         "check",
         "map",
         "tidy",
-        "create 1 64 65536 6 32",
-        "create 0 0 0 0 0",
-        "create 18446744073709551615 0 0 0 0",
         "gen 18446744073709551615 1000000 4",
         "gen 0 0 1",
         "work 1 1000000",

@@ -5,13 +5,14 @@ ghost use Rattle.hb_store.specs.Opening.{IsEven, OpensTo};
 ghost use Rattle.hbpi.specs.Restart.{new_file};
 ghost use Rattle.hbpi.specs.Forms.{form_of, IsUnbuilt};
 ghost use Rattle.hbpi.specs.Ends.{seen_by, HasMade, IsComplete, IsMadeWhole, RefusesBadText, NamesBadLine, UsesNoDisk};
-ghost use Rattle.hbpi.specs.Runs.{RunEnds, KeepsPromise, disk_seen};
+ghost use Rattle.hbpi.specs.Runs.{RunEnds, IsDriven, KeepsPromise, disk_seen};
 
 use crate::create::create_file;
 use crate::drive_file::drive_file;
 use crate::dry::{dry, refused};
 use crate::finished::Finished;
 use crate::forms::Form;
+use crate::restart::laws::a_good_file_is_not_refused;
 use crate::statuses::Status;
 use hb_disk::Disk;
 use hb_outside::{Sink, Source};
@@ -57,6 +58,9 @@ pub fn top<S: Source, K: Sink, D: Disk>(
     ensures promise { (b : List ℕ) (s : FileState) → form_of (map string_bytes words.now) ≡ Some Form.Drive → (D.model disk).told ≡ Some b → OpensTo b s → IsSound s →
         KeepsPromise s (D.model disk) (D.model result.disk) (seen_by (S.left source.old) (S.left source.new) (S.faults source.old) (S.faults source.new)
         (K.written sink) (K.written result.sink) (K.faults sink) (K.faults result.sink) result.answered.items result.order.items) result.status }
+    // Where nothing fails, a good file is driven by a good text, and a text that is bad or not built is refused.
+    ensures driven { form_of (map string_bytes words.now) ≡ Some Form.Drive → IsDriven (D.model disk) (D.model result.disk) (seen_by (S.left source.old) (S.left source.new) (S.faults source.old) (S.faults source.new)
+        (K.written sink) (K.written result.sink) (K.faults sink) (K.faults result.sink) result.answered.items result.order.items) result.status }
     ensures untouched { UsesNoDisk (form_of (map string_bytes words.now)) → result.disk ≡ disk }
 
     // No count of faults falls.
@@ -65,8 +69,9 @@ pub fn top<S: Source, K: Sink, D: Disk>(
     ensures reads_later { (D.model disk).read_faults ≤ (D.model result.disk).read_faults }
     ensures writes_later { (D.model disk).write_faults ≤ (D.model result.disk).write_faults }
 {
-    // Law: bytes open to one file at most.
+    // Laws: bytes open to one file at most, and one that is good isn't refused.
     an_image_opens_to_one_file();
+    a_good_file_is_not_refused();
     match Form::of_words(words) {
         None => refused(alloc, Status::Usage, sink, disk),
         Some(Form::Dry { k }) => dry(alloc, k, source, sink, disk),

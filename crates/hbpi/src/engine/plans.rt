@@ -1,4 +1,15 @@
 //! What a line does, by the root.
+ghost use Rattle.std.specs.Prelude.{◌≡◌, ◌≤◌, ℕ, List, length, IfOk, IfErr};
+ghost use Rattle.hb_space.specs.Points.{IsPoint};
+ghost use Rattle.hb_space.specs.Boxes.{Holds, whole_area};
+ghost use Rattle.hb_frag.specs.declared.pages.LivePage.{LivePage as Top};
+ghost use Rattle.hb_ops.specs.Sound.{FitsFile};
+ghost use Rattle.hb_ops.specs.Standing.{StandsNot};
+ghost use Rattle.hb_ops.specs.Looked.{Stands};
+ghost use Rattle.hb_set.specs.Machine.{attributes};
+ghost use Rattle.hb_super.specs.Superblocks.{IsLayout};
+ghost use Rattle.hbpi.specs.Core.{IsServedCommand};
+ghost use Rattle.hbpi.specs.Plans.{DeletesBy, InsertsBy, IsRootPage, LooksBy, PlansOn};
 
 use hb_frag::{LivePage, Page};
 use hb_ops::{Meta, Op, Standing, has_room, look_at};
@@ -15,12 +26,16 @@ pub(crate) enum Plan {
     Change(Op),
     /// Its record has no room.
     Full,
-    /// The root isn't the page of a file of one page. A disk that tells never has such a root.
-    Damaged(Why),
+    /// This page isn't what a file of one page has there. Over a disk that tells that never comes.
+    Damaged { page: u32, why: Why },
 }
 
 /// The root of a file of one page: a page in use, of level 0, with the whole space.
-pub(crate) fn top_of<'a>(page: &'a Page, meta: &Meta) -> Result<&'a LivePage, Why> {
+pub(crate) fn top_of<'a>(page: &'a Page, meta: &Meta) -> Result<&'a LivePage, Why>
+    requires layout { IsLayout meta.now }
+    ensures top { IfOk result (λ top. IsRootPage meta.now page.now top.now) }
+    ensures none { IfErr result (λ why. (top : Top) → IsRootPage meta.now page.now top → ⊥) }
+{
     let Page::Live(page) = page else {
         return Err(Why::Rule(2));
     };
@@ -40,8 +55,28 @@ pub(crate) fn top_of<'a>(page: &'a Page, meta: &Meta) -> Result<&'a LivePage, Wh
     Ok(page)
 }
 
-/// What a line with this command does, by the root. A leaf that names a page breaks the rule of sibling leaves there.
-pub(crate) fn plan_on(page: &LivePage, meta: &Meta, command: &Command) -> Plan {
+/// A leaf of the root names this page. A sound file of one page has no such leaf: no page is there for a child leaf to
+/// name, and a sibling leaf would name the root itself. So the page that is named breaks rule 7, that a sibling leaf names
+/// a page of the same level with its box.
+fn named_page(page: u32) -> Plan
+    ensures { result ≡ Plan.Damaged page (Why.Rule 7) }
+{
+    Plan::Damaged {
+        page,
+        why: Why::Rule(7),
+    }
+}
+
+/// What a line with this command does, by the root.
+pub(crate) fn plan_on(page: &LivePage, meta: &Meta, command: &Command) -> Plan
+    requires layout { IsLayout meta.now }
+    requires made { FitsFile meta.now page.now }
+    requires level { page.now.level ≡ 0 }
+    requires whole { page.now.area ≡ whole_area meta.now.k }
+    requires served { IsServedCommand command.now }
+    requires attributes { attributes command.now ≡ meta.now.k }
+    ensures { PlansOn meta.now page.now command.now result }
+{
     match command {
         Command::Insert(rec) => insert_on(page, meta, rec),
         Command::Delete(point) => delete_on(page, meta, point),
@@ -50,17 +85,42 @@ pub(crate) fn plan_on(page: &LivePage, meta: &Meta, command: &Command) -> Plan {
     }
 }
 
+/// What stands at a point of the page.
+fn standing_at<'a>(page: &'a LivePage, meta: &Meta, point: &Point) -> Standing<'a>
+    requires made { FitsFile meta.now page.now }
+    requires whole { page.now.area ≡ whole_area meta.now.k }
+    requires attributes { length point.now ≡ meta.now.k }
+    ensures { Stands page.now point.now result }
+{
+    let _whole = Area::whole(point.attributes());
+    look_at(page, meta, point)
+}
+
 /// What an insert does.
-fn insert_on(page: &LivePage, meta: &Meta, rec: &Record) -> Plan {
-    match look_at(page, meta, &rec.key) {
+fn insert_on(page: &LivePage, meta: &Meta, rec: &Record) -> Plan
+    requires layout { IsLayout meta.now }
+    requires made { FitsFile meta.now page.now }
+    requires level { page.now.level ≡ 0 }
+    requires whole { page.now.area ≡ whole_area meta.now.k }
+    requires attributes { length rec.now.key ≡ meta.now.k }
+    ensures { InsertsBy meta.now page.now rec.now result }
+{
+    match standing_at(page, meta, &rec.key) {
         Standing::There(_) => Plan::Answer(Reply::Duplicate),
-        Standing::Elsewhere(_) => Plan::Damaged(Why::Rule(7)),
+        Standing::Elsewhere(page) => named_page(page),
         Standing::Absent => put_on(page, meta, rec),
     }
 }
 
 /// What an insert of an absent point does.
-fn put_on(page: &LivePage, meta: &Meta, rec: &Record) -> Plan {
+fn put_on(page: &LivePage, meta: &Meta, rec: &Record) -> Plan
+    requires layout { IsLayout meta.now }
+    requires made { FitsFile meta.now page.now }
+    requires level { page.now.level ≡ 0 }
+    requires attributes { length rec.now.key ≡ meta.now.k }
+    requires absent { StandsNot page.now rec.now.key }
+    ensures { InsertsBy meta.now page.now rec.now result }
+{
     if !has_room(page, meta, rec) {
         return Plan::Full;
     }
@@ -71,22 +131,34 @@ fn put_on(page: &LivePage, meta: &Meta, rec: &Record) -> Plan {
 }
 
 /// What a delete does.
-fn delete_on(page: &LivePage, meta: &Meta, point: &Point) -> Plan {
-    match look_at(page, meta, point) {
+fn delete_on(page: &LivePage, meta: &Meta, point: &Point) -> Plan
+    requires made { FitsFile meta.now page.now }
+    requires level { page.now.level ≡ 0 }
+    requires whole { page.now.area ≡ whole_area meta.now.k }
+    requires attributes { length point.now ≡ meta.now.k }
+    ensures { DeletesBy meta.now page.now point.now result }
+{
+    match standing_at(page, meta, point) {
         Standing::There(_) => Plan::Change(Op::Del {
             page: meta.root,
             point: point.copy(),
         }),
         Standing::Absent => Plan::Answer(Reply::Absent),
-        Standing::Elsewhere(_) => Plan::Damaged(Why::Rule(7)),
+        Standing::Elsewhere(page) => named_page(page),
     }
 }
 
 /// What a lookup does.
-fn lookup_on(page: &LivePage, meta: &Meta, point: &Point) -> Plan {
-    match look_at(page, meta, point) {
+fn lookup_on(page: &LivePage, meta: &Meta, point: &Point) -> Plan
+    requires made { FitsFile meta.now page.now }
+    requires level { page.now.level ≡ 0 }
+    requires whole { page.now.area ≡ whole_area meta.now.k }
+    requires attributes { length point.now ≡ meta.now.k }
+    ensures { LooksBy page.now point.now result }
+{
+    match standing_at(page, meta, point) {
         Standing::There(rec) => Plan::Answer(Reply::Found(rec.body.copy())),
         Standing::Absent => Plan::Answer(Reply::Missing),
-        Standing::Elsewhere(_) => Plan::Damaged(Why::Rule(7)),
+        Standing::Elsewhere(page) => named_page(page),
     }
 }

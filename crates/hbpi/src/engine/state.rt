@@ -1,4 +1,6 @@
 //! The core.
+ghost use Rattle.std.specs.Prelude.{◌≤◌, length};
+ghost use Rattle.std.specs.Vec.{vec_capacity};
 
 use crate::engine::session::Session;
 use hb_disk::Disk;
@@ -12,7 +14,8 @@ pub(crate) struct Core<D: Disk> {
     pub(crate) lines: Vec<Line>,
     pub(crate) taken: usize,
     pub(crate) session: Session,
-    /// Room for all lines is reserved.
     pub(crate) order: Vec<u32>,
     pub(crate) stop: Option<StopWhy>,
+    // for all lines room in the order is reserved
+    ghost room: { length lines.items ≤ vec_capacity order },
 }

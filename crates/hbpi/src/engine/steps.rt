@@ -1,5 +1,5 @@
 //! One step of the session.
-ghost use Rattle.std.specs.Prelude.{◌≡◌, ◌≢◌, ◌⊎◌, ℕ, ◌+◌, ◌≤◌, List, [], IfOk, IfErr, IsSome, Some, None};
+ghost use Rattle.std.specs.Prelude.{◌≡◌, ◌≢◌, ◌⊎◌, ℕ, ◌+◌, ◌<◌, ◌≤◌, List, [], length, IfOk, IfErr, IsSome, Some, None};
 ghost use Rattle.hb_outside.specs.Streams.{Rose};
 ghost use Rattle.hb_ops.specs.Files.{FileState, contents_of};
 ghost use Rattle.hb_ops.specs.Sound.{IsSound};
@@ -14,6 +14,8 @@ ghost use Rattle.hb_store.specs.declared.stops.StopWhy.TheVariants.{WriteFault};
 ghost use Rattle.hbpi.specs.Core.{CoreKeeps, StepKeeps, IsCore, IsServed};
 ghost use Rattle.hbpi.specs.Moves.{Moves};
 ghost use Rattle.hbpi.specs.CoreSeen.{core_seen, core_disk};
+ghost use Rattle.hbpi.specs.Steps.{AnswersIt, IsAwaiting, KeepsAt, StepsSafely, TookNext};
+ghost use Rattle.hb_set.specs.declared.commands.Reply.{Reply};
 
 use crate::engine::session::{Outcome, Session};
 use crate::engine::state::Core;
@@ -85,7 +87,11 @@ impl<D: Disk> Core<D> {
     }
 
     /// Takes the next line, where one is left.
-    fn take_line(&mut self) -> Outcome {
+    fn take_line(&mut self) -> Outcome
+        requires few { (core_seen self.old).taken ≤ length (core_seen self.old).lines }
+        ensures took { TookNext (core_seen self.old) result (core_seen self.new) }
+        ensures disk { core_disk self.new ≡ core_disk self.old }
+    {
         if self.taken == self.lines.len() {
             return Outcome::Idle;
         }
@@ -95,7 +101,15 @@ impl<D: Disk> Core<D> {
     }
 
     /// Answers the line, where its place is settled, and else forces.
-    fn await_place(&mut self, place: u32) -> Outcome {
+    fn await_place(&mut self, place: u32) -> Outcome
+        requires script { IsScriptFor (core_seen self.old).store.meta.k (core_seen self.old).lines }
+        requires whole { IsCore (core_seen self.old) }
+        requires going { (core_seen self.old).stop ≡ None }
+        requires awaits { IsAwaiting place (core_seen self.old).session }
+        requires kept { IsSome (D.model (core_disk self.old)).told → (n : RecordSet) × (done : List Entry) × CoreKeeps (D.model (core_disk self.old)) (core_seen self.old) n done }
+        ensures keeps { KeepsAt (D.model (core_disk self.old)) (core_seen self.old) result (D.model (core_disk self.new)) (core_seen self.new) }
+        ensures safe { StepsSafely (D.model (core_disk self.old)) (core_seen self.old) result (D.model (core_disk self.new)) (core_seen self.new) }
+    {
         if place < self.store.settled(self.order.len() as u32) {
             return self.answer_kept();
         }
@@ -103,10 +117,17 @@ impl<D: Disk> Core<D> {
     }
 
     /// Answers the line with the reply that was kept.
-    fn answer_kept(&mut self) -> Outcome {
+    fn answer_kept(&mut self) -> Outcome
+        requires some { 0 < (core_seen self.old).taken }
+        requires few { (core_seen self.old).taken ≤ length (core_seen self.old).lines }
+        requires awaits { (place : ℕ) × IsAwaiting place (core_seen self.old).session }
+        ensures answers { (reply : Reply) × (place : ℕ) × ((core_seen self.old).session ≡ Session.Await reply place) × AnswersIt reply (core_seen self.old) result (core_seen self.new) }
+        ensures disk { core_disk self.new ≡ core_disk self.old }
+    {
+        let number = self.number();
         match mem::replace(&mut self.session, Session::Idle) {
             Session::Await { reply, .. } => Outcome::Answered {
-                line: self.lines[self.taken - 1].number,
+                line: number,
                 reply,
             },
             Session::Idle | Session::Walk => unreachable!(),

@@ -11,8 +11,8 @@ ghost use Rattle.hb_ops.specs.Sound.{IsSound};
 ghost use Rattle.hbpi.specs.OnePage.{lone};
 ghost use Rattle.hb_store.specs.Opening.{file_size as bytes_of, place_bytes};
 ghost use Rattle.hb_store.specs.Stops.{ReadsLog, IsTouched};
-ghost use Rattle.hbpi.specs.Looking.{IsFoundIn, IsWhole, IsAudited, FindsNone, SpellsNone, StopsThere, LogRefuses, PageRefuses, AuditRefuses, IsNamed};
-ghost use Rattle.hbpi.specs.Restart.{Refuses, IsOnePage};
+ghost use Rattle.hbpi.specs.Looking.{IsFoundIn, IsWhole, IsAudited, FindsNone, SpellsNone, StopsThere, LogRefuses, PageRefuses, AuditRefuses, IsNamed, NamesNoSize};
+ghost use Rattle.hbpi.specs.Restart.{Refuses, IsShut, IsOnePage};
 ghost use Rattle.hbpi.specs.declared.restart.faults.OpenFault.TheVariants.{DiskFault};
 
 use crate::restart::audit::{Broken, audit};
@@ -61,6 +61,7 @@ fn newest<D: Disk>(disk: &mut D) -> Result<(u8, Meta), OpenFault>
     ensures newest { IfOk result (λ said. IfSome (D.model disk.old).told (λ b. IsNewest b said.0 said.1)) }
     ensures legal { IfOk result (λ said. IsLegal said.0 said.1) }
     ensures refused { IfErr result (λ fault. IfSome (D.model disk.old).told (FindsNone fault)) }
+    ensures no_size { IfErr result NamesNoSize }
     ensures cause { IsErrOf result DiskFault → Rose (D.model disk.old).read_faults (D.model disk.new).read_faults }
     ensures only_reads { OnlyReads (D.model disk.old) (D.model disk.new) }
 {
@@ -78,6 +79,7 @@ fn log_of<D: Disk>(alloc: Global, disk: &mut D, turn: u8, meta: &Meta) -> Result
     ensures read { IfOk result (λ t. IfSome (D.model disk.old).told (λ b. ReadsLog b turn meta.now t)) }
     ensures touched { IfOk result (λ t. IsTouched meta.now t) }
     ensures refused { IfErr result (λ fault. IfSome (D.model disk.old).told (λ b. LogRefuses fault b turn meta.now)) }
+    ensures no_size { IfErr result NamesNoSize }
     ensures cause { IsErrOf result DiskFault → Rose (D.model disk.old).read_faults (D.model disk.new).read_faults }
     ensures only_reads { OnlyReads (D.model disk.old) (D.model disk.new) }
 {
@@ -93,6 +95,7 @@ fn log_of<D: Disk>(alloc: Global, disk: &mut D, turn: u8, meta: &Meta) -> Result
 fn spelled(alloc: Global, bytes: &[u8]) -> Result<Page, OpenFault>
     ensures page { IfOk result (λ page. SpellsPage bytes.now page × HasSpelling page) }
     ensures refused { IfErr result (λ fault. SpellsNone fault bytes.now) }
+    ensures no_size { IfErr result NamesNoSize }
 {
     match decode(alloc, bytes) {
         Ok(page) => Ok(page),
@@ -120,6 +123,7 @@ fn page_there<D: Disk>(alloc: Global, disk: &mut D, meta: &Meta) -> Result<Page,
     ensures spelling { IfOk result (λ page. HasSpelling page) }
     ensures refused { IfErr result (λ fault. IfSome (D.model disk.old).told (λ b. PageRefuses fault b meta.now)) }
     ensures stops { IfErr result StopsThere }
+    ensures no_size { IfErr result NamesNoSize }
     ensures cause { IsErrOf result DiskFault → Rose (D.model disk.old).read_faults (D.model disk.new).read_faults }
     ensures only_reads { OnlyReads (D.model disk.old) (D.model disk.new) }
 {
@@ -143,6 +147,7 @@ fn audited<D: Disk>(
     requires touched { IsTouched meta.now touched.now }
     ensures sound { IfOk result (IsAudited (D.model disk.old).told meta.now (get nat_cmp touched.now.pages 1)) }
     ensures refused { IfErr result (λ fault. IfSome (D.model disk.old).told (λ b. AuditRefuses fault b meta.now (get nat_cmp touched.now.pages 1))) }
+    ensures no_size { IfErr result NamesNoSize }
     ensures cause { IsErrOf result DiskFault → Rose (D.model disk.old).read_faults (D.model disk.new).read_faults }
     ensures only_reads { OnlyReads (D.model disk.old) (D.model disk.new) }
 {
@@ -166,6 +171,7 @@ fn audited_page(meta: &Meta, page: &Page) -> Result<u64, OpenFault>
     requires spelling { HasSpelling page.now }
     ensures sound { IfOk result (λ n. IsSound (lone meta.now page.now) × (n ≡ length (file_records (lone meta.now page.now)))) }
     ensures names { IfErr result (λ fault. IsNamed fault meta.now page.now) }
+    ensures no_size { IfErr result NamesNoSize }
 {
     match audit(meta, page) {
         Ok(count) => Ok(count),
@@ -179,6 +185,7 @@ pub(crate) fn look<D: Disk>(alloc: Global, disk: &mut D) -> Result<Found, OpenFa
     ensures whole { IfOk result (λ f. IsWhole (D.model disk.old).size f.turn f.meta) }
     ensures touched { IfOk result (λ f. IsTouched f.meta f.touched) }
     ensures refused { IfErr result (λ fault. IfSome (D.model disk.old).told (Refuses fault)) }
+    ensures shut { IfErr result (IsShut (D.model disk.old).size) }
     ensures cause { IsErrOf result DiskFault → Rose (D.model disk.old).read_faults (D.model disk.new).read_faults }
     ensures only_reads { OnlyReads (D.model disk.old) (D.model disk.new) }
 {

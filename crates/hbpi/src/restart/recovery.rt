@@ -39,8 +39,10 @@ pub(crate) fn recover<D: Disk>(alloc: Global, disk: D) -> Result<(Store<D>, u64)
     ensures late_after_fault { IfErr result (λ e. IfSome (D.model disk).told (λ b. (s : FileState) → OpensTo b s → (D.model disk).clock + 2 ≤ (D.model e.1).clock → (c : List ℕ) →
         (D.model e.1).ImageSince ((D.model disk).clock + 1) c → OpensTo c s)) }
     ensures silent { IfOk result (λ r. IsSome (D.model (disk_of r.0)).told → IsSome (D.model disk).told) }
+    // at most thirteen calls that write: a sync, the page, a sync, two for the log area, two for a hidden body, and six for the superblock
+    ensures clock { IfOk result (λ r. IsSome (D.model disk).told → (D.model (disk_of r.0)).clock ≤ (D.model disk).clock + 13) }
     ensures shut { IfErr result (λ e. IsShut (D.model disk).size e.0) }
-    ensures time { IfOk result (λ r. (D.model disk).clock ≤ (D.model (disk_of r.0)).clock) }
+    ensures time { IfOk result (λ r. IsSome (D.model disk).told → (D.model disk).clock ≤ (D.model (disk_of r.0)).clock) }
     ensures meta { IfOk result (λ r. IfSome (D.model disk).told (λ b. (s : FileState) → OpensTo b s → s.meta ≡ (seen_as r.0).meta)) }
     ensures cause { IfErr result (λ e. e.0 ≡ DiskFault → (Rose (D.model disk).read_faults (D.model e.1).read_faults) ⊎ (Rose (D.model disk).write_faults (D.model e.1).write_faults)) }
     ensures later { IfOk result (λ r. ((D.model disk).read_faults ≤ (D.model (disk_of r.0)).read_faults) × ((D.model disk).write_faults ≤ (D.model (disk_of r.0)).write_faults)) }

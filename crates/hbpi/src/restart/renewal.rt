@@ -1,20 +1,22 @@
 //! A file that was found begins its next turn.
-ghost use Rattle.std.specs.Prelude.{◌≡◌, ◌⊎◌, ℕ, ◌+◌, ◌≤◌, List, None, Some, IfSome, IsSome, OnOk, OnErr};
+//!
+//! Nothing that is written before the superblock matters to the opening of an image: the place of a page that the log
+//! touches, the log area of the other turn, and what a closed gate hides.
+ghost use Rattle.std.specs.Prelude.{◌≡◌, ℕ, ◌+◌, ◌≤◌, List, Option, Some, IfSome, OnOk};
 ghost use Rattle.std.specs.Ordering.{nat_cmp};
 ghost use Rattle.std.specs.BTreeMap.{get};
-ghost use Rattle.hb_outside.specs.Streams.{Rose};
 ghost use Rattle.hb_disk.specs.Model.{Torn};
 ghost use Rattle.hb_disk.specs.Calls.{Becomes, Leaves, Ticks, WriteFaults};
 ghost use Rattle.hb_frag.specs.declared.pages.Page.{Page as Content};
 ghost use Rattle.hb_frag.specs.Grammar.{HasSpelling, SpellsPage};
 ghost use Rattle.hb_super.specs.Superblocks.{IsLegal, next_turn};
 ghost use Rattle.hb_ops.specs.Files.{FileState};
-ghost use Rattle.hb_store.specs.Opening.{OpensTo, file_size, log_place, page_place, place_bytes};
+ghost use Rattle.hb_store.specs.Opening.{OpensTo, IsEven, file_size, log_place, page_place, place_bytes};
 ghost use Rattle.hb_store.specs.Keeps.{IsFresh};
 ghost use Rattle.hb_store.specs.Stops.{IsTouched};
 ghost use Rattle.hbpi.specs.Looking.{IsFoundIn, IsWhole};
 ghost use Rattle.hbpi.specs.OnePage.{lone};
-ghost use Rattle.hbpi.specs.Renewing.{StillOpens, IsHere, IsPlaced, IsReadyFor};
+ghost use Rattle.hbpi.specs.Renewing.{StillOpens, IsHere, IsPlaced, IsReadyFor, Runs};
 
 use crate::restart::looking::Found;
 use hb_disk::{Disk, DiskFault};
@@ -23,7 +25,7 @@ use hb_ops::Meta;
 use hb_outside::Failed;
 use hb_page_codec::encode;
 use hb_space::form::PAGE;
-use hb_store::Touched;
+use hb_store::{Touched, an_image_opens_to_one_file};
 use hb_super::{clear_hidden, write_super};
 use hb_wal::zero_area;
 
@@ -58,36 +60,87 @@ fn write_page<D: Disk>(disk: &mut D, meta: &Meta, page: &Page) -> Result<(), Fai
 }
 
 /// Writes the page that the log touches to its place. At most one device call.
-fn settle<D: Disk>(disk: &mut D, meta: &Meta, touched: &Touched) -> Result<(), Failed> {
+fn settle<D: Disk>(disk: &mut D, turn: u8, meta: &Meta, touched: &Touched) -> Result<(), Failed>
+    requires room { file_size meta.now ≤ (D.model disk.old).size }
+    requires legal { IsLegal turn meta.now }
+    requires touched { IsTouched meta.now touched.now }
+    ensures run { Runs 1 result (D.model disk.old) (D.model disk.new) }
+    ensures moments { (page : Content) → IsHere (D.model disk.old) turn meta.now (get nat_cmp touched.now.pages 1) page →
+        Leaves (D.model disk.old) (D.model disk.new) (StillOpens turn meta.now (get nat_cmp touched.now.pages 1) page) }
+    ensures placed { OnOk result ((page : Content) → IsHere (D.model disk.old) turn meta.now (get nat_cmp touched.now.pages 1) page →
+        IsPlaced (D.model disk.new) turn meta.now (get nat_cmp touched.now.pages 1) page) }
+{
     match touched.pages.get(&1) {
         Some(page) => write_page(disk, meta, page),
         None => Ok(()),
     }
 }
 
-/// Makes the place and the log area of the next turn ready. At most five device calls.
-fn make_room<D: Disk>(disk: &mut D, next: u8, meta: &Meta) -> Result<(), DiskFault> {
+/// Makes the log area and the place of the next turn ready. At most five device calls.
+fn make_room<D: Disk>(disk: &mut D, turn: u8, meta: &Meta) -> Result<(), DiskFault>
+    requires room { file_size meta.now ≤ (D.model disk.old).size }
+    requires legal { IsLegal turn meta.now }
+    ensures run { Runs 5 result (D.model disk.old) (D.model disk.new) }
+    ensures moments { (touched : Option Content) (page : Content) → IsPlaced (D.model disk.old) turn meta.now touched page →
+        Leaves (D.model disk.old) (D.model disk.new) (StillOpens turn meta.now touched page) }
+    ensures ready { OnOk result ((touched : Option Content) (page : Content) → IsPlaced (D.model disk.old) turn meta.now touched page →
+        IsReadyFor (D.model disk.new) turn meta.now touched page) }
+{
+    let next = turn_after(turn);
     disk.sync()?;
     zero_area(disk, area_of(next, meta), meta.log)?;
     clear_hidden(disk, next, meta)
 }
 
 /// Begins the next turn, by its superblock. At most eleven device calls.
-fn switch<D: Disk>(disk: &mut D, next: u8, meta: &Meta) -> Result<(), DiskFault> {
-    make_room(disk, next, meta)?;
-    write_super(disk, next, meta)
+fn switch<D: Disk>(disk: &mut D, turn: u8, meta: &Meta) -> Result<(), DiskFault>
+    requires room { file_size meta.now ≤ (D.model disk.old).size }
+    requires legal { IsLegal turn meta.now }
+    requires one { meta.now.high ≡ 1 }
+    ensures run { Runs 11 result (D.model disk.old) (D.model disk.new) }
+    ensures moments { (touched : Option Content) (page : Content) → IsPlaced (D.model disk.old) turn meta.now touched page →
+        Leaves (D.model disk.old) (D.model disk.new) (λ c. OpensTo c (lone meta.now page)) }
+    ensures fresh { OnOk result ((touched : Option Content) (page : Content) → IsPlaced (D.model disk.old) turn meta.now touched page →
+        IsFresh (D.model disk.new) (next_turn turn) meta.now (lone meta.now page)) }
+{
+    make_room(disk, turn, meta)?;
+    write_super(disk, turn_after(turn), meta)
 }
 
 /// Writes the touched page to its place and begins the next turn, on a disk that was just synced. At most twelve device
 /// calls.
-fn rewrite<D: Disk>(disk: &mut D, found: &Found) -> Result<(), DiskFault> {
-    settle(disk, &found.meta, &found.touched)?;
-    switch(disk, turn_after(found.turn), &found.meta)
+fn rewrite<D: Disk>(disk: &mut D, found: &Found) -> Result<(), DiskFault>
+    requires whole { IsWhole (D.model disk.old).size found.now.turn found.now.meta }
+    requires touched { IsTouched found.now.meta found.now.touched }
+    ensures run { Runs 12 result (D.model disk.old) (D.model disk.new) }
+    ensures moments { (page : Content) → IsHere (D.model disk.old) found.now.turn found.now.meta (get nat_cmp found.now.touched.pages 1) page →
+        Leaves (D.model disk.old) (D.model disk.new) (λ c. OpensTo c (lone found.now.meta page)) }
+    ensures fresh { OnOk result ((page : Content) → IsHere (D.model disk.old) found.now.turn found.now.meta (get nat_cmp found.now.touched.pages 1) page →
+        IsFresh (D.model disk.new) (next_turn found.now.turn) found.now.meta (lone found.now.meta page)) }
+{
+    settle(disk, found.turn, &found.meta, &found.touched)?;
+    switch(disk, found.turn, &found.meta)
 }
 
 /// Syncs, so that from then on the disk has one image; then writes the touched page to its place and begins the next
 /// turn. At most thirteen device calls.
-pub(crate) fn renew<D: Disk>(disk: &mut D, found: &Found) -> Result<(), DiskFault> {
+pub(crate) fn renew<D: Disk>(disk: &mut D, found: &Found) -> Result<(), DiskFault>
+    requires whole { IsWhole (D.model disk.old).size found.now.turn found.now.meta }
+    requires touched { IsTouched found.now.meta found.now.touched }
+    ensures run { Runs 13 result (D.model disk.old) (D.model disk.new) }
+    ensures time { IfSome (D.model disk.old).told (λ b. IsFoundIn b found.now.turn found.now.meta (get nat_cmp found.now.touched.pages 1) found.now.count →
+        (D.model disk.old).clock ≤ (D.model disk.new).clock) }
+    ensures even { IfSome (D.model disk.old).told (λ b. IsFoundIn b found.now.turn found.now.meta (get nat_cmp found.now.touched.pages 1) found.now.count →
+        (s : FileState) → IsEven (D.model disk.old) s → Leaves (D.model disk.old) (D.model disk.new) (λ c. OpensTo c s)) }
+    // a second tick of the clock comes only after the first sync has succeeded
+    ensures late { IfSome (D.model disk.old).told (λ b. IsFoundIn b found.now.turn found.now.meta (get nat_cmp found.now.touched.pages 1) found.now.count →
+        (s : FileState) → OpensTo b s → (D.model disk.old).clock + 2 ≤ (D.model disk.new).clock → (c : List ℕ) →
+        (D.model disk.new).ImageSince ((D.model disk.old).clock + 1) c → OpensTo c s) }
+    ensures renewed { OnOk result (IfSome (D.model disk.old).told (λ b. IsFoundIn b found.now.turn found.now.meta (get nat_cmp found.now.touched.pages 1) found.now.count →
+        (s : FileState) → OpensTo b s → IsFresh (D.model disk.new) (next_turn found.now.turn) found.now.meta s
+        × ((c : List ℕ) → (D.model disk.new).ImageSince ((D.model disk.old).clock + 1) c → OpensTo c s))) }
+{
+    an_image_opens_to_one_file();
     disk.sync()?;
     rewrite(disk, found)
 }

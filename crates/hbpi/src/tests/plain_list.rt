@@ -1,6 +1,6 @@
-//! `dry` compared with a plain list of records, over generated texts of two attributes.
+//! `dry` and `drive` compared with a plain list of records, over generated texts of two attributes.
 
-use super::plain;
+use super::{drive_on, made, plain};
 use std::alloc::Global;
 use std::test::Fail;
 
@@ -11,6 +11,8 @@ type Plain = (u64, u64, char);
 #[derive(Drop)]
 struct Case {
     alloc: Global,
+    /// The sessions of deletes and of lookups.
+    sessions: [u8; 2],
     records: Vec<Plain>,
     text: String,
     want: String,
@@ -30,7 +32,8 @@ impl Case {
     }
 
     fn delete(&mut self, line: u32, one: Plain) -> Result<(), Fail> {
-        write!(self.text, "2 delete {} {}\n", one.0, one.1)?;
+        let session = self.sessions[0];
+        write!(self.text, "{session} delete {} {}\n", one.0, one.1)?;
         match found(&self.records, one) {
             Some(_) => write!(self.want, "{line} ok\n")?,
             None => write!(self.want, "{line} absent\n")?,
@@ -41,7 +44,8 @@ impl Case {
     }
 
     fn lookup(&mut self, line: u32, one: Plain) -> Result<(), Fail> {
-        write!(self.text, "3 lookup {} {}\n", one.0, one.1)?;
+        let session = self.sessions[1];
+        write!(self.text, "{session} lookup {} {}\n", one.0, one.1)?;
         match found(&self.records, one) {
             Some(there) => write!(self.want, "{line} found ={}\n", there.2)?,
             None => write!(self.want, "{line} none\n")?,
@@ -82,18 +86,27 @@ fn drawn(seed: &mut u64) -> u64 {
     *seed >> 61
 }
 
+/// The letters of the bodies.
+const LETTERS: &str = "abcdefghijklmnopqrstuvwxyzABCDEFGHIJKLMNOPQRSTUVWXYZ0123456789";
+
+/// A case of no line.
+fn no_case(alloc: Global, sessions: [u8; 2]) -> Result<Case, Fail> {
+    Ok(Case {
+        alloc,
+        sessions,
+        records: Vec::new(alloc),
+        text: String::new(alloc),
+        want: String::from_str(alloc, "0 ")?,
+    })
+}
+
 /// A line for each letter, drawn from the seed.
 fn drawn_case(alloc: Global, seed: u64) -> Result<Case, Fail> {
     let mut seed = seed;
     let mut line = 0;
-    let mut case = Case {
-        alloc,
-        records: Vec::new(alloc),
-        text: String::new(alloc),
-        want: String::from_str(alloc, "0 ")?,
-    };
+    let mut case = no_case(alloc, [2, 3])?;
     let mut order = String::from_str(alloc, "order")?;
-    for body in "abcdefghijklmnopqrstuvwxyzABCDEFGHIJKLMNOPQRSTUVWXYZ0123456789".chars() {
+    for body in LETTERS.chars() {
         line = u32::wrapping_add(line, 1);
         let one = (drawn(&mut seed), drawn(&mut seed), body);
         match drawn(&mut seed) {
@@ -118,6 +131,39 @@ fn answers_as_a_plain_list(rt: HostRuntime) -> Result<(), Fail> {
         let case = drawn_case(alloc, seed)?;
         let got = plain(alloc, "dry 2", case.text.as_str()).ok_or("no memory")?;
         assert_eq!(rt; got.as_str(), case.want.as_str(), "{}", case.text);
+    }
+    Ok(())
+}
+
+/// A line of session 1 for each letter, drawn from the seed, over six points, with steps enough for all.
+fn drawn_drive(alloc: Global, seed: u64) -> Result<Case, Fail> {
+    let mut seed = seed;
+    let mut line = 0;
+    let mut case = no_case(alloc, [1, 1])?;
+    let mut order = String::from_str(alloc, "order")?;
+    for body in LETTERS.chars() {
+        line = u32::wrapping_add(line, 1);
+        let one = (drawn(&mut seed) % 2, drawn(&mut seed) % 3, body);
+        match drawn(&mut seed) {
+            0 | 1 | 2 => case.insert(line, one)?,
+            3 | 4 | 5 => case.delete(line, one)?,
+            _ => case.lookup(line, one)?,
+        }
+        write!(order, " {line}")?;
+    }
+    write!(case.text, "step 1x248\n")?;
+    write!(case.want, "{order}\n")?;
+    Ok(case)
+}
+
+#[test]
+fn drives_as_a_plain_list(rt: HostRuntime) -> Result<(), Fail> {
+    let alloc = rt.alloc();
+    let file = made(alloc, "create 2 64 65536 6 32").ok_or("no memory")?;
+    for seed in [1, 2, 3, 5, 8, 13, 21, 34] {
+        let case = drawn_drive(alloc, seed)?;
+        let left = drive_on(alloc, case.text.as_str(), &file).ok_or("no memory")?;
+        assert_eq!(rt; left.said.as_str(), case.want.as_str(), "{}", case.text);
     }
     Ok(())
 }

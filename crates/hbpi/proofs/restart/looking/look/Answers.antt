@@ -1,9 +1,5 @@
-use Rattle.std.proofs.Common.{◌≡◌, ◌∙◌, ℕ, ◌≤◌, List, length, Some, IfSome, IfErr, sym, subst, arith}
+use Rattle.std.proofs.Common.{arith}
 use Rattle.std.proofs.lemmas.Result.{err_from_is_err_and}
-use Rattle.std.specs.Ordering.{nat_cmp}
-use Rattle.std.specs.BTreeMap.{get}
-use Rattle.hb_store.specs.Opening.{file_size}
-use Rattle.hbpi.specs.Restart.{Refuses}
 use Rattle.hbpi.proofs.Found.{look_refuses, look_found, err_of}
 use Rattle.hbpi.proofs.restart.looking.look.Goals as goal
 

@@ -1,0 +1,17 @@
+//! What follows of files from their definitions alone.
+ghost use Rattle.hbpi.specs.Restart.{GoodIsNotRefused};
+
+use hb_page_codec::laws::spelling_law;
+use hb_store::an_image_opens_to_one_file;
+use hb_super::laws::one_superblock_is_newest;
+use hb_wal::laws::an_area_is_read_in_one_way;
+
+/// Bytes that open to a sound file of one page and one level are refused for no reason of theirs.
+pub(crate) fn a_good_file_is_not_refused()
+    ensures { GoodIsNotRefused }
+{
+    spelling_law();
+    one_superblock_is_newest();
+    an_area_is_read_in_one_way();
+    an_image_opens_to_one_file();
+}
