@@ -1,7 +1,6 @@
 //! What a line does, by the root.
-ghost use Rattle.std.specs.Prelude.{◌≡◌, ◌≤◌, ℕ, List, length, IfOk, IfErr};
-ghost use Rattle.hb_space.specs.Points.{IsPoint};
-ghost use Rattle.hb_space.specs.Boxes.{Holds, whole_area};
+ghost use Rattle.std.specs.Prelude.{◌≡◌, length, IfOk, IfErr};
+ghost use Rattle.hb_space.specs.Boxes.{whole_area};
 ghost use Rattle.hb_frag.specs.declared.pages.LivePage.{LivePage as Top};
 ghost use Rattle.hb_ops.specs.Sound.{FitsFile};
 ghost use Rattle.hb_ops.specs.Standing.{StandsNot};
@@ -92,6 +91,7 @@ fn standing_at<'a>(page: &'a LivePage, meta: &Meta, point: &Point) -> Standing<'
     requires attributes { length point.now ≡ meta.now.k }
     ensures { Stands page.now point.now result }
 {
+    // The whole space holds every point.
     let _whole = Area::whole(point.attributes());
     look_at(page, meta, point)
 }

@@ -1,5 +1,5 @@
 //! One step of the session.
-ghost use Rattle.std.specs.Prelude.{◌≡◌, ◌≢◌, ◌⊎◌, ℕ, ◌+◌, ◌<◌, ◌≤◌, List, [], length, IfOk, IfErr, IsSome, Some, None};
+ghost use Rattle.std.specs.Prelude.{◌≡◌, ℕ, ◌+◌, ◌<◌, ◌≤◌, List, [], length, IfOk, IfErr, IsSome, Some, None};
 ghost use Rattle.hb_outside.specs.Streams.{Rose};
 ghost use Rattle.hb_ops.specs.Files.{FileState, contents_of};
 ghost use Rattle.hb_ops.specs.Sound.{IsSound};

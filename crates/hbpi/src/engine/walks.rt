@@ -1,14 +1,11 @@
 //! The steps of a session that walks to the root.
-ghost use Rattle.std.specs.Prelude.{◌≡◌, ◌≢◌, ◌⊎◌, ◌↔◌, ℕ, ◌+◌, ◌<◌, ◌≤◌, List, All, length, IsSome, IsTrue, None, false};
-ghost use Rattle.hb_disk.specs.Calls.{Leaves, OnlyReads, WriteFaults};
+ghost use Rattle.std.specs.Prelude.{◌≡◌, ◌⊎◌, ◌↔◌, ◌<◌, ◌≤◌, List, All, length, IsSome, IsTrue, None, false};
 ghost use Rattle.hb_frag.specs.declared.pages.Page.{Page as Framed};
-ghost use Rattle.hb_ops.specs.Files.{FileState};
 ghost use Rattle.hb_set.specs.Machine.{RecordSet, attributes};
 ghost use Rattle.hb_set.specs.Scripts.{IsScriptFor};
 ghost use Rattle.hb_set.specs.declared.scripts.Line.{Line as Entry};
-ghost use Rattle.hb_ops.specs.Operations.{IsLicensed, OpHas};
+ghost use Rattle.hb_ops.specs.Operations.{OpHas};
 ghost use Rattle.hb_store.specs.Calls.{IsReady, IsAllowedHere};
-ghost use Rattle.hb_store.specs.Keeps.{StoreKeeps, OpensToFirst};
 ghost use Rattle.hb_store.specs.Seen.{seen_as};
 ghost use Rattle.hbpi.specs.Core.{CoreKeeps, IsCore, IsCurrent, IsServed, IsServedCommand, MayCommit};
 ghost use Rattle.hbpi.specs.CoreSeen.{core_seen, core_disk};
