@@ -52,7 +52,7 @@ module _ (s : FileState) (left : List ℕ) (d e : DiskModel) (seen : Seen) (one 
   ran_gives : (status : Status) (after : CoreState) (drove : Drove d e seen after) → (¬ (Rose seen.sink_before seen.sink_after) → (status ≡ Done) ⊎ (status ≡ NoMemory)) → GivesFor seen status (text_read true s.meta.k left)
   ran_gives status after drove done =
       gives seen status s.meta.k drove.k left _ (drove_k after drove) (scheduled_reads drove.k left seen drove.before.lines drove.run.steps calm.text drove.run.scheduled)
-        (λ served sink. done sink, λ unserved. absurd (unserved drove.run.served))
+      (λ served sink. done sink, λ unserved. absurd (unserved drove.run.served))
 
   opened_gives : (status : Status) → OpenedEnds d e seen status → GivesFor seen status (text_read true s.meta.k left)
   opened_gives Done ends = ran_gives Done ends.0 ends.1 (λ sink. inl refl)
@@ -64,7 +64,7 @@ module _ (s : FileState) (left : List ℕ) (d e : DiskModel) (seen : Seen) (one 
   opened_gives SourceFault ends = absurd (calm.source ends.2)
   opened_gives NotBuilt ends =
       gives seen NotBuilt s.meta.k ends.0 left _ (away_k ends.0 NotBuilt ends.1) (scheduled_reads ends.0 left seen ends.2 ends.3 calm.text ends.4)
-        (λ served sink. absurd (ends.5 served), λ unserved. inl refl)
+      (λ served sink. absurd (ends.5 served), λ unserved. inl refl)
   opened_gives NoMemory ends = no_memory seen NoMemory (text_read true s.meta.k left) refl
   opened_gives (Damaged damage) ends = cc (calm.told, ends.untold)
   opened_gives Usage ends = absurd ends

@@ -138,8 +138,8 @@ pub ends_made : (form : Option Form) (seen : Seen) (d e : DiskModel) (status : S
 ends_made None seen d e status ends k pages log dcap icap is good large writes sink = cc (is)
 ends_made (Some (Create a b c x y)) seen d e status ends k pages log dcap icap is good large writes sink =
     create_complete (first_fault k pages log dcap icap) (size_of pages log) seen (disk_seen d e) status
-      (same_layout k pages log dcap icap a b c x y (λ k pages log dcap icap. CreateEnds (first_fault k pages log dcap icap) (size_of pages log) seen (disk_seen d e) status) (sym is) ends)
-      good large writes sink
+    (same_layout k pages log dcap icap a b c x y (λ k pages log dcap icap. CreateEnds (first_fault k pages log dcap icap) (size_of pages log) seen (disk_seen d e) status) (sym is) ends)
+    good large writes sink
 ends_made (Some form) seen d e status ends k pages log dcap icap is good large writes sink = cc (is)
 
 pub never_usage : (fault : Option OpenFault) (needed : ℕ) (seen : Seen) (disk : DiskSeen) (status : Status) → CreateEnds fault needed seen disk status → status ≡ Usage → ⊥

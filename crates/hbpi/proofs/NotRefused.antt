@@ -87,7 +87,6 @@ first_page (p ∷ rest) one = (p, refl)
 
 module _ (once : SpelledOnce) (turns : (bytes : List ℕ) (t s : ℕ) (m n : Meta) → IsNewest bytes t m → IsNewest bytes s n → t ≡ s) (saids : (bytes : List ℕ) (t s : ℕ) (m n : Meta) → IsNewest bytes t m → IsNewest bytes s n → m ≡ n)
     (one_way : ReadsOneWay) (one : OpensToOne) (whole : OpensWhole) where
-
   -- the groups of the log are those by which the bytes open
   shown : (b : List ℕ) (s : FileState) (turn : ℕ) (said : Meta) (groups : List Logged) → OpensTo b s → HasLayout b turn said → HasLog b turn said groups → Shows b said (replay (untouched said) groups) s
   shown b s turn said groups opens layout log =
@@ -95,7 +94,7 @@ module _ (once : SpelledOnce) (turns : (bytes : List ℕ) (t s : ℕ) (m n : Met
       let t : opens.turn ≡ turn = turns b opens.turn turn opens.said said by.newest layout.newest in
       let m : opens.said ≡ said = saids b opens.turn turn opens.said said by.newest layout.newest in
       let here : OpensBy b turn said opens.payloads opens.groups s =
-          subst (λ (x : Meta). OpensBy b turn x opens.payloads opens.groups s) m (subst (λ (x : ℕ). OpensBy b x opens.said opens.payloads opens.groups s) t by) in
+      subst (λ (x : Meta). OpensBy b turn x opens.payloads opens.groups s) m (subst (λ (x : ℕ). OpensBy b x opens.said opens.payloads opens.groups s) t by) in
       let payloads : opens.payloads ≡ log.payloads = (one_way (log_bytes turn said b)).frames opens.payloads log.payloads here.framed log.framed in
       let same : opens.groups ≡ groups = same_spelled once said.k log.payloads opens.groups groups (subst (λ (x : List (List ℕ)). SpellAll said.k x opens.groups) payloads here.spelled) log.spelled in
       subst (λ (x : List Logged). Shows b said (replay (untouched said) x) s) same here.shows
@@ -108,9 +107,20 @@ module _ (once : SpelledOnce) (turns : (bytes : List ℕ) (t s : ℕ) (m n : Met
         let spelled : IsPageIn b said 1 None there.0 = subst (λ (o : Option Page). IsPageIn b said 1 o there.0) none.3 (shows.each 1 there.0 there.1) in
         none.4 there.0 spelled
     | inr broken ↦
-        let other : OpensTo b broken.0 = record { turn = turn; said = said; payloads = log.payloads; groups = groups; by = record {
-          newest = layout.newest; fits = layout.fits; framed = log.framed; spelled = log.spelled; replayed = log.replayed; shows = broken.1;
-        } } in
+        let other : OpensTo b broken.0 = record {
+          turn = turn;
+          said = said;
+          payloads = log.payloads;
+          groups = groups;
+          by = record {
+            newest = layout.newest;
+            fits = layout.fits;
+            framed = log.framed;
+            spelled = log.spelled;
+            replayed = log.replayed;
+            shows = broken.1;
+          };
+        } in
         names_none broken.0 page rule (subst IsSound (sym (one b broken.0 s other opens)) sound) broken.2
   ]
 

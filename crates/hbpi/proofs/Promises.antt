@@ -68,8 +68,12 @@ ran b s d e seen status after one told opens drove going =
     record {
       done = run.done;
       numbers = run.ordered ∙ sym drove.run.order;
-      said = inr (drove.before.lines, drove.run.steps, subst (λ (n : ℕ). IsScheduled n seen.left seen.rest drove.before.lines drove.run.steps) k drove.run.scheduled,
-        subst (λ (ls : List Line). AreAmong run.done ls) (same_lines (length drove.run.steps) drove.before seen.answered after drove.run.moves) (among_whole run.done after.lines after.taken run.among));
+      said = inr (
+        drove.before.lines,
+        drove.run.steps,
+        subst (λ (n : ℕ). IsScheduled n seen.left seen.rest drove.before.lines drove.run.steps) k drove.run.scheduled,
+        subst (λ (ls : List Line). AreAmong run.done ls) (same_lines (length drove.run.steps) drove.before seen.answered after drove.run.moves) (among_whole run.done after.lines after.taken run.among),
+      );
       legal = run.legal;
       replied = run.replied;
       held = run.held;

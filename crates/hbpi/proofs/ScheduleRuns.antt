@@ -223,10 +223,12 @@ run_ends ends.Finished d e seen k before after steps mid faults run idle line =
     (after, drove d e seen k before after steps ends.Finished mid faults run (λ same. cc (same)), whole_output seen.held mid seen.holds faults seen.sink_after (run_output seen.answered after) run.put.0 line, run.put.1, run.put.2)
 run_ends ends.NoMemory d e seen k before after steps mid faults run idle line = (k, idle refl)
 run_ends ends.SinkFault d e seen k before after steps mid faults run idle line =
-    let still = run.silent refl in
-    (after, drove d e seen k before after steps ends.SinkFault mid faults run (λ same. cc (same)),
+    let still = run.silent refl in (
+      after,
+      drove d e seen k before after steps ends.SinkFault mid faults run (λ same. cc (same)),
       subst (λ (o : Option (List ℕ)). AppendsFront seen.held o (run_output seen.answered after)) (sym still.0) run.put.0,
-      subst (λ (n : ℕ). Rose seen.sink_before n) (sym still.1) run.put.1)
+      subst (λ (n : ℕ). Rose seen.sink_before n) (sym still.1) run.put.1,
+    )
 run_ends ends.ReadFault d e seen k before after steps mid faults run idle line =
     (after, inl (run.read_fault refl), drove d e seen k before after steps ends.ReadFault mid faults run (λ same. cc (same)), inr (run.put.1, run.put.2), gets_output d e seen k before after steps ends.ReadFault mid faults DiskFault run run.put.0 line)
 run_ends ends.Stopped d e seen k before after steps mid faults run idle line = stopped_ends after.stop d e seen k before after steps mid faults run refl line

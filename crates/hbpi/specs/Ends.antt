@@ -32,9 +32,16 @@ pub record Seen : Type 0 where
 
 abbrev pub seen_by : Option (List ℕ) → Option (List ℕ) → ℕ → ℕ → Option (List ℕ) → Option (List ℕ) → ℕ → ℕ → List Answered → List ℕ → Seen
 seen_by left rest source_before source_after held holds sink_before sink_after answered order = record {
-  left = left; rest = rest; source_before = source_before; source_after = source_after;
-  held = held; holds = holds; sink_before = sink_before; sink_after = sink_after;
-  answered = answered; order = order;
+  left = left;
+  rest = rest;
+  source_before = source_before;
+  source_after = source_after;
+  held = held;
+  holds = holds;
+  sink_before = sink_before;
+  sink_after = sink_after;
+  answered = answered;
+  order = order;
 }
 
 -- no command was done, and the fault line was written last

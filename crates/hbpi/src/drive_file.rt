@@ -132,17 +132,17 @@ fn drive_script<K: Sink, D: Disk>(
     requires kept { IsSome (D.model (disk_of store)).told → (s : FileState) × IsSound s × StoreKeeps (D.model (disk_of store)) (seen_as store) s [] }
     ensures ends { (left rest : Option (List ℕ)) (before after : ℕ) → IsScheduled (seen_as store).meta.k left rest script.lines script.steps →
         OpenedEnds (D.model (disk_of store)) (D.model result.disk) (record {
-      left = left;
-      rest = rest;
-      source_before = before;
-      source_after = after;
-      held = K.written sink;
-      holds = K.written result.sink;
-      sink_before = K.faults sink;
-      sink_after = K.faults result.sink;
-      answered = result.answered.items;
-      order = result.order.items;
-    }) result.status }
+          left = left;
+          rest = rest;
+          source_before = before;
+          source_after = after;
+          held = K.written sink;
+          holds = K.written result.sink;
+          sink_before = K.faults sink;
+          sink_after = K.faults result.sink;
+          answered = result.answered.items;
+          order = result.order.items;
+        }) result.status }
     ensures sink_later { K.faults sink ≤ K.faults result.sink }
     ensures reads_later { (D.model (disk_of store)).read_faults ≤ (D.model result.disk).read_faults }
     ensures writes_later { (D.model (disk_of store)).write_faults ≤ (D.model result.disk).write_faults }

@@ -52,8 +52,8 @@ returns-in-Ok-clause-ends g c left rest before after scheduled =
     let lines : core.lines ≡ c.args.script.lines = ap (λ (x : CoreState). x.lines) c.in-Ok.ensures.seen ∙ c.into_vec.ensures in
     let tells : IsSome d.told → IsSome (M (disk_of store)).told = λ t. subst (λ (x : g.row.D.Denot). IsSome (M x).told) c.in-Ok.ensures.disk t in
     let kept : IsSome d.told → (s : FileState) × IsSound s × StoreKeeps d (seen_as store) s [] = λ t.
-        let here = c.requires.kept (tells t) in
-        (here.0, here.1, subst (λ (x : g.row.D.Denot). StoreKeeps (M x) (seen_as store) here.0 []) (sym c.in-Ok.ensures.disk) here.2) in
+    let here = c.requires.kept (tells t) in
+    (here.0, here.1, subst (λ (x : g.row.D.Denot). StoreKeeps (M x) (seen_as store) here.0 []) (sym c.in-Ok.ensures.disk) here.2) in
     let ends = schedule_ends c.drive.result.end c.finish.result.status d e seen store.meta.k core ran c.args.script.steps (g.K.Sink.written c.drive.result.sink) (g.K.Sink.faults c.drive.result.sink) (record {
       scheduled = subst (λ (ls : List Line). IsScheduled store.meta.k left rest ls c.args.script.steps) (sym lines) scheduled;
       served = subst (λ (ls : List Line). IsServedScript ls c.args.script.steps) (sym lines) c.requires.served;
@@ -70,10 +70,14 @@ returns-in-Ok-clause-ends g c left rest before after scheduled =
           let meta = from.2.meta_is in
           let here = kept (has_value d.told b is) in
           let even = even_store d (seen_as store) from.0 [] here.2 c.requires.new.running in
-          let made = c.in-Ok.ensures.keeps from.0 c.requires.new from.1 (ap (λ (m : Meta). m.root) meta ∙ c.requires.one_page.0) (ap (λ (m : Meta). m.high) meta ∙ c.requires.one_page.1) (ap (λ (m : Meta). m.height) meta ∙ c.requires.one_page.2) from.2 in
-          (from.0, even.images b ((g.met.D.Disk.is_disk (core_disk c.in-Ok.core)).as_read b is), from.1, meta ∙ ap (λ (st : StoreState). st.meta) (sym stored),
+          let made = c.in-Ok.ensures.keeps from.0 c.requires.new from.1 (ap (λ (m : Meta). m.root) meta ∙ c.requires.one_page.0) (ap (λ (m : Meta). m.high) meta ∙ c.requires.one_page.1) (ap (λ (m : Meta). m.height) meta ∙ c.requires.one_page.2) from.2 in (
+            from.0,
+            even.images b ((g.met.D.Disk.is_disk (core_disk c.in-Ok.core)).as_read b is),
+            from.1,
+            meta ∙ ap (λ (st : StoreState). st.meta) (sym stored),
             λ some. subst (λ (file : FileState). RunsTo (length c.args.script.steps) d core file c.drive.result.answered.items e ran (contents_of from.0)) made.1
-              (subst (λ (n : ℕ). RunsTo n d core (last_of made.0.durable made.0.later) c.drive.result.answered.items e ran (contents_of from.0)) (ap length c.as_slice.ensures) (c.drive.ensures.runs (contents_of from.0) made.0 some))));
+                (subst (λ (n : ℕ). RunsTo n d core (last_of made.0.durable made.0.later) c.drive.result.answered.items e ran (contents_of from.0)) (ap length c.as_slice.ensures) (c.drive.ensures.runs (contents_of from.0) made.0 some)),
+          ));
       moves = λ some. subst (λ (n : ℕ). MovesOn n core c.drive.result.answered.items ran) (ap length c.as_slice.ensures) (c.drive.ensures.moves some);
       first = c.drive.ensures.first;
       ordered = c.drive.ensures.order;
@@ -84,14 +88,14 @@ returns-in-Ok-clause-ends g c left rest before after scheduled =
       sooner = c.drive.ensures.sink_later;
       silent = λ failed. let same = c.finish.ensures.silent failed in (ap (λ (k : g.row.K.Denot). g.K.Sink.written k) same, ap (λ (k : g.row.K.Denot). g.K.Sink.faults k) same);
     }) c.finish.ensures.status
-      (λ none.
-          let same = c.drive.ensures.unbegun none in
-          let status : c.finish.result.status ≡ NoMemory = c.finish.ensures.status ∙ ap (λ x. status_after x ran.stop) none in
-          let line = refused_on (λ k. g.K.Sink.written k) (λ k. g.K.Sink.faults k) c.args.sink c.drive.result.sink (g.K.Sink.written c.finish.result.sink) (g.K.Sink.faults c.finish.result.sink) (fault_line NoMemory) same.1
-              (subst (λ (x : Status). GetsLine (g.K.Sink.written c.drive.result.sink) (g.K.Sink.written c.finish.result.sink) (g.K.Sink.faults c.drive.result.sink) (g.K.Sink.faults c.finish.result.sink) (fault_line x)) status c.finish.ensures.line) in
-          let refused : IsRefused seen NoMemory = record { line = line; none_answered = same.2; none_ordered = ap (λ x. (core_seen x).order) same.0 ∙ ap (λ (x : CoreState). x.order) c.in-Ok.ensures.seen } in
-          away_on (λ x. g.D.Disk.model (core_disk x)) store.meta.k d seen NoMemory c.in-Ok.core c.drive.result.core same.0 (turned_away d (seen_as store) seen NoMemory (g.met.D.Disk.is_disk (core_disk c.in-Ok.core)) kept c.requires.new.running refused))
-      c.finish.ensures.line in
+    (λ none.
+    let same = c.drive.ensures.unbegun none in
+    let status : c.finish.result.status ≡ NoMemory = c.finish.ensures.status ∙ ap (λ x. status_after x ran.stop) none in
+    let line = refused_on (λ k. g.K.Sink.written k) (λ k. g.K.Sink.faults k) c.args.sink c.drive.result.sink (g.K.Sink.written c.finish.result.sink) (g.K.Sink.faults c.finish.result.sink) (fault_line NoMemory) same.1
+    (subst (λ (x : Status). GetsLine (g.K.Sink.written c.drive.result.sink) (g.K.Sink.written c.finish.result.sink) (g.K.Sink.faults c.drive.result.sink) (g.K.Sink.faults c.finish.result.sink) (fault_line x)) status c.finish.ensures.line) in
+    let refused : IsRefused seen NoMemory = record { line = line; none_answered = same.2; none_ordered = ap (λ x. (core_seen x).order) same.0 ∙ ap (λ (x : CoreState). x.order) c.in-Ok.ensures.seen } in
+    away_on (λ x. g.D.Disk.model (core_disk x)) store.meta.k d seen NoMemory c.in-Ok.core c.drive.result.core same.0 (turned_away d (seen_as store) seen NoMemory (g.met.D.Disk.is_disk (core_disk c.in-Ok.core)) kept c.requires.new.running refused))
+    c.finish.ensures.line in
     let at_start = subst (λ (x : g.row.D.Denot). OpenedEnds (M x) e seen c.finish.result.status) c.in-Ok.ensures.disk ends in
     let at_end = subst (λ (x : g.row.D.Denot). OpenedEnds (M (disk_of store)) (M x) seen c.finish.result.status) (sym c.finish.ensures.disk) at_start in
     let with_answers = subst (λ (a : List Answered). OpenedEnds (M (disk_of store)) (M c.finish.result.disk) (S a ran.order) c.finish.result.status) (sym c.finish.ensures.answered) at_end in
@@ -117,4 +121,4 @@ returns-clause-ends g c left rest before after scheduled =
     let refused : IsRefused seen NoMemory = record { line = c.refused.ensures.line; none_answered = c.refused.ensures.answered; none_ordered = c.refused.ensures.order } in
     let back : c.refused.result.disk ≡ disk_of store = c.refused.ensures.disk ∙ c.into_disk.ensures ∙ ap (λ x. disk_of x) c.in-Err.ensures.back in
     subst (λ (x : Status). OpenedEnds d (M c.refused.result.disk) seen x) (sym c.refused.ensures.status)
-      (store.meta.k, away_on M store.meta.k d seen NoMemory (disk_of store) c.refused.result.disk back (turned_away d (seen_as store) seen NoMemory (g.met.D.Disk.is_disk (disk_of store)) c.requires.kept c.requires.new.running refused))
+    (store.meta.k, away_on M store.meta.k d seen NoMemory (disk_of store) c.refused.result.disk back (turned_away d (seen_as store) seen NoMemory (g.met.D.Disk.is_disk (disk_of store)) c.requires.kept c.requires.new.running refused))

@@ -14,9 +14,13 @@ returns-in-Ok-read_commands-clause-read g c =
 
 pub returns-in-Ok-2-clause-refused : goal.returns-in-Ok-2-clause-refused
 returns-in-Ok-2-clause-refused g c =
-    let facts = c.in-Ok-read_commands.ensures in
-    (c.in-Ok-read_commands.script.lines, c.in-Ok-read_commands.script.steps, record {
-      text = c.as_slice.result.now;
-      whole = short_is_whole _ _ c.as_slice.result.now (rw c.as_slice.ensures.value c.in-Ok.ensures.text) facts.short;
-      says = facts.exact;
-    }, λ served. let t : IsTrue c.serves.result = c.serves.ensures.1 served in cc (t, c.if-serves.false))
+    let facts = c.in-Ok-read_commands.ensures in (
+      c.in-Ok-read_commands.script.lines,
+      c.in-Ok-read_commands.script.steps,
+      record {
+        text = c.as_slice.result.now;
+        whole = short_is_whole _ _ c.as_slice.result.now (rw c.as_slice.ensures.value c.in-Ok.ensures.text) facts.short;
+        says = facts.exact;
+      },
+      λ served. let t : IsTrue c.serves.result = c.serves.ensures.1 served in cc (t, c.if-serves.false),
+    )

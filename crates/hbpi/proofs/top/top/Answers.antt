@@ -67,14 +67,15 @@ returns-in-Some-Drive-clause-driven g c is =
 pub returns-in-Some-Create-clause-ends : goal.returns-in-Some-Create-clause-ends
 returns-in-Some-Create-clause-ends g c =
     let seen = seen_by (g.S.Source.left c.args.source.now) (g.S.Source.left c.args.source.now) (g.S.Source.faults c.args.source.now) (g.S.Source.faults c.args.source.now)
-        (g.K.Sink.written c.args.sink) (g.K.Sink.written c.create_file.result.sink) (g.K.Sink.faults c.args.sink) (g.K.Sink.faults c.create_file.result.sink) c.create_file.result.answered.items c.create_file.result.order.items in
+    (g.K.Sink.written c.args.sink) (g.K.Sink.written c.create_file.result.sink) (g.K.Sink.faults c.args.sink) (g.K.Sink.faults c.create_file.result.sink) c.create_file.result.answered.items c.create_file.result.order.items in
     subst (λ (form : Option Form). RunEnds form (g.D.Disk.model c.args.disk) (g.D.Disk.model c.create_file.result.disk) seen c.create_file.result.status) (sym (ap Some c.in-Some-Create.field-0-is) ∙ c.in-Some-Create.ensures.form)
-      (c.create_file.ensures.ends (g.S.Source.left c.args.source.now) (g.S.Source.faults c.args.source.now))
+    (c.create_file.ensures.ends (g.S.Source.left c.args.source.now) (g.S.Source.faults c.args.source.now))
 
 pub returns-in-Some-Create-clause-usage : goal.returns-in-Some-Create-clause-usage
-returns-in-Some-Create-clause-usage g c =
-    (λ is. absurd (never_usage _ _ _ _ c.create_file.result.status (c.create_file.ensures.ends (g.S.Source.left c.args.source.now) (g.S.Source.faults c.args.source.now)) is),
-     λ none. cc (c.in-Some-Create.ensures.form, none))
+returns-in-Some-Create-clause-usage g c = (
+  λ is. absurd (never_usage _ _ _ _ c.create_file.result.status (c.create_file.ensures.ends (g.S.Source.left c.args.source.now) (g.S.Source.faults c.args.source.now)) is),
+  λ none. cc (c.in-Some-Create.ensures.form, none),
+)
 
 pub returns-in-Some-Create-clause-built : goal.returns-in-Some-Create-clause-built
 returns-in-Some-Create-clause-built g c is = absurd (never_unbuilt _ _ _ _ c.create_file.result.status (c.create_file.ensures.ends (g.S.Source.left c.args.source.now) (g.S.Source.faults c.args.source.now)) is)
@@ -82,9 +83,9 @@ returns-in-Some-Create-clause-built g c is = absurd (never_unbuilt _ _ _ _ c.cre
 pub returns-in-Some-Create-clause-made : goal.returns-in-Some-Create-clause-made
 returns-in-Some-Create-clause-made g c =
     let seen = seen_by (g.S.Source.left c.args.source.now) (g.S.Source.left c.args.source.now) (g.S.Source.faults c.args.source.now) (g.S.Source.faults c.args.source.now)
-        (g.K.Sink.written c.args.sink) (g.K.Sink.written c.create_file.result.sink) (g.K.Sink.faults c.args.sink) (g.K.Sink.faults c.create_file.result.sink) c.create_file.result.answered.items c.create_file.result.order.items in
+    (g.K.Sink.written c.args.sink) (g.K.Sink.written c.create_file.result.sink) (g.K.Sink.faults c.args.sink) (g.K.Sink.faults c.create_file.result.sink) c.create_file.result.answered.items c.create_file.result.order.items in
     let d = g.D.Disk.model c.args.disk in
     let e = g.D.Disk.model c.create_file.result.disk in
     let form = Create c.in-Some-Create.k c.in-Some-Create.pages c.in-Some-Create.log c.in-Some-Create.dcap c.in-Some-Create.icap in
     subst (λ (form : Option Form). IsMadeWhole form seen (disk_seen d e) c.create_file.result.status) (sym (ap Some c.in-Some-Create.field-0-is) ∙ c.in-Some-Create.ensures.form)
-      (ends_made (Some form) seen d e c.create_file.result.status (c.create_file.ensures.ends (g.S.Source.left c.args.source.now) (g.S.Source.faults c.args.source.now)))
+    (ends_made (Some form) seen d e c.create_file.result.status (c.create_file.ensures.ends (g.S.Source.left c.args.source.now) (g.S.Source.faults c.args.source.now)))
