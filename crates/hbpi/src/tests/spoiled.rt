@@ -47,6 +47,11 @@ const UNORDERED: [u8; 41] = [
 /// Where page 1 stands.
 const PAGE_1: usize = 139_264;
 
+/// Whether this was said, and the disk is untouched where it is a refusal.
+fn is_right(left: &Left, want: &str) -> bool {
+    left.said.as_str() == want && (left.disk.clock() == 0 || want.starts_with('0'))
+}
+
 #[test]
 fn damaged_files_are_refused(rt: HostRuntime) {
     let none: (usize, &[u8]) = (0, b"");
@@ -84,8 +89,7 @@ fn damaged_files_are_refused(rt: HostRuntime) {
     ];
     for (patches, want) in rows {
         let left = over(rt.alloc(), new_file(rt.alloc()), patches).expect(&rt, "memory");
-        assert_eq!(rt; left.said.as_str(), want, "{} {}", patches[0].0, want);
-        assert!(rt; left.disk.clock() == 0 || want.starts_with('0'), "{want}");
+        assert!(rt; is_right(&left, want), "{}: {}", patches[0].0, left.said.as_str());
     }
 }
 
@@ -128,8 +132,7 @@ fn damaged_logs_are_refused(rt: HostRuntime) {
     ];
     for (patches, want) in rows {
         let left = over(rt.alloc(), logged(rt.alloc()), patches).expect(&rt, "memory");
-        assert_eq!(rt; left.said.as_str(), want, "{} {}", patches[0].0, want);
-        assert!(rt; left.disk.clock() == 0 || want.starts_with('0'), "{want}");
+        assert!(rt; is_right(&left, want), "{}: {}", patches[0].0, left.said.as_str());
     }
 }
 

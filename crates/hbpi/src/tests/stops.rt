@@ -85,7 +85,7 @@ fn a_call_of_create_fails(rt: HostRuntime) {
         let left = failing(rt.alloc(), words, "", &zeros, call).expect(&rt, "memory");
         assert_eq!(rt; left.said.as_str(), "6 disk fault\n", "{call}");
         let calls = left.disk.calls();
-        assert_eq!(rt; calls, call + 1);
+        assert_eq!(rt; calls, call.saturating_add(1));
         let wants = ["7 no super\n", NONE];
         assert!(rt;
             all_say(rt.alloc(), &left.disk, calls, ONE, wants) == Some(true),
@@ -208,7 +208,7 @@ fn a_call_of_drive_fails(rt: HostRuntime) {
         assert_eq!(rt; left.said.as_str(), want, "{call}");
         assert_eq!(rt; left.answered.len(), answered, "{call}");
         let calls = left.disk.calls();
-        assert_eq!(rt; calls, call + 1);
+        assert_eq!(rt; calls, call.saturating_add(1));
         let wants = behind(answered);
         let said = all_say(rt.alloc(), &left.disk, calls, ALL, wants).expect(&rt, "memory");
         assert!(rt; said, "{call}");
