@@ -1,5 +1,5 @@
 -- What `drive` answers where nothing failed.
-use Rattle.std.proofs.Common.{◌≡◌, ◌⊎◌, inl, inr, ℕ, true, List, length, take, Option, Some, None, Result, Ok, Err, refl, sym, ap, subst, ◌∙◌}
+use Rattle.std.proofs.Common.{◌≡◌, ◌⊎◌, inl, inr, ℕ, true, List, Option, Some, Result, Ok, Err, refl, sym, ap, subst, ◌∙◌}
 use Rattle.hb_disk.specs.Model.{DiskModel}
 use Rattle.hb_disk.specs.RunLaws.{at_value}
 use Rattle.hb_outside.specs.Streams.{Rose}
@@ -11,9 +11,9 @@ use Rattle.hb_text.specs.declared.rules.BadLine.{BadLine}
 use Rattle.hb_text.specs.Grammar.{Reading, text_read}
 use Rattle.hbpi.specs.Codes.{status_of}
 use Rattle.hbpi.specs.Core.{CoreState}
-use Rattle.hbpi.specs.Driven.{Drove, HasFailed, IsScheduled, IsServedScript, IsShutOut, IsTurnedAway, OpenedEnds, DriveCommandEnds}
+use Rattle.hbpi.specs.Driven.{Drove, IsScheduled, IsShutOut, IsTurnedAway, OpenedEnds, DriveCommandEnds}
 use Rattle.hbpi.specs.Ends.{Seen}
-use Rattle.hbpi.specs.Outcome.{greatest_text, IsTextOf, IsWholeText}
+use Rattle.hbpi.specs.Outcome.{IsTextOf, IsWholeText}
 use Rattle.hbpi.specs.Restart.{GoodIsNotRefused}
 use Rattle.hbpi.specs.Runs.{IsCalm, GivesFor, IsDriven}
 use Rattle.hbpi.specs.declared.restart.faults.OpenFault.{OpenFault}

@@ -1,25 +1,23 @@
 -- A good file is not refused.
-use Rattle.std.proofs.Common.{◌≡◌, ◌⊎◌, inl, inr, ℕ, ◌+◌, ◌<◌, ◌≤◌, List, [], ◌∷◌, length, Option, Some, None, refl, sym, ap, subst, ◌∙◌, arith}
+use Rattle.std.proofs.Common.{◌≡◌, inl, inr, ℕ, ◌≤◌, List, [], ◌∷◌, length, Option, Some, None, refl, sym, ap, subst, ◌∙◌, arith}
 use Rattle.hb_wal.specs.FrameLaws.{ReadsOneWay}
 use Rattle.hb_super.specs.Superblocks.{IsNewest}
 use Rattle.hb_frag.specs.declared.pages.LivePage.{LivePage}
 use Rattle.hb_frag.specs.declared.pages.Page.{Page}
-use Rattle.hb_frag.specs.Grammar.{SpellsPage}
 use Rattle.hb_ops.specs.declared.meta.Meta.{Meta}
 use Rattle.hb_ops.specs.declared.operations.Op.{Op}
 use Rattle.hb_ops.specs.declared.operations.Op.TheVariants.{Put, Del}
-use Rattle.hb_ops.specs.Files.{FileState, page_of, page_at}
+use Rattle.hb_ops.specs.Files.{FileState, page_at}
 use Rattle.hb_ops.specs.LocalRule.{BreaksFirst}
 use Rattle.hb_ops.specs.Operations.{change_of}
 use Rattle.hb_ops.specs.Sound.{IsSound, FitsFile}
 use Rattle.hb_store.specs.Groups.{Logged, SpellAll}
 use Rattle.hb_store.specs.GroupLaws.{SpelledOnce, same_spelled}
 use Rattle.hb_store.specs.ImageLaws.{OpensToOne, OpensWhole}
-use Rattle.hb_store.specs.Opening.{OpensBy, OpensTo, IsPageIn, Shows, file_size, place_bytes, log_bytes}
+use Rattle.hb_store.specs.Opening.{OpensBy, OpensTo, IsPageIn, Shows, file_size, log_bytes}
 use Rattle.hb_store.specs.Replay.{Replayed, untouched, replay, after_group}
 use Rattle.hbpi.specs.Audit.{Names, BreaksLocally}
-use Rattle.hbpi.specs.Restart.{Refuses, IsNoRefusal, IsOnePage, IsUnsound, GoodIsNotRefused, HasLayout, HasLog}
-use Rattle.hbpi.specs.declared.restart.faults.OpenFault.{OpenFault}
+use Rattle.hbpi.specs.Restart.{IsOnePage, IsUnsound, GoodIsNotRefused, HasLayout, HasLog}
 use Rattle.hbpi.specs.declared.restart.faults.OpenFault.TheVariants as faults
 
 -- no operation so far changes what a file says of itself

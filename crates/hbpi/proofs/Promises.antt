@@ -1,5 +1,5 @@
 -- The promise of `drive`, from how its run ends.
-use Rattle.std.proofs.Common.{◌≡◌, ◌≢◌, ◌⊎◌, inl, inr, ⊎_elim, ℕ, zero, suc, ◌≤◌, List, [], ◌∷◌, length, map, take, Option, Some, None, IfSome, IsSome, refl, sym, ap, subst, ◌∙◌, arith}
+use Rattle.std.proofs.Common.{◌≡◌, inl, inr, ℕ, zero, suc, List, [], length, Option, Some, None, refl, sym, ap, subst, ◌∙◌}
 use Rattle.std.specs.List.{All}
 use Rattle.std.proofs.lemmas.List.Elements.{All-nil}
 use Rattle.hb_disk.specs.Model.{DiskModel}
@@ -13,8 +13,8 @@ use Rattle.hb_set.specs.declared.scripts.Answered.{Answered}
 use Rattle.hb_store.specs.ImageLaws.{OpensToOne}
 use Rattle.hb_store.specs.Opening.{OpensTo, IsEven}
 use Rattle.hbpi.specs.Codes.{status_of}
-use Rattle.hbpi.specs.Core.{CoreState, OpensToPrefix, HoldsAnswers, CrashesTo, IsReplied, AreAmong, set_of, settled_of}
-use Rattle.hbpi.specs.Driven.{IsScheduled, RunsFrom, Drove, IsShutOut, IsTurnedAway, OpenedEnds, DriveCommandEnds}
+use Rattle.hbpi.specs.Core.{CoreState, OpensToPrefix, HoldsAnswers, IsReplied, AreAmong, settled_of}
+use Rattle.hbpi.specs.Driven.{IsScheduled, RunsFrom, Drove, IsTurnedAway, OpenedEnds, DriveCommandEnds}
 use Rattle.hbpi.specs.Ends.{Seen}
 use Rattle.hbpi.specs.Moves.{MovesOn}
 use Rattle.hbpi.specs.Runs.{KeepsPromise}

@@ -1,5 +1,5 @@
 -- A run over a file that was just opened, seen from before the opening.
-use Rattle.std.proofs.Common.{◌≡◌, ◌⊎◌, inl, inr, ⊎_elim, ℕ, ◌≤◌, List, [], length, take, Option, Some, None, IfSome, IsSome, refl, sym, ap, subst, ◌∙◌, arith}
+use Rattle.std.proofs.Common.{◌≡◌, inl, inr, ℕ, ◌≤◌, List, length, Option, Some, None, IfSome, IsSome, refl, subst, arith}
 use Rattle.hb_disk.specs.Model.{DiskModel, IsDisk}
 use Rattle.hb_disk.specs.Calls.{Leaves}
 use Rattle.hb_disk.specs.RunLaws.{at_value, has_value, if_value, some_value, Leaves-then, Leaves-weaker}
@@ -11,7 +11,7 @@ use Rattle.hb_store.specs.ImageLaws.{OpensToOne}
 use Rattle.hb_store.specs.Opening.{OpensTo, IsEven}
 use Rattle.hb_text.specs.OutputLaws.{Rose-later}
 use Rattle.hbpi.specs.Core.{CoreState, OpensToPrefix}
-use Rattle.hbpi.specs.Driven.{RunsFrom, Drove, HasFailed, IsTurnedAway, IsMetDamaged, OpenedEnds}
+use Rattle.hbpi.specs.Driven.{RunsFrom, Drove, HasFailed, IsTurnedAway, OpenedEnds}
 use Rattle.hbpi.specs.Ends.{Seen}
 use Rattle.hbpi.specs.declared.statuses.Status.{Status}
 use Rattle.hbpi.specs.declared.statuses.Status.TheVariants.{Done, Usage, BadText, SourceFault, SinkFault, DiskFault, Damaged, NoMemory, BadLayout, Small, NotBuilt}

@@ -1,23 +1,22 @@
 -- What a run of a schedule leaves, as the command `drive` says it.
-use Rattle.std.proofs.Common.{◌≡◌, ◌≢◌, ◌⊎◌, inl, inr, ⊎_elim, ℕ, zero, suc, ◌≤◌, List, [], ◌∷◌, ◌++◌, length, map, take, Option, Some, None, IfSome, IsSome, IsTrue, false, refl, sym, ap, subst, ◌∙◌, arith, MatchOption, append-nil}
+use Rattle.std.proofs.Common.{◌≡◌, ◌≢◌, ◌⊎◌, inl, inr, ℕ, zero, suc, ◌≤◌, List, [], ◌∷◌, ◌++◌, length, take, Option, Some, None, IfSome, IsSome, false, refl, sym, ap, subst, ◌∙◌, arith, MatchOption, append-nil}
 use Rattle.hb_disk.specs.Model.{DiskModel, IsDisk}
 use Rattle.hb_ops.specs.declared.meta.Meta.{Meta}
-use Rattle.hb_disk.specs.Calls.{Leaves}
 use Rattle.hb_disk.specs.RunLaws.{at_value, if_value, has_value, Leaves-start}
 use Rattle.hb_outside.specs.Streams.{Rose, Appends, AppendsFront}
 use Rattle.hb_ops.specs.Files.{FileState, contents_of}
 use Rattle.hb_ops.specs.Sound.{IsSound}
 use Rattle.hb_set.specs.declared.scripts.Line.{Line}
 use Rattle.hb_set.specs.declared.scripts.Answered.{Answered}
-use Rattle.hb_store.specs.Keeps.{StoreState, IsNew, StoreKeeps, last_of}
+use Rattle.hb_store.specs.Keeps.{StoreState, IsNew, StoreKeeps}
 use Rattle.hb_store.specs.Opening.{OpensTo, IsEven}
 use Rattle.hb_store.specs.declared.stops.StopWhy.{StopWhy}
 use Rattle.hb_store.specs.declared.stops.StopWhy.TheVariants as stops
 use Rattle.hb_store.specs.declared.stops.Why.{Why}
-use Rattle.hb_text.specs.OutputLaws.{Appends-both, Appends-front, AppendsFront-longer, Appends-none, Rose-later}
-use Rattle.hbpi.specs.Core.{CoreState, CoreKeeps, StepsTo, StepsOn, Walks, Awaits, TakesNext, Moment, StepsAt, Reaches, AnswersFirst, set_of, settled_of}
-use Rattle.hbpi.specs.Drives.{IsStart, RunsTo, DriveEnds, HasReadFault, run_output}
-use Rattle.hbpi.specs.Driven.{IsScheduled, IsServedScript, HasRun, RunsFrom, Drove, IsTurnedAway, IsMetDamaged, GetsOutput, OpenedEnds, NotScheduled, status_after, status_by}
+use Rattle.hb_text.specs.OutputLaws.{Appends-both, Appends-front, Rose-later}
+use Rattle.hbpi.specs.Core.{CoreState, CoreKeeps, StepsOn, Moment, Reaches, AnswersFirst, set_of, settled_of}
+use Rattle.hbpi.specs.Drives.{IsStart, RunsTo, DriveEnds, run_output}
+use Rattle.hbpi.specs.Driven.{IsScheduled, IsServedScript, RunsFrom, Drove, IsTurnedAway, GetsOutput, OpenedEnds, NotScheduled, status_after, status_by}
 use Rattle.hbpi.specs.Ends.{Seen, IsRefused}
 use Rattle.hbpi.specs.Moves.{MovesOn, HasOrder}
 use Rattle.hbpi.specs.Outcome.{GetsLine, fault_line}

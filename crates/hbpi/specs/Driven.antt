@@ -1,5 +1,5 @@
 -- What a run of `drive` leaves, by its status.
-use Rattle.std.specs.Prelude.{◌≡◌, ◌≢◌, ◌⊎◌, ℕ, ◌≤◌, true, List, [], ◌++◌, length, map, take, All, Option, Some, None, Ok, Err, IfSome, IsSome}
+use Rattle.std.specs.Prelude.{◌≡◌, ◌⊎◌, ℕ, ◌≤◌, true, List, ◌++◌, length, map, take, All, Option, Some, None, Ok, Err, IfSome}
 use Rattle.hb_disk.specs.Model.{DiskModel}
 use Rattle.hb_disk.specs.Calls.{Leaves, OnlyReads}
 use Rattle.hb_outside.specs.Streams.{Rose, Appends, AppendsFront}

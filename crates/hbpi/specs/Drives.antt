@@ -1,5 +1,5 @@
 -- What a run of a schedule leaves.
-use Rattle.std.specs.Prelude.{◌≡◌, ◌≢◌, ◌⊎◌, ℕ, Bool, true, false, List, [], length, Option, Some, None, IsSome, IsNone, All, Any, is_some}
+use Rattle.std.specs.Prelude.{◌≡◌, ℕ, Bool, true, false, List, [], Option, None, IsSome, All, Any, is_some}
 use Rattle.hb_disk.specs.Model.{DiskModel}
 use Rattle.hb_outside.specs.Streams.{Rose, Appends, AppendsFront}
 use Rattle.hb_set.specs.Machine.{RecordSet}

@@ -21,7 +21,7 @@ pub(crate) struct Answers {
 }
 
 /// Puts a reply, unless the sink failed before. True where it has failed.
-fn put_answer<K: Sink>(sink: &mut K, failed: bool, line: u32, reply: &Reply) -> bool
+pub(crate) fn put_answer<K: Sink>(sink: &mut K, failed: bool, line: u32, reply: &Reply) -> bool
     ensures puts { PutsMore (K.written sink.old) (K.written sink.new) (K.faults sink.old) (K.faults sink.new) failed result (reply_text line reply.now) }
     ensures later { K.faults sink.old ≤ K.faults sink.new }
 {

@@ -15,6 +15,7 @@ ghost use Rattle.hbpi.specs.CoreSeen.{core_seen, core_disk};
 ghost use Rattle.hb_store.specs.Keeps.{last_of};
 ghost use Rattle.hbpi.specs.Drives.{DriveEnds, EndsAs, HasReadFault, IsStart, RunsTo};
 
+use crate::answers::put_answer;
 use crate::engine::session::Outcome;
 use crate::engine::state::Core;
 use hb_disk::Disk;
@@ -46,17 +47,6 @@ pub(crate) struct Ran<D: Disk, K> {
     /// The answered lines, in the order of answering.
     pub(crate) answered: Vec<Answered>,
     pub(crate) end: End,
-}
-
-/// Puts a reply, unless the sink failed before. True where it has failed.
-fn put_answer<K: Sink>(sink: &mut K, failed: bool, line: u32, reply: &Reply) -> bool
-    ensures puts { PutsMore (K.written sink.old) (K.written sink.new) (K.faults sink.old) (K.faults sink.new) failed result (reply_text line reply.now) }
-    ensures later { K.faults sink.old ≤ K.faults sink.new }
-{
-    if failed {
-        return true;
-    }
-    put_reply(sink, line, reply).is_err()
 }
 
 /// Puts and keeps the answer that a step gave, where it gave one. There has to be room. True where the sink has failed.

@@ -1,4 +1,5 @@
-//! Files made and opened. The rest of the program uses `create` and `recover` alone.
+//! Files made and opened: `create` and `recover`, with layouts, faults and laws of files. The rest of the program uses
+//! nothing else of this.
 
 pub(crate) mod audit;
 pub(crate) mod creation;

@@ -50,13 +50,14 @@ pub enum Status {
     DiskFault,
     /// The file is damaged.
     Damaged(Damage),
-    /// Memory was refused before the first command.
+    /// Memory was refused before the first command. A file that was to be made may stand.
     NoMemory,
     /// A field of the layout is out of its limits.
     BadLayout { field: Field, value: u64 },
     /// The disk has fewer bytes than are needed.
     Small { needed: u64, found: u64 },
-    /// The words are a form whose command isn't built.
+    /// The words are a form whose command isn't built; or a file has more pages or levels, or a text has lines or
+    /// steps, that `drive` doesn't serve.
     NotBuilt,
 }
 

@@ -32,12 +32,12 @@ pub fn top<S: Source, K: Sink, D: Disk>(
     ensures ends { RunEnds (form_of (map string_bytes words.now)) (D.model disk) (D.model result.disk) (seen_by (S.left source.old) (S.left source.new) (S.faults source.old) (S.faults source.new)
         (K.written sink) (K.written result.sink) (K.faults sink) (K.faults result.sink) result.answered.items result.order.items) result.status }
 
-    // The words alone decide these.
+    // The words alone decide the first two; and beyond them only `drive` may come to what isn't built.
     ensures usage { (result.status ≡ Status.Usage) ↔ (form_of (map string_bytes words.now) ≡ None) }
     ensures not_built { IsUnbuilt (form_of (map string_bytes words.now)) → result.status ≡ Status.NotBuilt }
     ensures built { result.status ≡ Status.NotBuilt → IsUnbuilt (form_of (map string_bytes words.now)) ⊎ (form_of (map string_bytes words.now) ≡ Some Form.Drive) }
 
-    // A good text is answered, and a bad one refused, unless something failed.
+    // `dry` answers a good text and refuses a bad one, unless something failed.
     ensures complete { IsComplete (form_of (map string_bytes words.now)) (seen_by (S.left source.old) (S.left source.new) (S.faults source.old) (S.faults source.new)
         (K.written sink) (K.written result.sink) (K.faults sink) (K.faults result.sink) result.answered.items result.order.items) result.status }
     ensures bad_text { RefusesBadText (form_of (map string_bytes words.now)) (seen_by (S.left source.old) (S.left source.new) (S.faults source.old) (S.faults source.new)

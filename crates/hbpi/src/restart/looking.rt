@@ -179,7 +179,7 @@ fn audited_page(meta: &Meta, page: &Page) -> Result<u64, OpenFault>
     }
 }
 
-/// The file of a disk, or why there is none. The tests come in the order of `OpenFault`.
+/// The file of a disk, or why there is none. The tests come in the order in which `recover` names them.
 pub(crate) fn look<D: Disk>(alloc: Global, disk: &mut D) -> Result<Found, OpenFault>
     ensures found { IfOk result (λ f. IfSome (D.model disk.old).told (λ b. IsFoundIn b f.turn f.meta (get nat_cmp f.touched.pages 1) f.count)) }
     ensures whole { IfOk result (λ f. IsWhole (D.model disk.old).size f.turn f.meta) }

@@ -89,7 +89,12 @@ fn damaged_files_are_refused(rt: HostRuntime) {
     ];
     for (patches, want) in rows {
         let left = over(rt.alloc(), new_file(rt.alloc()), patches).expect(&rt, "memory");
-        assert!(rt; is_right(&left, want), "{}: {}", patches[0].0, left.said.as_str());
+        assert!(rt;
+            is_right(&left, want),
+            "{}: {}",
+            patches[0].0,
+            left.said.as_str()
+        );
     }
 }
 
@@ -132,7 +137,12 @@ fn damaged_logs_are_refused(rt: HostRuntime) {
     ];
     for (patches, want) in rows {
         let left = over(rt.alloc(), logged(rt.alloc()), patches).expect(&rt, "memory");
-        assert!(rt; is_right(&left, want), "{}: {}", patches[0].0, left.said.as_str());
+        assert!(rt;
+            is_right(&left, want),
+            "{}: {}",
+            patches[0].0,
+            left.said.as_str()
+        );
     }
 }
 

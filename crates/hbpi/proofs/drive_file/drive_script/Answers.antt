@@ -1,4 +1,4 @@
-use Rattle.std.proofs.Common.{◌≡◌, ℕ, List, [], Option, Some, None, IfSome, IsSome, refl, sym, ap, subst, ◌∙◌, length}
+use Rattle.std.proofs.Common.{◌≡◌, ℕ, List, [], IsSome, refl, sym, ap, subst, ◌∙◌, length}
 use Rattle.hb_disk.specs.Model.{DiskModel}
 use Rattle.hb_disk.specs.RunLaws.{has_value, if_value}
 use Rattle.hb_ops.specs.declared.meta.Meta.{Meta}
@@ -8,14 +8,13 @@ use Rattle.hb_set.specs.declared.scripts.Answered.{Answered}
 use Rattle.hb_set.specs.declared.scripts.Line.{Line}
 use Rattle.hb_store.specs.Keeps.{StoreState, StoreKeeps, IsNew, last_of}
 use Rattle.hb_store.specs.Seen.{seen_as, disk_of}
-use Rattle.hbpi.specs.Core.{CoreState, CoreKeeps}
+use Rattle.hbpi.specs.Core.{CoreState}
 use Rattle.hbpi.specs.CoreSeen.{core_seen, core_disk}
 use Rattle.hbpi.specs.Drives.{RunsTo}
-use Rattle.hbpi.specs.Driven.{IsScheduled, IsServedScript, IsTurnedAway, OpenedEnds, status_after}
+use Rattle.hbpi.specs.Driven.{IsScheduled, IsServedScript, OpenedEnds, status_after}
 use Rattle.hbpi.specs.Moves.{MovesOn}
 use Rattle.hbpi.specs.Ends.{Seen, IsRefused}
 use Rattle.hbpi.specs.Outcome.{GetsLine, fault_line}
-use Rattle.hbpi.specs.declared.drive.End.TheVariants as ends
 use Rattle.hbpi.specs.declared.statuses.Status.{Status}
 use Rattle.hbpi.specs.declared.statuses.Status.TheVariants.{NoMemory}
 use Rattle.hbpi.proofs.ScheduleRuns.{schedule_ends, even_store, turned_away, away_on, refused_on}

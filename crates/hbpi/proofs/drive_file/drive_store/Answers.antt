@@ -1,8 +1,8 @@
-use Rattle.std.proofs.Common.{◌≡◌, ℕ, refl, sym, ap, subst, ◌∙◌}
+use Rattle.std.proofs.Common.{ℕ, sym, ap, subst, ◌∙◌}
 use Rattle.hb_disk.specs.Model.{DiskModel}
 use Rattle.hb_ops.specs.declared.meta.Meta.{Meta}
 use Rattle.hb_store.specs.Seen.{seen_as, disk_of}
-use Rattle.hbpi.specs.Driven.{IsScheduled, NotScheduled, OpenedEnds}
+use Rattle.hbpi.specs.Driven.{IsScheduled, NotScheduled}
 use Rattle.hbpi.specs.Ends.{Seen, IsRefused}
 use Rattle.hbpi.specs.Outcome.{GetsLine, fault_line}
 use Rattle.hbpi.specs.declared.statuses.Status.{Status}

@@ -1,4 +1,3 @@
-use Rattle.std.proofs.Common.{false, Ok, refl, sym, ◌∙◌, ap, subst}
 use Rattle.std.specs.Bool.{IsTrue}
 use Rattle.hbpi.proofs.TextPieces.{short_is_whole}
 use Rattle.hbpi.proofs.drive_file.read_schedule.Goals as goal
