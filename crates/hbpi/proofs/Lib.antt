@@ -40,3 +40,4 @@ pub mod Reopened
 pub mod Promises
 pub mod NotRefused
 pub mod DriveGiven
+pub mod FileRefused

@@ -11,7 +11,9 @@ use Rattle.hb_text.specs.declared.rules.BadLine.{BadLine}
 use Rattle.hb_text.specs.Grammar.{Reading, text_read}
 use Rattle.hbpi.specs.Core.{AreAmong, HoldsAnswers, CrashesTo, IsReplied, entries_from, set_of}
 use Rattle.hbpi.specs.Driven.{DriveCommandEnds, HasFailed, IsScheduled, IsServedScript}
-use Rattle.hbpi.specs.Restart.{IsOnePage}
+use Rattle.hbpi.specs.Codes.{status_of}
+use Rattle.hbpi.specs.Restart.{IsOnePage, IsUnwritten, Refuses}
+use Rattle.hbpi.specs.declared.restart.faults.OpenFault.{OpenFault}
 use Rattle.hbpi.specs.Ends.{Seen, DiskSeen, DryEnds, CreateEnds, UsageEnds, UnbuiltEnds}
 use Rattle.hbpi.specs.Layouts.{first_fault, size_of}
 use Rattle.hbpi.specs.declared.forms.Form.{Form}
@@ -68,3 +70,9 @@ GivesFor seen status (Err bad) = (status ≡ BadText bad) ⊎ (status ≡ NoMemo
 
 abbrev pub IsDriven : DiskModel → DiskModel → Seen → Status → Type 0
 IsDriven d e seen status = (s : FileState) (left : List ℕ) → IsCalm s left d e seen → GivesFor seen status (text_read true s.meta.k left)
+
+-- Where the bytes that a disk tells open to no sound file, and no call of it failed, the file is refused, and the refusal
+-- is true of the bytes; or memory was refused.
+abbrev pub RefusesFile : DiskModel → DiskModel → Status → Type 0
+RefusesFile d e status = (bytes : List ℕ) → d.told ≡ Some bytes → ((s : FileState) → OpensTo bytes s → IsSound s → ⊥) → ¬ (HasFailed d e) →
+    (status ≡ NoMemory) ⊎ ((fault : OpenFault) × (status ≡ status_of fault) × Refuses fault bytes × IsUnwritten fault)
