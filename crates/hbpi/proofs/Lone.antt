@@ -221,7 +221,7 @@ module _ (meta : Meta) (page : LivePage) (high : meta.high ≡ 1) (low : meta.he
         (page, refl, ten.1),
       ))))))
 
-not_broken : (rule : ℕ) (page : LivePage) (meta : Meta) → BreaksFirst rule page meta → FitsFile meta page → ⊥
+pub not_broken : (rule : ℕ) (page : LivePage) (meta : Meta) → BreaksFirst rule page meta → FitsFile meta page → ⊥
 not_broken rule page meta (inl three) fits = three.1 fits.fits
 not_broken rule page meta (inr (inl four)) fits = four.2 fits.well_cut
 not_broken rule page meta (inr (inr (inl five))) fits = five.3 fits.filled
@@ -236,6 +236,6 @@ sound_breaks_none s page rule (inr (inr (inl first))) sound =
     let b = first.3 in not_broken rule b.0 s.meta b.2 (sound.well_made page b.0 b.1)
 sound_breaks_none s page rule (inr (inr (inr (inl seven)))) sound = seven.5 sound.siblings
 sound_breaks_none s page rule (inr (inr (inr (inr (inl eight))))) sound = eight.6 sound.children
-sound_breaks_none s page rule (inr (inr (inr (inr (inr (inl nine)))))) sound = nine.6 sound.covered
+sound_breaks_none s page rule (inr (inr (inr (inr (inr (inl nine)))))) sound = nine.7 sound.covered
 sound_breaks_none s page rule (inr (inr (inr (inr (inr (inr ten)))))) sound =
     let b = ten.6 in not_broken 10 b.0 s.meta b.2 (sound.well_made page b.0 b.1)

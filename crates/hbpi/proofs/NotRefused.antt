@@ -18,6 +18,7 @@ use Rattle.hb_store.specs.Opening.{OpensBy, OpensTo, IsPageIn, Shows, file_size,
 use Rattle.hb_store.specs.Replay.{Replayed, untouched, replay, after_group}
 use Rattle.hbpi.specs.Audit.{Names, BreaksLocally}
 use Rattle.hbpi.specs.Restart.{IsOnePage, IsUnsound, GoodIsNotRefused, HasLayout, HasLog}
+use Rattle.hbpi.proofs.Lone.{sound_breaks_none}
 use Rattle.hbpi.specs.declared.restart.faults.OpenFault.TheVariants as faults
 
 -- no operation so far changes what a file says of itself
@@ -27,59 +28,18 @@ op_meta (Put id rec) meta None second third = refl
 op_meta (Del id point) meta (Some page) second third = refl
 op_meta (Del id point) meta None second third = refl
 
-replay_meta : (t : Replayed) (groups : List Logged) → (replay t groups).meta ≡ t.meta
+pub replay_meta : (t : Replayed) (groups : List Logged) → (replay t groups).meta ≡ t.meta
 replay_meta t [] = refl
 replay_meta t (g ∷ rest) = replay_meta (after_group t g) rest ∙ op_meta g.op t.meta _ _ _
 
-meta_of : (b : List ℕ) (s : FileState) (opens : OpensTo b s) → s.meta ≡ opens.said
+pub meta_of : (b : List ℕ) (s : FileState) (opens : OpensTo b s) → s.meta ≡ opens.said
 meta_of b s opens = opens.by.shows.meta ∙ replay_meta (untouched opens.said) opens.groups
 
-least_size : (m : Meta) → 8192 ≤ file_size m
+pub least_size : (m : Meta) → 8192 ≤ file_size m
 least_size m = omega arith
 
--- a page that breaks a rule isn't well made
-breaks_none : (rule : ℕ) (page : LivePage) (meta : Meta) → FitsFile meta page → BreaksFirst rule page meta → ⊥
-breaks_none rule page meta made breaks = elim breaks [
-  | inl third ↦ third.1 made.fits
-  | inr more ↦ elim more [
-    | inl fourth ↦ fourth.2 made.well_cut
-    | inr more ↦ elim more [
-      | inl fifth ↦ fifth.3 made.filled
-      | inr more ↦ elim more [
-        | inl sixth ↦ sixth.4 made.in_order
-        | inr tenth ↦ tenth.5 made.normal
-      ]
-    ]
-  ]
-]
-
-local_none : (s : FileState) (page rule : ℕ) → IsSound s → BreaksLocally s page rule → ⊥
-local_none s page rule sound breaks = breaks_none rule breaks.0 s.meta (sound.well_made page breaks.0 breaks.1) breaks.2
-
--- a sound file breaks no rule
-names_none : (s : FileState) (page rule : ℕ) → IsSound s → Names s page rule → ⊥
-names_none s page rule sound names = elim names [
-  | inl first ↦ first.2 sound.rooted
-  | inr more ↦ elim more [
-    | inl second ↦ second.3 sound.counted
-    | inr more ↦ elim more [
-      | inl local ↦ local_none s page rule sound local.3
-      | inr more ↦ elim more [
-        | inl seventh ↦ seventh.5 sound.siblings
-        | inr more ↦ elim more [
-          | inl eighth ↦ eighth.6 sound.children
-          | inr more ↦ elim more [
-            | inl ninth ↦ ninth.6 sound.covered
-            | inr tenth ↦ local_none s page 10 sound tenth.6
-          ]
-        ]
-      ]
-    ]
-  ]
-]
-
 -- a list of pages with one in it has a first one
-first_page : (pages : List Page) → length pages ≡ 1 → (p : Page) × (page_at pages 1 ≡ Some p)
+pub first_page : (pages : List Page) → length pages ≡ 1 → (p : Page) × (page_at pages 1 ≡ Some p)
 first_page [] one = cc (one)
 first_page (p ∷ rest) one = (p, refl)
 
@@ -119,7 +79,7 @@ module _ (once : SpelledOnce) (turns : (bytes : List ℕ) (t s : ℕ) (m n : Met
             shows = broken.1;
           };
         } in
-        names_none broken.0 page rule (subst IsSound (sym (one b broken.0 s other opens)) sound) broken.2
+        sound_breaks_none broken.0 page rule broken.2 (subst IsSound (sym (one b broken.0 s other opens)) sound)
   ]
 
   pub not_refused : GoodIsNotRefused

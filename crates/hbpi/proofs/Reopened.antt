@@ -13,6 +13,7 @@ use Rattle.hb_text.specs.OutputLaws.{Rose-later}
 use Rattle.hbpi.specs.Core.{CoreState, OpensToPrefix}
 use Rattle.hbpi.specs.Driven.{RunsFrom, Drove, HasFailed, IsTurnedAway, OpenedEnds}
 use Rattle.hbpi.specs.Ends.{Seen}
+use Rattle.hbpi.specs.Restart.{IsOnePage}
 use Rattle.hbpi.specs.declared.statuses.Status.{Status}
 use Rattle.hbpi.specs.declared.statuses.Status.TheVariants.{Done, Usage, BadText, SourceFault, SinkFault, DiskFault, Damaged, NoMemory, BadLayout, Small, NotBuilt}
 
@@ -72,9 +73,9 @@ drove_before d m e seen after one opening drove = record {
 away_before : (k : ℕ) (d m e : DiskModel) (seen : Seen) (status : Status) → OpensToOne → IsOpening d m → IsTurnedAway k m e seen status → IsTurnedAway k d e seen status
 away_before k d m e seen status one opening away = record {
   refused = away.refused;
-  told = from_before d m (λ s. (s.meta.k ≡ k) × IsEven e s × (IsEven m s → Leaves m e (λ c. OpensTo c s))) _ _ one opening
-      (λ b f. (f.0, f.1, (f.3, f.4, f.5)))
-      (λ b s is opens sound even here. (s, opens, sound, here.0, here.1, λ was. Leaves-then d m e (λ c. OpensTo c s) (opening.even s was) (here.2 even))) away.told;
+  told = from_before d m (λ s. (s.meta.k ≡ k) × IsEven e s × (IsEven m s → Leaves m e (λ c. OpensTo c s)) × IsOnePage s.meta) _ _ one opening
+      (λ b f. (f.0, f.1, (f.3, f.4, f.5, f.6)))
+      (λ b s is opens sound even here. (s, opens, sound, here.0, here.1, λ was. Leaves-then d m e (λ c. OpensTo c s) (opening.even s was) (here.2 even), here.3)) away.told;
 }
 
 failed_before : (d m e : DiskModel) → IsOpening d m → HasFailed m e → HasFailed d e

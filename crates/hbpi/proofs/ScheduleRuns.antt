@@ -20,6 +20,7 @@ use Rattle.hbpi.specs.Driven.{IsScheduled, IsServedScript, RunsFrom, Drove, IsTu
 use Rattle.hbpi.specs.Ends.{Seen, IsRefused}
 use Rattle.hbpi.specs.Moves.{MovesOn, HasOrder}
 use Rattle.hbpi.specs.Outcome.{GetsLine, fault_line}
+use Rattle.hbpi.specs.Restart.{IsOnePage}
 use Rattle.hbpi.specs.declared.drive.End.{End}
 use Rattle.hbpi.specs.declared.drive.End.TheVariants as ends
 use Rattle.hbpi.specs.declared.engine.session.Session.{Session}
@@ -89,6 +90,7 @@ pub record IsRun (d e : DiskModel) (seen : Seen) (k : ℕ) (before after : CoreS
   pub start : IsStart before
   pub opened : IsNew before.store.turn before.store.meta before.store
   pub attributes : before.store.meta.k ≡ k
+  pub one_page : IsOnePage before.store.meta
   pub told : IfSome d.told (λ b. (s : FileState) × OpensTo b s × IsSound s × (s.meta ≡ before.store.meta) × (end ≢ ends.NoMemory → RunsTo (length steps) d before s seen.answered e after (contents_of s)))
   pub moves : end ≢ ends.NoMemory → MovesOn (length steps) before seen.answered after
   pub first : AnswersFirst after seen.answered
@@ -113,14 +115,17 @@ even_store d st durable later keeps running = record {
   ];
 }
 
+pub one_page_of : (m : Meta) → m.high ≡ 1 → m.height ≡ 1 → IsOnePage m
+one_page_of m high height = (omega (arith, high), omega (arith, height))
+
 -- no command was done over a store that was just opened
-pub turned_away : (d : DiskModel) (st : StoreState) (seen : Seen) (status : Status) → IsDisk d → (IsSome d.told → (s : FileState) × IsSound s × StoreKeeps d st s []) → st.stopped ≡ false → IsRefused seen status → IsTurnedAway st.meta.k d d seen status
-turned_away d st seen status disk kept running refused = record {
+pub turned_away : (d : DiskModel) (st : StoreState) (seen : Seen) (status : Status) → IsDisk d → (IsSome d.told → (s : FileState) × IsSound s × StoreKeeps d st s []) → st.stopped ≡ false → (st.meta.high ≡ 1) × (st.meta.height ≡ 1) → IsRefused seen status → IsTurnedAway st.meta.k d d seen status
+turned_away d st seen status disk kept running one_page refused = record {
   refused = refused;
   told = if_value d.told _ (λ b is.
       let here = kept (has_value d.told b is) in
       let even = even_store d st here.0 [] here.2 running in
-      (here.0, even.images b (disk.as_read b is), here.1, ap (λ (m : Meta). m.k) here.2.meta_is, even, λ was. Leaves-start d _ disk even.images));
+      (here.0, even.images b (disk.as_read b is), here.1, ap (λ (m : Meta). m.k) here.2.meta_is, even, λ was. Leaves-start d _ disk even.images, subst IsOnePage (sym here.2.meta_is) (one_page_of st.meta one_page.0 one_page.1)));
 }
 
 -- the same over a disk that is another's
@@ -158,7 +163,7 @@ drove : (d e : DiskModel) (seen : Seen) (k : ℕ) (before after : CoreState) (st
 drove d e seen k before after steps end mid faults run ran = record {
   k = k;
   before = before;
-  run = record { steps = steps; scheduled = run.scheduled; served = run.served; start = run.start; opened = run.opened; attributes = run.attributes; moves = run.moves ran; first = run.first; ordered = run.ordered; order = run.order };
+  run = record { steps = steps; scheduled = run.scheduled; served = run.served; start = run.start; opened = run.opened; attributes = run.attributes; one_page = run.one_page; moves = run.moves ran; first = run.first; ordered = run.ordered; order = run.order };
   told = if_value d.told _ (λ b is.
       let here = at_value d.told _ b is run.told in
       (here.0, here.1, here.2, here.3, runs_from here.0 (length steps) d e before after seen.answered (here.4 ran)));

@@ -22,7 +22,7 @@ use Rattle.hbpi.specs.Drives.{IsStart, HasReadFault, run_output}
 use Rattle.hbpi.specs.Ends.{Seen, IsRefused, IsUnread}
 use Rattle.hbpi.specs.Moves.{MovesOn, HasOrder}
 use Rattle.hbpi.specs.Outcome.{GetsLine, IsTextOf, IsWholeText, fault_line}
-use Rattle.hbpi.specs.Restart.{Refuses, IsShut, IsUnwritten}
+use Rattle.hbpi.specs.Restart.{Refuses, IsOnePage, IsShut, IsUnwritten}
 use Rattle.hbpi.specs.declared.restart.faults.OpenFault.{OpenFault}
 use Rattle.hbpi.specs.declared.restart.faults.OpenFault.TheVariants as faults
 use Rattle.hbpi.specs.declared.statuses.Damage.{Damage}
@@ -47,6 +47,7 @@ pub record HasRun (seen : Seen) (k : ℕ) (before after : CoreState) : Type 0 wh
   pub start : IsStart before
   pub opened : IsNew before.store.turn before.store.meta before.store
   pub attributes : before.store.meta.k ≡ k
+  pub one_page : IsOnePage before.store.meta
   pub moves : MovesOn (length steps) before seen.answered after
   pub first : AnswersFirst after seen.answered
   pub ordered : HasOrder after
@@ -100,7 +101,7 @@ pub record IsShutOut (d e : DiskModel) (seen : Seen) (fault : OpenFault) : Type 
 -- an even disk every image since the run began does.
 pub record IsTurnedAway (k : ℕ) (d e : DiskModel) (seen : Seen) (status : Status) : Type 0 where
   pub refused : IsRefused seen status
-  pub told : IfSome d.told (λ b. (s : FileState) × OpensTo b s × IsSound s × (s.meta.k ≡ k) × IsEven e s × (IsEven d s → Leaves d e (λ c. OpensTo c s)))
+  pub told : IfSome d.told (λ b. (s : FileState) × OpensTo b s × IsSound s × (s.meta.k ≡ k) × IsEven e s × (IsEven d s → Leaves d e (λ c. OpensTo c s)) × IsOnePage s.meta)
 
 -- the whole output and the fault line behind it, or a front of these where the sink failed
 abbrev pub GetsOutput : Seen → CoreState → Status → Type 0

@@ -90,3 +90,7 @@ IsNoRefusal fault = (fault ≡ faults.DiskFault) ⊎ (fault ≡ faults.NoMemory)
 -- bytes that open to a sound file of one page and one level are refused for no reason of theirs
 abbrev pub GoodIsNotRefused : Type 0
 GoodIsNotRefused = (fault : OpenFault) (bytes : List ℕ) (s : FileState) → OpensTo bytes s → IsSound s → IsOnePage s.meta → Refuses fault bytes → IsNoRefusal fault
+
+-- Bytes are refused in one way: two refusals of them are the same.
+abbrev pub IsRefusedOnce : Type 0
+IsRefusedOnce = (bytes : List ℕ) (fault other : OpenFault) → Refuses fault bytes → Refuses other bytes → IsUnwritten fault → IsUnwritten other → fault ≡ other

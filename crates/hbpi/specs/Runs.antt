@@ -71,8 +71,9 @@ GivesFor seen status (Err bad) = (status ≡ BadText bad) ⊎ (status ≡ NoMemo
 abbrev pub IsDriven : DiskModel → DiskModel → Seen → Status → Type 0
 IsDriven d e seen status = (s : FileState) (left : List ℕ) → IsCalm s left d e seen → GivesFor seen status (text_read true s.meta.k left)
 
--- Where the bytes that a disk tells open to no sound file, and no call of it failed, the file is refused, and the refusal
--- is true of the bytes; or memory was refused.
+-- Where no call of a disk that tells failed: bytes that open to no sound file are refused, by a refusal that is true of
+-- them; and a refusal that is true of them is the one that is answered. Memory may be refused in their place.
 abbrev pub RefusesFile : DiskModel → DiskModel → Status → Type 0
-RefusesFile d e status = (bytes : List ℕ) → d.told ≡ Some bytes → ((s : FileState) → OpensTo bytes s → IsSound s → ⊥) → ¬ (HasFailed d e) →
-    (status ≡ NoMemory) ⊎ ((fault : OpenFault) × (status ≡ status_of fault) × Refuses fault bytes × IsUnwritten fault)
+RefusesFile d e status = (bytes : List ℕ) → d.told ≡ Some bytes → ¬ (HasFailed d e) →
+    (((s : FileState) → OpensTo bytes s → IsSound s → ⊥) → (status ≡ NoMemory) ⊎ ((fault : OpenFault) × (status ≡ status_of fault) × Refuses fault bytes × IsUnwritten fault))
+    × ((fault : OpenFault) → Refuses fault bytes → IsUnwritten fault → (status ≡ status_of fault) ⊎ (status ≡ NoMemory))

@@ -1,5 +1,5 @@
 //! What follows of files from their definitions alone.
-ghost use Rattle.hbpi.specs.Restart.{GoodIsNotRefused};
+ghost use Rattle.hbpi.specs.Restart.{GoodIsNotRefused, IsRefusedOnce};
 
 use hb_page_codec::laws::spelling_law;
 use hb_store::an_image_opens_to_one_file;
@@ -9,6 +9,16 @@ use hb_wal::laws::an_area_is_read_in_one_way;
 /// Bytes that open to a sound file of one page and one level are refused for no reason of theirs.
 pub(crate) fn a_good_file_is_not_refused()
     ensures { GoodIsNotRefused }
+{
+    spelling_law();
+    one_superblock_is_newest();
+    an_area_is_read_in_one_way();
+    an_image_opens_to_one_file();
+}
+
+/// Bytes are refused in one way: the tests come in one order, and each has one answer.
+pub(crate) fn bytes_are_refused_in_one_way()
+    ensures { IsRefusedOnce }
 {
     spelling_law();
     one_superblock_is_newest();

@@ -14,10 +14,11 @@ use Rattle.hbpi.specs.Drives.{RunsTo}
 use Rattle.hbpi.specs.Driven.{IsScheduled, IsServedScript, OpenedEnds, status_after}
 use Rattle.hbpi.specs.Moves.{MovesOn}
 use Rattle.hbpi.specs.Ends.{Seen, IsRefused}
+use Rattle.hbpi.specs.Restart.{IsOnePage}
 use Rattle.hbpi.specs.Outcome.{GetsLine, fault_line}
 use Rattle.hbpi.specs.declared.statuses.Status.{Status}
 use Rattle.hbpi.specs.declared.statuses.Status.TheVariants.{NoMemory}
-use Rattle.hbpi.proofs.ScheduleRuns.{schedule_ends, even_store, turned_away, away_on, refused_on}
+use Rattle.hbpi.proofs.ScheduleRuns.{schedule_ends, even_store, one_page_of, turned_away, away_on, refused_on}
 use Rattle.hbpi.proofs.drive_file.drive_script.Goals as goal
 
 pub drive-requires-clause-kept : goal.drive-requires-clause-kept
@@ -64,6 +65,7 @@ returns-in-Ok-clause-ends g c left rest before after scheduled =
       };
       opened = subst (λ (st : StoreState). IsNew st.turn st.meta st) (sym stored) c.requires.new;
       attributes = ap (λ (st : StoreState). st.meta.k) stored;
+      one_page = subst (λ (st : StoreState). IsOnePage st.meta) (sym stored) (one_page_of store.meta c.requires.one_page.1 c.requires.one_page.2);
       told = if_value d.told _ (λ b is.
           let from = c.requires.kept (tells (has_value d.told b is)) in
           let meta = from.2.meta_is in
@@ -93,7 +95,7 @@ returns-in-Ok-clause-ends g c left rest before after scheduled =
     let line = refused_on (λ k. g.K.Sink.written k) (λ k. g.K.Sink.faults k) c.args.sink c.drive.result.sink (g.K.Sink.written c.finish.result.sink) (g.K.Sink.faults c.finish.result.sink) (fault_line NoMemory) same.1
     (subst (λ (x : Status). GetsLine (g.K.Sink.written c.drive.result.sink) (g.K.Sink.written c.finish.result.sink) (g.K.Sink.faults c.drive.result.sink) (g.K.Sink.faults c.finish.result.sink) (fault_line x)) status c.finish.ensures.line) in
     let refused : IsRefused seen NoMemory = record { line = line; none_answered = same.2; none_ordered = ap (λ x. (core_seen x).order) same.0 ∙ ap (λ (x : CoreState). x.order) c.in-Ok.ensures.seen } in
-    away_on (λ x. g.D.Disk.model (core_disk x)) store.meta.k d seen NoMemory c.in-Ok.core c.drive.result.core same.0 (turned_away d (seen_as store) seen NoMemory (g.met.D.Disk.is_disk (core_disk c.in-Ok.core)) kept c.requires.new.running refused))
+    away_on (λ x. g.D.Disk.model (core_disk x)) store.meta.k d seen NoMemory c.in-Ok.core c.drive.result.core same.0 (turned_away d (seen_as store) seen NoMemory (g.met.D.Disk.is_disk (core_disk c.in-Ok.core)) kept c.requires.new.running (c.requires.one_page.1, c.requires.one_page.2) refused))
     c.finish.ensures.line in
     let at_start = subst (λ (x : g.row.D.Denot). OpenedEnds (M x) e seen c.finish.result.status) c.in-Ok.ensures.disk ends in
     let at_end = subst (λ (x : g.row.D.Denot). OpenedEnds (M (disk_of store)) (M x) seen c.finish.result.status) (sym c.finish.ensures.disk) at_start in
@@ -120,4 +122,4 @@ returns-clause-ends g c left rest before after scheduled =
     let refused : IsRefused seen NoMemory = record { line = c.refused.ensures.line; none_answered = c.refused.ensures.answered; none_ordered = c.refused.ensures.order } in
     let back : c.refused.result.disk ≡ disk_of store = c.refused.ensures.disk ∙ c.into_disk.ensures ∙ ap (λ x. disk_of x) c.in-Err.ensures.back in
     subst (λ (x : Status). OpenedEnds d (M c.refused.result.disk) seen x) (sym c.refused.ensures.status)
-    (store.meta.k, away_on M store.meta.k d seen NoMemory (disk_of store) c.refused.result.disk back (turned_away d (seen_as store) seen NoMemory (g.met.D.Disk.is_disk (disk_of store)) c.requires.kept c.requires.new.running refused))
+    (store.meta.k, away_on M store.meta.k d seen NoMemory (disk_of store) c.refused.result.disk back (turned_away d (seen_as store) seen NoMemory (g.met.D.Disk.is_disk (disk_of store)) c.requires.kept c.requires.new.running (c.requires.one_page.1, c.requires.one_page.2) refused))

@@ -42,4 +42,4 @@ returns-in-Err-clause-ends g c =
     (subst (λ (x : Status). NotScheduled c.meta.result.now.k seen.left seen.rest seen.source_before seen.source_after x) (sym c.refused.ensures.status) c.in-Err.ensures.refused) in
     not_scheduled_ends c.refused.result.status store.meta.k d (M c.refused.result.disk) seen why
     (away_on M store.meta.k d seen c.refused.result.status (disk_of store) c.refused.result.disk (c.refused.ensures.disk ∙ c.into_disk.ensures)
-    (turned_away d (seen_as store) seen c.refused.result.status (g.met.D.Disk.is_disk (disk_of store)) c.requires.kept c.requires.new.running refused))
+    (turned_away d (seen_as store) seen c.refused.result.status (g.met.D.Disk.is_disk (disk_of store)) c.requires.kept c.requires.new.running (c.requires.one_page.1, c.requires.one_page.2) refused))

@@ -67,7 +67,7 @@ returns-in-Some-Drive-clause-driven g c is =
 
 pub returns-in-Some-Drive-clause-refused : goal.returns-in-Some-Drive-clause-refused
 returns-in-Some-Drive-clause-refused g c is =
-    refuses_file (g.D.Disk.model c.args.disk) (g.D.Disk.model c.drive_file.result.disk) _ c.drive_file.result.status c.drive_file.ensures.ends
+    refuses_file (g.D.Disk.model c.args.disk) (g.D.Disk.model c.drive_file.result.disk) _ c.drive_file.result.status c.a_good_file_is_not_refused.ensures c.bytes_are_refused_in_one_way.ensures c.drive_file.ensures.ends
 
 pub returns-in-Some-Create-clause-ends : goal.returns-in-Some-Create-clause-ends
 returns-in-Some-Create-clause-ends g c =
