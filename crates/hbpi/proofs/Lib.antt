@@ -41,3 +41,4 @@ pub mod Promises
 pub mod NotRefused
 pub mod DriveGiven
 pub mod FileRefused
+pub mod BadFrames
