@@ -1,6 +1,5 @@
 -- Where the log of some bytes has a bad group it is the first one, and the log has no list of groups then.
 use Rattle.std.proofs.Common.{◌≡◌, ◌⊎◌, inl, inr, ℕ, ◌<◌, ◌^◌, List, [], ◌∷◌, ◌++◌, length, get_or, drop, All, sym, ap, subst, refl, ◌∙◌, append_assoc, length-append, arith}
-use Rattle.std.proofs.lemmas.List.{length-take}
 use Rattle.std.proofs.lemmas.List.Elements.{All-head, All-tail}
 use Rattle.hb_outside.specs.Numbers.{big_endian}
 use Rattle.hb_disk.specs.Calls.{open_gate}
@@ -13,7 +12,7 @@ use Rattle.hb_store.specs.Groups.{Logged, SpellAll, SpellsGroups}
 use Rattle.hb_store.specs.GroupLaws.{SpelledOnce, same_fronts, same_groups}
 use Rattle.hb_store.specs.Replay.{Replayed, MayReplay, after_group, replay, untouched}
 use Rattle.hb_store.specs.ReplayLaws.{MayReplay-front, replay-append}
-use Rattle.hb_store.specs.Opening.{HasBadGroup, IsBadPayload, log_bytes, log_place}
+use Rattle.hb_store.specs.Opening.{HasBadGroup, IsBadPayload}
 use Rattle.hbpi.specs.Restart.{HasLog}
 
 may_back : (t : Replayed) (xs ys : List Logged) → MayReplay t (xs ++ ys) → MayReplay (replay t xs) ys
@@ -49,14 +48,6 @@ no_bad_frame_here p xs rest fit e bad =
       | inl none ↦ absurd (omega (arith, none, heads.0, fit.some))
       | inr few ↦ absurd (omega (arith, few, heads.0, ap (λ (l : List ℕ). length l) heads.1, length-append p xs))
     ]
-
-short_front : (b : List ℕ) (bs : List (List ℕ)) (rest : List ℕ) → length (frames (b ∷ bs) ++ rest) < 2 ^ 32 → (length b < 2 ^ 32) × (length (frames bs ++ rest) < 2 ^ 32)
-short_front b bs rest small =
-    let whole = length-append (frames (b ∷ bs)) rest in
-    let parts = length-append (frame_bytes b) (frames bs) in
-    let one = length-append (big_endian 4 (length b)) b in
-    let tail = length-append (frames bs) rest in
-    (omega (arith, small, whole, parts, one), omega (arith, small, whole, parts, tail))
 
 -- ---- where reading stops
 
@@ -115,28 +106,26 @@ module _ (once : SpelledOnce) (k : ℕ) where
       omega (arith, rest)
 
   -- frames that are read to an end and replayed, against frames before a bad one
-  not_both : (t : Replayed) (ps qs : List (List ℕ)) (r s : List ℕ) (gs hs : List Logged) → frames ps ++ r ≡ frames qs ++ s → length (frames qs ++ s) < 2 ^ 32 → All IsPayload ps → IsEnd r → SpellAll k ps gs → SpellAll k qs hs → MayReplay t gs
+  not_both : (t : Replayed) (ps qs : List (List ℕ)) (r s : List ℕ) (gs hs : List Logged) → frames ps ++ r ≡ frames qs ++ s → All IsPayload ps → All IsPayload qs → IsEnd r → SpellAll k ps gs → SpellAll k qs hs → MayReplay t gs
       → IsBadAt k (replay t hs) s → ⊥
-  not_both t [] [] r s gs hs e small fit end p_spelled q_spelled may bad = no_bad_at_end k (replay t hs) s (subst IsEnd e end) bad
-  not_both t [] (q ∷ qs) r s gs hs e small fit end p_spelled q_spelled may bad =
+  not_both t [] [] r s gs hs e p_fit q_fit end p_spelled q_spelled may bad = no_bad_at_end k (replay t hs) s (subst IsEnd e end) bad
+  not_both t [] (q ∷ qs) r s gs hs e p_fit q_fit end p_spelled q_spelled may bad =
       no_head_at_end (length q) (q ++ (frames qs ++ s)) r end (e ∙ append_assoc (frame_bytes q) (frames qs) s ∙ head_of q (frames qs ++ s))
-  not_both t (p ∷ ps) [] r s gs hs e small fit end p_spelled q_spelled may bad = no_bad_first k t p ps r s hs gs q_spelled fit p_spelled may (sym e) bad
-  not_both t (p ∷ ps) (q ∷ qs) r s gs hs e small fit end p_spelled q_spelled may bad =
-      let short = short_front q qs s small in
-      let first = same_first p q ps qs r s (All-head IsPayload p ps fit).short short.0 e in
+  not_both t (p ∷ ps) [] r s gs hs e p_fit q_fit end p_spelled q_spelled may bad = no_bad_first k t p ps r s hs gs q_spelled p_fit p_spelled may (sym e) bad
+  not_both t (p ∷ ps) (q ∷ qs) r s gs hs e p_fit q_fit end p_spelled q_spelled may bad =
+      let first = same_first p q ps qs r s (All-head IsPayload p ps p_fit).short (All-head IsPayload q qs q_fit).short e in
       let same = same_front p q p_spelled.0 q_spelled.0 first.0 p_spelled.3 q_spelled.3 in
-      not_both (replay t q_spelled.0) ps qs r s p_spelled.1 q_spelled.1 first.1 short.1 (All-tail IsPayload p ps fit) end p_spelled.4 q_spelled.4
+      not_both (replay t q_spelled.0) ps qs r s p_spelled.1 q_spelled.1 first.1 (All-tail IsPayload p ps p_fit) (All-tail IsPayload q qs q_fit) end p_spelled.4 q_spelled.4
       (may_rest t p_spelled.0 q_spelled.0 p_spelled.1 gs same p_spelled.2 may) (bad_rest t q_spelled.0 q_spelled.0 q_spelled.1 hs s refl q_spelled.2 bad)
 
--- Two bad groups are one, where no frame before either is empty.
-pub one_bad_group : SpelledOnce → (bytes : List ℕ) (turn : ℕ) (said : Meta) (f g : ℕ) → (here : HasBadGroup bytes turn said f) → (there : HasBadGroup bytes turn said g) → All IsPayload here.before → All IsPayload there.before → f ≡ g
-one_bad_group once bytes turn said f g here there here_fit there_fit =
+-- no two numbers are that of the first bad group
+pub one_bad_group : SpelledOnce → (bytes : List ℕ) (turn : ℕ) (said : Meta) (f g : ℕ) → HasBadGroup bytes turn said f → HasBadGroup bytes turn said g → f ≡ g
+one_bad_group once bytes turn said f g here there =
     here.counted
-    ∙ same_count once said.k (untouched said) here.before there.before here.rest there.rest here.groups there.groups (sym here.framed ∙ there.framed) here_fit there_fit here.spelled there.spelled here.replayed there.replayed here.bad there.bad
-    ∙ sym there.counted
+    ∙ same_count once said.k (untouched said) here.before there.before here.rest there.rest here.groups there.groups (sym here.framed ∙ there.framed) here.payloads_fit there.payloads_fit here.spelled there.spelled here.replayed there.replayed here.bad
+    there.bad ∙ sym there.counted
 
-pub bad_or_whole : SpelledOnce → (bytes : List ℕ) (turn : ℕ) (said : Meta) (f : ℕ) (groups : List Logged) → said.log < 2 ^ 32 → HasBadGroup bytes turn said f → HasLog bytes turn said groups → ⊥
-bad_or_whole once bytes turn said f groups small bad log =
-    let short : length (log_bytes turn said bytes) < 2 ^ 32 = omega (arith, length-take said.log (drop (log_place turn said) bytes), small) in
-    not_both once said.k (untouched said) log.payloads bad.before log.framed.rest bad.rest groups bad.groups (sym log.framed.bytes ∙ bad.framed) (subst (λ (l : List ℕ). length l < 2 ^ 32) bad.framed short) log.framed.payloads_fit log.framed.at_end
-    log.spelled bad.spelled log.replayed bad.bad
+-- a log that is read to an end and replayed has no bad group
+pub bad_or_whole : SpelledOnce → (bytes : List ℕ) (turn : ℕ) (said : Meta) (f : ℕ) (groups : List Logged) → HasBadGroup bytes turn said f → HasLog bytes turn said groups → ⊥
+bad_or_whole once bytes turn said f groups bad log =
+    not_both once said.k (untouched said) log.payloads bad.before log.framed.rest bad.rest groups bad.groups (sym log.framed.bytes ∙ bad.framed) log.framed.payloads_fit bad.payloads_fit log.framed.at_end log.spelled bad.spelled log.replayed bad.bad
