@@ -3,7 +3,7 @@ use Rattle.std.proofs.Common.{◌≡◌, inl, inr, ℕ, ◌+◌, ◌<◌, ◌≤
 use Rattle.std.specs.Prelude.{IfErr, IfSome}
 use Rattle.std.proofs.lemmas.List.{drop_more, get_or-map, length-map, length-take, take-append-drop, take_more}
 use Rattle.std.proofs.lemmas.Grind.{flat_map-append}
-use Rattle.std.proofs.lemmas.List.Elements.{All-head, All-tail}
+use Rattle.std.proofs.lemmas.List.Elements.{All-cons, All-head, All-nil, All-tail}
 use Rattle.hb_ops.specs.declared.meta.Meta.{Meta}
 use Rattle.hb_wal.specs.Frames.{frames, frame_bytes, IsPayload, HasFrames, HasBadFrame}
 use Rattle.hb_store.specs.Replay.{Replayed, untouched}
@@ -63,10 +63,15 @@ in_middle : (P : List ℕ → Type 0) (before : List (List ℕ)) (p : List ℕ) 
 in_middle P [] p behind h = All-head P p behind h
 in_middle P (x ∷ xs) p behind h = in_middle P xs p behind (All-tail P x (xs ++ p ∷ behind) h)
 
+in_front : (P : List ℕ → Type 0) (before behind : List (List ℕ)) → All P (before ++ behind) → All P before
+in_front P [] behind h = All-nil P
+in_front P (x ∷ xs) behind h = All-cons P x xs (All-head P x (xs ++ behind) h) (in_front P xs behind (All-tail P x (xs ++ behind) h))
+
 bad_payload : (bytes : List ℕ) (turn : ℕ) (said : Meta) (payloads : List (List ℕ)) (rest : List ℕ) (frame : ℕ) → All IsPayload payloads → log_bytes turn said bytes ≡ frames payloads ++ rest → IsFirstBad said payloads frame → HasBadGroup bytes turn said frame
 bad_payload bytes turn said payloads rest frame fit parts first =
     let p = first.payload in
     let behind = frames first.behind ++ rest in
+    let all_fit : All IsPayload (first.before ++ p ∷ first.behind) = subst (λ l. All IsPayload l) first.parts fit in
     let split : frames payloads ++ rest ≡ frames first.before ++ (frame_bytes p ++ behind) =
     ap (λ l. frames l ++ rest) first.parts ∙ ap (λ (l : List ℕ). l ++ rest) (flat_map-append frame_bytes first.before (p ∷ first.behind))
     ∙ append_assoc (frames first.before) (frames (p ∷ first.behind)) rest ∙ ap (λ (l : List ℕ). frames first.before ++ l) (append_assoc (frame_bytes p) (frames first.behind) rest) in
@@ -75,12 +80,13 @@ bad_payload bytes turn said payloads rest frame fit parts first =
       groups = first.replayed.groups;
       rest = frame_bytes p ++ behind;
       counted = first.counted;
+      payloads_fit = in_front IsPayload first.before (p ∷ first.behind) all_fit;
       framed = parts ∙ split;
       spelled = first.replayed.spelled;
       replayed = first.replayed.may;
       bad = inr (
         p,
-        record { fits = in_middle IsPayload first.before p first.behind (subst (λ l. All IsPayload l) first.parts fit); behind = behind; bytes = refl },
+        record { fits = in_middle IsPayload first.before p first.behind all_fit; behind = behind; bytes = refl },
         subst (λ r. IsBadPayload said.k r p) first.replayed.leads first.bad,
       );
     }
@@ -103,6 +109,7 @@ at_bad_frame bytes turn said before (logs.BadGroup frame) framed (inr names) = r
   groups = names.2.groups;
   rest = framed.rest;
   counted = names.0;
+  payloads_fit = framed.payloads_fit;
   framed = framed.bytes;
   spelled = names.2.spelled;
   replayed = names.2.may;

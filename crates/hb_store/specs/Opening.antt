@@ -1,8 +1,8 @@
 -- What a list of bytes opens to: the newest superblock, the replay of its log, and the pages in their places.
-use Rattle.std.specs.Prelude.{◌≡◌, ◌⊎◌, ℕ, ◌+◌, ◌-◌, ◌*◌, ◌%◌, ◌≤◌, List, ◌++◌, length, Option, Some, None, IsSome}
+use Rattle.std.specs.Prelude.{◌≡◌, ◌⊎◌, ℕ, ◌+◌, ◌-◌, ◌*◌, ◌%◌, ◌≤◌, List, ◌++◌, length, All, Option, Some, None, IsSome}
 use Rattle.hb_space.specs.declared.form.TheConstants.{PAGE}
 use Rattle.hb_disk.specs.Model.{DiskModel}
-use Rattle.hb_wal.specs.Frames.{frames, range, HasFrames, IsBadFrame}
+use Rattle.hb_wal.specs.Frames.{frames, range, HasFrames, IsBadFrame, IsPayload}
 use Rattle.hb_wal.specs.Reading.{BeginsFrame}
 use Rattle.hb_super.specs.Superblocks.{IsNewest}
 use Rattle.hb_frag.specs.declared.pages.Page.{Page}
@@ -67,6 +67,7 @@ pub record HasBadGroup (bytes : List ℕ) (turn : ℕ) (said : Meta) (frame : �
   pub groups : List Logged
   pub rest : List ℕ
   pub counted : frame ≡ length before
+  pub payloads_fit : All IsPayload before
   pub framed : log_bytes turn said bytes ≡ frames before ++ rest
   pub spelled : SpellAll said.k before groups
   pub replayed : MayReplay (untouched said) groups
