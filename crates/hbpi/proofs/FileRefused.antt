@@ -1,5 +1,5 @@
 -- A file that doesn't open is refused, in one way.
-use Rattle.std.proofs.Common.{◌≡◌, ◌⊎◌, inl, inr, ℕ, List, Option, Some, None, refl, sym, ap, subst, ◌∙◌}
+use Rattle.std.proofs.Common.{◌≡◌, ◌⊎◌, inl, inr, ℕ, List, Some, refl, sym, ap, subst, ◌∙◌}
 use Rattle.hb_disk.specs.Model.{DiskModel}
 use Rattle.hb_disk.specs.RunLaws.{at_value}
 use Rattle.hb_ops.specs.Files.{FileState}
@@ -7,7 +7,7 @@ use Rattle.hb_ops.specs.Sound.{IsSound}
 use Rattle.hb_store.specs.Opening.{OpensTo}
 use Rattle.hbpi.specs.Codes.{status_of}
 use Rattle.hbpi.specs.Core.{CoreState}
-use Rattle.hbpi.specs.Driven.{Drove, HasFailed, IsShutOut, IsTurnedAway, OpenedEnds, DriveCommandEnds}
+use Rattle.hbpi.specs.Driven.{Drove, IsTurnedAway, OpenedEnds, DriveCommandEnds}
 use Rattle.hbpi.specs.Ends.{Seen}
 use Rattle.hbpi.specs.Restart.{GoodIsNotRefused, IsNoRefusal, IsOnePage, IsRefusedOnce, IsUnwritten, Refuses}
 use Rattle.hbpi.specs.Runs.{RefusesFile}
@@ -74,7 +74,8 @@ refuses_file d e seen status good once ends bytes told calm = elim ends [
       let why = at_value d.told _ bytes told shut.2.why in
       let held : shut.0 ≡ faults.DiskFault → ⊥ = λ is. calm (shut.2.failed is) in
       (λ none. of_bytes shut.0 bytes status shut.1 why held, λ fault that unwritten. is_same shut.0 fault bytes status once shut.1 why held that unwritten)
-  | inr opened ↦
-      (λ none. absurd (not_opened bytes d e seen told (λ s opens sound one_page. none s opens sound) status opened),
-       λ fault that unwritten. absurd (not_opened bytes d e seen told (λ s opens sound one_page. never fault (good fault bytes s opens sound one_page that) unwritten) status opened))
+  | inr opened ↦ (
+    λ none. absurd (not_opened bytes d e seen told (λ s opens sound one_page. none s opens sound) status opened),
+    λ fault that unwritten. absurd (not_opened bytes d e seen told (λ s opens sound one_page. never fault (good fault bytes s opens sound one_page that) unwritten) status opened),
+  )
 ]

@@ -8,15 +8,13 @@ use Rattle.hb_ops.specs.declared.meta.Meta.{Meta}
 use Rattle.hb_ops.specs.declared.operations.Op.{Op}
 use Rattle.hb_ops.specs.declared.operations.Op.TheVariants.{Put, Del}
 use Rattle.hb_ops.specs.Files.{FileState, page_at}
-use Rattle.hb_ops.specs.LocalRule.{BreaksFirst}
 use Rattle.hb_ops.specs.Operations.{change_of}
-use Rattle.hb_ops.specs.Sound.{IsSound, FitsFile}
+use Rattle.hb_ops.specs.Sound.{IsSound}
 use Rattle.hb_store.specs.Groups.{Logged, SpellAll}
 use Rattle.hb_store.specs.GroupLaws.{SpelledOnce, same_spelled}
 use Rattle.hb_store.specs.ImageLaws.{OpensToOne, OpensWhole}
 use Rattle.hb_store.specs.Opening.{OpensBy, OpensTo, IsPageIn, Shows, file_size, log_bytes}
 use Rattle.hb_store.specs.Replay.{Replayed, untouched, replay, after_group}
-use Rattle.hbpi.specs.Audit.{Names, BreaksLocally}
 use Rattle.hbpi.specs.Restart.{IsOnePage, IsUnsound, GoodIsNotRefused, HasLayout, HasLog}
 use Rattle.hbpi.proofs.Lone.{sound_breaks_none}
 use Rattle.hbpi.specs.declared.restart.faults.OpenFault.TheVariants as faults

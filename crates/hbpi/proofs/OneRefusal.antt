@@ -1,11 +1,10 @@
 -- Bytes are refused in one way.
-use Rattle.std.proofs.Common.{◌≡◌, ◌⊎◌, inl, inr, ℕ, ◌+◌, ◌<◌, ◌≤◌, List, [], ◌∷◌, length, Option, Some, None, refl, sym, ap, subst, ◌∙◌, arith}
+use Rattle.std.proofs.Common.{◌≡◌, inl, inr, ℕ, ◌≤◌, List, [], ◌∷◌, length, Option, Some, None, refl, sym, ap, subst, ◌∙◌, arith}
 use Rattle.hb_wal.specs.FrameLaws.{ReadsOneWay}
 use Rattle.hb_super.specs.Superblocks.{IsNewest, HasNone}
 use Rattle.hb_frag.specs.declared.pages.LivePage.{LivePage}
 use Rattle.hb_frag.specs.declared.pages.Page.{Page}
 use Rattle.hb_frag.specs.declared.pages.Page.TheVariants.{Live}
-use Rattle.hb_frag.specs.Grammar.{SpellsPage}
 use Rattle.hb_ops.specs.declared.meta.Meta.{Meta}
 use Rattle.hb_ops.specs.Files.{FileState, page_of, page_at, live_page}
 use Rattle.hb_ops.specs.LocalRule.{BreaksFirst}
@@ -15,11 +14,11 @@ use Rattle.hb_store.specs.ImageLaws.{OpensToOne}
 use Rattle.hb_store.specs.Opening.{HasBadGroup, OpensTo, IsPageIn, Shows, file_size, log_bytes}
 use Rattle.hb_store.specs.Replay.{untouched, replay}
 use Rattle.hbpi.specs.Audit.{Names, BreaksLocally, KeepsLocally}
-use Rattle.hbpi.specs.Restart.{Refuses, IsUnwritten, IsOnePage, IsSmall, IsUnsound, HasLayout, HasLog, IsRefusedOnce}
+use Rattle.hbpi.specs.Restart.{Refuses, IsUnwritten, IsOnePage, IsSmall, IsUnsound, HasLayout, HasLog}
 use Rattle.hbpi.specs.declared.restart.faults.OpenFault.{OpenFault}
 use Rattle.hbpi.specs.declared.restart.faults.OpenFault.TheVariants as faults
 use Rattle.hbpi.proofs.BadFrames.{one_bad_group, bad_or_whole}
-use Rattle.hbpi.proofs.Lone.{page_alone, live_so, live_is, not_broken}
+use Rattle.hbpi.proofs.Lone.{page_alone, live_so, not_broken}
 use Rattle.hbpi.proofs.NotRefused.{replay_meta, least_size, first_page}
 
 -- a page breaks one rule first
@@ -140,7 +139,6 @@ same_unsound a b c d e f = cc (e, f)
 
 module _ (once : SpelledOnce) (turns : (bytes : List ℕ) (t s : ℕ) (m n : Meta) → IsNewest bytes t m → IsNewest bytes s n → t ≡ s) (saids : (bytes : List ℕ) (t s : ℕ) (m n : Meta) → IsNewest bytes t m → IsNewest bytes s n → m ≡ n)
     (one_way : ReadsOneWay) (one : OpensToOne) (b : List ℕ) where
-
   small_none : (needed found : ℕ) → IsSmall b needed found → (8192 ≤ length b) × HasNone b → ⊥
   small_none needed found (is, less, (inl least)) none = absurd (omega (arith, is, less, least, none.0))
   small_none needed found (is, less, (inr layout)) none = none.1 layout.1 layout.2 layout.3.there
@@ -173,9 +171,20 @@ module _ (once : SpelledOnce) (turns : (bytes : List ℕ) (t s : ℕ) (m n : Met
       same_spelled once said.k y.payloads xs ys (subst (λ (l : List (List ℕ)). SpellAll said.k l xs) payloads x.spelled) y.spelled
 
   opens_so : (turn : ℕ) (said : Meta) (groups : List Logged) (s : FileState) → HasLayout b turn said → HasLog b turn said groups → Shows b said (replay (untouched said) groups) s → OpensTo b s
-  opens_so turn said groups s layout log shows = record { turn = turn; said = said; payloads = log.payloads; groups = groups; by = record {
-    newest = layout.newest; fits = layout.fits; framed = log.framed; spelled = log.spelled; replayed = log.replayed; shows = shows;
-  } }
+  opens_so turn said groups s layout log shows = record {
+    turn = turn;
+    said = said;
+    payloads = log.payloads;
+    groups = groups;
+    by = record {
+      newest = layout.newest;
+      fits = layout.fits;
+      framed = log.framed;
+      spelled = log.spelled;
+      replayed = log.replayed;
+      shows = shows;
+    };
+  }
 
   shows_high : (said : Meta) (groups : List Logged) (s : FileState) → Shows b said (replay (untouched said) groups) s → length s.pages ≡ said.high
   shows_high said groups s shows = shows.count ∙ ap (λ (m : Meta). m.high) (replay_meta (untouched said) groups)
@@ -205,10 +214,10 @@ module _ (once : SpelledOnce) (turns : (bytes : List ℕ) (t s : ℕ) (m n : Met
       unsound_same s n ys p q r u y few log_y here bad_y
 
   bad_same : (t s : ℕ) (m n : Meta) (f g : ℕ) → HasLayout b t m → HasLayout b s n → HasBadGroup b t m f → HasBadGroup b s n g → f ≡ g
-  bad_same t s m n f g x y bad_f bad_g = one_bad_group once one_way b s n f g (moved (λ k said. HasBadGroup b k said f) t s m n x y bad_f) bad_g
+  bad_same t s m n f g x y bad_f bad_g = one_bad_group once b s n f g (moved (λ k said. HasBadGroup b k said f) t s m n x y bad_f) bad_g
 
   bad_not : (t s : ℕ) (m n : Meta) (f : ℕ) (groups : List Logged) → HasLayout b t m → HasLayout b s n → HasBadGroup b t m f → HasLog b s n groups → ⊥
-  bad_not t s m n f groups x y bad log = bad_or_whole once one_way b s n f groups (moved (λ k said. HasBadGroup b k said f) t s m n x y bad) log
+  bad_not t s m n f groups x y bad log = bad_or_whole once b s n f groups (moved (λ k said. HasBadGroup b k said f) t s m n x y bad) log
 
   pub refused_once : (f g : OpenFault) → Refuses f b → Refuses g b → IsUnwritten f → IsUnwritten g → f ≡ g
   refused_once (faults.BadLayout field value) g x y u v = absurd x
