@@ -86,6 +86,7 @@ impl Sink for MemSink {
         ensures failed { OnErr result
             (AppendsFront (Some self.old.written) (Some self.new.written) piece.now) }
         ensures cause { OnErr result (Rose self.old.faults self.new.faults) }
+        ensures no_fault { OnOk result (self.new.faults ≡ self.old.faults) }
         ensures later { self.old.faults ≤ self.new.faults }
 
         // It fails at the calls that were chosen, and else only for want of memory.
@@ -99,7 +100,6 @@ impl Sink for MemSink {
         ensures calls { self.new.calls ≡ self.old.calls }
         ensures call { self.new.call ≡ next_count self.old.call }
         ensures fault { OnErr result (self.new.faults ≡ next_count self.old.faults) }
-        ensures no_fault { OnOk result (self.new.faults ≡ self.old.faults) }
     {
         let fails = is_listed(&self.calls, self.call);
         self.call = self.call.saturating_add(1);

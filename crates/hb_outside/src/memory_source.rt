@@ -79,6 +79,7 @@ impl Source for MemSource {
             (λ n. Takes (Some self.old.left) (Some self.new.left) into.new n) }
         ensures failed { OnErr result (self.new.left ≡ self.old.left) }
         ensures cause { OnErr result (Rose self.old.faults self.new.faults) }
+        ensures no_fault { OnOk result (self.new.faults ≡ self.old.faults) }
         ensures later { self.old.faults ≤ self.new.faults }
 
         // It fails at the calls that were chosen, and at no other.
@@ -87,7 +88,6 @@ impl Source for MemSource {
         ensures calls { self.new.calls ≡ self.old.calls }
         ensures call { self.new.call ≡ next_count self.old.call }
         ensures fault { OnErr result (self.new.faults ≡ next_count self.old.faults) }
-        ensures no_fault { OnOk result (self.new.faults ≡ self.old.faults) }
     {
         let fails = is_listed(&self.calls, self.call);
         self.call = self.call.saturating_add(1);

@@ -74,6 +74,7 @@ impl<R: Read> Source for ReadSource<R> {
         ensures failed { OnErr result (told_bytes self.new.tells (R.remaining self.new.inner)
             ≡ told_bytes self.old.tells (R.remaining self.old.inner)) }
         ensures cause { OnErr result (Rose self.old.faults self.new.faults) }
+        ensures no_fault { OnOk result (self.new.faults ≡ self.old.faults) }
         ensures later { self.old.faults ≤ self.new.faults }
 
         // The bytes are the reader's, whether this source tells or not.
@@ -82,7 +83,6 @@ impl<R: Read> Source for ReadSource<R> {
 
         // Each failed call is counted, and no other.
         ensures fault { OnErr result (self.new.faults ≡ next_count self.old.faults) }
-        ensures no_fault { OnOk result (self.new.faults ≡ self.old.faults) }
     {
         let outcome = read_once(&mut self.inner, into);
         if outcome.is_err() {

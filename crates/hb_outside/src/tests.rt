@@ -30,14 +30,25 @@ impl Read for FaultyReader {
     }
 }
 
-/// Writes to memory at most so many bytes at once, with an error at the write of one number.
+/// What goes wrong at one write.
+#[derive(Clone, Copy, Drop)]
+enum Trouble {
+    /// It is an error of this kind.
+    Error(ErrorKind),
+    /// Nothing is taken of the piece.
+    Nothing,
+}
+
+/// Writes to memory at most so many bytes at once, with trouble at the write of one number alone, and an error at the
+/// first flushes.
 #[derive(Drop)]
 struct FaultyWriter {
     bytes: Vec<u8>,
     most: usize,
     call: u64,
     at: u64,
-    kind: ErrorKind,
+    trouble: Trouble,
+    failing_flushes: u64,
 }
 
 impl Write for FaultyWriter {
@@ -45,15 +56,19 @@ impl Write for FaultyWriter {
         let call = self.call;
         self.call = self.call.saturating_add(1);
         if call == self.at {
-            return Err(Error::from(self.kind));
+            return match self.trouble {
+                Trouble::Error(kind) => Err(Error::from(kind)),
+                Trouble::Nothing => Ok(0),
+            };
         }
         let count = piece.len().min(self.most);
         self.bytes.write(&piece[..count])
     }
 
     fn flush(&mut self) -> io::Result<()> {
-        if self.most == 0 {
-            return Err(Error::from(self.kind));
+        if self.failing_flushes > 0 {
+            self.failing_flushes -= 1;
+            return Err(Error::from(ErrorKind::StorageFull));
         }
         Ok(())
     }
@@ -124,9 +139,10 @@ fn memory_sink(rt: HostRuntime) -> Result<(), Fail> {
 
 #[test]
 fn readers(rt: HostRuntime) -> Result<(), Fail> {
-    let rows: [(u64, ErrorKind, &[u8]); 5] = [
+    let rows: [(u64, ErrorKind, &[u8]); 6] = [
         (9, ErrorKind::PermissionDenied, b"ab|c|||"),
         (0, ErrorKind::PermissionDenied, b"!|ab|c||"),
+        (0, ErrorKind::WouldBlock, b"!|ab|c||"),
         (2, ErrorKind::PermissionDenied, b"ab|c|!||"),
         (0, ErrorKind::Interrupted, b"ab|c|||"),
         (1, ErrorKind::Interrupted, b"ab|c|||"),
@@ -154,26 +170,33 @@ fn readers(rt: HostRuntime) -> Result<(), Fail> {
 
 #[test]
 fn writers(rt: HostRuntime) -> Result<(), Fail> {
-    let rows: [(usize, u64, ErrorKind, &[u8], &[u8], bool); 7] = [
-        (9, 9, ErrorKind::PermissionDenied, b"||||", b"abcdef", true),
-        (1, 9, ErrorKind::PermissionDenied, b"||||", b"abcdef", true),
-        (9, 0, ErrorKind::PermissionDenied, b"!|||", b"cdef", true),
-        (1, 1, ErrorKind::PermissionDenied, b"!|||", b"acdef", true),
-        (2, 2, ErrorKind::PermissionDenied, b"||!|", b"abcdf", true),
-        (1, 1, ErrorKind::Interrupted, b"||||", b"abcdef", true),
-        (0, 9, ErrorKind::PermissionDenied, b"!|!!", b"", false),
+    let denied = Trouble::Error(ErrorKind::PermissionDenied);
+    let blocked = Trouble::Error(ErrorKind::WouldBlock);
+    let interrupted = Trouble::Error(ErrorKind::Interrupted);
+    let rows: [(usize, u64, Trouble, &[u8], &[u8]); 9] = [
+        (9, 9, denied, b"||||", b"abcdef"),
+        (1, 9, denied, b"||||", b"abcdef"),
+        (9, 0, denied, b"!|||", b"cdef"),
+        (9, 0, blocked, b"!|||", b"cdef"),
+        (9, 0, Trouble::Nothing, b"!|||", b"cdef"),
+        (1, 1, denied, b"!|||", b"acdef"),
+        (2, 2, denied, b"||!|", b"abcdf"),
+        (1, 1, interrupted, b"||||", b"abcdef"),
+        (0, 9, denied, b"!|!!", b""),
     ];
-    for (most, at, kind, log, bytes, flushes) in rows {
+    for (most, at, trouble, log, bytes) in rows {
         let writer = FaultyWriter {
             bytes: Vec::new(rt.alloc()),
             most,
             call: 0,
             at,
-            kind,
+            trouble,
+            failing_flushes: 2,
         };
         let mut sink = WriteSink::new(writer);
         assert_eq!(rt; puts(rt.alloc(), &mut sink)?.as_slice(), log);
-        assert_eq!(rt; sink.flush().is_ok(), flushes);
+        let flushes = [sink.flush(), sink.flush(), sink.flush()];
+        assert_eq!(rt; flushes, [Err(Failed), Err(Failed), Ok(())]);
         assert_eq!(rt; sink.into_inner().bytes.as_slice(), bytes);
     }
     let mut sink = WriteSink::telling(Vec::new(rt.alloc()));

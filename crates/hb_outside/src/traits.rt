@@ -6,6 +6,8 @@ ghost use Rattle.hb_outside.specs.Streams.{Rose, Takes, Appends, AppendsFront};
 pub struct Failed;
 
 /// Where bytes come from.
+///
+/// The count of faults rises exactly in the calls that fail.
 pub trait Source {
     /// What is left to read, where the source tells.
     ghost left: { Self → Option (List ℕ) };
@@ -21,10 +23,13 @@ pub trait Source {
         ensures moved { IfOk result (λ n. Takes (left self.old) (left self.new) into.new n) }
         ensures failed { OnErr result (left self.new ≡ left self.old) }
         ensures cause { OnErr result (Rose (faults self.old) (faults self.new)) }
+        ensures no_fault { OnOk result (faults self.new ≡ faults self.old) }
         ensures later { faults self.old ≤ faults self.new };
 }
 
 /// Where bytes go.
+///
+/// The count of faults rises exactly in the calls that fail.
 pub trait Sink {
     /// What was written, where the sink tells.
     ghost written: { Self → Option (List ℕ) };
@@ -37,5 +42,6 @@ pub trait Sink {
         ensures ok { OnOk result (Appends (written self.old) (written self.new) piece.now) }
         ensures failed { OnErr result (AppendsFront (written self.old) (written self.new) piece.now) }
         ensures cause { OnErr result (Rose (faults self.old) (faults self.new)) }
+        ensures no_fault { OnOk result (faults self.new ≡ faults self.old) }
         ensures later { faults self.old ≤ faults self.new };
 }

@@ -88,6 +88,7 @@ impl<W: Write> Sink for WriteSink<W> {
             (told_bytes self.old.tells (W.contents self.old.inner))
             (told_bytes self.new.tells (W.contents self.new.inner)) piece.now) }
         ensures cause { OnErr result (Rose self.old.faults self.new.faults) }
+        ensures no_fault { OnOk result (self.new.faults ≡ self.old.faults) }
         ensures later { self.old.faults ≤ self.new.faults }
 
         // The bytes go to the writer, whether this sink tells or not.
@@ -98,7 +99,6 @@ impl<W: Write> Sink for WriteSink<W> {
 
         // Each failed call is counted, and no other.
         ensures fault { OnErr result (self.new.faults ≡ next_count self.old.faults) }
-        ensures no_fault { OnOk result (self.new.faults ≡ self.old.faults) }
     {
         let outcome = write_piece(&mut self.inner, piece);
         if outcome.is_err() {
