@@ -6,11 +6,13 @@ use Rattle.std.proofs.lemmas.List.Elements.{All-take, All-drop}
 use Rattle.hb_outside.specs.Memory.{next_count}
 use Rattle.hb_disk.specs.Model.{overwritten, last_value, Torn, Elapses}
 use Rattle.hb_disk.specs.Calls.{Ticks, Writes, Syncs}
-use Rattle.hb_disk.specs.TornLaws.{IsOutside, cases_range, Torn-from, Torn-itself, length-overwritten, overwritten-inside, overwritten-outside, All-overwritten}
-use Rattle.hb_disk.specs.Events.{IsOpen, IsImage, IsImageSince, undone, range_of, disk_of, Notes, IsOver}
+use Rattle.hb_disk.specs.TornLaws.{IsOutside, cases_range, Torn-from, Torn-same, Torn-itself, length-overwritten, overwritten-inside, overwritten-outside, All-overwritten}
+use Rattle.hb_disk.specs.Events.{IsOpen, IsImage, IsImageSince, undone, range_of, disk_of, Notes, IsOver, LeavesTry}
 use Rattle.hb_disk.specs.declared.event.Change.{Change}
 use Rattle.hb_disk.specs.declared.event.Change.TheVariants.{Tried, Synced}
 use Rattle.hb_disk.specs.declared.event.Event.{Event}
+use Rattle.hb_disk.specs.declared.event.Refused.{Refused}
+use Rattle.hb_disk.specs.declared.event.Refused.TheVariants.{Listed, Over, NoMemory}
 
 pub Notes-weaker : (P Q : Change → Type 0) (clock call : ℕ) (old new : List Event) → ((d : Change) → P d → Q d) → Notes P clock call old new → Notes Q clock call old new
 Notes-weaker P Q clock call old new weaker noted = record {
@@ -89,6 +91,22 @@ module _ (bytes now : List ℕ) (es : List Event) (e : Event) (at n : ℕ) (rang
         Torn-from at n x c (sym x_long) image.fit (λ i h outside. sym (overwritten-outside c at stood fits_c i (subst (λ k. IsOutside at k i) (sym stood_long) outside))),
       )
 
+  -- and an image of before it, torn in the range, is one of after it
+  pub torn_image : (b c : List ℕ) → IsImage bytes es b → Torn at n b c → IsImage now (e ∷ es) c
+  torn_image b c image torn = record {
+    long = torn.as_long ∙ image.long ∙ sym long;
+    fit = torn.bytes;
+    kept = λ i shut. elim (cases_range at n i) [
+      | inl within ↦ absurd (shut (opens i (inl within)))
+      | inr outside ↦ Torn-same at n b c torn i outside ∙ image.kept i (λ is_open. shut (opens i (inr is_open))) ∙ sym (same i outside)
+    ];
+  }
+    where
+      opens : (i : ℕ) → ((at ≤ i) × (i < at + n)) ⊎ IsOpen es i → IsOpen (e ∷ es) i
+      opens i here =
+          let Q : Option (ℕ × ℕ) → Type 0 = λ o. MatchOption o ⊥ (λ range. ((range.0 ≤ i) × (i < range.0 + range.1)) ⊎ IsOpen es i) in
+          subst Q (sym ranges) here
+
 -- a disk after one event more
 module _ (bytes now : List ℕ) (es es_now : List Event) (e : Event) (first : es_now ≡ e ∷ es) (undoes : undone e.change now ≡ bytes)
     (clock next f g h k : ℕ) (at_clock : e.clock ≡ clock) where
@@ -138,10 +156,12 @@ module _ (bytes : List ℕ) (es : List Event) (clock : ℕ) (fit : All (λ x. x 
     tried = (bytes, refl, Torn-itself at (length piece) bytes fit);
     silent = λ none. cc;
     crash = λ c image. (c, image, Torn-itself at (length piece) c image.fit);
+    opened = tt;
+    opened_or_not = inr (record { told = refl; image = λ c image. image; image_kept = λ c image. image });
   }
 
   pub syncs_missed : {T E : Type 0} (err : E) (next : ℕ) → Syncs {T = T} (Err err) (disk_of bytes es clock f g) (disk_of bytes es next h k)
-  syncs_missed err next = record { same = refl; durable = tt; crash = λ c image. image }
+  syncs_missed err next = record { same = refl; durable = tt; crash = λ c image. image; left_open = λ c image. image }
 
   -- one that left an event on record
   pub ticks_noted : {T E : Type 0} (r : Result T E) (now : List ℕ) (es_now : List Event) (e : Event) → es_now ≡ e ∷ es → undone e.change now ≡ bytes → e.clock ≡ clock → clock < last_value
@@ -166,6 +186,12 @@ module _ (bytes : List ℕ) (es : List Event) (clock : ℕ) (fit : All (λ x. x 
         let ranges : range_of e.change ≡ Some (at, length piece) = ap range_of over.1 ∙ ap (λ (n : ℕ). Some (at, n)) long in
         image_torn bytes (overwritten bytes at piece) es e at (length piece) ranges fits fit (length-overwritten bytes at piece fits) (overwritten-outside bytes at piece fits)
         c (subst (λ (l : List Event). IsImage (overwritten bytes at piece) l c) first image);
+    opened = λ b c image torn.
+        let long : length over.0.items ≡ length piece = ap length over.2 ∙ range_long bytes at (length piece) fits in
+        let ranges : range_of e.change ≡ Some (at, length piece) = ap range_of over.1 ∙ ap (λ (n : ℕ). Some (at, n)) long in
+        subst (λ (l : List Event). IsImage (overwritten bytes at piece) l c) (sym first)
+        (torn_image bytes (overwritten bytes at piece) es e at (length piece) ranges fits fit (length-overwritten bytes at piece fits) (overwritten-outside bytes at piece fits) b c image torn);
+    opened_or_not = tt;
   }
 
   -- a write that was tried
@@ -177,6 +203,9 @@ module _ (bytes : List ℕ) (es : List Event) (clock : ℕ) (fit : All (λ x. x 
     silent = λ none. cc;
     crash = λ c image.
         image_torn bytes bytes es e at (length piece) (ap range_of is) fits fit refl (λ i outside. refl) c (subst (λ (l : List Event). IsImage bytes l c) first image);
+    opened = tt;
+    opened_or_not = inl (λ b c image torn. subst (λ (l : List Event). IsImage bytes l c) (sym first)
+        (torn_image bytes bytes es e at (length piece) (ap range_of is) fits fit refl (λ i outside. refl) b c image torn));
   }
 
   -- a sync that was done
@@ -188,12 +217,19 @@ module _ (bytes : List ℕ) (es : List Event) (clock : ℕ) (fit : All (λ x. x 
     crash = λ c image.
         let here = all_same c (subst (λ (l : List Event). IsImage bytes l c) first image) in
         subst (λ (l : List ℕ). IsImage bytes es l) (sym here) (record { long = refl; fit = fit; kept = λ i shut. refl });
+    left_open = tt;
   }
     where
       all_same : (c : List ℕ) → IsImage bytes (e ∷ es) c → c ≡ bytes
       all_same c image = ext_get_or 0 c bytes image.long (λ i low. image.kept i (λ is_open.
           let Q : Option (ℕ × ℕ) → Type 0 = λ o. MatchOption o ⊥ (λ range. ((range.0 ≤ i) × (i < range.0 + range.1)) ⊎ IsOpen es i) in
           subst Q (ap range_of is) is_open))
+
+-- what a refused call left is nothing, or a try
+pub left_by : (Tried Same : Type 0) (e : Refused) → LeavesTry Tried Same e → Same ⊎ Tried
+left_by Mark Same Listed left = inr left
+left_by Mark Same Over left = inl left
+left_by Mark Same NoMemory left = inl left
 
 both_same : (Q : List ℕ → List Event → Type 0) (bytes now : List ℕ) (events after : List Event) → now ≡ bytes → after ≡ events → Q bytes events → Q now after
 both_same Q bytes now events after same none h = subst (λ (es : List Event). Q now es) (sym none) (subst (λ (l : List ℕ). Q l events) (sym same) h)

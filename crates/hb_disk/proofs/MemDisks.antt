@@ -5,24 +5,24 @@ use Rattle.hb_outside.specs.Streams.{Rose}
 use Rattle.hb_outside.specs.Memory.{next_count}
 use Rattle.hb_disk.specs.Model.{DiskModel, last_value}
 use Rattle.hb_disk.specs.Calls.{Ticks, Writes, Syncs, WriteFaults}
-use Rattle.hb_disk.specs.Events.{Alike, Explains, faults_after, starved_after}
-use Rattle.hb_disk.specs.MemDisk.{bytes_of, IsListed, CalledExactly}
+use Rattle.hb_disk.specs.Events.{Alike, Explains, LeavesTry, faults_after, starved_after}
+use Rattle.hb_disk.specs.MemDisk.{bytes_of, IsListed, CalledExactly, FailsFor, HasSameRecord}
 use Rattle.hb_disk.specs.declared.event.Refused.{Refused}
 use Rattle.hb_disk.specs.declared.event.Refused.TheVariants.{Listed, Over, NoMemory}
 use Rattle.hb_disk.specs.declared.mem_disk.MemDisk.{MemDisk}
 
 -- What is said of one result holds of another that is alike.
 pub told_writes : {T E F : Type 0} (done : Result T E) (r : Result T F) (at : ℕ) (piece : List ℕ) (old new : DiskModel) → Alike done r → Writes at piece done old new → Writes at piece r old new
-told_writes (Ok v) (Ok w) at piece old new alike writes = record { written = writes.written; tried = tt; silent = writes.silent; crash = writes.crash }
+told_writes (Ok v) (Ok w) at piece old new alike writes = record { written = writes.written; tried = tt; silent = writes.silent; crash = writes.crash; opened = writes.opened; opened_or_not = tt }
 told_writes (Ok v) (Err f) at piece old new alike writes = absurd alike
 told_writes (Err e) (Ok w) at piece old new alike writes = absurd alike
-told_writes (Err e) (Err f) at piece old new alike writes = record { written = tt; tried = writes.tried; silent = writes.silent; crash = writes.crash }
+told_writes (Err e) (Err f) at piece old new alike writes = record { written = tt; tried = writes.tried; silent = writes.silent; crash = writes.crash; opened = tt; opened_or_not = writes.opened_or_not }
 
 pub told_syncs : {T E F : Type 0} (done : Result T E) (r : Result T F) (old new : DiskModel) → Alike done r → Syncs done old new → Syncs r old new
-told_syncs (Ok v) (Ok w) old new alike syncs = record { same = syncs.same; durable = syncs.durable; crash = syncs.crash }
+told_syncs (Ok v) (Ok w) old new alike syncs = record { same = syncs.same; durable = syncs.durable; crash = syncs.crash; left_open = tt }
 told_syncs (Ok v) (Err f) old new alike syncs = absurd alike
 told_syncs (Err e) (Ok w) old new alike syncs = absurd alike
-told_syncs (Err e) (Err f) old new alike syncs = record { same = syncs.same; durable = tt; crash = syncs.crash }
+told_syncs (Err e) (Err f) old new alike syncs = record { same = syncs.same; durable = tt; crash = syncs.crash; left_open = syncs.left_open }
 
 told_err : {T E F : Type 0} (done : Result T E) (r : Result T F) → Alike done r → IsErr done → IsErr r
 told_err (Ok v) (Ok w) alike err = cc
@@ -44,19 +44,32 @@ rose_next count = elim (cases_lt count last_value) [ inl before ↦ inl (omega a
 
 pub told_faults : {T F : Type 0} (done : Result T Refused) (r : Result T F) (old new : DiskModel) → Alike done r → new.write_faults ≡ faults_after done old.write_faults
     → old.write_faults ≤ new.write_faults → new.read_faults ≡ old.read_faults → WriteFaults r old new
-told_faults (Ok v) (Ok w) old new alike is later reads = record { cause = tt; later = later; reads = reads }
+told_faults (Ok v) (Ok w) old new alike is later reads = record { cause = tt; no_fault = is; later = later; reads = reads }
 told_faults (Ok v) (Err f) old new alike is later reads = absurd alike
 told_faults (Err e) (Ok w) old new alike is later reads = absurd alike
 told_faults (Err e) (Err f) old new alike is later reads =
-    record { cause = subst (λ n. Rose old.write_faults n) (sym is) (rose_next old.write_faults); later = later; reads = reads }
+    record { cause = subst (λ n. Rose old.write_faults n) (sym is) (rose_next old.write_faults); no_fault = tt; later = later; reads = reads }
+
+-- the count of calls that found no memory doesn't go by the type of a success
+starved_alike : (T U : Type 0) (e : Refused) (n count : ℕ) → n ≡ starved_after {T = T} (Err e) count → n ≡ starved_after {T = U} (Err e) count
+starved_alike T U Listed n count is = is
+starved_alike T U Over n count is = is
+starved_alike T U NoMemory n count is = is
+
+-- why a call failed, from what its history says
+blame_of : (old new : MemDisk) (listed : Bool) (Tried : Type 0) (e : Refused) → (IsTrue listed ↔ IsListed old) → Explains listed old.history.clock e → LeavesTry Tried (HasSameRecord old new) e
+    → new.starved ≡ starved_after {T = ℕ} (Err e) old.starved → FailsFor Tried old new
+blame_of old new listed Mark Listed listing why left starved = inl (listing.0 why.0, why.1, left, starved)
+blame_of old new listed Mark Over listing why left starved = inr (inl (why, left, starved))
+blame_of old new listed Mark NoMemory listing why left starved = inr (inr (why, left, starved))
 
 -- exactly when a call fails, and what it counts
 module _ (old new : MemDisk) (listed : Bool) (listing : IsTrue listed ↔ IsListed old) (calls : new.calls ≡ next_count old.calls) (failing : new.failing ≡ old.failing)
-    (reads : new.read_faults ≡ old.read_faults) {T F : Type 0} where
+    (reads : new.read_faults ≡ old.read_faults) (Tried : Type 0) {T F : Type 0} where
   pub called_exactly : (done : Result T Refused) (r : Result T F) → Alike done r → (IsTrue listed → IsErr done) → (old.history.clock ≡ last_value → IsErr done)
-      → IfErr done (Explains listed old.history.clock) → OnErr done (bytes_of new ≡ bytes_of old)
-      → new.write_faults ≡ faults_after done old.write_faults → new.starved ≡ starved_after done old.starved → CalledExactly r old new
-  called_exactly (Ok v) (Ok w) alike must over why same faults starved = record {
+      → IfErr done (Explains listed old.history.clock) → IfErr done (LeavesTry Tried (HasSameRecord old new)) → OnErr done (bytes_of new ≡ bytes_of old)
+      → new.write_faults ≡ faults_after done old.write_faults → new.starved ≡ starved_after done old.starved → CalledExactly Tried r old new
+  called_exactly (Ok v) (Ok w) alike must over why left same faults starved = record {
     listed = λ l. cc (must (listing.1 l));
     ended = λ at_end. cc (over at_end);
     blame = tt;
@@ -67,34 +80,12 @@ module _ (old new : MemDisk) (listed : Bool) (listing : IsTrue listed ↔ IsList
     no_fault = (faults, starved);
     read_faults = reads;
   }
-  called_exactly (Ok v) (Err f) alike must over why same faults starved = absurd alike
-  called_exactly (Err e) (Ok w) alike must over why same faults starved = absurd alike
-  called_exactly (Err Listed) (Err f) alike must over why same faults starved = record {
-    listed = λ l. (refl, starved);
-    ended = λ at_end. (refl, starved);
-    blame = inl (listing.0 why);
-    unchanged = same;
-    calls = calls;
-    failing = failing;
-    fault = faults;
-    no_fault = tt;
-    read_faults = reads;
-  }
-  called_exactly (Err Over) (Err f) alike must over why same faults starved = record {
-    listed = λ l. (refl, starved);
-    ended = λ at_end. (refl, starved);
-    blame = inr (inl why.1);
-    unchanged = same;
-    calls = calls;
-    failing = failing;
-    fault = faults;
-    no_fault = tt;
-    read_faults = reads;
-  }
-  called_exactly (Err NoMemory) (Err f) alike must over why same faults starved = record {
-    listed = λ l. cc (listing.1 l, why.0);
-    ended = λ at_end. absurd (omega (arith, at_end, why.1));
-    blame = inr (inr starved);
+  called_exactly (Ok v) (Err f) alike must over why left same faults starved = absurd alike
+  called_exactly (Err e) (Ok w) alike must over why left same faults starved = absurd alike
+  called_exactly (Err e) (Err f) alike must over why left same faults starved = record {
+    listed = λ l. refl;
+    ended = λ at_end. refl;
+    blame = blame_of old new listed Tried e listing why left (starved_alike T ℕ e new.starved old.starved starved);
     unchanged = same;
     calls = calls;
     failing = failing;

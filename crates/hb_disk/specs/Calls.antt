@@ -12,33 +12,48 @@ pub record Ticks {T E : Type 0} (result : Result T E) (old new : DiskModel) : Ty
   pub time : Elapses old new
   pub size : new.size ≡ old.size
 
--- The fault of a write, zero or sync: no count falls, and a failure has raised the count of failed writes.
+-- The fault of a write, zero or sync: no count falls, and the count of failed writes rises exactly where it fails.
 pub record WriteFaults {T E : Type 0} (result : Result T E) (old new : DiskModel) : Type 0 where
   pub cause : OnErr result (Rose old.write_faults new.write_faults)
+  pub no_fault : OnOk result (new.write_faults ≡ old.write_faults)
   pub later : old.write_faults ≤ new.write_faults
   pub reads : new.read_faults ≡ old.read_faults
 
--- Writing a piece at a place. A crash may leave any bytes in the range, until a sync; and where the call failed, the
--- range may read as any bytes.
+-- A range is open: what a crash might have left before, with any bytes in the range, it may leave now.
+abbrev pub LeavesOpen : ℕ → ℕ → DiskModel → DiskModel → Type 0
+LeavesOpen at n old new = (b c : List ℕ) → old.Image b → Torn at n b c → new.Image c
+
+-- A call that wasn't done: the disk reads as before, and a crash leaves what it might have left before.
+pub record IsUndone (old new : DiskModel) : Type 0 where
+  pub told : new.told ≡ old.told
+  pub image : (c : List ℕ) → new.Image c → old.Image c
+  pub image_kept : (c : List ℕ) → old.Image c → new.Image c
+
+-- Writing a piece at a place. A crash leaves what it might have left before, with any bytes in the range, and each of
+-- these, until a sync. Where the call failed, the range may read as any bytes, or the call wasn't done.
 pub record Writes {T E : Type 0} (at : ℕ) (piece : List ℕ) (result : Result T E) (old new : DiskModel) : Type 0 where
   pub written : OnOk result (IfSome old.told (λ b. new.told ≡ Some (overwritten b at piece)))
   pub tried : OnErr result (IfSome old.told (λ b. (c : List ℕ) × (new.told ≡ Some c) × Torn at (length piece) b c))
   pub silent : old.told ≡ None → new.told ≡ None
   pub crash : (c : List ℕ) → new.Image c → (b : List ℕ) × old.Image b × Torn at (length piece) b c
+  pub opened : OnOk result (LeavesOpen at (length piece) old new)
+  pub opened_or_not : OnErr result (LeavesOpen at (length piece) old new ⊎ IsUndone old new)
 
--- A sync. After it a crash leaves what a read gives, and nothing else.
+-- A sync. After it a crash leaves what a read gives, and nothing else. One that fails closes no range.
 pub record Syncs {T E : Type 0} (result : Result T E) (old new : DiskModel) : Type 0 where
   pub same : new.told ≡ old.told
   pub durable : OnOk result (IfSome old.told (λ b. (c : List ℕ) → new.Image c → c ≡ b))
   pub crash : (c : List ℕ) → new.Image c → old.Image c
+  pub left_open : OnErr result ((c : List ℕ) → old.Image c → new.Image c)
 
 -- A read gives the told bytes of the range.
 abbrev pub Reads : ℕ → List ℕ → DiskModel → Type 0
 Reads at into old = IfSome old.told (λ b. into ≡ take (length into) (drop at b))
 
--- The fault of a read: no count falls, and a failure has raised the count of failed reads.
+-- The fault of a read: no count falls, and the count of failed reads rises exactly where it fails.
 pub record ReadFaults {T E : Type 0} (result : Result T E) (old new : DiskModel) : Type 0 where
   pub cause : OnErr result (Rose old.read_faults new.read_faults)
+  pub no_fault : OnOk result (new.read_faults ≡ old.read_faults)
   pub later : old.read_faults ≤ new.read_faults
   pub writes : new.write_faults ≡ old.write_faults
 

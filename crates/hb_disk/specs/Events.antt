@@ -109,11 +109,23 @@ IsTry at len change = change ≡ Tried at len
 abbrev pub IsSync : Change → Type 0
 IsSync change = change ≡ Synced
 
--- Why a call was refused: it is a listed one; or else the clock was at its last value; or else memory was wanting.
+-- Why a call was refused: the clock was at its last value; or else it is a listed one, or memory was wanting.
 abbrev pub Explains : Bool → ℕ → Refused → Type 0
-Explains listed clock Listed = listed ≡ true
-Explains listed clock Over = (listed ≡ false) × (clock ≡ last_value)
-Explains listed clock NoMemory = (listed ≡ false) × (clock < last_value)
+Explains listed clock Listed = (listed ≡ true) × (clock < last_value)
+Explains listed clock Over = clock ≡ last_value
+Explains listed clock NoMemory = clock < last_value
+
+-- why a change has no place on record
+abbrev pub NotNoted : ℕ → Refused → Type 0
+NotNoted clock Listed = ⊥
+NotNoted clock Over = clock ≡ last_value
+NotNoted clock NoMemory = clock < last_value
+
+-- What a call that was refused leaves on record: a listed one that it was tried, and the others nothing.
+abbrev pub LeavesTry : Type 0 → Type 0 → Refused → Type 0
+LeavesTry Mark Same Listed = Mark
+LeavesTry Mark Same Over = Same
+LeavesTry Mark Same NoMemory = Same
 
 -- two results are both a success, or both a failure
 abbrev pub Alike : {T E F : Type 0} → Result T E → Result T F → Type 0

@@ -2,7 +2,8 @@
 use Rattle.std.specs.Prelude.{◌≡◌, ◌⊎◌, ◌↔◌, ℕ, ◌<◌, ◌≤◌, List, [], ◌∷◌, length, reverse, Contains, Result, IsErr, OnOk, OnErr}
 use Rattle.hb_outside.specs.Memory.{next_count}
 use Rattle.hb_disk.specs.Model.{DiskModel, overwritten, last_value}
-use Rattle.hb_disk.specs.Events.{disk_of}
+use Rattle.hb_disk.specs.Events.{Notes, disk_of}
+use Rattle.hb_disk.specs.declared.event.Change.{Change}
 use Rattle.hb_disk.specs.declared.event.Event.{Event}
 use Rattle.hb_disk.specs.declared.mem_disk.MemDisk.{MemDisk}
 
@@ -44,12 +45,27 @@ pub record ReadExactly {T E : Type 0} (result : Result T E) (old new : MemDisk) 
   pub write_faults : new.write_faults ≡ old.write_faults
   pub starved : new.starved ≡ old.starved
 
--- A write, zero or sync fails at a listed call, where the clock is at its last value, and else only for want of memory,
--- which it counts. The bytes of a call that failed are as they were.
-pub record CalledExactly {T E : Type 0} (result : Result T E) (old new : MemDisk) : Type 0 where
-  pub listed : IsListed old → IsErr result × (new.starved ≡ old.starved)
-  pub ended : old.history.clock ≡ last_value → IsErr result × (new.starved ≡ old.starved)
-  pub blame : OnErr result (IsListed old ⊎ ((old.history.clock ≡ last_value) ⊎ (new.starved ≡ next_count old.starved)))
+-- the record of calls is the same; or has one event more: a write over a range, a try at it, or a sync
+abbrev pub HasSameRecord : MemDisk → MemDisk → Type 0
+HasSameRecord old new = new.history.events.items ≡ old.history.events.items
+
+abbrev pub Records : (Change → Type 0) → MemDisk → MemDisk → Type 0
+Records P old new = Notes P old.history.clock old.calls old.history.events.items new.history.events.items
+
+-- Why a write, zero or sync failed, and what it left on record: a listed call that it was tried; one that came at the
+-- clock's last value, or found no memory, nothing. The last is counted.
+abbrev pub FailsFor : Type 0 → MemDisk → MemDisk → Type 0
+FailsFor Tried old new =
+    (IsListed old × (old.history.clock < last_value) × Tried × (new.starved ≡ old.starved))
+    ⊎ (((old.history.clock ≡ last_value) × HasSameRecord old new × (new.starved ≡ old.starved))
+    ⊎ ((old.history.clock < last_value) × HasSameRecord old new × (new.starved ≡ next_count old.starved)))
+
+-- A write, zero or sync fails at a listed call, where the clock is at its last value, and else only for want of memory.
+-- The bytes of a call that failed are as they were. `Tried` is what a listed call leaves on record.
+pub record CalledExactly {T E : Type 0} (Tried : Type 0) (result : Result T E) (old new : MemDisk) : Type 0 where
+  pub listed : IsListed old → IsErr result
+  pub ended : old.history.clock ≡ last_value → IsErr result
+  pub blame : OnErr result (FailsFor Tried old new)
   pub unchanged : OnErr result (bytes_of new ≡ bytes_of old)
   pub calls : new.calls ≡ next_count old.calls
   pub failing : new.failing ≡ old.failing
@@ -58,12 +74,14 @@ pub record CalledExactly {T E : Type 0} (result : Result T E) (old new : MemDisk
   pub read_faults : new.read_faults ≡ old.read_faults
 
 -- A disk in which one byte is set at its time: where the next call is that one, and the place lies in the disk.
--- All else is as it was.
+-- All else is as it was, the record of its calls too.
 pub record SetsByte (before at byte : ℕ) (old new : MemDisk) : Type 0 where
   pub set : old.calls ≡ before → at < length (bytes_of old) → bytes_of new ≡ overwritten (bytes_of old) at (byte ∷ [])
   pub not_yet : (old.calls ≡ before → ⊥) → bytes_of new ≡ bytes_of old
   pub outside : length (bytes_of old) ≤ at → bytes_of new ≡ bytes_of old
   pub size : length (bytes_of new) ≡ length (bytes_of old)
+  pub record_kept : HasSameRecord old new
+  pub clock : new.history.clock ≡ old.history.clock
   pub calls : new.calls ≡ old.calls
   pub failing : new.failing ≡ old.failing
   pub read_faults : new.read_faults ≡ old.read_faults

@@ -2,7 +2,7 @@ ghost use Rattle.std.specs.Prelude.{◌≡◌, ◌≢◌, ℕ, ◌+◌, ◌<◌,
 ghost use Rattle.hb_disk.specs.Model.{overwritten, Torn};
 ghost use Rattle.hb_disk.specs.Calls.{Leaves, FrameOrNot, InOrder, WriteFaults, Becomes, Then, open_gate};
 
-use crate::Disk;
+use crate::Device;
 use hb_outside::Failed;
 
 /// The byte of an open gate.
@@ -11,7 +11,7 @@ pub const OPEN: u8 = 0xA5;
 /// Writes the body behind a closed gate, syncs, opens the gate, and syncs.
 ///
 /// Each image of a moment inside has the frame whole, or a closed gate in its place.
-pub fn write_behind_gate<D: Disk>(disk: &mut D, gate: u64, body: &[u8]) -> Result<(), Failed>
+pub fn write_behind_gate<D: Device>(disk: &mut D, gate: u64, body: &[u8]) -> Result<(), Failed>
     requires inside { gate + 1 + length body.now ≤ (D.model disk.old).size }
     requires closed { IsSome (D.model disk.old).told →
         (c : List ℕ) → (D.model disk.old).Image c → get_or c gate 0 ≢ open_gate }
@@ -34,7 +34,7 @@ pub fn write_behind_gate<D: Disk>(disk: &mut D, gate: u64, body: &[u8]) -> Resul
 /// Writes the first piece, syncs, writes the second, and syncs.
 ///
 /// In each image of a moment inside, the second is begun only where the first stands.
-pub fn write_in_order<D: Disk>(
+pub fn write_in_order<D: Device>(
     disk: &mut D,
     first: u64,
     a: &[u8],

@@ -4,7 +4,7 @@ ghost use Rattle.std.proofs.Props.{props};
 ghost use Rattle.hb_outside.specs.Memory.{next_count};
 ghost use Rattle.hb_disk.specs.Model.{last_value, overwritten};
 ghost use Rattle.hb_disk.specs.Calls.{Ticks, Writes, Syncs};
-ghost use Rattle.hb_disk.specs.Events.{Reaches, AreKept, IsImage, IsImageSince, IsPicked, rewound, disk_of, Notes, IsOver, IsTry, IsSync, Explains};
+ghost use Rattle.hb_disk.specs.Events.{Reaches, AreKept, IsImage, IsImageSince, IsPicked, rewound, disk_of, Notes, IsOver, IsTry, IsSync, Explains, NotNoted, LeavesTry};
 
 use crate::event::{Change, Event, Pick, Refused, fill_at, put_at};
 use crate::images::choose_before;
@@ -50,19 +50,20 @@ impl History {
         Ok(bytes)
     }
 
-    /// A call passes that leaves nothing on record.
-    fn miss(&mut self) -> Result<(), Refused>
-        ensures failed { IsErr result }
+    /// A call passes that leaves nothing on record. It is refused for this cause, unless the clock stands at its last
+    /// value.
+    fn miss(&mut self, cause: Refused) -> Refused
         ensures bytes { self.new.bytes ≡ self.old.bytes }
         ensures events { self.new.events ≡ self.old.events }
         ensures clock { self.new.clock ≡ next_count self.old.clock }
-        ensures why { IfErr result (Explains false self.old.clock) }
+        ensures cause { self.old.clock < last_value → result ≡ cause }
+        ensures over { self.old.clock ≡ last_value → result ≡ Refused.Over }
     {
         if self.clock == u64::MAX {
-            return Err(Refused::Over);
+            return Refused::Over;
         }
         self.clock += 1;
-        Err(Refused::NoMemory)
+        cause
     }
 
     /// A call passes that leaves this change on record.
@@ -73,7 +74,7 @@ impl History {
         ensures refused { OnErr result (self.new.events.items ≡ self.old.events.items) }
         ensures bytes { self.new.bytes ≡ self.old.bytes }
         ensures clock { self.new.clock ≡ next_count self.old.clock }
-        ensures why { IfErr result (Explains false self.old.clock) }
+        ensures why { IfErr result (NotNoted self.old.clock) }
     {
         let clock = self.clock;
         if clock == u64::MAX {
@@ -91,8 +92,24 @@ impl History {
         Ok(())
     }
 
+    /// A listed call passes, which leaves on record that it tried the range.
+    fn try_range(&mut self, call: u64, at: usize, len: usize) -> Refused
+        requires { at + len ≤ length self.old.bytes.items }
+        ensures refused { LeavesTry
+            (Notes (IsTry at len) self.old.clock call self.old.events.items self.new.events.items)
+            (self.new.events.items ≡ self.old.events.items) result }
+        ensures bytes { self.new.bytes ≡ self.old.bytes }
+        ensures clock { self.new.clock ≡ next_count self.old.clock }
+        ensures why { Explains true self.old.clock result }
+    {
+        match self.note(call, Change::Tried { at, len }) {
+            Ok(()) => Refused::Listed,
+            Err(refused) => refused,
+        }
+    }
+
     /// Keeps the bytes of a range on record, before others are put there. A listed call fails, with its range on
-    /// record where there is memory for it.
+    /// record.
     fn keep(
         &mut self,
         alloc: Global,
@@ -104,20 +121,20 @@ impl History {
         requires { at + len ≤ length self.old.bytes.items }
         ensures done { OnOk result (Notes (IsOver at len self.old.bytes.items) self.old.clock call
             self.old.events.items self.new.events.items) }
-        ensures refused { OnErr result ((self.new.events.items ≡ self.old.events.items)
-            ⊎ Notes (IsTry at len) self.old.clock call self.old.events.items self.new.events.items) }
+        ensures refused { IfErr result (LeavesTry
+            (Notes (IsTry at len) self.old.clock call self.old.events.items self.new.events.items)
+            (self.new.events.items ≡ self.old.events.items)) }
         ensures bytes { self.new.bytes ≡ self.old.bytes }
         ensures clock { self.new.clock ≡ next_count self.old.clock }
         ensures why { IfErr result (Explains listed self.old.clock) }
         ensures listed { IsTrue listed → IsErr result }
     {
         if listed {
-            let _ = self.note(call, Change::Tried { at, len });
-            return Err(Refused::Listed);
+            return Err(self.try_range(call, at, len));
         }
         match self.bytes[at..at + len].to_vec(alloc) {
             Ok(before) => self.note(call, Change::Wrote { at, before }),
-            Err(_) => self.miss(),
+            Err(_) => Err(self.miss(Refused::NoMemory)),
         }
     }
 
@@ -159,8 +176,9 @@ impl History {
             (disk_of self.new.bytes.items (reverse self.new.events.items) self.new.clock h k) }
         ensures done { OnOk result (Notes (IsOver at (length piece.now) self.old.bytes.items) self.old.clock call
             self.old.events.items self.new.events.items) }
-        ensures refused { OnErr result ((self.new.events.items ≡ self.old.events.items)
-            ⊎ Notes (IsTry at (length piece.now)) self.old.clock call self.old.events.items self.new.events.items) }
+        ensures refused { IfErr result (LeavesTry
+            (Notes (IsTry at (length piece.now)) self.old.clock call self.old.events.items self.new.events.items)
+            (self.new.events.items ≡ self.old.events.items)) }
         ensures same { OnErr result (self.new.bytes.items ≡ self.old.bytes.items) }
         ensures why { IfErr result (Explains listed self.old.clock) }
         ensures listed { IsTrue listed → IsErr result }
@@ -188,8 +206,9 @@ impl History {
             (disk_of self.new.bytes.items (reverse self.new.events.items) self.new.clock h k) }
         ensures done { OnOk result (Notes (IsOver at len self.old.bytes.items) self.old.clock call
             self.old.events.items self.new.events.items) }
-        ensures refused { OnErr result ((self.new.events.items ≡ self.old.events.items)
-            ⊎ Notes (IsTry at len) self.old.clock call self.old.events.items self.new.events.items) }
+        ensures refused { IfErr result (LeavesTry
+            (Notes (IsTry at len) self.old.clock call self.old.events.items self.new.events.items)
+            (self.new.events.items ≡ self.old.events.items)) }
         ensures same { OnErr result (self.new.bytes.items ≡ self.old.bytes.items) }
         ensures why { IfErr result (Explains listed self.old.clock) }
         ensures listed { IsTrue listed → IsErr result }
@@ -208,14 +227,14 @@ impl History {
             (disk_of self.old.bytes.items (reverse self.old.events.items) self.old.clock f g)
             (disk_of self.new.bytes.items (reverse self.new.events.items) self.new.clock h k) }
         ensures done { OnOk result (Notes IsSync self.old.clock call self.old.events.items self.new.events.items) }
-        ensures refused { OnErr result (self.new.events.items ≡ self.old.events.items) }
+        ensures refused { IfErr result (LeavesTry (self.new.events.items ≡ self.old.events.items)
+            (self.new.events.items ≡ self.old.events.items)) }
         ensures same { self.new.bytes.items ≡ self.old.bytes.items }
         ensures why { IfErr result (Explains listed self.old.clock) }
         ensures listed { IsTrue listed → IsErr result }
     {
         if listed {
-            let _ = self.miss();
-            return Err(Refused::Listed);
+            return Err(self.miss(Refused::Listed));
         }
         self.note(call, Change::Synced)
     }

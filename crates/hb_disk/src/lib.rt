@@ -2,8 +2,8 @@
 //!
 //! The one contract: at each moment a crash leaves an image of the disk. An image is what a read
 //! gives but for the ranges that were written, zeroed or tried since the last sync that succeeded,
-//! in which it has any bytes. Each call of `Disk` says what it makes of the bytes that are read, of
-//! the images, and of the clock, and it answers `Failed` only where its count of faults rose.
+//! in which it has any bytes. Each call of `Device` says what it makes of the bytes that are read, of
+//! the images, and of the clock, and its count of faults rises exactly where it answers `Failed`.
 //!
 //! The clock counts writes, zeroes and syncs, so that a caller can speak of every moment inside its
 //! own run. `write_behind_gate` and `write_in_order` are such callers, proved over every disk.
@@ -31,4 +31,4 @@ pub use event::Pick;
 pub use faults::DiskFault;
 pub use mem_disk::MemDisk;
 pub use rot_disk::RotDisk;
-pub use traits::Disk;
+pub use traits::{Device, Disk};

@@ -7,17 +7,18 @@ ghost use Rattle.hb_disk.specs.Calls.{Ticks, WriteFaults, Writes, Syncs, Reads, 
 ghost use Rattle.hb_disk.specs.Events.{rewound, IsPicked, IsImage, disk_of, Alike, faults_after, starved_after};
 ghost use Rattle.hb_disk.specs.EventLaws.{history_is_disk};
 
-use crate::Disk;
 use crate::event::{Pick, Refused};
 use crate::history::History;
+use crate::{Device, Disk};
 use hb_outside::Failed;
 use hb_space::NoMemory;
 use std::alloc::Global;
 
 /// A disk in memory. It tells its bytes, and it can tell what a crash might have left at each moment of its life.
 ///
-/// A read, write, zero or sync is a call, and the calls are counted from 0. The calls of chosen numbers fail. No other
-/// fails, but for want of memory for the record of a write, zero or sync, or where the clock stands at its last value.
+/// A read, write, zero or sync is a call, and the calls are counted from 0. The calls of chosen numbers fail, a write or
+/// zero with its range open. No other fails, but for want of memory for the record of a write, zero or sync, or where the
+/// clock stands at its last value; then it isn't done, and leaves no range open.
 #[derive(Drop)]
 pub struct MemDisk {
     alloc: Global,
@@ -117,21 +118,15 @@ fn answer(done: Result<(), Refused>, faults: &mut u64, starved: &mut u64) -> Res
     Err(Failed)
 }
 
-impl Disk for MemDisk {
-    ghost use Rattle.hb_disk.specs.MemDisk.{bytes_of, seen_as, ReadExactly, CalledExactly};
-    ghost use Rattle.hb_disk.specs.Events.{Notes, IsOver, IsTry, IsSync};
+impl Device for MemDisk {
+    ghost use Rattle.hb_disk.specs.MemDisk.{bytes_of, seen_as, ReadExactly, CalledExactly, HasSameRecord, Records};
+    ghost use Rattle.hb_disk.specs.Events.{IsOver, IsTry, IsSync};
 
     ghost model = { λ d. disk_of d.history.bytes.items (reverse d.history.events.items) d.history.clock
         d.read_faults d.write_faults };
 
     fn size(&self) -> u64 {
         self.history.bytes.len() as u64
-    }
-
-    fn clock(&self) -> u64
-        ensures { result ≡ (seen_as self.now).clock }
-    {
-        self.history.clock
     }
 
     fn read(&mut self, at: u64, into: &mut [u8]) -> Result<(), Failed>
@@ -157,12 +152,8 @@ impl Disk for MemDisk {
         ensures writes { Writes at from.now result (seen_as self.old) (seen_as self.new) }
         ensures ticks { Ticks result (seen_as self.old) (seen_as self.new) }
         ensures faults { WriteFaults result (seen_as self.old) (seen_as self.new) }
-        ensures exact { CalledExactly result self.old self.new }
-        ensures recorded { OnOk result (Notes (IsOver at (length from.now) (bytes_of self.old)) self.old.history.clock
-            self.old.calls self.old.history.events.items self.new.history.events.items) }
-        ensures tried { OnErr result ((self.new.history.events.items ≡ self.old.history.events.items)
-            ⊎ Notes (IsTry at (length from.now)) self.old.history.clock self.old.calls
-            self.old.history.events.items self.new.history.events.items) }
+        ensures exact { CalledExactly (Records (IsTry at (length from.now)) self.old self.new) result self.old self.new }
+        ensures recorded { OnOk result (Records (IsOver at (length from.now) (bytes_of self.old)) self.old self.new) }
     {
         let listed = is_listed(&self.failing, self.calls);
         let done = self
@@ -177,12 +168,8 @@ impl Disk for MemDisk {
         ensures writes { Writes at (replicate len 0) result (seen_as self.old) (seen_as self.new) }
         ensures ticks { Ticks result (seen_as self.old) (seen_as self.new) }
         ensures faults { WriteFaults result (seen_as self.old) (seen_as self.new) }
-        ensures exact { CalledExactly result self.old self.new }
-        ensures recorded { OnOk result (Notes (IsOver at len (bytes_of self.old)) self.old.history.clock
-            self.old.calls self.old.history.events.items self.new.history.events.items) }
-        ensures tried { OnErr result ((self.new.history.events.items ≡ self.old.history.events.items)
-            ⊎ Notes (IsTry at len) self.old.history.clock self.old.calls
-            self.old.history.events.items self.new.history.events.items) }
+        ensures exact { CalledExactly (Records (IsTry at len) self.old self.new) result self.old self.new }
+        ensures recorded { OnOk result (Records (IsOver at len (bytes_of self.old)) self.old self.new) }
     {
         let listed = is_listed(&self.failing, self.calls);
         let done = self
@@ -196,10 +183,8 @@ impl Disk for MemDisk {
         ensures syncs { Syncs result (seen_as self.old) (seen_as self.new) }
         ensures ticks { Ticks result (seen_as self.old) (seen_as self.new) }
         ensures faults { WriteFaults result (seen_as self.old) (seen_as self.new) }
-        ensures exact { CalledExactly result self.old self.new }
-        ensures recorded { OnOk result (Notes IsSync self.old.history.clock self.old.calls
-            self.old.history.events.items self.new.history.events.items) }
-        ensures tried { OnErr result (self.new.history.events.items ≡ self.old.history.events.items) }
+        ensures exact { CalledExactly (HasSameRecord self.old self.new) result self.old self.new }
+        ensures recorded { OnOk result (Records IsSync self.old self.new) }
     {
         let listed = is_listed(&self.failing, self.calls);
         let done = self.history.sync(self.calls, listed);
@@ -209,4 +194,14 @@ impl Disk for MemDisk {
 
     ghost is_disk = { λ d. history_is_disk d.history.bytes.items (reverse d.history.events.items) d.history.clock
         d.read_faults d.write_faults d.history.bytes_fit d.history.size_fits d.history.clock_fits d.history.events_fit };
+}
+
+impl Disk for MemDisk {
+    ghost use Rattle.hb_disk.specs.MemDisk.{seen_as};
+
+    fn clock(&self) -> u64
+        ensures { result ≡ (seen_as self.now).clock }
+    {
+        self.history.clock
+    }
 }

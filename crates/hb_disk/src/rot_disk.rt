@@ -5,7 +5,7 @@ ghost use Rattle.hb_disk.specs.Calls.{Ticks, WriteFaults, Writes, Syncs, Reads, 
 ghost use Rattle.hb_disk.specs.MemDisk.{SetsByte, seen_as, ReadExactly, CalledExactly};
 ghost use Rattle.hb_disk.specs.Untold.{untold_of, untold_is_disk};
 
-use crate::{Disk, MemDisk};
+use crate::{Device, Disk, MemDisk};
 use hb_outside::Failed;
 
 /// A disk over another one. It tells nothing, and directly before the call of number `before`, as the inner disk counts,
@@ -27,17 +27,15 @@ fn rot(inner: &mut MemDisk, before: u64, at: u64, byte: u8)
     }
 }
 
-impl Disk for RotDisk {
+impl Device for RotDisk {
     ghost use Rattle.hb_disk.specs.RotDisk.{hidden, AfterRot};
+    ghost use Rattle.hb_disk.specs.MemDisk.{bytes_of, HasSameRecord, Records};
+    ghost use Rattle.hb_disk.specs.Events.{IsOver, IsTry, IsSync};
 
     ghost model = { λ d. untold_of (length d.inner.history.bytes.items) d.inner.read_faults d.inner.write_faults };
 
     fn size(&self) -> u64 {
         self.inner.size()
-    }
-
-    fn clock(&self) -> u64 {
-        self.inner.clock()
     }
 
     fn read(&mut self, at: u64, into: &mut [u8]) -> Result<(), Failed>
@@ -57,7 +55,9 @@ impl Disk for RotDisk {
         ensures writes { Writes at from.now result (hidden self.old) (hidden self.new) }
         ensures ticks { Ticks result (hidden self.old) (hidden self.new) }
         ensures faults { WriteFaults result (hidden self.old) (hidden self.new) }
-        ensures exact { AfterRot self.old (λ found. CalledExactly result found self.new.inner
+        ensures exact { AfterRot self.old (λ found.
+            CalledExactly (Records (IsTry at (length from.now)) found self.new.inner) result found self.new.inner
+            × OnOk result (Records (IsOver at (length from.now) (bytes_of found)) found self.new.inner)
             × Writes at from.now result (seen_as found) (seen_as self.new.inner)) }
     {
         rot(&mut self.inner, self.before, self.at, self.byte);
@@ -69,7 +69,9 @@ impl Disk for RotDisk {
         ensures writes { Writes at (replicate len 0) result (hidden self.old) (hidden self.new) }
         ensures ticks { Ticks result (hidden self.old) (hidden self.new) }
         ensures faults { WriteFaults result (hidden self.old) (hidden self.new) }
-        ensures exact { AfterRot self.old (λ found. CalledExactly result found self.new.inner
+        ensures exact { AfterRot self.old (λ found.
+            CalledExactly (Records (IsTry at len) found self.new.inner) result found self.new.inner
+            × OnOk result (Records (IsOver at len (bytes_of found)) found self.new.inner)
             × Writes at (replicate len 0) result (seen_as found) (seen_as self.new.inner)) }
     {
         rot(&mut self.inner, self.before, self.at, self.byte);
@@ -80,7 +82,9 @@ impl Disk for RotDisk {
         ensures syncs { Syncs result (hidden self.old) (hidden self.new) }
         ensures ticks { Ticks result (hidden self.old) (hidden self.new) }
         ensures faults { WriteFaults result (hidden self.old) (hidden self.new) }
-        ensures exact { AfterRot self.old (λ found. CalledExactly result found self.new.inner
+        ensures exact { AfterRot self.old (λ found.
+            CalledExactly (HasSameRecord found self.new.inner) result found self.new.inner
+            × OnOk result (Records IsSync found self.new.inner)
             × Syncs result (seen_as found) (seen_as self.new.inner)) }
     {
         rot(&mut self.inner, self.before, self.at, self.byte);
@@ -88,4 +92,10 @@ impl Disk for RotDisk {
     }
 
     ghost is_disk = { λ d. untold_is_disk (length d.inner.history.bytes.items) d.inner.read_faults d.inner.write_faults d.inner.history.size_fits };
+}
+
+impl Disk for RotDisk {
+    fn clock(&self) -> u64 {
+        self.inner.clock()
+    }
 }

@@ -1,12 +1,12 @@
 //! Tables of calls over disks in memory, with the images worked out by hand.
 ghost use Rattle.std.specs.Prelude.{◌≤◌};
 
-use crate::{Disk, MemDisk, Pick, RotDisk, write_behind_gate, write_in_order};
+use crate::{Device, Disk, MemDisk, Pick, RotDisk, write_behind_gate, write_in_order};
 use hb_space::NoMemory;
 use std::test::Fail;
 
 /// Writes, syncs, writes, zeroes and reads: whether each succeeded.
-fn run<D: Disk>(disk: &mut D) -> [bool; 5]
+fn run<D: Device>(disk: &mut D) -> [bool; 5]
     requires { 8 ≤ (D.model disk.old).size }
 {
     let wrote = disk.write(2, b"XY").is_ok();

@@ -4,20 +4,17 @@ ghost use Rattle.hb_disk.specs.Calls.{Ticks, WriteFaults, Writes, Syncs, Reads, 
 
 use hb_outside::Failed;
 
-/// A disk: a fixed number of bytes, with calls that may fail and that a crash may cut short.
+/// What reads and writes a disk: a fixed number of bytes, with calls that may fail and that a crash may cut short.
 ///
-/// A call with a place wants its range to lie within the disk.
-pub trait Disk {
+/// A call with a place wants its range to lie within the disk. Code over a `Device` can't ask for the clock, and with it
+/// not whether the disk tells its bytes: so the calls that it makes are the same over a file as over a disk that tells.
+pub trait Device {
     /// The disk as contracts see it.
     ghost model: { Self → DiskModel };
 
     /// How many bytes it has. No call changes it.
     fn size(&self) -> u64
         ensures { result ≡ (model self.now).size };
-
-    /// The clock where the disk tells, and any number where it doesn't.
-    fn clock(&self) -> u64
-        ensures { IsSome (model self.now).told → result ≡ (model self.now).clock };
 
     /// Fills `into` with the bytes from the place on. After `Failed` it holds any bytes.
     fn read(&mut self, at: u64, into: &mut [u8]) -> Result<(), Failed>
@@ -48,4 +45,11 @@ pub trait Disk {
 
     /// What holds of the disk at all times.
     ghost is_disk: { (disk : Self) → IsDisk (model disk) };
+}
+
+/// A device with its clock, for those who say when something was answered.
+pub trait Disk: Device {
+    /// The clock where the disk tells, and any number where it doesn't.
+    fn clock(&self) -> u64
+        ensures { IsSome (Self.model self.now).told → result ≡ (Self.model self.now).clock };
 }

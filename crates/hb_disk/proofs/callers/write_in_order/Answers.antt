@@ -4,27 +4,27 @@ use Rattle.hb_disk.proofs.callers.write_in_order.Goals as goal
 
 pub returns-in_err-write-2-clause-moments : goal.returns-in_err-write-2-clause-moments
 returns-in_err-write-2-clause-moments g c = λ tells.
-    let model = g.D.Disk.model in
+    let model = g.D.Device.model in
     let old = model c.args.disk.now in
     let t = some_value old.told tells in
-    run_three old c.args.first c.args.a.now c.args.second c.args.b.now t.0 t.1 (g.met.D.Disk.is_disk c.args.disk.now)
+    run_three old c.args.first c.args.a.now c.args.second c.args.b.now t.0 t.1 (g.met.D.Device.is_disk c.args.disk.now)
     c.write.result (model c.write.new.self) c.write.ensures.writes c.write.ensures.ticks c.sync.result (model c.sync.new.self) c.sync.ensures.syncs c.sync.ensures.ticks
     c.in_ok-write.field-0 c.in_ok-sync.field-0 c.in_ok-write.was c.in_ok-sync.was c.write-2.result (model c.write-2.new.self) c.write-2.ensures.writes c.write-2.ensures.ticks
 
 pub returns-clause-moments : goal.returns-clause-moments
 returns-clause-moments g c = λ tells.
-    let model = g.D.Disk.model in
+    let model = g.D.Device.model in
     let old = model c.args.disk.now in
     let t = some_value old.told tells in
-    run_four old c.args.first c.args.a.now c.args.second c.args.b.now t.0 t.1 (g.met.D.Disk.is_disk c.args.disk.now)
+    run_four old c.args.first c.args.a.now c.args.second c.args.b.now t.0 t.1 (g.met.D.Device.is_disk c.args.disk.now)
     c.write.result (model c.write.new.self) c.write.ensures.writes c.write.ensures.ticks c.sync.result (model c.sync.new.self) c.sync.ensures.syncs c.sync.ensures.ticks
     c.in_ok-write.field-0 c.in_ok-sync.field-0 c.in_ok-write.was c.in_ok-sync.was c.write-2.result (model c.write-2.new.self) c.write-2.ensures.writes c.write-2.ensures.ticks
     c.sync-2.result (model c.sync-2.new.self) c.sync-2.ensures.syncs c.sync-2.ensures.ticks
 
 pub returns-in_err-sync-clause-place : goal.returns-in_err-sync-clause-place
 returns-in_err-sync-clause-place g c =
-    let is_disk = g.met.D.Disk.is_disk in
-    let model = g.D.Disk.model in
+    let is_disk = g.met.D.Device.is_disk in
+    let model = g.D.Device.model in
     let old = model c.args.disk.now in
     let one = model c.write.new.self in
     place_two old c.args.first c.args.a.now c.args.second c.args.b.now (is_disk c.args.disk.now) c.requires.first_inside one (is_disk c.write.new.self)
@@ -32,8 +32,8 @@ returns-in_err-sync-clause-place g c =
 
 pub returns-in_err-write-2-clause-place : goal.returns-in_err-write-2-clause-place
 returns-in_err-write-2-clause-place g c =
-    let is_disk = g.met.D.Disk.is_disk in
-    let model = g.D.Disk.model in
+    let is_disk = g.met.D.Device.is_disk in
+    let model = g.D.Device.model in
     let old = model c.args.disk.now in
     let one = model c.write.new.self in
     place_three old c.args.first c.args.a.now c.args.second c.args.b.now (is_disk c.args.disk.now) c.requires.first_inside one (is_disk c.write.new.self)
@@ -42,8 +42,8 @@ returns-in_err-write-2-clause-place g c =
 
 pub returns-clause-place : goal.returns-clause-place
 returns-clause-place g c =
-    let is_disk = g.met.D.Disk.is_disk in
-    let model = g.D.Disk.model in
+    let is_disk = g.met.D.Device.is_disk in
+    let model = g.D.Device.model in
     let old = model c.args.disk.now in
     let one = model c.write.new.self in
     place_four old c.args.first c.args.a.now c.args.second c.args.b.now (is_disk c.args.disk.now) c.requires.first_inside one (is_disk c.write.new.self)

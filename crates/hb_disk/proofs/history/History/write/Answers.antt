@@ -1,7 +1,7 @@
 use Rattle.std.proofs.Common.{ap, ◌∙◌, sym, subst, length}
 use Rattle.hb_disk.specs.Model.{overwritten}
 use Rattle.hb_disk.specs.Events.{Notes, IsOver}
-use Rattle.hb_disk.proofs.Histories.{write_refused, write_kept, ticks_kept}
+use Rattle.hb_disk.proofs.Histories.{left_by, write_refused, write_kept, ticks_kept}
 use Rattle.hb_disk.proofs.history.History.write.Goals as goal
 
 pub returns-in_err-keep-clause-writes : goal.returns-in_err-keep-clause-writes
@@ -9,7 +9,7 @@ returns-in_err-keep-clause-writes c =
     let old = c.args.self.now in
     let new = c.keep.new.self in
     write_refused old.bytes.items old.events.items old.clock old.bytes_fit old.clock_fits c.args.call c.from_residual.result c.args.at c.args.piece.now new.bytes.items new.events.items new.clock
-    c.from_residual.ensures.0 c.requires (ap (λ v. v.items) c.in_err-keep.ensures.bytes) c.in_err-keep.ensures.refused
+    c.from_residual.ensures.0 c.requires (ap (λ v. v.items) c.in_err-keep.ensures.bytes) (left_by _ _ _ c.in_err-keep.ensures.refused)
 
 pub returns-clause-writes : goal.returns-clause-writes
 returns-clause-writes c =

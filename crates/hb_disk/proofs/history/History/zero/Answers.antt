@@ -3,7 +3,7 @@ use Rattle.std.proofs.lemmas.List.{length-replicate}
 use Rattle.hb_disk.specs.Model.{overwritten}
 use Rattle.hb_disk.specs.Events.{Notes, IsOver}
 use Rattle.hb_disk.specs.declared.event.Change.TheVariants.{Tried}
-use Rattle.hb_disk.proofs.Histories.{write_refused, write_kept, ticks_kept}
+use Rattle.hb_disk.proofs.Histories.{left_by, write_refused, write_kept, ticks_kept}
 use Rattle.hb_disk.proofs.history.History.zero.Goals as goal
 
 pub returns-in_err-keep-clause-writes : goal.returns-in_err-keep-clause-writes
@@ -11,7 +11,7 @@ returns-in_err-keep-clause-writes c =
     let old = c.args.self.now in
     let new = c.keep.new.self in
     write_refused old.bytes.items old.events.items old.clock old.bytes_fit old.clock_fits c.args.call c.from_residual.result c.args.at (replicate c.args.len 0) new.bytes.items new.events.items new.clock
-    c.from_residual.ensures.0 (subst (λ n. c.args.at + n ≤ length old.bytes.items) (sym (length-replicate c.args.len 0)) c.requires) (ap (λ v. v.items) c.in_err-keep.ensures.bytes) (subst (λ n. (c.keep.new.self.events.items ≡ old.events.items) ⊎ Notes (λ d. d ≡ Tried c.args.at n) old.clock c.args.call old.events.items c.keep.new.self.events.items) (sym (length-replicate c.args.len 0)) c.in_err-keep.ensures.refused)
+    c.from_residual.ensures.0 (subst (λ n. c.args.at + n ≤ length old.bytes.items) (sym (length-replicate c.args.len 0)) c.requires) (ap (λ v. v.items) c.in_err-keep.ensures.bytes) (subst (λ n. (c.keep.new.self.events.items ≡ old.events.items) ⊎ Notes (λ d. d ≡ Tried c.args.at n) old.clock c.args.call old.events.items c.keep.new.self.events.items) (sym (length-replicate c.args.len 0)) (left_by _ _ _ c.in_err-keep.ensures.refused))
 
 pub returns-clause-writes : goal.returns-clause-writes
 returns-clause-writes c =

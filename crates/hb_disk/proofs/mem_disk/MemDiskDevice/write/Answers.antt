@@ -1,10 +1,10 @@
 use Rattle.std.proofs.Common.{◌↔◌, ◌≡◌, ◌⊎◌, length, ℕ, List, IsTrue, subst, refl}
 use Rattle.std.specs.List.{Contains}
 use Rattle.hb_disk.specs.Events.{Notes, IsOver, IsTry}
-use Rattle.hb_disk.specs.MemDisk.{seen_as}
+use Rattle.hb_disk.specs.MemDisk.{seen_as, Records}
 use Rattle.hb_disk.specs.declared.mem_disk.MemDisk.{MemDisk}
-use Rattle.hb_disk.proofs.MemDisks.{told_writes, told_ticks, told_faults, told_on_ok, told_on_err, called_exactly}
-use Rattle.hb_disk.proofs.mem_disk.MemDiskDisk.write.Goals as goal
+use Rattle.hb_disk.proofs.MemDisks.{told_writes, told_ticks, told_faults, told_on_ok, called_exactly}
+use Rattle.hb_disk.proofs.mem_disk.MemDiskDevice.write.Goals as goal
 
 -- the disk as the call leaves it
 abbrev new_of : goal.After-answer → MemDisk
@@ -34,9 +34,9 @@ returns-clause-faults c =
 
 pub returns-clause-exact : goal.returns-clause-exact
 returns-clause-exact c =
-    called_exactly c.args.self.now (new_of c) c.is_listed-listed.result (subst (λ (l : List ℕ). IsTrue c.is_listed-listed.result ↔ Contains l c.args.self.now.calls) c.deref.ensures.value c.is_listed-listed.ensures) c.saturating_add-self.ensures refl refl
+    called_exactly c.args.self.now (new_of c) c.is_listed-listed.result (subst (λ (l : List ℕ). IsTrue c.is_listed-listed.result ↔ Contains l c.args.self.now.calls) c.deref.ensures.value c.is_listed-listed.ensures) c.saturating_add-self.ensures refl refl (Records (IsTry c.args.at (length c.args.from.now)) c.args.self.now (new_of c))
     c.write-done.result c.answer.result c.answer.ensures.alike c.write-done.ensures.listed (λ at_end. ((c.write-done.ensures.ticks 0 0 0 0).ended refl at_end).0)
-    c.write-done.ensures.why c.write-done.ensures.same c.answer.ensures.faults c.answer.ensures.starved
+    c.write-done.ensures.why c.write-done.ensures.refused c.write-done.ensures.same c.answer.ensures.faults c.answer.ensures.starved
 
 pub returns-clause-recorded : goal.returns-clause-recorded
 returns-clause-recorded c =
@@ -44,9 +44,3 @@ returns-clause-recorded c =
     let new = c.write-done.new.self in
     told_on_ok c.write-done.result c.answer.result (Notes (IsOver c.args.at (length c.args.from.now) old.history.bytes.items) old.history.clock old.calls old.history.events.items new.events.items)
     c.answer.ensures.alike c.write-done.ensures.done
-
-pub returns-clause-tried : goal.returns-clause-tried
-returns-clause-tried c =
-    let old = c.args.self.now in
-    let new = c.write-done.new.self in
-    told_on_err c.write-done.result c.answer.result ((new.events.items ≡ old.history.events.items) ⊎ Notes (IsTry c.args.at (length c.args.from.now)) old.history.clock old.calls old.history.events.items new.events.items) c.answer.ensures.alike c.write-done.ensures.refused

@@ -1,10 +1,10 @@
 use Rattle.std.proofs.Common.{◌↔◌, ◌≡◌, ℕ, List, IsTrue, subst, refl}
 use Rattle.std.specs.List.{Contains}
 use Rattle.hb_disk.specs.Events.{Notes, IsSync}
-use Rattle.hb_disk.specs.MemDisk.{seen_as}
+use Rattle.hb_disk.specs.MemDisk.{seen_as, HasSameRecord}
 use Rattle.hb_disk.specs.declared.mem_disk.MemDisk.{MemDisk}
-use Rattle.hb_disk.proofs.MemDisks.{told_syncs, told_ticks, told_faults, told_on_ok, told_on_err, called_exactly, on_err}
-use Rattle.hb_disk.proofs.mem_disk.MemDiskDisk.sync.Goals as goal
+use Rattle.hb_disk.proofs.MemDisks.{told_syncs, told_ticks, told_faults, told_on_ok, called_exactly, on_err}
+use Rattle.hb_disk.proofs.mem_disk.MemDiskDevice.sync.Goals as goal
 
 -- the disk as the call leaves it
 abbrev new_of : goal.After-answer → MemDisk
@@ -34,9 +34,9 @@ returns-clause-faults c =
 
 pub returns-clause-exact : goal.returns-clause-exact
 returns-clause-exact c =
-    called_exactly c.args.self.now (new_of c) c.is_listed-listed.result (subst (λ (l : List ℕ). IsTrue c.is_listed-listed.result ↔ Contains l c.args.self.now.calls) c.deref.ensures.value c.is_listed-listed.ensures) c.saturating_add-self.ensures refl refl
+    called_exactly c.args.self.now (new_of c) c.is_listed-listed.result (subst (λ (l : List ℕ). IsTrue c.is_listed-listed.result ↔ Contains l c.args.self.now.calls) c.deref.ensures.value c.is_listed-listed.ensures) c.saturating_add-self.ensures refl refl (HasSameRecord c.args.self.now (new_of c))
     c.sync-done.result c.answer.result c.answer.ensures.alike c.sync-done.ensures.listed (λ at_end. ((c.sync-done.ensures.ticks 0 0 0 0).ended refl at_end).0)
-    c.sync-done.ensures.why (on_err c.sync-done.result _ c.sync-done.ensures.same) c.answer.ensures.faults c.answer.ensures.starved
+    c.sync-done.ensures.why c.sync-done.ensures.refused (on_err c.sync-done.result _ c.sync-done.ensures.same) c.answer.ensures.faults c.answer.ensures.starved
 
 pub returns-clause-recorded : goal.returns-clause-recorded
 returns-clause-recorded c =
@@ -44,9 +44,3 @@ returns-clause-recorded c =
     let new = c.sync-done.new.self in
     told_on_ok c.sync-done.result c.answer.result (Notes IsSync old.history.clock old.calls old.history.events.items new.events.items)
     c.answer.ensures.alike c.sync-done.ensures.done
-
-pub returns-clause-tried : goal.returns-clause-tried
-returns-clause-tried c =
-    let old = c.args.self.now in
-    let new = c.sync-done.new.self in
-    told_on_err c.sync-done.result c.answer.result (new.events.items ≡ old.history.events.items) c.answer.ensures.alike c.sync-done.ensures.refused
