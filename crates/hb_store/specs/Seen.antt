@@ -1,5 +1,5 @@
 -- What contracts see of a store.
-use Rattle.hb_disk.specs.declared.traits.Disk.{Ghosts}
+use Rattle.hb_disk.specs.declared.traits.Device.{Ghosts}
 use Rattle.hb_store.specs.Keeps.{StoreState}
 use Rattle.hb_store.specs.Frames.{state_of}
 use Rattle.hb_store.specs.declared.store.Store.{Store}

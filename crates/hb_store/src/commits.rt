@@ -13,14 +13,14 @@ ghost use Rattle.hb_store.specs.Calls.{Commits, IsAllowedHere, IsReady, change_h
 use crate::frames::{mark_imaged, set_changed};
 use crate::group_writing::{group_for, reads};
 use crate::store::Store;
-use hb_disk::Disk;
+use hb_disk::Device;
 use hb_frag::{LivePage, Page};
 use hb_ops::{ChangeError, Changed, Op, change, changed_pages_are_well_made};
 use hb_page_codec::laws::page_within_capacity_has_spelling;
 use hb_space::NoMemory;
 use std::alloc::AllocError;
 
-impl<D: Disk> Store<D> {
+impl<D: Device> Store<D> {
     /// Does an operation in memory, and lets its group wait for a force. No device call. For want of memory nothing
     /// changes.
     pub fn commit(&mut self, op: Op, mark: u32) -> Result<(), NoMemory>

@@ -16,7 +16,7 @@ ghost use Rattle.hb_store.specs.declared.stops.FetchStop.TheVariants.{ReadFault}
 use crate::frames::Frame;
 use crate::stops::{FetchStop, Why};
 use crate::store::Store;
-use hb_disk::Disk;
+use hb_disk::Device;
 use hb_frag::Page;
 use hb_ops::{Meta, local_rule};
 use hb_page_codec::laws::spelling_law;
@@ -26,7 +26,7 @@ use hb_space::form::PAGE;
 use std::alloc::Global;
 use std::collections::BTreeMap;
 
-impl<D: Disk> Store<D> {
+impl<D: Device> Store<D> {
     /// Brings the page of a number into a frame, where it is in none. At most one read.
     ///
     /// `Damaged` exactly where the number isn't 1 to the high mark, which is tested first and reads nothing, or the

@@ -8,9 +8,9 @@ ghost use Rattle.hb_store.specs.Calls.{forced_state, stopped_state, durable_afte
 
 use crate::stops::{Flushed, WriteFault};
 use crate::store::Store;
-use hb_disk::Disk;
+use hb_disk::Device;
 
-impl<D: Disk> Store<D> {
+impl<D: Device> Store<D> {
     /// Writes the oldest group that waits to the log. Four device calls, and none where no group waits. A fault stops
     /// the store.
     pub fn force(&mut self) -> Result<(), WriteFault>

@@ -5,11 +5,11 @@ ghost use Rattle.hb_store.specs.Keeps.{StoreKeeps, OpensToFirst};
 ghost use Rattle.hb_store.specs.Seen.{seen_as};
 
 use crate::store::Store;
-use hb_disk::Disk;
+use hb_disk::Device;
 
 /// What a crash now leaves of a store's disk opens to the durable file, or to the one after the first group that waits;
 /// while the store runs, to the durable file alone. For each group that waits there is one file to come.
-pub fn an_image_of_a_store_opens<D: Disk>(store: &Store<D>)
+pub fn an_image_of_a_store_opens<D: Device>(store: &Store<D>)
     ensures first { (durable : FileState) (later : List FileState) → StoreKeeps (D.model store.now.disk) (seen_as store.now) durable later →
         (c : List ℕ) → (D.model store.now.disk).Image c → OpensToFirst durable later c }
     ensures running { (seen_as store.now).stopped ≡ false →

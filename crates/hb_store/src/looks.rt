@@ -5,11 +5,11 @@ ghost use Rattle.hb_store.specs.Seen.{seen_as};
 ghost use Rattle.hb_store.specs.Calls.{IsReady};
 
 use crate::store::Store;
-use hb_disk::Disk;
+use hb_disk::{Device, Disk};
 use hb_frag::Page;
 use hb_ops::Meta;
 
-impl<D: Disk> Store<D> {
+impl<D: Device> Store<D> {
     /// What the file says of itself.
     pub fn meta(&self) -> &Meta
         ensures meta { result.now ≡ (seen_as self.now).meta }
@@ -64,13 +64,6 @@ impl<D: Disk> Store<D> {
         self.room() >= 16_384 && self.pending() <= 49_152
     }
 
-    /// The disk's clock, where the disk tells, and any number where it doesn't.
-    pub fn clock(&self) -> u64
-        ensures { IsSome (D.model self.now.disk).told → result ≡ (D.model self.now.disk).clock }
-    {
-        self.disk.clock()
-    }
-
     /// Whether a write, zero or sync failed.
     pub fn stopped(&self) -> bool
         ensures { result ≡ (seen_as self.now).stopped }
@@ -84,5 +77,14 @@ impl<D: Disk> Store<D> {
     {
         let Store { disk, .. } = self;
         disk
+    }
+}
+
+impl<D: Disk> Store<D> {
+    /// The disk's clock, where the disk tells, and any number where it doesn't.
+    pub fn clock(&self) -> u64
+        ensures { IsSome (D.model self.now.disk).told → result ≡ (D.model self.now.disk).clock }
+    {
+        self.disk.clock()
     }
 }

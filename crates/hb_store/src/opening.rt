@@ -5,14 +5,14 @@ ghost use Rattle.hb_store.specs.Seen.{seen_as};
 
 use crate::places::log_place;
 use crate::store::Store;
-use hb_disk::Disk;
+use hb_disk::Device;
 use hb_ops::Meta;
 use hb_space::NoMemory;
 use hb_wal::Wal;
 use std::alloc::Global;
 use std::collections::BTreeMap;
 
-impl<D: Disk> Store<D> {
+impl<D: Device> Store<D> {
     /// The store of a file that stands whole on the disk: its newest superblock has this turn and says this, the log
     /// area of the turn has no frame, and every page stands in its place. For want of memory the disk comes back.
     pub fn opened(alloc: Global, disk: D, turn: u8, meta: Meta) -> Result<Store<D>, (NoMemory, D)>

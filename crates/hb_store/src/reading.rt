@@ -8,7 +8,7 @@ ghost use Rattle.hb_store.specs.Stops.{ReadsLog, ReadsNoLog, IsTouched};
 ghost use Rattle.hb_store.specs.declared.touched.LogStop.TheVariants.{DiskFault};
 
 use crate::touched::{LogStop, ReplayStop, Touched};
-use hb_disk::Disk;
+use hb_disk::Device;
 use hb_ops::Meta;
 use hb_wal::{Payloads, ReadStop, read_area};
 use std::alloc::Global;
@@ -66,7 +66,7 @@ fn before_bad(alloc: Global, meta: &Meta, frame: u32, before: &Payloads) -> LogS
 }
 
 /// Reads the log area of a turn and replays its groups, over pages that they touch alone.
-pub fn read_log<D: Disk>(
+pub fn read_log<D: Device>(
     alloc: Global,
     disk: &mut D,
     turn: u8,

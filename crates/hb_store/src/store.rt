@@ -3,7 +3,7 @@ ghost use Rattle.hb_store.specs.Frames.{state_of};
 ghost use Rattle.hb_store.specs.Propositions.{IsStore-prop};
 
 use crate::frames::Frame;
-use hb_disk::Disk;
+use hb_disk::Device;
 use hb_ops::Meta;
 use hb_wal::Wal;
 use std::alloc::Global;
@@ -11,7 +11,7 @@ use std::collections::BTreeMap;
 
 /// A file on a disk: its superblock's turn, what it says of itself, the log, and the pages in memory.
 #[derive(Drop)]
-pub struct Store<D: Disk> {
+pub struct Store<D: Device> {
     pub(crate) alloc: Global,
     pub(crate) disk: D,
     pub(crate) turn: u8,

@@ -3,10 +3,10 @@
 ghost use Rattle.std.specs.Thread.{IsSend, IsSync};
 
 use crate::{FetchStop, Flushed, LogStop, StopWhy, Store, Touched, Why, WriteFault};
-use hb_disk::Disk;
+use hb_disk::Device;
 
 /// Each type of the crate does, a store where its disk does.
-fn types_cross_threads<D: Disk + Send + Sync>() {
+fn types_cross_threads<D: Device + Send + Sync>() {
     crosses::<Store<D>>();
     crosses::<Touched>();
     crosses::<LogStop>();

@@ -10,7 +10,7 @@ ghost use Rattle.hb_super.specs.Hidden.{SaysOf, DifferIs, OtherIs, HidesIs, Clea
 
 use crate::body::{BODY, body_of, fields_of, is_layout};
 use crate::reading::place_at;
-use hb_disk::{Disk, DiskFault, OPEN};
+use hb_disk::{Device, DiskFault, OPEN};
 use hb_ops::Meta;
 use hb_outside::Failed;
 
@@ -48,7 +48,7 @@ fn is_other(bytes: &[u8], turn: u8, meta: &Meta) -> bool
 }
 
 /// Whether the place of the turn is closed over a body of the turn that says something else.
-fn hides_other<D: Disk>(disk: &mut D, turn: u8, meta: &Meta) -> Result<bool, Failed>
+fn hides_other<D: Device>(disk: &mut D, turn: u8, meta: &Meta) -> Result<bool, Failed>
     requires room { 8192 ≤ (D.model disk.old).size }
     requires turn { turn ≤ 3 }
     ensures hides { IfOk result (λ hides. IfSome (D.model disk.old).told (λ b. HidesIs hides b turn meta.now)) }
@@ -61,7 +61,7 @@ fn hides_other<D: Disk>(disk: &mut D, turn: u8, meta: &Meta) -> Result<bool, Fai
 }
 
 /// Zeroes the body of the turn's place, and syncs.
-fn zero_body<D: Disk>(disk: &mut D, turn: u8) -> Result<(), Failed>
+fn zero_body<D: Device>(disk: &mut D, turn: u8) -> Result<(), Failed>
     requires room { 8192 ≤ (D.model disk.old).size }
     ensures hidden { OnOk result (IfSome (D.model disk.new).told (λ b. (meta : Said) → HidesNoOther b turn meta)) }
     ensures durable { OnOk result (IfSome (D.model disk.new).told
@@ -81,7 +81,7 @@ fn zero_body<D: Disk>(disk: &mut D, turn: u8) -> Result<(), Failed>
 /// it. Else it does nothing. One read, and at most two device calls that write.
 ///
 /// It fails where the disk does. Then the body may hold any bytes, still behind its closed gate.
-pub fn clear_hidden<D: Disk>(disk: &mut D, turn: u8, meta: &Meta) -> Result<(), DiskFault>
+pub fn clear_hidden<D: Device>(disk: &mut D, turn: u8, meta: &Meta) -> Result<(), DiskFault>
     requires room { 2 * 4096 ≤ (D.model disk.old).size }
     requires legal { IsLegal turn meta.now }
     ensures hidden { OnOk result (IfSome (D.model disk.new).told (λ b. HidesNoOther b turn meta.now)) }

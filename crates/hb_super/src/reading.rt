@@ -7,7 +7,7 @@ ghost use Rattle.hb_super.specs.Superblocks.{IsLayout, IsLegal, IsNewest, HasNon
 ghost use Rattle.hb_super.specs.Reading.{IsOf, Stands, NewestIs, MayBeLegal};
 
 use crate::body::{BODY, body_of, fields_of, is_layout};
-use hb_disk::{Disk, OPEN};
+use hb_disk::{Device, OPEN};
 use hb_ops::Meta;
 use hb_outside::Failed;
 use hb_space::form::PAGE;
@@ -63,7 +63,7 @@ fn super_in(bytes: &[u8], place: u8) -> Option<(u8, Meta)>
 }
 
 /// Reads the superblock of a place.
-fn super_at<D: Disk>(disk: &mut D, place: u8) -> Result<Option<(u8, Meta)>, Failed>
+fn super_at<D: Device>(disk: &mut D, place: u8) -> Result<Option<(u8, Meta)>, Failed>
     requires room { 8192 ≤ (D.model disk.old).size }
     requires place { place < 2 }
     ensures stands { IfOk result (λ said. IfSome (D.model disk.old).told (λ b. Stands place said b)) }
@@ -106,7 +106,7 @@ fn newest_of(first: Option<(u8, Meta)>, second: Option<(u8, Meta)>) -> Option<(u
 }
 
 /// Reads the newest superblock: its turn, and what the file says of itself.
-pub fn read_super<D: Disk>(disk: &mut D) -> Result<(u8, Meta), SuperStop>
+pub fn read_super<D: Device>(disk: &mut D) -> Result<(u8, Meta), SuperStop>
     requires room { 8192 ≤ (D.model disk.old).size }
     ensures newest { IfOk result (λ said. IfSome (D.model disk.old).told (λ b. IsNewest b said.0 said.1)) }
     ensures legal { IfOk result (λ said. IsLegal said.0 said.1) }

@@ -2,7 +2,7 @@
 ghost use Rattle.std.specs.Prelude.{◌≡◌, ◌<◌, ◌≤◌, IfOk, length};
 
 use crate::{SuperStop, clear_hidden, read_super, write_super};
-use hb_disk::{Disk, MemDisk, Pick};
+use hb_disk::{Device, MemDisk, Pick};
 use hb_ops::Meta;
 use std::alloc::Global;
 use std::test::Fail;
@@ -48,7 +48,7 @@ fn places(alloc: Global, first: &[u8; 41], second: &[u8; 41]) -> Result<Vec<u8>,
 }
 
 /// The newest turn. 8 where there is none, and 9 where the disk fails.
-fn turn_of<D: Disk>(disk: &mut D) -> u8
+fn turn_of<D: Device>(disk: &mut D) -> u8
     requires { 8192 ≤ (D.model disk.old).size }
 {
     match read_super(disk) {
@@ -113,7 +113,7 @@ fn legal_bodies(rt: HostRuntime) -> Result<(), Fail> {
 }
 
 /// Whether the superblock of a turn is written.
-fn wrote<D: Disk>(disk: &mut D, turn: u8) -> bool
+fn wrote<D: Device>(disk: &mut D, turn: u8) -> bool
     requires room { 8192 ≤ (D.model disk.old).size }
     requires turn { turn ≤ 3 }
 {
@@ -213,7 +213,7 @@ fn behind(gate: u8, turn: u8) -> [u8; 41] {
 }
 
 /// Whether the place of turn 1 is made to hide nothing but what META says.
-fn cleared<D: Disk>(disk: &mut D) -> bool
+fn cleared<D: Device>(disk: &mut D) -> bool
     requires { 8192 ≤ (D.model disk.old).size }
 {
     clear_hidden(disk, 1, &META).is_ok()

@@ -7,7 +7,7 @@ ghost use Rattle.hb_super.specs.Moments.{WriteLeaves};
 
 use crate::body::body_of;
 use crate::reading::place_at;
-use hb_disk::{Disk, DiskFault, write_behind_gate};
+use hb_disk::{Device, DiskFault, write_behind_gate};
 use hb_ops::Meta;
 
 /// The byte that a gate is closed with.
@@ -19,7 +19,7 @@ const CLOSED: u8 = 0;
 /// Where both places were synced, and the newest turn was the one before, each image of a moment inside has the old
 /// superblock as its newest or one of the new turn. It is the new one, unless the place had a body of the new turn
 /// behind its closed gate, as a write that was cut short leaves it, and a crash tore that gate open.
-pub fn write_super<D: Disk>(disk: &mut D, turn: u8, meta: &Meta) -> Result<(), DiskFault>
+pub fn write_super<D: Device>(disk: &mut D, turn: u8, meta: &Meta) -> Result<(), DiskFault>
     requires room { 2 * 4096 ≤ (D.model disk.old).size }
     requires legal { IsLegal turn meta.now }
     ensures written { OnOk result (IfSome (D.model disk.old).told (λ b. (D.model disk.new).told
@@ -44,7 +44,7 @@ pub fn write_super<D: Disk>(disk: &mut D, turn: u8, meta: &Meta) -> Result<(), D
 
 /// Writes the superblock of turn 0 of a new file, in places that were zeroed and synced: the body, then the gate, each
 /// with a sync. Four device calls. Each image of a moment inside has the superblock whole, or none in its place.
-pub fn write_first_super<D: Disk>(disk: &mut D, meta: &Meta) -> Result<(), DiskFault>
+pub fn write_first_super<D: Device>(disk: &mut D, meta: &Meta) -> Result<(), DiskFault>
     requires room { 2 * 4096 ≤ (D.model disk.old).size }
     requires legal { IsLegal 0 meta.now }
     requires closed { IsSome (D.model disk.old).told →

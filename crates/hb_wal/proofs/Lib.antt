@@ -4,4 +4,5 @@ mod AreaBytes
 mod Forces
 mod HeadBytes
 mod AreaReads
+mod AreaZeros
 mod FrameSplits

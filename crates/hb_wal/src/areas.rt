@@ -3,10 +3,10 @@ ghost use Rattle.hb_disk.specs.Model.{overwritten, Torn};
 ghost use Rattle.hb_disk.specs.Calls.{Leaves, WriteFaults, Becomes};
 ghost use Rattle.hb_wal.specs.Forces.{HasLog};
 
-use hb_disk::{Disk, DiskFault};
+use hb_disk::{Device, DiskFault};
 
 /// Zeroes an area for a log, and syncs. Two device calls. A log that is moved there has no frame.
-pub fn zero_area<D: Disk>(disk: &mut D, area: u64, len: u32) -> Result<(), DiskFault>
+pub fn zero_area<D: Device>(disk: &mut D, area: u64, len: u32) -> Result<(), DiskFault>
     requires inside { area + len ≤ (D.model disk.old).size }
     ensures zeroed { OnOk result (IfSome (D.model disk.old).told (λ b.
         (D.model disk.new).told ≡ Some (overwritten b area (replicate len 0)))) }

@@ -6,12 +6,12 @@ ghost use Rattle.hb_wal.specs.Log.{forced, after_force};
 ghost use Rattle.hb_wal.specs.Forces.{HasLog, ForceLeaves};
 
 use crate::Wal;
-use hb_disk::{Disk, DiskFault, write_behind_gate};
+use hb_disk::{Device, DiskFault, write_behind_gate};
 
 impl Wal {
     /// Writes the oldest group that waits as a frame behind the others. Four device calls, and none where no group
     /// waits. After a fault the group still waits, and the disk may have the frame or not.
-    pub fn force<D: Disk>(&mut self, disk: &mut D) -> Result<(), DiskFault>
+    pub fn force<D: Device>(&mut self, disk: &mut D) -> Result<(), DiskFault>
         requires inside { self.old.area + self.old.len ≤ (D.model disk.old).size }
         requires log { IsSome (D.model disk.old).told →
             (payloads : List (List ℕ)) × HasLog (D.model disk.old) self.old payloads }

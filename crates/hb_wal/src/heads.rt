@@ -5,7 +5,7 @@ ghost use Rattle.hb_wal.specs.declared.heads.FrameStop.TheVariants.{BadLength, N
 ghost use Rattle.hb_wal.specs.Frames.{IsPayload, IsBadFrame, range};
 ghost use Rattle.hb_wal.specs.Reading.{HeadIs, FrameIs, BeginsFrame};
 
-use hb_disk::{Disk, OPEN};
+use hb_disk::{Device, OPEN};
 use hb_outside::{Failed, take_u32};
 use std::alloc::{AllocError, Global};
 
@@ -43,7 +43,7 @@ impl From<Failed> for FrameStop {
 }
 
 /// Reads the gate and the length of a frame. `None` where the gate is closed.
-fn read_head<D: Disk>(disk: &mut D, at: u64) -> Result<Option<u32>, Failed>
+fn read_head<D: Device>(disk: &mut D, at: u64) -> Result<Option<u32>, Failed>
     requires inside { at + 5 ≤ (D.model disk.old).size }
     ensures head { IfOk result (λ len. IfSome (D.model disk.old).told (λ b. HeadIs len (take 5 (drop at b)))) }
     ensures cause { OnErr result (Rose (D.model disk.old).read_faults (D.model disk.new).read_faults) }
@@ -67,7 +67,7 @@ fn length_in(head: &[u8]) -> Option<u32>
 }
 
 /// Reads the frame that begins at a place, where `left` bytes of the area are left. `None` at an end.
-pub(crate) fn read_frame<D: Disk>(
+pub(crate) fn read_frame<D: Device>(
     alloc: Global,
     disk: &mut D,
     at: u64,
@@ -98,7 +98,7 @@ pub(crate) fn read_frame<D: Disk>(
 }
 
 /// Reads the bytes of a payload.
-fn read_payload<D: Disk>(
+fn read_payload<D: Device>(
     alloc: Global,
     disk: &mut D,
     at: u64,

@@ -8,7 +8,7 @@ ghost use Rattle.hb_wal.specs.Reading.{BeginsFrame};
 
 use crate::Payloads;
 use crate::heads::{FRAME, FrameStop, read_frame};
-use hb_disk::Disk;
+use hb_disk::Device;
 use std::alloc::{AllocError, Global};
 
 /// Why the frames of an area weren't read to an end.
@@ -52,7 +52,7 @@ impl FrameStop {
 }
 
 /// Reads the payloads of the open frames of an area, the oldest first, to the first place that has none.
-pub fn read_area<D: Disk>(
+pub fn read_area<D: Device>(
     alloc: Global,
     disk: &mut D,
     area: u64,

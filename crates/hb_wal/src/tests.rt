@@ -4,7 +4,7 @@ ghost use Rattle.std.specs.Prelude.{◌≤◌, IfOk, IsTrue};
 ghost use Rattle.hb_wal.specs.Forces.{IsReady};
 
 use crate::{ReadStop, Wal, read_area, zero_area};
-use hb_disk::{Disk, MemDisk, Pick};
+use hb_disk::{Device, MemDisk, Pick};
 use std::alloc::Global;
 use std::test::Fail;
 
@@ -56,7 +56,7 @@ fn areas(rt: HostRuntime) -> Result<(), Fail> {
 const NOISE: &[u8; 30] = b"##############################";
 
 /// A log of 24 bytes behind the first two, with two groups that wait.
-fn begun<D: Disk>(alloc: Global, disk: &mut D) -> Result<Wal, Fail>
+fn begun<D: Device>(alloc: Global, disk: &mut D) -> Result<Wal, Fail>
     requires { 26 ≤ (D.model disk.old).size }
     ensures ready { IfOk result (λ log. IsReady (D.model disk.new) log) }
 {
@@ -70,7 +70,7 @@ fn begun<D: Disk>(alloc: Global, disk: &mut D) -> Result<Wal, Fail>
 }
 
 /// Whether a force succeeds.
-fn forced<D: Disk>(disk: &mut D, log: &mut Wal) -> bool
+fn forced<D: Device>(disk: &mut D, log: &mut Wal) -> bool
     requires { IsReady (D.model disk.old) log.old }
     ensures { IsTrue result → IsReady (D.model disk.new) log.new }
 {
@@ -175,7 +175,7 @@ fn a_read_fails(rt: HostRuntime) -> Result<(), Fail> {
 }
 
 /// Forces a put's group into an area of exactly its frame's length, and tells the room before and between.
-fn put<D: Disk>(alloc: Global, disk: &mut D) -> Result<[u32; 3], Fail>
+fn put<D: Device>(alloc: Global, disk: &mut D) -> Result<[u32; 3], Fail>
     requires { 22 ≤ (D.model disk.old).size }
 {
     if zero_area(disk, 1, 21).is_err() {

@@ -1,5 +1,5 @@
 -- What contracts see of a core.
-use Rattle.hb_disk.specs.declared.traits.Disk.{Ghosts}
+use Rattle.hb_disk.specs.declared.traits.Device.{Ghosts}
 use Rattle.hb_store.specs.Seen.{disk_of, seen_as}
 use Rattle.hbpi.specs.Core.{CoreState}
 use Rattle.hbpi.specs.declared.engine.state.Core.{Core}

@@ -12,13 +12,13 @@ use crate::restart::creation::create;
 use crate::restart::faults::OpenFault;
 use crate::restart::layout::Layout;
 use crate::statuses::Status;
-use hb_disk::Disk;
+use hb_disk::Device;
 use hb_outside::Sink;
 use hb_store::an_image_of_a_store_opens;
 use std::alloc::Global;
 
 /// Makes the file of these numbers, and gives the disk back.
-fn make<D: Disk>(
+fn make<D: Device>(
     alloc: Global,
     disk: D,
     k: u64,
@@ -59,7 +59,7 @@ fn put_created<K: Sink>(sink: &mut K) -> Status
 }
 
 /// The command `create`: makes a new file of this layout on the disk.
-pub(crate) fn create_file<K: Sink, D: Disk>(
+pub(crate) fn create_file<K: Sink, D: Device>(
     alloc: Global,
     k: u64,
     pages: u64,

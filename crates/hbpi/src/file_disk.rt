@@ -5,7 +5,7 @@ ghost use Rattle.hb_disk.specs.Calls.{Ticks, WriteFaults, Writes, Syncs, Reads, 
 ghost use Rattle.hb_outside.specs.Streams.{Rose};
 ghost use Rattle.hb_disk.specs.Untold.{untold_of, untold_is_disk};
 
-use hb_disk::Disk;
+use hb_disk::{Device, Disk};
 use hb_outside::Failed;
 use std::fs::File;
 use std::io::{ErrorKind, Read, Seek, SeekFrom, Write};
@@ -110,15 +110,11 @@ fn counted(done: Result<(), Failed>, faults: &mut u64) -> Result<(), Failed>
     done
 }
 
-impl Disk for FileDisk {
+impl Device for FileDisk {
     ghost model = { λ d. untold_of d.size d.read_faults d.write_faults };
 
     fn size(&self) -> u64 {
         self.size
-    }
-
-    fn clock(&self) -> u64 {
-        0
     }
 
     fn read(&mut self, at: u64, into: &mut [u8]) -> Result<(), Failed> {
@@ -142,4 +138,10 @@ impl Disk for FileDisk {
     }
 
     ghost is_disk = { λ d. untold_is_disk d.size d.read_faults d.write_faults d.size_fits };
+}
+
+impl Disk for FileDisk {
+    fn clock(&self) -> u64 {
+        0
+    }
 }

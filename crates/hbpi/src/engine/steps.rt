@@ -19,14 +19,14 @@ ghost use Rattle.hb_set.specs.declared.commands.Reply.{Reply};
 
 use crate::engine::session::{Outcome, Session};
 use crate::engine::state::Core;
-use hb_disk::Disk;
+use hb_disk::Device;
 use hb_set::Line;
 use hb_space::NoMemory;
 use hb_store::Store;
 use std::alloc::Global;
 use std::mem;
 
-impl<D: Disk> Core<D> {
+impl<D: Device> Core<D> {
     /// A core over a store that is new. It reserves the order. For want of memory the store comes back.
     pub(crate) fn over(
         alloc: Global,

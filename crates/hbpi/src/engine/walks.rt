@@ -17,7 +17,7 @@ ghost use Rattle.hb_store.specs.declared.stops.StopWhy.TheVariants.{Damaged};
 use crate::engine::plans::{Plan, plan_on, top_of};
 use crate::engine::session::{Outcome, Session};
 use crate::engine::state::Core;
-use hb_disk::Disk;
+use hb_disk::Device;
 use hb_ops::{
     Op, delete_takes_one_record, lone_page_has_no_others, operations_keep_a_file_sound,
     put_adds_one_record, what_stands_is_in_the_contents,
@@ -36,7 +36,7 @@ fn may_commit(command: &Command) -> bool
 }
 
 /// What a line with this command does. The root is in a frame.
-fn plan_of<D: Disk>(store: &Store<D>, command: &Command) -> Plan
+fn plan_of<D: Device>(store: &Store<D>, command: &Command) -> Plan
     requires framed { IsSome ((seen_as store.now).frame (seen_as store.now).meta.root) }
     requires served { IsServedCommand command.now }
     requires attributes { attributes command.now ≡ (seen_as store.now).meta.k }
@@ -66,7 +66,7 @@ fn operations_do_as_the_machine()
     what_stands_is_in_the_contents();
 }
 
-impl<D: Disk> Core<D> {
+impl<D: Device> Core<D> {
     /// One step of a session that walks. A command that may change the file waits until the store is ready.
     pub(crate) fn walk(&mut self) -> Outcome
         requires script { IsScriptFor (core_seen self.old).store.meta.k (core_seen self.old).lines }

@@ -17,7 +17,7 @@ ghost use Rattle.hbpi.specs.declared.restart.faults.OpenFault.TheVariants.{DiskF
 
 use crate::restart::faults::OpenFault;
 use crate::restart::layout::{Layout, empty_page};
-use hb_disk::Disk;
+use hb_disk::Device;
 use hb_ops::Meta;
 use hb_outside::Failed;
 use hb_page_codec::encode;
@@ -28,7 +28,7 @@ use hb_wal::zero_area;
 use std::alloc::Global;
 
 /// Zeroes both superblock places, and syncs. Two device calls.
-fn zero_places<D: Disk>(disk: &mut D) -> Result<(), hb_disk::DiskFault>
+fn zero_places<D: Device>(disk: &mut D) -> Result<(), hb_disk::DiskFault>
     requires room { 8192 ≤ (D.model disk.old).size }
     ensures closed { OnOk result (IfSome (D.model disk.old).told (λ b. (c : List ℕ) × ((D.model disk.new).told ≡ Some c)
         × (get_or c 0 0 ≡ 0) × (get_or c 4096 0 ≡ 0))) }
@@ -40,7 +40,7 @@ fn zero_places<D: Disk>(disk: &mut D) -> Result<(), hb_disk::DiskFault>
 }
 
 /// Zeroes log area 0 and writes page 1, and syncs. Three device calls.
-fn write_parts<D: Disk>(disk: &mut D, meta: &Meta, page: &[u8; PAGE]) -> Result<(), Failed>
+fn write_parts<D: Device>(disk: &mut D, meta: &Meta, page: &[u8; PAGE]) -> Result<(), Failed>
     requires room { file_size meta.now ≤ (D.model disk.old).size }
     requires some { 1 ≤ meta.now.pages }
     ensures laid { OnOk result (IfSome (D.model disk.old).told (λ b. get_or b 0 0 ≡ 0 → get_or b 4096 0 ≡ 0 →
@@ -56,7 +56,7 @@ fn write_parts<D: Disk>(disk: &mut D, meta: &Meta, page: &[u8; PAGE]) -> Result<
 }
 
 /// Writes all of a new file but its superblock, in two steps with a sync each. Five device calls.
-fn lay_out<D: Disk>(disk: &mut D, meta: &Meta, page: &[u8; PAGE]) -> Result<(), hb_disk::DiskFault>
+fn lay_out<D: Device>(disk: &mut D, meta: &Meta, page: &[u8; PAGE]) -> Result<(), hb_disk::DiskFault>
     requires room { file_size meta.now ≤ (D.model disk.old).size }
     requires some { 1 ≤ meta.now.pages }
     ensures laid { OnOk result (IfSome (D.model disk.old).told (λ b. (c : List ℕ) × ((D.model disk.new).told ≡ Some c) × IsLaidOut c meta.now page.now)) }
@@ -70,7 +70,7 @@ fn lay_out<D: Disk>(disk: &mut D, meta: &Meta, page: &[u8; PAGE]) -> Result<(), 
 }
 
 /// Writes a new file: its places, its log area and its page, and at last its superblock. Nine device calls.
-fn write_file<D: Disk>(
+fn write_file<D: Device>(
     disk: &mut D,
     meta: &Meta,
     page: &[u8; PAGE],
@@ -89,7 +89,7 @@ fn write_file<D: Disk>(
 }
 
 /// The disk's file is made, and the store is opened over it. Memory is wanted only once the file is made.
-fn make<D: Disk>(alloc: Global, disk: D, layout: Layout) -> Result<Store<D>, (OpenFault, D)>
+fn make<D: Device>(alloc: Global, disk: D, layout: Layout) -> Result<Store<D>, (OpenFault, D)>
     requires good { IsNone (layout_fault layout) }
     requires large { layout_size layout ≤ (D.model disk).size }
     ensures made { IfOk result (λ st. IsSome (D.model disk).told → StoreKeeps (D.model (disk_of st)) (seen_as st) (new_file layout) []) }
@@ -115,7 +115,7 @@ fn make<D: Disk>(alloc: Global, disk: D, layout: Layout) -> Result<Store<D>, (Op
 
 /// Makes a new file on a disk: no record, one page. `BadLayout` names the first field that is out of its limits; then
 /// `Small` comes exactly where the disk has fewer bytes than the layout. Nothing is written before these two.
-pub(crate) fn create<D: Disk>(
+pub(crate) fn create<D: Device>(
     alloc: Global,
     disk: D,
     layout: Layout,

@@ -17,7 +17,7 @@ ghost use Rattle.hbpi.specs.declared.restart.faults.OpenFault.TheVariants.{DiskF
 
 use crate::restart::audit::{Broken, audit};
 use crate::restart::faults::OpenFault;
-use hb_disk::Disk;
+use hb_disk::Device;
 use hb_frag::Page;
 use hb_ops::Meta;
 use hb_outside::Failed;
@@ -56,7 +56,7 @@ fn size_of(meta: &Meta) -> u64
 }
 
 /// The newest superblock.
-fn newest<D: Disk>(disk: &mut D) -> Result<(u8, Meta), OpenFault>
+fn newest<D: Device>(disk: &mut D) -> Result<(u8, Meta), OpenFault>
     requires { 8192 ≤ (D.model disk.old).size }
     ensures newest { IfOk result (λ said. IfSome (D.model disk.old).told (λ b. IsNewest b said.0 said.1)) }
     ensures legal { IfOk result (λ said. IsLegal said.0 said.1) }
@@ -73,7 +73,7 @@ fn newest<D: Disk>(disk: &mut D) -> Result<(u8, Meta), OpenFault>
 }
 
 /// What the log makes of the file.
-fn log_of<D: Disk>(alloc: Global, disk: &mut D, turn: u8, meta: &Meta) -> Result<Touched, OpenFault>
+fn log_of<D: Device>(alloc: Global, disk: &mut D, turn: u8, meta: &Meta) -> Result<Touched, OpenFault>
     requires legal { IsLegal turn meta.now }
     requires room { bytes_of meta.now ≤ (D.model disk.old).size }
     ensures read { IfOk result (λ t. IfSome (D.model disk.old).told (λ b. ReadsLog b turn meta.now t)) }
@@ -105,7 +105,7 @@ fn spelled(alloc: Global, bytes: &[u8]) -> Result<Page, OpenFault>
 }
 
 /// Reads the bytes in the place of page 1.
-fn read_place<D: Disk>(disk: &mut D, meta: &Meta, into: &mut [u8; PAGE]) -> Result<(), Failed>
+fn read_place<D: Device>(disk: &mut D, meta: &Meta, into: &mut [u8; PAGE]) -> Result<(), Failed>
     requires room { bytes_of meta.now ≤ (D.model disk.old).size }
     requires some { 1 ≤ meta.now.pages }
     ensures there { OnOk result (IfSome (D.model disk.old).told (λ b. into.new ≡ place_bytes meta.now 1 b)) }
@@ -116,7 +116,7 @@ fn read_place<D: Disk>(disk: &mut D, meta: &Meta, into: &mut [u8; PAGE]) -> Resu
 }
 
 /// The page in the place of page 1.
-fn page_there<D: Disk>(alloc: Global, disk: &mut D, meta: &Meta) -> Result<Page, OpenFault>
+fn page_there<D: Device>(alloc: Global, disk: &mut D, meta: &Meta) -> Result<Page, OpenFault>
     requires room { bytes_of meta.now ≤ (D.model disk.old).size }
     requires some { 1 ≤ meta.now.pages }
     ensures there { IfOk result (λ page. IfSome (D.model disk.old).told (λ b. SpellsPage (place_bytes meta.now 1 b) page)) }
@@ -135,7 +135,7 @@ fn page_there<D: Disk>(alloc: Global, disk: &mut D, meta: &Meta) -> Result<Page,
 }
 
 /// Audits the file of one page, which the log touches or which stands in its place.
-fn audited<D: Disk>(
+fn audited<D: Device>(
     alloc: Global,
     disk: &mut D,
     meta: &Meta,
@@ -180,7 +180,7 @@ fn audited_page(meta: &Meta, page: &Page) -> Result<u64, OpenFault>
 }
 
 /// The file of a disk, or why there is none. The tests come in the order in which `recover` names them.
-pub(crate) fn look<D: Disk>(alloc: Global, disk: &mut D) -> Result<Found, OpenFault>
+pub(crate) fn look<D: Device>(alloc: Global, disk: &mut D) -> Result<Found, OpenFault>
     ensures found { IfOk result (λ f. IfSome (D.model disk.old).told (λ b. IsFoundIn b f.turn f.meta (get nat_cmp f.touched.pages 1) f.count)) }
     ensures whole { IfOk result (λ f. IsWhole (D.model disk.old).size f.turn f.meta) }
     ensures touched { IfOk result (λ f. IsTouched f.meta f.touched) }

@@ -14,7 +14,7 @@ ghost use Rattle.hbpi.specs.declared.restart.faults.OpenFault.TheVariants.{DiskF
 use crate::restart::faults::OpenFault;
 use crate::restart::looking::look;
 use crate::restart::renewal::{renew, turn_after};
-use hb_disk::Disk;
+use hb_disk::Device;
 use hb_store::Store;
 use std::alloc::Global;
 
@@ -22,7 +22,7 @@ use std::alloc::Global;
 /// writes the touched pages to their places, and switches to the next turn. It gives the store and the number of
 /// records. The refusals come in this order: `Small` for two superblock places, `NoSuper`, `Small` for the layout,
 /// `NotBuilt`, `BadGroup`, `Unsound`; nothing is written before any of these.
-pub(crate) fn recover<D: Disk>(alloc: Global, disk: D) -> Result<(Store<D>, u64), (OpenFault, D)>
+pub(crate) fn recover<D: Device>(alloc: Global, disk: D) -> Result<(Store<D>, u64), (OpenFault, D)>
     ensures opened { IfOk result (λ r. IfSome (D.model disk).told (λ b. (s : FileState) × OpensTo b s × IsSound s
         × (r.1 ≡ length (file_records s)) × StoreKeeps (D.model (disk_of r.0)) (seen_as r.0) s [])) }
     // over every disk the store is new, and of one page

@@ -19,7 +19,7 @@ ghost use Rattle.hbpi.specs.OnePage.{lone};
 ghost use Rattle.hbpi.specs.Renewing.{StillOpens, IsHere, IsPlaced, IsReadyFor, Runs};
 
 use crate::restart::looking::Found;
-use hb_disk::{Disk, DiskFault};
+use hb_disk::{Device, DiskFault};
 use hb_frag::Page;
 use hb_ops::Meta;
 use hb_outside::Failed;
@@ -45,7 +45,7 @@ fn area_of(turn: u8, meta: &Meta) -> u64
 }
 
 /// Writes page 1 to its place. One device call.
-fn write_page<D: Disk>(disk: &mut D, meta: &Meta, page: &Page) -> Result<(), Failed>
+fn write_page<D: Device>(disk: &mut D, meta: &Meta, page: &Page) -> Result<(), Failed>
     requires room { file_size meta.now ≤ (D.model disk.old).size }
     requires some { 1 ≤ meta.now.pages }
     requires spelling { HasSpelling page.now }
@@ -60,7 +60,7 @@ fn write_page<D: Disk>(disk: &mut D, meta: &Meta, page: &Page) -> Result<(), Fai
 }
 
 /// Writes the page that the log touches to its place. At most one device call.
-fn settle<D: Disk>(disk: &mut D, turn: u8, meta: &Meta, touched: &Touched) -> Result<(), Failed>
+fn settle<D: Device>(disk: &mut D, turn: u8, meta: &Meta, touched: &Touched) -> Result<(), Failed>
     requires room { file_size meta.now ≤ (D.model disk.old).size }
     requires legal { IsLegal turn meta.now }
     requires touched { IsTouched meta.now touched.now }
@@ -77,7 +77,7 @@ fn settle<D: Disk>(disk: &mut D, turn: u8, meta: &Meta, touched: &Touched) -> Re
 }
 
 /// Makes the log area and the place of the next turn ready. At most five device calls.
-fn make_room<D: Disk>(disk: &mut D, turn: u8, meta: &Meta) -> Result<(), DiskFault>
+fn make_room<D: Device>(disk: &mut D, turn: u8, meta: &Meta) -> Result<(), DiskFault>
     requires room { file_size meta.now ≤ (D.model disk.old).size }
     requires legal { IsLegal turn meta.now }
     ensures run { Runs 5 result (D.model disk.old) (D.model disk.new) }
@@ -93,7 +93,7 @@ fn make_room<D: Disk>(disk: &mut D, turn: u8, meta: &Meta) -> Result<(), DiskFau
 }
 
 /// Begins the next turn, by its superblock. At most eleven device calls.
-fn switch<D: Disk>(disk: &mut D, turn: u8, meta: &Meta) -> Result<(), DiskFault>
+fn switch<D: Device>(disk: &mut D, turn: u8, meta: &Meta) -> Result<(), DiskFault>
     requires room { file_size meta.now ≤ (D.model disk.old).size }
     requires legal { IsLegal turn meta.now }
     requires one { meta.now.high ≡ 1 }
@@ -109,7 +109,7 @@ fn switch<D: Disk>(disk: &mut D, turn: u8, meta: &Meta) -> Result<(), DiskFault>
 
 /// Writes the touched page to its place and begins the next turn, on a disk that was just synced. At most twelve device
 /// calls.
-fn rewrite<D: Disk>(disk: &mut D, found: &Found) -> Result<(), DiskFault>
+fn rewrite<D: Device>(disk: &mut D, found: &Found) -> Result<(), DiskFault>
     requires whole { IsWhole (D.model disk.old).size found.now.turn found.now.meta }
     requires touched { IsTouched found.now.meta found.now.touched }
     ensures run { Runs 12 result (D.model disk.old) (D.model disk.new) }
@@ -124,7 +124,7 @@ fn rewrite<D: Disk>(disk: &mut D, found: &Found) -> Result<(), DiskFault>
 
 /// Syncs, so that from then on the disk has one image; then writes the touched page to its place and begins the next
 /// turn. At most thirteen device calls.
-pub(crate) fn renew<D: Disk>(disk: &mut D, found: &Found) -> Result<(), DiskFault>
+pub(crate) fn renew<D: Device>(disk: &mut D, found: &Found) -> Result<(), DiskFault>
     requires whole { IsWhole (D.model disk.old).size found.now.turn found.now.meta }
     requires touched { IsTouched found.now.meta found.now.touched }
     ensures run { Runs 13 result (D.model disk.old) (D.model disk.new) }

@@ -3,10 +3,10 @@ use Rattle.hb_store.specs.StoreLaws.{StoreKeeps-opens, StoreKeeps-running, Store
 use Rattle.hb_store.proofs.laws.an_image_of_a_store_opens.Goals as goal
 
 pub returns-clause-first : goal.returns-clause-first
-returns-clause-first g c = StoreKeeps-opens (g.D.Disk.model c.args.store.now.disk) (seen_as c.args.store.now)
+returns-clause-first g c = StoreKeeps-opens (g.D.Device.model c.args.store.now.disk) (seen_as c.args.store.now)
 
 pub returns-clause-running : goal.returns-clause-running
-returns-clause-running g c = λ going durable later keeps. StoreKeeps-running (g.D.Disk.model c.args.store.now.disk) (seen_as c.args.store.now) durable later keeps going
+returns-clause-running g c = λ going durable later keeps. StoreKeeps-running (g.D.Device.model c.args.store.now.disk) (seen_as c.args.store.now) durable later keeps going
 
 pub returns-clause-count : goal.returns-clause-count
-returns-clause-count g c = StoreKeeps-one (g.D.Disk.model c.args.store.now.disk) (seen_as c.args.store.now)
+returns-clause-count g c = StoreKeeps-one (g.D.Device.model c.args.store.now.disk) (seen_as c.args.store.now)

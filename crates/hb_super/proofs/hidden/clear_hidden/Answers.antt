@@ -6,73 +6,73 @@ use Rattle.hb_super.proofs.hidden.clear_hidden.Goals as goal
 
 pub returns-in_err-hides_other-clause-moments : goal.returns-in_err-hides_other-clause-moments
 returns-in_err-hides_other-clause-moments g c = λ old said next synced.
-    read_moments (g.D.Disk.model c.args.disk.now) (g.D.Disk.model c.hides_other.new.disk) (g.met.D.Disk.is_disk c.args.disk.now) c.hides_other.ensures.only_reads c.args.turn old said next synced
+    read_moments (g.D.Device.model c.args.disk.now) (g.D.Device.model c.hides_other.new.disk) (g.met.D.Device.is_disk c.args.disk.now) c.hides_other.ensures.only_reads c.args.turn old said next synced
 
 pub returns-then-not-branch-clause-moments : goal.returns-then-not-branch-clause-moments
 returns-then-not-branch-clause-moments g c = λ old said next synced.
-    read_moments (g.D.Disk.model c.args.disk.now) (g.D.Disk.model c.hides_other.new.disk) (g.met.D.Disk.is_disk c.args.disk.now) c.hides_other.ensures.only_reads c.args.turn old said next synced
+    read_moments (g.D.Device.model c.args.disk.now) (g.D.Device.model c.hides_other.new.disk) (g.met.D.Device.is_disk c.args.disk.now) c.hides_other.ensures.only_reads c.args.turn old said next synced
 
 pub returns-then-not-branch-clause-synced : goal.returns-then-not-branch-clause-synced
-returns-then-not-branch-clause-synced g c = IsSynced-reads (g.D.Disk.model c.args.disk.now) (g.D.Disk.model c.hides_other.new.disk) 0 8192 c.hides_other.ensures.only_reads
+returns-then-not-branch-clause-synced g c = IsSynced-reads (g.D.Device.model c.args.disk.now) (g.D.Device.model c.hides_other.new.disk) 0 8192 c.hides_other.ensures.only_reads
 
 pub returns-in_err-zero_body-clause-nothing : goal.returns-in_err-zero_body-clause-nothing
 returns-in_err-zero_body-clause-nothing g c =
-    let d = g.D.Disk.model c.args.disk.now in
-    let one = g.D.Disk.model c.hides_other.new.disk in
-    let new = g.D.Disk.model c.zero_body.new.disk in
-    cleared_nothing d one new (g.met.D.Disk.is_disk c.args.disk.now) c.hides_other.ensures.only_reads c.args.turn c.args.meta.now c.in_ok-hides_other.field-0 c.if-not-branch.false c.in_ok-hides_other.ensures.hides
+    let d = g.D.Device.model c.args.disk.now in
+    let one = g.D.Device.model c.hides_other.new.disk in
+    let new = g.D.Device.model c.zero_body.new.disk in
+    cleared_nothing d one new (g.met.D.Device.is_disk c.args.disk.now) c.hides_other.ensures.only_reads c.args.turn c.args.meta.now c.in_ok-hides_other.field-0 c.if-not-branch.false c.in_ok-hides_other.ensures.hides
 
 pub returns-in_err-zero_body-clause-closed : goal.returns-in_err-zero_body-clause-closed
 returns-in_err-zero_body-clause-closed g c =
-    let d = g.D.Disk.model c.args.disk.now in
-    let one = g.D.Disk.model c.hides_other.new.disk in
-    let new = g.D.Disk.model c.zero_body.new.disk in
-    cleared_closed d one new (g.met.D.Disk.is_disk c.args.disk.now) c.hides_other.ensures.only_reads c.args.turn c.args.meta.now c.in_ok-hides_other.field-0 c.if-not-branch.false c.in_ok-hides_other.ensures.hides
+    let d = g.D.Device.model c.args.disk.now in
+    let one = g.D.Device.model c.hides_other.new.disk in
+    let new = g.D.Device.model c.zero_body.new.disk in
+    cleared_closed d one new (g.met.D.Device.is_disk c.args.disk.now) c.hides_other.ensures.only_reads c.args.turn c.args.meta.now c.in_ok-hides_other.field-0 c.if-not-branch.false c.in_ok-hides_other.ensures.hides
 
 pub returns-in_err-zero_body-clause-moments : goal.returns-in_err-zero_body-clause-moments
 returns-in_err-zero_body-clause-moments g c =
-    let d = g.D.Disk.model c.args.disk.now in
-    let one = g.D.Disk.model c.hides_other.new.disk in
-    let new = g.D.Disk.model c.zero_body.new.disk in
-    cleared_moments d one new (g.met.D.Disk.is_disk c.args.disk.now) c.hides_other.ensures.only_reads c.args.turn c.args.meta.now c.in_ok-hides_other.field-0 c.if-not-branch.false c.in_ok-hides_other.ensures.hides c.zero_body.ensures.moments
+    let d = g.D.Device.model c.args.disk.now in
+    let one = g.D.Device.model c.hides_other.new.disk in
+    let new = g.D.Device.model c.zero_body.new.disk in
+    cleared_moments d one new (g.met.D.Device.is_disk c.args.disk.now) c.hides_other.ensures.only_reads c.args.turn c.args.meta.now c.in_ok-hides_other.field-0 c.if-not-branch.false c.in_ok-hides_other.ensures.hides c.zero_body.ensures.moments
 
 pub returns-in_err-zero_body-clause-newest : goal.returns-in_err-zero_body-clause-newest
 returns-in_err-zero_body-clause-newest g c =
-    let d = g.D.Disk.model c.args.disk.now in
-    let one = g.D.Disk.model c.hides_other.new.disk in
-    let new = g.D.Disk.model c.zero_body.new.disk in
-    cleared_newest d one new (g.met.D.Disk.is_disk c.args.disk.now) c.hides_other.ensures.only_reads c.args.turn c.args.meta.now c.in_ok-hides_other.field-0 c.if-not-branch.false c.in_ok-hides_other.ensures.hides c.zero_body.ensures.place
+    let d = g.D.Device.model c.args.disk.now in
+    let one = g.D.Device.model c.hides_other.new.disk in
+    let new = g.D.Device.model c.zero_body.new.disk in
+    cleared_newest d one new (g.met.D.Device.is_disk c.args.disk.now) c.hides_other.ensures.only_reads c.args.turn c.args.meta.now c.in_ok-hides_other.field-0 c.if-not-branch.false c.in_ok-hides_other.ensures.hides c.zero_body.ensures.place
 
 pub returns-clause-nothing : goal.returns-clause-nothing
 returns-clause-nothing g c =
-    let d = g.D.Disk.model c.args.disk.now in
-    let one = g.D.Disk.model c.hides_other.new.disk in
-    let new = g.D.Disk.model c.zero_body.new.disk in
-    cleared_nothing d one new (g.met.D.Disk.is_disk c.args.disk.now) c.hides_other.ensures.only_reads c.args.turn c.args.meta.now c.in_ok-hides_other.field-0 c.if-not-branch.false c.in_ok-hides_other.ensures.hides
+    let d = g.D.Device.model c.args.disk.now in
+    let one = g.D.Device.model c.hides_other.new.disk in
+    let new = g.D.Device.model c.zero_body.new.disk in
+    cleared_nothing d one new (g.met.D.Device.is_disk c.args.disk.now) c.hides_other.ensures.only_reads c.args.turn c.args.meta.now c.in_ok-hides_other.field-0 c.if-not-branch.false c.in_ok-hides_other.ensures.hides
 
 pub returns-clause-closed : goal.returns-clause-closed
 returns-clause-closed g c =
-    let d = g.D.Disk.model c.args.disk.now in
-    let one = g.D.Disk.model c.hides_other.new.disk in
-    let new = g.D.Disk.model c.zero_body.new.disk in
-    cleared_closed d one new (g.met.D.Disk.is_disk c.args.disk.now) c.hides_other.ensures.only_reads c.args.turn c.args.meta.now c.in_ok-hides_other.field-0 c.if-not-branch.false c.in_ok-hides_other.ensures.hides
+    let d = g.D.Device.model c.args.disk.now in
+    let one = g.D.Device.model c.hides_other.new.disk in
+    let new = g.D.Device.model c.zero_body.new.disk in
+    cleared_closed d one new (g.met.D.Device.is_disk c.args.disk.now) c.hides_other.ensures.only_reads c.args.turn c.args.meta.now c.in_ok-hides_other.field-0 c.if-not-branch.false c.in_ok-hides_other.ensures.hides
 
 pub returns-clause-moments : goal.returns-clause-moments
 returns-clause-moments g c =
-    let d = g.D.Disk.model c.args.disk.now in
-    let one = g.D.Disk.model c.hides_other.new.disk in
-    let new = g.D.Disk.model c.zero_body.new.disk in
-    cleared_moments d one new (g.met.D.Disk.is_disk c.args.disk.now) c.hides_other.ensures.only_reads c.args.turn c.args.meta.now c.in_ok-hides_other.field-0 c.if-not-branch.false c.in_ok-hides_other.ensures.hides c.zero_body.ensures.moments
+    let d = g.D.Device.model c.args.disk.now in
+    let one = g.D.Device.model c.hides_other.new.disk in
+    let new = g.D.Device.model c.zero_body.new.disk in
+    cleared_moments d one new (g.met.D.Device.is_disk c.args.disk.now) c.hides_other.ensures.only_reads c.args.turn c.args.meta.now c.in_ok-hides_other.field-0 c.if-not-branch.false c.in_ok-hides_other.ensures.hides c.zero_body.ensures.moments
 
 pub returns-clause-newest : goal.returns-clause-newest
 returns-clause-newest g c =
-    let d = g.D.Disk.model c.args.disk.now in
-    let one = g.D.Disk.model c.hides_other.new.disk in
-    let new = g.D.Disk.model c.zero_body.new.disk in
-    cleared_newest d one new (g.met.D.Disk.is_disk c.args.disk.now) c.hides_other.ensures.only_reads c.args.turn c.args.meta.now c.in_ok-hides_other.field-0 c.if-not-branch.false c.in_ok-hides_other.ensures.hides c.zero_body.ensures.place
+    let d = g.D.Device.model c.args.disk.now in
+    let one = g.D.Device.model c.hides_other.new.disk in
+    let new = g.D.Device.model c.zero_body.new.disk in
+    cleared_newest d one new (g.met.D.Device.is_disk c.args.disk.now) c.hides_other.ensures.only_reads c.args.turn c.args.meta.now c.in_ok-hides_other.field-0 c.if-not-branch.false c.in_ok-hides_other.ensures.hides c.zero_body.ensures.place
 
 pub returns-clause-hidden : goal.returns-clause-hidden
 returns-clause-hidden g c =
-    let new = g.D.Disk.model c.zero_body.new.disk in
+    let new = g.D.Device.model c.zero_body.new.disk in
     if_value new.told (λ b. HidesNoOther b c.args.turn c.args.meta.now) (λ b told.
     at_value new.told (λ b. (meta : Meta) → HidesNoOther b c.args.turn meta) b told c.in_ok-zero_body.ensures.hidden c.args.meta.now)

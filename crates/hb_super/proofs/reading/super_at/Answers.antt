@@ -7,10 +7,10 @@ use Rattle.hb_super.proofs.reading.super_at.Goals as goal
 
 pub returns-clause-stands : goal.returns-clause-stands
 returns-clause-stands g c =
-    let d = g.D.Disk.model c.args.disk.now in
+    let d = g.D.Device.model c.args.disk.now in
     let into = c.read.new.into in
     if_value d.told (λ b. Stands c.args.place c.super_in.result b) (λ b told.
-    let is_disk = g.met.D.Disk.is_disk c.args.disk.now in
+    let is_disk = g.met.D.Device.is_disk c.args.disk.now in
     let read : into ≡ take (length into) (drop c.place_at.result b) = at_value d.told (λ b. into ≡ take (length into) (drop c.place_at.result b)) b told c.in_ok-read.ensures.bytes in
     let long : length into ≡ 41 = c.read.auto.into in
     let head : into ≡ take 41 (drop (place_of c.args.place) b) = read ∙ ap (λ (n : ℕ). take n (drop c.place_at.result b)) long ∙ ap (λ (n : ℕ). take 41 (drop n b)) c.place_at.ensures in

@@ -34,44 +34,44 @@ module _ (d : DiskModel) (is_disk : IsDisk d) (at left : ℕ) (inside : at + lef
 
 pub returns-then-left-lt-FRAME-clause-frame : goal.returns-then-left-lt-FRAME-clause-frame
 returns-then-left-lt-FRAME-clause-frame g c =
-    let d = g.D.Disk.model c.args.disk.now in
+    let d = g.D.Device.model c.args.disk.now in
     if_value d.told (λ b. IsEnd (range c.args.at c.args.left b)) (λ b told.
-    told_short d (g.met.D.Disk.is_disk c.args.disk.now) c.args.at c.args.left c.requires.inside b told c.if-left-lt-FRAME.true)
+    told_short d (g.met.D.Device.is_disk c.args.disk.now) c.args.at c.args.left c.requires.inside b told c.if-left-lt-FRAME.true)
 
 pub returns-in_default-clause-frame : goal.returns-in_default-clause-frame
 returns-in_default-clause-frame g c =
-    let d = g.D.Disk.model c.args.disk.now in
+    let d = g.D.Device.model c.args.disk.now in
     if_value d.told (λ b. IsEnd (range c.args.at c.args.left b)) (λ b told.
-    told_closed d (g.met.D.Disk.is_disk c.args.disk.now) c.args.at c.args.left c.requires.inside b told (omega (arith, c.if-left-lt-FRAME.false))
+    told_closed d (g.met.D.Device.is_disk c.args.disk.now) c.args.at c.args.left c.requires.inside b told (omega (arith, c.if-left-lt-FRAME.false))
     c.in_ok-len.field-0 c.in_ok-len.ensures.head c.in_default.is)
 
 pub returns-then-len-eq0-clause-bad : goal.returns-then-len-eq0-clause-bad
 returns-then-len-eq0-clause-bad g c = λ _.
-    let d = g.D.Disk.model c.args.disk.now in
+    let d = g.D.Device.model c.args.disk.now in
     let bad : (c.in-Some.len ≡ 0) ⊎ (c.args.left - 5 < c.in-Some.len) = elim c.then-len-eq0.branch [
       | then-len-eq0-via-then-len-eq0 w ↦ inl w.if-len-eq0.true
       | then-len-eq0-via-else-len-eq0+then-left-len w ↦ inr w.if-left-len.true
     ] in
     if_value d.told (λ b. IsBadFrame (range c.args.at c.args.left b)) (λ b told.
-    told_bad d (g.met.D.Disk.is_disk c.args.disk.now) c.args.at c.args.left c.requires.inside b told (omega (arith, c.if-left-lt-FRAME.false))
+    told_bad d (g.met.D.Device.is_disk c.args.disk.now) c.args.at c.args.left c.requires.inside b told (omega (arith, c.if-left-lt-FRAME.false))
     c.in_ok-len.field-0 c.in_ok-len.ensures.head c.in-Some.len c.in-Some.is bad)
 
 pub returns-in_err-read_payload-clause-memory : goal.returns-in_err-read_payload-clause-memory
 returns-in_err-read_payload-clause-memory g c = λ _.
-    let d = g.D.Disk.model c.args.disk.now in
+    let d = g.D.Device.model c.args.disk.now in
     if_value d.told (λ b. (x : List ℕ) × BeginsFrame (range c.args.at c.args.left b) x) (λ b told. (
       _,
-      told_good d (g.met.D.Disk.is_disk c.args.disk.now) c.args.at c.args.left c.requires.inside b told (omega (arith, c.if-left-lt-FRAME.false))
+      told_good d (g.met.D.Device.is_disk c.args.disk.now) c.args.at c.args.left c.requires.inside b told (omega (arith, c.if-left-lt-FRAME.false))
           c.in_ok-len.field-0 c.in_ok-len.ensures.head c.in-Some.len c.in-Some.is c.if-len-eq0.false (omega (arith, c.if-left-len.false)),
     ))
 
 pub returns-clause-frame : goal.returns-clause-frame
 returns-clause-frame g c =
-    let d = g.D.Disk.model c.args.disk.now in
+    let d = g.D.Device.model c.args.disk.now in
     let v = c.in_ok-read_payload.field-0 in
-    let one = g.D.Disk.model c.read_head.new.disk in
+    let one = g.D.Device.model c.read_head.new.disk in
     if_value d.told (λ b. BeginsFrame (range c.args.at c.args.left b) v.items) (λ b told.
-    let good = told_good d (g.met.D.Disk.is_disk c.args.disk.now) c.args.at c.args.left c.requires.inside b told (omega (arith, c.if-left-lt-FRAME.false))
+    let good = told_good d (g.met.D.Device.is_disk c.args.disk.now) c.args.at c.args.left c.requires.inside b told (omega (arith, c.if-left-lt-FRAME.false))
     c.in_ok-len.field-0 c.in_ok-len.ensures.head c.in-Some.len c.in-Some.is c.if-len-eq0.false (omega (arith, c.if-left-len.false)) in
     let from : v.items ≡ range (c.args.at + c.from.result) c.in-Some.len b = at_value one.told (λ b. v.items ≡ range (c.args.at + c.from.result) c.in-Some.len b) b (c.read_head.ensures.only_reads.stays.told ∙ told) c.in_ok-read_payload.ensures.bytes in
     let read : v.items ≡ range (c.args.at + 5) c.in-Some.len b = from ∙ ap (λ (n : ℕ). range (c.args.at + n) c.in-Some.len b) c.from.ensures in

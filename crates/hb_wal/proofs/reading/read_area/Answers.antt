@@ -10,7 +10,7 @@ loop-payloads-preserved g c =
     let place : c.args.area + c.from.result ≡ c.args.area + (c.args.len - c.loop-payloads.left) = ap (λ (n : ℕ). c.args.area + n) c.from.ensures in
     let count : c.len.result ≡ length p.items = c.len.ensures ∙ p.ok.0 in
     let fits = at_value c.in-Ok-Some.field-0 (λ v. IsPayload v.items × (5 + length v.items ≤ c.loop-payloads.left)) p c.in-Ok-Some.field-0-is c.in-Ok-Some.ensures.fits in
-    let step = HasRead-more (g.D.Disk.model c.args.disk.now) (g.D.Disk.model c.loop-payloads.disk) (g.D.Disk.model c.read_frame.new.disk) c.args.area c.args.len c.loop-payloads.left c.loop-payloads.payloads p.items
+    let step = HasRead-more (g.D.Device.model c.args.disk.now) (g.D.Device.model c.loop-payloads.disk) (g.D.Device.model c.read_frame.new.disk) c.args.area c.args.len c.loop-payloads.left c.loop-payloads.payloads p.items
     c.loop-payloads.invariant c.in-Ok-Some.ensures.only_reads fits.0 fits.1 (rw place at (rw c.in-Ok-Some.field-0-is at c.in-Ok-Some.ensures.frame)) in
     rw (c.in_ok-push-in-Ok-Some.ensures.ok, count) step
 

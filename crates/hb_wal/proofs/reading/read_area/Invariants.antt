@@ -2,7 +2,7 @@ use Rattle.hb_wal.specs.Loops.{HasRead}
 use Rattle.hb_wal.proofs.reading.read_area.Given as goal
 
 abbrev pub invariant-loop-payloads : goal.invariant-loop-payloads
-invariant-loop-payloads g l = HasRead (g.D.Disk.model l.fn.disk) (g.D.Disk.model l.disk) l.area l.len l.left l.payloads
+invariant-loop-payloads g l = HasRead (g.D.Device.model l.fn.disk) (g.D.Device.model l.disk) l.area l.len l.left l.payloads
 
 abbrev pub decreases-loop-payloads : goal.decreases-loop-payloads
 decreases-loop-payloads g l = l.left

@@ -17,8 +17,8 @@ pub loop-init : goal.loop-init
 loop-init g c =
     let none = c.requires.none in
     let start = c.requires.start in
-    let R : List Answered → Type 0 = λ answered. (n : RecordSet) (kept : CoreKeeps (g.D.Disk.model (core_disk c.args.core.now)) (core_seen c.args.core.now) n []) →
-    Running 0 (g.D.Disk.model (core_disk c.args.core.now)) (core_seen c.args.core.now) (last_of kept.durable kept.later) answered (g.D.Disk.model (core_disk c.args.core.now)) (core_seen c.args.core.now) n in
+    let R : List Answered → Type 0 = λ answered. (n : RecordSet) (kept : CoreKeeps (g.D.Device.model (core_disk c.args.core.now)) (core_seen c.args.core.now) n []) →
+    Running 0 (g.D.Device.model (core_disk c.args.core.now)) (core_seen c.args.core.now) (last_of kept.durable kept.later) answered (g.D.Device.model (core_disk c.args.core.now)) (core_seen c.args.core.now) n in
     record {
       moves = (refl, none);
       first = starts_first (core_seen c.args.core.now) c.args.answered.now.items start none;
@@ -29,7 +29,7 @@ loop-init g c =
       put = has_put_none _ _ _ none;
       room = c.requires.room;
       silent = λ told. told;
-      runs = subst R (sym none) (λ n kept. running_starts _ (core_seen c.args.core.now) n (g.met.D.Disk.is_disk (core_disk c.args.core.now)) start.going kept);
+      runs = subst R (sym none) (λ n kept. running_starts _ (core_seen c.args.core.now) n (g.met.D.Device.is_disk (core_disk c.args.core.now)) start.going kept);
       read_fault = λ has. absurd (starts_unread c.args.answered.now.items none has);
       write_fault = λ fault. absurd (let going = start.going in cc);
       reads_later = omega arith;
@@ -76,20 +76,20 @@ loop-preserved g c =
       silent = λ none. step.silent (before.silent none);
       runs = λ n first.
           let run = before.runs n first in
-          let R : List Answered → Type 0 = λ answered. Running (c.loop.counter + 1) (g.D.Disk.model (core_disk c.args.core.now)) (core_seen c.args.core.now) (last_of first.durable first.later) answered
-          (g.D.Disk.model (core_disk c.step-outcome.new.self)) new n in
+          let R : List Answered → Type 0 = λ answered. Running (c.loop.counter + 1) (g.D.Device.model (core_disk c.args.core.now)) (core_seen c.args.core.now) (last_of first.durable first.later) answered
+          (g.D.Device.model (core_disk c.step-outcome.new.self)) new n in
           let keeps = step.keeps n run.done run.keeps in
-          subst R (sym kept) (running_more c.loop.counter (g.D.Disk.model (core_disk c.args.core.now)) (core_seen c.args.core.now) (last_of first.durable first.later) c.loop.answered.items
-          (g.D.Disk.model (core_disk c.loop.core)) (g.D.Disk.model (core_disk c.step-outcome.new.self)) old new n outcome at before.order.0 rising before.first before.order.1 run
+          subst R (sym kept) (running_more c.loop.counter (g.D.Device.model (core_disk c.args.core.now)) (core_seen c.args.core.now) (last_of first.durable first.later) c.loop.answered.items
+          (g.D.Device.model (core_disk c.loop.core)) (g.D.Device.model (core_disk c.step-outcome.new.self)) old new n outcome at before.order.0 rising before.first before.order.1 run
           (record {
             step = keeps;
             moves = step.moves;
-            disk = g.met.D.Disk.is_disk (core_disk c.step-outcome.new.self);
+            disk = g.met.D.Device.is_disk (core_disk c.step-outcome.new.self);
             soon = step.clock run.keeps.keeps.told;
             at_is = c.clock-at.ensures keeps.keeps.keeps.told;
           }));
-      read_fault = read_fault_more _ (g.D.Disk.model (core_disk c.loop.core)).read_faults _ c.loop.answered.items _ outcome at kept before.reads_later step.reads_later before.read_fault step.read_fault;
-      write_fault = write_fault_more _ (g.D.Disk.model (core_disk c.loop.core)).write_faults _ old new outcome step.moves before.writes_later step.writes_later before.write_fault step.write_fault;
+      read_fault = read_fault_more _ (g.D.Device.model (core_disk c.loop.core)).read_faults _ c.loop.answered.items _ outcome at kept before.reads_later step.reads_later before.read_fault step.read_fault;
+      write_fault = write_fault_more _ (g.D.Device.model (core_disk c.loop.core)).write_faults _ old new outcome step.moves before.writes_later step.writes_later before.write_fault step.write_fault;
       reads_later = omega (arith, before.reads_later, step.reads_later);
       writes_later = omega (arith, before.writes_later, step.writes_later);
     }
@@ -99,8 +99,8 @@ returns-clause-runs g c = λ n kept.
     let before = c.loop.invariant in
     let rising = subst (λ (ls : List Line). AreRising ls) (sym before.lines) c.requires.script.rising in
     let all : c.loop.counter ≡ c.args.steps = omega arith in
-    let S : ℕ → Type 0 = λ steps. RunsTo steps (g.D.Disk.model (core_disk c.args.core.now)) (core_seen c.args.core.now) (last_of kept.durable kept.later) c.loop.answered.items
-    (g.D.Disk.model (core_disk c.loop.core)) (core_seen c.loop.core) n in
+    let S : ℕ → Type 0 = λ steps. RunsTo steps (g.D.Device.model (core_disk c.args.core.now)) (core_seen c.args.core.now) (last_of kept.durable kept.later) c.loop.answered.items
+    (g.D.Device.model (core_disk c.loop.core)) (core_seen c.loop.core) n in
     subst S all (running_ends c.loop.counter _ (core_seen c.args.core.now) _ c.loop.answered.items _ (core_seen c.loop.core) n rising before.first (before.runs n kept))
 
 pub returns-clause-order : goal.returns-clause-order

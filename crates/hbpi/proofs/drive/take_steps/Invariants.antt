@@ -26,11 +26,11 @@ invariant-loop g l = record {
   attributes : (core_seen l.core).store.meta.k ≡ (core_seen l.fn.core).store.meta.k;
   put : HasPut (g.K.Sink.written l.fn.sink) (g.K.Sink.written l.sink) (g.K.Sink.faults l.fn.sink) (g.K.Sink.faults l.sink) l.failed (flat_map answer_text l.answered.items);
   room : length (core_seen l.core).lines ≤ vec_capacity l.answered;
-  silent : (g.D.Disk.model (core_disk l.fn.core)).told ≡ None → (g.D.Disk.model (core_disk l.core)).told ≡ None;
-  runs : (n : RecordSet) (kept : CoreKeeps (g.D.Disk.model (core_disk l.fn.core)) (core_seen l.fn.core) n []) →
-      Running l.counter (g.D.Disk.model (core_disk l.fn.core)) (core_seen l.fn.core) (last_of kept.durable kept.later) l.answered.items (g.D.Disk.model (core_disk l.core)) (core_seen l.core) n;
-  read_fault : HasReadFault l.answered.items → Rose (g.D.Disk.model (core_disk l.fn.core)).read_faults (g.D.Disk.model (core_disk l.core)).read_faults;
-  write_fault : (core_seen l.core).stop ≡ Some WriteFault → Rose (g.D.Disk.model (core_disk l.fn.core)).write_faults (g.D.Disk.model (core_disk l.core)).write_faults;
-  reads_later : (g.D.Disk.model (core_disk l.fn.core)).read_faults ≤ (g.D.Disk.model (core_disk l.core)).read_faults;
-  writes_later : (g.D.Disk.model (core_disk l.fn.core)).write_faults ≤ (g.D.Disk.model (core_disk l.core)).write_faults;
+  silent : (g.D.Device.model (core_disk l.fn.core)).told ≡ None → (g.D.Device.model (core_disk l.core)).told ≡ None;
+  runs : (n : RecordSet) (kept : CoreKeeps (g.D.Device.model (core_disk l.fn.core)) (core_seen l.fn.core) n []) →
+      Running l.counter (g.D.Device.model (core_disk l.fn.core)) (core_seen l.fn.core) (last_of kept.durable kept.later) l.answered.items (g.D.Device.model (core_disk l.core)) (core_seen l.core) n;
+  read_fault : HasReadFault l.answered.items → Rose (g.D.Device.model (core_disk l.fn.core)).read_faults (g.D.Device.model (core_disk l.core)).read_faults;
+  write_fault : (core_seen l.core).stop ≡ Some WriteFault → Rose (g.D.Device.model (core_disk l.fn.core)).write_faults (g.D.Device.model (core_disk l.core)).write_faults;
+  reads_later : (g.D.Device.model (core_disk l.fn.core)).read_faults ≤ (g.D.Device.model (core_disk l.core)).read_faults;
+  writes_later : (g.D.Device.model (core_disk l.fn.core)).write_faults ≤ (g.D.Device.model (core_disk l.core)).write_faults;
 }

@@ -13,11 +13,11 @@ use Rattle.hbpi.proofs.drive_file.drive_file.Goals as goal
 
 pub returns-in-Ok-clause-ends : goal.returns-in-Ok-clause-ends
 returns-in-Ok-clause-ends g c =
-    let d : DiskModel = g.D.Disk.model c.args.disk in
-    let m : DiskModel = g.D.Disk.model (disk_of c.in-Ok.store) in
+    let d : DiskModel = g.D.Device.model c.args.disk in
+    let m : DiskModel = g.D.Device.model (disk_of c.in-Ok.store) in
     let facts = c.in-Ok.ensures in
     let opening : IsOpening d m = record {
-      disk = g.met.D.Disk.is_disk (disk_of c.in-Ok.store);
+      disk = g.met.D.Device.is_disk (disk_of c.in-Ok.store);
       told = if_value d.told _ (λ b is.
           let found = at_value d.told _ b is facts.opened in
           (found.0, found.1, found.2, even_store m (seen_as c.in-Ok.store) found.0 [] found.4 facts.new.running));
@@ -26,11 +26,11 @@ returns-in-Ok-clause-ends g c =
       reads = facts.later.0;
       writes = facts.later.1;
     } in
-    inr (ends_before c.drive_store.result.status d m (g.D.Disk.model c.drive_store.result.disk) _ c.an_image_opens_to_one_file.ensures.one opening c.drive_store.ensures.ends)
+    inr (ends_before c.drive_store.result.status d m (g.D.Device.model c.drive_store.result.disk) _ c.an_image_opens_to_one_file.ensures.one opening c.drive_store.ensures.ends)
 
 pub returns-in-Err-clause-ends : goal.returns-in-Err-clause-ends
 returns-in-Err-clause-ends g c =
-    let M : g.row.D.Denot → DiskModel = g.D.Disk.model in
+    let M : g.row.D.Denot → DiskModel = g.D.Device.model in
     let d : DiskModel = M c.args.disk in
     let facts = c.in-Err.ensures in
     let fault = c.in-Err.fault in

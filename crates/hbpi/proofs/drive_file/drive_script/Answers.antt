@@ -23,13 +23,13 @@ use Rattle.hbpi.proofs.drive_file.drive_script.Goals as goal
 
 pub drive-requires-clause-kept : goal.drive-requires-clause-kept
 drive-requires-clause-kept g c tells =
-    let kept = c.requires.kept (subst (λ (x : g.row.D.Denot). IsSome (g.D.Disk.model x).told) c.in-Ok.ensures.disk tells) in
+    let kept = c.requires.kept (subst (λ (x : g.row.D.Denot). IsSome (g.D.Device.model x).told) c.in-Ok.ensures.disk tells) in
     let meta = kept.2.meta_is in
     (contents_of kept.0, (c.in-Ok.ensures.keeps kept.0 c.requires.new kept.1 (ap (λ (m : Meta). m.root) meta ∙ c.requires.one_page.0) (ap (λ (m : Meta). m.high) meta ∙ c.requires.one_page.1) (ap (λ (m : Meta). m.height) meta ∙ c.requires.one_page.2) kept.2).0)
 
 pub returns-in-Ok-clause-ends : goal.returns-in-Ok-clause-ends
 returns-in-Ok-clause-ends g c left rest before after scheduled =
-    let M : g.row.D.Denot → DiskModel = g.D.Disk.model in
+    let M : g.row.D.Denot → DiskModel = g.D.Device.model in
     let store = c.args.store in
     let core = core_seen c.in-Ok.core in
     let ran = core_seen c.drive.result.core in
@@ -73,7 +73,7 @@ returns-in-Ok-clause-ends g c left rest before after scheduled =
           let even = even_store d (seen_as store) from.0 [] here.2 c.requires.new.running in
           let made = c.in-Ok.ensures.keeps from.0 c.requires.new from.1 (ap (λ (m : Meta). m.root) meta ∙ c.requires.one_page.0) (ap (λ (m : Meta). m.high) meta ∙ c.requires.one_page.1) (ap (λ (m : Meta). m.height) meta ∙ c.requires.one_page.2) from.2 in (
             from.0,
-            even.images b ((g.met.D.Disk.is_disk (core_disk c.in-Ok.core)).as_read b is),
+            even.images b ((g.met.D.Device.is_disk (core_disk c.in-Ok.core)).as_read b is),
             from.1,
             meta ∙ ap (λ (st : StoreState). st.meta) (sym stored),
             λ some. subst (λ (file : FileState). RunsTo (length c.args.script.steps) d core file c.drive.result.answered.items e ran (contents_of from.0)) made.1
@@ -95,7 +95,7 @@ returns-in-Ok-clause-ends g c left rest before after scheduled =
     let line = refused_on (λ k. g.K.Sink.written k) (λ k. g.K.Sink.faults k) c.args.sink c.drive.result.sink (g.K.Sink.written c.finish.result.sink) (g.K.Sink.faults c.finish.result.sink) (fault_line NoMemory) same.1
     (subst (λ (x : Status). GetsLine (g.K.Sink.written c.drive.result.sink) (g.K.Sink.written c.finish.result.sink) (g.K.Sink.faults c.drive.result.sink) (g.K.Sink.faults c.finish.result.sink) (fault_line x)) status c.finish.ensures.line) in
     let refused : IsRefused seen NoMemory = record { line = line; none_answered = same.2; none_ordered = ap (λ x. (core_seen x).order) same.0 ∙ ap (λ (x : CoreState). x.order) c.in-Ok.ensures.seen } in
-    away_on (λ x. g.D.Disk.model (core_disk x)) store.meta.k d seen NoMemory c.in-Ok.core c.drive.result.core same.0 (turned_away d (seen_as store) seen NoMemory (g.met.D.Disk.is_disk (core_disk c.in-Ok.core)) kept c.requires.new.running (c.requires.one_page.1, c.requires.one_page.2) refused))
+    away_on (λ x. g.D.Device.model (core_disk x)) store.meta.k d seen NoMemory c.in-Ok.core c.drive.result.core same.0 (turned_away d (seen_as store) seen NoMemory (g.met.D.Device.is_disk (core_disk c.in-Ok.core)) kept c.requires.new.running (c.requires.one_page.1, c.requires.one_page.2) refused))
     c.finish.ensures.line in
     let at_start = subst (λ (x : g.row.D.Denot). OpenedEnds (M x) e seen c.finish.result.status) c.in-Ok.ensures.disk ends in
     let at_end = subst (λ (x : g.row.D.Denot). OpenedEnds (M (disk_of store)) (M x) seen c.finish.result.status) (sym c.finish.ensures.disk) at_start in
@@ -104,7 +104,7 @@ returns-in-Ok-clause-ends g c left rest before after scheduled =
 
 pub returns-clause-ends : goal.returns-clause-ends
 returns-clause-ends g c left rest before after scheduled =
-    let M : g.row.D.Denot → DiskModel = g.D.Disk.model in
+    let M : g.row.D.Denot → DiskModel = g.D.Device.model in
     let store = c.args.store in
     let d : DiskModel = M (disk_of store) in
     let seen : Seen = record {
@@ -122,4 +122,4 @@ returns-clause-ends g c left rest before after scheduled =
     let refused : IsRefused seen NoMemory = record { line = c.refused.ensures.line; none_answered = c.refused.ensures.answered; none_ordered = c.refused.ensures.order } in
     let back : c.refused.result.disk ≡ disk_of store = c.refused.ensures.disk ∙ c.into_disk.ensures ∙ ap (λ x. disk_of x) c.in-Err.ensures.back in
     subst (λ (x : Status). OpenedEnds d (M c.refused.result.disk) seen x) (sym c.refused.ensures.status)
-    (store.meta.k, away_on M store.meta.k d seen NoMemory (disk_of store) c.refused.result.disk back (turned_away d (seen_as store) seen NoMemory (g.met.D.Disk.is_disk (disk_of store)) c.requires.kept c.requires.new.running (c.requires.one_page.1, c.requires.one_page.2) refused))
+    (store.meta.k, away_on M store.meta.k d seen NoMemory (disk_of store) c.refused.result.disk back (turned_away d (seen_as store) seen NoMemory (g.met.D.Device.is_disk (disk_of store)) c.requires.kept c.requires.new.running (c.requires.one_page.1, c.requires.one_page.2) refused))

@@ -17,7 +17,7 @@ returns-in-Ok-clause-ends g c =
 
 pub returns-in-Err-clause-ends : goal.returns-in-Err-clause-ends
 returns-in-Err-clause-ends g c =
-    let M : g.row.D.Denot → DiskModel = g.D.Disk.model in
+    let M : g.row.D.Denot → DiskModel = g.D.Device.model in
     let store = c.args.store in
     let d : DiskModel = M (disk_of store) in
     let k = ap (λ (m : Meta). m.k) c.meta.ensures.meta in
@@ -42,4 +42,4 @@ returns-in-Err-clause-ends g c =
     (subst (λ (x : Status). NotScheduled c.meta.result.now.k seen.left seen.rest seen.source_before seen.source_after x) (sym c.refused.ensures.status) c.in-Err.ensures.refused) in
     not_scheduled_ends c.refused.result.status store.meta.k d (M c.refused.result.disk) seen why
     (away_on M store.meta.k d seen c.refused.result.status (disk_of store) c.refused.result.disk (c.refused.ensures.disk ∙ c.into_disk.ensures)
-    (turned_away d (seen_as store) seen c.refused.result.status (g.met.D.Disk.is_disk (disk_of store)) c.requires.kept c.requires.new.running (c.requires.one_page.1, c.requires.one_page.2) refused))
+    (turned_away d (seen_as store) seen c.refused.result.status (g.met.D.Device.is_disk (disk_of store)) c.requires.kept c.requires.new.running (c.requires.one_page.1, c.requires.one_page.2) refused))

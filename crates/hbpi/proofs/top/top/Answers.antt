@@ -23,7 +23,7 @@ returns-in-Some-Dry-clause-complete g c =
       answered = c.dry.result.answered.items;
       order = c.dry.result.order.items;
     } in
-    subst (λ (form : Option Form). IsComplete form seen c.dry.result.status) (sym (ap Some c.in-Some-Dry.field-0-is) ∙ c.in-Some-Dry.ensures.form) (ends_complete (Some (Dry c.in-Some-Dry.k)) seen (g.D.Disk.model c.args.disk) (g.D.Disk.model c.dry.result.disk) c.dry.result.status c.dry.ensures.ends)
+    subst (λ (form : Option Form). IsComplete form seen c.dry.result.status) (sym (ap Some c.in-Some-Dry.field-0-is) ∙ c.in-Some-Dry.ensures.form) (ends_complete (Some (Dry c.in-Some-Dry.k)) seen (g.D.Device.model c.args.disk) (g.D.Device.model c.dry.result.disk) c.dry.result.status c.dry.ensures.ends)
 
 pub returns-in-Some-Dry-clause-bad_text : goal.returns-in-Some-Dry-clause-bad_text
 returns-in-Some-Dry-clause-bad_text g c =
@@ -39,7 +39,7 @@ returns-in-Some-Dry-clause-bad_text g c =
       answered = c.dry.result.answered.items;
       order = c.dry.result.order.items;
     } in
-    subst (λ (form : Option Form). RefusesBadText form seen c.dry.result.status) (sym (ap Some c.in-Some-Dry.field-0-is) ∙ c.in-Some-Dry.ensures.form) (ends_refuses (Some (Dry c.in-Some-Dry.k)) seen (g.D.Disk.model c.args.disk) (g.D.Disk.model c.dry.result.disk) c.dry.result.status c.dry.ensures.ends)
+    subst (λ (form : Option Form). RefusesBadText form seen c.dry.result.status) (sym (ap Some c.in-Some-Dry.field-0-is) ∙ c.in-Some-Dry.ensures.form) (ends_refuses (Some (Dry c.in-Some-Dry.k)) seen (g.D.Device.model c.args.disk) (g.D.Device.model c.dry.result.disk) c.dry.result.status c.dry.ensures.ends)
 
 pub returns-in-Some-Dry-clause-named : goal.returns-in-Some-Dry-clause-named
 returns-in-Some-Dry-clause-named g c =
@@ -55,25 +55,25 @@ returns-in-Some-Dry-clause-named g c =
       answered = c.dry.result.answered.items;
       order = c.dry.result.order.items;
     } in
-    subst (λ (form : Option Form). NamesBadLine form seen c.dry.result.status) (sym (ap Some c.in-Some-Dry.field-0-is) ∙ c.in-Some-Dry.ensures.form) (ends_names (Some (Dry c.in-Some-Dry.k)) seen (g.D.Disk.model c.args.disk) (g.D.Disk.model c.dry.result.disk) c.dry.result.status c.dry.ensures.ends)
+    subst (λ (form : Option Form). NamesBadLine form seen c.dry.result.status) (sym (ap Some c.in-Some-Dry.field-0-is) ∙ c.in-Some-Dry.ensures.form) (ends_names (Some (Dry c.in-Some-Dry.k)) seen (g.D.Device.model c.args.disk) (g.D.Device.model c.dry.result.disk) c.dry.result.status c.dry.ensures.ends)
 
 pub returns-in-Some-Drive-clause-promise : goal.returns-in-Some-Drive-clause-promise
 returns-in-Some-Drive-clause-promise g c b s is told opens sound =
-    keeps_promise c.drive_file.result.status b s (g.D.Disk.model c.args.disk) (g.D.Disk.model c.drive_file.result.disk) _ c.an_image_opens_to_one_file.ensures.one told opens sound c.drive_file.ensures.ends
+    keeps_promise c.drive_file.result.status b s (g.D.Device.model c.args.disk) (g.D.Device.model c.drive_file.result.disk) _ c.an_image_opens_to_one_file.ensures.one told opens sound c.drive_file.ensures.ends
 
 pub returns-in-Some-Drive-clause-driven : goal.returns-in-Some-Drive-clause-driven
 returns-in-Some-Drive-clause-driven g c is =
-    is_driven (g.D.Disk.model c.args.disk) (g.D.Disk.model c.drive_file.result.disk) _ c.drive_file.result.status c.an_image_opens_to_one_file.ensures.one c.a_good_file_is_not_refused.ensures c.drive_file.ensures.ends
+    is_driven (g.D.Device.model c.args.disk) (g.D.Device.model c.drive_file.result.disk) _ c.drive_file.result.status c.an_image_opens_to_one_file.ensures.one c.a_good_file_is_not_refused.ensures c.drive_file.ensures.ends
 
 pub returns-in-Some-Drive-clause-refused : goal.returns-in-Some-Drive-clause-refused
 returns-in-Some-Drive-clause-refused g c is =
-    refuses_file (g.D.Disk.model c.args.disk) (g.D.Disk.model c.drive_file.result.disk) _ c.drive_file.result.status c.a_good_file_is_not_refused.ensures c.bytes_are_refused_in_one_way.ensures c.drive_file.ensures.ends
+    refuses_file (g.D.Device.model c.args.disk) (g.D.Device.model c.drive_file.result.disk) _ c.drive_file.result.status c.a_good_file_is_not_refused.ensures c.bytes_are_refused_in_one_way.ensures c.drive_file.ensures.ends
 
 pub returns-in-Some-Create-clause-ends : goal.returns-in-Some-Create-clause-ends
 returns-in-Some-Create-clause-ends g c =
     let seen = seen_by (g.S.Source.left c.args.source.now) (g.S.Source.left c.args.source.now) (g.S.Source.faults c.args.source.now) (g.S.Source.faults c.args.source.now)
     (g.K.Sink.written c.args.sink) (g.K.Sink.written c.create_file.result.sink) (g.K.Sink.faults c.args.sink) (g.K.Sink.faults c.create_file.result.sink) c.create_file.result.answered.items c.create_file.result.order.items in
-    subst (λ (form : Option Form). RunEnds form (g.D.Disk.model c.args.disk) (g.D.Disk.model c.create_file.result.disk) seen c.create_file.result.status) (sym (ap Some c.in-Some-Create.field-0-is) ∙ c.in-Some-Create.ensures.form)
+    subst (λ (form : Option Form). RunEnds form (g.D.Device.model c.args.disk) (g.D.Device.model c.create_file.result.disk) seen c.create_file.result.status) (sym (ap Some c.in-Some-Create.field-0-is) ∙ c.in-Some-Create.ensures.form)
     (c.create_file.ensures.ends (g.S.Source.left c.args.source.now) (g.S.Source.faults c.args.source.now))
 
 pub returns-in-Some-Create-clause-usage : goal.returns-in-Some-Create-clause-usage
@@ -89,8 +89,8 @@ pub returns-in-Some-Create-clause-made : goal.returns-in-Some-Create-clause-made
 returns-in-Some-Create-clause-made g c =
     let seen = seen_by (g.S.Source.left c.args.source.now) (g.S.Source.left c.args.source.now) (g.S.Source.faults c.args.source.now) (g.S.Source.faults c.args.source.now)
     (g.K.Sink.written c.args.sink) (g.K.Sink.written c.create_file.result.sink) (g.K.Sink.faults c.args.sink) (g.K.Sink.faults c.create_file.result.sink) c.create_file.result.answered.items c.create_file.result.order.items in
-    let d = g.D.Disk.model c.args.disk in
-    let e = g.D.Disk.model c.create_file.result.disk in
+    let d = g.D.Device.model c.args.disk in
+    let e = g.D.Device.model c.create_file.result.disk in
     let form = Create c.in-Some-Create.k c.in-Some-Create.pages c.in-Some-Create.log c.in-Some-Create.dcap c.in-Some-Create.icap in
     subst (λ (form : Option Form). IsMadeWhole form seen (disk_seen d e) c.create_file.result.status) (sym (ap Some c.in-Some-Create.field-0-is) ∙ c.in-Some-Create.ensures.form)
     (ends_made (Some form) seen d e c.create_file.result.status (c.create_file.ensures.ends (g.S.Source.left c.args.source.now) (g.S.Source.faults c.args.source.now)))

@@ -36,5 +36,5 @@ returns-clause-keeps g c = λ durable later keeps.
     let frames = frames_are (reads_of op) c.deref-2.result.now change.pages F (get nat_cmp c.mark_imaged.new.frames) (get nat_cmp c.set_changed.new.frames)
     (c.deref-2.ensures.0 ∙ c.reads.ensures) c.mark_imaged.ensures c.set_changed.ensures in
     keeps_after self.turn self.meta self.log F self.stopped _ self.is_store op change well c.append.new.self c.deref.result.now c.args.mark c.append.ensures (get nat_cmp c.set_changed.new.frames) frames
-    (g.D.Disk.model self.disk) (g.met.D.Disk.is_disk self.disk) durable later c.requires.running keeps c.in_ok-changed.ensures c.requires.allowed (c.requires.licensed durable later keeps)
+    (g.D.Device.model self.disk) (g.met.D.Device.is_disk self.disk) durable later c.requires.running keeps c.in_ok-changed.ensures c.requires.allowed (c.requires.licensed durable later keeps)
     c.in_ok-group.ensures.fits (c.deref.ensures.value ∙ c.in_ok-group.ensures.bytes)

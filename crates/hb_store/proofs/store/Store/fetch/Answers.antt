@@ -13,26 +13,26 @@ use Rattle.hb_store.proofs.store.Store.fetch.Goals as goal
 
 pub returns-in_err-page-clause-keeps : goal.returns-in_err-page-clause-keeps
 returns-in_err-page-clause-keeps g c =
-    let d = g.D.Disk.model c.args.self.now.disk in
-    let e = g.D.Disk.model c.read_page.new.self.disk in
+    let d = g.D.Device.model c.args.self.now.disk in
+    let e = g.D.Device.model c.read_page.new.self.disk in
     λ durable later k. subst (λ s. StoreKeeps e s durable later) (sym c.read_page.ensures.kept) (keeps_read d e (seen_as c.args.self.now) durable later c.read_page.ensures.only_reads.stays k)
 
 pub returns-in_err-page-clause-sound : goal.returns-in_err-page-clause-sound
 returns-in_err-page-clause-sound g c =
-    let d = g.D.Disk.model c.args.self.now.disk in
+    let d = g.D.Device.model c.args.self.now.disk in
     let p = err_from_is_err_and c.from_residual.result c.from_residual.ensures.1 in
     λ durable later k sound. rw (p.1, p.2) (λ fault memory. absurd (sound_stop c.spelling_law.ensures.one_page d (seen_as c.args.self.now) durable later c.args.id c.in_err-page.field-0.0
-    (g.met.D.Disk.is_disk c.args.self.now.disk) k (omega (arith, c.if-id-eq0.false)) (omega (arith, c.if-id-self.false)) (no_page_in (get nat_cmp c.args.self.now.frames c.args.id) (sym c.if-contains_key.ensures)) c.in_err-page.ensures.why sound fault memory))
+    (g.met.D.Device.is_disk c.args.self.now.disk) k (omega (arith, c.if-id-eq0.false)) (omega (arith, c.if-id-self.false)) (no_page_in (get nat_cmp c.args.self.now.frames c.args.id) (sym c.if-contains_key.ensures)) c.in_err-page.ensures.why sound fault memory))
 
 pub set_frame-requires-clause-absent : goal.set_frame-requires-clause-absent
 set_frame-requires-clause-absent g c = ap (λ (s : StoreState). s.frame c.args.id) c.read_page.ensures.kept ∙ (no_page_in (get nat_cmp c.args.self.now.frames c.args.id) (sym c.if-contains_key.ensures))
 
 pub returns-in_err-set_frame-clause-keeps : goal.returns-in_err-set_frame-clause-keeps
 returns-in_err-set_frame-clause-keeps g c =
-    let d = g.D.Disk.model c.args.self.now.disk in
-    let e = g.D.Disk.model c.read_page.new.self.disk in
+    let d = g.D.Device.model c.args.self.now.disk in
+    let e = g.D.Device.model c.read_page.new.self.disk in
     let same = c.in_err-set_frame.ensures.kept ∙ c.read_page.ensures.kept in
-    λ durable later k. subst (λ disk. StoreKeeps (g.D.Disk.model disk) (seen_as c.set_frame.new.self) durable later) (sym c.set_frame.ensures.disk)
+    λ durable later k. subst (λ disk. StoreKeeps (g.D.Device.model disk) (seen_as c.set_frame.new.self) durable later) (sym c.set_frame.ensures.disk)
     (subst (λ s. StoreKeeps e s durable later) (sym same) (keeps_read d e (seen_as c.args.self.now) durable later c.read_page.ensures.only_reads.stays k))
 
 pub returns-clause-fetched : goal.returns-clause-fetched
@@ -47,13 +47,13 @@ pub returns-clause-keeps : goal.returns-clause-keeps
 returns-clause-keeps g c =
     let st = seen_as c.args.self.now in
     let page = c.in_ok-page.page in
-    let d = g.D.Disk.model c.args.self.now.disk in
-    let e = g.D.Disk.model c.read_page.new.self.disk in
+    let d = g.D.Device.model c.args.self.now.disk in
+    let e = g.D.Device.model c.read_page.new.self.disk in
     let same = c.in_ok-set_frame.ensures.set ∙ ap (with_frame c.args.id page) c.read_page.ensures.kept in
     let none : st.frame c.args.id ≡ None = (no_page_in (get nat_cmp c.args.self.now.frames c.args.id) (sym c.if-contains_key.ensures)) in
     λ durable later k.
-    let there = is_the_page c.spelling_law.ensures.one_page d st durable later c.args.id page (g.met.D.Disk.is_disk c.args.self.now.disk) k (omega (arith, c.if-id-eq0.false)) (omega (arith, c.if-id-self.false)) none c.in_ok-page.ensures.there in
-    subst (λ disk. StoreKeeps (g.D.Disk.model disk) (seen_as c.set_frame.new.self) durable later) (sym c.set_frame.ensures.disk)
+    let there = is_the_page c.spelling_law.ensures.one_page d st durable later c.args.id page (g.met.D.Device.is_disk c.args.self.now.disk) k (omega (arith, c.if-id-eq0.false)) (omega (arith, c.if-id-self.false)) none c.in_ok-page.ensures.there in
+    subst (λ disk. StoreKeeps (g.D.Device.model disk) (seen_as c.set_frame.new.self) durable later) (sym c.set_frame.ensures.disk)
     (subst (λ s. StoreKeeps e s durable later) (sym same) (keeps_framed e st durable later c.args.id page there (keeps_read d e st durable later c.read_page.ensures.only_reads.stays k)))
 
 pub returns-then-id-eq0-clause-in_frame : goal.returns-then-id-eq0-clause-in_frame
@@ -63,4 +63,4 @@ returns-then-id-eq0-clause-in_frame g c =
       | then-id-eq0-via-then-id-eq0 w ↦ inl (omega (arith, w.if-id-eq0.true))
       | then-id-eq0-via-else-id-eq0+then-id-self w ↦ inr (omega (arith, w.if-id-self.true))
     ] in
-    λ framed. absurd (no_frame_there (g.D.Disk.model st.disk).size (seen_as st) c.args.id st.is_store framed none)
+    λ framed. absurd (no_frame_there (g.D.Device.model st.disk).size (seen_as st) c.args.id st.is_store framed none)

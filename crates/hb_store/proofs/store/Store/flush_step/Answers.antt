@@ -9,7 +9,7 @@ use Rattle.hb_store.proofs.store.Store.flush_step.Goals as goal
 
 pub returns-then-is_idle-clause-keeps_forced : goal.returns-then-is_idle-clause-keeps_forced
 returns-then-is_idle-clause-keeps_forced g c = λ durable later keeps.
-    let d = g.D.Disk.model c.args.self.now.disk in
+    let d = g.D.Device.model c.args.self.now.disk in
     let st = seen_as c.args.self.now in
     let none : c.args.self.now.log.groups ≡ [] = search rules in
     let alone : later ≡ [] = StoreKeeps-alone d st durable later keeps none in
@@ -19,5 +19,5 @@ returns-then-is_idle-clause-keeps_forced g c = λ durable later keeps.
 
 pub returns-then-is_idle-clause-moments : goal.returns-then-is_idle-clause-moments
 returns-then-is_idle-clause-moments g c = λ durable later keeps.
-    let d = g.D.Disk.model c.args.self.now.disk in
-    Leaves-start d (OpensToFirst durable later) (g.met.D.Disk.is_disk c.args.self.now.disk) (StoreKeeps-opens d (seen_as c.args.self.now) durable later keeps)
+    let d = g.D.Device.model c.args.self.now.disk in
+    Leaves-start d (OpensToFirst durable later) (g.met.D.Device.is_disk c.args.self.now.disk) (StoreKeeps-opens d (seen_as c.args.self.now) durable later keeps)

@@ -5,52 +5,52 @@ use Rattle.hb_wal.proofs.log.Wal.force.Goals as goal
 
 pub returns-in_default-clause-moments : goal.returns-in_default-clause-moments
 returns-in_default-clause-moments g c = λ tells payloads has.
-    let d = g.D.Disk.model c.args.disk.now in
+    let d = g.D.Device.model c.args.disk.now in
     let b = some_value d.told tells in
-    nothing_left c.args.self.now (c.in_default.ensures.none.0 refl) d (g.met.D.Disk.is_disk c.args.disk.now) payloads has b.0 b.1
+    nothing_left c.args.self.now (c.in_default.ensures.none.0 refl) d (g.met.D.Device.is_disk c.args.disk.now) payloads has b.0 b.1
 
 pub write_behind_gate-requires-clause-inside : goal.write_behind_gate-requires-clause-inside
 write_behind_gate-requires-clause-inside g c =
     body_inside c.args.self.now c.frame_gate-gate.ensures.log c.in-Some.body.now c.in-Some.ensures.some c.frame_gate-gate.result c.frame_gate-gate.ensures.value
-    (g.D.Disk.model c.args.disk.now) (g.met.D.Disk.is_disk c.args.disk.now) c.requires.inside
+    (g.D.Device.model c.args.disk.now) (g.met.D.Device.is_disk c.args.disk.now) c.requires.inside
 
 pub write_behind_gate-requires-clause-closed : goal.write_behind_gate-requires-clause-closed
 write_behind_gate-requires-clause-closed g c = λ tells.
-    let d = g.D.Disk.model c.args.disk.now in
+    let d = g.D.Device.model c.args.disk.now in
     let b = some_value d.told tells in
     let log = c.requires.log tells in
     at_closed c.args.self.now c.frame_gate-gate.ensures.log c.in-Some.body.now c.in-Some.ensures.some c.frame_gate-gate.result c.frame_gate-gate.ensures.value
-    d (g.met.D.Disk.is_disk c.args.disk.now) c.requires.inside log.0 log.1 b.0 b.1
+    d (g.met.D.Device.is_disk c.args.disk.now) c.requires.inside log.0 log.1 b.0 b.1
 
 pub returns-in_err-write_behind_gate-clause-moments : goal.returns-in_err-write_behind_gate-clause-moments
 returns-in_err-write_behind_gate-clause-moments g c = λ tells payloads has.
-    let d = g.D.Disk.model c.args.disk.now in
+    let d = g.D.Device.model c.args.disk.now in
     let b = some_value d.told tells in
     moments_within c.args.self.now c.frame_gate-gate.ensures.log c.in-Some.body.now c.in-Some.ensures.some c.frame_gate-gate.result c.frame_gate-gate.ensures.value
-    d (g.met.D.Disk.is_disk c.args.disk.now) c.requires.inside payloads has b.0 b.1 (g.D.Disk.model c.write_behind_gate.new.disk) (c.write_behind_gate.ensures.moments tells)
+    d (g.met.D.Device.is_disk c.args.disk.now) c.requires.inside payloads has b.0 b.1 (g.D.Device.model c.write_behind_gate.new.disk) (c.write_behind_gate.ensures.moments tells)
 
 pub returns-in_err-write_behind_gate-clause-place : goal.returns-in_err-write_behind_gate-clause-place
 returns-in_err-write_behind_gate-clause-place g c =
     place_within c.args.self.now c.frame_gate-gate.ensures.log c.in-Some.body.now c.in-Some.ensures.some c.frame_gate-gate.result c.frame_gate-gate.ensures.value
-    (g.D.Disk.model c.args.disk.now) (g.met.D.Disk.is_disk c.args.disk.now) c.requires.inside (g.D.Disk.model c.write_behind_gate.new.disk) c.write_behind_gate.ensures.place
+    (g.D.Device.model c.args.disk.now) (g.met.D.Device.is_disk c.args.disk.now) c.requires.inside (g.D.Device.model c.write_behind_gate.new.disk) c.write_behind_gate.ensures.place
 
 pub returns-clause-place : goal.returns-clause-place
 returns-clause-place g c =
     place_within c.args.self.now c.frame_gate-gate.ensures.log c.in-Some.body.now c.in-Some.ensures.some c.frame_gate-gate.result c.frame_gate-gate.ensures.value
-    (g.D.Disk.model c.args.disk.now) (g.met.D.Disk.is_disk c.args.disk.now) c.requires.inside (g.D.Disk.model c.write_behind_gate.new.disk) c.write_behind_gate.ensures.place
+    (g.D.Device.model c.args.disk.now) (g.met.D.Device.is_disk c.args.disk.now) c.requires.inside (g.D.Device.model c.write_behind_gate.new.disk) c.write_behind_gate.ensures.place
 
 pub returns-clause-moments : goal.returns-clause-moments
 returns-clause-moments g c = λ tells payloads has.
-    let d = g.D.Disk.model c.args.disk.now in
+    let d = g.D.Device.model c.args.disk.now in
     let b = some_value d.told tells in
     moments_within c.args.self.now c.frame_gate-gate.ensures.log c.in-Some.body.now c.in-Some.ensures.some c.frame_gate-gate.result c.frame_gate-gate.ensures.value
-    d (g.met.D.Disk.is_disk c.args.disk.now) c.requires.inside payloads has b.0 b.1 (g.D.Disk.model c.write_behind_gate.new.disk) (c.write_behind_gate.ensures.moments tells)
+    d (g.met.D.Device.is_disk c.args.disk.now) c.requires.inside payloads has b.0 b.1 (g.D.Device.model c.write_behind_gate.new.disk) (c.write_behind_gate.ensures.moments tells)
 
 pub returns-clause-log : goal.returns-clause-log
 returns-clause-log g c = λ payloads has.
-    let d = g.D.Disk.model c.args.disk.now in
-    let new = g.D.Disk.model c.write_behind_gate.new.disk in
+    let d = g.D.Device.model c.args.disk.now in
+    let new = g.D.Device.model c.write_behind_gate.new.disk in
     let written = c.in_ok-write_behind_gate.ensures.written in
     let done = log_anyway c.args.self.now c.frame_gate-gate.ensures.log c.in-Some.body.now c.in-Some.ensures.some c.frame_gate-gate.result c.frame_gate-gate.ensures.value
-    d (g.met.D.Disk.is_disk c.args.disk.now) c.requires.inside payloads has new c.write_behind_gate.ensures.place c.in_ok-write_behind_gate.ensures.written c.in_ok-write_behind_gate.ensures.durable in
+    d (g.met.D.Device.is_disk c.args.disk.now) c.requires.inside payloads has new c.write_behind_gate.ensures.place c.in_ok-write_behind_gate.ensures.written c.in_ok-write_behind_gate.ensures.durable in
     rw c.forget_oldest.ensures done

@@ -14,12 +14,12 @@ use Rattle.hbpi.proofs.restart.creation.write_file.Goals as goal
 
 pub returns-in_err-lay_out-clause-told : goal.returns-in_err-lay_out-clause-told
 returns-in_err-lay_out-clause-told g c =
-    told_before (g.D.Disk.model c.args.disk.now).told (g.D.Disk.model c.lay_out.new.disk).told c.lay_out.ensures.silent
+    told_before (g.D.Device.model c.args.disk.now).told (g.D.Device.model c.lay_out.new.disk).told c.lay_out.ensures.silent
 
 pub write_first_super-requires-clause-closed : goal.write_first_super-requires-clause-closed
 write_first_super-requires-clause-closed g c = λ tells x image opened.
-    let d = g.D.Disk.model c.args.disk.now in
-    let one = g.D.Disk.model c.lay_out.new.disk in
+    let d = g.D.Device.model c.args.disk.now in
+    let one = g.D.Device.model c.lay_out.new.disk in
     let before = some_value d.told (told_before d.told one.told c.lay_out.ensures.silent tells) in
     let laid = at_value d.told (λ b. (e : List ℕ) × (one.told ≡ Some e) × IsLaidOut e c.args.meta.now c.args.page.now) before.0 before.1 c.in_ok-lay_out.ensures.laid in
     let same : x ≡ laid.0 = at_value one.told (λ b. (e : List ℕ) → one.Image e → e ≡ b) laid.0 laid.1 c.in_ok-lay_out.ensures.durable x image in
@@ -29,21 +29,21 @@ write_first_super-requires-clause-closed g c = λ tells x image opened.
 
 pub returns-clause-told : goal.returns-clause-told
 returns-clause-told g c = λ tells.
-    let d = g.D.Disk.model c.args.disk.now in
-    let one = g.D.Disk.model c.lay_out.new.disk in
-    let new = g.D.Disk.model c.write_first_super.new.disk in
+    let d = g.D.Device.model c.args.disk.now in
+    let one = g.D.Device.model c.lay_out.new.disk in
+    let new = g.D.Device.model c.write_first_super.new.disk in
     told_before d.told one.told c.lay_out.ensures.silent (told_before one.told new.told c.write_first_super.ensures.place.silent tells)
 
 pub returns-clause-fresh : goal.returns-clause-fresh
 returns-clause-fresh g c =
-    let d = g.D.Disk.model c.args.disk.now in
-    let one = g.D.Disk.model c.lay_out.new.disk in
-    let new = g.D.Disk.model c.write_first_super.new.disk in
+    let d = g.D.Device.model c.args.disk.now in
+    let one = g.D.Device.model c.lay_out.new.disk in
+    let new = g.D.Device.model c.write_first_super.new.disk in
     let meta = c.args.meta.now in
     let page = c.args.page.now in
     let frame = open_gate ∷ body_bytes 0 meta in
-    let is_disk = g.met.D.Disk.is_disk c.write_first_super.new.disk in
-    let is_one = g.met.D.Disk.is_disk c.lay_out.new.disk in
+    let is_disk = g.met.D.Device.is_disk c.write_first_super.new.disk in
+    let is_one = g.met.D.Device.is_disk c.lay_out.new.disk in
     on_ok_three c.write_first_super.result
     (IfSome one.told (λ b. new.told ≡ Some (overwritten b 0 (open_gate ∷ body_bytes 0 meta))))
     (IfSome new.told (λ b. (e : List ℕ) → new.Image e → e ≡ b))

@@ -7,13 +7,13 @@ use Rattle.hbpi.proofs.restart.creation.write_parts.Goals as goal
 
 pub returns-clause-laid : goal.returns-clause-laid
 returns-clause-laid g c =
-    let d = g.D.Disk.model c.args.disk.now in
-    let one = g.D.Disk.model c.zero.new.self in
-    let two = g.D.Disk.model c.write.new.self in
-    let new = g.D.Disk.model c.sync.new.self in
+    let d = g.D.Device.model c.args.disk.now in
+    let one = g.D.Device.model c.zero.new.self in
+    let two = g.D.Device.model c.write.new.self in
+    let new = g.D.Device.model c.sync.new.self in
     let meta = c.args.meta.now in
     let page = c.args.page.now in
-    let is_disk = g.met.D.Disk.is_disk c.args.disk.now in
+    let is_disk = g.met.D.Device.is_disk c.args.disk.now in
     let P : List ℕ → Type 0 = λ b. get_or b 0 0 ≡ 0 → get_or b 4096 0 ≡ 0 → (x : List ℕ) × (new.told ≡ Some x) × IsLaidOut x meta page in
     on_ok c.sync.result (IfSome d.told P) (if_value d.told P (λ b told first second.
     let zeroed : IfSome d.told (λ x. one.told ≡ Some (overwritten x 8192 (replicate meta.log 0))) =

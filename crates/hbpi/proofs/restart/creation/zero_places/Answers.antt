@@ -6,9 +6,9 @@ use Rattle.hbpi.proofs.restart.creation.zero_places.Goals as goal
 
 pub returns-clause-closed : goal.returns-clause-closed
 returns-clause-closed g c =
-    let d = g.D.Disk.model c.args.disk.now in
-    let new = g.D.Disk.model c.zero_area.new.disk in
-    let is_disk = g.met.D.Disk.is_disk c.args.disk.now in
+    let d = g.D.Device.model c.args.disk.now in
+    let new = g.D.Device.model c.zero_area.new.disk in
+    let is_disk = g.met.D.Device.is_disk c.args.disk.now in
     on_ok_weaker c.zero_area.result (IfSome d.told (λ b. new.told ≡ Some (overwritten b 0 (replicate 8192 0))))
     (IfSome d.told (λ b. (x : List ℕ) × (new.told ≡ Some x) × (get_or x 0 0 ≡ 0) × (get_or x 4096 0 ≡ 0)))
     (λ zeroed. if_value d.told (λ b. (x : List ℕ) × (new.told ≡ Some x) × (get_or x 0 0 ≡ 0) × (get_or x 4096 0 ≡ 0)) (λ b told.

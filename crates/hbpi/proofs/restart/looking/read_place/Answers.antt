@@ -6,7 +6,7 @@ use Rattle.hbpi.proofs.restart.looking.read_place.Goals as goal
 
 pub returns-clause-there : goal.returns-clause-there
 returns-clause-there g c =
-    let told = (g.D.Disk.model c.args.disk.now).told in
+    let told = (g.D.Device.model c.args.disk.now).told in
     let meta = c.args.meta.now in
     let into = c.read.new.into in
     on_ok_weaker c.read.result (IfSome told (λ b. into ≡ take (length into) (drop (8192 + 2 * c.from.result) b)))

@@ -12,44 +12,44 @@ use Rattle.hbpi.proofs.restart.renewal.make_room.Goals as goal
 pub returns-in_err-zero_area-clause-moments : goal.returns-in_err-zero_area-clause-moments
 returns-in_err-zero_area-clause-moments g c = λ touched page placed.
     zeroed_moments c.args.turn c.turn_after-next.result c.args.meta.now c.requires.legal.turn_fits c.turn_after-next.ensures touched page c.sync.result c.zero_area.result
-    (g.D.Disk.model c.args.disk.now) (g.D.Disk.model c.sync.new.self) (g.D.Disk.model c.zero_area.new.disk)
-    (g.met.D.Disk.is_disk c.args.disk.now) (g.met.D.Disk.is_disk c.sync.new.self) (g.met.D.Disk.is_disk c.zero_area.new.disk)
+    (g.D.Device.model c.args.disk.now) (g.D.Device.model c.sync.new.self) (g.D.Device.model c.zero_area.new.disk)
+    (g.met.D.Device.is_disk c.args.disk.now) (g.met.D.Device.is_disk c.sync.new.self) (g.met.D.Device.is_disk c.zero_area.new.disk)
     placed c.sync.ensures.syncs c.sync.ensures.ticks c.area_of.result c.area_of.ensures c.zero_area.ensures.moments c.zero_area.ensures.place
 
 pub returns-clause-moments : goal.returns-clause-moments
 returns-clause-moments g c = λ touched page placed.
     let zeroed = zeroed_ready c.args.turn c.turn_after-next.result c.args.meta.now c.requires.legal.turn_fits c.turn_after-next.ensures touched page c.sync.result c.zero_area.result
-    (g.D.Disk.model c.args.disk.now) (g.D.Disk.model c.sync.new.self) (g.D.Disk.model c.zero_area.new.disk)
-    (g.met.D.Disk.is_disk c.args.disk.now) (g.met.D.Disk.is_disk c.sync.new.self) (g.met.D.Disk.is_disk c.zero_area.new.disk)
+    (g.D.Device.model c.args.disk.now) (g.D.Device.model c.sync.new.self) (g.D.Device.model c.zero_area.new.disk)
+    (g.met.D.Device.is_disk c.args.disk.now) (g.met.D.Device.is_disk c.sync.new.self) (g.met.D.Device.is_disk c.zero_area.new.disk)
     placed c.sync.ensures.syncs c.sync.ensures.ticks c.area_of.result c.area_of.ensures c.zero_area.ensures.moments c.zero_area.ensures.place
     (omega (arith, c.requires.room, c.sync.ensures.ticks.size, c.zero_area.ensures.place.size)) c.in_ok-zero_area.ensures.durable c.in_ok-zero_area.ensures.zeroed in
-    Leaves-then (g.D.Disk.model c.args.disk.now) (g.D.Disk.model c.zero_area.new.disk) (g.D.Disk.model c.clear_hidden.new.disk) (StillOpens c.args.turn c.args.meta.now touched page)
+    Leaves-then (g.D.Device.model c.args.disk.now) (g.D.Device.model c.zero_area.new.disk) (g.D.Device.model c.clear_hidden.new.disk) (StillOpens c.args.turn c.args.meta.now touched page)
     (zeroed_moments c.args.turn c.turn_after-next.result c.args.meta.now c.requires.legal.turn_fits c.turn_after-next.ensures touched page c.sync.result c.zero_area.result
-    (g.D.Disk.model c.args.disk.now) (g.D.Disk.model c.sync.new.self) (g.D.Disk.model c.zero_area.new.disk)
-    (g.met.D.Disk.is_disk c.args.disk.now) (g.met.D.Disk.is_disk c.sync.new.self) (g.met.D.Disk.is_disk c.zero_area.new.disk)
+    (g.D.Device.model c.args.disk.now) (g.D.Device.model c.sync.new.self) (g.D.Device.model c.zero_area.new.disk)
+    (g.met.D.Device.is_disk c.args.disk.now) (g.met.D.Device.is_disk c.sync.new.self) (g.met.D.Device.is_disk c.zero_area.new.disk)
     placed c.sync.ensures.syncs c.sync.ensures.ticks c.area_of.result c.area_of.ensures c.zero_area.ensures.moments c.zero_area.ensures.place)
     (cleared_moments c.args.turn c.turn_after-next.result c.args.meta.now c.requires.legal.turn_fits c.turn_after-next.ensures touched page
-    (g.D.Disk.model c.zero_area.new.disk) (g.D.Disk.model c.clear_hidden.new.disk) (g.met.D.Disk.is_disk c.zero_area.new.disk) (g.met.D.Disk.is_disk c.clear_hidden.new.disk)
+    (g.D.Device.model c.zero_area.new.disk) (g.D.Device.model c.clear_hidden.new.disk) (g.met.D.Device.is_disk c.zero_area.new.disk) (g.met.D.Device.is_disk c.clear_hidden.new.disk)
     zeroed c.clear_hidden.ensures.place (c.clear_hidden.ensures.moments c.args.turn c.args.meta.now c.turn_after-next.ensures zeroed.placed.here.places))
 
 pub returns-clause-ready : goal.returns-clause-ready
 returns-clause-ready g c =
-    let mid = g.D.Disk.model c.zero_area.new.disk in
-    let new = g.D.Disk.model c.clear_hidden.new.disk in
+    let mid = g.D.Device.model c.zero_area.new.disk in
+    let new = g.D.Device.model c.clear_hidden.new.disk in
     let turn = c.args.turn in
     let next = c.turn_after-next.result in
     let meta = c.args.meta.now in
     on_ok_three c.clear_hidden.result (IfSome new.told (λ b. HidesNoOther b next meta)) (IsSynced mid 0 8192 → IsSynced new 0 8192)
     (OnlyReads mid new ⊎ IfSome new.told (λ b. (x : List ℕ) → new.Image x → x ≡ b))
-    ((touched : Option Page) (page : Page) → IsPlaced (g.D.Disk.model c.args.disk.now) turn meta touched page → IsReadyFor new turn meta touched page)
+    ((touched : Option Page) (page : Page) → IsPlaced (g.D.Device.model c.args.disk.now) turn meta touched page → IsReadyFor new turn meta touched page)
     (λ hidden synced durable touched page placed.
     let zeroed = zeroed_ready c.args.turn c.turn_after-next.result c.args.meta.now c.requires.legal.turn_fits c.turn_after-next.ensures touched page c.sync.result c.zero_area.result
-    (g.D.Disk.model c.args.disk.now) (g.D.Disk.model c.sync.new.self) (g.D.Disk.model c.zero_area.new.disk)
-    (g.met.D.Disk.is_disk c.args.disk.now) (g.met.D.Disk.is_disk c.sync.new.self) (g.met.D.Disk.is_disk c.zero_area.new.disk)
+    (g.D.Device.model c.args.disk.now) (g.D.Device.model c.sync.new.self) (g.D.Device.model c.zero_area.new.disk)
+    (g.met.D.Device.is_disk c.args.disk.now) (g.met.D.Device.is_disk c.sync.new.self) (g.met.D.Device.is_disk c.zero_area.new.disk)
     placed c.sync.ensures.syncs c.sync.ensures.ticks c.area_of.result c.area_of.ensures c.zero_area.ensures.moments c.zero_area.ensures.place
     (omega (arith, c.requires.room, c.sync.ensures.ticks.size, c.zero_area.ensures.place.size)) c.in_ok-zero_area.ensures.durable c.in_ok-zero_area.ensures.zeroed in
     cleared_ready c.args.turn c.turn_after-next.result c.args.meta.now c.requires.legal.turn_fits c.turn_after-next.ensures touched page
-    mid new (g.met.D.Disk.is_disk c.zero_area.new.disk) (g.met.D.Disk.is_disk c.clear_hidden.new.disk)
+    mid new (g.met.D.Device.is_disk c.zero_area.new.disk) (g.met.D.Device.is_disk c.clear_hidden.new.disk)
     zeroed c.clear_hidden.ensures.place (c.clear_hidden.ensures.moments turn meta c.turn_after-next.ensures zeroed.placed.here.places)
     hidden (synced zeroed.placed.here.places) durable)
     c.clear_hidden.ensures.hidden (on_ok_given c.clear_hidden.result (IsSynced mid 0 8192) (IsSynced new 0 8192) c.clear_hidden.ensures.synced) c.clear_hidden.ensures.durable

@@ -15,39 +15,39 @@ use Rattle.hbpi.proofs.restart.renewal.renew.Goals as goal
 
 pub returns-in_err-sync-clause-time : goal.returns-in_err-sync-clause-time
 returns-in_err-sync-clause-time g c =
-    let d = g.D.Disk.model c.args.disk.now in
+    let d = g.D.Device.model c.args.disk.now in
     if_value d.told (λ b. IsFoundIn b c.args.found.now.turn c.args.found.now.meta (get nat_cmp c.args.found.now.touched.pages 1) c.args.found.now.count
-    → d.clock ≤ (g.D.Disk.model c.sync.new.self).clock) (λ b told found. c.sync.ensures.ticks.later)
+    → d.clock ≤ (g.D.Device.model c.sync.new.self).clock) (λ b told found. c.sync.ensures.ticks.later)
 
 pub returns-clause-time : goal.returns-clause-time
 returns-clause-time g c =
-    synced_time c.sync.result c.in_ok-sync.field-0 c.in_ok-sync.was (g.D.Disk.model c.args.disk.now) (g.D.Disk.model c.sync.new.self) (g.D.Disk.model c.rewrite.new.disk) (g.met.D.Disk.is_disk c.args.disk.now)
+    synced_time c.sync.result c.in_ok-sync.field-0 c.in_ok-sync.was (g.D.Device.model c.args.disk.now) (g.D.Device.model c.sync.new.self) (g.D.Device.model c.rewrite.new.disk) (g.met.D.Device.is_disk c.args.disk.now)
     c.sync.ensures.syncs c.sync.ensures.ticks c.args.found.now.turn c.args.found.now.meta (get nat_cmp c.args.found.now.touched.pages 1) c.args.found.now.count
     c.an_image_opens_to_one_file.ensures.one c.rewrite.ensures.moments
 
 pub returns-clause-even : goal.returns-clause-even
 returns-clause-even g c =
-    synced_even c.sync.result c.in_ok-sync.field-0 c.in_ok-sync.was (g.D.Disk.model c.args.disk.now) (g.D.Disk.model c.sync.new.self) (g.D.Disk.model c.rewrite.new.disk) (g.met.D.Disk.is_disk c.args.disk.now)
+    synced_even c.sync.result c.in_ok-sync.field-0 c.in_ok-sync.was (g.D.Device.model c.args.disk.now) (g.D.Device.model c.sync.new.self) (g.D.Device.model c.rewrite.new.disk) (g.met.D.Device.is_disk c.args.disk.now)
     c.sync.ensures.syncs c.sync.ensures.ticks c.args.found.now.turn c.args.found.now.meta (get nat_cmp c.args.found.now.touched.pages 1) c.args.found.now.count
     c.an_image_opens_to_one_file.ensures.one c.rewrite.ensures.moments
 
 pub returns-clause-late : goal.returns-clause-late
 returns-clause-late g c =
-    synced_late c.sync.result c.in_ok-sync.field-0 c.in_ok-sync.was (g.D.Disk.model c.args.disk.now) (g.D.Disk.model c.sync.new.self) (g.D.Disk.model c.rewrite.new.disk) (g.met.D.Disk.is_disk c.args.disk.now)
+    synced_late c.sync.result c.in_ok-sync.field-0 c.in_ok-sync.was (g.D.Device.model c.args.disk.now) (g.D.Device.model c.sync.new.self) (g.D.Device.model c.rewrite.new.disk) (g.met.D.Device.is_disk c.args.disk.now)
     c.sync.ensures.syncs c.sync.ensures.ticks c.args.found.now.turn c.args.found.now.meta (get nat_cmp c.args.found.now.touched.pages 1) c.args.found.now.count
     c.an_image_opens_to_one_file.ensures.one c.rewrite.ensures.moments
 
 pub returns-clause-renewed : goal.returns-clause-renewed
 returns-clause-renewed g c =
-    let d = g.D.Disk.model c.args.disk.now in
-    let mid = g.D.Disk.model c.sync.new.self in
-    let new = g.D.Disk.model c.rewrite.new.disk in
+    let d = g.D.Device.model c.args.disk.now in
+    let mid = g.D.Device.model c.sync.new.self in
+    let new = g.D.Device.model c.rewrite.new.disk in
     let turn = c.args.found.now.turn in
     let meta = c.args.found.now.meta in
     let touched = get nat_cmp c.args.found.now.touched.pages 1 in
     let count = c.args.found.now.count in
     on_ok_weaker c.rewrite.result ((page : Page) → IsHere mid turn meta touched page → IsFresh new (next_turn turn) meta (lone meta page))
     (IfSome d.told (λ b. IsFoundIn b turn meta touched count → (s : FileState) → OpensTo b s → IsFresh new (next_turn turn) meta s × ((x : List ℕ) → new.ImageSince (d.clock + 1) x → OpensTo x s)))
-    (synced_renewed c.sync.result c.in_ok-sync.field-0 c.in_ok-sync.was d mid new (g.met.D.Disk.is_disk c.args.disk.now)
+    (synced_renewed c.sync.result c.in_ok-sync.field-0 c.in_ok-sync.was d mid new (g.met.D.Device.is_disk c.args.disk.now)
     c.sync.ensures.syncs c.sync.ensures.ticks turn meta touched count c.an_image_opens_to_one_file.ensures.one c.rewrite.ensures.moments)
     c.rewrite.ensures.fresh

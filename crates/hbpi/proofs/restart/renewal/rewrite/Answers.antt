@@ -15,24 +15,24 @@ pub returns-in_err-settle-clause-moments : goal.returns-in_err-settle-clause-mom
 returns-in_err-settle-clause-moments g c = λ page here.
     let meta = c.args.found.now.meta in
     let touched = get nat_cmp c.args.found.now.touched.pages 1 in
-    Leaves-weaker (g.D.Disk.model c.args.disk.now) (g.D.Disk.model c.settle.new.disk) (StillOpens c.args.found.now.turn meta touched page) (λ x. OpensTo x (lone meta page))
+    Leaves-weaker (g.D.Device.model c.args.disk.now) (g.D.Device.model c.settle.new.disk) (StillOpens c.args.found.now.turn meta touched page) (λ x. OpensTo x (lone meta page))
     (still_to c.args.found.now.turn meta touched page) (c.settle.ensures.moments page here)
 
 pub returns-clause-moments : goal.returns-clause-moments
 returns-clause-moments g c = λ page here.
-    let d = g.D.Disk.model c.args.disk.now in
-    let mid = g.D.Disk.model c.settle.new.disk in
+    let d = g.D.Device.model c.args.disk.now in
+    let mid = g.D.Device.model c.settle.new.disk in
     let meta = c.args.found.now.meta in
     let touched = get nat_cmp c.args.found.now.touched.pages 1 in
-    Leaves-then d mid (g.D.Disk.model c.switch.new.disk) (λ x. OpensTo x (lone meta page))
+    Leaves-then d mid (g.D.Device.model c.switch.new.disk) (λ x. OpensTo x (lone meta page))
     (Leaves-weaker d mid (StillOpens c.args.found.now.turn meta touched page) (λ x. OpensTo x (lone meta page)) (still_to c.args.found.now.turn meta touched page) (c.settle.ensures.moments page here))
     (c.switch.ensures.moments touched page (c.in_ok-settle.ensures.placed page here))
 
 pub returns-clause-fresh : goal.returns-clause-fresh
 returns-clause-fresh g c =
-    let d = g.D.Disk.model c.args.disk.now in
-    let mid = g.D.Disk.model c.settle.new.disk in
-    let new = g.D.Disk.model c.switch.new.disk in
+    let d = g.D.Device.model c.args.disk.now in
+    let mid = g.D.Device.model c.settle.new.disk in
+    let new = g.D.Device.model c.switch.new.disk in
     let turn = c.args.found.now.turn in
     let meta = c.args.found.now.meta in
     let touched = get nat_cmp c.args.found.now.touched.pages 1 in

@@ -17,20 +17,20 @@ pub returns-in-Some-clause-moments : goal.returns-in-Some-clause-moments
 returns-in-Some-clause-moments g c = λ page here.
     let touched = get nat_cmp c.args.touched.now.pages 1 in
     placed_moments c.args.turn (next_turn c.args.turn) c.args.meta.now c.requires.legal.turn_fits refl touched page
-    c.write_page.result (g.D.Disk.model c.args.disk.now) (g.D.Disk.model c.write_page.new.disk) (g.met.D.Disk.is_disk c.args.disk.now) here
+    c.write_page.result (g.D.Device.model c.args.disk.now) (g.D.Device.model c.write_page.new.disk) (g.met.D.Device.is_disk c.args.disk.now) here
     (not_none touched c.in-Some.page.now (sym c.in-Some.ensures.value)) c.write_page.ensures.ticks c.write_page.ensures.place
 
 pub returns-in-Some-clause-placed : goal.returns-in-Some-clause-placed
 returns-in-Some-clause-placed g c =
-    let d = g.D.Disk.model c.args.disk.now in
-    let new = g.D.Disk.model c.write_page.new.disk in
+    let d = g.D.Device.model c.args.disk.now in
+    let new = g.D.Device.model c.write_page.new.disk in
     let turn = c.args.turn in
     let meta = c.args.meta.now in
     let touched = get nat_cmp c.args.touched.now.pages 1 in
     on_ok_weaker c.write_page.result ((b : List ℕ) → new.told ≡ Some b → SpellsPage (place_bytes meta 1 b) c.in-Some.page.now)
     ((page : Page) → IsHere d turn meta touched page → IsPlaced new turn meta touched page)
     (λ there page here.
-    placed_there turn (next_turn turn) meta c.requires.legal.turn_fits refl touched page c.write_page.result d new (g.met.D.Disk.is_disk c.args.disk.now) here
+    placed_there turn (next_turn turn) meta c.requires.legal.turn_fits refl touched page c.write_page.result d new (g.met.D.Device.is_disk c.args.disk.now) here
     (not_none touched c.in-Some.page.now (sym c.in-Some.ensures.value)) c.write_page.ensures.ticks c.write_page.ensures.place
     c.in-Some.page.now (sym c.in-Some.ensures.value) there)
     c.write_page.ensures.there
@@ -38,4 +38,4 @@ returns-in-Some-clause-placed g c =
 pub returns-in-None-clause-placed : goal.returns-in-None-clause-placed
 returns-in-None-clause-placed g c = λ page here.
     placed_untouched c.args.turn (next_turn c.args.turn) c.args.meta.now c.requires.legal.turn_fits refl (get nat_cmp c.args.touched.now.pages 1) page
-    (g.D.Disk.model c.args.disk.now) (g.met.D.Disk.is_disk c.args.disk.now) (sym c.in-None.ensures.value) here
+    (g.D.Device.model c.args.disk.now) (g.met.D.Device.is_disk c.args.disk.now) (sym c.in-None.ensures.value) here

@@ -12,32 +12,32 @@ use Rattle.hbpi.proofs.restart.renewal.switch.Goals as goal
 
 pub returns-in_err-make_room-clause-moments : goal.returns-in_err-make_room-clause-moments
 returns-in_err-make_room-clause-moments g c = λ touched page placed.
-    let d = g.D.Disk.model c.args.disk.now in
-    let mid = g.D.Disk.model c.make_room.new.disk in
+    let d = g.D.Device.model c.args.disk.now in
+    let mid = g.D.Device.model c.make_room.new.disk in
     let turn = c.args.turn in
     let meta = c.args.meta.now in
     Leaves-weaker d mid (StillOpens turn meta touched page) (λ x. OpensTo x (lone meta page)) (still_to turn meta touched page) (c.make_room.ensures.moments touched page placed)
 
 pub returns-clause-moments : goal.returns-clause-moments
 returns-clause-moments g c = λ touched page placed.
-    let d = g.D.Disk.model c.args.disk.now in
-    let mid = g.D.Disk.model c.make_room.new.disk in
-    let new = g.D.Disk.model c.write_super.new.disk in
+    let d = g.D.Device.model c.args.disk.now in
+    let mid = g.D.Device.model c.make_room.new.disk in
+    let new = g.D.Device.model c.write_super.new.disk in
     let turn = c.args.turn in
     let next = c.turn_after.result in
     let meta = c.args.meta.now in
     let ready = c.in_ok-make_room.ensures.ready touched page placed in
     Leaves-then d mid new (λ x. OpensTo x (lone meta page))
     (Leaves-weaker d mid (StillOpens turn meta touched page) (λ x. OpensTo x (lone meta page)) (still_to turn meta touched page) (c.make_room.ensures.moments touched page placed))
-    (super_moments turn next meta c.requires.legal.turn_fits c.turn_after.ensures touched page mid new (g.met.D.Disk.is_disk c.make_room.new.disk) ready
+    (super_moments turn next meta c.requires.legal.turn_fits c.turn_after.ensures touched page mid new (g.met.D.Device.is_disk c.make_room.new.disk) ready
     (size_after c.make_room.result 5 d mid c.make_room.ensures.run c.requires.room) c.requires.one
     (c.write_super.ensures.moments turn meta c.turn_after.ensures ready.placed.here.places))
 
 pub returns-clause-fresh : goal.returns-clause-fresh
 returns-clause-fresh g c =
-    let d = g.D.Disk.model c.args.disk.now in
-    let mid = g.D.Disk.model c.make_room.new.disk in
-    let new = g.D.Disk.model c.write_super.new.disk in
+    let d = g.D.Device.model c.args.disk.now in
+    let mid = g.D.Device.model c.make_room.new.disk in
+    let new = g.D.Device.model c.write_super.new.disk in
     let turn = c.args.turn in
     let next = c.turn_after.result in
     let meta = c.args.meta.now in
@@ -45,7 +45,7 @@ returns-clause-fresh g c =
     (IfSome mid.told (λ b. IsNewest b turn meta → IfSome new.told (λ x. IsNewest x next meta)))
     ((touched : Option Page) (page : Page) → IsPlaced d turn meta touched page → IsFresh new (next_turn turn) meta (lone meta page))
     (λ durable newest touched page placed.
-    super_fresh turn next meta c.requires.legal.turn_fits c.turn_after.ensures touched page mid new (g.met.D.Disk.is_disk c.make_room.new.disk)
+    super_fresh turn next meta c.requires.legal.turn_fits c.turn_after.ensures touched page mid new (g.met.D.Device.is_disk c.make_room.new.disk)
     (c.in_ok-make_room.ensures.ready touched page placed) (size_after c.make_room.result 5 d mid c.make_room.ensures.run c.requires.room) c.requires.one
-    (g.met.D.Disk.is_disk c.write_super.new.disk) c.write_super.ensures.place durable newest)
+    (g.met.D.Device.is_disk c.write_super.new.disk) c.write_super.ensures.place durable newest)
     c.write_super.ensures.durable (c.write_super.ensures.newest turn meta c.turn_after.ensures)

@@ -8,22 +8,22 @@ use Rattle.hbpi.proofs.restart.renewal.write_page.Goals as goal
 
 pub returns-clause-there : goal.returns-clause-there
 returns-clause-there g c =
-    let d = g.D.Disk.model c.args.disk.now in
-    let new = g.D.Disk.model c.write.new.self in
+    let d = g.D.Device.model c.args.disk.now in
+    let new = g.D.Device.model c.write.new.self in
     let meta = c.args.meta.now in
     let bytes = c.encode.new.into in
     on_ok_weaker c.write.result (IfSome d.told (λ b. new.told ≡ Some (overwritten b (8192 + 2 * c.from.result) bytes)))
     ((b : List ℕ) → new.told ≡ Some b → SpellsPage (place_bytes meta 1 b) c.args.page.now)
-    (page_written d new (g.met.D.Disk.is_disk c.args.disk.now) (8192 + 2 * c.from.result) bytes meta c.args.page.now (page_at_place c.from.result meta c.from.ensures) c.encode.ensures c.requires.room c.requires.some
+    (page_written d new (g.met.D.Device.is_disk c.args.disk.now) (8192 + 2 * c.from.result) bytes meta c.args.page.now (page_at_place c.from.result meta c.from.ensures) c.encode.ensures c.requires.room c.requires.some
     c.write.ensures.writes.silent)
     c.write.ensures.writes.written
 
 pub returns-clause-place : goal.returns-clause-place
 returns-clause-place g c =
-    let d = g.D.Disk.model c.args.disk.now in
-    let new = g.D.Disk.model c.write.new.self in
+    let d = g.D.Device.model c.args.disk.now in
+    let new = g.D.Device.model c.write.new.self in
     let meta = c.args.meta.now in
     let bytes = c.encode.new.into in
     becomes_there d new (8192 + 2 * c.from.result) (length bytes) meta (page_at_place c.from.result meta c.from.ensures) c.encode.ensures.long
-    (Becomes-write c.write.result (8192 + 2 * c.from.result) bytes d new (g.met.D.Disk.is_disk c.args.disk.now) (g.met.D.Disk.is_disk c.write.new.self)
+    (Becomes-write c.write.result (8192 + 2 * c.from.result) bytes d new (g.met.D.Device.is_disk c.args.disk.now) (g.met.D.Device.is_disk c.write.new.self)
     (omega (arith, c.from.ensures, c.encode.ensures.long, c.requires.room, c.requires.some)) c.write.ensures.writes c.write.ensures.ticks)

@@ -23,20 +23,20 @@ change-requires-clause-ready g c =
 
 pub returns-in-Answer-clause-acts : goal.returns-in-Answer-clause-acts
 returns-in-Answer-clause-acts g c =
-    acts_by (g.D.Disk.model (core_disk c.args.self.now)) (core_seen c.args.self.now) c.take_effect.result (g.D.Disk.model (core_disk c.take_effect.new.self)) (core_seen c.take_effect.new.self)
+    acts_by (g.D.Device.model (core_disk c.args.self.now)) (core_seen c.args.self.now) c.take_effect.result (g.D.Device.model (core_disk c.take_effect.new.self)) (core_seen c.take_effect.new.self)
     c.number-number.result c.index.result.now (Answer c.in-Answer.reply) c.number-number.ensures (found_at c.args.self.now.lines.items c.args.self.now.taken (length c.args.self.now.order.items) c.index.result.now (c.requires.whole.walking c.requires.walking) c.requires.whole.few c.index.ensures) c.in-Answer.ensures (c.take_effect.ensures.moved, c.take_effect.ensures.joined)
 
 pub returns-in-Change-clause-acts : goal.returns-in-Change-clause-acts
 returns-in-Change-clause-acts g c =
-    acts_by (g.D.Disk.model (core_disk c.args.self.now)) (core_seen c.args.self.now) c.change.result (g.D.Disk.model (core_disk c.change.new.self)) (core_seen c.change.new.self)
+    acts_by (g.D.Device.model (core_disk c.args.self.now)) (core_seen c.args.self.now) c.change.result (g.D.Device.model (core_disk c.change.new.self)) (core_seen c.change.new.self)
     c.number-number.result c.index.result.now (Change c.in-Change.op) c.number-number.ensures (found_at c.args.self.now.lines.items c.args.self.now.taken (length c.args.self.now.order.items) c.index.result.now (c.requires.whole.walking c.requires.walking) c.requires.whole.few c.index.ensures) c.in-Change.ensures c.change.ensures.changes
 
 pub returns-in-Full-clause-acts : goal.returns-in-Full-clause-acts
 returns-in-Full-clause-acts g c =
-    acts_by (g.D.Disk.model (core_disk c.args.self.now)) (core_seen c.args.self.now) c.refuse.result (g.D.Disk.model (core_disk c.refuse.new.self)) (core_seen c.refuse.new.self)
+    acts_by (g.D.Device.model (core_disk c.args.self.now)) (core_seen c.args.self.now) c.refuse.result (g.D.Device.model (core_disk c.refuse.new.self)) (core_seen c.refuse.new.self)
     c.number-number.result c.index.result.now Full c.number-number.ensures (found_at c.args.self.now.lines.items c.args.self.now.taken (length c.args.self.now.order.items) c.index.result.now (c.requires.whole.walking c.requires.walking) c.requires.whole.few c.index.ensures) c.in-Full.ensures (c.refuse.ensures.answered, c.refuse.ensures.idle)
 
 pub returns-in-Damaged-clause-acts : goal.returns-in-Damaged-clause-acts
 returns-in-Damaged-clause-acts g c =
-    acts_by (g.D.Disk.model (core_disk c.args.self.now)) (core_seen c.args.self.now) c.stop_at.result (g.D.Disk.model (core_disk c.stop_at.new.self)) (core_seen c.stop_at.new.self)
+    acts_by (g.D.Device.model (core_disk c.args.self.now)) (core_seen c.args.self.now) c.stop_at.result (g.D.Device.model (core_disk c.stop_at.new.self)) (core_seen c.stop_at.new.self)
     c.number-number.result c.index.result.now (Damaged c.in-Damaged.page c.in-Damaged.why) c.number-number.ensures (found_at c.args.self.now.lines.items c.args.self.now.taken (length c.args.self.now.order.items) c.index.result.now (c.requires.whole.walking c.requires.walking) c.requires.whole.few c.index.ensures) c.in-Damaged.ensures (c.stop_at.ensures.stopped, c.stop_at.ensures.why)

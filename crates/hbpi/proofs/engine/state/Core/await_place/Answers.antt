@@ -15,10 +15,10 @@ overflow_cast-len g c =
 
 pub returns-then-place-settled-clause-keeps : goal.returns-then-place-settled-clause-keeps
 returns-then-place-settled-clause-keeps g c =
-    let P : g.row.D.Denot → Type 0 = λ x. KeepsAt (g.D.Disk.model (core_disk c.args.self.now)) (core_seen c.args.self.now) c.answer_kept.result (g.D.Disk.model x) (core_seen c.answer_kept.new.self) in
+    let P : g.row.D.Denot → Type 0 = λ x. KeepsAt (g.D.Device.model (core_disk c.args.self.now)) (core_seen c.args.self.now) c.answer_kept.result (g.D.Device.model x) (core_seen c.answer_kept.new.self) in
     let answers = c.answer_kept.ensures.answers in
     subst P (sym c.answer_kept.ensures.disk)
-    (answered_keeps (g.D.Disk.model (core_disk c.args.self.now)) (g.met.D.Disk.is_disk (core_disk c.args.self.now)) (core_seen c.args.self.now) c.requires.going
+    (answered_keeps (g.D.Device.model (core_disk c.args.self.now)) (g.met.D.Device.is_disk (core_disk c.args.self.now)) (core_seen c.args.self.now) c.requires.going
     c.answer_kept.result (core_seen c.answer_kept.new.self) answers.0 answers.1 answers.2
     (let at : answers.1 ≡ c.args.place = same_place c.args.place answers.1 c.args.self.now.session answers.0 c.requires.awaits answers.2 in
     let long : c.len.result ≡ length c.args.self.now.order.items = omega (arith, c.len.ensures, c.args.self.now.order.ok.0) in
@@ -27,7 +27,7 @@ returns-then-place-settled-clause-keeps g c =
 
 pub returns-clause-keeps : goal.returns-clause-keeps
 returns-clause-keeps g c =
-    awaiting_forces (g.D.Disk.model (core_disk c.args.self.now)) (g.D.Disk.model (core_disk c.force.new.self)) (core_seen c.args.self.now) c.requires.going c.requires.whole c.force.result (core_seen c.force.new.self)
+    awaiting_forces (g.D.Device.model (core_disk c.args.self.now)) (g.D.Device.model (core_disk c.force.new.self)) (core_seen c.args.self.now) c.requires.going c.requires.whole c.force.result (core_seen c.force.new.self)
     c.args.place c.requires.awaits
     (let long : c.len.result ≡ length c.args.self.now.order.items = omega (arith, c.len.ensures, c.args.self.now.order.ok.0) in
     let settled : c.settled.result ≡ settled_of (core_seen c.args.self.now) = c.settled.ensures ∙ ap (mark_of c.args.self.now.store.log.groups) long in
@@ -36,5 +36,5 @@ returns-clause-keeps g c =
 
 pub returns-clause-safe : goal.returns-clause-safe
 returns-clause-safe g c =
-    awaiting_safe (g.D.Disk.model (core_disk c.args.self.now)) (g.D.Disk.model (core_disk c.force.new.self)) (core_seen c.args.self.now) c.requires.going c.requires.whole c.force.result (core_seen c.force.new.self)
+    awaiting_safe (g.D.Device.model (core_disk c.args.self.now)) (g.D.Device.model (core_disk c.force.new.self)) (core_seen c.args.self.now) c.requires.going c.requires.whole c.force.result (core_seen c.force.new.self)
     c.args.place c.requires.awaits c.force.ensures

@@ -15,7 +15,7 @@ returns-in-Ok-clause-changes g c =
         commits = subst M long c.in-Ok.ensures.commits;
         new_is = c.take_effect.ensures.joined;
         keeps = λ durable later kept.
-            let P : g.row.D.Denot → Type 0 = λ x. StoreKeeps (g.D.Disk.model x) (seen_as c.commit.new.self) durable (with_op durable later c.args.op) in
+            let P : g.row.D.Denot → Type 0 = λ x. StoreKeeps (g.D.Device.model x) (seen_as c.commit.new.self) durable (with_op durable later c.args.op) in
             subst P (sym c.take_effect.ensures.disk) (c.in-Ok.ensures.keeps durable later kept);
       },
     )

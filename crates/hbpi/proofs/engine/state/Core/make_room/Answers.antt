@@ -8,12 +8,12 @@ use Rattle.hbpi.proofs.engine.state.Core.make_room.Goals as goal
 
 pub returns-then-pending-eq0-clause-keeps : goal.returns-then-pending-eq0-clause-keeps
 returns-then-pending-eq0-clause-keeps g c =
-    let P : g.row.D.Denot → Type 0 = λ x. KeepsAt (g.D.Disk.model (core_disk c.args.self.now)) (core_seen c.args.self.now) c.refuse.result (g.D.Disk.model x) (core_seen c.refuse.new.self) in
+    let P : g.row.D.Denot → Type 0 = λ x. KeepsAt (g.D.Device.model (core_disk c.args.self.now)) (core_seen c.args.self.now) c.refuse.result (g.D.Device.model x) (core_seen c.refuse.new.self) in
     subst P (sym c.refuse.ensures.disk)
-    (full_keeps (g.D.Disk.model (core_disk c.args.self.now)) (g.met.D.Disk.is_disk (core_disk c.args.self.now)) (core_seen c.args.self.now) c.requires.going c.requires.walking
+    (full_keeps (g.D.Device.model (core_disk c.args.self.now)) (g.met.D.Device.is_disk (core_disk c.args.self.now)) (core_seen c.args.self.now) c.requires.going c.requires.walking
     c.refuse.result (core_seen c.refuse.new.self) c.number-number.result c.number-number.ensures c.requires.waits c.refuse.ensures.answered c.refuse.ensures.idle)
 
 pub returns-clause-safe : goal.returns-clause-safe
 returns-clause-safe g c =
-    force_safe (g.D.Disk.model (core_disk c.args.self.now)) (g.D.Disk.model (core_disk c.force.new.self)) (core_seen c.args.self.now) c.requires.going outcomes.Helped c.force.result (core_seen c.force.new.self)
+    force_safe (g.D.Device.model (core_disk c.args.self.now)) (g.D.Device.model (core_disk c.force.new.self)) (core_seen c.args.self.now) c.requires.going outcomes.Helped c.force.result (core_seen c.force.new.self)
     c.requires.whole (λ x there. (c.requires.walking, there)) (λ number is. cc is) c.force.ensures

@@ -7,12 +7,12 @@ use Rattle.hbpi.proofs.engine.state.Core.step.Goals as goal
 
 pub returns-then-is_some-clause-keeps : goal.returns-then-is_some-clause-keeps
 returns-then-is_some-clause-keeps g c =
-    stopped_keeps (g.D.Disk.model (core_disk c.args.self.now)) (g.met.D.Disk.is_disk (core_disk c.args.self.now)) (core_seen c.args.self.now)
+    stopped_keeps (g.D.Device.model (core_disk c.args.self.now)) (g.met.D.Device.is_disk (core_disk c.args.self.now)) (core_seen c.args.self.now)
     (some_so c.args.self.now.stop (sym c.is_some.ensures ∙ c.if-is_some.true))
 
 pub returns-in-Idle-clause-keeps : goal.returns-in-Idle-clause-keeps
 returns-in-Idle-clause-keeps g c =
-    let P : g.row.D.Denot → Type 0 = λ x. KeepsAt (g.D.Disk.model (core_disk c.args.self.now)) (core_seen c.args.self.now) c.take_line.result (g.D.Disk.model x) (core_seen c.take_line.new.self) in
+    let P : g.row.D.Denot → Type 0 = λ x. KeepsAt (g.D.Device.model (core_disk c.args.self.now)) (core_seen c.args.self.now) c.take_line.result (g.D.Device.model x) (core_seen c.take_line.new.self) in
     subst P (sym c.take_line.ensures.disk)
-    (next_keeps (g.D.Disk.model (core_disk c.args.self.now)) (g.met.D.Disk.is_disk (core_disk c.args.self.now)) (core_seen c.args.self.now)
+    (next_keeps (g.D.Device.model (core_disk c.args.self.now)) (g.met.D.Device.is_disk (core_disk c.args.self.now)) (core_seen c.args.self.now)
     (none_so c.args.self.now.stop (sym c.is_some.ensures ∙ c.if-is_some.false)) c.take_line.result (core_seen c.take_line.new.self) c.in-Idle.is c.take_line.ensures.took)

@@ -14,25 +14,25 @@ use Rattle.hbpi.proofs.engine.state.Core.walk.Goals as goal
 pub returns-in-Ok-clause-keeps : goal.returns-in-Ok-clause-keeps
 returns-in-Ok-clause-keeps g c =
     let old = core_seen c.args.self.now in
-    let d = g.D.Disk.model (core_disk c.args.self.now) in
+    let d = g.D.Device.model (core_disk c.args.self.now) in
     let st = seen_as c.fetch.new.self in
-    let m = g.D.Disk.model c.fetch.new.self.disk in
-    let P : g.row.D.Denot → Type 0 = λ x. KeepsAt (g.D.Disk.model (core_disk c.args.self.now)) (core_seen c.args.self.now) c.act.result (g.D.Disk.model x) (core_seen c.act.new.self) in
-    let A : g.row.D.Denot → Type 0 = λ x. Acts (g.D.Disk.model c.fetch.new.self.disk) (with_store (seen_as c.fetch.new.self) (core_seen c.args.self.now)) c.act.result (g.D.Disk.model x) (core_seen c.act.new.self) in
+    let m = g.D.Device.model c.fetch.new.self.disk in
+    let P : g.row.D.Denot → Type 0 = λ x. KeepsAt (g.D.Device.model (core_disk c.args.self.now)) (core_seen c.args.self.now) c.act.result (g.D.Device.model x) (core_seen c.act.new.self) in
+    let A : g.row.D.Denot → Type 0 = λ x. Acts (g.D.Device.model c.fetch.new.self.disk) (with_store (seen_as c.fetch.new.self) (core_seen c.args.self.now)) c.act.result (g.D.Device.model x) (core_seen c.act.new.self) in
     let R : ℕ → Type 0 = λ n. Fetched n (seen_as c.args.self.now.store) (seen_as c.fetch.new.self) in
     subst P (sym c.act.ensures.disk)
-    (acts_keeps c.operations_do_as_the_machine.ensures d m (g.met.D.Disk.is_disk (core_disk c.args.self.now)) old st c.requires.going c.requires.walking c.requires.script
+    (acts_keeps c.operations_do_as_the_machine.ensures d m (g.met.D.Device.is_disk (core_disk c.args.self.now)) old st c.requires.going c.requires.walking c.requires.script
     (c.must_wait.ensures.goes c.if-must_wait.false) c.in-Ok.ensures.only_reads (subst R (ap (λ (x : Meta). x.root) c.meta.ensures.meta) c.in-Ok.ensures.fetched) c.in-Ok.ensures.keeps
     c.act.result (core_seen c.act.new.self) (subst A c.act.ensures.disk c.act.ensures.acts))
 
 pub returns-in-Ok-clause-safe : goal.returns-in-Ok-clause-safe
 returns-in-Ok-clause-safe g c =
     let old = core_seen c.args.self.now in
-    let d = g.D.Disk.model (core_disk c.args.self.now) in
+    let d = g.D.Device.model (core_disk c.args.self.now) in
     let st = seen_as c.fetch.new.self in
-    let m = g.D.Disk.model c.fetch.new.self.disk in
-    let P : g.row.D.Denot → Type 0 = λ x. StepsSafely (g.D.Disk.model (core_disk c.args.self.now)) (core_seen c.args.self.now) c.act.result (g.D.Disk.model x) (core_seen c.act.new.self) in
-    let A : g.row.D.Denot → Type 0 = λ x. Acts (g.D.Disk.model c.fetch.new.self.disk) (with_store (seen_as c.fetch.new.self) (core_seen c.args.self.now)) c.act.result (g.D.Disk.model x) (core_seen c.act.new.self) in
+    let m = g.D.Device.model c.fetch.new.self.disk in
+    let P : g.row.D.Denot → Type 0 = λ x. StepsSafely (g.D.Device.model (core_disk c.args.self.now)) (core_seen c.args.self.now) c.act.result (g.D.Device.model x) (core_seen c.act.new.self) in
+    let A : g.row.D.Denot → Type 0 = λ x. Acts (g.D.Device.model c.fetch.new.self.disk) (with_store (seen_as c.fetch.new.self) (core_seen c.args.self.now)) c.act.result (g.D.Device.model x) (core_seen c.act.new.self) in
     let R : ℕ → Type 0 = λ n. Fetched n (seen_as c.args.self.now.store) (seen_as c.fetch.new.self) in
     subst P (sym c.act.ensures.disk)
     (acts_safe d m c.in-Ok.ensures.only_reads old c.requires.going c.requires.walking c.requires.whole st (subst R (ap (λ (x : Meta). x.root) c.meta.ensures.meta) c.in-Ok.ensures.fetched)
@@ -41,14 +41,14 @@ returns-in-Ok-clause-safe g c =
 pub returns-in-Err-clause-keeps : goal.returns-in-Err-clause-keeps
 returns-in-Err-clause-keeps g c =
     let old = core_seen c.args.self.now in
-    let d = g.D.Disk.model (core_disk c.args.self.now) in
-    let m = g.D.Disk.model c.fetch.new.self.disk in
+    let d = g.D.Device.model (core_disk c.args.self.now) in
+    let m = g.D.Device.model c.fetch.new.self.disk in
     let root = ap (λ (x : Meta). x.root) c.meta.ensures.meta in
-    let P : g.row.D.Denot → Type 0 = λ x. KeepsAt (g.D.Disk.model (core_disk c.args.self.now)) (core_seen c.args.self.now) c.give_up.result (g.D.Disk.model x) (core_seen c.give_up.new.self) in
+    let P : g.row.D.Denot → Type 0 = λ x. KeepsAt (g.D.Device.model (core_disk c.args.self.now)) (core_seen c.args.self.now) c.give_up.result (g.D.Device.model x) (core_seen c.give_up.new.self) in
     let G : StoreState → Type 0 = λ st. GivesUp c.in-Err.stop (with_store st (core_seen c.args.self.now)) c.give_up.result (core_seen c.give_up.new.self) in
     subst P (sym c.give_up.ensures.disk)
-    (gave_up_keeps d (g.met.D.Disk.is_disk (core_disk c.args.self.now)) old c.requires.going c.requires.walking m c.in-Err.ensures.only_reads c.give_up.result (core_seen c.give_up.new.self) c.in-Err.stop
+    (gave_up_keeps d (g.met.D.Device.is_disk (core_disk c.args.self.now)) old c.requires.going c.requires.walking m c.in-Err.ensures.only_reads c.give_up.result (core_seen c.give_up.new.self) c.in-Err.stop
     (subst G c.in-Err.ensures.kept c.give_up.ensures.gives_up) (c.must_wait.ensures.goes c.if-must_wait.false)
     (not_framed (seen_as c.args.self.now.store).frame c.meta.result.now.root (seen_as c.args.self.now.store).meta.root root (λ some. cc (c.in-Err.ensures.in_frame some).0))
-    (λ durable later keeps. let S : StoreState → Type 0 = λ st. StoreKeeps (g.D.Disk.model c.fetch.new.self.disk) st durable later in subst S c.in-Err.ensures.kept (c.in-Err.ensures.keeps durable later keeps))
+    (λ durable later keeps. let S : StoreState → Type 0 = λ st. StoreKeeps (g.D.Device.model c.fetch.new.self.disk) st durable later in subst S c.in-Err.ensures.kept (c.in-Err.ensures.keeps durable later keeps))
     (λ n done kept fault memory. is_a_page (seen_as c.args.self.now.store).meta c.meta.result.now.root root c.requires.whole.one_page (c.in-Err.ensures.sound kept.durable kept.later kept.keeps kept.sound fault memory)))

@@ -1,0 +1,36 @@
+-- An area that was zeroed and synced has the log without a frame.
+use Rattle.std.proofs.Common.{◌≡◌, ◌+◌, ◌-◌, ◌≤◌, ℕ, List, [], ◌++◌, Option, Some, None, IfSome, Result, Ok, Err, length, replicate, take, drop, refl, sym, ap, ◌∙◌, subst, arith}
+use Rattle.std.proofs.lemmas.List.{length-replicate}
+use Rattle.hb_disk.specs.Model.{DiskModel, IsDisk, overwritten}
+use Rattle.hb_disk.specs.Calls.{Writes, Syncs}
+use Rattle.hb_disk.specs.RunLaws.{IsSynced-sync, if_value, told_written, some_same}
+use Rattle.hb_disk.specs.TornLaws.{overwritten-reads}
+use Rattle.hb_wal.specs.Frames.{range}
+use Rattle.hb_wal.specs.Log.{LogState}
+use Rattle.hb_wal.specs.Forces.{HasLog}
+
+-- what a read of the area gives then
+zeros_read : (b : List ℕ) (area len : ℕ) → area + len ≤ length b → range area len (overwritten b area (replicate len 0)) ≡ replicate len 0
+zeros_read b area len fits =
+    let zeros : length {A = ℕ} (replicate len 0) ≡ len = length-replicate len 0 in
+    ap (λ (n : ℕ). take n (drop area (overwritten b area (replicate len 0)))) (sym zeros)
+    ∙ overwritten-reads b area (replicate len 0) (omega (arith, zeros, fits))
+
+module _ (old mid new : DiskModel) (area len : ℕ) (is_old : IsDisk old) (inside : area + len ≤ old.size) {T E F G : Type 0}
+    (zeroed : Result T E) (v : T) (zero_ok : zeroed ≡ Ok v) (writes : Writes area (replicate len 0) zeroed old mid)
+    (synced : Result F G) (w : F) (sync_ok : synced ≡ Ok w) (syncs : Syncs synced mid new) where
+  zeros_told : (o : Option (List ℕ)) → old.told ≡ o → (b : List ℕ) → new.told ≡ Some b → range area len b ≡ replicate (len - 0) 0
+  zeros_told None none b told = cc (writes.silent none, syncs.same)
+  zeros_told (Some a) is b told =
+      let after : mid.told ≡ Some (overwritten a area (replicate len 0)) = told_written zeroed v area (replicate len 0) old mid a zero_ok is writes in
+      let same : b ≡ overwritten a area (replicate len 0) = some_same b (overwritten a area (replicate len 0)) (sym told ∙ syncs.same ∙ after) in
+      let long : length a ≡ old.size = is_old.long a (is_old.as_read a is) in
+      ap (λ (l : List ℕ). range area len l) same ∙ zeros_read a area len (omega (arith, long, inside)) ∙ ap (λ (n : ℕ). replicate n 0) (omega arith)
+
+  pub zeroed_log : HasLog new (record { area = area; len = len; written = 0; groups = [] }) []
+  zeroed_log = record {
+    synced = IsSynced-sync synced w mid new area len sync_ok syncs;
+    payloads_fit = λ k d below. absurd (omega (arith, below));
+    count = refl;
+    reads = if_value new.told (λ b. range area len b ≡ replicate (len - 0) 0) (λ b told. zeros_told old.told refl b told);
+  }
