@@ -38,11 +38,12 @@ module _ (area len left : ℕ) (b payload behind : List ℕ) (payloads : List (L
       ∙ sym (append_assoc (frames payloads) (frame_bytes payload) (range (area + (len - after)) after b))
       ∙ ap (λ (l : List ℕ). l ++ range (area + (len - after)) after b) (sym (frames-push payloads payload))
 
-pub HasRead-more : (old now new : DiskModel) (area len left : ℕ) (payloads : List (List ℕ)) (payload : List ℕ) → HasRead old now area len left payloads → OnlyReads now new
+pub HasRead-more : (old now new : DiskModel) (area len left : ℕ) (payloads : List (List ℕ)) (payload : List ℕ) → HasRead old now area len left payloads → OnlyReads now new → new.read_faults ≡ now.read_faults
     → IsPayload payload → 5 + length payload ≤ left → IfSome now.told (λ b. FrameIs (Some payload) (range (area + (len - left)) left b))
     → HasRead old new area len (left - (5 + length payload)) (payloads ++ payload ∷ [])
-HasRead-more old now new area len left payloads payload so_far reads is_payload fits frame = record {
+HasRead-more old now new area len left payloads payload so_far reads calm is_payload fits frame = record {
   only_reads = OnlyReads-then old now new so_far.only_reads reads;
+  no_fault = calm ∙ so_far.no_fault;
   fits = All-push IsPayload payloads payload so_far.fits is_payload;
   count = omega (arith, ap (λ (l : List ℕ). length l) (frames-push payloads payload), length-append (frames payloads) (frame_bytes payload), length-append (frame_bytes payload) [], length-frame payload, so_far.count, fits);
   read = if_value old.told (λ b. range area len b ≡ frames (payloads ++ payload ∷ []) ++ range (area + (len - (left - (5 + length payload)))) (left - (5 + length payload)) b) (λ b told.

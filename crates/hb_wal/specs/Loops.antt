@@ -4,9 +4,10 @@ use Rattle.hb_disk.specs.Model.{DiskModel}
 use Rattle.hb_disk.specs.Calls.{OnlyReads}
 use Rattle.hb_wal.specs.Frames.{frames, IsPayload, range}
 
--- The frames of these payloads were read from the front of the area, and so many bytes are left.
+-- The frames of these payloads were read from the front of the area, so many bytes are left, and no read failed.
 pub record HasRead (old now : DiskModel) (area len left : ℕ) (payloads : List (List ℕ)) : Type 0 where
   pub only_reads : OnlyReads old now
+  pub no_fault : now.read_faults ≡ old.read_faults
   pub fits : All IsPayload payloads
   pub count : length (frames payloads) + left ≡ len
   pub read : IfSome old.told (λ b. range area len b ≡ frames payloads ++ range (area + (len - left)) left b)

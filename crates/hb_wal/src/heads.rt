@@ -1,4 +1,4 @@
-ghost use Rattle.std.specs.Prelude.{◌≡◌, ◌⊎◌, ℕ, ◌<◌, ◌≤◌, ◌+◌, ◌-◌, ◌^◌, List, length, take, drop, IfSome, IsErrOf, IfOk, IfErr, OnErr, option_map};
+ghost use Rattle.std.specs.Prelude.{◌≡◌, ◌⊎◌, ℕ, ◌<◌, ◌≤◌, ◌+◌, ◌-◌, ◌^◌, List, length, take, drop, IfSome, IsErrOf, IfOk, IfErr, OnOk, OnErr, option_map};
 ghost use Rattle.hb_outside.specs.Streams.{Rose};
 ghost use Rattle.hb_disk.specs.Calls.{OnlyReads};
 ghost use Rattle.hb_wal.specs.declared.heads.FrameStop.TheVariants.{BadLength, NoMemory, DiskFault};
@@ -47,6 +47,7 @@ fn read_head<D: Device>(disk: &mut D, at: u64) -> Result<Option<u32>, Failed>
     requires inside { at + 5 ≤ (D.model disk.old).size }
     ensures head { IfOk result (λ len. IfSome (D.model disk.old).told (λ b. HeadIs len (take 5 (drop at b)))) }
     ensures cause { OnErr result (Rose (D.model disk.old).read_faults (D.model disk.new).read_faults) }
+    ensures no_fault { OnOk result ((D.model disk.new).read_faults ≡ (D.model disk.old).read_faults) }
     ensures only_reads { OnlyReads (D.model disk.old) (D.model disk.new) }
 {
     let mut head = [0; 5];
@@ -83,6 +84,8 @@ pub(crate) fn read_frame<D: Device>(
         (payload : List ℕ) × BeginsFrame (range at left b) payload) }
     ensures cause { IsErrOf result DiskFault →
         Rose (D.model disk.old).read_faults (D.model disk.new).read_faults }
+    ensures no_fault { (IsErrOf result DiskFault → ⊥) →
+        (D.model disk.new).read_faults ≡ (D.model disk.old).read_faults }
     ensures only_reads { OnlyReads (D.model disk.old) (D.model disk.new) }
 {
     if left < FRAME {
@@ -110,6 +113,8 @@ fn read_payload<D: Device>(
     ensures stop { IfErr result (λ e. (e ≡ NoMemory) ⊎ (e ≡ DiskFault)) }
     ensures cause { IsErrOf result DiskFault →
         Rose (D.model disk.old).read_faults (D.model disk.new).read_faults }
+    ensures no_fault { (IsErrOf result DiskFault → ⊥) →
+        (D.model disk.new).read_faults ≡ (D.model disk.old).read_faults }
     ensures only_reads { OnlyReads (D.model disk.old) (D.model disk.new) }
 {
     let mut payload = vec![in alloc; 0; len as usize]?;

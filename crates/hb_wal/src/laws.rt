@@ -1,5 +1,7 @@
 //! What follows of frames from their definitions alone.
 
+ghost use Rattle.std.specs.Prelude.{◌≡◌, ◌↔◌, ℕ, List, [], length};
+ghost use Rattle.hb_wal.specs.Frames.{frames};
 ghost use Rattle.hb_wal.specs.FrameLaws.{ReadsOneWay, ReadsSomehow};
 
 use hb_outside::big_endian_law;
@@ -10,6 +12,11 @@ pub fn an_area_is_read_in_one_way()
 {
     big_endian_law();
 }
+
+/// The bytes of the frames of a log are 0 exactly where it has no frame.
+pub fn nothing_is_written_where_no_frame_stands()
+    ensures { (payloads : List (List ℕ)) → (length (frames payloads) ≡ 0) ↔ (payloads ≡ []) }
+{}
 
 /// Every area is read to an end, or to a frame with a bad length.
 pub fn every_area_is_read()

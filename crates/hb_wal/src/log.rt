@@ -59,12 +59,14 @@ impl Wal {
 
     /// The bytes of the groups that wait. 0 exactly where none does.
     pub fn pending(&self) -> u32
-        ensures { result ≡ pending_bytes self.now.groups }
+        ensures bytes { result ≡ pending_bytes self.now.groups }
+        ensures none { (result ≡ 0) ↔ (self.now.groups ≡ []) }
     {
         (self.bytes.len() - LENGTH) as u32
     }
 
-    /// The bytes of the written frames. 0 exactly where there is none.
+    /// The bytes of the written frames. 0 exactly where there is none, as the law
+    /// `nothing_is_written_where_no_frame_stands` says.
     pub fn written(&self) -> u32
         ensures { result ≡ self.now.written }
     {
@@ -79,9 +81,10 @@ impl Wal {
         (self.len - self.written - framed).saturating_sub(FRAME)
     }
 
-    /// The mark of the oldest group that waits, or `now` where none does.
+    /// The mark of the oldest group that waits, or `now` where none does. The marks of those behind it aren't less.
     pub fn settled(&self, now: u32) -> u32
-        ensures { result ≡ mark_of self.now.groups now }
+        ensures mark { result ≡ mark_of self.now.groups now }
+        ensures log { IsLog self.now }
     {
         match self.groups.first() {
             Some(oldest) => oldest.mark,

@@ -63,6 +63,7 @@ pub fn read_area<D: Device>(
     ensures stopped { IfErr result (λ stop. IfSome (D.model disk.old).told (λ b. StopsAt stop (range area len b))) }
     ensures fits { IfOk result (λ payloads. All IsPayload payloads × (length (frames payloads) ≤ len)) }
     ensures cause { IsErrOf result DiskFault → Rose (D.model disk.old).read_faults (D.model disk.new).read_faults }
+    ensures no_fault { (IsErrOf result DiskFault → ⊥) → (D.model disk.new).read_faults ≡ (D.model disk.old).read_faults }
     ensures only_reads { OnlyReads (D.model disk.old) (D.model disk.new) }
 {
     let mut payloads = Payloads::new(alloc);

@@ -1,10 +1,25 @@
-use Rattle.std.proofs.Common.{ℕ, ◌+◌, List, IfSome, replicate, sym, ◌∙◌, subst}
+use Rattle.std.proofs.Common.{ℕ, ◌+◌, ◌≤◌, List, IfSome, replicate, sym, ◌∙◌, subst, arith}
 use Rattle.hb_disk.specs.Calls.{Writes}
-use Rattle.hb_disk.specs.RunLaws.{if_value, on_ok}
+use Rattle.hb_disk.specs.RunLaws.{if_value, on_ok, Becomes-torn, Becomes-torn_write, Becomes-torn_sync}
 use Rattle.hb_ops.specs.declared.meta.Meta.{Meta}
+use Rattle.hb_super.specs.Superblocks.{place_of}
 use Rattle.hb_super.specs.Moments.{HidesNoOther}
+use Rattle.hb_super.proofs.Writes.{place_fits}
 use Rattle.hb_super.proofs.Clears.{zeroed_hides}
 use Rattle.hb_super.proofs.hidden.zero_body.Goals as goal
+
+pub returns-clause-place : goal.returns-clause-place
+returns-clause-place g c =
+    let is_disk = g.met.D.Device.is_disk in
+    let model = g.D.Device.model in
+    let at = place_of c.args.turn + 1 in
+    let low : place_of c.args.turn + 41 ≤ 8192 = place_fits c.args.turn in
+    let inside : 8192 ≤ (model c.args.disk.now).size = c.requires.room in
+    let writes = subst (λ (at : ℕ). Writes (at + 1) (replicate 40 0) c.zero.result (model c.args.disk.now) (model c.zero.new.self)) c.place_at.ensures c.zero.ensures.writes in
+    Becomes-torn at 40 (model c.args.disk.now) (model c.zero.new.self) (model c.sync.new.self)
+    (Becomes-torn_write c.zero.result at (replicate 40 0) at 40 (model c.args.disk.now) (model c.zero.new.self)
+    (is_disk c.args.disk.now) (is_disk c.zero.new.self) (omega (arith, low, inside)) (omega arith) (omega arith) writes c.zero.ensures.ticks)
+    (Becomes-torn_sync c.sync.result at 40 (model c.zero.new.self) (model c.sync.new.self) (is_disk c.zero.new.self) c.sync.ensures.syncs c.sync.ensures.ticks)
 
 pub returns-clause-hidden : goal.returns-clause-hidden
 returns-clause-hidden g c =

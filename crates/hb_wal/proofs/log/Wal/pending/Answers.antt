@@ -1,7 +1,9 @@
-use Rattle.std.proofs.Common.{◌≡◌, ap, arith}
+use Rattle.std.proofs.Common.{◌≡◌, ◌≤◌, length, subst, ap, arith}
+use Rattle.std.proofs.lemmas.List.{nil_from_length}
 use Rattle.hb_wal.specs.Log.{LogState, pending_bytes}
 use Rattle.hb_wal.specs.Kept.{seen_as}
 use Rattle.hb_wal.proofs.Kept.{pending-seen, total_fits}
+use Rattle.hb_wal.proofs.Waiting.{count-pending}
 use Rattle.hb_wal.proofs.log.Wal.pending.Goals as goal
 
 pub overflow_cast-result : goal.overflow_cast-result
@@ -10,4 +12,12 @@ overflow_cast-result c = omega (arith, c.len.ensures, c.self.inside.bytes.ok.0, 
 pub returns : goal.returns
 returns c =
     let same : pending_bytes (seen_as c.self.inside).groups ≡ pending_bytes c.args.self.now.groups = ap (λ (s : LogState). pending_bytes s.groups) c.self.view_is in
-    omega (arith, c.len.ensures, c.self.inside.bytes.ok.0, c.self.invariant.bytes_len, pending-seen c.self.inside c.self.invariant, same)
+    let few : length c.args.self.now.groups ≤ pending_bytes c.args.self.now.groups =
+    subst (λ (s : LogState). length s.groups ≤ pending_bytes s.groups) c.self.view_is (count-pending (seen_as c.self.inside).groups c.self.invariant.log.groups) in
+    record {
+      bytes = omega (arith, c.len.ensures, c.self.inside.bytes.ok.0, c.self.invariant.bytes_len, pending-seen c.self.inside c.self.invariant, same);
+      none = (
+        λ zero. nil_from_length c.args.self.now.groups (omega (arith, zero, few, c.len.ensures, c.self.inside.bytes.ok.0, c.self.invariant.bytes_len, pending-seen c.self.inside c.self.invariant, same)),
+        λ none. omega (arith, ap pending_bytes none, c.len.ensures, c.self.inside.bytes.ok.0, c.self.invariant.bytes_len, pending-seen c.self.inside c.self.invariant, same),
+      );
+    }
