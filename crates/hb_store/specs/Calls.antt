@@ -1,5 +1,6 @@
 -- What the calls of a store do to what it is seen as.
-use Rattle.std.specs.Prelude.{◌≡◌, ◌≢◌, ℕ, ◌≤◌, true, List, [], ◌∷◌, ◌++◌, get_or, Option, IsSome}
+use Rattle.std.specs.Prelude.{◌≡◌, ◌≢◌, ℕ, ◌-◌, ◌≤◌, true, List, [], ◌∷◌, ◌++◌, get_or, Option, IsSome}
+use Rattle.hb_space.specs.declared.form.TheConstants.{GROUP, PENDING}
 use Rattle.hb_frag.specs.declared.pages.LivePage.{LivePage}
 use Rattle.hb_ops.specs.declared.operations.Op.{Op}
 use Rattle.hb_ops.specs.Files.{FileState, if_live}
@@ -68,7 +69,7 @@ later_after (next ∷ later) = later
 
 -- The store may take an operation: room for the longest group, few pending bytes.
 abbrev pub IsReady : StoreState → Type 0
-IsReady st = (16384 ≤ room_of st.log) × (pending_bytes st.log.groups ≤ 49152)
+IsReady st = (GROUP ≤ room_of st.log) × (pending_bytes st.log.groups ≤ PENDING - GROUP)
 
 -- the files after a commit
 abbrev pub with_op : FileState → List FileState → Op → List FileState

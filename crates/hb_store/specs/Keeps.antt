@@ -1,5 +1,5 @@
 -- What a store is seen as, and what it keeps of the disk.
-use Rattle.std.specs.Prelude.{◌≡◌, ◌⊎◌, ◌↔◌, ℕ, ◌<◌, ◌≤◌, ◌^◌, Bool, false, List, [], ◌∷◌, ◌++◌, length, map, All, Option, Some, None, IsSome, IsTrue}
+use Rattle.std.specs.Prelude.{◌≡◌, ◌⊎◌, ◌↔◌, ℕ, ◌*◌, ◌<◌, ◌≤◌, ◌^◌, Bool, false, List, [], ◌∷◌, ◌++◌, length, map, All, Option, Some, None, IsSome, IsTrue}
 use Rattle.hb_space.specs.declared.form.TheConstants.{PAGE}
 use Rattle.hb_disk.specs.Model.{DiskModel}
 use Rattle.hb_disk.specs.Calls.{IsSynced}
@@ -92,7 +92,7 @@ OpensNext c turn said payloads written (g ∷ rest) (next ∷ later) = OpensBy c
 
 -- both superblock places and the area are synced, and the area reads as the written frames and zeros
 pub record IsRunning (d : DiskModel) (st : StoreState) (payloads : List (List ℕ)) : Type 0 where
-  pub places : IsSynced d 0 8192
+  pub places : IsSynced d 0 (2 * PAGE)
   pub logged : HasLog d st.log payloads
 
 -- What a store keeps over a disk that tells. `durable` is the file that the disk has, by the superblock of the store's
@@ -132,7 +132,7 @@ pub record IsFresh (d : DiskModel) (turn : ℕ) (meta : Meta) (s : FileState) : 
   pub meta_is : s.meta ≡ meta
   pub newest : (c : List ℕ) → d.Image c → IsNewest c turn meta
   pub images : (c : List ℕ) → d.Image c → OpensTo c s
-  pub places : IsSynced d 0 8192
+  pub places : IsSynced d 0 (2 * PAGE)
   pub logged : HasLog d (record { area = log_place turn meta; len = meta.log; written = 0; groups = [] }) []
   pub pages : (id : ℕ) (page : Page) → page_of s id ≡ Some page → (c : List ℕ) → d.Image c → SpellsPage (place_bytes meta id c) page
 

@@ -14,14 +14,14 @@ use Rattle.hb_store.specs.Replay.{Replayed, untouched, replay, MayReplay}
 
 -- where the log area of a turn begins, and the page of a number
 abbrev pub log_place : ℕ → Meta → ℕ
-log_place turn meta = 8192 + (turn % 2) * meta.log
+log_place turn meta = 2 * PAGE + (turn % 2) * meta.log
 
 abbrev pub page_place : Meta → ℕ → ℕ
-page_place meta id = 8192 + 2 * meta.log + PAGE * (id - 1)
+page_place meta id = 2 * PAGE + 2 * meta.log + PAGE * (id - 1)
 
 -- how many bytes a file has
 abbrev pub file_size : Meta → ℕ
-file_size meta = 8192 + 2 * meta.log + PAGE * meta.pages
+file_size meta = 2 * PAGE + 2 * meta.log + PAGE * meta.pages
 
 -- the bytes of a turn's log area, and those in the place of a page
 abbrev pub log_bytes : ℕ → Meta → List ℕ → List ℕ

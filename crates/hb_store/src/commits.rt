@@ -1,5 +1,6 @@
 //! Operations in memory, and the groups that wait for them.
 ghost use Rattle.std.specs.Prelude.{◌≡◌, ◌<◌, ◌≤◌, ◌^◌, ◌∷◌, ◌++◌, [], false, List, All, length, IfOk, IfSome, OnOk, OnErr, Some};
+ghost use Rattle.hb_space.specs.declared.form.TheConstants.{GROUP};
 ghost use Rattle.hb_frag.specs.Leaves.{weight_of};
 ghost use Rattle.hb_ops.specs.Given.{given as live_given};
 ghost use Rattle.hb_ops.specs.Files.{FileState, if_live};
@@ -84,7 +85,7 @@ impl<D: Device> Store<D> {
         ensures bytes { IfOk result (λ group. group.items ≡ group_bytes (group_here (seen_as self.now) op.now)) }
         ensures fits { OnOk result (FitsGroup (seen_as self.now).meta.k (group_here (seen_as self.now) op.now)) }
         ensures some { IfOk result (λ group. 0 < length group.items) }
-        ensures short { IfOk result (λ group. length group.items ≤ 16384) }
+        ensures short { IfOk result (λ group. length group.items ≤ GROUP) }
     {
         group_for(self.alloc, &self.frames, op)
     }

@@ -37,6 +37,7 @@ impl<D: Device> Store<D> {
         ensures only_reads { OnlyReads (D.model self.old.disk) (D.model self.new.disk) }
         ensures why { IfErr result (FetchesNot (seen_as self.old).meta (D.model self.old.disk) id) }
         ensures cause { IsErrOf result ReadFault → Rose (D.model self.old.disk).read_faults (D.model self.new.disk).read_faults }
+        ensures no_fault { (IsErrOf result ReadFault → ⊥) → (D.model self.new.disk).read_faults ≡ (D.model self.old.disk).read_faults }
         ensures framed { IsSome ((seen_as self.old).frame id) → OnOk result (seen_as self.new ≡ seen_as self.old) }
         ensures in_frame { IsSome ((seen_as self.old).frame id) → IsOk result × (self.new.disk ≡ self.old.disk) }
         ensures unread { IsNoPage (seen_as self.old).meta id → self.new.disk ≡ self.old.disk }
@@ -69,6 +70,7 @@ impl<D: Device> Store<D> {
         ensures kept { seen_as self.new ≡ seen_as self.old }
         ensures only_reads { OnlyReads (D.model self.old.disk) (D.model self.new.disk) }
         ensures cause { IsErrOf result ReadFault → Rose (D.model self.old.disk).read_faults (D.model self.new.disk).read_faults }
+        ensures no_fault { (IsErrOf result ReadFault → ⊥) → (D.model self.new.disk).read_faults ≡ (D.model self.old.disk).read_faults }
     {
         let mut bytes = [0; PAGE];
         let place = place_of(&self.meta, id);
@@ -110,7 +112,7 @@ fn place_of(meta: &Meta, id: u32) -> u64
     requires { 1 ≤ id }
     ensures { result ≡ page_place meta.now id }
 {
-    8192 + 2 * u64::from(meta.log) + PAGE as u64 * u64::from(id - 1)
+    2 * PAGE as u64 + 2 * u64::from(meta.log) + PAGE as u64 * u64::from(id - 1)
 }
 
 /// The stop for a page that breaks the rule of this number.

@@ -1,5 +1,5 @@
-ghost use Rattle.std.specs.Prelude.{◌≡◌, ◌-◌, ◌≤◌, ◌↔◌, ℕ, IsTrue, MatchOption, IsSome, Some, None};
-ghost use Rattle.hb_wal.specs.Log.{room_of, pending_bytes, mark_of};
+ghost use Rattle.std.specs.Prelude.{◌≡◌, ◌-◌, ◌≤◌, ◌↔◌, ℕ, [], IsTrue, MatchOption, IsSome, Some, None};
+ghost use Rattle.hb_wal.specs.Log.{IsLog, room_of, pending_bytes, mark_of};
 ghost use Rattle.hb_store.specs.Keeps.{IsStore};
 ghost use Rattle.hb_store.specs.Seen.{seen_as};
 ghost use Rattle.hb_store.specs.Calls.{IsReady};
@@ -8,6 +8,7 @@ use crate::store::Store;
 use hb_disk::{Device, Disk};
 use hb_frag::Page;
 use hb_ops::Meta;
+use hb_space::form::{GROUP, PENDING};
 
 impl<D: Device> Store<D> {
     /// What the file says of itself.
@@ -36,16 +37,18 @@ impl<D: Device> Store<D> {
         self.log.room()
     }
 
-    /// The mark of the oldest group that waits, or `now` where none does.
+    /// The mark of the oldest group that waits, or `now` where none does. The marks of those behind it aren't less.
     pub fn settled(&self, now: u32) -> u32
-        ensures { result ≡ mark_of (seen_as self.now).log.groups now }
+        ensures mark { result ≡ mark_of (seen_as self.now).log.groups now }
+        ensures log { IsLog (seen_as self.now).log }
     {
         self.log.settled(now)
     }
 
     /// The bytes of the groups that wait. 0 exactly where none does.
     pub fn pending(&self) -> u32
-        ensures { result ≡ pending_bytes (seen_as self.now).log.groups }
+        ensures bytes { result ≡ pending_bytes (seen_as self.now).log.groups }
+        ensures none { (result ≡ 0) ↔ ((seen_as self.now).log.groups ≡ []) }
     {
         self.log.pending()
     }
@@ -61,7 +64,7 @@ impl<D: Device> Store<D> {
     pub fn ready(&self) -> bool
         ensures { IsTrue result ↔ IsReady (seen_as self.now) }
     {
-        self.room() >= 16_384 && self.pending() <= 49_152
+        self.room() >= GROUP as u32 && self.pending() <= (PENDING - GROUP) as u32
     }
 
     /// Whether a write, zero or sync failed.

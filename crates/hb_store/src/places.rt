@@ -8,7 +8,7 @@ use hb_space::form::PAGE;
 pub(crate) fn log_place(turn: u8, meta: &Meta) -> u64
     ensures { result ≡ opening.log_place turn meta.now }
 {
-    8192 + u64::from(turn % 2) * u64::from(meta.log)
+    2 * PAGE as u64 + u64::from(turn % 2) * u64::from(meta.log)
 }
 
 /// Where the place of a page begins.
@@ -16,5 +16,5 @@ pub(crate) fn page_place(meta: &Meta, id: u32) -> u64
     requires { 1 ≤ id }
     ensures { result ≡ opening.page_place meta.now id }
 {
-    8192 + 2 * u64::from(meta.log) + PAGE as u64 * u64::from(id - 1)
+    2 * PAGE as u64 + 2 * u64::from(meta.log) + PAGE as u64 * u64::from(id - 1)
 }

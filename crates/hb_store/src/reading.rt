@@ -10,6 +10,7 @@ ghost use Rattle.hb_store.specs.declared.touched.LogStop.TheVariants.{DiskFault}
 use crate::touched::{LogStop, ReplayStop, Touched};
 use hb_disk::Device;
 use hb_ops::Meta;
+use hb_space::form::PAGE;
 use hb_wal::{Payloads, ReadStop, read_area};
 use std::alloc::Global;
 
@@ -17,7 +18,7 @@ use std::alloc::Global;
 fn area_of(turn: u8, meta: &Meta) -> u64
     ensures { result ≡ log_place turn meta.now }
 {
-    8192 + u64::from(turn % 2) * u64::from(meta.log)
+    2 * PAGE as u64 + u64::from(turn % 2) * u64::from(meta.log)
 }
 
 impl ReplayStop {
@@ -78,6 +79,7 @@ pub fn read_log<D: Device>(
     ensures touched { IfOk result (λ t. IsTouched meta.now t) }
     ensures stopped { IfErr result (λ stop. IfSome (D.model disk.old).told (λ b. ReadsNoLog b turn meta.now stop)) }
     ensures cause { IsErrOf result DiskFault → Rose (D.model disk.old).read_faults (D.model disk.new).read_faults }
+    ensures no_fault { (IsErrOf result DiskFault → ⊥) → (D.model disk.new).read_faults ≡ (D.model disk.old).read_faults }
     ensures only_reads { OnlyReads (D.model disk.old) (D.model disk.new) }
 {
     match read_area(alloc, disk, area_of(turn, meta), meta.log) {

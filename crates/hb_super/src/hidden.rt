@@ -1,5 +1,6 @@
 //! What stands behind a closed gate.
 ghost use Rattle.std.specs.Prelude.{◌≡◌, ◌≢◌, ◌⊎◌, ℕ, ◌+◌, ◌*◌, ◌≤◌, List, length, drop, get_or, IsTrue, IsSome, IfSome, IfOk, OnOk, OnErr};
+ghost use Rattle.hb_space.specs.declared.form.TheConstants.{PAGE};
 ghost use Rattle.hb_outside.specs.Streams.{Rose};
 ghost use Rattle.hb_disk.specs.Model.{Torn, Stays};
 ghost use Rattle.hb_disk.specs.Calls.{Leaves, WriteFaults, Becomes, IsSynced, OnlyReads, open_gate};
@@ -49,10 +50,11 @@ fn is_other(bytes: &[u8], turn: u8, meta: &Meta) -> bool
 
 /// Whether the place of the turn is closed over a body of the turn that says something else.
 fn hides_other<D: Device>(disk: &mut D, turn: u8, meta: &Meta) -> Result<bool, Failed>
-    requires room { 8192 ≤ (D.model disk.old).size }
+    requires room { 2 * PAGE ≤ (D.model disk.old).size }
     requires turn { turn ≤ 3 }
     ensures hides { IfOk result (λ hides. IfSome (D.model disk.old).told (λ b. HidesIs hides b turn meta.now)) }
     ensures cause { OnErr result (Rose (D.model disk.old).read_faults (D.model disk.new).read_faults) }
+    ensures no_fault { OnOk result ((D.model disk.new).read_faults ≡ (D.model disk.old).read_faults) }
     ensures only_reads { OnlyReads (D.model disk.old) (D.model disk.new) }
 {
     let mut bytes = [0; 1 + BODY];
@@ -62,7 +64,7 @@ fn hides_other<D: Device>(disk: &mut D, turn: u8, meta: &Meta) -> Result<bool, F
 
 /// Zeroes the body of the turn's place, and syncs.
 fn zero_body<D: Device>(disk: &mut D, turn: u8) -> Result<(), Failed>
-    requires room { 8192 ≤ (D.model disk.old).size }
+    requires room { 2 * PAGE ≤ (D.model disk.old).size }
     ensures hidden { OnOk result (IfSome (D.model disk.new).told (λ b. (meta : Said) → HidesNoOther b turn meta)) }
     ensures durable { OnOk result (IfSome (D.model disk.new).told
         (λ b. (c : List ℕ) → (D.model disk.new).Image c → c ≡ b)) }
@@ -82,7 +84,7 @@ fn zero_body<D: Device>(disk: &mut D, turn: u8) -> Result<(), Failed>
 ///
 /// It fails where the disk does. Then the body may hold any bytes, still behind its closed gate.
 pub fn clear_hidden<D: Device>(disk: &mut D, turn: u8, meta: &Meta) -> Result<(), DiskFault>
-    requires room { 2 * 4096 ≤ (D.model disk.old).size }
+    requires room { 2 * PAGE ≤ (D.model disk.old).size }
     requires legal { IsLegal turn meta.now }
     ensures hidden { OnOk result (IfSome (D.model disk.new).told (λ b. HidesNoOther b turn meta.now)) }
     ensures nothing { IfSome (D.model disk.old).told (λ b.
@@ -90,17 +92,19 @@ pub fn clear_hidden<D: Device>(disk: &mut D, turn: u8, meta: &Meta) -> Result<()
     ensures closed { IfSome (D.model disk.old).told (λ b.
         (get_or b (place_of turn) 0 ≢ open_gate) ⊎ OnlyReads (D.model disk.old) (D.model disk.new)) }
     ensures place { Becomes (Torn (place_of turn + 1) 40) (D.model disk.old) (D.model disk.new) }
-    ensures moments { (old : ℕ) (said : Said) → turn ≡ next_turn old → IsSynced (D.model disk.old) 0 8192 →
+    ensures moments { (old : ℕ) (said : Said) → turn ≡ next_turn old → IsSynced (D.model disk.old) 0 (2 * PAGE) →
         IfSome (D.model disk.old).told (λ b. IsNewest b old said →
         Leaves (D.model disk.old) (D.model disk.new) (ClearLeaves (D.model disk.old) old said turn)) }
     ensures newest { (old : ℕ) (said : Said) → turn ≡ next_turn old → IfSome (D.model disk.old).told (λ b.
         IsNewest b old said → IfSome (D.model disk.new).told (λ c. IsNewest c old said)) }
-    ensures synced { IsSynced (D.model disk.old) 0 8192 → OnOk result (IsSynced (D.model disk.new) 0 8192) }
+    ensures synced { IsSynced (D.model disk.old) 0 (2 * PAGE) → OnOk result (IsSynced (D.model disk.new) 0 (2 * PAGE)) }
     ensures durable { OnOk result (OnlyReads (D.model disk.old) (D.model disk.new)
         ⊎ IfSome (D.model disk.new).told (λ b. (c : List ℕ) → (D.model disk.new).Image c → c ≡ b)) }
     ensures clock { IsSome (D.model disk.old).told → (D.model disk.new).clock ≤ (D.model disk.old).clock + 2 }
     ensures cause { OnErr result (Rose (D.model disk.old).read_faults (D.model disk.new).read_faults
         ⊎ Rose (D.model disk.old).write_faults (D.model disk.new).write_faults) }
+    ensures no_fault { OnOk result (((D.model disk.new).read_faults ≡ (D.model disk.old).read_faults)
+        × ((D.model disk.new).write_faults ≡ (D.model disk.old).write_faults)) }
     ensures reads_later { (D.model disk.old).read_faults ≤ (D.model disk.new).read_faults }
     ensures writes_later { (D.model disk.old).write_faults ≤ (D.model disk.new).write_faults }
 {

@@ -1,4 +1,5 @@
-ghost use Rattle.std.specs.Prelude.{◌≡◌, ℕ, ◌+◌, ◌*◌, ◌%◌, ◌<◌, ◌≤◌, List, length, Some, IsTrue, IfOk, IfSome, IsErrOf, OnErr};
+ghost use Rattle.std.specs.Prelude.{◌≡◌, ℕ, ◌+◌, ◌*◌, ◌%◌, ◌<◌, ◌≤◌, List, length, Some, IsTrue, IfOk, IfSome, IsErrOf, OnOk, OnErr};
+ghost use Rattle.hb_space.specs.declared.form.TheConstants.{PAGE};
 ghost use Rattle.hb_outside.specs.Streams.{Rose};
 ghost use Rattle.hb_disk.specs.Calls.{OnlyReads};
 ghost use Rattle.hb_ops.specs.declared.meta.Meta.{Meta as Said};
@@ -64,11 +65,12 @@ fn super_in(bytes: &[u8], place: u8) -> Option<(u8, Meta)>
 
 /// Reads the superblock of a place.
 fn super_at<D: Device>(disk: &mut D, place: u8) -> Result<Option<(u8, Meta)>, Failed>
-    requires room { 8192 ≤ (D.model disk.old).size }
+    requires room { 2 * PAGE ≤ (D.model disk.old).size }
     requires place { place < 2 }
     ensures stands { IfOk result (λ said. IfSome (D.model disk.old).told (λ b. Stands place said b)) }
     ensures legal { IfOk result (λ said. MayBeLegal said) }
     ensures cause { OnErr result (Rose (D.model disk.old).read_faults (D.model disk.new).read_faults) }
+    ensures no_fault { OnOk result ((D.model disk.new).read_faults ≡ (D.model disk.old).read_faults) }
     ensures only_reads { OnlyReads (D.model disk.old) (D.model disk.new) }
 {
     let mut bytes = [0; 1 + BODY];
@@ -107,11 +109,12 @@ fn newest_of(first: Option<(u8, Meta)>, second: Option<(u8, Meta)>) -> Option<(u
 
 /// Reads the newest superblock: its turn, and what the file says of itself.
 pub fn read_super<D: Device>(disk: &mut D) -> Result<(u8, Meta), SuperStop>
-    requires room { 8192 ≤ (D.model disk.old).size }
+    requires room { 2 * PAGE ≤ (D.model disk.old).size }
     ensures newest { IfOk result (λ said. IfSome (D.model disk.old).told (λ b. IsNewest b said.0 said.1)) }
     ensures legal { IfOk result (λ said. IsLegal said.0 said.1) }
     ensures none { IsErrOf result NoSuper → IfSome (D.model disk.old).told HasNone }
     ensures cause { IsErrOf result DiskFault → Rose (D.model disk.old).read_faults (D.model disk.new).read_faults }
+    ensures no_fault { (IsErrOf result DiskFault → ⊥) → (D.model disk.new).read_faults ≡ (D.model disk.old).read_faults }
     ensures only_reads { OnlyReads (D.model disk.old) (D.model disk.new) }
 {
     let first = super_at(disk, 0)?;

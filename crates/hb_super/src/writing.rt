@@ -1,4 +1,5 @@
 ghost use Rattle.std.specs.Prelude.{◌≢◌, get_or, ◌≡◌, ℕ, ◌+◌, ◌*◌, ◌≤◌, ◌∷◌, List, Some, IsSome, IfSome, OnOk, ◌⊎◌};
+ghost use Rattle.hb_space.specs.declared.form.TheConstants.{PAGE};
 ghost use Rattle.hb_disk.specs.Model.{overwritten, Torn};
 ghost use Rattle.hb_disk.specs.Calls.{Leaves, FrameOrNot, WriteFaults, Becomes, IsSynced, open_gate};
 ghost use Rattle.hb_ops.specs.declared.meta.Meta.{Meta as Said};
@@ -20,7 +21,7 @@ const CLOSED: u8 = 0;
 /// superblock as its newest or one of the new turn. It is the new one, unless the place had a body of the new turn
 /// behind its closed gate, as a write that was cut short leaves it, and a crash tore that gate open.
 pub fn write_super<D: Device>(disk: &mut D, turn: u8, meta: &Meta) -> Result<(), DiskFault>
-    requires room { 2 * 4096 ≤ (D.model disk.old).size }
+    requires room { 2 * PAGE ≤ (D.model disk.old).size }
     requires legal { IsLegal turn meta.now }
     ensures written { OnOk result (IfSome (D.model disk.old).told (λ b. (D.model disk.new).told
         ≡ Some (overwritten b (place_of turn) (open_gate ∷ body_bytes turn meta.now)))) }
@@ -28,7 +29,7 @@ pub fn write_super<D: Device>(disk: &mut D, turn: u8, meta: &Meta) -> Result<(),
         (λ b. (c : List ℕ) → (D.model disk.new).Image c → c ≡ b)) }
     ensures newest { (old : ℕ) (said : Said) → turn ≡ next_turn old → OnOk result (IfSome (D.model disk.old).told (λ b.
         IsNewest b old said → IfSome (D.model disk.new).told (λ c. IsNewest c turn meta.now))) }
-    ensures moments { (old : ℕ) (said : Said) → turn ≡ next_turn old → IsSynced (D.model disk.old) 0 8192 →
+    ensures moments { (old : ℕ) (said : Said) → turn ≡ next_turn old → IsSynced (D.model disk.old) 0 (2 * PAGE) →
         IfSome (D.model disk.old).told (λ b. IsNewest b old said →
         Leaves (D.model disk.old) (D.model disk.new) (WriteLeaves (D.model disk.old) b old said turn meta.now)) }
     ensures place { Becomes (Torn (place_of turn) 41) (D.model disk.old) (D.model disk.new) }
@@ -45,7 +46,7 @@ pub fn write_super<D: Device>(disk: &mut D, turn: u8, meta: &Meta) -> Result<(),
 /// Writes the superblock of turn 0 of a new file, in places that were zeroed and synced: the body, then the gate, each
 /// with a sync. Four device calls. Each image of a moment inside has the superblock whole, or none in its place.
 pub fn write_first_super<D: Device>(disk: &mut D, meta: &Meta) -> Result<(), DiskFault>
-    requires room { 2 * 4096 ≤ (D.model disk.old).size }
+    requires room { 2 * PAGE ≤ (D.model disk.old).size }
     requires legal { IsLegal 0 meta.now }
     requires closed { IsSome (D.model disk.old).told →
         (c : List ℕ) → (D.model disk.old).Image c → get_or c 0 0 ≢ open_gate }
@@ -53,7 +54,7 @@ pub fn write_first_super<D: Device>(disk: &mut D, meta: &Meta) -> Result<(), Dis
         ≡ Some (overwritten b 0 (open_gate ∷ body_bytes 0 meta.now)))) }
     ensures durable { OnOk result (IfSome (D.model disk.new).told
         (λ b. (c : List ℕ) → (D.model disk.new).Image c → c ≡ b)) }
-    ensures newest { OnOk result (IfSome (D.model disk.old).told (λ b. get_or b 4096 0 ≢ open_gate →
+    ensures newest { OnOk result (IfSome (D.model disk.old).told (λ b. get_or b PAGE 0 ≢ open_gate →
         IfSome (D.model disk.new).told (λ c. IsNewest c 0 meta.now))) }
     ensures moments { IsSome (D.model disk.old).told → Leaves (D.model disk.old) (D.model disk.new)
         (λ c. (b : List ℕ) × (D.model disk.old).Image b × FrameOrNot 0 (body_bytes 0 meta.now) b c) }

@@ -24,7 +24,7 @@ abbrev pub layout_fault : Layout → Option OpenFault
 layout_fault l = first_fault l.k l.pages l.log l.dcap l.icap
 
 abbrev pub size_of : ℕ → ℕ → ℕ
-size_of pages log = 8192 + 2 * log + PAGE * pages
+size_of pages log = 2 * PAGE + 2 * log + PAGE * pages
 
 abbrev pub layout_size : Layout → ℕ
 layout_size l = size_of l.pages l.log

@@ -1,5 +1,6 @@
 -- What opening a file makes of its disk, once it is found: the page is written to its place, and the next turn begins.
-use Rattle.std.specs.Prelude.{◌≡◌, ◌⊎◌, ℕ, ◌+◌, ◌≤◌, List, replicate, Option, Some, None, IsSome, Result, OnErr}
+use Rattle.std.specs.Prelude.{◌≡◌, ◌⊎◌, ℕ, ◌*◌, ◌+◌, ◌≤◌, List, replicate, Option, Some, None, IsSome, Result, OnErr}
+use Rattle.hb_space.specs.declared.form.TheConstants.{PAGE}
 use Rattle.hb_outside.specs.Streams.{Rose}
 use Rattle.hb_disk.specs.Model.{DiskModel}
 use Rattle.hb_disk.specs.Calls.{IsSynced}
@@ -24,7 +25,7 @@ pub record StillOpens (turn : ℕ) (meta : Meta) (touched : Option Page) (page :
 pub record IsHere (d : DiskModel) (turn : ℕ) (meta : Meta) (touched : Option Page) (page : Page) : Type 0 where
   pub told : IsSome d.told
   pub images : (c : List ℕ) → d.Image c → StillOpens turn meta touched page c
-  pub places : IsSynced d 0 8192
+  pub places : IsSynced d 0 (2 * PAGE)
 
 -- the page also reads in its place
 pub record IsPlaced (d : DiskModel) (turn : ℕ) (meta : Meta) (touched : Option Page) (page : Page) : Type 0 where

@@ -1,5 +1,6 @@
 -- What making and opening a file answer.
-use Rattle.std.specs.Prelude.{◌≡◌, ◌⊎◌, ℕ, ◌≤◌, ◌<◌, List, [], ◌∷◌, length, None}
+use Rattle.std.specs.Prelude.{◌≡◌, ◌⊎◌, ℕ, ◌*◌, ◌≤◌, ◌<◌, List, [], ◌∷◌, length, None}
+use Rattle.hb_space.specs.declared.form.TheConstants.{PAGE}
 use Rattle.hb_space.specs.Boxes.{whole_area}
 use Rattle.hb_wal.specs.Frames.{HasFrames}
 use Rattle.hb_super.specs.Superblocks.{IsNewest, HasNone}
@@ -53,13 +54,13 @@ IsUnsound bytes said groups page rule =
 
 abbrev pub IsSmall : List ℕ → ℕ → ℕ → Type 0
 IsSmall bytes needed found = (found ≡ length bytes) × (found < needed)
-    × ((needed ≡ 8192) ⊎ ((8192 ≤ found) × (turn : ℕ) × (said : Meta) × IsNewest bytes turn said × (needed ≡ file_size said)))
+    × ((needed ≡ 2 * PAGE) ⊎ ((2 * PAGE ≤ found) × (turn : ℕ) × (said : Meta) × IsNewest bytes turn said × (needed ≡ file_size said)))
 
 -- Why bytes aren't opened, in the order in which it is tested. A fault of the disk and want of memory say nothing of them.
 abbrev pub Refuses : OpenFault → List ℕ → Type 0
 Refuses (faults.BadLayout field value) bytes = ⊥
 Refuses (faults.Small needed found) bytes = IsSmall bytes needed found
-Refuses faults.NoSuper bytes = (8192 ≤ length bytes) × HasNone bytes
+Refuses faults.NoSuper bytes = (2 * PAGE ≤ length bytes) × HasNone bytes
 Refuses faults.NotBuilt bytes = (turn : ℕ) × (said : Meta) × HasLayout bytes turn said × (¬ (IsOnePage said))
 Refuses (faults.BadGroup frame) bytes = (turn : ℕ) × (said : Meta) × HasLayout bytes turn said × IsOnePage said × HasBadGroup bytes turn said frame
 Refuses (faults.Unsound page rule) bytes = (turn : ℕ) × (said : Meta) × HasLayout bytes turn said × IsOnePage said × (groups : List Logged) × HasLog bytes turn said groups × IsUnsound bytes said groups page rule

@@ -1,5 +1,6 @@
 //! Making a file.
 ghost use Rattle.std.specs.Prelude.{◌≡◌, ◌⊎◌, ℕ, ◌*◌, ◌+◌, ◌≤◌, ◌<◌, List, [], length, get_or, Some, None, OnOk, IfOk, IfErr, IfSome, IsSome, IsNone};
+ghost use Rattle.hb_space.specs.declared.form.TheConstants.{PAGE};
 ghost use Rattle.hb_outside.specs.Streams.{Rose};
 ghost use Rattle.hb_disk.specs.Calls.{WriteFaults};
 ghost use Rattle.hb_frag.specs.declared.pages.Page.{Page as Content};
@@ -29,29 +30,29 @@ use std::alloc::Global;
 
 /// Zeroes both superblock places, and syncs. Two device calls.
 fn zero_places<D: Device>(disk: &mut D) -> Result<(), hb_disk::DiskFault>
-    requires room { 8192 ≤ (D.model disk.old).size }
+    requires room { 2 * PAGE ≤ (D.model disk.old).size }
     ensures closed { OnOk result (IfSome (D.model disk.old).told (λ b. (c : List ℕ) × ((D.model disk.new).told ≡ Some c)
-        × (get_or c 0 0 ≡ 0) × (get_or c 4096 0 ≡ 0))) }
+        × (get_or c 0 0 ≡ 0) × (get_or c PAGE 0 ≡ 0))) }
     ensures silent { (D.model disk.old).told ≡ None → (D.model disk.new).told ≡ None }
     ensures size { (D.model disk.new).size ≡ (D.model disk.old).size }
     ensures faults { WriteFaults result (D.model disk.old) (D.model disk.new) }
 {
-    zero_area(disk, 0, 8192)
+    zero_area(disk, 0, 2 * PAGE as u32)
 }
 
 /// Zeroes log area 0 and writes page 1, and syncs. Three device calls.
 fn write_parts<D: Device>(disk: &mut D, meta: &Meta, page: &[u8; PAGE]) -> Result<(), Failed>
     requires room { file_size meta.now ≤ (D.model disk.old).size }
     requires some { 1 ≤ meta.now.pages }
-    ensures laid { OnOk result (IfSome (D.model disk.old).told (λ b. get_or b 0 0 ≡ 0 → get_or b 4096 0 ≡ 0 →
+    ensures laid { OnOk result (IfSome (D.model disk.old).told (λ b. get_or b 0 0 ≡ 0 → get_or b PAGE 0 ≡ 0 →
         (c : List ℕ) × ((D.model disk.new).told ≡ Some c) × IsLaidOut c meta.now page.now)) }
     ensures durable { OnOk result (IfSome (D.model disk.new).told (λ b. (c : List ℕ) → (D.model disk.new).Image c → c ≡ b)) }
     ensures silent { (D.model disk.old).told ≡ None → (D.model disk.new).told ≡ None }
     ensures size { (D.model disk.new).size ≡ (D.model disk.old).size }
     ensures faults { WriteFaults result (D.model disk.old) (D.model disk.new) }
 {
-    disk.zero(8192, u64::from(meta.log))?;
-    disk.write(8192 + 2 * u64::from(meta.log), page)?;
+    disk.zero(2 * PAGE as u64, u64::from(meta.log))?;
+    disk.write(2 * PAGE as u64 + 2 * u64::from(meta.log), page)?;
     disk.sync()
 }
 

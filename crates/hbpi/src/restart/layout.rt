@@ -97,7 +97,7 @@ impl Layout {
     pub fn size(&self) -> u64
         ensures { result ≡ layout_size self.now }
     {
-        8192 + 2 * u64::from(self.log) + PAGE as u64 * u64::from(self.pages)
+        2 * PAGE as u64 + 2 * u64::from(self.log) + PAGE as u64 * u64::from(self.pages)
     }
 
     /// What a new file says of itself.

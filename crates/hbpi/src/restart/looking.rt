@@ -1,5 +1,6 @@
 //! What a file is, before it is opened. Nothing is written.
 ghost use Rattle.std.specs.Prelude.{◌≡◌, ◌≤◌, length, Some, None, OnOk, OnErr, IfOk, IfErr, IfSome, IsErrOf};
+ghost use Rattle.hb_space.specs.declared.form.TheConstants.{PAGE};
 ghost use Rattle.std.specs.Ordering.{nat_cmp};
 ghost use Rattle.std.specs.BTreeMap.{get};
 ghost use Rattle.hb_outside.specs.Streams.{Rose};
@@ -52,12 +53,12 @@ impl Broken {
 fn size_of(meta: &Meta) -> u64
     ensures { result ≡ bytes_of meta.now }
 {
-    8192 + 2 * u64::from(meta.log) + PAGE as u64 * u64::from(meta.pages)
+    2 * PAGE as u64 + 2 * u64::from(meta.log) + PAGE as u64 * u64::from(meta.pages)
 }
 
 /// The newest superblock.
 fn newest<D: Device>(disk: &mut D) -> Result<(u8, Meta), OpenFault>
-    requires { 8192 ≤ (D.model disk.old).size }
+    requires { 2 * PAGE ≤ (D.model disk.old).size }
     ensures newest { IfOk result (λ said. IfSome (D.model disk.old).told (λ b. IsNewest b said.0 said.1)) }
     ensures legal { IfOk result (λ said. IsLegal said.0 said.1) }
     ensures refused { IfErr result (λ fault. IfSome (D.model disk.old).told (FindsNone fault)) }
@@ -112,7 +113,7 @@ fn read_place<D: Device>(disk: &mut D, meta: &Meta, into: &mut [u8; PAGE]) -> Re
     ensures cause { OnErr result (Rose (D.model disk.old).read_faults (D.model disk.new).read_faults) }
     ensures only_reads { OnlyReads (D.model disk.old) (D.model disk.new) }
 {
-    disk.read(8192 + 2 * u64::from(meta.log), into)
+    disk.read(2 * PAGE as u64 + 2 * u64::from(meta.log), into)
 }
 
 /// The page in the place of page 1.
@@ -190,9 +191,9 @@ pub(crate) fn look<D: Device>(alloc: Global, disk: &mut D) -> Result<Found, Open
     ensures only_reads { OnlyReads (D.model disk.old) (D.model disk.new) }
 {
     let found = disk.size();
-    if found < 8192 {
+    if found < 2 * PAGE as u64 {
         return Err(OpenFault::Small {
-            needed: 8192,
+            needed: 2 * PAGE as u64,
             found,
         });
     }

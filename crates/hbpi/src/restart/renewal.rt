@@ -41,7 +41,7 @@ pub(crate) fn turn_after(turn: u8) -> u8
 fn area_of(turn: u8, meta: &Meta) -> u64
     ensures { result ≡ log_place turn meta.now }
 {
-    8192 + u64::from(turn % 2) * u64::from(meta.log)
+    2 * PAGE as u64 + u64::from(turn % 2) * u64::from(meta.log)
 }
 
 /// Writes page 1 to its place. One device call.
@@ -56,7 +56,7 @@ fn write_page<D: Device>(disk: &mut D, meta: &Meta, page: &Page) -> Result<(), F
 {
     let mut bytes = [0; PAGE];
     encode(page, &mut bytes);
-    disk.write(8192 + 2 * u64::from(meta.log), &bytes)
+    disk.write(2 * PAGE as u64 + 2 * u64::from(meta.log), &bytes)
 }
 
 /// Writes the page that the log touches to its place. At most one device call.
