@@ -1,6 +1,6 @@
 //! The program `hbpi` as a library: records in one file, found by points and boxes.
 //!
-//! The one contract: `top` does what the words ask for, over any source, sink and disk. Its clauses
+//! The one contract: `top::top` does what the words ask for, over any source, sink and disk. Its clauses
 //! say for each status why it comes, what was read and written, what was answered in which order,
 //! and what a crash may leave of the disk. `run_process` and `run` make the disk, the source and the
 //! sink, call `top` with the words after the file's name, and give its status; nothing is claimed of
@@ -29,7 +29,7 @@ mod statuses;
 #[cfg(test)]
 mod tests;
 mod texts;
-mod top;
+pub mod top;
 
 pub use calls::{Call, call_of, refuse, run, run_process};
 pub use file_disk::FileDisk;
@@ -37,4 +37,3 @@ pub use files::{make_file, open_file};
 pub use finished::Finished;
 pub use restart::faults::Field;
 pub use statuses::{Damage, Status};
-pub use top::top;
