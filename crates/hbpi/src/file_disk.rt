@@ -13,7 +13,7 @@ use std::io::{ErrorKind, Read, Seek, SeekFrom, Write};
 /// A file of fixed size as a disk. It tells nothing of its bytes: that a file behaves as a disk that
 /// tells is assumed wherever a promise speaks of crashes.
 #[derive(Drop)]
-pub(crate) struct FileDisk {
+pub struct FileDisk {
     file: File,
     size: u64,
     read_faults: u64,

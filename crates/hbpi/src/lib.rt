@@ -1,0 +1,39 @@
+//! The program `hbpi` as a library: records in one file, found by points and boxes.
+//!
+//! The one contract: `top::top` does what the words ask for, over any source, sink and disk. Its clauses
+//! say for each status why it comes, what was read and written, what was answered in which order,
+//! and what a crash may leave of the disk. `run_process` and `run` make the disk, the source and the
+//! sink, call `top` with the words after the file's name, and give its status; nothing is claimed of
+//! these two, since no contract can say what a file or a stream holds.
+//!
+//! What every run keeps: no command is done unless the whole text is good, and a refusal writes one
+//! fault line and no more. In a plain run, and over a disk that tells its bytes, the replies are
+//! those of the record set machine over one order; `full`, `no memory` and `read fault` stand
+//! outside it.
+#![tactic(auto)]
+
+mod answers;
+mod calls;
+mod create;
+mod drive;
+mod drive_file;
+mod dry;
+mod engine;
+mod faults;
+mod file_disk;
+mod files;
+mod finished;
+mod forms;
+mod restart;
+mod statuses;
+#[cfg(test)]
+mod tests;
+mod texts;
+pub mod top;
+
+pub use calls::{Call, call_of, refuse, run, run_process};
+pub use file_disk::FileDisk;
+pub use files::{make_file, open_file};
+pub use finished::Finished;
+pub use restart::faults::Field;
+pub use statuses::{Damage, Status};
