@@ -6,7 +6,7 @@ ghost use Rattle.hb_ops.specs.Sound.{IsSound};
 ghost use Rattle.hb_frag.specs.Grammar.{HasSpelling, SpellsPage};
 ghost use Rattle.hb_page_codec.specs.Weight.{IsLight};
 ghost use Rattle.hb_store.specs.Keeps.{IsGoodPage, StoreKeeps, last_of};
-ghost use Rattle.hb_store.specs.Opening.{page_place, place_bytes};
+ghost use Rattle.hb_store.specs.Opening.{place_bytes};
 ghost use Rattle.hb_store.specs.Fetching.{BreaksHere, HasPut, HoldsNot, IsFetchStop, SameFrames, with_frame};
 ghost use Rattle.hb_store.specs.Seen.{seen_as};
 ghost use Rattle.hb_store.specs.Calls.{Fetched};
@@ -14,6 +14,7 @@ ghost use Rattle.hb_store.specs.Stops.{FetchesNot, IsNoPage};
 ghost use Rattle.hb_store.specs.declared.stops.FetchStop.TheVariants.{ReadFault};
 
 use crate::frames::Frame;
+use crate::places::page_place;
 use crate::stops::{FetchStop, Why};
 use crate::store::Store;
 use hb_disk::Device;
@@ -73,7 +74,7 @@ impl<D: Device> Store<D> {
         ensures no_fault { (IsErrOf result ReadFault → ⊥) → (D.model self.new.disk).read_faults ≡ (D.model self.old.disk).read_faults }
     {
         let mut bytes = [0; PAGE];
-        let place = place_of(&self.meta, id);
+        let place = page_place(&self.meta, id);
         match self.disk.read(place, &mut bytes) {
             Ok(()) => page_in(self.alloc, &self.meta, id, &bytes),
             Err(_) => Err(FetchStop::ReadFault),
@@ -105,14 +106,6 @@ fn put_frame(frames: &mut BTreeMap<u32, Frame>, id: u32, page: Page) -> Result<(
     };
     frames.insert(id, frame)?;
     Ok(())
-}
-
-/// Where the page of a number stands.
-fn place_of(meta: &Meta, id: u32) -> u64
-    requires { 1 ≤ id }
-    ensures { result ≡ page_place meta.now id }
-{
-    2 * PAGE as u64 + 2 * u64::from(meta.log) + PAGE as u64 * u64::from(id - 1)
 }
 
 /// The stop for a page that breaks the rule of this number.
