@@ -1,8 +1,7 @@
-ghost use Rattle.std.specs.Prelude.{◌≡◌, [], OnOk, OnErr};
+ghost use Rattle.std.specs.Prelude.{◌≡◌, OnOk, OnErr};
 ghost use Rattle.hb_frag.specs.Leaves.{with_name};
 
 use hb_space::NoMemory;
-use std::alloc::Global;
 use std::marker::Model;
 
 /// A list of pages, by their numbers.
@@ -20,13 +19,11 @@ impl Model for Pages {
 }
 
 impl Pages {
-    /// No page.
-    pub fn new(alloc: Global) -> Pages
-        ensures { result ≡ [] }
+    /// The pages of the vector, as they stand in it.
+    pub fn new(pages: Vec<u32>) -> Pages
+        ensures { result ≡ pages.items }
     {
-        Pages {
-            pages: Vec::new(alloc),
-        }
+        Pages { pages }
     }
 
     /// The pages.
@@ -34,6 +31,13 @@ impl Pages {
         ensures { result.now ≡ self.now }
     {
         &self.pages
+    }
+
+    /// The vector of the pages.
+    pub fn into_vec(self) -> Vec<u32>
+        ensures { result.items ≡ self }
+    {
+        self.pages
     }
 
     /// Adds the page at the end, where it isn't listed yet.

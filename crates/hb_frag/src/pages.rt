@@ -7,6 +7,7 @@ ghost use Rattle.hb_frag.specs.Paths.{part_at, with_part, way_to, StaysInside};
 
 use crate::{Frag, Leaf, Pages, Path};
 use hb_space::{Area, NoMemory, Point};
+use smallvec::SmallVec;
 use std::alloc::Global;
 
 /// A page in use.
@@ -31,7 +32,9 @@ pub enum Page {
 
 impl Default for Page {
     /// A free page that ends its chain: a stand-in until a page comes.
-    fn default() -> Page {
+    fn default() -> Page
+        ensures { result ≡ Page.Free 0 }
+    {
         Page::Free { next: 0 }
     }
 }
@@ -66,7 +69,7 @@ impl LivePage {
         ensures change { IfOk result (λ path. (leaf : Leaf) →
             with_part path self.now.frag (Tip leaf) ≡ with_leaf_at p.now (λ _. leaf) self.now.frag self.now.area) }
     {
-        let mut path = Path::new(alloc);
+        let mut path = Path::new(SmallVec::new(alloc));
         self.frag.trace(self.area.copy(), p, &mut path)?;
         Ok(path)
     }
@@ -91,7 +94,7 @@ impl LivePage {
     pub fn children(&self, alloc: Global) -> Result<Pages, NoMemory>
         ensures { IfOk result (λ pages. pages ≡ firsts (child_names (leaves self.now.frag))) }
     {
-        let mut pages = Pages::new(alloc);
+        let mut pages = Pages::new(Vec::new(alloc));
         self.frag.list_children(&mut pages)?;
         Ok(pages)
     }
@@ -126,28 +129,5 @@ impl LivePage {
         ensures inside { IsSome result ↔ StaysInside path.now self.now.frag }
     {
         self.frag.part(self.area.copy(), path.as_slice())
-    }
-
-    /// The same page once more.
-    pub fn copy(&self, alloc: Global) -> Result<LivePage, NoMemory>
-        ensures { IfOk result (λ page. page ≡ self.now) }
-    {
-        Ok(LivePage {
-            level: self.level,
-            area: self.area.copy(),
-            frag: self.frag.copy(alloc)?,
-        })
-    }
-}
-
-impl Page {
-    /// The same page once more.
-    pub fn copy(&self, alloc: Global) -> Result<Page, NoMemory>
-        ensures { IfOk result (λ page. page ≡ self.now) }
-    {
-        match self {
-            Page::Live(page) => Ok(Page::Live(page.copy(alloc)?)),
-            Page::Free { next } => Ok(Page::Free { next: *next }),
-        }
     }
 }

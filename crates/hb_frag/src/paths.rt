@@ -1,8 +1,7 @@
-ghost use Rattle.std.specs.Prelude.{◌≡◌, List, [], ◌∷◌, ◌++◌, OnOk, OnErr, IfOk};
+ghost use Rattle.std.specs.Prelude.{◌≡◌, [], ◌∷◌, ◌++◌, OnOk, OnErr};
 
 use hb_space::NoMemory;
 use smallvec::SmallVec;
-use std::alloc::Global;
 use std::marker::Model;
 
 /// A side of a cut.
@@ -31,13 +30,11 @@ impl Model for Path {
 }
 
 impl Path {
-    /// The path of no step.
-    pub fn new(alloc: Global) -> Path
-        ensures { result ≡ [] }
+    /// The path of these steps, the first of them first.
+    pub fn new(steps: SmallVec<Side, 32>) -> Path
+        ensures { result ≡ steps.items }
     {
-        Path {
-            steps: SmallVec::new(alloc),
-        }
+        Path { steps }
     }
 
     /// The steps, the first of them first.
@@ -47,27 +44,18 @@ impl Path {
         self.steps.as_slice()
     }
 
+    /// The vector of the steps.
+    pub fn into_vec(self) -> SmallVec<Side, 32>
+        ensures { result.items ≡ self }
+    {
+        self.steps
+    }
+
     /// Adds a step at the end.
-    pub fn push(&mut self, side: Side) -> Result<(), NoMemory>
+    pub(crate) fn push(&mut self, side: Side) -> Result<(), NoMemory>
         ensures ok { OnOk result (self.new ≡ self.old ++ side ∷ []) }
         ensures err { OnErr result (self.new ≡ self.old) }
     {
         Ok(self.steps.push(side)?)
-    }
-
-    /// The path of these steps.
-    pub fn of_steps(alloc: Global, steps: &[Side]) -> Result<Path, NoMemory>
-        ensures { IfOk result (λ path. path ≡ steps.now) }
-    {
-        Ok(Path {
-            steps: SmallVec::from_slice(alloc, steps)?,
-        })
-    }
-
-    /// The same path once more.
-    pub fn copy(&self, alloc: Global) -> Result<Path, NoMemory>
-        ensures { IfOk result (λ path. path ≡ self.now) }
-    {
-        Path::of_steps(alloc, self.as_slice())
     }
 }

@@ -8,6 +8,7 @@ ghost use Rattle.hb_frag.specs.Paths.{StaysInside};
 
 use crate::{Frag, Leaf, LivePage, Node, Path, Side, replace};
 use hb_space::{Area, Body, NoMemory, Point, Record, Records};
+use smallvec::SmallVec;
 use std::alloc::Global;
 use std::test::Fail;
 
@@ -73,7 +74,7 @@ fn leads(page: &LivePage, path: &Path) -> bool
 }
 
 fn steps_of(alloc: Global, text: &str) -> Result<Path, Fail> {
-    let mut path = Path::new(alloc);
+    let mut path = Path::new(SmallVec::new(alloc));
     for letter in text.chars() {
         path.push(if letter == 'L' {
             Side::Left
@@ -241,8 +242,7 @@ fn parts_at_paths(rt: HostRuntime) -> Result<(), Fail> {
         let path = steps_of(alloc, steps)?;
         let part = page.subtree(&path);
         assert_eq!(rt; shown_part(alloc, part)?.as_str(), want);
-        let again = path.copy(alloc)?;
-        assert_eq!(rt; again.as_slice().len(), steps.len());
+        assert_eq!(rt; path.into_vec().len(), steps.len());
     }
     Ok(())
 }

@@ -5,7 +5,12 @@ ghost use Rattle.std.specs.Thread.{IsSend, IsSync};
 use crate::{FetchStop, Flushed, LogStop, StopWhy, Store, Touched, Why, WriteFault};
 use hb_disk::Device;
 
-/// Each type of the crate does, a store where its disk does.
+/// A store may go to another thread where its disk may.
+fn a_store_goes_where_its_disk_goes<D: Device + Send>() {
+    goes::<Store<D>>();
+}
+
+/// Each other type of the crate does, and a store may be read by several where its disk may.
 fn types_cross_threads<D: Device + Send + Sync>() {
     crosses::<Store<D>>();
     crosses::<Touched>();
@@ -16,6 +21,11 @@ fn types_cross_threads<D: Device + Send + Sync>() {
     crosses::<WriteFault>();
     crosses::<Flushed>();
 }
+
+/// Values of the type may go to another thread.
+fn goes<T: Send>()
+    ensures sent { IsSend T.row }
+{}
 
 /// Values of the type may go to another thread, and be read by several.
 fn crosses<T: Send + Sync>()

@@ -1,7 +1,6 @@
 ghost use Rattle.std.specs.Prelude.{◌≡◌, [], ◌∷◌, ◌++◌, length, map, ◌==◌, OnOk, OnErr};
 
 use hb_space::NoMemory;
-use std::alloc::Global;
 use std::marker::Model;
 
 /// The payloads of a log's frames, the oldest first.
@@ -19,13 +18,18 @@ impl Model for Payloads {
 }
 
 impl Payloads {
-    /// No payload.
-    pub fn new(alloc: Global) -> Payloads
-        ensures { result ≡ [] }
+    /// The payloads of the vector, as they stand in it.
+    pub fn new(payloads: Vec<Vec<u8>>) -> Payloads
+        ensures { result ≡ map (λ v. v.items) payloads.items }
     {
-        Payloads {
-            payloads: Vec::new(alloc),
-        }
+        Payloads { payloads }
+    }
+
+    /// The vector of the payloads.
+    pub fn into_vec(self) -> Vec<Vec<u8>>
+        ensures { map (λ v. v.items) result.items ≡ self }
+    {
+        self.payloads
     }
 
     /// The payloads.

@@ -66,7 +66,7 @@ pub fn read_area<D: Device>(
     ensures no_fault { (IsErrOf result DiskFault → ⊥) → (D.model disk.new).read_faults ≡ (D.model disk.old).read_faults }
     ensures only_reads { OnlyReads (D.model disk.old) (D.model disk.new) }
 {
-    let mut payloads = Payloads::new(alloc);
+    let mut payloads = Payloads::new(Vec::new(alloc));
     let mut left = len;
     loop {
         match read_frame(alloc, disk, area + u64::from(len - left), left) {
