@@ -1,5 +1,5 @@
 -- What a store keeps is determined by the store and its disk.
-use Rattle.std.proofs.Common.{◌≡◌, ◌⊎◌, inl, inr, ℕ, false, IsTrue, Some, ◌+◌, List, [], ◌∷◌, ◌++◌, length, map, All, refl, sym, ap, ◌∙◌, subst, arith, length-append}
+use Rattle.std.proofs.Common.{◌≡◌, ◌⊎◌, inl, inr, ℕ, IsTrue, Some, ◌+◌, List, [], ◌∷◌, ◌++◌, length, map, All, refl, sym, ap, ◌∙◌, subst, arith, length-append}
 use Rattle.std.proofs.lemmas.Grind.{flat_map-append}
 use Rattle.std.proofs.lemmas.List.Elements.{All-head, All-tail}
 use Rattle.hb_disk.specs.Model.{DiskModel, IsDisk}
@@ -15,7 +15,6 @@ use Rattle.hb_store.specs.GroupLaws.{SpelledOnce, same_group, same_spelled}
 use Rattle.hb_store.specs.Replay.{Replayed, untouched, replay, after_group}
 use Rattle.hb_store.specs.Opening.{OpensBy, Shows, log_bytes}
 use Rattle.hb_store.specs.Keeps.{StoreState, StoreKeeps, Leads, OpensNext}
-use Rattle.hb_store.specs.StoreLaws.{StoreKeeps-by}
 use Rattle.hb_store.proofs.OneFile.{OneTurn, OneMeta, same_shown}
 
 -- ---- lists
@@ -129,14 +128,14 @@ module _ (once : SpelledOnce) (turns : OneTurn) (metas : OneMeta) (way : ReadsOn
   either A B C (inl a) = inl a
   either A B C (inr (b, c)) = inr c
 
-  module _ (d : DiskModel) (is_disk : IsDisk d) (st : StoreState) (going : st.stopped ≡ false) (b : List ℕ) (told : d.told ≡ Some b) where
+  module _ (d : DiskModel) (is_disk : IsDisk d) (st : StoreState) (b : List ℕ) (told : d.told ≡ Some b) where
     tells : (durable : FileState) (later : List FileState) → (keeps : StoreKeeps d st durable later)
         → Tells b st.turn st.log.written st.log.groups keeps.said keeps.payloads keeps.written keeps.waiting durable later
     tells durable later keeps = record {
       count = keeps.count;
       opens = either (OpensBy b st.turn keeps.said keeps.payloads keeps.written durable) (IsTrue st.stopped) (OpensNext b st.turn keeps.said keeps.payloads keeps.written keeps.waiting later)
           (keeps.images b (is_disk.as_read b told));
-      shows = (StoreKeeps-by d st durable later keeps going b (is_disk.as_read b told)).shows;
+      shows = keeps.shows b (is_disk.as_read b told);
       spelled = keeps.spelled;
       fits = keeps.fits;
       leads = keeps.leads;
@@ -159,15 +158,15 @@ module _ (once : SpelledOnce) (turns : OneTurn) (metas : OneMeta) (way : ReadsOn
       later_kept = later_is b st.turn st.log.written st.log.groups here.said here.payloads there.payloads here.written there.written here.waiting there.waiting durable other later others
           (tells durable later here) there_tells
 
-  -- a running store keeps one file, and the same ones to come
-  pub one_durable : (d : DiskModel) → IsDisk d → (st : StoreState) → st.stopped ≡ false → (durable other : FileState) (later others : List FileState)
+  -- a store keeps one file, and the same ones to come
+  pub one_durable : (d : DiskModel) → IsDisk d → (st : StoreState) (durable other : FileState) (later others : List FileState)
       → StoreKeeps d st durable later → StoreKeeps d st other others → durable ≡ other
-  one_durable d is_disk st going durable other later others here there =
+  one_durable d is_disk st durable other later others here there =
       let told = some_value d.told here.told in
-      durable_same d is_disk st going told.0 told.1 durable other later others here there
+      durable_same d is_disk st told.0 told.1 durable other later others here there
 
-  pub one_later : (d : DiskModel) → IsDisk d → (st : StoreState) → st.stopped ≡ false → (durable other : FileState) (later others : List FileState)
+  pub one_later : (d : DiskModel) → IsDisk d → (st : StoreState) (durable other : FileState) (later others : List FileState)
       → StoreKeeps d st durable later → StoreKeeps d st other others → later ≡ others
-  one_later d is_disk st going durable other later others here there =
+  one_later d is_disk st durable other later others here there =
       let told = some_value d.told here.told in
-      later_kept d is_disk st going told.0 told.1 durable other later others here there
+      later_kept d is_disk st told.0 told.1 durable other later others here there

@@ -24,11 +24,12 @@ pub fn an_image_of_a_store_opens<D: Disk>(store: &Store<D>)
     let _ = store;
 }
 
-/// What a running store keeps is a function of what the store and its disk hold now: one durable file, and the same files to come.
+/// What a store keeps, also a stopped one, is a function of what the store and its disk hold now: there is one durable
+/// file, and one list of files to come.
 pub fn a_store_keeps_one_file<D: Disk>(store: &Store<D>)
-    ensures durable { (seen_as store.now).stopped ≡ false → (durable other : FileState) (later others : List FileState) →
+    ensures durable { (durable other : FileState) (later others : List FileState) →
         StoreKeeps (D.model store.now.disk) (seen_as store.now) durable later → StoreKeeps (D.model store.now.disk) (seen_as store.now) other others → durable ≡ other }
-    ensures later { (seen_as store.now).stopped ≡ false → (durable other : FileState) (later others : List FileState) →
+    ensures later { (durable other : FileState) (later others : List FileState) →
         StoreKeeps (D.model store.now.disk) (seen_as store.now) durable later → StoreKeeps (D.model store.now.disk) (seen_as store.now) other others → later ≡ others }
 {
     let _ = store;
