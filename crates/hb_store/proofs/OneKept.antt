@@ -20,14 +20,14 @@ use Rattle.hb_store.proofs.OneFile.{OneTurn, OneMeta, same_shown}
 -- ---- lists
 
 -- lists that are the same with one more behind each
-same_fronts : {A : Type 0} (xs ys : List A) (x y : A) → xs ++ x ∷ [] ≡ ys ++ y ∷ [] → xs ≡ ys
-same_fronts [] [] x y e = refl
-same_fronts [] (b ∷ ys) x y e = absurd (omega (arith, ap (λ l. length l) e, length-append ys (y ∷ [])))
-same_fronts (a ∷ xs) [] x y e = absurd (omega (arith, ap (λ l. length l) e, length-append xs (x ∷ [])))
-same_fronts (a ∷ xs) (b ∷ ys) x y e =
+same_but_last : {A : Type 0} (xs ys : List A) (x y : A) → xs ++ x ∷ [] ≡ ys ++ y ∷ [] → xs ≡ ys
+same_but_last [] [] x y e = refl
+same_but_last [] (b ∷ ys) x y e = absurd (omega (arith, ap (λ l. length l) e, length-append ys (y ∷ [])))
+same_but_last (a ∷ xs) [] x y e = absurd (omega (arith, ap (λ l. length l) e, length-append xs (x ∷ [])))
+same_but_last (a ∷ xs) (b ∷ ys) x y e =
     let first : a ≡ b = cc in
     let rest : xs ++ x ∷ [] ≡ ys ++ y ∷ [] = cc in
-    let more = same_fronts xs ys x y rest in
+    let more = same_but_last xs ys x y rest in
     λ i. first i ∷ more i
 
 -- no list of payloads has as many bytes of frames as that list with one payload more
@@ -100,7 +100,7 @@ module _ (once : SpelledOnce) (turns : OneTurn) (metas : OneMeta) (way : ReadsOn
       written_same p q xs ys s u long (inr (g, n, here)) (inl there) =
           absurd (longer q p (group_bytes g) (sym long) (sym (payloads_same (p ++ group_bytes g ∷ []) q (xs ++ g ∷ []) ys n u here there)))
       written_same p q xs ys s u long (inr (g, n, here)) (inr (h, m, there)) =
-          same_fronts xs ys g h (groups_same (p ++ group_bytes g ∷ []) (q ++ group_bytes h ∷ []) (xs ++ g ∷ []) (ys ++ h ∷ []) n m here there)
+          same_but_last xs ys g h (groups_same (p ++ group_bytes g ∷ []) (q ++ group_bytes h ∷ []) (xs ++ g ∷ []) (ys ++ h ∷ []) n m here there)
 
     opened : (said : Meta) (p : List (List ℕ)) (xs gs : List Logged) (s : FileState) (later : List FileState)
         → OpensBy b turn said p xs s ⊎ OpensNext b turn said p xs gs later → OpensBy b turn said p xs s ⊎ OpensMore said p xs
