@@ -23,7 +23,7 @@ use Rattle.hb_store.specs.Keeps.{StoreState, StoreKeeps, IsStore, Leads, OpensNe
 use Rattle.hb_store.specs.Calls.{stopped_state, forced_state, with_log, durable_after, later_after}
 use Rattle.hb_store.specs.ReplayLaws.{replay-append, zeros_end}
 use Rattle.hb_store.specs.StoreLaws.{opens_first, StoreKeeps-by}
-use Rattle.hb_store.proofs.AreaTorn.{spelled_kept, opens_same, opens_more}
+use Rattle.hb_store.proofs.AreaTorn.{spelled_kept, shows_kept, opens_same, opens_more}
 
 -- The bytes open to the durable file, or to the next one where the first group's frame is there.
 inside_by : (turn : ℕ) (said : Meta) (b c : List ℕ) → Torn (log_place turn said) said.log b c → (payloads : List (List ℕ)) (written : List Logged) (durable : FileState)
@@ -165,6 +165,9 @@ module _ (d : DiskModel) (is_disk : IsDisk d) (st : StoreState) (is_store : IsSt
         count = keeps.count;
         images = λ c image. stopped_images (OpensBy c st.turn keeps.said keeps.payloads keeps.written durable) (OpensNext c st.turn keeps.said keeps.payloads keeps.written keeps.waiting later)
             (inside_opens c (image_inside c image));
+        shows = λ c image.
+            let old = place.crash c image in
+            shows_kept st.turn keeps.said old.0 c (torn_there old.0 c old.2) (replay (untouched keeps.said) keeps.written) durable (keeps.shows old.0 old.1);
         running = λ never. cc never;
         kept = (
           place_synced,
@@ -202,6 +205,7 @@ module _ (d : DiskModel) (is_disk : IsDisk d) (st : StoreState) (is_store : IsSt
         layout = record { k = keeps.layout.k; pages = keeps.layout.pages; log = keeps.layout.log; dcap = keeps.layout.dcap; icap = keeps.layout.icap };
         count = has.count;
         images = λ c image. inl (opens c image);
+        shows = λ c image. (opens c image).shows;
         running = λ going. record { places = places_synced; logged = has };
         kept = (
           place_synced,

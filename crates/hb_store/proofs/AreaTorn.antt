@@ -39,7 +39,7 @@ module _ (turn : ℕ) (said : Meta) (b c : List ℕ) (torn : Torn (log_place tur
   pub spelled_kept : (id : ℕ) (page : Page) → SpellsPage (place_bytes said id b) page → SpellsPage (place_bytes said id c) page
   spelled_kept id page spells = let Q : List ℕ → Type 0 = λ l. SpellsPage l page in subst Q (sym (page_kept id)) spells
 
-  shows_kept : (t : Replayed) (s : FileState) → Shows b said t s → Shows c said t s
+  pub shows_kept : (t : Replayed) (s : FileState) → Shows b said t s → Shows c said t s
   shows_kept t s shows = record {
     meta = shows.meta;
     count = shows.count;

@@ -319,6 +319,7 @@ module _ (turn : ℕ) (meta : Meta) (log : LogState) (F : ℕ → Option Frame) 
       };
       count = keeps.count ∙ sym (ap (λ (l : LogState). l.written) log_is);
       images = λ c image. inl (StoreKeeps-by d (seen turn meta log F stopped) durable later keeps going c image);
+      shows = keeps.shows;
       running = running_after;
       kept = (keeps.kept.0, let Q : LogState → Type 0 = λ l. IsSynced d l.area l.written in subst Q (sym log_is) keeps.kept.1);
       spelled = spelled_after;

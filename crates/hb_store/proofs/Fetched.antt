@@ -128,6 +128,7 @@ keeps_read d e st durable later stays k = record {
   layout = k.layout;
   count = k.count;
   images = λ c image. k.images c (stays.image c image);
+  shows = λ c image. k.shows c (stays.image c image);
   running = λ r. let run = k.running r in record {
     places = synced_read d e 0 8192 stays run.places;
     logged = record {
@@ -165,6 +166,7 @@ keeps_framed d st durable later id page there k = record {
   layout = k.layout;
   count = k.count;
   images = k.images;
+  shows = k.shows;
   running = λ r. record { places = (k.running r).places; logged = (k.running r).logged };
   kept = k.kept;
   spelled = k.spelled;

@@ -12,6 +12,7 @@ pub mod GroupReads
 pub mod LogReads
 pub mod Loops
 pub mod OneFile
+pub mod OneKept
 pub mod Replays
 pub mod Touches
 pub mod Writable

@@ -51,7 +51,7 @@ module _ (once : SpelledOnce) where
   same_page_in bytes said id None p q here there = once _ p q here there
   same_page_in bytes said id (Some touched) p q here there = sym here ∙ there
 
-  same_shown : (bytes : List ℕ) (said : Meta) (t : Replayed) (s u : FileState) → Shows bytes said t s → Shows bytes said t u → s ≡ u
+  pub same_shown : (bytes : List ℕ) (said : Meta) (t : Replayed) (s u : FileState) → Shows bytes said t s → Shows bytes said t u → s ≡ u
   same_shown bytes said t s u here there =
       let metas : s.meta ≡ u.meta = here.meta ∙ sym there.meta in
       let pages : s.pages ≡ u.pages = same_pages s.pages u.pages (here.count ∙ sym there.count) (λ id p q e f. same_page_in bytes said id (t.page id) p q (here.each id p e) (there.each id q f)) in

@@ -41,6 +41,7 @@ module _ (d : DiskModel) (is_disk : IsDisk d) (turn : ℕ) (meta : Meta) (s : Fi
       layout = record { k = refl; pages = refl; log = refl; dcap = refl; icap = refl };
       count = refl;
       images = λ c image. inl (fresh_image b told c image);
+      shows = λ c image. (fresh_image b told c image).shows;
       running = λ going. record { places = fresh.places; logged = fresh.logged };
       kept = (
         IsSynced-part d 0 8192 _ _ (omega arith) (omega arith) fresh.places,

@@ -16,7 +16,7 @@ use Rattle.hb_ops.specs.Sound.{FitsFile}
 use Rattle.hb_ops.specs.Operations.{IsAllowed, IsLicensed, effect_of}
 use Rattle.hb_store.specs.Groups.{Logged, FitsGroup, group_bytes}
 use Rattle.hb_store.specs.Replay.{Replayed, untouched, replay, after_group, MayFollow}
-use Rattle.hb_store.specs.Opening.{OpensBy, OpensTo, log_place, file_size, place_bytes}
+use Rattle.hb_store.specs.Opening.{OpensBy, OpensTo, Shows, log_place, file_size, place_bytes}
 
 -- A store: the turn of its superblock, what the file says of itself, the log, the pages in frames, the pages imaged or
 -- made in this turn, and whether it was stopped.
@@ -108,6 +108,8 @@ pub record StoreKeeps (d : DiskModel) (st : StoreState) (durable : FileState) (l
   -- every image opens to the durable file; after a failed force perhaps to the next one
   pub images : (c : List ℕ) → d.Image c → OpensBy c st.turn said payloads written durable
       ⊎ (IsTrue st.stopped × OpensNext c st.turn said payloads written waiting later)
+  -- whatever stands behind the written frames, these groups and the places make the durable file
+  pub shows : (c : List ℕ) → d.Image c → Shows c said (replay (untouched said) written) durable
   pub running : st.stopped ≡ false → IsRunning d st payloads
   pub kept : IsSynced d (place_of st.turn) PAGE × IsSynced d st.log.area st.log.written
   -- the groups that wait, and where they lead

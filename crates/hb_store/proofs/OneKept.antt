@@ -1,0 +1,172 @@
+-- What a store keeps is determined by the store and its disk.
+use Rattle.std.proofs.Common.{◌≡◌, ◌⊎◌, inl, inr, ℕ, IsTrue, Some, ◌+◌, List, [], ◌∷◌, ◌++◌, length, map, All, refl, sym, ap, ◌∙◌, subst, arith, length-append}
+use Rattle.std.proofs.lemmas.Grind.{flat_map-append}
+use Rattle.std.proofs.lemmas.List.Elements.{All-head, All-tail}
+use Rattle.hb_disk.specs.Model.{DiskModel, IsDisk}
+use Rattle.hb_disk.specs.RunLaws.{some_value}
+use Rattle.hb_super.specs.Superblocks.{IsNewest}
+use Rattle.hb_wal.specs.Frames.{frames, frame_bytes}
+use Rattle.hb_wal.specs.FrameLaws.{ReadsOneWay}
+use Rattle.hb_wal.specs.Log.{Waiting}
+use Rattle.hb_ops.specs.declared.meta.Meta.{Meta}
+use Rattle.hb_ops.specs.Files.{FileState}
+use Rattle.hb_store.specs.Groups.{Logged, FitsGroup, SpellAll, group_bytes}
+use Rattle.hb_store.specs.GroupLaws.{SpelledOnce, same_group, same_spelled}
+use Rattle.hb_store.specs.Replay.{Replayed, untouched, replay, after_group}
+use Rattle.hb_store.specs.Opening.{OpensBy, Shows, log_bytes}
+use Rattle.hb_store.specs.Keeps.{StoreState, StoreKeeps, Leads, OpensNext}
+use Rattle.hb_store.proofs.OneFile.{OneTurn, OneMeta, same_shown}
+
+-- ---- lists
+
+-- lists that are the same with one more behind each
+same_but_last : {A : Type 0} (xs ys : List A) (x y : A) → xs ++ x ∷ [] ≡ ys ++ y ∷ [] → xs ≡ ys
+same_but_last [] [] x y e = refl
+same_but_last [] (b ∷ ys) x y e = absurd (omega (arith, ap (λ l. length l) e, length-append ys (y ∷ [])))
+same_but_last (a ∷ xs) [] x y e = absurd (omega (arith, ap (λ l. length l) e, length-append xs (x ∷ [])))
+same_but_last (a ∷ xs) (b ∷ ys) x y e =
+    let first : a ≡ b = cc in
+    let rest : xs ++ x ∷ [] ≡ ys ++ y ∷ [] = cc in
+    let more = same_but_last xs ys x y rest in
+    λ i. first i ∷ more i
+
+-- no list of payloads has as many bytes of frames as that list with one payload more
+longer : (p q : List (List ℕ)) (x : List ℕ) → length (frames p) ≡ length (frames q) → p ≡ q ++ x ∷ [] → ⊥
+longer p q x long e =
+    let more : length (frames p) ≡ length (frames q) + length (frames (x ∷ [])) =
+    ap (λ (l : List (List ℕ)). length (frames l)) e ∙ ap (λ (l : List ℕ). length l) (flat_map-append frame_bytes q (x ∷ [])) ∙ length-append (frames q) (frames (x ∷ [])) in
+    absurd (omega (arith, more, long))
+
+-- ---- the files to come
+
+pub later_same : (t : Replayed) (s : FileState) (groups : List Logged) (later others : List FileState) → Leads t s groups later → Leads t s groups others → later ≡ others
+later_same t s [] later others here there = here ∙ sym there
+later_same t s (g ∷ rest) [] others here there = absurd here
+later_same t s (g ∷ rest) (x ∷ xs) [] here there = absurd there
+later_same t s (g ∷ rest) (x ∷ xs) (y ∷ ys) here there =
+    let first : x ≡ y = here.4 ∙ sym there.4 in
+    let more = later_same (after_group t g) x rest xs ys here.5 (subst (λ n. Leads (after_group t g) n rest ys) (sym first) there.5) in
+    λ i. first i ∷ more i
+
+-- What a disk's told bytes say of a store that keeps these files.
+pub record Tells (b : List ℕ) (turn written_bytes : ℕ) (waits : List Waiting) (said : Meta) (payloads : List (List ℕ)) (written waiting : List Logged) (durable : FileState) (later : List FileState) : Type 0 where
+  pub count : length (frames payloads) ≡ written_bytes
+  pub opens : OpensBy b turn said payloads written durable ⊎ OpensNext b turn said payloads written waiting later
+  pub shows : Shows b said (replay (untouched said) written) durable
+  pub spelled : map (λ w. w.bytes) waits ≡ map group_bytes waiting
+  pub fits : All (FitsGroup said.k) waiting
+  pub leads : Leads (replay (untouched said) written) durable waiting later
+
+module _ (once : SpelledOnce) (turns : OneTurn) (metas : OneMeta) (way : ReadsOneWay) where
+  waiting_same : (k : ℕ) (xs ys : List Logged) → All (FitsGroup k) xs → All (FitsGroup k) ys → map group_bytes xs ≡ map group_bytes ys → xs ≡ ys
+  waiting_same k [] [] x_fit y_fit e = refl
+  waiting_same k [] (y ∷ ys) x_fit y_fit e = cc e
+  waiting_same k (x ∷ xs) [] x_fit y_fit e = cc e
+  waiting_same k (x ∷ xs) (y ∷ ys) x_fit y_fit e =
+      let bytes : group_bytes x ≡ group_bytes y = cc in
+      let rest : map group_bytes xs ≡ map group_bytes ys = cc in
+      let first = (same_group once k x y [] [] (All-head (FitsGroup k) x xs x_fit) (All-head (FitsGroup k) y ys y_fit) (ap (λ (l : List ℕ). l ++ []) bytes)).0 in
+      let more = waiting_same k xs ys (All-tail (FitsGroup k) x xs x_fit) (All-tail (FitsGroup k) y ys y_fit) rest in
+      λ i. first i ∷ more i
+
+  module _ (b : List ℕ) (turn : ℕ) where
+    -- by the frame of a group more
+    abbrev OpensMore : Meta → List (List ℕ) → List Logged → Type 0
+    OpensMore said payloads written = (g : Logged) × (n : FileState) × OpensBy b turn said (payloads ++ group_bytes g ∷ []) (written ++ g ∷ []) n
+
+    as_more : (said : Meta) (payloads : List (List ℕ)) (written waiting : List Logged) (later : List FileState) → OpensNext b turn said payloads written waiting later → OpensMore said payloads written
+    as_more said payloads written [] later never = absurd never
+    as_more said payloads written (g ∷ waiting) [] never = absurd never
+    as_more said payloads written (g ∷ waiting) (n ∷ later) by = (g, n, by)
+
+    newest : (said : Meta) (payloads : List (List ℕ)) (written waiting : List Logged) (s : FileState) (later : List FileState)
+        → OpensBy b turn said payloads written s ⊎ OpensNext b turn said payloads written waiting later → IsNewest b turn said
+    newest said payloads written waiting s later (inl by) = by.newest
+    newest said payloads written waiting s later (inr next) = (as_more said payloads written waiting later next).2.newest
+
+    module _ (said : Meta) where
+      payloads_same : (p q : List (List ℕ)) (xs ys : List Logged) (s u : FileState) → OpensBy b turn said p xs s → OpensBy b turn said q ys u → p ≡ q
+      payloads_same p q xs ys s u here there = (way (log_bytes turn said b)).frames p q here.framed there.framed
+
+      groups_same : (p q : List (List ℕ)) (xs ys : List Logged) (s u : FileState) → OpensBy b turn said p xs s → OpensBy b turn said q ys u → xs ≡ ys
+      groups_same p q xs ys s u here there =
+          same_spelled once said.k q xs ys (subst (λ l. SpellAll said.k l xs) (payloads_same p q xs ys s u here there) here.spelled) there.spelled
+
+      written_same : (p q : List (List ℕ)) (xs ys : List Logged) (s u : FileState) → length (frames p) ≡ length (frames q)
+          → OpensBy b turn said p xs s ⊎ OpensMore said p xs → OpensBy b turn said q ys u ⊎ OpensMore said q ys → xs ≡ ys
+      written_same p q xs ys s u long (inl here) (inl there) = groups_same p q xs ys s u here there
+      written_same p q xs ys s u long (inl here) (inr (g, n, there)) =
+          absurd (longer p q (group_bytes g) long (payloads_same p (q ++ group_bytes g ∷ []) xs (ys ++ g ∷ []) s n here there))
+      written_same p q xs ys s u long (inr (g, n, here)) (inl there) =
+          absurd (longer q p (group_bytes g) (sym long) (sym (payloads_same (p ++ group_bytes g ∷ []) q (xs ++ g ∷ []) ys n u here there)))
+      written_same p q xs ys s u long (inr (g, n, here)) (inr (h, m, there)) =
+          same_but_last xs ys g h (groups_same (p ++ group_bytes g ∷ []) (q ++ group_bytes h ∷ []) (xs ++ g ∷ []) (ys ++ h ∷ []) n m here there)
+
+    opened : (said : Meta) (p : List (List ℕ)) (xs gs : List Logged) (s : FileState) (later : List FileState)
+        → OpensBy b turn said p xs s ⊎ OpensNext b turn said p xs gs later → OpensBy b turn said p xs s ⊎ OpensMore said p xs
+    opened said p xs gs s later (inl by) = inl by
+    opened said p xs gs s later (inr next) = inr (as_more said p xs gs later next)
+
+    module _ (n : ℕ) (waits : List Waiting) (said : Meta) (p q : List (List ℕ)) (xs ys gs hs : List Logged) (s u : FileState) (later others : List FileState)
+        (here : Tells b turn n waits said p xs gs s later) (there : Tells b turn n waits said q ys hs u others) where
+      written_is : xs ≡ ys
+      written_is = written_same said p q xs ys s u (here.count ∙ sym there.count) (opened said p xs gs s later here.opens) (opened said q ys hs u others there.opens)
+
+      durable_is : s ≡ u
+      durable_is = same_shown once b said (replay (untouched said) ys) s u (subst (λ l. Shows b said (replay (untouched said) l) s) written_is here.shows) there.shows
+
+      waiting_is : gs ≡ hs
+      waiting_is = waiting_same said.k gs hs here.fits there.fits (sym here.spelled ∙ there.spelled)
+
+      later_is : later ≡ others
+      later_is = later_same (replay (untouched said) ys) u hs later others
+          (subst (λ l. Leads (replay (untouched said) l) u hs later) written_is
+          (subst (λ f. Leads (replay (untouched said) xs) f hs later) durable_is
+          (subst (λ l. Leads (replay (untouched said) xs) s l later) waiting_is here.leads))) there.leads
+
+  either : (A B C : Type 0) → A ⊎ (B × C) → A ⊎ C
+  either A B C (inl a) = inl a
+  either A B C (inr (b, c)) = inr c
+
+  module _ (d : DiskModel) (is_disk : IsDisk d) (st : StoreState) (b : List ℕ) (told : d.told ≡ Some b) where
+    tells : (durable : FileState) (later : List FileState) → (keeps : StoreKeeps d st durable later)
+        → Tells b st.turn st.log.written st.log.groups keeps.said keeps.payloads keeps.written keeps.waiting durable later
+    tells durable later keeps = record {
+      count = keeps.count;
+      opens = either (OpensBy b st.turn keeps.said keeps.payloads keeps.written durable) (IsTrue st.stopped) (OpensNext b st.turn keeps.said keeps.payloads keeps.written keeps.waiting later)
+          (keeps.images b (is_disk.as_read b told));
+      shows = keeps.shows b (is_disk.as_read b told);
+      spelled = keeps.spelled;
+      fits = keeps.fits;
+      leads = keeps.leads;
+    }
+
+    module _ (durable other : FileState) (later others : List FileState) (here : StoreKeeps d st durable later) (there : StoreKeeps d st other others) where
+      said_is : there.said ≡ here.said
+      said_is = metas b st.turn st.turn there.said here.said
+          (newest b st.turn there.said there.payloads there.written there.waiting other others (tells other others there).opens)
+          (newest b st.turn here.said here.payloads here.written here.waiting durable later (tells durable later here).opens)
+
+      there_tells : Tells b st.turn st.log.written st.log.groups here.said there.payloads there.written there.waiting other others
+      there_tells = subst (λ m. Tells b st.turn st.log.written st.log.groups m there.payloads there.written there.waiting other others) said_is (tells other others there)
+
+      durable_same : durable ≡ other
+      durable_same = durable_is b st.turn st.log.written st.log.groups here.said here.payloads there.payloads here.written there.written here.waiting there.waiting durable other later others
+          (tells durable later here) there_tells
+
+      later_kept : later ≡ others
+      later_kept = later_is b st.turn st.log.written st.log.groups here.said here.payloads there.payloads here.written there.written here.waiting there.waiting durable other later others
+          (tells durable later here) there_tells
+
+  -- a store keeps one file, and the same ones to come
+  pub one_durable : (d : DiskModel) → IsDisk d → (st : StoreState) (durable other : FileState) (later others : List FileState)
+      → StoreKeeps d st durable later → StoreKeeps d st other others → durable ≡ other
+  one_durable d is_disk st durable other later others here there =
+      let told = some_value d.told here.told in
+      durable_same d is_disk st told.0 told.1 durable other later others here there
+
+  pub one_later : (d : DiskModel) → IsDisk d → (st : StoreState) (durable other : FileState) (later others : List FileState)
+      → StoreKeeps d st durable later → StoreKeeps d st other others → later ≡ others
+  one_later d is_disk st durable other later others here there =
+      let told = some_value d.told here.told in
+      later_kept d is_disk st told.0 told.1 durable other later others here there
