@@ -7,7 +7,7 @@ ghost use Rattle.hb_ops.specs.Files.{FileState};
 ghost use Rattle.hb_store.specs.Keeps.{IsFresh, StoreKeeps};
 ghost use Rattle.hb_store.specs.Seen.{seen_as};
 
-use crate::{Flushed, Store, WriteFault};
+use crate::{FetchStop, Flushed, Store, WriteFault};
 use hb_disk::{MemDisk, RotDisk};
 use hb_ops::Meta;
 use std::alloc::Global;
@@ -139,6 +139,20 @@ fn the_oldest_group_is_forced(rt: HostRuntime) -> Result<(), Fail> {
     let written = disk.inner.bytes().get(8192..8213);
     assert_eq!(rt; written, Some(FRAME.as_slice()));
     assert_eq!(rt; disk.inner.bytes().get(8213), Some(&0));
+    Ok(())
+}
+
+#[test]
+fn a_fetch_reads_at_most_once(rt: HostRuntime) -> Result<(), Fail> {
+    let rows = [(0, 0), (2, 0), (1, 1), (1, 1)];
+    let mut store = opened(rt.alloc(), &[])?;
+    for (id, calls) in rows {
+        assert_eq!(rt; store.fetch(id).is_ok(), id == 1);
+        assert_eq!(rt; store.disk.inner.calls(), calls);
+    }
+    let mut failing = opened(rt.alloc(), &[0])?;
+    assert!(rt; matches!(failing.fetch(1), Err(FetchStop::ReadFault)));
+    assert_eq!(rt; failing.disk.inner.calls(), 1);
     Ok(())
 }
 
