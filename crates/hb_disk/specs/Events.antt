@@ -1,5 +1,5 @@
 -- What a record of calls says of the bytes: which they were at each moment, and which places a crash leaves open.
-use Rattle.std.specs.Prelude.{Bool, true, false, ◌≡◌, ◌⊎◌, ℕ, ◌+◌, ◌^◌, ◌<◌, ◌≤◌, List, [], ◌∷◌, ◌++◌, length, get_or, take, drop, All, Vec, Option, Some, None, IfSome, MatchOption, Result, Ok, Err, ⊤, if◌then◌else◌, ltb, is_some}
+use Rattle.std.specs.Prelude.{Bool, true, ◌≡◌, ◌⊎◌, ℕ, ◌+◌, ◌^◌, ◌<◌, ◌≤◌, List, [], ◌∷◌, ◌++◌, length, get_or, take, drop, All, Vec, Option, Some, None, IfSome, MatchOption, Result, Ok, Err, ⊤, if◌then◌else◌, ltb, is_some}
 use Rattle.std.specs.declared.alloc.Global.{Global}
 use Rattle.hb_outside.specs.Memory.{next_count}
 use Rattle.hb_disk.specs.Model.{DiskModel, overwritten, last_value}

@@ -1,4 +1,4 @@
-use Rattle.std.proofs.Common.{◌↔◌, ◌≡◌, ◌⊎◌, length, ℕ, List, IsTrue, subst, refl}
+use Rattle.std.proofs.Common.{◌↔◌, length, ℕ, List, IsTrue, subst, refl}
 use Rattle.std.specs.List.{Contains}
 use Rattle.hb_disk.specs.Events.{Notes, IsOver, IsTry}
 use Rattle.hb_disk.specs.MemDisk.{seen_as, Records}

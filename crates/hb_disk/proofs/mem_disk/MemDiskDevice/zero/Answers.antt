@@ -1,4 +1,4 @@
-use Rattle.std.proofs.Common.{◌↔◌, ◌≡◌, ◌⊎◌, ℕ, List, IsTrue, subst, refl, replicate}
+use Rattle.std.proofs.Common.{◌↔◌, ℕ, List, IsTrue, subst, refl, replicate}
 use Rattle.std.specs.List.{Contains}
 use Rattle.hb_disk.specs.Events.{Notes, IsOver, IsTry}
 use Rattle.hb_disk.specs.MemDisk.{seen_as, Records}
