@@ -2,12 +2,10 @@
 //! that does nothing: a caller learns it by the call.
 
 ghost use Rattle.std.specs.Prelude.{◌≡◌, ◌≢◌, ◌≤◌, ◌↔◌, ◌⊎◌, ℕ, List, length, IsTrue};
-ghost use Rattle.std.specs.Thread.{IsSend, IsSync};
 ghost use Rattle.hb_space.specs.Points.{IsPoint};
 ghost use Rattle.hb_space.specs.Boxes.{Area, IsArea, Holds, Meets, Within, Disjoint, Cuts, whole_area, point_area, side_below, side_from, common_area, holds};
 
 use crate::form::KMAX;
-use crate::{Areas, Body, Point, Record, Records};
 
 /// Two boxes meet exactly where a point lies in both.
 pub fn meeting_is_by_points()
@@ -89,19 +87,3 @@ pub fn box_of_a_point_holds_it_alone()
     ensures area { (p : List ℕ) → IsPoint p → IsArea (point_area p) }
     ensures points { (p q : List ℕ) → Holds (point_area p) q ↔ (q ≡ p) }
 {}
-
-/// Values of the type may be sent to other threads, and shared with them.
-fn is_shared<T: Send + Sync>()
-    ensures sent { IsSend T.row }
-    ensures shared { IsSync T.row }
-{}
-
-/// The types of the crate may be sent to other threads, and shared with them.
-pub fn types_are_shared() {
-    is_shared::<Point>();
-    is_shared::<Body>();
-    is_shared::<Record>();
-    is_shared::<Records>();
-    is_shared::<crate::Area>();
-    is_shared::<Areas>();
-}

@@ -22,6 +22,7 @@ mod records;
 mod sides;
 #[cfg(test)]
 mod tests;
+mod threads;
 
 pub use areas::Area;
 pub use bodies::Body;
