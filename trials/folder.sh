@@ -5,7 +5,7 @@
 
 strace -o trace true 2>/dev/null || { echo "no strace can be used here"; exit 2; }
 
-# The calls that matter, in their order, each as its name and what it is for; up to the first write into the file.
+# The calls that matter, in their order, each as its name and what it is for; up to the first write, also of the output.
 asked() {
     strace -y -o trace -e trace=flock,ftruncate,fsync,fdatasync,write "$HBPI" "$@" >out </dev/null
     status=$?
@@ -27,8 +27,8 @@ says "create f" "$wanted $here/write f/" "$(asked f create 1 64 65536 6 32)"
 says "create sub/f" "$wanted sub/write f/" "$(asked sub/f create 1 64 65536 6 32)"
 rm sub/f
 says "create of the whole path" "$wanted sub/write f/" "$(asked "$room/sub/f" create 1 64 65536 6 32)"
-says "nothing is answered before: what was written to the output" "created" "$(cat out)"
-says "drive f: the lock, and a sync before the first write" "flock f/fdatasync f/write f/" "$(asked f drive)"
+# (no page is touched by an empty log, so nothing is written between the first two syncs of an opening)
+says "drive f" "flock f/fdatasync f/fdatasync f/write f/" "$(asked f drive)"
 says "create without a lock" "disk fault (6)" "$(refused flock:error=ENOLCK)"
 says "create without the file's sync" "disk fault (6)" "$(refused fsync:error=EIO:when=1)"
 says "create without the folder's sync" "disk fault (6)" "$(refused fsync:error=EIO:when=2)"
