@@ -1,6 +1,6 @@
 //! A file, and a disk in memory beside it.
 
-use hb_disk::MemDisk;
+use hb_disk::{Disk, MemDisk};
 use hb_outside::{MemSink, MemSource};
 use hbpi::{Call, run, top};
 use std::alloc::Global;
@@ -16,13 +16,13 @@ pub(crate) struct Pair {
 
 /// What a call came to: its exit status and its output.
 #[derive(Drop, PartialEq, Eq)]
-struct Outcome {
+pub(crate) struct Outcome {
     status: u8,
     output: Vec<u8>,
 }
 
 /// The call of the program that these words make, over the file of this name.
-fn call_of(alloc: Global, name: &str, words: &str) -> io::Result<Call> {
+pub(crate) fn call_of(alloc: Global, name: &str, words: &str) -> io::Result<Call> {
     let mut list = Vec::new(alloc);
     for word in words.split_whitespace() {
         list.push(word.to_string(alloc)?)?;
@@ -40,13 +40,13 @@ fn on_file(rt: &HostRuntime, call: &Call, text: &str) -> io::Result<Outcome> {
     Ok(Outcome { status, output })
 }
 
-/// The same call over the disk in memory, and that disk behind it.
-fn in_memory(
+/// The same call over a disk, and that disk behind it.
+pub(crate) fn on_disk<D: Disk + Drop>(
     alloc: Global,
     call: &Call,
     text: &str,
-    disk: MemDisk,
-) -> io::Result<(Outcome, MemDisk)> {
+    disk: D,
+) -> io::Result<(Outcome, D)> {
     let text = Vec::from_slice(alloc, text.as_bytes())?;
     let mut source = MemSource::new(text, Vec::new(alloc));
     let sink = MemSink::new(alloc, Vec::new(alloc));
@@ -90,7 +90,7 @@ impl Pair {
         let call = call_of(rt.alloc(), name, words)?;
         let outcome = on_file(rt, &call, text)?;
         tell(rt, &outcome)?;
-        let (wanted, disk) = in_memory(rt.alloc(), &call, text, disk)?;
+        let (wanted, disk) = on_disk(rt.alloc(), &call, text, disk)?;
         if outcome != wanted {
             println!(rt; "in memory it comes to another output or status")?;
         }
@@ -126,7 +126,7 @@ impl Pair {
         let call = call_of(rt.alloc(), name, words)?;
         let status = run(rt, &call, text.as_bytes(), output)?.code();
         println!(rt; "status {status}")?;
-        let (_, disk) = in_memory(rt.alloc(), &call, text, disk)?;
+        let (_, disk) = on_disk(rt.alloc(), &call, text, disk)?;
         let pair = Pair { name, disk };
         pair.compare(rt)?;
         Ok(pair)

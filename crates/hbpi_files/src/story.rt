@@ -1,18 +1,18 @@
 //! What is tried, in order.
 
-use crate::beside::Pair;
+use crate::beside::{Pair, call_of, on_disk};
 use crate::lost::{FailsToFlush, Full};
-use hb_disk::MemDisk;
-use hbpi::open_file;
+use hb_disk::{Disk, MemDisk};
+use hbpi::{make_file, open_file};
 use std::alloc::Global;
 use std::fs::File;
 use std::io::{Seek, SeekFrom, Write};
 use std::{fs, io};
 
-/// The file, and the one that is cut short.
+/// The file, and another one, which is cut short later.
 const NAME: &str = "hbpi_files.records";
 
-const SHORT: &str = "hbpi_files.short";
+const SHORT: &str = "./hbpi_files.short";
 
 const CREATE: &str = "create 2 64 65536 6 32";
 
@@ -80,12 +80,16 @@ fn fill_area(rt: &HostRuntime, pair: Pair) -> io::Result<Pair> {
     })
 }
 
+/// A disk in memory of so many zeros as a new file has.
+fn zeros(alloc: Global) -> io::Result<MemDisk> {
+    Ok(MemDisk::new(alloc, vec![in alloc; 0; SIZE]?))
+}
+
 /// Makes the file, and drives it with two texts.
 fn make_and_drive(rt: &HostRuntime) -> io::Result<Pair> {
-    let zeros = vec![in rt.alloc(); 0; SIZE]?;
     let pair = Pair {
         name: NAME,
-        disk: MemDisk::new(rt.alloc(), zeros),
+        disk: zeros(rt.alloc())?,
     };
     let pair = pair.call(rt, CREATE, "")?;
     let pair = fill_area(rt, pair)?;
@@ -102,6 +106,22 @@ fn refuse(rt: &HostRuntime, pair: Pair) -> io::Result<Pair> {
     drop(held);
     println!(rt; "let go")?;
     pair.call(rt, "drive", LOOKUP)
+}
+
+/// `drive` on a new file that is held since it was made, and then. `create` makes nine calls of a disk.
+fn hold_a_new_file(rt: &HostRuntime) -> io::Result<()> {
+    let alloc = rt.alloc();
+    let call = call_of(alloc, SHORT, CREATE)?;
+    let (_, held) = on_disk(alloc, &call, "", make_file(rt, SHORT, SIZE as u64)?)?;
+    let (_, disk) = on_disk(alloc, &call, "", zeros(alloc)?)?;
+    let pair = Pair { name: SHORT, disk };
+    let count = held.clock();
+    println!(rt; "made by {count} calls, and held open")?;
+    pair.call_that_changes_nothing(rt, "drive", LOOKUP)?;
+    drop(held);
+    println!(rt; "let go")?;
+    pair.call(rt, "drive", LOOKUP)?;
+    Ok(())
 }
 
 /// Two changes whose replies are lost: they are made all the same.
@@ -145,6 +165,7 @@ pub(crate) fn tell(rt: &HostRuntime) -> io::Result<()> {
     clear(rt);
     let pair = make_and_drive(rt)?;
     let pair = refuse(rt, pair)?;
+    hold_a_new_file(rt)?;
     let pair = lose_the_output(rt, pair)?;
     for count in [SIZE - 1, 8191, 0] {
         cut_to(rt, &pair, count)?;
