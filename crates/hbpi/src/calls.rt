@@ -84,20 +84,18 @@ impl Call {
     }
 }
 
-/// Runs the program over these streams and a disk. The output is buffered, and flushed at the end.
+/// Runs the program over these streams and a disk. The output is flushed at the end.
 fn run_over<I: Read + Drop, O: Write + Drop, D: Disk + Drop>(
     alloc: Global,
     words: &[String],
-    input: I,
-    output: O,
+    mut source: ReadSource<I>,
+    sink: WriteSink<O>,
     disk: D,
-) -> io::Result<Status> {
-    let mut source = ReadSource::new(input);
-    let sink = WriteSink::new(BufWriter::new(alloc, output)?);
+) -> Status {
     let mut finished = top(alloc, words, &mut source, sink, disk);
     match finished.sink.flush() {
-        Ok(()) => Ok(finished.status),
-        Err(_) => Ok(finished.status.after_sink_fault()),
+        Ok(()) => finished.status,
+        Err(_) => finished.status.after_sink_fault(),
     }
 }
 
@@ -105,28 +103,28 @@ fn run_over<I: Read + Drop, O: Write + Drop, D: Disk + Drop>(
 fn run_on<I: Read + Drop, O: Write + Drop>(
     alloc: Global,
     words: &[String],
-    input: I,
-    output: O,
+    source: ReadSource<I>,
+    sink: WriteSink<O>,
     file: io::Result<FileDisk>,
-) -> io::Result<Status> {
+) -> Status {
     match file {
-        Ok(disk) => run_over(alloc, words, input, output, disk),
-        Err(_) => Ok(refuse(output, Status::DiskFault)),
+        Ok(disk) => run_over(alloc, words, source, sink, disk),
+        Err(_) => refuse(sink, Status::DiskFault),
     }
 }
 
 /// Refuses a call that `top` isn't asked: writes the fault line of the status, and gives the status back. Where writing
 /// fails, nobody can be told.
-pub fn refuse<O: Write + Drop>(output: O, status: Status) -> Status {
-    let mut sink = WriteSink::new(output);
+fn refuse<O: Write + Drop>(mut sink: WriteSink<O>, status: Status) -> Status {
     put_fault(&mut sink, status);
+    let _unheard = sink.flush();
     status
 }
 
 /// Runs the program over the file of the call, with the text from `input` and the output to `output`, and gives the
-/// status. A file that can't be had is `DiskFault`.
+/// status. The output is buffered, and flushed at the end. A file that can't be had is `DiskFault`.
 ///
-/// Errors: where memory is refused for the output's buffer. Nothing was written then.
+/// Errors: where memory is refused for the output's buffer. No file was made or opened then, and nothing was written.
 pub fn run<I: Read + Drop, O: Write + Drop>(
     rt: &HostRuntime,
     call: &Call,
@@ -135,19 +133,21 @@ pub fn run<I: Read + Drop, O: Write + Drop>(
 ) -> io::Result<Status> {
     let alloc = rt.alloc();
     let words = call.words.as_slice();
+    let source = ReadSource::new(input);
+    let sink = WriteSink::new(BufWriter::new(alloc, output)?);
     match place_of(call) {
         Place::Memory => {
             let disk = MemDisk::new(alloc, Vec::new(alloc));
-            run_over(alloc, words, input, output, disk)
+            Ok(run_over(alloc, words, source, sink, disk))
         }
-        Place::New(size) => run_on(
-            alloc,
-            words,
-            input,
-            output,
-            make_file(rt, call.name(), size),
-        ),
-        Place::There => run_on(alloc, words, input, output, open_file(rt, call.name())),
+        Place::New(size) => {
+            let file = make_file(rt, call.name(), size);
+            Ok(run_on(alloc, words, source, sink, file))
+        }
+        Place::There => {
+            let file = open_file(rt, call.name());
+            Ok(run_on(alloc, words, source, sink, file))
+        }
     }
 }
 
@@ -163,8 +163,8 @@ pub fn run_process(rt: &HostRuntime) -> Status {
         Ok(status) => status,
         // A word that isn't UTF-8 is no word of a form.
         Err(error) if error.kind() == io::ErrorKind::InvalidData => {
-            refuse(io::writer(rt), Status::Usage)
+            refuse(WriteSink::new(io::writer(rt)), Status::Usage)
         }
-        Err(_) => refuse(io::writer(rt), Status::NoMemory),
+        Err(_) => refuse(WriteSink::new(io::writer(rt)), Status::NoMemory),
     }
 }

@@ -12,10 +12,13 @@ use std::io::{ErrorKind, Read, Seek, SeekFrom, Write};
 
 /// A file of fixed size as a disk. It tells nothing of its bytes: that a file behaves as a disk that
 /// tells is assumed wherever a promise speaks of crashes.
+///
+/// Its clock counts the writes, zeroes and syncs, failed ones too, up to the greatest `u64`.
 #[derive(Drop)]
 pub struct FileDisk {
     file: File,
     size: u64,
+    clock: u64,
     read_faults: u64,
     write_faults: u64,
     ghost size_fits: { size ≤ last_value },
@@ -27,6 +30,7 @@ impl FileDisk {
         FileDisk {
             file,
             size,
+            clock: 0,
             read_faults: 0,
             write_faults: 0,
         }
@@ -122,14 +126,17 @@ impl Device for FileDisk {
     }
 
     fn write(&mut self, at: u64, from: &[u8]) -> Result<(), Failed> {
+        self.clock = self.clock.saturating_add(1);
         counted(write_at(&mut self.file, at, from), &mut self.write_faults)
     }
 
     fn zero(&mut self, at: u64, len: u64) -> Result<(), Failed> {
+        self.clock = self.clock.saturating_add(1);
         counted(zero_at(&mut self.file, at, len), &mut self.write_faults)
     }
 
     fn sync(&mut self) -> Result<(), Failed> {
+        self.clock = self.clock.saturating_add(1);
         let done = match self.file.sync_data() {
             Ok(()) => Ok(()),
             Err(_) => Err(Failed),
@@ -142,6 +149,6 @@ impl Device for FileDisk {
 
 impl Disk for FileDisk {
     fn clock(&self) -> u64 {
-        0
+        self.clock
     }
 }

@@ -31,7 +31,7 @@ mod tests;
 mod texts;
 pub mod top;
 
-pub use calls::{Call, call_of, refuse, run, run_process};
+pub use calls::{Call, call_of, run, run_process};
 pub use file_disk::FileDisk;
 pub use files::{make_file, open_file};
 pub use finished::Finished;

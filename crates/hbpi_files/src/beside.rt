@@ -1,0 +1,134 @@
+//! A file, and a disk in memory beside it.
+
+use hb_disk::{Disk, MemDisk};
+use hb_outside::{MemSink, MemSource};
+use hbpi::{Call, run, top};
+use std::alloc::Global;
+use std::io::Write;
+use std::{fs, io, str};
+
+/// A real file, and a disk in memory that is to have the same bytes.
+#[derive(Drop)]
+pub(crate) struct Pair {
+    pub(crate) name: &'static str,
+    pub(crate) disk: MemDisk,
+}
+
+/// What a call came to: its exit status and its output.
+#[derive(Drop, PartialEq, Eq)]
+pub(crate) struct Outcome {
+    status: u8,
+    output: Vec<u8>,
+}
+
+/// The call of the program that these words make, over the file of this name.
+pub(crate) fn call_of(alloc: Global, name: &str, words: &str) -> io::Result<Call> {
+    let mut list = Vec::new(alloc);
+    for word in words.split_whitespace() {
+        list.push(word.to_string(alloc)?)?;
+    }
+    Ok(Call {
+        file: Some(name.to_string(alloc)?),
+        words: list,
+    })
+}
+
+/// The call over the file itself, by the functions of the program.
+fn on_file(rt: &HostRuntime, call: &Call, text: &str) -> io::Result<Outcome> {
+    let mut output = Vec::new(rt.alloc());
+    let status = run(rt, call, text.as_bytes(), &mut output)?.code();
+    Ok(Outcome { status, output })
+}
+
+/// The same call over a disk, and that disk behind it.
+pub(crate) fn on_disk<D: Disk + Drop>(
+    alloc: Global,
+    call: &Call,
+    text: &str,
+    disk: D,
+) -> io::Result<(Outcome, D)> {
+    let text = Vec::from_slice(alloc, text.as_bytes())?;
+    let mut source = MemSource::new(text, Vec::new(alloc));
+    let sink = MemSink::new(alloc, Vec::new(alloc));
+    let finished = top::top(alloc, call.words.as_slice(), &mut source, sink, disk);
+    let outcome = Outcome {
+        status: finished.status.code(),
+        output: Vec::from_slice(alloc, finished.sink.bytes())?,
+    };
+    Ok((outcome, finished.disk))
+}
+
+/// Prints the output and the status.
+fn tell(rt: &HostRuntime, outcome: &Outcome) -> io::Result<()> {
+    match str::from_utf8(outcome.output.as_slice()) {
+        Ok(text) => rt.print(text)?,
+        Err(_) => println!(rt; "the output isn't text")?,
+    }
+    let status = outcome.status;
+    println!(rt; "status {status}")
+}
+
+impl Pair {
+    /// Says whether the file has the bytes of the disk, all of them and no more.
+    fn compare(&self, rt: &HostRuntime) -> io::Result<()> {
+        let found = fs::read(rt, self.name)?;
+        let wanted = self.disk.bytes();
+        let (has, wants) = (found.len(), wanted.len());
+        if has != wants {
+            return println!(rt; "the file has {has} bytes, and not {wants}");
+        }
+        match found.iter().zip(wanted).position(|(a, b)| a != b) {
+            None => println!(rt; "every byte of the file is as in memory"),
+            Some(at) => println!(rt; "byte {at} of the file isn't as in memory"),
+        }
+    }
+
+    /// Makes a call over both, prints what came of it, and compares the two.
+    pub(crate) fn call(self, rt: &HostRuntime, words: &str, text: &str) -> io::Result<Pair> {
+        println!(rt; "> {words}")?;
+        let Pair { name, disk } = self;
+        let call = call_of(rt.alloc(), name, words)?;
+        let outcome = on_file(rt, &call, text)?;
+        tell(rt, &outcome)?;
+        let (wanted, disk) = on_disk(rt.alloc(), &call, text, disk)?;
+        if outcome != wanted {
+            println!(rt; "in memory it comes to another output or status")?;
+        }
+        let pair = Pair { name, disk };
+        pair.compare(rt)?;
+        Ok(pair)
+    }
+
+    /// Makes a call over the file alone, which is to leave it as it was, and compares the two.
+    pub(crate) fn call_that_changes_nothing(
+        &self,
+        rt: &HostRuntime,
+        words: &str,
+        text: &str,
+    ) -> io::Result<()> {
+        println!(rt; "> {words}")?;
+        let call = call_of(rt.alloc(), self.name, words)?;
+        tell(rt, &on_file(rt, &call, text)?)?;
+        self.compare(rt)
+    }
+
+    /// Makes a call over both, where that over the file writes its output to a writer that fails, prints the status, and
+    /// compares the two.
+    pub(crate) fn call_into<W: Write + Drop>(
+        self,
+        rt: &HostRuntime,
+        words: &str,
+        text: &str,
+        output: W,
+    ) -> io::Result<Pair> {
+        println!(rt; "> {words}")?;
+        let Pair { name, disk } = self;
+        let call = call_of(rt.alloc(), name, words)?;
+        let status = run(rt, &call, text.as_bytes(), output)?.code();
+        println!(rt; "status {status}")?;
+        let (_, disk) = on_disk(rt.alloc(), &call, text, disk)?;
+        let pair = Pair { name, disk };
+        pair.compare(rt)?;
+        Ok(pair)
+    }
+}
