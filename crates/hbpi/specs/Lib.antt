@@ -13,6 +13,7 @@ pub mod Looking
 pub mod Renewing
 pub mod Core
 pub mod CoreSeen
+pub mod Damages
 pub mod Drives
 pub mod Moves
 pub mod Steps

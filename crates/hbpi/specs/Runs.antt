@@ -12,6 +12,7 @@ use Rattle.hb_text.specs.Grammar.{Reading, text_read}
 use Rattle.hbpi.specs.Core.{AreAmong, HoldsAnswers, CrashesTo, IsReplied, entries_from, set_of}
 use Rattle.hbpi.specs.Driven.{DriveCommandEnds, HasFailed, IsScheduled, IsServedScript}
 use Rattle.hbpi.specs.Codes.{status_of}
+use Rattle.hbpi.specs.Created.{IsUnmade}
 use Rattle.hbpi.specs.Restart.{IsOnePage, IsUnwritten, Refuses}
 use Rattle.hbpi.specs.declared.restart.faults.OpenFault.{OpenFault}
 use Rattle.hbpi.specs.Ends.{Seen, DiskSeen, DryEnds, CreateEnds, UsageEnds, UnbuiltEnds}
@@ -32,6 +33,11 @@ RunEnds (Some (Dry k)) d e seen status = DryEnds k seen status
 RunEnds (Some (Create k pages log dcap icap)) d e seen status = CreateEnds (first_fault k pages log dcap icap) (size_of pages log) seen (disk_seen d e) status
 RunEnds (Some Drive) d e seen status = DriveCommandEnds d e seen status
 RunEnds (Some form) d e seen status = UnbuiltEnds seen status
+
+-- the form asks for a new file, and none was made for its layout or for the disk's size
+abbrev pub LeavesUnmade : Option Form → Status → Type 0
+LeavesUnmade (Some (Create k pages log dcap icap)) status = IsUnmade status
+LeavesUnmade _ status = ⊥
 
 -- The promise of `drive` over a disk that tells and opens to a sound file. There are lines of the text that took effect:
 -- their numbers are the order. They are a legal order from the records of the file, and every answer is the machine's at

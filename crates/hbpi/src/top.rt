@@ -5,7 +5,7 @@ ghost use Rattle.hb_store.specs.Opening.{IsEven, OpensTo};
 ghost use Rattle.hbpi.specs.Restart.{new_file};
 ghost use Rattle.hbpi.specs.Forms.{form_of, IsUnbuilt};
 ghost use Rattle.hbpi.specs.Ends.{seen_by, HasMade, IsComplete, IsMadeWhole, RefusesBadText, NamesBadLine, UsesNoDisk};
-ghost use Rattle.hbpi.specs.Runs.{RunEnds, IsDriven, KeepsPromise, RefusesFile, disk_seen};
+ghost use Rattle.hbpi.specs.Runs.{RunEnds, IsDriven, LeavesUnmade, KeepsPromise, RefusesFile, disk_seen};
 
 use crate::create::create_file;
 use crate::drive_file::drive_file;
@@ -53,6 +53,9 @@ pub fn top<S: Source, K: Sink, D: Disk>(
     ensures created { (k pages log dcap icap : ℕ) → form_of (map string_bytes words.now) ≡ Some (Form.Create k pages log dcap icap) →
         HasMade result.status → IsSome (D.model disk).told → IsEven (D.model result.disk)
         (new_file (record { k = k; pages = pages; log = log; dcap = dcap; icap = icap })) }
+
+    // A file that isn't made for its layout or for the disk's size leaves the disk as it was.
+    ensures unmade { LeavesUnmade (form_of (map string_bytes words.now)) result.status → result.disk ≡ disk }
 
     // Over a disk that tells and opens to a sound file, `drive` keeps its promise: replies, order and crashes.
     ensures promise { (b : List ℕ) (s : FileState) → form_of (map string_bytes words.now) ≡ Some Form.Drive → (D.model disk).told ≡ Some b → OpensTo b s → IsSound s →

@@ -1,5 +1,5 @@
 //! Making a file.
-ghost use Rattle.std.specs.Prelude.{◌≡◌, ◌⊎◌, ℕ, ◌*◌, ◌+◌, ◌≤◌, ◌<◌, List, [], length, get_or, Some, None, OnOk, IfOk, IfErr, IfSome, IsSome, IsNone};
+ghost use Rattle.std.specs.Prelude.{◌≡◌, ◌≢◌, ◌⊎◌, ℕ, ◌*◌, ◌+◌, ◌≤◌, ◌<◌, List, [], length, get_or, Some, None, OnOk, IfOk, IfErr, IfSome, IsSome, IsNone};
 ghost use Rattle.hb_space.specs.declared.form.TheConstants.{PAGE};
 ghost use Rattle.hb_outside.specs.Streams.{Rose};
 ghost use Rattle.hb_disk.specs.Calls.{WriteFaults};
@@ -128,7 +128,7 @@ pub(crate) fn create<D: Device>(
     ensures refused { IfErr result (λ e. (layout_fault layout ≡ Some e.0)
         ⊎ (IsNone (layout_fault layout) × ((e.0 ≡ OpenFault.Small (layout_size layout) (D.model disk).size) × ((D.model disk).size < layout_size layout)))
         ⊎ (IsNone (layout_fault layout) × (layout_size layout ≤ (D.model disk).size) × ((e.0 ≡ DiskFault) ⊎ (e.0 ≡ NoMemory)))) }
-    ensures unwritten { IfErr result (λ e. (e.0 ≡ DiskFault → ⊥) → (e.0 ≡ NoMemory → ⊥) → e.1 ≡ disk) }
+    ensures unwritten { IfErr result (λ e. e.0 ≢ DiskFault → e.0 ≢ NoMemory → e.1 ≡ disk) }
     // memory is refused only once the file is made
     ensures made_anyway { IfErr result (λ e. e.0 ≡ NoMemory → IsSome (D.model disk).told → IsFresh (D.model e.1) 0 (new_meta layout) (new_file layout)) }
     ensures cause { IfErr result (λ e. e.0 ≡ DiskFault → (Rose (D.model disk).write_faults (D.model e.1).write_faults)) }
