@@ -9,6 +9,7 @@ pub mod Audit
 pub mod Restart
 pub mod OnePage
 pub mod Creation
+pub mod Beyond
 pub mod Looking
 pub mod Renewing
 pub mod Core

@@ -77,6 +77,11 @@ GivesFor seen status (Err bad) = (status ≡ BadText bad) ⊎ (status ≡ NoMemo
 abbrev pub IsDriven : DiskModel → DiskModel → Seen → Status → Type 0
 IsDriven d e seen status = (s : FileState) (left : List ℕ) → IsCalm s left d e seen → GivesFor seen status (text_read true s.meta.k left)
 
+-- The line and the rule that `drive` names are the first bad line of all that the source had left, by the attributes of
+-- the file that the disk opens to, and its first rule.
+abbrev pub NamesScheduleLine : DiskModel → Seen → Status → Type 0
+NamesScheduleLine d seen status = (bytes : List ℕ) (s : FileState) (left : List ℕ) (bad : BadLine) → d.told ≡ Some bytes → OpensTo bytes s → seen.left ≡ Some left → status ≡ BadText bad → text_read true s.meta.k left ≡ Err bad
+
 -- Where no call of a disk that tells failed: bytes that open to no sound file are refused, by a refusal that is true of
 -- them; and a refusal that is true of them is the one that is answered. Memory may be refused in their place.
 abbrev pub RefusesFile : DiskModel → DiskModel → Status → Type 0

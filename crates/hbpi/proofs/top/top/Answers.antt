@@ -5,6 +5,7 @@ use Rattle.hbpi.specs.Ends.{Seen, seen_by, IsComplete, IsMadeWhole, RefusesBadTe
 use Rattle.hbpi.specs.Runs.{RunEnds, disk_seen}
 use Rattle.hbpi.proofs.EndLaws.{ends_complete, ends_refuses, ends_names, ends_made, never_usage, never_unbuilt}
 use Rattle.hbpi.proofs.DriveGiven.{is_driven}
+use Rattle.hbpi.proofs.DriveNames.{names_line}
 use Rattle.hbpi.proofs.FileRefused.{refuses_file}
 use Rattle.hbpi.proofs.Promises.{keeps_promise}
 use Rattle.hbpi.proofs.top.top.Goals as goal
@@ -64,6 +65,10 @@ returns-in-Some-Drive-clause-promise g c b s is told opens sound =
 pub returns-in-Some-Drive-clause-driven : goal.returns-in-Some-Drive-clause-driven
 returns-in-Some-Drive-clause-driven g c is =
     is_driven (g.D.Device.model c.args.disk) (g.D.Device.model c.drive_file.result.disk) _ c.drive_file.result.status c.an_image_opens_to_one_file.ensures.one c.a_good_file_is_not_refused.ensures c.drive_file.ensures.ends
+
+pub returns-in-Some-Drive-clause-driven_named : goal.returns-in-Some-Drive-clause-driven_named
+returns-in-Some-Drive-clause-driven_named g c is =
+    names_line (g.D.Device.model c.args.disk) (g.D.Device.model c.drive_file.result.disk) _ c.drive_file.result.status c.an_image_opens_to_one_file.ensures.one c.drive_file.ensures.ends
 
 pub returns-in-Some-Drive-clause-refused : goal.returns-in-Some-Drive-clause-refused
 returns-in-Some-Drive-clause-refused g c is =

@@ -1,7 +1,10 @@
 use Rattle.std.proofs.Common.{◌≡◌, ℕ, ◌+◌, ◌*◌, ◌≤◌, ◌∙◌, List, replicate, get_or, Some, IfSome, length, subst, arith}
+use Rattle.std.proofs.lemmas.List.{length-replicate}
 use Rattle.hb_disk.specs.Model.{overwritten}
 use Rattle.hb_disk.specs.RunLaws.{if_value, at_value, on_ok}
 use Rattle.hbpi.specs.Creation.{IsLaidOut}
+use Rattle.hb_store.specs.Opening.{file_size}
+use Rattle.hbpi.proofs.Beyond.{beyond_sync, beyond_then, beyond_write}
 use Rattle.hbpi.proofs.Made.{laid_out}
 use Rattle.hbpi.proofs.restart.creation.write_parts.Goals as goal
 
@@ -27,3 +30,36 @@ returns-clause-laid g c =
       c.sync.ensures.syncs.same ∙ both,
       laid_out b meta page c.requires.some fits c.told-page first second,
     )))
+
+pub returns-in_err-zero-clause-beyond : goal.returns-in_err-zero-clause-beyond
+returns-in_err-zero-clause-beyond g c =
+    beyond_write c.zero.result 8192 (replicate c.from.result 0) (file_size c.args.meta.now) (g.D.Device.model c.args.disk.now) (g.D.Device.model c.zero.new.self)
+    (g.met.D.Device.is_disk c.args.disk.now) (g.met.D.Device.is_disk c.zero.new.self) c.requires.room
+    (omega (arith, length-replicate {A = ℕ} c.from.result 0, c.from.ensures)) c.zero.ensures.writes c.zero.ensures.ticks
+
+pub returns-in_err-write-clause-beyond : goal.returns-in_err-write-clause-beyond
+returns-in_err-write-clause-beyond g c =
+    let d = g.D.Device.model c.args.disk.now in
+    let one = g.D.Device.model c.zero.new.self in
+    let two = g.D.Device.model c.write.new.self in
+    let n = file_size c.args.meta.now in
+    beyond_then n d one two
+    (beyond_write c.zero.result 8192 (replicate c.from.result 0) n d one (g.met.D.Device.is_disk c.args.disk.now) (g.met.D.Device.is_disk c.zero.new.self) c.requires.room
+    (omega (arith, length-replicate {A = ℕ} c.from.result 0, c.from.ensures)) c.zero.ensures.writes c.zero.ensures.ticks)
+    (beyond_write c.write.result (8192 + 2 * c.from-2.result) c.args.page.now n one two (g.met.D.Device.is_disk c.zero.new.self) (g.met.D.Device.is_disk c.write.new.self)
+    (omega (arith, c.requires.room, c.zero.ensures.ticks.size)) (omega (arith, c.told-page, c.from-2.ensures, c.requires.some)) c.write.ensures.writes c.write.ensures.ticks)
+
+pub returns-clause-beyond : goal.returns-clause-beyond
+returns-clause-beyond g c =
+    let d = g.D.Device.model c.args.disk.now in
+    let one = g.D.Device.model c.zero.new.self in
+    let two = g.D.Device.model c.write.new.self in
+    let new = g.D.Device.model c.sync.new.self in
+    let n = file_size c.args.meta.now in
+    beyond_then n d two new
+    (beyond_then n d one two
+    (beyond_write c.zero.result 8192 (replicate c.from.result 0) n d one (g.met.D.Device.is_disk c.args.disk.now) (g.met.D.Device.is_disk c.zero.new.self) c.requires.room
+    (omega (arith, length-replicate {A = ℕ} c.from.result 0, c.from.ensures)) c.zero.ensures.writes c.zero.ensures.ticks)
+    (beyond_write c.write.result (8192 + 2 * c.from-2.result) c.args.page.now n one two (g.met.D.Device.is_disk c.zero.new.self) (g.met.D.Device.is_disk c.write.new.self)
+    (omega (arith, c.requires.room, c.zero.ensures.ticks.size)) (omega (arith, c.told-page, c.from-2.ensures, c.requires.some)) c.write.ensures.writes c.write.ensures.ticks))
+    (beyond_sync c.sync.result n two new (g.met.D.Device.is_disk c.write.new.self) c.sync.ensures.syncs c.sync.ensures.ticks)
