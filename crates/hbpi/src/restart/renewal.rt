@@ -14,6 +14,7 @@ ghost use Rattle.hb_ops.specs.Files.{FileState};
 ghost use Rattle.hb_store.specs.Opening.{OpensTo, IsEven, file_size, log_place, page_place, place_bytes};
 ghost use Rattle.hb_store.specs.Keeps.{IsFresh};
 ghost use Rattle.hb_store.specs.Stops.{IsTouched};
+ghost use Rattle.hbpi.specs.Beyond.{KeepsBeyond};
 ghost use Rattle.hbpi.specs.Looking.{IsFoundIn, IsWhole};
 ghost use Rattle.hbpi.specs.OnePage.{lone};
 ghost use Rattle.hbpi.specs.Renewing.{StillOpens, IsHere, IsPlaced, IsReadyFor, Runs};
@@ -65,6 +66,7 @@ fn settle<D: Device>(disk: &mut D, turn: u8, meta: &Meta, touched: &Touched) -> 
     requires legal { IsLegal turn meta.now }
     requires touched { IsTouched meta.now touched.now }
     ensures run { Runs 1 result (D.model disk.old) (D.model disk.new) }
+    ensures beyond { KeepsBeyond (file_size meta.now) (D.model disk.old) (D.model disk.new) }
     ensures moments { (page : Content) → IsHere (D.model disk.old) turn meta.now (get nat_cmp touched.now.pages 1) page →
         Leaves (D.model disk.old) (D.model disk.new) (StillOpens turn meta.now (get nat_cmp touched.now.pages 1) page) }
     ensures placed { OnOk result ((page : Content) → IsHere (D.model disk.old) turn meta.now (get nat_cmp touched.now.pages 1) page →
@@ -81,6 +83,7 @@ fn make_room<D: Device>(disk: &mut D, turn: u8, meta: &Meta) -> Result<(), DiskF
     requires room { file_size meta.now ≤ (D.model disk.old).size }
     requires legal { IsLegal turn meta.now }
     ensures run { Runs 5 result (D.model disk.old) (D.model disk.new) }
+    ensures beyond { KeepsBeyond (file_size meta.now) (D.model disk.old) (D.model disk.new) }
     ensures moments { (touched : Option Content) (page : Content) → IsPlaced (D.model disk.old) turn meta.now touched page →
         Leaves (D.model disk.old) (D.model disk.new) (StillOpens turn meta.now touched page) }
     ensures ready { OnOk result ((touched : Option Content) (page : Content) → IsPlaced (D.model disk.old) turn meta.now touched page →
@@ -98,6 +101,7 @@ fn switch<D: Device>(disk: &mut D, turn: u8, meta: &Meta) -> Result<(), DiskFaul
     requires legal { IsLegal turn meta.now }
     requires one { meta.now.high ≡ 1 }
     ensures run { Runs 11 result (D.model disk.old) (D.model disk.new) }
+    ensures beyond { KeepsBeyond (file_size meta.now) (D.model disk.old) (D.model disk.new) }
     ensures moments { (touched : Option Content) (page : Content) → IsPlaced (D.model disk.old) turn meta.now touched page →
         Leaves (D.model disk.old) (D.model disk.new) (λ c. OpensTo c (lone meta.now page)) }
     ensures fresh { OnOk result ((touched : Option Content) (page : Content) → IsPlaced (D.model disk.old) turn meta.now touched page →
@@ -113,6 +117,7 @@ fn rewrite<D: Device>(disk: &mut D, found: &Found) -> Result<(), DiskFault>
     requires whole { IsWhole (D.model disk.old).size found.now.turn found.now.meta }
     requires touched { IsTouched found.now.meta found.now.touched }
     ensures run { Runs 12 result (D.model disk.old) (D.model disk.new) }
+    ensures beyond { KeepsBeyond (file_size found.now.meta) (D.model disk.old) (D.model disk.new) }
     ensures moments { (page : Content) → IsHere (D.model disk.old) found.now.turn found.now.meta (get nat_cmp found.now.touched.pages 1) page →
         Leaves (D.model disk.old) (D.model disk.new) (λ c. OpensTo c (lone found.now.meta page)) }
     ensures fresh { OnOk result ((page : Content) → IsHere (D.model disk.old) found.now.turn found.now.meta (get nat_cmp found.now.touched.pages 1) page →
@@ -128,6 +133,7 @@ pub(crate) fn renew<D: Device>(disk: &mut D, found: &Found) -> Result<(), DiskFa
     requires whole { IsWhole (D.model disk.old).size found.now.turn found.now.meta }
     requires touched { IsTouched found.now.meta found.now.touched }
     ensures run { Runs 13 result (D.model disk.old) (D.model disk.new) }
+    ensures beyond { KeepsBeyond (file_size found.now.meta) (D.model disk.old) (D.model disk.new) }
     ensures time { IfSome (D.model disk.old).told (λ b. IsFoundIn b found.now.turn found.now.meta (get nat_cmp found.now.touched.pages 1) found.now.count →
         (D.model disk.old).clock ≤ (D.model disk.new).clock) }
     ensures even { IfSome (D.model disk.old).told (λ b. IsFoundIn b found.now.turn found.now.meta (get nat_cmp found.now.touched.pages 1) found.now.count →

@@ -7,6 +7,8 @@ use Rattle.hbpi.specs.Renewing.{StillOpens, IsPlaced, IsReadyFor}
 use Rattle.hbpi.proofs.Renewed.{zeroed_moments, zeroed_ready, cleared_moments, cleared_ready}
 use Rattle.hbpi.proofs.Made.{on_ok_three}
 use Rattle.hbpi.proofs.RunSteps.{on_ok_given}
+use Rattle.hb_store.specs.Opening.{file_size}
+use Rattle.hbpi.proofs.Beyond.{beyond_body, beyond_log, beyond_sync, beyond_then}
 use Rattle.hbpi.proofs.restart.renewal.make_room.Goals as goal
 
 pub returns-in_err-zero_area-clause-moments : goal.returns-in_err-zero_area-clause-moments
@@ -53,3 +55,26 @@ returns-clause-ready g c =
     zeroed c.clear_hidden.ensures.place (c.clear_hidden.ensures.moments turn meta c.turn_after-next.ensures zeroed.placed.here.places)
     hidden (synced zeroed.placed.here.places) durable)
     c.clear_hidden.ensures.hidden (on_ok_given c.clear_hidden.result (IsSynced mid 0 8192) (IsSynced new 0 8192) c.clear_hidden.ensures.synced) c.clear_hidden.ensures.durable
+
+pub returns-in_err-sync-clause-beyond : goal.returns-in_err-sync-clause-beyond
+returns-in_err-sync-clause-beyond g c =
+    beyond_sync c.sync.result (file_size c.args.meta.now) (g.D.Device.model c.args.disk.now) (g.D.Device.model c.sync.new.self) (g.met.D.Device.is_disk c.args.disk.now) c.sync.ensures.syncs c.sync.ensures.ticks
+
+pub returns-in_err-zero_area-clause-beyond : goal.returns-in_err-zero_area-clause-beyond
+returns-in_err-zero_area-clause-beyond g c =
+    beyond_then (file_size c.args.meta.now) (g.D.Device.model c.args.disk.now) (g.D.Device.model c.sync.new.self) (g.D.Device.model c.zero_area.new.disk)
+    (beyond_sync c.sync.result (file_size c.args.meta.now) (g.D.Device.model c.args.disk.now) (g.D.Device.model c.sync.new.self) (g.met.D.Device.is_disk c.args.disk.now) c.sync.ensures.syncs c.sync.ensures.ticks)
+    (beyond_log c.turn_after-next.result c.area_of.result c.args.meta.now (g.D.Device.model c.sync.new.self) (g.D.Device.model c.zero_area.new.disk) c.area_of.ensures c.zero_area.ensures.place)
+
+pub returns-clause-beyond : goal.returns-clause-beyond
+returns-clause-beyond g c =
+    let n = file_size c.args.meta.now in
+    let d = g.D.Device.model c.args.disk.now in
+    let one = g.D.Device.model c.sync.new.self in
+    let two = g.D.Device.model c.zero_area.new.disk in
+    let new = g.D.Device.model c.clear_hidden.new.disk in
+    beyond_then n d two new
+    (beyond_then n d one two
+    (beyond_sync c.sync.result n d one (g.met.D.Device.is_disk c.args.disk.now) c.sync.ensures.syncs c.sync.ensures.ticks)
+    (beyond_log c.turn_after-next.result c.area_of.result c.args.meta.now one two c.area_of.ensures c.zero_area.ensures.place))
+    (beyond_body c.turn_after-next.result c.args.meta.now two new c.clear_hidden.ensures.place)
