@@ -45,3 +45,4 @@ pub mod FileRefused
 pub mod BadFrames
 pub mod OneRefusal
 pub mod Beyond
+mod InLog

@@ -9,10 +9,10 @@ pub mod Audit
 pub mod Restart
 pub mod OnePage
 pub mod Creation
-pub mod Beyond
 pub mod Looking
 pub mod Renewing
 pub mod Core
+pub mod Beyond
 pub mod CoreSeen
 pub mod Damages
 pub mod Drives
