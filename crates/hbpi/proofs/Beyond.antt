@@ -76,3 +76,10 @@ beyond_found one d m e turn meta touched count is_d reads found run b at said to
 -- no run behind them
 pub beyond_looked : (d m : DiskModel) → IsDisk d → OnlyReads d m → KeepsBeyondFile d m
 beyond_looked d m is_d reads b at said told newest = beyond_reads (file_size said) d m is_d reads
+
+-- a run over the file that was opened, seen from before the opening
+pub beyond_driven : (d m e : DiskModel) (meta : Meta) → IfSome d.told (λ b. (turn : ℕ) (said : Meta) → IsNewest b turn said → said ≡ meta) → KeepsBeyondFile d m → KeepsBeyond (file_size meta) m e → KeepsBeyondFile d e
+beyond_driven d m e meta same opened run b turn said told newest =
+    let K : Meta → Type 0 = λ x. KeepsBeyond (file_size x) m e in
+    let is = at_value d.told (λ b. (turn : ℕ) (said : Meta) → IsNewest b turn said → said ≡ meta) b told same turn said newest in
+    beyond_then (file_size said) d m e (opened b turn said told newest) (subst K (sym is) run)

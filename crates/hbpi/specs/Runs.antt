@@ -9,6 +9,7 @@ use Rattle.hb_outside.specs.Streams.{Rose}
 use Rattle.hb_store.specs.Opening.{IsEven, OpensTo}
 use Rattle.hb_text.specs.declared.rules.BadLine.{BadLine}
 use Rattle.hb_text.specs.Grammar.{Reading, text_read}
+use Rattle.hbpi.specs.Beyond.{KeepsBeyond, KeepsBeyondFile}
 use Rattle.hbpi.specs.Core.{AreAmong, HoldsAnswers, CrashesTo, IsReplied, entries_from, set_of}
 use Rattle.hbpi.specs.Driven.{DriveCommandEnds, HasFailed, IsScheduled, IsServedScript}
 use Rattle.hbpi.specs.Codes.{status_of}
@@ -38,6 +39,13 @@ RunEnds (Some form) d e seen status = UnbuiltEnds seen status
 abbrev pub LeavesUnmade : Option Form → Status → Type 0
 LeavesUnmade (Some (Create k pages log dcap icap)) status = IsUnmade status
 LeavesUnmade _ status = ⊥
+
+-- What lies on the disk behind a new file, and behind the file by the newest superblock, is as it was. (The other forms
+-- leave the whole disk as it was.)
+abbrev pub LeavesBeyond : Option Form → DiskModel → DiskModel → Type 0
+LeavesBeyond (Some (Create k pages log dcap icap)) d e = KeepsBeyond (size_of pages log) d e
+LeavesBeyond (Some Drive) d e = KeepsBeyondFile d e
+LeavesBeyond _ d e = Unit {0}
 
 -- The promise of `drive` over a disk that tells and opens to a sound file. There are lines of the text that took effect:
 -- their numbers are the order. They are a legal order from the records of the file, and every answer is the machine's at

@@ -2,7 +2,7 @@ use Rattle.std.proofs.Common.{◌∙◌, Option, Some, sym, ap, subst}
 use Rattle.hbpi.specs.declared.forms.Form.{Form}
 use Rattle.hbpi.specs.declared.forms.Form.TheVariants.{Create, Dry}
 use Rattle.hbpi.specs.Ends.{Seen, seen_by, IsComplete, IsMadeWhole, RefusesBadText, NamesBadLine}
-use Rattle.hbpi.specs.Runs.{RunEnds, disk_seen}
+use Rattle.hbpi.specs.Runs.{LeavesBeyond, RunEnds, disk_seen}
 use Rattle.hbpi.proofs.EndLaws.{ends_complete, ends_refuses, ends_names, ends_made, never_usage, never_unbuilt}
 use Rattle.hbpi.proofs.DriveGiven.{is_driven}
 use Rattle.hbpi.proofs.DriveNames.{names_line}
@@ -99,3 +99,7 @@ returns-in-Some-Create-clause-made g c =
     let form = Create c.in-Some-Create.k c.in-Some-Create.pages c.in-Some-Create.log c.in-Some-Create.dcap c.in-Some-Create.icap in
     subst (λ (form : Option Form). IsMadeWhole form seen (disk_seen d e) c.create_file.result.status) (sym (ap Some c.in-Some-Create.field-0-is) ∙ c.in-Some-Create.ensures.form)
     (ends_made (Some form) seen d e c.create_file.result.status (c.create_file.ensures.ends (g.S.Source.left c.args.source.now) (g.S.Source.faults c.args.source.now)))
+
+pub returns-in-Some-Create-clause-beyond : goal.returns-in-Some-Create-clause-beyond
+returns-in-Some-Create-clause-beyond g c =
+    subst (λ (form : Option Form). LeavesBeyond form (g.D.Device.model c.args.disk) (g.D.Device.model c.create_file.result.disk)) (sym (ap Some c.in-Some-Create.field-0-is) ∙ c.in-Some-Create.ensures.form) c.create_file.ensures.beyond
