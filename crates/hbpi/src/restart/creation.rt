@@ -24,7 +24,7 @@ use hb_ops::Meta;
 use hb_outside::Failed;
 use hb_page_codec::encode;
 use hb_space::form::PAGE;
-use hb_store::Store;
+use hb_store::{Store, log_place, page_place};
 use hb_super::write_first_super;
 use hb_wal::zero_area;
 use std::alloc::Global;
@@ -54,8 +54,8 @@ fn write_parts<D: Device>(disk: &mut D, meta: &Meta, page: &[u8; PAGE]) -> Resul
     ensures beyond { KeepsBeyond (file_size meta.now) (D.model disk.old) (D.model disk.new) }
     ensures faults { WriteFaults result (D.model disk.old) (D.model disk.new) }
 {
-    disk.zero(2 * PAGE as u64, u64::from(meta.log))?;
-    disk.write(2 * PAGE as u64 + 2 * u64::from(meta.log), page)?;
+    disk.zero(log_place(0, meta), u64::from(meta.log))?;
+    disk.write(page_place(meta, 1), page)?;
     disk.sync()
 }
 
