@@ -42,7 +42,7 @@ acts_by d old outcome e new number found plan current there planned does =
 
 -- only an insert and a delete change the file
 changes_may : (meta : Meta) (page : Page) (command : Command) (op : Op) → PlansBy meta page command (plans.Change op) → MayCommit command
-changes_may meta page command op (inr never) = absurd never.0
+changes_may meta page command op (inr never) = absurd never
 changes_may meta page (Insert rec) op (inl by) = tt
 changes_may meta page (Delete point) op (inl by) = tt
 changes_may meta page (Lookup point) op (inl by) = absurd by.2

@@ -15,7 +15,7 @@ use Rattle.hb_set.specs.Machine.{RecordSet}
 use Rattle.hb_store.specs.Keeps.{StoreKeeps, last_of}
 use Rattle.hb_store.specs.Calls.{forced_state, stopped_state, durable_after, later_after}
 use Rattle.hb_store.specs.StoreLaws.{StoreKeeps-one}
-use Rattle.hb_store.specs.declared.stops.StopWhy.TheVariants.{WriteFault}
+use Rattle.hb_store.specs.declared.stops.StopWhy.TheVariants.{WriteFault, Damaged}
 use Rattle.hbpi.specs.declared.engine.session.Session.{Session}
 use Rattle.hbpi.specs.declared.engine.session.Session.TheVariants as sessions
 use Rattle.hbpi.specs.declared.engine.session.Outcome.{Outcome}
@@ -38,6 +38,9 @@ none_so (Some x) e = cc
 pub not_some : {X : Type 0} (o : Option X) → o ≡ None → IsSome o → ⊥
 not_some None e h = cc h
 not_some (Some x) e h = cc e
+
+pub none_is_some : {X : Type 0} (o : Option X) → o ≡ None → (x : X) → o ≡ Some x → ⊥
+none_is_some o none x some = let never : None ≡ Some x = sym none ∙ some in cc
 
 -- the durable file after a force has the set after the lines that are settled then
 after_force_set : (n : RecordSet) (done : List Line) (now : ℕ) (groups : List Waiting) (durable : FileState) (later : List FileState) → now ≡ length done → AwaitsOne groups done
@@ -172,6 +175,7 @@ module _ (d e : DiskModel) (old : CoreState) (going : old.stop ≡ None) where
               stopped = λ some. absurd (not_some old.stop going some);
               going = λ other. going;
               by = may forced_core (record { taken = refl; session = refl; order = refl });
+              damage = λ none page why is. absurd (none_is_some old.stop none (Damaged page why) is);
             };
             attributes = refl;
             read_fault = λ number is. absurd (no_fault number is);
@@ -200,6 +204,7 @@ module _ (d e : DiskModel) (old : CoreState) (going : old.stop ≡ None) where
               stopped = λ some. absurd (not_some old.stop going some);
               going = λ other. absurd (other refl);
               by = (refl, record { taken = refl; session = refl; order = refl });
+              damage = λ none page why is. cc is;
             };
             attributes = refl;
             read_fault = λ number is. cc is;

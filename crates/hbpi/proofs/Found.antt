@@ -62,12 +62,11 @@ replay_keeps t [] = refl
 replay_keeps t (g ∷ rest) = replay_keeps (after_group t g) rest ∙ change_keeps g.op t.meta _ _ _
 
 -- what a read of page 1's place gives
-pub place_read : (told : Option (List ℕ)) (into : List ℕ) (meta : Meta) (log : ℕ) → log ≡ meta.log → length into ≡ PAGE
-    → IfSome told (λ b. into ≡ take (length into) (drop (8192 + 2 * log) b)) → IfSome told (λ b. into ≡ place_bytes meta 1 b)
-place_read None into meta log same long reads = tt
-place_read (Some b) into meta log same long reads =
-    reads ∙ ap (λ (n : ℕ). take n (drop (8192 + 2 * log) b)) long
-    ∙ ap (λ (n : ℕ). take PAGE (drop n b)) (let here : 8192 + 2 * log ≡ page_place meta 1 = omega (arith, same) in here)
+pub place_read : (told : Option (List ℕ)) (into : List ℕ) (meta : Meta) (at : ℕ) → at ≡ page_place meta 1 → length into ≡ PAGE
+    → IfSome told (λ b. into ≡ take (length into) (drop at b)) → IfSome told (λ b. into ≡ place_bytes meta 1 b)
+place_read None into meta at same long reads = tt
+place_read (Some b) into meta at same long reads =
+    reads ∙ ap (λ (n : ℕ). take n (drop at b)) long ∙ ap (λ (n : ℕ). take PAGE (drop n b)) same
 
 -- the audit of the page in the place
 pub named_refuses : {N : Type 0} (r : Result N OpenFault) (told : Option (List ℕ)) (meta : Meta) (touched : Option Page) (page : Page) → touched ≡ None → meta.high ≡ 1

@@ -40,6 +40,9 @@ pub mod Reopened
 pub mod Promises
 pub mod NotRefused
 pub mod DriveGiven
+mod DriveNames
 pub mod FileRefused
 pub mod BadFrames
 pub mod OneRefusal
+pub mod Beyond
+mod InLog

@@ -11,9 +11,6 @@ use Rattle.hb_ops.specs.declared.meta.Meta.{Meta}
 use Rattle.hb_store.specs.Opening.{file_size, page_place, place_bytes}
 use Rattle.hbpi.proofs.Made.{told_before}
 
-pub page_at_place : (log : ℕ) (meta : Meta) → log ≡ meta.log → 8192 + 2 * log ≡ page_place meta 1
-page_at_place log meta same = omega (arith, same)
-
 pub page_written : (old new : DiskModel) → IsDisk old → (at : ℕ) (bytes : List ℕ) (meta : Meta) (page : Page) → at ≡ page_place meta 1 → SpellsPage bytes page → file_size meta ≤ old.size → 1 ≤ meta.pages
     → (old.told ≡ None → new.told ≡ None) → IfSome old.told (λ b. new.told ≡ Some (overwritten b at bytes))
     → (b : List ℕ) → new.told ≡ Some b → SpellsPage (place_bytes meta 1 b) page

@@ -123,7 +123,7 @@ module _ (laws : FileLaws) (s : FileState) (sound : IsSound s) (count : length s
       )
   insert_holds rec plans.Full long h =
       (is_absent rec.key h.0, λ page is may. h.1 (let F : LivePage → Type 0 = λ p. FitsPut s.meta p rec in subst F (one_live page top (live_page s s.meta.root) is live) may))
-  insert_holds rec (plans.Damaged id why) long h = none_elsewhere rec.key id h
+  insert_holds rec (plans.Damaged id why) long h = none_elsewhere rec.key id h.0
 
   delete_holds : (p : List ℕ) (plan : Plan) → length p ≡ s.meta.k → DeletesBy s.meta top p plan → PlanHolds (Delete p) s plan
   delete_holds p (plans.Answer reply) long h =
@@ -148,7 +148,7 @@ module _ (laws : FileLaws) (s : FileState) (sound : IsSound s) (count : length s
         λ full. full,
       )
   delete_holds p plans.Full long h = absurd h
-  delete_holds p (plans.Damaged id why) long h = none_elsewhere p id h
+  delete_holds p (plans.Damaged id why) long h = none_elsewhere p id h.0
 
   look_holds : (p : List ℕ) (plan : Plan) → LooksBy top p plan → PlanHolds (Lookup p) s plan
   look_holds p (plans.Answer reply) (inl h) =
@@ -157,7 +157,7 @@ module _ (laws : FileLaws) (s : FileState) (sound : IsSound s) (count : length s
       (refl, h.0 ∙ sym (ap found_or_missing (is_absent p h.1)), refl, λ full. full)
   look_holds p (plans.Change op) h = absurd h
   look_holds p plans.Full h = absurd h
-  look_holds p (plans.Damaged id why) h = none_elsewhere p id h
+  look_holds p (plans.Damaged id why) h = none_elsewhere p id h.0
 
   pub plan_holds : (command : Command) (plan : Plan) → attributes command ≡ s.meta.k → PlansOn s.meta top command plan → PlanHolds command s plan
   plan_holds (Insert rec) plan long h = insert_holds rec plan long h

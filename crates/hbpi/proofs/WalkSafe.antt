@@ -22,6 +22,7 @@ use Rattle.hbpi.specs.declared.engine.session.Session.TheVariants as sessions
 use Rattle.hbpi.specs.declared.engine.session.Outcome.{Outcome}
 use Rattle.hbpi.specs.declared.engine.session.Outcome.TheVariants as outcomes
 use Rattle.hbpi.specs.Core.{CoreState, IsCore, IsCurrent, IsOutside}
+use Rattle.hbpi.specs.Damages.{IsDamagedFor, MeetsDamage}
 use Rattle.hbpi.specs.Moves.{Moves}
 use Rattle.hbpi.specs.Plans.{Acts, Does, LooksBy, PlansBy}
 use Rattle.hbpi.specs.Steps.{StepsSafely, joined_core, with_session, with_stop, with_store}
@@ -29,11 +30,11 @@ use Rattle.hbpi.specs.declared.engine.plans.Plan.{Plan}
 use Rattle.hbpi.specs.declared.engine.plans.Plan.TheVariants as plans
 use Rattle.hbpi.proofs.AnswerSteps.{along}
 use Rattle.hbpi.proofs.EffectSteps.{change_meta}
-use Rattle.hbpi.proofs.ForceSteps.{not_some}
+use Rattle.hbpi.proofs.ForceSteps.{none_is_some, not_some}
 
 -- the reply of a line that takes effect is no read fault
 answers_well : (meta : Meta) (page : Page) (command : Command) (reply : Reply) → PlansBy meta page command (plans.Answer reply) → reply ≢ replies.ReadFault
-answers_well meta page command reply (inr never) = absurd never.0
+answers_well meta page command reply (inr never) = absurd never
 answers_well meta page (Insert rec) reply (inl by) = λ is. let e = by.2.0 in cc (e, is)
 answers_well meta page (Delete point) reply (inl by) = λ is. let e = by.2.0 in cc (e, is)
 answers_well meta page (Lookup point) reply (inl by) = look by.0 by.2
@@ -42,6 +43,23 @@ answers_well meta page (Lookup point) reply (inl by) = look by.0 by.2
     look top (inl h) = λ is. let e = h.1 in cc (e, is)
     look top (inr h) = λ is. let e = h.0 in cc (e, is)
 answers_well meta page (Search area) reply (inl by) = absurd by.2
+
+-- the stop that is there is the one that is named
+same_damage : (old new : CoreState) (page at : ℕ) (why cause : Why) → Some (stops.Damaged page why) ≡ Some (stops.Damaged at cause) → MeetsDamage old new page why → MeetsDamage old new at cause
+same_damage old new page at why cause is met =
+    let here : page ≡ at = cc (is) in
+    let so : why ≡ cause = cc (is) in
+    let M : ℕ → Type 0 = λ n. MeetsDamage old new n cause in
+    let W : Why → Type 0 = λ w. MeetsDamage old new page w in
+    subst M here (subst W so met)
+
+-- a plan for a damaged page says what is met
+meets : (meta : Meta) (page : Page) (command : Command) (id : ℕ) (why : Why) → PlansBy meta page command (plans.Damaged id why) → IsDamagedFor meta page command id why
+meets meta page command id why (inr none) = inl none
+meets meta page (Insert rec) id why (inl by) = inr (by.0, by.1, by.2)
+meets meta page (Delete point) id why (inl by) = inr (by.0, by.1, by.2)
+meets meta page (Lookup point) id why (inl by) = inr (by.0, by.1, by.2)
+meets meta page (Search area) id why (inl by) = absurd by.2
 
 -- a core over a store that has the same log, but for one group more, and says the same of the file
 pub record StoreGoes (old : CoreState) (st : StoreState) (n : ℕ) : Type 0 where
@@ -99,6 +117,7 @@ module _ (d m : DiskModel) (reads : OnlyReads d m) (old : CoreState) (going : ol
           stopped = λ some. absurd (not_some old.stop going some);
           going = λ other. going;
           by = record { line = line; current = current; number_is = refl; why = inl (was, outside); taken = refl; session = refl; order = refl };
+          damage = λ none page why is. absurd (none_is_some old.stop none (stops.Damaged page why) is);
         })
         (k_same (length old.order) goes)
         (λ number e. let both : reply ≡ replies.ReadFault = cc in well both)
@@ -129,6 +148,7 @@ module _ (d m : DiskModel) (reads : OnlyReads d m) (old : CoreState) (going : ol
           stopped = λ some. absurd (not_some old.stop going some);
           going = λ other. going;
           by = inr (inl (record { line = line; reply = reply; current = current; was = was; taken = refl; session = refl; order = refl }));
+          damage = λ none page why is. absurd (none_is_some old.stop none (stops.Damaged page why) is);
         })
         (k_same (length old.order + 1) goes)
         (λ number e. cc e)
@@ -136,8 +156,8 @@ module _ (d m : DiskModel) (reads : OnlyReads d m) (old : CoreState) (going : ol
 
     -- a page is damaged
     pub damaged_safe : StoreGoes old st (length old.order) → (outcome : Outcome) (new : CoreState) (page : ℕ) (why : Why) → outcome ≡ outcomes.Stopped
-        → new ≡ with_stop (stops.Damaged page why) (with_store st old) → StepsSafely d old outcome m new
-    damaged_safe goes outcome new page why is new_is =
+        → new ≡ with_stop (stops.Damaged page why) (with_store st old) → MeetsDamage old (with_stop (stops.Damaged page why) (with_store st old)) page why → StepsSafely d old outcome m new
+    damaged_safe goes outcome new page why is new_is met =
         let x : CoreState = with_stop (stops.Damaged page why) (with_store st old) in
         let P : Outcome → CoreState → Type 0 = λ o x. StepsSafely d old o m x in
         along P outcome outcomes.Stopped new x is new_is
@@ -157,6 +177,7 @@ module _ (d m : DiskModel) (reads : OnlyReads d m) (old : CoreState) (going : ol
           stopped = λ some. absurd (not_some old.stop going some);
           going = λ other. absurd (other refl);
           by = (refl, record { taken = refl; session = refl; order = refl });
+          damage = λ none at cause is. same_damage old x page at why cause is met;
         })
         (k_same (length old.order) goes)
         (λ number e. cc e)
@@ -185,18 +206,21 @@ module _ (d m : DiskModel) (reads : OnlyReads d m) (old : CoreState) (going : ol
           marks = subst Q (sym commits.groups) (All-push (λ (g : Waiting). g.mark ≤ length old.order + 1) st.log.groups (record { bytes = commits.group; mark = length old.order }) marks_more (omega arith));
         }
 
-    does_safe : (outcome : Outcome) (new : CoreState) (line : Line) (page : Page) (plan : Plan) → IsCurrent old line → PlansBy st.meta page line.command plan
+    does_safe : (outcome : Outcome) (new : CoreState) (line : Line) (page : Page) (plan : Plan) → IsCurrent old line → st.frame st.meta.root ≡ Some page → PlansBy st.meta page line.command plan
         → Does line.number plan m (with_store st old) outcome m new → StepsSafely d old outcome m new
-    does_safe outcome new line page (plans.Answer reply) current planned does =
+    does_safe outcome new line page (plans.Answer reply) current framed planned does =
         joined_safe st goes_more outcome new line reply current (answers_well st.meta page line.command reply planned) does.0 does.1
-    does_safe outcome new line page (plans.Change op) current planned (inl refused) =
+    does_safe outcome new line page (plans.Change op) current framed planned (inl refused) =
         refused_safe st goes outcome new line replies.NoMemory current tt (λ e. cc e) refused.0 refused.1
-    does_safe outcome new line page (plans.Change op) current planned (inr did) =
+    does_safe outcome new line page (plans.Change op) current framed planned (inr did) =
         joined_safe did.1.store (goes_changed op did.1.store did.1.commits) outcome new line replies.Done current (λ e. cc e) did.0 did.1.new_is
-    does_safe outcome new line page plans.Full current planned does =
+    does_safe outcome new line page plans.Full current framed planned does =
         refused_safe st goes outcome new line replies.Full current tt (λ e. cc e) does.0 does.1
-    does_safe outcome new line page (plans.Damaged id why) current planned does =
+    does_safe outcome new line page (plans.Damaged id why) current framed planned does =
+        let F : Meta → Type 0 = λ x. st.frame x.root ≡ Some page in
+        let D : Meta → Type 0 = λ x. IsDamagedFor x page line.command id why in
         damaged_safe st goes outcome new id why does.0 does.1
+        (inr (record { line = line; current = current; page = page; framed = subst F fetched.rest.meta framed; damaged = subst D fetched.rest.meta (meets st.meta page line.command id why planned) }))
 
     pub acts_safe : (outcome : Outcome) (new : CoreState) → Acts m (with_store st old) outcome m new → StepsSafely d old outcome m new
-    acts_safe outcome new acts = does_safe outcome new acts.line acts.page acts.plan acts.current acts.planned acts.does
+    acts_safe outcome new acts = does_safe outcome new acts.line acts.page acts.plan acts.current acts.framed acts.planned acts.does

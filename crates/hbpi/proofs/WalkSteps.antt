@@ -19,12 +19,14 @@ use Rattle.hbpi.specs.declared.engine.session.Session.TheVariants as sessions
 use Rattle.hbpi.specs.declared.engine.session.Outcome.{Outcome}
 use Rattle.hbpi.specs.Core.{CoreKeeps, CoreState, IsCurrent, MayCommit, StepKeeps, op_of}
 use Rattle.hbpi.specs.FileLaws.{FileLaws}
-use Rattle.hbpi.specs.Plans.{Acts, Does, IsRootPage, PlansBy, PlansOn}
+use Rattle.hbpi.specs.Damages.{IsRootPage}
+use Rattle.hbpi.specs.Plans.{Acts, Does, PlansBy, PlansOn}
 use Rattle.hbpi.specs.Steps.{KeepsAt, with_store}
 use Rattle.hbpi.specs.declared.engine.plans.Plan.{Plan}
 use Rattle.hbpi.specs.declared.engine.plans.Plan.TheVariants as plans
 use Rattle.hbpi.proofs.LinesDone.{by_recursion_at}
 use Rattle.hbpi.proofs.Lone.{live_is, live_so}
+use Rattle.hbpi.proofs.RootPages.{no_damage}
 use Rattle.hbpi.proofs.PlansHold.{PlanHolds, plan_holds}
 use Rattle.hbpi.proofs.RefusedSteps.{FramesOnly, refused_keeps}
 use Rattle.hbpi.proofs.EffectSteps.{answer_steps, change_steps}
@@ -80,7 +82,7 @@ module _ (laws : FileLaws) (d m : DiskModel) (is_disk : IsDisk d) (old : CoreSta
             let M : Meta → Type 0 = λ x. PlansOn x top line.command plan in
             plan_holds laws file kept.sound kept.one_page.0 kept.one_page.1 top live level kept.sound.rooted.top.3 line.command plan long
             (subst M (sym there.meta_is) (subst L (live_is h.0 top (sym h.1.live ∙ page_is)) h.2))
-        by_root (inr h) = absurd (h.1 top is_root)
+        by_root (inr h) = absurd (no_damage st.meta page top plan is_root h)
 
     has_op : (o : Option Op) (op : Op) → o ≡ Some op → IsSome o
     has_op None op e = cc e

@@ -4,6 +4,7 @@ use Rattle.hb_outside.specs.Streams.{Rose, Appends, AppendsFront}
 use Rattle.hbpi.specs.declared.restart.faults.OpenFault.{OpenFault}
 use Rattle.hbpi.specs.declared.restart.faults.OpenFault.TheVariants.{BadLayout, Small, NoSuper, NotBuilt, BadGroup, Unsound, DiskFault, NoMemory}
 use Rattle.hbpi.specs.declared.statuses.Status.{Status}
+use Rattle.hbpi.specs.declared.statuses.Status.TheVariants as statuses
 use Rattle.hbpi.specs.declared.statuses.Status.TheVariants.{Done, SinkFault}
 
 -- it was said that the file is made, or a front of it
@@ -22,3 +23,9 @@ NotMadeOn fault needed size before after NoSuper = ⊥
 NotMadeOn fault needed size before after NotBuilt = ⊥
 NotMadeOn fault needed size before after (BadGroup frame) = ⊥
 NotMadeOn fault needed size before after (Unsound page rule) = ⊥
+
+-- no file was made, for the layout or for the size of the disk
+abbrev pub IsUnmade : Status → Type 0
+IsUnmade (statuses.BadLayout field value) = Unit {0}
+IsUnmade (statuses.Small wanted found) = Unit {0}
+IsUnmade _ = ⊥

@@ -12,7 +12,9 @@ pub mod Creation
 pub mod Looking
 pub mod Renewing
 pub mod Core
+pub mod Beyond
 pub mod CoreSeen
+pub mod Damages
 pub mod Drives
 pub mod Moves
 pub mod Steps

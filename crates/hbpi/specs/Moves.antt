@@ -1,10 +1,13 @@
 -- What a step does over every disk, also over one that doesn't tell its bytes: which line it takes, answers or puts into
 -- the order. Nothing is said of the file.
-use Rattle.std.specs.Prelude.{◌≡◌, ◌≢◌, ◌⊎◌, ℕ, zero, suc, ◌+◌, ◌<◌, ◌≤◌, List, [], ◌∷◌, ◌++◌, length, map, take, None, IsSome}
+use Rattle.std.specs.Prelude.{◌≡◌, ◌≢◌, ◌⊎◌, ℕ, zero, suc, ◌+◌, ◌<◌, ◌≤◌, List, [], ◌∷◌, ◌++◌, length, map, take, Some, None, IsSome}
 use Rattle.hb_set.specs.declared.commands.Reply.{Reply}
 use Rattle.hb_set.specs.declared.scripts.Line.{Line}
 use Rattle.hb_set.specs.declared.scripts.Answered.{Answered}
 use Rattle.hbpi.specs.Core.{CoreState, IsCurrent, IsOutside, AreAmong, settled_of, answers_of}
+use Rattle.hb_store.specs.declared.stops.Why.{Why}
+use Rattle.hb_store.specs.declared.stops.StopWhy.TheVariants.{Damaged}
+use Rattle.hbpi.specs.Damages.{MeetsDamage}
 use Rattle.hbpi.specs.declared.engine.session.Session.TheVariants as sessions
 use Rattle.hbpi.specs.declared.engine.session.Outcome.{Outcome}
 use Rattle.hbpi.specs.declared.engine.session.Outcome.TheVariants as outcomes
@@ -56,6 +59,8 @@ pub record Moves (old : CoreState) (outcome : Outcome) (new : CoreState) : Type 
   pub stopped : IsSome old.stop → (outcome ≡ outcomes.Stopped) × (new ≡ old)
   pub going : outcome ≢ outcomes.Stopped → new.stop ≡ None
   pub by : MovesBy outcome old new
+  -- a page that stops it is damaged as it says
+  pub damage : old.stop ≡ None → (page : ℕ) (why : Why) → new.stop ≡ Some (Damaged page why) → MeetsDamage old new page why
 
 -- So many steps lead from one core to another, and give these answers in this sequence.
 abbrev pub MovesOn : ℕ → CoreState → List Answered → CoreState → Type 0

@@ -1,17 +1,15 @@
 -- What a line does with the root: a page of level 0 that has the whole space.
 use Rattle.std.specs.Prelude.{◌≡◌, ◌⊎◌, ℕ, List, length, Some}
-use Rattle.hb_space.specs.Boxes.{whole_area}
 use Rattle.hb_space.specs.declared.records.Record.{Record}
 use Rattle.hb_disk.specs.Model.{DiskModel}
 use Rattle.hb_frag.specs.declared.pages.LivePage.{LivePage}
 use Rattle.hb_frag.specs.declared.pages.Page.{Page}
-use Rattle.hb_frag.specs.declared.pages.Page.TheVariants.{Live}
 use Rattle.hb_ops.specs.declared.meta.Meta.{Meta}
 use Rattle.hb_ops.specs.declared.operations.Op.{Op}
 use Rattle.hb_ops.specs.declared.operations.Op.TheVariants.{Put, Del}
 use Rattle.hb_ops.specs.Files.{FileState}
 use Rattle.hb_ops.specs.Operations.{FitsPut, FitsDel}
-use Rattle.hb_ops.specs.Standing.{StandsThere, StandsNot, StandsElsewhere}
+use Rattle.hb_ops.specs.Standing.{StandsThere, StandsNot}
 use Rattle.hb_set.specs.declared.commands.Command.{Command}
 use Rattle.hb_set.specs.declared.commands.Command.TheVariants.{Insert, Delete, Lookup, Search}
 use Rattle.hb_set.specs.declared.commands.Reply.TheVariants as replies
@@ -20,6 +18,7 @@ use Rattle.hb_store.specs.Keeps.{StoreState, StoreKeeps}
 use Rattle.hb_store.specs.Calls.{Commits, with_op}
 use Rattle.hb_store.specs.declared.stops.StopWhy.TheVariants as stops
 use Rattle.hbpi.specs.Core.{CoreState, IsCurrent}
+use Rattle.hbpi.specs.Damages.{IsRootPage, NamesAnother, WhyNotRoot}
 use Rattle.hbpi.specs.Steps.{with_session, with_stop, with_store, joined_core}
 use Rattle.hbpi.specs.declared.engine.plans.Plan.{Plan}
 use Rattle.hbpi.specs.declared.engine.plans.Plan.TheVariants as plans
@@ -27,30 +26,24 @@ use Rattle.hbpi.specs.declared.engine.session.Session.TheVariants as sessions
 use Rattle.hbpi.specs.declared.engine.session.Outcome.{Outcome}
 use Rattle.hbpi.specs.declared.engine.session.Outcome.TheVariants as outcomes
 
--- the page is one of level 0 that has the whole space
-pub record IsRootPage (meta : Meta) (page : Page) (top : LivePage) : Type 0 where
-  pub live : page ≡ Live top
-  pub level : top.level ≡ 0
-  pub whole : top.area ≡ whole_area meta.k
-
 -- what an insert, a delete and a lookup do
 abbrev pub InsertsBy : Meta → LivePage → Record → Plan → Type 0
 InsertsBy meta page rec (plans.Answer reply) = (reply ≡ replies.Duplicate) × (there : Record) × StandsThere page rec.key there
 InsertsBy meta page rec (plans.Change op) = (op ≡ Put meta.root rec) × FitsPut meta page rec
 InsertsBy meta page rec plans.Full = StandsNot page rec.key × (FitsPut meta page rec → ⊥)
-InsertsBy meta page rec (plans.Damaged id why) = StandsElsewhere page rec.key id
+InsertsBy meta page rec (plans.Damaged id why) = NamesAnother page rec.key id why
 
 abbrev pub DeletesBy : Meta → LivePage → List ℕ → Plan → Type 0
 DeletesBy meta page point (plans.Answer reply) = (reply ≡ replies.Absent) × StandsNot page point
 DeletesBy meta page point (plans.Change op) = (op ≡ Del meta.root point) × FitsDel meta page point
 DeletesBy meta page point plans.Full = ⊥
-DeletesBy meta page point (plans.Damaged id why) = StandsElsewhere page point id
+DeletesBy meta page point (plans.Damaged id why) = NamesAnother page point id why
 
 abbrev pub LooksBy : LivePage → List ℕ → Plan → Type 0
 LooksBy page point (plans.Answer reply) = ((there : Record) × (reply ≡ replies.Found there.body) × StandsThere page point there) ⊎ ((reply ≡ replies.Missing) × StandsNot page point)
 LooksBy page point (plans.Change op) = ⊥
 LooksBy page point plans.Full = ⊥
-LooksBy page point (plans.Damaged id why) = StandsElsewhere page point id
+LooksBy page point (plans.Damaged id why) = NamesAnother page point id why
 
 -- what a command does
 abbrev pub PlansOn : Meta → LivePage → Command → Plan → Type 0
@@ -59,17 +52,17 @@ PlansOn meta page (Delete point) plan = DeletesBy meta page point plan
 PlansOn meta page (Lookup point) plan = LooksBy page point plan
 PlansOn meta page (Search area) plan = ⊥
 
--- the same for a page that may be no such root
-abbrev pub IsDamaged : Plan → Type 0
-IsDamaged (plans.Answer reply) = ⊥
-IsDamaged (plans.Change op) = ⊥
-IsDamaged plans.Full = ⊥
-IsDamaged (plans.Damaged page why) = Unit {0}
+-- the page is no such root, and the plan says why
+abbrev pub PlansNone : Meta → Page → Plan → Type 0
+PlansNone meta page (plans.Answer reply) = ⊥
+PlansNone meta page (plans.Change op) = ⊥
+PlansNone meta page plans.Full = ⊥
+PlansNone meta page (plans.Damaged id why) = (id ≡ meta.root) × WhyNotRoot meta page why
 
 abbrev pub PlansBy : Meta → Page → Command → Plan → Type 0
 PlansBy meta page command plan =
     ((top : LivePage) × IsRootPage meta page top × PlansOn meta top command plan)
-    ⊎ (IsDamaged plan × ((top : LivePage) → IsRootPage meta page top → ⊥))
+    ⊎ PlansNone meta page plan
 
 -- A line that changes the file: a group more waits, with the order's length as its mark; or memory was refused.
 pub record Changes (number : ℕ) (op : Op) (d : DiskModel) (old : CoreState) (e : DiskModel) (new : CoreState) : Type 0 where

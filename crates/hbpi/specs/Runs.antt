@@ -9,9 +9,11 @@ use Rattle.hb_outside.specs.Streams.{Rose}
 use Rattle.hb_store.specs.Opening.{IsEven, OpensTo}
 use Rattle.hb_text.specs.declared.rules.BadLine.{BadLine}
 use Rattle.hb_text.specs.Grammar.{Reading, text_read}
+use Rattle.hbpi.specs.Beyond.{KeepsBeyond, KeepsBeyondFile}
 use Rattle.hbpi.specs.Core.{AreAmong, HoldsAnswers, CrashesTo, IsReplied, entries_from, set_of}
 use Rattle.hbpi.specs.Driven.{DriveCommandEnds, HasFailed, IsScheduled, IsServedScript}
 use Rattle.hbpi.specs.Codes.{status_of}
+use Rattle.hbpi.specs.Created.{IsUnmade}
 use Rattle.hbpi.specs.Restart.{IsOnePage, IsUnwritten, Refuses}
 use Rattle.hbpi.specs.declared.restart.faults.OpenFault.{OpenFault}
 use Rattle.hbpi.specs.Ends.{Seen, DiskSeen, DryEnds, CreateEnds, UsageEnds, UnbuiltEnds}
@@ -32,6 +34,18 @@ RunEnds (Some (Dry k)) d e seen status = DryEnds k seen status
 RunEnds (Some (Create k pages log dcap icap)) d e seen status = CreateEnds (first_fault k pages log dcap icap) (size_of pages log) seen (disk_seen d e) status
 RunEnds (Some Drive) d e seen status = DriveCommandEnds d e seen status
 RunEnds (Some form) d e seen status = UnbuiltEnds seen status
+
+-- the form asks for a new file, and none was made for its layout or for the disk's size
+abbrev pub LeavesUnmade : Option Form → Status → Type 0
+LeavesUnmade (Some (Create k pages log dcap icap)) status = IsUnmade status
+LeavesUnmade _ status = ⊥
+
+-- What lies on the disk behind a new file, and behind the file by the newest superblock, is as it was. (The other forms
+-- leave the whole disk as it was.)
+abbrev pub LeavesBeyond : Option Form → DiskModel → DiskModel → Type 0
+LeavesBeyond (Some (Create k pages log dcap icap)) d e = KeepsBeyond (size_of pages log) d e
+LeavesBeyond (Some Drive) d e = KeepsBeyondFile d e
+LeavesBeyond _ d e = Unit {0}
 
 -- The promise of `drive` over a disk that tells and opens to a sound file. There are lines of the text that took effect:
 -- their numbers are the order. They are a legal order from the records of the file, and every answer is the machine's at
@@ -70,6 +84,11 @@ GivesFor seen status (Err bad) = (status ≡ BadText bad) ⊎ (status ≡ NoMemo
 
 abbrev pub IsDriven : DiskModel → DiskModel → Seen → Status → Type 0
 IsDriven d e seen status = (s : FileState) (left : List ℕ) → IsCalm s left d e seen → GivesFor seen status (text_read true s.meta.k left)
+
+-- The line and the rule that `drive` names are the first bad line of all that the source had left, by the attributes of
+-- the file that the disk opens to, and its first rule.
+abbrev pub NamesScheduleLine : DiskModel → Seen → Status → Type 0
+NamesScheduleLine d seen status = (bytes : List ℕ) (s : FileState) (left : List ℕ) (bad : BadLine) → d.told ≡ Some bytes → OpensTo bytes s → seen.left ≡ Some left → status ≡ BadText bad → text_read true s.meta.k left ≡ Err bad
 
 -- Where no call of a disk that tells failed: bytes that open to no sound file are refused, by a refusal that is true of
 -- them; and a refusal that is true of them is the one that is answered. Memory may be refused in their place.

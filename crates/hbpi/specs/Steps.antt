@@ -1,7 +1,7 @@
 -- What the parts of a step do to a core.
 use Rattle.std.specs.Prelude.{◌≡◌, ◌⊎◌, ℕ, ◌+◌, ◌<◌, ◌≤◌, [], ◌∷◌, ◌++◌, List, length, Some, None, IsSome}
 use Rattle.hb_outside.specs.Streams.{Rose}
-use Rattle.hb_disk.specs.Model.{DiskModel}
+use Rattle.hb_disk.specs.Model.{DiskModel, Torn}
 use Rattle.hb_set.specs.declared.commands.Reply.{Reply}
 use Rattle.hb_set.specs.declared.commands.Reply.TheVariants.{ReadFault, NoMemory}
 use Rattle.hb_set.specs.declared.scripts.Line.{Line}
@@ -11,7 +11,7 @@ use Rattle.hb_store.specs.Calls.{forced_state, stopped_state, durable_after, lat
 use Rattle.hb_store.specs.declared.stops.FetchStop.{FetchStop}
 use Rattle.hb_store.specs.declared.stops.FetchStop.TheVariants as fetches
 use Rattle.hb_ops.specs.Files.{FileState}
-use Rattle.hb_disk.specs.Calls.{Leaves}
+use Rattle.hb_disk.specs.Calls.{Becomes, Leaves}
 use Rattle.hb_store.specs.declared.stops.StopWhy.{StopWhy}
 use Rattle.hb_store.specs.declared.stops.StopWhy.TheVariants.{WriteFault, Damaged}
 use Rattle.hbpi.specs.Core.{CoreState, CoreKeeps, StepKeeps, IsCore, IsCurrent}
@@ -77,6 +77,7 @@ ForcesOnce done d old outcome e new =
 pub record Forced (done : Outcome) (d : DiskModel) (old : CoreState) (outcome : Outcome) (e : DiskModel) (new : CoreState) : Type 0 where
   pub which : ForcesOnce done d old outcome e new
   pub moments : (durable : FileState) (later : List FileState) → StoreKeeps d old.store durable later → Leaves d e (OpensToFirst durable later)
+  pub place : Becomes (Torn old.store.log.area old.store.log.len) d e
   pub clock : IsSome d.told → e.clock ≤ d.clock + 4
   pub tells : IsSome d.told → IsSome e.told
   pub silent : d.told ≡ None → e.told ≡ None

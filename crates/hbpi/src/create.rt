@@ -1,10 +1,12 @@
 //! The command `create`.
-ghost use Rattle.std.specs.Prelude.{◌≡◌, ℕ, ◌≤◌, ◌<◌, List, Option, IfOk, IfErr, IsSome, Some, None};
+ghost use Rattle.std.specs.Prelude.{◌≡◌, ◌≢◌, ℕ, ◌≤◌, ◌<◌, List, Option, IfOk, IfErr, IsSome, Some, None};
 ghost use Rattle.hb_store.specs.Opening.{IsEven};
 ghost use Rattle.hbpi.specs.Ends.{CreateEnds, HasMade};
 ghost use Rattle.hbpi.specs.Layouts.{first_fault, size_of};
 ghost use Rattle.hbpi.specs.Restart.{new_file};
-ghost use Rattle.hbpi.specs.Created.{IsMadeOn, NotMadeOn};
+ghost use Rattle.hbpi.specs.Beyond.{KeepsBeyond};
+ghost use Rattle.hbpi.specs.Created.{IsMadeOn, IsUnmade, NotMadeOn};
+ghost use Rattle.hbpi.specs.declared.restart.faults.OpenFault.TheVariants.{DiskFault, NoMemory};
 
 use crate::dry::refused;
 use crate::finished::Finished;
@@ -31,6 +33,9 @@ fn make<D: Device>(
     ensures opens { IfOk result (λ e. IsSome (D.model disk).told → IsEven (D.model e)
         (new_file (record { k = k; pages = pages; log = log; dcap = dcap; icap = icap }))) }
     ensures refused { IfErr result (λ e. NotMadeOn (first_fault k pages log dcap icap) (size_of pages log) (D.model disk).size (D.model disk).write_faults (D.model e.1).write_faults e.0) }
+    ensures unmade { IfErr result (λ e. e.0 ≢ DiskFault → e.0 ≢ NoMemory → e.1 ≡ disk) }
+    ensures beyond { IfOk result (λ e. KeepsBeyond (size_of pages log) (D.model disk) (D.model e)) }
+    ensures beyond_after_fault { IfErr result (λ e. KeepsBeyond (size_of pages log) (D.model disk) (D.model e.1)) }
     ensures later { IfOk result (λ e. ((D.model disk).read_faults ≤ (D.model e).read_faults) × ((D.model disk).write_faults ≤ (D.model e).write_faults)) }
     ensures later_after_fault { IfErr result (λ e. ((D.model disk).read_faults ≤ (D.model e.1).read_faults) × ((D.model disk).write_faults ≤ (D.model e.1).write_faults)) }
 {
@@ -89,6 +94,8 @@ pub(crate) fn create_file<K: Sink, D: Device>(
     }) result.status }
     ensures opens { HasMade result.status → IsSome (D.model disk).told → IsEven (D.model result.disk)
         (new_file (record { k = k; pages = pages; log = log; dcap = dcap; icap = icap })) }
+    ensures beyond { KeepsBeyond (size_of pages log) (D.model disk) (D.model result.disk) }
+    ensures unmade { IsUnmade result.status → result.disk ≡ disk }
     ensures sink_later { K.faults sink ≤ K.faults result.sink }
     ensures reads_later { (D.model disk).read_faults ≤ (D.model result.disk).read_faults }
     ensures writes_later { (D.model disk).write_faults ≤ (D.model result.disk).write_faults }

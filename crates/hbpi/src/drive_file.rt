@@ -6,6 +6,8 @@ ghost use Rattle.hb_ops.specs.Sound.{IsSound};
 ghost use Rattle.hb_set.specs.Scripts.{IsScriptFor};
 ghost use Rattle.hb_store.specs.Keeps.{StoreKeeps, IsNew};
 ghost use Rattle.hb_store.specs.Seen.{seen_as, disk_of};
+ghost use Rattle.hb_store.specs.Opening.{file_size};
+ghost use Rattle.hbpi.specs.Beyond.{KeepsBeyond, KeepsBeyondFile};
 ghost use Rattle.hbpi.specs.Core.{IsServed, IsServedCommand};
 ghost use Rattle.hbpi.specs.CoreSeen.{core_seen, core_disk};
 ghost use Rattle.hbpi.specs.Driven.{IsScheduled, IsServedScript, NotScheduled, OpenedEnds, DriveCommandEnds, status_after};
@@ -143,6 +145,7 @@ fn drive_script<K: Sink, D: Disk>(
           answered = result.answered.items;
           order = result.order.items;
         }) result.status }
+    ensures beyond { KeepsBeyond (file_size (seen_as store).meta) (D.model (disk_of store)) (D.model result.disk) }
     ensures sink_later { K.faults sink ≤ K.faults result.sink }
     ensures reads_later { (D.model (disk_of store)).read_faults ≤ (D.model result.disk).read_faults }
     ensures writes_later { (D.model (disk_of store)).write_faults ≤ (D.model result.disk).write_faults }
@@ -176,6 +179,7 @@ fn drive_store<S: Source, K: Sink, D: Disk>(
       answered = result.answered.items;
       order = result.order.items;
     }) result.status }
+    ensures beyond { KeepsBeyond (file_size (seen_as store).meta) (D.model (disk_of store)) (D.model result.disk) }
     ensures source_later { S.faults source.old ≤ S.faults source.new }
     ensures sink_later { K.faults sink ≤ K.faults result.sink }
     ensures reads_later { (D.model (disk_of store)).read_faults ≤ (D.model result.disk).read_faults }
@@ -208,6 +212,7 @@ pub(crate) fn drive_file<S: Source, K: Sink, D: Disk>(
       answered = result.answered.items;
       order = result.order.items;
     }) result.status }
+    ensures beyond { KeepsBeyondFile (D.model disk) (D.model result.disk) }
     ensures source_later { S.faults source.old ≤ S.faults source.new }
     ensures sink_later { K.faults sink ≤ K.faults result.sink }
     ensures reads_later { (D.model disk).read_faults ≤ (D.model result.disk).read_faults }

@@ -5,7 +5,7 @@ ghost use Rattle.hb_store.specs.Opening.{IsEven, OpensTo};
 ghost use Rattle.hbpi.specs.Restart.{new_file};
 ghost use Rattle.hbpi.specs.Forms.{form_of, IsUnbuilt};
 ghost use Rattle.hbpi.specs.Ends.{seen_by, HasMade, IsComplete, IsMadeWhole, RefusesBadText, NamesBadLine, UsesNoDisk};
-ghost use Rattle.hbpi.specs.Runs.{RunEnds, IsDriven, KeepsPromise, RefusesFile, disk_seen};
+ghost use Rattle.hbpi.specs.Runs.{RunEnds, IsDriven, LeavesBeyond, LeavesUnmade, KeepsPromise, NamesScheduleLine, RefusesFile, disk_seen};
 
 use crate::create::create_file;
 use crate::drive_file::drive_file;
@@ -54,6 +54,9 @@ pub fn top<S: Source, K: Sink, D: Disk>(
         HasMade result.status → IsSome (D.model disk).told → IsEven (D.model result.disk)
         (new_file (record { k = k; pages = pages; log = log; dcap = dcap; icap = icap })) }
 
+    // A file that isn't made for its layout or for the disk's size leaves the disk as it was.
+    ensures unmade { LeavesUnmade (form_of (map string_bytes words.now)) result.status → result.disk ≡ disk }
+
     // Over a disk that tells and opens to a sound file, `drive` keeps its promise: replies, order and crashes.
     ensures promise { (b : List ℕ) (s : FileState) → form_of (map string_bytes words.now) ≡ Some Form.Drive → (D.model disk).told ≡ Some b → OpensTo b s → IsSound s →
         KeepsPromise s (D.model disk) (D.model result.disk) (seen_by (S.left source.old) (S.left source.new) (S.faults source.old) (S.faults source.new)
@@ -62,7 +65,11 @@ pub fn top<S: Source, K: Sink, D: Disk>(
     // doesn't open, are refused.
     ensures driven { form_of (map string_bytes words.now) ≡ Some Form.Drive → IsDriven (D.model disk) (D.model result.disk) (seen_by (S.left source.old) (S.left source.new) (S.faults source.old) (S.faults source.new)
         (K.written sink) (K.written result.sink) (K.faults sink) (K.faults result.sink) result.answered.items result.order.items) result.status }
+    ensures driven_named { form_of (map string_bytes words.now) ≡ Some Form.Drive → NamesScheduleLine (D.model disk) (seen_by (S.left source.old) (S.left source.new) (S.faults source.old) (S.faults source.new)
+        (K.written sink) (K.written result.sink) (K.faults sink) (K.faults result.sink) result.answered.items result.order.items) result.status }
     ensures refused { form_of (map string_bytes words.now) ≡ Some Form.Drive → RefusesFile (D.model disk) (D.model result.disk) result.status }
+    // What lies on the disk behind the file is never touched.
+    ensures beyond { LeavesBeyond (form_of (map string_bytes words.now)) (D.model disk) (D.model result.disk) }
     ensures untouched { UsesNoDisk (form_of (map string_bytes words.now)) → result.disk ≡ disk }
 
     // No count of faults falls.

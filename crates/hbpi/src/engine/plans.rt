@@ -1,14 +1,14 @@
 //! What a line does, by the root.
 ghost use Rattle.std.specs.Prelude.{◌≡◌, length, IfOk, IfErr};
 ghost use Rattle.hb_space.specs.Boxes.{whole_area};
-ghost use Rattle.hb_frag.specs.declared.pages.LivePage.{LivePage as Top};
 ghost use Rattle.hb_ops.specs.Sound.{FitsFile};
 ghost use Rattle.hb_ops.specs.Standing.{StandsNot};
 ghost use Rattle.hb_ops.specs.Looked.{Stands};
 ghost use Rattle.hb_set.specs.Machine.{attributes};
 ghost use Rattle.hb_super.specs.Superblocks.{IsLayout};
 ghost use Rattle.hbpi.specs.Core.{IsServedCommand};
-ghost use Rattle.hbpi.specs.Plans.{DeletesBy, InsertsBy, IsRootPage, LooksBy, PlansOn};
+ghost use Rattle.hbpi.specs.Damages.{IsRootPage, WhyNotRoot};
+ghost use Rattle.hbpi.specs.Plans.{DeletesBy, InsertsBy, LooksBy, PlansOn};
 
 use hb_frag::{LivePage, Page};
 use hb_ops::{Meta, Op, Standing, has_room, look_at};
@@ -33,7 +33,7 @@ pub(crate) enum Plan {
 pub(crate) fn top_of<'a>(page: &'a Page, meta: &Meta) -> Result<&'a LivePage, Why>
     requires layout { IsLayout meta.now }
     ensures top { IfOk result (λ top. IsRootPage meta.now page.now top.now) }
-    ensures none { IfErr result (λ why. (top : Top) → IsRootPage meta.now page.now top → ⊥) }
+    ensures none { IfErr result (WhyNotRoot meta.now page.now) }
 {
     let Page::Live(page) = page else {
         return Err(Why::Rule(2));

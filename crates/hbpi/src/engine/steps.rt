@@ -11,6 +11,7 @@ ghost use Rattle.hb_ops.specs.declared.meta.Meta.{Meta as Said};
 ghost use Rattle.hb_store.specs.Keeps.{StoreKeeps, IsNew, last_of};
 ghost use Rattle.hb_store.specs.Seen.{seen_as, disk_of};
 ghost use Rattle.hb_store.specs.declared.stops.StopWhy.TheVariants.{WriteFault};
+ghost use Rattle.hbpi.specs.Beyond.{StaysInLog};
 ghost use Rattle.hbpi.specs.Core.{CoreKeeps, StepKeeps, IsCore, IsServed};
 ghost use Rattle.hbpi.specs.Moves.{Moves};
 ghost use Rattle.hbpi.specs.CoreSeen.{core_seen, core_disk};
@@ -64,6 +65,7 @@ impl<D: Device> Core<D> {
         // over every disk
         ensures whole { IsCore (core_seen self.new) }
         ensures moves { Moves (core_seen self.old) result (core_seen self.new) }
+        ensures in_log { StaysInLog (D.model (core_disk self.old)) (core_seen self.old) (D.model (core_disk self.new)) (core_seen self.new) }
         ensures attributes { (core_seen self.new).store.meta.k ≡ (core_seen self.old).store.meta.k }
         ensures read_fault { (number : ℕ) → result ≡ Outcome.Answered number ReadFault → Rose (D.model (core_disk self.old)).read_faults (D.model (core_disk self.new)).read_faults }
         ensures write_fault { (core_seen self.old).stop ≡ None → (core_seen self.new).stop ≡ Some WriteFault → Rose (D.model (core_disk self.old)).write_faults (D.model (core_disk self.new)).write_faults }
@@ -109,6 +111,7 @@ impl<D: Device> Core<D> {
         requires kept { IsSome (D.model (core_disk self.old)).told → (n : RecordSet) × (done : List Entry) × CoreKeeps (D.model (core_disk self.old)) (core_seen self.old) n done }
         ensures keeps { KeepsAt (D.model (core_disk self.old)) (core_seen self.old) result (D.model (core_disk self.new)) (core_seen self.new) }
         ensures safe { StepsSafely (D.model (core_disk self.old)) (core_seen self.old) result (D.model (core_disk self.new)) (core_seen self.new) }
+        ensures in_log { StaysInLog (D.model (core_disk self.old)) (core_seen self.old) (D.model (core_disk self.new)) (core_seen self.new) }
     {
         if place < self.store.settled(self.order.len() as u32) {
             return self.answer_kept();

@@ -7,6 +7,7 @@ ghost use Rattle.hb_set.specs.declared.scripts.Line.{Line as Entry};
 ghost use Rattle.hb_ops.specs.Operations.{OpHas};
 ghost use Rattle.hb_store.specs.Calls.{IsReady, IsAllowedHere};
 ghost use Rattle.hb_store.specs.Seen.{seen_as};
+ghost use Rattle.hbpi.specs.Beyond.{StaysInLog};
 ghost use Rattle.hbpi.specs.Core.{CoreKeeps, IsCore, IsCurrent, IsServed, IsServedCommand, MayCommit};
 ghost use Rattle.hbpi.specs.CoreSeen.{core_seen, core_disk};
 ghost use Rattle.hbpi.specs.FileLaws.{FileLaws};
@@ -77,6 +78,7 @@ impl<D: Device> Core<D> {
         requires kept { IsSome (D.model (core_disk self.old)).told → (n : RecordSet) × (done : List Entry) × CoreKeeps (D.model (core_disk self.old)) (core_seen self.old) n done }
         ensures keeps { KeepsAt (D.model (core_disk self.old)) (core_seen self.old) result (D.model (core_disk self.new)) (core_seen self.new) }
         ensures safe { StepsSafely (D.model (core_disk self.old)) (core_seen self.old) result (D.model (core_disk self.new)) (core_seen self.new) }
+        ensures in_log { StaysInLog (D.model (core_disk self.old)) (core_seen self.old) (D.model (core_disk self.new)) (core_seen self.new) }
     {
         if self.must_wait() {
             return self.make_room();
@@ -112,6 +114,7 @@ impl<D: Device> Core<D> {
         requires waits { (line : Entry) × IsCurrent (core_seen self.old) line × MayCommit line.command × (¬ (IsReady (core_seen self.old).store)) }
         ensures keeps { KeepsAt (D.model (core_disk self.old)) (core_seen self.old) result (D.model (core_disk self.new)) (core_seen self.new) }
         ensures safe { StepsSafely (D.model (core_disk self.old)) (core_seen self.old) result (D.model (core_disk self.new)) (core_seen self.new) }
+        ensures in_log { StaysInLog (D.model (core_disk self.old)) (core_seen self.old) (D.model (core_disk self.new)) (core_seen self.new) }
     {
         if self.store.pending() == 0 {
             let number = self.number();

@@ -1,5 +1,5 @@
 //! Making a file.
-ghost use Rattle.std.specs.Prelude.{◌≡◌, ◌⊎◌, ℕ, ◌*◌, ◌+◌, ◌≤◌, ◌<◌, List, [], length, get_or, Some, None, OnOk, IfOk, IfErr, IfSome, IsSome, IsNone};
+ghost use Rattle.std.specs.Prelude.{◌≡◌, ◌≢◌, ◌⊎◌, ℕ, ◌*◌, ◌+◌, ◌≤◌, ◌<◌, List, [], length, get_or, Some, None, OnOk, IfOk, IfErr, IfSome, IsSome, IsNone};
 ghost use Rattle.hb_space.specs.declared.form.TheConstants.{PAGE};
 ghost use Rattle.hb_outside.specs.Streams.{Rose};
 ghost use Rattle.hb_disk.specs.Calls.{WriteFaults};
@@ -10,6 +10,7 @@ ghost use Rattle.hb_ops.specs.declared.meta.Meta.{Meta as Said};
 ghost use Rattle.hb_store.specs.Opening.{file_size};
 ghost use Rattle.hb_store.specs.Keeps.{IsFresh, IsNew, StoreKeeps};
 ghost use Rattle.hb_store.specs.Seen.{seen_as, disk_of};
+ghost use Rattle.hbpi.specs.Beyond.{KeepsBeyond};
 ghost use Rattle.hbpi.specs.Creation.{IsLaidOut};
 ghost use Rattle.hbpi.specs.OnePage.{lone};
 ghost use Rattle.hbpi.specs.Restart.{new_file, new_meta};
@@ -23,7 +24,7 @@ use hb_ops::Meta;
 use hb_outside::Failed;
 use hb_page_codec::encode;
 use hb_space::form::PAGE;
-use hb_store::Store;
+use hb_store::{Store, log_place, page_place};
 use hb_super::write_first_super;
 use hb_wal::zero_area;
 use std::alloc::Global;
@@ -35,6 +36,7 @@ fn zero_places<D: Device>(disk: &mut D) -> Result<(), hb_disk::DiskFault>
         × (get_or c 0 0 ≡ 0) × (get_or c PAGE 0 ≡ 0))) }
     ensures silent { (D.model disk.old).told ≡ None → (D.model disk.new).told ≡ None }
     ensures size { (D.model disk.new).size ≡ (D.model disk.old).size }
+    ensures beyond { KeepsBeyond (2 * PAGE) (D.model disk.old) (D.model disk.new) }
     ensures faults { WriteFaults result (D.model disk.old) (D.model disk.new) }
 {
     zero_area(disk, 0, 2 * PAGE as u32)
@@ -49,10 +51,11 @@ fn write_parts<D: Device>(disk: &mut D, meta: &Meta, page: &[u8; PAGE]) -> Resul
     ensures durable { OnOk result (IfSome (D.model disk.new).told (λ b. (c : List ℕ) → (D.model disk.new).Image c → c ≡ b)) }
     ensures silent { (D.model disk.old).told ≡ None → (D.model disk.new).told ≡ None }
     ensures size { (D.model disk.new).size ≡ (D.model disk.old).size }
+    ensures beyond { KeepsBeyond (file_size meta.now) (D.model disk.old) (D.model disk.new) }
     ensures faults { WriteFaults result (D.model disk.old) (D.model disk.new) }
 {
-    disk.zero(2 * PAGE as u64, u64::from(meta.log))?;
-    disk.write(2 * PAGE as u64 + 2 * u64::from(meta.log), page)?;
+    disk.zero(log_place(0, meta), u64::from(meta.log))?;
+    disk.write(page_place(meta, 1), page)?;
     disk.sync()
 }
 
@@ -64,6 +67,7 @@ fn lay_out<D: Device>(disk: &mut D, meta: &Meta, page: &[u8; PAGE]) -> Result<()
     ensures durable { OnOk result (IfSome (D.model disk.new).told (λ b. (c : List ℕ) → (D.model disk.new).Image c → c ≡ b)) }
     ensures silent { (D.model disk.old).told ≡ None → (D.model disk.new).told ≡ None }
     ensures size { (D.model disk.new).size ≡ (D.model disk.old).size }
+    ensures beyond { KeepsBeyond (file_size meta.now) (D.model disk.old) (D.model disk.new) }
     ensures faults { WriteFaults result (D.model disk.old) (D.model disk.new) }
 {
     zero_places(disk)?;
@@ -83,6 +87,7 @@ fn write_file<D: Device>(
         IsFresh (D.model disk.new) 0 meta.now (lone meta.now p)) }
     ensures size { (D.model disk.new).size ≡ (D.model disk.old).size }
     ensures told { IsSome (D.model disk.new).told → IsSome (D.model disk.old).told }
+    ensures beyond { KeepsBeyond (file_size meta.now) (D.model disk.old) (D.model disk.new) }
     ensures faults { WriteFaults result (D.model disk.old) (D.model disk.new) }
 {
     lay_out(disk, meta, page)?;
@@ -97,6 +102,8 @@ fn make<D: Device>(alloc: Global, disk: D, layout: Layout) -> Result<Store<D>, (
     ensures new { IfOk result (λ st. IsNew 0 (new_meta layout) (seen_as st)) }
     ensures refused { IfErr result (λ e. (e.0 ≡ DiskFault) ⊎ (e.0 ≡ NoMemory)) }
     ensures made_anyway { IfErr result (λ e. e.0 ≡ NoMemory → IsSome (D.model disk).told → IsFresh (D.model e.1) 0 (new_meta layout) (new_file layout)) }
+    ensures beyond { IfOk result (λ st. KeepsBeyond (layout_size layout) (D.model disk) (D.model (disk_of st))) }
+    ensures beyond_after_fault { IfErr result (λ e. KeepsBeyond (layout_size layout) (D.model disk) (D.model e.1)) }
     ensures cause { IfErr result (λ e. e.0 ≡ DiskFault → (Rose (D.model disk).write_faults (D.model e.1).write_faults)) }
     ensures later { IfOk result (λ st. ((D.model disk).read_faults ≤ (D.model (disk_of st)).read_faults) × ((D.model disk).write_faults ≤ (D.model (disk_of st)).write_faults)) }
     ensures later_after_fault { IfErr result (λ e. ((D.model disk).read_faults ≤ (D.model e.1).read_faults) × ((D.model disk).write_faults ≤ (D.model e.1).write_faults)) }
@@ -128,9 +135,11 @@ pub(crate) fn create<D: Device>(
     ensures refused { IfErr result (λ e. (layout_fault layout ≡ Some e.0)
         ⊎ (IsNone (layout_fault layout) × ((e.0 ≡ OpenFault.Small (layout_size layout) (D.model disk).size) × ((D.model disk).size < layout_size layout)))
         ⊎ (IsNone (layout_fault layout) × (layout_size layout ≤ (D.model disk).size) × ((e.0 ≡ DiskFault) ⊎ (e.0 ≡ NoMemory)))) }
-    ensures unwritten { IfErr result (λ e. (e.0 ≡ DiskFault → ⊥) → (e.0 ≡ NoMemory → ⊥) → e.1 ≡ disk) }
+    ensures unwritten { IfErr result (λ e. e.0 ≢ DiskFault → e.0 ≢ NoMemory → e.1 ≡ disk) }
     // memory is refused only once the file is made
     ensures made_anyway { IfErr result (λ e. e.0 ≡ NoMemory → IsSome (D.model disk).told → IsFresh (D.model e.1) 0 (new_meta layout) (new_file layout)) }
+    ensures beyond { IfOk result (λ st. KeepsBeyond (layout_size layout) (D.model disk) (D.model (disk_of st))) }
+    ensures beyond_after_fault { IfErr result (λ e. KeepsBeyond (layout_size layout) (D.model disk) (D.model e.1)) }
     ensures cause { IfErr result (λ e. e.0 ≡ DiskFault → (Rose (D.model disk).write_faults (D.model e.1).write_faults)) }
     ensures later { IfOk result (λ st. ((D.model disk).read_faults ≤ (D.model (disk_of st)).read_faults) × ((D.model disk).write_faults ≤ (D.model (disk_of st)).write_faults)) }
     ensures later_after_fault { IfErr result (λ e. ((D.model disk).read_faults ≤ (D.model e.1).read_faults) × ((D.model disk).write_faults ≤ (D.model e.1).write_faults)) }

@@ -1,5 +1,5 @@
 //! What a file is, before it is opened. Nothing is written.
-ghost use Rattle.std.specs.Prelude.{◌≡◌, ◌≤◌, length, Some, None, OnOk, OnErr, IfOk, IfErr, IfSome, IsErrOf};
+ghost use Rattle.std.specs.Prelude.{◌≡◌, ◌*◌, ◌≤◌, length, Some, None, OnOk, OnErr, IfOk, IfErr, IfSome, IsErrOf};
 ghost use Rattle.hb_space.specs.declared.form.TheConstants.{PAGE};
 ghost use Rattle.std.specs.Ordering.{nat_cmp};
 ghost use Rattle.std.specs.BTreeMap.{get};
@@ -24,7 +24,7 @@ use hb_ops::Meta;
 use hb_outside::Failed;
 use hb_page_codec::{PageError, decode};
 use hb_space::form::PAGE;
-use hb_store::{LogStop, Touched, read_log};
+use hb_store::{LogStop, Touched, page_place, read_log};
 use hb_super::{SuperStop, read_super};
 use std::alloc::Global;
 
@@ -113,7 +113,7 @@ fn read_place<D: Device>(disk: &mut D, meta: &Meta, into: &mut [u8; PAGE]) -> Re
     ensures cause { OnErr result (Rose (D.model disk.old).read_faults (D.model disk.new).read_faults) }
     ensures only_reads { OnlyReads (D.model disk.old) (D.model disk.new) }
 {
-    disk.read(2 * PAGE as u64 + 2 * u64::from(meta.log), into)
+    disk.read(page_place(meta, 1), into)
 }
 
 /// The page in the place of page 1.

@@ -11,9 +11,11 @@ ghost use Rattle.hb_frag.specs.declared.pages.Page.{Page as Content};
 ghost use Rattle.hb_frag.specs.Grammar.{HasSpelling, SpellsPage};
 ghost use Rattle.hb_super.specs.Superblocks.{IsLegal, next_turn};
 ghost use Rattle.hb_ops.specs.Files.{FileState};
-ghost use Rattle.hb_store.specs.Opening.{OpensTo, IsEven, file_size, log_place, page_place, place_bytes};
+ghost use Rattle.hb_store.specs.Opening as opening;
+ghost use Rattle.hb_store.specs.Opening.{OpensTo, IsEven, file_size, place_bytes};
 ghost use Rattle.hb_store.specs.Keeps.{IsFresh};
 ghost use Rattle.hb_store.specs.Stops.{IsTouched};
+ghost use Rattle.hbpi.specs.Beyond.{KeepsBeyond};
 ghost use Rattle.hbpi.specs.Looking.{IsFoundIn, IsWhole};
 ghost use Rattle.hbpi.specs.OnePage.{lone};
 ghost use Rattle.hbpi.specs.Renewing.{StillOpens, IsHere, IsPlaced, IsReadyFor, Runs};
@@ -25,7 +27,7 @@ use hb_ops::Meta;
 use hb_outside::Failed;
 use hb_page_codec::encode;
 use hb_space::form::PAGE;
-use hb_store::{Touched, an_image_opens_to_one_file};
+use hb_store::{Touched, an_image_opens_to_one_file, log_place, page_place};
 use hb_super::{clear_hidden, write_super};
 use hb_wal::zero_area;
 
@@ -37,26 +39,19 @@ pub(crate) fn turn_after(turn: u8) -> u8
     (turn + 1) % 4
 }
 
-/// Where the log area of a turn begins.
-fn area_of(turn: u8, meta: &Meta) -> u64
-    ensures { result ≡ log_place turn meta.now }
-{
-    2 * PAGE as u64 + u64::from(turn % 2) * u64::from(meta.log)
-}
-
 /// Writes page 1 to its place. One device call.
 fn write_page<D: Device>(disk: &mut D, meta: &Meta, page: &Page) -> Result<(), Failed>
     requires room { file_size meta.now ≤ (D.model disk.old).size }
     requires some { 1 ≤ meta.now.pages }
     requires spelling { HasSpelling page.now }
     ensures there { OnOk result ((b : List ℕ) → (D.model disk.new).told ≡ Some b → SpellsPage (place_bytes meta.now 1 b) page.now) }
-    ensures place { Becomes (Torn (page_place meta.now 1) PAGE) (D.model disk.old) (D.model disk.new) }
+    ensures place { Becomes (Torn (opening.page_place meta.now 1) PAGE) (D.model disk.old) (D.model disk.new) }
     ensures ticks { Ticks result (D.model disk.old) (D.model disk.new) }
     ensures faults { WriteFaults result (D.model disk.old) (D.model disk.new) }
 {
     let mut bytes = [0; PAGE];
     encode(page, &mut bytes);
-    disk.write(2 * PAGE as u64 + 2 * u64::from(meta.log), &bytes)
+    disk.write(page_place(meta, 1), &bytes)
 }
 
 /// Writes the page that the log touches to its place. At most one device call.
@@ -65,6 +60,7 @@ fn settle<D: Device>(disk: &mut D, turn: u8, meta: &Meta, touched: &Touched) -> 
     requires legal { IsLegal turn meta.now }
     requires touched { IsTouched meta.now touched.now }
     ensures run { Runs 1 result (D.model disk.old) (D.model disk.new) }
+    ensures beyond { KeepsBeyond (file_size meta.now) (D.model disk.old) (D.model disk.new) }
     ensures moments { (page : Content) → IsHere (D.model disk.old) turn meta.now (get nat_cmp touched.now.pages 1) page →
         Leaves (D.model disk.old) (D.model disk.new) (StillOpens turn meta.now (get nat_cmp touched.now.pages 1) page) }
     ensures placed { OnOk result ((page : Content) → IsHere (D.model disk.old) turn meta.now (get nat_cmp touched.now.pages 1) page →
@@ -81,6 +77,7 @@ fn make_room<D: Device>(disk: &mut D, turn: u8, meta: &Meta) -> Result<(), DiskF
     requires room { file_size meta.now ≤ (D.model disk.old).size }
     requires legal { IsLegal turn meta.now }
     ensures run { Runs 5 result (D.model disk.old) (D.model disk.new) }
+    ensures beyond { KeepsBeyond (file_size meta.now) (D.model disk.old) (D.model disk.new) }
     ensures moments { (touched : Option Content) (page : Content) → IsPlaced (D.model disk.old) turn meta.now touched page →
         Leaves (D.model disk.old) (D.model disk.new) (StillOpens turn meta.now touched page) }
     ensures ready { OnOk result ((touched : Option Content) (page : Content) → IsPlaced (D.model disk.old) turn meta.now touched page →
@@ -88,7 +85,7 @@ fn make_room<D: Device>(disk: &mut D, turn: u8, meta: &Meta) -> Result<(), DiskF
 {
     let next = turn_after(turn);
     disk.sync()?;
-    zero_area(disk, area_of(next, meta), meta.log)?;
+    zero_area(disk, log_place(next, meta), meta.log)?;
     clear_hidden(disk, next, meta)
 }
 
@@ -98,6 +95,7 @@ fn switch<D: Device>(disk: &mut D, turn: u8, meta: &Meta) -> Result<(), DiskFaul
     requires legal { IsLegal turn meta.now }
     requires one { meta.now.high ≡ 1 }
     ensures run { Runs 11 result (D.model disk.old) (D.model disk.new) }
+    ensures beyond { KeepsBeyond (file_size meta.now) (D.model disk.old) (D.model disk.new) }
     ensures moments { (touched : Option Content) (page : Content) → IsPlaced (D.model disk.old) turn meta.now touched page →
         Leaves (D.model disk.old) (D.model disk.new) (λ c. OpensTo c (lone meta.now page)) }
     ensures fresh { OnOk result ((touched : Option Content) (page : Content) → IsPlaced (D.model disk.old) turn meta.now touched page →
@@ -113,6 +111,7 @@ fn rewrite<D: Device>(disk: &mut D, found: &Found) -> Result<(), DiskFault>
     requires whole { IsWhole (D.model disk.old).size found.now.turn found.now.meta }
     requires touched { IsTouched found.now.meta found.now.touched }
     ensures run { Runs 12 result (D.model disk.old) (D.model disk.new) }
+    ensures beyond { KeepsBeyond (file_size found.now.meta) (D.model disk.old) (D.model disk.new) }
     ensures moments { (page : Content) → IsHere (D.model disk.old) found.now.turn found.now.meta (get nat_cmp found.now.touched.pages 1) page →
         Leaves (D.model disk.old) (D.model disk.new) (λ c. OpensTo c (lone found.now.meta page)) }
     ensures fresh { OnOk result ((page : Content) → IsHere (D.model disk.old) found.now.turn found.now.meta (get nat_cmp found.now.touched.pages 1) page →
@@ -128,6 +127,7 @@ pub(crate) fn renew<D: Device>(disk: &mut D, found: &Found) -> Result<(), DiskFa
     requires whole { IsWhole (D.model disk.old).size found.now.turn found.now.meta }
     requires touched { IsTouched found.now.meta found.now.touched }
     ensures run { Runs 13 result (D.model disk.old) (D.model disk.new) }
+    ensures beyond { KeepsBeyond (file_size found.now.meta) (D.model disk.old) (D.model disk.new) }
     ensures time { IfSome (D.model disk.old).told (λ b. IsFoundIn b found.now.turn found.now.meta (get nat_cmp found.now.touched.pages 1) found.now.count →
         (D.model disk.old).clock ≤ (D.model disk.new).clock) }
     ensures even { IfSome (D.model disk.old).told (λ b. IsFoundIn b found.now.turn found.now.meta (get nat_cmp found.now.touched.pages 1) found.now.count →

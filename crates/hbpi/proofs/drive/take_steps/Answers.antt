@@ -9,6 +9,7 @@ use Rattle.hbpi.specs.CoreSeen.{core_seen, core_disk}
 use Rattle.hbpi.specs.Drives.{RunsTo}
 use Rattle.hbpi.proofs.PutTexts.{has_put_none}
 use Rattle.hbpi.proofs.FirstAnswers.{first_more, order_more}
+use Rattle.hbpi.proofs.InLog.{in_log_same, in_log_then}
 use Rattle.hbpi.proofs.Running.{Running, running_starts, running_more, running_ends}
 use Rattle.hbpi.proofs.TakenSteps.{room_for, moves_more, puts_more, read_fault_more, write_fault_more, told_before, starts_first, starts_order, starts_unread, has_order}
 use Rattle.hbpi.proofs.drive.take_steps.Goals as goal
@@ -28,6 +29,7 @@ loop-init g c =
       attributes = refl;
       put = has_put_none _ _ _ none;
       room = c.requires.room;
+      in_log = in_log_same (g.D.Device.model (core_disk c.args.core.now)) (core_seen c.args.core.now) (core_seen c.args.core.now) (core_seen c.args.core.now) (g.met.D.Device.is_disk (core_disk c.args.core.now)) refl refl refl;
       silent = λ told. told;
       runs = subst R (sym none) (λ n kept. running_starts _ (core_seen c.args.core.now) n (g.met.D.Device.is_disk (core_disk c.args.core.now)) start.going kept);
       read_fault = λ has. absurd (starts_unread c.args.answered.now.items none has);
@@ -73,6 +75,7 @@ loop-preserved g c =
       attributes = step.attributes ∙ before.attributes;
       put = puts_more _ (g.K.Sink.written c.loop.sink) _ _ (g.K.Sink.faults c.loop.sink) _ c.loop.failed _ c.loop.answered.items _ (answers_of outcome at) kept before.put c.take_answer-failed.ensures.puts;
       room = omega (arith, before.room, c.take_answer-failed.ensures.room, ap length step.moves.lines);
+      in_log = in_log_then (g.D.Device.model (core_disk c.args.core.now)) (g.D.Device.model (core_disk c.loop.core)) (g.D.Device.model (core_disk c.step-outcome.new.self)) (core_seen c.args.core.now) old new before.in_log step.in_log;
       silent = λ none. step.silent (before.silent none);
       runs = λ n first.
           let run = before.runs n first in

@@ -8,6 +8,7 @@ use Rattle.hb_text.specs.Output.{answer_text}
 use Rattle.hb_store.specs.Keeps.{last_of}
 use Rattle.hb_store.specs.declared.stops.StopWhy.TheVariants.{WriteFault}
 use Rattle.hbpi.specs.Ends.{HasPut}
+use Rattle.hbpi.specs.Beyond.{StaysInLog}
 use Rattle.hbpi.specs.Core.{CoreKeeps, IsCore, AnswersFirst}
 use Rattle.hbpi.specs.Moves.{MovesOn}
 use Rattle.hbpi.specs.CoreSeen.{core_seen, core_disk}
@@ -26,6 +27,7 @@ invariant-loop g l = record {
   attributes : (core_seen l.core).store.meta.k ≡ (core_seen l.fn.core).store.meta.k;
   put : HasPut (g.K.Sink.written l.fn.sink) (g.K.Sink.written l.sink) (g.K.Sink.faults l.fn.sink) (g.K.Sink.faults l.sink) l.failed (flat_map answer_text l.answered.items);
   room : length (core_seen l.core).lines ≤ vec_capacity l.answered;
+  in_log : StaysInLog (g.D.Device.model (core_disk l.fn.core)) (core_seen l.fn.core) (g.D.Device.model (core_disk l.core)) (core_seen l.core);
   silent : (g.D.Device.model (core_disk l.fn.core)).told ≡ None → (g.D.Device.model (core_disk l.core)).told ≡ None;
   runs : (n : RecordSet) (kept : CoreKeeps (g.D.Device.model (core_disk l.fn.core)) (core_seen l.fn.core) n []) →
       Running l.counter (g.D.Device.model (core_disk l.fn.core)) (core_seen l.fn.core) (last_of kept.durable kept.later) l.answered.items (g.D.Device.model (core_disk l.core)) (core_seen l.core) n;

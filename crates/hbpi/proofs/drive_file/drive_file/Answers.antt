@@ -9,6 +9,8 @@ use Rattle.hbpi.specs.Outcome.{GetsLine, fault_line}
 use Rattle.hbpi.specs.declared.statuses.Status.{Status}
 use Rattle.hbpi.proofs.Reopened.{IsOpening, ends_before}
 use Rattle.hbpi.proofs.ScheduleRuns.{even_store}
+use Rattle.hbpi.specs.Beyond.{KeepsBeyondFile}
+use Rattle.hbpi.proofs.Beyond.{beyond_driven}
 use Rattle.hbpi.proofs.drive_file.drive_file.Goals as goal
 
 pub returns-in-Ok-clause-ends : goal.returns-in-Ok-clause-ends
@@ -61,3 +63,13 @@ returns-in-Err-clause-ends g c =
       even = facts.even_after_fault;
     } in
     subst (λ (x : g.row.D.Denot). DriveCommandEnds d (M x) seen c.refused.result.status) (sym c.refused.ensures.disk) (inl (fault, status, out))
+
+pub returns-in-Ok-clause-beyond : goal.returns-in-Ok-clause-beyond
+returns-in-Ok-clause-beyond g c =
+    beyond_driven (g.D.Device.model c.args.disk) (g.D.Device.model (disk_of c.in-Ok.store)) (g.D.Device.model c.drive_store.result.disk) (seen_as c.in-Ok.store).meta
+    c.in-Ok.ensures.said c.in-Ok.ensures.beyond c.drive_store.ensures.beyond
+
+pub returns-in-Err-clause-beyond : goal.returns-in-Err-clause-beyond
+returns-in-Err-clause-beyond g c =
+    let M : g.row.D.Denot → DiskModel = g.D.Device.model in
+    subst (λ (x : g.row.D.Denot). KeepsBeyondFile (M c.args.disk) (M x)) (sym c.refused.ensures.disk) c.in-Err.ensures.beyond_after_fault

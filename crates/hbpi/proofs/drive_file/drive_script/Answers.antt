@@ -19,6 +19,10 @@ use Rattle.hbpi.specs.Outcome.{GetsLine, fault_line}
 use Rattle.hbpi.specs.declared.statuses.Status.{Status}
 use Rattle.hbpi.specs.declared.statuses.Status.TheVariants.{NoMemory}
 use Rattle.hbpi.proofs.ScheduleRuns.{schedule_ends, even_store, one_page_of, turned_away, away_on, refused_on}
+use Rattle.hb_store.specs.Opening.{file_size}
+use Rattle.hbpi.specs.Beyond.{KeepsBeyond}
+use Rattle.hbpi.proofs.Beyond.{beyond_none}
+use Rattle.hbpi.proofs.InLog.{new_beyond}
 use Rattle.hbpi.proofs.drive_file.drive_script.Goals as goal
 
 pub drive-requires-clause-kept : goal.drive-requires-clause-kept
@@ -123,3 +127,21 @@ returns-clause-ends g c left rest before after scheduled =
     let back : c.refused.result.disk ≡ disk_of store = c.refused.ensures.disk ∙ c.into_disk.ensures ∙ ap (λ x. disk_of x) c.in-Err.ensures.back in
     subst (λ (x : Status). OpenedEnds d (M c.refused.result.disk) seen x) (sym c.refused.ensures.status)
     (store.meta.k, away_on M store.meta.k d seen NoMemory (disk_of store) c.refused.result.disk back (turned_away d (seen_as store) seen NoMemory (g.met.D.Device.is_disk (disk_of store)) c.requires.kept c.requires.new.running (c.requires.one_page.1, c.requires.one_page.2) refused))
+
+pub returns-in-Ok-clause-beyond : goal.returns-in-Ok-clause-beyond
+returns-in-Ok-clause-beyond g c =
+    let M : g.row.D.Denot → DiskModel = g.D.Device.model in
+    let store = c.args.store in
+    let n = file_size (seen_as store).meta in
+    let stored : (core_seen c.in-Ok.core).store ≡ seen_as store = ap (λ (x : CoreState). x.store) c.in-Ok.ensures.seen in
+    let run = new_beyond (M (core_disk c.in-Ok.core)) (M (core_disk c.drive.result.core)) (seen_as store) (core_seen c.in-Ok.core) (core_seen c.drive.result.core) c.requires.new stored c.drive.ensures.in_log in
+    let from_start = subst (λ (x : g.row.D.Denot). KeepsBeyond n (M x) (M (core_disk c.drive.result.core))) c.in-Ok.ensures.disk run in
+    subst (λ (x : g.row.D.Denot). KeepsBeyond n (M (disk_of store)) (M x)) (sym c.finish.ensures.disk) from_start
+
+pub returns-clause-beyond : goal.returns-clause-beyond
+returns-clause-beyond g c =
+    let M : g.row.D.Denot → DiskModel = g.D.Device.model in
+    let store = c.args.store in
+    let n = file_size (seen_as store).meta in
+    let back : c.refused.result.disk ≡ disk_of store = c.refused.ensures.disk ∙ c.into_disk.ensures ∙ ap (λ x. disk_of x) c.in-Err.ensures.back in
+    subst (λ (x : g.row.D.Denot). KeepsBeyond n (M (disk_of store)) (M x)) (sym back) (beyond_none n (M (disk_of store)) (g.met.D.Device.is_disk (disk_of store)))

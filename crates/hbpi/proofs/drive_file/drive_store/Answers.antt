@@ -7,6 +7,9 @@ use Rattle.hbpi.specs.Ends.{Seen, IsRefused}
 use Rattle.hbpi.specs.Outcome.{GetsLine, fault_line}
 use Rattle.hbpi.specs.declared.statuses.Status.{Status}
 use Rattle.hbpi.proofs.ScheduleRuns.{turned_away, away_on, not_scheduled_ends}
+use Rattle.hb_store.specs.Opening.{file_size}
+use Rattle.hbpi.specs.Beyond.{KeepsBeyond}
+use Rattle.hbpi.proofs.Beyond.{beyond_none}
 use Rattle.hbpi.proofs.drive_file.drive_store.Goals as goal
 
 pub returns-in-Ok-clause-ends : goal.returns-in-Ok-clause-ends
@@ -43,3 +46,10 @@ returns-in-Err-clause-ends g c =
     not_scheduled_ends c.refused.result.status store.meta.k d (M c.refused.result.disk) seen why
     (away_on M store.meta.k d seen c.refused.result.status (disk_of store) c.refused.result.disk (c.refused.ensures.disk ∙ c.into_disk.ensures)
     (turned_away d (seen_as store) seen c.refused.result.status (g.met.D.Device.is_disk (disk_of store)) c.requires.kept c.requires.new.running (c.requires.one_page.1, c.requires.one_page.2) refused))
+
+pub returns-in-Err-clause-beyond : goal.returns-in-Err-clause-beyond
+returns-in-Err-clause-beyond g c =
+    let M : g.row.D.Denot → DiskModel = g.D.Device.model in
+    let store = c.args.store in
+    let n = file_size (seen_as store).meta in
+    subst (λ (x : g.row.D.Denot). KeepsBeyond n (M (disk_of store)) (M x)) (sym (c.refused.ensures.disk ∙ c.into_disk.ensures)) (beyond_none n (M (disk_of store)) (g.met.D.Device.is_disk (disk_of store)))

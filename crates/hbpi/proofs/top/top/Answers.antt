@@ -2,9 +2,10 @@ use Rattle.std.proofs.Common.{◌∙◌, Option, Some, sym, ap, subst}
 use Rattle.hbpi.specs.declared.forms.Form.{Form}
 use Rattle.hbpi.specs.declared.forms.Form.TheVariants.{Create, Dry}
 use Rattle.hbpi.specs.Ends.{Seen, seen_by, IsComplete, IsMadeWhole, RefusesBadText, NamesBadLine}
-use Rattle.hbpi.specs.Runs.{RunEnds, disk_seen}
+use Rattle.hbpi.specs.Runs.{LeavesBeyond, RunEnds, disk_seen}
 use Rattle.hbpi.proofs.EndLaws.{ends_complete, ends_refuses, ends_names, ends_made, never_usage, never_unbuilt}
 use Rattle.hbpi.proofs.DriveGiven.{is_driven}
+use Rattle.hbpi.proofs.DriveNames.{names_line}
 use Rattle.hbpi.proofs.FileRefused.{refuses_file}
 use Rattle.hbpi.proofs.Promises.{keeps_promise}
 use Rattle.hbpi.proofs.top.top.Goals as goal
@@ -65,6 +66,10 @@ pub returns-in-Some-Drive-clause-driven : goal.returns-in-Some-Drive-clause-driv
 returns-in-Some-Drive-clause-driven g c is =
     is_driven (g.D.Device.model c.args.disk) (g.D.Device.model c.drive_file.result.disk) _ c.drive_file.result.status c.an_image_opens_to_one_file.ensures.one c.a_good_file_is_not_refused.ensures c.drive_file.ensures.ends
 
+pub returns-in-Some-Drive-clause-driven_named : goal.returns-in-Some-Drive-clause-driven_named
+returns-in-Some-Drive-clause-driven_named g c is =
+    names_line (g.D.Device.model c.args.disk) (g.D.Device.model c.drive_file.result.disk) _ c.drive_file.result.status c.an_image_opens_to_one_file.ensures.one c.drive_file.ensures.ends
+
 pub returns-in-Some-Drive-clause-refused : goal.returns-in-Some-Drive-clause-refused
 returns-in-Some-Drive-clause-refused g c is =
     refuses_file (g.D.Device.model c.args.disk) (g.D.Device.model c.drive_file.result.disk) _ c.drive_file.result.status c.a_good_file_is_not_refused.ensures c.bytes_are_refused_in_one_way.ensures c.drive_file.ensures.ends
@@ -94,3 +99,7 @@ returns-in-Some-Create-clause-made g c =
     let form = Create c.in-Some-Create.k c.in-Some-Create.pages c.in-Some-Create.log c.in-Some-Create.dcap c.in-Some-Create.icap in
     subst (λ (form : Option Form). IsMadeWhole form seen (disk_seen d e) c.create_file.result.status) (sym (ap Some c.in-Some-Create.field-0-is) ∙ c.in-Some-Create.ensures.form)
     (ends_made (Some form) seen d e c.create_file.result.status (c.create_file.ensures.ends (g.S.Source.left c.args.source.now) (g.S.Source.faults c.args.source.now)))
+
+pub returns-in-Some-Create-clause-beyond : goal.returns-in-Some-Create-clause-beyond
+returns-in-Some-Create-clause-beyond g c =
+    subst (λ (form : Option Form). LeavesBeyond form (g.D.Device.model c.args.disk) (g.D.Device.model c.create_file.result.disk)) (sym (ap Some c.in-Some-Create.field-0-is) ∙ c.in-Some-Create.ensures.form) c.create_file.ensures.beyond

@@ -9,6 +9,7 @@ use Rattle.hb_store.specs.Keeps.{IsFresh}
 use Rattle.hb_store.specs.Opening.{file_size}
 use Rattle.hbpi.specs.Creation.{IsLaidOut}
 use Rattle.hbpi.specs.OnePage.{lone}
+use Rattle.hbpi.proofs.Beyond.{beyond_then, beyond_wider}
 use Rattle.hbpi.proofs.Made.{told_before, frame_long, on_ok_three, made_fresh}
 use Rattle.hbpi.proofs.restart.creation.write_file.Goals as goal
 
@@ -59,3 +60,9 @@ returns-clause-fresh g c =
     (at_value one.told (λ b. get_or b 4096 0 ≢ open_gate → IfSome new.told (λ e. IsNewest e 0 meta)) laid.0 laid.1 newest closed)
     durable p spells)
     c.write_first_super.ensures.written c.write_first_super.ensures.durable c.write_first_super.ensures.newest
+
+pub returns-clause-beyond : goal.returns-clause-beyond
+returns-clause-beyond g c =
+    beyond_then (file_size c.args.meta.now) (g.D.Device.model c.args.disk.now) (g.D.Device.model c.lay_out.new.disk) (g.D.Device.model c.write_first_super.new.disk)
+    c.lay_out.ensures.beyond
+    (beyond_wider 0 41 (file_size c.args.meta.now) (g.D.Device.model c.lay_out.new.disk) (g.D.Device.model c.write_first_super.new.disk) (omega arith) c.write_first_super.ensures.place)

@@ -1,4 +1,4 @@
-use Rattle.std.proofs.Common.{◌∙◌, ◌+◌, ◌≤◌, ℕ, List, [], IfSome, IsSome, sym, subst}
+use Rattle.std.proofs.Common.{◌≡◌, ◌∙◌, ◌+◌, ◌≤◌, ℕ, List, [], IfSome, IsSome, sym, subst}
 use Rattle.std.specs.Ordering.{nat_cmp}
 use Rattle.std.specs.BTreeMap.{get}
 use Rattle.hb_disk.specs.Calls.{Leaves}
@@ -10,6 +10,11 @@ use Rattle.hb_store.specs.Seen.{seen_as, disk_of}
 use Rattle.hbpi.specs.Looking.{IsFoundIn}
 use Rattle.hbpi.proofs.Made.{no_error}
 use Rattle.hbpi.proofs.Recovered.{recovered_even, recovered_time, recovered_fresh, recovered_opened, recovered_meta, recovered_late}
+use Rattle.hbpi.specs.Beyond.{KeepsBeyondFile}
+use Rattle.hb_super.specs.Superblocks.{IsNewest}
+use Rattle.hb_ops.specs.declared.meta.Meta.{Meta}
+use Rattle.hb_disk.specs.RunLaws.{if_value}
+use Rattle.hbpi.proofs.Beyond.{beyond_found, beyond_looked, found_said}
 use Rattle.hbpi.proofs.restart.recovery.recover.Goals as goal
 
 pub returns-then-is_err-clause-even_after_fault : goal.returns-then-is_err-clause-even_after_fault
@@ -81,3 +86,30 @@ returns-clause-even_after_fault g c = λ s is_even.
     (recovered_even (g.D.Device.model c.args.disk) (g.D.Device.model c.look.new.disk) (g.D.Device.model c.renew.new.disk) c.look.ensures.only_reads
     c.in-Ok.found.turn c.in-Ok.found.meta (get nat_cmp c.in-Ok.found.touched.pages 1) c.in-Ok.found.count c.in-Ok.ensures.found
     (g.met.D.Device.is_disk c.args.disk) c.renew.ensures.even s is_even)
+
+pub returns-in-Err-clause-beyond_after_fault : goal.returns-in-Err-clause-beyond_after_fault
+returns-in-Err-clause-beyond_after_fault g c =
+    beyond_looked (g.D.Device.model c.args.disk) (g.D.Device.model c.look.new.disk) (g.met.D.Device.is_disk c.args.disk) c.look.ensures.only_reads
+
+pub returns-then-is_err-clause-beyond_after_fault : goal.returns-then-is_err-clause-beyond_after_fault
+returns-then-is_err-clause-beyond_after_fault g c =
+    beyond_found c.one_superblock_is_newest.ensures.said (g.D.Device.model c.args.disk) (g.D.Device.model c.look.new.disk) (g.D.Device.model c.renew.new.disk)
+    c.in-Ok.found.turn c.in-Ok.found.meta (get nat_cmp c.in-Ok.found.touched.pages 1) c.in-Ok.found.count (g.met.D.Device.is_disk c.args.disk) c.look.ensures.only_reads c.in-Ok.ensures.found c.renew.ensures.beyond
+
+pub returns-in-Ok-opened-clause-beyond : goal.returns-in-Ok-opened-clause-beyond
+returns-in-Ok-opened-clause-beyond g c =
+    subst (λ (x : g.row.D.Denot). KeepsBeyondFile (g.D.Device.model c.args.disk) (g.D.Device.model x)) (sym c.in-Ok-opened.ensures.disk)
+    (beyond_found c.one_superblock_is_newest.ensures.said (g.D.Device.model c.args.disk) (g.D.Device.model c.look.new.disk) (g.D.Device.model c.renew.new.disk)
+    c.in-Ok.found.turn c.in-Ok.found.meta (get nat_cmp c.in-Ok.found.touched.pages 1) c.in-Ok.found.count (g.met.D.Device.is_disk c.args.disk) c.look.ensures.only_reads c.in-Ok.ensures.found c.renew.ensures.beyond)
+
+pub returns-in-Ok-opened-clause-said : goal.returns-in-Ok-opened-clause-said
+returns-in-Ok-opened-clause-said g c =
+    if_value (g.D.Device.model c.args.disk).told (λ b. (turn : ℕ) (said : Meta) → IsNewest b turn said → said ≡ (seen_as c.in-Ok-opened.store).meta) (λ b told turn said newest.
+    found_said c.one_superblock_is_newest.ensures.said (g.D.Device.model c.args.disk).told c.in-Ok.found.turn c.in-Ok.found.meta (get nat_cmp c.in-Ok.found.touched.pages 1) c.in-Ok.found.count c.in-Ok.ensures.found b turn said told newest
+    ∙ sym c.in-Ok-opened.ensures.new.meta_is)
+
+pub returns-clause-beyond_after_fault : goal.returns-clause-beyond_after_fault
+returns-clause-beyond_after_fault g c =
+    subst (λ (x : g.row.D.Denot). KeepsBeyondFile (g.D.Device.model c.args.disk) (g.D.Device.model x)) (sym c.in-Err-opened.ensures.back)
+    (beyond_found c.one_superblock_is_newest.ensures.said (g.D.Device.model c.args.disk) (g.D.Device.model c.look.new.disk) (g.D.Device.model c.renew.new.disk)
+    c.in-Ok.found.turn c.in-Ok.found.meta (get nat_cmp c.in-Ok.found.touched.pages 1) c.in-Ok.found.count (g.met.D.Device.is_disk c.args.disk) c.look.ensures.only_reads c.in-Ok.ensures.found c.renew.ensures.beyond)

@@ -7,6 +7,8 @@ use Rattle.hbpi.specs.Renewing.{StillOpens, IsPlaced, IsReadyFor}
 use Rattle.hbpi.proofs.Renewed.{zeroed_moments, zeroed_ready, cleared_moments, cleared_ready}
 use Rattle.hbpi.proofs.Made.{on_ok_three}
 use Rattle.hbpi.proofs.RunSteps.{on_ok_given}
+use Rattle.hb_store.specs.Opening.{file_size}
+use Rattle.hbpi.proofs.Beyond.{beyond_body, beyond_log, beyond_sync, beyond_then}
 use Rattle.hbpi.proofs.restart.renewal.make_room.Goals as goal
 
 pub returns-in_err-zero_area-clause-moments : goal.returns-in_err-zero_area-clause-moments
@@ -14,20 +16,20 @@ returns-in_err-zero_area-clause-moments g c = λ touched page placed.
     zeroed_moments c.args.turn c.turn_after-next.result c.args.meta.now c.requires.legal.turn_fits c.turn_after-next.ensures touched page c.sync.result c.zero_area.result
     (g.D.Device.model c.args.disk.now) (g.D.Device.model c.sync.new.self) (g.D.Device.model c.zero_area.new.disk)
     (g.met.D.Device.is_disk c.args.disk.now) (g.met.D.Device.is_disk c.sync.new.self) (g.met.D.Device.is_disk c.zero_area.new.disk)
-    placed c.sync.ensures.syncs c.sync.ensures.ticks c.area_of.result c.area_of.ensures c.zero_area.ensures.moments c.zero_area.ensures.place
+    placed c.sync.ensures.syncs c.sync.ensures.ticks c.log_place.result c.log_place.ensures c.zero_area.ensures.moments c.zero_area.ensures.place
 
 pub returns-clause-moments : goal.returns-clause-moments
 returns-clause-moments g c = λ touched page placed.
     let zeroed = zeroed_ready c.args.turn c.turn_after-next.result c.args.meta.now c.requires.legal.turn_fits c.turn_after-next.ensures touched page c.sync.result c.zero_area.result
     (g.D.Device.model c.args.disk.now) (g.D.Device.model c.sync.new.self) (g.D.Device.model c.zero_area.new.disk)
     (g.met.D.Device.is_disk c.args.disk.now) (g.met.D.Device.is_disk c.sync.new.self) (g.met.D.Device.is_disk c.zero_area.new.disk)
-    placed c.sync.ensures.syncs c.sync.ensures.ticks c.area_of.result c.area_of.ensures c.zero_area.ensures.moments c.zero_area.ensures.place
+    placed c.sync.ensures.syncs c.sync.ensures.ticks c.log_place.result c.log_place.ensures c.zero_area.ensures.moments c.zero_area.ensures.place
     (omega (arith, c.requires.room, c.sync.ensures.ticks.size, c.zero_area.ensures.place.size)) c.in_ok-zero_area.ensures.durable c.in_ok-zero_area.ensures.zeroed in
     Leaves-then (g.D.Device.model c.args.disk.now) (g.D.Device.model c.zero_area.new.disk) (g.D.Device.model c.clear_hidden.new.disk) (StillOpens c.args.turn c.args.meta.now touched page)
     (zeroed_moments c.args.turn c.turn_after-next.result c.args.meta.now c.requires.legal.turn_fits c.turn_after-next.ensures touched page c.sync.result c.zero_area.result
     (g.D.Device.model c.args.disk.now) (g.D.Device.model c.sync.new.self) (g.D.Device.model c.zero_area.new.disk)
     (g.met.D.Device.is_disk c.args.disk.now) (g.met.D.Device.is_disk c.sync.new.self) (g.met.D.Device.is_disk c.zero_area.new.disk)
-    placed c.sync.ensures.syncs c.sync.ensures.ticks c.area_of.result c.area_of.ensures c.zero_area.ensures.moments c.zero_area.ensures.place)
+    placed c.sync.ensures.syncs c.sync.ensures.ticks c.log_place.result c.log_place.ensures c.zero_area.ensures.moments c.zero_area.ensures.place)
     (cleared_moments c.args.turn c.turn_after-next.result c.args.meta.now c.requires.legal.turn_fits c.turn_after-next.ensures touched page
     (g.D.Device.model c.zero_area.new.disk) (g.D.Device.model c.clear_hidden.new.disk) (g.met.D.Device.is_disk c.zero_area.new.disk) (g.met.D.Device.is_disk c.clear_hidden.new.disk)
     zeroed c.clear_hidden.ensures.place (c.clear_hidden.ensures.moments c.args.turn c.args.meta.now c.turn_after-next.ensures zeroed.placed.here.places))
@@ -46,10 +48,33 @@ returns-clause-ready g c =
     let zeroed = zeroed_ready c.args.turn c.turn_after-next.result c.args.meta.now c.requires.legal.turn_fits c.turn_after-next.ensures touched page c.sync.result c.zero_area.result
     (g.D.Device.model c.args.disk.now) (g.D.Device.model c.sync.new.self) (g.D.Device.model c.zero_area.new.disk)
     (g.met.D.Device.is_disk c.args.disk.now) (g.met.D.Device.is_disk c.sync.new.self) (g.met.D.Device.is_disk c.zero_area.new.disk)
-    placed c.sync.ensures.syncs c.sync.ensures.ticks c.area_of.result c.area_of.ensures c.zero_area.ensures.moments c.zero_area.ensures.place
+    placed c.sync.ensures.syncs c.sync.ensures.ticks c.log_place.result c.log_place.ensures c.zero_area.ensures.moments c.zero_area.ensures.place
     (omega (arith, c.requires.room, c.sync.ensures.ticks.size, c.zero_area.ensures.place.size)) c.in_ok-zero_area.ensures.durable c.in_ok-zero_area.ensures.zeroed in
     cleared_ready c.args.turn c.turn_after-next.result c.args.meta.now c.requires.legal.turn_fits c.turn_after-next.ensures touched page
     mid new (g.met.D.Device.is_disk c.zero_area.new.disk) (g.met.D.Device.is_disk c.clear_hidden.new.disk)
     zeroed c.clear_hidden.ensures.place (c.clear_hidden.ensures.moments turn meta c.turn_after-next.ensures zeroed.placed.here.places)
     hidden (synced zeroed.placed.here.places) durable)
     c.clear_hidden.ensures.hidden (on_ok_given c.clear_hidden.result (IsSynced mid 0 8192) (IsSynced new 0 8192) c.clear_hidden.ensures.synced) c.clear_hidden.ensures.durable
+
+pub returns-in_err-sync-clause-beyond : goal.returns-in_err-sync-clause-beyond
+returns-in_err-sync-clause-beyond g c =
+    beyond_sync c.sync.result (file_size c.args.meta.now) (g.D.Device.model c.args.disk.now) (g.D.Device.model c.sync.new.self) (g.met.D.Device.is_disk c.args.disk.now) c.sync.ensures.syncs c.sync.ensures.ticks
+
+pub returns-in_err-zero_area-clause-beyond : goal.returns-in_err-zero_area-clause-beyond
+returns-in_err-zero_area-clause-beyond g c =
+    beyond_then (file_size c.args.meta.now) (g.D.Device.model c.args.disk.now) (g.D.Device.model c.sync.new.self) (g.D.Device.model c.zero_area.new.disk)
+    (beyond_sync c.sync.result (file_size c.args.meta.now) (g.D.Device.model c.args.disk.now) (g.D.Device.model c.sync.new.self) (g.met.D.Device.is_disk c.args.disk.now) c.sync.ensures.syncs c.sync.ensures.ticks)
+    (beyond_log c.turn_after-next.result c.log_place.result c.args.meta.now (g.D.Device.model c.sync.new.self) (g.D.Device.model c.zero_area.new.disk) c.log_place.ensures c.zero_area.ensures.place)
+
+pub returns-clause-beyond : goal.returns-clause-beyond
+returns-clause-beyond g c =
+    let n = file_size c.args.meta.now in
+    let d = g.D.Device.model c.args.disk.now in
+    let one = g.D.Device.model c.sync.new.self in
+    let two = g.D.Device.model c.zero_area.new.disk in
+    let new = g.D.Device.model c.clear_hidden.new.disk in
+    beyond_then n d two new
+    (beyond_then n d one two
+    (beyond_sync c.sync.result n d one (g.met.D.Device.is_disk c.args.disk.now) c.sync.ensures.syncs c.sync.ensures.ticks)
+    (beyond_log c.turn_after-next.result c.log_place.result c.args.meta.now one two c.log_place.ensures c.zero_area.ensures.place))
+    (beyond_body c.turn_after-next.result c.args.meta.now two new c.clear_hidden.ensures.place)

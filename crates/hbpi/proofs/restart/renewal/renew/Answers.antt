@@ -11,6 +11,8 @@ use Rattle.hbpi.specs.OnePage.{lone}
 use Rattle.hbpi.specs.Looking.{IsFoundIn}
 use Rattle.hbpi.specs.Renewing.{IsHere}
 use Rattle.hbpi.proofs.SyncedRuns.{synced_even, synced_late, synced_time, synced_renewed}
+use Rattle.hb_store.specs.Opening.{file_size}
+use Rattle.hbpi.proofs.Beyond.{beyond_sync, beyond_then}
 use Rattle.hbpi.proofs.restart.renewal.renew.Goals as goal
 
 pub returns-in_err-sync-clause-time : goal.returns-in_err-sync-clause-time
@@ -51,3 +53,13 @@ returns-clause-renewed g c =
     (synced_renewed c.sync.result c.in_ok-sync.field-0 c.in_ok-sync.was d mid new (g.met.D.Device.is_disk c.args.disk.now)
     c.sync.ensures.syncs c.sync.ensures.ticks turn meta touched count c.an_image_opens_to_one_file.ensures.one c.rewrite.ensures.moments)
     c.rewrite.ensures.fresh
+
+pub returns-in_err-sync-clause-beyond : goal.returns-in_err-sync-clause-beyond
+returns-in_err-sync-clause-beyond g c =
+    beyond_sync c.sync.result (file_size c.args.found.now.meta) (g.D.Device.model c.args.disk.now) (g.D.Device.model c.sync.new.self) (g.met.D.Device.is_disk c.args.disk.now) c.sync.ensures.syncs c.sync.ensures.ticks
+
+pub returns-clause-beyond : goal.returns-clause-beyond
+returns-clause-beyond g c =
+    beyond_then (file_size c.args.found.now.meta) (g.D.Device.model c.args.disk.now) (g.D.Device.model c.sync.new.self) (g.D.Device.model c.rewrite.new.disk)
+    (beyond_sync c.sync.result (file_size c.args.found.now.meta) (g.D.Device.model c.args.disk.now) (g.D.Device.model c.sync.new.self) (g.met.D.Device.is_disk c.args.disk.now) c.sync.ensures.syncs c.sync.ensures.ticks)
+    c.rewrite.ensures.beyond

@@ -9,6 +9,8 @@ use Rattle.hb_store.specs.Keeps.{IsFresh}
 use Rattle.hbpi.specs.OnePage.{lone}
 use Rattle.hbpi.specs.Renewing.{StillOpens, IsHere, IsPlaced}
 use Rattle.hbpi.proofs.Renewed.{still_to}
+use Rattle.hb_store.specs.Opening.{file_size}
+use Rattle.hbpi.proofs.Beyond.{beyond_then}
 use Rattle.hbpi.proofs.restart.renewal.rewrite.Goals as goal
 
 pub returns-in_err-settle-clause-moments : goal.returns-in_err-settle-clause-moments
@@ -40,3 +42,8 @@ returns-clause-fresh g c =
     ((page : Page) → IsHere d turn meta touched page → IsFresh new (next_turn turn) meta (lone meta page))
     (λ fresh page here. fresh touched page (c.in_ok-settle.ensures.placed page here))
     c.switch.ensures.fresh
+
+pub returns-clause-beyond : goal.returns-clause-beyond
+returns-clause-beyond g c =
+    beyond_then (file_size c.args.found.now.meta) (g.D.Device.model c.args.disk.now) (g.D.Device.model c.settle.new.disk) (g.D.Device.model c.switch.new.disk)
+    c.settle.ensures.beyond c.switch.ensures.beyond

@@ -8,6 +8,8 @@ use Rattle.hb_frag.specs.Grammar.{SpellsPage}
 use Rattle.hb_store.specs.Opening.{place_bytes}
 use Rattle.hbpi.specs.Renewing.{IsHere, IsPlaced}
 use Rattle.hbpi.proofs.Renewed.{placed_moments, placed_there, placed_untouched, not_none}
+use Rattle.hb_store.specs.Opening.{file_size}
+use Rattle.hbpi.proofs.Beyond.{beyond_none, beyond_page}
 use Rattle.hbpi.proofs.restart.renewal.settle.Goals as goal
 
 pub write_page-requires-clause-spelling : goal.write_page-requires-clause-spelling
@@ -39,3 +41,10 @@ pub returns-in-None-clause-placed : goal.returns-in-None-clause-placed
 returns-in-None-clause-placed g c = λ page here.
     placed_untouched c.args.turn (next_turn c.args.turn) c.args.meta.now c.requires.legal.turn_fits refl (get nat_cmp c.args.touched.now.pages 1) page
     (g.D.Device.model c.args.disk.now) (g.met.D.Device.is_disk c.args.disk.now) (sym c.in-None.ensures.value) here
+
+pub returns-in-Some-clause-beyond : goal.returns-in-Some-clause-beyond
+returns-in-Some-clause-beyond g c =
+    beyond_page c.args.meta.now (g.D.Device.model c.args.disk.now) (g.D.Device.model c.write_page.new.disk) c.requires.legal.layout.some_pages c.write_page.ensures.place
+
+pub returns-in-None-clause-beyond : goal.returns-in-None-clause-beyond
+returns-in-None-clause-beyond g c = beyond_none (file_size c.args.meta.now) (g.D.Device.model c.args.disk.now) (g.met.D.Device.is_disk c.args.disk.now)

@@ -8,6 +8,8 @@ use Rattle.hbpi.specs.OnePage.{lone}
 use Rattle.hbpi.specs.Renewing.{StillOpens, IsPlaced}
 use Rattle.hbpi.proofs.Renewed.{still_to, super_moments, super_fresh}
 use Rattle.hbpi.proofs.RunSteps.{on_ok_two, size_after}
+use Rattle.hb_store.specs.Opening.{file_size}
+use Rattle.hbpi.proofs.Beyond.{beyond_super, beyond_then}
 use Rattle.hbpi.proofs.restart.renewal.switch.Goals as goal
 
 pub returns-in_err-make_room-clause-moments : goal.returns-in_err-make_room-clause-moments
@@ -49,3 +51,9 @@ returns-clause-fresh g c =
     (c.in_ok-make_room.ensures.ready touched page placed) (size_after c.make_room.result 5 d mid c.make_room.ensures.run c.requires.room) c.requires.one
     (g.met.D.Device.is_disk c.write_super.new.disk) c.write_super.ensures.place durable newest)
     c.write_super.ensures.durable (c.write_super.ensures.newest turn meta c.turn_after.ensures)
+
+pub returns-clause-beyond : goal.returns-clause-beyond
+returns-clause-beyond g c =
+    beyond_then (file_size c.args.meta.now) (g.D.Device.model c.args.disk.now) (g.D.Device.model c.make_room.new.disk) (g.D.Device.model c.write_super.new.disk)
+    c.make_room.ensures.beyond
+    (beyond_super c.turn_after.result c.args.meta.now (g.D.Device.model c.make_room.new.disk) (g.D.Device.model c.write_super.new.disk) c.write_super.ensures.place)

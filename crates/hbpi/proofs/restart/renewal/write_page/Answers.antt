@@ -3,7 +3,7 @@ use Rattle.hb_disk.specs.Model.{overwritten}
 use Rattle.hb_disk.specs.RunLaws.{on_ok_weaker, Becomes-write}
 use Rattle.hb_frag.specs.Grammar.{SpellsPage}
 use Rattle.hb_store.specs.Opening.{place_bytes}
-use Rattle.hbpi.proofs.PageWrites.{page_at_place, page_written, becomes_there}
+use Rattle.hbpi.proofs.PageWrites.{page_written, becomes_there}
 use Rattle.hbpi.proofs.restart.renewal.write_page.Goals as goal
 
 pub returns-clause-there : goal.returns-clause-there
@@ -12,9 +12,9 @@ returns-clause-there g c =
     let new = g.D.Device.model c.write.new.self in
     let meta = c.args.meta.now in
     let bytes = c.encode.new.into in
-    on_ok_weaker c.write.result (IfSome d.told (λ b. new.told ≡ Some (overwritten b (8192 + 2 * c.from.result) bytes)))
+    on_ok_weaker c.write.result (IfSome d.told (λ b. new.told ≡ Some (overwritten b c.page_place.result bytes)))
     ((b : List ℕ) → new.told ≡ Some b → SpellsPage (place_bytes meta 1 b) c.args.page.now)
-    (page_written d new (g.met.D.Device.is_disk c.args.disk.now) (8192 + 2 * c.from.result) bytes meta c.args.page.now (page_at_place c.from.result meta c.from.ensures) c.encode.ensures c.requires.room c.requires.some
+    (page_written d new (g.met.D.Device.is_disk c.args.disk.now) c.page_place.result bytes meta c.args.page.now c.page_place.ensures c.encode.ensures c.requires.room c.requires.some
     c.write.ensures.writes.silent)
     c.write.ensures.writes.written
 
@@ -24,6 +24,6 @@ returns-clause-place g c =
     let new = g.D.Device.model c.write.new.self in
     let meta = c.args.meta.now in
     let bytes = c.encode.new.into in
-    becomes_there d new (8192 + 2 * c.from.result) (length bytes) meta (page_at_place c.from.result meta c.from.ensures) c.encode.ensures.long
-    (Becomes-write c.write.result (8192 + 2 * c.from.result) bytes d new (g.met.D.Device.is_disk c.args.disk.now) (g.met.D.Device.is_disk c.write.new.self)
-    (omega (arith, c.from.ensures, c.encode.ensures.long, c.requires.room, c.requires.some)) c.write.ensures.writes c.write.ensures.ticks)
+    becomes_there d new c.page_place.result (length bytes) meta c.page_place.ensures c.encode.ensures.long
+    (Becomes-write c.write.result c.page_place.result bytes d new (g.met.D.Device.is_disk c.args.disk.now) (g.met.D.Device.is_disk c.write.new.self)
+    (omega (arith, c.page_place.ensures, c.encode.ensures.long, c.requires.room, c.requires.some)) c.write.ensures.writes c.write.ensures.ticks)

@@ -1,4 +1,4 @@
-use Rattle.std.proofs.Common.{◌≡◌, ◌∙◌, length, ap, arith, sym, subst}
+use Rattle.std.proofs.Common.{◌≡◌, ◌∙◌, length, ap, arith, refl, sym, subst}
 use Rattle.hb_wal.specs.Log.{mark_of}
 use Rattle.hb_set.specs.Scripts.{script_is_short}
 use Rattle.hbpi.specs.CoreSeen.{core_seen, core_disk}
@@ -6,6 +6,8 @@ use Rattle.hbpi.specs.Core.{settled_of}
 use Rattle.hbpi.specs.Steps.{KeepsAt}
 use Rattle.hbpi.proofs.AnswerSteps.{answered_keeps}
 use Rattle.hbpi.proofs.AwaitSteps.{awaiting_forces, awaiting_safe, same_place}
+use Rattle.hbpi.specs.Beyond.{StaysInLog}
+use Rattle.hbpi.proofs.InLog.{in_log_forced, in_log_same}
 use Rattle.hbpi.proofs.engine.state.Core.await_place.Goals as goal
 
 pub overflow_cast-len : goal.overflow_cast-len
@@ -38,3 +40,13 @@ pub returns-clause-safe : goal.returns-clause-safe
 returns-clause-safe g c =
     awaiting_safe (g.D.Device.model (core_disk c.args.self.now)) (g.D.Device.model (core_disk c.force.new.self)) (core_seen c.args.self.now) c.requires.going c.requires.whole c.force.result (core_seen c.force.new.self)
     c.args.place c.requires.awaits c.force.ensures
+
+pub returns-then-place-settled-clause-in_log : goal.returns-then-place-settled-clause-in_log
+returns-then-place-settled-clause-in_log g c =
+    let P : g.row.D.Denot → Type 0 = λ x. StaysInLog (g.D.Device.model (core_disk c.args.self.now)) (core_seen c.args.self.now) (g.D.Device.model x) (core_seen c.answer_kept.new.self) in
+    subst P (sym c.answer_kept.ensures.disk)
+    (in_log_same (g.D.Device.model (core_disk c.args.self.now)) (core_seen c.args.self.now) (core_seen c.answer_kept.new.self) _ (g.met.D.Device.is_disk (core_disk c.args.self.now)) (c.answer_kept.ensures.answers).3.new_is refl refl)
+
+pub returns-clause-in_log : goal.returns-clause-in_log
+returns-clause-in_log g c =
+    in_log_forced _ (g.D.Device.model (core_disk c.args.self.now)) (core_seen c.args.self.now) c.force.result (g.D.Device.model (core_disk c.force.new.self)) (core_seen c.force.new.self) c.force.ensures

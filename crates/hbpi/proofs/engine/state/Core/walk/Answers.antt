@@ -9,6 +9,8 @@ use Rattle.hbpi.specs.Steps.{GivesUp, KeepsAt, StepsSafely, with_store}
 use Rattle.hbpi.proofs.RefusedSteps.{gave_up_keeps, is_a_page, not_framed}
 use Rattle.hbpi.proofs.WalkSafe.{acts_safe}
 use Rattle.hbpi.proofs.WalkSteps.{acts_keeps}
+use Rattle.hbpi.specs.Beyond.{StaysInLog}
+use Rattle.hbpi.proofs.InLog.{acts_in_log, gave_up_in_log}
 use Rattle.hbpi.proofs.engine.state.Core.walk.Goals as goal
 
 pub returns-in-Ok-clause-keeps : goal.returns-in-Ok-clause-keeps
@@ -52,3 +54,20 @@ returns-in-Err-clause-keeps g c =
     (not_framed (seen_as c.args.self.now.store).frame c.meta.result.now.root (seen_as c.args.self.now.store).meta.root root (λ some. cc (c.in-Err.ensures.in_frame some).0))
     (λ durable later keeps. let S : StoreState → Type 0 = λ st. StoreKeeps (g.D.Device.model c.fetch.new.self.disk) st durable later in subst S c.in-Err.ensures.kept (c.in-Err.ensures.keeps durable later keeps))
     (λ n done kept fault memory. is_a_page (seen_as c.args.self.now.store).meta c.meta.result.now.root root c.requires.whole.one_page (c.in-Err.ensures.sound kept.durable kept.later kept.keeps kept.sound fault memory)))
+
+pub returns-in-Ok-clause-in_log : goal.returns-in-Ok-clause-in_log
+returns-in-Ok-clause-in_log g c =
+    let P : g.row.D.Denot → Type 0 = λ x. StaysInLog (g.D.Device.model (core_disk c.args.self.now)) (core_seen c.args.self.now) (g.D.Device.model x) (core_seen c.act.new.self) in
+    let A : g.row.D.Denot → Type 0 = λ x. Acts (g.D.Device.model c.fetch.new.self.disk) (with_store (seen_as c.fetch.new.self) (core_seen c.args.self.now)) c.act.result (g.D.Device.model x) (core_seen c.act.new.self) in
+    let R : ℕ → Type 0 = λ n. Fetched n (seen_as c.args.self.now.store) (seen_as c.fetch.new.self) in
+    subst P (sym c.act.ensures.disk)
+    (acts_in_log (g.D.Device.model (core_disk c.args.self.now)) (g.D.Device.model c.fetch.new.self.disk) (g.met.D.Device.is_disk (core_disk c.args.self.now)) c.in-Ok.ensures.only_reads (core_seen c.args.self.now)
+    (seen_as c.fetch.new.self) (subst R (ap (λ (x : Meta). x.root) c.meta.ensures.meta) c.in-Ok.ensures.fetched) c.act.result (core_seen c.act.new.self) (subst A c.act.ensures.disk c.act.ensures.acts))
+
+pub returns-in-Err-clause-in_log : goal.returns-in-Err-clause-in_log
+returns-in-Err-clause-in_log g c =
+    let P : g.row.D.Denot → Type 0 = λ x. StaysInLog (g.D.Device.model (core_disk c.args.self.now)) (core_seen c.args.self.now) (g.D.Device.model x) (core_seen c.give_up.new.self) in
+    let G : StoreState → Type 0 = λ st. GivesUp c.in-Err.stop (with_store st (core_seen c.args.self.now)) c.give_up.result (core_seen c.give_up.new.self) in
+    subst P (sym c.give_up.ensures.disk)
+    (gave_up_in_log (g.D.Device.model (core_disk c.args.self.now)) (g.D.Device.model c.fetch.new.self.disk) (g.met.D.Device.is_disk (core_disk c.args.self.now)) c.in-Err.ensures.only_reads (core_seen c.args.self.now)
+    c.in-Err.stop c.give_up.result (core_seen c.give_up.new.self) (subst G c.in-Err.ensures.kept c.give_up.ensures.gives_up))
