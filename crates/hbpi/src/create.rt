@@ -31,8 +31,8 @@ fn make<D: Device>(
     ensures opens { IfOk result (λ e. IsSome (D.model disk).told → IsEven (D.model e)
         (new_file (record { k = k; pages = pages; log = log; dcap = dcap; icap = icap }))) }
     ensures refused { IfErr result (λ e. NotMadeOn (first_fault k pages log dcap icap) (size_of pages log) (D.model disk).size (D.model disk).write_faults (D.model e.1).write_faults e.0) }
-    ensures later { IfOk result (λ e. ((D.model disk).read_faults ≤ (D.model e).read_faults) × ((D.model disk).write_faults ≤ (D.model e).write_faults)) }
-    ensures later_after_fault { IfErr result (λ e. ((D.model disk).read_faults ≤ (D.model e.1).read_faults) × ((D.model disk).write_faults ≤ (D.model e.1).write_faults)) }
+    ensures no_fault { IfOk result (λ e. ((D.model e).read_faults ≡ (D.model disk).read_faults) × ((D.model e).write_faults ≡ (D.model disk).write_faults)) }
+    ensures later_after_fault { IfErr result (λ e. ((D.model e.1).read_faults ≡ (D.model disk).read_faults) × ((D.model disk).write_faults ≤ (D.model e.1).write_faults)) }
 {
     let layout = match Layout::of_numbers(k, pages, log, dcap, icap) {
         Ok(layout) => layout,

@@ -1,5 +1,5 @@
 //! The command `drive`.
-ghost use Rattle.std.specs.Prelude.{◌≡◌, ℕ, ◌<◌, ◌≤◌, ◌↔◌, [], List, length, Option, All, IfOk, IfErr, IsSome, IsTrue, Some, None};
+ghost use Rattle.std.specs.Prelude.{◌≡◌, ℕ, ◌<◌, ◌≤◌, ◌↔◌, [], List, length, Option, All, IfOk, IfErr, OnOk, IsSome, IsTrue, Some, None};
 ghost use Rattle.hb_outside.specs.Streams.{Rose};
 ghost use Rattle.hb_ops.specs.Files.{FileState};
 ghost use Rattle.hb_ops.specs.Sound.{IsSound};
@@ -59,6 +59,7 @@ fn read_schedule<S: Source>(alloc: Global, k: u8, source: &mut S) -> Result<Scri
     ensures read { IfOk result (λ script. IsScheduled k (S.left source.old) (S.left source.new) script.lines script.steps) }
     ensures script { IfOk result (λ script. IsScriptFor k script.lines × IsServedScript script.lines script.steps) }
     ensures refused { IfErr result (NotScheduled k (S.left source.old) (S.left source.new) (S.faults source.old) (S.faults source.new)) }
+    ensures no_fault { OnOk result (S.faults source.new ≡ S.faults source.old) }
     ensures later { S.faults source.old ≤ S.faults source.new }
 {
     let text = match read_text(alloc, source) {

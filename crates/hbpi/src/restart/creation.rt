@@ -98,8 +98,9 @@ fn make<D: Device>(alloc: Global, disk: D, layout: Layout) -> Result<Store<D>, (
     ensures refused { IfErr result (λ e. (e.0 ≡ DiskFault) ⊎ (e.0 ≡ NoMemory)) }
     ensures made_anyway { IfErr result (λ e. e.0 ≡ NoMemory → IsSome (D.model disk).told → IsFresh (D.model e.1) 0 (new_meta layout) (new_file layout)) }
     ensures cause { IfErr result (λ e. e.0 ≡ DiskFault → (Rose (D.model disk).write_faults (D.model e.1).write_faults)) }
-    ensures later { IfOk result (λ st. ((D.model disk).read_faults ≤ (D.model (disk_of st)).read_faults) × ((D.model disk).write_faults ≤ (D.model (disk_of st)).write_faults)) }
-    ensures later_after_fault { IfErr result (λ e. ((D.model disk).read_faults ≤ (D.model e.1).read_faults) × ((D.model disk).write_faults ≤ (D.model e.1).write_faults)) }
+    ensures no_fault { IfOk result (λ st. ((D.model (disk_of st)).read_faults ≡ (D.model disk).read_faults) × ((D.model (disk_of st)).write_faults ≡ (D.model disk).write_faults)) }
+    ensures no_fault_refused { IfErr result (λ e. (e.0 ≡ DiskFault → ⊥) → (D.model e.1).write_faults ≡ (D.model disk).write_faults) }
+    ensures later_after_fault { IfErr result (λ e. ((D.model e.1).read_faults ≡ (D.model disk).read_faults) × ((D.model disk).write_faults ≤ (D.model e.1).write_faults)) }
 {
     let mut disk = disk;
     let meta = layout.meta();
@@ -132,8 +133,9 @@ pub(crate) fn create<D: Device>(
     // memory is refused only once the file is made
     ensures made_anyway { IfErr result (λ e. e.0 ≡ NoMemory → IsSome (D.model disk).told → IsFresh (D.model e.1) 0 (new_meta layout) (new_file layout)) }
     ensures cause { IfErr result (λ e. e.0 ≡ DiskFault → (Rose (D.model disk).write_faults (D.model e.1).write_faults)) }
-    ensures later { IfOk result (λ st. ((D.model disk).read_faults ≤ (D.model (disk_of st)).read_faults) × ((D.model disk).write_faults ≤ (D.model (disk_of st)).write_faults)) }
-    ensures later_after_fault { IfErr result (λ e. ((D.model disk).read_faults ≤ (D.model e.1).read_faults) × ((D.model disk).write_faults ≤ (D.model e.1).write_faults)) }
+    ensures no_fault { IfOk result (λ st. ((D.model (disk_of st)).read_faults ≡ (D.model disk).read_faults) × ((D.model (disk_of st)).write_faults ≡ (D.model disk).write_faults)) }
+    ensures no_fault_refused { IfErr result (λ e. (e.0 ≡ DiskFault → ⊥) → (D.model e.1).write_faults ≡ (D.model disk).write_faults) }
+    ensures later_after_fault { IfErr result (λ e. ((D.model e.1).read_faults ≡ (D.model disk).read_faults) × ((D.model disk).write_faults ≤ (D.model e.1).write_faults)) }
 {
     if let Some(fault) = layout.fault() {
         return Err((fault, disk));
