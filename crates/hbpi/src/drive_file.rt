@@ -98,6 +98,7 @@ fn finish<K: Sink, D: Disk>(ran: Ran<D, K>) -> Finished<K, D>
     ensures answered { result.answered.items ≡ ran.answered.items }
     ensures order { result.order.items ≡ (core_seen ran.core).order }
     ensures silent { ran.end ≡ End.SinkFault → result.sink ≡ ran.sink }
+    ensures silent_done { ran.end ≡ End.Finished → result.sink ≡ ran.sink }
     ensures line { GetsLine (K.written ran.sink) (K.written result.sink) (K.faults ran.sink) (K.faults result.sink) (fault_line result.status) }
     ensures later { K.faults ran.sink ≤ K.faults result.sink }
 {
@@ -131,7 +132,7 @@ fn drive_script<K: Sink, D: Disk>(
     requires new { IsNew (seen_as store).turn (seen_as store).meta (seen_as store) }
     requires one_page { ((seen_as store).meta.root ≡ 1) × ((seen_as store).meta.high ≡ 1) × ((seen_as store).meta.height ≡ 1) }
     requires kept { IsSome (D.model (disk_of store)).told → (s : FileState) × IsSound s × StoreKeeps (D.model (disk_of store)) (seen_as store) s [] }
-    ensures ends { (left rest : Option (List ℕ)) (before after : ℕ) → IsScheduled (seen_as store).meta.k left rest script.lines script.steps →
+    ensures ends { (left rest : Option (List ℕ)) (before after : ℕ) → IsScheduled (seen_as store).meta.k left rest script.lines script.steps → after ≡ before →
         OpenedEnds (D.model (disk_of store)) (D.model result.disk) (record {
           left = left;
           rest = rest;
