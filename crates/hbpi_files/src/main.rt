@@ -2,7 +2,7 @@
 //!
 //! It calls the functions that `main` of hbpi_cli calls, over files of its own, and prints what came out. Beside each file
 //! stands a disk in memory on which the same calls of `top` are made; behind each call every byte of the file has to be
-//! that disk's. The stored text says what has to come, by the rules of the command language.
+//! that disk's. The stored text says what has to come, by the rules of docs/TEXT.md, docs/STEPS.md and docs/FORMAT.md.
 //!
 //! What a program can't see of a file: that a sync reaches the device, and so what is left when the power goes. A
 //! `sync` that does nothing leaves this program's output as it is.

@@ -24,7 +24,8 @@ const AREA: usize = 8192 + AREA_SIZE;
 
 const AREA_SIZE: usize = 65_536;
 
-/// Eight lines that are done, and a delete that takes effect and isn't forced.
+/// Eight lines that are done, in four steps each that changes the file and three for each other, and a delete that takes
+/// effect in two steps and isn't forced.
 const FIRST: &str = "1 insert 5 7 =a
 1 insert 6 9 =b
 1 insert 5 7 =c
@@ -38,7 +39,7 @@ step 1x28
 step 1x2
 ";
 
-/// The two records that are left, and four more; for a further one there is no room.
+/// The two records that are left, and four more; for a further one there is no room, which takes two steps to say.
 const SECOND: &str = "1 lookup 5 7
 1 lookup 6 9
 1 lookup 18446744073709551615 0
