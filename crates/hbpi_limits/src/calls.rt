@@ -34,11 +34,9 @@ impl Script {
         Ok(self.lines)
     }
 
-    /// Puts the order behind the replies, and so many steps of session 1 behind the text, unless there are none.
-    pub(crate) fn end(&mut self, steps: u64) -> Result<(), AllocError> {
-        if steps > 0 {
-            write!(self.text, "step 1x{steps}\n")?;
-        }
+    /// Puts the order behind the replies, and a step line, if there is one, behind the text.
+    pub(crate) fn end(&mut self, steps: &str) -> Result<(), AllocError> {
+        write!(self.text, "{steps}")?;
         write!(self.output, "{}\n", self.order)
     }
 }

@@ -45,12 +45,12 @@ fn main(rt: HostRuntime) -> io::Result<()> {
     )?;
     tell(
         &rt,
-        "10000 changes in one call, and 10000 frames in one replay",
+        "1000000 lines and 10000000 steps in one call, and 250000 frames in one replay",
         logs::many_frames(alloc),
     )?;
     tell(
         &rt,
-        "20000 lines, and 10000 records in one reply",
+        "1000000 lines, and 10000 records in one reply",
         searches::many_lines(alloc),
     )
 }

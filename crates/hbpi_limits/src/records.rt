@@ -30,7 +30,7 @@ fn body_of(number: u64) -> (u64, u64) {
     )
 }
 
-/// Inserts all records, and one more, for which there is no room.
+/// Inserts all records, and one more, for which there is no room. An insert takes 4 steps, and one that is `full` 2.
 fn inserts(alloc: Global) -> Result<Script, Missed> {
     let mut script = Script::new(alloc)?;
     for number in 0..COUNT {
@@ -42,11 +42,11 @@ fn inserts(alloc: Global) -> Result<Script, Missed> {
     }
     write!(script.text, "1 insert 0 0 0 0 =\n")?;
     write!(script.output, "49 full\n")?;
-    script.end(4 * COUNT + 2)?;
+    script.end("step 1x194\n")?;
     Ok(script)
 }
 
-/// Looks up all records.
+/// Looks up all records. A lookup takes 3 steps.
 fn finds(alloc: Global) -> Result<Script, Missed> {
     let mut script = Script::new(alloc)?;
     for number in 0..COUNT {
@@ -56,11 +56,11 @@ fn finds(alloc: Global) -> Result<Script, Missed> {
         write!(script.text, "1 lookup {a} {b} {c} {d}\n")?;
         write!(script.output, "{line} found ={e:016x}{f:016x}\n")?;
     }
-    script.end(3 * COUNT)?;
+    script.end("step 1x144\n")?;
     Ok(script)
 }
 
-/// Deletes all records, beginning with the second half.
+/// Deletes all records, beginning with the second half. A delete takes 4 steps.
 fn deletes(alloc: Global) -> Result<Script, Missed> {
     let mut script = Script::new(alloc)?;
     for number in 0..COUNT {
@@ -69,7 +69,7 @@ fn deletes(alloc: Global) -> Result<Script, Missed> {
         write!(script.text, "1 delete {a} {b} {c} {d}\n")?;
         write!(script.output, "{line} ok\n")?;
     }
-    script.end(4 * COUNT)?;
+    script.end("step 1x192\n")?;
     Ok(script)
 }
 
@@ -82,7 +82,7 @@ fn misses(alloc: Global) -> Result<Script, Missed> {
         write!(script.text, "1 lookup {a} {b} {c} {d}\n")?;
         write!(script.output, "{line} none\n")?;
     }
-    script.end(3 * COUNT)?;
+    script.end("step 1x144\n")?;
     Ok(script)
 }
 

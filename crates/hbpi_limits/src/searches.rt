@@ -7,6 +7,9 @@ use std::alloc::Global;
 /// How many records are put in.
 const COUNT: u64 = 10_000;
 
+/// How many lines of lookups make a text of 1,000,000 lines, behind one for each record and one search.
+const LOOKUPS: u64 = 1_000_000 - COUNT - 1;
+
 /// The first value of the record that is inserted or looked up at this turn: each number below `COUNT` once, since the
 /// factor and `COUNT` have no common divisor.
 fn first_of(turn: u64) -> u64 {
@@ -42,9 +45,9 @@ fn add_search(script: &mut Script) -> Result<(), Missed> {
     Ok(())
 }
 
-/// Looks up all records but one, and in each second line a point that isn't there.
+/// Looks up records, and in each second line a point that isn't there.
 fn add_lookups(script: &mut Script) -> Result<(), Missed> {
-    for turn in 1..COUNT {
+    for turn in 0..LOOKUPS {
         let line = script.next_line()?;
         let first = first_of(turn);
         let second = second_of(first);
@@ -59,13 +62,13 @@ fn add_lookups(script: &mut Script) -> Result<(), Missed> {
     Ok(())
 }
 
-/// Answers the text, of twice as many lines as there are records.
+/// Answers a text of as many lines as there may be.
 pub(crate) fn many_lines(alloc: Global) -> Result<(), Missed> {
     let mut script = Script::new(alloc)?;
     add_inserts(&mut script)?;
     add_search(&mut script)?;
     add_lookups(&mut script)?;
-    script.end(0)?;
+    script.end("")?;
     let (text, output) = (script.text.as_str(), script.output.as_str());
     call(alloc, "dry 2", text, output, zeros(alloc, 0)?)?;
     Ok(())
