@@ -11,19 +11,17 @@ const LONGEST: &str = "create 1 1 67108864 6 32";
 const LONGEST_SIZE: usize = 8192 + 2 * 67_108_864 + 4096;
 
 /// Log areas in which the frames of all changes have room.
-const ROOMY: &str = "create 1 1 16777216 6 32";
+const ROOMY: &str = "create 1 1 33554432 6 32";
 
 const ROOMY_SIZE: usize = 8192 + 2 * ROOM + 4096;
 
-const ROOM: usize = 16_777_216;
+const ROOM: usize = 33_554_432;
 
-/// How many changes are made in one call, each with a frame of its own.
-const CHANGES: u64 = 250_000;
+/// How many changes are made in one call, each with a frame of its own: with one step line they are as many lines as a
+/// text may have.
+const CHANGES: u64 = 999_999;
 
-/// How many lines of lookups make a text of 1,000,000 lines, behind the changes and in front of one step line.
-const LOOKUPS: u64 = 1_000_000 - CHANGES - 1;
-
-/// As many steps as a schedule may have. The lines take 4 for each change and 3 for each lookup, and the others are idle.
+/// As many steps as a schedule may have. The changes take 4 each, and the others are idle.
 const STEPS: &str =
     "step 1x1000000 1x1000000 1x1000000 1x1000000 1x1000000 1x1000000 1x1000000 1x1000000 1x1000000 1x1000000\n";
 
@@ -46,36 +44,22 @@ pub(crate) fn longest_areas(alloc: Global) -> Result<(), Missed> {
     Ok(())
 }
 
-/// Puts a record that stays, and another one that is put and deleted in turn, and that is there at the end.
-fn add_changes(script: &mut Script) -> Result<(), Missed> {
-    script.next_line()?;
-    write!(script.text, "1 insert 7 =first\n")?;
-    write!(script.output, "1 ok\n")?;
-    for _ in 1..CHANGES {
+/// Two inserts of records that stay, and then inserts and deletes of another one in turn, which is there at the end.
+fn changes(alloc: Global) -> Result<Script, Missed> {
+    let mut script = Script::new(alloc)?;
+    for _ in 0..CHANGES {
         let line = script.next_line()?;
-        if line % 2 == 0 {
+        if line <= 2 {
+            write!(script.text, "1 insert {line} =stays\n")?;
+        } else if line % 2 == 1 {
             write!(script.text, "1 insert 5 ={line}\n")?;
         } else {
             write!(script.text, "1 delete 5\n")?;
         }
         write!(script.output, "{line} ok\n")?;
     }
-    Ok(())
-}
-
-/// Looks up the two records behind the changes, and a point that isn't there.
-fn add_lookups(script: &mut Script) -> Result<(), Missed> {
-    for turn in 0..LOOKUPS {
-        let line = script.next_line()?;
-        let point = 5 + turn % 3;
-        write!(script.text, "1 lookup {point}\n")?;
-        match point {
-            5 => write!(script.output, "{line} found ={CHANGES}\n")?,
-            7 => write!(script.output, "{line} found =first\n")?,
-            _ => write!(script.output, "{line} none\n")?,
-        }
-    }
-    Ok(())
+    script.end(STEPS)?;
+    Ok(script)
 }
 
 /// How many frames stand in a log area: a gate that is a5, a length in four bytes, and so many bytes.
@@ -95,18 +79,14 @@ fn frames_in(area: &[u8]) -> usize {
 pub(crate) fn many_frames(alloc: Global) -> Result<(), Missed> {
     let disk = zeros(alloc, ROOMY_SIZE)?;
     let disk = call(alloc, ROOMY, "", "created\n", disk)?;
-    let mut script = Script::new(alloc)?;
-    add_changes(&mut script)?;
-    add_lookups(&mut script)?;
-    script.end(STEPS)?;
-    let disk = drive(alloc, &script, disk)?;
+    let disk = drive(alloc, &changes(alloc)?, disk)?;
     let area = disk.bytes().get(8192 + ROOM..8192 + 2 * ROOM);
     let count = area.map_or(0, |area| frames_in(area));
     if count as u64 != CHANGES {
         return Err(Missed::Frames { count });
     }
-    let text = "1 lookup 5\n1 lookup 7\nstep 1x6\n";
-    let output = "1 found =250000\n2 found =first\norder 1 2\n";
+    let text = "1 lookup 1\n1 lookup 2\n1 lookup 5\nstep 1x9\n";
+    let output = "1 found =stays\n2 found =stays\n3 found =999999\norder 1 2 3\n";
     call(alloc, "drive", text, output, disk)?;
     Ok(())
 }

@@ -45,7 +45,7 @@ fn main(rt: HostRuntime) -> io::Result<()> {
     )?;
     tell(
         &rt,
-        "1000000 lines and 10000000 steps in one call, and 250000 frames in one replay",
+        "1000000 lines and 10000000 steps in one call, and 999999 frames in one replay",
         logs::many_frames(alloc),
     )?;
     tell(
