@@ -1,0 +1,56 @@
+//! A program of the gate that reaches the limits, with ample memory.
+//!
+//! Where memory is refused, a call may give up, and no contract tells that apart from a call that gives up by its data: at
+//! a page's 41st record, at the thousandth line. This program has all the memory that it wants, and goes as far as the
+//! limits allow. Each limit is a line of its output, and behind the colon stands `reached`, or else what came otherwise. What
+//! has to come is worked out here, by the rules of the command language and of the bytes of a page.
+#![tactic(auto)]
+
+mod calls;
+mod logs;
+mod missed;
+mod pages;
+mod records;
+mod searches;
+
+use crate::missed::Missed;
+use std::io;
+
+/// Says whether the limit was reached.
+fn tell(rt: &impl Print, limit: &str, reached: Result<(), Missed>) -> io::Result<()> {
+    match reached {
+        Ok(()) => println!(rt; "{limit}: reached"),
+        Err(missed) => println!(rt; "{limit}: {missed:?}"),
+    }
+}
+
+fn main(rt: HostRuntime) -> io::Result<()> {
+    let alloc = rt.alloc();
+    tell(
+        &rt,
+        "48 records of four attributes and 32 bytes, put, found and deleted",
+        records::fill_a_page(alloc),
+    )?;
+    tell(&rt, "a page of 256 children", pages::many_children(alloc))?;
+    tell(&rt, "a leaf of 48 records", pages::many_records(alloc))?;
+    tell(
+        &rt,
+        "a page of 313 cuts, each on a side of the one before",
+        pages::many_cuts(alloc),
+    )?;
+    tell(
+        &rt,
+        "log areas of 67108864 bytes",
+        logs::longest_areas(alloc),
+    )?;
+    tell(
+        &rt,
+        "1000000 lines and 10000000 steps in one call, and 999999 frames in one replay",
+        logs::many_frames(alloc),
+    )?;
+    tell(
+        &rt,
+        "1000000 lines, and 10000 records in one reply",
+        searches::many_lines(alloc),
+    )
+}

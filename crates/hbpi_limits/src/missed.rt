@@ -1,0 +1,36 @@
+use std::alloc::{AllocError, AllocFailed};
+
+/// Why a limit wasn't reached.
+#[derive(Debug, Drop)]
+pub(crate) enum Missed {
+    /// This program had no memory for what it compares with.
+    NoMemory,
+    /// A call ended with another status or output than it should. `from` is the first byte of the output that differs.
+    Call {
+        call: &'static str,
+        status: u8,
+        from: usize,
+    },
+    /// The log has another number of frames.
+    Frames {
+        count: usize,
+    },
+    /// Bytes that are a page weren't read.
+    NotRead,
+    /// A page was written as other bytes than it was read from.
+    WrittenOtherwise,
+    /// A page was read that isn't the one of the bytes.
+    AnotherPage,
+}
+
+impl From<AllocError> for Missed {
+    fn from(_refused: AllocError) -> Missed {
+        Missed::NoMemory
+    }
+}
+
+impl<T: Drop> From<AllocFailed<T>> for Missed {
+    fn from(_refused: AllocFailed<T>) -> Missed {
+        Missed::NoMemory
+    }
+}
