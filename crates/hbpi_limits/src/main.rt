@@ -50,7 +50,7 @@ fn main(rt: HostRuntime) -> io::Result<()> {
     )?;
     tell(
         &rt,
-        "1000000 lines, and 10000 records in one reply",
+        "1000000 lines, and 500000 records in one reply",
         searches::many_lines(alloc),
     )
 }

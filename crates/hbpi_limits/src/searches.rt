@@ -5,15 +5,19 @@ use crate::missed::Missed;
 use std::alloc::Global;
 
 /// How many records are put in.
-const COUNT: u64 = 10_000;
+const COUNT: u64 = 500_000;
 
 /// How many lines of lookups make a text of 1,000,000 lines, behind one for each record and one search.
 const LOOKUPS: u64 = 1_000_000 - COUNT - 1;
 
-/// The first value of the record that is inserted or looked up at this turn: each number below `COUNT` once, since the
-/// factor and `COUNT` have no common divisor.
+/// How many records are mixed with one another.
+const BLOCK: u64 = 10_000;
+
+/// The first value of the record that is inserted or looked up at this turn: each number once, as the factor and `BLOCK`
+/// have no common divisor.
 fn first_of(turn: u64) -> u64 {
-    turn.wrapping_mul(7919) % COUNT
+    let place = turn % BLOCK;
+    (turn - place).wrapping_add(place * 7919 % BLOCK)
 }
 
 /// The second value of the point with this first value.
