@@ -10,7 +10,7 @@ use Rattle.hb_text.specs.OutputLaws.{Rose-later}
 use Rattle.hb_store.specs.declared.stops.StopWhy.{StopWhy}
 use Rattle.hb_store.specs.declared.stops.StopWhy.TheVariants.{WriteFault}
 use Rattle.hbpi.specs.Core.{CoreState, answers_of}
-use Rattle.hbpi.specs.Moves.{Moves, MovesOn, Shown, StepFaults, shown}
+use Rattle.hbpi.specs.Moves.{Moves, MovesOn, Shown, shown}
 use Rattle.hbpi.specs.Drives.{HasReadFault, RunFaults}
 use Rattle.hbpi.specs.declared.engine.session.Outcome.{Outcome}
 use Rattle.hbpi.specs.declared.engine.session.Outcome.TheVariants as outcomes

@@ -1,21 +1,15 @@
 -- One step more of a loop over steps: room for its answer, and what the loop begins with and ends in.
-use Rattle.std.proofs.Common.{◌≡◌, ◌⊎◌, inl, inr, ℕ, zero, suc, ◌+◌, ◌-◌, ◌<◌, ◌≤◌, min, Bool, List, [], ◌∷◌, ◌++◌, length, map, take, Option, Some, None, IsSome, refl, sym, ap, ◌∙◌, subst, arith, append-nil, length-append, length-take, add-one}
-use Rattle.std.proofs.Math.Nat.{eq-or-lt_of_le}
-use Rattle.std.proofs.lemmas.List.{length-map, get_or_append_left, get_or_push}
+use Rattle.std.proofs.Common.{◌≡◌, inl, inr, ℕ, zero, suc, ◌+◌, ◌-◌, ◌<◌, ◌≤◌, min, Bool, List, [], ◌++◌, length, map, take, Option, Some, None, IsSome, refl, sym, ap, ◌∙◌, subst, arith, length-take, add-one}
+use Rattle.std.proofs.lemmas.List.{length-map}
 use Rattle.std.proofs.lemmas.Grind.{flat_map-append}
 use Rattle.std.specs.List.{flat_map}
-use Rattle.hb_outside.specs.Streams.{Rose}
-use Rattle.hb_set.specs.declared.commands.Reply.TheVariants.{ReadFault}
 use Rattle.hb_set.specs.declared.scripts.Line.{Line}
 use Rattle.hb_set.specs.declared.scripts.Answered.{Answered}
 use Rattle.hb_text.specs.Output.{answer_text}
-use Rattle.hb_text.specs.OutputLaws.{Rose-later}
-use Rattle.hb_store.specs.declared.stops.StopWhy.{StopWhy}
-use Rattle.hb_store.specs.declared.stops.StopWhy.TheVariants.{WriteFault}
 use Rattle.hbpi.specs.Ends.{HasPut, PutsMore}
 use Rattle.hbpi.specs.Core.{CoreState, AreAmong, AnswersFirst, answered_in, answered_count, answers_of}
 use Rattle.hbpi.specs.Moves.{Moves, MovesOn, HasOrder, Shown, StepFaults}
-use Rattle.hbpi.specs.Drives.{HasReadFault, IsStart}
+use Rattle.hbpi.specs.Drives.{IsStart}
 use Rattle.hbpi.specs.declared.engine.session.Session.{Session}
 use Rattle.hbpi.specs.declared.engine.session.Session.TheVariants as sessions
 use Rattle.hbpi.specs.declared.engine.session.Outcome.{Outcome}
