@@ -1,0 +1,8 @@
+//! Sound files: the audit that tells one, and what follows of one.
+//!
+//! The one contract: `audit` is Ok exactly on a sound file, and else names the first rule that the
+//! file breaks, and the page. `laws` has what every sound file has: on each level each point of the
+//! whole space is directly held by exactly one page, and a walk leads to it.
+#![tactic(auto)]
+
+pub mod laws;
