@@ -1,2 +1,4 @@
 pub mod Siblings
 pub mod Widths
+pub mod Pages
+pub mod Levels

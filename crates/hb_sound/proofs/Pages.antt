@@ -1,0 +1,77 @@
+-- The pages of a file by their places, and how wide they can be.
+use Rattle.std.proofs.Common.{◌≡◌, ◌≢◌, ℕ, zero, suc, ◌+◌, ◌-◌, ◌<◌, ◌≤◌, ◌==◌, ◌⊎◌, inl, inr, Bool, cond, List, [], ◌∷◌, slice_get, Option, Some, None, refl, sym, ap, ◌∙◌, arith, ne_eqb}
+use Rattle.std.proofs.lemmas.Bool.{cases_eq}
+use Rattle.hb_space.specs.Boxes.{Area}
+use Rattle.hb_frag.specs.declared.pages.LivePage.{LivePage}
+use Rattle.hb_frag.specs.declared.pages.Page.{Page}
+use Rattle.hb_frag.specs.declared.pages.Page.TheVariants.{Live, Free}
+use Rattle.hb_ops.specs.Files.{FileState, if_live, live_page, page_at}
+use Rattle.hb_sound.proofs.Widths.{width}
+
+-- no page has the number 0, and the page of another number stands one place before
+page_at-zero : (pages : List Page) → page_at pages 0 ≡ None
+page_at-zero [] = refl
+page_at-zero (page ∷ rest) = refl
+
+page_at-suc : (pages : List Page) (n : ℕ) → page_at pages (suc n) ≡ slice_get pages n
+page_at-suc [] n = refl
+page_at-suc (page ∷ rest) zero = refl
+page_at-suc (page ∷ rest) (suc n) =
+    ap (λ (b : Bool). cond b None (cond (suc (suc n) == 1) (Some page) (page_at rest (suc (suc n) - 1)))) (ne_eqb (suc (suc n)) 0 (λ e. omega arith))
+    ∙ ap (λ (b : Bool). cond b (Some page) (page_at rest (suc (suc n) - 1))) (ne_eqb (suc (suc n)) 1 (λ e. omega arith))
+    ∙ ap (page_at rest) (let e : suc (suc n) - 1 ≡ suc n = omega arith in e)
+    ∙ page_at-suc rest n
+
+live_so : (o : Option Page) (page : LivePage) → if_live o ≡ Some page → o ≡ Some (Live page)
+live_so None page e = cc
+live_so (Some (Live q)) page e = let same : q ≡ page = cc in ap (λ (x : LivePage). Some (Live x)) same
+live_so (Some (Free next)) page e = cc
+
+-- a page in use has a place, and what stands there is in use
+pub live_there : (s : FileState) (n : ℕ) (page : LivePage) → slice_get s.pages n ≡ Some (Live page) → live_page s (suc n) ≡ Some page
+live_there s n page e = ap if_live (page_at-suc s.pages n ∙ e)
+
+pub place_of : (s : FileState) (id : ℕ) (page : LivePage) → live_page s id ≡ Some page → (n : ℕ) × (id ≡ suc n) × (slice_get s.pages n ≡ Some (Live page))
+place_of s zero page e =
+    let none = page_at-zero s.pages in
+    let there = live_so (page_at s.pages zero) page e in
+    absurd (let no : ⊥ = cc in no)
+place_of s (suc n) page e = (n, refl, sym (page_at-suc s.pages n) ∙ live_so (page_at s.pages (suc n)) page e)
+
+-- how wide all pages in use are together
+abbrev pub total : List Page → ℕ
+total [] = 0
+total (Live page ∷ rest) = width page.area + total rest
+total (Free next ∷ rest) = total rest
+
+no_wider : (pages : List Page) (n : ℕ) (page : LivePage) → slice_get pages n ≡ Some (Live page) → width page.area ≤ total pages
+no_wider [] n page e = absurd (let no : ⊥ = cc in no)
+no_wider (Live x ∷ rest) zero page e = let same : x ≡ page = cc in let w = ap (λ (q : LivePage). width q.area) same in omega (arith, w)
+no_wider (Free next ∷ rest) zero page e = absurd (let no : ⊥ = cc in no)
+no_wider (Live x ∷ rest) (suc n) page e = let w = no_wider rest n page e in omega (arith, w)
+no_wider (Free next ∷ rest) (suc n) page e = no_wider rest n page e
+
+pub page_no_wider : (s : FileState) (id : ℕ) (page : LivePage) → live_page s id ≡ Some page → width page.area ≤ total s.pages
+page_no_wider s id page e = let here = place_of s id page e in no_wider s.pages here.0 page here.2
+
+-- whether two boxes are the same
+lists_same : (xs ys : List ℕ) → (xs ≡ ys) ⊎ (xs ≢ ys)
+lists_same [] [] = inl refl
+lists_same [] (y ∷ ys) = inr (λ e. let no : ⊥ = cc in no)
+lists_same (x ∷ xs) [] = inr (λ e. let no : ⊥ = cc in no)
+lists_same (x ∷ xs) (y ∷ ys) = elim (cases_eq x y) [
+  | inl is ↦ elim (lists_same xs ys) [ inl rest ↦ inl (let e : (x ∷ xs) ≡ (y ∷ ys) = cc in e) | inr ne ↦ inr (λ e. ne (let same : xs ≡ ys = cc in same)) ]
+  | inr ne ↦ inr (λ e. ne (let same : x ≡ y = cc in same))
+]
+
+pub areas_same : (a b : Area) → (a ≡ b) ⊎ (a ≢ b)
+areas_same a b = elim (lists_same a.lo b.lo) [
+  | inl lo ↦ elim (lists_same a.hi b.hi) [
+      | inl hi ↦
+          let with_lo : List ℕ → Area = λ x. record { lo = x; hi = a.hi } in
+          let with_hi : List ℕ → Area = λ x. record { lo = b.lo; hi = x } in
+          inl (ap with_lo lo ∙ ap with_hi hi)
+      | inr ne ↦ inr (λ e. ne (ap (λ (x : Area). x.hi) e))
+    ]
+  | inr ne ↦ inr (λ e. ne (ap (λ (x : Area). x.lo) e))
+]
