@@ -1,0 +1,73 @@
+-- The walk of sibling leaves for a point leads to a page of the level that directly holds it, since the boxes get less wide.
+use Rattle.std.proofs.Common.{◌≡◌, ℕ, zero, suc, ◌<◌, inl, inr, ◌↔◌, List, [], ◌∷◌, length, get_or, Option, Some, None, IsSome, refl, sym, ap, subst, ◌∙◌, arith}
+use Rattle.std.specs.List.{All, Contains}
+use Rattle.std.proofs.lemmas.List.Elements.{All-contains, Contains-get_or}
+use Rattle.hb_space.specs.Boxes.{Area, IsArea, Holds, whole_area}
+use Rattle.hb_frag.specs.declared.leaves.Leaf.{Leaf}
+use Rattle.hb_frag.specs.declared.leaves.Leaf.TheVariants.{Records, Child, Sibling}
+use Rattle.hb_frag.specs.declared.pages.LivePage.{LivePage}
+use Rattle.hb_frag.specs.Leaves.{DirectlyHolds, Placed, leaf_at, leaves_of, siblings_of}
+use Rattle.hb_ops.specs.Files.{FileState, live_page}
+use Rattle.hb_ops.specs.Sound.{AreWellMade, IsCovered, SiblingsMatch}
+use Rattle.hb_sound.specs.Walks.{HasOn, IsWalk}
+use Rattle.hb_sound.proofs.Levels.{TreeLaws, narrower, page_area, sibling_there}
+use Rattle.hb_sound.proofs.Siblings.{leaf_is_sibling, placed}
+use Rattle.hb_sound.proofs.Widths.{width}
+
+-- a walk from the page to one of the level that directly holds the point
+pub record WalksOn (s : FileState) (level : ℕ) (p : List ℕ) (id : ℕ) : Type 0 where
+  pub rest : List ℕ
+  pub last : ℕ
+  pub walk : IsWalk s p id rest last
+  pub has : HasOn s level p last
+
+same_leaf : (x y : Placed) → Some x ≡ Some y → x.leaf ≡ y.leaf
+same_leaf x y e = let same : x ≡ y = cc in ap (λ (l : Placed). l.leaf) same
+
+module _ (laws : TreeLaws) (s : FileState) (made : AreWellMade s) (match : SiblingsMatch s) (covered : IsCovered s) (area : IsArea (whole_area s.meta.k)) (p : List ℕ) where
+  -- the leaf at a point is one of the page's, and its box holds the point
+  pub leaf_there : (id : ℕ) (page : LivePage) (leaf : Leaf) (b : Area) → live_page s id ≡ Some page → leaf_at page p ≡ Some (placed leaf b) → Contains (leaves_of page.frag page.area) (placed leaf b) × Holds b p
+  leaf_there id page leaf b live e = (laws.only page.frag page.area p (placed leaf b) (page_area laws s made match covered area id page live) (made id page live).well_cut).0 e
+
+  -- a page directly holds a point of its box where the leaf there isn't a sibling leaf
+  pub holds_directly : (id : ℕ) (page : LivePage) (leaf : Leaf) (b : Area) → live_page s id ≡ Some page → Holds page.area p → leaf_at page p ≡ Some (placed leaf b) → ((name : ℕ) → leaf ≡ Sibling name → ⊥) → DirectlyHolds page p
+  holds_directly id page leaf b live held e other = record {
+    inside = held;
+    not_given = λ k d lt there.
+        let x = get_or (siblings_of page) k d in
+        let is = sibling_there laws s made match covered area id page x.0 x.1 p live (Contains-get_or (siblings_of page) k d lt) there in
+        other x.0 (same_leaf (placed leaf b) (placed (Sibling x.0) x.1) (sym e ∙ is));
+  }
+
+  -- and there is a leaf at each point of its box
+  pub some_leaf : (id : ℕ) (page : LivePage) → live_page s id ≡ Some page → Holds page.area p → (leaf : Leaf) × (b : Area) × (leaf_at page p ≡ Some (placed leaf b))
+  some_leaf id page live held =
+      let is = (laws.some page.frag page.area p (page_area laws s made match covered area id page live) (made id page live).well_cut).1 held in
+      taken (leaf_at page p) is
+    where
+      taken : (o : Option Placed) → IsSome o → (leaf : Leaf) × (b : Area) × (o ≡ Some (placed leaf b))
+      taken None is = absurd (let no : ⊥ = cc in no)
+      taken (Some l) is = (l.leaf, l.area, refl)
+
+  stays : (level id : ℕ) (page : LivePage) → live_page s id ≡ Some page → page.level ≡ level → DirectlyHolds page p → WalksOn s level p id
+  stays level id page live on direct = record { rest = []; last = id; walk = refl; has = record { page = page; live = live; on = on; direct = direct } }
+
+  -- what holds of each less wide page of the level that has the point
+  abbrev Narrower : ℕ → ℕ → Type 0
+  Narrower n level = (id : ℕ) (page : LivePage) → live_page s id ≡ Some page → page.level ≡ level → Holds page.area p → width page.area < n → WalksOn s level p id
+
+  goes : (n level id : ℕ) (page : LivePage) (leaf : Leaf) (b : Area) → Narrower n level → live_page s id ≡ Some page → page.level ≡ level → Holds page.area p → width page.area < suc n → leaf_at page p ≡ Some (placed leaf b) → WalksOn s level p id
+  goes n level id page (Records records) b again live on held lt e = stays level id page live on (holds_directly id page (Records records) b live held e (λ name f. let no : ⊥ = cc in no))
+  goes n level id page (Child name) b again live on held lt e = stays level id page live on (holds_directly id page (Child name) b live held e (λ other f. let no : ⊥ = cc in no))
+  goes n level id page (Sibling name) b again live on held lt e =
+      let there = leaf_there id page (Sibling name) b live e in
+      let has = leaf_is_sibling (leaves_of page.frag page.area) name b there.0 in
+      let m = match id page name b live has in
+      let less = narrower laws s made match covered id page name b live has in
+      let same = ap width m.3 in
+      let w = again name m.0 m.1 (m.2 ∙ on) (subst (λ (a : Area). Holds a p) (sym m.3) there.1) (omega (arith, less, same)) in
+      record { rest = name ∷ w.rest; last = w.last; walk = (inr (record { page = page; area = b; live = live; there = e }), w.walk); has = w.has }
+
+  pub found : (n level : ℕ) → Narrower n level
+  found zero level id page live on held lt = absurd (omega arith)
+  found (suc n) level id page live on held lt = let l = some_leaf id page live held in goes n level id page l.0 l.1 (found n level) live on held lt l.2
