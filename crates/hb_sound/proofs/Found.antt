@@ -21,7 +21,7 @@ pub record WalksOn (s : FileState) (level : ℕ) (p : List ℕ) (id : ℕ) : Typ
   pub walk : IsWalk s p id rest last
   pub has : HasOn s level p last
 
-same_leaf : (x y : Placed) → Some x ≡ Some y → x.leaf ≡ y.leaf
+pub same_leaf : (x y : Placed) → Some x ≡ Some y → x.leaf ≡ y.leaf
 same_leaf x y e = let same : x ≡ y = cc in ap (λ (l : Placed). l.leaf) same
 
 module _ (laws : TreeLaws) (s : FileState) (made : AreWellMade s) (match : SiblingsMatch s) (covered : IsCovered s) (area : IsArea (whole_area s.meta.k)) (p : List ℕ) where

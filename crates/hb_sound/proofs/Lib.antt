@@ -4,3 +4,7 @@ pub mod Pages
 pub mod Levels
 pub mod Apart
 pub mod Found
+pub mod Down
+pub mod OneWalk
+pub mod AtHome
+pub mod Partition
