@@ -1,7 +1,6 @@
 -- No two pages of one level directly hold one point: the walk of sibling leaves from the page of the whole space passes each page
 -- whose box holds the point, and it stops at a page that directly holds it.
-use Rattle.std.proofs.Common.{◌≡◌, ℕ, zero, suc, ◌<◌, ◌⊎◌, inl, inr, ◌↔◌, List, Option, Some, None, refl, sym, ap, subst, ◌∙◌, arith}
-use Rattle.std.specs.List.{Contains}
+use Rattle.std.proofs.Common.{◌≡◌, ℕ, zero, suc, ◌<◌, inl, inr, List, Option, Some, None, refl, sym, ap, ◌∙◌, arith}
 use Rattle.std.proofs.lemmas.Bool.{cases_eq, cases_lt}
 use Rattle.std.proofs.lemmas.List.Elements.{All-contains}
 use Rattle.hb_space.specs.Boxes.{Area, IsArea, Holds, whole_area}
@@ -12,7 +11,7 @@ use Rattle.hb_frag.specs.Leaves.{DirectlyHolds, Placed, leaf_at, leaves_of, sibl
 use Rattle.hb_ops.specs.Files.{FileState, live_page}
 use Rattle.hb_ops.specs.Sound.{AreWellMade, IsCovered, SiblingsMatch}
 use Rattle.hb_sound.specs.Walks.{HasOn}
-use Rattle.hb_sound.proofs.Levels.{IsNamed, TreeLaws, holds_where_leaf, page_area, sibling_there, spread}
+use Rattle.hb_sound.proofs.Levels.{TreeLaws, holds_where_leaf, page_area, sibling_there, spread}
 use Rattle.hb_sound.proofs.Siblings.{leaf_is_sibling, placed}
 
 -- the page that a sibling leaf names
@@ -91,7 +90,7 @@ module _ (laws : TreeLaws) (s : FileState) (made : AreWellMade s) (match : Sibli
         elim (cases_lt n.0 m.0) [
           | inl lt ↦ absurd (not_before id other n.0 m.0 one n.1 m.1 lt)
           | inr ge ↦ elim (cases_lt m.0 n.0) [
-              | inl lt ↦ absurd (not_before other id m.0 n.0 two m.1 n.1 lt)
-              | inr le ↦ let same : n.0 ≡ m.0 = omega (arith, ge, le) in same_number id other (after s p first m.0) (ap (after s p first) (sym same) ∙ n.1) m.1
-            ]
+            | inl lt ↦ absurd (not_before other id m.0 n.0 two m.1 n.1 lt)
+            | inr le ↦ let same : n.0 ≡ m.0 = omega (arith, ge, le) in same_number id other (after s p first m.0) (ap (after s p first) (sym same) ∙ n.1) m.1
+          ]
         ]

@@ -1,5 +1,5 @@
 -- A record lies in a leaf whose box holds its point, so its page directly holds the point.
-use Rattle.std.proofs.Common.{◌≡◌, ◌≢◌, ℕ, zero, suc, ◌<◌, ◌==◌, inl, inr, ◌↔◌, Bool, cond, List, [], ◌∷◌, ◌++◌, length, get_or, flat_map, Some, refl, sym, ap, subst, ◌∙◌, arith, ne_eqb}
+use Rattle.std.proofs.Common.{◌≡◌, ◌≢◌, ℕ, zero, ◌<◌, ◌==◌, inl, inr, Bool, cond, List, [], ◌++◌, length, flat_map, Some, refl, sym, ap, subst, arith, ne_eqb}
 use Rattle.std.specs.List.{All, Contains}
 use Rattle.std.proofs.lemmas.Bool.{cases_eq}
 use Rattle.std.proofs.lemmas.Grind.{flat_map-append}

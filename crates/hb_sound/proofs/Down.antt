@@ -1,6 +1,5 @@
 -- The walk from the root: on each level to the page that directly holds the point, and then one level down.
-use Rattle.std.proofs.Common.{◌≡◌, ℕ, zero, suc, ◌+◌, ◌<◌, ◌⊎◌, inl, inr, List, [], ◌∷◌, ◌++◌, length, Some, refl, sym, ap, subst, ◌∙◌, arith}
-use Rattle.std.specs.List.{All, Contains}
+use Rattle.std.proofs.Common.{◌≡◌, ℕ, zero, suc, ◌<◌, inl, List, [], ◌∷◌, ◌++◌, length, Some, sym, subst, ◌∙◌, arith}
 use Rattle.std.proofs.lemmas.List.Elements.{All-contains}
 use Rattle.hb_space.specs.Boxes.{Area, IsArea, Holds, Within, whole_area}
 use Rattle.hb_space.specs.declared.records.Record.{Record}
@@ -11,7 +10,7 @@ use Rattle.hb_frag.specs.Leaves.{DirectlyHolds, Placed, leaf_at, leaves, leaves_
 use Rattle.hb_frag.specs.Rules.{BelongsAt}
 use Rattle.hb_ops.specs.Files.{FileState, live_page}
 use Rattle.hb_ops.specs.Sound.{AreWellMade, ChildrenMatch, IsCovered, SiblingsMatch}
-use Rattle.hb_sound.specs.Walks.{HasOn, IsResponsible, IsWalk, LeadsOn, Sees}
+use Rattle.hb_sound.specs.Walks.{IsResponsible, IsWalk, LeadsOn, Sees}
 use Rattle.hb_sound.proofs.Found.{WalksOn, found, leaf_there, some_leaf}
 use Rattle.hb_sound.proofs.Levels.{TreeLaws}
 use Rattle.hb_sound.proofs.Siblings.{leaf_is_sibling, placed, placed_is_leaf}

@@ -2,7 +2,7 @@
 use Rattle.std.proofs.Common.{◌≡◌, ◌≢◌, ℕ, zero, suc, ◌+◌, ◌<◌, ◌≤◌, ◌↔◌, inl, inr, List, length, Option, Some, IsSome, refl, sym, ap, subst, ◌∙◌, arith}
 use Rattle.std.specs.List.{All, Contains}
 use Rattle.std.proofs.lemmas.List.Elements.{All-contains}
-use Rattle.hb_space.specs.Boxes.{Area, IsArea, Holds, Within, whole_area}
+use Rattle.hb_space.specs.Boxes.{Area, IsArea, Holds, whole_area}
 use Rattle.hb_frag.specs.declared.leaves.Leaf.{Leaf}
 use Rattle.hb_frag.specs.declared.leaves.Leaf.TheVariants.{Sibling}
 use Rattle.hb_frag.specs.declared.pages.LivePage.{LivePage}
@@ -11,7 +11,7 @@ use Rattle.hb_frag.specs.Leaves.{Placed, IsWellCut, first_at, leaf_at, leaves_of
 use Rattle.hb_ops.specs.Files.{FileState, live_page}
 use Rattle.hb_ops.specs.Sound.{AreWellMade, IsCovered, SiblingsMatch}
 use Rattle.hb_sound.proofs.Pages.{areas_same, live_there, page_no_wider, total}
-use Rattle.hb_sound.proofs.Siblings.{leaf_is_sibling, named_among, placed, sibling_is_leaf}
+use Rattle.hb_sound.proofs.Siblings.{named_among, placed, sibling_is_leaf}
 use Rattle.hb_sound.proofs.Widths.{sibling_narrower, width}
 
 -- what the laws of trees say

@@ -1,10 +1,10 @@
 -- There is one whole walk for a point: each page names one next page, or none.
-use Rattle.std.proofs.Common.{◌≡◌, ℕ, inl, inr, List, [], ◌∷◌, Some, refl, sym, ap, subst, ◌∙◌}
+use Rattle.std.proofs.Common.{◌≡◌, ℕ, inl, inr, List, [], ◌∷◌, refl, sym, ap, subst, ◌∙◌}
 use Rattle.hb_space.specs.declared.records.Record.{Record}
 use Rattle.hb_frag.specs.declared.leaves.Leaf.{Leaf}
 use Rattle.hb_frag.specs.declared.leaves.Leaf.TheVariants.{Records, Child, Sibling}
 use Rattle.hb_frag.specs.declared.pages.LivePage.{LivePage}
-use Rattle.hb_frag.specs.Leaves.{Placed, leaf_at}
+use Rattle.hb_frag.specs.Leaves.{leaf_at}
 use Rattle.hb_ops.specs.Files.{FileState}
 use Rattle.hb_sound.specs.Laws.{WalksAreOne}
 use Rattle.hb_sound.specs.Walks.{IsWalk, LeadsOn, Sees}

@@ -1,5 +1,5 @@
 -- The pages of a file by their places, and how wide they can be.
-use Rattle.std.proofs.Common.{◌≡◌, ◌≢◌, ℕ, zero, suc, ◌+◌, ◌-◌, ◌<◌, ◌≤◌, ◌==◌, ◌⊎◌, inl, inr, Bool, cond, List, [], ◌∷◌, slice_get, Option, Some, None, refl, sym, ap, ◌∙◌, arith, ne_eqb}
+use Rattle.std.proofs.Common.{◌≡◌, ◌≢◌, ℕ, zero, suc, ◌+◌, ◌-◌, ◌≤◌, ◌==◌, ◌⊎◌, inl, inr, Bool, cond, List, [], ◌∷◌, slice_get, Option, Some, None, refl, sym, ap, ◌∙◌, arith, ne_eqb}
 use Rattle.std.proofs.lemmas.Bool.{cases_eq}
 use Rattle.hb_space.specs.Boxes.{Area}
 use Rattle.hb_frag.specs.declared.pages.LivePage.{LivePage}
@@ -67,11 +67,11 @@ lists_same (x ∷ xs) (y ∷ ys) = elim (cases_eq x y) [
 pub areas_same : (a b : Area) → (a ≡ b) ⊎ (a ≢ b)
 areas_same a b = elim (lists_same a.lo b.lo) [
   | inl lo ↦ elim (lists_same a.hi b.hi) [
-      | inl hi ↦
-          let with_lo : List ℕ → Area = λ x. record { lo = x; hi = a.hi } in
-          let with_hi : List ℕ → Area = λ x. record { lo = b.lo; hi = x } in
-          inl (ap with_lo lo ∙ ap with_hi hi)
-      | inr ne ↦ inr (λ e. ne (ap (λ (x : Area). x.hi) e))
-    ]
+    | inl hi ↦
+        let with_lo : List ℕ → Area = λ x. record { lo = x; hi = a.hi } in
+        let with_hi : List ℕ → Area = λ x. record { lo = b.lo; hi = x } in
+        inl (ap with_lo lo ∙ ap with_hi hi)
+    | inr ne ↦ inr (λ e. ne (ap (λ (x : Area). x.hi) e))
+  ]
   | inr ne ↦ inr (λ e. ne (ap (λ (x : Area). x.lo) e))
 ]

@@ -1,12 +1,11 @@
 -- The laws of a sound file, from those of trees and of the space.
-use Rattle.std.proofs.Common.{◌≡◌, ℕ, ◌+◌, ◌<◌, ◌≤◌, List, length, refl, sym, subst, ◌∙◌, arith}
+use Rattle.std.proofs.Common.{◌≡◌, ℕ, ◌+◌, ◌<◌, ◌≤◌, List, length, refl, sym, subst, arith}
 use Rattle.hb_space.specs.Boxes.{Area, IsArea, Holds, whole_area}
 use Rattle.hb_space.specs.Points.{IsPoint}
 use Rattle.hb_space.specs.declared.form.TheConstants.{KMAX}
 use Rattle.hb_ops.specs.Files.{FileState}
-use Rattle.hb_ops.specs.Sound.{IsSound}
-use Rattle.hb_sound.specs.Laws.{EachPointHasAWalk, EachPointIsHeld, HasWalk, NoPointIsHeldTwice, RecordsAreAtHome}
-use Rattle.hb_sound.specs.Walks.{HasOn, IsPointOf}
+use Rattle.hb_sound.specs.Laws.{EachPointHasAWalk, EachPointIsHeld, NoPointIsHeldTwice, RecordsAreAtHome}
+use Rattle.hb_sound.specs.Walks.{IsPointOf}
 use Rattle.hb_sound.proofs.Apart.{held_once}
 use Rattle.hb_sound.proofs.AtHome.{others_lack}
 use Rattle.hb_sound.proofs.Down.{walks_down}
