@@ -1,10 +1,10 @@
-pub mod Siblings
+pub mod SiblingLeaves
 pub mod Widths
-pub mod Pages
-pub mod Levels
-pub mod Apart
-pub mod Found
-pub mod Down
+pub mod PagePlaces
+pub mod OneLevel
+pub mod HeldOnce
+pub mod HeldSomewhere
+pub mod WalksDown
 pub mod OneWalk
-pub mod AtHome
+pub mod RecordsAtHome
 pub mod Partition

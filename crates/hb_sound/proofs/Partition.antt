@@ -5,12 +5,12 @@ use Rattle.hb_space.specs.Points.{IsPoint}
 use Rattle.hb_space.specs.declared.form.TheConstants.{KMAX}
 use Rattle.hb_ops.specs.Files.{FileState}
 use Rattle.hb_sound.specs.Laws.{EachPointHasAWalk, EachPointIsHeld, NoPointIsHeldTwice, RecordsAreAtHome}
-use Rattle.hb_sound.specs.Walks.{IsPointOf}
-use Rattle.hb_sound.proofs.Apart.{held_once}
-use Rattle.hb_sound.proofs.AtHome.{others_lack}
-use Rattle.hb_sound.proofs.Down.{walks_down}
-use Rattle.hb_sound.proofs.Found.{found}
-use Rattle.hb_sound.proofs.Levels.{TreeLaws}
+use Rattle.hb_sound.specs.PointWalks.{IsPointOf}
+use Rattle.hb_sound.proofs.HeldOnce.{held_once}
+use Rattle.hb_sound.proofs.RecordsAtHome.{others_lack}
+use Rattle.hb_sound.proofs.WalksDown.{walks_down}
+use Rattle.hb_sound.proofs.HeldSomewhere.{found}
+use Rattle.hb_sound.proofs.OneLevel.{TreeLaws}
 use Rattle.hb_sound.proofs.Widths.{width}
 
 -- what the laws of the space say

@@ -3,7 +3,7 @@ use Rattle.std.specs.Prelude.{◌≡◌, ℕ, ◌<◌, List}
 use Rattle.hb_ops.specs.Files.{FileState}
 use Rattle.hb_ops.specs.Sound.{IsSound}
 use Rattle.hb_ops.specs.LawsOfContents.{OthersLack}
-use Rattle.hb_sound.specs.Walks.{IsPointOf, HasOn, IsResponsible, IsWholeWalk}
+use Rattle.hb_sound.specs.PointWalks.{IsPointOf, HasOn, IsResponsible, IsWholeWalk}
 
 -- On each level some page directly holds each point of the space, and no other page of the level does.
 abbrev pub EachPointIsHeld : Type 0

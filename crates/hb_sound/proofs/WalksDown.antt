@@ -10,10 +10,10 @@ use Rattle.hb_frag.specs.Leaves.{DirectlyHolds, Placed, leaf_at, leaves, leaves_
 use Rattle.hb_frag.specs.Rules.{BelongsAt}
 use Rattle.hb_ops.specs.Files.{FileState, live_page}
 use Rattle.hb_ops.specs.Sound.{AreWellMade, ChildrenMatch, IsCovered, SiblingsMatch}
-use Rattle.hb_sound.specs.Walks.{IsResponsible, IsWalk, LeadsOn, Sees}
-use Rattle.hb_sound.proofs.Found.{WalksOn, found, leaf_there, some_leaf}
-use Rattle.hb_sound.proofs.Levels.{TreeLaws}
-use Rattle.hb_sound.proofs.Siblings.{leaf_is_sibling, placed, placed_is_leaf}
+use Rattle.hb_sound.specs.PointWalks.{IsResponsible, IsWalk, LeadsOn, Sees}
+use Rattle.hb_sound.proofs.HeldSomewhere.{WalksOn, found, leaf_there, some_leaf}
+use Rattle.hb_sound.proofs.OneLevel.{TreeLaws}
+use Rattle.hb_sound.proofs.SiblingLeaves.{leaf_is_sibling, placed, placed_is_leaf}
 use Rattle.hb_sound.proofs.Widths.{width}
 
 -- a walk from the page down to the one that is responsible for the point

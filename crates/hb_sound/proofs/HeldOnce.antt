@@ -10,9 +10,9 @@ use Rattle.hb_frag.specs.declared.pages.LivePage.{LivePage}
 use Rattle.hb_frag.specs.Leaves.{DirectlyHolds, Placed, leaf_at, leaves_of, siblings_of}
 use Rattle.hb_ops.specs.Files.{FileState, live_page}
 use Rattle.hb_ops.specs.Sound.{AreWellMade, IsCovered, SiblingsMatch}
-use Rattle.hb_sound.specs.Walks.{HasOn}
-use Rattle.hb_sound.proofs.Levels.{TreeLaws, holds_where_leaf, page_area, sibling_there, spread}
-use Rattle.hb_sound.proofs.Siblings.{leaf_is_sibling, placed}
+use Rattle.hb_sound.specs.PointWalks.{HasOn}
+use Rattle.hb_sound.proofs.OneLevel.{TreeLaws, holds_where_leaf, page_area, sibling_there, spread}
+use Rattle.hb_sound.proofs.SiblingLeaves.{leaf_is_sibling, placed}
 
 -- the page that a sibling leaf names
 abbrev sibling_name : Leaf → Option ℕ
