@@ -5,6 +5,7 @@ pub mod OneLevel
 pub mod HeldOnce
 pub mod HeldSomewhere
 pub mod WalksDown
+pub mod WalkSteps
 pub mod OneWalk
 pub mod RecordsAtHome
 pub mod Partition

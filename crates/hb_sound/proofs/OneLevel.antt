@@ -2,7 +2,7 @@
 use Rattle.std.proofs.Common.{◌≡◌, ◌≢◌, ℕ, zero, suc, ◌+◌, ◌<◌, ◌≤◌, ◌↔◌, inl, inr, List, length, Option, Some, IsSome, refl, sym, ap, subst, ◌∙◌, arith}
 use Rattle.std.specs.List.{All, Contains}
 use Rattle.std.proofs.lemmas.List.Elements.{All-contains}
-use Rattle.hb_space.specs.Boxes.{Area, IsArea, Holds, whole_area}
+use Rattle.hb_space.specs.Boxes.{Area, IsArea, Holds, Within, whole_area}
 use Rattle.hb_frag.specs.declared.leaves.Leaf.{Leaf}
 use Rattle.hb_frag.specs.declared.leaves.Leaf.TheVariants.{Sibling}
 use Rattle.hb_frag.specs.declared.pages.LivePage.{LivePage}
@@ -18,6 +18,7 @@ use Rattle.hb_sound.proofs.Widths.{sibling_narrower, width}
 pub record TreeLaws : Type 0 where
   pub areas : (t : Tree) (a : Area) → IsArea a → IsWellCut t a → All (λ l. IsArea l.area) (leaves_of t a)
   pub attributes : (t : Tree) (a : Area) → All (λ l. length l.area.lo ≡ length a.lo) (leaves_of t a)
+  pub within : (t : Tree) (a : Area) → IsArea a → IsWellCut t a → All (λ l. Within l.area a) (leaves_of t a)
   pub some : (t : Tree) (a : Area) (p : List ℕ) → IsArea a → IsWellCut t a → IsSome (first_at p (leaves_of t a)) ↔ Holds a p
   pub only : (t : Tree) (a : Area) (p : List ℕ) (l : Placed) → IsArea a → IsWellCut t a → (first_at p (leaves_of t a) ≡ Some l) ↔ (Contains (leaves_of t a) l × Holds l.area p)
 

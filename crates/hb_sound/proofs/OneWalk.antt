@@ -38,4 +38,4 @@ same_walk s p id last end (x ∷ rest) (y ∷ others) records some walk ends aga
     (let e : (x ∷ rest) ≡ (y ∷ others) = cc (same, later.0) in e, later.1)
 
 pub walks_are_one : WalksAreOne
-walks_are_one s p rest others last end one other = same_walk s p s.meta.root last end rest others one.records other.records one.walk one.ends other.walk other.ends
+walks_are_one s p id rest others last end one other = same_walk s p id last end rest others one.records other.records one.walk one.ends other.walk other.ends

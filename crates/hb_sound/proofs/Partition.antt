@@ -3,19 +3,22 @@ use Rattle.std.proofs.Common.{◌≡◌, ℕ, ◌+◌, ◌<◌, ◌≤◌, List,
 use Rattle.hb_space.specs.Boxes.{Area, IsArea, Holds, whole_area}
 use Rattle.hb_space.specs.Points.{IsPoint}
 use Rattle.hb_space.specs.declared.form.TheConstants.{KMAX}
+use Rattle.hb_space.specs.declared.records.Record.{Record}
+use Rattle.hb_frag.specs.declared.leaves.Leaf.TheVariants.{Records}
 use Rattle.hb_frag.specs.declared.pages.LivePage.{LivePage}
+use Rattle.hb_frag.specs.Leaves.{leaf_at}
 use Rattle.hb_ops.specs.Files.{FileState, live_page}
-use Rattle.hb_ops.specs.LawsOfContents.{OthersLack}
 use Rattle.hb_ops.specs.Sound.{IsSound}
 use Rattle.hb_ops.specs.Standing.{AbsenceIsContents, RecordsAreContents}
-use Rattle.hb_sound.specs.Laws.{EachPointHasAWalk, EachPointIsHeld, NoPointIsHeldTwice, PagesHaveBoxes, RecordsAreAtHome, WalksFindAbsence, WalksFindRecords}
-use Rattle.hb_sound.specs.PointWalks.{IsPointOf, IsResponsible, IsWholeWalk}
+use Rattle.hb_sound.specs.Laws.{EachPageHasWalks, EachPointIsHeld, LackIsContents, NoPointIsHeldTwice, PagesHaveBoxes, RecordsAreAtHome, RootHasWalks, StandingIsContents, StepsLeadFurther}
+use Rattle.hb_sound.specs.PointWalks.{IsPointOf, IsResponsible}
 use Rattle.hb_sound.proofs.HeldOnce.{held_once}
 use Rattle.hb_sound.proofs.RecordsAtHome.{others_lack}
-use Rattle.hb_sound.proofs.WalksDown.{walks_down}
+use Rattle.hb_sound.proofs.WalksDown.{responsible_for, walks_down}
+use Rattle.hb_sound.proofs.WalkSteps.{step_leads}
+use Rattle.hb_sound.proofs.SiblingLeaves.{placed}
 use Rattle.hb_sound.proofs.HeldSomewhere.{found}
 use Rattle.hb_sound.proofs.OneLevel.{TreeLaws, page_area, same_page}
-use Rattle.hb_sound.proofs.OneWalk.{walks_are_one}
 use Rattle.hb_sound.proofs.Widths.{width}
 
 -- what the laws of the space say
@@ -42,38 +45,37 @@ module _ (trees : TreeLaws) (space : SpaceLaws) where
       let first = sound.covered.first level lt in
       held_once trees s sound.well_made sound.siblings sound.covered (whole_is_area s p h) p level first.0 first.1 first.2 first.3 first.4 id other one two
 
-  pub each_point_has_a_walk : EachPointHasAWalk
-  each_point_has_a_walk s p sound h =
-      let top = sound.rooted.top in
-      let w = walks_down trees s sound.well_made sound.siblings sound.children sound.covered (whole_is_area s p h) p top.0.level s.meta.root top.0 top.1 refl (whole_holds s p top.0.area h top.3) in
+  pub each_page_has_walks : EachPageHasWalks
+  each_page_has_walks s p id page sound h live held =
+      let w = walks_down trees s sound.well_made sound.siblings sound.children sound.covered (whole_is_area s p h) p page.level id page live refl held in
       record { rest = w.rest; last = w.last; whole = record { walk = w.walk; records = w.records; ends = w.ends }; responsible = w.responsible }
+
+  pub root_has_walks : RootHasWalks
+  root_has_walks s p sound h = let top = sound.rooted.top in each_page_has_walks s p s.meta.root top.0 sound h top.1 (whole_holds s p top.0.area h top.3)
+
+  pub steps_lead_further : StepsLeadFurther
+  steps_lead_further s p id next page sound h live leads = step_leads trees s sound.well_made sound.siblings sound.children sound.covered (whole_is_area s p h) p id next page live leads
 
   pub records_are_at_home : RecordsAreAtHome
   records_are_at_home s p id sound h here =
       others_lack trees s sound.well_made sound.siblings sound.covered (whole_is_area s p h) p id (λ other has. no_point_is_held_twice s 0 p other id sound h has here)
 
-  -- every whole walk ends at the responsible page
-  ends_responsible : (s : FileState) (p rest : List ℕ) (last : ℕ) → IsSound s → IsPointOf s p → IsWholeWalk s p rest last → IsResponsible s p last
-  ends_responsible s p rest last sound h walk =
-      let w = each_point_has_a_walk s p sound h in
-      let same = walks_are_one s p w.rest rest w.last last w.whole walk in
-      subst (λ (n : ℕ). IsResponsible s p n) same.1 w.responsible
+  -- a page whose leaf at the point has records is the one that is responsible, and no other page has a record of it
+  is_responsible : (s : FileState) (p : List ℕ) (id : ℕ) (page : LivePage) (records : List Record) (b : Area) → IsSound s → IsPointOf s p → live_page s id ≡ Some page → leaf_at page p ≡ Some (placed (Records records) b) → IsResponsible s p id
+  is_responsible s p id page records b sound h live e = responsible_for trees s sound.well_made sound.siblings sound.children sound.covered (whole_is_area s p h) p id page records b live e
 
-  on_level_0 : (s : FileState) (p rest : List ℕ) (last : ℕ) (page : LivePage) → IsSound s → IsPointOf s p → IsWholeWalk s p rest last → live_page s last ≡ Some page → page.level ≡ 0
-  on_level_0 s p rest last page sound h walk live =
-      let here = ends_responsible s p rest last sound h walk in
-      ap (λ (q : LivePage). q.level) (same_page s last page here.page live here.live) ∙ here.on
+  on_level_0 : (s : FileState) (p : List ℕ) (id : ℕ) (page : LivePage) → live_page s id ≡ Some page → IsResponsible s p id → page.level ≡ 0
+  on_level_0 s p id page live here = ap (λ (q : LivePage). q.level) (same_page s id page here.page live here.live) ∙ here.on
 
-  others_lack_it : (s : FileState) (p rest : List ℕ) (last : ℕ) → IsSound s → IsPointOf s p → IsWholeWalk s p rest last → OthersLack s last p
-  others_lack_it s p rest last sound h walk = records_are_at_home s p last sound h (ends_responsible s p rest last sound h walk)
+  pub standing_is_contents : RecordsAreContents → StandingIsContents
+  standing_is_contents there s p id page r sound h live stands =
+      let here = is_responsible s p id page stands.records stands.area sound h live stands.leaf in
+      there s id page p r live (sound.well_made id page live) (on_level_0 s p id page live here) (records_are_at_home s p id sound h here) stands
 
-  pub walks_find_records : RecordsAreContents → WalksFindRecords
-  walks_find_records there s p rest last page r sound h walk live stands =
-      there s last page p r live (sound.well_made last page live) (on_level_0 s p rest last page sound h walk live) (others_lack_it s p rest last sound h walk) stands
-
-  pub walks_find_absence : AbsenceIsContents → WalksFindAbsence
-  walks_find_absence absent s p rest last page sound h walk live stands =
-      absent s last page p live (sound.well_made last page live) (on_level_0 s p rest last page sound h walk live) (others_lack_it s p rest last sound h walk) stands
+  pub lack_is_contents : AbsenceIsContents → LackIsContents
+  lack_is_contents absent s p id page sound h live stands =
+      let here = is_responsible s p id page stands.records stands.area sound h live stands.leaf in
+      absent s id page p live (sound.well_made id page live) (on_level_0 s p id page live here) (records_are_at_home s p id sound h here) stands
 
   pub pages_have_boxes : PagesHaveBoxes
   pages_have_boxes s id page sound some few live = page_area trees s sound.well_made sound.siblings sound.covered (space.area s.meta.k some few) id page live

@@ -1,5 +1,5 @@
 -- The walk from the root: on each level to the page that directly holds the point, and then one level down.
-use Rattle.std.proofs.Common.{◌≡◌, ℕ, zero, suc, ◌<◌, inl, List, [], ◌∷◌, ◌++◌, length, Some, sym, subst, ◌∙◌, arith}
+use Rattle.std.proofs.Common.{◌≡◌, ℕ, zero, suc, ◌+◌, ◌<◌, inl, List, [], ◌∷◌, ◌++◌, length, Some, sym, subst, ◌∙◌, arith}
 use Rattle.std.proofs.lemmas.List.Elements.{All-contains}
 use Rattle.hb_space.specs.Boxes.{Area, IsArea, Holds, Within, whole_area}
 use Rattle.hb_space.specs.declared.records.Record.{Record}
@@ -11,8 +11,8 @@ use Rattle.hb_frag.specs.Rules.{BelongsAt}
 use Rattle.hb_ops.specs.Files.{FileState, live_page}
 use Rattle.hb_ops.specs.Sound.{AreWellMade, ChildrenMatch, IsCovered, SiblingsMatch}
 use Rattle.hb_sound.specs.PointWalks.{IsResponsible, IsWalk, LeadsOn, Sees}
-use Rattle.hb_sound.proofs.HeldSomewhere.{WalksOn, found, leaf_there, some_leaf}
-use Rattle.hb_sound.proofs.OneLevel.{TreeLaws}
+use Rattle.hb_sound.proofs.HeldSomewhere.{WalksOn, found, holds_directly, leaf_there, some_leaf}
+use Rattle.hb_sound.proofs.OneLevel.{TreeLaws, holds_where_leaf}
 use Rattle.hb_sound.proofs.SiblingLeaves.{leaf_is_sibling, placed, placed_is_leaf}
 use Rattle.hb_sound.proofs.Widths.{width}
 
@@ -30,7 +30,7 @@ joined_walk : (s : FileState) (p : List ℕ) (id middle next last : ℕ) (rest o
 joined_walk s p id middle next last [] others walk leads behind = (subst (λ (n : ℕ). LeadsOn s p n next) (sym walk) leads, behind)
 joined_walk s p id middle next last (x ∷ rest) others walk leads behind = (walk.0, joined_walk s p x middle next last rest others walk.1 leads behind)
 
-holds_within : (a b : Area) (p : List ℕ) → length a.lo ≡ length b.lo → Within a b → Holds a p → Holds b p
+pub holds_within : (a b : Area) (p : List ℕ) → length a.lo ≡ length b.lo → Within a b → Holds a p → Holds b p
 holds_within a b p e w h = record {
   same = h.same ∙ e;
   between = λ i l.
@@ -58,6 +58,20 @@ module _ (laws : TreeLaws) (s : FileState) (made : AreWellMade s) (match : Sibli
   ends_here id w (Sibling name) b e = absurd (no_sibling w.last w.has.page name b w.has.live w.has.direct e)
 
   -- above it names a page one level down, whose box has the point
+  pub record HasChild (page : LivePage) (name : ℕ) : Type 0 where
+    pub named : LivePage
+    pub live : live_page s name ≡ Some named
+    pub below : named.level + 1 ≡ page.level
+    pub inside : Holds named.area p
+
+  pub child_below : (id : ℕ) (page : LivePage) (name : ℕ) (b : Area) → live_page s id ≡ Some page → leaf_at page p ≡ Some (placed (Child name) b) → HasChild page name
+  child_below id page name b live e =
+      let there = leaf_there laws s made match covered area p id page (Child name) b live e in
+      let m = children id page name b live there.0 in
+      let as_many : length b.lo ≡ length page.area.lo = All-contains (λ (l : Placed). length l.area.lo ≡ length page.area.lo) (leaves_of page.frag page.area) (placed (Child name) b) (laws.attributes page.frag page.area) there.0 in
+      let same : length b.lo ≡ length m.0.area.lo = as_many ∙ (made id page live).fits.attributes ∙ sym (made name m.0 m.1).fits.attributes in
+      record { named = m.0; live = m.1; below = m.2; inside = holds_within b m.0.area p same m.3 there.1 }
+
   abbrev Below : ℕ → Type 0
   Below level = (id : ℕ) (page : LivePage) → live_page s id ≡ Some page → page.level ≡ level → Holds page.area p → WalksDown s p id
 
@@ -65,12 +79,9 @@ module _ (laws : TreeLaws) (s : FileState) (made : AreWellMade s) (match : Sibli
   goes_down level id again w (Records records) b e = let bottom : w.has.page.level ≡ 0 = belongs w.last w.has.page (Records records) b w.has.live e in absurd (omega (arith, bottom, w.has.on))
   goes_down level id again w (Child name) b e =
       let page = w.has.page in
-      let there = leaf_there laws s made match covered area p w.last page (Child name) b w.has.live e in
-      let m = children w.last page name b w.has.live there.0 in
-      let as_many : length b.lo ≡ length page.area.lo = All-contains (λ (l : Placed). length l.area.lo ≡ length page.area.lo) (leaves_of page.frag page.area) (placed (Child name) b) (laws.attributes page.frag page.area) there.0 in
-      let same : length b.lo ≡ length m.0.area.lo = as_many ∙ (made w.last page w.has.live).fits.attributes ∙ sym (made name m.0 m.1).fits.attributes in
-      let on : m.0.level ≡ level = omega (arith, m.2, w.has.on) in
-      let down = again name m.0 m.1 on (holds_within b m.0.area p same m.3 there.1) in
+      let m = child_below w.last page name b w.has.live e in
+      let on : m.named.level ≡ level = omega (arith, m.below, w.has.on) in
+      let down = again name m.named m.live on m.inside in
       record {
         rest = w.rest ++ (name ∷ down.rest);
         last = down.last;
@@ -90,3 +101,9 @@ module _ (laws : TreeLaws) (s : FileState) (made : AreWellMade s) (match : Sibli
       let w = found laws s made match covered area p (suc (width page.area)) (suc level) id page live on held (omega arith) in
       let l = some_leaf laws s made match covered area p w.last w.has.page w.has.live w.has.direct.inside in
       goes_down level id (walks_down level) w l.0 l.1 l.2
+
+  -- a page whose leaf at the point has records is the one that is responsible
+  pub responsible_for : (id : ℕ) (page : LivePage) (records : List Record) (b : Area) → live_page s id ≡ Some page → leaf_at page p ≡ Some (placed (Records records) b) → IsResponsible s p id
+  responsible_for id page records b live e =
+      let held = holds_where_leaf laws s made match covered area id page p (Records records) b live e in
+      record { page = page; live = live; on = belongs id page (Records records) b live e; direct = holds_directly laws s made match covered area p id page (Records records) b live held e (λ name f. let no : ⊥ = cc in no) }

@@ -1,7 +1,7 @@
 -- Which page of a level has a point, and the walk that leads to it.
-use Rattle.std.specs.Prelude.{◌≡◌, ◌⊎◌, ℕ, List, [], ◌∷◌, length, Some}
+use Rattle.std.specs.Prelude.{◌≡◌, ◌≢◌, ◌⊎◌, ℕ, ◌+◌, List, [], ◌∷◌, length, Some}
 use Rattle.hb_space.specs.Points.{IsPoint}
-use Rattle.hb_space.specs.Boxes.{Area}
+use Rattle.hb_space.specs.Boxes.{Area, Holds, Within}
 use Rattle.hb_space.specs.declared.records.Record.{Record}
 use Rattle.hb_frag.specs.declared.leaves.Leaf.{Leaf}
 use Rattle.hb_frag.specs.declared.leaves.Leaf.TheVariants.{Records, Child, Sibling}
@@ -41,8 +41,22 @@ abbrev pub IsWalk : FileState → List ℕ → ℕ → List ℕ → ℕ → Type
 IsWalk s p id [] last = id ≡ last
 IsWalk s p id (next ∷ rest) last = LeadsOn s p id next × IsWalk s p next rest last
 
--- a walk from the root to a page whose leaf at the point has records
-pub record IsWholeWalk (s : FileState) (p : List ℕ) (rest : List ℕ) (last : ℕ) : Type 0 where
-  pub walk : IsWalk s p s.meta.root rest last
+-- a walk from the page to one whose leaf at the point has records
+pub record IsWholeWalk (s : FileState) (p : List ℕ) (id : ℕ) (rest : List ℕ) (last : ℕ) : Type 0 where
+  pub walk : IsWalk s p id rest last
   pub records : List Record
   pub ends : Sees s p last (Records records)
+
+-- there is such a walk from the page, and it ends at the page that is responsible
+pub record HasWalk (s : FileState) (p : List ℕ) (id : ℕ) : Type 0 where
+  pub rest : List ℕ
+  pub last : ℕ
+  pub whole : IsWholeWalk s p id rest last
+  pub responsible : IsResponsible s p last
+
+-- The next page has the point in its box too, and stands one level down, or on the same level with a box that is part of the page's.
+pub record LeadsFurther (s : FileState) (p : List ℕ) (page : LivePage) (next : ℕ) : Type 0 where
+  pub named : LivePage
+  pub live : live_page s next ≡ Some named
+  pub inside : Holds named.area p
+  pub further : (named.level + 1 ≡ page.level) ⊎ ((named.level ≡ page.level) × Within named.area page.area × (named.area ≢ page.area))

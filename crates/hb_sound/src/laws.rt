@@ -1,7 +1,7 @@
 //! What follows of a sound file, whatever was done to it. Each law is the contract of a function
 //! that does nothing: a caller learns it by the call.
 
-ghost use Rattle.hb_sound.specs.Laws.{EachPointHasAWalk, EachPointIsHeld, NoPointIsHeldTwice, PagesHaveBoxes, RecordsAreAtHome, WalksAreOne, WalksFindAbsence, WalksFindRecords};
+ghost use Rattle.hb_sound.specs.Laws.{EachPageHasWalks, EachPointIsHeld, LackIsContents, NoPointIsHeldTwice, PagesHaveBoxes, RecordsAreAtHome, RootHasWalks, StandingIsContents, StepsLeadFurther, WalksAreOne};
 
 use hb_frag::laws::{each_point_has_one_leaf, leaves_part_the_box};
 use hb_ops::what_stands_is_in_the_contents;
@@ -18,12 +18,23 @@ pub fn a_level_parts_the_space()
     whole_space_holds_every_point();
 }
 
-/// From the root there is one walk for each point: from page to page, each time to the one that the
-/// leaf at the point names, until that leaf has records. It ends at the page that is responsible for
-/// the point.
+/// From the root there is one walk for each point, and from each page for each point of its box: from
+/// page to page, each time to the one that the leaf at the point names, until that leaf has records.
+/// It ends at the page that is responsible for the point.
 pub fn a_walk_ends_at_the_responsible_page()
-    ensures some { EachPointHasAWalk }
+    ensures root { RootHasWalks }
+    ensures pages { EachPageHasWalks }
     ensures alone { WalksAreOne }
+{
+    leaves_part_the_box();
+    each_point_has_one_leaf();
+    whole_space_holds_every_point();
+}
+
+/// Each step of a walk leads one level down, or to a page of the same level whose box is part of the
+/// page's. So no walk goes on for ever.
+pub fn each_step_of_a_walk_leads_further()
+    ensures { StepsLeadFurther }
 {
     leaves_part_the_box();
     each_point_has_one_leaf();
@@ -39,11 +50,11 @@ pub fn records_are_at_home()
     whole_space_holds_every_point();
 }
 
-/// What a walk finds is what the contents of the file have: where the leaf at its end has a record of
-/// the point, its body, and where it has none, nothing.
-pub fn a_walk_finds_what_the_contents_have()
-    ensures there { WalksFindRecords }
-    ensures absent { WalksFindAbsence }
+/// What a page has at a point is what the contents of the file have there: where its leaf at the point
+/// has a record of it, that one's body, and where it has records but none of it, nothing.
+pub fn what_stands_is_what_the_contents_have()
+    ensures there { StandingIsContents }
+    ensures absent { LackIsContents }
 {
     leaves_part_the_box();
     each_point_has_one_leaf();
