@@ -1,5 +1,5 @@
 -- The laws of a sound file, from those of trees and of the space.
-use Rattle.std.proofs.Common.{◌≡◌, ℕ, ◌+◌, ◌<◌, ◌≤◌, List, length, Some, refl, sym, ap, subst, ◌∙◌, arith}
+use Rattle.std.proofs.Common.{◌≡◌, ℕ, ◌+◌, ◌<◌, ◌≤◌, List, length, Option, Some, None, refl, sym, ap, subst, ◌∙◌, arith}
 use Rattle.hb_space.specs.Boxes.{Area, IsArea, Holds, whole_area}
 use Rattle.hb_space.specs.Points.{IsPoint}
 use Rattle.hb_space.specs.declared.form.TheConstants.{KMAX}
@@ -9,8 +9,12 @@ use Rattle.hb_frag.specs.declared.pages.LivePage.{LivePage}
 use Rattle.hb_frag.specs.Leaves.{leaf_at}
 use Rattle.hb_ops.specs.Files.{FileState, live_page}
 use Rattle.hb_ops.specs.Sound.{IsSound}
+use Rattle.hb_ops.specs.declared.meta.Meta.{Meta}
+use Rattle.hb_ops.specs.declared.operations.Op.TheVariants.{Put, Del}
+use Rattle.hb_ops.specs.LawsOfContents.{DelTakesOne, PutAddsOne}
+use Rattle.hb_ops.specs.Operations.{FitsDel, FitsPut, IsAllowedOn, nth_read}
 use Rattle.hb_ops.specs.Standing.{AbsenceIsContents, RecordsAreContents}
-use Rattle.hb_sound.specs.Laws.{EachPageHasWalks, EachPointIsHeld, LackIsContents, NoPointIsHeldTwice, PagesHaveBoxes, RecordsAreAtHome, RootHasWalks, StandingIsContents, StepsLeadFurther}
+use Rattle.hb_sound.specs.Laws.{DelsTakeOne, EachPageHasWalks, EachPointIsHeld, LackIsContents, NoPointIsHeldTwice, PagesHaveBoxes, PutsAddOne, RecordsAreAtHome, RootHasWalks, StandingIsContents, StepsLeadFurther}
 use Rattle.hb_sound.specs.PointWalks.{IsPointOf, IsResponsible}
 use Rattle.hb_sound.proofs.HeldOnce.{held_once}
 use Rattle.hb_sound.proofs.RecordsAtHome.{others_lack}
@@ -25,6 +29,15 @@ use Rattle.hb_sound.proofs.Widths.{width}
 pub record SpaceLaws : Type 0 where
   pub area : (k : ℕ) → 1 ≤ k → k ≤ KMAX → IsArea (whole_area k)
   pub points : (k : ℕ) (p : List ℕ) → IsPoint p → length p ≡ k → Holds (whole_area k) p
+
+-- an operation that is allowed has its page in use
+put_on : (id : ℕ) (rec : Record) (meta : Meta) (o second third : Option LivePage) → IsAllowedOn (Put id rec) meta o second third → (page : LivePage) × (o ≡ Some page) × FitsPut meta page rec
+put_on id rec meta None second third h = absurd h
+put_on id rec meta (Some page) second third h = (page, refl, h)
+
+del_on : (id : ℕ) (point : List ℕ) (meta : Meta) (o second third : Option LivePage) → IsAllowedOn (Del id point) meta o second third → (page : LivePage) × (o ≡ Some page) × FitsDel meta page point
+del_on id point meta None second third h = absurd h
+del_on id point meta (Some page) second third h = (page, refl, h)
 
 module _ (trees : TreeLaws) (space : SpaceLaws) where
   whole_is_area : (s : FileState) (p : List ℕ) → IsPointOf s p → IsArea (whole_area s.meta.k)
@@ -76,6 +89,19 @@ module _ (trees : TreeLaws) (space : SpaceLaws) where
   lack_is_contents absent s p id page sound h live stands =
       let here = is_responsible s p id page stands.records stands.area sound h live stands.leaf in
       absent s id page p live (sound.well_made id page live) (on_level_0 s p id page live here) (records_are_at_home s p id sound h here) stands
+
+  -- so the laws of put and delete hold of every page
+  pub puts_add_one : PutAddsOne → PutsAddOne
+  puts_add_one adds s id rec sound h allowed =
+      let on = put_on id rec s.meta (live_page s id) (nth_read s (Put id rec) 1) (nth_read s (Put id rec) 2) allowed in
+      let here = is_responsible s rec.key id on.0 on.2.absent.records on.2.absent.area sound h on.1 on.2.absent.leaf in
+      adds s id rec allowed h.attributes (records_are_at_home s rec.key id sound h here)
+
+  pub dels_take_one : DelTakesOne → DelsTakeOne
+  dels_take_one takes s id point sound h allowed =
+      let on = del_on id point s.meta (live_page s id) (nth_read s (Del id point) 1) (nth_read s (Del id point) 2) allowed in
+      let here = is_responsible s point id on.0 on.2.there.records on.2.there.area sound h on.1 on.2.there.leaf in
+      takes s id point allowed h.attributes (records_are_at_home s point id sound h here)
 
   pub pages_have_boxes : PagesHaveBoxes
   pages_have_boxes s id page sound some few live = page_area trees s sound.well_made sound.siblings sound.covered (space.area s.meta.k some few) id page live

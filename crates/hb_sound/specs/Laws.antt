@@ -5,7 +5,9 @@ use Rattle.hb_space.specs.declared.form.TheConstants.{KMAX}
 use Rattle.hb_space.specs.declared.records.Record.{Record}
 use Rattle.hb_space.specs.Boxes.{IsArea, Holds}
 use Rattle.hb_frag.specs.declared.pages.LivePage.{LivePage}
+use Rattle.hb_ops.specs.declared.operations.Op.TheVariants.{Put, Del}
 use Rattle.hb_ops.specs.Files.{FileState, live_page, contents_of}
+use Rattle.hb_ops.specs.Operations.{IsAllowed, effect_of}
 use Rattle.hb_ops.specs.Sound.{IsSound}
 use Rattle.hb_ops.specs.LawsOfContents.{OthersLack}
 use Rattle.hb_ops.specs.Standing.{StandsThere, StandsNot}
@@ -47,3 +49,12 @@ LackIsContents = (s : FileState) (p : List ℕ) (id : ℕ) (page : LivePage) →
 -- The box of each page in use is a box, where the file has a number of attributes that there may be.
 abbrev pub PagesHaveBoxes : Type 0
 PagesHaveBoxes = (s : FileState) (id : ℕ) (page : LivePage) → IsSound s → 1 ≤ s.meta.k → s.meta.k ≤ KMAX → live_page s id ≡ Some page → IsArea page.area
+
+-- An allowed put adds exactly one record to the contents of a sound file, and an allowed delete takes exactly one away.
+abbrev pub PutsAddOne : Type 0
+PutsAddOne = (s : FileState) (id : ℕ) (rec : Record) → IsSound s → IsPointOf s rec.key → IsAllowed s (Put id rec) →
+    (finite.get (contents_of s) rec.key ≡ None) × (contents_of (effect_of s (Put id rec)) ≡ finite.insert (contents_of s) rec.key rec.body)
+
+abbrev pub DelsTakeOne : Type 0
+DelsTakeOne = (s : FileState) (id : ℕ) (point : List ℕ) → IsSound s → IsPointOf s point → IsAllowed s (Del id point) →
+    ((body : List ℕ) × (finite.get (contents_of s) point ≡ Some body)) × (contents_of (effect_of s (Del id point)) ≡ finite.remove (contents_of s) point)

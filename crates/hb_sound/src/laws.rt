@@ -1,10 +1,10 @@
 //! What follows of a sound file, whatever was done to it. Each law is the contract of a function
 //! that does nothing: a caller learns it by the call.
 
-ghost use Rattle.hb_sound.specs.Laws.{EachPageHasWalks, EachPointIsHeld, LackIsContents, NoPointIsHeldTwice, PagesHaveBoxes, RecordsAreAtHome, RootHasWalks, StandingIsContents, StepsLeadFurther, WalksAreOne};
+ghost use Rattle.hb_sound.specs.Laws.{DelsTakeOne, EachPageHasWalks, EachPointIsHeld, LackIsContents, NoPointIsHeldTwice, PagesHaveBoxes, PutsAddOne, RecordsAreAtHome, RootHasWalks, StandingIsContents, StepsLeadFurther, WalksAreOne};
 
 use hb_frag::laws::{each_point_has_one_leaf, leaves_part_the_box};
-use hb_ops::what_stands_is_in_the_contents;
+use hb_ops::{delete_takes_one_record, put_adds_one_record, what_stands_is_in_the_contents};
 use hb_space::laws::whole_space_holds_every_point;
 
 /// The pages of each level part the space: each point is directly held by one page of the level, and
@@ -60,6 +60,19 @@ pub fn what_stands_is_what_the_contents_have()
     each_point_has_one_leaf();
     whole_space_holds_every_point();
     what_stands_is_in_the_contents();
+}
+
+/// In a sound file an allowed put adds exactly one record to the contents, and an allowed delete takes
+/// exactly one away, whatever other pages the file has.
+pub fn puts_and_deletes_change_one_record()
+    ensures put { PutsAddOne }
+    ensures del { DelsTakeOne }
+{
+    leaves_part_the_box();
+    each_point_has_one_leaf();
+    whole_space_holds_every_point();
+    put_adds_one_record();
+    delete_takes_one_record();
 }
 
 /// The box of each page in use is a box.
