@@ -9,3 +9,4 @@ pub mod WalkSteps
 pub mod OneWalk
 pub mod RecordsAtHome
 pub mod Partition
+pub mod SmallFile

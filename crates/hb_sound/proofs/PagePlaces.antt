@@ -9,11 +9,11 @@ use Rattle.hb_ops.specs.Files.{FileState, if_live, live_page, page_at}
 use Rattle.hb_sound.proofs.Widths.{width}
 
 -- no page has the number 0, and the page of another number stands one place before
-page_at-zero : (pages : List Page) → page_at pages 0 ≡ None
+pub page_at-zero : (pages : List Page) → page_at pages 0 ≡ None
 page_at-zero [] = refl
 page_at-zero (page ∷ rest) = refl
 
-page_at-suc : (pages : List Page) (n : ℕ) → page_at pages (suc n) ≡ slice_get pages n
+pub page_at-suc : (pages : List Page) (n : ℕ) → page_at pages (suc n) ≡ slice_get pages n
 page_at-suc [] n = refl
 page_at-suc (page ∷ rest) zero = refl
 page_at-suc (page ∷ rest) (suc n) =

@@ -1,2 +1,3 @@
 pub mod PointWalks
 pub mod Laws
+pub mod Examples

@@ -1,8 +1,9 @@
-//! Sound files: the audit that tells one, and what follows of one.
+//! Sound files: what follows of one, whatever its height and however many pages it has.
 //!
-//! The one contract: `audit` is Ok exactly on a sound file, and else names the first rule that the
-//! file breaks, and the page. `laws` has what every sound file has: on each level each point of the
-//! whole space is directly held by exactly one page, and a walk leads to it.
+//! The one contract: in a sound file each point of the whole space is directly held by exactly one
+//! page of each level, and one walk leads to it from the root. So it is said by the laws of `laws`;
+//! `examples` has a file that is sound. The audit of a file of one page stands in hbpi.
 #![tactic(auto)]
 
+pub mod examples;
 pub mod laws;
