@@ -10,3 +10,5 @@ pub mod OneWalk
 pub mod RecordsAtHome
 pub mod Partition
 pub mod SmallFile
+pub mod SettledWalks
+pub mod OneParent

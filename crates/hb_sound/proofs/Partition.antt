@@ -40,10 +40,10 @@ del_on id point meta None second third h = absurd h
 del_on id point meta (Some page) second third h = (page, refl, h)
 
 module _ (trees : TreeLaws) (space : SpaceLaws) where
-  whole_is_area : (s : FileState) (p : List ℕ) → IsPointOf s p → IsArea (whole_area s.meta.k)
+  pub whole_is_area : (s : FileState) (p : List ℕ) → IsPointOf s p → IsArea (whole_area s.meta.k)
   whole_is_area s p h = space.area s.meta.k (omega (arith, h.attributes, h.point.some)) (omega (arith, h.attributes, h.point.few))
 
-  whole_holds : (s : FileState) (p : List ℕ) (a : Area) → IsPointOf s p → a ≡ whole_area s.meta.k → Holds a p
+  pub whole_holds : (s : FileState) (p : List ℕ) (a : Area) → IsPointOf s p → a ≡ whole_area s.meta.k → Holds a p
   whole_holds s p a h e = subst (λ (b : Area). Holds b p) (sym e) (space.points s.meta.k p h.point h.attributes)
 
   pub each_point_is_held : EachPointIsHeld

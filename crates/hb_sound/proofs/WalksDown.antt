@@ -40,13 +40,13 @@ holds_within a b p e w h = record {
 
 module _ (laws : TreeLaws) (s : FileState) (made : AreWellMade s) (match : SiblingsMatch s) (children : ChildrenMatch s) (covered : IsCovered s) (area : IsArea (whole_area s.meta.k)) (p : List ℕ) where
   -- the leaf at a point is one that its page may have
-  belongs : (id : ℕ) (page : LivePage) (leaf : Leaf) (b : Area) → live_page s id ≡ Some page → leaf_at page p ≡ Some (placed leaf b) → BelongsAt page.level leaf
+  pub belongs : (id : ℕ) (page : LivePage) (leaf : Leaf) (b : Area) → live_page s id ≡ Some page → leaf_at page p ≡ Some (placed leaf b) → BelongsAt page.level leaf
   belongs id page leaf b live e =
       let there = leaf_there laws s made match covered area p id page leaf b live e in
       All-contains (BelongsAt page.level) (leaves page.frag) leaf (made id page live).filled.kinds (placed_is_leaf page.frag page.area (placed leaf b) there.0)
 
   -- where a page directly holds the point, it isn't a sibling leaf
-  no_sibling : (id : ℕ) (page : LivePage) (name : ℕ) (b : Area) → live_page s id ≡ Some page → DirectlyHolds page p → leaf_at page p ≡ Some (placed (Sibling name) b) → ⊥
+  pub no_sibling : (id : ℕ) (page : LivePage) (name : ℕ) (b : Area) → live_page s id ≡ Some page → DirectlyHolds page p → leaf_at page p ≡ Some (placed (Sibling name) b) → ⊥
   no_sibling id page name b live direct e =
       let there = leaf_there laws s made match covered area p id page (Sibling name) b live e in
       All-contains (λ (x : ℕ × Area). ¬ (Holds x.1 p)) (siblings_of page) (name, b) direct.not_given (leaf_is_sibling (leaves_of page.frag page.area) name b there.0) there.1

@@ -1,3 +1,4 @@
 pub mod PointWalks
 pub mod Laws
 pub mod Examples
+pub mod Settled

@@ -2,6 +2,7 @@
 //! that does nothing: a caller learns it by the call.
 
 ghost use Rattle.hb_sound.specs.Laws.{DelsTakeOne, EachPageHasWalks, EachPointIsHeld, LackIsContents, NoPointIsHeldTwice, PagesHaveBoxes, PutsAddOne, RecordsAreAtHome, RootHasWalks, StandingIsContents, StepsLeadFurther, WalksAreOne};
+ghost use Rattle.hb_sound.specs.Settled.{NoOtherParent, SettledWalksAreShort};
 
 use hb_frag::laws::{each_point_has_one_leaf, leaves_part_the_box};
 use hb_ops::{delete_takes_one_record, put_adds_one_record, what_stands_is_in_the_contents};
@@ -78,6 +79,25 @@ pub fn puts_and_deletes_change_one_record()
 /// The box of each page in use is a box.
 pub fn each_page_has_a_box()
     ensures { PagesHaveBoxes }
+{
+    leaves_part_the_box();
+    each_point_has_one_leaf();
+    whole_space_holds_every_point();
+}
+
+/// In a settled file whose root has no sibling leaf, each whole walk from the root has as many pages as
+/// the file has levels: it goes down one level at each step.
+pub fn settled_walks_are_short()
+    ensures { SettledWalksAreShort }
+{
+    leaves_part_the_box();
+    each_point_has_one_leaf();
+    whole_space_holds_every_point();
+}
+
+/// Where a page directly holds the whole box of a page one level down, that one has no other parent.
+pub fn no_page_has_another_parent()
+    ensures { NoOtherParent }
 {
     leaves_part_the_box();
     each_point_has_one_leaf();
