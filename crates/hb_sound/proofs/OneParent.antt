@@ -1,15 +1,11 @@
 -- A page whose whole box one page above directly holds has no other parent: the other one would directly hold a point of it too.
-use Rattle.std.proofs.Common.{◌≡◌, ℕ, ◌+◌, ◌<◌, ◌≤◌, List, length, slice_index_or, Some, refl, sym, ap, subst, ◌∙◌, arith}
-use Rattle.std.specs.List.{All}
+use Rattle.std.proofs.Common.{◌≡◌, ℕ, List, length, slice_index_or, Some, refl, sym, ap, subst, ◌∙◌, arith}
 use Rattle.std.proofs.lemmas.List.Elements.{All-contains}
-use Rattle.hb_space.specs.Boxes.{Area, IsArea, Holds, Meets, Within, whole_area}
-use Rattle.hb_space.specs.Points.{IsPoint}
+use Rattle.hb_space.specs.Boxes.{Area, IsArea, Holds, Within}
 use Rattle.hb_frag.specs.declared.leaves.Leaf.TheVariants.{Child}
 use Rattle.hb_frag.specs.declared.pages.LivePage.{LivePage}
 use Rattle.hb_frag.specs.Leaves.{DirectlyCovers, DirectlyHolds, Placed, leaf_at, leaves_of, siblings_of}
-use Rattle.hb_ops.specs.Files.{FileState, live_page}
-use Rattle.hb_ops.specs.Sound.{IsSound}
-use Rattle.hb_sound.specs.PointWalks.{HasOn, IsPointOf}
+use Rattle.hb_sound.specs.PointWalks.{IsPointOf}
 use Rattle.hb_sound.specs.Settled.{NoOtherParent}
 use Rattle.hb_sound.proofs.HeldSomewhere.{holds_directly}
 use Rattle.hb_sound.proofs.OneLevel.{TreeLaws, holds_where_leaf, page_area, same_page}
@@ -53,5 +49,5 @@ no_other_parent trees space s id parent other page above holder area sound some 
     let height = ap (λ (q : LivePage). q.level) named in
     let on : holder.level ≡ above.level = omega (arith, below, height, level) in
     no_point_is_held_twice trees space s above.level p other parent sound point
-        (record { page = holder; live = live_other; on = on; direct = direct })
-        (record { page = above; live = live_parent; on = refl; direct = directly })
+    (record { page = holder; live = live_other; on = on; direct = direct })
+    (record { page = above; live = live_parent; on = refl; direct = directly })

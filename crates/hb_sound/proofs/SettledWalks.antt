@@ -1,18 +1,17 @@
 -- In a settled file no walk from the root meets a sibling leaf, so each of its steps leads one level down.
-use Rattle.std.proofs.Common.{◌≡◌, ℕ, zero, suc, ◌+◌, ◌<◌, ◌≤◌, inl, inr, List, [], ◌∷◌, All, length, slice_index_or, Some, refl, sym, ap, subst, ◌∙◌, arith}
-use Rattle.hb_space.specs.Boxes.{Area, IsArea, Holds, Meets, Within, whole_area}
+use Rattle.std.proofs.Common.{◌≡◌, ℕ, suc, ◌<◌, inl, inr, List, [], ◌∷◌, All, length, slice_index_or, Some, sym, ap, subst, arith}
+use Rattle.hb_space.specs.Boxes.{Area, IsArea, Holds, Meets, whole_area}
 use Rattle.hb_space.specs.declared.records.Record.{Record}
-use Rattle.hb_frag.specs.declared.leaves.Leaf.TheVariants.{Records, Child, Sibling}
+use Rattle.hb_frag.specs.declared.leaves.Leaf.TheVariants.{Records, Child}
 use Rattle.hb_frag.specs.declared.pages.LivePage.{LivePage}
-use Rattle.hb_frag.specs.Leaves.{DirectlyHolds, leaf_at, siblings_of}
+use Rattle.hb_frag.specs.Leaves.{DirectlyHolds, siblings_of}
 use Rattle.hb_ops.specs.Files.{FileState, live_page}
-use Rattle.hb_ops.specs.Sound.{AreWellMade, ChildrenMatch, IsCovered, IsSound, SiblingsMatch}
+use Rattle.hb_ops.specs.Sound.{AreWellMade, ChildrenMatch, IsCovered, SiblingsMatch}
 use Rattle.hb_sound.specs.PointWalks.{IsWalk, LeadsOn, Sees}
-use Rattle.hb_sound.specs.Settled.{AllPosted, HasLoneRoot, SettledWalksAreShort}
+use Rattle.hb_sound.specs.Settled.{AllPosted, SettledWalksAreShort}
 use Rattle.hb_sound.proofs.HeldSomewhere.{leaf_there}
 use Rattle.hb_sound.proofs.OneLevel.{TreeLaws, same_page}
 use Rattle.hb_sound.proofs.Partition.{SpaceLaws, whole_holds, whole_is_area}
-use Rattle.hb_sound.proofs.SiblingLeaves.{placed}
 use Rattle.hb_sound.proofs.WalksDown.{belongs, child_below, no_sibling}
 
 -- two boxes that hold a point meet
