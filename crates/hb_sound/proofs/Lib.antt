@@ -9,4 +9,7 @@ pub mod WalkSteps
 pub mod OneWalk
 pub mod RecordsAtHome
 pub mod Partition
+pub mod ExampleParts
 pub mod SmallFile
+pub mod LostFile
+pub mod TowerFile

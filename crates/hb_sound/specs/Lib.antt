@@ -1,3 +1,5 @@
 pub mod PointWalks
 pub mod Laws
 pub mod Examples
+pub mod LostFile
+pub mod TowerFile
