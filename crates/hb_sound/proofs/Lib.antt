@@ -12,4 +12,6 @@ pub mod Partition
 pub mod ExampleParts
 pub mod SmallFile
 pub mod LostFile
+pub mod LateFile
+pub mod LateWalks
 pub mod TowerFile

@@ -2,4 +2,5 @@ pub mod PointWalks
 pub mod Laws
 pub mod Examples
 pub mod LostFile
+pub mod LateFile
 pub mod TowerFile

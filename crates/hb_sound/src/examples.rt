@@ -3,6 +3,7 @@
 ghost use Rattle.std.specs.Prelude.{[], ◌∷◌};
 ghost use Rattle.hb_ops.specs.Sound.{IsSound};
 ghost use Rattle.hb_sound.specs.Examples.{small_file};
+ghost use Rattle.hb_sound.specs.LateFile.{LateResponsible, LateWalks, late_file};
 ghost use Rattle.hb_sound.specs.LostFile.{lost_file};
 ghost use Rattle.hb_sound.specs.TowerFile.{tower_file};
 ghost use Rattle.hb_sound.specs.PointWalks.{IsResponsible, IsWholeWalk};
@@ -31,4 +32,12 @@ pub fn a_file_of_twelve_levels()
     ensures sound { IsSound tower_file }
     ensures walk { IsWholeWalk tower_file (7 ∷ []) 1 (2 ∷ 3 ∷ 4 ∷ 5 ∷ 6 ∷ 7 ∷ 8 ∷ 9 ∷ 10 ∷ 11 ∷ 12 ∷ []) 12 }
     ensures responsible { IsResponsible tower_file (7 ∷ []) 12 }
+{}
+
+/// A file of three levels is sound where postings are late on each of them, and one page of records has
+/// two parents. From its root ten walks lead to the pages that are responsible for their points.
+pub fn a_file_of_late_postings()
+    ensures sound { IsSound late_file }
+    ensures walks { LateWalks }
+    ensures responsible { LateResponsible }
 {}
