@@ -1,5 +1,5 @@
 -- That the high file is sound, and its walk down.
-use Rattle.std.proofs.Common.{◌≡◌, ℕ, zero, suc, ◌+◌, ◌<◌, ◌⊎◌, inl, inr, ◌-◌, ◌≤◌, ◌==◌, ◌^◌, true, false, if◌then◌else◌, List, [], ◌∷◌, All, Some, refl, arith}
+use Rattle.std.proofs.Common.{◌≡◌, ℕ, zero, suc, ◌+◌, ◌<◌, ◌⊎◌, inl, inr, ◌-◌, ◌≤◌, ◌==◌, ◌^◌, true, false, if◌then◌else◌, List, [], ◌∷◌, All, Some, refl, sym, subst, arith}
 use Rattle.hb_space.specs.Boxes.{Area, Holds, Within, whole_area}
 use Rattle.hb_frag.specs.declared.leaves.Leaf.TheVariants.{Records, Child}
 use Rattle.hb_frag.specs.declared.pages.LivePage.{LivePage}
@@ -9,10 +9,15 @@ use Rattle.hb_ops.specs.Files.{live_page}
 use Rattle.hb_ops.specs.Sound.{AreWellMade, FitsFile, IsSound, SiblingsMatch, ChildrenMatch, IsCovered}
 use Rattle.hb_sound.specs.TowerFile.{passing, tower_file, tower_ground, tower_meta}
 use Rattle.hb_sound.specs.PointWalks.{IsResponsible, IsWholeWalk, LeadsOn}
-use Rattle.hb_sound.proofs.ExampleParts.{HasPlace, HasChildren, HasSiblings, children_match, counted, each_at, each_page, first, held, in_order, interval, is_covered, no_records, siblings_match, top, within}
+use Rattle.hb_sound.proofs.ExampleParts.{AllNumbered, HasChildren, HasFirst, HasPlace, HasSiblings, children_match, counted, each_at, each_page, first, held, in_order, interval, is_covered, no_records, siblings_match, top, within}
+
+-- the pages from a level down, the first of which has the number
+abbrev pages_from : ℕ → ℕ → List LivePage
+pages_from zero id = tower_ground ∷ []
+pages_from (suc level) id = passing (suc level) (suc id) ∷ pages_from level (suc id)
 
 abbrev all_pages : List LivePage
-all_pages = passing 11 2 ∷ passing 10 3 ∷ passing 9 4 ∷ passing 8 5 ∷ passing 7 6 ∷ passing 6 7 ∷ passing 5 8 ∷ passing 4 9 ∷ passing 3 10 ∷ passing 2 11 ∷ passing 1 12 ∷ tower_ground ∷ []
+all_pages = pages_from 11 1
 
 -- one leaf isn't too heavy, whatever the level
 light : (level : ℕ) → 1 ≤ capacity_of level 6 6
@@ -38,32 +43,37 @@ ground_fits = record {
   normal = tt;
 }
 
-made : AreWellMade tower_file
-made = each_page tower_meta all_pages (λ id page. FitsFile tower_meta page)
-    (passing_fits 11 2 (omega arith) (omega arith), (passing_fits 10 3 (omega arith) (omega arith), (passing_fits 9 4 (omega arith) (omega arith), (passing_fits 8 5 (omega arith) (omega arith), (passing_fits 7 6 (omega arith) (omega arith), (passing_fits 6 7 (omega arith) (omega arith), (passing_fits 5 8 (omega arith) (omega arith), (passing_fits 4 9 (omega arith) (omega arith), (passing_fits 3 10 (omega arith) (omega arith), (passing_fits 2 11 (omega arith) (omega arith), (passing_fits 1 12 (omega arith) (omega arith), (ground_fits, tt))))))))))))
+all_fit : (level id : ℕ) → level < 12 → AllNumbered (λ id page. FitsFile tower_meta page) id (pages_from level id)
+all_fit zero id below = (ground_fits, tt)
+all_fit (suc level) id below = (passing_fits (suc level) (suc id) (omega arith) below, all_fit level (suc id) (omega (arith, below)))
 
-siblings : SiblingsMatch tower_file
-siblings = siblings_match tower_meta all_pages (tt, (tt, (tt, (tt, (tt, (tt, (tt, (tt, (tt, (tt, (tt, (tt, tt))))))))))))
+-- none has a sibling leaf
+no_siblings : (level id : ℕ) → AllNumbered (HasSiblings tower_meta all_pages) id (pages_from level id)
+no_siblings zero id = (tt, tt)
+no_siblings (suc level) id = (tt, no_siblings level (suc id))
 
--- each page has the whole space
-all_within : Within (whole_area 1) (whole_area 1)
-all_within = within 0 top 0 top (omega arith) (omega arith)
+-- each names the next one, and each has the whole space
+leads_to : (id : ℕ) (page : LivePage) → live_page tower_file id ≡ Some page → page.area ≡ whole_area 1 → HasChildren tower_meta all_pages 0 (passing (page.level + 1) id)
+leads_to id page live whole = ((page, live, refl, subst (λ (a : Area). Within (whole_area 1) a) (sym whole) (within 0 top 0 top (omega arith) (omega arith))), tt)
 
 children : ChildrenMatch tower_file
 children = children_match tower_meta all_pages
-    (((passing 10 3, refl, refl, all_within), tt), (((passing 9 4, refl, refl, all_within), tt), (((passing 8 5, refl, refl, all_within), tt), (((passing 7 6, refl, refl, all_within), tt), (((passing 6 7, refl, refl, all_within), tt), (((passing 5 8, refl, refl, all_within), tt), (((passing 4 9, refl, refl, all_within), tt), (((passing 3 10, refl, refl, all_within), tt), (((passing 2 11, refl, refl, all_within), tt), (((passing 1 12, refl, refl, all_within), tt), (((tower_ground, refl, refl, all_within), tt), ((tt, tt), tt))))))))))))
+    (leads_to 2 (passing 10 3) refl refl, (leads_to 3 (passing 9 4) refl refl, (leads_to 4 (passing 8 5) refl refl, (leads_to 5 (passing 7 6) refl refl, (leads_to 6 (passing 6 7) refl refl, (leads_to 7 (passing 5 8) refl refl, (leads_to 8 (passing 4 9) refl refl, (leads_to 9 (passing 3 10) refl refl, (leads_to 10 (passing 2 11) refl refl, (leads_to 11 (passing 1 12) refl refl, (leads_to 12 tower_ground refl refl, ((tt, tt), tt))))))))))))
+
+there : (id : ℕ) (page : LivePage) → live_page tower_file id ≡ Some page → page.area ≡ whole_area 1 → HasFirst tower_file page.level
+there id page live whole = (id, page, live, refl, whole)
 
 covered : IsCovered tower_file
 covered = is_covered tower_meta all_pages (λ level. 12 - level)
     (first refl refl refl, (first refl refl refl, (first refl refl refl, (first refl refl refl, (first refl refl refl, (first refl refl refl, (first refl refl refl, (first refl refl refl, (first refl refl refl, (first refl refl refl, (first refl refl refl, (first refl refl refl, tt))))))))))))
-    ((1, passing 11 2, refl, refl, refl), ((2, passing 10 3, refl, refl, refl), ((3, passing 9 4, refl, refl, refl), ((4, passing 8 5, refl, refl, refl), ((5, passing 7 6, refl, refl, refl), ((6, passing 6 7, refl, refl, refl), ((7, passing 5 8, refl, refl, refl), ((8, passing 4 9, refl, refl, refl), ((9, passing 3 10, refl, refl, refl), ((10, passing 2 11, refl, refl, refl), ((11, passing 1 12, refl, refl, refl), ((12, tower_ground, refl, refl, refl), tt))))))))))))
+    (there 1 (passing 11 2) refl refl, (there 2 (passing 10 3) refl refl, (there 3 (passing 9 4) refl refl, (there 4 (passing 8 5) refl refl, (there 5 (passing 7 6) refl refl, (there 6 (passing 6 7) refl refl, (there 7 (passing 5 8) refl refl, (there 8 (passing 4 9) refl refl, (there 9 (passing 3 10) refl refl, (there 10 (passing 2 11) refl refl, (there 11 (passing 1 12) refl refl, (there 12 tower_ground refl refl, tt))))))))))))
 
 pub tower_is_sound : IsSound tower_file
 tower_is_sound = record {
   rooted = record { numbered = refl; some = omega arith; high = omega arith; root = omega arith; free = omega arith; live = omega arith; top = (passing 11 2, refl, refl, refl) };
   counted = counted tower_meta all_pages refl refl;
-  well_made = made;
-  siblings = siblings;
+  well_made = each_page tower_meta all_pages (λ id page. FitsFile tower_meta page) (all_fit 11 1 (omega arith));
+  siblings = siblings_match tower_meta all_pages (no_siblings 11 1);
   children = children;
   covered = covered;
 }
