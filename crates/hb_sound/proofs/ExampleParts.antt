@@ -1,7 +1,7 @@
 -- What the examples have in common: a file whose pages are all in use, and boxes of one attribute.
-use Rattle.std.proofs.Common.{◌≡◌, ◌≢◌, ◌⊎◌, inl, inr, ℕ, zero, suc, ◌+◌, ◌<◌, ◌-◌, ◌≤◌, ◌^◌, List, [], ◌∷◌, map, length, slice_get, slice_index, All, AllPairs, Contains, Some, refl, sym, ap, subst, ◌∙◌, arith}
+use Rattle.std.proofs.Common.{◌≡◌, ◌≢◌, ◌⊎◌, inl, inr, ℕ, zero, suc, ◌+◌, ◌<◌, ◌-◌, ◌≤◌, ◌^◌, List, [], ◌∷◌, map, slice_get, slice_index, All, AllPairs, Contains, Some, refl, sym, ap, subst, ◌∙◌, arith}
 use Rattle.std.specs.List.{AllByRecursion}
-use Rattle.std.proofs.lemmas.List.Elements.{All-contains, All-cons}
+use Rattle.std.proofs.lemmas.List.Elements.{All-contains}
 use Rattle.std.proofs.lemmas.List.Kept.{AllPairs-cons}
 use Rattle.std.proofs.lemmas.Bool.{cases_eq}
 use Rattle.hb_space.specs.Boxes.{Area, Cuts, Holds, Within, whole_area}
@@ -9,10 +9,9 @@ use Rattle.hb_space.specs.declared.records.Record.{Record}
 use Rattle.hb_frag.specs.declared.leaves.Leaf.{Leaf}
 use Rattle.hb_frag.specs.declared.leaves.Leaf.TheVariants.{Records, Child, Sibling}
 use Rattle.hb_frag.specs.declared.pages.LivePage.{LivePage}
-use Rattle.hb_frag.specs.declared.pages.Page.{Page}
 use Rattle.hb_frag.specs.declared.pages.Page.TheVariants.{Live, Free}
-use Rattle.hb_frag.specs.Leaves.{Placed, leaves, leaves_of, siblings_of}
-use Rattle.hb_frag.specs.Rules.{BelongsAt, IsInOrder, Precedes}
+use Rattle.hb_frag.specs.Leaves.{Placed, leaves_of, siblings_of}
+use Rattle.hb_frag.specs.Rules.{IsInOrder, Precedes}
 use Rattle.hb_ops.specs.declared.meta.Meta.{Meta}
 use Rattle.hb_ops.specs.Files.{FileState, live_page, page_of}
 use Rattle.hb_ops.specs.Sound.{ChildrenMatch, IsCovered, IsCounted, SiblingsMatch, count_live, times_named}

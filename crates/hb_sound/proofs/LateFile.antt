@@ -1,13 +1,11 @@
 -- That the file with late postings is sound, page by page.
-use Rattle.std.proofs.Common.{◌≡◌, ℕ, zero, suc, ◌+◌, ◌*◌, ◌<◌, ◌-◌, ◌≤◌, ◌^◌, List, [], ◌∷◌, All, Some, refl, arith}
-use Rattle.hb_space.specs.Boxes.{Area}
-use Rattle.hb_frag.specs.declared.leaves.Leaf.TheVariants.{Records, Child, Sibling}
+use Rattle.std.proofs.Common.{◌*◌, ◌-◌, List, [], ◌∷◌, refl, arith}
 use Rattle.hb_frag.specs.declared.pages.LivePage.{LivePage}
 use Rattle.hb_frag.specs.Leaves.{leaves, leaves_of}
 use Rattle.hb_frag.specs.Rules.{BelongsAt, IsInOrder}
 use Rattle.hb_ops.specs.Sound.{AreWellMade, ChildrenMatch, FitsFile, IsCovered, IsSound, SiblingsMatch}
 use Rattle.hb_sound.specs.LateFile.{late_aside, late_beside, late_file, late_highest, late_inner, late_lowest, late_meta, late_middle, late_root, late_shared}
-use Rattle.hb_sound.proofs.ExampleParts.{HasChildren, HasPlace, HasSiblings, children_match, counted, cuts, each_at, each_page, first, held, in_order, interval, is_covered, later, no_records, none_given, not_whole, siblings_match, top, within}
+use Rattle.hb_sound.proofs.ExampleParts.{HasChildren, children_match, counted, cuts, each_at, each_page, first, held, in_order, interval, is_covered, later, no_records, none_given, not_whole, siblings_match, top, within}
 
 abbrev all_pages : List LivePage
 all_pages = late_root ∷ late_beside ∷ late_middle ∷ late_aside ∷ late_lowest ∷ late_shared ∷ late_highest ∷ late_inner ∷ []

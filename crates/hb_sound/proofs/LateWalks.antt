@@ -1,7 +1,7 @@
 -- The walks of the file with late postings, step by step, and the pages where they end.
-use Rattle.std.proofs.Common.{◌≡◌, ℕ, ◌+◌, ◌<◌, ◌⊎◌, inl, inr, ◌-◌, ◌≤◌, ◌^◌, List, [], ◌∷◌, All, Some, refl, arith}
+use Rattle.std.proofs.Common.{◌≡◌, ℕ, inl, inr, [], ◌∷◌, Some, refl, arith}
 use Rattle.hb_space.specs.Boxes.{Area, Holds}
-use Rattle.hb_frag.specs.declared.leaves.Leaf.TheVariants.{Records, Child, Sibling}
+use Rattle.hb_frag.specs.declared.leaves.Leaf.TheVariants.{Child, Sibling}
 use Rattle.hb_frag.specs.declared.pages.LivePage.{LivePage}
 use Rattle.hb_frag.specs.Leaves.{leaf_at, siblings_of}
 use Rattle.hb_ops.specs.Files.{live_page}

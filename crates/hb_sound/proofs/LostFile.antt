@@ -1,16 +1,13 @@
 -- That the file without a posting is sound, page by page.
-use Rattle.std.proofs.Common.{◌≡◌, ℕ, zero, suc, ◌+◌, ◌<◌, ◌⊎◌, inl, inr, ◌-◌, ◌≤◌, ◌^◌, List, [], ◌∷◌, slice_get, All, Some, refl, arith}
-use Rattle.hb_space.specs.Boxes.{Area, Holds, whole_area}
-use Rattle.hb_space.specs.declared.records.Record.{Record}
-use Rattle.hb_frag.specs.declared.leaves.Leaf.TheVariants.{Records, Child, Sibling}
+use Rattle.std.proofs.Common.{ℕ, inl, inr, ◌-◌, List, [], ◌∷◌, refl, arith}
+use Rattle.hb_space.specs.Boxes.{Area, Holds}
 use Rattle.hb_frag.specs.declared.pages.LivePage.{LivePage}
 use Rattle.hb_frag.specs.Leaves.{leaves, leaves_of}
 use Rattle.hb_frag.specs.Rules.{BelongsAt, IsInOrder}
-use Rattle.hb_ops.specs.Files.{live_page}
 use Rattle.hb_ops.specs.Sound.{FitsFile, IsSound, SiblingsMatch, ChildrenMatch, IsCovered}
 use Rattle.hb_sound.specs.LostFile.{lost_file, lost_first, lost_last, lost_meta, lost_root, lost_second, lost_third}
 use Rattle.hb_sound.specs.PointWalks.{IsResponsible, IsWholeWalk}
-use Rattle.hb_sound.proofs.ExampleParts.{HasPlace, HasChildren, HasSiblings, children_match, counted, cuts, each_at, each_page, first, held, in_order, interval, is_covered, later, no_records, none_given, not_whole, siblings_match, top, within}
+use Rattle.hb_sound.proofs.ExampleParts.{children_match, counted, cuts, each_at, each_page, first, held, in_order, interval, is_covered, later, no_records, none_given, not_whole, siblings_match, top, within}
 
 abbrev all_pages : List LivePage
 all_pages = lost_root ∷ lost_first ∷ lost_second ∷ lost_third ∷ lost_last ∷ []

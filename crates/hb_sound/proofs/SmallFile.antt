@@ -1,15 +1,15 @@
 -- That the file of the example is sound, page by page.
-use Rattle.std.proofs.Common.{◌≡◌, ℕ, zero, suc, ◌+◌, ◌<◌, ◌⊎◌, inl, inr, ◌-◌, ◌≤◌, ◌^◌, List, [], ◌∷◌, All, Some, refl, arith}
+use Rattle.std.proofs.Common.{ℕ, inl, inr, ◌-◌, List, [], ◌∷◌, refl, arith}
 use Rattle.hb_space.specs.Boxes.{Area, Holds}
 use Rattle.hb_space.specs.declared.records.Record.{Record}
-use Rattle.hb_frag.specs.declared.leaves.Leaf.TheVariants.{Records, Child, Sibling}
+use Rattle.hb_frag.specs.declared.leaves.Leaf.TheVariants.{Records}
 use Rattle.hb_frag.specs.declared.pages.LivePage.{LivePage}
 use Rattle.hb_frag.specs.Leaves.{leaves, leaves_of, siblings_of}
 use Rattle.hb_frag.specs.Rules.{BelongsAt, IsInOrder}
 use Rattle.hb_ops.specs.Sound.{AreWellMade, ChildrenMatch, FitsFile, IsCovered, IsSound, SiblingsMatch}
 use Rattle.hb_sound.specs.Examples.{small_file, small_left, small_meta, small_right, small_root}
 use Rattle.hb_sound.specs.PointWalks.{IsResponsible, IsWholeWalk, Sees}
-use Rattle.hb_sound.proofs.ExampleParts.{HasChildren, HasPlace, HasSiblings, below_all, children_match, counted, cuts, each_at, each_page, first, held, in_order, interval, is_covered, later, no_records, none_given, not_whole, siblings_match, top, within}
+use Rattle.hb_sound.proofs.ExampleParts.{HasChildren, below_all, children_match, counted, cuts, each_at, each_page, first, held, in_order, interval, is_covered, later, no_records, none_given, not_whole, siblings_match, top, within}
 
 abbrev all_pages : List LivePage
 all_pages = small_root ∷ small_left ∷ small_right ∷ []

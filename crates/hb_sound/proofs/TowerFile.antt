@@ -1,15 +1,14 @@
 -- That the high file is sound, and its walk down.
-use Rattle.std.proofs.Common.{◌≡◌, ℕ, zero, suc, ◌+◌, ◌<◌, ◌⊎◌, inl, inr, ◌-◌, ◌≤◌, ◌==◌, ◌^◌, true, false, if◌then◌else◌, List, [], ◌∷◌, All, Some, refl, sym, subst, arith}
+use Rattle.std.proofs.Common.{◌≡◌, ℕ, zero, suc, ◌+◌, ◌<◌, inl, ◌-◌, ◌≤◌, ◌==◌, true, false, if◌then◌else◌, List, [], ◌∷◌, Some, refl, sym, subst, arith}
 use Rattle.hb_space.specs.Boxes.{Area, Holds, Within, whole_area}
-use Rattle.hb_frag.specs.declared.leaves.Leaf.TheVariants.{Records, Child}
 use Rattle.hb_frag.specs.declared.pages.LivePage.{LivePage}
 use Rattle.hb_frag.specs.Leaves.{leaves, leaves_of}
 use Rattle.hb_frag.specs.Rules.{BelongsAt, IsInOrder, capacity_of}
 use Rattle.hb_ops.specs.Files.{live_page}
-use Rattle.hb_ops.specs.Sound.{AreWellMade, FitsFile, IsSound, SiblingsMatch, ChildrenMatch, IsCovered}
+use Rattle.hb_ops.specs.Sound.{FitsFile, IsSound, ChildrenMatch, IsCovered}
 use Rattle.hb_sound.specs.TowerFile.{passing, tower_file, tower_ground, tower_meta}
 use Rattle.hb_sound.specs.PointWalks.{IsResponsible, IsWholeWalk, LeadsOn}
-use Rattle.hb_sound.proofs.ExampleParts.{AllNumbered, HasChildren, HasFirst, HasPlace, HasSiblings, children_match, counted, each_at, each_page, first, held, in_order, interval, is_covered, no_records, siblings_match, top, within}
+use Rattle.hb_sound.proofs.ExampleParts.{AllNumbered, HasChildren, HasFirst, HasSiblings, children_match, counted, each_at, each_page, first, held, in_order, interval, is_covered, no_records, siblings_match, top, within}
 
 -- the pages from a level down, the first of which has the number
 abbrev pages_from : ℕ → ℕ → List LivePage
