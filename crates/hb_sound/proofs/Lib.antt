@@ -9,6 +9,11 @@ pub mod WalkSteps
 pub mod OneWalk
 pub mod RecordsAtHome
 pub mod Partition
+pub mod ExampleParts
 pub mod SmallFile
 pub mod SettledWalks
 pub mod OneParent
+pub mod LostFile
+pub mod LateFile
+pub mod LateWalks
+pub mod TowerFile
