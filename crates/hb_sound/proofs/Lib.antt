@@ -9,3 +9,6 @@ pub mod WalkSteps
 pub mod OneWalk
 pub mod RecordsAtHome
 pub mod Partition
+pub mod LeafHalves
+pub mod CutLeaves
+pub mod CutShapes

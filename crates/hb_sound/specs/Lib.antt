@@ -1,2 +1,4 @@
 pub mod PointWalks
 pub mod Laws
+pub mod Splitting
+pub mod Extractions
