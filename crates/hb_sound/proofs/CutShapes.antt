@@ -9,7 +9,7 @@ use Rattle.hb_frag.specs.declared.paths.Side.{Side}
 use Rattle.hb_frag.specs.declared.paths.Side.TheVariants.{Left, Right}
 use Rattle.hb_frag.specs.Trees.{Tree, Tip, Cut}
 use Rattle.hb_frag.specs.Leaves.{Placed, leaves_of, siblings, weight_of}
-use Rattle.hb_frag.specs.Rules.{AreAlike, IsNormal}
+use Rattle.hb_frag.specs.Rules.{AreAlike, IsNormal, IsSiblingTip}
 use Rattle.hb_ops.specs.Sound.{count_name}
 use Rattle.hb_sound.specs.Splitting.{LeafCut, PartLeaves, PartsLeaf, area_on, cut_through, cut_with, going, half_area, half_on, is_on, other_side, reached, staying}
 use Rattle.hb_sound.proofs.LeafHalves.{both_halves}
@@ -47,6 +47,15 @@ with_like_none Right axis value on off = cut_like_none axis value off on
 pub through_like_none : (fresh : ℕ) (cuts : List LeafCut) (tree : Tree) → LikeNone (cut_through cuts tree (Tip (Sibling fresh)))
 through_like_none fresh [] tree = λ other. (after_sibling fresh other, before_sibling fresh other)
 through_like_none fresh (cut ∷ cuts) tree = with_like_none cut.side cut.axis cut.value (cut_through cuts (going cut tree) (Tip (Sibling fresh))) (staying cut tree)
+
+-- a leaf that is cut isn't a lone leaf
+with_not_lone : (side : Side) (axis value : ℕ) (on off : Tree) → IsSiblingTip (cut_with side axis value on off) → ⊥
+with_not_lone Left axis value on off h = h
+with_not_lone Right axis value on off h = h
+
+pub not_lone_end : (fresh : ℕ) (cuts : List LeafCut) (tree : Tree) → (cuts ≡ [] → ⊥) → IsSiblingTip (cut_through cuts tree (Tip (Sibling fresh))) → ⊥
+not_lone_end fresh [] tree some h = some refl
+not_lone_end fresh (cut ∷ cuts) tree some h = with_not_lone cut.side cut.axis cut.value (cut_through cuts (going cut tree) (Tip (Sibling fresh))) (staying cut tree) h
 
 -- so both are normal
 normal_with : (side : Side) (axis value : ℕ) (on off : Tree) → LikeNone on → IsNormal on → IsNormal off → IsNormal (cut_with side axis value on off)

@@ -12,3 +12,5 @@ pub mod Partition
 pub mod LeafHalves
 pub mod CutLeaves
 pub mod CutShapes
+pub mod PathParts
+pub mod PagesParted
