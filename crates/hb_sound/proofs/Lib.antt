@@ -14,3 +14,4 @@ pub mod CutLeaves
 pub mod CutShapes
 pub mod PathParts
 pub mod PagesParted
+pub mod PageLists

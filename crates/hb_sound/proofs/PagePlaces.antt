@@ -9,11 +9,11 @@ use Rattle.hb_ops.specs.Files.{FileState, if_live, live_page, page_at}
 use Rattle.hb_sound.proofs.Widths.{width}
 
 -- no page has the number 0, and the page of another number stands one place before
-page_at-zero : (pages : List Page) → page_at pages 0 ≡ None
+pub page_at-zero : (pages : List Page) → page_at pages 0 ≡ None
 page_at-zero [] = refl
 page_at-zero (page ∷ rest) = refl
 
-page_at-suc : (pages : List Page) (n : ℕ) → page_at pages (suc n) ≡ slice_get pages n
+pub page_at-suc : (pages : List Page) (n : ℕ) → page_at pages (suc n) ≡ slice_get pages n
 page_at-suc [] n = refl
 page_at-suc (page ∷ rest) zero = refl
 page_at-suc (page ∷ rest) (suc n) =
@@ -22,7 +22,7 @@ page_at-suc (page ∷ rest) (suc n) =
     ∙ ap (page_at rest) (let e : suc (suc n) - 1 ≡ suc n = omega arith in e)
     ∙ page_at-suc rest n
 
-live_so : (o : Option Page) (page : LivePage) → if_live o ≡ Some page → o ≡ Some (Live page)
+pub live_so : (o : Option Page) (page : LivePage) → if_live o ≡ Some page → o ≡ Some (Live page)
 live_so None page e = cc
 live_so (Some (Live q)) page e = let same : q ≡ page = cc in ap (λ (x : LivePage). Some (Live x)) same
 live_so (Some (Free next)) page e = cc
