@@ -15,3 +15,4 @@ pub mod CutShapes
 pub mod PathParts
 pub mod PagesParted
 pub mod PageLists
+pub mod FileParted

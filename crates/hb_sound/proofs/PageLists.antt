@@ -12,11 +12,11 @@ use Rattle.hb_ops.specs.Sound.{count_live, count_name, times_named}
 use Rattle.hb_sound.proofs.PagePlaces.{page_at-suc, page_at-zero}
 
 -- what a page adds to the pages in use, and to the names
-abbrev lives : Page → ℕ
+abbrev pub lives : Page → ℕ
 lives (Live page) = 1
 lives (Free next) = 0
 
-abbrev names_in : ℕ → Page → ℕ
+abbrev pub names_in : ℕ → Page → ℕ
 names_in id (Live page) = count_name id (siblings_of page)
 names_in id (Free next) = 0
 
