@@ -16,3 +16,4 @@ pub mod PathParts
 pub mod PagesParted
 pub mod PageLists
 pub mod FileParted
+pub mod SplitChains
