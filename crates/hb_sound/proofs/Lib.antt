@@ -17,3 +17,4 @@ pub mod PagesParted
 pub mod PageLists
 pub mod FileParted
 pub mod SplitChains
+pub mod SplitSound

@@ -11,7 +11,9 @@ use Rattle.hb_ops.specs.Operations.{IsAllowed, effect_of}
 use Rattle.hb_ops.specs.Sound.{IsSound}
 use Rattle.hb_ops.specs.LawsOfContents.{OthersLack}
 use Rattle.hb_ops.specs.Standing.{StandsThere, StandsNot}
+use Rattle.hb_sound.specs.Extractions.{LicensesExtraction, MayExtract, extracted}
 use Rattle.hb_sound.specs.PointWalks.{IsPointOf, HasOn, HasWalk, IsResponsible, IsWholeWalk, LeadsFurther, LeadsOn}
+use Rattle.hb_sound.specs.Splitting.{Extraction}
 
 -- On each level some page directly holds each point of the space, and no other page of the level does.
 abbrev pub EachPointIsHeld : Type 0
@@ -58,3 +60,7 @@ PutsAddOne = (s : FileState) (id : ℕ) (rec : Record) → IsSound s → IsPoint
 abbrev pub DelsTakeOne : Type 0
 DelsTakeOne = (s : FileState) (id : ℕ) (point : List ℕ) → IsSound s → IsPointOf s point → IsAllowed s (Del id point) →
     ((body : List ℕ) × (finite.get (contents_of s) point ≡ Some body)) × (contents_of (effect_of s (Del id point)) ≡ finite.remove (contents_of s) point)
+
+-- A split that is allowed and licensed leaves a sound file sound.
+abbrev pub SplitsKeepSound : Type 0
+SplitsKeepSound = (s : FileState) (x : Extraction) → IsSound s → MayExtract s x → LicensesExtraction s x → IsSound (extracted s x)
