@@ -1,9 +1,9 @@
 //! What follows of a sound file, whatever was done to it. Each law is the contract of a function
 //! that does nothing: a caller learns it by the call.
 
-ghost use Rattle.hb_sound.specs.Laws.{DelsTakeOne, EachPageHasWalks, EachPointIsHeld, LackIsContents, NoPointIsHeldTwice, PagesHaveBoxes, PutsAddOne, RecordsAreAtHome, RootHasWalks, StandingIsContents, StepsLeadFurther, WalksAreOne};
+ghost use Rattle.hb_sound.specs.Laws.{DelsTakeOne, EachPageHasWalks, EachPointIsHeld, LackIsContents, NoPointIsHeldTwice, PagesHaveBoxes, PutsAddOne, RecordsAreAtHome, RootHasWalks, SplitsKeepSound, StandingIsContents, StepsLeadFurther, WalksAreOne};
 
-use hb_frag::laws::{each_point_has_one_leaf, leaves_part_the_box};
+use hb_frag::laws::{each_point_has_one_leaf, leaves_part_the_box, parts_are_stretches};
 use hb_ops::{delete_takes_one_record, put_adds_one_record, what_stands_is_in_the_contents};
 use hb_space::laws::whole_space_holds_every_point;
 
@@ -82,4 +82,14 @@ pub fn each_page_has_a_box()
     leaves_part_the_box();
     each_point_has_one_leaf();
     whole_space_holds_every_point();
+}
+
+/// A split moves a part of a page into a page of its own and leaves a sibling leaf in its place. Where
+/// it is allowed and licensed, a sound file stays sound.
+pub fn a_split_keeps_a_file_sound()
+    ensures sound { SplitsKeepSound }
+{
+    leaves_part_the_box();
+    each_point_has_one_leaf();
+    parts_are_stretches();
 }
