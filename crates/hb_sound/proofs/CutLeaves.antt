@@ -1,5 +1,5 @@
 -- A records leaf that is cut: where the leaves come from that are made of it, how they stand, and whom they name.
-use Rattle.std.proofs.Common.{◌≡◌, ℕ, zero, suc, ◌+◌, ◌<◌, ◌≤◌, ◌==◌, ◌⊎◌, inl, inr, cond, List, [], ◌∷◌, ◌++◌, length, filter, refl, sym, ap, subst, ◌∙◌, arith}
+use Rattle.std.proofs.Common.{◌≡◌, ℕ, zero, suc, ◌+◌, ◌<◌, ◌≤◌, ◌==◌, ◌⊎◌, inl, inr, Bool, true, false, cond, List, [], ◌∷◌, ◌++◌, length, filter, refl, sym, ap, subst, ◌∙◌, arith}
 use Rattle.std.specs.List.{All, Contains}
 use Rattle.std.proofs.lemmas.Grind.{common_steps}
 use Rattle.std.proofs.lemmas.List.Elements.{Contains-append_cases, Contains-append_left, Contains-append_right}
@@ -18,6 +18,28 @@ use Rattle.hb_sound.proofs.LeafHalves.{both_halves, half_in_order, side_attribut
 use Rattle.hb_sound.proofs.SiblingLeaves.{placed}
 use Rattle.hb_sound.proofs.Widths.{width}
 
+-- the element of a list of one
+pub only_one : {X : Type 0} (y x : X) → Contains (y ∷ []) x → y ≡ x
+only_one y x (zero, lt, e) = e
+only_one y x (suc k, lt, e) = absurd (omega arith)
+
+-- what a filter keeps was there, and stays where it passes
+filter_has : {X : Type 0} (p : X → Bool) (xs : List X) (x : X) → Contains (filter p xs) x → Contains xs x
+filter_has p [] x (k, lt, e) = absurd (omega arith)
+filter_has p (y ∷ ys) x has = elim (p y) as (λ b. Contains (cond b (y ∷ filter p ys) (filter p ys)) x → Contains (y ∷ ys) x) [
+  | true ↦ λ h. elim (Contains-append_cases (y ∷ []) (filter p ys) x h) [ inl l ↦ (zero, omega arith, only_one y x l) | inr r ↦ Contains-append_right (y ∷ []) ys x (filter_has p ys x r) ]
+  | false ↦ λ h. Contains-append_right (y ∷ []) ys x (filter_has p ys x h)
+] has
+
+pub filter_keeps : {X : Type 0} (p : X → Bool) (xs : List X) (x : X) → Contains xs x → p x ≡ true → Contains (filter p xs) x
+filter_keeps p [] x (k, lt, e) passes = absurd (omega arith)
+filter_keeps p (y ∷ ys) x (zero, lt, e) passes =
+    subst (λ (b : Bool). Contains (cond b (y ∷ filter p ys) (filter p ys)) x) (sym (ap p e ∙ passes)) (zero, omega arith, e)
+filter_keeps p (y ∷ ys) x (suc k, lt, e) passes = elim (p y) as (λ b. Contains (cond b (y ∷ filter p ys) (filter p ys)) x) [
+  | true ↦ Contains-append_right (y ∷ []) (filter p ys) x (filter_keeps p ys x (k, omega arith, e) passes)
+  | false ↦ filter_keeps p ys x (k, omega arith, e) passes
+]
+
 -- the leaf has some of the records of one of the old leaves, and is in order where that one is
 pub record IsShareOf (old : List Placed) (x : Placed) : Type 0 where
   pub records : List Record
@@ -25,15 +47,15 @@ pub record IsShareOf (old : List Placed) (x : Placed) : Type 0 where
   pub all : List Record
   pub area : Area
   pub there : Contains old (placed (Records all) area)
+  pub some : (r : Record) → Contains records r → Contains all r
   pub in_order : IsInOrder (placed (Records all) area) → IsInOrder x
 
 -- a leaf comes from old ones: it is one, or a share of one
 abbrev pub StemsFrom : List Placed → Placed → Type 0
 StemsFrom old x = Contains old x ⊎ IsShareOf old x
 
-pub only_one : (y x : Placed) → Contains (y ∷ []) x → y ≡ x
-only_one y x (zero, lt, e) = e
-only_one y x (suc k, lt, e) = absurd (omega arith)
+same_records : (xs ys : List Record) → Records ys ≡ Records xs → ys ≡ xs
+same_records xs ys e = cc
 
 from_records : (side : Side) (axis value : ℕ) (area : Area) (records : List Record) → Cuts area axis value → (x : Placed) → StemsFrom (placed (Records (filter (is_on side axis value) records)) (area_on side axis value area) ∷ []) x → StemsFrom (placed (Records records) area ∷ []) x
 from_records side axis value area records cuts x stems =
@@ -46,6 +68,7 @@ from_records side axis value area records cuts x stems =
         all = records;
         area = area;
         there = (zero, omega arith, refl);
+        some = λ r has. filter_has (is_on side axis value) records r has;
         in_order = λ h. subst IsInOrder is (half_in_order side axis value area records cuts h);
       })
       | inr w ↦ let is : one ≡ placed (Records w.all) w.area = only_one one (placed (Records w.all) w.area) w.there in inr (record {
@@ -54,6 +77,7 @@ from_records side axis value area records cuts x stems =
         all = records;
         area = area;
         there = (zero, omega arith, refl);
+        some = λ r has. filter_has (is_on side axis value) records r (subst (λ (rs : List Record). Contains rs r) (same_records half w.all (sym (ap (λ (l : Placed). l.leaf) is))) (w.some r has));
         in_order = λ h. w.in_order (subst IsInOrder is (half_in_order side axis value area records cuts h));
       })
     ]

@@ -37,6 +37,7 @@ stems_further front middle behind x stems = elim stems [
     all = w.all;
     area = w.area;
     there = Contains-append_left (front ++ middle) behind (placed (Records w.all) w.area) (Contains-append_right front middle (placed (Records w.all) w.area) w.there);
+    some = w.some;
     in_order = w.in_order;
   })
 ]
