@@ -18,3 +18,5 @@ pub mod PageLists
 pub mod FileParted
 pub mod SplitChains
 pub mod SplitSound
+pub mod RecordsStand
+pub mod RecordsParted

@@ -66,19 +66,19 @@ pub stems_sibling : (old : List Placed) (name : ℕ) (area : Area) → StemsFrom
 stems_sibling old name area stems = elim stems [ inl has ↦ has | inr w ↦ absurd (let e = w.leaf in let no : ⊥ = cc in no) ]
 
 module _ (laws : PartLaws) (meta : Meta) (x : Extraction) (page : LivePage) (part : Tree × Area) (made : FitsFile meta page) (fits : FitsPage x page part) where
-  abbrev old : List Placed
+  abbrev pub old : List Placed
   old = leaves_of page.frag page.area
 
-  abbrev fresh : LivePage
+  abbrev pub fresh : LivePage
   fresh = fresh_page x page part
 
-  abbrev source : LivePage
+  abbrev pub source : LivePage
   source = source_page x page part
 
-  abbrev opened : Tree
+  abbrev pub opened : Tree
   opened = cut_through x.cuts part.0 (Tip (Sibling x.fresh))
 
-  stretch : IsStretch x.path page.frag page.area part
+  pub stretch : IsStretch x.path page.frag page.area part
   stretch = laws.leaves x.path page.frag page.area part fits.there
 
   pub fresh_stems : (y : Placed) → Contains (leaves_of fresh.frag fresh.area) y → StemsFrom old y

@@ -39,14 +39,14 @@ named_none s id match vacant = elim (cases_lt 0 (times_named id s.pages)) [
 ]
 
 module _ (s : FileState) (x : Extraction) (pages : List Page) (page source fresh : LivePage) (allocates : Allocates s.meta x.fresh x.free_after) (parted : IsParted s (record { meta = allocated s.meta x.fresh x.free_after; pages = pages }) x page source fresh) (parts : ArePartsOf s.meta x.fresh page source fresh) where
-  abbrev after : FileState
+  abbrev pub after : FileState
   after = record { meta = allocated s.meta x.fresh x.free_after; pages = pages }
 
   fresh_live : live_page after x.fresh ≡ Some fresh
   fresh_live = ap if_live parted.fresh_now
 
   -- a page in use is the new one, the one that was split, or another of before
-  comes_from : (id : ℕ) (new : LivePage) → live_page after id ≡ Some new → (((id ≡ x.fresh) × (new ≡ fresh)) ⊎ ((new ≡ source) × (id ≡ x.source))) ⊎ (live_page s id ≡ Some new)
+  pub comes_from : (id : ℕ) (new : LivePage) → live_page after id ≡ Some new → (((id ≡ x.fresh) × (new ≡ fresh)) ⊎ ((new ≡ source) × (id ≡ x.source))) ⊎ (live_page s id ≡ Some new)
   comes_from id new live = elim (cases_eq id x.fresh) [
     | inl is ↦ inl (inl (is, same_Some new fresh (sym live ∙ ap (live_page after) is ∙ fresh_live)))
     | inr ne ↦ elim (cases_eq id x.source) [
