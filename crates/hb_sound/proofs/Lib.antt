@@ -20,3 +20,4 @@ pub mod SplitChains
 pub mod SplitSound
 pub mod RecordsStand
 pub mod RecordsParted
+pub mod SplitContents

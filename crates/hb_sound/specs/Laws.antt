@@ -64,3 +64,7 @@ DelsTakeOne = (s : FileState) (id : ℕ) (point : List ℕ) → IsSound s → Is
 -- A split that is allowed and licensed leaves a sound file sound.
 abbrev pub SplitsKeepSound : Type 0
 SplitsKeepSound = (s : FileState) (x : Extraction) → IsSound s → MayExtract s x → LicensesExtraction s x → IsSound (extracted s x)
+
+-- It leaves the contents as they are, where the file has a number of attributes that there may be.
+abbrev pub SplitsKeepContents : Type 0
+SplitsKeepContents = (s : FileState) (x : Extraction) → IsSound s → 1 ≤ s.meta.k → s.meta.k ≤ KMAX → MayExtract s x → LicensesExtraction s x → contents_of (extracted s x) ≡ contents_of s
