@@ -1,11 +1,11 @@
 //! What follows of a sound file, whatever was done to it. Each law is the contract of a function
 //! that does nothing: a caller learns it by the call.
 
-ghost use Rattle.hb_sound.specs.Laws.{DelsTakeOne, EachPageHasWalks, EachPointIsHeld, LackIsContents, NoPointIsHeldTwice, PagesHaveBoxes, PutsAddOne, RecordsAreAtHome, RootHasWalks, SplitsKeepSound, StandingIsContents, StepsLeadFurther, WalksAreOne};
+ghost use Rattle.hb_sound.specs.Laws.{DelsTakeOne, EachPageHasWalks, EachPointIsHeld, LackIsContents, NoPointIsHeldTwice, PagesHaveBoxes, PutsAddOne, RecordsAreAtHome, RootHasWalks, SplitsKeepContents, SplitsKeepSound, StandingIsContents, StepsLeadFurther, WalksAreOne};
 
 use hb_frag::laws::{each_point_has_one_leaf, leaves_part_the_box, parts_are_stretches};
 use hb_ops::{delete_takes_one_record, put_adds_one_record, what_stands_is_in_the_contents};
-use hb_space::laws::whole_space_holds_every_point;
+use hb_space::laws::{held_is_a_point, whole_space_holds_every_point};
 
 /// The pages of each level part the space: each point is directly held by one page of the level, and
 /// by no other one.
@@ -85,11 +85,15 @@ pub fn each_page_has_a_box()
 }
 
 /// A split moves a part of a page into a page of its own and leaves a sibling leaf in its place. Where
-/// it is allowed and licensed, a sound file stays sound.
+/// it is allowed and licensed, a sound file stays sound, and its contents stay as they are.
 pub fn a_split_keeps_a_file_sound()
     ensures sound { SplitsKeepSound }
+    ensures contents { SplitsKeepContents }
 {
     leaves_part_the_box();
     each_point_has_one_leaf();
     parts_are_stretches();
+    whole_space_holds_every_point();
+    held_is_a_point();
+    what_stands_is_in_the_contents();
 }
