@@ -21,3 +21,4 @@ pub mod SplitSound
 pub mod RecordsStand
 pub mod RecordsParted
 pub mod SplitContents
+pub mod SplitDirect

@@ -1,10 +1,11 @@
 -- What every sound file has, as laws.
-use Rattle.std.specs.Prelude.{◌≡◌, ℕ, ◌<◌, ◌≤◌, List, Some, None}
+use Rattle.std.specs.Prelude.{◌≡◌, ◌⊎◌, ◌↔◌, ℕ, ◌<◌, ◌≤◌, List, Some, None}
 use Rattle.std.specs.FinMap as finite
 use Rattle.hb_space.specs.declared.form.TheConstants.{KMAX}
 use Rattle.hb_space.specs.declared.records.Record.{Record}
 use Rattle.hb_space.specs.Boxes.{IsArea, Holds}
 use Rattle.hb_frag.specs.declared.pages.LivePage.{LivePage}
+use Rattle.hb_frag.specs.Leaves.{DirectlyHolds}
 use Rattle.hb_ops.specs.declared.operations.Op.TheVariants.{Put, Del}
 use Rattle.hb_ops.specs.Files.{FileState, live_page, contents_of}
 use Rattle.hb_ops.specs.Operations.{IsAllowed, effect_of}
@@ -68,3 +69,11 @@ SplitsKeepSound = (s : FileState) (x : Extraction) → IsSound s → MayExtract 
 -- It leaves the contents as they are, where the file has a number of attributes that there may be.
 abbrev pub SplitsKeepContents : Type 0
 SplitsKeepContents = (s : FileState) (x : Extraction) → IsSound s → 1 ≤ s.meta.k → s.meta.k ≤ KMAX → MayExtract s x → LicensesExtraction s x → contents_of (extracted s x) ≡ contents_of s
+
+-- What a page directly held, it or the page that was made directly holds afterwards, and not both.
+abbrev pub HasDirectly : FileState → ℕ → List ℕ → Type 0
+HasDirectly s id p = (page : LivePage) × (live_page s id ≡ Some page) × DirectlyHolds page p
+
+abbrev pub SplitsPartDirect : Type 0
+SplitsPartDirect = (s : FileState) (x : Extraction) (p : List ℕ) → IsSound s → IsPointOf s p → MayExtract s x → LicensesExtraction s x →
+    (HasDirectly s x.source p ↔ (HasDirectly (extracted s x) x.source p ⊎ HasDirectly (extracted s x) x.fresh p)) × (HasDirectly (extracted s x) x.source p → HasDirectly (extracted s x) x.fresh p → ⊥)
