@@ -1,5 +1,5 @@
 -- A split leaves the contents as they are: each record stands in a leaf before exactly where it does afterwards.
-use Rattle.std.proofs.Common.{◌≡◌, ◌≢◌, ℕ, ◌+◌, ◌≤◌, ◌⊎◌, inl, inr, List, Option, Some, None, refl, sym, ap, subst, ◌∙◌}
+use Rattle.std.proofs.Common.{◌≡◌, ◌≢◌, ℕ, ◌+◌, ◌<◌, ◌≤◌, ◌⊎◌, inl, inr, List, [], ◌∷◌, length, Option, Some, None, refl, sym, ap, subst, ◌∙◌, arith}
 use Rattle.std.specs.FinMap as finite
 use Rattle.std.proofs.lemmas.Bool.{cases_eq}
 use Rattle.std.proofs.lemmas.Cmp.{nat_list_cmp_total}
@@ -11,7 +11,7 @@ use Rattle.hb_frag.specs.declared.pages.LivePage.{LivePage}
 use Rattle.hb_frag.specs.declared.pages.Page.{Page}
 use Rattle.hb_frag.specs.Leaves.{leaves_of}
 use Rattle.hb_ops.specs.Files.{FileState, contents_of, if_live, live_page}
-use Rattle.hb_ops.specs.Sound.{IsSound}
+use Rattle.hb_ops.specs.Sound.{FitsFile, IsSound}
 use Rattle.hb_ops.specs.Standing.{RecordsAreContents}
 use Rattle.hb_sound.specs.Extractions.{LicensesExtraction, MayExtract, extracted, fresh_page, source_page}
 use Rattle.hb_sound.specs.Laws.{SplitsKeepContents}
@@ -24,6 +24,7 @@ use Rattle.hb_sound.proofs.RecordsParted.{AmongLeaves, ShareRecords, share_recor
 use Rattle.hb_sound.proofs.RecordsStand.{HasRecord, contents_stand, exact_points, stands_at}
 use Rattle.hb_sound.proofs.SplitChains.{not_fresh, same_Some}
 use Rattle.hb_sound.proofs.SplitSound.{comes_from, splits_keep_sound}
+use Rattle.hb_sound.proofs.Widths.{width, width_between}
 
 -- a record of a leaf of a page is one of the file
 in_file : (s : FileState) (id : ℕ) (page : LivePage) (r : Record) → live_page s id ≡ Some page → page.level ≡ 0 → AmongLeaves (leaves_of page.frag page.area) r → HasRecord s r
@@ -59,6 +60,17 @@ module _ (s : FileState) (x : Extraction) (pages : List Page) (page source fresh
     | inr was ↦ in_file s h.id h.page r was h.level (among_of after r h)
   ]
 
+-- a box that is wider than something has an attribute, and so has a file with a page that is split
+wide_has_some : (a : Area) (n : ℕ) → n < width a → 1 ≤ length a.lo
+wide_has_some a n lt = some_of a.lo a.hi n lt
+  where
+    some_of : (lo hi : List ℕ) (n : ℕ) → n < width_between lo hi → 1 ≤ length lo
+    some_of [] hi n lt = absurd (omega arith)
+    some_of (l ∷ lo) hi n lt = omega arith
+
+has_attributes : (s : FileState) (x : Extraction) (page source fresh : LivePage) → FitsFile s.meta page → ArePartsOf s.meta x.fresh page source fresh → 1 ≤ s.meta.k
+has_attributes s x page source fresh made parts = let some = wide_has_some page.area (width fresh.area) parts.narrower in let k = made.fits.attributes in omega (arith, some, k)
+
 -- two sound files with the same records have the same contents
 same_options : {A : Type 0} (a b : Option A) → ((v : A) → a ≡ Some v → b ≡ Some v) → ((v : A) → b ≡ Some v → a ≡ Some v) → a ≡ b
 same_options (Some v) b there back = sym (there v refl)
@@ -83,12 +95,13 @@ module _ (trees : TreeLaws) (space : SpaceLaws) (points : (a : Area) (p : List �
       (body_stays s t sound' (subst (λ (n : ℕ). 1 ≤ n) (sym k) some) (subst (λ (n : ℕ). n ≤ KMAX) (sym k) few) stays q))
 
   pub splits_keep_contents : PartLaws → SplitsKeepContents
-  splits_keep_contents laws s x sound some few may licensed =
+  splits_keep_contents laws s x sound few may licensed =
       let parts = parts_of laws s.meta x may.page may.part may.made may.fits in
       let source = source_page x may.page may.part in
       let fresh = fresh_page x may.page may.part in
       let parted = is_parted s x may.page source fresh sound.rooted.numbered may.allocates licensed may.live in
       let after = parted_file s x may.page source fresh sound.rooted.numbered may.allocates licensed may.live in
+      let some = has_attributes s x may.page source fresh may.made parts in
       let share = share_records laws s.meta x may.page may.part may.made may.fits in
       let is = extracted_so s x may.page may.part may.live may.fits in
       let sound' : IsSound after = subst IsSound is (splits_keep_sound trees laws s x sound may licensed) in

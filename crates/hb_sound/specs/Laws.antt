@@ -66,9 +66,9 @@ DelsTakeOne = (s : FileState) (id : ℕ) (point : List ℕ) → IsSound s → Is
 abbrev pub SplitsKeepSound : Type 0
 SplitsKeepSound = (s : FileState) (x : Extraction) → IsSound s → MayExtract s x → LicensesExtraction s x → IsSound (extracted s x)
 
--- It leaves the contents as they are, where the file has a number of attributes that there may be.
+-- It leaves the contents as they are, where the file has no more attributes than there may be.
 abbrev pub SplitsKeepContents : Type 0
-SplitsKeepContents = (s : FileState) (x : Extraction) → IsSound s → 1 ≤ s.meta.k → s.meta.k ≤ KMAX → MayExtract s x → LicensesExtraction s x → contents_of (extracted s x) ≡ contents_of s
+SplitsKeepContents = (s : FileState) (x : Extraction) → IsSound s → s.meta.k ≤ KMAX → MayExtract s x → LicensesExtraction s x → contents_of (extracted s x) ≡ contents_of s
 
 -- What a page directly held, it or the page that was made directly holds afterwards, and not both.
 abbrev pub HasDirectly : FileState → ℕ → List ℕ → Type 0
