@@ -1,20 +1,17 @@
 -- A records leaf that is cut: where the leaves come from that are made of it, how they stand, and whom they name.
-use Rattle.std.proofs.Common.{◌≡◌, ℕ, zero, suc, ◌+◌, ◌<◌, ◌≤◌, ◌==◌, ◌⊎◌, inl, inr, Bool, true, false, cond, List, [], ◌∷◌, ◌++◌, length, filter, refl, sym, ap, subst, ◌∙◌, arith}
-use Rattle.std.specs.List.{All, Contains}
-use Rattle.std.proofs.lemmas.Grind.{common_steps}
-use Rattle.std.proofs.lemmas.List.Elements.{Contains-append_cases, Contains-append_left, Contains-append_right}
+use Rattle.std.proofs.Common.{◌≡◌, ℕ, zero, suc, ◌<◌, ◌≤◌, ◌⊎◌, inl, inr, Bool, true, false, cond, List, [], ◌∷◌, length, filter, refl, sym, ap, subst, ◌∙◌, arith}
+use Rattle.std.specs.List.{Contains}
+use Rattle.std.proofs.lemmas.List.Elements.{Contains-append_cases, Contains-append_right}
 use Rattle.hb_space.specs.Boxes.{Area, Cuts, side_below, side_from}
 use Rattle.hb_space.specs.declared.records.Record.{Record}
-use Rattle.hb_frag.specs.declared.leaves.Leaf.{Leaf}
-use Rattle.hb_frag.specs.declared.leaves.Leaf.TheVariants.{Records, Child, Sibling}
+use Rattle.hb_frag.specs.declared.leaves.Leaf.TheVariants.{Records, Sibling}
 use Rattle.hb_frag.specs.declared.paths.Side.{Side}
 use Rattle.hb_frag.specs.declared.paths.Side.TheVariants.{Left, Right}
-use Rattle.hb_frag.specs.Trees.{Tree, Tip, Cut}
-use Rattle.hb_frag.specs.Leaves.{Placed, IsWellCut, leaves_of, siblings, weight_of}
-use Rattle.hb_frag.specs.Rules.{AreAlike, IsInOrder, IsNormal}
-use Rattle.hb_ops.specs.Sound.{count_name}
+use Rattle.hb_frag.specs.Trees.{Tree, Tip}
+use Rattle.hb_frag.specs.Leaves.{Placed, IsWellCut, leaves_of}
+use Rattle.hb_frag.specs.Rules.{IsInOrder}
 use Rattle.hb_sound.specs.Splitting.{LeafCut, PartLeaves, PartsLeaf, area_on, cut_through, cut_with, going, half_area, half_on, is_on, other_side, reached, staying}
-use Rattle.hb_sound.proofs.LeafHalves.{both_halves, half_in_order, side_attributes, side_narrower}
+use Rattle.hb_sound.proofs.LeafHalves.{half_in_order, side_attributes, side_narrower}
 use Rattle.hb_sound.proofs.SiblingLeaves.{placed}
 use Rattle.hb_sound.proofs.Widths.{width}
 

@@ -1,8 +1,7 @@
 -- A records leaf that is cut: no cut of it has two like sides, it is no heavier, and its end names the new page once.
-use Rattle.std.proofs.Common.{◌≡◌, ℕ, ◌+◌, ◌≤◌, ◌==◌, cond, List, [], ◌∷◌, ◌++◌, length, filter, refl, ap, ◌∙◌, sym, arith}
+use Rattle.std.proofs.Common.{◌≡◌, ℕ, ◌+◌, ◌≤◌, ◌==◌, cond, List, [], ◌∷◌, ◌++◌, refl, ap, arith}
 use Rattle.std.proofs.lemmas.Grind.{common_steps}
 use Rattle.hb_space.specs.Boxes.{Area, side_below, side_from}
-use Rattle.hb_space.specs.declared.records.Record.{Record}
 use Rattle.hb_frag.specs.declared.leaves.Leaf.{Leaf}
 use Rattle.hb_frag.specs.declared.leaves.Leaf.TheVariants.{Records, Child, Sibling}
 use Rattle.hb_frag.specs.declared.paths.Side.{Side}
@@ -11,7 +10,7 @@ use Rattle.hb_frag.specs.Trees.{Tree, Tip, Cut}
 use Rattle.hb_frag.specs.Leaves.{Placed, leaves_of, siblings, weight_of}
 use Rattle.hb_frag.specs.Rules.{AreAlike, IsNormal, IsSiblingTip}
 use Rattle.hb_ops.specs.Sound.{count_name}
-use Rattle.hb_sound.specs.Splitting.{LeafCut, PartLeaves, PartsLeaf, area_on, cut_through, cut_with, going, half_area, half_on, is_on, other_side, reached, staying}
+use Rattle.hb_sound.specs.Splitting.{LeafCut, PartLeaves, PartsLeaf, area_on, cut_through, cut_with, going, half_area, other_side, reached, staying}
 use Rattle.hb_sound.proofs.LeafHalves.{both_halves}
 use Rattle.hb_sound.proofs.SiblingLeaves.{placed}
 

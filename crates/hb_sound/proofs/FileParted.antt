@@ -1,9 +1,8 @@
 -- The file after a split: what stands under each number, how many pages are in use, and how often each is named.
-use Rattle.std.proofs.Common.{◌≡◌, ◌≢◌, ℕ, zero, suc, ◌+◌, ◌<◌, ◌≤◌, ◌⊎◌, max, inl, inr, List, [], length, Option, Some, None, refl, sym, ap, subst, ◌∙◌, arith}
+use Rattle.std.proofs.Common.{◌≡◌, ◌≢◌, ℕ, ◌+◌, ◌<◌, ◌⊎◌, max, inl, inr, List, length, Some, refl, sym, ap, ◌∙◌, arith}
 use Rattle.std.specs.List.{Contains}
 use Rattle.std.proofs.lemmas.Bool.{cases_eq}
 use Rattle.hb_space.specs.Boxes.{Area}
-use Rattle.hb_frag.specs.declared.leaves.Leaf.{Leaf}
 use Rattle.hb_frag.specs.declared.leaves.Leaf.TheVariants.{Child, Sibling}
 use Rattle.hb_frag.specs.declared.pages.LivePage.{LivePage}
 use Rattle.hb_frag.specs.declared.pages.Page.{Page}
@@ -11,10 +10,10 @@ use Rattle.hb_frag.specs.declared.pages.Page.TheVariants.{Live, Free}
 use Rattle.hb_frag.specs.Trees.{Tree}
 use Rattle.hb_frag.specs.Leaves.{Placed, leaves_of, siblings_of}
 use Rattle.hb_ops.specs.declared.meta.Meta.{Meta}
-use Rattle.hb_ops.specs.Files.{FileState, if_live, live_page, page_at, page_of}
+use Rattle.hb_ops.specs.Files.{FileState, if_live, live_page, page_of}
 use Rattle.hb_ops.specs.Operations.{with_page}
 use Rattle.hb_ops.specs.Sound.{FitsFile, count_live, count_name, times_named}
-use Rattle.hb_sound.specs.Extractions.{FitsPage, LicensesExtraction, MayExtract, extracted, extracted_page, extracted_part, fresh_page, source_page}
+use Rattle.hb_sound.specs.Extractions.{FitsPage, LicensesExtraction, extracted, extracted_page, extracted_part, fresh_page, source_page}
 use Rattle.hb_sound.specs.Splitting.{Allocates, Extraction, allocated}
 use Rattle.hb_sound.proofs.CutShapes.{once}
 use Rattle.hb_sound.proofs.PageLists.{HasInstead, none_behind, put_behind, put_instead}

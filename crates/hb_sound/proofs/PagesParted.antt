@@ -1,13 +1,12 @@
 -- The page that is split and the page that is made: where their leaves come from, whom they name, and that both are well made.
-use Rattle.std.proofs.Common.{◌≡◌, ℕ, ◌+◌, ◌<◌, ◌≤◌, ◌⊎◌, inl, inr, List, [], ◌∷◌, ◌++◌, length, Some, refl, sym, ap, subst, ◌∙◌, arith}
+use Rattle.std.proofs.Common.{◌≡◌, ℕ, ◌+◌, ◌<◌, ◌≤◌, ◌⊎◌, inl, inr, List, [], ◌∷◌, ◌++◌, Some, refl, sym, ap, subst, ◌∙◌, arith}
 use Rattle.std.specs.List.{All, Contains}
 use Rattle.std.proofs.lemmas.List.Elements.{All-contains, Contains-append_cases, Contains-append_left, Contains-append_right}
 use Rattle.hb_space.specs.Boxes.{Area}
-use Rattle.hb_frag.specs.declared.leaves.Leaf.{Leaf}
 use Rattle.hb_frag.specs.declared.leaves.Leaf.TheVariants.{Records, Child, Sibling}
 use Rattle.hb_frag.specs.declared.pages.LivePage.{LivePage}
 use Rattle.hb_frag.specs.declared.paths.Side.{Side}
-use Rattle.hb_frag.specs.Trees.{Tree, Tip, Cut}
+use Rattle.hb_frag.specs.Trees.{Tree, Tip}
 use Rattle.hb_frag.specs.Leaves.{Placed, leaves, leaves_of, weight_of}
 use Rattle.hb_frag.specs.Laws.{IsStretch}
 use Rattle.hb_frag.specs.Paths.{part_at, with_part}
@@ -15,8 +14,8 @@ use Rattle.hb_frag.specs.Rules.{BelongsAt, IsInOrder, IsSiblingTip}
 use Rattle.hb_ops.specs.declared.meta.Meta.{Meta}
 use Rattle.hb_ops.specs.Sound.{FitsFile}
 use Rattle.hb_sound.specs.Extractions.{FitsPage, fresh_page, source_page}
-use Rattle.hb_sound.specs.Splitting.{Extraction, cut_through, reached}
-use Rattle.hb_sound.proofs.CutLeaves.{IsShareOf, StemsFrom, reached_attributes, reached_narrower, reached_no_wider, reached_stems, reached_well_cut, through_stems, through_well_cut}
+use Rattle.hb_sound.specs.Splitting.{Extraction, cut_through}
+use Rattle.hb_sound.proofs.CutLeaves.{StemsFrom, reached_attributes, reached_narrower, reached_no_wider, reached_stems, reached_well_cut, through_stems, through_well_cut}
 use Rattle.hb_sound.proofs.CutShapes.{named, named-append, not_lone_end, once, reached_normal, reached_weighs, through_like_none, through_names, through_normal, through_weighs, weighs_some}
 use Rattle.hb_sound.proofs.PathParts.{each_leaf, each_member, not_lone_again, normal_again, part_has, part_narrower, the_root, well_cut_again}
 use Rattle.hb_sound.proofs.SiblingLeaves.{placed, placed_is_leaf}

@@ -1,5 +1,5 @@
 -- A split leaves the contents as they are: each record stands in a leaf before exactly where it does afterwards.
-use Rattle.std.proofs.Common.{◌≡◌, ◌≢◌, ℕ, ◌+◌, ◌<◌, ◌≤◌, ◌⊎◌, inl, inr, List, [], ◌∷◌, length, Option, Some, None, refl, sym, ap, subst, ◌∙◌, arith}
+use Rattle.std.proofs.Common.{◌≡◌, ℕ, ◌<◌, ◌≤◌, inl, inr, List, [], ◌∷◌, length, Option, Some, None, refl, sym, ap, subst, ◌∙◌, arith}
 use Rattle.std.specs.FinMap as finite
 use Rattle.std.proofs.lemmas.Bool.{cases_eq}
 use Rattle.std.proofs.lemmas.Cmp.{nat_list_cmp_total}
@@ -13,7 +13,7 @@ use Rattle.hb_frag.specs.Leaves.{leaves_of}
 use Rattle.hb_ops.specs.Files.{FileState, contents_of, if_live, live_page}
 use Rattle.hb_ops.specs.Sound.{FitsFile, IsSound}
 use Rattle.hb_ops.specs.Standing.{RecordsAreContents}
-use Rattle.hb_sound.specs.Extractions.{LicensesExtraction, MayExtract, extracted, fresh_page, source_page}
+use Rattle.hb_sound.specs.Extractions.{fresh_page, source_page}
 use Rattle.hb_sound.specs.Laws.{SplitsKeepContents}
 use Rattle.hb_sound.specs.Splitting.{Allocates, Extraction, allocated}
 use Rattle.hb_sound.proofs.FileParted.{ArePartsOf, IsParted, after as parted_file, extracted_so, is_parted, parts_of}

@@ -1,12 +1,11 @@
 -- A split parts what the page directly holds: on each level one page directly holds a point, before and afterwards, and only two pages differ.
-use Rattle.std.proofs.Common.{◌≡◌, ◌≢◌, ℕ, ◌<◌, ◌⊎◌, ◌↔◌, inl, inr, List, Some, refl, sym, ap, subst, ◌∙◌}
+use Rattle.std.proofs.Common.{◌≡◌, ℕ, ◌<◌, ◌⊎◌, ◌↔◌, inl, inr, List, Some, refl, sym, ap, subst, ◌∙◌}
 use Rattle.std.proofs.lemmas.Bool.{cases_eq}
 use Rattle.hb_frag.specs.declared.pages.LivePage.{LivePage}
 use Rattle.hb_frag.specs.declared.pages.Page.{Page}
-use Rattle.hb_frag.specs.Leaves.{DirectlyHolds}
 use Rattle.hb_ops.specs.Files.{FileState, if_live, live_page}
 use Rattle.hb_ops.specs.Sound.{IsSound}
-use Rattle.hb_sound.specs.Extractions.{LicensesExtraction, MayExtract, extracted, fresh_page, source_page}
+use Rattle.hb_sound.specs.Extractions.{fresh_page, source_page}
 use Rattle.hb_sound.specs.Laws.{HasDirectly, SplitsPartDirect}
 use Rattle.hb_sound.specs.PointWalks.{HasOn, IsPointOf}
 use Rattle.hb_sound.specs.Splitting.{Allocates, Extraction, allocated}

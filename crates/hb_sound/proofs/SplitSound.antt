@@ -1,5 +1,5 @@
 -- After a split the leaves that name pages match them, each page is named as often as it should be, and so the file is sound.
-use Rattle.std.proofs.Common.{◌≡◌, ◌≢◌, ℕ, zero, suc, ◌+◌, ◌<◌, ◌≤◌, ◌⊎◌, ◌==◌, inl, inr, Bool, cond, List, Option, Some, refl, sym, ap, subst, ◌∙◌, arith, eq-eqb, ne_eqb}
+use Rattle.std.proofs.Common.{◌≡◌, ◌≢◌, ℕ, suc, ◌+◌, ◌≤◌, ◌⊎◌, inl, inr, Bool, cond, List, Some, refl, sym, ap, subst, ◌∙◌, arith, eq-eqb, ne_eqb}
 use Rattle.std.specs.List.{Contains}
 use Rattle.std.proofs.lemmas.Bool.{cases_eq, cases_lt}
 use Rattle.hb_space.specs.Boxes.{Area, Within, whole_area}
@@ -9,7 +9,7 @@ use Rattle.hb_frag.specs.declared.pages.Page.{Page}
 use Rattle.hb_frag.specs.Leaves.{leaves_of, siblings_of}
 use Rattle.hb_ops.specs.Files.{FileState, if_live, live_page}
 use Rattle.hb_ops.specs.Sound.{AreWellMade, ChildrenMatch, FitsFile, IsCovered, IsSound, SiblingsMatch, times_named}
-use Rattle.hb_sound.specs.Extractions.{LicensesExtraction, MayExtract, extracted, fresh_page, source_page}
+use Rattle.hb_sound.specs.Extractions.{LicensesExtraction, fresh_page, source_page}
 use Rattle.hb_sound.specs.Laws.{SplitsKeepSound}
 use Rattle.hb_sound.specs.Splitting.{Allocates, Extraction, allocated}
 use Rattle.hb_sound.proofs.CutShapes.{once}

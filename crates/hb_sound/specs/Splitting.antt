@@ -42,11 +42,12 @@ abbrev pub cut_with : Side → ℕ → ℕ → Tree → Tree → Tree
 cut_with Left axis value on off = Cut axis value on off
 cut_with Right axis value on off = Cut axis value off on
 
--- the leaf of a tree's records on a side of a plane; only a lone leaf has records here
+-- the records of a lone leaf
 abbrev pub records_in : Tree → List Record
 records_in (Tip leaf) = records_of leaf
 records_in (Cut axis value left right) = []
 
+-- those on a side of a cut's plane, as a leaf
 abbrev pub half_on : Side → LeafCut → Tree → Tree
 half_on side cut tree = Tip (Records (filter (is_on side cut.axis cut.value) (records_in tree)))
 
@@ -60,12 +61,12 @@ going cut tree = half_on cut.side cut tree
 abbrev pub staying : LeafCut → Tree → Tree
 staying cut tree = half_on (other_side cut.side) cut tree
 
--- the part that is reached by cuts, one inside the other, with its box
+-- the part that cuts lead to, one inside the other, with its box
 abbrev pub reached : List LeafCut → Tree → Area → Tree × Area
 reached [] tree area = (tree, area)
 reached (cut ∷ cuts) tree area = reached cuts (going cut tree) (half_area cut area)
 
--- the cuts, with another tree where they lead
+-- the leaf with the cuts made, and another tree where they lead
 abbrev pub cut_through : List LeafCut → Tree → Tree → Tree
 cut_through [] tree end = end
 cut_through (cut ∷ cuts) tree end = cut_with cut.side cut.axis cut.value (cut_through cuts (going cut tree) end) (staying cut tree)

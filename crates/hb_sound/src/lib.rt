@@ -2,7 +2,8 @@
 //!
 //! The one contract: `audit` is Ok exactly on a sound file, and else names the first rule that the
 //! file breaks, and the page. `laws` has what every sound file has: on each level each point of the
-//! whole space is directly held by exactly one page, and a walk leads to it.
+//! whole space is directly held by exactly one page, and a walk leads to it. It has what a split of a
+//! page makes of a file, too: that stays sound, with the same contents.
 #![tactic(auto)]
 
 pub mod laws;
