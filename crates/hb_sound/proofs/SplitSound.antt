@@ -9,8 +9,8 @@ use Rattle.hb_frag.specs.declared.pages.Page.{Page}
 use Rattle.hb_frag.specs.Leaves.{leaves_of, siblings_of}
 use Rattle.hb_ops.specs.Files.{FileState, if_live, live_page}
 use Rattle.hb_ops.specs.Sound.{AreWellMade, ChildrenMatch, FitsFile, IsCovered, IsSound, SiblingsMatch, times_named}
-use Rattle.hb_sound.specs.Extractions.{LicensesExtraction, fresh_page, source_page}
-use Rattle.hb_sound.specs.Laws.{SplitsKeepSound}
+use Rattle.hb_sound.specs.Extractions.{ChangesTwo, LicensesExtraction, fresh_page, source_page}
+use Rattle.hb_sound.specs.Laws.{SplitsChangeTwo, SplitsKeepSound}
 use Rattle.hb_sound.specs.Splitting.{Allocates, Extraction, allocated}
 use Rattle.hb_sound.proofs.CutShapes.{once}
 use Rattle.hb_sound.proofs.FileParted.{ArePartsOf, IsParted, after as parted_file, extracted_so, is_parted, parts_of}
@@ -210,3 +210,12 @@ splits_keep_sound trees laws s x sound may licensed =
     let pages = (parted_file s x may.page source fresh sound.rooted.numbered may.allocates licensed may.live).pages in
     subst IsSound (sym (extracted_so s x may.page may.part may.live may.fits))
     (sound_again s x pages may.page source fresh may.allocates parted parts (no_wider trees s sound.well_made sound.siblings sound.covered) licensed sound)
+
+-- and only the two pages change
+pub splits_change_two : SplitsChangeTwo
+splits_change_two s x sound may licensed =
+    let source = source_page x may.page may.part in
+    let fresh = fresh_page x may.page may.part in
+    let parted = is_parted s x may.page source fresh sound.rooted.numbered may.allocates licensed may.live in
+    subst (λ (t : FileState). ChangesTwo s t x may.page may.part) (sym (extracted_so s x may.page may.part may.live may.fits))
+    (record { source = ap if_live parted.source_now; fresh = ap if_live parted.fresh_now; others = parted.others })

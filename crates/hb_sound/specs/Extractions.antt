@@ -1,5 +1,5 @@
 -- When a page may be split, and what that makes of a file.
-use Rattle.std.specs.Prelude.{◌≡◌, ◌≢◌, [], Option, Some, None}
+use Rattle.std.specs.Prelude.{◌≡◌, ◌≢◌, ℕ, [], Option, Some, None}
 use Rattle.hb_space.specs.Boxes.{Area}
 use Rattle.hb_frag.specs.declared.leaves.Leaf.TheVariants.{Sibling}
 use Rattle.hb_frag.specs.declared.pages.LivePage.{LivePage}
@@ -53,3 +53,9 @@ extracted s x = extracted_page s x (live_page s x.source)
 -- What a caller knows beyond the pages that are read: the free head afterwards is what the free page names.
 abbrev pub LicensesExtraction : FileState → Extraction → Type 0
 LicensesExtraction s x = s.meta.free ≢ 0 → page_of s x.fresh ≡ Some (Free x.free_after)
+
+-- afterwards the two pages stand under their numbers, and every other number has what it had
+pub record ChangesTwo (s t : FileState) (x : Extraction) (page : LivePage) (part : Tree × Area) : Type 0 where
+  pub source : live_page t x.source ≡ Some (source_page x page part)
+  pub fresh : live_page t x.fresh ≡ Some (fresh_page x page part)
+  pub others : (id : ℕ) → id ≢ x.source → id ≢ x.fresh → page_of t id ≡ page_of s id

@@ -12,7 +12,7 @@ use Rattle.hb_ops.specs.Operations.{IsAllowed, effect_of}
 use Rattle.hb_ops.specs.Sound.{IsSound}
 use Rattle.hb_ops.specs.LawsOfContents.{OthersLack}
 use Rattle.hb_ops.specs.Standing.{StandsThere, StandsNot}
-use Rattle.hb_sound.specs.Extractions.{LicensesExtraction, MayExtract, extracted}
+use Rattle.hb_sound.specs.Extractions.{ChangesTwo, LicensesExtraction, MayExtract, extracted}
 use Rattle.hb_sound.specs.PointWalks.{IsPointOf, HasOn, HasWalk, IsResponsible, IsWholeWalk, LeadsFurther, LeadsOn}
 use Rattle.hb_sound.specs.Splitting.{Extraction}
 
@@ -77,3 +77,7 @@ HasDirectly s id p = (page : LivePage) × (live_page s id ≡ Some page) × Dire
 abbrev pub SplitsPartDirect : Type 0
 SplitsPartDirect = (s : FileState) (x : Extraction) (p : List ℕ) → IsSound s → IsPointOf s p → MayExtract s x → LicensesExtraction s x →
     (HasDirectly s x.source p ↔ (HasDirectly (extracted s x) x.source p ⊎ HasDirectly (extracted s x) x.fresh p)) × (HasDirectly (extracted s x) x.source p → HasDirectly (extracted s x) x.fresh p → ⊥)
+
+-- It changes no page but these two.
+abbrev pub SplitsChangeTwo : Type 0
+SplitsChangeTwo = (s : FileState) (x : Extraction) → IsSound s → (may : MayExtract s x) → LicensesExtraction s x → ChangesTwo s (extracted s x) x may.page may.part

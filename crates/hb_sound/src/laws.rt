@@ -1,7 +1,7 @@
 //! What follows of a sound file, whatever was done to it. Each law is the contract of a function
 //! that does nothing: a caller learns it by the call.
 
-ghost use Rattle.hb_sound.specs.Laws.{DelsTakeOne, EachPageHasWalks, EachPointIsHeld, LackIsContents, NoPointIsHeldTwice, PagesHaveBoxes, PutsAddOne, RecordsAreAtHome, RootHasWalks, SplitsKeepContents, SplitsKeepSound, SplitsPartDirect, StandingIsContents, StepsLeadFurther, WalksAreOne};
+ghost use Rattle.hb_sound.specs.Laws.{DelsTakeOne, EachPageHasWalks, EachPointIsHeld, LackIsContents, NoPointIsHeldTwice, PagesHaveBoxes, PutsAddOne, RecordsAreAtHome, RootHasWalks, SplitsChangeTwo, SplitsKeepContents, SplitsKeepSound, SplitsPartDirect, StandingIsContents, StepsLeadFurther, WalksAreOne};
 
 use hb_frag::laws::{each_point_has_one_leaf, leaves_part_the_box, parts_are_stretches};
 use hb_ops::{delete_takes_one_record, put_adds_one_record, what_stands_is_in_the_contents};
@@ -86,11 +86,13 @@ pub fn each_page_has_a_box()
 
 /// A split moves a part of a page into a page of its own and leaves a sibling leaf in its place. Where
 /// it is allowed and licensed, a sound file stays sound, and its contents stay as they are. Each point
-/// that the page directly held is directly held afterwards by it or by the page that was made.
+/// that the page directly held is directly held afterwards by it or by the page that was made. No page
+/// changes but these two.
 pub fn a_split_keeps_a_file_sound()
     ensures sound { SplitsKeepSound }
     ensures contents { SplitsKeepContents }
     ensures direct { SplitsPartDirect }
+    ensures pages { SplitsChangeTwo }
 {
     leaves_part_the_box();
     each_point_has_one_leaf();
