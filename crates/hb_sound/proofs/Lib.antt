@@ -17,3 +17,16 @@ pub mod LostFile
 pub mod LateFile
 pub mod LateWalks
 pub mod TowerFile
+pub mod LeafHalves
+pub mod CutLeaves
+pub mod CutShapes
+pub mod PathParts
+pub mod PagesParted
+pub mod PageLists
+pub mod FileParted
+pub mod SplitChains
+pub mod SplitSound
+pub mod RecordsStand
+pub mod RecordsParted
+pub mod SplitContents
+pub mod SplitDirect

@@ -22,7 +22,7 @@ page_at-suc (page ∷ rest) (suc n) =
     ∙ ap (page_at rest) (let e : suc (suc n) - 1 ≡ suc n = omega arith in e)
     ∙ page_at-suc rest n
 
-live_so : (o : Option Page) (page : LivePage) → if_live o ≡ Some page → o ≡ Some (Live page)
+pub live_so : (o : Option Page) (page : LivePage) → if_live o ≡ Some page → o ≡ Some (Live page)
 live_so None page e = cc
 live_so (Some (Live q)) page e = let same : q ≡ page = cc in ap (λ (x : LivePage). Some (Live x)) same
 live_so (Some (Free next)) page e = cc

@@ -5,3 +5,5 @@ pub mod Settled
 pub mod LostFile
 pub mod LateFile
 pub mod TowerFile
+pub mod Splitting
+pub mod Extractions

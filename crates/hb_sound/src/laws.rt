@@ -1,12 +1,12 @@
 //! What follows of a sound file, whatever was done to it. Each law is the contract of a function
 //! that does nothing: a caller learns it by the call.
 
-ghost use Rattle.hb_sound.specs.Laws.{DelsTakeOne, EachPageHasWalks, EachPointIsHeld, LackIsContents, NoPointIsHeldTwice, PagesHaveBoxes, PutsAddOne, RecordsAreAtHome, RootHasWalks, StandingIsContents, StepsLeadFurther, WalksAreOne};
+ghost use Rattle.hb_sound.specs.Laws.{DelsTakeOne, EachPageHasWalks, EachPointIsHeld, LackIsContents, NoPointIsHeldTwice, PagesHaveBoxes, PutsAddOne, RecordsAreAtHome, RootHasWalks, SplitsChangeTwo, SplitsKeepContents, SplitsKeepSound, SplitsPartDirect, StandingIsContents, StepsLeadFurther, WalksAreOne};
 ghost use Rattle.hb_sound.specs.Settled.{NoOtherParent, SettledWalksAreShort};
 
-use hb_frag::laws::{each_point_has_one_leaf, leaves_part_the_box};
+use hb_frag::laws::{each_point_has_one_leaf, leaves_part_the_box, parts_are_stretches};
 use hb_ops::{delete_takes_one_record, put_adds_one_record, what_stands_is_in_the_contents};
-use hb_space::laws::whole_space_holds_every_point;
+use hb_space::laws::{held_is_a_point, whole_space_holds_every_point};
 
 /// The pages of each level part the space: each point is directly held by one page of the level, and
 /// by no other one.
@@ -102,4 +102,22 @@ pub fn no_page_has_another_parent()
     leaves_part_the_box();
     each_point_has_one_leaf();
     whole_space_holds_every_point();
+}
+
+/// A split moves a part of a page into a page of its own and leaves a sibling leaf in its place. Where
+/// it is allowed and licensed, a sound file stays sound, and its contents stay as they are. Each point
+/// that the page directly held is directly held afterwards by it or by the page that was made. No page
+/// changes but these two.
+pub fn a_split_keeps_a_file_sound()
+    ensures sound { SplitsKeepSound }
+    ensures contents { SplitsKeepContents }
+    ensures direct { SplitsPartDirect }
+    ensures pages { SplitsChangeTwo }
+{
+    leaves_part_the_box();
+    each_point_has_one_leaf();
+    parts_are_stretches();
+    whole_space_holds_every_point();
+    held_is_a_point();
+    what_stands_is_in_the_contents();
 }

@@ -1,0 +1,86 @@
+-- A split parts what the page directly holds: on each level one page directly holds a point, before and afterwards, and only two pages differ.
+use Rattle.std.proofs.Common.{◌≡◌, ℕ, ◌<◌, ◌⊎◌, ◌↔◌, inl, inr, List, Some, refl, sym, ap, subst, ◌∙◌}
+use Rattle.std.proofs.lemmas.Bool.{cases_eq}
+use Rattle.hb_frag.specs.declared.pages.LivePage.{LivePage}
+use Rattle.hb_frag.specs.declared.pages.Page.{Page}
+use Rattle.hb_ops.specs.Files.{FileState, if_live, live_page}
+use Rattle.hb_ops.specs.Sound.{IsSound}
+use Rattle.hb_sound.specs.Extractions.{fresh_page, source_page}
+use Rattle.hb_sound.specs.Laws.{HasDirectly, SplitsPartDirect}
+use Rattle.hb_sound.specs.PointWalks.{HasOn, IsPointOf}
+use Rattle.hb_sound.specs.Splitting.{Allocates, Extraction, allocated}
+use Rattle.hb_sound.proofs.FileParted.{ArePartsOf, IsParted, after as parted_file, extracted_so, is_parted, parts_of}
+use Rattle.hb_sound.proofs.OneLevel.{TreeLaws, same_page}
+use Rattle.hb_sound.proofs.PagesParted.{PartLaws}
+use Rattle.hb_sound.proofs.Partition.{SpaceLaws, each_point_is_held, no_point_is_held_twice}
+use Rattle.hb_sound.proofs.SplitChains.{not_fresh}
+use Rattle.hb_sound.proofs.SplitSound.{comes_from, splits_keep_sound}
+
+module _ (trees : TreeLaws) (space : SpaceLaws) (s : FileState) (x : Extraction) (pages : List Page) (page source fresh : LivePage) (allocates : Allocates s.meta x.fresh x.free_after) (parted : IsParted s (record { meta = allocated s.meta x.fresh x.free_after; pages = pages }) x page source fresh) (parts : ArePartsOf s.meta x.fresh page source fresh) where
+  abbrev after : FileState
+  after = record { meta = allocated s.meta x.fresh x.free_after; pages = pages }
+
+  module _ (sound : IsSound s) (sound' : IsSound after) (p : List ℕ) (point : IsPointOf s p) where
+    point' : IsPointOf after p
+    point' = record { point = point.point; attributes = point.attributes }
+
+    lt : page.level < s.meta.height
+    lt = (sound.well_made x.source page parted.live).fits.level
+
+    -- what one of the two pages directly holds, by the level
+    on_level : (f : FileState) (id : ℕ) (q : LivePage) → live_page f id ≡ Some q → q.level ≡ page.level → HasDirectly f id p → HasOn f page.level p id
+    on_level f id q live level has = record { page = has.0; live = has.1; on = ap (λ (r : LivePage). r.level) (same_page f id has.0 q has.1 live) ∙ level; direct = has.2 }
+
+    before_on : HasDirectly s x.source p → HasOn s page.level p x.source
+    before_on has = on_level s x.source page parted.live refl has
+
+    source_on : HasDirectly after x.source p → HasOn after page.level p x.source
+    source_on has = on_level after x.source source (ap if_live parted.source_now) parts.level has
+
+    fresh_on : HasDirectly after x.fresh p → HasOn after page.level p x.fresh
+    fresh_on has = on_level after x.fresh fresh (ap if_live parted.fresh_now) parts.fresh_level has
+
+    directly : (f : FileState) (id other : ℕ) → id ≡ other → HasOn f page.level p id → HasDirectly f other p
+    directly f id other is has = (has.page, ap (live_page f) (sym is) ∙ has.live, has.direct)
+
+    forth : HasDirectly s x.source p → HasDirectly after x.source p ⊎ HasDirectly after x.fresh p
+    forth has =
+        let now = each_point_is_held trees space after page.level p sound' point' lt in
+        elim (comes_from s x pages page source fresh allocates parted parts now.0 now.1.page now.1.live) [
+          | inl both ↦ elim both [ inl w ↦ inr (directly after now.0 x.fresh w.0 now.1) | inr w ↦ inl (directly after now.0 x.source w.1 now.1) ]
+          | inr was ↦
+              let had : HasOn s page.level p now.0 = record { page = now.1.page; live = was; on = now.1.on; direct = now.1.direct } in
+              inl (directly after now.0 x.source (no_point_is_held_twice trees space s page.level p now.0 x.source sound point had (before_on has)) now.1)
+        ]
+
+    back : (id : ℕ) → (id ≡ x.source) ⊎ (id ≡ x.fresh) → HasOn after page.level p id → HasDirectly s x.source p
+    back id either has =
+        let was = each_point_is_held trees space s page.level p sound point lt in
+        elim (cases_eq was.0 x.source) [
+          | inl is ↦ directly s was.0 x.source is was.1
+          | inr ne ↦
+              let new = not_fresh s x pages page source fresh allocates parted parts was.0 was.1.page was.1.live in
+              let now : HasOn after page.level p was.0 = record { page = was.1.page; live = ap if_live (parted.others was.0 ne new) ∙ was.1.live; on = was.1.on; direct = was.1.direct } in
+              let same : was.0 ≡ id = no_point_is_held_twice trees space after page.level p was.0 id sound' point' now has in
+              elim either [ inl is ↦ absurd (ne (same ∙ is)) | inr is ↦ absurd (new (same ∙ is)) ]
+        ]
+
+    pub parts_direct : (HasDirectly s x.source p ↔ (HasDirectly after x.source p ⊎ HasDirectly after x.fresh p)) × (HasDirectly after x.source p → HasDirectly after x.fresh p → ⊥)
+    parts_direct = (
+      (forth, λ has. elim has [ inl one ↦ back x.source (inl refl) (source_on one) | inr two ↦ back x.fresh (inr refl) (fresh_on two) ]),
+      λ one two.
+          not_fresh s x pages page source fresh allocates parted parts x.source page parted.live
+          (no_point_is_held_twice trees space after page.level p x.source x.fresh sound' point' (source_on one) (fresh_on two)),
+    )
+
+pub splits_part_direct : TreeLaws → SpaceLaws → PartLaws → SplitsPartDirect
+splits_part_direct trees space laws s x p sound point may licensed =
+    let parts = parts_of laws s.meta x may.page may.part may.made may.fits in
+    let source = source_page x may.page may.part in
+    let fresh = fresh_page x may.page may.part in
+    let parted = is_parted s x may.page source fresh sound.rooted.numbered may.allocates licensed may.live in
+    let after = parted_file s x may.page source fresh sound.rooted.numbered may.allocates licensed may.live in
+    let is = extracted_so s x may.page may.part may.live may.fits in
+    let sound' : IsSound after = subst IsSound is (splits_keep_sound trees laws s x sound may licensed) in
+    subst (λ (t : FileState). (HasDirectly s x.source p ↔ (HasDirectly t x.source p ⊎ HasDirectly t x.fresh p)) × (HasDirectly t x.source p → HasDirectly t x.fresh p → ⊥)) (sym is)
+    (parts_direct trees space s x after.pages may.page source fresh may.allocates parted parts sound sound' p point)
