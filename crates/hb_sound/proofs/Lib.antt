@@ -30,3 +30,6 @@ pub mod RecordsStand
 pub mod RecordsParted
 pub mod SplitContents
 pub mod SplitDirect
+pub mod FileGrown
+pub mod GrowthSound
+pub mod GrowthKept
