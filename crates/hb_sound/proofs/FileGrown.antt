@@ -1,16 +1,16 @@
 -- The file after it grew: what stands under each number, how many pages are in use, and how often each is named.
 -- Of the pages alone, it is as after a split whose source stays as it is.
-use Rattle.std.proofs.Common.{◌≡◌, ◌≢◌, ℕ, zero, suc, ◌+◌, ◌≤◌, ◌⊎◌, max, inl, inr, List, [], ◌∷◌, length, set, slice_get, Some, refl, sym, ap, subst, ◌∙◌, arith}
+use Rattle.std.proofs.Common.{◌≡◌, ◌≢◌, ℕ, zero, suc, ◌≤◌, ◌⊎◌, max, inl, inr, List, [], ◌∷◌, length, set, slice_get, Some, refl, sym, ap, subst, ◌∙◌, arith}
 use Rattle.std.proofs.lemmas.Bool.{cases_eq}
 use Rattle.hb_frag.specs.declared.pages.LivePage.{LivePage}
 use Rattle.hb_frag.specs.declared.pages.Page.{Page}
-use Rattle.hb_frag.specs.declared.pages.Page.TheVariants.{Live, Free}
+use Rattle.hb_frag.specs.declared.pages.Page.TheVariants.{Live}
 use Rattle.hb_ops.specs.declared.meta.Meta.{Meta}
 use Rattle.hb_ops.specs.Files.{FileState, if_live, live_page, page_of}
 use Rattle.hb_ops.specs.Operations.{with_page}
 use Rattle.hb_ops.specs.Sound.{IsChain, IsCounted, IsSound, times_named}
-use Rattle.hb_sound.specs.Growing.{ChangesOne, Growth, GrowthChangesOne, LicensesGrowth, MayGrow, grown, new_root, raised}
-use Rattle.hb_sound.specs.Splitting.{Allocates, Extraction, allocated}
+use Rattle.hb_sound.specs.Growing.{Growth, GrowthChangesOne, LicensesGrowth, MayGrow, grown, new_root, raised}
+use Rattle.hb_sound.specs.Splitting.{Extraction, allocated}
 use Rattle.hb_sound.proofs.FileParted.{IsParted, is_parted}
 use Rattle.hb_sound.proofs.PageLists.{number_of, range_of, with_page-there}
 use Rattle.hb_sound.proofs.PagePlaces.{live_so}

@@ -1,23 +1,22 @@
 -- A growth leaves the contents as they are, and what each page of before directly holds.
-use Rattle.std.proofs.Common.{◌≡◌, ◌≢◌, ℕ, zero, suc, ◌+◌, ◌<◌, ◌==◌, inl, inr, Bool, cond, List, [], ◌∷◌, ◌++◌, length, flat_map, map, set, slice_get, Some, refl, sym, ap, subst, ◌∙◌, arith, ne_eqb}
+use Rattle.std.proofs.Common.{◌≡◌, ◌≢◌, ℕ, zero, suc, inl, inr, Bool, cond, List, [], ◌∷◌, ◌++◌, length, flat_map, map, set, slice_get, Some, refl, sym, ap, ◌∙◌, arith, ne_eqb}
 use Rattle.std.specs.FinMap as finite
 use Rattle.std.proofs.lemmas.Bool.{cases_eq}
 use Rattle.std.proofs.lemmas.Grind.{flat_map-append}
 use Rattle.std.proofs.lemmas.List.{append-nil}
-use Rattle.hb_space.specs.Boxes.{Holds, whole_area}
+use Rattle.hb_space.specs.Boxes.{Holds}
 use Rattle.hb_space.specs.Points.{point_cmp}
 use Rattle.hb_space.specs.declared.records.Record.{Record}
 use Rattle.hb_frag.specs.Leaves.{leaves, records_of}
 use Rattle.hb_frag.specs.declared.pages.LivePage.{LivePage}
 use Rattle.hb_frag.specs.declared.pages.Page.{Page}
 use Rattle.hb_frag.specs.declared.pages.Page.TheVariants.{Live, Free}
-use Rattle.hb_ops.specs.Files.{FileState, contents_of, file_records, if_live, live_page, page_of, page_records}
+use Rattle.hb_ops.specs.Files.{FileState, file_records, if_live, page_records}
 use Rattle.hb_ops.specs.Operations.{with_page}
 use Rattle.hb_ops.specs.Sound.{IsSound}
 use Rattle.hb_sound.specs.Growing.{Growth, GrowthKeepsContents, GrowthKeepsDirect, LicensesGrowth, MayGrow, grown, new_root}
-use Rattle.hb_sound.specs.PointWalks.{HasOn, IsPointOf}
 use Rattle.hb_sound.proofs.ExampleParts.{each_at}
-use Rattle.hb_sound.proofs.FileGrown.{IsGrown, comes_from, is_grown, stays_live}
+use Rattle.hb_sound.proofs.FileGrown.{comes_from, is_grown, stays_live}
 use Rattle.hb_sound.proofs.PageLists.{number_of, range_of, with_page-behind, with_page-there}
 use Rattle.hb_sound.proofs.Partition.{SpaceLaws}
 use Rattle.hb_sound.proofs.SplitChains.{same_Some}
