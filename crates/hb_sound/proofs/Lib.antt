@@ -33,3 +33,4 @@ pub mod SplitDirect
 pub mod FileGrown
 pub mod GrowthSound
 pub mod GrowthKept
+pub mod GrowthSteps
