@@ -1,5 +1,5 @@
 -- A file of one level grows three times: twice by the free pages of its chain, and then by a page behind the last.
-use Rattle.std.proofs.Common.{◌≡◌, ◌≢◌, ℕ, zero, suc, ◌+◌, ◌<◌, List, [], ◌∷◌, slice_get, Some, refl, sym, ap, subst, ◌∙◌, arith}
+use Rattle.std.proofs.Common.{◌≡◌, ℕ, zero, suc, [], ◌∷◌, slice_get, Some, refl, sym, ap, subst, ◌∙◌, arith}
 use Rattle.std.specs.List.{Contains}
 use Rattle.hb_space.specs.Boxes.{Area, whole_area}
 use Rattle.hb_frag.specs.declared.leaves.Leaf.TheVariants.{Child}
@@ -16,7 +16,6 @@ use Rattle.hb_sound.proofs.ExampleParts.{each_at, held, in_order, interval, top}
 use Rattle.hb_sound.proofs.GrowthSound.{growth_keeps_sound}
 use Rattle.hb_sound.proofs.PagePlaces.{page_at-suc, page_at-zero, place_of}
 use Rattle.hb_sound.proofs.SiblingLeaves.{placed}
-use Rattle.hb_sound.proofs.SplitChains.{same_Some}
 
 -- what a growth makes of a file that may grow so
 record Grows (s : FileState) (x : Growth) (t : FileState) : Type 0 where
