@@ -30,3 +30,7 @@ pub mod RecordsStand
 pub mod RecordsParted
 pub mod SplitContents
 pub mod SplitDirect
+pub mod FileGrown
+pub mod GrowthSound
+pub mod GrowthKept
+pub mod GrowthSteps

@@ -105,13 +105,13 @@ pub number_of : (pages : List Page) (id : ℕ) (q : Page) → page_at pages id �
 number_of pages zero q e = let none = page_at-zero pages in cc
 number_of pages (suc n) q e = (n, refl, sym (page_at-suc pages n) ∙ e)
 
-with_page-there : (pages : List Page) (n : ℕ) (new : Page) → n < length pages → with_page (suc n) new pages ≡ set pages n new
+pub with_page-there : (pages : List Page) (n : ℕ) (new : Page) → n < length pages → with_page (suc n) new pages ≡ set pages n new
 with_page-there pages n new lt =
     let back : suc n - 1 ≡ n = omega arith in
     ap (λ (m : ℕ). cond (nat_lt m (length pages)) (set pages m new) (pages ++ (new ∷ []))) back
     ∙ ap (λ (b : Bool). cond b (set pages n new) (pages ++ (new ∷ []))) (lt-ltb n (length pages) lt)
 
-with_page-behind : (pages : List Page) (new : Page) → with_page (suc (length pages)) new pages ≡ pages ++ (new ∷ [])
+pub with_page-behind : (pages : List Page) (new : Page) → with_page (suc (length pages)) new pages ≡ pages ++ (new ∷ [])
 with_page-behind pages new =
     let back : suc (length pages) - 1 ≡ length pages = omega arith in
     ap (λ (m : ℕ). cond (nat_lt m (length pages)) (set pages m new) (pages ++ (new ∷ []))) back

@@ -49,7 +49,7 @@ chain_of_none : (s : FileState) (head : ℕ) (chain : List ℕ) → IsChain s he
 chain_of_none s head [] h e = refl
 chain_of_none s head (id ∷ chain) h e = absurd (h.1 e)
 
-head_there : (s : FileState) (head : ℕ) (chain : List ℕ) → IsChain s head chain → head ≤ length s.pages
+pub head_there : (s : FileState) (head : ℕ) (chain : List ℕ) → IsChain s head chain → head ≤ length s.pages
 head_there s head [] h = omega (arith, h)
 head_there s head (id ∷ chain) h =
     let here = number_of s.pages id (Free h.2) h.3 in
@@ -59,35 +59,12 @@ head_there s head (id ∷ chain) h =
 pub same_Some : {A : Type 0} (x y : A) → Some x ≡ Some y → x ≡ y
 same_Some x y e = cc
 
-module _ (s : FileState) (x : Extraction) (pages : List Page) (page source fresh : LivePage) (allocates : Allocates s.meta x.fresh x.free_after) (parted : IsParted s (record { meta = allocated s.meta x.fresh x.free_after; pages = pages }) x page source fresh) (parts : ArePartsOf s.meta x.fresh page source fresh) where
+module _ (s : FileState) (x : Extraction) (pages : List Page) (page source fresh : LivePage) (allocates : Allocates s.meta x.fresh x.free_after) (parted : IsParted s (record { meta = allocated s.meta x.fresh x.free_after; pages = pages }) x page source fresh) where
   abbrev pub after : FileState
   after = record { meta = allocated s.meta x.fresh x.free_after; pages = pages }
 
   was_live : page_of s x.source ≡ Some (Live page)
   was_live = live_so (page_of s x.source) page parted.live
-
-  -- a page in use stays, with its level and its box
-  pub record StaysLive (id : ℕ) (old : LivePage) : Type 0 where
-    pub new : LivePage
-    pub live : live_page after id ≡ Some new
-    pub level : new.level ≡ old.level
-    pub area : new.area ≡ old.area
-
-  pub not_fresh : (id : ℕ) (old : LivePage) → live_page s id ≡ Some old → id ≢ x.fresh
-  not_fresh id old live e = parted.vacant old (ap (live_page s) (sym e) ∙ live)
-
-  pub stays_live : (id : ℕ) (old : LivePage) → live_page s id ≡ Some old → StaysLive id old
-  stays_live id old live = elim (cases_eq id x.source) [
-    | inl is ↦
-        let same : page ≡ old = same_Some page old (sym parted.live ∙ ap (live_page s) (sym is) ∙ live) in
-        record {
-          new = source;
-          live = ap (live_page after) is ∙ ap if_live parted.source_now;
-          level = parts.level ∙ ap (λ (q : LivePage). q.level) same;
-          area = parts.area ∙ ap (λ (q : LivePage). q.area) same;
-        }
-    | inr ne ↦ record { new = old; live = ap if_live (parted.others id ne (not_fresh id old live)) ∙ live; level = refl; area = refl }
-  ]
 
   -- a page that is free afterwards was free, and isn't the new one
   free_was : (id next : ℕ) → page_of after id ≡ Some (Free next) → (page_of s id ≡ Some (Free next)) × (id ≢ x.fresh)
@@ -149,15 +126,39 @@ module _ (s : FileState) (x : Extraction) (pages : List Page) (page source fresh
     pub counted_again : IsCounted s → IsCounted after
     counted_again h = elim (cases_eq s.meta.free 0) [ inl none ↦ counted_none h none | inr some ↦ counted_some h.chain h.chained h.all h.live some ]
 
-    high_fits : s.meta.high ≤ s.meta.pages → max s.meta.high x.fresh ≤ s.meta.pages
-    high_fits le = elim (cases_eq s.meta.free 0) [
-      | inl none ↦ let at = (allocates.from_behind none).1 in omega (arith, le, at)
-      | inr some ↦ let at = (allocates.from_chain some).1 in omega (arith, le, at)
+  pub high_fits : s.meta.high ≤ s.meta.pages → max s.meta.high x.fresh ≤ s.meta.pages
+  high_fits le = elim (cases_eq s.meta.free 0) [
+    | inl none ↦ let at = (allocates.from_behind none).1 in omega (arith, le, at)
+    | inr some ↦ let at = (allocates.from_chain some).1 in omega (arith, le, at)
+  ]
+
+  module _ (parts : ArePartsOf s.meta x.fresh page source fresh) where
+    -- a page in use stays, with its level and its box
+    pub record StaysLive (id : ℕ) (old : LivePage) : Type 0 where
+      pub new : LivePage
+      pub live : live_page after id ≡ Some new
+      pub level : new.level ≡ old.level
+      pub area : new.area ≡ old.area
+
+    pub not_fresh : (id : ℕ) (old : LivePage) → live_page s id ≡ Some old → id ≢ x.fresh
+    not_fresh id old live e = parted.vacant old (ap (live_page s) (sym e) ∙ live)
+
+    pub stays_live : (id : ℕ) (old : LivePage) → live_page s id ≡ Some old → StaysLive id old
+    stays_live id old live = elim (cases_eq id x.source) [
+      | inl is ↦
+          let same : page ≡ old = same_Some page old (sym parted.live ∙ ap (live_page s) (sym is) ∙ live) in
+          record {
+            new = source;
+            live = ap (live_page after) is ∙ ap if_live parted.source_now;
+            level = parts.level ∙ ap (λ (q : LivePage). q.level) same;
+            area = parts.area ∙ ap (λ (q : LivePage). q.area) same;
+          }
+      | inr ne ↦ record { new = old; live = ap if_live (parted.others id ne (not_fresh id old live)) ∙ live; level = refl; area = refl }
     ]
 
-    pub rooted_again : IsRooted s → IsCounted s → IsRooted after
-    rooted_again h counted =
-        let now = counted_again counted in
+    pub rooted_again : LicensesExtraction s x → IsRooted s → IsCounted s → IsRooted after
+    rooted_again licensed h counted =
+        let now = counted_again licensed counted in
         let few = live_few pages in
         let head = head_there after x.free_after now.chain now.chained in
         let top = stays_live s.meta.root h.top.0 h.top.1 in

@@ -29,7 +29,7 @@ no_wider laws s made match covered = spread laws s made match covered (λ id pag
 })
 
 -- no sibling leaf names a page that isn't in use
-named_none : (s : FileState) (id : ℕ) → SiblingsMatch s → ((q : LivePage) → live_page s id ≡ Some q → ⊥) → times_named id s.pages ≡ 0
+pub named_none : (s : FileState) (id : ℕ) → SiblingsMatch s → ((q : LivePage) → live_page s id ≡ Some q → ⊥) → times_named id s.pages ≡ 0
 named_none s id match vacant = elim (cases_lt 0 (times_named id s.pages)) [
   | inl some ↦
       let w = named_among id s.pages some in
@@ -194,7 +194,7 @@ module _ (s : FileState) (x : Extraction) (pages : List Page) (page source fresh
     pub sound_again : LicensesExtraction s x → IsSound s → IsSound after
     sound_again licensed h = record {
       rooted = rooted_again s x pages page source fresh allocates parted parts licensed h.rooted h.counted;
-      counted = counted_again s x pages page source fresh allocates parted parts licensed h.counted;
+      counted = counted_again s x pages page source fresh allocates parted licensed h.counted;
       well_made = made_again h.well_made;
       siblings = siblings_match h.siblings;
       children = children_match h.children;

@@ -7,3 +7,4 @@ pub mod LateFile
 pub mod TowerFile
 pub mod Splitting
 pub mod Extractions
+pub mod Growing

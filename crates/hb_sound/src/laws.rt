@@ -1,6 +1,7 @@
 //! What follows of a sound file, whatever was done to it. Each law is the contract of a function
 //! that does nothing: a caller learns it by the call.
 
+ghost use Rattle.hb_sound.specs.Growing.{GrowthChangesOne, GrowthKeepsContents, GrowthKeepsDirect, GrowthKeepsSound};
 ghost use Rattle.hb_sound.specs.Laws.{DelsTakeOne, EachPageHasWalks, EachPointIsHeld, LackIsContents, NoPointIsHeldTwice, PagesHaveBoxes, PutsAddOne, RecordsAreAtHome, RootHasWalks, SplitsChangeTwo, SplitsKeepContents, SplitsKeepSound, SplitsPartDirect, StandingIsContents, StepsLeadFurther, WalksAreOne};
 ghost use Rattle.hb_sound.specs.Settled.{NoOtherParent, SettledWalksAreShort};
 
@@ -120,4 +121,17 @@ pub fn a_split_keeps_a_file_sound()
     whole_space_holds_every_point();
     held_is_a_point();
     what_stands_is_in_the_contents();
+}
+
+/// A growth gives a file one level more: a page of the whole space, one level above the old root and
+/// with a child leaf to it alone, becomes the root. Where it is allowed and licensed, a sound file stays
+/// sound, and its contents stay as they are. On the levels of before each page directly holds what it
+/// held, and on the new level the new root directly holds every point. No other page changes.
+pub fn growing_keeps_a_file_sound()
+    ensures sound { GrowthKeepsSound }
+    ensures contents { GrowthKeepsContents }
+    ensures direct { GrowthKeepsDirect }
+    ensures pages { GrowthChangesOne }
+{
+    whole_space_holds_every_point();
 }
