@@ -13,7 +13,7 @@ use Rattle.hb_ops.specs.declared.meta.Meta.{Meta}
 use Rattle.hb_ops.specs.Files.{FileState, if_live, live_page, page_of}
 use Rattle.hb_ops.specs.Operations.{with_page}
 use Rattle.hb_ops.specs.Sound.{FitsFile, count_live, count_name, times_named}
-use Rattle.hb_sound.specs.Extractions.{FitsPage, LicensesExtraction, extracted, extracted_page, extracted_part, fresh_page, source_page}
+use Rattle.hb_sound.specs.Extractions.{FitsPart, LicensesExtraction, extracted, extracted_page, extracted_part, fresh_page, source_page}
 use Rattle.hb_sound.specs.Splitting.{Allocates, Extraction, allocated}
 use Rattle.hb_sound.proofs.CutShapes.{once}
 use Rattle.hb_sound.proofs.PageLists.{HasInstead, none_behind, put_behind, put_instead}
@@ -42,7 +42,7 @@ names_same name n b a e =
     let same : n ≡ name = cc in
     (same, sym (ap (λ (l : Placed). l.area) e))
 
-pub parts_of : PartLaws → (meta : Meta) (x : Extraction) (page : LivePage) (part : Tree × Area) → FitsFile meta page → FitsPage x page part → ArePartsOf meta x.fresh page (source_page x page part) (fresh_page x page part)
+pub parts_of : PartLaws → (meta : Meta) (x : Extraction) (page : LivePage) (part : Tree × Area) → FitsFile meta page → FitsPart x page part → ArePartsOf meta x.fresh page (source_page x page part) (fresh_page x page part)
 parts_of laws meta x page part made fits =
     let source = source_page x page part in
     let fresh = fresh_page x page part in
@@ -139,5 +139,5 @@ module _ (s : FileState) (x : Extraction) (page source fresh : LivePage) (number
   }
 
 -- the file after an extraction that is allowed
-pub extracted_so : (s : FileState) (x : Extraction) (page : LivePage) (part : Tree × Area) → live_page s x.source ≡ Some page → FitsPage x page part → extracted s x ≡ extracted_part s x page (Some part)
+pub extracted_so : (s : FileState) (x : Extraction) (page : LivePage) (part : Tree × Area) → live_page s x.source ≡ Some page → FitsPart x page part → extracted s x ≡ extracted_part s x page (Some part)
 extracted_so s x page part live fits = ap (extracted_page s x) live ∙ ap (extracted_part s x page) fits.there

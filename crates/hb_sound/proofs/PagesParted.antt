@@ -13,7 +13,7 @@ use Rattle.hb_frag.specs.Paths.{part_at, with_part}
 use Rattle.hb_frag.specs.Rules.{BelongsAt, IsInOrder, IsSiblingTip}
 use Rattle.hb_ops.specs.declared.meta.Meta.{Meta}
 use Rattle.hb_ops.specs.Sound.{FitsFile}
-use Rattle.hb_sound.specs.Extractions.{FitsPage, fresh_page, source_page}
+use Rattle.hb_sound.specs.Extractions.{FitsPart, fresh_page, source_page}
 use Rattle.hb_sound.specs.Splitting.{Extraction, cut_through}
 use Rattle.hb_sound.proofs.CutLeaves.{StemsFrom, reached_attributes, reached_narrower, reached_no_wider, reached_stems, reached_well_cut, through_stems, through_well_cut}
 use Rattle.hb_sound.proofs.CutShapes.{named, named-append, not_lone_end, once, reached_normal, reached_weighs, through_like_none, through_names, through_normal, through_weighs, weighs_some}
@@ -64,7 +64,7 @@ stems_child old name area stems = elim stems [ inl has ↦ has | inr w ↦ absur
 pub stems_sibling : (old : List Placed) (name : ℕ) (area : Area) → StemsFrom old (placed (Sibling name) area) → Contains old (placed (Sibling name) area)
 stems_sibling old name area stems = elim stems [ inl has ↦ has | inr w ↦ absurd (let e = w.leaf in let no : ⊥ = cc in no) ]
 
-module _ (laws : PartLaws) (meta : Meta) (x : Extraction) (page : LivePage) (part : Tree × Area) (made : FitsFile meta page) (fits : FitsPage x page part) where
+module _ (laws : PartLaws) (meta : Meta) (x : Extraction) (page : LivePage) (part : Tree × Area) (made : FitsFile meta page) (fits : FitsPart x page part) where
   abbrev pub old : List Placed
   old = leaves_of page.frag page.area
 

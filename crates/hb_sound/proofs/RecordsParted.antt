@@ -14,7 +14,7 @@ use Rattle.hb_frag.specs.Laws.{IsStretch}
 use Rattle.hb_frag.specs.Leaves.{Placed, leaves_of, records_of}
 use Rattle.hb_ops.specs.declared.meta.Meta.{Meta}
 use Rattle.hb_ops.specs.Sound.{FitsFile}
-use Rattle.hb_sound.specs.Extractions.{FitsPage, fresh_page, source_page}
+use Rattle.hb_sound.specs.Extractions.{FitsPart, fresh_page, source_page}
 use Rattle.hb_sound.specs.Splitting.{Extraction, LeafCut, PartLeaves, PartsLeaf, area_on, cut_through, cut_with, going, half_area, half_on, is_on, other_side, reached, records_in, staying}
 use Rattle.hb_sound.proofs.CutLeaves.{StemsFrom, filter_keeps, only_one}
 use Rattle.hb_sound.proofs.PagesParted.{PartLaws, fresh_stems, source_stems}
@@ -91,7 +91,7 @@ pub record ShareRecords (page source fresh : LivePage) : Type 0 where
   pub from_source : (r : Record) → AmongLeaves (leaves_of source.frag source.area) r → AmongLeaves (leaves_of page.frag page.area) r
   pub from_fresh : (r : Record) → AmongLeaves (leaves_of fresh.frag fresh.area) r → AmongLeaves (leaves_of page.frag page.area) r
 
-module _ (laws : PartLaws) (meta : Meta) (x : Extraction) (page : LivePage) (part : Tree × Area) (made : FitsFile meta page) (fits : FitsPage x page part) where
+module _ (laws : PartLaws) (meta : Meta) (x : Extraction) (page : LivePage) (part : Tree × Area) (made : FitsFile meta page) (fits : FitsPart x page part) where
   abbrev source : LivePage
   source = source_page x page part
 

@@ -14,7 +14,7 @@ use Rattle.hb_sound.specs.Splitting.{Allocates, Extraction, PartLeaves, allocate
 
 -- The path leads to a part of the page, which the cuts part further. What they reach is less than the whole page, and
 -- isn't a lone sibling leaf.
-pub record FitsPage (x : Extraction) (page : LivePage) (part : Tree × Area) : Type 0 where
+pub record FitsPart (x : Extraction) (page : LivePage) (part : Tree × Area) : Type 0 where
   pub there : part_at x.path page.frag page.area ≡ Some part
   pub cuts : PartLeaves x.cuts part.0 part.1
   pub less : x.path ≡ [] → x.cuts ≢ []
@@ -26,7 +26,7 @@ pub record MayExtract (s : FileState) (x : Extraction) : Type 0 where
   pub live : live_page s x.source ≡ Some page
   pub made : FitsFile s.meta page
   pub part : Tree × Area
-  pub fits : FitsPage x page part
+  pub fits : FitsPart x page part
 
 -- the page that is made, and the page that is split, afterwards
 abbrev pub fresh_page : Extraction → LivePage → Tree × Area → LivePage
