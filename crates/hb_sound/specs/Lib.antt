@@ -1,0 +1,10 @@
+pub mod Told
+pub mod Walks
+pub mod Broken
+pub mod Names
+pub mod Marks
+pub mod Stops
+pub mod Facts
+pub mod Chains
+pub mod Links
+pub mod Covers

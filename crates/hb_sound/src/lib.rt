@@ -5,4 +5,16 @@
 //! whole space is directly held by exactly one page, and a walk leads to it.
 #![tactic(auto)]
 
+mod audits;
+mod chains;
+mod covers;
+mod facts;
 pub mod laws;
+mod links;
+mod names;
+mod pages;
+#[cfg(test)]
+mod tests;
+
+pub use audits::audit;
+pub use pages::{AuditStop, PageStop, Pages};

@@ -1,0 +1,89 @@
+//! Rule 2: the free chain, and the count of pages in use.
+ghost use Rattle.std.specs.Prelude.{◌≡◌, ◌<◌, ◌≤◌, ◌^◌, ◌↔◌, ◌⊎◌, ℕ, List, All, length, option_map, Contains, IfOk, IfSome, IsTrue, MatchOption};
+ghost use Rattle.hb_sound.specs.Chains.{IsChained, IsFreeBreak, live_facts};
+ghost use Rattle.hb_sound.specs.Facts.{next_at};
+ghost use Rattle.hb_sound.specs.Walks.{IsLeast, IsLeftOut, IsWalk};
+
+use crate::facts::{Fact, next_in};
+use hb_ops::Meta;
+use hb_space::NoMemory;
+use std::alloc::Global;
+
+/// What follows the free page of this number, where the chain hasn't met it yet.
+fn step_from(facts: &[Fact], chained: &[bool], id: u32) -> Option<u32>
+    requires { length chained.now ≡ length facts.now }
+{
+    let next = next_in(facts, id)?;
+    if chained[id as usize - 1] {
+        None
+    } else {
+        Some(next)
+    }
+}
+
+/// Marks the pages of the free chain, and gives the number at which it ends.
+fn walk(facts: &[Fact], head: u32, chained: &mut [bool]) -> u32
+    requires same { length chained.old ≡ length facts.now }
+    requires fresh { All (λ b. b ≡ false) chained.old }
+    ensures same { length chained.new ≡ length facts.now }
+    ensures walked { (chain : List ℕ) × IsWalk (next_at facts.now) head chain result × IsChained chain chained.new }
+{
+    let mut id = head;
+    while let Some(next) = step_from(facts, chained, id) {
+        chained[id as usize - 1] = true;
+        id = next;
+    }
+    id
+}
+
+/// Whether the chain leaves out the page of this place.
+fn is_left_out(fact: &Fact, chained: bool) -> bool {
+    matches!(fact, Fact::Free(_)) && !chained
+}
+
+/// The least free page that the chain leaves out.
+fn first_left_out(facts: &[Fact], chained: &[bool]) -> Option<u32>
+    requires few { length facts.now < 2 ^ 32 }
+    requires same { length chained.now ≡ length facts.now }
+    ensures { (chain : List ℕ) → IsChained chain chained.now → MatchOption result
+        ((id : ℕ) → ¬ (IsLeftOut (next_at facts.now) chain id))
+        (λ id. IsLeast (IsLeftOut (next_at facts.now) chain) id) }
+{
+    for (place, fact) in facts.iter().enumerate() {
+        if is_left_out(fact, chained[place]) {
+            return Some(place as u32 + 1);
+        }
+    }
+    None
+}
+
+/// How many pages are in use.
+fn count_live(facts: &[Fact]) -> u32
+    requires { length facts.now < 2 ^ 32 }
+    ensures { result ≡ live_facts facts.now }
+{
+    let mut live = 0;
+    for fact in facts {
+        if matches!(fact, Fact::Live(_)) {
+            live += 1;
+        }
+    }
+    live
+}
+
+/// The page that is named where rule 2 is broken.
+pub(crate) fn free_break(alloc: Global, meta: &Meta, facts: &[Fact]) -> Result<Option<u32>, NoMemory>
+    requires { length facts.now < 2 ^ 32 }
+    ensures { IfOk result (λ broken. IsFreeBreak meta.now facts.now broken) }
+{
+    let mut chained = vec![in alloc; false; facts.len()]?;
+    let end = walk(facts, meta.free, &mut chained);
+    if let Some(id) = first_left_out(facts, &chained) {
+        return Ok(Some(id));
+    }
+    if end == 0 && count_live(facts) == meta.live {
+        Ok(None)
+    } else {
+        Ok(Some(end))
+    }
+}

@@ -1,0 +1,88 @@
+//! Rule 9: one page of the whole space on each level, and one sibling leaf for each other page.
+ghost use Rattle.std.specs.Prelude.{◌≡◌, ◌<◌, ◌≤◌, ◌^◌, ◌↔◌, ◌⊎◌, ℕ, List, All, length, IfOk, IfSome, IsTrue, MatchOption};
+ghost use Rattle.hb_space.specs.declared.form.TheConstants.{KMAX};
+ghost use Rattle.hb_sound.specs.Covers.{CoverBreak, IsFirstWhole, IsLooseSeen, SeenLoose, SeenWhole};
+ghost use Rattle.hb_sound.specs.Walks.{IsLeast};
+
+use crate::facts::{Fact, Seen};
+use crate::names::Times;
+use hb_ops::Meta;
+use hb_space::{Area, NoMemory};
+use std::alloc::Global;
+
+/// Whether a page in use of this level has this box.
+fn is_same(fact: &Fact, level: u8, area: &Area) -> bool
+    ensures { IsTrue result ↔ IsSameFact level area.now fact.now }
+{
+    match fact {
+        Fact::Live(seen) => seen.level == level && seen.area == *area,
+        Fact::Free(_) => false,
+    }
+}
+
+/// The first page in use of this level with this box.
+fn first_same(facts: &[Fact], level: u8, area: &Area) -> Option<u32>
+    requires few { length facts.now < 2 ^ 32 }
+    ensures { MatchOption result ((id : ℕ) → ¬ (SeesSame facts.now level id area.now))
+        (IsLeast (λ id. SeesSame facts.now level id area.now)) }
+{
+    for (place, fact) in facts.iter().enumerate() {
+        if is_same(fact, level, area) {
+            return Some(place as u32 + 1);
+        }
+    }
+    None
+}
+
+/// The first page of the whole space of each level below the height, from level 0 on. None where a level has none.
+fn firsts_of(alloc: Global, facts: &[Fact], height: u8, whole: &Area) -> Result<Option<Vec<u32>>, NoMemory>
+    requires few { length facts.now < 2 ^ 32 }
+    ensures { IfOk result (λ firsts. AreFirsts facts.now height whole.now firsts) }
+{
+    let mut firsts = Vec::new(alloc);
+    for level in 0..height {
+        match first_same(facts, level, whole) {
+            Some(id) => firsts.push(id)?,
+            None => return Ok(None),
+        }
+    }
+    Ok(Some(firsts))
+}
+
+/// Whether the page in use of this number is of the whole space beside a lesser one, or of less and not named once.
+fn is_loose(seen: &Seen, id: u32, firsts: &[u32], times: Times, whole: &Area) -> bool
+{
+    if seen.area == *whole {
+        firsts.get(usize::from(seen.level)).is_some_and(|first| *first != id)
+    } else {
+        times != Times::Once
+    }
+}
+
+/// The first page that is loose.
+fn first_loose(facts: &[Fact], firsts: &[u32], named: &[Times], whole: &Area) -> Option<u32>
+    requires few { length facts.now < 2 ^ 32 }
+    requires same { length named.now ≡ length facts.now }
+{
+    for (place, fact) in facts.iter().enumerate() {
+        let id = place as u32 + 1;
+        if let Fact::Live(seen) = fact && is_loose(seen, id, firsts, named[place], whole) {
+            return Some(id);
+        }
+    }
+    None
+}
+
+/// The page that is named where rule 9 is broken.
+pub(crate) fn cover_break(alloc: Global, meta: &Meta, facts: &[Fact], named: &[Times]) -> Result<Option<u32>, NoMemory>
+    requires few { length facts.now < 2 ^ 32 }
+    requires same { length named.now ≡ length facts.now }
+    requires some { 1 ≤ meta.now.k }
+    requires most { meta.now.k ≤ KMAX }
+{
+    let whole = Area::whole(meta.k);
+    match firsts_of(alloc, facts, meta.height, &whole)? {
+        Some(firsts) => Ok(first_loose(facts, &firsts, named, &whole)),
+        None => Ok(Some(0)),
+    }
+}

@@ -1,0 +1,158 @@
+//! Rules 7 and 8: what leaves name.
+ghost use Rattle.std.specs.Prelude.{◌≡◌, ◌<◌, ◌≤◌, ◌↔◌, ◌⊎◌, ◌++◌, [], ◌∷◌, ℕ, List, Option, Some, None, All, length, vec_len, IfErr, IfOk, IfSome, IsErrOf, IsSome, IsTrue, MatchOption, OnOk};
+ghost use Rattle.hb_space.specs.Boxes.{Area as Extent};
+ghost use Rattle.hb_frag.specs.Leaves.{IsWellCut, WellCut, leaves_of};
+ghost use Rattle.hb_frag.specs.declared.pages.Page.{Page as Content};
+ghost use Rattle.hb_outside.specs.Streams.{Rose};
+ghost use Rattle.hb_ops.specs.declared.meta.Meta.{Meta as Said};
+ghost use Rattle.hb_sound.specs.Facts.{FindsBelow, FindsSame, SeesBelow, SeesSame};
+ghost use Rattle.hb_sound.specs.Links.{AreLinks, LinksTo, LinksAfter, IsFirstOf, no_links, StillLeast};
+ghost use Rattle.hb_sound.specs.Stops.{OnBroken};
+ghost use Rattle.hb_sound.specs.Told.{CoversFile, IsWhole, file_of, item_at};
+ghost use Rattle.hb_sound.specs.declared.pages.AuditStop.TheVariants.{Failed};
+
+use crate::facts::{Fact, seen_in};
+use crate::names::{Times, count_names};
+use crate::{AuditStop, Pages};
+use hb_frag::{Frag, Leaf, LivePage, Node, Page};
+use hb_ops::Meta;
+use hb_space::{Area, NoMemory};
+use std::alloc::Global;
+
+/// What the leaves of the pages name.
+#[derive(Debug, Drop)]
+pub(crate) struct Links {
+    /// How often sibling leaves name each page.
+    pub(crate) named: Vec<Times>,
+    /// The first page with a sibling leaf that names none of its level and the leaf's box.
+    pub(crate) sibling: Option<u32>,
+    /// The first page with a child leaf that names none one level down with the leaf's box in its own.
+    pub(crate) child: Option<u32>,
+}
+
+/// Whether a page in use of this number, which may be any, has this level and box.
+fn sees_same(facts: &[Fact], level: u8, id: u32, area: &Area) -> bool
+    ensures { IsTrue result ↔ SeesSame facts.now level id area.now }
+{
+    match seen_in(facts, id) {
+        Some(seen) => seen.level == level && seen.area == *area,
+        None => false,
+    }
+}
+
+/// Whether a page in use of this number, which may be any, is one level down and has this box in its own.
+fn sees_below(facts: &[Fact], level: u8, id: u32, area: &Area) -> bool
+    ensures { IsTrue result ↔ SeesBelow facts.now level id area.now }
+{
+    match seen_in(facts, id) {
+        Some(seen) => {
+            u16::from(seen.level) + 1 == u16::from(level)
+                && area.lo().attributes() == seen.area.lo().attributes()
+                && area.within(&seen.area)
+        }
+        None => false,
+    }
+}
+
+/// Whether each sibling leaf of the part, which has this box, names a page of its level and the leaf's box.
+fn siblings_match(facts: &[Fact], level: u8, frag: &Frag, area: &Area) -> bool
+    requires { IsWellCut frag.now area.now }
+    ensures { IsTrue result ↔ All (FindsSame facts.now level) (leaves_of frag.now area.now) }
+{
+    match &frag.node {
+        Node::Tip(Leaf::Sibling(id)) => sees_same(facts, level, *id, area),
+        Node::Tip(_) => true,
+        Node::Cut {
+            axis,
+            value,
+            left,
+            right,
+        } => {
+            let (below, from) = area.cut(*axis, *value);
+            siblings_match(facts, level, left, &below)
+                && siblings_match(facts, level, right, &from)
+        }
+    }
+}
+
+/// Whether each child leaf of the part, which has this box, names a page one level down with the leaf's box in its own.
+fn children_match(facts: &[Fact], level: u8, frag: &Frag, area: &Area) -> bool
+    requires { IsWellCut frag.now area.now }
+    ensures { IsTrue result ↔ All (FindsBelow facts.now level) (leaves_of frag.now area.now) }
+{
+    match &frag.node {
+        Node::Tip(Leaf::Child(id)) => sees_below(facts, level, *id, area),
+        Node::Tip(_) => true,
+        Node::Cut {
+            axis,
+            value,
+            left,
+            right,
+        } => {
+            let (below, from) = area.cut(*axis, *value);
+            children_match(facts, level, left, &below)
+                && children_match(facts, level, right, &from)
+        }
+    }
+}
+
+/// The first page that isn't good, after one more page.
+fn first_bad(first: Option<u32>, id: u32, good: bool) -> Option<u32>
+    ensures good { IsTrue good → result ≡ first }
+    ensures first { IsSome first → result ≡ first }
+    ensures bad { (IsTrue good → ⊥) → first ≡ None → result ≡ Some id }
+{
+    if good { first } else { first.or(Some(id)) }
+}
+
+impl Links {
+    /// Those of no page yet.
+    fn new(alloc: Global, count: usize) -> Result<Links, NoMemory>
+        ensures { IfOk result (λ links. AreNone links.named.items count (links.sibling) (links.child)) }
+    {
+        Ok(Links {
+            named: vec![in alloc; Times::Never; count]?,
+            sibling: None,
+            child: None,
+        })
+    }
+
+    /// Adds those of a page in use.
+    fn add(&mut self, facts: &[Fact], id: u32, page: &LivePage)
+        requires { WellCut page.now }
+    {
+        let same = siblings_match(facts, page.level, &page.frag, &page.area);
+        self.sibling = first_bad(self.sibling, id, same);
+        let below = children_match(facts, page.level, &page.frag, &page.area);
+        self.child = first_bad(self.child, id, below);
+        count_names(&page.frag, &mut self.named);
+    }
+
+    /// Adds those of the page of this number, which is read once more.
+    fn read<P: Pages>(&mut self, facts: &[Fact], pages: &mut P, id: u32) -> Result<(), AuditStop>
+    {
+        match pages.page(id)? {
+            Some(Page::Live(page)) => {
+                // only a page that was another when it was read first has a cut that doesn't cut
+                if !page.is_well_cut() {
+                    return Err(AuditStop::Broken { page: id, rule: 4 });
+                }
+                self.add(facts, id, &page);
+                Ok(())
+            }
+            Some(Page::Free { .. }) => Ok(()),
+            None => Err(AuditStop::Broken { page: id, rule: 0 }),
+        }
+    }
+}
+
+/// What the leaves of all pages up to the high mark name. The pages are read once more.
+pub(crate) fn read_links<P: Pages>(alloc: Global, facts: &[Fact], pages: &mut P) -> Result<Links, AuditStop>
+    requires { length facts.now < 2 ^ 32 }
+{
+    let mut links = Links::new(alloc, facts.len())?;
+    for place in 0..facts.len() as u32 {
+        links.read(facts, pages, place + 1)?;
+    }
+    Ok(links)
+}
