@@ -1,0 +1,3 @@
+mod NoneBroken
+mod Marked
+mod Firsts

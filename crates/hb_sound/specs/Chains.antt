@@ -12,10 +12,17 @@ abbrev pub IsChained : List ℕ → List Bool → Type 0
 IsChained chain marks = (id : ℕ) → Contains chain id ↔ (item_at marks id ≡ Some true)
 
 -- how many facts are of pages in use
+abbrev pub live_fact : Fact → ℕ
+live_fact (Live seen) = 1
+live_fact (Free next) = 0
+
 abbrev pub live_facts : List Fact → ℕ
 live_facts [] = 0
-live_facts (Live seen ∷ rest) = live_facts rest + 1
-live_facts (Free next ∷ rest) = live_facts rest
+live_facts (fact ∷ rest) = live_fact fact + live_facts rest
+
+abbrev pub IsFreeFact : Fact → Type 0
+IsFreeFact (Live seen) = ⊥
+IsFreeFact (Free next) = Unit {0}
 
 -- the chain ends at 0 and leaves out no free page, and the pages in use are counted
 pub record KeepsChain (meta : Meta) (facts : List Fact) (chain : List ℕ) (end : ℕ) : Type 0 where

@@ -28,7 +28,6 @@ pub record IsSeenOf (meta : Meta) (seen : Seen) (page : LivePage) : Type 0 where
   pub area : seen.area ≡ page.area
   pub rule : IsOwnRule seen.rule page meta
   pub records : seen.records ≡ length (page_records (pages.Live page))
-  pub light : seen.records < 2 ^ 32
 
 abbrev pub IsFactOf : Meta → Fact → Page → Type 0
 IsFactOf meta (Live seen) (pages.Live page) = IsSeenOf meta seen page
@@ -101,3 +100,16 @@ once_more Often = Often
 abbrev pub more : ℕ → Times → Times
 more zero times = times
 more (suc n) times = once_more (more n times)
+
+-- how many records the page has, fewer than 2^32
+abbrev pub records_seen : Fact → ℕ
+records_seen (Live seen) = seen.records
+records_seen (Free next) = 0
+
+abbrev pub IsLightFact : Fact → Type 0
+IsLightFact fact = records_seen fact < 2 ^ 32
+
+-- how many records the pages have together
+abbrev pub all_records : List Fact → ℕ
+all_records [] = 0
+all_records (fact ∷ rest) = records_seen fact + all_records rest

@@ -8,3 +8,4 @@ pub mod Facts
 pub mod Chains
 pub mod Links
 pub mod Covers
+pub mod Tests

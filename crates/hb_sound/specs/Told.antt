@@ -1,13 +1,13 @@
 -- The pages of a file that may be hard to read: each number from 1 to the high mark has a page, or bytes that are none.
-use Rattle.std.specs.Prelude.{◌≡◌, ℕ, ◌-◌, ◌==◌, ◌<◌, ◌≤◌, ◌⊎◌, if◌then◌else◌, List, [], ◌∷◌, length, take, Option, Some, None}
+use Rattle.std.specs.Prelude.{◌≡◌, ℕ, zero, suc, ◌<◌, ◌≤◌, ◌⊎◌, List, [], ◌∷◌, slice_get, length, take, Option, Some, None}
 use Rattle.hb_frag.specs.declared.pages.Page.{Page}
 use Rattle.hb_ops.specs.declared.meta.Meta.{Meta}
 use Rattle.hb_ops.specs.Files.{FileState}
 
 -- the item of a number of a list that is counted from 1
 abbrev pub item_at : {A : Type 0} → List A → ℕ → Option A
-item_at [] id = None
-item_at (item ∷ rest) id = if id == 0 then None else if id == 1 then Some item else item_at rest (id - 1)
+item_at list zero = None
+item_at list (suc place) = slice_get list place
 
 -- what is read under a number is what is told of it, where anything is told
 abbrev pub Gives : Option (List (Option Page)) → ℕ → Option Page → Type 0

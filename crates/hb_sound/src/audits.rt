@@ -1,21 +1,37 @@
 //! Whether a file is sound.
-ghost use Rattle.std.specs.Prelude.{◌≡◌, ◌<◌, ◌≤◌, ◌^◌, ◌↔◌, ℕ, IfErr, IfOk, IfSome, IsErrOf, IsTrue, length};
+ghost use Rattle.std.specs.Prelude.{◌≡◌, ◌+◌, ◌<◌, ◌≤◌, ◌^◌, ◌↔◌, ℕ, Some, None, All, length, vec_len, IfErr, IfOk, IfSome, IsErrOf, IsTrue, MatchOption, OnOk};
+ghost use Rattle.hb_space.specs.Boxes.{whole_area};
 ghost use Rattle.hb_outside.specs.Streams.{Rose};
 ghost use Rattle.hb_super.specs.Superblocks.{IsLayout};
+ghost use Rattle.hb_sound.specs.Covers.{HasRule, IsLeastRule, SeesRule, SeesTop};
 ghost use Rattle.hb_sound.specs.Marks.{HasMarks};
-ghost use Rattle.hb_sound.specs.Names.{IsSoundWith, Names};
+ghost use Rattle.hb_ops.specs.Files.{FileState};
+ghost use Rattle.hb_ops.specs.Sound.{IsSound};
+ghost use Rattle.hb_sound.specs.Facts.{IsLightFact, all_records, records_seen};
+ghost use Rattle.hb_sound.specs.Links.{AreLinks};
+ghost use Rattle.hb_sound.specs.Names.{IsSoundWith, KeepsSix, Names, NamesIn, SoundBreaksNone};
+ghost use Rattle.hb_sound.specs.Tests.{IsSeen};
 ghost use Rattle.hb_sound.specs.Stops.{OnBroken};
 ghost use Rattle.hb_sound.specs.Told.{CoversFile};
-ghost use Rattle.hb_sound.specs.declared.pages.AuditStop.TheVariants.{Failed};
+ghost use Rattle.hb_sound.specs.Walks.{IsLeast};
+ghost use Rattle.hb_sound.specs.declared.pages.AuditStop.TheVariants.{Broken, Failed};
 
 use crate::chains::free_break;
 use crate::covers::cover_break;
-use crate::facts::{Fact, read_facts, seen_in};
+use crate::facts::{Fact, Seen, read_facts, seen_in};
 use crate::links::{Links, read_links};
 use crate::{AuditStop, Pages};
 use hb_ops::Meta;
 use hb_space::Area;
 use std::alloc::Global;
+
+/// Whether what was seen is at the top of the file and has the whole space.
+fn is_top_page(meta: &Meta, seen: &Seen) -> bool
+    requires { IsLayout meta.now }
+    ensures { IsTrue result ↔ ((seen.now.level + 1 ≡ meta.now.height) × (seen.now.area ≡ whole_area meta.now.k)) }
+{
+    u16::from(seen.level) + 1 == u16::from(meta.height) && seen.area == Area::whole(meta.k)
+}
 
 /// Whether the root is in use at the top of the file and has the whole space.
 fn is_top(meta: &Meta, facts: &[Fact]) -> bool
@@ -23,10 +39,7 @@ fn is_top(meta: &Meta, facts: &[Fact]) -> bool
     ensures { IsTrue result ↔ SeesTop meta.now facts.now }
 {
     match seen_in(facts, meta.root) {
-        Some(root) => {
-            u16::from(root.level) + 1 == u16::from(meta.height)
-                && root.area == Area::whole(meta.k)
-        }
+        Some(root) => is_top_page(meta, root),
         None => false,
     }
 }
@@ -48,7 +61,7 @@ fn is_rooted(meta: &Meta, facts: &[Fact]) -> bool
 
 /// Whether this is the first rule that the page breaks by itself.
 fn breaks(fact: &Fact, rule: u8) -> bool
-    ensures { IsTrue result ↔ BreaksRule rule fact.now }
+    ensures { IsTrue result ↔ HasRule rule fact.now }
 {
     match fact {
         Fact::Live(seen) => seen.rule == rule,
@@ -59,7 +72,7 @@ fn breaks(fact: &Fact, rule: u8) -> bool
 /// The least page of which this is the first rule that it breaks by itself.
 fn first_breaking(facts: &[Fact], rule: u8) -> Option<u32>
     requires few { length facts.now < 2 ^ 32 }
-    ensures { MatchOption result ((id : ℕ) → ¬ (SeesBroken facts.now rule id)) (IsLeast (SeesBroken facts.now rule)) }
+    ensures { MatchOption result ((id : ℕ) → ¬ (SeesRule facts.now rule id)) (IsLeast (SeesRule facts.now rule)) }
 {
     for (place, fact) in facts.iter().enumerate() {
         if breaks(fact, rule) {
@@ -83,8 +96,8 @@ fn none_for(rule: u8, page: Option<u32>) -> Result<(), AuditStop>
 /// The rules 3 to 6.
 fn test_alone(facts: &[Fact]) -> Result<(), AuditStop>
     requires few { length facts.now < 2 ^ 32 }
-    ensures ok { OnOk result ((id rule : ℕ) → 3 ≤ rule → rule ≤ 6 → ¬ (SeesBroken facts.now rule id)) }
-    ensures err { IfErr result (λ stop. (id rule : ℕ) × (stop ≡ Broken id rule) × IsLeastBroken facts.now id rule) }
+    ensures ok { OnOk result ((id rule : ℕ) → 3 ≤ rule → rule ≤ 6 → ¬ (SeesRule facts.now rule id)) }
+    ensures err { IfErr result (λ stop. (id rule : ℕ) × (stop ≡ Broken id rule) × IsLeastRule facts.now id rule) }
 {
     for rule in 3..7 {
         none_for(rule, first_breaking(facts, rule))?;
@@ -97,6 +110,10 @@ fn test_pages(alloc: Global, meta: &Meta, facts: &[Fact]) -> Result<(), AuditSto
     requires layout { IsLayout meta.now }
     requires count { length facts.now ≡ meta.now.high }
     requires few { meta.now.high ≤ meta.now.pages }
+    ensures keeps { OnOk result ((s : FileState) → IsSeen meta.now facts.now s → KeepsSix s) }
+    ensures names { IfErr result (OnBroken (λ page rule. (s : FileState) → IsSeen meta.now facts.now s → NamesIn s page rule)) }
+    ensures marks { OnOk result (HasMarks meta.now) }
+    ensures no_fault { IsErrOf result Failed → ⊥ }
 {
     if !is_rooted(meta, facts) {
         return Err(AuditStop::Broken { page: 0, rule: 1 });
@@ -111,6 +128,11 @@ fn test_links(alloc: Global, meta: &Meta, facts: &[Fact], links: &Links) -> Resu
     requires count { length facts.now ≡ meta.now.high }
     requires few { meta.now.high ≤ meta.now.pages }
     requires same { vec_len links.now.named ≡ length facts.now }
+    ensures sound { OnOk result ((s : FileState) → IsSeen meta.now facts.now s → KeepsSix s
+        → AreLinks facts.now s.pages (length facts.now) links.now → IsSound s) }
+    ensures names { IfErr result (OnBroken (λ page rule. (s : FileState) → IsSeen meta.now facts.now s → KeepsSix s
+        → AreLinks facts.now s.pages (length facts.now) links.now → NamesIn s page rule)) }
+    ensures no_fault { IsErrOf result Failed → ⊥ }
 {
     none_for(7, links.sibling)?;
     none_for(8, links.child)?;
@@ -119,7 +141,9 @@ fn test_links(alloc: Global, meta: &Meta, facts: &[Fact], links: &Links) -> Resu
 }
 
 /// How many records the page has.
-fn records_seen(fact: &Fact) -> u64 {
+fn records_of(fact: &Fact) -> u64
+    ensures { result ≡ records_seen fact.now }
+{
     match fact {
         Fact::Live(seen) => seen.records,
         Fact::Free(_) => 0,
@@ -127,8 +151,16 @@ fn records_seen(fact: &Fact) -> u64 {
 }
 
 /// How many records the pages have together.
-fn count_records(facts: &[Fact]) -> u64 {
-    facts.iter().map(records_seen).sum()
+fn count_records(facts: &[Fact]) -> u64
+    requires few { length facts.now ≤ 65536 }
+    requires light { All IsLightFact facts.now }
+    ensures { result ≡ all_records facts.now }
+{
+    let mut records = 0;
+    for fact in facts {
+        records += records_of(fact);
+    }
+    records
 }
 
 /// Whether the file is sound: the number of its records, or the first rule that it breaks with the page that is named for
@@ -155,3 +187,9 @@ pub fn audit<P: Pages>(alloc: Global, meta: &Meta, pages: &mut P) -> Result<u64,
     test_links(alloc, meta, &facts, &links)?;
     Ok(count_records(&facts))
 }
+
+/// A sound file breaks no rule.
+#[tactic(auto, using(crate::proofs::NoneBroken::sound_breaks_none))]
+pub fn a_sound_file_breaks_no_rule()
+    ensures { SoundBreaksNone }
+{}

@@ -1,6 +1,6 @@
 //! Rule 2: the free chain, and the count of pages in use.
-ghost use Rattle.std.specs.Prelude.{◌≡◌, ◌<◌, ◌≤◌, ◌^◌, ◌↔◌, ◌⊎◌, ℕ, List, All, length, option_map, Contains, IfOk, IfSome, IsTrue, MatchOption};
-ghost use Rattle.hb_sound.specs.Chains.{IsChained, IsFreeBreak, live_facts};
+ghost use Rattle.std.specs.Prelude.{◌≡◌, ◌<◌, ◌≤◌, ◌^◌, ◌↔◌, ◌⊎◌, ℕ, List, All, length, option_map, false, IfOk, IsTrue, MatchOption};
+ghost use Rattle.hb_sound.specs.Chains.{IsChained, IsFreeBreak, IsFreeFact, live_fact, live_facts};
 ghost use Rattle.hb_sound.specs.Facts.{next_at};
 ghost use Rattle.hb_sound.specs.Walks.{IsLeast, IsLeftOut, IsWalk};
 
@@ -37,8 +37,13 @@ fn walk(facts: &[Fact], head: u32, chained: &mut [bool]) -> u32
 }
 
 /// Whether the chain leaves out the page of this place.
-fn is_left_out(fact: &Fact, chained: bool) -> bool {
-    matches!(fact, Fact::Free(_)) && !chained
+fn is_left_out(fact: &Fact, chained: bool) -> bool
+    ensures { IsTrue result ↔ (IsFreeFact fact.now × (chained ≡ false)) }
+{
+    match fact {
+        Fact::Live(_) => false,
+        Fact::Free(_) => !chained,
+    }
 }
 
 /// The least free page that the chain leaves out.
@@ -57,6 +62,17 @@ fn first_left_out(facts: &[Fact], chained: &[bool]) -> Option<u32>
     None
 }
 
+/// 1 for a page in use, else 0.
+fn count_one(fact: &Fact) -> u32
+    ensures value { result ≡ live_fact fact.now }
+    ensures one { result ≤ 1 }
+{
+    match fact {
+        Fact::Live(_) => 1,
+        Fact::Free(_) => 0,
+    }
+}
+
 /// How many pages are in use.
 fn count_live(facts: &[Fact]) -> u32
     requires { length facts.now < 2 ^ 32 }
@@ -64,9 +80,7 @@ fn count_live(facts: &[Fact]) -> u32
 {
     let mut live = 0;
     for fact in facts {
-        if matches!(fact, Fact::Live(_)) {
-            live += 1;
-        }
+        live += count_one(fact);
     }
     live
 }

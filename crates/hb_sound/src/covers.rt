@@ -1,7 +1,8 @@
 //! Rule 9: one page of the whole space on each level, and one sibling leaf for each other page.
-ghost use Rattle.std.specs.Prelude.{◌≡◌, ◌<◌, ◌≤◌, ◌^◌, ◌↔◌, ◌⊎◌, ℕ, List, All, length, IfOk, IfSome, IsTrue, MatchOption};
+ghost use Rattle.std.specs.Prelude.{◌≡◌, ◌<◌, ◌≤◌, ◌^◌, ◌↔◌, ℕ, List, length, IfOk, IsTrue, MatchOption};
 ghost use Rattle.hb_space.specs.declared.form.TheConstants.{KMAX};
-ghost use Rattle.hb_sound.specs.Covers.{CoverBreak, IsFirstWhole, IsLooseSeen, SeenLoose, SeenWhole};
+ghost use Rattle.hb_sound.specs.Covers.{AreBelow, AreFirsts, HasBox, IsCoverBreak, IsLooseSeen, LacksLevel, Sees, SeesLoose};
+ghost use Rattle.hb_sound.specs.declared.facts.Fact.{Fact as FactSeen};
 ghost use Rattle.hb_sound.specs.Walks.{IsLeast};
 
 use crate::facts::{Fact, Seen};
@@ -12,7 +13,7 @@ use std::alloc::Global;
 
 /// Whether a page in use of this level has this box.
 fn is_same(fact: &Fact, level: u8, area: &Area) -> bool
-    ensures { IsTrue result ↔ IsSameFact level area.now fact.now }
+    ensures { IsTrue result ↔ HasBox level area.now fact.now }
 {
     match fact {
         Fact::Live(seen) => seen.level == level && seen.area == *area,
@@ -23,8 +24,8 @@ fn is_same(fact: &Fact, level: u8, area: &Area) -> bool
 /// The first page in use of this level with this box.
 fn first_same(facts: &[Fact], level: u8, area: &Area) -> Option<u32>
     requires few { length facts.now < 2 ^ 32 }
-    ensures { MatchOption result ((id : ℕ) → ¬ (SeesSame facts.now level id area.now))
-        (IsLeast (λ id. SeesSame facts.now level id area.now)) }
+    ensures { MatchOption result ((id : ℕ) → ¬ (Sees (HasBox level area.now) facts.now id))
+        (IsLeast (Sees (HasBox level area.now) facts.now)) }
 {
     for (place, fact) in facts.iter().enumerate() {
         if is_same(fact, level, area) {
@@ -37,7 +38,7 @@ fn first_same(facts: &[Fact], level: u8, area: &Area) -> Option<u32>
 /// The first page of the whole space of each level below the height, from level 0 on. None where a level has none.
 fn firsts_of(alloc: Global, facts: &[Fact], height: u8, whole: &Area) -> Result<Option<Vec<u32>>, NoMemory>
     requires few { length facts.now < 2 ^ 32 }
-    ensures { IfOk result (λ firsts. AreFirsts facts.now height whole.now firsts) }
+    ensures { IfOk result (λ firsts. MatchOption firsts (LacksLevel facts.now height whole.now) (λ found. AreFirsts facts.now height whole.now found.items)) }
 {
     let mut firsts = Vec::new(alloc);
     for level in 0..height {
@@ -51,6 +52,8 @@ fn firsts_of(alloc: Global, facts: &[Fact], height: u8, whole: &Area) -> Result<
 
 /// Whether the page in use of this number is of the whole space beside a lesser one, or of less and not named once.
 fn is_loose(seen: &Seen, id: u32, firsts: &[u32], times: Times, whole: &Area) -> bool
+    ensures { (facts : List FactSeen) → AreFirsts facts (length firsts.now) whole.now firsts.now → seen.now.level < length firsts.now →
+        (IsTrue result ↔ IsLooseSeen facts whole.now id seen.now times) }
 {
     if seen.area == *whole {
         firsts.get(usize::from(seen.level)).is_some_and(|first| *first != id)
@@ -63,6 +66,9 @@ fn is_loose(seen: &Seen, id: u32, firsts: &[u32], times: Times, whole: &Area) ->
 fn first_loose(facts: &[Fact], firsts: &[u32], named: &[Times], whole: &Area) -> Option<u32>
     requires few { length facts.now < 2 ^ 32 }
     requires same { length named.now ≡ length facts.now }
+    requires firsts { AreFirsts facts.now (length firsts.now) whole.now firsts.now }
+    ensures { AreBelow (length firsts.now) facts.now → MatchOption result
+        ((id : ℕ) → ¬ (SeesLoose facts.now named.now whole.now id)) (IsLeast (SeesLoose facts.now named.now whole.now)) }
 {
     for (place, fact) in facts.iter().enumerate() {
         let id = place as u32 + 1;
@@ -79,6 +85,7 @@ pub(crate) fn cover_break(alloc: Global, meta: &Meta, facts: &[Fact], named: &[T
     requires same { length named.now ≡ length facts.now }
     requires some { 1 ≤ meta.now.k }
     requires most { meta.now.k ≤ KMAX }
+    ensures { IfOk result (λ broken. AreBelow meta.now.height facts.now → IsCoverBreak meta.now facts.now named.now broken) }
 {
     let whole = Area::whole(meta.k);
     match firsts_of(alloc, facts, meta.height, &whole)? {

@@ -1,15 +1,14 @@
 //! The few facts that the audit keeps of each page.
-ghost use Rattle.std.specs.Prelude.{◌≡◌, ◌<◌, ◌≤◌, ◌^◌, ◌↔◌, ◌⊎◌, ◌==◌, ℕ, if◌then◌else◌, ◌++◌, [], ◌∷◌, length, flat_map, option_map, vec_len, IfErr, IfOk, IfSome, IsErrOf, IsTrue, MatchOption, OnOk};
+ghost use Rattle.std.specs.Prelude.{◌≡◌, ◌<◌, ◌≤◌, ◌^◌, ◌⊎◌, ◌++◌, [], ◌∷◌, Some, None, All, length, flat_map, option_map, vec_len, IfErr, IfOk, IfSome, IsErrOf, OnOk};
 ghost use Rattle.hb_frag.specs.Leaves.{leaf_weight, leaves, records_of, weight_of};
+ghost use Rattle.hb_frag.specs.declared.pages.Page.{Page as Content};
+ghost use Rattle.hb_frag.specs.declared.pages.Page.TheVariants as content;
 ghost use Rattle.hb_outside.specs.Streams.{Rose};
 ghost use Rattle.hb_page_codec.specs.Weight.{IsLight};
 ghost use Rattle.hb_ops.specs.Files.{page_records};
-ghost use Rattle.hb_ops.specs.LocalRule.{BreaksFirst};
-ghost use Rattle.hb_ops.specs.Sound.{FitsFile};
-ghost use Rattle.hb_frag.specs.declared.pages.Page.TheVariants as content;
-ghost use Rattle.hb_sound.specs.Facts.{AreFactsOf, IsFactOf, IsOwnRule, IsSeenOf, next_at, seen_at};
+ghost use Rattle.hb_sound.specs.Facts.{AreFactsOf, IsFactOf, IsLightFact, IsOwnRule, IsSeenOf, next_at, seen_at};
 ghost use Rattle.hb_sound.specs.Stops.{OnBroken};
-ghost use Rattle.hb_sound.specs.Told.{Gives, IsHole, IsWhole, CoversFile, file_of, item_at};
+ghost use Rattle.hb_sound.specs.Told.{CoversFile, IsHole, IsWhole, file_of, item_at};
 ghost use Rattle.hb_sound.specs.Walks.{IsLeast};
 ghost use Rattle.hb_sound.specs.declared.pages.AuditStop.TheVariants.{Failed};
 
@@ -89,7 +88,8 @@ fn own_rule(page: &LivePage, meta: &Meta) -> u8
 /// What is kept of a page in use.
 fn seen_of(page: LivePage, meta: &Meta) -> Seen
     requires { weight_of page.frag < 2 ^ 32 }
-    ensures { IsSeenOf meta.now result page }
+    ensures seen { IsSeenOf meta.now result page }
+    ensures light { result.records < 2 ^ 32 }
 {
     let rule = own_rule(&page, meta);
     let records = records_in(&page);
@@ -104,7 +104,8 @@ fn seen_of(page: LivePage, meta: &Meta) -> Seen
 /// What is kept of a page.
 fn fact_of(page: Page, meta: &Meta) -> Fact
     requires { IsLight page }
-    ensures { IsFactOf meta.now result page }
+    ensures fact { IsFactOf meta.now result page }
+    ensures light { IsLightFact result }
 {
     match page {
         Page::Live(page) => Fact::Live(seen_of(page, meta)),
@@ -114,7 +115,8 @@ fn fact_of(page: Page, meta: &Meta) -> Fact
 
 /// Reads the page of a number, and keeps what is kept of it. Broken: it is beyond the pages of the file, or none is there.
 fn read_fact<P: Pages>(meta: &Meta, pages: &mut P, id: u32) -> Result<Fact, AuditStop>
-    ensures fact { IfOk result (λ fact. IfSome (P.told pages.old) (λ told. (page : Page) → item_at told id ≡ Some (Some page) → IsFactOf meta.now fact page)) }
+    ensures fact { IfOk result (λ fact. IfSome (P.told pages.old) (λ told. (page : Content) → item_at told id ≡ Some (Some page) → IsFactOf meta.now fact page)) }
+    ensures light { IfOk result IsLightFact }
     ensures there { IfOk result (λ fact. (id ≤ meta.now.pages) × IfSome (P.told pages.old) (λ told. item_at told id ≡ Some None → ⊥)) }
     ensures hole { IfErr result (OnBroken (λ page rule. (page ≡ id) × (rule ≡ 0)
         × IfSome (P.told pages.old) (λ told. (meta.now.pages < id) ⊎ (id ≤ length told → item_at told id ≡ Some None)))) }
@@ -144,6 +146,7 @@ fn keep(facts: &mut Vec<Fact>, fact: Fact) -> Result<(), NoMemory>
 pub(crate) fn read_facts<P: Pages>(alloc: Global, meta: &Meta, pages: &mut P) -> Result<Vec<Fact>, AuditStop>
     requires { IfSome (P.told pages.old) (CoversFile meta.now) }
     ensures facts { IfOk result (λ facts. IfSome (P.told pages.old) (λ told. IsWhole meta.now told × AreFactsOf meta.now facts.items (file_of meta.now told).pages)) }
+    ensures light { IfOk result (λ facts. All IsLightFact facts.items) }
     ensures count { IfOk result (λ facts. (vec_len facts ≡ meta.now.high) × (meta.now.high ≤ meta.now.pages)) }
     ensures hole { IfErr result (OnBroken (λ page rule. IfSome (P.told pages.old) (λ told. (rule ≡ 0) × IsLeast (IsHole meta.now told) page))) }
     ensures stays { P.told pages.new ≡ P.told pages.old }

@@ -16,5 +16,5 @@ mod pages;
 #[cfg(test)]
 mod tests;
 
-pub use audits::audit;
+pub use audits::{a_sound_file_breaks_no_rule, audit};
 pub use pages::{AuditStop, PageStop, Pages};
