@@ -1,6 +1,7 @@
 -- The first number of which something holds, found by a loop.
-use Rattle.std.proofs.Common.{◌≡◌, ◌⊎◌, inl, inr, ℕ, zero, suc, ◌+◌, ◌<◌, ◌≤◌, List, length, Option, Some, None, slice_get, refl, sym, ap, ◌∙◌, subst, arith}
-use Rattle.std.proofs.lemmas.Option.{slice_get_within}
+use Rattle.std.proofs.Common.{◌≡◌, ◌⊎◌, inl, inr, ℕ, zero, suc, ◌+◌, ◌<◌, ◌≤◌, List, length, Option, Some, None, slice_get, get_or, refl, sym, ap, ◌∙◌, subst, arith}
+use Rattle.std.proofs.lemmas.Option.{slice_get_read, slice_get_within}
+use Rattle.std.proofs.lemmas.Bool.{cases_lt}
 use Rattle.hb_sound.specs.declared.facts.Fact.{Fact}
 use Rattle.hb_sound.specs.Covers.{Sees}
 use Rattle.hb_sound.specs.Links.{IsFirstUpTo}
@@ -26,16 +27,16 @@ found p n none here = record {
 }
   where
     later : (m : ℕ) → p m → n + 1 ≤ m
-    later m at = elim (cases_le m n) [
-      | inl le ↦ absurd (none m le at)
-      | inr lt ↦ omega (arith, lt)
+    later m at = elim (cases_lt n m) [
+      | inl lt ↦ omega (arith, lt)
+      | inr le ↦ absurd (none m le at)
     ]
 
 -- not yet
 pub not_yet : (p : ℕ → Type 0) (n : ℕ) → IsFirstUpTo p n None → ¬ (p (n + 1)) → IsFirstUpTo p (n + 1) None
-not_yet p n none not_here m le at = elim (cases_le m n) [
-  | inl at_most ↦ none m at_most at
-  | inr lt ↦
+not_yet p n none not_here m le at = elim (cases_lt n m) [
+  | inr at_most ↦ none m at_most at
+  | inl lt ↦
       let e : m ≡ n + 1 = omega (arith, lt, le) in
       not_here (subst p e at)
 ]
@@ -55,8 +56,20 @@ seen_there q facts place fact e sees =
     let is : sees.0 ≡ fact = cc in
     subst q is sees.2
 
--- none at all
-pub none_at_all : (q : Fact → Type 0) (facts : List Fact) (n : ℕ) → n ≡ length facts → IsFirstUpTo (Sees q facts) n None → (id : ℕ) → ¬ (Sees q facts id)
-none_at_all q facts n all none id sees =
+-- the three ends of a loop that tests the facts one by one
+read_here : (facts : List Fact) (place : ℕ) (fact : Fact) → place < length facts → fact ≡ get_or facts place fact → slice_get facts place ≡ Some fact
+read_here facts place fact within is = slice_get_read facts (length facts) place fact refl within is
+
+pub found_here : (q : Fact → Type 0) (facts : List Fact) (place : ℕ) (fact : Fact) → place < length facts → fact ≡ get_or facts place fact
+    → IsFirstUpTo (Sees q facts) place None → q fact → IsLeast (Sees q facts) (place + 1)
+found_here q facts place fact within is none holds = found (Sees q facts) place none (seen_here q facts place fact (read_here facts place fact within is) holds)
+
+pub still_none : (q : Fact → Type 0) (facts : List Fact) (place : ℕ) (fact : Fact) → place < length facts → fact ≡ get_or facts place fact
+    → IsFirstUpTo (Sees q facts) place None → ¬ (q fact) → IsFirstUpTo (Sees q facts) (place + 1) None
+still_none q facts place fact within is none fails =
+    not_yet (Sees q facts) place none (λ sees. fails (seen_there q facts place fact (read_here facts place fact within is) sees))
+
+pub none_left : (q : Fact → Type 0) (facts : List Fact) (n : ℕ) → length facts ≤ n → IsFirstUpTo (Sees q facts) n None → (id : ℕ) → ¬ (Sees q facts id)
+none_left q facts n all none id sees =
     let within = item_within facts id sees.0 sees.1 in
     none id (omega (arith, within, all)) sees

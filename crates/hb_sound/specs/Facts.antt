@@ -67,22 +67,23 @@ abbrev pub SeesBelow : List Fact → ℕ → ℕ → Area → Type 0
 SeesBelow facts level name area = (seen : Seen) × (seen_at facts name ≡ Some seen) × (seen.level + 1 ≡ level)
     × (length area.lo ≡ length seen.area.lo) × Within area seen.area
 
--- so for the leaf, where it is a sibling leaf, and where it is a child leaf
-abbrev pub FindsSame : List Fact → ℕ → Placed → Type 0
-FindsSame facts level placed = same placed.leaf
-  where
-    same : Leaf → Type 0
-    same (Records records) = Unit {0}
-    same (Child name) = Unit {0}
-    same (Sibling name) = SeesSame facts level name placed.area
+-- what holds of the page that a leaf names, where it is a sibling leaf, and where it is a child leaf
+abbrev pub IfSibling : (ℕ → Type 0) → Leaf → Type 0
+IfSibling p (Records records) = Unit {0}
+IfSibling p (Child name) = Unit {0}
+IfSibling p (Sibling name) = p name
 
-abbrev pub FindsBelow : List Fact → ℕ → Placed → Type 0
-FindsBelow facts level placed = below placed.leaf
-  where
-    below : Leaf → Type 0
-    below (Records records) = Unit {0}
-    below (Child name) = SeesBelow facts level name placed.area
-    below (Sibling name) = Unit {0}
+abbrev pub IfChild : (ℕ → Type 0) → Leaf → Type 0
+IfChild p (Records records) = Unit {0}
+IfChild p (Child name) = p name
+IfChild p (Sibling name) = Unit {0}
+
+-- a leaf, where it is a sibling leaf, names a page of this level and its box; where it is a child leaf, one below
+pub record FindsSame (facts : List Fact) (level : ℕ) (placed : Placed) : Type 0 where
+  pub same : IfSibling (λ name. SeesSame facts level name placed.area) placed.leaf
+
+pub record FindsBelow (facts : List Fact) (level : ℕ) (placed : Placed) : Type 0 where
+  pub below : IfChild (λ name. SeesBelow facts level name placed.area) placed.leaf
 
 -- how often sibling leaves among these name the page
 abbrev pub names_in : ℕ → List Leaf → ℕ

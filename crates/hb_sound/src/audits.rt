@@ -189,7 +189,6 @@ pub fn audit<P: Pages>(alloc: Global, meta: &Meta, pages: &mut P) -> Result<u64,
 }
 
 /// A sound file breaks no rule.
-#[tactic(auto, using(crate::proofs::NoneBroken::sound_breaks_none))]
 pub fn a_sound_file_breaks_no_rule()
     ensures { SoundBreaksNone }
 {}

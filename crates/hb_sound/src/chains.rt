@@ -1,7 +1,8 @@
 //! Rule 2: the free chain, and the count of pages in use.
-ghost use Rattle.std.specs.Prelude.{◌≡◌, ◌<◌, ◌≤◌, ◌^◌, ◌↔◌, ◌⊎◌, ℕ, List, All, length, option_map, false, IfOk, IsTrue, MatchOption};
+ghost use Rattle.std.specs.Prelude.{◌≡◌, ◌<◌, ◌≤◌, ◌^◌, ◌↔◌, ◌⊎◌, ℕ, List, All, length, Some, None, true, false, IfOk, IsTrue, MatchOption};
 ghost use Rattle.hb_sound.specs.Chains.{IsChained, IsFreeBreak, IsFreeFact, live_fact, live_facts};
 ghost use Rattle.hb_sound.specs.Facts.{next_at};
+ghost use Rattle.hb_sound.specs.Told.{item_at};
 ghost use Rattle.hb_sound.specs.Walks.{IsLeast, IsLeftOut, IsWalk};
 
 use crate::facts::{Fact, next_in};
@@ -12,6 +13,8 @@ use std::alloc::Global;
 /// What follows the free page of this number, where the chain hasn't met it yet.
 fn step_from(facts: &[Fact], chained: &[bool], id: u32) -> Option<u32>
     requires { length chained.now ≡ length facts.now }
+    ensures { MatchOption result ((next_at facts.now id ≡ None) ⊎ (item_at chained.now id ≡ Some true))
+        (λ next. (next_at facts.now id ≡ Some next) × (item_at chained.now id ≡ Some false)) }
 {
     let next = next_in(facts, id)?;
     if chained[id as usize - 1] {

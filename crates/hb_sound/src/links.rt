@@ -58,14 +58,33 @@ fn sees_below(facts: &[Fact], level: u8, id: u32, area: &Area) -> bool
     }
 }
 
+/// Whether the leaf with this box, where it is a sibling leaf, names a page of its level and box.
+fn finds_same(facts: &[Fact], level: u8, leaf: &Leaf, area: &Area) -> bool
+    ensures { IsTrue result ↔ FindsSame facts.now level (record { leaf = leaf.now; area = area.now }) }
+{
+    match leaf {
+        Leaf::Sibling(id) => sees_same(facts, level, *id, area),
+        Leaf::Records(_) | Leaf::Child(_) => true,
+    }
+}
+
+/// Whether the leaf with this box, where it is a child leaf, names a page one level down with the box in its own.
+fn finds_below(facts: &[Fact], level: u8, leaf: &Leaf, area: &Area) -> bool
+    ensures { IsTrue result ↔ FindsBelow facts.now level (record { leaf = leaf.now; area = area.now }) }
+{
+    match leaf {
+        Leaf::Child(id) => sees_below(facts, level, *id, area),
+        Leaf::Records(_) | Leaf::Sibling(_) => true,
+    }
+}
+
 /// Whether each sibling leaf of the part, which has this box, names a page of its level and the leaf's box.
 fn siblings_match(facts: &[Fact], level: u8, frag: &Frag, area: &Area) -> bool
     requires { IsWellCut frag.now area.now }
     ensures { IsTrue result ↔ All (FindsSame facts.now level) (leaves_of frag.now area.now) }
 {
     match &frag.node {
-        Node::Tip(Leaf::Sibling(id)) => sees_same(facts, level, *id, area),
-        Node::Tip(_) => true,
+        Node::Tip(leaf) => finds_same(facts, level, leaf, area),
         Node::Cut {
             axis,
             value,
@@ -85,8 +104,7 @@ fn children_match(facts: &[Fact], level: u8, frag: &Frag, area: &Area) -> bool
     ensures { IsTrue result ↔ All (FindsBelow facts.now level) (leaves_of frag.now area.now) }
 {
     match &frag.node {
-        Node::Tip(Leaf::Child(id)) => sees_below(facts, level, *id, area),
-        Node::Tip(_) => true,
+        Node::Tip(leaf) => finds_below(facts, level, leaf, area),
         Node::Cut {
             axis,
             value,
