@@ -1,5 +1,7 @@
 mod NoneBroken
 mod Marked
+mod LeftOut
+mod Levels
 mod Firsts
 mod PartTests
 mod LeafBoxes

@@ -100,7 +100,9 @@ fn test_alone(facts: &[Fact]) -> Result<(), AuditStop>
     ensures err { IfErr result (λ stop. (id rule : ℕ) × (stop ≡ Broken id rule) × IsLeastRule facts.now id rule) }
 {
     for rule in 3..7 {
-        none_for(rule, first_breaking(facts, rule))?;
+        if let Some(page) = first_breaking(facts, rule) {
+            return Err(AuditStop::Broken { page, rule });
+        }
     }
     Ok(())
 }

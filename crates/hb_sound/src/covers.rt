@@ -1,8 +1,9 @@
 //! Rule 9: one page of the whole space on each level, and one sibling leaf for each other page.
-ghost use Rattle.std.specs.Prelude.{◌≡◌, ◌<◌, ◌≤◌, ◌^◌, ◌↔◌, ℕ, List, length, IfOk, IsTrue, MatchOption};
+ghost use Rattle.std.specs.Prelude.{◌≡◌, ◌<◌, ◌≤◌, ◌^◌, ◌↔◌, ℕ, List, Some, length, IfOk, IsTrue, MatchOption};
 ghost use Rattle.hb_space.specs.declared.form.TheConstants.{KMAX};
 ghost use Rattle.hb_sound.specs.Covers.{AreBelow, AreFirsts, HasBox, IsCoverBreak, IsLooseSeen, LacksLevel, Sees, SeesLoose};
 ghost use Rattle.hb_sound.specs.declared.facts.Fact.{Fact as FactSeen};
+ghost use Rattle.hb_sound.specs.Facts.{seen_at};
 ghost use Rattle.hb_sound.specs.Walks.{IsLeast};
 
 use crate::facts::{Fact, Seen};
@@ -53,10 +54,13 @@ fn firsts_of(alloc: Global, facts: &[Fact], height: u8, whole: &Area) -> Result<
 /// Whether the page in use of this number is of the whole space beside a lesser one, or of less and not named once.
 fn is_loose(seen: &Seen, id: u32, firsts: &[u32], times: Times, whole: &Area) -> bool
     ensures { (facts : List FactSeen) → AreFirsts facts (length firsts.now) whole.now firsts.now → seen.now.level < length firsts.now →
-        (IsTrue result ↔ IsLooseSeen facts whole.now id seen.now times) }
+        seen_at facts id ≡ Some seen.now → (IsTrue result ↔ IsLooseSeen facts whole.now id seen.now times) }
 {
     if seen.area == *whole {
-        firsts.get(usize::from(seen.level)).is_some_and(|first| *first != id)
+        match firsts.get(usize::from(seen.level)) {
+            Some(first) => *first != id,
+            None => false,
+        }
     } else {
         times != Times::Once
     }

@@ -115,6 +115,7 @@ fn fact_of(page: Page, meta: &Meta) -> Fact
 
 /// Reads the page of a number, and keeps what is kept of it. Broken: it is beyond the pages of the file, or none is there.
 fn read_fact<P: Pages>(meta: &Meta, pages: &mut P, id: u32) -> Result<Fact, AuditStop>
+    requires some { 1 ≤ id }
     ensures fact { IfOk result (λ fact. IfSome (P.told pages.old) (λ told. (page : Content) → item_at told id ≡ Some (Some page) → IsFactOf meta.now fact page)) }
     ensures light { IfOk result IsLightFact }
     ensures there { IfOk result (λ fact. (id ≤ meta.now.pages) × IfSome (P.told pages.old) (λ told. item_at told id ≡ Some None → ⊥)) }

@@ -34,8 +34,9 @@ fn count_one(id: u32, named: &mut [Times])
     let Some(place) = id.checked_sub(1) else {
         return;
     };
-    if let Some(times) = named.get_mut(place as usize) {
-        *times = times.again();
+    let place = place as usize;
+    if place < named.len() {
+        named[place] = named[place].again();
     }
 }
 

@@ -18,3 +18,6 @@ loop-rule-preserved c id rule some few sees =
 
 pub returns-clause-ok : goal.returns-clause-ok
 returns-clause-ok c id rule some few sees = let end = c.loop-rule-test.false in c.loop-rule.invariant id rule some (omega (arith, few, end)) sees
+
+pub returns-in_err-none_for-clause-err : goal.returns-in_err-none_for-clause-err
+returns-in_err-none_for-clause-err c = ?
