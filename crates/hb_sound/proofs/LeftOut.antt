@@ -22,9 +22,9 @@ has_fact : (o : Option Fact) (n : ℕ) → if_next o ≡ Some n → (fact : Fact
 has_fact None n e = let never : None ≡ Some n = e in cc
 has_fact (Some fact) n e = (fact, refl)
 
-by_mark : (b : Bool) → (b ≡ false → ⊥) → b ≡ true
-by_mark true no = refl
-by_mark false no = absurd (no refl)
+by_mark : (b : Bool) → ¬ (b ≡ false) → b ≡ true
+by_mark true off = refl
+by_mark false off = absurd (off refl)
 
 module _ (facts : List Fact) (marks : List Bool) (chain : List ℕ) (place : ℕ) (fact : Fact) (d : Bool)
     (within : place < length facts) (is : fact ≡ get_or facts place fact) (same : length marks ≡ length facts) (chained : IsChained chain marks) where

@@ -48,7 +48,7 @@ module _ (facts : List Fact) (whole : Area) (firsts : List ℕ) (id first : ℕ)
 
   pub not_first_is_loose : first ≢ id → IsLooseSeen facts whole id seen times
   not_first_is_loose other =
-      let here : Sees (HasBox seen.level whole) facts id = (Live seen, seen_fact (item_at facts id) seen at, refl, boxed) in
+      let here : Sees (HasBox seen.level whole) facts id = (Live seen, seen_fact (item_at facts id) seen at, (refl, boxed)) in
       let le = least.least id here in
       inl (boxed, first, omega (arith, le, other), least.here)
 

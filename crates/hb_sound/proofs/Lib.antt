@@ -7,3 +7,4 @@ mod PartTests
 mod LeafBoxes
 mod Counts
 mod ToldPages
+mod ReadUp

@@ -6,8 +6,7 @@ use Rattle.hb_sound.proofs.audits.test_alone.Goals as goal
 
 pub loop-rule-preserved : goal.loop-rule-preserved
 loop-rule-preserved c id rule some few sees =
-    let Q : Option ℕ → Type 0 = λ o. MatchOption o ((n : ℕ) → ¬ (SeesRule c.args.facts.now c.loop-rule.rule n)) (IsLeast (SeesRule c.args.facts.now c.loop-rule.rule)) in
-    let none = subst Q c.in_ok-none_for.ensures.ok c.first_breaking.ensures in
+    let none = c.in_default-first_breaking.ensures in
     elim (cases_lt rule c.loop-rule.rule) [
       | inl before ↦ c.loop-rule.invariant id rule some before sees
       | inr here ↦
@@ -18,6 +17,3 @@ loop-rule-preserved c id rule some few sees =
 
 pub returns-clause-ok : goal.returns-clause-ok
 returns-clause-ok c id rule some few sees = let end = c.loop-rule-test.false in c.loop-rule.invariant id rule some (omega (arith, few, end)) sees
-
-pub returns-in_err-none_for-clause-err : goal.returns-in_err-none_for-clause-err
-returns-in_err-none_for-clause-err c = ?
