@@ -8,3 +8,4 @@ mod LeafBoxes
 mod Counts
 mod ToldPages
 mod ReadUp
+mod Bridge

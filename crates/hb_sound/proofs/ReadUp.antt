@@ -18,7 +18,9 @@ pub record IsReadTo (meta : Meta) (told : List (Option Page)) (n : ℕ) (facts :
 pub take_more : {A : Type 0} (xs : List A) (n : ℕ) (x : A) → slice_get xs n ≡ Some x → take (n + 1) xs ≡ take n xs ++ x ∷ []
 take_more {A} [] n x e = let never : None ≡ Some x = e in cc
 take_more {A} (y ∷ xs) zero x e = let is : y ≡ x = cc in ap (λ (z : A). z ∷ []) is
-take_more {A} (y ∷ xs) (suc n) x e = ap (λ (l : List A). y ∷ l) (take_more xs n x e)
+take_more {A} (y ∷ xs) (suc n) x e =
+    let one : suc n + 1 ≡ suc (n + 1) = omega arith in
+    ap (λ (m : ℕ). take m (y ∷ xs)) one ∙ ap (λ (l : List A). y ∷ l) (take_more xs n x e)
 
 shown_more : (xs : List (Option Page)) (page : Page) → shown (xs ++ Some page ∷ []) ≡ shown xs ++ page ∷ []
 shown_more [] page = refl

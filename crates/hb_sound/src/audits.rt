@@ -1,16 +1,16 @@
 //! Whether a file is sound.
-ghost use Rattle.std.specs.Prelude.{◌≡◌, ◌+◌, ◌<◌, ◌≤◌, ◌^◌, ◌↔◌, ℕ, Some, None, All, length, vec_len, IfErr, IfOk, IfSome, IsErrOf, IsTrue, MatchOption, OnOk};
+ghost use Rattle.std.specs.Prelude.{◌≡◌, ◌+◌, ◌<◌, ◌≤◌, ◌^◌, ◌↔◌, ℕ, List, Some, None, All, length, vec_len, IfErr, IfOk, IfSome, IsErrOf, IsTrue, MatchOption, OnOk};
 ghost use Rattle.hb_space.specs.Boxes.{whole_area};
+ghost use Rattle.hb_frag.specs.declared.pages.Page.{Page as Content};
 ghost use Rattle.hb_outside.specs.Streams.{Rose};
 ghost use Rattle.hb_super.specs.Superblocks.{IsLayout};
 ghost use Rattle.hb_sound.specs.Covers.{HasRule, IsLeastRule, SeesRule, SeesTop};
 ghost use Rattle.hb_sound.specs.Marks.{HasMarks};
-ghost use Rattle.hb_ops.specs.Files.{FileState};
 ghost use Rattle.hb_ops.specs.Sound.{IsSound};
-ghost use Rattle.hb_sound.specs.Facts.{IsLightFact, all_records, records_seen};
+ghost use Rattle.hb_sound.specs.Facts.{AreFactsOf, IsLightFact, all_records, records_seen};
 ghost use Rattle.hb_sound.specs.Links.{AreLinks};
 ghost use Rattle.hb_sound.specs.Names.{IsSoundWith, KeepsSix, Names, NamesIn, SoundBreaksNone};
-ghost use Rattle.hb_sound.specs.Tests.{IsSeen};
+ghost use Rattle.hb_sound.specs.Tests.{file_with};
 ghost use Rattle.hb_sound.specs.Stops.{OnBroken};
 ghost use Rattle.hb_sound.specs.Told.{CoversFile};
 ghost use Rattle.hb_sound.specs.Walks.{IsLeast};
@@ -112,8 +112,8 @@ fn test_pages(alloc: Global, meta: &Meta, facts: &[Fact]) -> Result<(), AuditSto
     requires layout { IsLayout meta.now }
     requires count { length facts.now ≡ meta.now.high }
     requires few { meta.now.high ≤ meta.now.pages }
-    ensures keeps { OnOk result ((s : FileState) → IsSeen meta.now facts.now s → KeepsSix s) }
-    ensures names { IfErr result (OnBroken (λ page rule. (s : FileState) → IsSeen meta.now facts.now s → NamesIn s page rule)) }
+    ensures keeps { OnOk result ((list : List Content) → AreFactsOf meta.now facts.now list → KeepsSix (file_with meta.now list)) }
+    ensures names { IfErr result (OnBroken (λ page rule. (list : List Content) → AreFactsOf meta.now facts.now list → NamesIn (file_with meta.now list) page rule)) }
     ensures marks { OnOk result (HasMarks meta.now) }
     ensures no_fault { IsErrOf result Failed → ⊥ }
 {
@@ -130,10 +130,10 @@ fn test_links(alloc: Global, meta: &Meta, facts: &[Fact], links: &Links) -> Resu
     requires count { length facts.now ≡ meta.now.high }
     requires few { meta.now.high ≤ meta.now.pages }
     requires same { vec_len links.now.named ≡ length facts.now }
-    ensures sound { OnOk result ((s : FileState) → IsSeen meta.now facts.now s → KeepsSix s
-        → AreLinks facts.now s.pages (length facts.now) links.now → IsSound s) }
-    ensures names { IfErr result (OnBroken (λ page rule. (s : FileState) → IsSeen meta.now facts.now s → KeepsSix s
-        → AreLinks facts.now s.pages (length facts.now) links.now → NamesIn s page rule)) }
+    ensures sound { OnOk result ((list : List Content) → AreFactsOf meta.now facts.now list → KeepsSix (file_with meta.now list)
+        → AreLinks facts.now list (length facts.now) links.now → IsSound (file_with meta.now list)) }
+    ensures names { IfErr result (OnBroken (λ page rule. (list : List Content) → AreFactsOf meta.now facts.now list → KeepsSix (file_with meta.now list)
+        → AreLinks facts.now list (length facts.now) links.now → NamesIn (file_with meta.now list) page rule)) }
     ensures no_fault { IsErrOf result Failed → ⊥ }
 {
     none_for(7, links.sibling)?;

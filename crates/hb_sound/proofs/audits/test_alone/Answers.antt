@@ -6,7 +6,7 @@ use Rattle.hb_sound.proofs.audits.test_alone.Goals as goal
 
 pub loop-rule-preserved : goal.loop-rule-preserved
 loop-rule-preserved c id rule some few sees =
-    let none = c.in_default-first_breaking.ensures in
+    let none = c.in_default.ensures in
     elim (cases_lt rule c.loop-rule.rule) [
       | inl before ↦ c.loop-rule.invariant id rule some before sees
       | inr here ↦
