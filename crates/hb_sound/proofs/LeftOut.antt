@@ -1,13 +1,14 @@
 -- The free pages that the chain leaves out.
-use Rattle.std.proofs.Common.{◌≡◌, ◌⊎◌, inl, inr, ℕ, zero, suc, ◌+◌, ◌<◌, ◌≤◌, Bool, true, false, List, length, Contains, Option, Some, None, get_or, slice_get, refl, sym, ap, ◌∙◌, subst, arith}
+use Rattle.std.proofs.Common.{◌≡◌, ◌⊎◌, inl, inr, ℕ, zero, suc, ◌+◌, ◌<◌, ◌≤◌, Bool, true, false, List, length, Contains, Option, Some, None, MatchOption, get_or, slice_get, refl, sym, ap, ◌∙◌, subst, arith}
 use Rattle.std.proofs.lemmas.Option.{slice_get-get_or, slice_get_read}
 use Rattle.hb_sound.specs.declared.facts.Fact.{Fact}
 use Rattle.hb_sound.specs.declared.facts.Fact.TheVariants.{Live, Free}
-use Rattle.hb_sound.specs.Chains.{IsChained, IsFreeFact}
+use Rattle.hb_ops.specs.declared.meta.Meta.{Meta}
+use Rattle.hb_sound.specs.Chains.{IsChained, IsFreeBreak, IsFreeFact, KeepsChain, live_facts}
 use Rattle.hb_sound.specs.Facts.{if_next, next_at}
 use Rattle.hb_sound.specs.Links.{IsFirstUpTo}
 use Rattle.hb_sound.specs.Told.{item_at}
-use Rattle.hb_sound.specs.Walks.{IsLeast, IsLeftOut}
+use Rattle.hb_sound.specs.Walks.{IsLeast, IsLeftOut, IsWalk}
 use Rattle.hb_sound.proofs.Firsts.{found, item_behind, item_within, not_yet}
 
 free_next : (fact : Fact) → IsFreeFact fact → (n : ℕ) × (if_next (Some fact) ≡ Some n)
@@ -57,3 +58,12 @@ none_left_out facts chain n all none id out =
     let fact = has_fact (item_at facts id) out.0.0 out.0.1 in
     let within = item_within facts id fact.0 fact.1 in
     none id (omega (arith, within, all)) out
+
+-- rule 2, by where the chain ends
+pub ended : (meta : Meta) (facts : List Fact) (chain : List ℕ) (end : ℕ) (o : Option ℕ) → IsWalk (next_at facts) meta.free chain end → ((id : ℕ) → ¬ (IsLeftOut (next_at facts) chain id))
+    → MatchOption o ((end ≡ 0) × (meta.live ≡ live_facts facts)) (λ id. (id ≡ end) × (((end ≡ 0) × (meta.live ≡ live_facts facts)) → ⊥)) → IsFreeBreak meta facts o
+ended meta facts chain end None walk none is = (chain, end, walk, record { ends = is.0; all = none; live = is.1 })
+ended meta facts chain end (Some id) walk none is = (chain, end, walk, ((λ keeps. is.1 (keeps.ends, keeps.live)), inr (is.0, none)))
+
+pub left_one : (meta : Meta) (facts : List Fact) (chain : List ℕ) (end id : ℕ) → IsWalk (next_at facts) meta.free chain end → IsLeast (IsLeftOut (next_at facts) chain) id → IsFreeBreak meta facts (Some id)
+left_one meta facts chain end id walk least = (chain, end, walk, ((λ keeps. keeps.all id least.here), inl least))

@@ -9,3 +9,4 @@ mod Counts
 mod ToldPages
 mod ReadUp
 mod Bridge
+mod LinkSteps

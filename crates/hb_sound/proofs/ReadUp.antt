@@ -110,3 +110,7 @@ pub if_hole : (o : Option (List (Option Page))) (meta : Meta) (n : ℕ) (facts :
     → IfSome o (λ told. (meta.pages < n + 1) ⊎ (n + 1 ≤ length told → item_at told (n + 1) ≡ Some None)) → IfSome o (λ told. IsLeast (IsHole meta told) (n + 1))
 if_hole None meta n facts covers read within broken = tt
 if_hole (Some told) meta n facts covers read within broken = first_hole meta told n facts covers read within broken
+
+pub long_more : {A : Type 0} (xs : List A) (x : A) → length (xs ++ x ∷ []) ≡ length xs + 1
+long_more {A} [] x = refl
+long_more {A} (y ∷ xs) x = let rest = long_more xs x in omega (arith, rest)

@@ -88,19 +88,38 @@ fn count_live(facts: &[Fact]) -> u32
     live
 }
 
+/// The number at which the chain ends, where it is another than 0, or the count of pages in use is another.
+fn end_break(meta: &Meta, facts: &[Fact], end: u32) -> Option<u32>
+    requires { length facts.now < 2 ^ 32 }
+    ensures { MatchOption result ((end ≡ 0) × (meta.now.live ≡ live_facts facts.now))
+        (λ id. (id ≡ end) × (((end ≡ 0) × (meta.now.live ≡ live_facts facts.now)) → ⊥)) }
+{
+    if end == 0 && count_live(facts) == meta.live {
+        None
+    } else {
+        Some(end)
+    }
+}
+
+/// The page that is named where rule 2 is broken, with a mark for each page.
+fn break_by(meta: &Meta, facts: &[Fact], chained: &mut [bool]) -> Option<u32>
+    requires few { length facts.now < 2 ^ 32 }
+    requires same { length chained.old ≡ length facts.now }
+    requires fresh { All (λ b. b ≡ false) chained.old }
+    ensures { IsFreeBreak meta.now facts.now result }
+{
+    let end = walk(facts, meta.free, chained);
+    match first_left_out(facts, chained) {
+        Some(id) => Some(id),
+        None => end_break(meta, facts, end),
+    }
+}
+
 /// The page that is named where rule 2 is broken.
 pub(crate) fn free_break(alloc: Global, meta: &Meta, facts: &[Fact]) -> Result<Option<u32>, NoMemory>
     requires { length facts.now < 2 ^ 32 }
     ensures { IfOk result (λ broken. IsFreeBreak meta.now facts.now broken) }
 {
     let mut chained = vec![in alloc; false; facts.len()]?;
-    let end = walk(facts, meta.free, &mut chained);
-    if let Some(id) = first_left_out(facts, &chained) {
-        return Ok(Some(id));
-    }
-    if end == 0 && count_live(facts) == meta.live {
-        Ok(None)
-    } else {
-        Ok(Some(end))
-    }
+    Ok(break_by(meta, facts, &mut chained))
 }

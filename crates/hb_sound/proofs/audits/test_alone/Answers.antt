@@ -1,4 +1,4 @@
-use Rattle.std.proofs.Common.{◌≡◌, ◌⊎◌, inl, inr, ℕ, ◌<◌, ◌≤◌, Option, None, Some, MatchOption, subst, arith}
+use Rattle.std.proofs.Common.{◌≡◌, ◌⊎◌, inl, inr, ℕ, ◌<◌, ◌≤◌, Option, None, Some, MatchOption, refl, subst, arith}
 use Rattle.std.proofs.lemmas.Bool.{cases_lt}
 use Rattle.hb_sound.specs.Covers.{SeesRule}
 use Rattle.hb_sound.specs.Walks.{IsLeast}
@@ -17,3 +17,13 @@ loop-rule-preserved c id rule some few sees =
 
 pub returns-clause-ok : goal.returns-clause-ok
 returns-clause-ok c id rule some few sees = let end = c.loop-rule-test.false in c.loop-rule.invariant id rule some (omega (arith, few, end)) sees
+
+pub returns-in-Some-clause-err : goal.returns-in-Some-clause-err
+returns-in-Some-clause-err c =
+    let few = c.loop-rule-test.true in
+    (c.in-Some.page, c.loop-rule.rule, refl, record {
+      some = c.loop-rule.auto.rule;
+      few = omega (arith, few);
+      page = c.in-Some.ensures;
+      least = λ lesser other some lt. c.loop-rule.invariant other lesser some lt;
+    })
