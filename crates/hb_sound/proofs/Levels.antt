@@ -1,6 +1,6 @@
 -- The first page of the whole space of each level.
-use Rattle.std.proofs.Common.{◌≡◌, ◌≢◌, ◌⊎◌, inl, inr, ◌↔◌, ℕ, zero, suc, ◌+◌, ◌<◌, ◌≤◌, List, [], ◌∷◌, ◌++◌, length, Option, Some, None, slice_get, refl, sym, ap, ◌∙◌, subst, arith}
-use Rattle.std.proofs.lemmas.Option.{slice_get_within}
+use Rattle.std.proofs.Common.{◌≡◌, ◌≢◌, ◌⊎◌, inl, inr, ◌↔◌, ℕ, zero, suc, ◌+◌, ◌<◌, ◌≤◌, ◌==◌, Bool, true, false, not, List, [], ◌∷◌, ◌++◌, length, Option, Some, None, slice_get, refl, sym, ap, ◌∙◌, subst, arith}
+use Rattle.std.proofs.lemmas.Bool.{eq-eqb, false≢true, ne_eqb}
 use Rattle.hb_space.specs.Boxes.{Area}
 use Rattle.hb_sound.specs.declared.facts.Seen.{Seen}
 use Rattle.hb_sound.specs.declared.facts.Fact.{Fact}
@@ -55,3 +55,10 @@ module _ (facts : List Fact) (whole : Area) (firsts : List ℕ) (id first : ℕ)
   pub loose_is_not_first : IsLooseSeen facts whole id seen times → first ≢ id
   loose_is_not_first (inl beside) e = let le = least.least beside.1 beside.3 in let lt = beside.2 in absurd (omega (arith, le, lt, e))
   loose_is_not_first (inr less) e = less.0 boxed
+
+-- a test of two numbers
+pub apart : (a b : ℕ) → not (a == b) ≡ true → a ≢ b
+apart a b t e = false≢true (sym (ap not (eq-eqb a b e)) ∙ t)
+
+pub tells_apart : (a b : ℕ) → a ≢ b → not (a == b) ≡ true
+tells_apart a b other = ap not (ne_eqb a b other)

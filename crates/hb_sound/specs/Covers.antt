@@ -56,6 +56,10 @@ IsLooseSeen facts whole id seen times =
     ((seen.area ≡ whole) × (other : ℕ) × (other < id) × Sees (HasBox seen.level whole) facts other)
     ⊎ ((seen.area ≢ whole) × (times ≢ Once))
 
+abbrev pub IsLooseFact : List Fact → Area → ℕ → Times → Fact → Type 0
+IsLooseFact facts whole id times (Live seen) = IsLooseSeen facts whole id seen times
+IsLooseFact facts whole id times (Free next) = ⊥
+
 abbrev pub SeesLoose : List Fact → List Times → Area → ℕ → Type 0
 SeesLoose facts named whole id = (seen : Seen) × (times : Times) × (seen_at facts id ≡ Some seen) × (item_at named id ≡ Some times) × IsLooseSeen facts whole id seen times
 

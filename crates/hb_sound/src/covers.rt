@@ -1,9 +1,10 @@
 //! Rule 9: one page of the whole space on each level, and one sibling leaf for each other page.
-ghost use Rattle.std.specs.Prelude.{◌≡◌, ◌<◌, ◌≤◌, ◌^◌, ◌↔◌, ℕ, List, Some, length, IfOk, IsTrue, MatchOption};
+ghost use Rattle.std.specs.Prelude.{◌≡◌, ◌<◌, ◌≤◌, ◌^◌, ◌↔◌, ℕ, List, Some, length, slice_get, IfOk, IsTrue, MatchOption};
 ghost use Rattle.hb_space.specs.declared.form.TheConstants.{KMAX};
-ghost use Rattle.hb_sound.specs.Covers.{AreBelow, AreFirsts, HasBox, IsCoverBreak, IsLooseSeen, LacksLevel, Sees, SeesLoose};
+ghost use Rattle.hb_sound.specs.Covers.{AreBelow, AreFirsts, HasBox, IsCoverBreak, IsLooseFact, IsLooseSeen, LacksLevel, Sees, SeesLoose};
 ghost use Rattle.hb_sound.specs.declared.facts.Fact.{Fact as FactSeen};
 ghost use Rattle.hb_sound.specs.Facts.{seen_at};
+ghost use Rattle.hb_sound.specs.Told.{item_at};
 ghost use Rattle.hb_sound.specs.Walks.{IsLeast};
 
 use crate::facts::{Fact, Seen};
@@ -51,18 +52,35 @@ fn firsts_of(alloc: Global, facts: &[Fact], height: u8, whole: &Area) -> Result<
     Ok(Some(firsts))
 }
 
+/// The first page of the whole space of this level, where the level is listed.
+fn first_of(firsts: &[u32], level: u8) -> Option<u32>
+    ensures { result ≡ slice_get firsts.now level }
+{
+    firsts.get(usize::from(level)).copied()
+}
+
 /// Whether the page in use of this number is of the whole space beside a lesser one, or of less and not named once.
 fn is_loose(seen: &Seen, id: u32, firsts: &[u32], times: Times, whole: &Area) -> bool
     ensures { (facts : List FactSeen) → AreFirsts facts (length firsts.now) whole.now firsts.now → seen.now.level < length firsts.now →
         seen_at facts id ≡ Some seen.now → (IsTrue result ↔ IsLooseSeen facts whole.now id seen.now times) }
 {
-    if seen.area == *whole {
-        match firsts.get(usize::from(seen.level)) {
-            Some(first) => *first != id,
-            None => false,
-        }
-    } else {
-        times != Times::Once
+    if seen.area != *whole {
+        return times != Times::Once;
+    }
+    match first_of(firsts, seen.level) {
+        Some(first) => first != id,
+        None => false,
+    }
+}
+
+/// Whether it is a page in use that is loose.
+fn is_loose_fact(fact: &Fact, id: u32, firsts: &[u32], times: Times, whole: &Area) -> bool
+    ensures { (facts : List FactSeen) → AreFirsts facts (length firsts.now) whole.now firsts.now → AreBelow (length firsts.now) facts →
+        item_at facts id ≡ Some fact.now → (IsTrue result ↔ IsLooseFact facts whole.now id times fact.now) }
+{
+    match fact {
+        Fact::Live(seen) => is_loose(seen, id, firsts, times, whole),
+        Fact::Free(_) => false,
     }
 }
 
@@ -76,7 +94,7 @@ fn first_loose(facts: &[Fact], firsts: &[u32], named: &[Times], whole: &Area) ->
 {
     for (place, fact) in facts.iter().enumerate() {
         let id = place as u32 + 1;
-        if let Fact::Live(seen) = fact && is_loose(seen, id, firsts, named[place], whole) {
+        if is_loose_fact(fact, id, firsts, named[place], whole) {
             return Some(id);
         }
     }

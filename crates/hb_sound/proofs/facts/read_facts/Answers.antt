@@ -24,7 +24,7 @@ loop-place-preserved g c =
     let L : List Fact → Type 0 = λ l. All IsLightFact l in
     record {
       told = c.read_fact.ensures.stays ∙ kept.told;
-      faults = read.no_fault (λ e. e) ∙ kept.faults;
+      faults = read.no_fault (λ e. cc) ∙ kept.faults;
       count = omega (arith, long, longer, before, after, kept.count);
       light = subst L (sym items) (All-append IsLightFact c.loop-place.facts.items (fact ∷ []) kept.light (All-cons IsLightFact fact [] read.light (All-nil IsLightFact)));
       most = inr read.there.0;
