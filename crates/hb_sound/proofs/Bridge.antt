@@ -30,7 +30,7 @@ page_slice (first ∷ rest) (suc k) =
     ∙ ap (λ (n : ℕ). page_at rest n) less
     ∙ page_slice rest k
 
-page_none : (list : List Page) → page_at list 0 ≡ None
+pub page_none : (list : List Page) → page_at list 0 ≡ None
 page_none [] = refl
 page_none (first ∷ rest) = refl
 

@@ -35,7 +35,7 @@ firsts_on facts level whole firsts first are is = (
   ],
 )
 
-seen_fact : (o : Option Fact) (seen : Seen) → if_seen o ≡ Some seen → o ≡ Some (Live seen)
+pub seen_fact : (o : Option Fact) (seen : Seen) → if_seen o ≡ Some seen → o ≡ Some (Live seen)
 seen_fact None seen e = let never : None ≡ Some seen = e in cc
 seen_fact (Some (Live own)) seen e = let is : own ≡ seen = cc in ap (λ (x : Seen). Some (Live x)) is
 seen_fact (Some (Free next)) seen e = let never : None ≡ Some seen = e in cc

@@ -10,3 +10,5 @@ mod ToldPages
 mod ReadUp
 mod Bridge
 mod LinkSteps
+mod ChainBridge
+mod LocalBridge

@@ -52,6 +52,13 @@ fn firsts_of(alloc: Global, facts: &[Fact], height: u8, whole: &Area) -> Result<
     Ok(Some(firsts))
 }
 
+/// Whether what was seen has this box.
+fn has_area(seen: &Seen, area: &Area) -> bool
+    ensures { IsTrue result ↔ (seen.now.area ≡ area.now) }
+{
+    seen.area == *area
+}
+
 /// The first page of the whole space of this level, where the level is listed.
 fn first_of(firsts: &[u32], level: u8) -> Option<u32>
     ensures { result ≡ slice_get firsts.now level }
@@ -64,7 +71,7 @@ fn is_loose(seen: &Seen, id: u32, firsts: &[u32], times: Times, whole: &Area) ->
     ensures { (facts : List FactSeen) → AreFirsts facts (length firsts.now) whole.now firsts.now → seen.now.level < length firsts.now →
         seen_at facts id ≡ Some seen.now → (IsTrue result ↔ IsLooseSeen facts whole.now id seen.now times) }
 {
-    if seen.area != *whole {
+    if !has_area(seen, whole) {
         return times != Times::Once;
     }
     match first_of(firsts, seen.level) {
