@@ -12,3 +12,5 @@ mod Bridge
 mod LinkSteps
 mod ChainBridge
 mod LocalBridge
+mod SixRules
+mod Loose
