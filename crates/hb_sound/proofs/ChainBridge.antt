@@ -156,14 +156,14 @@ module _ (meta : Meta) (facts : List Fact) (list : List Page) (are : AreFactsOf 
   pub not_counted : (id : ℕ) → IsFreeBreak meta facts (Some id) → (IsCounted file → ⊥) × NamesFree file id
   not_counted id named = (
     λ counted.
-      let is = the_chain (next_free file) meta.free named.1 named.0 counted.chain (none_at_zero file) (walk_by named.0 named.1 named.2) (chain_leads file meta.free counted.chain counted.chained) in
-      let Q : List ℕ → Type 0 = λ l. (n next : ℕ) → page_of file n ≡ Some (pages.Free next) → Contains l n in
-      let all = subst Q is.1 counted.all in
-      named.3.0 (record {
-        ends = is.0;
-        all = λ n out. out.1 (all n out.0.0 (free_so (page_of file n) out.0.0 (sym (next_same meta facts list are n) ∙ out.0.1)));
-        live = counted.live ∙ sym (live_same meta facts list are);
-      }),
+        let is = the_chain (next_free file) meta.free named.1 named.0 counted.chain (none_at_zero file) (walk_by named.0 named.1 named.2) (chain_leads file meta.free counted.chain counted.chained) in
+        let Q : List ℕ → Type 0 = λ l. (n next : ℕ) → page_of file n ≡ Some (pages.Free next) → Contains l n in
+        let all = subst Q is.1 counted.all in
+        named.3.0 (record {
+          ends = is.0;
+          all = λ n out. out.1 (all n out.0.0 (free_so (page_of file n) out.0.0 (sym (next_same meta facts list are n) ∙ out.0.1)));
+          live = counted.live ∙ sym (live_same meta facts list are);
+        }),
     (named.0, named.1, walk_by named.0 named.1 named.2, names named.3.1),
   )
     where

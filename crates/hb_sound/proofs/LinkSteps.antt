@@ -117,18 +117,18 @@ module _ (facts : List Fact) (list : List Page) (n : ℕ) (page : Page) (at : pa
       let C : LivePage → Type 0 = λ p. FindsChildren facts p in
       record {
         named = λ id.
-          let k = names_in id (leaves live.frag) in
-          let t = times_named id (take n list) in
-          let both = times_then id in
-          let one : times_named id (page ∷ []) ≡ count_name id (siblings_of live) + 0 = ap (λ (p : Page). times_named id (p ∷ [])) is in
-          let same = names_are id live.frag live.area in
-          let count : t + k ≡ times_named id (take (n + 1) list) = omega (arith, both, one, same) in
-          adds.named id ∙ ap (option_map (more k)) (links.named id) ∙ fuse k t (item_at facts id)
-          ∙ ap (λ (m : ℕ). option_map (λ (fact : Fact). more m Never) (item_at facts id)) count;
+            let k = names_in id (leaves live.frag) in
+            let t = times_named id (take n list) in
+            let both = times_then id in
+            let one : times_named id (page ∷ []) ≡ count_name id (siblings_of live) + 0 = ap (λ (p : Page). times_named id (p ∷ [])) is in
+            let same = names_are id live.frag live.area in
+            let count : t + k ≡ times_named id (take (n + 1) list) = omega (arith, both, one, same) in
+            adds.named id ∙ ap (option_map (more k)) (links.named id) ∙ fuse k t (item_at facts id)
+            ∙ ap (λ (m : ℕ). option_map (λ (fact : Fact). more m Never) (item_at facts id)) count;
         sibling = next_first (LosesSibling facts list) (FindsSiblings facts live) n old.sibling new.sibling links.sibling adds.sibling
-        (λ good loses. loses.2 (subst S (is_live live loses.0 is loses.1) good)) (λ bad. (live, there, bad));
+            (λ good loses. loses.2 (subst S (is_live live loses.0 is loses.1) good)) (λ bad. (live, there, bad));
         child = next_first (LosesChild facts list) (FindsChildren facts live) n old.child new.child links.child adds.child
-        (λ good loses. loses.2 (subst C (is_live live loses.0 is loses.1) good)) (λ bad. (live, there, bad));
+            (λ good loses. loses.2 (subst C (is_live live loses.0 is loses.1) good)) (λ bad. (live, there, bad));
       }
 
   free_more : (next : ℕ) (links : Links) → page ≡ pages.Free next → AreLinks facts list n links → AreLinks facts list (n + 1) links
@@ -136,10 +136,10 @@ module _ (facts : List Fact) (list : List Page) (n : ℕ) (page : Page) (at : pa
       let none : if_live (page_at list (n + 1)) ≡ None = ap if_live (at ∙ ap (λ (p : Page). Some p) is) in
       record {
         named = λ id.
-          let both = times_then id in
-          let zero_more : times_named id (page ∷ []) ≡ 0 = ap (λ (p : Page). times_named id (p ∷ [])) is in
-          let count : times_named id (take n list) ≡ times_named id (take (n + 1) list) = omega (arith, both, zero_more) in
-          are.named id ∙ ap (λ (m : ℕ). option_map (λ (fact : Fact). more m Never) (item_at facts id)) count;
+            let both = times_then id in
+            let zero_more : times_named id (page ∷ []) ≡ 0 = ap (λ (p : Page). times_named id (p ∷ [])) is in
+            let count : times_named id (take n list) ≡ times_named id (take (n + 1) list) = omega (arith, both, zero_more) in
+            are.named id ∙ ap (λ (m : ℕ). option_map (λ (fact : Fact). more m Never) (item_at facts id)) count;
         sibling = pass_first (LosesSibling facts list) n links.sibling are.sibling (λ loses. let never : None ≡ Some loses.0 = sym none ∙ loses.1 in cc);
         child = pass_first (LosesChild facts list) n links.child are.child (λ loses. let never : None ≡ Some loses.0 = sym none ∙ loses.1 in cc);
       }

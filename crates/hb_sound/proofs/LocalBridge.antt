@@ -98,11 +98,14 @@ module _ (meta : Meta) (facts : List Fact) (list : List Page) (are : AreFactsOf 
   -- a rule that a page breaks first is seen
   pub breaks_seen : (rule id : ℕ) → Breaks file rule id → SeesRule facts rule id
   breaks_seen rule id b =
-      let seen = seen_live meta facts list are id b.0 b.1 in
-      (Live seen.0, seen_fact (item_at facts id) seen.0 seen.1, elim seen.2.rule [
-        | inl none ↦ absurd (not_broken rule b.0 meta b.2 none.1)
-        | inr own ↦ one_rule b.0 meta seen.0.rule rule own b.2
-      ])
+      let seen = seen_live meta facts list are id b.0 b.1 in (
+        Live seen.0,
+        seen_fact (item_at facts id) seen.0 seen.1,
+        elim seen.2.rule [
+          | inl none ↦ absurd (not_broken rule b.0 meta b.2 none.1)
+          | inr own ↦ one_rule b.0 meta seen.0.rule rule own b.2
+        ],
+      )
 
   -- and the other way
   pub seen_breaks : (rule id : ℕ) → 3 ≤ rule → SeesRule facts rule id → Breaks file rule id
@@ -110,11 +113,14 @@ module _ (meta : Meta) (facts : List Fact) (list : List Page) (are : AreFactsOf 
     where
       by_fact : (fact : Fact) → item_at facts id ≡ Some fact → HasRule rule fact → Breaks file rule id
       by_fact (Live seen) e is =
-          let page = live_seen meta facts list are id seen (ap if_seen e) in
-          (page.0, page.1, elim page.2.rule [
-            | inl none ↦ absurd (let zero_is = none.0 in omega (arith, is, zero_is, some))
-            | inr own ↦ (let Q : ℕ → Type 0 = λ r. BreaksFirst r page.0 meta in subst Q is own)
-          ])
+          let page = live_seen meta facts list are id seen (ap if_seen e) in (
+            page.0,
+            page.1,
+            elim page.2.rule [
+              | inl none ↦ absurd (let zero_is = none.0 in omega (arith, is, zero_is, some))
+              | inr own ↦ (let Q : ℕ → Type 0 = λ r. BreaksFirst r page.0 meta in subst Q is own)
+            ],
+          )
       by_fact (Free next) e is = absurd is
 
   pub least_breaks : (rule id : ℕ) → 3 ≤ rule → IsLeast (SeesRule facts rule) id → IsLeast (Breaks file rule) id

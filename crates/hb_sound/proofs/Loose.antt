@@ -1,18 +1,20 @@
 -- The loose pages, found by a loop.
-use Rattle.std.proofs.Common.{◌≡◌, ◌⊎◌, ℕ, ◌+◌, ◌<◌, ◌≤◌, List, length, Option, Some, None, get_or, slice_get, refl, sym, ap, ◌∙◌, subst, arith}
+use Rattle.std.proofs.Common.{◌≡◌, ◌⊎◌, inl, inr, ℕ, ◌+◌, ◌<◌, ◌≤◌, List, length, Option, Some, None, MatchOption, get_or, slice_get, refl, sym, ap, ◌∙◌, subst, arith}
 use Rattle.std.proofs.lemmas.Option.{slice_get-get_or, slice_get_read}
-use Rattle.hb_space.specs.Boxes.{Area}
+use Rattle.hb_space.specs.Boxes.{Area, whole_area}
+use Rattle.hb_ops.specs.declared.meta.Meta.{Meta}
 use Rattle.hb_sound.specs.declared.facts.Seen.{Seen}
 use Rattle.hb_sound.specs.declared.facts.Fact.{Fact}
 use Rattle.hb_sound.specs.declared.facts.Fact.TheVariants.{Live, Free}
 use Rattle.hb_sound.specs.declared.names.Times.{Times}
-use Rattle.hb_sound.specs.Covers.{IsLooseFact, IsLooseSeen, SeesLoose}
+use Rattle.hb_sound.specs.Covers.{AreFirsts, IsCoverBreak, IsLooseFact, IsLooseSeen, LacksLevel, SeesLoose}
 use Rattle.hb_sound.specs.Facts.{if_seen, seen_at}
 use Rattle.hb_sound.specs.Links.{IsFirstUpTo}
 use Rattle.hb_sound.specs.Told.{item_at}
 use Rattle.hb_sound.specs.Walks.{IsLeast}
 use Rattle.hb_sound.proofs.Firsts.{found, item_behind, item_within, not_yet}
 use Rattle.hb_sound.proofs.Levels.{seen_fact}
+use Rattle.hb_sound.proofs.ToldPages.{slice_get_inside}
 
 pub loose_item : (facts : List Fact) (place : ℕ) (fact : Fact) → place < length facts → fact ≡ get_or facts place fact → item_at facts (place + 1) ≡ Some fact
 loose_item facts place fact within is = item_behind facts place ∙ slice_get_read facts (length facts) place fact refl within is
@@ -46,3 +48,21 @@ pub none_loose : (facts : List Fact) (named : List Times) (whole : Area) (n : �
 none_loose facts named whole n all none id sees =
     let within = item_within facts id (Live sees.0) (seen_fact (item_at facts id) sees.0 sees.2) in
     none id (omega (arith, within, all)) sees
+
+-- rule 9, where each level has its first page
+none_lacks : (facts : List Fact) (height : ℕ) (whole : Area) (firsts : List ℕ) → AreFirsts facts height whole firsts → ¬ (LacksLevel facts height whole)
+none_lacks facts height whole firsts are lacks =
+    let lt = lacks.1 in
+    let long = are.0 in
+    let first = slice_get_inside firsts lacks.0 (omega (arith, lt, long)) in
+    let least = are.1 lacks.0 first.0 first.1 in
+    lacks.2 first.0 least.here
+
+pub cover_by : (meta : Meta) (facts : List Fact) (named : List Times) (whole : Area) (firsts : List ℕ) (o : Option ℕ) → whole ≡ whole_area meta.k → AreFirsts facts meta.height whole firsts
+    → MatchOption o ((id : ℕ) → ¬ (SeesLoose facts named whole id)) (IsLeast (SeesLoose facts named whole)) → IsCoverBreak meta facts named o
+cover_by meta facts named whole firsts None is are found =
+    let Q : Area → Type 0 = λ area. (¬ (LacksLevel facts meta.height area)) × ((id : ℕ) → ¬ (SeesLoose facts named area id)) in
+    subst Q is (none_lacks facts meta.height whole firsts are, found)
+cover_by meta facts named whole firsts (Some id) is are found =
+    let Q : Area → Type 0 = λ area. (¬ (LacksLevel facts meta.height area)) × IsLeast (SeesLoose facts named area) id in
+    inr (subst Q is (none_lacks facts meta.height whole firsts are, found))

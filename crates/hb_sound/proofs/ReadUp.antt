@@ -61,7 +61,7 @@ read_more meta told n facts fact covers read within is there =
         | inr before ↦ read.whole id before hole
       ];
       facts_are = subst Q (sym (ap shown (take_more told n (Some page.0) here) ∙ shown_more (take n told) page.0))
-      (facts_more meta facts (shown (take n told)) fact page.0 read.facts_are fact_is);
+          (facts_more meta facts (shown (take n told)) fact page.0 read.facts_are fact_is);
     }
   where
     some_page : (o : Option Page) → (o ≡ None → ⊥) → (page : Page) × (o ≡ Some page)

@@ -41,4 +41,4 @@ LacksFirst s = (level : ℕ) × (level < s.meta.height)
 abbrev pub IsLoose : FileState → ℕ → Type 0
 IsLoose s id = (page : LivePage) × (live_page s id ≡ Some page)
     × (((page.area ≡ whole_area s.meta.k) × (other : ℕ) × (other < id) × HasSame s page.level other page.area)
-        ⊎ ((page.area ≢ whole_area s.meta.k) × (times_named id s.pages ≢ 1)))
+    ⊎ ((page.area ≢ whole_area s.meta.k) × (times_named id s.pages ≢ 1)))

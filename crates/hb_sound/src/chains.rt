@@ -116,7 +116,11 @@ fn break_by(meta: &Meta, facts: &[Fact], chained: &mut [bool]) -> Option<u32>
 }
 
 /// The page that is named where rule 2 is broken.
-pub(crate) fn free_break(alloc: Global, meta: &Meta, facts: &[Fact]) -> Result<Option<u32>, NoMemory>
+pub(crate) fn free_break(
+    alloc: Global,
+    meta: &Meta,
+    facts: &[Fact],
+) -> Result<Option<u32>, NoMemory>
     requires { length facts.now < 2 ^ 32 }
     ensures { IfOk result (λ broken. IsFreeBreak meta.now facts.now broken) }
 {

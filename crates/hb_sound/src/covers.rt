@@ -38,7 +38,12 @@ fn first_same(facts: &[Fact], level: u8, area: &Area) -> Option<u32>
 }
 
 /// The first page of the whole space of each level below the height, from level 0 on. None where a level has none.
-fn firsts_of(alloc: Global, facts: &[Fact], height: u8, whole: &Area) -> Result<Option<Vec<u32>>, NoMemory>
+fn firsts_of(
+    alloc: Global,
+    facts: &[Fact],
+    height: u8,
+    whole: &Area,
+) -> Result<Option<Vec<u32>>, NoMemory>
     requires few { length facts.now < 2 ^ 32 }
     ensures { IfOk result (λ firsts. MatchOption firsts (LacksLevel facts.now height whole.now) (λ found. AreFirsts facts.now height whole.now found.items)) }
 {
@@ -109,7 +114,12 @@ fn first_loose(facts: &[Fact], firsts: &[u32], named: &[Times], whole: &Area) ->
 }
 
 /// The page that is named where rule 9 is broken.
-pub(crate) fn cover_break(alloc: Global, meta: &Meta, facts: &[Fact], named: &[Times]) -> Result<Option<u32>, NoMemory>
+pub(crate) fn cover_break(
+    alloc: Global,
+    meta: &Meta,
+    facts: &[Fact],
+    named: &[Times],
+) -> Result<Option<u32>, NoMemory>
     requires few { length facts.now < 2 ^ 32 }
     requires same { length named.now ≡ length facts.now }
     requires some { 1 ≤ meta.now.k }

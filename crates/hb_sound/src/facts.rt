@@ -144,7 +144,11 @@ fn keep(facts: &mut Vec<Fact>, fact: Fact) -> Result<(), NoMemory>
 }
 
 /// Reads each page up to the high mark, and keeps what is kept of it. Rule 0: a page is there under each number.
-pub(crate) fn read_facts<P: Pages>(alloc: Global, meta: &Meta, pages: &mut P) -> Result<Vec<Fact>, AuditStop>
+pub(crate) fn read_facts<P: Pages>(
+    alloc: Global,
+    meta: &Meta,
+    pages: &mut P,
+) -> Result<Vec<Fact>, AuditStop>
     requires covered { IfSome (P.told pages.old) (CoversFile meta.now) }
     ensures facts { IfOk result (λ facts. IfSome (P.told pages.old) (λ told. IsWhole meta.now told × AreFactsOf meta.now facts.items (file_of meta.now told).pages)) }
     ensures light { IfOk result (λ facts. All IsLightFact facts.items) }

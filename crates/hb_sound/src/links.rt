@@ -92,8 +92,7 @@ fn siblings_match(facts: &[Fact], level: u8, frag: &Frag, area: &Area) -> bool
             right,
         } => {
             let (below, from) = area.cut(*axis, *value);
-            siblings_match(facts, level, left, &below)
-                && siblings_match(facts, level, right, &from)
+            siblings_match(facts, level, left, &below) && siblings_match(facts, level, right, &from)
         }
     }
 }
@@ -112,8 +111,7 @@ fn children_match(facts: &[Fact], level: u8, frag: &Frag, area: &Area) -> bool
             right,
         } => {
             let (below, from) = area.cut(*axis, *value);
-            children_match(facts, level, left, &below)
-                && children_match(facts, level, right, &from)
+            children_match(facts, level, left, &below) && children_match(facts, level, right, &from)
         }
     }
 }
@@ -177,7 +175,11 @@ impl Links {
 }
 
 /// What the leaves of all pages up to the high mark name. The pages are read once more.
-pub(crate) fn read_links<P: Pages>(alloc: Global, facts: &[Fact], pages: &mut P) -> Result<Links, AuditStop>
+pub(crate) fn read_links<P: Pages>(
+    alloc: Global,
+    facts: &[Fact],
+    pages: &mut P,
+) -> Result<Links, AuditStop>
     requires { length facts.now < 2 ^ 32 }
     ensures links { IfOk result (λ links. IfSome (P.told pages.old) (λ told. (list : List Content) → AreRead told facts.now list → AreLinks facts.now list (length facts.now) links)) }
     ensures never { IfErr result (OnBroken (λ _ _. IfSome (P.told pages.old) (λ told. (list : List Content) → AreRead told facts.now list → ⊥))) }

@@ -65,7 +65,9 @@ fn page_of(alloc: Global, text: &str) -> Result<Option<Page>, Fail> {
     }
     let (first, rest) = text.split_once(' ').ok_or("no page")?;
     if first == "free" {
-        return Ok(Some(Page::Free { next: rest.parse()? }));
+        return Ok(Some(Page::Free {
+            next: rest.parse()?,
+        }));
     }
     let (area, leaves) = rest.split_once(' ').unwrap_or((rest, ""));
     Ok(Some(Page::Live(LivePage {
@@ -193,7 +195,11 @@ const ROWS: [(&str, &str, &str); 39] = [
     // sound: one page; two levels with a sibling; a free chain of two
     ("1 1 1 1 0", "0 *", "ok 0"),
     ("1 1 1 1 0", "0 * 3 5", "ok 2"),
-    ("1 2 3 3 0", "1 * ^2 / 10: ^3 | 0 * 1 / 10: >3 | 0 10-18446744073709551615 11 12", "ok 3"),
+    (
+        "1 2 3 3 0",
+        "1 * ^2 / 10: ^3 | 0 * 1 / 10: >3 | 0 10-18446744073709551615 11 12",
+        "ok 3",
+    ),
     ("1 1 3 1 3", "0 * 3 | free 0 | free 2", "ok 1"),
     // 0: no page there; beyond the pages that the file may have
     ("1 1 2 1 0", "0 * | bad", "2 0"),
@@ -230,12 +236,24 @@ const ROWS: [(&str, &str, &str); 39] = [
     ("1 1 2 2 0", "0 * 1 / 10: >2 | 0 10-99", "1 7"),
     // 8: a child leaf that names its own page, and one whose box isn't within the page's
     ("1 2 1 1 0", "1 * ^1", "1 8"),
-    ("1 2 3 3 0", "1 * ^2 / 10: ^3 | 0 * 1 / 20: >3 | 0 20-18446744073709551615", "1 8"),
+    (
+        "1 2 3 3 0",
+        "1 * ^2 / 10: ^3 | 0 * 1 / 20: >3 | 0 20-18446744073709551615",
+        "1 8",
+    ),
     // 9: a level without a page of the whole space, two of one level, one that nobody names
-    ("1 2 3 3 0", "1 * ^2 / 10: ^3 | 0 0-9 1 | 0 10-18446744073709551615 11", "0 9"),
+    (
+        "1 2 3 3 0",
+        "1 * ^2 / 10: ^3 | 0 0-9 1 | 0 10-18446744073709551615 11",
+        "0 9",
+    ),
     ("1 1 2 2 0", "0 * | 0 *", "2 9"),
     ("1 1 2 2 0", "0 * 1 / 10: 11 | 0 3-9", "2 9"),
-    ("1 1 3 3 0", "0 * 1 / 10: >2 | 0 10-18446744073709551615 11 | 0 5-18446744073709551615 6 / 10: >2", "2 9"),
+    (
+        "1 1 3 3 0",
+        "0 * 1 / 10: >2 | 0 10-18446744073709551615 11 | 0 5-18446744073709551615 6 / 10: >2",
+        "2 9",
+    ),
     // 10: two leaves that should be one
     ("1 1 1 1 0", "0 * 1 / 10: 11", "1 10"),
 ];

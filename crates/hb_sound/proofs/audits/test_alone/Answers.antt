@@ -20,10 +20,14 @@ returns-clause-ok c id rule some few sees = let end = c.loop-rule-test.false in 
 
 pub returns-in-Some-clause-err : goal.returns-in-Some-clause-err
 returns-in-Some-clause-err c =
-    let few = c.loop-rule-test.true in
-    (c.in-Some.page, c.loop-rule.rule, refl, record {
-      some = c.loop-rule.auto.rule;
-      few = omega (arith, few);
-      page = c.in-Some.ensures;
-      least = λ lesser other some lt. c.loop-rule.invariant other lesser some lt;
-    })
+    let few = c.loop-rule-test.true in (
+      c.in-Some.page,
+      c.loop-rule.rule,
+      refl,
+      record {
+        some = c.loop-rule.auto.rule;
+        few = omega (arith, few);
+        page = c.in-Some.ensures;
+        least = λ lesser other some lt. c.loop-rule.invariant other lesser some lt;
+      },
+    )

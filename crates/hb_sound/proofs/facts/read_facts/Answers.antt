@@ -29,6 +29,6 @@ loop-place-preserved g c =
       light = subst L (sym items) (All-append IsLightFact c.loop-place.facts.items (fact ∷ []) kept.light (All-cons IsLightFact fact [] read.light (All-nil IsLightFact)));
       most = inr read.there.0;
       read = subst R (sym items)
-      (if_more (g.P.Pages.told c.args.pages.now) c.args.meta.now c.loop-place.place c.loop-place.facts.items fact c.requires.covered kept.read read.there.0
-        (subst F kept.told read.fact) (subst N kept.told read.there.1));
+          (if_more (g.P.Pages.told c.args.pages.now) c.args.meta.now c.loop-place.place c.loop-place.facts.items fact c.requires.covered kept.read read.there.0
+          (subst F kept.told read.fact) (subst N kept.told read.there.1));
     }

@@ -19,7 +19,7 @@ loop-place-preserved g c =
     let kept = c.loop-place.invariant in
     let read = c.in_ok-read.ensures in
     let A : Option (List (Option Page)) → Type 0 = λ o. IfSome o (λ told. (page : Page) → item_at told (c.loop-place.place + 1) ≡ Some (Some page)
-      → AddsPage c.args.facts.now (c.loop-place.place + 1) page c.loop-place.links c.read.new.self) in
+    → AddsPage c.args.facts.now (c.loop-place.place + 1) page c.loop-place.links c.read.new.self) in
     record {
       told = c.read.ensures.stays ∙ kept.told;
       faults = read.no_fault (λ e. cc) ∙ kept.faults;
