@@ -14,3 +14,7 @@ mod ChainBridge
 mod LocalBridge
 mod SixRules
 mod Loose
+mod LeafBridge
+mod CoverBridge
+mod LateRules
+mod WholeAudit

@@ -32,14 +32,14 @@ module _ (page : LivePage) (meta : Meta) where
   at_least rule (inr (inr (inr (inl six)))) = let e = six.0 in omega (arith, e)
   at_least rule (inr (inr (inr (inr ten)))) = let e = ten.0 in omega (arith, e)
 
-  fits : (rule : ℕ) → BreaksFirst rule page meta → 3 < rule → Fits page meta.k meta.height
+  pub fits : (rule : ℕ) → BreaksFirst rule page meta → 3 < rule → Fits page meta.k meta.height
   fits rule (inl three) lt = absurd (let e = three.0 in omega (arith, e, lt))
   fits rule (inr (inl four)) lt = four.1
   fits rule (inr (inr (inl five))) lt = five.1
   fits rule (inr (inr (inr (inl six)))) lt = six.1
   fits rule (inr (inr (inr (inr ten)))) lt = ten.1
 
-  cut : (rule : ℕ) → BreaksFirst rule page meta → 4 < rule → WellCut page
+  pub cut : (rule : ℕ) → BreaksFirst rule page meta → 4 < rule → WellCut page
   cut rule (inl three) lt = absurd (let e = three.0 in omega (arith, e, lt))
   cut rule (inr (inl four)) lt = absurd (let e = four.0 in omega (arith, e, lt))
   cut rule (inr (inr (inl five))) lt = five.2

@@ -4,7 +4,7 @@
 //! ` / VALUE:` for each cut. A leaf is its records by their points, or `^PAGE` for a child and `>PAGE` for a sibling.
 //! `free NEXT` is a free page, and `bad` none.
 
-ghost use Rattle.std.specs.Prelude.{◌≡◌, ◌≤◌, IfOk, IfSome, None};
+ghost use Rattle.std.specs.Prelude.{◌≡◌, IfSome, IsTrue, None};
 ghost use Rattle.hb_frag.specs.Leaves.{leaf_weight, weight_of};
 ghost use Rattle.hb_page_codec.specs.Weight.{IsLight};
 
@@ -159,7 +159,10 @@ fn pages_of(alloc: Global, text: &str) -> Result<Vec<Option<Page>>, Fail> {
 // A file of one attribute with 8 pages, from its root, height, high mark, live pages and free head.
 fn meta_of(words: &str) -> Result<Meta, Fail> {
     let mut words = words.split_whitespace();
-    let mut next = || words.next().unwrap_or("");
+    let mut next = || {
+        let word = words.next();
+        word.unwrap_or("")
+    };
     Ok(Meta {
         k: 1,
         pages: 8,
