@@ -14,3 +14,4 @@ mod ChainBridge
 mod LocalBridge
 mod SixRules
 mod Loose
+pub mod CoverBridge
