@@ -1,5 +1,5 @@
 -- Rule 9: from the facts to the pages.
-use Rattle.std.proofs.Common.{◌≡◌, ◌≢◌, ◌⊎◌, inl, inr, ℕ, zero, suc, ◌+◌, ◌-◌, ◌^◌, ◌<◌, ◌≤◌, ◌==◌, Bool, true, false, if◌then◌else◌, List, [], ◌∷◌, length, sum, replicate, Option, Some, None, option_map, slice_get, slice_set, slice_index, slice_index_or, Contains, refl, sym, ap, ◌∙◌, subst, arith}
+use Rattle.std.proofs.Common.{◌≡◌, ◌≢◌, ◌⊎◌, inl, inr, ℕ, zero, suc, ◌+◌, ◌-◌, ◌^◌, ◌<◌, ◌≤◌, ◌==◌, Bool, true, false, if◌then◌else◌, List, [], ◌∷◌, length, replicate, Option, Some, None, option_map, slice_get, slice_set, slice_index, slice_index_or, Contains, refl, sym, ap, ◌∙◌, subst, arith}
 use Rattle.std.proofs.lemmas.Bool.{cases_eq, cases_lt, ne_eqb}
 use Rattle.std.proofs.lemmas.List.{get_or-set_same}
 use Rattle.std.proofs.lemmas.List.Elements.{Contains-append_cases, Contains-append_right}
@@ -29,6 +29,7 @@ use Rattle.hb_sound.specs.Tests.{file_with}
 use Rattle.hb_sound.specs.Told.{item_at}
 use Rattle.hb_sound.specs.Walks.{IsLeast}
 use Rattle.hb_sound.proofs.Bridge.{live_seen, page_item, seen_live}
+use Rattle.hb_sound.proofs.LeafBoxes.{contains_one}
 use Rattle.hb_sound.proofs.Levels.{seen_fact}
 
 -- how often sibling leaves name each page, as counts that go up to two
@@ -222,3 +223,188 @@ to_loose meta facts list named are keeps match names id (inr loose) =
         record { here = here; least = λ other at. loose.1.least other (from_is_loose meta facts list are named names other at) },
       ),
     )
+
+first_is : {X : Type 0} (x y : X) (xs : List X) (k : ℕ) → k < length (x ∷ xs) → slice_index_or (x ∷ xs) k y ≡ y → (x ≡ y) ⊎ Contains xs y
+first_is x y xs zero lt e = inl e
+first_is x y xs (suc k) lt e = inr (k, omega (arith, lt), e)
+
+-- the leaves of sibling leaves
+abbrev placed : Leaf → Area → Placed
+placed leaf area = record { leaf = leaf; area = area }
+
+sibling_leaf : (all : List Placed) (name : ℕ) (a : Area) → Contains (siblings all) (name, a) → Contains all (placed (Sibling name) a)
+sibling_leaf [] name a h = absurd (omega (arith, h.1))
+sibling_leaf (first ∷ rest) name a h = by_leaf (sibling_leaf rest name a) first.leaf first.area h
+  where
+    by_leaf : (Contains (siblings rest) (name, a) → Contains rest (placed (Sibling name) a)) → (leaf : Leaf) (area : Area)
+        → Contains (siblings (placed leaf area ∷ rest)) (name, a) → Contains (placed leaf area ∷ rest) (placed (Sibling name) a)
+    by_leaf again (Records records) area there = Contains-append_right (placed (Records records) area ∷ []) rest (placed (Sibling name) a) (again there)
+    by_leaf again (Child page) area there = Contains-append_right (placed (Child page) area ∷ []) rest (placed (Sibling name) a) (again there)
+    by_leaf again (Sibling page) area there = elim (first_is {X = ℕ × Area} (page, area) (name, a) (siblings rest) there.0 there.1 there.2) [
+      | inl is ↦ let Q : ℕ × Area → Type 0 = λ pair. Contains (placed (Sibling page) area ∷ rest) (placed (Sibling pair.0) pair.1) in
+          let head : Contains (placed (Sibling page) area ∷ rest) (placed (Sibling page) area) = (0, omega arith, refl) in
+          subst Q is head
+      | inr behind ↦ Contains-append_right (placed (Sibling page) area ∷ []) rest (placed (Sibling name) a) (again behind)
+    ]
+
+-- a page that is named at all has a leaf that names it
+namer_leaf : (id : ℕ) (all : List (ℕ × Area)) → count_name id all ≢ 0 → (a : Area) × Contains all (id, a)
+namer_leaf id [] some = absurd (some refl)
+namer_leaf id (s ∷ rest) some = elim (cases_eq s.0 id) [
+  | inl same ↦ (s.1, (let Q : ℕ → Type 0 = λ n. Contains (s ∷ rest) (n, s.1) in
+      let head : Contains (s ∷ rest) s = (0, omega arith, refl) in
+      subst Q same head))
+  | inr apart ↦
+      let e : (s.0 == id) ≡ false = ne_eqb s.0 id apart in
+      let none : count_name id (s ∷ rest) ≡ 0 + count_name id rest = ap (λ (b : Bool). (if b then 1 else 0) + count_name id rest) e in
+      let behind = namer_leaf id rest (λ z. some (omega (arith, none, z))) in
+      (behind.0, Contains-append_right (s ∷ []) rest (id, behind.0) behind.1)
+]
+
+-- a page at a place of the list, with a leaf that names the page
+record IsNamer (list : List Page) (id : ℕ) (n : ℕ) (host : LivePage) (a : Area) : Type 0 where
+  at : slice_get list n ≡ Some (pages.Live host)
+  leaf : Contains (siblings_of host) (id, a)
+
+namer : (id : ℕ) (list : List Page) → times_named id list ≢ 0 → (n : ℕ) × (host : LivePage) × (a : Area) × IsNamer list id n host a
+namer id [] some = absurd (some refl)
+namer id (pages.Free next ∷ rest) some =
+    let behind = namer id rest some in
+    (suc behind.0, behind.1, behind.2, record { at = behind.3.at; leaf = behind.3.leaf })
+namer id (pages.Live page ∷ rest) some = elim (cases_eq (count_name id (siblings_of page)) 0) [
+  | inl none ↦
+      let behind = namer id rest (λ z. some (let e : count_name id (siblings_of page) + times_named id rest ≡ 0 = omega (arith, none, z) in e)) in
+      (suc behind.0, behind.1, behind.2, record { at = behind.3.at; leaf = behind.3.leaf })
+  | inr here ↦
+      let leaf = namer_leaf id (siblings_of page) here in
+      (0, page, leaf.0, record { at = refl; leaf = leaf.1 })
+]
+
+-- the greatest values of a box, summed up: a cut makes them less
+abbrev total : List ℕ → ℕ
+total [] = 0
+total (x ∷ xs) = x + total xs
+
+sum_less : (xs : List ℕ) (i y : ℕ) → y < slice_index xs i → total (slice_set xs i y) < total xs
+sum_less [] i y lt = absurd (let lt_zero : y < 0 = lt in omega (arith, lt_zero))
+sum_less (x ∷ xs) zero y lt = let less : y < x = lt in omega (arith, less)
+sum_less (x ∷ xs) (suc i) y lt = let less = sum_less xs i y lt in omega (arith, less)
+
+abbrev is_cut : Tree → ℕ
+is_cut (Tip leaf) = 0
+is_cut (Cut axis value left right) = 1
+
+-- A leaf whose least values are all 0 lies below each cut on its way, so its page has the same least values; and behind a
+-- cut the page has greater ones among the greatest. The page's box need not be one for this.
+grows : (tree : Tree) (area : Area) (leaf : Leaf) (a : Area) → IsWellCut tree area → Contains (leaves_of tree area) (placed leaf a)
+    → ((i : ℕ) → slice_index a.lo i ≡ 0) → (a.lo ≡ area.lo) × (total a.hi + is_cut tree ≤ total area.hi)
+grows (Tip own) area leaf a cut h zeros =
+    let is = contains_one {X = Placed} (placed own area) (placed leaf a) h in
+    let same : area ≡ a = ap (λ (p : Placed). p.area) is in
+    let high : total area.hi ≡ total a.hi = ap (λ (x : Area). total x.hi) same in
+    (sym (ap (λ (x : Area). x.lo) same), omega (arith, high))
+grows (Cut axis value left right) area leaf a cut h zeros =
+    let below = side_below area axis value in
+    let from = side_from area axis value in
+    elim (Contains-append_cases (leaves_of left below) (leaves_of right from) (placed leaf a) h) [
+      | inl here ↦
+          let up = grows left below leaf a cut.1 here zeros in
+          let le = up.1 in
+          let least = cut.0.above_least in
+          let most = cut.0.up_to_greatest in
+          let lt : value - 1 < slice_index area.hi axis = omega (arith, least, most) in
+          let less : total below.hi < total area.hi = sum_less area.hi axis (value - 1) lt in
+          (up.0, omega (arith, le, less))
+      | inr here ↦
+          let up = grows right from leaf a cut.2 here zeros in
+          let low : slice_index from.lo axis ≡ value = get_or-set_same area.lo axis value 0 cut.0.attribute in
+          let is : slice_index a.lo axis ≡ slice_index from.lo axis = ap (λ (l : List ℕ). slice_index l axis) up.0 in
+          let none = zeros axis in
+          let least = cut.0.above_least in
+          absurd (omega (arith, low, is, none, least))
+    ]
+
+-- a page with a sibling leaf that isn't a lone one is cut
+sibling_cut : (tree : Tree) (area : Area) (name : ℕ) (a : Area) → Contains (leaves_of tree area) (placed (Sibling name) a) → ¬ (IsSiblingTip tree) → is_cut tree ≡ 1
+sibling_cut (Cut axis value left right) area name a h own = refl
+sibling_cut (Tip leaf) area name a h own =
+    let is : leaf ≡ Sibling name = ap (λ (p : Placed). p.leaf) (contains_one {X = Placed} (placed leaf area) (placed (Sibling name) a) h) in
+    let Q : Leaf → Type 0 = λ l. IsSiblingTip (Tip l) in
+    absurd (own (subst Q (sym is) tt))
+
+zero_lows : (k i : ℕ) → slice_index (replicate k 0) i ≡ 0
+zero_lows zero i = refl
+zero_lows (suc k) zero = refl
+zero_lows (suc k) (suc i) = zero_lows k i
+
+-- more than the greatest values of any page of the list total up to
+abbrev all_highs : List Page → ℕ
+all_highs [] = 0
+all_highs (pages.Live page ∷ rest) = total page.area.hi + all_highs rest
+all_highs (pages.Free next ∷ rest) = all_highs rest
+
+highs_within : (list : List Page) (n : ℕ) (page : LivePage) → if_live (slice_get list n) ≡ Some page → total page.area.hi ≤ all_highs list
+highs_within [] n page e = absurd (let never : None ≡ Some page = e in cc)
+highs_within (pages.Live own ∷ rest) zero page e =
+    let is : own ≡ page = cc in
+    let same : total own.area.hi ≡ total page.area.hi = ap (λ (p : LivePage). total p.area.hi) is in
+    omega (arith, same)
+highs_within (pages.Free next ∷ rest) zero page e = absurd (let never : None ≡ Some page = e in cc)
+highs_within (pages.Live own ∷ rest) (suc n) page e = let le = highs_within rest n page e in omega (arith, le)
+highs_within (pages.Free next ∷ rest) (suc n) page e = highs_within rest n page e
+
+item_highs : (list : List Page) (id : ℕ) (page : LivePage) → if_live (item_at list id) ≡ Some page → total page.area.hi ≤ all_highs list
+item_highs list zero page e = absurd (let never : None ≡ Some page = e in cc)
+item_highs list (suc n) page e = highs_within list n page e
+
+-- what is seen of the page that names another
+record IsAbove (file : FileState) (id : ℕ) (page host : LivePage) : Type 0 where
+  live : live_page file id ≡ Some host
+  lows : host.area.lo ≡ page.area.lo
+  more_high : total page.area.hi < total host.area.hi
+
+module _ (meta : Meta) (list : List Page) (keeps : KeepsSix (file_with meta list)) (match : SiblingsMatch (file_with meta list)) where
+  above : (id : ℕ) (page : LivePage) → live_page (file_with meta list) id ≡ Some page → page.area.lo ≡ replicate meta.k 0 → times_named id list ≢ 0
+      → (other : ℕ) × (host : LivePage) × IsAbove (file_with meta list) other page host
+  above id page e lows some =
+      let by = namer id list some in
+      let host = by.1 in
+      let live : live_page (file_with meta list) (suc by.0) ≡ Some host = ap if_live (page_item list (suc by.0) ∙ by.3.at) in
+      let three = keeps_three host meta (keeps.2 (suc by.0) host live) in
+      let there = match (suc by.0) host id by.2 live by.3.leaf in
+      let found : Some there.0 ≡ Some page = sym there.1 ∙ e in
+      let is : there.0 ≡ page = cc in
+      let boxed : by.2 ≡ page.area = sym there.3 ∙ ap (λ (p : LivePage). p.area) is in
+      let leaf = sibling_leaf (leaves_of host.frag host.area) id by.2 by.3.leaf in
+      let leaf_lows : by.2.lo ≡ replicate meta.k 0 = ap (λ (x : Area). x.lo) boxed ∙ lows in
+      let up = grows host.frag host.area (Sibling id) by.2 three.cut leaf (λ i. ap (λ (l : List ℕ). slice_index l i) leaf_lows ∙ zero_lows meta.k i) in
+      let one = sibling_cut host.frag host.area id by.2 leaf three.filled.own in
+      let high : total by.2.hi ≡ total page.area.hi = ap (λ (x : Area). total x.hi) boxed in
+      let le = up.1 in
+      (suc by.0, host, record { live = live; lows = sym up.0 ∙ ap (λ (x : Area). x.lo) boxed; more_high = omega (arith, high, one, le) })
+
+  -- Above a page as great as the whole space stand ever greater ones, each of which is named, and there's no end to it.
+  module _ (once : (id : ℕ) (page : LivePage) → live_page (file_with meta list) id ≡ Some page → page.area ≢ whole_area meta.k → times_named id list ≡ 1) where
+    climb : (n whole id : ℕ) (page : LivePage) → total (whole_area meta.k).hi ≡ whole → live_page (file_with meta list) id ≡ Some page → page.area.lo ≡ replicate meta.k 0 → whole ≤ total page.area.hi
+        → all_highs list < total page.area.hi + n → times_named id list ≢ 0 → ⊥
+    climb zero whole id page is e lows great far some =
+        let le = item_highs list id page (ap if_live (sym (page_item list id)) ∙ e) in
+        omega (arith, le, far)
+    climb (suc n) whole id page is e lows great far some =
+        let up = above id page e lows some in
+        let greater = up.2.more_high in
+        let host = up.1 in
+        let other : host.area ≢ whole_area meta.k = λ same. (
+          let high : total host.area.hi ≡ total (whole_area meta.k).hi = ap (λ (x : Area). total x.hi) same in
+          omega (arith, high, is, greater, great)) in
+        let one = once up.0 host up.2.live other in
+        climb n whole up.0 host is up.2.live (up.2.lows ∙ lows) (omega (arith, greater, great)) (omega (arith, greater, far)) (λ z. omega (arith, one, z))
+
+    not_named : (id : ℕ) (page : LivePage) → live_page (file_with meta list) id ≡ Some page → page.area ≡ whole_area meta.k → times_named id list ≡ 0
+    not_named id page e boxed = elim (cases_eq (times_named id list) 0) [
+      | inl none ↦ none
+      | inr some ↦
+          let whole = total (whole_area meta.k).hi in
+          let high : whole ≡ total page.area.hi = ap (λ (x : Area). total x.hi) (sym boxed) in
+          absurd (climb (all_highs list + 1) whole id page refl e (ap (λ (x : Area). x.lo) boxed) (omega (arith, high)) (omega arith) some)
+    ]
