@@ -408,3 +408,29 @@ module _ (meta : Meta) (list : List Page) (keeps : KeepsSix (file_with meta list
           let high : whole ≡ total page.area.hi = ap (λ (x : Area). total x.hi) (sym boxed) in
           absurd (climb (all_highs list + 1) whole id page refl e (ap (λ (x : Area). x.lo) boxed) (omega (arith, high)) (omega arith) some)
     ]
+
+pub to_covered : (meta : Meta) (facts : List Fact) (list : List Page) (named : List Times) → AreFactsOf meta facts list → KeepsSix (file_with meta list) → SiblingsMatch (file_with meta list)
+    → IsNamedBy facts list named → IsCoverBreak meta facts named None → IsCovered (file_with meta list)
+to_covered meta facts list named are keeps match names none =
+    let whole = whole_area meta.k in
+    let no_loose : (id : ℕ) → IsLoose (file_with meta list) id → ⊥ = λ id loose. none.1 id (from_is_loose meta facts list are named names id loose) in
+    let once : (id : ℕ) (page : LivePage) → live_page (file_with meta list) id ≡ Some page → page.area ≢ whole → times_named id list ≡ 1 =
+        λ id page e other. elim (cases_eq (times_named id list) 1) [
+          | inl one ↦ one
+          | inr apart ↦ absurd (no_loose id (page, e, inr (other, apart)))
+        ] in
+    record {
+      first = λ level below. elim (find (HasBox level whole) (cases_box level whole) facts) [
+        | inl there ↦ let has = seen_has meta facts list are level there.0 whole there.1 in (there.0, has.0, has.1, has.2, has.3)
+        | inr never ↦ absurd (none.0 (level, below, never))
+      ];
+      alone = λ id other page same e f levels boxed too. elim (cases_lt id other) [
+        | inl lt ↦ absurd (no_loose other (same, f, inl (too, id, lt, (page, e, levels, boxed ∙ sym too))))
+        | inr ge ↦ elim (cases_lt other id) [
+          | inl lt ↦ absurd (no_loose id (page, e, inl (boxed, other, lt, (same, f, sym levels, too ∙ sym boxed))))
+          | inr le ↦ omega (arith, ge, le)
+        ]
+      ];
+      not_named = not_named meta list keeps match once;
+      named_once = once;
+    }
