@@ -1,9 +1,9 @@
 -- Rule 9: from the facts to the pages.
-use Rattle.std.proofs.Common.{◌≡◌, ◌≢◌, ◌⊎◌, inl, inr, ℕ, zero, suc, ◌+◌, ◌-◌, ◌^◌, ◌<◌, ◌≤◌, ◌==◌, Bool, true, false, if◌then◌else◌, List, [], ◌∷◌, length, replicate, Option, Some, None, option_map, slice_get, slice_set, slice_index, slice_index_or, Contains, refl, sym, ap, ◌∙◌, subst, arith}
+use Rattle.std.proofs.Common.{◌≡◌, ◌≢◌, ◌⊎◌, inl, inr, ℕ, zero, suc, ◌+◌, ◌-◌, ◌^◌, ◌<◌, ◌≤◌, ◌==◌, Bool, false, if◌then◌else◌, List, [], ◌∷◌, length, replicate, Option, Some, None, option_map, slice_get, slice_set, slice_index, slice_index_or, Contains, refl, sym, ap, ◌∙◌, subst, arith}
 use Rattle.std.proofs.lemmas.Bool.{cases_eq, cases_lt, ne_eqb}
 use Rattle.std.proofs.lemmas.List.{get_or-set_same}
 use Rattle.std.proofs.lemmas.List.Elements.{Contains-append_cases, Contains-append_right}
-use Rattle.hb_space.specs.Boxes.{Area, Cuts, side_below, side_from, whole_area}
+use Rattle.hb_space.specs.Boxes.{Area, side_below, side_from, whole_area}
 use Rattle.hb_frag.specs.declared.leaves.Leaf.{Leaf}
 use Rattle.hb_frag.specs.declared.leaves.Leaf.TheVariants.{Records, Child, Sibling}
 use Rattle.hb_frag.specs.declared.pages.LivePage.{LivePage}
@@ -22,12 +22,11 @@ use Rattle.hb_sound.specs.declared.facts.Fact.TheVariants.{Live, Free}
 use Rattle.hb_sound.specs.declared.names.Times.{Times}
 use Rattle.hb_sound.specs.declared.names.Times.TheVariants.{Never, Once, Often}
 use Rattle.hb_sound.specs.Broken.{HasSame, IsLoose, LacksFirst}
-use Rattle.hb_sound.specs.Covers.{AreBelow, HasBox, IsCoverBreak, IsLooseSeen, LacksLevel, Sees, SeesLoose}
-use Rattle.hb_sound.specs.Facts.{AreFactsOf, IsSeenOf, if_seen, more, once_more, seen_at}
+use Rattle.hb_sound.specs.Covers.{AreBelow, HasBox, IsCoverBreak, LacksLevel, Sees, SeesLoose}
+use Rattle.hb_sound.specs.Facts.{AreFactsOf, if_seen, more, once_more, seen_at}
 use Rattle.hb_sound.specs.Names.{KeepsSix, NamesLoose}
 use Rattle.hb_sound.specs.Tests.{file_with}
 use Rattle.hb_sound.specs.Told.{item_at}
-use Rattle.hb_sound.specs.Walks.{IsLeast}
 use Rattle.hb_sound.proofs.Bridge.{live_seen, page_item, seen_live}
 use Rattle.hb_sound.proofs.LeafBoxes.{contains_one}
 use Rattle.hb_sound.proofs.Levels.{seen_fact}
@@ -189,8 +188,12 @@ module _ (meta : Meta) (facts : List Fact) (list : List Page) (are : AreFactsOf 
           elim loose.2 [
             | inl beside ↦
                 let has = beside.3 in
-                inl (seen.2.area ∙ beside.0, beside.1, beside.2,
-                  has_seen seen.0.level beside.1 (whole_area meta.k) (has.0, has.1, has.2 ∙ sym seen.2.level, has.3 ∙ beside.0))
+                inl (
+                  seen.2.area ∙ beside.0,
+                  beside.1,
+                  beside.2,
+                  has_seen seen.0.level beside.1 (whole_area meta.k) (has.0, has.1, has.2 ∙ sym seen.2.level, has.3 ∙ beside.0),
+                )
             | inr less ↦ inr (λ e. less.0 (sym seen.2.area ∙ e), λ e. less.1 (once_is (times_named id list) e))
           ],
         )
@@ -251,9 +254,12 @@ sibling_leaf (first ∷ rest) name a h = by_leaf (sibling_leaf rest name a) firs
 namer_leaf : (id : ℕ) (all : List (ℕ × Area)) → count_name id all ≢ 0 → (a : Area) × Contains all (id, a)
 namer_leaf id [] some = absurd (some refl)
 namer_leaf id (s ∷ rest) some = elim (cases_eq s.0 id) [
-  | inl same ↦ (s.1, (let Q : ℕ → Type 0 = λ n. Contains (s ∷ rest) (n, s.1) in
-      let head : Contains (s ∷ rest) s = (0, omega arith, refl) in
-      subst Q same head))
+  | inl same ↦ (
+    s.1,
+    (let Q : ℕ → Type 0 = λ n. Contains (s ∷ rest) (n, s.1) in
+        let head : Contains (s ∷ rest) s = (0, omega arith, refl) in
+        subst Q same head),
+  )
   | inr apart ↦
       let e : (s.0 == id) ≡ false = ne_eqb s.0 id apart in
       let none : count_name id (s ∷ rest) ≡ 0 + count_name id rest = ap (λ (b : Bool). (if b then 1 else 0) + count_name id rest) e in
@@ -395,8 +401,8 @@ module _ (meta : Meta) (list : List Page) (keeps : KeepsSix (file_with meta list
         let greater = up.2.more_high in
         let host = up.1 in
         let other : host.area ≢ whole_area meta.k = λ same. (
-          let high : total host.area.hi ≡ total (whole_area meta.k).hi = ap (λ (x : Area). total x.hi) same in
-          omega (arith, high, is, greater, great)) in
+        let high : total host.area.hi ≡ total (whole_area meta.k).hi = ap (λ (x : Area). total x.hi) same in
+        omega (arith, high, is, greater, great)) in
         let one = once up.0 host up.2.live other in
         climb n whole up.0 host is up.2.live (up.2.lows ∙ lows) (omega (arith, greater, great)) (omega (arith, greater, far)) (λ z. omega (arith, one, z))
 
@@ -415,10 +421,10 @@ to_covered meta facts list named are keeps match names none =
     let whole = whole_area meta.k in
     let no_loose : (id : ℕ) → IsLoose (file_with meta list) id → ⊥ = λ id loose. none.1 id (from_is_loose meta facts list are named names id loose) in
     let once : (id : ℕ) (page : LivePage) → live_page (file_with meta list) id ≡ Some page → page.area ≢ whole → times_named id list ≡ 1 =
-        λ id page e other. elim (cases_eq (times_named id list) 1) [
-          | inl one ↦ one
-          | inr apart ↦ absurd (no_loose id (page, e, inr (other, apart)))
-        ] in
+    λ id page e other. elim (cases_eq (times_named id list) 1) [
+      | inl one ↦ one
+      | inr apart ↦ absurd (no_loose id (page, e, inr (other, apart)))
+    ] in
     record {
       first = λ level below. elim (find (HasBox level whole) (cases_box level whole) facts) [
         | inl there ↦ let has = seen_has meta facts list are level there.0 whole there.1 in (there.0, has.0, has.1, has.2, has.3)
