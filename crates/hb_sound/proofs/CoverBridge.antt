@@ -1,5 +1,5 @@
 -- Rule 9: from the facts to the pages.
-use Rattle.std.proofs.Common.{◌≡◌, ◌≢◌, ◌⊎◌, inl, inr, ℕ, zero, suc, ◌+◌, ◌-◌, ◌^◌, ◌<◌, ◌≤◌, ◌==◌, Bool, false, if◌then◌else◌, List, [], ◌∷◌, length, replicate, Option, Some, None, option_map, slice_get, slice_set, slice_index, slice_index_or, Contains, refl, sym, ap, ◌∙◌, subst, arith}
+use Rattle.std.proofs.Common.{◌≡◌, ◌≢◌, ◌⊎◌, inl, inr, ℕ, zero, suc, ◌+◌, ◌-◌, ◌^◌, ◌<◌, ◌≤◌, ◌==◌, Bool, false, if◌then◌else◌, List, [], ◌∷◌, length, replicate, Option, Some, None, option_map, slice_get, slice_set, slice_index, Contains, refl, sym, ap, ◌∙◌, subst, arith}
 use Rattle.std.proofs.lemmas.Bool.{cases_eq, cases_lt, ne_eqb}
 use Rattle.std.proofs.lemmas.List.{get_or-set_same}
 use Rattle.std.proofs.lemmas.List.Elements.{Contains-append_cases, Contains-append_right}
@@ -105,30 +105,20 @@ cases_box level area (Live seen) = elim (cases_eq seen.level level) [
 ]
 
 -- some fact is so, or none
-find_place : (q : Fact → Type 0) → ((fact : Fact) → q fact ⊎ (¬ (q fact))) → (facts : List Fact)
-    → ((n : ℕ) × (fact : Fact) × (slice_get facts n ≡ Some fact) × q fact) ⊎ ((n : ℕ) (fact : Fact) → slice_get facts n ≡ Some fact → ¬ (q fact))
-find_place q cases [] = inr (λ n fact e h. let never : None ≡ Some fact = e in cc)
+find_place : (q : Fact → Type 0) → ((fact : Fact) → q fact ⊎ (¬ (q fact))) → (facts : List Fact) → ((n : ℕ) × Sees q facts (suc n)) ⊎ ((n : ℕ) → ¬ (Sees q facts (suc n)))
+find_place q cases [] = inr (λ n sees. let never : None ≡ Some sees.0 = sees.1 in cc)
 find_place q cases (first ∷ rest) = elim (cases first) [
-  | inl holds ↦ inl (0, first, refl, holds)
-  | inr fails ↦ elim (find_place q cases rest) [
-    | inl behind ↦ inl (suc behind.0, behind.1, behind.2, behind.3)
-    | inr none ↦ inr (beyond fails none)
-  ]
+  | inl holds ↦ inl (0, (first, refl, holds))
+  | inr fails ↦ elim (find_place q cases rest) [ inl behind ↦ inl (suc behind.0, behind.1) | inr none ↦ inr (beyond fails none) ]
 ]
   where
-    beyond : ¬ (q first) → ((n : ℕ) (fact : Fact) → slice_get rest n ≡ Some fact → ¬ (q fact)) → (n : ℕ) (fact : Fact) → slice_get (first ∷ rest) n ≡ Some fact → ¬ (q fact)
-    beyond fails none zero fact e h = let is : fact ≡ first = cc in fails (subst q is h)
-    beyond fails none (suc n) fact e h = none n fact e h
+    beyond : ¬ (q first) → ((n : ℕ) → ¬ (Sees q rest (suc n))) → (n : ℕ) → ¬ (Sees q (first ∷ rest) (suc n))
+    beyond fails none zero sees = let e : Some first ≡ Some sees.0 = sees.1 in let is : sees.0 ≡ first = cc in fails (subst q is sees.2)
+    beyond fails none (suc n) sees = none n sees
 
-none_sees : (q : Fact → Type 0) (facts : List Fact) → ((n : ℕ) (fact : Fact) → slice_get facts n ≡ Some fact → ¬ (q fact)) → (id : ℕ) → ¬ (Sees q facts id)
+none_sees : (q : Fact → Type 0) (facts : List Fact) → ((n : ℕ) → ¬ (Sees q facts (suc n))) → (id : ℕ) → ¬ (Sees q facts id)
 none_sees q facts none zero sees = let never : None ≡ Some sees.0 = sees.1 in cc
-none_sees q facts none (suc n) sees = none n sees.0 sees.1 sees.2
-
-find : (q : Fact → Type 0) → ((fact : Fact) → q fact ⊎ (¬ (q fact))) → (facts : List Fact) → ((id : ℕ) × Sees q facts id) ⊎ ((id : ℕ) → ¬ (Sees q facts id))
-find q cases facts = elim (find_place q cases facts) [
-  | inl there ↦ inl (suc there.0, (there.1, there.2, there.3))
-  | inr none ↦ inr (none_sees q facts none)
-]
+none_sees q facts none (suc n) sees = none n sees
 
 boxed_fact : (level : ℕ) (area : Area) (fact : Fact) (o : Option Fact) → o ≡ Some fact → HasBox level area fact → (seen : Seen) × (if_seen o ≡ Some seen) × (seen.level ≡ level) × (seen.area ≡ area)
 boxed_fact level area (Live seen) o e h = (seen, ap if_seen e, h.0, h.1)
@@ -227,63 +217,54 @@ to_loose meta facts list named are keeps match names id (inr loose) =
       ),
     )
 
-first_is : {X : Type 0} (x y : X) (xs : List X) (k : ℕ) → k < length (x ∷ xs) → slice_index_or (x ∷ xs) k y ≡ y → (x ≡ y) ⊎ Contains xs y
-first_is x y xs zero lt e = inl e
-first_is x y xs (suc k) lt e = inr (k, omega (arith, lt), e)
-
--- the leaves of sibling leaves
 abbrev placed : Leaf → Area → Placed
 placed leaf area = record { leaf = leaf; area = area }
 
-sibling_leaf : (all : List Placed) (name : ℕ) (a : Area) → Contains (siblings all) (name, a) → Contains all (placed (Sibling name) a)
-sibling_leaf [] name a h = absurd (omega (arith, h.1))
-sibling_leaf (first ∷ rest) name a h = by_leaf (sibling_leaf rest name a) first.leaf first.area h
-  where
-    by_leaf : (Contains (siblings rest) (name, a) → Contains rest (placed (Sibling name) a)) → (leaf : Leaf) (area : Area)
-        → Contains (siblings (placed leaf area ∷ rest)) (name, a) → Contains (placed leaf area ∷ rest) (placed (Sibling name) a)
-    by_leaf again (Records records) area there = Contains-append_right (placed (Records records) area ∷ []) rest (placed (Sibling name) a) (again there)
-    by_leaf again (Child page) area there = Contains-append_right (placed (Child page) area ∷ []) rest (placed (Sibling name) a) (again there)
-    by_leaf again (Sibling page) area there = elim (first_is {X = ℕ × Area} (page, area) (name, a) (siblings rest) there.0 there.1 there.2) [
-      | inl is ↦ let Q : ℕ × Area → Type 0 = λ pair. Contains (placed (Sibling page) area ∷ rest) (placed (Sibling pair.0) pair.1) in
-          let head : Contains (placed (Sibling page) area ∷ rest) (placed (Sibling page) area) = (0, omega arith, refl) in
-          subst Q is head
-      | inr behind ↦ Contains-append_right (placed (Sibling page) area ∷ []) rest (placed (Sibling name) a) (again behind)
-    ]
+-- a sibling leaf with this box names the page
+record IsNaming (id : ℕ) (all : List Placed) (a : Area) : Type 0 where
+  name : Contains (siblings all) (id, a)
+  leaf : Contains all (placed (Sibling id) a)
 
 -- a page that is named at all has a leaf that names it
-namer_leaf : (id : ℕ) (all : List (ℕ × Area)) → count_name id all ≢ 0 → (a : Area) × Contains all (id, a)
-namer_leaf id [] some = absurd (some refl)
-namer_leaf id (s ∷ rest) some = elim (cases_eq s.0 id) [
-  | inl same ↦ (
-    s.1,
-    (let Q : ℕ → Type 0 = λ n. Contains (s ∷ rest) (n, s.1) in
-        let head : Contains (s ∷ rest) s = (0, omega arith, refl) in
-        subst Q same head),
-  )
-  | inr apart ↦
-      let e : (s.0 == id) ≡ false = ne_eqb s.0 id apart in
-      let none : count_name id (s ∷ rest) ≡ 0 + count_name id rest = ap (λ (b : Bool). (if b then 1 else 0) + count_name id rest) e in
-      let behind = namer_leaf id rest (λ z. some (omega (arith, none, z))) in
-      (behind.0, Contains-append_right (s ∷ []) rest (id, behind.0) behind.1)
-]
+naming : (id : ℕ) (all : List Placed) → count_name id (siblings all) ≢ 0 → (a : Area) × IsNaming id all a
+naming id [] some = absurd (some refl)
+naming id (first ∷ rest) some = by_leaf (naming id rest) first.leaf first.area some
+  where
+    leaf_behind : (leaf : Leaf) (area a : Area) → IsNaming id rest a → Contains (placed leaf area ∷ rest) (placed (Sibling id) a)
+    leaf_behind leaf area a is = Contains-append_right (placed leaf area ∷ []) rest (placed (Sibling id) a) is.leaf
+
+    by_leaf : (count_name id (siblings rest) ≢ 0 → (a : Area) × IsNaming id rest a) → (leaf : Leaf) (area : Area)
+        → count_name id (siblings (placed leaf area ∷ rest)) ≢ 0 → (a : Area) × IsNaming id (placed leaf area ∷ rest) a
+    by_leaf again (Records records) area some =
+        let n = again some in (n.0, record { name = n.1.name; leaf = leaf_behind (Records records) area n.0 n.1 })
+    by_leaf again (Child page) area some =
+        let n = again some in (n.0, record { name = n.1.name; leaf = leaf_behind (Child page) area n.0 n.1 })
+    by_leaf again (Sibling page) area some = elim (cases_eq page id) [
+      | inl same ↦ (area, let Q : ℕ → Type 0 = λ n. IsNaming n (placed (Sibling page) area ∷ rest) area in
+          subst Q same (record { name = (0, omega arith, refl); leaf = (0, omega arith, refl) }))
+      | inr apart ↦
+          let e = ap (λ (b : Bool). (if b then 1 else 0) + count_name id (siblings rest)) (ne_eqb page id apart) in
+          let n = again (λ z. some (omega (arith, e, z))) in
+          (n.0, record { name = Contains-append_right ((page, area) ∷ []) (siblings rest) (id, n.0) n.1.name; leaf = leaf_behind (Sibling page) area n.0 n.1 })
+    ]
 
 -- a page at a place of the list, with a leaf that names the page
 record IsNamer (list : List Page) (id : ℕ) (n : ℕ) (host : LivePage) (a : Area) : Type 0 where
   at : slice_get list n ≡ Some (pages.Live host)
-  leaf : Contains (siblings_of host) (id, a)
+  naming : IsNaming id (leaves_of host.frag host.area) a
 
 namer : (id : ℕ) (list : List Page) → times_named id list ≢ 0 → (n : ℕ) × (host : LivePage) × (a : Area) × IsNamer list id n host a
 namer id [] some = absurd (some refl)
 namer id (pages.Free next ∷ rest) some =
     let behind = namer id rest some in
-    (suc behind.0, behind.1, behind.2, record { at = behind.3.at; leaf = behind.3.leaf })
+    (suc behind.0, behind.1, behind.2, record { at = behind.3.at; naming = behind.3.naming })
 namer id (pages.Live page ∷ rest) some = elim (cases_eq (count_name id (siblings_of page)) 0) [
   | inl none ↦
       let behind = namer id rest (λ z. some (let e : count_name id (siblings_of page) + times_named id rest ≡ 0 = omega (arith, none, z) in e)) in
-      (suc behind.0, behind.1, behind.2, record { at = behind.3.at; leaf = behind.3.leaf })
+      (suc behind.0, behind.1, behind.2, record { at = behind.3.at; naming = behind.3.naming })
   | inr here ↦
-      let leaf = namer_leaf id (siblings_of page) here in
-      (0, page, leaf.0, record { at = refl; leaf = leaf.1 })
+      let leaf = naming id (leaves_of page.frag page.area) here in
+      (0, page, leaf.0, record { at = refl; naming = leaf.1 })
 ]
 
 -- the greatest values of a box, summed up: a cut makes them less
@@ -377,11 +358,11 @@ module _ (meta : Meta) (list : List Page) (keeps : KeepsSix (file_with meta list
       let host = by.1 in
       let live : live_page (file_with meta list) (suc by.0) ≡ Some host = ap if_live (page_item list (suc by.0) ∙ by.3.at) in
       let three = keeps_three host meta (keeps.2 (suc by.0) host live) in
-      let there = match (suc by.0) host id by.2 live by.3.leaf in
+      let there = match (suc by.0) host id by.2 live by.3.naming.name in
       let found : Some there.0 ≡ Some page = sym there.1 ∙ e in
       let is : there.0 ≡ page = cc in
       let boxed : by.2 ≡ page.area = sym there.3 ∙ ap (λ (p : LivePage). p.area) is in
-      let leaf = sibling_leaf (leaves_of host.frag host.area) id by.2 by.3.leaf in
+      let leaf = by.3.naming.leaf in
       let leaf_lows : by.2.lo ≡ replicate meta.k 0 = ap (λ (x : Area). x.lo) boxed ∙ lows in
       let up = grows host.frag host.area (Sibling id) by.2 three.cut leaf (λ i. ap (λ (l : List ℕ). slice_index l i) leaf_lows ∙ zero_lows meta.k i) in
       let one = sibling_cut host.frag host.area id by.2 leaf three.filled.own in
@@ -426,9 +407,9 @@ to_covered meta facts list named are keeps match names none =
       | inr apart ↦ absurd (no_loose id (page, e, inr (other, apart)))
     ] in
     record {
-      first = λ level below. elim (find (HasBox level whole) (cases_box level whole) facts) [
-        | inl there ↦ let has = seen_has meta facts list are level there.0 whole there.1 in (there.0, has.0, has.1, has.2, has.3)
-        | inr never ↦ absurd (none.0 (level, below, never))
+      first = λ level below. elim (find_place (HasBox level whole) (cases_box level whole) facts) [
+        | inl there ↦ let has = seen_has meta facts list are level (suc there.0) whole there.1 in (suc there.0, has.0, has.1, has.2, has.3)
+        | inr never ↦ absurd (none.0 (level, below, none_sees (HasBox level whole) facts never))
       ];
       alone = λ id other page same e f levels boxed too. elim (cases_lt id other) [
         | inl lt ↦ absurd (no_loose other (same, f, inl (too, id, lt, (page, e, levels, boxed ∙ sym too))))
