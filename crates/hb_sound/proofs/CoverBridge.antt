@@ -240,8 +240,11 @@ naming id (first ∷ rest) some = by_leaf (naming id rest) first.leaf first.area
     by_leaf again (Child page) area some =
         let n = again some in (n.0, record { name = n.1.name; leaf = leaf_behind (Child page) area n.0 n.1 })
     by_leaf again (Sibling page) area some = elim (cases_eq page id) [
-      | inl same ↦ (area, let Q : ℕ → Type 0 = λ n. IsNaming n (placed (Sibling page) area ∷ rest) area in
-          subst Q same (record { name = (0, omega arith, refl); leaf = (0, omega arith, refl) }))
+      | inl same ↦ (
+        area,
+        let Q : ℕ → Type 0 = λ n. IsNaming n (placed (Sibling page) area ∷ rest) area in
+            subst Q same (record { name = (0, omega arith, refl); leaf = (0, omega arith, refl) }),
+      )
       | inr apart ↦
           let e = ap (λ (b : Bool). (if b then 1 else 0) + count_name id (siblings rest)) (ne_eqb page id apart) in
           let n = again (λ z. some (omega (arith, e, z))) in

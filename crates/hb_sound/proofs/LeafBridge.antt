@@ -227,10 +227,13 @@ module _ (meta : Meta) (facts : List Fact) (list : List Page) (are : AreFactsOf 
   misses_sibling : (id : ℕ) → MissesSibling file id → LosesSibling facts list id
   misses_sibling id misses =
       let page = misses.0 in
-      let all = leaves_of page.frag page.area in
-      (page, misses.1, λ finds.
-        let at = All-contains (FindsSame facts page.level) all (placed (Sibling misses.2) misses.3) finds (sibling_leaf all misses.2 misses.3 misses.4) in
-        misses.5 (same_has page.level misses.2 misses.3 at.same))
+      let all = leaves_of page.frag page.area in (
+        page,
+        misses.1,
+        λ finds.
+            let at = All-contains (FindsSame facts page.level) all (placed (Sibling misses.2) misses.3) finds (sibling_leaf all misses.2 misses.3 misses.4) in
+            misses.5 (same_has page.level misses.2 misses.3 at.same),
+      )
 
   pub least_sibling : (id : ℕ) → IsLeast (LosesSibling facts list) id → IsLeast (MissesSibling file) id
   least_sibling id least = record { here = loses_sibling id least.here; least = λ m misses. least.least m (misses_sibling m misses) }
@@ -255,8 +258,7 @@ module _ (meta : Meta) (facts : List Fact) (list : List Page) (are : AreFactsOf 
     has_below level name area attributes has =
         let seen = seen_live meta facts list are name has.0 has.1 in
         let own = fits_file name has.0 has.1 in
-        let Q : Area → Type 0 = λ box. Within area box in
-        (
+        let Q : Area → Type 0 = λ box. Within area box in (
           seen.0,
           seen.1,
           ap (λ (n : ℕ). n + 1) seen.2.level ∙ has.2,
@@ -289,10 +291,13 @@ module _ (meta : Meta) (facts : List Fact) (list : List Page) (are : AreFactsOf 
 
     misses_child : (id : ℕ) → MissesChild file id → LosesChild facts list id
     misses_child id misses =
-        let page = misses.0 in
-        (page, misses.1, λ finds.
-          let at = All-contains (FindsBelow facts page.level) (leaves_of page.frag page.area) (placed (Child misses.2) misses.3) finds misses.4 in
-          misses.5 (below_has page.level misses.2 misses.3 at.below))
+        let page = misses.0 in (
+          page,
+          misses.1,
+          λ finds.
+              let at = All-contains (FindsBelow facts page.level) (leaves_of page.frag page.area) (placed (Child misses.2) misses.3) finds misses.4 in
+              misses.5 (below_has page.level misses.2 misses.3 at.below),
+        )
 
     pub least_child : (id : ℕ) → IsLeast (LosesChild facts list) id → IsLeast (MissesChild file) id
     least_child id least = record { here = loses_child id least.here; least = λ m misses. least.least m (misses_child m misses) }

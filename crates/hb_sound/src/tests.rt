@@ -7,6 +7,7 @@
 ghost use Rattle.std.specs.Prelude.{◌≡◌, IfSome, IsTrue, None};
 ghost use Rattle.hb_frag.specs.Leaves.{leaf_weight, weight_of};
 ghost use Rattle.hb_page_codec.specs.Weight.{IsLight};
+ghost use Rattle.hb_super.specs.Superblocks.{IsLayout};
 
 use crate::{AuditStop, PageStop, Pages, audit};
 use hb_frag::{Frag, Leaf, LivePage, Node, Page};
@@ -117,30 +118,24 @@ fn copy_of(alloc: Global, page: &Page) -> Result<Page, NoMemory> {
     }
 }
 
-// Pages in memory. After so many calls each one fails.
+// Pages in memory.
 #[derive(Drop)]
 struct KeptPages {
     alloc: Global,
     pages: Vec<Option<Page>>,
-    calls: u64,
-    faults: u64,
 }
 
 impl Pages for KeptPages {
     ghost told = { λ _. None };
 
-    ghost faults = { λ s. s.faults };
+    ghost faults = { λ _. 0 };
 
     fn page(&mut self, id: u32) -> Result<Option<Page>, PageStop> {
-        if self.calls == 0 {
-            self.faults = self.faults.saturating_add(1);
-            return Err(PageStop::Failed);
-        }
-        self.calls -= 1;
         let place = (id as usize).wrapping_sub(1);
         match self.pages.get(place) {
-            Some(Some(page)) if is_light(page) => match copy_of(self.alloc, page) {
-                Ok(page) => Ok(Some(page)),
+            Some(Some(page)) => match copy_of(self.alloc, page) {
+                Ok(page) if is_light(&page) => Ok(Some(page)),
+                Ok(_) => Ok(None),
                 Err(_) => Err(PageStop::NoMemory),
             },
             _ => Ok(None),
@@ -156,35 +151,34 @@ fn pages_of(alloc: Global, text: &str) -> Result<Vec<Option<Page>>, Fail> {
     Ok(pages)
 }
 
-// A file of one attribute with 8 pages, from its root, height, high mark, live pages and free head.
-fn meta_of(words: &str) -> Result<Meta, Fail> {
-    let mut words = words.split_whitespace();
-    let mut next = || {
-        let word = words.next();
-        word.unwrap_or("")
-    };
-    Ok(Meta {
+// A file's root, height, high mark, live pages and free head.
+type Marks = (u32, u8, u32, u32, u32);
+
+// A file of one attribute with 8 pages. Its height is 1 to 12.
+fn meta_of(marks: Marks) -> Meta
+    ensures { IsLayout result }
+{
+    let (root, height, high, live, free) = marks;
+    Meta {
         k: 1,
         pages: 8,
         log: 65_536,
         dcap: 6,
         icap: 32,
-        root: next().parse()?,
-        height: next().parse()?,
-        high: next().parse()?,
-        live: next().parse()?,
-        free: next().parse()?,
-    })
+        root,
+        height: height.max(1).min(12),
+        high,
+        live,
+        free,
+    }
 }
 
 // What the audit answers, as `ok RECORDS` or `PAGE RULE`.
-fn answer(alloc: Global, meta: &str, text: &str, calls: u64) -> Result<String, Fail> {
-    let meta = meta_of(meta)?;
+fn answer(alloc: Global, marks: Marks, text: &str) -> Result<String, Fail> {
+    let meta = meta_of(marks);
     let mut pages = KeptPages {
         alloc,
         pages: pages_of(alloc, text)?,
-        calls,
-        faults: 0,
     };
     Ok(match audit(alloc, &meta, &mut pages) {
         Ok(records) => format!(in alloc; "ok {records}")?,
@@ -194,78 +188,86 @@ fn answer(alloc: Global, meta: &str, text: &str, calls: u64) -> Result<String, F
     })
 }
 
-const ROWS: [(&str, &str, &str); 39] = [
+const ROWS: [(Marks, &str, &str); 39] = [
     // sound: one page; two levels with a sibling; a free chain of two
-    ("1 1 1 1 0", "0 *", "ok 0"),
-    ("1 1 1 1 0", "0 * 3 5", "ok 2"),
+    ((1, 1, 1, 1, 0), "0 *", "ok 0"),
+    ((1, 1, 1, 1, 0), "0 * 3 5", "ok 2"),
     (
-        "1 2 3 3 0",
+        (1, 2, 3, 3, 0),
         "1 * ^2 / 10: ^3 | 0 * 1 / 10: >3 | 0 10-18446744073709551615 11 12",
         "ok 3",
     ),
-    ("1 1 3 1 3", "0 * 3 | free 0 | free 2", "ok 1"),
+    ((1, 1, 3, 1, 3), "0 * 3 | free 0 | free 2", "ok 1"),
     // 0: no page there; beyond the pages that the file may have
-    ("1 1 2 1 0", "0 * | bad", "2 0"),
-    ("1 1 9 1 0", "0 *|0 *|0 *|0 *|0 *|0 *|0 *|0 *|0 *", "9 0"),
-    ("1 1 4294967295 1 0", "0 *|bad", "2 0"),
-    // 1: the marks and the root
-    ("1 1 0 0 0", "0 *", "0 1"),
-    ("2 1 1 1 0", "0 *", "0 1"),
-    ("0 1 1 1 0", "0 *", "0 1"),
-    ("1 1 1 1 2", "0 *", "0 1"),
-    ("1 1 1 2 0", "0 *", "0 1"),
-    ("1 2 1 1 0", "0 *", "0 1"),
-    ("1 1 1 1 0", "0 0-5", "0 1"),
-    ("1 1 1 0 1", "free 0", "0 1"),
-    // 2: left out; ends at a page in use, beyond the mark, at one met before; a wrong count
-    ("1 1 3 1 3", "0 * | free 0 | free 0", "2 2"),
-    ("1 1 2 1 0", "0 * | free 0", "2 2"),
-    ("1 1 2 1 2", "0 * | free 1", "1 2"),
-    ("1 1 2 1 2", "0 * | free 7", "7 2"),
-    ("1 1 2 1 2", "0 * | free 4294967295", "4294967295 2"),
-    ("1 1 3 1 2", "0 * | free 3 | free 2", "2 2"),
-    ("1 1 3 1 2", "0 * | free 3 | free 3", "3 2"),
-    ("1 1 1 0 0", "0 *", "0 2"),
-    // 3 to 6: the least rule first, then the least page
-    ("1 1 3 3 0", "0 * | 0 * 9 / 5: 3 | 1 *", "3 3"),
-    ("1 1 3 3 0", "0 * 9 / 0: 3 | 0 * 9 | 0 * 2 / 0: 1", "1 4"),
-    ("1 1 2 2 0", "0 * 5 4 | 0 * ^1", "2 5"),
-    ("1 1 1 1 0", "0 * 1 2 3 4 5 6 7", "1 5"),
-    ("1 1 1 1 0", "0 * >1", "1 5"),
-    ("1 1 1 1 0", "0 * 7 3", "1 6"),
-    // 7: a sibling leaf that names no page, 0, one with another box
-    ("1 1 1 1 0", "0 * 1 / 10: >4294967295", "1 7"),
-    ("1 1 2 2 0", "0 * 1 / 10: >0 | 0 0-9", "1 7"),
-    ("1 1 2 2 0", "0 * 1 / 10: >2 | 0 10-99", "1 7"),
-    // 8: a child leaf that names its own page, and one whose box isn't within the page's
-    ("1 2 1 1 0", "1 * ^1", "1 8"),
+    ((1, 1, 2, 1, 0), "0 * | bad", "2 0"),
     (
-        "1 2 3 3 0",
+        (1, 1, 9, 1, 0),
+        "0 *|0 *|0 *|0 *|0 *|0 *|0 *|0 *|0 *",
+        "9 0",
+    ),
+    ((1, 1, 4294967295, 1, 0), "0 *|bad", "2 0"),
+    // 1: the marks and the root
+    ((1, 1, 0, 0, 0), "0 *", "0 1"),
+    ((2, 1, 1, 1, 0), "0 *", "0 1"),
+    ((0, 1, 1, 1, 0), "0 *", "0 1"),
+    ((1, 1, 1, 1, 2), "0 *", "0 1"),
+    ((1, 1, 1, 2, 0), "0 *", "0 1"),
+    ((1, 2, 1, 1, 0), "0 *", "0 1"),
+    ((1, 1, 1, 1, 0), "0 0-5", "0 1"),
+    ((1, 1, 1, 0, 1), "free 0", "0 1"),
+    // 2: left out; ends at a page in use, beyond the mark, at one met before; a wrong count
+    ((1, 1, 3, 1, 3), "0 * | free 0 | free 0", "2 2"),
+    ((1, 1, 2, 1, 0), "0 * | free 0", "2 2"),
+    ((1, 1, 2, 1, 2), "0 * | free 1", "1 2"),
+    ((1, 1, 2, 1, 2), "0 * | free 7", "7 2"),
+    ((1, 1, 2, 1, 2), "0 * | free 4294967295", "4294967295 2"),
+    ((1, 1, 3, 1, 2), "0 * | free 3 | free 2", "2 2"),
+    ((1, 1, 3, 1, 2), "0 * | free 3 | free 3", "3 2"),
+    ((1, 1, 1, 0, 0), "0 *", "0 2"),
+    // 3 to 6: the least rule first, then the least page
+    ((1, 1, 3, 3, 0), "0 * | 0 * 9 / 5: 3 | 1 *", "3 3"),
+    (
+        (1, 1, 3, 3, 0),
+        "0 * 9 / 0: 3 | 0 * 9 | 0 * 2 / 0: 1",
+        "1 4",
+    ),
+    ((1, 1, 2, 2, 0), "0 * 5 4 | 0 * ^1", "2 5"),
+    ((1, 1, 1, 1, 0), "0 * 1 2 3 4 5 6 7", "1 5"),
+    ((1, 1, 1, 1, 0), "0 * >1", "1 5"),
+    ((1, 1, 1, 1, 0), "0 * 7 3", "1 6"),
+    // 7: a sibling leaf that names no page, 0, one with another box
+    ((1, 1, 1, 1, 0), "0 * 1 / 10: >4294967295", "1 7"),
+    ((1, 1, 2, 2, 0), "0 * 1 / 10: >0 | 0 0-9", "1 7"),
+    ((1, 1, 2, 2, 0), "0 * 1 / 10: >2 | 0 10-99", "1 7"),
+    // 8: a child leaf that names its own page, and one whose box isn't within the page's
+    ((1, 2, 1, 1, 0), "1 * ^1", "1 8"),
+    (
+        (1, 2, 3, 3, 0),
         "1 * ^2 / 10: ^3 | 0 * 1 / 20: >3 | 0 20-18446744073709551615",
         "1 8",
     ),
     // 9: a level without a page of the whole space, two of one level, one that nobody names
     (
-        "1 2 3 3 0",
+        (1, 2, 3, 3, 0),
         "1 * ^2 / 10: ^3 | 0 0-9 1 | 0 10-18446744073709551615 11",
         "0 9",
     ),
-    ("1 1 2 2 0", "0 * | 0 *", "2 9"),
-    ("1 1 2 2 0", "0 * 1 / 10: 11 | 0 3-9", "2 9"),
+    ((1, 1, 2, 2, 0), "0 * | 0 *", "2 9"),
+    ((1, 1, 2, 2, 0), "0 * 1 / 10: 11 | 0 3-9", "2 9"),
     (
-        "1 1 3 3 0",
+        (1, 1, 3, 3, 0),
         "0 * 1 / 10: >2 | 0 10-18446744073709551615 11 | 0 5-18446744073709551615 6 / 10: >2",
         "2 9",
     ),
     // 10: two leaves that should be one
-    ("1 1 1 1 0", "0 * 1 / 10: 11", "1 10"),
+    ((1, 1, 1, 1, 0), "0 * 1 / 10: 11", "1 10"),
 ];
 
 #[test]
 fn answers_are_those_worked_out(rt: HostRuntime) -> Result<(), Fail> {
     let alloc = rt.alloc();
-    for (meta, text, wanted) in ROWS {
-        let got = answer(alloc, meta, text, 99)?;
+    for (marks, text, wanted) in ROWS {
+        let got = answer(alloc, marks, text)?;
         if got.as_str() != wanted {
             return Err("another answer".into());
         }
