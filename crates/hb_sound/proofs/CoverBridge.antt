@@ -1,7 +1,9 @@
 -- Rule 9: from the facts to the pages.
-use Rattle.std.proofs.Common.{◌≡◌, ◌≢◌, ◌⊎◌, inl, inr, ℕ, zero, suc, ◌+◌, ◌-◌, ◌^◌, ◌<◌, ◌≤◌, ◌==◌, Bool, false, if◌then◌else◌, List, [], ◌∷◌, length, replicate, Option, Some, None, option_map, slice_get, slice_set, slice_index, Contains, refl, sym, ap, ◌∙◌, subst, arith}
-use Rattle.std.proofs.lemmas.Bool.{cases_eq, cases_lt, ne_eqb}
+use Rattle.std.proofs.Common.{◌≡◌, ◌≢◌, ◌⊎◌, inl, inr, ℕ, zero, suc, ◌+◌, ◌-◌, ◌^◌, ◌<◌, ◌≤◌, ◌==◌, Bool, if◌then◌else◌, List, [], ◌∷◌, length, replicate, Option, Some, None, option_map, slice_get, slice_set, slice_index, Contains, refl, sym, ap, ◌∙◌, subst, arith}
+use Rattle.std.specs.Str.{bytes_eq}
+use Rattle.std.proofs.lemmas.Bool.{cases_Bool, cases_eq, cases_lt, false≢true, ne_eqb}
 use Rattle.std.proofs.lemmas.List.{get_or-set_same}
+use Rattle.std.proofs.lemmas.Slice.Eq.{bytes_eq-Decides}
 use Rattle.std.proofs.lemmas.List.Elements.{Contains-append_cases, Contains-append_right}
 use Rattle.hb_space.specs.Boxes.{Area, side_below, side_from, whole_area}
 use Rattle.hb_frag.specs.declared.leaves.Leaf.{Leaf}
@@ -70,28 +72,19 @@ once_is zero e = absurd (let never : Never ≡ Once = e in cc)
 once_is (suc zero) e = refl
 once_is (suc (suc n)) e = absurd (let never : Often ≡ Once = sym (more_two n) ∙ e in cc)
 
-is_once : (n : ℕ) → n ≡ 1 → more n Never ≡ Once
-is_once n e = ap (λ (m : ℕ). more m Never) e
-
 -- two lists of numbers, two boxes
 cases_list : (xs ys : List ℕ) → (xs ≡ ys) ⊎ (xs ≢ ys)
-cases_list [] [] = inl refl
-cases_list [] (y ∷ ys) = inr (λ e. let never : [] ≡ y ∷ ys = e in cc)
-cases_list (x ∷ xs) [] = inr (λ e. let never : x ∷ xs ≡ [] = e in cc)
-cases_list (x ∷ xs) (y ∷ ys) = elim (cases_eq x y) [
-  | inl same ↦ elim (cases_list xs ys) [
-    | inl rest ↦ inl (let e : x ∷ xs ≡ y ∷ ys = cc in e)
-    | inr other ↦ inr (λ e. other (let is : x ∷ xs ≡ y ∷ ys = e in let tail : xs ≡ ys = cc in tail))
-  ]
-  | inr apart ↦ inr (λ e. apart (let is : x ∷ xs ≡ y ∷ ys = e in let head : x ≡ y = cc in head))
+cases_list xs ys = elim (cases_Bool (bytes_eq xs ys)) [
+  | inl holds ↦ inl ((bytes_eq-Decides xs ys).0 holds)
+  | inr fails ↦ inr (λ e. false≢true (sym fails ∙ (bytes_eq-Decides xs ys).1 e))
 ]
 
 cases_area : (a b : Area) → (a ≡ b) ⊎ (a ≢ b)
 cases_area a b = elim (cases_list a.lo b.lo) [
   | inl lows ↦ elim (cases_list a.hi b.hi) [
-    | inl highs ↦ inl (let P : List ℕ → Type 0 = λ l. a ≡ record { lo = l; hi = a.hi } in
-        let Q : List ℕ → Type 0 = λ h. a ≡ record { lo = b.lo; hi = h } in
-        subst Q highs (subst P lows refl))
+    | inl highs ↦
+        let lo_same : a ≡ record { lo = b.lo; hi = a.hi } = ap (λ (l : List ℕ). record { lo = l; hi = a.hi }) lows in
+        inl (lo_same ∙ ap (λ (h : List ℕ). record { lo = b.lo; hi = h }) highs)
     | inr other ↦ inr (λ e. other (ap (λ (x : Area). x.hi) e))
   ]
   | inr other ↦ inr (λ e. other (ap (λ (x : Area). x.lo) e))
@@ -163,7 +156,7 @@ module _ (meta : Meta) (facts : List Fact) (list : List Page) (are : AreFactsOf 
                 let boxed : page.0.area ≡ whole_area meta.k = sym page.2.area ∙ beside.0 in
                 let has = seen_has seen.level beside.1 (whole_area meta.k) beside.3 in
                 inl (boxed, beside.1, beside.2, (has.0, has.1, has.2 ∙ page.2.level, has.3 ∙ sym boxed))
-            | inr less ↦ inr (λ e. less.0 (page.2.area ∙ e), λ e. less.1 (times ∙ is_once (times_named id list) e))
+            | inr less ↦ inr (λ e. less.0 (page.2.area ∙ e), λ e. less.1 (times ∙ ap (λ (n : ℕ). more n Never) e))
           ],
         )
 
@@ -331,12 +324,12 @@ all_highs (pages.Live page ∷ rest) = total page.area.hi + all_highs rest
 all_highs (pages.Free next ∷ rest) = all_highs rest
 
 highs_within : (list : List Page) (n : ℕ) (page : LivePage) → if_live (slice_get list n) ≡ Some page → total page.area.hi ≤ all_highs list
-highs_within [] n page e = absurd (let never : None ≡ Some page = e in cc)
+highs_within [] n page e = let never : None ≡ Some page = e in cc
 highs_within (pages.Live own ∷ rest) zero page e =
     let is : own ≡ page = cc in
-    let same : total own.area.hi ≡ total page.area.hi = ap (λ (p : LivePage). total p.area.hi) is in
+    let same = ap (λ (p : LivePage). total p.area.hi) is in
     omega (arith, same)
-highs_within (pages.Free next ∷ rest) zero page e = absurd (let never : None ≡ Some page = e in cc)
+highs_within (pages.Free next ∷ rest) zero page e = let never : None ≡ Some page = e in cc
 highs_within (pages.Live own ∷ rest) (suc n) page e = let le = highs_within rest n page e in omega (arith, le)
 highs_within (pages.Free next ∷ rest) (suc n) page e = highs_within rest n page e
 
