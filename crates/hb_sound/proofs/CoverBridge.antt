@@ -58,9 +58,7 @@ pub are_below : (meta : Meta) (facts : List Fact) (list : List Page) → AreFact
 are_below meta facts list are keeps id seen e =
     let page = live_seen meta facts list are id seen e in
     let three = keeps_three page.0 meta (keeps.2 id page.0 page.1) in
-    let same = page.2.level in
-    let lt = three.fits.level in
-    omega (arith, same, lt)
+    omega (arith, page.2.level, three.fits.level)
 
 -- a count that goes up to two is one exactly for one
 more_two : (n : ℕ) → more (suc (suc n)) Never ≡ Often
@@ -186,8 +184,7 @@ module _ (meta : Meta) (facts : List Fact) (list : List Page) (are : AreFactsOf 
       | inl beside ↦
           let has = beside.3 in
           let e = covered.alone id beside.1 loose.0 has.0 loose.1 has.1 (sym has.2) beside.0 (has.3 ∙ beside.0) in
-          let lt = beside.2 in
-          absurd (omega (arith, e, lt))
+          absurd (omega (arith, e, beside.2))
       | inr less ↦ less.1 (covered.named_once id loose.0 loose.1 less.0)
     ]
 
@@ -233,8 +230,11 @@ naming id (first ∷ rest) some = by_leaf (naming id rest) first.leaf first.area
     by_leaf again (Child page) area some =
         let n = again some in (n.0, record { name = n.1.name; leaf = leaf_behind (Child page) area n.0 n.1 })
     by_leaf again (Sibling page) area some = elim (cases_eq page id) [
-      | inl same ↦ (area, let Q : ℕ → Type 0 = λ n. IsNaming n (placed (Sibling page) area ∷ rest) area in
-          subst Q same (record { name = (0, omega arith, refl); leaf = (0, omega arith, refl) }))
+      | inl same ↦ (
+        area,
+        let Q : ℕ → Type 0 = λ n. IsNaming n (placed (Sibling page) area ∷ rest) area in
+            subst Q same (record { name = (0, omega arith, refl); leaf = (0, omega arith, refl) }),
+      )
       | inr apart ↦
           let e = ap (λ (b : Bool). (if b then 1 else 0) + count_name id (siblings rest)) (ne_eqb page id apart) in
           let n = again (λ z. some (omega (arith, e, z))) in
@@ -242,22 +242,21 @@ naming id (first ∷ rest) some = by_leaf (naming id rest) first.leaf first.area
     ]
 
 -- a page at a place of the list, with a leaf that names the page
-record IsNamer (list : List Page) (id : ℕ) (n : ℕ) (host : LivePage) (a : Area) : Type 0 where
-  at : slice_get list n ≡ Some (pages.Live host)
-  naming : IsNaming id (leaves_of host.frag host.area) a
+abbrev IsNamer : List Page → ℕ → ℕ → LivePage → Area → Type 0
+IsNamer list id n host a = (slice_get list n ≡ Some (pages.Live host)) × IsNaming id (leaves_of host.frag host.area) a
 
 namer : (id : ℕ) (list : List Page) → times_named id list ≢ 0 → (n : ℕ) × (host : LivePage) × (a : Area) × IsNamer list id n host a
 namer id [] some = absurd (some refl)
 namer id (pages.Free next ∷ rest) some =
     let behind = namer id rest some in
-    (suc behind.0, behind.1, behind.2, record { at = behind.3.at; naming = behind.3.naming })
+    (suc behind.0, behind.1, behind.2, behind.3)
 namer id (pages.Live page ∷ rest) some = elim (cases_eq (count_name id (siblings_of page)) 0) [
   | inl none ↦
-      let behind = namer id rest (λ z. some (let e : count_name id (siblings_of page) + times_named id rest ≡ 0 = omega (arith, none, z) in e)) in
-      (suc behind.0, behind.1, behind.2, record { at = behind.3.at; naming = behind.3.naming })
+      let behind = namer id rest (λ z. some (omega (arith, none, z))) in
+      (suc behind.0, behind.1, behind.2, behind.3)
   | inr here ↦
       let leaf = naming id (leaves_of page.frag page.area) here in
-      (0, page, leaf.0, record { at = refl; naming = leaf.1 })
+      (0, page, leaf.0, (refl, leaf.1))
 ]
 
 -- the greatest values of a box, summed up: a cut makes them less
@@ -289,19 +288,13 @@ grows (Cut axis value left right) area leaf a cut h zeros =
     elim (Contains-append_cases (leaves_of left below) (leaves_of right from) (placed leaf a) h) [
       | inl here ↦
           let up = grows left below leaf a cut.1 here zeros in
-          let le = up.1 in
-          let least = cut.0.above_least in
-          let most = cut.0.up_to_greatest in
-          let lt : value - 1 < slice_index area.hi axis = omega (arith, least, most) in
-          let less : total below.hi < total area.hi = sum_less area.hi axis (value - 1) lt in
-          (up.0, omega (arith, le, less))
+          let less = sum_less area.hi axis (value - 1) (omega (arith, cut.0.above_least, cut.0.up_to_greatest)) in
+          (up.0, omega (arith, up.1, less))
       | inr here ↦
           let up = grows right from leaf a cut.2 here zeros in
           let low : slice_index from.lo axis ≡ value = get_or-set_same area.lo axis value 0 cut.0.attribute in
           let is : slice_index a.lo axis ≡ slice_index from.lo axis = ap (λ (l : List ℕ). slice_index l axis) up.0 in
-          let none = zeros axis in
-          let least = cut.0.above_least in
-          absurd (omega (arith, low, is, none, least))
+          absurd (omega (arith, low, is, zeros axis, cut.0.above_least))
     ]
 
 -- a page with a sibling leaf that isn't a lone one is cut
@@ -327,8 +320,7 @@ highs_within : (list : List Page) (n : ℕ) (page : LivePage) → if_live (slice
 highs_within [] n page e = let never : None ≡ Some page = e in cc
 highs_within (pages.Live own ∷ rest) zero page e =
     let is : own ≡ page = cc in
-    let same = ap (λ (p : LivePage). total p.area.hi) is in
-    omega (arith, same)
+    omega (arith, ap (λ (p : LivePage). total p.area.hi) is)
 highs_within (pages.Free next ∷ rest) zero page e = let never : None ≡ Some page = e in cc
 highs_within (pages.Live own ∷ rest) (suc n) page e = let le = highs_within rest n page e in omega (arith, le)
 highs_within (pages.Free next ∷ rest) (suc n) page e = highs_within rest n page e
@@ -349,27 +341,25 @@ module _ (meta : Meta) (list : List Page) (keeps : KeepsSix (file_with meta list
   above id page e lows some =
       let by = namer id list some in
       let host = by.1 in
-      let live : live_page (file_with meta list) (suc by.0) ≡ Some host = ap if_live (page_item list (suc by.0) ∙ by.3.at) in
+      let live : live_page (file_with meta list) (suc by.0) ≡ Some host = ap if_live (page_item list (suc by.0) ∙ by.3.0) in
       let three = keeps_three host meta (keeps.2 (suc by.0) host live) in
-      let there = match (suc by.0) host id by.2 live by.3.naming.name in
+      let there = match (suc by.0) host id by.2 live by.3.1.name in
       let found : Some there.0 ≡ Some page = sym there.1 ∙ e in
       let is : there.0 ≡ page = cc in
       let boxed : by.2 ≡ page.area = sym there.3 ∙ ap (λ (p : LivePage). p.area) is in
-      let leaf = by.3.naming.leaf in
+      let leaf = by.3.1.leaf in
       let leaf_lows : by.2.lo ≡ replicate meta.k 0 = ap (λ (x : Area). x.lo) boxed ∙ lows in
       let up = grows host.frag host.area (Sibling id) by.2 three.cut leaf (λ i. ap (λ (l : List ℕ). slice_index l i) leaf_lows ∙ zero_lows meta.k i) in
       let one = sibling_cut host.frag host.area id by.2 leaf three.filled.own in
       let high : total by.2.hi ≡ total page.area.hi = ap (λ (x : Area). total x.hi) boxed in
-      let le = up.1 in
-      (suc by.0, host, record { live = live; lows = sym up.0 ∙ ap (λ (x : Area). x.lo) boxed; more_high = omega (arith, high, one, le) })
+      (suc by.0, host, record { live = live; lows = sym up.0 ∙ ap (λ (x : Area). x.lo) boxed; more_high = omega (arith, high, one, up.1) })
 
   -- Above a page as great as the whole space stand ever greater ones, each of which is named, and there's no end to it.
   module _ (once : (id : ℕ) (page : LivePage) → live_page (file_with meta list) id ≡ Some page → page.area ≢ whole_area meta.k → times_named id list ≡ 1) where
     climb : (n whole id : ℕ) (page : LivePage) → total (whole_area meta.k).hi ≡ whole → live_page (file_with meta list) id ≡ Some page → page.area.lo ≡ replicate meta.k 0 → whole ≤ total page.area.hi
         → all_highs list < total page.area.hi + n → times_named id list ≢ 0 → ⊥
     climb zero whole id page is e lows great far some =
-        let le = item_highs list id page (ap if_live (sym (page_item list id)) ∙ e) in
-        omega (arith, le, far)
+        omega (arith, item_highs list id page (ap if_live (sym (page_item list id)) ∙ e), far)
     climb (suc n) whole id page is e lows great far some =
         let up = above id page e lows some in
         let greater = up.2.more_high in
