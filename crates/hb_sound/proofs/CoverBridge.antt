@@ -1,5 +1,5 @@
 -- Rule 9: from the facts to the pages.
-use Rattle.std.proofs.Common.{◌≡◌, ◌≢◌, ◌⊎◌, inl, inr, ℕ, zero, suc, ◌+◌, ◌-◌, ◌^◌, ◌<◌, ◌≤◌, ◌==◌, Bool, if◌then◌else◌, List, [], ◌∷◌, length, replicate, Option, Some, None, option_map, slice_get, slice_set, slice_index, Contains, refl, sym, ap, ◌∙◌, subst, arith}
+use Rattle.std.proofs.Common.{◌≡◌, ◌≢◌, ◌⊎◌, inl, inr, ℕ, zero, suc, ◌+◌, ◌-◌, ◌<◌, ◌≤◌, Bool, if◌then◌else◌, List, [], ◌∷◌, replicate, Option, Some, None, option_map, slice_get, slice_set, slice_index, Contains, refl, sym, ap, ◌∙◌, subst, arith}
 use Rattle.std.specs.Str.{bytes_eq}
 use Rattle.std.proofs.lemmas.Bool.{cases_Bool, cases_eq, cases_lt, false≢true, ne_eqb}
 use Rattle.std.proofs.lemmas.List.{get_or-set_same}
@@ -190,8 +190,7 @@ module _ (meta : Meta) (facts : List Fact) (list : List Page) (are : AreFactsOf 
 
     lacks_uncovered : LacksFirst file → IsCovered file → ⊥
     lacks_uncovered lacks covered =
-        let first = covered.first lacks.0 lacks.1 in
-        lacks.2 first.0 first.1 first.2 first.3 first.4
+        let first = covered.first lacks.0 lacks.1 in lacks.2 first.0 first.1 first.2 first.3 first.4
 
 pub to_loose : (meta : Meta) (facts : List Fact) (list : List Page) (named : List Times) → AreFactsOf meta facts list → KeepsSix (file_with meta list) → SiblingsMatch (file_with meta list) → IsNamedBy facts list named
     → (id : ℕ) → IsCoverBreak meta facts named (Some id) → (¬ (IsCovered (file_with meta list))) × NamesLoose (file_with meta list) id
@@ -230,11 +229,9 @@ naming id (first ∷ rest) some = by_leaf (naming id rest) first.leaf first.area
     by_leaf again (Child page) area some =
         let n = again some in (n.0, record { name = n.1.name; leaf = leaf_behind (Child page) area n.0 n.1 })
     by_leaf again (Sibling page) area some = elim (cases_eq page id) [
-      | inl same ↦ (
-        area,
-        let Q : ℕ → Type 0 = λ n. IsNaming n (placed (Sibling page) area ∷ rest) area in
-            subst Q same (record { name = (0, omega arith, refl); leaf = (0, omega arith, refl) }),
-      )
+      | inl same ↦
+          let Q : ℕ → Type 0 = λ n. IsNaming n (placed (Sibling page) area ∷ rest) area in
+          (area, subst Q same (record { name = (0, omega arith, refl); leaf = (0, omega arith, refl) }))
       | inr apart ↦
           let e = ap (λ (b : Bool). (if b then 1 else 0) + count_name id (siblings rest)) (ne_eqb page id apart) in
           let n = again (λ z. some (omega (arith, e, z))) in
@@ -310,7 +307,7 @@ zero_lows zero i = refl
 zero_lows (suc k) zero = refl
 zero_lows (suc k) (suc i) = zero_lows k i
 
--- more than the greatest values of any page of the list total up to
+-- what the greatest values of all pages of the list sum up to
 abbrev all_highs : List Page → ℕ
 all_highs [] = 0
 all_highs (pages.Live page ∷ rest) = total page.area.hi + all_highs rest
@@ -347,10 +344,9 @@ module _ (meta : Meta) (list : List Page) (keeps : KeepsSix (file_with meta list
       let found : Some there.0 ≡ Some page = sym there.1 ∙ e in
       let is : there.0 ≡ page = cc in
       let boxed : by.2 ≡ page.area = sym there.3 ∙ ap (λ (p : LivePage). p.area) is in
-      let leaf = by.3.1.leaf in
       let leaf_lows : by.2.lo ≡ replicate meta.k 0 = ap (λ (x : Area). x.lo) boxed ∙ lows in
-      let up = grows host.frag host.area (Sibling id) by.2 three.cut leaf (λ i. ap (λ (l : List ℕ). slice_index l i) leaf_lows ∙ zero_lows meta.k i) in
-      let one = sibling_cut host.frag host.area id by.2 leaf three.filled.own in
+      let up = grows host.frag host.area (Sibling id) by.2 three.cut by.3.1.leaf (λ i. ap (λ (l : List ℕ). slice_index l i) leaf_lows ∙ zero_lows meta.k i) in
+      let one = sibling_cut host.frag host.area id by.2 by.3.1.leaf three.filled.own in
       let high : total by.2.hi ≡ total page.area.hi = ap (λ (x : Area). total x.hi) boxed in
       (suc by.0, host, record { live = live; lows = sym up.0 ∙ ap (λ (x : Area). x.lo) boxed; more_high = omega (arith, high, one, up.1) })
 
@@ -358,15 +354,12 @@ module _ (meta : Meta) (list : List Page) (keeps : KeepsSix (file_with meta list
   module _ (once : (id : ℕ) (page : LivePage) → live_page (file_with meta list) id ≡ Some page → page.area ≢ whole_area meta.k → times_named id list ≡ 1) where
     climb : (n whole id : ℕ) (page : LivePage) → total (whole_area meta.k).hi ≡ whole → live_page (file_with meta list) id ≡ Some page → page.area.lo ≡ replicate meta.k 0 → whole ≤ total page.area.hi
         → all_highs list < total page.area.hi + n → times_named id list ≢ 0 → ⊥
-    climb zero whole id page is e lows great far some =
-        omega (arith, item_highs list id page (ap if_live (sym (page_item list id)) ∙ e), far)
+    climb zero whole id page is e lows great far some = omega (arith, item_highs list id page (ap if_live (sym (page_item list id)) ∙ e), far)
     climb (suc n) whole id page is e lows great far some =
         let up = above id page e lows some in
         let greater = up.2.more_high in
         let host = up.1 in
-        let other : host.area ≢ whole_area meta.k = λ same. (
-        let high : total host.area.hi ≡ total (whole_area meta.k).hi = ap (λ (x : Area). total x.hi) same in
-        omega (arith, high, is, greater, great)) in
+        let other : host.area ≢ whole_area meta.k = λ same. omega (arith, ap (λ (x : Area). total x.hi) same, is, greater, great) in
         let one = once up.0 host up.2.live other in
         climb n whole up.0 host is up.2.live (up.2.lows ∙ lows) (omega (arith, greater, great)) (omega (arith, greater, far)) (λ z. omega (arith, one, z))
 
@@ -374,9 +367,8 @@ module _ (meta : Meta) (list : List Page) (keeps : KeepsSix (file_with meta list
     not_named id page e boxed = elim (cases_eq (times_named id list) 0) [
       | inl none ↦ none
       | inr some ↦
-          let whole = total (whole_area meta.k).hi in
-          let high : whole ≡ total page.area.hi = ap (λ (x : Area). total x.hi) (sym boxed) in
-          absurd (climb (all_highs list + 1) whole id page refl e (ap (λ (x : Area). x.lo) boxed) (omega (arith, high)) (omega arith) some)
+          let high : total page.area.hi ≡ total (whole_area meta.k).hi = ap (λ (x : Area). total x.hi) boxed in
+          absurd (climb (all_highs list + 1) (total (whole_area meta.k).hi) id page refl e (ap (λ (x : Area). x.lo) boxed) (omega (arith, high)) (omega arith) some)
     ]
 
 pub to_covered : (meta : Meta) (facts : List Fact) (list : List Page) (named : List Times) → AreFactsOf meta facts list → KeepsSix (file_with meta list) → SiblingsMatch (file_with meta list)
