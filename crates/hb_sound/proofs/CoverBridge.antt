@@ -1,7 +1,9 @@
 -- Rule 9: from the facts to the pages.
-use Rattle.std.proofs.Common.{◌≡◌, ◌≢◌, ◌⊎◌, inl, inr, ℕ, zero, suc, ◌+◌, ◌-◌, ◌^◌, ◌<◌, ◌≤◌, ◌==◌, Bool, false, if◌then◌else◌, List, [], ◌∷◌, length, replicate, Option, Some, None, option_map, slice_get, slice_set, slice_index, Contains, refl, sym, ap, ◌∙◌, subst, arith}
-use Rattle.std.proofs.lemmas.Bool.{cases_eq, cases_lt, ne_eqb}
+use Rattle.std.proofs.Common.{◌≡◌, ◌≢◌, ◌⊎◌, inl, inr, ℕ, zero, suc, ◌+◌, ◌-◌, ◌<◌, ◌≤◌, Bool, if◌then◌else◌, List, [], ◌∷◌, replicate, Option, Some, None, option_map, slice_get, slice_set, slice_index, Contains, refl, sym, ap, ◌∙◌, subst, arith}
+use Rattle.std.specs.Str.{bytes_eq}
+use Rattle.std.proofs.lemmas.Bool.{cases_Bool, cases_eq, cases_lt, false≢true, ne_eqb}
 use Rattle.std.proofs.lemmas.List.{get_or-set_same}
+use Rattle.std.proofs.lemmas.Slice.Eq.{bytes_eq-Decides}
 use Rattle.std.proofs.lemmas.List.Elements.{Contains-append_cases, Contains-append_right}
 use Rattle.hb_space.specs.Boxes.{Area, side_below, side_from, whole_area}
 use Rattle.hb_frag.specs.declared.leaves.Leaf.{Leaf}
@@ -56,9 +58,7 @@ pub are_below : (meta : Meta) (facts : List Fact) (list : List Page) → AreFact
 are_below meta facts list are keeps id seen e =
     let page = live_seen meta facts list are id seen e in
     let three = keeps_three page.0 meta (keeps.2 id page.0 page.1) in
-    let same = page.2.level in
-    let lt = three.fits.level in
-    omega (arith, same, lt)
+    omega (arith, page.2.level, three.fits.level)
 
 -- a count that goes up to two is one exactly for one
 more_two : (n : ℕ) → more (suc (suc n)) Never ≡ Often
@@ -70,28 +70,19 @@ once_is zero e = absurd (let never : Never ≡ Once = e in cc)
 once_is (suc zero) e = refl
 once_is (suc (suc n)) e = absurd (let never : Often ≡ Once = sym (more_two n) ∙ e in cc)
 
-is_once : (n : ℕ) → n ≡ 1 → more n Never ≡ Once
-is_once n e = ap (λ (m : ℕ). more m Never) e
-
 -- two lists of numbers, two boxes
 cases_list : (xs ys : List ℕ) → (xs ≡ ys) ⊎ (xs ≢ ys)
-cases_list [] [] = inl refl
-cases_list [] (y ∷ ys) = inr (λ e. let never : [] ≡ y ∷ ys = e in cc)
-cases_list (x ∷ xs) [] = inr (λ e. let never : x ∷ xs ≡ [] = e in cc)
-cases_list (x ∷ xs) (y ∷ ys) = elim (cases_eq x y) [
-  | inl same ↦ elim (cases_list xs ys) [
-    | inl rest ↦ inl (let e : x ∷ xs ≡ y ∷ ys = cc in e)
-    | inr other ↦ inr (λ e. other (let is : x ∷ xs ≡ y ∷ ys = e in let tail : xs ≡ ys = cc in tail))
-  ]
-  | inr apart ↦ inr (λ e. apart (let is : x ∷ xs ≡ y ∷ ys = e in let head : x ≡ y = cc in head))
+cases_list xs ys = elim (cases_Bool (bytes_eq xs ys)) [
+  | inl holds ↦ inl ((bytes_eq-Decides xs ys).0 holds)
+  | inr fails ↦ inr (λ e. false≢true (sym fails ∙ (bytes_eq-Decides xs ys).1 e))
 ]
 
 cases_area : (a b : Area) → (a ≡ b) ⊎ (a ≢ b)
 cases_area a b = elim (cases_list a.lo b.lo) [
   | inl lows ↦ elim (cases_list a.hi b.hi) [
-    | inl highs ↦ inl (let P : List ℕ → Type 0 = λ l. a ≡ record { lo = l; hi = a.hi } in
-        let Q : List ℕ → Type 0 = λ h. a ≡ record { lo = b.lo; hi = h } in
-        subst Q highs (subst P lows refl))
+    | inl highs ↦
+        let lo_same : a ≡ record { lo = b.lo; hi = a.hi } = ap (λ (l : List ℕ). record { lo = l; hi = a.hi }) lows in
+        inl (lo_same ∙ ap (λ (h : List ℕ). record { lo = b.lo; hi = h }) highs)
     | inr other ↦ inr (λ e. other (ap (λ (x : Area). x.hi) e))
   ]
   | inr other ↦ inr (λ e. other (ap (λ (x : Area). x.lo) e))
@@ -163,7 +154,7 @@ module _ (meta : Meta) (facts : List Fact) (list : List Page) (are : AreFactsOf 
                 let boxed : page.0.area ≡ whole_area meta.k = sym page.2.area ∙ beside.0 in
                 let has = seen_has seen.level beside.1 (whole_area meta.k) beside.3 in
                 inl (boxed, beside.1, beside.2, (has.0, has.1, has.2 ∙ page.2.level, has.3 ∙ sym boxed))
-            | inr less ↦ inr (λ e. less.0 (page.2.area ∙ e), λ e. less.1 (times ∙ is_once (times_named id list) e))
+            | inr less ↦ inr (λ e. less.0 (page.2.area ∙ e), λ e. less.1 (times ∙ ap (λ (n : ℕ). more n Never) e))
           ],
         )
 
@@ -193,15 +184,13 @@ module _ (meta : Meta) (facts : List Fact) (list : List Page) (are : AreFactsOf 
       | inl beside ↦
           let has = beside.3 in
           let e = covered.alone id beside.1 loose.0 has.0 loose.1 has.1 (sym has.2) beside.0 (has.3 ∙ beside.0) in
-          let lt = beside.2 in
-          absurd (omega (arith, e, lt))
+          absurd (omega (arith, e, beside.2))
       | inr less ↦ less.1 (covered.named_once id loose.0 loose.1 less.0)
     ]
 
     lacks_uncovered : LacksFirst file → IsCovered file → ⊥
     lacks_uncovered lacks covered =
-        let first = covered.first lacks.0 lacks.1 in
-        lacks.2 first.0 first.1 first.2 first.3 first.4
+        let first = covered.first lacks.0 lacks.1 in lacks.2 first.0 first.1 first.2 first.3 first.4
 
 pub to_loose : (meta : Meta) (facts : List Fact) (list : List Page) (named : List Times) → AreFactsOf meta facts list → KeepsSix (file_with meta list) → SiblingsMatch (file_with meta list) → IsNamedBy facts list named
     → (id : ℕ) → IsCoverBreak meta facts named (Some id) → (¬ (IsCovered (file_with meta list))) × NamesLoose (file_with meta list) id
@@ -240,11 +229,9 @@ naming id (first ∷ rest) some = by_leaf (naming id rest) first.leaf first.area
     by_leaf again (Child page) area some =
         let n = again some in (n.0, record { name = n.1.name; leaf = leaf_behind (Child page) area n.0 n.1 })
     by_leaf again (Sibling page) area some = elim (cases_eq page id) [
-      | inl same ↦ (
-        area,
-        let Q : ℕ → Type 0 = λ n. IsNaming n (placed (Sibling page) area ∷ rest) area in
-            subst Q same (record { name = (0, omega arith, refl); leaf = (0, omega arith, refl) }),
-      )
+      | inl same ↦
+          let Q : ℕ → Type 0 = λ n. IsNaming n (placed (Sibling page) area ∷ rest) area in
+          (area, subst Q same (record { name = (0, omega arith, refl); leaf = (0, omega arith, refl) }))
       | inr apart ↦
           let e = ap (λ (b : Bool). (if b then 1 else 0) + count_name id (siblings rest)) (ne_eqb page id apart) in
           let n = again (λ z. some (omega (arith, e, z))) in
@@ -252,22 +239,21 @@ naming id (first ∷ rest) some = by_leaf (naming id rest) first.leaf first.area
     ]
 
 -- a page at a place of the list, with a leaf that names the page
-record IsNamer (list : List Page) (id : ℕ) (n : ℕ) (host : LivePage) (a : Area) : Type 0 where
-  at : slice_get list n ≡ Some (pages.Live host)
-  naming : IsNaming id (leaves_of host.frag host.area) a
+abbrev IsNamer : List Page → ℕ → ℕ → LivePage → Area → Type 0
+IsNamer list id n host a = (slice_get list n ≡ Some (pages.Live host)) × IsNaming id (leaves_of host.frag host.area) a
 
 namer : (id : ℕ) (list : List Page) → times_named id list ≢ 0 → (n : ℕ) × (host : LivePage) × (a : Area) × IsNamer list id n host a
 namer id [] some = absurd (some refl)
 namer id (pages.Free next ∷ rest) some =
     let behind = namer id rest some in
-    (suc behind.0, behind.1, behind.2, record { at = behind.3.at; naming = behind.3.naming })
+    (suc behind.0, behind.1, behind.2, behind.3)
 namer id (pages.Live page ∷ rest) some = elim (cases_eq (count_name id (siblings_of page)) 0) [
   | inl none ↦
-      let behind = namer id rest (λ z. some (let e : count_name id (siblings_of page) + times_named id rest ≡ 0 = omega (arith, none, z) in e)) in
-      (suc behind.0, behind.1, behind.2, record { at = behind.3.at; naming = behind.3.naming })
+      let behind = namer id rest (λ z. some (omega (arith, none, z))) in
+      (suc behind.0, behind.1, behind.2, behind.3)
   | inr here ↦
       let leaf = naming id (leaves_of page.frag page.area) here in
-      (0, page, leaf.0, record { at = refl; naming = leaf.1 })
+      (0, page, leaf.0, (refl, leaf.1))
 ]
 
 -- the greatest values of a box, summed up: a cut makes them less
@@ -299,19 +285,13 @@ grows (Cut axis value left right) area leaf a cut h zeros =
     elim (Contains-append_cases (leaves_of left below) (leaves_of right from) (placed leaf a) h) [
       | inl here ↦
           let up = grows left below leaf a cut.1 here zeros in
-          let le = up.1 in
-          let least = cut.0.above_least in
-          let most = cut.0.up_to_greatest in
-          let lt : value - 1 < slice_index area.hi axis = omega (arith, least, most) in
-          let less : total below.hi < total area.hi = sum_less area.hi axis (value - 1) lt in
-          (up.0, omega (arith, le, less))
+          let less = sum_less area.hi axis (value - 1) (omega (arith, cut.0.above_least, cut.0.up_to_greatest)) in
+          (up.0, omega (arith, up.1, less))
       | inr here ↦
           let up = grows right from leaf a cut.2 here zeros in
           let low : slice_index from.lo axis ≡ value = get_or-set_same area.lo axis value 0 cut.0.attribute in
           let is : slice_index a.lo axis ≡ slice_index from.lo axis = ap (λ (l : List ℕ). slice_index l axis) up.0 in
-          let none = zeros axis in
-          let least = cut.0.above_least in
-          absurd (omega (arith, low, is, none, least))
+          absurd (omega (arith, low, is, zeros axis, cut.0.above_least))
     ]
 
 -- a page with a sibling leaf that isn't a lone one is cut
@@ -327,19 +307,18 @@ zero_lows zero i = refl
 zero_lows (suc k) zero = refl
 zero_lows (suc k) (suc i) = zero_lows k i
 
--- more than the greatest values of any page of the list total up to
+-- what the greatest values of all pages of the list sum up to
 abbrev all_highs : List Page → ℕ
 all_highs [] = 0
 all_highs (pages.Live page ∷ rest) = total page.area.hi + all_highs rest
 all_highs (pages.Free next ∷ rest) = all_highs rest
 
 highs_within : (list : List Page) (n : ℕ) (page : LivePage) → if_live (slice_get list n) ≡ Some page → total page.area.hi ≤ all_highs list
-highs_within [] n page e = absurd (let never : None ≡ Some page = e in cc)
+highs_within [] n page e = let never : None ≡ Some page = e in cc
 highs_within (pages.Live own ∷ rest) zero page e =
     let is : own ≡ page = cc in
-    let same : total own.area.hi ≡ total page.area.hi = ap (λ (p : LivePage). total p.area.hi) is in
-    omega (arith, same)
-highs_within (pages.Free next ∷ rest) zero page e = absurd (let never : None ≡ Some page = e in cc)
+    omega (arith, ap (λ (p : LivePage). total p.area.hi) is)
+highs_within (pages.Free next ∷ rest) zero page e = let never : None ≡ Some page = e in cc
 highs_within (pages.Live own ∷ rest) (suc n) page e = let le = highs_within rest n page e in omega (arith, le)
 highs_within (pages.Free next ∷ rest) (suc n) page e = highs_within rest n page e
 
@@ -359,34 +338,28 @@ module _ (meta : Meta) (list : List Page) (keeps : KeepsSix (file_with meta list
   above id page e lows some =
       let by = namer id list some in
       let host = by.1 in
-      let live : live_page (file_with meta list) (suc by.0) ≡ Some host = ap if_live (page_item list (suc by.0) ∙ by.3.at) in
+      let live : live_page (file_with meta list) (suc by.0) ≡ Some host = ap if_live (page_item list (suc by.0) ∙ by.3.0) in
       let three = keeps_three host meta (keeps.2 (suc by.0) host live) in
-      let there = match (suc by.0) host id by.2 live by.3.naming.name in
+      let there = match (suc by.0) host id by.2 live by.3.1.name in
       let found : Some there.0 ≡ Some page = sym there.1 ∙ e in
       let is : there.0 ≡ page = cc in
       let boxed : by.2 ≡ page.area = sym there.3 ∙ ap (λ (p : LivePage). p.area) is in
-      let leaf = by.3.naming.leaf in
       let leaf_lows : by.2.lo ≡ replicate meta.k 0 = ap (λ (x : Area). x.lo) boxed ∙ lows in
-      let up = grows host.frag host.area (Sibling id) by.2 three.cut leaf (λ i. ap (λ (l : List ℕ). slice_index l i) leaf_lows ∙ zero_lows meta.k i) in
-      let one = sibling_cut host.frag host.area id by.2 leaf three.filled.own in
+      let up = grows host.frag host.area (Sibling id) by.2 three.cut by.3.1.leaf (λ i. ap (λ (l : List ℕ). slice_index l i) leaf_lows ∙ zero_lows meta.k i) in
+      let one = sibling_cut host.frag host.area id by.2 by.3.1.leaf three.filled.own in
       let high : total by.2.hi ≡ total page.area.hi = ap (λ (x : Area). total x.hi) boxed in
-      let le = up.1 in
-      (suc by.0, host, record { live = live; lows = sym up.0 ∙ ap (λ (x : Area). x.lo) boxed; more_high = omega (arith, high, one, le) })
+      (suc by.0, host, record { live = live; lows = sym up.0 ∙ ap (λ (x : Area). x.lo) boxed; more_high = omega (arith, high, one, up.1) })
 
   -- Above a page as great as the whole space stand ever greater ones, each of which is named, and there's no end to it.
   module _ (once : (id : ℕ) (page : LivePage) → live_page (file_with meta list) id ≡ Some page → page.area ≢ whole_area meta.k → times_named id list ≡ 1) where
     climb : (n whole id : ℕ) (page : LivePage) → total (whole_area meta.k).hi ≡ whole → live_page (file_with meta list) id ≡ Some page → page.area.lo ≡ replicate meta.k 0 → whole ≤ total page.area.hi
         → all_highs list < total page.area.hi + n → times_named id list ≢ 0 → ⊥
-    climb zero whole id page is e lows great far some =
-        let le = item_highs list id page (ap if_live (sym (page_item list id)) ∙ e) in
-        omega (arith, le, far)
+    climb zero whole id page is e lows great far some = omega (arith, item_highs list id page (ap if_live (sym (page_item list id)) ∙ e), far)
     climb (suc n) whole id page is e lows great far some =
         let up = above id page e lows some in
         let greater = up.2.more_high in
         let host = up.1 in
-        let other : host.area ≢ whole_area meta.k = λ same. (
-        let high : total host.area.hi ≡ total (whole_area meta.k).hi = ap (λ (x : Area). total x.hi) same in
-        omega (arith, high, is, greater, great)) in
+        let other : host.area ≢ whole_area meta.k = λ same. omega (arith, ap (λ (x : Area). total x.hi) same, is, greater, great) in
         let one = once up.0 host up.2.live other in
         climb n whole up.0 host is up.2.live (up.2.lows ∙ lows) (omega (arith, greater, great)) (omega (arith, greater, far)) (λ z. omega (arith, one, z))
 
@@ -394,9 +367,8 @@ module _ (meta : Meta) (list : List Page) (keeps : KeepsSix (file_with meta list
     not_named id page e boxed = elim (cases_eq (times_named id list) 0) [
       | inl none ↦ none
       | inr some ↦
-          let whole = total (whole_area meta.k).hi in
-          let high : whole ≡ total page.area.hi = ap (λ (x : Area). total x.hi) (sym boxed) in
-          absurd (climb (all_highs list + 1) whole id page refl e (ap (λ (x : Area). x.lo) boxed) (omega (arith, high)) (omega arith) some)
+          let high : total page.area.hi ≡ total (whole_area meta.k).hi = ap (λ (x : Area). total x.hi) boxed in
+          absurd (climb (all_highs list + 1) (total (whole_area meta.k).hi) id page refl e (ap (λ (x : Area). x.lo) boxed) (omega (arith, high)) (omega arith) some)
     ]
 
 pub to_covered : (meta : Meta) (facts : List Fact) (list : List Page) (named : List Times) → AreFactsOf meta facts list → KeepsSix (file_with meta list) → SiblingsMatch (file_with meta list)
