@@ -1,5 +1,5 @@
 -- Rule 2: from the walk over the facts to the chain of the file.
-use Rattle.std.proofs.Common.{◌≡◌, ◌≢◌, ◌⊎◌, inl, inr, ℕ, zero, suc, ◌+◌, ◌<◌, ◌≤◌, List, [], ◌∷◌, ◌++◌, length, Contains, Option, Some, None, slice_index_or, refl, sym, ap, ◌∙◌, subst, arith}
+use Rattle.std.proofs.Common.{◌≡◌, ◌⊎◌, inl, inr, ℕ, zero, suc, ◌<◌, ◌≤◌, List, [], ◌∷◌, ◌++◌, length, Contains, Option, Some, None, slice_index_or, refl, sym, ap, ◌∙◌, subst, arith}
 use Rattle.std.proofs.lemmas.Bool.{cases_eq}
 use Rattle.std.proofs.lemmas.List.Elements.{Contains-append_right}
 use Rattle.hb_frag.specs.declared.pages.Page.{Page}
@@ -9,11 +9,11 @@ use Rattle.hb_ops.specs.Files.{FileState, page_of}
 use Rattle.hb_ops.specs.Sound.{IsChain, IsCounted, count_live}
 use Rattle.hb_sound.specs.declared.facts.Fact.{Fact}
 use Rattle.hb_sound.specs.declared.facts.Fact.TheVariants.{Live, Free}
-use Rattle.hb_sound.specs.Chains.{IsFreeBreak, KeepsChain, live_facts}
+use Rattle.hb_sound.specs.Chains.{IsFreeBreak, live_facts}
 use Rattle.hb_sound.specs.Facts.{AreFactsOf, next_at}
 use Rattle.hb_sound.specs.Names.{NamesFree}
 use Rattle.hb_sound.specs.Tests.{file_with}
-use Rattle.hb_sound.specs.Walks.{IsLeast, IsLeftOut, IsOnce, IsWalk, Leads, if_free, next_free}
+use Rattle.hb_sound.specs.Walks.{IsLeast, IsLeftOut, IsWalk, Leads, if_free, next_free}
 use Rattle.hb_sound.proofs.Bridge.{next_same, page_none}
 
 contains_at : {X : Type 0} (x y : X) (xs : List X) (k : ℕ) → k < length (x ∷ xs) → slice_index_or (x ∷ xs) k y ≡ y → (x ≡ y) ⊎ Contains xs y

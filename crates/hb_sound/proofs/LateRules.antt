@@ -1,17 +1,16 @@
 -- The rules 7 to 10: what the tests of the facts say of the file.
-use Rattle.std.proofs.Common.{◌≡◌, ◌⊎◌, inl, inr, ℕ, ◌≤◌, List, [], ◌∷◌, length, take, option_map, Option, Some, None, MatchOption, refl, sym, ap, ◌∙◌, subst, arith}
+use Rattle.std.proofs.Common.{◌≡◌, inl, inr, ℕ, List, [], ◌∷◌, length, take, option_map, Option, Some, None, MatchOption, refl, sym, ap, ◌∙◌, subst, arith}
 use Rattle.hb_frag.specs.declared.pages.Page.{Page}
 use Rattle.hb_ops.specs.declared.meta.Meta.{Meta}
 use Rattle.hb_ops.specs.Files.{FileState}
 use Rattle.hb_ops.specs.Sound.{AreWellMade, ChildrenMatch, IsCovered, IsSound, SiblingsMatch, times_named}
 use Rattle.hb_sound.specs.declared.facts.Fact.{Fact}
 use Rattle.hb_sound.specs.declared.links.Links.{Links}
-use Rattle.hb_sound.specs.declared.names.Times.{Times}
 use Rattle.hb_sound.specs.declared.names.Times.TheVariants.{Never}
 use Rattle.hb_sound.specs.Covers.{AreBelow, IsCoverBreak, SeesRule}
 use Rattle.hb_sound.specs.Facts.{AreFactsOf, more}
 use Rattle.hb_sound.specs.Links.{AreLinks, IsFirstUpTo, LosesChild, LosesSibling}
-use Rattle.hb_sound.specs.Names.{KeepsLocally, KeepsSix, NamesIn}
+use Rattle.hb_sound.specs.Names.{KeepsSix, NamesIn}
 use Rattle.hb_sound.specs.Tests.{file_with}
 use Rattle.hb_sound.specs.Told.{item_at}
 use Rattle.hb_sound.specs.Walks.{IsLeast}

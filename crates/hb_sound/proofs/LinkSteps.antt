@@ -1,5 +1,5 @@
 -- What the leaves of the pages name, page by page.
-use Rattle.std.proofs.Common.{◌≡◌, ◌⊎◌, inl, inr, ℕ, zero, suc, ◌+◌, ◌<◌, ◌≤◌, ◌==◌, if◌then◌else◌, List, [], ◌∷◌, ◌++◌, length, take, Option, Some, None, option_map, IfSome, slice_get, refl, sym, ap, ◌∙◌, subst, arith}
+use Rattle.std.proofs.Common.{◌≡◌, inl, inr, ℕ, ◌+◌, ◌<◌, List, [], ◌∷◌, ◌++◌, length, take, Option, Some, None, option_map, IfSome, slice_get, refl, sym, ap, ◌∙◌, subst, arith}
 use Rattle.std.proofs.lemmas.Bool.{cases_lt}
 use Rattle.hb_space.specs.Boxes.{Area, side_below, side_from}
 use Rattle.hb_frag.specs.declared.leaves.Leaf.{Leaf}
@@ -16,12 +16,11 @@ use Rattle.hb_sound.specs.declared.links.Links.{Links}
 use Rattle.hb_sound.specs.declared.names.Times.{Times}
 use Rattle.hb_sound.specs.declared.names.Times.TheVariants.{Never}
 use Rattle.hb_sound.specs.Facts.{more, names_in}
-use Rattle.hb_sound.specs.Links.{Adds, AddsPage, AreLinks, AreRead, FindsChildren, FindsSiblings, IsCut, IsFirstUpTo, IsNext, LosesChild, LosesSibling, or_else}
+use Rattle.hb_sound.specs.Links.{Adds, AddsPage, AreLinks, AreRead, FindsChildren, FindsSiblings, IsCut, IsFirstUpTo, IsNext, LosesChild, LosesSibling}
 use Rattle.hb_sound.specs.Stops.{OnBroken}
 use Rattle.hb_sound.specs.Told.{item_at}
 use Rattle.hb_sound.specs.declared.pages.AuditStop.{AuditStop}
 use Rattle.hb_sound.specs.declared.pages.AuditStop.TheVariants as stops
-use Rattle.hb_sound.specs.Walks.{IsLeast}
 use Rattle.hb_sound.proofs.Bridge.{page_item}
 use Rattle.hb_sound.proofs.Counts.{more_more}
 use Rattle.hb_sound.proofs.Firsts.{item_behind}

@@ -1,20 +1,18 @@
 -- Rules 3 to 6 and 10: from the facts to the pages.
-use Rattle.std.proofs.Common.{◌≡◌, ◌⊎◌, inl, inr, ℕ, ◌+◌, ◌<◌, ◌≤◌, List, Option, Some, None, refl, sym, ap, ◌∙◌, subst, arith}
+use Rattle.std.proofs.Common.{◌≡◌, inl, inr, ℕ, ◌<◌, ◌≤◌, List, Some, ap, subst, arith}
 use Rattle.std.proofs.lemmas.Bool.{cases_lt}
 use Rattle.hb_frag.specs.declared.pages.LivePage.{LivePage}
 use Rattle.hb_frag.specs.declared.pages.Page.{Page}
 use Rattle.hb_frag.specs.Leaves.{WellCut}
 use Rattle.hb_frag.specs.Rules.{AreInOrder, Fits, IsFilledRight}
 use Rattle.hb_ops.specs.declared.meta.Meta.{Meta}
-use Rattle.hb_ops.specs.Files.{FileState, live_page}
+use Rattle.hb_ops.specs.Files.{FileState}
 use Rattle.hb_ops.specs.LocalRule.{BreaksFirst}
-use Rattle.hb_ops.specs.Sound.{FitsFile}
-use Rattle.hb_sound.specs.declared.facts.Seen.{Seen}
 use Rattle.hb_sound.specs.declared.facts.Fact.{Fact}
 use Rattle.hb_sound.specs.declared.facts.Fact.TheVariants.{Live, Free}
 use Rattle.hb_sound.specs.Broken.{Breaks}
 use Rattle.hb_sound.specs.Covers.{HasRule, IsLeastRule, SeesRule}
-use Rattle.hb_sound.specs.Facts.{AreFactsOf, IsOwnRule, IsSeenOf, if_seen, seen_at}
+use Rattle.hb_sound.specs.Facts.{AreFactsOf, if_seen}
 use Rattle.hb_sound.specs.Names.{KeepsLocally, NamesLocal}
 use Rattle.hb_sound.specs.Tests.{file_with}
 use Rattle.hb_sound.specs.Told.{item_at}

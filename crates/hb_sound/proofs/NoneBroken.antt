@@ -1,13 +1,12 @@
 -- A sound file breaks no rule.
-use Rattle.std.proofs.Common.{◌≡◌, ◌⊎◌, inl, inr, ℕ, ◌≤◌, List, Option}
+use Rattle.std.proofs.Common.{inl, inr, ℕ}
 use Rattle.hb_frag.specs.declared.pages.LivePage.{LivePage}
-use Rattle.hb_frag.specs.declared.pages.Page.{Page}
 use Rattle.hb_ops.specs.declared.meta.Meta.{Meta}
-use Rattle.hb_ops.specs.Files.{FileState, live_page}
+use Rattle.hb_ops.specs.Files.{FileState}
 use Rattle.hb_ops.specs.LocalRule.{BreaksFirst}
 use Rattle.hb_ops.specs.Sound.{FitsFile, IsSound}
-use Rattle.hb_sound.specs.Told.{IsWhole, file_of}
-use Rattle.hb_sound.specs.Broken.{Breaks, MissesSibling, MissesChild, IsLoose}
+use Rattle.hb_sound.specs.Told.{file_of}
+use Rattle.hb_sound.specs.Broken.{Breaks}
 use Rattle.hb_sound.specs.Names.{NamesIn, SoundBreaksNone}
 
 pub not_broken : (rule : ℕ) (page : LivePage) (meta : Meta) → BreaksFirst rule page meta → FitsFile meta page → ⊥

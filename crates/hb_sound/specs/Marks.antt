@@ -1,5 +1,5 @@
 -- What a sound file's marks keep, whether or not its pages are known.
-use Rattle.std.specs.Prelude.{ℕ, ◌≤◌}
+use Rattle.std.specs.Prelude.{◌≤◌}
 use Rattle.hb_ops.specs.declared.meta.Meta.{Meta}
 
 pub record HasMarks (meta : Meta) : Type 0 where

@@ -1,5 +1,5 @@
 -- Why an audit stopped.
-use Rattle.std.specs.Prelude.{◌≡◌, ℕ}
+use Rattle.std.specs.Prelude.{ℕ}
 use Rattle.hb_sound.specs.declared.pages.PageStop.{PageStop}
 use Rattle.hb_sound.specs.declared.pages.PageStop.TheVariants as pages
 use Rattle.hb_sound.specs.declared.pages.AuditStop.{AuditStop}

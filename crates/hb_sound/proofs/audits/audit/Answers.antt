@@ -1,4 +1,3 @@
-use Rattle.std.proofs.Common.{◌≡◌, ℕ, List, Option, length}
 use Rattle.std.proofs.lemmas.Result.{err_from_is_err_and}
 use Rattle.hb_sound.proofs.WholeAudit.{all_kept, late_named, never_stops}
 use Rattle.hb_sound.proofs.audits.audit.Goals as goal

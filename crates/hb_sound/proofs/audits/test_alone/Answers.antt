@@ -1,7 +1,6 @@
-use Rattle.std.proofs.Common.{◌≡◌, ◌⊎◌, inl, inr, ℕ, ◌<◌, ◌≤◌, Option, None, Some, MatchOption, refl, subst, arith}
+use Rattle.std.proofs.Common.{◌≡◌, inl, inr, ℕ, refl, subst, arith}
 use Rattle.std.proofs.lemmas.Bool.{cases_lt}
 use Rattle.hb_sound.specs.Covers.{SeesRule}
-use Rattle.hb_sound.specs.Walks.{IsLeast}
 use Rattle.hb_sound.proofs.audits.test_alone.Goals as goal
 
 pub loop-rule-preserved : goal.loop-rule-preserved

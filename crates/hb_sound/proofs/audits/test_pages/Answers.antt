@@ -1,4 +1,4 @@
-use Rattle.std.proofs.Common.{◌≡◌, inl, ℕ, List, Option, refl, sym, ◌∙◌, subst}
+use Rattle.std.proofs.Common.{inl, ℕ, List, Option, refl, sym, ◌∙◌, subst}
 use Rattle.std.proofs.lemmas.Bool.{false≢true}
 use Rattle.std.proofs.lemmas.Result.{err_from_is_err_and}
 use Rattle.hb_frag.specs.declared.pages.Page.{Page}

@@ -1,4 +1,4 @@
-use Rattle.std.proofs.Common.{◌≡◌, ℕ, List, length}
+use Rattle.std.proofs.Common.{ℕ, List}
 use Rattle.hb_sound.specs.Chains.{IsChained}
 use Rattle.hb_sound.specs.Facts.{next_at}
 use Rattle.hb_sound.specs.Walks.{IsOnce, Leads}

@@ -1,4 +1,3 @@
-use Rattle.std.proofs.Common.{◌≡◌, ℕ, length, slice_get, Some}
 use Rattle.hb_sound.specs.Covers.{AreFirsts}
 use Rattle.hb_sound.proofs.covers.firsts_of.Given as goal
 

@@ -1,4 +1,4 @@
-use Rattle.std.proofs.Common.{◌≡◌, ◌∙◌, sym}
+use Rattle.std.proofs.Common.{◌∙◌, sym}
 use Rattle.hb_sound.proofs.Levels.{apart, loose_is_not_first, not_first_is_loose, tells_apart}
 use Rattle.hb_sound.proofs.covers.is_loose.Goals as goal
 

@@ -1,4 +1,4 @@
-use Rattle.std.proofs.Common.{List, Option, refl, subst}
+use Rattle.std.proofs.Common.{Option, refl, subst}
 use Rattle.hb_frag.specs.declared.pages.Page.{Page}
 use Rattle.hb_sound.specs.Told.{Gives}
 use Rattle.hb_sound.proofs.ToldPages.{told_fact, told_hole, told_there}

@@ -1,4 +1,4 @@
-use Rattle.std.proofs.Common.{◌≡◌, inr, ◌+◌, ◌++◌, ◌∷◌, [], ℕ, List, Option, Some, None, IfSome, All, length, ◌∙◌, ap, sym, subst, arith}
+use Rattle.std.proofs.Common.{◌≡◌, inr, ◌+◌, ◌∷◌, [], List, Option, Some, None, IfSome, All, length, ◌∙◌, ap, sym, subst, arith}
 use Rattle.std.proofs.lemmas.List.Elements.{All-append, All-cons, All-nil}
 use Rattle.hb_frag.specs.declared.pages.Page.{Page}
 use Rattle.hb_sound.specs.declared.facts.Fact.{Fact}

@@ -1,4 +1,4 @@
-use Rattle.std.proofs.Common.{◌≡◌, ◌+◌, ℕ, List, Option, Some, IfSome, ◌∙◌, subst, arith}
+use Rattle.std.proofs.Common.{◌≡◌, ◌+◌, List, Option, Some, IfSome, ◌∙◌, subst}
 use Rattle.std.proofs.lemmas.Result.{err_from_is_err_and}
 use Rattle.hb_frag.specs.declared.pages.Page.{Page}
 use Rattle.hb_sound.specs.Links.{AddsPage, AreRead, IsCut}
