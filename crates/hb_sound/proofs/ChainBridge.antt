@@ -13,7 +13,7 @@ use Rattle.hb_sound.specs.Chains.{IsFreeBreak, live_facts}
 use Rattle.hb_sound.specs.Facts.{AreFactsOf, next_at}
 use Rattle.hb_sound.specs.Names.{NamesFree}
 use Rattle.hb_sound.specs.Tests.{file_with}
-use Rattle.hb_sound.specs.Walks.{IsLeast, IsLeftOut, IsWalk, Leads, if_free, next_free}
+use Rattle.hb_sound.specs.Walks.{IsLeast, IsLeftOut, IsChainWalk, LeadsAlong, if_free, next_free}
 use Rattle.hb_sound.proofs.Bridge.{next_same, page_none}
 
 contains_at : {X : Type 0} (x y : X) (xs : List X) (k : ℕ) → k < length (x ∷ xs) → slice_index_or (x ∷ xs) k y ≡ y → (x ≡ y) ⊎ Contains xs y
@@ -32,9 +32,9 @@ contained (x ∷ xs) id there = elim (cases_eq x id) [
 ]
 
 -- two walks from one number: the longer goes on where the shorter ends
-goes_on : (next : ℕ → Option ℕ) (head end : ℕ) (chain whole : List ℕ) → next 0 ≡ None → Leads next head chain end → Leads next head whole 0
-    → (rest : List ℕ) × (whole ≡ chain ++ rest) × Leads next end rest 0
-goes_on next head end [] whole none leads all = let Q : ℕ → Type 0 = λ h. Leads next h whole 0 in (whole, refl, subst Q leads all)
+goes_on : (next : ℕ → Option ℕ) (head end : ℕ) (chain whole : List ℕ) → next 0 ≡ None → LeadsAlong next head chain end → LeadsAlong next head whole 0
+    → (rest : List ℕ) × (whole ≡ chain ++ rest) × LeadsAlong next end rest 0
+goes_on next head end [] whole none leads all = let Q : ℕ → Type 0 = λ h. LeadsAlong next h whole 0 in (whole, refl, subst Q leads all)
 goes_on next head end (id ∷ chain) [] none leads all =
     let e : id ≡ 0 = sym leads.0 ∙ all in
     absurd (let never : None ≡ Some leads.1 = sym none ∙ ap next (sym e) ∙ leads.2 in cc)
@@ -42,7 +42,7 @@ goes_on next head end (id ∷ chain) (other ∷ whole) none leads all =
     let same : id ≡ other = sym leads.0 ∙ all.0 in
     let step : Some leads.1 ≡ Some all.1 = sym leads.2 ∙ ap next same ∙ all.2 in
     let following : leads.1 ≡ all.1 = cc in
-    let Q : ℕ → Type 0 = λ h. Leads next h whole 0 in
+    let Q : ℕ → Type 0 = λ h. LeadsAlong next h whole 0 in
     let rest = goes_on next leads.1 end chain whole none leads.3 (subst Q (sym following) all.3) in
     let P : ℕ → Type 0 = λ n. n ∷ whole ≡ id ∷ (chain ++ rest.0) in
     (rest.0, subst P same (ap (λ (l : List ℕ). id ∷ l) rest.1), rest.2)
@@ -52,7 +52,7 @@ shorter first [] rest = omega arith
 shorter first (id ∷ chain) rest = let again = shorter id chain rest in omega (arith, again)
 
 -- a circle doesn't end
-no_circle : (n : ℕ) (next : ℕ → Option ℕ) (id first : ℕ) (circle whole : List ℕ) → length whole ≤ n → next 0 ≡ None → Leads next id (first ∷ circle) id → Leads next id whole 0 → ⊥
+no_circle : (n : ℕ) (next : ℕ → Option ℕ) (id first : ℕ) (circle whole : List ℕ) → length whole ≤ n → next 0 ≡ None → LeadsAlong next id (first ∷ circle) id → LeadsAlong next id whole 0 → ⊥
 no_circle zero next id first circle whole few none round all =
     let rest = goes_on next id id (first ∷ circle) whole none round all in
     let less = shorter first circle rest.0 in
@@ -65,22 +65,22 @@ no_circle (suc n) next id first circle whole few none round all =
     no_circle n next id first circle rest.0 (omega (arith, less, long, few)) none round rest.2
 
 -- a walk that meets its end again has a circle
-circle_of : (next : ℕ → Option ℕ) (head end : ℕ) (chain : List ℕ) → Leads next head chain end → Contains chain end → (first : ℕ) × (circle : List ℕ) × Leads next end (first ∷ circle) end
+circle_of : (next : ℕ → Option ℕ) (head end : ℕ) (chain : List ℕ) → LeadsAlong next head chain end → Contains chain end → (first : ℕ) × (circle : List ℕ) × LeadsAlong next end (first ∷ circle) end
 circle_of next head end [] leads h = absurd (omega (arith, h.1))
 circle_of next head end (id ∷ chain) leads h = elim (contains_cases {X = ℕ} id end chain h) [
-  | inl here ↦ let Q : ℕ → Type 0 = λ n. Leads next n (id ∷ chain) end in (id, chain, subst Q (leads.0 ∙ here) leads)
+  | inl here ↦ let Q : ℕ → Type 0 = λ n. LeadsAlong next n (id ∷ chain) end in (id, chain, subst Q (leads.0 ∙ here) leads)
   | inr behind ↦ circle_of next leads.1 end chain leads.3 behind
 ]
 
 -- where a chain ends at 0, the walk is that chain
-the_chain : (next : ℕ → Option ℕ) (head end : ℕ) (chain whole : List ℕ) → next 0 ≡ None → IsWalk next head chain end → Leads next head whole 0 → (end ≡ 0) × (whole ≡ chain)
+the_chain : (next : ℕ → Option ℕ) (head end : ℕ) (chain whole : List ℕ) → next 0 ≡ None → IsChainWalk next head chain end → LeadsAlong next head whole 0 → (end ≡ 0) × (whole ≡ chain)
 the_chain next head end chain whole none walk all = by walk.ended
   where
     nothing_more : (xs : List ℕ) → xs ++ [] ≡ xs
     nothing_more [] = refl
     nothing_more (x ∷ xs) = ap (λ (l : List ℕ). x ∷ l) (nothing_more xs)
 
-    at_end : (rest : List ℕ) → whole ≡ chain ++ rest → Leads next end rest 0 → next end ≡ None → (end ≡ 0) × (whole ≡ chain)
+    at_end : (rest : List ℕ) → whole ≡ chain ++ rest → LeadsAlong next end rest 0 → next end ≡ None → (end ≡ 0) × (whole ≡ chain)
     at_end [] is leads stops = (leads, is ∙ nothing_more chain)
     at_end (id ∷ rest) is leads stops = absurd (let never : None ≡ Some leads.1 = sym stops ∙ ap next leads.0 ∙ leads.2 in cc)
 
@@ -100,7 +100,7 @@ none_at_zero : (s : FileState) → next_free s 0 ≡ None
 none_at_zero s = ap if_free (page_none s.pages)
 
 -- the chain of the file, and the walk
-leads_chain : (s : FileState) (head end : ℕ) (chain : List ℕ) → end ≡ 0 → Leads (next_free s) head chain end → IsChain s head chain
+leads_chain : (s : FileState) (head end : ℕ) (chain : List ℕ) → end ≡ 0 → LeadsAlong (next_free s) head chain end → IsChain s head chain
 leads_chain s head end [] ends leads = leads ∙ ends
 leads_chain s head end (id ∷ chain) ends leads = (
   leads.0,
@@ -110,11 +110,11 @@ leads_chain s head end (id ∷ chain) ends leads = (
   leads_chain s leads.1 end chain ends leads.3,
 )
 
-chain_leads : (s : FileState) (head : ℕ) (chain : List ℕ) → IsChain s head chain → Leads (next_free s) head chain 0
+chain_leads : (s : FileState) (head : ℕ) (chain : List ℕ) → IsChain s head chain → LeadsAlong (next_free s) head chain 0
 chain_leads s head [] chained = chained
 chain_leads s head (id ∷ chain) chained = (chained.0, chained.2, ap if_free chained.3, chain_leads s chained.2 chain chained.4)
 
-leads_by : (f h : ℕ → Option ℕ) → ((id : ℕ) → f id ≡ h id) → (head end : ℕ) (chain : List ℕ) → Leads f head chain end → Leads h head chain end
+leads_by : (f h : ℕ → Option ℕ) → ((id : ℕ) → f id ≡ h id) → (head end : ℕ) (chain : List ℕ) → LeadsAlong f head chain end → LeadsAlong h head chain end
 leads_by f h same head end [] leads = leads
 leads_by f h same head end (id ∷ chain) leads = (leads.0, leads.1, sym (same id) ∙ leads.2, leads_by f h same leads.1 end chain leads.3)
 
@@ -131,7 +131,7 @@ module _ (meta : Meta) (facts : List Fact) (list : List Page) (are : AreFactsOf 
   abbrev file : FileState
   file = file_with meta list
 
-  walk_by : (chain : List ℕ) (end : ℕ) → IsWalk (next_at facts) meta.free chain end → IsWalk (next_free file) meta.free chain end
+  walk_by : (chain : List ℕ) (end : ℕ) → IsChainWalk (next_at facts) meta.free chain end → IsChainWalk (next_free file) meta.free chain end
   walk_by chain end walk = record {
     leads = leads_by (next_at facts) (next_free file) (next_same meta facts list are) meta.free end chain walk.leads;
     once = walk.once;

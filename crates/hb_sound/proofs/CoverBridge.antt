@@ -24,7 +24,7 @@ use Rattle.hb_sound.specs.declared.facts.Fact.TheVariants.{Live, Free}
 use Rattle.hb_sound.specs.declared.names.Times.{Times}
 use Rattle.hb_sound.specs.declared.names.Times.TheVariants.{Never, Once, Often}
 use Rattle.hb_sound.specs.Broken.{HasSame, IsLoose, LacksFirst}
-use Rattle.hb_sound.specs.Covers.{AreBelow, HasBox, IsCoverBreak, LacksLevel, Sees, SeesLoose}
+use Rattle.hb_sound.specs.Covers.{AreBelow, HasBox, IsCoverBreak, LacksLevel, SeesSome, SeesLoose}
 use Rattle.hb_sound.specs.Facts.{AreFactsOf, if_seen, more, once_more, seen_at}
 use Rattle.hb_sound.specs.Names.{KeepsSix, NamesLoose}
 use Rattle.hb_sound.specs.Tests.{file_with}
@@ -96,18 +96,18 @@ cases_box level area (Live seen) = elim (cases_eq seen.level level) [
 ]
 
 -- some fact is so, or none
-find_place : (q : Fact → Type 0) → ((fact : Fact) → q fact ⊎ (¬ (q fact))) → (facts : List Fact) → ((n : ℕ) × Sees q facts (suc n)) ⊎ ((n : ℕ) → ¬ (Sees q facts (suc n)))
+find_place : (q : Fact → Type 0) → ((fact : Fact) → q fact ⊎ (¬ (q fact))) → (facts : List Fact) → ((n : ℕ) × SeesSome q facts (suc n)) ⊎ ((n : ℕ) → ¬ (SeesSome q facts (suc n)))
 find_place q cases [] = inr (λ n sees. let never : None ≡ Some sees.0 = sees.1 in cc)
 find_place q cases (first ∷ rest) = elim (cases first) [
   | inl holds ↦ inl (0, (first, refl, holds))
   | inr fails ↦ elim (find_place q cases rest) [ inl behind ↦ inl (suc behind.0, behind.1) | inr none ↦ inr (beyond fails none) ]
 ]
   where
-    beyond : ¬ (q first) → ((n : ℕ) → ¬ (Sees q rest (suc n))) → (n : ℕ) → ¬ (Sees q (first ∷ rest) (suc n))
+    beyond : ¬ (q first) → ((n : ℕ) → ¬ (SeesSome q rest (suc n))) → (n : ℕ) → ¬ (SeesSome q (first ∷ rest) (suc n))
     beyond fails none zero sees = let e : Some first ≡ Some sees.0 = sees.1 in let is : sees.0 ≡ first = cc in fails (subst q is sees.2)
     beyond fails none (suc n) sees = none n sees
 
-none_sees : (q : Fact → Type 0) (facts : List Fact) → ((n : ℕ) → ¬ (Sees q facts (suc n))) → (id : ℕ) → ¬ (Sees q facts id)
+none_sees : (q : Fact → Type 0) (facts : List Fact) → ((n : ℕ) → ¬ (SeesSome q facts (suc n))) → (id : ℕ) → ¬ (SeesSome q facts id)
 none_sees q facts none zero sees = let never : None ≡ Some sees.0 = sees.1 in cc
 none_sees q facts none (suc n) sees = none n sees
 
@@ -120,12 +120,12 @@ module _ (meta : Meta) (facts : List Fact) (list : List Page) (are : AreFactsOf 
   file = file_with meta list
 
   -- a page of this level and box is in use exactly where one is seen
-  has_seen : (level name : ℕ) (area : Area) → HasSame file level name area → Sees (HasBox level area) facts name
+  has_seen : (level name : ℕ) (area : Area) → HasSame file level name area → SeesSome (HasBox level area) facts name
   has_seen level name area has =
       let seen = seen_live meta facts list are name has.0 has.1 in
       (Live seen.0, seen_fact (item_at facts name) seen.0 seen.1, (seen.2.level ∙ has.2, seen.2.area ∙ has.3))
 
-  seen_has : (level name : ℕ) (area : Area) → Sees (HasBox level area) facts name → HasSame file level name area
+  seen_has : (level name : ℕ) (area : Area) → SeesSome (HasBox level area) facts name → HasSame file level name area
   seen_has level name area sees =
       let there = boxed_fact level area sees.0 (item_at facts name) sees.1 sees.2 in
       let page = live_seen meta facts list are name there.0 there.1 in

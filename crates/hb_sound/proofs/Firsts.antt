@@ -3,7 +3,7 @@ use Rattle.std.proofs.Common.{◌≡◌, inl, inr, ℕ, zero, suc, ◌+◌, ◌<
 use Rattle.std.proofs.lemmas.Option.{slice_get_read, slice_get_within}
 use Rattle.std.proofs.lemmas.Bool.{cases_lt}
 use Rattle.hb_sound.specs.declared.facts.Fact.{Fact}
-use Rattle.hb_sound.specs.Covers.{Sees}
+use Rattle.hb_sound.specs.Covers.{SeesSome}
 use Rattle.hb_sound.specs.Links.{IsFirstUpTo}
 use Rattle.hb_sound.specs.Told.{item_at}
 use Rattle.hb_sound.specs.Walks.{IsLeast}
@@ -42,15 +42,15 @@ not_yet p n none not_here m le at = elim (cases_lt n m) [
 ]
 
 -- none before the first number
-pub none_yet : (q : Fact → Type 0) (facts : List Fact) → IsFirstUpTo (Sees q facts) 0 None
+pub none_yet : (q : Fact → Type 0) (facts : List Fact) → IsFirstUpTo (SeesSome q facts) 0 None
 none_yet q facts zero le sees = absurd (let never : None ≡ Some sees.0 = sees.1 in cc)
 none_yet q facts (suc n) le sees = absurd (omega (arith, le))
 
 -- what is seen behind a place
-pub seen_here : (q : Fact → Type 0) (facts : List Fact) (place : ℕ) (fact : Fact) → slice_get facts place ≡ Some fact → q fact → Sees q facts (place + 1)
+pub seen_here : (q : Fact → Type 0) (facts : List Fact) (place : ℕ) (fact : Fact) → slice_get facts place ≡ Some fact → q fact → SeesSome q facts (place + 1)
 seen_here q facts place fact e holds = (fact, item_behind facts place ∙ e, holds)
 
-pub seen_there : (q : Fact → Type 0) (facts : List Fact) (place : ℕ) (fact : Fact) → slice_get facts place ≡ Some fact → Sees q facts (place + 1) → q fact
+pub seen_there : (q : Fact → Type 0) (facts : List Fact) (place : ℕ) (fact : Fact) → slice_get facts place ≡ Some fact → SeesSome q facts (place + 1) → q fact
 seen_there q facts place fact e sees =
     let same : Some fact ≡ Some sees.0 = sym e ∙ sym (item_behind facts place) ∙ sees.1 in
     let is : sees.0 ≡ fact = cc in
@@ -61,15 +61,15 @@ read_here : (facts : List Fact) (place : ℕ) (fact : Fact) → place < length f
 read_here facts place fact within is = slice_get_read facts (length facts) place fact refl within is
 
 pub found_here : (q : Fact → Type 0) (facts : List Fact) (place : ℕ) (fact : Fact) → place < length facts → fact ≡ get_or facts place fact
-    → IsFirstUpTo (Sees q facts) place None → q fact → IsLeast (Sees q facts) (place + 1)
-found_here q facts place fact within is none holds = found (Sees q facts) place none (seen_here q facts place fact (read_here facts place fact within is) holds)
+    → IsFirstUpTo (SeesSome q facts) place None → q fact → IsLeast (SeesSome q facts) (place + 1)
+found_here q facts place fact within is none holds = found (SeesSome q facts) place none (seen_here q facts place fact (read_here facts place fact within is) holds)
 
 pub still_none : (q : Fact → Type 0) (facts : List Fact) (place : ℕ) (fact : Fact) → place < length facts → fact ≡ get_or facts place fact
-    → IsFirstUpTo (Sees q facts) place None → ¬ (q fact) → IsFirstUpTo (Sees q facts) (place + 1) None
+    → IsFirstUpTo (SeesSome q facts) place None → ¬ (q fact) → IsFirstUpTo (SeesSome q facts) (place + 1) None
 still_none q facts place fact within is none fails =
-    not_yet (Sees q facts) place none (λ sees. fails (seen_there q facts place fact (read_here facts place fact within is) sees))
+    not_yet (SeesSome q facts) place none (λ sees. fails (seen_there q facts place fact (read_here facts place fact within is) sees))
 
-pub none_left : (q : Fact → Type 0) (facts : List Fact) (n : ℕ) → length facts ≤ n → IsFirstUpTo (Sees q facts) n None → (id : ℕ) → ¬ (Sees q facts id)
+pub none_left : (q : Fact → Type 0) (facts : List Fact) (n : ℕ) → length facts ≤ n → IsFirstUpTo (SeesSome q facts) n None → (id : ℕ) → ¬ (SeesSome q facts id)
 none_left q facts n all none id sees =
     let within = item_within facts id sees.0 sees.1 in
     none id (omega (arith, within, all)) sees

@@ -8,7 +8,7 @@ use Rattle.hb_sound.specs.Chains.{IsChained, IsFreeBreak, IsFreeFact, live_facts
 use Rattle.hb_sound.specs.Facts.{if_next, next_at}
 use Rattle.hb_sound.specs.Links.{IsFirstUpTo}
 use Rattle.hb_sound.specs.Told.{item_at}
-use Rattle.hb_sound.specs.Walks.{IsLeast, IsLeftOut, IsWalk}
+use Rattle.hb_sound.specs.Walks.{IsLeast, IsLeftOut, IsChainWalk}
 use Rattle.hb_sound.proofs.Firsts.{found, item_behind, item_within, not_yet}
 
 free_next : (fact : Fact) → IsFreeFact fact → (n : ℕ) × (if_next (Some fact) ≡ Some n)
@@ -60,10 +60,10 @@ none_left_out facts chain n all none id out =
     none id (omega (arith, within, all)) out
 
 -- rule 2, by where the chain ends
-pub ended : (meta : Meta) (facts : List Fact) (chain : List ℕ) (end : ℕ) (o : Option ℕ) → IsWalk (next_at facts) meta.free chain end → ((id : ℕ) → ¬ (IsLeftOut (next_at facts) chain id))
+pub ended : (meta : Meta) (facts : List Fact) (chain : List ℕ) (end : ℕ) (o : Option ℕ) → IsChainWalk (next_at facts) meta.free chain end → ((id : ℕ) → ¬ (IsLeftOut (next_at facts) chain id))
     → MatchOption o ((end ≡ 0) × (meta.live ≡ live_facts facts)) (λ id. (id ≡ end) × (((end ≡ 0) × (meta.live ≡ live_facts facts)) → ⊥)) → IsFreeBreak meta facts o
 ended meta facts chain end None walk none is = (chain, end, walk, record { ends = is.0; all = none; live = is.1 })
 ended meta facts chain end (Some id) walk none is = (chain, end, walk, ((λ keeps. is.1 (keeps.ends, keeps.live)), inr (is.0, none)))
 
-pub left_one : (meta : Meta) (facts : List Fact) (chain : List ℕ) (end id : ℕ) → IsWalk (next_at facts) meta.free chain end → IsLeast (IsLeftOut (next_at facts) chain) id → IsFreeBreak meta facts (Some id)
+pub left_one : (meta : Meta) (facts : List Fact) (chain : List ℕ) (end id : ℕ) → IsChainWalk (next_at facts) meta.free chain end → IsLeast (IsLeftOut (next_at facts) chain) id → IsFreeBreak meta facts (Some id)
 left_one meta facts chain end id walk least = (chain, end, walk, ((λ keeps. keeps.all id least.here), inl least))

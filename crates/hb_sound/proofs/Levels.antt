@@ -6,7 +6,7 @@ use Rattle.hb_sound.specs.declared.facts.Seen.{Seen}
 use Rattle.hb_sound.specs.declared.facts.Fact.{Fact}
 use Rattle.hb_sound.specs.declared.facts.Fact.TheVariants.{Live, Free}
 use Rattle.hb_sound.specs.declared.names.Times.{Times}
-use Rattle.hb_sound.specs.Covers.{AreFirsts, HasBox, IsLooseSeen, Sees}
+use Rattle.hb_sound.specs.Covers.{AreFirsts, HasBox, IsLooseSeen, SeesSome}
 use Rattle.hb_sound.specs.Facts.{if_seen, seen_at}
 use Rattle.hb_sound.specs.Told.{item_at}
 use Rattle.hb_sound.specs.Walks.{IsLeast}
@@ -23,14 +23,14 @@ long_end [] x = refl
 long_end (z ∷ xs) x = let rest = long_end xs x in omega (arith, rest)
 
 pub firsts_on : (facts : List Fact) (level : ℕ) (whole : Area) (firsts : List ℕ) (first : ℕ) → AreFirsts facts level whole firsts
-    → IsLeast (Sees (HasBox level whole) facts) first → AreFirsts facts (level + 1) whole (firsts ++ first ∷ [])
+    → IsLeast (SeesSome (HasBox level whole) facts) first → AreFirsts facts (level + 1) whole (firsts ++ first ∷ [])
 firsts_on facts level whole firsts first are is = (
   long_end firsts first ∙ ap (λ (n : ℕ). n + 1) are.0,
   λ at item e. elim (at_end firsts first at item e) [
     | inl before ↦ are.1 at item before
     | inr last ↦
-        let Q : ℕ → Type 0 = λ n. IsLeast (Sees (HasBox n whole) facts) item in
-        let P : ℕ → Type 0 = λ n. IsLeast (Sees (HasBox level whole) facts) n in
+        let Q : ℕ → Type 0 = λ n. IsLeast (SeesSome (HasBox n whole) facts) item in
+        let P : ℕ → Type 0 = λ n. IsLeast (SeesSome (HasBox level whole) facts) n in
         subst Q (sym (last.0 ∙ are.0)) (subst P (sym last.1) is)
   ],
 )
@@ -43,12 +43,12 @@ seen_fact (Some (Free next)) seen e = let never : None ≡ Some seen = e in cc
 -- of the whole space: loose exactly where it isn't the first of its level
 module _ (facts : List Fact) (whole : Area) (firsts : List ℕ) (id first : ℕ) (seen : Seen) (times : Times)
     (are : AreFirsts facts (length firsts) whole firsts) (there : slice_get firsts seen.level ≡ Some first) (at : seen_at facts id ≡ Some seen) (boxed : seen.area ≡ whole) where
-  least : IsLeast (Sees (HasBox seen.level whole) facts) first
+  least : IsLeast (SeesSome (HasBox seen.level whole) facts) first
   least = are.1 seen.level first there
 
   pub not_first_is_loose : first ≢ id → IsLooseSeen facts whole id seen times
   not_first_is_loose other =
-      let here : Sees (HasBox seen.level whole) facts id = (Live seen, seen_fact (item_at facts id) seen at, (refl, boxed)) in
+      let here : SeesSome (HasBox seen.level whole) facts id = (Live seen, seen_fact (item_at facts id) seen at, (refl, boxed)) in
       let le = least.least id here in
       inl (boxed, first, omega (arith, le, other), least.here)
 

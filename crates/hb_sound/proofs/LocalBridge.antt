@@ -10,7 +10,7 @@ use Rattle.hb_ops.specs.Files.{FileState}
 use Rattle.hb_ops.specs.LocalRule.{BreaksFirst}
 use Rattle.hb_sound.specs.declared.facts.Fact.{Fact}
 use Rattle.hb_sound.specs.declared.facts.Fact.TheVariants.{Live, Free}
-use Rattle.hb_sound.specs.Broken.{Breaks}
+use Rattle.hb_sound.specs.Broken.{BreaksRule}
 use Rattle.hb_sound.specs.Covers.{HasRule, IsLeastRule, SeesRule}
 use Rattle.hb_sound.specs.Facts.{AreFactsOf, if_seen}
 use Rattle.hb_sound.specs.Names.{KeepsLocally, NamesLocal}
@@ -94,7 +94,7 @@ module _ (meta : Meta) (facts : List Fact) (list : List Page) (are : AreFactsOf 
   file = file_with meta list
 
   -- a rule that a page breaks first is seen
-  pub breaks_seen : (rule id : ℕ) → Breaks file rule id → SeesRule facts rule id
+  pub breaks_seen : (rule id : ℕ) → BreaksRule file rule id → SeesRule facts rule id
   breaks_seen rule id b =
       let seen = seen_live meta facts list are id b.0 b.1 in (
         Live seen.0,
@@ -106,10 +106,10 @@ module _ (meta : Meta) (facts : List Fact) (list : List Page) (are : AreFactsOf 
       )
 
   -- and the other way
-  pub seen_breaks : (rule id : ℕ) → 3 ≤ rule → SeesRule facts rule id → Breaks file rule id
+  pub seen_breaks : (rule id : ℕ) → 3 ≤ rule → SeesRule facts rule id → BreaksRule file rule id
   seen_breaks rule id some sees = by_fact sees.0 sees.1 sees.2
     where
-      by_fact : (fact : Fact) → item_at facts id ≡ Some fact → HasRule rule fact → Breaks file rule id
+      by_fact : (fact : Fact) → item_at facts id ≡ Some fact → HasRule rule fact → BreaksRule file rule id
       by_fact (Live seen) e is =
           let page = live_seen meta facts list are id seen (ap if_seen e) in (
             page.0,
@@ -121,7 +121,7 @@ module _ (meta : Meta) (facts : List Fact) (list : List Page) (are : AreFactsOf 
           )
       by_fact (Free next) e is = absurd is
 
-  pub least_breaks : (rule id : ℕ) → 3 ≤ rule → IsLeast (SeesRule facts rule) id → IsLeast (Breaks file rule) id
+  pub least_breaks : (rule id : ℕ) → 3 ≤ rule → IsLeast (SeesRule facts rule) id → IsLeast (BreaksRule file rule) id
   least_breaks rule id some least = record { here = seen_breaks rule id some least.here; least = λ m b. least.least m (breaks_seen rule m b) }
 
   -- the rules 3 to 6

@@ -4,7 +4,7 @@ use Rattle.std.proofs.lemmas.Bool.{cases_eq}
 use Rattle.std.proofs.lemmas.List.Elements.{Contains-append_cases, Contains-append_left, Contains-append_right}
 use Rattle.hb_sound.specs.Chains.{IsChained}
 use Rattle.hb_sound.specs.Told.{item_at}
-use Rattle.hb_sound.specs.Walks.{IsOnce, Leads}
+use Rattle.hb_sound.specs.Walks.{IsOnce, LeadsAlong}
 use Rattle.hb_sound.proofs.Counts.{get_set_other, get_set_same}
 use Rattle.hb_sound.proofs.LeafBoxes.{contains_one}
 
@@ -40,7 +40,7 @@ item_set_other marks id zero x some apart = refl
 item_set_other marks id (suc k) x some apart = get_set_other marks (id - 1) k x (λ e. apart (omega (arith, e, some)))
 
 -- a chain with one more number
-leads_on : (next : ℕ → Option ℕ) (head : ℕ) (chain : List ℕ) (id following : ℕ) → Leads next head chain id → next id ≡ Some following → Leads next head (chain ++ id ∷ []) following
+leads_on : (next : ℕ → Option ℕ) (head : ℕ) (chain : List ℕ) (id following : ℕ) → LeadsAlong next head chain id → next id ≡ Some following → LeadsAlong next head (chain ++ id ∷ []) following
 leads_on next head [] id following e step = (e, following, step, refl)
 leads_on next head (first ∷ rest) id following leads step = (leads.0, leads.1, leads.2, leads_on next leads.1 rest id following leads.3 step)
 
@@ -82,8 +82,8 @@ chained_on chain marks id chained off other =
 
 -- one step of the walk
 pub walk_on : (next : ℕ → Option ℕ) (head id following : ℕ) (marks : List Bool)
-    → ((chain : List ℕ) × Leads next head chain id × IsOnce chain × IsChained chain marks) → next id ≡ Some following → item_at marks id ≡ Some false
-    → (chain : List ℕ) × Leads next head chain following × IsOnce chain × IsChained chain (slice_set marks (id - 1) true)
+    → ((chain : List ℕ) × LeadsAlong next head chain id × IsOnce chain × IsChained chain marks) → next id ≡ Some following → item_at marks id ≡ Some false
+    → (chain : List ℕ) × LeadsAlong next head chain following × IsOnce chain × IsChained chain (slice_set marks (id - 1) true)
 walk_on next head id following marks walk step off =
     let new : ¬ (Contains walk.0 id) = λ h. absurd (let never : Some true ≡ Some false = sym ((walk.3 id).0 h) ∙ off in cc) in
     (walk.0 ++ id ∷ [], leads_on next head walk.0 id following walk.1 step, once_on walk.0 id walk.2 new, chained_on walk.0 marks id walk.3 off)

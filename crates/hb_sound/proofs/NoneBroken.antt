@@ -6,7 +6,7 @@ use Rattle.hb_ops.specs.Files.{FileState}
 use Rattle.hb_ops.specs.LocalRule.{BreaksFirst}
 use Rattle.hb_ops.specs.Sound.{FitsFile, IsSound}
 use Rattle.hb_sound.specs.Told.{file_of}
-use Rattle.hb_sound.specs.Broken.{Breaks}
+use Rattle.hb_sound.specs.Broken.{BreaksRule}
 use Rattle.hb_sound.specs.Names.{NamesIn, SoundBreaksNone}
 
 pub not_broken : (rule : ℕ) (page : LivePage) (meta : Meta) → BreaksFirst rule page meta → FitsFile meta page → ⊥
@@ -16,7 +16,7 @@ not_broken rule page meta (inr (inr (inl five))) fits = five.3 fits.filled
 not_broken rule page meta (inr (inr (inr (inl six)))) fits = six.4 fits.in_order
 not_broken rule page meta (inr (inr (inr (inr ten)))) fits = ten.5 fits.normal
 
-breaks_none : (s : FileState) (rule id : ℕ) → Breaks s rule id → IsSound s → ⊥
+breaks_none : (s : FileState) (rule id : ℕ) → BreaksRule s rule id → IsSound s → ⊥
 breaks_none s rule id b sound = not_broken rule b.0 s.meta b.2 (sound.well_made id b.0 b.1)
 
 sound_in : (s : FileState) (id rule : ℕ) → NamesIn s id rule → IsSound s → ⊥

@@ -5,7 +5,7 @@ use Rattle.hb_frag.specs.declared.pages.Page.{Page}
 use Rattle.hb_ops.specs.declared.meta.Meta.{Meta}
 use Rattle.hb_sound.specs.declared.facts.Fact.{Fact}
 use Rattle.hb_sound.specs.Facts.{AreFactsOf, IsFactOf}
-use Rattle.hb_sound.specs.Told.{CoversFile, IsHole, IsWhole, file_of, item_at, shown}
+use Rattle.hb_sound.specs.Told.{CoversFile, IsHole, IsWholeFile, file_of, item_at, shown}
 use Rattle.hb_sound.specs.Walks.{IsLeast}
 use Rattle.hb_sound.proofs.Firsts.{item_behind}
 use Rattle.hb_sound.proofs.ToldPages.{slice_get_inside}
@@ -72,7 +72,7 @@ read_more meta told n facts fact covers read within is there =
     not_hole hole = elim hole.2 [ inl beyond ↦ omega (arith, beyond, within) | inr none ↦ there none ]
 
 -- all pages are read
-pub read_whole : (meta : Meta) (told : List (Option Page)) (n : ℕ) (facts : List Fact) → n ≡ meta.high → IsReadTo meta told n facts → IsWhole meta told × AreFactsOf meta facts (file_of meta told).pages
+pub read_whole : (meta : Meta) (told : List (Option Page)) (n : ℕ) (facts : List Fact) → n ≡ meta.high → IsReadTo meta told n facts → IsWholeFile meta told × AreFactsOf meta facts (file_of meta told).pages
 read_whole meta told n facts all read = (
   λ id hole. let few = hole.1 in read.whole id (omega (arith, few, all)) hole,
   (let Q : ℕ → Type 0 = λ m. AreFactsOf meta facts (shown (take m told)) in subst Q all read.facts_are),
@@ -102,7 +102,7 @@ if_more None meta n facts fact covers read within is there = tt
 if_more (Some told) meta n facts fact covers read within is there = read_more meta told n facts fact covers read within is there
 
 pub if_whole : (o : Option (List (Option Page))) (meta : Meta) (n : ℕ) (facts : List Fact) → n ≡ meta.high → IfSome o (λ told. IsReadTo meta told n facts)
-    → IfSome o (λ told. IsWhole meta told × AreFactsOf meta facts (file_of meta told).pages)
+    → IfSome o (λ told. IsWholeFile meta told × AreFactsOf meta facts (file_of meta told).pages)
 if_whole None meta n facts all read = tt
 if_whole (Some told) meta n facts all read = read_whole meta told n facts all read
 

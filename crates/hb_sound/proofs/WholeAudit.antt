@@ -17,7 +17,7 @@ use Rattle.hb_sound.specs.Links.{AreLinks, AreRead, IsCut, Tells}
 use Rattle.hb_sound.specs.Names.{IsSoundWith, KeepsSix, Names, NamesIn}
 use Rattle.hb_sound.specs.Stops.{OnBroken}
 use Rattle.hb_sound.specs.Tests.{file_with}
-use Rattle.hb_sound.specs.Told.{IsWhole, file_of, item_at, shown}
+use Rattle.hb_sound.specs.Told.{IsWholeFile, file_of, item_at, shown}
 use Rattle.hb_sound.proofs.Bridge.{page_item, same_length}
 use Rattle.hb_sound.proofs.LocalBridge.{cut}
 
@@ -31,7 +31,7 @@ shown_told (None ∷ told) (suc n) k page there e = absurd (there 0 (omega arith
 shown_told (Some own ∷ told) (suc n) zero page there e = ap (λ (o : Option Page). Some o) e
 shown_told (Some own ∷ told) (suc n) (suc k) page there e = shown_told told n k page (λ i lt. there (suc i) (omega (arith, lt))) e
 
-tells : (meta : Meta) (told : List (Option Page)) → IsWhole meta told → Tells told (file_of meta told).pages
+tells : (meta : Meta) (told : List (Option Page)) → IsWholeFile meta told → Tells told (file_of meta told).pages
 tells meta told whole id page e = by_number id (sym (page_item (shown (take meta.high told)) id) ∙ e)
   where
     by_number : (n : ℕ) → item_at (shown (take meta.high told)) n ≡ Some page → item_at told n ≡ Some (Some page)
@@ -57,7 +57,7 @@ records_are meta (fact ∷ facts) (page ∷ list) are =
 
 -- what is told was read whole, and these are its facts
 abbrev pub IsReadAs : Meta → List Fact → List (Option Page) → Type 0
-IsReadAs meta facts told = IsWhole meta told × AreFactsOf meta facts (file_of meta told).pages
+IsReadAs meta facts told = IsWholeFile meta told × AreFactsOf meta facts (file_of meta told).pages
 
 module _ (meta : Meta) (facts : List Fact) (kept : (list : List Page) → AreFactsOf meta facts list → KeepsSix (file_with meta list)) where
   read_again : (told : List (Option Page)) → IsReadAs meta facts told → AreRead told facts (file_of meta told).pages

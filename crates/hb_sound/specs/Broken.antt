@@ -9,8 +9,8 @@ use Rattle.hb_ops.specs.LocalRule.{BreaksFirst}
 use Rattle.hb_ops.specs.Sound.{times_named}
 
 -- S3 to S6 and S10: the page breaks this rule by itself, and none before it
-abbrev pub Breaks : FileState → ℕ → ℕ → Type 0
-Breaks s rule id = (page : LivePage) × (live_page s id ≡ Some page) × BreaksFirst rule page s.meta
+abbrev pub BreaksRule : FileState → ℕ → ℕ → Type 0
+BreaksRule s rule id = (page : LivePage) × (live_page s id ≡ Some page) × BreaksFirst rule page s.meta
 
 -- S7: a page in use of this level, with this box
 abbrev pub HasSame : FileState → ℕ → ℕ → Area → Type 0

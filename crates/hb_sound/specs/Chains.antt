@@ -5,7 +5,7 @@ use Rattle.hb_sound.specs.declared.facts.Fact.{Fact}
 use Rattle.hb_sound.specs.declared.facts.Fact.TheVariants.{Live, Free}
 use Rattle.hb_sound.specs.Facts.{next_at}
 use Rattle.hb_sound.specs.Told.{item_at}
-use Rattle.hb_sound.specs.Walks.{IsLeast, IsLeftOut, IsWalk}
+use Rattle.hb_sound.specs.Walks.{IsLeast, IsLeftOut, IsChainWalk}
 
 -- exactly the numbers of the chain are marked
 abbrev pub IsChained : List ℕ → List Bool → Type 0
@@ -32,7 +32,7 @@ pub record KeepsChain (meta : Meta) (facts : List Fact) (chain : List ℕ) (end 
 
 -- rule 2 is kept, or this page is named for it
 abbrev pub IsFreeBreak : Meta → List Fact → Option ℕ → Type 0
-IsFreeBreak meta facts broken = (chain : List ℕ) × (end : ℕ) × IsWalk (next_at facts) meta.free chain end × tells chain end broken
+IsFreeBreak meta facts broken = (chain : List ℕ) × (end : ℕ) × IsChainWalk (next_at facts) meta.free chain end × tells chain end broken
   where
     tells : List ℕ → ℕ → Option ℕ → Type 0
     tells chain end None = KeepsChain meta facts chain end

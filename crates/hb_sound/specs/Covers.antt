@@ -20,11 +20,11 @@ abbrev pub HasRule : ℕ → Fact → Type 0
 HasRule rule (Live seen) = seen.rule ≡ rule
 HasRule rule (Free next) = ⊥
 
-abbrev pub Sees : (Fact → Type 0) → List Fact → ℕ → Type 0
-Sees q facts id = (fact : Fact) × (item_at facts id ≡ Some fact) × q fact
+abbrev pub SeesSome : (Fact → Type 0) → List Fact → ℕ → Type 0
+SeesSome q facts id = (fact : Fact) × (item_at facts id ≡ Some fact) × q fact
 
 abbrev pub SeesRule : List Fact → ℕ → ℕ → Type 0
-SeesRule facts rule id = Sees (HasRule rule) facts id
+SeesRule facts rule id = SeesSome (HasRule rule) facts id
 
 -- the least page for the least rule from 3 to 6
 pub record IsLeastRule (facts : List Fact) (id rule : ℕ) : Type 0 where
@@ -41,10 +41,10 @@ HasBox level area (Free next) = ⊥
 -- the least page of the whole space of each level, or a level that has none
 abbrev pub AreFirsts : List Fact → ℕ → Area → List ℕ → Type 0
 AreFirsts facts height whole firsts = (length firsts ≡ height)
-    × ((level first : ℕ) → slice_get firsts level ≡ Some first → IsLeast (Sees (HasBox level whole) facts) first)
+    × ((level first : ℕ) → slice_get firsts level ≡ Some first → IsLeast (SeesSome (HasBox level whole) facts) first)
 
 abbrev pub LacksLevel : List Fact → ℕ → Area → Type 0
-LacksLevel facts height whole = (level : ℕ) × (level < height) × ((id : ℕ) → ¬ (Sees (HasBox level whole) facts id))
+LacksLevel facts height whole = (level : ℕ) × (level < height) × ((id : ℕ) → ¬ (SeesSome (HasBox level whole) facts id))
 
 -- the levels of the pages in use are below the height
 abbrev pub AreBelow : ℕ → List Fact → Type 0
@@ -53,7 +53,7 @@ AreBelow height facts = (id : ℕ) (seen : Seen) → seen_at facts id ≡ Some s
 -- of the whole space beside a lesser page of its level, or of less and not named once
 abbrev pub IsLooseSeen : List Fact → Area → ℕ → Seen → Times → Type 0
 IsLooseSeen facts whole id seen times =
-    ((seen.area ≡ whole) × (other : ℕ) × (other < id) × Sees (HasBox seen.level whole) facts other)
+    ((seen.area ≡ whole) × (other : ℕ) × (other < id) × SeesSome (HasBox seen.level whole) facts other)
     ⊎ ((seen.area ≢ whole) × (times ≢ Once))
 
 abbrev pub IsLooseFact : List Fact → Area → ℕ → Times → Fact → Type 0

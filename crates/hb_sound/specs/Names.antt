@@ -6,9 +6,9 @@ use Rattle.hb_ops.specs.declared.meta.Meta.{Meta}
 use Rattle.hb_ops.specs.Files.{FileState, file_records, live_page}
 use Rattle.hb_ops.specs.LocalRule.{BreaksFirst}
 use Rattle.hb_ops.specs.Sound.{FitsFile, IsRooted, IsCounted, SiblingsMatch, ChildrenMatch, IsCovered, IsSound}
-use Rattle.hb_sound.specs.Told.{IsHole, IsWhole, file_of}
-use Rattle.hb_sound.specs.Walks.{IsLeast, IsWalk, IsLeftOut, next_free}
-use Rattle.hb_sound.specs.Broken.{Breaks, MissesSibling, MissesChild, LacksFirst, IsLoose}
+use Rattle.hb_sound.specs.Told.{IsHole, IsWholeFile, file_of}
+use Rattle.hb_sound.specs.Walks.{IsLeast, IsChainWalk, IsLeftOut, next_free}
+use Rattle.hb_sound.specs.Broken.{BreaksRule, MissesSibling, MissesChild, LacksFirst, IsLoose}
 
 -- every page in use keeps the rules 3 to 6
 abbrev pub KeepsLocally : FileState → Type 0
@@ -16,12 +16,12 @@ KeepsLocally s = (id : ℕ) (page : LivePage) → live_page s id ≡ Some page �
 
 -- S2: the least free page that the chain leaves out, else the number at which the chain ends
 abbrev pub NamesFree : FileState → ℕ → Type 0
-NamesFree s id = (chain : List ℕ) × (end : ℕ) × IsWalk (next_free s) s.meta.free chain end
+NamesFree s id = (chain : List ℕ) × (end : ℕ) × IsChainWalk (next_free s) s.meta.free chain end
     × (IsLeast (IsLeftOut (next_free s) chain) id ⊎ ((id ≡ end) × ((other : ℕ) → ¬ (IsLeftOut (next_free s) chain other))))
 
 -- S3 to S6: the least page for the least rule
 abbrev pub NamesLocal : FileState → ℕ → ℕ → Type 0
-NamesLocal s id rule = (rule ≤ 6) × IsLeast (Breaks s rule) id × ((lesser other : ℕ) → lesser < rule → ¬ (Breaks s lesser other))
+NamesLocal s id rule = (rule ≤ 6) × IsLeast (BreaksRule s rule) id × ((lesser other : ℕ) → lesser < rule → ¬ (BreaksRule s lesser other))
 
 -- S9: 0 where a level has no page of the whole space, else the least page that is loose
 abbrev pub NamesLoose : FileState → ℕ → Type 0
@@ -43,18 +43,18 @@ NamesIn s id rule =
     ⊎ ((rule ≡ 7) × KeepsSix s × IsLeast (MissesSibling s) id)
     ⊎ ((rule ≡ 8) × KeepsSix s × SiblingsMatch s × IsLeast (MissesChild s) id)
     ⊎ ((rule ≡ 9) × KeepsEight s × (¬ (IsCovered s)) × NamesLoose s id)
-    ⊎ ((rule ≡ 10) × KeepsEight s × IsCovered s × IsLeast (Breaks s 10) id)
+    ⊎ ((rule ≡ 10) × KeepsEight s × IsCovered s × IsLeast (BreaksRule s 10) id)
 
 -- the same of what is told of a file, with rule 0 before the others
 abbrev pub Names : Meta → List (Option Page) → ℕ → ℕ → Type 0
 Names meta told id rule =
     ((rule ≡ 0) × IsLeast (IsHole meta told) id)
-    ⊎ (IsWhole meta told × NamesIn (file_of meta told) id rule)
+    ⊎ (IsWholeFile meta told × NamesIn (file_of meta told) id rule)
 
 -- what is told is a sound file with this many records
 abbrev pub IsSoundWith : Meta → List (Option Page) → ℕ → Type 0
-IsSoundWith meta told records = IsWhole meta told × IsSound (file_of meta told) × (records ≡ length (file_records (file_of meta told)))
+IsSoundWith meta told records = IsWholeFile meta told × IsSound (file_of meta told) × (records ≡ length (file_records (file_of meta told)))
 
 -- a sound file breaks no rule
 abbrev pub SoundBreaksNone : Type 0
-SoundBreaksNone = (meta : Meta) (told : List (Option Page)) (id rule : ℕ) → Names meta told id rule → IsWhole meta told → IsSound (file_of meta told) → ⊥
+SoundBreaksNone = (meta : Meta) (told : List (Option Page)) (id rule : ℕ) → Names meta told id rule → IsWholeFile meta told → IsSound (file_of meta told) → ⊥

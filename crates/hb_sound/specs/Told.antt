@@ -10,9 +10,9 @@ item_at list zero = None
 item_at list (suc place) = slice_get list place
 
 -- what is read under a number is what is told of it, where anything is told
-abbrev pub Gives : Option (List (Option Page)) → ℕ → Option Page → Type 0
-Gives None id page = Unit {0}
-Gives (Some told) id page = (there : Option Page) → item_at told id ≡ Some there → page ≡ there
+abbrev pub GivesPage : Option (List (Option Page)) → ℕ → Option Page → Type 0
+GivesPage None id page = Unit {0}
+GivesPage (Some told) id page = (there : Option Page) → item_at told id ≡ Some there → page ≡ there
 
 -- the pages that are there
 abbrev pub shown : List (Option Page) → List Page
@@ -29,8 +29,8 @@ abbrev pub IsHole : Meta → List (Option Page) → ℕ → Type 0
 IsHole meta told id = (1 ≤ id) × (id ≤ meta.high) × ((meta.pages < id) ⊎ (item_at told id ≡ Some None))
 
 -- no number is one
-abbrev pub IsWhole : Meta → List (Option Page) → Type 0
-IsWhole meta told = (id : ℕ) → ¬ (IsHole meta told id)
+abbrev pub IsWholeFile : Meta → List (Option Page) → Type 0
+IsWholeFile meta told = (id : ℕ) → ¬ (IsHole meta told id)
 
 -- what is told speaks of each page that the file may have
 abbrev pub CoversFile : Meta → List (Option Page) → Type 0

@@ -19,9 +19,9 @@ abbrev pub next_free : FileState → ℕ → Option ℕ
 next_free s id = if_free (page_of s id)
 
 -- from the head on each number of the chain is that of a free page and leads to the next; the last leads to the end
-abbrev pub Leads : (ℕ → Option ℕ) → ℕ → List ℕ → ℕ → Type 0
-Leads next head [] end = head ≡ end
-Leads next head (id ∷ rest) end = (head ≡ id) × (following : ℕ) × (next id ≡ Some following) × Leads next following rest end
+abbrev pub LeadsAlong : (ℕ → Option ℕ) → ℕ → List ℕ → ℕ → Type 0
+LeadsAlong next head [] end = head ≡ end
+LeadsAlong next head (id ∷ rest) end = (head ≡ id) × (following : ℕ) × (next id ≡ Some following) × LeadsAlong next following rest end
 
 -- no number stands in the list twice
 abbrev pub IsOnce : List ℕ → Type 0
@@ -30,8 +30,8 @@ IsOnce (id ∷ rest) = (¬ (Contains rest id)) × IsOnce rest
 
 -- The walk goes on up to the first number that is 0, stands in the chain already, or isn't that of a free page. No
 -- page has the number 0.
-pub record IsWalk (next : ℕ → Option ℕ) (head : ℕ) (chain : List ℕ) (end : ℕ) : Type 0 where
-  pub leads : Leads next head chain end
+pub record IsChainWalk (next : ℕ → Option ℕ) (head : ℕ) (chain : List ℕ) (end : ℕ) : Type 0 where
+  pub leads : LeadsAlong next head chain end
   pub once : IsOnce chain
   pub ended : Contains chain end ⊎ (next end ≡ None)
 

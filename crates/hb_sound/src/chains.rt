@@ -3,7 +3,7 @@ ghost use Rattle.std.specs.Prelude.{◌≡◌, ◌<◌, ◌≤◌, ◌^◌, ◌�
 ghost use Rattle.hb_sound.specs.Chains.{IsChained, IsFreeBreak, IsFreeFact, live_fact, live_facts};
 ghost use Rattle.hb_sound.specs.Facts.{next_at};
 ghost use Rattle.hb_sound.specs.Told.{item_at};
-ghost use Rattle.hb_sound.specs.Walks.{IsLeast, IsLeftOut, IsWalk};
+ghost use Rattle.hb_sound.specs.Walks.{IsLeast, IsLeftOut, IsChainWalk};
 
 use crate::facts::{Fact, next_in};
 use hb_ops::Meta;
@@ -29,7 +29,7 @@ fn walk(facts: &[Fact], head: u32, chained: &mut [bool]) -> u32
     requires same { length chained.old ≡ length facts.now }
     requires fresh { All (λ b. b ≡ false) chained.old }
     ensures same { length chained.new ≡ length facts.now }
-    ensures walked { (chain : List ℕ) × IsWalk (next_at facts.now) head chain result × IsChained chain chained.new }
+    ensures walked { (chain : List ℕ) × IsChainWalk (next_at facts.now) head chain result × IsChained chain chained.new }
 {
     let mut id = head;
     while let Some(next) = step_from(facts, chained, id) {

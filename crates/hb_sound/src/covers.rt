@@ -1,7 +1,7 @@
 //! Rule 9: one page of the whole space on each level, and one sibling leaf for each other page.
 ghost use Rattle.std.specs.Prelude.{◌≡◌, ◌<◌, ◌≤◌, ◌^◌, ◌↔◌, ℕ, List, Some, length, slice_get, IfOk, IsTrue, MatchOption};
 ghost use Rattle.hb_space.specs.declared.form.TheConstants.{KMAX};
-ghost use Rattle.hb_sound.specs.Covers.{AreBelow, AreFirsts, HasBox, IsCoverBreak, IsLooseFact, IsLooseSeen, LacksLevel, Sees, SeesLoose};
+ghost use Rattle.hb_sound.specs.Covers.{AreBelow, AreFirsts, HasBox, IsCoverBreak, IsLooseFact, IsLooseSeen, LacksLevel, SeesSome, SeesLoose};
 ghost use Rattle.hb_sound.specs.declared.facts.Fact.{Fact as FactSeen};
 ghost use Rattle.hb_sound.specs.Facts.{seen_at};
 ghost use Rattle.hb_sound.specs.Told.{item_at};
@@ -26,8 +26,8 @@ fn is_same(fact: &Fact, level: u8, area: &Area) -> bool
 /// The first page in use of this level with this box.
 fn first_same(facts: &[Fact], level: u8, area: &Area) -> Option<u32>
     requires few { length facts.now < 2 ^ 32 }
-    ensures { MatchOption result ((id : ℕ) → ¬ (Sees (HasBox level area.now) facts.now id))
-        (IsLeast (Sees (HasBox level area.now) facts.now)) }
+    ensures { MatchOption result ((id : ℕ) → ¬ (SeesSome (HasBox level area.now) facts.now id))
+        (IsLeast (SeesSome (HasBox level area.now) facts.now)) }
 {
     for (place, fact) in facts.iter().enumerate() {
         if is_same(fact, level, area) {

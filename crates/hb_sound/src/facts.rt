@@ -8,7 +8,7 @@ ghost use Rattle.hb_page_codec.specs.Weight.{IsLight};
 ghost use Rattle.hb_ops.specs.Files.{page_records};
 ghost use Rattle.hb_sound.specs.Facts.{AreFactsOf, IsFactOf, IsLightFact, IsOwnRule, IsSeenOf, next_at, seen_at};
 ghost use Rattle.hb_sound.specs.Stops.{OnBroken};
-ghost use Rattle.hb_sound.specs.Told.{CoversFile, IsHole, IsWhole, file_of, item_at};
+ghost use Rattle.hb_sound.specs.Told.{CoversFile, IsHole, IsWholeFile, file_of, item_at};
 ghost use Rattle.hb_sound.specs.Walks.{IsLeast};
 ghost use Rattle.hb_sound.specs.declared.pages.AuditStop.TheVariants.{Failed};
 
@@ -150,7 +150,7 @@ pub(crate) fn read_facts<P: Pages>(
     pages: &mut P,
 ) -> Result<Vec<Fact>, AuditStop>
     requires covered { IfSome (P.told pages.old) (CoversFile meta.now) }
-    ensures facts { IfOk result (λ facts. IfSome (P.told pages.old) (λ told. IsWhole meta.now told × AreFactsOf meta.now facts.items (file_of meta.now told).pages)) }
+    ensures facts { IfOk result (λ facts. IfSome (P.told pages.old) (λ told. IsWholeFile meta.now told × AreFactsOf meta.now facts.items (file_of meta.now told).pages)) }
     ensures light { IfOk result (λ facts. All IsLightFact facts.items) }
     ensures count { IfOk result (λ facts. (vec_len facts ≡ meta.now.high) × (meta.now.high ≤ meta.now.pages)) }
     ensures hole { IfErr result (OnBroken (λ page rule. IfSome (P.told pages.old) (λ told. (rule ≡ 0) × IsLeast (IsHole meta.now told) page))) }

@@ -3,7 +3,7 @@ ghost use Rattle.std.specs.Prelude.{◌≡◌, ◌≤◌, ℕ, List, Option, IfO
 ghost use Rattle.hb_frag.specs.declared.pages.Page.{Page as Content};
 ghost use Rattle.hb_outside.specs.Streams.{Rose};
 ghost use Rattle.hb_page_codec.specs.Weight.{IsLight};
-ghost use Rattle.hb_sound.specs.Told.{Gives};
+ghost use Rattle.hb_sound.specs.Told.{GivesPage};
 ghost use Rattle.hb_sound.specs.declared.pages.PageStop.TheVariants.{Failed};
 
 use hb_frag::Page;
@@ -30,7 +30,7 @@ pub trait Pages {
 
     /// The page of this number. `None` says that the bytes in its place are no page.
     fn page(&mut self, id: u32) -> Result<Option<Page>, PageStop>
-        ensures gives { IfOk result (λ page. Gives (told self.old) id page) }
+        ensures gives { IfOk result (λ page. GivesPage (told self.old) id page) }
         ensures light { IfOk result (λ page. IfSome page IsLight) }
         ensures stays { told self.new ≡ told self.old }
         ensures cause { IsErrOf result Failed → Rose (faults self.old) (faults self.new) }
