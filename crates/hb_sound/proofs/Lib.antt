@@ -34,3 +34,23 @@ pub mod FileGrown
 pub mod GrowthSound
 pub mod GrowthKept
 pub mod GrowthSteps
+mod NoneBroken
+mod Marked
+mod LeftOut
+mod Levels
+mod Firsts
+mod PartTests
+mod LeafBoxes
+mod Counts
+mod ToldPages
+mod ReadUp
+mod Bridge
+mod LinkSteps
+mod ChainBridge
+mod LocalBridge
+mod SixRules
+mod Loose
+mod LeafBridge
+mod CoverBridge
+mod LateRules
+mod WholeAudit

@@ -8,3 +8,14 @@ pub mod TowerFile
 pub mod Splitting
 pub mod Extractions
 pub mod Growing
+pub mod Told
+pub mod Walks
+pub mod Broken
+pub mod Names
+pub mod Marks
+pub mod Stops
+pub mod Facts
+pub mod Chains
+pub mod Links
+pub mod Covers
+pub mod Tests

@@ -1,0 +1,69 @@
+-- The free pages that the chain leaves out.
+use Rattle.std.proofs.Common.{◌≡◌, inl, inr, ℕ, ◌+◌, ◌<◌, ◌≤◌, Bool, true, false, List, length, Option, Some, None, MatchOption, get_or, refl, sym, ap, ◌∙◌, arith}
+use Rattle.std.proofs.lemmas.Option.{slice_get-get_or, slice_get_read}
+use Rattle.hb_sound.specs.declared.facts.Fact.{Fact}
+use Rattle.hb_sound.specs.declared.facts.Fact.TheVariants.{Live, Free}
+use Rattle.hb_ops.specs.declared.meta.Meta.{Meta}
+use Rattle.hb_sound.specs.Chains.{IsChained, IsFreeBreak, IsFreeFact, live_facts}
+use Rattle.hb_sound.specs.Facts.{if_next, next_at}
+use Rattle.hb_sound.specs.Links.{IsFirstUpTo}
+use Rattle.hb_sound.specs.Told.{item_at}
+use Rattle.hb_sound.specs.Walks.{IsLeast, IsLeftOut, IsChainWalk}
+use Rattle.hb_sound.proofs.Firsts.{found, item_behind, item_within, not_yet}
+
+free_next : (fact : Fact) → IsFreeFact fact → (n : ℕ) × (if_next (Some fact) ≡ Some n)
+free_next (Live seen) free = absurd free
+free_next (Free next) free = (next, refl)
+
+next_free : (fact : Fact) (n : ℕ) → if_next (Some fact) ≡ Some n → IsFreeFact fact
+next_free (Live seen) n e = let never : None ≡ Some n = e in cc
+next_free (Free next) n e = tt
+
+has_fact : (o : Option Fact) (n : ℕ) → if_next o ≡ Some n → (fact : Fact) × (o ≡ Some fact)
+has_fact None n e = let never : None ≡ Some n = e in cc
+has_fact (Some fact) n e = (fact, refl)
+
+by_mark : (b : Bool) → ¬ (b ≡ false) → b ≡ true
+by_mark true off = refl
+by_mark false off = absurd (off refl)
+
+module _ (facts : List Fact) (marks : List Bool) (chain : List ℕ) (place : ℕ) (fact : Fact) (d : Bool)
+    (within : place < length facts) (is : fact ≡ get_or facts place fact) (same : length marks ≡ length facts) (chained : IsChained chain marks) where
+  here : item_at facts (place + 1) ≡ Some fact
+  here = item_behind facts place ∙ slice_get_read facts (length facts) place fact refl within is
+
+  mark : item_at marks (place + 1) ≡ Some (get_or marks place d)
+  mark = item_behind marks place ∙ slice_get-get_or marks place d (omega (arith, within, same))
+
+  left_here : IsFreeFact fact × (get_or marks place d ≡ false) → IsLeftOut (next_at facts) chain (place + 1)
+  left_here free =
+      let next = free_next fact free.0 in
+      ((next.0, ap if_next here ∙ next.1), λ h. absurd (let on = (chained (place + 1)).0 h in let never : Some true ≡ Some false = sym on ∙ mark ∙ ap (λ (b : Bool). Some b) free.1 in cc))
+
+  left_there : IsLeftOut (next_at facts) chain (place + 1) → IsFreeFact fact
+  left_there out = next_free fact out.0.0 (sym (ap if_next here) ∙ out.0.1)
+
+  unmarked_there : IsLeftOut (next_at facts) chain (place + 1) → (get_or marks place d ≡ false → ⊥) → ⊥
+  unmarked_there out on = out.1 ((chained (place + 1)).1 (mark ∙ ap (λ (b : Bool). Some b) (by_mark (get_or marks place d) on)))
+
+  pub left_found : IsFirstUpTo (IsLeftOut (next_at facts) chain) place None → IsFreeFact fact × (get_or marks place d ≡ false) → IsLeast (IsLeftOut (next_at facts) chain) (place + 1)
+  left_found none free = found (IsLeftOut (next_at facts) chain) place none (left_here free)
+
+  pub left_not_yet : IsFirstUpTo (IsLeftOut (next_at facts) chain) place None → ¬ (IsFreeFact fact × (get_or marks place d ≡ false))
+      → IsFirstUpTo (IsLeftOut (next_at facts) chain) (place + 1) None
+  left_not_yet none not_free = not_yet (IsLeftOut (next_at facts) chain) place none (λ out. unmarked_there out (λ off. not_free (left_there out, off)))
+
+pub none_left_out : (facts : List Fact) (chain : List ℕ) (n : ℕ) → length facts ≤ n → IsFirstUpTo (IsLeftOut (next_at facts) chain) n None → (id : ℕ) → ¬ (IsLeftOut (next_at facts) chain id)
+none_left_out facts chain n all none id out =
+    let fact = has_fact (item_at facts id) out.0.0 out.0.1 in
+    let within = item_within facts id fact.0 fact.1 in
+    none id (omega (arith, within, all)) out
+
+-- rule 2, by where the chain ends
+pub ended : (meta : Meta) (facts : List Fact) (chain : List ℕ) (end : ℕ) (o : Option ℕ) → IsChainWalk (next_at facts) meta.free chain end → ((id : ℕ) → ¬ (IsLeftOut (next_at facts) chain id))
+    → MatchOption o ((end ≡ 0) × (meta.live ≡ live_facts facts)) (λ id. (id ≡ end) × (((end ≡ 0) × (meta.live ≡ live_facts facts)) → ⊥)) → IsFreeBreak meta facts o
+ended meta facts chain end None walk none is = (chain, end, walk, record { ends = is.0; all = none; live = is.1 })
+ended meta facts chain end (Some id) walk none is = (chain, end, walk, ((λ keeps. is.1 (keeps.ends, keeps.live)), inr (is.0, none)))
+
+pub left_one : (meta : Meta) (facts : List Fact) (chain : List ℕ) (end id : ℕ) → IsChainWalk (next_at facts) meta.free chain end → IsLeast (IsLeftOut (next_at facts) chain) id → IsFreeBreak meta facts (Some id)
+left_one meta facts chain end id walk least = (chain, end, walk, ((λ keeps. keeps.all id least.here), inl least))

@@ -1,0 +1,64 @@
+-- The first page of the whole space of each level.
+use Rattle.std.proofs.Common.{◌≡◌, ◌≢◌, ◌⊎◌, inl, inr, ℕ, zero, suc, ◌+◌, ◌==◌, true, not, List, [], ◌∷◌, ◌++◌, length, Option, Some, None, slice_get, refl, sym, ap, ◌∙◌, subst, arith}
+use Rattle.std.proofs.lemmas.Bool.{eq-eqb, false≢true, ne_eqb}
+use Rattle.hb_space.specs.Boxes.{Area}
+use Rattle.hb_sound.specs.declared.facts.Seen.{Seen}
+use Rattle.hb_sound.specs.declared.facts.Fact.{Fact}
+use Rattle.hb_sound.specs.declared.facts.Fact.TheVariants.{Live, Free}
+use Rattle.hb_sound.specs.declared.names.Times.{Times}
+use Rattle.hb_sound.specs.Covers.{AreFirsts, HasBox, IsLooseSeen, SeesSome}
+use Rattle.hb_sound.specs.Facts.{if_seen, seen_at}
+use Rattle.hb_sound.specs.Told.{item_at}
+use Rattle.hb_sound.specs.Walks.{IsLeast}
+
+-- an item of a list with one more at the end
+at_end : (xs : List ℕ) (x : ℕ) (n y : ℕ) → slice_get (xs ++ x ∷ []) n ≡ Some y → (slice_get xs n ≡ Some y) ⊎ ((n ≡ length xs) × (y ≡ x))
+at_end [] x zero y e = inr (refl, cc)
+at_end [] x (suc n) y e = absurd (let never : None ≡ Some y = e in cc)
+at_end (z ∷ xs) x zero y e = inl e
+at_end (z ∷ xs) x (suc n) y e = elim (at_end xs x n y e) [ inl before ↦ inl before | inr last ↦ inr (ap suc last.0, last.1) ]
+
+long_end : (xs : List ℕ) (x : ℕ) → length (xs ++ x ∷ []) ≡ length xs + 1
+long_end [] x = refl
+long_end (z ∷ xs) x = let rest = long_end xs x in omega (arith, rest)
+
+pub firsts_on : (facts : List Fact) (level : ℕ) (whole : Area) (firsts : List ℕ) (first : ℕ) → AreFirsts facts level whole firsts
+    → IsLeast (SeesSome (HasBox level whole) facts) first → AreFirsts facts (level + 1) whole (firsts ++ first ∷ [])
+firsts_on facts level whole firsts first are is = (
+  long_end firsts first ∙ ap (λ (n : ℕ). n + 1) are.0,
+  λ at item e. elim (at_end firsts first at item e) [
+    | inl before ↦ are.1 at item before
+    | inr last ↦
+        let Q : ℕ → Type 0 = λ n. IsLeast (SeesSome (HasBox n whole) facts) item in
+        let P : ℕ → Type 0 = λ n. IsLeast (SeesSome (HasBox level whole) facts) n in
+        subst Q (sym (last.0 ∙ are.0)) (subst P (sym last.1) is)
+  ],
+)
+
+pub seen_fact : (o : Option Fact) (seen : Seen) → if_seen o ≡ Some seen → o ≡ Some (Live seen)
+seen_fact None seen e = let never : None ≡ Some seen = e in cc
+seen_fact (Some (Live own)) seen e = let is : own ≡ seen = cc in ap (λ (x : Seen). Some (Live x)) is
+seen_fact (Some (Free next)) seen e = let never : None ≡ Some seen = e in cc
+
+-- of the whole space: loose exactly where it isn't the first of its level
+module _ (facts : List Fact) (whole : Area) (firsts : List ℕ) (id first : ℕ) (seen : Seen) (times : Times)
+    (are : AreFirsts facts (length firsts) whole firsts) (there : slice_get firsts seen.level ≡ Some first) (at : seen_at facts id ≡ Some seen) (boxed : seen.area ≡ whole) where
+  least : IsLeast (SeesSome (HasBox seen.level whole) facts) first
+  least = are.1 seen.level first there
+
+  pub not_first_is_loose : first ≢ id → IsLooseSeen facts whole id seen times
+  not_first_is_loose other =
+      let here : SeesSome (HasBox seen.level whole) facts id = (Live seen, seen_fact (item_at facts id) seen at, (refl, boxed)) in
+      let le = least.least id here in
+      inl (boxed, first, omega (arith, le, other), least.here)
+
+  pub loose_is_not_first : IsLooseSeen facts whole id seen times → first ≢ id
+  loose_is_not_first (inl beside) e = let le = least.least beside.1 beside.3 in let lt = beside.2 in absurd (omega (arith, le, lt, e))
+  loose_is_not_first (inr less) e = less.0 boxed
+
+-- a test of two numbers
+pub apart : (a b : ℕ) → not (a == b) ≡ true → a ≢ b
+apart a b t e = false≢true (sym (ap not (eq-eqb a b e)) ∙ t)
+
+pub tells_apart : (a b : ℕ) → a ≢ b → not (a == b) ≡ true
+tells_apart a b other = ap not (ne_eqb a b other)

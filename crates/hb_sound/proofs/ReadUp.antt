@@ -1,0 +1,116 @@
+-- Reading the pages one by one, where they are told.
+use Rattle.std.proofs.Common.{◌≡◌, ◌⊎◌, inl, inr, ℕ, zero, suc, ◌+◌, ◌<◌, ◌≤◌, List, [], ◌∷◌, ◌++◌, length, take, Option, Some, None, IfSome, slice_get, refl, sym, ap, ◌∙◌, subst, arith}
+use Rattle.std.proofs.lemmas.Bool.{cases_lt}
+use Rattle.hb_frag.specs.declared.pages.Page.{Page}
+use Rattle.hb_ops.specs.declared.meta.Meta.{Meta}
+use Rattle.hb_sound.specs.declared.facts.Fact.{Fact}
+use Rattle.hb_sound.specs.Facts.{AreFactsOf, IsFactOf}
+use Rattle.hb_sound.specs.Told.{CoversFile, IsHole, IsWholeFile, file_of, item_at, shown}
+use Rattle.hb_sound.specs.Walks.{IsLeast}
+use Rattle.hb_sound.proofs.Firsts.{item_behind}
+use Rattle.hb_sound.proofs.ToldPages.{slice_get_inside}
+
+-- no hole so far, and these are the facts of the pages so far
+pub record IsReadTo (meta : Meta) (told : List (Option Page)) (n : ℕ) (facts : List Fact) : Type 0 where
+  pub whole : (id : ℕ) → id ≤ n → ¬ (IsHole meta told id)
+  pub facts_are : AreFactsOf meta facts (shown (take n told))
+
+pub take_more : {A : Type 0} (xs : List A) (n : ℕ) (x : A) → slice_get xs n ≡ Some x → take (n + 1) xs ≡ take n xs ++ x ∷ []
+take_more {A} [] n x e = let never : None ≡ Some x = e in cc
+take_more {A} (y ∷ xs) zero x e = let is : y ≡ x = cc in ap (λ (z : A). z ∷ []) is
+take_more {A} (y ∷ xs) (suc n) x e =
+    let one : suc n + 1 ≡ suc (n + 1) = omega arith in
+    ap (λ (m : ℕ). take m (y ∷ xs)) one ∙ ap (λ (l : List A). y ∷ l) (take_more xs n x e)
+
+shown_more : (xs : List (Option Page)) (page : Page) → shown (xs ++ Some page ∷ []) ≡ shown xs ++ page ∷ []
+shown_more [] page = refl
+shown_more (None ∷ xs) page = shown_more xs page
+shown_more (Some first ∷ xs) page = ap (λ (l : List Page). first ∷ l) (shown_more xs page)
+
+facts_more : (meta : Meta) (facts : List Fact) (pages : List Page) (fact : Fact) (page : Page) → AreFactsOf meta facts pages → IsFactOf meta fact page
+    → AreFactsOf meta (facts ++ fact ∷ []) (pages ++ page ∷ [])
+facts_more meta [] [] fact page are is = (is, tt)
+facts_more meta [] (other ∷ pages) fact page are is = absurd are
+facts_more meta (own ∷ facts) [] fact page are is = absurd are
+facts_more meta (own ∷ facts) (other ∷ pages) fact page are is = (are.0, facts_more meta facts pages fact page are.1 is)
+
+-- nothing is read yet
+pub read_none : (meta : Meta) (told : List (Option Page)) → IsReadTo meta told 0 []
+read_none meta told = record {
+  whole = λ id le hole. let some = hole.0 in absurd (omega (arith, le, some));
+  facts_are = tt;
+}
+
+-- one more page is there
+pub read_more : (meta : Meta) (told : List (Option Page)) (n : ℕ) (facts : List Fact) (fact : Fact) → CoversFile meta told → IsReadTo meta told n facts → n + 1 ≤ meta.pages
+    → ((page : Page) → item_at told (n + 1) ≡ Some (Some page) → IsFactOf meta fact page) → (item_at told (n + 1) ≡ Some None → ⊥)
+    → IsReadTo meta told (n + 1) (facts ++ fact ∷ [])
+read_more meta told n facts fact covers read within is there =
+    let found = slice_get_inside told n (omega (arith, covers, within)) in
+    let at : item_at told (n + 1) ≡ Some found.0 = item_behind told n ∙ found.1 in
+    let page = some_page found.0 (λ e. there (at ∙ ap (λ (o : Option Page). Some o) e)) in
+    let here : slice_get told n ≡ Some (Some page.0) = found.1 ∙ ap (λ (o : Option Page). Some o) page.1 in
+    let fact_is = is page.0 (item_behind told n ∙ here) in
+    let Q : List Page → Type 0 = λ l. AreFactsOf meta (facts ++ fact ∷ []) l in
+    record {
+      whole = λ id le hole. elim (cases_lt n id) [
+        | inl lt ↦
+            let e : id ≡ n + 1 = omega (arith, lt, le) in
+            let Q : ℕ → Type 0 = λ m. IsHole meta told m in
+            absurd (not_hole (subst Q e hole))
+        | inr before ↦ read.whole id before hole
+      ];
+      facts_are = subst Q (sym (ap shown (take_more told n (Some page.0) here) ∙ shown_more (take n told) page.0))
+          (facts_more meta facts (shown (take n told)) fact page.0 read.facts_are fact_is);
+    }
+  where
+    some_page : (o : Option Page) → (o ≡ None → ⊥) → (page : Page) × (o ≡ Some page)
+    some_page None none = absurd (none refl)
+    some_page (Some page) none = (page, refl)
+
+    not_hole : IsHole meta told (n + 1) → ⊥
+    not_hole hole = elim hole.2 [ inl beyond ↦ omega (arith, beyond, within) | inr none ↦ there none ]
+
+-- all pages are read
+pub read_whole : (meta : Meta) (told : List (Option Page)) (n : ℕ) (facts : List Fact) → n ≡ meta.high → IsReadTo meta told n facts → IsWholeFile meta told × AreFactsOf meta facts (file_of meta told).pages
+read_whole meta told n facts all read = (
+  λ id hole. let few = hole.1 in read.whole id (omega (arith, few, all)) hole,
+  (let Q : ℕ → Type 0 = λ m. AreFactsOf meta facts (shown (take m told)) in subst Q all read.facts_are),
+)
+
+-- the first hole
+pub first_hole : (meta : Meta) (told : List (Option Page)) (n : ℕ) (facts : List Fact) → CoversFile meta told → IsReadTo meta told n facts → n + 1 ≤ meta.high
+    → (meta.pages < n + 1) ⊎ (n + 1 ≤ length told → item_at told (n + 1) ≡ Some None) → IsLeast (IsHole meta told) (n + 1)
+first_hole meta told n facts covers read within broken = record {
+  here = (omega arith, within, is_hole broken);
+  least = λ m hole. elim (cases_lt n m) [ inl lt ↦ omega (arith, lt) | inr before ↦ absurd (read.whole m before hole) ];
+}
+  where
+    is_hole : (meta.pages < n + 1) ⊎ (n + 1 ≤ length told → item_at told (n + 1) ≡ Some None) → (meta.pages < n + 1) ⊎ (item_at told (n + 1) ≡ Some None)
+    is_hole (inl beyond) = inl beyond
+    is_hole (inr none) = elim (cases_lt meta.pages (n + 1)) [ inl beyond ↦ inl beyond | inr at_most ↦ inr (none (omega (arith, covers, at_most))) ]
+
+-- the same where nothing may be told
+pub if_none : (o : Option (List (Option Page))) (meta : Meta) → IfSome o (λ told. IsReadTo meta told 0 [])
+if_none None meta = tt
+if_none (Some told) meta = read_none meta told
+
+pub if_more : (o : Option (List (Option Page))) (meta : Meta) (n : ℕ) (facts : List Fact) (fact : Fact) → IfSome o (CoversFile meta) → IfSome o (λ told. IsReadTo meta told n facts) → n + 1 ≤ meta.pages
+    → IfSome o (λ told. (page : Page) → item_at told (n + 1) ≡ Some (Some page) → IsFactOf meta fact page) → IfSome o (λ told. item_at told (n + 1) ≡ Some None → ⊥)
+    → IfSome o (λ told. IsReadTo meta told (n + 1) (facts ++ fact ∷ []))
+if_more None meta n facts fact covers read within is there = tt
+if_more (Some told) meta n facts fact covers read within is there = read_more meta told n facts fact covers read within is there
+
+pub if_whole : (o : Option (List (Option Page))) (meta : Meta) (n : ℕ) (facts : List Fact) → n ≡ meta.high → IfSome o (λ told. IsReadTo meta told n facts)
+    → IfSome o (λ told. IsWholeFile meta told × AreFactsOf meta facts (file_of meta told).pages)
+if_whole None meta n facts all read = tt
+if_whole (Some told) meta n facts all read = read_whole meta told n facts all read
+
+pub if_hole : (o : Option (List (Option Page))) (meta : Meta) (n : ℕ) (facts : List Fact) → IfSome o (CoversFile meta) → IfSome o (λ told. IsReadTo meta told n facts) → n + 1 ≤ meta.high
+    → IfSome o (λ told. (meta.pages < n + 1) ⊎ (n + 1 ≤ length told → item_at told (n + 1) ≡ Some None)) → IfSome o (λ told. IsLeast (IsHole meta told) (n + 1))
+if_hole None meta n facts covers read within broken = tt
+if_hole (Some told) meta n facts covers read within broken = first_hole meta told n facts covers read within broken
+
+pub long_more : {A : Type 0} (xs : List A) (x : A) → length (xs ++ x ∷ []) ≡ length xs + 1
+long_more {A} [] x = refl
+long_more {A} (y ∷ xs) x = let rest = long_more xs x in omega (arith, rest)

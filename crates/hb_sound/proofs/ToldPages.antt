@@ -1,0 +1,37 @@
+-- What is read of a page, where it is told.
+use Rattle.std.proofs.Common.{◌≡◌, ◌⊎◌, inr, ℕ, zero, suc, ◌<◌, ◌≤◌, List, [], ◌∷◌, length, slice_get, Option, Some, None, IfSome, refl, sym, ap, ◌∙◌, subst, arith}
+use Rattle.hb_frag.specs.declared.pages.Page.{Page}
+use Rattle.hb_ops.specs.declared.meta.Meta.{Meta}
+use Rattle.hb_sound.specs.declared.facts.Fact.{Fact}
+use Rattle.hb_sound.specs.Facts.{IsFactOf}
+use Rattle.hb_sound.specs.Told.{GivesPage, item_at}
+
+pub told_fact : (o : Option (List (Option Page))) (id : ℕ) (meta : Meta) (fact : Fact) (page : Page) → GivesPage o id (Some page) → IsFactOf meta fact page
+    → IfSome o (λ told. (p : Page) → item_at told id ≡ Some (Some p) → IsFactOf meta fact p)
+told_fact None id meta fact page gives is = tt
+told_fact (Some told) id meta fact page gives is = λ p e.
+    let same : Some page ≡ Some p = gives (Some p) e in
+    let it : page ≡ p = cc in
+    let Q : Page → Type 0 = λ x. IsFactOf meta fact x in
+    subst Q it is
+
+pub told_there : (o : Option (List (Option Page))) (id : ℕ) (page : Page) → GivesPage o id (Some page) → IfSome o (λ told. item_at told id ≡ Some None → ⊥)
+told_there None id page gives = tt
+told_there (Some told) id page gives = λ e. let same : Some page ≡ None = gives None e in cc
+
+pub slice_get_inside : {A : Type 0} (xs : List A) (n : ℕ) → n < length xs → (x : A) × (slice_get xs n ≡ Some x)
+slice_get_inside {A} [] n lt = absurd (omega (arith, lt))
+slice_get_inside {A} (x ∷ xs) zero lt = (x, refl)
+slice_get_inside {A} (x ∷ xs) (suc n) lt = slice_get_inside xs n (omega (arith, lt))
+
+pub told_hole : (o : Option (List (Option Page))) (id pages : ℕ) → 1 ≤ id → GivesPage o id None
+    → IfSome o (λ told. (pages < id) ⊎ (id ≤ length told → item_at told id ≡ Some None))
+told_hole None id pages some gives = tt
+told_hole (Some told) id pages some gives = inr (λ within. there told id some within gives)
+  where
+    there : (told : List (Option Page)) (id : ℕ) → 1 ≤ id → id ≤ length told → GivesPage (Some told) id None → item_at told id ≡ Some None
+    there told zero some within gives = absurd (omega (arith, some))
+    there told (suc place) some within gives =
+        let is = slice_get_inside told place (omega (arith, within)) in
+        let e : None ≡ is.0 = gives is.0 is.1 in
+        is.1 ∙ ap (λ (x : Option Page). Some x) (sym e)

@@ -1,0 +1,28 @@
+use Rattle.std.proofs.Common.{◌≡◌, ◌+◌, List, Option, Some, IfSome, ◌∙◌, subst}
+use Rattle.std.proofs.lemmas.Result.{err_from_is_err_and}
+use Rattle.hb_frag.specs.declared.pages.Page.{Page}
+use Rattle.hb_sound.specs.Links.{AddsPage, AreRead, IsCut}
+use Rattle.hb_sound.specs.Told.{item_at}
+use Rattle.hb_sound.proofs.LinkSteps.{links_more, never_broken, on_broken}
+use Rattle.hb_sound.proofs.links.read_links.Goals as goal
+
+pub returns-in_err-read-clause-never : goal.returns-in_err-read-clause-never
+returns-in_err-read-clause-never g c =
+    let p = err_from_is_err_and c.from_residual-in_err-read.result c.from_residual-in_err-read.ensures.1 in
+    let N : Option (List (Option Page)) → Type 0 = λ o. IfSome o (λ told. (page : Page) → item_at told (c.loop-place.place + 1) ≡ Some (Some page) → IsCut page → ⊥) in
+    rw (p.1, p.2)
+    (on_broken (N (g.P.Pages.told c.loop-place.pages)) (IfSome (g.P.Pages.told c.args.pages.now) (λ told. (list : List Page) → AreRead told c.args.facts.now list → ⊥)) c.in_err-read.field-0.0
+    (λ never. never_broken (g.P.Pages.told c.args.pages.now) c.args.facts.now c.loop-place.place c.loop-place-test.true (subst N c.loop-place.invariant.told never)) c.in_err-read.ensures.never)
+
+pub loop-place-preserved : goal.loop-place-preserved
+loop-place-preserved g c =
+    let kept = c.loop-place.invariant in
+    let read = c.in_ok-read.ensures in
+    let A : Option (List (Option Page)) → Type 0 = λ o. IfSome o (λ told. (page : Page) → item_at told (c.loop-place.place + 1) ≡ Some (Some page)
+    → AddsPage c.args.facts.now (c.loop-place.place + 1) page c.loop-place.links c.read.new.self) in
+    record {
+      told = c.read.ensures.stays ∙ kept.told;
+      faults = read.no_fault (λ e. cc) ∙ kept.faults;
+      same = c.read.ensures.same ∙ kept.same;
+      links = links_more (g.P.Pages.told c.args.pages.now) c.args.facts.now c.loop-place.place c.loop-place.links c.read.new.self c.loop-place-test.true kept.links (subst A kept.told read.adds);
+    }

@@ -1,0 +1,78 @@
+-- What the leaves of the pages name, by the facts of the pages.
+use Rattle.std.specs.Prelude.{◌≡◌, ◌⊎◌, ℕ, ◌≤◌, List, length, All, take, option_map, Option, Some, None}
+use Rattle.hb_frag.specs.declared.pages.LivePage.{LivePage}
+use Rattle.hb_frag.specs.declared.pages.Page.{Page}
+use Rattle.hb_frag.specs.declared.pages.Page.TheVariants as pages
+use Rattle.hb_frag.specs.Leaves.{WellCut, leaves, leaves_of}
+use Rattle.hb_ops.specs.Files.{page_at, if_live}
+use Rattle.hb_ops.specs.Sound.{times_named}
+use Rattle.hb_sound.specs.declared.facts.Fact.{Fact}
+use Rattle.hb_sound.specs.declared.links.Links.{Links}
+use Rattle.hb_sound.specs.declared.names.Times.{Times}
+use Rattle.hb_sound.specs.declared.names.Times.TheVariants.{Never}
+use Rattle.hb_sound.specs.Facts.{FindsBelow, FindsSame, more, names_in}
+use Rattle.hb_sound.specs.Told.{item_at}
+use Rattle.hb_sound.specs.Walks.{IsLeast}
+
+-- these pages are told
+abbrev pub Tells : List (Option Page) → List Page → Type 0
+Tells told list = (id : ℕ) (page : Page) → page_at list id ≡ Some page → item_at told id ≡ Some (Some page)
+
+-- the cuts of a page in use cut
+abbrev pub IsCut : Page → Type 0
+IsCut (pages.Live page) = WellCut page
+IsCut (pages.Free next) = Unit {0}
+
+-- the first number up to n of which something holds, and then the least of all
+abbrev pub IsFirstUpTo : (ℕ → Type 0) → ℕ → Option ℕ → Type 0
+IsFirstUpTo p n None = (id : ℕ) → id ≤ n → ¬ (p id)
+IsFirstUpTo p n (Some id) = IsLeast p id
+
+-- the one before, where there is one
+abbrev pub or_else : Option ℕ → ℕ → Option ℕ
+or_else None id = Some id
+or_else (Some first) id = Some first
+
+-- the first bad one after one more, which is good or bad
+abbrev pub IsNext : Type 0 → ℕ → Option ℕ → Option ℕ → Type 0
+IsNext good id first after = (good × (after ≡ first)) ⊎ ((¬ good) × (after ≡ or_else first id))
+
+-- each sibling leaf of the page, and each child leaf, names a page that is seen as the rule wants it
+abbrev pub FindsSiblings : List Fact → LivePage → Type 0
+FindsSiblings facts page = All (FindsSame facts page.level) (leaves_of page.frag page.area)
+
+abbrev pub FindsChildren : List Fact → LivePage → Type 0
+FindsChildren facts page = All (FindsBelow facts page.level) (leaves_of page.frag page.area)
+
+-- what was counted, before and after the leaves of one page
+abbrev pub IsCountedOn : LivePage → List Times → List Times → Type 0
+IsCountedOn page old new = (id : ℕ) → item_at new id ≡ option_map (more (names_in id (leaves page.frag))) (item_at old id)
+
+-- the page of this number was added
+pub record Adds (facts : List Fact) (id : ℕ) (page : LivePage) (old new : Links) : Type 0 where
+  pub named : IsCountedOn page old.named.items new.named.items
+  pub sibling : IsNext (FindsSiblings facts page) id old.sibling new.sibling
+  pub child : IsNext (FindsChildren facts page) id old.child new.child
+
+abbrev pub AddsPage : List Fact → ℕ → Page → Links → Links → Type 0
+AddsPage facts id (pages.Live page) old new = Adds facts id page old new
+AddsPage facts id (pages.Free next) old new = new ≡ old
+
+-- the page under the number has a leaf that names no page as its rule wants it
+abbrev pub LosesSibling : List Fact → List Page → ℕ → Type 0
+LosesSibling facts list id = (page : LivePage) × (if_live (page_at list id) ≡ Some page) × (¬ (FindsSiblings facts page))
+
+abbrev pub LosesChild : List Fact → List Page → ℕ → Type 0
+LosesChild facts list id = (page : LivePage) × (if_live (page_at list id) ≡ Some page) × (¬ (FindsChildren facts page))
+
+-- what the leaves of the first n pages name
+pub record AreLinks (facts : List Fact) (list : List Page) (n : ℕ) (links : Links) : Type 0 where
+  pub named : (id : ℕ) → item_at links.named.items id ≡ option_map (λ fact. more (times_named id (take n list)) Never) (item_at facts id)
+  pub sibling : IsFirstUpTo (LosesSibling facts list) n links.sibling
+  pub child : IsFirstUpTo (LosesChild facts list) n links.child
+
+-- pages that are told, of which each cut cuts: one for each fact
+pub record AreRead (told : List (Option Page)) (facts : List Fact) (list : List Page) : Type 0 where
+  pub told_are : Tells told list
+  pub same : length list ≡ length facts
+  pub cut : (id : ℕ) (page : Page) → page_at list id ≡ Some page → IsCut page

@@ -1,0 +1,196 @@
+//! Whether a file is sound.
+ghost use Rattle.std.specs.Prelude.{◌≡◌, ◌+◌, ◌<◌, ◌≤◌, ◌^◌, ◌↔◌, ℕ, List, Some, None, All, length, vec_len, IfErr, IfOk, IfSome, IsErrOf, IsTrue, MatchOption, OnOk};
+ghost use Rattle.hb_space.specs.Boxes.{whole_area};
+ghost use Rattle.hb_frag.specs.declared.pages.Page.{Page as Content};
+ghost use Rattle.hb_outside.specs.Streams.{Rose};
+ghost use Rattle.hb_super.specs.Superblocks.{IsLayout};
+ghost use Rattle.hb_sound.specs.Covers.{HasRule, IsLeastRule, SeesRule, SeesTop};
+ghost use Rattle.hb_sound.specs.Marks.{HasMarks};
+ghost use Rattle.hb_ops.specs.Sound.{IsSound};
+ghost use Rattle.hb_sound.specs.Facts.{AreFactsOf, IsLightFact, all_records, records_seen};
+ghost use Rattle.hb_sound.specs.Links.{AreLinks};
+ghost use Rattle.hb_sound.specs.Names.{IsSoundWith, KeepsSix, Names, NamesIn, SoundBreaksNone};
+ghost use Rattle.hb_sound.specs.Tests.{file_with};
+ghost use Rattle.hb_sound.specs.Stops.{OnBroken};
+ghost use Rattle.hb_sound.specs.Told.{CoversFile};
+ghost use Rattle.hb_sound.specs.Walks.{IsLeast};
+ghost use Rattle.hb_sound.specs.declared.pages.AuditStop.TheVariants.{Broken, Failed};
+
+use crate::chains::free_break;
+use crate::covers::cover_break;
+use crate::facts::{Fact, Seen, read_facts, seen_in};
+use crate::links::{Links, read_links};
+use crate::{AuditStop, Pages};
+use hb_ops::Meta;
+use hb_space::Area;
+use std::alloc::Global;
+
+/// Whether what was seen is at the top of the file and has the whole space.
+fn is_top_page(meta: &Meta, seen: &Seen) -> bool
+    requires { IsLayout meta.now }
+    ensures { IsTrue result ↔ ((seen.now.level + 1 ≡ meta.now.height) × (seen.now.area ≡ whole_area meta.now.k)) }
+{
+    u16::from(seen.level) + 1 == u16::from(meta.height) && seen.area == Area::whole(meta.k)
+}
+
+/// Whether the root is in use at the top of the file and has the whole space.
+fn is_top(meta: &Meta, facts: &[Fact]) -> bool
+    requires { IsLayout meta.now }
+    ensures { IsTrue result ↔ SeesTop meta.now facts.now }
+{
+    match seen_in(facts, meta.root) {
+        Some(root) => is_top_page(meta, root),
+        None => false,
+    }
+}
+
+/// Rule 1, where a page is there up to the high mark.
+fn is_rooted(meta: &Meta, facts: &[Fact]) -> bool
+    requires layout { IsLayout meta.now }
+    requires count { length facts.now ≡ meta.now.high }
+    requires few { meta.now.high ≤ meta.now.pages }
+    ensures marks { IsTrue result → HasMarks meta.now }
+    ensures rooted { IsTrue result ↔ (HasMarks meta.now × SeesTop meta.now facts.now) }
+{
+    meta.high >= 1
+        && meta.root <= meta.high
+        && meta.free <= meta.high
+        && meta.live <= meta.high
+        && is_top(meta, facts)
+}
+
+/// Whether this is the first rule that the page breaks by itself.
+fn breaks(fact: &Fact, rule: u8) -> bool
+    ensures { IsTrue result ↔ HasRule rule fact.now }
+{
+    match fact {
+        Fact::Live(seen) => seen.rule == rule,
+        Fact::Free(_) => false,
+    }
+}
+
+/// The least page of which this is the first rule that it breaks by itself.
+fn first_breaking(facts: &[Fact], rule: u8) -> Option<u32>
+    requires few { length facts.now < 2 ^ 32 }
+    ensures { MatchOption result ((id : ℕ) → ¬ (SeesRule facts.now rule id)) (IsLeast (SeesRule facts.now rule)) }
+{
+    for (place, fact) in facts.iter().enumerate() {
+        if breaks(fact, rule) {
+            return Some(place as u32 + 1);
+        }
+    }
+    None
+}
+
+/// Where this page was found, the audit stops: it is named for the rule.
+fn none_for(rule: u8, page: Option<u32>) -> Result<(), AuditStop>
+    ensures ok { OnOk result (page ≡ None) }
+    ensures err { IfErr result (λ stop. (id : ℕ) × (page ≡ Some id) × (stop ≡ Broken id rule)) }
+{
+    match page {
+        Some(page) => Err(AuditStop::Broken { page, rule }),
+        None => Ok(()),
+    }
+}
+
+/// The rules 3 to 6.
+fn test_alone(facts: &[Fact]) -> Result<(), AuditStop>
+    requires few { length facts.now < 2 ^ 32 }
+    ensures ok { OnOk result ((id rule : ℕ) → 3 ≤ rule → rule ≤ 6 → ¬ (SeesRule facts.now rule id)) }
+    ensures err { IfErr result (λ stop. (id rule : ℕ) × (stop ≡ Broken id rule) × IsLeastRule facts.now id rule) }
+{
+    for rule in 3..7 {
+        if let Some(page) = first_breaking(facts, rule) {
+            return Err(AuditStop::Broken { page, rule });
+        }
+    }
+    Ok(())
+}
+
+/// The rules 1 to 6.
+fn test_pages(alloc: Global, meta: &Meta, facts: &[Fact]) -> Result<(), AuditStop>
+    requires layout { IsLayout meta.now }
+    requires count { length facts.now ≡ meta.now.high }
+    requires few { meta.now.high ≤ meta.now.pages }
+    ensures keeps { OnOk result ((list : List Content) → AreFactsOf meta.now facts.now list → KeepsSix (file_with meta.now list)) }
+    ensures names { IfErr result (OnBroken (λ page rule. (list : List Content) → AreFactsOf meta.now facts.now list → NamesIn (file_with meta.now list) page rule)) }
+    ensures marks { OnOk result (HasMarks meta.now) }
+    ensures no_fault { IsErrOf result Failed → ⊥ }
+{
+    if !is_rooted(meta, facts) {
+        return Err(AuditStop::Broken { page: 0, rule: 1 });
+    }
+    none_for(2, free_break(alloc, meta, facts)?)?;
+    test_alone(facts)
+}
+
+/// The rules 7 to 10.
+fn test_links(alloc: Global, meta: &Meta, facts: &[Fact], links: &Links) -> Result<(), AuditStop>
+    requires layout { IsLayout meta.now }
+    requires count { length facts.now ≡ meta.now.high }
+    requires few { meta.now.high ≤ meta.now.pages }
+    requires same { vec_len links.now.named ≡ length facts.now }
+    ensures sound { OnOk result ((list : List Content) → AreFactsOf meta.now facts.now list → KeepsSix (file_with meta.now list)
+        → AreLinks facts.now list (length facts.now) links.now → IsSound (file_with meta.now list)) }
+    ensures names { IfErr result (OnBroken (λ page rule. (list : List Content) → AreFactsOf meta.now facts.now list → KeepsSix (file_with meta.now list)
+        → AreLinks facts.now list (length facts.now) links.now → NamesIn (file_with meta.now list) page rule)) }
+    ensures no_fault { IsErrOf result Failed → ⊥ }
+{
+    none_for(7, links.sibling)?;
+    none_for(8, links.child)?;
+    none_for(9, cover_break(alloc, meta, facts, &links.named)?)?;
+    none_for(10, first_breaking(facts, 10))
+}
+
+/// How many records the page has.
+fn records_of(fact: &Fact) -> u64
+    ensures { result ≡ records_seen fact.now }
+{
+    match fact {
+        Fact::Live(seen) => seen.records,
+        Fact::Free(_) => 0,
+    }
+}
+
+/// How many records the pages have together.
+fn count_records(facts: &[Fact]) -> u64
+    requires few { length facts.now ≤ 65536 }
+    requires light { All IsLightFact facts.now }
+    ensures { result ≡ all_records facts.now }
+{
+    let mut records = 0;
+    for fact in facts {
+        records += records_of(fact);
+    }
+    records
+}
+
+/// Whether the file is sound: the number of its records, or the first rule that it breaks with the page that is named for
+/// it, 0 for none.
+///
+/// The rules are tested in their order, each on all pages, and those after a broken one aren't tested. Each page is asked
+/// for at most twice.
+pub fn audit<P: Pages>(alloc: Global, meta: &Meta, pages: &mut P) -> Result<u64, AuditStop>
+    requires layout { IsLayout meta.now }
+    requires covered { IfSome (P.told pages.old) (CoversFile meta.now) }
+    // where the source tells, what the answer says of the file
+    ensures sound { IfOk result (λ n. IfSome (P.told pages.old) (λ told. IsSoundWith meta.now told n)) }
+    ensures names { IfErr result (OnBroken (λ page rule. IfSome (P.told pages.old) (λ told. Names meta.now told page rule))) }
+    // what it says over every source
+    ensures marks { IfOk result (λ _. HasMarks meta.now) }
+    ensures stays { P.told pages.new ≡ P.told pages.old }
+    ensures cause { IsErrOf result Failed → Rose (P.faults pages.old) (P.faults pages.new) }
+    ensures no_fault { (IsErrOf result Failed → ⊥) → P.faults pages.new ≡ P.faults pages.old }
+    ensures later { P.faults pages.old ≤ P.faults pages.new }
+{
+    let facts = read_facts(alloc, meta, pages)?;
+    test_pages(alloc, meta, &facts)?;
+    let links = read_links(alloc, &facts, pages)?;
+    test_links(alloc, meta, &facts, &links)?;
+    Ok(count_records(&facts))
+}
+
+/// A sound file breaks no rule.
+pub fn a_sound_file_breaks_no_rule()
+    ensures { SoundBreaksNone }
+{}

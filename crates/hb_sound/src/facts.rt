@@ -1,0 +1,195 @@
+//! The few facts that the audit keeps of each page.
+ghost use Rattle.std.specs.Prelude.{◌≡◌, ◌<◌, ◌≤◌, ◌^◌, ◌⊎◌, ◌++◌, [], ◌∷◌, Some, None, All, length, flat_map, option_map, vec_len, IfErr, IfOk, IfSome, IsErrOf, OnOk};
+ghost use Rattle.hb_frag.specs.Leaves.{leaf_weight, leaves, records_of, weight_of};
+ghost use Rattle.hb_frag.specs.declared.pages.Page.{Page as Content};
+ghost use Rattle.hb_frag.specs.declared.pages.Page.TheVariants as content;
+ghost use Rattle.hb_outside.specs.Streams.{Rose};
+ghost use Rattle.hb_page_codec.specs.Weight.{IsLight};
+ghost use Rattle.hb_ops.specs.Files.{page_records};
+ghost use Rattle.hb_sound.specs.Facts.{AreFactsOf, IsFactOf, IsLightFact, IsOwnRule, IsSeenOf, next_at, seen_at};
+ghost use Rattle.hb_sound.specs.Stops.{OnBroken};
+ghost use Rattle.hb_sound.specs.Told.{CoversFile, IsHole, IsWholeFile, file_of, item_at};
+ghost use Rattle.hb_sound.specs.Walks.{IsLeast};
+ghost use Rattle.hb_sound.specs.declared.pages.AuditStop.TheVariants.{Failed};
+
+use crate::{AuditStop, Pages};
+use hb_frag::{Frag, Leaf, LivePage, Node, Page};
+use hb_ops::{Meta, local_rule};
+use hb_space::{Area, NoMemory};
+use std::alloc::Global;
+
+/// What is kept of a page in use.
+#[derive(Debug, Drop)]
+pub(crate) struct Seen {
+    pub(crate) level: u8,
+    pub(crate) area: Area,
+    /// The first rule that the page breaks by itself. 0 for none.
+    pub(crate) rule: u8,
+    /// How many records it has.
+    pub(crate) records: u64,
+}
+
+/// What is kept of a page.
+#[derive(Debug, Drop)]
+pub(crate) enum Fact {
+    /// It is in use.
+    Live(Seen),
+    /// It is free, and this is the next one of the free chain.
+    Free(u32),
+}
+
+/// How many records a leaf has.
+fn count_leaf(leaf: &Leaf) -> u64
+    ensures count { result ≡ length (records_of leaf.now) }
+    ensures few { result ≤ leaf_weight leaf.now }
+{
+    match leaf {
+        Leaf::Records(records) => records.as_slice().len() as u64,
+        Leaf::Child(_) | Leaf::Sibling(_) => 0,
+    }
+}
+
+/// How many records a page's inside has.
+fn count_records(frag: &Frag) -> u64
+    requires { weight_of frag.now < 2 ^ 32 }
+    ensures count { result ≡ length (flat_map records_of (leaves frag.now)) }
+    ensures few { result ≤ weight_of frag.now }
+{
+    match &frag.node {
+        Node::Tip(leaf) => count_leaf(leaf),
+        Node::Cut { left, right, .. } => count_records(left) + count_records(right),
+    }
+}
+
+/// How many records a page of level 0 has. Another has none.
+fn records_in(page: &LivePage) -> u64
+    requires { weight_of page.now.frag < 2 ^ 32 }
+    ensures count { result ≡ length (page_records (content.Live page.now)) }
+    ensures few { result < 2 ^ 32 }
+{
+    if page.level == 0 {
+        count_records(&page.frag)
+    } else {
+        0
+    }
+}
+
+/// The first rule that a page breaks by itself, 0 for none.
+fn own_rule(page: &LivePage, meta: &Meta) -> u8
+    requires { weight_of page.now.frag < 2 ^ 32 }
+    ensures { IsOwnRule result page.now meta.now }
+{
+    match local_rule(page, meta) {
+        Some(rule) => rule,
+        None => 0,
+    }
+}
+
+/// What is kept of a page in use.
+fn seen_of(page: LivePage, meta: &Meta) -> Seen
+    requires { weight_of page.frag < 2 ^ 32 }
+    ensures seen { IsSeenOf meta.now result page }
+    ensures light { result.records < 2 ^ 32 }
+{
+    let rule = own_rule(&page, meta);
+    let records = records_in(&page);
+    Seen {
+        level: page.level,
+        area: page.area,
+        rule,
+        records,
+    }
+}
+
+/// What is kept of a page.
+fn fact_of(page: Page, meta: &Meta) -> Fact
+    requires { IsLight page }
+    ensures fact { IsFactOf meta.now result page }
+    ensures light { IsLightFact result }
+{
+    match page {
+        Page::Live(page) => Fact::Live(seen_of(page, meta)),
+        Page::Free { next } => Fact::Free(next),
+    }
+}
+
+/// Reads the page of a number, and keeps what is kept of it. Broken: it is beyond the pages of the file, or none is there.
+fn read_fact<P: Pages>(meta: &Meta, pages: &mut P, id: u32) -> Result<Fact, AuditStop>
+    requires some { 1 ≤ id }
+    ensures fact { IfOk result (λ fact. IfSome (P.told pages.old) (λ told. (page : Content) → item_at told id ≡ Some (Some page) → IsFactOf meta.now fact page)) }
+    ensures light { IfOk result IsLightFact }
+    ensures there { IfOk result (λ fact. (id ≤ meta.now.pages) × IfSome (P.told pages.old) (λ told. item_at told id ≡ Some None → ⊥)) }
+    ensures hole { IfErr result (OnBroken (λ page rule. (page ≡ id) × (rule ≡ 0)
+        × IfSome (P.told pages.old) (λ told. (meta.now.pages < id) ⊎ (id ≤ length told → item_at told id ≡ Some None)))) }
+    ensures stays { P.told pages.new ≡ P.told pages.old }
+    ensures cause { IsErrOf result Failed → Rose (P.faults pages.old) (P.faults pages.new) }
+    ensures no_fault { (IsErrOf result Failed → ⊥) → P.faults pages.new ≡ P.faults pages.old }
+    ensures later { P.faults pages.old ≤ P.faults pages.new }
+{
+    if id > meta.pages {
+        return Err(AuditStop::Broken { page: id, rule: 0 });
+    }
+    match pages.page(id)? {
+        Some(page) => Ok(fact_of(page, meta)),
+        None => Err(AuditStop::Broken { page: id, rule: 0 }),
+    }
+}
+
+/// Adds a fact.
+fn keep(facts: &mut Vec<Fact>, fact: Fact) -> Result<(), NoMemory>
+    ensures { OnOk result (facts.new.items ≡ facts.old.items ++ fact ∷ []) }
+{
+    facts.push(fact)?;
+    Ok(())
+}
+
+/// Reads each page up to the high mark, and keeps what is kept of it. Rule 0: a page is there under each number.
+pub(crate) fn read_facts<P: Pages>(
+    alloc: Global,
+    meta: &Meta,
+    pages: &mut P,
+) -> Result<Vec<Fact>, AuditStop>
+    requires covered { IfSome (P.told pages.old) (CoversFile meta.now) }
+    ensures facts { IfOk result (λ facts. IfSome (P.told pages.old) (λ told. IsWholeFile meta.now told × AreFactsOf meta.now facts.items (file_of meta.now told).pages)) }
+    ensures light { IfOk result (λ facts. All IsLightFact facts.items) }
+    ensures count { IfOk result (λ facts. (vec_len facts ≡ meta.now.high) × (meta.now.high ≤ meta.now.pages)) }
+    ensures hole { IfErr result (OnBroken (λ page rule. IfSome (P.told pages.old) (λ told. (rule ≡ 0) × IsLeast (IsHole meta.now told) page))) }
+    ensures stays { P.told pages.new ≡ P.told pages.old }
+    ensures cause { IsErrOf result Failed → Rose (P.faults pages.old) (P.faults pages.new) }
+    ensures no_fault { (IsErrOf result Failed → ⊥) → P.faults pages.new ≡ P.faults pages.old }
+    ensures later { P.faults pages.old ≤ P.faults pages.new }
+{
+    let mut facts = Vec::new(alloc);
+    for place in 0..meta.high {
+        keep(&mut facts, read_fact(meta, pages, place + 1)?)?;
+    }
+    Ok(facts)
+}
+
+/// The fact of a number, which may be any. There is none of 0.
+fn fact_at(facts: &[Fact], id: u32) -> Option<&Fact>
+    ensures { option_map (λ fact. fact.now) result ≡ item_at facts.now id }
+{
+    let place = id.checked_sub(1)?;
+    facts.get(place as usize)
+}
+
+/// What was seen of the page in use of this number, which may be any.
+pub(crate) fn seen_in(facts: &[Fact], id: u32) -> Option<&Seen>
+    ensures { option_map (λ seen. seen.now) result ≡ seen_at facts.now id }
+{
+    match fact_at(facts, id)? {
+        Fact::Live(seen) => Some(seen),
+        Fact::Free(_) => None,
+    }
+}
+
+/// What follows the free page of this number, which may be any.
+pub(crate) fn next_in(facts: &[Fact], id: u32) -> Option<u32>
+    ensures { result ≡ next_at facts.now id }
+{
+    match fact_at(facts, id)? {
+        Fact::Live(_) => None,
+        Fact::Free(next) => Some(*next),
+    }
+}

@@ -1,0 +1,197 @@
+//! Rules 7 and 8: what leaves name.
+ghost use Rattle.std.specs.Prelude.{◌≡◌, ◌+◌, ◌<◌, ◌≤◌, ◌^◌, ◌↔◌, ℕ, if◌then◌else◌, List, Some, None, All, length, replicate, vec_len, IfErr, IfOk, IfSome, IsErrOf, IsTrue, OnOk};
+ghost use Rattle.hb_space.specs.Boxes.{Within};
+ghost use Rattle.hb_frag.specs.Leaves.{IsWellCut, WellCut, leaves_of};
+ghost use Rattle.hb_frag.specs.declared.pages.Page.{Page as Content};
+ghost use Rattle.hb_outside.specs.Streams.{Rose};
+ghost use Rattle.hb_sound.specs.Facts.{FindsBelow, FindsSame, SeesBelow, SeesSame};
+ghost use Rattle.hb_sound.specs.Links.{Adds, AddsPage, AreLinks, AreRead, IsCut, or_else};
+ghost use Rattle.hb_sound.specs.Stops.{OnBroken};
+ghost use Rattle.hb_sound.specs.Told.{item_at};
+ghost use Rattle.hb_sound.specs.declared.names.Times.TheVariants.{Never};
+ghost use Rattle.hb_sound.specs.declared.pages.AuditStop.TheVariants.{Failed};
+
+use crate::facts::{Fact, Seen, seen_in};
+use crate::names::{Times, count_names};
+use crate::{AuditStop, Pages};
+use hb_frag::{Frag, Leaf, LivePage, Node, Page};
+use hb_space::{Area, NoMemory};
+use std::alloc::Global;
+
+/// What the leaves of the pages name.
+#[derive(Debug, Drop)]
+pub(crate) struct Links {
+    /// How often sibling leaves name each page.
+    pub(crate) named: Vec<Times>,
+    /// The first page with a sibling leaf that names none of its level and the leaf's box.
+    pub(crate) sibling: Option<u32>,
+    /// The first page with a child leaf that names none one level down with the leaf's box in its own.
+    pub(crate) child: Option<u32>,
+}
+
+/// Whether a page in use of this number, which may be any, has this level and box.
+fn sees_same(facts: &[Fact], level: u8, id: u32, area: &Area) -> bool
+    ensures { IsTrue result ↔ SeesSame facts.now level id area.now }
+{
+    match seen_in(facts, id) {
+        Some(seen) => seen.level == level && seen.area == *area,
+        None => false,
+    }
+}
+
+/// Whether what was seen is one level down and has this box in its own.
+fn is_below(seen: &Seen, level: u8, area: &Area) -> bool
+    ensures { IsTrue result ↔ ((seen.now.level + 1 ≡ level) × (length area.now.lo ≡ length seen.now.area.lo) × Within area.now seen.now.area) }
+{
+    u16::from(seen.level) + 1 == u16::from(level)
+        && area.lo().attributes() == seen.area.lo().attributes()
+        && area.within(&seen.area)
+}
+
+/// Whether a page in use of this number, which may be any, is one level down and has this box in its own.
+fn sees_below(facts: &[Fact], level: u8, id: u32, area: &Area) -> bool
+    ensures { IsTrue result ↔ SeesBelow facts.now level id area.now }
+{
+    match seen_in(facts, id) {
+        Some(seen) => is_below(seen, level, area),
+        None => false,
+    }
+}
+
+/// Whether the leaf with this box, where it is a sibling leaf, names a page of its level and box.
+fn finds_same(facts: &[Fact], level: u8, leaf: &Leaf, area: &Area) -> bool
+    ensures { IsTrue result ↔ FindsSame facts.now level (record { leaf = leaf.now; area = area.now }) }
+{
+    match leaf {
+        Leaf::Sibling(id) => sees_same(facts, level, *id, area),
+        Leaf::Records(_) | Leaf::Child(_) => true,
+    }
+}
+
+/// Whether the leaf with this box, where it is a child leaf, names a page one level down with the box in its own.
+fn finds_below(facts: &[Fact], level: u8, leaf: &Leaf, area: &Area) -> bool
+    ensures { IsTrue result ↔ FindsBelow facts.now level (record { leaf = leaf.now; area = area.now }) }
+{
+    match leaf {
+        Leaf::Child(id) => sees_below(facts, level, *id, area),
+        Leaf::Records(_) | Leaf::Sibling(_) => true,
+    }
+}
+
+/// Whether each sibling leaf of the part, which has this box, names a page of its level and the leaf's box.
+fn siblings_match(facts: &[Fact], level: u8, frag: &Frag, area: &Area) -> bool
+    requires { IsWellCut frag.now area.now }
+    ensures { IsTrue result ↔ All (FindsSame facts.now level) (leaves_of frag.now area.now) }
+{
+    match &frag.node {
+        Node::Tip(leaf) => finds_same(facts, level, leaf, area),
+        Node::Cut {
+            axis,
+            value,
+            left,
+            right,
+        } => {
+            let (below, from) = area.cut(*axis, *value);
+            siblings_match(facts, level, left, &below) && siblings_match(facts, level, right, &from)
+        }
+    }
+}
+
+/// Whether each child leaf of the part, which has this box, names a page one level down with the leaf's box in its own.
+fn children_match(facts: &[Fact], level: u8, frag: &Frag, area: &Area) -> bool
+    requires { IsWellCut frag.now area.now }
+    ensures { IsTrue result ↔ All (FindsBelow facts.now level) (leaves_of frag.now area.now) }
+{
+    match &frag.node {
+        Node::Tip(leaf) => finds_below(facts, level, leaf, area),
+        Node::Cut {
+            axis,
+            value,
+            left,
+            right,
+        } => {
+            let (below, from) = area.cut(*axis, *value);
+            children_match(facts, level, left, &below) && children_match(facts, level, right, &from)
+        }
+    }
+}
+
+/// The first page that isn't good, after one more page.
+fn first_bad(first: Option<u32>, id: u32, good: bool) -> Option<u32>
+    ensures { result ≡ (if good then first else or_else first id) }
+{
+    if good { first } else { first.or(Some(id)) }
+}
+
+impl Links {
+    /// Those of no page yet.
+    fn new(alloc: Global, count: usize) -> Result<Links, NoMemory>
+        ensures named { IfOk result (λ links. links.named.items ≡ replicate count Never) }
+        ensures none { IfOk result (λ links. (links.sibling ≡ None) × (links.child ≡ None)) }
+    {
+        Ok(Links {
+            named: vec![in alloc; Times::Never; count]?,
+            sibling: None,
+            child: None,
+        })
+    }
+
+    /// Adds those of a page in use.
+    fn add(&mut self, facts: &[Fact], id: u32, page: &LivePage)
+        requires { WellCut page.now }
+        ensures adds { Adds facts.now id page.now self.old self.new }
+        ensures same { vec_len self.new.named ≡ vec_len self.old.named }
+    {
+        let same = siblings_match(facts, page.level, &page.frag, &page.area);
+        self.sibling = first_bad(self.sibling, id, same);
+        let below = children_match(facts, page.level, &page.frag, &page.area);
+        self.child = first_bad(self.child, id, below);
+        count_names(&page.frag, &mut self.named);
+    }
+
+    /// Adds those of the page of this number, which is read once more.
+    fn read<P: Pages>(&mut self, facts: &[Fact], pages: &mut P, id: u32) -> Result<(), AuditStop>
+        ensures adds { OnOk result (IfSome (P.told pages.old) (λ told. (page : Content) → item_at told id ≡ Some (Some page) → AddsPage facts.now id page self.old self.new)) }
+        ensures never { IfErr result (OnBroken (λ _ _. IfSome (P.told pages.old) (λ told. (page : Content) → item_at told id ≡ Some (Some page) → IsCut page → ⊥))) }
+        ensures same { vec_len self.new.named ≡ vec_len self.old.named }
+        ensures stays { P.told pages.new ≡ P.told pages.old }
+        ensures cause { IsErrOf result Failed → Rose (P.faults pages.old) (P.faults pages.new) }
+        ensures no_fault { (IsErrOf result Failed → ⊥) → P.faults pages.new ≡ P.faults pages.old }
+        ensures later { P.faults pages.old ≤ P.faults pages.new }
+    {
+        match pages.page(id)? {
+            Some(Page::Live(page)) => {
+                // only a page that was another when it was read first has a cut that doesn't cut
+                if !page.is_well_cut() {
+                    return Err(AuditStop::Broken { page: id, rule: 4 });
+                }
+                self.add(facts, id, &page);
+                Ok(())
+            }
+            Some(Page::Free { .. }) => Ok(()),
+            None => Err(AuditStop::Broken { page: id, rule: 0 }),
+        }
+    }
+}
+
+/// What the leaves of all pages up to the high mark name. The pages are read once more.
+pub(crate) fn read_links<P: Pages>(
+    alloc: Global,
+    facts: &[Fact],
+    pages: &mut P,
+) -> Result<Links, AuditStop>
+    requires { length facts.now < 2 ^ 32 }
+    ensures links { IfOk result (λ links. IfSome (P.told pages.old) (λ told. (list : List Content) → AreRead told facts.now list → AreLinks facts.now list (length facts.now) links)) }
+    ensures never { IfErr result (OnBroken (λ _ _. IfSome (P.told pages.old) (λ told. (list : List Content) → AreRead told facts.now list → ⊥))) }
+    ensures same { IfOk result (λ links. vec_len links.named ≡ length facts.now) }
+    ensures stays { P.told pages.new ≡ P.told pages.old }
+    ensures cause { IsErrOf result Failed → Rose (P.faults pages.old) (P.faults pages.new) }
+    ensures no_fault { (IsErrOf result Failed → ⊥) → P.faults pages.new ≡ P.faults pages.old }
+    ensures later { P.faults pages.old ≤ P.faults pages.new }
+{
+    let mut links = Links::new(alloc, facts.len())?;
+    for place in 0..facts.len() as u32 {
+        links.read(facts, pages, place + 1)?;
+    }
+    Ok(links)
+}
