@@ -19,6 +19,7 @@ mod names;
 mod pages;
 #[cfg(test)]
 mod tests;
+mod threads;
 
 pub use audits::{a_sound_file_breaks_no_rule, audit};
 pub use pages::{AuditStop, PageStop, Pages};
