@@ -1,9 +1,7 @@
 -- Rule 9: from the facts to the pages.
 use Rattle.std.proofs.Common.{◌≡◌, ◌≢◌, ◌⊎◌, inl, inr, ℕ, zero, suc, ◌+◌, ◌-◌, ◌<◌, ◌≤◌, Bool, if◌then◌else◌, List, [], ◌∷◌, replicate, Option, Some, None, option_map, slice_get, slice_set, slice_index, Contains, refl, sym, ap, ◌∙◌, subst, arith}
-use Rattle.std.specs.Str.{bytes_eq}
-use Rattle.std.proofs.lemmas.Bool.{cases_Bool, cases_eq, cases_lt, false≢true, ne_eqb}
+use Rattle.std.proofs.lemmas.Bool.{cases_eq, cases_lt, ne_eqb}
 use Rattle.std.proofs.lemmas.List.{get_or-set_same}
-use Rattle.std.proofs.lemmas.Slice.Eq.{bytes_eq-Decides}
 use Rattle.std.proofs.lemmas.List.Elements.{Contains-append_cases, Contains-append_right}
 use Rattle.hb_space.specs.Boxes.{Area, side_below, side_from, whole_area}
 use Rattle.hb_frag.specs.declared.leaves.Leaf.{Leaf}
@@ -31,6 +29,7 @@ use Rattle.hb_sound.specs.Tests.{file_with}
 use Rattle.hb_sound.specs.Told.{item_at}
 use Rattle.hb_sound.proofs.Bridge.{live_seen, page_item, seen_live}
 use Rattle.hb_sound.proofs.LeafBoxes.{contains_one}
+use Rattle.hb_sound.proofs.LeafBridge.{known_area}
 use Rattle.hb_sound.proofs.Levels.{seen_fact}
 
 -- how often sibling leaves name each page, as counts that go up to two
@@ -70,28 +69,11 @@ once_is zero e = absurd (let never : Never ≡ Once = e in cc)
 once_is (suc zero) e = refl
 once_is (suc (suc n)) e = absurd (let never : Often ≡ Once = sym (more_two n) ∙ e in cc)
 
--- two lists of numbers, two boxes
-cases_list : (xs ys : List ℕ) → (xs ≡ ys) ⊎ (xs ≢ ys)
-cases_list xs ys = elim (cases_Bool (bytes_eq xs ys)) [
-  | inl holds ↦ inl ((bytes_eq-Decides xs ys).0 holds)
-  | inr fails ↦ inr (λ e. false≢true (sym fails ∙ (bytes_eq-Decides xs ys).1 e))
-]
-
-cases_area : (a b : Area) → (a ≡ b) ⊎ (a ≢ b)
-cases_area a b = elim (cases_list a.lo b.lo) [
-  | inl lows ↦ elim (cases_list a.hi b.hi) [
-    | inl highs ↦
-        let lo_same : a ≡ record { lo = b.lo; hi = a.hi } = ap (λ (l : List ℕ). record { lo = l; hi = a.hi }) lows in
-        inl (lo_same ∙ ap (λ (h : List ℕ). record { lo = b.lo; hi = h }) highs)
-    | inr other ↦ inr (λ e. other (ap (λ (x : Area). x.hi) e))
-  ]
-  | inr other ↦ inr (λ e. other (ap (λ (x : Area). x.lo) e))
-]
-
+-- a fact with a box
 cases_box : (level : ℕ) (area : Area) (fact : Fact) → HasBox level area fact ⊎ (¬ (HasBox level area fact))
 cases_box level area (Free next) = inr (λ never. never)
 cases_box level area (Live seen) = elim (cases_eq seen.level level) [
-  | inl same ↦ elim (cases_area seen.area area) [ inl boxed ↦ inl (same, boxed) | inr other ↦ inr (λ h. other h.1) ]
+  | inl same ↦ elim (known_area seen.area area) [ inl boxed ↦ inl (same, boxed) | inr other ↦ inr (λ h. other h.1) ]
   | inr apart ↦ inr (λ h. apart h.0)
 ]
 

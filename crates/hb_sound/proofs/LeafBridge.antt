@@ -98,7 +98,7 @@ leaf_attributes (Cut axis value left right) area leaf a h =
     ]
 
 -- it holds, or it doesn't
-abbrev Known : Type 0 → Type 0
+abbrev pub Known : Type 0 → Type 0
 Known P = P ⊎ (P → ⊥)
 
 both : {P Q : Type 0} → Known P → Known Q → Known (P × Q)
@@ -118,7 +118,7 @@ known_list xs ys = elim (cases_Bool (bytes_eq xs ys)) [
 abbrev box : List ℕ → List ℕ → Area
 box lo hi = record { lo = lo; hi = hi }
 
-known_area : (a b : Area) → Known (a ≡ b)
+pub known_area : (a b : Area) → Known (a ≡ b)
 known_area a b = elim (both (known_list a.lo b.lo) (known_list a.hi b.hi)) [
   | inl is ↦ inl (ap (λ (lo : List ℕ). box lo a.hi) is.0 ∙ ap (λ (hi : List ℕ). box b.lo hi) is.1)
   | inr fails ↦ inr (λ e. fails (ap (λ (x : Area). x.lo) e, ap (λ (x : Area). x.hi) e))
