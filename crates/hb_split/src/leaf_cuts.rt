@@ -5,7 +5,7 @@ use smallvec::SmallVec;
 use std::marker::Model;
 
 /// A plane through a records leaf, and the side of it that goes on.
-#[derive(Clone, Copy, Debug, PartialEq, Eq)]
+#[derive(Clone, Copy, Debug, Default, PartialEq, Eq)]
 pub struct LeafCut {
     /// The attribute that the plane cuts.
     pub axis: u8,
