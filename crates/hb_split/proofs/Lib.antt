@@ -1,0 +1,4 @@
+pub mod WaysDown
+pub mod Thirds
+pub mod Ends
+pub mod Better

@@ -1,15 +1,20 @@
 -- What the parts of the choice say to each other.
-use Rattle.std.specs.Prelude.{◌≡◌, ℕ, ◌+◌, ◌-◌, ◌*◌, ◌<◌, ◌≤◌, ◌⊎◌, max, List, [], ◌∷◌, ◌++◌, length, map, slice_index, All, AllPairs, Option, MatchOption}
+use Rattle.std.specs.Prelude.{◌≡◌, ℕ, ◌+◌, ◌-◌, ◌*◌, ◌<◌, ◌≤◌, ◌⊎◌, max, if◌then◌else◌, List, [], ◌∷◌, ◌++◌, length, map, slice_index, All, AllPairs, Option, MatchOption}
 use Rattle.std.specs.List.Sorted.{IsPermutation, IsSorted}
 use Rattle.std.specs.Ordering.{nat_cmp}
 use Rattle.hb_space.specs.declared.records.Record.{Record}
 use Rattle.hb_frag.specs.declared.leaves.Leaf.TheVariants.{Records}
+use Rattle.hb_frag.specs.declared.paths.Side.{Side}
 use Rattle.hb_frag.specs.declared.paths.Side.TheVariants.{Left, Right}
 use Rattle.hb_frag.specs.Trees.{Tip}
 use Rattle.hb_frag.specs.Rules.{Precedes}
 use Rattle.hb_split.specs.declared.leaf_cuts.LeafCut.{LeafCut}
 use Rattle.hb_split.specs.declared.planes.Candidate.{Candidate}
-use Rattle.hb_split.specs.Choosing.{planes, heavier_side, count_on, heavier_count, MayCut, NotBehind, IsBest, AreChosen}
+use Rattle.hb_split.specs.Choosing.{planes, heavier_side, is_heavy, count_on, heavier_count, MayCut, NotBehind, IsBest, AreChosen}
+
+-- the step at a cut, where its sides together have more than two thirds
+abbrev pub own_step : ℕ → ℕ → ℕ → List Side
+own_step n left right = if is_heavy n (left + right) then heavier_side left right ∷ [] else []
 
 -- what the records of a leaf are: each has k attributes, and their points rise
 pub record AreOf (k : ℕ) (records : List Record) : Type 0 where
@@ -63,4 +68,4 @@ heavier_at values at = max at (length values - at)
 abbrev pub BestStep : List ℕ → ℕ → Option ℕ → Type 0
 BestStep values end best = MatchOption best
     ((at : ℕ) → at < end → ¬ (IsStep values at))
-    (λ b. IsStep values b × ((at : ℕ) → at < end → IsStep values at → (heavier_at values b < heavier_at values at) ⊎ ((heavier_at values b ≡ heavier_at values at) × (b ≤ at))))
+    (λ b. (b < end) × IsStep values b × ((at : ℕ) → at < end → IsStep values at → (heavier_at values b < heavier_at values at) ⊎ ((heavier_at values b ≡ heavier_at values at) × (b ≤ at))))

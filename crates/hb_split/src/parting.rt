@@ -100,11 +100,11 @@ fn going(alloc: Global, records: &[Record], cut: LeafCut) -> Result<Vec<Record>,
 }
 
 /// Whether the record lies on the side of the cut that goes on.
-fn is_on(record: &Record, cut: LeafCut) -> bool
-    requires { cut.axis < length record.now.key }
-    ensures { result ≡ is_on cut.side cut.axis cut.value record.now }
+fn is_on(r: &Record, cut: LeafCut) -> bool
+    requires { cut.axis < length r.now.key }
+    ensures { result ≡ is_on cut.side cut.axis cut.value r.now }
 {
-    let below = record.key.values()[usize::from(cut.axis)] < cut.value;
+    let below = r.key.values()[usize::from(cut.axis)] < cut.value;
     match cut.side {
         Side::Left => below,
         Side::Right => !below,

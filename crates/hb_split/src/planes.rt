@@ -1,6 +1,6 @@
-ghost use Rattle.std.specs.Prelude.{◌≡◌, ◌≤◌, ◌<◌, ◌^◌, ◌+◌, ◌-◌, length, slice_index, All, IfOk};
+ghost use Rattle.std.specs.Prelude.{◌≡◌, ◌≤◌, ◌<◌, ◌^◌, ◌+◌, ◌-◌, length, slice_index, All, Some, IfOk};
 ghost use Rattle.hb_frag.specs.declared.paths.Side.TheVariants.{Left, Right};
-ghost use Rattle.hb_split.specs.Steps.{AreOf, AreValues, BestOf, BestOn, BestStep, heavier_at};
+ghost use Rattle.hb_split.specs.Steps.{AreOf, AreValues, BestOf, BestOn, BestStep, IsBestOn, heavier_at};
 ghost use Rattle.hb_split.specs.Choosing.{heavier_side, count_on, IsBest};
 
 use crate::LeafCut;
@@ -40,6 +40,7 @@ pub(crate) fn best_cut(
 }
 
 /// The better one of the best plane of the attributes below `axis` and the best one of `axis`.
+#[tactic(auto, using(crate::proofs::Better::best_alone, crate::proofs::Better::other_alone, crate::proofs::Better::none_alone))]
 fn better(
     records: &[Record],
     best: Option<Candidate>,
@@ -50,10 +51,26 @@ fn better(
     requires other { BestOn axis records.now other }
     ensures { BestOf (axis + 1) records.now result }
 {
-    match (best, other) {
-        (Some(best), Some(other)) if other.count < best.count => Some(other),
-        (Some(best), _) => Some(best),
-        (None, other) => other,
+    match best {
+        None => other,
+        Some(best) => match other {
+            None => Some(best),
+            Some(other) => Some(lighter(records, best, other, axis)),
+        },
+    }
+}
+
+/// The one whose heavier side has fewer records, the first where both have as many.
+#[tactic(auto, using(crate::proofs::Better::best_stays, crate::proofs::Better::other_wins))]
+fn lighter(records: &[Record], best: Candidate, other: Candidate, axis: u8) -> Candidate
+    requires best { BestOf axis records.now (Some best) }
+    requires other { IsBestOn axis records.now other }
+    ensures { BestOf (axis + 1) records.now (Some result) }
+{
+    if other.count < best.count {
+        other
+    } else {
+        best
     }
 }
 
@@ -117,6 +134,7 @@ fn best_step(values: &[u64]) -> Option<usize>
 }
 
 /// The best place up to `at`, where `best` is the best one below it.
+#[tactic(auto, using(crate::proofs::Better::step_stays))]
 fn with_step(values: &[u64], best: Option<usize>, at: usize) -> Option<usize>
     requires inside { at < length values.now }
     requires some { 0 < at }

@@ -1,6 +1,7 @@
 ghost use Rattle.std.specs.Prelude.{◌≡◌, ◌+◌, ◌≤◌, ◌++◌, ◌<◌, ◌^◌, ◌*◌, ◌↔◌, reverse, IfOk, IsTrue, OnOk};
 ghost use Rattle.hb_frag.specs.Leaves.{weight_of};
 ghost use Rattle.hb_split.specs.Choosing.{heavier_side, way_down};
+ghost use Rattle.hb_split.specs.Steps.{own_step};
 
 use hb_frag::{Frag, Node, Path, Side};
 use hb_space::NoMemory;
@@ -39,6 +40,7 @@ pub(crate) fn way_down(alloc: Global, frag: &Frag, total: u32) -> Result<Path, N
 
 /// The part's weight. Adds the steps of its way down, the last of them first. Of two sides at most
 /// one has more than two thirds, so the other one adds none.
+#[tactic(auto, using(crate::proofs::WaysDown::climbs, crate::proofs::WaysDown::weight_cut))]
 fn climb(frag: &Frag, total: u32, steps: &mut SmallVec<Side, 32>) -> Result<u32, NoMemory>
     requires { weight_of frag.now ≤ total }
     ensures weight { IfOk result (λ weight. weight ≡ weight_of frag.now) }
@@ -49,10 +51,25 @@ fn climb(frag: &Frag, total: u32, steps: &mut SmallVec<Side, 32>) -> Result<u32,
         Node::Cut { left, right, .. } => {
             let left = climb(left, total, steps)?;
             let right = climb(right, total, steps)?;
-            if is_heavy(total, left + right) {
-                steps.push(heavier_side(left, right))?;
-            }
+            add_step(total, left, right, steps)?;
             Ok(left + right)
         }
     }
+}
+
+/// Adds the step to the heavier side of a cut, where both sides together have more than two thirds
+/// of the whole weight.
+fn add_step(
+    total: u32,
+    left: u32,
+    right: u32,
+    steps: &mut SmallVec<Side, 32>,
+) -> Result<(), NoMemory>
+    requires { left + right ≤ total }
+    ensures { OnOk result (steps.new.items ≡ steps.old.items ++ own_step total left right) }
+{
+    if is_heavy(total, left + right) {
+        steps.push(heavier_side(left, right))?;
+    }
+    Ok(())
 }
