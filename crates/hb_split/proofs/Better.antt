@@ -1,6 +1,6 @@
 -- The better one of two planes.
 use Rattle.std.proofs.Common.{◌≡◌, ℕ, ◌+◌, ◌-◌, ◌*◌, ◌<◌, ◌≤◌, ◌⊎◌, inl, inr, max, List, [], ◌∷◌, length, slice_index, Option, Some, None, refl, sym, ap, ◌∙◌, arith, subst}
-use Rattle.std.proofs.lemmas.Bool.{lt_or_ge}
+use Rattle.std.proofs.lemmas.Bool.{cases_lt}
 use Rattle.hb_space.specs.declared.records.Record.{Record}
 use Rattle.hb_split.specs.declared.planes.Candidate.{Candidate}
 use Rattle.hb_split.specs.Choosing.{MayCut, NotBehind, IsBest, heavier_count}
@@ -14,7 +14,7 @@ more k a v records m = let lt = m.attribute in record { attribute = omega (arith
 
 -- a plane of one attribute more
 split : (k a v : ℕ) (records : List Record) → MayCut (k + 1) a v records → MayCut k a v records ⊎ ((a ≡ k) × MayCut (k + 1) k v records)
-split k a v records m = elim (lt_or_ge a k) [
+split k a v records m = elim (cases_lt a k) [
   | inl lt ↦ inl (fewer k a v records lt m)
   | inr ge ↦ let at = m.attribute in let e : a ≡ k = omega (arith, at, ge) in inr (e, subst (λ (x : ℕ). MayCut (k + 1) x v records) e m)
 ]
@@ -32,7 +32,7 @@ stays k records best b lighter =
         | inr new ↦
           let le = lighter v new.1 in
           subst (λ (x : ℕ). NotBehind (heavier_count best.cut.axis best.cut.value records) best.cut.axis best.cut.value (heavier_count x v records) x v) (sym new.0)
-            (elim (lt_or_ge (heavier_count best.cut.axis best.cut.value records) (heavier_count k v records)) [
+            (elim (cases_lt (heavier_count best.cut.axis best.cut.value records) (heavier_count k v records)) [
               | inl lt ↦ inl lt
               | inr ge ↦ inr (omega (arith, count, le, ge), inl at)
             ])
@@ -85,8 +85,12 @@ none_alone k records none none' a v m = elim (split k a v records m) [ inl old �
 pub step_stays : (values : List ℕ) (at b : ℕ) → BestStep values at (Some b) → heavier_at values b ≤ heavier_at values at → BestStep values (at + 1) (Some b)
 step_stays values at b h le =
     let below = h.0 in
-    (omega (arith, below), h.1.0, λ i lt step. elim (lt_or_ge i at) [
-      | inl old ↦ h.1.1 i old step
+    (omega (arith, below), h.1, λ i lt step. elim (cases_lt i at) [
+      | inl old ↦ h.2 i old step
       | inr ge ↦ let e : i ≡ at = omega (arith, lt, ge) in subst (λ (x : ℕ). (heavier_at values b < heavier_at values x) ⊎ ((heavier_at values b ≡ heavier_at values x) × (b ≤ x))) (sym e)
-          (elim (lt_or_ge (heavier_at values b) (heavier_at values at)) [ inl w ↦ inl w | inr g ↦ inr (omega (arith, le, g), omega (arith, below)) ])
+          (elim (cases_lt (heavier_at values b) (heavier_at values at)) [ inl w ↦ inl w | inr g ↦ inr (omega (arith, le, g), omega (arith, below)) ])
     ])
+
+pub all_new : (k : ℕ) (records : List Record) (other : Option Candidate) → BestOf k records None → BestOn k records other → BestOf (k + 1) records other
+all_new k records None none o = none_alone k records none o
+all_new k records (Some other) none o = other_alone k records other none o

@@ -54,3 +54,18 @@ joined n a b s t steps no_s no_t few =
 pub climbs : (n axis value : ℕ) (l r : Tree) (steps : List Side) → weight_of l + weight_of r ≤ n
   → ((steps ++ reverse (way_down n l)) ++ reverse (way_down n r)) ++ own_step n (weight_of l) (weight_of r) ≡ steps ++ reverse (way_down n (Cut axis value l r))
 climbs n axis value l r steps few = joined n (weight_of l) (weight_of r) (way_down n l) (way_down n r) steps (light n l) (light n r) few
+
+-- the same along the facts of the calls
+pub climbed : (n a b axis value : ℕ) (t l r l' r' : Tree) (s0 s1 s2 s3 : List Side) → t ≡ Cut axis value l r → l' ≡ l → r' ≡ r → a ≡ weight_of l' → b ≡ weight_of r' → weight_of t ≤ n
+  → s1 ≡ s0 ++ reverse (way_down n l') → s2 ≡ s1 ++ reverse (way_down n r') → s3 ≡ s2 ++ own_step n a b → s3 ≡ s0 ++ reverse (way_down n t)
+climbed n a b axis value t l r l' r' s0 s1 s2 s3 et el er ea eb few e1 e2 e3 =
+    let et' : t ≡ Cut axis value l' r' = et ∙ ap (λ (x : Tree). Cut axis value x r) (sym el) ∙ ap (λ (x : Tree). Cut axis value l' x) (sym er) in
+    let w = ap weight_of et' in
+    let both = weight_cut axis value l' r' in
+    let all = climbs n axis value l' r' s0 (omega (arith, few, w, both)) in
+    e3
+      ∙ ap (λ (s : List Side). s ++ own_step n a b) (e2 ∙ ap (λ (s : List Side). s ++ reverse (way_down n r')) e1)
+      ∙ ap (λ (x : ℕ). ((s0 ++ reverse (way_down n l')) ++ reverse (way_down n r')) ++ own_step n x b) ea
+      ∙ ap (λ (x : ℕ). ((s0 ++ reverse (way_down n l')) ++ reverse (way_down n r')) ++ own_step n (weight_of l') x) eb
+      ∙ all
+      ∙ ap (λ (x : Tree). s0 ++ reverse (way_down n x)) (sym et')

@@ -40,7 +40,7 @@ pub(crate) fn best_cut(
 }
 
 /// The better one of the best plane of the attributes below `axis` and the best one of `axis`.
-#[tactic(auto, using(crate::proofs::Better::best_alone, crate::proofs::Better::other_alone, crate::proofs::Better::none_alone))]
+#[tactic(auto, using(crate::proofs::Better::best_alone))]
 fn better(
     records: &[Record],
     best: Option<Candidate>,
