@@ -2,3 +2,4 @@ pub mod WaysDown
 pub mod Thirds
 pub mod Ends
 pub mod Better
+pub mod Values
