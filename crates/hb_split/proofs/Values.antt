@@ -4,18 +4,19 @@ use Rattle.std.specs.List.{Any, Contains, count_by}
 use Rattle.std.specs.List.Sorted.{IsPermutation, IsSorted}
 use Rattle.std.specs.Ordering.{nat_cmp}
 use Rattle.std.proofs.lemmas.Bool.{cases_lt, ltb-true, lt-ltb, le-ltb}
-use Rattle.std.proofs.lemmas.List.{length-map}
+use Rattle.std.proofs.lemmas.List.{length-map, get_or-map}
 use Rattle.std.proofs.lemmas.List.Sums.{length-filter}
 use Rattle.std.proofs.lemmas.List.Sorted.{Contains-permutation, IsPermutation-sym, length_permutation, sum_by-IsPermutation, IsNonDecreasingBy-from_sort}
 use Rattle.hb_space.specs.declared.records.Record.{Record}
 use Rattle.hb_frag.specs.declared.paths.Side.{Side}
 use Rattle.hb_frag.specs.declared.paths.Side.TheVariants.{Left, Right}
+use Rattle.hb_sound.specs.Splitting.{is_on}
 use Rattle.hb_split.specs.declared.planes.Candidate.{Candidate}
 use Rattle.hb_split.specs.Choosing.{MayCut, NotBehind, heavier_side, heavier_count, count_on}
 use Rattle.hb_split.specs.Steps.{IsOf, IsBestOn, BestOn, AreValues, IsStep, heavier_at, BestStep}
 use Rattle.hb_split.proofs.Thirds.{both}
 
-below : ℕ → List ℕ → ℕ
+abbrev below : ℕ → List ℕ → ℕ
 below v values = length (filter (λ x. nat_lt x v) values)
 
 abbrev Rises : List ℕ → Type 0
@@ -31,7 +32,8 @@ record EndsBelow (v : ℕ) (values : List ℕ) (at : ℕ) : Type 0 where
   from : (j : ℕ) → at ≤ j → j < length values → v ≤ get_or values j 0
 
 counted : (v : ℕ) (values : List ℕ) (at : ℕ) → EndsBelow v values at → below v values ≡ at
-counted v [] at e = let le = e.inside in omega (arith, le)
+counted v [] zero e = refl
+counted v [] (suc at) e = let le = e.inside in absurd (omega (arith, le))
 counted v (x ∷ xs) zero e =
     let rest = counted v xs 0 (record { inside = omega arith; under = λ j lt. absurd (omega (arith, lt)); from = λ j le lt. e.from (suc j) (omega arith) (omega (arith, lt)) }) in
     kept v x xs false (le-ltb v x (e.from 0 (omega arith) (omega arith))) ∙ rest
@@ -48,11 +50,16 @@ found v (x ∷ xs) up = elim (cases_lt x v) [
     let le = rest.1.inside in
     (suc rest.0, record {
       inside = omega (arith, le);
-      under = λ j. elim j as (λ (k : ℕ). k < suc rest.0 → get_or (x ∷ xs) k 0 < v) [ zero ↦ λ l. lt | suc k _ ↦ λ l. rest.1.under k (omega (arith, l)) ];
-      from = λ j. elim j as (λ (k : ℕ). suc rest.0 ≤ k → k < length (x ∷ xs) → v ≤ get_or (x ∷ xs) k 0) [ zero ↦ λ l m. absurd (omega (arith, l)) | suc k _ ↦ λ l m. rest.1.from k (omega (arith, l)) (omega (arith, m)) ];
+      under = λ j. elim j as (λ (k : ℕ). k < suc rest.0 → get_or (x ∷ xs) k 0 < v) [ zero ↦ λ l. lt | suc k ↦ λ l. rest.1.under k (omega (arith, l)) ];
+      from = λ j. elim j as (λ (k : ℕ). suc rest.0 ≤ k → k < length (x ∷ xs) → v ≤ get_or (x ∷ xs) k 0) [ zero ↦ λ l m. absurd (omega (arith, l)) | suc k ↦ λ l m. rest.1.from k (omega (arith, l)) (omega (arith, m)) ];
     })
   | inr ge ↦ (0, record { inside = omega arith; under = λ j lt. absurd (omega (arith, lt)); from = λ j le lt. let h = up 0 j (omega arith) lt in omega (arith, h, ge) })
 ]
+
+get_or_any : (xs : List ℕ) (i d e : ℕ) → i < length xs → get_or xs i d ≡ get_or xs i e
+get_or_any [] i d e lt = absurd (omega (arith, lt))
+get_or_any (x ∷ xs) zero d e lt = refl
+get_or_any (x ∷ xs) (suc i) d e lt = get_or_any xs i d e (omega (arith, lt))
 
 -- a step has as many values below its own as stand in front of it
 at_step : (values : List ℕ) (at : ℕ) → Rises values → IsStep values at → EndsBelow (get_or values at 0) values at
@@ -76,3 +83,101 @@ step_of values v at i j e up li met lj less =
     let high = up at i at_i li in
     let before = e.under (at - 1) (omega (arith, j_at)) in
     (record { inside = lt; behind = omega (arith, j_at); exceeds = omega (arith, before, low) }, omega (arith, low, high, met))
+
+-- of records and their values in an attribute
+abbrev key_of : ℕ → Record → ℕ
+key_of axis r = slice_index r.key axis
+
+mapped : (axis v : ℕ) (records : List Record) → count_on Left axis v records ≡ below v (map (key_of axis) records)
+mapped axis v [] = refl
+mapped axis v (r ∷ rest) = let more = mapped axis v rest in
+    elim (nat_lt (key_of axis r) v) as (λ (t : Bool). length (cond t (r ∷ filter (is_on Left axis v) rest) (filter (is_on Left axis v) rest)) ≡ length (cond t (key_of axis r ∷ filter (λ x. nat_lt x v) (map (key_of axis) rest)) (filter (λ x. nat_lt x v) (map (key_of axis) rest)))) [
+      | true ↦ ap suc more
+      | false ↦ more
+    ]
+
+shuffled : (v : ℕ) (xs ys : List ℕ) → IsPermutation xs ys → below v xs ≡ below v ys
+shuffled v xs ys p = length-filter (λ x. nat_lt x v) xs ∙ sym (sum_by-IsPermutation (λ x. cond (nat_lt x v) 1 0) xs ys p) ∙ sym (length-filter (λ x. nat_lt x v) ys)
+
+pick : (f : Record → ℕ) (records : List Record) (k e : ℕ) → k < length records → (r : Record) × (k < length records) × (get_or records k r ≡ r) × (f r ≡ get_or (map f records) k e)
+pick f [] k e lt = absurd (omega (arith, lt))
+pick f (x ∷ xs) zero e lt = (x, lt, refl, refl)
+pick f (x ∷ xs) (suc k) e lt = let rest = pick f xs k e (omega (arith, lt)) in (rest.0, lt, rest.2, rest.3)
+
+module _ (axis : ℕ) (records : List Record) (values : List ℕ) (a : AreValues axis records values) where
+  rises : Rises values
+  rises i j le lt = IsNonDecreasingBy-from_sort (λ x. x) values a.sorted i j 0 le lt
+
+  long : length values ≡ length records
+  long = length_permutation (map (key_of axis) records) values a.same ∙ length-map records (key_of axis)
+
+  left : (v : ℕ) → count_on Left axis v records ≡ below v values
+  left v = mapped axis v records ∙ shuffled v (map (key_of axis) records) values a.same
+
+  -- a record's value is among them, and each of them is a record's
+  among : (k : ℕ) (r : Record) → k < length records → get_or records k r ≡ r → (i : ℕ) × (i < length values) × (get_or values i 0 ≡ key_of axis r)
+  among k r lt e =
+      let there = Contains-permutation (map (key_of axis) records) values (key_of axis r) a.same (k, omega (arith, lt, length-map records (key_of axis)), get_or-map (key_of axis) records k r (key_of axis r) lt ∙ ap (key_of axis) e) in
+      (there.0, there.1, get_or_any values there.0 0 (key_of axis r) there.1 ∙ there.2)
+
+  holder : (i : ℕ) → i < length values → (k : ℕ) × (r : Record) × (k < length records) × (get_or records k r ≡ r) × (key_of axis r ≡ get_or values i 0)
+  holder i lt =
+      let v = get_or values i 0 in
+      let there = Contains-permutation values (map (key_of axis) records) v (IsPermutation-sym (map (key_of axis) records) values a.same) (i, lt, get_or_any values i v 0 lt) in
+      let r = pick (key_of axis) records there.0 v (omega (arith, there.1, length-map records (key_of axis))) in
+      (there.0, r.0, r.1, r.2, r.3 ∙ there.2)
+
+  counts : (at : ℕ) → IsStep values at → (count_on Left axis (get_or values at 0) records ≡ at) × (count_on Right axis (get_or values at 0) records ≡ length values - at)
+  counts at s =
+      let l = left (get_or values at 0) ∙ counted (get_or values at 0) values at (at_step values at rises s) in
+      let all = both axis (get_or values at 0) records in
+      (l, omega (arith, l, all, long))
+
+  heavier : (at : ℕ) → IsStep values at → heavier_count axis (get_or values at 0) records ≡ heavier_at values at
+  heavier at s = let c = counts at s in ap (λ (x : ℕ). max x (count_on Right axis (get_or values at 0) records)) c.0 ∙ ap (λ (x : ℕ). max at x) c.1
+
+  -- a plane that may cut is a step
+  stepped : (v : ℕ) → MayCut (axis + 1) axis v records → (at : ℕ) × IsStep values at × (get_or values at 0 ≡ v)
+  stepped v m =
+      let i = among m.met.0 m.met.1 m.met.2 m.met.3 in
+      let j = among m.exceeds.0 m.exceeds.1 m.exceeds.2 m.exceeds.3 in
+      let less = m.exceeds.4 in
+      let e = found v values rises in
+      let s = step_of values v e.0 i.0 j.0 e.1 rises i.1 (i.2 ∙ m.met.4) j.1 (omega (arith, j.2, less)) in
+      (e.0, s.0, s.1)
+
+  may : (at : ℕ) → IsStep values at → MayCut (axis + 1) axis (get_or values at 0) records
+  may at s =
+      let lt = s.inside in
+      let exceeds = s.exceeds in
+      let r = holder at lt in
+      let t = holder (at - 1) (omega (arith, lt)) in
+      let e = t.4 in
+      record { attribute = omega arith; met = (r.0, r.1, r.2, r.3, r.4); exceeds = (t.0, t.1, t.2, t.3, omega (arith, e, exceeds)) }
+
+  pub no_plane : BestStep values (length values) None → (v : ℕ) → ¬ (MayCut (axis + 1) axis v records)
+  no_plane none v m = let s = stepped v m in none s.0 s.1.inside s.1
+
+  pub best_plane : (at : ℕ) (c : Candidate) → BestStep values (length values) (Some at) → c.cut.axis ≡ axis → c.cut.value ≡ get_or values at 0 → c.cut.side ≡ heavier_side at (length values - at) → c.count ≡ heavier_at values at → IsBestOn axis records c
+  best_plane at c b ea ev es ec =
+      let step = b.1 in
+      let own = counts at step in
+      let plane : ℕ → ℕ → Type 0 = λ x y. (c.count ≡ heavier_count x y records) × (c.cut.side ≡ heavier_side (count_on Left x y records) (count_on Right x y records)) in
+      let told : plane axis (get_or values at 0) = (ec ∙ sym (heavier at step), es ∙ ap (λ (x : ℕ). heavier_side x (length values - at)) (sym own.0) ∙ ap (λ (x : ℕ). heavier_side (count_on Left axis (get_or values at 0) records) x) (sym own.1)) in
+      let told' : plane c.cut.axis c.cut.value = subst (λ (x : ℕ). plane x c.cut.value) (sym ea) (subst (λ (y : ℕ). plane axis y) (sym ev) told) in
+      record {
+        axis_of = ea;
+        may = subst (λ (y : ℕ). MayCut (axis + 1) axis y records) (sym ev) (may at step);
+        first = λ v m.
+            let s = stepped v m in
+            let h = heavier at step in
+            let h' = heavier s.0 s.1 in
+            let up = rises at s.0 in
+            subst (λ (y : ℕ). NotBehind (heavier_count axis y records) axis y (heavier_count axis v records) axis v) (sym ev)
+              (subst (λ (y : ℕ). NotBehind (heavier_count axis (get_or values at 0) records) axis (get_or values at 0) (heavier_count axis y records) axis y) s.2
+                (elim (b.2 s.0 s.1.inside s.1) [
+                  | inl lt ↦ inl (omega (arith, h, h', lt))
+                  | inr same ↦ let e = same.0 in inr (omega (arith, h, h', e), inr (refl, up same.1 s.1.inside))
+                ]));
+        told = record { count = told'.0; side = told'.1 };
+      }

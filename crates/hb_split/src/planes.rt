@@ -75,6 +75,7 @@ fn lighter(records: &[Record], best: Candidate, other: Candidate, axis: u8) -> C
 }
 
 /// The best plane of the attribute. None where all records have the same value.
+#[tactic(auto, using(crate::proofs::Values::no_plane, crate::proofs::Values::best_plane))]
 fn best_on(alloc: Global, records: &[Record], axis: u8) -> Result<Option<Candidate>, NoMemory>
     requires few { length records.now < 2 ^ 32 }
     requires attribute { All (λ r. axis < length r.key) records.now }
