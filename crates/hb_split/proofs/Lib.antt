@@ -3,3 +3,4 @@ pub mod Thirds
 pub mod Ends
 pub mod Better
 pub mod Values
+pub mod Nexts

@@ -36,7 +36,7 @@ counted v [] zero e = refl
 counted v [] (suc at) e = let le = e.inside in absurd (omega (arith, le))
 counted v (x ∷ xs) zero e =
     let rest = counted v xs 0 (record { inside = omega arith; under = λ j lt. absurd (omega (arith, lt)); from = λ j le lt. e.from (suc j) (omega arith) (omega (arith, lt)) }) in
-    kept v x xs false (le-ltb v x (e.from 0 (omega arith) (omega arith))) ∙ rest
+    kept v x xs false (le-ltb x v (e.from 0 (omega arith) (omega arith))) ∙ rest
 counted v (x ∷ xs) (suc at) e =
     let le = e.inside in
     let rest = counted v xs at (record { inside = omega (arith, le); under = λ j lt. e.under (suc j) (omega (arith, lt)); from = λ j le' lt. e.from (suc j) (omega (arith, le')) (omega (arith, lt)) }) in

@@ -1,5 +1,5 @@
 -- What the parts of the choice say to each other.
-use Rattle.std.specs.Prelude.{◌≡◌, ℕ, ◌+◌, ◌-◌, ◌*◌, ◌<◌, ◌≤◌, ◌⊎◌, max, if◌then◌else◌, List, [], ◌∷◌, ◌++◌, length, map, slice_index, All, AllPairs, Option, MatchOption}
+use Rattle.std.specs.Prelude.{◌≡◌, ℕ, ◌+◌, ◌-◌, ◌*◌, ◌<◌, ◌≤◌, ◌⊎◌, max, if◌then◌else◌, List, [], ◌∷◌, ◌++◌, length, map, filter, slice_index, All, AllPairs, Option, MatchOption}
 use Rattle.std.specs.List.Sorted.{IsPermutation, IsSorted}
 use Rattle.std.specs.Ordering.{nat_cmp}
 use Rattle.hb_space.specs.declared.records.Record.{Record}
@@ -8,6 +8,7 @@ use Rattle.hb_frag.specs.declared.paths.Side.{Side}
 use Rattle.hb_frag.specs.declared.paths.Side.TheVariants.{Left, Right}
 use Rattle.hb_frag.specs.Trees.{Tip}
 use Rattle.hb_frag.specs.Rules.{Precedes}
+use Rattle.hb_sound.specs.Splitting.{is_on}
 use Rattle.hb_split.specs.declared.leaf_cuts.LeafCut.{LeafCut}
 use Rattle.hb_split.specs.declared.planes.Candidate.{Candidate}
 use Rattle.hb_split.specs.Choosing.{planes, heavier_side, is_heavy, count_on, heavier_count, MayCut, NotBehind, IsBest, AreChosen}
@@ -35,6 +36,14 @@ abbrev pub BestOf : ℕ → List Record → Option Candidate → Type 0
 BestOf k records best = MatchOption best
     ((axis value : ℕ) → ¬ (MayCut k axis value records))
     (λ c. IsBest k c.cut.axis c.cut.value records × IsOf records c)
+
+-- the cut that is made next of these records, and what it leaves
+pub record IsNext (k : ℕ) (records : List Record) (cut : LeafCut) : Type 0 where
+  pub best : IsBest k cut.axis cut.value records
+  pub side : cut.side ≡ heavier_side (count_on Left cut.axis cut.value records) (count_on Right cut.axis cut.value records)
+  pub inside : All (λ r. cut.axis < length r.key) records
+  pub fewer : length (filter (is_on cut.side cut.axis cut.value) records) < length records
+  pub kept : AreOf k (filter (is_on cut.side cut.axis cut.value) records)
 
 -- a plane of this one attribute that isn't behind another one of it
 pub record IsBestOn (axis : ℕ) (records : List Record) (candidate : Candidate) : Type 0 where

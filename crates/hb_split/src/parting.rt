@@ -64,6 +64,7 @@ fn records_of(leaf: &Leaf) -> &[Record]
 }
 
 /// Adds the cuts that are made of a leaf of these records.
+#[tactic(auto, using(crate::proofs::Nexts::adds_none, crate::proofs::Nexts::adds_one))]
 fn add_cuts(
     alloc: Global,
     records: &[Record],

@@ -1,7 +1,6 @@
 ghost use Rattle.std.specs.Prelude.{◌≡◌, ◌≤◌, ◌<◌, ◌^◌, ◌+◌, ◌-◌, length, slice_index, All, Some, IfOk};
-ghost use Rattle.hb_frag.specs.declared.paths.Side.TheVariants.{Left, Right};
-ghost use Rattle.hb_split.specs.Steps.{AreOf, AreValues, BestOf, BestOn, BestStep, IsBestOn, heavier_at};
-ghost use Rattle.hb_split.specs.Choosing.{heavier_side, count_on, IsBest};
+ghost use Rattle.hb_split.specs.Steps.{AreOf, AreValues, BestOf, BestOn, BestStep, IsBestOn, IsNext, heavier_at};
+ghost use Rattle.hb_split.specs.Choosing.{heavier_side};
 
 use crate::LeafCut;
 use crate::ways::heavier_side;
@@ -17,6 +16,7 @@ pub(crate) struct Candidate {
 
 /// The plane whose heavier side has fewest records, of equal ones the one of the least attribute,
 /// then of the least value.
+#[tactic(auto, using(crate::proofs::Nexts::some_plane, crate::proofs::Nexts::next_of))]
 pub(crate) fn best_cut(
     alloc: Global,
     records: &[Record],
@@ -25,8 +25,7 @@ pub(crate) fn best_cut(
     requires few { length records.now < 2 ^ 32 }
     requires several { 2 ≤ length records.now }
     requires records { AreOf attributes records.now }
-    ensures best { IfOk result (λ cut. IsBest attributes cut.axis cut.value records.now) }
-    ensures side { IfOk result (λ cut. cut.side ≡ heavier_side (count_on Left cut.axis cut.value records.now) (count_on Right cut.axis cut.value records.now)) }
+    ensures { IfOk result (IsNext attributes records.now) }
 {
     let mut best = None;
     for axis in 0..attributes {
