@@ -3,6 +3,7 @@ use Rattle.std.proofs.Common.{◌≡◌, ℕ, zero, suc, ◌+◌, ◌-◌, ◌*�
 use Rattle.std.specs.declared.cmp.Ordering.TheVariants.{Less, Equal, Greater}
 use Rattle.std.specs.declared.cmp.Ordering.{Ordering}
 use Rattle.std.specs.Ordering.{nat_cmp, ordering_then}
+use Rattle.std.specs.Cmp.{nat_cmp_is}
 use Rattle.std.specs.List.{All}
 use Rattle.std.proofs.lemmas.Bool.{cases_lt, lt-ltb, le-ltb}
 use Rattle.std.proofs.lemmas.List.{append-nil, append_assoc}
@@ -53,12 +54,27 @@ next_of k records c a b =
       };
     }
 
+abbrev NotLess : Ordering → Type 0
+NotLess Less = ⊥
+NotLess Equal = Unit {0}
+NotLess Greater = Unit {0}
+
 -- of two points in order, the first that differ have a lesser value and a greater one
 differs : (p q : List ℕ) → length p ≡ length q → point_cmp p q ≡ Less → (i : ℕ) × (i < length p) × (get_or p i 0 < get_or q i 0)
-differs [] [] same e = absurd (subst (λ (o : Ordering). elim o as (λ _. Type 0) [ Less ↦ ⊥ | Equal ↦ Unit {0} | Greater ↦ Unit {0} ]) e tt)
+differs [] [] same e = absurd (subst NotLess e tt)
 differs [] (y ∷ ys) same e = absurd (omega (arith, same))
 differs (x ∷ xs) [] same e = absurd (omega (arith, same))
-differs (x ∷ xs) (y ∷ ys) same e = ?
+differs (x ∷ xs) (y ∷ ys) same e = elim (cases_lt x y) [
+  | inl lt ↦ (0, omega arith, lt)
+  | inr ge ↦ elim (cases_lt y x) [
+    | inl gt ↦ let o : Greater ≡ nat_cmp x y = nat_cmp_is x y Greater gt in absurd (subst NotLess (subst (λ (r : Ordering). ordering_then r (point_cmp xs ys) ≡ Less) (sym o) e) tt)
+    | inr le ↦
+      let o : Equal ≡ nat_cmp x y = nat_cmp_is x y Equal (omega (arith, ge, le)) in
+      let rest = differs xs ys (omega (arith, same)) (subst (λ (r : Ordering). ordering_then r (point_cmp xs ys) ≡ Less) (sym o) e) in
+      let lt = rest.1 in
+      (suc rest.0, omega (arith, lt), rest.2)
+  ]
+]
 
 pub some_plane : (k : ℕ) (records : List Record) → 2 ≤ length records → AreOf k records → BestOf k records None → ⊥
 some_plane k [] two a none = absurd (omega (arith, two))

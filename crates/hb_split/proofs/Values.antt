@@ -108,7 +108,7 @@ module _ (axis : ℕ) (records : List Record) (values : List ℕ) (a : AreValues
   rises : Rises values
   rises i j le lt = IsNonDecreasingBy-from_sort (λ x. x) values a.sorted i j 0 le lt
 
-  long : length values ≡ length records
+  pub long : length values ≡ length records
   long = length_permutation (map (key_of axis) records) values a.same ∙ length-map records (key_of axis)
 
   left : (v : ℕ) → count_on Left axis v records ≡ below v values
@@ -181,3 +181,13 @@ module _ (axis : ℕ) (records : List Record) (values : List ℕ) (a : AreValues
                 ]));
         told = record { count = told'.0; side = told'.1 };
       }
+
+-- the same along the facts of the calls
+pub no_plane_at : (axis : ℕ) (records : List Record) (values values' : List ℕ) (r : Option ℕ) → AreValues axis records values → values' ≡ values → BestStep values' (length values') r → r ≡ None → (v : ℕ) → ¬ (MayCut (axis + 1) axis v records)
+no_plane_at axis records values values' r a e b er = no_plane axis records values' (subst (AreValues axis records) (sym e) a) (subst (BestStep values' (length values')) er b)
+
+pub best_plane_at : (axis : ℕ) (records : List Record) (values values' values'' : List ℕ) (r : Option ℕ) (at : ℕ) (c : Candidate) → AreValues axis records values → values' ≡ values → values'' ≡ values → BestStep values' (length values') r → r ≡ Some at
+  → c.cut.axis ≡ axis → c.cut.value ≡ get_or values'' at 0 → c.cut.side ≡ heavier_side at (length values'' - at) → c.count ≡ heavier_at values'' at → IsBestOn axis records c
+best_plane_at axis records values values' values'' r at c a e e' b er =
+    let f : values' ≡ values'' = e ∙ sym e' in
+    best_plane axis records values'' (subst (AreValues axis records) (sym e') a) at c (subst (λ (x : List ℕ). BestStep x (length x) (Some at)) f (subst (BestStep values' (length values')) er b))
