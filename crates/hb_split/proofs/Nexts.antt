@@ -1,5 +1,5 @@
 -- The next cut of a leaf's records, and the chain of them.
-use Rattle.std.proofs.Common.{◌≡◌, ℕ, zero, suc, ◌+◌, ◌-◌, ◌*◌, ◌<◌, ◌≤◌, ◌⊎◌, inl, inr, max, Bool, true, false, cond, not, nat_lt, List, [], ◌∷◌, ◌++◌, length, filter, get_or, slice_index, Some, None, refl, sym, ap, ◌∙◌, arith, subst}
+use Rattle.std.proofs.Common.{◌≡◌, ℕ, zero, suc, ◌+◌, ◌-◌, ◌*◌, ◌<◌, ◌≤◌, ◌⊎◌, inl, inr, max, Bool, true, false, cond, not, nat_lt, List, [], ◌∷◌, ◌++◌, length, filter, get_or, slice_index, Option, Some, None, refl, sym, ap, ◌∙◌, arith, subst}
 use Rattle.std.specs.declared.cmp.Ordering.TheVariants.{Less, Equal, Greater}
 use Rattle.std.specs.declared.cmp.Ordering.{Ordering}
 use Rattle.std.specs.Ordering.{nat_cmp, ordering_then}
@@ -85,6 +85,10 @@ some_plane k (r ∷ s ∷ rest) two a none =
     let d = differs r.key s.key (er ∙ sym es) (a.rising 0 1 r (omega arith) (omega arith)) in
     let lt = d.1 in
     none d.0 (get_or s.key d.0 0) (record { attribute = omega (arith, lt, er); met = (1, s, omega arith, refl, refl); exceeds = (0, r, omega arith, refl, d.2) })
+
+-- when all attributes are done
+pub ended : (k j : ℕ) (records : List Record) (best r : Option Candidate) → k ≤ j → j ≤ k → BestOf j records best → best ≡ r → BestOf k records r
+ended k j records best r le ge b e = subst (BestOf k records) e (subst (λ (x : ℕ). BestOf x records best) (omega (arith, le, ge)) b)
 
 pub adds_none : (n k : ℕ) (records : List Record) (old : List LeafCut) → 6 ≤ n → 3 * length records ≤ 2 * n → AddsCuts n k records old old
 adds_none n k records old full light = ([], sym (append-nil old), omega (arith, full, light))

@@ -1,12 +1,9 @@
-use Rattle.std.proofs.Common.{rules, ◌≡◌, ◌≤◌, ◌<◌, ◌^◌, ◌+◌, ◌-◌, length, slice_index, All, Some, IfOk, ℕ, ◌*◌, ◌/◌, ◌%◌, Bool, true, false, nat_eq, nat_lt, List, [], ◌∷◌, ◌++◌, slice_index_or, slice_set, bit_and, bit_or, Fits, w8, w32, w64, Bor, MutBor}
-use Rattle.hb_split.specs.Steps.{AreOf, AreValues, BestOf, BestOn, BestStep, IsBestOn, IsNext, heavier_at}
-use Rattle.hb_split.specs.Choosing.{heavier_side}
+use Rattle.std.proofs.Common.{◌≡◌}
+use Rattle.hb_split.proofs.Nexts.{some_plane, next_of, ended}
 use Rattle.hb_split.proofs.planes.best_cut.Goals as goal
 
--- src/planes.rt:37:17
 pub unreachable-requires : goal.unreachable-requires
-unreachable-requires c = ?
+unreachable-requires c = some_plane c.args.attributes c.args.records.now c.requires.several c.requires.records (ended c.args.attributes c.loop-axis.axis c.args.records.now c.loop-axis.best _ c.loop-axis-test.false c.loop-axis.auto.axis-end c.loop-axis.invariant c.in-None.is)
 
--- src/planes.rt:19:1
 pub returns : goal.returns
-returns c = ?
+returns c = next_of c.args.attributes c.args.records.now c.in-Some.candidate c.requires.records (ended c.args.attributes c.loop-axis.axis c.args.records.now c.loop-axis.best _ c.loop-axis-test.false c.loop-axis.auto.axis-end c.loop-axis.invariant c.in-Some.is)
