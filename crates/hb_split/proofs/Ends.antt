@@ -2,7 +2,7 @@
 use Rattle.std.proofs.Common.{◌≡◌, ℕ, ◌+◌, ◌*◌, ◌<◌, ◌≤◌, ◌⊎◌, inl, inr, Bool, true, false, if◌then◌else◌, nat_lt, List, [], ◌∷◌, ◌++◌, length, All, Option, Some, None, refl, sym, ap, ◌∙◌, arith, subst}
 use Rattle.std.proofs.lemmas.List.{length-set}
 use Rattle.std.proofs.lemmas.List.Elements.{All-nil, All-cons, All-head, All-tail}
-use Rattle.hb_space.specs.Boxes.{Area, side_below, side_from}
+use Rattle.hb_space.specs.Boxes.{Area, Holds, side_below, side_from}
 use Rattle.hb_frag.specs.declared.leaves.Leaf.{Leaf}
 use Rattle.hb_frag.specs.declared.paths.Side.{Side}
 use Rattle.hb_frag.specs.declared.paths.Side.TheVariants.{Left, Right}
@@ -118,3 +118,7 @@ pub is_chosen_at : (n k k' : ℕ) (path : List Side) (tree : Tree) (area : Area)
 is_chosen_at n k k' path tree area part records old new cuts full g found e ek eo ec added =
     is_chosen n k path tree area part records cuts full g found e
       (subst (λ (x : List LeafCut). AddsCuts n k records [] x) (sym ec) (subst (λ (x : List LeafCut). AddsCuts n k records x new) eo (subst (λ (x : ℕ). AddsCuts n x records old new) ek added)))
+
+pub records_held : (n k : ℕ) (t : Tree) (area : Area) → IsEnd n k (t, area) → All (λ r. Holds area r.key) (records_in t)
+records_held n k (Tip leaf) area e = (All-head IsInOrder (record { leaf = leaf; area = area }) [] e.ordered).inside
+records_held n k (Cut axis value l r) area e = λ i d lt. absurd (omega (arith, lt))

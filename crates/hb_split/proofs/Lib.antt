@@ -4,3 +4,4 @@ pub mod Ends
 pub mod Better
 pub mod Values
 pub mod Nexts
+pub mod Allowed
