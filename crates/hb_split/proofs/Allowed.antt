@@ -77,15 +77,17 @@ part_leaves n k [] tree a same held c = tt
 part_leaves n k (cut ∷ cuts) tree a same held c =
     let here = subst (λ (t : Tree). All (λ r. Holds a r.key) (records_in t)) c.0.leaf held in
     let plane = plane_cuts k cut.axis cut.value c.0.records a same here c.0.best.may in
-    let on = is_on cut.side cut.axis cut.value in
-    (record {
-      records = c.0.records;
-      leaf = c.0.leaf;
-      plane = plane;
-      on = parts k cut.axis cut.value c.0.records c.0.best.may cut.side;
-      off = parts k cut.axis cut.value c.0.records c.0.best.may (other_side cut.side);
-    }, part_leaves n k cuts (going cut tree) (half_area cut a) (as_long cut.side cut.axis cut.value a ∙ same)
-      (λ i d lt. on_side cut.side cut.axis cut.value a (get_or (filter on (records_in tree)) i d) plane (All-filter on (λ (r : Record). Holds a r.key) (records_in tree) held i d lt) (filter_passes on (records_in tree) i d lt)) c.1)
+    let on = is_on cut.side cut.axis cut.value in (
+      record {
+        records = c.0.records;
+        leaf = c.0.leaf;
+        plane = plane;
+        on = parts k cut.axis cut.value c.0.records c.0.best.may cut.side;
+        off = parts k cut.axis cut.value c.0.records c.0.best.may (other_side cut.side);
+      },
+      part_leaves n k cuts (going cut tree) (half_area cut a) (as_long cut.side cut.axis cut.value a ∙ same)
+          (λ i d lt. on_side cut.side cut.axis cut.value a (get_or (filter on (records_in tree)) i d) plane (All-filter on (λ (r : Record). Holds a r.key) (records_in tree) held i d lt) (filter_passes on (records_in tree) i d lt)) c.1,
+    )
 
 light_tip : (t : Tree) → IsSiblingTip t → weight_of t ≡ 1
 light_tip (Tip (Records records)) s = absurd s
@@ -102,7 +104,7 @@ PartsOf cuts None = Unit {0}
 PartsOf cuts (Some part) = PartLeaves (planes cuts) part.0 part.1
 
 pub is_allowed : (n : ℕ) (page : LivePage) (path : List Side) (cuts : List LeafCut) → 6 ≤ n → n ≡ weight_of page.frag → path ≡ way_down n page.frag → AreInOrder page
-  → (q : Tree × Area) × (part_at path page.frag page.area ≡ Some q) × AreChosen n (length page.area.lo) (planes cuts) q.0 → IsThirds page path cuts → IsAllowed page path cuts
+    → (q : Tree × Area) × (part_at path page.frag page.area ≡ Some q) × AreChosen n (length page.area.lo) (planes cuts) q.0 → IsThirds page path cuts → IsAllowed page path cuts
 is_allowed n page path cuts full e way ordered c t =
     let k = length page.area.lo in
     let g = of_page n page path full e way ordered in

@@ -21,23 +21,25 @@ split k a v records m = elim (cases_lt a k) [
 
 -- the best one stays where the other isn't lighter
 stays : (k : ℕ) (records : List Record) (best : Candidate) → BestOf k records (Some best)
-  → ((v : ℕ) → MayCut (k + 1) k v records → best.count ≤ heavier_count k v records) → BestOf (k + 1) records (Some best)
+    → ((v : ℕ) → MayCut (k + 1) k v records → best.count ≤ heavier_count k v records) → BestOf (k + 1) records (Some best)
 stays k records best b lighter =
     let count = b.1.count in
-    let at = b.0.may.attribute in
-    (record {
-      may = more k best.cut.axis best.cut.value records b.0.may;
-      first = λ a v m. elim (split k a v records m) [
-        | inl old ↦ b.0.first a v old
-        | inr new ↦
-          let le = lighter v new.1 in
-          subst (λ (x : ℕ). NotBehind (heavier_count best.cut.axis best.cut.value records) best.cut.axis best.cut.value (heavier_count x v records) x v) (sym new.0)
-            (elim (cases_lt (heavier_count best.cut.axis best.cut.value records) (heavier_count k v records)) [
-              | inl lt ↦ inl lt
-              | inr ge ↦ inr (omega (arith, count, le, ge), inl at)
-            ])
-      ];
-    }, b.1)
+    let at = b.0.may.attribute in (
+      record {
+        may = more k best.cut.axis best.cut.value records b.0.may;
+        first = λ a v m. elim (split k a v records m) [
+          | inl old ↦ b.0.first a v old
+          | inr new ↦
+              let le = lighter v new.1 in
+              subst (λ (x : ℕ). NotBehind (heavier_count best.cut.axis best.cut.value records) best.cut.axis best.cut.value (heavier_count x v records) x v) (sym new.0)
+              (elim (cases_lt (heavier_count best.cut.axis best.cut.value records) (heavier_count k v records)) [
+                | inl lt ↦ inl lt
+                | inr ge ↦ inr (omega (arith, count, le, ge), inl at)
+              ])
+        ];
+      },
+      b.1,
+    )
 
 -- what a best plane of one attribute has, at its own axis
 own : (k : ℕ) (records : List Record) (other : Candidate) → IsBestOn k records other → IsBest (k + 1) k other.cut.value records → BestOf (k + 1) records (Some other)
@@ -84,12 +86,15 @@ none_alone k records none none' a v m = elim (split k a v records m) [ inl old �
 -- a step that stays the best one
 pub step_stays : (values : List ℕ) (at b : ℕ) → BestStep values at (Some b) → heavier_at values b ≤ heavier_at values at → BestStep values (at + 1) (Some b)
 step_stays values at b h le =
-    let below = h.0 in
-    (omega (arith, below), h.1, λ i lt step. elim (cases_lt i at) [
-      | inl old ↦ h.2 i old step
-      | inr ge ↦ let e : i ≡ at = omega (arith, lt, ge) in subst (λ (x : ℕ). (heavier_at values b < heavier_at values x) ⊎ ((heavier_at values b ≡ heavier_at values x) × (b ≤ x))) (sym e)
-          (elim (cases_lt (heavier_at values b) (heavier_at values at)) [ inl w ↦ inl w | inr g ↦ inr (omega (arith, le, g), omega (arith, below)) ])
-    ])
+    let below = h.0 in (
+      omega (arith, below),
+      h.1,
+      λ i lt step. elim (cases_lt i at) [
+        | inl old ↦ h.2 i old step
+        | inr ge ↦ let e : i ≡ at = omega (arith, lt, ge) in subst (λ (x : ℕ). (heavier_at values b < heavier_at values x) ⊎ ((heavier_at values b ≡ heavier_at values x) × (b ≤ x))) (sym e)
+            (elim (cases_lt (heavier_at values b) (heavier_at values at)) [ inl w ↦ inl w | inr g ↦ inr (omega (arith, le, g), omega (arith, below)) ])
+      ],
+    )
 
 pub all_new : (k : ℕ) (records : List Record) (other : Option Candidate) → BestOf k records None → BestOn k records other → BestOf (k + 1) records other
 all_new k records None none o = none_alone k records none o

@@ -56,10 +56,10 @@ goes_down n k (Tip leaf) area more whole ordered same = record { ends = record {
 goes_down n k (Cut axis value l r) area more whole ordered same =
     let e = weight_cut axis value l r in
     tested (2 * n) (3 * (weight_of l + weight_of r)) (λ t. GoesDown n k (if t then (if nat_lt (weight_of l) (weight_of r) then Right ∷ way_down n r else Left ∷ way_down n l) else []) (Cut axis value l r) area)
-      (λ heavy. tested (weight_of l) (weight_of r) (λ t. GoesDown n k (if t then Right ∷ way_down n r else Left ∷ way_down n l) (Cut axis value l r) area)
-        (λ lt. let rest = goes_down n k r (side_from area axis value) (omega (arith, heavy, lt)) (omega (arith, e, whole)) (all_right (leaves_of l (side_below area axis value)) (leaves_of r (side_from area axis value)) ordered) (length-set area.lo axis value ∙ same) in record { ends = rest.ends; inside = rest.inside })
-        (λ le. let rest = goes_down n k l (side_below area axis value) (omega (arith, heavy, le)) (omega (arith, e, whole)) (all_left (leaves_of l (side_below area axis value)) (leaves_of r (side_from area axis value)) ordered) same in record { ends = rest.ends; inside = rest.inside }))
-      (λ light. record { ends = record { more = more; whole = whole; done = inl (omega (arith, e, light)); ordered = ordered; attributes = same }; inside = tt })
+    (λ heavy. tested (weight_of l) (weight_of r) (λ t. GoesDown n k (if t then Right ∷ way_down n r else Left ∷ way_down n l) (Cut axis value l r) area)
+    (λ lt. let rest = goes_down n k r (side_from area axis value) (omega (arith, heavy, lt)) (omega (arith, e, whole)) (all_right (leaves_of l (side_below area axis value)) (leaves_of r (side_from area axis value)) ordered) (length-set area.lo axis value ∙ same) in record { ends = rest.ends; inside = rest.inside })
+    (λ le. let rest = goes_down n k l (side_below area axis value) (omega (arith, heavy, le)) (omega (arith, e, whole)) (all_left (leaves_of l (side_below area axis value)) (leaves_of r (side_from area axis value)) ordered) same in record { ends = rest.ends; inside = rest.inside }))
+    (λ light. record { ends = record { more = more; whole = whole; done = inl (omega (arith, e, light)); ordered = ordered; attributes = same }; inside = tt })
 
 pub of_page : (n : ℕ) (page : LivePage) (path : List Side) → 6 ≤ n → n ≡ weight_of page.frag → path ≡ way_down n page.frag → AreInOrder page → GoesDown n (length page.area.lo) path page.frag page.area
 of_page n page path full e way ordered = subst (λ (p : List Side). GoesDown n (length page.area.lo) p page.frag page.area) (sym way) (goes_down n (length page.area.lo) page.frag page.area (omega (arith, full, e)) (omega (arith, e)) ordered refl)
@@ -97,13 +97,16 @@ chosen_of n k [] (Cut axis value l r) area full e c = elim e.done [ inl le ↦ l
 chosen_of n k (cut ∷ cuts) (Cut axis value l r) area full e c = let h = c.0.heavy in absurd (omega (arith, full, h))
 
 pub is_chosen : (n k : ℕ) (path : List Side) (tree : Tree) (area : Area) (part : Tree × Area) (records : List Record) (cuts : List LeafCut) → 6 ≤ n → GoesDown n k path tree area → part_at path tree area ≡ Some part → records ≡ records_in part.0 → AddsCuts n k records [] cuts
-  → (q : Tree × Area) × (part_at path tree area ≡ Some q) × AreChosen n k (planes cuts) q.0
-is_chosen n k path tree area part records cuts full g found e added =
-    (part, found, subst (λ (c : List LeafCut). AreChosen n k (planes c) part.0) (sym added.1)
-      (chosen_of n k (planes added.0) part.0 part.1 full (at_end n k path tree area part g found) (subst (λ (r : List Record). AreChosen n k (planes added.0) (Tip (Records r))) e added.2)))
+    → (q : Tree × Area) × (part_at path tree area ≡ Some q) × AreChosen n k (planes cuts) q.0
+is_chosen n k path tree area part records cuts full g found e added = (
+  part,
+  found,
+  subst (λ (c : List LeafCut). AreChosen n k (planes c) part.0) (sym added.1)
+      (chosen_of n k (planes added.0) part.0 part.1 full (at_end n k path tree area part g found) (subst (λ (r : List Record). AreChosen n k (planes added.0) (Tip (Records r))) e added.2)),
+)
 
 pub is_thirds : (n : ℕ) (page : LivePage) (path : List Side) (cuts : List LeafCut) → 6 ≤ n → n ≡ weight_of page.frag → path ≡ way_down n page.frag → AreInOrder page
-  → (q : Tree × Area) × (part_at path page.frag page.area ≡ Some q) × AreChosen n (length page.area.lo) (planes cuts) q.0 → IsThirds page path cuts
+    → (q : Tree × Area) × (part_at path page.frag page.area ≡ Some q) × AreChosen n (length page.area.lo) (planes cuts) q.0 → IsThirds page path cuts
 is_thirds n page path cuts full e way ordered c =
     let k = length page.area.lo in
     let end = at_end n k path page.frag page.area c.0 (of_page n page path full e way ordered) c.1 in
@@ -113,11 +116,11 @@ is_thirds n page path cuts full e way ordered c =
     record { part = c.0; found = c.1; more = omega (arith, more, e); less = omega (arith, less, e) }
 
 pub is_chosen_at : (n k k' : ℕ) (path : List Side) (tree : Tree) (area : Area) (part : Tree × Area) (records : List Record) (old new cuts : List LeafCut) → 6 ≤ n → GoesDown n k path tree area → part_at path tree area ≡ Some part → records ≡ records_in part.0
-  → k' ≡ k → old ≡ [] → cuts ≡ new → AddsCuts n k' records old new
-  → (q : Tree × Area) × (part_at path tree area ≡ Some q) × AreChosen n k (planes cuts) q.0
+    → k' ≡ k → old ≡ [] → cuts ≡ new → AddsCuts n k' records old new
+    → (q : Tree × Area) × (part_at path tree area ≡ Some q) × AreChosen n k (planes cuts) q.0
 is_chosen_at n k k' path tree area part records old new cuts full g found e ek eo ec added =
     is_chosen n k path tree area part records cuts full g found e
-      (subst (λ (x : List LeafCut). AddsCuts n k records [] x) (sym ec) (subst (λ (x : List LeafCut). AddsCuts n k records x new) eo (subst (λ (x : ℕ). AddsCuts n x records old new) ek added)))
+    (subst (λ (x : List LeafCut). AddsCuts n k records [] x) (sym ec) (subst (λ (x : List LeafCut). AddsCuts n k records x new) eo (subst (λ (x : ℕ). AddsCuts n x records old new) ek added)))
 
 pub records_held : (n k : ℕ) (t : Tree) (area : Area) → IsEnd n k (t, area) → All (λ r. Holds area r.key) (records_in t)
 records_held n k (Tip leaf) area e = (All-head IsInOrder (record { leaf = leaf; area = area }) [] e.ordered).inside

@@ -69,10 +69,10 @@ differs (x ∷ xs) (y ∷ ys) same e = elim (cases_lt x y) [
   | inr ge ↦ elim (cases_lt y x) [
     | inl gt ↦ let o : Greater ≡ nat_cmp x y = nat_cmp_is x y Greater gt in absurd (subst NotLess (subst (λ (r : Ordering). ordering_then r (point_cmp xs ys) ≡ Less) (sym o) e) tt)
     | inr le ↦
-      let o : Equal ≡ nat_cmp x y = nat_cmp_is x y Equal (omega (arith, ge, le)) in
-      let rest = differs xs ys (omega (arith, same)) (subst (λ (r : Ordering). ordering_then r (point_cmp xs ys) ≡ Less) (sym o) e) in
-      let lt = rest.1 in
-      (suc rest.0, omega (arith, lt), rest.2)
+        let o : Equal ≡ nat_cmp x y = nat_cmp_is x y Equal (omega (arith, ge, le)) in
+        let rest = differs xs ys (omega (arith, same)) (subst (λ (r : Ordering). ordering_then r (point_cmp xs ys) ≡ Less) (sym o) e) in
+        let lt = rest.1 in
+        (suc rest.0, omega (arith, lt), rest.2)
   ]
 ]
 
@@ -94,7 +94,9 @@ pub adds_none : (n k : ℕ) (records : List Record) (old : List LeafCut) → 6 �
 adds_none n k records old full light = ([], sym (append-nil old), omega (arith, full, light))
 
 pub adds_one : (n k : ℕ) (records : List Record) (cut : LeafCut) (old new : List LeafCut) → 6 ≤ n → 2 * n < 3 * length records → IsNext k records cut
-  → AddsCuts n k (filter (is_on cut.side cut.axis cut.value) records) (old ++ cut ∷ []) new → AddsCuts n k records old new
-adds_one n k records cut old new full heavy next rest =
-    (cut ∷ rest.0, rest.1 ∙ append_assoc old (cut ∷ []) rest.0,
-      (record { records = records; leaf = refl; heavy = omega (arith, heavy); best = next.best; side = next.side }, rest.2))
+    → AddsCuts n k (filter (is_on cut.side cut.axis cut.value) records) (old ++ cut ∷ []) new → AddsCuts n k records old new
+adds_one n k records cut old new full heavy next rest = (
+  cut ∷ rest.0,
+  rest.1 ∙ append_assoc old (cut ∷ []) rest.0,
+  (record { records = records; leaf = refl; heavy = omega (arith, heavy); best = next.best; side = next.side }, rest.2),
+)

@@ -46,13 +46,15 @@ found : (v : ℕ) (values : List ℕ) → Rises values → (at : ℕ) × EndsBel
 found v [] up = (0, record { inside = omega arith; under = λ j lt. absurd (omega (arith, lt)); from = λ j le lt. absurd (omega (arith, lt)) })
 found v (x ∷ xs) up = elim (cases_lt x v) [
   | inl lt ↦
-    let rest = found v xs (λ i j le l. up (suc i) (suc j) (omega (arith, le)) (omega (arith, l))) in
-    let le = rest.1.inside in
-    (suc rest.0, record {
-      inside = omega (arith, le);
-      under = λ j. elim j as (λ (k : ℕ). k < suc rest.0 → get_or (x ∷ xs) k 0 < v) [ zero ↦ λ l. lt | suc k ↦ λ l. rest.1.under k (omega (arith, l)) ];
-      from = λ j. elim j as (λ (k : ℕ). suc rest.0 ≤ k → k < length (x ∷ xs) → v ≤ get_or (x ∷ xs) k 0) [ zero ↦ λ l m. absurd (omega (arith, l)) | suc k ↦ λ l m. rest.1.from k (omega (arith, l)) (omega (arith, m)) ];
-    })
+      let rest = found v xs (λ i j le l. up (suc i) (suc j) (omega (arith, le)) (omega (arith, l))) in
+      let le = rest.1.inside in (
+        suc rest.0,
+        record {
+          inside = omega (arith, le);
+          under = λ j. elim j as (λ (k : ℕ). k < suc rest.0 → get_or (x ∷ xs) k 0 < v) [ zero ↦ λ l. lt | suc k ↦ λ l. rest.1.under k (omega (arith, l)) ];
+          from = λ j. elim j as (λ (k : ℕ). suc rest.0 ≤ k → k < length (x ∷ xs) → v ≤ get_or (x ∷ xs) k 0) [ zero ↦ λ l m. absurd (omega (arith, l)) | suc k ↦ λ l m. rest.1.from k (omega (arith, l)) (omega (arith, m)) ];
+        },
+      )
   | inr ge ↦ (0, record { inside = omega arith; under = λ j lt. absurd (omega (arith, lt)); from = λ j le lt. let h = up 0 j (omega arith) lt in omega (arith, h, ge) })
 ]
 
@@ -174,11 +176,11 @@ module _ (axis : ℕ) (records : List Record) (values : List ℕ) (a : AreValues
             let h' = heavier s.0 s.1 in
             let up = rises at s.0 in
             subst (λ (y : ℕ). NotBehind (heavier_count axis y records) axis y (heavier_count axis v records) axis v) (sym ev)
-              (subst (λ (y : ℕ). NotBehind (heavier_count axis (get_or values at 0) records) axis (get_or values at 0) (heavier_count axis y records) axis y) s.2
-                (elim (b.2 s.0 s.1.inside s.1) [
-                  | inl lt ↦ inl (omega (arith, h, h', lt))
-                  | inr same ↦ let e = same.0 in inr (omega (arith, h, h', e), inr (refl, up same.1 s.1.inside))
-                ]));
+            (subst (λ (y : ℕ). NotBehind (heavier_count axis (get_or values at 0) records) axis (get_or values at 0) (heavier_count axis y records) axis y) s.2
+            (elim (b.2 s.0 s.1.inside s.1) [
+              | inl lt ↦ inl (omega (arith, h, h', lt))
+              | inr same ↦ let e = same.0 in inr (omega (arith, h, h', e), inr (refl, up same.1 s.1.inside))
+            ]));
         told = record { count = told'.0; side = told'.1 };
       }
 
@@ -187,7 +189,7 @@ pub no_plane_at : (axis : ℕ) (records : List Record) (values values' : List �
 no_plane_at axis records values values' r a e b er = no_plane axis records values' (subst (AreValues axis records) (sym e) a) (subst (BestStep values' (length values')) er b)
 
 pub best_plane_at : (axis : ℕ) (records : List Record) (values values' values'' : List ℕ) (r : Option ℕ) (at : ℕ) (c : Candidate) → AreValues axis records values → values' ≡ values → values'' ≡ values → BestStep values' (length values') r → r ≡ Some at
-  → c.cut.axis ≡ axis → c.cut.value ≡ get_or values'' at 0 → c.cut.side ≡ heavier_side at (length values'' - at) → c.count ≡ heavier_at values'' at → IsBestOn axis records c
+    → c.cut.axis ≡ axis → c.cut.value ≡ get_or values'' at 0 → c.cut.side ≡ heavier_side at (length values'' - at) → c.count ≡ heavier_at values'' at → IsBestOn axis records c
 best_plane_at axis records values values' values'' r at c a e e' b er =
     let f : values' ≡ values'' = e ∙ sym e' in
     best_plane axis records values'' (subst (AreValues axis records) (sym e') a) at c (subst (λ (x : List ℕ). BestStep x (length x) (Some at)) f (subst (BestStep values' (length values')) er b))

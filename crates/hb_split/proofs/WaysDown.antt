@@ -43,29 +43,29 @@ right_none steps s t e = ap (λ (z : List Side). (steps ++ reverse s) ++ reverse
 
 -- one side after the other, and then the own step
 joined : (n a b : ℕ) (s t steps : List Side) → (3 * a ≤ 2 * n → s ≡ []) → (3 * b ≤ 2 * n → t ≡ []) → a + b ≤ n
-  → ((steps ++ reverse s) ++ reverse t) ++ own_step n a b ≡ steps ++ reverse (if is_heavy n (a + b) then (if nat_lt a b then Right ∷ t else Left ∷ s) else [])
+    → ((steps ++ reverse s) ++ reverse t) ++ own_step n a b ≡ steps ++ reverse (if is_heavy n (a + b) then (if nat_lt a b then Right ∷ t else Left ∷ s) else [])
 joined n a b s t steps no_s no_t few =
     tested (2 * n) (3 * (a + b)) (λ h. ((steps ++ reverse s) ++ reverse t) ++ (if h then heavier_side a b ∷ [] else []) ≡ steps ++ reverse (if h then (if nat_lt a b then Right ∷ t else Left ∷ s) else []))
-      (λ lt. tested a b (λ right. ((steps ++ reverse s) ++ reverse t) ++ ((if right then Right else Left) ∷ []) ≡ steps ++ reverse (if right then Right ∷ t else Left ∷ s))
-        (λ r. let e = no_s (omega (arith, r, few)) in ap (λ (z : List Side). z ++ Right ∷ []) (left_none steps s t e) ∙ one_more steps t Right)
-        (λ l. let e = no_t (omega (arith, l, few)) in ap (λ (z : List Side). z ++ Left ∷ []) (right_none steps s t e) ∙ one_more steps s Left))
-      (λ le. let e = no_s (omega (arith, le)) in let f = no_t (omega (arith, le)) in append-nil ((steps ++ reverse s) ++ reverse t) ∙ right_none steps s t f ∙ ap (λ (z : List Side). steps ++ reverse z) e)
+    (λ lt. tested a b (λ right. ((steps ++ reverse s) ++ reverse t) ++ ((if right then Right else Left) ∷ []) ≡ steps ++ reverse (if right then Right ∷ t else Left ∷ s))
+    (λ r. let e = no_s (omega (arith, r, few)) in ap (λ (z : List Side). z ++ Right ∷ []) (left_none steps s t e) ∙ one_more steps t Right)
+    (λ l. let e = no_t (omega (arith, l, few)) in ap (λ (z : List Side). z ++ Left ∷ []) (right_none steps s t e) ∙ one_more steps s Left))
+    (λ le. let e = no_s (omega (arith, le)) in let f = no_t (omega (arith, le)) in append-nil ((steps ++ reverse s) ++ reverse t) ∙ right_none steps s t f ∙ ap (λ (z : List Side). steps ++ reverse z) e)
 
 pub climbs : (n axis value : ℕ) (l r : Tree) (steps : List Side) → weight_of l + weight_of r ≤ n
-  → ((steps ++ reverse (way_down n l)) ++ reverse (way_down n r)) ++ own_step n (weight_of l) (weight_of r) ≡ steps ++ reverse (way_down n (Cut axis value l r))
+    → ((steps ++ reverse (way_down n l)) ++ reverse (way_down n r)) ++ own_step n (weight_of l) (weight_of r) ≡ steps ++ reverse (way_down n (Cut axis value l r))
 climbs n axis value l r steps few = joined n (weight_of l) (weight_of r) (way_down n l) (way_down n r) steps (light n l) (light n r) few
 
 -- the same along the facts of the calls
 pub climbed : (n a b axis value : ℕ) (t l r l' r' : Tree) (s0 s1 s2 s3 : List Side) → t ≡ Cut axis value l r → l' ≡ l → r' ≡ r → a ≡ weight_of l' → b ≡ weight_of r' → weight_of t ≤ n
-  → s1 ≡ s0 ++ reverse (way_down n l') → s2 ≡ s1 ++ reverse (way_down n r') → s3 ≡ s2 ++ own_step n a b → s3 ≡ s0 ++ reverse (way_down n t)
+    → s1 ≡ s0 ++ reverse (way_down n l') → s2 ≡ s1 ++ reverse (way_down n r') → s3 ≡ s2 ++ own_step n a b → s3 ≡ s0 ++ reverse (way_down n t)
 climbed n a b axis value t l r l' r' s0 s1 s2 s3 et el er ea eb few e1 e2 e3 =
     let et' : t ≡ Cut axis value l' r' = et ∙ ap (λ (x : Tree). Cut axis value x r) (sym el) ∙ ap (λ (x : Tree). Cut axis value l' x) (sym er) in
     let w = ap weight_of et' in
     let both = weight_cut axis value l' r' in
     let all = climbs n axis value l' r' s0 (omega (arith, few, w, both)) in
     e3
-      ∙ ap (λ (s : List Side). s ++ own_step n a b) (e2 ∙ ap (λ (s : List Side). s ++ reverse (way_down n r')) e1)
-      ∙ ap (λ (x : ℕ). ((s0 ++ reverse (way_down n l')) ++ reverse (way_down n r')) ++ own_step n x b) ea
-      ∙ ap (λ (x : ℕ). ((s0 ++ reverse (way_down n l')) ++ reverse (way_down n r')) ++ own_step n (weight_of l') x) eb
-      ∙ all
-      ∙ ap (λ (x : Tree). s0 ++ reverse (way_down n x)) (sym et')
+    ∙ ap (λ (s : List Side). s ++ own_step n a b) (e2 ∙ ap (λ (s : List Side). s ++ reverse (way_down n r')) e1)
+    ∙ ap (λ (x : ℕ). ((s0 ++ reverse (way_down n l')) ++ reverse (way_down n r')) ++ own_step n x b) ea
+    ∙ ap (λ (x : ℕ). ((s0 ++ reverse (way_down n l')) ++ reverse (way_down n r')) ++ own_step n (weight_of l') x) eb
+    ∙ all
+    ∙ ap (λ (x : Tree). s0 ++ reverse (way_down n x)) (sym et')

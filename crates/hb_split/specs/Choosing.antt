@@ -56,7 +56,7 @@ NotBehind count axis value count' axis' value' = (count < count') ⊎ ((count �
 pub record IsBest (k axis value : ℕ) (records : List Record) : Type 0 where
   pub may : MayCut k axis value records
   pub first : (axis' value' : ℕ) → MayCut k axis' value' records
-    → NotBehind (heavier_count axis value records) axis value (heavier_count axis' value' records) axis' value'
+      → NotBehind (heavier_count axis value records) axis value (heavier_count axis' value' records) axis' value'
 
 -- a cut of a records leaf that has more than two thirds
 pub record Chooses (n k : ℕ) (cut : splitting.LeafCut) (tree : Tree) : Type 0 where

@@ -50,7 +50,7 @@ pub record IsBestOn (axis : ℕ) (records : List Record) (candidate : Candidate)
   pub axis_of : candidate.cut.axis ≡ axis
   pub may : MayCut (axis + 1) axis candidate.cut.value records
   pub first : (value : ℕ) → MayCut (axis + 1) axis value records
-    → NotBehind (heavier_count axis candidate.cut.value records) axis candidate.cut.value (heavier_count axis value records) axis value
+      → NotBehind (heavier_count axis candidate.cut.value records) axis candidate.cut.value (heavier_count axis value records) axis value
   pub told : IsOf records candidate
 
 abbrev pub BestOn : ℕ → List Record → Option Candidate → Type 0

@@ -16,4 +16,4 @@ returns-clause-allowed c =
     let e = c.weight-total.ensures in
     let full' : 6 ≤ c.weight-total.result = omega (arith, full, e) in
     is_allowed c.weight-total.result c.args.page.now c.in_ok-path.path c.in_ok-cuts.cuts full' e c.in_ok-path.ensures c.requires.in_order c.in_ok-cuts.ensures
-      (is_thirds c.weight-total.result c.args.page.now c.in_ok-path.path c.in_ok-cuts.cuts full' e c.in_ok-path.ensures c.requires.in_order c.in_ok-cuts.ensures)
+    (is_thirds c.weight-total.result c.args.page.now c.in_ok-path.path c.in_ok-cuts.cuts full' e c.in_ok-path.ensures c.requires.in_order c.in_ok-cuts.ensures)
