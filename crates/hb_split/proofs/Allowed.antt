@@ -1,5 +1,5 @@
 -- What is chosen may leave the page.
-use Rattle.std.proofs.Common.{◌≡◌, ℕ, zero, suc, ◌+◌, ◌-◌, ◌*◌, ◌<◌, ◌≤◌, ◌⊎◌, inl, inr, Bool, true, not, List, [], ◌∷◌, length, get_or, set, filter, Option, Some, None, refl, sym, ap, ◌∙◌, arith, subst}
+use Rattle.std.proofs.Common.{◌≡◌, ℕ, zero, suc, ◌-◌, ◌*◌, ◌<◌, ◌≤◌, ◌⊎◌, inl, inr, true, List, [], ◌∷◌, length, get_or, set, filter, Option, Some, None, refl, sym, ap, ◌∙◌, arith, subst}
 use Rattle.std.specs.List.{All}
 use Rattle.std.proofs.lemmas.Bool.{ltb-false, ltb-true, not-true}
 use Rattle.std.proofs.lemmas.List.{length-set}
@@ -19,7 +19,7 @@ use Rattle.hb_sound.specs.Splitting.{area_on, going, half_area, is_on, other_sid
 use Rattle.hb_split.specs.declared.leaf_cuts.LeafCut.{LeafCut}
 use Rattle.hb_split.specs.Choosing.{planes, way_down, MayCut, AreChosen}
 use Rattle.hb_split.specs.Laws.{IsThirds, IsAllowed}
-use Rattle.hb_split.proofs.Ends.{GoesDown, at_end, of_page, records_held}
+use Rattle.hb_split.proofs.Ends.{at_end, of_page, records_held}
 use Rattle.hb_split.proofs.Nexts.{parts}
 
 replaced : (xs : List ℕ) (n v i : ℕ) → n < length xs → ((i ≡ n) × (get_or (set xs n v) i 0 ≡ v)) ⊎ (get_or (set xs n v) i 0 ≡ get_or xs i 0)

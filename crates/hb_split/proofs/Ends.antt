@@ -1,5 +1,5 @@
 -- Where the way down ends.
-use Rattle.std.proofs.Common.{◌≡◌, ℕ, ◌+◌, ◌*◌, ◌<◌, ◌≤◌, ◌⊎◌, inl, inr, Bool, true, false, if◌then◌else◌, nat_lt, List, [], ◌∷◌, ◌++◌, length, All, Option, Some, None, refl, sym, ap, ◌∙◌, arith, subst}
+use Rattle.std.proofs.Common.{◌≡◌, ℕ, ◌+◌, ◌*◌, ◌<◌, ◌≤◌, ◌⊎◌, inl, inr, if◌then◌else◌, nat_lt, List, [], ◌∷◌, ◌++◌, length, All, Option, Some, None, refl, sym, ◌∙◌, arith, subst}
 use Rattle.std.proofs.lemmas.List.{length-set}
 use Rattle.std.proofs.lemmas.List.Elements.{All-nil, All-cons, All-head, All-tail}
 use Rattle.hb_space.specs.Boxes.{Area, Holds, side_below, side_from}
@@ -16,7 +16,7 @@ use Rattle.hb_frag.specs.declared.pages.LivePage.{LivePage}
 use Rattle.hb_sound.specs.Splitting as sound
 use Rattle.hb_sound.specs.Splitting.{records_in}
 use Rattle.hb_split.specs.declared.leaf_cuts.LeafCut.{LeafCut}
-use Rattle.hb_split.specs.Choosing.{is_heavy, planes, way_down, AreChosen}
+use Rattle.hb_split.specs.Choosing.{planes, way_down, AreChosen}
 use Rattle.hb_split.specs.Steps.{AreOf, AddsCuts}
 use Rattle.hb_split.specs.Laws.{IsThirds}
 use Rattle.hb_split.proofs.Thirds.{thirds}

@@ -1,17 +1,16 @@
 -- What leaves has more than a third of the whole, and at most two thirds.
-use Rattle.std.proofs.Common.{◌≡◌, ℕ, ◌+◌, ◌*◌, ◌<◌, ◌≤◌, max, Bool, true, false, not, if◌then◌else◌, nat_lt, List, [], ◌∷◌, ◌++◌, length, filter, slice_index, Some, refl, sym, ap, ◌∙◌, arith, subst}
+use Rattle.std.proofs.Common.{◌≡◌, ℕ, ◌+◌, ◌*◌, ◌<◌, ◌≤◌, if◌then◌else◌, List, [], ◌∷◌, length, refl, sym, arith, subst}
 use Rattle.std.proofs.lemmas.List.Filters.{length-filter_both}
-use Rattle.hb_space.specs.Boxes.{Area, side_below, side_from}
+use Rattle.hb_space.specs.Boxes.{Area}
 use Rattle.hb_space.specs.declared.records.Record.{Record}
 use Rattle.hb_frag.specs.declared.leaves.Leaf.TheVariants.{Records}
 use Rattle.hb_frag.specs.declared.paths.Side.{Side}
 use Rattle.hb_frag.specs.declared.paths.Side.TheVariants.{Left, Right}
-use Rattle.hb_frag.specs.Trees.{Tree, Tip, Cut}
+use Rattle.hb_frag.specs.Trees.{Tree, Tip}
 use Rattle.hb_frag.specs.Leaves.{weight_of}
-use Rattle.hb_frag.specs.Paths.{part_at}
 use Rattle.hb_sound.specs.Splitting.{LeafCut, going, is_on, half_area, reached}
-use Rattle.hb_split.specs.Choosing.{heavier_side, is_heavy, way_down, count_on, AreChosen, Chooses}
-use Rattle.hb_split.proofs.WaysDown.{tested, weight_cut}
+use Rattle.hb_split.specs.Choosing.{heavier_side, count_on, AreChosen, Chooses}
+use Rattle.hb_split.proofs.WaysDown.{tested}
 
 -- both sides have all records
 pub both : (axis value : ℕ) (records : List Record) → count_on Left axis value records + count_on Right axis value records ≡ length records

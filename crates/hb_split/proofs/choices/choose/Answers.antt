@@ -1,4 +1,4 @@
-use Rattle.std.proofs.Common.{◌≡◌, ◌≤◌, arith}
+use Rattle.std.proofs.Common.{◌≤◌, arith}
 use Rattle.hb_split.proofs.Allowed.{is_allowed}
 use Rattle.hb_split.proofs.Ends.{is_thirds}
 use Rattle.hb_split.proofs.choices.choose.Goals as goal

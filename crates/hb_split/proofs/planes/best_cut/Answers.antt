@@ -1,4 +1,3 @@
-use Rattle.std.proofs.Common.{◌≡◌}
 use Rattle.hb_split.proofs.Nexts.{some_plane, next_of, ended}
 use Rattle.hb_split.proofs.planes.best_cut.Goals as goal
 

@@ -1,4 +1,4 @@
-use Rattle.std.proofs.Common.{◌≡◌, length, ap, ◌∙◌, arith}
+use Rattle.std.proofs.Common.{length, ap, arith}
 use Rattle.hb_split.proofs.Values.{long, no_plane_at, best_plane_at}
 use Rattle.hb_split.proofs.planes.best_on.Goals as goal
 

@@ -1,4 +1,4 @@
-use Rattle.std.proofs.Common.{◌≡◌, subst}
+use Rattle.std.proofs.Common.{subst}
 use Rattle.hb_split.specs.Steps.{BestOf, BestOn}
 use Rattle.hb_split.proofs.Better.{all_new, best_alone}
 use Rattle.hb_split.proofs.planes.better.Goals as goal

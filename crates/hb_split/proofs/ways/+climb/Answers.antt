@@ -1,4 +1,4 @@
-use Rattle.std.proofs.Common.{◌≡◌, sym, ap, ◌∙◌}
+use Rattle.std.proofs.Common.{sym, ap, ◌∙◌}
 use Rattle.hb_frag.specs.Nodes.{tree_of}
 use Rattle.hb_split.proofs.WaysDown.{climbed}
 use Rattle.hb_split.proofs.ways.+climb.Goals as goal
