@@ -1,0 +1,124 @@
+-- What is chosen may leave the page.
+use Rattle.std.proofs.Common.{◌≡◌, ℕ, zero, suc, ◌-◌, ◌*◌, ◌<◌, ◌≤◌, ◌⊎◌, inl, inr, true, List, [], ◌∷◌, length, get_or, set, filter, Option, Some, None, refl, sym, ap, ◌∙◌, arith, subst}
+use Rattle.std.specs.List.{All}
+use Rattle.std.proofs.lemmas.Bool.{ltb-false, ltb-true, not-true}
+use Rattle.std.proofs.lemmas.List.{length-set}
+use Rattle.std.proofs.lemmas.List.Elements.{All-filter, filter_passes}
+use Rattle.hb_space.specs.Boxes.{Area, Cuts, Holds}
+use Rattle.hb_space.specs.declared.records.Record.{Record}
+use Rattle.hb_frag.specs.declared.leaves.Leaf.TheVariants.{Records, Child, Sibling}
+use Rattle.hb_frag.specs.declared.pages.LivePage.{LivePage}
+use Rattle.hb_frag.specs.declared.paths.Side.{Side}
+use Rattle.hb_frag.specs.declared.paths.Side.TheVariants.{Left, Right}
+use Rattle.hb_frag.specs.Trees.{Tree, Tip, Cut}
+use Rattle.hb_frag.specs.Leaves.{weight_of}
+use Rattle.hb_frag.specs.Paths.{part_at}
+use Rattle.hb_frag.specs.Rules.{AreInOrder, IsSiblingTip}
+use Rattle.hb_sound.specs.Splitting as sound
+use Rattle.hb_sound.specs.Splitting.{area_on, going, half_area, is_on, other_side, records_in, reached, PartLeaves}
+use Rattle.hb_split.specs.declared.leaf_cuts.LeafCut.{LeafCut}
+use Rattle.hb_split.specs.Choosing.{planes, way_down, MayCut, AreChosen}
+use Rattle.hb_split.specs.Laws.{IsThirds, IsAllowed}
+use Rattle.hb_split.proofs.Ends.{at_end, of_page, records_held}
+use Rattle.hb_split.proofs.Nexts.{parts}
+
+replaced : (xs : List ℕ) (n v i : ℕ) → n < length xs → ((i ≡ n) × (get_or (set xs n v) i 0 ≡ v)) ⊎ (get_or (set xs n v) i 0 ≡ get_or xs i 0)
+replaced [] n v i lt = absurd (omega arith)
+replaced (x ∷ xs) zero v zero lt = inl (refl, refl)
+replaced (x ∷ xs) zero v (suc i) lt = inr refl
+replaced (x ∷ xs) (suc n) v zero lt = inr refl
+replaced (x ∷ xs) (suc n) v (suc i) lt = elim (replaced xs n v i (omega arith)) [ inl w ↦ inl (ap suc w.0, w.1) | inr e ↦ inr e ]
+
+present : (xs : List ℕ) (n : ℕ) → 0 < get_or xs n 0 → n < length xs
+present [] n h = absurd (omega arith)
+present (x ∷ xs) zero h = omega arith
+present (x ∷ xs) (suc n) h = let rest = present xs n h in omega (arith, rest)
+
+-- a record of the box on a side of a plane lies in that side of the box
+on_side : (side : Side) (axis value : ℕ) (a : Area) (r : Record) → Cuts a axis value → Holds a r.key → is_on side axis value r ≡ true → Holds (area_on side axis value a) r.key
+on_side Left axis value a r cuts h t =
+    let lt : get_or r.key axis 0 < value = ltb-true (get_or r.key axis 0) value t in
+    let there : axis < length a.hi = present a.hi axis (omega (arith, cuts.above_least, cuts.up_to_greatest)) in
+    record {
+      same = h.same;
+      between = λ i l. elim (replaced a.hi axis (value - 1) i there) [
+        | inl w ↦ let at : get_or r.key i 0 ≡ get_or r.key axis 0 = ap (λ (j : ℕ). get_or r.key j 0) w.0 in ((h.between i l).0, omega (arith, w.1, at, lt, cuts.above_least))
+        | inr e ↦ ((h.between i l).0, omega (arith, (h.between i l).1, e))
+      ];
+    }
+on_side Right axis value a r cuts h t =
+    let ge = ltb-false (get_or r.key axis 0) value (not-true _ t) in
+    record {
+      same = h.same ∙ sym (length-set a.lo axis value);
+      between = λ i l. elim (replaced a.lo axis value i cuts.attribute) [
+        | inl w ↦ let at : get_or r.key i 0 ≡ get_or r.key axis 0 = ap (λ (j : ℕ). get_or r.key j 0) w.0 in (omega (arith, w.1, at, ge), (h.between i l).1)
+        | inr e ↦ (omega (arith, (h.between i l).0, e), (h.between i l).1)
+      ];
+    }
+
+-- the plane of a chosen cut cuts the box that its records lie in
+plane_cuts : (k axis value : ℕ) (records : List Record) (a : Area) → length a.lo ≡ k → All (λ r. Holds a r.key) records → MayCut k axis value records → Cuts a axis value
+plane_cuts k axis value records a same held m =
+    let high = subst (λ (x : Record). Holds a x.key) m.met.3 (held m.met.0 m.met.1 m.met.2) in
+    let low = subst (λ (x : Record). Holds a x.key) m.exceeds.3 (held m.exceeds.0 m.exceeds.1 m.exceeds.2) in
+    let at = m.attribute in
+    let e = m.met.4 in
+    let less = m.exceeds.4 in
+    let h = high.between axis (omega (arith, at, same, high.same)) in
+    let l = low.between axis (omega (arith, at, same, low.same)) in
+    record { attribute = omega (arith, at, same); above_least = omega (arith, l.0, less); up_to_greatest = omega (arith, h.1, e) }
+
+as_long : (side : Side) (axis value : ℕ) (a : Area) → length (area_on side axis value a).lo ≡ length a.lo
+as_long Left axis value a = refl
+as_long Right axis value a = length-set a.lo axis value
+
+pub part_leaves : (n k : ℕ) (cuts : List sound.LeafCut) (tree : Tree) (a : Area) → length a.lo ≡ k → All (λ r. Holds a r.key) (records_in tree) → AreChosen n k cuts tree → PartLeaves cuts tree a
+part_leaves n k [] tree a same held c = tt
+part_leaves n k (cut ∷ cuts) tree a same held c =
+    let here = subst (λ (t : Tree). All (λ r. Holds a r.key) (records_in t)) c.0.leaf held in
+    let plane = plane_cuts k cut.axis cut.value c.0.records a same here c.0.best.may in
+    let on = is_on cut.side cut.axis cut.value in (
+      record {
+        records = c.0.records;
+        leaf = c.0.leaf;
+        plane = plane;
+        on = parts k cut.axis cut.value c.0.records c.0.best.may cut.side;
+        off = parts k cut.axis cut.value c.0.records c.0.best.may (other_side cut.side);
+      },
+      part_leaves n k cuts (going cut tree) (half_area cut a) (as_long cut.side cut.axis cut.value a ∙ same)
+          (λ i d lt. on_side cut.side cut.axis cut.value a (get_or (filter on (records_in tree)) i d) plane (All-filter on (λ (r : Record). Holds a r.key) (records_in tree) held i d lt) (filter_passes on (records_in tree) i d lt)) c.1,
+    )
+
+light_tip : (t : Tree) → IsSiblingTip t → weight_of t ≡ 1
+light_tip (Tip (Records records)) s = absurd s
+light_tip (Tip (Child page)) s = absurd s
+light_tip (Tip (Sibling page)) s = refl
+light_tip (Cut axis value l r) s = absurd s
+
+abbrev Light : ℕ → Option (Tree × Area) → Type 0
+Light n None = Unit {0}
+Light n (Some part) = 3 * weight_of part.0 ≤ 2 * n
+
+abbrev PartsOf : List LeafCut → Option (Tree × Area) → Type 0
+PartsOf cuts None = Unit {0}
+PartsOf cuts (Some part) = PartLeaves (planes cuts) part.0 part.1
+
+pub is_allowed : (n : ℕ) (page : LivePage) (path : List Side) (cuts : List LeafCut) → 6 ≤ n → n ≡ weight_of page.frag → path ≡ way_down n page.frag → AreInOrder page
+    → (q : Tree × Area) × (part_at path page.frag page.area ≡ Some q) × AreChosen n (length page.area.lo) (planes cuts) q.0 → IsThirds page path cuts → IsAllowed page path cuts
+is_allowed n page path cuts full e way ordered c t =
+    let k = length page.area.lo in
+    let g = of_page n page path full e way ordered in
+    let end = at_end n k path page.frag page.area c.0 g c.1 in
+    let u = t.more in
+    record {
+      inside = g.inside;
+      part = t.part;
+      found = t.found;
+      parts = subst (λ (q : Option (Tree × Area)). PartsOf cuts q) t.found (subst (λ (q : Option (Tree × Area)). PartsOf cuts q) (sym c.1) (part_leaves n k (planes cuts) c.0.0 c.0.1 end.attributes (records_held n k c.0.0 c.0.1 end) c.2));
+      some = λ none.
+          let bare = subst (λ (x : List LeafCut). AreChosen n k (planes x) c.0.0) none.1 c.2 in
+          let whole = subst (λ (x : List Side). part_at x page.frag page.area ≡ Some c.0) none.0 c.1 in
+          let light = subst (Light n) (sym whole) bare in
+          omega (arith, light, e, full);
+      own = λ s. let w = light_tip (reached (planes cuts) t.part.0 t.part.1).0 s in omega (arith, w, u, e, full);
+    }

@@ -1,0 +1,79 @@
+-- Which part leaves a full page.
+use Rattle.std.specs.Prelude.{◌≡◌, ℕ, ◌+◌, ◌*◌, ◌<◌, ◌≤◌, ◌⊎◌, max, Bool, nat_lt, if◌then◌else◌, List, [], ◌∷◌, length, map, filter, slice_index, Any, Some}
+use Rattle.hb_space.specs.Boxes.{Area}
+use Rattle.hb_space.specs.declared.records.Record.{Record}
+use Rattle.hb_frag.specs.declared.leaves.Leaf.TheVariants.{Records}
+use Rattle.hb_frag.specs.declared.pages.LivePage.{LivePage}
+use Rattle.hb_frag.specs.declared.paths.Side.{Side}
+use Rattle.hb_frag.specs.declared.paths.Side.TheVariants.{Left, Right}
+use Rattle.hb_frag.specs.Trees.{Tree, Tip, Cut}
+use Rattle.hb_frag.specs.Leaves.{weight_of}
+use Rattle.hb_frag.specs.Paths.{part_at}
+use Rattle.hb_sound.specs.Splitting as splitting
+use Rattle.hb_sound.specs.Splitting.{is_on, going}
+use Rattle.hb_split.specs.declared.leaf_cuts.LeafCut.{LeafCut}
+
+-- a cut in the words of splits
+abbrev pub plane_of : LeafCut → splitting.LeafCut
+plane_of cut = record { axis = cut.axis; value = cut.value; side = cut.side }
+
+abbrev pub planes : List LeafCut → List splitting.LeafCut
+planes cuts = map plane_of cuts
+
+-- the heavier side of two, the left one where both weigh the same
+abbrev pub heavier_side : ℕ → ℕ → Side
+heavier_side left right = if nat_lt left right then Right else Left
+
+-- more than two thirds of a page's weight n
+abbrev pub is_heavy : ℕ → ℕ → Bool
+is_heavy n weight = nat_lt (2 * n) (3 * weight)
+
+-- From the root to the heavier side of each cut, while the part reached has more than two thirds.
+abbrev pub way_down : ℕ → Tree → List Side
+way_down n (Tip leaf) = []
+way_down n (Cut axis value left right) = if is_heavy n (weight_of left + weight_of right)
+    then (if nat_lt (weight_of left) (weight_of right) then Right ∷ way_down n right else Left ∷ way_down n left)
+    else []
+
+-- how many of the records lie on a side, and on the heavier one
+abbrev pub count_on : Side → ℕ → ℕ → List Record → ℕ
+count_on side axis value records = length (filter (is_on side axis value) records)
+
+abbrev pub heavier_count : ℕ → ℕ → List Record → ℕ
+heavier_count axis value records = max (count_on Left axis value records) (count_on Right axis value records)
+
+-- A plane may cut these records of k attributes: its value is that of a record, and exceeds that of another one.
+pub record MayCut (k axis value : ℕ) (records : List Record) : Type 0 where
+  pub attribute : axis < k
+  pub met : Any (λ r. slice_index r.key axis ≡ value) records
+  pub exceeds : Any (λ r. slice_index r.key axis < value) records
+
+-- one plane isn't behind another: its heavier side is lighter, or as heavy and its axis less, or that too and its value at most the other's
+abbrev pub NotBehind : ℕ → ℕ → ℕ → ℕ → ℕ → ℕ → Type 0
+NotBehind count axis value count' axis' value' = (count < count') ⊎ ((count ≡ count') × ((axis < axis') ⊎ ((axis ≡ axis') × (value ≤ value'))))
+
+-- the first of the planes that may cut
+pub record IsBest (k axis value : ℕ) (records : List Record) : Type 0 where
+  pub may : MayCut k axis value records
+  pub first : (axis' value' : ℕ) → MayCut k axis' value' records
+      → NotBehind (heavier_count axis value records) axis value (heavier_count axis' value' records) axis' value'
+
+-- a cut of a records leaf that has more than two thirds
+pub record Chooses (n k : ℕ) (cut : splitting.LeafCut) (tree : Tree) : Type 0 where
+  pub records : List Record
+  pub leaf : tree ≡ Tip (Records records)
+  pub heavy : 2 * n < 3 * weight_of tree
+  pub best : IsBest k cut.axis cut.value records
+  pub side : cut.side ≡ heavier_side (count_on Left cut.axis cut.value records) (count_on Right cut.axis cut.value records)
+
+-- Each cut is chosen of what the ones before it left, and at their end nothing is heavy.
+abbrev pub AreChosen : ℕ → ℕ → List splitting.LeafCut → Tree → Type 0
+AreChosen n k [] tree = 3 * weight_of tree ≤ 2 * n
+AreChosen n k (cut ∷ cuts) tree = Chooses n k cut tree × AreChosen n k cuts (going cut tree)
+
+-- the extraction of a page
+pub record IsChosen (page : LivePage) (path : List Side) (cuts : List LeafCut) : Type 0 where
+  pub way : path ≡ way_down (weight_of page.frag) page.frag
+  pub part : Tree × Area
+  pub found : part_at path page.frag page.area ≡ Some part
+  pub chosen : AreChosen (weight_of page.frag) (length page.area.lo) (planes cuts) part.0
