@@ -60,7 +60,11 @@ fn write_parts<D: Device>(disk: &mut D, meta: &Meta, page: &[u8; PAGE]) -> Resul
 }
 
 /// Writes all of a new file but its superblock, in two steps with a sync each. Five device calls.
-fn lay_out<D: Device>(disk: &mut D, meta: &Meta, page: &[u8; PAGE]) -> Result<(), hb_disk::DiskFault>
+fn lay_out<D: Device>(
+    disk: &mut D,
+    meta: &Meta,
+    page: &[u8; PAGE],
+) -> Result<(), hb_disk::DiskFault>
     requires room { file_size meta.now ≤ (D.model disk.old).size }
     requires some { 1 ≤ meta.now.pages }
     ensures laid { OnOk result (IfSome (D.model disk.old).told (λ b. (c : List ℕ) × ((D.model disk.new).told ≡ Some c) × IsLaidOut c meta.now page.now)) }

@@ -74,7 +74,12 @@ fn newest<D: Device>(disk: &mut D) -> Result<(u8, Meta), OpenFault>
 }
 
 /// What the log makes of the file.
-fn log_of<D: Device>(alloc: Global, disk: &mut D, turn: u8, meta: &Meta) -> Result<Touched, OpenFault>
+fn log_of<D: Device>(
+    alloc: Global,
+    disk: &mut D,
+    turn: u8,
+    meta: &Meta,
+) -> Result<Touched, OpenFault>
     requires legal { IsLegal turn meta.now }
     requires room { bytes_of meta.now ≤ (D.model disk.old).size }
     ensures read { IfOk result (λ t. IfSome (D.model disk.old).told (λ b. ReadsLog b turn meta.now t)) }
