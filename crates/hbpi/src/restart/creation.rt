@@ -60,7 +60,11 @@ fn write_parts<D: Device>(disk: &mut D, meta: &Meta, page: &[u8; PAGE]) -> Resul
 }
 
 /// Writes all of a new file but its superblock, in two steps with a sync each. Five device calls.
-fn lay_out<D: Device>(disk: &mut D, meta: &Meta, page: &[u8; PAGE]) -> Result<(), hb_disk::DiskFault>
+fn lay_out<D: Device>(
+    disk: &mut D,
+    meta: &Meta,
+    page: &[u8; PAGE],
+) -> Result<(), hb_disk::DiskFault>
     requires room { file_size meta.now ≤ (D.model disk.old).size }
     requires some { 1 ≤ meta.now.pages }
     ensures laid { OnOk result (IfSome (D.model disk.old).told (λ b. (c : List ℕ) × ((D.model disk.new).told ≡ Some c) × IsLaidOut c meta.now page.now)) }
@@ -105,8 +109,9 @@ fn make<D: Device>(alloc: Global, disk: D, layout: Layout) -> Result<Store<D>, (
     ensures beyond { IfOk result (λ st. KeepsBeyond (layout_size layout) (D.model disk) (D.model (disk_of st))) }
     ensures beyond_after_fault { IfErr result (λ e. KeepsBeyond (layout_size layout) (D.model disk) (D.model e.1)) }
     ensures cause { IfErr result (λ e. e.0 ≡ DiskFault → (Rose (D.model disk).write_faults (D.model e.1).write_faults)) }
-    ensures later { IfOk result (λ st. ((D.model disk).read_faults ≤ (D.model (disk_of st)).read_faults) × ((D.model disk).write_faults ≤ (D.model (disk_of st)).write_faults)) }
-    ensures later_after_fault { IfErr result (λ e. ((D.model disk).read_faults ≤ (D.model e.1).read_faults) × ((D.model disk).write_faults ≤ (D.model e.1).write_faults)) }
+    ensures no_fault { IfOk result (λ st. ((D.model (disk_of st)).read_faults ≡ (D.model disk).read_faults) × ((D.model (disk_of st)).write_faults ≡ (D.model disk).write_faults)) }
+    ensures no_fault_refused { IfErr result (λ e. (e.0 ≡ DiskFault → ⊥) → (D.model e.1).write_faults ≡ (D.model disk).write_faults) }
+    ensures later_after_fault { IfErr result (λ e. ((D.model e.1).read_faults ≡ (D.model disk).read_faults) × ((D.model disk).write_faults ≤ (D.model e.1).write_faults)) }
 {
     let mut disk = disk;
     let meta = layout.meta();
@@ -141,8 +146,9 @@ pub(crate) fn create<D: Device>(
     ensures beyond { IfOk result (λ st. KeepsBeyond (layout_size layout) (D.model disk) (D.model (disk_of st))) }
     ensures beyond_after_fault { IfErr result (λ e. KeepsBeyond (layout_size layout) (D.model disk) (D.model e.1)) }
     ensures cause { IfErr result (λ e. e.0 ≡ DiskFault → (Rose (D.model disk).write_faults (D.model e.1).write_faults)) }
-    ensures later { IfOk result (λ st. ((D.model disk).read_faults ≤ (D.model (disk_of st)).read_faults) × ((D.model disk).write_faults ≤ (D.model (disk_of st)).write_faults)) }
-    ensures later_after_fault { IfErr result (λ e. ((D.model disk).read_faults ≤ (D.model e.1).read_faults) × ((D.model disk).write_faults ≤ (D.model e.1).write_faults)) }
+    ensures no_fault { IfOk result (λ st. ((D.model (disk_of st)).read_faults ≡ (D.model disk).read_faults) × ((D.model (disk_of st)).write_faults ≡ (D.model disk).write_faults)) }
+    ensures no_fault_refused { IfErr result (λ e. (e.0 ≡ DiskFault → ⊥) → (D.model e.1).write_faults ≡ (D.model disk).write_faults) }
+    ensures later_after_fault { IfErr result (λ e. ((D.model e.1).read_faults ≡ (D.model disk).read_faults) × ((D.model disk).write_faults ≤ (D.model e.1).write_faults)) }
 {
     if let Some(fault) = layout.fault() {
         return Err((fault, disk));
