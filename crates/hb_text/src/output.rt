@@ -21,6 +21,7 @@ pub fn put_reply<K: Sink>(sink: &mut K, line: u32, reply: &Reply) -> Result<(), 
     ensures failed { OnErr result
         (AppendsFront (K.written sink.old) (K.written sink.new) (reply_text line reply.now)) }
     ensures cause { OnErr result (Rose (K.faults sink.old) (K.faults sink.new)) }
+    ensures no_fault { OnOk result (K.faults sink.new ≡ K.faults sink.old) }
     ensures later { K.faults sink.old ≤ K.faults sink.new }
 {
     match reply {
@@ -44,6 +45,7 @@ pub fn put_left<K: Sink>(sink: &mut K, line: u32, stopped: bool) -> Result<(), F
     ensures failed { OnErr result
         (AppendsFront (K.written sink.old) (K.written sink.new) (left_text stopped line)) }
     ensures cause { OnErr result (Rose (K.faults sink.old) (K.faults sink.new)) }
+    ensures no_fault { OnOk result (K.faults sink.new ≡ K.faults sink.old) }
     ensures later { K.faults sink.old ≤ K.faults sink.new }
 {
     put_said(sink, line, left_word(stopped))
@@ -70,6 +72,7 @@ pub fn put_order<K: Sink>(sink: &mut K, order: &[u32], settled: u32) -> Result<(
     ensures failed { OnErr result
         (AppendsFront (K.written sink.old) (K.written sink.new) (order_text order.now settled)) }
     ensures cause { OnErr result (Rose (K.faults sink.old) (K.faults sink.new)) }
+    ensures no_fault { OnOk result (K.faults sink.new ≡ K.faults sink.old) }
     ensures later { K.faults sink.old ≤ K.faults sink.new }
 {
     let settled = settled as usize;
@@ -115,6 +118,7 @@ fn put_numbers<K: Sink>(sink: &mut K, piece: &mut LineBuffer, numbers: &[u32]) -
         (AppendsFront (K.written sink.old) (K.written sink.new)
         (piece.old.bytes.items ++ numbers_text numbers.now)) }
     ensures cause { OnErr result (Rose (K.faults sink.old) (K.faults sink.new)) }
+    ensures no_fault { OnOk result (K.faults sink.new ≡ K.faults sink.old) }
     ensures later { K.faults sink.old ≤ K.faults sink.new }
 {
     for number in numbers {
@@ -133,6 +137,7 @@ fn make_room<K: Sink>(sink: &mut K, piece: &mut LineBuffer) -> Result<(), Failed
     ensures failed { OnErr result
         (AppendsFront (K.written sink.old) (K.written sink.new) piece.old.bytes.items) }
     ensures cause { OnErr result (Rose (K.faults sink.old) (K.faults sink.new)) }
+    ensures no_fault { OnOk result (K.faults sink.new ≡ K.faults sink.old) }
     ensures later { K.faults sink.old ≤ K.faults sink.new }
 {
     if piece.len() <= FULL {
@@ -151,6 +156,7 @@ fn put_said<K: Sink>(sink: &mut K, line: u32, said: &[u8]) -> Result<(), Failed>
     ensures failed { OnErr result
         (AppendsFront (K.written sink.old) (K.written sink.new) (decimal line ++ said.now)) }
     ensures cause { OnErr result (Rose (K.faults sink.old) (K.faults sink.new)) }
+    ensures no_fault { OnOk result (K.faults sink.new ≡ K.faults sink.old) }
     ensures later { K.faults sink.old ≤ K.faults sink.new }
 {
     let mut text = LineBuffer::new();
@@ -168,6 +174,7 @@ fn put_found<K: Sink>(sink: &mut K, line: u32, body: &Body) -> Result<(), Failed
         (AppendsFront (K.written sink.old) (K.written sink.new)
         (reply_text line (Reply.Found body.now))) }
     ensures cause { OnErr result (Rose (K.faults sink.old) (K.faults sink.new)) }
+    ensures no_fault { OnOk result (K.faults sink.new ≡ K.faults sink.old) }
     ensures later { K.faults sink.old ≤ K.faults sink.new }
 {
     let mut said = LineBuffer::new();
@@ -186,6 +193,7 @@ fn put_box<K: Sink>(sink: &mut K, line: u32, records: &[Record]) -> Result<(), F
         (AppendsFront (K.written sink.old) (K.written sink.new)
         (reply_text line (Reply.Within records.now))) }
     ensures cause { OnErr result (Rose (K.faults sink.old) (K.faults sink.new)) }
+    ensures no_fault { OnOk result (K.faults sink.new ≡ K.faults sink.old) }
     ensures later { K.faults sink.old ≤ K.faults sink.new }
 {
     let count = count_word(records.len());
@@ -213,6 +221,7 @@ fn put_records<K: Sink>(sink: &mut K, records: &[Record]) -> Result<(), Failed>
         (AppendsFront (K.written sink.old) (K.written sink.new)
         (flat_map record_text records.now)) }
     ensures cause { OnErr result (Rose (K.faults sink.old) (K.faults sink.new)) }
+    ensures no_fault { OnOk result (K.faults sink.new ≡ K.faults sink.old) }
     ensures later { K.faults sink.old ≤ K.faults sink.new }
 {
     for record in records {
@@ -228,6 +237,7 @@ fn put_record<K: Sink>(sink: &mut K, record: &Record) -> Result<(), Failed>
     ensures failed { OnErr result
         (AppendsFront (K.written sink.old) (K.written sink.new) (record_text «record».now)) }
     ensures cause { OnErr result (Rose (K.faults sink.old) (K.faults sink.new)) }
+    ensures no_fault { OnOk result (K.faults sink.new ≡ K.faults sink.old) }
     ensures later { K.faults sink.old ≤ K.faults sink.new }
 {
     let line = record_line(record);

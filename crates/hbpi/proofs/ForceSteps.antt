@@ -182,6 +182,8 @@ module _ (d e : DiskModel) (old : CoreState) (going : old.stop ≡ None) where
             write_fault = λ none is. absurd (let never : None ≡ Some WriteFault = sym none ∙ is in cc);
             reads_later = reads;
             writes_later = forced.writes_later;
+            reads_same = λ none. forced.reads_same;
+            writes_same = λ none. f.3;
             clock = forced.clock;
             tells = forced.tells;
             silent = forced.silent;
@@ -211,6 +213,8 @@ module _ (d e : DiskModel) (old : CoreState) (going : old.stop ≡ None) where
             write_fault = λ none is. f.3;
             reads_later = reads;
             writes_later = forced.writes_later;
+            reads_same = λ none. forced.reads_same;
+            writes_same = λ never. absurd (never going refl);
             clock = forced.clock;
             tells = forced.tells;
             silent = forced.silent;

@@ -33,6 +33,7 @@ pub mod LinesInOrder
 pub mod FirstAnswers
 pub mod SettledLater
 pub mod Running
+pub mod FaultsRise
 pub mod TakenSteps
 pub mod RestOfOutput
 pub mod ScheduleRuns

@@ -16,7 +16,7 @@ use Rattle.hbpi.specs.Codes.{status_of}
 use Rattle.hbpi.specs.Core.{CoreState, OpensToPrefix, HoldsAnswers, IsReplied, AreAmong, settled_of}
 use Rattle.hbpi.specs.Driven.{IsScheduled, RunsFrom, Drove, IsTurnedAway, OpenedEnds, DriveCommandEnds}
 use Rattle.hbpi.specs.Ends.{Seen}
-use Rattle.hbpi.specs.Moves.{MovesOn}
+use Rattle.hbpi.specs.Moves.{MovesOn, Shown, shown}
 use Rattle.hbpi.specs.Runs.{KeepsPromise}
 use Rattle.hbpi.specs.declared.restart.faults.OpenFault.{OpenFault}
 use Rattle.hbpi.specs.declared.restart.faults.OpenFault.TheVariants as faults
@@ -53,8 +53,8 @@ nothing_done s d e seen status sound none_answered none_ordered leaves undone =
       even = λ is. absurd (undone is);
     }
 
-same_lines : (n : ℕ) (before : CoreState) (answered : List Answered) (after : CoreState) → MovesOn n before answered after → after.lines ≡ before.lines
-same_lines zero before answered after moves = ap (λ (c : CoreState). c.lines) moves.0
+same_lines : (n : ℕ) (before : Shown) (answered : List Answered) (after : Shown) → MovesOn n before answered after → after.core.lines ≡ before.core.lines
+same_lines zero before answered after moves = ap (λ (x : Shown). x.core.lines) moves.0
 same_lines (suc n) before answered after moves = moves.5.lines ∙ same_lines n before moves.1 moves.0 moves.4
 
 -- where the steps were taken
@@ -72,7 +72,7 @@ ran b s d e seen status after one told opens drove going =
         drove.before.lines,
         drove.run.steps,
         subst (λ (n : ℕ). IsScheduled n seen.left seen.rest drove.before.lines drove.run.steps) k drove.run.scheduled,
-        subst (λ (ls : List Line). AreAmong run.done ls) (same_lines (length drove.run.steps) drove.before seen.answered after drove.run.moves) (among_whole run.done after.lines after.taken run.among),
+        subst (λ (ls : List Line). AreAmong run.done ls) (same_lines (length drove.run.steps) (shown d drove.before) seen.answered (shown e after) drove.run.moves) (among_whole run.done after.lines after.taken run.among),
       );
       legal = run.legal;
       replied = run.replied;

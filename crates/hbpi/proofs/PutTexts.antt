@@ -1,5 +1,5 @@
 -- Texts that are put piece by piece, until the sink fails.
-use Rattle.std.proofs.Common.{◌≡◌, ℕ, Bool, true, false, List, [], ◌∷◌, ◌++◌, length, Option, sym, ap, subst, ◌∙◌, arith, append-nil}
+use Rattle.std.proofs.Common.{◌≡◌, ℕ, Bool, true, false, List, [], ◌∷◌, ◌++◌, length, Option, refl, sym, ap, subst, ◌∙◌, arith, append-nil}
 use Rattle.std.specs.List.{flat_map}
 use Rattle.std.proofs.lemmas.Grind.{flat_map-append}
 use Rattle.hb_outside.specs.Streams.{Rose, Appends, AppendsFront}
@@ -14,12 +14,12 @@ use Rattle.hbpi.specs.declared.statuses.Status.TheVariants.{Done, Usage, BadText
 
 -- nothing was put yet
 pub has_put_none : (a : Option (List ℕ)) (faults : ℕ) (answered : List Answered) → answered ≡ [] → HasPut a a faults faults false (flat_map answer_text answered)
-has_put_none a faults answered none = rw none (Appends-none a, omega arith)
+has_put_none a faults answered none = rw none (Appends-none a, refl)
 
 -- one piece more, unless the sink failed before
 pub has_put_more : (a b c : Option (List ℕ)) (f g h : ℕ) (failed next : Bool) (text piece : List ℕ) → HasPut a b f g failed text → PutsMore b c g h failed next piece → HasPut a c f h next (text ++ piece)
-has_put_more a b c f g h false false text piece put more = (Appends-both a b c text piece put.0 more.0, omega (arith, put.1, more.1))
-has_put_more a b c f g h false true text piece put more = (Appends-front a b c text piece put.0 more.0, Rose-later f g h put.1 more.1, omega (arith, put.1, more.2))
+has_put_more a b c f g h false false text piece put more = (Appends-both a b c text piece put.0 more.0, more.1 ∙ put.1)
+has_put_more a b c f g h false true text piece put more = (Appends-front a b c text piece put.0 more.0, Rose-later f g h (omega (arith, put.1)) more.1, omega (arith, put.1, more.2))
 has_put_more a b c f g h true false text piece put more = cc (more.2)
 has_put_more a b c f g h true true text piece put more = (
   subst (λ (x : Option (List ℕ)). AppendsFront a x (text ++ piece)) (sym more.0) (AppendsFront-longer a b text piece put.0),
@@ -38,7 +38,7 @@ output_parts answered order = ap (λ t. t ++ order_text order (length order)) (s
 run_ends : (held mid holds : Option (List ℕ)) (f g h : ℕ) (failed : Bool) (lines : List Line) (answered : List Answered) (order : List ℕ) (status : Status) → IsDryRun lines answered order → HasPut held mid f g failed (flat_map answer_text answered) → EndsBySink mid holds g h failed order status → EndsRun held holds f h lines answered order status
 run_ends held mid holds f g h failed lines answered order Done run put more =
     let all = has_put_more held mid holds f g h failed false (flat_map answer_text answered) (order_text order (length order)) put more in
-    (run, subst (Appends held holds) (output_parts answered order) all.0)
+    (run, subst (Appends held holds) (output_parts answered order) all.0, all.1)
 run_ends held mid holds f g h failed lines answered order SinkFault run put more =
     let all = has_put_more held mid holds f g h failed true (flat_map answer_text answered) (order_text order (length order)) put more in
     (run, subst (AppendsFront held holds) (output_parts answered order) all.0, all.1)

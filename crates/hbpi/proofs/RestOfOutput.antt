@@ -23,7 +23,7 @@ use Rattle.hbpi.proofs.TakenSteps.{answered_length}
 
 -- nothing is put
 pub puts_none : (a : Option (List ℕ)) (f : ℕ) (failed : Bool) → PutsMore a a f f failed failed []
-puts_none a f false = (Appends-none a, omega arith)
+puts_none a f false = (Appends-none a, refl)
 puts_none a f true = (refl, refl, refl)
 
 -- one piece more
@@ -157,12 +157,12 @@ module _ (held mid holds : Option (List ℕ)) (f g h : ℕ) (early failed stoppe
       ∙ ap (λ (ns : List ℕ). flat_map answer_text answered ++ flat_map (left_text (is_some c.stop)) ns ++ order_text c.order (settled_of c)) (sym left))
       (has_put_more held mid holds f g h early failed (flat_map answer_text answered) (lefts ++ order_text c.order (settled_of c)) put more)
 
-  good_put : failed ≡ false → Appends held holds (run_output answered c)
-  good_put good = let B : Bool → Type 0 = λ b. HasPut held holds f h b (run_output answered c) in (subst B good all_put).0
+  good_put : failed ≡ false → Appends held holds (run_output answered c) × (h ≡ f)
+  good_put good = let B : Bool → Type 0 = λ b. HasPut held holds f h b (run_output answered c) in subst B good all_put
 
   pub drive_ends : (end : End) → EndsAs end failed stopped answered → DriveEnds end held holds f h answered c
   drive_ends ends.NoMemory as_said = absurd as_said
   drive_ends ends.SinkFault as_said = let B : Bool → Type 0 = λ b. HasPut held holds f h b (run_output answered c) in let bad = subst B as_said all_put in (bad.0, bad.1)
-  drive_ends ends.Stopped as_said = (good_put as_said.0, sym stop ∙ as_said.1)
-  drive_ends ends.ReadFault as_said = (good_put as_said.0, going c.stop stopped stop as_said.1, as_said.2)
-  drive_ends ends.Finished as_said = (good_put as_said.0, going c.stop stopped stop as_said.1, as_said.2)
+  drive_ends ends.Stopped as_said = let good = good_put as_said.0 in (good.0, sym stop ∙ as_said.1, good.1)
+  drive_ends ends.ReadFault as_said = let good = good_put as_said.0 in (good.0, going c.stop stopped stop as_said.1, as_said.2, good.1)
+  drive_ends ends.Finished as_said = let good = good_put as_said.0 in (good.0, going c.stop stopped stop as_said.1, as_said.2, good.1)

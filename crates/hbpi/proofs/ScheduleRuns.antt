@@ -1,5 +1,5 @@
 -- What a run of a schedule leaves, as the command `drive` says it.
-use Rattle.std.proofs.Common.{◌≡◌, ◌≢◌, ◌⊎◌, inl, inr, ℕ, zero, suc, ◌≤◌, List, [], ◌∷◌, ◌++◌, length, take, Option, Some, None, IfSome, IsSome, false, refl, sym, ap, subst, ◌∙◌, arith, MatchOption, append-nil}
+use Rattle.std.proofs.Common.{◌≡◌, ◌≢◌, inl, inr, ℕ, zero, suc, ◌≤◌, List, [], ◌++◌, length, take, Option, Some, None, IfSome, IsSome, false, refl, sym, ap, subst, ◌∙◌, arith, MatchOption}
 use Rattle.hb_disk.specs.Model.{DiskModel, IsDisk}
 use Rattle.hb_ops.specs.declared.meta.Meta.{Meta}
 use Rattle.hb_disk.specs.RunLaws.{at_value, if_value, has_value, Leaves-start}
@@ -15,10 +15,10 @@ use Rattle.hb_store.specs.declared.stops.StopWhy.TheVariants as stops
 use Rattle.hb_store.specs.declared.stops.Why.{Why}
 use Rattle.hb_text.specs.OutputLaws.{Appends-both, Appends-front, Rose-later}
 use Rattle.hbpi.specs.Core.{CoreState, CoreKeeps, StepsOn, Moment, Reaches, AnswersFirst, set_of, settled_of}
-use Rattle.hbpi.specs.Drives.{IsStart, RunsTo, DriveEnds, run_output}
+use Rattle.hbpi.specs.Drives.{IsStart, RunFaults, RunsTo, DriveEnds, run_output}
 use Rattle.hbpi.specs.Driven.{IsScheduled, IsServedScript, RunsFrom, Drove, IsTurnedAway, GetsOutput, OpenedEnds, NotScheduled, status_after, status_by}
 use Rattle.hbpi.specs.Ends.{Seen, IsRefused}
-use Rattle.hbpi.specs.Moves.{MovesOn, HasOrder}
+use Rattle.hbpi.specs.Moves.{MovesOn, HasOrder, shown}
 use Rattle.hbpi.specs.Outcome.{GetsLine, fault_line}
 use Rattle.hbpi.specs.Restart.{IsOnePage}
 use Rattle.hbpi.specs.declared.drive.End.{End}
@@ -92,15 +92,16 @@ pub record IsRun (d e : DiskModel) (seen : Seen) (k : ℕ) (before after : CoreS
   pub attributes : before.store.meta.k ≡ k
   pub one_page : IsOnePage before.store.meta
   pub told : IfSome d.told (λ b. (s : FileState) × OpensTo b s × IsSound s × (s.meta ≡ before.store.meta) × (end ≢ ends.NoMemory → RunsTo (length steps) d before s seen.answered e after (contents_of s)))
-  pub moves : end ≢ ends.NoMemory → MovesOn (length steps) before seen.answered after
+  pub source : seen.source_after ≡ seen.source_before
+  pub moves : end ≢ ends.NoMemory → MovesOn (length steps) (shown d before) seen.answered (shown e after)
   pub first : AnswersFirst after seen.answered
   pub ordered : HasOrder after
   pub order : seen.order ≡ after.order
   pub put : DriveEnds end seen.held mid seen.sink_before faults seen.answered after
-  pub read_fault : end ≡ ends.ReadFault → Rose d.read_faults e.read_faults
-  pub write_fault : after.stop ≡ Some stops.WriteFault → Rose d.write_faults e.write_faults
+  pub counts : RunFaults d e seen.answered after
   pub sooner : seen.sink_before ≤ faults
   pub silent : end ≡ ends.SinkFault → (seen.holds ≡ mid) × (seen.sink_after ≡ faults)
+  pub silent_done : end ≡ ends.Finished → (seen.holds ≡ mid) × (seen.sink_after ≡ faults)
 
 apart_stopped : ends.Stopped ≢ ends.NoMemory
 apart_stopped same = cc (same)
@@ -119,9 +120,11 @@ pub one_page_of : (m : Meta) → m.high ≡ 1 → m.height ≡ 1 → IsOnePage m
 one_page_of m high height = (omega (arith, high), omega (arith, height))
 
 -- no command was done over a store that was just opened
-pub turned_away : (d : DiskModel) (st : StoreState) (seen : Seen) (status : Status) → IsDisk d → (IsSome d.told → (s : FileState) × IsSound s × StoreKeeps d st s []) → st.stopped ≡ false → (st.meta.high ≡ 1) × (st.meta.height ≡ 1) → IsRefused seen status → IsTurnedAway st.meta.k d d seen status
-turned_away d st seen status disk kept running one_page refused = record {
+pub turned_away : (d : DiskModel) (st : StoreState) (seen : Seen) (status : Status) → IsDisk d → (IsSome d.told → (s : FileState) × IsSound s × StoreKeeps d st s []) → st.stopped ≡ false → (st.meta.high ≡ 1) × (st.meta.height ≡ 1) → IsRefused seen status → (¬ (status ≡ SourceFault) → seen.source_after ≡ seen.source_before) → IsTurnedAway st.meta.k d d seen status
+turned_away d st seen status disk kept running one_page refused source = record {
   refused = refused;
+  no_fault = (refl, refl);
+  source = source;
   told = if_value d.told _ (λ b is.
       let here = kept (has_value d.told b is) in
       let even = even_store d st here.0 [] here.2 running in
@@ -163,36 +166,24 @@ drove : (d e : DiskModel) (seen : Seen) (k : ℕ) (before after : CoreState) (st
 drove d e seen k before after steps end mid faults run ran = record {
   k = k;
   before = before;
-  run = record { steps = steps; scheduled = run.scheduled; served = run.served; start = run.start; opened = run.opened; attributes = run.attributes; one_page = run.one_page; moves = run.moves ran; first = run.first; ordered = run.ordered; order = run.order };
+  run = record { steps = steps; scheduled = run.scheduled; served = run.served; start = run.start; opened = run.opened; attributes = run.attributes; one_page = run.one_page; moves = run.moves ran; first = run.first; ordered = run.ordered; order = run.order; source = run.source };
+  faults = run.counts;
   told = if_value d.told _ (λ b is.
       let here = at_value d.told _ b is run.told in
       (here.0, here.1, here.2, here.3, runs_from here.0 (length steps) d e before after seen.answered (here.4 ran)));
 }
 
 -- a line behind an output that was put whole, or in front
-line_behind : (a b c : Option (List ℕ)) (f g : ℕ) (text line : List ℕ) → Appends a b text → GetsLine b c f g line → Appends a c (text ++ line) ⊎ (AppendsFront a c (text ++ line) × Rose f g)
+line_behind : (a b c : Option (List ℕ)) (f g : ℕ) (text line : List ℕ) → Appends a b text → GetsLine b c f g line → GetsLine a c f g (text ++ line)
 line_behind a b c f g text line put more = elim more [
-  | inl whole ↦ inl (Appends-both a b c text line put whole)
+  | inl whole ↦ inl (Appends-both a b c text line put whole.0, whole.1)
   | inr front ↦ inr (Appends-front a b c text line put front.0, front.1)
 ]
 
-nothing_behind : (b c : Option (List ℕ)) (f g : ℕ) → GetsLine b c f g [] → Appends b c []
-nothing_behind b c f g more = elim more [
-  | inl whole ↦ whole
-  | inr front ↦ subst (λ (l : List ℕ). Appends b c l) (no_front front.0.0 front.0.1.0 front.0.1.1) front.0.2
-]
-  where
-    no_front : (xs ys : List ℕ) → xs ++ ys ≡ [] → xs ≡ []
-    no_front [] ys is = refl
-    no_front (x ∷ xs) ys is = cc
-
-whole_output : (a b c : Option (List ℕ)) (f g : ℕ) (text : List ℕ) → Appends a b text → GetsLine b c f g [] → Appends a c text
-whole_output a b c f g text put more = subst (λ (l : List ℕ). Appends a c l) (append-nil text) (Appends-both a b c text [] put (nothing_behind b c f g more))
-
 gets_output : (d e : DiskModel) (seen : Seen) (k : ℕ) (before after : CoreState) (steps : List ℕ) (end : End) (mid : Option (List ℕ)) (faults : ℕ) (status : Status) → IsRun d e seen k before after steps end mid faults
-    → Appends seen.held mid (run_output seen.answered after) → GetsLine mid seen.holds faults seen.sink_after (fault_line status) → GetsOutput seen after status
-gets_output d e seen k before after steps end mid faults status run put line = elim (line_behind seen.held mid seen.holds faults seen.sink_after (run_output seen.answered after) (fault_line status) put line) [
-  | inl whole ↦ inl whole
+    → Appends seen.held mid (run_output seen.answered after) → faults ≡ seen.sink_before → GetsLine mid seen.holds faults seen.sink_after (fault_line status) → GetsOutput seen after status
+gets_output d e seen k before after steps end mid faults status run put same line = elim (line_behind seen.held mid seen.holds faults seen.sink_after (run_output seen.answered after) (fault_line status) put line) [
+  | inl whole ↦ inl (whole.0, whole.1 ∙ same)
   | inr front ↦ inr (front.0, Rose-later seen.sink_before faults seen.sink_after run.sooner front.1)
 ]
 
@@ -209,7 +200,7 @@ stopped_ends : (stop : Option StopWhy) (d e : DiskModel) (seen : Seen) (k : ℕ)
     → GetsLine mid seen.holds faults seen.sink_after (fault_line (status_by stop)) → OpenedEnds d e seen (status_by stop)
 stopped_ends None d e seen k before after steps mid faults run is line = cc (run.put.1, is)
 stopped_ends (Some stops.WriteFault) d e seen k before after steps mid faults run is line =
-    (after, inr (run.write_fault is), drove d e seen k before after steps ends.Stopped mid faults run apart_stopped, inl is, gets_output d e seen k before after steps ends.Stopped mid faults DiskFault run run.put.0 line)
+    (after, inr (run.counts.write_fault is), drove d e seen k before after steps ends.Stopped mid faults run apart_stopped, inl (is, run.counts.write_fault is), gets_output d e seen k before after steps ends.Stopped mid faults DiskFault run run.put.0 run.put.2 line)
 stopped_ends (Some (stops.Damaged page why)) d e seen k before after steps mid faults run is line = record {
   untold = untold d e seen k before after steps ends.Stopped mid faults page why run apart_stopped is d.told refl;
   after = after;
@@ -218,13 +209,20 @@ stopped_ends (Some (stops.Damaged page why)) d e seen k before after steps mid f
   why = why;
   stop = is;
   damage_is = refl;
-  output = gets_output d e seen k before after steps ends.Stopped mid faults (status_by (Some (stops.Damaged page why))) run run.put.0 line;
+  output = gets_output d e seen k before after steps ends.Stopped mid faults (status_by (Some (stops.Damaged page why))) run run.put.0 run.put.2 line;
 }
 
 run_ends : (end : End) (d e : DiskModel) (seen : Seen) (k : ℕ) (before after : CoreState) (steps : List ℕ) (mid : Option (List ℕ)) (faults : ℕ) → IsRun d e seen k before after steps end mid faults
     → (end ≡ ends.NoMemory → IsTurnedAway k d e seen NoMemory) → GetsLine mid seen.holds faults seen.sink_after (fault_line (status_after end after.stop)) → OpenedEnds d e seen (status_after end after.stop)
 run_ends ends.Finished d e seen k before after steps mid faults run idle line =
-    (after, drove d e seen k before after steps ends.Finished mid faults run (λ same. cc (same)), whole_output seen.held mid seen.holds faults seen.sink_after (run_output seen.answered after) run.put.0 line, run.put.1, run.put.2)
+    let still = run.silent_done refl in (
+      after,
+      drove d e seen k before after steps ends.Finished mid faults run (λ same. cc (same)),
+      subst (λ (o : Option (List ℕ)). Appends seen.held o (run_output seen.answered after)) (sym still.0) run.put.0,
+      run.put.1,
+      run.put.2,
+      still.1 ∙ run.put.3,
+    )
 run_ends ends.NoMemory d e seen k before after steps mid faults run idle line = (k, idle refl)
 run_ends ends.SinkFault d e seen k before after steps mid faults run idle line =
     let still = run.silent refl in (
@@ -234,7 +232,7 @@ run_ends ends.SinkFault d e seen k before after steps mid faults run idle line =
       subst (λ (n : ℕ). Rose seen.sink_before n) (sym still.1) run.put.1,
     )
 run_ends ends.ReadFault d e seen k before after steps mid faults run idle line =
-    (after, inl (run.read_fault refl), drove d e seen k before after steps ends.ReadFault mid faults run (λ same. cc (same)), inr (run.put.1, run.put.2), gets_output d e seen k before after steps ends.ReadFault mid faults DiskFault run run.put.0 line)
+    (after, inl (run.counts.read_fault run.put.2), drove d e seen k before after steps ends.ReadFault mid faults run (λ same. cc (same)), inr (run.put.1, run.put.2, run.counts.read_fault run.put.2), gets_output d e seen k before after steps ends.ReadFault mid faults DiskFault run run.put.0 run.put.3 line)
 run_ends ends.Stopped d e seen k before after steps mid faults run idle line = stopped_ends after.stop d e seen k before after steps mid faults run refl line
 
 pub schedule_ends : (end : End) (status : Status) (d e : DiskModel) (seen : Seen) (k : ℕ) (before after : CoreState) (steps : List ℕ) (mid : Option (List ℕ)) (faults : ℕ) → IsRun d e seen k before after steps end mid faults
@@ -242,6 +240,20 @@ pub schedule_ends : (end : End) (status : Status) (d e : DiskModel) (seen : Seen
 schedule_ends end status d e seen k before after steps mid faults run is idle line =
     let onward : GetsLine mid seen.holds faults seen.sink_after (fault_line (status_after end after.stop)) = subst (λ (x : Status). GetsLine mid seen.holds faults seen.sink_after (fault_line x)) is line in
     subst (λ (x : Status). OpenedEnds d e seen x) (sym is) (run_ends end d e seen k before after steps mid faults run idle onward)
+
+-- where no schedule was read, the source failed by its status alone
+pub source_kept : (status : Status) (k : ℕ) (left rest : Option (List ℕ)) (before after : ℕ) → NotScheduled k left rest before after status → ¬ (status ≡ SourceFault) → after ≡ before
+source_kept (BadText bad) k left rest before after why other = why.3
+source_kept SourceFault k left rest before after why other = absurd (other refl)
+source_kept NotBuilt k left rest before after why other = why.4
+source_kept NoMemory k left rest before after why other = why
+source_kept Done k left rest before after why other = absurd why
+source_kept SinkFault k left rest before after why other = absurd why
+source_kept DiskFault k left rest before after why other = absurd why
+source_kept Usage k left rest before after why other = absurd why
+source_kept (Damaged damage) k left rest before after why other = absurd why
+source_kept (Small needed found) k left rest before after why other = absurd why
+source_kept (BadLayout field value) k left rest before after why other = absurd why
 
 -- why no schedule was read of the text
 pub not_scheduled_ends : (status : Status) (k : ℕ) (d e : DiskModel) (seen : Seen) → NotScheduled k seen.left seen.rest seen.source_before seen.source_after status → IsTurnedAway k d e seen status → OpenedEnds d e seen status

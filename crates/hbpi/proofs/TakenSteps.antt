@@ -1,21 +1,15 @@
--- One step more of a loop over steps: room for its answer, the faults, and what the loop begins with and ends in.
-use Rattle.std.proofs.Common.{◌≡◌, ◌⊎◌, inl, inr, ℕ, zero, suc, ◌+◌, ◌-◌, ◌<◌, ◌≤◌, min, Bool, List, [], ◌∷◌, ◌++◌, length, map, take, Option, Some, None, IsSome, refl, sym, ap, ◌∙◌, subst, arith, append-nil, length-append, length-take, add-one}
-use Rattle.std.proofs.Math.Nat.{eq-or-lt_of_le}
-use Rattle.std.proofs.lemmas.List.{length-map, get_or_append_left, get_or_push}
+-- One step more of a loop over steps: room for its answer, and what the loop begins with and ends in.
+use Rattle.std.proofs.Common.{◌≡◌, inl, inr, ℕ, zero, suc, ◌+◌, ◌-◌, ◌<◌, ◌≤◌, min, Bool, List, [], ◌++◌, length, map, take, Option, Some, None, IsSome, refl, sym, ap, ◌∙◌, subst, arith, length-take, add-one}
+use Rattle.std.proofs.lemmas.List.{length-map}
 use Rattle.std.proofs.lemmas.Grind.{flat_map-append}
 use Rattle.std.specs.List.{flat_map}
-use Rattle.hb_outside.specs.Streams.{Rose}
-use Rattle.hb_set.specs.declared.commands.Reply.TheVariants.{ReadFault}
 use Rattle.hb_set.specs.declared.scripts.Line.{Line}
 use Rattle.hb_set.specs.declared.scripts.Answered.{Answered}
 use Rattle.hb_text.specs.Output.{answer_text}
-use Rattle.hb_text.specs.OutputLaws.{Rose-later}
-use Rattle.hb_store.specs.declared.stops.StopWhy.{StopWhy}
-use Rattle.hb_store.specs.declared.stops.StopWhy.TheVariants.{WriteFault}
 use Rattle.hbpi.specs.Ends.{HasPut, PutsMore}
 use Rattle.hbpi.specs.Core.{CoreState, AreAmong, AnswersFirst, answered_in, answered_count, answers_of}
-use Rattle.hbpi.specs.Moves.{Moves, MovesOn, HasOrder}
-use Rattle.hbpi.specs.Drives.{HasReadFault, IsStart}
+use Rattle.hbpi.specs.Moves.{Moves, MovesOn, HasOrder, Shown, StepFaults}
+use Rattle.hbpi.specs.Drives.{IsStart}
 use Rattle.hbpi.specs.declared.engine.session.Session.{Session}
 use Rattle.hbpi.specs.declared.engine.session.Session.TheVariants as sessions
 use Rattle.hbpi.specs.declared.engine.session.Outcome.{Outcome}
@@ -48,10 +42,10 @@ room_for old new (outcomes.Answered number reply) at answered moves first few =
       | inr wait ↦ one_answer old answered first (ap (λ (s : Session). answered_in s old.taken) wait.1) (gets.current).0 few
     ]
 
-pub moves_more : (n : ℕ) (from mid to : CoreState) (before answered : List Answered) (outcome : Outcome) (at : ℕ) → MovesOn n from before mid → Moves mid outcome to → answered ≡ before ++ answers_of outcome at → MovesOn (n + 1) from answered to
-moves_more n from mid to before answered outcome at was moves is =
+pub moves_more : (n : ℕ) (from mid to : Shown) (before answered : List Answered) (outcome : Outcome) (at : ℕ) → MovesOn n from before mid → Moves mid.core outcome to.core → StepFaults mid outcome to → answered ≡ before ++ answers_of outcome at → MovesOn (n + 1) from answered to
+moves_more n from mid to before answered outcome at was moves faults is =
     let M : ℕ → Type 0 = λ k. MovesOn k from answered to in
-    subst M (sym (add-one n)) (mid, before, outcome, at, was, moves, is)
+    subst M (sym (add-one n)) (mid, before, outcome, at, was, moves, faults, is)
 
 pub puts_more : (a b c : Option (List ℕ)) (f g h : ℕ) (failed next : Bool) (before answered given : List Answered) → answered ≡ before ++ given → HasPut a b f g failed (flat_map answer_text before)
     → PutsMore b c g h failed next (flat_map answer_text given) → HasPut a c f h next (flat_map answer_text answered)
@@ -59,58 +53,6 @@ puts_more a b c f g h failed next before answered given is put more =
     let P : List ℕ → Type 0 = λ t. HasPut a c f h next t in
     subst P (sym (ap (flat_map answer_text) is ∙ flat_map-append answer_text before given))
     (has_put_more a b c f g h failed next (flat_map answer_text before) (flat_map answer_text given) put more)
-
--- a count that rose has risen later too
-pub rose_longer : (a b c : ℕ) → a ≤ b → b ≤ c → Rose a b → Rose a c
-rose_longer a b c first second (inl lt) = inl (omega (arith, lt, second))
-rose_longer a b c first second (inr last) = elim (eq-or-lt_of_le second) [
-  | inl same ↦ inr (sym same ∙ last)
-  | inr lt ↦ inl (omega (arith, first, lt))
-]
-
--- a read fault among the answers stood there before, or is the one that the step gave
-read_faults : (answered : List Answered) (outcome : Outcome) (at : ℕ) → HasReadFault (answered ++ answers_of outcome at) → HasReadFault answered ⊎ ((number : ℕ) × (outcome ≡ outcomes.Answered number ReadFault))
-read_faults answered outcomes.Stopped at has = inl (let Q : List Answered → Type 0 = λ l. HasReadFault l in subst Q (append-nil answered) has)
-read_faults answered outcomes.Idle at has = inl (let Q : List Answered → Type 0 = λ l. HasReadFault l in subst Q (append-nil answered) has)
-read_faults answered outcomes.Helped at has = inl (let Q : List Answered → Type 0 = λ l. HasReadFault l in subst Q (append-nil answered) has)
-read_faults answered outcomes.Moved at has = inl (let Q : List Answered → Type 0 = λ l. HasReadFault l in subst Q (append-nil answered) has)
-read_faults answered (outcomes.Answered number reply) at has =
-    let a : Answered = record { line = number; reply = reply; at = at } in
-    let k = has.0 in
-    let le : k + 1 ≤ length answered + 1 = let lt = has.2 in omega (arith, lt, length-append answered (a ∷ [])) in
-    elim (eq-or-lt_of_le le) [
-      | inl same ↦
-          let here : length answered ≡ k = omega (arith, same) in
-          let is : a ≡ has.1 = sym (get_or_push answered a has.1 k here) ∙ has.3 in
-          let fault : reply ≡ ReadFault = ap (λ (x : Answered). x.reply) is ∙ has.4 in
-          inr (number, ap (outcomes.Answered number) fault)
-      | inr lt ↦
-          let within : k < length answered = omega (arith, lt) in
-          inl (k, has.1, within, sym (get_or_append_left answered (a ∷ []) has.1 k within) ∙ has.3, has.4)
-    ]
-
-pub read_fault_more : (first old new : ℕ) (before answered : List Answered) (outcome : Outcome) (at : ℕ) → answered ≡ before ++ answers_of outcome at → first ≤ old → old ≤ new → (HasReadFault before → Rose first old)
-    → ((number : ℕ) → outcome ≡ outcomes.Answered number ReadFault → Rose old new) → HasReadFault answered → Rose first new
-read_fault_more first old new before answered outcome at is le later was now has =
-    let Q : List Answered → Type 0 = λ l. HasReadFault l in
-    elim (read_faults before outcome at (subst Q is has)) [
-      | inl there ↦ rose_longer first old new le later (was there)
-      | inr here ↦ Rose-later first old new le (now here.0 here.1)
-    ]
-
-some_or_none : (o : Option StopWhy) → (o ≡ None) ⊎ IsSome o
-some_or_none None = inl refl
-some_or_none (Some why) = inr refl
-
--- a core that is stopped for a write that failed
-pub write_fault_more : (first before after : ℕ) (old new : CoreState) (outcome : Outcome) → Moves old outcome new → first ≤ before → before ≤ after → (old.stop ≡ Some WriteFault → Rose first before)
-    → (old.stop ≡ None → new.stop ≡ Some WriteFault → Rose before after) → new.stop ≡ Some WriteFault → Rose first after
-write_fault_more first before after old new outcome moves le later was now stopped = elim (some_or_none old.stop) [
-  | inl none ↦ Rose-later first before after le (now none stopped)
-  | inr some ↦
-      let same = (moves.stopped some).1 in
-      rose_longer first before after le later (was (sym (ap (λ (c : CoreState). c.stop) same) ∙ stopped))
-]
 
 -- a disk that tells now told before
 pub told_before : {X : Type 0} (before after : Option X) → (before ≡ None → after ≡ None) → IsSome after → IsSome before
@@ -125,13 +67,6 @@ starts_first c answered start none =
 
 pub starts_order : (c : CoreState) → IsStart c → Ordered c []
 starts_order c start = record { ordered = sym start.order; among = tt }
-
-pub starts_unread : (answered : List Answered) → answered ≡ [] → HasReadFault answered → ⊥
-starts_unread answered none has =
-    let Q : List Answered → Type 0 = λ l. HasReadFault l in
-    let there = subst Q none has in
-    let lt = there.2 in
-    omega (arith, lt)
 
 among_taken : (done lines : List Line) (session : Session) (taken : ℕ) → AreAmong done (take (effects_in session taken) lines) → AreAmong done (take taken lines)
 among_taken done lines sessions.Idle taken among = among

@@ -67,7 +67,7 @@ pub record StoreGoes (old : CoreState) (st : StoreState) (n : ℕ) : Type 0 wher
   pub meta : st.meta ≡ old.store.meta
   pub marks : All (λ (g : Waiting). g.mark ≤ n) st.log.groups
 
-module _ (d m : DiskModel) (reads : OnlyReads d m) (old : CoreState) (going : old.stop ≡ None) (was : old.session ≡ sessions.Walk) (whole : IsCore old) where
+module _ (d m : DiskModel) (reads : OnlyReads d m) (no_fault : m.read_faults ≡ d.read_faults) (old : CoreState) (going : old.stop ≡ None) (was : old.session ≡ sessions.Walk) (whole : IsCore old) where
   quiet_safe : (outcome : Outcome) (new : CoreState) → IsCore new → Moves old outcome new → new.store.meta.k ≡ old.store.meta.k
       → ((number : ℕ) → outcome ≡ outcomes.Answered number replies.ReadFault → ⊥) → (new.stop ≡ Some stops.WriteFault → ⊥) → StepsSafely d old outcome m new
   quiet_safe outcome new is_core moves same_k no_read no_write = record {
@@ -78,6 +78,8 @@ module _ (d m : DiskModel) (reads : OnlyReads d m) (old : CoreState) (going : ol
     write_fault = λ none is. absurd (no_write is);
     reads_later = reads.later;
     writes_later = omega (arith, reads.writes);
+    reads_same = λ none. no_fault;
+    writes_same = λ never. reads.writes;
     clock = λ told. omega (arith, reads.stays.clock);
     tells = λ told. (let Q : Option (List ℕ) → Type 0 = λ o. IsSome o in subst Q (sym reads.stays.told) told);
     silent = λ none. reads.stays.told ∙ none;

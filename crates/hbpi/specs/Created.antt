@@ -9,16 +9,16 @@ use Rattle.hbpi.specs.declared.statuses.Status.TheVariants.{Done, SinkFault}
 
 -- it was said that the file is made, or a front of it
 abbrev pub IsMadeOn : Option (List ℕ) → Option (List ℕ) → ℕ → ℕ → Status → Type 0
-IsMadeOn held holds before after Done = Appends held holds (codes "created\n")
+IsMadeOn held holds before after Done = Appends held holds (codes "created\n") × (after ≡ before)
 IsMadeOn held holds before after SinkFault = AppendsFront held holds (codes "created\n") × Rose before after
 IsMadeOn held holds before after _ = ⊥
 
 -- why a file of this fault and size was not made, on a disk of this size with these counts of failed writes
 abbrev pub NotMadeOn : Option OpenFault → ℕ → ℕ → ℕ → ℕ → OpenFault → Type 0
-NotMadeOn fault needed size before after (BadLayout field value) = fault ≡ Some (BadLayout field value)
-NotMadeOn fault needed size before after (Small wanted found) = (fault ≡ None) × (wanted ≡ needed) × (found ≡ size) × (size < needed)
+NotMadeOn fault needed size before after (BadLayout field value) = (fault ≡ Some (BadLayout field value)) × (after ≡ before)
+NotMadeOn fault needed size before after (Small wanted found) = (fault ≡ None) × (wanted ≡ needed) × (found ≡ size) × (size < needed) × (after ≡ before)
 NotMadeOn fault needed size before after DiskFault = (fault ≡ None) × (needed ≤ size) × Rose before after
-NotMadeOn fault needed size before after NoMemory = (fault ≡ None) × (needed ≤ size)
+NotMadeOn fault needed size before after NoMemory = (fault ≡ None) × (needed ≤ size) × (after ≡ before)
 NotMadeOn fault needed size before after NoSuper = ⊥
 NotMadeOn fault needed size before after NotBuilt = ⊥
 NotMadeOn fault needed size before after (BadGroup frame) = ⊥

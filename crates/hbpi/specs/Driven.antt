@@ -18,9 +18,9 @@ use Rattle.hb_store.specs.declared.stops.Why.{Why}
 use Rattle.hb_text.specs.Grammar.{text_read}
 use Rattle.hbpi.specs.Codes.{damage_of, status_of}
 use Rattle.hbpi.specs.Core.{CoreState, IsServed, AreAmong, Reaches, HoldsAnswers, CrashesTo, IsReplied, AnswersFirst, entries_from, set_of, settled_of}
-use Rattle.hbpi.specs.Drives.{IsStart, HasReadFault, run_output}
+use Rattle.hbpi.specs.Drives.{IsStart, HasReadFault, RunFaults, run_output}
 use Rattle.hbpi.specs.Ends.{Seen, IsRefused, IsUnread}
-use Rattle.hbpi.specs.Moves.{MovesOn, HasOrder}
+use Rattle.hbpi.specs.Moves.{MovesOn, HasOrder, shown}
 use Rattle.hbpi.specs.Outcome.{GetsLine, IsTextOf, IsWholeText, fault_line}
 use Rattle.hbpi.specs.Restart.{Refuses, IsOnePage, IsShut, IsUnwritten}
 use Rattle.hbpi.specs.declared.restart.faults.OpenFault.{OpenFault}
@@ -39,8 +39,9 @@ pub record IsScheduled (k : ℕ) (left rest : Option (List ℕ)) (lines : List L
 abbrev pub IsServedScript : List Line → List ℕ → Type 0
 IsServedScript lines steps = IsServed lines × All (λ (a : ℕ). a ≡ 1) steps
 
--- The schedule of the text was run, on a store that was just opened: so many steps, which gave these answers.
-pub record HasRun (seen : Seen) (k : ℕ) (before after : CoreState) : Type 0 where
+-- The schedule of the text was run, on a store that was just opened: so many steps, which gave these answers. The opening
+-- has raised no count of faults, so the steps lead from the counts at the run's beginning to those of now.
+pub record HasRun (d e : DiskModel) (seen : Seen) (k : ℕ) (before after : CoreState) : Type 0 where
   pub steps : List ℕ
   pub scheduled : IsScheduled k seen.left seen.rest before.lines steps
   pub served : IsServedScript before.lines steps
@@ -48,10 +49,11 @@ pub record HasRun (seen : Seen) (k : ℕ) (before after : CoreState) : Type 0 wh
   pub opened : IsNew before.store.turn before.store.meta before.store
   pub attributes : before.store.meta.k ≡ k
   pub one_page : IsOnePage before.store.meta
-  pub moves : MovesOn (length steps) before seen.answered after
+  pub moves : MovesOn (length steps) (shown d before) seen.answered (shown e after)
   pub first : AnswersFirst after seen.answered
   pub ordered : HasOrder after
   pub order : seen.order ≡ after.order
+  pub source : seen.source_after ≡ seen.source_before
 
 -- The same over a disk that tells, from the file that was opened: the steps lead from this file at the clock's value
 -- after the opening to a file at its value now. The lines that took effect have the numbers of the order, and are a legal
@@ -79,13 +81,18 @@ pub record RunsFrom (s : FileState) (steps : ℕ) (d e : DiskModel) (before afte
 pub record Drove (d e : DiskModel) (seen : Seen) (after : CoreState) : Type 0 where
   pub k : ℕ
   pub before : CoreState
-  pub run : HasRun seen k before after
+  pub run : HasRun d e seen k before after
+  pub faults : RunFaults d e seen.answered after
   pub told : IfSome d.told (λ b. (s : FileState) × OpensTo b s × IsSound s × (s.meta ≡ before.store.meta)
       × RunsFrom s (length run.steps) d e before after seen.answered)
 
 -- some call of the disk failed
 abbrev pub HasFailed : DiskModel → DiskModel → Type 0
 HasFailed d e = Rose d.read_faults e.read_faults ⊎ Rose d.write_faults e.write_faults
+
+-- no call of the disk failed
+abbrev pub HasNotFailed : DiskModel → DiskModel → Type 0
+HasNotFailed d e = (e.read_faults ≡ d.read_faults) × (e.write_faults ≡ d.write_faults)
 
 -- The file wasn't opened, and the source wasn't read. Over an even disk a crash leaves the same file.
 pub record IsShutOut (d e : DiskModel) (seen : Seen) (fault : OpenFault) : Type 0 where
@@ -94,6 +101,7 @@ pub record IsShutOut (d e : DiskModel) (seen : Seen) (fault : OpenFault) : Type 
   pub why : IfSome d.told (Refuses fault)
   pub shut : IsShut d.size fault
   pub failed : fault ≡ faults.DiskFault → HasFailed d e
+  pub no_fault : ¬ (fault ≡ faults.DiskFault) → HasNotFailed d e
   pub unwritten : IsUnwritten fault → OnlyReads d e
   pub even : (s : FileState) → IsEven d s → Leaves d e (λ c. OpensTo c s)
 
@@ -101,6 +109,8 @@ pub record IsShutOut (d e : DiskModel) (seen : Seen) (fault : OpenFault) : Type 
 -- an even disk every image since the run began does.
 pub record IsTurnedAway (k : ℕ) (d e : DiskModel) (seen : Seen) (status : Status) : Type 0 where
   pub refused : IsRefused seen status
+  pub no_fault : HasNotFailed d e
+  pub source : ¬ (status ≡ SourceFault) → seen.source_after ≡ seen.source_before
   pub told : IfSome d.told (λ b. (s : FileState) × OpensTo b s × IsSound s × (s.meta.k ≡ k) × IsEven e s × (IsEven d s → Leaves d e (λ c. OpensTo c s)) × IsOnePage s.meta)
 
 -- the whole output and the fault line behind it, or a front of these where the sink failed
@@ -108,8 +118,10 @@ abbrev pub GetsOutput : Seen → CoreState → Status → Type 0
 GetsOutput seen after status = GetsLine seen.held seen.holds seen.sink_before seen.sink_after (run_output seen.answered after ++ fault_line status)
 
 -- why a run that got to its steps ends with a fault of the disk: a write failed, or a reply is a read fault
-abbrev pub EndsByFault : Seen → CoreState → Type 0
-EndsByFault seen after = (after.stop ≡ Some stops.WriteFault) ⊎ ((after.stop ≡ None) × HasReadFault seen.answered)
+abbrev pub EndsByFault : DiskModel → DiskModel → Seen → CoreState → Type 0
+EndsByFault d e seen after =
+    ((after.stop ≡ Some stops.WriteFault) × Rose d.write_faults e.write_faults)
+    ⊎ ((after.stop ≡ None) × HasReadFault seen.answered × Rose d.read_faults e.read_faults)
 
 -- Only a disk that doesn't tell its bytes may be met damaged behind the opening.
 pub record IsMetDamaged (d e : DiskModel) (seen : Seen) (damage : Damage) : Type 0 where
@@ -124,12 +136,12 @@ pub record IsMetDamaged (d e : DiskModel) (seen : Seen) (damage : Damage) : Type
 
 -- How a run ends whose file was opened.
 abbrev pub OpenedEnds : DiskModel → DiskModel → Seen → Status → Type 0
-OpenedEnds d e seen Done = (after : CoreState) × Drove d e seen after × Appends seen.held seen.holds (run_output seen.answered after) × (after.stop ≡ None) × (¬ (HasReadFault seen.answered))
+OpenedEnds d e seen Done = (after : CoreState) × Drove d e seen after × Appends seen.held seen.holds (run_output seen.answered after) × (after.stop ≡ None) × (¬ (HasReadFault seen.answered)) × (seen.sink_after ≡ seen.sink_before)
 OpenedEnds d e seen SinkFault = (after : CoreState) × Drove d e seen after × AppendsFront seen.held seen.holds (run_output seen.answered after) × Rose seen.sink_before seen.sink_after
 OpenedEnds d e seen (BadText bad) = (k : ℕ) × IsTurnedAway k d e seen (BadText bad) × (text : List ℕ) × IsTextOf seen.left seen.rest text × (text_read true k text ≡ Err bad)
 OpenedEnds d e seen SourceFault = (k : ℕ) × IsTurnedAway k d e seen SourceFault × Rose seen.source_before seen.source_after
 OpenedEnds d e seen NotBuilt = (k : ℕ) × IsTurnedAway k d e seen NotBuilt × (lines : List Line) × (steps : List ℕ) × IsScheduled k seen.left seen.rest lines steps × (¬ (IsServedScript lines steps))
-OpenedEnds d e seen DiskFault = (after : CoreState) × HasFailed d e × Drove d e seen after × EndsByFault seen after × GetsOutput seen after DiskFault
+OpenedEnds d e seen DiskFault = (after : CoreState) × HasFailed d e × Drove d e seen after × EndsByFault d e seen after × GetsOutput seen after DiskFault
 OpenedEnds d e seen (Damaged damage) = IsMetDamaged d e seen damage
 OpenedEnds d e seen NoMemory = (k : ℕ) × IsTurnedAway k d e seen NoMemory
 OpenedEnds d e seen (Small needed found) = ⊥
@@ -142,10 +154,10 @@ DriveCommandEnds d e seen status = ((fault : OpenFault) × (status ≡ status_of
 
 -- why no schedule was read of a text over k attributes
 abbrev pub NotScheduled : ℕ → Option (List ℕ) → Option (List ℕ) → ℕ → ℕ → Status → Type 0
-NotScheduled k left rest before after (BadText bad) = (text : List ℕ) × IsTextOf left rest text × (text_read true k text ≡ Err bad)
+NotScheduled k left rest before after (BadText bad) = (text : List ℕ) × IsTextOf left rest text × (text_read true k text ≡ Err bad) × (after ≡ before)
 NotScheduled k left rest before after SourceFault = Rose before after
-NotScheduled k left rest before after NotBuilt = (lines : List Line) × (steps : List ℕ) × IsScheduled k left rest lines steps × (¬ (IsServedScript lines steps))
-NotScheduled k left rest before after NoMemory = Unit {0}
+NotScheduled k left rest before after NotBuilt = (lines : List Line) × (steps : List ℕ) × IsScheduled k left rest lines steps × (¬ (IsServedScript lines steps)) × (after ≡ before)
+NotScheduled k left rest before after NoMemory = after ≡ before
 NotScheduled k left rest before after Done = ⊥
 NotScheduled k left rest before after SinkFault = ⊥
 NotScheduled k left rest before after DiskFault = ⊥

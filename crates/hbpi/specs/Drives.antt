@@ -1,5 +1,5 @@
 -- What a run of a schedule leaves.
-use Rattle.std.specs.Prelude.{◌≡◌, ℕ, Bool, true, false, List, [], Option, None, IsSome, All, Any, is_some}
+use Rattle.std.specs.Prelude.{◌≡◌, ℕ, Bool, true, false, List, [], Option, Some, None, IsSome, All, Any, is_some}
 use Rattle.hb_disk.specs.Model.{DiskModel}
 use Rattle.hb_outside.specs.Streams.{Rose, Appends, AppendsFront}
 use Rattle.hb_set.specs.Machine.{RecordSet}
@@ -9,6 +9,7 @@ use Rattle.hb_set.specs.declared.scripts.Line.{Line}
 use Rattle.hb_set.specs.declared.scripts.Answered.{Answered}
 use Rattle.hb_ops.specs.Files.{FileState}
 use Rattle.hb_store.specs.Keeps.{last_of}
+use Rattle.hb_store.specs.declared.stops.StopWhy.TheVariants.{WriteFault}
 use Rattle.hb_text.specs.Output.{output_text}
 use Rattle.hbpi.specs.Core.{CoreState, CoreKeeps, Reaches, CrashesTo, IsReplied, AnswersFirst, entries_from, left_lines, settled_of}
 use Rattle.hbpi.specs.declared.engine.session.Session.TheVariants.{Idle}
@@ -45,6 +46,14 @@ run_output answered c = output_text answered (left_lines c.lines answered) (is_s
 abbrev pub HasReadFault : List Answered → Type 0
 HasReadFault answered = Any (λ (a : Answered). a.reply ≡ ReadFault) answered
 
+-- The count of failed reads rose exactly where some reply is a read fault, and that of failed writes exactly where the core
+-- is stopped for a write that failed.
+pub record RunFaults (d e : DiskModel) (answered : List Answered) (after : CoreState) : Type 0 where
+  pub read_fault : HasReadFault answered → Rose d.read_faults e.read_faults
+  pub reads_same : ¬ (HasReadFault answered) → e.read_faults ≡ d.read_faults
+  pub write_fault : after.stop ≡ Some WriteFault → Rose d.write_faults e.write_faults
+  pub writes_same : ¬ (after.stop ≡ Some WriteFault) → e.write_faults ≡ d.write_faults
+
 -- Which end it is: a fault of the sink comes first, then a stop, then a read fault.
 abbrev pub EndsAs : End → Bool → Bool → List Answered → Type 0
 EndsAs ends.NoMemory failed stopped answered = ⊥
@@ -56,8 +65,8 @@ EndsAs ends.Finished failed stopped answered = (failed ≡ false) × (stopped �
 -- How it ended: the whole output was written, or the sink failed and has a front of it. Of the other ends a fault of the
 -- sink comes first, then a stop, then a read fault.
 abbrev pub DriveEnds : End → Option (List ℕ) → Option (List ℕ) → ℕ → ℕ → List Answered → CoreState → Type 0
-DriveEnds ends.NoMemory held holds before after answered c = Appends held holds []
+DriveEnds ends.NoMemory held holds before after answered c = Appends held holds [] × (after ≡ before)
 DriveEnds ends.SinkFault held holds before after answered c = AppendsFront held holds (run_output answered c) × Rose before after
-DriveEnds ends.Stopped held holds before after answered c = Appends held holds (run_output answered c) × IsSome c.stop
-DriveEnds ends.ReadFault held holds before after answered c = Appends held holds (run_output answered c) × (c.stop ≡ None) × HasReadFault answered
-DriveEnds ends.Finished held holds before after answered c = Appends held holds (run_output answered c) × (c.stop ≡ None) × (¬ (HasReadFault answered))
+DriveEnds ends.Stopped held holds before after answered c = Appends held holds (run_output answered c) × IsSome c.stop × (after ≡ before)
+DriveEnds ends.ReadFault held holds before after answered c = Appends held holds (run_output answered c) × (c.stop ≡ None) × HasReadFault answered × (after ≡ before)
+DriveEnds ends.Finished held holds before after answered c = Appends held holds (run_output answered c) × (c.stop ≡ None) × (¬ (HasReadFault answered)) × (after ≡ before)

@@ -55,12 +55,13 @@ pub record IsUnread (seen : Seen) : Type 0 where
   pub rest : seen.rest ≡ seen.left
   pub faults : seen.source_after ≡ seen.source_before
 
--- the text was read whole, says these lines, and they were answered
+-- the text was read whole and with no fault, says these lines, and they were answered
 pub record IsAnswered (k : ℕ) (seen : Seen) (lines : List Line) : Type 0 where
   pub text : List ℕ
   pub whole : IsWholeText seen.left seen.rest text
   pub says : text_read false k text ≡ Ok (record { lines = lines; steps = [] })
   pub run : IsDryRun lines seen.answered seen.order
+  pub faults : seen.source_after ≡ seen.source_before
 
 -- the output of a run in which every line has an answer, and every line of the order is settled
 abbrev pub whole_output : Seen → List ℕ
@@ -68,11 +69,11 @@ whole_output seen = output_text seen.answered [] false seen.order (length seen.o
 
 -- the plain record set over k attributes
 abbrev pub DryEnds : ℕ → Seen → Status → Type 0
-DryEnds k seen Done = (lines : List Line) × IsAnswered k seen lines × Appends seen.held seen.holds (whole_output seen)
+DryEnds k seen Done = (lines : List Line) × IsAnswered k seen lines × Appends seen.held seen.holds (whole_output seen) × (seen.sink_after ≡ seen.sink_before)
 DryEnds k seen SinkFault = (lines : List Line) × IsAnswered k seen lines × AppendsFront seen.held seen.holds (whole_output seen) × Rose seen.sink_before seen.sink_after
-DryEnds k seen (BadText bad) = (text : List ℕ) × IsTextOf seen.left seen.rest text × (text_read false k text ≡ Err bad) × IsRefused seen (BadText bad)
+DryEnds k seen (BadText bad) = (text : List ℕ) × IsTextOf seen.left seen.rest text × (text_read false k text ≡ Err bad) × IsRefused seen (BadText bad) × (seen.source_after ≡ seen.source_before)
 DryEnds k seen SourceFault = Rose seen.source_before seen.source_after × IsRefused seen SourceFault
-DryEnds k seen NoMemory = IsRefused seen NoMemory
+DryEnds k seen NoMemory = IsRefused seen NoMemory × (seen.source_after ≡ seen.source_before)
 DryEnds k seen Usage = ⊥
 DryEnds k seen DiskFault = ⊥
 DryEnds k seen (Damaged damage) = ⊥
@@ -97,10 +98,16 @@ pub record DiskSeen : Type 0 where
   pub writes_before : ℕ
   pub writes_after : ℕ
 
+-- no call of the disk failed
+pub record KeepsFaults (disk : DiskSeen) : Type 0 where
+  pub reads : disk.reads_after ≡ disk.reads_before
+  pub writes : disk.writes_after ≡ disk.writes_before
+
 -- a file was made: its layout is within the limits, and the disk has room for it
 pub record IsMade (fault : Option OpenFault) (needed : ℕ) (seen : Seen) (disk : DiskSeen) : Type 0 where
   pub good : fault ≡ None
   pub large : needed ≤ disk.size
+  pub faults : KeepsFaults disk
   pub unread : IsUnread seen
   pub none_answered : seen.answered ≡ []
   pub none_ordered : seen.order ≡ []
@@ -113,12 +120,12 @@ pub record IsNotMade (fault : Option OpenFault) (seen : Seen) (status : Status) 
 
 -- a new file, whose layout has this fault and wants so many bytes
 abbrev pub CreateEnds : Option OpenFault → ℕ → Seen → DiskSeen → Status → Type 0
-CreateEnds fault needed seen disk Done = IsMade fault needed seen disk × Appends seen.held seen.holds (codes "created\n")
+CreateEnds fault needed seen disk Done = IsMade fault needed seen disk × Appends seen.held seen.holds (codes "created\n") × (seen.sink_after ≡ seen.sink_before)
 CreateEnds fault needed seen disk SinkFault = IsMade fault needed seen disk × AppendsFront seen.held seen.holds (codes "created\n") × Rose seen.sink_before seen.sink_after
-CreateEnds fault needed seen disk (BadLayout field value) = (fault ≡ Some (opens.BadLayout field value)) × IsRefused seen (BadLayout field value) × IsUnread seen
-CreateEnds fault needed seen disk (Small wanted found) = (wanted ≡ needed) × (found ≡ disk.size) × (disk.size < needed) × IsNotMade fault seen (Small wanted found)
-CreateEnds fault needed seen disk DiskFault = (needed ≤ disk.size) × Rose disk.writes_before disk.writes_after × IsNotMade fault seen DiskFault
-CreateEnds fault needed seen disk NoMemory = (needed ≤ disk.size) × IsNotMade fault seen NoMemory
+CreateEnds fault needed seen disk (BadLayout field value) = (fault ≡ Some (opens.BadLayout field value)) × IsRefused seen (BadLayout field value) × IsUnread seen × KeepsFaults disk
+CreateEnds fault needed seen disk (Small wanted found) = (wanted ≡ needed) × (found ≡ disk.size) × (disk.size < needed) × IsNotMade fault seen (Small wanted found) × KeepsFaults disk
+CreateEnds fault needed seen disk DiskFault = (needed ≤ disk.size) × Rose disk.writes_before disk.writes_after × IsNotMade fault seen DiskFault × (disk.reads_after ≡ disk.reads_before)
+CreateEnds fault needed seen disk NoMemory = (needed ≤ disk.size) × IsNotMade fault seen NoMemory × KeepsFaults disk
 CreateEnds fault needed seen disk Usage = ⊥
 CreateEnds fault needed seen disk (BadText bad) = ⊥
 CreateEnds fault needed seen disk SourceFault = ⊥
@@ -144,9 +151,9 @@ HasMade Done = Unit {0}
 HasMade SinkFault = Unit {0}
 HasMade _ = ⊥
 
--- What was put of a text so far: all of it, or a front where the sink failed.
+-- What was put of a text so far: all of it and with no fault, or a front where the sink failed.
 abbrev pub HasPut : Option (List ℕ) → Option (List ℕ) → ℕ → ℕ → Bool → List ℕ → Type 0
-HasPut before after faults_before faults_after false text = Appends before after text × (faults_before ≤ faults_after)
+HasPut before after faults_before faults_after false text = Appends before after text × (faults_after ≡ faults_before)
 HasPut before after faults_before faults_after true text = AppendsFront before after text × Rose faults_before faults_after × (faults_before ≤ faults_after)
 
 -- One piece more is put only where none failed before.
@@ -163,9 +170,9 @@ pub record IsRead (k : ℕ) (left rest : Option (List ℕ)) (lines : List Line) 
 
 -- why no script was read
 abbrev pub NotRead : ℕ → Option (List ℕ) → Option (List ℕ) → ℕ → ℕ → Status → Type 0
-NotRead k left rest before after (BadText bad) = (text : List ℕ) × IsTextOf left rest text × (text_read false k text ≡ Err bad)
+NotRead k left rest before after (BadText bad) = (text : List ℕ) × IsTextOf left rest text × (text_read false k text ≡ Err bad) × (after ≡ before)
 NotRead k left rest before after SourceFault = Rose before after
-NotRead k left rest before after NoMemory = Unit {0}
+NotRead k left rest before after NoMemory = after ≡ before
 NotRead k left rest before after _ = ⊥
 
 -- the order is put behind the answers, and the status tells whether the sink failed
@@ -176,7 +183,7 @@ EndsBySink before after faults_before faults_after failed order _ = ⊥
 
 -- how a run of these lines ends
 abbrev pub EndsRun : Option (List ℕ) → Option (List ℕ) → ℕ → ℕ → List Line → List Answered → List ℕ → Status → Type 0
-EndsRun held holds before after lines answered order Done = IsDryRun lines answered order × Appends held holds (output_text answered [] false order (length order))
+EndsRun held holds before after lines answered order Done = IsDryRun lines answered order × Appends held holds (output_text answered [] false order (length order)) × (after ≡ before)
 EndsRun held holds before after lines answered order SinkFault = IsDryRun lines answered order × AppendsFront held holds (output_text answered [] false order (length order)) × Rose before after
 EndsRun held holds before after lines answered order NoMemory = GetsLine held holds before after (fault_line NoMemory) × (answered ≡ []) × (order ≡ [])
 EndsRun held holds before after lines answered order _ = ⊥

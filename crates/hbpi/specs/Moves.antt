@@ -1,12 +1,15 @@
 -- What a step does over every disk, also over one that doesn't tell its bytes: which line it takes, answers or puts into
 -- the order. Nothing is said of the file.
 use Rattle.std.specs.Prelude.{◌≡◌, ◌≢◌, ◌⊎◌, ℕ, zero, suc, ◌+◌, ◌<◌, ◌≤◌, List, [], ◌∷◌, ◌++◌, length, map, take, Some, None, IsSome}
+use Rattle.hb_outside.specs.Streams.{Rose}
+use Rattle.hb_disk.specs.Model.{DiskModel}
 use Rattle.hb_set.specs.declared.commands.Reply.{Reply}
+use Rattle.hb_set.specs.declared.commands.Reply.TheVariants.{ReadFault}
 use Rattle.hb_set.specs.declared.scripts.Line.{Line}
 use Rattle.hb_set.specs.declared.scripts.Answered.{Answered}
+use Rattle.hb_store.specs.declared.stops.StopWhy.TheVariants.{Damaged, WriteFault}
 use Rattle.hbpi.specs.Core.{CoreState, IsCurrent, IsOutside, AreAmong, settled_of, answers_of}
 use Rattle.hb_store.specs.declared.stops.Why.{Why}
-use Rattle.hb_store.specs.declared.stops.StopWhy.TheVariants.{Damaged}
 use Rattle.hbpi.specs.Damages.{MeetsDamage}
 use Rattle.hbpi.specs.declared.engine.session.Session.TheVariants as sessions
 use Rattle.hbpi.specs.declared.engine.session.Outcome.{Outcome}
@@ -62,10 +65,29 @@ pub record Moves (old : CoreState) (outcome : Outcome) (new : CoreState) : Type 
   -- a page that stops it is damaged as it says
   pub damage : old.stop ≡ None → (page : ℕ) (why : Why) → new.stop ≡ Some (Damaged page why) → MeetsDamage old new page why
 
--- So many steps lead from one core to another, and give these answers in this sequence.
-abbrev pub MovesOn : ℕ → CoreState → List Answered → CoreState → Type 0
+-- what is shown between two steps over every disk: the core, and the disk's counts of failed reads and failed writes
+pub record Shown : Type 0 where
+  pub core : CoreState
+  pub reads : ℕ
+  pub writes : ℕ
+
+abbrev pub shown : DiskModel → CoreState → Shown
+shown d c = record { core = c; reads = d.read_faults; writes = d.write_faults }
+
+-- One step raises the count of failed reads exactly where it answers `read fault`, and that of failed writes exactly where
+-- it stops the core for a write that failed.
+pub record StepFaults (old : Shown) (outcome : Outcome) (new : Shown) : Type 0 where
+  pub read_fault : (number : ℕ) → outcome ≡ outcomes.Answered number ReadFault → Rose old.reads new.reads
+  pub reads_same : ((number : ℕ) → outcome ≡ outcomes.Answered number ReadFault → ⊥) → new.reads ≡ old.reads
+  pub reads_later : old.reads ≤ new.reads
+  pub write_fault : old.core.stop ≡ None → new.core.stop ≡ Some WriteFault → Rose old.writes new.writes
+  pub writes_same : (old.core.stop ≡ None → new.core.stop ≡ Some WriteFault → ⊥) → new.writes ≡ old.writes
+  pub writes_later : old.writes ≤ new.writes
+
+-- So many steps lead from one moment to another, and give these answers in this sequence.
+abbrev pub MovesOn : ℕ → Shown → List Answered → Shown → Type 0
 MovesOn zero from answered to = (to ≡ from) × (answered ≡ [])
-MovesOn (suc n) from answered to = (mid : CoreState) × (before : List Answered) × (outcome : Outcome) × (at : ℕ) × MovesOn n from before mid × Moves mid outcome to × (answered ≡ before ++ answers_of outcome at)
+MovesOn (suc n) from answered to = (mid : Shown) × (before : List Answered) × (outcome : Outcome) × (at : ℕ) × MovesOn n from before mid × Moves mid.core outcome to.core × StepFaults mid outcome to × (answered ≡ before ++ answers_of outcome at)
 
 -- The order has some of the lines that were taken, in their order.
 pub record HasOrder (c : CoreState) : Type 0 where

@@ -61,9 +61,9 @@ fault_line (Small needed found) = codes "small " ++ decimal needed ++ codes " " 
 fault_line NoMemory = codes "no memory\n"
 fault_line NotBuilt = codes "not built\n"
 
--- The line stands behind what the sink held, whole, or a front of it where the sink failed.
+-- The line stands behind what the sink held, whole and with no fault, or a front of it where the sink failed.
 abbrev pub GetsLine : Option (List ℕ) → Option (List ℕ) → ℕ → ℕ → List ℕ → Type 0
-GetsLine before after faults_before faults_after line = Appends before after line ⊎ (AppendsFront before after line × Rose faults_before faults_after)
+GetsLine before after faults_before faults_after line = (Appends before after line × (faults_after ≡ faults_before)) ⊎ (AppendsFront before after line × Rose faults_before faults_after)
 
 -- The text that was read is what the source had left, up to 257,000,001 bytes, where the source tells.
 unfoldable pub greatest_text : ℕ

@@ -1,5 +1,5 @@
 -- What opening a file makes of its disk, once it is found: the page is written to its place, and the next turn begins.
-use Rattle.std.specs.Prelude.{◌≡◌, ◌⊎◌, ℕ, ◌*◌, ◌+◌, ◌≤◌, List, replicate, Option, Some, None, IsSome, Result, OnErr}
+use Rattle.std.specs.Prelude.{◌≡◌, ◌⊎◌, ℕ, ◌*◌, ◌+◌, ◌≤◌, List, replicate, Option, Some, None, IsSome, Result, OnOk, OnErr}
 use Rattle.hb_space.specs.declared.form.TheConstants.{PAGE}
 use Rattle.hb_outside.specs.Streams.{Rose}
 use Rattle.hb_disk.specs.Model.{DiskModel}
@@ -41,12 +41,13 @@ pub record IsReadyFor (d : DiskModel) (turn : ℕ) (meta : Meta) (touched : Opti
   pub hides : (b : List ℕ) → d.told ≡ Some b → HidesNoOther b (next_turn turn) meta
 
 -- A run of at most n calls that write: the size stays, no count falls, the disk tells after it exactly where it told
--- before, and an error has raised a count of failed calls.
+-- before, and a count of failed calls has risen where it answers an error, and nowhere else.
 pub record Runs {T E : Type 0} (n : ℕ) (result : Result T E) (old new : DiskModel) : Type 0 where
   pub size : new.size ≡ old.size
   pub silent : old.told ≡ None → new.told ≡ None
   pub tells : IsSome old.told → IsSome new.told
   pub clock : IsSome old.told → new.clock ≤ old.clock + n
   pub cause : OnErr result (Rose old.read_faults new.read_faults ⊎ Rose old.write_faults new.write_faults)
+  pub no_fault : OnOk result ((new.read_faults ≡ old.read_faults) × (new.write_faults ≡ old.write_faults))
   pub reads : old.read_faults ≤ new.read_faults
   pub writes : old.write_faults ≤ new.write_faults

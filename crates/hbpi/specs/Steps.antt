@@ -64,11 +64,12 @@ GivesUp fetches.ReadFault old outcome new = AnswersIt ReadFault old outcome new
 GivesUp fetches.NoMemory old outcome new = AnswersIt NoMemory old outcome new
 GivesUp (fetches.Damaged page why) old outcome new = (outcome ≡ outcomes.Stopped) × (new ≡ with_stop (Damaged page why) old)
 
--- one force was done, or the core is stopped
+-- one force was done and no call of the disk failed, or the core is stopped
 abbrev pub ForcesOnce : Outcome → DiskModel → CoreState → Outcome → DiskModel → CoreState → Type 0
 ForcesOnce done d old outcome e new =
     ((outcome ≡ done) × (new ≡ with_store (forced_state old.store) old)
-    × ((durable : FileState) (later : List FileState) → StoreKeeps d old.store durable later → StoreKeeps e (forced_state old.store) (durable_after durable later) (later_after later)))
+    × ((durable : FileState) (later : List FileState) → StoreKeeps d old.store durable later → StoreKeeps e (forced_state old.store) (durable_after durable later) (later_after later))
+    × (e.write_faults ≡ d.write_faults))
     ⊎ ((outcome ≡ outcomes.Stopped) × (new ≡ with_stop WriteFault (with_store (stopped_state old.store) old))
     × ((durable : FileState) (later : List FileState) → StoreKeeps d old.store durable later → StoreKeeps e (stopped_state old.store) durable later)
     × Rose d.write_faults e.write_faults)
@@ -93,6 +94,8 @@ pub record StepsSafely (d : DiskModel) (old : CoreState) (outcome : Outcome) (e 
   pub write_fault : old.stop ≡ None → new.stop ≡ Some WriteFault → Rose d.write_faults e.write_faults
   pub reads_later : d.read_faults ≤ e.read_faults
   pub writes_later : d.write_faults ≤ e.write_faults
+  pub reads_same : ((number : ℕ) → outcome ≡ outcomes.Answered number ReadFault → ⊥) → e.read_faults ≡ d.read_faults
+  pub writes_same : (old.stop ≡ None → new.stop ≡ Some WriteFault → ⊥) → e.write_faults ≡ d.write_faults
   pub clock : IsSome d.told → e.clock ≤ d.clock + 4
   pub tells : IsSome d.told → IsSome e.told
   pub silent : d.told ≡ None → e.told ≡ None

@@ -36,8 +36,8 @@ fn make<D: Device>(
     ensures unmade { IfErr result (λ e. e.0 ≢ DiskFault → e.0 ≢ NoMemory → e.1 ≡ disk) }
     ensures beyond { IfOk result (λ e. KeepsBeyond (size_of pages log) (D.model disk) (D.model e)) }
     ensures beyond_after_fault { IfErr result (λ e. KeepsBeyond (size_of pages log) (D.model disk) (D.model e.1)) }
-    ensures later { IfOk result (λ e. ((D.model disk).read_faults ≤ (D.model e).read_faults) × ((D.model disk).write_faults ≤ (D.model e).write_faults)) }
-    ensures later_after_fault { IfErr result (λ e. ((D.model disk).read_faults ≤ (D.model e.1).read_faults) × ((D.model disk).write_faults ≤ (D.model e.1).write_faults)) }
+    ensures no_fault { IfOk result (λ e. ((D.model e).read_faults ≡ (D.model disk).read_faults) × ((D.model e).write_faults ≡ (D.model disk).write_faults)) }
+    ensures later_after_fault { IfErr result (λ e. ((D.model e.1).read_faults ≡ (D.model disk).read_faults) × ((D.model disk).write_faults ≤ (D.model e.1).write_faults)) }
 {
     let layout = match Layout::of_numbers(k, pages, log, dcap, icap) {
         Ok(layout) => layout,

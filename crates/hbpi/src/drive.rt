@@ -8,13 +8,12 @@ ghost use Rattle.hb_set.specs.Scripts.{IsScriptFor};
 ghost use Rattle.hb_set.specs.declared.scripts.Line.{Line as Entry};
 ghost use Rattle.hb_text.specs.Output.{reply_text, answer_text, left_text, order_text};
 ghost use Rattle.hbpi.specs.Ends.{HasPut, PutsMore};
-ghost use Rattle.hb_store.specs.declared.stops.StopWhy.TheVariants.{WriteFault};
 ghost use Rattle.hbpi.specs.Beyond.{StaysInLog};
 ghost use Rattle.hbpi.specs.Core.{CoreKeeps, IsCore, IsServed, AnswersFirst, answers_of, settled_of};
-ghost use Rattle.hbpi.specs.Moves.{MovesOn, HasOrder};
+ghost use Rattle.hbpi.specs.Moves.{MovesOn, HasOrder, shown};
 ghost use Rattle.hbpi.specs.CoreSeen.{core_seen, core_disk};
 ghost use Rattle.hb_store.specs.Keeps.{last_of};
-ghost use Rattle.hbpi.specs.Drives.{DriveEnds, EndsAs, HasReadFault, IsStart, RunsTo};
+ghost use Rattle.hbpi.specs.Drives.{DriveEnds, EndsAs, HasReadFault, IsStart, RunFaults, RunsTo};
 
 use crate::answers::put_answer;
 use crate::engine::session::Outcome;
@@ -90,15 +89,14 @@ fn take_steps<D: Disk, K: Sink>(
     requires room { length (core_seen core.old).lines ≤ vec_capacity answered.old }
     ensures runs { (n : RecordSet) (kept : CoreKeeps (D.model (core_disk core.old)) (core_seen core.old) n []) →
         RunsTo steps (D.model (core_disk core.old)) (core_seen core.old) (last_of kept.durable kept.later) answered.new.items (D.model (core_disk core.new)) (core_seen core.new) n }
-    ensures moves { MovesOn steps (core_seen core.old) answered.new.items (core_seen core.new) }
+    ensures moves { MovesOn steps (shown (D.model (core_disk core.old)) (core_seen core.old)) answered.new.items (shown (D.model (core_disk core.new)) (core_seen core.new)) }
     ensures first { AnswersFirst (core_seen core.new) answered.new.items }
     ensures order { HasOrder (core_seen core.new) }
     ensures whole { IsCore (core_seen core.new) }
     ensures lines { (core_seen core.new).lines ≡ (core_seen core.old).lines }
     ensures in_log { StaysInLog (D.model (core_disk core.old)) (core_seen core.old) (D.model (core_disk core.new)) (core_seen core.new) }
     ensures put { HasPut (K.written sink.old) (K.written sink.new) (K.faults sink.old) (K.faults sink.new) result (flat_map answer_text answered.new.items) }
-    ensures read_fault { HasReadFault answered.new.items → Rose (D.model (core_disk core.old)).read_faults (D.model (core_disk core.new)).read_faults }
-    ensures write_fault { (core_seen core.new).stop ≡ Some WriteFault → Rose (D.model (core_disk core.old)).write_faults (D.model (core_disk core.new)).write_faults }
+    ensures faults { RunFaults (D.model (core_disk core.old)) (D.model (core_disk core.new)) answered.new.items (core_seen core.new) }
     ensures reads_later { (D.model (core_disk core.old)).read_faults ≤ (D.model (core_disk core.new)).read_faults }
     ensures writes_later { (D.model (core_disk core.old)).write_faults ≤ (D.model (core_disk core.new)).write_faults }
 {
@@ -198,15 +196,14 @@ pub(crate) fn drive<D: Disk, K: Sink>(
     ensures runs { (n : RecordSet) (kept : CoreKeeps (D.model (core_disk core)) (core_seen core) n []) → result.end ≢ End.NoMemory →
         RunsTo steps (D.model (core_disk core)) (core_seen core) (last_of kept.durable kept.later) result.answered.items (D.model (core_disk result.core)) (core_seen result.core) n }
     // over every disk: so many steps were taken, the first lines were answered in their order, and some of them took effect
-    ensures moves { result.end ≢ End.NoMemory → MovesOn steps (core_seen core) result.answered.items (core_seen result.core) }
+    ensures moves { result.end ≢ End.NoMemory → MovesOn steps (shown (D.model (core_disk core)) (core_seen core)) result.answered.items (shown (D.model (core_disk result.core)) (core_seen result.core)) }
     ensures first { AnswersFirst (core_seen result.core) result.answered.items }
     ensures order { HasOrder (core_seen result.core) }
     ensures unbegun { result.end ≡ End.NoMemory → (result.core ≡ core) × (result.sink ≡ sink) × (result.answered.items ≡ []) }
     // no byte is another one but those of the log's area
     ensures in_log { StaysInLog (D.model (core_disk core)) (core_seen core) (D.model (core_disk result.core)) (core_seen result.core) }
     ensures ends { DriveEnds result.end (K.written sink) (K.written result.sink) (K.faults sink) (K.faults result.sink) result.answered.items (core_seen result.core) }
-    ensures read_fault { result.end ≡ End.ReadFault → Rose (D.model (core_disk core)).read_faults (D.model (core_disk result.core)).read_faults }
-    ensures write_fault { (core_seen result.core).stop ≡ Some WriteFault → Rose (D.model (core_disk core)).write_faults (D.model (core_disk result.core)).write_faults }
+    ensures faults { RunFaults (D.model (core_disk core)) (D.model (core_disk result.core)) result.answered.items (core_seen result.core) }
     ensures reads_later { (D.model (core_disk core)).read_faults ≤ (D.model (core_disk result.core)).read_faults }
     ensures writes_later { (D.model (core_disk core)).write_faults ≤ (D.model (core_disk result.core)).write_faults }
     ensures sink_later { K.faults sink ≤ K.faults result.sink }

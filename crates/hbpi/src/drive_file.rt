@@ -1,5 +1,5 @@
 //! The command `drive`.
-ghost use Rattle.std.specs.Prelude.{◌≡◌, ℕ, ◌<◌, ◌≤◌, ◌↔◌, [], List, length, Option, All, IfOk, IfErr, IsSome, IsTrue, Some, None};
+ghost use Rattle.std.specs.Prelude.{◌≡◌, ℕ, ◌<◌, ◌≤◌, ◌↔◌, [], List, length, Option, All, IfOk, IfErr, OnOk, IsSome, IsTrue, Some, None};
 ghost use Rattle.hb_outside.specs.Streams.{Rose};
 ghost use Rattle.hb_ops.specs.Files.{FileState};
 ghost use Rattle.hb_ops.specs.Sound.{IsSound};
@@ -61,6 +61,7 @@ fn read_schedule<S: Source>(alloc: Global, k: u8, source: &mut S) -> Result<Scri
     ensures read { IfOk result (λ script. IsScheduled k (S.left source.old) (S.left source.new) script.lines script.steps) }
     ensures script { IfOk result (λ script. IsScriptFor k script.lines × IsServedScript script.lines script.steps) }
     ensures refused { IfErr result (NotScheduled k (S.left source.old) (S.left source.new) (S.faults source.old) (S.faults source.new)) }
+    ensures no_fault { OnOk result (S.faults source.new ≡ S.faults source.old) }
     ensures later { S.faults source.old ≤ S.faults source.new }
 {
     let text = match read_text(alloc, source) {
@@ -99,6 +100,7 @@ fn finish<K: Sink, D: Disk>(ran: Ran<D, K>) -> Finished<K, D>
     ensures answered { result.answered.items ≡ ran.answered.items }
     ensures order { result.order.items ≡ (core_seen ran.core).order }
     ensures silent { ran.end ≡ End.SinkFault → result.sink ≡ ran.sink }
+    ensures silent_done { ran.end ≡ End.Finished → result.sink ≡ ran.sink }
     ensures line { GetsLine (K.written ran.sink) (K.written result.sink) (K.faults ran.sink) (K.faults result.sink) (fault_line result.status) }
     ensures later { K.faults ran.sink ≤ K.faults result.sink }
 {
@@ -132,7 +134,7 @@ fn drive_script<K: Sink, D: Disk>(
     requires new { IsNew (seen_as store).turn (seen_as store).meta (seen_as store) }
     requires one_page { ((seen_as store).meta.root ≡ 1) × ((seen_as store).meta.high ≡ 1) × ((seen_as store).meta.height ≡ 1) }
     requires kept { IsSome (D.model (disk_of store)).told → (s : FileState) × IsSound s × StoreKeeps (D.model (disk_of store)) (seen_as store) s [] }
-    ensures ends { (left rest : Option (List ℕ)) (before after : ℕ) → IsScheduled (seen_as store).meta.k left rest script.lines script.steps →
+    ensures ends { (left rest : Option (List ℕ)) (before after : ℕ) → IsScheduled (seen_as store).meta.k left rest script.lines script.steps → after ≡ before →
         OpenedEnds (D.model (disk_of store)) (D.model result.disk) (record {
           left = left;
           rest = rest;

@@ -1,4 +1,4 @@
-ghost use Rattle.std.specs.Prelude.{◌≡◌, ℕ, ◌<◌, ◌≤◌, [], length, IfOk, IfErr};
+ghost use Rattle.std.specs.Prelude.{◌≡◌, ℕ, ◌<◌, ◌≤◌, [], length, IfOk, IfErr, OnOk};
 ghost use Rattle.hb_outside.specs.Streams.{Rose};
 ghost use Rattle.hb_set.specs.Scripts.{IsScriptFor};
 ghost use Rattle.hbpi.specs.Outcome.{fault_line, GetsLine};
@@ -21,6 +21,7 @@ fn read_script<S: Source>(alloc: Global, k: u8, source: &mut S) -> Result<Script
     requires few { k ≤ KMAX }
     ensures read { IfOk result (λ script. IsRead k (S.left source.old) (S.left source.new) script.lines) }
     ensures refused { IfErr result (λ status. NotRead k (S.left source.old) (S.left source.new) (S.faults source.old) (S.faults source.new) status) }
+    ensures no_fault { OnOk result (S.faults source.new ≡ S.faults source.old) }
     ensures later { S.faults source.old ≤ S.faults source.new }
 {
     let text = match read_text(alloc, source) {

@@ -151,6 +151,7 @@ fn put_line<K: Sink>(sink: &mut K, line: &[u8])
 pub(crate) fn put_fault<K: Sink>(sink: &mut K, status: Status)
     ensures line { GetsLine (K.written sink.old) (K.written sink.new) (K.faults sink.old) (K.faults sink.new) (fault_line status) }
     ensures silent { status ≡ Status.SinkFault → sink.new ≡ sink.old }
+    ensures silent_done { status ≡ Status.Done → sink.new ≡ sink.old }
     ensures later { K.faults sink.old ≤ K.faults sink.new }
 {
     match status {

@@ -38,6 +38,7 @@ fn take_piece<S: Source>(source: &mut S, text: &mut Vec<u8>, most: usize) -> Res
     ensures grows { IfOk result (λ more. IsTrue more → length text.old.items < length text.new.items) }
     ensures ended { IfOk result (λ more. more ≡ false → IsAtEnd (S.left source.new)) }
     ensures cause { IsErrOf result TextStop.SourceFault → Rose (S.faults source.old) (S.faults source.new) }
+    ensures no_fault { (IsErrOf result TextStop.SourceFault → ⊥) → S.faults source.new ≡ S.faults source.old }
     ensures later { S.faults source.old ≤ S.faults source.new }
 {
     let mut piece = [0; PIECE];
@@ -53,6 +54,7 @@ fn take_piece<S: Source>(source: &mut S, text: &mut Vec<u8>, most: usize) -> Res
 pub(crate) fn read_text<S: Source>(alloc: Global, source: &mut S) -> Result<Vec<u8>, TextStop>
     ensures text { IfOk result (λ text. IsTextOf (S.left source.old) (S.left source.new) text.items) }
     ensures cause { IsErrOf result TextStop.SourceFault → Rose (S.faults source.old) (S.faults source.new) }
+    ensures no_fault { (IsErrOf result TextStop.SourceFault → ⊥) → S.faults source.new ≡ S.faults source.old }
     ensures later { S.faults source.old ≤ S.faults source.new }
 {
     let mut text = Vec::new(alloc);

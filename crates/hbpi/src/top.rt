@@ -72,6 +72,9 @@ pub fn top<S: Source, K: Sink, D: Disk>(
     ensures beyond { LeavesBeyond (form_of (map string_bytes words.now)) (D.model disk) (D.model result.disk) }
     ensures untouched { UsesNoDisk (form_of (map string_bytes words.now)) → result.disk ≡ disk }
 
+    // The count of the source's faults is as it was, unless the status says that the source failed.
+    ensures source_exact { (result.status ≡ Status.SourceFault → ⊥) → S.faults source.new ≡ S.faults source.old }
+
     // No count of faults falls.
     ensures source_later { S.faults source.old ≤ S.faults source.new }
     ensures sink_later { K.faults sink ≤ K.faults result.sink }

@@ -71,6 +71,8 @@ impl<D: Device> Core<D> {
         ensures write_fault { (core_seen self.old).stop ≡ None → (core_seen self.new).stop ≡ Some WriteFault → Rose (D.model (core_disk self.old)).write_faults (D.model (core_disk self.new)).write_faults }
         ensures reads_later { (D.model (core_disk self.old)).read_faults ≤ (D.model (core_disk self.new)).read_faults }
         ensures writes_later { (D.model (core_disk self.old)).write_faults ≤ (D.model (core_disk self.new)).write_faults }
+        ensures reads_same { ((number : ℕ) → result ≡ Outcome.Answered number ReadFault → ⊥) → (D.model (core_disk self.new)).read_faults ≡ (D.model (core_disk self.old)).read_faults }
+        ensures writes_same { ((core_seen self.old).stop ≡ None → (core_seen self.new).stop ≡ Some WriteFault → ⊥) → (D.model (core_disk self.new)).write_faults ≡ (D.model (core_disk self.old)).write_faults }
         ensures clock { IsSome (D.model (core_disk self.old)).told → (D.model (core_disk self.new)).clock ≤ (D.model (core_disk self.old)).clock + 4 }
         ensures tells { IsSome (D.model (core_disk self.old)).told → IsSome (D.model (core_disk self.new)).told }
         ensures silent { (D.model (core_disk self.old)).told ≡ None → (D.model (core_disk self.new)).told ≡ None }

@@ -109,8 +109,9 @@ fn make<D: Device>(alloc: Global, disk: D, layout: Layout) -> Result<Store<D>, (
     ensures beyond { IfOk result (λ st. KeepsBeyond (layout_size layout) (D.model disk) (D.model (disk_of st))) }
     ensures beyond_after_fault { IfErr result (λ e. KeepsBeyond (layout_size layout) (D.model disk) (D.model e.1)) }
     ensures cause { IfErr result (λ e. e.0 ≡ DiskFault → (Rose (D.model disk).write_faults (D.model e.1).write_faults)) }
-    ensures later { IfOk result (λ st. ((D.model disk).read_faults ≤ (D.model (disk_of st)).read_faults) × ((D.model disk).write_faults ≤ (D.model (disk_of st)).write_faults)) }
-    ensures later_after_fault { IfErr result (λ e. ((D.model disk).read_faults ≤ (D.model e.1).read_faults) × ((D.model disk).write_faults ≤ (D.model e.1).write_faults)) }
+    ensures no_fault { IfOk result (λ st. ((D.model (disk_of st)).read_faults ≡ (D.model disk).read_faults) × ((D.model (disk_of st)).write_faults ≡ (D.model disk).write_faults)) }
+    ensures no_fault_refused { IfErr result (λ e. (e.0 ≡ DiskFault → ⊥) → (D.model e.1).write_faults ≡ (D.model disk).write_faults) }
+    ensures later_after_fault { IfErr result (λ e. ((D.model e.1).read_faults ≡ (D.model disk).read_faults) × ((D.model disk).write_faults ≤ (D.model e.1).write_faults)) }
 {
     let mut disk = disk;
     let meta = layout.meta();
@@ -145,8 +146,9 @@ pub(crate) fn create<D: Device>(
     ensures beyond { IfOk result (λ st. KeepsBeyond (layout_size layout) (D.model disk) (D.model (disk_of st))) }
     ensures beyond_after_fault { IfErr result (λ e. KeepsBeyond (layout_size layout) (D.model disk) (D.model e.1)) }
     ensures cause { IfErr result (λ e. e.0 ≡ DiskFault → (Rose (D.model disk).write_faults (D.model e.1).write_faults)) }
-    ensures later { IfOk result (λ st. ((D.model disk).read_faults ≤ (D.model (disk_of st)).read_faults) × ((D.model disk).write_faults ≤ (D.model (disk_of st)).write_faults)) }
-    ensures later_after_fault { IfErr result (λ e. ((D.model disk).read_faults ≤ (D.model e.1).read_faults) × ((D.model disk).write_faults ≤ (D.model e.1).write_faults)) }
+    ensures no_fault { IfOk result (λ st. ((D.model (disk_of st)).read_faults ≡ (D.model disk).read_faults) × ((D.model (disk_of st)).write_faults ≡ (D.model disk).write_faults)) }
+    ensures no_fault_refused { IfErr result (λ e. (e.0 ≡ DiskFault → ⊥) → (D.model e.1).write_faults ≡ (D.model disk).write_faults) }
+    ensures later_after_fault { IfErr result (λ e. ((D.model e.1).read_faults ≡ (D.model disk).read_faults) × ((D.model disk).write_faults ≤ (D.model e.1).write_faults)) }
 {
     if let Some(fault) = layout.fault() {
         return Err((fault, disk));

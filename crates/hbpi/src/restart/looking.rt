@@ -64,6 +64,7 @@ fn newest<D: Device>(disk: &mut D) -> Result<(u8, Meta), OpenFault>
     ensures refused { IfErr result (λ fault. IfSome (D.model disk.old).told (FindsNone fault)) }
     ensures no_size { IfErr result NamesNoSize }
     ensures cause { IsErrOf result DiskFault → Rose (D.model disk.old).read_faults (D.model disk.new).read_faults }
+    ensures no_fault { (IsErrOf result DiskFault → ⊥) → (D.model disk.new).read_faults ≡ (D.model disk.old).read_faults }
     ensures only_reads { OnlyReads (D.model disk.old) (D.model disk.new) }
 {
     match read_super(disk) {
@@ -87,6 +88,7 @@ fn log_of<D: Device>(
     ensures refused { IfErr result (λ fault. IfSome (D.model disk.old).told (λ b. LogRefuses fault b turn meta.now)) }
     ensures no_size { IfErr result NamesNoSize }
     ensures cause { IsErrOf result DiskFault → Rose (D.model disk.old).read_faults (D.model disk.new).read_faults }
+    ensures no_fault { (IsErrOf result DiskFault → ⊥) → (D.model disk.new).read_faults ≡ (D.model disk.old).read_faults }
     ensures only_reads { OnlyReads (D.model disk.old) (D.model disk.new) }
 {
     match read_log(alloc, disk, turn, meta) {
@@ -116,6 +118,7 @@ fn read_place<D: Device>(disk: &mut D, meta: &Meta, into: &mut [u8; PAGE]) -> Re
     requires some { 1 ≤ meta.now.pages }
     ensures there { OnOk result (IfSome (D.model disk.old).told (λ b. into.new ≡ place_bytes meta.now 1 b)) }
     ensures cause { OnErr result (Rose (D.model disk.old).read_faults (D.model disk.new).read_faults) }
+    ensures no_fault { OnOk result ((D.model disk.new).read_faults ≡ (D.model disk.old).read_faults) }
     ensures only_reads { OnlyReads (D.model disk.old) (D.model disk.new) }
 {
     disk.read(page_place(meta, 1), into)
@@ -131,6 +134,7 @@ fn page_there<D: Device>(alloc: Global, disk: &mut D, meta: &Meta) -> Result<Pag
     ensures stops { IfErr result StopsThere }
     ensures no_size { IfErr result NamesNoSize }
     ensures cause { IsErrOf result DiskFault → Rose (D.model disk.old).read_faults (D.model disk.new).read_faults }
+    ensures no_fault { (IsErrOf result DiskFault → ⊥) → (D.model disk.new).read_faults ≡ (D.model disk.old).read_faults }
     ensures only_reads { OnlyReads (D.model disk.old) (D.model disk.new) }
 {
     let mut bytes = [0; PAGE];
@@ -155,6 +159,7 @@ fn audited<D: Device>(
     ensures refused { IfErr result (λ fault. IfSome (D.model disk.old).told (λ b. AuditRefuses fault b meta.now (get nat_cmp touched.now.pages 1))) }
     ensures no_size { IfErr result NamesNoSize }
     ensures cause { IsErrOf result DiskFault → Rose (D.model disk.old).read_faults (D.model disk.new).read_faults }
+    ensures no_fault { (IsErrOf result DiskFault → ⊥) → (D.model disk.new).read_faults ≡ (D.model disk.old).read_faults }
     ensures only_reads { OnlyReads (D.model disk.old) (D.model disk.new) }
 {
     if meta.high == 0 {
@@ -193,6 +198,7 @@ pub(crate) fn look<D: Device>(alloc: Global, disk: &mut D) -> Result<Found, Open
     ensures refused { IfErr result (λ fault. IfSome (D.model disk.old).told (Refuses fault)) }
     ensures shut { IfErr result (IsShut (D.model disk.old).size) }
     ensures cause { IsErrOf result DiskFault → Rose (D.model disk.old).read_faults (D.model disk.new).read_faults }
+    ensures no_fault { (IsErrOf result DiskFault → ⊥) → (D.model disk.new).read_faults ≡ (D.model disk.old).read_faults }
     ensures only_reads { OnlyReads (D.model disk.old) (D.model disk.new) }
 {
     let found = disk.size();

@@ -53,7 +53,9 @@ pub(crate) fn recover<D: Device>(alloc: Global, disk: D) -> Result<(Store<D>, u6
     ensures beyond { IfOk result (λ r. KeepsBeyondFile (D.model disk) (D.model (disk_of r.0))) }
     ensures beyond_after_fault { IfErr result (λ e. KeepsBeyondFile (D.model disk) (D.model e.1)) }
     ensures cause { IfErr result (λ e. e.0 ≡ DiskFault → (Rose (D.model disk).read_faults (D.model e.1).read_faults) ⊎ (Rose (D.model disk).write_faults (D.model e.1).write_faults)) }
-    ensures later { IfOk result (λ r. ((D.model disk).read_faults ≤ (D.model (disk_of r.0)).read_faults) × ((D.model disk).write_faults ≤ (D.model (disk_of r.0)).write_faults)) }
+    // where it isn't refused for a fault of the disk, no call of the disk failed
+    ensures no_fault { IfOk result (λ r. ((D.model (disk_of r.0)).read_faults ≡ (D.model disk).read_faults) × ((D.model (disk_of r.0)).write_faults ≡ (D.model disk).write_faults)) }
+    ensures no_fault_refused { IfErr result (λ e. (e.0 ≡ DiskFault → ⊥) → ((D.model e.1).read_faults ≡ (D.model disk).read_faults) × ((D.model e.1).write_faults ≡ (D.model disk).write_faults)) }
     ensures later_after_fault { IfErr result (λ e. ((D.model disk).read_faults ≤ (D.model e.1).read_faults) × ((D.model disk).write_faults ≤ (D.model e.1).write_faults)) }
 {
     // Law: one superblock is the newest, and no other.

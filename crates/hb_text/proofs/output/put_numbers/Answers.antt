@@ -1,4 +1,4 @@
-use Rattle.std.proofs.Common.{rules, arith}
+use Rattle.std.proofs.Common.{◌∙◌, rules, arith}
 use Rattle.hb_text.specs.OutputLaws.{Waits-then, Waits-front, OnErr-from}
 use Rattle.hb_text.proofs.OutputText.{numbers_end_early, number_added}
 use Rattle.hb_text.proofs.output.put_numbers.Goals as goal
@@ -14,5 +14,5 @@ loop-number-preserved g c = (
   number_added c.args.piece.now.bytes.items c.args.numbers.now c.loop-number.number-index _ _
       (Waits-then c.loop-number.invariant.0 c.in_ok-make_room.ensures.ok) c.loop-number-test.true (search rules) c.add_word.ensures.text,
   omega (arith, c.in_ok-make_room.ensures.room, c.add_word.ensures.longer),
-  omega arith,
+  c.in_ok-make_room.ensures.no_fault ∙ c.loop-number.invariant.2,
 )

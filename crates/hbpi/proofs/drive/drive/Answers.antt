@@ -6,6 +6,7 @@ use Rattle.hb_set.specs.declared.scripts.Answered.{Answered}
 use Rattle.hbpi.specs.CoreSeen.{core_seen}
 use Rattle.hbpi.specs.Drives.{EndsAs}
 use Rattle.hbpi.proofs.RestOfOutput.{left_behind, drive_ends}
+use Rattle.hbpi.proofs.TakenSteps.{answered_length}
 use Rattle.hbpi.proofs.drive.drive.Goals as goal
 
 pub put_rest-failed-requires-clause-short : goal.put_rest-failed-requires-clause-short
@@ -24,3 +25,9 @@ returns-clause-ends g c =
     answered.items core c.len-2.result taken.put c.put_rest-failed.ensures.puts
     (left_behind core answered.items c.len-2.result rising taken.first (c.len-2.ensures ∙ answered.ok.0))
     c.is_some.ensures c.end_of-end.result (subst E c.as_slice.ensures.value c.end_of-end.ensures)
+
+pub put_rest-failed-requires-clause-few : goal.put_rest-failed-requires-clause-few
+put_rest-failed-requires-clause-few g c =
+    let answered = c.take_steps-failed.new.answered in
+    let count = answered_length (core_seen c.take_steps-failed.new.core) answered.items c.take_steps-failed.ensures.first in
+    omega (arith, count, c.len-2.ensures, answered.ok.0)

@@ -7,11 +7,13 @@ use Rattle.hb_store.specs.Keeps.{last_of}
 use Rattle.hbpi.specs.Core.{CoreKeeps, AnswersFirst, answers_of}
 use Rattle.hbpi.specs.CoreSeen.{core_seen, core_disk}
 use Rattle.hbpi.specs.Drives.{RunsTo}
+use Rattle.hbpi.specs.Moves.{shown}
 use Rattle.hbpi.proofs.PutTexts.{has_put_none}
 use Rattle.hbpi.proofs.FirstAnswers.{first_more, order_more}
 use Rattle.hbpi.proofs.InLog.{in_log_same, in_log_then}
 use Rattle.hbpi.proofs.Running.{Running, running_starts, running_more, running_ends}
-use Rattle.hbpi.proofs.TakenSteps.{room_for, moves_more, puts_more, read_fault_more, write_fault_more, told_before, starts_first, starts_order, starts_unread, has_order}
+use Rattle.hbpi.proofs.TakenSteps.{room_for, moves_more, puts_more, told_before, starts_first, starts_order, has_order}
+use Rattle.hbpi.proofs.FaultsRise.{run_faults}
 use Rattle.hbpi.proofs.drive.take_steps.Goals as goal
 
 pub loop-init : goal.loop-init
@@ -32,8 +34,6 @@ loop-init g c =
       in_log = in_log_same (g.D.Device.model (core_disk c.args.core.now)) (core_seen c.args.core.now) (core_seen c.args.core.now) (core_seen c.args.core.now) (g.met.D.Device.is_disk (core_disk c.args.core.now)) refl refl refl;
       silent = λ told. told;
       runs = subst R (sym none) (λ n kept. running_starts _ (core_seen c.args.core.now) n (g.met.D.Device.is_disk (core_disk c.args.core.now)) start.going kept);
-      read_fault = λ has. absurd (starts_unread c.args.answered.now.items none has);
-      write_fault = λ fault. absurd (let going = start.going in cc);
       reads_later = omega arith;
       writes_later = omega arith;
     }
@@ -67,7 +67,15 @@ loop-preserved g c =
     let order = order_more old new outcome before.order.0 step.moves before.order.1 in
     let rising = subst (λ (ls : List Line). AreRising ls) (sym before.lines) c.requires.script.rising in
     record {
-      moves = moves_more c.loop.counter (core_seen c.args.core.now) old new c.loop.answered.items _ outcome at before.moves step.moves kept;
+      moves = moves_more c.loop.counter (shown (g.D.Device.model (core_disk c.args.core.now)) (core_seen c.args.core.now)) (shown (g.D.Device.model (core_disk c.loop.core)) old) (shown (g.D.Device.model (core_disk c.step-outcome.new.self)) new)
+          c.loop.answered.items _ outcome at before.moves step.moves (record {
+            read_fault = step.read_fault;
+            reads_same = step.reads_same;
+            reads_later = step.reads_later;
+            write_fault = step.write_fault;
+            writes_same = step.writes_same;
+            writes_later = step.writes_later;
+          }) kept;
       first = subst F (sym kept) (first_more old new outcome at c.loop.answered.items step.moves before.first);
       order = (order.after, order.ordered);
       whole = step.whole;
@@ -91,8 +99,6 @@ loop-preserved g c =
             soon = step.clock run.keeps.keeps.told;
             at_is = c.clock-at.ensures keeps.keeps.keeps.told;
           }));
-      read_fault = read_fault_more _ (g.D.Device.model (core_disk c.loop.core)).read_faults _ c.loop.answered.items _ outcome at kept before.reads_later step.reads_later before.read_fault step.read_fault;
-      write_fault = write_fault_more _ (g.D.Device.model (core_disk c.loop.core)).write_faults _ old new outcome step.moves before.writes_later step.writes_later before.write_fault step.write_fault;
       reads_later = omega (arith, before.reads_later, step.reads_later);
       writes_later = omega (arith, before.writes_later, step.writes_later);
     }
@@ -105,6 +111,11 @@ returns-clause-runs g c = λ n kept.
     let S : ℕ → Type 0 = λ steps. RunsTo steps (g.D.Device.model (core_disk c.args.core.now)) (core_seen c.args.core.now) (last_of kept.durable kept.later) c.loop.answered.items
     (g.D.Device.model (core_disk c.loop.core)) (core_seen c.loop.core) n in
     subst S all (running_ends c.loop.counter _ (core_seen c.args.core.now) _ c.loop.answered.items _ (core_seen c.loop.core) n rising before.first (before.runs n kept))
+
+pub returns-clause-faults : goal.returns-clause-faults
+returns-clause-faults g c =
+    run_faults c.loop.counter (g.D.Device.model (core_disk c.args.core.now)) (g.D.Device.model (core_disk c.loop.core)) (core_seen c.args.core.now) (core_seen c.loop.core) c.loop.answered.items
+    c.requires.start.going c.loop.invariant.moves
 
 pub returns-clause-order : goal.returns-clause-order
 returns-clause-order g c = has_order (core_seen c.loop.core) c.loop.invariant.order.0 c.loop.invariant.order.1

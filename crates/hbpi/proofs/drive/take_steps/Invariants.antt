@@ -1,25 +1,22 @@
-use Rattle.std.proofs.Common.{◌≡◌, ◌≤◌, List, length, [], Some, None}
+use Rattle.std.proofs.Common.{◌≡◌, ◌≤◌, List, length, [], None}
 use Rattle.std.specs.Vec.{vec_capacity}
 use Rattle.std.specs.List.{flat_map}
-use Rattle.hb_outside.specs.Streams.{Rose}
 use Rattle.hb_set.specs.Machine.{RecordSet}
 use Rattle.hb_set.specs.declared.scripts.Line.{Line}
 use Rattle.hb_text.specs.Output.{answer_text}
 use Rattle.hb_store.specs.Keeps.{last_of}
-use Rattle.hb_store.specs.declared.stops.StopWhy.TheVariants.{WriteFault}
 use Rattle.hbpi.specs.Ends.{HasPut}
 use Rattle.hbpi.specs.Beyond.{StaysInLog}
 use Rattle.hbpi.specs.Core.{CoreKeeps, IsCore, AnswersFirst}
-use Rattle.hbpi.specs.Moves.{MovesOn}
+use Rattle.hbpi.specs.Moves.{MovesOn, shown}
 use Rattle.hbpi.specs.CoreSeen.{core_seen, core_disk}
-use Rattle.hbpi.specs.Drives.{HasReadFault}
 use Rattle.hbpi.proofs.FirstAnswers.{Ordered}
 use Rattle.hbpi.proofs.Running.{Running}
 use Rattle.hbpi.proofs.drive.take_steps.Given as goal
 
 abbrev pub invariant-loop : goal.invariant-loop
 invariant-loop g l = record {
-  moves : MovesOn l.counter (core_seen l.fn.core) l.answered.items (core_seen l.core);
+  moves : MovesOn l.counter (shown (g.D.Device.model (core_disk l.fn.core)) (core_seen l.fn.core)) l.answered.items (shown (g.D.Device.model (core_disk l.core)) (core_seen l.core));
   first : AnswersFirst (core_seen l.core) l.answered.items;
   order : (done : List Line) × Ordered (core_seen l.core) done;
   whole : IsCore (core_seen l.core);
@@ -31,8 +28,6 @@ invariant-loop g l = record {
   silent : (g.D.Device.model (core_disk l.fn.core)).told ≡ None → (g.D.Device.model (core_disk l.core)).told ≡ None;
   runs : (n : RecordSet) (kept : CoreKeeps (g.D.Device.model (core_disk l.fn.core)) (core_seen l.fn.core) n []) →
       Running l.counter (g.D.Device.model (core_disk l.fn.core)) (core_seen l.fn.core) (last_of kept.durable kept.later) l.answered.items (g.D.Device.model (core_disk l.core)) (core_seen l.core) n;
-  read_fault : HasReadFault l.answered.items → Rose (g.D.Device.model (core_disk l.fn.core)).read_faults (g.D.Device.model (core_disk l.core)).read_faults;
-  write_fault : (core_seen l.core).stop ≡ Some WriteFault → Rose (g.D.Device.model (core_disk l.fn.core)).write_faults (g.D.Device.model (core_disk l.core)).write_faults;
   reads_later : (g.D.Device.model (core_disk l.fn.core)).read_faults ≤ (g.D.Device.model (core_disk l.core)).read_faults;
   writes_later : (g.D.Device.model (core_disk l.fn.core)).write_faults ≤ (g.D.Device.model (core_disk l.core)).write_faults;
 }

@@ -25,8 +25,8 @@ returns-in-Ok-clause-ends g c =
           (found.0, found.1, found.2, even_store m (seen_as c.in-Ok.store) found.0 [] found.4 facts.new.running));
       time = facts.time;
       even = facts.even;
-      reads = facts.later.0;
-      writes = facts.later.1;
+      reads = facts.no_fault.0;
+      writes = facts.no_fault.1;
     } in
     inr (ends_before c.drive_store.result.status d m (g.D.Device.model c.drive_store.result.disk) _ c.an_image_opens_to_one_file.ensures.one opening c.drive_store.ensures.ends)
 
@@ -59,6 +59,7 @@ returns-in-Err-clause-ends g c =
       why = facts.refused;
       shut = facts.shut;
       failed = facts.cause;
+      no_fault = facts.no_fault_refused;
       unwritten = facts.unwritten;
       even = facts.even_after_fault;
     } in

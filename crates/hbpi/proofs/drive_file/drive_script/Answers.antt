@@ -12,7 +12,7 @@ use Rattle.hbpi.specs.Core.{CoreState}
 use Rattle.hbpi.specs.CoreSeen.{core_seen, core_disk}
 use Rattle.hbpi.specs.Drives.{RunsTo}
 use Rattle.hbpi.specs.Driven.{IsScheduled, IsServedScript, OpenedEnds, status_after}
-use Rattle.hbpi.specs.Moves.{MovesOn}
+use Rattle.hbpi.specs.Moves.{MovesOn, shown}
 use Rattle.hbpi.specs.Ends.{Seen, IsRefused}
 use Rattle.hbpi.specs.Restart.{IsOnePage}
 use Rattle.hbpi.specs.Outcome.{GetsLine, fault_line}
@@ -32,7 +32,7 @@ drive-requires-clause-kept g c tells =
     (contents_of kept.0, (c.in-Ok.ensures.keeps kept.0 c.requires.new kept.1 (ap (λ (m : Meta). m.root) meta ∙ c.requires.one_page.0) (ap (λ (m : Meta). m.high) meta ∙ c.requires.one_page.1) (ap (λ (m : Meta). m.height) meta ∙ c.requires.one_page.2) kept.2).0)
 
 pub returns-in-Ok-clause-ends : goal.returns-in-Ok-clause-ends
-returns-in-Ok-clause-ends g c left rest before after scheduled =
+returns-in-Ok-clause-ends g c left rest before after scheduled same_source =
     let M : g.row.D.Denot → DiskModel = g.D.Device.model in
     let store = c.args.store in
     let core = core_seen c.in-Ok.core in
@@ -83,15 +83,16 @@ returns-in-Ok-clause-ends g c left rest before after scheduled =
             λ some. subst (λ (file : FileState). RunsTo (length c.args.script.steps) d core file c.drive.result.answered.items e ran (contents_of from.0)) made.1
                 (subst (λ (n : ℕ). RunsTo n d core (last_of made.0.durable made.0.later) c.drive.result.answered.items e ran (contents_of from.0)) (ap length c.as_slice.ensures) (c.drive.ensures.runs (contents_of from.0) made.0 some)),
           ));
-      moves = λ some. subst (λ (n : ℕ). MovesOn n core c.drive.result.answered.items ran) (ap length c.as_slice.ensures) (c.drive.ensures.moves some);
+      source = same_source;
+      moves = λ some. subst (λ (n : ℕ). MovesOn n (shown d core) c.drive.result.answered.items (shown e ran)) (ap length c.as_slice.ensures) (c.drive.ensures.moves some);
       first = c.drive.ensures.first;
       ordered = c.drive.ensures.order;
       order = refl;
       put = c.drive.ensures.ends;
-      read_fault = c.drive.ensures.read_fault;
-      write_fault = c.drive.ensures.write_fault;
+      counts = c.drive.ensures.faults;
       sooner = c.drive.ensures.sink_later;
       silent = λ failed. let same = c.finish.ensures.silent failed in (ap (λ (k : g.row.K.Denot). g.K.Sink.written k) same, ap (λ (k : g.row.K.Denot). g.K.Sink.faults k) same);
+      silent_done = λ done. let same = c.finish.ensures.silent_done done in (ap (λ (k : g.row.K.Denot). g.K.Sink.written k) same, ap (λ (k : g.row.K.Denot). g.K.Sink.faults k) same);
     }) c.finish.ensures.status
     (λ none.
     let same = c.drive.ensures.unbegun none in
@@ -99,7 +100,7 @@ returns-in-Ok-clause-ends g c left rest before after scheduled =
     let line = refused_on (λ k. g.K.Sink.written k) (λ k. g.K.Sink.faults k) c.args.sink c.drive.result.sink (g.K.Sink.written c.finish.result.sink) (g.K.Sink.faults c.finish.result.sink) (fault_line NoMemory) same.1
     (subst (λ (x : Status). GetsLine (g.K.Sink.written c.drive.result.sink) (g.K.Sink.written c.finish.result.sink) (g.K.Sink.faults c.drive.result.sink) (g.K.Sink.faults c.finish.result.sink) (fault_line x)) status c.finish.ensures.line) in
     let refused : IsRefused seen NoMemory = record { line = line; none_answered = same.2; none_ordered = ap (λ x. (core_seen x).order) same.0 ∙ ap (λ (x : CoreState). x.order) c.in-Ok.ensures.seen } in
-    away_on (λ x. g.D.Device.model (core_disk x)) store.meta.k d seen NoMemory c.in-Ok.core c.drive.result.core same.0 (turned_away d (seen_as store) seen NoMemory (g.met.D.Device.is_disk (core_disk c.in-Ok.core)) kept c.requires.new.running (c.requires.one_page.1, c.requires.one_page.2) refused))
+    away_on (λ x. g.D.Device.model (core_disk x)) store.meta.k d seen NoMemory c.in-Ok.core c.drive.result.core same.0 (turned_away d (seen_as store) seen NoMemory (g.met.D.Device.is_disk (core_disk c.in-Ok.core)) kept c.requires.new.running (c.requires.one_page.1, c.requires.one_page.2) refused (λ other. same_source)))
     c.finish.ensures.line in
     let at_start = subst (λ (x : g.row.D.Denot). OpenedEnds (M x) e seen c.finish.result.status) c.in-Ok.ensures.disk ends in
     let at_end = subst (λ (x : g.row.D.Denot). OpenedEnds (M (disk_of store)) (M x) seen c.finish.result.status) (sym c.finish.ensures.disk) at_start in
@@ -107,7 +108,7 @@ returns-in-Ok-clause-ends g c left rest before after scheduled =
     subst (λ (o : List ℕ). OpenedEnds (M (disk_of store)) (M c.finish.result.disk) (S c.finish.result.answered.items o) c.finish.result.status) (sym c.finish.ensures.order) with_answers
 
 pub returns-clause-ends : goal.returns-clause-ends
-returns-clause-ends g c left rest before after scheduled =
+returns-clause-ends g c left rest before after scheduled same_source =
     let M : g.row.D.Denot → DiskModel = g.D.Device.model in
     let store = c.args.store in
     let d : DiskModel = M (disk_of store) in
@@ -126,7 +127,7 @@ returns-clause-ends g c left rest before after scheduled =
     let refused : IsRefused seen NoMemory = record { line = c.refused.ensures.line; none_answered = c.refused.ensures.answered; none_ordered = c.refused.ensures.order } in
     let back : c.refused.result.disk ≡ disk_of store = c.refused.ensures.disk ∙ c.into_disk.ensures ∙ ap (λ x. disk_of x) c.in-Err.ensures.back in
     subst (λ (x : Status). OpenedEnds d (M c.refused.result.disk) seen x) (sym c.refused.ensures.status)
-    (store.meta.k, away_on M store.meta.k d seen NoMemory (disk_of store) c.refused.result.disk back (turned_away d (seen_as store) seen NoMemory (g.met.D.Device.is_disk (disk_of store)) c.requires.kept c.requires.new.running (c.requires.one_page.1, c.requires.one_page.2) refused))
+    (store.meta.k, away_on M store.meta.k d seen NoMemory (disk_of store) c.refused.result.disk back (turned_away d (seen_as store) seen NoMemory (g.met.D.Device.is_disk (disk_of store)) c.requires.kept c.requires.new.running (c.requires.one_page.1, c.requires.one_page.2) refused (λ other. same_source)))
 
 pub returns-in-Ok-clause-beyond : goal.returns-in-Ok-clause-beyond
 returns-in-Ok-clause-beyond g c =

@@ -6,7 +6,7 @@ use Rattle.hbpi.specs.Driven.{IsScheduled, NotScheduled}
 use Rattle.hbpi.specs.Ends.{Seen, IsRefused}
 use Rattle.hbpi.specs.Outcome.{GetsLine, fault_line}
 use Rattle.hbpi.specs.declared.statuses.Status.{Status}
-use Rattle.hbpi.proofs.ScheduleRuns.{turned_away, away_on, not_scheduled_ends}
+use Rattle.hbpi.proofs.ScheduleRuns.{turned_away, away_on, source_kept, not_scheduled_ends}
 use Rattle.hb_store.specs.Opening.{file_size}
 use Rattle.hbpi.specs.Beyond.{KeepsBeyond}
 use Rattle.hbpi.proofs.Beyond.{beyond_none}
@@ -16,7 +16,7 @@ pub returns-in-Ok-clause-ends : goal.returns-in-Ok-clause-ends
 returns-in-Ok-clause-ends g c =
     let k = ap (λ (m : Meta). m.k) c.meta.ensures.meta in
     c.drive_script.ensures.ends (g.S.Source.left c.args.source.now) (g.S.Source.left c.read_schedule.new.source) (g.S.Source.faults c.args.source.now) (g.S.Source.faults c.read_schedule.new.source)
-    (subst (λ (n : ℕ). IsScheduled n (g.S.Source.left c.args.source.now) (g.S.Source.left c.read_schedule.new.source) c.in-Ok.script.lines c.in-Ok.script.steps) k c.in-Ok.ensures.read)
+    (subst (λ (n : ℕ). IsScheduled n (g.S.Source.left c.args.source.now) (g.S.Source.left c.read_schedule.new.source) c.in-Ok.script.lines c.in-Ok.script.steps) k c.in-Ok.ensures.read) c.in-Ok.ensures.no_fault
 
 pub returns-in-Err-clause-ends : goal.returns-in-Err-clause-ends
 returns-in-Err-clause-ends g c =
@@ -45,7 +45,8 @@ returns-in-Err-clause-ends g c =
     (subst (λ (x : Status). NotScheduled c.meta.result.now.k seen.left seen.rest seen.source_before seen.source_after x) (sym c.refused.ensures.status) c.in-Err.ensures.refused) in
     not_scheduled_ends c.refused.result.status store.meta.k d (M c.refused.result.disk) seen why
     (away_on M store.meta.k d seen c.refused.result.status (disk_of store) c.refused.result.disk (c.refused.ensures.disk ∙ c.into_disk.ensures)
-    (turned_away d (seen_as store) seen c.refused.result.status (g.met.D.Device.is_disk (disk_of store)) c.requires.kept c.requires.new.running (c.requires.one_page.1, c.requires.one_page.2) refused))
+    (turned_away d (seen_as store) seen c.refused.result.status (g.met.D.Device.is_disk (disk_of store)) c.requires.kept c.requires.new.running (c.requires.one_page.1, c.requires.one_page.2) refused
+    (source_kept c.refused.result.status store.meta.k seen.left seen.rest seen.source_before seen.source_after why)))
 
 pub returns-in-Err-clause-beyond : goal.returns-in-Err-clause-beyond
 returns-in-Err-clause-beyond g c =

@@ -8,7 +8,7 @@ invariant-loop-more g l = record {
   so_far : TakesSoFar (g.S.Source.left l.fn.source) (g.S.Source.left l.source) l.text.items;
   room : length l.text.items ≤ 257000001;
   ended : l.more ≡ false → IsAtEnd (g.S.Source.left l.source);
-  later : g.S.Source.faults l.fn.source ≤ g.S.Source.faults l.source;
+  same : g.S.Source.faults l.source ≡ g.S.Source.faults l.fn.source;
 }
 
 abbrev pub decreases-loop-more : goal.decreases-loop-more

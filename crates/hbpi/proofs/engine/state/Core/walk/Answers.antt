@@ -37,7 +37,7 @@ returns-in-Ok-clause-safe g c =
     let A : g.row.D.Denot → Type 0 = λ x. Acts (g.D.Device.model c.fetch.new.self.disk) (with_store (seen_as c.fetch.new.self) (core_seen c.args.self.now)) c.act.result (g.D.Device.model x) (core_seen c.act.new.self) in
     let R : ℕ → Type 0 = λ n. Fetched n (seen_as c.args.self.now.store) (seen_as c.fetch.new.self) in
     subst P (sym c.act.ensures.disk)
-    (acts_safe d m c.in-Ok.ensures.only_reads old c.requires.going c.requires.walking c.requires.whole st (subst R (ap (λ (x : Meta). x.root) c.meta.ensures.meta) c.in-Ok.ensures.fetched)
+    (acts_safe d m c.in-Ok.ensures.only_reads (c.in-Ok.ensures.no_fault (λ is. cc is)) old c.requires.going c.requires.walking c.requires.whole st (subst R (ap (λ (x : Meta). x.root) c.meta.ensures.meta) c.in-Ok.ensures.fetched)
     c.act.result (core_seen c.act.new.self) (subst A c.act.ensures.disk c.act.ensures.acts))
 
 pub returns-in-Err-clause-keeps : goal.returns-in-Err-clause-keeps
