@@ -94,7 +94,8 @@ HasFailed d e = Rose d.read_faults e.read_faults ⊎ Rose d.write_faults e.write
 abbrev pub HasNotFailed : DiskModel → DiskModel → Type 0
 HasNotFailed d e = (e.read_faults ≡ d.read_faults) × (e.write_faults ≡ d.write_faults)
 
--- The file wasn't opened, and the source wasn't read. Over an even disk a crash leaves the same file.
+-- The file wasn't opened, and the source wasn't read; but for a fault of the disk no call of it failed. Over an even disk
+-- a crash leaves the same file.
 pub record IsShutOut (d e : DiskModel) (seen : Seen) (fault : OpenFault) : Type 0 where
   pub refused : IsRefused seen (status_of fault)
   pub unread : IsUnread seen
@@ -105,8 +106,8 @@ pub record IsShutOut (d e : DiskModel) (seen : Seen) (fault : OpenFault) : Type 
   pub unwritten : IsUnwritten fault → OnlyReads d e
   pub even : (s : FileState) → IsEven d s → Leaves d e (λ c. OpensTo c s)
 
--- The file was opened, over k attributes, and no command was done. Every image of now opens to the file; and over
--- an even disk every image since the run began does.
+-- The file was opened, over k attributes, and no command was done; no call of the disk failed, nor of the source but by the
+-- status. Every image of now opens to the file; and over an even disk every image since the run began does.
 pub record IsTurnedAway (k : ℕ) (d e : DiskModel) (seen : Seen) (status : Status) : Type 0 where
   pub refused : IsRefused seen status
   pub no_fault : HasNotFailed d e
@@ -117,7 +118,8 @@ pub record IsTurnedAway (k : ℕ) (d e : DiskModel) (seen : Seen) (status : Stat
 abbrev pub GetsOutput : Seen → CoreState → Status → Type 0
 GetsOutput seen after status = GetsLine seen.held seen.holds seen.sink_before seen.sink_after (run_output seen.answered after ++ fault_line status)
 
--- why a run that got to its steps ends with a fault of the disk: a write failed, or a reply is a read fault
+-- why a run that got to its steps ends with a fault of the disk: a write failed, or a reply is a read fault; and the count
+-- that rose
 abbrev pub EndsByFault : DiskModel → DiskModel → Seen → CoreState → Type 0
 EndsByFault d e seen after =
     ((after.stop ≡ Some stops.WriteFault) × Rose d.write_faults e.write_faults)
