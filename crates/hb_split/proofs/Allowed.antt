@@ -18,7 +18,7 @@ use Rattle.hb_sound.specs.Splitting as sound
 use Rattle.hb_sound.specs.Splitting.{area_on, going, half_area, is_on, other_side, records_in, reached, PartLeaves}
 use Rattle.hb_split.specs.declared.leaf_cuts.LeafCut.{LeafCut}
 use Rattle.hb_split.specs.Choosing.{planes, way_down, MayCut, AreChosen}
-use Rattle.hb_split.specs.Laws.{IsThirds, IsAllowed}
+use Rattle.hb_split.specs.Laws.{IsThirds, MayLeave}
 use Rattle.hb_split.proofs.Ends.{at_end, of_page, records_held}
 use Rattle.hb_split.proofs.Nexts.{parts}
 
@@ -104,7 +104,7 @@ PartsOf cuts None = Unit {0}
 PartsOf cuts (Some part) = PartLeaves (planes cuts) part.0 part.1
 
 pub is_allowed : (n : ℕ) (page : LivePage) (path : List Side) (cuts : List LeafCut) → 6 ≤ n → n ≡ weight_of page.frag → path ≡ way_down n page.frag → AreInOrder page
-    → (q : Tree × Area) × (part_at path page.frag page.area ≡ Some q) × AreChosen n (length page.area.lo) (planes cuts) q.0 → IsThirds page path cuts → IsAllowed page path cuts
+    → (q : Tree × Area) × (part_at path page.frag page.area ≡ Some q) × AreChosen n (length page.area.lo) (planes cuts) q.0 → IsThirds page path cuts → MayLeave page path cuts
 is_allowed n page path cuts full e way ordered c t =
     let k = length page.area.lo in
     let g = of_page n page path full e way ordered in

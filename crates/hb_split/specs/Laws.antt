@@ -19,7 +19,7 @@ pub record IsThirds (page : LivePage) (path : List Side) (cuts : List LeafCut) :
   pub less : 3 * weight_of (reached (planes cuts) part.0 part.1).0 ≤ 2 * weight_of page.frag
 
 -- The part may leave: the path stays in the tree, the cuts part a leaf there, and it's neither the page nor a lone sibling leaf.
-pub record IsAllowed (page : LivePage) (path : List Side) (cuts : List LeafCut) : Type 0 where
+pub record MayLeave (page : LivePage) (path : List Side) (cuts : List LeafCut) : Type 0 where
   pub inside : StaysInside path page.frag
   pub part : Tree × Area
   pub found : part_at path page.frag page.area ≡ Some part

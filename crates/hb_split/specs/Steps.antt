@@ -27,7 +27,7 @@ abbrev pub AddsCuts : ℕ → ℕ → List Record → List LeafCut → List Leaf
 AddsCuts n k records old new = (more : List LeafCut) × (new ≡ old ++ more) × AreChosen n k (planes more) (Tip (Records records))
 
 -- a candidate's count and side are those of its plane
-pub record IsOf (records : List Record) (candidate : Candidate) : Type 0 where
+pub record IsOfPlane (records : List Record) (candidate : Candidate) : Type 0 where
   pub count : candidate.count ≡ heavier_count candidate.cut.axis candidate.cut.value records
   pub side : candidate.cut.side ≡ heavier_side (count_on Left candidate.cut.axis candidate.cut.value records) (count_on Right candidate.cut.axis candidate.cut.value records)
 
@@ -35,7 +35,7 @@ pub record IsOf (records : List Record) (candidate : Candidate) : Type 0 where
 abbrev pub BestOf : ℕ → List Record → Option Candidate → Type 0
 BestOf k records best = MatchOption best
     ((axis value : ℕ) → ¬ (MayCut k axis value records))
-    (λ c. IsBest k c.cut.axis c.cut.value records × IsOf records c)
+    (λ c. IsBest k c.cut.axis c.cut.value records × IsOfPlane records c)
 
 -- the cut that is made next of these records, and what it leaves
 pub record IsNext (k : ℕ) (records : List Record) (cut : LeafCut) : Type 0 where
@@ -51,7 +51,7 @@ pub record IsBestOn (axis : ℕ) (records : List Record) (candidate : Candidate)
   pub may : MayCut (axis + 1) axis candidate.cut.value records
   pub first : (value : ℕ) → MayCut (axis + 1) axis value records
       → NotBehind (heavier_count axis candidate.cut.value records) axis candidate.cut.value (heavier_count axis value records) axis value
-  pub told : IsOf records candidate
+  pub told : IsOfPlane records candidate
 
 abbrev pub BestOn : ℕ → List Record → Option Candidate → Type 0
 BestOn axis records best = MatchOption best

@@ -2,7 +2,7 @@ ghost use Rattle.std.specs.Prelude.{◌<◌, ◌≤◌, ◌^◌, IfOk};
 ghost use Rattle.hb_frag.specs.Leaves.{weight_of, WellCut};
 ghost use Rattle.hb_frag.specs.Rules.{AreInOrder};
 ghost use Rattle.hb_split.specs.Choosing.{IsChosen};
-ghost use Rattle.hb_split.specs.Laws.{IsThirds, IsAllowed};
+ghost use Rattle.hb_split.specs.Laws.{IsThirds, MayLeave};
 
 use crate::Cuts;
 use crate::parting::cuts_at;
@@ -35,7 +35,7 @@ pub fn choose(alloc: Global, page: &LivePage) -> Result<Extraction, NoMemory>
     requires bounded { weight_of page.now.frag < 2 ^ 32 }
     ensures exact { IfOk result (λ e. IsChosen page.now e.path e.cuts) }
     ensures thirds { IfOk result (λ e. IsThirds page.now e.path e.cuts) }
-    ensures allowed { IfOk result (λ e. IsAllowed page.now e.path e.cuts) }
+    ensures allowed { IfOk result (λ e. MayLeave page.now e.path e.cuts) }
 {
     let total = page.weight();
     let path = way_down(alloc, &page.frag, total)?;
