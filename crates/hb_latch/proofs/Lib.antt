@@ -1,0 +1,6 @@
+pub mod KeyOrder
+pub mod KeyPlaces
+pub mod TableViews
+pub mod Conflicts
+pub mod Shares
+pub mod KeptEdits
