@@ -1,10 +1,8 @@
 -- The first latch in the way, from the least actor on, as the table tells it.
-use Rattle.std.proofs.Common.{◌≡◌, ◌≢◌, ℕ, zero, suc, ◌+◌, ◌<◌, ◌≤◌, ◌==◌, Bool, true, false, cond, not, ◌&&◌, List, [], ◌∷◌, length, get_or, find, All, Option, Some, None, IsTrue, IfSome, refl, sym, ap, subst, ◌∙◌, arith}
+use Rattle.std.proofs.Common.{◌≡◌, ◌≢◌, ℕ, zero, suc, ◌<◌, ◌≤◌, ◌==◌, Bool, true, false, cond, not, ◌&&◌, List, [], ◌∷◌, length, get_or, find, All, Option, Some, None, IsTrue, IfSome, refl, sym, ap, subst, ◌∙◌, arith}
 use Rattle.std.specs.Option.{IsSomeAnd, option_map}
-use Rattle.std.specs.FinMap as map
 use Rattle.std.specs.Cmp.{ranked}
 use Rattle.std.specs.Ordering.{nat_cmp, ordering_then}
-use Rattle.std.specs.declared.cmp.Ordering.{Ordering}
 use Rattle.std.specs.declared.cmp.Ordering.TheVariants.{Less, Equal, Greater}
 use Rattle.std.proofs.lemmas.Bool.Decides.{Decides-eqb}
 use Rattle.std.proofs.lemmas.Bool.{and_parts, false≢true, cases_lt}
@@ -13,7 +11,7 @@ use Rattle.hb_latch.specs.declared.modes.Mode.{Mode}
 use Rattle.hb_latch.specs.declared.entries.Held.{Held}
 use Rattle.hb_latch.specs.Modes.{goes_beside}
 use Rattle.hb_latch.specs.Tables.{latch_cmp, mode_at, IsGrantable, KeepsFrom, IsLeastInTheWay}
-use Rattle.hb_latch.specs.Entries.{key_of, conflicts, table_entries, IsHeldAt}
+use Rattle.hb_latch.specs.Entries.{key_of, conflicts}
 use Rattle.hb_latch.proofs.KeyPlaces.{KeysRise, rise_at, place_found}
 use Rattle.hb_latch.proofs.TableViews.{table_of, get_is, get_at}
 
@@ -109,12 +107,16 @@ against_at hs actor page mode other d rise keeps =
     elim (mode_at (table_of hs) other page) as (λ o. mode_at (table_of hs) other page ≡ o → IsSomeAnd o (λ held. ¬ (IsTrue (goes_beside mode held))) → (i : ℕ) × (i < length hs) × (key_of (get_or hs i d) ≡ (other, page)) × (conflicts actor page mode (get_or hs i d) ≡ true)) [
       | None ↦ λ is no. absurd no
       | Some held ↦ λ is apart.
-          let at = place_found hs (other, page) held d (sym (get_is hs (other, page) rise) ∙ is) in
-          (at.0, at.1, at.2, conflicts_so actor page mode (get_or hs at.0 d) (record {
-            page_is = ap (λ (k : ℕ × ℕ). k.1) at.2;
-            another = λ same. keeps.another (sym (ap (λ (k : ℕ × ℕ). k.0) at.2) ∙ same);
-            apart = ap (goes_beside mode) at.3 ∙ false_so _ apart;
-          }))
+          let at = place_found hs (other, page) held d (sym (get_is hs (other, page) rise) ∙ is) in (
+            at.0,
+            at.1,
+            at.2,
+            conflicts_so actor page mode (get_or hs at.0 d) (record {
+              page_is = ap (λ (k : ℕ × ℕ). k.1) at.2;
+              another = λ same. keeps.another (sym (ap (λ (k : ℕ × ℕ). k.0) at.2) ∙ same);
+              apart = ap (goes_beside mode) at.3 ∙ false_so _ apart;
+            }),
+          )
     ] refl keeps.conflict
 
 -- the first latch that conflicts is of the least actor that is in the way
@@ -126,13 +128,13 @@ least_is hs actor page mode h rise found =
     record {
       keeps = record { another = against.another; conflict = subst (λ (o : Option Mode). IsSomeAnd o (λ held. ¬ (IsTrue (goes_beside mode held)))) (sym held) (λ beside. false≢true (sym against.apart ∙ beside)) };
       least = λ earlier lt keeps.
-        let at = against_at hs actor page mode earlier h rise keeps in
-        let actor_is : (get_or hs at.0 h).actor ≡ earlier = ap (λ (k : ℕ × ℕ). k.0) at.2 in
-        let same : (get_or hs first.place h).actor ≡ h.actor = ap (λ (x : Held). x.actor) (first.is h) in
-        elim (cases_lt at.0 first.place) [
-          | inl before ↦ false≢true (sym (first.before at.0 h before) ∙ at.3)
-          | inr behind ↦ let rises = actors_rise hs first.place at.0 h rise behind at.1 in absurd (omega arith)
-        ];
+          let at = against_at hs actor page mode earlier h rise keeps in
+          let actor_is : (get_or hs at.0 h).actor ≡ earlier = ap (λ (k : ℕ × ℕ). k.0) at.2 in
+          let same : (get_or hs first.place h).actor ≡ h.actor = ap (λ (x : Held). x.actor) (first.is h) in
+          elim (cases_lt at.0 first.place) [
+            | inl before ↦ false≢true (sym (first.before at.0 h before) ∙ at.3)
+            | inr behind ↦ let rises = actors_rise hs first.place at.0 h rise behind at.1 in absurd (omega arith)
+          ];
     }
 
 -- then the actor may not have the page

@@ -1,9 +1,8 @@
 -- The order of keys is total, and keys that compare alike are one.
-use Rattle.std.proofs.Common.{◌≡◌, ℕ, Bool, true, false, cond, not, List, Some, None, T, refl, sym, ap, ◌∙◌, arith}
-use Rattle.std.specs.Ordering.{nat_cmp, ordering_then, is_eq, eq_by_cmp, on}
+use Rattle.std.proofs.Common.{◌≡◌, ℕ, Bool, true, false, cond, not, List, None, T, refl, sym, ap, ◌∙◌}
+use Rattle.std.specs.Ordering.{nat_cmp, ordering_then, is_eq, eq_by_cmp}
 use Rattle.std.specs.Cmp.{IsTotalOrder, on_total, then_total, alike_right, eq_by_cmp_equiv}
 use Rattle.std.proofs.lemmas.Cmp.{nat_cmp_total}
-use Rattle.std.specs.declared.cmp.Ordering.{Ordering}
 use Rattle.std.specs.declared.cmp.Ordering.TheVariants.{Less, Equal, Greater}
 use Rattle.std.specs.FinMap as map
 use Rattle.std.specs.FinMap.{IsAntisymmetric, nat_cmp-IsAntisymmetric}

@@ -4,3 +4,4 @@ pub mod TableViews
 pub mod Conflicts
 pub mod Shares
 pub mod KeptEdits
+pub mod Compatible

@@ -18,7 +18,7 @@ pub const LATCHES: usize = 3;
 const ROOM: usize = 57;
 
 /// The latches that are held.
-#[derive(Drop)]
+#[derive(Debug, Drop)]
 pub struct Latches {
     held: ArrayVec<Held, ROOM>,
 }

@@ -1,0 +1,39 @@
+//! What follows of modes and tables from their definitions alone. Each law is the contract of a
+//! function that does nothing: a caller learns it by the call.
+
+ghost use Rattle.std.specs.Prelude.{◌≡◌, ◌==◌, ◌&&◌, ◌+◌, ℕ, false, Some, None, if◌then◌else◌};
+ghost use Rattle.std.specs.FinMap as map;
+ghost use Rattle.hb_latch.specs.declared.modes.Mode.{Mode as Manner};
+ghost use Rattle.hb_latch.specs.declared.modes.Mode.TheVariants.{Exclusive};
+ghost use Rattle.hb_latch.specs.Modes.{goes_beside};
+ghost use Rattle.hb_latch.specs.Tables.{LatchTable, mode_at, IsGrantable, AreCompatible};
+
+/// Whether two modes go beside each other is the same from both sides, and nothing goes beside an
+/// exclusive latch.
+#[tactic(auto, using(crate::proofs::Compatible::both_ways))]
+pub fn going_beside_is_mutual()
+    ensures symmetric { (mode other : Manner) → goes_beside mode other ≡ goes_beside other mode }
+    ensures alone { (other : Manner) → goes_beside Exclusive other ≡ false }
+{}
+
+/// What is taken or promoted changes one latch, and so does what is released.
+#[tactic(auto, using(crate::proofs::Compatible::after_insert, crate::proofs::Compatible::after_remove))]
+pub fn each_call_changes_one_latch()
+    ensures taken { (table : LatchTable) (actor page other elsewhere : ℕ) (mode : Manner) →
+        mode_at (map.insert table (actor, page) mode) other elsewhere
+        ≡ (if (other == actor) && (elsewhere == page) then Some mode else mode_at table other elsewhere) }
+    ensures released { (table : LatchTable) (actor page other elsewhere : ℕ) →
+        mode_at (map.remove table (actor, page)) other elsewhere
+        ≡ (if (other == actor) && (elsewhere == page) then None else mode_at table other elsewhere) }
+{}
+
+/// Where the latches of different actors on one page go beside each other, they do so after each
+/// call, too: no latch is held, one is taken or promoted where the others allow it, one is released.
+#[tactic(auto, using(crate::proofs::Compatible::none_compatible, crate::proofs::Compatible::taken_compatible, crate::proofs::Compatible::released_compatible))]
+pub fn compatible_latches_stay_compatible()
+    ensures none { AreCompatible map.empty }
+    ensures taken { (table : LatchTable) (actor page : ℕ) (mode : Manner) → AreCompatible table →
+        IsGrantable table actor page mode → AreCompatible (map.insert table (actor, page) mode) }
+    ensures released { (table : LatchTable) (actor page : ℕ) → AreCompatible table →
+        AreCompatible (map.remove table (actor, page)) }
+{}

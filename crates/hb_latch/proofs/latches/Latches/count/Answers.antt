@@ -1,7 +1,6 @@
-use Rattle.std.proofs.Common.{◌≡◌, ◌∙◌, sym, ap, arith}
-use Rattle.std.specs.Prelude.{◌==◌, count_by, List}
+use Rattle.std.proofs.Common.{◌∙◌, sym, ap, arith}
+use Rattle.std.specs.Prelude.{◌==◌, count_by}
 use Rattle.hb_latch.specs.declared.entries.Held.{Held}
-use Rattle.hb_latch.specs.Tables.{LatchTable, latches_of}
 use Rattle.hb_latch.proofs.TableViews.{count_is}
 use Rattle.hb_latch.proofs.latches.Latches.count.Goals as goal
 

@@ -1,8 +1,8 @@
-use Rattle.std.proofs.Common.{◌≡◌, ◌∙◌, ℕ, sym, ap, subst}
+use Rattle.std.proofs.Common.{ℕ, sym, ap, subst}
 use Rattle.hb_latch.specs.declared.entries.Held.{Held}
 use Rattle.hb_latch.specs.declared.modes.Mode.TheVariants.{Shared}
 use Rattle.hb_latch.specs.Tables.{IsActor}
-use Rattle.hb_latch.specs.Entries.{IsHeldAt, IsGapOf}
+use Rattle.hb_latch.specs.Entries.{IsHeldAt}
 use Rattle.hb_latch.proofs.TableViews.{get_at, get_gap}
 use Rattle.hb_latch.proofs.latches.Latches.mode_of.Goals as goal
 
