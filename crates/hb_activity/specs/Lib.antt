@@ -1,0 +1,6 @@
+pub mod Queue
+pub mod Walks
+pub mod Holding
+pub mod Wanting
+pub mod BoxLocks
+pub mod Changing
