@@ -4,3 +4,5 @@ pub mod Holding
 pub mod Wanting
 pub mod BoxLocks
 pub mod Changing
+pub mod Waiting
+pub mod Laws

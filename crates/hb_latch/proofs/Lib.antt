@@ -5,3 +5,4 @@ pub mod Conflicts
 pub mod Shares
 pub mod KeptEdits
 pub mod Compatible
+pub mod InTheWay

@@ -1,12 +1,12 @@
 //! What follows of modes and tables from their definitions alone. Each law is the contract of a
 //! function that does nothing: a caller learns it by the call.
 
-ghost use Rattle.std.specs.Prelude.{◌≡◌, ◌==◌, ◌&&◌, ◌+◌, ℕ, false, Some, None, if◌then◌else◌};
+ghost use Rattle.std.specs.Prelude.{◌≡◌, ◌==◌, ◌&&◌, ◌↔◌, ℕ, false, Some, None, if◌then◌else◌};
 ghost use Rattle.std.specs.FinMap as map;
 ghost use Rattle.hb_latch.specs.declared.modes.Mode.{Mode as Manner};
 ghost use Rattle.hb_latch.specs.declared.modes.Mode.TheVariants.{Exclusive};
 ghost use Rattle.hb_latch.specs.Modes.{goes_beside};
-ghost use Rattle.hb_latch.specs.Tables.{LatchTable, mode_at, IsGrantable, AreCompatible};
+ghost use Rattle.hb_latch.specs.Tables.{LatchTable, mode_at, IsGrantable, KeepsFrom, AreCompatible};
 
 /// Whether two modes go beside each other is the same from both sides, and nothing goes beside an
 /// exclusive latch.
@@ -36,4 +36,12 @@ pub fn compatible_latches_stay_compatible()
         IsGrantable table actor page mode → AreCompatible (map.insert table (actor, page) mode) }
     ensures released { (table : LatchTable) (actor page : ℕ) → AreCompatible table →
         AreCompatible (map.remove table (actor, page)) }
+{}
+
+/// An actor may have a page exactly where no other actor keeps it from it.
+#[tactic(auto, using(crate::proofs::InTheWay::nobody_keeps, crate::proofs::InTheWay::none_keeps))]
+pub fn what_nobody_keeps_may_be_had()
+    ensures { (table : LatchTable) (actor page : ℕ) (mode : Manner) →
+        IsGrantable table actor page mode
+        ↔ ((other : ℕ) → ¬ (KeepsFrom table actor page mode other)) }
 {}

@@ -1,4 +1,4 @@
-use Rattle.std.proofs.Common.{◌≡◌, ◌∙◌, sym}
+use Rattle.std.proofs.Common.{◌∙◌, sym}
 use Rattle.hb_activity.proofs.QueueParts.{none_of, some_of, leaves_first}
 use Rattle.hb_activity.proofs.waiting_jobs.Jobs.take.Goals as goal
 
