@@ -18,29 +18,61 @@ pub enum Activity {
         found: Records,
     },
     /// It parts the full page `held`.
-    SessionSplit { line: Line, held: u32 },
+    SessionSplit {
+        line: Line,
+        held: u32,
+    },
     /// It puts its record into the page `source`, or into the part `fresh` that left it.
-    SessionPut { line: Line, source: u32, fresh: u32 },
+    SessionPut {
+        line: Line,
+        source: u32,
+        fresh: u32,
+    },
     /// It waits until `place` of the order is on the disk, and answers then.
-    SessionAwait { line: u32, reply: Reply, place: u32 },
+    SessionAwait {
+        line: u32,
+        reply: Reply,
+        place: u32,
+    },
     /// A poster without a job.
     PosterIdle,
     /// It gives the file one more level.
-    PosterGrow { job: Job },
+    PosterGrow {
+        job: Job,
+    },
     /// It goes to the page of the job's level that directly holds the job's point.
-    PosterWalk { job: Job, held: Option<u32> },
+    PosterWalk {
+        job: Job,
+        held: Option<u32>,
+    },
     /// It looks into the child at the job's point.
-    PosterChild { job: Job, parent: u32 },
+    PosterChild {
+        job: Job,
+        parent: u32,
+    },
     /// It makes its latch on the parent exclusive.
-    PosterPromote { job: Job, parent: u32 },
+    PosterPromote {
+        job: Job,
+        parent: u32,
+    },
     /// It looks into the child again, and posts.
-    PosterAgain { job: Job, parent: u32 },
+    PosterAgain {
+        job: Job,
+        parent: u32,
+    },
     /// A consolidator without a job.
     ConsolidatorIdle,
     /// It goes to the page of the job's level that directly holds the job's point.
-    ConsolidatorWalk { job: Job, held: Option<u32> },
+    ConsolidatorWalk {
+        job: Job,
+        held: Option<u32>,
+    },
     /// It looks for two children that may become one.
-    ConsolidatorScan { job: Job, parent: u32, child: u32 },
+    ConsolidatorScan {
+        job: Job,
+        parent: u32,
+        child: u32,
+    },
     /// It looks whether `gone` may go into `keep`. `leaf` is a leaf of the parent that names a
     /// child.
     ConsolidatorTry {

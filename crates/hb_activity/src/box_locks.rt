@@ -1,4 +1,4 @@
-ghost use Rattle.std.specs.Prelude.{◌≡◌};
+ghost use Rattle.std.specs.Prelude.{◌≡◌, true, false};
 
 use crate::Activity;
 use hb_set::Command;
@@ -45,8 +45,6 @@ impl Activity {
         }
     }
 }
-
-ghost use Rattle.std.specs.Prelude.{true, false};
 
 // The lock of the box for one session alone.
 fn alone(area: Area) -> BoxLock

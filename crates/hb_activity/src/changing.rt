@@ -19,7 +19,9 @@ impl Activity {
         match self {
             Activity::SessionWalk { line, .. } => {
                 may_change(&line.command)
-                    && self.wanted(meta, page).is_some_and(|wanted| wanted.level == 0)
+                    && self
+                        .wanted(meta, page)
+                        .is_some_and(|wanted| wanted.level == 0)
             }
             Activity::SessionSplit { .. }
             | Activity::SessionPut { .. }

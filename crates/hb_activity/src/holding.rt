@@ -1,4 +1,4 @@
-ghost use Rattle.std.specs.Prelude.{◌≡◌, ◌≤◌, length, IsSome};
+ghost use Rattle.std.specs.Prelude.{◌≡◌, [], ◌∷◌, IsSome};
 ghost use Rattle.std.specs.Option.{option_copied};
 
 use crate::Activity;
@@ -61,8 +61,6 @@ impl Activity {
         }
     }
 }
-
-ghost use Rattle.std.specs.Prelude.{◌∷◌, []};
 
 // One latch.
 fn one(page: u32, mode: Mode) -> ArrayVec<Latch, 2>

@@ -14,6 +14,8 @@ mod activities;
 mod box_locks;
 mod changing;
 mod holding;
+#[cfg(test)]
+mod job_tests;
 mod jobs;
 pub mod laws;
 #[cfg(test)]

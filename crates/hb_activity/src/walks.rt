@@ -1,5 +1,6 @@
 ghost use Rattle.std.specs.Prelude.{◌≡◌, IsTrue};
 ghost use Rattle.std.specs.Option.{option_copied};
+ghost use Rattle.hb_activity.specs.Walks.{may_change, goal_of, session_mode};
 
 use crate::{Activity, Job};
 use hb_latch::Mode;
@@ -51,8 +52,6 @@ impl Job {
         }
     }
 }
-
-ghost use Rattle.hb_activity.specs.Walks.{may_change, goal_of, session_mode};
 
 // Whether the command may change the file.
 pub(crate) fn may_change(command: &Command) -> bool

@@ -1,5 +1,6 @@
 ghost use Rattle.std.specs.Prelude.{◌≡◌, IsSome};
-ghost use Rattle.std.specs.Option.{option_copied, option_and_then};
+ghost use Rattle.std.specs.Option.{option_copied};
+ghost use Rattle.hb_activity.specs.Wanting.{wanted_page, next_at, child_of, HasLeafAt};
 
 use crate::Activity;
 use crate::walks::session_mode;
@@ -18,7 +19,7 @@ pub struct Wanted {
 }
 
 impl Activity {
-    ghost use Rattle.hb_activity.specs.Wanting.{wanted_of, LooksIntoPage, CanLook, walk_next};
+    ghost use Rattle.hb_activity.specs.Wanting.{wanted_of, LooksIntoPage, CanLook, looked_at, walk_next};
     ghost use Rattle.hb_activity.specs.Walks.{walk_point, walk_held};
 
     /// The latch that the next step wants, if it wants one. Where the actor holds the page
@@ -48,10 +49,11 @@ impl Activity {
                 let (child, level) = child_at(page?, &job.point)?;
                 Some(latch_wanted(child, level, Mode::Shared))
             }
-            Activity::PosterPromote { parent, .. }
-            | Activity::ConsolidatorPromote { parent, .. } => {
-                Some(latch_wanted(*parent, page?.level, Mode::Exclusive))
-            }
+            Activity::PosterPromote { parent, .. } | Activity::ConsolidatorPromote { parent, .. } =>
+                {
+                    let level = page?.level;
+                    Some(latch_wanted(*parent, level, Mode::Exclusive))
+                }
             Activity::ConsolidatorScan { child, .. } => {
                 Some(latch_wanted(*child, page?.level.saturating_sub(1), Mode::Shared))
             }
@@ -74,6 +76,22 @@ impl Activity {
         }
     }
 
+    /// The point at whose leaf the next step looks, in the page that it looks into. `None` where
+    /// it looks at no leaf.
+    pub fn looked_at(&self) -> Option<&Point>
+        ensures { option_copied result ≡ looked_at self.now }
+    {
+        match self {
+            Activity::PosterChild { job, .. } | Activity::PosterAgain { job, .. } => {
+                Some(&job.point)
+            }
+            _ => match self.walk_held() {
+                Some(_) => self.walk_point(),
+                None => None,
+            },
+        }
+    }
+
     // The next page of a walk, and its level.
     fn next_page(&self, meta: &Meta, page: Option<&LivePage>) -> Option<(u32, u8)>
         requires given { IsSome (walk_held self.now) → IsSome page }
@@ -87,8 +105,6 @@ impl Activity {
         }
     }
 }
-
-ghost use Rattle.hb_activity.specs.Wanting.{wanted_page, next_at, child_of, HasLeafAt};
 
 // The latch in that mode.
 fn latch_wanted(page: u32, level: u8, mode: Mode) -> Wanted
