@@ -2,8 +2,9 @@ use crate::Job;
 use hb_set::{Line, Reply};
 use hb_space::{Areas, Records};
 
-/// Where an actor stands between two steps. Page numbers name pages that it has latched, or, in
-/// `child`, `keep`, `gone` and `leaf`, pages that it knows from the page it holds.
+/// Where an actor stands between two steps. `held`, `source`, `fresh` and `parent` are pages that it
+/// has latched. `child`, `keep` and `gone` are pages that it knows from the parent; `keep` is
+/// latched too, where the activity says so.
 #[derive(Debug, Drop)]
 pub enum Activity {
     /// A session without a command.
@@ -73,8 +74,8 @@ pub enum Activity {
         parent: u32,
         child: u32,
     },
-    /// It looks whether `gone` may go into `keep`. `leaf` is a leaf of the parent that names a
-    /// child.
+    /// It looks whether `gone` may go into `keep`, a page that is latched. `leaf` says how far the
+    /// scan of the parent's leaves has come.
     ConsolidatorTry {
         job: Job,
         parent: u32,
@@ -96,7 +97,7 @@ pub enum Activity {
         keep: u32,
         gone: u32,
     },
-    /// It takes the page that goes, and merges the two if they still may be.
+    /// It takes the page that goes, and merges the two if they still may be. `keep` is latched.
     ConsolidatorDecide {
         job: Job,
         parent: u32,

@@ -6,3 +6,4 @@ pub mod Shares
 pub mod KeptEdits
 pub mod Compatible
 pub mod InTheWay
+pub mod Counts

@@ -3,6 +3,7 @@ use Rattle.std.specs.Prelude.{◌≡◌, ℕ, ◌<◌, ◌≤◌, ◌==◌, Bool
 use Rattle.std.specs.List.{All, AllWithin, HoldsAt}
 use Rattle.std.specs.FinMap.{is_sorted}
 use Rattle.std.specs.declared.cmp.Ordering.TheVariants.{Less, Greater}
+use Rattle.hb_latch.specs.declared.latches.TheConstants.{LATCHES}
 use Rattle.hb_latch.specs.declared.modes.Mode.{Mode}
 use Rattle.hb_latch.specs.declared.entries.Held.{Held}
 use Rattle.hb_latch.specs.Modes.{goes_beside}
@@ -20,11 +21,11 @@ conflicts actor page mode held = (held.page == page) && (not (held.actor == acto
 abbrev pub table_entries : List Held → List ((ℕ × ℕ) × Mode)
 table_entries latches = map (λ h. (key_of h, h.mode)) latches
 
--- their keys rise, their actors are actors, and none has more than three
+-- their keys rise, their actors are actors, and none has more than it may
 pub record IsKept (latches : List Held) : Type 0 where
   pub rising : IsTrue (is_sorted latch_cmp (table_entries latches))
   pub actors : All (λ h. IsActor h.actor) latches
-  pub few : (actor : ℕ) → count_by (λ h. h.actor == actor) latches ≤ 3
+  pub few : (actor : ℕ) → count_by (λ h. h.actor == actor) latches ≤ LATCHES
 
 -- the latch at the place is the one of the key
 pub record IsHeldAt (latches : List Held) (key : ℕ × ℕ) (place : ℕ) : Type 0 where

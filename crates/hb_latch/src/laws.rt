@@ -1,12 +1,12 @@
 //! What follows of modes and tables from their definitions alone. Each law is the contract of a
 //! function that does nothing: a caller learns it by the call.
 
-ghost use Rattle.std.specs.Prelude.{◌≡◌, ◌==◌, ◌&&◌, ◌↔◌, ℕ, false, Some, None, if◌then◌else◌};
+ghost use Rattle.std.specs.Prelude.{◌≡◌, ◌==◌, ◌&&◌, ◌+◌, ◌↔◌, ℕ, IsSome, false, Some, None, if◌then◌else◌};
 ghost use Rattle.std.specs.FinMap as map;
 ghost use Rattle.hb_latch.specs.declared.modes.Mode.{Mode as Manner};
 ghost use Rattle.hb_latch.specs.declared.modes.Mode.TheVariants.{Exclusive};
 ghost use Rattle.hb_latch.specs.Modes.{goes_beside};
-ghost use Rattle.hb_latch.specs.Tables.{LatchTable, mode_at, IsGrantable, KeepsFrom, AreCompatible};
+ghost use Rattle.hb_latch.specs.Tables.{LatchTable, mode_at, latches_of, IsGrantable, KeepsFrom, AreCompatible};
 
 /// Whether two modes go beside each other is the same from both sides, and nothing goes beside an
 /// exclusive latch.
@@ -25,6 +25,22 @@ pub fn each_call_changes_one_latch()
     ensures released { (table : LatchTable) (actor page other elsewhere : ℕ) →
         mode_at (map.remove table (actor, page)) other elsewhere
         ≡ (if (other == actor) && (elsewhere == page) then None else mode_at table other elsewhere) }
+{}
+
+/// A latch that is taken counts once, for its actor; a promotion changes no count; and what is
+/// released counted once.
+#[tactic(auto, using(crate::proofs::Counts::count_taken, crate::proofs::Counts::count_released))]
+pub fn each_latch_counts_once()
+    ensures taken { (table : LatchTable) (actor page other : ℕ) (mode : Manner) →
+        mode_at table actor page ≡ None → latches_of (map.insert table (actor, page) mode) other
+        ≡ latches_of table other + (if actor == other then 1 else 0) }
+    ensures promoted { (table : LatchTable) (actor page other : ℕ) (mode : Manner) →
+        IsSome (mode_at table actor page) →
+        latches_of (map.insert table (actor, page) mode) other ≡ latches_of table other }
+    ensures released { (table : LatchTable) (actor page other : ℕ) →
+        IsSome (mode_at table actor page) →
+        latches_of (map.remove table (actor, page)) other + (if actor == other then 1 else 0)
+        ≡ latches_of table other }
 {}
 
 /// Where the latches of different actors on one page go beside each other, they do so after each
