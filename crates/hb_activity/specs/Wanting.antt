@@ -30,8 +30,8 @@ named_child level (Child page) = Some (page, level - 1)
 named_child level (Sibling page) = None
 
 -- where a walk to the point goes on from a page, and the child at the point
-abbrev pub next_at : LivePage → List ℕ → Option (ℕ × ℕ)
-next_at page p = option_and_then (λ placed. named_page page.level placed.leaf) (leaf_at page p)
+abbrev pub onward_at : LivePage → List ℕ → Option (ℕ × ℕ)
+onward_at page p = option_and_then (λ placed. named_page page.level placed.leaf) (leaf_at page p)
 
 abbrev pub child_of : LivePage → List ℕ → Option (ℕ × ℕ)
 child_of page p = option_and_then (λ placed. named_child page.level placed.leaf) (leaf_at page p)
@@ -40,7 +40,7 @@ child_of page p = option_and_then (λ placed. named_child page.level placed.leaf
 abbrev pub walk_next : Option (List ℕ) → Option ℕ → Meta → Option LivePage → Option (ℕ × ℕ)
 walk_next None held meta page = None
 walk_next (Some p) None meta page = Some (meta.root, meta.height - 1)
-walk_next (Some p) (Some held) meta page = option_and_then (λ page. next_at page p) page
+walk_next (Some p) (Some held) meta page = option_and_then (λ page. onward_at page p) page
 
 -- a page and its level, in the mode for the level
 abbrev pub in_mode : (ℕ → Mode) → Option (ℕ × ℕ) → Option Wanted

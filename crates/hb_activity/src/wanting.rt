@@ -1,6 +1,6 @@
 ghost use Rattle.std.specs.Prelude.{◌≡◌, IsSome};
 ghost use Rattle.std.specs.Option.{option_copied};
-ghost use Rattle.hb_activity.specs.Wanting.{wanted_page, next_at, child_of, HasLeafAt};
+ghost use Rattle.hb_activity.specs.Wanting.{wanted_page, onward_at, child_of, HasLeafAt};
 
 use crate::Activity;
 use crate::walks::session_mode;
@@ -117,7 +117,7 @@ fn latch_wanted(page: u32, level: u8, mode: Mode) -> Wanted
 // on the same one.
 fn next_at(page: &LivePage, point: &Point) -> Option<(u32, u8)>
     requires { HasLeafAt page.now point.now }
-    ensures { result ≡ next_at page.now point.now }
+    ensures { result ≡ onward_at page.now point.now }
 {
     match page.leaf_at(point) {
         (Leaf::Records(_), _) => None,

@@ -6,8 +6,8 @@ use Rattle.std.specs.declared.cmp.Ordering.{Ordering}
 use Rattle.hb_latch.specs.declared.modes.Mode.{Mode}
 use Rattle.hb_latch.specs.Modes.{goes_beside}
 
--- 1 to 16 are sessions, 17 posts, 18 consolidates, 19 flushes
-pub record IsActor (actor : ℕ) : Type 0 where
+-- who may hold latches: 1 to 16 are sessions, 17 posts, 18 consolidates, 19 flushes
+pub record MayLatch (actor : ℕ) : Type 0 where
   pub from_1 : 1 ≤ actor
   pub to_19 : actor ≤ 19
 

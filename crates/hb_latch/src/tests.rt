@@ -1,8 +1,5 @@
 //! Rows of steps, each with the answer that was worked out by hand.
 
-ghost use Rattle.std.specs.Prelude.{◌≡◌, ◌<◌, ◌↔◌, IsTrue, None};
-ghost use Rattle.hb_latch.specs.Tables.{IsActor, mode_at, latches_of};
-
 use crate::{HeldBy, LATCHES, Latches, Mode};
 use hb_space::Actor;
 use std::process::Abort;

@@ -9,9 +9,9 @@ use Rattle.hb_latch.proofs.latches.search.Goals as goal
 pub returns-clause-found : goal.returns-clause-found
 returns-clause-found c =
     let facts = c.binary_search_by.ensures in
-    found_at _ _ _ facts.bound (facts.position (λ h. latch_cmp (key_of h) (c.args.actor, c.args.page)) (always_returns_same _ _ _ (λ a r g called. search rules)))
+    found_at c.args.latches.now (c.args.actor, c.args.page) c.binary_search_by.result facts.bound (facts.position (λ h. latch_cmp (key_of h) (c.args.actor, c.args.page)) (always_returns_same _ _ _ (λ a r g called. search rules)))
 
 pub returns-clause-absent : goal.returns-clause-absent
 returns-clause-absent c =
     let facts = c.binary_search_by.ensures in
-    gap_at _ _ c.requires.rising _ facts.bound (facts.position (λ h. latch_cmp (key_of h) (c.args.actor, c.args.page)) (always_returns_same _ _ _ (λ a r g called. search rules)))
+    gap_at c.args.latches.now (c.args.actor, c.args.page) c.requires.rising c.binary_search_by.result facts.bound (facts.position (λ h. latch_cmp (key_of h) (c.args.actor, c.args.page)) (always_returns_same _ _ _ (λ a r g called. search rules)))
