@@ -7,16 +7,18 @@ use Rattle.hb_frag.specs.declared.pages.Page.{Page}
 use Rattle.hb_ops.specs.declared.meta.Meta.{Meta}
 use Rattle.hb_ops.specs.declared.operations.Op.{Op}
 use Rattle.hb_ops.specs.declared.operations.Op.TheVariants.{Put, Del}
-use Rattle.hb_ops.specs.Files.{FileState, page_at}
+use Rattle.hb_ops.specs.Files.{FileState, page_at, page_of}
 use Rattle.hb_ops.specs.Operations.{change_of}
 use Rattle.hb_ops.specs.Sound.{IsSound}
 use Rattle.hb_store.specs.Groups.{Logged, SpellAll}
 use Rattle.hb_store.specs.GroupLaws.{SpelledOnce, same_spelled}
 use Rattle.hb_store.specs.ImageLaws.{OpensToOne, OpensWhole}
-use Rattle.hb_store.specs.Opening.{OpensBy, OpensTo, IsPageIn, Shows, file_size, log_bytes}
+use Rattle.hb_store.specs.Opening.{OpensBy, OpensTo, IsPageIn, Shows, file_size, log_bytes, place_bytes}
 use Rattle.hb_store.specs.Replay.{Replayed, untouched, replay, after_group}
-use Rattle.hbpi.specs.Restart.{IsOnePage, IsUnsound, GoodIsNotRefused, HasLayout, HasLog}
-use Rattle.hbpi.proofs.Lone.{sound_breaks_none}
+use Rattle.hb_frag.specs.Grammar.{SpellsPage}
+use Rattle.hb_sound.specs.Names.{SoundBreaksNone}
+use Rattle.hbpi.specs.Restart.{IsOnePage, IsUnsound, GoodIsNotRefused, HasLayout, HasLog, LacksPage}
+use Rattle.hbpi.proofs.Unsound.{sound_names}
 use Rattle.hbpi.specs.declared.restart.faults.OpenFault.TheVariants as faults
 
 -- no operation so far changes what a file says of itself
@@ -41,8 +43,21 @@ pub first_page : (pages : List Page) → length pages ≡ 1 → (p : Page) × (p
 first_page [] one = cc (one)
 first_page (p ∷ rest) one = (p, refl)
 
+-- in a file of one page that is shown there is page 1
+pub there_not : (b : List ℕ) (said : Meta) (t : Replayed) (s : FileState) (id : ℕ) → Shows b said t s → t.meta.high ≤ 1 → 1 ≤ id → id ≤ t.meta.high
+    → t.page id ≡ None → ((p : Page) → SpellsPage (place_bytes said id b) p → ⊥) → ⊥
+there_not b said t s id shows few some most none spelled =
+    let one : id ≡ 1 = omega (arith, few, some, most) in
+    let first = first_page s.pages (omega (arith, shows.count, few, some, most)) in
+    let there : page_of s id ≡ Some first.0 = subst (λ (n : ℕ). page_of s n ≡ Some first.0) (sym one) first.1 in
+    spelled first.0 (subst (λ (o : Option Page). IsPageIn b said id o first.0) none (shows.each id first.0 there))
+
+pub lacks_none : (b : List ℕ) (said : Meta) (t : Replayed) (s : FileState) (id : ℕ) → Shows b said t s → t.meta.high ≤ 1 → 1 ≤ said.pages → LacksPage b said t id → ⊥
+lacks_none b said t s id shows few some (least, most, (inl beyond)) = absurd (omega (arith, few, some, least, most, beyond))
+lacks_none b said t s id shows few some (least, most, (inr none)) = there_not b said t s id shows few least most none.0 none.1
+
 module _ (once : SpelledOnce) (turns : (bytes : List ℕ) (t s : ℕ) (m n : Meta) → IsNewest bytes t m → IsNewest bytes s n → t ≡ s) (saids : (bytes : List ℕ) (t s : ℕ) (m n : Meta) → IsNewest bytes t m → IsNewest bytes s n → m ≡ n)
-    (one_way : ReadsOneWay) (one : OpensToOne) (whole : OpensWhole) where
+    (one_way : ReadsOneWay) (one : OpensToOne) (whole : OpensWhole) (law : SoundBreaksNone) where
   -- the groups of the log are those by which the bytes open
   shown : (b : List ℕ) (s : FileState) (turn : ℕ) (said : Meta) (groups : List Logged) → OpensTo b s → HasLayout b turn said → HasLog b turn said groups → Shows b said (replay (untouched said) groups) s
   shown b s turn said groups opens layout log =
@@ -55,13 +70,12 @@ module _ (once : SpelledOnce) (turns : (bytes : List ℕ) (t s : ℕ) (m n : Met
       let same : opens.groups ≡ groups = same_spelled once said.k log.payloads opens.groups groups (subst (λ (x : List (List ℕ)). SpellAll said.k x opens.groups) payloads here.spelled) log.spelled in
       subst (λ (x : List Logged). Shows b said (replay (untouched said) x) s) same here.shows
 
-  unsound : (b : List ℕ) (s : FileState) (turn : ℕ) (said : Meta) (groups : List Logged) (page rule : ℕ) → OpensTo b s → IsSound s → HasLayout b turn said → HasLog b turn said groups → IsUnsound b said groups page rule → ⊥
-  unsound b s turn said groups page rule opens sound layout log refuses = elim refuses [
-    | inl none ↦
+  unsound : (b : List ℕ) (s : FileState) (turn : ℕ) (said : Meta) (groups : List Logged) (page rule : ℕ) → OpensTo b s → IsSound s → IsOnePage s.meta → HasLayout b turn said → HasLog b turn said groups → IsUnsound b said groups page rule → ⊥
+  unsound b s turn said groups page rule opens sound one_page layout log refuses = elim refuses [
+    | inl hole ↦
         let shows = shown b s turn said groups opens layout log in
-        let there = first_page s.pages (shows.count ∙ ap (λ (m : Meta). m.high) (replay_meta (untouched said) groups) ∙ none.2) in
-        let spelled : IsPageIn b said 1 None there.0 = subst (λ (o : Option Page). IsPageIn b said 1 o there.0) none.3 (shows.each 1 there.0 there.1) in
-        none.4 there.0 spelled
+        let high = ap (λ (m : Meta). m.high) shows.meta in
+        lacks_none b said (replay (untouched said) groups) s page shows (omega (arith, high, one_page.0)) layout.newest.there.legal.layout.some_pages hole.1.here
     | inr broken ↦
         let other : OpensTo b broken.0 = record {
           turn = turn;
@@ -77,7 +91,7 @@ module _ (once : SpelledOnce) (turns : (bytes : List ℕ) (t s : ℕ) (m n : Met
             shows = broken.1;
           };
         } in
-        sound_breaks_none broken.0 page rule broken.2 (subst IsSound (sym (one b broken.0 s other opens)) sound)
+        sound_names law broken.0 page rule broken.2 (subst IsSound (sym (one b broken.0 s other opens)) sound)
   ]
 
   pub not_refused : GoodIsNotRefused
@@ -94,6 +108,6 @@ module _ (once : SpelledOnce) (turns : (bytes : List ℕ) (t s : ℕ) (m n : Met
       let m : opens.said ≡ refuses.1 = saids b opens.turn refuses.0 opens.said refuses.1 opens.by.newest refuses.2.newest in
       absurd (refuses.3 (subst IsOnePage (meta_of b s opens ∙ m) one_page))
   not_refused (faults.BadGroup frame) b s opens sound one_page refuses = absurd (whole b s refuses.0 refuses.1 frame opens refuses.2.newest refuses.4)
-  not_refused (faults.Unsound page rule) b s opens sound one_page refuses = absurd (unsound b s refuses.0 refuses.1 refuses.4 page rule opens sound refuses.2 refuses.5 refuses.6)
+  not_refused (faults.Unsound page rule) b s opens sound one_page refuses = absurd (unsound b s refuses.0 refuses.1 refuses.4 page rule opens sound one_page refuses.2 refuses.5 refuses.6)
   not_refused faults.DiskFault b s opens sound one_page refuses = inl refl
   not_refused faults.NoMemory b s opens sound one_page refuses = inr refl

@@ -12,10 +12,11 @@ use Rattle.hb_frag.specs.Trees.{Tip}
 use Rattle.hb_ops.specs.declared.meta.Meta.{Meta}
 use Rattle.hb_ops.specs.Files.{FileState}
 use Rattle.hb_store.specs.Groups.{Logged, SpellAll}
-use Rattle.hb_store.specs.Replay.{untouched, replay, MayReplay}
+use Rattle.hb_store.specs.Replay.{Replayed, untouched, replay, MayReplay}
 use Rattle.hb_ops.specs.Sound.{IsSound}
 use Rattle.hb_store.specs.Opening.{HasBadGroup, OpensTo, Shows, file_size, log_bytes, place_bytes}
-use Rattle.hbpi.specs.Audit.{Names}
+use Rattle.hb_sound.specs.Names.{NamesIn}
+use Rattle.hb_sound.specs.Walks.{IsLeast}
 use Rattle.hbpi.specs.declared.restart.faults.OpenFault.{OpenFault}
 use Rattle.hbpi.specs.declared.restart.faults.OpenFault.TheVariants as faults
 use Rattle.hbpi.specs.declared.restart.layout.Layout.{Layout}
@@ -46,11 +47,17 @@ pub record HasLog (bytes : List ℕ) (turn : ℕ) (said : Meta) (groups : List L
   pub spelled : SpellAll said.k payloads groups
   pub replayed : MayReplay (untouched said) groups
 
--- The audit refuses: the page in the place of 1 is none, or the file breaks a rule.
+-- a number up to the high mark beyond the pages that the file may have, or of a page that the log doesn't touch, where
+-- the bytes in its place are none
+abbrev pub LacksPage : List ℕ → Meta → Replayed → ℕ → Type 0
+LacksPage bytes said t id = (1 ≤ id) × (id ≤ t.meta.high)
+    × ((said.pages < id) ⊎ ((t.page id ≡ None) × ((p : Page) → SpellsPage (place_bytes said id bytes) p → ⊥)))
+
+-- The audit refuses: the least page that is none, by rule 0, or the first rule that the file breaks.
 abbrev pub IsUnsound : List ℕ → Meta → List Logged → ℕ → ℕ → Type 0
 IsUnsound bytes said groups page rule =
-    ((rule ≡ 0) × (page ≡ 1) × (said.high ≡ 1) × ((replay (untouched said) groups).page 1 ≡ None) × ((p : Page) → SpellsPage (place_bytes said 1 bytes) p → ⊥))
-    ⊎ ((s : FileState) × Shows bytes said (replay (untouched said) groups) s × Names s page rule)
+    ((rule ≡ 0) × IsLeast (LacksPage bytes said (replay (untouched said) groups)) page)
+    ⊎ ((s : FileState) × Shows bytes said (replay (untouched said) groups) s × NamesIn s page rule)
 
 abbrev pub IsSmall : List ℕ → ℕ → ℕ → Type 0
 IsSmall bytes needed found = (found ≡ length bytes) × (found < needed)

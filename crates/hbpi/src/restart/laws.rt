@@ -2,6 +2,7 @@
 ghost use Rattle.hbpi.specs.Restart.{GoodIsNotRefused, IsRefusedOnce};
 
 use hb_page_codec::laws::spelling_law;
+use hb_sound::a_sound_file_breaks_no_rule;
 use hb_store::an_image_opens_to_one_file;
 use hb_super::laws::one_superblock_is_newest;
 use hb_wal::laws::an_area_is_read_in_one_way;
@@ -14,6 +15,7 @@ pub(crate) fn a_good_file_is_not_refused()
     one_superblock_is_newest();
     an_area_is_read_in_one_way();
     an_image_opens_to_one_file();
+    a_sound_file_breaks_no_rule();
 }
 
 /// Bytes are refused in one way: the tests come in one order, and each has one answer.
