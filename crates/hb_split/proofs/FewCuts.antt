@@ -1,5 +1,5 @@
 -- At most four cuts are made of a leaf.
-use Rattle.std.proofs.Common.{◌≡◌, ℕ, zero, suc, ◌+◌, ◌-◌, ◌*◌, ◌<◌, ◌≤◌, ◌⊎◌, inl, inr, if◌then◌else◌, List, [], ◌∷◌, length, filter, max, Some, sym, ap, arith, subst}
+use Rattle.std.proofs.Common.{◌≡◌, ℕ, zero, suc, ◌+◌, ◌-◌, ◌*◌, ◌<◌, ◌≤◌, inl, inr, if◌then◌else◌, List, [], ◌∷◌, length, max, Some, sym, arith, subst}
 use Rattle.std.proofs.lemmas.Bool.{cases_lt}
 use Rattle.std.proofs.lemmas.List.{length-map}
 use Rattle.std.proofs.lemmas.List.Elements.{All-filter}
@@ -105,5 +105,5 @@ is_few n page path cuts full e way ordered le c =
     let k = length page.area.lo in
     let end = at_end n k path page.frag page.area c.0 (of_page n page path full e way ordered) c.1 in
     let few = few_cuts n k (planes cuts) c.0.0 full le end.whole (records_at n k c.0.0 c.0.1 end) c.2 in
-    let same = length-map plane_of cuts in
+    let same = length-map cuts plane_of in
     omega (arith, few, same)
