@@ -6,3 +6,5 @@ pub mod Paths
 pub mod Rules
 pub mod Grammar
 pub mod Laws
+pub mod Carving
+pub mod Normal
