@@ -6,3 +6,5 @@ pub mod Clear
 pub mod Tiles
 pub mod Parts
 pub mod Direct
+pub mod Carves
+pub mod PointOrder
