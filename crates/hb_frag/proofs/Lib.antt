@@ -8,3 +8,8 @@ pub mod Parts
 pub mod Direct
 pub mod Carves
 pub mod PointOrder
+pub mod Normals
+pub mod SayingTheSame
+pub mod CarvedKinds
+pub mod CarvedParts
+pub mod CarvedPages
