@@ -9,6 +9,8 @@ pub mod Direct
 pub mod Carves
 pub mod PointOrder
 pub mod Normals
+pub mod Stretches
+pub mod OrderedLeaves
 pub mod SayingTheSame
 pub mod CarvedKinds
 pub mod CarvedParts

@@ -5,7 +5,7 @@ use Rattle.hb_frag.proofs.CarvedParts.{carving_parts}
 use Rattle.hb_frag.proofs.laws.carving_parts_a_leaf.Goals as goal
 
 pub returns-clause-parts : goal.returns-clause-parts
-returns-clause-parts c = carving_parts
+returns-clause-parts c = λ leaf area outer inner h k same meets. carving_parts leaf area outer inner h k same meets
 
 pub returns-clause-weight : goal.returns-clause-weight
 returns-clause-weight c = λ leaf area outer inner. carved_light leaf (common_area leaf area) outer inner (length leaf.lo) 0
