@@ -1,5 +1,5 @@
 -- The boxes of a carved leaf.
-use Rattle.std.proofs.Common.{◌≡◌, ◌≢◌, ℕ, zero, suc, ◌+◌, ◌-◌, ◌<◌, ◌≤◌, max, inl, inr, List, [], ◌∷◌, length, get_or, set, Some, refl, sym, ap, subst, ◌∙◌, arith}
+use Rattle.std.proofs.Common.{◌≡◌, ◌≢◌, ℕ, zero, suc, ◌+◌, ◌-◌, ◌<◌, ◌≤◌, max, min, inl, inr, List, [], ◌∷◌, length, get_or, set, Some, refl, sym, ap, subst, ◌∙◌, arith}
 use Rattle.std.specs.Prelude.{if◌then◌else◌}
 use Rattle.std.specs.List.{All, Contains}
 use Rattle.std.proofs.lemmas.Bool.{cases_lt}
@@ -7,7 +7,7 @@ use Rattle.std.proofs.lemmas.List.{ext_get_or}
 use Rattle.std.proofs.lemmas.List.Elements.{All-append, All-cons, All-contains, Contains-append_left, Contains-append_right}
 use Rattle.hb_space.specs.Boxes.{Area, IsArea, Holds, Meets, Within, Cuts, common_area, holds, side_below, side_from}
 use Rattle.hb_space.proofs.Boxes.{IsArea-common_area, Holds-common_area, Within-common_area, Holds-side_below, Holds-side_from, same_corners}
-use Rattle.hb_space.proofs.Lists.{length-zip_by, set_cases}
+use Rattle.hb_space.proofs.Lists.{length-zip_by, get_or-zip_by, set_cases}
 use Rattle.hb_frag.specs.declared.leaves.Leaf.TheVariants.{Child}
 use Rattle.hb_frag.specs.Trees.{Tree, Tip, Cut}
 use Rattle.hb_frag.specs.Leaves.{Placed, IsWellCut, first_at, leaves_of, weight_of}
@@ -215,15 +215,31 @@ module _ (leaf area : Area) (outer inner : ℕ) (h : IsArea leaf) (k : IsArea ar
         ],
       )
 
-  alone_within : weight_of (carved leaf area outer inner) ≡ 1 → (carved leaf area outer inner ≡ Tip (Child inner)) × Within leaf area
-  alone_within one = elim (alone_or_cut leaf c outer inner (length leaf.lo) 0) [
-    | inl e ↦
-        let P : Tree → Type 0 = λ t. Contains (leaves_of t leaf) new_leaf in
-        let only : record { leaf = Child inner; area = leaf } ≡ new_leaf = contains_one _ _ (subst P e whole_carves.new_child) in
-        let Q : Area → Type 0 = λ a. Within a area in
-        (e, subst Q (sym (ap (λ l. l.area) only)) (Within-common_area leaf area h k (sym same) meets).1)
+  light_is_alone : weight_of (carved leaf area outer inner) ≡ 1 → carved leaf area outer inner ≡ Tip (Child inner)
+  light_is_alone one = elim (alone_or_cut leaf c outer inner (length leaf.lo) 0) [
+    | inl e ↦ e
     | inr cuts ↦ absurd (let heavy = cuts_weigh_two (carved leaf area outer inner) cuts in omega arith)
   ]
+
+  alone_is_within : carved leaf area outer inner ≡ Tip (Child inner) → Within leaf area
+  alone_is_within e =
+      let P : Tree → Type 0 = λ t. Contains (leaves_of t leaf) new_leaf in
+      let only : record { leaf = Child inner; area = leaf } ≡ new_leaf = contains_one _ _ (subst P e whole_carves.new_child) in
+      let Q : Area → Type 0 = λ a. Within a area in
+      subst Q (sym (ap (λ l. l.area) only)) (Within-common_area leaf area h k (sym same) meets).1
+
+  within_is_alone : Within leaf area → (n axis : ℕ) → n + axis ≡ length leaf.lo → carve_from n axis leaf c outer inner ≡ Tip (Child inner)
+  within_is_alone w zero axis e = refl
+  within_is_alone w (suc n) axis e =
+      let l : axis < length leaf.lo = omega arith in
+      let ends = h.same in
+      let others = k.same in
+      let least = get_or-zip_by max leaf.lo area.lo axis (sym same) l in
+      let greatest = get_or-zip_by min leaf.hi area.hi axis (omega arith) (omega arith) in
+      let inside = w axis l in
+      let low : get_or c.lo axis 0 ≤ get_or leaf.lo axis 0 = omega (arith, least, inside.0) in
+      let high : get_or leaf.hi axis 0 ≤ get_or c.hi axis 0 = omega (arith, greatest, inside.1) in
+      rw (isnt_below _ _ low, isnt_below _ _ high) (within_is_alone w n (axis + 1) (omega arith))
 
   pub carving_parts : Carves leaf area outer inner (carved leaf area outer inner)
   carving_parts = record {
@@ -231,5 +247,11 @@ module _ (leaf area : Area) (outer inner : ℕ) (h : IsArea leaf) (k : IsArea ar
     leaves = whole_carves.leaves;
     new_child = whole_carves.new_child;
     points = point_named;
-    whole = alone_within;
+    whole = (
+      λ one. alone_is_within (light_is_alone one),
+      λ w.
+          let P : Tree → Type 0 = λ t. weight_of t ≡ 1 in
+          subst P (sym (within_is_alone w (length leaf.lo) 0 (omega arith))) (omega arith),
+    );
+    renamed = light_is_alone;
   }

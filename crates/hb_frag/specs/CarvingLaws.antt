@@ -1,5 +1,5 @@
 -- What the laws of carving speak of.
-use Rattle.std.specs.Prelude.{◌≡◌, ℕ, ◌⊎◌, if◌then◌else◌, List, All, Some}
+use Rattle.std.specs.Prelude.{◌≡◌, ◌↔◌, ℕ, ◌⊎◌, if◌then◌else◌, List, All, Some}
 use Rattle.std.specs.List.{Contains}
 use Rattle.hb_space.specs.Boxes.{Area, Holds, Within, Disjoint, common_area, holds}
 use Rattle.hb_frag.specs.declared.leaves.Leaf.TheVariants.{Child}
@@ -17,4 +17,6 @@ pub record Carves (leaf area : Area) (outer inner : ℕ) (t : Tree) : Type 0 whe
   pub leaves : All (IsCarvedLeaf leaf area outer inner) (leaves_of t leaf)
   pub new_child : Contains (leaves_of t leaf) (record { leaf = Child inner; area = common_area leaf area })
   pub points : (p : List ℕ) → Holds leaf p → (placed : Placed) × (first_at p (leaves_of t leaf) ≡ Some placed) × (placed.leaf ≡ Child (if holds area p then inner else outer))
-  pub whole : weight_of t ≡ 1 → (t ≡ Tip (Child inner)) × Within leaf area
+  -- no cut is made exactly where the leaf's box lies within the area
+  pub whole : (weight_of t ≡ 1) ↔ Within leaf area
+  pub renamed : weight_of t ≡ 1 → t ≡ Tip (Child inner)
