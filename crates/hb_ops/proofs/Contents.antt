@@ -13,7 +13,7 @@ use Rattle.hb_frag.specs.declared.pages.Page.{Page}
 use Rattle.hb_frag.specs.declared.pages.Page.TheVariants.{Live}
 use Rattle.hb_frag.specs.Leaves.{WellCut, leaf_at, leaves, leaves_of, records_of}
 use Rattle.hb_frag.specs.Rules.{AreInOrder, IsInOrder}
-use Rattle.hb_ops.specs.declared.meta.Meta.{Meta}
+use Rattle.hb_layout.specs.declared.meta.Meta.{Meta}
 use Rattle.hb_ops.specs.declared.operations.Op.TheVariants.{Put, Del}
 use Rattle.hb_ops.specs.Files.{FileState, file_records, live_page, page_of, page_records}
 use Rattle.hb_ops.specs.Operations.{FitsDel, FitsPut, IsAllowedOn, change_of, effect_of, joined, nth_read, on_records, page_with, put_page, del_page, with_page, with_pages, without}

@@ -9,7 +9,7 @@ use Rattle.hb_frag.specs.declared.pages.LivePage.{LivePage}
 use Rattle.hb_frag.specs.declared.pages.Page.{Page}
 use Rattle.hb_frag.specs.declared.pages.Page.TheVariants.{Live, Free}
 use Rattle.hb_frag.specs.Leaves.{leaves_of, siblings_of}
-use Rattle.hb_ops.specs.declared.meta.Meta.{Meta}
+use Rattle.hb_layout.specs.declared.meta.Meta.{Meta}
 use Rattle.hb_ops.specs.declared.operations.Op.TheVariants.{Put, Del}
 use Rattle.hb_ops.specs.Files.{FileState, if_live, live_page, page_of}
 use Rattle.hb_ops.specs.Operations.{change_of, joined, nth_read, page_with, with_page, with_pages, without}

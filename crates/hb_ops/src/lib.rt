@@ -17,7 +17,6 @@ mod edits;
 mod laws;
 mod local;
 mod looking;
-mod meta;
 mod operations;
 #[cfg(test)]
 mod tests;
@@ -30,5 +29,5 @@ pub use laws::{
 };
 pub use local::local_rule;
 pub use looking::{Standing, has_room, look_at};
-pub use meta::Meta;
+pub use hb_layout::Meta;
 pub use operations::Op;

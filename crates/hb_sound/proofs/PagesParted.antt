@@ -11,7 +11,7 @@ use Rattle.hb_frag.specs.Leaves.{Placed, leaves, leaves_of, weight_of}
 use Rattle.hb_frag.specs.Laws.{IsStretch}
 use Rattle.hb_frag.specs.Paths.{part_at, with_part}
 use Rattle.hb_frag.specs.Rules.{BelongsAt, IsInOrder, IsSiblingTip}
-use Rattle.hb_ops.specs.declared.meta.Meta.{Meta}
+use Rattle.hb_layout.specs.declared.meta.Meta.{Meta}
 use Rattle.hb_ops.specs.Sound.{FitsFile}
 use Rattle.hb_sound.specs.Extractions.{FitsPart, fresh_page, source_page}
 use Rattle.hb_sound.specs.Splitting.{Extraction, cut_through}

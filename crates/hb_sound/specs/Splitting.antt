@@ -7,7 +7,7 @@ use Rattle.hb_frag.specs.declared.paths.Side.{Side}
 use Rattle.hb_frag.specs.declared.paths.Side.TheVariants.{Left, Right}
 use Rattle.hb_frag.specs.Leaves.{records_of}
 use Rattle.hb_frag.specs.Trees.{Tree, Tip, Cut}
-use Rattle.hb_ops.specs.declared.meta.Meta.{Meta}
+use Rattle.hb_layout.specs.declared.meta.Meta.{Meta}
 
 -- a plane through a records leaf, and the side that goes on
 pub record LeafCut : Type 0 where

@@ -3,7 +3,7 @@ use Rattle.std.proofs.Common.{◌≡◌, ◌⊎◌, inl, inr, ℕ, ◌<◌, ◌^
 use Rattle.std.proofs.lemmas.List.Elements.{All-head, All-tail}
 use Rattle.hb_outside.specs.Numbers.{big_endian}
 use Rattle.hb_disk.specs.Calls.{open_gate}
-use Rattle.hb_ops.specs.declared.meta.Meta.{Meta}
+use Rattle.hb_layout.specs.declared.meta.Meta.{Meta}
 use Rattle.hb_wal.specs.Frames.{frames, frame_bytes, IsPayload, IsEnd, IsBadFrame}
 use Rattle.hb_wal.specs.Reading.{BeginsFrame}
 use Rattle.hb_store.specs.FieldLaws.{length_number}

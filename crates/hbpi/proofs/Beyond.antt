@@ -5,9 +5,10 @@ use Rattle.hb_disk.specs.Calls.{Becomes, OnlyReads, Syncs, Ticks, Writes}
 use Rattle.hb_disk.specs.RunLaws.{at_value, Becomes-read, Becomes-torn, Becomes-torn_sync, Becomes-torn_write, Becomes-weaker, OnlyReads-none}
 use Rattle.hb_disk.specs.TornLaws.{Torn-itself, Torn-wider}
 use Rattle.hb_frag.specs.declared.pages.Page.{Page}
-use Rattle.hb_super.specs.Superblocks.{IsNewest, place_of}
-use Rattle.hb_ops.specs.declared.meta.Meta.{Meta}
-use Rattle.hb_store.specs.Opening.{file_size, log_place, page_place}
+use Rattle.hb_layout.specs.Offsets.{slot_offset}
+use Rattle.hb_super.specs.Superblocks.{IsNewest}
+use Rattle.hb_layout.specs.declared.meta.Meta.{Meta}
+use Rattle.hb_layout.specs.Offsets.{file_size, log_start, page_offset}
 use Rattle.hbpi.specs.Beyond.{KeepsBeyond, KeepsBeyondFile}
 use Rattle.hbpi.specs.Looking.{IsFoundIn}
 
@@ -43,21 +44,21 @@ by_bit zero log rest low = omega arith
 by_bit (suc zero) log rest low = omega arith
 by_bit (suc (suc n)) log rest low = absurd (omega (arith, low))
 
-pub log_within : (turn : ℕ) (meta : Meta) → log_place turn meta + meta.log ≤ file_size meta
+pub log_within : (turn : ℕ) (meta : Meta) → log_start turn meta + meta.log ≤ file_size meta
 log_within turn meta = by_bit (turn % 2) meta.log (4096 * meta.pages) (omega arith)
 
-pub beyond_log : (turn at : ℕ) (meta : Meta) (old new : DiskModel) → at ≡ log_place turn meta → Becomes (Torn at meta.log) old new → KeepsBeyond (file_size meta) old new
+pub beyond_log : (turn at : ℕ) (meta : Meta) (old new : DiskModel) → at ≡ log_start turn meta → Becomes (Torn at meta.log) old new → KeepsBeyond (file_size meta) old new
 beyond_log turn at meta old new is run =
     beyond_wider at meta.log (file_size meta) old new (let within = log_within turn meta in omega (arith, is, within)) run
 
-pub beyond_page : (meta : Meta) (old new : DiskModel) → 1 ≤ meta.pages → Becomes (Torn (page_place meta 1) 4096) old new → KeepsBeyond (file_size meta) old new
-beyond_page meta old new some run = beyond_wider (page_place meta 1) 4096 (file_size meta) old new (omega (arith, some)) run
+pub beyond_page : (meta : Meta) (old new : DiskModel) → 1 ≤ meta.pages → Becomes (Torn (page_offset meta 1) 4096) old new → KeepsBeyond (file_size meta) old new
+beyond_page meta old new some run = beyond_wider (page_offset meta 1) 4096 (file_size meta) old new (omega (arith, some)) run
 
-pub beyond_super : (turn : ℕ) (meta : Meta) (old new : DiskModel) → Becomes (Torn (place_of turn) 41) old new → KeepsBeyond (file_size meta) old new
-beyond_super turn meta old new run = beyond_wider (place_of turn) 41 (file_size meta) old new (let low : turn % 2 ≤ 1 = omega arith in omega (arith, low)) run
+pub beyond_super : (turn : ℕ) (meta : Meta) (old new : DiskModel) → Becomes (Torn (slot_offset turn) 41) old new → KeepsBeyond (file_size meta) old new
+beyond_super turn meta old new run = beyond_wider (slot_offset turn) 41 (file_size meta) old new (let low : turn % 2 ≤ 1 = omega arith in omega (arith, low)) run
 
-pub beyond_body : (turn : ℕ) (meta : Meta) (old new : DiskModel) → Becomes (Torn (place_of turn + 1) 40) old new → KeepsBeyond (file_size meta) old new
-beyond_body turn meta old new run = beyond_wider (place_of turn + 1) 40 (file_size meta) old new (let low : turn % 2 ≤ 1 = omega arith in omega (arith, low)) run
+pub beyond_body : (turn : ℕ) (meta : Meta) (old new : DiskModel) → Becomes (Torn (slot_offset turn + 1) 40) old new → KeepsBeyond (file_size meta) old new
+beyond_body turn meta old new run = beyond_wider (slot_offset turn + 1) 40 (file_size meta) old new (let low : turn % 2 ≤ 1 = omega arith in omega (arith, low)) run
 
 -- A run behind the reads that found the file: it leaves alone what lies behind the file by the newest superblock.
 pub found_said : (one : (bytes : List ℕ) (t s : ℕ) (m n : Meta) → IsNewest bytes t m → IsNewest bytes s n → m ≡ n) (told : Option (List ℕ)) (turn : ℕ) (meta : Meta) (touched : Option Page) (count : ℕ)

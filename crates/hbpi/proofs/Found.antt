@@ -7,7 +7,7 @@ use Rattle.hb_frag.specs.declared.pages.LivePage.{LivePage}
 use Rattle.hb_frag.specs.declared.pages.Page.{Page}
 use Rattle.hb_frag.specs.Grammar.{HasSpelling, SpellsPage}
 use Rattle.hb_super.specs.Superblocks.{IsNewest}
-use Rattle.hb_ops.specs.declared.meta.Meta.{Meta}
+use Rattle.hb_layout.specs.declared.meta.Meta.{Meta}
 use Rattle.hb_ops.specs.declared.operations.Op.{Op}
 use Rattle.hb_ops.specs.declared.operations.Op.TheVariants.{Put, Del}
 use Rattle.hb_ops.specs.Files.{page_of}
@@ -16,7 +16,8 @@ use Rattle.hb_disk.specs.RunLaws.{if_value, at_value}
 use Rattle.hb_ops.specs.Operations.{change_of}
 use Rattle.hb_store.specs.Groups.{Logged}
 use Rattle.hb_store.specs.Replay.{Replayed, untouched, replay, after_group}
-use Rattle.hb_store.specs.Opening.{Shows, IsPageIn, file_size, page_place, place_bytes}
+use Rattle.hb_layout.specs.Offsets.{file_size, page_offset}
+use Rattle.hb_store.specs.Opening.{Shows, IsPageIn, place_bytes}
 use Rattle.hb_store.specs.Stops.{ReadsLog}
 use Rattle.hb_store.specs.declared.touched.Touched.{Touched}
 use Rattle.hbpi.specs.OnePage.{lone}
@@ -62,7 +63,7 @@ replay_keeps t [] = refl
 replay_keeps t (g ∷ rest) = replay_keeps (after_group t g) rest ∙ change_keeps g.op t.meta _ _ _
 
 -- what a read of page 1's place gives
-pub place_read : (told : Option (List ℕ)) (into : List ℕ) (meta : Meta) (at : ℕ) → at ≡ page_place meta 1 → length into ≡ PAGE
+pub place_read : (told : Option (List ℕ)) (into : List ℕ) (meta : Meta) (at : ℕ) → at ≡ page_offset meta 1 → length into ≡ PAGE
     → IfSome told (λ b. into ≡ take (length into) (drop at b)) → IfSome told (λ b. into ≡ place_bytes meta 1 b)
 place_read None into meta at same long reads = tt
 place_read (Some b) into meta at same long reads =

@@ -12,7 +12,7 @@ use Rattle.std.proofs.lemmas.List.{append-nil}
 use Rattle.hb_frag.specs.Leaves.{records_of, Placed, WellCut, IsWellCut, leaves, leaves_of, siblings, siblings_of}
 use Rattle.hb_frag.specs.Rules.{BelongsAt, Fits, IsFilledRight, IsSiblingTip}
 use Rattle.hb_frag.specs.Trees.{Tree, Tip, Cut}
-use Rattle.hb_ops.specs.declared.meta.Meta.{Meta}
+use Rattle.hb_layout.specs.declared.meta.Meta.{Meta}
 use Rattle.hb_ops.specs.LocalRule.{BreaksFirst}
 use Rattle.hbpi.specs.Audit.{Names, KeepsLocally}
 use Rattle.hb_ops.specs.Files.{page_records, file_records, FileState, if_live, page_at, live_page}

@@ -4,7 +4,7 @@ use Rattle.hb_wal.specs.FrameLaws.{ReadsOneWay}
 use Rattle.hb_super.specs.Superblocks.{IsNewest}
 use Rattle.hb_frag.specs.declared.pages.LivePage.{LivePage}
 use Rattle.hb_frag.specs.declared.pages.Page.{Page}
-use Rattle.hb_ops.specs.declared.meta.Meta.{Meta}
+use Rattle.hb_layout.specs.declared.meta.Meta.{Meta}
 use Rattle.hb_ops.specs.declared.operations.Op.{Op}
 use Rattle.hb_ops.specs.declared.operations.Op.TheVariants.{Put, Del}
 use Rattle.hb_ops.specs.Files.{FileState, page_at}
@@ -13,7 +13,8 @@ use Rattle.hb_ops.specs.Sound.{IsSound}
 use Rattle.hb_store.specs.Groups.{Logged, SpellAll}
 use Rattle.hb_store.specs.GroupLaws.{SpelledOnce, same_spelled}
 use Rattle.hb_store.specs.ImageLaws.{OpensToOne, OpensWhole}
-use Rattle.hb_store.specs.Opening.{OpensBy, OpensTo, IsPageIn, Shows, file_size, log_bytes}
+use Rattle.hb_layout.specs.Offsets.{file_size}
+use Rattle.hb_store.specs.Opening.{OpensBy, OpensTo, IsPageIn, Shows, log_bytes}
 use Rattle.hb_store.specs.Replay.{Replayed, untouched, replay, after_group}
 use Rattle.hbpi.specs.Restart.{IsOnePage, IsUnsound, GoodIsNotRefused, HasLayout, HasLog}
 use Rattle.hbpi.proofs.Lone.{sound_breaks_none}

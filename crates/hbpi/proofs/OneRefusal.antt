@@ -5,13 +5,14 @@ use Rattle.hb_super.specs.Superblocks.{IsNewest, HasNone}
 use Rattle.hb_frag.specs.declared.pages.LivePage.{LivePage}
 use Rattle.hb_frag.specs.declared.pages.Page.{Page}
 use Rattle.hb_frag.specs.declared.pages.Page.TheVariants.{Live}
-use Rattle.hb_ops.specs.declared.meta.Meta.{Meta}
+use Rattle.hb_layout.specs.declared.meta.Meta.{Meta}
 use Rattle.hb_ops.specs.Files.{FileState, page_of, page_at, live_page}
 use Rattle.hb_ops.specs.LocalRule.{BreaksFirst}
 use Rattle.hb_store.specs.Groups.{Logged, SpellAll}
 use Rattle.hb_store.specs.GroupLaws.{SpelledOnce, same_spelled}
 use Rattle.hb_store.specs.ImageLaws.{OpensToOne}
-use Rattle.hb_store.specs.Opening.{HasBadGroup, OpensTo, IsPageIn, Shows, file_size, log_bytes}
+use Rattle.hb_layout.specs.Offsets.{file_size}
+use Rattle.hb_store.specs.Opening.{HasBadGroup, OpensTo, IsPageIn, Shows, log_bytes}
 use Rattle.hb_store.specs.Replay.{untouched, replay}
 use Rattle.hbpi.specs.Audit.{Names, BreaksLocally, KeepsLocally}
 use Rattle.hbpi.specs.Restart.{Refuses, IsUnwritten, IsOnePage, IsSmall, IsUnsound, HasLayout, HasLog}

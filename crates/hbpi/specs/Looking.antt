@@ -3,12 +3,13 @@ use Rattle.std.specs.Prelude.{◌≡◌, ◌⊎◌, ℕ, ◌≤◌, List, length
 use Rattle.hb_frag.specs.declared.pages.Page.{Page}
 use Rattle.hb_frag.specs.Grammar.{SpellsPage}
 use Rattle.hb_super.specs.Superblocks.{IsLegal, HasNone}
-use Rattle.hb_ops.specs.declared.meta.Meta.{Meta}
+use Rattle.hb_layout.specs.declared.meta.Meta.{Meta}
 use Rattle.hb_ops.specs.Files.{file_records}
 use Rattle.hb_ops.specs.Sound.{IsSound}
 use Rattle.hb_store.specs.Groups.{Logged}
 use Rattle.hb_store.specs.Replay.{untouched, replay}
-use Rattle.hb_store.specs.Opening.{HasBadGroup, IsPageIn, OpensBy, file_size, place_bytes}
+use Rattle.hb_layout.specs.Offsets.{file_size}
+use Rattle.hb_store.specs.Opening.{HasBadGroup, IsPageIn, OpensBy, place_bytes}
 use Rattle.hbpi.specs.Audit.{Names}
 use Rattle.hbpi.specs.OnePage.{lone}
 use Rattle.hbpi.specs.declared.restart.faults.OpenFault.{OpenFault}

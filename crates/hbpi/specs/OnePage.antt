@@ -6,7 +6,7 @@ use Rattle.hb_frag.specs.declared.leaves.Leaf.TheVariants.{Records, Child, Sibli
 use Rattle.hb_frag.specs.declared.pages.LivePage.{LivePage}
 use Rattle.hb_frag.specs.declared.pages.Page.{Page}
 use Rattle.hb_frag.specs.Leaves.{leaves}
-use Rattle.hb_ops.specs.declared.meta.Meta.{Meta}
+use Rattle.hb_layout.specs.declared.meta.Meta.{Meta}
 use Rattle.hb_ops.specs.Files.{FileState}
 use Rattle.hb_ops.specs.LocalRule.{BreaksFirst}
 use Rattle.hb_ops.specs.Sound.{FitsFile}

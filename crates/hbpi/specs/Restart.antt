@@ -9,12 +9,13 @@ use Rattle.hb_frag.specs.declared.pages.Page.{Page}
 use Rattle.hb_frag.specs.declared.pages.Page.TheVariants.{Live}
 use Rattle.hb_frag.specs.Grammar.{SpellsPage}
 use Rattle.hb_frag.specs.Trees.{Tip}
-use Rattle.hb_ops.specs.declared.meta.Meta.{Meta}
+use Rattle.hb_layout.specs.declared.meta.Meta.{Meta}
 use Rattle.hb_ops.specs.Files.{FileState}
 use Rattle.hb_store.specs.Groups.{Logged, SpellAll}
 use Rattle.hb_store.specs.Replay.{untouched, replay, MayReplay}
 use Rattle.hb_ops.specs.Sound.{IsSound}
-use Rattle.hb_store.specs.Opening.{HasBadGroup, OpensTo, Shows, file_size, log_bytes, place_bytes}
+use Rattle.hb_layout.specs.Offsets.{file_size}
+use Rattle.hb_store.specs.Opening.{HasBadGroup, OpensTo, Shows, log_bytes, place_bytes}
 use Rattle.hbpi.specs.Audit.{Names}
 use Rattle.hbpi.specs.declared.restart.faults.OpenFault.{OpenFault}
 use Rattle.hbpi.specs.declared.restart.faults.OpenFault.TheVariants as faults

@@ -4,7 +4,7 @@ ghost use Rattle.hb_frag.specs.declared.pages.Page.{Page as Content};
 ghost use Rattle.hb_frag.specs.declared.pages.Page.TheVariants.{Live};
 ghost use Rattle.hb_frag.specs.Grammar.{HasSpelling};
 ghost use Rattle.hb_frag.specs.Leaves.{leaves, leaf_weight, records_of, weight_of};
-ghost use Rattle.hb_super.specs.Superblocks.{IsLayout};
+ghost use Rattle.hb_layout.specs.Limits.{IsLayout};
 ghost use Rattle.hb_ops.specs.Files.{FileState, file_records};
 ghost use Rattle.hb_ops.specs.Sound.{IsRooted, IsSound};
 ghost use Rattle.hbpi.specs.Audit.{Names};

@@ -6,11 +6,13 @@ ghost use Rattle.std.specs.BTreeMap.{get};
 ghost use Rattle.hb_outside.specs.Streams.{Rose};
 ghost use Rattle.hb_disk.specs.Calls.{OnlyReads};
 ghost use Rattle.hb_frag.specs.Grammar.{HasSpelling, SpellsPage};
-ghost use Rattle.hb_super.specs.Superblocks.{IsLayout, IsLegal, IsNewest};
+ghost use Rattle.hb_layout.specs.Limits.{IsLayout};
+ghost use Rattle.hb_super.specs.Superblocks.{IsLegal, IsNewest};
 ghost use Rattle.hb_ops.specs.Files.{file_records};
 ghost use Rattle.hb_ops.specs.Sound.{IsSound};
 ghost use Rattle.hbpi.specs.OnePage.{lone};
-ghost use Rattle.hb_store.specs.Opening.{file_size as bytes_of, place_bytes};
+ghost use Rattle.hb_layout.specs.Offsets.{file_size as bytes_of};
+ghost use Rattle.hb_store.specs.Opening.{place_bytes};
 ghost use Rattle.hb_store.specs.Stops.{ReadsLog, IsTouched};
 ghost use Rattle.hbpi.specs.Looking.{IsFoundIn, IsWhole, IsAudited, FindsNone, SpellsNone, StopsThere, LogRefuses, PageRefuses, AuditRefuses, IsNamed, NamesNoSize};
 ghost use Rattle.hbpi.specs.Restart.{Refuses, IsShut, IsOnePage};
@@ -24,7 +26,8 @@ use hb_ops::Meta;
 use hb_outside::Failed;
 use hb_page_codec::{PageError, decode};
 use hb_space::form::PAGE;
-use hb_store::{LogStop, Touched, page_place, read_log};
+use hb_layout::page_offset;
+use hb_store::{LogStop, Touched, read_log};
 use hb_super::{SuperStop, read_super};
 use std::alloc::Global;
 
@@ -121,7 +124,7 @@ fn read_place<D: Device>(disk: &mut D, meta: &Meta, into: &mut [u8; PAGE]) -> Re
     ensures no_fault { OnOk result ((D.model disk.new).read_faults ≡ (D.model disk.old).read_faults) }
     ensures only_reads { OnlyReads (D.model disk.old) (D.model disk.new) }
 {
-    disk.read(page_place(meta, 1), into)
+    disk.read(page_offset(meta, 1), into)
 }
 
 /// The page in the place of page 1.

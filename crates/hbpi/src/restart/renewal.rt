@@ -11,8 +11,9 @@ ghost use Rattle.hb_frag.specs.declared.pages.Page.{Page as Content};
 ghost use Rattle.hb_frag.specs.Grammar.{HasSpelling, SpellsPage};
 ghost use Rattle.hb_super.specs.Superblocks.{IsLegal, next_turn};
 ghost use Rattle.hb_ops.specs.Files.{FileState};
-ghost use Rattle.hb_store.specs.Opening as opening;
-ghost use Rattle.hb_store.specs.Opening.{OpensTo, IsEven, file_size, place_bytes};
+ghost use Rattle.hb_layout.specs.Offsets as offsets;
+ghost use Rattle.hb_layout.specs.Offsets.{file_size};
+ghost use Rattle.hb_store.specs.Opening.{OpensTo, IsEven, place_bytes};
 ghost use Rattle.hb_store.specs.Keeps.{IsFresh};
 ghost use Rattle.hb_store.specs.Stops.{IsTouched};
 ghost use Rattle.hbpi.specs.Beyond.{KeepsBeyond};
@@ -27,7 +28,8 @@ use hb_ops::Meta;
 use hb_outside::Failed;
 use hb_page_codec::encode;
 use hb_space::form::PAGE;
-use hb_store::{Touched, an_image_opens_to_one_file, log_place, page_place};
+use hb_layout::{log_start, page_offset};
+use hb_store::{Touched, an_image_opens_to_one_file};
 use hb_super::{clear_hidden, write_super};
 use hb_wal::zero_area;
 
@@ -45,13 +47,13 @@ fn write_page<D: Device>(disk: &mut D, meta: &Meta, page: &Page) -> Result<(), F
     requires some { 1 ≤ meta.now.pages }
     requires spelling { HasSpelling page.now }
     ensures there { OnOk result ((b : List ℕ) → (D.model disk.new).told ≡ Some b → SpellsPage (place_bytes meta.now 1 b) page.now) }
-    ensures place { Becomes (Torn (opening.page_place meta.now 1) PAGE) (D.model disk.old) (D.model disk.new) }
+    ensures place { Becomes (Torn (offsets.page_offset meta.now 1) PAGE) (D.model disk.old) (D.model disk.new) }
     ensures ticks { Ticks result (D.model disk.old) (D.model disk.new) }
     ensures faults { WriteFaults result (D.model disk.old) (D.model disk.new) }
 {
     let mut bytes = [0; PAGE];
     encode(page, &mut bytes);
-    disk.write(page_place(meta, 1), &bytes)
+    disk.write(page_offset(meta, 1), &bytes)
 }
 
 /// Writes the page that the log touches to its place. At most one device call.
@@ -85,7 +87,7 @@ fn make_room<D: Device>(disk: &mut D, turn: u8, meta: &Meta) -> Result<(), DiskF
 {
     let next = turn_after(turn);
     disk.sync()?;
-    zero_area(disk, log_place(next, meta), meta.log)?;
+    zero_area(disk, log_start(next, meta), meta.log)?;
     clear_hidden(disk, next, meta)
 }
 

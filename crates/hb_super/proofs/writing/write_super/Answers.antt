@@ -2,7 +2,8 @@ use Rattle.std.proofs.Common.{◌≡◌, ℕ, ◌+◌, List, [], ◌∷◌, Some
 use Rattle.hb_disk.specs.Model.{overwritten, Torn}
 use Rattle.hb_disk.specs.Calls.{Leaves, Writes, Becomes, FrameOrNot, open_gate}
 use Rattle.hb_disk.specs.RunLaws.{if_value, of_value}
-use Rattle.hb_super.specs.Superblocks.{IsNewest, body_bytes, place_of}
+use Rattle.hb_layout.specs.Offsets.{slot_offset}
+use Rattle.hb_super.specs.Superblocks.{IsNewest, body_bytes}
 use Rattle.hb_super.specs.Moments.{WriteLeaves}
 use Rattle.hb_super.proofs.Writes.{run_one, run_two, run_all, gate_closed, new_told, place_one, place_two, place_all, newest_written, still_tells}
 use Rattle.hb_super.proofs.writing.write_super.Goals as goal
@@ -61,7 +62,7 @@ returns-in_err-write_behind_gate-clause-moments g c = λ old said next synced.
     c.sync.result two c.sync.ensures.syncs c.sync.ensures.ticks new
     (subst (λ (at : ℕ). Leaves two new (λ x. (e : List ℕ) × two.Image e × FrameOrNot at (body_bytes c.args.turn c.args.meta.now) e x)) c.place_at-place.ensures
     (subst (λ (body : List ℕ). Leaves two new (λ x. (e : List ℕ) × two.Image e × FrameOrNot c.place_at-place.result body e x)) c.body_of-body.ensures
-    (c.write_behind_gate.ensures.moments (still_tells (place_of c.args.turn) 41 d two b told (place_two d (g.met.D.Device.is_disk c.args.disk.now) c.requires.room c.args.turn c.args.meta.now c.requires.legal
+    (c.write_behind_gate.ensures.moments (still_tells (slot_offset c.args.turn) 41 d two b told (place_two d (g.met.D.Device.is_disk c.args.disk.now) c.requires.room c.args.turn c.args.meta.now c.requires.legal
     c.write.result one (g.met.D.Device.is_disk c.write.new.self) (subst (λ (at : ℕ). Writes at (0 ∷ []) c.write.result d one) c.place_at-place.ensures c.write.ensures.writes) c.write.ensures.ticks
     c.sync.result two c.sync.ensures.syncs c.sync.ensures.ticks))))))
 
@@ -89,7 +90,7 @@ returns-clause-moments g c = λ old said next synced.
     c.sync.result two c.sync.ensures.syncs c.sync.ensures.ticks new
     (subst (λ (at : ℕ). Leaves two new (λ x. (e : List ℕ) × two.Image e × FrameOrNot at (body_bytes c.args.turn c.args.meta.now) e x)) c.place_at-place.ensures
     (subst (λ (body : List ℕ). Leaves two new (λ x. (e : List ℕ) × two.Image e × FrameOrNot c.place_at-place.result body e x)) c.body_of-body.ensures
-    (c.write_behind_gate.ensures.moments (still_tells (place_of c.args.turn) 41 d two b told (place_two d (g.met.D.Device.is_disk c.args.disk.now) c.requires.room c.args.turn c.args.meta.now c.requires.legal
+    (c.write_behind_gate.ensures.moments (still_tells (slot_offset c.args.turn) 41 d two b told (place_two d (g.met.D.Device.is_disk c.args.disk.now) c.requires.room c.args.turn c.args.meta.now c.requires.legal
     c.write.result one (g.met.D.Device.is_disk c.write.new.self) (subst (λ (at : ℕ). Writes at (0 ∷ []) c.write.result d one) c.place_at-place.ensures c.write.ensures.writes) c.write.ensures.ticks
     c.sync.result two c.sync.ensures.syncs c.sync.ensures.ticks))))))
 
@@ -111,7 +112,7 @@ returns-clause-written g c =
     let one = g.D.Device.model c.write.new.self in
     let two = g.D.Device.model c.sync.new.self in
     let new = g.D.Device.model c.write_behind_gate.new.disk in
-    if_value d.told (λ b. new.told ≡ Some (overwritten b (place_of c.args.turn) (open_gate ∷ body_bytes c.args.turn c.args.meta.now))) (λ b told.
+    if_value d.told (λ b. new.told ≡ Some (overwritten b (slot_offset c.args.turn) (open_gate ∷ body_bytes c.args.turn c.args.meta.now))) (λ b told.
     new_told d (g.met.D.Device.is_disk c.args.disk.now) c.requires.room c.args.turn c.args.meta.now c.requires.legal
     c.write.result c.in_ok-write.field-0 c.in_ok-write.was one (subst (λ (at : ℕ). Writes at (0 ∷ []) c.write.result d one) c.place_at-place.ensures c.write.ensures.writes)
     c.sync.result c.in_ok-sync.field-0 c.in_ok-sync.was two c.sync.ensures.syncs b told new
@@ -135,5 +136,5 @@ returns-clause-newest g c = λ old said next.
     c.sync.result two c.sync.ensures.syncs c.sync.ensures.ticks new
     (subst (λ (at : ℕ). Becomes (Torn at (1 + length (body_bytes c.args.turn c.args.meta.now))) two new) c.place_at-place.ensures
     (subst (λ (body : List ℕ). Becomes (Torn c.place_at-place.result (1 + length body)) two new) c.body_of-body.ensures c.write_behind_gate.ensures.place)) in
-    of_value new.told (λ e. IsNewest e c.args.turn c.args.meta.now) (overwritten b (place_of c.args.turn) (open_gate ∷ body_bytes c.args.turn c.args.meta.now)) now
+    of_value new.told (λ e. IsNewest e c.args.turn c.args.meta.now) (overwritten b (slot_offset c.args.turn) (open_gate ∷ body_bytes c.args.turn c.args.meta.now)) now
     (newest_written d (g.met.D.Device.is_disk c.args.disk.now) c.requires.room c.args.turn c.args.meta.now c.requires.legal old said next b told newest new run now))

@@ -12,7 +12,7 @@ use Rattle.hbpi.proofs.Made.{no_error}
 use Rattle.hbpi.proofs.Recovered.{recovered_even, recovered_time, recovered_fresh, recovered_opened, recovered_meta, recovered_late}
 use Rattle.hbpi.specs.Beyond.{KeepsBeyondFile}
 use Rattle.hb_super.specs.Superblocks.{IsNewest}
-use Rattle.hb_ops.specs.declared.meta.Meta.{Meta}
+use Rattle.hb_layout.specs.declared.meta.Meta.{Meta}
 use Rattle.hb_disk.specs.RunLaws.{if_value}
 use Rattle.hbpi.proofs.Beyond.{beyond_found, beyond_looked, found_said}
 use Rattle.hbpi.proofs.restart.recovery.recover.Goals as goal

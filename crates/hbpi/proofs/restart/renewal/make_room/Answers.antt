@@ -7,7 +7,7 @@ use Rattle.hbpi.specs.Renewing.{StillOpens, IsPlaced, IsReadyFor}
 use Rattle.hbpi.proofs.Renewed.{zeroed_moments, zeroed_ready, cleared_moments, cleared_ready}
 use Rattle.hbpi.proofs.Made.{on_ok_three}
 use Rattle.hbpi.proofs.RunSteps.{on_ok_given}
-use Rattle.hb_store.specs.Opening.{file_size}
+use Rattle.hb_layout.specs.Offsets.{file_size}
 use Rattle.hbpi.proofs.Beyond.{beyond_body, beyond_log, beyond_sync, beyond_then}
 use Rattle.hbpi.proofs.restart.renewal.make_room.Goals as goal
 
@@ -16,20 +16,20 @@ returns-in_err-zero_area-clause-moments g c = λ touched page placed.
     zeroed_moments c.args.turn c.turn_after-next.result c.args.meta.now c.requires.legal.turn_fits c.turn_after-next.ensures touched page c.sync.result c.zero_area.result
     (g.D.Device.model c.args.disk.now) (g.D.Device.model c.sync.new.self) (g.D.Device.model c.zero_area.new.disk)
     (g.met.D.Device.is_disk c.args.disk.now) (g.met.D.Device.is_disk c.sync.new.self) (g.met.D.Device.is_disk c.zero_area.new.disk)
-    placed c.sync.ensures.syncs c.sync.ensures.ticks c.log_place.result c.log_place.ensures c.zero_area.ensures.moments c.zero_area.ensures.place
+    placed c.sync.ensures.syncs c.sync.ensures.ticks c.log_start.result c.log_start.ensures c.zero_area.ensures.moments c.zero_area.ensures.place
 
 pub returns-clause-moments : goal.returns-clause-moments
 returns-clause-moments g c = λ touched page placed.
     let zeroed = zeroed_ready c.args.turn c.turn_after-next.result c.args.meta.now c.requires.legal.turn_fits c.turn_after-next.ensures touched page c.sync.result c.zero_area.result
     (g.D.Device.model c.args.disk.now) (g.D.Device.model c.sync.new.self) (g.D.Device.model c.zero_area.new.disk)
     (g.met.D.Device.is_disk c.args.disk.now) (g.met.D.Device.is_disk c.sync.new.self) (g.met.D.Device.is_disk c.zero_area.new.disk)
-    placed c.sync.ensures.syncs c.sync.ensures.ticks c.log_place.result c.log_place.ensures c.zero_area.ensures.moments c.zero_area.ensures.place
+    placed c.sync.ensures.syncs c.sync.ensures.ticks c.log_start.result c.log_start.ensures c.zero_area.ensures.moments c.zero_area.ensures.place
     (omega (arith, c.requires.room, c.sync.ensures.ticks.size, c.zero_area.ensures.place.size)) c.in_ok-zero_area.ensures.durable c.in_ok-zero_area.ensures.zeroed in
     Leaves-then (g.D.Device.model c.args.disk.now) (g.D.Device.model c.zero_area.new.disk) (g.D.Device.model c.clear_hidden.new.disk) (StillOpens c.args.turn c.args.meta.now touched page)
     (zeroed_moments c.args.turn c.turn_after-next.result c.args.meta.now c.requires.legal.turn_fits c.turn_after-next.ensures touched page c.sync.result c.zero_area.result
     (g.D.Device.model c.args.disk.now) (g.D.Device.model c.sync.new.self) (g.D.Device.model c.zero_area.new.disk)
     (g.met.D.Device.is_disk c.args.disk.now) (g.met.D.Device.is_disk c.sync.new.self) (g.met.D.Device.is_disk c.zero_area.new.disk)
-    placed c.sync.ensures.syncs c.sync.ensures.ticks c.log_place.result c.log_place.ensures c.zero_area.ensures.moments c.zero_area.ensures.place)
+    placed c.sync.ensures.syncs c.sync.ensures.ticks c.log_start.result c.log_start.ensures c.zero_area.ensures.moments c.zero_area.ensures.place)
     (cleared_moments c.args.turn c.turn_after-next.result c.args.meta.now c.requires.legal.turn_fits c.turn_after-next.ensures touched page
     (g.D.Device.model c.zero_area.new.disk) (g.D.Device.model c.clear_hidden.new.disk) (g.met.D.Device.is_disk c.zero_area.new.disk) (g.met.D.Device.is_disk c.clear_hidden.new.disk)
     zeroed c.clear_hidden.ensures.place (c.clear_hidden.ensures.moments c.args.turn c.args.meta.now c.turn_after-next.ensures zeroed.placed.here.places))
@@ -48,7 +48,7 @@ returns-clause-ready g c =
     let zeroed = zeroed_ready c.args.turn c.turn_after-next.result c.args.meta.now c.requires.legal.turn_fits c.turn_after-next.ensures touched page c.sync.result c.zero_area.result
     (g.D.Device.model c.args.disk.now) (g.D.Device.model c.sync.new.self) (g.D.Device.model c.zero_area.new.disk)
     (g.met.D.Device.is_disk c.args.disk.now) (g.met.D.Device.is_disk c.sync.new.self) (g.met.D.Device.is_disk c.zero_area.new.disk)
-    placed c.sync.ensures.syncs c.sync.ensures.ticks c.log_place.result c.log_place.ensures c.zero_area.ensures.moments c.zero_area.ensures.place
+    placed c.sync.ensures.syncs c.sync.ensures.ticks c.log_start.result c.log_start.ensures c.zero_area.ensures.moments c.zero_area.ensures.place
     (omega (arith, c.requires.room, c.sync.ensures.ticks.size, c.zero_area.ensures.place.size)) c.in_ok-zero_area.ensures.durable c.in_ok-zero_area.ensures.zeroed in
     cleared_ready c.args.turn c.turn_after-next.result c.args.meta.now c.requires.legal.turn_fits c.turn_after-next.ensures touched page
     mid new (g.met.D.Device.is_disk c.zero_area.new.disk) (g.met.D.Device.is_disk c.clear_hidden.new.disk)
@@ -64,7 +64,7 @@ pub returns-in_err-zero_area-clause-beyond : goal.returns-in_err-zero_area-claus
 returns-in_err-zero_area-clause-beyond g c =
     beyond_then (file_size c.args.meta.now) (g.D.Device.model c.args.disk.now) (g.D.Device.model c.sync.new.self) (g.D.Device.model c.zero_area.new.disk)
     (beyond_sync c.sync.result (file_size c.args.meta.now) (g.D.Device.model c.args.disk.now) (g.D.Device.model c.sync.new.self) (g.met.D.Device.is_disk c.args.disk.now) c.sync.ensures.syncs c.sync.ensures.ticks)
-    (beyond_log c.turn_after-next.result c.log_place.result c.args.meta.now (g.D.Device.model c.sync.new.self) (g.D.Device.model c.zero_area.new.disk) c.log_place.ensures c.zero_area.ensures.place)
+    (beyond_log c.turn_after-next.result c.log_start.result c.args.meta.now (g.D.Device.model c.sync.new.self) (g.D.Device.model c.zero_area.new.disk) c.log_start.ensures c.zero_area.ensures.place)
 
 pub returns-clause-beyond : goal.returns-clause-beyond
 returns-clause-beyond g c =
@@ -76,5 +76,5 @@ returns-clause-beyond g c =
     beyond_then n d two new
     (beyond_then n d one two
     (beyond_sync c.sync.result n d one (g.met.D.Device.is_disk c.args.disk.now) c.sync.ensures.syncs c.sync.ensures.ticks)
-    (beyond_log c.turn_after-next.result c.log_place.result c.args.meta.now one two c.log_place.ensures c.zero_area.ensures.place))
+    (beyond_log c.turn_after-next.result c.log_start.result c.args.meta.now one two c.log_start.ensures c.zero_area.ensures.place))
     (beyond_body c.turn_after-next.result c.args.meta.now two new c.clear_hidden.ensures.place)

@@ -11,7 +11,7 @@ use Rattle.hbpi.specs.OnePage.{lone}
 use Rattle.hbpi.specs.Looking.{IsFoundIn}
 use Rattle.hbpi.specs.Renewing.{IsHere}
 use Rattle.hbpi.proofs.SyncedRuns.{synced_even, synced_late, synced_time, synced_renewed}
-use Rattle.hb_store.specs.Opening.{file_size}
+use Rattle.hb_layout.specs.Offsets.{file_size}
 use Rattle.hbpi.proofs.Beyond.{beyond_sync, beyond_then}
 use Rattle.hbpi.proofs.restart.renewal.renew.Goals as goal
 

@@ -9,7 +9,7 @@ use Rattle.hb_store.specs.Keeps.{IsFresh}
 use Rattle.hbpi.specs.OnePage.{lone}
 use Rattle.hbpi.specs.Renewing.{StillOpens, IsHere, IsPlaced}
 use Rattle.hbpi.proofs.Renewed.{still_to}
-use Rattle.hb_store.specs.Opening.{file_size}
+use Rattle.hb_layout.specs.Offsets.{file_size}
 use Rattle.hbpi.proofs.Beyond.{beyond_then}
 use Rattle.hbpi.proofs.restart.renewal.rewrite.Goals as goal
 

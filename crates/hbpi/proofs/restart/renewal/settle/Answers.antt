@@ -8,7 +8,7 @@ use Rattle.hb_frag.specs.Grammar.{SpellsPage}
 use Rattle.hb_store.specs.Opening.{place_bytes}
 use Rattle.hbpi.specs.Renewing.{IsHere, IsPlaced}
 use Rattle.hbpi.proofs.Renewed.{placed_moments, placed_there, placed_untouched, not_none}
-use Rattle.hb_store.specs.Opening.{file_size}
+use Rattle.hb_layout.specs.Offsets.{file_size}
 use Rattle.hbpi.proofs.Beyond.{beyond_none, beyond_page}
 use Rattle.hbpi.proofs.restart.renewal.settle.Goals as goal
 

@@ -8,7 +8,7 @@ use Rattle.hbpi.specs.OnePage.{lone}
 use Rattle.hbpi.specs.Renewing.{StillOpens, IsPlaced}
 use Rattle.hbpi.proofs.Renewed.{still_to, super_moments, super_fresh}
 use Rattle.hbpi.proofs.RunSteps.{on_ok_two, size_after}
-use Rattle.hb_store.specs.Opening.{file_size}
+use Rattle.hb_layout.specs.Offsets.{file_size}
 use Rattle.hbpi.proofs.Beyond.{beyond_super, beyond_then}
 use Rattle.hbpi.proofs.restart.renewal.switch.Goals as goal
 
