@@ -10,7 +10,7 @@ use Rattle.hb_frag.specs.declared.pages.LivePage.{LivePage}
 use Rattle.hb_frag.specs.Leaves.{leaf_at}
 use Rattle.hb_layout.specs.declared.meta.Meta.{Meta}
 use Rattle.hb_ops.specs.Sound.{FitsFile}
-use Rattle.hb_ops.specs.Operations.{FitsDel, FitsPut}
+use Rattle.hb_ops.specs.Recording.{FitsDel, FitsPut}
 
 -- the page is well made and of level 0, and its leaf at the point has these records
 pub record IsOpenAt (meta : Meta) (page : LivePage) (point : List ℕ) (records : List Record) : Type 0 where

@@ -1,5 +1,11 @@
 pub mod Files
 pub mod Sound
+pub mod Recording
+pub mod Allocating
+pub mod Cutting
+pub mod Extracting
+pub mod Posting
+pub mod Growing
 pub mod Operations
 pub mod LocalRule
 pub mod Given

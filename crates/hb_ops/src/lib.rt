@@ -16,6 +16,7 @@ mod changes;
 mod edits;
 mod laws;
 mod local;
+mod leaf_cuts;
 mod looking;
 mod operations;
 #[cfg(test)]
@@ -23,9 +24,10 @@ mod tests;
 mod threads;
 
 pub use changes::{ChangeError, Changed, change};
+pub use leaf_cuts::{Cuts, LeafCut};
 pub use laws::{
     changed_pages_are_well_made, delete_takes_one_record, lone_page_has_no_others,
-    operations_keep_a_file_sound, put_adds_one_record, what_stands_is_in_the_contents,
+    put_adds_one_record, puts_and_deletes_keep_a_file_sound, what_stands_is_in_the_contents,
 };
 pub use local::local_rule;
 pub use looking::{Standing, has_room, look_at};

@@ -12,7 +12,8 @@ use Rattle.hb_ops.specs.Sound.{IsSound}
 use Rattle.hb_layout.specs.declared.meta.Meta.{Meta}
 use Rattle.hb_ops.specs.declared.operations.Op.TheVariants.{Put, Del}
 use Rattle.hb_ops.specs.LawsOfContents.{DelTakesOne, PutAddsOne}
-use Rattle.hb_ops.specs.Operations.{FitsDel, FitsPut, IsAllowedOn, nth_read}
+use Rattle.hb_ops.specs.Recording.{FitsDel, FitsPut}
+use Rattle.hb_ops.specs.Operations.{IsAllowedOn, nth_read}
 use Rattle.hb_ops.specs.Standing.{AbsenceIsContents, RecordsAreContents}
 use Rattle.hb_sound.specs.Laws.{DelsTakeOne, EachPageHasWalks, EachPointIsHeld, LackIsContents, NoPointIsHeldTwice, PagesHaveBoxes, PutsAddOne, RecordsAreAtHome, RootHasWalks, StandingIsContents, StepsLeadFurther}
 use Rattle.hb_sound.specs.PointWalks.{IsPointOf, IsResponsible}

@@ -25,7 +25,8 @@ use Rattle.hb_ops.specs.declared.operations.Op.TheVariants.{Put, Del}
 use Rattle.hb_ops.specs.Files.{if_live}
 use Rattle.hb_ops.specs.Given.{given}
 use Rattle.hb_ops.specs.LawsOfContents.{DelMakesWell, PutMakesWell}
-use Rattle.hb_ops.specs.Operations.{Change, IsAllowedOn, change_of, joined, on_records, page_with, reads_of, without}
+use Rattle.hb_ops.specs.Recording.{joined, on_records, page_with, without}
+use Rattle.hb_ops.specs.Operations.{Change, IsAllowedOn, change_of, reads_of}
 use Rattle.hb_ops.specs.Sound.{FitsFile}
 use Rattle.hb_layout.specs.Limits.{IsLayout}
 use Rattle.hb_store.specs.Groups.{FitsOp}

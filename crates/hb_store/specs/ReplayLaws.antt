@@ -14,7 +14,8 @@ use Rattle.hb_layout.specs.declared.meta.Meta.{Meta}
 use Rattle.hb_ops.specs.declared.operations.Op.{Op}
 use Rattle.hb_ops.specs.declared.operations.Op.TheVariants.{Put, Del}
 use Rattle.hb_ops.specs.Files.{FileState, if_live, page_at, page_of, live_page}
-use Rattle.hb_ops.specs.Operations.{IsAllowed, IsAllowedOn, IsLicensed, change_of, effect_of, put_page, del_page, with_page, with_pages}
+use Rattle.hb_ops.specs.Recording.{put_page, del_page}
+use Rattle.hb_ops.specs.Operations.{IsAllowed, IsAllowedOn, IsLicensed, change_of, effect_of, with_page, with_pages}
 use Rattle.hb_store.specs.Groups.{Logged, SpellAll}
 use Rattle.hb_store.specs.Replay.{Replayed, untouched, set_pages, with_images, IsAllowedIn, after_op, after_group, MayFollow, replay, MayReplay}
 use Rattle.hb_layout.specs.Offsets.{file_size}

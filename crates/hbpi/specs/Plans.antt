@@ -8,7 +8,7 @@ use Rattle.hb_layout.specs.declared.meta.Meta.{Meta}
 use Rattle.hb_ops.specs.declared.operations.Op.{Op}
 use Rattle.hb_ops.specs.declared.operations.Op.TheVariants.{Put, Del}
 use Rattle.hb_ops.specs.Files.{FileState}
-use Rattle.hb_ops.specs.Operations.{FitsPut, FitsDel}
+use Rattle.hb_ops.specs.Recording.{FitsPut, FitsDel}
 use Rattle.hb_ops.specs.Standing.{StandsThere, StandsNot}
 use Rattle.hb_set.specs.declared.commands.Command.{Command}
 use Rattle.hb_set.specs.declared.commands.Command.TheVariants.{Insert, Delete, Lookup, Search}
