@@ -11,9 +11,8 @@ ghost use Rattle.hb_super.specs.Moments.{HidesNoOther};
 ghost use Rattle.hb_super.specs.Hidden.{SaysOf, DifferIs, OtherIs, HidesIs, ClearLeaves};
 
 use crate::body::{BODY, body_of, fields_of};
-use crate::reading::place_at;
 use hb_disk::{Device, DiskFault, OPEN};
-use hb_layout::Meta;
+use hb_layout::{Meta, slot_offset};
 use hb_outside::Failed;
 
 /// What a body of the turn says. None: it is no legal body of this turn.
@@ -59,7 +58,7 @@ fn hides_other<D: Device>(disk: &mut D, turn: u8, meta: &Meta) -> Result<bool, F
     ensures only_reads { OnlyReads (D.model disk.old) (D.model disk.new) }
 {
     let mut bytes = [0; 1 + BODY];
-    disk.read(place_at(turn), &mut bytes)?;
+    disk.read(slot_offset(turn), &mut bytes)?;
     Ok(is_other(&bytes, turn, meta))
 }
 
@@ -75,7 +74,7 @@ fn zero_body<D: Device>(disk: &mut D, turn: u8) -> Result<(), Failed>
     ensures clock { IsSome (D.model disk.old).told → (D.model disk.new).clock ≤ (D.model disk.old).clock + 2 }
     ensures faults { WriteFaults result (D.model disk.old) (D.model disk.new) }
 {
-    disk.zero(place_at(turn) + 1, BODY as u64)?;
+    disk.zero(slot_offset(turn) + 1, BODY as u64)?;
     disk.sync()
 }
 

@@ -11,9 +11,8 @@ ghost use Rattle.hb_super.specs.Reading.{IsOf, Stands, NewestIs, MayBeLegal};
 
 use crate::body::{BODY, body_of, fields_of};
 use hb_disk::{Device, OPEN};
-use hb_layout::Meta;
+use hb_layout::{Meta, slot_offset};
 use hb_outside::Failed;
-use hb_space::form::PAGE;
 
 /// Why no superblock was read.
 #[derive(Clone, Copy, Debug, PartialEq, Eq)]
@@ -33,13 +32,6 @@ impl From<Failed> for SuperStop {
     fn from(_: Failed) -> SuperStop {
         SuperStop::DiskFault
     }
-}
-
-/// Where the place of a turn begins.
-pub(crate) fn place_at(turn: u8) -> u64
-    ensures { result ≡ slot_offset turn }
-{
-    PAGE as u64 * u64::from(turn % 2)
 }
 
 /// Whether a turn may stand in a place with a legal layout.
@@ -76,7 +68,7 @@ fn super_at<D: Device>(disk: &mut D, place: u8) -> Result<Option<(u8, Meta)>, Fa
     ensures only_reads { OnlyReads (D.model disk.old) (D.model disk.new) }
 {
     let mut bytes = [0; 1 + BODY];
-    disk.read(place_at(place), &mut bytes)?;
+    disk.read(slot_offset(place), &mut bytes)?;
     Ok(super_in(&bytes, place))
 }
 

@@ -8,9 +8,8 @@ ghost use Rattle.hb_super.specs.Superblocks.{IsLegal, IsNewest, body_bytes, next
 ghost use Rattle.hb_super.specs.Moments.{WriteLeaves};
 
 use crate::body::body_of;
-use crate::reading::place_at;
 use hb_disk::{Device, DiskFault, write_behind_gate};
-use hb_layout::Meta;
+use hb_layout::{Meta, slot_offset};
 
 /// The byte that a gate is closed with.
 const CLOSED: u8 = 0;
@@ -37,7 +36,7 @@ pub fn write_super<D: Device>(disk: &mut D, turn: u8, meta: &Meta) -> Result<(),
     ensures clock { IsSome (D.model disk.old).told → (D.model disk.new).clock ≤ (D.model disk.old).clock + 6 }
     ensures faults { WriteFaults result (D.model disk.old) (D.model disk.new) }
 {
-    let place = place_at(turn);
+    let place = slot_offset(turn);
     let body = body_of(turn, meta);
     disk.write(place, &[CLOSED])?;
     disk.sync()?;
@@ -64,5 +63,5 @@ pub fn write_first_super<D: Device>(disk: &mut D, meta: &Meta) -> Result<(), Dis
     ensures faults { WriteFaults result (D.model disk.old) (D.model disk.new) }
 {
     let body = body_of(0, meta);
-    Ok(write_behind_gate(disk, place_at(0), &body)?)
+    Ok(write_behind_gate(disk, slot_offset(0), &body)?)
 }
