@@ -1,5 +1,5 @@
 -- What a file may be.
-use Rattle.std.specs.Prelude.{ℕ, ◌≤◌}
+use Rattle.std.specs.Prelude.{◌≤◌}
 use Rattle.hb_space.specs.declared.form.TheConstants.{KMAX, ICAP_MIN}
 use Rattle.hb_layout.specs.declared.limits.TheConstants.{PAGES_MAX, LOG_MIN, LOG_MAX, DCAP_MIN, DCAP_MAX, ICAP_MAX, HEIGHT_MAX}
 use Rattle.hb_layout.specs.declared.meta.Meta.{Meta}
