@@ -10,3 +10,10 @@ pub mod Opened
 pub mod Remade
 pub mod Sound
 pub mod Looks
+pub mod LeafHalves
+pub mod CutLeaves
+pub mod CutShapes
+pub mod PathParts
+pub mod PagesParted
+pub mod CutTests
+pub mod Made

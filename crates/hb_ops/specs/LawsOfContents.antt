@@ -46,5 +46,5 @@ IsWellIn meta (Free next) = Unit {0}
 -- What an allowed operation makes of the pages that it reads, and the page that it makes, are well made for the file
 -- afterwards.
 abbrev pub ChangesMakeWell : Type 0
-ChangesMakeWell = (op : Op) (meta : Meta) (first second third : Option LivePage) → 1 ≤ meta.icap → OpHas meta.k op → IsAllowedOn op meta first second third →
+ChangesMakeWell = (op : Op) (meta : Meta) (first second third : Option LivePage) → 1 ≤ meta.icap → 1 ≤ meta.height → OpHas meta.k op → IsAllowedOn op meta first second third →
     All (λ c. IsWellIn (change_of op meta first second third).meta c.1) (change_of op meta first second third).pages

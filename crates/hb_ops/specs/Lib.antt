@@ -13,3 +13,4 @@ pub mod LawsOfContents
 pub mod Edits
 pub mod Standing
 pub mod Looked
+pub mod Splits

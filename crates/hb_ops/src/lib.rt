@@ -12,13 +12,17 @@
 //! the list, from 1.
 #![tactic(auto)]
 
+mod allocations;
 mod changes;
 mod edits;
+mod extracting;
+mod growing;
 mod laws;
 mod local;
 mod leaf_cuts;
 mod looking;
 mod operations;
+mod posting;
 #[cfg(test)]
 mod tests;
 mod threads;
