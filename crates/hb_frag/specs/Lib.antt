@@ -8,3 +8,5 @@ pub mod Grammar
 pub mod Laws
 pub mod Carving
 pub mod Normal
+pub mod CarvingLaws
+pub mod NormalLaws

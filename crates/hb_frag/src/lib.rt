@@ -20,7 +20,9 @@
 //! capacity.
 #![tactic(auto)]
 
+mod carving;
 mod fragments;
+mod joining;
 pub mod laws;
 mod leaves;
 mod names;
@@ -31,7 +33,9 @@ mod records;
 mod tests;
 mod threads;
 
+pub use carving::{carve, carved_weight};
 pub use fragments::{Frag, Node, replace};
+pub use joining::normal;
 pub use leaves::Leaf;
 pub use names::Pages;
 pub use pages::{LivePage, Page};
