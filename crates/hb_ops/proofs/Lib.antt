@@ -16,4 +16,5 @@ pub mod CutShapes
 pub mod PathParts
 pub mod PagesParted
 pub mod CutTests
+pub mod PostTests
 pub mod Made

@@ -14,3 +14,4 @@ pub mod Edits
 pub mod Standing
 pub mod Looked
 pub mod Splits
+pub mod Posts
