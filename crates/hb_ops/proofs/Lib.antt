@@ -17,4 +17,6 @@ pub mod PathParts
 pub mod PagesParted
 pub mod CutTests
 pub mod PostTests
+pub mod CarvedCuts
+pub mod PostMade
 pub mod Made

@@ -20,9 +20,11 @@ use Rattle.hb_ops.specs.Extracting.{FitsExtract, fresh_page, source_page, split_
 use Rattle.hb_ops.specs.Growing.{FitsGrow, new_root, raised}
 use Rattle.hb_ops.specs.LawsOfContents.{ChangesMakeWell, IsWellIn}
 use Rattle.hb_ops.specs.Operations.{IsAllowedOn, change_of, OpHas}
+use Rattle.hb_ops.specs.Posting.{post_page}
 use Rattle.hb_ops.specs.Recording.{del_page, put_page}
 use Rattle.hb_ops.specs.Sound.{FitsFile}
 use Rattle.hb_ops.proofs.PagesParted.{PartLaws, fresh_made, source_made}
+use Rattle.hb_ops.proofs.PostMade.{JoinLaws, post_made}
 use Rattle.hb_ops.proofs.Remade.{put_made, del_made}
 
 abbrev Well : Meta → ℕ × Page → Type 0
@@ -53,13 +55,13 @@ root_made meta fresh free_after room level = record {
 }
 
 -- each kind
-pub changes_make_well : PartLaws → ChangesMakeWell
-changes_make_well laws (Put id rec) meta (Some page) second third room level has h = one_well meta id (put_page rec page) (put_made meta page rec h)
-changes_make_well laws (Put id rec) meta None second third room level has h = absurd h
-changes_make_well laws (Del id point) meta (Some page) second third room level has h = one_well meta id (del_page point page) (del_made meta page point h)
-changes_make_well laws (Del id point) meta None second third room level has h = absurd h
-changes_make_well laws (Extract source fresh path cuts free_after) meta (Some page) second third room level has h = split_well laws meta page source fresh path cuts free_after h
-changes_make_well laws (Extract source fresh path cuts free_after) meta None second third room level has h = absurd h
-changes_make_well laws (Post parent at inner area) meta (Some page) second third room level has h = ?
-changes_make_well laws (Post parent at inner area) meta None second third room level has h = absurd h
-changes_make_well laws (Grow fresh free_after) meta first second third room level has h = one_well (raised (allocated meta fresh free_after) fresh) fresh (new_root meta) (root_made meta fresh free_after room level)
+pub changes_make_well : PartLaws → JoinLaws → ChangesMakeWell
+changes_make_well laws joins (Put id rec) meta (Some page) second third room level has h = one_well meta id (put_page rec page) (put_made meta page rec h)
+changes_make_well laws joins (Put id rec) meta None second third room level has h = absurd h
+changes_make_well laws joins (Del id point) meta (Some page) second third room level has h = one_well meta id (del_page point page) (del_made meta page point h)
+changes_make_well laws joins (Del id point) meta None second third room level has h = absurd h
+changes_make_well laws joins (Extract source fresh path cuts free_after) meta (Some page) second third room level has h = split_well laws meta page source fresh path cuts free_after h
+changes_make_well laws joins (Extract source fresh path cuts free_after) meta None second third room level has h = absurd h
+changes_make_well laws joins (Post parent at inner area) meta (Some page) second third room level has h = one_well meta parent (post_page at inner area page) (post_made joins meta page at inner area has.1 h)
+changes_make_well laws joins (Post parent at inner area) meta None second third room level has h = absurd h
+changes_make_well laws joins (Grow fresh free_after) meta first second third room level has h = one_well (raised (allocated meta fresh free_after) fresh) fresh (new_root meta) (root_made meta fresh free_after room level)

@@ -35,7 +35,7 @@ module _ (meta : Meta) (page : LivePage) (at : List Side) (inner : ℕ) (area : 
   abbrev pub joined_tree : Tree
   joined_tree = normal (with_part at page.frag (carved box area outer inner))
 
-  the_tree : (post_page at inner area page).frag ≡ joined_tree
+  pub the_tree : (post_page at inner area page).frag ≡ joined_tree
   the_tree = ap (posted at inner area page.frag) leaf
 
   -- no page is named beside itself, nor where the boxes don't meet

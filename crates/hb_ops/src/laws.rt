@@ -3,7 +3,7 @@
 ghost use Rattle.hb_ops.specs.LawsOfContents.{ChangesMakeWell, DelStaysSound, DelTakesOne, LonePage, PutAddsOne, PutStaysSound};
 ghost use Rattle.hb_ops.specs.Standing.{AbsenceIsContents, RecordsAreContents};
 
-use hb_frag::laws::parts_are_stretches;
+use hb_frag::laws::{normal_says_the_same, parts_are_stretches};
 
 /// An allowed put adds exactly one record to the contents.
 pub fn put_adds_one_record()
@@ -39,4 +39,5 @@ pub fn changed_pages_are_well_made()
     ensures { ChangesMakeWell }
 {
     parts_are_stretches();
+    normal_says_the_same();
 }
