@@ -5,7 +5,6 @@ use Rattle.std.proofs.lemmas.List.{length-set, get_or-set_other}
 use Rattle.std.proofs.lemmas.List.Elements.{All-append, All-cons, All-nil}
 use Rattle.std.proofs.lemmas.Grind.{get_or-set_at}
 use Rattle.hb_space.specs.Boxes.{Area, Meets, common_area, side_below, side_from, zip_by}
-use Rattle.hb_frag.specs.declared.leaves.Leaf.{Leaf}
 use Rattle.hb_frag.specs.declared.leaves.Leaf.TheVariants.{Child}
 use Rattle.hb_frag.specs.Carving.{carve_above, carve_below, carve_from, carved}
 use Rattle.hb_frag.specs.Leaves.{IsWellCut, leaves}
@@ -58,19 +57,22 @@ module _ (leaf c : Area) (common : IsCommon leaf c) (outer inner : ℕ) where
         | true ↦ λ e.
             let less = ltb-true (get_or leaf.lo axis 0) value e in
             let same = length-set rest.lo axis value in
-            let at = get_or-set_at rest.lo axis axis value 0 refl (omega (arith, ahead.as_many, lt)) in
-            (record { attribute = omega (arith, ahead.as_many, lt); above_least = omega (arith, l, less); up_to_greatest = omega (arith, g, upto) }, tt, goes_on (side_from rest axis value) (record {
-              as_many = omega (arith, same, ahead.as_many);
-              here = omega (arith, at);
-              least = λ i more. let o = get_or-set_other rest.lo axis i value 0 (λ e. omega arith) in let s = ahead.least i (omega arith) in omega (arith, o, s);
-              greatest = λ i more. ahead.greatest i more;
-            }))
+            let at = get_or-set_at rest.lo axis axis value 0 refl (omega (arith, ahead.as_many, lt)) in (
+              record { attribute = omega (arith, ahead.as_many, lt); above_least = omega (arith, l, less); up_to_greatest = omega (arith, g, upto) },
+              tt,
+              goes_on (side_from rest axis value) (record {
+                as_many = omega (arith, same, ahead.as_many);
+                here = omega (arith, at);
+                least = λ i more. let o = get_or-set_other rest.lo axis i value 0 (λ e. omega arith) in let s = ahead.least i (omega arith) in omega (arith, o, s);
+                greatest = λ i more. ahead.greatest i more;
+              }),
+            )
         | false ↦ λ e. let le = common.below axis lt in goes_on rest (record {
-            as_many = ahead.as_many;
-            here = omega (arith, l, le);
-            least = λ i more. ahead.least i (omega arith);
-            greatest = λ i more. ahead.greatest i more;
-          })
+          as_many = ahead.as_many;
+          here = omega (arith, l, le);
+          least = λ i more. ahead.least i (omega arith);
+          greatest = λ i more. ahead.greatest i more;
+        })
       ] refl
 
   above_cut : (axis : ℕ) (t : Tree) (half : Area) → axis < length leaf.lo → IsHalfway axis half → ((rest : Area) → IsAhead (axis + 1) rest → IsWellCut t rest) → IsWellCut (carve_above axis leaf c outer t) half
@@ -80,12 +82,15 @@ module _ (leaf c : Area) (common : IsCommon leaf c) (outer inner : ℕ) where
       let order = common.ordered axis lt in
       elim (nat_lt most (get_or leaf.hi axis 0)) as (λ b. nat_lt most (get_or leaf.hi axis 0) ≡ b → IsWellCut (cond b (Cut axis (most + 1) t (Tip (Child outer))) t) half) [
         | true ↦ λ e.
-            let less = ltb-true most (get_or leaf.hi axis 0) e in
-            (record { attribute = omega (arith, halfway.as_many, lt); above_least = omega (arith, halfway.here, order); up_to_greatest = omega (arith, g, less) }, goes_on (side_below half axis (most + 1)) (record {
-              as_many = halfway.as_many;
-              least = λ i more. halfway.least i (omega arith);
-              greatest = λ i more. let o = get_or-set_other half.hi axis i (most + 1 - 1) 0 (λ e. omega arith) in let s = halfway.greatest i (omega arith) in omega (arith, o, s);
-            }), tt)
+            let less = ltb-true most (get_or leaf.hi axis 0) e in (
+              record { attribute = omega (arith, halfway.as_many, lt); above_least = omega (arith, halfway.here, order); up_to_greatest = omega (arith, g, less) },
+              goes_on (side_below half axis (most + 1)) (record {
+                as_many = halfway.as_many;
+                least = λ i more. halfway.least i (omega arith);
+                greatest = λ i more. let o = get_or-set_other half.hi axis i (most + 1 - 1) 0 (λ e. omega arith) in let s = halfway.greatest i (omega arith) in omega (arith, o, s);
+              }),
+              tt,
+            )
         | false ↦ λ e. goes_on half (record { as_many = halfway.as_many; least = λ i more. halfway.least i (omega arith); greatest = λ i more. halfway.greatest i (omega arith) })
       ] refl
 

@@ -1,5 +1,5 @@
 -- What an allowed operation makes is well made for the file afterwards.
-use Rattle.std.proofs.Common.{◌≡◌, ℕ, ◌+◌, ◌<◌, ◌≤◌, Bool, cond, ne_eqb, List, [], ◌∷◌, length, All, AllPairs, Option, Some, None, sym, subst, arith}
+use Rattle.std.proofs.Common.{ℕ, ◌≤◌, Bool, cond, ne_eqb, List, [], ◌∷◌, All, Option, Some, None, sym, subst, arith}
 use Rattle.std.proofs.lemmas.List.{length-replicate}
 use Rattle.std.proofs.lemmas.List.Elements.{All-cons, All-nil}
 use Rattle.hb_space.specs.Boxes.{Area, Holds, whole_area}
@@ -13,13 +13,11 @@ use Rattle.hb_frag.specs.Paths.{part_at}
 use Rattle.hb_frag.specs.Rules.{BelongsAt, IsInOrder}
 use Rattle.hb_layout.specs.declared.meta.Meta.{Meta}
 use Rattle.hb_ops.specs.declared.leaf_cuts.LeafCut.{LeafCut}
-use Rattle.hb_ops.specs.declared.operations.Op.{Op}
 use Rattle.hb_ops.specs.declared.operations.Op.TheVariants.{Put, Del, Extract, Post, Grow}
 use Rattle.hb_ops.specs.Allocating.{allocated}
 use Rattle.hb_ops.specs.Extracting.{FitsExtract, fresh_page, source_page, split_pages}
-use Rattle.hb_ops.specs.Growing.{FitsGrow, new_root, raised}
+use Rattle.hb_ops.specs.Growing.{new_root, raised}
 use Rattle.hb_ops.specs.LawsOfContents.{ChangesMakeWell, IsWellIn}
-use Rattle.hb_ops.specs.Operations.{IsAllowedOn, change_of, OpHas}
 use Rattle.hb_ops.specs.Posting.{post_page}
 use Rattle.hb_ops.specs.Recording.{del_page, put_page}
 use Rattle.hb_ops.specs.Sound.{FitsFile}

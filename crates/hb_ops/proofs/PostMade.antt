@@ -1,7 +1,7 @@
 -- A page in which another one is named is well made again.
-use Rattle.std.proofs.Common.{◌≡◌, ℕ, ◌<◌, ◌≤◌, ◌==◌, Bool, true, false, cond, List, [], ◌∷◌, ◌++◌, length, All, Some, refl, sym, subst, ◌∙◌, arith, ne_eqb}
+use Rattle.std.proofs.Common.{◌≡◌, ℕ, ◌<◌, ◌≤◌, ◌==◌, Bool, true, false, cond, List, [], ◌∷◌, length, All, Some, refl, sym, subst, ◌∙◌, arith, ne_eqb}
 use Rattle.std.proofs.lemmas.List.Elements.{All-append, All-cons, All-head, All-nil}
-use Rattle.hb_space.specs.Boxes.{Area, Holds, IsArea, side_below, side_from}
+use Rattle.hb_space.specs.Boxes.{Area, Holds, side_below, side_from}
 use Rattle.hb_frag.specs.declared.leaves.Leaf.{Leaf}
 use Rattle.hb_frag.specs.declared.leaves.Leaf.TheVariants.{Records, Child, Sibling}
 use Rattle.hb_frag.specs.declared.pages.LivePage.{LivePage}

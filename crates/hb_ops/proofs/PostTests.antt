@@ -7,7 +7,7 @@ use Rattle.hb_frag.specs.declared.paths.Side.{Side}
 use Rattle.hb_frag.specs.Carving.{carved}
 use Rattle.hb_frag.specs.Leaves.{weight_of}
 use Rattle.hb_frag.specs.Normal.{normal}
-use Rattle.hb_frag.specs.Paths.{StaysInside, part_at, with_part}
+use Rattle.hb_frag.specs.Paths.{StaysInside, with_part}
 use Rattle.hb_frag.specs.Trees.{Tree, Tip}
 use Rattle.hb_layout.specs.declared.meta.Meta.{Meta}
 use Rattle.hb_ops.specs.Posting.{FitsPost, IsChildAt, post_page, posted}
@@ -50,15 +50,15 @@ module _ (meta : Meta) (page : LivePage) (at : List Side) (inner : ℕ) (area : 
       (weight_of page.frag + weight_of (carved box area outer inner) ≤ meta.icap + 1) ↔ FitsPost meta page at inner area
   with_room room made above other meets = (
     λ le. record {
-        made = made;
-        above = above;
-        outer = outer;
-        box = box;
-        leaf = leaf;
-        other = other;
-        meets = meets;
-        room = subst (λ (t : Tree). weight_of t ≤ meta.icap) (sym the_tree) (room.1 le);
-      },
+      made = made;
+      above = above;
+      outer = outer;
+      box = box;
+      leaf = leaf;
+      other = other;
+      meets = meets;
+      room = subst (λ (t : Tree). weight_of t ≤ meta.icap) (sym the_tree) (room.1 le);
+    },
     λ fits. room.0 (subst (λ (t : Tree). weight_of t ≤ meta.icap) the_tree fits.room),
   )
 

@@ -10,7 +10,6 @@ use Rattle.hb_ops.specs.Files.{FileState, page_of, page_records, contents_of}
 use Rattle.hb_frag.specs.declared.pages.LivePage.{LivePage}
 use Rattle.hb_layout.specs.declared.meta.Meta.{Meta}
 use Rattle.hb_ops.specs.Sound.{FitsFile, IsSound}
-use Rattle.hb_ops.specs.Recording.{FitsDel, FitsPut, del_page, put_page}
 use Rattle.hb_ops.specs.Operations.{IsAllowed, IsAllowedOn, change_of, effect_of, OpHas}
 
 -- no other page of level 0 has a record of the point

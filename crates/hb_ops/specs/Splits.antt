@@ -7,7 +7,7 @@ use Rattle.hb_frag.specs.declared.paths.Side.{Side}
 use Rattle.hb_frag.specs.Trees.{Tree}
 use Rattle.hb_layout.specs.declared.meta.Meta.{Meta}
 use Rattle.hb_ops.specs.declared.leaf_cuts.LeafCut.{LeafCut}
-use Rattle.hb_ops.specs.Cutting.{PartLeaves, half_area, is_on}
+use Rattle.hb_ops.specs.Cutting.{half_area, is_on}
 use Rattle.hb_ops.specs.Extracting.{FitsExtract, FitsPart}
 
 -- a record goes on at each of the cuts

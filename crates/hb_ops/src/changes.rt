@@ -87,7 +87,11 @@ pub fn change(
             area,
         } => match first {
             None => Err(ChangeError::Unfit),
-            Some(page) => Ok(one_changed(meta, *parent, post(alloc, page, meta, at, *inner, area)?)),
+            Some(page) => Ok(one_changed(
+                meta,
+                *parent,
+                post(alloc, page, meta, at, *inner, area)?,
+            )),
         },
         Op::Grow { fresh, free_after } => grown(meta, *fresh, *free_after),
     }

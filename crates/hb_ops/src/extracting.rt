@@ -145,7 +145,7 @@ fn part_records(records: &[Record], area: &Area, cuts: &[LeafCut], place: usize)
 fn has_both_sides(records: &[Record], before: &[LeafCut], cut: LeafCut) -> bool
     ensures { IsTrue result ↔
         ((0 < length (filter (cutting.is_on cut.side cut.axis cut.value) (filter (splits.goes_on before.now) records.now)))
-            × (0 < length (filter (cutting.is_on (cutting.other_side cut.side) cut.axis cut.value) (filter (splits.goes_on before.now) records.now)))) }
+        × (0 < length (filter (cutting.is_on (cutting.other_side cut.side) cut.axis cut.value) (filter (splits.goes_on before.now) records.now)))) }
 {
     let mut on = 0_usize;
     let mut off = 0_usize;

@@ -18,8 +18,8 @@ mod edits;
 mod extracting;
 mod growing;
 mod laws;
-mod local;
 mod leaf_cuts;
+mod local;
 mod looking;
 mod operations;
 mod posting;
@@ -28,12 +28,12 @@ mod tests;
 mod threads;
 
 pub use changes::{ChangeError, Changed, change};
-pub use leaf_cuts::{Cuts, LeafCut};
+pub use hb_layout::Meta;
 pub use laws::{
     changed_pages_are_well_made, delete_takes_one_record, lone_page_has_no_others,
     put_adds_one_record, puts_and_deletes_keep_a_file_sound, what_stands_is_in_the_contents,
 };
+pub use leaf_cuts::{Cuts, LeafCut};
 pub use local::local_rule;
 pub use looking::{Standing, has_room, look_at};
-pub use hb_layout::Meta;
 pub use operations::Op;

@@ -46,13 +46,7 @@ pub(crate) fn post(
 // The page that the child leaf names to which the path leads, and its box. `None` where the page
 // `inner` may not be named there.
 #[tactic(auto, using(crate::proofs::PostTests::posts_at, crate::proofs::PostTests::no_child))]
-fn leaf_for(
-    page: &LivePage,
-    meta: &Meta,
-    at: &Path,
-    inner: u32,
-    area: &Area,
-) -> Option<(u32, Area)>
+fn leaf_for(page: &LivePage, meta: &Meta, at: &Path, inner: u32, area: &Area) -> Option<(u32, Area)>
     requires light { weight_of page.now.frag < 2 ^ 32 }
     requires attributes { length area.now.lo ≡ meta.now.k }
     ensures { MatchOption result

@@ -1,4 +1,4 @@
-use Rattle.std.proofs.Common.{◌≡◌, take, filter}
+use Rattle.std.proofs.Common.{◌≡◌, filter}
 use Rattle.hb_ops.specs.Cutting.{is_on, other_side}
 use Rattle.hb_ops.proofs.extracting.sides_of.Given as goal
 

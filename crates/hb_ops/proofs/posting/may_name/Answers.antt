@@ -1,6 +1,4 @@
-use Rattle.std.proofs.Common.{◌≤◌, sym, ◌∙◌, ap, cond, Bool, subst, ne_eqb, arith}
-use Rattle.hb_frag.specs.Leaves.{weight_of}
-use Rattle.hb_frag.specs.Rules.{capacity_of}
+use Rattle.std.proofs.Common.{sym, ◌∙◌}
 use Rattle.hb_ops.proofs.PostTests.{leaf_attributes, with_room, light_above}
 use Rattle.hb_ops.proofs.posting.may_name.Goals as goal
 
