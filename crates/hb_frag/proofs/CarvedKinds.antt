@@ -1,7 +1,6 @@
 -- What a carved leaf is, whatever the boxes.
-use Rattle.std.proofs.Common.{◌≡◌, ◌≢◌, ℕ, zero, suc, ◌+◌, ◌*◌, ◌≤◌, Bool, true, false, cond, ◌⊎◌, inl, inr, List, [], ◌∷◌, ◌++◌, length, get_or, refl, sym, ap, ◌∙◌, arith, nat_lt}
+use Rattle.std.proofs.Common.{◌≡◌, ◌≢◌, ℕ, zero, suc, ◌+◌, ◌*◌, ◌≤◌, Bool, true, false, cond, ◌⊎◌, inl, inr, [], ◌∷◌, ◌++◌, get_or, refl, sym, ap, ◌∙◌, arith, nat_lt}
 use Rattle.hb_space.specs.Boxes.{Area, side_below, side_from}
-use Rattle.hb_frag.specs.declared.leaves.Leaf.{Leaf}
 use Rattle.hb_frag.specs.declared.leaves.Leaf.TheVariants.{Records, Child, Sibling}
 use Rattle.hb_frag.specs.Trees.{Tree, Tip, Cut}
 use Rattle.hb_frag.specs.Leaves.{leaves_of, siblings, weight_of}
@@ -40,7 +39,7 @@ no_siblings r c outer inner = carve_by_cases HasNoSiblings r c outer inner (λ a
     (λ axis value t h area. h (side_from area axis value))
     (λ axis value t h area.
     siblings-append (leaves_of t (side_below area axis value)) (record { leaf = Child outer; area = side_from area axis value } ∷ [])
-        ∙ ap (λ xs. xs ++ []) (h (side_below area axis value)))
+    ∙ ap (λ xs. xs ++ []) (h (side_below area axis value)))
 
 -- none of its cuts parts nothing
 record Differs (outer : ℕ) (t : Tree) : Type 0 where

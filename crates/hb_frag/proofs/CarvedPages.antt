@@ -1,7 +1,6 @@
 -- A leaf of a page is carved.
-use Rattle.std.proofs.Common.{◌≡◌, ◌≢◌, ℕ, ◌+◌, ◌≤◌, ◌↔◌, inl, inr, List, [], ◌∷◌, length, Some, refl, sym, subst, arith}
+use Rattle.std.proofs.Common.{◌≡◌, ◌≢◌, ℕ, ◌+◌, ◌≤◌, ◌↔◌, inl, inr, List, [], ◌∷◌, length, Some, sym, subst, arith}
 use Rattle.hb_space.specs.Boxes.{Area, common_area, side_below, side_from}
-use Rattle.hb_frag.specs.declared.leaves.Leaf.{Leaf}
 use Rattle.hb_frag.specs.declared.leaves.Leaf.TheVariants.{Records, Child, Sibling}
 use Rattle.hb_frag.specs.declared.paths.Side.{Side}
 use Rattle.hb_frag.specs.declared.paths.Side.TheVariants.{Left, Right}
@@ -14,7 +13,7 @@ use Rattle.hb_frag.specs.Normal.{normal}
 use Rattle.hb_frag.proofs.Parts.{part_weighs}
 use Rattle.hb_frag.proofs.Normals.{normal_stays}
 use Rattle.hb_frag.proofs.SayingTheSame.{says_the_same}
-use Rattle.hb_frag.proofs.CarvedKinds.{HasCuts, alone_or_cut, carved_normal, cuts_weigh_two}
+use Rattle.hb_frag.proofs.CarvedKinds.{HasCuts, alone_or_cut, carved_normal}
 
 -- a side with cuts is like no other side
 left_differs : (l r : Tree) → HasCuts l → ¬ (AreAlike l r)

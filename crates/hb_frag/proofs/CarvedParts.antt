@@ -1,14 +1,13 @@
 -- The boxes of a carved leaf.
-use Rattle.std.proofs.Common.{◌≡◌, ◌≢◌, ℕ, zero, suc, ◌+◌, ◌-◌, ◌<◌, ◌≤◌, ◌^◌, max, min, Bool, true, false, cond, ◌⊎◌, inl, inr, List, [], ◌∷◌, ◌++◌, length, get_or, set, Some, refl, sym, ap, subst, ◌∙◌, arith, nat_lt}
+use Rattle.std.proofs.Common.{◌≡◌, ◌≢◌, ℕ, zero, suc, ◌+◌, ◌-◌, ◌<◌, ◌≤◌, max, inl, inr, List, [], ◌∷◌, length, get_or, set, Some, refl, sym, ap, subst, ◌∙◌, arith}
 use Rattle.std.specs.Prelude.{if◌then◌else◌}
 use Rattle.std.specs.List.{All, Contains}
 use Rattle.std.proofs.lemmas.Bool.{cases_lt}
 use Rattle.std.proofs.lemmas.List.{ext_get_or}
 use Rattle.std.proofs.lemmas.List.Elements.{All-append, All-cons, All-contains, Contains-append_left, Contains-append_right}
-use Rattle.hb_space.specs.Boxes.{Area, IsArea, Holds, Meets, Within, Disjoint, Cuts, common_area, holds, side_below, side_from}
+use Rattle.hb_space.specs.Boxes.{Area, IsArea, Holds, Meets, Within, Cuts, common_area, holds, side_below, side_from}
 use Rattle.hb_space.proofs.Boxes.{IsArea-common_area, Holds-common_area, Within-common_area, Holds-side_below, Holds-side_from, same_corners}
 use Rattle.hb_space.proofs.Lists.{length-zip_by, set_cases}
-use Rattle.hb_frag.specs.declared.leaves.Leaf.{Leaf}
 use Rattle.hb_frag.specs.declared.leaves.Leaf.TheVariants.{Child}
 use Rattle.hb_frag.specs.Trees.{Tree, Tip, Cut}
 use Rattle.hb_frag.specs.Leaves.{Placed, IsWellCut, first_at, leaves_of, weight_of}
@@ -75,10 +74,10 @@ module _ (leaf area : Area) (outer inner : ℕ) (h : IsArea leaf) (k : IsArea ar
   cut_below axis value t rest is_area inside cuts l low s =
       let old : Placed = record { leaf = Child outer; area = side_below rest axis value } in
       let none = apart (side_below rest axis value) (λ p held. inside p ((Holds-side_below rest axis value p is_area cuts).0 held).0)
-          (λ p here there.
-          let below = ((Holds-side_below rest axis value p is_area cuts).0 here).1 in
-          let above = (there.between axis (let e = there.same in omega arith)).0 in
-          absurd (omega arith)) in
+      (λ p here there.
+      let below = ((Holds-side_below rest axis value p is_area cuts).0 here).1 in
+      let above = (there.between axis (let e = there.same in omega arith)).0 in
+      absurd (omega arith)) in
       record {
         cuts = (cuts, tt, s.cuts);
         leaves = All-cons (IsCarvedLeaf leaf area outer inner) old (leaves_of t (side_from rest axis value)) none s.leaves;
@@ -89,10 +88,10 @@ module _ (leaf area : Area) (outer inner : ℕ) (h : IsArea leaf) (k : IsArea ar
   cut_above axis value t rest is_area inside cuts l high s =
       let old : Placed = record { leaf = Child outer; area = side_from rest axis value } in
       let none = apart (side_from rest axis value) (λ p held. inside p ((Holds-side_from rest axis value p cuts).0 held).0)
-          (λ p here there.
-          let above = ((Holds-side_from rest axis value p cuts).0 here).1 in
-          let below = (there.between axis (let e = there.same in omega arith)).1 in
-          absurd (omega arith)) in
+      (λ p here there.
+      let above = ((Holds-side_from rest axis value p cuts).0 here).1 in
+      let below = (there.between axis (let e = there.same in omega arith)).1 in
+      absurd (omega arith)) in
       record {
         cuts = (cuts, s.cuts, tt);
         leaves = All-append (IsCarvedLeaf leaf area outer inner) (leaves_of t (side_below rest axis value)) (old ∷ []) s.leaves (all_of_one (IsCarvedLeaf leaf area outer inner) old none);
@@ -123,14 +122,14 @@ module _ (leaf area : Area) (outer inner : ℕ) (h : IsArea leaf) (k : IsArea ar
             } in
             rw (is_below _ _ low) (cut_below axis value t rest r.is_area r.inside cuts (omega arith) (omega arith) (goes_on (side_from rest axis value) half))
         | inr high ↦ rw (isnt_below _ _ high) (goes_on rest (record {
-            is_area = r.is_area;
-            as_many = r.as_many;
-            inside = r.inside;
-            done = r.done;
-            least = omega arith;
-            greatest = here.1;
-            ahead = λ i m. r.ahead i (omega arith);
-          }))
+          is_area = r.is_area;
+          as_many = r.as_many;
+          inside = r.inside;
+          done = r.done;
+          least = omega arith;
+          greatest = here.1;
+          ahead = λ i m. r.ahead i (omega arith);
+        }))
       ]
 
   above_step : (axis : ℕ) (t : Tree) (rest : Area) → axis < length leaf.lo → IsHalf axis rest → ((more : Area) → IsRest (axis + 1) more → CarvesRest t more) → CarvesRest (carve_above axis leaf c outer t) rest
@@ -161,19 +160,19 @@ module _ (leaf area : Area) (outer inner : ℕ) (h : IsArea leaf) (k : IsArea ar
             } in
             rw (is_below _ _ high) (cut_above axis value t rest r.is_area r.inside cuts (omega arith) (omega arith) (goes_on (side_below rest axis value) more))
         | inr low ↦ rw (isnt_below _ _ low) (goes_on rest (record {
-            is_area = r.is_area;
-            as_many = r.as_many;
-            inside = r.inside;
-            done = λ i m. elim (cases_lt i axis) [
-              | inl before ↦ r.done i before
-              | inr at ↦
-                  let same_place : axis ≡ i = omega arith in
-                  let end : get_or rest.hi axis 0 ≡ get_or c.hi axis 0 = omega (arith, r.greatest) in
-                  let P : ℕ → Type 0 = λ j. (get_or rest.lo j 0 ≡ get_or c.lo j 0) × (get_or rest.hi j 0 ≡ get_or c.hi j 0) in
-                  subst P same_place (r.least, end)
-            ];
-            ahead = λ i m. r.ahead i (omega arith);
-          }))
+          is_area = r.is_area;
+          as_many = r.as_many;
+          inside = r.inside;
+          done = λ i m. elim (cases_lt i axis) [
+            | inl before ↦ r.done i before
+            | inr at ↦
+                let same_place : axis ≡ i = omega arith in
+                let end : get_or rest.hi axis 0 ≡ get_or c.hi axis 0 = omega (arith, r.greatest) in
+                let P : ℕ → Type 0 = λ j. (get_or rest.lo j 0 ≡ get_or c.lo j 0) × (get_or rest.hi j 0 ≡ get_or c.hi j 0) in
+                subst P same_place (r.least, end)
+          ];
+          ahead = λ i m. r.ahead i (omega arith);
+        }))
       ]
 
   rest_carves : (n axis : ℕ) (rest : Area) → n + axis ≡ length leaf.lo → IsRest axis rest → CarvesRest (carve_from n axis leaf c outer inner) rest
@@ -204,14 +203,17 @@ module _ (leaf area : Area) (outer inner : ℕ) (h : IsArea leaf) (k : IsArea ar
   point_named p held =
       let s = whole_carves in
       let w = way_ends (carved leaf area outer inner) leaf p h s.cuts held in
-      let at = (first_tells (carved leaf area outer inner) leaf p w.0 h s.cuts).0 w.1.first in
-      (w.0, w.1.first, elim (All-contains (IsCarvedLeaf leaf area outer inner) (leaves_of (carved leaf area outer inner) leaf) w.0 s.leaves at.0) [
-        | inl e ↦
-            let P : Placed → Type 0 = λ l. Holds l.area p in
-            let there = (Holds-common_area leaf area p h k (sym same)).0 (subst P e w.1.held) in
-            rw (held_test area p k there.1) (ap (λ l. l.leaf) e)
-        | inr e ↦ rw (failed_test area p k (held.same ∙ sym same) (λ there. e.1 p w.1.held there)) e.0
-      ])
+      let at = (first_tells (carved leaf area outer inner) leaf p w.0 h s.cuts).0 w.1.first in (
+        w.0,
+        w.1.first,
+        elim (All-contains (IsCarvedLeaf leaf area outer inner) (leaves_of (carved leaf area outer inner) leaf) w.0 s.leaves at.0) [
+          | inl e ↦
+              let P : Placed → Type 0 = λ l. Holds l.area p in
+              let there = (Holds-common_area leaf area p h k (sym same)).0 (subst P e w.1.held) in
+              rw (held_test area p k there.1) (ap (λ l. l.leaf) e)
+          | inr e ↦ rw (failed_test area p k (held.same ∙ sym same) (λ there. e.1 p w.1.held there)) e.0
+        ],
+      )
 
   alone_within : weight_of (carved leaf area outer inner) ≡ 1 → (carved leaf area outer inner ≡ Tip (Child inner)) × Within leaf area
   alone_within one = elim (alone_or_cut leaf c outer inner (length leaf.lo) 0) [

@@ -1,5 +1,5 @@
 -- A leaf's box carved, attribute by attribute.
-use Rattle.std.proofs.Common.{◌≡◌, ℕ, zero, suc, ◌+◌, ◌-◌, ◌<◌, ◌≤◌, Bool, true, false, cond, length, get_or, refl, ap, ◌∙◌, arith, nat_lt}
+use Rattle.std.proofs.Common.{◌≡◌, ℕ, zero, suc, ◌+◌, ◌-◌, ◌<◌, ◌≤◌, Bool, true, false, cond, length, get_or, ap, ◌∙◌, arith, nat_lt}
 use Rattle.hb_space.specs.Boxes.{Area}
 use Rattle.hb_frag.specs.declared.leaves.Leaf.TheVariants.{Child}
 use Rattle.hb_frag.specs.Trees.{Tree, Tip, Cut}

@@ -1,8 +1,7 @@
 -- Trees without cuts whose two sides should be one leaf.
-use Rattle.std.proofs.Common.{◌≡◌, ◌≢◌, ℕ, eq-eqb, ◌==◌, Bool, true, false, cond, List, ◌++◌, inl, inr, refl, sym, subst}
+use Rattle.std.proofs.Common.{◌≡◌, ℕ, eq-eqb, ◌==◌, cond, List, ◌++◌, inl, inr, refl, sym, subst}
 use Rattle.std.proofs.lemmas.Bool.{cases_eq, ne_eqb}
 use Rattle.hb_space.specs.declared.records.Record.{Record}
-use Rattle.hb_frag.specs.declared.leaves.Leaf.{Leaf}
 use Rattle.hb_frag.specs.declared.leaves.Leaf.TheVariants.{Records, Child, Sibling}
 use Rattle.hb_frag.specs.Trees.{Tree, Tip, Cut}
 use Rattle.hb_frag.specs.Rules.{AreAlike, IsNormal}

@@ -1,5 +1,5 @@
 -- Records in the order of their points, and that a stable sort gives that order.
-use Rattle.std.proofs.Common.{◌≡◌, ◌≢◌, ℕ, zero, suc, ◌+◌, ◌<◌, ◌≤◌, Bool, true, false, cond, not, ◌&&◌, List, [], ◌∷◌, ◌++◌, length, get_or, refl, sym, ap, subst, ◌∙◌, arith}
+use Rattle.std.proofs.Common.{◌≡◌, ℕ, zero, suc, ◌+◌, ◌<◌, Bool, true, false, cond, not, List, [], ◌∷◌, length, get_or, refl, sym, ap, subst, ◌∙◌, arith}
 use Rattle.std.specs.List.{filter}
 use denote.Param.Members.{Mut}
 use denote.Ref.{Bor}
@@ -82,8 +82,8 @@ module _ {X : Type 0} (lt : X → X → Bool) (o : IsStrictWeakOrder lt) where
       let heads : y ∷ filter (ties lt y) ys ≡ z ∷ filter (ties lt y) zs = rw both at at_y in
       let same : y ≡ z = cc in
       let tails = one_ascending ys zs h.1 k.1 (λ x.
-          let P : X → Type 0 = λ w. filter (ties lt x) (y ∷ ys) ≡ cond (ties lt x w) (w ∷ filter (ties lt x) zs) (filter (ties lt x) zs) in
-          same_rest (ties lt x y) y (filter (ties lt x) ys) (filter (ties lt x) zs) (subst P (sym same) (f x))) in
+      let P : X → Type 0 = λ w. filter (ties lt x) (y ∷ ys) ≡ cond (ties lt x w) (w ∷ filter (ties lt x) zs) (filter (ties lt x) zs) in
+      same_rest (ties lt x y) y (filter (ties lt x) ys) (filter (ties lt x) zs) (subst P (sym same) (f x))) in
       cc
 
 -- whether a record's point comes before another's

@@ -1,11 +1,11 @@
 -- That the tree without cuts that part nothing says the same as the tree.
-use Rattle.std.proofs.Common.{◌≡◌, ℕ, zero, suc, ◌+◌, ◌<◌, ◌≤◌, ◌↔◌, max, inl, inr, ◌⊎◌, List, [], ◌∷◌, ◌++◌, length, get_or, length-append, Some, refl, sym, ap, subst, ◌∙◌, arith}
-use Rattle.std.specs.List.{All, AllPairs, Contains, flat_map}
+use Rattle.std.proofs.Common.{◌≡◌, ℕ, zero, ◌↔◌, inl, inr, List, [], ◌∷◌, ◌++◌, length, get_or, length-append, Some, refl, sym, subst, ◌∙◌, arith}
+use Rattle.std.specs.List.{Contains, flat_map}
 use Rattle.std.specs.List.Sorted.{IsPermutation}
 use Rattle.std.proofs.lemmas.Bool.{cases_lt}
 use Rattle.std.proofs.lemmas.List.{append-nil}
 use Rattle.std.proofs.lemmas.List.Concat.{flat_map-append}
-use Rattle.std.proofs.lemmas.List.Elements.{All-append, All-contains, All-cons, Contains-append_left, Contains-append_right, Contains-append_cases, All-contains_itself}
+use Rattle.std.proofs.lemmas.List.Elements.{All-append, All-contains, Contains-append_left, Contains-append_right, Contains-append_cases, All-contains_itself}
 use Rattle.std.proofs.lemmas.List.Sorted.{IsPermutation-refl, IsPermutation-trans, IsPermutation-append, Contains-permutation, length_permutation}
 use Rattle.hb_space.specs.Boxes.{Area, IsArea, Holds, side_below, side_from}
 use Rattle.hb_space.specs.declared.records.Record.{Record}
@@ -13,7 +13,7 @@ use Rattle.hb_space.proofs.Boxes.{Holds-side_below, Holds-side_from}
 use Rattle.hb_frag.specs.declared.leaves.Leaf.{Leaf}
 use Rattle.hb_frag.specs.declared.leaves.Leaf.TheVariants.{Records, Child, Sibling}
 use Rattle.hb_frag.specs.Trees.{Tree, Tip, Cut}
-use Rattle.hb_frag.specs.Leaves.{Placed, IsWellCut, first_at, leaves_of, leaves, records_of, siblings, weight_of}
+use Rattle.hb_frag.specs.Leaves.{Placed, IsWellCut, first_at, leaves_of, leaves, records_of}
 use Rattle.hb_frag.specs.Rules.{BelongsAt, IsInOrder}
 use Rattle.hb_frag.specs.Normal.{in_point_order, one_leaf_or_cut, normal}
 use Rattle.hb_frag.specs.NormalLaws.{KeepsLeaf, KeepsPoint, NamesAPage, SaysTheSame}
@@ -132,7 +132,7 @@ module _ (axis value : ℕ) (l r l' r' : Tree) (f : SaysTheSame l l') (g : SaysT
         let x = f.siblings (side_below a axis value) in
         let y = g.siblings (side_from a axis value) in
         siblings-append (leaves_of l' (side_below a axis value)) (leaves_of r' (side_from a axis value))
-            ∙ cc (x, y) ∙ sym (siblings-append (leaves_of l (side_below a axis value)) (leaves_of r (side_from a axis value)));
+        ∙ cc (x, y) ∙ sym (siblings-append (leaves_of l (side_below a axis value)) (leaves_of r (side_from a axis value)));
     points = cut_point;
     records = cut_records;
     names = cut_names;

@@ -1,5 +1,5 @@
 -- Lists of one element, and lists that are two joined.
-use Rattle.std.proofs.Common.{◌≡◌, ℕ, zero, suc, ◌<◌, List, [], ◌∷◌, ◌++◌, length, arith}
+use Rattle.std.proofs.Common.{◌≡◌, zero, suc, List, [], ◌∷◌, ◌++◌, arith}
 use Rattle.std.specs.List.{All, Contains}
 
 pub contains_one : {X : Type 0} (y x : X) → Contains (y ∷ []) x → y ≡ x

@@ -2,12 +2,14 @@
 //! keeps the rest. Source of the idea: Lomet and Salzberg 1990, Evangelidis, Lomet and Salzberg
 //! 1997: an index term describes space for which the child is responsible.
 
-ghost use Rattle.std.specs.Prelude.{◌≡◌, ◌<◌, ◌≤◌, ◌+◌, ◌-◌, ◌*◌, ◌^◌, ℕ, nat_lt, if◌then◌else◌, length, slice_index, IfOk};
-ghost use Rattle.hb_space.specs.Boxes.{Meets, common_area};
+ghost use Rattle.std.specs.Prelude.{◌≡◌, ◌<◌, ◌≤◌, ◌+◌, ◌-◌, ◌*◌, ℕ, length, IfOk};
+ghost use Rattle.hb_space.specs.declared.form.TheConstants.{KMAX};
+ghost use Rattle.hb_space.specs.Boxes.{Meets};
 ghost use Rattle.hb_frag.specs.Leaves.{weight_of};
 ghost use Rattle.hb_frag.specs.Carving.{carve_below, carve_above, carve_from, carved};
 
 use crate::{Frag, Leaf};
+use hb_space::form::KMAX;
 use hb_space::{Area, NoMemory};
 use std::alloc::Global;
 
@@ -36,7 +38,8 @@ pub fn carve(
 pub fn carved_weight(leaf: &Area, inner: &Area) -> u32
     requires meets { Meets leaf.now inner.now }
     requires attributes { length inner.now.lo ≡ length leaf.now.lo }
-    ensures { (outer name : ℕ) → result ≡ weight_of (carved leaf.now inner.now outer name) }
+    ensures weight { (outer name : ℕ) → result ≡ weight_of (carved leaf.now inner.now outer name) }
+    ensures light { result ≤ 2 * KMAX + 1 }
 {
     match leaf.common(inner) {
         Some(common) => weight_from(0, leaf, &common),
@@ -121,6 +124,7 @@ fn weight_from(axis: u8, leaf: &Area, common: &Area) -> u32
     ensures weight { (outer inner : ℕ) → result ≡
         weight_of (carve_from (length leaf.now.lo - axis) axis leaf.now common.now outer inner) }
     ensures light { result ≤ 2 * (length leaf.now.lo - axis) + 1 }
+    ensures few { length leaf.now.lo ≤ KMAX }
 {
     if axis < leaf.lo().attributes() {
         let at = usize::from(axis);

@@ -129,5 +129,5 @@ pub fn a_carved_leaf_joins_others_only_whole()
         IsNormal t → part_at path t a ≡ Some (Tip (OneLeaf.Child outer), leaf) → inner ≢ outer →
         weight_of t ≤ capacity →
         (weight_of (normal (with_part path t (carved leaf area outer inner))) ≤ capacity)
-            ↔ (weight_of t + weight_of (carved leaf area outer inner) ≤ capacity + 1) }
+        ↔ (weight_of t + weight_of (carved leaf area outer inner) ≤ capacity + 1) }
 {}
