@@ -24,6 +24,10 @@ mod looking;
 mod operations;
 mod posting;
 #[cfg(test)]
+mod samples;
+#[cfg(test)]
+mod shape_tests;
+#[cfg(test)]
 mod tests;
 mod threads;
 
