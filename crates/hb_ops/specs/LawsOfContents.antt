@@ -10,7 +10,6 @@ use Rattle.hb_ops.specs.Files.{FileState, page_of, page_records, contents_of}
 use Rattle.hb_frag.specs.declared.pages.LivePage.{LivePage}
 use Rattle.hb_layout.specs.declared.meta.Meta.{Meta}
 use Rattle.hb_ops.specs.Sound.{FitsFile, IsSound}
-use Rattle.hb_ops.specs.Recording.{FitsDel, FitsPut, del_page, put_page}
 use Rattle.hb_ops.specs.Operations.{IsAllowed, IsAllowedOn, change_of, effect_of, OpHas}
 
 -- no other page of level 0 has a record of the point
@@ -46,5 +45,5 @@ IsWellIn meta (Free next) = Unit {0}
 -- What an allowed operation makes of the pages that it reads, and the page that it makes, are well made for the file
 -- afterwards.
 abbrev pub ChangesMakeWell : Type 0
-ChangesMakeWell = (op : Op) (meta : Meta) (first second third : Option LivePage) → 1 ≤ meta.icap → OpHas meta.k op → IsAllowedOn op meta first second third →
+ChangesMakeWell = (op : Op) (meta : Meta) (first second third : Option LivePage) → 1 ≤ meta.icap → 1 ≤ meta.height → OpHas meta.k op → IsAllowedOn op meta first second third →
     All (λ c. IsWellIn (change_of op meta first second third).meta c.1) (change_of op meta first second third).pages

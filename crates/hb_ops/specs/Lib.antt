@@ -13,3 +13,5 @@ pub mod LawsOfContents
 pub mod Edits
 pub mod Standing
 pub mod Looked
+pub mod Splits
+pub mod Posts

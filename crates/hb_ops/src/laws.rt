@@ -3,6 +3,8 @@
 ghost use Rattle.hb_ops.specs.LawsOfContents.{ChangesMakeWell, DelStaysSound, DelTakesOne, LonePage, PutAddsOne, PutStaysSound};
 ghost use Rattle.hb_ops.specs.Standing.{AbsenceIsContents, RecordsAreContents};
 
+use hb_frag::laws::{normal_says_the_same, parts_are_stretches};
+
 /// An allowed put adds exactly one record to the contents.
 pub fn put_adds_one_record()
     ensures { PutAddsOne }
@@ -35,4 +37,7 @@ pub fn what_stands_is_in_the_contents()
 /// the page that it makes.
 pub fn changed_pages_are_well_made()
     ensures { ChangesMakeWell }
-{}
+{
+    parts_are_stretches();
+    normal_says_the_same();
+}

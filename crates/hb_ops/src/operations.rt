@@ -1,4 +1,8 @@
+ghost use Rattle.std.specs.Prelude.{◌≡◌};
+ghost use Rattle.hb_ops.specs.Operations.{reads_of};
+
 use crate::Cuts;
+use arrayvec::ArrayVec;
 use hb_frag::Path;
 use hb_space::{Area, Point, Record};
 
@@ -6,9 +10,15 @@ use hb_space::{Area, Point, Record};
 #[derive(Debug, Drop)]
 pub enum Op {
     /// A record joins a page.
-    Put { page: u32, rec: Record },
+    Put {
+        page: u32,
+        rec: Record,
+    },
     /// The record of a point goes from a page.
-    Del { page: u32, point: Point },
+    Del {
+        page: u32,
+        point: Point,
+    },
     /// A part of a page becomes a page of its own, and a sibling leaf to it stands in its place.
     Extract {
         /// The page that is split.
@@ -39,4 +49,20 @@ pub enum Op {
         /// The first page of the free chain afterwards. 0 for none.
         free_after: u32,
     },
+}
+
+impl Op {
+    /// The numbers of the pages that it reads, in the order in which `change` wants them.
+    pub fn reads(&self) -> ArrayVec<u32, 3>
+        ensures { result.items ≡ reads_of self.now }
+    {
+        let mut reads = ArrayVec::new();
+        match self {
+            Op::Put { page, .. } | Op::Del { page, .. } => reads.push(*page),
+            Op::Extract { source, .. } => reads.push(*source),
+            Op::Post { parent, .. } => reads.push(*parent),
+            Op::Grow { .. } => {}
+        }
+        reads
+    }
 }
