@@ -32,11 +32,11 @@ pub record SpaceLaws : Type 0 where
   pub points : (k : ℕ) (p : List ℕ) → IsPoint p → length p ≡ k → Holds (whole_area k) p
 
 -- an operation that is allowed has its page in use
-put_on : (id : ℕ) (rec : Record) (meta : Meta) (o second third : Option LivePage) → IsAllowedOn (Put id rec) meta o second third → (page : LivePage) × (o ≡ Some page) × FitsPut meta page rec
+pub put_on : (id : ℕ) (rec : Record) (meta : Meta) (o second third : Option LivePage) → IsAllowedOn (Put id rec) meta o second third → (page : LivePage) × (o ≡ Some page) × FitsPut meta page rec
 put_on id rec meta None second third h = absurd h
 put_on id rec meta (Some page) second third h = (page, refl, h)
 
-del_on : (id : ℕ) (point : List ℕ) (meta : Meta) (o second third : Option LivePage) → IsAllowedOn (Del id point) meta o second third → (page : LivePage) × (o ≡ Some page) × FitsDel meta page point
+pub del_on : (id : ℕ) (point : List ℕ) (meta : Meta) (o second third : Option LivePage) → IsAllowedOn (Del id point) meta o second third → (page : LivePage) × (o ≡ Some page) × FitsDel meta page point
 del_on id point meta None second third h = absurd h
 del_on id point meta (Some page) second third h = (page, refl, h)
 
