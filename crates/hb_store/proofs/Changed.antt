@@ -29,7 +29,7 @@ use Rattle.hb_ops.specs.Recording.{joined, on_records, page_with, without}
 use Rattle.hb_ops.specs.Operations.{Change, IsAllowedOn, change_of, reads_of}
 use Rattle.hb_ops.specs.Sound.{FitsFile}
 use Rattle.hb_layout.specs.Limits.{IsLayout}
-use Rattle.hb_store.specs.Groups.{FitsOp}
+use Rattle.hb_log_codec.specs.Groups.{FitsOp}
 use Rattle.hb_store.specs.Keeps.{IsGoodPage, IsSameLayout, MayHold}
 use Rattle.hb_store.specs.ReplayLists.{live_so}
 

@@ -14,7 +14,7 @@ use Rattle.hb_ops.specs.declared.operations.Op.{Op}
 use Rattle.hb_ops.specs.declared.operations.Op.TheVariants.{Put, Del}
 use Rattle.hb_ops.specs.Files.{FileState, if_live, page_at, page_of}
 use Rattle.hb_ops.specs.Operations.{Change, IsAllowed, IsAllowedOn, IsLicensed, change_of, effect_of, nth_read, reads_of, with_page, with_pages}
-use Rattle.hb_store.specs.Groups.{FitsGroup, Logged, group_bytes}
+use Rattle.hb_log_codec.specs.Groups.{FitsGroup, Logged, group_bytes}
 use Rattle.hb_store.specs.Replay.{MayFollow, Replayed, after_group, change_in, replay, set_pages, touched_read, untouched, with_images}
 use Rattle.hb_store.specs.ReplayLists.{page_at-other, page_at-same, set_one-other, set_one-same}
 use Rattle.hb_store.specs.ReplayLaws.{Leads-append, Shows-leads, last_of-append, replay-append}

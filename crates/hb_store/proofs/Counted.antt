@@ -14,7 +14,7 @@ use Rattle.hb_ops.specs.declared.operations.Op.TheVariants.{Put, Del}
 use Rattle.hb_ops.specs.Files.{FileState, page_at, if_live}
 use Rattle.hb_ops.specs.Recording.{put_page, del_page}
 use Rattle.hb_ops.specs.Operations.{IsAllowed, IsAllowedOn, change_of, effect_of, with_page, with_pages}
-use Rattle.hb_store.specs.Groups.{Logged}
+use Rattle.hb_log_codec.specs.Groups.{Logged}
 use Rattle.hb_store.specs.Replay.{Replayed, after_group, replay, untouched}
 use Rattle.hb_store.specs.Opening.{OpensBy}
 use Rattle.hb_store.specs.Keeps.{Leads, OpensNext, StoreKeeps, StoreState, last_of}

@@ -19,7 +19,7 @@ use Rattle.hb_ops.specs.LocalRule.{BreaksFirst}
 use Rattle.hb_ops.specs.Sound.{FitsFile, IsSound}
 use Rattle.hb_wal.specs.Frames.{frames, range}
 use Rattle.hb_wal.specs.Log.{LogState}
-use Rattle.hb_store.specs.GroupLaws.{SpelledOnce}
+use Rattle.hb_log_codec.proofs.GroupLaws.{SpelledOnce}
 use Rattle.hb_layout.specs.Offsets.{page_offset}
 use Rattle.hb_store.specs.Opening.{place_bytes}
 use Rattle.hb_store.specs.Keeps.{IsGoodPage, IsStore, StoreKeeps, StoreState, last_of}

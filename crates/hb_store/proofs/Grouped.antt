@@ -16,7 +16,7 @@ use Rattle.hb_layout.specs.declared.meta.Meta.{Meta}
 use Rattle.hb_ops.specs.declared.operations.Op.{Op}
 use Rattle.hb_ops.specs.declared.operations.Op.TheVariants.{Put, Del}
 use Rattle.hb_ops.specs.Operations.{reads_of}
-use Rattle.hb_store.specs.Groups.{FitsGroup, FitsImage, FitsOp, Logged, group_bytes, image_bytes, op_bytes, page_bytes}
+use Rattle.hb_log_codec.specs.Groups.{FitsGroup, FitsImage, FitsOp, Logged, group_bytes, image_bytes, op_bytes, page_bytes}
 use Rattle.hb_store.specs.Keeps.{IsGoodPage, MayHold}
 use Rattle.hb_store.specs.Frames.{page_in}
 use Rattle.hb_store.specs.Images.{image_due}

@@ -11,10 +11,11 @@ use Rattle.hb_super.specs.Superblocks.{IsNewest}
 use Rattle.hb_wal.specs.Frames.{frames, frame_bytes, IsPayload, IsEnd, IsBadFrame}
 use Rattle.hb_wal.specs.FrameLaws.{ReadsOneWay}
 use Rattle.hb_wal.specs.Reading.{BeginsFrame}
-use Rattle.hb_store.specs.FieldLaws.{length_number}
-use Rattle.hb_store.specs.OpLaws.{same_number}
-use Rattle.hb_store.specs.Groups.{Logged, SpellAll, SpellsGroups}
-use Rattle.hb_store.specs.GroupLaws.{SpelledOnce, same_fronts, same_groups, same_spelled}
+use Rattle.hb_log_codec.proofs.FieldLaws.{length_number}
+use Rattle.hb_log_codec.proofs.OpLaws.{same_number}
+use Rattle.hb_log_codec.specs.Groups.{Logged, SpellsGroups}
+use Rattle.hb_store.specs.Payloads.{SpellAll}
+use Rattle.hb_log_codec.proofs.GroupLaws.{SpelledOnce, same_fronts, same_groups, same_spelled}
 use Rattle.hb_store.specs.Replay.{Replayed, MayReplay, replay, untouched}
 use Rattle.hb_layout.specs.Offsets.{log_start}
 use Rattle.hb_store.specs.Opening.{IsBadPayload, IsPageIn, OpensBy, OpensTo, Shows, log_bytes}

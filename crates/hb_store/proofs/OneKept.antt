@@ -10,8 +10,9 @@ use Rattle.hb_wal.specs.FrameLaws.{ReadsOneWay}
 use Rattle.hb_wal.specs.Log.{Waiting}
 use Rattle.hb_layout.specs.declared.meta.Meta.{Meta}
 use Rattle.hb_ops.specs.Files.{FileState}
-use Rattle.hb_store.specs.Groups.{Logged, FitsGroup, SpellAll, group_bytes}
-use Rattle.hb_store.specs.GroupLaws.{SpelledOnce, same_group, same_spelled}
+use Rattle.hb_log_codec.specs.Groups.{Logged, FitsGroup, group_bytes}
+use Rattle.hb_store.specs.Payloads.{SpellAll}
+use Rattle.hb_log_codec.proofs.GroupLaws.{SpelledOnce, same_group, same_spelled}
 use Rattle.hb_store.specs.Replay.{Replayed, untouched, replay, after_group}
 use Rattle.hb_store.specs.Opening.{OpensBy, Shows, log_bytes}
 use Rattle.hb_store.specs.Keeps.{StoreState, StoreKeeps, Leads, OpensNext}

@@ -3,10 +3,11 @@ use Rattle.std.proofs.Common.{◌≡◌, ℕ, ◌+◌, ◌<◌, List, [], ◌∷
 use Rattle.std.proofs.lemmas.List.{append-nil, drop_more, map-append, take-append-drop}
 use Rattle.std.proofs.lemmas.List.Elements.{All-head, All-tail}
 use Rattle.hb_layout.specs.declared.meta.Meta.{Meta}
-use Rattle.hb_store.specs.declared.groups.Group.{Group}
-use Rattle.hb_store.specs.Groups.{Logged, FitsGroup, SpellsGroups, SpellAll}
-use Rattle.hb_store.specs.GroupReading.{logged}
-use Rattle.hb_store.specs.GroupLaws.{SpelledOnce, same_groups}
+use Rattle.hb_log_codec.specs.declared.groups.Group.{Group}
+use Rattle.hb_log_codec.specs.Groups.{Logged, FitsGroup, SpellsGroups}
+use Rattle.hb_store.specs.Payloads.{SpellAll}
+use Rattle.hb_log_codec.specs.Reading.{logged}
+use Rattle.hb_log_codec.proofs.GroupLaws.{SpelledOnce, same_groups}
 use Rattle.hb_store.specs.Replay.{Replayed, MayFollow, MayReplay, after_group, replay, untouched}
 use Rattle.hb_store.specs.Opening.{IsBadPayload}
 use Rattle.hb_store.specs.Replaying.{Follows, HasReplayed}

@@ -16,7 +16,7 @@ use Rattle.hb_ops.specs.declared.operations.Op.TheVariants.{Put, Del}
 use Rattle.hb_ops.specs.Files.{if_live}
 use Rattle.hb_ops.specs.Recording.{put_page, del_page}
 use Rattle.hb_ops.specs.Operations.{Change, IsAllowedOn, OpHas, change_of}
-use Rattle.hb_store.specs.Groups.{Logged, FitsGroup, FitsOp}
+use Rattle.hb_log_codec.specs.Groups.{Logged, FitsGroup, FitsOp}
 use Rattle.hb_store.specs.Replay.{Replayed, set_pages, with_images, IsAllowedIn, after_op, after_group, MayFollow}
 use Rattle.hb_store.specs.Replaying.{AreItsPages, HasLimits, IsPageOf, with_pages}
 use Rattle.hb_store.proofs.Writable.{WithinCapacity, put_written, del_written}

@@ -16,7 +16,8 @@ use Rattle.hb_ops.specs.declared.operations.Op.TheVariants.{Put, Del}
 use Rattle.hb_ops.specs.Files.{FileState, if_live, page_at, page_of, live_page}
 use Rattle.hb_ops.specs.Recording.{put_page, del_page}
 use Rattle.hb_ops.specs.Operations.{IsAllowed, IsAllowedOn, IsLicensed, change_of, effect_of, with_page, with_pages}
-use Rattle.hb_store.specs.Groups.{Logged, SpellAll}
+use Rattle.hb_log_codec.specs.Groups.{Logged}
+use Rattle.hb_store.specs.Payloads.{SpellAll}
 use Rattle.hb_store.specs.Replay.{Replayed, untouched, set_pages, with_images, IsAllowedIn, after_op, after_group, MayFollow, replay, MayReplay}
 use Rattle.hb_layout.specs.Offsets.{file_size}
 use Rattle.hb_store.specs.Opening.{Shows, IsPageIn, OpensBy, log_bytes, place_bytes}

@@ -8,7 +8,8 @@ use Rattle.hb_frag.specs.Grammar.{HasSpelling}
 use Rattle.hb_layout.specs.declared.meta.Meta.{Meta}
 use Rattle.hb_ops.specs.declared.changes.ChangeError.{ChangeError}
 use Rattle.hb_ops.specs.declared.changes.ChangeError.TheVariants as changes
-use Rattle.hb_store.specs.Groups.{Logged, SpellAll, SpellsGroups}
+use Rattle.hb_log_codec.specs.Groups.{Logged, SpellsGroups}
+use Rattle.hb_store.specs.Payloads.{SpellAll}
 use Rattle.hb_store.specs.Replay.{Replayed, untouched, set_pages, replay, MayReplay}
 use Rattle.hb_store.specs.Opening.{IsBadPayload}
 use Rattle.hb_store.specs.declared.touched.LogStop.{LogStop}
@@ -16,8 +17,8 @@ use Rattle.hb_store.specs.declared.touched.LogStop.TheVariants as logs
 use Rattle.hb_store.specs.declared.touched.Touched.{Touched}
 use Rattle.hb_store.specs.declared.touched.ReplayStop.{ReplayStop}
 use Rattle.hb_store.specs.declared.touched.ReplayStop.TheVariants as replays
-use Rattle.hb_store.specs.declared.group_reading.GroupsStop.{GroupsStop}
-use Rattle.hb_store.specs.declared.group_reading.GroupsStop.TheVariants as groups
+use Rattle.hb_log_codec.specs.declared.reading.GroupsStop.{GroupsStop}
+use Rattle.hb_log_codec.specs.declared.reading.GroupsStop.TheVariants as groups
 
 -- what touched pages are seen as
 abbrev pub replayed_of : Touched → Replayed

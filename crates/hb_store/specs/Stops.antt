@@ -10,7 +10,8 @@ use Rattle.hb_frag.specs.Grammar.{SpellsPage, HasSpelling}
 use Rattle.hb_wal.specs.Frames.{HasFrames}
 use Rattle.hb_layout.specs.declared.meta.Meta.{Meta}
 use Rattle.hb_ops.specs.LocalRule.{BreaksFirst}
-use Rattle.hb_store.specs.Groups.{Logged, SpellAll}
+use Rattle.hb_log_codec.specs.Groups.{Logged}
+use Rattle.hb_store.specs.Payloads.{SpellAll}
 use Rattle.hb_store.specs.Replay.{untouched, replay, MayReplay}
 use Rattle.hb_store.specs.Opening.{log_bytes, place_bytes, HasBadGroup}
 use Rattle.hb_store.specs.declared.stops.Why.TheVariants.{Rule, Level, Extent}

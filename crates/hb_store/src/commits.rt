@@ -5,7 +5,7 @@ ghost use Rattle.hb_frag.specs.Leaves.{weight_of};
 ghost use Rattle.hb_ops.specs.Given.{given as live_given};
 ghost use Rattle.hb_ops.specs.Files.{FileState, if_live};
 ghost use Rattle.hb_ops.specs.Operations.{IsLicensed, OpHas};
-ghost use Rattle.hb_store.specs.Groups.{FitsGroup, group_bytes};
+ghost use Rattle.hb_log_codec.specs.Groups.{FitsGroup, group_bytes};
 ghost use Rattle.hb_store.specs.Images.{group_here};
 ghost use Rattle.hb_store.specs.Keeps.{StoreKeeps, last_of};
 ghost use Rattle.hb_store.specs.Seen.{seen_as};

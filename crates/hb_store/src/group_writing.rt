@@ -6,7 +6,7 @@ ghost use Rattle.hb_outside.specs.Numbers.{big_endian};
 ghost use Rattle.hb_space.specs.Points.{IsPoint, IsBody};
 ghost use Rattle.hb_frag.specs.Grammar.{HasSpelling, point_bytes, record_bytes};
 ghost use Rattle.hb_ops.specs.Operations.{OpHas, reads_of};
-ghost use Rattle.hb_store.specs.Groups.{FitsOp, group_bytes, image_bytes, op_bytes, page_bytes};
+ghost use Rattle.hb_log_codec.specs.Groups.{FitsOp, group_bytes, image_bytes, op_bytes, page_bytes};
 ghost use Rattle.hb_store.specs.Images.{frame_given, image_due, images_due};
 
 use crate::frames::Frame;
@@ -85,83 +85,4 @@ fn append_due(into: &mut Vec<u8>, id: u32, frame: Option<&Frame>) -> Result<u8, 
             }
         }
     }
-}
-
-/// Adds the image of a page under its number.
-pub(crate) fn append_image(into: &mut Vec<u8>, id: u32, page: &Page) -> Result<(), NoMemory>
-    requires { HasSpelling page.now }
-    ensures { OnOk result (into.new.items ≡ into.old.items ++ image_bytes (id, page.now)) }
-{
-    append_u32(into, id)?;
-    into.extend_from_slice(&spelled(page))
-}
-
-/// All bytes of a page.
-fn spelled(page: &Page) -> [u8; PAGE]
-    requires { HasSpelling page.now }
-    ensures { result ≡ page_bytes page.now }
-{
-    let mut bytes = [0; PAGE];
-    encode(page, &mut bytes);
-    bytes
-}
-
-/// Adds an operation.
-pub(crate) fn append_op(into: &mut Vec<u8>, op: &Op) -> Result<(), NoMemory>
-    ensures bytes { OnOk result (into.new.items ≡ into.old.items ++ op_bytes op.now) }
-    ensures fits { OnOk result ((k : ℕ) → OpHas k op.now → FitsOp k op.now) }
-{
-    match op {
-        Op::Put { page, rec } => {
-            into.push(1)?;
-            append_u32(into, *page)?;
-            append_record(into, rec)
-        }
-        Op::Del { page, point } => {
-            into.push(2)?;
-            append_u32(into, *page)?;
-            append_point(into, point)
-        }
-    }
-}
-
-/// Adds a record.
-fn append_record(into: &mut Vec<u8>, rec: &Record) -> Result<(), NoMemory>
-    ensures bytes { OnOk result (into.new.items ≡ into.old.items ++ record_bytes rec.now) }
-    ensures point { OnOk result (IsPoint rec.now.key) }
-    ensures body { OnOk result (IsBody rec.now.body) }
-{
-    append_point(into, &rec.key)?;
-    let body = rec.body.bytes();
-    into.push(body.len() as u8)?;
-    into.extend_from_slice(body)
-}
-
-/// Adds a point.
-fn append_point(into: &mut Vec<u8>, point: &Point) -> Result<(), NoMemory>
-    ensures bytes { OnOk result (into.new.items ≡ into.old.items ++ point_bytes point.now) }
-    ensures point { OnOk result (IsPoint point.now) }
-{
-    for value in point.values() {
-        append_u64(into, *value)?;
-    }
-    Ok(())
-}
-
-/// Adds the four bytes of a number.
-fn append_u32(into: &mut Vec<u8>, n: u32) -> Result<(), NoMemory>
-    ensures { OnOk result (into.new.items ≡ into.old.items ++ big_endian 4 n) }
-{
-    let mut bytes = [0; 4];
-    give_u32(&mut bytes, 0, n);
-    into.extend_from_slice(&bytes)
-}
-
-/// Adds the eight bytes of a number.
-fn append_u64(into: &mut Vec<u8>, n: u64) -> Result<(), NoMemory>
-    ensures { OnOk result (into.new.items ≡ into.old.items ++ big_endian 8 n) }
-{
-    let mut bytes = [0; 8];
-    give_u64(&mut bytes, 0, n);
-    into.extend_from_slice(&bytes)
 }

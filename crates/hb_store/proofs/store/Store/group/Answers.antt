@@ -3,7 +3,7 @@ use Rattle.std.proofs.lemmas.Result.{on_ok_weaker}
 use Rattle.std.specs.Ordering.{nat_cmp}
 use Rattle.std.specs.BTreeMap.{get}
 use Rattle.hb_ops.specs.Operations.{reads_of}
-use Rattle.hb_store.specs.Groups.{FitsGroup, Logged, group_bytes}
+use Rattle.hb_log_codec.specs.Groups.{FitsGroup, Logged, group_bytes}
 use Rattle.hb_store.proofs.Grouped.{due, fits_group, good_spelled, if_both, length_group, small_high, spelled_in}
 use Rattle.hb_store.proofs.store.Store.group.Goals as goal
 

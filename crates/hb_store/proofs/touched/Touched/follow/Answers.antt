@@ -1,5 +1,5 @@
 use Rattle.std.proofs.Common.{All, ap, refl, sym, subst, ◌∙◌}
-use Rattle.hb_store.specs.GroupReading.{logged}
+use Rattle.hb_log_codec.specs.Reading.{logged}
 use Rattle.hb_store.specs.Replay.{IsAllowedIn, MayFollow, Replayed, after_op}
 use Rattle.hb_store.specs.Replaying.{AreItsPages, IsPageOf, replayed_of}
 use Rattle.hb_store.proofs.Touches.{images_its, group_its, meta_stays, on_ok, on_both}

@@ -2,8 +2,8 @@ use Rattle.std.proofs.Common.{subst, sym, ◌∙◌}
 use Rattle.std.proofs.lemmas.Iterator.Adapters.{YieldsList-from_vec}
 use Rattle.std.proofs.lemmas.Iterator.Consumers.{YieldsList-so_far, YieldsList-turn}
 use Rattle.std.proofs.lemmas.Result.{err_from_is_err_and}
-use Rattle.hb_store.specs.Groups.{FitsGroup}
-use Rattle.hb_store.specs.GroupReading.{logged}
+use Rattle.hb_log_codec.specs.Groups.{FitsGroup}
+use Rattle.hb_log_codec.specs.Reading.{logged}
 use Rattle.hb_store.specs.Replay.{MayFollow}
 use Rattle.hb_store.specs.Replaying.{replayed_of}
 use Rattle.hb_store.proofs.Replays.{splits, next_fits, may_more, replay_more, bad_here}

@@ -1,5 +1,5 @@
 use Rattle.std.proofs.Common.{◌≡◌, map}
-use Rattle.hb_store.specs.GroupReading.{logged}
+use Rattle.hb_log_codec.specs.Reading.{logged}
 use Rattle.hb_store.specs.Replay.{MayReplay, replay}
 use Rattle.hb_store.specs.Replaying.{AreItsPages, replayed_of}
 use Rattle.hb_store.proofs.touched.Touched.follow_all.Given as goal
