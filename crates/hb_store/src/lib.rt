@@ -28,17 +28,13 @@ mod fetches;
 mod force_tests;
 mod forces;
 mod frames;
-mod group_fields;
-mod group_reading;
-#[cfg(test)]
-mod group_tests;
 mod group_writing;
-mod groups;
 mod image_laws;
 mod laws;
 #[cfg(test)]
 mod log_tests;
 mod looks;
+mod making;
 mod opening;
 mod reading;
 mod stops;
