@@ -19,7 +19,7 @@ use Rattle.hb_store.specs.ReplayLaws.{Leads-append, last_of-append, replay-appen
 use Rattle.hb_store.specs.Opening.{IsPageIn, Shows}
 use Rattle.hb_store.specs.Keeps.{AreImagesOf, IsGoodPage, IsRunning, IsStore, StoreKeeps, StoreState, last_of}
 use Rattle.hb_store.specs.StoreLaws.{StoreKeeps-by}
-use Rattle.hb_store.specs.Calls.{IsAllowedHere, change_here, framed_read, with_op}
+use Rattle.hb_store.specs.Calls.{Commits, IsAllowedHere, change_here, framed_read, with_op}
 use Rattle.hb_store.specs.Frames.{imaged_in, page_in}
 use Rattle.hb_store.specs.Marks.{as_imaged, mark_frames, set_frames, with_frame, with_mark}
 use Rattle.hb_store.specs.declared.frames.Frame.{Frame}
@@ -116,6 +116,19 @@ module _ (turn : ℕ) (meta : Meta) (log : LogState) (F : ℕ → Option Frame) 
         (λ k d lt. let c = well.pages k d lt in (c.0.0, c.0.1, c.1))
         (λ n p is. let old = store.frames_in n p is in (old.0, omega (arith, old.1, well.high), well.others p old.2))
         id page (sym (frame_after id) ∙ e);
+  }
+
+  pub commits_here : change ≡ change_here (seen turn meta log F stopped) op → Commits op mark (seen turn meta log F stopped) (seen turn change.meta log' F' stopped)
+  commits_here is = record {
+    turn = refl;
+    stopped = refl;
+    meta = ap (λ (c : Change). c.meta) is;
+    frame = λ id. frame_after id ∙ ap (λ (c : Change). set_pages c.pages (λ q. page_in (F q)) id) is;
+    area = ap (λ (l : LogState). l.area) log_is;
+    len = ap (λ (l : LogState). l.len) log_is;
+    written = ap (λ (l : LogState). l.written) log_is;
+    group = bytes;
+    groups = ap (λ (l : LogState). l.groups) log_is;
   }
 
   -- ---- what it keeps of the disk

@@ -6,6 +6,7 @@ use Rattle.hb_space.specs.Boxes.{Area}
 use Rattle.hb_frag.specs.declared.pages.LivePage.{LivePage}
 use Rattle.hb_frag.specs.declared.pages.Page.{Page}
 use Rattle.hb_frag.specs.declared.pages.Page.TheVariants.{Live}
+use Rattle.hb_frag.specs.Paths.{part_at}
 use Rattle.hb_frag.specs.Trees.{Tree}
 use Rattle.hb_layout.specs.declared.meta.Meta.{Meta}
 use Rattle.hb_ops.specs.declared.operations.Op.{Op}
@@ -82,9 +83,9 @@ made_over (Put id rec) meta first second third allowed F q = inl refl
 made_over (Del id point) meta first second third allowed F q = inl refl
 made_over (Extract source fresh path cuts free_after) meta None second third allowed F q = absurd allowed
 made_over (Extract source fresh path cuts free_after) meta (Some page) second third allowed F q =
-    over_room fresh F q _ (subst (λ (o : Option (Tree × Area)). IsSet fresh (split_pages source fresh path cuts page o)) (sym allowed.fits.there) (inr (inl refl)))
+    over_room fresh F q (split_pages source fresh path cuts page (part_at path page.frag page.area)) (subst (λ (o : Option (Tree × Area)). IsSet fresh (split_pages source fresh path cuts page o)) (sym allowed.fits.there) (inr (inl refl)))
 made_over (Post parent at inner area) meta first second third allowed F q = inl refl
-made_over (Grow fresh free_after) meta first second third allowed F q = over_room fresh F q _ (inl refl)
+made_over (Grow fresh free_after) meta first second third allowed F q = over_room fresh F q (change_of (Grow fresh free_after) meta first second third).pages (inl refl)
 
 one_there : (P : ℕ → Type 0) (changed : ℕ × Page) → P changed.0 → All (λ c. P c.0) (changed ∷ [])
 one_there P changed h = let Q = λ (c : ℕ × Page). P c.0 in All-cons Q changed [] h (All-nil Q)

@@ -1,10 +1,10 @@
 //! Operations in memory, and the groups that wait for them.
-ghost use Rattle.std.specs.Prelude.{◌≡◌, ◌<◌, ◌≤◌, ◌^◌, ◌∷◌, ◌++◌, [], false, List, All, length, IfOk, IfSome, OnOk, OnErr, Some};
+ghost use Rattle.std.specs.Prelude.{◌≡◌, ◌<◌, ◌≤◌, ◌^◌, ◌∷◌, ◌++◌, [], false, get_or, List, All, length, IfOk, IfSome, OnOk, OnErr, Some};
 ghost use Rattle.hb_space.specs.declared.form.TheConstants.{GROUP};
 ghost use Rattle.hb_frag.specs.Leaves.{weight_of};
 ghost use Rattle.hb_ops.specs.Given.{given as live_given};
 ghost use Rattle.hb_ops.specs.Files.{FileState, if_live};
-ghost use Rattle.hb_ops.specs.Operations.{IsLicensed, OpHas};
+ghost use Rattle.hb_ops.specs.Operations.{IsLicensed, OpHas, reads_of};
 ghost use Rattle.hb_log_codec.specs.Groups.{FitsGroup, group_bytes};
 ghost use Rattle.hb_store.specs.Images.{group_here};
 ghost use Rattle.hb_store.specs.Keeps.{StoreKeeps, last_of};
@@ -72,8 +72,7 @@ impl<D: Device> Store<D> {
         ensures page { live_given result ≡ framed_read (seen_as self.now) op.now place }
         ensures light { IfSome result (λ page. weight_of page.now.frag < 2 ^ 32) }
     {
-        let id = op.reads().get(place).copied().unwrap_or(0);
-        match self.frames.get(&id) {
+        match self.frames.get(&read_at(op, place)) {
             Some(frame) => live_of(&frame.page),
             None => None,
         }
@@ -92,6 +91,13 @@ impl<D: Device> Store<D> {
         groups_are_short();
         group_for(self.alloc, &self.frames, op)
     }
+}
+
+/// The number at a place of those that an operation reads. 0 behind them.
+fn read_at(op: &Op, place: usize) -> u32
+    ensures { result ≡ get_or (reads_of op.now) place 0 }
+{
+    op.reads().get(place).copied().unwrap_or(0)
 }
 
 /// The page, where it is in use.

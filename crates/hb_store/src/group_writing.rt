@@ -42,10 +42,13 @@ fn op_fits(op: &Op)
 {
     match op {
         Op::Put { page, rec } => {
-            let _ = (*page, &rec.key, &rec.body);
+            let _page = *page;
+            let _key = rec.key.values();
+            let _body = rec.body.bytes();
         }
         Op::Del { page, point } => {
-            let _ = (*page, point);
+            let _page = *page;
+            let _values = point.values();
         }
         Op::Extract {
             source,
@@ -53,13 +56,13 @@ fn op_fits(op: &Op)
             free_after,
             ..
         } => {
-            let _ = (*source, *fresh, *free_after);
+            let _numbers = (*source, *fresh, *free_after);
         }
         Op::Post { parent, inner, .. } => {
-            let _ = (*parent, *inner);
+            let _numbers = (*parent, *inner);
         }
         Op::Grow { fresh, free_after } => {
-            let _ = (*fresh, *free_after);
+            let _numbers = (*fresh, *free_after);
         }
     }
 }
