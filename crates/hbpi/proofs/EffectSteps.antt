@@ -32,16 +32,7 @@ use Rattle.hbpi.proofs.CoreStays.{stands, step_kept, steps_going}
 use Rattle.hbpi.proofs.AnswerSteps.{along}
 use Rattle.hbpi.proofs.RefusedSteps.{FramesOnly, none_waits}
 use Rattle.hbpi.proofs.PlansHold.{PlanHolds}
-
--- no operation changes what the file says of itself
-pub change_meta : (op : Op) (meta : Meta) (a b c : Option LivePage) → (change_of op meta a b c).meta ≡ meta
-change_meta (Put id rec) meta None b c = refl
-change_meta (Put id rec) meta (Some page) b c = refl
-change_meta (Del id point) meta None b c = refl
-change_meta (Del id point) meta (Some page) b c = refl
-
-effect_meta : (s : FileState) (op : Op) → (effect_of s op).meta ≡ s.meta
-effect_meta s op = change_meta op s.meta (nth_read s op 0) (nth_read s op 1) (nth_read s op 2)
+use Rattle.hbpi.proofs.RecordOps.{effect_meta, effect_sound, is_of_record}
 
 module _ (d : DiskModel) (is_disk : IsDisk d) (old : CoreState) (going : old.stop ≡ None) (was : old.session ≡ sessions.Walk) (line : Line) (current : IsCurrent old line)
     (n : RecordSet) (done : List Line) (kept : CoreKeeps d old n done) where
@@ -143,11 +134,11 @@ module _ (d : DiskModel) (is_disk : IsDisk d) (old : CoreState) (going : old.sto
     last_is = last_of-append kept.durable kept.later changed
 
     sound : IsSound changed
-    sound = laws.sound file op kept.sound holds.5 holds.3 holds.4
+    sound = effect_sound laws file op (is_of_record line.command file op holds.0) kept.sound holds.5 holds.3
 
     changed_one : (length changed.pages ≡ 1) × (changed.meta.root ≡ 1) × (changed.meta.height ≡ 1)
     changed_one =
-        let meta = effect_meta file op in (
+        let meta = effect_meta file op (is_of_record line.command file op holds.0) in (
           sound.rooted.numbered ∙ ap (λ (x : Meta). x.high) meta ∙ sym kept.sound.rooted.numbered ∙ kept.one_page.0,
           ap (λ (x : Meta). x.root) meta ∙ kept.one_page.1,
           ap (λ (x : Meta). x.height) meta ∙ kept.one_page.2,

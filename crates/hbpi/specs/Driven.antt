@@ -22,7 +22,7 @@ use Rattle.hbpi.specs.Drives.{IsStart, HasReadFault, RunFaults, run_output}
 use Rattle.hbpi.specs.Ends.{Seen, IsRefused, IsUnread}
 use Rattle.hbpi.specs.Moves.{MovesOn, HasOrder, shown}
 use Rattle.hbpi.specs.Outcome.{GetsLine, IsTextOf, IsWholeText, fault_line}
-use Rattle.hbpi.specs.Restart.{Refuses, IsOnePage, IsShut, IsUnwritten}
+use Rattle.hbpi.specs.Restart.{OpensAsSaid, Refuses, IsOnePage, IsShut, IsUnwritten}
 use Rattle.hbpi.specs.declared.restart.faults.OpenFault.{OpenFault}
 use Rattle.hbpi.specs.declared.restart.faults.OpenFault.TheVariants as faults
 use Rattle.hbpi.specs.declared.statuses.Damage.{Damage}
@@ -83,7 +83,7 @@ pub record Drove (d e : DiskModel) (seen : Seen) (after : CoreState) : Type 0 wh
   pub before : CoreState
   pub run : HasRun d e seen k before after
   pub faults : RunFaults d e seen.answered after
-  pub told : IfSome d.told (λ b. (s : FileState) × OpensTo b s × IsSound s × (s.meta ≡ before.store.meta)
+  pub told : IfSome d.told (λ b. (s : FileState) × OpensAsSaid b s × IsSound s × (s.meta ≡ before.store.meta)
       × RunsFrom s (length run.steps) d e before after seen.answered)
 
 -- some call of the disk failed
@@ -111,7 +111,7 @@ pub record IsTurnedAway (k : ℕ) (d e : DiskModel) (seen : Seen) (status : Stat
   pub refused : IsRefused seen status
   pub no_fault : HasNotFailed d e
   pub source : ¬ (status ≡ SourceFault) → seen.source_after ≡ seen.source_before
-  pub told : IfSome d.told (λ b. (s : FileState) × OpensTo b s × IsSound s × (s.meta.k ≡ k) × IsEven e s × (IsEven d s → Leaves d e (λ c. OpensTo c s)) × IsOnePage s.meta)
+  pub told : IfSome d.told (λ b. (s : FileState) × OpensAsSaid b s × IsSound s × (s.meta.k ≡ k) × IsEven e s × (IsEven d s → Leaves d e (λ c. OpensTo c s)) × IsOnePage s.meta)
 
 -- the whole output and the fault line behind it, or a front of these where the sink failed
 abbrev pub GetsOutput : Seen → CoreState → Status → Type 0

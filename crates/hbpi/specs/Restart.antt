@@ -11,12 +11,14 @@ use Rattle.hb_frag.specs.Grammar.{SpellsPage}
 use Rattle.hb_frag.specs.Trees.{Tip}
 use Rattle.hb_layout.specs.declared.meta.Meta.{Meta}
 use Rattle.hb_ops.specs.Files.{FileState}
-use Rattle.hb_store.specs.Groups.{Logged, SpellAll}
-use Rattle.hb_store.specs.Replay.{untouched, replay, MayReplay}
+use Rattle.hb_log_codec.specs.Groups.{Logged}
+use Rattle.hb_store.specs.Payloads.{SpellAll}
+use Rattle.hb_store.specs.Replay.{Replayed, untouched, replay, MayReplay}
 use Rattle.hb_ops.specs.Sound.{IsSound}
 use Rattle.hb_layout.specs.Offsets.{file_size}
 use Rattle.hb_store.specs.Opening.{HasBadGroup, OpensTo, Shows, log_bytes, place_bytes}
-use Rattle.hbpi.specs.Audit.{Names}
+use Rattle.hb_sound.specs.Names.{NamesIn}
+use Rattle.hb_sound.specs.Walks.{IsLeast}
 use Rattle.hbpi.specs.declared.restart.faults.OpenFault.{OpenFault}
 use Rattle.hbpi.specs.declared.restart.faults.OpenFault.TheVariants as faults
 use Rattle.hbpi.specs.declared.restart.layout.Layout.{Layout}
@@ -47,11 +49,25 @@ pub record HasLog (bytes : List ℕ) (turn : ℕ) (said : Meta) (groups : List L
   pub spelled : SpellAll said.k payloads groups
   pub replayed : MayReplay (untouched said) groups
 
--- The audit refuses: the page in the place of 1 is none, or the file breaks a rule.
+-- a number up to the high mark beyond the pages that the file may have, or of a page that the log doesn't touch, where
+-- the bytes in its place are none
+abbrev pub LacksPage : List ℕ → Meta → Replayed → ℕ → Type 0
+LacksPage bytes said t id = (1 ≤ id) × (id ≤ t.meta.high)
+    × ((said.pages < id) ⊎ ((t.page id ≡ None) × ((p : Page) → SpellsPage (place_bytes said id bytes) p → ⊥)))
+
+-- The audit refuses: the least page that is none, by rule 0, or the first rule that the file breaks.
 abbrev pub IsUnsound : List ℕ → Meta → List Logged → ℕ → ℕ → Type 0
 IsUnsound bytes said groups page rule =
-    ((rule ≡ 0) × (page ≡ 1) × (said.high ≡ 1) × ((replay (untouched said) groups).page 1 ≡ None) × ((p : Page) → SpellsPage (place_bytes said 1 bytes) p → ⊥))
-    ⊎ ((s : FileState) × Shows bytes said (replay (untouched said) groups) s × Names s page rule)
+    ((rule ≡ 0) × IsLeast (LacksPage bytes said (replay (untouched said) groups)) page)
+    ⊎ ((s : FileState) × Shows bytes said (replay (untouched said) groups) s × NamesIn s page rule)
+
+-- The log leaves what the file says of itself: it has no split and no growth.
+abbrev pub IsAsSaid : Meta → List Logged → Type 0
+IsAsSaid said groups = (replay (untouched said) groups).meta ≡ said
+
+-- Files of more than one page or level aren't served yet, nor are those whose log changes what they say of themselves.
+abbrev pub IsNotServed : List ℕ → ℕ → Meta → Type 0
+IsNotServed bytes turn said = (¬ (IsOnePage said)) ⊎ ((groups : List Logged) × HasLog bytes turn said groups × (¬ (IsAsSaid said groups)))
 
 abbrev pub IsSmall : List ℕ → ℕ → ℕ → Type 0
 IsSmall bytes needed found = (found ≡ length bytes) × (found < needed)
@@ -62,9 +78,9 @@ abbrev pub Refuses : OpenFault → List ℕ → Type 0
 Refuses (faults.BadLayout field value) bytes = ⊥
 Refuses (faults.Small needed found) bytes = IsSmall bytes needed found
 Refuses faults.NoSuper bytes = (2 * PAGE ≤ length bytes) × HasNone bytes
-Refuses faults.NotBuilt bytes = (turn : ℕ) × (said : Meta) × HasLayout bytes turn said × (¬ (IsOnePage said))
+Refuses faults.NotBuilt bytes = (turn : ℕ) × (said : Meta) × HasLayout bytes turn said × IsNotServed bytes turn said
 Refuses (faults.BadGroup frame) bytes = (turn : ℕ) × (said : Meta) × HasLayout bytes turn said × IsOnePage said × HasBadGroup bytes turn said frame
-Refuses (faults.Unsound page rule) bytes = (turn : ℕ) × (said : Meta) × HasLayout bytes turn said × IsOnePage said × (groups : List Logged) × HasLog bytes turn said groups × IsUnsound bytes said groups page rule
+Refuses (faults.Unsound page rule) bytes = (turn : ℕ) × (said : Meta) × HasLayout bytes turn said × IsOnePage said × (groups : List Logged) × HasLog bytes turn said groups × IsAsSaid said groups × IsUnsound bytes said groups page rule
 Refuses faults.DiskFault bytes = Unit {0}
 Refuses faults.NoMemory bytes = Unit {0}
 
@@ -89,9 +105,14 @@ IsUnwritten other = Unit {0}
 abbrev pub IsNoRefusal : OpenFault → Type 0
 IsNoRefusal fault = (fault ≡ faults.DiskFault) ⊎ (fault ≡ faults.NoMemory)
 
--- bytes that open to a sound file of one page and one level are refused for no reason of theirs
+-- bytes open to a file that says of itself what its superblock says
+pub record OpensAsSaid (bytes : List ℕ) (s : FileState) : Type 0 where
+  pub opens : OpensTo bytes s
+  pub as_said : s.meta ≡ opens.said
+
+-- bytes that open so to a sound file of one page and one level are refused for no reason of theirs
 abbrev pub GoodIsNotRefused : Type 0
-GoodIsNotRefused = (fault : OpenFault) (bytes : List ℕ) (s : FileState) → OpensTo bytes s → IsSound s → IsOnePage s.meta → Refuses fault bytes → IsNoRefusal fault
+GoodIsNotRefused = (fault : OpenFault) (bytes : List ℕ) (s : FileState) → OpensAsSaid bytes s → IsSound s → IsOnePage s.meta → Refuses fault bytes → IsNoRefusal fault
 
 -- Bytes are refused in one way: two refusals of them are the same.
 abbrev pub IsRefusedOnce : Type 0

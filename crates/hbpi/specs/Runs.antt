@@ -14,7 +14,7 @@ use Rattle.hbpi.specs.Core.{AreAmong, HoldsAnswers, CrashesTo, IsReplied, entrie
 use Rattle.hbpi.specs.Driven.{DriveCommandEnds, HasFailed, IsScheduled, IsServedScript}
 use Rattle.hbpi.specs.Codes.{status_of}
 use Rattle.hbpi.specs.Created.{IsUnmade}
-use Rattle.hbpi.specs.Restart.{IsOnePage, IsUnwritten, Refuses}
+use Rattle.hbpi.specs.Restart.{IsOnePage, IsUnwritten, OpensAsSaid, Refuses}
 use Rattle.hbpi.specs.declared.restart.faults.OpenFault.{OpenFault}
 use Rattle.hbpi.specs.Ends.{Seen, DiskSeen, DryEnds, CreateEnds, UsageEnds, UnbuiltEnds}
 use Rattle.hbpi.specs.Layouts.{first_fault, size_of}
@@ -63,12 +63,13 @@ pub record KeepsPromise (s : FileState) (d e : DiskModel) (seen : Seen) (status 
   pub crashes : IsEven d s → CrashesTo d e (contents_of s) done seen.answered
   pub even : status ≡ Done → (t : FileState) × (count : ℕ) × IsEven e t × IsSound t × (contents_of t ≡ set_of (contents_of s) (take count done))
 
--- Nothing failed: a disk that tells bytes, which open to this sound file of one page and one level, and a source that told
+-- Nothing failed: a disk that tells bytes, which open to this sound file of one page and one level, as its
+-- superblock says it, and a source that told
 -- what it had left.
 pub record IsCalm (s : FileState) (left : List ℕ) (d e : DiskModel) (seen : Seen) : Type 0 where
   pub bytes : List ℕ
   pub told : d.told ≡ Some bytes
-  pub opens : OpensTo bytes s
+  pub opens : OpensAsSaid bytes s
   pub sound : IsSound s
   pub one_page : IsOnePage s.meta
   pub text : seen.left ≡ Some left

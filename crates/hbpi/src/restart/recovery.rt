@@ -10,7 +10,7 @@ ghost use Rattle.hb_store.specs.Opening.{OpensTo, IsEven};
 ghost use Rattle.hb_store.specs.Keeps.{StoreKeeps, IsNew};
 ghost use Rattle.hb_store.specs.Seen.{seen_as, disk_of};
 ghost use Rattle.hbpi.specs.Beyond.{KeepsBeyondFile};
-ghost use Rattle.hbpi.specs.Restart.{Refuses, IsShut, IsUnwritten};
+ghost use Rattle.hbpi.specs.Restart.{OpensAsSaid, Refuses, IsShut, IsUnwritten};
 ghost use Rattle.hbpi.specs.declared.restart.faults.OpenFault.TheVariants.{DiskFault};
 
 use crate::restart::faults::OpenFault;
@@ -24,9 +24,9 @@ use std::alloc::Global;
 /// Opens the file of a disk: reads the newest superblock and its log, replays it, and tests all rules. Then it syncs,
 /// writes the touched pages to their places, and switches to the next turn. It gives the store and the number of
 /// records. The refusals come in this order: `Small` for two superblock places, `NoSuper`, `Small` for the layout,
-/// `NotBuilt`, `BadGroup`, `Unsound`; nothing is written before any of these.
+/// `NotBuilt` for the superblock, `BadGroup`, `NotBuilt` for the log, `Unsound`; nothing is written before any of these.
 pub(crate) fn recover<D: Device>(alloc: Global, disk: D) -> Result<(Store<D>, u64), (OpenFault, D)>
-    ensures opened { IfOk result (λ r. IfSome (D.model disk).told (λ b. (s : FileState) × OpensTo b s × IsSound s
+    ensures opened { IfOk result (λ r. IfSome (D.model disk).told (λ b. (s : FileState) × OpensAsSaid b s × IsSound s
         × (r.1 ≡ length (file_records s)) × StoreKeeps (D.model (disk_of r.0)) (seen_as r.0) s [])) }
     // over every disk the store is new, and of one page
     ensures new { IfOk result (λ r. IsNew (seen_as r.0).turn (seen_as r.0).meta (seen_as r.0)) }
