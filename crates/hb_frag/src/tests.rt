@@ -16,7 +16,13 @@ fn area_of(lo: [u64; 2], hi: [u64; 2]) -> Result<Area, Fail> {
     Ok(Area::between(Point::new(&lo), Point::new(&hi)).ok_or("an empty box")?)
 }
 
-fn cut(alloc: Global, axis: u8, value: u64, left: Frag, right: Frag) -> Result<Frag, NoMemory>
+pub(crate) fn cut(
+    alloc: Global,
+    axis: u8,
+    value: u64,
+    left: Frag,
+    right: Frag,
+) -> Result<Frag, NoMemory>
     ensures { IfOk result (λ frag. weight_of frag ≡ weight_of left + weight_of right) }
 {
     let left = Box::new(alloc, left)?;
@@ -120,7 +126,7 @@ fn push_area(text: &mut String, area: &Area) -> Result<(), NoMemory> {
     Ok(())
 }
 
-fn shown(alloc: Global, frag: &Frag) -> Result<String, NoMemory> {
+pub(crate) fn shown(alloc: Global, frag: &Frag) -> Result<String, NoMemory> {
     let mut text = String::new(alloc);
     push_frag(&mut text, frag)?;
     Ok(text)

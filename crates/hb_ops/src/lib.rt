@@ -12,23 +12,32 @@
 //! the list, from 1.
 #![tactic(auto)]
 
+mod allocations;
 mod changes;
 mod edits;
+mod extracting;
+mod growing;
 mod laws;
+mod leaf_cuts;
 mod local;
 mod looking;
-mod meta;
 mod operations;
+mod posting;
+#[cfg(test)]
+mod samples;
+#[cfg(test)]
+mod shape_tests;
 #[cfg(test)]
 mod tests;
 mod threads;
 
 pub use changes::{ChangeError, Changed, change};
+pub use hb_layout::Meta;
 pub use laws::{
     changed_pages_are_well_made, delete_takes_one_record, lone_page_has_no_others,
-    operations_keep_a_file_sound, put_adds_one_record, what_stands_is_in_the_contents,
+    put_adds_one_record, puts_and_deletes_keep_a_file_sound, what_stands_is_in_the_contents,
 };
+pub use leaf_cuts::{Cuts, LeafCut};
 pub use local::local_rule;
 pub use looking::{Standing, has_room, look_at};
-pub use meta::Meta;
 pub use operations::Op;

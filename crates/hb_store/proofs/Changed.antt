@@ -19,15 +19,16 @@ use Rattle.hb_frag.specs.Grammar.{FitsLeaf, FitsPage, FitsRecord, FitsTree, HasS
 use Rattle.hb_frag.specs.Leaves.{leaf_weight, leaves, weight_of, with_leaf_at}
 use Rattle.hb_frag.specs.Rules.{IsFilledRight, capacity_of}
 use Rattle.hb_frag.specs.Trees.{Tree, Tip, Cut}
-use Rattle.hb_ops.specs.declared.meta.Meta.{Meta}
+use Rattle.hb_layout.specs.declared.meta.Meta.{Meta}
 use Rattle.hb_ops.specs.declared.operations.Op.{Op}
 use Rattle.hb_ops.specs.declared.operations.Op.TheVariants.{Put, Del}
 use Rattle.hb_ops.specs.Files.{if_live}
 use Rattle.hb_ops.specs.Given.{given}
 use Rattle.hb_ops.specs.LawsOfContents.{DelMakesWell, PutMakesWell}
-use Rattle.hb_ops.specs.Operations.{Change, IsAllowedOn, change_of, joined, on_records, page_with, reads_of, without}
+use Rattle.hb_ops.specs.Recording.{joined, on_records, page_with, without}
+use Rattle.hb_ops.specs.Operations.{Change, IsAllowedOn, change_of, reads_of}
 use Rattle.hb_ops.specs.Sound.{FitsFile}
-use Rattle.hb_super.specs.Superblocks.{IsLayout}
+use Rattle.hb_layout.specs.Limits.{IsLayout}
 use Rattle.hb_store.specs.Groups.{FitsOp}
 use Rattle.hb_store.specs.Keeps.{IsGoodPage, IsSameLayout, MayHold}
 use Rattle.hb_store.specs.ReplayLists.{live_so}

@@ -8,11 +8,12 @@ use Rattle.hb_disk.specs.RunLaws.{some_value}
 use Rattle.hb_frag.specs.declared.pages.LivePage.{LivePage}
 use Rattle.hb_frag.specs.declared.pages.Page.{Page}
 use Rattle.hb_frag.specs.declared.pages.Page.TheVariants.{Live, Free}
-use Rattle.hb_ops.specs.declared.meta.Meta.{Meta}
+use Rattle.hb_layout.specs.declared.meta.Meta.{Meta}
 use Rattle.hb_ops.specs.declared.operations.Op.{Op}
 use Rattle.hb_ops.specs.declared.operations.Op.TheVariants.{Put, Del}
 use Rattle.hb_ops.specs.Files.{FileState, page_at, if_live}
-use Rattle.hb_ops.specs.Operations.{IsAllowed, IsAllowedOn, change_of, effect_of, put_page, del_page, with_page, with_pages}
+use Rattle.hb_ops.specs.Recording.{put_page, del_page}
+use Rattle.hb_ops.specs.Operations.{IsAllowed, IsAllowedOn, change_of, effect_of, with_page, with_pages}
 use Rattle.hb_store.specs.Groups.{Logged}
 use Rattle.hb_store.specs.Replay.{Replayed, after_group, replay, untouched}
 use Rattle.hb_store.specs.Opening.{OpensBy}

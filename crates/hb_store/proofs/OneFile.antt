@@ -5,7 +5,7 @@ use Rattle.std.proofs.lemmas.List.{length-take}
 use Rattle.std.proofs.lemmas.List.Elements.{All-head, All-nil, All-tail}
 use Rattle.hb_outside.specs.Numbers.{big_endian}
 use Rattle.hb_frag.specs.declared.pages.Page.{Page}
-use Rattle.hb_ops.specs.declared.meta.Meta.{Meta}
+use Rattle.hb_layout.specs.declared.meta.Meta.{Meta}
 use Rattle.hb_ops.specs.Files.{FileState, page_at}
 use Rattle.hb_super.specs.Superblocks.{IsNewest}
 use Rattle.hb_wal.specs.Frames.{frames, frame_bytes, IsPayload, IsEnd, IsBadFrame}
@@ -16,7 +16,8 @@ use Rattle.hb_store.specs.OpLaws.{same_number}
 use Rattle.hb_store.specs.Groups.{Logged, SpellAll, SpellsGroups}
 use Rattle.hb_store.specs.GroupLaws.{SpelledOnce, same_fronts, same_groups, same_spelled}
 use Rattle.hb_store.specs.Replay.{Replayed, MayReplay, replay, untouched}
-use Rattle.hb_store.specs.Opening.{IsBadPayload, IsPageIn, OpensBy, OpensTo, Shows, log_bytes, log_place}
+use Rattle.hb_layout.specs.Offsets.{log_start}
+use Rattle.hb_store.specs.Opening.{IsBadPayload, IsPageIn, OpensBy, OpensTo, Shows, log_bytes}
 use Rattle.hb_store.specs.ImageLaws.{OpensToOne, OpensWhole}
 use Rattle.hb_store.proofs.Counted.{page_in_range}
 use Rattle.hb_store.proofs.Replays.{may_front, may_back, replay-append}
@@ -125,6 +126,6 @@ module _ (once : SpelledOnce) where
   no_bad_frame turns metas way bytes s turn said frame opens newest bad =
       let o = by_newest turns metas bytes turn said s opens newest in
       let area = log_bytes turn said bytes in
-      let small : length area < 2 ^ 32 = omega (arith, length-take said.log (drop (log_place turn said) bytes), newest.there.legal.layout.log_limit) in
+      let small : length area < 2 ^ 32 = omega (arith, length-take said.log (drop (log_start turn said) bytes), newest.there.legal.layout.log_limit) in
       none_bad way said.k bad.before opens.payloads (untouched said) o.framed.rest bad.rest opens.groups bad.groups (sym o.framed.bytes ∙ bad.framed) (subst (λ (l : List ℕ). length l < 2 ^ 32) bad.framed small)
       o.framed.payloads_fit o.framed.at_end o.spelled o.replayed bad.spelled bad.bad

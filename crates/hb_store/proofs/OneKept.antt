@@ -8,7 +8,7 @@ use Rattle.hb_super.specs.Superblocks.{IsNewest}
 use Rattle.hb_wal.specs.Frames.{frames, frame_bytes}
 use Rattle.hb_wal.specs.FrameLaws.{ReadsOneWay}
 use Rattle.hb_wal.specs.Log.{Waiting}
-use Rattle.hb_ops.specs.declared.meta.Meta.{Meta}
+use Rattle.hb_layout.specs.declared.meta.Meta.{Meta}
 use Rattle.hb_ops.specs.Files.{FileState}
 use Rattle.hb_store.specs.Groups.{Logged, FitsGroup, SpellAll, group_bytes}
 use Rattle.hb_store.specs.GroupLaws.{SpelledOnce, same_group, same_spelled}

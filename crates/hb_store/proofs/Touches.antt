@@ -10,11 +10,12 @@ use Rattle.hb_frag.specs.declared.pages.Page.TheVariants.{Live, Free}
 use Rattle.hb_frag.specs.Leaves.{weight_of}
 use Rattle.hb_frag.specs.Grammar.{HasSpelling, SpellsPage}
 use Rattle.hb_page_codec.specs.Weight.{IsLight}
-use Rattle.hb_ops.specs.declared.meta.Meta.{Meta}
+use Rattle.hb_layout.specs.declared.meta.Meta.{Meta}
 use Rattle.hb_ops.specs.declared.operations.Op.{Op}
 use Rattle.hb_ops.specs.declared.operations.Op.TheVariants.{Put, Del}
 use Rattle.hb_ops.specs.Files.{if_live}
-use Rattle.hb_ops.specs.Operations.{Change, IsAllowedOn, OpHas, change_of, put_page, del_page}
+use Rattle.hb_ops.specs.Recording.{put_page, del_page}
+use Rattle.hb_ops.specs.Operations.{Change, IsAllowedOn, OpHas, change_of}
 use Rattle.hb_store.specs.Groups.{Logged, FitsGroup, FitsOp}
 use Rattle.hb_store.specs.Replay.{Replayed, set_pages, with_images, IsAllowedIn, after_op, after_group, MayFollow}
 use Rattle.hb_store.specs.Replaying.{AreItsPages, HasLimits, IsPageOf, with_pages}

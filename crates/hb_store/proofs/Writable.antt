@@ -13,8 +13,8 @@ use Rattle.hb_frag.specs.Trees.{Tree, Tip, Cut}
 use Rattle.hb_frag.specs.Leaves.{leaf_weight, leaves, weight_of, with_leaf_at}
 use Rattle.hb_frag.specs.Rules.{BelongsAt, IsFilledRight, IsSiblingTip, capacity_of}
 use Rattle.hb_frag.specs.Grammar.{FitsPage, FitsRecord, FitsTree, HasSpelling}
-use Rattle.hb_ops.specs.declared.meta.Meta.{Meta}
-use Rattle.hb_ops.specs.Operations.{FitsDel, FitsPut, del_page, joined, on_records, page_with, put_page, without}
+use Rattle.hb_layout.specs.declared.meta.Meta.{Meta}
+use Rattle.hb_ops.specs.Recording.{FitsDel, FitsPut, del_page, joined, on_records, page_with, put_page, without}
 
 -- a filter leaves no more
 filter_fewer : {A : Type 0} (keep : A → Bool) (xs : List A) → length (filter keep xs) ≤ length xs

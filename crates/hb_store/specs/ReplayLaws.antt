@@ -10,14 +10,16 @@ use Rattle.hb_frag.specs.declared.pages.Page.TheVariants.{Live}
 use Rattle.hb_frag.specs.Grammar.{SpellsPage}
 use Rattle.hb_wal.specs.Frames.{HasFrames, IsEnd, IsPayload}
 use Rattle.hb_super.specs.Superblocks.{IsNewest}
-use Rattle.hb_ops.specs.declared.meta.Meta.{Meta}
+use Rattle.hb_layout.specs.declared.meta.Meta.{Meta}
 use Rattle.hb_ops.specs.declared.operations.Op.{Op}
 use Rattle.hb_ops.specs.declared.operations.Op.TheVariants.{Put, Del}
 use Rattle.hb_ops.specs.Files.{FileState, if_live, page_at, page_of, live_page}
-use Rattle.hb_ops.specs.Operations.{IsAllowed, IsAllowedOn, IsLicensed, change_of, effect_of, put_page, del_page, with_page, with_pages}
+use Rattle.hb_ops.specs.Recording.{put_page, del_page}
+use Rattle.hb_ops.specs.Operations.{IsAllowed, IsAllowedOn, IsLicensed, change_of, effect_of, with_page, with_pages}
 use Rattle.hb_store.specs.Groups.{Logged, SpellAll}
 use Rattle.hb_store.specs.Replay.{Replayed, untouched, set_pages, with_images, IsAllowedIn, after_op, after_group, MayFollow, replay, MayReplay}
-use Rattle.hb_store.specs.Opening.{Shows, IsPageIn, OpensBy, log_bytes, place_bytes, file_size}
+use Rattle.hb_layout.specs.Offsets.{file_size}
+use Rattle.hb_store.specs.Opening.{Shows, IsPageIn, OpensBy, log_bytes, place_bytes}
 use Rattle.hb_store.specs.Keeps.{AreImagesOf, Leads, last_of}
 use Rattle.hb_store.specs.ReplayLists.{length-with_page, page_at-same, page_at-other, live_so, set_one-same, set_one-other, set_pages-some}
 

@@ -5,7 +5,7 @@ use Rattle.std.specs.BTreeMap.{get}
 use Rattle.hb_space.specs.declared.form.TheConstants.{KMAX}
 use Rattle.hb_frag.specs.declared.pages.Page.{Page}
 use Rattle.hb_frag.specs.Grammar.{HasSpelling}
-use Rattle.hb_ops.specs.declared.meta.Meta.{Meta}
+use Rattle.hb_layout.specs.declared.meta.Meta.{Meta}
 use Rattle.hb_ops.specs.declared.changes.ChangeError.{ChangeError}
 use Rattle.hb_ops.specs.declared.changes.ChangeError.TheVariants as changes
 use Rattle.hb_store.specs.Groups.{Logged, SpellAll, SpellsGroups}

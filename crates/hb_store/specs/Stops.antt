@@ -8,7 +8,7 @@ use Rattle.hb_frag.specs.declared.pages.Page.TheVariants.{Live}
 use Rattle.hb_frag.specs.declared.pages.LivePage.{LivePage}
 use Rattle.hb_frag.specs.Grammar.{SpellsPage, HasSpelling}
 use Rattle.hb_wal.specs.Frames.{HasFrames}
-use Rattle.hb_ops.specs.declared.meta.Meta.{Meta}
+use Rattle.hb_layout.specs.declared.meta.Meta.{Meta}
 use Rattle.hb_ops.specs.LocalRule.{BreaksFirst}
 use Rattle.hb_store.specs.Groups.{Logged, SpellAll}
 use Rattle.hb_store.specs.Replay.{untouched, replay, MayReplay}

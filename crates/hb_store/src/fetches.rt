@@ -14,7 +14,7 @@ ghost use Rattle.hb_store.specs.Stops.{FetchesNot, IsNoPage};
 ghost use Rattle.hb_store.specs.declared.stops.FetchStop.TheVariants.{ReadFault};
 
 use crate::frames::Frame;
-use crate::places::page_place;
+use hb_layout::page_offset;
 use crate::stops::{FetchStop, Why};
 use crate::store::Store;
 use hb_disk::Device;
@@ -74,7 +74,7 @@ impl<D: Device> Store<D> {
         ensures no_fault { (IsErrOf result ReadFault → ⊥) → (D.model self.new.disk).read_faults ≡ (D.model self.old.disk).read_faults }
     {
         let mut bytes = [0; PAGE];
-        let place = page_place(&self.meta, id);
+        let place = page_offset(&self.meta, id);
         match self.disk.read(place, &mut bytes) {
             Ok(()) => page_in(self.alloc, &self.meta, id, &bytes),
             Err(_) => Err(FetchStop::ReadFault),

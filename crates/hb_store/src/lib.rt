@@ -40,7 +40,6 @@ mod laws;
 mod log_tests;
 mod looks;
 mod opening;
-mod places;
 mod reading;
 mod stops;
 mod store;
@@ -49,7 +48,6 @@ mod touched;
 
 pub use image_laws::an_image_opens_to_one_file;
 pub use laws::{a_store_keeps_one_file, an_image_of_a_store_opens};
-pub use places::{log_place, page_place};
 pub use reading::read_log;
 pub use stops::{FetchStop, Flushed, StopWhy, Why, WriteFault};
 pub use store::Store;

@@ -2,12 +2,12 @@
 ghost use Rattle.std.specs.Prelude.{◌≡◌, ◌⊎◌, ◌+◌, ◌≤◌, [], ℕ, List, length, IfOk, IfErr, IfSome, IsSome};
 ghost use Rattle.hb_outside.specs.Streams.{Rose};
 ghost use Rattle.hb_disk.specs.Calls.{Leaves, OnlyReads};
-ghost use Rattle.hb_ops.specs.declared.meta.Meta.{Meta as Said};
+ghost use Rattle.hb_layout.specs.declared.meta.Meta.{Meta as Said};
 ghost use Rattle.hb_ops.specs.Files.{FileState, file_records};
 ghost use Rattle.hb_ops.specs.Sound.{IsSound};
 ghost use Rattle.hb_super.specs.Superblocks.{IsNewest};
 ghost use Rattle.hb_store.specs.Opening.{OpensTo, IsEven};
-ghost use Rattle.hb_store.specs.Keeps.{StoreKeeps, IsNew};
+ghost use Rattle.hb_store.specs.Keeps.{StoreKeeps, IsNew, IsSameLayout};
 ghost use Rattle.hb_store.specs.Seen.{seen_as, disk_of};
 ghost use Rattle.hbpi.specs.Beyond.{KeepsBeyondFile};
 ghost use Rattle.hbpi.specs.Restart.{Refuses, IsShut, IsUnwritten};
@@ -48,8 +48,8 @@ pub(crate) fn recover<D: Device>(alloc: Global, disk: D) -> Result<(Store<D>, u6
     ensures shut { IfErr result (λ e. IsShut (D.model disk).size e.0) }
     ensures time { IfOk result (λ r. IsSome (D.model disk).told → (D.model disk).clock ≤ (D.model (disk_of r.0)).clock) }
     ensures meta { IfOk result (λ r. IfSome (D.model disk).told (λ b. (s : FileState) → OpensTo b s → s.meta ≡ (seen_as r.0).meta)) }
-    // the newest superblock is the one that the store has, and only its file's bytes may change
-    ensures said { IfOk result (λ r. IfSome (D.model disk).told (λ b. (turn : ℕ) (said : Said) → IsNewest b turn said → said ≡ (seen_as r.0).meta)) }
+    // the newest superblock has the layout that the store has, and only its file's bytes may change
+    ensures said { IfOk result (λ r. IfSome (D.model disk).told (λ b. (turn : ℕ) (said : Said) → IsNewest b turn said → IsSameLayout said (seen_as r.0).meta)) }
     ensures beyond { IfOk result (λ r. KeepsBeyondFile (D.model disk) (D.model (disk_of r.0))) }
     ensures beyond_after_fault { IfErr result (λ e. KeepsBeyondFile (D.model disk) (D.model e.1)) }
     ensures cause { IfErr result (λ e. e.0 ≡ DiskFault → (Rose (D.model disk).read_faults (D.model e.1).read_faults) ⊎ (Rose (D.model disk).write_faults (D.model e.1).write_faults)) }

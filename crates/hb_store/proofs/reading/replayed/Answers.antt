@@ -1,5 +1,5 @@
 use Rattle.std.proofs.Common.{take, ap, sym, subst, ◌∙◌, arith}
-use Rattle.hb_ops.specs.declared.meta.Meta.{Meta}
+use Rattle.hb_layout.specs.declared.meta.Meta.{Meta}
 use Rattle.hb_store.specs.Opening.{IsBadPayload}
 use Rattle.hb_store.specs.Replay.{Replayed}
 use Rattle.hb_store.specs.Replaying.{AreItsPages, Follows, HasReplayed, NamesBad, replayed_of}
