@@ -1,5 +1,6 @@
 -- What is found of a file: from its superblock, its log, its page and the audit.
 use Rattle.std.proofs.Common.{◌≡◌, ◌≢◌, ◌⊎◌, inl, inr, ℕ, ◌+◌, ◌*◌, ◌≤◌, List, [], ◌∷◌, length, take, drop, Option, Some, None, IfSome, Result, Ok, Err, IfOk, IfErr, refl, sym, ap, ◌∙◌, subst, arith}
+use Rattle.std.specs.Prelude.{IsErrOf}
 use Rattle.std.proofs.lemmas.Bool.{cases_eq}
 use Rattle.std.specs.Ordering.{nat_cmp}
 use Rattle.std.specs.BTreeMap.{get}
@@ -22,8 +23,12 @@ use Rattle.hb_store.specs.declared.touched.Touched.{Touched}
 use Rattle.hbpi.specs.OnePage.{lone}
 use Rattle.hb_sound.specs.Marks.{HasMarks}
 use Rattle.hb_sound.specs.Names.{IsSoundWith, Names, NamesIn}
+use Rattle.hb_sound.specs.Stops.{OnBroken}
 use Rattle.hb_sound.specs.Told.{IsWholeFile, file_of, item_at}
-use Rattle.hbpi.specs.Looking.{IsFoundIn, IsAudited, IsFirstPage, IsSpelledIn, AuditRefuses, IsNamed, told_one}
+use Rattle.hb_sound.specs.declared.pages.AuditStop.{AuditStop}
+use Rattle.hb_sound.specs.declared.pages.AuditStop.TheVariants as stops
+use Rattle.hb_outside.specs.Streams.{Rose}
+use Rattle.hbpi.specs.Looking.{IsFoundIn, IsAudited, IsFirstPage, AuditRefuses, IsNamed, audit_fault, told_one}
 use Rattle.hbpi.specs.Restart.{Refuses, IsOnePage, HasLog, IsUnsound, LacksPage}
 use Rattle.hbpi.specs.declared.restart.faults.OpenFault.{OpenFault}
 use Rattle.hbpi.specs.declared.restart.faults.OpenFault.TheVariants as faults
@@ -36,6 +41,23 @@ pub place_read : (told : Option (List ℕ)) (into : List ℕ) (meta : Meta) (at 
 place_read None into meta at same long reads = tt
 place_read (Some b) into meta at same long reads =
     reads ∙ ap (λ (n : ℕ). take n (drop at b)) long ∙ ap (λ (n : ℕ). take PAGE (drop n b)) same
+
+-- the refusal that an audit of this page came to, which never fails
+pub named_stop : (stop : AuditStop) (meta : Meta) (page source : Option Page) → source ≡ page → OnBroken (λ id rule. Names meta (told_one source) id rule) stop
+    → (IsErrOf {T = ℕ} (Err stop) stops.Failed → Rose 0 0) → IsNamed (audit_fault stop) meta page
+named_stop (stops.Broken id rule) meta page source same names never = subst (λ (p : Option Page). Names meta (told_one p) id rule) same names
+named_stop stops.NoMemory meta page source same names never = tt
+named_stop stops.Failed meta page source same names never = elim (never refl) [
+  | inl less ↦ absurd (omega (arith, less))
+  | inr most ↦ absurd (omega (arith, most))
+]
+
+pub named_of : {N : Type 0} (r : Result N OpenFault) (fault : OpenFault) (stop : AuditStop) (meta : Meta) (page : Option Page) → r ≡ Err fault → fault ≡ audit_fault stop
+    → IsNamed (audit_fault stop) meta page → IfErr r (λ f. IsNamed f meta page)
+named_of {N = N} r fault stop meta page is same named =
+    let R : Result N OpenFault → Type 0 = λ q. IfErr q (λ f. IsNamed f meta page) in
+    let F : OpenFault → Type 0 = λ f. IsNamed f meta page in
+    subst R (sym is) (subst F (sym same) named)
 
 -- what the audit said of a page, where the disk tells
 pub named_refuses : {N : Type 0} (r : Result N OpenFault) (told : Option (List ℕ)) (said meta : Meta) (touched page : Option Page)
@@ -61,7 +83,7 @@ first_in b said None page there = there
 first_in b said (Some touched) page there = let same : Some page ≡ Some touched = there in cc (same)
 
 -- a file that the audit found sound
-pub audited_one : (told : Option (List ℕ)) (said meta : Meta) (touched page : Option Page) (count : ℕ) → IsOnePage meta → HasMarks meta
+audited_one : (told : Option (List ℕ)) (said meta : Meta) (touched page : Option Page) (count : ℕ) → IsOnePage meta → HasMarks meta
     → IfSome told (λ b. IsFirstPage b said touched page) → IsSoundWith meta (told_one page) count → IsAudited told said meta touched count
 audited_one told said meta touched page count few marks there sound = by_page page there sound
   where
@@ -77,6 +99,11 @@ audited_one told said meta touched page count few marks there sound = by_page pa
       counted = subst (λ (s : FileState). count ≡ length (file_records s)) (file_one meta page high) sound.2;
       there = if_value told (λ b. IsPageIn b said 1 touched page) (λ b is. first_in b said touched page (at_value told (λ b. IsFirstPage b said touched (Some page)) b is there));
     }
+
+pub audited_ok : (r : Result ℕ OpenFault) (told : Option (List ℕ)) (said meta : Meta) (touched page : Option Page) → IsOnePage meta → IfOk r (λ n. HasMarks meta)
+    → IfSome told (λ b. IsFirstPage b said touched page) → IfOk r (IsSoundWith meta (told_one page)) → IfOk r (IsAudited told said meta touched)
+audited_ok (Err e) told said meta touched page few marks there sound = tt
+audited_ok (Ok n) told said meta touched page few marks there sound = audited_one told said meta touched page n few marks there sound
 
 -- What is found once the superblock and the log were read.
 module _ (turn : ℕ) (said : Meta) (touched : Touched) (b : List ℕ) (read : ReadsLog b turn said touched) where

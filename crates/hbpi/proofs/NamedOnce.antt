@@ -92,6 +92,11 @@ module _ (s : FileState) where
     no_free : (id next : ℕ) → next_free s id ≡ Some next → ⊥
     no_free id next is = absurd (none s.pages few s.meta.root rooted.top.0 (live_so (page_of s s.meta.root) rooted.top.0 rooted.top.1) id next is)
       where
+        free_so : (o : Option Page) (next : ℕ) → if_free o ≡ Some next → o ≡ Some (Free next)
+        free_so None next e = cc
+        free_so (Some (Live page)) next e = cc
+        free_so (Some (Free other)) next e = let is : other ≡ next = cc in ap (λ (n : ℕ). Some (Free n)) is
+
         none : (pages : List Page) → length pages ≤ 1 → (root : ℕ) (page : LivePage) → page_at pages root ≡ Some (Live page) → (id next : ℕ) → if_free (page_at pages id) ≡ Some next → ⊥
         none [] few root page top id next is = cc (is)
         none (first ∷ second ∷ rest) few root page top id next is = absurd (omega (arith, few))
@@ -100,11 +105,6 @@ module _ (s : FileState) where
             let one = (page_alone only root (Live page) top).1 in
             let other = (page_alone only id (Free next) free).1 in
             cc (one, other)
-
-        free_so : (o : Option Page) (next : ℕ) → if_free o ≡ Some next → o ≡ Some (Free next)
-        free_so None next e = cc
-        free_so (Some (Live page)) next e = cc
-        free_so (Some (Free other)) next e = let is : other ≡ next = cc in ap (λ (n : ℕ). Some (Free n)) is
 
     at_head : (head end : ℕ) (chain : List ℕ) → LeadsAlong (next_free s) head chain end → head ≡ end
     at_head head end [] leads = leads

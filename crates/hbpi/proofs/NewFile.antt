@@ -138,7 +138,7 @@ page_fits l is = record {
 
 -- a file of this page alone keeps the rules 7 to 9
 module _ (l : Layout) where
-  new_live : LivePage
+  abbrev new_live : LivePage
   new_live = record { level = 0; area = whole_area l.k; frag = Tip (Records []) }
 
   is_new : (id : ℕ) (page : LivePage) → live_page (new_file l) id ≡ Some page → new_live ≡ page
@@ -147,7 +147,7 @@ module _ (l : Layout) where
   new_siblings : SiblingsMatch (new_file l)
   new_siblings id page name area is h =
       let Q : LivePage → Type 0 = λ p. Contains (siblings_of p) (name, area) in
-      let never : Contains [] (name, area) = subst Q (sym (is_new id page is)) h in
+      let never : Contains (siblings_of new_live) (name, area) = subst Q (sym (is_new id page is)) h in
       absurd (omega (arith, never.1))
 
   new_children : ChildrenMatch (new_file l)
@@ -168,10 +168,9 @@ module _ (l : Layout) where
 pub new_is_sound : (l : Layout) → IsNone (layout_fault l) → IsSound (new_file l)
 new_is_sound l none =
     let is = layout_is l (is_none (layout_fault l) none) in
-    let page : LivePage = record { level = 0; area = whole_area l.k; frag = Tip (Records []) } in
     record {
-      rooted = to_rooted (new_meta l) page refl is.some_pages refl (omega arith) (omega arith) refl refl;
-      counted = to_counted (new_meta l) page refl refl;
+      rooted = to_rooted (new_meta l) (new_live l) refl is.some_pages refl (omega arith) (omega arith) refl refl;
+      counted = to_counted (new_meta l) (new_live l) refl refl;
       well_made = λ id q e. let Q : LivePage → Type 0 = λ p. FitsFile (new_meta l) p in subst Q (is_new l id q e) (page_fits l is);
       siblings = new_siblings l;
       children = new_children l;

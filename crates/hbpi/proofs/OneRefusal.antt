@@ -10,7 +10,7 @@ use Rattle.hb_store.proofs.Spellings.{OneList, same_spelled}
 use Rattle.hb_store.specs.ImageLaws.{OpensToOne}
 use Rattle.hb_layout.specs.Offsets.{file_size}
 use Rattle.hb_store.specs.Opening.{HasBadGroup, OpensTo, Shows, log_bytes}
-use Rattle.hb_store.specs.Replay.{Replayed, untouched, replay}
+use Rattle.hb_store.specs.Replay.{untouched, replay}
 use Rattle.hb_sound.specs.Names.{NamesIn}
 use Rattle.hbpi.specs.Restart.{Refuses, IsUnwritten, IsOnePage, IsSmall, IsLarger, IsUnsound, HasLayout, HasLog, LacksPage}
 use Rattle.hbpi.specs.declared.restart.faults.OpenFault.{OpenFault}
@@ -78,17 +78,14 @@ module _ (once : OneList) (turns : (bytes : List ℕ) (t s : ℕ) (m n : Meta) �
       → IsUnsound b said groups p r → IsUnsound b said groups q t → (p ≡ q) × (r ≡ t)
   unsound_same turn said groups p q r t layout few log x y = by_kind x y
     where
-      abbrev last : Replayed
-      last = replay (untouched said) groups
-
-      low : last.meta.high ≤ 1
+      low : (replay (untouched said) groups).meta.high ≤ 1
       low = few.0
 
-      shown_not : (s : FileState) (id : ℕ) → Shows b said last s → LacksPage b said last id → ⊥
-      shown_not s id shows lacks = lacks_none b said last s id shows low layout.newest.there.legal.layout.some_pages lacks
+      shown_not : (s : FileState) (id : ℕ) → Shows b said (replay (untouched said) groups) s → LacksPage b said (replay (untouched said) groups) id → ⊥
+      shown_not s id shows lacks = lacks_none b said (replay (untouched said) groups) s id shows low layout.newest.there.legal.layout.some_pages lacks
 
       by_kind : IsUnsound b said groups p r → IsUnsound b said groups q t → (p ≡ q) × (r ≡ t)
-      by_kind (inl x) (inl y) = (least_one (LacksPage b said last) p q x.1 y.1, x.0 ∙ sym y.0)
+      by_kind (inl x) (inl y) = (least_one (LacksPage b said (replay (untouched said) groups)) p q x.1 y.1, x.0 ∙ sym y.0)
       by_kind (inl x) (inr y) = absurd (shown_not y.0 p y.1 x.1.here)
       by_kind (inr x) (inl y) = absurd (shown_not x.0 q x.1 y.1.here)
       by_kind (inr x) (inr y) =

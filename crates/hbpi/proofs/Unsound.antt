@@ -16,7 +16,7 @@ use Rattle.hbpi.specs.OnePage.{lone}
 
 -- ---- a source of all pages
 
-all_told : List Page → List (Option Page)
+abbrev all_told : List Page → List (Option Page)
 all_told [] = []
 all_told (page ∷ rest) = Some page ∷ all_told rest
 
@@ -25,11 +25,12 @@ shown_all [] = refl
 shown_all (page ∷ rest) = ap (λ (l : List Page). page ∷ l) (shown_all rest)
 
 none_missing : (pages : List Page) (id : ℕ) → item_at (all_told pages) id ≡ Some None → ⊥
-none_missing pages zero e = let never : None ≡ Some None = e in cc (never)
+none_missing pages zero e = cc (e)
 none_missing pages (suc place) e = at pages place e
   where
     at : (pages : List Page) (place : ℕ) → slice_get (all_told pages) place ≡ Some None → ⊥
-    at [] place e = cc (e)
+    at [] zero e = cc (e)
+    at [] (suc place) e = cc (e)
     at (page ∷ rest) zero e = cc (e)
     at (page ∷ rest) (suc place) e = at rest place e
 
@@ -67,7 +68,8 @@ weight_page (Free next) light = omega arith
 
 -- under another number than 1 it is told that there is no page
 none_there : (n place : ℕ) (there : Option Page) → slice_get (replicate n None) place ≡ Some there → None ≡ there
-none_there zero place there e = cc (e)
+none_there zero zero there e = cc (e)
+none_there zero (suc place) there e = cc (e)
 none_there (suc n) zero there e = cc (e)
 none_there (suc n) (suc place) there e = none_there n place there e
 

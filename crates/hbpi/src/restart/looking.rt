@@ -26,7 +26,6 @@ use hb_outside::Failed;
 use hb_page_codec::laws::spelling_law;
 use hb_page_codec::{PageError, decode};
 use hb_sound::{AuditStop, audit};
-use hb_space::NoMemory;
 use hb_space::form::PAGE;
 use hb_store::{LogStop, Touched, read_log};
 use hb_super::{SuperStop, read_super};
@@ -115,14 +114,15 @@ fn log_of<D: Device>(
 }
 
 /// The page that the bytes spell, or that they spell none.
-fn spelled(alloc: Global, bytes: &[u8]) -> Result<Option<Page>, NoMemory>
+fn spelled(alloc: Global, bytes: &[u8]) -> Result<Option<Page>, OpenFault>
     ensures page { IfOk result (IsSpelledIn bytes.now) }
     ensures light { IfOk result (λ page. page_weight page ≤ PAGE) }
+    ensures memory { IfErr result (λ fault. fault ≡ OpenFault.NoMemory) }
 {
     match decode(alloc, bytes) {
         Ok(page) => Ok(Some(page)),
         Err(PageError::BadPage) => Ok(None),
-        Err(PageError::NoMemory) => Err(NoMemory),
+        Err(PageError::NoMemory) => Err(OpenFault::NoMemory),
     }
 }
 
@@ -154,12 +154,9 @@ fn page_there<D: Device>(
     ensures only_reads { OnlyReads (D.model disk.old) (D.model disk.new) }
 {
     let mut bytes = [0; PAGE];
-    if read_place(disk, meta, &mut bytes).is_err() {
-        return Err(OpenFault::DiskFault);
-    }
-    match spelled(alloc, &bytes) {
-        Ok(page) => Ok(page),
-        Err(NoMemory) => Err(OpenFault::NoMemory),
+    match read_place(disk, meta, &mut bytes) {
+        Ok(()) => spelled(alloc, &bytes),
+        Err(_) => Err(OpenFault::DiskFault),
     }
 }
 
@@ -184,7 +181,7 @@ fn first_page<D: Device>(
     match touched.pages.get(&1) {
         Some(page) => match copy_of(alloc, page) {
             Ok(page) => Ok(Some(page)),
-            Err(NoMemory) => Err(OpenFault::NoMemory),
+            Err(_) => Err(OpenFault::NoMemory),
         },
         None => page_there(alloc, disk, meta),
     }

@@ -50,7 +50,7 @@ impl Pages for FirstPage {
         match &self.page {
             Some(page) if id == 1 => match copy_of(self.alloc, page) {
                 Ok(page) => Ok(Some(page)),
-                Err(NoMemory) => Err(PageStop::NoMemory),
+                Err(_) => Err(PageStop::NoMemory),
             },
             _ => Ok(None),
         }
