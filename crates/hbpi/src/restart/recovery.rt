@@ -24,7 +24,8 @@ use std::alloc::Global;
 /// Opens the file of a disk: reads the newest superblock and its log, replays it, and tests all rules. Then it syncs,
 /// writes the touched pages to their places, and switches to the next turn. It gives the store and the number of
 /// records. The refusals come in this order: `Small` for two superblock places, `NoSuper`, `Small` for the layout,
-/// `NotBuilt`, `BadGroup`, `Unsound`; nothing is written before any of these.
+/// `NotBuilt` by the superblock, `BadGroup`, `NotBuilt` by what the log leads to, `Unsound`; nothing is written before
+/// any of these.
 pub(crate) fn recover<D: Device>(alloc: Global, disk: D) -> Result<(Store<D>, u64), (OpenFault, D)>
     ensures opened { IfOk result (λ r. IfSome (D.model disk).told (λ b. (s : FileState) × OpensTo b s × IsSound s
         × (r.1 ≡ length (file_records s)) × StoreKeeps (D.model (disk_of r.0)) (seen_as r.0) s [])) }
