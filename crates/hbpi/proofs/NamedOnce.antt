@@ -1,16 +1,16 @@
 -- The audit of a file of at most one page names one page and one rule.
-use Rattle.std.proofs.Common.{◌≡◌, ◌⊎◌, inl, inr, ℕ, ◌<◌, ◌≤◌, List, [], ◌∷◌, length, Contains, Option, Some, None, sym, ap, subst, ◌∙◌, arith}
+use Rattle.std.proofs.Common.{◌≡◌, inl, inr, ℕ, ◌≤◌, List, [], ◌∷◌, length, Option, Some, None, sym, ap, subst, ◌∙◌, arith}
 use Rattle.std.proofs.lemmas.Bool.{cases_lt}
 use Rattle.hb_frag.specs.declared.pages.LivePage.{LivePage}
 use Rattle.hb_frag.specs.declared.pages.Page.{Page}
 use Rattle.hb_frag.specs.declared.pages.Page.TheVariants.{Live, Free}
 use Rattle.hb_layout.specs.declared.meta.Meta.{Meta}
-use Rattle.hb_ops.specs.Files.{FileState, page_of, page_at, live_page}
+use Rattle.hb_ops.specs.Files.{FileState, page_of, page_at}
 use Rattle.hb_ops.specs.LocalRule.{BreaksFirst}
 use Rattle.hb_ops.specs.Sound.{FitsFile, IsRooted, SiblingsMatch, ChildrenMatch}
-use Rattle.hb_sound.specs.Broken.{BreaksRule, MissesSibling, MissesChild, LacksFirst, IsLoose}
+use Rattle.hb_sound.specs.Broken.{BreaksRule, MissesSibling, MissesChild, IsLoose}
 use Rattle.hb_sound.specs.Names.{KeepsLocally, NamesFree, NamesIn, NamesLocal, NamesLoose}
-use Rattle.hb_sound.specs.Walks.{IsChainWalk, IsLeast, IsLeftOut, LeadsAlong, if_free, next_free}
+use Rattle.hb_sound.specs.Walks.{IsLeast, LeadsAlong, if_free, next_free}
 use Rattle.hbpi.proofs.Lone.{page_alone, live_so}
 
 pub least_one : (p : ℕ → Type 0) (m n : ℕ) → IsLeast p m → IsLeast p n → m ≡ n
@@ -62,9 +62,9 @@ module _ (s : FileState) where
       equal = elim (cases_lt r t) [
         | inl less ↦ absurd (b.2 r p less a.1.here)
         | inr most ↦ elim (cases_lt t r) [
-            | inl less ↦ absurd (a.2 t q less b.1.here)
-            | inr least ↦ omega (arith, most, least)
-          ]
+          | inl less ↦ absurd (a.2 t q less b.1.here)
+          | inr least ↦ omega (arith, most, least)
+        ]
       ]
 
   keeps_not : (p r : ℕ) → KeepsLocally s → NamesLocal s p r → ⊥

@@ -1,5 +1,5 @@
 -- Bytes are refused in one way.
-use Rattle.std.proofs.Common.{◌≡◌, inl, inr, ℕ, ◌≤◌, List, [], ◌∷◌, length, Option, Some, None, refl, sym, ap, subst, ◌∙◌, arith}
+use Rattle.std.proofs.Common.{◌≡◌, inl, inr, ℕ, ◌≤◌, List, length, refl, sym, ap, subst, ◌∙◌, arith}
 use Rattle.hb_wal.specs.FrameLaws.{ReadsOneWay}
 use Rattle.hb_super.specs.Superblocks.{IsNewest, HasNone}
 use Rattle.hb_layout.specs.declared.meta.Meta.{Meta}

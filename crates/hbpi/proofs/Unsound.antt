@@ -1,12 +1,12 @@
 -- What the audit is told of a file of at most one page, and what follows of its refusals.
-use Rattle.std.proofs.Common.{◌≡◌, ◌≢◌, ◌⊎◌, inl, inr, ℕ, zero, suc, ◌<◌, ◌≤◌, List, [], ◌∷◌, length, take, replicate, slice_get, Option, Some, None, refl, sym, ap, subst, ◌∙◌, arith}
+use Rattle.std.proofs.Common.{◌≡◌, ◌≢◌, inl, inr, ℕ, zero, suc, ◌≤◌, List, [], ◌∷◌, length, take, replicate, slice_get, Option, Some, None, refl, sym, ap, subst, ◌∙◌, arith}
 use Rattle.std.proofs.lemmas.List.{length-replicate}
 use Rattle.hb_frag.specs.declared.pages.Page.{Page}
 use Rattle.hb_frag.specs.declared.pages.Page.TheVariants.{Live, Free}
 use Rattle.hb_page_codec.specs.Weight.{IsLight}
 use Rattle.hb_space.specs.declared.form.TheConstants.{PAGE}
 use Rattle.hb_layout.specs.declared.meta.Meta.{Meta}
-use Rattle.hb_ops.specs.Files.{FileState, page_of}
+use Rattle.hb_ops.specs.Files.{FileState}
 use Rattle.hb_ops.specs.Sound.{IsSound}
 use Rattle.hb_sound.specs.Names.{NamesIn, SoundBreaksNone}
 use Rattle.hb_sound.specs.Told.{CoversFile, IsWholeFile, file_of, item_at, shown}
@@ -43,8 +43,8 @@ sound_names law s id rule names sound =
       | inr none ↦ none_missing s.pages number none
     ] in
     let same : file_of s.meta told ≡ s =
-      ap (λ (l : List Page). record { meta = s.meta; pages = l })
-      (ap (λ (n : ℕ). shown (take n told)) (sym sound.rooted.numbered) ∙ shown_all s.pages) in
+    ap (λ (l : List Page). record { meta = s.meta; pages = l })
+    (ap (λ (n : ℕ). shown (take n told)) (sym sound.rooted.numbered) ∙ shown_all s.pages) in
     law s.meta told id rule (inr (whole, subst (λ (x : FileState). NamesIn x id rule) (sym same) names)) whole (subst IsSound (sym same) sound)
 
 -- ---- the source of one page

@@ -1,4 +1,3 @@
-use Rattle.std.proofs.Common.{length, subst, sym}
 use Rattle.std.proofs.lemmas.Result.{err_from_is_err_and}
 use Rattle.hbpi.proofs.Found.{named_of, named_stop}
 use Rattle.hbpi.proofs.Unsound.{told_covers}
