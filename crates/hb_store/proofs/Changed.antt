@@ -1,5 +1,5 @@
 -- What an allowed operation makes of the pages in frames is good for the file afterwards.
-use Rattle.std.proofs.Common.{◌≡◌, ℕ, ◌+◌, ◌*◌, ◌^◌, ◌<◌, ◌≤◌, List, [], ◌∷◌, get_or, All, Option, Some, None, sym, subst, arith}
+use Rattle.std.proofs.Common.{◌≡◌, ℕ, ◌+◌, ◌*◌, ◌^◌, ◌<◌, ◌≤◌, get_or, All, Option, Some, None, sym, subst, arith}
 use Rattle.std.specs.Option.{IfSome}
 use denote.Bor.{Bor}
 use Rattle.hb_space.specs.declared.form.TheConstants.{PAGE}
@@ -86,9 +86,9 @@ module _ (makes : MakesGoodPages) (turn : ℕ) (meta : Meta) (limits : HasLimits
       let after = comes_after op meta first second third limits fits allowed in
       let there = reads_some op meta frame second third allowed in
       let reads : All (IsPageOf meta) (reads_of op) = λ i d lt.
-          let page = some_page (frame (get_or (reads_of op) i d)) (there i d lt) in
-          let at = framed (get_or (reads_of op) i d) page.0 page.1 in
-          (at.0, at.1) in
+      let page = some_page (frame (get_or (reads_of op) i d)) (there i d lt) in
+      let at = framed (get_or (reads_of op) i d) page.0 page.1 in
+      (at.0, at.1) in
       let numbered = made_numbered op meta first second third allowed reads in
       let good = makes op meta first second third limits fits allowed (framed_readable meta frame framed id) in
       record {

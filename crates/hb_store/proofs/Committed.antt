@@ -1,8 +1,8 @@
 -- A store keeps its disk once an operation was done in memory and its group waits.
-use Rattle.std.proofs.Common.{◌≡◌, ◌≢◌, inl, inr, ℕ, ◌+◌, ◌*◌, ◌%◌, ◌≤◌, ◌==◌, Bool, true, false, cond, List, [], ◌∷◌, ◌++◌, length, get_or, map, All, Option, Some, None, IsSome, refl, sym, ap, ◌∙◌, subst, arith}
-use Rattle.std.proofs.lemmas.Bool.{cases_Bool, cases_lt, eqb-true, eqb-false}
+use Rattle.std.proofs.Common.{◌≡◌, inl, inr, ℕ, ◌+◌, ◌*◌, ◌%◌, ◌≤◌, ◌==◌, Bool, true, false, cond, List, [], ◌∷◌, ◌++◌, length, get_or, map, All, Option, Some, None, IsSome, refl, sym, ap, ◌∙◌, subst, arith}
+use Rattle.std.proofs.lemmas.Bool.{cases_lt}
 use Rattle.std.proofs.lemmas.List.{get_or_past, map-append}
-use Rattle.std.proofs.lemmas.List.Elements.{All-append, All-cons, All-head, All-nil, All-tail}
+use Rattle.std.proofs.lemmas.List.Elements.{All-append, All-cons, All-nil}
 use Rattle.hb_disk.specs.Model.{DiskModel, IsDisk}
 use Rattle.hb_disk.specs.Calls.{IsSynced}
 use Rattle.hb_wal.specs.Log.{LogState, Waiting}
@@ -28,7 +28,7 @@ use Rattle.hb_store.proofs.FilePages.{Reaches, pages_set}
 use Rattle.hb_store.proofs.MadeMeta.{reads_some}
 use Rattle.hb_store.proofs.Shown.{Shows-leads}
 use Rattle.hb_store.proofs.Grouped.{all_due, due}
-use Rattle.hb_store.proofs.Marking.{all_set, frames_after, page_in-after, set_pages-same}
+use Rattle.hb_store.proofs.Marking.{all_set, frames_after, page_in-after}
 use Rattle.hb_store.proofs.Imaging.{Agrees, Marks, Tells, marks_after, read_page}
 
 -- what a store with these frames is seen as

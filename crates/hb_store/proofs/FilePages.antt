@@ -1,5 +1,5 @@
 -- The pages of a file by their numbers, once others were set.
-use Rattle.std.proofs.Common.{◌≡◌, ◌≢◌, inl, inr, ℕ, zero, suc, ◌+◌, ◌-◌, ◌<◌, ◌≤◌, ◌==◌, max, Bool, cond, List, [], ◌∷◌, ◌++◌, length, set, slice_get, get_or, All, Option, Some, None, refl, sym, ap, ◌∙◌, subst, arith, ne_eqb, lt-ltb, le-ltb, nat_lt, length-append}
+use Rattle.std.proofs.Common.{◌≡◌, ◌≢◌, inl, inr, ℕ, zero, suc, ◌+◌, ◌-◌, ◌<◌, ◌≤◌, ◌==◌, max, Bool, cond, List, [], ◌∷◌, ◌++◌, length, set, slice_get, All, Some, None, refl, sym, ap, ◌∙◌, subst, arith, ne_eqb, lt-ltb, le-ltb, nat_lt, length-append}
 use Rattle.std.proofs.Math.ListN.{length-set}
 use Rattle.std.proofs.lemmas.Bool.{cases_Bool, cases_lt, eq-eqb, eqb-true, eqb-false}
 use Rattle.std.proofs.lemmas.List.Elements.{All-head, All-tail}

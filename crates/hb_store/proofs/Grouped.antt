@@ -1,22 +1,19 @@
 -- The group of an operation: which images it has.
-use Rattle.std.proofs.Common.{◌≡◌, ◌≢◌, ℕ, zero, suc, ◌-◌, ◌*◌, ◌^◌, ◌<◌, ◌≤◌, true, false, cond, List, [], ◌∷◌, ◌++◌, length, get_or, replicate, All, AllPairs, Option, Some, None, Result, Ok, Err, refl, ap, arith}
+use Rattle.std.proofs.Common.{◌≡◌, ◌≢◌, ℕ, zero, suc, ◌^◌, ◌<◌, ◌≤◌, true, false, cond, List, [], ◌∷◌, ◌++◌, length, get_or, All, AllPairs, Option, Some, None, Result, Ok, Err, refl, ap, arith}
 use Rattle.std.specs.List.{flat_map}
 use Rattle.std.specs.Option.{IfSome}
 use Rattle.std.specs.Result.{IfOk, OnOk}
-use Rattle.std.proofs.lemmas.List.{length-append, length-replicate}
+use Rattle.std.proofs.lemmas.List.{length-append}
 use Rattle.std.proofs.lemmas.List.Elements.{All-append, All-cons, All-head, All-nil, All-tail}
 use Rattle.std.proofs.lemmas.List.Kept.{AllPairs-cons}
-use Rattle.byteorder.specs.Numbers.{length-bytes_high_first}
-use Rattle.hb_space.specs.declared.form.TheConstants.{PAGE, KMAX}
-use Rattle.hb_outside.specs.Numbers.{big_endian}
 use Rattle.hb_frag.specs.declared.pages.Page.{Page}
 use Rattle.hb_frag.specs.declared.pages.Page.TheVariants.{Live, Free}
-use Rattle.hb_frag.specs.Grammar.{HasSpelling, page_fields, point_bytes, record_bytes}
+use Rattle.hb_frag.specs.Grammar.{HasSpelling}
 use Rattle.hb_layout.specs.declared.meta.Meta.{Meta}
 use Rattle.hb_ops.specs.declared.operations.Op.{Op}
 use Rattle.hb_ops.specs.declared.operations.Op.TheVariants.{Put, Del, Extract, Post, Grow}
 use Rattle.hb_ops.specs.Operations.{reads_of}
-use Rattle.hb_log_codec.specs.Groups.{FitsGroup, FitsImage, FitsOp, Logged, group_bytes, image_bytes, op_bytes, page_bytes}
+use Rattle.hb_log_codec.specs.Groups.{FitsGroup, FitsImage, FitsOp}
 use Rattle.hb_store.specs.Keeps.{IsGoodPage, MayHold}
 use Rattle.hb_store.specs.Frames.{page_in}
 use Rattle.hb_store.specs.Images.{image_due}

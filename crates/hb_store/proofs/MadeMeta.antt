@@ -1,5 +1,5 @@
 -- What a file says of itself after an allowed operation, and the numbers of the pages that change.
-use Rattle.std.proofs.Common.{◌≡◌, ◌≢◌, inl, inr, ℕ, ◌+◌, ◌<◌, ◌≤◌, ◌^◌, max, eqb, List, [], ◌∷◌, get_or, All, Option, Some, None, IsSome, refl, sym, ap, subst, ◌∙◌, arith}
+use Rattle.std.proofs.Common.{◌≡◌, ◌≢◌, inl, inr, ℕ, ◌+◌, ◌<◌, ◌≤◌, ◌^◌, eqb, List, [], ◌∷◌, get_or, All, Option, Some, None, IsSome, refl, subst, ◌∙◌, arith}
 use Rattle.std.proofs.lemmas.Bool.{cases_Bool, eqb-true, eqb-false}
 use Rattle.std.proofs.lemmas.List.Elements.{All-cons, All-head, All-nil}
 use Rattle.hb_space.specs.Boxes.{Area}
@@ -9,14 +9,13 @@ use Rattle.hb_frag.specs.declared.pages.Page.TheVariants.{Live}
 use Rattle.hb_frag.specs.declared.paths.Side.{Side}
 use Rattle.hb_frag.specs.Trees.{Tree}
 use Rattle.hb_layout.specs.declared.meta.Meta.{Meta}
-use Rattle.hb_layout.specs.Limits.{IsLayout}
 use Rattle.hb_ops.specs.declared.leaf_cuts.LeafCut.{LeafCut}
 use Rattle.hb_ops.specs.declared.operations.Op.{Op}
 use Rattle.hb_ops.specs.declared.operations.Op.TheVariants.{Put, Del, Extract, Post, Grow}
 use Rattle.hb_ops.specs.Allocating.{Allocates, allocated}
 use Rattle.hb_ops.specs.Files.{if_live}
 use Rattle.hb_ops.specs.Extracting.{fresh_page, source_page, split_pages}
-use Rattle.hb_ops.specs.Operations.{Change, IsAllowedOn, OpHas, change_of, reads_of}
+use Rattle.hb_ops.specs.Operations.{IsAllowedOn, OpHas, change_of, reads_of}
 use Rattle.hb_log_codec.specs.Groups.{FitsOp}
 use Rattle.hb_store.specs.Keeps.{IsSameLayout}
 use Rattle.hb_store.specs.Replaying.{ComesAfter, HasLimits, IsPageOf}

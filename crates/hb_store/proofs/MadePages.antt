@@ -1,5 +1,5 @@
 -- The pages that an allowed operation makes can be written, and its paths and cuts have their places.
-use Rattle.std.proofs.Common.{◌≡◌, ℕ, ◌+◌, ◌<◌, ◌≤◌, ◌^◌, ◌==◌, true, false, cond, List, [], ◌∷◌, length, get_or, All, Option, Some, None, refl, sym, ap, subst, ◌∙◌, arith}
+use Rattle.std.proofs.Common.{◌≡◌, ℕ, ◌<◌, ◌≤◌, ◌^◌, ◌==◌, true, false, cond, [], ◌∷◌, length, get_or, All, Option, Some, None, refl, sym, subst, arith}
 use Rattle.std.specs.List.{sum_by}
 use Rattle.std.proofs.lemmas.List.Sums.{sum-map}
 use Rattle.std.proofs.lemmas.List.Elements.{All-cons, All-head, All-nil}
@@ -18,7 +18,7 @@ use Rattle.hb_frag.specs.Grammar.{FitsPage, FitsTree, HasSpelling}
 use Rattle.hb_layout.specs.declared.meta.Meta.{Meta}
 use Rattle.hb_ops.specs.declared.operations.Op.{Op}
 use Rattle.hb_ops.specs.declared.operations.Op.TheVariants.{Put, Del, Extract, Post, Grow}
-use Rattle.hb_ops.specs.Cutting.{cut_through, reached}
+use Rattle.hb_ops.specs.Cutting.{cut_through}
 use Rattle.hb_ops.specs.Extracting.{fresh_page, source_page, split_pages}
 use Rattle.hb_ops.specs.Growing.{new_root}
 use Rattle.hb_ops.specs.LawsOfContents.{ChangesMakeWell, IsWellIn}
@@ -28,7 +28,7 @@ use Rattle.hb_ops.specs.Recording.{del_page, joined, put_page, without}
 use Rattle.hb_ops.specs.Sound.{FitsFile}
 use Rattle.hb_log_codec.specs.Groups.{FitsOp}
 use Rattle.hb_store.specs.Keeps.{IsGoodPage}
-use Rattle.hb_store.specs.Making.{HasFittingParts, HaveFittingParts, IsReadable, MakesGoodPages}
+use Rattle.hb_store.specs.Making.{HaveFittingParts, IsReadable, MakesGoodPages}
 use Rattle.hb_store.specs.Replaying.{HasLimits}
 use Rattle.hb_store.proofs.MadeLeaves.{AllFit, FitsIn, all_fit, fit_carved, fit_changed, fit_cut_through, fit_normal, fit_part, fit_reached, fit_with_part, joined_fit, light_fit, without_fit}
 use Rattle.hb_store.proofs.MadeParts.{BoxesOfLeaves, PartsStand, cuts_few, cuts_fit, fits_tree, reached_box, records_weigh, steps_few, weight_some}
@@ -103,9 +103,11 @@ module _ (boxes : BoxesOfLeaves) (stand : PartsStand) where
         let box = allowed.box in
         let outer_fits : outer < 2 ^ 32 = All-head (FitsIn meta.k) (Child outer) [] (fit_part meta.k at page.frag page.area (Tip (Child outer), box) allowed.leaf old.1) in
         let made : AllFit meta.k (carved box area outer inner) = fit_carved meta.k outer inner outer_fits fits.inner_fits (length box.lo) 0 box (common_area box area) in
-        one_parted meta.k (parent, Live (post_page at inner area page))
-        (old.0, subst (λ (o : Option (Tree × Area)). AllFit meta.k (posted at inner area page.frag o)) (sym allowed.leaf)
-        (fit_normal meta.k (with_part at page.frag (carved box area outer inner)) (fit_with_part meta.k at page.frag (carved box area outer inner) old.1 made)))
+        one_parted meta.k (parent, Live (post_page at inner area page)) (
+          old.0,
+          subst (λ (o : Option (Tree × Area)). AllFit meta.k (posted at inner area page.frag o)) (sym allowed.leaf)
+              (fit_normal meta.k (with_part at page.frag (carved box area outer inner)) (fit_with_part meta.k at page.frag (carved box area outer inner) old.1 made)),
+        )
     parts_made (Grow fresh free_after) meta first second third limits fits allowed readable =
         one_parted meta.k (fresh, Live (new_root meta))
         (whole meta.k limits.layout.some_attributes limits.layout.few_attributes, All-cons (FitsIn meta.k) (Child meta.root) [] limits.root_fits (All-nil (FitsIn meta.k)))
@@ -128,10 +130,11 @@ module _ (boxes : BoxesOfLeaves) (stand : PartsStand) where
       let there = allowed.fits.there in
       let light = light_page meta page limits allowed.made in
       let steps = steps_few path page.frag page.area part there in
-      let is = (stand path page.frag page.area part there (readable page refl).fits.1 allowed.made.well_cut).is_area in
-      (omega (arith, light, steps, weight_some part.0),
-      omega (arith, light, steps, cuts_few cuts part.0 part.1 allowed.fits.parted, records_weigh part.0, weight_some part.0),
-      cuts_fit boxes cuts part.0 part.1 allowed.fits.parted is)
+      let is = (stand path page.frag page.area part there (readable page refl).fits.1 allowed.made.well_cut).is_area in (
+        omega (arith, light, steps, weight_some part.0),
+        omega (arith, light, steps, cuts_few cuts part.0 part.1 allowed.fits.parted, records_weigh part.0, weight_some part.0),
+        cuts_fit boxes cuts part.0 part.1 allowed.fits.parted is,
+      )
   fitting_parts (Post parent at inner area) meta None second third limits allowed readable = absurd allowed
   fitting_parts (Post parent at inner area) meta (Some page) second third limits allowed readable =
       let part : Tree × Area = (Tip (Child allowed.outer), allowed.box) in

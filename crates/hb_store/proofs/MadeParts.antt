@@ -1,6 +1,6 @@
 -- Boxes, paths and cuts inside a page: a well-cut tree of leaves in their places has its place, and what leads into a
 -- light page is short.
-use Rattle.std.proofs.Common.{◌≡◌, ℕ, ◌+◌, ◌<◌, ◌≤◌, ◌^◌, max, not, Bool, true, false, cond, List, [], ◌∷◌, ◌++◌, length, All, Option, Some, refl, sym, ap, subst, ◌∙◌, arith}
+use Rattle.std.proofs.Common.{◌≡◌, ℕ, ◌+◌, ◌<◌, ◌≤◌, ◌^◌, max, not, Bool, true, false, cond, List, [], ◌∷◌, ◌++◌, length, All, Some, refl, sym, ap, subst, ◌∙◌, arith}
 use Rattle.std.specs.Prelude.{slice_index}
 use Rattle.std.specs.List.{filter, sum_by}
 use Rattle.std.proofs.lemmas.List.{length-set}
@@ -47,11 +47,12 @@ module _ (boxes : BoxesOfLeaves) where
   pub fits_tree : (k : ℕ) (t : Tree) (a : Area) → IsArea a → IsWellCut t a → length a.lo ≡ k → All (FitsLeaf k) (leaves t) → FitsTree k t
   fits_tree k (Tip leaf) a is cut long fit = All-head (FitsLeaf k) leaf [] fit
   fits_tree k (Cut axis value left right) a is cut long fit =
-      let both = side_boxes a axis value is cut.0 in
-      (omega (arith, cut.0.attribute, long),
-      greatest a axis value is cut.0,
-      fits_tree k left (side_below a axis value) both.0 cut.1 long (front_all (FitsLeaf k) (leaves left) (leaves right) fit),
-      fits_tree k right (side_from a axis value) both.1 cut.2 (length-set a.lo axis value ∙ long) (back_all (FitsLeaf k) (leaves left) (leaves right) fit))
+      let both = side_boxes a axis value is cut.0 in (
+        omega (arith, cut.0.attribute, long),
+        greatest a axis value is cut.0,
+        fits_tree k left (side_below a axis value) both.0 cut.1 long (front_all (FitsLeaf k) (leaves left) (leaves right) fit),
+        fits_tree k right (side_from a axis value) both.1 cut.2 (length-set a.lo axis value ∙ long) (back_all (FitsLeaf k) (leaves left) (leaves right) fit),
+      )
 
   half_box : (side : Side) (axis value : ℕ) (a : Area) → IsArea a → Cuts a axis value → IsArea (area_on side axis value a)
   half_box Left axis value a is cuts = (side_boxes a axis value is cuts).0

@@ -1,22 +1,21 @@
 -- What groups make of a file is what they make of its touched pages.
-use Rattle.std.proofs.Common.{◌≡◌, ◌≢◌, inl, inr, ℕ, ◌+◌, ◌≤◌, ◌==◌, true, false, cond, List, [], ◌∷◌, length, get_or, All, Option, Some, None, IsSome, refl, sym, ap, ◌∙◌, subst, arith}
+use Rattle.std.proofs.Common.{◌≡◌, ◌≢◌, inl, inr, ℕ, ◌==◌, true, false, cond, List, [], ◌∷◌, get_or, All, Option, Some, None, IsSome, refl, sym, ap, ◌∙◌, subst}
 use Rattle.std.proofs.lemmas.Bool.{cases_Bool, eqb-true, eqb-false}
 use Rattle.std.proofs.lemmas.List.Elements.{All-head, All-tail}
 use Rattle.hb_frag.specs.declared.pages.LivePage.{LivePage}
 use Rattle.hb_frag.specs.declared.pages.Page.{Page}
-use Rattle.hb_frag.specs.declared.pages.Page.TheVariants.{Live}
 use Rattle.hb_layout.specs.declared.meta.Meta.{Meta}
 use Rattle.hb_ops.specs.declared.operations.Op.{Op}
 use Rattle.hb_ops.specs.declared.operations.Op.TheVariants.{Put, Del, Extract, Post, Grow}
 use Rattle.hb_ops.specs.Files.{FileState, if_live, page_of}
-use Rattle.hb_ops.specs.Operations.{Change, IsAllowed, IsAllowedOn, change_of, effect_of, nth_read, reads_of, with_pages}
+use Rattle.hb_ops.specs.Operations.{Change, IsAllowed, change_of, effect_of, nth_read, reads_of}
 use Rattle.hb_log_codec.specs.Groups.{Logged}
 use Rattle.hb_store.specs.Replay.{IsAllowedIn, MayFollow, Replayed, after_group, after_op, change_in, replay, set_pages, touched_read, with_images}
-use Rattle.hb_store.specs.ReplayLists.{live_so, set_one-same, set_one-other}
+use Rattle.hb_store.specs.ReplayLists.{set_one-same, set_one-other}
 use Rattle.hb_store.specs.Opening.{IsPageIn, Shows}
 use Rattle.hb_store.specs.Keeps.{AreImagesOf, Leads, last_of}
 use Rattle.hb_store.proofs.Counting.{HasCount, effect_count, effect_reaches}
-use Rattle.hb_store.proofs.FilePages.{Reaches, pages_set}
+use Rattle.hb_store.proofs.FilePages.{pages_set}
 use Rattle.hb_store.proofs.MadeMeta.{reads_some, some_page}
 use Rattle.hb_store.proofs.Touches.{change_by_first}
 

@@ -1,6 +1,5 @@
 -- What an allowed operation makes can be written, and has its place in the log.
 use Rattle.std.specs.Prelude.{◌≡◌, ◌<◌, ◌^◌, length, All, Option, Some}
-use Rattle.hb_space.specs.Boxes.{IsArea}
 use Rattle.hb_frag.specs.declared.pages.LivePage.{LivePage}
 use Rattle.hb_frag.specs.declared.pages.Page.TheVariants.{Live}
 use Rattle.hb_frag.specs.Grammar.{HasSpelling}

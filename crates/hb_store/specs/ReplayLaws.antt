@@ -1,26 +1,18 @@
 -- What follows of groups that are replayed: one after the other, and what they make of a file.
-use Rattle.std.proofs.Common.{◌≡◌, ◌≢◌, inl, inr, ℕ, zero, suc, ◌≤◌, ◌==◌, cond, List, [], ◌∷◌, ◌++◌, length, replicate, Option, Some, None, IsSome, refl, sym, ap, ◌∙◌, subst, arith, append_assoc}
-use Rattle.std.proofs.Math.Dec.{eqb}
-use Rattle.std.proofs.lemmas.Bool.{cases_Bool, eqb-true, eqb-false}
-use Rattle.std.proofs.lemmas.List.Elements.{All-head, All-tail, All-nil}
-use Rattle.hb_space.specs.declared.records.Record.{Record}
-use Rattle.hb_frag.specs.declared.pages.LivePage.{LivePage}
+use Rattle.std.proofs.Common.{◌≡◌, inr, ℕ, zero, suc, ◌≤◌, List, [], ◌∷◌, ◌++◌, length, replicate, Option, Some, None, IsSome, refl, sym, ap, ◌∙◌, subst, arith, append_assoc}
+use Rattle.std.proofs.lemmas.List.Elements.{All-nil}
 use Rattle.hb_frag.specs.declared.pages.Page.{Page}
-use Rattle.hb_frag.specs.declared.pages.Page.TheVariants.{Live}
 use Rattle.hb_frag.specs.Grammar.{SpellsPage}
 use Rattle.hb_wal.specs.Frames.{HasFrames, IsEnd, IsPayload}
 use Rattle.hb_super.specs.Superblocks.{IsNewest}
 use Rattle.hb_layout.specs.declared.meta.Meta.{Meta}
-use Rattle.hb_ops.specs.declared.operations.Op.{Op}
-use Rattle.hb_ops.specs.declared.operations.Op.TheVariants.{Put, Del}
-use Rattle.hb_ops.specs.Files.{FileState, if_live, page_at, page_of, live_page}
-use Rattle.hb_ops.specs.Recording.{put_page, del_page}
-use Rattle.hb_ops.specs.Operations.{IsAllowed, IsAllowedOn, IsLicensed, change_of, effect_of, with_page, with_pages}
+use Rattle.hb_ops.specs.Files.{FileState, page_of}
+use Rattle.hb_ops.specs.Operations.{IsAllowed, IsLicensed, change_of, effect_of}
 use Rattle.hb_log_codec.specs.Groups.{Logged}
 use Rattle.hb_store.specs.Payloads.{SpellAll}
-use Rattle.hb_store.specs.Replay.{Replayed, untouched, set_pages, with_images, IsAllowedIn, after_op, after_group, MayFollow, replay, MayReplay}
+use Rattle.hb_store.specs.Replay.{Replayed, untouched, with_images, after_group, MayFollow, replay, MayReplay}
 use Rattle.hb_layout.specs.Offsets.{file_size}
-use Rattle.hb_store.specs.Opening.{Shows, IsPageIn, OpensBy, log_bytes, place_bytes}
+use Rattle.hb_store.specs.Opening.{IsPageIn, OpensBy, log_bytes, place_bytes}
 use Rattle.hb_store.specs.Keeps.{AreImagesOf, Leads, last_of}
 use Rattle.hb_store.specs.ReplayLists.{set_pages-some}
 

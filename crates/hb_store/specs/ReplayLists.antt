@@ -1,13 +1,11 @@
 -- Pages by their numbers: what setting one of them makes of touched pages.
-use Rattle.std.proofs.Common.{◌≡◌, ◌≢◌, inl, inr, ℕ, zero, suc, ◌-◌, ◌<◌, ◌==◌, Bool, true, cond, List, [], ◌∷◌, ◌++◌, length, set, slice_get, Option, Some, None, IsSome, refl, sym, ap, ◌∙◌, subst, arith, ne_eqb, lt-ltb, nat_lt}
+use Rattle.std.proofs.Common.{◌≡◌, ◌≢◌, inl, inr, ℕ, ◌==◌, Bool, true, cond, List, [], ◌∷◌, Option, Some, None, IsSome, refl, sym, ap, subst, ne_eqb}
 use Rattle.std.proofs.Math.Dec.{eqb}
-use Rattle.std.proofs.Math.ListN.{length-set}
 use Rattle.std.proofs.lemmas.Bool.{cases_Bool, eqb-false}
 use Rattle.hb_frag.specs.declared.pages.LivePage.{LivePage}
 use Rattle.hb_frag.specs.declared.pages.Page.{Page}
 use Rattle.hb_frag.specs.declared.pages.Page.TheVariants.{Live, Free}
-use Rattle.hb_ops.specs.Files.{if_live, page_at}
-use Rattle.hb_ops.specs.Operations.{with_page}
+use Rattle.hb_ops.specs.Files.{if_live}
 use Rattle.hb_store.specs.Replay.{set_pages}
 
 -- a page that is there in use

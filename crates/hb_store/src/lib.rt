@@ -17,7 +17,8 @@
 //! spelling, and keeps the rules that speak of it alone.
 //!
 //! A page is brought into the log as an image before an operation of this turn first reads it. So
-//! a replay needs no page from its place. Pages stay in memory once they are fetched.
+//! a replay needs no page from its place. A page that an operation makes needs no image: it gets a
+//! frame, and the log of the turn makes it again. Pages stay in memory once they are fetched.
 #![tactic(auto)]
 
 #[cfg(test)]

@@ -1,7 +1,7 @@
 use Rattle.std.proofs.Common.{ap, subst, sym, ◌∙◌}
 use Rattle.std.specs.Ordering.{nat_cmp}
 use Rattle.std.specs.BTreeMap.{get}
-use Rattle.hb_ops.specs.Operations.{Change, reads_of}
+use Rattle.hb_ops.specs.Operations.{Change}
 use Rattle.hb_store.specs.Calls.{framed_read}
 use Rattle.hb_store.specs.Keeps.{IsStore}
 use Rattle.hb_store.specs.Seen.{seen_as}
@@ -17,8 +17,10 @@ set_changed-requires g c =
     let self = c.args.self.now in
     let op = c.args.op in
     let st = seen_as self in
-    record { there = all_there op self.meta (get nat_cmp self.frames) (get nat_cmp c.hold_made.new.frames) (get nat_cmp c.mark_imaged.new.frames) (framed_read st op 1) (framed_read st op 2) c.requires.allowed
-    c.in_ok-changed.changed.pages.items (ap (λ (x : Change). x.pages) c.in_ok-changed.ensures) c.deref-2.result.now (c.deref-2.ensures.0 ∙ c.reads.ensures) c.in_ok-hold_made.ensures.held c.mark_imaged.ensures }
+    record {
+      there = all_there op self.meta (get nat_cmp self.frames) (get nat_cmp c.hold_made.new.frames) (get nat_cmp c.mark_imaged.new.frames) (framed_read st op 1) (framed_read st op 2) c.requires.allowed
+          c.in_ok-changed.changed.pages.items (ap (λ (x : Change). x.pages) c.in_ok-changed.ensures) c.deref-2.result.now (c.deref-2.ensures.0 ∙ c.reads.ensures) c.in_ok-hold_made.ensures.held c.mark_imaged.ensures;
+    }
 
 -- for want of memory nothing changed
 pub invariant_of-self : goal.invariant_of-self

@@ -1,4 +1,4 @@
-use Rattle.std.proofs.Common.{All, ap, refl, sym, subst, ◌∙◌}
+use Rattle.std.proofs.Common.{All, refl, sym, subst, ◌∙◌}
 use Rattle.hb_log_codec.specs.Reading.{logged}
 use Rattle.hb_store.specs.Replay.{IsAllowedIn, MayFollow, Replayed, after_op}
 use Rattle.hb_store.specs.Replaying.{AreItsPages, ComesAfter, IsPageOf, replayed_of}
