@@ -5,3 +5,5 @@ pub mod Better
 pub mod Values
 pub mod Nexts
 pub mod Allowed
+pub mod Centers
+pub mod FewCuts

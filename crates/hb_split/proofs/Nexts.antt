@@ -56,7 +56,7 @@ NotLess Equal = Unit {0}
 NotLess Greater = Unit {0}
 
 -- of two points in order, the first that differ have a lesser value and a greater one
-differs : (p q : List ℕ) → length p ≡ length q → point_cmp p q ≡ Less → (i : ℕ) × (i < length p) × (get_or p i 0 < get_or q i 0)
+pub differs : (p q : List ℕ) → length p ≡ length q → point_cmp p q ≡ Less → (i : ℕ) × (i < length p) × (get_or p i 0 < get_or q i 0)
 differs [] [] same e = absurd (subst NotLess e tt)
 differs [] (y ∷ ys) same e = absurd (omega (arith, same))
 differs (x ∷ xs) [] same e = absurd (omega (arith, same))

@@ -1,4 +1,4 @@
-ghost use Rattle.std.specs.Prelude.{◌<◌, ◌≤◌, ◌^◌, IfOk};
+ghost use Rattle.std.specs.Prelude.{◌<◌, ◌≤◌, ◌^◌, length, IfOk};
 ghost use Rattle.hb_frag.specs.Leaves.{weight_of, WellCut};
 ghost use Rattle.hb_frag.specs.Rules.{AreInOrder};
 ghost use Rattle.hb_split.specs.Choosing.{IsChosen};
@@ -23,7 +23,8 @@ pub struct Extraction {
 /// The part that leaves the page: from the root the heavier side of each cut, while what is reached
 /// has more than two thirds of the page's weight. A records leaf that still has is cut by the plane
 /// whose heavier side has fewest records (of equal ones the one of the least attribute, then of the
-/// least value), and so on at that side.
+/// least value), and so on at that side. At most four cuts are made, so they stay in the places that
+/// `Cuts` has without memory of its own (Lomet and Salzberg 1990 cut more than once, too).
 ///
 /// # Errors
 ///
@@ -36,6 +37,7 @@ pub fn choose(alloc: Global, page: &LivePage) -> Result<Extraction, NoMemory>
     ensures exact { IfOk result (λ e. IsChosen page.now e.path e.cuts) }
     ensures thirds { IfOk result (λ e. IsThirds page.now e.path e.cuts) }
     ensures allowed { IfOk result (λ e. MayLeave page.now e.path e.cuts) }
+    ensures few { IfOk result (λ e. length e.cuts ≤ 4) }
 {
     let total = page.weight();
     let path = way_down(alloc, &page.frag, total)?;

@@ -1,5 +1,6 @@
 ghost use Rattle.std.specs.Prelude.{◌≡◌, ◌≤◌, ◌<◌, ◌^◌, ◌*◌, length, All, Some, IfOk, OnOk};
 ghost use Rattle.std.specs.List.{filter};
+ghost use Rattle.hb_space.specs.declared.form.TheConstants.{KMAX};
 ghost use Rattle.hb_space.specs.Boxes.{Area};
 ghost use Rattle.hb_frag.specs.Trees.{Tree};
 ghost use Rattle.hb_frag.specs.Leaves.{records_of, weight_of, WellCut};
@@ -29,8 +30,9 @@ pub(crate) fn cuts_at(
     requires full { 6 ≤ total }
     requires weight { total ≡ weight_of page.now.frag }
     requires way { path.now ≡ way_down total page.now.frag }
-    ensures { IfOk result (λ cuts. (part : Tree × Area) × (part_at path.now page.now.frag page.now.area ≡ Some part)
+    ensures chosen { IfOk result (λ cuts. (part : Tree × Area) × (part_at path.now page.now.frag page.now.area ≡ Some part)
         × AreChosen total (length page.now.area.lo) cuts part.0) }
+    ensures attributes { OnOk result (length page.now.area.lo ≤ KMAX) }
 {
     match page.subtree(path) {
         None => unreachable!(),

@@ -1,5 +1,5 @@
 use Rattle.std.proofs.Common.{IsNone}
-use Rattle.hb_split.proofs.tests.chosen.Goals as goal
+use Rattle.hb_split.proofs.tests.chosen_in.Goals as goal
 
 -- src/tests.rt
 pub choose-requires-clause-in_order : goal.choose-requires-clause-in_order
