@@ -37,8 +37,8 @@ pub enum ChangeError {
     NoMemory,
 }
 
-/// What the operation makes of the file, from the pages in use that it reads: `first` for a put and a delete.
-/// `None` stands for a page that isn't in use.
+/// What the operation makes of the file, from the pages in use that it reads: `first`, and for a
+/// growth none. `None` stands for a page that isn't in use.
 ///
 /// `Unfit` exactly where the operation isn't allowed on these pages.
 pub fn change(

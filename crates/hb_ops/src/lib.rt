@@ -2,10 +2,11 @@
 //!
 //! The one contract: `change` answers with pages exactly where the operation is allowed on the
 //! pages that it reads, and they are those that the operation is defined to make. Whether it is
-//! allowed is decided before any memory is taken. `local_rule` names the first rule that a page
-//! breaks by itself, and `laws` has what follows of operations from their definitions alone: a put
-//! adds one record to the contents of a file, a delete takes one away, both keep the file sound, and
-//! the page that they make is well made.
+//! allowed is decided before any memory is taken. A put and a delete change one record, an extract
+//! splits a page, a post names a page in one above it, and a grow gives the file a level.
+//! `local_rule` names the first rule that a page breaks by itself, and `laws` has what follows of
+//! operations from their definitions alone: a put adds one record to the contents of a file, a
+//! delete takes one away, both keep the file sound, and what any operation makes is well made.
 //!
 //! Contracts see a page as its level, its box and its tree, a file as what it says of itself with
 //! a list of pages, and its contents as a map from points to bodies. A page number is its place in

@@ -227,27 +227,28 @@ fn parts_that_leave(rt: HostRuntime) -> Result<(), Fail> {
 #[test]
 fn numbers_that_are_taken(rt: HostRuntime) -> Result<(), Fail> {
     let alloc = rt.alloc();
-    for (meta, fresh, free_after, wanted) in [
+    for ((pages, high, live, free), fresh, free_after, wanted) in [
         // behind the high mark, and not elsewhere
-        (file(8, 3, 3, 0), 4, 0, "1 2 4 4 0; 3"),
-        (file(4, 3, 3, 0), 4, 0, "1 2 4 4 0; 3"),
-        (file(8, 3, 3, 0), 5, 0, "Unfit"),
-        (file(8, 3, 3, 0), 3, 0, "Unfit"),
-        (file(8, 3, 3, 0), 0, 0, "Unfit"),
-        (file(8, 3, 3, 0), 4, 1, "Unfit"),
+        ((8, 3, 3, 0), 4, 0, "1 2 4 4 0; 3"),
+        ((4, 3, 3, 0), 4, 0, "1 2 4 4 0; 3"),
+        ((8, 3, 3, 0), 5, 0, "Unfit"),
+        ((8, 3, 3, 0), 3, 0, "Unfit"),
+        ((8, 3, 3, 0), 0, 0, "Unfit"),
+        ((8, 3, 3, 0), 4, 1, "Unfit"),
         // the head of the free chain, and nothing else
-        (file(8, 5, 3, 2), 2, 1, "1 2 5 4 1; 3"),
-        (file(8, 5, 3, 2), 2, 0, "1 2 5 4 0; 3"),
-        (file(8, 5, 3, 2), 1, 0, "Unfit"),
-        (file(8, 5, 3, 2), 6, 0, "Unfit"),
-        (file(8, 5, 3, 7), 7, 0, "Unfit"),
+        ((8, 5, 3, 2), 2, 1, "1 2 5 4 1; 3"),
+        ((8, 5, 3, 2), 2, 0, "1 2 5 4 0; 3"),
+        ((8, 5, 3, 2), 1, 0, "Unfit"),
+        ((8, 5, 3, 2), 6, 0, "Unfit"),
+        ((8, 5, 3, 7), 7, 0, "Unfit"),
         // no room: each page is in use, or the high mark is at the last one
-        (file(3, 3, 3, 0), 4, 0, "Unfit"),
-        (file(5, 5, 5, 2), 2, 0, "Unfit"),
-        (file(4, 4, 3, 0), 5, 0, "Unfit"),
+        ((3, 3, 3, 0), 4, 0, "Unfit"),
+        ((5, 5, 5, 2), 2, 0, "Unfit"),
+        ((4, 4, 3, 0), 5, 0, "Unfit"),
         // the page that is split itself, where a file says that it is free
-        (file(8, 5, 4, 3), 3, 0, "1 2 5 5 0; 3"),
+        ((8, 5, 4, 3), 3, 0, "1 2 5 5 0; 3"),
     ] {
+        let meta = file(pages, high, live, free);
         let told = split(alloc, &meta, "1 ^2 / 40: ^3", fresh, "R:", free_after)?;
         let (short, _) = told.split_once(" level").unwrap_or((&told, ""));
         assert_eq!(rt; short, wanted, "{fresh} {free_after}");
