@@ -3,7 +3,7 @@
 
 ghost use Rattle.std.specs.Prelude.{◌≡◌, length, IfOk};
 
-use crate::tests::{cut, shown};
+use crate::tests::{cut, push_frag};
 use crate::{Frag, Leaf, Node, carve, carved_weight, normal};
 use hb_space::form::KMAX;
 use hb_space::{Area, Body, NoMemory, Point, Record, Records};
@@ -28,94 +28,128 @@ fn area_of(lo: &[u64], hi: &[u64]) -> Result<Area, Fail> {
     Ok(Area::between(point_of(lo)?, point_of(hi)?).ok_or("an empty box")?)
 }
 
-// A leaf of child 1 in the first box, once child 2 is named over what it has in common with the
-// second one; and what it weighs, told without it.
-fn carved(alloc: Global, leaf: &Area, inner: &Area) -> Result<(String, u32), Fail> {
-    if leaf.lo().attributes() != inner.lo().attributes() || !leaf.meets(inner) {
+// What a leaf of child 1 weighs, and then is, once child 2 is named over what its box has in common
+// with another one.
+fn carved(alloc: Global, leaf: (&[u64], &[u64]), inner: (&[u64], &[u64])) -> Result<String, Fail> {
+    let leaf = area_of(leaf.0, leaf.1)?;
+    let inner = area_of(inner.0, inner.1)?;
+    if leaf.lo().attributes() != inner.lo().attributes() || !leaf.meets(&inner) {
         return Err("not a posting".into());
     }
-    let frag = carve(alloc, leaf, inner, 1, 2)?;
-    Ok((shown(alloc, &frag)?, carved_weight(leaf, inner)))
+    let frag = carve(alloc, &leaf, &inner, 1, 2)?;
+    let mut text = String::new(alloc);
+    write!(text, "{}: ", carved_weight(&leaf, &inner))?;
+    push_frag(&mut text, &frag)?;
+    Ok(text)
 }
 
 #[test]
-fn boxes_carved(rt: HostRuntime) -> Result<(), Fail> {
+fn one_attribute_carved(rt: HostRuntime) -> Result<(), Fail> {
     let alloc = rt.alloc();
-    for (leaf, inner, want, weight) in [
-        // one attribute: inside, over the upper end, over the lower one, the same, around it
+    for (leaf, inner, want) in [
+        // inside, over the upper end, over the lower one
         (
-            ([0].as_slice(), [99].as_slice()),
-            ([40].as_slice(), [59].as_slice()),
-            "(child 1 |0:40| (child 2 |0:60| child 1))",
-            3,
+            (0, 99),
+            (40, 59),
+            "3: (child 1 |0:40| (child 2 |0:60| child 1))",
         ),
+        ((0, 99), (40, 200), "2: (child 1 |0:40| child 2)"),
+        ((10, 99), (0, 39), "2: (child 2 |0:40| child 1)"),
+        // the same, around it, all but the greatest value
+        ((10, 99), (10, 99), "1: child 2"),
+        ((10, 20), (0, 99), "1: child 2"),
         (
-            (&[0], &[99]),
-            (&[40], &[200]),
-            "(child 1 |0:40| child 2)",
-            2,
-        ),
-        ((&[10], &[99]), (&[0], &[39]), "(child 2 |0:40| child 1)", 2),
-        ((&[10], &[99]), (&[10], &[99]), "child 2", 1),
-        ((&[10], &[20]), (&[0], &[99]), "child 2", 1),
-        (
-            (&[0], &[MAX]),
-            (&[0], &[MAX - 1]),
-            "(child 2 |0:18446744073709551615| child 1)",
-            2,
-        ),
-        // two: inside, over a corner, over one edge, around it
-        (
-            (&[0, 0], &[99, 99]),
-            (&[40, 30], &[59, 69]),
-            "(child 1 |0:40| ((child 1 |1:30| (child 2 |1:70| child 1)) |0:60| child 1))",
-            5,
-        ),
-        (
-            (&[0, 0], &[99, 99]),
-            (&[50, 60], &[150, 160]),
-            "(child 1 |0:50| (child 1 |1:60| child 2))",
-            3,
-        ),
-        (
-            (&[10, 10], &[20, 20]),
-            (&[0, 15], &[30, 30]),
-            "(child 1 |1:15| child 2)",
-            2,
-        ),
-        ((&[10, 10], &[20, 20]), (&[0, 0], &[30, 30]), "child 2", 1),
-        // three: inside, over an edge of the box
-        (
-            (&[0, 0, 0], &[9, 9, 9]),
-            (&[4, 4, 4], &[5, 5, 5]),
-            "(child 1 |0:4| ((child 1 |1:4| ((child 1 |2:4| (child 2 |2:6| child 1)) |1:6| child 1)) |0:6| child 1))",
-            7,
-        ),
-        (
-            (&[0, 0, 0], &[9, 9, 9]),
-            (&[0, 0, 8], &[1, 9, 9]),
-            "((child 1 |2:8| child 2) |0:2| child 1)",
-            3,
-        ),
-        // four: inside, the same
-        (
-            (&[0, 0, 0, 0], &[9, 9, 9, 9]),
-            (&[4, 4, 4, 4], &[5, 5, 5, 5]),
-            "(child 1 |0:4| ((child 1 |1:4| ((child 1 |2:4| ((child 1 |3:4| (child 2 |3:6| child 1)) |2:6| child 1)) |1:6| child 1)) |0:6| child 1))",
-            9,
-        ),
-        (
-            (&[0, 1, 2, 3], &[9, 9, 9, 9]),
-            (&[0, 1, 2, 3], &[9, 9, 9, 9]),
-            "child 2",
-            1,
+            (0, MAX),
+            (0, MAX - 1),
+            "2: (child 2 |0:18446744073709551615| child 1)",
         ),
     ] {
-        let leaf = area_of(leaf.0, leaf.1)?;
-        let inner = area_of(inner.0, inner.1)?;
-        let (text, told) = carved(alloc, &leaf, &inner)?;
+        let text = carved(alloc, (&[leaf.0], &[leaf.1]), (&[inner.0], &[inner.1]))?;
         assert_eq!(rt; text.as_str(), want);
-        assert_eq!(rt; told, weight);
+    }
+    Ok(())
+}
+
+#[test]
+fn two_attributes_carved(rt: HostRuntime) -> Result<(), Fail> {
+    let alloc = rt.alloc();
+    let inside = "5: (child 1 |0:40| ((child 1 |1:30| (child 2 |1:70| child 1)) |0:60| child 1))";
+    for (leaf, lo, hi, want) in [
+        // inside, over a corner
+        (([0, 0], [99, 99]), [40, 30], [59, 69], inside),
+        (
+            ([0, 0], [99, 99]),
+            [50, 60],
+            [150, 160],
+            "3: (child 1 |0:50| (child 1 |1:60| child 2))",
+        ),
+        // over one edge, along another one, around it
+        (
+            ([10, 10], [20, 20]),
+            [0, 15],
+            [30, 30],
+            "2: (child 1 |1:15| child 2)",
+        ),
+        (
+            ([10, 10], [20, 20]),
+            [10, 0],
+            [20, 12],
+            "2: (child 2 |1:13| child 1)",
+        ),
+        (([10, 10], [20, 20]), [0, 0], [30, 30], "1: child 2"),
+    ] {
+        let text = carved(alloc, (&leaf.0, &leaf.1), (&lo, &hi))?;
+        assert_eq!(rt; text.as_str(), want);
+    }
+    Ok(())
+}
+
+// In the box 0..9 of three attributes.
+#[test]
+fn three_attributes_carved(rt: HostRuntime) -> Result<(), Fail> {
+    let alloc = rt.alloc();
+    for (lo, hi, want) in [
+        // inside
+        (
+            [4, 4, 4],
+            [5, 5, 5],
+            "7: (child 1 |0:4| ((child 1 |1:4| ((child 1 |2:4| (child 2 |2:6| child 1)) |1:6| child 1)) |0:6| child 1))",
+        ),
+        // along an edge of the box, and beside a side of it
+        (
+            [0, 0, 8],
+            [1, 9, 9],
+            "3: ((child 1 |2:8| child 2) |0:2| child 1)",
+        ),
+        ([0, 0, 0], [9, 3, 9], "2: (child 2 |1:4| child 1)"),
+    ] {
+        let text = carved(alloc, (&[0, 0, 0], &[9, 9, 9]), (&lo, &hi))?;
+        assert_eq!(rt; text.as_str(), want);
+    }
+    Ok(())
+}
+
+// In the box 0..9 of four.
+#[test]
+fn four_attributes_carved(rt: HostRuntime) -> Result<(), Fail> {
+    let alloc = rt.alloc();
+    for (lo, hi, want) in [
+        // inside
+        (
+            [4, 4, 4, 4],
+            [5, 5, 5, 5],
+            "9: (child 1 |0:4| ((child 1 |1:4| ((child 1 |2:4| ((child 1 |3:4| (child 2 |3:6| child 1)) |2:6| child 1)) |1:6| child 1)) |0:6| child 1))",
+        ),
+        // at a corner, the same
+        (
+            [9, 9, 9, 9],
+            [9, 9, 9, 9],
+            "5: (child 1 |0:9| (child 1 |1:9| (child 1 |2:9| (child 1 |3:9| child 2))))",
+        ),
+        ([0, 0, 0, 0], [9, 9, 9, 9], "1: child 2"),
+    ] {
+        let text = carved(alloc, (&[0, 0, 0, 0], &[9, 9, 9, 9]), (&lo, &hi))?;
+        assert_eq!(rt; text.as_str(), want);
     }
     Ok(())
 }

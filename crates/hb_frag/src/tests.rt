@@ -101,7 +101,7 @@ fn push_leaf(text: &mut String, leaf: &Leaf) -> Result<(), NoMemory> {
 }
 
 // A leaf, or the two sides of a cut with the attribute and the value between them.
-fn push_frag(text: &mut String, frag: &Frag) -> Result<(), NoMemory> {
+pub(crate) fn push_frag(text: &mut String, frag: &Frag) -> Result<(), NoMemory> {
     match &frag.node {
         Node::Tip(leaf) => push_leaf(text, leaf),
         Node::Cut {
@@ -126,7 +126,7 @@ fn push_area(text: &mut String, area: &Area) -> Result<(), NoMemory> {
     Ok(())
 }
 
-pub(crate) fn shown(alloc: Global, frag: &Frag) -> Result<String, NoMemory> {
+fn shown(alloc: Global, frag: &Frag) -> Result<String, NoMemory> {
     let mut text = String::new(alloc);
     push_frag(&mut text, frag)?;
     Ok(text)
