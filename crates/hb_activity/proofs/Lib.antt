@@ -1,0 +1,4 @@
+pub mod QueueParts
+pub mod HeldLatches
+pub mod WaitingActors
+pub mod LaterPages

@@ -1,0 +1,30 @@
+-- The jobs that wait, in the order in which they came.
+use Rattle.std.specs.Prelude.{◌≡◌, ◌≢◌, ◌≤◌, List, ◌∷◌, ◌++◌, Bool, true, false, length, All, AllPairs}
+use Rattle.hb_activity.specs.declared.waiting_jobs.TheConstants.{JOBS}
+use Rattle.hb_activity.specs.declared.jobs.JobKind.{JobKind}
+use Rattle.hb_activity.specs.declared.jobs.JobKind.TheVariants.{Post, Merge}
+use Rattle.hb_activity.specs.declared.jobs.Job.{Job}
+
+-- whether the job is of the kind
+abbrev pub is_of : JobKind → Job → Bool
+is_of kind job = same_kind kind job.kind
+  where
+    same_kind : JobKind → JobKind → Bool
+    same_kind Post Post = true
+    same_kind Post Merge = false
+    same_kind Merge Post = false
+    same_kind Merge Merge = true
+
+-- no job stands twice, and there are at most 256
+pub record AreQueued (jobs : List Job) : Type 0 where
+  pub once : AllPairs (λ job later. job ≢ later) jobs
+  pub few : length jobs ≤ JOBS
+
+-- the first job of its kind has left, and the others are as they were
+pub record LeavesFirst (kind : JobKind) (old : List Job) (job : Job) (new : List Job) : Type 0 where
+  pub front : List Job
+  pub behind : List Job
+  pub whole : old ≡ front ++ job ∷ behind
+  pub of_kind : job.kind ≡ kind
+  pub first : All (λ other. other.kind ≢ kind) front
+  pub rest : new ≡ front ++ behind

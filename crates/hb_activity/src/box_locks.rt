@@ -1,0 +1,64 @@
+ghost use Rattle.std.specs.Prelude.{◌≡◌, true, false};
+
+use crate::Activity;
+use hb_set::Command;
+use hb_space::Area;
+
+/// A lock on a box of points.
+#[derive(Debug, Drop)]
+pub struct BoxLock {
+    pub area: Area,
+    /// Whether others that share it may have boxes locked that meet this one.
+    pub shared: bool,
+}
+
+impl BoxLock {
+    ghost use Rattle.hb_activity.specs.BoxLocks.{lock_of_command};
+
+    /// The lock that a session wants for the command: an insert or a delete for its point alone,
+    /// a lookup its point and a search its box, shared.
+    pub fn of_command(command: &Command) -> BoxLock
+        ensures { result ≡ lock_of_command command.now }
+    {
+        match command {
+            Command::Insert(record) => alone(Area::of_point(&record.key)),
+            Command::Delete(point) => alone(Area::of_point(point)),
+            Command::Lookup(point) => shared(Area::of_point(point)),
+            Command::Search(area) => shared(area.copy()),
+        }
+    }
+}
+
+impl Activity {
+    ghost use Rattle.hb_activity.specs.BoxLocks.{lock_of};
+
+    /// The lock that the session has for its command. `None` where it has no command, where the
+    /// command has taken effect, and for workers.
+    pub fn box_lock(&self) -> Option<BoxLock>
+        ensures { result ≡ lock_of self.now }
+    {
+        match self {
+            Activity::SessionWalk { line, .. }
+            | Activity::SessionSplit { line, .. }
+            | Activity::SessionPut { line, .. } => Some(BoxLock::of_command(&line.command)),
+            _ => None,
+        }
+    }
+}
+
+// The lock of the box for one session alone.
+fn alone(area: Area) -> BoxLock
+    ensures { result ≡ record { area = area; shared = false } }
+{
+    BoxLock {
+        area,
+        shared: false,
+    }
+}
+
+// The lock of the box for all that ask.
+fn shared(area: Area) -> BoxLock
+    ensures { result ≡ record { area = area; shared = true } }
+{
+    BoxLock { area, shared: true }
+}

@@ -1,0 +1,51 @@
+ghost use Rattle.std.specs.Prelude.{◌≡◌, ◌↔◌, IsTrue};
+
+use hb_space::Point;
+
+/// What a worker is to do.
+#[derive(Clone, Copy, Debug, PartialEq, Eq)]
+pub enum JobKind {
+    /// Post the index terms that a page owes.
+    Post,
+    /// Merge a page with a neighbour.
+    Merge,
+}
+
+/// A job for a worker. A page isn't named, since a number may be another page's by then: the job
+/// is done at the page of the level that directly holds the point.
+#[derive(Debug, PartialEq, Eq, Drop)]
+pub struct Job {
+    pub kind: JobKind,
+    pub level: u8,
+    pub point: Point,
+}
+
+impl Job {
+    ghost use Rattle.hb_activity.specs.Queue.{is_of};
+
+    /// The same job once more.
+    pub fn copy(&self) -> Job
+        ensures { result ≡ self.now }
+    {
+        Job {
+            kind: self.kind,
+            level: self.level,
+            point: self.point.copy(),
+        }
+    }
+
+    // Whether it is of the kind.
+    pub(crate) fn is_of(&self, kind: JobKind) -> bool
+        ensures value { result ≡ is_of kind self.now }
+        ensures kind { IsTrue result ↔ (self.now.kind ≡ kind) }
+    {
+        self.kind == kind
+    }
+
+    // Whether it is the other one.
+    pub(crate) fn is(&self, other: &Job) -> bool
+        ensures { IsTrue result ↔ (self.now ≡ other.now) }
+    {
+        self == other
+    }
+}

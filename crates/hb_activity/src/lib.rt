@@ -1,0 +1,33 @@
+//! Where each actor stands between two steps, as data, and what follows from it: the latches that
+//! it holds, the one that its next step wants, the box that its command has locked, and whether
+//! its next step may change the file. And the jobs that wait for the workers.
+//!
+//! The one contract: each of these is as the table of `specs/Holding.antt`, `specs/Wanting.antt`,
+//! `specs/BoxLocks.antt` and `specs/Changing.antt` says for the activity, and the jobs are a list in
+//! the order in which they came, each once.
+//!
+//! Invariants: of `Jobs`, that no job stands twice, that there are at most `JOBS`, and that there
+//! is room for so many. An `Activity` is plain data.
+#![tactic(auto)]
+
+mod activities;
+mod box_locks;
+mod changing;
+mod holding;
+#[cfg(test)]
+mod job_tests;
+mod jobs;
+pub mod laws;
+#[cfg(test)]
+mod tests;
+mod threads;
+mod waiting_jobs;
+mod walks;
+mod wanting;
+
+pub use activities::Activity;
+pub use box_locks::BoxLock;
+pub use holding::Latch;
+pub use jobs::{Job, JobKind};
+pub use waiting_jobs::{JOBS, Jobs};
+pub use wanting::Wanted;

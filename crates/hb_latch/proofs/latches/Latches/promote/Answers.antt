@@ -1,0 +1,43 @@
+use Rattle.std.proofs.Common.{◌≡◌, Some, Option, IsSome, refl, sym, subst}
+use Rattle.std.proofs.lemmas.Bool.{false≢true}
+use Rattle.hb_latch.specs.declared.entries.Held.{Held}
+use Rattle.hb_latch.specs.declared.modes.Mode.{Mode}
+use Rattle.hb_latch.specs.declared.modes.Mode.TheVariants.{Update, Exclusive}
+use Rattle.hb_latch.proofs.TableViews.{held_in, table_set}
+use Rattle.hb_latch.proofs.KeptEdits.{kept_set}
+use Rattle.hb_latch.proofs.Conflicts.{named_least, named_refused, none_named, no_one}
+use Rattle.hb_latch.proofs.latches.Latches.promote.Goals as goal
+
+-- what is held for update is held
+held : (o : Option Mode) → o ≡ Some Update → IsSome o
+held o is = subst (λ (x : Option Mode). IsSome x) (sym is) refl
+
+pub returns-in-Some-clause-granted : goal.returns-in-Some-clause-granted
+returns-in-Some-clause-granted c =
+    let named = rw c.as_slice.ensures.value at c.in-Some.ensures in
+    (λ no. absurd (false≢true no), λ grantable. absurd (named_refused _ _ _ Exclusive _ c.self.invariant.rising named (rw (← c.self.view_is) at grantable)))
+
+pub returns-in-Some-clause-refused : goal.returns-in-Some-clause-refused
+returns-in-Some-clause-refused c = rw (← c.self.view_is) (named_least _ _ _ Exclusive _ c.self.invariant.rising (rw c.as_slice.ensures.value at c.in-Some.ensures))
+
+pub replace-requires : goal.replace-requires
+replace-requires c =
+    let at = held_in _ _ _ (c.args.actor, c.args.page) _ c.as_slice-2.ensures.value c.self.view_is c.self.invariant.rising c.place_of-place.ensures.found (held _ c.requires) in
+    at.in_range
+
+pub invariant_of-self : goal.invariant_of-self
+invariant_of-self c =
+    let at = held_in _ _ _ (c.args.actor, c.args.page) _ c.as_slice-2.ensures.value c.self.view_is c.self.invariant.rising c.place_of-place.ensures.found (held _ c.requires) in
+    let latch : Held = record { actor = c.args.actor; page = c.args.page; mode = Exclusive } in
+    rw c.replace.ensures (kept_set _ latch _ c.self.invariant at)
+
+pub returns-clause-granted : goal.returns-clause-granted
+returns-clause-granted c =
+    let free = none_named c.self.inside.held.items c.args.actor c.args.page Exclusive c.self.invariant.rising (rw c.as_slice.ensures.value at (no_one _ _ c.in_the_way.ensures c.in_default.not-Some)) in
+    (λ yes. rw (← c.self.view_is) free, λ grantable. refl)
+
+pub returns-clause-taken : goal.returns-clause-taken
+returns-clause-taken c =
+    let at = held_in _ _ _ (c.args.actor, c.args.page) _ c.as_slice-2.ensures.value c.self.view_is c.self.invariant.rising c.place_of-place.ensures.found (held _ c.requires) in
+    let latch : Held = record { actor = c.args.actor; page = c.args.page; mode = Exclusive } in
+    rw (c.replace.ensures, ← c.self.view_is) (table_set _ latch _ c.self.invariant.rising at)
