@@ -230,7 +230,8 @@ def break_page(rng, page, meta, pages):
     if kind == 3:
         return ("free", rng.choice((0, meta["free"], rng.randint(0, 6))))
     if kind == 4:
-        return (level, whole(rng.randint(1, 4)), tree if len(lo) == 1 else ("records", []))
+        k = rng.randint(1, 4)
+        return (level, whole(k), tree if k == len(lo) else ("records", []))
     return (level, (lo, hi), break_tree(rng, tree, (lo, hi)))
 
 
