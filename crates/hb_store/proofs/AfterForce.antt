@@ -16,7 +16,7 @@ use Rattle.hb_frag.specs.declared.pages.Page.{Page}
 use Rattle.hb_frag.specs.Grammar.{SpellsPage}
 use Rattle.hb_layout.specs.declared.meta.Meta.{Meta}
 use Rattle.hb_ops.specs.Files.{FileState, page_of}
-use Rattle.hb_store.specs.Groups.{Logged, FitsGroup, group_bytes}
+use Rattle.hb_log_codec.specs.Groups.{Logged, FitsGroup, group_bytes}
 use Rattle.hb_store.specs.Replay.{Replayed, untouched, replay}
 use Rattle.hb_layout.specs.Offsets.{log_start}
 use Rattle.hb_store.specs.Opening.{OpensBy, log_bytes, place_bytes}

@@ -12,12 +12,14 @@ use Rattle.hb_frag.specs.Grammar.{SpellsPage}
 use Rattle.hb_layout.specs.declared.meta.Meta.{Meta}
 use Rattle.hb_ops.specs.Files.{FileState}
 use Rattle.hb_ops.specs.Operations.{IsAllowed, effect_of}
-use Rattle.hb_store.specs.Groups.{Logged, FitsGroup, SpellAll, group_bytes}
+use Rattle.hb_log_codec.specs.Groups.{Logged, FitsGroup, group_bytes}
+use Rattle.hb_store.specs.Payloads.{SpellAll}
 use Rattle.hb_store.specs.Replay.{Replayed, untouched, replay, MayFollow}
 use Rattle.hb_layout.specs.Offsets.{log_start, page_offset}
 use Rattle.hb_store.specs.Opening.{OpensBy, Shows, IsPageIn, log_bytes, place_bytes}
 use Rattle.hb_store.specs.Keeps.{AreImagesOf}
-use Rattle.hb_store.specs.ReplayLaws.{replay-append, MayReplay-append, SpellAll-append, Shows-after}
+use Rattle.hb_store.specs.ReplayLaws.{replay-append, MayReplay-append, SpellAll-append}
+use Rattle.hb_store.proofs.Shown.{Shows-after}
 use Rattle.hb_store.specs.StoreLaws.{IsNewest-elsewhere}
 
 -- the area of a turn ends in front of the pages

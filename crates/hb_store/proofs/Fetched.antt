@@ -19,7 +19,7 @@ use Rattle.hb_ops.specs.LocalRule.{BreaksFirst}
 use Rattle.hb_ops.specs.Sound.{FitsFile, IsSound}
 use Rattle.hb_wal.specs.Frames.{frames, range}
 use Rattle.hb_wal.specs.Log.{LogState}
-use Rattle.hb_store.specs.GroupLaws.{SpelledOnce}
+use Rattle.hb_store.proofs.Spellings.{SpelledOnce}
 use Rattle.hb_layout.specs.Offsets.{page_offset}
 use Rattle.hb_store.specs.Opening.{place_bytes}
 use Rattle.hb_store.specs.Keeps.{IsGoodPage, IsStore, StoreKeeps, StoreState, last_of}
@@ -31,7 +31,8 @@ use Rattle.hb_store.specs.declared.frames.Frame.{Frame}
 use Rattle.hb_store.specs.declared.stops.FetchStop.{FetchStop}
 use Rattle.hb_store.specs.declared.stops.FetchStop.TheVariants as fetches
 use Rattle.hb_store.specs.declared.stops.Why.TheVariants.{Rule, Level, Extent}
-use Rattle.hb_store.proofs.Counted.{page_there, store_count}
+use Rattle.hb_store.proofs.Counted.{store_count}
+use Rattle.hb_store.proofs.Counting.{page_there}
 
 -- ---- what was read
 

@@ -8,7 +8,7 @@ use Rattle.hb_wal.specs.Log.{LogState}
 use Rattle.hb_frag.specs.declared.pages.Page.{Page}
 use Rattle.hb_layout.specs.declared.meta.Meta.{Meta}
 use Rattle.hb_ops.specs.Files.{FileState}
-use Rattle.hb_store.specs.Groups.{FitsGroup}
+use Rattle.hb_log_codec.specs.Groups.{FitsGroup}
 use Rattle.hb_layout.specs.Offsets.{log_start, file_size}
 use Rattle.hb_store.specs.Opening.{OpensBy}
 use Rattle.hb_store.specs.Keeps.{StoreState, StoreKeeps, IsFresh}

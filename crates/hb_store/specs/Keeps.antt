@@ -16,7 +16,7 @@ use Rattle.hb_layout.specs.declared.meta.Meta.{Meta}
 use Rattle.hb_ops.specs.Files.{FileState, page_of}
 use Rattle.hb_ops.specs.Sound.{FitsFile}
 use Rattle.hb_ops.specs.Operations.{IsAllowed, IsLicensed, effect_of}
-use Rattle.hb_store.specs.Groups.{Logged, FitsGroup, group_bytes}
+use Rattle.hb_log_codec.specs.Groups.{Logged, FitsGroup, group_bytes}
 use Rattle.hb_store.specs.Replay.{Replayed, untouched, replay, after_group, MayFollow}
 use Rattle.hb_layout.specs.Offsets.{log_start, file_size}
 use Rattle.hb_store.specs.Opening.{OpensBy, OpensTo, Shows, place_bytes}

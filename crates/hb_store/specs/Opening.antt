@@ -1,5 +1,5 @@
 -- What a list of bytes opens to: the newest superblock, the replay of its log, and the pages in their places.
-use Rattle.std.specs.Prelude.{◌≡◌, ◌⊎◌, ℕ, ◌+◌, ◌-◌, ◌*◌, ◌%◌, ◌≤◌, List, ◌++◌, length, All, Option, Some, None, IsSome}
+use Rattle.std.specs.Prelude.{◌≡◌, ◌⊎◌, ℕ, ◌≤◌, List, ◌++◌, length, All, Option, Some, None, IsSome}
 use Rattle.hb_space.specs.declared.form.TheConstants.{PAGE}
 use Rattle.hb_disk.specs.Model.{DiskModel}
 use Rattle.hb_wal.specs.Frames.{frames, range, HasFrames, IsBadFrame, IsPayload}
@@ -10,7 +10,8 @@ use Rattle.hb_frag.specs.Grammar.{SpellsPage}
 use Rattle.hb_layout.specs.declared.meta.Meta.{Meta}
 use Rattle.hb_layout.specs.Offsets.{file_size, log_start, page_offset}
 use Rattle.hb_ops.specs.Files.{FileState, page_of}
-use Rattle.hb_store.specs.Groups.{Logged, SpellAll, SpellsGroups}
+use Rattle.hb_log_codec.specs.Groups.{Logged, SpellsGroups}
+use Rattle.hb_store.specs.Payloads.{SpellAll}
 use Rattle.hb_store.specs.Replay.{Replayed, untouched, replay, MayReplay}
 
 -- the bytes of a turn's log area, and those in the place of a page

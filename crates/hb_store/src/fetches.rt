@@ -14,11 +14,11 @@ ghost use Rattle.hb_store.specs.Stops.{FetchesNot, IsNoPage};
 ghost use Rattle.hb_store.specs.declared.stops.FetchStop.TheVariants.{ReadFault};
 
 use crate::frames::Frame;
-use hb_layout::page_offset;
 use crate::stops::{FetchStop, Why};
 use crate::store::Store;
 use hb_disk::Device;
 use hb_frag::Page;
+use hb_layout::page_offset;
 use hb_ops::{Meta, local_rule};
 use hb_page_codec::laws::spelling_law;
 use hb_page_codec::{PageError, decode};

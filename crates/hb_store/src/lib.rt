@@ -17,7 +17,8 @@
 //! spelling, and keeps the rules that speak of it alone.
 //!
 //! A page is brought into the log as an image before an operation of this turn first reads it. So
-//! a replay needs no page from its place. Pages stay in memory once they are fetched.
+//! a replay needs no page from its place. A page that an operation makes needs no image: it gets a
+//! frame, and the log of the turn makes it again. Pages stay in memory once they are fetched.
 #![tactic(auto)]
 
 #[cfg(test)]
@@ -28,17 +29,13 @@ mod fetches;
 mod force_tests;
 mod forces;
 mod frames;
-mod group_fields;
-mod group_reading;
-#[cfg(test)]
-mod group_tests;
 mod group_writing;
-mod groups;
 mod image_laws;
 mod laws;
 #[cfg(test)]
 mod log_tests;
 mod looks;
+mod making;
 mod opening;
 mod reading;
 mod stops;

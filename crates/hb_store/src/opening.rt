@@ -3,9 +3,9 @@ ghost use Rattle.hb_ops.specs.Files.{FileState};
 ghost use Rattle.hb_store.specs.Keeps.{MayHold, IsNew, IsFresh, StoreKeeps};
 ghost use Rattle.hb_store.specs.Seen.{seen_as};
 
-use hb_layout::log_start;
 use crate::store::Store;
 use hb_disk::Device;
+use hb_layout::log_start;
 use hb_ops::Meta;
 use hb_space::NoMemory;
 use hb_wal::Wal;

@@ -7,9 +7,9 @@ ghost use Rattle.hb_store.specs.Replaying.{HasLimits, HasReplayed, NamesBad, Nam
 ghost use Rattle.hb_store.specs.Stops.{ReadsLog, ReadsNoLog, IsTouched};
 ghost use Rattle.hb_store.specs.declared.touched.LogStop.TheVariants.{DiskFault};
 
-use hb_layout::log_start;
 use crate::touched::{LogStop, ReplayStop, Touched};
 use hb_disk::Device;
+use hb_layout::log_start;
 use hb_ops::Meta;
 use hb_wal::{Payloads, ReadStop, read_area};
 use std::alloc::Global;
