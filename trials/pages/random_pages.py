@@ -66,7 +66,17 @@ def tree_of(rng, box, parts, leaf):
     return ("cut", axis, at, tree_of(rng, below, few, leaf), tree_of(rng, above, parts - few, leaf))
 
 
+def cross(rng, k):
+    """A page of records around one point, of which each single plane leaves few on one side."""
+    middle = tuple(rng.randint(1, 9) for _ in range(k))
+    points = {model.put(middle, axis, at) for axis in range(k) for at in (0, 10)} | {middle}
+    points |= {point_in(rng, whole(k)) for _ in range(rng.randint(0, 2))}
+    return (0, whole(k), ("records", [(p, b"") for p in sorted(points)]))
+
+
 def data_page(rng, k, most):
+    if k > 2 and rng.random() < 0.2:
+        return cross(rng, k)
     box = whole(k)
     tree = tree_of(rng, box, rng.randint(1, 6), lambda b: ("sibling", rng.randint(2, 9)) if rng.random() < 0.3 else records(rng, b, most))
     return (0, box, tree)
@@ -268,6 +278,9 @@ def audit_case(rng):
     return head + bytes([len(pages)]) + b"".join(spelled), text, "sound" if told[0] == "ok" else f"S{told[1]}"
 
 
+GREATEST = [0]  # the greatest share of a page that left it
+
+
 def choose_case(rng):
     k = rng.randint(1, 4)
     page = data_page(rng, k, rng.choice((6, 12, 48))) if rng.random() < 0.7 else index_page(rng, k, rng.choice((8, 32, 250)))
@@ -276,6 +289,7 @@ def choose_case(rng):
         return None
     path, made, part = model.choose(page)
     assert n < 3 * part and 3 * part <= 2 * n and len(made) <= 4
+    GREATEST[0] = max(GREATEST[0], part / n, 1 - part / n)
     text = path + "".join(f" {a}:{v}{s}" for a, v, s in made)
     spelled = sized(page)
     return spelled and (b"c" + spelled, text, f"{len(made)} cuts")
@@ -378,6 +392,8 @@ def main():
     for i in wrong[:3]:
         again = run(b"\x01" + cases[i][0]).stdout.decode(errors="replace").splitlines()
         print(f"case {i}: model {cases[i][1]!r}, crates {again[:1]}")
+    if kind == "choose":
+        print(f"the greatest share of a part: {GREATEST[0]:.4f}")
     print(f"{kind}: {count} cases, {len(wrong)} differ")
     sys.exit(1 if wrong else 0)
 

@@ -5,10 +5,10 @@ pub mod RunLines
 pub mod EndLaws
 pub mod NewFile
 pub mod Boxes
-pub mod PartTests
 pub mod Own
 pub mod Lone
 pub mod Made
+pub mod Unsound
 pub mod Found
 mod LinesDone
 mod PrefixOpens
@@ -40,6 +40,7 @@ pub mod ScheduleRuns
 pub mod Reopened
 pub mod Promises
 pub mod NotRefused
+mod NamedOnce
 pub mod DriveGiven
 mod DriveNames
 pub mod FileRefused

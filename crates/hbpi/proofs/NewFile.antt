@@ -1,12 +1,14 @@
 -- The file that is made first: its page has a spelling, it is sound, and it has no record.
-use Rattle.std.proofs.Common.{◌≡◌, inl, nat_le, ◌&&◌, Bool, true, false, cond, Option, Some, None, IsNone, ℕ, zero, suc, ◌+◌, ◌-◌, ◌*◌, ◌^◌, ◌<◌, ◌≤◌, List, [], ◌++◌, length, replicate, slice_index, refl, sym, ◌∙◌, arith, length-append}
+use Rattle.std.proofs.Common.{◌≡◌, nat_le, ◌&&◌, Bool, true, false, cond, Option, Some, None, IsNone, ℕ, zero, suc, ◌+◌, ◌-◌, ◌*◌, ◌^◌, ◌<◌, ◌≤◌, List, [], ◌++◌, length, replicate, slice_index, Contains, refl, sym, ◌∙◌, subst, arith, length-append}
 use Rattle.std.proofs.lemmas.List.{length-replicate}
 use Rattle.std.proofs.lemmas.List.Elements.{All-replicate, All-nil}
 use Rattle.hb_space.specs.Boxes.{IsArea, whole_area}
 use Rattle.hb_space.specs.Points.{IsPoint}
 use Rattle.hb_space.specs.declared.form.TheConstants.{KMAX}
 use Rattle.hb_outside.specs.Numbers.{big_endian}
-use Rattle.hb_frag.specs.declared.leaves.Leaf.TheVariants.{Records}
+use Rattle.hb_frag.specs.declared.leaves.Leaf.TheVariants.{Records, Child}
+use Rattle.hb_frag.specs.declared.pages.Page.TheVariants.{Live}
+use Rattle.hb_frag.specs.Leaves.{leaves_of, siblings_of}
 use Rattle.hb_frag.specs.Grammar.{HasSpelling, FitsRecord, leaf_bytes, tree_bytes, point_bytes}
 use Rattle.hb_frag.specs.Trees.{Tip}
 use Rattle.std.proofs.lemmas.Bool.{false≢true, leb-true}
@@ -16,16 +18,16 @@ use Rattle.hb_space.specs.declared.form.TheConstants.{ICAP_MIN}
 use Rattle.hb_frag.specs.declared.pages.LivePage.{LivePage}
 use Rattle.hb_frag.specs.Rules.{BelongsAt, IsInOrder}
 use Rattle.hb_layout.specs.Limits.{IsLayout}
-use Rattle.hb_ops.specs.Sound.{FitsFile, IsSound}
-use Rattle.hb_ops.specs.Files.{file_records}
+use Rattle.hb_ops.specs.Sound.{FitsFile, SiblingsMatch, ChildrenMatch, IsCovered, IsSound}
+use Rattle.hb_ops.specs.Files.{file_records, live_page}
 use Rattle.hbpi.specs.Restart.{new_meta, new_file, new_page}
-use Rattle.hbpi.specs.OnePage.{IsOwn}
 use Rattle.hbpi.specs.Layouts.{layout_fault}
 use Rattle.hbpi.specs.declared.restart.faults.Field.TheVariants as fields
 use Rattle.hbpi.specs.declared.restart.faults.OpenFault.{OpenFault}
 use Rattle.hbpi.specs.declared.restart.faults.OpenFault.TheVariants as faults
 use Rattle.hbpi.specs.declared.restart.layout.Layout.{Layout}
-use Rattle.hbpi.proofs.Lone.{to_rooted, to_counted, page_sound}
+use Rattle.hbpi.proofs.Lone.{live_alone, live_is, to_rooted, to_counted}
+use Rattle.hbpi.proofs.Own.{no_child, placed}
 
 replicate_point : (k x : ℕ) → 0 < k → k ≤ KMAX → x < 2 ^ 64 → IsPoint (replicate k x)
 replicate_point k x some few fits = record {
@@ -134,14 +136,46 @@ page_fits l is = record {
   normal = tt;
 }
 
+-- a file of this page alone keeps the rules 7 to 9
+module _ (l : Layout) where
+  abbrev new_live : LivePage
+  new_live = record { level = 0; area = whole_area l.k; frag = Tip (Records []) }
+
+  is_new : (id : ℕ) (page : LivePage) → live_page (new_file l) id ≡ Some page → new_live ≡ page
+  is_new id page e = live_is new_live page (live_alone (new_meta l) (Live new_live) id page e).1
+
+  new_siblings : SiblingsMatch (new_file l)
+  new_siblings id page name area is h =
+      let Q : LivePage → Type 0 = λ p. Contains (siblings_of p) (name, area) in
+      let never : Contains (siblings_of new_live) (name, area) = subst Q (sym (is_new id page is)) h in
+      absurd (omega (arith, never.1))
+
+  new_children : ChildrenMatch (new_file l)
+  new_children id page name area is h =
+      let Q : LivePage → Type 0 = λ p. Contains (leaves_of p.frag p.area) (placed (Child name) area) in
+      absurd (no_child new_live.frag new_live.area name area (All-cons (BelongsAt 0) (Records []) [] refl (All-nil (BelongsAt 0))) (subst Q (sym (is_new id page is)) h))
+
+  new_covered : IsCovered (new_file l)
+  new_covered = record {
+    first = λ level lt. (1, new_live, refl, omega (arith, lt), refl);
+    alone = λ id other p q is_p is_q level whole_p whole_q.
+        (live_alone (new_meta l) (Live new_live) id p is_p).0 ∙ sym (live_alone (new_meta l) (Live new_live) other q is_q).0;
+    not_named = λ id p is whole. refl;
+    named_once = λ id p is other. absurd (other (let Q : LivePage → Type 0 = λ x. x.area ≡ whole_area l.k in subst Q (is_new id p is) refl));
+  }
+
 -- a new file is sound
 pub new_is_sound : (l : Layout) → IsNone (layout_fault l) → IsSound (new_file l)
 new_is_sound l none =
     let is = layout_is l (is_none (layout_fault l) none) in
-    let page : LivePage = record { level = 0; area = whole_area l.k; frag = Tip (Records []) } in
-    let rooted = to_rooted (new_meta l) page refl is.some_pages refl (omega arith) (omega arith) (refl, refl) in
-    let counted = to_counted (new_meta l) page refl refl in
-    page_sound (new_meta l) page refl (omega arith) rooted counted 0 refl (inl (refl, page_fits l is, All-cons IsOwn (Records []) [] tt (All-nil IsOwn)))
+    record {
+      rooted = to_rooted (new_meta l) (new_live l) refl is.some_pages refl (omega arith) (omega arith) refl refl;
+      counted = to_counted (new_meta l) (new_live l) refl refl;
+      well_made = λ id q e. let Q : LivePage → Type 0 = λ p. FitsFile (new_meta l) p in subst Q (is_new l id q e) (page_fits l is);
+      siblings = new_siblings l;
+      children = new_children l;
+      covered = new_covered l;
+    }
 
 pub new_has_none : (l : Layout) → file_records (new_file l) ≡ []
 new_has_none l = refl

@@ -59,58 +59,65 @@ areas turn next meta small is =
     let N : ℕ → Type 0 = λ n. Areas turn n meta in
     subst N (sym is) (areas_of turn (next_turn turn) meta (parities turn small))
 
-pub still_to : (turn : ℕ) (meta : Meta) (touched : Option Page) (page : Page) (c : List ℕ) → StillOpens turn meta touched page c → OpensTo c (lone meta page)
-still_to turn meta touched page c opens = record { turn = turn; said = meta; payloads = opens.payloads; groups = opens.groups; by = opens.by }
+pub still_to : (turn : ℕ) (said meta : Meta) (touched : Option Page) (page : Page) (c : List ℕ) → StillOpens turn said meta touched page c → OpensTo c (lone meta page)
+still_to turn said meta touched page c opens = record { turn = turn; said = said; payloads = opens.payloads; groups = opens.groups; by = opens.by }
 
 -- The file still opens, its page stands in its place, the log area of the next turn reads as zeros, and a crash leaves
 -- what a read gives.
-pub record IsZeroed (turn next : ℕ) (meta : Meta) (touched : Option Page) (page : Page) (d : DiskModel) : Type 0 where
-  pub placed : IsPlaced d turn meta touched page
+pub record IsZeroed (turn next : ℕ) (said meta : Meta) (touched : Option Page) (page : Page) (d : DiskModel) : Type 0 where
+  pub placed : IsPlaced d turn said meta touched page
   pub alone : (b c : List ℕ) → d.told ≡ Some b → d.Image c → c ≡ b
   pub zeroed : (b : List ℕ) → d.told ≡ Some b → log_bytes next meta b ≡ replicate meta.log 0
 
-module _ (turn next : ℕ) (meta : Meta) (small : turn ≤ 3) (is : next ≡ next_turn turn) (touched : Option Page) (page : Page) where
+module _ (turn next : ℕ) (said meta : Meta) (small : turn ≤ 3) (is : next ≡ next_turn turn) (touched : Option Page) (page : Page) where
   abbrev lies : Areas turn next meta
   lies = areas turn next meta small is
 
   -- bytes that are torn elsewhere still open
-  still_by : (b c : List ℕ) (from m : ℕ) → StillOpens turn meta touched page b → Torn from m b c → IsNewest c turn meta → Apart (log_start turn meta) meta.log from m
-      → (touched ≡ None → Apart (page_offset meta 1) PAGE from m) → StillOpens turn meta touched page c
+  still_by : (b c : List ℕ) (from m : ℕ) → StillOpens turn said meta touched page b → Torn from m b c → IsNewest c turn said → Apart (log_start turn meta) meta.log from m
+      → (touched ≡ None → Apart (page_offset meta 1) PAGE from m) → StillOpens turn said meta touched page c
   still_by b c from m opens torn newest apart off = record {
+    layout = opens.layout;
     payloads = opens.payloads;
     groups = opens.groups;
-    by = opens_elsewhere b c turn meta opens.payloads opens.groups (lone meta page) opens.by newest torn.as_long (Torn-elsewhere from m (log_start turn meta) meta.log b c apart torn) places;
+    by = opens_elsewhere b c turn said opens.payloads opens.groups (lone meta page) opens.by newest torn.as_long (Torn-elsewhere from m (log_start turn said) said.log b c here torn) places;
     touched_is = opens.touched_is;
   }
     where
-      places : (id : ℕ) (q : Page) → page_of (lone meta page) id ≡ Some q → (replay (untouched meta) opens.groups).page id ≡ None → place_bytes meta id c ≡ place_bytes meta id b
+      here : Apart (log_start turn said) said.log from m
+      here = let L : ℕ → Type 0 = λ n. Apart (8192 + (turn % 2) * n) n from m in subst L opens.layout.log apart
+
+      off_said : touched ≡ None → Apart (page_offset said 1) PAGE from m
+      off_said none = let L : ℕ → Type 0 = λ n. Apart (8192 + 2 * n + 4096 * 0) 4096 from m in subst L opens.layout.log (off none)
+
+      places : (id : ℕ) (q : Page) → page_of (lone meta page) id ≡ Some q → (replay (untouched said) opens.groups).page id ≡ None → place_bytes said id c ≡ place_bytes said id b
       places id q is none =
           let one = (page_alone page id q is).0 in
-          let T : ℕ → Type 0 = λ n. (replay (untouched meta) opens.groups).page n ≡ None in
-          let P : ℕ → Type 0 = λ n. place_bytes meta n c ≡ place_bytes meta n b in
-          subst P (sym one) (Torn-elsewhere from m (page_offset meta 1) PAGE b c (off (sym opens.touched_is ∙ subst T one none)) torn)
+          let T : ℕ → Type 0 = λ n. (replay (untouched said) opens.groups).page n ≡ None in
+          let P : ℕ → Type 0 = λ n. place_bytes said n c ≡ place_bytes said n b in
+          subst P (sym one) (Torn-elsewhere from m (page_offset said 1) PAGE b c (off_said (sym opens.touched_is ∙ subst T one none)) torn)
 
-  still_torn : (b c : List ℕ) (from m : ℕ) → 8192 ≤ from → StillOpens turn meta touched page b → Torn from m b c → Apart (log_start turn meta) meta.log from m
-      → (touched ≡ None → Apart (page_offset meta 1) PAGE from m) → StillOpens turn meta touched page c
+  still_torn : (b c : List ℕ) (from m : ℕ) → 8192 ≤ from → StillOpens turn said meta touched page b → Torn from m b c → Apart (log_start turn meta) meta.log from m
+      → (touched ≡ None → Apart (page_offset meta 1) PAGE from m) → StillOpens turn said meta touched page c
   still_torn b c from m low opens torn =
-      still_by b c from m opens torn (IsNewest-elsewhere b c (Torn-elsewhere from m 0 8192 b c (inl low) torn) turn meta opens.by.newest)
+      still_by b c from m opens torn (IsNewest-elsewhere b c (Torn-elsewhere from m 0 8192 b c (inl low) torn) turn said opens.by.newest)
 
   -- with the page's place torn, where the log has the page
-  pub still_placed : (b c : List ℕ) → (touched ≡ None → ⊥) → StillOpens turn meta touched page b → Torn (page_offset meta 1) PAGE b c → StillOpens turn meta touched page c
+  pub still_placed : (b c : List ℕ) → (touched ≡ None → ⊥) → StillOpens turn said meta touched page b → Torn (page_offset meta 1) PAGE b c → StillOpens turn said meta touched page c
   still_placed b c some opens torn =
       still_torn b c (page_offset meta 1) PAGE (omega arith) opens torn (inl (let h = lies.high in omega (arith, h))) (λ none. absurd (some none))
 
   -- with the log area of the next turn torn
-  pub still_area : (b c : List ℕ) → StillOpens turn meta touched page b → Torn (log_start next meta) meta.log b c → StillOpens turn meta touched page c
+  pub still_area : (b c : List ℕ) → StillOpens turn said meta touched page b → Torn (log_start next meta) meta.log b c → StillOpens turn said meta touched page c
   still_area b c opens torn =
       still_torn b c (log_start next meta) meta.log lies.next_low opens torn lies.apart (λ none. inr (let h = lies.next_high in omega (arith, h)))
 
   -- with the place of the next turn torn, and the old superblock the newest
-  still_place : (b c : List ℕ) (from m : ℕ) → from + m ≤ 8192 → StillOpens turn meta touched page b → Torn from m b c → IsNewest c turn meta → StillOpens turn meta touched page c
+  still_place : (b c : List ℕ) (from m : ℕ) → from + m ≤ 8192 → StillOpens turn said meta touched page b → Torn from m b c → IsNewest c turn said → StillOpens turn said meta touched page c
   still_place b c from m high opens torn newest =
       still_by b c from m opens torn newest (inr (let h = lies.low in omega (arith, h, high))) (λ none. inr (omega (arith, high)))
 
-  pub still_cleared : (d : DiskModel) → ((b : List ℕ) → d.Image b → StillOpens turn meta touched page b) → (c : List ℕ) → ClearLeaves d turn meta next c → StillOpens turn meta touched page c
+  pub still_cleared : (d : DiskModel) → ((b : List ℕ) → d.Image b → StillOpens turn said meta touched page b) → (c : List ℕ) → ClearLeaves d turn said next c → StillOpens turn said meta touched page c
   still_cleared d opens c left =
       still_place left.base c (slot_offset next + 1) 40 (let h = lies.place in omega (arith, h)) (opens left.base left.image) left.elsewhere left.newest
 
@@ -123,7 +130,7 @@ module _ (turn next : ℕ) (meta : Meta) (small : turn ≤ 3) (is : next ≡ nex
       subst Q alone.1 (subst I (sym alone.0) there)
 
   -- Bytes with the place of the next turn torn open, by the old superblock or by the new one.
-  module _ (d : DiskModel) (ready : IsReadyFor d turn meta touched page) (b : List ℕ) (told : d.told ≡ Some b) (long : file_size meta ≤ length b) (high : meta.high ≡ 1) where
+  module _ (d : DiskModel) (ready : IsReadyFor d turn said meta touched page) (b : List ℕ) (told : d.told ≡ Some b) (long : file_size meta ≤ length b) (high : meta.high ≡ 1) where
     there_after : (c : List ℕ) → Torn (slot_offset next) 41 b c → SpellsPage (place_bytes meta 1 c) page
     there_after c torn =
         let S : List ℕ → Type 0 = λ l. SpellsPage l page in
@@ -152,13 +159,13 @@ module _ (turn next : ℕ) (meta : Meta) (small : turn ≤ 3) (is : next ≡ nex
         let M : Meta → Type 0 = λ m. IsNewest c next m in
         subst M same un.newest
 
-    pub written_opens : (is_disk : IsDisk d) (c : List ℕ) → WriteLeaves d b turn meta next meta c → OpensTo c (lone meta page)
+    pub written_opens : (is_disk : IsDisk d) (c : List ℕ) → WriteLeaves d b turn said next meta c → OpensTo c (lone meta page)
     written_opens is_disk c left =
         let same : left.base ≡ b = ready.alone b left.base told left.image in
         let T : List ℕ → Type 0 = λ l. Torn (slot_offset next) 41 l c in
         let torn : Torn (slot_offset next) 41 b c = subst T same left.elsewhere in
         elim left.newest [
-          | inl old ↦ still_to turn meta touched page c (still_place b c (slot_offset next) 41 lies.place (ready.placed.here.images b (is_disk.as_read b told)) torn old)
+          | inl old ↦ still_to turn said meta touched page c (still_place b c (slot_offset next) 41 lies.place (ready.placed.here.images b (is_disk.as_read b told)) torn old)
           | inr (inl new) ↦ new_opens c torn new
           | inr (inr un) ↦ new_opens c torn (uncovered c un)
         ]
@@ -183,31 +190,36 @@ module _ (turn next : ℕ) (meta : Meta) (small : turn ≤ 3) (is : next ≡ nex
         (λ id q is c image. let S : List ℕ → Type 0 = λ l. SpellsPage (place_bytes meta id l) q in subst S (sym (only c image)) (at_one after.0 (there_after after.0 after.2) id q is))
 
   abbrev P : List ℕ → Type 0
-  P = StillOpens turn meta touched page
+  P = StillOpens turn said meta touched page
 
   -- the page that the log has is the file's
-  the_page : (b : List ℕ) → StillOpens turn meta touched page b → (o : Option Page) → touched ≡ o → IsPageIn b meta 1 o page
+  the_page : (b : List ℕ) → StillOpens turn said meta touched page b → (o : Option Page) → touched ≡ o → IsPageIn b meta 1 o page
   the_page b opens o is_touched =
-      let O : Option Page → Type 0 = λ x. IsPageIn b meta 1 x page in
-      subst O (opens.touched_is ∙ is_touched) (opens.by.shows.each 1 page refl)
+      let O : Option Page → Type 0 = λ x. IsPageIn b said 1 x page in
+      same_place o (subst O (opens.touched_is ∙ is_touched) (opens.by.shows.each 1 page refl))
+    where
+      -- the layout is the same, so its place is
+      same_place : (o : Option Page) → IsPageIn b said 1 o page → IsPageIn b meta 1 o page
+      same_place None there = let S : ℕ → Type 0 = λ n. SpellsPage (take 4096 (drop (8192 + 2 * n + 4096 * 0) b)) page in subst S (sym opens.layout.log) there
+      same_place (Some touched) there = there
 
   -- a page that is written to its place
-  module _ {T E : Type 0} (r : Result T E) (old new : DiskModel) (is_old : IsDisk old) (here : IsHere old turn meta touched page)
+  module _ {T E : Type 0} (r : Result T E) (old new : DiskModel) (is_old : IsDisk old) (here : IsHere old turn said meta touched page)
       (some : touched ≡ None → ⊥) (ticks : Ticks r old new) (run : Becomes (Torn (page_offset meta 1) PAGE) old new) where
     placed_images : (c : List ℕ) → new.Image c → P c
     placed_images c image = let was = run.crash c image in still_placed was.0 c some (here.images was.0 was.1) was.2
 
-    pub placed_moments : Leaves old new (StillOpens turn meta touched page)
+    pub placed_moments : Leaves old new (StillOpens turn said meta touched page)
     placed_moments = Leaves-call r old old new P (Leaves-start old P is_old here.images) ticks placed_images
 
-    pub placed_here : IsHere new turn meta touched page
+    pub placed_here : IsHere new turn said meta touched page
     placed_here = record {
       told = told_on (Torn (page_offset meta 1) PAGE) old new run here.told;
       images = placed_images;
       places = IsSynced-elsewhere old new 0 8192 (page_offset meta 1) PAGE (inl (omega arith)) run here.places;
     }
 
-    pub placed_there : (q : Page) → touched ≡ Some q → ((b : List ℕ) → new.told ≡ Some b → SpellsPage (place_bytes meta 1 b) q) → IsPlaced new turn meta touched page
+    pub placed_there : (q : Page) → touched ≡ Some q → ((b : List ℕ) → new.told ≡ Some b → SpellsPage (place_bytes meta 1 b) q) → IsPlaced new turn said meta touched page
     placed_there q is_q there =
         let b = some_value old.told here.told in
         let same : q ≡ page = the_page b.0 (here.images b.0 (is_old.as_read b.0 b.1)) (Some q) is_q in
@@ -215,7 +227,7 @@ module _ (turn next : ℕ) (meta : Meta) (small : turn ≤ 3) (is : next ≡ nex
         record { here = placed_here; there = subst S same there }
 
   -- a page that the log doesn't touch stands there
-  pub placed_untouched : (d : DiskModel) → IsDisk d → touched ≡ None → IsHere d turn meta touched page → IsPlaced d turn meta touched page
+  pub placed_untouched : (d : DiskModel) → IsDisk d → touched ≡ None → IsHere d turn said meta touched page → IsPlaced d turn said meta touched page
   placed_untouched d is_disk none here = record {
     here = here;
     there = λ b told. the_page b (here.images b (is_disk.as_read b told)) None none;
@@ -223,7 +235,7 @@ module _ (turn next : ℕ) (meta : Meta) (small : turn ≤ 3) (is : next ≡ nex
 
   -- A sync, and the log area of the next turn zeroed.
   module _ {T E U F : Type 0} (q : Result T E) (r : Result U F) (old mid new : DiskModel) (is_old : IsDisk old) (is_mid : IsDisk mid) (is_new : IsDisk new)
-      (placed : IsPlaced old turn meta touched page) (syncs : Syncs q old mid) (ticks : Ticks q old mid) (area : ℕ) (area_is : area ≡ log_start next meta)
+      (placed : IsPlaced old turn said meta touched page) (syncs : Syncs q old mid) (ticks : Ticks q old mid) (area : ℕ) (area_is : area ≡ log_start next meta)
       (moments : IsSome mid.told → Leaves mid new (λ c. (b : List ℕ) × mid.Image b × Torn area meta.log b c)) (run : Becomes (Torn area meta.log) mid new) where
     mid_images : (c : List ℕ) → mid.Image c → P c
     mid_images c image = placed.here.images c (syncs.crash c image)
@@ -234,13 +246,13 @@ module _ (turn next : ℕ) (meta : Meta) (small : turn ≤ 3) (is : next ≡ nex
     at_area : (b c : List ℕ) → Torn area meta.log b c → Torn (log_start next meta) meta.log b c
     at_area b c torn = let A : ℕ → Type 0 = λ n. Torn n meta.log b c in subst A area_is torn
 
-    pub zeroed_moments : Leaves old new (StillOpens turn meta touched page)
+    pub zeroed_moments : Leaves old new (StillOpens turn said meta touched page)
     zeroed_moments =
         Leaves-then old mid new P (Leaves-call q old old mid P (Leaves-start old P is_old placed.here.images) ticks mid_images)
         (Leaves-weaker mid new (λ c. (b : List ℕ) × mid.Image b × Torn area meta.log b c) P (λ c h. still_area h.0 c (mid_images h.0 h.1) (at_area h.0 c h.2)) (moments mid_told))
 
     pub zeroed_ready : (long : file_size meta ≤ new.size) → IfSome new.told (λ b. (c : List ℕ) → new.Image c → c ≡ b)
-        → IfSome mid.told (λ b. new.told ≡ Some (overwritten b area (replicate meta.log 0))) → IsZeroed turn next meta touched page new
+        → IfSome mid.told (λ b. new.told ≡ Some (overwritten b area (replicate meta.log 0))) → IsZeroed turn next said meta touched page new
     zeroed_ready long durable zeroed = record {
       placed = record {
         here = record {
@@ -274,19 +286,19 @@ module _ (turn next : ℕ) (meta : Meta) (small : turn ≤ 3) (is : next ≡ nex
         after = at_value mid.told (λ b. (c : List ℕ) × (new.told ≡ Some c) × Torn area meta.log b c) before.0 before.1 run.told
 
   -- What the place of the next turn hides is cleared.
-  module _ (old new : DiskModel) (is_old : IsDisk old) (is_new : IsDisk new) (zeroed : IsZeroed turn next meta touched page old) (run : Becomes (Torn (slot_offset next + 1) 40) old new)
-      (moments : IfSome old.told (λ b. IsNewest b turn meta → Leaves old new (ClearLeaves old turn meta next))) where
+  module _ (old new : DiskModel) (is_old : IsDisk old) (is_new : IsDisk new) (zeroed : IsZeroed turn next said meta touched page old) (run : Becomes (Torn (slot_offset next + 1) 40) old new)
+      (moments : IfSome old.told (λ b. IsNewest b turn said → Leaves old new (ClearLeaves old turn said next))) where
     cleared_before : (x : List ℕ) × (old.told ≡ Some x)
     cleared_before = some_value old.told zeroed.placed.here.told
 
     cleared_after : (x : List ℕ) × (new.told ≡ Some x) × Torn (slot_offset next + 1) 40 cleared_before.0 x
     cleared_after = at_value old.told (λ b. (c : List ℕ) × (new.told ≡ Some c) × Torn (slot_offset next + 1) 40 b c) cleared_before.0 cleared_before.1 run.told
 
-    pub cleared_moments : Leaves old new (StillOpens turn meta touched page)
+    pub cleared_moments : Leaves old new (StillOpens turn said meta touched page)
     cleared_moments =
         let b = cleared_before in
-        Leaves-weaker old new (ClearLeaves old turn meta next) P (still_cleared old zeroed.placed.here.images)
-        (at_value old.told (λ b. IsNewest b turn meta → Leaves old new (ClearLeaves old turn meta next)) b.0 b.1 moments (zeroed.placed.here.images b.0 (is_old.as_read b.0 b.1)).by.newest)
+        Leaves-weaker old new (ClearLeaves old turn said next) P (still_cleared old zeroed.placed.here.images)
+        (at_value old.told (λ b. IsNewest b turn said → Leaves old new (ClearLeaves old turn said next)) b.0 b.1 moments (zeroed.placed.here.images b.0 (is_old.as_read b.0 b.1)).by.newest)
 
     -- a part that the place of the next turn doesn't meet
     same_part : (b : List ℕ) → new.told ≡ Some b → (from m : ℕ) → 8192 ≤ from → take m (drop from b) ≡ take m (drop from cleared_before.0)
@@ -300,7 +312,7 @@ module _ (turn next : ℕ) (meta : Meta) (small : turn ≤ 3) (is : next ≡ nex
     cleared_alone (inr durable) b c told image = at_value new.told (λ b. (c : List ℕ) → new.Image c → c ≡ b) b told durable c image
 
     pub cleared_ready : IfSome new.told (λ b. HidesNoOther b next meta) → IsSynced new 0 8192 → OnlyReads old new ⊎ IfSome new.told (λ b. (c : List ℕ) → new.Image c → c ≡ b)
-        → IsReadyFor new turn meta touched page
+        → IsReadyFor new turn said meta touched page
     cleared_ready hidden synced durable = record {
       placed = record {
         here = record {
@@ -318,29 +330,29 @@ module _ (turn next : ℕ) (meta : Meta) (small : turn ≤ 3) (is : next ≡ nex
     }
 
   -- The superblock is written.
-  module _ (old new : DiskModel) (is_old : IsDisk old) (ready : IsReadyFor old turn meta touched page) (room : file_size meta ≤ old.size) (high : meta.high ≡ 1) where
+  module _ (old new : DiskModel) (is_old : IsDisk old) (ready : IsReadyFor old turn said meta touched page) (room : file_size meta ≤ old.size) (high : meta.high ≡ 1) where
     super_before : (x : List ℕ) × (old.told ≡ Some x)
     super_before = some_value old.told ready.placed.here.told
 
     super_long : file_size meta ≤ length super_before.0
     super_long = let b = super_before in omega (arith, room, is_old.long b.0 (is_old.as_read b.0 b.1))
 
-    super_newest : IsNewest super_before.0 turn meta
+    super_newest : IsNewest super_before.0 turn said
     super_newest = let b = super_before in (ready.placed.here.images b.0 (is_old.as_read b.0 b.1)).by.newest
 
-    pub super_moments : IfSome old.told (λ b. IsNewest b turn meta → Leaves old new (WriteLeaves old b turn meta next meta)) → Leaves old new (λ c. OpensTo c (lone meta page))
+    pub super_moments : IfSome old.told (λ b. IsNewest b turn said → Leaves old new (WriteLeaves old b turn said next meta)) → Leaves old new (λ c. OpensTo c (lone meta page))
     super_moments moments =
         let b = super_before in
-        Leaves-weaker old new (WriteLeaves old b.0 turn meta next meta) (λ c. OpensTo c (lone meta page)) (written_opens old ready b.0 b.1 super_long high is_old)
-        (at_value old.told (λ b. IsNewest b turn meta → Leaves old new (WriteLeaves old b turn meta next meta)) b.0 b.1 moments super_newest)
+        Leaves-weaker old new (WriteLeaves old b.0 turn said next meta) (λ c. OpensTo c (lone meta page)) (written_opens old ready b.0 b.1 super_long high is_old)
+        (at_value old.told (λ b. IsNewest b turn said → Leaves old new (WriteLeaves old b turn said next meta)) b.0 b.1 moments super_newest)
 
     pub super_fresh : IsDisk new → Becomes (Torn (slot_offset next) 41) old new
-        → IfSome new.told (λ b. (c : List ℕ) → new.Image c → c ≡ b) → IfSome old.told (λ b. IsNewest b turn meta → IfSome new.told (λ c. IsNewest c next meta)) → IsFresh new (next_turn turn) meta (lone meta page)
+        → IfSome new.told (λ b. (c : List ℕ) → new.Image c → c ≡ b) → IfSome old.told (λ b. IsNewest b turn said → IfSome new.told (λ c. IsNewest c next meta)) → IsFresh new (next_turn turn) meta (lone meta page)
     super_fresh is_new run durable newest =
         let b = super_before in
         let N : ℕ → Type 0 = λ n. IsFresh new n meta (lone meta page) in
         subst N is (written_fresh old ready b.0 b.1 super_long high new is_new run (omega (arith, room, run.size)) durable
-        (at_value old.told (λ b. IsNewest b turn meta → IfSome new.told (λ c. IsNewest c next meta)) b.0 b.1 newest super_newest))
+        (at_value old.told (λ b. IsNewest b turn said → IfSome new.told (λ c. IsNewest c next meta)) b.0 b.1 newest super_newest))
 
 pub not_none : {X : Type 0} (o : Option X) (x : X) → o ≡ Some x → o ≡ None → ⊥
 not_none o x is none = cc

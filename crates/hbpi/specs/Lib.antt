@@ -5,7 +5,6 @@ pub mod Outcome
 pub mod Layouts
 pub mod Ends
 pub mod Created
-pub mod Audit
 pub mod Restart
 pub mod OnePage
 pub mod Creation

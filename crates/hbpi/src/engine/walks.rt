@@ -20,7 +20,7 @@ use crate::engine::session::{Outcome, Session};
 use crate::engine::state::Core;
 use hb_disk::Device;
 use hb_ops::{
-    Op, delete_takes_one_record, lone_page_has_no_others, operations_keep_a_file_sound,
+    Op, delete_takes_one_record, lone_page_has_no_others, puts_and_deletes_keep_a_file_sound,
     put_adds_one_record, what_stands_is_in_the_contents,
 };
 use hb_set::{Command, Reply};
@@ -63,7 +63,7 @@ fn operations_do_as_the_machine()
     put_adds_one_record();
     delete_takes_one_record();
     lone_page_has_no_others();
-    operations_keep_a_file_sound();
+    puts_and_deletes_keep_a_file_sound();
     what_stands_is_in_the_contents();
 }
 

@@ -1,4 +1,4 @@
-use Rattle.std.proofs.Common.{◌≡◌, ◌*◌, ◌+◌, length, take, drop, IfSome, arith}
+use Rattle.std.proofs.Common.{◌≡◌, length, take, drop, IfSome, arith}
 use Rattle.hb_disk.specs.RunLaws.{on_ok_weaker}
 use Rattle.hb_store.specs.Opening.{place_bytes}
 use Rattle.hbpi.proofs.Found.{place_read}
