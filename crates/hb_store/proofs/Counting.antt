@@ -1,6 +1,6 @@
 -- A file has a page for each number up to its high mark, and so has the file after an operation.
 use Rattle.std.proofs.Common.{◌≡◌, ℕ, ◌+◌, ◌-◌, ◌≤◌, max, true, false, cond, eqb, List, [], ◌∷◌, length, get_or, All, Option, Some, None, refl, sym, ap, subst, ◌∙◌, arith}
-use Rattle.std.proofs.lemmas.Bool.{eqb-true, eqb-false}
+use Rattle.std.proofs.lemmas.Bool.{eqb-true, eqb-false, ne_eqb}
 use Rattle.std.proofs.lemmas.List.Elements.{All-head}
 use Rattle.hb_space.specs.Boxes.{Area}
 use Rattle.hb_frag.specs.declared.pages.LivePage.{LivePage}
@@ -46,6 +46,13 @@ page_there (x ∷ xs) id some high =
         | false ↦ λ more. let ne = eqb-false id 1 more in page_there xs (id - 1) (omega (arith, some, ne)) (omega (arith, some, high))
       ] refl
     ] refl
+
+-- behind another page it has the next number
+pub page_behind : (x : Page) (xs : List Page) (id : ℕ) → 1 ≤ id → page_at (x ∷ xs) (id + 1) ≡ page_at xs id
+page_behind x xs id some =
+    let back : id + 1 - 1 ≡ id = omega arith in
+    ap (λ b. cond b None (cond (eqb (id + 1) 1) (Some x) (page_at xs (id + 1 - 1)))) (ne_eqb (id + 1) 0 (λ e. absurd (omega (arith, e))))
+    ∙ ap (λ b. cond b (Some x) (page_at xs (id + 1 - 1))) (ne_eqb (id + 1) 1 (λ e. absurd (omega (arith, e, some)))) ∙ ap (page_at xs) back
 
 -- ---- the high mark
 

@@ -18,7 +18,7 @@ use Rattle.hb_store.specs.Replay.{Replayed, MayReplay, replay, untouched}
 use Rattle.hb_layout.specs.Offsets.{log_start}
 use Rattle.hb_store.specs.Opening.{IsBadPayload, IsPageIn, OpensBy, OpensTo, Shows, log_bytes}
 use Rattle.hb_store.specs.ImageLaws.{OpensToOne, OpensWhole}
-use Rattle.hb_store.proofs.Counting.{page_in_range}
+use Rattle.hb_store.proofs.Counting.{page_behind, page_in_range}
 use Rattle.hb_store.proofs.Replays.{may_front, may_back, replay-append}
 
 abbrev pub OneTurn : Type 0
@@ -28,12 +28,6 @@ abbrev pub OneMeta : Type 0
 OneMeta = (bytes : List ℕ) (t s : ℕ) (m n : Meta) → IsNewest bytes t m → IsNewest bytes s n → m ≡ n
 
 -- ---- lists of pages
-
-page_behind : (x : Page) (xs : List Page) (id : ℕ) → 1 ≤ id → page_at (x ∷ xs) (id + 1) ≡ page_at xs id
-page_behind x xs id some =
-    let back : id + 1 - 1 ≡ id = omega arith in
-    ap (λ b. cond b None (cond (eqb (id + 1) 1) (Some x) (page_at xs (id + 1 - 1)))) (ne_eqb (id + 1) 0 (λ e. absurd (omega (arith, e))))
-    ∙ ap (λ b. cond b (Some x) (page_at xs (id + 1 - 1))) (ne_eqb (id + 1) 1 (λ e. absurd (omega (arith, e, some)))) ∙ ap (page_at xs) back
 
 same_pages : (xs ys : List Page) → length xs ≡ length ys → ((id : ℕ) (p q : Page) → page_at xs id ≡ Some p → page_at ys id ≡ Some q → p ≡ q) → xs ≡ ys
 same_pages [] [] long same = refl

@@ -16,3 +16,4 @@ pub mod Fetching
 pub mod ImageLaws
 pub mod Replaying
 pub mod Making
+pub mod NextPage

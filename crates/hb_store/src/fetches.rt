@@ -109,7 +109,7 @@ fn put_frame(frames: &mut BTreeMap<u32, Frame>, id: u32, page: Page) -> Result<(
 }
 
 /// The stop for a page that breaks the rule of this number.
-fn damaged(page: u32, rule: u8) -> FetchStop
+pub(crate) fn damaged(page: u32, rule: u8) -> FetchStop
     ensures { result ≡ FetchStop.Damaged page (Why.Rule rule) }
 {
     FetchStop::Damaged {

@@ -21,6 +21,7 @@
 //! frame, and the log of the turn makes it again. Pages stay in memory once they are fetched.
 #![tactic(auto)]
 
+mod allocating;
 #[cfg(test)]
 mod commit_tests;
 mod commits;
