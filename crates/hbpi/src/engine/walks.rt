@@ -4,7 +4,8 @@ ghost use Rattle.hb_frag.specs.declared.pages.Page.{Page as Framed};
 ghost use Rattle.hb_set.specs.Machine.{RecordSet, attributes};
 ghost use Rattle.hb_set.specs.Scripts.{IsScriptFor};
 ghost use Rattle.hb_set.specs.declared.scripts.Line.{Line as Entry};
-ghost use Rattle.hb_ops.specs.Operations.{OpHas};
+ghost use Rattle.hb_ops.specs.Files.{FileState};
+ghost use Rattle.hb_ops.specs.Operations.{IsLicensed, OpHas};
 ghost use Rattle.hb_store.specs.Calls.{IsReady, IsAllowedHere};
 ghost use Rattle.hb_store.specs.Seen.{seen_as};
 ghost use Rattle.hbpi.specs.Beyond.{StaysInLog};
@@ -183,6 +184,7 @@ impl<D: Device> Core<D> {
         requires ready { IsReady (core_seen self.old).store }
         requires points { OpHas (core_seen self.old).store.meta.k op }
         requires allowed { IsAllowedHere (core_seen self.old).store op }
+        requires licensed { (s : FileState) → IsLicensed s op }
         requires marks { All (λ g. g.mark ≤ length (core_seen self.old).order) (core_seen self.old).store.log.groups }
         ensures changes { ChangesOr number op (D.model (core_disk self.old)) (core_seen self.old) result (D.model (core_disk self.new)) (core_seen self.new) }
         ensures disk { core_disk self.new ≡ core_disk self.old }

@@ -30,3 +30,11 @@ returns-clause-found g c =
     c.in_ok-turn.ensures.newest c.in_ok-touched.ensures.read
     (g.D.Device.model c.log_of.new.disk).told c.log_of.ensures.only_reads.stays.told
     c.in_ok-count.count c.in_ok-touched.ensures.touched.meta.layout c.in_ok-count.ensures.sound
+
+-- src/restart/looking.rt:255:17
+pub audited-requires-clause-touched : goal.audited-requires-clause-touched
+audited-requires-clause-touched g c = λ id page at. (c.in_ok-touched.ensures.touched.pages id page at).2
+
+-- src/restart/looking.rt:226:1
+pub returns-clause-touched : goal.returns-clause-touched
+returns-clause-touched g c = λ id page at. (c.in_ok-touched.ensures.touched.pages id page at).2
