@@ -3,7 +3,7 @@ ghost use Rattle.std.specs.Prelude.{◌≡◌, ◌+◌, ◌<◌, ◌≤◌, ◌^
 ghost use Rattle.hb_space.specs.Boxes.{whole_area};
 ghost use Rattle.hb_frag.specs.declared.pages.Page.{Page as Content};
 ghost use Rattle.hb_outside.specs.Streams.{Rose};
-ghost use Rattle.hb_super.specs.Superblocks.{IsLayout};
+ghost use Rattle.hb_layout.specs.Limits.{IsLayout};
 ghost use Rattle.hb_sound.specs.Covers.{HasRule, IsLeastRule, SeesRule, SeesTop};
 ghost use Rattle.hb_sound.specs.Marks.{HasMarks};
 ghost use Rattle.hb_ops.specs.Sound.{IsSound};

@@ -7,7 +7,7 @@
 ghost use Rattle.std.specs.Prelude.{◌≡◌, IfSome, IsTrue, None};
 ghost use Rattle.hb_frag.specs.Leaves.{leaf_weight, weight_of};
 ghost use Rattle.hb_page_codec.specs.Weight.{IsLight};
-ghost use Rattle.hb_super.specs.Superblocks.{IsLayout};
+ghost use Rattle.hb_layout.specs.Limits.{IsLayout};
 
 use crate::{AuditStop, PageStop, Pages, audit};
 use hb_frag::{Frag, Leaf, LivePage, Node, Page};

@@ -17,9 +17,11 @@
 //! spelling, and keeps the rules that speak of it alone.
 //!
 //! A page is brought into the log as an image before an operation of this turn first reads it. So
-//! a replay needs no page from its place. Pages stay in memory once they are fetched.
+//! a replay needs no page from its place. A page that an operation makes needs no image: it gets a
+//! frame, and the log of the turn makes it again. Pages stay in memory once they are fetched.
 #![tactic(auto)]
 
+mod allocating;
 #[cfg(test)]
 mod commit_tests;
 mod commits;
@@ -28,19 +30,14 @@ mod fetches;
 mod force_tests;
 mod forces;
 mod frames;
-mod group_fields;
-mod group_reading;
-#[cfg(test)]
-mod group_tests;
 mod group_writing;
-mod groups;
 mod image_laws;
 mod laws;
 #[cfg(test)]
 mod log_tests;
 mod looks;
+mod making;
 mod opening;
-mod places;
 mod reading;
 mod stops;
 mod store;
@@ -49,7 +46,6 @@ mod touched;
 
 pub use image_laws::an_image_opens_to_one_file;
 pub use laws::{a_store_keeps_one_file, an_image_of_a_store_opens};
-pub use places::{log_place, page_place};
 pub use reading::read_log;
 pub use stops::{FetchStop, Flushed, StopWhy, Why, WriteFault};
 pub use store::Store;

@@ -3,13 +3,12 @@ use Rattle.std.proofs.Common.{◌≡◌, ◌⊎◌, inl, inr, ℕ, ◌<◌, ◌^
 use Rattle.std.proofs.lemmas.List.Elements.{All-head, All-tail}
 use Rattle.hb_outside.specs.Numbers.{big_endian}
 use Rattle.hb_disk.specs.Calls.{open_gate}
-use Rattle.hb_ops.specs.declared.meta.Meta.{Meta}
+use Rattle.hb_layout.specs.declared.meta.Meta.{Meta}
 use Rattle.hb_wal.specs.Frames.{frames, frame_bytes, IsPayload, IsEnd, IsBadFrame}
 use Rattle.hb_wal.specs.Reading.{BeginsFrame}
-use Rattle.hb_store.specs.FieldLaws.{length_number}
-use Rattle.hb_store.specs.OpLaws.{same_number}
-use Rattle.hb_store.specs.Groups.{Logged, SpellAll, SpellsGroups}
-use Rattle.hb_store.specs.GroupLaws.{SpelledOnce, same_fronts, same_groups}
+use Rattle.hb_log_codec.specs.Groups.{Logged, SpellsGroups}
+use Rattle.hb_store.specs.Payloads.{SpellAll}
+use Rattle.hb_store.proofs.Spellings.{OneList, length_number, same_fronts, same_number}
 use Rattle.hb_store.specs.Replay.{Replayed, MayReplay, after_group, replay, untouched}
 use Rattle.hb_store.specs.ReplayLaws.{MayReplay-front, replay-append}
 use Rattle.hb_store.specs.Opening.{HasBadGroup, IsBadPayload}
@@ -77,10 +76,10 @@ same_first : (p q : List ℕ) (ps qs : List (List ℕ)) (r s : List ℕ) → len
 same_first p q ps qs r s p_short q_short e =
     same_frame p q (frames ps ++ r) (frames qs ++ s) p_short q_short (sym (append_assoc (frame_bytes p) (frames ps) r) ∙ e ∙ append_assoc (frame_bytes q) (frames qs) s)
 
-module _ (once : SpelledOnce) (k : ℕ) where
+module _ (once : OneList) (k : ℕ) where
   -- two payloads of the same bytes spell the same groups
   same_front : (p q : List ℕ) (front other : List Logged) → p ≡ q → SpellsGroups k p front → SpellsGroups k q other → front ≡ other
-  same_front p q front other same here there = same_groups once k q front other (subst (λ x. SpellsGroups k x front) same here) there
+  same_front p q front other same here there = once k q front other (subst (λ x. SpellsGroups k x front) same here) there
 
   -- what is left to replay, from where the same groups lead
   may_rest : (t : Replayed) (front other behind groups : List Logged) → front ≡ other → groups ≡ front ++ behind → MayReplay t groups → MayReplay (replay t other) behind
@@ -119,13 +118,13 @@ module _ (once : SpelledOnce) (k : ℕ) where
       (may_rest t p_spelled.0 q_spelled.0 p_spelled.1 gs same p_spelled.2 may) (bad_rest t q_spelled.0 q_spelled.0 q_spelled.1 hs s refl q_spelled.2 bad)
 
 -- no two numbers are that of the first bad group
-pub one_bad_group : SpelledOnce → (bytes : List ℕ) (turn : ℕ) (said : Meta) (f g : ℕ) → HasBadGroup bytes turn said f → HasBadGroup bytes turn said g → f ≡ g
+pub one_bad_group : OneList → (bytes : List ℕ) (turn : ℕ) (said : Meta) (f g : ℕ) → HasBadGroup bytes turn said f → HasBadGroup bytes turn said g → f ≡ g
 one_bad_group once bytes turn said f g here there =
     here.counted
     ∙ same_count once said.k (untouched said) here.before there.before here.rest there.rest here.groups there.groups (sym here.framed ∙ there.framed) here.payloads_fit there.payloads_fit here.spelled there.spelled here.replayed there.replayed here.bad
     there.bad ∙ sym there.counted
 
 -- a log that is read to an end and replayed has no bad group
-pub bad_or_whole : SpelledOnce → (bytes : List ℕ) (turn : ℕ) (said : Meta) (f : ℕ) (groups : List Logged) → HasBadGroup bytes turn said f → HasLog bytes turn said groups → ⊥
+pub bad_or_whole : OneList → (bytes : List ℕ) (turn : ℕ) (said : Meta) (f : ℕ) (groups : List Logged) → HasBadGroup bytes turn said f → HasLog bytes turn said groups → ⊥
 bad_or_whole once bytes turn said f groups bad log =
     not_both once said.k (untouched said) log.payloads bad.before log.framed.rest bad.rest groups bad.groups (sym log.framed.bytes ∙ bad.framed) log.framed.payloads_fit bad.payloads_fit log.framed.at_end log.spelled bad.spelled log.replayed bad.bad

@@ -10,7 +10,7 @@ use Rattle.hb_frag.specs.declared.pages.Page.TheVariants.{Live, Free}
 use Rattle.hb_frag.specs.Leaves.{Placed, IsWellCut, leaves_of, siblings}
 use Rattle.hb_frag.specs.Rules.{IsSiblingTip}
 use Rattle.hb_frag.specs.Trees.{Tree, Tip, Cut}
-use Rattle.hb_ops.specs.declared.meta.Meta.{Meta}
+use Rattle.hb_layout.specs.declared.meta.Meta.{Meta}
 use Rattle.hb_ops.specs.Files.{FileState, if_live, page_at, live_page}
 use Rattle.hb_ops.specs.Sound.{IsRooted, IsCounted, SiblingsMatch}
 use Rattle.hbpi.specs.OnePage.{lone}

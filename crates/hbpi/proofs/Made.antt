@@ -12,9 +12,10 @@ use Rattle.hb_frag.specs.declared.pages.Page.{Page}
 use Rattle.hb_frag.specs.Grammar.{SpellsPage}
 use Rattle.hb_wal.specs.Frames.{range}
 use Rattle.hb_super.specs.Superblocks.{IsNewest, body_bytes}
-use Rattle.hb_ops.specs.declared.meta.Meta.{Meta}
+use Rattle.hb_layout.specs.declared.meta.Meta.{Meta}
 use Rattle.hb_ops.specs.Files.{page_of}
-use Rattle.hb_store.specs.Opening.{file_size, log_bytes, log_place, page_place, place_bytes, OpensTo}
+use Rattle.hb_layout.specs.Offsets.{file_size, log_start, page_offset}
+use Rattle.hb_store.specs.Opening.{log_bytes, place_bytes, OpensTo}
 use Rattle.hb_store.specs.Keeps.{IsFresh}
 use Rattle.hb_store.specs.ReplayLaws.{opens_fresh}
 use Rattle.hbpi.specs.Creation.{IsLaidOut}
@@ -95,8 +96,8 @@ module _ (b : List ℕ) (meta : Meta) (page : List ℕ) (some : 1 ≤ meta.pages
   laid_out one two = record {
     first = gate_kept 0 (omega arith) ∙ one;
     second = gate_kept 4096 (omega arith) ∙ two;
-    log = (let here : log_place 0 meta ≡ 8192 = omega arith in ap (λ (n : ℕ). take meta.log (drop n (overwritten first at page))) here) ∙ area_is;
-    there = (let here : page_place meta 1 ≡ at = omega arith in ap (λ (n : ℕ). take PAGE (drop n (overwritten first at page))) here) ∙ page_is;
+    log = (let here : log_start 0 meta ≡ 8192 = omega arith in ap (λ (n : ℕ). take meta.log (drop n (overwritten first at page))) here) ∙ area_is;
+    there = (let here : page_offset meta 1 ≡ at = omega arith in ap (λ (n : ℕ). take PAGE (drop n (overwritten first at page))) here) ∙ page_is;
   }
 
 -- with the superblock in front the bytes are a new file, and nothing else is left
@@ -113,10 +114,10 @@ module _ (d : DiskModel) (is_disk : IsDisk d) (meta : Meta) (page c : List ℕ) 
   e_long = length-overwritten c 0 frame frame_fits
 
   log_is : log_bytes 0 meta e ≡ replicate meta.log 0
-  log_is = part_kept c 0 frame (log_place 0 meta) meta.log frame_fits (inr (omega (arith, short))) ∙ laid.log
+  log_is = part_kept c 0 frame (log_start 0 meta) meta.log frame_fits (inr (omega (arith, short))) ∙ laid.log
 
   there : place_bytes meta 1 e ≡ page
-  there = part_kept c 0 frame (page_place meta 1) PAGE frame_fits (inr (omega (arith, short))) ∙ laid.there
+  there = part_kept c 0 frame (page_offset meta 1) PAGE frame_fits (inr (omega (arith, short))) ∙ laid.there
 
   is_newest : IsNewest e 0 meta
   is_newest = at_value d.told (λ x. IsNewest x 0 meta) e told newest
@@ -146,10 +147,10 @@ module _ (d : DiskModel) (is_disk : IsDisk d) (meta : Meta) (page c : List ℕ) 
     });
     places = IsSynced-durable d 0 8192 durable;
     logged = record {
-      synced = IsSynced-durable d (log_place 0 meta) meta.log durable;
+      synced = IsSynced-durable d (log_start 0 meta) meta.log durable;
       payloads_fit = λ i x lt. absurd (omega (arith, lt));
       count = refl;
-      reads = of_value d.told (λ b. range (log_place 0 meta) meta.log b ≡ [] ++ replicate (meta.log - 0) 0) e told
+      reads = of_value d.told (λ b. range (log_start 0 meta) meta.log b ≡ [] ++ replicate (meta.log - 0) 0) e told
           (log_is ∙ ap (λ (n : ℕ). replicate n 0) (let none : meta.log ≡ meta.log - 0 = omega arith in none));
     };
     pages = λ id q is x image. let Q : List ℕ → Type 0 = λ l. SpellsPage (place_bytes meta id l) q in subst Q (sym (only x image)) (spelled p spells id q is);

@@ -17,7 +17,7 @@ use Rattle.hb_space.specs.Boxes.{Holds}
 use Rattle.hb_space.specs.declared.form.TheConstants.{ICAP_MIN}
 use Rattle.hb_frag.specs.declared.pages.LivePage.{LivePage}
 use Rattle.hb_frag.specs.Rules.{BelongsAt, IsInOrder}
-use Rattle.hb_super.specs.Superblocks.{IsLayout}
+use Rattle.hb_layout.specs.Limits.{IsLayout}
 use Rattle.hb_ops.specs.Sound.{FitsFile, SiblingsMatch, ChildrenMatch, IsCovered, IsSound}
 use Rattle.hb_ops.specs.Files.{file_records, live_page}
 use Rattle.hbpi.specs.Restart.{new_meta, new_file, new_page}

@@ -1,19 +1,22 @@
 -- A good file is not refused.
 use Rattle.std.proofs.Common.{◌≡◌, inl, inr, ℕ, ◌≤◌, List, [], ◌∷◌, length, Option, Some, None, refl, sym, ap, subst, ◌∙◌, arith}
+use Rattle.std.proofs.Math.Nat.{le-max_left}
 use Rattle.hb_wal.specs.FrameLaws.{ReadsOneWay}
 use Rattle.hb_super.specs.Superblocks.{IsNewest}
 use Rattle.hb_frag.specs.declared.pages.LivePage.{LivePage}
 use Rattle.hb_frag.specs.declared.pages.Page.{Page}
-use Rattle.hb_ops.specs.declared.meta.Meta.{Meta}
+use Rattle.hb_layout.specs.declared.meta.Meta.{Meta}
 use Rattle.hb_ops.specs.declared.operations.Op.{Op}
-use Rattle.hb_ops.specs.declared.operations.Op.TheVariants.{Put, Del}
+use Rattle.hb_ops.specs.declared.operations.Op.TheVariants.{Put, Del, Extract, Post, Grow}
 use Rattle.hb_ops.specs.Files.{FileState, page_at, page_of}
 use Rattle.hb_ops.specs.Operations.{change_of}
 use Rattle.hb_ops.specs.Sound.{IsSound}
-use Rattle.hb_store.specs.Groups.{Logged, SpellAll}
-use Rattle.hb_store.specs.GroupLaws.{SpelledOnce, same_spelled}
+use Rattle.hb_log_codec.specs.Groups.{Logged}
+use Rattle.hb_store.specs.Payloads.{SpellAll}
+use Rattle.hb_store.proofs.Spellings.{OneList, same_spelled}
 use Rattle.hb_store.specs.ImageLaws.{OpensToOne, OpensWhole}
-use Rattle.hb_store.specs.Opening.{OpensBy, OpensTo, IsPageIn, Shows, file_size, log_bytes, place_bytes}
+use Rattle.hb_layout.specs.Offsets.{file_size}
+use Rattle.hb_store.specs.Opening.{OpensBy, OpensTo, IsPageIn, Shows, log_bytes, place_bytes}
 use Rattle.hb_store.specs.Replay.{Replayed, untouched, replay, after_group}
 use Rattle.hb_frag.specs.Grammar.{SpellsPage}
 use Rattle.hb_sound.specs.Names.{SoundBreaksNone}
@@ -21,19 +24,44 @@ use Rattle.hbpi.specs.Restart.{IsOnePage, IsUnsound, GoodIsNotRefused, HasLayout
 use Rattle.hbpi.proofs.Unsound.{sound_names}
 use Rattle.hbpi.specs.declared.restart.faults.OpenFault.TheVariants as faults
 
--- no operation so far changes what a file says of itself
-op_meta : (op : Op) (meta : Meta) (first second third : Option LivePage) → (change_of op meta first second third).meta ≡ meta
-op_meta (Put id rec) meta (Some page) second third = refl
-op_meta (Put id rec) meta None second third = refl
-op_meta (Del id point) meta (Some page) second third = refl
-op_meta (Del id point) meta None second third = refl
+-- what operations keep of what a file says of itself: its pages, and that the high mark and the height never fall
+record Rises (old new : Meta) : Type 0 where
+  pages : new.pages ≡ old.pages
+  high : old.high ≤ new.high
+  height : old.height ≤ new.height
 
-pub replay_meta : (t : Replayed) (groups : List Logged) → (replay t groups).meta ≡ t.meta
-replay_meta t [] = refl
-replay_meta t (g ∷ rest) = replay_meta (after_group t g) rest ∙ op_meta g.op t.meta _ _ _
+same_rises : (meta : Meta) → Rises meta meta
+same_rises meta = record { pages = refl; high = omega arith; height = omega arith }
 
-pub meta_of : (b : List ℕ) (s : FileState) (opens : OpensTo b s) → s.meta ≡ opens.said
-meta_of b s opens = opens.by.shows.meta ∙ replay_meta (untouched opens.said) opens.groups
+op_rises : (op : Op) (meta : Meta) (first second third : Option LivePage) → Rises meta (change_of op meta first second third).meta
+op_rises (Put id rec) meta (Some page) second third = same_rises meta
+op_rises (Put id rec) meta None second third = same_rises meta
+op_rises (Del id point) meta (Some page) second third = same_rises meta
+op_rises (Del id point) meta None second third = same_rises meta
+op_rises (Extract source fresh path cuts free_after) meta (Some page) second third = record { pages = refl; high = le-max_left meta.high fresh; height = omega arith }
+op_rises (Extract source fresh path cuts free_after) meta None second third = same_rises meta
+op_rises (Post parent at inner area) meta (Some page) second third = same_rises meta
+op_rises (Post parent at inner area) meta None second third = same_rises meta
+op_rises (Grow fresh free_after) meta first second third = record { pages = refl; high = le-max_left meta.high fresh; height = omega arith }
+
+replay_rises : (t : Replayed) (groups : List Logged) → Rises t.meta (replay t groups).meta
+replay_rises t [] = same_rises t.meta
+replay_rises t (g ∷ rest) =
+    let one : Rises t.meta (after_group t g).meta = op_rises g.op t.meta _ _ _ in
+    let more = replay_rises (after_group t g) rest in
+    let low = one.high in
+    let low_more = more.high in
+    let levels = one.height in
+    let levels_more = more.height in
+    record { pages = more.pages ∙ one.pages; high = omega (arith, low, low_more); height = omega (arith, levels, levels_more) }
+
+-- so a file of one page was one before its log
+pub was_one_page : (said : Meta) (groups : List Logged) → IsOnePage (replay (untouched said) groups).meta → IsOnePage said
+was_one_page said groups small =
+    let rises = replay_rises (untouched said) groups in
+    let high = rises.high in
+    let height = rises.height in
+    (omega (arith, high, small.0), omega (arith, height, small.1))
 
 pub least_size : (m : Meta) → 8192 ≤ file_size m
 least_size m = omega arith
@@ -56,7 +84,7 @@ pub lacks_none : (b : List ℕ) (said : Meta) (t : Replayed) (s : FileState) (id
 lacks_none b said t s id shows few some (least, most, (inl beyond)) = absurd (omega (arith, few, some, least, most, beyond))
 lacks_none b said t s id shows few some (least, most, (inr none)) = there_not b said t s id shows few least most none.0 none.1
 
-module _ (once : SpelledOnce) (turns : (bytes : List ℕ) (t s : ℕ) (m n : Meta) → IsNewest bytes t m → IsNewest bytes s n → t ≡ s) (saids : (bytes : List ℕ) (t s : ℕ) (m n : Meta) → IsNewest bytes t m → IsNewest bytes s n → m ≡ n)
+module _ (once : OneList) (turns : (bytes : List ℕ) (t s : ℕ) (m n : Meta) → IsNewest bytes t m → IsNewest bytes s n → t ≡ s) (saids : (bytes : List ℕ) (t s : ℕ) (m n : Meta) → IsNewest bytes t m → IsNewest bytes s n → m ≡ n)
     (one_way : ReadsOneWay) (one : OpensToOne) (whole : OpensWhole) (law : SoundBreaksNone) where
   -- the groups of the log are those by which the bytes open
   shown : (b : List ℕ) (s : FileState) (turn : ℕ) (said : Meta) (groups : List Logged) → OpensTo b s → HasLayout b turn said → HasLog b turn said groups → Shows b said (replay (untouched said) groups) s
@@ -69,6 +97,10 @@ module _ (once : SpelledOnce) (turns : (bytes : List ℕ) (t s : ℕ) (m n : Met
       let payloads : opens.payloads ≡ log.payloads = (one_way (log_bytes turn said b)).frames opens.payloads log.payloads here.framed log.framed in
       let same : opens.groups ≡ groups = same_spelled once said.k log.payloads opens.groups groups (subst (λ (x : List (List ℕ)). SpellAll said.k x opens.groups) payloads here.spelled) log.spelled in
       subst (λ (x : List Logged). Shows b said (replay (untouched said) x) s) same here.shows
+
+  -- the file says what its log makes of its superblock
+  said_of : (b : List ℕ) (s : FileState) (turn : ℕ) (said : Meta) (groups : List Logged) → OpensTo b s → IsOnePage s.meta → HasLayout b turn said → HasLog b turn said groups → IsOnePage (replay (untouched said) groups).meta
+  said_of b s turn said groups opens small layout log = subst IsOnePage (shown b s turn said groups opens layout log).meta small
 
   unsound : (b : List ℕ) (s : FileState) (turn : ℕ) (said : Meta) (groups : List Logged) (page rule : ℕ) → OpensTo b s → IsSound s → IsOnePage s.meta → HasLayout b turn said → HasLog b turn said groups → IsUnsound b said groups page rule → ⊥
   unsound b s turn said groups page rule opens sound one_page layout log refuses = elim refuses [
@@ -104,10 +136,13 @@ module _ (once : SpelledOnce) (turns : (bytes : List ℕ) (t s : ℕ) (m n : Met
         absurd (omega (arith, refuses.0, refuses.1, size, opens.by.fits))
   ]
   not_refused faults.NoSuper b s opens sound one_page refuses = absurd (refuses.1 opens.turn opens.said opens.by.newest.there)
-  not_refused faults.NotBuilt b s opens sound one_page refuses =
-      let m : opens.said ≡ refuses.1 = saids b opens.turn refuses.0 opens.said refuses.1 opens.by.newest refuses.2.newest in
-      absurd (refuses.3 (subst IsOnePage (meta_of b s opens ∙ m) one_page))
+  not_refused faults.NotBuilt b s opens sound one_page refuses = elim refuses.3 [
+    | inl many ↦
+        let m : opens.said ≡ refuses.1 = saids b opens.turn refuses.0 opens.said refuses.1 opens.by.newest refuses.2.newest in
+        absurd (many (subst IsOnePage m (was_one_page opens.said opens.groups (subst IsOnePage opens.by.shows.meta one_page))))
+    | inr (few, groups, log, many) ↦ absurd (many (said_of b s refuses.0 refuses.1 groups opens one_page refuses.2 log))
+  ]
   not_refused (faults.BadGroup frame) b s opens sound one_page refuses = absurd (whole b s refuses.0 refuses.1 frame opens refuses.2.newest refuses.4)
-  not_refused (faults.Unsound page rule) b s opens sound one_page refuses = absurd (unsound b s refuses.0 refuses.1 refuses.4 page rule opens sound one_page refuses.2 refuses.5 refuses.6)
+  not_refused (faults.Unsound page rule) b s opens sound one_page refuses = absurd (unsound b s refuses.0 refuses.1 refuses.4 page rule opens sound one_page refuses.2 refuses.5 refuses.7)
   not_refused faults.DiskFault b s opens sound one_page refuses = inl refl
   not_refused faults.NoMemory b s opens sound one_page refuses = inr refl

@@ -2,20 +2,22 @@
 use Rattle.std.proofs.Common.{◌≡◌, inl, inr, ℕ, ◌≤◌, List, length, refl, sym, ap, subst, ◌∙◌, arith}
 use Rattle.hb_wal.specs.FrameLaws.{ReadsOneWay}
 use Rattle.hb_super.specs.Superblocks.{IsNewest, HasNone}
-use Rattle.hb_ops.specs.declared.meta.Meta.{Meta}
+use Rattle.hb_layout.specs.declared.meta.Meta.{Meta}
 use Rattle.hb_ops.specs.Files.{FileState}
-use Rattle.hb_store.specs.Groups.{Logged, SpellAll}
-use Rattle.hb_store.specs.GroupLaws.{SpelledOnce, same_spelled}
+use Rattle.hb_log_codec.specs.Groups.{Logged}
+use Rattle.hb_store.specs.Payloads.{SpellAll}
+use Rattle.hb_store.proofs.Spellings.{OneList, same_spelled}
 use Rattle.hb_store.specs.ImageLaws.{OpensToOne}
-use Rattle.hb_store.specs.Opening.{HasBadGroup, OpensTo, Shows, file_size, log_bytes}
+use Rattle.hb_layout.specs.Offsets.{file_size}
+use Rattle.hb_store.specs.Opening.{HasBadGroup, OpensTo, Shows, log_bytes}
 use Rattle.hb_store.specs.Replay.{untouched, replay}
 use Rattle.hb_sound.specs.Names.{NamesIn}
-use Rattle.hbpi.specs.Restart.{Refuses, IsUnwritten, IsOnePage, IsSmall, IsUnsound, HasLayout, HasLog, LacksPage}
+use Rattle.hbpi.specs.Restart.{Refuses, IsUnwritten, IsOnePage, IsSmall, IsLarger, IsUnsound, HasLayout, HasLog, LacksPage}
 use Rattle.hbpi.specs.declared.restart.faults.OpenFault.{OpenFault}
 use Rattle.hbpi.specs.declared.restart.faults.OpenFault.TheVariants as faults
 use Rattle.hbpi.proofs.BadFrames.{one_bad_group, bad_or_whole}
 use Rattle.hbpi.proofs.NamedOnce.{least_one, same_names}
-use Rattle.hbpi.proofs.NotRefused.{replay_meta, least_size, lacks_none}
+use Rattle.hbpi.proofs.NotRefused.{least_size, lacks_none}
 
 same_small : (a b c d : ℕ) → a ≡ c → b ≡ d → ◌≡◌ {A = OpenFault} (faults.Small a b) (faults.Small c d)
 same_small a b c d e f = cc (e, f)
@@ -23,7 +25,7 @@ same_small a b c d e f = cc (e, f)
 same_unsound : (a b c d : ℕ) → a ≡ c → b ≡ d → ◌≡◌ {A = OpenFault} (faults.Unsound a b) (faults.Unsound c d)
 same_unsound a b c d e f = cc (e, f)
 
-module _ (once : SpelledOnce) (turns : (bytes : List ℕ) (t s : ℕ) (m n : Meta) → IsNewest bytes t m → IsNewest bytes s n → t ≡ s) (saids : (bytes : List ℕ) (t s : ℕ) (m n : Meta) → IsNewest bytes t m → IsNewest bytes s n → m ≡ n)
+module _ (once : OneList) (turns : (bytes : List ℕ) (t s : ℕ) (m n : Meta) → IsNewest bytes t m → IsNewest bytes s n → t ≡ s) (saids : (bytes : List ℕ) (t s : ℕ) (m n : Meta) → IsNewest bytes t m → IsNewest bytes s n → m ≡ n)
     (one_way : ReadsOneWay) (one : OpensToOne) (b : List ℕ) where
   small_none : (needed found : ℕ) → IsSmall b needed found → (8192 ≤ length b) × HasNone b → ⊥
   small_none needed found (is, less, (inl least)) none = absurd (omega (arith, is, less, least, none.0))
@@ -72,12 +74,12 @@ module _ (once : SpelledOnce) (turns : (bytes : List ℕ) (t s : ℕ) (m n : Met
     };
   }
 
-  unsound_same : (turn : ℕ) (said : Meta) (groups : List Logged) (p q r t : ℕ) → HasLayout b turn said → IsOnePage said → HasLog b turn said groups
+  unsound_same : (turn : ℕ) (said : Meta) (groups : List Logged) (p q r t : ℕ) → HasLayout b turn said → IsOnePage (replay (untouched said) groups).meta → HasLog b turn said groups
       → IsUnsound b said groups p r → IsUnsound b said groups q t → (p ≡ q) × (r ≡ t)
   unsound_same turn said groups p q r t layout few log x y = by_kind x y
     where
       low : (replay (untouched said) groups).meta.high ≤ 1
-      low = let high = ap (λ (m : Meta). m.high) (replay_meta (untouched said) groups) in omega (arith, high, few.0)
+      low = few.0
 
       shown_not : (s : FileState) (id : ℕ) → Shows b said (replay (untouched said) groups) s → LacksPage b said (replay (untouched said) groups) id → ⊥
       shown_not s id shows lacks = lacks_none b said (replay (untouched said) groups) s id shows low layout.newest.there.legal.layout.some_pages lacks
@@ -91,7 +93,7 @@ module _ (once : SpelledOnce) (turns : (bytes : List ℕ) (t s : ℕ) (m n : Met
           let short : length (y.0).pages ≤ 1 = let e = y.1.count in omega (arith, e, low) in
           same_names y.0 short p q r t (subst (λ (s : FileState). NamesIn s p r) same x.2) y.2
 
-  unsound_one : (t s : ℕ) (m n : Meta) (xs ys : List Logged) (p q r u : ℕ) → HasLayout b t m → HasLayout b s n → IsOnePage n → HasLog b t m xs → HasLog b s n ys
+  unsound_one : (t s : ℕ) (m n : Meta) (xs ys : List Logged) (p q r u : ℕ) → HasLayout b t m → HasLayout b s n → IsOnePage (replay (untouched n) ys).meta → HasLog b t m xs → HasLog b s n ys
       → IsUnsound b m xs p r → IsUnsound b n ys q u → (p ≡ q) × (r ≡ u)
   unsound_one t s m n xs ys p q r u x y few log_x log_y bad_x bad_y =
       let log : HasLog b s n xs = moved (λ k said. HasLog b k said xs) t s m n x y log_x in
@@ -104,6 +106,18 @@ module _ (once : SpelledOnce) (turns : (bytes : List ℕ) (t s : ℕ) (m n : Met
 
   bad_not : (t s : ℕ) (m n : Meta) (f : ℕ) (groups : List Logged) → HasLayout b t m → HasLayout b s n → HasBadGroup b t m f → HasLog b s n groups → ⊥
   bad_not t s m n f groups x y bad log = bad_or_whole once b s n f groups (moved (λ k said. HasBadGroup b k said f) t s m n x y bad) log
+
+  -- a file that is larger is neither refused for its log nor for its pages
+  larger_bad : (t s : ℕ) (m n : Meta) (f : ℕ) → HasLayout b t m → HasLayout b s n → IsLarger b t m → IsOnePage n → HasBadGroup b s n f → ⊥
+  larger_bad t s m n f x y (inl many) few bad = layout_or t s m n x y many few
+  larger_bad t s m n f x y (inr (small, groups, log, many)) few bad = bad_not s t n m f groups y x bad log
+
+  larger_unsound : (t s : ℕ) (m n : Meta) (groups : List Logged) → HasLayout b t m → HasLayout b s n → IsLarger b t m → IsOnePage n → HasLog b s n groups → IsOnePage (replay (untouched n) groups).meta → ⊥
+  larger_unsound t s m n groups x y (inl many) few log small = layout_or t s m n x y many few
+  larger_unsound t s m n groups x y (inr (one_page, others, log_x, many)) few log small =
+      let there : HasLog b s n others = moved (λ k said. HasLog b k said others) t s m n x y log_x in
+      let large : ¬ (IsOnePage (replay (untouched n) others).meta) = moved (λ k said. ¬ (IsOnePage (replay (untouched said) others).meta)) t s m n x y many in
+      large (subst (λ (l : List Logged). IsOnePage (replay (untouched n) l).meta) (sym (same_groups_of s n others groups there log)) small)
 
   pub refused_once : (f g : OpenFault) → Refuses f b → Refuses g b → IsUnwritten f → IsUnwritten g → f ≡ g
   refused_once (faults.BadLayout field value) g x y u v = absurd x
@@ -128,14 +142,14 @@ module _ (once : SpelledOnce) (turns : (bytes : List ℕ) (t s : ℕ) (m n : Met
   refused_once faults.NotBuilt (faults.Small wanted there) x y u v = absurd (small_layout wanted there x.0 x.1 y x.2)
   refused_once faults.NotBuilt faults.NoSuper x y u v = absurd (none_layout x.0 x.1 y x.2)
   refused_once faults.NotBuilt faults.NotBuilt x y u v = refl
-  refused_once faults.NotBuilt (faults.BadGroup other) x y u v = absurd (layout_or x.0 y.0 x.1 y.1 x.2 y.2 x.3 y.3)
-  refused_once faults.NotBuilt (faults.Unsound named broken) x y u v = absurd (layout_or x.0 y.0 x.1 y.1 x.2 y.2 x.3 y.3)
+  refused_once faults.NotBuilt (faults.BadGroup other) x y u v = absurd (larger_bad x.0 y.0 x.1 y.1 other x.2 y.2 x.3 y.3 y.4)
+  refused_once faults.NotBuilt (faults.Unsound named broken) x y u v = absurd (larger_unsound x.0 y.0 x.1 y.1 y.4 x.2 y.2 x.3 y.3 y.5 y.6)
   refused_once faults.NotBuilt (faults.BadLayout field value) x y u v = absurd y
   refused_once faults.NotBuilt faults.DiskFault x y u v = absurd v
   refused_once faults.NotBuilt faults.NoMemory x y u v = absurd v
   refused_once (faults.BadGroup frame) (faults.Small wanted there) x y u v = absurd (small_layout wanted there x.0 x.1 y x.2)
   refused_once (faults.BadGroup frame) faults.NoSuper x y u v = absurd (none_layout x.0 x.1 y x.2)
-  refused_once (faults.BadGroup frame) faults.NotBuilt x y u v = absurd (layout_or y.0 x.0 y.1 x.1 y.2 x.2 y.3 x.3)
+  refused_once (faults.BadGroup frame) faults.NotBuilt x y u v = absurd (larger_bad y.0 x.0 y.1 x.1 frame y.2 x.2 y.3 x.3 x.4)
   refused_once (faults.BadGroup frame) (faults.BadGroup other) x y u v = ap (λ (n : ℕ). faults.BadGroup n) (bad_same x.0 y.0 x.1 y.1 frame other x.2 y.2 x.4 y.4)
   refused_once (faults.BadGroup frame) (faults.Unsound named broken) x y u v = absurd (bad_not x.0 y.0 x.1 y.1 frame y.4 x.2 y.2 x.4 y.5)
   refused_once (faults.BadGroup frame) (faults.BadLayout field value) x y u v = absurd y
@@ -143,9 +157,9 @@ module _ (once : SpelledOnce) (turns : (bytes : List ℕ) (t s : ℕ) (m n : Met
   refused_once (faults.BadGroup frame) faults.NoMemory x y u v = absurd v
   refused_once (faults.Unsound page rule) (faults.Small wanted there) x y u v = absurd (small_layout wanted there x.0 x.1 y x.2)
   refused_once (faults.Unsound page rule) faults.NoSuper x y u v = absurd (none_layout x.0 x.1 y x.2)
-  refused_once (faults.Unsound page rule) faults.NotBuilt x y u v = absurd (layout_or y.0 x.0 y.1 x.1 y.2 x.2 y.3 x.3)
+  refused_once (faults.Unsound page rule) faults.NotBuilt x y u v = absurd (larger_unsound y.0 x.0 y.1 x.1 x.4 y.2 x.2 y.3 x.3 x.5 x.6)
   refused_once (faults.Unsound page rule) (faults.BadGroup other) x y u v = absurd (bad_not y.0 x.0 y.1 x.1 other x.4 y.2 x.2 y.4 x.5)
-  refused_once (faults.Unsound page rule) (faults.Unsound named broken) x y u v = (let same = unsound_one x.0 y.0 x.1 y.1 x.4 y.4 page named rule broken x.2 y.2 y.3 x.5 y.5 x.6 y.6 in same_unsound page rule named broken same.0 same.1)
+  refused_once (faults.Unsound page rule) (faults.Unsound named broken) x y u v = (let same = unsound_one x.0 y.0 x.1 y.1 x.4 y.4 page named rule broken x.2 y.2 y.6 x.5 y.5 x.7 y.7 in same_unsound page rule named broken same.0 same.1)
   refused_once (faults.Unsound page rule) (faults.BadLayout field value) x y u v = absurd y
   refused_once (faults.Unsound page rule) faults.DiskFault x y u v = absurd v
   refused_once (faults.Unsound page rule) faults.NoMemory x y u v = absurd v

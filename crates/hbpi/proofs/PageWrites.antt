@@ -7,11 +7,12 @@ use Rattle.hb_disk.specs.RunLaws.{at_value, some_value, has_value, some_same}
 use Rattle.hb_disk.specs.TornLaws.{overwritten-reads}
 use Rattle.hb_frag.specs.declared.pages.Page.{Page}
 use Rattle.hb_frag.specs.Grammar.{SpellsPage}
-use Rattle.hb_ops.specs.declared.meta.Meta.{Meta}
-use Rattle.hb_store.specs.Opening.{file_size, page_place, place_bytes}
+use Rattle.hb_layout.specs.declared.meta.Meta.{Meta}
+use Rattle.hb_layout.specs.Offsets.{file_size, page_offset}
+use Rattle.hb_store.specs.Opening.{place_bytes}
 use Rattle.hbpi.proofs.Made.{told_before}
 
-pub page_written : (old new : DiskModel) → IsDisk old → (at : ℕ) (bytes : List ℕ) (meta : Meta) (page : Page) → at ≡ page_place meta 1 → SpellsPage bytes page → file_size meta ≤ old.size → 1 ≤ meta.pages
+pub page_written : (old new : DiskModel) → IsDisk old → (at : ℕ) (bytes : List ℕ) (meta : Meta) (page : Page) → at ≡ page_offset meta 1 → SpellsPage bytes page → file_size meta ≤ old.size → 1 ≤ meta.pages
     → (old.told ≡ None → new.told ≡ None) → IfSome old.told (λ b. new.told ≡ Some (overwritten b at bytes))
     → (b : List ℕ) → new.told ≡ Some b → SpellsPage (place_bytes meta 1 b) page
 page_written old new is_old at bytes meta page here spells room some silent written b told =
@@ -20,12 +21,12 @@ page_written old new is_old at bytes meta page here spells room some silent writ
     let same : after ≡ b = some_same after b (sym (at_value old.told (λ x. new.told ≡ Some (overwritten x at bytes)) before.0 before.1 written) ∙ told) in
     let fits : at + length bytes ≤ length before.0 = omega (arith, here, spells.long, room, some, is_old.long before.0 (is_old.as_read before.0 before.1)) in
     let reads : place_bytes meta 1 b ≡ bytes =
-    ap (λ (l : List ℕ). take PAGE (drop (page_place meta 1) l)) (sym same) ∙ ap (λ (n : ℕ). take PAGE (drop n after)) (sym here)
+    ap (λ (l : List ℕ). take PAGE (drop (page_offset meta 1) l)) (sym same) ∙ ap (λ (n : ℕ). take PAGE (drop n after)) (sym here)
     ∙ ap (λ (n : ℕ). take n (drop at after)) (sym spells.long) ∙ overwritten-reads before.0 at bytes fits in
     let S : List ℕ → Type 0 = λ l. SpellsPage l page in
     subst S (sym reads) spells
 
-pub becomes_there : (old new : DiskModel) (at n : ℕ) (meta : Meta) → at ≡ page_place meta 1 → n ≡ PAGE → Becomes (Torn at n) old new → Becomes (Torn (page_place meta 1) PAGE) old new
+pub becomes_there : (old new : DiskModel) (at n : ℕ) (meta : Meta) → at ≡ page_offset meta 1 → n ≡ PAGE → Becomes (Torn at n) old new → Becomes (Torn (page_offset meta 1) PAGE) old new
 becomes_there old new at n meta here long run =
     let A : ℕ → Type 0 = λ k. Becomes (Torn k PAGE) old new in
     let N : ℕ → Type 0 = λ k. Becomes (Torn at k) old new in

@@ -5,7 +5,7 @@ use Rattle.hb_disk.specs.Calls.{Leaves, OnlyReads}
 use Rattle.hb_disk.specs.RunLaws.{some_value, at_value, if_value, has_value, Leaves-start, Leaves-read, Leaves-then}
 use Rattle.hb_super.specs.Superblocks.{next_turn}
 use Rattle.hb_frag.specs.declared.pages.Page.{Page}
-use Rattle.hb_ops.specs.declared.meta.Meta.{Meta}
+use Rattle.hb_layout.specs.declared.meta.Meta.{Meta}
 use Rattle.hb_ops.specs.Files.{FileState, file_records}
 use Rattle.hb_ops.specs.Sound.{IsSound}
 use Rattle.hb_store.specs.Opening.{OpensTo, IsEven}

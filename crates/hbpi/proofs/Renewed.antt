@@ -9,13 +9,15 @@ use Rattle.hb_disk.specs.TornLaws.{Torn-elsewhere, overwritten-reads}
 use Rattle.hb_frag.specs.declared.pages.Page.{Page}
 use Rattle.hb_frag.specs.Grammar.{SpellsPage}
 use Rattle.hb_wal.specs.Frames.{range}
-use Rattle.hb_super.specs.Superblocks.{IsNewest, place_of, next_turn}
+use Rattle.hb_layout.specs.Offsets.{slot_offset}
+use Rattle.hb_super.specs.Superblocks.{IsNewest, next_turn}
 use Rattle.hb_super.specs.Moments.{WriteLeaves, IsUncovered, HidesNoOther}
 use Rattle.hb_super.specs.Hidden.{ClearLeaves}
-use Rattle.hb_ops.specs.declared.meta.Meta.{Meta}
+use Rattle.hb_layout.specs.declared.meta.Meta.{Meta}
 use Rattle.hb_ops.specs.Files.{page_of}
 use Rattle.hb_store.specs.Replay.{untouched, replay}
-use Rattle.hb_store.specs.Opening.{OpensTo, IsPageIn, file_size, log_place, page_place, log_bytes, place_bytes}
+use Rattle.hb_layout.specs.Offsets.{file_size, log_start, page_offset}
+use Rattle.hb_store.specs.Opening.{OpensTo, IsPageIn, log_bytes, place_bytes}
 use Rattle.hb_store.specs.Keeps.{IsFresh}
 use Rattle.hb_store.specs.ReplayLaws.{opens_elsewhere, opens_fresh}
 use Rattle.hb_store.specs.StoreLaws.{IsNewest-elsewhere, IsFresh-from}
@@ -26,23 +28,23 @@ use Rattle.hbpi.proofs.RunSteps.{now_has, told_on}
 
 -- where the log areas of a turn and of the next one lie
 pub record Areas (turn next : ℕ) (meta : Meta) : Type 0 where
-  pub low : 8192 ≤ log_place turn meta
-  pub high : log_place turn meta + meta.log ≤ 8192 + 2 * meta.log
-  pub next_low : 8192 ≤ log_place next meta
-  pub next_high : log_place next meta + meta.log ≤ 8192 + 2 * meta.log
-  pub apart : Apart (log_place turn meta) meta.log (log_place next meta) meta.log
-  pub place : place_of next + 41 ≤ 8192
+  pub low : 8192 ≤ log_start turn meta
+  pub high : log_start turn meta + meta.log ≤ 8192 + 2 * meta.log
+  pub next_low : 8192 ≤ log_start next meta
+  pub next_high : log_start next meta + meta.log ≤ 8192 + 2 * meta.log
+  pub apart : Apart (log_start turn meta) meta.log (log_start next meta) meta.log
+  pub place : slot_offset next + 41 ≤ 8192
 
 areas_of : (turn next : ℕ) (meta : Meta) → ((turn % 2 ≡ 0) × (next % 2 ≡ 1)) ⊎ ((turn % 2 ≡ 1) × (next % 2 ≡ 0)) → Areas turn next meta
 areas_of turn next meta (inl (one, two)) =
-    let here : log_place turn meta ≡ 8192 = ap (λ (n : ℕ). 8192 + n * meta.log) one ∙ (let e : 8192 + 0 * meta.log ≡ 8192 = omega arith in e) in
-    let there : log_place next meta ≡ 8192 + meta.log = ap (λ (n : ℕ). 8192 + n * meta.log) two ∙ (let e : 8192 + 1 * meta.log ≡ 8192 + meta.log = omega arith in e) in
-    let place : place_of next ≡ 4096 = ap (λ (n : ℕ). 4096 * n) two in
+    let here : log_start turn meta ≡ 8192 = ap (λ (n : ℕ). 8192 + n * meta.log) one ∙ (let e : 8192 + 0 * meta.log ≡ 8192 = omega arith in e) in
+    let there : log_start next meta ≡ 8192 + meta.log = ap (λ (n : ℕ). 8192 + n * meta.log) two ∙ (let e : 8192 + 1 * meta.log ≡ 8192 + meta.log = omega arith in e) in
+    let place : slot_offset next ≡ 4096 = ap (λ (n : ℕ). 4096 * n) two in
     record { low = omega (arith, here); high = omega (arith, here); next_low = omega (arith, there); next_high = omega (arith, there); apart = inl (omega (arith, here, there)); place = omega (arith, place) }
 areas_of turn next meta (inr (one, two)) =
-    let here : log_place turn meta ≡ 8192 + meta.log = ap (λ (n : ℕ). 8192 + n * meta.log) one ∙ (let e : 8192 + 1 * meta.log ≡ 8192 + meta.log = omega arith in e) in
-    let there : log_place next meta ≡ 8192 = ap (λ (n : ℕ). 8192 + n * meta.log) two ∙ (let e : 8192 + 0 * meta.log ≡ 8192 = omega arith in e) in
-    let place : place_of next ≡ 0 = ap (λ (n : ℕ). 4096 * n) two in
+    let here : log_start turn meta ≡ 8192 + meta.log = ap (λ (n : ℕ). 8192 + n * meta.log) one ∙ (let e : 8192 + 1 * meta.log ≡ 8192 + meta.log = omega arith in e) in
+    let there : log_start next meta ≡ 8192 = ap (λ (n : ℕ). 8192 + n * meta.log) two ∙ (let e : 8192 + 0 * meta.log ≡ 8192 = omega arith in e) in
+    let place : slot_offset next ≡ 0 = ap (λ (n : ℕ). 4096 * n) two in
     record { low = omega (arith, here); high = omega (arith, here); next_low = omega (arith, there); next_high = omega (arith, there); apart = inr (omega (arith, here, there)); place = omega (arith, place) }
 
 parities : (turn : ℕ) → turn ≤ 3 → ((turn % 2 ≡ 0) × (next_turn turn % 2 ≡ 1)) ⊎ ((turn % 2 ≡ 1) × (next_turn turn % 2 ≡ 0))
@@ -57,60 +59,67 @@ areas turn next meta small is =
     let N : ℕ → Type 0 = λ n. Areas turn n meta in
     subst N (sym is) (areas_of turn (next_turn turn) meta (parities turn small))
 
-pub still_to : (turn : ℕ) (meta : Meta) (touched : Option Page) (page : Page) (c : List ℕ) → StillOpens turn meta touched page c → OpensTo c (lone meta page)
-still_to turn meta touched page c opens = record { turn = turn; said = meta; payloads = opens.payloads; groups = opens.groups; by = opens.by }
+pub still_to : (turn : ℕ) (said meta : Meta) (touched : Option Page) (page : Page) (c : List ℕ) → StillOpens turn said meta touched page c → OpensTo c (lone meta page)
+still_to turn said meta touched page c opens = record { turn = turn; said = said; payloads = opens.payloads; groups = opens.groups; by = opens.by }
 
 -- The file still opens, its page stands in its place, the log area of the next turn reads as zeros, and a crash leaves
 -- what a read gives.
-pub record IsZeroed (turn next : ℕ) (meta : Meta) (touched : Option Page) (page : Page) (d : DiskModel) : Type 0 where
-  pub placed : IsPlaced d turn meta touched page
+pub record IsZeroed (turn next : ℕ) (said meta : Meta) (touched : Option Page) (page : Page) (d : DiskModel) : Type 0 where
+  pub placed : IsPlaced d turn said meta touched page
   pub alone : (b c : List ℕ) → d.told ≡ Some b → d.Image c → c ≡ b
   pub zeroed : (b : List ℕ) → d.told ≡ Some b → log_bytes next meta b ≡ replicate meta.log 0
 
-module _ (turn next : ℕ) (meta : Meta) (small : turn ≤ 3) (is : next ≡ next_turn turn) (touched : Option Page) (page : Page) where
+module _ (turn next : ℕ) (said meta : Meta) (small : turn ≤ 3) (is : next ≡ next_turn turn) (touched : Option Page) (page : Page) where
   abbrev lies : Areas turn next meta
   lies = areas turn next meta small is
 
   -- bytes that are torn elsewhere still open
-  still_by : (b c : List ℕ) (from m : ℕ) → StillOpens turn meta touched page b → Torn from m b c → IsNewest c turn meta → Apart (log_place turn meta) meta.log from m
-      → (touched ≡ None → Apart (page_place meta 1) PAGE from m) → StillOpens turn meta touched page c
+  still_by : (b c : List ℕ) (from m : ℕ) → StillOpens turn said meta touched page b → Torn from m b c → IsNewest c turn said → Apart (log_start turn meta) meta.log from m
+      → (touched ≡ None → Apart (page_offset meta 1) PAGE from m) → StillOpens turn said meta touched page c
   still_by b c from m opens torn newest apart off = record {
+    layout = opens.layout;
     payloads = opens.payloads;
     groups = opens.groups;
-    by = opens_elsewhere b c turn meta opens.payloads opens.groups (lone meta page) opens.by newest torn.as_long (Torn-elsewhere from m (log_place turn meta) meta.log b c apart torn) places;
+    by = opens_elsewhere b c turn said opens.payloads opens.groups (lone meta page) opens.by newest torn.as_long (Torn-elsewhere from m (log_start turn said) said.log b c here torn) places;
     touched_is = opens.touched_is;
   }
     where
-      places : (id : ℕ) (q : Page) → page_of (lone meta page) id ≡ Some q → (replay (untouched meta) opens.groups).page id ≡ None → place_bytes meta id c ≡ place_bytes meta id b
+      here : Apart (log_start turn said) said.log from m
+      here = let L : ℕ → Type 0 = λ n. Apart (8192 + (turn % 2) * n) n from m in subst L opens.layout.log apart
+
+      off_said : touched ≡ None → Apart (page_offset said 1) PAGE from m
+      off_said none = let L : ℕ → Type 0 = λ n. Apart (8192 + 2 * n + 4096 * 0) 4096 from m in subst L opens.layout.log (off none)
+
+      places : (id : ℕ) (q : Page) → page_of (lone meta page) id ≡ Some q → (replay (untouched said) opens.groups).page id ≡ None → place_bytes said id c ≡ place_bytes said id b
       places id q is none =
           let one = (page_alone page id q is).0 in
-          let T : ℕ → Type 0 = λ n. (replay (untouched meta) opens.groups).page n ≡ None in
-          let P : ℕ → Type 0 = λ n. place_bytes meta n c ≡ place_bytes meta n b in
-          subst P (sym one) (Torn-elsewhere from m (page_place meta 1) PAGE b c (off (sym opens.touched_is ∙ subst T one none)) torn)
+          let T : ℕ → Type 0 = λ n. (replay (untouched said) opens.groups).page n ≡ None in
+          let P : ℕ → Type 0 = λ n. place_bytes said n c ≡ place_bytes said n b in
+          subst P (sym one) (Torn-elsewhere from m (page_offset said 1) PAGE b c (off_said (sym opens.touched_is ∙ subst T one none)) torn)
 
-  still_torn : (b c : List ℕ) (from m : ℕ) → 8192 ≤ from → StillOpens turn meta touched page b → Torn from m b c → Apart (log_place turn meta) meta.log from m
-      → (touched ≡ None → Apart (page_place meta 1) PAGE from m) → StillOpens turn meta touched page c
+  still_torn : (b c : List ℕ) (from m : ℕ) → 8192 ≤ from → StillOpens turn said meta touched page b → Torn from m b c → Apart (log_start turn meta) meta.log from m
+      → (touched ≡ None → Apart (page_offset meta 1) PAGE from m) → StillOpens turn said meta touched page c
   still_torn b c from m low opens torn =
-      still_by b c from m opens torn (IsNewest-elsewhere b c (Torn-elsewhere from m 0 8192 b c (inl low) torn) turn meta opens.by.newest)
+      still_by b c from m opens torn (IsNewest-elsewhere b c (Torn-elsewhere from m 0 8192 b c (inl low) torn) turn said opens.by.newest)
 
   -- with the page's place torn, where the log has the page
-  pub still_placed : (b c : List ℕ) → (touched ≡ None → ⊥) → StillOpens turn meta touched page b → Torn (page_place meta 1) PAGE b c → StillOpens turn meta touched page c
+  pub still_placed : (b c : List ℕ) → (touched ≡ None → ⊥) → StillOpens turn said meta touched page b → Torn (page_offset meta 1) PAGE b c → StillOpens turn said meta touched page c
   still_placed b c some opens torn =
-      still_torn b c (page_place meta 1) PAGE (omega arith) opens torn (inl (let h = lies.high in omega (arith, h))) (λ none. absurd (some none))
+      still_torn b c (page_offset meta 1) PAGE (omega arith) opens torn (inl (let h = lies.high in omega (arith, h))) (λ none. absurd (some none))
 
   -- with the log area of the next turn torn
-  pub still_area : (b c : List ℕ) → StillOpens turn meta touched page b → Torn (log_place next meta) meta.log b c → StillOpens turn meta touched page c
+  pub still_area : (b c : List ℕ) → StillOpens turn said meta touched page b → Torn (log_start next meta) meta.log b c → StillOpens turn said meta touched page c
   still_area b c opens torn =
-      still_torn b c (log_place next meta) meta.log lies.next_low opens torn lies.apart (λ none. inr (let h = lies.next_high in omega (arith, h)))
+      still_torn b c (log_start next meta) meta.log lies.next_low opens torn lies.apart (λ none. inr (let h = lies.next_high in omega (arith, h)))
 
   -- with the place of the next turn torn, and the old superblock the newest
-  still_place : (b c : List ℕ) (from m : ℕ) → from + m ≤ 8192 → StillOpens turn meta touched page b → Torn from m b c → IsNewest c turn meta → StillOpens turn meta touched page c
+  still_place : (b c : List ℕ) (from m : ℕ) → from + m ≤ 8192 → StillOpens turn said meta touched page b → Torn from m b c → IsNewest c turn said → StillOpens turn said meta touched page c
   still_place b c from m high opens torn newest =
       still_by b c from m opens torn newest (inr (let h = lies.low in omega (arith, h, high))) (λ none. inr (omega (arith, high)))
 
-  pub still_cleared : (d : DiskModel) → ((b : List ℕ) → d.Image b → StillOpens turn meta touched page b) → (c : List ℕ) → ClearLeaves d turn meta next c → StillOpens turn meta touched page c
+  pub still_cleared : (d : DiskModel) → ((b : List ℕ) → d.Image b → StillOpens turn said meta touched page b) → (c : List ℕ) → ClearLeaves d turn said next c → StillOpens turn said meta touched page c
   still_cleared d opens c left =
-      still_place left.base c (place_of next + 1) 40 (let h = lies.place in omega (arith, h)) (opens left.base left.image) left.elsewhere left.newest
+      still_place left.base c (slot_offset next + 1) 40 (let h = lies.place in omega (arith, h)) (opens left.base left.image) left.elsewhere left.newest
 
   -- the page in its place
   at_one : (c : List ℕ) → SpellsPage (place_bytes meta 1 c) page → (id : ℕ) (q : Page) → page_of (lone meta page) id ≡ Some q → SpellsPage (place_bytes meta id c) q
@@ -121,20 +130,20 @@ module _ (turn next : ℕ) (meta : Meta) (small : turn ≤ 3) (is : next ≡ nex
       subst Q alone.1 (subst I (sym alone.0) there)
 
   -- Bytes with the place of the next turn torn open, by the old superblock or by the new one.
-  module _ (d : DiskModel) (ready : IsReadyFor d turn meta touched page) (b : List ℕ) (told : d.told ≡ Some b) (long : file_size meta ≤ length b) (high : meta.high ≡ 1) where
-    there_after : (c : List ℕ) → Torn (place_of next) 41 b c → SpellsPage (place_bytes meta 1 c) page
+  module _ (d : DiskModel) (ready : IsReadyFor d turn said meta touched page) (b : List ℕ) (told : d.told ≡ Some b) (long : file_size meta ≤ length b) (high : meta.high ≡ 1) where
+    there_after : (c : List ℕ) → Torn (slot_offset next) 41 b c → SpellsPage (place_bytes meta 1 c) page
     there_after c torn =
         let S : List ℕ → Type 0 = λ l. SpellsPage l page in
         let h = lies.place in
-        subst S (sym (Torn-elsewhere (place_of next) 41 (page_place meta 1) PAGE b c (inr (omega (arith, h))) torn)) (ready.placed.there b told)
+        subst S (sym (Torn-elsewhere (slot_offset next) 41 (page_offset meta 1) PAGE b c (inr (omega (arith, h))) torn)) (ready.placed.there b told)
 
-    zeros_after : (c : List ℕ) → Torn (place_of next) 41 b c → log_bytes next meta c ≡ replicate meta.log 0
+    zeros_after : (c : List ℕ) → Torn (slot_offset next) 41 b c → log_bytes next meta c ≡ replicate meta.log 0
     zeros_after c torn =
         let h = lies.place in
         let l = lies.next_low in
-        Torn-elsewhere (place_of next) 41 (log_place next meta) meta.log b c (inr (omega (arith, h, l))) torn ∙ (let N : ℕ → Type 0 = λ n. log_bytes n meta b ≡ replicate meta.log 0 in subst N (sym is) (ready.zeroed b told))
+        Torn-elsewhere (slot_offset next) 41 (log_start next meta) meta.log b c (inr (omega (arith, h, l))) torn ∙ (let N : ℕ → Type 0 = λ n. log_bytes n meta b ≡ replicate meta.log 0 in subst N (sym is) (ready.zeroed b told))
 
-    new_opens : (c : List ℕ) → Torn (place_of next) 41 b c → IsNewest c next meta → OpensTo c (lone meta page)
+    new_opens : (c : List ℕ) → Torn (slot_offset next) 41 b c → IsNewest c next meta → OpensTo c (lone meta page)
     new_opens c torn newest = record {
       turn = next;
       said = meta;
@@ -150,62 +159,67 @@ module _ (turn next : ℕ) (meta : Meta) (small : turn ≤ 3) (is : next ≡ nex
         let M : Meta → Type 0 = λ m. IsNewest c next m in
         subst M same un.newest
 
-    pub written_opens : (is_disk : IsDisk d) (c : List ℕ) → WriteLeaves d b turn meta next meta c → OpensTo c (lone meta page)
+    pub written_opens : (is_disk : IsDisk d) (c : List ℕ) → WriteLeaves d b turn said next meta c → OpensTo c (lone meta page)
     written_opens is_disk c left =
         let same : left.base ≡ b = ready.alone b left.base told left.image in
-        let T : List ℕ → Type 0 = λ l. Torn (place_of next) 41 l c in
-        let torn : Torn (place_of next) 41 b c = subst T same left.elsewhere in
+        let T : List ℕ → Type 0 = λ l. Torn (slot_offset next) 41 l c in
+        let torn : Torn (slot_offset next) 41 b c = subst T same left.elsewhere in
         elim left.newest [
-          | inl old ↦ still_to turn meta touched page c (still_place b c (place_of next) 41 lies.place (ready.placed.here.images b (is_disk.as_read b told)) torn old)
+          | inl old ↦ still_to turn said meta touched page c (still_place b c (slot_offset next) 41 lies.place (ready.placed.here.images b (is_disk.as_read b told)) torn old)
           | inr (inl new) ↦ new_opens c torn new
           | inr (inr un) ↦ new_opens c torn (uncovered c un)
         ]
 
     -- and once the superblock stands, the file is fresh
-    pub written_fresh : (e : DiskModel) → IsDisk e → Becomes (Torn (place_of next) 41) d e → file_size meta ≤ e.size
+    pub written_fresh : (e : DiskModel) → IsDisk e → Becomes (Torn (slot_offset next) 41) d e → file_size meta ≤ e.size
         → IfSome e.told (λ b. (c : List ℕ) → e.Image c → c ≡ b) → IfSome e.told (λ c. IsNewest c next meta) → IsFresh e next meta (lone meta page)
     written_fresh e is_e run room durable newest =
-        let after = at_value d.told (λ b. (c : List ℕ) × (e.told ≡ Some c) × Torn (place_of next) 41 b c) b told run.told in
+        let after = at_value d.told (λ b. (c : List ℕ) × (e.told ≡ Some c) × Torn (slot_offset next) 41 b c) b told run.told in
         let only : (c : List ℕ) → e.Image c → c ≡ after.0 = at_value e.told (λ b. (c : List ℕ) → e.Image c → c ≡ b) after.0 after.1 durable in
         let newest_is : IsNewest after.0 next meta = at_value e.told (λ c. IsNewest c next meta) after.0 after.1 newest in
         IsFresh-from e is_e (has_value e.told after.0 after.1) next meta (lone meta page) room refl (sym high)
         (λ c image. let N : List ℕ → Type 0 = λ l. IsNewest l next meta in subst N (sym (only c image)) newest_is)
         (IsSynced-durable e 0 8192 durable)
         (record {
-          synced = IsSynced-durable e (log_place next meta) meta.log durable;
+          synced = IsSynced-durable e (log_start next meta) meta.log durable;
           payloads_fit = λ i x lt. absurd (omega (arith, lt));
           count = refl;
-          reads = of_value e.told (λ b. range (log_place next meta) meta.log b ≡ [] ++ replicate (meta.log - 0) 0) after.0 after.1
+          reads = of_value e.told (λ b. range (log_start next meta) meta.log b ≡ [] ++ replicate (meta.log - 0) 0) after.0 after.1
               (zeros_after after.0 after.2 ∙ ap (λ (n : ℕ). replicate n 0) (let none : meta.log ≡ meta.log - 0 = omega arith in none));
         })
         (λ id q is c image. let S : List ℕ → Type 0 = λ l. SpellsPage (place_bytes meta id l) q in subst S (sym (only c image)) (at_one after.0 (there_after after.0 after.2) id q is))
 
   abbrev P : List ℕ → Type 0
-  P = StillOpens turn meta touched page
+  P = StillOpens turn said meta touched page
 
   -- the page that the log has is the file's
-  the_page : (b : List ℕ) → StillOpens turn meta touched page b → (o : Option Page) → touched ≡ o → IsPageIn b meta 1 o page
+  the_page : (b : List ℕ) → StillOpens turn said meta touched page b → (o : Option Page) → touched ≡ o → IsPageIn b meta 1 o page
   the_page b opens o is_touched =
-      let O : Option Page → Type 0 = λ x. IsPageIn b meta 1 x page in
-      subst O (opens.touched_is ∙ is_touched) (opens.by.shows.each 1 page refl)
+      let O : Option Page → Type 0 = λ x. IsPageIn b said 1 x page in
+      same_place o (subst O (opens.touched_is ∙ is_touched) (opens.by.shows.each 1 page refl))
+    where
+      -- the layout is the same, so its place is
+      same_place : (o : Option Page) → IsPageIn b said 1 o page → IsPageIn b meta 1 o page
+      same_place None there = let S : ℕ → Type 0 = λ n. SpellsPage (take 4096 (drop (8192 + 2 * n + 4096 * 0) b)) page in subst S (sym opens.layout.log) there
+      same_place (Some touched) there = there
 
   -- a page that is written to its place
-  module _ {T E : Type 0} (r : Result T E) (old new : DiskModel) (is_old : IsDisk old) (here : IsHere old turn meta touched page)
-      (some : touched ≡ None → ⊥) (ticks : Ticks r old new) (run : Becomes (Torn (page_place meta 1) PAGE) old new) where
+  module _ {T E : Type 0} (r : Result T E) (old new : DiskModel) (is_old : IsDisk old) (here : IsHere old turn said meta touched page)
+      (some : touched ≡ None → ⊥) (ticks : Ticks r old new) (run : Becomes (Torn (page_offset meta 1) PAGE) old new) where
     placed_images : (c : List ℕ) → new.Image c → P c
     placed_images c image = let was = run.crash c image in still_placed was.0 c some (here.images was.0 was.1) was.2
 
-    pub placed_moments : Leaves old new (StillOpens turn meta touched page)
+    pub placed_moments : Leaves old new (StillOpens turn said meta touched page)
     placed_moments = Leaves-call r old old new P (Leaves-start old P is_old here.images) ticks placed_images
 
-    pub placed_here : IsHere new turn meta touched page
+    pub placed_here : IsHere new turn said meta touched page
     placed_here = record {
-      told = told_on (Torn (page_place meta 1) PAGE) old new run here.told;
+      told = told_on (Torn (page_offset meta 1) PAGE) old new run here.told;
       images = placed_images;
-      places = IsSynced-elsewhere old new 0 8192 (page_place meta 1) PAGE (inl (omega arith)) run here.places;
+      places = IsSynced-elsewhere old new 0 8192 (page_offset meta 1) PAGE (inl (omega arith)) run here.places;
     }
 
-    pub placed_there : (q : Page) → touched ≡ Some q → ((b : List ℕ) → new.told ≡ Some b → SpellsPage (place_bytes meta 1 b) q) → IsPlaced new turn meta touched page
+    pub placed_there : (q : Page) → touched ≡ Some q → ((b : List ℕ) → new.told ≡ Some b → SpellsPage (place_bytes meta 1 b) q) → IsPlaced new turn said meta touched page
     placed_there q is_q there =
         let b = some_value old.told here.told in
         let same : q ≡ page = the_page b.0 (here.images b.0 (is_old.as_read b.0 b.1)) (Some q) is_q in
@@ -213,7 +227,7 @@ module _ (turn next : ℕ) (meta : Meta) (small : turn ≤ 3) (is : next ≡ nex
         record { here = placed_here; there = subst S same there }
 
   -- a page that the log doesn't touch stands there
-  pub placed_untouched : (d : DiskModel) → IsDisk d → touched ≡ None → IsHere d turn meta touched page → IsPlaced d turn meta touched page
+  pub placed_untouched : (d : DiskModel) → IsDisk d → touched ≡ None → IsHere d turn said meta touched page → IsPlaced d turn said meta touched page
   placed_untouched d is_disk none here = record {
     here = here;
     there = λ b told. the_page b (here.images b (is_disk.as_read b told)) None none;
@@ -221,7 +235,7 @@ module _ (turn next : ℕ) (meta : Meta) (small : turn ≤ 3) (is : next ≡ nex
 
   -- A sync, and the log area of the next turn zeroed.
   module _ {T E U F : Type 0} (q : Result T E) (r : Result U F) (old mid new : DiskModel) (is_old : IsDisk old) (is_mid : IsDisk mid) (is_new : IsDisk new)
-      (placed : IsPlaced old turn meta touched page) (syncs : Syncs q old mid) (ticks : Ticks q old mid) (area : ℕ) (area_is : area ≡ log_place next meta)
+      (placed : IsPlaced old turn said meta touched page) (syncs : Syncs q old mid) (ticks : Ticks q old mid) (area : ℕ) (area_is : area ≡ log_start next meta)
       (moments : IsSome mid.told → Leaves mid new (λ c. (b : List ℕ) × mid.Image b × Torn area meta.log b c)) (run : Becomes (Torn area meta.log) mid new) where
     mid_images : (c : List ℕ) → mid.Image c → P c
     mid_images c image = placed.here.images c (syncs.crash c image)
@@ -229,16 +243,16 @@ module _ (turn next : ℕ) (meta : Meta) (small : turn ≤ 3) (is : next ≡ nex
     mid_told : IsSome mid.told
     mid_told = ap is_some syncs.same ∙ placed.here.told
 
-    at_area : (b c : List ℕ) → Torn area meta.log b c → Torn (log_place next meta) meta.log b c
+    at_area : (b c : List ℕ) → Torn area meta.log b c → Torn (log_start next meta) meta.log b c
     at_area b c torn = let A : ℕ → Type 0 = λ n. Torn n meta.log b c in subst A area_is torn
 
-    pub zeroed_moments : Leaves old new (StillOpens turn meta touched page)
+    pub zeroed_moments : Leaves old new (StillOpens turn said meta touched page)
     zeroed_moments =
         Leaves-then old mid new P (Leaves-call q old old mid P (Leaves-start old P is_old placed.here.images) ticks mid_images)
         (Leaves-weaker mid new (λ c. (b : List ℕ) × mid.Image b × Torn area meta.log b c) P (λ c h. still_area h.0 c (mid_images h.0 h.1) (at_area h.0 c h.2)) (moments mid_told))
 
     pub zeroed_ready : (long : file_size meta ≤ new.size) → IfSome new.told (λ b. (c : List ℕ) → new.Image c → c ≡ b)
-        → IfSome mid.told (λ b. new.told ≡ Some (overwritten b area (replicate meta.log 0))) → IsZeroed turn next meta touched page new
+        → IfSome mid.told (λ b. new.told ≡ Some (overwritten b area (replicate meta.log 0))) → IsZeroed turn next said meta touched page new
     zeroed_ready long durable zeroed = record {
       placed = record {
         here = record {
@@ -251,7 +265,7 @@ module _ (turn next : ℕ) (meta : Meta) (small : turn ≤ 3) (is : next ≡ nex
             let S : List ℕ → Type 0 = λ l. SpellsPage l page in
             let B : List ℕ → Type 0 = λ l. SpellsPage (place_bytes meta 1 l) page in
             let h = lies.next_high in
-            subst B same (subst S (sym (Torn-elsewhere (log_place next meta) meta.log (page_place meta 1) PAGE before.0 after.0 (inr (omega (arith, h))) (at_area before.0 after.0 after.2)))
+            subst B same (subst S (sym (Torn-elsewhere (log_start next meta) meta.log (page_offset meta 1) PAGE before.0 after.0 (inr (omega (arith, h))) (at_area before.0 after.0 after.2)))
             (placed.there before.0 (sym syncs.same ∙ before.1)));
       };
       alone = λ b c told image. at_value new.told (λ b. (c : List ℕ) → new.Image c → c ≡ b) b told durable c image;
@@ -272,73 +286,73 @@ module _ (turn next : ℕ) (meta : Meta) (small : turn ≤ 3) (is : next ≡ nex
         after = at_value mid.told (λ b. (c : List ℕ) × (new.told ≡ Some c) × Torn area meta.log b c) before.0 before.1 run.told
 
   -- What the place of the next turn hides is cleared.
-  module _ (old new : DiskModel) (is_old : IsDisk old) (is_new : IsDisk new) (zeroed : IsZeroed turn next meta touched page old) (run : Becomes (Torn (place_of next + 1) 40) old new)
-      (moments : IfSome old.told (λ b. IsNewest b turn meta → Leaves old new (ClearLeaves old turn meta next))) where
+  module _ (old new : DiskModel) (is_old : IsDisk old) (is_new : IsDisk new) (zeroed : IsZeroed turn next said meta touched page old) (run : Becomes (Torn (slot_offset next + 1) 40) old new)
+      (moments : IfSome old.told (λ b. IsNewest b turn said → Leaves old new (ClearLeaves old turn said next))) where
     cleared_before : (x : List ℕ) × (old.told ≡ Some x)
     cleared_before = some_value old.told zeroed.placed.here.told
 
-    cleared_after : (x : List ℕ) × (new.told ≡ Some x) × Torn (place_of next + 1) 40 cleared_before.0 x
-    cleared_after = at_value old.told (λ b. (c : List ℕ) × (new.told ≡ Some c) × Torn (place_of next + 1) 40 b c) cleared_before.0 cleared_before.1 run.told
+    cleared_after : (x : List ℕ) × (new.told ≡ Some x) × Torn (slot_offset next + 1) 40 cleared_before.0 x
+    cleared_after = at_value old.told (λ b. (c : List ℕ) × (new.told ≡ Some c) × Torn (slot_offset next + 1) 40 b c) cleared_before.0 cleared_before.1 run.told
 
-    pub cleared_moments : Leaves old new (StillOpens turn meta touched page)
+    pub cleared_moments : Leaves old new (StillOpens turn said meta touched page)
     cleared_moments =
         let b = cleared_before in
-        Leaves-weaker old new (ClearLeaves old turn meta next) P (still_cleared old zeroed.placed.here.images)
-        (at_value old.told (λ b. IsNewest b turn meta → Leaves old new (ClearLeaves old turn meta next)) b.0 b.1 moments (zeroed.placed.here.images b.0 (is_old.as_read b.0 b.1)).by.newest)
+        Leaves-weaker old new (ClearLeaves old turn said next) P (still_cleared old zeroed.placed.here.images)
+        (at_value old.told (λ b. IsNewest b turn said → Leaves old new (ClearLeaves old turn said next)) b.0 b.1 moments (zeroed.placed.here.images b.0 (is_old.as_read b.0 b.1)).by.newest)
 
     -- a part that the place of the next turn doesn't meet
     same_part : (b : List ℕ) → new.told ≡ Some b → (from m : ℕ) → 8192 ≤ from → take m (drop from b) ≡ take m (drop from cleared_before.0)
     same_part b told from m low =
         let h = lies.place in
         ap (λ (l : List ℕ). take m (drop from l)) (some_same b cleared_after.0 (sym told ∙ cleared_after.1))
-        ∙ Torn-elsewhere (place_of next + 1) 40 from m cleared_before.0 cleared_after.0 (inr (omega (arith, h, low))) cleared_after.2
+        ∙ Torn-elsewhere (slot_offset next + 1) 40 from m cleared_before.0 cleared_after.0 (inr (omega (arith, h, low))) cleared_after.2
 
     cleared_alone : OnlyReads old new ⊎ IfSome new.told (λ b. (c : List ℕ) → new.Image c → c ≡ b) → (b c : List ℕ) → new.told ≡ Some b → new.Image c → c ≡ b
     cleared_alone (inl only) b c told image = zeroed.alone b c (sym only.stays.told ∙ told) (only.stays.image c image)
     cleared_alone (inr durable) b c told image = at_value new.told (λ b. (c : List ℕ) → new.Image c → c ≡ b) b told durable c image
 
     pub cleared_ready : IfSome new.told (λ b. HidesNoOther b next meta) → IsSynced new 0 8192 → OnlyReads old new ⊎ IfSome new.told (λ b. (c : List ℕ) → new.Image c → c ≡ b)
-        → IsReadyFor new turn meta touched page
+        → IsReadyFor new turn said meta touched page
     cleared_ready hidden synced durable = record {
       placed = record {
         here = record {
-          told = told_on (Torn (place_of next + 1) 40) old new run zeroed.placed.here.told;
+          told = told_on (Torn (slot_offset next + 1) 40) old new run zeroed.placed.here.told;
           images = now_has old new P is_new cleared_moments;
           places = synced;
         };
         there = λ b told. let S : List ℕ → Type 0 = λ l. SpellsPage l page in
-            subst S (sym (same_part b told (page_place meta 1) PAGE (omega arith))) (zeroed.placed.there cleared_before.0 cleared_before.1);
+            subst S (sym (same_part b told (page_offset meta 1) PAGE (omega arith))) (zeroed.placed.there cleared_before.0 cleared_before.1);
       };
       alone = cleared_alone durable;
       zeroed = λ b told. let N : ℕ → Type 0 = λ n. log_bytes n meta b ≡ replicate meta.log 0 in
-          subst N is (same_part b told (log_place next meta) meta.log lies.next_low ∙ zeroed.zeroed cleared_before.0 cleared_before.1);
+          subst N is (same_part b told (log_start next meta) meta.log lies.next_low ∙ zeroed.zeroed cleared_before.0 cleared_before.1);
       hides = λ b told. let N : ℕ → Type 0 = λ n. HidesNoOther b n meta in subst N is (at_value new.told (λ b. HidesNoOther b next meta) b told hidden);
     }
 
   -- The superblock is written.
-  module _ (old new : DiskModel) (is_old : IsDisk old) (ready : IsReadyFor old turn meta touched page) (room : file_size meta ≤ old.size) (high : meta.high ≡ 1) where
+  module _ (old new : DiskModel) (is_old : IsDisk old) (ready : IsReadyFor old turn said meta touched page) (room : file_size meta ≤ old.size) (high : meta.high ≡ 1) where
     super_before : (x : List ℕ) × (old.told ≡ Some x)
     super_before = some_value old.told ready.placed.here.told
 
     super_long : file_size meta ≤ length super_before.0
     super_long = let b = super_before in omega (arith, room, is_old.long b.0 (is_old.as_read b.0 b.1))
 
-    super_newest : IsNewest super_before.0 turn meta
+    super_newest : IsNewest super_before.0 turn said
     super_newest = let b = super_before in (ready.placed.here.images b.0 (is_old.as_read b.0 b.1)).by.newest
 
-    pub super_moments : IfSome old.told (λ b. IsNewest b turn meta → Leaves old new (WriteLeaves old b turn meta next meta)) → Leaves old new (λ c. OpensTo c (lone meta page))
+    pub super_moments : IfSome old.told (λ b. IsNewest b turn said → Leaves old new (WriteLeaves old b turn said next meta)) → Leaves old new (λ c. OpensTo c (lone meta page))
     super_moments moments =
         let b = super_before in
-        Leaves-weaker old new (WriteLeaves old b.0 turn meta next meta) (λ c. OpensTo c (lone meta page)) (written_opens old ready b.0 b.1 super_long high is_old)
-        (at_value old.told (λ b. IsNewest b turn meta → Leaves old new (WriteLeaves old b turn meta next meta)) b.0 b.1 moments super_newest)
+        Leaves-weaker old new (WriteLeaves old b.0 turn said next meta) (λ c. OpensTo c (lone meta page)) (written_opens old ready b.0 b.1 super_long high is_old)
+        (at_value old.told (λ b. IsNewest b turn said → Leaves old new (WriteLeaves old b turn said next meta)) b.0 b.1 moments super_newest)
 
-    pub super_fresh : IsDisk new → Becomes (Torn (place_of next) 41) old new
-        → IfSome new.told (λ b. (c : List ℕ) → new.Image c → c ≡ b) → IfSome old.told (λ b. IsNewest b turn meta → IfSome new.told (λ c. IsNewest c next meta)) → IsFresh new (next_turn turn) meta (lone meta page)
+    pub super_fresh : IsDisk new → Becomes (Torn (slot_offset next) 41) old new
+        → IfSome new.told (λ b. (c : List ℕ) → new.Image c → c ≡ b) → IfSome old.told (λ b. IsNewest b turn said → IfSome new.told (λ c. IsNewest c next meta)) → IsFresh new (next_turn turn) meta (lone meta page)
     super_fresh is_new run durable newest =
         let b = super_before in
         let N : ℕ → Type 0 = λ n. IsFresh new n meta (lone meta page) in
         subst N is (written_fresh old ready b.0 b.1 super_long high new is_new run (omega (arith, room, run.size)) durable
-        (at_value old.told (λ b. IsNewest b turn meta → IfSome new.told (λ c. IsNewest c next meta)) b.0 b.1 newest super_newest))
+        (at_value old.told (λ b. IsNewest b turn said → IfSome new.told (λ c. IsNewest c next meta)) b.0 b.1 newest super_newest))
 
 pub not_none : {X : Type 0} (o : Option X) (x : X) → o ≡ Some x → o ≡ None → ⊥
 not_none o x is none = cc

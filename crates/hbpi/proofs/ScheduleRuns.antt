@@ -1,7 +1,7 @@
 -- What a run of a schedule leaves, as the command `drive` says it.
 use Rattle.std.proofs.Common.{◌≡◌, ◌≢◌, inl, inr, ℕ, zero, suc, ◌≤◌, List, [], ◌++◌, length, take, Option, Some, None, IfSome, IsSome, false, refl, sym, ap, subst, ◌∙◌, arith, MatchOption}
 use Rattle.hb_disk.specs.Model.{DiskModel, IsDisk}
-use Rattle.hb_ops.specs.declared.meta.Meta.{Meta}
+use Rattle.hb_layout.specs.declared.meta.Meta.{Meta}
 use Rattle.hb_disk.specs.RunLaws.{at_value, if_value, has_value, Leaves-start}
 use Rattle.hb_outside.specs.Streams.{Rose, Appends, AppendsFront}
 use Rattle.hb_ops.specs.Files.{FileState, contents_of}

@@ -5,7 +5,7 @@ use Rattle.hb_disk.specs.Calls.{Ticks, Syncs, Leaves}
 use Rattle.hb_disk.specs.RunLaws.{if_value, has_value, only_told, IsSynced-sync, Leaves-start, Leaves-call, Leaves-then}
 use Rattle.hb_super.specs.Superblocks.{next_turn}
 use Rattle.hb_frag.specs.declared.pages.Page.{Page}
-use Rattle.hb_ops.specs.declared.meta.Meta.{Meta}
+use Rattle.hb_layout.specs.declared.meta.Meta.{Meta}
 use Rattle.hb_ops.specs.Files.{FileState}
 use Rattle.hb_store.specs.Opening.{OpensTo, IsEven}
 use Rattle.hb_store.specs.ImageLaws.{OpensToOne}
@@ -17,19 +17,19 @@ use Rattle.hbpi.proofs.Renewed.{still_to}
 use Rattle.hbpi.proofs.RunSteps.{ok_tick}
 
 -- bytes in which a file was found open to it
-found_opens : (b : List ℕ) (turn : ℕ) (meta : Meta) (touched : Option Page) (count : ℕ) (found : IsFoundIn b turn meta touched count) → StillOpens turn meta touched found.page b
-found_opens b turn meta touched count found = record { payloads = found.payloads; groups = found.groups; by = found.by; touched_is = found.touched_is }
+found_opens : (b : List ℕ) (turn : ℕ) (meta : Meta) (touched : Option Page) (count : ℕ) (found : IsFoundIn b turn meta touched count) → StillOpens turn found.said meta touched found.page b
+found_opens b turn meta touched count found = record { layout = found.layout; payloads = found.payloads; groups = found.groups; by = found.by; touched_is = found.touched_is }
 
 pub found_to : (b : List ℕ) (turn : ℕ) (meta : Meta) (touched : Option Page) (count : ℕ) (found : IsFoundIn b turn meta touched count) → OpensTo b (lone meta found.page)
-found_to b turn meta touched count found = still_to turn meta touched found.page b (found_opens b turn meta touched count found)
+found_to b turn meta touched count found = still_to turn found.said meta touched found.page b (found_opens b turn meta touched count found)
 
 module _ {T E : Type 0} (q : Result T E) (v : T) (ok : q ≡ Ok v) (old mid new : DiskModel) (is_old : IsDisk old) (syncs : Syncs q old mid) (ticks : Ticks q old mid)
-    (turn : ℕ) (meta : Meta) (touched : Option Page) (count : ℕ) (one : OpensToOne) (moments : (page : Page) → IsHere mid turn meta touched page → Leaves mid new (λ c. OpensTo c (lone meta page))) where
+    (turn : ℕ) (meta : Meta) (touched : Option Page) (count : ℕ) (one : OpensToOne) (moments : (said : Meta) (page : Page) → IsHere mid turn said meta touched page → Leaves mid new (λ c. OpensTo c (lone meta page))) where
   module _ (b : List ℕ) (told : old.told ≡ Some b) (found : IsFoundIn b turn meta touched count) where
-    here : IsHere mid turn meta touched found.page
+    here : IsHere mid turn found.said meta touched found.page
     here = record {
       told = has_value mid.told b (syncs.same ∙ told);
-      images = λ c image. let Q : List ℕ → Type 0 = λ l. StillOpens turn meta touched found.page l in subst Q (sym (only_told q v old mid b ok told syncs c image)) (found_opens b turn meta touched count found);
+      images = λ c image. let Q : List ℕ → Type 0 = λ l. StillOpens turn found.said meta touched found.page l in subst Q (sym (only_told q v old mid b ok told syncs c image)) (found_opens b turn meta touched count found);
       places = IsSynced-sync q v old mid 0 8192 ok syncs;
     }
 
@@ -39,7 +39,7 @@ module _ {T E : Type 0} (q : Result T E) (v : T) (ok : q ≡ Ok v) (old mid new 
     since_sync : (s : FileState) → OpensTo b s → Leaves mid new (λ c. OpensTo c s)
     since_sync s opens =
         let Q : FileState → Type 0 = λ x. Leaves mid new (λ c. OpensTo c x) in
-        subst Q (is_file s opens) (moments found.page here)
+        subst Q (is_file s opens) (moments found.said found.page here)
 
     even : (s : FileState) → IsEven old s → Leaves old new (λ c. OpensTo c s)
     even s is_even =
@@ -61,12 +61,12 @@ module _ {T E : Type 0} (q : Result T E) (v : T) (ok : q ≡ Ok v) (old mid new 
 
   pub synced_time : IfSome old.told (λ b. IsFoundIn b turn meta touched count → old.clock ≤ new.clock)
   synced_time = if_value old.told (λ b. IsFoundIn b turn meta touched count → old.clock ≤ new.clock)
-      (λ b told found. omega (arith, ticks.later, (moments found.page (here b told found)).later))
+      (λ b told found. omega (arith, ticks.later, (moments found.said found.page (here b told found)).later))
 
-  pub synced_renewed : ((page : Page) → IsHere mid turn meta touched page → IsFresh new (next_turn turn) meta (lone meta page))
+  pub synced_renewed : ((said : Meta) (page : Page) → IsHere mid turn said meta touched page → IsFresh new (next_turn turn) meta (lone meta page))
       → IfSome old.told (λ b. IsFoundIn b turn meta touched count → (s : FileState) → OpensTo b s → IsFresh new (next_turn turn) meta s
       × ((c : List ℕ) → new.ImageSince (old.clock + 1) c → OpensTo c s))
   synced_renewed fresh = if_value old.told (λ b. IsFoundIn b turn meta touched count → (s : FileState) → OpensTo b s → IsFresh new (next_turn turn) meta s
       × ((c : List ℕ) → new.ImageSince (old.clock + 1) c → OpensTo c s)) (λ b told found s opens.
       let Q : FileState → Type 0 = λ x. IsFresh new (next_turn turn) meta x in
-      (subst Q (is_file b told found s opens) (fresh found.page (here b told found)), late b told found s opens))
+      (subst Q (is_file b told found s opens) (fresh found.said found.page (here b told found)), late b told found s opens))

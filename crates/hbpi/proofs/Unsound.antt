@@ -5,12 +5,12 @@ use Rattle.hb_frag.specs.declared.pages.Page.{Page}
 use Rattle.hb_frag.specs.declared.pages.Page.TheVariants.{Live, Free}
 use Rattle.hb_page_codec.specs.Weight.{IsLight}
 use Rattle.hb_space.specs.declared.form.TheConstants.{PAGE}
-use Rattle.hb_ops.specs.declared.meta.Meta.{Meta}
+use Rattle.hb_layout.specs.declared.meta.Meta.{Meta}
 use Rattle.hb_ops.specs.Files.{FileState}
 use Rattle.hb_ops.specs.Sound.{IsSound}
 use Rattle.hb_sound.specs.Names.{NamesIn, SoundBreaksNone}
 use Rattle.hb_sound.specs.Told.{CoversFile, IsWholeFile, file_of, item_at, shown}
-use Rattle.hb_super.specs.Superblocks.{IsLayout}
+use Rattle.hb_layout.specs.Limits.{IsLayout}
 use Rattle.hbpi.specs.Looking.{most_pages, page_weight, told_one}
 use Rattle.hbpi.specs.OnePage.{lone}
 

@@ -3,8 +3,8 @@ use Rattle.std.specs.Prelude.{◌≡◌, ℕ, List, Some}
 use Rattle.hb_disk.specs.Model.{DiskModel, Torn}
 use Rattle.hb_disk.specs.Calls.{Becomes}
 use Rattle.hb_super.specs.Superblocks.{IsNewest}
-use Rattle.hb_ops.specs.declared.meta.Meta.{Meta}
-use Rattle.hb_store.specs.Opening.{file_size}
+use Rattle.hb_layout.specs.declared.meta.Meta.{Meta}
+use Rattle.hb_layout.specs.Offsets.{file_size}
 use Rattle.hbpi.specs.Core.{CoreState}
 
 -- Only the first n bytes may be other ones, of what a read gives and of each image.

@@ -1,7 +1,7 @@
 -- What creation puts on a disk before the superblock.
 use Rattle.std.specs.Prelude.{◌≡◌, ℕ, List, replicate, get_or}
 use Rattle.hb_space.specs.declared.form.TheConstants.{PAGE}
-use Rattle.hb_ops.specs.declared.meta.Meta.{Meta}
+use Rattle.hb_layout.specs.declared.meta.Meta.{Meta}
 use Rattle.hb_store.specs.Opening.{log_bytes, place_bytes}
 
 -- Both superblock places are closed, the log area of turn 0 is zeros, and the place of page 1 has these bytes.

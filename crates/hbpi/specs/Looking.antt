@@ -2,31 +2,43 @@
 use Rattle.std.specs.Prelude.{◌≡◌, ℕ, ◌≤◌, List, ◌∷◌, length, replicate, Option, Some, None, IfSome, MatchOption}
 use Rattle.hb_frag.specs.declared.pages.Page.{Page}
 use Rattle.hb_frag.specs.declared.pages.Page.TheVariants.{Live}
-use Rattle.hb_frag.specs.Grammar.{SpellsPage}
+use Rattle.std.specs.Ordering.{nat_cmp}
+use Rattle.std.specs.BTreeMap.{get}
+use Rattle.hb_frag.specs.Grammar.{HasSpelling, SpellsPage}
 use Rattle.hb_super.specs.Superblocks.{IsLegal, HasNone}
-use Rattle.hb_ops.specs.declared.meta.Meta.{Meta}
+use Rattle.hb_layout.specs.declared.meta.Meta.{Meta}
 use Rattle.hb_ops.specs.Files.{file_records}
 use Rattle.hb_ops.specs.Sound.{IsSound}
-use Rattle.hb_store.specs.Groups.{Logged}
+use Rattle.hb_log_codec.specs.Groups.{Logged}
+use Rattle.hb_store.specs.Keeps.{IsSameLayout}
 use Rattle.hb_store.specs.Replay.{untouched, replay}
-use Rattle.hb_store.specs.Opening.{HasBadGroup, IsPageIn, OpensBy, file_size, place_bytes}
+use Rattle.hb_layout.specs.Offsets.{file_size}
+use Rattle.hb_store.specs.Opening.{HasBadGroup, IsPageIn, OpensBy, place_bytes}
 use Rattle.hb_frag.specs.Leaves.{weight_of}
 use Rattle.hb_sound.specs.Names.{Names}
 use Rattle.hb_sound.specs.declared.pages.AuditStop.{AuditStop}
 use Rattle.hb_sound.specs.declared.pages.AuditStop.TheVariants as stops
+use Rattle.hb_store.specs.declared.touched.Touched.{Touched}
 use Rattle.hbpi.specs.OnePage.{lone}
 use Rattle.hbpi.specs.declared.restart.faults.OpenFault.{OpenFault}
 use Rattle.hbpi.specs.declared.restart.faults.OpenFault.TheVariants as faults
 
--- The bytes open to a sound file of one page, with so many records; and this is the page that the log touches.
+-- The bytes open to a sound file of one page, which says this of itself and has so many records; and this is the page
+-- that the log touches.
 pub record IsFoundIn (bytes : List ℕ) (turn : ℕ) (meta : Meta) (touched : Option Page) (count : ℕ) : Type 0 where
+  pub said : Meta
+  pub layout : IsSameLayout said meta
   pub page : Page
   pub payloads : List (List ℕ)
   pub groups : List Logged
-  pub by : OpensBy bytes turn meta payloads groups (lone meta page)
-  pub touched_is : (replay (untouched meta) groups).page 1 ≡ touched
+  pub by : OpensBy bytes turn said payloads groups (lone meta page)
+  pub touched_is : (replay (untouched said) groups).page 1 ≡ touched
   pub sound : IsSound (lone meta page)
   pub counted : count ≡ length (file_records (lone meta page))
+
+-- each page that the log touches has a spelling
+abbrev pub AreSpelled : Touched → Type 0
+AreSpelled touched = (id : ℕ) (page : Page) → get nat_cmp touched.pages id ≡ Some page → HasSpelling page
 
 -- whatever the disk was: the superblock is legal, its file has room, and its marks are those of one page
 pub record IsWhole (size turn : ℕ) (meta : Meta) : Type 0 where
@@ -91,17 +103,17 @@ IsNamed faults.NoMemory said page = Unit {0}
 IsNamed _ said page = ⊥
 
 -- why the audit refuses a file of at most one page
-abbrev pub AuditRefuses : OpenFault → List ℕ → Meta → Option Page → Type 0
-AuditRefuses (faults.Unsound id rule) bytes said touched =
-    (page : Option Page) × IsFirstPage bytes said touched page × Names said (told_one page) id rule
-AuditRefuses faults.DiskFault bytes said touched = Unit {0}
-AuditRefuses faults.NoMemory bytes said touched = Unit {0}
-AuditRefuses _ bytes said touched = ⊥
+abbrev pub AuditRefuses : OpenFault → List ℕ → Meta → Meta → Option Page → Type 0
+AuditRefuses (faults.Unsound id rule) bytes said meta touched =
+    (page : Option Page) × IsFirstPage bytes said touched page × Names meta (told_one page) id rule
+AuditRefuses faults.DiskFault bytes said meta touched = Unit {0}
+AuditRefuses faults.NoMemory bytes said meta touched = Unit {0}
+AuditRefuses _ bytes said meta touched = ⊥
 
 -- the audit found a sound file of this page
-pub record IsAudited (told : Option (List ℕ)) (said : Meta) (touched : Option Page) (count : ℕ) : Type 0 where
+pub record IsAudited (told : Option (List ℕ)) (said meta : Meta) (touched : Option Page) (count : ℕ) : Type 0 where
   pub page : Page
-  pub high : said.high ≡ 1
-  pub sound : IsSound (lone said page)
-  pub counted : count ≡ length (file_records (lone said page))
+  pub high : meta.high ≡ 1
+  pub sound : IsSound (lone meta page)
+  pub counted : count ≡ length (file_records (lone meta page))
   pub there : IfSome told (λ b. IsPageIn b said 1 touched page)

@@ -8,34 +8,37 @@ use Rattle.hb_super.specs.Superblocks.{next_turn}
 use Rattle.hb_super.specs.Moments.{HidesNoOther}
 use Rattle.hb_frag.specs.declared.pages.Page.{Page}
 use Rattle.hb_frag.specs.Grammar.{SpellsPage}
-use Rattle.hb_ops.specs.declared.meta.Meta.{Meta}
-use Rattle.hb_store.specs.Groups.{Logged}
+use Rattle.hb_layout.specs.declared.meta.Meta.{Meta}
+use Rattle.hb_log_codec.specs.Groups.{Logged}
+use Rattle.hb_store.specs.Keeps.{IsSameLayout}
 use Rattle.hb_store.specs.Replay.{untouched, replay}
 use Rattle.hb_store.specs.Opening.{OpensBy, log_bytes, place_bytes}
 use Rattle.hbpi.specs.OnePage.{lone}
 
--- Bytes open to the file of this page by the superblock of this turn, and their log touches this page or none.
-pub record StillOpens (turn : ℕ) (meta : Meta) (touched : Option Page) (page : Page) (bytes : List ℕ) : Type 0 where
+-- Bytes open to the file of this page, which says this of itself, by the superblock of this turn, which says that; and
+-- their log touches this page or none.
+pub record StillOpens (turn : ℕ) (said meta : Meta) (touched : Option Page) (page : Page) (bytes : List ℕ) : Type 0 where
+  pub layout : IsSameLayout said meta
   pub payloads : List (List ℕ)
   pub groups : List Logged
-  pub by : OpensBy bytes turn meta payloads groups (lone meta page)
-  pub touched_is : (replay (untouched meta) groups).page 1 ≡ touched
+  pub by : OpensBy bytes turn said payloads groups (lone meta page)
+  pub touched_is : (replay (untouched said) groups).page 1 ≡ touched
 
 -- a disk that tells, whose images all do so, and whose superblock places are synced
-pub record IsHere (d : DiskModel) (turn : ℕ) (meta : Meta) (touched : Option Page) (page : Page) : Type 0 where
+pub record IsHere (d : DiskModel) (turn : ℕ) (said meta : Meta) (touched : Option Page) (page : Page) : Type 0 where
   pub told : IsSome d.told
-  pub images : (c : List ℕ) → d.Image c → StillOpens turn meta touched page c
+  pub images : (c : List ℕ) → d.Image c → StillOpens turn said meta touched page c
   pub places : IsSynced d 0 (2 * PAGE)
 
 -- the page also reads in its place
-pub record IsPlaced (d : DiskModel) (turn : ℕ) (meta : Meta) (touched : Option Page) (page : Page) : Type 0 where
-  pub here : IsHere d turn meta touched page
+pub record IsPlaced (d : DiskModel) (turn : ℕ) (said meta : Meta) (touched : Option Page) (page : Page) : Type 0 where
+  pub here : IsHere d turn said meta touched page
   pub there : (b : List ℕ) → d.told ≡ Some b → SpellsPage (place_bytes meta 1 b) page
 
 -- The log area of the next turn is zeroed too, a crash leaves what a read gives, and the place of the next turn hides
 -- no other body of that turn.
-pub record IsReadyFor (d : DiskModel) (turn : ℕ) (meta : Meta) (touched : Option Page) (page : Page) : Type 0 where
-  pub placed : IsPlaced d turn meta touched page
+pub record IsReadyFor (d : DiskModel) (turn : ℕ) (said meta : Meta) (touched : Option Page) (page : Page) : Type 0 where
+  pub placed : IsPlaced d turn said meta touched page
   pub alone : (b c : List ℕ) → d.told ≡ Some b → d.Image c → c ≡ b
   pub zeroed : (b : List ℕ) → d.told ≡ Some b → log_bytes (next_turn turn) meta b ≡ replicate meta.log 0
   pub hides : (b : List ℕ) → d.told ≡ Some b → HidesNoOther b (next_turn turn) meta

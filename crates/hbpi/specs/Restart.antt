@@ -9,12 +9,14 @@ use Rattle.hb_frag.specs.declared.pages.Page.{Page}
 use Rattle.hb_frag.specs.declared.pages.Page.TheVariants.{Live}
 use Rattle.hb_frag.specs.Grammar.{SpellsPage}
 use Rattle.hb_frag.specs.Trees.{Tip}
-use Rattle.hb_ops.specs.declared.meta.Meta.{Meta}
+use Rattle.hb_layout.specs.declared.meta.Meta.{Meta}
 use Rattle.hb_ops.specs.Files.{FileState}
-use Rattle.hb_store.specs.Groups.{Logged, SpellAll}
+use Rattle.hb_log_codec.specs.Groups.{Logged}
+use Rattle.hb_store.specs.Payloads.{SpellAll}
 use Rattle.hb_store.specs.Replay.{Replayed, untouched, replay, MayReplay}
 use Rattle.hb_ops.specs.Sound.{IsSound}
-use Rattle.hb_store.specs.Opening.{HasBadGroup, OpensTo, Shows, file_size, log_bytes, place_bytes}
+use Rattle.hb_layout.specs.Offsets.{file_size}
+use Rattle.hb_store.specs.Opening.{HasBadGroup, OpensTo, Shows, log_bytes, place_bytes}
 use Rattle.hb_sound.specs.Names.{NamesIn}
 use Rattle.hb_sound.specs.Walks.{IsLeast}
 use Rattle.hbpi.specs.declared.restart.faults.OpenFault.{OpenFault}
@@ -47,6 +49,11 @@ pub record HasLog (bytes : List ℕ) (turn : ℕ) (said : Meta) (groups : List L
   pub spelled : SpellAll said.k payloads groups
   pub replayed : MayReplay (untouched said) groups
 
+-- the superblock says that the file has more pages or levels than one, or its log leads to one that has
+abbrev pub IsLarger : List ℕ → ℕ → Meta → Type 0
+IsLarger bytes turn said = (¬ (IsOnePage said))
+    ⊎ (IsOnePage said × (groups : List Logged) × HasLog bytes turn said groups × (¬ (IsOnePage (replay (untouched said) groups).meta)))
+
 -- a number up to the high mark beyond the pages that the file may have, or of a page that the log doesn't touch, where
 -- the bytes in its place are none
 abbrev pub LacksPage : List ℕ → Meta → Replayed → ℕ → Type 0
@@ -68,9 +75,9 @@ abbrev pub Refuses : OpenFault → List ℕ → Type 0
 Refuses (faults.BadLayout field value) bytes = ⊥
 Refuses (faults.Small needed found) bytes = IsSmall bytes needed found
 Refuses faults.NoSuper bytes = (2 * PAGE ≤ length bytes) × HasNone bytes
-Refuses faults.NotBuilt bytes = (turn : ℕ) × (said : Meta) × HasLayout bytes turn said × (¬ (IsOnePage said))
+Refuses faults.NotBuilt bytes = (turn : ℕ) × (said : Meta) × HasLayout bytes turn said × IsLarger bytes turn said
 Refuses (faults.BadGroup frame) bytes = (turn : ℕ) × (said : Meta) × HasLayout bytes turn said × IsOnePage said × HasBadGroup bytes turn said frame
-Refuses (faults.Unsound page rule) bytes = (turn : ℕ) × (said : Meta) × HasLayout bytes turn said × IsOnePage said × (groups : List Logged) × HasLog bytes turn said groups × IsUnsound bytes said groups page rule
+Refuses (faults.Unsound page rule) bytes = (turn : ℕ) × (said : Meta) × HasLayout bytes turn said × IsOnePage said × (groups : List Logged) × HasLog bytes turn said groups × IsOnePage (replay (untouched said) groups).meta × IsUnsound bytes said groups page rule
 Refuses faults.DiskFault bytes = Unit {0}
 Refuses faults.NoMemory bytes = Unit {0}
 

@@ -6,7 +6,7 @@ ghost use Rattle.hb_ops.specs.Sound.{IsSound};
 ghost use Rattle.hb_set.specs.Scripts.{IsScriptFor};
 ghost use Rattle.hb_store.specs.Keeps.{StoreKeeps, IsNew};
 ghost use Rattle.hb_store.specs.Seen.{seen_as, disk_of};
-ghost use Rattle.hb_store.specs.Opening.{file_size};
+ghost use Rattle.hb_layout.specs.Offsets.{file_size};
 ghost use Rattle.hbpi.specs.Beyond.{KeepsBeyond, KeepsBeyondFile};
 ghost use Rattle.hbpi.specs.Core.{IsServed, IsServedCommand};
 ghost use Rattle.hbpi.specs.CoreSeen.{core_seen, core_disk};

@@ -5,9 +5,9 @@ ghost use Rattle.hb_outside.specs.Streams.{Rose};
 ghost use Rattle.hb_disk.specs.Calls.{WriteFaults};
 ghost use Rattle.hb_frag.specs.declared.pages.Page.{Page as Content};
 ghost use Rattle.hb_frag.specs.Grammar.{SpellsPage};
-ghost use Rattle.hb_super.specs.Superblocks.{IsLayout};
-ghost use Rattle.hb_ops.specs.declared.meta.Meta.{Meta as Said};
-ghost use Rattle.hb_store.specs.Opening.{file_size};
+ghost use Rattle.hb_layout.specs.Limits.{IsLayout};
+ghost use Rattle.hb_layout.specs.declared.meta.Meta.{Meta as Said};
+ghost use Rattle.hb_layout.specs.Offsets.{file_size};
 ghost use Rattle.hb_store.specs.Keeps.{IsFresh, IsNew, StoreKeeps};
 ghost use Rattle.hb_store.specs.Seen.{seen_as, disk_of};
 ghost use Rattle.hbpi.specs.Beyond.{KeepsBeyond};
@@ -24,7 +24,8 @@ use hb_ops::Meta;
 use hb_outside::Failed;
 use hb_page_codec::encode;
 use hb_space::form::PAGE;
-use hb_store::{Store, log_place, page_place};
+use hb_layout::{log_start, page_offset};
+use hb_store::Store;
 use hb_super::write_first_super;
 use hb_wal::zero_area;
 use std::alloc::Global;
@@ -54,8 +55,8 @@ fn write_parts<D: Device>(disk: &mut D, meta: &Meta, page: &[u8; PAGE]) -> Resul
     ensures beyond { KeepsBeyond (file_size meta.now) (D.model disk.old) (D.model disk.new) }
     ensures faults { WriteFaults result (D.model disk.old) (D.model disk.new) }
 {
-    disk.zero(log_place(0, meta), u64::from(meta.log))?;
-    disk.write(page_place(meta, 1), page)?;
+    disk.zero(log_start(0, meta), u64::from(meta.log))?;
+    disk.write(page_offset(meta, 1), page)?;
     disk.sync()
 }
 

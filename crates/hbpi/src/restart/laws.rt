@@ -1,7 +1,7 @@
 //! What follows of files from their definitions alone.
 ghost use Rattle.hbpi.specs.Restart.{GoodIsNotRefused, IsRefusedOnce};
 
-use hb_page_codec::laws::spelling_law;
+use hb_log_codec::laws::groups_are_read_in_one_way;
 use hb_sound::a_sound_file_breaks_no_rule;
 use hb_store::an_image_opens_to_one_file;
 use hb_super::laws::one_superblock_is_newest;
@@ -11,7 +11,7 @@ use hb_wal::laws::an_area_is_read_in_one_way;
 pub(crate) fn a_good_file_is_not_refused()
     ensures { GoodIsNotRefused }
 {
-    spelling_law();
+    groups_are_read_in_one_way();
     one_superblock_is_newest();
     an_area_is_read_in_one_way();
     an_image_opens_to_one_file();
@@ -22,7 +22,7 @@ pub(crate) fn a_good_file_is_not_refused()
 pub(crate) fn bytes_are_refused_in_one_way()
     ensures { IsRefusedOnce }
 {
-    spelling_law();
+    groups_are_read_in_one_way();
     one_superblock_is_newest();
     an_area_is_read_in_one_way();
     an_image_opens_to_one_file();

@@ -1,16 +1,18 @@
 //! What a file is, before it is opened. Nothing is written.
-ghost use Rattle.std.specs.Prelude.{◌≡◌, ◌*◌, ◌≤◌, OnOk, OnErr, IfOk, IfErr, IfSome, IsErrOf};
+ghost use Rattle.std.specs.Prelude.{◌≡◌, ◌*◌, ◌≤◌, ◌↔◌, IsTrue, OnOk, OnErr, IfOk, IfErr, IfSome, IsErrOf};
 ghost use Rattle.hb_space.specs.declared.form.TheConstants.{PAGE};
 ghost use Rattle.std.specs.Ordering.{nat_cmp};
 ghost use Rattle.std.specs.BTreeMap.{get};
 ghost use Rattle.hb_outside.specs.Streams.{Rose};
 ghost use Rattle.hb_disk.specs.Calls.{OnlyReads};
-ghost use Rattle.hb_super.specs.Superblocks.{IsLayout, IsLegal, IsNewest};
+ghost use Rattle.hb_layout.specs.Limits.{IsLayout};
+ghost use Rattle.hb_super.specs.Superblocks.{IsLegal, IsNewest};
 ghost use Rattle.hb_sound.specs.Marks.{HasMarks};
 ghost use Rattle.hb_sound.specs.Names.{IsSoundWith};
-ghost use Rattle.hb_store.specs.Opening.{file_size as bytes_of, place_bytes};
+ghost use Rattle.hb_layout.specs.Offsets.{file_size as bytes_of};
+ghost use Rattle.hb_store.specs.Opening.{place_bytes};
 ghost use Rattle.hb_store.specs.Stops.{ReadsLog, IsTouched};
-ghost use Rattle.hbpi.specs.Looking.{IsFoundIn, IsWhole, IsAudited, IsFirstPage, IsSpelledIn, FindsNone, LogRefuses, AuditRefuses, IsNamed, NamesNoSize, page_weight, told_one};
+ghost use Rattle.hbpi.specs.Looking.{AreSpelled, IsFoundIn, IsWhole, IsAudited, IsFirstPage, IsSpelledIn, FindsNone, LogRefuses, AuditRefuses, IsNamed, NamesNoSize, page_weight, told_one};
 ghost use Rattle.hbpi.specs.Restart.{Refuses, IsShut, IsNoRefusal, IsOnePage};
 ghost use Rattle.hbpi.specs.declared.restart.faults.OpenFault.TheVariants.{DiskFault};
 
@@ -18,17 +20,19 @@ use crate::restart::faults::OpenFault;
 use crate::restart::source::{FirstPage, copy_of};
 use hb_disk::Device;
 use hb_frag::Page;
+use hb_layout::page_offset;
 use hb_ops::Meta;
 use hb_outside::Failed;
 use hb_page_codec::laws::spelling_law;
 use hb_page_codec::{PageError, decode};
 use hb_sound::{AuditStop, audit};
 use hb_space::form::PAGE;
-use hb_store::{LogStop, Touched, page_place, read_log};
+use hb_store::{LogStop, Touched, read_log};
 use hb_super::{SuperStop, read_super};
 use std::alloc::Global;
 
-/// A sound file of one page: its newest superblock, the pages that its log touches, and the number of its records.
+/// A sound file of one page: the turn of its newest superblock, what its log makes of what that says, the pages that the
+/// log touches, and the number of its records.
 #[derive(Debug, Drop)]
 pub(crate) struct Found {
     pub(crate) turn: u8,
@@ -57,6 +61,13 @@ fn size_of(meta: &Meta) -> u64
     ensures { result ≡ bytes_of meta.now }
 {
     2 * PAGE as u64 + 2 * u64::from(meta.log) + PAGE as u64 * u64::from(meta.pages)
+}
+
+/// Whether the file has one page and one level at most.
+fn is_one_page(meta: &Meta) -> bool
+    ensures { IsTrue result ↔ IsOnePage meta.now }
+{
+    meta.high <= 1 && meta.height <= 1
 }
 
 /// The newest superblock.
@@ -124,7 +135,7 @@ fn read_place<D: Device>(disk: &mut D, meta: &Meta, into: &mut [u8; PAGE]) -> Re
     ensures no_fault { OnOk result ((D.model disk.new).read_faults ≡ (D.model disk.old).read_faults) }
     ensures only_reads { OnlyReads (D.model disk.old) (D.model disk.new) }
 {
-    disk.read(page_place(meta, 1), into)
+    disk.read(page_offset(meta, 1), into)
 }
 
 /// The page in the place of page 1.
@@ -158,7 +169,7 @@ fn first_page<D: Device>(
 ) -> Result<Option<Page>, OpenFault>
     requires room { bytes_of meta.now ≤ (D.model disk.old).size }
     requires some { 1 ≤ meta.now.pages }
-    requires touched { IsTouched meta.now touched.now }
+    requires touched { AreSpelled touched.now }
     ensures there { IfOk result (λ page. IfSome (D.model disk.old).told (λ b. IsFirstPage b meta.now (get nat_cmp touched.now.pages 1) page)) }
     ensures light { IfOk result (λ page. page_weight page ≤ PAGE) }
     ensures stops { IfErr result IsNoRefusal }
@@ -188,33 +199,34 @@ fn audited_page(alloc: Global, meta: &Meta, page: Option<Page>) -> Result<u64, O
     Ok(audit(alloc, meta, &mut source)?)
 }
 
-/// Audits the file of at most one page, which the log touches or which stands in its place.
+/// Audits the file of at most one page that the log leads to: its page is touched, or stands in its place.
 fn audited<D: Device>(
     alloc: Global,
     disk: &mut D,
-    meta: &Meta,
+    said: &Meta,
     touched: &Touched,
 ) -> Result<u64, OpenFault>
-    requires layout { IsLayout meta.now }
-    requires room { bytes_of meta.now ≤ (D.model disk.old).size }
-    requires small { IsOnePage meta.now }
-    requires touched { IsTouched meta.now touched.now }
-    ensures sound { IfOk result (IsAudited (D.model disk.old).told meta.now (get nat_cmp touched.now.pages 1)) }
-    ensures refused { IfErr result (λ fault. IfSome (D.model disk.old).told (λ b. AuditRefuses fault b meta.now (get nat_cmp touched.now.pages 1))) }
+    requires room { bytes_of said.now ≤ (D.model disk.old).size }
+    requires some { 1 ≤ said.now.pages }
+    requires layout { IsLayout touched.now.meta }
+    requires small { IsOnePage touched.now.meta }
+    requires touched { AreSpelled touched.now }
+    ensures sound { IfOk result (IsAudited (D.model disk.old).told said.now touched.now.meta (get nat_cmp touched.now.pages 1)) }
+    ensures refused { IfErr result (λ fault. IfSome (D.model disk.old).told (λ b. AuditRefuses fault b said.now touched.now.meta (get nat_cmp touched.now.pages 1))) }
     ensures no_size { IfErr result NamesNoSize }
     ensures cause { IsErrOf result DiskFault → Rose (D.model disk.old).read_faults (D.model disk.new).read_faults }
     ensures no_fault { (IsErrOf result DiskFault → ⊥) → (D.model disk.new).read_faults ≡ (D.model disk.old).read_faults }
     ensures only_reads { OnlyReads (D.model disk.old) (D.model disk.new) }
 {
-    let page = first_page(alloc, disk, meta, touched)?;
-    audited_page(alloc, meta, page)
+    let page = first_page(alloc, disk, said, touched)?;
+    audited_page(alloc, &touched.meta, page)
 }
 
 /// The file of a disk, or why there is none. The tests come in the order in which `recover` names them.
 pub(crate) fn look<D: Device>(alloc: Global, disk: &mut D) -> Result<Found, OpenFault>
     ensures found { IfOk result (λ f. IfSome (D.model disk.old).told (λ b. IsFoundIn b f.turn f.meta (get nat_cmp f.touched.pages 1) f.count)) }
     ensures whole { IfOk result (λ f. IsWhole (D.model disk.old).size f.turn f.meta) }
-    ensures touched { IfOk result (λ f. IsTouched f.meta f.touched) }
+    ensures touched { IfOk result (λ f. AreSpelled f.touched) }
     ensures refused { IfErr result (λ fault. IfSome (D.model disk.old).told (Refuses fault)) }
     ensures shut { IfErr result (IsShut (D.model disk.old).size) }
     ensures cause { IsErrOf result DiskFault → Rose (D.model disk.old).read_faults (D.model disk.new).read_faults }
@@ -228,19 +240,22 @@ pub(crate) fn look<D: Device>(alloc: Global, disk: &mut D) -> Result<Found, Open
             found,
         });
     }
-    let (turn, meta) = newest(disk)?;
-    let needed = size_of(&meta);
+    let (turn, said) = newest(disk)?;
+    let needed = size_of(&said);
     if found < needed {
         return Err(OpenFault::Small { needed, found });
     }
-    if meta.high > 1 || meta.height > 1 {
+    if !is_one_page(&said) {
         return Err(OpenFault::NotBuilt);
     }
-    let touched = log_of(alloc, disk, turn, &meta)?;
-    let count = audited(alloc, disk, &meta, &touched)?;
+    let touched = log_of(alloc, disk, turn, &said)?;
+    if !is_one_page(&touched.meta) {
+        return Err(OpenFault::NotBuilt);
+    }
+    let count = audited(alloc, disk, &said, &touched)?;
     Ok(Found {
         turn,
-        meta,
+        meta: touched.meta,
         touched,
         count,
     })

@@ -2,12 +2,12 @@
 ghost use Rattle.std.specs.Prelude.{◌≡◌, ◌⊎◌, ◌+◌, ◌≤◌, [], ℕ, List, length, IfOk, IfErr, IfSome, IsSome};
 ghost use Rattle.hb_outside.specs.Streams.{Rose};
 ghost use Rattle.hb_disk.specs.Calls.{Leaves, OnlyReads};
-ghost use Rattle.hb_ops.specs.declared.meta.Meta.{Meta as Said};
+ghost use Rattle.hb_layout.specs.declared.meta.Meta.{Meta as Said};
 ghost use Rattle.hb_ops.specs.Files.{FileState, file_records};
 ghost use Rattle.hb_ops.specs.Sound.{IsSound};
 ghost use Rattle.hb_super.specs.Superblocks.{IsNewest};
 ghost use Rattle.hb_store.specs.Opening.{OpensTo, IsEven};
-ghost use Rattle.hb_store.specs.Keeps.{StoreKeeps, IsNew};
+ghost use Rattle.hb_store.specs.Keeps.{StoreKeeps, IsNew, IsSameLayout};
 ghost use Rattle.hb_store.specs.Seen.{seen_as, disk_of};
 ghost use Rattle.hbpi.specs.Beyond.{KeepsBeyondFile};
 ghost use Rattle.hbpi.specs.Restart.{Refuses, IsShut, IsUnwritten};
@@ -24,7 +24,8 @@ use std::alloc::Global;
 /// Opens the file of a disk: reads the newest superblock and its log, replays it, and tests all rules. Then it syncs,
 /// writes the touched pages to their places, and switches to the next turn. It gives the store and the number of
 /// records. The refusals come in this order: `Small` for two superblock places, `NoSuper`, `Small` for the layout,
-/// `NotBuilt`, `BadGroup`, `Unsound`; nothing is written before any of these.
+/// `NotBuilt` by the superblock, `BadGroup`, `NotBuilt` by what the log leads to, `Unsound`; nothing is written before
+/// any of these.
 pub(crate) fn recover<D: Device>(alloc: Global, disk: D) -> Result<(Store<D>, u64), (OpenFault, D)>
     ensures opened { IfOk result (λ r. IfSome (D.model disk).told (λ b. (s : FileState) × OpensTo b s × IsSound s
         × (r.1 ≡ length (file_records s)) × StoreKeeps (D.model (disk_of r.0)) (seen_as r.0) s [])) }
@@ -48,8 +49,8 @@ pub(crate) fn recover<D: Device>(alloc: Global, disk: D) -> Result<(Store<D>, u6
     ensures shut { IfErr result (λ e. IsShut (D.model disk).size e.0) }
     ensures time { IfOk result (λ r. IsSome (D.model disk).told → (D.model disk).clock ≤ (D.model (disk_of r.0)).clock) }
     ensures meta { IfOk result (λ r. IfSome (D.model disk).told (λ b. (s : FileState) → OpensTo b s → s.meta ≡ (seen_as r.0).meta)) }
-    // the newest superblock is the one that the store has, and only its file's bytes may change
-    ensures said { IfOk result (λ r. IfSome (D.model disk).told (λ b. (turn : ℕ) (said : Said) → IsNewest b turn said → said ≡ (seen_as r.0).meta)) }
+    // the newest superblock has the layout that the store has, and only its file's bytes may change
+    ensures said { IfOk result (λ r. IfSome (D.model disk).told (λ b. (turn : ℕ) (said : Said) → IsNewest b turn said → IsSameLayout said (seen_as r.0).meta)) }
     ensures beyond { IfOk result (λ r. KeepsBeyondFile (D.model disk) (D.model (disk_of r.0))) }
     ensures beyond_after_fault { IfErr result (λ e. KeepsBeyondFile (D.model disk) (D.model e.1)) }
     ensures cause { IfErr result (λ e. e.0 ≡ DiskFault → (Rose (D.model disk).read_faults (D.model e.1).read_faults) ⊎ (Rose (D.model disk).write_faults (D.model e.1).write_faults)) }

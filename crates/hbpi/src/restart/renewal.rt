@@ -11,12 +11,13 @@ ghost use Rattle.hb_frag.specs.declared.pages.Page.{Page as Content};
 ghost use Rattle.hb_frag.specs.Grammar.{HasSpelling, SpellsPage};
 ghost use Rattle.hb_super.specs.Superblocks.{IsLegal, next_turn};
 ghost use Rattle.hb_ops.specs.Files.{FileState};
-ghost use Rattle.hb_store.specs.Opening as opening;
-ghost use Rattle.hb_store.specs.Opening.{OpensTo, IsEven, file_size, place_bytes};
+ghost use Rattle.hb_layout.specs.declared.meta.Meta.{Meta as Said};
+ghost use Rattle.hb_layout.specs.Offsets as offsets;
+ghost use Rattle.hb_layout.specs.Offsets.{file_size};
+ghost use Rattle.hb_store.specs.Opening.{OpensTo, IsEven, place_bytes};
 ghost use Rattle.hb_store.specs.Keeps.{IsFresh};
-ghost use Rattle.hb_store.specs.Stops.{IsTouched};
 ghost use Rattle.hbpi.specs.Beyond.{KeepsBeyond};
-ghost use Rattle.hbpi.specs.Looking.{IsFoundIn, IsWhole};
+ghost use Rattle.hbpi.specs.Looking.{AreSpelled, IsFoundIn, IsWhole};
 ghost use Rattle.hbpi.specs.OnePage.{lone};
 ghost use Rattle.hbpi.specs.Renewing.{StillOpens, IsHere, IsPlaced, IsReadyFor, Runs};
 
@@ -27,7 +28,8 @@ use hb_ops::Meta;
 use hb_outside::Failed;
 use hb_page_codec::encode;
 use hb_space::form::PAGE;
-use hb_store::{Touched, an_image_opens_to_one_file, log_place, page_place};
+use hb_layout::{log_start, page_offset};
+use hb_store::{Touched, an_image_opens_to_one_file};
 use hb_super::{clear_hidden, write_super};
 use hb_wal::zero_area;
 
@@ -45,26 +47,26 @@ fn write_page<D: Device>(disk: &mut D, meta: &Meta, page: &Page) -> Result<(), F
     requires some { 1 ≤ meta.now.pages }
     requires spelling { HasSpelling page.now }
     ensures there { OnOk result ((b : List ℕ) → (D.model disk.new).told ≡ Some b → SpellsPage (place_bytes meta.now 1 b) page.now) }
-    ensures place { Becomes (Torn (opening.page_place meta.now 1) PAGE) (D.model disk.old) (D.model disk.new) }
+    ensures place { Becomes (Torn (offsets.page_offset meta.now 1) PAGE) (D.model disk.old) (D.model disk.new) }
     ensures ticks { Ticks result (D.model disk.old) (D.model disk.new) }
     ensures faults { WriteFaults result (D.model disk.old) (D.model disk.new) }
 {
     let mut bytes = [0; PAGE];
     encode(page, &mut bytes);
-    disk.write(page_place(meta, 1), &bytes)
+    disk.write(page_offset(meta, 1), &bytes)
 }
 
 /// Writes the page that the log touches to its place. At most one device call.
 fn settle<D: Device>(disk: &mut D, turn: u8, meta: &Meta, touched: &Touched) -> Result<(), Failed>
     requires room { file_size meta.now ≤ (D.model disk.old).size }
     requires legal { IsLegal turn meta.now }
-    requires touched { IsTouched meta.now touched.now }
+    requires touched { AreSpelled touched.now }
     ensures run { Runs 1 result (D.model disk.old) (D.model disk.new) }
     ensures beyond { KeepsBeyond (file_size meta.now) (D.model disk.old) (D.model disk.new) }
-    ensures moments { (page : Content) → IsHere (D.model disk.old) turn meta.now (get nat_cmp touched.now.pages 1) page →
-        Leaves (D.model disk.old) (D.model disk.new) (StillOpens turn meta.now (get nat_cmp touched.now.pages 1) page) }
-    ensures placed { OnOk result ((page : Content) → IsHere (D.model disk.old) turn meta.now (get nat_cmp touched.now.pages 1) page →
-        IsPlaced (D.model disk.new) turn meta.now (get nat_cmp touched.now.pages 1) page) }
+    ensures moments { (said : Said) (page : Content) → IsHere (D.model disk.old) turn said meta.now (get nat_cmp touched.now.pages 1) page →
+        Leaves (D.model disk.old) (D.model disk.new) (StillOpens turn said meta.now (get nat_cmp touched.now.pages 1) page) }
+    ensures placed { OnOk result ((said : Said) (page : Content) → IsHere (D.model disk.old) turn said meta.now (get nat_cmp touched.now.pages 1) page →
+        IsPlaced (D.model disk.new) turn said meta.now (get nat_cmp touched.now.pages 1) page) }
 {
     match touched.pages.get(&1) {
         Some(page) => write_page(disk, meta, page),
@@ -78,14 +80,14 @@ fn make_room<D: Device>(disk: &mut D, turn: u8, meta: &Meta) -> Result<(), DiskF
     requires legal { IsLegal turn meta.now }
     ensures run { Runs 5 result (D.model disk.old) (D.model disk.new) }
     ensures beyond { KeepsBeyond (file_size meta.now) (D.model disk.old) (D.model disk.new) }
-    ensures moments { (touched : Option Content) (page : Content) → IsPlaced (D.model disk.old) turn meta.now touched page →
-        Leaves (D.model disk.old) (D.model disk.new) (StillOpens turn meta.now touched page) }
-    ensures ready { OnOk result ((touched : Option Content) (page : Content) → IsPlaced (D.model disk.old) turn meta.now touched page →
-        IsReadyFor (D.model disk.new) turn meta.now touched page) }
+    ensures moments { (said : Said) (touched : Option Content) (page : Content) → IsPlaced (D.model disk.old) turn said meta.now touched page →
+        Leaves (D.model disk.old) (D.model disk.new) (StillOpens turn said meta.now touched page) }
+    ensures ready { OnOk result ((said : Said) (touched : Option Content) (page : Content) → IsPlaced (D.model disk.old) turn said meta.now touched page →
+        IsReadyFor (D.model disk.new) turn said meta.now touched page) }
 {
     let next = turn_after(turn);
     disk.sync()?;
-    zero_area(disk, log_place(next, meta), meta.log)?;
+    zero_area(disk, log_start(next, meta), meta.log)?;
     clear_hidden(disk, next, meta)
 }
 
@@ -96,9 +98,9 @@ fn switch<D: Device>(disk: &mut D, turn: u8, meta: &Meta) -> Result<(), DiskFaul
     requires one { meta.now.high ≡ 1 }
     ensures run { Runs 11 result (D.model disk.old) (D.model disk.new) }
     ensures beyond { KeepsBeyond (file_size meta.now) (D.model disk.old) (D.model disk.new) }
-    ensures moments { (touched : Option Content) (page : Content) → IsPlaced (D.model disk.old) turn meta.now touched page →
+    ensures moments { (said : Said) (touched : Option Content) (page : Content) → IsPlaced (D.model disk.old) turn said meta.now touched page →
         Leaves (D.model disk.old) (D.model disk.new) (λ c. OpensTo c (lone meta.now page)) }
-    ensures fresh { OnOk result ((touched : Option Content) (page : Content) → IsPlaced (D.model disk.old) turn meta.now touched page →
+    ensures fresh { OnOk result ((said : Said) (touched : Option Content) (page : Content) → IsPlaced (D.model disk.old) turn said meta.now touched page →
         IsFresh (D.model disk.new) (next_turn turn) meta.now (lone meta.now page)) }
 {
     make_room(disk, turn, meta)?;
@@ -109,12 +111,12 @@ fn switch<D: Device>(disk: &mut D, turn: u8, meta: &Meta) -> Result<(), DiskFaul
 /// calls.
 fn rewrite<D: Device>(disk: &mut D, found: &Found) -> Result<(), DiskFault>
     requires whole { IsWhole (D.model disk.old).size found.now.turn found.now.meta }
-    requires touched { IsTouched found.now.meta found.now.touched }
+    requires touched { AreSpelled found.now.touched }
     ensures run { Runs 12 result (D.model disk.old) (D.model disk.new) }
     ensures beyond { KeepsBeyond (file_size found.now.meta) (D.model disk.old) (D.model disk.new) }
-    ensures moments { (page : Content) → IsHere (D.model disk.old) found.now.turn found.now.meta (get nat_cmp found.now.touched.pages 1) page →
+    ensures moments { (said : Said) (page : Content) → IsHere (D.model disk.old) found.now.turn said found.now.meta (get nat_cmp found.now.touched.pages 1) page →
         Leaves (D.model disk.old) (D.model disk.new) (λ c. OpensTo c (lone found.now.meta page)) }
-    ensures fresh { OnOk result ((page : Content) → IsHere (D.model disk.old) found.now.turn found.now.meta (get nat_cmp found.now.touched.pages 1) page →
+    ensures fresh { OnOk result ((said : Said) (page : Content) → IsHere (D.model disk.old) found.now.turn said found.now.meta (get nat_cmp found.now.touched.pages 1) page →
         IsFresh (D.model disk.new) (next_turn found.now.turn) found.now.meta (lone found.now.meta page)) }
 {
     settle(disk, found.turn, &found.meta, &found.touched)?;
@@ -125,7 +127,7 @@ fn rewrite<D: Device>(disk: &mut D, found: &Found) -> Result<(), DiskFault>
 /// turn. At most thirteen device calls.
 pub(crate) fn renew<D: Device>(disk: &mut D, found: &Found) -> Result<(), DiskFault>
     requires whole { IsWhole (D.model disk.old).size found.now.turn found.now.meta }
-    requires touched { IsTouched found.now.meta found.now.touched }
+    requires touched { AreSpelled found.now.touched }
     ensures run { Runs 13 result (D.model disk.old) (D.model disk.new) }
     ensures beyond { KeepsBeyond (file_size found.now.meta) (D.model disk.old) (D.model disk.new) }
     ensures time { IfSome (D.model disk.old).told (λ b. IsFoundIn b found.now.turn found.now.meta (get nat_cmp found.now.touched.pages 1) found.now.count →

@@ -6,7 +6,7 @@ use Rattle.hb_frag.specs.declared.pages.Page.{Page}
 use Rattle.hb_frag.specs.Grammar.{SpellsPage}
 use Rattle.hb_super.specs.Superblocks.{IsNewest, body_bytes}
 use Rattle.hb_store.specs.Keeps.{IsFresh}
-use Rattle.hb_store.specs.Opening.{file_size}
+use Rattle.hb_layout.specs.Offsets.{file_size}
 use Rattle.hbpi.specs.Creation.{IsLaidOut}
 use Rattle.hbpi.specs.OnePage.{lone}
 use Rattle.hbpi.proofs.Beyond.{beyond_then, beyond_wider}

@@ -3,7 +3,7 @@ use Rattle.std.proofs.lemmas.List.{length-replicate}
 use Rattle.hb_disk.specs.Model.{overwritten}
 use Rattle.hb_disk.specs.RunLaws.{if_value, at_value, on_ok}
 use Rattle.hbpi.specs.Creation.{IsLaidOut}
-use Rattle.hb_store.specs.Opening.{file_size}
+use Rattle.hb_layout.specs.Offsets.{file_size}
 use Rattle.hbpi.proofs.Beyond.{beyond_sync, beyond_then, beyond_write}
 use Rattle.hbpi.proofs.Made.{laid_out}
 use Rattle.hbpi.proofs.restart.creation.write_parts.Goals as goal
@@ -19,11 +19,11 @@ returns-clause-laid g c =
     let is_disk = g.met.D.Device.is_disk c.args.disk.now in
     let P : List ℕ → Type 0 = λ b. get_or b 0 0 ≡ 0 → get_or b 4096 0 ≡ 0 → (x : List ℕ) × (new.told ≡ Some x) × IsLaidOut x meta page in
     on_ok c.sync.result (IfSome d.told P) (if_value d.told P (λ b told first second.
-    let area : c.log_place.result ≡ 8192 = omega (arith, c.log_place.ensures) in
-    let place : c.page_place.result ≡ 8192 + 2 * meta.log = omega (arith, c.page_place.ensures) in
+    let area : c.log_start.result ≡ 8192 = omega (arith, c.log_start.ensures) in
+    let place : c.page_offset.result ≡ 8192 + 2 * meta.log = omega (arith, c.page_offset.ensures) in
     let zeroed : IfSome d.told (λ x. one.told ≡ Some (overwritten x 8192 (replicate meta.log 0))) =
     subst (λ (at : ℕ). IfSome d.told (λ x. one.told ≡ Some (overwritten x at (replicate meta.log 0)))) area
-    (subst (λ (n : ℕ). IfSome d.told (λ x. one.told ≡ Some (overwritten x c.log_place.result (replicate n 0)))) c.from.ensures c.in_ok-zero.ensures.writes.written) in
+    (subst (λ (n : ℕ). IfSome d.told (λ x. one.told ≡ Some (overwritten x c.log_start.result (replicate n 0)))) c.from.ensures c.in_ok-zero.ensures.writes.written) in
     let written : IfSome one.told (λ x. two.told ≡ Some (overwritten x (8192 + 2 * meta.log) page)) =
     subst (λ (at : ℕ). IfSome one.told (λ x. two.told ≡ Some (overwritten x at page))) place c.in_ok-write.ensures.writes.written in
     let after = at_value d.told (λ x. one.told ≡ Some (overwritten x 8192 (replicate meta.log 0))) b told zeroed in
@@ -36,9 +36,9 @@ returns-clause-laid g c =
 
 pub returns-in_err-zero-clause-beyond : goal.returns-in_err-zero-clause-beyond
 returns-in_err-zero-clause-beyond g c =
-    beyond_write c.zero.result c.log_place.result (replicate c.from.result 0) (file_size c.args.meta.now) (g.D.Device.model c.args.disk.now) (g.D.Device.model c.zero.new.self)
+    beyond_write c.zero.result c.log_start.result (replicate c.from.result 0) (file_size c.args.meta.now) (g.D.Device.model c.args.disk.now) (g.D.Device.model c.zero.new.self)
     (g.met.D.Device.is_disk c.args.disk.now) (g.met.D.Device.is_disk c.zero.new.self) c.requires.room
-    (omega (arith, length-replicate {A = ℕ} c.from.result 0, c.from.ensures, c.log_place.ensures)) c.zero.ensures.writes c.zero.ensures.ticks
+    (omega (arith, length-replicate {A = ℕ} c.from.result 0, c.from.ensures, c.log_start.ensures)) c.zero.ensures.writes c.zero.ensures.ticks
 
 pub returns-in_err-write-clause-beyond : goal.returns-in_err-write-clause-beyond
 returns-in_err-write-clause-beyond g c =
@@ -47,10 +47,10 @@ returns-in_err-write-clause-beyond g c =
     let two = g.D.Device.model c.write.new.self in
     let n = file_size c.args.meta.now in
     beyond_then n d one two
-    (beyond_write c.zero.result c.log_place.result (replicate c.from.result 0) n d one (g.met.D.Device.is_disk c.args.disk.now) (g.met.D.Device.is_disk c.zero.new.self) c.requires.room
-    (omega (arith, length-replicate {A = ℕ} c.from.result 0, c.from.ensures, c.log_place.ensures)) c.zero.ensures.writes c.zero.ensures.ticks)
-    (beyond_write c.write.result c.page_place.result c.args.page.now n one two (g.met.D.Device.is_disk c.zero.new.self) (g.met.D.Device.is_disk c.write.new.self)
-    (omega (arith, c.requires.room, c.zero.ensures.ticks.size)) (omega (arith, c.told-page, c.page_place.ensures, c.requires.some)) c.write.ensures.writes c.write.ensures.ticks)
+    (beyond_write c.zero.result c.log_start.result (replicate c.from.result 0) n d one (g.met.D.Device.is_disk c.args.disk.now) (g.met.D.Device.is_disk c.zero.new.self) c.requires.room
+    (omega (arith, length-replicate {A = ℕ} c.from.result 0, c.from.ensures, c.log_start.ensures)) c.zero.ensures.writes c.zero.ensures.ticks)
+    (beyond_write c.write.result c.page_offset.result c.args.page.now n one two (g.met.D.Device.is_disk c.zero.new.self) (g.met.D.Device.is_disk c.write.new.self)
+    (omega (arith, c.requires.room, c.zero.ensures.ticks.size)) (omega (arith, c.told-page, c.page_offset.ensures, c.requires.some)) c.write.ensures.writes c.write.ensures.ticks)
 
 pub returns-clause-beyond : goal.returns-clause-beyond
 returns-clause-beyond g c =
@@ -61,8 +61,8 @@ returns-clause-beyond g c =
     let n = file_size c.args.meta.now in
     beyond_then n d two new
     (beyond_then n d one two
-    (beyond_write c.zero.result c.log_place.result (replicate c.from.result 0) n d one (g.met.D.Device.is_disk c.args.disk.now) (g.met.D.Device.is_disk c.zero.new.self) c.requires.room
-    (omega (arith, length-replicate {A = ℕ} c.from.result 0, c.from.ensures, c.log_place.ensures)) c.zero.ensures.writes c.zero.ensures.ticks)
-    (beyond_write c.write.result c.page_place.result c.args.page.now n one two (g.met.D.Device.is_disk c.zero.new.self) (g.met.D.Device.is_disk c.write.new.self)
-    (omega (arith, c.requires.room, c.zero.ensures.ticks.size)) (omega (arith, c.told-page, c.page_place.ensures, c.requires.some)) c.write.ensures.writes c.write.ensures.ticks))
+    (beyond_write c.zero.result c.log_start.result (replicate c.from.result 0) n d one (g.met.D.Device.is_disk c.args.disk.now) (g.met.D.Device.is_disk c.zero.new.self) c.requires.room
+    (omega (arith, length-replicate {A = ℕ} c.from.result 0, c.from.ensures, c.log_start.ensures)) c.zero.ensures.writes c.zero.ensures.ticks)
+    (beyond_write c.write.result c.page_offset.result c.args.page.now n one two (g.met.D.Device.is_disk c.zero.new.self) (g.met.D.Device.is_disk c.write.new.self)
+    (omega (arith, c.requires.room, c.zero.ensures.ticks.size)) (omega (arith, c.told-page, c.page_offset.ensures, c.requires.some)) c.write.ensures.writes c.write.ensures.ticks))
     (beyond_sync c.sync.result n two new (g.met.D.Device.is_disk c.write.new.self) c.sync.ensures.syncs c.sync.ensures.ticks)

@@ -9,7 +9,7 @@ returns-clause-there g c =
     let told = (g.D.Device.model c.args.disk.now).told in
     let meta = c.args.meta.now in
     let into = c.read.new.into in
-    on_ok_weaker c.read.result (IfSome told (λ b. into ≡ take (length into) (drop c.page_place.result b)))
+    on_ok_weaker c.read.result (IfSome told (λ b. into ≡ take (length into) (drop c.page_offset.result b)))
     (IfSome told (λ b. into ≡ place_bytes meta 1 b))
-    (λ reads. place_read told into meta c.page_place.result c.page_place.ensures (omega (arith, c.told-into, c.read.auto.into)) reads)
+    (λ reads. place_read told into meta c.page_offset.result c.page_offset.ensures (omega (arith, c.told-into, c.read.auto.into)) reads)
     c.read.ensures.bytes

@@ -5,14 +5,14 @@ use Rattle.hb_disk.specs.Calls.{Leaves}
 use Rattle.hb_super.specs.Superblocks.{next_turn}
 use Rattle.hb_ops.specs.Files.{FileState}
 use Rattle.hb_store.specs.Opening.{OpensTo}
-use Rattle.hb_store.specs.Keeps.{IsFresh, StoreKeeps}
+use Rattle.hb_store.specs.Keeps.{IsFresh, IsSameLayout, StoreKeeps}
 use Rattle.hb_store.specs.Seen.{seen_as, disk_of}
 use Rattle.hbpi.specs.Looking.{IsFoundIn}
 use Rattle.hbpi.proofs.Made.{no_error}
 use Rattle.hbpi.proofs.Recovered.{recovered_even, recovered_time, recovered_fresh, recovered_opened, recovered_meta, recovered_late}
 use Rattle.hbpi.specs.Beyond.{KeepsBeyondFile}
 use Rattle.hb_super.specs.Superblocks.{IsNewest}
-use Rattle.hb_ops.specs.declared.meta.Meta.{Meta}
+use Rattle.hb_layout.specs.declared.meta.Meta.{Meta}
 use Rattle.hb_disk.specs.RunLaws.{if_value}
 use Rattle.hbpi.proofs.Beyond.{beyond_found, beyond_looked, found_said}
 use Rattle.hbpi.proofs.restart.recovery.recover.Goals as goal
@@ -104,9 +104,9 @@ returns-in-Ok-opened-clause-beyond g c =
 
 pub returns-in-Ok-opened-clause-said : goal.returns-in-Ok-opened-clause-said
 returns-in-Ok-opened-clause-said g c =
-    if_value (g.D.Device.model c.args.disk).told (λ b. (turn : ℕ) (said : Meta) → IsNewest b turn said → said ≡ (seen_as c.in-Ok-opened.store).meta) (λ b told turn said newest.
-    found_said c.one_superblock_is_newest.ensures.said (g.D.Device.model c.args.disk).told c.in-Ok.found.turn c.in-Ok.found.meta (get nat_cmp c.in-Ok.found.touched.pages 1) c.in-Ok.found.count c.in-Ok.ensures.found b turn said told newest
-    ∙ sym c.in-Ok-opened.ensures.new.meta_is)
+    if_value (g.D.Device.model c.args.disk).told (λ b. (turn : ℕ) (said : Meta) → IsNewest b turn said → IsSameLayout said (seen_as c.in-Ok-opened.store).meta) (λ b told turn said newest.
+    subst (λ (x : Meta). IsSameLayout said x) (sym c.in-Ok-opened.ensures.new.meta_is)
+    (found_said c.one_superblock_is_newest.ensures.said (g.D.Device.model c.args.disk).told c.in-Ok.found.turn c.in-Ok.found.meta (get nat_cmp c.in-Ok.found.touched.pages 1) c.in-Ok.found.count c.in-Ok.ensures.found b turn said told newest))
 
 pub returns-clause-beyond_after_fault : goal.returns-clause-beyond_after_fault
 returns-clause-beyond_after_fault g c =

@@ -3,36 +3,37 @@ use Rattle.hb_disk.specs.Calls.{IsSynced, OnlyReads}
 use Rattle.hb_disk.specs.RunLaws.{Leaves-then}
 use Rattle.hb_super.specs.Moments.{HidesNoOther}
 use Rattle.hb_frag.specs.declared.pages.Page.{Page}
+use Rattle.hb_layout.specs.declared.meta.Meta.{Meta}
 use Rattle.hbpi.specs.Renewing.{StillOpens, IsPlaced, IsReadyFor}
 use Rattle.hbpi.proofs.Renewed.{zeroed_moments, zeroed_ready, cleared_moments, cleared_ready}
 use Rattle.hbpi.proofs.Made.{on_ok_three}
 use Rattle.hbpi.proofs.RunSteps.{on_ok_given}
-use Rattle.hb_store.specs.Opening.{file_size}
+use Rattle.hb_layout.specs.Offsets.{file_size}
 use Rattle.hbpi.proofs.Beyond.{beyond_body, beyond_log, beyond_sync, beyond_then}
 use Rattle.hbpi.proofs.restart.renewal.make_room.Goals as goal
 
 pub returns-in_err-zero_area-clause-moments : goal.returns-in_err-zero_area-clause-moments
-returns-in_err-zero_area-clause-moments g c = λ touched page placed.
-    zeroed_moments c.args.turn c.turn_after-next.result c.args.meta.now c.requires.legal.turn_fits c.turn_after-next.ensures touched page c.sync.result c.zero_area.result
+returns-in_err-zero_area-clause-moments g c = λ said touched page placed.
+    zeroed_moments c.args.turn c.turn_after-next.result said c.args.meta.now c.requires.legal.turn_fits c.turn_after-next.ensures touched page c.sync.result c.zero_area.result
     (g.D.Device.model c.args.disk.now) (g.D.Device.model c.sync.new.self) (g.D.Device.model c.zero_area.new.disk)
     (g.met.D.Device.is_disk c.args.disk.now) (g.met.D.Device.is_disk c.sync.new.self) (g.met.D.Device.is_disk c.zero_area.new.disk)
-    placed c.sync.ensures.syncs c.sync.ensures.ticks c.log_place.result c.log_place.ensures c.zero_area.ensures.moments c.zero_area.ensures.place
+    placed c.sync.ensures.syncs c.sync.ensures.ticks c.log_start.result c.log_start.ensures c.zero_area.ensures.moments c.zero_area.ensures.place
 
 pub returns-clause-moments : goal.returns-clause-moments
-returns-clause-moments g c = λ touched page placed.
-    let zeroed = zeroed_ready c.args.turn c.turn_after-next.result c.args.meta.now c.requires.legal.turn_fits c.turn_after-next.ensures touched page c.sync.result c.zero_area.result
+returns-clause-moments g c = λ said touched page placed.
+    let zeroed = zeroed_ready c.args.turn c.turn_after-next.result said c.args.meta.now c.requires.legal.turn_fits c.turn_after-next.ensures touched page c.sync.result c.zero_area.result
     (g.D.Device.model c.args.disk.now) (g.D.Device.model c.sync.new.self) (g.D.Device.model c.zero_area.new.disk)
     (g.met.D.Device.is_disk c.args.disk.now) (g.met.D.Device.is_disk c.sync.new.self) (g.met.D.Device.is_disk c.zero_area.new.disk)
-    placed c.sync.ensures.syncs c.sync.ensures.ticks c.log_place.result c.log_place.ensures c.zero_area.ensures.moments c.zero_area.ensures.place
+    placed c.sync.ensures.syncs c.sync.ensures.ticks c.log_start.result c.log_start.ensures c.zero_area.ensures.moments c.zero_area.ensures.place
     (omega (arith, c.requires.room, c.sync.ensures.ticks.size, c.zero_area.ensures.place.size)) c.in_ok-zero_area.ensures.durable c.in_ok-zero_area.ensures.zeroed in
-    Leaves-then (g.D.Device.model c.args.disk.now) (g.D.Device.model c.zero_area.new.disk) (g.D.Device.model c.clear_hidden.new.disk) (StillOpens c.args.turn c.args.meta.now touched page)
-    (zeroed_moments c.args.turn c.turn_after-next.result c.args.meta.now c.requires.legal.turn_fits c.turn_after-next.ensures touched page c.sync.result c.zero_area.result
+    Leaves-then (g.D.Device.model c.args.disk.now) (g.D.Device.model c.zero_area.new.disk) (g.D.Device.model c.clear_hidden.new.disk) (StillOpens c.args.turn said c.args.meta.now touched page)
+    (zeroed_moments c.args.turn c.turn_after-next.result said c.args.meta.now c.requires.legal.turn_fits c.turn_after-next.ensures touched page c.sync.result c.zero_area.result
     (g.D.Device.model c.args.disk.now) (g.D.Device.model c.sync.new.self) (g.D.Device.model c.zero_area.new.disk)
     (g.met.D.Device.is_disk c.args.disk.now) (g.met.D.Device.is_disk c.sync.new.self) (g.met.D.Device.is_disk c.zero_area.new.disk)
-    placed c.sync.ensures.syncs c.sync.ensures.ticks c.log_place.result c.log_place.ensures c.zero_area.ensures.moments c.zero_area.ensures.place)
-    (cleared_moments c.args.turn c.turn_after-next.result c.args.meta.now c.requires.legal.turn_fits c.turn_after-next.ensures touched page
+    placed c.sync.ensures.syncs c.sync.ensures.ticks c.log_start.result c.log_start.ensures c.zero_area.ensures.moments c.zero_area.ensures.place)
+    (cleared_moments c.args.turn c.turn_after-next.result said c.args.meta.now c.requires.legal.turn_fits c.turn_after-next.ensures touched page
     (g.D.Device.model c.zero_area.new.disk) (g.D.Device.model c.clear_hidden.new.disk) (g.met.D.Device.is_disk c.zero_area.new.disk) (g.met.D.Device.is_disk c.clear_hidden.new.disk)
-    zeroed c.clear_hidden.ensures.place (c.clear_hidden.ensures.moments c.args.turn c.args.meta.now c.turn_after-next.ensures zeroed.placed.here.places))
+    zeroed c.clear_hidden.ensures.place (c.clear_hidden.ensures.moments c.args.turn said c.turn_after-next.ensures zeroed.placed.here.places))
 
 pub returns-clause-ready : goal.returns-clause-ready
 returns-clause-ready g c =
@@ -43,16 +44,16 @@ returns-clause-ready g c =
     let meta = c.args.meta.now in
     on_ok_three c.clear_hidden.result (IfSome new.told (λ b. HidesNoOther b next meta)) (IsSynced mid 0 8192 → IsSynced new 0 8192)
     (OnlyReads mid new ⊎ IfSome new.told (λ b. (x : List ℕ) → new.Image x → x ≡ b))
-    ((touched : Option Page) (page : Page) → IsPlaced (g.D.Device.model c.args.disk.now) turn meta touched page → IsReadyFor new turn meta touched page)
-    (λ hidden synced durable touched page placed.
-    let zeroed = zeroed_ready c.args.turn c.turn_after-next.result c.args.meta.now c.requires.legal.turn_fits c.turn_after-next.ensures touched page c.sync.result c.zero_area.result
+    ((said : Meta) (touched : Option Page) (page : Page) → IsPlaced (g.D.Device.model c.args.disk.now) turn said meta touched page → IsReadyFor new turn said meta touched page)
+    (λ hidden synced durable said touched page placed.
+    let zeroed = zeroed_ready c.args.turn c.turn_after-next.result said c.args.meta.now c.requires.legal.turn_fits c.turn_after-next.ensures touched page c.sync.result c.zero_area.result
     (g.D.Device.model c.args.disk.now) (g.D.Device.model c.sync.new.self) (g.D.Device.model c.zero_area.new.disk)
     (g.met.D.Device.is_disk c.args.disk.now) (g.met.D.Device.is_disk c.sync.new.self) (g.met.D.Device.is_disk c.zero_area.new.disk)
-    placed c.sync.ensures.syncs c.sync.ensures.ticks c.log_place.result c.log_place.ensures c.zero_area.ensures.moments c.zero_area.ensures.place
+    placed c.sync.ensures.syncs c.sync.ensures.ticks c.log_start.result c.log_start.ensures c.zero_area.ensures.moments c.zero_area.ensures.place
     (omega (arith, c.requires.room, c.sync.ensures.ticks.size, c.zero_area.ensures.place.size)) c.in_ok-zero_area.ensures.durable c.in_ok-zero_area.ensures.zeroed in
-    cleared_ready c.args.turn c.turn_after-next.result c.args.meta.now c.requires.legal.turn_fits c.turn_after-next.ensures touched page
+    cleared_ready c.args.turn c.turn_after-next.result said c.args.meta.now c.requires.legal.turn_fits c.turn_after-next.ensures touched page
     mid new (g.met.D.Device.is_disk c.zero_area.new.disk) (g.met.D.Device.is_disk c.clear_hidden.new.disk)
-    zeroed c.clear_hidden.ensures.place (c.clear_hidden.ensures.moments turn meta c.turn_after-next.ensures zeroed.placed.here.places)
+    zeroed c.clear_hidden.ensures.place (c.clear_hidden.ensures.moments turn said c.turn_after-next.ensures zeroed.placed.here.places)
     hidden (synced zeroed.placed.here.places) durable)
     c.clear_hidden.ensures.hidden (on_ok_given c.clear_hidden.result (IsSynced mid 0 8192) (IsSynced new 0 8192) c.clear_hidden.ensures.synced) c.clear_hidden.ensures.durable
 
@@ -64,7 +65,7 @@ pub returns-in_err-zero_area-clause-beyond : goal.returns-in_err-zero_area-claus
 returns-in_err-zero_area-clause-beyond g c =
     beyond_then (file_size c.args.meta.now) (g.D.Device.model c.args.disk.now) (g.D.Device.model c.sync.new.self) (g.D.Device.model c.zero_area.new.disk)
     (beyond_sync c.sync.result (file_size c.args.meta.now) (g.D.Device.model c.args.disk.now) (g.D.Device.model c.sync.new.self) (g.met.D.Device.is_disk c.args.disk.now) c.sync.ensures.syncs c.sync.ensures.ticks)
-    (beyond_log c.turn_after-next.result c.log_place.result c.args.meta.now (g.D.Device.model c.sync.new.self) (g.D.Device.model c.zero_area.new.disk) c.log_place.ensures c.zero_area.ensures.place)
+    (beyond_log c.turn_after-next.result c.log_start.result c.args.meta.now (g.D.Device.model c.sync.new.self) (g.D.Device.model c.zero_area.new.disk) c.log_start.ensures c.zero_area.ensures.place)
 
 pub returns-clause-beyond : goal.returns-clause-beyond
 returns-clause-beyond g c =
@@ -76,5 +77,5 @@ returns-clause-beyond g c =
     beyond_then n d two new
     (beyond_then n d one two
     (beyond_sync c.sync.result n d one (g.met.D.Device.is_disk c.args.disk.now) c.sync.ensures.syncs c.sync.ensures.ticks)
-    (beyond_log c.turn_after-next.result c.log_place.result c.args.meta.now one two c.log_place.ensures c.zero_area.ensures.place))
+    (beyond_log c.turn_after-next.result c.log_start.result c.args.meta.now one two c.log_start.ensures c.zero_area.ensures.place))
     (beyond_body c.turn_after-next.result c.args.meta.now two new c.clear_hidden.ensures.place)

@@ -4,6 +4,7 @@ use Rattle.std.specs.BTreeMap.{get}
 use Rattle.hb_disk.specs.RunLaws.{if_value, on_ok_weaker}
 use Rattle.hb_super.specs.Superblocks.{next_turn}
 use Rattle.hb_frag.specs.declared.pages.Page.{Page}
+use Rattle.hb_layout.specs.declared.meta.Meta.{Meta}
 use Rattle.hb_ops.specs.Files.{FileState}
 use Rattle.hb_store.specs.Opening.{OpensTo}
 use Rattle.hb_store.specs.Keeps.{IsFresh}
@@ -11,7 +12,7 @@ use Rattle.hbpi.specs.OnePage.{lone}
 use Rattle.hbpi.specs.Looking.{IsFoundIn}
 use Rattle.hbpi.specs.Renewing.{IsHere}
 use Rattle.hbpi.proofs.SyncedRuns.{synced_even, synced_late, synced_time, synced_renewed}
-use Rattle.hb_store.specs.Opening.{file_size}
+use Rattle.hb_layout.specs.Offsets.{file_size}
 use Rattle.hbpi.proofs.Beyond.{beyond_sync, beyond_then}
 use Rattle.hbpi.proofs.restart.renewal.renew.Goals as goal
 
@@ -48,7 +49,7 @@ returns-clause-renewed g c =
     let meta = c.args.found.now.meta in
     let touched = get nat_cmp c.args.found.now.touched.pages 1 in
     let count = c.args.found.now.count in
-    on_ok_weaker c.rewrite.result ((page : Page) → IsHere mid turn meta touched page → IsFresh new (next_turn turn) meta (lone meta page))
+    on_ok_weaker c.rewrite.result ((said : Meta) (page : Page) → IsHere mid turn said meta touched page → IsFresh new (next_turn turn) meta (lone meta page))
     (IfSome d.told (λ b. IsFoundIn b turn meta touched count → (s : FileState) → OpensTo b s → IsFresh new (next_turn turn) meta s × ((x : List ℕ) → new.ImageSince (d.clock + 1) x → OpensTo x s)))
     (synced_renewed c.sync.result c.in_ok-sync.field-0 c.in_ok-sync.was d mid new (g.met.D.Device.is_disk c.args.disk.now)
     c.sync.ensures.syncs c.sync.ensures.ticks turn meta touched count c.an_image_opens_to_one_file.ensures.one c.rewrite.ensures.moments)

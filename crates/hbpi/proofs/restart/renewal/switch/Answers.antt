@@ -2,38 +2,39 @@ use Rattle.std.proofs.Common.{◌≡◌, ℕ, List, IfSome, Option}
 use Rattle.hb_disk.specs.RunLaws.{Leaves-weaker, Leaves-then}
 use Rattle.hb_super.specs.Superblocks.{IsNewest, next_turn}
 use Rattle.hb_frag.specs.declared.pages.Page.{Page}
+use Rattle.hb_layout.specs.declared.meta.Meta.{Meta}
 use Rattle.hb_store.specs.Opening.{OpensTo}
 use Rattle.hb_store.specs.Keeps.{IsFresh}
 use Rattle.hbpi.specs.OnePage.{lone}
 use Rattle.hbpi.specs.Renewing.{StillOpens, IsPlaced}
 use Rattle.hbpi.proofs.Renewed.{still_to, super_moments, super_fresh}
-use Rattle.hbpi.proofs.RunSteps.{on_ok_two, size_after}
-use Rattle.hb_store.specs.Opening.{file_size}
+use Rattle.hbpi.proofs.RunSteps.{on_ok_each, on_ok_two, size_after}
+use Rattle.hb_layout.specs.Offsets.{file_size}
 use Rattle.hbpi.proofs.Beyond.{beyond_super, beyond_then}
 use Rattle.hbpi.proofs.restart.renewal.switch.Goals as goal
 
 pub returns-in_err-make_room-clause-moments : goal.returns-in_err-make_room-clause-moments
-returns-in_err-make_room-clause-moments g c = λ touched page placed.
+returns-in_err-make_room-clause-moments g c = λ said touched page placed.
     let d = g.D.Device.model c.args.disk.now in
     let mid = g.D.Device.model c.make_room.new.disk in
     let turn = c.args.turn in
     let meta = c.args.meta.now in
-    Leaves-weaker d mid (StillOpens turn meta touched page) (λ x. OpensTo x (lone meta page)) (still_to turn meta touched page) (c.make_room.ensures.moments touched page placed)
+    Leaves-weaker d mid (StillOpens turn said meta touched page) (λ x. OpensTo x (lone meta page)) (still_to turn said meta touched page) (c.make_room.ensures.moments said touched page placed)
 
 pub returns-clause-moments : goal.returns-clause-moments
-returns-clause-moments g c = λ touched page placed.
+returns-clause-moments g c = λ said touched page placed.
     let d = g.D.Device.model c.args.disk.now in
     let mid = g.D.Device.model c.make_room.new.disk in
     let new = g.D.Device.model c.write_super.new.disk in
     let turn = c.args.turn in
     let next = c.turn_after.result in
     let meta = c.args.meta.now in
-    let ready = c.in_ok-make_room.ensures.ready touched page placed in
+    let ready = c.in_ok-make_room.ensures.ready said touched page placed in
     Leaves-then d mid new (λ x. OpensTo x (lone meta page))
-    (Leaves-weaker d mid (StillOpens turn meta touched page) (λ x. OpensTo x (lone meta page)) (still_to turn meta touched page) (c.make_room.ensures.moments touched page placed))
-    (super_moments turn next meta c.requires.legal.turn_fits c.turn_after.ensures touched page mid new (g.met.D.Device.is_disk c.make_room.new.disk) ready
+    (Leaves-weaker d mid (StillOpens turn said meta touched page) (λ x. OpensTo x (lone meta page)) (still_to turn said meta touched page) (c.make_room.ensures.moments said touched page placed))
+    (super_moments turn next said meta c.requires.legal.turn_fits c.turn_after.ensures touched page mid new (g.met.D.Device.is_disk c.make_room.new.disk) ready
     (size_after c.make_room.result 5 d mid c.make_room.ensures.run c.requires.room) c.requires.one
-    (c.write_super.ensures.moments turn meta c.turn_after.ensures ready.placed.here.places))
+    (c.write_super.ensures.moments turn said c.turn_after.ensures ready.placed.here.places))
 
 pub returns-clause-fresh : goal.returns-clause-fresh
 returns-clause-fresh g c =
@@ -44,13 +45,13 @@ returns-clause-fresh g c =
     let next = c.turn_after.result in
     let meta = c.args.meta.now in
     on_ok_two c.write_super.result (IfSome new.told (λ b. (x : List ℕ) → new.Image x → x ≡ b))
-    (IfSome mid.told (λ b. IsNewest b turn meta → IfSome new.told (λ x. IsNewest x next meta)))
-    ((touched : Option Page) (page : Page) → IsPlaced d turn meta touched page → IsFresh new (next_turn turn) meta (lone meta page))
-    (λ durable newest touched page placed.
-    super_fresh turn next meta c.requires.legal.turn_fits c.turn_after.ensures touched page mid new (g.met.D.Device.is_disk c.make_room.new.disk)
-    (c.in_ok-make_room.ensures.ready touched page placed) (size_after c.make_room.result 5 d mid c.make_room.ensures.run c.requires.room) c.requires.one
-    (g.met.D.Device.is_disk c.write_super.new.disk) c.write_super.ensures.place durable newest)
-    c.write_super.ensures.durable (c.write_super.ensures.newest turn meta c.turn_after.ensures)
+    ((said : Meta) → IfSome mid.told (λ b. IsNewest b turn said → IfSome new.told (λ x. IsNewest x next meta)))
+    ((said : Meta) (touched : Option Page) (page : Page) → IsPlaced d turn said meta touched page → IsFresh new (next_turn turn) meta (lone meta page))
+    (λ durable newest said touched page placed.
+    super_fresh turn next said meta c.requires.legal.turn_fits c.turn_after.ensures touched page mid new (g.met.D.Device.is_disk c.make_room.new.disk)
+    (c.in_ok-make_room.ensures.ready said touched page placed) (size_after c.make_room.result 5 d mid c.make_room.ensures.run c.requires.room) c.requires.one
+    (g.met.D.Device.is_disk c.write_super.new.disk) c.write_super.ensures.place durable (newest said))
+    c.write_super.ensures.durable (on_ok_each c.write_super.result (λ (said : Meta). IfSome mid.told (λ b. IsNewest b turn said → IfSome new.told (λ x. IsNewest x next meta))) (λ said. c.write_super.ensures.newest turn said c.turn_after.ensures))
 
 pub returns-clause-beyond : goal.returns-clause-beyond
 returns-clause-beyond g c =

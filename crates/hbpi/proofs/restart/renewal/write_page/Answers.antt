@@ -12,9 +12,9 @@ returns-clause-there g c =
     let new = g.D.Device.model c.write.new.self in
     let meta = c.args.meta.now in
     let bytes = c.encode.new.into in
-    on_ok_weaker c.write.result (IfSome d.told (λ b. new.told ≡ Some (overwritten b c.page_place.result bytes)))
+    on_ok_weaker c.write.result (IfSome d.told (λ b. new.told ≡ Some (overwritten b c.page_offset.result bytes)))
     ((b : List ℕ) → new.told ≡ Some b → SpellsPage (place_bytes meta 1 b) c.args.page.now)
-    (page_written d new (g.met.D.Device.is_disk c.args.disk.now) c.page_place.result bytes meta c.args.page.now c.page_place.ensures c.encode.ensures c.requires.room c.requires.some
+    (page_written d new (g.met.D.Device.is_disk c.args.disk.now) c.page_offset.result bytes meta c.args.page.now c.page_offset.ensures c.encode.ensures c.requires.room c.requires.some
     c.write.ensures.writes.silent)
     c.write.ensures.writes.written
 
@@ -24,6 +24,6 @@ returns-clause-place g c =
     let new = g.D.Device.model c.write.new.self in
     let meta = c.args.meta.now in
     let bytes = c.encode.new.into in
-    becomes_there d new c.page_place.result (length bytes) meta c.page_place.ensures c.encode.ensures.long
-    (Becomes-write c.write.result c.page_place.result bytes d new (g.met.D.Device.is_disk c.args.disk.now) (g.met.D.Device.is_disk c.write.new.self)
-    (omega (arith, c.page_place.ensures, c.encode.ensures.long, c.requires.room, c.requires.some)) c.write.ensures.writes c.write.ensures.ticks)
+    becomes_there d new c.page_offset.result (length bytes) meta c.page_offset.ensures c.encode.ensures.long
+    (Becomes-write c.write.result c.page_offset.result bytes d new (g.met.D.Device.is_disk c.args.disk.now) (g.met.D.Device.is_disk c.write.new.self)
+    (omega (arith, c.page_offset.ensures, c.encode.ensures.long, c.requires.room, c.requires.some)) c.write.ensures.writes c.write.ensures.ticks)
