@@ -7,8 +7,9 @@ use Rattle.hb_space.specs.Boxes.{Area, IsArea}
 use Rattle.hb_space.specs.declared.form.TheConstants.{KMAX}
 use Rattle.hb_space.specs.declared.records.Record.{Record}
 use Rattle.hb_frag.specs.Grammar.{FitsRecord, point_bytes, record_bytes}
-use Rattle.hb_page_codec.specs.Exact.{BytesAreExact, NumbersAreExact, PointsAreExact, BoxesAreExact, RecordsAreExact}
+use Rattle.hb_page_codec.specs.Exact.{BytesAreExact, NumbersAreExact, PointsAreExact, BoxesAreExact, RecordsAreExact, PagesAreExact}
 use Rattle.hb_page_codec.specs.Reading.{area_at, byte_at, number_at, point_at, record_at}
+use Rattle.hb_page_codec.proofs.PageLaws.{page_takes, page_again}
 use Rattle.hb_page_codec.proofs.Fields.{IsWide, wide_4, wide_8, byte_takes, number_takes, number_again, point_takes, point_again, area_takes, area_again, record_takes, record_again}
 
 pub bytes_exact : BytesAreExact
@@ -46,3 +47,6 @@ records_exact k = record {
   takes = λ bytes x fits e. let t = record_takes k bytes x fits e in (t.0.parts, t.1);
   again = λ x rest fits. record_again k x rest fits;
 }
+
+pub pages_exact : PagesAreExact
+pages_exact bytes page fits = (λ read. page_takes bytes page fits read, λ spelled. page_again bytes page spelled)

@@ -1,10 +1,11 @@
 -- Readers that are exact: what they give is what was spelled, and what was spelled is read again.
-use Rattle.std.specs.Prelude.{◌≡◌, ℕ, ◌^◌, ◌<◌, ◌≤◌, List, ◌∷◌, [], ◌++◌, length, get_or, All, Option, Some}
+use Rattle.std.specs.Prelude.{◌≡◌, ◌↔◌, ℕ, ◌^◌, ◌<◌, ◌≤◌, List, ◌∷◌, [], ◌++◌, length, get_or, All, Option, Some}
 use Rattle.hb_space.specs.Boxes.{Area, IsArea}
 use Rattle.hb_space.specs.declared.form.TheConstants.{KMAX}
-use Rattle.hb_frag.specs.Grammar.{FitsRecord, point_bytes, record_bytes}
+use Rattle.hb_frag.specs.declared.pages.Page.{Page}
+use Rattle.hb_frag.specs.Grammar.{FitsRecord, SpellsPage, point_bytes, record_bytes}
 use Rattle.hb_outside.specs.Numbers.{big_endian}
-use Rattle.hb_page_codec.specs.Reading.{area_at, byte_at, number_at, point_at, record_at}
+use Rattle.hb_page_codec.specs.Reading.{area_at, byte_at, number_at, page_at, point_at, record_at}
 
 -- each number of the list is a byte
 abbrev pub AreBytes : List ℕ → Type 0
@@ -30,3 +31,7 @@ BoxesAreExact = (k : ℕ) → 0 < k → k ≤ KMAX → IsExact (area_at k) (λ a
 
 abbrev pub RecordsAreExact : Type 0
 RecordsAreExact = (k : ℕ) → IsExact (record_at k) record_bytes (FitsRecord k)
+
+-- what bytes are read as is the page that they spell
+abbrev pub PagesAreExact : Type 0
+PagesAreExact = (bytes : List ℕ) (page : Page) → AreBytes bytes → (page_at bytes ≡ Some page) ↔ SpellsPage bytes page
