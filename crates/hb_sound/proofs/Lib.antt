@@ -61,3 +61,4 @@ mod LeafBridge
 mod CoverBridge
 mod LateRules
 mod WholeAudit
+mod NamesOnce

@@ -58,3 +58,7 @@ IsSoundWith meta told records = IsWholeFile meta told × IsSound (file_of meta t
 -- a sound file breaks no rule
 abbrev pub SoundBreaksNone : Type 0
 SoundBreaksNone = (meta : Meta) (told : List (Option Page)) (id rule : ℕ) → Names meta told id rule → IsWholeFile meta told → IsSound (file_of meta told) → ⊥
+
+-- of the rules that a file breaks one is named first, for one page
+abbrev pub OneIsNamed : Type 0
+OneIsNamed = (s : FileState) (page other rule another : ℕ) → NamesIn s page rule → NamesIn s other another → (page ≡ other) × (rule ≡ another)

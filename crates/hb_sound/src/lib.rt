@@ -22,5 +22,5 @@ mod pages;
 mod tests;
 mod threads;
 
-pub use audits::{a_sound_file_breaks_no_rule, audit};
+pub use audits::{a_sound_file_breaks_no_rule, audit, one_rule_is_named};
 pub use pages::{AuditStop, PageStop, Pages};

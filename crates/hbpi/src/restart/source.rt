@@ -1,5 +1,5 @@
 //! Where the audit has the pages of a file from, which has at most one.
-ghost use Rattle.std.specs.Prelude.{◌≡◌, ◌≤◌, Some, IfOk};
+ghost use Rattle.std.specs.Prelude.{◌≡◌, ◌≤◌, Some, IfOk, Unit, tt};
 ghost use Rattle.hb_space.specs.declared.form.TheConstants.{PAGE};
 ghost use Rattle.hbpi.specs.Looking.{page_weight, told_one};
 
@@ -45,6 +45,10 @@ impl Pages for FirstPage {
     ghost told = { λ s. Some (told_one s.page) };
 
     ghost faults = { λ _. 0 };
+
+    ghost asked = { λ _ _. Unit {0} };
+    ghost asked_none = { λ _. tt };
+    ghost asked_on = { λ _ _ _ _ _. tt };
 
     fn page(&mut self, id: u32) -> Result<Option<Page>, PageStop> {
         match &self.page {
