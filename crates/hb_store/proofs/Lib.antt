@@ -24,3 +24,4 @@ pub mod OneKept
 pub mod Replays
 pub mod Touches
 mod OnePage
+pub mod Untold

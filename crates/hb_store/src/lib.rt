@@ -43,6 +43,8 @@ mod stops;
 mod store;
 mod threads;
 mod touched;
+#[cfg(test)]
+mod tree_tests;
 
 pub use image_laws::an_image_opens_to_one_file;
 pub use laws::{a_store_keeps_one_file, an_image_of_a_store_opens};
