@@ -19,11 +19,11 @@ ghost use Rattle.hb_restart.specs.declared.faults.OpenFault.TheVariants.{DiskFau
 use crate::faults::OpenFault;
 use crate::layout::{Layout, empty_page};
 use hb_disk::Device;
+use hb_layout::{log_start, page_offset};
 use hb_ops::Meta;
 use hb_outside::Failed;
 use hb_page_codec::encode;
 use hb_space::form::PAGE;
-use hb_layout::{log_start, page_offset};
 use hb_store::Store;
 use hb_super::write_first_super;
 use hb_wal::zero_area;

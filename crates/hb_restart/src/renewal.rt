@@ -23,11 +23,11 @@ ghost use Rattle.hb_restart.specs.Renewing.{StillOpens, IsHere, IsPlaced, IsPlac
 use crate::looking::Found;
 use hb_disk::{Device, DiskFault};
 use hb_frag::Page;
+use hb_layout::{log_start, page_offset};
 use hb_ops::Meta;
 use hb_outside::Failed;
 use hb_page_codec::encode;
 use hb_space::form::PAGE;
-use hb_layout::{log_start, page_offset};
 use hb_store::{Touched, an_image_opens_to_one_file};
 use hb_super::{clear_hidden, write_super};
 use hb_wal::zero_area;
