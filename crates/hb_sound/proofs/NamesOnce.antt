@@ -55,10 +55,10 @@ same_walk next seen (id ∷ rest) (name ∷ more) head end last once twice new f
     let L : ℕ → Type 0 = λ n. LeadsAlong next n rest end in
     let S : ℕ → Type 0 = λ n. seen n ⊎ (n ≡ id) in
     let behind = same_walk next S rest more also.1 end last once.1 twice.1
-        (λ n there met. elim met [ inl before ↦ new n (later id rest n there) before | inr is ↦ once.0 (subst (Contains rest) is there) ])
-        (λ n there met. elim met [ inl before ↦ fresh n (later name more n there) before | inr is ↦ twice.0 (subst (Contains more) (is ∙ same) there) ])
-        (subst L following leads.3) also.3 (ends_behind next seen id rest end ended)
-        (let E : ℕ → Type 0 = λ n. seen last ⊎ Contains (n ∷ more) last ⊎ (next last ≡ None) in ends_behind next seen id more last (subst E (sym same) stopped)) in
+    (λ n there met. elim met [ inl before ↦ new n (later id rest n there) before | inr is ↦ once.0 (subst (Contains rest) is there) ])
+    (λ n there met. elim met [ inl before ↦ fresh n (later name more n there) before | inr is ↦ twice.0 (subst (Contains more) (is ∙ same) there) ])
+    (subst L following leads.3) also.3 (ends_behind next seen id rest end ended)
+    (let E : ℕ → Type 0 = λ n. seen last ⊎ Contains (n ∷ more) last ⊎ (next last ≡ None) in ends_behind next seen id more last (subst E (sym same) stopped)) in
     (ap (λ (n : ℕ). n ∷ rest) same ∙ ap (λ (l : List ℕ). name ∷ l) behind.0, behind.1)
 
 -- a page breaks one rule first
@@ -135,7 +135,7 @@ module _ (s : FileState) where
   same_free : (p q : ℕ) → NamesFree s p → NamesFree s q → p ≡ q
   same_free p q (chain, end, walk, names) (other, last, also, more) =
       let same = same_walk (next_free s) (λ id. ⊥) chain other s.meta.free end last walk.once also.once (λ id there. λ none. none) (λ id there. λ none. none)
-          walk.leads also.leads (inr walk.ended) (inr also.ended) in
+      walk.leads also.leads (inr walk.ended) (inr also.ended) in
       by (subst (λ (l : List ℕ). IsLeast (IsLeftOut (next_free s) l) p ⊎ ((p ≡ end) × ((id : ℕ) → ¬ (IsLeftOut (next_free s) l id)))) same.0 names) more same.1
     where
       by : IsLeast (IsLeftOut (next_free s) other) p ⊎ ((p ≡ end) × ((id : ℕ) → ¬ (IsLeftOut (next_free s) other id)))

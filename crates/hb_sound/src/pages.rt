@@ -31,7 +31,9 @@ pub trait Pages {
 
     /// What it may be after some of its pages were asked for, from what it was before.
     ghost asked: { Self → Self → Type 0 };
+
     ghost asked_none: { (pages : Self) → asked pages pages };
+
     ghost asked_on: { (first then last : Self) → asked first then → asked then last → asked first last };
 
     /// The page of this number. `None` says that the bytes in its place are no page.

@@ -131,7 +131,9 @@ impl Pages for KeptPages {
     ghost faults = { λ _. 0 };
 
     ghost asked = { λ _ _. Unit {0} };
+
     ghost asked_none = { λ _. tt };
+
     ghost asked_on = { λ _ _ _ _ _. tt };
 
     fn page(&mut self, id: u32) -> Result<Option<Page>, PageStop> {

@@ -13,7 +13,8 @@ use Rattle.hb_layout.specs.Offsets.{file_size, log_start}
 use Rattle.hb_store.specs.declared.stops.FetchStop.{FetchStop}
 use Rattle.hb_store.specs.declared.stops.FetchStop.TheVariants as fetches
 use Rattle.hb_store.specs.declared.stops.StopWhy.TheVariants.{WriteFault}
-use Rattle.hbpi.specs.Beyond.{KeepsBeyond, StaysInLog}
+use Rattle.hb_restart.specs.Beyond.{KeepsBeyond}
+use Rattle.hbpi.specs.Beyond.{StaysInLog}
 use Rattle.hbpi.specs.Core.{CoreState}
 use Rattle.hbpi.specs.Plans.{Acts, Does}
 use Rattle.hbpi.specs.Steps.{AnswersIt, Forced, ForcesOnce, GivesUp, TookNext, with_stop, with_store}

@@ -20,7 +20,7 @@ use Rattle.hbpi.specs.Driven.{IsScheduled, IsServedScript, RunsFrom, Drove, IsTu
 use Rattle.hbpi.specs.Ends.{Seen, IsRefused}
 use Rattle.hbpi.specs.Moves.{MovesOn, HasOrder, shown}
 use Rattle.hbpi.specs.Outcome.{GetsLine, fault_line}
-use Rattle.hbpi.specs.Restart.{IsOnePage}
+use Rattle.hbpi.specs.Starting.{IsOnePage}
 use Rattle.hbpi.specs.declared.drive.End.{End}
 use Rattle.hbpi.specs.declared.drive.End.TheVariants as ends
 use Rattle.hbpi.specs.declared.engine.session.Session.{Session}

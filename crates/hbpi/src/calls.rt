@@ -4,7 +4,7 @@ use crate::faults::put_fault;
 use crate::file_disk::FileDisk;
 use crate::files::{make_file, open_file};
 use crate::forms::Form;
-use crate::restart::layout::Layout;
+use hb_restart::Layout;
 use crate::statuses::Status;
 use crate::top::top;
 use hb_disk::{Disk, MemDisk};

@@ -2,7 +2,7 @@ ghost use Rattle.std.specs.Prelude.{◌≡◌, ◌≤◌, ◌++◌, [], length, 
 ghost use Rattle.hb_outside.specs.Streams.{Rose, Appends, AppendsFront};
 ghost use Rattle.hbpi.specs.Outcome.{rule_name, field_name, fault_line, GetsLine};
 
-use crate::restart::faults::Field;
+use hb_restart::Field;
 use crate::statuses::{Damage, Status};
 use arrayvec::ArrayVec;
 use hb_outside::Sink;

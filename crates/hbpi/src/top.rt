@@ -12,7 +12,7 @@ use crate::drive_file::drive_file;
 use crate::dry::{dry, refused};
 use crate::finished::Finished;
 use crate::forms::Form;
-use crate::restart::laws::{a_good_file_is_not_refused, bytes_are_refused_in_one_way};
+use crate::starting::{a_good_file_is_served, a_start_is_refused_in_one_way};
 use crate::statuses::Status;
 use hb_disk::Disk;
 use hb_outside::{Sink, Source};
@@ -83,8 +83,8 @@ pub fn top<S: Source, K: Sink, D: Disk>(
 {
     // Laws: bytes open to one file at most, and one that is good isn't refused; the others are in one way.
     an_image_opens_to_one_file();
-    a_good_file_is_not_refused();
-    bytes_are_refused_in_one_way();
+    a_good_file_is_served();
+    a_start_is_refused_in_one_way();
     match Form::of_words(words) {
         None => refused(alloc, Status::Usage, sink, disk),
         Some(Form::Dry { k }) => dry(alloc, k, source, sink, disk),

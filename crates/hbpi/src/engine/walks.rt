@@ -21,8 +21,8 @@ use crate::engine::session::{Outcome, Session};
 use crate::engine::state::Core;
 use hb_disk::Device;
 use hb_ops::{
-    Op, delete_takes_one_record, lone_page_has_no_others, puts_and_deletes_keep_a_file_sound,
-    put_adds_one_record, what_stands_is_in_the_contents,
+    Op, delete_takes_one_record, lone_page_has_no_others, put_adds_one_record,
+    puts_and_deletes_keep_a_file_sound, what_stands_is_in_the_contents,
 };
 use hb_set::{Command, Reply};
 use hb_store::{FetchStop, StopWhy, Store, Why};

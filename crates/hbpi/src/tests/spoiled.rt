@@ -47,9 +47,11 @@ const UNORDERED: [u8; 41] = [
 /// Where page 1 stands.
 const PAGE_1: usize = 139_264;
 
-/// Whether this was said, and the disk is untouched where it is a refusal.
+/// Whether this was said, and the disk is untouched where it is a refusal of the bytes. A file that is opened, and isn't
+/// served, begins its next turn first.
 fn is_right(left: &Left, want: &str) -> bool {
-    left.said.as_str() == want && (left.disk.clock() == 0 || want.starts_with('0'))
+    let may_write = want.starts_with('0') || want.starts_with("11");
+    left.said.as_str() == want && (left.disk.clock() == 0 || may_write)
 }
 
 #[test]

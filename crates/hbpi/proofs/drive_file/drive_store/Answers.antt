@@ -8,7 +8,7 @@ use Rattle.hbpi.specs.Outcome.{GetsLine, fault_line}
 use Rattle.hbpi.specs.declared.statuses.Status.{Status}
 use Rattle.hbpi.proofs.ScheduleRuns.{turned_away, away_on, source_kept, not_scheduled_ends}
 use Rattle.hb_layout.specs.Offsets.{file_size}
-use Rattle.hbpi.specs.Beyond.{KeepsBeyond}
+use Rattle.hb_restart.specs.Beyond.{KeepsBeyond}
 use Rattle.hbpi.proofs.Beyond.{beyond_none}
 use Rattle.hbpi.proofs.drive_file.drive_store.Goals as goal
 
