@@ -1,5 +1,7 @@
 -- What an audit's answer says of the bytes of a file that is opened.
 use Rattle.std.proofs.Common.{◌≡◌, inl, inr, ℕ, zero, suc, ◌+◌, ◌-◌, ◌*◌, ◌<◌, ◌≤◌, ◌^◌, List, [], ◌∷◌, length, take, drop, get_or, slice_get, All, Option, Some, None, IfSome, Result, Ok, Err, IfOk, IfErr, refl, sym, ap, subst, ◌∙◌, arith, length-take, length-drop}
+use Rattle.std.specs.Ordering.{nat_cmp}
+use Rattle.std.specs.BTreeMap.{BTreeMap, get}
 use Rattle.std.proofs.lemmas.Bool.{cases_lt}
 use Rattle.std.proofs.lemmas.List.{get_or-take, get_or-drop}
 use Rattle.std.proofs.lemmas.List.Elements.{All-get_or}
@@ -12,14 +14,18 @@ use Rattle.hb_page_codec.specs.Reading.{page_at}
 use Rattle.hb_ops.specs.Files.{FileState, file_records, page_of}
 use Rattle.hb_sound.specs.Marks.{HasMarks}
 use Rattle.hb_sound.specs.Names.{IsSoundWith, Names, NamesIn}
+use Rattle.hb_sound.specs.Stops.{OnBroken}
+use Rattle.hb_sound.specs.declared.pages.AuditStop.{AuditStop}
+use Rattle.hb_sound.specs.declared.pages.AuditStop.TheVariants as stops
 use Rattle.hb_sound.specs.Told.{IsHole, IsWholeFile, file_of, item_at, shown}
 use Rattle.hb_sound.specs.Walks.{IsLeast}
 use Rattle.hb_store.specs.Keeps.{IsSameLayout}
 use Rattle.hb_store.specs.Opening.{IsPageIn, Shows, place_bytes}
 use Rattle.hb_store.specs.Replay.{Replayed, untouched, replay}
-use Rattle.hb_restart.specs.Found.{IsFoundIn, IsReadIn, touched_pages}
+use Rattle.hb_restart.specs.Found.{IsFoundIn, IsReadIn, audit_fault, touched_pages}
 use Rattle.hb_restart.specs.Refusals.{HasLog, IsUnsound, LacksPage, Refuses}
-use Rattle.hb_restart.specs.Source.{or_else, page_there, pages_from}
+use Rattle.hb_restart.specs.Source.{or_else, page_there, pages_from, told_pages}
+use Rattle.hb_restart.specs.declared.faults.OpenFault.{OpenFault}
 use Rattle.hb_restart.specs.declared.faults.OpenFault.TheVariants as faults
 use Rattle.hb_restart.specs.declared.reading.LogRead.{LogRead}
 use Rattle.hb_restart.proofs.Numbered.{page_at-place, some_number}
@@ -39,7 +45,7 @@ front_bytes n bytes are i = elim (cases_lt i n) [
     beyond (suc n) (b ∷ bytes) (suc i) most = beyond n bytes i (omega (arith, most))
 
 pub place_is_bytes : (said : Meta) (id : ℕ) (b : List ℕ) → AreBytes b → AreBytes (place_bytes said id b)
-place_is_bytes said id b are = front_bytes 4096 (drop (8192 + 2 * said.log + 4096 * (id - 1)) b) (λ i. let e = get_or-drop b (8192 + 2 * said.log + 4096 * (id - 1)) i 0 in let there = are (8192 + 2 * said.log + 4096 * (id - 1) + i) in omega (arith, e, there))
+place_is_bytes said id b are = front_bytes 4096 (drop (8192 + 2 * said.log + 4096 * (id - 1)) b) (λ i. let e = get_or-drop (8192 + 2 * said.log + 4096 * (id - 1)) b i 0 in let there = are (8192 + 2 * said.log + 4096 * (id - 1) + i) in omega (arith, e, there))
 
 pub disk_bytes : (b : List ℕ) → All (λ x. x < 2 ^ 8) b → AreBytes b
 disk_bytes b all i = elim (cases_lt i (length b)) [
@@ -90,11 +96,15 @@ module _ (exact : PagesAreExact) (b : List ℕ) (are : AreBytes b) (said meta : 
 
   lacks_hole : (id : ℕ) → LacksPage b said t id → IsHole meta told id
   lacks_hole id (some, most, (inl beyond)) = let pages = same.pages in (some, omega (arith, most, high_is), inl (omega (arith, beyond, pages)))
-  lacks_hole id (some, most, (inr (none, spelled))) = (some, omega (arith, most, high_is), elim (cases_lt said.pages id) [
-    | inl beyond ↦ (let pages = same.pages in inl (omega (arith, beyond, pages)))
-    | inr inside ↦ inr (told_at page said.pages id some inside ∙ ap (λ (o : Option Page). Some o)
-        (ap (λ (o : Option Page). or_else o (page_at (place_bytes said id b))) (touched_is id ∙ none) ∙ none_at id (page_at (place_bytes said id b)) refl spelled))
-  ])
+  lacks_hole id (some, most, (inr (none, spelled))) = (
+    some,
+    omega (arith, most, high_is),
+    elim (cases_lt said.pages id) [
+      | inl beyond ↦ (let pages = same.pages in inl (omega (arith, beyond, pages)))
+      | inr inside ↦ inr (told_at page said.pages id some inside ∙ ap (λ (o : Option Page). Some o)
+          (ap (λ (o : Option Page). or_else o (page_at (place_bytes said id b))) (touched_is id ∙ none) ∙ none_at id (page_at (place_bytes said id b)) refl spelled))
+    ],
+  )
 
   -- the file that is told, where no page is lacked
   module _ (some : 1 ≤ meta.pages) (whole : IsWholeFile meta told) where
@@ -129,14 +139,14 @@ module _ (exact : PagesAreExact) (b : List ℕ) (are : AreBytes b) (said meta : 
 
 -- What the audit answers where the superblock and the log were read.
 module _ (exact : PagesAreExact) (b : List ℕ) (are : AreBytes b) (read : LogRead) (is : IsReadIn b read) (layout : IsLayout read.touched.meta) (same : IsSameLayout read.said read.touched.meta) where
-  abbrev meta : Meta
-  meta = read.touched.meta
+  abbrev says : Meta
+  says = read.touched.meta
 
-  abbrev touched : ℕ → Option Page
-  touched = touched_pages read.touched
+  abbrev log_has : ℕ → Option Page
+  log_has = touched_pages read.touched
 
-  abbrev told : List (Option Page)
-  told = pages_from (page_there b read.said touched) 1 read.said.pages
+  abbrev all : List (Option Page)
+  all = pages_from (page_there b read.said log_has) 1 read.said.pages
 
   abbrev last : Replayed
   last = replay (untouched read.said) is.log.groups
@@ -144,13 +154,13 @@ module _ (exact : PagesAreExact) (b : List ℕ) (are : AreBytes b) (read : LogRe
   log_read : HasLog b read.turn read.said is.log.groups
   log_read = record { payloads = is.log.payloads; framed = is.log.framed; spelled = is.log.spelled; replayed = is.log.replayed }
 
-  shows : IsWholeFile meta told → Shows b read.said last (file_of meta told)
-  shows whole = shows_told exact b are read.said meta same touched last is.log.meta_is is.log.pages_are layout.some_pages whole
+  shows_all : IsWholeFile says all → Shows b read.said last (file_of says all)
+  shows_all whole = shows_told exact b are read.said says same log_has last is.log.meta_is is.log.pages_are layout.some_pages whole
 
-  pub found_sound : (count : ℕ) → IsSoundWith meta told count → IsFoundIn b read.turn meta touched count
+  pub found_sound : (count : ℕ) → IsSoundWith says all count → IsFoundIn b read.turn says log_has count
   found_sound count sound = record {
     said = read.said;
-    file = file_of meta told;
+    file = file_of says all;
     opens = record {
       layout = same;
       meta_is = refl;
@@ -162,7 +172,7 @@ module _ (exact : PagesAreExact) (b : List ℕ) (are : AreBytes b) (read : LogRe
         framed = is.log.framed;
         spelled = is.log.spelled;
         replayed = is.log.replayed;
-        shows = shows sound.0;
+        shows = shows_all sound.0;
       };
       touched_is = λ id. sym (is.log.pages_are id);
     };
@@ -170,15 +180,39 @@ module _ (exact : PagesAreExact) (b : List ℕ) (are : AreBytes b) (read : LogRe
     counted = sound.2;
   }
 
-  pub names_unsound : (page rule : ℕ) → Names meta told page rule → Refuses (faults.Unsound page rule) b
+  pub names_unsound : (page rule : ℕ) → Names says all page rule → Refuses (faults.Unsound page rule) b
   names_unsound page rule names = (read.turn, read.said, is.has, is.log.groups, log_read, by names)
     where
-      lacks : (id : ℕ) → IsHole meta told id → LacksPage b read.said last id
-      lacks id hole = hole_lacks exact b are read.said meta same touched last is.log.meta_is is.log.pages_are id hole
+      lacks : (id : ℕ) → IsHole says all id → LacksPage b read.said last id
+      lacks id hole = hole_lacks exact b are read.said says same log_has last is.log.meta_is is.log.pages_are id hole
 
-      hole : (id : ℕ) → LacksPage b read.said last id → IsHole meta told id
-      hole id lacked = lacks_hole exact b are read.said meta same touched last is.log.meta_is is.log.pages_are id lacked
+      hole : (id : ℕ) → LacksPage b read.said last id → IsHole says all id
+      hole id lacked = lacks_hole exact b are read.said says same log_has last is.log.meta_is is.log.pages_are id lacked
 
-      by : Names meta told page rule → IsUnsound b read.said is.log.groups page rule
+      by : Names says all page rule → IsUnsound b read.said is.log.groups page rule
       by (inl (zero_rule, least)) = inl (zero_rule, record { here = lacks page least.here; least = λ id lacked. least.least id (hole id lacked) })
-      by (inr (whole, named)) = inr (λ id lacked. whole id (hole id lacked), file_of meta told, shows whole, named)
+      by (inr (whole, named)) = inr (λ id lacked. whole id (hole id lacked), file_of says all, shows_all whole, named)
+
+-- what an audit says of the file that was found, where the disk tells, and why it stops
+module _ (exact : PagesAreExact) (o : Option (List ℕ)) (are : (b : List ℕ) → o ≡ Some b → AreBytes b) (read : LogRead) (layout : IsLayout read.touched.meta) (same : IsSameLayout read.said read.touched.meta) where
+  pub found_ok : (count : ℕ) → IfSome (told_pages o read.said (touched_pages read.touched)) (λ told. IsSoundWith read.touched.meta told count) → (pages : BTreeMap ℕ Page) → pages ≡ read.touched.pages
+      → IfSome o (λ b. IsReadIn b read → IsFoundIn b read.turn read.touched.meta (get nat_cmp pages) count)
+  found_ok count sound pages is = by o are sound
+    where
+      by : (o : Option (List ℕ)) → ((b : List ℕ) → o ≡ Some b → AreBytes b) → IfSome (told_pages o read.said (touched_pages read.touched)) (λ told. IsSoundWith read.touched.meta told count)
+          → IfSome o (λ b. IsReadIn b read → IsFoundIn b read.turn read.touched.meta (get nat_cmp pages) count)
+      by None are sound = tt
+      by (Some b) are sound = λ there.
+          subst (λ (p : BTreeMap ℕ Page). IsFoundIn b read.turn read.touched.meta (get nat_cmp p) count) (sym is) (found_sound exact b (are b refl) read there layout same count sound)
+
+  pub named_err : (stop : AuditStop) → OnBroken (λ page rule. IfSome (told_pages o read.said (touched_pages read.touched)) (λ told. Names read.touched.meta told page rule)) stop
+      → (fault : OpenFault) → fault ≡ audit_fault stop → IfSome o (λ b. IsReadIn b read → Refuses fault b)
+  named_err stop names fault is = subst (λ (f : OpenFault). IfSome o (λ b. IsReadIn b read → Refuses f b)) (sym is) (by o are stop names)
+    where
+      by : (o : Option (List ℕ)) → ((b : List ℕ) → o ≡ Some b → AreBytes b) → (stop : AuditStop)
+          → OnBroken (λ page rule. IfSome (told_pages o read.said (touched_pages read.touched)) (λ told. Names read.touched.meta told page rule)) stop
+          → IfSome o (λ b. IsReadIn b read → Refuses (audit_fault stop) b)
+      by None are stop names = tt
+      by (Some b) are (stops.Broken page rule) names = λ there. names_unsound exact b (are b refl) read there layout same page rule names
+      by (Some b) are stops.Failed names = λ there. tt
+      by (Some b) are stops.NoMemory names = λ there. tt

@@ -5,6 +5,7 @@ pub mod Made
 pub mod Beyond
 pub mod RunSteps
 pub mod PageWrites
+pub mod PlaceReads
 pub mod Told
 pub mod Audited
 pub mod Renewed

@@ -59,7 +59,7 @@ module _ (old mid new : DiskModel) (reads : OnlyReads old mid) (turn : ℕ) (met
         → IfSome old.told (λ b. (s : FileState) × OpensTo b s × IsSound s × (count ≡ length (file_records s)) × K s)
     recovered_opened K keeps = if_value old.told (λ b. (s : FileState) × OpensTo b s × IsSound s × (count ≡ length (file_records s)) × K s) (λ b told.
         let here = found_at b told in
-        (lone meta here.page, found_to b turn meta touched count here, here.sound, here.counted, keeps here.file (fresh_at b told)))
+        (here.file, found_to b turn meta touched count here, here.sound, here.counted, keeps here.file (fresh_at b told)))
 
     -- the bytes open to no file that says anything else of itself
     pub recovered_meta : (said : Meta) → said ≡ meta → IfSome old.told (λ b. (s : FileState) → OpensTo b s → s.meta ≡ said)

@@ -1,11 +1,15 @@
 -- What the audit is told of a file that is opened.
-use Rattle.std.proofs.Common.{◌≡◌, ◌⊎◌, inl, inr, ℕ, zero, suc, ◌+◌, ◌<◌, ◌≤◌, List, [], ◌∷◌, length, take, slice_get, Option, Some, None, IfSome, refl, sym, ap, ◌∙◌, arith}
+use Rattle.std.proofs.Common.{◌≡◌, ◌⊎◌, inl, inr, ℕ, zero, suc, ◌+◌, ◌<◌, ◌≤◌, List, [], ◌∷◌, length, take, slice_get, Option, Some, None, IfSome, Result, Ok, Err, IfOk, refl, sym, ap, ◌∙◌, arith}
 use Rattle.hb_frag.specs.declared.pages.Page.{Page}
+use Rattle.hb_frag.specs.declared.pages.Page.TheVariants.{Live, Free}
 use Rattle.hb_layout.specs.declared.meta.Meta.{Meta}
 use Rattle.hb_page_codec.specs.Reading.{page_at}
-use Rattle.hb_sound.specs.Told.{GivesPage, item_at, shown}
+use Rattle.hb_page_codec.specs.Weight.{IsLight}
+use Rattle.hb_space.specs.declared.form.TheConstants.{PAGE}
+use Rattle.hb_sound.specs.Told.{CoversFile, GivesPage, item_at, shown}
+use Rattle.hb_store.specs.Keeps.{IsSameLayout}
 use Rattle.hb_store.specs.Opening.{place_bytes}
-use Rattle.hb_restart.specs.Source.{or_else, page_there, pages_from, told_pages}
+use Rattle.hb_restart.specs.Source.{or_else, page_there, page_weight, pages_from, told_pages}
 use Rattle.hb_restart.proofs.Numbered.{within}
 
 pub told_long : (page : ℕ → Option Page) (id n : ℕ) → length (pages_from page id n) ≡ n
@@ -50,6 +54,25 @@ pub gives_place : (o : Option (List ℕ)) (said : Meta) (touched : ℕ → Optio
 gives_place None said touched id page none read = tt
 gives_place (Some b) said touched id page none read = λ there e.
     read ∙ ap (λ (o : Option Page). or_else o (page_at (place_bytes said id b))) (sym none) ∙ (told_is (page_there b said touched) said.pages id there e).2
+
+pub gives_read : {E : Type 0} (r : Result (Option Page) E) (o : Option (List ℕ)) (said : Meta) (touched : ℕ → Option Page) (id : ℕ) → touched id ≡ None
+    → IfOk r (λ page. IfSome o (λ b. page ≡ page_at (place_bytes said id b))) → IfOk r (λ page. GivesPage (told_pages o said touched) id page)
+gives_read (Ok page) o said touched id none read = gives_place o said touched id page none read
+gives_read (Err e) o said touched id none read = tt
+
+-- every page that the file may have is told of
+pub covers : (o : Option (List ℕ)) (said meta : Meta) (touched : ℕ → Option Page) → IsSameLayout said meta → IfSome (told_pages o said touched) (CoversFile meta)
+covers None said meta touched same = tt
+covers (Some b) said meta touched same = let long = told_long (page_there b said touched) 1 said.pages in let pages = same.pages in omega (arith, long, pages)
+
+-- what a page weighs
+pub light_page : (page : Page) → page_weight page ≤ PAGE → IsLight page
+light_page (Live page) light = light
+light_page (Free next) light = tt
+
+pub weight_page : (page : Page) → IsLight page → page_weight page ≤ PAGE
+weight_page (Live page) light = light
+weight_page (Free next) light = omega arith
 
 -- the pages that are shown of a list without a hole
 pub shown_each : (list : List (Option Page)) → ((k : ℕ) → slice_get list k ≡ Some None → ⊥)

@@ -12,11 +12,10 @@ use crate::faults::OpenFault;
 use crate::reading::{LogRead, read_file};
 use crate::source::FilePages;
 use hb_disk::Device;
-use hb_ops::Meta;
-use hb_page_codec::laws::spelling_law;
-use hb_page_codec::laws::fields_are_read_exactly;
-use hb_sound::audit;
 use hb_frag::Page;
+use hb_ops::Meta;
+use hb_page_codec::laws::{fields_are_read_exactly, spelling_law};
+use hb_sound::audit;
 use std::alloc::Global;
 use std::collections::BTreeMap;
 
@@ -31,11 +30,7 @@ pub(crate) struct Found {
 }
 
 /// Audits the file that a log leads to. The pages that it touches are taken before those in their places.
-fn audited<D: Device>(
-    alloc: Global,
-    disk: D,
-    read: LogRead,
-) -> Result<(Found, D), (OpenFault, D)>
+fn audited<D: Device>(alloc: Global, disk: D, read: LogRead) -> Result<(Found, D), (OpenFault, D)>
     requires { IsWholeRead (D.model disk).size read }
     ensures found { IfOk result (λ r. IfSome (D.model disk).told (λ b. IsReadIn b read → IsFoundIn b r.0.turn r.0.meta (get nat_cmp r.0.touched) r.0.count)) }
     ensures whole { IfOk result (λ r. IsWhole (D.model disk).size r.0.turn r.0.meta) }

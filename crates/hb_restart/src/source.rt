@@ -114,7 +114,9 @@ impl<D: Device> Pages for FilePages<D> {
     ghost faults = { λ s. (D.model s.disk).read_faults };
 
     ghost asked = { λ s t. AsksOnly (D.model s.disk) (D.model t.disk) s.said t.said s.touched t.touched };
+
     ghost asked_none = { λ s. AsksOnly-none (D.model s.disk) s.said s.touched };
+
     ghost asked_on = { λ s t u. AsksOnly-then (D.model s.disk) (D.model t.disk) (D.model u.disk) s.said t.said u.said s.touched t.touched u.touched };
 
     fn page(&mut self, id: u32) -> Result<Option<Page>, PageStop> {

@@ -121,10 +121,16 @@ fn a_file_of_two_levels_opens(rt: HostRuntime) -> Result<(), Fail> {
     let (said, disk) = open(rt.alloc(), MemDisk::new(rt.alloc(), file(rt.alloc())?));
     assert_eq!(rt; said, GOOD);
     for (at, page) in PAGES {
-        let there = disk.bytes().get(at..).is_some_and(|rest| rest.starts_with(page));
+        let there = disk
+            .bytes()
+            .get(at..)
+            .is_some_and(|rest| rest.starts_with(page));
         assert!(rt; there, "{at}");
     }
-    let next = disk.bytes().get(4096..).is_some_and(|rest| rest.starts_with(&NEXT));
+    let next = disk
+        .bytes()
+        .get(4096..)
+        .is_some_and(|rest| rest.starts_with(&NEXT));
     assert!(rt; next);
     assert_eq!(rt; answer(rt.alloc(), disk.bytes().to_vec(rt.alloc())?), GOOD);
     Ok(())
@@ -157,10 +163,17 @@ fn a_failing_call_stops_an_opening(rt: HostRuntime) -> Result<(), Fail> {
     let (_, whole) = open(rt.alloc(), MemDisk::new(rt.alloc(), file(rt.alloc())?));
     for call in 0..whole.calls() {
         let calls = [call].to_vec(rt.alloc())?;
-        let (said, disk) = open(rt.alloc(), MemDisk::failing(rt.alloc(), file(rt.alloc())?, calls));
+        let (said, disk) = open(
+            rt.alloc(),
+            MemDisk::failing(rt.alloc(), file(rt.alloc())?, calls),
+        );
         assert_eq!(rt; said, Answer::Refused(OpenFault::DiskFault), "{call}");
         assert_eq!(rt; disk.calls(), call.saturating_add(1));
-        assert_eq!(rt; answer(rt.alloc(), disk.bytes().to_vec(rt.alloc())?), GOOD, "{call}");
+        assert_eq!(rt;
+            answer(rt.alloc(), disk.bytes().to_vec(rt.alloc())?),
+            GOOD,
+            "{call}"
+        );
     }
     Ok(())
 }
@@ -173,7 +186,14 @@ fn damaged_files(rt: HostRuntime) -> Result<(), Fail> {
         (9, &[2], OpenFault::NoSuper),
         (11, &[5], OpenFault::NoSuper),
         // more pages than the disk has room for
-        (16, &[5], OpenFault::Small { needed: 159_744, found: 155_648 }),
+        (
+            16,
+            &[5],
+            OpenFault::Small {
+                needed: 159_744,
+                found: 155_648,
+            },
+        ),
         // a frame without a payload, one whose operation reads a page that no group touched, and one that takes a page again
         (8193, &[0, 0, 0, 0], OpenFault::BadGroup { frame: 0 }),
         (12_333, &[4], OpenFault::BadGroup { frame: 1 }),
@@ -197,14 +217,23 @@ fn short_disks(rt: HostRuntime) -> Result<(), Fail> {
         let mut bytes = file(rt.alloc())?;
         bytes.truncate(size);
         let found = size as u64;
-        assert_eq!(rt; answer(rt.alloc(), bytes), Answer::Refused(OpenFault::Small { needed, found }));
+        assert_eq!(rt;
+            answer(rt.alloc(), bytes),
+            Answer::Refused(OpenFault::Small { needed, found })
+        );
     }
     Ok(())
 }
 
 #[test]
 fn a_new_file_opens(rt: HostRuntime) -> Result<(), Fail> {
-    let layout = Layout { k: 1, pages: 4, log: 65_536, dcap: 6, icap: 32 };
+    let layout = Layout {
+        k: 1,
+        pages: 4,
+        log: 65_536,
+        dcap: 6,
+        icap: 32,
+    };
     // of zeros, and of noise that is an open gate everywhere
     for byte in [0, 165] {
         let disk = MemDisk::new(rt.alloc(), vec![in rt.alloc(); byte; SIZE]?);

@@ -1,8 +1,8 @@
 //! Files that are made and driven. Places and bytes are worked out from `docs/FORMAT.md`.
 
 use super::{SIZE, drive_on, made, new_file, plain, put_at, run_on, run_over};
-use hb_restart::{Layout, create, recover};
 use hb_disk::{Disk, MemDisk};
+use hb_restart::{Layout, create, recover};
 use std::alloc::Global;
 
 /// Where the log area 1 of such a file begins.
