@@ -41,11 +41,11 @@ impl From<OpenFault> for StartFault {
     }
 }
 
-/// Whether the file has one page and one level at most.
-fn is_one_page(meta: &Meta) -> bool
-    ensures { IsTrue result ↔ IsOnePage meta.now }
+/// Whether the core serves a file: it has one page and one level at most, and its root is page 1.
+fn is_served(meta: &Meta) -> bool
+    ensures { IsTrue result ↔ ((meta.now.root ≡ 1) × IsOnePage meta.now) }
 {
-    meta.high <= 1 && meta.height <= 1
+    meta.root == 1 && meta.high <= 1 && meta.height <= 1
 }
 
 /// Opens the file of a disk, where the core serves it. `NotBuilt` comes once it is opened, and nothing else is done.
@@ -73,7 +73,7 @@ pub(crate) fn start<D: Device>(alloc: Global, disk: D) -> Result<Store<D>, (Star
     ensures later_after_fault { IfErr result (λ e. ((D.model disk).read_faults ≤ (D.model e.1).read_faults) × ((D.model disk).write_faults ≤ (D.model e.1).write_faults)) }
 {
     match recover(alloc, disk) {
-        Ok((store, _)) if is_one_page(store.meta()) => Ok(store),
+        Ok((store, _)) if is_served(store.meta()) => Ok(store),
         Ok((store, _)) => Err((StartFault::NotBuilt, store.into_disk())),
         Err((fault, disk)) => Err((StartFault::from(fault), disk)),
     }
