@@ -27,5 +27,5 @@ mod threads;
 
 pub use creation::create;
 pub use faults::{Field, OpenFault};
-pub use layout::Layout;
+pub use layout::{Layout, a_new_file_is_sound};
 pub use recovery::recover;

@@ -96,6 +96,7 @@ abbrev pub HasNotFailed : DiskModel → DiskModel → Type 0
 HasNotFailed d e = (e.read_faults ≡ d.read_faults) × (e.write_faults ≡ d.write_faults)
 
 -- The file wasn't opened, or is a larger one, and the source wasn't read. Over an even disk a crash leaves the same file.
+-- A larger one was opened first, and every image of now opens to it.
 pub record IsShutOut (d e : DiskModel) (seen : Seen) (fault : StartFault) : Type 0 where
   pub refused : IsRefused seen (start_status fault)
   pub unread : IsUnread seen
@@ -104,6 +105,7 @@ pub record IsShutOut (d e : DiskModel) (seen : Seen) (fault : StartFault) : Type
   pub failed : fault ≡ starts.Closed faults.DiskFault → HasFailed d e
   pub no_fault : ¬ (fault ≡ starts.Closed faults.DiskFault) → HasNotFailed d e
   pub unwritten : IsUnwrittenBy fault → OnlyReads d e
+  pub left : fault ≡ starts.NotBuilt → IfSome d.told (λ b. (s : FileState) × OpensTo b s × IsEven e s)
   pub even : (s : FileState) → IsEven d s → Leaves d e (λ c. OpensTo c s)
 
 -- The file was opened, over k attributes, and no command was done. Every image of now opens to the file; and over

@@ -4,7 +4,6 @@ pub mod Taking
 pub mod Outcome
 pub mod Ends
 pub mod Created
-pub mod OnePage
 pub mod Starting
 pub mod Core
 pub mod Beyond

@@ -41,11 +41,11 @@ impl From<OpenFault> for StartFault {
     }
 }
 
-/// Whether the file has one page and one level at most.
-fn is_one_page(meta: &Meta) -> bool
-    ensures { IsTrue result ↔ IsOnePage meta.now }
+/// Whether the core serves a file: it has one page and one level at most, and its root is page 1.
+fn is_served(meta: &Meta) -> bool
+    ensures { IsTrue result ↔ ((meta.now.root ≡ 1) × IsOnePage meta.now) }
 {
-    meta.high <= 1 && meta.height <= 1
+    meta.root == 1 && meta.high <= 1 && meta.height <= 1
 }
 
 /// Opens the file of a disk, where the core serves it. `NotBuilt` comes once it is opened, and nothing else is done.
@@ -59,6 +59,8 @@ pub(crate) fn start<D: Device>(alloc: Global, disk: D) -> Result<Store<D>, (Star
     // over an even disk every image since the call opens to the same file, also after a fault
     ensures even { IfOk result (λ st. (s : FileState) → IsEven (D.model disk) s → Leaves (D.model disk) (D.model (disk_of st)) (λ c. OpensTo c s)) }
     ensures even_after_fault { IfErr result (λ e. (s : FileState) → IsEven (D.model disk) s → Leaves (D.model disk) (D.model e.1) (λ c. OpensTo c s)) }
+    // a larger file is opened first, and every image of now opens to it
+    ensures left { IfErr result (λ e. e.0 ≡ starts.NotBuilt → IfSome (D.model disk).told (λ b. (s : FileState) × OpensTo b s × IsEven (D.model e.1) s)) }
     ensures shut { IfErr result (λ e. IsShutBy (D.model disk).size e.0) }
     ensures time { IfOk result (λ st. IsSome (D.model disk).told → (D.model disk).clock ≤ (D.model (disk_of st)).clock) }
     ensures said { IfOk result (λ st. IfSome (D.model disk).told (λ b. (turn : ℕ) (said : Said) → IsNewest b turn said → IsSameLayout said (seen_as st).meta)) }
@@ -71,7 +73,7 @@ pub(crate) fn start<D: Device>(alloc: Global, disk: D) -> Result<Store<D>, (Star
     ensures later_after_fault { IfErr result (λ e. ((D.model disk).read_faults ≤ (D.model e.1).read_faults) × ((D.model disk).write_faults ≤ (D.model e.1).write_faults)) }
 {
     match recover(alloc, disk) {
-        Ok((store, _)) if is_one_page(store.meta()) => Ok(store),
+        Ok((store, _)) if is_served(store.meta()) => Ok(store),
         Ok((store, _)) => Err((StartFault::NotBuilt, store.into_disk())),
         Err((fault, disk)) => Err((StartFault::from(fault), disk)),
     }

@@ -2,7 +2,7 @@ ghost use Rattle.std.specs.Prelude.{◌≡◌, ◌⊎◌, ℕ, ◌≤◌, ◌↔
 ghost use Rattle.hb_ops.specs.Files.{FileState};
 ghost use Rattle.hb_ops.specs.Sound.{IsSound};
 ghost use Rattle.hb_store.specs.Opening.{IsEven, OpensTo};
-ghost use Rattle.hbpi.specs.Restart.{new_file};
+ghost use Rattle.hb_restart.specs.NewFiles.{new_file};
 ghost use Rattle.hbpi.specs.Forms.{form_of, IsUnbuilt};
 ghost use Rattle.hbpi.specs.Ends.{seen_by, HasMade, IsComplete, IsMadeWhole, RefusesBadText, NamesBadLine, UsesNoDisk};
 ghost use Rattle.hbpi.specs.Runs.{RunEnds, IsDriven, LeavesBeyond, LeavesUnmade, KeepsPromise, NamesScheduleLine, RefusesFile, disk_seen};

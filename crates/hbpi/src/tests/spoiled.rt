@@ -1,4 +1,4 @@
-//! Files that are damaged or cut short. Nothing is written to any of them.
+//! Files that are damaged or cut short, and a larger one. Nothing is written to those that are refused for their bytes.
 
 use super::{Left, drive_on, new_file, put_at};
 use hb_disk::Disk;

@@ -61,6 +61,7 @@ returns-in-Err-clause-ends g c =
       failed = facts.cause;
       no_fault = facts.no_fault_refused;
       unwritten = facts.unwritten;
+      left = facts.left;
       even = facts.even_after_fault;
     } in
     subst (λ (x : g.row.D.Denot). DriveCommandEnds d (M x) seen c.refused.result.status) (sym c.refused.ensures.disk) (inl (fault, status, out))
