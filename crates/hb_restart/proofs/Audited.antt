@@ -23,8 +23,8 @@ use Rattle.hb_store.specs.Keeps.{IsSameLayout}
 use Rattle.hb_store.specs.Opening.{IsPageIn, Shows, place_bytes}
 use Rattle.hb_store.specs.Replay.{Replayed, untouched, replay}
 use Rattle.hb_restart.specs.Found.{IsFoundIn, IsReadIn, audit_fault, touched_pages}
-use Rattle.hb_restart.specs.Refusals.{HasLog, IsUnsound, LacksPage, Refuses}
-use Rattle.hb_restart.specs.Source.{or_else, page_there, pages_from, told_pages}
+use Rattle.hb_restart.specs.Refusals.{LogSays, IsUnsound, LacksPage, Refuses}
+use Rattle.hb_restart.specs.Source.{touched_or, page_there, pages_from, told_pages}
 use Rattle.hb_restart.specs.declared.faults.OpenFault.{OpenFault}
 use Rattle.hb_restart.specs.declared.faults.OpenFault.TheVariants as faults
 use Rattle.hb_restart.specs.declared.reading.LogRead.{LogRead}
@@ -81,7 +81,7 @@ module _ (exact : PagesAreExact) (b : List ℕ) (are : AreBytes b) (said meta : 
   is_in : (id : ℕ) (p : Page) → page id ≡ Some p → IsPageIn b said id (t.page id) p
   is_in id p there = subst (λ (o : Option Page). IsPageIn b said id o p) (touched_is id) (by (touched id) there)
     where
-      by : (o : Option Page) → or_else o (page_at (place_bytes said id b)) ≡ Some p → IsPageIn b said id o p
+      by : (o : Option Page) → touched_or o (page_at (place_bytes said id b)) ≡ Some p → IsPageIn b said id o p
       by None there = spelled_at id p there
       by (Some q) there = let is : Some q ≡ Some p = there in cc (is)
 
@@ -90,7 +90,7 @@ module _ (exact : PagesAreExact) (b : List ℕ) (are : AreBytes b) (said meta : 
   hole_lacks id (some, most, (inl beyond)) = let pages = same.pages in (some, omega (arith, most, high_is), inl (omega (arith, beyond, pages)))
   hole_lacks id (some, most, (inr none)) = (some, omega (arith, most, high_is), inr (by (touched id) refl (told_is page said.pages id None none).2))
     where
-      by : (o : Option Page) → touched id ≡ o → or_else o (page_at (place_bytes said id b)) ≡ None → (t.page id ≡ None) × ((p : Page) → SpellsPage (place_bytes said id b) p → ⊥)
+      by : (o : Option Page) → touched id ≡ o → touched_or o (page_at (place_bytes said id b)) ≡ None → (t.page id ≡ None) × ((p : Page) → SpellsPage (place_bytes said id b) p → ⊥)
       by (Some q) is e = absurd (let never : Some q ≡ None = e in cc)
       by None is e = (sym (touched_is id) ∙ is, λ p spells. let read = (exact (place_bytes said id b) p (place_is_bytes said id b are)).1 spells in let never : None ≡ Some p = sym e ∙ read in cc (never))
 
@@ -102,7 +102,7 @@ module _ (exact : PagesAreExact) (b : List ℕ) (are : AreBytes b) (said meta : 
     elim (cases_lt said.pages id) [
       | inl beyond ↦ (let pages = same.pages in inl (omega (arith, beyond, pages)))
       | inr inside ↦ inr (told_at page said.pages id some inside ∙ ap (λ (o : Option Page). Some o)
-          (ap (λ (o : Option Page). or_else o (page_at (place_bytes said id b))) (touched_is id ∙ none) ∙ none_at id (page_at (place_bytes said id b)) refl spelled))
+          (ap (λ (o : Option Page). touched_or o (page_at (place_bytes said id b))) (touched_is id ∙ none) ∙ none_at id (page_at (place_bytes said id b)) refl spelled))
     ],
   )
 
@@ -151,7 +151,7 @@ module _ (exact : PagesAreExact) (b : List ℕ) (are : AreBytes b) (read : LogRe
   abbrev last : Replayed
   last = replay (untouched read.said) is.log.groups
 
-  log_read : HasLog b read.turn read.said is.log.groups
+  log_read : LogSays b read.turn read.said is.log.groups
   log_read = record { payloads = is.log.payloads; framed = is.log.framed; spelled = is.log.spelled; replayed = is.log.replayed }
 
   shows_all : IsWholeFile says all → Shows b read.said last (file_of says all)

@@ -12,7 +12,7 @@ use Rattle.hb_store.proofs.Spellings.{OneList, length_number, same_fronts, same_
 use Rattle.hb_store.specs.Replay.{Replayed, MayReplay, after_group, replay, untouched}
 use Rattle.hb_store.specs.ReplayLaws.{MayReplay-front, replay-append}
 use Rattle.hb_store.specs.Opening.{HasBadGroup, IsBadPayload}
-use Rattle.hb_restart.specs.Refusals.{HasLog}
+use Rattle.hb_restart.specs.Refusals.{LogSays}
 
 may_back : (t : Replayed) (xs ys : List Logged) → MayReplay t (xs ++ ys) → MayReplay (replay t xs) ys
 may_back t [] ys may = may
@@ -125,6 +125,6 @@ one_bad_group once bytes turn said f g here there =
     there.bad ∙ sym there.counted
 
 -- a log that is read to an end and replayed has no bad group
-pub bad_or_whole : OneList → (bytes : List ℕ) (turn : ℕ) (said : Meta) (f : ℕ) (groups : List Logged) → HasBadGroup bytes turn said f → HasLog bytes turn said groups → ⊥
+pub bad_or_whole : OneList → (bytes : List ℕ) (turn : ℕ) (said : Meta) (f : ℕ) (groups : List Logged) → HasBadGroup bytes turn said f → LogSays bytes turn said groups → ⊥
 bad_or_whole once bytes turn said f groups bad log =
     not_both once said.k (untouched said) log.payloads bad.before log.framed.rest bad.rest groups bad.groups (sym log.framed.bytes ∙ bad.framed) log.framed.payloads_fit bad.payloads_fit log.framed.at_end log.spelled bad.spelled log.replayed bad.bad

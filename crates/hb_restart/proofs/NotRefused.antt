@@ -18,7 +18,7 @@ use Rattle.hb_layout.specs.Offsets.{file_size}
 use Rattle.hb_store.specs.Opening.{OpensBy, OpensTo, IsPageIn, Shows, log_bytes}
 use Rattle.hb_store.specs.Replay.{Replayed, untouched, replay, after_group}
 use Rattle.hb_sound.specs.Names.{SoundBreaksNone}
-use Rattle.hb_restart.specs.Refusals.{IsUnsound, GoodIsNotRefused, HasLayout, HasLog, LacksPage}
+use Rattle.hb_restart.specs.Refusals.{IsUnsound, GoodIsNotRefused, HasLayout, LogSays, LacksPage}
 use Rattle.hb_restart.proofs.Numbered.{page_there_is}
 use Rattle.hb_restart.proofs.SoundFiles.{sound_names}
 use Rattle.hb_restart.specs.declared.faults.OpenFault.TheVariants as faults
@@ -52,7 +52,7 @@ lacks_none b said t s id shows few (least, most, (inr none)) =
 module _ (once : OneList) (turns : (bytes : List ℕ) (t s : ℕ) (m n : Meta) → IsNewest bytes t m → IsNewest bytes s n → t ≡ s) (saids : (bytes : List ℕ) (t s : ℕ) (m n : Meta) → IsNewest bytes t m → IsNewest bytes s n → m ≡ n)
     (one_way : ReadsOneWay) (one : OpensToOne) (whole : OpensWhole) (law : SoundBreaksNone) where
   -- the groups of the log are those by which the bytes open
-  shown : (b : List ℕ) (s : FileState) (turn : ℕ) (said : Meta) (groups : List Logged) → OpensTo b s → HasLayout b turn said → HasLog b turn said groups → Shows b said (replay (untouched said) groups) s
+  shown : (b : List ℕ) (s : FileState) (turn : ℕ) (said : Meta) (groups : List Logged) → OpensTo b s → HasLayout b turn said → LogSays b turn said groups → Shows b said (replay (untouched said) groups) s
   shown b s turn said groups opens layout log =
       let by = opens.by in
       let t : opens.turn ≡ turn = turns b opens.turn turn opens.said said by.newest layout.newest in
@@ -63,7 +63,7 @@ module _ (once : OneList) (turns : (bytes : List ℕ) (t s : ℕ) (m n : Meta) �
       let same : opens.groups ≡ groups = same_spelled once said.k log.payloads opens.groups groups (subst (λ (x : List (List ℕ)). SpellAll said.k x opens.groups) payloads here.spelled) log.spelled in
       subst (λ (x : List Logged). Shows b said (replay (untouched said) x) s) same here.shows
 
-  unsound : (b : List ℕ) (s : FileState) (turn : ℕ) (said : Meta) (groups : List Logged) (page rule : ℕ) → OpensTo b s → IsSound s → HasLayout b turn said → HasLog b turn said groups → IsUnsound b said groups page rule → ⊥
+  unsound : (b : List ℕ) (s : FileState) (turn : ℕ) (said : Meta) (groups : List Logged) (page rule : ℕ) → OpensTo b s → IsSound s → HasLayout b turn said → LogSays b turn said groups → IsUnsound b said groups page rule → ⊥
   unsound b s turn said groups page rule opens sound layout log refuses = elim refuses [
     | inl hole ↦
         let shows = shown b s turn said groups opens layout log in

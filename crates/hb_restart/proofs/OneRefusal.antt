@@ -13,7 +13,7 @@ use Rattle.hb_store.specs.Opening.{HasBadGroup, OpensTo, Shows, log_bytes}
 use Rattle.hb_store.specs.Replay.{untouched, replay}
 use Rattle.hb_sound.specs.Names.{NamesIn, OneIsNamed}
 use Rattle.hb_sound.specs.Walks.{IsLeast}
-use Rattle.hb_restart.specs.Refusals.{Refuses, IsUnwritten, IsSmall, IsUnsound, HasLayout, HasLog, LacksPage}
+use Rattle.hb_restart.specs.Refusals.{Refuses, IsUnwritten, IsSmall, IsUnsound, HasLayout, LogSays, LacksPage}
 use Rattle.hb_restart.specs.declared.faults.OpenFault.{OpenFault}
 use Rattle.hb_restart.specs.declared.faults.OpenFault.TheVariants as faults
 use Rattle.hb_restart.proofs.BadFrames.{one_bad_group, bad_or_whole}
@@ -53,12 +53,12 @@ module _ (once : OneList) (turns : (bytes : List ℕ) (t s : ℕ) (m n : Meta) �
   moved : (P : ℕ → Meta → Type 0) (t s : ℕ) (m n : Meta) → HasLayout b t m → HasLayout b s n → P t m → P s n
   moved P t s m n x y p = subst (λ (k : Meta). P s k) (saids b t s m n x.newest y.newest) (subst (λ (k : ℕ). P k m) (turns b t s m n x.newest y.newest) p)
 
-  same_groups_of : (turn : ℕ) (said : Meta) (xs ys : List Logged) → HasLog b turn said xs → HasLog b turn said ys → xs ≡ ys
+  same_groups_of : (turn : ℕ) (said : Meta) (xs ys : List Logged) → LogSays b turn said xs → LogSays b turn said ys → xs ≡ ys
   same_groups_of turn said xs ys x y =
       let payloads : x.payloads ≡ y.payloads = (one_way (log_bytes turn said b)).frames x.payloads y.payloads x.framed y.framed in
       same_spelled once said.k y.payloads xs ys (subst (λ (l : List (List ℕ)). SpellAll said.k l xs) payloads x.spelled) y.spelled
 
-  opens_so : (turn : ℕ) (said : Meta) (groups : List Logged) (s : FileState) → HasLayout b turn said → HasLog b turn said groups → Shows b said (replay (untouched said) groups) s → OpensTo b s
+  opens_so : (turn : ℕ) (said : Meta) (groups : List Logged) (s : FileState) → HasLayout b turn said → LogSays b turn said groups → Shows b said (replay (untouched said) groups) s → OpensTo b s
   opens_so turn said groups s layout log shows = record {
     turn = turn;
     said = said;
@@ -74,7 +74,7 @@ module _ (once : OneList) (turns : (bytes : List ℕ) (t s : ℕ) (m n : Meta) �
     };
   }
 
-  unsound_same : (turn : ℕ) (said : Meta) (groups : List Logged) (p q r t : ℕ) → HasLayout b turn said → HasLog b turn said groups
+  unsound_same : (turn : ℕ) (said : Meta) (groups : List Logged) (p q r t : ℕ) → HasLayout b turn said → LogSays b turn said groups
       → IsUnsound b said groups p r → IsUnsound b said groups q t → (p ≡ q) × (r ≡ t)
   unsound_same turn said groups p q r t layout log (inl x) (inl y) = (least_one (LacksPage b said (replay (untouched said) groups)) p q x.1 y.1, x.0 ∙ sym y.0)
   unsound_same turn said groups p q r t layout log (inl x) (inr y) = absurd (y.0 p x.1.here)
@@ -83,10 +83,10 @@ module _ (once : OneList) (turns : (bytes : List ℕ) (t s : ℕ) (m n : Meta) �
       let same : x.1 ≡ y.1 = one b x.1 y.1 (opens_so turn said groups x.1 layout log x.2) (opens_so turn said groups y.1 layout log y.2) in
       named y.1 p q r t (subst (λ (s : FileState). NamesIn s p r) same x.3) y.3
 
-  unsound_one : (t s : ℕ) (m n : Meta) (xs ys : List Logged) (p q r u : ℕ) → HasLayout b t m → HasLayout b s n → HasLog b t m xs → HasLog b s n ys
+  unsound_one : (t s : ℕ) (m n : Meta) (xs ys : List Logged) (p q r u : ℕ) → HasLayout b t m → HasLayout b s n → LogSays b t m xs → LogSays b s n ys
       → IsUnsound b m xs p r → IsUnsound b n ys q u → (p ≡ q) × (r ≡ u)
   unsound_one t s m n xs ys p q r u x y log_x log_y bad_x bad_y =
-      let log : HasLog b s n xs = moved (λ k said. HasLog b k said xs) t s m n x y log_x in
+      let log : LogSays b s n xs = moved (λ k said. LogSays b k said xs) t s m n x y log_x in
       let bad : IsUnsound b n xs p r = moved (λ k said. IsUnsound b said xs p r) t s m n x y bad_x in
       let here : IsUnsound b n ys p r = subst (λ (l : List Logged). IsUnsound b n l p r) (same_groups_of s n xs ys log log_y) bad in
       unsound_same s n ys p q r u y log_y here bad_y
@@ -94,7 +94,7 @@ module _ (once : OneList) (turns : (bytes : List ℕ) (t s : ℕ) (m n : Meta) �
   bad_same : (t s : ℕ) (m n : Meta) (f g : ℕ) → HasLayout b t m → HasLayout b s n → HasBadGroup b t m f → HasBadGroup b s n g → f ≡ g
   bad_same t s m n f g x y bad_f bad_g = one_bad_group once b s n f g (moved (λ k said. HasBadGroup b k said f) t s m n x y bad_f) bad_g
 
-  bad_not : (t s : ℕ) (m n : Meta) (f : ℕ) (groups : List Logged) → HasLayout b t m → HasLayout b s n → HasBadGroup b t m f → HasLog b s n groups → ⊥
+  bad_not : (t s : ℕ) (m n : Meta) (f : ℕ) (groups : List Logged) → HasLayout b t m → HasLayout b s n → HasBadGroup b t m f → LogSays b s n groups → ⊥
   bad_not t s m n f groups x y bad log = bad_or_whole once b s n f groups (moved (λ k said. HasBadGroup b k said f) t s m n x y bad) log
 
   pub refused_once : (f g : OpenFault) → Refuses f b → Refuses g b → IsUnwritten f → IsUnwritten g → f ≡ g

@@ -9,7 +9,7 @@ use Rattle.hb_space.specs.declared.form.TheConstants.{PAGE}
 use Rattle.hb_sound.specs.Told.{CoversFile, GivesPage, item_at, shown}
 use Rattle.hb_store.specs.Keeps.{IsSameLayout}
 use Rattle.hb_store.specs.Opening.{place_bytes}
-use Rattle.hb_restart.specs.Source.{or_else, page_there, page_weight, pages_from, told_pages}
+use Rattle.hb_restart.specs.Source.{touched_or, page_there, page_weight, pages_from, told_pages}
 use Rattle.hb_restart.proofs.Numbered.{within}
 
 pub told_long : (page : ℕ → Option Page) (id n : ℕ) → length (pages_from page id n) ≡ n
@@ -41,7 +41,7 @@ told_is page n (suc k) there e =
 pub gives_touched : (o : Option (List ℕ)) (said : Meta) (touched : ℕ → Option Page) (id : ℕ) (page : Page) → touched id ≡ Some page → GivesPage (told_pages o said touched) id (Some page)
 gives_touched None said touched id page is = tt
 gives_touched (Some b) said touched id page is = λ there e.
-    ap (λ (o : Option Page). or_else o (page_at (place_bytes said id b))) (sym is) ∙ (told_is (page_there b said touched) said.pages id there e).2
+    ap (λ (o : Option Page). touched_or o (page_at (place_bytes said id b))) (sym is) ∙ (told_is (page_there b said touched) said.pages id there e).2
 
 pub gives_none : (o : Option (List ℕ)) (said : Meta) (touched : ℕ → Option Page) (id : ℕ) → (id ≡ 0) ⊎ (said.pages < id) → GivesPage (told_pages o said touched) id None
 gives_none None said touched id outside = tt
@@ -53,7 +53,7 @@ pub gives_place : (o : Option (List ℕ)) (said : Meta) (touched : ℕ → Optio
     → GivesPage (told_pages o said touched) id page
 gives_place None said touched id page none read = tt
 gives_place (Some b) said touched id page none read = λ there e.
-    read ∙ ap (λ (o : Option Page). or_else o (page_at (place_bytes said id b))) (sym none) ∙ (told_is (page_there b said touched) said.pages id there e).2
+    read ∙ ap (λ (o : Option Page). touched_or o (page_at (place_bytes said id b))) (sym none) ∙ (told_is (page_there b said touched) said.pages id there e).2
 
 pub gives_read : {E : Type 0} (r : Result (Option Page) E) (o : Option (List ℕ)) (said : Meta) (touched : ℕ → Option Page) (id : ℕ) → touched id ≡ None
     → IfOk r (λ page. IfSome o (λ b. page ≡ page_at (place_bytes said id b))) → IfOk r (λ page. GivesPage (told_pages o said touched) id page)

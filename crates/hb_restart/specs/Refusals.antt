@@ -24,7 +24,7 @@ pub record HasLayout (bytes : List ℕ) (turn : ℕ) (said : Meta) : Type 0 wher
   pub fits : file_size said ≤ length bytes
 
 -- what the log of a file gives, where it has no bad frame
-pub record HasLog (bytes : List ℕ) (turn : ℕ) (said : Meta) (groups : List Logged) : Type 0 where
+pub record LogSays (bytes : List ℕ) (turn : ℕ) (said : Meta) (groups : List Logged) : Type 0 where
   pub payloads : List (List ℕ)
   pub framed : HasFrames (log_bytes turn said bytes) payloads
   pub spelled : SpellAll said.k payloads groups
@@ -53,7 +53,7 @@ Refuses (faults.BadLayout field value) bytes = ⊥
 Refuses (faults.Small needed found) bytes = IsSmall bytes needed found
 Refuses faults.NoSuper bytes = (2 * PAGE ≤ length bytes) × HasNone bytes
 Refuses (faults.BadGroup frame) bytes = (turn : ℕ) × (said : Meta) × HasLayout bytes turn said × HasBadGroup bytes turn said frame
-Refuses (faults.Unsound page rule) bytes = (turn : ℕ) × (said : Meta) × HasLayout bytes turn said × (groups : List Logged) × HasLog bytes turn said groups × IsUnsound bytes said groups page rule
+Refuses (faults.Unsound page rule) bytes = (turn : ℕ) × (said : Meta) × HasLayout bytes turn said × (groups : List Logged) × LogSays bytes turn said groups × IsUnsound bytes said groups page rule
 Refuses faults.DiskFault bytes = Unit {0}
 Refuses faults.NoMemory bytes = Unit {0}
 

@@ -17,13 +17,13 @@ use Rattle.hb_space.specs.declared.form.TheConstants.{PAGE}
 use Rattle.hb_store.specs.Opening.{place_bytes}
 
 -- a page, or what is read where there is none
-abbrev pub or_else : Option Page → Option Page → Option Page
-or_else (Some page) read = Some page
-or_else None read = read
+abbrev pub touched_or : Option Page → Option Page → Option Page
+touched_or (Some page) read = Some page
+touched_or None read = read
 
 -- the page of a number: the touched one, or what the bytes in its place are read as
 abbrev pub page_there : List ℕ → Meta → (ℕ → Option Page) → ℕ → Option Page
-page_there bytes said touched id = or_else (touched id) (page_at (place_bytes said id bytes))
+page_there bytes said touched id = touched_or (touched id) (page_at (place_bytes said id bytes))
 
 -- the pages of so many numbers from one on
 abbrev pub pages_from : (ℕ → Option Page) → ℕ → ℕ → List (Option Page)
