@@ -67,7 +67,7 @@ const NEXT: [u8; 41] = [
 ];
 
 /// What an opening answers: the root, the height, the high mark and the pages in use, with the number of records; or why not.
-#[derive(Debug, PartialEq, Eq)]
+#[derive(Clone, Copy, Debug, PartialEq, Eq)]
 enum Answer {
     Opened([u32; 4], u64),
     Refused(OpenFault),

@@ -4,7 +4,7 @@
 //! ` / VALUE:` for each cut. A leaf is its records by their points, or `^PAGE` for a child and `>PAGE` for a sibling.
 //! `free NEXT` is a free page, and `bad` none.
 
-ghost use Rattle.std.specs.Prelude.{◌≡◌, IfSome, IsTrue, None, Unit, tt};
+ghost use Rattle.std.specs.Prelude.{◌≡◌, IfSome, IsTrue, None};
 ghost use Rattle.hb_frag.specs.Leaves.{leaf_weight, weight_of};
 ghost use Rattle.hb_page_codec.specs.Weight.{IsLight};
 ghost use Rattle.hb_layout.specs.Limits.{IsLayout};

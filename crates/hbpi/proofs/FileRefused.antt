@@ -22,11 +22,11 @@ use Rattle.hbpi.specs.declared.statuses.Status.TheVariants.{Done, Usage, BadText
 of_bytes : (fault : StartFault) (bytes : List ℕ) (status : Status) → status ≡ start_status fault → RefusesStart fault bytes → (fault ≡ (starts.Closed faults.DiskFault) → ⊥)
     → (status ≡ NoMemory) ⊎ ((fault : StartFault) × (status ≡ start_status fault) × RefusesStart fault bytes × IsOfBytes fault)
 of_bytes (starts.Closed (faults.BadLayout field value)) bytes status is why held = absurd why
-of_bytes (starts.Closed (faults.Small needed found)) bytes status is why held = inr (faults.Small needed found, is, why, tt)
+of_bytes (starts.Closed (faults.Small needed found)) bytes status is why held = inr (starts.Closed (faults.Small needed found), is, why, tt)
 of_bytes (starts.Closed faults.NoSuper) bytes status is why held = inr ((starts.Closed faults.NoSuper), is, why, tt)
 of_bytes starts.NotBuilt bytes status is why held = inr (starts.NotBuilt, is, why, tt)
-of_bytes (starts.Closed (faults.BadGroup frame)) bytes status is why held = inr (faults.BadGroup frame, is, why, tt)
-of_bytes (starts.Closed (faults.Unsound page rule)) bytes status is why held = inr (faults.Unsound page rule, is, why, tt)
+of_bytes (starts.Closed (faults.BadGroup frame)) bytes status is why held = inr (starts.Closed (faults.BadGroup frame), is, why, tt)
+of_bytes (starts.Closed (faults.Unsound page rule)) bytes status is why held = inr (starts.Closed (faults.Unsound page rule), is, why, tt)
 of_bytes (starts.Closed faults.DiskFault) bytes status is why held = absurd (held refl)
 of_bytes (starts.Closed faults.NoMemory) bytes status is why held = inl is
 

@@ -61,6 +61,7 @@ pub(crate) fn start<D: Device>(alloc: Global, disk: D) -> Result<Store<D>, (Star
     ensures even_after_fault { IfErr result (λ e. (s : FileState) → IsEven (D.model disk) s → Leaves (D.model disk) (D.model e.1) (λ c. OpensTo c s)) }
     // a larger file is opened first, and every image of now opens to it
     ensures left { IfErr result (λ e. e.0 ≡ starts.NotBuilt → IfSome (D.model disk).told (λ b. (s : FileState) × OpensTo b s × IsEven (D.model e.1) s)) }
+    ensures silent { IfOk result (λ st. IsSome (D.model (disk_of st)).told → IsSome (D.model disk).told) }
     ensures shut { IfErr result (λ e. IsShutBy (D.model disk).size e.0) }
     ensures time { IfOk result (λ st. IsSome (D.model disk).told → (D.model disk).clock ≤ (D.model (disk_of st)).clock) }
     ensures said { IfOk result (λ st. IfSome (D.model disk).told (λ b. (turn : ℕ) (said : Said) → IsNewest b turn said → IsSameLayout said (seen_as st).meta)) }
