@@ -1,5 +1,5 @@
 -- What an audit's answer says of the bytes of a file that is opened.
-use Rattle.std.proofs.Common.{◌≡◌, inl, inr, ℕ, zero, suc, ◌+◌, ◌-◌, ◌*◌, ◌<◌, ◌≤◌, ◌^◌, List, [], ◌∷◌, length, take, drop, get_or, slice_get, All, Option, Some, None, IfSome, Result, Ok, Err, IfOk, IfErr, refl, sym, ap, subst, ◌∙◌, arith, length-take, length-drop}
+use Rattle.std.proofs.Common.{◌≡◌, inl, inr, ℕ, zero, suc, ◌+◌, ◌-◌, ◌*◌, ◌<◌, ◌≤◌, ◌^◌, List, [], ◌∷◌, length, take, drop, get_or, slice_get, All, Option, Some, None, IfSome, refl, sym, ap, subst, ◌∙◌, arith, length-take}
 use Rattle.std.specs.Ordering.{nat_cmp}
 use Rattle.std.specs.BTreeMap.{BTreeMap, get}
 use Rattle.std.proofs.lemmas.Bool.{cases_lt}
@@ -11,14 +11,12 @@ use Rattle.hb_layout.specs.declared.meta.Meta.{Meta}
 use Rattle.hb_layout.specs.Limits.{IsLayout}
 use Rattle.hb_page_codec.specs.Exact.{AreBytes, PagesAreExact}
 use Rattle.hb_page_codec.specs.Reading.{page_at}
-use Rattle.hb_ops.specs.Files.{FileState, file_records, page_of}
-use Rattle.hb_sound.specs.Marks.{HasMarks}
-use Rattle.hb_sound.specs.Names.{IsSoundWith, Names, NamesIn}
+use Rattle.hb_ops.specs.Files.{page_of}
+use Rattle.hb_sound.specs.Names.{IsSoundWith, Names}
 use Rattle.hb_sound.specs.Stops.{OnBroken}
 use Rattle.hb_sound.specs.declared.pages.AuditStop.{AuditStop}
 use Rattle.hb_sound.specs.declared.pages.AuditStop.TheVariants as stops
-use Rattle.hb_sound.specs.Told.{IsHole, IsWholeFile, file_of, item_at, shown}
-use Rattle.hb_sound.specs.Walks.{IsLeast}
+use Rattle.hb_sound.specs.Told.{IsHole, IsWholeFile, file_of, shown}
 use Rattle.hb_store.specs.Keeps.{IsSameLayout}
 use Rattle.hb_store.specs.Opening.{IsPageIn, Shows, place_bytes}
 use Rattle.hb_store.specs.Replay.{Replayed, untouched, replay}

@@ -1,5 +1,5 @@
 -- Runs that leave alone what lies behind the first bytes of a disk.
-use Rattle.std.proofs.Common.{◌≡◌, ℕ, zero, suc, ◌+◌, ◌*◌, ◌%◌, ◌≤◌, List, length, Option, Some, IfSome, Result, sym, ap, subst, ◌∙◌, arith}
+use Rattle.std.proofs.Common.{◌≡◌, ℕ, zero, suc, ◌+◌, ◌*◌, ◌%◌, ◌≤◌, List, length, Option, Some, IfSome, Result, sym, subst, arith}
 use Rattle.hb_disk.specs.Model.{DiskModel, IsDisk, Torn}
 use Rattle.hb_disk.specs.Calls.{Becomes, OnlyReads, Syncs, Ticks, Writes}
 use Rattle.hb_disk.specs.RunLaws.{at_value, Becomes-read, Becomes-torn, Becomes-torn_sync, Becomes-torn_write, Becomes-weaker, OnlyReads-none}

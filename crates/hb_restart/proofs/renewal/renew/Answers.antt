@@ -3,7 +3,6 @@ use Rattle.std.specs.Ordering.{nat_cmp}
 use Rattle.std.specs.BTreeMap.{get}
 use Rattle.hb_disk.specs.RunLaws.{if_value, on_ok_weaker}
 use Rattle.hb_super.specs.Superblocks.{next_turn}
-use Rattle.hb_frag.specs.declared.pages.Page.{Page}
 use Rattle.hb_layout.specs.declared.meta.Meta.{Meta}
 use Rattle.hb_ops.specs.Files.{FileState}
 use Rattle.hb_store.specs.Opening.{OpensTo}

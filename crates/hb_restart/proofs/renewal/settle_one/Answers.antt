@@ -1,4 +1,4 @@
-use Rattle.std.proofs.Common.{◌≡◌, ◌+◌, ◌≤◌, ℕ, List, Some, refl, sym, arith}
+use Rattle.std.proofs.Common.{◌≡◌, ◌+◌, ℕ, List, Some, refl, sym, arith}
 use Rattle.std.specs.Ordering.{nat_cmp}
 use Rattle.std.specs.BTreeMap.{get}
 use Rattle.hb_disk.specs.RunLaws.{on_ok_weaker}
@@ -8,7 +8,7 @@ use Rattle.hb_layout.specs.Offsets.{file_size}
 use Rattle.hb_frag.specs.Grammar.{SpellsPage}
 use Rattle.hb_ops.specs.Files.{FileState}
 use Rattle.hb_store.specs.Opening.{place_bytes}
-use Rattle.hb_restart.specs.Renewing.{IsHere, IsPlacedTo}
+use Rattle.hb_restart.specs.Renewing.{IsPlacedTo}
 use Rattle.hb_restart.proofs.Renewed.{placed_moments, placed_there, placed_untouched, not_none}
 use Rattle.hb_restart.proofs.Beyond.{beyond_none, beyond_page}
 use Rattle.hb_restart.proofs.renewal.settle_one.Goals as goal

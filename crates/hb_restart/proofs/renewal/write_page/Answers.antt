@@ -1,4 +1,4 @@
-use Rattle.std.proofs.Common.{◌≡◌, ◌+◌, ◌*◌, ℕ, List, Some, IfSome, length, arith}
+use Rattle.std.proofs.Common.{◌≡◌, ℕ, List, Some, IfSome, length, arith}
 use Rattle.hb_disk.specs.Model.{overwritten}
 use Rattle.hb_disk.specs.RunLaws.{on_ok_weaker, Becomes-write}
 use Rattle.hb_frag.specs.Grammar.{SpellsPage}

@@ -1,4 +1,4 @@
-use Rattle.std.proofs.Common.{◌≡◌, inl, inr, ◌∙◌, Option, Some, None, sym, ap, subst}
+use Rattle.std.proofs.Common.{inl, inr, ◌∙◌, Some, sym, ap, subst}
 use Rattle.std.specs.Ordering.{nat_cmp}
 use Rattle.std.specs.BTreeMap.{get}
 use Rattle.hb_frag.specs.declared.pages.Page.{Page}
