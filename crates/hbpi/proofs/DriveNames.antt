@@ -1,5 +1,5 @@
 -- The bad line that `drive` names.
-use Rattle.std.proofs.Common.{◌≡◌, ◌⊎◌, inl, inr, ℕ, true, List, Option, Some, Err, sym, ap, subst, ◌∙◌}
+use Rattle.std.proofs.Common.{◌≡◌, inl, inr, ℕ, true, List, Option, Some, Err, sym, ap, subst, ◌∙◌}
 use Rattle.hb_disk.specs.Model.{DiskModel}
 use Rattle.hb_disk.specs.RunLaws.{at_value}
 use Rattle.hb_ops.specs.Files.{FileState}

@@ -11,8 +11,7 @@ use Rattle.hb_restart.specs.declared.faults.OpenFault.{OpenFault}
 use Rattle.hb_store.specs.ImageLaws.{OpensToOne}
 use Rattle.hb_store.specs.Keeps.{StoreKeeps, StoreState}
 use Rattle.hb_store.specs.Opening.{IsEven, OpensTo}
-use Rattle.hbpi.specs.Starting.{GoodIsServed, IsOfBytes, IsOnePage, IsRefusedInOneWay, RefusesStart}
-use Rattle.hbpi.specs.declared.starting.StartFault.{StartFault}
+use Rattle.hbpi.specs.Starting.{GoodIsServed, IsOnePage, IsRefusedInOneWay, RefusesStart}
 use Rattle.hbpi.specs.declared.starting.StartFault.TheVariants as starts
 use Rattle.hbpi.proofs.ScheduleRuns.{even_store}
 

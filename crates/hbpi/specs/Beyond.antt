@@ -1,5 +1,5 @@
 -- What a step leaves alone on a disk: all but the log's area.
-use Rattle.std.specs.Prelude.{◌≡◌, ℕ, List, Some}
+use Rattle.std.specs.Prelude.{◌≡◌}
 use Rattle.hb_disk.specs.Model.{DiskModel, Torn}
 use Rattle.hb_disk.specs.Calls.{Becomes}
 use Rattle.hbpi.specs.Core.{CoreState}

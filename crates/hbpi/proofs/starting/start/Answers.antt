@@ -7,7 +7,7 @@ use Rattle.hb_store.specs.Keeps.{StoreKeeps}
 use Rattle.hb_store.specs.Opening.{OpensTo, IsEven}
 use Rattle.hb_store.specs.Seen.{seen_as, disk_of}
 use Rattle.hbpi.specs.Starting.{IsOnePage}
-use Rattle.std.specs.Prelude.{List, ℕ, IfSome}
+use Rattle.std.specs.Prelude.{IfSome}
 use Rattle.hbpi.proofs.Started.{larger_of, left_of}
 use Rattle.hbpi.proofs.starting.start.Goals as goal
 
