@@ -112,7 +112,7 @@ fn open(alloc: Global, disk: MemDisk) -> (Answer, MemDisk) {
 }
 
 /// The same of bytes.
-fn answer(alloc: Global, bytes: Vec<u8>) -> Answer {
+fn answer_of(alloc: Global, bytes: Vec<u8>) -> Answer {
     open(alloc, MemDisk::new(alloc, bytes)).0
 }
 
@@ -132,7 +132,10 @@ fn a_file_of_two_levels_opens(rt: HostRuntime) -> Result<(), Fail> {
         .get(4096..)
         .is_some_and(|rest| rest.starts_with(&NEXT));
     assert!(rt; next);
-    assert_eq!(rt; answer(rt.alloc(), disk.bytes().to_vec(rt.alloc())?), GOOD);
+    assert_eq!(rt;
+        answer_of(rt.alloc(), disk.bytes().to_vec(rt.alloc())?),
+        GOOD
+    );
     Ok(())
 }
 
@@ -142,7 +145,7 @@ fn first_lost(alloc: Global, disk: &MemDisk, pick: Pick) -> Result<Option<u64>, 
         let Some(image) = disk.image(before, pick)? else {
             return Err(Fail::from("no image"));
         };
-        if answer(alloc, image) != GOOD {
+        if answer_of(alloc, image) != GOOD {
             return Ok(Some(before));
         }
     }
@@ -170,7 +173,7 @@ fn a_failing_call_stops_an_opening(rt: HostRuntime) -> Result<(), Fail> {
         assert_eq!(rt; said, Answer::Refused(OpenFault::DiskFault), "{call}");
         assert_eq!(rt; disk.calls(), call.saturating_add(1));
         assert_eq!(rt;
-            answer(rt.alloc(), disk.bytes().to_vec(rt.alloc())?),
+            answer_of(rt.alloc(), disk.bytes().to_vec(rt.alloc())?),
             GOOD,
             "{call}"
         );
@@ -205,7 +208,11 @@ fn damaged_files(rt: HostRuntime) -> Result<(), Fail> {
     for (at, piece, fault) in rows {
         let mut bytes = file(rt.alloc())?;
         put(&mut bytes, at, piece)?;
-        assert_eq!(rt; answer(rt.alloc(), bytes), Answer::Refused(fault), "{at}");
+        assert_eq!(rt;
+            answer_of(rt.alloc(), bytes),
+            Answer::Refused(fault),
+            "{at}"
+        );
     }
     Ok(())
 }
@@ -218,7 +225,7 @@ fn short_disks(rt: HostRuntime) -> Result<(), Fail> {
         bytes.truncate(size);
         let found = size as u64;
         assert_eq!(rt;
-            answer(rt.alloc(), bytes),
+            answer_of(rt.alloc(), bytes),
             Answer::Refused(OpenFault::Small { needed, found })
         );
     }
@@ -241,7 +248,10 @@ fn a_new_file_opens(rt: HostRuntime) -> Result<(), Fail> {
             return Err(Fail::from("no file is made"));
         };
         let bytes = store.into_disk().bytes().to_vec(rt.alloc())?;
-        assert_eq!(rt; answer(rt.alloc(), bytes), Answer::Opened([1, 1, 1, 1], 0));
+        assert_eq!(rt;
+            answer_of(rt.alloc(), bytes),
+            Answer::Opened([1, 1, 1, 1], 0)
+        );
     }
     Ok(())
 }
