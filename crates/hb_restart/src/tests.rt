@@ -80,23 +80,19 @@ fn marks(meta: &Meta) -> [u32; 4] {
     [meta.root, u32::from(meta.height), meta.high, meta.live]
 }
 
-/// The bytes with others at an offset.
-fn put(bytes: &mut [u8], at: usize, piece: &[u8]) -> Result<(), Fail> {
-    match bytes.get_mut(at..) {
-        Some(rest) if rest.len() >= piece.len() => {
-            rest[..piece.len()].copy_from_slice(piece);
-            Ok(())
-        }
-        _ => Err(Fail::from("behind the end")),
+/// Puts bytes at an offset.
+fn put(bytes: &mut Vec<u8>, at: usize, piece: &[u8]) {
+    for (place, byte) in bytes.iter_mut().skip(at).zip(piece) {
+        *place = *byte;
     }
 }
 
 /// The file.
 fn file(alloc: Global) -> Result<Vec<u8>, Fail> {
     let mut bytes = vec![in alloc; 0; SIZE]?;
-    put(&mut bytes, 0, &SUPER)?;
-    put(&mut bytes, 8192, &SPLIT)?;
-    put(&mut bytes, 12_298, &BEHIND)?;
+    put(&mut bytes, 0, &SUPER);
+    put(&mut bytes, 8192, &SPLIT);
+    put(&mut bytes, 12_298, &BEHIND);
     Ok(bytes)
 }
 
@@ -207,7 +203,7 @@ fn damaged_files(rt: HostRuntime) -> Result<(), Fail> {
     ];
     for (at, piece, fault) in rows {
         let mut bytes = file(rt.alloc())?;
-        put(&mut bytes, at, piece)?;
+        put(&mut bytes, at, piece);
         assert_eq!(rt;
             answer_of(rt.alloc(), bytes),
             Answer::Refused(fault),
