@@ -3,7 +3,7 @@
 
     trials/pages/random_pages.py KIND COUNT [SEED]
 
-KIND is audit or choose. It copies the repository's sources into a temporary
+KIND is audit, choose, carve, normal or plan. It copies the repository's sources into a temporary
 folder, puts program.txt there as one more program, runs it unproved (`rt try`) on COUNT cases, and
 compares each answer with the model's. It prints how many cases there were of each answer, and the
 first cases that differ. The status is 0 where none does.
@@ -22,7 +22,7 @@ from model import TOP, holds, leaves, weight, whole
 
 HERE = os.path.dirname(os.path.abspath(__file__))
 ROOT = os.path.dirname(os.path.dirname(HERE))
-USES = "hb_space hb_frag hb_page_codec hb_ops hb_sound hb_split"
+USES = "hb_space hb_frag hb_page_codec hb_layout hb_ops hb_sound hb_split hb_terms"
 
 
 # ---- random trees and pages
@@ -295,7 +295,59 @@ def choose_case(rng):
     return spelled and (b"c" + spelled, text, f"{len(made)} cuts")
 
 
-CASES = dict(audit=audit_case, choose=choose_case)
+def area_bytes(box):
+    return b"".join(struct.pack(">Q", x) for x in box[0] + box[1])
+
+
+def tree_text(tree):
+    if tree[0] == "cut":
+        return f"({tree[1]}:{tree[2]} {tree_text(tree[3])} {tree_text(tree[4])})"
+    if tree[0] == "records":
+        return "".join("".join(f"{x}," for x in p) for p, _ in tree[1]) + "."
+    return ("^" if tree[0] == "child" else ">") + str(tree[1])
+
+
+def a_box(rng, k):
+    lo = tuple(value(rng, 0, TOP) for _ in range(k))
+    return (lo, tuple(value(rng, l, TOP) for l in lo))
+
+
+def carve_case(rng):
+    k = rng.randint(1, 4)
+    box, area = a_box(rng, k), a_box(rng, k)
+    if not model.meets(box, area):
+        return None
+    tree = model.carve(box, area, 1, 2)
+    return b"v" + bytes([k]) + area_bytes(box) + area_bytes(area), tree_text(tree), f"{weight(tree) - 1} cuts"
+
+
+def normal_case(rng):
+    k = rng.randint(1, 3)
+    page = data_page(rng, k, 4) if rng.random() < 0.5 else index_page(rng, k, 20)
+    tree = model.normal(page[2])
+    spelled = sized(page)
+    return spelled and (b"n" + spelled, tree_text(tree), "same" if tree == page[2] else "joined")
+
+
+def plan_case(rng):
+    k = rng.randint(1, 3)
+    level, box, tree = index_page(rng, k, 30)
+    parent = (level, box, model.normal(tree))
+    child = data_page(rng, k, 3) if rng.random() < 0.7 else index_page(rng, k, 9)
+    p = point_in(rng, whole(k))
+    if model.leaf_at(parent, p)[0][0] != "child" or parent[2][0] == "sibling":
+        return None
+    icap = max(weight(parent[2]), 32) if rng.random() < 0.5 else weight(parent[2]) + rng.randint(0, 4)
+    plan = model.post_plan(parent, child, p, icap)
+    text = plan[0]
+    if plan[0] == "post":
+        _, at, inner, area, after = plan
+        text = f"{at} {inner}" + "".join(f" {l}..{h}" for l, h in zip(*area)) + " " + tree_text(after)
+    a, b = sized(parent), sized(child)
+    return a and b and (b"p" + struct.pack(">H", icap) + a + b + b"".join(struct.pack(">Q", x) for x in p), text, plan[0])
+
+
+CASES = dict(audit=audit_case, choose=choose_case, carve=carve_case, normal=normal_case, plan=plan_case)
 
 
 # ---- the program

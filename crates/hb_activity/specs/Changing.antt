@@ -2,7 +2,7 @@
 use Rattle.std.specs.Prelude.{◌==◌, Bool, true, false, ◌&&◌, Option}
 use Rattle.std.specs.Option.{option_map_or}
 use Rattle.hb_frag.specs.declared.pages.LivePage.{LivePage}
-use Rattle.hb_ops.specs.declared.meta.Meta.{Meta}
+use Rattle.hb_layout.specs.declared.meta.Meta.{Meta}
 use Rattle.hb_activity.specs.declared.activities.Activity.{Activity}
 use Rattle.hb_activity.specs.declared.activities.Activity.TheVariants.{SessionWalk, SessionSplit, SessionPut, PosterGrow, PosterAgain, ConsolidatorDecide}
 use Rattle.hb_activity.specs.Walks.{may_change}

@@ -74,8 +74,8 @@ pub enum Activity {
         parent: u32,
         child: u32,
     },
-    /// It looks whether `gone` may go into `keep`, a page that is latched. `leaf` says how far the
-    /// scan of the parent's leaves has come.
+    /// It looks whether `gone` may go into `keep`, a page that is latched. `leaf` is the place of the
+    /// sibling leaf that names `gone` among all leaves of `keep`, from the left and counted from 0.
     ConsolidatorTry {
         job: Job,
         parent: u32,

@@ -4,7 +4,7 @@ ghost use Rattle.std.specs.Option.{option_copied};
 use crate::Activity;
 use crate::walks::may_change;
 use hb_frag::LivePage;
-use hb_ops::Meta;
+use hb_layout::Meta;
 
 impl Activity {
     ghost use Rattle.hb_activity.specs.Wanting.{LooksIntoPage, CanLook};

@@ -7,7 +7,7 @@ use crate::job_tests::job;
 use crate::{Activity, JobKind};
 use hb_frag::{Frag, Leaf, LivePage};
 use hb_latch::Mode;
-use hb_ops::Meta;
+use hb_layout::Meta;
 use hb_set::{Command, Line, Reply};
 use hb_space::{Area, Areas, Body, Point, Record, Records};
 use std::alloc::Global;

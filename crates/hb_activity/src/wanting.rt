@@ -6,7 +6,7 @@ use crate::Activity;
 use crate::walks::session_mode;
 use hb_frag::{Leaf, LivePage};
 use hb_latch::Mode;
-use hb_ops::Meta;
+use hb_layout::Meta;
 use hb_space::Point;
 
 /// The latch that a step wants.

@@ -6,3 +6,12 @@ pub mod Clear
 pub mod Tiles
 pub mod Parts
 pub mod Direct
+pub mod Carves
+pub mod PointOrder
+pub mod Normals
+pub mod Stretches
+pub mod OrderedLeaves
+pub mod SayingTheSame
+pub mod CarvedKinds
+pub mod CarvedParts
+pub mod CarvedPages

@@ -75,7 +75,7 @@ part_fits (Right ∷ path) (Cut axis value left right) area w e h cut =
     }
 
 -- what a tree weighs, side by side
-weight_cut : (axis value : ℕ) (left right : Tree) → weight_of (Cut axis value left right) ≡ weight_of left + weight_of right
+pub weight_cut : (axis value : ℕ) (left right : Tree) → weight_of (Cut axis value left right) ≡ weight_of left + weight_of right
 weight_cut axis value left right = grind (arith, common_steps)
 
 pub part_weighs : (path : List Side) (t : Tree) (area : Area) (w : Tree × Area) (other : Tree) → part_at path t area ≡ Some w → weight_of (with_part path t other) + weight_of w.0 ≡ weight_of t + weight_of other

@@ -6,3 +6,7 @@ pub mod Paths
 pub mod Rules
 pub mod Grammar
 pub mod Laws
+pub mod Carving
+pub mod Normal
+pub mod CarvingLaws
+pub mod NormalLaws

@@ -1,16 +1,24 @@
 //! What follows of pages from their definitions alone. Each law is the contract of a function
 //! that does nothing: a caller learns it by the call.
 
-ghost use Rattle.std.specs.Prelude.{◌≡◌, ◌↔◌, ◌+◌, ℕ, List, length, map, All, Any, AllPairs, Some, IsSome};
+ghost use Rattle.std.specs.Prelude.{◌≡◌, ◌≢◌, ◌≤◌, ◌↔◌, ◌+◌, ◌*◌, ℕ, List, [], length, map, All, Any, AllPairs, Some, IsSome};
 ghost use Rattle.std.specs.List.{Contains};
-ghost use Rattle.hb_space.specs.Boxes.{Area, IsArea, Holds, Within, Disjoint};
+ghost use Rattle.std.specs.List.Sorted.{IsPermutation, IsSortedByKey, IsStableByKey};
+ghost use Rattle.hb_space.specs.Points.{point_cmp};
+ghost use Rattle.hb_space.specs.declared.records.Record.{Record as OneRecord};
+ghost use Rattle.hb_space.specs.Boxes.{Area, IsArea, Holds, Meets, Within, Disjoint};
 ghost use Rattle.hb_frag.specs.declared.pages.LivePage.{LivePage as OnePage};
 ghost use Rattle.hb_frag.specs.declared.leaves.Leaf.{Leaf as OneLeaf};
 ghost use Rattle.hb_frag.specs.declared.paths.Side.{Side as Step};
-ghost use Rattle.hb_frag.specs.Trees.{Tree};
-ghost use Rattle.hb_frag.specs.Leaves.{Placed, IsWellCut, first_at, leaves_of, leaves, with_leaf_at, weight_of, DirectlyHolds, DirectlyCovers, WellCut};
+ghost use Rattle.hb_frag.specs.Trees.{Tree, Tip};
+ghost use Rattle.hb_frag.specs.Leaves.{Placed, IsWellCut, first_at, leaves_of, leaves, siblings, with_leaf_at, weight_of, DirectlyHolds, DirectlyCovers, WellCut};
 ghost use Rattle.hb_frag.specs.Paths.{part_at, with_part, StaysInside};
 ghost use Rattle.hb_frag.specs.Laws.{changed_at, LeadsTo, IsStretch, IsPart};
+ghost use Rattle.hb_frag.specs.Rules.{IsNormal};
+ghost use Rattle.hb_frag.specs.Carving.{carved};
+ghost use Rattle.hb_frag.specs.CarvingLaws.{Carves};
+ghost use Rattle.hb_frag.specs.Normal.{in_point_order, normal};
+ghost use Rattle.hb_frag.specs.NormalLaws.{SaysTheSame};
 
 /// The boxes of a tree's leaves are boxes within the tree's box, of as many attributes. No two
 /// share a point, and together they hold exactly its points.
@@ -74,4 +82,52 @@ pub fn directly_held_is_by_points()
     ensures { (page : OnePage) (a : Area) → IsArea page.area → WellCut page → IsArea a →
         length a.lo ≡ length page.area.lo →
         DirectlyCovers page a ↔ ((p : List ℕ) → Holds a p → DirectlyHolds page p) }
+{}
+
+/// Records in the order of their points are the same records, in that order. Those of one point
+/// stand as they stood.
+pub fn point_order_is_a_stable_order()
+    ensures same { (records : List OneRecord) → IsPermutation records (in_point_order records) }
+    ensures sorted { (records : List OneRecord) → IsSortedByKey (λ r. r.key) point_cmp (in_point_order records) }
+    ensures stable { (records : List OneRecord) → IsStableByKey (λ r. r.key) point_cmp records (in_point_order records) }
+{}
+
+/// A tree without cuts whose two sides should be one leaf says the same as the tree. One that has
+/// no such cuts stays as it is.
+pub fn normal_says_the_same()
+    ensures normal { (t : Tree) → IsNormal (normal t) }
+    ensures stays { (t : Tree) → IsNormal t → normal t ≡ t }
+    ensures same { (t : Tree) → SaysTheSame t (normal t) }
+{}
+
+/// A leaf's box that meets an area is parted: the new child is named over what the two have in
+/// common, and the old one over the rest, by at most two cuts for each attribute.
+pub fn carving_parts_a_leaf()
+    ensures parts { (leaf area : Area) (outer inner : ℕ) → IsArea leaf → IsArea area →
+        length area.lo ≡ length leaf.lo → Meets leaf area → Carves leaf area outer inner (carved leaf area outer inner) }
+    ensures weight { (leaf area : Area) (outer inner : ℕ) →
+        weight_of (carved leaf area outer inner) ≤ 2 * length leaf.lo + 1 }
+    ensures siblings { (leaf area : Area) (outer inner : ℕ) →
+        siblings (leaves_of (carved leaf area outer inner) leaf) ≡ [] }
+    ensures normal { (leaf area : Area) (outer inner : ℕ) → inner ≢ outer →
+        IsNormal (carved leaf area outer inner) }
+{}
+
+/// A child leaf of a tree without cuts that part nothing is carved. Where that makes a cut, none
+/// of the tree's cuts parts nothing after it. Where the new child takes the leaf's place, the tree
+/// weighs no more after such cuts have gone. So what the tree will weigh is known before it is
+/// made.
+pub fn a_carved_leaf_joins_others_only_whole()
+    ensures stays { (path : List Step) (t : Tree) (a : Area) (leaf area : Area) (outer inner : ℕ) →
+        IsNormal t → part_at path t a ≡ Some (Tip (OneLeaf.Child outer), leaf) → inner ≢ outer →
+        2 ≤ weight_of (carved leaf area outer inner) →
+        normal (with_part path t (carved leaf area outer inner)) ≡ with_part path t (carved leaf area outer inner) }
+    ensures whole { (path : List Step) (t : Tree) (a : Area) (leaf area : Area) (outer inner : ℕ) →
+        part_at path t a ≡ Some (Tip (OneLeaf.Child outer), leaf) → weight_of (carved leaf area outer inner) ≡ 1 →
+        weight_of (normal (with_part path t (carved leaf area outer inner))) ≤ weight_of t }
+    ensures room { (path : List Step) (t : Tree) (a : Area) (leaf area : Area) (outer inner capacity : ℕ) →
+        IsNormal t → part_at path t a ≡ Some (Tip (OneLeaf.Child outer), leaf) → inner ≢ outer →
+        weight_of t ≤ capacity →
+        (weight_of (normal (with_part path t (carved leaf area outer inner))) ≤ capacity)
+        ↔ (weight_of t + weight_of (carved leaf area outer inner) ≤ capacity + 1) }
 {}

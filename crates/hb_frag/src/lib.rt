@@ -7,6 +7,11 @@
 //! part the page's box, so each point of it has one leaf; a part's leaves are a stretch of the
 //! page's; and another part in its place changes no other leaf.
 //!
+//! A child leaf is carved so that another child is named over what its box has in common with some
+//! box (`specs/Carving.antt`), and cuts that part nothing are taken away (`specs/Normal.antt`). The
+//! laws say that carving parts the leaf's box between the two, that a tree without such cuts says
+//! what the tree said, and what a page will weigh after both.
+//!
 //! Contracts see a `Frag` as a `Tree` (`specs/Trees.antt`), a `Path` as its list of sides, and
 //! `Pages` as a list of numbers. No type keeps an invariant: that every cut cuts its box is asked
 //! for where a call needs it, and `LivePage::is_well_cut` tells. The rules that a page keeps by
@@ -20,7 +25,11 @@
 //! capacity.
 #![tactic(auto)]
 
+mod carving;
+#[cfg(test)]
+mod carving_tests;
 mod fragments;
+mod joining;
 pub mod laws;
 mod leaves;
 mod names;
@@ -31,7 +40,9 @@ mod records;
 mod tests;
 mod threads;
 
+pub use carving::{carve, carved_weight};
 pub use fragments::{Frag, Node, replace};
+pub use joining::normal;
 pub use leaves::Leaf;
 pub use names::Pages;
 pub use pages::{LivePage, Page};

@@ -1,6 +1,6 @@
 ghost use Rattle.std.specs.Prelude.{◌≡◌, ◌<◌, ◌^◌, ◌↔◌, ℕ, Some, None, length, Any, IfOk, IsSome, IsTrue, MatchOption};
 ghost use Rattle.std.specs.List.{Contains};
-ghost use Rattle.hb_space.specs.Boxes.{Holds};
+ghost use Rattle.hb_space.specs.Boxes.{IsArea, Holds};
 ghost use Rattle.hb_frag.specs.Trees.{Tip};
 ghost use Rattle.hb_frag.specs.Leaves.{Placed, leaf_at, with_leaf_at, leaves, child_names, firsts, first_named, siblings_of, weight_of, DirectlyCovers, WellCut};
 ghost use Rattle.hb_frag.specs.Paths.{part_at, with_part, way_to, StaysInside};
@@ -54,6 +54,7 @@ impl LivePage {
         requires held { Holds self.now.area p.now }
         ensures value { leaf_at self.now p.now ≡ Some (record { leaf = result.0.now; area = result.1 }) }
         ensures inside { Holds result.1 p.now }
+        ensures area { IsArea self.now.area }
     {
         self.frag.leaf_at(self.area.copy(), p)
     }

@@ -16,7 +16,13 @@ fn area_of(lo: [u64; 2], hi: [u64; 2]) -> Result<Area, Fail> {
     Ok(Area::between(Point::new(&lo), Point::new(&hi)).ok_or("an empty box")?)
 }
 
-fn cut(alloc: Global, axis: u8, value: u64, left: Frag, right: Frag) -> Result<Frag, NoMemory>
+pub(crate) fn cut(
+    alloc: Global,
+    axis: u8,
+    value: u64,
+    left: Frag,
+    right: Frag,
+) -> Result<Frag, NoMemory>
     ensures { IfOk result (λ frag. weight_of frag ≡ weight_of left + weight_of right) }
 {
     let left = Box::new(alloc, left)?;
@@ -95,7 +101,7 @@ fn push_leaf(text: &mut String, leaf: &Leaf) -> Result<(), NoMemory> {
 }
 
 // A leaf, or the two sides of a cut with the attribute and the value between them.
-fn push_frag(text: &mut String, frag: &Frag) -> Result<(), NoMemory> {
+pub(crate) fn push_frag(text: &mut String, frag: &Frag) -> Result<(), NoMemory> {
     match &frag.node {
         Node::Tip(leaf) => push_leaf(text, leaf),
         Node::Cut {

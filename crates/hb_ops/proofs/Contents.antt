@@ -13,10 +13,11 @@ use Rattle.hb_frag.specs.declared.pages.Page.{Page}
 use Rattle.hb_frag.specs.declared.pages.Page.TheVariants.{Live}
 use Rattle.hb_frag.specs.Leaves.{WellCut, leaf_at, leaves, leaves_of, records_of}
 use Rattle.hb_frag.specs.Rules.{AreInOrder, IsInOrder}
-use Rattle.hb_ops.specs.declared.meta.Meta.{Meta}
+use Rattle.hb_layout.specs.declared.meta.Meta.{Meta}
 use Rattle.hb_ops.specs.declared.operations.Op.TheVariants.{Put, Del}
 use Rattle.hb_ops.specs.Files.{FileState, file_records, live_page, page_of, page_records}
-use Rattle.hb_ops.specs.Operations.{FitsDel, FitsPut, IsAllowedOn, change_of, effect_of, joined, nth_read, on_records, page_with, put_page, del_page, with_page, with_pages, without}
+use Rattle.hb_ops.specs.Recording.{FitsDel, FitsPut, joined, on_records, page_with, put_page, del_page, without}
+use Rattle.hb_ops.specs.Operations.{IsAllowedOn, change_of, effect_of, nth_read, with_page, with_pages}
 use Rattle.hb_ops.specs.LawsOfContents.{DelTakesOne, LonePage, OthersLack, PutAddsOne}
 use Rattle.hb_ops.proofs.Finds.{absent, contents, del_done, put_done, there}
 use Rattle.hb_ops.proofs.Lists.{whole}

@@ -12,7 +12,7 @@ use Rattle.std.proofs.lemmas.Bool.{false≢true}
 use Rattle.std.proofs.lemmas.Cmp.{nat_list_cmp_total, tied_itself}
 use Rattle.hb_space.specs.Points.{point_cmp}
 use Rattle.hb_space.specs.declared.records.Record.{Record}
-use Rattle.hb_ops.specs.Operations.{joined, without}
+use Rattle.hb_ops.specs.Recording.{joined, without}
 
 -- points that compare alike are one
 pub exact_points : IsAntisymmetric point_cmp

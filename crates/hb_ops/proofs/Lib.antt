@@ -10,3 +10,13 @@ pub mod Opened
 pub mod Remade
 pub mod Sound
 pub mod Looks
+pub mod LeafHalves
+pub mod CutLeaves
+pub mod CutShapes
+pub mod PathParts
+pub mod PagesParted
+pub mod CutTests
+pub mod PostTests
+pub mod CarvedCuts
+pub mod PostMade
+pub mod Made

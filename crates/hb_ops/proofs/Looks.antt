@@ -1,7 +1,6 @@
 -- What a page of level 0 has at a point is what the contents have.
-use Rattle.std.proofs.Common.{◌≡◌, ◌≢◌, ℕ, zero, suc, ◌<◌, Bool, true, false, cond, List, [], ◌∷◌, ◌++◌, get_or, length, slice_get, All, AllPairs, Option, Some, None, refl, sym, ap, ◌∙◌, arith}
+use Rattle.std.proofs.Common.{◌≡◌, ◌≢◌, ℕ, zero, suc, ◌<◌, Bool, true, false, cond, List, [], ◌∷◌, ◌++◌, get_or, length, slice_get, Option, Some, sym, ap, ◌∙◌, arith}
 use Rattle.std.specs.FinMap as finite
-use Rattle.std.specs.List.{AllByRecursion}
 use Rattle.std.specs.Option.{option_or}
 use Rattle.std.specs.Ordering.{eq_by_cmp, is_eq}
 use Rattle.std.specs.declared.cmp.Ordering.TheVariants.{Less}
@@ -9,7 +8,6 @@ use Rattle.std.proofs.lemmas.Cmp.{nat_list_cmp_total, tied_itself}
 use Rattle.std.proofs.lemmas.List.Elements.{recursion_from_All}
 use Rattle.hb_space.specs.Points.{point_cmp}
 use Rattle.hb_space.specs.declared.records.Record.{Record}
-use Rattle.hb_frag.specs.Rules.{Precedes}
 use Rattle.hb_ops.specs.Standing.{AbsenceIsContents, RecordsAreContents}
 use Rattle.hb_ops.proofs.Contents.{around}
 use Rattle.hb_ops.proofs.Finds.{absent, body_at, body-append, body-lacking, contents, get-contents, other_point}

@@ -13,9 +13,9 @@ use Rattle.hb_frag.specs.Trees.{Tree, Tip, Cut}
 use Rattle.hb_frag.specs.Leaves.{IsWellCut, Placed, WellCut, first_at, leaf_at, leaf_weight, leaves_of, records_of, weight_of, with_leaf_at}
 use Rattle.hb_frag.specs.Paths.{StaysInside, way_to}
 use Rattle.hb_frag.specs.Rules.{AreInOrder, IsInOrder, Precedes, capacity_of}
-use Rattle.hb_ops.specs.declared.meta.Meta.{Meta}
+use Rattle.hb_layout.specs.declared.meta.Meta.{Meta}
 use Rattle.hb_ops.specs.Edits.{HasGap, HasPlace, IsAt, IsGapFor, IsOpenAt}
-use Rattle.hb_ops.specs.Operations.{FitsDel, FitsPut, joined, on_records, page_with, put_page}
+use Rattle.hb_ops.specs.Recording.{FitsDel, FitsPut, joined, on_records, page_with, put_page}
 use Rattle.hb_ops.proofs.Boxes.{apart}
 use Rattle.hb_ops.proofs.Places.{gap_lacks, joined_at, place_has}
 use Rattle.hb_ops.proofs.Tips.{first_append, first_held, parted, tip_at, unchanged}

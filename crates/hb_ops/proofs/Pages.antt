@@ -1,5 +1,5 @@
 -- The pages of a file by their numbers, and the records of the page at a number among those of the others.
-use Rattle.std.proofs.Common.{◌≡◌, ◌≢◌, ℕ, zero, suc, ◌-◌, ◌<◌, ◌==◌, Bool, cond, List, [], ◌∷◌, ◌++◌, length, set, slice_get, flat_map, Option, Some, None, refl, sym, ap, ◌∙◌, arith, append_assoc, ne_eqb, lt-ltb, nat_lt}
+use Rattle.std.proofs.Common.{◌≡◌, ◌≢◌, ℕ, zero, suc, ◌+◌, ◌-◌, ◌<◌, ◌==◌, Bool, cond, List, [], ◌∷◌, ◌++◌, length, set, slice_get, flat_map, Option, Some, None, refl, sym, ap, ◌∙◌, arith, append_assoc, ne_eqb, lt-ltb, nat_lt}
 use Rattle.std.specs.List.{AllByRecursion}
 use Rattle.hb_space.specs.declared.records.Record.{Record}
 use Rattle.hb_frag.specs.declared.pages.LivePage.{LivePage}
@@ -37,8 +37,10 @@ in_range (x ∷ xs) (suc n) page e = let rest = in_range xs n page e in omega ar
 pub with_page-there : (pages : List Page) (n : ℕ) (new : Page) → n < length pages → with_page (suc n) new pages ≡ set pages n new
 with_page-there pages n new lt =
     let back : suc n - 1 ≡ n = omega arith in
-    ap (λ (m : ℕ). cond (nat_lt m (length pages)) (set pages m new) (pages ++ (new ∷ []))) back
-    ∙ ap (λ (b : Bool). cond b (set pages n new) (pages ++ (new ∷ []))) (lt-ltb n (length pages) lt)
+    let rest : List Page = cond (suc n == length pages + 1) (pages ++ (new ∷ [])) pages in
+    ap (λ (b : Bool). cond b pages (cond (nat_lt (suc n - 1) (length pages)) (set pages (suc n - 1) new) rest)) (ne_eqb (suc n) 0 (λ e. omega arith))
+    ∙ ap (λ (m : ℕ). cond (nat_lt m (length pages)) (set pages m new) rest) back
+    ∙ ap (λ (b : Bool). cond b (set pages n new) rest) (lt-ltb n (length pages) lt)
 
 -- a page in use
 pub live_so : (o : Option Page) (page : LivePage) → if_live o ≡ Some page → o ≡ Some (Live page)

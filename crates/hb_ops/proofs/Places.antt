@@ -12,7 +12,7 @@ use Rattle.hb_space.specs.Points.{point_cmp}
 use Rattle.hb_space.specs.declared.records.Record.{Record}
 use Rattle.hb_frag.specs.Rules.{Precedes}
 use Rattle.hb_ops.specs.Edits.{IsAt, IsGapFor}
-use Rattle.hb_ops.specs.Operations.{joined, without}
+use Rattle.hb_ops.specs.Recording.{joined, without}
 use Rattle.hb_ops.proofs.Finds.{exact_points}
 
 -- of two points the lesser one is first

@@ -16,9 +16,9 @@ use Rattle.hb_frag.specs.declared.pages.LivePage.{LivePage}
 use Rattle.hb_frag.specs.Trees.{Tree, Tip, Cut}
 use Rattle.hb_frag.specs.Leaves.{IsWellCut, Placed, WellCut, leaf_at, leaves, leaves_of, siblings, weight_of, with_leaf_at}
 use Rattle.hb_frag.specs.Rules.{AreAlike, BelongsAt, IsInOrder, IsNormal, IsSiblingTip, Precedes, capacity_of}
-use Rattle.hb_ops.specs.declared.meta.Meta.{Meta}
+use Rattle.hb_layout.specs.declared.meta.Meta.{Meta}
 use Rattle.hb_ops.specs.Sound.{FitsFile}
-use Rattle.hb_ops.specs.Operations.{FitsDel, FitsPut, del_page, joined, on_records, page_with, put_page, without}
+use Rattle.hb_ops.specs.Recording.{FitsDel, FitsPut, del_page, joined, on_records, page_with, put_page, without}
 use Rattle.hb_ops.proofs.Boxes.{held}
 use Rattle.hb_ops.proofs.Lists.{All-parts}
 use Rattle.hb_ops.proofs.Opened.{weight_changed}

@@ -9,11 +9,12 @@ use Rattle.hb_frag.specs.declared.pages.LivePage.{LivePage}
 use Rattle.hb_frag.specs.declared.pages.Page.{Page}
 use Rattle.hb_frag.specs.declared.pages.Page.TheVariants.{Live, Free}
 use Rattle.hb_frag.specs.Leaves.{leaves_of, siblings_of}
-use Rattle.hb_ops.specs.declared.meta.Meta.{Meta}
+use Rattle.hb_layout.specs.declared.meta.Meta.{Meta}
 use Rattle.hb_ops.specs.declared.operations.Op.TheVariants.{Put, Del}
 use Rattle.hb_ops.specs.Files.{FileState, if_live, live_page, page_of}
-use Rattle.hb_ops.specs.Operations.{change_of, joined, nth_read, page_with, with_page, with_pages, without}
-use Rattle.hb_ops.specs.LawsOfContents.{StaysSound}
+use Rattle.hb_ops.specs.Recording.{joined, page_with, without}
+use Rattle.hb_ops.specs.Operations.{change_of, nth_read, with_page, with_pages}
+use Rattle.hb_ops.specs.LawsOfContents.{PutStaysSound, DelStaysSound}
 use Rattle.hb_ops.specs.Sound.{ChildrenMatch, FitsFile, IsChain, IsCounted, IsCovered, IsRooted, IsSound, SiblingsMatch, count_live, count_name, times_named}
 use Rattle.hb_ops.proofs.Contents.{del_on, put_on}
 use Rattle.hb_ops.proofs.Pages.{in_range, live_so, page_at-suc, page_at-zero, place_of, with_page-there}
@@ -195,12 +196,14 @@ with_remade s id page p change live made sound =
     let pages : with_page id new s.pages ≡ set s.pages here.0 new = ap (λ (m : ℕ). with_page m new s.pages) here.1 ∙ with_page-there s.pages here.0 new (in_range s.pages here.0 (Live page) here.2) in
     subst (λ (pages : List Page). IsSound (record { meta = s.meta; pages = pages })) (sym pages) (sound_again s here.0 page (page_with p change page) here.2 (like_remade s.meta page p change made) sound)
 
-pub stays_sound : StaysSound
-stays_sound s (Put id rec) sound has allowed licensed =
+pub put_stays_sound : PutStaysSound
+put_stays_sound s id rec sound has allowed =
     let on = put_on id rec s.meta (live_page s id) (nth_read s (Put id rec) 1) (nth_read s (Put id rec) 2) allowed in
     let state : Option LivePage → FileState = λ o. let made = change_of (Put id rec) s.meta o (nth_read s (Put id rec) 1) (nth_read s (Put id rec) 2) in record { meta = made.meta; pages = with_pages made.pages s.pages } in
     subst (λ (o : Option LivePage). IsSound (state o)) (sym on.1) (with_remade s id on.0 rec.key (joined rec) on.1 (put_made s.meta on.0 rec on.2) sound)
-stays_sound s (Del id point) sound has allowed licensed =
+
+pub del_stays_sound : DelStaysSound
+del_stays_sound s id point sound has allowed =
     let on = del_on id point s.meta (live_page s id) (nth_read s (Del id point) 1) (nth_read s (Del id point) 2) allowed in
     let state : Option LivePage → FileState = λ o. let made = change_of (Del id point) s.meta o (nth_read s (Del id point) 1) (nth_read s (Del id point) 2) in record { meta = made.meta; pages = with_pages made.pages s.pages } in
     subst (λ (o : Option LivePage). IsSound (state o)) (sym on.1) (with_remade s id on.0 point (without point) on.1 (del_made s.meta on.0 point on.2) sound)

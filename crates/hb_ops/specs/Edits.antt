@@ -8,9 +8,9 @@ use Rattle.hb_space.specs.declared.records.Record.{Record}
 use Rattle.hb_frag.specs.declared.leaves.Leaf.TheVariants.{Records}
 use Rattle.hb_frag.specs.declared.pages.LivePage.{LivePage}
 use Rattle.hb_frag.specs.Leaves.{leaf_at}
-use Rattle.hb_ops.specs.declared.meta.Meta.{Meta}
+use Rattle.hb_layout.specs.declared.meta.Meta.{Meta}
 use Rattle.hb_ops.specs.Sound.{FitsFile}
-use Rattle.hb_ops.specs.Operations.{FitsDel, FitsPut}
+use Rattle.hb_ops.specs.Recording.{FitsDel, FitsPut}
 
 -- the page is well made and of level 0, and its leaf at the point has these records
 pub record IsOpenAt (meta : Meta) (page : LivePage) (point : List ℕ) (records : List Record) : Type 0 where

@@ -1,15 +1,16 @@
 -- What a put and a delete make of a file, as laws.
-use Rattle.std.specs.Prelude.{◌≡◌, ◌≢◌, ℕ, List, length, All, Some, None}
+use Rattle.std.specs.Prelude.{◌≡◌, ◌≢◌, ℕ, ◌≤◌, List, length, All, Option, Some, None}
 use Rattle.std.specs.FinMap as finite
 use Rattle.hb_space.specs.declared.records.Record.{Record}
 use Rattle.hb_frag.specs.declared.pages.Page.{Page}
+use Rattle.hb_frag.specs.declared.pages.Page.TheVariants.{Live, Free}
 use Rattle.hb_ops.specs.declared.operations.Op.{Op}
 use Rattle.hb_ops.specs.declared.operations.Op.TheVariants.{Put, Del}
 use Rattle.hb_ops.specs.Files.{FileState, page_of, page_records, contents_of}
 use Rattle.hb_frag.specs.declared.pages.LivePage.{LivePage}
-use Rattle.hb_ops.specs.declared.meta.Meta.{Meta}
+use Rattle.hb_layout.specs.declared.meta.Meta.{Meta}
 use Rattle.hb_ops.specs.Sound.{FitsFile, IsSound}
-use Rattle.hb_ops.specs.Operations.{FitsDel, FitsPut, IsAllowed, IsLicensed, del_page, effect_of, put_page, OpHas}
+use Rattle.hb_ops.specs.Operations.{IsAllowed, IsAllowedOn, change_of, effect_of, OpHas}
 
 -- no other page of level 0 has a record of the point
 abbrev pub OthersLack : FileState → ℕ → List ℕ → Type 0
@@ -29,13 +30,20 @@ abbrev pub DelTakesOne : Type 0
 DelTakesOne = (s : FileState) (id : ℕ) (point : List ℕ) → IsAllowed s (Del id point) → length point ≡ s.meta.k → OthersLack s id point →
     ((body : List ℕ) × (finite.get (contents_of s) point ≡ Some body)) × (contents_of (effect_of s (Del id point)) ≡ finite.remove (contents_of s) point)
 
--- A sound file stays sound.
-abbrev pub StaysSound : Type 0
-StaysSound = (s : FileState) (op : Op) → IsSound s → OpHas s.meta.k op → IsAllowed s op → IsLicensed s op → IsSound (effect_of s op)
+-- An allowed put leaves a sound file sound, and so does an allowed delete.
+abbrev pub PutStaysSound : Type 0
+PutStaysSound = (s : FileState) (id : ℕ) (rec : Record) → IsSound s → length rec.key ≡ s.meta.k → IsAllowed s (Put id rec) → IsSound (effect_of s (Put id rec))
 
--- What an allowed put and an allowed delete make of a page is well made again.
-abbrev pub PutMakesWell : Type 0
-PutMakesWell = (meta : Meta) (page : LivePage) (rec : Record) → FitsPut meta page rec → FitsFile meta (put_page rec page)
+abbrev pub DelStaysSound : Type 0
+DelStaysSound = (s : FileState) (id : ℕ) (point : List ℕ) → IsSound s → length point ≡ s.meta.k → IsAllowed s (Del id point) → IsSound (effect_of s (Del id point))
 
-abbrev pub DelMakesWell : Type 0
-DelMakesWell = (meta : Meta) (page : LivePage) (point : List ℕ) → FitsDel meta page point → FitsFile meta (del_page point page)
+-- a page in use is well made for the file
+abbrev pub IsWellIn : Meta → Page → Type 0
+IsWellIn meta (Live page) = FitsFile meta page
+IsWellIn meta (Free next) = Unit {0}
+
+-- What an allowed operation makes of the pages that it reads, and the page that it makes, are well made for the file
+-- afterwards.
+abbrev pub ChangesMakeWell : Type 0
+ChangesMakeWell = (op : Op) (meta : Meta) (first second third : Option LivePage) → 1 ≤ meta.icap → 1 ≤ meta.height → OpHas meta.k op → IsAllowedOn op meta first second third →
+    All (λ c. IsWellIn (change_of op meta first second third).meta c.1) (change_of op meta first second third).pages

@@ -1,5 +1,11 @@
 pub mod Files
 pub mod Sound
+pub mod Recording
+pub mod Allocating
+pub mod Cutting
+pub mod Extracting
+pub mod Posting
+pub mod Growing
 pub mod Operations
 pub mod LocalRule
 pub mod Given
@@ -7,3 +13,5 @@ pub mod LawsOfContents
 pub mod Edits
 pub mod Standing
 pub mod Looked
+pub mod Splits
+pub mod Posts

@@ -3,7 +3,7 @@ use Rattle.std.specs.Prelude.{◌≡◌, ◌⊎◌, ℕ}
 use Rattle.hb_frag.specs.declared.pages.LivePage.{LivePage}
 use Rattle.hb_frag.specs.Rules.{Fits, IsFilledRight, AreInOrder, IsNormal}
 use Rattle.hb_frag.specs.Leaves.{WellCut}
-use Rattle.hb_ops.specs.declared.meta.Meta.{Meta}
+use Rattle.hb_layout.specs.declared.meta.Meta.{Meta}
 
 -- it keeps every earlier rule and breaks the one of this number: 3, 4, 5, 6 or 10
 abbrev pub BreaksFirst : ℕ → LivePage → Meta → Type 0

@@ -1,71 +1,27 @@
 -- When each operation is allowed, and what it does: first for the pages that it reads, then for a file.
-use Rattle.std.specs.Prelude.{◌≡◌, ◌≢◌, ℕ, ◌-◌, ◌≤◌, nat_lt, if◌then◌else◌, List, [], ◌∷◌, ◌++◌, length, get_or, filter, All, Any, Option, Some, None, slice_set}
-use Rattle.std.specs.Ordering.{is_lt, is_gt, is_ne}
-use Rattle.hb_space.specs.Points.{point_cmp}
-use Rattle.hb_space.specs.Boxes.{Area}
-use Rattle.hb_space.specs.declared.records.Record.{Record}
-use Rattle.hb_frag.specs.declared.leaves.Leaf.{Leaf}
-use Rattle.hb_frag.specs.declared.leaves.Leaf.TheVariants.{Records, Child, Sibling}
+use Rattle.std.specs.Prelude.{◌≡◌, ℕ, ◌+◌, ◌-◌, ◌==◌, nat_lt, if◌then◌else◌, List, [], ◌∷◌, ◌++◌, length, get_or, Option, Some, None, slice_set}
+use Rattle.hb_space.specs.Boxes.{IsArea}
 use Rattle.hb_frag.specs.declared.pages.LivePage.{LivePage}
 use Rattle.hb_frag.specs.declared.pages.Page.{Page}
 use Rattle.hb_frag.specs.declared.pages.Page.TheVariants.{Live}
-use Rattle.hb_frag.specs.Leaves.{leaf_at, with_leaf_at, weight_of}
-use Rattle.hb_ops.specs.declared.meta.Meta.{Meta}
+use Rattle.hb_frag.specs.Paths.{part_at}
+use Rattle.hb_layout.specs.declared.meta.Meta.{Meta}
 use Rattle.hb_ops.specs.declared.operations.Op.{Op}
-use Rattle.hb_ops.specs.declared.operations.Op.TheVariants.{Put, Del}
+use Rattle.hb_ops.specs.declared.operations.Op.TheVariants.{Put, Del, Extract, Post, Grow}
+use Rattle.hb_ops.specs.Allocating.{NamesNext, allocated}
+use Rattle.hb_ops.specs.Extracting.{FitsExtract, split_pages}
 use Rattle.hb_ops.specs.Files.{FileState, live_page}
-use Rattle.hb_ops.specs.Sound.{FitsFile}
-
--- a record among the records of a leaf, in the order of their points
-abbrev pub joined : Record → List Record → List Record
-joined rec records = filter (λ r. is_lt (point_cmp r.key rec.key)) records ++ rec ∷ filter (λ r. is_gt (point_cmp r.key rec.key)) records
-
--- the records but that of the point
-abbrev pub without : List ℕ → List Record → List Record
-without point records = filter (λ r. is_ne (point_cmp r.key point)) records
-
--- a leaf with its records changed; one that names a page stays
-abbrev pub on_records : (List Record → List Record) → Leaf → Leaf
-on_records change (Records records) = Records (change records)
-on_records change (Child page) = Child page
-on_records change (Sibling page) = Sibling page
-
--- a page with the records changed that its leaf at the point has
-abbrev pub page_with : List ℕ → (List Record → List Record) → LivePage → LivePage
-page_with point change page = record { level = page.level; area = page.area; frag = with_leaf_at point (on_records change) page.frag page.area }
-
--- the page with the record, and the page without that of the point
-abbrev pub put_page : Record → LivePage → LivePage
-put_page rec page = page_with rec.key (joined rec) page
-
-abbrev pub del_page : List ℕ → LivePage → LivePage
-del_page point page = page_with point (without point) page
-
--- the page's leaf at the point is one of records, and they keep P
-pub record HasRecordsAt (page : LivePage) (point : List ℕ) (P : List Record → Type 0) : Type 0 where
-  pub records : List Record
-  pub area : Area
-  pub leaf : leaf_at page point ≡ Some (record { leaf = Records records; area = area })
-  pub keeps : P records
-
--- A record may be put into a page of level 0 whose leaf at its point has records and not this point, where the page
--- has room: it is the weight after it that is at most the capacity.
-pub record FitsPut (meta : Meta) (page : LivePage) (rec : Record) : Type 0 where
-  pub made : FitsFile meta page
-  pub level : page.level ≡ 0
-  pub absent : HasRecordsAt page rec.key (All (λ r. r.key ≢ rec.key))
-  pub room : weight_of (put_page rec page).frag ≤ meta.dcap
-
--- The record of a point may be taken from a page of level 0 whose leaf at the point has it.
-pub record FitsDel (meta : Meta) (page : LivePage) (point : List ℕ) : Type 0 where
-  pub made : FitsFile meta page
-  pub level : page.level ≡ 0
-  pub there : HasRecordsAt page point (Any (λ r. r.key ≡ point))
+use Rattle.hb_ops.specs.Growing.{FitsGrow, new_root, raised}
+use Rattle.hb_ops.specs.Posting.{FitsPost, GaveAway, post_page}
+use Rattle.hb_ops.specs.Recording.{FitsDel, FitsPut, del_page, put_page}
 
 -- the numbers of the pages that an operation reads, in the order in which they are given
 abbrev pub reads_of : Op → List ℕ
 reads_of (Put page rec) = page ∷ []
 reads_of (Del page point) = page ∷ []
+reads_of (Extract source fresh path cuts free_after) = source ∷ []
+reads_of (Post parent at inner area) = parent ∷ []
+reads_of (Grow fresh free_after) = []
 
 -- An operation is allowed on what it reads. A page that isn't in use isn't given, and then no operation is allowed
 -- that reads it.
@@ -74,17 +30,37 @@ IsAllowedOn (Put id rec) meta (Some page) second third = FitsPut meta page rec
 IsAllowedOn (Put id rec) meta None second third = ⊥
 IsAllowedOn (Del id point) meta (Some page) second third = FitsDel meta page point
 IsAllowedOn (Del id point) meta None second third = ⊥
+IsAllowedOn (Extract source fresh path cuts free_after) meta (Some page) second third = FitsExtract meta page fresh path cuts free_after
+IsAllowedOn (Extract source fresh path cuts free_after) meta None second third = ⊥
+IsAllowedOn (Post parent at inner area) meta (Some page) second third = FitsPost meta page at inner area
+IsAllowedOn (Post parent at inner area) meta None second third = ⊥
+IsAllowedOn (Grow fresh free_after) meta first second third = FitsGrow meta fresh free_after
 
 -- what an operation makes of a file: what the file says of itself then, and the pages that change
 pub record Change : Type 0 where
   pub meta : Meta
   pub pages : List (ℕ × Page)
 
+-- nothing changes
+abbrev pub no_change : Meta → Change
+no_change meta = record { meta = meta; pages = [] }
+
 abbrev pub change_of : Op → Meta → Option LivePage → Option LivePage → Option LivePage → Change
 change_of (Put id rec) meta (Some page) second third = record { meta = meta; pages = (id, Live (put_page rec page)) ∷ [] }
-change_of (Put id rec) meta None second third = record { meta = meta; pages = [] }
+change_of (Put id rec) meta None second third = no_change meta
 change_of (Del id point) meta (Some page) second third = record { meta = meta; pages = (id, Live (del_page point page)) ∷ [] }
-change_of (Del id point) meta None second third = record { meta = meta; pages = [] }
+change_of (Del id point) meta None second third = no_change meta
+change_of (Extract source fresh path cuts free_after) meta (Some page) second third = record {
+  meta = allocated meta fresh free_after;
+  pages = split_pages source fresh path cuts page (part_at path page.frag page.area);
+}
+change_of (Extract source fresh path cuts free_after) meta None second third = no_change meta
+change_of (Post parent at inner area) meta (Some page) second third = record { meta = meta; pages = (parent, Live (post_page at inner area page)) ∷ [] }
+change_of (Post parent at inner area) meta None second third = no_change meta
+change_of (Grow fresh free_after) meta first second third = record {
+  meta = raised (allocated meta fresh free_after) fresh;
+  pages = (fresh, Live (new_root meta)) ∷ [];
+}
 
 -- the live page that an operation reads at a place of its list
 abbrev pub nth_read : FileState → Op → ℕ → Option LivePage
@@ -99,10 +75,14 @@ IsAllowed s op = IsAllowedOn op s.meta (nth_read s op 0) (nth_read s op 1) (nth_
 abbrev pub IsLicensed : FileState → Op → Type 0
 IsLicensed s (Put page rec) = Unit {0}
 IsLicensed s (Del page point) = Unit {0}
+IsLicensed s (Extract source fresh path cuts free_after) = NamesNext s fresh free_after
+IsLicensed s (Post parent at inner area) = GaveAway s parent at inner area
+IsLicensed s (Grow fresh free_after) = NamesNext s fresh free_after
 
--- pages with another one under a number; the number behind the last adds a page
+-- pages with another one under a number; the number behind the last adds a page, and no other number has a place
 abbrev pub with_page : ℕ → Page → List Page → List Page
-with_page id page pages = if nat_lt (id - 1) (length pages) then slice_set pages (id - 1) page else pages ++ page ∷ []
+with_page id page pages = if id == 0 then pages else if nat_lt (id - 1) (length pages) then slice_set pages (id - 1) page
+    else if id == length pages + 1 then pages ++ page ∷ [] else pages
 
 abbrev pub with_pages : List (ℕ × Page) → List Page → List Page
 with_pages [] pages = pages
@@ -112,7 +92,10 @@ with_pages (changed ∷ rest) pages = with_pages rest (with_page changed.0 chang
 abbrev pub effect_of : FileState → Op → FileState
 effect_of s op = let change = change_of op s.meta (nth_read s op 0) (nth_read s op 1) (nth_read s op 2) in record { meta = change.meta; pages = with_pages change.pages s.pages }
 
--- the points of an operation have k attributes
+-- the points and the box of an operation have k attributes
 abbrev pub OpHas : ℕ → Op → Type 0
 OpHas k (Put page rec) = length rec.key ≡ k
 OpHas k (Del page point) = length point ≡ k
+OpHas k (Extract source fresh path cuts free_after) = Unit {0}
+OpHas k (Post parent at inner area) = IsArea area × (length area.lo ≡ k)
+OpHas k (Grow fresh free_after) = Unit {0}

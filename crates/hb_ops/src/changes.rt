@@ -1,11 +1,18 @@
-ghost use Rattle.std.specs.Prelude.{◌≡◌, ◌<◌, ◌≤◌, ◌^◌, [], ◌∷◌, Option, IfSome, IfOk, IsErrOf};
+ghost use Rattle.std.specs.Prelude.{◌≡◌, ◌<◌, ◌≤◌, ◌^◌, [], ◌∷◌, None, IfSome, IfOk, IsErrOf};
 ghost use Rattle.hb_frag.specs.Leaves.{weight_of};
+ghost use Rattle.hb_ops.specs.Allocating.{Allocates, allocated};
+ghost use Rattle.hb_ops.specs.Growing.{FitsGrow};
+ghost use Rattle.hb_ops.specs.declared.operations.Op.TheVariants as kinds;
 ghost use Rattle.hb_frag.specs.declared.pages.Page.TheVariants.{Live};
 ghost use Rattle.hb_ops.specs.Operations.{IsAllowedOn, change_of, OpHas};
 ghost use Rattle.hb_ops.specs.Given.{given};
-ghost use Rattle.hb_ops.specs.declared.changes.ChangeError.TheVariants.{Unfit, NoMemory};
+ghost use Rattle.hb_ops.specs.declared.changes.ChangeError.TheVariants.{Unfit, NoMemory as Starved};
 
+use crate::allocations::allocated;
 use crate::edits::{delete, put};
+use crate::extracting::extract;
+use crate::growing::{may_grow, new_root, raised};
+use crate::posting::post;
 use crate::{Meta, Op};
 use arrayvec::ArrayVec;
 use hb_frag::{LivePage, Page};
@@ -30,8 +37,8 @@ pub enum ChangeError {
     NoMemory,
 }
 
-/// What the operation makes of the file, from the pages in use that it reads: `first` for a put and a delete.
-/// `None` stands for a page that isn't in use.
+/// What the operation makes of the file, from the pages in use that it reads: `first`, and for a
+/// growth none. `None` stands for a page that isn't in use.
 ///
 /// `Unfit` exactly where the operation isn't allowed on these pages.
 pub fn change(
@@ -49,7 +56,7 @@ pub fn change(
     ensures allowed { IfOk result (λ c. IsAllowedOn op.now meta.now (given first.entry) (given second.entry) (given third.entry)) }
     ensures effect { IfOk result (λ c. record { meta = c.meta; pages = c.pages.items } ≡ change_of op.now meta.now (given first.entry) (given second.entry) (given third.entry)) }
     ensures unfit { IsErrOf result Unfit → ¬ (IsAllowedOn op.now meta.now (given first.entry) (given second.entry) (given third.entry)) }
-    ensures memory { IsErrOf result NoMemory → IsAllowedOn op.now meta.now (given first.entry) (given second.entry) (given third.entry) }
+    ensures memory { IsErrOf result Starved → IsAllowedOn op.now meta.now (given first.entry) (given second.entry) (given third.entry) }
 {
     match op {
         Op::Put { page: id, rec } => match first {
@@ -60,10 +67,74 @@ pub fn change(
             None => Err(ChangeError::Unfit),
             Some(page) => Ok(one_changed(meta, *id, delete(alloc, page, meta, point)?)),
         },
+        Op::Extract {
+            source,
+            fresh,
+            path,
+            cuts,
+            free_after,
+        } => match first {
+            None => Err(ChangeError::Unfit),
+            Some(page) => {
+                let pages = extract(alloc, page, meta, *fresh, path, cuts, *free_after)?;
+                Ok(split(meta, *source, *fresh, pages, *free_after))
+            }
+        },
+        Op::Post {
+            parent,
+            at,
+            inner,
+            area,
+        } => match first {
+            None => Err(ChangeError::Unfit),
+            Some(page) => Ok(one_changed(
+                meta,
+                *parent,
+                post(alloc, page, meta, at, *inner, area)?,
+            )),
+        },
+        Op::Grow { fresh, free_after } => grown(meta, *fresh, *free_after),
     }
 }
 
-// One page that changes, in a file that says the same of itself as before.
+// Two pages that change, where a page number is taken for the second one.
+fn split(
+    meta: &Meta,
+    source: u32,
+    fresh: u32,
+    pages: (LivePage, LivePage),
+    free_after: u32,
+) -> Changed
+    requires { Allocates meta.now fresh free_after }
+    ensures meta { result.meta ≡ allocated meta.now fresh free_after }
+    ensures pages { result.pages.items ≡ (source, Live pages.0) ∷ (fresh, Live pages.1) ∷ [] }
+{
+    let mut changed = ArrayVec::new();
+    changed.push((source, Page::Live(pages.0)));
+    changed.push((fresh, Page::Live(pages.1)));
+    Changed {
+        meta: allocated(meta, fresh, free_after),
+        pages: changed,
+    }
+}
+
+// A new root, where the file may get a level.
+fn grown(meta: &Meta, fresh: u32, free_after: u32) -> Result<Changed, ChangeError>
+    requires some { 1 ≤ meta.now.k }
+    requires few { meta.now.k ≤ KMAX }
+    ensures allowed { IfOk result (λ c. FitsGrow meta.now fresh free_after) }
+    ensures effect { IfOk result (λ c. record { meta = c.meta; pages = c.pages.items } ≡ change_of (kinds.Grow fresh free_after) meta.now None None None) }
+    ensures unfit { IsErrOf result Unfit → ¬ (FitsGrow meta.now fresh free_after) }
+    ensures memory { ¬ (IsErrOf result Starved) }
+{
+    if !may_grow(meta, fresh, free_after) {
+        return Err(ChangeError::Unfit);
+    }
+    let said = allocated(meta, fresh, free_after);
+    Ok(one_changed(&raised(&said, fresh), fresh, new_root(meta)))
+}
+
+// One page that changes, in a file that says this of itself then.
 fn one_changed(meta: &Meta, id: u32, page: LivePage) -> Changed
     ensures meta { result.meta ≡ meta.now }
     ensures pages { result.pages.items ≡ (id, Live page) ∷ [] }

@@ -83,7 +83,7 @@ fn belongs(leaf: &Leaf, level: u8) -> bool
 }
 
 // Whether all of the part is one sibling leaf.
-fn is_sibling_tip(frag: &Frag) -> bool
+pub(crate) fn is_sibling_tip(frag: &Frag) -> bool
     ensures { IsTrue result ↔ IsSiblingTip frag.now }
 {
     matches!(&frag.node, Node::Tip(Leaf::Sibling(_)))

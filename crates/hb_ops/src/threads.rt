@@ -2,12 +2,14 @@
 
 ghost use Rattle.std.specs.Thread.{IsSend, IsSync};
 
-use crate::{ChangeError, Changed, Meta, Op};
+use crate::{ChangeError, Changed, Cuts, LeafCut, Meta, Op};
 
 /// Each type of the crate does.
 fn types_cross_threads() {
     crosses::<Meta>();
     crosses::<Op>();
+    crosses::<LeafCut>();
+    crosses::<Cuts>();
     crosses::<Changed>();
     crosses::<ChangeError>();
 }

@@ -1,4 +1,5 @@
 pub mod Reading
+pub mod Exact
 pub mod Memory
 pub mod Writing
 pub mod Weight

@@ -13,7 +13,7 @@ pub(crate) fn u16_of(bytes: &[u8]) -> Option<(u16, &[u8])>
 }
 
 /// A number of four bytes, and the bytes behind it.
-pub(crate) fn u32_of(bytes: &[u8]) -> Option<(u32, &[u8])>
+pub fn u32_of(bytes: &[u8]) -> Option<(u32, &[u8])>
     ensures { Reads (λ x. (x.0, x.1.now)) result (number_at 4 bytes.now) }
 {
     let number = take_u32(bytes, 0)?;
@@ -21,7 +21,7 @@ pub(crate) fn u32_of(bytes: &[u8]) -> Option<(u32, &[u8])>
 }
 
 /// A number of eight bytes, and the bytes behind it.
-pub(crate) fn u64_of(bytes: &[u8]) -> Option<(u64, &[u8])>
+pub fn u64_of(bytes: &[u8]) -> Option<(u64, &[u8])>
     ensures { Reads (λ x. (x.0, x.1.now)) result (number_at 8 bytes.now) }
 {
     let number = take_u64(bytes, 0)?;

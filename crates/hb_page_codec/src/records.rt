@@ -8,7 +8,7 @@ use hb_space::form::{BMAX, KMAX};
 use hb_space::{Area, Body, Point, Record};
 
 /// A point of `k` values.
-pub(crate) fn point_of(k: u8, bytes: &[u8]) -> Option<(Point, &[u8])>
+pub fn point_of(k: u8, bytes: &[u8]) -> Option<(Point, &[u8])>
     requires some { 0 < k }
     requires few { k ≤ KMAX }
     ensures reads { Reads (λ x. (x.0, x.1.now)) result (point_at k bytes.now) }
@@ -34,7 +34,7 @@ fn area_of_corners(lo: Point, hi: Point) -> Option<Area>
 
 /// A box of `k` attributes.
 #[tactic(auto, unfolding(crate::specs::Reading::area_at))]
-pub(crate) fn area_of(k: u8, bytes: &[u8]) -> Option<(Area, &[u8])>
+pub fn area_of(k: u8, bytes: &[u8]) -> Option<(Area, &[u8])>
     requires some { 0 < k }
     requires few { k ≤ KMAX }
     ensures { Reads (λ x. (x.0, x.1.now)) result (area_at k bytes.now) }
@@ -61,7 +61,7 @@ fn body_of(bytes: &[u8]) -> Option<(Body, &[u8])>
 
 /// A record whose point has `k` values.
 #[tactic(auto, unfolding(crate::specs::Reading::record_at))]
-pub(crate) fn record_of(k: u8, bytes: &[u8]) -> Option<(Record, &[u8])>
+pub fn record_of(k: u8, bytes: &[u8]) -> Option<(Record, &[u8])>
     requires some { 0 < k }
     requires few { k ≤ KMAX }
     ensures { Reads (λ x. (x.0, x.1.now)) result (record_at k bytes.now) }

@@ -4,7 +4,7 @@ use Rattle.std.proofs.lemmas.Bool.{cases_eq}
 use Rattle.std.proofs.lemmas.List.Elements.{Contains-append_right}
 use Rattle.hb_frag.specs.declared.pages.Page.{Page}
 use Rattle.hb_frag.specs.declared.pages.Page.TheVariants as pages
-use Rattle.hb_ops.specs.declared.meta.Meta.{Meta}
+use Rattle.hb_layout.specs.declared.meta.Meta.{Meta}
 use Rattle.hb_ops.specs.Files.{FileState, page_of}
 use Rattle.hb_ops.specs.Sound.{IsChain, IsCounted, count_live}
 use Rattle.hb_sound.specs.declared.facts.Fact.{Fact}
@@ -20,7 +20,7 @@ contains_at : {X : Type 0} (x y : X) (xs : List X) (k : ℕ) → k < length (x �
 contains_at {X} x y xs zero lt e = inl e
 contains_at {X} x y xs (suc k) lt e = inr (k, omega (arith, lt), e)
 
-contains_cases : {X : Type 0} (x y : X) (xs : List X) → Contains (x ∷ xs) y → (x ≡ y) ⊎ Contains xs y
+pub contains_cases : {X : Type 0} (x y : X) (xs : List X) → Contains (x ∷ xs) y → (x ≡ y) ⊎ Contains xs y
 contains_cases {X} x y xs h = contains_at x y xs h.0 h.1 h.2
 
 -- a number that can't be missing is there

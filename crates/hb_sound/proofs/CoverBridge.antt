@@ -12,7 +12,7 @@ use Rattle.hb_frag.specs.declared.pages.Page.TheVariants as pages
 use Rattle.hb_frag.specs.Leaves.{Placed, IsWellCut, WellCut, leaves_of, siblings, siblings_of}
 use Rattle.hb_frag.specs.Rules.{Fits, IsFilledRight, IsSiblingTip}
 use Rattle.hb_frag.specs.Trees.{Tree, Tip, Cut}
-use Rattle.hb_ops.specs.declared.meta.Meta.{Meta}
+use Rattle.hb_layout.specs.declared.meta.Meta.{Meta}
 use Rattle.hb_ops.specs.Files.{FileState, if_live, live_page}
 use Rattle.hb_ops.specs.LocalRule.{BreaksFirst}
 use Rattle.hb_ops.specs.Sound.{FitsFile, IsCovered, SiblingsMatch, count_name, times_named}

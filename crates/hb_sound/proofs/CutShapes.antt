@@ -10,7 +10,8 @@ use Rattle.hb_frag.specs.Trees.{Tree, Tip, Cut}
 use Rattle.hb_frag.specs.Leaves.{Placed, leaves_of, siblings, weight_of}
 use Rattle.hb_frag.specs.Rules.{AreAlike, IsNormal, IsSiblingTip}
 use Rattle.hb_ops.specs.Sound.{count_name}
-use Rattle.hb_sound.specs.Splitting.{LeafCut, PartLeaves, PartsLeaf, area_on, cut_through, cut_with, going, half_area, other_side, reached, staying}
+use Rattle.hb_ops.specs.declared.leaf_cuts.LeafCut.{LeafCut}
+use Rattle.hb_ops.specs.Cutting.{PartLeaves, PartsLeaf, area_on, cut_through, cut_with, going, half_area, other_side, reached, staying}
 use Rattle.hb_sound.proofs.LeafHalves.{both_halves}
 use Rattle.hb_sound.proofs.SiblingLeaves.{placed}
 

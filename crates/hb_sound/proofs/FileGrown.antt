@@ -5,12 +5,15 @@ use Rattle.std.proofs.lemmas.Bool.{cases_eq}
 use Rattle.hb_frag.specs.declared.pages.LivePage.{LivePage}
 use Rattle.hb_frag.specs.declared.pages.Page.{Page}
 use Rattle.hb_frag.specs.declared.pages.Page.TheVariants.{Live}
-use Rattle.hb_ops.specs.declared.meta.Meta.{Meta}
+use Rattle.hb_layout.specs.declared.meta.Meta.{Meta}
 use Rattle.hb_ops.specs.Files.{FileState, if_live, live_page, page_of}
 use Rattle.hb_ops.specs.Operations.{with_page}
 use Rattle.hb_ops.specs.Sound.{IsChain, IsCounted, IsSound, times_named}
-use Rattle.hb_sound.specs.Growing.{Growth, GrowthChangesOne, LicensesGrowth, MayGrow, grown, new_root, raised}
-use Rattle.hb_sound.specs.Splitting.{Extraction, allocated}
+use Rattle.hb_sound.proofs.Growths.{Growth, LicensesGrowth, MayGrow, growth, grown}
+use Rattle.hb_sound.specs.LawsOfOperations.{GrowthChangesOne}
+use Rattle.hb_ops.specs.Growing.{new_root, raised}
+use Rattle.hb_sound.proofs.Extractions.{Extraction}
+use Rattle.hb_ops.specs.Allocating.{allocated}
 use Rattle.hb_sound.proofs.FileParted.{IsParted, is_parted}
 use Rattle.hb_sound.proofs.PageLists.{number_of, range_of, with_page-there}
 use Rattle.hb_sound.proofs.PagePlaces.{live_so}
@@ -97,6 +100,6 @@ module _ (s : FileState) (x : Growth) (grew : IsGrown s x) where
   ]
 
 pub growth_changes_one : GrowthChangesOne
-growth_changes_one s x sound may licensed =
-    let grew = is_grown s x sound may licensed in
+growth_changes_one s fresh free_after sound may licensed =
+    let grew = is_grown s (growth fresh free_after) sound may licensed in
     record { vacant = grew.vacant; there = ap if_live grew.there; others = grew.others }

@@ -9,12 +9,12 @@ use Rattle.hb_frag.specs.declared.pages.Page.{Page}
 use Rattle.hb_frag.specs.declared.pages.Page.TheVariants.{Live, Free}
 use Rattle.hb_frag.specs.Trees.{Tree}
 use Rattle.hb_frag.specs.Leaves.{Placed, leaves_of, siblings_of}
-use Rattle.hb_ops.specs.declared.meta.Meta.{Meta}
+use Rattle.hb_layout.specs.declared.meta.Meta.{Meta}
 use Rattle.hb_ops.specs.Files.{FileState, if_live, live_page, page_of}
 use Rattle.hb_ops.specs.Operations.{with_page}
 use Rattle.hb_ops.specs.Sound.{FitsFile, count_live, count_name, times_named}
-use Rattle.hb_sound.specs.Extractions.{FitsPart, LicensesExtraction, extracted, extracted_page, extracted_part, fresh_page, source_page}
-use Rattle.hb_sound.specs.Splitting.{Allocates, Extraction, allocated}
+use Rattle.hb_sound.proofs.Extractions.{Extraction, FitsPart, LicensesExtraction, fresh_page, source_page}
+use Rattle.hb_ops.specs.Allocating.{Allocates, allocated}
 use Rattle.hb_sound.proofs.CutShapes.{once}
 use Rattle.hb_sound.proofs.PageLists.{HasInstead, none_behind, put_behind, put_instead}
 use Rattle.hb_sound.proofs.PagePlaces.{live_so}
@@ -137,7 +137,3 @@ module _ (s : FileState) (x : Extraction) (page source fresh : LivePage) (number
     counted = let one = put_source.0.counted in let two = put_fresh.has.counted in omega (arith, one, two);
     times = λ id. let one = put_source.0.times id in let two = put_fresh.has.times id in omega (arith, one, two);
   }
-
--- the file after an extraction that is allowed
-pub extracted_so : (s : FileState) (x : Extraction) (page : LivePage) (part : Tree × Area) → live_page s x.source ≡ Some page → FitsPart x page part → extracted s x ≡ extracted_part s x page (Some part)
-extracted_so s x page part live fits = ap (extracted_page s x) live ∙ ap (extracted_part s x page) fits.there

@@ -14,7 +14,9 @@ use Rattle.hb_frag.specs.declared.pages.Page.TheVariants.{Live, Free}
 use Rattle.hb_ops.specs.Files.{FileState, file_records, if_live, page_records}
 use Rattle.hb_ops.specs.Operations.{with_page}
 use Rattle.hb_ops.specs.Sound.{IsSound}
-use Rattle.hb_sound.specs.Growing.{Growth, GrowthKeepsContents, GrowthKeepsDirect, LicensesGrowth, MayGrow, grown, new_root}
+use Rattle.hb_sound.proofs.Growths.{Growth, LicensesGrowth, MayGrow, growth, grown}
+use Rattle.hb_sound.specs.LawsOfOperations.{GrowthKeepsContents, GrowthKeepsDirect}
+use Rattle.hb_ops.specs.Growing.{new_root}
 use Rattle.hb_sound.proofs.ExampleParts.{each_at}
 use Rattle.hb_sound.proofs.FileGrown.{comes_from, is_grown, stays_live}
 use Rattle.hb_sound.proofs.PageLists.{number_of, range_of, with_page-behind, with_page-there}
@@ -22,7 +24,7 @@ use Rattle.hb_sound.proofs.Partition.{SpaceLaws}
 use Rattle.hb_sound.proofs.SplitChains.{same_Some}
 
 -- a page in place of one with the same records
-records-set : (pages : List Page) (n : ℕ) (was now : Page) → slice_get pages n ≡ Some was → page_records now ≡ page_records was → flat_map page_records (set pages n now) ≡ flat_map page_records pages
+pub records-set : (pages : List Page) (n : ℕ) (was now : Page) → slice_get pages n ≡ Some was → page_records now ≡ page_records was → flat_map page_records (set pages n now) ≡ flat_map page_records pages
 records-set [] n was now e same = refl
 records-set (q ∷ rest) zero was now e same = ap (λ (xs : List Record). xs ++ flat_map page_records rest) (same ∙ ap page_records (sym (same_Some q was e)))
 records-set (q ∷ rest) (suc n) was now e same = ap (λ (xs : List Record). page_records q ++ xs) (records-set rest n was now e same)
@@ -53,14 +55,15 @@ module _ (s : FileState) (x : Growth) (sound : IsSound s) (may : MayGrow s x) (l
         ∙ records-set s.pages here.0 (Free x.free_after) new here.2 no_records
   ]
 
-abbrev contents_from : List Record → finite.FinMap point_cmp (List ℕ)
+abbrev pub contents_from : List Record → finite.FinMap point_cmp (List ℕ)
 contents_from records = finite.from_entries (map (λ r. (r.key, r.body)) records)
 
 pub growth_keeps_contents : GrowthKeepsContents
-growth_keeps_contents s x sound may licensed = ap contents_from (same_records s x sound may licensed)
+growth_keeps_contents s fresh free_after sound may licensed = ap contents_from (same_records s (growth fresh free_after) sound may licensed)
 
 pub growth_keeps_direct : SpaceLaws → GrowthKeepsDirect
-growth_keeps_direct space s x p sound point may licensed =
+growth_keeps_direct space s fresh free_after p sound point may licensed =
+    let x = growth fresh free_after in
     let grew = is_grown s x sound may licensed in
     record {
       below = λ level id lt. (

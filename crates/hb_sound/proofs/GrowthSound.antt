@@ -10,7 +10,9 @@ use Rattle.hb_frag.specs.Leaves.{Placed, leaves_of, siblings_of}
 use Rattle.hb_frag.specs.Rules.{BelongsAt, IsInOrder, capacity_of}
 use Rattle.hb_ops.specs.Files.{FileState, if_live, live_page}
 use Rattle.hb_ops.specs.Sound.{AreWellMade, ChildrenMatch, FitsFile, IsCovered, IsRooted, IsSound, SiblingsMatch, times_named}
-use Rattle.hb_sound.specs.Growing.{Growth, GrowthKeepsSound, grown, new_root}
+use Rattle.hb_sound.proofs.Growths.{Growth, growth, grown}
+use Rattle.hb_sound.specs.LawsOfOperations.{GrowthKeepsSound}
+use Rattle.hb_ops.specs.Growing.{new_root}
 use Rattle.hb_sound.proofs.ExampleParts.{each_at, no_records}
 use Rattle.hb_sound.proofs.FileGrown.{IsGrown, comes_from, is_grown, stays_live}
 use Rattle.hb_sound.proofs.PageLists.{live_few}
@@ -161,4 +163,6 @@ module _ (s : FileState) (x : Growth) (grew : IsGrown s x) where
   }
 
 pub growth_keeps_sound : GrowthKeepsSound
-growth_keeps_sound s x sound may licensed = sound_again s x (is_grown s x sound may licensed) may.room sound
+growth_keeps_sound s fresh free_after sound room may licensed =
+    let x = growth fresh free_after in
+    sound_again s x (is_grown s x sound may licensed) room sound

@@ -1,5 +1,5 @@
 -- A file of one level grows three times: twice by the free pages of its chain, and then by a page behind the last.
-use Rattle.std.proofs.Common.{◌≡◌, ℕ, zero, suc, [], ◌∷◌, slice_get, Some, refl, sym, ap, subst, ◌∙◌, arith}
+use Rattle.std.proofs.Common.{◌≡◌, ℕ, zero, suc, ◌≤◌, [], ◌∷◌, slice_get, Some, refl, sym, ap, subst, ◌∙◌, arith}
 use Rattle.std.specs.List.{Contains}
 use Rattle.hb_space.specs.Boxes.{Area, whole_area}
 use Rattle.hb_frag.specs.declared.leaves.Leaf.TheVariants.{Child}
@@ -10,7 +10,7 @@ use Rattle.hb_frag.specs.Rules.{BelongsAt, IsInOrder}
 use Rattle.hb_frag.specs.Trees.{Tip}
 use Rattle.hb_ops.specs.Files.{FileState, live_page, page_of}
 use Rattle.hb_ops.specs.Sound.{ChildrenMatch, FitsFile, IsCounted, IsCovered, IsSound, SiblingsMatch, times_named}
-use Rattle.hb_sound.specs.Growing.{Growth, LicensesGrowth, MayGrow, grown}
+use Rattle.hb_sound.proofs.Growths.{Growth, LicensesGrowth, MayGrow, grown}
 use Rattle.hb_sound.specs.TowerFile.{tower_ground}
 use Rattle.hb_sound.proofs.ExampleParts.{each_at, held, in_order, interval, top}
 use Rattle.hb_sound.proofs.GrowthSound.{growth_keeps_sound}
@@ -20,6 +20,7 @@ use Rattle.hb_sound.proofs.SiblingLeaves.{placed}
 -- what a growth makes of a file that may grow so
 record Grows (s : FileState) (x : Growth) (t : FileState) : Type 0 where
   may : MayGrow s x
+  room : 1 ≤ s.meta.icap
   licensed : LicensesGrowth s x
   is : grown s x ≡ t
 
@@ -56,8 +57,8 @@ first_step = record {
   may = record {
     allocates = record { room = omega arith; from_chain = λ some. (refl, omega arith); from_behind = λ none. absurd (omega (arith, none)) };
     height = omega arith;
-    room = omega arith;
   };
+  room = omega arith;
   licensed = λ some. refl;
   is = refl;
 }
@@ -67,8 +68,8 @@ second_step = record {
   may = record {
     allocates = record { room = omega arith; from_chain = λ some. (refl, omega arith); from_behind = λ none. absurd (omega (arith, none)) };
     height = omega arith;
-    room = omega arith;
   };
+  room = omega arith;
   licensed = λ some. refl;
   is = refl;
 }
@@ -78,8 +79,8 @@ third_step = record {
   may = record {
     allocates = record { room = omega arith; from_chain = λ some. absurd (some refl); from_behind = λ none. (refl, omega arith, refl) };
     height = omega arith;
-    room = omega arith;
   };
+  room = omega arith;
   licensed = λ some. absurd (some refl);
   is = refl;
 }
@@ -154,7 +155,7 @@ low_is_sound = record {
 
 -- so each of the later files is sound
 step : (s t : FileState) (x : Growth) → Grows s x t → IsSound s → IsSound t
-step s t x g sound = subst IsSound g.is (growth_keeps_sound s x sound g.may g.licensed)
+step s t x g sound = subst IsSound g.is (growth_keeps_sound s x.fresh x.free_after sound g.room g.may g.licensed)
 
 pub four_levels_are_sound : IsSound of_four
 four_levels_are_sound =

@@ -1,7 +1,7 @@
 -- The rules 7 to 10: what the tests of the facts say of the file.
 use Rattle.std.proofs.Common.{◌≡◌, inl, inr, ℕ, List, [], ◌∷◌, length, take, option_map, Option, Some, None, MatchOption, refl, sym, ap, ◌∙◌, subst, arith}
 use Rattle.hb_frag.specs.declared.pages.Page.{Page}
-use Rattle.hb_ops.specs.declared.meta.Meta.{Meta}
+use Rattle.hb_layout.specs.declared.meta.Meta.{Meta}
 use Rattle.hb_ops.specs.Files.{FileState}
 use Rattle.hb_ops.specs.Sound.{AreWellMade, ChildrenMatch, IsCovered, IsSound, SiblingsMatch, times_named}
 use Rattle.hb_sound.specs.declared.facts.Fact.{Fact}

@@ -13,7 +13,7 @@ use Rattle.hb_frag.specs.declared.pages.Page.{Page}
 use Rattle.hb_frag.specs.Leaves.{Placed, leaves_of, siblings}
 use Rattle.hb_frag.specs.Rules.{Fits}
 use Rattle.hb_frag.specs.Trees.{Tree, Tip, Cut}
-use Rattle.hb_ops.specs.declared.meta.Meta.{Meta}
+use Rattle.hb_layout.specs.declared.meta.Meta.{Meta}
 use Rattle.hb_ops.specs.Files.{FileState, live_page}
 use Rattle.hb_ops.specs.Sound.{ChildrenMatch, SiblingsMatch}
 use Rattle.hb_sound.specs.declared.facts.Seen.{Seen}

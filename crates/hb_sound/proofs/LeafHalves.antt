@@ -11,7 +11,7 @@ use Rattle.hb_frag.specs.declared.leaves.Leaf.TheVariants.{Records}
 use Rattle.hb_frag.specs.declared.paths.Side.{Side}
 use Rattle.hb_frag.specs.declared.paths.Side.TheVariants.{Left, Right}
 use Rattle.hb_frag.specs.Rules.{IsInOrder, Precedes}
-use Rattle.hb_sound.specs.Splitting.{area_on, is_on, other_side}
+use Rattle.hb_ops.specs.Cutting.{area_on, is_on, other_side}
 use Rattle.hb_sound.proofs.SiblingLeaves.{placed}
 use Rattle.hb_sound.proofs.Widths.{below_narrower, from_narrower, width}
 

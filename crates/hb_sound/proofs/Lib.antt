@@ -16,7 +16,10 @@ pub mod OneParent
 pub mod LostFile
 pub mod LateFile
 pub mod LateWalks
+pub mod LatePosting
 pub mod TowerFile
+pub mod Extractions
+pub mod Growths
 pub mod LeafHalves
 pub mod CutLeaves
 pub mod CutShapes
@@ -34,6 +37,10 @@ pub mod FileGrown
 pub mod GrowthSound
 pub mod GrowthKept
 pub mod GrowthSteps
+pub mod PostedPage
+pub mod OneChanged
+pub mod PostSound
+pub mod EachOperation
 mod NoneBroken
 mod Marked
 mod LeftOut
@@ -54,3 +61,4 @@ mod LeafBridge
 mod CoverBridge
 mod LateRules
 mod WholeAudit
+mod NamesOnce

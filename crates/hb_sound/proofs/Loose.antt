@@ -2,7 +2,7 @@
 use Rattle.std.proofs.Common.{◌≡◌, inr, ℕ, ◌+◌, ◌<◌, ◌≤◌, List, length, Option, Some, None, MatchOption, get_or, refl, sym, ap, ◌∙◌, subst, arith}
 use Rattle.std.proofs.lemmas.Option.{slice_get-get_or, slice_get_read}
 use Rattle.hb_space.specs.Boxes.{Area, whole_area}
-use Rattle.hb_ops.specs.declared.meta.Meta.{Meta}
+use Rattle.hb_layout.specs.declared.meta.Meta.{Meta}
 use Rattle.hb_sound.specs.declared.facts.Fact.{Fact}
 use Rattle.hb_sound.specs.declared.facts.Fact.TheVariants.{Live, Free}
 use Rattle.hb_sound.specs.declared.names.Times.{Times}

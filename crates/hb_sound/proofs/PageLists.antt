@@ -1,5 +1,5 @@
 -- The pages of a file with another page under a number: one in place of a page in use, or one in use in place of a free page or behind the last.
-use Rattle.std.proofs.Common.{◌≡◌, ◌≢◌, ℕ, zero, suc, ◌+◌, ◌-◌, ◌<◌, ◌≤◌, Bool, cond, List, [], ◌∷◌, ◌++◌, length, set, slice_get, Some, None, refl, sym, ap, subst, ◌∙◌, arith, lt-ltb, nat_lt}
+use Rattle.std.proofs.Common.{◌≡◌, ◌≢◌, ℕ, zero, suc, ◌+◌, ◌-◌, ◌<◌, ◌≤◌, ◌==◌, Bool, cond, List, [], ◌∷◌, ◌++◌, length, set, slice_get, Some, None, refl, sym, ap, subst, ◌∙◌, arith, eq-eqb, lt-ltb, ne_eqb, nat_lt}
 use Rattle.std.proofs.lemmas.Bool.{le-ltb}
 use Rattle.std.proofs.lemmas.List.{length-append, length-set}
 use Rattle.hb_frag.specs.declared.pages.Page.{Page}
@@ -108,14 +108,20 @@ number_of pages (suc n) q e = (n, refl, sym (page_at-suc pages n) ∙ e)
 pub with_page-there : (pages : List Page) (n : ℕ) (new : Page) → n < length pages → with_page (suc n) new pages ≡ set pages n new
 with_page-there pages n new lt =
     let back : suc n - 1 ≡ n = omega arith in
-    ap (λ (m : ℕ). cond (nat_lt m (length pages)) (set pages m new) (pages ++ (new ∷ []))) back
-    ∙ ap (λ (b : Bool). cond b (set pages n new) (pages ++ (new ∷ []))) (lt-ltb n (length pages) lt)
+    let rest : List Page = cond (suc n == length pages + 1) (pages ++ (new ∷ [])) pages in
+    ap (λ (b : Bool). cond b pages (cond (nat_lt (suc n - 1) (length pages)) (set pages (suc n - 1) new) rest)) (ne_eqb (suc n) 0 (λ e. omega arith))
+    ∙ ap (λ (m : ℕ). cond (nat_lt m (length pages)) (set pages m new) rest) back
+    ∙ ap (λ (b : Bool). cond b (set pages n new) rest) (lt-ltb n (length pages) lt)
 
 pub with_page-behind : (pages : List Page) (new : Page) → with_page (suc (length pages)) new pages ≡ pages ++ (new ∷ [])
 with_page-behind pages new =
     let back : suc (length pages) - 1 ≡ length pages = omega arith in
-    ap (λ (m : ℕ). cond (nat_lt m (length pages)) (set pages m new) (pages ++ (new ∷ []))) back
-    ∙ ap (λ (b : Bool). cond b (set pages (length pages) new) (pages ++ (new ∷ []))) (le-ltb (length pages) (length pages) (omega arith))
+    let next : suc (length pages) ≡ length pages + 1 = omega arith in
+    let rest : List Page = cond (suc (length pages) == length pages + 1) (pages ++ (new ∷ [])) pages in
+    ap (λ (b : Bool). cond b pages (cond (nat_lt (suc (length pages) - 1) (length pages)) (set pages (suc (length pages) - 1) new) rest)) (ne_eqb (suc (length pages)) 0 (λ e. omega arith))
+    ∙ ap (λ (m : ℕ). cond (nat_lt m (length pages)) (set pages m new) rest) back
+    ∙ ap (λ (b : Bool). cond b (set pages (length pages) new) rest) (le-ltb (length pages) (length pages) (omega arith))
+    ∙ ap (λ (b : Bool). cond b (pages ++ (new ∷ [])) pages) (eq-eqb (suc (length pages)) (length pages + 1) next)
 
 -- pages afterwards: the new page stands under the number, the others as before, and one page went away or none
 pub record HasInstead (pages : List Page) (id : ℕ) (was now : Page) (after : List Page) : Type 0 where

@@ -11,10 +11,10 @@ use Rattle.hb_frag.specs.Leaves.{Placed, leaves, leaves_of, weight_of}
 use Rattle.hb_frag.specs.Laws.{IsStretch}
 use Rattle.hb_frag.specs.Paths.{part_at, with_part}
 use Rattle.hb_frag.specs.Rules.{BelongsAt, IsInOrder, IsSiblingTip}
-use Rattle.hb_ops.specs.declared.meta.Meta.{Meta}
+use Rattle.hb_layout.specs.declared.meta.Meta.{Meta}
 use Rattle.hb_ops.specs.Sound.{FitsFile}
-use Rattle.hb_sound.specs.Extractions.{FitsPart, fresh_page, source_page}
-use Rattle.hb_sound.specs.Splitting.{Extraction, cut_through}
+use Rattle.hb_sound.proofs.Extractions.{Extraction, FitsPart, fresh_page, source_page}
+use Rattle.hb_ops.specs.Cutting.{cut_through}
 use Rattle.hb_sound.proofs.CutLeaves.{StemsFrom, reached_attributes, reached_narrower, reached_no_wider, reached_stems, reached_well_cut, through_stems, through_well_cut}
 use Rattle.hb_sound.proofs.CutShapes.{named, named-append, not_lone_end, once, reached_normal, reached_weighs, through_like_none, through_names, through_normal, through_weighs, weighs_some}
 use Rattle.hb_sound.proofs.PathParts.{each_leaf, each_member, not_lone_again, normal_again, part_has, part_narrower, the_root, well_cut_again}
@@ -83,10 +83,10 @@ module _ (laws : PartLaws) (meta : Meta) (x : Extraction) (page : LivePage) (par
   pub fresh_stems : (y : Placed) → Contains (leaves_of fresh.frag fresh.area) y → StemsFrom old y
   fresh_stems y has =
       subst (λ (ls : List Placed). StemsFrom ls y) (sym stretch.whole)
-      (stems_further stretch.front (leaves_of part.0 part.1) stretch.behind y (reached_stems x.cuts part.0 part.1 fits.cuts y has))
+      (stems_further stretch.front (leaves_of part.0 part.1) stretch.behind y (reached_stems x.cuts part.0 part.1 fits.parted y has))
 
   middle_stems : (y : Placed) → Contains (leaves_of opened part.1) y → (placed (Sibling x.fresh) fresh.area ≡ y) ⊎ StemsFrom old y
-  middle_stems y has = elim (through_stems x.fresh x.cuts part.0 part.1 fits.cuts y has) [
+  middle_stems y has = elim (through_stems x.fresh x.cuts part.0 part.1 fits.parted y has) [
     | inl is ↦ inl is
     | inr stems ↦ inr (subst (λ (ls : List Placed). StemsFrom ls y) (sym stretch.whole) (stems_further stretch.front (leaves_of part.0 part.1) stretch.behind y stems))
   ]
@@ -110,7 +110,7 @@ module _ (laws : PartLaws) (meta : Meta) (x : Extraction) (page : LivePage) (par
 
   pub names_parted : (id : ℕ) → named id (leaves_of source.frag source.area) + named id (leaves_of fresh.frag fresh.area) ≡ named id old + once id x.fresh
   names_parted id =
-      let through = through_names x.fresh id x.cuts part.0 part.1 fits.cuts in
+      let through = through_names x.fresh id x.cuts part.0 part.1 fits.parted in
       let before = ap (named id) stretch.whole in
       let after = ap (named id) (stretch.other opened) in
       let three = named_three id stretch.front (leaves_of part.0 part.1) stretch.behind in
@@ -125,11 +125,11 @@ module _ (laws : PartLaws) (meta : Meta) (x : Extraction) (page : LivePage) (par
       by_path [] is =
           let root : (page.frag, page.area) ≡ part = the_root page.frag page.area part (ap (λ (p : List Side). part_at p page.frag page.area) (sym is) ∙ fits.there) in
           let same = ap (λ (w : Tree × Area). width w.1) root in
-          let less = reached_narrower x.cuts part.0 part.1 (fits.less is) fits.cuts in
+          let less = reached_narrower x.cuts part.0 part.1 (fits.less is) fits.parted in
           omega (arith, same, less)
       by_path (side ∷ path) is =
           let less = part_narrower x.path page.frag page.area part (λ e. let both = sym is ∙ e in let no : ⊥ = cc in no) fits.there made.well_cut made.normal in
-          let rest = reached_no_wider x.cuts part.0 part.1 fits.cuts in
+          let rest = reached_no_wider x.cuts part.0 part.1 fits.parted in
           omega (arith, less, rest)
 
   -- the new page is well made
@@ -143,10 +143,10 @@ module _ (laws : PartLaws) (meta : Meta) (x : Extraction) (page : LivePage) (par
   pub fresh_made : FitsFile meta fresh
   fresh_made =
       let has = part_has x.path page.frag page.area part fits.there made.well_cut made.normal in
-      let weighs = reached_weighs x.cuts part.0 part.1 fits.cuts in
+      let weighs = reached_weighs x.cuts part.0 part.1 fits.parted in
       record {
         fits = record { level = made.fits.level; attributes = reached_attributes x.cuts part.0 part.1 ∙ has.attributes ∙ made.fits.attributes };
-        well_cut = reached_well_cut x.cuts part.0 part.1 fits.cuts has.well_cut;
+        well_cut = reached_well_cut x.cuts part.0 part.1 fits.parted has.well_cut;
         filled = record {
           kinds = each_leaf (BelongsAt page.level) fresh.frag fresh.area (λ y there. stems_belong page.level page.frag page.area made.filled.kinds y (fresh_stems y there));
           light = omega (arith, weighs, part_light, made.filled.light);
@@ -179,11 +179,11 @@ module _ (laws : PartLaws) (meta : Meta) (x : Extraction) (page : LivePage) (par
   pub source_made : FitsFile meta source
   source_made =
       let has = part_has x.path page.frag page.area part fits.there made.well_cut made.normal in
-      let weighs = through_weighs x.fresh x.cuts part.0 part.1 fits.cuts in
+      let weighs = through_weighs x.fresh x.cuts part.0 part.1 fits.parted in
       let w = laws.weight x.path page.frag page.area part opened fits.there in
       record {
         fits = record { level = made.fits.level; attributes = made.fits.attributes };
-        well_cut = well_cut_again x.path page.frag page.area part opened fits.there made.well_cut (through_well_cut x.fresh x.cuts part.0 part.1 fits.cuts);
+        well_cut = well_cut_again x.path page.frag page.area part opened fits.there made.well_cut (through_well_cut x.fresh x.cuts part.0 part.1 fits.parted);
         filled = record {
           kinds = each_leaf (BelongsAt page.level) source.frag source.area source_belongs;
           light = omega (arith, weighs, w, made.filled.light);

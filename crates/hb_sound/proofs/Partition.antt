@@ -9,10 +9,11 @@ use Rattle.hb_frag.specs.declared.pages.LivePage.{LivePage}
 use Rattle.hb_frag.specs.Leaves.{leaf_at}
 use Rattle.hb_ops.specs.Files.{FileState, live_page}
 use Rattle.hb_ops.specs.Sound.{IsSound}
-use Rattle.hb_ops.specs.declared.meta.Meta.{Meta}
+use Rattle.hb_layout.specs.declared.meta.Meta.{Meta}
 use Rattle.hb_ops.specs.declared.operations.Op.TheVariants.{Put, Del}
 use Rattle.hb_ops.specs.LawsOfContents.{DelTakesOne, PutAddsOne}
-use Rattle.hb_ops.specs.Operations.{FitsDel, FitsPut, IsAllowedOn, nth_read}
+use Rattle.hb_ops.specs.Recording.{FitsDel, FitsPut}
+use Rattle.hb_ops.specs.Operations.{IsAllowedOn, nth_read}
 use Rattle.hb_ops.specs.Standing.{AbsenceIsContents, RecordsAreContents}
 use Rattle.hb_sound.specs.Laws.{DelsTakeOne, EachPageHasWalks, EachPointIsHeld, LackIsContents, NoPointIsHeldTwice, PagesHaveBoxes, PutsAddOne, RecordsAreAtHome, RootHasWalks, StandingIsContents, StepsLeadFurther}
 use Rattle.hb_sound.specs.PointWalks.{IsPointOf, IsResponsible}
@@ -31,11 +32,11 @@ pub record SpaceLaws : Type 0 where
   pub points : (k : ℕ) (p : List ℕ) → IsPoint p → length p ≡ k → Holds (whole_area k) p
 
 -- an operation that is allowed has its page in use
-put_on : (id : ℕ) (rec : Record) (meta : Meta) (o second third : Option LivePage) → IsAllowedOn (Put id rec) meta o second third → (page : LivePage) × (o ≡ Some page) × FitsPut meta page rec
+pub put_on : (id : ℕ) (rec : Record) (meta : Meta) (o second third : Option LivePage) → IsAllowedOn (Put id rec) meta o second third → (page : LivePage) × (o ≡ Some page) × FitsPut meta page rec
 put_on id rec meta None second third h = absurd h
 put_on id rec meta (Some page) second third h = (page, refl, h)
 
-del_on : (id : ℕ) (point : List ℕ) (meta : Meta) (o second third : Option LivePage) → IsAllowedOn (Del id point) meta o second third → (page : LivePage) × (o ≡ Some page) × FitsDel meta page point
+pub del_on : (id : ℕ) (point : List ℕ) (meta : Meta) (o second third : Option LivePage) → IsAllowedOn (Del id point) meta o second third → (page : LivePage) × (o ≡ Some page) × FitsDel meta page point
 del_on id point meta None second third h = absurd h
 del_on id point meta (Some page) second third h = (page, refl, h)
 

@@ -12,10 +12,11 @@ use Rattle.hb_frag.specs.declared.paths.Side.TheVariants.{Left, Right}
 use Rattle.hb_frag.specs.Trees.{Tree, Tip}
 use Rattle.hb_frag.specs.Laws.{IsStretch}
 use Rattle.hb_frag.specs.Leaves.{Placed, leaves_of, records_of}
-use Rattle.hb_ops.specs.declared.meta.Meta.{Meta}
+use Rattle.hb_layout.specs.declared.meta.Meta.{Meta}
 use Rattle.hb_ops.specs.Sound.{FitsFile}
-use Rattle.hb_sound.specs.Extractions.{FitsPart, fresh_page, source_page}
-use Rattle.hb_sound.specs.Splitting.{Extraction, LeafCut, PartLeaves, PartsLeaf, area_on, cut_through, cut_with, going, half_area, half_on, is_on, other_side, reached, records_in, staying}
+use Rattle.hb_sound.proofs.Extractions.{Extraction, FitsPart, fresh_page, source_page}
+use Rattle.hb_ops.specs.declared.leaf_cuts.LeafCut.{LeafCut}
+use Rattle.hb_ops.specs.Cutting.{PartLeaves, PartsLeaf, area_on, cut_through, cut_with, going, half_area, half_on, is_on, other_side, reached, records_in, staying}
 use Rattle.hb_sound.proofs.CutLeaves.{StemsFrom, filter_keeps, only_one}
 use Rattle.hb_sound.proofs.PagesParted.{PartLaws, fresh_stems, source_stems}
 use Rattle.hb_sound.proofs.SiblingLeaves.{placed}
@@ -115,7 +116,7 @@ module _ (laws : PartLaws) (meta : Meta) (x : Extraction) (page : LivePage) (par
       elim (Contains-append_cases (stretch.front ++ leaves_of part.0 part.1) stretch.behind w.leaf (subst (λ (ls : List Placed). Contains ls w.leaf) stretch.whole w.there)) [
         | inl l ↦ elim (Contains-append_cases stretch.front (leaves_of part.0 part.1) w.leaf l) [
           | inl f ↦ inl (record { leaf = w.leaf; there = source_has w.leaf (Contains-append_left (stretch.front ++ opened) stretch.behind w.leaf (Contains-append_left stretch.front opened w.leaf f)); among = w.among })
-          | inr m ↦ elim (kept_through x.fresh x.cuts part.0 part.1 fits.cuts r (record { leaf = w.leaf; there = m; among = w.among })) [
+          | inr m ↦ elim (kept_through x.fresh x.cuts part.0 part.1 fits.parted r (record { leaf = w.leaf; there = m; among = w.among })) [
             | inl k ↦ inl (record { leaf = k.leaf; there = source_has k.leaf (Contains-append_left (stretch.front ++ opened) stretch.behind k.leaf (Contains-append_right stretch.front opened k.leaf k.there)); among = k.among })
             | inr k ↦ inr k
           ]

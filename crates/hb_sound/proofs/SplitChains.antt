@@ -7,8 +7,8 @@ use Rattle.hb_frag.specs.declared.pages.Page.{Page}
 use Rattle.hb_frag.specs.declared.pages.Page.TheVariants.{Live, Free}
 use Rattle.hb_ops.specs.Files.{FileState, if_live, live_page, page_of}
 use Rattle.hb_ops.specs.Sound.{IsChain, IsCounted, IsRooted, count_live}
-use Rattle.hb_sound.specs.Extractions.{LicensesExtraction}
-use Rattle.hb_sound.specs.Splitting.{Allocates, Extraction, allocated}
+use Rattle.hb_sound.proofs.Extractions.{Extraction, LicensesExtraction}
+use Rattle.hb_ops.specs.Allocating.{Allocates, allocated}
 use Rattle.hb_sound.proofs.FileParted.{ArePartsOf, IsParted}
 use Rattle.hb_sound.proofs.PageLists.{live_few, number_of, range_of}
 use Rattle.hb_sound.proofs.PagePlaces.{live_so}

@@ -11,19 +11,20 @@ use Rattle.hb_frag.specs.declared.pages.LivePage.{LivePage}
 use Rattle.hb_frag.specs.declared.pages.Page.{Page}
 use Rattle.hb_frag.specs.Leaves.{leaves_of}
 use Rattle.hb_ops.specs.Files.{FileState, contents_of, if_live, live_page}
+use Rattle.hb_ops.specs.Operations.{effect_of}
 use Rattle.hb_ops.specs.Sound.{FitsFile, IsSound}
 use Rattle.hb_ops.specs.Standing.{RecordsAreContents}
-use Rattle.hb_sound.specs.Extractions.{fresh_page, source_page}
-use Rattle.hb_sound.specs.Laws.{SplitsKeepContents}
-use Rattle.hb_sound.specs.Splitting.{Allocates, Extraction, allocated}
-use Rattle.hb_sound.proofs.FileParted.{ArePartsOf, IsParted, after as parted_file, extracted_so, is_parted, parts_of}
+use Rattle.hb_sound.proofs.Extractions.{Extraction, LicensesExtraction, MayExtract, extracted_so, fresh_page, may_extract, source_page, split_of, with_fields}
+use Rattle.hb_sound.specs.LawsOfOperations.{SplitsKeepContents}
+use Rattle.hb_ops.specs.Allocating.{Allocates, allocated}
+use Rattle.hb_sound.proofs.FileParted.{ArePartsOf, IsParted, after as parted_file, is_parted, parts_of}
 use Rattle.hb_sound.proofs.OneLevel.{TreeLaws}
 use Rattle.hb_sound.proofs.PagesParted.{PartLaws}
 use Rattle.hb_sound.proofs.Partition.{SpaceLaws, pages_have_boxes, standing_is_contents}
 use Rattle.hb_sound.proofs.RecordsParted.{AmongLeaves, ShareRecords, share_records}
 use Rattle.hb_sound.proofs.RecordsStand.{HasRecord, contents_stand, exact_points, stands_at}
 use Rattle.hb_sound.proofs.SplitChains.{not_fresh, same_Some}
-use Rattle.hb_sound.proofs.SplitSound.{comes_from, splits_keep_sound}
+use Rattle.hb_sound.proofs.SplitSound.{comes_from, split_sound}
 use Rattle.hb_sound.proofs.Widths.{width, width_between}
 
 -- a record of a leaf of a page is one of the file
@@ -94,8 +95,8 @@ module _ (trees : TreeLaws) (space : SpaceLaws) (points : (a : Area) (p : List �
       (body_stays t s sound some few was q)
       (body_stays s t sound' (subst (λ (n : ℕ). 1 ≤ n) (sym k) some) (subst (λ (n : ℕ). n ≤ KMAX) (sym k) few) stays q))
 
-  pub splits_keep_contents : PartLaws → SplitsKeepContents
-  splits_keep_contents laws s x sound few may licensed =
+  split_keeps_contents : PartLaws → (s : FileState) (x : Extraction) → IsSound s → s.meta.k ≤ KMAX → MayExtract s x → LicensesExtraction s x → contents_of (effect_of s (split_of x)) ≡ contents_of s
+  split_keeps_contents laws s x sound few may licensed =
       let parts = parts_of laws s.meta x may.page may.part may.made may.fits in
       let source = source_page x may.page may.part in
       let fresh = fresh_page x may.page may.part in
@@ -104,8 +105,13 @@ module _ (trees : TreeLaws) (space : SpaceLaws) (points : (a : Area) (p : List �
       let some = has_attributes s x may.page source fresh may.made parts in
       let share = share_records laws s.meta x may.page may.part may.made may.fits in
       let is = extracted_so s x may.page may.part may.live may.fits in
-      let sound' : IsSound after = subst IsSound is (splits_keep_sound trees laws s x sound may licensed) in
+      let sound' : IsSound after = subst IsSound is (split_sound trees laws s x sound may licensed) in
       ap contents_of is
       ∙ same_contents s after sound sound' some few refl
       (record_stays s x after.pages may.page source fresh may.allocates parted parts share)
       (record_was s x after.pages may.page source fresh may.allocates parted parts share)
+
+  pub splits_keep_contents : PartLaws → SplitsKeepContents
+  splits_keep_contents laws s source fresh path cuts free_after sound few allowed licensed =
+      let x = with_fields source fresh path cuts free_after in
+      split_keeps_contents laws s x sound few (may_extract s x allowed) licensed

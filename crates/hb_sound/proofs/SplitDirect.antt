@@ -1,20 +1,21 @@
 -- A split parts what the page directly holds: on each level one page directly holds a point, before and afterwards, and only two pages differ.
-use Rattle.std.proofs.Common.{◌≡◌, ℕ, ◌<◌, ◌⊎◌, ◌↔◌, inl, inr, List, Some, refl, sym, ap, subst, ◌∙◌}
+use Rattle.std.proofs.Common.{◌≡◌, ℕ, ◌<◌, ◌⊎◌, inl, inr, List, Some, refl, sym, ap, subst, ◌∙◌}
 use Rattle.std.proofs.lemmas.Bool.{cases_eq}
 use Rattle.hb_frag.specs.declared.pages.LivePage.{LivePage}
 use Rattle.hb_frag.specs.declared.pages.Page.{Page}
 use Rattle.hb_ops.specs.Files.{FileState, if_live, live_page}
+use Rattle.hb_ops.specs.Operations.{effect_of}
 use Rattle.hb_ops.specs.Sound.{IsSound}
-use Rattle.hb_sound.specs.Extractions.{fresh_page, source_page}
-use Rattle.hb_sound.specs.Laws.{HasDirectly, SplitsPartDirect}
+use Rattle.hb_sound.proofs.Extractions.{Extraction, LicensesExtraction, MayExtract, extracted_so, fresh_page, may_extract, source_page, split_of, with_fields}
+use Rattle.hb_sound.specs.LawsOfOperations.{ArePartedAt, HasDirectly, SplitsPartDirect}
 use Rattle.hb_sound.specs.PointWalks.{HasOn, IsPointOf}
-use Rattle.hb_sound.specs.Splitting.{Allocates, Extraction, allocated}
-use Rattle.hb_sound.proofs.FileParted.{ArePartsOf, IsParted, after as parted_file, extracted_so, is_parted, parts_of}
+use Rattle.hb_ops.specs.Allocating.{Allocates, allocated}
+use Rattle.hb_sound.proofs.FileParted.{ArePartsOf, IsParted, after as parted_file, is_parted, parts_of}
 use Rattle.hb_sound.proofs.OneLevel.{TreeLaws, same_page}
 use Rattle.hb_sound.proofs.PagesParted.{PartLaws}
 use Rattle.hb_sound.proofs.Partition.{SpaceLaws, each_point_is_held, no_point_is_held_twice}
 use Rattle.hb_sound.proofs.SplitChains.{not_fresh}
-use Rattle.hb_sound.proofs.SplitSound.{comes_from, splits_keep_sound}
+use Rattle.hb_sound.proofs.SplitSound.{comes_from, split_sound}
 
 module _ (trees : TreeLaws) (space : SpaceLaws) (s : FileState) (x : Extraction) (pages : List Page) (page source fresh : LivePage) (allocates : Allocates s.meta x.fresh x.free_after) (parted : IsParted s (record { meta = allocated s.meta x.fresh x.free_after; pages = pages }) x page source fresh) (parts : ArePartsOf s.meta x.fresh page source fresh) where
   abbrev after : FileState
@@ -65,22 +66,27 @@ module _ (trees : TreeLaws) (space : SpaceLaws) (s : FileState) (x : Extraction)
               elim either [ inl is ↦ absurd (ne (same ∙ is)) | inr is ↦ absurd (new (same ∙ is)) ]
         ]
 
-    pub parts_direct : (HasDirectly s x.source p ↔ (HasDirectly after x.source p ⊎ HasDirectly after x.fresh p)) × (HasDirectly after x.source p → HasDirectly after x.fresh p → ⊥)
-    parts_direct = (
-      (forth, λ has. elim has [ inl one ↦ back x.source (inl refl) (source_on one) | inr two ↦ back x.fresh (inr refl) (fresh_on two) ]),
-      λ one two.
+    pub parts_direct : ArePartedAt s after x.source x.fresh p
+    parts_direct = record {
+      either = (forth, λ has. elim has [ inl one ↦ back x.source (inl refl) (source_on one) | inr two ↦ back x.fresh (inr refl) (fresh_on two) ]);
+      not_both = λ one two.
           not_fresh s x pages page source fresh allocates parted parts x.source page parted.live
-          (no_point_is_held_twice trees space after page.level p x.source x.fresh sound' point' (source_on one) (fresh_on two)),
-    )
+          (no_point_is_held_twice trees space after page.level p x.source x.fresh sound' point' (source_on one) (fresh_on two));
+    }
 
-pub splits_part_direct : TreeLaws → SpaceLaws → PartLaws → SplitsPartDirect
-splits_part_direct trees space laws s x p sound point may licensed =
+split_parts_direct : TreeLaws → SpaceLaws → PartLaws → (s : FileState) (x : Extraction) (p : List ℕ) → IsSound s → IsPointOf s p → MayExtract s x → LicensesExtraction s x → ArePartedAt s (effect_of s (split_of x)) x.source x.fresh p
+split_parts_direct trees space laws s x p sound point may licensed =
     let parts = parts_of laws s.meta x may.page may.part may.made may.fits in
     let source = source_page x may.page may.part in
     let fresh = fresh_page x may.page may.part in
     let parted = is_parted s x may.page source fresh sound.rooted.numbered may.allocates licensed may.live in
     let after = parted_file s x may.page source fresh sound.rooted.numbered may.allocates licensed may.live in
     let is = extracted_so s x may.page may.part may.live may.fits in
-    let sound' : IsSound after = subst IsSound is (splits_keep_sound trees laws s x sound may licensed) in
-    subst (λ (t : FileState). (HasDirectly s x.source p ↔ (HasDirectly t x.source p ⊎ HasDirectly t x.fresh p)) × (HasDirectly t x.source p → HasDirectly t x.fresh p → ⊥)) (sym is)
+    let sound' : IsSound after = subst IsSound is (split_sound trees laws s x sound may licensed) in
+    subst (λ (t : FileState). ArePartedAt s t x.source x.fresh p) (sym is)
     (parts_direct trees space s x after.pages may.page source fresh may.allocates parted parts sound sound' p point)
+
+pub splits_part_direct : TreeLaws → SpaceLaws → PartLaws → SplitsPartDirect
+splits_part_direct trees space laws s source fresh path cuts free_after p sound point allowed licensed =
+    let x = with_fields source fresh path cuts free_after in
+    split_parts_direct trees space laws s x p sound point (may_extract s x allowed) licensed

@@ -8,12 +8,13 @@ use Rattle.hb_frag.specs.declared.pages.LivePage.{LivePage}
 use Rattle.hb_frag.specs.declared.pages.Page.{Page}
 use Rattle.hb_frag.specs.Leaves.{leaves_of, siblings_of}
 use Rattle.hb_ops.specs.Files.{FileState, if_live, live_page}
+use Rattle.hb_ops.specs.Operations.{effect_of}
 use Rattle.hb_ops.specs.Sound.{AreWellMade, ChildrenMatch, FitsFile, IsCovered, IsSound, SiblingsMatch, times_named}
-use Rattle.hb_sound.specs.Extractions.{ChangesTwo, LicensesExtraction, fresh_page, source_page}
-use Rattle.hb_sound.specs.Laws.{SplitsChangeTwo, SplitsKeepSound}
-use Rattle.hb_sound.specs.Splitting.{Allocates, Extraction, allocated}
+use Rattle.hb_sound.specs.LawsOfOperations.{ChangesTwo, SplitsChangeTwo, SplitsKeepSound}
+use Rattle.hb_sound.proofs.Extractions.{Extraction, LicensesExtraction, MayExtract, extracted_so, fresh_page, may_extract, source_page, split_of, with_fields}
+use Rattle.hb_ops.specs.Allocating.{Allocates, allocated}
 use Rattle.hb_sound.proofs.CutShapes.{once}
-use Rattle.hb_sound.proofs.FileParted.{ArePartsOf, IsParted, after as parted_file, extracted_so, is_parted, parts_of}
+use Rattle.hb_sound.proofs.FileParted.{ArePartsOf, IsParted, after as parted_file, is_parted, parts_of}
 use Rattle.hb_sound.proofs.OneLevel.{TreeLaws, spread}
 use Rattle.hb_sound.proofs.PagePlaces.{live_there}
 use Rattle.hb_sound.proofs.PagesParted.{PartLaws}
@@ -201,8 +202,8 @@ module _ (s : FileState) (x : Extraction) (pages : List Page) (page source fresh
       covered = covered_again h.siblings h.covered;
     }
 
-pub splits_keep_sound : TreeLaws → PartLaws → SplitsKeepSound
-splits_keep_sound trees laws s x sound may licensed =
+pub split_sound : TreeLaws → PartLaws → (s : FileState) (x : Extraction) → IsSound s → MayExtract s x → LicensesExtraction s x → IsSound (effect_of s (split_of x))
+split_sound trees laws s x sound may licensed =
     let parts = parts_of laws s.meta x may.page may.part may.made may.fits in
     let source = source_page x may.page may.part in
     let fresh = fresh_page x may.page may.part in
@@ -211,11 +212,29 @@ splits_keep_sound trees laws s x sound may licensed =
     subst IsSound (sym (extracted_so s x may.page may.part may.live may.fits))
     (sound_again s x pages may.page source fresh may.allocates parted parts (no_wider trees s sound.well_made sound.siblings sound.covered) licensed sound)
 
+pub splits_keep_sound : TreeLaws → PartLaws → SplitsKeepSound
+splits_keep_sound trees laws s source fresh path cuts free_after sound allowed licensed =
+    let x = with_fields source fresh path cuts free_after in
+    split_sound trees laws s x sound (may_extract s x allowed) licensed
+
 -- and only the two pages change
-pub splits_change_two : SplitsChangeTwo
-splits_change_two s x sound may licensed =
+split_changes : (s : FileState) (x : Extraction) → IsSound s → MayExtract s x → LicensesExtraction s x → ChangesTwo s (effect_of s (split_of x)) x.source x.fresh x.path x.cuts
+split_changes s x sound may licensed =
     let source = source_page x may.page may.part in
     let fresh = fresh_page x may.page may.part in
     let parted = is_parted s x may.page source fresh sound.rooted.numbered may.allocates licensed may.live in
-    subst (λ (t : FileState). ChangesTwo s t x may.page may.part) (sym (extracted_so s x may.page may.part may.live may.fits))
-    (record { source = ap if_live parted.source_now; fresh = ap if_live parted.fresh_now; others = parted.others })
+    subst (λ (t : FileState). ChangesTwo s t x.source x.fresh x.path x.cuts) (sym (extracted_so s x may.page may.part may.live may.fits))
+    (record {
+      page = may.page;
+      live = may.live;
+      part = may.part;
+      there = may.fits.there;
+      source_now = ap if_live parted.source_now;
+      fresh_now = ap if_live parted.fresh_now;
+      others = parted.others;
+    })
+
+pub splits_change_two : SplitsChangeTwo
+splits_change_two s source fresh path cuts free_after sound allowed licensed =
+    let x = with_fields source fresh path cuts free_after in
+    split_changes s x sound (may_extract s x allowed) licensed

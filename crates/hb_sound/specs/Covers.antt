@@ -1,7 +1,7 @@
 -- Rules 1, 3 to 6, 9 and 10, by the facts of the pages.
 use Rattle.std.specs.Prelude.{◌≡◌, ◌≢◌, ◌⊎◌, ℕ, ◌+◌, ◌<◌, ◌≤◌, List, length, slice_get, Option, Some, None}
 use Rattle.hb_space.specs.Boxes.{Area, whole_area}
-use Rattle.hb_ops.specs.declared.meta.Meta.{Meta}
+use Rattle.hb_layout.specs.declared.meta.Meta.{Meta}
 use Rattle.hb_sound.specs.declared.facts.Seen.{Seen}
 use Rattle.hb_sound.specs.declared.facts.Fact.{Fact}
 use Rattle.hb_sound.specs.declared.facts.Fact.TheVariants.{Live, Free}

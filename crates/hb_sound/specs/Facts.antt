@@ -7,7 +7,7 @@ use Rattle.hb_frag.specs.declared.pages.LivePage.{LivePage}
 use Rattle.hb_frag.specs.declared.pages.Page.{Page}
 use Rattle.hb_frag.specs.declared.pages.Page.TheVariants as pages
 use Rattle.hb_frag.specs.Leaves.{Placed}
-use Rattle.hb_ops.specs.declared.meta.Meta.{Meta}
+use Rattle.hb_layout.specs.declared.meta.Meta.{Meta}
 use Rattle.hb_ops.specs.Files.{page_records}
 use Rattle.hb_ops.specs.LocalRule.{BreaksFirst}
 use Rattle.hb_ops.specs.Sound.{FitsFile}

@@ -5,8 +5,11 @@ use Rattle.hb_space.specs.declared.records.Record.{Record}
 use Rattle.hb_frag.specs.declared.leaves.Leaf.TheVariants.{Records, Child, Sibling}
 use Rattle.hb_frag.specs.declared.pages.LivePage.{LivePage}
 use Rattle.hb_frag.specs.declared.pages.Page.TheVariants.{Live}
+use Rattle.hb_frag.specs.declared.paths.Side.TheVariants.{Right}
 use Rattle.hb_frag.specs.Trees.{Tip, Cut}
-use Rattle.hb_ops.specs.declared.meta.Meta.{Meta}
+use Rattle.hb_layout.specs.declared.meta.Meta.{Meta}
+use Rattle.hb_ops.specs.declared.operations.Op.{Op}
+use Rattle.hb_ops.specs.declared.operations.Op.TheVariants.{Post}
 use Rattle.hb_ops.specs.Files.{FileState}
 use Rattle.hb_sound.specs.PointWalks.{IsResponsible, IsWholeWalk}
 
@@ -96,3 +99,15 @@ LateWalks = All (λ way. IsWholeWalk late_file (way.point ∷ []) 1 way.pages wa
 
 abbrev pub LateResponsible : Type 0
 LateResponsible = All (λ way. IsResponsible late_file (way.point ∷ []) way.last) late_walks
+
+-- The posting that is late on level 1: page 7 gave the values from 600 to 799 to page 8, and page 4 doesn't name that one yet.
+abbrev pub late_posting : Op
+late_posting = Post 4 (Right ∷ []) 8 (record { lo = 600 ∷ []; hi = 799 ∷ [] })
+
+-- page 4 once it came
+abbrev pub late_aside_posted : LivePage
+late_aside_posted = record {
+  level = 1;
+  area = side_from (whole_area 1) 0 300;
+  frag = Cut 0 400 (Tip (Child 6)) (Cut 0 600 (Tip (Child 7)) (Cut 0 800 (Tip (Child 8)) (Tip (Child 7))));
+}

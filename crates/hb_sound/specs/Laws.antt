@@ -1,20 +1,17 @@
 -- What every sound file has, as laws.
-use Rattle.std.specs.Prelude.{◌≡◌, ◌⊎◌, ◌↔◌, ℕ, ◌<◌, ◌≤◌, List, Some, None}
+use Rattle.std.specs.Prelude.{◌≡◌, ℕ, ◌<◌, ◌≤◌, List, Some, None}
 use Rattle.std.specs.FinMap as finite
 use Rattle.hb_space.specs.declared.form.TheConstants.{KMAX}
 use Rattle.hb_space.specs.declared.records.Record.{Record}
 use Rattle.hb_space.specs.Boxes.{IsArea, Holds}
 use Rattle.hb_frag.specs.declared.pages.LivePage.{LivePage}
-use Rattle.hb_frag.specs.Leaves.{DirectlyHolds}
 use Rattle.hb_ops.specs.declared.operations.Op.TheVariants.{Put, Del}
 use Rattle.hb_ops.specs.Files.{FileState, live_page, contents_of}
 use Rattle.hb_ops.specs.Operations.{IsAllowed, effect_of}
 use Rattle.hb_ops.specs.Sound.{IsSound}
 use Rattle.hb_ops.specs.LawsOfContents.{OthersLack}
 use Rattle.hb_ops.specs.Standing.{StandsThere, StandsNot}
-use Rattle.hb_sound.specs.Extractions.{ChangesTwo, LicensesExtraction, MayExtract, extracted}
 use Rattle.hb_sound.specs.PointWalks.{IsPointOf, HasOn, HasWalk, IsResponsible, IsWholeWalk, LeadsFurther, LeadsOn}
-use Rattle.hb_sound.specs.Splitting.{Extraction}
 
 -- On each level some page directly holds each point of the space, and no other page of the level does.
 abbrev pub EachPointIsHeld : Type 0
@@ -61,23 +58,3 @@ PutsAddOne = (s : FileState) (id : ℕ) (rec : Record) → IsSound s → IsPoint
 abbrev pub DelsTakeOne : Type 0
 DelsTakeOne = (s : FileState) (id : ℕ) (point : List ℕ) → IsSound s → IsPointOf s point → IsAllowed s (Del id point) →
     ((body : List ℕ) × (finite.get (contents_of s) point ≡ Some body)) × (contents_of (effect_of s (Del id point)) ≡ finite.remove (contents_of s) point)
-
--- A split that is allowed and licensed leaves a sound file sound.
-abbrev pub SplitsKeepSound : Type 0
-SplitsKeepSound = (s : FileState) (x : Extraction) → IsSound s → MayExtract s x → LicensesExtraction s x → IsSound (extracted s x)
-
--- It leaves the contents as they are, where the file has no more attributes than there may be.
-abbrev pub SplitsKeepContents : Type 0
-SplitsKeepContents = (s : FileState) (x : Extraction) → IsSound s → s.meta.k ≤ KMAX → MayExtract s x → LicensesExtraction s x → contents_of (extracted s x) ≡ contents_of s
-
--- What a page directly held, it or the page that was made directly holds afterwards, and not both.
-abbrev pub HasDirectly : FileState → ℕ → List ℕ → Type 0
-HasDirectly s id p = (page : LivePage) × (live_page s id ≡ Some page) × DirectlyHolds page p
-
-abbrev pub SplitsPartDirect : Type 0
-SplitsPartDirect = (s : FileState) (x : Extraction) (p : List ℕ) → IsSound s → IsPointOf s p → MayExtract s x → LicensesExtraction s x →
-    (HasDirectly s x.source p ↔ (HasDirectly (extracted s x) x.source p ⊎ HasDirectly (extracted s x) x.fresh p)) × (HasDirectly (extracted s x) x.source p → HasDirectly (extracted s x) x.fresh p → ⊥)
-
--- It changes no page but these two.
-abbrev pub SplitsChangeTwo : Type 0
-SplitsChangeTwo = (s : FileState) (x : Extraction) → IsSound s → (may : MayExtract s x) → LicensesExtraction s x → ChangesTwo s (extracted s x) x may.page may.part

@@ -5,9 +5,8 @@ pub mod Settled
 pub mod LostFile
 pub mod LateFile
 pub mod TowerFile
-pub mod Splitting
-pub mod Extractions
-pub mod Growing
+pub mod LawsOfOperations
+pub mod LawsOfPostings
 pub mod Told
 pub mod Walks
 pub mod Broken

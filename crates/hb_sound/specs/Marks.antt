@@ -1,6 +1,6 @@
 -- What a sound file's marks keep, whether or not its pages are known.
 use Rattle.std.specs.Prelude.{◌≤◌}
-use Rattle.hb_ops.specs.declared.meta.Meta.{Meta}
+use Rattle.hb_layout.specs.declared.meta.Meta.{Meta}
 
 pub record HasMarks (meta : Meta) : Type 0 where
   pub some : 1 ≤ meta.high

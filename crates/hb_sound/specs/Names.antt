@@ -2,7 +2,7 @@
 use Rattle.std.specs.Prelude.{◌≡◌, ◌⊎◌, ℕ, ◌<◌, ◌≤◌, List, length, Option, Some}
 use Rattle.hb_frag.specs.declared.pages.LivePage.{LivePage}
 use Rattle.hb_frag.specs.declared.pages.Page.{Page}
-use Rattle.hb_ops.specs.declared.meta.Meta.{Meta}
+use Rattle.hb_layout.specs.declared.meta.Meta.{Meta}
 use Rattle.hb_ops.specs.Files.{FileState, file_records, live_page}
 use Rattle.hb_ops.specs.LocalRule.{BreaksFirst}
 use Rattle.hb_ops.specs.Sound.{FitsFile, IsRooted, IsCounted, SiblingsMatch, ChildrenMatch, IsCovered, IsSound}
@@ -58,3 +58,7 @@ IsSoundWith meta told records = IsWholeFile meta told × IsSound (file_of meta t
 -- a sound file breaks no rule
 abbrev pub SoundBreaksNone : Type 0
 SoundBreaksNone = (meta : Meta) (told : List (Option Page)) (id rule : ℕ) → Names meta told id rule → IsWholeFile meta told → IsSound (file_of meta told) → ⊥
+
+-- of the rules that a file breaks one is named first, for one page
+abbrev pub OneIsNamed : Type 0
+OneIsNamed = (s : FileState) (page other rule another : ℕ) → NamesIn s page rule → NamesIn s other another → (page ≡ other) × (rule ≡ another)

@@ -3,13 +3,13 @@ ghost use Rattle.std.specs.Prelude.{◌≡◌, ◌+◌, ◌<◌, ◌≤◌, ◌^
 ghost use Rattle.hb_space.specs.Boxes.{whole_area};
 ghost use Rattle.hb_frag.specs.declared.pages.Page.{Page as Content};
 ghost use Rattle.hb_outside.specs.Streams.{Rose};
-ghost use Rattle.hb_super.specs.Superblocks.{IsLayout};
+ghost use Rattle.hb_layout.specs.Limits.{IsLayout};
 ghost use Rattle.hb_sound.specs.Covers.{HasRule, IsLeastRule, SeesRule, SeesTop};
 ghost use Rattle.hb_sound.specs.Marks.{HasMarks};
 ghost use Rattle.hb_ops.specs.Sound.{IsSound};
 ghost use Rattle.hb_sound.specs.Facts.{AreFactsOf, IsLightFact, all_records, records_seen};
 ghost use Rattle.hb_sound.specs.Links.{AreLinks};
-ghost use Rattle.hb_sound.specs.Names.{IsSoundWith, KeepsSix, Names, NamesIn, SoundBreaksNone};
+ghost use Rattle.hb_sound.specs.Names.{IsSoundWith, KeepsSix, Names, NamesIn, OneIsNamed, SoundBreaksNone};
 ghost use Rattle.hb_sound.specs.Tests.{file_with};
 ghost use Rattle.hb_sound.specs.Stops.{OnBroken};
 ghost use Rattle.hb_sound.specs.Told.{CoversFile};
@@ -179,6 +179,7 @@ pub fn audit<P: Pages>(alloc: Global, meta: &Meta, pages: &mut P) -> Result<u64,
     // what it says over every source
     ensures marks { IfOk result (λ _. HasMarks meta.now) }
     ensures stays { P.told pages.new ≡ P.told pages.old }
+    ensures asked { P.asked pages.old pages.new }
     ensures cause { IsErrOf result Failed → Rose (P.faults pages.old) (P.faults pages.new) }
     ensures no_fault { (IsErrOf result Failed → ⊥) → P.faults pages.new ≡ P.faults pages.old }
     ensures later { P.faults pages.old ≤ P.faults pages.new }
@@ -193,4 +194,9 @@ pub fn audit<P: Pages>(alloc: Global, meta: &Meta, pages: &mut P) -> Result<u64,
 /// A sound file breaks no rule.
 pub fn a_sound_file_breaks_no_rule()
     ensures { SoundBreaksNone }
+{}
+
+/// Of the rules that a file breaks one is named first, for one page.
+pub fn one_rule_is_named()
+    ensures { OneIsNamed }
 {}

@@ -1,9 +1,12 @@
 //! Files that are sound, as examples of the definitions.
 
-ghost use Rattle.std.specs.Prelude.{[], ◌∷◌};
+ghost use Rattle.std.specs.Prelude.{◌≡◌, [], ◌∷◌, Some};
+ghost use Rattle.hb_ops.specs.Files.{live_page};
+ghost use Rattle.hb_ops.specs.Operations.{effect_of};
 ghost use Rattle.hb_ops.specs.Sound.{IsSound};
 ghost use Rattle.hb_sound.specs.Examples.{small_file};
-ghost use Rattle.hb_sound.specs.LateFile.{LateResponsible, LateWalks, late_file};
+ghost use Rattle.hb_sound.specs.LateFile.{LateResponsible, LateWalks, late_aside_posted, late_file, late_posting};
+ghost use Rattle.hb_sound.specs.LawsOfPostings.{MayBeDone};
 ghost use Rattle.hb_sound.specs.LostFile.{lost_file};
 ghost use Rattle.hb_sound.specs.TowerFile.{tower_file};
 ghost use Rattle.hb_sound.specs.PointWalks.{IsResponsible, IsWholeWalk};
@@ -40,4 +43,11 @@ pub fn a_file_of_late_postings()
     ensures sound { IsSound late_file }
     ensures walks { LateWalks }
     ensures responsible { LateResponsible }
+{}
+
+/// One of these postings may be done, and its page then names the page that it didn't know of, between
+/// two leaves of the old name.
+pub fn a_late_posting_comes()
+    ensures may { MayBeDone late_file late_posting }
+    ensures posted { live_page (effect_of late_file late_posting) 4 ≡ Some late_aside_posted }
 {}

@@ -122,6 +122,7 @@ fn read_fact<P: Pages>(meta: &Meta, pages: &mut P, id: u32) -> Result<Fact, Audi
     ensures hole { IfErr result (OnBroken (λ page rule. (page ≡ id) × (rule ≡ 0)
         × IfSome (P.told pages.old) (λ told. (meta.now.pages < id) ⊎ (id ≤ length told → item_at told id ≡ Some None)))) }
     ensures stays { P.told pages.new ≡ P.told pages.old }
+    ensures asked { P.asked pages.old pages.new }
     ensures cause { IsErrOf result Failed → Rose (P.faults pages.old) (P.faults pages.new) }
     ensures no_fault { (IsErrOf result Failed → ⊥) → P.faults pages.new ≡ P.faults pages.old }
     ensures later { P.faults pages.old ≤ P.faults pages.new }
@@ -155,6 +156,7 @@ pub(crate) fn read_facts<P: Pages>(
     ensures count { IfOk result (λ facts. (vec_len facts ≡ meta.now.high) × (meta.now.high ≤ meta.now.pages)) }
     ensures hole { IfErr result (OnBroken (λ page rule. IfSome (P.told pages.old) (λ told. (rule ≡ 0) × IsLeast (IsHole meta.now told) page))) }
     ensures stays { P.told pages.new ≡ P.told pages.old }
+    ensures asked { P.asked pages.old pages.new }
     ensures cause { IsErrOf result Failed → Rose (P.faults pages.old) (P.faults pages.new) }
     ensures no_fault { (IsErrOf result Failed → ⊥) → P.faults pages.new ≡ P.faults pages.old }
     ensures later { P.faults pages.old ≤ P.faults pages.new }

@@ -1,13 +1,20 @@
 //! What follows of a sound file, whatever was done to it. Each law is the contract of a function
 //! that does nothing: a caller learns it by the call.
 
-ghost use Rattle.hb_sound.specs.Growing.{GrowthChangesOne, GrowthKeepsContents, GrowthKeepsDirect, GrowthKeepsSound};
-ghost use Rattle.hb_sound.specs.Laws.{DelsTakeOne, EachPageHasWalks, EachPointIsHeld, LackIsContents, NoPointIsHeldTwice, PagesHaveBoxes, PutsAddOne, RecordsAreAtHome, RootHasWalks, SplitsChangeTwo, SplitsKeepContents, SplitsKeepSound, SplitsPartDirect, StandingIsContents, StepsLeadFurther, WalksAreOne};
+ghost use Rattle.hb_sound.specs.Laws.{DelsTakeOne, EachPageHasWalks, EachPointIsHeld, LackIsContents, NoPointIsHeldTwice, PagesHaveBoxes, PutsAddOne, RecordsAreAtHome, RootHasWalks, StandingIsContents, StepsLeadFurther, WalksAreOne};
+ghost use Rattle.hb_sound.specs.LawsOfOperations.{GrowthChangesOne, GrowthKeepsContents, GrowthKeepsDirect, GrowthKeepsSound, OperationsKeepContents, OperationsKeepLayout, OperationsKeepSound, SplitsChangeTwo, SplitsKeepContents, SplitsKeepSound, SplitsPartDirect};
+ghost use Rattle.hb_sound.specs.LawsOfPostings.{PostingsChangeParent, PostingsKeepContents, PostingsKeepDirect, PostingsKeepSound, PostingsName};
 ghost use Rattle.hb_sound.specs.Settled.{NoOtherParent, SettledWalksAreShort};
 
-use hb_frag::laws::{each_point_has_one_leaf, leaves_part_the_box, parts_are_stretches};
-use hb_ops::{delete_takes_one_record, put_adds_one_record, what_stands_is_in_the_contents};
-use hb_space::laws::{held_is_a_point, whole_space_holds_every_point};
+use hb_frag::laws::{
+    carving_parts_a_leaf, each_point_has_one_leaf, leaves_part_the_box, normal_says_the_same,
+    parts_are_stretches,
+};
+use hb_ops::{
+    delete_takes_one_record, put_adds_one_record, puts_and_deletes_keep_a_file_sound,
+    what_stands_is_in_the_contents,
+};
+use hb_space::laws::{common_box_is_a_box, held_is_a_point, whole_space_holds_every_point};
 
 /// The pages of each level part the space: each point is directly held by one page of the level, and
 /// by no other one.
@@ -123,6 +130,26 @@ pub fn a_split_keeps_a_file_sound()
     what_stands_is_in_the_contents();
 }
 
+/// A posting gives a page a child leaf to a page to which its child gave a box. Where it is allowed and
+/// licensed, a sound file stays sound, and its contents stay as they are. Each page directly holds what
+/// it held. No page changes but the parent, and there the leaf at a point names the new child where the
+/// point lies in the box that was given and in the leaf's that was carved, and else what it named before.
+pub fn a_posting_keeps_a_file_sound()
+    ensures sound { PostingsKeepSound }
+    ensures contents { PostingsKeepContents }
+    ensures direct { PostingsKeepDirect }
+    ensures pages { PostingsChangeParent }
+    ensures names { PostingsName }
+{
+    leaves_part_the_box();
+    each_point_has_one_leaf();
+    parts_are_stretches();
+    carving_parts_a_leaf();
+    normal_says_the_same();
+    whole_space_holds_every_point();
+    common_box_is_a_box();
+}
+
 /// A growth gives a file one level more: a page of the whole space, one level above the old root and
 /// with a child leaf to it alone, becomes the root. Where it is allowed and licensed, a sound file stays
 /// sound, and its contents stay as they are. On the levels of before each page directly holds what it
@@ -134,4 +161,26 @@ pub fn growing_keeps_a_file_sound()
     ensures pages { GrowthChangesOne }
 {
     whole_space_holds_every_point();
+}
+
+/// Whatever operation is allowed and licensed, a sound file of a legal layout stays sound, and its
+/// layout legal. A put adds one record to its contents, a delete takes one away, and a split, a posting
+/// and a growth leave them as they are.
+pub fn operations_keep_a_file_sound()
+    ensures sound { OperationsKeepSound }
+    ensures layout { OperationsKeepLayout }
+    ensures contents { OperationsKeepContents }
+{
+    leaves_part_the_box();
+    each_point_has_one_leaf();
+    parts_are_stretches();
+    carving_parts_a_leaf();
+    normal_says_the_same();
+    whole_space_holds_every_point();
+    held_is_a_point();
+    common_box_is_a_box();
+    put_adds_one_record();
+    delete_takes_one_record();
+    puts_and_deletes_keep_a_file_sound();
+    what_stands_is_in_the_contents();
 }

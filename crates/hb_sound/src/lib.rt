@@ -3,9 +3,10 @@
 //!
 //! The one contract: `audit` is Ok exactly on a sound file, and else names the first rule that the
 //! file breaks, and the page; and in a sound file each point of the whole space is directly held by
-//! exactly one page of each level, and one walk leads to it from the root. So the laws of `laws` say
-//! it, which have what a split of a page makes of a file, too, and a new root above the old one: it
-//! stays sound, with the same contents. `examples` has files that are sound.
+//! exactly one page of each level, and one walk leads to it from the root. Whatever operation of
+//! hb_ops is allowed and licensed, the file stays sound: a put, a delete, a split of a page, a posting
+//! and a new root above the old one (`operations_keep_a_file_sound`). So the laws of `laws` say it.
+//! `examples` has files that are sound.
 #![tactic(auto)]
 
 mod audits;
@@ -21,5 +22,5 @@ mod pages;
 mod tests;
 mod threads;
 
-pub use audits::{a_sound_file_breaks_no_rule, audit};
+pub use audits::{a_sound_file_breaks_no_rule, audit, one_rule_is_named};
 pub use pages::{AuditStop, PageStop, Pages};

@@ -155,6 +155,7 @@ impl Links {
         ensures never { IfErr result (OnBroken (λ _ _. IfSome (P.told pages.old) (λ told. (page : Content) → item_at told id ≡ Some (Some page) → IsCut page → ⊥))) }
         ensures same { vec_len self.new.named ≡ vec_len self.old.named }
         ensures stays { P.told pages.new ≡ P.told pages.old }
+        ensures asked { P.asked pages.old pages.new }
         ensures cause { IsErrOf result Failed → Rose (P.faults pages.old) (P.faults pages.new) }
         ensures no_fault { (IsErrOf result Failed → ⊥) → P.faults pages.new ≡ P.faults pages.old }
         ensures later { P.faults pages.old ≤ P.faults pages.new }
@@ -185,6 +186,7 @@ pub(crate) fn read_links<P: Pages>(
     ensures never { IfErr result (OnBroken (λ _ _. IfSome (P.told pages.old) (λ told. (list : List Content) → AreRead told facts.now list → ⊥))) }
     ensures same { IfOk result (λ links. vec_len links.named ≡ length facts.now) }
     ensures stays { P.told pages.new ≡ P.told pages.old }
+    ensures asked { P.asked pages.old pages.new }
     ensures cause { IsErrOf result Failed → Rose (P.faults pages.old) (P.faults pages.new) }
     ensures no_fault { (IsErrOf result Failed → ⊥) → P.faults pages.new ≡ P.faults pages.old }
     ensures later { P.faults pages.old ≤ P.faults pages.new }

@@ -20,7 +20,8 @@ pub enum PageStop {
 
 /// Where the pages of a file come from.
 ///
-/// The count of faults rises exactly in the calls that fail.
+/// The count of faults rises exactly in the calls that fail. What asking for pages may do to the source is the source's
+/// to say: asking for none leaves it as it is, and asking on is asking.
 pub trait Pages {
     /// A page for each number from 1 on, or none where the bytes in its place are no page: where the source tells.
     ghost told: { Self → Option (List (Option Content)) };
@@ -28,11 +29,19 @@ pub trait Pages {
     /// How often the source has failed.
     ghost faults: { Self → ℕ };
 
+    /// What it may be after some of its pages were asked for, from what it was before.
+    ghost asked: { Self → Self → Type 0 };
+
+    ghost asked_none: { (pages : Self) → asked pages pages };
+
+    ghost asked_on: { (first then last : Self) → asked first then → asked then last → asked first last };
+
     /// The page of this number. `None` says that the bytes in its place are no page.
     fn page(&mut self, id: u32) -> Result<Option<Page>, PageStop>
         ensures gives { IfOk result (λ page. GivesPage (told self.old) id page) }
         ensures light { IfOk result (λ page. IfSome page IsLight) }
         ensures stays { told self.new ≡ told self.old }
+        ensures asked { asked self.old self.new }
         ensures cause { IsErrOf result Failed → Rose (faults self.old) (faults self.new) }
         ensures no_fault { (IsErrOf result Failed → ⊥) → faults self.new ≡ faults self.old }
         ensures later { faults self.old ≤ faults self.new };

@@ -7,7 +7,7 @@
 ghost use Rattle.std.specs.Prelude.{◌≡◌, IfSome, IsTrue, None};
 ghost use Rattle.hb_frag.specs.Leaves.{leaf_weight, weight_of};
 ghost use Rattle.hb_page_codec.specs.Weight.{IsLight};
-ghost use Rattle.hb_super.specs.Superblocks.{IsLayout};
+ghost use Rattle.hb_layout.specs.Limits.{IsLayout};
 
 use crate::{AuditStop, PageStop, Pages, audit};
 use hb_frag::{Frag, Leaf, LivePage, Node, Page};
@@ -129,6 +129,12 @@ impl Pages for KeptPages {
     ghost told = { λ _. None };
 
     ghost faults = { λ _. 0 };
+
+    ghost asked = { λ _ _. Unit {0} };
+
+    ghost asked_none = { λ _. tt };
+
+    ghost asked_on = { λ _ _ _ _ _. tt };
 
     fn page(&mut self, id: u32) -> Result<Option<Page>, PageStop> {
         let place = (id as usize).wrapping_sub(1);

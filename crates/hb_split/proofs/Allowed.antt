@@ -14,10 +14,9 @@ use Rattle.hb_frag.specs.Trees.{Tree, Tip, Cut}
 use Rattle.hb_frag.specs.Leaves.{weight_of}
 use Rattle.hb_frag.specs.Paths.{part_at}
 use Rattle.hb_frag.specs.Rules.{AreInOrder, IsSiblingTip}
-use Rattle.hb_sound.specs.Splitting as sound
-use Rattle.hb_sound.specs.Splitting.{area_on, going, half_area, is_on, other_side, records_in, reached, PartLeaves}
-use Rattle.hb_split.specs.declared.leaf_cuts.LeafCut.{LeafCut}
-use Rattle.hb_split.specs.Choosing.{planes, way_down, MayCut, AreChosen}
+use Rattle.hb_ops.specs.Cutting.{area_on, going, half_area, is_on, other_side, records_in, reached, PartLeaves}
+use Rattle.hb_ops.specs.declared.leaf_cuts.LeafCut.{LeafCut}
+use Rattle.hb_split.specs.Choosing.{way_down, MayCut, AreChosen}
 use Rattle.hb_split.specs.Laws.{IsThirds, MayLeave}
 use Rattle.hb_split.proofs.Ends.{at_end, of_page, records_held}
 use Rattle.hb_split.proofs.Nexts.{parts}
@@ -72,7 +71,7 @@ as_long : (side : Side) (axis value : ℕ) (a : Area) → length (area_on side a
 as_long Left axis value a = refl
 as_long Right axis value a = length-set a.lo axis value
 
-pub part_leaves : (n k : ℕ) (cuts : List sound.LeafCut) (tree : Tree) (a : Area) → length a.lo ≡ k → All (λ r. Holds a r.key) (records_in tree) → AreChosen n k cuts tree → PartLeaves cuts tree a
+pub part_leaves : (n k : ℕ) (cuts : List LeafCut) (tree : Tree) (a : Area) → length a.lo ≡ k → All (λ r. Holds a r.key) (records_in tree) → AreChosen n k cuts tree → PartLeaves cuts tree a
 part_leaves n k [] tree a same held c = tt
 part_leaves n k (cut ∷ cuts) tree a same held c =
     let here = subst (λ (t : Tree). All (λ r. Holds a r.key) (records_in t)) c.0.leaf held in
@@ -101,10 +100,10 @@ Light n (Some part) = 3 * weight_of part.0 ≤ 2 * n
 
 abbrev PartsOf : List LeafCut → Option (Tree × Area) → Type 0
 PartsOf cuts None = Unit {0}
-PartsOf cuts (Some part) = PartLeaves (planes cuts) part.0 part.1
+PartsOf cuts (Some part) = PartLeaves cuts part.0 part.1
 
 pub is_allowed : (n : ℕ) (page : LivePage) (path : List Side) (cuts : List LeafCut) → 6 ≤ n → n ≡ weight_of page.frag → path ≡ way_down n page.frag → AreInOrder page
-    → (q : Tree × Area) × (part_at path page.frag page.area ≡ Some q) × AreChosen n (length page.area.lo) (planes cuts) q.0 → IsThirds page path cuts → MayLeave page path cuts
+    → (q : Tree × Area) × (part_at path page.frag page.area ≡ Some q) × AreChosen n (length page.area.lo) cuts q.0 → IsThirds page path cuts → MayLeave page path cuts
 is_allowed n page path cuts full e way ordered c t =
     let k = length page.area.lo in
     let g = of_page n page path full e way ordered in
@@ -114,11 +113,11 @@ is_allowed n page path cuts full e way ordered c t =
       inside = g.inside;
       part = t.part;
       found = t.found;
-      parts = subst (λ (q : Option (Tree × Area)). PartsOf cuts q) t.found (subst (λ (q : Option (Tree × Area)). PartsOf cuts q) (sym c.1) (part_leaves n k (planes cuts) c.0.0 c.0.1 end.attributes (records_held n k c.0.0 c.0.1 end) c.2));
+      parts = subst (λ (q : Option (Tree × Area)). PartsOf cuts q) t.found (subst (λ (q : Option (Tree × Area)). PartsOf cuts q) (sym c.1) (part_leaves n k cuts c.0.0 c.0.1 end.attributes (records_held n k c.0.0 c.0.1 end) c.2));
       some = λ none.
-          let bare = subst (λ (x : List LeafCut). AreChosen n k (planes x) c.0.0) none.1 c.2 in
+          let bare = subst (λ (x : List LeafCut). AreChosen n k x c.0.0) none.1 c.2 in
           let whole = subst (λ (x : List Side). part_at x page.frag page.area ≡ Some c.0) none.0 c.1 in
           let light = subst (Light n) (sym whole) bare in
           omega (arith, light, e, full);
-      own = λ s. let w = light_tip (reached (planes cuts) t.part.0 t.part.1).0 s in omega (arith, w, u, e, full);
+      own = λ s. let w = light_tip (reached cuts t.part.0 t.part.1).0 s in omega (arith, w, u, e, full);
     }

@@ -1,7 +1,6 @@
 -- At most four cuts are made of a leaf.
-use Rattle.std.proofs.Common.{◌≡◌, ℕ, zero, suc, ◌+◌, ◌-◌, ◌*◌, ◌<◌, ◌≤◌, inl, inr, if◌then◌else◌, List, [], ◌∷◌, length, max, Some, sym, arith, subst}
+use Rattle.std.proofs.Common.{◌≡◌, ℕ, zero, suc, ◌+◌, ◌-◌, ◌*◌, ◌<◌, ◌≤◌, ◌⊎◌, inl, inr, if◌then◌else◌, List, [], ◌∷◌, length, filter, max, Some, sym, ap, arith, subst}
 use Rattle.std.proofs.lemmas.Bool.{cases_lt}
-use Rattle.std.proofs.lemmas.List.{length-map}
 use Rattle.std.proofs.lemmas.List.Elements.{All-filter}
 use Rattle.std.proofs.lemmas.List.Kept.{AllPairs-filter}
 use Rattle.hb_space.specs.declared.records.Record.{Record}
@@ -10,13 +9,13 @@ use Rattle.hb_frag.specs.declared.paths.Side.{Side}
 use Rattle.hb_frag.specs.declared.paths.Side.TheVariants.{Left, Right}
 use Rattle.hb_frag.specs.Trees.{Tree, Tip}
 use Rattle.hb_frag.specs.Leaves.{weight_of}
-use Rattle.hb_sound.specs.Splitting.{LeafCut, going, is_on, records_in}
-use Rattle.hb_split.specs.declared.leaf_cuts.LeafCut as declared
+use Rattle.hb_ops.specs.Cutting.{going, is_on, records_in}
+use Rattle.hb_ops.specs.declared.leaf_cuts.LeafCut.{LeafCut}
 use Rattle.hb_space.specs.Boxes.{Area}
 use Rattle.hb_frag.specs.declared.pages.LivePage.{LivePage}
 use Rattle.hb_frag.specs.Paths.{part_at}
 use Rattle.hb_frag.specs.Rules.{AreInOrder, Precedes}
-use Rattle.hb_split.specs.Choosing.{AreChosen, plane_of, planes, way_down, Chooses, IsBest, NotBehind, count_on, heavier_count, heavier_side}
+use Rattle.hb_split.specs.Choosing.{AreChosen, way_down, Chooses, IsBest, NotBehind, count_on, heavier_count, heavier_side}
 use Rattle.hb_split.specs.Steps.{AreOf}
 use Rattle.hb_split.proofs.Centers.{LeavesFew, few_records, times}
 use Rattle.hb_split.proofs.Ends.{at_end, of_page, records_at}
@@ -99,11 +98,9 @@ few_cuts n k (a ∷ b ∷ d ∷ e ∷ f ∷ rest) tree full le whole of c =
     let w4 = four.less in
     absurd (omega (arith, full, whole, w1, w2, w3, w4, heavy))
 
-pub is_few : (n : ℕ) (page : LivePage) (path : List Side) (cuts : List declared.LeafCut) → 6 ≤ n → n ≡ weight_of page.frag → path ≡ way_down n page.frag → AreInOrder page → length page.area.lo ≤ 4
-    → (q : Tree × Area) × (part_at path page.frag page.area ≡ Some q) × AreChosen n (length page.area.lo) (planes cuts) q.0 → length cuts ≤ 4
+pub is_few : (n : ℕ) (page : LivePage) (path : List Side) (cuts : List LeafCut) → 6 ≤ n → n ≡ weight_of page.frag → path ≡ way_down n page.frag → AreInOrder page → length page.area.lo ≤ 4
+    → (q : Tree × Area) × (part_at path page.frag page.area ≡ Some q) × AreChosen n (length page.area.lo) cuts q.0 → length cuts ≤ 4
 is_few n page path cuts full e way ordered le c =
     let k = length page.area.lo in
     let end = at_end n k path page.frag page.area c.0 (of_page n page path full e way ordered) c.1 in
-    let few = few_cuts n k (planes cuts) c.0.0 full le end.whole (records_at n k c.0.0 c.0.1 end) c.2 in
-    let same = length-map cuts plane_of in
-    omega (arith, few, same)
+    few_cuts n k cuts c.0.0 full le end.whole (records_at n k c.0.0 c.0.1 end) c.2

@@ -13,8 +13,8 @@ use Rattle.hb_space.specs.declared.records.Record.{Record}
 use Rattle.hb_frag.specs.declared.paths.Side.{Side}
 use Rattle.hb_frag.specs.declared.paths.Side.TheVariants.{Left, Right}
 use Rattle.hb_frag.specs.Rules.{Precedes}
-use Rattle.hb_sound.specs.Splitting.{is_on}
-use Rattle.hb_split.specs.declared.leaf_cuts.LeafCut.{LeafCut}
+use Rattle.hb_ops.specs.Cutting.{is_on}
+use Rattle.hb_ops.specs.declared.leaf_cuts.LeafCut.{LeafCut}
 use Rattle.hb_split.specs.declared.planes.Candidate.{Candidate}
 use Rattle.hb_split.specs.Choosing.{MayCut, count_on}
 use Rattle.hb_split.specs.Steps.{AreOf, BestOf, IsNext, AddsCuts}

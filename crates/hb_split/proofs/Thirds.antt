@@ -8,7 +8,8 @@ use Rattle.hb_frag.specs.declared.paths.Side.{Side}
 use Rattle.hb_frag.specs.declared.paths.Side.TheVariants.{Left, Right}
 use Rattle.hb_frag.specs.Trees.{Tree, Tip}
 use Rattle.hb_frag.specs.Leaves.{weight_of}
-use Rattle.hb_sound.specs.Splitting.{LeafCut, going, is_on, half_area, reached}
+use Rattle.hb_ops.specs.declared.leaf_cuts.LeafCut.{LeafCut}
+use Rattle.hb_ops.specs.Cutting.{going, is_on, half_area, reached}
 use Rattle.hb_split.specs.Choosing.{heavier_side, count_on, AreChosen, Chooses}
 use Rattle.hb_split.proofs.WaysDown.{tested}
 

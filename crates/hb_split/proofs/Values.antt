@@ -7,7 +7,7 @@ use Rattle.std.proofs.lemmas.List.Sums.{length-filter}
 use Rattle.std.proofs.lemmas.List.Sorted.{Contains-permutation, IsPermutation-sym, length_permutation, sum_by-IsPermutation, IsNonDecreasingBy-from_sort}
 use Rattle.hb_space.specs.declared.records.Record.{Record}
 use Rattle.hb_frag.specs.declared.paths.Side.TheVariants.{Left, Right}
-use Rattle.hb_sound.specs.Splitting.{is_on}
+use Rattle.hb_ops.specs.Cutting.{is_on}
 use Rattle.hb_split.specs.declared.planes.Candidate.{Candidate}
 use Rattle.hb_split.specs.Choosing.{MayCut, NotBehind, heavier_side, heavier_count, count_on}
 use Rattle.hb_split.specs.Steps.{IsBestOn, AreValues, IsStep, heavier_at, BestStep}

@@ -9,16 +9,8 @@ use Rattle.hb_frag.specs.declared.paths.Side.TheVariants.{Left, Right}
 use Rattle.hb_frag.specs.Trees.{Tree, Tip, Cut}
 use Rattle.hb_frag.specs.Leaves.{weight_of}
 use Rattle.hb_frag.specs.Paths.{part_at}
-use Rattle.hb_sound.specs.Splitting as splitting
-use Rattle.hb_sound.specs.Splitting.{is_on, going}
-use Rattle.hb_split.specs.declared.leaf_cuts.LeafCut.{LeafCut}
-
--- a cut in the words of splits
-abbrev pub plane_of : LeafCut → splitting.LeafCut
-plane_of cut = record { axis = cut.axis; value = cut.value; side = cut.side }
-
-abbrev pub planes : List LeafCut → List splitting.LeafCut
-planes cuts = map plane_of cuts
+use Rattle.hb_ops.specs.Cutting.{is_on, going}
+use Rattle.hb_ops.specs.declared.leaf_cuts.LeafCut.{LeafCut}
 
 -- the heavier side of two, the left one where both weigh the same
 abbrev pub heavier_side : ℕ → ℕ → Side
@@ -59,7 +51,7 @@ pub record IsBest (k axis value : ℕ) (records : List Record) : Type 0 where
       → NotBehind (heavier_count axis value records) axis value (heavier_count axis' value' records) axis' value'
 
 -- a cut of a records leaf that has more than two thirds
-pub record Chooses (n k : ℕ) (cut : splitting.LeafCut) (tree : Tree) : Type 0 where
+pub record Chooses (n k : ℕ) (cut : LeafCut) (tree : Tree) : Type 0 where
   pub records : List Record
   pub leaf : tree ≡ Tip (Records records)
   pub heavy : 2 * n < 3 * weight_of tree
@@ -67,7 +59,7 @@ pub record Chooses (n k : ℕ) (cut : splitting.LeafCut) (tree : Tree) : Type 0 
   pub side : cut.side ≡ heavier_side (count_on Left cut.axis cut.value records) (count_on Right cut.axis cut.value records)
 
 -- Each cut is chosen of what the ones before it left, and at their end nothing is heavy.
-abbrev pub AreChosen : ℕ → ℕ → List splitting.LeafCut → Tree → Type 0
+abbrev pub AreChosen : ℕ → ℕ → List LeafCut → Tree → Type 0
 AreChosen n k [] tree = 3 * weight_of tree ≤ 2 * n
 AreChosen n k (cut ∷ cuts) tree = Chooses n k cut tree × AreChosen n k cuts (going cut tree)
 
@@ -76,4 +68,4 @@ pub record IsChosen (page : LivePage) (path : List Side) (cuts : List LeafCut) :
   pub way : path ≡ way_down (weight_of page.frag) page.frag
   pub part : Tree × Area
   pub found : part_at path page.frag page.area ≡ Some part
-  pub chosen : AreChosen (weight_of page.frag) (length page.area.lo) (planes cuts) part.0
+  pub chosen : AreChosen (weight_of page.frag) (length page.area.lo) cuts part.0

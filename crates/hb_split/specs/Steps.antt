@@ -8,10 +8,10 @@ use Rattle.hb_frag.specs.declared.paths.Side.{Side}
 use Rattle.hb_frag.specs.declared.paths.Side.TheVariants.{Left, Right}
 use Rattle.hb_frag.specs.Trees.{Tip}
 use Rattle.hb_frag.specs.Rules.{Precedes}
-use Rattle.hb_sound.specs.Splitting.{is_on}
-use Rattle.hb_split.specs.declared.leaf_cuts.LeafCut.{LeafCut}
+use Rattle.hb_ops.specs.Cutting.{is_on}
+use Rattle.hb_ops.specs.declared.leaf_cuts.LeafCut.{LeafCut}
 use Rattle.hb_split.specs.declared.planes.Candidate.{Candidate}
-use Rattle.hb_split.specs.Choosing.{planes, heavier_side, is_heavy, count_on, heavier_count, MayCut, NotBehind, IsBest, AreChosen}
+use Rattle.hb_split.specs.Choosing.{heavier_side, is_heavy, count_on, heavier_count, MayCut, NotBehind, IsBest, AreChosen}
 
 -- the step at a cut, where its sides together have more than two thirds
 abbrev pub own_step : ℕ → ℕ → ℕ → List Side
@@ -24,7 +24,7 @@ pub record AreOf (k : ℕ) (records : List Record) : Type 0 where
 
 -- these cuts are added, all those that are chosen of the records
 abbrev pub AddsCuts : ℕ → ℕ → List Record → List LeafCut → List LeafCut → Type 0
-AddsCuts n k records old new = (more : List LeafCut) × (new ≡ old ++ more) × AreChosen n k (planes more) (Tip (Records records))
+AddsCuts n k records old new = (more : List LeafCut) × (new ≡ old ++ more) × AreChosen n k more (Tip (Records records))
 
 -- a candidate's count and side are those of its plane
 pub record IsOfPlane (records : List Record) (candidate : Candidate) : Type 0 where

@@ -4,10 +4,10 @@ ghost use Rattle.hb_frag.specs.Rules.{AreInOrder};
 ghost use Rattle.hb_split.specs.Choosing.{IsChosen};
 ghost use Rattle.hb_split.specs.Laws.{IsThirds, MayLeave};
 
-use crate::Cuts;
 use crate::parting::cuts_at;
 use crate::ways::way_down;
 use hb_frag::{LivePage, Path};
+use hb_ops::Cuts;
 use hb_space::NoMemory;
 use std::alloc::Global;
 

@@ -8,7 +8,6 @@
 #![tactic(auto)]
 
 mod choices;
-mod leaf_cuts;
 mod parting;
 mod planes;
 #[cfg(test)]
@@ -16,4 +15,3 @@ mod tests;
 mod ways;
 
 pub use choices::{Extraction, choose};
-pub use leaf_cuts::{Cuts, LeafCut};

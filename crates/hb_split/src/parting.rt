@@ -6,14 +6,14 @@ ghost use Rattle.hb_frag.specs.Trees.{Tree};
 ghost use Rattle.hb_frag.specs.Leaves.{records_of, weight_of, WellCut};
 ghost use Rattle.hb_frag.specs.Paths.{part_at};
 ghost use Rattle.hb_frag.specs.Rules.{AreInOrder};
-ghost use Rattle.hb_sound.specs.Splitting.{is_on, records_in};
-ghost use Rattle.hb_split.specs.Choosing.{planes, way_down, AreChosen};
+ghost use Rattle.hb_ops.specs.Cutting.{is_on, records_in};
+ghost use Rattle.hb_split.specs.Choosing.{way_down, AreChosen};
 ghost use Rattle.hb_split.specs.Steps.{AreOf, AddsCuts};
 
 use crate::planes::best_cut;
 use crate::ways::is_heavy;
-use crate::{Cuts, LeafCut};
 use hb_frag::{Frag, Leaf, LivePage, Node, Path, Side};
+use hb_ops::{Cuts, LeafCut};
 use hb_space::{NoMemory, Record};
 use smallvec::SmallVec;
 use std::alloc::Global;
@@ -31,7 +31,7 @@ pub(crate) fn cuts_at(
     requires weight { total ≡ weight_of page.now.frag }
     requires way { path.now ≡ way_down total page.now.frag }
     ensures chosen { IfOk result (λ cuts. (part : Tree × Area) × (part_at path.now page.now.frag page.now.area ≡ Some part)
-        × AreChosen total (length page.now.area.lo) (planes cuts) part.0) }
+        × AreChosen total (length page.now.area.lo) cuts part.0) }
     ensures attributes { OnOk result (length page.now.area.lo ≤ KMAX) }
 {
     match page.subtree(path) {

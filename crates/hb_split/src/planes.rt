@@ -2,8 +2,8 @@ ghost use Rattle.std.specs.Prelude.{◌≡◌, ◌≤◌, ◌<◌, ◌^◌, ◌+
 ghost use Rattle.hb_split.specs.Steps.{AreOf, AreValues, BestOf, BestOn, BestStep, IsBestOn, IsNext, heavier_at};
 ghost use Rattle.hb_split.specs.Choosing.{heavier_side};
 
-use crate::LeafCut;
 use crate::ways::heavier_side;
+use hb_ops::LeafCut;
 use hb_space::{NoMemory, Record};
 use std::alloc::Global;
 

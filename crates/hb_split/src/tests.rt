@@ -3,9 +3,9 @@
 ghost use Rattle.std.specs.Prelude.{◌≡◌, IfSome};
 ghost use Rattle.hb_frag.specs.Leaves.{leaf_weight, weight_of};
 
-use crate::{Extraction, LeafCut, choose};
+use crate::{Extraction, choose};
 use hb_frag::{Frag, Leaf, LivePage, Node, Side};
-use hb_ops::{Meta, local_rule};
+use hb_ops::{LeafCut, Meta, local_rule};
 use hb_space::{Area, Body, Point, Record, Records};
 use std::alloc::Global;
 use std::test::Fail;

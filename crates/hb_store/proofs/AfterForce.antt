@@ -11,14 +11,15 @@ use Rattle.hb_disk.specs.RunLaws.{at_value, has_value, some_same, Leaves-weaker,
 use Rattle.hb_wal.specs.Frames.{frames, frame_bytes, range, HasFrames}
 use Rattle.hb_wal.specs.Log.{Waiting, LogState, forced, left_waiting, after_force}
 use Rattle.hb_wal.specs.Forces.{HasLog, ForceLeaves}
-use Rattle.hb_super.specs.Superblocks.{place_of}
+use Rattle.hb_layout.specs.Offsets.{slot_offset}
 use Rattle.hb_frag.specs.declared.pages.Page.{Page}
 use Rattle.hb_frag.specs.Grammar.{SpellsPage}
-use Rattle.hb_ops.specs.declared.meta.Meta.{Meta}
+use Rattle.hb_layout.specs.declared.meta.Meta.{Meta}
 use Rattle.hb_ops.specs.Files.{FileState, page_of}
-use Rattle.hb_store.specs.Groups.{Logged, FitsGroup, group_bytes}
+use Rattle.hb_log_codec.specs.Groups.{Logged, FitsGroup, group_bytes}
 use Rattle.hb_store.specs.Replay.{Replayed, untouched, replay}
-use Rattle.hb_store.specs.Opening.{OpensBy, log_place, log_bytes, place_bytes}
+use Rattle.hb_layout.specs.Offsets.{log_start}
+use Rattle.hb_store.specs.Opening.{OpensBy, log_bytes, place_bytes}
 use Rattle.hb_store.specs.Keeps.{StoreState, StoreKeeps, IsStore, Leads, OpensNext, OpensToFirst, last_of}
 use Rattle.hb_store.specs.Calls.{stopped_state, forced_state, with_log, durable_after, later_after}
 use Rattle.hb_store.specs.ReplayLaws.{replay-append, zeros_end}
@@ -26,7 +27,7 @@ use Rattle.hb_store.specs.StoreLaws.{opens_first, StoreKeeps-by}
 use Rattle.hb_store.proofs.AreaTorn.{spelled_kept, shows_kept, opens_same, opens_more}
 
 -- The bytes open to the durable file, or to the next one where the first group's frame is there.
-inside_by : (turn : ℕ) (said : Meta) (b c : List ℕ) → Torn (log_place turn said) said.log b c → (payloads : List (List ℕ)) (written : List Logged) (durable : FileState)
+inside_by : (turn : ℕ) (said : Meta) (b c : List ℕ) → Torn (log_start turn said) said.log b c → (payloads : List (List ℕ)) (written : List Logged) (durable : FileState)
     → OpensBy b turn said payloads written durable → (groups : List Waiting) (waiting : List Logged) (later : List FileState)
     → map (λ w. w.bytes) groups ≡ map group_bytes waiting → All (FitsGroup said.k) waiting → Leads (replay (untouched said) written) durable waiting later
     → HasFrames (log_bytes turn said c) payloads ⊎ HasFrames (log_bytes turn said c) (payloads ++ forced groups)
@@ -79,21 +80,21 @@ front_of_both area len written payloads more c fits count (inl framed) =
 front_of_both area len written payloads more c fits count (inr framed) = front_of area len written payloads more c fits count framed
 
 module _ (d : DiskModel) (is_disk : IsDisk d) (st : StoreState) (is_store : IsStore d.size st) (going : st.stopped ≡ false) (durable : FileState) (later : List FileState) (keeps : StoreKeeps d st durable later) where
-  area_is : st.log.area ≡ log_place st.turn keeps.said
+  area_is : st.log.area ≡ log_start st.turn keeps.said
   area_is = is_store.area ∙ ap (λ (n : ℕ). 8192 + (st.turn % 2) * n) keeps.layout.log
 
   len_is : st.log.len ≡ keeps.said.log
   len_is = is_store.len ∙ keeps.layout.log
 
-  torn_there : (b c : List ℕ) → Torn st.log.area st.log.len b c → Torn (log_place st.turn keeps.said) keeps.said.log b c
+  torn_there : (b c : List ℕ) → Torn st.log.area st.log.len b c → Torn (log_start st.turn keeps.said) keeps.said.log b c
   torn_there b c torn =
       let Q : ℕ → ℕ → Type 0 = λ at n. Torn at n b c in
-      subst (λ (n : ℕ). Q (log_place st.turn keeps.said) n) len_is (subst (λ (at : ℕ). Q at st.log.len) area_is torn)
+      subst (λ (n : ℕ). Q (log_start st.turn keeps.said) n) len_is (subst (λ (at : ℕ). Q at st.log.len) area_is torn)
 
   frames_there : (c : List ℕ) (payloads : List (List ℕ)) → HasFrames (range st.log.area st.log.len c) payloads → HasFrames (log_bytes st.turn keeps.said c) payloads
   frames_there c payloads framed =
       let Q : ℕ → ℕ → Type 0 = λ at n. HasFrames (range at n c) payloads in
-      subst (λ (n : ℕ). Q (log_place st.turn keeps.said) n) len_is (subst (λ (at : ℕ). Q at st.log.len) area_is framed)
+      subst (λ (n : ℕ). Q (log_start st.turn keeps.said) n) len_is (subst (λ (at : ℕ). Q at st.log.len) area_is framed)
 
   pub may_force : (payloads : List (List ℕ)) × HasLog d st.log payloads
   may_force = (keeps.payloads, (keeps.running going).logged)
@@ -127,8 +128,8 @@ module _ (d : DiskModel) (is_disk : IsDisk d) (st : StoreState) (is_store : IsSt
     places_synced : IsSynced new 0 8192
     places_synced = IsSynced-elsewhere d new 0 8192 st.log.area st.log.len (inl (omega (arith, area_is))) place (keeps.running going).places
 
-    place_synced : IsSynced new (place_of st.turn) PAGE
-    place_synced = IsSynced-part new 0 8192 (place_of st.turn) PAGE (omega arith) (omega arith) places_synced
+    place_synced : IsSynced new (slot_offset st.turn) PAGE
+    place_synced = IsSynced-part new 0 8192 (slot_offset st.turn) PAGE (omega arith) (omega arith) places_synced
 
     page_synced : (id : ℕ) (page : Page) → ((c : List ℕ) → d.Image c → SpellsPage (place_bytes keeps.said id c) page) → (c : List ℕ) → new.Image c → SpellsPage (place_bytes keeps.said id c) page
     page_synced id page was c image =

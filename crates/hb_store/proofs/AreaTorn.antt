@@ -9,18 +9,21 @@ use Rattle.hb_disk.specs.TornLaws.{Torn-elsewhere}
 use Rattle.hb_wal.specs.Frames.{HasFrames}
 use Rattle.hb_frag.specs.declared.pages.Page.{Page}
 use Rattle.hb_frag.specs.Grammar.{SpellsPage}
-use Rattle.hb_ops.specs.declared.meta.Meta.{Meta}
+use Rattle.hb_layout.specs.declared.meta.Meta.{Meta}
 use Rattle.hb_ops.specs.Files.{FileState}
 use Rattle.hb_ops.specs.Operations.{IsAllowed, effect_of}
-use Rattle.hb_store.specs.Groups.{Logged, FitsGroup, SpellAll, group_bytes}
+use Rattle.hb_log_codec.specs.Groups.{Logged, FitsGroup, group_bytes}
+use Rattle.hb_store.specs.Payloads.{SpellAll}
 use Rattle.hb_store.specs.Replay.{Replayed, untouched, replay, MayFollow}
-use Rattle.hb_store.specs.Opening.{OpensBy, Shows, IsPageIn, log_place, log_bytes, page_place, place_bytes}
+use Rattle.hb_layout.specs.Offsets.{log_start, page_offset}
+use Rattle.hb_store.specs.Opening.{OpensBy, Shows, IsPageIn, log_bytes, place_bytes}
 use Rattle.hb_store.specs.Keeps.{AreImagesOf}
-use Rattle.hb_store.specs.ReplayLaws.{replay-append, MayReplay-append, SpellAll-append, Shows-after}
+use Rattle.hb_store.specs.ReplayLaws.{replay-append, MayReplay-append, SpellAll-append}
+use Rattle.hb_store.proofs.Shown.{Shows-after}
 use Rattle.hb_store.specs.StoreLaws.{IsNewest-elsewhere}
 
 -- the area of a turn ends in front of the pages
-pub area_end : (turn : ℕ) (said : Meta) → log_place turn said + said.log ≤ 8192 + 2 * said.log
+pub area_end : (turn : ℕ) (said : Meta) → log_start turn said + said.log ≤ 8192 + 2 * said.log
 area_end turn said =
     let one : turn % 2 ≤ 1 = omega arith in
     omega (arith, mul-le-mul_right said.log one)
@@ -29,12 +32,12 @@ area_end turn said =
 one_spelled : (k : ℕ) (g : Logged) → FitsGroup k g → SpellAll k (group_bytes g ∷ []) (g ∷ [])
 one_spelled k g fits = (g ∷ [], [], refl, record { fits = All-cons (FitsGroup k) g [] fits (All-nil (FitsGroup k)); bytes_are = sym (append-nil (group_bytes g)) }, refl)
 
-module _ (turn : ℕ) (said : Meta) (b c : List ℕ) (torn : Torn (log_place turn said) said.log b c) where
+module _ (turn : ℕ) (said : Meta) (b c : List ℕ) (torn : Torn (log_start turn said) said.log b c) where
   pub places_kept : take 8192 (drop 0 c) ≡ take 8192 (drop 0 b)
-  places_kept = Torn-elsewhere (log_place turn said) said.log 0 8192 b c (inl (omega arith)) torn
+  places_kept = Torn-elsewhere (log_start turn said) said.log 0 8192 b c (inl (omega arith)) torn
 
   pub page_kept : (id : ℕ) → place_bytes said id c ≡ place_bytes said id b
-  page_kept id = Torn-elsewhere (log_place turn said) said.log (page_place said id) PAGE b c (inr (omega (arith, area_end turn said))) torn
+  page_kept id = Torn-elsewhere (log_start turn said) said.log (page_offset said id) PAGE b c (inr (omega (arith, area_end turn said))) torn
 
   pub spelled_kept : (id : ℕ) (page : Page) → SpellsPage (place_bytes said id b) page → SpellsPage (place_bytes said id c) page
   spelled_kept id page spells = let Q : List ℕ → Type 0 = λ l. SpellsPage l page in subst Q (sym (page_kept id)) spells

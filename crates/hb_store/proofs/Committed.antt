@@ -1,33 +1,34 @@
 -- A store keeps its disk once an operation was done in memory and its group waits.
-use Rattle.std.proofs.Common.{◌≡◌, ◌≢◌, inl, inr, ℕ, ◌+◌, ◌*◌, ◌%◌, ◌≤◌, ◌==◌, Bool, true, false, cond, List, [], ◌∷◌, ◌++◌, length, get_or, map, All, Option, Some, None, IsSome, refl, sym, ap, ◌∙◌, subst, arith}
-use Rattle.std.proofs.lemmas.Bool.{cases_Bool, cases_lt, eqb-true, eqb-false}
+use Rattle.std.proofs.Common.{◌≡◌, inl, inr, ℕ, ◌+◌, ◌*◌, ◌%◌, ◌≤◌, ◌==◌, Bool, true, false, cond, List, [], ◌∷◌, ◌++◌, length, get_or, map, All, Option, Some, None, IsSome, refl, sym, ap, ◌∙◌, subst, arith}
+use Rattle.std.proofs.lemmas.Bool.{cases_lt}
 use Rattle.std.proofs.lemmas.List.{get_or_past, map-append}
-use Rattle.std.proofs.lemmas.List.Elements.{All-append, All-cons, All-head, All-nil, All-tail}
+use Rattle.std.proofs.lemmas.List.Elements.{All-append, All-cons, All-nil}
 use Rattle.hb_disk.specs.Model.{DiskModel, IsDisk}
 use Rattle.hb_disk.specs.Calls.{IsSynced}
 use Rattle.hb_wal.specs.Log.{LogState, Waiting}
 use Rattle.hb_wal.specs.Forces.{HasLog}
 use Rattle.hb_frag.specs.declared.pages.LivePage.{LivePage}
 use Rattle.hb_frag.specs.declared.pages.Page.{Page}
-use Rattle.hb_ops.specs.declared.meta.Meta.{Meta}
+use Rattle.hb_layout.specs.declared.meta.Meta.{Meta}
 use Rattle.hb_ops.specs.declared.operations.Op.{Op}
-use Rattle.hb_ops.specs.declared.operations.Op.TheVariants.{Put, Del}
 use Rattle.hb_ops.specs.Files.{FileState, if_live, page_at, page_of}
-use Rattle.hb_ops.specs.Operations.{Change, IsAllowed, IsAllowedOn, IsLicensed, change_of, effect_of, nth_read, reads_of, with_page, with_pages}
-use Rattle.hb_store.specs.Groups.{FitsGroup, Logged, group_bytes}
+use Rattle.hb_ops.specs.Operations.{Change, IsAllowed, IsAllowedOn, IsLicensed, change_of, effect_of, nth_read, reads_of, with_pages}
+use Rattle.hb_log_codec.specs.Groups.{FitsGroup, Logged, group_bytes}
 use Rattle.hb_store.specs.Replay.{MayFollow, Replayed, after_group, change_in, replay, set_pages, touched_read, untouched, with_images}
-use Rattle.hb_store.specs.ReplayLists.{page_at-other, page_at-same, set_one-other, set_one-same}
-use Rattle.hb_store.specs.ReplayLaws.{Leads-append, Shows-leads, last_of-append, replay-append}
+use Rattle.hb_store.specs.ReplayLaws.{Leads-append, last_of-append, replay-append}
 use Rattle.hb_store.specs.Opening.{IsPageIn, Shows}
 use Rattle.hb_store.specs.Keeps.{AreImagesOf, IsGoodPage, IsRunning, IsStore, StoreKeeps, StoreState, last_of}
 use Rattle.hb_store.specs.StoreLaws.{StoreKeeps-by}
-use Rattle.hb_store.specs.Calls.{IsAllowedHere, change_here, framed_read, with_op}
+use Rattle.hb_store.specs.Calls.{Commits, IsAllowedHere, change_here, framed_read, with_op}
 use Rattle.hb_store.specs.Frames.{imaged_in, page_in}
 use Rattle.hb_store.specs.Marks.{as_imaged, mark_frames, set_frames, with_frame, with_mark}
 use Rattle.hb_store.specs.declared.frames.Frame.{Frame}
 use Rattle.hb_store.proofs.Changed.{ChangesWell}
+use Rattle.hb_store.proofs.FilePages.{Reaches, pages_set}
+use Rattle.hb_store.proofs.MadeMeta.{reads_some}
+use Rattle.hb_store.proofs.Shown.{Shows-leads}
 use Rattle.hb_store.proofs.Grouped.{all_due, due}
-use Rattle.hb_store.proofs.Marking.{all_set, frames_after, page_in-after, set_pages-same}
+use Rattle.hb_store.proofs.Marking.{all_set, frames_after, page_in-after}
 use Rattle.hb_store.proofs.Imaging.{Agrees, Marks, Tells, marks_after, read_page}
 
 -- what a store with these frames is seen as
@@ -35,30 +36,6 @@ abbrev pub seen : ℕ → Meta → LogState → (ℕ → Option Frame) → Bool 
 seen turn meta log F stopped = record { turn = turn; meta = meta; log = log; frame = λ id. page_in (F id); imaged = λ id. imaged_in (F id); stopped = stopped }
 
 -- ---- pages of a file, and frames, once others were set
-
-pages_set : (pages : List (ℕ × Page)) (file : List Page) → All (λ c. IsSome (page_at file c.0)) pages → (q : ℕ) → page_at (with_pages pages file) q ≡ set_pages pages (page_at file) q
-pages_set [] file there q = refl
-pages_set (one ∷ rest) file there q =
-    let Q = λ (c : ℕ × Page). IsSome (page_at file c.0) in
-    let old = some_of (page_at file one.0) (All-head Q one rest there) in
-    let step : (r : ℕ) → page_at (with_page one.0 one.1 file) r ≡ cond (r == one.0) (Some one.1) (page_at file r) = λ r. elim (cases_Bool (r == one.0)) [
-      | inl here ↦
-          let same : r ≡ one.0 = eqb-true r one.0 here in
-          ap (page_at (with_page one.0 one.1 file)) same ∙ page_at-same file one.1 one.0 old.0 old.1 ∙ sym (set_one-same (page_at file) one.0 one.1 r same)
-      | inr off ↦
-          let ne : r ≢ one.0 = eqb-false r one.0 off in
-          page_at-other file one.1 one.0 old.0 old.1 r ne ∙ sym (set_one-other (page_at file) one.0 one.1 r ne)
-    ] in
-    pages_set rest (with_page one.0 one.1 file)
-    (λ k d lt. subst (λ (o : Option Page). IsSome o) (sym (step (get_or rest k d).0)) (kept (page_at file) one.0 one.1 (get_or rest k d).0 (All-tail Q one rest there k d lt))) q
-    ∙ set_pages-same rest (page_at (with_page one.0 one.1 file)) (λ r. cond (r == one.0) (Some one.1) (page_at file r)) step q
-  where
-    some_of : (o : Option Page) → IsSome o → (page : Page) × (o ≡ Some page)
-    some_of None h = cc h
-    some_of (Some page) h = (page, refl)
-
-    kept : (f : ℕ → Option Page) (id : ℕ) (new : Page) (r : ℕ) → IsSome (f r) → IsSome (cond (r == id) (Some new) (f r))
-    kept f id new r h = elim (r == id) as (λ b. IsSome (cond b (Some new) (f r))) [ true ↦ refl | false ↦ h ]
 
 -- pages that others have too are so once the same were set in both
 set_both : (pages : List (ℕ × Page)) (f g : ℕ → Option Page) → ((q : ℕ) (page : Page) → f q ≡ Some page → g q ≡ Some page) → (q : ℕ) (page : Page) → set_pages pages f q ≡ Some page → set_pages pages g q ≡ Some page
@@ -114,24 +91,13 @@ same_allowed op m n a a' b b' c c' em ea eb ec h =
     (subst (λ (x : Option LivePage). IsAllowedOn op n x b c) ea
     (subst (λ (x : Meta). IsAllowedOn op x a b c) em h)))
 
--- an allowed operation's reads are in frames; a kind of operation has a line here
-live_some : (o : Option Page) → (if_live o ≡ None → ⊥) → IsSome o
-live_some None h = absurd (h refl)
-live_some (Some page) h = refl
-
-reads_framed : (op : Op) (meta : Meta) (frame : ℕ → Option Page) (second third : Option LivePage) → IsAllowedOn op meta (if_live (frame (get_or (reads_of op) 0 0))) second third → All (λ id. IsSome (frame id)) (reads_of op)
-reads_framed (Put id rec) meta frame second third h =
-    All-cons (λ (n : ℕ). IsSome (frame n)) id [] (live_some (frame id) (λ none. subst (λ (o : Option LivePage). IsAllowedOn (Put id rec) meta o second third) none h)) (All-nil (λ (n : ℕ). IsSome (frame n)))
-reads_framed (Del id point) meta frame second third h =
-    All-cons (λ (n : ℕ). IsSome (frame n)) id [] (live_some (frame id) (λ none. subst (λ (o : Option LivePage). IsAllowedOn (Del id point) meta o second third) none h)) (All-nil (λ (n : ℕ). IsSome (frame n)))
-
 -- ---- the store after a commit
 
 abbrev pub with_group : LogState → List ℕ → ℕ → LogState
 with_group log bytes mark = record { area = log.area; len = log.len; written = log.written; groups = log.groups ++ record { bytes = bytes; mark = mark } ∷ [] }
 
 module _ (turn : ℕ) (meta : Meta) (log : LogState) (F : ℕ → Option Frame) (stopped : Bool) (size : ℕ) (store : IsStore size (seen turn meta log F stopped))
-    (op : Op) (change : Change) (well : ChangesWell turn meta (λ id. page_in (F id)) change) (log' : LogState) (bytes : List ℕ) (mark : ℕ) (log_is : log' ≡ with_group log bytes mark)
+    (op : Op) (change : Change) (well : ChangesWell turn meta change) (log' : LogState) (bytes : List ℕ) (mark : ℕ) (log_is : log' ≡ with_group log bytes mark)
     (F' : ℕ → Option Frame) (F'_is : (q : ℕ) → F' q ≡ frames_after (reads_of op) change.pages F q) where
   frame : ℕ → Option Page
   frame = λ id. page_in (F id)
@@ -147,15 +113,23 @@ module _ (turn : ℕ) (meta : Meta) (log : LogState) (F : ℕ → Option Frame) 
     frames_in = λ id page e.
         let P = λ (n : ℕ) (p : Page). (1 ≤ n) × (n ≤ change.meta.high) × IsGoodPage change.meta p in
         all_set P change.pages (λ n. page_in (F n))
-        (λ k d lt. let c = well.pages k d lt in let there = some_page (page_in (F (get_or change.pages k d).0)) c.0 in let old = store.frames_in (get_or change.pages k d).0 there.0 there.1 in
-        (old.0, omega (arith, old.1, well.high), c.1))
+        (λ k d lt. let c = well.pages k d lt in (c.0.0, c.0.1, c.1))
         (λ n p is. let old = store.frames_in n p is in (old.0, omega (arith, old.1, well.high), well.others p old.2))
         id page (sym (frame_after id) ∙ e);
   }
-    where
-      some_page : (o : Option Page) → IsSome o → (page : Page) × (o ≡ Some page)
-      some_page None h = cc h
-      some_page (Some page) h = (page, refl)
+
+  pub commits_here : change ≡ change_here (seen turn meta log F stopped) op → Commits op mark (seen turn meta log F stopped) (seen turn change.meta log' F' stopped)
+  commits_here is = record {
+    turn = refl;
+    stopped = refl;
+    meta = ap (λ (c : Change). c.meta) is;
+    frame = λ id. frame_after id ∙ ap (λ (c : Change). set_pages c.pages (λ q. page_in (F q)) id) is;
+    area = ap (λ (l : LogState). l.area) log_is;
+    len = ap (λ (l : LogState). l.len) log_is;
+    written = ap (λ (l : LogState). l.written) log_is;
+    group = bytes;
+    groups = ap (λ (l : LogState). l.groups) log_is;
+  }
 
   -- ---- what it keeps of the disk
 
@@ -218,7 +192,7 @@ module _ (turn : ℕ) (meta : Meta) (log : LogState) (F : ℕ → Option Frame) 
     read_file : (place : ℕ) → framed_read (seen turn meta log F stopped) op place ≡ nth_read s op place
     read_file place = elim (cases_lt place (length (reads_of op))) [
       | inl lt ↦
-          let there = reads_framed op meta (λ id. page_in (F id)) (framed_read (seen turn meta log F stopped) op 1) (framed_read (seen turn meta log F stopped) op 2) allowed place 0 lt in
+          let there = reads_some op meta (λ id. page_in (F id)) (framed_read (seen turn meta log F stopped) op 1) (framed_read (seen turn meta log F stopped) op 2) allowed place 0 lt in
           let q = get_or (reads_of op) place 0 in
           ap if_live (in_file_at q (page_in (F q)) there (keeps.framed q))
       | inr le ↦
@@ -263,13 +237,14 @@ module _ (turn : ℕ) (meta : Meta) (log : LogState) (F : ℕ → Option Frame) 
     last : last_of durable (later ++ n ∷ []) ≡ n
     last = last_of-append durable later n
 
-    in_file : All (λ c. IsSome (page_at s.pages c.0)) change.pages
-    in_file k e lt = let there = (well.pages k e lt).0 in
-        let q = (get_or change.pages k e).0 in
-        subst (λ (o : Option Page). IsSome o) (in_file_at q (page_in (F q)) there (keeps.framed q)) there
+    reach : All (Reaches (length s.pages)) change.pages
+    reach k e lt =
+        let one = well.pages k e lt in
+        let high : length s.pages ≡ meta.high = shows.count ∙ sym (ap (λ (m : Meta). m.high) meta_touched) in
+        (one.0.0, omega (arith, one.0.1, well.next, high))
 
     page_after : (q : ℕ) → page_of n q ≡ set_pages change.pages (page_of s) q
-    page_after q = ap (λ (c : Change). page_at (with_pages c.pages s.pages) q) (sym change_file) ∙ pages_set change.pages s.pages in_file q
+    page_after q = ap (λ (c : Change). page_at (with_pages c.pages s.pages) q) (sym change_file) ∙ pages_set change.pages s.pages reach q
 
     -- the touched pages are marked
     touched_after : (q : ℕ) → Tells (F' q) ((replay (untouched keeps.said) (keeps.written ++ (keeps.waiting ++ logged ∷ []))).page q)

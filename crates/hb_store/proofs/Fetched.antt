@@ -13,14 +13,15 @@ use Rattle.hb_frag.specs.declared.pages.LivePage.{LivePage}
 use Rattle.hb_frag.specs.declared.pages.Page.{Page}
 use Rattle.hb_frag.specs.declared.pages.Page.TheVariants.{Live}
 use Rattle.hb_frag.specs.Grammar.{SpellsPage}
-use Rattle.hb_ops.specs.declared.meta.Meta.{Meta}
+use Rattle.hb_layout.specs.declared.meta.Meta.{Meta}
 use Rattle.hb_ops.specs.Files.{FileState, if_live, page_of}
 use Rattle.hb_ops.specs.LocalRule.{BreaksFirst}
 use Rattle.hb_ops.specs.Sound.{FitsFile, IsSound}
 use Rattle.hb_wal.specs.Frames.{frames, range}
 use Rattle.hb_wal.specs.Log.{LogState}
-use Rattle.hb_store.specs.GroupLaws.{SpelledOnce}
-use Rattle.hb_store.specs.Opening.{page_place, place_bytes}
+use Rattle.hb_store.proofs.Spellings.{SpelledOnce}
+use Rattle.hb_layout.specs.Offsets.{page_offset}
+use Rattle.hb_store.specs.Opening.{place_bytes}
 use Rattle.hb_store.specs.Keeps.{IsGoodPage, IsStore, StoreKeeps, StoreState, last_of}
 use Rattle.hb_store.specs.Frames.{page_in, imaged_in, state_of}
 use Rattle.hb_store.specs.Calls.{Fetched}
@@ -30,13 +31,14 @@ use Rattle.hb_store.specs.declared.frames.Frame.{Frame}
 use Rattle.hb_store.specs.declared.stops.FetchStop.{FetchStop}
 use Rattle.hb_store.specs.declared.stops.FetchStop.TheVariants as fetches
 use Rattle.hb_store.specs.declared.stops.Why.TheVariants.{Rule, Level, Extent}
-use Rattle.hb_store.proofs.Counted.{page_there, store_count}
+use Rattle.hb_store.proofs.Counted.{store_count}
+use Rattle.hb_store.proofs.Counting.{page_there}
 
 -- ---- what was read
 
-pub placed_read : (d : DiskModel) (at : ℕ) (into : List ℕ) (meta : Meta) (id : ℕ) → Reads at into d → length into ≡ PAGE → at ≡ page_place meta id → IfSome d.told (λ b. into ≡ place_bytes meta id b)
+pub placed_read : (d : DiskModel) (at : ℕ) (into : List ℕ) (meta : Meta) (id : ℕ) → Reads at into d → length into ≡ PAGE → at ≡ page_offset meta id → IfSome d.told (λ b. into ≡ place_bytes meta id b)
 placed_read d at into meta id reads long place =
-    subst (λ n. IfSome d.told (λ b. into ≡ take n (drop (page_place meta id) b))) long (subst (λ p. IfSome d.told (λ b. into ≡ take (length into) (drop p b))) place reads)
+    subst (λ n. IfSome d.told (λ b. into ≡ take n (drop (page_offset meta id) b))) long (subst (λ p. IfSome d.told (λ b. into ≡ take (length into) (drop p b))) place reads)
 
 pub no_page_in : (o : Option Frame) → is_some o ≡ false → page_in o ≡ None
 no_page_in None e = refl

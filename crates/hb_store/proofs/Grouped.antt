@@ -1,22 +1,19 @@
--- The group of an operation: which images it has, and how long its bytes are.
-use Rattle.std.proofs.Common.{◌≡◌, ◌≢◌, ℕ, zero, suc, ◌-◌, ◌*◌, ◌^◌, ◌<◌, ◌≤◌, true, false, cond, List, [], ◌∷◌, ◌++◌, length, get_or, replicate, All, AllPairs, Option, Some, None, Result, Ok, Err, refl, ap, arith}
+-- The group of an operation: which images it has.
+use Rattle.std.proofs.Common.{◌≡◌, ◌≢◌, ℕ, zero, suc, ◌^◌, ◌<◌, ◌≤◌, true, false, cond, List, [], ◌∷◌, ◌++◌, length, get_or, All, AllPairs, Option, Some, None, Result, Ok, Err, refl, ap, arith}
 use Rattle.std.specs.List.{flat_map}
 use Rattle.std.specs.Option.{IfSome}
 use Rattle.std.specs.Result.{IfOk, OnOk}
-use Rattle.std.proofs.lemmas.List.{length-append, length-replicate}
+use Rattle.std.proofs.lemmas.List.{length-append}
 use Rattle.std.proofs.lemmas.List.Elements.{All-append, All-cons, All-head, All-nil, All-tail}
 use Rattle.std.proofs.lemmas.List.Kept.{AllPairs-cons}
-use Rattle.byteorder.specs.Numbers.{length-bytes_high_first}
-use Rattle.hb_space.specs.declared.form.TheConstants.{PAGE, KMAX}
-use Rattle.hb_outside.specs.Numbers.{big_endian}
 use Rattle.hb_frag.specs.declared.pages.Page.{Page}
 use Rattle.hb_frag.specs.declared.pages.Page.TheVariants.{Live, Free}
-use Rattle.hb_frag.specs.Grammar.{HasSpelling, page_fields, point_bytes, record_bytes}
-use Rattle.hb_ops.specs.declared.meta.Meta.{Meta}
+use Rattle.hb_frag.specs.Grammar.{HasSpelling}
+use Rattle.hb_layout.specs.declared.meta.Meta.{Meta}
 use Rattle.hb_ops.specs.declared.operations.Op.{Op}
-use Rattle.hb_ops.specs.declared.operations.Op.TheVariants.{Put, Del}
+use Rattle.hb_ops.specs.declared.operations.Op.TheVariants.{Put, Del, Extract, Post, Grow}
 use Rattle.hb_ops.specs.Operations.{reads_of}
-use Rattle.hb_store.specs.Groups.{FitsGroup, FitsImage, FitsOp, Logged, group_bytes, image_bytes, op_bytes, page_bytes}
+use Rattle.hb_log_codec.specs.Groups.{FitsGroup, FitsImage, FitsOp}
 use Rattle.hb_store.specs.Keeps.{IsGoodPage, MayHold}
 use Rattle.hb_store.specs.Frames.{page_in}
 use Rattle.hb_store.specs.Images.{image_due}
@@ -79,10 +76,16 @@ module _ (F : ℕ → Option Frame) where
 pub few_reads : (op : Op) → length (reads_of op) ≤ 3
 few_reads (Put page rec) = omega arith
 few_reads (Del page point) = omega arith
+few_reads (Extract source fresh path cuts free_after) = omega arith
+few_reads (Post parent at inner area) = omega arith
+few_reads (Grow fresh free_after) = omega arith
 
 pub distinct_reads : (op : Op) → AllPairs (λ i j. i ≢ j) (reads_of op)
 distinct_reads (Put page rec) = λ i j d lt in_range. absurd (omega (arith, lt, in_range))
 distinct_reads (Del page point) = λ i j d lt in_range. absurd (omega (arith, lt, in_range))
+distinct_reads (Extract source fresh path cuts free_after) = λ i j d lt in_range. absurd (omega (arith, lt, in_range))
+distinct_reads (Post parent at inner area) = λ i j d lt in_range. absurd (omega (arith, lt, in_range))
+distinct_reads (Grow fresh free_after) = λ i j d lt in_range. absurd (omega (arith, in_range))
 
 pub small_high : (meta : Meta) {size turn : ℕ} → MayHold size turn meta → meta.high < 2 ^ 32
 small_high meta h = omega (arith, h.high, h.layout.few_pages)
@@ -97,42 +100,6 @@ fits_group F meta op small framed fits = record {
   distinct = distinct_due F (reads_of op) (distinct_reads op);
   op = fits;
 }
-
--- ---- how long it is
-
-length_number : (width n : ℕ) → length (big_endian width n) ≡ width
-unfolding big_endian
-length_number width n = length-bytes_high_first width n
-
-length_point : (point : List ℕ) → length (point_bytes point) ≡ 8 * length point
-length_point [] = refl
-length_point (x ∷ xs) = omega (arith, length-append (big_endian 8 x) (point_bytes xs), length_number 8 x, length_point xs)
-
-length_page : (page : Page) → HasSpelling page → length (page_bytes page) ≡ PAGE
-length_page page h =
-    let n = length (page_fields page) in
-    omega (arith, h.short, length-append (page_fields page) (replicate (PAGE - n) 0), length-replicate (PAGE - n) zero)
-
-length_image : (image : ℕ × Page) → FitsImage image → length (image_bytes image) ≡ 4100
-length_image image h = omega (arith, length-append (big_endian 4 image.0) (page_bytes image.1), length_number 4 image.0, length_page image.1 h.page)
-
-length_images : (images : List (ℕ × Page)) → All FitsImage images → length (flat_map image_bytes images) ≡ 4100 * length images
-length_images [] h = refl
-length_images (i ∷ rest) h =
-    omega (arith, length-append (image_bytes i) (flat_map image_bytes rest), length_image i (All-head FitsImage i rest h), length_images rest (All-tail FitsImage i rest h))
-
-length_op : (k : ℕ) (op : Op) → k ≤ KMAX → FitsOp k op → length (op_bytes op) ≤ 70
-length_op k (Put page rec) small h =
-    let body = h.1.body in
-    let few = body.few in
-    omega (arith, small, h.1.attributes, few, length-append (big_endian 4 page) (record_bytes rec), length_number 4 page, length-append (point_bytes rec.key) (length rec.body ∷ rec.body), length_point rec.key)
-length_op k (Del page point) small h =
-    omega (arith, small, h.1, length-append (big_endian 4 page) (point_bytes point), length_number 4 page, length_point point)
-
--- the longest group has three images
-pub length_group : (k : ℕ) (g : Logged) → k ≤ KMAX → FitsGroup k g → length (group_bytes g) ≤ 12371
-length_group k g small h =
-    omega (arith, h.few, length-append (flat_map image_bytes g.images) (op_bytes g.op), length_images g.images h.images, length_op k g.op small h.op)
 
 -- ---- what holds of a result by two clauses together
 

@@ -1,19 +1,27 @@
 mod Openings
+pub mod Spellings
+pub mod MadeLeaves
+pub mod MadeParts
+pub mod MadePages
+pub mod MadeMeta
 mod AreaTorn
 mod AfterForce
 mod Marking
 mod Grouped
 mod Changed
 mod Imaging
+mod Holding
 mod Committed
+pub mod FilePages
+pub mod Counting
 pub mod Counted
+mod Heads
+pub mod Shown
 pub mod Fetched
-pub mod GroupReads
 pub mod LogReads
-pub mod Loops
 pub mod OneFile
 pub mod OneKept
 pub mod Replays
 pub mod Touches
-pub mod Writable
 mod OnePage
+pub mod Untold

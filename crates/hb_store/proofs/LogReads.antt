@@ -4,11 +4,12 @@ use Rattle.std.specs.Prelude.{IfErr, IfSome}
 use Rattle.std.proofs.lemmas.List.{drop_more, get_or-map, length-map, length-take, take-append-drop, take_more}
 use Rattle.std.proofs.lemmas.Grind.{flat_map-append}
 use Rattle.std.proofs.lemmas.List.Elements.{All-cons, All-head, All-nil, All-tail}
-use Rattle.hb_ops.specs.declared.meta.Meta.{Meta}
+use Rattle.hb_layout.specs.declared.meta.Meta.{Meta}
 use Rattle.hb_wal.specs.Frames.{frames, frame_bytes, IsPayload, HasFrames, HasBadFrame}
 use Rattle.hb_store.specs.Replay.{Replayed, untouched}
-use Rattle.hb_store.specs.Opening.{IsBadPayload, HasBadGroup, log_bytes, log_place}
-use Rattle.hb_store.specs.Replaying.{AreItsPages, HasReplayed, IsFirstBad, NamesBad, NamesBadOr, log_stop, replayed_of}
+use Rattle.hb_layout.specs.Offsets.{log_start}
+use Rattle.hb_store.specs.Opening.{IsBadPayload, HasBadGroup, log_bytes}
+use Rattle.hb_store.specs.Replaying.{AreItsPages, ComesAfter, HasReplayed, IsFirstBad, NamesBad, NamesBadOr, log_stop, replayed_of}
 use Rattle.hb_store.specs.Stops.{IsTouched, ReadsNoLog}
 use Rattle.hb_store.specs.declared.touched.Touched.{Touched}
 use Rattle.hb_store.specs.declared.touched.LogStop.{LogStop}
@@ -33,9 +34,9 @@ parted ys i y item = sym (take-append-drop i ys) ∙ ap (λ l. take i ys ++ l) (
 pub taken_more : {B : Type 0} (ys : List B) (i : ℕ) (y : B) → (i < length ys) × (get_or ys i y ≡ y) → take (i + 1) ys ≡ take i ys ++ y ∷ []
 taken_more ys i y item = take_more ys i y item.0 ∙ ap (λ z. take i ys ++ z ∷ []) item.1
 
-pub touched_is : (said : Meta) (t : Touched) → t.meta ≡ said → AreItsPages (replayed_of t) → IsTouched said t
-touched_is said t same its = record {
-  layout = (ap (λ (m : Meta). m.k) same, ap (λ (m : Meta). m.log) same, ap (λ (m : Meta). m.pages) same, ap (λ (m : Meta). m.high) same);
+pub touched_is : (said : Meta) (t : Touched) → ComesAfter said t.meta → AreItsPages (replayed_of t) → IsTouched said t
+touched_is said t after its = record {
+  meta = after;
   pages = λ id page e. let good = its id page e in (good.0.0, good.0.1, good.1);
 }
 
@@ -123,7 +124,7 @@ pub no_log_bad : (turn : ℕ) (said : Meta) (frame : ℕ) (before : List (List �
 no_log_bad turn said frame before None stop limit framed names = tt
 no_log_bad turn said frame before (Some b) stop limit framed names =
     let area = log_bytes turn said b in
-    let short : length area ≤ said.log = omega (arith, length-take said.log (drop (log_place turn said) b)) in
+    let short : length area ≤ said.log = omega (arith, length-take said.log (drop (log_start turn said) b)) in
     let few : length before < 2 ^ 32 = omega (arith, frames_many before, ap (λ (l : List ℕ). length l) framed.1.bytes, length-append (frames before) framed.1.rest, short, limit) in
     at_bad_frame b turn said before stop framed.1 (names few framed.0)
 

@@ -91,9 +91,3 @@ pub page_in-after : (ids : List ℕ) (pages : List (ℕ × Page)) (F : ℕ → O
 page_in-after ids pages F q =
     page_in-set pages (mark_frames ids F) q
     ∙ set_pages-same pages (λ r. page_in (mark_frames ids F r)) (λ r. page_in (F r)) (page_in-mark ids F) q
-
--- the frames after both calls
-pub frames_are : (ids as_read : List ℕ) (pages : List (ℕ × Page)) (F marked all : ℕ → Option Frame) → as_read ≡ ids → ((q : ℕ) → marked q ≡ mark_frames as_read F q) → ((q : ℕ) → all q ≡ set_frames pages marked q)
-    → (q : ℕ) → all q ≡ frames_after ids pages F q
-frames_are ids as_read pages F marked all same mark set q =
-    set q ∙ set_frames-same pages marked (mark_frames ids F) (λ r. mark r ∙ ap (λ (l : List ℕ). mark_frames l F r) same) q

@@ -1,24 +1,23 @@
 -- Bytes open to one file at most, and where they do no frame of their log is bad.
 use Rattle.std.proofs.Common.{◌≡◌, ◌⊎◌, inl, inr, ℕ, ◌+◌, ◌-◌, ◌<◌, ◌≤◌, ◌^◌, cond, eqb, List, [], ◌∷◌, ◌++◌, length, get_or, drop, All, Option, Some, None, refl, sym, ap, subst, ◌∙◌, append_assoc, length-append, arith}
-use Rattle.std.proofs.lemmas.Bool.{ne_eqb}
 use Rattle.std.proofs.lemmas.List.{length-take}
 use Rattle.std.proofs.lemmas.List.Elements.{All-head, All-nil, All-tail}
 use Rattle.hb_outside.specs.Numbers.{big_endian}
 use Rattle.hb_frag.specs.declared.pages.Page.{Page}
-use Rattle.hb_ops.specs.declared.meta.Meta.{Meta}
+use Rattle.hb_layout.specs.declared.meta.Meta.{Meta}
 use Rattle.hb_ops.specs.Files.{FileState, page_at}
 use Rattle.hb_super.specs.Superblocks.{IsNewest}
 use Rattle.hb_wal.specs.Frames.{frames, frame_bytes, IsPayload, IsEnd, IsBadFrame}
 use Rattle.hb_wal.specs.FrameLaws.{ReadsOneWay}
 use Rattle.hb_wal.specs.Reading.{BeginsFrame}
-use Rattle.hb_store.specs.FieldLaws.{length_number}
-use Rattle.hb_store.specs.OpLaws.{same_number}
-use Rattle.hb_store.specs.Groups.{Logged, SpellAll, SpellsGroups}
-use Rattle.hb_store.specs.GroupLaws.{SpelledOnce, same_fronts, same_groups, same_spelled}
+use Rattle.hb_log_codec.specs.Groups.{Logged, SpellsGroups}
+use Rattle.hb_store.specs.Payloads.{SpellAll}
+use Rattle.hb_store.proofs.Spellings.{OneList, SpelledOnce, length_number, same_fronts, same_number, same_spelled}
 use Rattle.hb_store.specs.Replay.{Replayed, MayReplay, replay, untouched}
-use Rattle.hb_store.specs.Opening.{IsBadPayload, IsPageIn, OpensBy, OpensTo, Shows, log_bytes, log_place}
+use Rattle.hb_layout.specs.Offsets.{log_start}
+use Rattle.hb_store.specs.Opening.{IsBadPayload, IsPageIn, OpensBy, OpensTo, Shows, log_bytes}
 use Rattle.hb_store.specs.ImageLaws.{OpensToOne, OpensWhole}
-use Rattle.hb_store.proofs.Counted.{page_in_range}
+use Rattle.hb_store.proofs.Counting.{page_behind, page_in_range}
 use Rattle.hb_store.proofs.Replays.{may_front, may_back, replay-append}
 
 abbrev pub OneTurn : Type 0
@@ -28,12 +27,6 @@ abbrev pub OneMeta : Type 0
 OneMeta = (bytes : List ℕ) (t s : ℕ) (m n : Meta) → IsNewest bytes t m → IsNewest bytes s n → m ≡ n
 
 -- ---- lists of pages
-
-page_behind : (x : Page) (xs : List Page) (id : ℕ) → 1 ≤ id → page_at (x ∷ xs) (id + 1) ≡ page_at xs id
-page_behind x xs id some =
-    let back : id + 1 - 1 ≡ id = omega arith in
-    ap (λ b. cond b None (cond (eqb (id + 1) 1) (Some x) (page_at xs (id + 1 - 1)))) (ne_eqb (id + 1) 0 (λ e. absurd (omega (arith, e))))
-    ∙ ap (λ b. cond b (Some x) (page_at xs (id + 1 - 1))) (ne_eqb (id + 1) 1 (λ e. absurd (omega (arith, e, some)))) ∙ ap (page_at xs) back
 
 same_pages : (xs ys : List Page) → length xs ≡ length ys → ((id : ℕ) (p q : Page) → page_at xs id ≡ Some p → page_at ys id ≡ Some q → p ≡ q) → xs ≡ ys
 same_pages [] [] long same = refl
@@ -46,7 +39,7 @@ same_pages (x ∷ xs) (y ∷ ys) long same =
     same (id + 1) p q (page_behind x xs id some ∙ e) (page_behind y ys id some ∙ f)) in
     λ i. first i ∷ rest i
 
-module _ (once : SpelledOnce) where
+module _ (once : SpelledOnce) (one : OneList) where
   same_page_in : (bytes : List ℕ) (said : Meta) (id : ℕ) (found : Option Page) (p q : Page) → IsPageIn bytes said id found p → IsPageIn bytes said id found q → p ≡ q
   same_page_in bytes said id None p q here there = once _ p q here there
   same_page_in bytes said id (Some touched) p q here there = sym here ∙ there
@@ -69,7 +62,7 @@ module _ (once : SpelledOnce) where
       let a = here.by in
       let b = by_newest turns metas bytes here.turn here.said t there a.newest in
       let payloads : here.payloads ≡ there.payloads = (way (log_bytes here.turn here.said bytes)).frames here.payloads there.payloads a.framed b.framed in
-      let groups : here.groups ≡ there.groups = same_spelled once here.said.k there.payloads here.groups there.groups (subst (λ p. SpellAll here.said.k p here.groups) payloads a.spelled) b.spelled in
+      let groups : here.groups ≡ there.groups = same_spelled one here.said.k there.payloads here.groups there.groups (subst (λ p. SpellAll here.said.k p here.groups) payloads a.spelled) b.spelled in
       same_shown bytes here.said (replay (untouched here.said) there.groups) s t (subst (λ g. Shows bytes here.said (replay (untouched here.said) g) s) groups a.shows) b.shows
 
   -- ---- no bad frame
@@ -116,7 +109,7 @@ module _ (once : SpelledOnce) where
   none_bad way k (b ∷ bs) (p ∷ ps) t end rest groups others e small fit at_end spelled may front bad =
       let short = short_front b bs rest small in
       let same = same_frame p b (frames ps ++ end) (frames bs ++ rest) (All-head IsPayload p ps fit).short short.0 (sym (append_assoc (frame_bytes p) (frames ps) end) ∙ e ∙ append_assoc (frame_bytes b) (frames bs) rest) in
-      let groups_same : spelled.0 ≡ front.0 = same_groups once k b spelled.0 front.0 (subst (λ q. SpellsGroups k q spelled.0) same.0 spelled.3) front.3 in
+      let groups_same : spelled.0 ≡ front.0 = one k b spelled.0 front.0 (subst (λ q. SpellsGroups k q spelled.0) same.0 spelled.3) front.3 in
       none_bad way k bs ps (replay t front.0) end rest spelled.1 front.1 same.1 short.1 (All-tail IsPayload p ps fit) at_end spelled.4
       (subst (λ g. MayReplay (replay t g) spelled.1) groups_same (may_back t spelled.0 spelled.1 (subst (MayReplay t) spelled.2 may))) front.4
       (subst (λ r. IsBadAt k r rest) (ap (replay t) front.2 ∙ replay-append t front.0 front.1) bad)
@@ -125,6 +118,6 @@ module _ (once : SpelledOnce) where
   no_bad_frame turns metas way bytes s turn said frame opens newest bad =
       let o = by_newest turns metas bytes turn said s opens newest in
       let area = log_bytes turn said bytes in
-      let small : length area < 2 ^ 32 = omega (arith, length-take said.log (drop (log_place turn said) bytes), newest.there.legal.layout.log_limit) in
+      let small : length area < 2 ^ 32 = omega (arith, length-take said.log (drop (log_start turn said) bytes), newest.there.legal.layout.log_limit) in
       none_bad way said.k bad.before opens.payloads (untouched said) o.framed.rest bad.rest opens.groups bad.groups (sym o.framed.bytes ∙ bad.framed) (subst (λ (l : List ℕ). length l < 2 ^ 32) bad.framed small)
       o.framed.payloads_fit o.framed.at_end o.spelled o.replayed bad.spelled bad.bad

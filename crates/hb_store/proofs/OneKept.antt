@@ -8,10 +8,11 @@ use Rattle.hb_super.specs.Superblocks.{IsNewest}
 use Rattle.hb_wal.specs.Frames.{frames, frame_bytes}
 use Rattle.hb_wal.specs.FrameLaws.{ReadsOneWay}
 use Rattle.hb_wal.specs.Log.{Waiting}
-use Rattle.hb_ops.specs.declared.meta.Meta.{Meta}
+use Rattle.hb_layout.specs.declared.meta.Meta.{Meta}
 use Rattle.hb_ops.specs.Files.{FileState}
-use Rattle.hb_store.specs.Groups.{Logged, FitsGroup, SpellAll, group_bytes}
-use Rattle.hb_store.specs.GroupLaws.{SpelledOnce, same_group, same_spelled}
+use Rattle.hb_log_codec.specs.Groups.{Logged, FitsGroup, group_bytes}
+use Rattle.hb_store.specs.Payloads.{SpellAll}
+use Rattle.hb_store.proofs.Spellings.{OneGroup, OneList, SpelledOnce, same_spelled}
 use Rattle.hb_store.specs.Replay.{Replayed, untouched, replay, after_group}
 use Rattle.hb_store.specs.Opening.{OpensBy, Shows, log_bytes}
 use Rattle.hb_store.specs.Keeps.{StoreState, StoreKeeps, Leads, OpensNext}
@@ -57,7 +58,7 @@ pub record Tells (b : List ℕ) (turn written_bytes : ℕ) (waits : List Waiting
   pub fits : All (FitsGroup said.k) waiting
   pub leads : Leads (replay (untouched said) written) durable waiting later
 
-module _ (once : SpelledOnce) (turns : OneTurn) (metas : OneMeta) (way : ReadsOneWay) where
+module _ (once : SpelledOnce) (one : OneList) (group : OneGroup) (turns : OneTurn) (metas : OneMeta) (way : ReadsOneWay) where
   waiting_same : (k : ℕ) (xs ys : List Logged) → All (FitsGroup k) xs → All (FitsGroup k) ys → map group_bytes xs ≡ map group_bytes ys → xs ≡ ys
   waiting_same k [] [] x_fit y_fit e = refl
   waiting_same k [] (y ∷ ys) x_fit y_fit e = cc e
@@ -65,7 +66,7 @@ module _ (once : SpelledOnce) (turns : OneTurn) (metas : OneMeta) (way : ReadsOn
   waiting_same k (x ∷ xs) (y ∷ ys) x_fit y_fit e =
       let bytes : group_bytes x ≡ group_bytes y = cc in
       let rest : map group_bytes xs ≡ map group_bytes ys = cc in
-      let first = (same_group once k x y [] [] (All-head (FitsGroup k) x xs x_fit) (All-head (FitsGroup k) y ys y_fit) (ap (λ (l : List ℕ). l ++ []) bytes)).0 in
+      let first = (group k x y [] [] (All-head (FitsGroup k) x xs x_fit) (All-head (FitsGroup k) y ys y_fit) (ap (λ (l : List ℕ). l ++ []) bytes)).0 in
       let more = waiting_same k xs ys (All-tail (FitsGroup k) x xs x_fit) (All-tail (FitsGroup k) y ys y_fit) rest in
       λ i. first i ∷ more i
 
@@ -90,7 +91,7 @@ module _ (once : SpelledOnce) (turns : OneTurn) (metas : OneMeta) (way : ReadsOn
 
       groups_same : (p q : List (List ℕ)) (xs ys : List Logged) (s u : FileState) → OpensBy b turn said p xs s → OpensBy b turn said q ys u → xs ≡ ys
       groups_same p q xs ys s u here there =
-          same_spelled once said.k q xs ys (subst (λ l. SpellAll said.k l xs) (payloads_same p q xs ys s u here there) here.spelled) there.spelled
+          same_spelled one said.k q xs ys (subst (λ l. SpellAll said.k l xs) (payloads_same p q xs ys s u here there) here.spelled) there.spelled
 
       written_same : (p q : List (List ℕ)) (xs ys : List Logged) (s u : FileState) → length (frames p) ≡ length (frames q)
           → OpensBy b turn said p xs s ⊎ OpensMore said p xs → OpensBy b turn said q ys u ⊎ OpensMore said q ys → xs ≡ ys
@@ -113,7 +114,7 @@ module _ (once : SpelledOnce) (turns : OneTurn) (metas : OneMeta) (way : ReadsOn
       written_is = written_same said p q xs ys s u (here.count ∙ sym there.count) (opened said p xs gs s later here.opens) (opened said q ys hs u others there.opens)
 
       durable_is : s ≡ u
-      durable_is = same_shown once b said (replay (untouched said) ys) s u (subst (λ l. Shows b said (replay (untouched said) l) s) written_is here.shows) there.shows
+      durable_is = same_shown once one b said (replay (untouched said) ys) s u (subst (λ l. Shows b said (replay (untouched said) l) s) written_is here.shows) there.shows
 
       waiting_is : gs ≡ hs
       waiting_is = waiting_same said.k gs hs here.fits there.fits (sym here.spelled ∙ there.spelled)

@@ -14,15 +14,17 @@ use Rattle.hb_disk.specs.declared.event.Event.{Event}
 use Rattle.hb_disk.specs.declared.mem_disk.MemDisk.{MemDisk}
 use Rattle.hb_disk.specs.RunLaws.{of_value, has_value, some_same}
 use Rattle.hb_wal.specs.Frames.{IsPayload, range}
-use Rattle.hb_super.specs.Superblocks.{IsNewest, body_bytes, place_of}
+use Rattle.hb_layout.specs.Offsets.{slot_offset}
+use Rattle.hb_super.specs.Superblocks.{IsNewest, body_bytes}
 use Rattle.hb_frag.specs.declared.leaves.Leaf.TheVariants.{Records}
 use Rattle.hb_frag.specs.declared.pages.Page.{Page}
 use Rattle.hb_frag.specs.declared.pages.Page.TheVariants.{Live}
 use Rattle.hb_frag.specs.Trees.{Tip}
 use Rattle.hb_frag.specs.Grammar.{FitsRecord, SpellsPage, page_fields}
-use Rattle.hb_ops.specs.declared.meta.Meta.{Meta}
+use Rattle.hb_layout.specs.declared.meta.Meta.{Meta}
 use Rattle.hb_ops.specs.Files.{FileState, page_at, page_of}
-use Rattle.hb_store.specs.Opening.{log_place, place_bytes}
+use Rattle.hb_layout.specs.Offsets.{log_start}
+use Rattle.hb_store.specs.Opening.{place_bytes}
 use Rattle.hb_store.specs.Keeps.{IsFresh}
 use Rattle.hb_store.specs.StoreLaws.{IsFresh-from}
 
@@ -84,7 +86,7 @@ only_one page o id at q is = elim (cases_Bool (id == 0)) [
   ]
 ]
 
-body_there : (rest : List ℕ) → take 40 (drop (place_of 0 + 1) (super_bytes ++ rest)) ≡ body_bytes 0 one_meta
+body_there : (rest : List ℕ) → take 40 (drop (slot_offset 0 + 1) (super_bytes ++ rest)) ≡ body_bytes 0 one_meta
 unfolding big_endian
 body_there rest = refl
 
@@ -104,13 +106,13 @@ module _ (m r : ℕ) (m_is : 41 + m ≡ 139264) (r_is : 23 + r ≡ 4096) where
       body = body_there (replicate m 0 ++ (empty_bytes ++ replicate r 0));
     };
     newer = λ other said has apart.
-        let at : place_of other ≡ 4096 = omega arith in
+        let at : slot_offset other ≡ 4096 = omega arith in
         let closed : get_or file_bytes 4096 0 ≡ 0 = zero_at super_bytes (empty_bytes ++ replicate r 0) 41 m 4096 refl (omega arith) (omega arith) in
-        let open_there : get_or file_bytes (place_of other) 0 ≡ open_gate = has.gate in
+        let open_there : get_or file_bytes (slot_offset other) 0 ≡ open_gate = has.gate in
         cc (open_there, at, closed);
   }
 
-  log_zero : range (log_place 0 one_meta) 65536 file_bytes ≡ replicate 65536 0
+  log_zero : range (log_start 0 one_meta) 65536 file_bytes ≡ replicate 65536 0
   log_zero =
       ap (λ (l : List ℕ). take 65536 l) (behind super_bytes (replicate m 0 ++ (empty_bytes ++ replicate r 0)) 41 8192 refl (omega arith))
       ∙ zeros_there m (8192 - 41) 65536 (empty_bytes ++ replicate r 0) (omega arith)

@@ -6,16 +6,17 @@ use Rattle.hb_disk.specs.RunLaws.{at_value, IsSynced-part}
 use Rattle.hb_wal.specs.Frames.{range}
 use Rattle.hb_wal.specs.Log.{LogState}
 use Rattle.hb_frag.specs.declared.pages.Page.{Page}
-use Rattle.hb_ops.specs.declared.meta.Meta.{Meta}
+use Rattle.hb_layout.specs.declared.meta.Meta.{Meta}
 use Rattle.hb_ops.specs.Files.{FileState}
-use Rattle.hb_store.specs.Groups.{FitsGroup}
-use Rattle.hb_store.specs.Opening.{OpensBy, log_place, file_size}
+use Rattle.hb_log_codec.specs.Groups.{FitsGroup}
+use Rattle.hb_layout.specs.Offsets.{log_start, file_size}
+use Rattle.hb_store.specs.Opening.{OpensBy}
 use Rattle.hb_store.specs.Keeps.{StoreState, StoreKeeps, IsFresh}
 use Rattle.hb_store.specs.ReplayLaws.{opens_fresh}
 
 module _ (d : DiskModel) (is_disk : IsDisk d) (turn : ℕ) (meta : Meta) (s : FileState) (fresh : IsFresh d turn meta s) (room : file_size meta ≤ d.size) where
   abbrev fresh_log : LogState
-  fresh_log = record { area = log_place turn meta; len = meta.log; written = 0; groups = [] }
+  fresh_log = record { area = log_start turn meta; len = meta.log; written = 0; groups = [] }
 
   -- every image opens by the superblock, no payload and no group
   fresh_image : (b : List ℕ) → d.told ≡ Some b → (c : List ℕ) → d.Image c → OpensBy c turn meta [] [] s
@@ -23,7 +24,7 @@ module _ (d : DiskModel) (is_disk : IsDisk d) (turn : ℕ) (meta : Meta) (s : Fi
       let opens = fresh.images c image in
       let counted : length s.pages ≡ meta.high = opens.by.shows.count ∙ ap (λ (m : Meta). m.high) (sym opens.by.shows.meta ∙ fresh.meta_is) in
       opens_fresh c turn meta s (fresh.newest c image) (omega (arith, is_disk.long c image, room))
-      (fresh.logged.synced.each b c told image ∙ at_value d.told (λ b. range (log_place turn meta) meta.log b ≡ replicate (meta.log - 0) 0) b told fresh.logged.reads
+      (fresh.logged.synced.each b c told image ∙ at_value d.told (λ b. range (log_start turn meta) meta.log b ≡ replicate (meta.log - 0) 0) b told fresh.logged.reads
       ∙ ap (λ (k : ℕ). replicate k 0) (let e : meta.log - 0 ≡ meta.log = omega arith in e))
       fresh.meta_is counted (λ id page is. fresh.pages id page is c image)
 
@@ -45,7 +46,7 @@ module _ (d : DiskModel) (is_disk : IsDisk d) (turn : ℕ) (meta : Meta) (s : Fi
       running = λ going. record { places = fresh.places; logged = fresh.logged };
       kept = (
         IsSynced-part d 0 8192 _ _ (omega arith) (omega arith) fresh.places,
-        IsSynced-part d (log_place turn meta) meta.log (log_place turn meta) 0 (omega arith) (omega arith) fresh.logged.synced,
+        IsSynced-part d (log_start turn meta) meta.log (log_start turn meta) 0 (omega arith) (omega arith) fresh.logged.synced,
       );
       spelled = refl;
       fits = All-nil (FitsGroup meta.k);

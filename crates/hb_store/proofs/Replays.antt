@@ -2,11 +2,12 @@
 use Rattle.std.proofs.Common.{◌≡◌, ℕ, ◌+◌, ◌<◌, List, [], ◌∷◌, ◌++◌, length, get_or, map, take, drop, All, refl, sym, ap, subst, ◌∙◌, append_assoc}
 use Rattle.std.proofs.lemmas.List.{append-nil, drop_more, map-append, take-append-drop}
 use Rattle.std.proofs.lemmas.List.Elements.{All-head, All-tail}
-use Rattle.hb_ops.specs.declared.meta.Meta.{Meta}
-use Rattle.hb_store.specs.declared.groups.Group.{Group}
-use Rattle.hb_store.specs.Groups.{Logged, FitsGroup, SpellsGroups, SpellAll}
-use Rattle.hb_store.specs.GroupReading.{logged}
-use Rattle.hb_store.specs.GroupLaws.{SpelledOnce, same_groups}
+use Rattle.hb_layout.specs.declared.meta.Meta.{Meta}
+use Rattle.hb_log_codec.specs.declared.groups.Group.{Group}
+use Rattle.hb_log_codec.specs.Groups.{Logged, FitsGroup, SpellsGroups}
+use Rattle.hb_store.specs.Payloads.{SpellAll}
+use Rattle.hb_log_codec.specs.Reading.{logged}
+use Rattle.hb_store.proofs.Spellings.{OneList}
 use Rattle.hb_store.specs.Replay.{Replayed, MayFollow, MayReplay, after_group, replay, untouched}
 use Rattle.hb_store.specs.Opening.{IsBadPayload}
 use Rattle.hb_store.specs.Replaying.{Follows, HasReplayed}
@@ -54,10 +55,10 @@ replay_more t u v xs x so_far next =
     next ∙ (λ i. after_group (so_far i) (logged x)) ∙ sym (replay-append t (map logged xs) (logged x ∷ [])) ∙ ap (replay t) (sym (map-append logged xs (x ∷ [])))
 
 -- a group that may not be replayed where those before it led
-pub bad_here : SpelledOnce → (k : ℕ) (t u : Replayed) (payload : List ℕ) (all xs : List Group) (x : Group) (behind : List Group) → SpellsGroups k payload (map logged all) → all ≡ xs ++ x ∷ behind
+pub bad_here : OneList → (k : ℕ) (t u : Replayed) (payload : List ℕ) (all xs : List Group) (x : Group) (behind : List Group) → SpellsGroups k payload (map logged all) → all ≡ xs ++ x ∷ behind
     → u ≡ replay t (map logged xs) → (MayFollow u (logged x) → ⊥) → IsBadPayload k t payload
-bad_here once k t u payload all xs x behind spelled split so_far bad groups other may =
-    let same : groups ≡ map logged xs ++ map logged (x ∷ behind) = same_groups once k payload groups (map logged all) other spelled ∙ ap (map logged) split ∙ map-append logged xs (x ∷ behind) in
+bad_here one k t u payload all xs x behind spelled split so_far bad groups other may =
+    let same : groups ≡ map logged xs ++ map logged (x ∷ behind) = one k payload groups (map logged all) other spelled ∙ ap (map logged) split ∙ map-append logged xs (x ∷ behind) in
     let here = may_back t (map logged xs) (map logged (x ∷ behind)) (subst (MayReplay t) same may) in
     bad (subst (λ r. MayFollow r (logged x)) (sym so_far) here.0)
 

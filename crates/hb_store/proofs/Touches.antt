@@ -1,24 +1,27 @@
 -- What images and operations make of touched pages.
 use Rattle.std.proofs.Common.{◌≡◌, ℕ, ◌<◌, ◌^◌, true, false, cond, eqb, List, [], ◌∷◌, length, get_or, All, Option, Some, None, Result, Ok, Err, refl, sym, ap, subst, ◌∙◌, arith}
-use Rattle.std.specs.Prelude.{◌↔◌, OnOk}
+use Rattle.std.specs.Prelude.{◌↔◌, OnErr, OnOk}
 use Rattle.std.specs.List.{remove}
 use Rattle.std.proofs.lemmas.Bool.{eqb-true}
-use Rattle.std.proofs.lemmas.List.Elements.{All-cons, All-head, All-nil, All-tail}
+use Rattle.std.proofs.lemmas.List.Elements.{All-head, All-tail}
 use Rattle.hb_frag.specs.declared.pages.LivePage.{LivePage}
 use Rattle.hb_frag.specs.declared.pages.Page.{Page}
-use Rattle.hb_frag.specs.declared.pages.Page.TheVariants.{Live, Free}
+use Rattle.hb_frag.specs.declared.pages.Page.TheVariants.{Live}
 use Rattle.hb_frag.specs.Leaves.{weight_of}
 use Rattle.hb_frag.specs.Grammar.{HasSpelling, SpellsPage}
 use Rattle.hb_page_codec.specs.Weight.{IsLight}
-use Rattle.hb_ops.specs.declared.meta.Meta.{Meta}
+use Rattle.hb_layout.specs.declared.meta.Meta.{Meta}
 use Rattle.hb_ops.specs.declared.operations.Op.{Op}
-use Rattle.hb_ops.specs.declared.operations.Op.TheVariants.{Put, Del}
-use Rattle.hb_ops.specs.Files.{if_live}
-use Rattle.hb_ops.specs.Operations.{Change, IsAllowedOn, OpHas, change_of, put_page, del_page}
-use Rattle.hb_store.specs.Groups.{Logged, FitsGroup, FitsOp}
-use Rattle.hb_store.specs.Replay.{Replayed, set_pages, with_images, IsAllowedIn, after_op, after_group, MayFollow}
-use Rattle.hb_store.specs.Replaying.{AreItsPages, HasLimits, IsPageOf, with_pages}
-use Rattle.hb_store.proofs.Writable.{WithinCapacity, put_written, del_written}
+use Rattle.hb_ops.specs.declared.operations.Op.TheVariants.{Put, Del, Extract, Post, Grow}
+use Rattle.hb_ops.specs.Operations.{IsAllowedOn, change_of, reads_of}
+use Rattle.hb_log_codec.specs.Groups.{Logged, FitsGroup, FitsOp}
+use Rattle.hb_store.specs.Replay.{Replayed, with_images, IsAllowedIn, MayFollow, after_group, after_op, change_in, touched_read}
+use Rattle.hb_store.specs.ReplayLists.{live_so}
+use Rattle.hb_store.specs.Replaying.{AreItsPages, ComesAfter, HasLimits, IsPageOf, with_pages}
+use Rattle.hb_store.specs.Making.{IsReadable, MakesGoodPages}
+use Rattle.hb_store.proofs.Grouped.{good_spelled}
+use Rattle.hb_store.proofs.MadeMeta.{comes_after, made_numbered, reads_some, some_page}
+use Rattle.hb_store.proofs.Marking.{all_set}
 
 -- a page of the file that can be written
 abbrev pub IsGood : Meta → ℕ × Page → Type 0
@@ -51,52 +54,45 @@ allowed_by_first (Put id rec) meta None a b c d h = h
 allowed_by_first (Put id rec) meta (Some page) a b c d h = h
 allowed_by_first (Del id point) meta None a b c d h = h
 allowed_by_first (Del id point) meta (Some page) a b c d h = h
+allowed_by_first (Extract source fresh path cuts free_after) meta None a b c d h = h
+allowed_by_first (Extract source fresh path cuts free_after) meta (Some page) a b c d h = h
+allowed_by_first (Post parent at inner area) meta None a b c d h = h
+allowed_by_first (Post parent at inner area) meta (Some page) a b c d h = h
+allowed_by_first (Grow fresh free_after) meta first a b c d h = h
 
 pub change_by_first : (op : Op) (meta : Meta) (first a b c d : Option LivePage) → change_of op meta first a b ≡ change_of op meta first c d
 change_by_first (Put id rec) meta None a b c d = refl
 change_by_first (Put id rec) meta (Some page) a b c d = refl
 change_by_first (Del id point) meta None a b c d = refl
 change_by_first (Del id point) meta (Some page) a b c d = refl
+change_by_first (Extract source fresh path cuts free_after) meta None a b c d = refl
+change_by_first (Extract source fresh path cuts free_after) meta (Some page) a b c d = refl
+change_by_first (Post parent at inner area) meta None a b c d = refl
+change_by_first (Post parent at inner area) meta (Some page) a b c d = refl
+change_by_first (Grow fresh free_after) meta first a b c d = refl
 
-pub op_has : (k : ℕ) (op : Op) → FitsOp k op → OpHas k op
-op_has k (Put id rec) fits = fits.1.attributes
-op_has k (Del id point) fits = fits.1
-
--- the meta of a file stays
-pub meta_stays : (op : Op) (meta : Meta) (first a b : Option LivePage) → (change_of op meta first a b).meta ≡ meta
-meta_stays (Put id rec) meta None a b = refl
-meta_stays (Put id rec) meta (Some page) a b = refl
-meta_stays (Del id point) meta None a b = refl
-meta_stays (Del id point) meta (Some page) a b = refl
-
-abbrev changed : Replayed → Change → Replayed
-changed t change = record { meta = change.meta; page = set_pages change.pages t.page }
-
-module _ (within : WithinCapacity) where
-  put_its : (t : Replayed) (id : ℕ) (rec : _) (found : Option Page) (a b : Option LivePage) → t.page id ≡ found → AreItsPages t → HasLimits t.meta → FitsOp t.meta.k (Put id rec)
-      → IsAllowedOn (Put id rec) t.meta (if_live found) a b → AreItsPages (changed t (change_of (Put id rec) t.meta (if_live found) a b))
-  put_its t id rec None a b e its limits fits allowed = absurd allowed
-  put_its t id rec (Some (Free next)) a b e its limits fits allowed = absurd allowed
-  put_its t id rec (Some (Live page)) a b e its limits fits allowed =
-      let old = its id (Live page) e in
-      set_its ((id, Live (put_page rec page)) ∷ []) t its
-      (All-cons (IsGood t.meta) (id, Live (put_page rec page)) [] (old.0, put_written within t.meta page rec limits.dcap limits.icap old.1 allowed fits.1) (All-nil (IsGood t.meta)))
-
-  del_its : (t : Replayed) (id : ℕ) (point : List ℕ) (found : Option Page) (a b : Option LivePage) → t.page id ≡ found → AreItsPages t → HasLimits t.meta
-      → IsAllowedOn (Del id point) t.meta (if_live found) a b → AreItsPages (changed t (change_of (Del id point) t.meta (if_live found) a b))
-  del_its t id point None a b e its limits allowed = absurd allowed
-  del_its t id point (Some (Free next)) a b e its limits allowed = absurd allowed
-  del_its t id point (Some (Live page)) a b e its limits allowed =
-      let old = its id (Live page) e in
-      set_its ((id, Live (del_page point page)) ∷ []) t its
-      (All-cons (IsGood t.meta) (id, Live (del_page point page)) [] (old.0, del_written within t.meta page point limits.dcap limits.icap old.1 allowed) (All-nil (IsGood t.meta)))
-
-  pub op_its : (t : Replayed) (op : Op) → AreItsPages t → HasLimits t.meta → FitsOp t.meta.k op → IsAllowedIn t op → AreItsPages (after_op t op)
-  op_its t (Put id rec) its limits fits allowed = put_its t id rec (t.page id) _ _ refl its limits fits allowed
-  op_its t (Del id point) its limits fits allowed = del_its t id point (t.page id) _ _ refl its limits allowed
+module _ (makes : MakesGoodPages) where
+  op_its : (t : Replayed) (op : Op) → AreItsPages t → HasLimits t.meta → FitsOp t.meta.k op → IsAllowedIn t op → AreItsPages (after_op t op)
+  op_its t op its limits fits allowed =
+      let change = change_in t op in
+      let after = comes_after op t.meta (touched_read t op 0) (touched_read t op 1) (touched_read t op 2) limits fits allowed in
+      let readable : IsReadable (touched_read t op 0) = λ page is. (its (get_or (reads_of op) 0 0) (Live page) (live_so (t.page (get_or (reads_of op) 0 0)) page is)).1 in
+      let good = makes op t.meta (touched_read t op 0) (touched_read t op 1) (touched_read t op 2) limits fits allowed readable in
+      let there = reads_some op t.meta t.page (touched_read t op 1) (touched_read t op 2) allowed in
+      let reads : All (IsPageOf t.meta) (reads_of op) = λ i d lt. let page = some_page (t.page (get_or (reads_of op) i d)) (there i d lt) in (its (get_or (reads_of op) i d) page.0 page.1).0 in
+      let numbered = made_numbered op t.meta (touched_read t op 0) (touched_read t op 1) (touched_read t op 2) allowed reads in
+      all_set (λ q page. IsPageOf change.meta q × HasSpelling page) change.pages t.page
+      (λ i d lt. (numbered i d lt, good_spelled change.meta (get_or change.pages i d).1 (good i d lt)))
+      (λ q page is. let old = its q page is in ((old.0.0, omega (arith, old.0.1, after.rises)), old.1))
 
   pub group_its : (t : Replayed) (g : Logged) → AreItsPages t → HasLimits t.meta → FitsGroup t.meta.k g → MayFollow t g → AreItsPages (after_group t g)
   group_its t g its limits fits may = op_its (with_images t g) g.op (images_its t g t.meta.k its fits may.images) limits fits.op may.allowed
+
+-- what the file says of itself then
+pub group_after : (t : Replayed) (g : Logged) → HasLimits t.meta → FitsGroup t.meta.k g → MayFollow t g → ComesAfter t.meta (after_group t g).meta
+group_after t g limits fits may =
+    let u = with_images t g in
+    comes_after g.op t.meta (touched_read u g.op 0) (touched_read u g.op 1) (touched_read u g.op 2) limits fits.op may.allowed
 
 -- ---- setting one page after the other
 
@@ -120,3 +116,8 @@ on_ok (Err e) f h = tt
 pub on_both : {X E P Q R : Type 0} (r : Result X E) → (P → Q → R) → OnOk r P → OnOk r Q → OnOk r R
 on_both (Ok x) f h k = f h k
 on_both (Err e) f h k = tt
+
+-- what holds anyway
+pub on_err : {X E P : Type 0} (r : Result X E) → P → OnErr r P
+on_err (Ok x) h = tt
+on_err (Err e) h = h

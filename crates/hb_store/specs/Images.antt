@@ -6,7 +6,7 @@ use denote.Bor.{Bor}
 use Rattle.hb_frag.specs.declared.pages.Page.{Page}
 use Rattle.hb_ops.specs.declared.operations.Op.{Op}
 use Rattle.hb_ops.specs.Operations.{reads_of}
-use Rattle.hb_store.specs.Groups.{Logged}
+use Rattle.hb_log_codec.specs.Groups.{Logged}
 use Rattle.hb_store.specs.Keeps.{StoreState}
 use Rattle.hb_store.specs.Frames.{imaged_in, page_in}
 use Rattle.hb_store.specs.declared.frames.Frame.{Frame}

@@ -6,17 +6,20 @@ use Rattle.hb_disk.specs.Calls.{IsSynced}
 use Rattle.hb_wal.specs.Frames.{frames}
 use Rattle.hb_wal.specs.Log.{LogState}
 use Rattle.hb_wal.specs.Forces.{HasLog}
-use Rattle.hb_super.specs.Superblocks.{IsLayout, IsNewest, place_of}
+use Rattle.hb_layout.specs.Limits.{IsLayout}
+use Rattle.hb_layout.specs.Offsets.{slot_offset}
+use Rattle.hb_super.specs.Superblocks.{IsNewest}
 use Rattle.hb_frag.specs.declared.pages.Page.{Page}
 use Rattle.hb_frag.specs.declared.pages.Page.TheVariants.{Live, Free}
 use Rattle.hb_frag.specs.Grammar.{SpellsPage, HasSpelling}
-use Rattle.hb_ops.specs.declared.meta.Meta.{Meta}
+use Rattle.hb_layout.specs.declared.meta.Meta.{Meta}
 use Rattle.hb_ops.specs.Files.{FileState, page_of}
 use Rattle.hb_ops.specs.Sound.{FitsFile}
 use Rattle.hb_ops.specs.Operations.{IsAllowed, IsLicensed, effect_of}
-use Rattle.hb_store.specs.Groups.{Logged, FitsGroup, group_bytes}
+use Rattle.hb_log_codec.specs.Groups.{Logged, FitsGroup, group_bytes}
 use Rattle.hb_store.specs.Replay.{Replayed, untouched, replay, after_group, MayFollow}
-use Rattle.hb_store.specs.Opening.{OpensBy, OpensTo, Shows, log_place, file_size, place_bytes}
+use Rattle.hb_layout.specs.Offsets.{log_start, file_size}
+use Rattle.hb_store.specs.Opening.{OpensBy, OpensTo, Shows, place_bytes}
 
 -- A store: the turn of its superblock, what the file says of itself, the log, the pages in frames, the pages imaged or
 -- made in this turn, and whether it was stopped.
@@ -47,7 +50,7 @@ IsGoodPage meta (Free next) = HasSpelling (Free next)
 -- What every store is, over every disk.
 pub record IsStore (size : ℕ) (st : StoreState) : Type 0 where
   pub holds : MayHold size st.turn st.meta
-  pub area : st.log.area ≡ log_place st.turn st.meta
+  pub area : st.log.area ≡ log_start st.turn st.meta
   pub len : st.log.len ≡ st.meta.log
   pub frames_in : (id : ℕ) (page : Page) → st.frame id ≡ Some page → (1 ≤ id) × (id ≤ st.meta.high) × IsGoodPage st.meta page
 
@@ -55,7 +58,7 @@ pub record IsStore (size : ℕ) (st : StoreState) : Type 0 where
 pub record IsNew (turn : ℕ) (meta : Meta) (st : StoreState) : Type 0 where
   pub turn_is : st.turn ≡ turn
   pub meta_is : st.meta ≡ meta
-  pub log_is : st.log ≡ record { area = log_place turn meta; len = meta.log; written = 0; groups = [] }
+  pub log_is : st.log ≡ record { area = log_start turn meta; len = meta.log; written = 0; groups = [] }
   pub no_frame : (id : ℕ) → st.frame id ≡ None
   pub none_imaged : (id : ℕ) → st.imaged id ≡ false
   pub running : st.stopped ≡ false
@@ -111,7 +114,7 @@ pub record StoreKeeps (d : DiskModel) (st : StoreState) (durable : FileState) (l
   -- whatever stands behind the written frames, these groups and the places make the durable file
   pub shows : (c : List ℕ) → d.Image c → Shows c said (replay (untouched said) written) durable
   pub running : st.stopped ≡ false → IsRunning d st payloads
-  pub kept : IsSynced d (place_of st.turn) PAGE × IsSynced d st.log.area st.log.written
+  pub kept : IsSynced d (slot_offset st.turn) PAGE × IsSynced d st.log.area st.log.written
   -- the groups that wait, and where they lead
   pub spelled : map (λ w. w.bytes) st.log.groups ≡ map group_bytes waiting
   pub fits : All (FitsGroup said.k) waiting
@@ -135,7 +138,7 @@ pub record IsFresh (d : DiskModel) (turn : ℕ) (meta : Meta) (s : FileState) : 
   pub newest : (c : List ℕ) → d.Image c → IsNewest c turn meta
   pub images : (c : List ℕ) → d.Image c → OpensTo c s
   pub places : IsSynced d 0 (2 * PAGE)
-  pub logged : HasLog d (record { area = log_place turn meta; len = meta.log; written = 0; groups = [] }) []
+  pub logged : HasLog d (record { area = log_start turn meta; len = meta.log; written = 0; groups = [] }) []
   pub pages : (id : ℕ) (page : Page) → page_of s id ≡ Some page → (c : List ℕ) → d.Image c → SpellsPage (place_bytes meta id c) page
 
 -- An image opens to the durable file, or to the next one where a group waits.

@@ -1,5 +1,5 @@
-pub mod Groups
 pub mod Replay
+pub mod Payloads
 pub mod Opening
 pub mod Keeps
 pub mod Frames
@@ -13,11 +13,7 @@ pub mod ReplayLists
 pub mod ReplayLaws
 pub mod StoreLaws
 pub mod Fetching
-pub mod FieldLaws
-pub mod GroupFields
-pub mod GroupLaws
-pub mod GroupReading
 pub mod ImageLaws
-pub mod NumberLaws
-pub mod OpLaws
 pub mod Replaying
+pub mod Making
+pub mod NextPage

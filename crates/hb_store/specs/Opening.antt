@@ -1,5 +1,5 @@
 -- What a list of bytes opens to: the newest superblock, the replay of its log, and the pages in their places.
-use Rattle.std.specs.Prelude.{◌≡◌, ◌⊎◌, ℕ, ◌+◌, ◌-◌, ◌*◌, ◌%◌, ◌≤◌, List, ◌++◌, length, All, Option, Some, None, IsSome}
+use Rattle.std.specs.Prelude.{◌≡◌, ◌⊎◌, ℕ, ◌≤◌, List, ◌++◌, length, All, Option, Some, None, IsSome}
 use Rattle.hb_space.specs.declared.form.TheConstants.{PAGE}
 use Rattle.hb_disk.specs.Model.{DiskModel}
 use Rattle.hb_wal.specs.Frames.{frames, range, HasFrames, IsBadFrame, IsPayload}
@@ -7,28 +7,19 @@ use Rattle.hb_wal.specs.Reading.{BeginsFrame}
 use Rattle.hb_super.specs.Superblocks.{IsNewest}
 use Rattle.hb_frag.specs.declared.pages.Page.{Page}
 use Rattle.hb_frag.specs.Grammar.{SpellsPage}
-use Rattle.hb_ops.specs.declared.meta.Meta.{Meta}
+use Rattle.hb_layout.specs.declared.meta.Meta.{Meta}
+use Rattle.hb_layout.specs.Offsets.{file_size, log_start, page_offset}
 use Rattle.hb_ops.specs.Files.{FileState, page_of}
-use Rattle.hb_store.specs.Groups.{Logged, SpellAll, SpellsGroups}
+use Rattle.hb_log_codec.specs.Groups.{Logged, SpellsGroups}
+use Rattle.hb_store.specs.Payloads.{SpellAll}
 use Rattle.hb_store.specs.Replay.{Replayed, untouched, replay, MayReplay}
-
--- where the log area of a turn begins, and the page of a number
-abbrev pub log_place : ℕ → Meta → ℕ
-log_place turn meta = 2 * PAGE + (turn % 2) * meta.log
-
-abbrev pub page_place : Meta → ℕ → ℕ
-page_place meta id = 2 * PAGE + 2 * meta.log + PAGE * (id - 1)
-
--- how many bytes a file has
-abbrev pub file_size : Meta → ℕ
-file_size meta = 2 * PAGE + 2 * meta.log + PAGE * meta.pages
 
 -- the bytes of a turn's log area, and those in the place of a page
 abbrev pub log_bytes : ℕ → Meta → List ℕ → List ℕ
-log_bytes turn meta bytes = range (log_place turn meta) meta.log bytes
+log_bytes turn meta bytes = range (log_start turn meta) meta.log bytes
 
 abbrev pub place_bytes : Meta → ℕ → List ℕ → List ℕ
-place_bytes meta id bytes = range (page_place meta id) PAGE bytes
+place_bytes meta id bytes = range (page_offset meta id) PAGE bytes
 
 -- A page of the file is the touched one, or where it wasn't touched the one that its place spells.
 abbrev pub IsPageIn : List ℕ → Meta → ℕ → Option Page → Page → Type 0

@@ -11,7 +11,7 @@ use Rattle.hb_frag.specs.Trees.{Tree, Tip, Cut}
 use Rattle.hb_frag.specs.Grammar.{FitsLeaf, FitsTree, FitsPage, HasSpelling}
 use Rattle.hb_frag.specs.Leaves.{IsWellCut}
 use Rattle.hb_frag.specs.Rules.{BelongsAt, IsNormal}
-use Rattle.hb_ops.specs.declared.meta.Meta.{Meta}
+use Rattle.hb_layout.specs.declared.meta.Meta.{Meta}
 use Rattle.hb_ops.specs.Sound.{FitsFile}
 use Rattle.hb_store.specs.Keeps.{IsGoodPage, IsStore, StoreState}
 

@@ -1,23 +1,25 @@
 -- What the replay of groups over touched pages gives.
-use Rattle.std.specs.Prelude.{◌≡◌, ◌⊎◌, ℕ, ◌≤◌, List, ◌++◌, ◌∷◌, length, Some}
+use Rattle.std.specs.Prelude.{◌≡◌, ◌⊎◌, ℕ, ◌<◌, ◌≤◌, ◌^◌, List, ◌++◌, ◌∷◌, length, Some}
 use Rattle.std.specs.Ordering.{nat_cmp}
 use Rattle.std.specs.BTreeMap.{get}
-use Rattle.hb_space.specs.declared.form.TheConstants.{KMAX}
+use Rattle.hb_layout.specs.Limits.{IsLayout}
 use Rattle.hb_frag.specs.declared.pages.Page.{Page}
 use Rattle.hb_frag.specs.Grammar.{HasSpelling}
-use Rattle.hb_ops.specs.declared.meta.Meta.{Meta}
+use Rattle.hb_layout.specs.declared.meta.Meta.{Meta}
 use Rattle.hb_ops.specs.declared.changes.ChangeError.{ChangeError}
 use Rattle.hb_ops.specs.declared.changes.ChangeError.TheVariants as changes
-use Rattle.hb_store.specs.Groups.{Logged, SpellAll, SpellsGroups}
+use Rattle.hb_log_codec.specs.Groups.{Logged, SpellsGroups}
+use Rattle.hb_store.specs.Payloads.{SpellAll}
 use Rattle.hb_store.specs.Replay.{Replayed, untouched, set_pages, replay, MayReplay}
 use Rattle.hb_store.specs.Opening.{IsBadPayload}
+use Rattle.hb_store.specs.Keeps.{IsSameLayout}
 use Rattle.hb_store.specs.declared.touched.LogStop.{LogStop}
 use Rattle.hb_store.specs.declared.touched.LogStop.TheVariants as logs
 use Rattle.hb_store.specs.declared.touched.Touched.{Touched}
 use Rattle.hb_store.specs.declared.touched.ReplayStop.{ReplayStop}
 use Rattle.hb_store.specs.declared.touched.ReplayStop.TheVariants as replays
-use Rattle.hb_store.specs.declared.group_reading.GroupsStop.{GroupsStop}
-use Rattle.hb_store.specs.declared.group_reading.GroupsStop.TheVariants as groups
+use Rattle.hb_log_codec.specs.declared.reading.GroupsError.{GroupsError}
+use Rattle.hb_log_codec.specs.declared.reading.GroupsError.TheVariants as groups
 
 -- what touched pages are seen as
 abbrev pub replayed_of : Touched → Replayed
@@ -34,19 +36,28 @@ IsPageOf meta id = (1 ≤ id) × (id ≤ meta.high)
 abbrev pub AreItsPages : Replayed → Type 0
 AreItsPages t = (id : ℕ) (page : Page) → t.page id ≡ Some page → IsPageOf t.meta id × HasSpelling page
 
--- the limits of a file that a put rests on
+-- the limits of a file that replays rest on
 pub record HasLimits (meta : Meta) : Type 0 where
-  pub some : 1 ≤ meta.k
-  pub few : meta.k ≤ KMAX
-  pub dcap : meta.dcap ≤ 48
-  pub icap : meta.icap ≤ 256
+  pub layout : IsLayout meta
+  pub root_fits : meta.root < 2 ^ 32
+
+-- What a file says of itself once operations were applied: it was laid down as before, it is within its limits, the
+-- height and the high mark don't fall, and the marks stay within their limits.
+pub record ComesAfter (old new : Meta) : Type 0 where
+  pub layout : IsSameLayout old new
+  pub limits : HasLimits new
+  pub grows : old.height ≤ new.height
+  pub rises : old.high ≤ new.high
+  pub high : old.high ≤ old.pages → new.high ≤ new.pages
+  pub live : old.live ≤ old.pages → new.live ≤ new.pages
+  pub free : old.free < 2 ^ 32 → new.free < 2 ^ 32
 
 -- the stop of a replay, by that of a change and that of reading groups
 abbrev pub change_stop : ChangeError → ReplayStop
 change_stop changes.Unfit = replays.Unfit
 change_stop changes.NoMemory = replays.NoMemory
 
-abbrev pub groups_stop : GroupsStop → ReplayStop
+abbrev pub groups_stop : GroupsError → ReplayStop
 groups_stop (groups.BadBytes at) = replays.Unfit
 groups_stop groups.NoMemory = replays.NoMemory
 

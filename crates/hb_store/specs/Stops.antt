@@ -8,11 +8,13 @@ use Rattle.hb_frag.specs.declared.pages.Page.TheVariants.{Live}
 use Rattle.hb_frag.specs.declared.pages.LivePage.{LivePage}
 use Rattle.hb_frag.specs.Grammar.{SpellsPage, HasSpelling}
 use Rattle.hb_wal.specs.Frames.{HasFrames}
-use Rattle.hb_ops.specs.declared.meta.Meta.{Meta}
+use Rattle.hb_layout.specs.declared.meta.Meta.{Meta}
 use Rattle.hb_ops.specs.LocalRule.{BreaksFirst}
-use Rattle.hb_store.specs.Groups.{Logged, SpellAll}
+use Rattle.hb_log_codec.specs.Groups.{Logged}
+use Rattle.hb_store.specs.Payloads.{SpellAll}
 use Rattle.hb_store.specs.Replay.{untouched, replay, MayReplay}
 use Rattle.hb_store.specs.Opening.{log_bytes, place_bytes, HasBadGroup}
+use Rattle.hb_store.specs.Replaying.{ComesAfter}
 use Rattle.hb_store.specs.declared.stops.Why.TheVariants.{Rule, Level, Extent}
 use Rattle.hb_store.specs.declared.stops.FetchStop.{FetchStop}
 use Rattle.hb_store.specs.declared.stops.FetchStop.TheVariants as fetches
@@ -55,7 +57,7 @@ pub record ReadsLog (bytes : List ℕ) (turn : ℕ) (said : Meta) (t : Touched) 
 
 -- Whatever the disk was, what was read is of pages of the file, and can be written.
 pub record IsTouched (said : Meta) (t : Touched) : Type 0 where
-  pub layout : (t.meta.k ≡ said.k) × (t.meta.log ≡ said.log) × (t.meta.pages ≡ said.pages) × (t.meta.high ≡ said.high)
+  pub meta : ComesAfter said t.meta
   pub pages : (id : ℕ) (page : Page) → get nat_cmp t.pages id ≡ Some page → (1 ≤ id) × (id ≤ t.meta.high) × HasSpelling page
 
 -- Why no log was read: the first bad frame. A fault of the disk and want of memory say nothing of the bytes.

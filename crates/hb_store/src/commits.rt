@@ -1,23 +1,24 @@
 //! Operations in memory, and the groups that wait for them.
-ghost use Rattle.std.specs.Prelude.{◌≡◌, ◌<◌, ◌≤◌, ◌^◌, ◌∷◌, ◌++◌, [], false, List, All, length, IfOk, IfSome, OnOk, OnErr, Some};
+ghost use Rattle.std.specs.Prelude.{◌≡◌, ◌<◌, ◌≤◌, ◌^◌, ◌∷◌, ◌++◌, [], false, get_or, List, All, length, IfOk, IfSome, OnOk, OnErr, Some};
 ghost use Rattle.hb_space.specs.declared.form.TheConstants.{GROUP};
 ghost use Rattle.hb_frag.specs.Leaves.{weight_of};
 ghost use Rattle.hb_ops.specs.Given.{given as live_given};
 ghost use Rattle.hb_ops.specs.Files.{FileState, if_live};
-ghost use Rattle.hb_ops.specs.Operations.{IsLicensed, OpHas};
-ghost use Rattle.hb_store.specs.Groups.{FitsGroup, group_bytes};
+ghost use Rattle.hb_ops.specs.Operations.{IsLicensed, OpHas, reads_of};
+ghost use Rattle.hb_log_codec.specs.Groups.{FitsGroup, group_bytes};
 ghost use Rattle.hb_store.specs.Images.{group_here};
 ghost use Rattle.hb_store.specs.Keeps.{StoreKeeps, last_of};
 ghost use Rattle.hb_store.specs.Seen.{seen_as};
 ghost use Rattle.hb_store.specs.Calls.{Commits, IsAllowedHere, IsReady, change_here, framed_read, with_op};
 
-use crate::frames::{mark_imaged, set_changed};
-use crate::group_writing::{group_for, reads};
+use crate::frames::{hold_made, mark_imaged, set_changed};
+use crate::group_writing::group_for;
+use crate::making::what_is_made_can_be_written;
 use crate::store::Store;
 use hb_disk::Device;
 use hb_frag::{LivePage, Page};
-use hb_ops::{ChangeError, Changed, Op, change, changed_pages_are_well_made};
-use hb_page_codec::laws::page_within_capacity_has_spelling;
+use hb_log_codec::laws::groups_are_short;
+use hb_ops::{ChangeError, Changed, Op, change};
 use hb_space::NoMemory;
 use std::alloc::AllocError;
 
@@ -39,13 +40,12 @@ impl<D: Device> Store<D> {
         ensures keeps { (durable : FileState) (later : List FileState) → StoreKeeps (D.model self.old.disk) (seen_as self.old) durable later →
             OnOk result (StoreKeeps (D.model self.new.disk) (seen_as self.new) durable (with_op durable later op)) }
     {
-        // Laws: what is changed keeps the rules of pages and can be written.
-        changed_pages_are_well_made();
-        page_within_capacity_has_spelling();
+        what_is_made_can_be_written();
         let changed = self.changed(&op)?;
         let group = self.group(&op)?;
+        hold_made(&mut self.frames, &op)?;
         self.log.append(&group, mark);
-        mark_imaged(&mut self.frames, &reads(&op));
+        mark_imaged(&mut self.frames, &op.reads());
         set_changed(&mut self.frames, changed.pages);
         self.meta = changed.meta;
         Ok(())
@@ -72,8 +72,7 @@ impl<D: Device> Store<D> {
         ensures page { live_given result ≡ framed_read (seen_as self.now) op.now place }
         ensures light { IfSome result (λ page. weight_of page.now.frag < 2 ^ 32) }
     {
-        let id = reads(op).get(place).copied().unwrap_or(0);
-        match self.frames.get(&id) {
+        match self.frames.get(&read_at(op, place)) {
             Some(frame) => live_of(&frame.page),
             None => None,
         }
@@ -82,13 +81,23 @@ impl<D: Device> Store<D> {
     /// The bytes of an operation's group. It fits the log wherever the store is ready.
     fn group(&self, op: &Op) -> Result<Vec<u8>, NoMemory>
         requires points { OpHas (seen_as self.now).meta.k op.now }
+        requires allowed { IsAllowedHere (seen_as self.now) op.now }
         ensures bytes { IfOk result (λ group. group.items ≡ group_bytes (group_here (seen_as self.now) op.now)) }
         ensures fits { OnOk result (FitsGroup (seen_as self.now).meta.k (group_here (seen_as self.now) op.now)) }
         ensures some { IfOk result (λ group. 0 < length group.items) }
         ensures short { IfOk result (λ group. length group.items ≤ GROUP) }
     {
+        what_is_made_can_be_written();
+        groups_are_short();
         group_for(self.alloc, &self.frames, op)
     }
+}
+
+/// The number at a place of those that an operation reads. 0 behind them.
+fn read_at(op: &Op, place: usize) -> u32
+    ensures { result ≡ get_or (reads_of op.now) place 0 }
+{
+    op.reads().get(place).copied().unwrap_or(0)
 }
 
 /// The page, where it is in use.

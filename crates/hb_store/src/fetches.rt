@@ -14,11 +14,11 @@ ghost use Rattle.hb_store.specs.Stops.{FetchesNot, IsNoPage};
 ghost use Rattle.hb_store.specs.declared.stops.FetchStop.TheVariants.{ReadFault};
 
 use crate::frames::Frame;
-use crate::places::page_place;
 use crate::stops::{FetchStop, Why};
 use crate::store::Store;
 use hb_disk::Device;
 use hb_frag::Page;
+use hb_layout::page_offset;
 use hb_ops::{Meta, local_rule};
 use hb_page_codec::laws::spelling_law;
 use hb_page_codec::{PageError, decode};
@@ -74,7 +74,7 @@ impl<D: Device> Store<D> {
         ensures no_fault { (IsErrOf result ReadFault → ⊥) → (D.model self.new.disk).read_faults ≡ (D.model self.old.disk).read_faults }
     {
         let mut bytes = [0; PAGE];
-        let place = page_place(&self.meta, id);
+        let place = page_offset(&self.meta, id);
         match self.disk.read(place, &mut bytes) {
             Ok(()) => page_in(self.alloc, &self.meta, id, &bytes),
             Err(_) => Err(FetchStop::ReadFault),
@@ -109,7 +109,7 @@ fn put_frame(frames: &mut BTreeMap<u32, Frame>, id: u32, page: Page) -> Result<(
 }
 
 /// The stop for a page that breaks the rule of this number.
-fn damaged(page: u32, rule: u8) -> FetchStop
+pub(crate) fn damaged(page: u32, rule: u8) -> FetchStop
     ensures { result ≡ FetchStop.Damaged page (Why.Rule rule) }
 {
     FetchStop::Damaged {

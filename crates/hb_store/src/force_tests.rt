@@ -1,6 +1,6 @@
 //! A file of one page, by hand: it is opened, and groups that wait are forced. Where they do, the disk tells nothing, and
 //! no byte of it goes bad.
-ghost use Rattle.std.specs.Prelude.{◌≡◌, false, List, [], IfOk, length};
+ghost use Rattle.std.specs.Prelude.{◌≡◌, ◌≤◌, false, List, [], IfOk, length};
 ghost use Rattle.hb_disk.specs.MemDisk as memory;
 ghost use Rattle.hb_disk.specs.RotDisk.{hidden};
 ghost use Rattle.hb_ops.specs.Files.{FileState};
@@ -47,13 +47,16 @@ pub(crate) const FRAME: [u8; 21] = [
     0xA5, 0, 0, 0, 16, 0, 1, 0, 0, 0, 1, 0, 0, 0, 0, 0, 0, 0, 5, 1, 0x61,
 ];
 
-/// A disk with that file, which fails at the calls of these numbers.
-fn disk(alloc: Global, failing: &[u64]) -> Result<RotDisk, Fail>
-    ensures { IfOk result (λ d. (hidden d).size ≡ 143360) }
+/// A disk as long as a file of four pages, with such a file of so many pages, whose page 1 has these fields. It fails at the
+/// calls of these numbers.
+pub(crate) fn disk(alloc: Global, pages: u8, page: &[u8], failing: &[u64]) -> Result<RotDisk, Fail>
+    requires { length page.now ≤ 4096 }
+    ensures { IfOk result (λ d. (hidden d).size ≡ 155648) }
 {
-    let mut bytes = vec![in alloc; 0; 143_360]?;
+    let mut bytes = vec![in alloc; 0; 155_648]?;
     bytes[..41].copy_from_slice(&SUPER);
-    bytes[139_264..139_287].copy_from_slice(&EMPTY);
+    bytes[16] = pages;
+    bytes[139_264..139_264 + page.len()].copy_from_slice(page);
     Ok(RotDisk {
         inner: MemDisk::failing(alloc, bytes, failing.to_vec(alloc)?),
         before: 0,
@@ -101,7 +104,7 @@ pub(crate) fn opened(alloc: Global, failing: &[u64]) -> Result<Store<RotDisk>, F
     ensures running { IfOk result (λ store. (seen_as store).stopped ≡ false) }
     ensures log { IfOk result (λ store. (seen_as store).log ≡ record { area = 8192; len = 65536; written = 0; groups = [] }) }
 {
-    match Store::opened(alloc, disk(alloc, failing)?, 0, META) {
+    match Store::opened(alloc, disk(alloc, 1, &EMPTY, failing)?, 0, META) {
         Ok(store) => Ok(store),
         Err(_no_memory) => Err(Fail::from("memory was refused")),
     }

@@ -1,11 +1,13 @@
 //! Pages in memory.
-ghost use Rattle.std.specs.Prelude.{◌≡◌, ℕ, All, IsSome};
+ghost use Rattle.std.specs.Prelude.{◌≡◌, ℕ, All, IsSome, OnErr, OnOk};
 ghost use Rattle.std.specs.Ordering.{nat_cmp};
 ghost use Rattle.std.specs.BTreeMap.{get};
-ghost use Rattle.hb_store.specs.Marks.{mark_frames, set_frames, with_frame, with_mark};
+ghost use Rattle.hb_store.specs.Marks.{held, mark_frames, set_frames, with_frame, with_mark, with_room};
 
 use arrayvec::ArrayVec;
 use hb_frag::Page;
+use hb_ops::Op;
+use hb_space::NoMemory;
 use std::collections::BTreeMap;
 
 /// A page in memory.
@@ -15,6 +17,33 @@ pub(crate) struct Frame {
     pub(crate) page: Page,
     /// Whether the log of this turn has an image of it, or made it.
     pub(crate) imaged: bool,
+}
+
+/// Gives the page that an operation makes a frame, where it has none. For want of memory nothing changes.
+pub(crate) fn hold_made(frames: &mut BTreeMap<u32, Frame>, op: &Op) -> Result<(), NoMemory>
+    ensures held { OnOk result ((q : ℕ) → get nat_cmp frames.new q ≡ held op.now (get nat_cmp frames.old) q) }
+    ensures kept { OnErr result ((q : ℕ) → get nat_cmp frames.new q ≡ get nat_cmp frames.old q) }
+{
+    match op {
+        Op::Extract { fresh, .. } | Op::Grow { fresh, .. } => hold(frames, *fresh),
+        Op::Put { .. } | Op::Del { .. } | Op::Post { .. } => Ok(()),
+    }
+}
+
+/// Gives a page a frame, where it has none. What stands in it doesn't matter: it is set before it is read.
+fn hold(frames: &mut BTreeMap<u32, Frame>, id: u32) -> Result<(), NoMemory>
+    ensures held { OnOk result ((q : ℕ) → get nat_cmp frames.new q ≡ with_room id (get nat_cmp frames.old) q) }
+    ensures kept { OnErr result ((q : ℕ) → get nat_cmp frames.new q ≡ get nat_cmp frames.old q) }
+{
+    if frames.contains_key(&id) {
+        return Ok(());
+    }
+    let frame = Frame {
+        page: Page::Free { next: 0 },
+        imaged: false,
+    };
+    frames.insert(id, frame)?;
+    Ok(())
 }
 
 /// Marks the pages of these numbers as imaged, where they are in frames.

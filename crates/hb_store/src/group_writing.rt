@@ -2,34 +2,18 @@
 ghost use Rattle.std.specs.Prelude.{◌≡◌, ℕ, ◌≤◌, ◌++◌, ◌∷◌, [], length, flat_map, All, IfOk, IfSome, OnOk};
 ghost use Rattle.std.specs.Ordering.{nat_cmp};
 ghost use Rattle.std.specs.BTreeMap.{get};
-ghost use Rattle.hb_outside.specs.Numbers.{big_endian};
-ghost use Rattle.hb_space.specs.Points.{IsPoint, IsBody};
-ghost use Rattle.hb_frag.specs.Grammar.{HasSpelling, point_bytes, record_bytes};
+ghost use Rattle.hb_frag.specs.Grammar.{HasSpelling};
 ghost use Rattle.hb_ops.specs.Operations.{OpHas, reads_of};
-ghost use Rattle.hb_store.specs.Groups.{FitsOp, group_bytes, image_bytes, op_bytes, page_bytes};
+ghost use Rattle.hb_log_codec.specs.Groups.{FitsOp, group_bytes, image_bytes};
+ghost use Rattle.hb_store.specs.Making.{HasFittingParts};
 ghost use Rattle.hb_store.specs.Images.{frame_given, image_due, images_due};
 
 use crate::frames::Frame;
-use arrayvec::ArrayVec;
-use hb_frag::Page;
+use hb_log_codec::{encode_image, encode_op};
 use hb_ops::Op;
-use hb_outside::{give_u32, give_u64};
-use hb_page_codec::encode;
-use hb_space::form::PAGE;
-use hb_space::{NoMemory, Point, Record};
+use hb_space::NoMemory;
 use std::alloc::Global;
 use std::collections::BTreeMap;
-
-/// The numbers of the pages that an operation reads, in its order.
-pub(crate) fn reads(op: &Op) -> ArrayVec<u32, 3>
-    ensures { result.items ≡ reads_of op.now }
-{
-    let mut ids = ArrayVec::new();
-    match op {
-        Op::Put { page, .. } | Op::Del { page, .. } => ids.push(*page),
-    }
-    ids
-}
 
 /// The bytes of the group of an operation: the images that its reads need, in their order, and the
 /// operation.
@@ -38,15 +22,49 @@ pub(crate) fn group_for(
     frames: &BTreeMap<u32, Frame>,
     op: &Op,
 ) -> Result<Vec<u8>, NoMemory>
-    requires { (id : ℕ) → IfSome (get nat_cmp frames.now id) (λ frame. HasSpelling frame.page) }
+    requires spelled { (id : ℕ) → IfSome (get nat_cmp frames.now id) (λ frame. HasSpelling frame.page) }
+    requires parts { HasFittingParts op.now }
     ensures bytes { IfOk result (λ group. group.items ≡ group_bytes (record { images = images_due frames.now (reads_of op.now); op = op.now })) }
     ensures op { OnOk result ((k : ℕ) → OpHas k op.now → FitsOp k op.now) }
 {
+    op_fits(op);
     let mut group = Vec::new(alloc);
     group.push(0)?;
-    group[0] = append_images(&mut group, frames, &reads(op))?;
-    append_op(&mut group, op)?;
+    group[0] = append_images(&mut group, frames, &op.reads())?;
+    encode_op(op, &mut group)?;
     Ok(group)
+}
+
+/// An operation whose paths and cuts have their places in its spelling has its place there as a whole.
+fn op_fits(op: &Op)
+    requires { HasFittingParts op.now }
+    ensures { (k : ℕ) → OpHas k op.now → FitsOp k op.now }
+{
+    match op {
+        Op::Put { page, rec } => {
+            let _page = *page;
+            let _key = rec.key.values();
+            let _body = rec.body.bytes();
+        }
+        Op::Del { page, point } => {
+            let _page = *page;
+            let _values = point.values();
+        }
+        Op::Extract {
+            source,
+            fresh,
+            free_after,
+            ..
+        } => {
+            let _numbers = (*source, *fresh, *free_after);
+        }
+        Op::Post { parent, inner, .. } => {
+            let _numbers = (*parent, *inner);
+        }
+        Op::Grow { fresh, free_after } => {
+            let _numbers = (*fresh, *free_after);
+        }
+    }
 }
 
 /// Adds the images that pages of these numbers need, in their order, and counts them.
@@ -80,88 +98,9 @@ fn append_due(into: &mut Vec<u8>, id: u32, frame: Option<&Frame>) -> Result<u8, 
             if frame.imaged {
                 Ok(0)
             } else {
-                append_image(into, id, &frame.page)?;
+                encode_image(id, &frame.page, into)?;
                 Ok(1)
             }
         }
     }
-}
-
-/// Adds the image of a page under its number.
-pub(crate) fn append_image(into: &mut Vec<u8>, id: u32, page: &Page) -> Result<(), NoMemory>
-    requires { HasSpelling page.now }
-    ensures { OnOk result (into.new.items ≡ into.old.items ++ image_bytes (id, page.now)) }
-{
-    append_u32(into, id)?;
-    into.extend_from_slice(&spelled(page))
-}
-
-/// All bytes of a page.
-fn spelled(page: &Page) -> [u8; PAGE]
-    requires { HasSpelling page.now }
-    ensures { result ≡ page_bytes page.now }
-{
-    let mut bytes = [0; PAGE];
-    encode(page, &mut bytes);
-    bytes
-}
-
-/// Adds an operation.
-pub(crate) fn append_op(into: &mut Vec<u8>, op: &Op) -> Result<(), NoMemory>
-    ensures bytes { OnOk result (into.new.items ≡ into.old.items ++ op_bytes op.now) }
-    ensures fits { OnOk result ((k : ℕ) → OpHas k op.now → FitsOp k op.now) }
-{
-    match op {
-        Op::Put { page, rec } => {
-            into.push(1)?;
-            append_u32(into, *page)?;
-            append_record(into, rec)
-        }
-        Op::Del { page, point } => {
-            into.push(2)?;
-            append_u32(into, *page)?;
-            append_point(into, point)
-        }
-    }
-}
-
-/// Adds a record.
-fn append_record(into: &mut Vec<u8>, rec: &Record) -> Result<(), NoMemory>
-    ensures bytes { OnOk result (into.new.items ≡ into.old.items ++ record_bytes rec.now) }
-    ensures point { OnOk result (IsPoint rec.now.key) }
-    ensures body { OnOk result (IsBody rec.now.body) }
-{
-    append_point(into, &rec.key)?;
-    let body = rec.body.bytes();
-    into.push(body.len() as u8)?;
-    into.extend_from_slice(body)
-}
-
-/// Adds a point.
-fn append_point(into: &mut Vec<u8>, point: &Point) -> Result<(), NoMemory>
-    ensures bytes { OnOk result (into.new.items ≡ into.old.items ++ point_bytes point.now) }
-    ensures point { OnOk result (IsPoint point.now) }
-{
-    for value in point.values() {
-        append_u64(into, *value)?;
-    }
-    Ok(())
-}
-
-/// Adds the four bytes of a number.
-fn append_u32(into: &mut Vec<u8>, n: u32) -> Result<(), NoMemory>
-    ensures { OnOk result (into.new.items ≡ into.old.items ++ big_endian 4 n) }
-{
-    let mut bytes = [0; 4];
-    give_u32(&mut bytes, 0, n);
-    into.extend_from_slice(&bytes)
-}
-
-/// Adds the eight bytes of a number.
-fn append_u64(into: &mut Vec<u8>, n: u64) -> Result<(), NoMemory>
-    ensures { OnOk result (into.new.items ≡ into.old.items ++ big_endian 8 n) }
-{
-    let mut bytes = [0; 8];
-    give_u64(&mut bytes, 0, n);
-    into.extend_from_slice(&bytes)
 }

@@ -1,6 +1,7 @@
 //! What an image opens to.
 ghost use Rattle.hb_store.specs.ImageLaws.{OpensToOne, OpensWhole};
 
+use hb_log_codec::laws::groups_are_read_in_one_way;
 use hb_page_codec::laws::spelling_law;
 use hb_super::laws::one_superblock_is_newest;
 use hb_wal::laws::an_area_is_read_in_one_way;
@@ -11,6 +12,7 @@ pub fn an_image_opens_to_one_file()
     ensures whole { OpensWhole }
 {
     spelling_law();
+    groups_are_read_in_one_way();
     one_superblock_is_newest();
     an_area_is_read_in_one_way();
 }

@@ -6,6 +6,7 @@ ghost use Rattle.hb_store.specs.Seen.{seen_as};
 
 use crate::store::Store;
 use hb_disk::Device;
+use hb_log_codec::laws::groups_are_read_in_one_way;
 use hb_page_codec::laws::spelling_law;
 use hb_super::laws::one_superblock_is_newest;
 use hb_wal::laws::an_area_is_read_in_one_way;
@@ -34,6 +35,7 @@ pub fn a_store_keeps_one_file<D: Device>(store: &Store<D>)
 {
     let _ = store;
     spelling_law();
+    groups_are_read_in_one_way();
     one_superblock_is_newest();
     an_area_is_read_in_one_way();
 }

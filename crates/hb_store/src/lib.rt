@@ -3,9 +3,10 @@
 //! The one contract: what a crash leaves of a store is the file before the groups that wait, and
 //! while a force runs perhaps the file after the first of them. `StoreKeeps` says so of a disk that
 //! tells, and each call keeps it, also where it fails and the store is stopped: `opened` begins it,
-//! `fetch` brings a page of the file into memory, `commit` does an operation there and lets its
-//! group wait, `force` makes the first group that waits last. `read_log` reads what a log makes of
-//! the pages that it touches, or names its first bad frame.
+//! `fetch` brings a page of the file into memory, `next_page` names the page that an operation
+//! would make next, or says why there is none, `commit` does an operation there and lets its group
+//! wait, `force` makes the first group that waits last. `read_log` reads what a log makes of the
+//! pages that it touches, or names its first bad frame.
 //!
 //! What a list of bytes opens to is defined in `specs/Opening.antt`: the newest superblock, the
 //! frames of its log area, the groups that they spell and the replay of these, and for every page
@@ -17,9 +18,11 @@
 //! spelling, and keeps the rules that speak of it alone.
 //!
 //! A page is brought into the log as an image before an operation of this turn first reads it. So
-//! a replay needs no page from its place. Pages stay in memory once they are fetched.
+//! a replay needs no page from its place. A page that an operation makes needs no image: it gets a
+//! frame, and the log of the turn makes it again. Pages stay in memory once they are fetched.
 #![tactic(auto)]
 
+mod allocating;
 #[cfg(test)]
 mod commit_tests;
 mod commits;
@@ -28,28 +31,24 @@ mod fetches;
 mod force_tests;
 mod forces;
 mod frames;
-mod group_fields;
-mod group_reading;
-#[cfg(test)]
-mod group_tests;
 mod group_writing;
-mod groups;
 mod image_laws;
 mod laws;
 #[cfg(test)]
 mod log_tests;
 mod looks;
+mod making;
 mod opening;
-mod places;
 mod reading;
 mod stops;
 mod store;
 mod threads;
 mod touched;
+#[cfg(test)]
+mod tree_tests;
 
 pub use image_laws::an_image_opens_to_one_file;
 pub use laws::{a_store_keeps_one_file, an_image_of_a_store_opens};
-pub use places::{log_place, page_place};
 pub use reading::read_log;
 pub use stops::{FetchStop, Flushed, StopWhy, Why, WriteFault};
 pub use store::Store;

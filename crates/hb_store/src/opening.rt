@@ -3,9 +3,9 @@ ghost use Rattle.hb_ops.specs.Files.{FileState};
 ghost use Rattle.hb_store.specs.Keeps.{MayHold, IsNew, IsFresh, StoreKeeps};
 ghost use Rattle.hb_store.specs.Seen.{seen_as};
 
-use crate::places::log_place;
 use crate::store::Store;
 use hb_disk::Device;
+use hb_layout::log_start;
 use hb_ops::Meta;
 use hb_space::NoMemory;
 use hb_wal::Wal;
@@ -24,7 +24,7 @@ impl<D: Device> Store<D> {
             StoreKeeps (D.model st.disk) (seen_as st) s []) }
         ensures back { IfErr result (λ e. e.1 ≡ disk) }
     {
-        let log = match Wal::new(alloc, log_place(turn, &meta), meta.log) {
+        let log = match Wal::new(alloc, log_start(turn, &meta), meta.log) {
             Ok(log) => log,
             Err(no_memory) => return Err((no_memory, disk)),
         };

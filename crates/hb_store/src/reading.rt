@@ -2,14 +2,14 @@ ghost use Rattle.std.specs.Prelude.{◌≡◌, ◌<◌, ◌≤◌, ◌^◌, leng
 ghost use Rattle.hb_outside.specs.Streams.{Rose};
 ghost use Rattle.hb_disk.specs.Calls.{OnlyReads};
 ghost use Rattle.hb_super.specs.Superblocks.{IsLegal};
-ghost use Rattle.hb_store.specs.Opening.{file_size};
+ghost use Rattle.hb_layout.specs.Offsets.{file_size};
 ghost use Rattle.hb_store.specs.Replaying.{HasLimits, HasReplayed, NamesBad, NamesBadOr, log_stop, replayed_of};
 ghost use Rattle.hb_store.specs.Stops.{ReadsLog, ReadsNoLog, IsTouched};
 ghost use Rattle.hb_store.specs.declared.touched.LogStop.TheVariants.{DiskFault};
 
-use crate::places::log_place;
 use crate::touched::{LogStop, ReplayStop, Touched};
 use hb_disk::Device;
+use hb_layout::log_start;
 use hb_ops::Meta;
 use hb_wal::{Payloads, ReadStop, read_area};
 use std::alloc::Global;
@@ -75,7 +75,7 @@ pub fn read_log<D: Device>(
     ensures no_fault { (IsErrOf result DiskFault → ⊥) → (D.model disk.new).read_faults ≡ (D.model disk.old).read_faults }
     ensures only_reads { OnlyReads (D.model disk.old) (D.model disk.new) }
 {
-    match read_area(alloc, disk, log_place(turn, meta), meta.log) {
+    match read_area(alloc, disk, log_start(turn, meta), meta.log) {
         Ok(payloads) => replayed(alloc, meta, &payloads),
         Err(ReadStop::BadFrame { frame, before }) => {
             let stop = before_bad(alloc, meta, frame, &before);

@@ -3,19 +3,20 @@ ghost use Rattle.hb_frag.specs.Leaves.{weight_of};
 ghost use Rattle.hb_ops.specs.Files.{if_live};
 ghost use Rattle.hb_ops.specs.Given.{given};
 ghost use Rattle.hb_ops.specs.Operations.{reads_of};
-ghost use Rattle.hb_store.specs.Groups.{FitsGroup, FitsOp};
-ghost use Rattle.hb_store.specs.GroupReading.{logged};
+ghost use Rattle.hb_log_codec.specs.Groups.{FitsGroup, FitsOp};
+ghost use Rattle.hb_log_codec.specs.Reading.{logged};
 ghost use Rattle.hb_store.specs.Opening.{IsBadPayload};
 ghost use Rattle.hb_store.specs.Replay.{MayFollow, IsAllowedIn, after_group, after_op, change_in, untouched};
-ghost use Rattle.hb_store.specs.Replaying.{AreItsPages, Follows, HasLimits, IsPageOf, replayed_of, with_pages};
+ghost use Rattle.hb_store.specs.Replaying.{AreItsPages, ComesAfter, Follows, HasLimits, IsPageOf, replayed_of, with_pages};
 ghost use Rattle.hb_store.specs.declared.touched.ReplayStop.TheVariants.{Unfit};
 
-use crate::group_reading::{GroupsStop, groups_of};
-use crate::groups::Group;
+use crate::making::what_is_made_can_be_written;
 use arrayvec::ArrayVec;
 use hb_frag::{LivePage, Page};
+use hb_log_codec::laws::groups_are_read_in_one_way;
+use hb_log_codec::{Group, GroupsError, decode_all};
 use hb_ops::{ChangeError, Changed, Meta, Op, change};
-use hb_page_codec::laws::{page_within_capacity_has_spelling, spelling_law};
+use hb_page_codec::laws::spelling_law;
 use hb_space::NoMemory;
 use std::alloc::Global;
 use std::collections::BTreeMap;
@@ -61,15 +62,15 @@ impl From<ChangeError> for ReplayStop {
     }
 }
 
-impl From<GroupsStop> for ReplayStop {
+impl From<GroupsError> for ReplayStop {
     ghost use Rattle.hb_store.specs.Replaying.{groups_stop};
 
     ghost from_gives = { λ e stop. stop ≡ groups_stop e };
 
-    fn from(stop: GroupsStop) -> ReplayStop {
+    fn from(stop: GroupsError) -> ReplayStop {
         match stop {
-            GroupsStop::BadBytes { .. } => ReplayStop::Unfit,
-            GroupsStop::NoMemory => ReplayStop::NoMemory,
+            GroupsError::BadBytes { .. } => ReplayStop::Unfit,
+            GroupsError::NoMemory => ReplayStop::NoMemory,
         }
     }
 }
@@ -185,9 +186,9 @@ impl Touched {
         ensures effect { OnOk result (replayed_of self.new ≡ after_group (replayed_of self.old) (logged group)) }
         ensures unfit { IsErrOf result Unfit → ¬ (MayFollow (replayed_of self.old) (logged group)) }
         ensures pages { OnOk result (AreItsPages (replayed_of self.new)) }
-        ensures meta { OnOk result (self.new.meta ≡ self.old.meta) }
+        ensures meta { OnOk result (ComesAfter self.old.meta self.new.meta) }
     {
-        page_within_capacity_has_spelling();
+        what_is_made_can_be_written();
         let Group { images, op } = group;
         if !self.has_all(images.as_slice()) {
             return Err(ReplayStop::Unfit);
@@ -206,10 +207,10 @@ impl Touched {
         ensures followed { OnOk result (Follows self.old.meta.k (replayed_of self.old) payload.now (replayed_of self.new)) }
         ensures unfit { IsErrOf result Unfit → IsBadPayload self.old.meta.k (replayed_of self.old) payload.now }
         ensures pages { OnOk result (AreItsPages (replayed_of self.new)) }
-        ensures meta { OnOk result (self.new.meta ≡ self.old.meta) }
+        ensures meta { OnOk result (ComesAfter self.old.meta self.new.meta) }
     {
-        spelling_law();
-        let groups = groups_of(alloc, payload, self.meta.k)?;
+        groups_are_read_in_one_way();
+        let groups = decode_all(alloc, payload, self.meta.k)?;
         for group in groups {
             self.follow(alloc, group)?;
         }
@@ -217,11 +218,14 @@ impl Touched {
     }
 }
 
-/// The number of the page that an operation reads.
+/// The number of the page that an operation reads. 0 where it reads none.
 fn page_read(op: &Op) -> u32
     ensures { result ≡ get_or (reads_of op.now) 0 0 }
 {
     match op {
         Op::Put { page, .. } | Op::Del { page, .. } => *page,
+        Op::Extract { source, .. } => *source,
+        Op::Post { parent, .. } => *parent,
+        Op::Grow { .. } => 0,
     }
 }

@@ -8,8 +8,9 @@ use Rattle.byteorder.specs.Endian.{big_number, big_bytes}
 use Rattle.byteorder.specs.Numbers.{big_number-reads_back}
 use Rattle.hb_outside.specs.Numbers.{big_endian}
 use Rattle.hb_space.specs.declared.form.TheConstants.{KMAX, ICAP_MIN}
-use Rattle.hb_ops.specs.declared.meta.Meta.{Meta}
-use Rattle.hb_super.specs.Superblocks.{IsLayout, FitsMarks, IsLegal, body_bytes}
+use Rattle.hb_layout.specs.declared.meta.Meta.{Meta}
+use Rattle.hb_layout.specs.Limits.{IsLayout}
+use Rattle.hb_super.specs.Superblocks.{FitsMarks, IsLegal, body_bytes}
 
 -- it holds, or it doesn't
 abbrev pub Known : Type 0 → Type 0

@@ -5,8 +5,9 @@ use Rattle.hb_disk.specs.Model.{DiskModel, IsDisk, overwritten, Torn}
 use Rattle.hb_disk.specs.Calls.{Writes, Leaves, Becomes, IsSynced, Apart, OnlyReads, open_gate}
 use Rattle.hb_disk.specs.TornLaws.{Torn-same, Torn-itself, Torn-elsewhere, overwritten-reads}
 use Rattle.hb_disk.specs.RunLaws.{some_same, at_value, of_value, if_value, told_written, part_of, Leaves-start, Leaves-read, Leaves-then, Leaves-weaker}
-use Rattle.hb_ops.specs.declared.meta.Meta.{Meta}
-use Rattle.hb_super.specs.Superblocks.{IsLegal, IsNewest, body_bytes, place_of, next_turn}
+use Rattle.hb_layout.specs.declared.meta.Meta.{Meta}
+use Rattle.hb_layout.specs.Offsets.{slot_offset}
+use Rattle.hb_super.specs.Superblocks.{IsLegal, IsNewest, body_bytes, next_turn}
 use Rattle.hb_super.specs.Moments.{HidesNoOther}
 use Rattle.hb_super.specs.Hidden.{DifferIs, OtherIs, HidesIs, ClearLeaves}
 use Rattle.hb_super.proofs.Supers.{gate_at, same_place, other_parity}
@@ -20,34 +21,34 @@ other_from true turn said meta gate body differ closed legal is = record { said 
 other_from false turn said meta gate body same closed legal is = λ _ m m_legal m_is. one_body turn m said m_legal legal (sym m_is ∙ is) ∙ same
 
 -- zeros are no body
-pub zeros_none : (bytes : List ℕ) (turn : ℕ) (meta : Meta) → 8192 ≤ length bytes → HidesNoOther (overwritten bytes (place_of turn + 1) (replicate 40 0)) turn meta
+pub zeros_none : (bytes : List ℕ) (turn : ℕ) (meta : Meta) → 8192 ≤ length bytes → HidesNoOther (overwritten bytes (slot_offset turn + 1) (replicate 40 0)) turn meta
 zeros_none bytes turn meta long = λ closed said legal is.
-    let fits : place_of turn + 1 + length {A = ℕ} (replicate 40 0) ≤ length bytes = omega (arith, long, place_fits turn) in
-    let reads : take 40 (drop (place_of turn + 1) (overwritten bytes (place_of turn + 1) (replicate 40 0))) ≡ replicate 40 0 = overwritten-reads bytes (place_of turn + 1) (replicate 40 0) fits in
+    let fits : slot_offset turn + 1 + length {A = ℕ} (replicate 40 0) ≤ length bytes = omega (arith, long, place_fits turn) in
+    let reads : take 40 (drop (slot_offset turn + 1) (overwritten bytes (slot_offset turn + 1) (replicate 40 0))) ≡ replicate 40 0 = overwritten-reads bytes (slot_offset turn + 1) (replicate 40 0) fits in
     let first : 0 ≡ 0x48 = ap (λ (l : List ℕ). get_or l 0 0) (sym reads ∙ is) in
     absurd (omega (arith, first))
 
 -- what a disk tells after the zeroing has no other body
-pub zeroed_hides : {T E : Type 0} (r : Result T E) (v : T) (d one : DiskModel) → IsDisk d → 8192 ≤ d.size → (turn : ℕ) → r ≡ Ok v → Writes (place_of turn + 1) (replicate 40 0) r d one
+pub zeroed_hides : {T E : Type 0} (r : Result T E) (v : T) (d one : DiskModel) → IsDisk d → 8192 ≤ d.size → (turn : ℕ) → r ≡ Ok v → Writes (slot_offset turn + 1) (replicate 40 0) r d one
     → (e : List ℕ) → one.told ≡ Some e → (meta : Meta) → HidesNoOther e turn meta
 zeroed_hides r v d one is_disk room turn ok writes e told meta = by_cases d.told refl
   where
     by_cases : (o : Option (List ℕ)) → d.told ≡ o → HidesNoOther e turn meta
     by_cases None none = absurd (cc (sym told ∙ writes.silent none))
     by_cases (Some b) was =
-        let zeroed = overwritten b (place_of turn + 1) (replicate 40 0) in
-        let written : one.told ≡ Some zeroed = told_written r v (place_of turn + 1) (replicate 40 0) d one b ok was writes in
+        let zeroed = overwritten b (slot_offset turn + 1) (replicate 40 0) in
+        let written : one.told ≡ Some zeroed = told_written r v (slot_offset turn + 1) (replicate 40 0) d one b ok was writes in
         subst (λ (l : List ℕ). HidesNoOther l turn meta) (some_same zeroed e (sym written ∙ told))
         (zeros_none b turn meta (omega (arith, is_disk.long b (is_disk.as_read b was), room)))
 
 -- the same place of lists that have the same in the first two pages
-place_part : (xs ys : List ℕ) → take 8192 (drop 0 xs) ≡ take 8192 (drop 0 ys) → (turn : ℕ) → take 41 (drop (place_of turn) xs) ≡ take 41 (drop (place_of turn) ys)
-place_part xs ys same turn = part_of 0 8192 (place_of turn) 41 xs ys (omega arith) (place_fits turn) same
+place_part : (xs ys : List ℕ) → take 8192 (drop 0 xs) ≡ take 8192 (drop 0 ys) → (turn : ℕ) → take 41 (drop (slot_offset turn) xs) ≡ take 41 (drop (slot_offset turn) ys)
+place_part xs ys same turn = part_of 0 8192 (slot_offset turn) 41 xs ys (omega arith) (place_fits turn) same
 
 -- its gate
-gate_part : (xs ys : List ℕ) → take 8192 (drop 0 xs) ≡ take 8192 (drop 0 ys) → (turn : ℕ) → get_or xs (place_of turn) 0 ≡ get_or ys (place_of turn) 0
+gate_part : (xs ys : List ℕ) → take 8192 (drop 0 xs) ≡ take 8192 (drop 0 ys) → (turn : ℕ) → get_or xs (slot_offset turn) 0 ≡ get_or ys (slot_offset turn) 0
 gate_part xs ys same turn =
-    sym (gate_at xs (place_of turn)) ∙ ap (λ (l : List ℕ). get_or l 0 0) (place_part xs ys same turn) ∙ gate_at ys (place_of turn)
+    sym (gate_at xs (slot_offset turn)) ∙ ap (λ (l : List ℕ). get_or l 0 0) (place_part xs ys same turn) ∙ gate_at ys (slot_offset turn)
 
 module _ (b : List ℕ) (old : ℕ) (said : Meta) (newest : IsNewest b old said) where
   pub newest_same : (c : List ℕ) → take 8192 (drop 0 c) ≡ take 8192 (drop 0 b) → IsNewest c old said
@@ -57,16 +58,16 @@ module _ (b : List ℕ) (old : ℕ) (said : Meta) (newest : IsNewest b old said)
   }
 
   module _ (turn : ℕ) (next : turn ≡ next_turn old) where
-    body_apart : Apart (place_of old) 41 (place_of turn + 1) 40
+    body_apart : Apart (slot_offset old) 41 (slot_offset turn + 1) 40
     body_apart = elim (places_apart turn old next) [ inl front ↦ inl (omega (arith, front)) | inr behind ↦ inr (omega (arith, behind)) ]
 
     -- what is torn behind a closed gate is no superblock
-    pub newest_torn : (c : List ℕ) → get_or b (place_of turn) 0 ≢ open_gate → Torn (place_of turn + 1) 40 b c → IsNewest c old said
+    pub newest_torn : (c : List ℕ) → get_or b (slot_offset turn) 0 ≢ open_gate → Torn (slot_offset turn + 1) 40 b c → IsNewest c old said
     newest_torn c closed torn = record {
-      there = same_place b c old said (Torn-elsewhere (place_of turn + 1) 40 (place_of old) 41 b c body_apart torn) newest.there;
+      there = same_place b c old said (Torn-elsewhere (slot_offset turn + 1) 40 (slot_offset old) 41 b c body_apart torn) newest.there;
       newer = λ other m has differs.
           let parity : turn % 2 ≡ other % 2 = other_parity turn old other (next_apart turn old next) differs in
-          absurd (closed (sym (Torn-same (place_of turn + 1) 40 b c torn (place_of turn) (inl (omega arith)))
+          absurd (closed (sym (Torn-same (slot_offset turn + 1) 40 b c torn (slot_offset turn) (inl (omega arith)))
           ∙ ap (λ (p : ℕ). get_or c (PAGE * p) 0) parity ∙ has.gate));
     }
 
@@ -82,13 +83,13 @@ module _ (d one : DiskModel) (is_disk : IsDisk d) (reads : OnlyReads d one) (old
   read_left = Leaves-read d d one Left (Leaves-start d Left is_disk (λ c image. record {
     base = c;
     image = image;
-    elsewhere = Torn-itself (place_of turn + 1) 40 c (is_disk.bytes c image);
+    elsewhere = Torn-itself (slot_offset turn + 1) 40 c (is_disk.bytes c image);
     newest = image_newest c image;
   })) reads.stays
 
-  pub clear_left : (new : DiskModel) → get_or b (place_of turn) 0 ≢ open_gate → Leaves one new (λ c. (a : List ℕ) × one.Image a × Torn (place_of turn + 1) 40 a c) → Leaves d new Left
+  pub clear_left : (new : DiskModel) → get_or b (slot_offset turn) 0 ≢ open_gate → Leaves one new (λ c. (a : List ℕ) × one.Image a × Torn (slot_offset turn + 1) 40 a c) → Leaves d new Left
   clear_left new closed run = Leaves-then d one new Left read_left
-      (Leaves-weaker one new (λ c. (a : List ℕ) × one.Image a × Torn (place_of turn + 1) 40 a c) Left (λ c from.
+      (Leaves-weaker one new (λ c. (a : List ℕ) × one.Image a × Torn (slot_offset turn + 1) 40 a c) Left (λ c from.
       let image : d.Image from.0 = reads.stays.image from.0 from.1 in
       record {
         base = from.0;
@@ -113,17 +114,17 @@ module _ (d one new : DiskModel) (is_disk : IsDisk d) (reads : OnlyReads d one) 
   cleared_nothing = if_value d.told (λ b. HidesNoOther b turn meta → OnlyReads d new) (λ b told none.
       let here = other b told in absurd (here.other (none here.closed here.said here.legal here.body_is)))
 
-  pub cleared_closed : IfSome d.told (λ b. (get_or b (place_of turn) 0 ≢ open_gate) ⊎ OnlyReads d new)
-  cleared_closed = if_value d.told (λ b. (get_or b (place_of turn) 0 ≢ open_gate) ⊎ OnlyReads d new) (λ b told. let here = other b told in inl here.closed)
+  pub cleared_closed : IfSome d.told (λ b. (get_or b (slot_offset turn) 0 ≢ open_gate) ⊎ OnlyReads d new)
+  cleared_closed = if_value d.told (λ b. (get_or b (slot_offset turn) 0 ≢ open_gate) ⊎ OnlyReads d new) (λ b told. let here = other b told in inl here.closed)
 
-  pub cleared_newest : Becomes (Torn (place_of turn + 1) 40) one new → (old : ℕ) (said : Meta) → turn ≡ next_turn old
+  pub cleared_newest : Becomes (Torn (slot_offset turn + 1) 40) one new → (old : ℕ) (said : Meta) → turn ≡ next_turn old
       → IfSome d.told (λ b. IsNewest b old said → IfSome new.told (λ c. IsNewest c old said))
   cleared_newest run old said next = if_value d.told (λ b. IsNewest b old said → IfSome new.told (λ c. IsNewest c old said)) (λ b told newest.
       let here = other b told in
-      let after = at_value one.told (λ b. (c : List ℕ) × (new.told ≡ Some c) × Torn (place_of turn + 1) 40 b c) b (reads.stays.told ∙ told) run.told in
+      let after = at_value one.told (λ b. (c : List ℕ) × (new.told ≡ Some c) × Torn (slot_offset turn + 1) 40 b c) b (reads.stays.told ∙ told) run.told in
       of_value new.told (λ c. IsNewest c old said) after.0 after.1 (newest_torn b old said newest turn next after.0 here.closed after.2))
 
-  pub cleared_moments : Leaves one new (λ c. (a : List ℕ) × one.Image a × Torn (place_of turn + 1) 40 a c) → (old : ℕ) (said : Meta) → turn ≡ next_turn old → IsSynced d 0 8192
+  pub cleared_moments : Leaves one new (λ c. (a : List ℕ) × one.Image a × Torn (slot_offset turn + 1) 40 a c) → (old : ℕ) (said : Meta) → turn ≡ next_turn old → IsSynced d 0 8192
       → IfSome d.told (λ b. IsNewest b old said → Leaves d new (ClearLeaves d old said turn))
   cleared_moments run old said next synced = if_value d.told (λ b. IsNewest b old said → Leaves d new (ClearLeaves d old said turn)) (λ b told newest.
       let here = other b told in

@@ -3,8 +3,9 @@ use Rattle.std.proofs.Common.{◌≡◌, ◌≢◌, inr, ℕ, ◌≤◌, List, �
 use Rattle.hb_disk.specs.Model.{overwritten}
 use Rattle.hb_disk.specs.Calls.{open_gate}
 use Rattle.hb_disk.specs.TornLaws.{overwritten-outside}
-use Rattle.hb_ops.specs.declared.meta.Meta.{Meta}
-use Rattle.hb_super.specs.Superblocks.{IsLegal, IsNewest, body_bytes, place_of}
+use Rattle.hb_layout.specs.declared.meta.Meta.{Meta}
+use Rattle.hb_layout.specs.Offsets.{slot_offset}
+use Rattle.hb_super.specs.Superblocks.{IsLegal, IsNewest, body_bytes}
 use Rattle.hb_super.proofs.Supers.{alone}
 use Rattle.hb_super.proofs.Writes.{framed_super, frame_long}
 
@@ -17,5 +18,5 @@ first_newest b meta legal long closed =
     let frame_is : length (open_gate ∷ body_bytes 0 meta) ≡ 41 = frame_long 0 meta in
     let kept : get_or c 4096 0 ≡ get_or b 4096 0 = overwritten-outside b 0 frame (omega (arith, frame_is, long)) 4096 (inr (omega (arith, frame_is))) in
     alone c 0 meta (framed_super b 0 meta legal long) (λ s n has differs.
-    let here : place_of s ≡ 4096 = omega (arith, differs) in
+    let here : slot_offset s ≡ 4096 = omega (arith, differs) in
     closed (sym kept ∙ ap (λ (at : ℕ). get_or c at 0) (sym here) ∙ has.gate))

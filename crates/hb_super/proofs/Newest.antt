@@ -5,7 +5,7 @@ use Rattle.std.proofs.lemmas.Bool.{cases_Bool, eqb-true, eqb-false}
 use Rattle.hb_outside.specs.Numbers.{big_endian}
 use Rattle.hb_space.specs.declared.form.TheConstants.{PAGE}
 use Rattle.hb_disk.specs.Calls.{open_gate}
-use Rattle.hb_ops.specs.declared.meta.Meta.{Meta}
+use Rattle.hb_layout.specs.declared.meta.Meta.{Meta}
 use Rattle.hb_super.specs.Superblocks.{IsLegal, HasSuper, IsNewest, HasNone, body_bytes, next_turn}
 use Rattle.hb_super.specs.SuperLaws.{OneNewest}
 use Rattle.hb_super.proofs.Supers.{same_turn, after_other, alone}

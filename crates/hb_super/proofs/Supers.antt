@@ -2,12 +2,13 @@
 use Rattle.std.proofs.Common.{◌≡◌, ◌≢◌, ℕ, ◌+◌, ◌*◌, ◌%◌, ◌<◌, ◌≤◌, List, length, take, drop, get_or, Option, Some, None, sym, ap, ◌∙◌, arith, length-take, length-drop}
 use Rattle.std.proofs.lemmas.List.{get_or-take, get_or-drop, drop-take, drop-drop}
 use Rattle.hb_space.specs.declared.form.TheConstants.{PAGE}
-use Rattle.hb_ops.specs.declared.meta.Meta.{Meta}
-use Rattle.hb_super.specs.Superblocks.{HasSuper, IsNewest, place_of, next_turn}
+use Rattle.hb_layout.specs.declared.meta.Meta.{Meta}
+use Rattle.hb_layout.specs.Offsets.{slot_offset}
+use Rattle.hb_super.specs.Superblocks.{HasSuper, IsNewest, next_turn}
 use Rattle.hb_super.specs.Reading.{IsOf, Stands, NewestIs}
 
 -- the turn stands in the body
-pub turn_of : (bytes : List ℕ) (turn : ℕ) (meta : Meta) → HasSuper bytes turn meta → get_or (take 40 (drop (place_of turn + 1) bytes)) 9 0 ≡ turn
+pub turn_of : (bytes : List ℕ) (turn : ℕ) (meta : Meta) → HasSuper bytes turn meta → get_or (take 40 (drop (slot_offset turn + 1) bytes)) 9 0 ≡ turn
 turn_of bytes turn meta has = ap (λ (l : List ℕ). get_or l 9 0) has.body
 
 -- a place has one turn
@@ -58,36 +59,36 @@ module _ (bytes : List ℕ) (at : ℕ) where
   body_at = drop-take 1 40 (drop at bytes) ∙ ap (λ (l : List ℕ). take 40 l) (drop-drop 1 at bytes)
 
 -- A superblock stands in each list of bytes that has the same in its place.
-pub same_place : (xs ys : List ℕ) (turn : ℕ) (meta : Meta) → take 41 (drop (place_of turn) ys) ≡ take 41 (drop (place_of turn) xs) → HasSuper xs turn meta → HasSuper ys turn meta
+pub same_place : (xs ys : List ℕ) (turn : ℕ) (meta : Meta) → take 41 (drop (slot_offset turn) ys) ≡ take 41 (drop (slot_offset turn) xs) → HasSuper xs turn meta → HasSuper ys turn meta
 same_place xs ys turn meta same has = record {
   legal = has.legal;
-  gate = sym (gate_at ys (place_of turn)) ∙ ap (λ (l : List ℕ). get_or l 0 0) same ∙ gate_at xs (place_of turn) ∙ has.gate;
-  body = sym (body_at ys (place_of turn)) ∙ ap (λ (l : List ℕ). drop 1 l) same ∙ body_at xs (place_of turn) ∙ has.body;
+  gate = sym (gate_at ys (slot_offset turn)) ∙ ap (λ (l : List ℕ). get_or l 0 0) same ∙ gate_at xs (slot_offset turn) ∙ has.gate;
+  body = sym (body_at ys (slot_offset turn)) ∙ ap (λ (l : List ℕ). drop 1 l) same ∙ body_at xs (slot_offset turn) ∙ has.body;
 }
 
 -- What the first bytes of a place are of stands in it.
 module _ (bytes : List ℕ) (long : 8192 ≤ length bytes) (place : ℕ) (of_two : place < 2) where
   abbrev head : List ℕ
-  head = take 41 (drop (place_of place) bytes)
+  head = take 41 (drop (slot_offset place) bytes)
 
   head_long : length head ≡ 41
-  head_long = omega (arith, length-take 41 (drop (place_of place) bytes), length-drop (place_of place) bytes, long, of_two)
+  head_long = omega (arith, length-take 41 (drop (slot_offset place) bytes), length-drop (slot_offset place) bytes, long, of_two)
 
-  place_same : (turn : ℕ) → turn % 2 ≡ place → place_of turn ≡ place_of place
+  place_same : (turn : ℕ) → turn % 2 ≡ place → slot_offset turn ≡ slot_offset place
   place_same turn here = omega (arith, here, of_two)
 
   pub stands : (found : Option (ℕ × Meta)) → IsOf place found head → Stands place found bytes
   stands None none = λ turn meta has here. none turn meta (record {
     legal = has.legal;
     here = here;
-    gate = gate_at bytes (place_of place) ∙ ap (λ (i : ℕ). get_or bytes i 0) (sym (place_same turn here)) ∙ has.gate;
-    body = body_at bytes (place_of place) ∙ ap (λ (i : ℕ). take 40 (drop (i + 1) bytes)) (sym (place_same turn here)) ∙ has.body;
+    gate = gate_at bytes (slot_offset place) ∙ ap (λ (i : ℕ). get_or bytes i 0) (sym (place_same turn here)) ∙ has.gate;
+    body = body_at bytes (slot_offset place) ∙ ap (λ (i : ℕ). take 40 (drop (i + 1) bytes)) (sym (place_same turn here)) ∙ has.body;
   })
   stands (Some said) is = (
     record {
       legal = is.legal;
-      gate = ap (λ (i : ℕ). get_or bytes i 0) (place_same said.0 is.here) ∙ sym (gate_at bytes (place_of place)) ∙ is.gate;
-      body = ap (λ (i : ℕ). take 40 (drop (i + 1) bytes)) (place_same said.0 is.here) ∙ sym (body_at bytes (place_of place)) ∙ is.body;
+      gate = ap (λ (i : ℕ). get_or bytes i 0) (place_same said.0 is.here) ∙ sym (gate_at bytes (slot_offset place)) ∙ is.gate;
+      body = ap (λ (i : ℕ). take 40 (drop (i + 1) bytes)) (place_same said.0 is.here) ∙ sym (body_at bytes (slot_offset place)) ∙ is.body;
     },
     is.here,
   )

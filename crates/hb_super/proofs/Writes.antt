@@ -8,8 +8,9 @@ use Rattle.hb_disk.specs.Model.{DiskModel, IsDisk, overwritten, Torn}
 use Rattle.hb_disk.specs.Calls.{Ticks, Writes, Syncs, Leaves, Becomes, IsSynced, FrameOrNot, Apart, open_gate}
 use Rattle.hb_disk.specs.TornLaws.{cases_range, Torn-itself, Torn-wider, Torn-twice, Torn-elsewhere, length-overwritten, overwritten-inside, overwritten-outside, overwritten-reads}
 use Rattle.hb_disk.specs.RunLaws.{some_same, some_value, at_value, has_value, told_written, only_told, part_of, Leaves-start, Leaves-call, Leaves-weaker, Leaves-then, Becomes-torn, Becomes-torn_write, Becomes-torn_sync}
-use Rattle.hb_ops.specs.declared.meta.Meta.{Meta}
-use Rattle.hb_super.specs.Superblocks.{IsLegal, HasSuper, IsNewest, body_bytes, place_of, next_turn}
+use Rattle.hb_layout.specs.declared.meta.Meta.{Meta}
+use Rattle.hb_layout.specs.Offsets.{slot_offset}
+use Rattle.hb_super.specs.Superblocks.{IsLegal, HasSuper, IsNewest, body_bytes, next_turn}
 use Rattle.hb_super.specs.Moments.{WriteLeaves, IsUncovered}
 use Rattle.hb_super.proofs.Supers.{gate_at, body_at, same_place, after_other}
 use Rattle.hb_super.proofs.Bodies.{known_body}
@@ -27,14 +28,14 @@ pub frame_long : (turn : ℕ) (meta : Meta) → length (open_gate ∷ body_bytes
 frame_long turn meta = omega (arith, body_long turn meta)
 
 -- a place lies in the first two pages
-pub place_fits : (turn : ℕ) → place_of turn + 41 ≤ 8192
+pub place_fits : (turn : ℕ) → slot_offset turn + 41 ≤ 8192
 place_fits turn = omega arith
 
 -- the places of a turn and the next
 pub next_apart : (turn old : ℕ) → turn ≡ next_turn old → turn % 2 ≢ old % 2
 next_apart turn old next = omega (arith, next)
 
-pub places_apart : (turn old : ℕ) → turn ≡ next_turn old → Apart (place_of old) 41 (place_of turn) 41
+pub places_apart : (turn old : ℕ) → turn ≡ next_turn old → Apart (slot_offset old) 41 (slot_offset turn) 41
 places_apart turn old next = elim (cases_Bool (eqb (old % 2) 0)) [
   | inl even ↦ inl (omega (arith, next, eqb-true (old % 2) 0 even))
   | inr odd ↦ inr (omega (arith, next, eqb-false (old % 2) 0 odd))
@@ -52,41 +53,41 @@ module _ (bytes : List ℕ) (turn : ℕ) (meta : Meta) (legal : IsLegal turn met
   abbrev frame : List ℕ
   frame = open_gate ∷ body_bytes turn meta
 
-  fits : place_of turn + length frame ≤ length bytes
+  fits : slot_offset turn + length frame ≤ length bytes
   fits = omega (arith, long, frame_long turn meta, place_fits turn)
 
-  pub framed_super : HasSuper (overwritten bytes (place_of turn) frame) turn meta
+  pub framed_super : HasSuper (overwritten bytes (slot_offset turn) frame) turn meta
   framed_super =
-      let whole = overwritten bytes (place_of turn) frame in
-      let read : take 41 (drop (place_of turn) whole) ≡ frame =
-      ap (λ (n : ℕ). take n (drop (place_of turn) whole)) (sym (frame_long turn meta)) ∙ overwritten-reads bytes (place_of turn) frame fits in
+      let whole = overwritten bytes (slot_offset turn) frame in
+      let read : take 41 (drop (slot_offset turn) whole) ≡ frame =
+      ap (λ (n : ℕ). take n (drop (slot_offset turn) whole)) (sym (frame_long turn meta)) ∙ overwritten-reads bytes (slot_offset turn) frame fits in
       record {
         legal = legal;
-        gate = sym (gate_at whole (place_of turn)) ∙ ap (λ (l : List ℕ). get_or l 0 0) read;
-        body = sym (body_at whole (place_of turn)) ∙ ap (λ (l : List ℕ). drop 1 l) read;
+        gate = sym (gate_at whole (slot_offset turn)) ∙ ap (λ (l : List ℕ). get_or l 0 0) read;
+        body = sym (body_at whole (slot_offset turn)) ∙ ap (λ (l : List ℕ). drop 1 l) read;
       }
 
   -- the closed gate is overwritten too
-  pub overwritten_again : overwritten (overwritten bytes (place_of turn) (0 ∷ [])) (place_of turn) frame ≡ overwritten bytes (place_of turn) frame
+  pub overwritten_again : overwritten (overwritten bytes (slot_offset turn) (0 ∷ [])) (slot_offset turn) frame ≡ overwritten bytes (slot_offset turn) frame
   overwritten_again =
-      let closed = overwritten bytes (place_of turn) (0 ∷ []) in
-      let one_fits : place_of turn + length {A = ℕ} (0 ∷ []) ≤ length bytes = omega (arith, fits) in
-      let as_long : length closed ≡ length bytes = length-overwritten bytes (place_of turn) (0 ∷ []) one_fits in
-      let still : place_of turn + length frame ≤ length closed = omega (arith, as_long, fits) in
-      ext_get_or 0 (overwritten closed (place_of turn) frame) (overwritten bytes (place_of turn) frame)
-      (length-overwritten closed (place_of turn) frame still ∙ as_long ∙ sym (length-overwritten bytes (place_of turn) frame fits))
-      (λ i h. elim (cases_range (place_of turn) (length frame) i) [
-        | inl within ↦ overwritten-inside closed (place_of turn) frame still i within.0 within.1 ∙ sym (overwritten-inside bytes (place_of turn) frame fits i within.0 within.1)
+      let closed = overwritten bytes (slot_offset turn) (0 ∷ []) in
+      let one_fits : slot_offset turn + length {A = ℕ} (0 ∷ []) ≤ length bytes = omega (arith, fits) in
+      let as_long : length closed ≡ length bytes = length-overwritten bytes (slot_offset turn) (0 ∷ []) one_fits in
+      let still : slot_offset turn + length frame ≤ length closed = omega (arith, as_long, fits) in
+      ext_get_or 0 (overwritten closed (slot_offset turn) frame) (overwritten bytes (slot_offset turn) frame)
+      (length-overwritten closed (slot_offset turn) frame still ∙ as_long ∙ sym (length-overwritten bytes (slot_offset turn) frame fits))
+      (λ i h. elim (cases_range (slot_offset turn) (length frame) i) [
+        | inl within ↦ overwritten-inside closed (slot_offset turn) frame still i within.0 within.1 ∙ sym (overwritten-inside bytes (slot_offset turn) frame fits i within.0 within.1)
         | inr outside ↦
-            overwritten-outside closed (place_of turn) frame still i outside
-            ∙ overwritten-outside bytes (place_of turn) (0 ∷ []) one_fits i (elim outside [ inl front ↦ inl front | inr behind ↦ inr (omega (arith, behind)) ])
-            ∙ sym (overwritten-outside bytes (place_of turn) frame fits i outside)
+            overwritten-outside closed (slot_offset turn) frame still i outside
+            ∙ overwritten-outside bytes (slot_offset turn) (0 ∷ []) one_fits i (elim outside [ inl front ↦ inl front | inr behind ↦ inr (omega (arith, behind)) ])
+            ∙ sym (overwritten-outside bytes (slot_offset turn) frame fits i outside)
       ])
 
-  pub closed_gate : get_or (overwritten bytes (place_of turn) (0 ∷ [])) (place_of turn) 0 ≡ 0
+  pub closed_gate : get_or (overwritten bytes (slot_offset turn) (0 ∷ [])) (slot_offset turn) 0 ≡ 0
   closed_gate =
-      overwritten-inside bytes (place_of turn) (0 ∷ []) (omega (arith, fits)) (place_of turn) (omega arith) (omega arith)
-      ∙ ap (λ (i : ℕ). get_or (0 ∷ []) i 0) (none_left (place_of turn))
+      overwritten-inside bytes (slot_offset turn) (0 ∷ []) (omega (arith, fits)) (slot_offset turn) (omega arith) (omega arith)
+      ∙ ap (λ (i : ℕ). get_or (0 ∷ []) i 0) (none_left (slot_offset turn))
     where
       none_left : (i : ℕ) → i - i ≡ 0
       none_left i = omega arith
@@ -99,7 +100,7 @@ still_tells at n d new b told run =
 
 module _ (d : DiskModel) (is_disk : IsDisk d) (room : 8192 ≤ d.size) (turn : ℕ) (meta : Meta) (legal : IsLegal turn meta) where
   abbrev place : ℕ
-  place = place_of turn
+  place = slot_offset turn
 
   abbrev body : List ℕ
   body = body_bytes turn meta
@@ -118,7 +119,7 @@ module _ (d : DiskModel) (is_disk : IsDisk d) (room : 8192 ≤ d.size) (turn : �
     old_there : (a c : List ℕ) → d.Image a → Torn place 41 a c → HasSuper c old said
     old_there a c image torn =
         same_place b c old said
-        (Torn-elsewhere place 41 (place_of old) 41 a c (places_apart turn old next) torn ∙ image_part a image (place_of old) 41 (place_fits old))
+        (Torn-elsewhere place 41 (slot_offset old) 41 a c (places_apart turn old next) torn ∙ image_part a image (slot_offset old) 41 (place_fits old))
         newest.there
 
     -- the old one is the newest where the other place has none of the new turn
@@ -252,5 +253,5 @@ module _ (d : DiskModel) (is_disk : IsDisk d) (room : 8192 ≤ d.size) (turn : �
       let torn : Torn place 41 b c = subst (λ (l : List ℕ). Torn place 41 b l) same after.2 in
       after_other c turn old meta said
       (framed_super b turn meta legal (long b (is_disk.as_read b told)))
-      (same_place b c old said (Torn-elsewhere place 41 (place_of old) 41 b c (places_apart turn old next) torn) newest.there)
+      (same_place b c old said (Torn-elsewhere place 41 (slot_offset old) 41 b c (places_apart turn old next) torn) newest.there)
       (next_apart turn old next) next

@@ -2,8 +2,9 @@
 use Rattle.std.specs.Prelude.{◌≡◌, ◌≢◌, ℕ, ◌+◌, List, take, drop, get_or, Bool, true, false, Option, Some, None}
 use Rattle.hb_disk.specs.Model.{DiskModel, Torn}
 use Rattle.hb_disk.specs.Calls.{open_gate}
-use Rattle.hb_ops.specs.declared.meta.Meta.{Meta}
-use Rattle.hb_super.specs.Superblocks.{IsLegal, IsNewest, body_bytes, place_of}
+use Rattle.hb_layout.specs.declared.meta.Meta.{Meta}
+use Rattle.hb_layout.specs.Offsets.{slot_offset}
+use Rattle.hb_super.specs.Superblocks.{IsLegal, IsNewest, body_bytes}
 use Rattle.hb_super.specs.Moments.{NoOther}
 
 -- what a legal body of this turn says, or that the bytes are none
@@ -31,11 +32,11 @@ OtherIs false = NoOther
 
 -- whether the place of this turn hides another body of the turn
 abbrev pub HidesIs : Bool → List ℕ → ℕ → Meta → Type 0
-HidesIs hides bytes turn meta = OtherIs hides turn meta (get_or bytes (place_of turn) 0) (take 40 (drop (place_of turn + 1) bytes))
+HidesIs hides bytes turn meta = OtherIs hides turn meta (get_or bytes (slot_offset turn) 0) (take 40 (drop (slot_offset turn + 1) bytes))
 
 -- Bytes that a crash could leave before, but for the body of this turn's place; and the old superblock is the newest.
 pub record ClearLeaves (d : DiskModel) (old : ℕ) (said : Meta) (turn : ℕ) (c : List ℕ) : Type 0 where
   pub base : List ℕ
   pub image : d.Image base
-  pub elsewhere : Torn (place_of turn + 1) 40 base c
+  pub elsewhere : Torn (slot_offset turn + 1) 40 base c
   pub newest : IsNewest c old said

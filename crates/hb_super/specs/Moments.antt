@@ -2,14 +2,15 @@
 use Rattle.std.specs.Prelude.{◌≡◌, ◌≢◌, ◌⊎◌, ℕ, ◌+◌, List, take, drop, get_or}
 use Rattle.hb_disk.specs.Model.{DiskModel, Torn}
 use Rattle.hb_disk.specs.Calls.{open_gate}
-use Rattle.hb_ops.specs.declared.meta.Meta.{Meta}
-use Rattle.hb_super.specs.Superblocks.{IsLegal, IsNewest, body_bytes, place_of}
+use Rattle.hb_layout.specs.declared.meta.Meta.{Meta}
+use Rattle.hb_layout.specs.Offsets.{slot_offset}
+use Rattle.hb_super.specs.Superblocks.{IsLegal, IsNewest, body_bytes}
 
 -- The gate stood closed over a body of this turn, as a write that was cut short leaves it, and the crash tore it open.
 pub record IsUncovered (before : List ℕ) (turn : ℕ) (c : List ℕ) : Type 0 where
   pub said : Meta
-  pub closed : get_or before (place_of turn) 0 ≢ open_gate
-  pub body : take 40 (drop (place_of turn + 1) before) ≡ body_bytes turn said
+  pub closed : get_or before (slot_offset turn) 0 ≢ open_gate
+  pub body : take 40 (drop (slot_offset turn + 1) before) ≡ body_bytes turn said
   pub newest : IsNewest c turn said
 
 -- A list of bytes that a crash could leave before, but for the place of this turn; and its newest superblock is the old
@@ -17,7 +18,7 @@ pub record IsUncovered (before : List ℕ) (turn : ℕ) (c : List ℕ) : Type 0 
 pub record WriteLeaves (d : DiskModel) (before : List ℕ) (old : ℕ) (said : Meta) (turn : ℕ) (meta : Meta) (c : List ℕ) : Type 0 where
   pub base : List ℕ
   pub image : d.Image base
-  pub elsewhere : Torn (place_of turn) 41 base c
+  pub elsewhere : Torn (slot_offset turn) 41 base c
   pub newest : IsNewest c old said ⊎ IsNewest c turn meta ⊎ IsUncovered before turn c
 
 -- A gate that is closed has no other body of this turn behind it than the one that says this.
@@ -26,4 +27,4 @@ NoOther turn meta gate body = gate ≢ open_gate → (said : Meta) → IsLegal t
 
 -- Behind a closed gate the place of this turn has no other body of the turn than the one that says this.
 abbrev pub HidesNoOther : List ℕ → ℕ → Meta → Type 0
-HidesNoOther before turn meta = NoOther turn meta (get_or before (place_of turn) 0) (take 40 (drop (place_of turn + 1) before))
+HidesNoOther before turn meta = NoOther turn meta (get_or before (slot_offset turn) 0) (take 40 (drop (slot_offset turn + 1) before))

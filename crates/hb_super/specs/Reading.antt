@@ -1,7 +1,7 @@
 -- What reading the superblocks tells.
 use Rattle.std.specs.Prelude.{◌≡◌, ◌≢◌, ℕ, ◌%◌, List, drop, get_or, Option, Some, None}
 use Rattle.hb_disk.specs.Calls.{open_gate}
-use Rattle.hb_ops.specs.declared.meta.Meta.{Meta}
+use Rattle.hb_layout.specs.declared.meta.Meta.{Meta}
 use Rattle.hb_super.specs.Superblocks.{IsLegal, HasSuper, IsNewest, HasNone, body_bytes}
 
 -- The first 41 bytes of a place are an open gate over the legal body of this turn, which belongs there.

@@ -1,6 +1,6 @@
 -- Words of the laws of superblocks.
 use Rattle.std.specs.Prelude.{ℕ, List}
-use Rattle.hb_ops.specs.declared.meta.Meta.{Meta}
+use Rattle.hb_layout.specs.declared.meta.Meta.{Meta}
 use Rattle.hb_super.specs.Superblocks.{IsNewest}
 
 -- a superblock is the newest

@@ -1,12 +1,12 @@
 //! The body of a superblock as bytes.
 ghost use Rattle.std.specs.Prelude.{◌≡◌, ℕ, ◌+◌, ◌<◌, ◌≤◌, ◌^◌, List, length, get_or, IsTrue, slice_range};
 ghost use Rattle.hb_outside.specs.Numbers.{big_endian};
-ghost use Rattle.hb_ops.specs.declared.meta.Meta.{Meta as Said};
-ghost use Rattle.hb_super.specs.Superblocks.{IsLayout, IsLegal, FitsMarks, body_bytes};
+ghost use Rattle.hb_layout.specs.declared.meta.Meta.{Meta as Said};
+ghost use Rattle.hb_super.specs.Superblocks.{IsLegal, FitsMarks, body_bytes};
 
-use hb_ops::Meta;
+use hb_layout::Meta;
 use hb_outside::{give_u16, give_u32, take_u16, take_u32};
-use hb_space::form::{ICAP_MIN, KMAX, VERSION};
+use hb_space::form::VERSION;
 
 /// Bytes of a body.
 pub(crate) const BODY: usize = 40;
@@ -70,23 +70,4 @@ fn u16_at(bytes: &[u8], at: usize) -> u16
     ensures { (n : ℕ) → n < 2 ^ 16 → slice_range bytes.now at (at + 2) ≡ big_endian 2 n → result ≡ n }
 {
     take_u16(bytes, at).unwrap()
-}
-
-/// Whether a file may be so.
-pub(crate) fn is_layout(meta: &Meta) -> bool
-    ensures within { IsTrue result → IsLayout meta.now }
-    ensures only { IsLayout meta.now → IsTrue result }
-{
-    1 <= meta.k
-        && usize::from(meta.k) <= KMAX
-        && 1 <= meta.pages
-        && meta.pages <= 65536
-        && 65536 <= meta.log
-        && meta.log <= 67_108_864
-        && 6 <= meta.dcap
-        && meta.dcap <= 48
-        && ICAP_MIN <= meta.icap
-        && meta.icap <= 256
-        && 1 <= meta.height
-        && meta.height <= 12
 }

@@ -4,15 +4,15 @@ ghost use Rattle.hb_space.specs.declared.form.TheConstants.{PAGE};
 ghost use Rattle.hb_outside.specs.Streams.{Rose};
 ghost use Rattle.hb_disk.specs.Model.{Torn, Stays};
 ghost use Rattle.hb_disk.specs.Calls.{Leaves, WriteFaults, Becomes, IsSynced, OnlyReads, open_gate};
-ghost use Rattle.hb_ops.specs.declared.meta.Meta.{Meta as Said};
-ghost use Rattle.hb_super.specs.Superblocks.{IsLegal, IsNewest, place_of, next_turn};
+ghost use Rattle.hb_layout.specs.declared.meta.Meta.{Meta as Said};
+ghost use Rattle.hb_layout.specs.Offsets.{slot_offset};
+ghost use Rattle.hb_super.specs.Superblocks.{IsLegal, IsNewest, next_turn};
 ghost use Rattle.hb_super.specs.Moments.{HidesNoOther};
 ghost use Rattle.hb_super.specs.Hidden.{SaysOf, DifferIs, OtherIs, HidesIs, ClearLeaves};
 
-use crate::body::{BODY, body_of, fields_of, is_layout};
-use crate::reading::place_at;
+use crate::body::{BODY, body_of, fields_of};
 use hb_disk::{Device, DiskFault, OPEN};
-use hb_ops::Meta;
+use hb_layout::{Meta, slot_offset};
 use hb_outside::Failed;
 
 /// What a body of the turn says. None: it is no legal body of this turn.
@@ -22,7 +22,7 @@ fn said_in(body: &[u8], turn: u8) -> Option<Meta>
     ensures { SaysOf turn result body.now }
 {
     let (found, said) = fields_of(body);
-    if found == turn && is_layout(&said) && body == body_of(turn, &said).as_slice() {
+    if found == turn && said.is_layout() && body == body_of(turn, &said).as_slice() {
         Some(said)
     } else {
         None
@@ -58,7 +58,7 @@ fn hides_other<D: Device>(disk: &mut D, turn: u8, meta: &Meta) -> Result<bool, F
     ensures only_reads { OnlyReads (D.model disk.old) (D.model disk.new) }
 {
     let mut bytes = [0; 1 + BODY];
-    disk.read(place_at(turn), &mut bytes)?;
+    disk.read(slot_offset(turn), &mut bytes)?;
     Ok(is_other(&bytes, turn, meta))
 }
 
@@ -69,12 +69,12 @@ fn zero_body<D: Device>(disk: &mut D, turn: u8) -> Result<(), Failed>
     ensures durable { OnOk result (IfSome (D.model disk.new).told
         (λ b. (c : List ℕ) → (D.model disk.new).Image c → c ≡ b)) }
     ensures moments { Leaves (D.model disk.old) (D.model disk.new)
-        (λ c. (a : List ℕ) × (D.model disk.old).Image a × Torn (place_of turn + 1) 40 a c) }
-    ensures place { Becomes (Torn (place_of turn + 1) 40) (D.model disk.old) (D.model disk.new) }
+        (λ c. (a : List ℕ) × (D.model disk.old).Image a × Torn (slot_offset turn + 1) 40 a c) }
+    ensures place { Becomes (Torn (slot_offset turn + 1) 40) (D.model disk.old) (D.model disk.new) }
     ensures clock { IsSome (D.model disk.old).told → (D.model disk.new).clock ≤ (D.model disk.old).clock + 2 }
     ensures faults { WriteFaults result (D.model disk.old) (D.model disk.new) }
 {
-    disk.zero(place_at(turn) + 1, BODY as u64)?;
+    disk.zero(slot_offset(turn) + 1, BODY as u64)?;
     disk.sync()
 }
 
@@ -90,8 +90,8 @@ pub fn clear_hidden<D: Device>(disk: &mut D, turn: u8, meta: &Meta) -> Result<()
     ensures nothing { IfSome (D.model disk.old).told (λ b.
         HidesNoOther b turn meta.now → OnlyReads (D.model disk.old) (D.model disk.new)) }
     ensures closed { IfSome (D.model disk.old).told (λ b.
-        (get_or b (place_of turn) 0 ≢ open_gate) ⊎ OnlyReads (D.model disk.old) (D.model disk.new)) }
-    ensures place { Becomes (Torn (place_of turn + 1) 40) (D.model disk.old) (D.model disk.new) }
+        (get_or b (slot_offset turn) 0 ≢ open_gate) ⊎ OnlyReads (D.model disk.old) (D.model disk.new)) }
+    ensures place { Becomes (Torn (slot_offset turn + 1) 40) (D.model disk.old) (D.model disk.new) }
     ensures moments { (old : ℕ) (said : Said) → turn ≡ next_turn old → IsSynced (D.model disk.old) 0 (2 * PAGE) →
         IfSome (D.model disk.old).told (λ b. IsNewest b old said →
         Leaves (D.model disk.old) (D.model disk.new) (ClearLeaves (D.model disk.old) old said turn)) }

@@ -1,6 +1,6 @@
 //! What follows of superblocks from their definitions alone.
 ghost use Rattle.std.specs.Prelude.{◌≡◌, ◌≢◌, ◌⊎◌, ℕ, ◌%◌, ◌≤◌, List};
-ghost use Rattle.hb_ops.specs.declared.meta.Meta.{Meta as Said};
+ghost use Rattle.hb_layout.specs.declared.meta.Meta.{Meta as Said};
 ghost use Rattle.hb_super.specs.Superblocks.{HasSuper, IsNewest, HasNone, next_turn};
 ghost use Rattle.hb_super.specs.Moments.{IsUncovered, HidesNoOther};
 ghost use Rattle.hb_super.specs.SuperLaws.{OneNewest};

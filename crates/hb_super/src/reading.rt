@@ -2,16 +2,17 @@ ghost use Rattle.std.specs.Prelude.{◌≡◌, ℕ, ◌+◌, ◌*◌, ◌%◌, �
 ghost use Rattle.hb_space.specs.declared.form.TheConstants.{PAGE};
 ghost use Rattle.hb_outside.specs.Streams.{Rose};
 ghost use Rattle.hb_disk.specs.Calls.{OnlyReads};
-ghost use Rattle.hb_ops.specs.declared.meta.Meta.{Meta as Said};
+ghost use Rattle.hb_layout.specs.declared.meta.Meta.{Meta as Said};
 ghost use Rattle.hb_super.specs.declared.reading.SuperStop.TheVariants.{NoSuper, DiskFault};
-ghost use Rattle.hb_super.specs.Superblocks.{IsLayout, IsLegal, IsNewest, HasNone, place_of, next_turn};
+ghost use Rattle.hb_layout.specs.Limits.{IsLayout};
+ghost use Rattle.hb_layout.specs.Offsets.{slot_offset};
+ghost use Rattle.hb_super.specs.Superblocks.{IsLegal, IsNewest, HasNone, next_turn};
 ghost use Rattle.hb_super.specs.Reading.{IsOf, Stands, NewestIs, MayBeLegal};
 
-use crate::body::{BODY, body_of, fields_of, is_layout};
+use crate::body::{BODY, body_of, fields_of};
 use hb_disk::{Device, OPEN};
-use hb_ops::Meta;
+use hb_layout::{Meta, slot_offset};
 use hb_outside::Failed;
-use hb_space::form::PAGE;
 
 /// Why no superblock was read.
 #[derive(Clone, Copy, Debug, PartialEq, Eq)]
@@ -33,19 +34,12 @@ impl From<Failed> for SuperStop {
     }
 }
 
-/// Where the place of a turn begins.
-pub(crate) fn place_at(turn: u8) -> u64
-    ensures { result ≡ place_of turn }
-{
-    PAGE as u64 * u64::from(turn % 2)
-}
-
 /// Whether a turn may stand in a place with a legal layout.
 fn belongs(turn: u8, place: u8, meta: &Meta) -> bool
     ensures within { IsTrue result → (turn ≤ 3) × (turn % 2 ≡ place) × IsLayout meta.now }
     ensures only { turn ≤ 3 → turn % 2 ≡ place → IsLayout meta.now → IsTrue result }
 {
-    turn <= 3 && turn % 2 == place && is_layout(meta)
+    turn <= 3 && turn % 2 == place && meta.is_layout()
 }
 
 /// The superblock of a place in its first 41 bytes. The fields stand at fixed places, and the bytes are a body exactly
@@ -74,7 +68,7 @@ fn super_at<D: Device>(disk: &mut D, place: u8) -> Result<Option<(u8, Meta)>, Fa
     ensures only_reads { OnlyReads (D.model disk.old) (D.model disk.new) }
 {
     let mut bytes = [0; 1 + BODY];
-    disk.read(place_at(place), &mut bytes)?;
+    disk.read(slot_offset(place), &mut bytes)?;
     Ok(super_in(&bytes, place))
 }
 

@@ -3,7 +3,7 @@ ghost use Rattle.std.specs.Prelude.{◌≡◌, ◌<◌, ◌≤◌, IfOk, length}
 
 use crate::{SuperStop, clear_hidden, read_super, write_super};
 use hb_disk::{Device, MemDisk, Pick};
-use hb_ops::Meta;
+use hb_layout::Meta;
 use std::alloc::Global;
 use std::test::Fail;
 

@@ -2,14 +2,14 @@ ghost use Rattle.std.specs.Prelude.{◌≢◌, get_or, ◌≡◌, ℕ, ◌+◌, 
 ghost use Rattle.hb_space.specs.declared.form.TheConstants.{PAGE};
 ghost use Rattle.hb_disk.specs.Model.{overwritten, Torn};
 ghost use Rattle.hb_disk.specs.Calls.{Leaves, FrameOrNot, WriteFaults, Becomes, IsSynced, open_gate};
-ghost use Rattle.hb_ops.specs.declared.meta.Meta.{Meta as Said};
-ghost use Rattle.hb_super.specs.Superblocks.{IsLegal, IsNewest, body_bytes, place_of, next_turn};
+ghost use Rattle.hb_layout.specs.declared.meta.Meta.{Meta as Said};
+ghost use Rattle.hb_layout.specs.Offsets.{slot_offset};
+ghost use Rattle.hb_super.specs.Superblocks.{IsLegal, IsNewest, body_bytes, next_turn};
 ghost use Rattle.hb_super.specs.Moments.{WriteLeaves};
 
 use crate::body::body_of;
-use crate::reading::place_at;
 use hb_disk::{Device, DiskFault, write_behind_gate};
-use hb_ops::Meta;
+use hb_layout::{Meta, slot_offset};
 
 /// The byte that a gate is closed with.
 const CLOSED: u8 = 0;
@@ -24,7 +24,7 @@ pub fn write_super<D: Device>(disk: &mut D, turn: u8, meta: &Meta) -> Result<(),
     requires room { 2 * PAGE ≤ (D.model disk.old).size }
     requires legal { IsLegal turn meta.now }
     ensures written { OnOk result (IfSome (D.model disk.old).told (λ b. (D.model disk.new).told
-        ≡ Some (overwritten b (place_of turn) (open_gate ∷ body_bytes turn meta.now)))) }
+        ≡ Some (overwritten b (slot_offset turn) (open_gate ∷ body_bytes turn meta.now)))) }
     ensures durable { OnOk result (IfSome (D.model disk.new).told
         (λ b. (c : List ℕ) → (D.model disk.new).Image c → c ≡ b)) }
     ensures newest { (old : ℕ) (said : Said) → turn ≡ next_turn old → OnOk result (IfSome (D.model disk.old).told (λ b.
@@ -32,11 +32,11 @@ pub fn write_super<D: Device>(disk: &mut D, turn: u8, meta: &Meta) -> Result<(),
     ensures moments { (old : ℕ) (said : Said) → turn ≡ next_turn old → IsSynced (D.model disk.old) 0 (2 * PAGE) →
         IfSome (D.model disk.old).told (λ b. IsNewest b old said →
         Leaves (D.model disk.old) (D.model disk.new) (WriteLeaves (D.model disk.old) b old said turn meta.now)) }
-    ensures place { Becomes (Torn (place_of turn) 41) (D.model disk.old) (D.model disk.new) }
+    ensures place { Becomes (Torn (slot_offset turn) 41) (D.model disk.old) (D.model disk.new) }
     ensures clock { IsSome (D.model disk.old).told → (D.model disk.new).clock ≤ (D.model disk.old).clock + 6 }
     ensures faults { WriteFaults result (D.model disk.old) (D.model disk.new) }
 {
-    let place = place_at(turn);
+    let place = slot_offset(turn);
     let body = body_of(turn, meta);
     disk.write(place, &[CLOSED])?;
     disk.sync()?;
@@ -63,5 +63,5 @@ pub fn write_first_super<D: Device>(disk: &mut D, meta: &Meta) -> Result<(), Dis
     ensures faults { WriteFaults result (D.model disk.old) (D.model disk.new) }
 {
     let body = body_of(0, meta);
-    Ok(write_behind_gate(disk, place_at(0), &body)?)
+    Ok(write_behind_gate(disk, slot_offset(0), &body)?)
 }

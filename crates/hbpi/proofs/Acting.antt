@@ -4,8 +4,10 @@ use Rattle.std.specs.List.{slice_get}
 use Rattle.std.proofs.lemmas.Option.{slice_get_read}
 use Rattle.hb_disk.specs.Model.{DiskModel}
 use Rattle.hb_frag.specs.declared.pages.Page.{Page}
-use Rattle.hb_ops.specs.declared.meta.Meta.{Meta}
+use Rattle.hb_layout.specs.declared.meta.Meta.{Meta}
 use Rattle.hb_ops.specs.declared.operations.Op.{Op}
+use Rattle.hb_ops.specs.Files.{FileState}
+use Rattle.hb_ops.specs.Operations.{IsLicensed}
 use Rattle.hb_set.specs.declared.commands.Command.{Command}
 use Rattle.hb_set.specs.declared.commands.Command.TheVariants.{Insert, Delete, Lookup, Search}
 use Rattle.hb_set.specs.declared.scripts.Line.{Line}
@@ -47,6 +49,14 @@ changes_may meta page (Insert rec) op (inl by) = tt
 changes_may meta page (Delete point) op (inl by) = tt
 changes_may meta page (Lookup point) op (inl by) = absurd by.2
 changes_may meta page (Search area) op (inl by) = absurd by.2
+
+-- a put and a delete need no licence
+pub licensed_by : (meta : Meta) (page : Page) (command : Command) (op : Op) → PlansBy meta page command (plans.Change op) → (s : FileState) → IsLicensed s op
+licensed_by meta page command op (inr never) s = absurd never
+licensed_by meta page (Insert rec) op (inl by) s = subst (IsLicensed s) (sym by.2.0) tt
+licensed_by meta page (Delete point) op (inl by) s = subst (IsLicensed s) (sym by.2.0) tt
+licensed_by meta page (Lookup point) op (inl by) s = absurd by.2
+licensed_by meta page (Search area) op (inl by) s = absurd by.2
 
 or_ready : (A B : Type 0) → A → (A → ⊥) ⊎ B → B
 or_ready A B a (inl never) = absurd (never a)

@@ -1,15 +1,14 @@
 -- Runs that leave alone what lies behind the first bytes of a disk.
-use Rattle.std.proofs.Common.{◌≡◌, ℕ, zero, suc, ◌+◌, ◌*◌, ◌%◌, ◌≤◌, List, length, Option, Some, IfSome, Result, sym, ap, subst, ◌∙◌, arith}
+use Rattle.std.proofs.Common.{◌≡◌, ℕ, zero, suc, ◌+◌, ◌*◌, ◌%◌, ◌≤◌, IfSome, sym, subst, arith}
 use Rattle.hb_disk.specs.Model.{DiskModel, IsDisk, Torn}
-use Rattle.hb_disk.specs.Calls.{Becomes, OnlyReads, Syncs, Ticks, Writes}
-use Rattle.hb_disk.specs.RunLaws.{at_value, Becomes-read, Becomes-torn, Becomes-torn_sync, Becomes-torn_write, Becomes-weaker, OnlyReads-none}
+use Rattle.hb_disk.specs.Calls.{Becomes, OnlyReads}
+use Rattle.hb_disk.specs.RunLaws.{at_value, Becomes-read, Becomes-torn, Becomes-weaker, OnlyReads-none}
 use Rattle.hb_disk.specs.TornLaws.{Torn-itself, Torn-wider}
-use Rattle.hb_frag.specs.declared.pages.Page.{Page}
-use Rattle.hb_super.specs.Superblocks.{IsNewest, place_of}
-use Rattle.hb_ops.specs.declared.meta.Meta.{Meta}
-use Rattle.hb_store.specs.Opening.{file_size, log_place, page_place}
-use Rattle.hbpi.specs.Beyond.{KeepsBeyond, KeepsBeyondFile}
-use Rattle.hbpi.specs.Looking.{IsFoundIn}
+use Rattle.hb_super.specs.Superblocks.{IsNewest}
+use Rattle.hb_layout.specs.declared.meta.Meta.{Meta}
+use Rattle.hb_layout.specs.Offsets.{file_size, log_start}
+use Rattle.hb_store.specs.Keeps.{IsSameLayout}
+use Rattle.hb_restart.specs.Beyond.{KeepsBeyond, KeepsBeyondFile}
 
 -- reads alone
 pub beyond_reads : (n : ℕ) (old new : DiskModel) → IsDisk old → OnlyReads old new → KeepsBeyond n old new
@@ -27,59 +26,26 @@ beyond_then n old mid new first second = Becomes-torn 0 n old mid new first seco
 pub beyond_wider : (at m n : ℕ) (old new : DiskModel) → at + m ≤ n → Becomes (Torn at m) old new → KeepsBeyond n old new
 beyond_wider at m n old new within run = Becomes-weaker (Torn at m) (Torn 0 n) old new (λ b c torn. Torn-wider at m 0 n b c (omega arith) (omega (arith, within)) torn) run
 
--- a write within them
-pub beyond_write : {T E : Type 0} (r : Result T E) (at : ℕ) (piece : List ℕ) (n : ℕ) (old new : DiskModel) → IsDisk old → IsDisk new → n ≤ old.size → at + length piece ≤ n
-    → Writes at piece r old new → Ticks r old new → KeepsBeyond n old new
-beyond_write r at piece n old new is_old is_new fits within writes ticks =
-    Becomes-torn_write r at piece 0 n old new is_old is_new (omega (arith, fits, within)) (omega arith) (omega (arith, within)) writes ticks
-
--- a sync
-pub beyond_sync : {T E : Type 0} (r : Result T E) (n : ℕ) (old new : DiskModel) → IsDisk old → Syncs r old new → Ticks r old new → KeepsBeyond n old new
-beyond_sync r n old new is_old syncs ticks = Becomes-torn_sync r 0 n old new is_old syncs ticks
-
--- what a file has below its end: a log area, a page, a superblock, and a body
+-- what a file has below its end: a log area
 by_bit : (bit log rest : ℕ) → bit ≤ 1 → 8192 + bit * log + log ≤ 8192 + 2 * log + rest
 by_bit zero log rest low = omega arith
 by_bit (suc zero) log rest low = omega arith
 by_bit (suc (suc n)) log rest low = absurd (omega (arith, low))
 
-pub log_within : (turn : ℕ) (meta : Meta) → log_place turn meta + meta.log ≤ file_size meta
+pub log_within : (turn : ℕ) (meta : Meta) → log_start turn meta + meta.log ≤ file_size meta
 log_within turn meta = by_bit (turn % 2) meta.log (4096 * meta.pages) (omega arith)
 
-pub beyond_log : (turn at : ℕ) (meta : Meta) (old new : DiskModel) → at ≡ log_place turn meta → Becomes (Torn at meta.log) old new → KeepsBeyond (file_size meta) old new
+pub beyond_log : (turn at : ℕ) (meta : Meta) (old new : DiskModel) → at ≡ log_start turn meta → Becomes (Torn at meta.log) old new → KeepsBeyond (file_size meta) old new
 beyond_log turn at meta old new is run =
     beyond_wider at meta.log (file_size meta) old new (let within = log_within turn meta in omega (arith, is, within)) run
 
-pub beyond_page : (meta : Meta) (old new : DiskModel) → 1 ≤ meta.pages → Becomes (Torn (page_place meta 1) 4096) old new → KeepsBeyond (file_size meta) old new
-beyond_page meta old new some run = beyond_wider (page_place meta 1) 4096 (file_size meta) old new (omega (arith, some)) run
-
-pub beyond_super : (turn : ℕ) (meta : Meta) (old new : DiskModel) → Becomes (Torn (place_of turn) 41) old new → KeepsBeyond (file_size meta) old new
-beyond_super turn meta old new run = beyond_wider (place_of turn) 41 (file_size meta) old new (let low : turn % 2 ≤ 1 = omega arith in omega (arith, low)) run
-
-pub beyond_body : (turn : ℕ) (meta : Meta) (old new : DiskModel) → Becomes (Torn (place_of turn + 1) 40) old new → KeepsBeyond (file_size meta) old new
-beyond_body turn meta old new run = beyond_wider (place_of turn + 1) 40 (file_size meta) old new (let low : turn % 2 ≤ 1 = omega arith in omega (arith, low)) run
-
--- A run behind the reads that found the file: it leaves alone what lies behind the file by the newest superblock.
-pub found_said : (one : (bytes : List ℕ) (t s : ℕ) (m n : Meta) → IsNewest bytes t m → IsNewest bytes s n → m ≡ n) (told : Option (List ℕ)) (turn : ℕ) (meta : Meta) (touched : Option Page) (count : ℕ)
-    → IfSome told (λ b. IsFoundIn b turn meta touched count) → (b : List ℕ) (at : ℕ) (said : Meta) → told ≡ Some b → IsNewest b at said → said ≡ meta
-found_said one told turn meta touched count found b at said is newest =
-    let here = at_value told (λ b. IsFoundIn b turn meta touched count) b is found in
-    one b at turn said meta newest here.by.newest
-
-pub beyond_found : (one : (bytes : List ℕ) (t s : ℕ) (m n : Meta) → IsNewest bytes t m → IsNewest bytes s n → m ≡ n) (d m e : DiskModel) (turn : ℕ) (meta : Meta) (touched : Option Page) (count : ℕ)
-    → IsDisk d → OnlyReads d m → IfSome d.told (λ b. IsFoundIn b turn meta touched count) → KeepsBeyond (file_size meta) m e → KeepsBeyondFile d e
-beyond_found one d m e turn meta touched count is_d reads found run b at said told newest =
-    let K : Meta → Type 0 = λ x. KeepsBeyond (file_size x) d e in
-    subst K (sym (found_said one d.told turn meta touched count found b at said told newest))
-    (beyond_then (file_size meta) d m e (beyond_reads (file_size meta) d m is_d reads) run)
-
--- no run behind them
-pub beyond_looked : (d m : DiskModel) → IsDisk d → OnlyReads d m → KeepsBeyondFile d m
-beyond_looked d m is_d reads b at said told newest = beyond_reads (file_size said) d m is_d reads
+-- a file that is laid down as another is as long
+same_size : (said meta : Meta) → IsSameLayout said meta → file_size said ≡ file_size meta
+same_size said meta same = let pages = same.pages in let log = same.log in omega (arith, pages, log)
 
 -- a run over the file that was opened, seen from before the opening
-pub beyond_driven : (d m e : DiskModel) (meta : Meta) → IfSome d.told (λ b. (turn : ℕ) (said : Meta) → IsNewest b turn said → said ≡ meta) → KeepsBeyondFile d m → KeepsBeyond (file_size meta) m e → KeepsBeyondFile d e
+pub beyond_driven : (d m e : DiskModel) (meta : Meta) → IfSome d.told (λ b. (turn : ℕ) (said : Meta) → IsNewest b turn said → IsSameLayout said meta) → KeepsBeyondFile d m → KeepsBeyond (file_size meta) m e → KeepsBeyondFile d e
 beyond_driven d m e meta same opened run b turn said told newest =
-    let K : Meta → Type 0 = λ x. KeepsBeyond (file_size x) m e in
-    let is = at_value d.told (λ b. (turn : ℕ) (said : Meta) → IsNewest b turn said → said ≡ meta) b told same turn said newest in
+    let K : ℕ → Type 0 = λ n. KeepsBeyond n m e in
+    let is = same_size said meta (at_value d.told (λ b. (turn : ℕ) (said : Meta) → IsNewest b turn said → IsSameLayout said meta) b told same turn said newest) in
     beyond_then (file_size said) d m e (opened b turn said told newest) (subst K (sym is) run)

@@ -3,20 +3,21 @@ use Rattle.std.proofs.Common.{◌≡◌, ◌⊎◌, inl, inr, ℕ, true, List, O
 use Rattle.hb_disk.specs.Model.{DiskModel}
 use Rattle.hb_disk.specs.RunLaws.{at_value}
 use Rattle.hb_outside.specs.Streams.{Rose}
-use Rattle.hb_ops.specs.declared.meta.Meta.{Meta}
+use Rattle.hb_layout.specs.declared.meta.Meta.{Meta}
 use Rattle.hb_ops.specs.Files.{FileState}
 use Rattle.hb_set.specs.declared.scripts.Line.{Line}
 use Rattle.hb_store.specs.ImageLaws.{OpensToOne}
 use Rattle.hb_text.specs.declared.rules.BadLine.{BadLine}
 use Rattle.hb_text.specs.Grammar.{Reading, text_read}
-use Rattle.hbpi.specs.Codes.{status_of}
+use Rattle.hbpi.specs.Codes.{start_status, status_of}
 use Rattle.hbpi.specs.Core.{CoreState}
 use Rattle.hbpi.specs.Driven.{Drove, IsScheduled, IsShutOut, IsTurnedAway, OpenedEnds, DriveCommandEnds}
 use Rattle.hbpi.specs.Ends.{Seen}
 use Rattle.hbpi.specs.Outcome.{IsTextOf, IsWholeText}
-use Rattle.hbpi.specs.Restart.{GoodIsNotRefused}
+use Rattle.hbpi.specs.Starting.{GoodIsServed}
 use Rattle.hbpi.specs.Runs.{IsCalm, GivesFor, IsDriven}
-use Rattle.hbpi.specs.declared.restart.faults.OpenFault.{OpenFault}
+use Rattle.hbpi.specs.declared.starting.StartFault.{StartFault}
+use Rattle.hbpi.specs.declared.starting.StartFault.TheVariants as starts
 use Rattle.hbpi.specs.declared.statuses.Status.{Status}
 use Rattle.hbpi.specs.declared.statuses.Status.TheVariants.{Done, Usage, BadText, SourceFault, SinkFault, DiskFault, Damaged, NoMemory, BadLayout, Small, NotBuilt}
 use Rattle.hbpi.proofs.EndLaws.{front_reads}
@@ -71,13 +72,15 @@ module _ (s : FileState) (left : List ℕ) (d e : DiskModel) (seen : Seen) (one 
   opened_gives (BadLayout field value) ends = absurd ends
   opened_gives (Small needed found) ends = absurd ends
 
-  shut_gives : (status : Status) (fault : OpenFault) → GoodIsNotRefused → status ≡ status_of fault → IsShutOut d e seen fault → GivesFor seen status (text_read true s.meta.k left)
-  shut_gives status fault good is out = elim (good fault calm.bytes s calm.opens calm.sound calm.one_page (at_value d.told _ calm.bytes calm.told out.why)) [
-    | inl failed ↦ absurd (calm.disk (out.failed failed))
-    | inr none ↦ no_memory seen status (text_read true s.meta.k left) (is ∙ ap status_of none)
-  ]
+  shut_gives : (status : Status) (fault : StartFault) → GoodIsServed → status ≡ start_status fault → IsShutOut d e seen fault → GivesFor seen status (text_read true s.meta.k left)
+  shut_gives status (starts.Closed fault) good is out =
+      elim (good (starts.Closed fault) calm.bytes s calm.opens calm.sound calm.one_page (at_value d.told _ calm.bytes calm.told out.why)) [
+        | inl failed ↦ absurd (calm.disk (out.failed (ap starts.Closed failed)))
+        | inr none ↦ no_memory seen status (text_read true s.meta.k left) (is ∙ ap status_of none)
+      ]
+  shut_gives status starts.NotBuilt good is out = absurd (good starts.NotBuilt calm.bytes s calm.opens calm.sound calm.one_page (at_value d.told _ calm.bytes calm.told out.why))
 
-pub is_driven : (d e : DiskModel) (seen : Seen) (status : Status) → OpensToOne → GoodIsNotRefused → DriveCommandEnds d e seen status → IsDriven d e seen status
+pub is_driven : (d e : DiskModel) (seen : Seen) (status : Status) → OpensToOne → GoodIsServed → DriveCommandEnds d e seen status → IsDriven d e seen status
 is_driven d e seen status one good ends s left calm = elim ends [
   | inl shut ↦ shut_gives s left d e seen one calm status shut.0 good shut.1 shut.2
   | inr opened ↦ opened_gives s left d e seen one calm status opened

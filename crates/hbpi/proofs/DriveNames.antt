@@ -1,5 +1,5 @@
 -- The bad line that `drive` names.
-use Rattle.std.proofs.Common.{◌≡◌, ◌⊎◌, inl, inr, ℕ, true, List, Option, Some, Err, sym, ap, subst, ◌∙◌}
+use Rattle.std.proofs.Common.{◌≡◌, inl, inr, ℕ, true, List, Option, Some, Err, sym, ap, subst, ◌∙◌}
 use Rattle.hb_disk.specs.Model.{DiskModel}
 use Rattle.hb_disk.specs.RunLaws.{at_value}
 use Rattle.hb_ops.specs.Files.{FileState}
@@ -7,27 +7,28 @@ use Rattle.hb_store.specs.ImageLaws.{OpensToOne}
 use Rattle.hb_store.specs.Opening.{OpensTo}
 use Rattle.hb_text.specs.declared.rules.BadLine.{BadLine}
 use Rattle.hb_text.specs.Grammar.{text_read}
-use Rattle.hbpi.specs.Codes.{status_of}
+use Rattle.hbpi.specs.Codes.{start_status}
 use Rattle.hbpi.specs.Driven.{IsTurnedAway, OpenedEnds, DriveCommandEnds}
 use Rattle.hbpi.specs.Ends.{Seen}
 use Rattle.hbpi.specs.Outcome.{IsTextOf}
 use Rattle.hbpi.specs.Runs.{NamesScheduleLine}
-use Rattle.hbpi.specs.declared.restart.faults.OpenFault.{OpenFault}
-use Rattle.hbpi.specs.declared.restart.faults.OpenFault.TheVariants as faults
+use Rattle.hb_restart.specs.declared.faults.OpenFault.TheVariants as faults
+use Rattle.hbpi.specs.declared.starting.StartFault.{StartFault}
+use Rattle.hbpi.specs.declared.starting.StartFault.TheVariants as starts
 use Rattle.hbpi.specs.declared.statuses.Status.{Status}
 use Rattle.hbpi.specs.declared.statuses.Status.TheVariants.{Done, Usage, BadText, SourceFault, SinkFault, DiskFault, Damaged, NoMemory, BadLayout, Small, NotBuilt}
 use Rattle.hbpi.proofs.EndLaws.{front_reads}
 
 -- no refusal of a file names a line
-no_line : (fault : OpenFault) (bad : BadLine) → status_of fault ≡ BadText bad → ⊥
-no_line (faults.BadLayout field value) bad is = cc is
-no_line (faults.Small needed found) bad is = cc is
-no_line faults.NoSuper bad is = cc is
-no_line faults.NotBuilt bad is = cc is
-no_line (faults.BadGroup frame) bad is = cc is
-no_line (faults.Unsound page rule) bad is = cc is
-no_line faults.DiskFault bad is = cc is
-no_line faults.NoMemory bad is = cc is
+no_line : (fault : StartFault) (bad : BadLine) → start_status fault ≡ BadText bad → ⊥
+no_line (starts.Closed (faults.BadLayout field value)) bad is = cc is
+no_line (starts.Closed (faults.Small needed found)) bad is = cc is
+no_line (starts.Closed faults.NoSuper) bad is = cc is
+no_line starts.NotBuilt bad is = cc is
+no_line (starts.Closed (faults.BadGroup frame)) bad is = cc is
+no_line (starts.Closed (faults.Unsound page rule)) bad is = cc is
+no_line (starts.Closed faults.DiskFault) bad is = cc is
+no_line (starts.Closed faults.NoMemory) bad is = cc is
 
 module _ (d e : DiskModel) (seen : Seen) (one : OpensToOne) (b : List ℕ) (s : FileState) (left : List ℕ) (bad : BadLine)
     (told : d.told ≡ Some b) (opens : OpensTo b s) (text : seen.left ≡ Some left) where

@@ -1,17 +1,20 @@
 -- A step in which a walking line takes effect.
 use Rattle.std.proofs.Common.{◌≡◌, ◌⊎◌, inr, ℕ, ◌+◌, List, [], ◌∷◌, ◌++◌, length, map, take, Option, Some, None, refl, sym, ap, subst, ◌∙◌, arith, length-append}
 use Rattle.std.specs.Prelude.{MatchOption}
+use Rattle.std.specs.FinMap as finite
 use Rattle.std.proofs.lemmas.List.{map-append, take_all, take-append-le}
 use Rattle.hb_disk.specs.Model.{DiskModel, IsDisk}
 use Rattle.hb_disk.specs.Calls.{OnlyReads}
 use Rattle.hb_wal.specs.Log.{LogState, Waiting, mark_of}
 use Rattle.hb_frag.specs.declared.pages.LivePage.{LivePage}
-use Rattle.hb_ops.specs.declared.meta.Meta.{Meta}
+use Rattle.hb_layout.specs.declared.meta.Meta.{Meta}
 use Rattle.hb_ops.specs.declared.operations.Op.{Op}
-use Rattle.hb_ops.specs.declared.operations.Op.TheVariants.{Put, Del}
+use Rattle.hb_ops.specs.declared.operations.Op.TheVariants.{Put, Del, Extract, Post, Grow}
 use Rattle.hb_ops.specs.Files.{FileState, contents_of}
-use Rattle.hb_ops.specs.Operations.{change_of, effect_of, nth_read}
+use Rattle.hb_ops.specs.Operations.{IsAllowed, OpHas, change_of, effect_of, nth_read}
 use Rattle.hb_ops.specs.Sound.{IsSound}
+use Rattle.hb_set.specs.declared.commands.Command.{Command}
+use Rattle.hb_set.specs.declared.commands.Command.TheVariants.{Insert, Delete, Lookup, Search}
 use Rattle.hb_set.specs.declared.scripts.Line.{Line}
 use Rattle.hb_set.specs.declared.commands.Reply.{Reply}
 use Rattle.hb_set.specs.declared.commands.Reply.TheVariants as replies
@@ -22,7 +25,7 @@ use Rattle.hb_store.specs.ReplayLaws.{last_of-append}
 use Rattle.hbpi.specs.declared.engine.session.Session.TheVariants as sessions
 use Rattle.hbpi.specs.declared.engine.session.Outcome.{Outcome}
 use Rattle.hbpi.specs.declared.engine.session.Outcome.TheVariants as outcomes
-use Rattle.hbpi.specs.Core.{AwaitsOne, CoreKeeps, CoreState, IsCurrent, MayCommit, StepKeeps, TakesEffect, set_of}
+use Rattle.hbpi.specs.Core.{AwaitsOne, CoreKeeps, CoreState, IsCurrent, MayCommit, StepKeeps, TakesEffect, op_if, op_of, set_of}
 use Rattle.hbpi.specs.FileLaws.{FileLaws}
 use Rattle.hbpi.specs.Steps.{joined_core, with_store}
 use Rattle.hbpi.specs.declared.engine.plans.Plan.TheVariants as plans
@@ -33,15 +36,47 @@ use Rattle.hbpi.proofs.AnswerSteps.{along}
 use Rattle.hbpi.proofs.RefusedSteps.{FramesOnly, none_waits}
 use Rattle.hbpi.proofs.PlansHold.{PlanHolds}
 
--- no operation changes what the file says of itself
-pub change_meta : (op : Op) (meta : Meta) (a b c : Option LivePage) → (change_of op meta a b c).meta ≡ meta
-change_meta (Put id rec) meta None b c = refl
-change_meta (Put id rec) meta (Some page) b c = refl
-change_meta (Del id point) meta None b c = refl
-change_meta (Del id point) meta (Some page) b c = refl
+-- an operation on the records of a page
+abbrev pub IsOnRecords : Op → Type 0
+IsOnRecords (Put id rec) = Unit {0}
+IsOnRecords (Del id point) = Unit {0}
+IsOnRecords other = ⊥
 
-effect_meta : (s : FileState) (op : Op) → (effect_of s op).meta ≡ s.meta
-effect_meta s op = change_meta op s.meta (nth_read s op 0) (nth_read s op 1) (nth_read s op 2)
+-- it changes nothing that the file says of itself
+pub change_meta : (op : Op) (meta : Meta) (a b c : Option LivePage) → IsOnRecords op → (change_of op meta a b c).meta ≡ meta
+change_meta (Put id rec) meta None b c on = refl
+change_meta (Put id rec) meta (Some page) b c on = refl
+change_meta (Del id point) meta None b c on = refl
+change_meta (Del id point) meta (Some page) b c on = refl
+change_meta (Extract source fresh path cuts free_after) meta a b c on = absurd on
+change_meta (Post parent at inner area) meta a b c on = absurd on
+change_meta (Grow fresh free_after) meta a b c on = absurd on
+
+effect_meta : (s : FileState) (op : Op) → IsOnRecords op → (effect_of s op).meta ≡ s.meta
+effect_meta s op on = change_meta op s.meta (nth_read s op 0) (nth_read s op 1) (nth_read s op 2) on
+
+-- and a sound file stays sound
+effect_sound : FileLaws → (s : FileState) (op : Op) → IsOnRecords op → IsSound s → OpHas s.meta.k op → IsAllowed s op → IsSound (effect_of s op)
+effect_sound laws s (Put id rec) on sound long allowed = laws.put_sound s id rec sound long allowed
+effect_sound laws s (Del id point) on sound long allowed = laws.del_sound s id point sound long allowed
+effect_sound laws s (Extract source fresh path cuts free_after) on sound long allowed = absurd on
+effect_sound laws s (Post parent at inner area) on sound long allowed = absurd on
+effect_sound laws s (Grow fresh free_after) on sound long allowed = absurd on
+
+-- the operation by which a command changes the file is one
+on_records : (command : Command) (s : FileState) (op : Op) → op_of command s ≡ Some op → IsOnRecords op
+on_records (Insert r) s op e = by_found (finite.get (contents_of s) r.key) e
+  where
+    by_found : (o : Option (List ℕ)) → op_if o None (Some (Put s.meta.root r)) ≡ Some op → IsOnRecords op
+    by_found None e = let is : Put s.meta.root r ≡ op = cc (e) in subst IsOnRecords is tt
+    by_found (Some body) e = let never : None ≡ Some op = e in cc (never)
+on_records (Delete p) s op e = by_found (finite.get (contents_of s) p) e
+  where
+    by_found : (o : Option (List ℕ)) → op_if o (Some (Del s.meta.root p)) None ≡ Some op → IsOnRecords op
+    by_found None e = let never : None ≡ Some op = e in cc (never)
+    by_found (Some body) e = let is : Del s.meta.root p ≡ op = cc (e) in subst IsOnRecords is tt
+on_records (Lookup p) s op e = let never : None ≡ Some op = e in cc (never)
+on_records (Search a) s op e = let never : None ≡ Some op = e in cc (never)
 
 module _ (d : DiskModel) (is_disk : IsDisk d) (old : CoreState) (going : old.stop ≡ None) (was : old.session ≡ sessions.Walk) (line : Line) (current : IsCurrent old line)
     (n : RecordSet) (done : List Line) (kept : CoreKeeps d old n done) where
@@ -142,12 +177,15 @@ module _ (d : DiskModel) (is_disk : IsDisk d) (old : CoreState) (going : old.sto
     last_is : last_of kept.durable (with_op kept.durable kept.later op) ≡ changed
     last_is = last_of-append kept.durable kept.later changed
 
+    on : IsOnRecords op
+    on = on_records line.command file op holds.0
+
     sound : IsSound changed
-    sound = laws.sound file op kept.sound holds.5 holds.3 holds.4
+    sound = effect_sound laws file op on kept.sound holds.5 holds.3
 
     changed_one : (length changed.pages ≡ 1) × (changed.meta.root ≡ 1) × (changed.meta.height ≡ 1)
     changed_one =
-        let meta = effect_meta file op in (
+        let meta = effect_meta file op on in (
           sound.rooted.numbered ∙ ap (λ (x : Meta). x.high) meta ∙ sym kept.sound.rooted.numbered ∙ kept.one_page.0,
           ap (λ (x : Meta). x.root) meta ∙ kept.one_page.1,
           ap (λ (x : Meta). x.height) meta ∙ kept.one_page.2,

@@ -14,8 +14,8 @@ use Rattle.hbpi.specs.declared.statuses.Status.TheVariants.{Done, Usage, BadText
 use Rattle.hb_outside.specs.Streams.{Rose}
 use Rattle.hbpi.specs.Outcome.{greatest_text, IsTextOf, IsWholeText}
 use Rattle.hb_disk.specs.Model.{DiskModel}
-use Rattle.hbpi.specs.Layouts.{first_fault, size_of}
-use Rattle.hbpi.specs.declared.restart.faults.OpenFault.{OpenFault}
+use Rattle.hb_restart.specs.Layouts.{first_fault, size_of}
+use Rattle.hb_restart.specs.declared.faults.OpenFault.{OpenFault}
 use Rattle.hbpi.specs.Runs.{RunEnds, disk_seen}
 use Rattle.hbpi.specs.Ends.{Seen, DiskSeen, CreateEnds, IsMadeWhole, DryEnds, IsAnswered, IsComplete, RefusesBadText, NamesBadLine}
 

@@ -5,47 +5,47 @@ use Rattle.hb_disk.specs.RunLaws.{at_value}
 use Rattle.hb_ops.specs.Files.{FileState}
 use Rattle.hb_ops.specs.Sound.{IsSound}
 use Rattle.hb_store.specs.Opening.{OpensTo}
-use Rattle.hbpi.specs.Codes.{status_of}
+use Rattle.hbpi.specs.Codes.{start_status}
 use Rattle.hbpi.specs.Core.{CoreState}
 use Rattle.hbpi.specs.Driven.{Drove, IsTurnedAway, OpenedEnds, DriveCommandEnds}
 use Rattle.hbpi.specs.Ends.{Seen}
-use Rattle.hbpi.specs.Restart.{GoodIsNotRefused, IsNoRefusal, IsOnePage, IsRefusedOnce, IsUnwritten, Refuses}
+use Rattle.hbpi.specs.Starting.{GoodIsServed, IsOfBytes, IsOfNone, IsOnePage, IsRefusedInOneWay, RefusesStart}
 use Rattle.hbpi.specs.Runs.{RefusesFile}
-use Rattle.hbpi.specs.declared.restart.faults.OpenFault.{OpenFault}
-use Rattle.hbpi.specs.declared.restart.faults.OpenFault.TheVariants as faults
+use Rattle.hbpi.proofs.Started.{never as never_open}
+use Rattle.hb_restart.specs.declared.faults.OpenFault.TheVariants as faults
+use Rattle.hbpi.specs.declared.starting.StartFault.{StartFault}
+use Rattle.hbpi.specs.declared.starting.StartFault.TheVariants as starts
 use Rattle.hbpi.specs.declared.statuses.Status.{Status}
 use Rattle.hbpi.specs.declared.statuses.Status.TheVariants.{Done, Usage, BadText, SourceFault, SinkFault, DiskFault, Damaged, NoMemory, BadLayout, Small, NotBuilt}
 
 -- a refusal that isn't a fault of the disk is one of the bytes, or want of memory
-of_bytes : (fault : OpenFault) (bytes : List ℕ) (status : Status) → status ≡ status_of fault → Refuses fault bytes → (fault ≡ faults.DiskFault → ⊥)
-    → (status ≡ NoMemory) ⊎ ((fault : OpenFault) × (status ≡ status_of fault) × Refuses fault bytes × IsUnwritten fault)
-of_bytes (faults.BadLayout field value) bytes status is why held = absurd why
-of_bytes (faults.Small needed found) bytes status is why held = inr (faults.Small needed found, is, why, tt)
-of_bytes faults.NoSuper bytes status is why held = inr (faults.NoSuper, is, why, tt)
-of_bytes faults.NotBuilt bytes status is why held = inr (faults.NotBuilt, is, why, tt)
-of_bytes (faults.BadGroup frame) bytes status is why held = inr (faults.BadGroup frame, is, why, tt)
-of_bytes (faults.Unsound page rule) bytes status is why held = inr (faults.Unsound page rule, is, why, tt)
-of_bytes faults.DiskFault bytes status is why held = absurd (held refl)
-of_bytes faults.NoMemory bytes status is why held = inl is
+of_bytes : (fault : StartFault) (bytes : List ℕ) (status : Status) → status ≡ start_status fault → RefusesStart fault bytes → (fault ≡ (starts.Closed faults.DiskFault) → ⊥)
+    → (status ≡ NoMemory) ⊎ ((fault : StartFault) × (status ≡ start_status fault) × RefusesStart fault bytes × IsOfBytes fault)
+of_bytes (starts.Closed (faults.BadLayout field value)) bytes status is why held = absurd why
+of_bytes (starts.Closed (faults.Small needed found)) bytes status is why held = inr (starts.Closed (faults.Small needed found), is, why, tt)
+of_bytes (starts.Closed faults.NoSuper) bytes status is why held = inr ((starts.Closed faults.NoSuper), is, why, tt)
+of_bytes starts.NotBuilt bytes status is why held = inr (starts.NotBuilt, is, why, tt)
+of_bytes (starts.Closed (faults.BadGroup frame)) bytes status is why held = inr (starts.Closed (faults.BadGroup frame), is, why, tt)
+of_bytes (starts.Closed (faults.Unsound page rule)) bytes status is why held = inr (starts.Closed (faults.Unsound page rule), is, why, tt)
+of_bytes (starts.Closed faults.DiskFault) bytes status is why held = absurd (held refl)
+of_bytes (starts.Closed faults.NoMemory) bytes status is why held = inl is
 
 -- another one that is true of them is the same
-is_same : (fault other : OpenFault) (bytes : List ℕ) (status : Status) → IsRefusedOnce → status ≡ status_of fault → Refuses fault bytes → (fault ≡ faults.DiskFault → ⊥) → Refuses other bytes → IsUnwritten other
-    → (status ≡ status_of other) ⊎ (status ≡ NoMemory)
-is_same (faults.BadLayout field value) other bytes status once is why held that unwritten = absurd why
-is_same (faults.Small needed found) other bytes status once is why held that unwritten = inl (is ∙ ap status_of (once bytes (faults.Small needed found) other why that tt unwritten))
-is_same faults.NoSuper other bytes status once is why held that unwritten = inl (is ∙ ap status_of (once bytes faults.NoSuper other why that tt unwritten))
-is_same faults.NotBuilt other bytes status once is why held that unwritten = inl (is ∙ ap status_of (once bytes faults.NotBuilt other why that tt unwritten))
-is_same (faults.BadGroup frame) other bytes status once is why held that unwritten = inl (is ∙ ap status_of (once bytes (faults.BadGroup frame) other why that tt unwritten))
-is_same (faults.Unsound page rule) other bytes status once is why held that unwritten = inl (is ∙ ap status_of (once bytes (faults.Unsound page rule) other why that tt unwritten))
-is_same faults.DiskFault other bytes status once is why held that unwritten = absurd (held refl)
-is_same faults.NoMemory other bytes status once is why held that unwritten = inr is
+is_same : (fault other : StartFault) (bytes : List ℕ) (status : Status) → IsRefusedInOneWay → status ≡ start_status fault → RefusesStart fault bytes → (fault ≡ (starts.Closed faults.DiskFault) → ⊥) → RefusesStart other bytes → IsOfBytes other
+    → (status ≡ start_status other) ⊎ (status ≡ NoMemory)
+is_same (starts.Closed (faults.BadLayout field value)) other bytes status once is why held that unwritten = absurd why
+is_same (starts.Closed (faults.Small needed found)) other bytes status once is why held that unwritten = inl (is ∙ ap start_status (once bytes (starts.Closed (faults.Small needed found)) other why that tt unwritten))
+is_same (starts.Closed faults.NoSuper) other bytes status once is why held that unwritten = inl (is ∙ ap start_status (once bytes (starts.Closed faults.NoSuper) other why that tt unwritten))
+is_same starts.NotBuilt other bytes status once is why held that unwritten = inl (is ∙ ap start_status (once bytes starts.NotBuilt other why that tt unwritten))
+is_same (starts.Closed (faults.BadGroup frame)) other bytes status once is why held that unwritten = inl (is ∙ ap start_status (once bytes (starts.Closed (faults.BadGroup frame)) other why that tt unwritten))
+is_same (starts.Closed (faults.Unsound page rule)) other bytes status once is why held that unwritten = inl (is ∙ ap start_status (once bytes (starts.Closed (faults.Unsound page rule)) other why that tt unwritten))
+is_same (starts.Closed faults.DiskFault) other bytes status once is why held that unwritten = absurd (held refl)
+is_same (starts.Closed faults.NoMemory) other bytes status once is why held that unwritten = inr is
 
 -- no refusal of a good file's bytes is true of them
-never : (fault : OpenFault) → IsNoRefusal fault → IsUnwritten fault → ⊥
-never fault none unwritten = elim none [
-  | inl failed ↦ subst IsUnwritten failed unwritten
-  | inr refused ↦ subst IsUnwritten refused unwritten
-]
+never : (fault : StartFault) → IsOfNone fault → IsOfBytes fault → ⊥
+never (starts.Closed fault) none unwritten = never_open fault unwritten none
+never starts.NotBuilt none unwritten = none
 
 -- a file that was opened is none of these
 module _ (bytes : List ℕ) (d e : DiskModel) (seen : Seen) (told : d.told ≡ Some bytes) (none : (s : FileState) → OpensTo bytes s → IsSound s → IsOnePage s.meta → ⊥) where
@@ -68,11 +68,11 @@ module _ (bytes : List ℕ) (d e : DiskModel) (seen : Seen) (told : d.told ≡ S
   not_opened (BadLayout field value) ends = ends
   not_opened (Small needed found) ends = ends
 
-pub refuses_file : (d e : DiskModel) (seen : Seen) (status : Status) → GoodIsNotRefused → IsRefusedOnce → DriveCommandEnds d e seen status → RefusesFile d e status
+pub refuses_file : (d e : DiskModel) (seen : Seen) (status : Status) → GoodIsServed → IsRefusedInOneWay → DriveCommandEnds d e seen status → RefusesFile d e status
 refuses_file d e seen status good once ends bytes told calm = elim ends [
   | inl shut ↦
       let why = at_value d.told _ bytes told shut.2.why in
-      let held : shut.0 ≡ faults.DiskFault → ⊥ = λ is. calm (shut.2.failed is) in
+      let held : shut.0 ≡ starts.Closed faults.DiskFault → ⊥ = λ is. calm (shut.2.failed is) in
       (λ none. of_bytes shut.0 bytes status shut.1 why held, λ fault that unwritten. is_same shut.0 fault bytes status once shut.1 why held that unwritten)
   | inr opened ↦ (
     λ none. absurd (not_opened bytes d e seen told (λ s opens sound one_page. none s opens sound) status opened),

@@ -1,26 +1,24 @@
 -- The steps change no byte but those of the log's area.
-use Rattle.std.proofs.Common.{◌≡◌, ◌⊎◌, inl, inr, ℕ, List, [], refl, sym, ap, subst, ◌∙◌}
+use Rattle.std.proofs.Common.{◌≡◌, inl, inr, ℕ, [], refl, sym, ap, subst, ◌∙◌}
 use Rattle.hb_disk.specs.Model.{DiskModel, IsDisk, Torn}
 use Rattle.hb_disk.specs.Calls.{Becomes, OnlyReads}
 use Rattle.hb_disk.specs.RunLaws.{Becomes-read, Becomes-torn, OnlyReads-none}
 use Rattle.hb_disk.specs.TornLaws.{Torn-itself}
 use Rattle.hb_wal.specs.Log.{LogState}
-use Rattle.hb_ops.specs.declared.meta.Meta.{Meta}
-use Rattle.hb_set.specs.declared.commands.Reply.{Reply}
-use Rattle.hb_store.specs.Calls.{Fetched, forced_state, stopped_state}
+use Rattle.hb_store.specs.Calls.{Fetched}
 use Rattle.hb_store.specs.Keeps.{IsNew, StoreState}
-use Rattle.hb_store.specs.Opening.{file_size, log_place}
+use Rattle.hb_layout.specs.Offsets.{file_size, log_start}
 use Rattle.hb_store.specs.declared.stops.FetchStop.{FetchStop}
 use Rattle.hb_store.specs.declared.stops.FetchStop.TheVariants as fetches
-use Rattle.hb_store.specs.declared.stops.StopWhy.TheVariants.{WriteFault}
-use Rattle.hbpi.specs.Beyond.{KeepsBeyond, StaysInLog}
+use Rattle.hb_restart.specs.Beyond.{KeepsBeyond}
+use Rattle.hbpi.specs.Beyond.{StaysInLog}
 use Rattle.hbpi.specs.Core.{CoreState}
 use Rattle.hbpi.specs.Plans.{Acts, Does}
-use Rattle.hbpi.specs.Steps.{AnswersIt, Forced, ForcesOnce, GivesUp, TookNext, with_stop, with_store}
+use Rattle.hbpi.specs.Steps.{Forced, ForcesOnce, GivesUp, TookNext, with_store}
 use Rattle.hbpi.specs.declared.engine.plans.Plan.{Plan}
 use Rattle.hbpi.specs.declared.engine.plans.Plan.TheVariants as plans
 use Rattle.hbpi.specs.declared.engine.session.Outcome.{Outcome}
-use Rattle.hbpi.proofs.Beyond.{beyond_log, beyond_wider}
+use Rattle.hbpi.proofs.Beyond.{beyond_log}
 
 -- one run after another
 pub in_log_then : (d m e : DiskModel) (old mid new : CoreState) → StaysInLog d old m mid → StaysInLog m mid e new → StaysInLog d old e new
@@ -90,6 +88,6 @@ module _ (d m : DiskModel) (is_disk : IsDisk d) (reads : OnlyReads d m) (old : C
 -- The steps of a store that was just opened leave alone what lies behind its file.
 pub new_beyond : (d e : DiskModel) (st : StoreState) (old new : CoreState) → IsNew st.turn st.meta st → old.store ≡ st → StaysInLog d old e new → KeepsBeyond (file_size st.meta) d e
 new_beyond d e st old new is_new stored stays =
-    let log : old.store.log ≡ record { area = log_place st.turn st.meta; len = st.meta.log; written = 0; groups = [] } = ap (λ (x : StoreState). x.log) stored ∙ is_new.log_is in
+    let log : old.store.log ≡ record { area = log_start st.turn st.meta; len = st.meta.log; written = 0; groups = [] } = ap (λ (x : StoreState). x.log) stored ∙ is_new.log_is in
     let L : ℕ → Type 0 = λ n. Becomes (Torn old.store.log.area n) d e in
     beyond_log st.turn old.store.log.area st.meta d e (ap (λ (l : LogState). l.area) log) (subst L (ap (λ (l : LogState). l.len) log) stays.place)

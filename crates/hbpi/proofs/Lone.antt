@@ -10,10 +10,10 @@ use Rattle.hb_frag.specs.declared.pages.Page.TheVariants.{Live, Free}
 use Rattle.hb_frag.specs.Leaves.{Placed, IsWellCut, leaves_of, siblings}
 use Rattle.hb_frag.specs.Rules.{IsSiblingTip}
 use Rattle.hb_frag.specs.Trees.{Tree, Tip, Cut}
-use Rattle.hb_ops.specs.declared.meta.Meta.{Meta}
+use Rattle.hb_layout.specs.declared.meta.Meta.{Meta}
 use Rattle.hb_ops.specs.Files.{FileState, if_live, page_at, live_page}
 use Rattle.hb_ops.specs.Sound.{IsRooted, IsCounted, SiblingsMatch}
-use Rattle.hbpi.specs.OnePage.{lone}
+use Rattle.hb_restart.specs.NewFiles.{lone}
 use Rattle.hbpi.proofs.Boxes.{contains_one, leaf_is_smaller}
 use Rattle.hbpi.proofs.Own.{placed, leaf_sibling}
 

@@ -16,7 +16,8 @@ use Rattle.hb_ops.specs.declared.operations.Op.{Op}
 use Rattle.hb_ops.specs.declared.operations.Op.TheVariants.{Put, Del}
 use Rattle.hb_ops.specs.Files.{FileState, contents_of, if_live, live_page, page_at}
 use Rattle.hb_ops.specs.LawsOfContents.{OthersLack}
-use Rattle.hb_ops.specs.Operations.{FitsDel, FitsPut, IsAllowed, IsAllowedOn, IsLicensed, OpHas, effect_of, nth_read}
+use Rattle.hb_ops.specs.Recording.{FitsDel, FitsPut}
+use Rattle.hb_ops.specs.Operations.{IsAllowed, IsAllowedOn, IsLicensed, OpHas, effect_of, nth_read}
 use Rattle.hb_ops.specs.Sound.{FitsFile, IsSound, SiblingsMatch}
 use Rattle.hb_ops.specs.Standing.{StandsElsewhere, StandsNot, StandsThere}
 use Rattle.hb_set.specs.declared.commands.Command.{Command}

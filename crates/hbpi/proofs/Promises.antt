@@ -5,35 +5,36 @@ use Rattle.std.proofs.lemmas.List.Elements.{All-nil}
 use Rattle.hb_disk.specs.Model.{DiskModel}
 use Rattle.hb_disk.specs.Calls.{Leaves}
 use Rattle.hb_disk.specs.RunLaws.{at_value, Leaves-weaker}
-use Rattle.hb_ops.specs.declared.meta.Meta.{Meta}
+use Rattle.hb_layout.specs.declared.meta.Meta.{Meta}
 use Rattle.hb_ops.specs.Files.{FileState, contents_of}
 use Rattle.hb_ops.specs.Sound.{IsSound}
 use Rattle.hb_set.specs.declared.scripts.Line.{Line}
 use Rattle.hb_set.specs.declared.scripts.Answered.{Answered}
 use Rattle.hb_store.specs.ImageLaws.{OpensToOne}
 use Rattle.hb_store.specs.Opening.{OpensTo, IsEven}
-use Rattle.hbpi.specs.Codes.{status_of}
+use Rattle.hbpi.specs.Codes.{start_status}
 use Rattle.hbpi.specs.Core.{CoreState, OpensToPrefix, HoldsAnswers, IsReplied, AreAmong, settled_of}
 use Rattle.hbpi.specs.Driven.{IsScheduled, RunsFrom, Drove, IsTurnedAway, OpenedEnds, DriveCommandEnds}
 use Rattle.hbpi.specs.Ends.{Seen}
 use Rattle.hbpi.specs.Moves.{MovesOn, Shown, shown}
 use Rattle.hbpi.specs.Runs.{KeepsPromise}
-use Rattle.hbpi.specs.declared.restart.faults.OpenFault.{OpenFault}
-use Rattle.hbpi.specs.declared.restart.faults.OpenFault.TheVariants as faults
+use Rattle.hb_restart.specs.declared.faults.OpenFault.TheVariants as faults
+use Rattle.hbpi.specs.declared.starting.StartFault.{StartFault}
+use Rattle.hbpi.specs.declared.starting.StartFault.TheVariants as starts
 use Rattle.hbpi.specs.declared.statuses.Status.{Status}
 use Rattle.hbpi.specs.declared.statuses.Status.TheVariants.{Done, Usage, BadText, SourceFault, SinkFault, DiskFault, Damaged, NoMemory, BadLayout, Small, NotBuilt}
 use Rattle.hbpi.proofs.LinesInOrder.{among_whole}
 use Rattle.hbpi.proofs.Reopened.{no_line_yet}
 
-not_done : (fault : OpenFault) → status_of fault ≡ Done → ⊥
-not_done (faults.BadLayout field value) is = cc (is)
-not_done (faults.Small needed found) is = cc (is)
-not_done faults.NoSuper is = cc (is)
-not_done faults.NotBuilt is = cc (is)
-not_done (faults.BadGroup frame) is = cc (is)
-not_done (faults.Unsound page rule) is = cc (is)
-not_done faults.DiskFault is = cc (is)
-not_done faults.NoMemory is = cc (is)
+not_done : (fault : StartFault) → start_status fault ≡ Done → ⊥
+not_done (starts.Closed (faults.BadLayout field value)) is = cc (is)
+not_done (starts.Closed (faults.Small needed found)) is = cc (is)
+not_done (starts.Closed faults.NoSuper) is = cc (is)
+not_done starts.NotBuilt is = cc (is)
+not_done (starts.Closed (faults.BadGroup frame)) is = cc (is)
+not_done (starts.Closed (faults.Unsound page rule)) is = cc (is)
+not_done (starts.Closed faults.DiskFault) is = cc (is)
+not_done (starts.Closed faults.NoMemory) is = cc (is)
 
 -- where no command was done
 nothing_done : (s : FileState) (d e : DiskModel) (seen : Seen) (status : Status) → IsSound s → seen.answered ≡ [] → seen.order ≡ [] → (IsEven d s → Leaves d e (λ c. OpensTo c s)) → (status ≡ Done → ⊥) → KeepsPromise s d e seen status

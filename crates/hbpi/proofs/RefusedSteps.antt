@@ -5,7 +5,7 @@ use Rattle.hb_disk.specs.Calls.{OnlyReads}
 use Rattle.hb_disk.specs.RunLaws.{OnlyReads-none}
 use Rattle.hb_wal.specs.Log.{LogState}
 use Rattle.hb_frag.specs.declared.pages.Page.{Page}
-use Rattle.hb_ops.specs.declared.meta.Meta.{Meta}
+use Rattle.hb_layout.specs.declared.meta.Meta.{Meta}
 use Rattle.hb_ops.specs.Files.{FileState}
 use Rattle.hb_store.specs.Stops.{IsNoPage}
 use Rattle.hb_set.specs.declared.scripts.Line.{Line}

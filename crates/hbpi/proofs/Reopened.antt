@@ -15,7 +15,7 @@ use Rattle.hbpi.specs.Driven.{RunsFrom, HasRun, Drove, HasFailed, IsTurnedAway, 
 use Rattle.hbpi.specs.Drives.{RunFaults}
 use Rattle.hbpi.specs.Moves.{MovesOn, Shown, shown}
 use Rattle.hbpi.specs.Ends.{Seen}
-use Rattle.hbpi.specs.Restart.{IsOnePage}
+use Rattle.hbpi.specs.Starting.{IsOnePage}
 use Rattle.hbpi.specs.declared.statuses.Status.{Status}
 use Rattle.hbpi.specs.declared.statuses.Status.TheVariants.{Done, Usage, BadText, SourceFault, SinkFault, DiskFault, Damaged, NoMemory, BadLayout, Small, NotBuilt}
 

@@ -5,9 +5,9 @@ use Rattle.hb_frag.specs.declared.pages.Page.{Page}
 use Rattle.hb_frag.specs.declared.pages.Page.TheVariants.{Live, Free}
 use Rattle.hb_frag.specs.Leaves.{weight_of}
 use Rattle.hb_frag.specs.Rules.{capacity_of}
-use Rattle.hb_ops.specs.declared.meta.Meta.{Meta}
+use Rattle.hb_layout.specs.declared.meta.Meta.{Meta}
 use Rattle.hb_ops.specs.Sound.{FitsFile}
-use Rattle.hb_super.specs.Superblocks.{IsLayout}
+use Rattle.hb_layout.specs.Limits.{IsLayout}
 use Rattle.hb_store.specs.Keeps.{IsGoodPage}
 use Rattle.hb_store.specs.declared.stops.Why.{Why}
 use Rattle.hbpi.specs.Damages.{IsRootPage, WhyNotRoot}

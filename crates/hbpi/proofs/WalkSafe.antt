@@ -7,7 +7,7 @@ use Rattle.hb_disk.specs.Calls.{OnlyReads}
 use Rattle.hb_wal.specs.Log.{LogState, Waiting}
 use Rattle.hb_frag.specs.declared.pages.LivePage.{LivePage}
 use Rattle.hb_frag.specs.declared.pages.Page.{Page}
-use Rattle.hb_ops.specs.declared.meta.Meta.{Meta}
+use Rattle.hb_layout.specs.declared.meta.Meta.{Meta}
 use Rattle.hb_ops.specs.declared.operations.Op.{Op}
 use Rattle.hb_set.specs.declared.commands.Command.{Command}
 use Rattle.hb_set.specs.declared.commands.Command.TheVariants.{Insert, Delete, Lookup, Search}
@@ -29,7 +29,7 @@ use Rattle.hbpi.specs.Steps.{StepsSafely, joined_core, with_session, with_stop, 
 use Rattle.hbpi.specs.declared.engine.plans.Plan.{Plan}
 use Rattle.hbpi.specs.declared.engine.plans.Plan.TheVariants as plans
 use Rattle.hbpi.proofs.AnswerSteps.{along}
-use Rattle.hbpi.proofs.EffectSteps.{change_meta}
+use Rattle.hbpi.proofs.EffectSteps.{IsOnRecords, change_meta}
 use Rattle.hbpi.proofs.ForceSteps.{none_is_some, not_some}
 
 -- the reply of a line that takes effect is no read fault
@@ -43,6 +43,14 @@ answers_well meta page (Lookup point) reply (inl by) = look by.0 by.2
     look top (inl h) = λ is. let e = h.1 in cc (e, is)
     look top (inr h) = λ is. let e = h.0 in cc (e, is)
 answers_well meta page (Search area) reply (inl by) = absurd by.2
+
+-- the operation of a line that takes effect is one on the records of a page
+plans_records : (meta : Meta) (page : Page) (command : Command) (op : Op) → PlansBy meta page command (plans.Change op) → IsOnRecords op
+plans_records meta page command op (inr never) = absurd never
+plans_records meta page (Insert rec) op (inl by) = subst IsOnRecords (sym by.2.0) tt
+plans_records meta page (Delete point) op (inl by) = subst IsOnRecords (sym by.2.0) tt
+plans_records meta page (Lookup point) op (inl by) = absurd by.2
+plans_records meta page (Search area) op (inl by) = absurd by.2
 
 -- the stop that is there is the one that is named
 same_damage : (old new : CoreState) (page at : ℕ) (why cause : Why) → Some (stops.Damaged page why) ≡ Some (stops.Damaged at cause) → MeetsDamage old new page why → MeetsDamage old new at cause
@@ -199,12 +207,12 @@ module _ (d m : DiskModel) (reads : OnlyReads d m) (no_fault : m.read_faults ≡
     goes_more : StoreGoes old st (length old.order + 1)
     goes_more = record { stopped = fetched.rest.stopped; meta = fetched.rest.meta; marks = marks_more }
 
-    goes_changed : (op : Op) (store : StoreState) → Commits op (length old.order) st store → StoreGoes old store (length old.order + 1)
-    goes_changed op store commits =
+    goes_changed : (op : Op) (store : StoreState) → IsOnRecords op → Commits op (length old.order) st store → StoreGoes old store (length old.order + 1)
+    goes_changed op store on commits =
         let Q : List Waiting → Type 0 = λ l. All (λ (g : Waiting). g.mark ≤ length old.order + 1) l in
         record {
           stopped = commits.stopped ∙ fetched.rest.stopped;
-          meta = commits.meta ∙ change_meta op st.meta (framed_read st op 0) (framed_read st op 1) (framed_read st op 2) ∙ fetched.rest.meta;
+          meta = commits.meta ∙ change_meta op st.meta (framed_read st op 0) (framed_read st op 1) (framed_read st op 2) on ∙ fetched.rest.meta;
           marks = subst Q (sym commits.groups) (All-push (λ (g : Waiting). g.mark ≤ length old.order + 1) st.log.groups (record { bytes = commits.group; mark = length old.order }) marks_more (omega arith));
         }
 
@@ -215,7 +223,7 @@ module _ (d m : DiskModel) (reads : OnlyReads d m) (no_fault : m.read_faults ≡
     does_safe outcome new line page (plans.Change op) current framed planned (inl refused) =
         refused_safe st goes outcome new line replies.NoMemory current tt (λ e. cc e) refused.0 refused.1
     does_safe outcome new line page (plans.Change op) current framed planned (inr did) =
-        joined_safe did.1.store (goes_changed op did.1.store did.1.commits) outcome new line replies.Done current (λ e. cc e) did.0 did.1.new_is
+        joined_safe did.1.store (goes_changed op did.1.store (plans_records st.meta page line.command op planned) did.1.commits) outcome new line replies.Done current (λ e. cc e) did.0 did.1.new_is
     does_safe outcome new line page plans.Full current framed planned does =
         refused_safe st goes outcome new line replies.Full current tt (λ e. cc e) does.0 does.1
     does_safe outcome new line page (plans.Damaged id why) current framed planned does =

@@ -1,9 +1,11 @@
 -- Exit statuses.
 use Rattle.std.specs.Prelude.{ℕ}
-use Rattle.hbpi.specs.declared.restart.faults.OpenFault.{OpenFault}
-use Rattle.hbpi.specs.declared.restart.faults.OpenFault.TheVariants as faults
+use Rattle.hb_restart.specs.declared.faults.OpenFault.{OpenFault}
+use Rattle.hb_restart.specs.declared.faults.OpenFault.TheVariants as faults
 use Rattle.hb_store.specs.declared.stops.Why.{Why}
 use Rattle.hb_store.specs.declared.stops.Why.TheVariants as whys
+use Rattle.hbpi.specs.declared.starting.StartFault.{StartFault}
+use Rattle.hbpi.specs.declared.starting.StartFault.TheVariants as starts
 use Rattle.hbpi.specs.declared.statuses.Damage.{Damage}
 use Rattle.hbpi.specs.declared.statuses.Damage.TheVariants as damages
 use Rattle.hbpi.specs.declared.statuses.Status.{Status}
@@ -28,13 +30,17 @@ damage_of page (whys.Rule rule) = damages.Rule page rule
 damage_of page (whys.Level asked found) = damages.Level page
 damage_of page (whys.Extent asked found) = damages.Extent page
 
--- the status of a run that a file refused
+-- the status of a run whose file wasn't made or opened
 abbrev pub status_of : OpenFault → Status
 status_of (faults.BadLayout field value) = BadLayout field value
 status_of (faults.Small needed found) = Small needed found
 status_of faults.NoSuper = Damaged damages.NoSuper
-status_of faults.NotBuilt = NotBuilt
 status_of (faults.BadGroup frame) = Damaged (damages.BadGroup frame)
 status_of (faults.Unsound page rule) = Damaged (damages.Rule page rule)
 status_of faults.DiskFault = DiskFault
 status_of faults.NoMemory = NoMemory
+
+-- the status of a run that was refused by its file
+abbrev pub start_status : StartFault → Status
+start_status (starts.Closed fault) = status_of fault
+start_status starts.NotBuilt = NotBuilt

@@ -9,7 +9,8 @@ use Rattle.hb_wal.specs.Log.{Waiting, mark_of}
 use Rattle.hb_frag.specs.declared.pages.LivePage.{LivePage}
 use Rattle.hb_ops.specs.Files.{FileState, contents_of, live_page}
 use Rattle.hb_ops.specs.Sound.{IsSound}
-use Rattle.hb_ops.specs.Operations.{FitsPut, effect_of}
+use Rattle.hb_ops.specs.Recording.{FitsPut}
+use Rattle.hb_ops.specs.Operations.{effect_of}
 use Rattle.hb_ops.specs.declared.operations.Op.{Op}
 use Rattle.hb_ops.specs.declared.operations.Op.TheVariants.{Put, Del}
 use Rattle.hb_set.specs.Machine.{RecordSet, reply_of, set_after}

@@ -1,8 +1,8 @@
 -- What the parts of making a file say.
 use Rattle.std.specs.Prelude.{◌≡◌, ℕ, ◌<◌, ◌≤◌, List, codes, Option, Some, None}
 use Rattle.hb_outside.specs.Streams.{Rose, Appends, AppendsFront}
-use Rattle.hbpi.specs.declared.restart.faults.OpenFault.{OpenFault}
-use Rattle.hbpi.specs.declared.restart.faults.OpenFault.TheVariants.{BadLayout, Small, NoSuper, NotBuilt, BadGroup, Unsound, DiskFault, NoMemory}
+use Rattle.hb_restart.specs.declared.faults.OpenFault.{OpenFault}
+use Rattle.hb_restart.specs.declared.faults.OpenFault.TheVariants.{BadLayout, Small, NoSuper, BadGroup, Unsound, DiskFault, NoMemory}
 use Rattle.hbpi.specs.declared.statuses.Status.{Status}
 use Rattle.hbpi.specs.declared.statuses.Status.TheVariants as statuses
 use Rattle.hbpi.specs.declared.statuses.Status.TheVariants.{Done, SinkFault}
@@ -20,7 +20,6 @@ NotMadeOn fault needed size before after (Small wanted found) = (fault ≡ None)
 NotMadeOn fault needed size before after DiskFault = (fault ≡ None) × (needed ≤ size) × Rose before after
 NotMadeOn fault needed size before after NoMemory = (fault ≡ None) × (needed ≤ size) × (after ≡ before)
 NotMadeOn fault needed size before after NoSuper = ⊥
-NotMadeOn fault needed size before after NotBuilt = ⊥
 NotMadeOn fault needed size before after (BadGroup frame) = ⊥
 NotMadeOn fault needed size before after (Unsound page rule) = ⊥
 

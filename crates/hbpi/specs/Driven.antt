@@ -16,15 +16,16 @@ use Rattle.hbpi.specs.declared.drive.End.{End}
 use Rattle.hbpi.specs.declared.drive.End.TheVariants as ends
 use Rattle.hb_store.specs.declared.stops.Why.{Why}
 use Rattle.hb_text.specs.Grammar.{text_read}
-use Rattle.hbpi.specs.Codes.{damage_of, status_of}
+use Rattle.hbpi.specs.Codes.{damage_of, start_status}
 use Rattle.hbpi.specs.Core.{CoreState, IsServed, AreAmong, Reaches, HoldsAnswers, CrashesTo, IsReplied, AnswersFirst, entries_from, set_of, settled_of}
 use Rattle.hbpi.specs.Drives.{IsStart, HasReadFault, RunFaults, run_output}
 use Rattle.hbpi.specs.Ends.{Seen, IsRefused, IsUnread}
 use Rattle.hbpi.specs.Moves.{MovesOn, HasOrder, shown}
 use Rattle.hbpi.specs.Outcome.{GetsLine, IsTextOf, IsWholeText, fault_line}
-use Rattle.hbpi.specs.Restart.{Refuses, IsOnePage, IsShut, IsUnwritten}
-use Rattle.hbpi.specs.declared.restart.faults.OpenFault.{OpenFault}
-use Rattle.hbpi.specs.declared.restart.faults.OpenFault.TheVariants as faults
+use Rattle.hb_restart.specs.declared.faults.OpenFault.TheVariants as faults
+use Rattle.hbpi.specs.Starting.{RefusesStart, IsOnePage, IsShutBy, IsUnwrittenBy}
+use Rattle.hbpi.specs.declared.starting.StartFault.{StartFault}
+use Rattle.hbpi.specs.declared.starting.StartFault.TheVariants as starts
 use Rattle.hbpi.specs.declared.statuses.Damage.{Damage}
 use Rattle.hbpi.specs.declared.statuses.Status.{Status}
 use Rattle.hbpi.specs.declared.statuses.Status.TheVariants.{Done, Usage, BadText, SourceFault, SinkFault, DiskFault, Damaged, NoMemory, BadLayout, Small, NotBuilt}
@@ -94,15 +95,17 @@ HasFailed d e = Rose d.read_faults e.read_faults ⊎ Rose d.write_faults e.write
 abbrev pub HasNotFailed : DiskModel → DiskModel → Type 0
 HasNotFailed d e = (e.read_faults ≡ d.read_faults) × (e.write_faults ≡ d.write_faults)
 
--- The file wasn't opened, and the source wasn't read. Over an even disk a crash leaves the same file.
-pub record IsShutOut (d e : DiskModel) (seen : Seen) (fault : OpenFault) : Type 0 where
-  pub refused : IsRefused seen (status_of fault)
+-- The file wasn't opened, or is a larger one, and the source wasn't read. Over an even disk a crash leaves the same file.
+-- A larger one was opened first, and every image of now opens to it.
+pub record IsShutOut (d e : DiskModel) (seen : Seen) (fault : StartFault) : Type 0 where
+  pub refused : IsRefused seen (start_status fault)
   pub unread : IsUnread seen
-  pub why : IfSome d.told (Refuses fault)
-  pub shut : IsShut d.size fault
-  pub failed : fault ≡ faults.DiskFault → HasFailed d e
-  pub no_fault : ¬ (fault ≡ faults.DiskFault) → HasNotFailed d e
-  pub unwritten : IsUnwritten fault → OnlyReads d e
+  pub why : IfSome d.told (RefusesStart fault)
+  pub shut : IsShutBy d.size fault
+  pub failed : fault ≡ starts.Closed faults.DiskFault → HasFailed d e
+  pub no_fault : ¬ (fault ≡ starts.Closed faults.DiskFault) → HasNotFailed d e
+  pub unwritten : IsUnwrittenBy fault → OnlyReads d e
+  pub left : fault ≡ starts.NotBuilt → IfSome d.told (λ b. (s : FileState) × OpensTo b s × IsEven e s)
   pub even : (s : FileState) → IsEven d s → Leaves d e (λ c. OpensTo c s)
 
 -- The file was opened, over k attributes, and no command was done. Every image of now opens to the file; and over
@@ -148,9 +151,9 @@ OpenedEnds d e seen (Small needed found) = ⊥
 OpenedEnds d e seen Usage = ⊥
 OpenedEnds d e seen (BadLayout field value) = ⊥
 
--- a run of `drive`: its file wasn't opened, or it was
+-- a run of `drive`: its file wasn't opened or is a larger one, or it was opened
 abbrev pub DriveCommandEnds : DiskModel → DiskModel → Seen → Status → Type 0
-DriveCommandEnds d e seen status = ((fault : OpenFault) × (status ≡ status_of fault) × IsShutOut d e seen fault) ⊎ OpenedEnds d e seen status
+DriveCommandEnds d e seen status = ((fault : StartFault) × (status ≡ start_status fault) × IsShutOut d e seen fault) ⊎ OpenedEnds d e seen status
 
 -- why no schedule was read of a text over k attributes
 abbrev pub NotScheduled : ℕ → Option (List ℕ) → Option (List ℕ) → ℕ → ℕ → Status → Type 0

@@ -2,14 +2,9 @@ pub mod Forms
 pub mod Codes
 pub mod Taking
 pub mod Outcome
-pub mod Layouts
 pub mod Ends
 pub mod Created
-pub mod Restart
-pub mod OnePage
-pub mod Creation
-pub mod Looking
-pub mod Renewing
+pub mod Starting
 pub mod Core
 pub mod Beyond
 pub mod CoreSeen

@@ -13,8 +13,8 @@ use Rattle.hbpi.specs.declared.statuses.Status.{Status}
 use Rattle.hbpi.specs.declared.statuses.Status.TheVariants.{Done, Usage, BadText, SourceFault, SinkFault, DiskFault, Damaged, NoMemory, BadLayout, Small, NotBuilt}
 use Rattle.hbpi.specs.declared.statuses.Damage.{Damage}
 use Rattle.hbpi.specs.declared.statuses.Damage.TheVariants as damages
-use Rattle.hbpi.specs.declared.restart.faults.Field.{Field}
-use Rattle.hbpi.specs.declared.restart.faults.Field.TheVariants as fields
+use Rattle.hb_restart.specs.declared.faults.Field.{Field}
+use Rattle.hb_restart.specs.declared.faults.Field.TheVariants as fields
 
 -- the name of a rule
 abbrev pub rule_name : TextRule → List ℕ

@@ -9,15 +9,15 @@ use Rattle.hb_outside.specs.Streams.{Rose}
 use Rattle.hb_store.specs.Opening.{IsEven, OpensTo}
 use Rattle.hb_text.specs.declared.rules.BadLine.{BadLine}
 use Rattle.hb_text.specs.Grammar.{Reading, text_read}
-use Rattle.hbpi.specs.Beyond.{KeepsBeyond, KeepsBeyondFile}
+use Rattle.hb_restart.specs.Beyond.{KeepsBeyond, KeepsBeyondFile}
 use Rattle.hbpi.specs.Core.{AreAmong, HoldsAnswers, CrashesTo, IsReplied, entries_from, set_of}
 use Rattle.hbpi.specs.Driven.{DriveCommandEnds, HasFailed, IsScheduled, IsServedScript}
-use Rattle.hbpi.specs.Codes.{status_of}
+use Rattle.hbpi.specs.Codes.{start_status}
 use Rattle.hbpi.specs.Created.{IsUnmade}
-use Rattle.hbpi.specs.Restart.{IsOnePage, IsUnwritten, Refuses}
-use Rattle.hbpi.specs.declared.restart.faults.OpenFault.{OpenFault}
+use Rattle.hbpi.specs.Starting.{IsOfBytes, IsOnePage, RefusesStart}
+use Rattle.hbpi.specs.declared.starting.StartFault.{StartFault}
 use Rattle.hbpi.specs.Ends.{Seen, DiskSeen, DryEnds, CreateEnds, UsageEnds, UnbuiltEnds}
-use Rattle.hbpi.specs.Layouts.{first_fault, size_of}
+use Rattle.hb_restart.specs.Layouts.{first_fault, size_of}
 use Rattle.hbpi.specs.declared.forms.Form.{Form}
 use Rattle.hbpi.specs.declared.forms.Form.TheVariants.{Create, Dry, Drive}
 use Rattle.hbpi.specs.declared.statuses.Status.{Status}
@@ -94,5 +94,5 @@ NamesScheduleLine d seen status = (bytes : List ℕ) (s : FileState) (left : Lis
 -- them; and a refusal that is true of them is the one that is answered. Memory may be refused in their place.
 abbrev pub RefusesFile : DiskModel → DiskModel → Status → Type 0
 RefusesFile d e status = (bytes : List ℕ) → d.told ≡ Some bytes → ¬ (HasFailed d e) →
-    (((s : FileState) → OpensTo bytes s → IsSound s → ⊥) → (status ≡ NoMemory) ⊎ ((fault : OpenFault) × (status ≡ status_of fault) × Refuses fault bytes × IsUnwritten fault))
-    × ((fault : OpenFault) → Refuses fault bytes → IsUnwritten fault → (status ≡ status_of fault) ⊎ (status ≡ NoMemory))
+    (((s : FileState) → OpensTo bytes s → IsSound s → ⊥) → (status ≡ NoMemory) ⊎ ((fault : StartFault) × (status ≡ start_status fault) × RefusesStart fault bytes × IsOfBytes fault))
+    × ((fault : StartFault) → RefusesStart fault bytes → IsOfBytes fault → (status ≡ start_status fault) ⊎ (status ≡ NoMemory))

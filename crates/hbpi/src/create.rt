@@ -2,20 +2,18 @@
 ghost use Rattle.std.specs.Prelude.{◌≡◌, ◌≢◌, ℕ, ◌≤◌, ◌<◌, List, Option, IfOk, IfErr, IsSome, Some, None};
 ghost use Rattle.hb_store.specs.Opening.{IsEven};
 ghost use Rattle.hbpi.specs.Ends.{CreateEnds, HasMade};
-ghost use Rattle.hbpi.specs.Layouts.{first_fault, size_of};
-ghost use Rattle.hbpi.specs.Restart.{new_file};
-ghost use Rattle.hbpi.specs.Beyond.{KeepsBeyond};
+ghost use Rattle.hb_restart.specs.Layouts.{first_fault, size_of};
+ghost use Rattle.hb_restart.specs.NewFiles.{new_file};
+ghost use Rattle.hb_restart.specs.Beyond.{KeepsBeyond};
 ghost use Rattle.hbpi.specs.Created.{IsMadeOn, IsUnmade, NotMadeOn};
-ghost use Rattle.hbpi.specs.declared.restart.faults.OpenFault.TheVariants.{DiskFault, NoMemory};
+ghost use Rattle.hb_restart.specs.declared.faults.OpenFault.TheVariants.{DiskFault, NoMemory};
 
 use crate::dry::refused;
 use crate::finished::Finished;
-use crate::restart::creation::create;
-use crate::restart::faults::OpenFault;
-use crate::restart::layout::Layout;
 use crate::statuses::Status;
 use hb_disk::Device;
 use hb_outside::Sink;
+use hb_restart::{Layout, OpenFault, create};
 use hb_store::an_image_of_a_store_opens;
 use std::alloc::Global;
 

@@ -6,8 +6,8 @@ ghost use Rattle.hb_ops.specs.Sound.{IsSound};
 ghost use Rattle.hb_set.specs.Scripts.{IsScriptFor};
 ghost use Rattle.hb_store.specs.Keeps.{StoreKeeps, IsNew};
 ghost use Rattle.hb_store.specs.Seen.{seen_as, disk_of};
-ghost use Rattle.hb_store.specs.Opening.{file_size};
-ghost use Rattle.hbpi.specs.Beyond.{KeepsBeyond, KeepsBeyondFile};
+ghost use Rattle.hb_layout.specs.Offsets.{file_size};
+ghost use Rattle.hb_restart.specs.Beyond.{KeepsBeyond, KeepsBeyondFile};
 ghost use Rattle.hbpi.specs.Core.{IsServed, IsServedCommand};
 ghost use Rattle.hbpi.specs.CoreSeen.{core_seen, core_disk};
 ghost use Rattle.hbpi.specs.Driven.{IsScheduled, IsServedScript, NotScheduled, OpenedEnds, DriveCommandEnds, status_after};
@@ -18,7 +18,7 @@ use crate::dry::refused;
 use crate::engine::state::Core;
 use crate::faults::put_fault;
 use crate::finished::Finished;
-use crate::restart::recovery::recover;
+use crate::starting::start;
 use crate::statuses::{Damage, Status};
 use crate::texts::{TextStop, read_text};
 use hb_disk::Disk;
@@ -222,8 +222,8 @@ pub(crate) fn drive_file<S: Source, K: Sink, D: Disk>(
 {
     // Law: the file that is opened is the one that the bytes open to.
     an_image_opens_to_one_file();
-    match recover(alloc, disk) {
-        Ok((store, _)) => drive_store(alloc, source, sink, store),
+    match start(alloc, disk) {
+        Ok(store) => drive_store(alloc, source, sink, store),
         Err((fault, disk)) => refused(alloc, Status::from(fault), sink, disk),
     }
 }

@@ -2,10 +2,10 @@ ghost use Rattle.std.specs.Prelude.{◌≡◌, ◌≤◌, ◌++◌, [], length, 
 ghost use Rattle.hb_outside.specs.Streams.{Rose, Appends, AppendsFront};
 ghost use Rattle.hbpi.specs.Outcome.{rule_name, field_name, fault_line, GetsLine};
 
-use crate::restart::faults::Field;
 use crate::statuses::{Damage, Status};
 use arrayvec::ArrayVec;
 use hb_outside::Sink;
+use hb_restart::Field;
 use hb_text::{BadLine, TextRule};
 use itoa::Buffer;
 

@@ -24,7 +24,7 @@ mod file_disk;
 mod files;
 mod finished;
 mod forms;
-mod restart;
+mod starting;
 mod statuses;
 #[cfg(test)]
 mod tests;
@@ -35,5 +35,5 @@ pub use calls::{Call, call_of, run, run_process};
 pub use file_disk::FileDisk;
 pub use files::{make_file, open_file};
 pub use finished::Finished;
-pub use restart::faults::Field;
+pub use hb_restart::Field;
 pub use statuses::{Damage, Status};

@@ -1,7 +1,8 @@
 ghost use Rattle.std.specs.Prelude.{◌≡◌, ◌≢◌};
 ghost use Rattle.hbpi.specs.Codes.{code_of, damage_of, status_of};
 
-use crate::restart::faults::{Field, OpenFault};
+use crate::starting::StartFault;
+use hb_restart::{Field, OpenFault};
 use hb_store::Why;
 use hb_text::BadLine;
 
@@ -99,17 +100,31 @@ impl From<OpenFault> for Status {
 
     ghost from_gives = { λ fault status. status ≡ status_of fault };
 
-    /// The status of a run that a file refused.
+    /// The status of a run whose file wasn't made or opened.
     fn from(fault: OpenFault) -> Status {
         match fault {
             OpenFault::BadLayout { field, value } => Status::BadLayout { field, value },
             OpenFault::Small { needed, found } => Status::Small { needed, found },
             OpenFault::NoSuper => Status::Damaged(Damage::NoSuper),
-            OpenFault::NotBuilt => Status::NotBuilt,
             OpenFault::BadGroup { frame } => Status::Damaged(Damage::BadGroup { frame }),
             OpenFault::Unsound { page, rule } => Status::Damaged(Damage::Rule { page, rule }),
             OpenFault::DiskFault => Status::DiskFault,
             OpenFault::NoMemory => Status::NoMemory,
+        }
+    }
+}
+
+impl From<StartFault> for Status {
+    ghost use Rattle.std.specs.Prelude.{◌≡◌};
+    ghost use Rattle.hbpi.specs.Codes.{start_status};
+
+    ghost from_gives = { λ fault status. status ≡ start_status fault };
+
+    /// The status of a run that was refused by its file.
+    fn from(fault: StartFault) -> Status {
+        match fault {
+            StartFault::Closed(fault) => Status::from(fault),
+            StartFault::NotBuilt => Status::NotBuilt,
         }
     }
 }

@@ -2,7 +2,7 @@ ghost use Rattle.std.specs.Prelude.{◌≡◌, ◌⊎◌, ℕ, ◌≤◌, ◌↔
 ghost use Rattle.hb_ops.specs.Files.{FileState};
 ghost use Rattle.hb_ops.specs.Sound.{IsSound};
 ghost use Rattle.hb_store.specs.Opening.{IsEven, OpensTo};
-ghost use Rattle.hbpi.specs.Restart.{new_file};
+ghost use Rattle.hb_restart.specs.NewFiles.{new_file};
 ghost use Rattle.hbpi.specs.Forms.{form_of, IsUnbuilt};
 ghost use Rattle.hbpi.specs.Ends.{seen_by, HasMade, IsComplete, IsMadeWhole, RefusesBadText, NamesBadLine, UsesNoDisk};
 ghost use Rattle.hbpi.specs.Runs.{RunEnds, IsDriven, LeavesBeyond, LeavesUnmade, KeepsPromise, NamesScheduleLine, RefusesFile, disk_seen};
@@ -12,7 +12,7 @@ use crate::drive_file::drive_file;
 use crate::dry::{dry, refused};
 use crate::finished::Finished;
 use crate::forms::Form;
-use crate::restart::laws::{a_good_file_is_not_refused, bytes_are_refused_in_one_way};
+use crate::starting::{a_good_file_is_served, a_start_is_refused_in_one_way};
 use crate::statuses::Status;
 use hb_disk::Disk;
 use hb_outside::{Sink, Source};
@@ -83,8 +83,8 @@ pub fn top<S: Source, K: Sink, D: Disk>(
 {
     // Laws: bytes open to one file at most, and one that is good isn't refused; the others are in one way.
     an_image_opens_to_one_file();
-    a_good_file_is_not_refused();
-    bytes_are_refused_in_one_way();
+    a_good_file_is_served();
+    a_start_is_refused_in_one_way();
     match Form::of_words(words) {
         None => refused(alloc, Status::Usage, sink, disk),
         Some(Form::Dry { k }) => dry(alloc, k, source, sink, disk),

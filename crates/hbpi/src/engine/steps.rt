@@ -7,7 +7,7 @@ ghost use Rattle.hb_set.specs.Machine.{RecordSet};
 ghost use Rattle.hb_set.specs.Scripts.{IsScriptFor};
 ghost use Rattle.hb_set.specs.declared.commands.Reply.TheVariants.{ReadFault};
 ghost use Rattle.hb_set.specs.declared.scripts.Line.{Line as Entry};
-ghost use Rattle.hb_ops.specs.declared.meta.Meta.{Meta as Said};
+ghost use Rattle.hb_layout.specs.declared.meta.Meta.{Meta as Said};
 ghost use Rattle.hb_store.specs.Keeps.{StoreKeeps, IsNew, last_of};
 ghost use Rattle.hb_store.specs.Seen.{seen_as, disk_of};
 ghost use Rattle.hb_store.specs.declared.stops.StopWhy.TheVariants.{WriteFault};

@@ -4,7 +4,8 @@ ghost use Rattle.hb_frag.specs.declared.pages.Page.{Page as Framed};
 ghost use Rattle.hb_set.specs.Machine.{RecordSet, attributes};
 ghost use Rattle.hb_set.specs.Scripts.{IsScriptFor};
 ghost use Rattle.hb_set.specs.declared.scripts.Line.{Line as Entry};
-ghost use Rattle.hb_ops.specs.Operations.{OpHas};
+ghost use Rattle.hb_ops.specs.Files.{FileState};
+ghost use Rattle.hb_ops.specs.Operations.{IsLicensed, OpHas};
 ghost use Rattle.hb_store.specs.Calls.{IsReady, IsAllowedHere};
 ghost use Rattle.hb_store.specs.Seen.{seen_as};
 ghost use Rattle.hbpi.specs.Beyond.{StaysInLog};
@@ -20,8 +21,8 @@ use crate::engine::session::{Outcome, Session};
 use crate::engine::state::Core;
 use hb_disk::Device;
 use hb_ops::{
-    Op, delete_takes_one_record, lone_page_has_no_others, operations_keep_a_file_sound,
-    put_adds_one_record, what_stands_is_in_the_contents,
+    Op, delete_takes_one_record, lone_page_has_no_others, put_adds_one_record,
+    puts_and_deletes_keep_a_file_sound, what_stands_is_in_the_contents,
 };
 use hb_set::{Command, Reply};
 use hb_store::{FetchStop, StopWhy, Store, Why};
@@ -63,7 +64,7 @@ fn operations_do_as_the_machine()
     put_adds_one_record();
     delete_takes_one_record();
     lone_page_has_no_others();
-    operations_keep_a_file_sound();
+    puts_and_deletes_keep_a_file_sound();
     what_stands_is_in_the_contents();
 }
 
@@ -183,6 +184,7 @@ impl<D: Device> Core<D> {
         requires ready { IsReady (core_seen self.old).store }
         requires points { OpHas (core_seen self.old).store.meta.k op }
         requires allowed { IsAllowedHere (core_seen self.old).store op }
+        requires licensed { (s : FileState) → IsLicensed s op }
         requires marks { All (λ g. g.mark ≤ length (core_seen self.old).order) (core_seen self.old).store.log.groups }
         ensures changes { ChangesOr number op (D.model (core_disk self.old)) (core_seen self.old) result (D.model (core_disk self.new)) (core_seen self.new) }
         ensures disk { core_disk self.new ≡ core_disk self.old }

@@ -1,10 +1,8 @@
 //! Files that are made and driven. Places and bytes are worked out from `docs/FORMAT.md`.
 
 use super::{SIZE, drive_on, made, new_file, plain, put_at, run_on, run_over};
-use crate::restart::creation::create;
-use crate::restart::layout::Layout;
-use crate::restart::recovery::recover;
 use hb_disk::{Disk, MemDisk};
+use hb_restart::{Layout, create, recover};
 use std::alloc::Global;
 
 /// Where the log area 1 of such a file begins.
@@ -376,14 +374,21 @@ fn a_longer_disk_is_let_alone(rt: HostRuntime) {
 }
 
 #[test]
-fn files_of_more_pages_are_not_built(rt: HostRuntime) {
-    // the last byte of the high mark, and the height
-    for (at, byte) in [(32, 2), (32, 65), (29, 1), (12, 2), (12, 12)] {
+fn pages_and_levels_that_are_not_there(rt: HostRuntime) {
+    // the last byte of the high mark and its first one, and the height
+    let rows = [
+        (32, 2, "7 damaged 2 S0\n"),
+        (32, 65, "7 damaged 2 S0\n"),
+        (29, 1, "7 damaged 2 S0\n"),
+        (12, 2, "7 damaged 0 S1\n"),
+        (12, 12, "7 damaged 0 S1\n"),
+    ];
+    for (at, byte, want) in rows {
         let mut bytes = new_file(rt.alloc()).expect(&rt, "memory");
         put_at(&mut bytes, at, &[byte]);
         let text = "1 insert 1 =a\nstep 1x4\n";
         let left = drive_on(rt.alloc(), text, &bytes).expect(&rt, "memory");
-        assert_eq!(rt; left.said.as_str(), "11 not built\n", "{at}");
+        assert_eq!(rt; left.said.as_str(), want, "{at}");
         assert!(rt; left.disk.clock() == 0, "{at}");
     }
 }

@@ -1,4 +1,4 @@
-//! Files that are damaged or cut short. Nothing is written to any of them.
+//! Files that are damaged or cut short, and a larger one. Nothing is written to those that are refused for their bytes.
 
 use super::{Left, drive_on, new_file, put_at};
 use hb_disk::Disk;
@@ -47,9 +47,11 @@ const UNORDERED: [u8; 41] = [
 /// Where page 1 stands.
 const PAGE_1: usize = 139_264;
 
-/// Whether this was said, and the disk is untouched where it is a refusal.
+/// Whether this was said, and the disk is untouched where it is a refusal of the bytes. A file that is opened, and isn't
+/// served, begins its next turn first.
 fn is_right(left: &Left, want: &str) -> bool {
-    left.said.as_str() == want && (left.disk.clock() == 0 || want.starts_with('0'))
+    let may_write = want.starts_with('0') || want.starts_with("11");
+    left.said.as_str() == want && (left.disk.clock() == 0 || may_write)
 }
 
 #[test]
@@ -120,7 +122,7 @@ fn damaged_logs_are_refused(rt: HostRuntime) {
         ([(73_737, b"\x02"), none], "7 bad group 0\n"),
         ([(73_738, b"\x09"), none], "7 bad group 0\n"),
         // no operation of this tag, and a put into a page that the log doesn't touch
-        ([(77_834, b"\x03"), none], "7 bad group 0\n"),
+        ([(77_834, b"\x07"), none], "7 bad group 0\n"),
         ([(77_838, b"\x02"), none], "7 bad group 0\n"),
         ([(77_849, b"\xA5\0\0\0\0"), none], "7 bad group 1\n"),
         ([(77_854, b"\x01"), none], "7 bad group 1\n"),
@@ -143,6 +145,25 @@ fn damaged_logs_are_refused(rt: HostRuntime) {
             patches[0].0,
             left.said.as_str()
         );
+    }
+}
+
+/// A frame with one group, of no image: page 2 becomes the root of a file of one page, whose free chain is empty.
+const GROWTH: [u8; 15] = [0xA5, 0, 0, 0, 10, 0, 6, 0, 0, 0, 2, 0, 0, 0, 0];
+
+#[test]
+fn logs_that_lead_to_more_pages_are_not_built(rt: HostRuntime) {
+    // The log area of a new file's turn begins at 8192. The new root has to be page 2, and none is free afterwards.
+    let none: (usize, &[u8]) = (0, b"");
+    let rows: [([(usize, &[u8]); 2], &str); 4] = [
+        ([(8_192, &GROWTH), none], "11 not built\n"),
+        ([(8_192, &GROWTH), (8_202, b"\x03")], "7 bad group 0\n"),
+        ([(8_192, &GROWTH), (8_206, b"\x01")], "7 bad group 0\n"),
+        ([(8_192, &GROWTH), (8_192, b"\0")], "0 1 ok\norder 1\n"),
+    ];
+    for (patches, want) in rows {
+        let left = over(rt.alloc(), new_file(rt.alloc()), patches).expect(&rt, "memory");
+        assert!(rt; is_right(&left, want), "{}", left.said.as_str());
     }
 }
 

@@ -25,6 +25,7 @@ loop-place-preserved g c =
     record {
       told = c.read_fact.ensures.stays ∙ kept.told;
       faults = read.no_fault (λ e. cc) ∙ kept.faults;
+      asked = g.P.Pages.asked_on c.args.pages.now c.loop-place.pages c.read_fact.new.pages kept.asked c.read_fact.ensures.asked;
       count = omega (arith, long, longer, before, after, kept.count);
       light = subst L (sym items) (All-append IsLightFact c.loop-place.facts.items (fact ∷ []) kept.light (All-cons IsLightFact fact [] read.light (All-nil IsLightFact)));
       most = inr read.there.0;

@@ -8,6 +8,7 @@ abbrev pub invariant-loop-place : goal.invariant-loop-place
 invariant-loop-place g l = record {
   told : g.P.Pages.told l.pages ≡ g.P.Pages.told l.fn.pages;
   faults : g.P.Pages.faults l.pages ≡ g.P.Pages.faults l.fn.pages;
+  asked : g.P.Pages.asked l.fn.pages l.pages;
   count : vec_len l.facts ≡ l.place;
   light : All IsLightFact l.facts.items;
   most : (l.place ≡ 0) ⊎ (l.place ≤ l.meta.pages);

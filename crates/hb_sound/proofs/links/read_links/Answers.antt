@@ -14,6 +14,10 @@ returns-in_err-read-clause-never g c =
     (on_broken (N (g.P.Pages.told c.loop-place.pages)) (IfSome (g.P.Pages.told c.args.pages.now) (λ told. (list : List Page) → AreRead told c.args.facts.now list → ⊥)) c.in_err-read.field-0.0
     (λ never. never_broken (g.P.Pages.told c.args.pages.now) c.args.facts.now c.loop-place.place c.loop-place-test.true (subst N c.loop-place.invariant.told never)) c.in_err-read.ensures.never)
 
+pub returns-in_err-read-clause-asked : goal.returns-in_err-read-clause-asked
+returns-in_err-read-clause-asked g c =
+    g.P.Pages.asked_on c.args.pages.now c.loop-place.pages c.read.new.pages c.loop-place.invariant.asked c.read.ensures.asked
+
 pub loop-place-preserved : goal.loop-place-preserved
 loop-place-preserved g c =
     let kept = c.loop-place.invariant in
@@ -23,6 +27,7 @@ loop-place-preserved g c =
     record {
       told = c.read.ensures.stays ∙ kept.told;
       faults = read.no_fault (λ e. cc) ∙ kept.faults;
+      asked = g.P.Pages.asked_on c.args.pages.now c.loop-place.pages c.read.new.pages kept.asked c.read.ensures.asked;
       same = c.read.ensures.same ∙ kept.same;
       links = links_more (g.P.Pages.told c.args.pages.now) c.args.facts.now c.loop-place.place c.loop-place.links c.read.new.self c.loop-place-test.true kept.links (subst A kept.told read.adds);
     }

@@ -8,6 +8,7 @@ abbrev pub invariant-loop-place : goal.invariant-loop-place
 invariant-loop-place g l = record {
   told : g.P.Pages.told l.pages ≡ g.P.Pages.told l.fn.pages;
   faults : g.P.Pages.faults l.pages ≡ g.P.Pages.faults l.fn.pages;
+  asked : g.P.Pages.asked l.fn.pages l.pages;
   same : vec_len l.links.named ≡ length l.facts;
   links : IfSome (g.P.Pages.told l.fn.pages) (λ told. (list : List Page) → AreRead told l.facts list → AreLinks l.facts list l.place l.links);
 }

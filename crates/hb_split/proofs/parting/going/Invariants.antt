@@ -1,5 +1,5 @@
 use Rattle.std.proofs.Common.{◌≡◌, take, filter}
-use Rattle.hb_sound.specs.Splitting.{is_on}
+use Rattle.hb_ops.specs.Cutting.{is_on}
 use Rattle.hb_split.proofs.parting.going.Given as goal
 
 abbrev pub invariant-loop-record : goal.invariant-loop-record

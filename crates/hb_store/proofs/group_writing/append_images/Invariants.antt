@@ -1,6 +1,6 @@
 use Rattle.std.proofs.Common.{◌≡◌, ◌≤◌, ◌++◌, length, take}
 use Rattle.std.specs.List.{flat_map}
-use Rattle.hb_store.specs.Groups.{image_bytes}
+use Rattle.hb_log_codec.specs.Groups.{image_bytes}
 use Rattle.hb_store.specs.Images.{images_due}
 use Rattle.hb_store.proofs.group_writing.append_images.Given as goal
 

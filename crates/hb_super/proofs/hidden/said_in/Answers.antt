@@ -1,7 +1,8 @@
 use Rattle.std.proofs.Common.{◌≡◌, ℕ, sym, ap, ◌∙◌, subst, refl, true≢false}
 use Rattle.std.proofs.lemmas.Slice.Eq.{bytes_eq-Decides}
-use Rattle.hb_ops.specs.declared.meta.Meta.{Meta}
-use Rattle.hb_super.specs.Superblocks.{IsLayout, body_bytes}
+use Rattle.hb_layout.specs.declared.meta.Meta.{Meta}
+use Rattle.hb_layout.specs.Limits.{IsLayout}
+use Rattle.hb_super.specs.Superblocks.{body_bytes}
 use Rattle.hb_super.proofs.hidden.said_in.Goals as goal
 use Rattle.hb_super.proofs.hidden.said_in.Goals.{else-found-turn-via-then-found-turn+then-is_layout+else-eq, else-found-turn-via-then-found-turn+else-is_layout, else-found-turn-via-else-found-turn}
 

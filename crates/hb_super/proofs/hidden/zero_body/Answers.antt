@@ -1,8 +1,8 @@
 use Rattle.std.proofs.Common.{ℕ, ◌+◌, ◌≤◌, List, IfSome, replicate, sym, ◌∙◌, subst, arith}
 use Rattle.hb_disk.specs.Calls.{Writes}
 use Rattle.hb_disk.specs.RunLaws.{if_value, on_ok, Becomes-torn, Becomes-torn_write, Becomes-torn_sync}
-use Rattle.hb_ops.specs.declared.meta.Meta.{Meta}
-use Rattle.hb_super.specs.Superblocks.{place_of}
+use Rattle.hb_layout.specs.declared.meta.Meta.{Meta}
+use Rattle.hb_layout.specs.Offsets.{slot_offset}
 use Rattle.hb_super.specs.Moments.{HidesNoOther}
 use Rattle.hb_super.proofs.Writes.{place_fits}
 use Rattle.hb_super.proofs.Clears.{zeroed_hides}
@@ -12,10 +12,10 @@ pub returns-clause-place : goal.returns-clause-place
 returns-clause-place g c =
     let is_disk = g.met.D.Device.is_disk in
     let model = g.D.Device.model in
-    let at = place_of c.args.turn + 1 in
-    let low : place_of c.args.turn + 41 ≤ 8192 = place_fits c.args.turn in
+    let at = slot_offset c.args.turn + 1 in
+    let low : slot_offset c.args.turn + 41 ≤ 8192 = place_fits c.args.turn in
     let inside : 8192 ≤ (model c.args.disk.now).size = c.requires.room in
-    let writes = subst (λ (at : ℕ). Writes (at + 1) (replicate 40 0) c.zero.result (model c.args.disk.now) (model c.zero.new.self)) c.place_at.ensures c.zero.ensures.writes in
+    let writes = subst (λ (at : ℕ). Writes (at + 1) (replicate 40 0) c.zero.result (model c.args.disk.now) (model c.zero.new.self)) c.slot_offset.ensures c.zero.ensures.writes in
     Becomes-torn at 40 (model c.args.disk.now) (model c.zero.new.self) (model c.sync.new.self)
     (Becomes-torn_write c.zero.result at (replicate 40 0) at 40 (model c.args.disk.now) (model c.zero.new.self)
     (is_disk c.args.disk.now) (is_disk c.zero.new.self) (omega (arith, low, inside)) (omega arith) (omega arith) writes c.zero.ensures.ticks)
@@ -29,5 +29,5 @@ returns-clause-hidden g c =
     let P = λ (b : List ℕ). (meta : Meta) → HidesNoOther b c.args.turn meta in
     on_ok c.sync.result (IfSome new.told P) (if_value new.told P (λ e told meta.
     zeroed_hides c.zero.result c.in_ok-zero.field-0 d one (g.met.D.Device.is_disk c.args.disk.now) c.requires.room c.args.turn c.in_ok-zero.was
-    (subst (λ (at : ℕ). Writes (at + 1) (replicate 40 0) c.zero.result d one) c.place_at.ensures c.zero.ensures.writes)
+    (subst (λ (at : ℕ). Writes (at + 1) (replicate 40 0) c.zero.result d one) c.slot_offset.ensures c.zero.ensures.writes)
     e (sym c.sync.ensures.syncs.same ∙ told) meta))

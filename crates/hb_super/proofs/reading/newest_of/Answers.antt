@@ -1,5 +1,5 @@
 use Rattle.std.proofs.Common.{ℕ, Option, subst}
-use Rattle.hb_ops.specs.declared.meta.Meta.{Meta}
+use Rattle.hb_layout.specs.declared.meta.Meta.{Meta}
 use Rattle.hb_super.specs.Reading.{Stands}
 use Rattle.hb_super.proofs.Supers.{first_alone, second_alone}
 use Rattle.hb_super.proofs.reading.newest_of.Goals as goal

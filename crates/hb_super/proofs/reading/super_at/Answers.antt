@@ -1,6 +1,6 @@
 use Rattle.std.proofs.Common.{◌≡◌, ℕ, List, length, take, drop, arith, ap, ◌∙◌, subst}
 use Rattle.hb_disk.specs.RunLaws.{if_value, at_value}
-use Rattle.hb_super.specs.Superblocks.{place_of}
+use Rattle.hb_layout.specs.Offsets.{slot_offset}
 use Rattle.hb_super.specs.Reading.{IsOf, Stands}
 use Rattle.hb_super.proofs.Supers.{stands}
 use Rattle.hb_super.proofs.reading.super_at.Goals as goal
@@ -11,8 +11,8 @@ returns-clause-stands g c =
     let into = c.read.new.into in
     if_value d.told (λ b. Stands c.args.place c.super_in.result b) (λ b told.
     let is_disk = g.met.D.Device.is_disk c.args.disk.now in
-    let read : into ≡ take (length into) (drop c.place_at.result b) = at_value d.told (λ b. into ≡ take (length into) (drop c.place_at.result b)) b told c.in_ok-read.ensures.bytes in
+    let read : into ≡ take (length into) (drop c.slot_offset.result b) = at_value d.told (λ b. into ≡ take (length into) (drop c.slot_offset.result b)) b told c.in_ok-read.ensures.bytes in
     let long : length into ≡ 41 = c.read.auto.into in
-    let head : into ≡ take 41 (drop (place_of c.args.place) b) = read ∙ ap (λ (n : ℕ). take n (drop c.place_at.result b)) long ∙ ap (λ (n : ℕ). take 41 (drop n b)) c.place_at.ensures in
+    let head : into ≡ take 41 (drop (slot_offset c.args.place) b) = read ∙ ap (λ (n : ℕ). take n (drop c.slot_offset.result b)) long ∙ ap (λ (n : ℕ). take 41 (drop n b)) c.slot_offset.ensures in
     stands b (omega (arith, is_disk.long b (is_disk.as_read b told), c.requires.room)) c.args.place c.requires.place c.super_in.result
     (subst (λ (l : List ℕ). IsOf c.args.place c.super_in.result l) head c.super_in.ensures))

@@ -1,8 +1,9 @@
 use Rattle.std.proofs.Common.{◌≡◌, ℕ, ◌-◌, ◌≤◌, ◌%◌, length, take, drop, sym, ap, ◌∙◌, subst, refl, true≢false}
 use Rattle.std.proofs.lemmas.List.{take_rest}
 use Rattle.std.proofs.lemmas.Slice.Eq.{bytes_eq-Decides}
-use Rattle.hb_ops.specs.declared.meta.Meta.{Meta}
-use Rattle.hb_super.specs.Superblocks.{IsLayout, body_bytes}
+use Rattle.hb_layout.specs.declared.meta.Meta.{Meta}
+use Rattle.hb_layout.specs.Limits.{IsLayout}
+use Rattle.hb_super.specs.Superblocks.{body_bytes}
 use Rattle.hb_super.proofs.reading.super_in.Goals as goal
 use Rattle.hb_super.proofs.reading.super_in.Goals.{else-bytes-via-then-bytes+then-belongs+else-eq, else-bytes-via-then-bytes+else-belongs, else-bytes-via-else-bytes}
 

@@ -2,7 +2,8 @@ use Rattle.std.proofs.Common.{◌≡◌, ℕ, ◌+◌, List, [], ◌∷◌, Some
 use Rattle.hb_disk.specs.Model.{overwritten, Torn}
 use Rattle.hb_disk.specs.Calls.{Leaves, Writes, Becomes, FrameOrNot, open_gate}
 use Rattle.hb_disk.specs.RunLaws.{if_value, of_value}
-use Rattle.hb_super.specs.Superblocks.{IsNewest, body_bytes, place_of}
+use Rattle.hb_layout.specs.Offsets.{slot_offset}
+use Rattle.hb_super.specs.Superblocks.{IsNewest, body_bytes}
 use Rattle.hb_super.specs.Moments.{WriteLeaves}
 use Rattle.hb_super.proofs.Writes.{run_one, run_two, run_all, gate_closed, new_told, place_one, place_two, place_all, newest_written, still_tells}
 use Rattle.hb_super.proofs.writing.write_super.Goals as goal
@@ -13,14 +14,14 @@ returns-in_err-write-clause-moments g c = λ old said next synced.
     let one = g.D.Device.model c.write.new.self in
     if_value d.told (λ b. IsNewest b old said → Leaves d one (WriteLeaves d b old said c.args.turn c.args.meta.now)) (λ b told newest.
     run_one d (g.met.D.Device.is_disk c.args.disk.now) c.requires.room c.args.turn c.args.meta.now c.requires.legal old said next synced b told newest
-    c.write.result one (subst (λ (at : ℕ). Writes at (0 ∷ []) c.write.result d one) c.place_at-place.ensures c.write.ensures.writes) c.write.ensures.ticks)
+    c.write.result one (subst (λ (at : ℕ). Writes at (0 ∷ []) c.write.result d one) c.slot_offset-place.ensures c.write.ensures.writes) c.write.ensures.ticks)
 
 pub returns-in_err-write-clause-place : goal.returns-in_err-write-clause-place
 returns-in_err-write-clause-place g c =
     let d = g.D.Device.model c.args.disk.now in
     let one = g.D.Device.model c.write.new.self in
     place_one d (g.met.D.Device.is_disk c.args.disk.now) c.requires.room c.args.turn c.args.meta.now c.requires.legal
-    c.write.result one (g.met.D.Device.is_disk c.write.new.self) (subst (λ (at : ℕ). Writes at (0 ∷ []) c.write.result d one) c.place_at-place.ensures c.write.ensures.writes) c.write.ensures.ticks
+    c.write.result one (g.met.D.Device.is_disk c.write.new.self) (subst (λ (at : ℕ). Writes at (0 ∷ []) c.write.result d one) c.slot_offset-place.ensures c.write.ensures.writes) c.write.ensures.ticks
 
 pub returns-in_err-sync-clause-moments : goal.returns-in_err-sync-clause-moments
 returns-in_err-sync-clause-moments g c = λ old said next synced.
@@ -29,7 +30,7 @@ returns-in_err-sync-clause-moments g c = λ old said next synced.
     let two = g.D.Device.model c.sync.new.self in
     if_value d.told (λ b. IsNewest b old said → Leaves d two (WriteLeaves d b old said c.args.turn c.args.meta.now)) (λ b told newest.
     run_two d (g.met.D.Device.is_disk c.args.disk.now) c.requires.room c.args.turn c.args.meta.now c.requires.legal old said next synced b told newest
-    c.write.result one (subst (λ (at : ℕ). Writes at (0 ∷ []) c.write.result d one) c.place_at-place.ensures c.write.ensures.writes) c.write.ensures.ticks
+    c.write.result one (subst (λ (at : ℕ). Writes at (0 ∷ []) c.write.result d one) c.slot_offset-place.ensures c.write.ensures.writes) c.write.ensures.ticks
     c.sync.result two c.sync.ensures.syncs c.sync.ensures.ticks)
 
 pub returns-in_err-sync-clause-place : goal.returns-in_err-sync-clause-place
@@ -37,7 +38,7 @@ returns-in_err-sync-clause-place g c =
     let d = g.D.Device.model c.args.disk.now in
     let one = g.D.Device.model c.write.new.self in
     place_two d (g.met.D.Device.is_disk c.args.disk.now) c.requires.room c.args.turn c.args.meta.now c.requires.legal
-    c.write.result one (g.met.D.Device.is_disk c.write.new.self) (subst (λ (at : ℕ). Writes at (0 ∷ []) c.write.result d one) c.place_at-place.ensures c.write.ensures.writes) c.write.ensures.ticks
+    c.write.result one (g.met.D.Device.is_disk c.write.new.self) (subst (λ (at : ℕ). Writes at (0 ∷ []) c.write.result d one) c.slot_offset-place.ensures c.write.ensures.writes) c.write.ensures.ticks
     c.sync.result (g.D.Device.model c.sync.new.self) c.sync.ensures.syncs c.sync.ensures.ticks
 
 pub write_behind_gate-requires-clause-closed : goal.write_behind_gate-requires-clause-closed
@@ -45,8 +46,8 @@ write_behind_gate-requires-clause-closed g c = λ tells image_bytes image.
     let d = g.D.Device.model c.args.disk.now in
     let one = g.D.Device.model c.write.new.self in
     let two = g.D.Device.model c.sync.new.self in
-    rw c.place_at-place.ensures (gate_closed d (g.met.D.Device.is_disk c.args.disk.now) c.requires.room c.args.turn c.args.meta.now c.requires.legal
-    c.write.result c.in_ok-write.field-0 c.in_ok-write.was one (subst (λ (at : ℕ). Writes at (0 ∷ []) c.write.result d one) c.place_at-place.ensures c.write.ensures.writes)
+    rw c.slot_offset-place.ensures (gate_closed d (g.met.D.Device.is_disk c.args.disk.now) c.requires.room c.args.turn c.args.meta.now c.requires.legal
+    c.write.result c.in_ok-write.field-0 c.in_ok-write.was one (subst (λ (at : ℕ). Writes at (0 ∷ []) c.write.result d one) c.slot_offset-place.ensures c.write.ensures.writes)
     c.sync.result c.in_ok-sync.field-0 c.in_ok-sync.was two c.sync.ensures.syncs tells image_bytes image)
 
 pub returns-in_err-write_behind_gate-clause-moments : goal.returns-in_err-write_behind_gate-clause-moments
@@ -57,12 +58,12 @@ returns-in_err-write_behind_gate-clause-moments g c = λ old said next synced.
     let new = g.D.Device.model c.write_behind_gate.new.disk in
     if_value d.told (λ b. IsNewest b old said → Leaves d new (WriteLeaves d b old said c.args.turn c.args.meta.now)) (λ b told newest.
     run_all d (g.met.D.Device.is_disk c.args.disk.now) c.requires.room c.args.turn c.args.meta.now c.requires.legal old said next synced b told newest
-    c.write.result one (subst (λ (at : ℕ). Writes at (0 ∷ []) c.write.result d one) c.place_at-place.ensures c.write.ensures.writes) c.write.ensures.ticks
+    c.write.result one (subst (λ (at : ℕ). Writes at (0 ∷ []) c.write.result d one) c.slot_offset-place.ensures c.write.ensures.writes) c.write.ensures.ticks
     c.sync.result two c.sync.ensures.syncs c.sync.ensures.ticks new
-    (subst (λ (at : ℕ). Leaves two new (λ x. (e : List ℕ) × two.Image e × FrameOrNot at (body_bytes c.args.turn c.args.meta.now) e x)) c.place_at-place.ensures
-    (subst (λ (body : List ℕ). Leaves two new (λ x. (e : List ℕ) × two.Image e × FrameOrNot c.place_at-place.result body e x)) c.body_of-body.ensures
-    (c.write_behind_gate.ensures.moments (still_tells (place_of c.args.turn) 41 d two b told (place_two d (g.met.D.Device.is_disk c.args.disk.now) c.requires.room c.args.turn c.args.meta.now c.requires.legal
-    c.write.result one (g.met.D.Device.is_disk c.write.new.self) (subst (λ (at : ℕ). Writes at (0 ∷ []) c.write.result d one) c.place_at-place.ensures c.write.ensures.writes) c.write.ensures.ticks
+    (subst (λ (at : ℕ). Leaves two new (λ x. (e : List ℕ) × two.Image e × FrameOrNot at (body_bytes c.args.turn c.args.meta.now) e x)) c.slot_offset-place.ensures
+    (subst (λ (body : List ℕ). Leaves two new (λ x. (e : List ℕ) × two.Image e × FrameOrNot c.slot_offset-place.result body e x)) c.body_of-body.ensures
+    (c.write_behind_gate.ensures.moments (still_tells (slot_offset c.args.turn) 41 d two b told (place_two d (g.met.D.Device.is_disk c.args.disk.now) c.requires.room c.args.turn c.args.meta.now c.requires.legal
+    c.write.result one (g.met.D.Device.is_disk c.write.new.self) (subst (λ (at : ℕ). Writes at (0 ∷ []) c.write.result d one) c.slot_offset-place.ensures c.write.ensures.writes) c.write.ensures.ticks
     c.sync.result two c.sync.ensures.syncs c.sync.ensures.ticks))))))
 
 pub returns-in_err-write_behind_gate-clause-place : goal.returns-in_err-write_behind_gate-clause-place
@@ -72,10 +73,10 @@ returns-in_err-write_behind_gate-clause-place g c =
     let two = g.D.Device.model c.sync.new.self in
     let new = g.D.Device.model c.write_behind_gate.new.disk in
     place_all d (g.met.D.Device.is_disk c.args.disk.now) c.requires.room c.args.turn c.args.meta.now c.requires.legal
-    c.write.result one (g.met.D.Device.is_disk c.write.new.self) (subst (λ (at : ℕ). Writes at (0 ∷ []) c.write.result d one) c.place_at-place.ensures c.write.ensures.writes) c.write.ensures.ticks
+    c.write.result one (g.met.D.Device.is_disk c.write.new.self) (subst (λ (at : ℕ). Writes at (0 ∷ []) c.write.result d one) c.slot_offset-place.ensures c.write.ensures.writes) c.write.ensures.ticks
     c.sync.result two c.sync.ensures.syncs c.sync.ensures.ticks new
-    (subst (λ (at : ℕ). Becomes (Torn at (1 + length (body_bytes c.args.turn c.args.meta.now))) two new) c.place_at-place.ensures
-    (subst (λ (body : List ℕ). Becomes (Torn c.place_at-place.result (1 + length body)) two new) c.body_of-body.ensures c.write_behind_gate.ensures.place))
+    (subst (λ (at : ℕ). Becomes (Torn at (1 + length (body_bytes c.args.turn c.args.meta.now))) two new) c.slot_offset-place.ensures
+    (subst (λ (body : List ℕ). Becomes (Torn c.slot_offset-place.result (1 + length body)) two new) c.body_of-body.ensures c.write_behind_gate.ensures.place))
 
 pub returns-clause-moments : goal.returns-clause-moments
 returns-clause-moments g c = λ old said next synced.
@@ -85,12 +86,12 @@ returns-clause-moments g c = λ old said next synced.
     let new = g.D.Device.model c.write_behind_gate.new.disk in
     if_value d.told (λ b. IsNewest b old said → Leaves d new (WriteLeaves d b old said c.args.turn c.args.meta.now)) (λ b told newest.
     run_all d (g.met.D.Device.is_disk c.args.disk.now) c.requires.room c.args.turn c.args.meta.now c.requires.legal old said next synced b told newest
-    c.write.result one (subst (λ (at : ℕ). Writes at (0 ∷ []) c.write.result d one) c.place_at-place.ensures c.write.ensures.writes) c.write.ensures.ticks
+    c.write.result one (subst (λ (at : ℕ). Writes at (0 ∷ []) c.write.result d one) c.slot_offset-place.ensures c.write.ensures.writes) c.write.ensures.ticks
     c.sync.result two c.sync.ensures.syncs c.sync.ensures.ticks new
-    (subst (λ (at : ℕ). Leaves two new (λ x. (e : List ℕ) × two.Image e × FrameOrNot at (body_bytes c.args.turn c.args.meta.now) e x)) c.place_at-place.ensures
-    (subst (λ (body : List ℕ). Leaves two new (λ x. (e : List ℕ) × two.Image e × FrameOrNot c.place_at-place.result body e x)) c.body_of-body.ensures
-    (c.write_behind_gate.ensures.moments (still_tells (place_of c.args.turn) 41 d two b told (place_two d (g.met.D.Device.is_disk c.args.disk.now) c.requires.room c.args.turn c.args.meta.now c.requires.legal
-    c.write.result one (g.met.D.Device.is_disk c.write.new.self) (subst (λ (at : ℕ). Writes at (0 ∷ []) c.write.result d one) c.place_at-place.ensures c.write.ensures.writes) c.write.ensures.ticks
+    (subst (λ (at : ℕ). Leaves two new (λ x. (e : List ℕ) × two.Image e × FrameOrNot at (body_bytes c.args.turn c.args.meta.now) e x)) c.slot_offset-place.ensures
+    (subst (λ (body : List ℕ). Leaves two new (λ x. (e : List ℕ) × two.Image e × FrameOrNot c.slot_offset-place.result body e x)) c.body_of-body.ensures
+    (c.write_behind_gate.ensures.moments (still_tells (slot_offset c.args.turn) 41 d two b told (place_two d (g.met.D.Device.is_disk c.args.disk.now) c.requires.room c.args.turn c.args.meta.now c.requires.legal
+    c.write.result one (g.met.D.Device.is_disk c.write.new.self) (subst (λ (at : ℕ). Writes at (0 ∷ []) c.write.result d one) c.slot_offset-place.ensures c.write.ensures.writes) c.write.ensures.ticks
     c.sync.result two c.sync.ensures.syncs c.sync.ensures.ticks))))))
 
 pub returns-clause-place : goal.returns-clause-place
@@ -100,10 +101,10 @@ returns-clause-place g c =
     let two = g.D.Device.model c.sync.new.self in
     let new = g.D.Device.model c.write_behind_gate.new.disk in
     place_all d (g.met.D.Device.is_disk c.args.disk.now) c.requires.room c.args.turn c.args.meta.now c.requires.legal
-    c.write.result one (g.met.D.Device.is_disk c.write.new.self) (subst (λ (at : ℕ). Writes at (0 ∷ []) c.write.result d one) c.place_at-place.ensures c.write.ensures.writes) c.write.ensures.ticks
+    c.write.result one (g.met.D.Device.is_disk c.write.new.self) (subst (λ (at : ℕ). Writes at (0 ∷ []) c.write.result d one) c.slot_offset-place.ensures c.write.ensures.writes) c.write.ensures.ticks
     c.sync.result two c.sync.ensures.syncs c.sync.ensures.ticks new
-    (subst (λ (at : ℕ). Becomes (Torn at (1 + length (body_bytes c.args.turn c.args.meta.now))) two new) c.place_at-place.ensures
-    (subst (λ (body : List ℕ). Becomes (Torn c.place_at-place.result (1 + length body)) two new) c.body_of-body.ensures c.write_behind_gate.ensures.place))
+    (subst (λ (at : ℕ). Becomes (Torn at (1 + length (body_bytes c.args.turn c.args.meta.now))) two new) c.slot_offset-place.ensures
+    (subst (λ (body : List ℕ). Becomes (Torn c.slot_offset-place.result (1 + length body)) two new) c.body_of-body.ensures c.write_behind_gate.ensures.place))
 
 pub returns-clause-written : goal.returns-clause-written
 returns-clause-written g c =
@@ -111,12 +112,12 @@ returns-clause-written g c =
     let one = g.D.Device.model c.write.new.self in
     let two = g.D.Device.model c.sync.new.self in
     let new = g.D.Device.model c.write_behind_gate.new.disk in
-    if_value d.told (λ b. new.told ≡ Some (overwritten b (place_of c.args.turn) (open_gate ∷ body_bytes c.args.turn c.args.meta.now))) (λ b told.
+    if_value d.told (λ b. new.told ≡ Some (overwritten b (slot_offset c.args.turn) (open_gate ∷ body_bytes c.args.turn c.args.meta.now))) (λ b told.
     new_told d (g.met.D.Device.is_disk c.args.disk.now) c.requires.room c.args.turn c.args.meta.now c.requires.legal
-    c.write.result c.in_ok-write.field-0 c.in_ok-write.was one (subst (λ (at : ℕ). Writes at (0 ∷ []) c.write.result d one) c.place_at-place.ensures c.write.ensures.writes)
+    c.write.result c.in_ok-write.field-0 c.in_ok-write.was one (subst (λ (at : ℕ). Writes at (0 ∷ []) c.write.result d one) c.slot_offset-place.ensures c.write.ensures.writes)
     c.sync.result c.in_ok-sync.field-0 c.in_ok-sync.was two c.sync.ensures.syncs b told new
-    (subst (λ (at : ℕ). IfSome two.told (λ e. new.told ≡ Some (overwritten e at (open_gate ∷ body_bytes c.args.turn c.args.meta.now)))) c.place_at-place.ensures
-    (subst (λ (body : List ℕ). IfSome two.told (λ e. new.told ≡ Some (overwritten e c.place_at-place.result (open_gate ∷ body)))) c.body_of-body.ensures c.in_ok-write_behind_gate.ensures.written)))
+    (subst (λ (at : ℕ). IfSome two.told (λ e. new.told ≡ Some (overwritten e at (open_gate ∷ body_bytes c.args.turn c.args.meta.now)))) c.slot_offset-place.ensures
+    (subst (λ (body : List ℕ). IfSome two.told (λ e. new.told ≡ Some (overwritten e c.slot_offset-place.result (open_gate ∷ body)))) c.body_of-body.ensures c.in_ok-write_behind_gate.ensures.written)))
 
 pub returns-clause-newest : goal.returns-clause-newest
 returns-clause-newest g c = λ old said next.
@@ -126,14 +127,14 @@ returns-clause-newest g c = λ old said next.
     let new = g.D.Device.model c.write_behind_gate.new.disk in
     if_value d.told (λ b. IsNewest b old said → IfSome new.told (λ e. IsNewest e c.args.turn c.args.meta.now)) (λ b told newest.
     let now = new_told d (g.met.D.Device.is_disk c.args.disk.now) c.requires.room c.args.turn c.args.meta.now c.requires.legal
-    c.write.result c.in_ok-write.field-0 c.in_ok-write.was one (subst (λ (at : ℕ). Writes at (0 ∷ []) c.write.result d one) c.place_at-place.ensures c.write.ensures.writes)
+    c.write.result c.in_ok-write.field-0 c.in_ok-write.was one (subst (λ (at : ℕ). Writes at (0 ∷ []) c.write.result d one) c.slot_offset-place.ensures c.write.ensures.writes)
     c.sync.result c.in_ok-sync.field-0 c.in_ok-sync.was two c.sync.ensures.syncs b told new
-    (subst (λ (at : ℕ). IfSome two.told (λ e. new.told ≡ Some (overwritten e at (open_gate ∷ body_bytes c.args.turn c.args.meta.now)))) c.place_at-place.ensures
-    (subst (λ (body : List ℕ). IfSome two.told (λ e. new.told ≡ Some (overwritten e c.place_at-place.result (open_gate ∷ body)))) c.body_of-body.ensures c.in_ok-write_behind_gate.ensures.written)) in
+    (subst (λ (at : ℕ). IfSome two.told (λ e. new.told ≡ Some (overwritten e at (open_gate ∷ body_bytes c.args.turn c.args.meta.now)))) c.slot_offset-place.ensures
+    (subst (λ (body : List ℕ). IfSome two.told (λ e. new.told ≡ Some (overwritten e c.slot_offset-place.result (open_gate ∷ body)))) c.body_of-body.ensures c.in_ok-write_behind_gate.ensures.written)) in
     let run = place_all d (g.met.D.Device.is_disk c.args.disk.now) c.requires.room c.args.turn c.args.meta.now c.requires.legal
-    c.write.result one (g.met.D.Device.is_disk c.write.new.self) (subst (λ (at : ℕ). Writes at (0 ∷ []) c.write.result d one) c.place_at-place.ensures c.write.ensures.writes) c.write.ensures.ticks
+    c.write.result one (g.met.D.Device.is_disk c.write.new.self) (subst (λ (at : ℕ). Writes at (0 ∷ []) c.write.result d one) c.slot_offset-place.ensures c.write.ensures.writes) c.write.ensures.ticks
     c.sync.result two c.sync.ensures.syncs c.sync.ensures.ticks new
-    (subst (λ (at : ℕ). Becomes (Torn at (1 + length (body_bytes c.args.turn c.args.meta.now))) two new) c.place_at-place.ensures
-    (subst (λ (body : List ℕ). Becomes (Torn c.place_at-place.result (1 + length body)) two new) c.body_of-body.ensures c.write_behind_gate.ensures.place)) in
-    of_value new.told (λ e. IsNewest e c.args.turn c.args.meta.now) (overwritten b (place_of c.args.turn) (open_gate ∷ body_bytes c.args.turn c.args.meta.now)) now
+    (subst (λ (at : ℕ). Becomes (Torn at (1 + length (body_bytes c.args.turn c.args.meta.now))) two new) c.slot_offset-place.ensures
+    (subst (λ (body : List ℕ). Becomes (Torn c.slot_offset-place.result (1 + length body)) two new) c.body_of-body.ensures c.write_behind_gate.ensures.place)) in
+    of_value new.told (λ e. IsNewest e c.args.turn c.args.meta.now) (overwritten b (slot_offset c.args.turn) (open_gate ∷ body_bytes c.args.turn c.args.meta.now)) now
     (newest_written d (g.met.D.Device.is_disk c.args.disk.now) c.requires.room c.args.turn c.args.meta.now c.requires.legal old said next b told newest new run now))

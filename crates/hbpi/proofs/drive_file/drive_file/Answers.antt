@@ -2,14 +2,14 @@ use Rattle.std.proofs.Common.{◌≡◌, [], inl, inr, refl, sym, subst, ◌∙�
 use Rattle.hb_disk.specs.Model.{DiskModel}
 use Rattle.hb_disk.specs.RunLaws.{at_value, if_value}
 use Rattle.hb_store.specs.Seen.{seen_as, disk_of}
-use Rattle.hbpi.specs.Codes.{status_of}
+use Rattle.hbpi.specs.Codes.{start_status}
 use Rattle.hbpi.specs.Driven.{DriveCommandEnds, IsShutOut}
 use Rattle.hbpi.specs.Ends.{Seen}
 use Rattle.hbpi.specs.Outcome.{GetsLine, fault_line}
 use Rattle.hbpi.specs.declared.statuses.Status.{Status}
 use Rattle.hbpi.proofs.Reopened.{IsOpening, ends_before}
 use Rattle.hbpi.proofs.ScheduleRuns.{even_store}
-use Rattle.hbpi.specs.Beyond.{KeepsBeyondFile}
+use Rattle.hb_restart.specs.Beyond.{KeepsBeyondFile}
 use Rattle.hbpi.proofs.Beyond.{beyond_driven}
 use Rattle.hbpi.proofs.drive_file.drive_file.Goals as goal
 
@@ -22,7 +22,7 @@ returns-in-Ok-clause-ends g c =
       disk = g.met.D.Device.is_disk (disk_of c.in-Ok.store);
       told = if_value d.told _ (λ b is.
           let found = at_value d.told _ b is facts.opened in
-          (found.0, found.1, found.2, even_store m (seen_as c.in-Ok.store) found.0 [] found.4 facts.new.running));
+          (found.0, found.1, found.2, even_store m (seen_as c.in-Ok.store) found.0 [] found.3 facts.new.running));
       time = facts.time;
       even = facts.even;
       reads = facts.no_fault.0;
@@ -48,7 +48,7 @@ returns-in-Err-clause-ends g c =
       answered = c.refused.result.answered.items;
       order = c.refused.result.order.items;
     } in
-    let status : c.refused.result.status ≡ status_of fault = c.refused.ensures.status ∙ c.from.ensures in
+    let status : c.refused.result.status ≡ start_status fault = c.refused.ensures.status ∙ c.from.ensures in
     let out : IsShutOut d (M c.in-Err.disk) seen fault = record {
       refused = record {
         line = subst (λ (x : Status). GetsLine seen.held seen.holds seen.sink_before seen.sink_after (fault_line x)) c.from.ensures c.refused.ensures.line;
@@ -61,6 +61,7 @@ returns-in-Err-clause-ends g c =
       failed = facts.cause;
       no_fault = facts.no_fault_refused;
       unwritten = facts.unwritten;
+      left = facts.left;
       even = facts.even_after_fault;
     } in
     subst (λ (x : g.row.D.Denot). DriveCommandEnds d (M x) seen c.refused.result.status) (sym c.refused.ensures.disk) (inl (fault, status, out))

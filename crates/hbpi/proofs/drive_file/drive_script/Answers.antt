@@ -1,7 +1,7 @@
 use Rattle.std.proofs.Common.{◌≡◌, ℕ, List, [], IsSome, refl, sym, ap, subst, ◌∙◌, length}
 use Rattle.hb_disk.specs.Model.{DiskModel}
 use Rattle.hb_disk.specs.RunLaws.{has_value, if_value}
-use Rattle.hb_ops.specs.declared.meta.Meta.{Meta}
+use Rattle.hb_layout.specs.declared.meta.Meta.{Meta}
 use Rattle.hb_ops.specs.Files.{FileState, contents_of}
 use Rattle.hb_ops.specs.Sound.{IsSound}
 use Rattle.hb_set.specs.declared.scripts.Answered.{Answered}
@@ -14,13 +14,13 @@ use Rattle.hbpi.specs.Drives.{RunsTo}
 use Rattle.hbpi.specs.Driven.{IsScheduled, IsServedScript, OpenedEnds, status_after}
 use Rattle.hbpi.specs.Moves.{MovesOn, shown}
 use Rattle.hbpi.specs.Ends.{Seen, IsRefused}
-use Rattle.hbpi.specs.Restart.{IsOnePage}
+use Rattle.hbpi.specs.Starting.{IsOnePage}
 use Rattle.hbpi.specs.Outcome.{GetsLine, fault_line}
 use Rattle.hbpi.specs.declared.statuses.Status.{Status}
 use Rattle.hbpi.specs.declared.statuses.Status.TheVariants.{NoMemory}
 use Rattle.hbpi.proofs.ScheduleRuns.{schedule_ends, even_store, one_page_of, turned_away, away_on, refused_on}
-use Rattle.hb_store.specs.Opening.{file_size}
-use Rattle.hbpi.specs.Beyond.{KeepsBeyond}
+use Rattle.hb_layout.specs.Offsets.{file_size}
+use Rattle.hb_restart.specs.Beyond.{KeepsBeyond}
 use Rattle.hbpi.proofs.Beyond.{beyond_none}
 use Rattle.hbpi.proofs.InLog.{new_beyond}
 use Rattle.hbpi.proofs.drive_file.drive_script.Goals as goal

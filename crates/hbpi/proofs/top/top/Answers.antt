@@ -64,7 +64,7 @@ returns-in-Some-Drive-clause-promise g c b s is told opens sound =
 
 pub returns-in-Some-Drive-clause-driven : goal.returns-in-Some-Drive-clause-driven
 returns-in-Some-Drive-clause-driven g c is =
-    is_driven (g.D.Device.model c.args.disk) (g.D.Device.model c.drive_file.result.disk) _ c.drive_file.result.status c.an_image_opens_to_one_file.ensures.one c.a_good_file_is_not_refused.ensures c.drive_file.ensures.ends
+    is_driven (g.D.Device.model c.args.disk) (g.D.Device.model c.drive_file.result.disk) _ c.drive_file.result.status c.an_image_opens_to_one_file.ensures.one c.a_good_file_is_served.ensures c.drive_file.ensures.ends
 
 pub returns-in-Some-Drive-clause-driven_named : goal.returns-in-Some-Drive-clause-driven_named
 returns-in-Some-Drive-clause-driven_named g c is =
@@ -72,7 +72,7 @@ returns-in-Some-Drive-clause-driven_named g c is =
 
 pub returns-in-Some-Drive-clause-refused : goal.returns-in-Some-Drive-clause-refused
 returns-in-Some-Drive-clause-refused g c is =
-    refuses_file (g.D.Device.model c.args.disk) (g.D.Device.model c.drive_file.result.disk) _ c.drive_file.result.status c.a_good_file_is_not_refused.ensures c.bytes_are_refused_in_one_way.ensures c.drive_file.ensures.ends
+    refuses_file (g.D.Device.model c.args.disk) (g.D.Device.model c.drive_file.result.disk) _ c.drive_file.result.status c.a_good_file_is_served.ensures c.a_start_is_refused_in_one_way.ensures c.drive_file.ensures.ends
 
 pub returns-in-Some-Create-clause-ends : goal.returns-in-Some-Create-clause-ends
 returns-in-Some-Create-clause-ends g c =

@@ -1,8 +1,8 @@
-use Rattle.std.proofs.Common.{All, ap, refl, sym, subst, ◌∙◌}
-use Rattle.hb_store.specs.GroupReading.{logged}
+use Rattle.std.proofs.Common.{All, refl, sym, subst, ◌∙◌}
+use Rattle.hb_log_codec.specs.Reading.{logged}
 use Rattle.hb_store.specs.Replay.{IsAllowedIn, MayFollow, Replayed, after_op}
-use Rattle.hb_store.specs.Replaying.{AreItsPages, IsPageOf, replayed_of}
-use Rattle.hb_store.proofs.Touches.{images_its, group_its, meta_stays, on_ok, on_both}
+use Rattle.hb_store.specs.Replaying.{AreItsPages, ComesAfter, IsPageOf, replayed_of}
+use Rattle.hb_store.proofs.Touches.{group_after, group_its, images_its, on_both, on_ok}
 use Rattle.hb_store.proofs.touched.Touched.follow.Goals as goal
 
 pub apply-requires-clause-pages : goal.apply-requires-clause-pages
@@ -32,16 +32,18 @@ returns-clause-pages c =
     let may : IsAllowedIn (replayed_of c.set_all.new.self) g.op → MayFollow t g = λ allowed. record { images = range; allowed = subst (λ u. IsAllowedIn u g.op) c.in_ok-set_all.ensures allowed } in
     on_both c.apply.result
     (λ allowed same. subst AreItsPages (sym (same ∙ (λ i. after_op (c.in_ok-set_all.ensures i) g.op)))
-    (group_its c.page_within_capacity_has_spelling.ensures.live t g c.requires.pages c.requires.limits c.requires.fits (may allowed)))
+    (group_its c.what_is_made_can_be_written.ensures.pages t g c.requires.pages c.requires.limits c.requires.fits (may allowed)))
     c.apply.ensures.allowed c.apply.ensures.effect
 
 pub returns-clause-meta : goal.returns-clause-meta
 returns-clause-meta c =
     let t = replayed_of c.args.self.now in
     let g = logged c.args.group in
-    on_ok c.apply.result
-    (λ same. ap (λ (r : Replayed). r.meta) (same ∙ (λ i. after_op (c.in_ok-set_all.ensures i) g.op)) ∙ meta_stays g.op t.meta _ _ _)
-    c.apply.ensures.effect
+    let range : All (λ i. IsPageOf t.meta i.0) g.images = subst (λ l. All (λ i. IsPageOf t.meta i.0) l) c.as_slice.ensures.value (c.if-not-has_all.ensures.0 refl) in
+    on_both c.apply.result
+    (λ allowed same. subst (λ (r : Replayed). ComesAfter t.meta r.meta) (sym (same ∙ (λ i. after_op (c.in_ok-set_all.ensures i) g.op)))
+    (group_after t g c.requires.limits c.requires.fits (record { images = range; allowed = subst (λ u. IsAllowedIn u g.op) c.in_ok-set_all.ensures allowed })))
+    c.apply.ensures.allowed c.apply.ensures.effect
 
 pub returns-clause-unfit : goal.returns-clause-unfit
 returns-clause-unfit c =

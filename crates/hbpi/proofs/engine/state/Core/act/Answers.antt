@@ -3,7 +3,7 @@ use Rattle.hb_set.specs.Scripts.{script_is_short}
 use Rattle.hb_store.specs.Calls.{IsReady}
 use Rattle.hbpi.specs.CoreSeen.{core_seen, core_disk}
 use Rattle.hbpi.specs.declared.engine.plans.Plan.TheVariants.{Answer, Change, Full, Damaged}
-use Rattle.hbpi.proofs.Acting.{acts_by, changes_ready, found_at}
+use Rattle.hbpi.proofs.Acting.{acts_by, changes_ready, found_at, licensed_by}
 use Rattle.hbpi.proofs.engine.state.Core.act.Goals as goal
 
 pub take_effect-requires-clause-short : goal.take_effect-requires-clause-short
@@ -40,3 +40,6 @@ pub returns-in-Damaged-clause-acts : goal.returns-in-Damaged-clause-acts
 returns-in-Damaged-clause-acts g c =
     acts_by (g.D.Device.model (core_disk c.args.self.now)) (core_seen c.args.self.now) c.stop_at.result (g.D.Device.model (core_disk c.stop_at.new.self)) (core_seen c.stop_at.new.self)
     c.number-number.result c.index.result.now (Damaged c.in-Damaged.page c.in-Damaged.why) c.number-number.ensures (found_at c.args.self.now.lines.items c.args.self.now.taken (length c.args.self.now.order.items) c.index.result.now (c.requires.whole.walking c.requires.walking) c.requires.whole.few c.index.ensures) c.in-Damaged.ensures (c.stop_at.ensures.stopped, c.stop_at.ensures.why)
+
+pub change-requires-clause-licensed : goal.change-requires-clause-licensed
+change-requires-clause-licensed g c = licensed_by (core_seen c.args.self.now).store.meta c.in-Change.ensures.0 c.index.result.now.command c.in-Change.op c.in-Change.ensures.2

@@ -1,6 +1,6 @@
 use Rattle.std.proofs.Common.{◌≡◌, ℕ, inr, length, arith, sym, subst}
 use Rattle.hb_store.specs.Calls.{Commits, with_op}
-use Rattle.hb_store.specs.Keeps.{StoreKeeps}
+use Rattle.hb_store.specs.Keeps.{StoreKeeps, last_of}
 use Rattle.hb_store.specs.Seen.{seen_as}
 use Rattle.hbpi.proofs.engine.state.Core.change.Goals as goal
 
@@ -19,3 +19,6 @@ returns-in-Ok-clause-changes g c =
             subst P (sym c.take_effect.ensures.disk) (c.in-Ok.ensures.keeps durable later kept);
       },
     )
+
+pub commit-requires-clause-licensed : goal.commit-requires-clause-licensed
+commit-requires-clause-licensed g c = λ durable later kept. c.requires.licensed (last_of durable later)

@@ -1,5 +1,5 @@
 use Rattle.std.proofs.Common.{ℕ, ap, sym, subst}
-use Rattle.hb_ops.specs.declared.meta.Meta.{Meta}
+use Rattle.hb_layout.specs.declared.meta.Meta.{Meta}
 use Rattle.hb_store.specs.Calls.{Fetched}
 use Rattle.hb_store.specs.Keeps.{StoreKeeps, StoreState}
 use Rattle.hb_store.specs.Seen.{seen_as}

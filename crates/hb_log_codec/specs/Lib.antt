@@ -1,0 +1,4 @@
+pub mod Groups
+pub mod ExactFields
+pub mod Fields
+pub mod Reading

@@ -1,0 +1,65 @@
+-- What an allowed operation makes is well made for the file afterwards.
+use Rattle.std.proofs.Common.{ℕ, ◌≤◌, Bool, cond, ne_eqb, List, [], ◌∷◌, All, Option, Some, None, sym, subst, arith}
+use Rattle.std.proofs.lemmas.List.{length-replicate}
+use Rattle.std.proofs.lemmas.List.Elements.{All-cons, All-nil}
+use Rattle.hb_space.specs.Boxes.{Area, Holds, whole_area}
+use Rattle.hb_frag.specs.declared.leaves.Leaf.TheVariants.{Child}
+use Rattle.hb_frag.specs.declared.pages.LivePage.{LivePage}
+use Rattle.hb_frag.specs.declared.pages.Page.{Page}
+use Rattle.hb_frag.specs.declared.pages.Page.TheVariants.{Live}
+use Rattle.hb_frag.specs.declared.paths.Side.{Side}
+use Rattle.hb_frag.specs.Trees.{Tree}
+use Rattle.hb_frag.specs.Paths.{part_at}
+use Rattle.hb_frag.specs.Rules.{BelongsAt, IsInOrder}
+use Rattle.hb_layout.specs.declared.meta.Meta.{Meta}
+use Rattle.hb_ops.specs.declared.leaf_cuts.LeafCut.{LeafCut}
+use Rattle.hb_ops.specs.declared.operations.Op.TheVariants.{Put, Del, Extract, Post, Grow}
+use Rattle.hb_ops.specs.Allocating.{allocated}
+use Rattle.hb_ops.specs.Extracting.{FitsExtract, fresh_page, source_page, split_pages}
+use Rattle.hb_ops.specs.Growing.{new_root, raised}
+use Rattle.hb_ops.specs.LawsOfContents.{ChangesMakeWell, IsWellIn}
+use Rattle.hb_ops.specs.Posting.{post_page}
+use Rattle.hb_ops.specs.Recording.{del_page, put_page}
+use Rattle.hb_ops.specs.Sound.{FitsFile}
+use Rattle.hb_ops.proofs.PagesParted.{PartLaws, fresh_made, source_made}
+use Rattle.hb_ops.proofs.PostMade.{JoinLaws, post_made}
+use Rattle.hb_ops.proofs.Remade.{put_made, del_made}
+
+abbrev Well : Meta → ℕ × Page → Type 0
+Well meta c = IsWellIn meta c.1
+
+one_well : (meta : Meta) (id : ℕ) (page : LivePage) → FitsFile meta page → All (Well meta) ((id, Live page) ∷ [])
+one_well meta id page made = All-cons (Well meta) (id, Live page) [] made (All-nil (Well meta))
+
+-- a split
+split_well : PartLaws → (meta : Meta) (page : LivePage) (source fresh : ℕ) (path : List Side) (cuts : List LeafCut) (free_after : ℕ) → FitsExtract meta page fresh path cuts free_after → All (Well (allocated meta fresh free_after)) (split_pages source fresh path cuts page (part_at path page.frag page.area))
+split_well laws meta page source fresh path cuts free_after h =
+    subst (λ (o : Option (Tree × Area)). All (Well (allocated meta fresh free_after)) (split_pages source fresh path cuts page o)) (sym h.fits.there)
+    (All-cons (Well (allocated meta fresh free_after)) (source, Live (source_page fresh path cuts page h.part)) ((fresh, Live (fresh_page cuts page h.part)) ∷ []) (source_made laws meta fresh path cuts page h.part h.made h.fits)
+    (one_well (allocated meta fresh free_after) fresh (fresh_page cuts page h.part) (fresh_made laws meta fresh path cuts page h.part h.made h.fits)))
+
+-- a growth
+root_made : (meta : Meta) (fresh free_after : ℕ) → 1 ≤ meta.icap → 1 ≤ meta.height → FitsFile (raised (allocated meta fresh free_after) fresh) (new_root meta)
+root_made meta fresh free_after room level = record {
+  fits = record { level = omega arith; attributes = length-replicate meta.k 0 };
+  well_cut = tt;
+  filled = record {
+    kinds = All-cons (BelongsAt meta.height) (Child meta.root) [] level (All-nil (BelongsAt meta.height));
+    light = subst (λ (b : Bool). 1 ≤ cond b meta.dcap meta.icap) (sym (ne_eqb meta.height 0 (λ e. omega arith))) room;
+    own = λ lone. lone;
+  };
+  in_order = All-cons IsInOrder (record { leaf = Child meta.root; area = whole_area meta.k }) [] (record { inside = All-nil (λ r. Holds (whole_area meta.k) r.key); rising = λ i j d lt in_range. absurd (omega arith) }) (All-nil IsInOrder);
+  normal = tt;
+}
+
+-- each kind
+pub changes_make_well : PartLaws → JoinLaws → ChangesMakeWell
+changes_make_well laws joins (Put id rec) meta (Some page) second third room level has h = one_well meta id (put_page rec page) (put_made meta page rec h)
+changes_make_well laws joins (Put id rec) meta None second third room level has h = absurd h
+changes_make_well laws joins (Del id point) meta (Some page) second third room level has h = one_well meta id (del_page point page) (del_made meta page point h)
+changes_make_well laws joins (Del id point) meta None second third room level has h = absurd h
+changes_make_well laws joins (Extract source fresh path cuts free_after) meta (Some page) second third room level has h = split_well laws meta page source fresh path cuts free_after h
+changes_make_well laws joins (Extract source fresh path cuts free_after) meta None second third room level has h = absurd h
+changes_make_well laws joins (Post parent at inner area) meta (Some page) second third room level has h = one_well meta parent (post_page at inner area page) (post_made joins meta page at inner area has.1 h)
+changes_make_well laws joins (Post parent at inner area) meta None second third room level has h = absurd h
+changes_make_well laws joins (Grow fresh free_after) meta first second third room level has h = one_well (raised (allocated meta fresh free_after) fresh) fresh (new_root meta) (root_made meta fresh free_after room level)

@@ -1,0 +1,15 @@
+use Rattle.std.proofs.Common.{sym, ◌∙◌}
+use Rattle.hb_ops.proofs.PostTests.{leaf_attributes, with_room, light_above}
+use Rattle.hb_ops.proofs.posting.may_name.Goals as goal
+
+pub meets-requires : goal.meets-requires
+meets-requires c = leaf_attributes c.args.meta.now c.args.page.now c.args.at.now c.args.inner c.args.area.now c.args.outer c.args.leaf.now c.requires.leaf c.requires.made ∙ sym c.requires.attributes
+
+pub returns : goal.returns
+returns c =
+    let page = c.args.page.now in
+    let meta = c.args.meta.now in
+    let law = c.a_carved_leaf_joins_others_only_whole.ensures.room c.args.at.now page.frag page.area c.args.leaf.now c.args.area.now c.args.outer c.args.inner meta.icap c.requires.made.normal c.requires.leaf (λ e. c.if-outer-inner.false (sym e)) (light_above meta page c.requires.made c.requires.above) in
+    let room = c.has_room.ensures c.args.outer c.args.inner in
+    let fits = with_room meta page c.args.at.now c.args.inner c.args.area.now c.args.outer c.args.leaf.now c.requires.leaf law c.requires.made c.requires.above c.if-outer-inner.false (c.meets.ensures.overlap.0 c.if-not-meets.false) in
+    (λ yes. fits.0 (room.0 yes), λ h. room.1 (fits.1 h))

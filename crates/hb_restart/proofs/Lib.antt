@@ -1,0 +1,17 @@
+pub mod Numbered
+pub mod OnePage
+pub mod NewFile
+pub mod Made
+pub mod Beyond
+pub mod RunSteps
+pub mod PageWrites
+pub mod PlaceReads
+pub mod Told
+pub mod Audited
+pub mod Renewed
+pub mod SyncedRuns
+pub mod Recovered
+pub mod SoundFiles
+pub mod BadFrames
+pub mod NotRefused
+pub mod OneRefusal

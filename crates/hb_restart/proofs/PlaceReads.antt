@@ -1,0 +1,31 @@
+-- What is read in the place of a page.
+use Rattle.std.proofs.Common.{◌≡◌, ◌⊎◌, inl, inr, ℕ, ◌∙◌, List, length, take, drop, Option, Some, None, IfSome, Result, Ok, Err, refl, ap}
+use Rattle.hb_space.specs.declared.form.TheConstants.{PAGE}
+use Rattle.hb_frag.specs.declared.pages.Page.{Page}
+use Rattle.hb_frag.specs.Grammar.{SpellsPage}
+use Rattle.hb_layout.specs.Offsets.{page_offset}
+use Rattle.hb_layout.specs.declared.meta.Meta.{Meta}
+use Rattle.hb_page_codec.specs.Exact.{AreBytes, PagesAreExact}
+use Rattle.hb_page_codec.specs.Reading.{page_at}
+use Rattle.hb_page_codec.specs.declared.errors.PageError.{PageError}
+use Rattle.hb_page_codec.specs.declared.errors.PageError.TheVariants as errors
+use Rattle.hb_store.specs.Opening.{place_bytes}
+
+pub place_read : (told : Option (List ℕ)) (into : List ℕ) (meta : Meta) (id at : ℕ) → at ≡ page_offset meta id → length into ≡ PAGE
+    → IfSome told (λ b. into ≡ take (length into) (drop at b)) → IfSome told (λ b. into ≡ place_bytes meta id b)
+place_read None into meta id at same long reads = tt
+place_read (Some b) into meta id at same long reads =
+    reads ∙ ap (λ (n : ℕ). take n (drop at b)) long ∙ ap (λ (n : ℕ). take PAGE (drop n b)) same
+
+-- bytes that were read as no page spell none
+none_read : (exact : PagesAreExact) (bytes : List ℕ) → AreBytes bytes → ((page : Page) → SpellsPage bytes page → ⊥) → (read : Option Page) → page_at bytes ≡ read → None ≡ read
+none_read exact bytes are none None is = refl
+none_read exact bytes are none (Some page) is = absurd (none page ((exact bytes page are).0 is))
+
+pub bad_read : (exact : PagesAreExact) (bytes : List ℕ) → AreBytes bytes → (e : PageError) → e ≡ errors.BadPage
+    → ((page : Page) → SpellsPage bytes page → (◌≡◌ {A = Result Page PageError} (Err e) (Ok page)) ⊎ (◌≡◌ {A = Result Page PageError} (Err e) (Err errors.NoMemory))) → None ≡ page_at bytes
+bad_read exact bytes are e is only = none_read exact bytes are (λ page spells. never page (only page spells)) (page_at bytes) refl
+  where
+    never : (page : Page) → (◌≡◌ {A = Result Page PageError} (Err e) (Ok page)) ⊎ (◌≡◌ {A = Result Page PageError} (Err e) (Err errors.NoMemory)) → ⊥
+    never page (inl same) = cc (is, same)
+    never page (inr same) = cc (is, same)

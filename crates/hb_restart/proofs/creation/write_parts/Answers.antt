@@ -1,0 +1,68 @@
+use Rattle.std.proofs.Common.{◌≡◌, ℕ, ◌+◌, ◌*◌, ◌≤◌, ◌∙◌, List, replicate, get_or, Some, IfSome, length, subst, arith}
+use Rattle.std.proofs.lemmas.List.{length-replicate}
+use Rattle.hb_disk.specs.Model.{overwritten}
+use Rattle.hb_disk.specs.RunLaws.{if_value, at_value, on_ok}
+use Rattle.hb_restart.specs.Creation.{IsLaidOut}
+use Rattle.hb_layout.specs.Offsets.{file_size}
+use Rattle.hb_restart.proofs.Beyond.{beyond_sync, beyond_then, beyond_write}
+use Rattle.hb_restart.proofs.Made.{laid_out}
+use Rattle.hb_restart.proofs.creation.write_parts.Goals as goal
+
+pub returns-clause-laid : goal.returns-clause-laid
+returns-clause-laid g c =
+    let d = g.D.Device.model c.args.disk.now in
+    let one = g.D.Device.model c.zero.new.self in
+    let two = g.D.Device.model c.write.new.self in
+    let new = g.D.Device.model c.sync.new.self in
+    let meta = c.args.meta.now in
+    let page = c.args.page.now in
+    let is_disk = g.met.D.Device.is_disk c.args.disk.now in
+    let P : List ℕ → Type 0 = λ b. get_or b 0 0 ≡ 0 → get_or b 4096 0 ≡ 0 → (x : List ℕ) × (new.told ≡ Some x) × IsLaidOut x meta page in
+    on_ok c.sync.result (IfSome d.told P) (if_value d.told P (λ b told first second.
+    let area : c.log_start.result ≡ 8192 = omega (arith, c.log_start.ensures) in
+    let place : c.page_offset.result ≡ 8192 + 2 * meta.log = omega (arith, c.page_offset.ensures) in
+    let zeroed : IfSome d.told (λ x. one.told ≡ Some (overwritten x 8192 (replicate meta.log 0))) =
+    subst (λ (at : ℕ). IfSome d.told (λ x. one.told ≡ Some (overwritten x at (replicate meta.log 0)))) area
+    (subst (λ (n : ℕ). IfSome d.told (λ x. one.told ≡ Some (overwritten x c.log_start.result (replicate n 0)))) c.from.ensures c.in_ok-zero.ensures.writes.written) in
+    let written : IfSome one.told (λ x. two.told ≡ Some (overwritten x (8192 + 2 * meta.log) page)) =
+    subst (λ (at : ℕ). IfSome one.told (λ x. two.told ≡ Some (overwritten x at page))) place c.in_ok-write.ensures.writes.written in
+    let after = at_value d.told (λ x. one.told ≡ Some (overwritten x 8192 (replicate meta.log 0))) b told zeroed in
+    let both = at_value one.told (λ x. two.told ≡ Some (overwritten x (8192 + 2 * meta.log) page)) (overwritten b 8192 (replicate meta.log 0)) after written in
+    let fits : 8192 + 2 * meta.log + 4096 * meta.pages ≤ length b = omega (arith, c.requires.room, is_disk.long b (is_disk.as_read b told)) in (
+      overwritten (overwritten b 8192 (replicate meta.log 0)) (8192 + 2 * meta.log) page,
+      c.sync.ensures.syncs.same ∙ both,
+      laid_out b meta page c.requires.some fits c.told-page first second,
+    )))
+
+pub returns-in_err-zero-clause-beyond : goal.returns-in_err-zero-clause-beyond
+returns-in_err-zero-clause-beyond g c =
+    beyond_write c.zero.result c.log_start.result (replicate c.from.result 0) (file_size c.args.meta.now) (g.D.Device.model c.args.disk.now) (g.D.Device.model c.zero.new.self)
+    (g.met.D.Device.is_disk c.args.disk.now) (g.met.D.Device.is_disk c.zero.new.self) c.requires.room
+    (omega (arith, length-replicate {A = ℕ} c.from.result 0, c.from.ensures, c.log_start.ensures)) c.zero.ensures.writes c.zero.ensures.ticks
+
+pub returns-in_err-write-clause-beyond : goal.returns-in_err-write-clause-beyond
+returns-in_err-write-clause-beyond g c =
+    let d = g.D.Device.model c.args.disk.now in
+    let one = g.D.Device.model c.zero.new.self in
+    let two = g.D.Device.model c.write.new.self in
+    let n = file_size c.args.meta.now in
+    beyond_then n d one two
+    (beyond_write c.zero.result c.log_start.result (replicate c.from.result 0) n d one (g.met.D.Device.is_disk c.args.disk.now) (g.met.D.Device.is_disk c.zero.new.self) c.requires.room
+    (omega (arith, length-replicate {A = ℕ} c.from.result 0, c.from.ensures, c.log_start.ensures)) c.zero.ensures.writes c.zero.ensures.ticks)
+    (beyond_write c.write.result c.page_offset.result c.args.page.now n one two (g.met.D.Device.is_disk c.zero.new.self) (g.met.D.Device.is_disk c.write.new.self)
+    (omega (arith, c.requires.room, c.zero.ensures.ticks.size)) (omega (arith, c.told-page, c.page_offset.ensures, c.requires.some)) c.write.ensures.writes c.write.ensures.ticks)
+
+pub returns-clause-beyond : goal.returns-clause-beyond
+returns-clause-beyond g c =
+    let d = g.D.Device.model c.args.disk.now in
+    let one = g.D.Device.model c.zero.new.self in
+    let two = g.D.Device.model c.write.new.self in
+    let new = g.D.Device.model c.sync.new.self in
+    let n = file_size c.args.meta.now in
+    beyond_then n d two new
+    (beyond_then n d one two
+    (beyond_write c.zero.result c.log_start.result (replicate c.from.result 0) n d one (g.met.D.Device.is_disk c.args.disk.now) (g.met.D.Device.is_disk c.zero.new.self) c.requires.room
+    (omega (arith, length-replicate {A = ℕ} c.from.result 0, c.from.ensures, c.log_start.ensures)) c.zero.ensures.writes c.zero.ensures.ticks)
+    (beyond_write c.write.result c.page_offset.result c.args.page.now n one two (g.met.D.Device.is_disk c.zero.new.self) (g.met.D.Device.is_disk c.write.new.self)
+    (omega (arith, c.requires.room, c.zero.ensures.ticks.size)) (omega (arith, c.told-page, c.page_offset.ensures, c.requires.some)) c.write.ensures.writes c.write.ensures.ticks))
+    (beyond_sync c.sync.result n two new (g.met.D.Device.is_disk c.write.new.self) c.sync.ensures.syncs c.sync.ensures.ticks)

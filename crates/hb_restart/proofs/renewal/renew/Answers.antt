@@ -1,0 +1,64 @@
+use Rattle.std.proofs.Common.{ℕ, ◌+◌, ◌≤◌, List, IfSome}
+use Rattle.std.specs.Ordering.{nat_cmp}
+use Rattle.std.specs.BTreeMap.{get}
+use Rattle.hb_disk.specs.RunLaws.{if_value, on_ok_weaker}
+use Rattle.hb_super.specs.Superblocks.{next_turn}
+use Rattle.hb_layout.specs.declared.meta.Meta.{Meta}
+use Rattle.hb_ops.specs.Files.{FileState}
+use Rattle.hb_store.specs.Opening.{OpensTo}
+use Rattle.hb_store.specs.Keeps.{IsFresh}
+use Rattle.hb_restart.specs.Found.{IsFoundIn}
+use Rattle.hb_restart.specs.Renewing.{IsHere}
+use Rattle.hb_restart.proofs.SyncedRuns.{synced_even, synced_late, synced_time, synced_renewed}
+use Rattle.hb_layout.specs.Offsets.{file_size}
+use Rattle.hb_restart.proofs.Beyond.{beyond_sync, beyond_then}
+use Rattle.hb_restart.proofs.renewal.renew.Goals as goal
+
+pub returns-in_err-sync-clause-time : goal.returns-in_err-sync-clause-time
+returns-in_err-sync-clause-time g c =
+    let d = g.D.Device.model c.args.disk.now in
+    if_value d.told (λ b. IsFoundIn b c.args.found.now.turn c.args.found.now.meta (get nat_cmp c.args.found.now.touched) c.args.found.now.count
+    → d.clock ≤ (g.D.Device.model c.sync.new.self).clock) (λ b told found. c.sync.ensures.ticks.later)
+
+pub returns-clause-time : goal.returns-clause-time
+returns-clause-time g c =
+    synced_time c.sync.result c.in_ok-sync.field-0 c.in_ok-sync.was (g.D.Device.model c.args.disk.now) (g.D.Device.model c.sync.new.self) (g.D.Device.model c.rewrite.new.disk) (g.met.D.Device.is_disk c.args.disk.now)
+    c.sync.ensures.syncs c.sync.ensures.ticks c.args.found.now.turn c.args.found.now.meta (get nat_cmp c.args.found.now.touched) c.args.found.now.count
+    c.an_image_opens_to_one_file.ensures.one c.rewrite.ensures.moments
+
+pub returns-clause-even : goal.returns-clause-even
+returns-clause-even g c =
+    synced_even c.sync.result c.in_ok-sync.field-0 c.in_ok-sync.was (g.D.Device.model c.args.disk.now) (g.D.Device.model c.sync.new.self) (g.D.Device.model c.rewrite.new.disk) (g.met.D.Device.is_disk c.args.disk.now)
+    c.sync.ensures.syncs c.sync.ensures.ticks c.args.found.now.turn c.args.found.now.meta (get nat_cmp c.args.found.now.touched) c.args.found.now.count
+    c.an_image_opens_to_one_file.ensures.one c.rewrite.ensures.moments
+
+pub returns-clause-late : goal.returns-clause-late
+returns-clause-late g c =
+    synced_late c.sync.result c.in_ok-sync.field-0 c.in_ok-sync.was (g.D.Device.model c.args.disk.now) (g.D.Device.model c.sync.new.self) (g.D.Device.model c.rewrite.new.disk) (g.met.D.Device.is_disk c.args.disk.now)
+    c.sync.ensures.syncs c.sync.ensures.ticks c.args.found.now.turn c.args.found.now.meta (get nat_cmp c.args.found.now.touched) c.args.found.now.count
+    c.an_image_opens_to_one_file.ensures.one c.rewrite.ensures.moments
+
+pub returns-clause-renewed : goal.returns-clause-renewed
+returns-clause-renewed g c =
+    let d = g.D.Device.model c.args.disk.now in
+    let mid = g.D.Device.model c.sync.new.self in
+    let new = g.D.Device.model c.rewrite.new.disk in
+    let turn = c.args.found.now.turn in
+    let meta = c.args.found.now.meta in
+    let touched = get nat_cmp c.args.found.now.touched in
+    let count = c.args.found.now.count in
+    on_ok_weaker c.rewrite.result ((said : Meta) (s : FileState) → IsHere mid turn said meta touched s → IsFresh new (next_turn turn) meta s)
+    (IfSome d.told (λ b. IsFoundIn b turn meta touched count → (s : FileState) → OpensTo b s → IsFresh new (next_turn turn) meta s × ((x : List ℕ) → new.ImageSince (d.clock + 1) x → OpensTo x s)))
+    (synced_renewed c.sync.result c.in_ok-sync.field-0 c.in_ok-sync.was d mid new (g.met.D.Device.is_disk c.args.disk.now)
+    c.sync.ensures.syncs c.sync.ensures.ticks turn meta touched count c.an_image_opens_to_one_file.ensures.one c.rewrite.ensures.moments)
+    c.rewrite.ensures.fresh
+
+pub returns-in_err-sync-clause-beyond : goal.returns-in_err-sync-clause-beyond
+returns-in_err-sync-clause-beyond g c =
+    beyond_sync c.sync.result (file_size c.args.found.now.meta) (g.D.Device.model c.args.disk.now) (g.D.Device.model c.sync.new.self) (g.met.D.Device.is_disk c.args.disk.now) c.sync.ensures.syncs c.sync.ensures.ticks
+
+pub returns-clause-beyond : goal.returns-clause-beyond
+returns-clause-beyond g c =
+    beyond_then (file_size c.args.found.now.meta) (g.D.Device.model c.args.disk.now) (g.D.Device.model c.sync.new.self) (g.D.Device.model c.rewrite.new.disk)
+    (beyond_sync c.sync.result (file_size c.args.found.now.meta) (g.D.Device.model c.args.disk.now) (g.D.Device.model c.sync.new.self) (g.met.D.Device.is_disk c.args.disk.now) c.sync.ensures.syncs c.sync.ensures.ticks)
+    c.rewrite.ensures.beyond

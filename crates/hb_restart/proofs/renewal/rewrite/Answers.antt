@@ -1,0 +1,50 @@
+use Rattle.std.proofs.Common.{ℕ, Option}
+use Rattle.std.specs.Ordering.{nat_cmp}
+use Rattle.std.specs.BTreeMap.{get}
+use Rattle.hb_disk.specs.RunLaws.{Leaves-weaker, Leaves-then, on_ok_weaker}
+use Rattle.hb_super.specs.Superblocks.{next_turn}
+use Rattle.hb_frag.specs.declared.pages.Page.{Page}
+use Rattle.hb_layout.specs.declared.meta.Meta.{Meta}
+use Rattle.hb_ops.specs.Files.{FileState}
+use Rattle.hb_store.specs.Opening.{OpensTo}
+use Rattle.hb_store.specs.Keeps.{IsFresh}
+use Rattle.hb_restart.specs.Renewing.{StillOpens, IsHere, IsPlaced}
+use Rattle.hb_restart.proofs.Renewed.{still_to}
+use Rattle.hb_layout.specs.Offsets.{file_size}
+use Rattle.hb_restart.proofs.Beyond.{beyond_then}
+use Rattle.hb_restart.proofs.renewal.rewrite.Goals as goal
+
+pub returns-in_err-settle-clause-moments : goal.returns-in_err-settle-clause-moments
+returns-in_err-settle-clause-moments g c = λ said s here.
+    let meta = c.args.found.now.meta in
+    let touched = get nat_cmp c.args.found.now.touched in
+    Leaves-weaker (g.D.Device.model c.args.disk.now) (g.D.Device.model c.settle.new.disk) (StillOpens c.args.found.now.turn said meta touched s) (λ x. OpensTo x s)
+    (still_to c.args.found.now.turn said meta touched s) (c.settle.ensures.moments said s here)
+
+pub returns-clause-moments : goal.returns-clause-moments
+returns-clause-moments g c = λ said s here.
+    let d = g.D.Device.model c.args.disk.now in
+    let mid = g.D.Device.model c.settle.new.disk in
+    let meta = c.args.found.now.meta in
+    let touched = get nat_cmp c.args.found.now.touched in
+    Leaves-then d mid (g.D.Device.model c.switch.new.disk) (λ x. OpensTo x s)
+    (Leaves-weaker d mid (StillOpens c.args.found.now.turn said meta touched s) (λ x. OpensTo x s) (still_to c.args.found.now.turn said meta touched s) (c.settle.ensures.moments said s here))
+    (c.switch.ensures.moments said touched s (c.in_ok-settle.ensures.placed said s here))
+
+pub returns-clause-fresh : goal.returns-clause-fresh
+returns-clause-fresh g c =
+    let d = g.D.Device.model c.args.disk.now in
+    let mid = g.D.Device.model c.settle.new.disk in
+    let new = g.D.Device.model c.switch.new.disk in
+    let turn = c.args.found.now.turn in
+    let meta = c.args.found.now.meta in
+    let touched = get nat_cmp c.args.found.now.touched in
+    on_ok_weaker c.switch.result ((said : Meta) (touched : ℕ → Option Page) (s : FileState) → IsPlaced mid turn said meta touched s → IsFresh new (next_turn turn) meta s)
+    ((said : Meta) (s : FileState) → IsHere d turn said meta touched s → IsFresh new (next_turn turn) meta s)
+    (λ fresh said s here. fresh said touched s (c.in_ok-settle.ensures.placed said s here))
+    c.switch.ensures.fresh
+
+pub returns-clause-beyond : goal.returns-clause-beyond
+returns-clause-beyond g c =
+    beyond_then (file_size c.args.found.now.meta) (g.D.Device.model c.args.disk.now) (g.D.Device.model c.settle.new.disk) (g.D.Device.model c.switch.new.disk)
+    c.settle.ensures.beyond c.switch.ensures.beyond

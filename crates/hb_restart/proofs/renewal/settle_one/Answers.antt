@@ -1,0 +1,53 @@
+use Rattle.std.proofs.Common.{◌≡◌, ◌+◌, ℕ, List, Some, refl, sym, arith}
+use Rattle.std.specs.Ordering.{nat_cmp}
+use Rattle.std.specs.BTreeMap.{get}
+use Rattle.hb_disk.specs.RunLaws.{on_ok_weaker}
+use Rattle.hb_super.specs.Superblocks.{next_turn}
+use Rattle.hb_layout.specs.declared.meta.Meta.{Meta}
+use Rattle.hb_layout.specs.Offsets.{file_size}
+use Rattle.hb_frag.specs.Grammar.{SpellsPage}
+use Rattle.hb_ops.specs.Files.{FileState}
+use Rattle.hb_store.specs.Opening.{place_bytes}
+use Rattle.hb_restart.specs.Renewing.{IsPlacedTo}
+use Rattle.hb_restart.proofs.Renewed.{placed_moments, placed_there, placed_untouched, not_none}
+use Rattle.hb_restart.proofs.Beyond.{beyond_none, beyond_page}
+use Rattle.hb_restart.proofs.renewal.settle_one.Goals as goal
+
+pub write_page-requires-clause-spelling : goal.write_page-requires-clause-spelling
+write_page-requires-clause-spelling g c = c.requires.spelled c.args.id c.in-Some.page.now (sym c.in-Some.ensures.value)
+
+pub returns-in-Some-clause-moments : goal.returns-in-Some-clause-moments
+returns-in-Some-clause-moments g c = λ said s here.
+    let found = c.args.found.now in
+    let touched = get nat_cmp found.touched in
+    placed_moments found.turn (next_turn found.turn) said found.meta c.requires.whole.legal.turn_fits refl touched s
+    c.write_page.result (g.D.Device.model c.args.disk.now) (g.D.Device.model c.write_page.new.disk) (g.met.D.Device.is_disk c.args.disk.now) here
+    c.args.id c.requires.some (not_none (touched c.args.id) c.in-Some.page.now (sym c.in-Some.ensures.value)) c.write_page.ensures.ticks c.write_page.ensures.place
+
+pub returns-in-Some-clause-placed : goal.returns-in-Some-clause-placed
+returns-in-Some-clause-placed g c =
+    let d = g.D.Device.model c.args.disk.now in
+    let new = g.D.Device.model c.write_page.new.disk in
+    let found = c.args.found.now in
+    let touched = get nat_cmp found.touched in
+    on_ok_weaker c.write_page.result ((b : List ℕ) → new.told ≡ Some b → SpellsPage (place_bytes found.meta c.args.id b) c.in-Some.page.now)
+    ((said : Meta) (s : FileState) (before : ℕ) → before + 1 ≡ c.args.id → IsPlacedTo before d found.turn said found.meta touched s → IsPlacedTo c.args.id new found.turn said found.meta touched s)
+    (λ there said s before is placed.
+    placed_there found.turn (next_turn found.turn) said found.meta c.requires.whole.legal.turn_fits refl touched s c.write_page.result d new (g.met.D.Device.is_disk c.args.disk.now) placed.here
+    c.args.id c.requires.some (not_none (touched c.args.id) c.in-Some.page.now (sym c.in-Some.ensures.value)) c.write_page.ensures.ticks c.write_page.ensures.place
+    c.in-Some.page.now (sym c.in-Some.ensures.value) there before is placed)
+    c.write_page.ensures.there
+
+pub returns-in-None-clause-placed : goal.returns-in-None-clause-placed
+returns-in-None-clause-placed g c = λ said s before is placed.
+    let found = c.args.found.now in
+    placed_untouched found.turn (next_turn found.turn) said found.meta c.requires.whole.legal.turn_fits refl (get nat_cmp found.touched) s
+    (g.D.Device.model c.args.disk.now) (g.met.D.Device.is_disk c.args.disk.now) c.args.id before is (sym c.in-None.ensures.value) placed
+
+pub returns-in-Some-clause-beyond : goal.returns-in-Some-clause-beyond
+returns-in-Some-clause-beyond g c =
+    beyond_page c.args.found.now.meta c.args.id (g.D.Device.model c.args.disk.now) (g.D.Device.model c.write_page.new.disk) c.requires.some
+    (let most = c.requires.most in let few = c.requires.whole.marks.high in omega (arith, most, few)) c.write_page.ensures.place
+
+pub returns-in-None-clause-beyond : goal.returns-in-None-clause-beyond
+returns-in-None-clause-beyond g c = beyond_none (file_size c.args.found.now.meta) (g.D.Device.model c.args.disk.now) (g.met.D.Device.is_disk c.args.disk.now)

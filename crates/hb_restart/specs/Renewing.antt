@@ -1,0 +1,62 @@
+-- What opening a file makes of its disk, once it is found: the touched pages are written to their places, and the next
+-- turn begins.
+use Rattle.std.specs.Prelude.{◌≡◌, ◌⊎◌, ℕ, ◌*◌, ◌+◌, ◌≤◌, List, replicate, Option, Some, None, IsSome, Result, OnOk, OnErr}
+use Rattle.hb_space.specs.declared.form.TheConstants.{PAGE}
+use Rattle.hb_outside.specs.Streams.{Rose}
+use Rattle.hb_disk.specs.Model.{DiskModel}
+use Rattle.hb_disk.specs.Calls.{IsSynced}
+use Rattle.hb_super.specs.Superblocks.{next_turn}
+use Rattle.hb_super.specs.Moments.{HidesNoOther}
+use Rattle.hb_frag.specs.declared.pages.Page.{Page}
+use Rattle.hb_frag.specs.Grammar.{SpellsPage}
+use Rattle.hb_layout.specs.declared.meta.Meta.{Meta}
+use Rattle.hb_log_codec.specs.Groups.{Logged}
+use Rattle.hb_ops.specs.Files.{FileState, page_of}
+use Rattle.hb_store.specs.Keeps.{IsSameLayout}
+use Rattle.hb_store.specs.Replay.{untouched, replay}
+use Rattle.hb_store.specs.Opening.{OpensBy, log_bytes, place_bytes}
+
+-- Bytes open to this file, which says this of itself, by the superblock of this turn, which says that; and these are the
+-- pages that their log touches.
+pub record StillOpens (turn : ℕ) (said meta : Meta) (touched : ℕ → Option Page) (s : FileState) (bytes : List ℕ) : Type 0 where
+  pub layout : IsSameLayout said meta
+  pub meta_is : s.meta ≡ meta
+  pub payloads : List (List ℕ)
+  pub groups : List Logged
+  pub by : OpensBy bytes turn said payloads groups s
+  pub touched_is : (id : ℕ) → (replay (untouched said) groups).page id ≡ touched id
+
+-- a disk that tells, whose images all do so, and whose superblock places are synced
+pub record IsHere (d : DiskModel) (turn : ℕ) (said meta : Meta) (touched : ℕ → Option Page) (s : FileState) : Type 0 where
+  pub told : IsSome d.told
+  pub images : (c : List ℕ) → d.Image c → StillOpens turn said meta touched s c
+  pub places : IsSynced d 0 (2 * PAGE)
+
+-- each page up to this number also reads in its place
+pub record IsPlacedTo (last : ℕ) (d : DiskModel) (turn : ℕ) (said meta : Meta) (touched : ℕ → Option Page) (s : FileState) : Type 0 where
+  pub here : IsHere d turn said meta touched s
+  pub there : (id : ℕ) (page : Page) → id ≤ last → page_of s id ≡ Some page → (b : List ℕ) → d.told ≡ Some b → SpellsPage (place_bytes meta id b) page
+
+-- every page does
+abbrev pub IsPlaced : DiskModel → ℕ → Meta → Meta → (ℕ → Option Page) → FileState → Type 0
+IsPlaced d turn said meta touched s = IsPlacedTo meta.high d turn said meta touched s
+
+-- The log area of the next turn is zeroed too, a crash leaves what a read gives, and the place of the next turn hides
+-- no other body of that turn.
+pub record IsReadyFor (d : DiskModel) (turn : ℕ) (said meta : Meta) (touched : ℕ → Option Page) (s : FileState) : Type 0 where
+  pub placed : IsPlaced d turn said meta touched s
+  pub alone : (b c : List ℕ) → d.told ≡ Some b → d.Image c → c ≡ b
+  pub zeroed : (b : List ℕ) → d.told ≡ Some b → log_bytes (next_turn turn) meta b ≡ replicate meta.log 0
+  pub hides : (b : List ℕ) → d.told ≡ Some b → HidesNoOther b (next_turn turn) meta
+
+-- A run of at most n calls that write: the size stays, no count falls, the disk tells after it exactly where it told
+-- before, and a count of failed calls has risen where it answers an error, and nowhere else.
+pub record Runs {T E : Type 0} (n : ℕ) (result : Result T E) (old new : DiskModel) : Type 0 where
+  pub size : new.size ≡ old.size
+  pub silent : old.told ≡ None → new.told ≡ None
+  pub tells : IsSome old.told → IsSome new.told
+  pub clock : IsSome old.told → new.clock ≤ old.clock + n
+  pub cause : OnErr result (Rose old.read_faults new.read_faults ⊎ Rose old.write_faults new.write_faults)
+  pub no_fault : OnOk result ((new.read_faults ≡ old.read_faults) × (new.write_faults ≡ old.write_faults))
+  pub reads : old.read_faults ≤ new.read_faults
+  pub writes : old.write_faults ≤ new.write_faults

@@ -1,0 +1,158 @@
+//! Making a file.
+ghost use Rattle.std.specs.Prelude.{◌≡◌, ◌≢◌, ◌⊎◌, ℕ, ◌*◌, ◌+◌, ◌≤◌, ◌<◌, List, [], length, get_or, Some, None, OnOk, IfOk, IfErr, IfSome, IsSome, IsNone};
+ghost use Rattle.hb_space.specs.declared.form.TheConstants.{PAGE};
+ghost use Rattle.hb_outside.specs.Streams.{Rose};
+ghost use Rattle.hb_disk.specs.Calls.{WriteFaults};
+ghost use Rattle.hb_frag.specs.declared.pages.Page.{Page as Content};
+ghost use Rattle.hb_frag.specs.Grammar.{SpellsPage};
+ghost use Rattle.hb_layout.specs.Limits.{IsLayout};
+ghost use Rattle.hb_layout.specs.declared.meta.Meta.{Meta as Said};
+ghost use Rattle.hb_layout.specs.Offsets.{file_size};
+ghost use Rattle.hb_store.specs.Keeps.{IsFresh, IsNew, StoreKeeps};
+ghost use Rattle.hb_store.specs.Seen.{seen_as, disk_of};
+ghost use Rattle.hb_restart.specs.Beyond.{KeepsBeyond};
+ghost use Rattle.hb_restart.specs.Creation.{IsLaidOut};
+ghost use Rattle.hb_restart.specs.NewFiles.{lone, new_file, new_meta};
+ghost use Rattle.hb_restart.specs.Layouts.{layout_fault, layout_size};
+ghost use Rattle.hb_restart.specs.declared.faults.OpenFault.TheVariants.{DiskFault, NoMemory};
+
+use crate::faults::OpenFault;
+use crate::layout::{Layout, empty_page};
+use hb_disk::Device;
+use hb_layout::{log_start, page_offset};
+use hb_ops::Meta;
+use hb_outside::Failed;
+use hb_page_codec::encode;
+use hb_space::form::PAGE;
+use hb_store::Store;
+use hb_super::write_first_super;
+use hb_wal::zero_area;
+use std::alloc::Global;
+
+/// Zeroes both superblock places, and syncs. Two device calls.
+fn zero_places<D: Device>(disk: &mut D) -> Result<(), hb_disk::DiskFault>
+    requires room { 2 * PAGE ≤ (D.model disk.old).size }
+    ensures closed { OnOk result (IfSome (D.model disk.old).told (λ b. (c : List ℕ) × ((D.model disk.new).told ≡ Some c)
+        × (get_or c 0 0 ≡ 0) × (get_or c PAGE 0 ≡ 0))) }
+    ensures silent { (D.model disk.old).told ≡ None → (D.model disk.new).told ≡ None }
+    ensures size { (D.model disk.new).size ≡ (D.model disk.old).size }
+    ensures beyond { KeepsBeyond (2 * PAGE) (D.model disk.old) (D.model disk.new) }
+    ensures faults { WriteFaults result (D.model disk.old) (D.model disk.new) }
+{
+    zero_area(disk, 0, 2 * PAGE as u32)
+}
+
+/// Zeroes log area 0 and writes page 1, and syncs. Three device calls.
+fn write_parts<D: Device>(disk: &mut D, meta: &Meta, page: &[u8; PAGE]) -> Result<(), Failed>
+    requires room { file_size meta.now ≤ (D.model disk.old).size }
+    requires some { 1 ≤ meta.now.pages }
+    ensures laid { OnOk result (IfSome (D.model disk.old).told (λ b. get_or b 0 0 ≡ 0 → get_or b PAGE 0 ≡ 0 →
+        (c : List ℕ) × ((D.model disk.new).told ≡ Some c) × IsLaidOut c meta.now page.now)) }
+    ensures durable { OnOk result (IfSome (D.model disk.new).told (λ b. (c : List ℕ) → (D.model disk.new).Image c → c ≡ b)) }
+    ensures silent { (D.model disk.old).told ≡ None → (D.model disk.new).told ≡ None }
+    ensures size { (D.model disk.new).size ≡ (D.model disk.old).size }
+    ensures beyond { KeepsBeyond (file_size meta.now) (D.model disk.old) (D.model disk.new) }
+    ensures faults { WriteFaults result (D.model disk.old) (D.model disk.new) }
+{
+    disk.zero(log_start(0, meta), u64::from(meta.log))?;
+    disk.write(page_offset(meta, 1), page)?;
+    disk.sync()
+}
+
+/// Writes all of a new file but its superblock, in two steps with a sync each. Five device calls.
+fn lay_out<D: Device>(
+    disk: &mut D,
+    meta: &Meta,
+    page: &[u8; PAGE],
+) -> Result<(), hb_disk::DiskFault>
+    requires room { file_size meta.now ≤ (D.model disk.old).size }
+    requires some { 1 ≤ meta.now.pages }
+    ensures laid { OnOk result (IfSome (D.model disk.old).told (λ b. (c : List ℕ) × ((D.model disk.new).told ≡ Some c) × IsLaidOut c meta.now page.now)) }
+    ensures durable { OnOk result (IfSome (D.model disk.new).told (λ b. (c : List ℕ) → (D.model disk.new).Image c → c ≡ b)) }
+    ensures silent { (D.model disk.old).told ≡ None → (D.model disk.new).told ≡ None }
+    ensures size { (D.model disk.new).size ≡ (D.model disk.old).size }
+    ensures beyond { KeepsBeyond (file_size meta.now) (D.model disk.old) (D.model disk.new) }
+    ensures faults { WriteFaults result (D.model disk.old) (D.model disk.new) }
+{
+    zero_places(disk)?;
+    Ok(write_parts(disk, meta, page)?)
+}
+
+/// Writes a new file: its places, its log area and its page, and at last its superblock. Nine device calls.
+fn write_file<D: Device>(
+    disk: &mut D,
+    meta: &Meta,
+    page: &[u8; PAGE],
+) -> Result<(), hb_disk::DiskFault>
+    requires room { file_size meta.now ≤ (D.model disk.old).size }
+    requires layout { IsLayout meta.now }
+    requires one { (meta.now.root ≡ 1) × (meta.now.high ≡ 1) × (meta.now.live ≡ 1) × (meta.now.free ≡ 0) }
+    ensures fresh { OnOk result (IsSome (D.model disk.old).told → (p : Content) → SpellsPage page.now p →
+        IsFresh (D.model disk.new) 0 meta.now (lone meta.now p)) }
+    ensures size { (D.model disk.new).size ≡ (D.model disk.old).size }
+    ensures told { IsSome (D.model disk.new).told → IsSome (D.model disk.old).told }
+    ensures beyond { KeepsBeyond (file_size meta.now) (D.model disk.old) (D.model disk.new) }
+    ensures faults { WriteFaults result (D.model disk.old) (D.model disk.new) }
+{
+    lay_out(disk, meta, page)?;
+    write_first_super(disk, meta)
+}
+
+/// The disk's file is made, and the store is opened over it. Memory is wanted only once the file is made.
+fn make<D: Device>(alloc: Global, disk: D, layout: Layout) -> Result<Store<D>, (OpenFault, D)>
+    requires good { IsNone (layout_fault layout) }
+    requires large { layout_size layout ≤ (D.model disk).size }
+    ensures made { IfOk result (λ st. IsSome (D.model disk).told → StoreKeeps (D.model (disk_of st)) (seen_as st) (new_file layout) []) }
+    ensures new { IfOk result (λ st. IsNew 0 (new_meta layout) (seen_as st)) }
+    ensures refused { IfErr result (λ e. (e.0 ≡ DiskFault) ⊎ (e.0 ≡ NoMemory)) }
+    ensures made_anyway { IfErr result (λ e. e.0 ≡ NoMemory → IsSome (D.model disk).told → IsFresh (D.model e.1) 0 (new_meta layout) (new_file layout)) }
+    ensures beyond { IfOk result (λ st. KeepsBeyond (layout_size layout) (D.model disk) (D.model (disk_of st))) }
+    ensures beyond_after_fault { IfErr result (λ e. KeepsBeyond (layout_size layout) (D.model disk) (D.model e.1)) }
+    ensures cause { IfErr result (λ e. e.0 ≡ DiskFault → (Rose (D.model disk).write_faults (D.model e.1).write_faults)) }
+    ensures no_fault { IfOk result (λ st. ((D.model (disk_of st)).read_faults ≡ (D.model disk).read_faults) × ((D.model (disk_of st)).write_faults ≡ (D.model disk).write_faults)) }
+    ensures no_fault_refused { IfErr result (λ e. (e.0 ≡ DiskFault → ⊥) → (D.model e.1).write_faults ≡ (D.model disk).write_faults) }
+    ensures later_after_fault { IfErr result (λ e. ((D.model e.1).read_faults ≡ (D.model disk).read_faults) × ((D.model disk).write_faults ≤ (D.model e.1).write_faults)) }
+{
+    let mut disk = disk;
+    let meta = layout.meta();
+    let mut page = [0; PAGE];
+    encode(&empty_page(alloc, layout.k), &mut page);
+    if write_file(&mut disk, &meta, &page).is_err() {
+        return Err((OpenFault::DiskFault, disk));
+    }
+    match Store::opened(alloc, disk, 0, meta) {
+        Ok(store) => Ok(store),
+        Err((_, disk)) => Err((OpenFault::NoMemory, disk)),
+    }
+}
+
+/// Makes a new file on a disk: no record, one page. `BadLayout` names the first field that is out of its limits; then
+/// `Small` comes exactly where the disk has fewer bytes than the layout. Nothing is written before these two.
+pub fn create<D: Device>(alloc: Global, disk: D, layout: Layout) -> Result<Store<D>, (OpenFault, D)>
+    ensures made { IfOk result (λ st. IsSome (D.model disk).told → StoreKeeps (D.model (disk_of st)) (seen_as st) (new_file layout) []) }
+    ensures new { IfOk result (λ st. IsNew 0 (new_meta layout) (seen_as st)) }
+    ensures good { IfOk result (λ st. IsNone (layout_fault layout)) }
+    ensures large { IfOk result (λ st. layout_size layout ≤ (D.model disk).size) }
+    ensures refused { IfErr result (λ e. (layout_fault layout ≡ Some e.0)
+        ⊎ (IsNone (layout_fault layout) × ((e.0 ≡ OpenFault.Small (layout_size layout) (D.model disk).size) × ((D.model disk).size < layout_size layout)))
+        ⊎ (IsNone (layout_fault layout) × (layout_size layout ≤ (D.model disk).size) × ((e.0 ≡ DiskFault) ⊎ (e.0 ≡ NoMemory)))) }
+    ensures unwritten { IfErr result (λ e. e.0 ≢ DiskFault → e.0 ≢ NoMemory → e.1 ≡ disk) }
+    // memory is refused only once the file is made
+    ensures made_anyway { IfErr result (λ e. e.0 ≡ NoMemory → IsSome (D.model disk).told → IsFresh (D.model e.1) 0 (new_meta layout) (new_file layout)) }
+    ensures beyond { IfOk result (λ st. KeepsBeyond (layout_size layout) (D.model disk) (D.model (disk_of st))) }
+    ensures beyond_after_fault { IfErr result (λ e. KeepsBeyond (layout_size layout) (D.model disk) (D.model e.1)) }
+    ensures cause { IfErr result (λ e. e.0 ≡ DiskFault → (Rose (D.model disk).write_faults (D.model e.1).write_faults)) }
+    ensures no_fault { IfOk result (λ st. ((D.model (disk_of st)).read_faults ≡ (D.model disk).read_faults) × ((D.model (disk_of st)).write_faults ≡ (D.model disk).write_faults)) }
+    ensures no_fault_refused { IfErr result (λ e. (e.0 ≡ DiskFault → ⊥) → (D.model e.1).write_faults ≡ (D.model disk).write_faults) }
+    ensures later_after_fault { IfErr result (λ e. ((D.model e.1).read_faults ≡ (D.model disk).read_faults) × ((D.model disk).write_faults ≤ (D.model e.1).write_faults)) }
+{
+    if let Some(fault) = layout.fault() {
+        return Err((fault, disk));
+    }
+    let needed = layout.size();
+    let found = disk.size();
+    if found < needed {
+        return Err((OpenFault::Small { needed, found }, disk));
+    }
+    make(alloc, disk, layout)
+}

@@ -1,0 +1,47 @@
+//! Why a file wasn't made or opened.
+
+use hb_sound::AuditStop;
+
+/// A field of a file's layout.
+#[derive(Clone, Copy, Debug, PartialEq, Eq)]
+pub enum Field {
+    K,
+    Pages,
+    Log,
+    Dcap,
+    Icap,
+}
+
+/// Why a file wasn't made or opened.
+#[derive(Clone, Copy, Debug, PartialEq, Eq)]
+pub enum OpenFault {
+    /// This field of the layout, the first one, is out of its limits.
+    BadLayout { field: Field, value: u64 },
+    /// The disk has fewer bytes than are needed.
+    Small { needed: u64, found: u64 },
+    /// Neither superblock place is open over a legal body.
+    NoSuper,
+    /// The frame of this number, counted from 0, is the first bad one of the log.
+    BadGroup { frame: u32 },
+    /// The file breaks this rule, the first one; and the page that the audit names, 0 for none.
+    Unsound { page: u32, rule: u8 },
+    /// The disk failed.
+    DiskFault,
+    /// Memory was refused.
+    NoMemory,
+}
+
+impl From<AuditStop> for OpenFault {
+    ghost use Rattle.std.specs.Prelude.{◌≡◌};
+    ghost use Rattle.hb_restart.specs.Found.{audit_fault};
+
+    ghost from_gives = { λ stop fault. fault ≡ audit_fault stop };
+
+    fn from(stop: AuditStop) -> OpenFault {
+        match stop {
+            AuditStop::Broken { page, rule } => OpenFault::Unsound { page, rule },
+            AuditStop::Failed => OpenFault::DiskFault,
+            AuditStop::NoMemory => OpenFault::NoMemory,
+        }
+    }
+}

@@ -1,0 +1,166 @@
+//! A file that was found begins its next turn.
+//!
+//! Nothing that is written before the superblock matters to the opening of an image: the places of the pages that the log
+//! touches, the log area of the other turn, and what a closed gate hides.
+ghost use Rattle.std.specs.Prelude.{◌≡◌, ℕ, ◌+◌, ◌≤◌, List, Option, Some, IfSome, OnOk};
+ghost use Rattle.std.specs.Ordering.{nat_cmp};
+ghost use Rattle.std.specs.BTreeMap.{get};
+ghost use Rattle.hb_disk.specs.Model.{Torn};
+ghost use Rattle.hb_disk.specs.Calls.{Becomes, Leaves, Ticks, WriteFaults};
+ghost use Rattle.hb_frag.specs.declared.pages.Page.{Page as Content};
+ghost use Rattle.hb_frag.specs.Grammar.{HasSpelling, SpellsPage};
+ghost use Rattle.hb_super.specs.Superblocks.{IsLegal, next_turn};
+ghost use Rattle.hb_ops.specs.Files.{FileState};
+ghost use Rattle.hb_layout.specs.declared.meta.Meta.{Meta as Said};
+ghost use Rattle.hb_layout.specs.Offsets as offsets;
+ghost use Rattle.hb_layout.specs.Offsets.{file_size};
+ghost use Rattle.hb_store.specs.Opening.{OpensTo, IsEven, place_bytes};
+ghost use Rattle.hb_store.specs.Keeps.{IsFresh};
+ghost use Rattle.hb_restart.specs.Beyond.{KeepsBeyond};
+ghost use Rattle.hb_restart.specs.Found.{AreSpelled, IsFoundIn, IsWhole};
+ghost use Rattle.hb_restart.specs.Renewing.{StillOpens, IsHere, IsPlaced, IsPlacedTo, IsReadyFor, Runs};
+
+use crate::looking::Found;
+use hb_disk::{Device, DiskFault};
+use hb_frag::Page;
+use hb_layout::{log_start, page_offset};
+use hb_ops::Meta;
+use hb_outside::Failed;
+use hb_page_codec::encode;
+use hb_space::form::PAGE;
+use hb_store::{Touched, an_image_opens_to_one_file};
+use hb_super::{clear_hidden, write_super};
+use hb_wal::zero_area;
+
+/// The turn after another.
+pub(crate) fn turn_after(turn: u8) -> u8
+    requires { turn ≤ 3 }
+    ensures { result ≡ next_turn turn }
+{
+    (turn + 1) % 4
+}
+
+/// Writes a page to its place. One device call.
+fn write_page<D: Device>(disk: &mut D, meta: &Meta, id: u32, page: &Page) -> Result<(), Failed>
+    requires room { file_size meta.now ≤ (D.model disk.old).size }
+    requires some { 1 ≤ id }
+    requires most { id ≤ meta.now.pages }
+    requires spelling { HasSpelling page.now }
+    ensures there { OnOk result ((b : List ℕ) → (D.model disk.new).told ≡ Some b → SpellsPage (place_bytes meta.now id b) page.now) }
+    ensures place { Becomes (Torn (offsets.page_offset meta.now id) PAGE) (D.model disk.old) (D.model disk.new) }
+    ensures ticks { Ticks result (D.model disk.old) (D.model disk.new) }
+    ensures faults { WriteFaults result (D.model disk.old) (D.model disk.new) }
+{
+    let mut bytes = [0; PAGE];
+    encode(page, &mut bytes);
+    disk.write(page_offset(meta, id), &bytes)
+}
+
+/// Writes the page of a number to its place, where the log touches it. At most one device call.
+fn settle_one<D: Device>(disk: &mut D, found: &Found, id: u32) -> Result<(), Failed>
+    requires whole { IsWhole (D.model disk.old).size found.now.turn found.now.meta }
+    requires spelled { AreSpelled (get nat_cmp found.now.touched) }
+    requires some { 1 ≤ id }
+    requires most { id ≤ found.now.meta.high }
+    ensures run { Runs 1 result (D.model disk.old) (D.model disk.new) }
+    ensures beyond { KeepsBeyond (file_size found.now.meta) (D.model disk.old) (D.model disk.new) }
+    ensures moments { (said : Said) (s : FileState) → IsHere (D.model disk.old) found.now.turn said found.now.meta (get nat_cmp found.now.touched) s →
+        Leaves (D.model disk.old) (D.model disk.new) (StillOpens found.now.turn said found.now.meta (get nat_cmp found.now.touched) s) }
+    ensures placed { OnOk result ((said : Said) (s : FileState) (before : ℕ) → before + 1 ≡ id →
+        IsPlacedTo before (D.model disk.old) found.now.turn said found.now.meta (get nat_cmp found.now.touched) s →
+        IsPlacedTo id (D.model disk.new) found.now.turn said found.now.meta (get nat_cmp found.now.touched) s) }
+{
+    match found.touched.get(&id) {
+        Some(page) => write_page(disk, &found.meta, id, page),
+        None => Ok(()),
+    }
+}
+
+/// Writes each page that the log touches to its place, once. At most a device call for each page of the file.
+fn settle<D: Device>(disk: &mut D, found: &Found) -> Result<(), Failed>
+    requires whole { IsWhole (D.model disk.old).size found.now.turn found.now.meta }
+    requires spelled { AreSpelled (get nat_cmp found.now.touched) }
+    ensures run { Runs found.now.meta.high result (D.model disk.old) (D.model disk.new) }
+    ensures beyond { KeepsBeyond (file_size found.now.meta) (D.model disk.old) (D.model disk.new) }
+    ensures moments { (said : Said) (s : FileState) → IsHere (D.model disk.old) found.now.turn said found.now.meta (get nat_cmp found.now.touched) s →
+        Leaves (D.model disk.old) (D.model disk.new) (StillOpens found.now.turn said found.now.meta (get nat_cmp found.now.touched) s) }
+    ensures placed { OnOk result ((said : Said) (s : FileState) → IsHere (D.model disk.old) found.now.turn said found.now.meta (get nat_cmp found.now.touched) s →
+        IsPlaced (D.model disk.new) found.now.turn said found.now.meta (get nat_cmp found.now.touched) s) }
+{
+    for place in 0..found.meta.high {
+        settle_one(disk, found, place + 1)?;
+    }
+    Ok(())
+}
+
+/// Makes the log area and the place of the next turn ready. At most five device calls.
+fn make_room<D: Device>(disk: &mut D, turn: u8, meta: &Meta) -> Result<(), DiskFault>
+    requires room { file_size meta.now ≤ (D.model disk.old).size }
+    requires legal { IsLegal turn meta.now }
+    ensures run { Runs 5 result (D.model disk.old) (D.model disk.new) }
+    ensures beyond { KeepsBeyond (file_size meta.now) (D.model disk.old) (D.model disk.new) }
+    ensures moments { (said : Said) (touched : ℕ → Option Content) (s : FileState) → IsPlaced (D.model disk.old) turn said meta.now touched s →
+        Leaves (D.model disk.old) (D.model disk.new) (StillOpens turn said meta.now touched s) }
+    ensures ready { OnOk result ((said : Said) (touched : ℕ → Option Content) (s : FileState) → IsPlaced (D.model disk.old) turn said meta.now touched s →
+        IsReadyFor (D.model disk.new) turn said meta.now touched s) }
+{
+    let next = turn_after(turn);
+    disk.sync()?;
+    zero_area(disk, log_start(next, meta), meta.log)?;
+    clear_hidden(disk, next, meta)
+}
+
+/// Begins the next turn, by its superblock. At most eleven device calls.
+fn switch<D: Device>(disk: &mut D, turn: u8, meta: &Meta) -> Result<(), DiskFault>
+    requires room { file_size meta.now ≤ (D.model disk.old).size }
+    requires legal { IsLegal turn meta.now }
+    ensures run { Runs 11 result (D.model disk.old) (D.model disk.new) }
+    ensures beyond { KeepsBeyond (file_size meta.now) (D.model disk.old) (D.model disk.new) }
+    ensures moments { (said : Said) (touched : ℕ → Option Content) (s : FileState) → IsPlaced (D.model disk.old) turn said meta.now touched s →
+        Leaves (D.model disk.old) (D.model disk.new) (λ c. OpensTo c s) }
+    ensures fresh { OnOk result ((said : Said) (touched : ℕ → Option Content) (s : FileState) → IsPlaced (D.model disk.old) turn said meta.now touched s →
+        IsFresh (D.model disk.new) (next_turn turn) meta.now s) }
+{
+    make_room(disk, turn, meta)?;
+    write_super(disk, turn_after(turn), meta)
+}
+
+/// Writes the touched pages to their places and begins the next turn, on a disk that was just synced. At most eleven device
+/// calls and one for each page.
+fn rewrite<D: Device>(disk: &mut D, found: &Found) -> Result<(), DiskFault>
+    requires whole { IsWhole (D.model disk.old).size found.now.turn found.now.meta }
+    requires spelled { AreSpelled (get nat_cmp found.now.touched) }
+    ensures run { Runs (found.now.meta.high + 11) result (D.model disk.old) (D.model disk.new) }
+    ensures beyond { KeepsBeyond (file_size found.now.meta) (D.model disk.old) (D.model disk.new) }
+    ensures moments { (said : Said) (s : FileState) → IsHere (D.model disk.old) found.now.turn said found.now.meta (get nat_cmp found.now.touched) s →
+        Leaves (D.model disk.old) (D.model disk.new) (λ c. OpensTo c s) }
+    ensures fresh { OnOk result ((said : Said) (s : FileState) → IsHere (D.model disk.old) found.now.turn said found.now.meta (get nat_cmp found.now.touched) s →
+        IsFresh (D.model disk.new) (next_turn found.now.turn) found.now.meta s) }
+{
+    settle(disk, found)?;
+    switch(disk, found.turn, &found.meta)
+}
+
+/// Syncs, so that from then on the disk has one image; then writes the touched pages to their places and begins the next
+/// turn. At most twelve device calls and one for each page.
+pub(crate) fn renew<D: Device>(disk: &mut D, found: &Found) -> Result<(), DiskFault>
+    requires whole { IsWhole (D.model disk.old).size found.now.turn found.now.meta }
+    requires spelled { AreSpelled (get nat_cmp found.now.touched) }
+    ensures run { Runs (found.now.meta.high + 12) result (D.model disk.old) (D.model disk.new) }
+    ensures beyond { KeepsBeyond (file_size found.now.meta) (D.model disk.old) (D.model disk.new) }
+    ensures time { IfSome (D.model disk.old).told (λ b. IsFoundIn b found.now.turn found.now.meta (get nat_cmp found.now.touched) found.now.count →
+        (D.model disk.old).clock ≤ (D.model disk.new).clock) }
+    ensures even { IfSome (D.model disk.old).told (λ b. IsFoundIn b found.now.turn found.now.meta (get nat_cmp found.now.touched) found.now.count →
+        (s : FileState) → IsEven (D.model disk.old) s → Leaves (D.model disk.old) (D.model disk.new) (λ c. OpensTo c s)) }
+    // a second tick of the clock comes only after the first sync has succeeded
+    ensures late { IfSome (D.model disk.old).told (λ b. IsFoundIn b found.now.turn found.now.meta (get nat_cmp found.now.touched) found.now.count →
+        (s : FileState) → OpensTo b s → (D.model disk.old).clock + 2 ≤ (D.model disk.new).clock → (c : List ℕ) →
+        (D.model disk.new).ImageSince ((D.model disk.old).clock + 1) c → OpensTo c s) }
+    ensures renewed { OnOk result (IfSome (D.model disk.old).told (λ b. IsFoundIn b found.now.turn found.now.meta (get nat_cmp found.now.touched) found.now.count →
+        (s : FileState) → OpensTo b s → IsFresh (D.model disk.new) (next_turn found.now.turn) found.now.meta s
+        × ((c : List ℕ) → (D.model disk.new).ImageSince ((D.model disk.old).clock + 1) c → OpensTo c s))) }
+{
+    an_image_opens_to_one_file();
+    disk.sync()?;
+    rewrite(disk, found)
+}

@@ -1,0 +1,134 @@
+//! Where the audit has the pages of a file from that is opened.
+ghost use Rattle.std.specs.Prelude.{◌≡◌, ◌≤◌, IfOk, IfSome, IsErrOf, OnErr, OnOk};
+ghost use Rattle.hb_space.specs.declared.form.TheConstants.{PAGE};
+ghost use Rattle.hb_outside.specs.Streams.{Rose};
+ghost use Rattle.hb_disk.specs.Calls.{OnlyReads};
+ghost use Rattle.hb_layout.specs.Offsets.{file_size};
+ghost use Rattle.hb_page_codec.specs.Reading.{page_at};
+ghost use Rattle.hb_page_codec.specs.Weight.{IsLight};
+ghost use Rattle.hb_restart.specs.Source.{IsSource, IsSource-prop};
+ghost use Rattle.hb_sound.specs.declared.pages.PageStop.TheVariants.{Failed};
+ghost use Rattle.hb_store.specs.Opening.{place_bytes};
+
+use hb_disk::Device;
+use hb_frag::{LivePage, Page};
+use hb_layout::page_offset;
+use hb_ops::Meta;
+use hb_outside::Failed as Broken;
+use hb_page_codec::laws::fields_are_read_exactly;
+use hb_page_codec::{PageError, decode};
+use hb_sound::{PageStop, Pages};
+use hb_space::NoMemory;
+use hb_space::form::PAGE;
+use std::alloc::Global;
+use std::collections::BTreeMap;
+
+/// The same page once more.
+fn copy_of(alloc: Global, page: &Page) -> Result<Page, NoMemory>
+    ensures { IfOk result (λ copy. copy ≡ page.now) }
+{
+    match page {
+        Page::Live(page) => Ok(Page::Live(LivePage {
+            level: page.level,
+            area: page.area.copy(),
+            frag: page.frag.copy(alloc)?,
+        })),
+        Page::Free { next } => Ok(Page::Free { next: *next }),
+    }
+}
+
+/// The page that the bytes spell, or that they spell none.
+fn spelled(alloc: Global, bytes: &[u8]) -> Result<Option<Page>, PageStop>
+    ensures page { IfOk result (λ page. page ≡ page_at bytes.now) }
+    ensures light { IfOk result (λ page. IfSome page IsLight) }
+    ensures memory { IsErrOf result Failed → ⊥ }
+{
+    fields_are_read_exactly();
+    match decode(alloc, bytes) {
+        Ok(page) => Ok(Some(page)),
+        Err(PageError::BadPage) => Ok(None),
+        Err(PageError::NoMemory) => Err(PageStop::NoMemory),
+    }
+}
+
+/// Reads the bytes in the place of a page.
+fn read_place<D: Device>(
+    disk: &mut D,
+    meta: &Meta,
+    id: u32,
+    into: &mut [u8; PAGE],
+) -> Result<(), Broken>
+    requires room { file_size meta.now ≤ (D.model disk.old).size }
+    requires some { 1 ≤ id }
+    requires most { id ≤ meta.now.pages }
+    ensures there { OnOk result (IfSome (D.model disk.old).told (λ b. into.new ≡ place_bytes meta.now id b)) }
+    ensures cause { OnErr result (Rose (D.model disk.old).read_faults (D.model disk.new).read_faults) }
+    ensures no_fault { OnOk result ((D.model disk.new).read_faults ≡ (D.model disk.old).read_faults) }
+    ensures only_reads { OnlyReads (D.model disk.old) (D.model disk.new) }
+{
+    disk.read(page_offset(meta, id), into)
+}
+
+/// The page in its place, or that the bytes there are none.
+fn page_in_place<D: Device>(
+    alloc: Global,
+    disk: &mut D,
+    meta: &Meta,
+    id: u32,
+) -> Result<Option<Page>, PageStop>
+    requires room { file_size meta.now ≤ (D.model disk.old).size }
+    requires some { 1 ≤ id }
+    requires most { id ≤ meta.now.pages }
+    ensures there { IfOk result (λ page. IfSome (D.model disk.old).told (λ b. page ≡ page_at (place_bytes meta.now id b))) }
+    ensures light { IfOk result (λ page. IfSome page IsLight) }
+    ensures cause { IsErrOf result Failed → Rose (D.model disk.old).read_faults (D.model disk.new).read_faults }
+    ensures no_fault { (IsErrOf result Failed → ⊥) → (D.model disk.new).read_faults ≡ (D.model disk.old).read_faults }
+    ensures only_reads { OnlyReads (D.model disk.old) (D.model disk.new) }
+{
+    let mut bytes = [0; PAGE];
+    match read_place(disk, meta, id, &mut bytes) {
+        Ok(()) => spelled(alloc, &bytes),
+        Err(_) => Err(PageStop::Failed),
+    }
+}
+
+/// The pages of a file on a disk: first those that its log touches, then those in their places.
+#[derive(Drop)]
+pub(crate) struct FilePages<D: Device> {
+    pub(crate) alloc: Global,
+    pub(crate) disk: D,
+    /// What the newest superblock says.
+    pub(crate) said: Meta,
+    /// What the log makes of pages, by their numbers.
+    pub(crate) touched: BTreeMap<u32, Page>,
+    ghost is_source: { IsSource (D.model disk).size said touched } by { IsSource-prop _ _ _ },
+}
+
+impl<D: Device> Pages for FilePages<D> {
+    ghost use Rattle.std.specs.Ordering.{nat_cmp};
+    ghost use Rattle.std.specs.BTreeMap.{get};
+    ghost use Rattle.hb_restart.specs.Source.{AsksOnly, AsksOnly-none, AsksOnly-then, told_pages};
+
+    ghost told = { λ s. told_pages (D.model s.disk).told s.said (get nat_cmp s.touched) };
+
+    ghost faults = { λ s. (D.model s.disk).read_faults };
+
+    ghost asked = { λ s t. AsksOnly (D.model s.disk) (D.model t.disk) s.said t.said s.touched t.touched };
+
+    ghost asked_none = { λ s. AsksOnly-none (D.model s.disk) s.said s.touched };
+
+    ghost asked_on = { λ s t u. AsksOnly-then (D.model s.disk) (D.model t.disk) (D.model u.disk) s.said t.said u.said s.touched t.touched u.touched };
+
+    fn page(&mut self, id: u32) -> Result<Option<Page>, PageStop> {
+        if let Some(page) = self.touched.get(&id) {
+            return match copy_of(self.alloc, page) {
+                Ok(page) => Ok(Some(page)),
+                Err(_) => Err(PageStop::NoMemory),
+            };
+        }
+        if id == 0 || id > self.said.pages {
+            return Ok(None);
+        }
+        page_in_place(self.alloc, &mut self.disk, &self.said, id)
+    }
+}

@@ -1,0 +1,121 @@
+-- Every operation that is allowed and licensed leaves a sound file sound and its layout legal, and does to its contents what it should.
+use Rattle.std.proofs.Common.{◌≡◌, ℕ, List, length, Option, Some, None, refl, arith}
+use Rattle.std.proofs.lemmas.List.Elements.{All-contains}
+use Rattle.hb_space.specs.Boxes.{Area, IsArea, Holds}
+use Rattle.hb_space.specs.Points.{IsPoint}
+use Rattle.hb_layout.specs.Limits.{IsLayout}
+use Rattle.hb_layout.specs.declared.meta.Meta.{Meta}
+use Rattle.hb_frag.specs.declared.leaves.Leaf.TheVariants.{Records}
+use Rattle.hb_frag.specs.declared.pages.LivePage.{LivePage}
+use Rattle.hb_frag.specs.Leaves.{Placed, leaf_at, leaves_of}
+use Rattle.hb_ops.specs.declared.operations.Op.{Op}
+use Rattle.hb_ops.specs.declared.operations.Op.TheVariants.{Put, Del, Extract, Post, Grow}
+use Rattle.hb_ops.specs.Files.{FileState, live_page}
+use Rattle.hb_ops.specs.LawsOfContents.{DelStaysSound, DelTakesOne, PutAddsOne, PutStaysSound}
+use Rattle.hb_ops.specs.Operations.{IsAllowed, IsAllowedOn, IsLicensed, OpHas, change_of, nth_read}
+use Rattle.hb_ops.specs.Sound.{IsSound}
+use Rattle.hb_ops.specs.Standing.{RecordsAreContents}
+use Rattle.hb_sound.specs.LawsOfOperations.{OperationsKeepContents, OperationsKeepLayout, OperationsKeepSound}
+use Rattle.hb_sound.specs.LawsOfPostings.{MayBeDone}
+use Rattle.hb_sound.specs.PointWalks.{IsPointOf}
+use Rattle.hb_sound.proofs.GrowthKept.{growth_keeps_contents}
+use Rattle.hb_sound.proofs.GrowthSound.{growth_keeps_sound}
+use Rattle.hb_sound.proofs.OneLevel.{TreeLaws}
+use Rattle.hb_sound.proofs.PagesParted.{PartLaws}
+use Rattle.hb_sound.proofs.Partition.{SpaceLaws, del_on, dels_take_one, pages_have_boxes, put_on, puts_add_one}
+use Rattle.hb_sound.proofs.PostedPage.{PostLaws}
+use Rattle.hb_sound.proofs.PostSound.{postings_keep_contents, postings_keep_sound}
+use Rattle.hb_sound.proofs.SiblingLeaves.{placed}
+use Rattle.hb_sound.proofs.SplitContents.{splits_keep_contents}
+use Rattle.hb_sound.proofs.SplitSound.{splits_keep_sound}
+
+may_be_done : (s : FileState) (op : Op) → IsSound s → IsLayout s.meta → OpHas s.meta.k op → IsAllowed s op → IsLicensed s op → MayBeDone s op
+may_be_done s op sound layout has allowed licensed = record {
+  sound = sound;
+  some_attributes = layout.some_attributes;
+  few_attributes = layout.few_attributes;
+  has = has;
+  allowed = allowed;
+  licensed = licensed;
+}
+
+-- the layout: no operation changes what was laid down, and the height rises within its limit
+same_layout : (meta now : Meta) → IsLayout meta → now.k ≡ meta.k → now.pages ≡ meta.pages → now.log ≡ meta.log → now.dcap ≡ meta.dcap → now.icap ≡ meta.icap → now.height ≡ meta.height → IsLayout now
+same_layout meta now h k pages log dcap icap height = record {
+  some_attributes = omega (arith, k, h.some_attributes);
+  few_attributes = omega (arith, k, h.few_attributes);
+  some_pages = omega (arith, pages, h.some_pages);
+  few_pages = omega (arith, pages, h.few_pages);
+  log_room = omega (arith, log, h.log_room);
+  log_limit = omega (arith, log, h.log_limit);
+  dcap_least = omega (arith, dcap, h.dcap_least);
+  dcap_most = omega (arith, dcap, h.dcap_most);
+  icap_least = omega (arith, icap, h.icap_least);
+  icap_most = omega (arith, icap, h.icap_most);
+  some_height = omega (arith, height, h.some_height);
+  few_levels = omega (arith, height, h.few_levels);
+}
+
+change_keeps : (op : Op) (meta : Meta) (o second third : Option LivePage) → IsLayout meta → IsAllowedOn op meta o second third → IsLayout (change_of op meta o second third).meta
+change_keeps (Put id rec) meta (Some page) second third h allowed = h
+change_keeps (Put id rec) meta None second third h allowed = h
+change_keeps (Del id point) meta (Some page) second third h allowed = h
+change_keeps (Del id point) meta None second third h allowed = h
+change_keeps (Extract source fresh path cuts free_after) meta (Some page) second third h allowed = same_layout meta _ h refl refl refl refl refl refl
+change_keeps (Extract source fresh path cuts free_after) meta None second third h allowed = h
+change_keeps (Post parent at inner area) meta (Some page) second third h allowed = h
+change_keeps (Post parent at inner area) meta None second third h allowed = h
+change_keeps (Grow fresh free_after) meta o second third h allowed = record {
+  some_attributes = h.some_attributes;
+  few_attributes = h.few_attributes;
+  some_pages = h.some_pages;
+  few_pages = h.few_pages;
+  log_room = h.log_room;
+  log_limit = h.log_limit;
+  dcap_least = h.dcap_least;
+  dcap_most = h.dcap_most;
+  icap_least = h.icap_least;
+  icap_most = h.icap_most;
+  some_height = let le = h.some_height in omega (arith, le);
+  few_levels = let lt = allowed.height in omega (arith, lt);
+}
+
+pub operations_keep_layout : OperationsKeepLayout
+operations_keep_layout s op layout allowed = change_keeps op s.meta (nth_read s op 0) (nth_read s op 1) (nth_read s op 2) layout allowed
+
+module _ (trees : TreeLaws) (space : SpaceLaws) (parts : PartLaws) (posts : PostLaws) where
+  pub operations_keep_sound : PutStaysSound → DelStaysSound → OperationsKeepSound
+  operations_keep_sound puts dels s (Put id rec) sound layout has allowed licensed = puts s id rec sound has allowed
+  operations_keep_sound puts dels s (Del id point) sound layout has allowed licensed = dels s id point sound has allowed
+  operations_keep_sound puts dels s (Extract source fresh path cuts free_after) sound layout has allowed licensed = splits_keep_sound trees parts s source fresh path cuts free_after sound allowed licensed
+  operations_keep_sound puts dels s (Post parent at inner area) sound layout has allowed licensed =
+      postings_keep_sound trees space posts s parent at inner area (may_be_done s (Post parent at inner area) sound layout has allowed licensed)
+  operations_keep_sound puts dels s (Grow fresh free_after) sound layout has allowed licensed =
+      growth_keeps_sound s fresh free_after sound (let least = layout.icap_least in omega (arith, least)) allowed licensed
+
+  -- a leaf of a page is at points of the file alone
+  module _ (points : (a : Area) (p : List ℕ) → IsArea a → Holds a p → IsPoint p) where
+    point_there : (s : FileState) (id : ℕ) (page : LivePage) (p : List ℕ) (x : Placed) → IsSound s → IsLayout s.meta → live_page s id ≡ Some page → leaf_at page p ≡ Some x → length p ≡ s.meta.k → IsPointOf s p
+    point_there s id page p x sound layout live at attributes =
+        let box = pages_have_boxes trees space s id page sound layout.some_attributes layout.few_attributes live in
+        let cut = (sound.well_made id page live).well_cut in
+        let there = (trees.only page.frag page.area p x box cut).0 at in
+        record {
+          point = points x.area p (All-contains (λ (l : Placed). IsArea l.area) (leaves_of page.frag page.area) x (trees.areas page.frag page.area box cut) there.0) there.1;
+          attributes = attributes;
+        }
+
+    pub operations_keep_contents : RecordsAreContents → PutAddsOne → DelTakesOne → OperationsKeepContents
+    operations_keep_contents standing adds takes s (Put id rec) sound layout has allowed licensed =
+        let on = put_on id rec s.meta (live_page s id) (live_page s 0) (live_page s 0) allowed in
+        let absent = on.2.absent in
+        puts_add_one trees space adds s id rec sound (point_there s id on.0 rec.key (placed (Records absent.records) absent.area) sound layout on.1 absent.leaf has) allowed
+    operations_keep_contents standing adds takes s (Del id point) sound layout has allowed licensed =
+        let on = del_on id point s.meta (live_page s id) (live_page s 0) (live_page s 0) allowed in
+        let there = on.2.there in
+        dels_take_one trees space takes s id point sound (point_there s id on.0 point (placed (Records there.records) there.area) sound layout on.1 there.leaf has) allowed
+    operations_keep_contents standing adds takes s (Extract source fresh path cuts free_after) sound layout has allowed licensed =
+        splits_keep_contents trees space points standing parts s source fresh path cuts free_after sound layout.few_attributes allowed licensed
+    operations_keep_contents standing adds takes s (Post parent at inner area) sound layout has allowed licensed =
+        postings_keep_contents trees space posts s parent at inner area (may_be_done s (Post parent at inner area) sound layout has allowed licensed)
+    operations_keep_contents standing adds takes s (Grow fresh free_after) sound layout has allowed licensed = growth_keeps_contents s fresh free_after sound allowed licensed

@@ -1,0 +1,78 @@
+-- What a sound file's free chain, and its count of pages in use, say of the page number that is taken next.
+use Rattle.std.proofs.Common.{◌≡◌, ◌≢◌, inl, inr, ℕ, ◌+◌, ◌≤◌, List, [], ◌∷◌, length, Contains, Some, refl, sym, ap, subst, ◌∙◌, arith}
+use Rattle.hb_frag.specs.declared.pages.Page.{Page}
+use Rattle.hb_frag.specs.declared.pages.Page.TheVariants.{Live, Free}
+use Rattle.hb_ops.specs.Files.{FileState, page_at, page_of}
+use Rattle.hb_ops.specs.Sound.{IsChain, IsSound, count_live}
+use Rattle.hb_disk.specs.Model.{DiskModel, IsDisk}
+use Rattle.hb_layout.specs.declared.meta.Meta.{Meta}
+use Rattle.hb_ops.specs.Allocating.{Allocates}
+use Rattle.hb_store.specs.Keeps.{IsStore, StoreKeeps, StoreState, last_of}
+use Rattle.hb_store.specs.NextPage.{MayFetch}
+use Rattle.hb_store.specs.Stops.{IsNoPage}
+use Rattle.hb_store.proofs.Counted.{store_count}
+use Rattle.hb_store.proofs.Counting.{page_behind, page_in_range}
+
+-- the head is a free page
+pub sound_head : (s : FileState) → IsSound s → s.meta.free ≢ 0 → (next : ℕ) × (page_of s s.meta.free ≡ Some (Free next))
+sound_head s sound some = by_chain sound.counted.chain sound.counted.chained
+  where
+    by_chain : (chain : List ℕ) → IsChain s s.meta.free chain → (next : ℕ) × (page_of s s.meta.free ≡ Some (Free next))
+    by_chain [] none = absurd (some none)
+    by_chain (id ∷ rest) is = (is.2, subst (λ (n : ℕ). page_of s n ≡ Some (Free is.2)) (sym is.0) is.3)
+
+-- where no page is free, all are in use
+all_live : (pages : List Page) → ((id next : ℕ) → page_at pages id ≡ Some (Free next) → ⊥) → count_live pages ≡ length pages
+all_live [] none = refl
+all_live (Free next ∷ rest) none = absurd (none 1 next refl)
+all_live (Live page ∷ rest) none =
+    let more = all_live rest (λ id next is. none (id + 1) next (page_behind (Live page) rest id (page_in_range rest id (Free next) is).0 ∙ is)) in
+    omega (arith, more)
+
+-- without a free page there is room only behind the high mark
+pub sound_room : (s : FileState) → IsSound s → s.meta.free ≡ 0 → s.meta.high ≡ s.meta.pages → s.meta.live ≡ s.meta.pages
+sound_room s sound none high = by_chain sound.counted.chain sound.counted.chained sound.counted.all
+  where
+    by_chain : (chain : List ℕ) → IsChain s s.meta.free chain → ((id next : ℕ) → page_of s id ≡ Some (Free next) → Contains chain id) → s.meta.live ≡ s.meta.pages
+    by_chain [] ends all =
+        let live = all_live s.pages (λ id next is. let never : Contains [] id = all id next is in absurd (omega (arith, never.1))) in
+        sound.counted.live ∙ live ∙ sound.rooted.numbered ∙ high
+    by_chain (id ∷ rest) is all = absurd (is.1 none)
+
+-- ---- in a store
+
+module _ (d : DiskModel) (st : StoreState) (durable : FileState) (later : List FileState) (keeps : StoreKeeps d st durable later) where
+  -- a free page of its file is one of the file
+  pub free_is_page : IsDisk d → (head next : ℕ) → page_of (last_of durable later) head ≡ Some (Free next) → IsNoPage st.meta head → ⊥
+  free_is_page disk head next is =
+      let s = last_of durable later in
+      let range = page_in_range s.pages head (Free next) is in
+      let high : length s.pages ≡ st.meta.high = store_count d st durable later disk keeps ∙ ap (λ (m : Meta). m.high) keeps.meta_is in
+      λ no. elim no [
+        | inl zero ↦ absurd (omega (arith, range.0, zero))
+        | inr above ↦ absurd (omega (arith, range.1, high, above))
+      ]
+
+  pub head_free : IsSound (last_of durable later) → st.meta.free ≢ 0 → (next : ℕ) × (page_of (last_of durable later) st.meta.free ≡ Some (Free next))
+  head_free sound =
+      let s = last_of durable later in
+      subst (λ (m : Meta). m.free ≢ 0 → (next : ℕ) × (page_of s m.free ≡ Some (Free next))) keeps.meta_is (sound_head s sound)
+
+  pub room_behind : IsSound (last_of durable later) → st.meta.free ≡ 0 → st.meta.high ≡ st.meta.pages → st.meta.live ≡ st.meta.pages
+  room_behind sound =
+      let s = last_of durable later in
+      subst (λ (m : Meta). m.free ≡ 0 → m.high ≡ m.pages → m.live ≡ m.pages) keeps.meta_is (sound_room s sound)
+
+-- the head of the chain may be taken
+pub head_allocates : (size : ℕ) (old new : StoreState) (next : ℕ) → IsStore size new → MayFetch old.meta.free old new → old.meta.live ≢ old.meta.pages → old.meta.free ≢ 0
+    → new.frame old.meta.free ≡ Some (Free next) → Allocates new.meta old.meta.free next
+head_allocates size old new next is fetch few some there =
+    let same : new.meta ≡ old.meta = elim fetch [ inl e ↦ ap (λ (st : StoreState). st.meta) e | inr f ↦ f.rest.meta ] in
+    let few_now : new.meta.live ≢ new.meta.pages = subst (λ (m : Meta). m.live ≢ m.pages) (sym same) few in
+    let some_now : new.meta.free ≢ 0 = subst (λ (m : Meta). m.free ≢ 0) (sym same) some in
+    let at = is.frames_in old.meta.free (Free next) there in
+    record {
+      room = omega (arith, is.holds.live, few_now);
+      from_chain = λ _. (ap (λ (m : Meta). m.free) (sym same), at.1);
+      from_behind = λ none. absurd (some_now none);
+    }

@@ -1,0 +1,186 @@
+-- What a file says of itself after an allowed operation, and the numbers of the pages that change.
+use Rattle.std.proofs.Common.{◌≡◌, ◌≢◌, inl, inr, ℕ, ◌+◌, ◌<◌, ◌≤◌, ◌^◌, eqb, List, [], ◌∷◌, get_or, All, Option, Some, None, IsSome, refl, subst, ◌∙◌, arith}
+use Rattle.std.proofs.lemmas.Bool.{cases_Bool, eqb-true, eqb-false}
+use Rattle.std.proofs.lemmas.List.Elements.{All-cons, All-head, All-nil}
+use Rattle.hb_space.specs.Boxes.{Area}
+use Rattle.hb_frag.specs.declared.pages.LivePage.{LivePage}
+use Rattle.hb_frag.specs.declared.pages.Page.{Page}
+use Rattle.hb_frag.specs.declared.pages.Page.TheVariants.{Live}
+use Rattle.hb_frag.specs.declared.paths.Side.{Side}
+use Rattle.hb_frag.specs.Trees.{Tree}
+use Rattle.hb_layout.specs.declared.meta.Meta.{Meta}
+use Rattle.hb_ops.specs.declared.leaf_cuts.LeafCut.{LeafCut}
+use Rattle.hb_ops.specs.declared.operations.Op.{Op}
+use Rattle.hb_ops.specs.declared.operations.Op.TheVariants.{Put, Del, Extract, Post, Grow}
+use Rattle.hb_ops.specs.Allocating.{Allocates, allocated}
+use Rattle.hb_ops.specs.Files.{if_live}
+use Rattle.hb_ops.specs.Extracting.{fresh_page, source_page, split_pages}
+use Rattle.hb_ops.specs.Operations.{IsAllowedOn, OpHas, change_of, reads_of}
+use Rattle.hb_log_codec.specs.Groups.{FitsOp}
+use Rattle.hb_store.specs.Keeps.{IsSameLayout}
+use Rattle.hb_store.specs.Replaying.{ComesAfter, HasLimits, IsPageOf}
+
+pub op_has : (k : ℕ) (op : Op) → FitsOp k op → OpHas k op
+op_has k (Put id rec) fits = fits.1.attributes
+op_has k (Del id point) fits = fits.1
+op_has k (Extract source fresh path cuts free_after) fits = tt
+op_has k (Post parent at inner area) fits = (fits.is_area, fits.attributes)
+op_has k (Grow fresh free_after) fits = tt
+
+-- ---- what the file says of itself
+
+same_limits : (old new : Meta) → IsSameLayout old new → old.height ≤ new.height → new.height ≤ 12 → new.root < 2 ^ 32 → HasLimits old → HasLimits new
+same_limits old new same grows few root limits =
+    let l = limits.layout in
+    record {
+      layout = record {
+        some_attributes = omega (arith, same.k, l.some_attributes);
+        few_attributes = omega (arith, same.k, l.few_attributes);
+        some_pages = omega (arith, same.pages, l.some_pages);
+        few_pages = omega (arith, same.pages, l.few_pages);
+        log_room = omega (arith, same.log, l.log_room);
+        log_limit = omega (arith, same.log, l.log_limit);
+        dcap_least = omega (arith, same.dcap, l.dcap_least);
+        dcap_most = omega (arith, same.dcap, l.dcap_most);
+        icap_least = omega (arith, same.icap, l.icap_least);
+        icap_most = omega (arith, same.icap, l.icap_most);
+        some_height = omega (arith, grows, l.some_height);
+        few_levels = few;
+      };
+      root_fits = root;
+    }
+
+pub after_itself : (meta : Meta) → HasLimits meta → ComesAfter meta meta
+after_itself meta limits = record {
+  layout = record { k = refl; pages = refl; log = refl; dcap = refl; icap = refl };
+  limits = limits;
+  grows = omega arith;
+  rises = omega arith;
+  high = λ h. h;
+  live = λ h. h;
+  free = λ h. h;
+}
+
+pub after_more : (a b c : Meta) → ComesAfter a b → ComesAfter b c → ComesAfter a c
+after_more a b c one two = record {
+  layout = record {
+    k = two.layout.k ∙ one.layout.k;
+    pages = two.layout.pages ∙ one.layout.pages;
+    log = two.layout.log ∙ one.layout.log;
+    dcap = two.layout.dcap ∙ one.layout.dcap;
+    icap = two.layout.icap ∙ one.layout.icap;
+  };
+  limits = two.limits;
+  grows = omega (arith, one.grows, two.grows);
+  rises = omega (arith, one.rises, two.rises);
+  high = λ h. two.high (one.high h);
+  live = λ h. two.live (one.live h);
+  free = λ h. two.free (one.free h);
+}
+
+-- the page number that is taken
+pub record IsFresh (meta : Meta) (fresh : ℕ) : Type 0 where
+  pub some : 1 ≤ fresh
+  pub next : fresh ≤ meta.high + 1
+  pub inside : meta.high ≤ meta.pages → fresh ≤ meta.pages
+
+pub fresh_is : (meta : Meta) (fresh free_after : ℕ) → Allocates meta fresh free_after → IsFresh meta fresh
+fresh_is meta fresh free_after takes = elim (cases_Bool (eqb meta.free 0)) [
+  | inl none ↦
+      let at = takes.from_behind (eqb-true meta.free 0 none) in
+      record { some = omega (arith, at.0); next = omega (arith, at.0); inside = λ h. at.1 }
+  | inr some ↦
+      let ne : meta.free ≢ 0 = eqb-false meta.free 0 some in
+      let at = takes.from_chain ne in
+      record { some = omega (arith, at.0, ne); next = omega (arith, at.1); inside = λ h. omega (arith, at.1, h) }
+]
+
+pub comes_after : (op : Op) (meta : Meta) (first second third : Option LivePage) → HasLimits meta → FitsOp meta.k op → IsAllowedOn op meta first second third → ComesAfter meta (change_of op meta first second third).meta
+comes_after (Put id rec) meta None second third limits fits allowed = absurd allowed
+comes_after (Put id rec) meta (Some page) second third limits fits allowed = after_itself meta limits
+comes_after (Del id point) meta None second third limits fits allowed = absurd allowed
+comes_after (Del id point) meta (Some page) second third limits fits allowed = after_itself meta limits
+comes_after (Extract source fresh path cuts free_after) meta None second third limits fits allowed = absurd allowed
+comes_after (Extract source fresh path cuts free_after) meta (Some page) second third limits fits allowed =
+    let is = fresh_is meta fresh free_after allowed.allocates in
+    let same : IsSameLayout meta (allocated meta fresh free_after) = record { k = refl; pages = refl; log = refl; dcap = refl; icap = refl } in
+    record {
+      layout = same;
+      limits = same_limits meta (allocated meta fresh free_after) same (omega arith) limits.layout.few_levels limits.root_fits limits;
+      grows = omega arith;
+      rises = omega arith;
+      high = λ h. omega (arith, h, is.inside h);
+      live = λ h. omega (arith, allowed.allocates.room);
+      free = λ h. fits.free_fits;
+    }
+comes_after (Post parent at inner area) meta None second third limits fits allowed = absurd allowed
+comes_after (Post parent at inner area) meta (Some page) second third limits fits allowed = after_itself meta limits
+comes_after (Grow fresh free_after) meta first second third limits fits allowed =
+    let is = fresh_is meta fresh free_after allowed.allocates in
+    let new = (change_of (Grow fresh free_after) meta first second third).meta in
+    let same : IsSameLayout meta new = record { k = refl; pages = refl; log = refl; dcap = refl; icap = refl } in
+    record {
+      layout = same;
+      limits = same_limits meta new same (omega arith) (omega (arith, allowed.height)) fits.0 limits;
+      grows = omega arith;
+      rises = omega arith;
+      high = λ h. omega (arith, h, is.inside h);
+      live = λ h. omega (arith, allowed.allocates.room);
+      free = λ h. fits.1;
+    }
+
+-- ---- the numbers of the pages that change
+
+abbrev Numbered : Meta → ℕ × Page → Type 0
+Numbered meta changed = IsPageOf meta changed.0
+
+one_numbered : (meta : Meta) (changed : ℕ × Page) → IsPageOf meta changed.0 → All (Numbered meta) (changed ∷ [])
+one_numbered meta changed is = All-cons (Numbered meta) changed [] is (All-nil (Numbered meta))
+
+split_numbered : (meta : Meta) (source fresh : ℕ) (path : List Side) (cuts : List LeafCut) (page : LivePage) (part : Option (Tree × Area)) → IsPageOf meta source → IsPageOf meta fresh
+    → All (Numbered meta) (split_pages source fresh path cuts page part)
+split_numbered meta source fresh path cuts page None one two = All-nil (Numbered meta)
+split_numbered meta source fresh path cuts page (Some part) one two =
+    All-cons (Numbered meta) (source, Live (source_page fresh path cuts page part)) ((fresh, Live (fresh_page cuts page part)) ∷ []) one
+    (one_numbered meta (fresh, Live (fresh_page cuts page part)) two)
+
+-- each is of a page of the file then, where those that were read are of pages of the file
+pub made_numbered : (op : Op) (meta : Meta) (first second third : Option LivePage) → IsAllowedOn op meta first second third → All (IsPageOf meta) (reads_of op)
+    → All (λ c. IsPageOf (change_of op meta first second third).meta c.0) (change_of op meta first second third).pages
+made_numbered (Put id rec) meta None second third allowed reads = absurd allowed
+made_numbered (Put id rec) meta (Some page) second third allowed reads = one_numbered meta _ (All-head (IsPageOf meta) id [] reads)
+made_numbered (Del id point) meta None second third allowed reads = absurd allowed
+made_numbered (Del id point) meta (Some page) second third allowed reads = one_numbered meta _ (All-head (IsPageOf meta) id [] reads)
+made_numbered (Extract source fresh path cuts free_after) meta None second third allowed reads = absurd allowed
+made_numbered (Extract source fresh path cuts free_after) meta (Some page) second third allowed reads =
+    let is = fresh_is meta fresh free_after allowed.allocates in
+    let old = All-head (IsPageOf meta) source [] reads in
+    split_numbered (allocated meta fresh free_after) source fresh path cuts page _ (old.0, omega (arith, old.1)) (is.some, omega arith)
+made_numbered (Post parent at inner area) meta None second third allowed reads = absurd allowed
+made_numbered (Post parent at inner area) meta (Some page) second third allowed reads = one_numbered meta _ (All-head (IsPageOf meta) parent [] reads)
+made_numbered (Grow fresh free_after) meta first second third allowed reads =
+    let is = fresh_is meta fresh free_after allowed.allocates in
+    one_numbered (change_of (Grow fresh free_after) meta first second third).meta _ (is.some, omega arith)
+
+-- ---- the pages that an allowed operation reads are there
+
+pub some_page : (o : Option Page) → IsSome o → (page : Page) × (o ≡ Some page)
+some_page None h = cc h
+some_page (Some page) h = (page, refl)
+
+live_some : (o : Option Page) → (if_live o ≡ None → ⊥) → IsSome o
+live_some None h = absurd (h refl)
+live_some (Some page) h = refl
+
+module _ (op : Op) (meta : Meta) (f : ℕ → Option Page) (second third : Option LivePage) where
+  -- one page, without which the operation isn't allowed
+  one_read : (id : ℕ) → (IsAllowedOn op meta None second third → ⊥) → IsAllowedOn op meta (if_live (f id)) second third → All (λ n. IsSome (f n)) (id ∷ [])
+  one_read id not allowed =
+      All-cons (λ (n : ℕ). IsSome (f n)) id [] (live_some (f id) (λ none. not (subst (λ (o : Option LivePage). IsAllowedOn op meta o second third) none allowed))) (All-nil (λ (n : ℕ). IsSome (f n)))
+
+pub reads_some : (op : Op) (meta : Meta) (f : ℕ → Option Page) (second third : Option LivePage) → IsAllowedOn op meta (if_live (f (get_or (reads_of op) 0 0))) second third → All (λ id. IsSome (f id)) (reads_of op)
+reads_some (Put id rec) meta f second third h = one_read (Put id rec) meta f second third id (λ never. never) h
+reads_some (Del id point) meta f second third h = one_read (Del id point) meta f second third id (λ never. never) h
+reads_some (Extract source fresh path cuts free_after) meta f second third h = one_read (Extract source fresh path cuts free_after) meta f second third source (λ never. never) h
+reads_some (Post parent at inner area) meta f second third h = one_read (Post parent at inner area) meta f second third parent (λ never. never) h
+reads_some (Grow fresh free_after) meta f second third h = All-nil (λ (n : ℕ). IsSome (f n))

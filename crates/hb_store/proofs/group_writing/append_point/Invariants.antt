@@ -1,8 +1,0 @@
-use Rattle.std.proofs.Common.{◌≡◌, ◌++◌, take}
-use Rattle.std.specs.List.{flat_map}
-use Rattle.hb_outside.specs.Numbers.{big_endian}
-use Rattle.hb_store.proofs.group_writing.append_point.Given as goal
-
--- the values so far were added
-abbrev pub invariant-loop-value : goal.invariant-loop-value
-invariant-loop-value l = l.into.items ≡ l.fn.into.items ++ flat_map (big_endian 8) (take l.value-index l.value-items)

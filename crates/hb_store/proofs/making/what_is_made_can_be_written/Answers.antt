@@ -1,0 +1,9 @@
+use Rattle.hb_store.proofs.MadePages.{fitting_parts, good_pages}
+use Rattle.hb_store.proofs.making.what_is_made_can_be_written.Goals as goal
+
+pub returns-clause-pages : goal.returns-clause-pages
+returns-clause-pages c =
+    good_pages c.leaves_part_the_box.ensures.areas c.parts_are_stretches.ensures.cuts c.page_within_capacity_has_spelling.ensures.live c.whole_space_holds_every_point.ensures.area c.changed_pages_are_well_made.ensures
+
+pub returns-clause-parts : goal.returns-clause-parts
+returns-clause-parts c = fitting_parts c.leaves_part_the_box.ensures.areas c.parts_are_stretches.ensures.cuts

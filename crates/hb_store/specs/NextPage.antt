@@ -1,0 +1,31 @@
+-- The page number that an allocation takes, and why none is given.
+use Rattle.std.specs.Prelude.{◌≡◌, ◌≢◌, ◌⊎◌, ℕ, ◌+◌, ◌<◌, Some}
+use Rattle.hb_disk.specs.Model.{DiskModel}
+use Rattle.hb_frag.specs.declared.pages.LivePage.{LivePage}
+use Rattle.hb_frag.specs.declared.pages.Page.TheVariants.{Live, Free}
+use Rattle.hb_layout.specs.declared.meta.Meta.{Meta}
+use Rattle.hb_store.specs.Calls.{Fetched}
+use Rattle.hb_store.specs.Keeps.{StoreState}
+use Rattle.hb_store.specs.Stops.{FetchesNot}
+use Rattle.hb_store.specs.declared.stops.FetchStop.{FetchStop}
+use Rattle.hb_store.specs.declared.stops.FetchStop.TheVariants.{Damaged}
+use Rattle.hb_store.specs.declared.stops.Why.TheVariants.{Rule}
+
+-- a page was fetched, or nothing changed
+abbrev pub MayFetch : ℕ → StoreState → StoreState → Type 0
+MayFetch id old new = (new ≡ old) ⊎ Fetched id old new
+
+-- The number that is taken, and the free head after it: the first of the free chain and what it names, or where the
+-- chain has none the number behind the high mark, and none.
+pub record IsNext (st : StoreState) (fresh free_after : ℕ) : Type 0 where
+  pub from_chain : st.meta.free ≢ 0 → (fresh ≡ st.meta.free) × (st.frame fresh ≡ Some (Free free_after))
+  pub from_behind : st.meta.free ≡ 0 → (fresh ≡ st.meta.high + 1) × (st.meta.high < st.meta.pages) × (free_after ≡ 0)
+
+-- The head of the free chain is none that is free: it isn't fetched, or it is in use.
+abbrev pub IsNoHead : Meta → DiskModel → StoreState → ℕ → FetchStop → Type 0
+IsNoHead meta d new head stop = FetchesNot meta d head stop ⊎ ((page : LivePage) × (new.frame head ≡ Some (Live page)) × (stop ≡ Damaged head (Rule 2)))
+
+-- Why no number is given although there is room: the head of the chain is none, or the chain has none and no number is
+-- left behind the high mark.
+abbrev pub LacksNext : Meta → DiskModel → StoreState → FetchStop → Type 0
+LacksNext meta d new stop = ((meta.free ≢ 0) × IsNoHead meta d new meta.free stop) ⊎ ((meta.free ≡ 0) × (meta.high ≡ meta.pages) × (stop ≡ Damaged 0 (Rule 2)))

@@ -1,0 +1,79 @@
+//! The page number that an allocation takes.
+ghost use Rattle.std.specs.Prelude.{◌≡◌, ◌≢◌, ℕ, List, Some, None, IfOk, IfErr, IfSome, IsErrOf, IsOk, IsSome, OnErr, OnOk};
+ghost use Rattle.hb_outside.specs.Streams.{Rose};
+ghost use Rattle.hb_disk.specs.Calls.{OnlyReads};
+ghost use Rattle.hb_frag.specs.declared.pages.Page.TheVariants.{Free};
+ghost use Rattle.hb_ops.specs.Allocating.{Allocates, NamesNext};
+ghost use Rattle.hb_ops.specs.Files.{FileState, page_of};
+ghost use Rattle.hb_ops.specs.Sound.{IsSound};
+ghost use Rattle.hb_store.specs.Keeps.{StoreKeeps, last_of};
+ghost use Rattle.hb_store.specs.NextPage.{IsNext, IsNoHead, LacksNext, MayFetch};
+ghost use Rattle.hb_store.specs.Seen.{seen_as};
+ghost use Rattle.hb_store.specs.declared.stops.FetchStop.TheVariants.{ReadFault};
+
+use crate::fetches::damaged;
+use crate::stops::FetchStop;
+use crate::store::Store;
+use hb_disk::Device;
+use hb_frag::Page;
+
+impl<D: Device> Store<D> {
+    /// The number of the page that an allocation takes now, and the free head after it. `None` where every page is in
+    /// use. The first page of the free chain is fetched, where there is one.
+    ///
+    /// `Damaged` where the head of the chain isn't one of its free pages: for the rule by which `fetch` refuses it, or
+    /// for rule 2 where it is in use. So too, of page 0, where the chain has none and no number is left.
+    pub fn next_page(&mut self) -> Result<Option<(u32, u32)>, FetchStop>
+        ensures full { (seen_as self.old).meta.live ≡ (seen_as self.old).meta.pages → IfOk result (λ page. page ≡ None) × IsOk result × (seen_as self.new ≡ seen_as self.old) }
+        ensures room { (seen_as self.old).meta.live ≢ (seen_as self.old).meta.pages → IfOk result (λ page. IsSome page) }
+        ensures next { IfOk result (λ page. IfSome page (λ p. IsNext (seen_as self.new) p.0 p.1)) }
+        ensures allocates { IfOk result (λ page. IfSome page (λ p. Allocates (seen_as self.new).meta p.0 p.1)) }
+        ensures names { (durable : FileState) (later : List FileState) → StoreKeeps (D.model self.old.disk) (seen_as self.old) durable later →
+            IfOk result (λ page. IfSome page (λ p. NamesNext (last_of durable later) p.0 p.1)) }
+        ensures fetches { MayFetch (seen_as self.old).meta.free (seen_as self.old) (seen_as self.new) }
+        ensures only_reads { OnlyReads (D.model self.old.disk) (D.model self.new.disk) }
+        ensures why { IfErr result (LacksNext (seen_as self.old).meta (D.model self.old.disk) (seen_as self.new)) }
+        ensures cause { IsErrOf result ReadFault → Rose (D.model self.old.disk).read_faults (D.model self.new.disk).read_faults }
+        ensures no_fault { (IsErrOf result ReadFault → ⊥) → (D.model self.new.disk).read_faults ≡ (D.model self.old.disk).read_faults }
+        ensures keeps { (durable : FileState) (later : List FileState) → StoreKeeps (D.model self.old.disk) (seen_as self.old) durable later →
+            StoreKeeps (D.model self.new.disk) (seen_as self.new) durable later }
+        // in a sound file nothing is damaged
+        ensures sound { (durable : FileState) (later : List FileState) → StoreKeeps (D.model self.old.disk) (seen_as self.old) durable later →
+            IsSound (last_of durable later) → IfErr result (λ stop. (stop ≢ FetchStop.ReadFault) → (stop ≢ FetchStop.NoMemory) → ⊥) }
+    {
+        if self.meta.live == self.meta.pages {
+            return Ok(None);
+        }
+        let head = self.meta.free;
+        if head != 0 {
+            let next = self.free_head(head)?;
+            return Ok(Some((head, next)));
+        }
+        if self.meta.high == self.meta.pages {
+            return Err(damaged(0, 2));
+        }
+        Ok(Some((self.meta.high + 1, 0)))
+    }
+
+    /// What the first page of the free chain names. It is fetched.
+    fn free_head(&mut self, head: u32) -> Result<u32, FetchStop>
+        ensures named { IfOk result (λ next. (seen_as self.new).frame head ≡ Some (Free next)) }
+        ensures fetches { MayFetch head (seen_as self.old) (seen_as self.new) }
+        ensures only_reads { OnlyReads (D.model self.old.disk) (D.model self.new.disk) }
+        ensures why { IfErr result (IsNoHead (seen_as self.old).meta (D.model self.old.disk) (seen_as self.new) head) }
+        ensures cause { IsErrOf result ReadFault → Rose (D.model self.old.disk).read_faults (D.model self.new.disk).read_faults }
+        ensures no_fault { (IsErrOf result ReadFault → ⊥) → (D.model self.new.disk).read_faults ≡ (D.model self.old.disk).read_faults }
+        ensures keeps { (durable : FileState) (later : List FileState) → StoreKeeps (D.model self.old.disk) (seen_as self.old) durable later →
+            StoreKeeps (D.model self.new.disk) (seen_as self.new) durable later }
+        // a page that is free in a sound file isn't damaged
+        ensures sound { (durable : FileState) (later : List FileState) → StoreKeeps (D.model self.old.disk) (seen_as self.old) durable later →
+            IsSound (last_of durable later) → (next : ℕ) → page_of (last_of durable later) head ≡ Some (Free next) →
+            IfErr result (λ stop. (stop ≢ FetchStop.ReadFault) → (stop ≢ FetchStop.NoMemory) → ⊥) }
+    {
+        self.fetch(head)?;
+        match self.get(head) {
+            Some(Page::Free { next }) => Ok(*next),
+            _ => Err(damaged(head, 2)),
+        }
+    }
+}

@@ -1,0 +1,5 @@
+use Rattle.hb_terms.proofs.Owing.{one_plan}
+use Rattle.hb_terms.proofs.laws.plans_exclude_each_other.Goals as goal
+
+pub returns : goal.returns
+returns c = one_plan

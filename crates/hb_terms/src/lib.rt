@@ -1,0 +1,19 @@
+//! What a posting does: how a parent comes to name the page to which its child gave a box.
+//!
+//! The one contract: `post_plan` gives the plan that is defined for a parent, its child and a point
+//! (`specs/Plans.antt`). Where the child's leaf at the point is a sibling leaf to another page than
+//! the parent's leaf names, that page is owed a leaf of the parent. The plan is to carve the
+//! parent's leaf by the sibling leaf's box, where the parent has the capacity for what it weighs
+//! then, and else to split the parent first. `laws` has what follows of a plan.
+//!
+//! No type keeps an invariant. Source of the idea: Evangelidis, Lomet and Salzberg 1997, whose
+//! postings come late, page by page, and of one box at a time.
+#![tactic(auto)]
+
+pub mod laws;
+mod plans;
+#[cfg(test)]
+mod tests;
+mod threads;
+
+pub use plans::{PostPlan, post_plan};

@@ -1,5 +1,0 @@
-use Rattle.hbpi.proofs.NotRefused.{not_refused}
-use Rattle.hbpi.proofs.restart.laws.a_good_file_is_not_refused.Goals as goal
-
-pub returns : goal.returns
-returns c = not_refused c.spelling_law.ensures.one_page c.one_superblock_is_newest.ensures.turn c.one_superblock_is_newest.ensures.said c.an_area_is_read_in_one_way.ensures c.an_image_opens_to_one_file.ensures.one c.an_image_opens_to_one_file.ensures.whole c.a_sound_file_breaks_no_rule.ensures

@@ -1,5 +1,0 @@
-use Rattle.hbpi.proofs.OneRefusal.{refused_once}
-use Rattle.hbpi.proofs.restart.laws.bytes_are_refused_in_one_way.Goals as goal
-
-pub returns : goal.returns
-returns c = λ bytes. refused_once c.spelling_law.ensures.one_page c.one_superblock_is_newest.ensures.turn c.one_superblock_is_newest.ensures.said c.an_area_is_read_in_one_way.ensures c.an_image_opens_to_one_file.ensures.one bytes

@@ -1,0 +1,41 @@
+use Rattle.std.proofs.Common.{◌≡◌, [], sym, subst}
+use Rattle.hb_disk.specs.Calls.{Leaves}
+use Rattle.hb_layout.specs.declared.meta.Meta.{Meta}
+use Rattle.hb_ops.specs.Files.{FileState}
+use Rattle.hb_restart.specs.Beyond.{KeepsBeyondFile}
+use Rattle.hb_store.specs.Keeps.{StoreKeeps}
+use Rattle.hb_store.specs.Opening.{OpensTo, IsEven}
+use Rattle.hb_store.specs.Seen.{seen_as, disk_of}
+use Rattle.hbpi.specs.Starting.{IsOnePage}
+use Rattle.std.specs.Prelude.{IfSome}
+use Rattle.hbpi.proofs.Started.{larger_of, left_of}
+use Rattle.hbpi.proofs.starting.start.Goals as goal
+
+pub returns-in-Ok-clause-even : goal.returns-in-Ok-clause-even
+returns-in-Ok-clause-even g c = λ s even. c.in-Ok.ensures.even s even
+
+pub returns-in-Ok-2-clause-refused : goal.returns-in-Ok-2-clause-refused
+returns-in-Ok-2-clause-refused g c =
+    let store = c.in-Ok.store in
+    let N : Meta → Type 0 = λ m. (m.root ≡ 1) × IsOnePage m in
+    larger_of (g.D.Device.model c.args.disk).told c.in-Ok.field-0-1 (seen_as store).meta (λ s. StoreKeeps (g.D.Device.model (disk_of store)) (seen_as store) s [])
+    c.in-Ok.ensures.opened c.in-Ok.ensures.meta
+    (λ served. let yes = c.is_served.ensures.1 (subst N (sym c.meta.ensures.meta) served) in cc (yes, c.if-is_served.false))
+
+pub returns-in-Ok-2-clause-even_after_fault : goal.returns-in-Ok-2-clause-even_after_fault
+returns-in-Ok-2-clause-even_after_fault g c = λ s even.
+    subst (λ (x : g.row.D.Denot). Leaves (g.D.Device.model c.args.disk) (g.D.Device.model x) (λ e. OpensTo e s)) (sym c.into_disk.ensures) (c.in-Ok.ensures.even s even)
+
+pub returns-in-Ok-2-clause-left : goal.returns-in-Ok-2-clause-left
+returns-in-Ok-2-clause-left g c = λ same.
+    let store = c.in-Ok.store in
+    let told = (g.D.Device.model c.args.disk).told in
+    subst (λ (x : g.row.D.Denot). IfSome told (λ b. (s : FileState) × OpensTo b s × IsEven (g.D.Device.model x) s)) (sym c.into_disk.ensures)
+    (left_of told c.in-Ok.field-0-1 (g.D.Device.model (disk_of store)) (seen_as store) c.in-Ok.ensures.new.running c.in-Ok.ensures.opened)
+
+pub returns-in-Ok-2-clause-beyond_after_fault : goal.returns-in-Ok-2-clause-beyond_after_fault
+returns-in-Ok-2-clause-beyond_after_fault g c =
+    subst (λ (x : g.row.D.Denot). KeepsBeyondFile (g.D.Device.model c.args.disk) (g.D.Device.model x)) (sym c.into_disk.ensures) c.in-Ok.ensures.beyond
+
+pub returns-in-Err-clause-even_after_fault : goal.returns-in-Err-clause-even_after_fault
+returns-in-Err-clause-even_after_fault g c = λ s even. c.in-Err.ensures.even_after_fault s even
