@@ -1,0 +1,5 @@
+pub mod Targets
+pub mod OwnedOps
+pub mod OwnPages
+pub mod Ways
+pub mod OnePlace

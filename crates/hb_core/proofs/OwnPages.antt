@@ -1,0 +1,216 @@
+-- A step changes no page in use but those that its actor has for itself.
+use Rattle.std.proofs.Common.{◌≡◌, ◌≢◌, ◌⊎◌, inl, inr, ℕ, ◌==◌, ◌++◌, Bool, true, false, cond, List, [], ◌∷◌, Option, Some, None, IsSome, IfSome, IsTrue, refl, sym, ap, ◌∙◌, subst}
+use Rattle.std.specs.Prelude.{MatchOption}
+use Rattle.std.proofs.lemmas.Bool.{false≢true}
+use Rattle.std.specs.Option.{IsSomeAnd}
+use Rattle.hb_frag.specs.declared.pages.LivePage.{LivePage}
+use Rattle.hb_frag.specs.declared.pages.Page.{Page}
+use Rattle.hb_frag.specs.declared.pages.Page.TheVariants.{Live}
+use Rattle.hb_ops.specs.declared.operations.Op.{Op}
+use Rattle.hb_set.specs.Order.{Entry}
+use Rattle.hb_set.specs.declared.commands.Reply.TheVariants as replies
+use Rattle.hb_set.specs.declared.scripts.Line.{Line}
+use Rattle.hb_latch.specs.declared.modes.Mode.{Mode}
+use Rattle.hb_latch.specs.declared.modes.Mode.TheVariants.{Shared, Update, Exclusive}
+use Rattle.hb_latch.specs.Modes.{goes_beside}
+use Rattle.hb_latch.specs.Tables.{IsGrantable, MayLatch, mode_at}
+use Rattle.hb_activity.specs.declared.wanting.Wanted.{Wanted}
+use Rattle.hb_activity.specs.declared.activities.Activity.{Activity}
+use Rattle.hb_activity.specs.declared.activities.Activity.TheVariants as at
+use Rattle.hb_ops.specs.Operations.{change_of}
+use Rattle.hb_store.specs.Calls.{change_here, framed_read}
+use Rattle.hb_store.specs.Keeps.{StoreState}
+use Rattle.hb_store.specs.declared.stops.StopWhy.{StopWhy}
+use Rattle.hb_core.specs.declared.outcomes.DropWhy.{DropWhy}
+use Rattle.hb_core.specs.declared.outcomes.Outcome.{Outcome}
+use Rattle.hb_core.specs.declared.outcomes.Outcome.TheVariants as outcomes
+use Rattle.hb_core.specs.Machines.{Machine}
+use Rattle.hb_core.specs.Asking.{HasWayFree, wanted_by}
+use Rattle.hb_core.specs.Fetching.{Brings}
+use Rattle.hb_store.specs.Replay.{set_pages}
+use Rattle.hb_core.specs.Deeds.{Deed, answers_now}
+use Rattle.hb_core.specs.Performing.{MayDo, Performs}
+use Rattle.hb_core.specs.Forcing.{ForcesFirst, StaysSo}
+use Rattle.hb_core.specs.GivingUp.{gives_up, runs_out}
+use Rattle.hb_core.specs.SessionRows.{next_line, taking}
+use Rattle.hb_core.specs.Steps.{Awaits, GetsReady, StepsAs, StepsTo, TakesLine, TakesPosting, WantsBoxes, Works}
+use Rattle.hb_core.specs.Keeps.{HoldsPagesOfFile, LatchesFit}
+use Rattle.hb_core.specs.Laws.{HasAlone, HeldPagesStay, IsInUse, OwnPagesChange, TakesAlone}
+use Rattle.hb_core.proofs.Targets.{IsNumber, numbers_are_targets, set_elsewhere}
+use Rattle.hb_core.proofs.OwnedOps.{Allowed, IsFreeFor, OwnsTargets, allowed_by, owned_row}
+
+-- what a line or a job that can't go on does to the file
+gives_up_nothing : (m : Machine) (why : DropWhy) (activity : Activity) → (gives_up m why activity).op ≡ None
+gives_up_nothing m why at.SessionIdle = refl
+gives_up_nothing m why (at.SessionWalk line held rest found) = refl
+gives_up_nothing m why (at.SessionSplit line held) = refl
+gives_up_nothing m why (at.SessionPut line source fresh) = refl
+gives_up_nothing m why (at.SessionAwait line reply place) = refl
+gives_up_nothing m why at.PosterIdle = refl
+gives_up_nothing m why (at.PosterGrow job) = refl
+gives_up_nothing m why (at.PosterWalk job held) = refl
+gives_up_nothing m why (at.PosterChild job parent) = refl
+gives_up_nothing m why (at.PosterPromote job parent) = refl
+gives_up_nothing m why (at.PosterAgain job parent) = refl
+gives_up_nothing m why at.ConsolidatorIdle = refl
+gives_up_nothing m why (at.ConsolidatorWalk job held) = refl
+gives_up_nothing m why (at.ConsolidatorScan job parent child) = refl
+gives_up_nothing m why (at.ConsolidatorTry job parent keep gone leaf) = refl
+gives_up_nothing m why (at.ConsolidatorPromote job parent keep gone) = refl
+gives_up_nothing m why (at.ConsolidatorKeep job parent keep gone) = refl
+gives_up_nothing m why (at.ConsolidatorDecide job parent keep gone) = refl
+gives_up_nothing m why at.Flusher = refl
+
+runs_out_nothing : (m : Machine) (activity : Activity) → (runs_out m activity).op ≡ None
+runs_out_nothing m at.SessionIdle = refl
+runs_out_nothing m (at.SessionWalk line held rest found) = refl
+runs_out_nothing m (at.SessionSplit line held) = refl
+runs_out_nothing m (at.SessionPut line source fresh) = refl
+runs_out_nothing m (at.SessionAwait line reply place) = refl
+runs_out_nothing m at.PosterIdle = refl
+runs_out_nothing m (at.PosterGrow job) = refl
+runs_out_nothing m (at.PosterWalk job held) = refl
+runs_out_nothing m (at.PosterChild job parent) = refl
+runs_out_nothing m (at.PosterPromote job parent) = refl
+runs_out_nothing m (at.PosterAgain job parent) = refl
+runs_out_nothing m at.ConsolidatorIdle = refl
+runs_out_nothing m (at.ConsolidatorWalk job held) = refl
+runs_out_nothing m (at.ConsolidatorScan job parent child) = refl
+runs_out_nothing m (at.ConsolidatorTry job parent keep gone leaf) = refl
+runs_out_nothing m (at.ConsolidatorPromote job parent keep gone) = refl
+runs_out_nothing m (at.ConsolidatorKeep job parent keep gone) = refl
+runs_out_nothing m (at.ConsolidatorDecide job parent keep gone) = refl
+runs_out_nothing m at.Flusher = refl
+
+is_there : (o : Option Page) (page : Page) → o ≡ Some page → IsSome o
+is_there o page is = subst (λ (o : Option Page). IsSome o) (sym is) refl
+
+module _ (m : Machine) (actor : ℕ) (latches : MayLatch actor) (fit : LatchesFit m) (inside : HoldsPagesOfFile m) (new : Machine) (id : ℕ) (page : LivePage) (used : IsInUse m id page) where
+  abbrev pub Goal : Type 0
+  Goal = IsInUse new id page ⊎ HasAlone m actor id
+
+  -- the page stays where the memory stays
+  same_memory : new.store ≡ m.store → Goal
+  same_memory is = inl (ap (λ (st : StoreState). st.frame id) is ∙ used)
+
+  -- a fetch leaves it
+  fetched_stays : (may : ℕ → Type 0) (fetched : StoreState) → Brings m.files may m.store fetched → fetched.frame id ≡ Some (Live page)
+  fetched_stays may fetched brings = brings.stays id (is_there (m.store.frame id) (Live page) used) ∙ used
+
+  -- and so does what is done on other pages
+  done : (op : Option Op) (mark : ℕ) (fetched : StoreState) → fetched.frame id ≡ Some (Live page) → OwnsTargets m actor op → MayDo op mark fetched new.store → Goal
+  done None mark fetched there owned does = inl (ap (λ (st : StoreState). st.frame id) does ∙ there)
+  done (Some op) mark fetched there owned does = by (set_elsewhere (change_here fetched op).pages fetched.frame id)
+    where
+      by : (set_pages (change_here fetched op).pages fetched.frame id ≡ fetched.frame id) ⊎ IsNumber id (change_here fetched op).pages → Goal
+      by (inl same) = inl (does.commits.frame id ∙ same ∙ there)
+      by (inr number) = free (owned id (numbers_are_targets op fetched.meta (framed_read fetched op 0) (framed_read fetched op 1) (framed_read fetched op 2) id number))
+        where
+          free : IsFreeFor m actor id → Goal
+          free (inl alone) = inr alone
+          free (inr never) = absurd (never page used)
+
+  performed : (may : ℕ → Type 0) (fetched : StoreState) (deed : Deed) (outcome : Outcome) → Brings m.files may m.store fetched → OwnsTargets m actor deed.op → Performs m fetched actor deed outcome new → Goal
+  performed may fetched deed outcome brings owned performs = done deed.op _ fetched (fetched_stays may fetched brings) owned performs.store
+
+  -- with no operation
+  owns_nothing : (op : Option Op) → op ≡ None → OwnsTargets m actor op
+  owns_nothing op is = subst (OwnsTargets m actor) (sym is) tt
+
+  only_moved : (deed : Deed) (outcome : Outcome) → deed.op ≡ None → Performs m m.store actor deed outcome new → Goal
+  only_moved deed outcome none performs = done deed.op _ m.store used (owns_nothing deed.op none) performs.store
+
+  forced : (said outcome : Outcome) → ForcesFirst m said outcome new → Goal
+  forced said outcome (inl (says, is)) = inl (ap (λ (n : Machine). n.store.frame id) is ∙ used)
+  forced said outcome (inr badly) = inl (ap (λ (n : Machine). n.store.frame id) badly.stops ∙ used)
+
+  stays : (said outcome : Outcome) → StaysSo m said outcome new → Goal
+  stays said outcome (says, is) = inl (ap (λ (n : Machine). n.store.frame id) is ∙ used)
+
+  made_ready : (outcome : Outcome) → GetsReady m actor outcome new → Goal
+  made_ready outcome (inl (waits, force)) = forced outcomes.Helped outcome force
+  made_ready outcome (inr (none, performs)) = only_moved (runs_out m (m.activity actor)) outcome (runs_out_nothing m (m.activity actor)) performs
+
+  worked : (outcome : Outcome) → Works m actor outcome new → Goal
+  worked outcome (inl (by, way, so)) = stays (outcomes.Blocked by) outcome so
+  worked outcome (inr (inl (free, unready, ready))) = made_ready outcome ready
+  worked outcome (inr (inr (free, ready, inl acts))) =
+      performed _ acts.fetched acts.deed outcome acts.brings
+          (owned_row m actor _ acts.fetched latches fit inside free acts.brings (wanted_by m actor) acts.deed refl (allowed_by acts.deed.op _ acts.fetched new.store acts.performs.store) acts.row)
+          acts.performs
+  worked outcome (inr (inr (free, ready, inr (inl gives)))) =
+      performed _ gives.fetched (gives_up m gives.why (m.activity actor)) outcome gives.brings (owns_nothing _ (gives_up_nothing m gives.why (m.activity actor))) gives.performs
+  worked outcome (inr (inr (free, ready, inr (inr meets)))) = inl (ap (λ (n : Machine). n.store.frame id) meets.stops ∙ fetched_stays _ meets.fetched meets.brings)
+
+  takes_line : (outcome : Outcome) (line : Option Line) → MatchOption line (StaysSo m outcomes.Idle outcome new) (λ line. Performs m m.store actor (taking m line) outcome new ⊎ (WantsBoxes line.command × Performs m m.store actor (answers_now m line.number replies.NoMemory) outcome new)) → Goal
+  takes_line outcome None so = stays outcomes.Idle outcome so
+  takes_line outcome (Some line) (inl performs) = only_moved (taking m line) outcome refl performs
+  takes_line outcome (Some line) (inr (boxes, performs)) = only_moved _ outcome refl performs
+
+  takes_posting : (outcome : Outcome) → TakesPosting m actor outcome new → Goal
+  takes_posting outcome (inl (none, so)) = stays outcomes.Idle outcome so
+  takes_posting outcome (inr (deed, takes, performs)) = only_moved deed outcome (ap (λ (d : Deed). d.op) takes.deed_is) performs
+
+  awaited : (number : ℕ) (reply : _) (place : ℕ) (outcome : Outcome) → Awaits m actor number reply place outcome new → Goal
+  awaited number reply place outcome (inl (settled, performs)) = only_moved _ outcome refl performs
+  awaited number reply place outcome (inr (waits, force)) = forced outcomes.Moved outcome force
+
+  stepped : (outcome : Outcome) (activity : Activity) → StepsAs activity m actor outcome new → Goal
+  stepped outcome at.SessionIdle step = takes_line outcome (next_line actor m.answered m.lines) step
+  stepped outcome (at.SessionAwait number reply place) step = awaited number reply place outcome step
+  stepped outcome at.PosterIdle step = takes_posting outcome step
+  stepped outcome at.ConsolidatorIdle step = stays outcomes.Idle outcome step
+  stepped outcome at.Flusher step = stays outcomes.Idle outcome step
+  stepped outcome (at.SessionWalk line held rest found) step = worked outcome step
+  stepped outcome (at.SessionSplit line held) step = worked outcome step
+  stepped outcome (at.SessionPut line source fresh) step = worked outcome step
+  stepped outcome (at.PosterGrow job) step = worked outcome step
+  stepped outcome (at.PosterWalk job held) step = worked outcome step
+  stepped outcome (at.PosterChild job parent) step = worked outcome step
+  stepped outcome (at.PosterPromote job parent) step = worked outcome step
+  stepped outcome (at.PosterAgain job parent) step = worked outcome step
+  stepped outcome (at.ConsolidatorWalk job held) step = worked outcome step
+  stepped outcome (at.ConsolidatorScan job parent child) step = worked outcome step
+  stepped outcome (at.ConsolidatorTry job parent keep gone leaf) step = worked outcome step
+  stepped outcome (at.ConsolidatorPromote job parent keep gone) step = worked outcome step
+  stepped outcome (at.ConsolidatorKeep job parent keep gone) step = worked outcome step
+  stepped outcome (at.ConsolidatorDecide job parent keep gone) step = worked outcome step
+
+  ran : (outcome : Outcome) (stop : Option StopWhy) → MatchOption stop (StepsAs (m.activity actor) m actor outcome new) (λ why. StaysSo m (outcomes.Stopped why) outcome new) → Goal
+  ran outcome None step = stepped outcome (m.activity actor) step
+  ran outcome (Some why) so = stays (outcomes.Stopped why) outcome so
+
+pub own_pages_change : OwnPagesChange
+own_pages_change m actor outcome new latches fit inside step id page used = ran m actor latches fit inside new id page used outcome m.stop step
+
+-- ---- what another actor holds
+
+beside_none : (mode : Mode) → goes_beside Exclusive mode ≡ true → ⊥
+beside_none Shared is = false≢true is
+beside_none Update is = false≢true is
+beside_none Exclusive is = false≢true is
+
+module _ (m : Machine) (actor other id : ℕ) (fit : LatchesFit m) (another : other ≢ actor) (mode : Mode) (holds : mode_at m.latches other id ≡ Some mode) where
+  not_held : mode_at m.latches actor id ≡ Some Exclusive → ⊥
+  not_held own =
+      let both : IfSome (mode_at m.latches actor id) (λ mode. IfSome (mode_at m.latches other id) (λ held. IsTrue (goes_beside mode held))) = fit.compatible actor other id (λ same. another (sym same)) in
+      let mine = subst (λ (o : Option Mode). IfSome o (λ mode. IfSome (mode_at m.latches other id) (λ held. IsTrue (goes_beside mode held)))) own both in
+      beside_none mode (subst (λ (o : Option Mode). IfSome o (λ held. IsTrue (goes_beside Exclusive held))) holds mine)
+
+  not_taken : TakesAlone m actor id → ⊥
+  not_taken takes =
+      let grants : IsGrantable m.latches actor takes.wanted.page takes.wanted.mode = subst (λ (o : Option Wanted). IfSome o (λ wanted. IsGrantable m.latches actor wanted.page wanted.mode)) takes.wants takes.free in
+      let here : IfSome (mode_at m.latches other id) (λ held. IsTrue (goes_beside takes.wanted.mode held)) = subst (λ (n : ℕ). IfSome (mode_at m.latches other n) (λ held. IsTrue (goes_beside takes.wanted.mode held))) takes.page (grants other another) in
+      let mine = subst (λ (o : Option Mode). IfSome o (λ held. IsTrue (goes_beside takes.wanted.mode held))) holds here in
+      beside_none mode (subst (λ (own : Mode). IsTrue (goes_beside own mode)) takes.mode mine)
+
+  not_alone : HasAlone m actor id → ⊥
+  not_alone (inl own) = not_held own
+  not_alone (inr takes) = not_taken takes
+
+pub held_pages_stay : HeldPagesStay
+held_pages_stay m actor outcome new latches fit inside step other id mode page another holds used = by (own_pages_change m actor outcome new latches fit inside step id page used)
+  where
+    by : IsInUse new id page ⊎ HasAlone m actor id → IsInUse new id page
+    by (inl stays) = stays
+    by (inr alone) = absurd (not_alone m actor other id fit another mode holds alone)

@@ -1,0 +1,113 @@
+-- Which page a step asks for, and what it tests of that page before it latches it.
+use Rattle.std.specs.Prelude.{◌≡◌, ◌≢◌, ℕ, ◌==◌, if◌then◌else◌, Bool, true, false, List, [], ◌∷◌, Option, Some, None, IfSome, IsSomeAnd}
+use Rattle.std.specs.Option.{option_and_then, option_map}
+use Rattle.hb_space.specs.Boxes.{Area, Within, whole_area}
+use Rattle.hb_frag.specs.declared.leaves.Leaf.{Leaf}
+use Rattle.hb_frag.specs.declared.leaves.Leaf.TheVariants.{Records, Child, Sibling}
+use Rattle.hb_frag.specs.declared.pages.LivePage.{LivePage}
+use Rattle.hb_frag.specs.declared.pages.Page.{Page}
+use Rattle.hb_frag.specs.declared.pages.Page.TheVariants.{Live, Free}
+use Rattle.hb_frag.specs.Leaves.{Placed, leaf_at, leaves_of, siblings_of, first_named}
+use Rattle.hb_latch.specs.Tables.{IsGrantable, IsLeastInTheWay}
+use Rattle.hb_activity.specs.declared.wanting.Wanted.{Wanted}
+use Rattle.hb_activity.specs.declared.activities.Activity.{Activity}
+use Rattle.hb_activity.specs.declared.activities.Activity.TheVariants.{PosterChild, PosterPromote, PosterAgain, ConsolidatorScan, ConsolidatorTry, ConsolidatorPromote, ConsolidatorKeep, ConsolidatorDecide}
+use Rattle.hb_activity.specs.Walks.{walk_point, walk_held}
+use Rattle.hb_activity.specs.Wanting.{wanted_of}
+use Rattle.hb_store.specs.Keeps.{StoreState}
+use Rattle.hb_store.specs.declared.stops.Why.{Why}
+use Rattle.hb_store.specs.declared.stops.Why.TheVariants.{Rule, Level, Extent}
+use Rattle.hb_core.specs.Machines.{Machine, live_here}
+
+-- The page into which the next step of an activity looks to tell which latch it wants: the one that a walk holds, the
+-- page to keep where a merge is tried, or the parent.
+abbrev pub looked_page : Activity → Option ℕ
+looked_page (PosterChild job parent) = Some parent
+looked_page (PosterPromote job parent) = Some parent
+looked_page (PosterAgain job parent) = Some parent
+looked_page (ConsolidatorScan job parent child) = Some parent
+looked_page (ConsolidatorTry job parent keep gone leaf) = Some keep
+looked_page (ConsolidatorPromote job parent keep gone) = Some parent
+looked_page (ConsolidatorKeep job parent keep gone) = Some parent
+looked_page (ConsolidatorDecide job parent keep gone) = Some parent
+looked_page other = walk_held other
+
+abbrev pub looked_live : StoreState → Activity → Option LivePage
+looked_live st activity = option_and_then (live_here st) (looked_page activity)
+
+-- the latch that the next step of an actor wants
+abbrev pub wanted_by : Machine → ℕ → Option Wanted
+wanted_by m actor = wanted_of (m.activity actor) m.store.meta (looked_live m.store (m.activity actor))
+
+-- another actor's latch is in the way of it, and this is the least such actor
+abbrev pub IsInTheWay : Machine → ℕ → ℕ → Type 0
+IsInTheWay m actor by = IsSomeAnd (wanted_by m actor) (λ wanted. IsLeastInTheWay m.latches actor wanted.page wanted.mode by)
+
+-- none is
+abbrev pub HasWayFree : Machine → ℕ → Type 0
+HasWayFree m actor = IfSome (wanted_by m actor) (λ wanted. IsGrantable m.latches actor wanted.page wanted.mode)
+
+-- The box of a page that is asked for: exactly this one, or one that has it within.
+pub record AskedBox : Type 0 where
+  pub area : Area
+  pub exact : Bool
+
+-- the page that a leaf names: a sibling has the leaf's box, a child has it within its own
+abbrev pub box_by_leaf : Placed → Option AskedBox
+box_by_leaf placed = by placed.leaf placed.area
+  where
+    by : Leaf → Area → Option AskedBox
+    by (Records records) area = None
+    by (Child page) area = Some (record { area = area; exact = false })
+    by (Sibling page) area = Some (record { area = area; exact = true })
+
+-- the page that a page's leaf at a point names
+abbrev pub box_at : Option LivePage → Option (List ℕ) → Option AskedBox
+box_at page p = option_and_then (λ page. option_and_then (λ p. option_and_then box_by_leaf (leaf_at page p)) p) page
+
+-- the box of the first child leaf from the left that names a page
+abbrev pub first_child_box : ℕ → List Placed → Option Area
+first_child_box name [] = None
+first_child_box name (placed ∷ rest) = if names placed.leaf then Some placed.area else first_child_box name rest
+  where
+    names : Leaf → Bool
+    names (Records records) = false
+    names (Child page) = page == name
+    names (Sibling page) = false
+
+-- a child that a page names, and a page to which one gave a part of its box
+abbrev pub box_of_child : Option LivePage → ℕ → Option AskedBox
+box_of_child page name = option_map (λ area. record { area = area; exact = false }) (option_and_then (λ page. first_child_box name (leaves_of page.frag page.area)) page)
+
+abbrev pub box_of_sibling : Option LivePage → ℕ → Option AskedBox
+box_of_sibling page name = option_map (λ area. record { area = area; exact = true }) (option_and_then (λ page. first_named name (siblings_of page)) page)
+
+-- the box that the wanted page is to have: of the root the whole space
+abbrev pub asked_box : Activity → StoreState → Option AskedBox
+asked_box (PosterChild job parent) st = box_at (live_here st parent) (Some job.point)
+asked_box (PosterAgain job parent) st = box_at (live_here st parent) (Some job.point)
+asked_box (ConsolidatorScan job parent child) st = box_of_child (live_here st parent) child
+asked_box (ConsolidatorTry job parent keep gone leaf) st = box_of_sibling (live_here st keep) gone
+asked_box (ConsolidatorKeep job parent keep gone) st = box_of_child (live_here st parent) keep
+asked_box (ConsolidatorDecide job parent keep gone) st = box_of_sibling (live_here st keep) gone
+asked_box (PosterPromote job parent) st = None
+asked_box (ConsolidatorPromote job parent keep gone) st = None
+asked_box other st = in_walk (walk_held other)
+  where
+    in_walk : Option ℕ → Option AskedBox
+    in_walk None = Some (record { area = whole_area st.meta.k; exact = true })
+    in_walk (Some held) = box_at (live_here st held) (walk_point other)
+
+abbrev pub HasAskedBox : AskedBox → Area → Type 0
+HasAskedBox asked area = by asked.exact
+  where
+    by : Bool → Type 0
+    by true = area ≡ asked.area
+    by false = Within asked.area area
+
+-- why a page isn't the one that was asked for, by the first test that it fails: it is free, of another level, of another box
+abbrev pub IsNotAsked : Wanted → AskedBox → Page → Why → Type 0
+IsNotAsked wanted asked (Free next) why = why ≡ Rule 2
+IsNotAsked wanted asked (Live page) (Rule rule) = ⊥
+IsNotAsked wanted asked (Live page) (Level level found) = (page.level ≢ wanted.level) × (level ≡ wanted.level) × (found ≡ page.level)
+IsNotAsked wanted asked (Live page) (Extent area found) = (page.level ≡ wanted.level) × (¬ (HasAskedBox asked page.area)) × (area ≡ asked.area) × (found ≡ page.area)

@@ -1,0 +1,62 @@
+-- What a step leaves alone, as laws.
+use Rattle.std.specs.Prelude.{◌≡◌, ◌≢◌, ◌⊎◌, ℕ, ◌≤◌, List, [], ◌∷◌, ◌++◌, Some}
+use Rattle.std.specs.List.{Contains}
+use Rattle.hb_frag.specs.declared.pages.LivePage.{LivePage}
+use Rattle.hb_frag.specs.declared.pages.Page.{Page}
+use Rattle.hb_frag.specs.declared.pages.Page.TheVariants.{Live}
+use Rattle.hb_ops.specs.Files.{FileState}
+use Rattle.hb_sound.specs.PointWalks.{HasWalk, IsPointOf, IsResponsible}
+use Rattle.hb_set.specs.Order.{Entry}
+use Rattle.hb_latch.specs.declared.modes.Mode.{Mode}
+use Rattle.hb_latch.specs.declared.modes.Mode.TheVariants.{Exclusive}
+use Rattle.hb_latch.specs.Tables.{MayLatch, mode_at}
+use Rattle.hb_activity.specs.declared.wanting.Wanted.{Wanted}
+use Rattle.hb_core.specs.declared.outcomes.Outcome.{Outcome}
+use Rattle.hb_core.specs.Machines.{Files, Machine}
+use Rattle.hb_core.specs.Asking.{HasWayFree, wanted_by}
+use Rattle.hb_core.specs.Keeps.{HasSoundFile, HoldsPagesOfFile, LatchesFit}
+use Rattle.hb_core.specs.Steps.{StepsTo}
+
+-- An actor has a page for itself: it holds it so; or its step wants it so, and nobody is in the way.
+pub record TakesAlone (m : Machine) (actor id : ℕ) : Type 0 where
+  pub wanted : Wanted
+  pub wants : wanted_by m actor ≡ Some wanted
+  pub page : wanted.page ≡ id
+  pub mode : wanted.mode ≡ Exclusive
+  pub free : HasWayFree m actor
+
+abbrev pub HasAlone : Machine → ℕ → ℕ → Type 0
+HasAlone m actor id = (mode_at m.latches actor id ≡ Some Exclusive) ⊎ TakesAlone m actor id
+
+-- the page is in memory and in use
+abbrev pub IsInUse : Machine → ℕ → LivePage → Type 0
+IsInUse m id page = m.store.frame id ≡ Some (Live page)
+
+-- A step changes no page in use but those that its actor has for itself. The page that it makes was in no use.
+abbrev pub OwnPagesChange : Type 0
+OwnPagesChange = (m : Machine) (actor : ℕ) (outcome : Outcome) (new : Machine) → MayLatch actor → LatchesFit m → HoldsPagesOfFile m → StepsTo m actor outcome new →
+    (id : ℕ) (page : LivePage) → IsInUse m id page → IsInUse new id page ⊎ HasAlone m actor id
+
+-- So what another actor holds, in whatever mode, stays as it was.
+abbrev pub HeldPagesStay : Type 0
+HeldPagesStay = (m : Machine) (actor : ℕ) (outcome : Outcome) (new : Machine) → MayLatch actor → LatchesFit m → HoldsPagesOfFile m → StepsTo m actor outcome new →
+    (other id : ℕ) (mode : Mode) (page : LivePage) → other ≢ actor → mode_at m.latches other id ≡ Some mode → IsInUse m id page → IsInUse new id page
+
+-- No other actor stands elsewhere after a step, or has other latches.
+abbrev pub OthersStay : Type 0
+OthersStay = (m : Machine) (actor : ℕ) (outcome : Outcome) (new : Machine) → StepsTo m actor outcome new →
+    (other : ℕ) → other ≢ actor → (new.activity other ≡ m.activity other) × ((page : ℕ) → mode_at new.latches other page ≡ mode_at m.latches other page)
+
+-- The order stays, or has one entry more at its end; and the lines stay.
+abbrev pub OrderGrows : Type 0
+OrderGrows = (m : Machine) (actor : ℕ) (outcome : Outcome) (new : Machine) → StepsTo m actor outcome new →
+    (new.lines ≡ m.lines) × ((new.order ≡ m.order) ⊎ ((entry : Entry) × (new.order ≡ m.order ++ entry ∷ [])))
+
+-- In a file that a crash may leave, each point of the space has exactly one responsible page, and the walk from the root
+-- ends there.
+pub record HasOnePage (s : FileState) (p : List ℕ) : Type 0 where
+  pub walk : HasWalk s p s.meta.root
+  pub alone : (id other : ℕ) → IsResponsible s p id → IsResponsible s p other → id ≡ other
+
+abbrev pub PointsHaveOnePage : Type 0
+PointsHaveOnePage = (m : Machine) (files : Files) (s : FileState) (p : List ℕ) → HasSoundFile m files → Contains (files.durable ∷ files.later) s → IsPointOf s p → HasOnePage s p

@@ -1,0 +1,17 @@
+pub mod Stages
+pub mod Machines
+pub mod Asking
+pub mod Fetching
+pub mod Deeds
+pub mod Performing
+pub mod SearchRows
+pub mod SplitRows
+pub mod SessionRows
+pub mod WorkerRows
+pub mod Rows
+pub mod Forcing
+pub mod GivingUp
+pub mod Acting
+pub mod Steps
+pub mod Keeps
+pub mod Laws

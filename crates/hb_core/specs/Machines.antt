@@ -1,0 +1,97 @@
+-- The state of the step machine: all that a step looks at or changes, as data.
+use Rattle.std.specs.Prelude.{ℕ, ◌==◌, if◌then◌else◌, Bool, List, [], ◌∷◌, ◌++◌, length, Option, Some, None}
+use Rattle.std.specs.List.{list_any}
+use Rattle.hb_frag.specs.declared.pages.LivePage.{LivePage}
+use Rattle.hb_wal.specs.Log.{mark_of}
+use Rattle.hb_ops.specs.Files.{FileState, if_live}
+use Rattle.hb_set.specs.Order.{Entry}
+use Rattle.hb_set.specs.declared.scripts.Line.{Line}
+use Rattle.hb_set.specs.declared.scripts.Answered.{Answered}
+use Rattle.hb_latch.specs.Tables.{LatchTable}
+use Rattle.hb_activity.specs.declared.jobs.Job.{Job}
+use Rattle.hb_activity.specs.declared.activities.Activity.{Activity}
+use Rattle.hb_store.specs.Keeps.{StoreState, last_of}
+use Rattle.hb_store.specs.declared.stops.StopWhy.{StopWhy}
+
+-- The files over a disk that tells: the one that is durable, and those after each group that waits, in their order.
+pub record Files : Type 0 where
+  pub durable : FileState
+  pub later : List FileState
+
+-- the file as the steps see it
+abbrev pub file_of : Files → FileState
+file_of files = last_of files.durable files.later
+
+pub record Machine : Type 0 where
+  -- the command lines of the script
+  pub lines : List Line
+  -- the answers so far, in their sequence, each with the disk's clock after its step
+  pub answered : List Answered
+  -- where each actor stands: 1 to 16 are sessions, 17 posts, 18 consolidates, 19 flushes
+  pub activity : ℕ → Activity
+  -- which pages each actor has latched, and in which mode
+  pub latches : LatchTable
+  -- the jobs that wait for the workers, the oldest first
+  pub jobs : List Job
+  -- the lines that took effect, in the order of their effect, each with the reply that was given or is kept for it
+  pub order : List Entry
+  -- why nothing more is done, where that is so
+  pub stop : Option StopWhy
+  -- what the file says of itself; the log with its room and the groups that wait, each with its bytes and its mark; the
+  -- pages in memory; those imaged or made in this turn
+  pub store : StoreState
+  -- the files, where the disk tells its bytes
+  pub files : Option Files
+  -- the disk's clock
+  pub clock : ℕ
+
+-- how many places of the order are settled: no group of theirs waits
+abbrev pub settled_count : Machine → ℕ
+settled_count m = mark_of m.store.log.groups (length m.order)
+
+-- the page of a number, where it is in memory and in use
+abbrev pub live_here : StoreState → ℕ → Option LivePage
+live_here st id = if_live (st.frame id)
+
+-- whether a line of this number was answered
+abbrev pub is_answered : ℕ → List Answered → Bool
+is_answered number answered = list_any (λ a. a.line == number) answered
+
+-- all activities with another one for an actor
+abbrev pub with_activity : ℕ → Activity → (ℕ → Activity) → ℕ → Activity
+with_activity actor next all other = if other == actor then next else all other
+
+-- the list of what is there
+abbrev pub if_some : {A : Type 0} → Option A → List A
+if_some None = []
+if_some (Some x) = x ∷ []
+
+-- a machine with another store, files and value of the clock
+abbrev pub with_disk : StoreState → Option Files → ℕ → Machine → Machine
+with_disk store files clock m = record {
+  lines = m.lines;
+  answered = m.answered;
+  activity = m.activity;
+  latches = m.latches;
+  jobs = m.jobs;
+  order = m.order;
+  stop = m.stop;
+  store = store;
+  files = files;
+  clock = clock;
+}
+
+-- a machine that is stopped
+abbrev pub stopped_for : StopWhy → Machine → Machine
+stopped_for why m = record {
+  lines = m.lines;
+  answered = m.answered;
+  activity = m.activity;
+  latches = m.latches;
+  jobs = m.jobs;
+  order = m.order;
+  stop = Some why;
+  store = m.store;
+  files = m.files;
+  clock = m.clock;
+}

@@ -1,0 +1,77 @@
+-- How a deed is done: what becomes of the latches, the file, the queue, the order and the answers.
+use Rattle.std.specs.Prelude.{◌≡◌, ◌≢◌, ℕ, ◌==◌, ◌||◌, if◌then◌else◌, Bool, List, [], ◌∷◌, ◌++◌, length, map, Option, Some, None, option_map}
+use Rattle.std.specs.List.{list_any}
+use Rattle.hb_ops.specs.declared.operations.Op.{Op}
+use Rattle.hb_ops.specs.Operations.{reads_of}
+use Rattle.hb_log_codec.specs.Groups.{group_bytes}
+use Rattle.hb_set.specs.declared.scripts.Answered.{Answered}
+use Rattle.hb_latch.specs.declared.modes.Mode.{Mode}
+use Rattle.hb_latch.specs.Tables.{LatchTable, mode_at}
+use Rattle.hb_activity.specs.declared.holding.Latch.{Latch}
+use Rattle.hb_activity.specs.declared.activities.Activity.{Activity}
+use Rattle.hb_activity.specs.Holding.{held_of}
+use Rattle.hb_activity.specs.Walks.{walk_held}
+use Rattle.hb_store.specs.Calls.{Commits, IsAllowedHere, change_here, with_op}
+use Rattle.hb_store.specs.Images.{group_here}
+use Rattle.hb_store.specs.Keeps.{StoreState}
+use Rattle.hb_core.specs.declared.outcomes.Outcome.{Outcome}
+use Rattle.hb_core.specs.declared.outcomes.Outcome.TheVariants as outcomes
+use Rattle.hb_core.specs.Machines.{Files, Machine, if_some, live_here, with_activity}
+use Rattle.std.specs.Option.{option_and_then}
+use Rattle.hb_core.specs.Deeds.{Deed, AddsJobs}
+
+-- the latches of an activity, where the page that a walk holds tells the mode; and the mode in which these hold a page
+abbrev pub latches_held : StoreState → Activity → List Latch
+latches_held st activity = held_of activity (option_and_then (live_here st) (walk_held activity))
+
+abbrev pub mode_among : ℕ → List Latch → Option Mode
+mode_among page [] = None
+mode_among page (latch ∷ rest) = if latch.page == page then Some latch.mode else mode_among page rest
+
+-- An actor has these latches now, and every other one has what it had.
+pub record Relatches (actor : ℕ) (latches : List Latch) (old new : LatchTable) : Type 0 where
+  pub own : (page : ℕ) → mode_at new actor page ≡ mode_among page latches
+  pub others : (other page : ℕ) → other ≢ actor → mode_at new other page ≡ mode_at old other page
+
+-- the numbers of the pages that an operation reads or makes
+abbrev pub touches : StoreState → Op → ℕ → Bool
+touches st op id = list_any (λ read. read == id) (reads_of op) || list_any (λ made. made == id) (map (λ c. c.0) (change_here st op).pages)
+
+-- An operation is done in memory: it is allowed there, the pages are changed, and its group waits with its mark. The
+-- pages that it reads or makes were imaged or made in this turn from then on.
+pub record DoesOp (op : Op) (mark : ℕ) (old new : StoreState) : Type 0 where
+  pub allowed : IsAllowedHere old op
+  pub commits : Commits op mark old new
+  pub group : new.log.groups ≡ old.log.groups ++ record { bytes = group_bytes (group_here old op); mark = mark } ∷ []
+  pub imaged : (id : ℕ) → new.imaged id ≡ (old.imaged id || touches old op id)
+
+abbrev pub MayDo : Option Op → ℕ → StoreState → StoreState → Type 0
+MayDo None mark old new = new ≡ old
+MayDo (Some op) mark old new = DoesOp op mark old new
+
+-- the files with the one after the operation, which its group leads to
+abbrev pub with_effect : Op → Files → Files
+with_effect op files = record { durable = files.durable; later = with_op files.durable files.later op }
+
+abbrev pub files_after : Option Op → Option Files → Option Files
+files_after None files = files
+files_after (Some op) files = option_map (with_effect op) files
+
+-- the answer that a step gives, at a value of the clock
+abbrev pub given_by : Outcome → ℕ → List Answered
+given_by (outcomes.Answered number reply) at = record { line = number; reply = reply; at = at } ∷ []
+given_by other at = []
+
+-- A deed of an actor is done on a machine into whose memory the pages came that it needs.
+pub record Performs (m : Machine) (fetched : StoreState) (actor : ℕ) (deed : Deed) (outcome : Outcome) (new : Machine) : Type 0 where
+  pub says : outcome ≡ deed.says
+  pub lines : new.lines ≡ m.lines
+  pub answered : new.answered ≡ m.answered ++ given_by deed.says m.clock
+  pub activity : (other : ℕ) → new.activity other ≡ with_activity actor deed.next m.activity other
+  pub latches : Relatches actor (latches_held new.store deed.next) m.latches new.latches
+  pub jobs : AddsJobs deed.adds deed.left new.jobs
+  pub order : new.order ≡ m.order ++ if_some deed.joins
+  pub stop : new.stop ≡ m.stop
+  pub store : MayDo deed.op (length m.order) fetched new.store
+  pub files : new.files ≡ files_after deed.op m.files
+  pub clock : new.clock ≡ m.clock

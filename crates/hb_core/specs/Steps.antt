@@ -1,0 +1,82 @@
+-- One step of an actor, as one relation: the tests in their order, and then the row of its activity.
+use Rattle.std.specs.Prelude.{◌≡◌, ◌≢◌, ◌⊎◌, ℕ, ◌<◌, ◌≤◌, Bool, IsTrue, List, [], ◌∷◌, All, MatchOption}
+use Rattle.hb_set.specs.declared.commands.Command.{Command}
+use Rattle.hb_set.specs.declared.commands.Command.TheVariants.{Search}
+use Rattle.hb_set.specs.declared.commands.Reply.{Reply}
+use Rattle.hb_set.specs.declared.commands.Reply.TheVariants as replies
+use Rattle.hb_activity.specs.declared.jobs.JobKind.TheVariants.{Post}
+use Rattle.hb_activity.specs.declared.activities.Activity.{Activity}
+use Rattle.hb_activity.specs.declared.activities.Activity.TheVariants as at
+use Rattle.hb_activity.specs.Changing.{may_commit}
+use Rattle.hb_store.specs.Calls.{IsReady}
+use Rattle.hb_core.specs.declared.outcomes.Outcome.{Outcome}
+use Rattle.hb_core.specs.declared.outcomes.Outcome.TheVariants as outcomes
+use Rattle.hb_core.specs.Machines.{Machine, settled_count}
+use Rattle.hb_core.specs.Asking.{HasWayFree, IsInTheWay, looked_live}
+use Rattle.hb_core.specs.Deeds.{Deed, answers_now}
+use Rattle.hb_core.specs.SessionRows.{next_line, taking}
+use Rattle.hb_core.specs.WorkerRows.{TakesJob}
+use Rattle.hb_core.specs.Performing.{Performs}
+use Rattle.hb_core.specs.Forcing.{ForcesFirst, StaysSo}
+use Rattle.hb_core.specs.GivingUp.{runs_out}
+use Rattle.hb_core.specs.Acting.{Acts, GivesUp, MeetsBadPage}
+
+-- the step may change the file
+abbrev pub may_change_file : Machine → ℕ → Bool
+may_change_file m actor = may_commit (m.activity actor) m.store.meta (looked_live m.store (m.activity actor))
+
+-- The step may change the file, and the log isn't ready for that. A group that waits is forced instead. Where none does,
+-- no force makes room.
+abbrev pub IsUnready : Machine → ℕ → Type 0
+IsUnready m actor = IsTrue (may_change_file m actor) × (¬ (IsReady m.store))
+
+abbrev pub GetsReady : Machine → ℕ → Outcome → Machine → Type 0
+GetsReady m actor outcome new =
+    ((m.store.log.groups ≢ []) × ForcesFirst m outcomes.Helped outcome new)
+    ⊎ ((m.store.log.groups ≡ []) × Performs m m.store actor (runs_out m (m.activity actor)) outcome new)
+
+-- A step that wants a latch or changes the file: another actor is in the way; or the log isn't ready; or it may be done.
+abbrev pub Works : Machine → ℕ → Outcome → Machine → Type 0
+Works m actor outcome new =
+    ((by : ℕ) × IsInTheWay m actor by × StaysSo m (outcomes.Blocked by) outcome new)
+    ⊎ (HasWayFree m actor × IsUnready m actor × GetsReady m actor outcome new)
+    ⊎ (HasWayFree m actor × (¬ (IsUnready m actor)) × (Acts m actor outcome new ⊎ GivesUp m actor outcome new ⊎ MeetsBadPage m actor outcome new))
+
+-- An idle session takes its next line. For a search that takes memory.
+abbrev pub WantsBoxes : Command → Type 0
+WantsBoxes (Search area) = Unit {0}
+WantsBoxes other = ⊥
+
+abbrev pub TakesLine : Machine → ℕ → Outcome → Machine → Type 0
+TakesLine m actor outcome new = MatchOption (next_line actor m.answered m.lines) (StaysSo m outcomes.Idle outcome new)
+    (λ line. Performs m m.store actor (taking m line) outcome new ⊎ (WantsBoxes line.command × Performs m m.store actor (answers_now m line.number replies.NoMemory) outcome new))
+
+-- An idle poster takes its oldest job.
+abbrev pub TakesPosting : Machine → ℕ → Outcome → Machine → Type 0
+TakesPosting m actor outcome new =
+    (All (λ job. job.kind ≢ Post) m.jobs × StaysSo m outcomes.Idle outcome new)
+    ⊎ ((deed : Deed) × TakesJob m deed × Performs m m.store actor deed outcome new)
+
+-- A line that awaits its place is answered once that is settled. Till then the step forces.
+abbrev pub Awaits : Machine → ℕ → ℕ → Reply → ℕ → Outcome → Machine → Type 0
+Awaits m actor number reply place outcome new =
+    ((place < settled_count m) × Performs m m.store actor (answers_now m number reply) outcome new)
+    ⊎ ((settled_count m ≤ place) × ForcesFirst m outcomes.Moved outcome new)
+
+-- One step of an activity. The consolidator has no job and the flusher no step before they are built.
+abbrev pub StepsAs : Activity → Machine → ℕ → Outcome → Machine → Type 0
+StepsAs at.SessionIdle m actor outcome new = TakesLine m actor outcome new
+StepsAs (at.SessionAwait number reply place) m actor outcome new = Awaits m actor number reply place outcome new
+StepsAs at.PosterIdle m actor outcome new = TakesPosting m actor outcome new
+StepsAs at.ConsolidatorIdle m actor outcome new = StaysSo m outcomes.Idle outcome new
+StepsAs at.Flusher m actor outcome new = StaysSo m outcomes.Idle outcome new
+StepsAs other m actor outcome new = Works m actor outcome new
+
+-- One step of an actor. A machine that is stopped stays so.
+abbrev pub StepsTo : Machine → ℕ → Outcome → Machine → Type 0
+StepsTo m actor outcome new = MatchOption m.stop (StepsAs (m.activity actor) m actor outcome new) (λ why. StaysSo m (outcomes.Stopped why) outcome new)
+
+-- Steps of these actors in turn, from a machine to another.
+abbrev pub RunsTo : List ℕ → Machine → Machine → Type 0
+RunsTo [] m new = new ≡ m
+RunsTo (actor ∷ rest) m new = (outcome : Outcome) × (next : Machine) × StepsTo m actor outcome next × RunsTo rest next new

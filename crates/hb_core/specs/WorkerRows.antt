@@ -1,0 +1,109 @@
+-- The rows of the poster and the consolidator. The page of a row is the one that the step latches.
+use Rattle.std.specs.Prelude.{◌≡◌, ◌≢◌, ◌⊎◌, ℕ, ◌+◌, ◌<◌, ◌≤◌, List, [], ◌∷◌, Option, Some, None}
+use Rattle.hb_space.specs.Boxes.{Area}
+use Rattle.hb_layout.specs.declared.limits.TheConstants.{HEIGHT_MAX}
+use Rattle.hb_frag.specs.declared.leaves.Leaf.{Leaf}
+use Rattle.hb_frag.specs.declared.leaves.Leaf.TheVariants.{Records, Child, Sibling}
+use Rattle.hb_frag.specs.declared.pages.LivePage.{LivePage}
+use Rattle.hb_frag.specs.declared.paths.Side.{Side}
+use Rattle.hb_frag.specs.Leaves.{leaf_at, siblings_of}
+use Rattle.hb_ops.specs.declared.operations.Op.TheVariants as ops
+use Rattle.hb_terms.specs.Plans.{IsPlan}
+use Rattle.hb_terms.specs.declared.plans.PostPlan.{PostPlan}
+use Rattle.hb_terms.specs.declared.plans.PostPlan.TheVariants as plans
+use Rattle.hb_store.specs.NextPage.{IsNext}
+use Rattle.hb_activity.specs.Queue.{LeavesFirst}
+use Rattle.hb_activity.specs.declared.jobs.Job.{Job}
+use Rattle.hb_activity.specs.declared.jobs.JobKind.TheVariants.{Post}
+use Rattle.hb_activity.specs.declared.activities.Activity.{Activity}
+use Rattle.hb_activity.specs.declared.activities.Activity.TheVariants.{PosterIdle, PosterGrow, PosterWalk, PosterChild, PosterPromote, PosterAgain}
+use Rattle.hb_core.specs.declared.outcomes.Outcome.TheVariants as outcomes
+use Rattle.hb_core.specs.Machines.{Machine, live_here}
+use Rattle.hb_core.specs.Deeds.{Deed, does, goes_on}
+use Rattle.hb_core.specs.SplitRows.{HasNoPage, PartLeavesTo, corner_of}
+use Rattle.hb_core.specs.SessionRows.{PassesOn}
+
+-- Idle: the poster takes the oldest job of its kind. A job above the file's height is dropped; one at the height is to give
+-- the file a level; any other is done at a page of its level.
+abbrev pub IsPostingOf : Job → ℕ → Activity → Type 0
+IsPostingOf job height next =
+    ((height < job.level) × (next ≡ PosterIdle))
+    ⊎ ((height ≡ job.level) × (next ≡ PosterGrow job))
+    ⊎ ((job.level < height) × (next ≡ PosterWalk job None))
+
+pub record TakesJob (m : Machine) (deed : Deed) : Type 0 where
+  pub job : Job
+  pub left : List Job
+  pub oldest : LeavesFirst Post m.jobs job left
+  pub next : Activity
+  pub posting : IsPostingOf job m.store.meta.height next
+  pub deed_is : deed ≡ record { next = next; op = None; left = left; adds = []; joins = None; says = outcomes.Moved }
+
+-- the job ends, or is dropped
+abbrev pub ends_job : Machine → Deed
+ends_job m = goes_on m PosterIdle []
+
+-- Growing: the file is as high as the job's level and may grow, and the root gave a part of its box away. Then the job
+-- waits again. Else it is dropped.
+pub record MayGrow (m : Machine) (job : Job) (root : LivePage) : Type 0 where
+  pub height : m.store.meta.height ≡ job.level
+  pub below : m.store.meta.height < HEIGHT_MAX
+  pub gave : siblings_of root ≢ []
+
+pub record Grows (m : Machine) (job : Job) (root : LivePage) (deed : Deed) : Type 0 where
+  pub may : MayGrow m job root
+  pub fresh : ℕ
+  pub free_after : ℕ
+  pub free : m.store.meta.live < m.store.meta.pages
+  pub next : IsNext m.store fresh free_after
+  pub deed_is : deed ≡ does m PosterIdle (ops.Grow fresh free_after) (job ∷ [])
+
+pub record GrowsNot (m : Machine) (job : Job) (root : LivePage) (deed : Deed) : Type 0 where
+  pub why : (¬ (MayGrow m job root)) ⊎ (m.store.meta.live ≡ m.store.meta.pages)
+  pub deed_is : deed ≡ ends_job m
+
+-- Walking: at a page of the job's level whose leaf at the point is a child leaf, the walk is over. Else it passes on.
+pub record Arrives (m : Machine) (job : Job) (id : ℕ) (page : LivePage) (deed : Deed) : Type 0 where
+  pub level : page.level ≡ job.level
+  pub child : ℕ
+  pub area : Area
+  pub leaf : leaf_at page job.point ≡ Some (record { leaf = Child child; area = area })
+  pub deed_is : deed ≡ goes_on m (PosterChild job id) []
+
+abbrev pub LeadsBelow : LivePage → Job → Type 0
+LeadsBelow page job = (child : ℕ) × (area : Area) × (leaf_at page job.point ≡ Some (record { leaf = Child child; area = area }))
+
+pub record PosterPasses (m : Machine) (job : Job) (id : ℕ) (page : LivePage) (deed : Deed) : Type 0 where
+  pub farther : page.level ≡ job.level → ¬ (LeadsBelow page job)
+  pub passes : PassesOn page job.point m (PosterWalk job (Some id)) deed
+
+-- Looking at the child: where the parent owes nothing at the point, the job ends. Else the parent is to be promoted.
+abbrev pub after_look : Machine → Job → ℕ → PostPlan → Deed
+after_look m job parent plans.Nothing = ends_job m
+after_look m job parent plan = goes_on m (PosterPromote job parent) []
+
+pub record LooksAtChild (m : Machine) (job : Job) (parent : ℕ) (child : LivePage) (deed : Deed) : Type 0 where
+  pub page : LivePage
+  pub live : live_here m.store parent ≡ Some page
+  pub plan : PostPlan
+  pub planned : IsPlan page child job.point m.store.meta.icap plan
+  pub deed_is : deed ≡ after_look m job parent plan
+
+-- Looking again, with the parent alone: the plan is made anew. What it posts is posted, and the job waits again. Where the
+-- parent has no room, it is split first, which is posted one level up; where no page is free, the job is dropped.
+pub record SplitsParent (m : Machine) (job : Job) (parent : ℕ) (page : LivePage) (deed : Deed) : Type 0 where
+  pub leaves : PartLeavesTo m.store page
+  pub deed_is : deed ≡ does m PosterIdle (ops.Extract parent leaves.fresh leaves.path leaves.cuts leaves.free_after)
+      (record { kind = Post; level = job.level + 1; point = corner_of leaves } ∷ job ∷ [])
+
+abbrev pub DoesPlan : Machine → Job → ℕ → LivePage → PostPlan → Deed → Type 0
+DoesPlan m job parent page plans.Nothing deed = deed ≡ ends_job m
+DoesPlan m job parent page (plans.Post at inner area) deed = deed ≡ does m PosterIdle (ops.Post parent at inner area) (job ∷ [])
+DoesPlan m job parent page plans.SplitFirst deed = HasNoPage m deed (ends_job m) ⊎ SplitsParent m job parent page deed
+
+pub record LooksAgain (m : Machine) (job : Job) (parent : ℕ) (child : LivePage) (deed : Deed) : Type 0 where
+  pub page : LivePage
+  pub live : live_here m.store parent ≡ Some page
+  pub plan : PostPlan
+  pub planned : IsPlan page child job.point m.store.meta.icap plan
+  pub does_it : DoesPlan m job parent page plan deed

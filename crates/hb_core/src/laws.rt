@@ -1,0 +1,31 @@
+//! What follows of steps from the table alone. Each law is the contract of a function that does
+//! nothing: a caller learns it by the call.
+
+ghost use Rattle.hb_core.specs.Laws.{HeldPagesStay, OrderGrows, OthersStay, OwnPagesChange, PointsHaveOnePage};
+
+use hb_sound::laws::{a_level_parts_the_space, a_walk_ends_at_the_responsible_page};
+
+/// A step changes no page in use but those that its actor has for itself: it holds them exclusively, or
+/// its step wants that latch and nobody is in the way. So what another actor holds stays as it was.
+#[tactic(auto, using(crate::proofs::OwnPages::own_pages_change, crate::proofs::OwnPages::held_pages_stay))]
+pub fn a_step_changes_its_own_pages()
+    ensures own { OwnPagesChange }
+    ensures held { HeldPagesStay }
+{}
+
+/// No other actor stands elsewhere after a step, or has other latches. The lines stay, and the order stays
+/// or has one entry more at its end.
+#[tactic(auto, using(crate::proofs::Ways::others_stay, crate::proofs::Ways::order_grows))]
+pub fn a_step_leaves_other_actors_alone()
+    ensures others { OthersStay }
+    ensures order { OrderGrows }
+{}
+
+/// In the file that is durable, and in that after each group that waits, each point of the space has exactly
+/// one responsible page, and the walk from the root for it ends there.
+pub fn each_point_has_one_page()
+    ensures { PointsHaveOnePage }
+{
+    a_walk_ends_at_the_responsible_page();
+    a_level_parts_the_space();
+}

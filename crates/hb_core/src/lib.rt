@@ -1,0 +1,20 @@
+//! The step machine: what one step of an actor does, as one relation over states that are data, and
+//! the laws that each step keeps. Sessions, the worker that posts, the one that merges and the one that
+//! flushes take their steps in any order.
+//!
+//! The one contract: a step is one of the table. The table is `StepsTo` of `specs/Steps.antt`, with a
+//! record for each row in `specs/SessionRows.antt` and `specs/WorkerRows.antt`. What follows of it is
+//! in `laws`, and `docs/STEPS.md` tells every row in words.
+//!
+//! No type keeps an invariant. What every machine keeps is in `specs/Keeps.antt`, a record for each
+//! part.
+//!
+//! Source of the idea: Lomet and Salzberg 1992, whose structure changes are atomic actions that are
+//! completed late, and Evangelidis, Lomet and Salzberg 1997.
+#![tactic(auto)]
+
+pub mod laws;
+mod outcomes;
+mod threads;
+
+pub use outcomes::{DropWhy, Outcome};
