@@ -1,5 +1,5 @@
 -- Each point has one responsible page in every file that a crash may leave.
-use Rattle.std.proofs.Common.{◌≡◌, ℕ, List, [], ◌∷◌, All, refl, sym, arith}
+use Rattle.std.proofs.Common.{◌≡◌, ℕ, List, [], ◌∷◌, All}
 use Rattle.std.specs.List.{Contains}
 use Rattle.std.proofs.lemmas.List.Elements.{All-cons, All-contains}
 use Rattle.hb_ops.specs.Files.{FileState}
@@ -13,8 +13,7 @@ use Rattle.hb_core.specs.Laws.{HasOnePage, PointsHaveOnePage}
 pub one_page : RootHasWalks → NoPointIsHeldTwice → PointsHaveOnePage
 one_page walks alone m files s p keeps among point =
     let sound : IsSound s = All-contains IsSound (files.durable ∷ files.later) s (All-cons IsSound files.durable files.later keeps.durable keeps.later) among in
-    let top = sound.rooted.top in
     record {
       walk = walks s p sound point;
-      alone = λ id other a b. alone s 0 p id other sound point (omega (arith, top.2)) a b;
+      alone = λ id other a b. alone s 0 p id other sound point a b;
     }

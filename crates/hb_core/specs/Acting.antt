@@ -1,7 +1,12 @@
 -- A step that may be done: it is done, given up, or meets a bad page.
-use Rattle.std.specs.Prelude.{◌≡◌, ◌⊎◌, ℕ, true, false, Bool, IsTrue, Option, Some, None}
+use Rattle.std.specs.Prelude.{◌≡◌, ◌⊎◌, ℕ, ◌<◌, true, false, Bool, IsTrue, Option, Some, None}
 use Rattle.hb_ops.specs.declared.operations.Op.{Op}
 use Rattle.hb_ops.specs.declared.operations.Op.TheVariants as ops
+use Rattle.hb_frag.specs.declared.pages.LivePage.{LivePage}
+use Rattle.hb_terms.specs.Plans.{IsPlan}
+use Rattle.hb_terms.specs.declared.plans.PostPlan.{PostPlan}
+use Rattle.hb_terms.specs.declared.plans.PostPlan.TheVariants.{SplitFirst}
+use Rattle.hb_activity.specs.declared.jobs.Job.{Job}
 use Rattle.hb_activity.specs.declared.wanting.Wanted.{Wanted}
 use Rattle.hb_activity.specs.declared.activities.Activity.{Activity}
 use Rattle.hb_activity.specs.declared.activities.Activity.TheVariants as at
@@ -12,12 +17,13 @@ use Rattle.hb_core.specs.declared.outcomes.DropWhy.{DropWhy}
 use Rattle.hb_core.specs.declared.outcomes.DropWhy.TheVariants as drops
 use Rattle.hb_core.specs.declared.outcomes.Outcome.{Outcome}
 use Rattle.hb_core.specs.declared.outcomes.Outcome.TheVariants as outcomes
-use Rattle.hb_core.specs.Machines.{Files, Machine, stopped_for, with_disk}
+use Rattle.hb_core.specs.Machines.{Files, Machine, live_here, stopped_for, with_disk}
 use Rattle.hb_core.specs.Asking.{AskedBox, asked_box, wanted_by}
-use Rattle.hb_core.specs.Fetching.{Brings, IsBadHead, IsDamaged, IsFreeHead, IsWantedPage, LacksPage, MayNeed}
+use Rattle.hb_core.specs.Fetching.{Brings, IsBadHead, IsDamaged, IsFreeHead, IsWantedPage}
 use Rattle.hb_core.specs.Deeds.{Deed}
 use Rattle.hb_core.specs.Performing.{Performs}
-use Rattle.hb_core.specs.Rows.{Row}
+use Rattle.hb_core.specs.Rows.{IsAtHand, Row}
+use Rattle.hb_core.specs.WorkerRows.{MayGrow}
 use Rattle.hb_core.specs.GivingUp.{gives_up}
 
 -- an operation takes a number for the page that it makes
@@ -34,6 +40,25 @@ pub record Acts (m : Machine) (actor : ℕ) (outcome : Outcome) (new : Machine) 
   pub row : Row (m.activity actor) (wanted_by m actor) (with_disk fetched m.files m.clock m) deed
   pub performs : Performs m fetched actor deed outcome new
 
+-- Whether a row takes a number for a page that it makes: a split, a growth, and a posting for which the parent has no room,
+-- each where a page is free.
+abbrev pub HasPlanned : Machine → Job → ℕ → LivePage → PostPlan → Type 0
+HasPlanned m job parent child plan = (page : LivePage) × (live_here m.store parent ≡ Some page) × IsPlan page child job.point m.store.meta.icap plan
+
+abbrev pub NeedsNumber : Activity → Option Wanted → Machine → Type 0
+NeedsNumber (at.SessionSplit line held) wanted m = m.store.meta.live < m.store.meta.pages
+NeedsNumber (at.PosterGrow job) (Some wanted) m = (m.store.meta.live < m.store.meta.pages) × (root : LivePage) × IsAtHand m (at.PosterGrow job) wanted root × MayGrow m job root
+NeedsNumber (at.PosterAgain job parent) (Some wanted) m = (m.store.meta.live < m.store.meta.pages) × (child : LivePage) × IsAtHand m (at.PosterAgain job parent) wanted child × HasPlanned m job parent child SplitFirst
+NeedsNumber other wanted m = ⊥
+
+-- What a step needs: the page that it wants, and the free head where it takes a number. `fetched` is with what came.
+abbrev pub MayNeed : Machine → ℕ → StoreState → ℕ → Type 0
+MayNeed m actor fetched id = IsWantedPage (wanted_by m actor) id ⊎ (NeedsNumber (m.activity actor) (wanted_by m actor) (with_disk fetched m.files m.clock m) × IsFreeHead m.store id)
+
+-- one of them isn't in memory
+abbrev pub LacksPage : Machine → ℕ → StoreState → Type 0
+LacksPage m actor fetched = (id : ℕ) × MayNeed m actor fetched id × (fetched.frame id ≡ None)
+
 -- Or a page couldn't be read, or memory was refused: the line or the job is given up. A promotion wants neither.
 abbrev pub MayGiveUp : Activity → Type 0
 MayGiveUp (at.PosterPromote job parent) = ⊥
@@ -44,8 +69,8 @@ pub record GivesUp (m : Machine) (actor : ℕ) (outcome : Outcome) (new : Machin
   pub may : MayGiveUp (m.activity actor)
   pub why : DropWhy
   pub fetched : StoreState
-  pub brings : Brings m.files (MayNeed (wanted_by m actor) m.store) m.store fetched
-  pub unread : why ≡ drops.ReadFault → LacksPage (wanted_by m actor) fetched
+  pub brings : Brings m.files (MayNeed m actor fetched) m.store fetched
+  pub unread : why ≡ drops.ReadFault → LacksPage m actor fetched
   pub performs : Performs m fetched actor (gives_up m why (m.activity actor)) outcome new
 
 -- Or a page was damaged: the machine is stopped.
@@ -56,9 +81,9 @@ IsBadWanted files st (Some wanted) (Some asked) page why = (page ≡ wanted.page
 
 pub record MeetsBadPage (m : Machine) (actor : ℕ) (outcome : Outcome) (new : Machine) : Type 0 where
   pub fetched : StoreState
-  pub brings : Brings m.files (MayNeed (wanted_by m actor) m.store) m.store fetched
+  pub brings : Brings m.files (MayNeed m actor fetched) m.store fetched
   pub page : ℕ
   pub why : Why
-  pub bad : IsBadWanted m.files fetched (wanted_by m actor) (asked_box (m.activity actor) fetched) page why ⊎ IsBadHead m.files fetched page why
+  pub bad : IsBadWanted m.files fetched (wanted_by m actor) (asked_box (m.activity actor) fetched) page why ⊎ (NeedsNumber (m.activity actor) (wanted_by m actor) (with_disk fetched m.files m.clock m) × IsBadHead m.files fetched page why)
   pub says : outcome ≡ outcomes.Stopped (Damaged page why)
   pub stops : new ≡ stopped_for (Damaged page why) (with_disk fetched m.files m.clock m)

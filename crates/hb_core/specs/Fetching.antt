@@ -1,41 +1,35 @@
 -- What a step brings into memory, and why it doesn't.
-use Rattle.std.specs.Prelude.{◌≡◌, ◌≢◌, ◌⊎◌, ℕ, Option, Some, None, IsSome, IfSome}
+use Rattle.std.specs.Prelude.{◌≡◌, ◌≢◌, ◌⊎◌, ℕ, ◌≤◌, Option, Some, None, IsSome, IfSome}
 use Rattle.hb_frag.specs.declared.pages.LivePage.{LivePage}
 use Rattle.hb_frag.specs.declared.pages.Page.{Page}
 use Rattle.hb_frag.specs.declared.pages.Page.TheVariants.{Live, Free}
 use Rattle.hb_ops.specs.Files.{page_of}
 use Rattle.hb_activity.specs.declared.wanting.Wanted.{Wanted}
 use Rattle.hb_store.specs.Calls.{KeepsAllButFrames}
-use Rattle.hb_store.specs.Keeps.{StoreState}
+use Rattle.hb_store.specs.Keeps.{IsGoodPage, StoreState}
 use Rattle.hb_store.specs.Stops.{IsNoPage}
 use Rattle.hb_store.specs.declared.stops.Why.{Why}
 use Rattle.hb_store.specs.declared.stops.Why.TheVariants.{Rule, Level, Extent}
 use Rattle.hb_core.specs.Machines.{Files, file_of}
 use Rattle.hb_core.specs.Asking.{AskedBox, IsNotAsked}
 
--- Pages came into memory, of these numbers at most: what was there stays, and where the disk tells, what came is the
--- file's. Else nothing changed.
+-- Pages came into memory, of these numbers at most: what was there stays, and what came is of the file and keeps the rules
+-- that speak of a page alone; where the disk tells, it is what the file has there. Else nothing changed.
 pub record Brings (files : Option Files) (may : ℕ → Type 0) (old new : StoreState) : Type 0 where
   pub rest : KeepsAllButFrames old new
   pub stays : (id : ℕ) → IsSome (old.frame id) → new.frame id ≡ old.frame id
   pub only : (id : ℕ) → old.frame id ≡ None → IsSome (new.frame id) → may id
+  pub good : (id : ℕ) (page : Page) → old.frame id ≡ None → new.frame id ≡ Some page → (1 ≤ id) × (id ≤ old.meta.high) × IsGoodPage old.meta page
   pub told : (id : ℕ) (page : Page) → old.frame id ≡ None → new.frame id ≡ Some page → IfSome files (λ files. page_of (file_of files) id ≡ Some page)
 
--- The numbers that a step may need: of the page that it wants, and, where it takes a number for a page that it makes, of
--- the first page of the free chain.
+-- What a step may need: the page that it wants, and, where it takes a number for a page that it makes, the first page of
+-- the free chain.
 abbrev pub IsWantedPage : Option Wanted → ℕ → Type 0
 IsWantedPage None id = ⊥
 IsWantedPage (Some wanted) id = id ≡ wanted.page
 
 abbrev pub IsFreeHead : StoreState → ℕ → Type 0
 IsFreeHead st id = (id ≡ st.meta.free) × (id ≢ 0)
-
-abbrev pub MayNeed : Option Wanted → StoreState → ℕ → Type 0
-MayNeed wanted st id = IsWantedPage wanted id ⊎ IsFreeHead st id
-
--- one of them isn't in memory
-abbrev pub LacksPage : Option Wanted → StoreState → Type 0
-LacksPage wanted st = (id : ℕ) × MayNeed wanted st id × (st.frame id ≡ None)
 
 -- The wanted page is damaged: no page of the file has its number; or what the disk read as is no page or breaks a rule by
 -- itself, which only a disk does that doesn't tell; or it isn't the page that was asked for.

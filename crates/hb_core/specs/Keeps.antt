@@ -22,6 +22,7 @@ use Rattle.hb_latch.specs.Tables.{AreCompatible, MayLatch, mode_at}
 use Rattle.hb_activity.specs.declared.activities.Activity.TheVariants as at
 use Rattle.hb_activity.specs.declared.jobs.Job.{Job}
 use Rattle.hb_activity.specs.Walks.{walk_held, walk_point}
+use Rattle.hb_store.specs.Keeps.{IsGoodPage}
 use Rattle.hb_core.specs.Machines.{Files, Machine, file_of, live_here, settled_count}
 use Rattle.hb_core.specs.Performing.{latches_held, mode_among}
 use Rattle.hb_core.specs.WorkerRows.{LeadsBelow}
@@ -35,9 +36,9 @@ pub record HasSoundFile (m : Machine) (files : Files) : Type 0 where
   pub meta : (file_of files).meta ≡ m.store.meta
   pub shown : (id : ℕ) (page : Page) → m.store.frame id ≡ Some page → page_of (file_of files) id ≡ Some page
 
--- Every page in memory is one of the file. So it is over every disk.
+-- Every page in memory is one of the file, and keeps the rules that speak of a page alone. So it is over every disk.
 abbrev pub HoldsPagesOfFile : Machine → Type 0
-HoldsPagesOfFile m = (id : ℕ) (page : Page) → m.store.frame id ≡ Some page → (1 ≤ id) × (id ≤ m.store.meta.high)
+HoldsPagesOfFile m = (id : ℕ) (page : Page) → m.store.frame id ≡ Some page → (1 ≤ id) × (id ≤ m.store.meta.high) × IsGoodPage m.store.meta page
 
 -- Each actor holds the latches of its activity and no other, on pages in use; and latches of different actors on one page
 -- go beside each other.

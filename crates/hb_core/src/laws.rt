@@ -7,7 +7,6 @@ use hb_sound::laws::{a_level_parts_the_space, a_walk_ends_at_the_responsible_pag
 
 /// A step changes no page in use but those that its actor has for itself: it holds them exclusively, or
 /// its step wants that latch and nobody is in the way. So what another actor holds stays as it was.
-#[tactic(auto, using(crate::proofs::OwnPages::own_pages_change, crate::proofs::OwnPages::held_pages_stay))]
 pub fn a_step_changes_its_own_pages()
     ensures own { OwnPagesChange }
     ensures held { HeldPagesStay }
