@@ -3,3 +3,4 @@ pub mod OwnedOps
 pub mod OwnPages
 pub mod Ways
 pub mod OnePlace
+pub mod Backing

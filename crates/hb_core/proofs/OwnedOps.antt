@@ -60,8 +60,8 @@ like : (m : Machine) (actor id other : ℕ) → id ≡ other → IsFreeFor m act
 like m actor id other is free = subst (IsFreeFor m actor) (sym is) free
 
 -- the page that is made was in no use
-pub made_is_free : (m : Machine) (may : ℕ → Type 0) (fetched : StoreState) (actor fresh free_after : ℕ) → HoldsPagesOfFile m → Brings m.files may m.store fetched → IsNext fetched fresh free_after → IsFreeFor m actor fresh
-made_is_free m may fetched actor fresh free_after inside brings next = inr (elim (cases_Bool (fetched.meta.free == 0)) [
+pub made_was_free : (m : Machine) (may : ℕ → Type 0) (fetched : StoreState) (fresh free_after : ℕ) → HoldsPagesOfFile m → Brings m.files may m.store fetched → IsNext fetched fresh free_after → (page : LivePage) → IsInUse m fresh page → ⊥
+made_was_free m may fetched fresh free_after inside brings next = elim (cases_Bool (fetched.meta.free == 0)) [
   | inl none ↦ λ page used.
       let behind = next.from_behind (eqb-true fetched.meta.free 0 none) in
       let within = inside fresh (Live page) used in
@@ -72,10 +72,13 @@ made_is_free m may fetched actor fresh free_after inside brings next = inr (elim
       let there : IsSome (m.store.frame fresh) = subst (λ (o : Option Page). IsSome o) (sym used) refl in
       let same : fetched.frame fresh ≡ m.store.frame fresh = brings.stays fresh there in
       free_is_not_live free_after page (sym head.1 ∙ same ∙ used)
-])
+]
   where
     free_is_not_live : (next : ℕ) (page : LivePage) → Some (Free next) ≡ Some (Live page) → ⊥
     free_is_not_live next page is = cc
+
+made_is_free : (m : Machine) (may : ℕ → Type 0) (fetched : StoreState) (actor fresh free_after : ℕ) → HoldsPagesOfFile m → Brings m.files may m.store fetched → IsNext fetched fresh free_after → IsFreeFor m actor fresh
+made_is_free m may fetched actor fresh free_after inside brings next = inr (made_was_free m may fetched fresh free_after inside brings next)
 
 -- what an actor holds exclusively
 pub held_alone : (m : Machine) (actor id : ℕ) → MayLatch actor → LatchesFit m → mode_among id (latches_held m.store (m.activity actor)) ≡ Some Exclusive → IsFreeFor m actor id
@@ -95,7 +98,7 @@ held_by m actor id activity may fit is mode = held_alone m actor id may fit (sub
 
 -- ---- a walk of an insert or a delete at a page of records
 
-in_its_mode : (mode : ℕ → Mode) (next : Option (ℕ × ℕ)) (wanted : Wanted) → in_mode mode next ≡ Some wanted → wanted.mode ≡ mode wanted.level
+pub in_its_mode : (mode : ℕ → Mode) (next : Option (ℕ × ℕ)) (wanted : Wanted) → in_mode mode next ≡ Some wanted → wanted.mode ≡ mode wanted.level
 in_its_mode mode None wanted is = cc
 in_its_mode mode (Some (page, level)) wanted is =
     let same : wanted_page page level (mode level) ≡ wanted = cc in

@@ -18,6 +18,8 @@ use Rattle.hb_set.specs.declared.commands.Command.TheVariants.{Insert}
 use Rattle.hb_set.specs.declared.commands.Reply.{Reply}
 use Rattle.hb_set.specs.declared.commands.Reply.TheVariants as replies
 use Rattle.hb_set.specs.declared.scripts.Answered.{Answered}
+use Rattle.hb_frag.specs.declared.pages.Page.TheVariants.{Live}
+use Rattle.hb_latch.specs.declared.modes.Mode.{Mode}
 use Rattle.hb_latch.specs.Tables.{AreCompatible, MayLatch, mode_at}
 use Rattle.hb_activity.specs.declared.activities.Activity.TheVariants as at
 use Rattle.hb_activity.specs.declared.jobs.Job.{Job}
@@ -45,7 +47,8 @@ HoldsPagesOfFile m = (id : ℕ) (page : Page) → m.store.frame id ≡ Some page
 pub record LatchesFit (m : Machine) : Type 0 where
   pub compatible : AreCompatible m.latches
   pub exact : (actor page : ℕ) → MayLatch actor → mode_at m.latches actor page ≡ mode_among page (latches_held m.store (m.activity actor))
-  pub walking : (actor held : ℕ) → walk_held (m.activity actor) ≡ Some held → (page : LivePage) × (live_here m.store held ≡ Some page)
+  pub used : (actor page : ℕ) (mode : Mode) → mode_at m.latches actor page ≡ Some mode → (live : LivePage) × (m.store.frame page ≡ Some (Live live))
+  pub walking : (actor held : ℕ) → walk_held (m.activity actor) ≡ Some held → (live : LivePage) × (m.store.frame held ≡ Some (Live live))
 
 -- The page that a walk holds has the walk's point in its box. The parent that a poster holds is of the job's level, and
 -- has a child leaf at the job's point.

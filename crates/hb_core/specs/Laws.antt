@@ -42,6 +42,10 @@ abbrev pub HeldPagesStay : Type 0
 HeldPagesStay = (m : Machine) (actor : ℕ) (outcome : Outcome) (new : Machine) → MayLatch actor → LatchesFit m → HoldsPagesOfFile m → StepsTo m actor outcome new →
     (other id : ℕ) (mode : Mode) (page : LivePage) → other ≢ actor → mode_at m.latches other id ≡ Some mode → IsInUse m id page → IsInUse new id page
 
+-- After a step each actor holds the latches of its activity, on pages in use, and latches on one page go beside each other.
+abbrev pub LatchesStayFit : Type 0
+LatchesStayFit = (m : Machine) (actor : ℕ) (outcome : Outcome) (new : Machine) → MayLatch actor → LatchesFit m → HoldsPagesOfFile m → StepsTo m actor outcome new → LatchesFit new
+
 -- No other actor stands elsewhere after a step, or has other latches.
 abbrev pub OthersStay : Type 0
 OthersStay = (m : Machine) (actor : ℕ) (outcome : Outcome) (new : Machine) → StepsTo m actor outcome new →

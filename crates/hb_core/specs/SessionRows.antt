@@ -65,6 +65,7 @@ pub record Inserts (m : Machine) (line : Line) (rec : Record) (id : ℕ) (page :
   pub deed_is : deed ≡ takes_effect m line replies.Done (Some (Put id rec)) []
 
 pub record FindsNoRoom (m : Machine) (line : Line) (rec : Record) (id : ℕ) (page : LivePage) (deed : Deed) : Type 0 where
+  pub level : page.level ≡ 0
   pub absent : StandsNot page rec.key
   pub full : m.store.meta.dcap < weight_of (put_page rec page).frag
   pub deed_is : deed ≡ goes_on m (SessionSplit line id) []
