@@ -1,6 +1,6 @@
 -- Where the latches of an activity come from: each was held before, or is the one that the step wanted, or is on a page that
 -- was in no use. And each is on a page in use.
-use Rattle.std.proofs.Common.{◌≡◌, ◌≢◌, ◌⊎◌, inl, inr, ℕ, ◌==◌, ◌&&◌, Bool, true, false, cond, List, [], ◌∷◌, Option, Some, None, IsSome, IfSome, IsTrue, option_map, refl, sym, ap, ◌∙◌, subst}
+use Rattle.std.proofs.Common.{◌≡◌, ◌≢◌, ◌⊎◌, inl, inr, ℕ, ◌==◌, ◌&&◌, Bool, true, false, cond, List, [], ◌∷◌, length, Option, Some, None, IsSome, IfSome, IsTrue, option_map, refl, sym, ap, ◌∙◌, subst}
 use Rattle.std.specs.Prelude.{MatchOption}
 use Rattle.std.proofs.lemmas.Bool.{cases_Bool, eq-eqb, eqb-true}
 use Rattle.hb_space.specs.Boxes.{Area}
@@ -198,3 +198,133 @@ module _ (m : Machine) (actor : ℕ) (may : ℕ → Type 0) (fetched : StoreStat
         parent_alone parent (Some page) wanted is =
             let same : wanted_page parent page.level Exclusive ≡ wanted = cc in
             (ap (λ (w : Wanted). w.page) (sym same), ap (λ (w : Wanted). w.mode) (sym same))
+
+  -- where nothing is done, the memory is what was fetched
+  nothing_done : (deed other : Deed) → deed ≡ other → other.op ≡ None → MayDo deed.op (length m.order) fetched new → new ≡ fetched
+  nothing_done deed other is none done = by (ap (λ (d : Deed). d.op) is ∙ none)
+    where
+      by : deed.op ≡ None → new ≡ fetched
+      by so = subst (λ (o : Option Op). MayDo o (length m.order) fetched new) so done
+
+  -- ---- a walk
+
+  backed_search : (line : Line) (boxes : List Area) (found : List Record) (deed : Deed) → SearchGoesOn m' line boxes found deed → Backed deed
+  backed_search line [] found deed (ordered, same, rising, is) = backed_deed deed _ is holds_nothing
+  backed_search line (area ∷ boxes) found deed is = backed_deed deed _ is holds_nothing
+
+  backed_there : (wanted : Wanted) (page : LivePage) (line : Line) (held : Option ℕ) (command : Command) (rest : List Area) (found : List Record) (p : List ℕ) (deed : Deed) → wanted_by m actor ≡ Some wanted → if_live (fetched.frame wanted.page) ≡ Some page
+      → page.level ≡ wanted.level → m.activity actor ≡ at.SessionWalk line held rest found → line.command ≡ command → MayDo deed.op (length m.order) fetched new → DoesThere m' line command rest found wanted.page page p deed → Backed deed
+  backed_there wanted page line held (Insert rec) rest found p deed wants live level is command done (inl row) = backed_deed deed _ row.deed_is holds_nothing
+  backed_there wanted page line held (Insert rec) rest found p deed wants live level is command done (inr (inl row)) = backed_deed deed _ row.deed_is holds_nothing
+  backed_there wanted page line held (Insert rec) rest found p deed wants live level is command done (inr (inr row)) =
+      backed_deed deed _ row.deed_is (insert_waits wanted page wants live level (nothing_done deed _ row.deed_is refl done) line rec held rest found is command row.level)
+  backed_there wanted page line held (Delete point) rest found p deed wants live level is command done (inl row) = backed_deed deed _ row.deed_is holds_nothing
+  backed_there wanted page line held (Delete point) rest found p deed wants live level is command done (inr row) = backed_deed deed _ row.deed_is holds_nothing
+  backed_there wanted page line held (Lookup point) rest found p deed wants live level is command done (inl row) = backed_deed deed _ row.deed_is holds_nothing
+  backed_there wanted page line held (Lookup point) rest found p deed wants live level is command done (inr row) = backed_deed deed _ row.deed_is holds_nothing
+  backed_there wanted page line held (Search area) rest found p deed wants live level is command done row = backed_search line _ _ deed row.goes
+
+  backed_walk : (wanted : Wanted) (page : LivePage) (line : Line) (held : Option ℕ) (rest : List Area) (found : List Record) (goal : Option (List ℕ)) (deed : Deed) → wanted_by m actor ≡ Some wanted → if_live (fetched.frame wanted.page) ≡ Some page
+      → page.level ≡ wanted.level → m.activity actor ≡ at.SessionWalk line held rest found → MayDo deed.op (length m.order) fetched new
+      → MatchOption goal ⊥ (λ p. PassesOn page p m' (at.SessionWalk line (Some wanted.page) rest found) deed ⊎ DoesThere m' line line.command rest found wanted.page page p deed) → Backed deed
+  backed_walk wanted page line held rest found None deed wants live level is done row = absurd row
+  backed_walk wanted page line held rest found (Some p) deed wants live level is done (inl row) =
+      backed_deed deed _ row.deed_is (session_goes_on wanted page wants live level (nothing_done deed _ row.deed_is refl done) line held rest rest found found is)
+  backed_walk wanted page line held rest found (Some p) deed wants live level is done (inr row) = backed_there wanted page line held line.command rest found p deed wants live level is refl done row
+
+  -- ---- the poster
+
+  parent_stays : (job : Job) (parent : ℕ) → m.activity actor ≡ at.PosterChild job parent → new ≡ fetched → AreBacked m actor new (latch_on parent Update ∷ [])
+  parent_stays job parent is none = one_backed m actor new parent Update (held_backed parent Update none (own_mode (at.PosterChild job parent) parent Update is (same_first parent Update)))
+
+  backed_look : (job : Job) (parent : ℕ) (plan : PostPlan) (deed : Deed) → m.activity actor ≡ at.PosterChild job parent → MayDo deed.op (length m.order) fetched new → deed ≡ after_look m' job parent plan → Backed deed
+  backed_look job parent plans.Nothing deed is done row = backed_deed deed _ row holds_nothing
+  backed_look job parent (plans.Post way inner area) deed is done row = backed_deed deed _ row (parent_stays job parent is (nothing_done deed _ row refl done))
+  backed_look job parent plans.SplitFirst deed is done row = backed_deed deed _ row (parent_stays job parent is (nothing_done deed _ row refl done))
+
+  backed_again : (job : Job) (parent : ℕ) (page : LivePage) (plan : PostPlan) (deed : Deed) → DoesPlan m' job parent page plan deed → Backed deed
+  backed_again job parent page plans.Nothing deed row = backed_deed deed _ row holds_nothing
+  backed_again job parent page (plans.Post way inner area) deed row = backed_deed deed _ row holds_nothing
+  backed_again job parent page plans.SplitFirst deed (inl row) = backed_deed deed _ row.deed_is holds_nothing
+  backed_again job parent page plans.SplitFirst deed (inr row) = backed_deed deed _ row.deed_is holds_nothing
+
+  -- ---- both halves of a split
+
+  module _ (line : Line) (held : ℕ) (deed : Deed) (is : m.activity actor ≡ at.SessionSplit line held) (row : Splits m' line held deed) (done : MayDo deed.op (length m.order) fetched new) where
+    abbrev split : Op
+    split = ops.Extract held row.leaves.fresh row.leaves.path row.leaves.cuts row.leaves.free_after
+
+    does : DoesOp split (length m.order) fetched new
+    does = subst (λ (d : Deed). MayDo d.op (length m.order) fetched new) row.deed_is done
+
+    abbrev changed : List (ℕ × Page)
+    changed = (held, Live (source_page row.leaves.fresh row.leaves.path row.leaves.cuts row.page row.leaves.part)) ∷ (row.leaves.fresh, Live (fresh_page row.leaves.cuts row.page row.leaves.part)) ∷ []
+
+    changed_are : (change_here fetched split).pages ≡ changed
+    changed_are =
+        ap (λ (o : Option LivePage). (change_of split fetched.meta o (framed_read fetched split 1) (framed_read fetched split 2)).pages) row.live
+        ∙ ap (λ (o : Option (Tree × Area)). split_pages held row.leaves.fresh row.leaves.path row.leaves.cuts row.page o) row.leaves.there
+
+    frame_is : (id : ℕ) → new.frame id ≡ set_pages changed fetched.frame id
+    frame_is id = does.commits.frame id ∙ ap (λ (pages : List (ℕ × Page)). set_pages pages fetched.frame id) changed_are
+
+    backed_split : Backed deed
+    backed_split =
+        let used = split_in_use held row.leaves.fresh (source_page row.leaves.fresh row.leaves.path row.leaves.cuts row.page row.leaves.part) (fresh_page row.leaves.cuts row.page row.leaves.part) fetched.frame in
+        backed_deed deed _ row.deed_is (two_backed m actor new held row.leaves.fresh
+            (record { from = inl (own_mode (at.SessionSplit line held) held Exclusive is (same_first held Exclusive)); live = used.0.0; there = frame_is held ∙ used.0.1 })
+            (record { from = inr (inr (made_was_free m may fetched row.leaves.fresh row.leaves.free_after inside brings row.leaves.next)); live = used.1.0; there = frame_is row.leaves.fresh ∙ used.1.1 }))
+
+  -- ---- every row
+
+  backed_alone : (activity : Activity) (deed : Deed) → m.activity actor ≡ activity → MayDo deed.op (length m.order) fetched new → RowAlone activity m' deed → Backed deed
+  backed_alone (at.SessionSplit line held) deed is done (inl row) = backed_deed deed _ row.deed_is holds_nothing
+  backed_alone (at.SessionSplit line held) deed is done (inr row) = backed_split line held deed is row done
+  backed_alone (at.SessionPut line source fresh) deed is done row = backed_deed deed _ row.deed_is holds_nothing
+  backed_alone at.SessionIdle deed is done row = absurd row
+  backed_alone (at.SessionWalk line held rest found) deed is done row = absurd row
+  backed_alone (at.SessionAwait line reply place) deed is done row = absurd row
+  backed_alone at.PosterIdle deed is done row = absurd row
+  backed_alone (at.PosterGrow job) deed is done row = absurd row
+  backed_alone (at.PosterWalk job held) deed is done row = absurd row
+  backed_alone (at.PosterChild job parent) deed is done row = absurd row
+  backed_alone (at.PosterPromote job parent) deed is done row = absurd row
+  backed_alone (at.PosterAgain job parent) deed is done row = absurd row
+  backed_alone at.ConsolidatorIdle deed is done row = absurd row
+  backed_alone (at.ConsolidatorWalk job held) deed is done row = absurd row
+  backed_alone (at.ConsolidatorScan job parent child) deed is done row = absurd row
+  backed_alone (at.ConsolidatorTry job parent keep gone leaf) deed is done row = absurd row
+  backed_alone (at.ConsolidatorPromote job parent keep gone) deed is done row = absurd row
+  backed_alone (at.ConsolidatorKeep job parent keep gone) deed is done row = absurd row
+  backed_alone (at.ConsolidatorDecide job parent keep gone) deed is done row = absurd row
+  backed_alone at.Flusher deed is done row = absurd row
+
+  backed_at : (activity : Activity) (wanted : Wanted) (page : LivePage) (deed : Deed) → m.activity actor ≡ activity → wanted_by m actor ≡ Some wanted → if_live (fetched.frame wanted.page) ≡ Some page → page.level ≡ wanted.level → MayDo deed.op (length m.order) fetched new
+      → RowAt activity m' wanted.page page deed → Backed deed
+  backed_at (at.SessionWalk line held rest found) wanted page deed is wants live level done row = backed_walk wanted page line held rest found (goal_of line.command rest) deed wants live level is done row
+  backed_at (at.PosterGrow job) wanted page deed is wants live level done (inl row) = backed_deed deed _ row.deed_is holds_nothing
+  backed_at (at.PosterGrow job) wanted page deed is wants live level done (inr row) = backed_deed deed _ row.deed_is holds_nothing
+  backed_at (at.PosterWalk job held) wanted page deed is wants live level done (inl row) =
+      backed_deed deed _ row.deed_is (poster_arrives wanted page wants live level (nothing_done deed _ row.deed_is refl done) job held is row.level)
+  backed_at (at.PosterWalk job held) wanted page deed is wants live level done (inr row) =
+      backed_deed deed _ row.passes.deed_is (poster_goes_on wanted page wants live level (nothing_done deed _ row.passes.deed_is refl done) job held is)
+  backed_at (at.PosterChild job parent) wanted page deed is wants live level done row = backed_look job parent row.plan deed is done row.deed_is
+  backed_at (at.PosterPromote job parent) wanted page deed is wants live level done row = backed_deed deed _ row (promoted wanted page wants live level (nothing_done deed _ row refl done) job parent is)
+  backed_at (at.PosterAgain job parent) wanted page deed is wants live level done row = backed_again job parent row.page row.plan deed row.does_it
+  backed_at at.SessionIdle wanted page deed is wants live level done row = absurd row
+  backed_at (at.SessionSplit line held) wanted page deed is wants live level done row = absurd row
+  backed_at (at.SessionPut line source fresh) wanted page deed is wants live level done row = absurd row
+  backed_at (at.SessionAwait line reply place) wanted page deed is wants live level done row = absurd row
+  backed_at at.PosterIdle wanted page deed is wants live level done row = absurd row
+  backed_at at.ConsolidatorIdle wanted page deed is wants live level done row = absurd row
+  backed_at (at.ConsolidatorWalk job held) wanted page deed is wants live level done row = absurd row
+  backed_at (at.ConsolidatorScan job parent child) wanted page deed is wants live level done row = absurd row
+  backed_at (at.ConsolidatorTry job parent keep gone leaf) wanted page deed is wants live level done row = absurd row
+  backed_at (at.ConsolidatorPromote job parent keep gone) wanted page deed is wants live level done row = absurd row
+  backed_at (at.ConsolidatorKeep job parent keep gone) wanted page deed is wants live level done row = absurd row
+  backed_at (at.ConsolidatorDecide job parent keep gone) wanted page deed is wants live level done row = absurd row
+  backed_at at.Flusher wanted page deed is wants live level done row = absurd row
+
+  pub backed_row : (wanted : Option Wanted) (deed : Deed) → wanted_by m actor ≡ wanted → MayDo deed.op (length m.order) fetched new → Row (m.activity actor) wanted m' deed → Backed deed
+  backed_row None deed wants done row = backed_alone (m.activity actor) deed refl done row
+  backed_row (Some wanted) deed wants done (page, hand, row) = backed_at (m.activity actor) wanted page deed refl wants hand.live hand.level done row
