@@ -102,6 +102,31 @@ live_frame (Some (Free next)) page is = cc
 walk_backed : (m : Machine) (actor : ℕ) (st : StoreState) (id : ℕ) (page : LivePage) (mode : ℕ → Mode) → if_live (st.frame id) ≡ Some page → IsBacked m actor st id (mode page.level) → AreBacked m actor st (walk_latch (Some id) (if_live (st.frame id)) mode)
 walk_backed m actor st id page mode live backed = subst (λ (o : Option LivePage). AreBacked m actor st (walk_latch (Some id) o mode)) (sym live) (one_backed m actor st id (mode page.level) backed)
 
+-- An activity whose latches are backed, and whose walk holds a page in use.
+pub record BackedIn (m : Machine) (actor : ℕ) (st : StoreState) (activity : Activity) : Type 0 where
+  pub latches : AreBacked m actor st (latches_held st activity)
+  pub walk : (held : ℕ) → walk_held activity ≡ Some held → (live : LivePage) × (st.frame held ≡ Some (Live live))
+
+-- an activity that doesn't walk, or not yet; and one that holds nothing
+stands : (m : Machine) (actor : ℕ) (st : StoreState) (activity : Activity) → walk_held activity ≡ None → AreBacked m actor st (latches_held st activity) → BackedIn m actor st activity
+stands m actor st activity none backed = record { latches = backed; walk = λ held some. absurd (nowhere held (sym none ∙ some)) }
+  where
+    nowhere : (held : ℕ) → None ≡ Some held → ⊥
+    nowhere held is = cc
+
+pub rests : (m : Machine) (actor : ℕ) (st : StoreState) (activity : Activity) → walk_held activity ≡ None → latches_held st activity ≡ [] → BackedIn m actor st activity
+rests m actor st activity none nothing = stands m actor st activity none (subst (AreBacked m actor st) (sym nothing) (none_backed m actor st))
+
+-- a walk that holds a page in use
+goes : (m : Machine) (actor : ℕ) (st : StoreState) (activity : Activity) (id : ℕ) (page : LivePage) → walk_held activity ≡ Some id → st.frame id ≡ Some (Live page) → AreBacked m actor st (latches_held st activity) → BackedIn m actor st activity
+goes m actor st activity id page at_id there backed = record {
+  latches = backed;
+  walk = λ held some. (page, ap st.frame (sym (some_is held id (sym at_id ∙ some))) ∙ there);
+}
+  where
+    some_is : (held id : ℕ) → Some id ≡ Some held → id ≡ held
+    some_is held id is = cc
+
 -- ---- the pages of a split are in use
 
 split_in_use : (source fresh : ℕ) (a b : LivePage) (frame : ℕ → Option Page) → ((live : LivePage) × (set_pages ((source, Live a) ∷ (fresh, Live b) ∷ []) frame source ≡ Some (Live live))) × ((live : LivePage) × (set_pages ((source, Live a) ∷ (fresh, Live b) ∷ []) frame fresh ≡ Some (Live live)))
@@ -119,18 +144,11 @@ module _ (m : Machine) (actor : ℕ) (may : ℕ → Type 0) (fetched : StoreStat
   abbrev pub m' : Machine
   m' = with_disk fetched m.files m.clock m
 
-  -- an activity whose latches are backed
-  Backs : Activity → Type 0
-  Backs activity = AreBacked m actor new (latches_held new activity)
-
   abbrev pub Backed : Deed → Type 0
-  Backed deed = AreBacked m actor new (latches_held new deed.next)
+  Backed deed = BackedIn m actor new deed.next
 
   backed_deed : (deed other : Deed) → deed ≡ other → Backed other → Backed deed
-  backed_deed deed other is backed = subst (λ (d : Deed). AreBacked m actor new (latches_held new d.next)) (sym is) backed
-
-  holds_nothing : AreBacked m actor new []
-  holds_nothing = none_backed m actor new
+  backed_deed deed other is backed = subst (λ (d : Deed). BackedIn m actor new d.next) (sym is) backed
 
   -- what was held stays in use where nothing is done
   held_backed : (page : ℕ) (mode : Mode) → new ≡ fetched → mode_at m.latches actor page ≡ Some mode → IsBacked m actor new page mode
@@ -150,11 +168,14 @@ module _ (m : Machine) (actor : ℕ) (may : ℕ → Type 0) (fetched : StoreStat
     live_now : if_live (new.frame wanted.page) ≡ Some page
     live_now = ap (λ (st : StoreState). if_live (st.frame wanted.page)) none ∙ live
 
+    there_now : new.frame wanted.page ≡ Some (Live page)
+    there_now = live_frame (new.frame wanted.page) page live_now
+
     at_hand : (mode : Mode) → wanted.mode ≡ mode → IsBacked m actor new wanted.page mode
     at_hand mode is = record {
       from = inr (inl (record { wanted = wanted; wants = wants; page_is = refl; mode_is = is; free = free }));
       live = page;
-      there = live_frame (new.frame wanted.page) page live_now;
+      there = there_now;
     }
 
     session_wants : (line : Line) (held : Option ℕ) (rest : List Area) (found : List Record) → m.activity actor ≡ at.SessionWalk line held rest found → wanted.mode ≡ session_mode line.command page.level
@@ -169,29 +190,29 @@ module _ (m : Machine) (actor : ℕ) (may : ℕ → Type 0) (fetched : StoreStat
         let so : wanted_of walk m.store.meta (looked_live m.store walk) ≡ Some wanted = subst (λ (a : Activity). wanted_of a m.store.meta (looked_live m.store a) ≡ Some wanted) is wants in
         in_its_mode (job_mode job) (walk_next (Some job.point) held m.store.meta (looked_live m.store walk)) wanted so ∙ ap (job_mode job) (sym level)
 
-    session_goes_on : (line : Line) (held : Option ℕ) (rest others : List Area) (found more : List Record) → m.activity actor ≡ at.SessionWalk line held rest found → AreBacked m actor new (latches_held new (at.SessionWalk line (Some wanted.page) others more))
+    session_goes_on : (line : Line) (held : Option ℕ) (rest others : List Area) (found more : List Record) → m.activity actor ≡ at.SessionWalk line held rest found → BackedIn m actor new (at.SessionWalk line (Some wanted.page) others more)
     session_goes_on line held rest others found more is =
-        walk_backed m actor new wanted.page page (session_mode line.command) live_now (at_hand (session_mode line.command page.level) (session_wants line held rest found is))
+        goes m actor new (at.SessionWalk line (Some wanted.page) others more) wanted.page page refl there_now (walk_backed m actor new wanted.page page (session_mode line.command) live_now (at_hand (session_mode line.command page.level) (session_wants line held rest found is)))
 
-    poster_goes_on : (job : Job) (held : Option ℕ) → m.activity actor ≡ at.PosterWalk job held → AreBacked m actor new (latches_held new (at.PosterWalk job (Some wanted.page)))
-    poster_goes_on job held is = walk_backed m actor new wanted.page page (job_mode job) live_now (at_hand (job_mode job page.level) (poster_wants job held is))
+    poster_goes_on : (job : Job) (held : Option ℕ) → m.activity actor ≡ at.PosterWalk job held → BackedIn m actor new (at.PosterWalk job (Some wanted.page))
+    poster_goes_on job held is = goes m actor new (at.PosterWalk job (Some wanted.page)) wanted.page page refl there_now (walk_backed m actor new wanted.page page (job_mode job) live_now (at_hand (job_mode job page.level) (poster_wants job held is)))
 
-    poster_arrives : (job : Job) (held : Option ℕ) → m.activity actor ≡ at.PosterWalk job held → page.level ≡ job.level → AreBacked m actor new (latches_held new (at.PosterChild job wanted.page))
+    poster_arrives : (job : Job) (held : Option ℕ) → m.activity actor ≡ at.PosterWalk job held → page.level ≡ job.level → BackedIn m actor new (at.PosterChild job wanted.page)
     poster_arrives job held is at_level =
         let mode : wanted.mode ≡ Update = poster_wants job held is ∙ ap (λ (b : Bool). cond b Update Shared) (eq-eqb page.level job.level at_level) in
-        one_backed m actor new wanted.page Update (at_hand Update mode)
+        stands m actor new (at.PosterChild job wanted.page) refl (one_backed m actor new wanted.page Update (at_hand Update mode))
 
-    insert_waits : (line : Line) (rec : Record) (held : Option ℕ) (rest : List Area) (found : List Record) → m.activity actor ≡ at.SessionWalk line held rest found → line.command ≡ Insert rec → page.level ≡ 0 → AreBacked m actor new (latches_held new (at.SessionSplit line wanted.page))
+    insert_waits : (line : Line) (rec : Record) (held : Option ℕ) (rest : List Area) (found : List Record) → m.activity actor ≡ at.SessionWalk line held rest found → line.command ≡ Insert rec → page.level ≡ 0 → BackedIn m actor new (at.SessionSplit line wanted.page)
     insert_waits line rec held rest found is command zero_level =
         let mode : wanted.mode ≡ Exclusive = session_wants line held rest found is ∙ ap (session_mode line.command) zero_level ∙ ap (λ (c : Command). session_mode c 0) command in
-        one_backed m actor new wanted.page Exclusive (at_hand Exclusive mode)
+        stands m actor new (at.SessionSplit line wanted.page) refl (one_backed m actor new wanted.page Exclusive (at_hand Exclusive mode))
 
-    promoted : (job : Job) (parent : ℕ) → m.activity actor ≡ at.PosterPromote job parent → AreBacked m actor new (latches_held new (at.PosterAgain job parent))
+    promoted : (job : Job) (parent : ℕ) → m.activity actor ≡ at.PosterPromote job parent → BackedIn m actor new (at.PosterAgain job parent)
     promoted job parent is =
         let promote : Activity = at.PosterPromote job parent in
         let so : wanted_of promote m.store.meta (looked_live m.store promote) ≡ Some wanted = subst (λ (a : Activity). wanted_of a m.store.meta (looked_live m.store a) ≡ Some wanted) is wants in
         let both = parent_alone parent (looked_live m.store promote) wanted so in
-        subst (λ (n : ℕ). AreBacked m actor new (latch_on n Exclusive ∷ [])) both.0 (one_backed m actor new wanted.page Exclusive (at_hand Exclusive both.1))
+        stands m actor new (at.PosterAgain job parent) refl (subst (λ (n : ℕ). AreBacked m actor new (latch_on n Exclusive ∷ [])) both.0 (one_backed m actor new wanted.page Exclusive (at_hand Exclusive both.1)))
       where
         parent_alone : (parent : ℕ) (o : Option LivePage) (wanted : Wanted) → option_map (λ (page : LivePage). wanted_page parent page.level Exclusive) o ≡ Some wanted → (wanted.page ≡ parent) × (wanted.mode ≡ Exclusive)
         parent_alone parent None wanted is = cc
@@ -209,19 +230,19 @@ module _ (m : Machine) (actor : ℕ) (may : ℕ → Type 0) (fetched : StoreStat
   -- ---- a walk
 
   backed_search : (line : Line) (boxes : List Area) (found : List Record) (deed : Deed) → SearchGoesOn m' line boxes found deed → Backed deed
-  backed_search line [] found deed (ordered, same, rising, is) = backed_deed deed _ is holds_nothing
-  backed_search line (area ∷ boxes) found deed is = backed_deed deed _ is holds_nothing
+  backed_search line [] found deed (ordered, same, rising, is) = backed_deed deed _ is (rests m actor new _ refl refl)
+  backed_search line (area ∷ boxes) found deed is = backed_deed deed _ is (rests m actor new _ refl refl)
 
   backed_there : (wanted : Wanted) (page : LivePage) (line : Line) (held : Option ℕ) (command : Command) (rest : List Area) (found : List Record) (p : List ℕ) (deed : Deed) → wanted_by m actor ≡ Some wanted → if_live (fetched.frame wanted.page) ≡ Some page
       → page.level ≡ wanted.level → m.activity actor ≡ at.SessionWalk line held rest found → line.command ≡ command → MayDo deed.op (length m.order) fetched new → DoesThere m' line command rest found wanted.page page p deed → Backed deed
-  backed_there wanted page line held (Insert rec) rest found p deed wants live level is command done (inl row) = backed_deed deed _ row.deed_is holds_nothing
-  backed_there wanted page line held (Insert rec) rest found p deed wants live level is command done (inr (inl row)) = backed_deed deed _ row.deed_is holds_nothing
+  backed_there wanted page line held (Insert rec) rest found p deed wants live level is command done (inl row) = backed_deed deed _ row.deed_is (rests m actor new _ refl refl)
+  backed_there wanted page line held (Insert rec) rest found p deed wants live level is command done (inr (inl row)) = backed_deed deed _ row.deed_is (rests m actor new _ refl refl)
   backed_there wanted page line held (Insert rec) rest found p deed wants live level is command done (inr (inr row)) =
       backed_deed deed _ row.deed_is (insert_waits wanted page wants live level (nothing_done deed _ row.deed_is refl done) line rec held rest found is command row.level)
-  backed_there wanted page line held (Delete point) rest found p deed wants live level is command done (inl row) = backed_deed deed _ row.deed_is holds_nothing
-  backed_there wanted page line held (Delete point) rest found p deed wants live level is command done (inr row) = backed_deed deed _ row.deed_is holds_nothing
-  backed_there wanted page line held (Lookup point) rest found p deed wants live level is command done (inl row) = backed_deed deed _ row.deed_is holds_nothing
-  backed_there wanted page line held (Lookup point) rest found p deed wants live level is command done (inr row) = backed_deed deed _ row.deed_is holds_nothing
+  backed_there wanted page line held (Delete point) rest found p deed wants live level is command done (inl row) = backed_deed deed _ row.deed_is (rests m actor new _ refl refl)
+  backed_there wanted page line held (Delete point) rest found p deed wants live level is command done (inr row) = backed_deed deed _ row.deed_is (rests m actor new _ refl refl)
+  backed_there wanted page line held (Lookup point) rest found p deed wants live level is command done (inl row) = backed_deed deed _ row.deed_is (rests m actor new _ refl refl)
+  backed_there wanted page line held (Lookup point) rest found p deed wants live level is command done (inr row) = backed_deed deed _ row.deed_is (rests m actor new _ refl refl)
   backed_there wanted page line held (Search area) rest found p deed wants live level is command done row = backed_search line _ _ deed row.goes
 
   backed_walk : (wanted : Wanted) (page : LivePage) (line : Line) (held : Option ℕ) (rest : List Area) (found : List Record) (goal : Option (List ℕ)) (deed : Deed) → wanted_by m actor ≡ Some wanted → if_live (fetched.frame wanted.page) ≡ Some page
@@ -234,19 +255,19 @@ module _ (m : Machine) (actor : ℕ) (may : ℕ → Type 0) (fetched : StoreStat
 
   -- ---- the poster
 
-  parent_stays : (job : Job) (parent : ℕ) → m.activity actor ≡ at.PosterChild job parent → new ≡ fetched → AreBacked m actor new (latch_on parent Update ∷ [])
-  parent_stays job parent is none = one_backed m actor new parent Update (held_backed parent Update none (own_mode (at.PosterChild job parent) parent Update is (same_first parent Update)))
+  parent_stays : (job : Job) (parent : ℕ) → m.activity actor ≡ at.PosterChild job parent → new ≡ fetched → BackedIn m actor new (at.PosterPromote job parent)
+  parent_stays job parent is none = stands m actor new (at.PosterPromote job parent) refl (one_backed m actor new parent Update (held_backed parent Update none (own_mode (at.PosterChild job parent) parent Update is (same_first parent Update))))
 
   backed_look : (job : Job) (parent : ℕ) (plan : PostPlan) (deed : Deed) → m.activity actor ≡ at.PosterChild job parent → MayDo deed.op (length m.order) fetched new → deed ≡ after_look m' job parent plan → Backed deed
-  backed_look job parent plans.Nothing deed is done row = backed_deed deed _ row holds_nothing
+  backed_look job parent plans.Nothing deed is done row = backed_deed deed _ row (rests m actor new _ refl refl)
   backed_look job parent (plans.Post way inner area) deed is done row = backed_deed deed _ row (parent_stays job parent is (nothing_done deed _ row refl done))
   backed_look job parent plans.SplitFirst deed is done row = backed_deed deed _ row (parent_stays job parent is (nothing_done deed _ row refl done))
 
   backed_again : (job : Job) (parent : ℕ) (page : LivePage) (plan : PostPlan) (deed : Deed) → DoesPlan m' job parent page plan deed → Backed deed
-  backed_again job parent page plans.Nothing deed row = backed_deed deed _ row holds_nothing
-  backed_again job parent page (plans.Post way inner area) deed row = backed_deed deed _ row holds_nothing
-  backed_again job parent page plans.SplitFirst deed (inl row) = backed_deed deed _ row.deed_is holds_nothing
-  backed_again job parent page plans.SplitFirst deed (inr row) = backed_deed deed _ row.deed_is holds_nothing
+  backed_again job parent page plans.Nothing deed row = backed_deed deed _ row (rests m actor new _ refl refl)
+  backed_again job parent page (plans.Post way inner area) deed row = backed_deed deed _ row (rests m actor new _ refl refl)
+  backed_again job parent page plans.SplitFirst deed (inl row) = backed_deed deed _ row.deed_is (rests m actor new _ refl refl)
+  backed_again job parent page plans.SplitFirst deed (inr row) = backed_deed deed _ row.deed_is (rests m actor new _ refl refl)
 
   -- ---- both halves of a split
 
@@ -271,16 +292,16 @@ module _ (m : Machine) (actor : ℕ) (may : ℕ → Type 0) (fetched : StoreStat
     backed_split : Backed deed
     backed_split =
         let used = split_in_use held row.leaves.fresh (source_page row.leaves.fresh row.leaves.path row.leaves.cuts row.page row.leaves.part) (fresh_page row.leaves.cuts row.page row.leaves.part) fetched.frame in
-        backed_deed deed _ row.deed_is (two_backed m actor new held row.leaves.fresh
+        backed_deed deed _ row.deed_is (stands m actor new _ refl (two_backed m actor new held row.leaves.fresh
             (record { from = inl (own_mode (at.SessionSplit line held) held Exclusive is (same_first held Exclusive)); live = used.0.0; there = frame_is held ∙ used.0.1 })
-            (record { from = inr (inr (made_was_free m may fetched row.leaves.fresh row.leaves.free_after inside brings row.leaves.next)); live = used.1.0; there = frame_is row.leaves.fresh ∙ used.1.1 }))
+            (record { from = inr (inr (made_was_free m may fetched row.leaves.fresh row.leaves.free_after inside brings row.leaves.next)); live = used.1.0; there = frame_is row.leaves.fresh ∙ used.1.1 })))
 
   -- ---- every row
 
   backed_alone : (activity : Activity) (deed : Deed) → m.activity actor ≡ activity → MayDo deed.op (length m.order) fetched new → RowAlone activity m' deed → Backed deed
-  backed_alone (at.SessionSplit line held) deed is done (inl row) = backed_deed deed _ row.deed_is holds_nothing
+  backed_alone (at.SessionSplit line held) deed is done (inl row) = backed_deed deed _ row.deed_is (rests m actor new _ refl refl)
   backed_alone (at.SessionSplit line held) deed is done (inr row) = backed_split line held deed is row done
-  backed_alone (at.SessionPut line source fresh) deed is done row = backed_deed deed _ row.deed_is holds_nothing
+  backed_alone (at.SessionPut line source fresh) deed is done row = backed_deed deed _ row.deed_is (rests m actor new _ refl refl)
   backed_alone at.SessionIdle deed is done row = absurd row
   backed_alone (at.SessionWalk line held rest found) deed is done row = absurd row
   backed_alone (at.SessionAwait line reply place) deed is done row = absurd row
@@ -302,8 +323,8 @@ module _ (m : Machine) (actor : ℕ) (may : ℕ → Type 0) (fetched : StoreStat
   backed_at : (activity : Activity) (wanted : Wanted) (page : LivePage) (deed : Deed) → m.activity actor ≡ activity → wanted_by m actor ≡ Some wanted → if_live (fetched.frame wanted.page) ≡ Some page → page.level ≡ wanted.level → MayDo deed.op (length m.order) fetched new
       → RowAt activity m' wanted.page page deed → Backed deed
   backed_at (at.SessionWalk line held rest found) wanted page deed is wants live level done row = backed_walk wanted page line held rest found (goal_of line.command rest) deed wants live level is done row
-  backed_at (at.PosterGrow job) wanted page deed is wants live level done (inl row) = backed_deed deed _ row.deed_is holds_nothing
-  backed_at (at.PosterGrow job) wanted page deed is wants live level done (inr row) = backed_deed deed _ row.deed_is holds_nothing
+  backed_at (at.PosterGrow job) wanted page deed is wants live level done (inl row) = backed_deed deed _ row.deed_is (rests m actor new _ refl refl)
+  backed_at (at.PosterGrow job) wanted page deed is wants live level done (inr row) = backed_deed deed _ row.deed_is (rests m actor new _ refl refl)
   backed_at (at.PosterWalk job held) wanted page deed is wants live level done (inl row) =
       backed_deed deed _ row.deed_is (poster_arrives wanted page wants live level (nothing_done deed _ row.deed_is refl done) job held is row.level)
   backed_at (at.PosterWalk job held) wanted page deed is wants live level done (inr row) =

@@ -4,3 +4,4 @@ pub mod OwnPages
 pub mod Ways
 pub mod OnePlace
 pub mod Backing
+pub mod LatchesStay

@@ -1,6 +1,8 @@
 -- Each step does a deed of its actor, or leaves all but the disk as it was.
-use Rattle.std.proofs.Common.{◌≡◌, ◌≢◌, ◌⊎◌, inl, inr, ℕ, ◌==◌, ◌++◌, Bool, cond, List, [], ◌∷◌, Option, Some, None, refl, sym, ap, ◌∙◌, subst, ne_eqb, append-nil}
+use Rattle.std.proofs.Common.{◌≡◌, ◌≢◌, ◌⊎◌, inl, inr, ℕ, ◌==◌, ◌++◌, Bool, cond, List, [], ◌∷◌, Option, Some, None, IsSome, refl, sym, ap, ◌∙◌, subst, ne_eqb, append-nil}
 use Rattle.std.specs.Prelude.{MatchOption}
+use Rattle.hb_frag.specs.declared.pages.Page.{Page}
+use Rattle.hb_core.specs.Fetching.{Brings}
 use Rattle.hb_set.specs.Order.{Entry}
 use Rattle.hb_set.specs.declared.scripts.Line.{Line}
 use Rattle.hb_set.specs.declared.scripts.Answered.{Answered}
@@ -16,12 +18,13 @@ use Rattle.hb_core.specs.Machines.{Machine, if_some, with_activity}
 use Rattle.hb_set.specs.declared.commands.Reply.TheVariants as replies
 use Rattle.hb_core.specs.Deeds.{Deed, answers_now}
 use Rattle.hb_core.specs.Performing.{Performs}
+use Rattle.hb_core.specs.Acting.{MeetsBadPage}
 use Rattle.hb_core.specs.Forcing.{ForcesFirst, StaysSo}
 use Rattle.hb_core.specs.SessionRows.{next_line, taking}
 use Rattle.hb_core.specs.Steps.{Awaits, StepsAs, TakesLine, TakesPosting, WantsBoxes, Works}
 use Rattle.hb_core.specs.Laws.{OrderGrows, OthersStay}
 
--- all but the disk is as it was
+-- All but the disk is as it was, and what was in memory is there.
 pub record KeepsAllButDisk (m new : Machine) : Type 0 where
   pub lines : new.lines ≡ m.lines
   pub answered : new.answered ≡ m.answered
@@ -29,6 +32,7 @@ pub record KeepsAllButDisk (m new : Machine) : Type 0 where
   pub latches : new.latches ≡ m.latches
   pub jobs : new.jobs ≡ m.jobs
   pub order : new.order ≡ m.order
+  pub memory : (id : ℕ) (page : Page) → m.store.frame id ≡ Some page → new.store.frame id ≡ Some page
 
 keeps_by : (m other new : Machine) → new ≡ other → KeepsAllButDisk m other → KeepsAllButDisk m new
 keeps_by m other new is keeps = subst (KeepsAllButDisk m) (sym is) keeps
@@ -37,12 +41,24 @@ abbrev pub HasWay : Machine → ℕ → Outcome → Machine → Type 0
 HasWay m actor outcome new = KeepsAllButDisk m new ⊎ ((fetched : StoreState) × (deed : Deed) × Performs m fetched actor deed outcome new)
 
 module _ (m : Machine) (actor : ℕ) (outcome : Outcome) (new : Machine) where
+  brought : (may : ℕ → Type 0) (fetched : StoreState) → Brings m.files may m.store fetched → (id : ℕ) (page : Page) → m.store.frame id ≡ Some page → fetched.frame id ≡ Some page
+  brought may fetched brings id page there = brings.stays id (subst (λ (o : Option Page). IsSome o) (sym there) refl) ∙ there
+
+  pub stays_so : (said : Outcome) → StaysSo m said outcome new → KeepsAllButDisk m new
+  stays_so said (says, is) = keeps_by m m new is (record { lines = refl; answered = refl; activity = refl; latches = refl; jobs = refl; order = refl; memory = λ id page there. there })
+
+  pub forces_so : (said : Outcome) → ForcesFirst m said outcome new → KeepsAllButDisk m new
+  forces_so said (inl (says, is)) = keeps_by m _ new is (record { lines = refl; answered = refl; activity = refl; latches = refl; jobs = refl; order = refl; memory = λ id page there. there })
+  forces_so said (inr badly) = keeps_by m _ new badly.stops (record { lines = refl; answered = refl; activity = refl; latches = refl; jobs = refl; order = refl; memory = λ id page there. there })
+
+  pub meets_so : MeetsBadPage m actor outcome new → KeepsAllButDisk m new
+  meets_so meets = keeps_by m _ new meets.stops (record { lines = refl; answered = refl; activity = refl; latches = refl; jobs = refl; order = refl; memory = λ id page there. brought _ meets.fetched meets.brings id page there })
+
   same : (said : Outcome) → StaysSo m said outcome new → HasWay m actor outcome new
-  same said (says, is) = inl (keeps_by m m new is (record { lines = refl; answered = refl; activity = refl; latches = refl; jobs = refl; order = refl }))
+  same said so = inl (stays_so said so)
 
   forced : (said : Outcome) → ForcesFirst m said outcome new → HasWay m actor outcome new
-  forced said (inl (says, is)) = inl (keeps_by m _ new is (record { lines = refl; answered = refl; activity = refl; latches = refl; jobs = refl; order = refl }))
-  forced said (inr badly) = inl (keeps_by m _ new badly.stops (record { lines = refl; answered = refl; activity = refl; latches = refl; jobs = refl; order = refl }))
+  forced said force = inl (forces_so said force)
 
   worked : Works m actor outcome new → HasWay m actor outcome new
   worked (inl (by, way, so)) = same (outcomes.Blocked by) so
@@ -50,7 +66,7 @@ module _ (m : Machine) (actor : ℕ) (outcome : Outcome) (new : Machine) where
   worked (inr (inl (free, unready, inr (none, performs)))) = inr (m.store, _, performs)
   worked (inr (inr (free, ready, inl acts))) = inr (acts.fetched, acts.deed, acts.performs)
   worked (inr (inr (free, ready, inr (inl gives)))) = inr (gives.fetched, _, gives.performs)
-  worked (inr (inr (free, ready, inr (inr meets)))) = inl (keeps_by m _ new meets.stops (record { lines = refl; answered = refl; activity = refl; latches = refl; jobs = refl; order = refl }))
+  worked (inr (inr (free, ready, inr (inr meets)))) = inl (meets_so meets)
 
   took_line : (line : Option Line) → MatchOption line (StaysSo m outcomes.Idle outcome new) (λ line. Performs m m.store actor (taking m line) outcome new ⊎ (WantsBoxes line.command × Performs m m.store actor (answers_now m line.number replies.NoMemory) outcome new)) → HasWay m actor outcome new
   took_line None so = same outcomes.Idle so

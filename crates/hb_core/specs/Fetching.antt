@@ -10,7 +10,7 @@ use Rattle.hb_store.specs.Keeps.{IsGoodPage, StoreState}
 use Rattle.hb_store.specs.Stops.{IsNoPage}
 use Rattle.hb_store.specs.declared.stops.Why.{Why}
 use Rattle.hb_store.specs.declared.stops.Why.TheVariants.{Rule, Level, Extent}
-use Rattle.hb_core.specs.Machines.{Files, file_of}
+use Rattle.hb_core.specs.Machines.{Files, current_file}
 use Rattle.hb_core.specs.Asking.{AskedBox, IsNotAsked}
 
 -- Pages came into memory, of these numbers at most: what was there stays, and what came is of the file and keeps the rules
@@ -20,7 +20,7 @@ pub record Brings (files : Option Files) (may : ℕ → Type 0) (old new : Store
   pub stays : (id : ℕ) → IsSome (old.frame id) → new.frame id ≡ old.frame id
   pub only : (id : ℕ) → old.frame id ≡ None → IsSome (new.frame id) → may id
   pub good : (id : ℕ) (page : Page) → old.frame id ≡ None → new.frame id ≡ Some page → (1 ≤ id) × (id ≤ old.meta.high) × IsGoodPage old.meta page
-  pub told : (id : ℕ) (page : Page) → old.frame id ≡ None → new.frame id ≡ Some page → IfSome files (λ files. page_of (file_of files) id ≡ Some page)
+  pub told : (id : ℕ) (page : Page) → old.frame id ≡ None → new.frame id ≡ Some page → IfSome files (λ files. page_of (current_file files) id ≡ Some page)
 
 -- What a step may need: the page that it wants, and, where it takes a number for a page that it makes, the first page of
 -- the free chain.

@@ -25,7 +25,7 @@ use Rattle.hb_activity.specs.declared.activities.Activity.TheVariants as at
 use Rattle.hb_activity.specs.declared.jobs.Job.{Job}
 use Rattle.hb_activity.specs.Walks.{walk_held, walk_point}
 use Rattle.hb_store.specs.Keeps.{IsGoodPage}
-use Rattle.hb_core.specs.Machines.{Files, Machine, file_of, live_here, settled_count}
+use Rattle.hb_core.specs.Machines.{Files, Machine, current_file, live_here, settled_count}
 use Rattle.hb_core.specs.Performing.{latches_held, mode_among}
 use Rattle.hb_core.specs.WorkerRows.{LeadsBelow}
 
@@ -35,8 +35,8 @@ pub record HasSoundFile (m : Machine) (files : Files) : Type 0 where
   pub later : All IsSound files.later
   pub each : length files.later ≡ length m.store.log.groups
   pub layout : IsLayout m.store.meta
-  pub meta : (file_of files).meta ≡ m.store.meta
-  pub shown : (id : ℕ) (page : Page) → m.store.frame id ≡ Some page → page_of (file_of files) id ≡ Some page
+  pub meta : (current_file files).meta ≡ m.store.meta
+  pub shown : (id : ℕ) (page : Page) → m.store.frame id ≡ Some page → page_of (current_file files) id ≡ Some page
 
 -- Every page in memory is one of the file, and keeps the rules that speak of a page alone. So it is over every disk.
 abbrev pub HoldsPagesOfFile : Machine → Type 0
@@ -48,7 +48,7 @@ pub record LatchesFit (m : Machine) : Type 0 where
   pub compatible : AreCompatible m.latches
   pub exact : (actor page : ℕ) → MayLatch actor → mode_at m.latches actor page ≡ mode_among page (latches_held m.store (m.activity actor))
   pub used : (actor page : ℕ) (mode : Mode) → mode_at m.latches actor page ≡ Some mode → (live : LivePage) × (m.store.frame page ≡ Some (Live live))
-  pub walking : (actor held : ℕ) → walk_held (m.activity actor) ≡ Some held → (live : LivePage) × (m.store.frame held ≡ Some (Live live))
+  pub walking : (actor held : ℕ) → MayLatch actor → walk_held (m.activity actor) ≡ Some held → (live : LivePage) × (m.store.frame held ≡ Some (Live live))
 
 -- The page that a walk holds has the walk's point in its box. The parent that a poster holds is of the job's level, and
 -- has a child leaf at the job's point.
@@ -99,7 +99,7 @@ pub record StandsInOrder (m : Machine) (number : ℕ) (reply : Reply) (place : �
 
 pub record HasLegalOrder (n : RecordSet) (m : Machine) (files : Files) : Type 0 where
   pub legal : IsLegalOrder n m.order
-  pub result : result_of n m.order ≡ contents_of (file_of files)
+  pub result : result_of n m.order ≡ contents_of (current_file files)
   pub awaits : (actor number place : ℕ) (reply : Reply) → m.activity actor ≡ at.SessionAwait number reply place → StandsInOrder m number reply place
   pub answers : All (λ (a : Answered). StandsOutside a.reply ⊎ ((place : ℕ) × StandsInOrder m a.line a.reply place)) m.answered
 

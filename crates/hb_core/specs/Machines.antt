@@ -19,8 +19,8 @@ pub record Files : Type 0 where
   pub later : List FileState
 
 -- the file as the steps see it
-abbrev pub file_of : Files → FileState
-file_of files = last_of files.durable files.later
+abbrev pub current_file : Files → FileState
+current_file files = last_of files.durable files.later
 
 pub record Machine : Type 0 where
   -- the command lines of the script

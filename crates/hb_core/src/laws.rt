@@ -1,8 +1,9 @@
 //! What follows of steps from the table alone. Each law is the contract of a function that does
 //! nothing: a caller learns it by the call.
 
-ghost use Rattle.hb_core.specs.Laws.{HeldPagesStay, OrderGrows, OthersStay, OwnPagesChange, PointsHaveOnePage};
+ghost use Rattle.hb_core.specs.Laws.{HeldPagesStay, LatchesStayFit, OrderGrows, OthersStay, OwnPagesChange, PointsHaveOnePage};
 
+use hb_latch::laws::going_beside_is_mutual;
 use hb_sound::laws::{a_level_parts_the_space, a_walk_ends_at_the_responsible_page};
 
 /// A step changes no page in use but those that its actor has for itself: it holds them exclusively, or
@@ -27,4 +28,12 @@ pub fn each_point_has_one_page()
 {
     a_walk_ends_at_the_responsible_page();
     a_level_parts_the_space();
+}
+
+/// After a step each actor holds the latches of its activity and no other, on pages in use, and latches of
+/// different actors on one page go beside each other, where that was so before.
+pub fn latches_stay_fit()
+    ensures { LatchesStayFit }
+{
+    going_beside_is_mutual();
 }
