@@ -4,7 +4,3 @@ use Rattle.std.specs.Prelude.{Bool, false}
 -- Pages are merged: a delete that leaves a page thin gives the consolidator a job.
 abbrev pub pages_are_merged : Bool
 pages_are_merged = false
-
--- The flusher has steps: it forces groups, writes pages to their places and begins turns.
-abbrev pub flusher_steps : Bool
-flusher_steps = false
