@@ -94,7 +94,7 @@ two_backed m actor st first second a b page asked is = elim (cases_Bool (first =
   | inr off ↦ one_backed m actor st second Exclusive b page asked (sym (ap (λ (c : Bool). cond c (Some Exclusive) (mode_among page (latch_on second Exclusive ∷ []))) off) ∙ is)
 ]
 
-live_frame : (o : Option Page) (page : LivePage) → if_live o ≡ Some page → o ≡ Some (Live page)
+pub live_frame : (o : Option Page) (page : LivePage) → if_live o ≡ Some page → o ≡ Some (Live page)
 live_frame None page is = cc
 live_frame (Some (Live q)) page is = cc
 live_frame (Some (Free next)) page is = cc

@@ -30,7 +30,7 @@ use Rattle.hb_core.specs.Performing.{Performs, Relatches, latches_held, mode_amo
 use Rattle.hb_core.specs.Forcing.{ForcesFirst, StaysSo}
 use Rattle.hb_core.specs.GivingUp.{gives_up, runs_out}
 use Rattle.hb_core.specs.SessionRows.{next_line, taking}
-use Rattle.hb_core.specs.Steps.{Awaits, GetsReady, StepsAs, StepsTo, TakesPosting, WantsBoxes, Works}
+use Rattle.hb_core.specs.Steps.{AwaitsPlace, GetsReady, StepsAs, StepsTo, TakesPosting, WantsBoxes, Works}
 use Rattle.hb_core.specs.WorkerRows.{IsPostingOf}
 use Rattle.hb_core.specs.Keeps.{HoldsPagesOfFile, LatchesFit}
 use Rattle.hb_core.specs.Laws.{HeldPagesStay, IsInUse, LatchesStayFit, OwnPagesChange}
@@ -299,7 +299,7 @@ module _ (mutual_modes : (mode other : Mode) → goes_beside mode other ≡ goes
   took_posting (inr (deed, takes, performs)) =
       fits m.store deed performs (subst (λ (d : Deed). BackedIn m actor new.store d.next) (sym takes.deed_is) (job_taken m actor new.store takes.job m.store.meta.height takes.next takes.posting))
 
-  awaited : (number : ℕ) (reply : _) (place : ℕ) → Awaits m actor number reply place outcome new → LatchesFit new
+  awaited : (number : ℕ) (reply : _) (place : ℕ) → AwaitsPlace m actor number reply place outcome new → LatchesFit new
   awaited number reply place (inl (settled, performs)) = rested m.store _ performs refl refl
   awaited number reply place (inr (waits, force)) = kept (forces_so m actor outcome new outcomes.Moved force)
 

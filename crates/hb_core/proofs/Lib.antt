@@ -5,3 +5,4 @@ pub mod Ways
 pub mod OnePlace
 pub mod Backing
 pub mod LatchesStay
+pub mod LaterPages

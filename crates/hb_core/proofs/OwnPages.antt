@@ -33,7 +33,7 @@ use Rattle.hb_core.specs.Performing.{MayDo, Performs}
 use Rattle.hb_core.specs.Forcing.{ForcesFirst, StaysSo}
 use Rattle.hb_core.specs.GivingUp.{gives_up, runs_out}
 use Rattle.hb_core.specs.SessionRows.{next_line, taking}
-use Rattle.hb_core.specs.Steps.{Awaits, GetsReady, StepsAs, StepsTo, TakesLine, TakesPosting, WantsBoxes, Works}
+use Rattle.hb_core.specs.Steps.{AwaitsPlace, GetsReady, StepsAs, StepsTo, TakesNextLine, TakesPosting, WantsBoxes, Works}
 use Rattle.hb_core.specs.Keeps.{HoldsPagesOfFile, LatchesFit}
 use Rattle.hb_core.specs.Laws.{HasAlone, HeldPagesStay, IsInUse, OwnPagesChange, TakesAlone}
 use Rattle.hb_core.proofs.Targets.{IsNumber, numbers_are_targets, set_elsewhere}
@@ -151,7 +151,7 @@ module _ (m : Machine) (actor : ℕ) (latches : MayLatch actor) (fit : LatchesFi
   takes_posting outcome (inl (none, so)) = stays outcomes.Idle outcome so
   takes_posting outcome (inr (deed, takes, performs)) = only_moved deed outcome (ap (λ (d : Deed). d.op) takes.deed_is) performs
 
-  awaited : (number : ℕ) (reply : _) (place : ℕ) (outcome : Outcome) → Awaits m actor number reply place outcome new → Goal
+  awaited : (number : ℕ) (reply : _) (place : ℕ) (outcome : Outcome) → AwaitsPlace m actor number reply place outcome new → Goal
   awaited number reply place outcome (inl (settled, performs)) = only_moved _ outcome refl performs
   awaited number reply place outcome (inr (waits, force)) = forced outcomes.Moved outcome force
 

@@ -37,7 +37,7 @@ use Rattle.hb_core.specs.Performing.{DoesOp, MayDo, latches_held, mode_among}
 use Rattle.hb_core.specs.SearchRows.{Gathers, SearchGoesOn}
 use Rattle.hb_core.specs.SessionRows.{DoesThere, PassesOn}
 use Rattle.hb_core.specs.SplitRows.{HasNoPage, Puts, Splits}
-use Rattle.hb_core.specs.WorkerRows.{Arrives, DoesPlan, Grows, GrowsNot, LooksAgain, LooksAtChild, PosterPasses, after_look}
+use Rattle.hb_core.specs.WorkerRows.{Arrives, DoesPlan, GrowsFile, GrowsNot, LooksAgain, LooksAtChild, PosterPasses, after_look}
 use Rattle.hb_core.specs.Rows.{IsAtHand, Row, RowAlone, RowAt, WalksAt}
 use Rattle.hb_core.specs.Keeps.{HoldsPagesOfFile, LatchesFit}
 use Rattle.hb_core.specs.Laws.{HasAlone, IsInUse, TakesAlone}

@@ -21,7 +21,7 @@ use Rattle.hb_core.specs.Performing.{Performs}
 use Rattle.hb_core.specs.Acting.{MeetsBadPage}
 use Rattle.hb_core.specs.Forcing.{ForcesFirst, StaysSo}
 use Rattle.hb_core.specs.SessionRows.{next_line, taking}
-use Rattle.hb_core.specs.Steps.{Awaits, StepsAs, TakesLine, TakesPosting, WantsBoxes, Works}
+use Rattle.hb_core.specs.Steps.{AwaitsPlace, StepsAs, TakesNextLine, TakesPosting, WantsBoxes, Works}
 use Rattle.hb_core.specs.Laws.{OrderGrows, OthersStay}
 
 -- All but the disk is as it was, and what was in memory is there.
@@ -77,7 +77,7 @@ module _ (m : Machine) (actor : ℕ) (outcome : Outcome) (new : Machine) where
   took_posting (inl (none, so)) = same outcomes.Idle so
   took_posting (inr (deed, takes, performs)) = inr (m.store, deed, performs)
 
-  awaited : (number : ℕ) (reply : _) (place : ℕ) → Awaits m actor number reply place outcome new → HasWay m actor outcome new
+  awaited : (number : ℕ) (reply : _) (place : ℕ) → AwaitsPlace m actor number reply place outcome new → HasWay m actor outcome new
   awaited number reply place (inl (settled, performs)) = inr (m.store, _, performs)
   awaited number reply place (inr (waits, force)) = forced outcomes.Moved force
 

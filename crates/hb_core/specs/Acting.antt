@@ -33,7 +33,7 @@ takes_number (Some (ops.Grow fresh free_after)) = true
 takes_number other = false
 
 -- A step that may be done. Its pages came into memory, the free head only where a number is taken, and its row is done.
-pub record Acts (m : Machine) (actor : ℕ) (outcome : Outcome) (new : Machine) : Type 0 where
+pub record DoesRow (m : Machine) (actor : ℕ) (outcome : Outcome) (new : Machine) : Type 0 where
   pub fetched : StoreState
   pub deed : Deed
   pub brings : Brings m.files (λ id. IsWantedPage (wanted_by m actor) id ⊎ (IsTrue (takes_number deed.op) × IsFreeHead m.store id)) m.store fetched
@@ -56,8 +56,8 @@ abbrev pub MayNeed : Machine → ℕ → StoreState → ℕ → Type 0
 MayNeed m actor fetched id = IsWantedPage (wanted_by m actor) id ⊎ (NeedsNumber (m.activity actor) (wanted_by m actor) (with_disk fetched m.files m.clock m) × IsFreeHead m.store id)
 
 -- one of them isn't in memory
-abbrev pub LacksPage : Machine → ℕ → StoreState → Type 0
-LacksPage m actor fetched = (id : ℕ) × MayNeed m actor fetched id × (fetched.frame id ≡ None)
+abbrev pub LacksNeeded : Machine → ℕ → StoreState → Type 0
+LacksNeeded m actor fetched = (id : ℕ) × MayNeed m actor fetched id × (fetched.frame id ≡ None)
 
 -- Or a page couldn't be read, or memory was refused: the line or the job is given up. A promotion wants neither.
 abbrev pub MayGiveUp : Activity → Type 0
@@ -65,12 +65,12 @@ MayGiveUp (at.PosterPromote job parent) = ⊥
 MayGiveUp (at.ConsolidatorPromote job parent keep gone) = ⊥
 MayGiveUp other = Unit {0}
 
-pub record GivesUp (m : Machine) (actor : ℕ) (outcome : Outcome) (new : Machine) : Type 0 where
+pub record Abandons (m : Machine) (actor : ℕ) (outcome : Outcome) (new : Machine) : Type 0 where
   pub may : MayGiveUp (m.activity actor)
   pub why : DropWhy
   pub fetched : StoreState
   pub brings : Brings m.files (MayNeed m actor fetched) m.store fetched
-  pub unread : why ≡ drops.ReadFault → LacksPage m actor fetched
+  pub unread : why ≡ drops.ReadFault → LacksNeeded m actor fetched
   pub performs : Performs m fetched actor (gives_up m why (m.activity actor)) outcome new
 
 -- Or a page was damaged: the machine is stopped.

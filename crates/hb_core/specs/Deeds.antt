@@ -26,8 +26,8 @@ pub record Deed : Type 0 where
   pub says : Outcome
 
 -- it stands elsewhere, and jobs join the queue
-abbrev pub goes_on : Machine → Activity → List Job → Deed
-goes_on m next adds = record { next = next; op = None; left = m.jobs; adds = adds; joins = None; says = outcomes.Moved }
+abbrev pub moves_to : Machine → Activity → List Job → Deed
+moves_to m next adds = record { next = next; op = None; left = m.jobs; adds = adds; joins = None; says = outcomes.Moved }
 
 -- it does an operation, too
 abbrev pub does : Machine → Activity → Op → List Job → Deed

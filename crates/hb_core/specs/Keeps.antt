@@ -1,23 +1,16 @@
 -- What every machine keeps over a disk that tells, a record for each part.
-use Rattle.std.specs.Prelude.{◌≡◌, ◌≢◌, ◌⊎◌, ℕ, ◌+◌, ◌<◌, ◌≤◌, List, [], ◌∷◌, ◌++◌, length, map, take, All, AllPairs, Option, Some, None, IfSome}
-use Rattle.std.specs.List.{Contains, slice_get}
+use Rattle.std.specs.Prelude.{◌≡◌, ◌⊎◌, ℕ, ◌<◌, ◌≤◌, List, length, All, Some, IfSome}
 use Rattle.hb_space.specs.Boxes.{Holds}
-use Rattle.hb_frag.specs.declared.leaves.Leaf.TheVariants.{Child}
 use Rattle.hb_frag.specs.declared.pages.LivePage.{LivePage}
 use Rattle.hb_frag.specs.declared.pages.Page.{Page}
 use Rattle.hb_frag.specs.Leaves.{DirectlyHolds, weight_of}
 use Rattle.hb_layout.specs.Limits.{IsLayout}
-use Rattle.hb_wal.specs.Log.{Waiting}
-use Rattle.hb_ops.specs.Files.{FileState, contents_of, page_of}
+use Rattle.hb_ops.specs.Files.{page_of}
 use Rattle.hb_ops.specs.Recording.{put_page}
 use Rattle.hb_ops.specs.Sound.{IsSound}
 use Rattle.hb_ops.specs.Standing.{StandsNot}
 use Rattle.hb_set.specs.Machine.{RecordSet}
-use Rattle.hb_set.specs.Order.{Entry, IsLegalOrder, result_of}
 use Rattle.hb_set.specs.declared.commands.Command.TheVariants.{Insert}
-use Rattle.hb_set.specs.declared.commands.Reply.{Reply}
-use Rattle.hb_set.specs.declared.commands.Reply.TheVariants as replies
-use Rattle.hb_set.specs.declared.scripts.Answered.{Answered}
 use Rattle.hb_frag.specs.declared.pages.Page.TheVariants.{Live}
 use Rattle.hb_latch.specs.declared.modes.Mode.{Mode}
 use Rattle.hb_latch.specs.Tables.{AreCompatible, MayLatch, mode_at}
@@ -25,9 +18,10 @@ use Rattle.hb_activity.specs.declared.activities.Activity.TheVariants as at
 use Rattle.hb_activity.specs.declared.jobs.Job.{Job}
 use Rattle.hb_activity.specs.Walks.{walk_held, walk_point}
 use Rattle.hb_store.specs.Keeps.{IsGoodPage}
-use Rattle.hb_core.specs.Machines.{Files, Machine, current_file, live_here, settled_count}
+use Rattle.hb_core.specs.Machines.{Files, Machine, current_file, live_here}
 use Rattle.hb_core.specs.Performing.{latches_held, mode_among}
 use Rattle.hb_core.specs.WorkerRows.{LeadsBelow}
+use Rattle.hb_core.specs.KeptOrder.{HasLegalOrder, HasPendingPrefix}
 
 -- Every file is sound: the durable one, and that after each group that waits. What is in memory is the last one's.
 pub record HasSoundFile (m : Machine) (files : Files) : Type 0 where
@@ -81,39 +75,6 @@ pub record KnowsRoom (m : Machine) : Type 0 where
   pub splits : (actor held : ℕ) (line : _) → m.activity actor ≡ at.SessionSplit line held → (rec : _) × (line.command ≡ Insert rec) × LacksRoomFor m held rec.key rec.body
   pub puts : (actor source fresh : ℕ) (line : _) → m.activity actor ≡ at.SessionPut line source fresh →
       (rec : _) × (line.command ≡ Insert rec) × (HasRoomFor m source rec.key rec.body ⊎ HasRoomFor m fresh rec.key rec.body)
-
--- The order is legal from the set that was opened, with the replies that were given or are kept, and the file has its
--- result. A line that awaits its place stands there, with the reply that is kept; and so does each answered line of the
--- order, with the reply that it was given.
-abbrev pub StandsOutside : Reply → Type 0
-StandsOutside replies.Full = Unit {0}
-StandsOutside replies.NoMemory = Unit {0}
-StandsOutside replies.ReadFault = Unit {0}
-StandsOutside other = ⊥
-
-pub record StandsInOrder (m : Machine) (number : ℕ) (reply : Reply) (place : ℕ) : Type 0 where
-  pub entry : Entry
-  pub there : slice_get m.order place ≡ Some entry
-  pub number_is : entry.line.number ≡ number
-  pub reply_is : entry.reply ≡ reply
-
-pub record HasLegalOrder (n : RecordSet) (m : Machine) (files : Files) : Type 0 where
-  pub legal : IsLegalOrder n m.order
-  pub result : result_of n m.order ≡ contents_of (current_file files)
-  pub awaits : (actor number place : ℕ) (reply : Reply) → m.activity actor ≡ at.SessionAwait number reply place → StandsInOrder m number reply place
-  pub answers : All (λ (a : Answered). StandsOutside a.reply ⊎ ((place : ℕ) × StandsInOrder m a.line a.reply place)) m.answered
-
--- The file before each group that waits has the set after as many entries of the order as the group's mark says, and
--- marks don't fall. Each answered entry stands below the oldest group's mark.
-abbrev pub FollowMarks : RecordSet → List Entry → FileState → List Waiting → List FileState → Type 0
-FollowMarks n order before [] later = Unit {0}
-FollowMarks n order before (group ∷ rest) [] = ⊥
-FollowMarks n order before (group ∷ rest) (next ∷ later) = (group.mark ≤ length order) × (contents_of before ≡ result_of n (take group.mark order)) × FollowMarks n order next rest later
-
-pub record HasPendingPrefix (n : RecordSet) (m : Machine) (files : Files) : Type 0 where
-  pub marks : FollowMarks n m.order files.durable m.store.log.groups files.later
-  pub rising : AllPairs (λ (g : Waiting) (h : Waiting). g.mark ≤ h.mark) m.store.log.groups
-  pub settled : All (λ (a : Answered). (place : ℕ) → StandsInOrder m a.line a.reply place → place < settled_count m) m.answered
 
 -- All of them, from the set that was opened.
 pub record CoreKeeps (n : RecordSet) (m : Machine) (files : Files) : Type 0 where

@@ -5,14 +5,15 @@ use Rattle.hb_frag.specs.declared.pages.LivePage.{LivePage}
 use Rattle.hb_frag.specs.declared.pages.Page.{Page}
 use Rattle.hb_frag.specs.declared.pages.Page.TheVariants.{Live}
 use Rattle.hb_ops.specs.Files.{FileState}
-use Rattle.hb_sound.specs.PointWalks.{HasWalk, IsPointOf, IsResponsible}
+use Rattle.hb_sound.specs.PointWalks.{HasWalk, IsPointOf, IsResponsible, LeadsFurther}
 use Rattle.hb_set.specs.Order.{Entry}
 use Rattle.hb_latch.specs.declared.modes.Mode.{Mode}
 use Rattle.hb_latch.specs.declared.modes.Mode.TheVariants.{Exclusive}
 use Rattle.hb_latch.specs.Tables.{MayLatch, mode_at}
 use Rattle.hb_activity.specs.declared.wanting.Wanted.{Wanted}
+use Rattle.hb_activity.specs.Walks.{walk_held, walk_point}
 use Rattle.hb_core.specs.declared.outcomes.Outcome.{Outcome}
-use Rattle.hb_core.specs.Machines.{Files, Machine}
+use Rattle.hb_core.specs.Machines.{Files, Machine, current_file, live_here}
 use Rattle.hb_core.specs.Asking.{HasWayFree, wanted_by}
 use Rattle.hb_core.specs.Keeps.{HasSoundFile, HoldsPagesOfFile, LatchesFit}
 use Rattle.hb_core.specs.Steps.{StepsTo}
@@ -64,3 +65,10 @@ pub record HasOnePage (s : FileState) (p : List ℕ) : Type 0 where
 
 abbrev pub PointsHaveOnePage : Type 0
 PointsHaveOnePage = (m : Machine) (files : Files) (s : FileState) (p : List ℕ) → HasSoundFile m files → Contains (files.durable ∷ files.later) s → IsPointOf s p → HasOnePage s p
+
+-- The page that a walk wants after one that it holds comes later: it is one level down, or of the same level with a box that
+-- is part of the held page's.
+abbrev pub WalksGoFurther : Type 0
+WalksGoFurther = (m : Machine) (files : Files) (actor held : ℕ) (page : LivePage) (p : List ℕ) (wanted : Wanted) → HasSoundFile m files → IsPointOf (current_file files) p →
+    walk_held (m.activity actor) ≡ Some held → walk_point (m.activity actor) ≡ Some p → live_here m.store held ≡ Some page → wanted_by m actor ≡ Some wanted →
+    LeadsFurther (current_file files) p page wanted.page

@@ -13,5 +13,7 @@ pub mod Forcing
 pub mod GivingUp
 pub mod Acting
 pub mod Steps
+pub mod KeptOrder
 pub mod Keeps
 pub mod Laws
+pub mod Examples

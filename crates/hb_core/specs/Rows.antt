@@ -11,9 +11,9 @@ use Rattle.hb_activity.specs.declared.activities.Activity.TheVariants as at
 use Rattle.hb_activity.specs.Walks.{goal_of}
 use Rattle.hb_core.specs.Machines.{Machine, live_here}
 use Rattle.hb_core.specs.Asking.{HasAskedBox, asked_box}
-use Rattle.hb_core.specs.Deeds.{Deed, answers_now, goes_on}
+use Rattle.hb_core.specs.Deeds.{Deed, answers_now, moves_to}
 use Rattle.hb_core.specs.SessionRows.{DoesThere, PassesOn}
-use Rattle.hb_core.specs.WorkerRows.{Arrives, Grows, GrowsNot, LooksAgain, LooksAtChild, PosterPasses}
+use Rattle.hb_core.specs.WorkerRows.{Arrives, GrowsFile, GrowsNot, LooksAgain, LooksAtChild, PosterPasses}
 use Rattle.hb_core.specs.SplitRows.{HasNoPage, Puts, Splits}
 
 -- The row of an activity that wants no page.
@@ -30,10 +30,10 @@ WalksAt m line rest found id page deed = MatchOption (goal_of line.command rest)
 -- The row of an activity at the page that it latched.
 abbrev pub RowAt : Activity → Machine → ℕ → LivePage → Deed → Type 0
 RowAt (at.SessionWalk line held rest found) m id page deed = WalksAt m line rest found id page deed
-RowAt (at.PosterGrow job) m id page deed = Grows m job page deed ⊎ GrowsNot m job page deed
+RowAt (at.PosterGrow job) m id page deed = GrowsFile m job page deed ⊎ GrowsNot m job page deed
 RowAt (at.PosterWalk job held) m id page deed = Arrives m job id page deed ⊎ PosterPasses m job id page deed
 RowAt (at.PosterChild job parent) m id page deed = LooksAtChild m job parent page deed
-RowAt (at.PosterPromote job parent) m id page deed = deed ≡ goes_on m (at.PosterAgain job parent) []
+RowAt (at.PosterPromote job parent) m id page deed = deed ≡ moves_to m (at.PosterAgain job parent) []
 RowAt (at.PosterAgain job parent) m id page deed = LooksAgain m job parent page deed
 RowAt other m id page deed = ⊥
 

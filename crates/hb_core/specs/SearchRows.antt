@@ -11,13 +11,13 @@ use Rattle.hb_set.specs.declared.commands.Reply.TheVariants as replies
 use Rattle.hb_set.specs.declared.scripts.Line.{Line}
 use Rattle.hb_activity.specs.declared.activities.Activity.TheVariants.{SessionWalk}
 use Rattle.hb_core.specs.Machines.{Machine}
-use Rattle.hb_core.specs.Deeds.{Deed, goes_on, takes_effect}
+use Rattle.hb_core.specs.Deeds.{Deed, moves_to, takes_effect}
 
 -- A search at a leaf of records takes those of the box at hand, and has what of this lies outside the leaf's box before
 -- it, the last piece first. With no box left its records are put in the order of their points, and it takes effect.
 abbrev pub SearchGoesOn : Machine → Line → List Area → List Record → Deed → Type 0
 SearchGoesOn m line [] found deed = (ordered : List Record) × IsPermutation found ordered × AllPairs Precedes ordered × (deed ≡ takes_effect m line (replies.Within ordered) None [])
-SearchGoesOn m line (area ∷ rest) found deed = deed ≡ goes_on m (SessionWalk line None (area ∷ rest) found) []
+SearchGoesOn m line (area ∷ rest) found deed = deed ≡ moves_to m (SessionWalk line None (area ∷ rest) found) []
 
 pub record Gathers (m : Machine) (line : Line) (rest : List Area) (found : List Record) (page : LivePage) (p : List ℕ) (deed : Deed) : Type 0 where
   pub front : List Area

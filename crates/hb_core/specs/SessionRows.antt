@@ -21,7 +21,7 @@ use Rattle.hb_activity.specs.declared.activities.Activity.{Activity}
 use Rattle.hb_activity.specs.declared.activities.Activity.TheVariants.{SessionWalk, SessionSplit}
 use Rattle.hb_core.specs.Stages.{pages_are_merged}
 use Rattle.hb_core.specs.Machines.{Machine, is_answered}
-use Rattle.hb_core.specs.Deeds.{Deed, does, goes_on, takes_effect}
+use Rattle.hb_core.specs.Deeds.{Deed, does, moves_to, takes_effect}
 use Rattle.hb_core.specs.SearchRows.{Gathers}
 
 -- Idle: the line that a session takes next, its first one without an answer. It walks from the root; a search has its
@@ -35,7 +35,7 @@ boxes_ahead (Search area) = area ∷ []
 boxes_ahead other = []
 
 abbrev pub taking : Machine → Line → Deed
-taking m line = goes_on m (SessionWalk line None (boxes_ahead line.command) []) []
+taking m line = moves_to m (SessionWalk line None (boxes_ahead line.command) []) []
 
 -- Walking: a leaf that names a page leads on to that. A sibling leaf shows that the parent owes a posting.
 abbrev pub posts_owed : LivePage → List ℕ → Leaf → List Job
@@ -51,7 +51,7 @@ pub record PassesOn (page : LivePage) (p : List ℕ) (m : Machine) (next : Activ
   pub area : Area
   pub at_point : leaf_at page p ≡ Some (record { leaf = leaf; area = area })
   pub names : IsPointer leaf
-  pub deed_is : deed ≡ goes_on m next (posts_owed page p leaf)
+  pub deed_is : deed ≡ moves_to m next (posts_owed page p leaf)
 
 -- An insert of a point that is there; of one that isn't, for whose record the page has room; and for which it has none.
 pub record FindsTwin (m : Machine) (line : Line) (rec : Record) (page : LivePage) (deed : Deed) : Type 0 where
@@ -68,7 +68,7 @@ pub record FindsNoRoom (m : Machine) (line : Line) (rec : Record) (id : ℕ) (pa
   pub level : page.level ≡ 0
   pub absent : StandsNot page rec.key
   pub full : m.store.meta.dcap < weight_of (put_page rec page).frag
-  pub deed_is : deed ≡ goes_on m (SessionSplit line id) []
+  pub deed_is : deed ≡ moves_to m (SessionSplit line id) []
 
 -- A delete of a point that is there, and of one that isn't. A page that weighs a quarter of its capacity then, or less,
 -- is thin.
@@ -85,7 +85,7 @@ pub record FindsNothing (m : Machine) (line : Line) (p : List ℕ) (page : LiveP
   pub deed_is : deed ≡ takes_effect m line replies.Absent None []
 
 -- A lookup of a point that is there, and of one that isn't.
-pub record Finds (m : Machine) (line : Line) (p : List ℕ) (page : LivePage) (deed : Deed) : Type 0 where
+pub record FindsBody (m : Machine) (line : Line) (p : List ℕ) (page : LivePage) (deed : Deed) : Type 0 where
   pub found : Record
   pub there : StandsThere page p found
   pub deed_is : deed ≡ takes_effect m line (replies.Found found.body) None []
@@ -98,5 +98,5 @@ pub record Misses (m : Machine) (line : Line) (p : List ℕ) (page : LivePage) (
 abbrev pub DoesThere : Machine → Line → Command → List Area → List Record → ℕ → LivePage → List ℕ → Deed → Type 0
 DoesThere m line (Insert rec) rest found id page p deed = FindsTwin m line rec page deed ⊎ Inserts m line rec id page deed ⊎ FindsNoRoom m line rec id page deed
 DoesThere m line (Delete point) rest found id page p deed = Deletes m line point id page deed ⊎ FindsNothing m line point page deed
-DoesThere m line (Lookup point) rest found id page p deed = Finds m line point page deed ⊎ Misses m line point page deed
+DoesThere m line (Lookup point) rest found id page p deed = FindsBody m line point page deed ⊎ Misses m line point page deed
 DoesThere m line (Search area) rest found id page p deed = Gathers m line rest found page p deed

@@ -19,7 +19,7 @@ use Rattle.hb_core.specs.WorkerRows.{TakesJob}
 use Rattle.hb_core.specs.Performing.{Performs}
 use Rattle.hb_core.specs.Forcing.{ForcesFirst, StaysSo}
 use Rattle.hb_core.specs.GivingUp.{runs_out}
-use Rattle.hb_core.specs.Acting.{Acts, GivesUp, MeetsBadPage}
+use Rattle.hb_core.specs.Acting.{DoesRow, Abandons, MeetsBadPage}
 
 -- the step may change the file
 abbrev pub may_change_file : Machine → ℕ → Bool
@@ -40,15 +40,15 @@ abbrev pub Works : Machine → ℕ → Outcome → Machine → Type 0
 Works m actor outcome new =
     ((by : ℕ) × IsInTheWay m actor by × StaysSo m (outcomes.Blocked by) outcome new)
     ⊎ (HasWayFree m actor × IsUnready m actor × GetsReady m actor outcome new)
-    ⊎ (HasWayFree m actor × (¬ (IsUnready m actor)) × (Acts m actor outcome new ⊎ GivesUp m actor outcome new ⊎ MeetsBadPage m actor outcome new))
+    ⊎ (HasWayFree m actor × (¬ (IsUnready m actor)) × (DoesRow m actor outcome new ⊎ Abandons m actor outcome new ⊎ MeetsBadPage m actor outcome new))
 
 -- An idle session takes its next line. For a search that takes memory.
 abbrev pub WantsBoxes : Command → Type 0
 WantsBoxes (Search area) = Unit {0}
 WantsBoxes other = ⊥
 
-abbrev pub TakesLine : Machine → ℕ → Outcome → Machine → Type 0
-TakesLine m actor outcome new = MatchOption (next_line actor m.answered m.lines) (StaysSo m outcomes.Idle outcome new)
+abbrev pub TakesNextLine : Machine → ℕ → Outcome → Machine → Type 0
+TakesNextLine m actor outcome new = MatchOption (next_line actor m.answered m.lines) (StaysSo m outcomes.Idle outcome new)
     (λ line. Performs m m.store actor (taking m line) outcome new ⊎ (WantsBoxes line.command × Performs m m.store actor (answers_now m line.number replies.NoMemory) outcome new))
 
 -- An idle poster takes its oldest job.
@@ -58,15 +58,15 @@ TakesPosting m actor outcome new =
     ⊎ ((deed : Deed) × TakesJob m deed × Performs m m.store actor deed outcome new)
 
 -- A line that awaits its place is answered once that is settled. Till then the step forces.
-abbrev pub Awaits : Machine → ℕ → ℕ → Reply → ℕ → Outcome → Machine → Type 0
-Awaits m actor number reply place outcome new =
+abbrev pub AwaitsPlace : Machine → ℕ → ℕ → Reply → ℕ → Outcome → Machine → Type 0
+AwaitsPlace m actor number reply place outcome new =
     ((place < settled_count m) × Performs m m.store actor (answers_now m number reply) outcome new)
     ⊎ ((settled_count m ≤ place) × ForcesFirst m outcomes.Moved outcome new)
 
 -- One step of an activity. The consolidator has no job and the flusher no step before they are built.
 abbrev pub StepsAs : Activity → Machine → ℕ → Outcome → Machine → Type 0
-StepsAs at.SessionIdle m actor outcome new = TakesLine m actor outcome new
-StepsAs (at.SessionAwait number reply place) m actor outcome new = Awaits m actor number reply place outcome new
+StepsAs at.SessionIdle m actor outcome new = TakesNextLine m actor outcome new
+StepsAs (at.SessionAwait number reply place) m actor outcome new = AwaitsPlace m actor number reply place outcome new
 StepsAs at.PosterIdle m actor outcome new = TakesPosting m actor outcome new
 StepsAs at.ConsolidatorIdle m actor outcome new = StaysSo m outcomes.Idle outcome new
 StepsAs at.Flusher m actor outcome new = StaysSo m outcomes.Idle outcome new
@@ -77,6 +77,6 @@ abbrev pub StepsTo : Machine → ℕ → Outcome → Machine → Type 0
 StepsTo m actor outcome new = MatchOption m.stop (StepsAs (m.activity actor) m actor outcome new) (λ why. StaysSo m (outcomes.Stopped why) outcome new)
 
 -- Steps of these actors in turn, from a machine to another.
-abbrev pub RunsTo : List ℕ → Machine → Machine → Type 0
-RunsTo [] m new = new ≡ m
-RunsTo (actor ∷ rest) m new = (outcome : Outcome) × (next : Machine) × StepsTo m actor outcome next × RunsTo rest next new
+abbrev pub StepsInTurn : List ℕ → Machine → Machine → Type 0
+StepsInTurn [] m new = new ≡ m
+StepsInTurn (actor ∷ rest) m new = (outcome : Outcome) × (next : Machine) × StepsTo m actor outcome next × StepsInTurn rest next new

@@ -19,7 +19,7 @@ use Rattle.hb_activity.specs.declared.activities.Activity.{Activity}
 use Rattle.hb_activity.specs.declared.activities.Activity.TheVariants.{PosterIdle, PosterGrow, PosterWalk, PosterChild, PosterPromote, PosterAgain}
 use Rattle.hb_core.specs.declared.outcomes.Outcome.TheVariants as outcomes
 use Rattle.hb_core.specs.Machines.{Machine, live_here}
-use Rattle.hb_core.specs.Deeds.{Deed, does, goes_on}
+use Rattle.hb_core.specs.Deeds.{Deed, does, moves_to}
 use Rattle.hb_core.specs.SplitRows.{HasNoPage, PartLeavesTo, corner_of}
 use Rattle.hb_core.specs.SessionRows.{PassesOn}
 
@@ -41,7 +41,7 @@ pub record TakesJob (m : Machine) (deed : Deed) : Type 0 where
 
 -- the job ends, or is dropped
 abbrev pub ends_job : Machine → Deed
-ends_job m = goes_on m PosterIdle []
+ends_job m = moves_to m PosterIdle []
 
 -- Growing: the file is as high as the job's level and may grow, and the root gave a part of its box away. Then the job
 -- waits again. Else it is dropped.
@@ -50,7 +50,7 @@ pub record MayGrow (m : Machine) (job : Job) (root : LivePage) : Type 0 where
   pub below : m.store.meta.height < HEIGHT_MAX
   pub gave : siblings_of root ≢ []
 
-pub record Grows (m : Machine) (job : Job) (root : LivePage) (deed : Deed) : Type 0 where
+pub record GrowsFile (m : Machine) (job : Job) (root : LivePage) (deed : Deed) : Type 0 where
   pub may : MayGrow m job root
   pub fresh : ℕ
   pub free_after : ℕ
@@ -68,7 +68,7 @@ pub record Arrives (m : Machine) (job : Job) (id : ℕ) (page : LivePage) (deed 
   pub child : ℕ
   pub area : Area
   pub leaf : leaf_at page job.point ≡ Some (record { leaf = Child child; area = area })
-  pub deed_is : deed ≡ goes_on m (PosterChild job id) []
+  pub deed_is : deed ≡ moves_to m (PosterChild job id) []
 
 abbrev pub LeadsBelow : LivePage → Job → Type 0
 LeadsBelow page job = (child : ℕ) × (area : Area) × (leaf_at page job.point ≡ Some (record { leaf = Child child; area = area }))
@@ -80,7 +80,7 @@ pub record PosterPasses (m : Machine) (job : Job) (id : ℕ) (page : LivePage) (
 -- Looking at the child: where the parent owes nothing at the point, the job ends. Else the parent is to be promoted.
 abbrev pub after_look : Machine → Job → ℕ → PostPlan → Deed
 after_look m job parent plans.Nothing = ends_job m
-after_look m job parent plan = goes_on m (PosterPromote job parent) []
+after_look m job parent plan = moves_to m (PosterPromote job parent) []
 
 pub record LooksAtChild (m : Machine) (job : Job) (parent : ℕ) (child : LivePage) (deed : Deed) : Type 0 where
   pub page : LivePage

@@ -1,10 +1,12 @@
 //! What follows of steps from the table alone. Each law is the contract of a function that does
 //! nothing: a caller learns it by the call.
 
-ghost use Rattle.hb_core.specs.Laws.{HeldPagesStay, LatchesStayFit, OrderGrows, OthersStay, OwnPagesChange, PointsHaveOnePage};
+ghost use Rattle.hb_core.specs.Laws.{HeldPagesStay, LatchesStayFit, OrderGrows, OthersStay, OwnPagesChange, PointsHaveOnePage, WalksGoFurther};
 
 use hb_latch::laws::going_beside_is_mutual;
-use hb_sound::laws::{a_level_parts_the_space, a_walk_ends_at_the_responsible_page};
+use hb_sound::laws::{
+    a_level_parts_the_space, a_walk_ends_at_the_responsible_page, each_step_of_a_walk_leads_further,
+};
 
 /// A step changes no page in use but those that its actor has for itself: it holds them exclusively, or
 /// its step wants that latch and nobody is in the way. So what another actor holds stays as it was.
@@ -36,4 +38,12 @@ pub fn latches_stay_fit()
     ensures { LatchesStayFit }
 {
     going_beside_is_mutual();
+}
+
+/// The page that a walk wants after one that it holds is one level down, or of the same level with a box that
+/// is part of the held page's.
+pub fn walks_go_further()
+    ensures { WalksGoFurther }
+{
+    each_step_of_a_walk_leads_further();
 }

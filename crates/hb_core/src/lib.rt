@@ -13,6 +13,7 @@
 //! completed late, and Evangelidis, Lomet and Salzberg 1997.
 #![tactic(auto)]
 
+pub mod examples;
 pub mod laws;
 mod outcomes;
 mod threads;
