@@ -10,6 +10,8 @@
 #![tactic(auto)]
 
 mod audits;
+#[cfg(test)]
+mod box_tests;
 mod chains;
 mod covers;
 pub mod examples;
@@ -18,6 +20,10 @@ pub mod laws;
 mod links;
 mod names;
 mod pages;
+#[cfg(test)]
+mod source_tests;
+#[cfg(test)]
+mod test_files;
 #[cfg(test)]
 mod tests;
 mod threads;
