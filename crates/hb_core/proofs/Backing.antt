@@ -293,8 +293,8 @@ module _ (m : Machine) (actor : ℕ) (may : ℕ → Type 0) (fetched : StoreStat
     backed_split =
         let used = split_in_use held row.leaves.fresh (source_page row.leaves.fresh row.leaves.path row.leaves.cuts row.page row.leaves.part) (fresh_page row.leaves.cuts row.page row.leaves.part) fetched.frame in
         backed_deed deed _ row.deed_is (stands m actor new _ refl (two_backed m actor new held row.leaves.fresh
-            (record { from = inl (own_mode (at.SessionSplit line held) held Exclusive is (same_first held Exclusive)); live = used.0.0; there = frame_is held ∙ used.0.1 })
-            (record { from = inr (inr (made_was_free m may fetched row.leaves.fresh row.leaves.free_after inside brings row.leaves.next)); live = used.1.0; there = frame_is row.leaves.fresh ∙ used.1.1 })))
+        (record { from = inl (own_mode (at.SessionSplit line held) held Exclusive is (same_first held Exclusive)); live = used.0.0; there = frame_is held ∙ used.0.1 })
+        (record { from = inr (inr (made_was_free m may fetched row.leaves.fresh row.leaves.free_after inside brings row.leaves.next)); live = used.1.0; there = frame_is row.leaves.fresh ∙ used.1.1 })))
 
   -- ---- every row
 

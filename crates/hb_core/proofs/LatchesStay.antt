@@ -285,7 +285,7 @@ module _ (mutual_modes : (mode other : Mode) → goes_beside mode other ≡ goes
   worked (inr (inl (free, unready, inr (none, performs)))) = fits m.store _ performs (ran_out m actor new.store (m.activity actor))
   worked (inr (inr (free, ready, inl acts))) =
       fits acts.fetched acts.deed acts.performs
-          (backed_row m actor _ acts.fetched new.store latches fit inside free acts.brings (wanted_by m actor) acts.deed refl acts.performs.store acts.row)
+      (backed_row m actor _ acts.fetched new.store latches fit inside free acts.brings (wanted_by m actor) acts.deed refl acts.performs.store acts.row)
   worked (inr (inr (free, ready, inr (inl gives)))) = fits gives.fetched _ gives.performs (given_up m actor new.store gives.why (m.activity actor))
   worked (inr (inr (free, ready, inr (inr meets)))) = kept (meets_so m actor outcome new meets)
 

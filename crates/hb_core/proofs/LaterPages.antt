@@ -69,20 +69,20 @@ module _ (further : StepsLeadFurther) (m : Machine) (files : Files) (held : ℕ)
   leads (at.SessionWalk line (Some id) rest found) holds goal wants =
       let same : id ≡ held = cc in
       walk_leads (current_file files) p held page m.store.meta (session_mode line.command) wanted (live_here m.store held) live in_file
-          (subst (λ (n : ℕ). in_mode (session_mode line.command) (walk_next (Some p) (Some n) m.store.meta (live_here m.store n)) ≡ Some wanted) same
-              (subst (λ (o : Option (List ℕ)). in_mode (session_mode line.command) (walk_next o (Some id) m.store.meta (live_here m.store id)) ≡ Some wanted) goal wants))
+      (subst (λ (n : ℕ). in_mode (session_mode line.command) (walk_next (Some p) (Some n) m.store.meta (live_here m.store n)) ≡ Some wanted) same
+      (subst (λ (o : Option (List ℕ)). in_mode (session_mode line.command) (walk_next o (Some id) m.store.meta (live_here m.store id)) ≡ Some wanted) goal wants))
   leads (at.PosterWalk job None) holds goal wants = cc
   leads (at.PosterWalk job (Some id)) holds goal wants =
       let same : id ≡ held = cc in
       walk_leads (current_file files) p held page m.store.meta (job_mode job) wanted (live_here m.store held) live in_file
-          (subst (λ (n : ℕ). in_mode (job_mode job) (walk_next (Some p) (Some n) m.store.meta (live_here m.store n)) ≡ Some wanted) same
-              (subst (λ (o : Option (List ℕ)). in_mode (job_mode job) (walk_next o (Some id) m.store.meta (live_here m.store id)) ≡ Some wanted) goal wants))
+      (subst (λ (n : ℕ). in_mode (job_mode job) (walk_next (Some p) (Some n) m.store.meta (live_here m.store n)) ≡ Some wanted) same
+      (subst (λ (o : Option (List ℕ)). in_mode (job_mode job) (walk_next o (Some id) m.store.meta (live_here m.store id)) ≡ Some wanted) goal wants))
   leads (at.ConsolidatorWalk job None) holds goal wants = cc
   leads (at.ConsolidatorWalk job (Some id)) holds goal wants =
       let same : id ≡ held = cc in
       walk_leads (current_file files) p held page m.store.meta (job_mode job) wanted (live_here m.store held) live in_file
-          (subst (λ (n : ℕ). in_mode (job_mode job) (walk_next (Some p) (Some n) m.store.meta (live_here m.store n)) ≡ Some wanted) same
-              (subst (λ (o : Option (List ℕ)). in_mode (job_mode job) (walk_next o (Some id) m.store.meta (live_here m.store id)) ≡ Some wanted) goal wants))
+      (subst (λ (n : ℕ). in_mode (job_mode job) (walk_next (Some p) (Some n) m.store.meta (live_here m.store n)) ≡ Some wanted) same
+      (subst (λ (o : Option (List ℕ)). in_mode (job_mode job) (walk_next o (Some id) m.store.meta (live_here m.store id)) ≡ Some wanted) goal wants))
   leads at.SessionIdle holds goal wants = cc
   leads (at.SessionSplit line id) holds goal wants = cc
   leads (at.SessionPut line source fresh) holds goal wants = cc

@@ -136,8 +136,8 @@ module _ (m : Machine) (actor : ℕ) (latches : MayLatch actor) (fit : LatchesFi
   worked outcome (inr (inl (free, unready, ready))) = made_ready outcome ready
   worked outcome (inr (inr (free, ready, inl acts))) =
       performed _ acts.fetched acts.deed outcome acts.brings
-          (owned_row m actor _ acts.fetched latches fit inside free acts.brings (wanted_by m actor) acts.deed refl (allowed_by acts.deed.op _ acts.fetched new.store acts.performs.store) acts.row)
-          acts.performs
+      (owned_row m actor _ acts.fetched latches fit inside free acts.brings (wanted_by m actor) acts.deed refl (allowed_by acts.deed.op _ acts.fetched new.store acts.performs.store) acts.row)
+      acts.performs
   worked outcome (inr (inr (free, ready, inr (inl gives)))) =
       performed _ gives.fetched (gives_up m gives.why (m.activity actor)) outcome gives.brings (owns_nothing _ (gives_up_nothing m gives.why (m.activity actor))) gives.performs
   worked outcome (inr (inr (free, ready, inr (inr meets)))) = inl (ap (λ (n : Machine). n.store.frame id) meets.stops ∙ fetched_stays _ meets.fetched meets.brings)

@@ -258,4 +258,3 @@ module _ (m : Machine) (actor : ℕ) (may : ℕ → Type 0) (fetched : StoreStat
   pub owned_row : (wanted : Option Wanted) (deed : Deed) → wanted_by m actor ≡ wanted → Allowed fetched deed.op → Row (m.activity actor) wanted m' deed → OwnsTargets m actor deed.op
   owned_row None deed wants allowed row = owned_alone (m.activity actor) deed refl row
   owned_row (Some wanted) deed wants allowed (page, hand, row) = owned_at (m.activity actor) wanted page deed refl wants hand.live hand.level allowed row
-

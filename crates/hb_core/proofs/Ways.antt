@@ -115,7 +115,7 @@ others_stay m actor outcome new step other another = by (way_of m actor outcome 
     by (inl keeps) = (ap (λ (all : ℕ → Activity). all other) keeps.activity, λ page. ap (λ (table : LatchTable). mode_at table other page) keeps.latches)
     by (inr (fetched, deed, performs)) = (
       performs.activity other ∙ ap (λ (b : Bool). cond b deed.next (m.activity other)) (ne_eqb other actor another),
-      λ page. performs.latches.others other page another
+      λ page. performs.latches.others other page another,
     )
 
 -- ---- and the order grows by one entry at most
