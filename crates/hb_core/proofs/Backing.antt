@@ -1,6 +1,6 @@
 -- Where the latches of an activity come from: each was held before, or is the one that the step wanted, or is on a page that
 -- was in no use. And each is on a page in use.
-use Rattle.std.proofs.Common.{◌≡◌, ◌≢◌, ◌⊎◌, inl, inr, ℕ, ◌==◌, ◌&&◌, Bool, true, false, cond, List, [], ◌∷◌, length, Option, Some, None, IsSome, IfSome, IsTrue, option_map, refl, sym, ap, ◌∙◌, subst}
+use Rattle.std.proofs.Common.{◌≡◌, ◌⊎◌, inl, inr, ℕ, ◌==◌, Bool, cond, List, [], ◌∷◌, length, Option, Some, None, IsSome, option_map, refl, sym, ap, ◌∙◌, subst}
 use Rattle.std.specs.Prelude.{MatchOption}
 use Rattle.std.proofs.lemmas.Bool.{cases_Bool, eq-eqb, eqb-true}
 use Rattle.hb_space.specs.Boxes.{Area}
@@ -8,13 +8,10 @@ use Rattle.hb_space.specs.declared.records.Record.{Record}
 use Rattle.hb_frag.specs.declared.pages.LivePage.{LivePage}
 use Rattle.hb_frag.specs.declared.pages.Page.{Page}
 use Rattle.hb_frag.specs.declared.pages.Page.TheVariants.{Live, Free}
-use Rattle.hb_frag.specs.declared.paths.Side.{Side}
-use Rattle.hb_frag.specs.Paths.{part_at}
 use Rattle.hb_frag.specs.Trees.{Tree}
 use Rattle.hb_ops.specs.Extracting.{fresh_page, source_page, split_pages}
 use Rattle.hb_ops.specs.Files.{if_live}
 use Rattle.hb_ops.specs.Operations.{change_of}
-use Rattle.hb_ops.specs.declared.leaf_cuts.LeafCut.{LeafCut}
 use Rattle.hb_ops.specs.declared.operations.Op.{Op}
 use Rattle.hb_ops.specs.declared.operations.Op.TheVariants as ops
 use Rattle.hb_set.specs.declared.commands.Command.{Command}
@@ -32,11 +29,11 @@ use Rattle.hb_activity.specs.declared.activities.Activity.{Activity}
 use Rattle.hb_activity.specs.declared.activities.Activity.TheVariants as at
 use Rattle.hb_activity.specs.Holding.{latch_on, walk_latch}
 use Rattle.hb_activity.specs.Walks.{goal_of, job_mode, session_mode, walk_held}
-use Rattle.hb_activity.specs.Wanting.{in_mode, walk_next, wanted_of, wanted_page}
+use Rattle.hb_activity.specs.Wanting.{walk_next, wanted_of, wanted_page}
 use Rattle.hb_store.specs.Calls.{change_here, framed_read}
 use Rattle.hb_store.specs.Keeps.{StoreState}
 use Rattle.hb_store.specs.Replay.{set_pages}
-use Rattle.hb_core.specs.Machines.{Machine, live_here, with_disk}
+use Rattle.hb_core.specs.Machines.{Machine, with_disk}
 use Rattle.hb_core.specs.Asking.{HasWayFree, looked_live, wanted_by}
 use Rattle.hb_core.specs.Fetching.{Brings}
 use Rattle.hb_core.specs.Deeds.{Deed}

@@ -1,13 +1,11 @@
 -- A step changes no page in use but those that its actor has for itself.
-use Rattle.std.proofs.Common.{◌≡◌, ◌≢◌, ◌⊎◌, inl, inr, ℕ, ◌==◌, ◌++◌, Bool, true, false, cond, List, [], ◌∷◌, Option, Some, None, IsSome, IfSome, IsTrue, refl, sym, ap, ◌∙◌, subst}
+use Rattle.std.proofs.Common.{◌≡◌, ◌≢◌, ◌⊎◌, inl, inr, ℕ, true, Option, Some, None, IsSome, IfSome, IsTrue, refl, sym, ap, ◌∙◌, subst}
 use Rattle.std.specs.Prelude.{MatchOption}
 use Rattle.std.proofs.lemmas.Bool.{false≢true}
-use Rattle.std.specs.Option.{IsSomeAnd}
 use Rattle.hb_frag.specs.declared.pages.LivePage.{LivePage}
 use Rattle.hb_frag.specs.declared.pages.Page.{Page}
 use Rattle.hb_frag.specs.declared.pages.Page.TheVariants.{Live}
 use Rattle.hb_ops.specs.declared.operations.Op.{Op}
-use Rattle.hb_set.specs.Order.{Entry}
 use Rattle.hb_set.specs.declared.commands.Reply.TheVariants as replies
 use Rattle.hb_set.specs.declared.scripts.Line.{Line}
 use Rattle.hb_latch.specs.declared.modes.Mode.{Mode}
@@ -17,7 +15,6 @@ use Rattle.hb_latch.specs.Tables.{IsGrantable, MayLatch, mode_at}
 use Rattle.hb_activity.specs.declared.wanting.Wanted.{Wanted}
 use Rattle.hb_activity.specs.declared.activities.Activity.{Activity}
 use Rattle.hb_activity.specs.declared.activities.Activity.TheVariants as at
-use Rattle.hb_ops.specs.Operations.{change_of}
 use Rattle.hb_store.specs.Calls.{change_here, framed_read}
 use Rattle.hb_store.specs.Keeps.{StoreState}
 use Rattle.hb_store.specs.declared.stops.StopWhy.{StopWhy}
@@ -25,7 +22,7 @@ use Rattle.hb_core.specs.declared.outcomes.DropWhy.{DropWhy}
 use Rattle.hb_core.specs.declared.outcomes.Outcome.{Outcome}
 use Rattle.hb_core.specs.declared.outcomes.Outcome.TheVariants as outcomes
 use Rattle.hb_core.specs.Machines.{Machine}
-use Rattle.hb_core.specs.Asking.{HasWayFree, wanted_by}
+use Rattle.hb_core.specs.Asking.{wanted_by}
 use Rattle.hb_core.specs.Fetching.{Brings}
 use Rattle.hb_store.specs.Replay.{set_pages}
 use Rattle.hb_core.specs.Deeds.{Deed, answers_now}
@@ -33,11 +30,11 @@ use Rattle.hb_core.specs.Performing.{MayDo, Performs}
 use Rattle.hb_core.specs.Forcing.{ForcesFirst, StaysSo}
 use Rattle.hb_core.specs.GivingUp.{gives_up, runs_out}
 use Rattle.hb_core.specs.SessionRows.{next_line, taking}
-use Rattle.hb_core.specs.Steps.{AwaitsPlace, GetsReady, StepsAs, StepsTo, TakesNextLine, TakesPosting, WantsBoxes, Works}
+use Rattle.hb_core.specs.Steps.{AwaitsPlace, GetsReady, StepsAs, TakesPosting, WantsBoxes, Works}
 use Rattle.hb_core.specs.Keeps.{HoldsPagesOfFile, LatchesFit}
 use Rattle.hb_core.specs.Laws.{HasAlone, HeldPagesStay, IsInUse, OwnPagesChange, TakesAlone}
 use Rattle.hb_core.proofs.Targets.{IsNumber, numbers_are_targets, set_elsewhere}
-use Rattle.hb_core.proofs.OwnedOps.{Allowed, IsFreeFor, OwnsTargets, allowed_by, owned_row}
+use Rattle.hb_core.proofs.OwnedOps.{IsFreeFor, OwnsTargets, allowed_by, owned_row}
 
 -- what a line or a job that can't go on does to the file
 gives_up_nothing : (m : Machine) (why : DropWhy) (activity : Activity) → (gives_up m why activity).op ≡ None

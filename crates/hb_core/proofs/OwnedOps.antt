@@ -1,5 +1,5 @@
 -- What a row does to the file, it does to pages that its actor has for itself, or to one that was in no use.
-use Rattle.std.proofs.Common.{◌≡◌, ◌≢◌, ◌⊎◌, inl, inr, ℕ, ◌+◌, ◌<◌, ◌≤◌, ◌==◌, ◌&&◌, Bool, true, false, cond, List, [], ◌∷◌, get_or, Option, Some, None, IsSome, IfSome, IsTrue, refl, sym, ap, ◌∙◌, subst, arith}
+use Rattle.std.proofs.Common.{◌≡◌, ◌⊎◌, inl, inr, ℕ, ◌==◌, Bool, true, cond, List, [], ◌∷◌, Option, Some, None, IsSome, refl, sym, ap, ◌∙◌, subst, arith}
 use Rattle.std.specs.Prelude.{MatchOption}
 use Rattle.std.proofs.lemmas.Bool.{cases_Bool, eq-eqb, eqb-true, eqb-false}
 use Rattle.hb_frag.specs.declared.pages.LivePage.{LivePage}
@@ -16,8 +16,8 @@ use Rattle.hb_set.specs.declared.commands.Command.{Command}
 use Rattle.hb_set.specs.declared.commands.Command.TheVariants.{Insert, Delete, Lookup, Search}
 use Rattle.hb_set.specs.declared.scripts.Line.{Line}
 use Rattle.hb_latch.specs.declared.modes.Mode.{Mode}
-use Rattle.hb_latch.specs.declared.modes.Mode.TheVariants.{Shared, Update, Exclusive}
-use Rattle.hb_latch.specs.Tables.{MayLatch, mode_at}
+use Rattle.hb_latch.specs.declared.modes.Mode.TheVariants.{Shared, Exclusive}
+use Rattle.hb_latch.specs.Tables.{MayLatch}
 use Rattle.hb_terms.specs.declared.plans.PostPlan.{PostPlan}
 use Rattle.hb_terms.specs.declared.plans.PostPlan.TheVariants as plans
 use Rattle.hb_activity.specs.declared.jobs.Job.{Job}
@@ -29,18 +29,18 @@ use Rattle.hb_activity.specs.Wanting.{in_mode, walk_next, wanted_of, wanted_page
 use Rattle.hb_store.specs.Calls.{IsAllowedHere, framed_read}
 use Rattle.hb_store.specs.Keeps.{StoreState}
 use Rattle.hb_store.specs.NextPage.{IsNext}
-use Rattle.hb_core.specs.Machines.{Files, Machine, live_here, with_disk}
+use Rattle.hb_core.specs.Machines.{Machine, with_disk}
 use Rattle.hb_core.specs.Asking.{HasWayFree, looked_live, wanted_by}
 use Rattle.hb_core.specs.Fetching.{Brings}
 use Rattle.hb_core.specs.Deeds.{Deed}
-use Rattle.hb_core.specs.Performing.{DoesOp, MayDo, latches_held, mode_among}
-use Rattle.hb_core.specs.SearchRows.{Gathers, SearchGoesOn}
+use Rattle.hb_core.specs.Performing.{MayDo, latches_held, mode_among}
+use Rattle.hb_core.specs.SearchRows.{SearchGoesOn}
 use Rattle.hb_core.specs.SessionRows.{DoesThere, PassesOn}
-use Rattle.hb_core.specs.SplitRows.{HasNoPage, Puts, Splits}
-use Rattle.hb_core.specs.WorkerRows.{Arrives, DoesPlan, GrowsFile, GrowsNot, LooksAgain, LooksAtChild, PosterPasses, after_look}
-use Rattle.hb_core.specs.Rows.{IsAtHand, Row, RowAlone, RowAt, WalksAt}
+use Rattle.hb_core.specs.SplitRows.{Puts, Splits}
+use Rattle.hb_core.specs.WorkerRows.{DoesPlan, after_look}
+use Rattle.hb_core.specs.Rows.{Row, RowAlone, RowAt}
 use Rattle.hb_core.specs.Keeps.{HoldsPagesOfFile, LatchesFit}
-use Rattle.hb_core.specs.Laws.{HasAlone, IsInUse, TakesAlone}
+use Rattle.hb_core.specs.Laws.{HasAlone, IsInUse}
 use Rattle.hb_core.proofs.Targets.{IsTarget}
 
 -- Each page that an operation changes the actor has for itself, or it was in no use.

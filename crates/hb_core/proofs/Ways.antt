@@ -1,27 +1,25 @@
 -- Each step does a deed of its actor, or leaves all but the disk as it was.
-use Rattle.std.proofs.Common.{◌≡◌, ◌≢◌, ◌⊎◌, inl, inr, ℕ, ◌==◌, ◌++◌, Bool, cond, List, [], ◌∷◌, Option, Some, None, IsSome, refl, sym, ap, ◌∙◌, subst, ne_eqb, append-nil}
+use Rattle.std.proofs.Common.{◌≡◌, ◌⊎◌, inl, inr, ℕ, ◌++◌, Bool, cond, List, [], ◌∷◌, Option, Some, None, IsSome, refl, sym, ap, ◌∙◌, subst, ne_eqb, append-nil}
 use Rattle.std.specs.Prelude.{MatchOption}
 use Rattle.hb_frag.specs.declared.pages.Page.{Page}
 use Rattle.hb_core.specs.Fetching.{Brings}
 use Rattle.hb_set.specs.Order.{Entry}
 use Rattle.hb_set.specs.declared.scripts.Line.{Line}
-use Rattle.hb_set.specs.declared.scripts.Answered.{Answered}
 use Rattle.hb_latch.specs.Tables.{LatchTable, mode_at}
-use Rattle.hb_activity.specs.declared.jobs.Job.{Job}
 use Rattle.hb_activity.specs.declared.activities.Activity.{Activity}
 use Rattle.hb_activity.specs.declared.activities.Activity.TheVariants as at
 use Rattle.hb_store.specs.Keeps.{StoreState}
 use Rattle.hb_store.specs.declared.stops.StopWhy.{StopWhy}
 use Rattle.hb_core.specs.declared.outcomes.Outcome.{Outcome}
 use Rattle.hb_core.specs.declared.outcomes.Outcome.TheVariants as outcomes
-use Rattle.hb_core.specs.Machines.{Machine, if_some, with_activity}
+use Rattle.hb_core.specs.Machines.{Machine, if_some}
 use Rattle.hb_set.specs.declared.commands.Reply.TheVariants as replies
 use Rattle.hb_core.specs.Deeds.{Deed, answers_now}
 use Rattle.hb_core.specs.Performing.{Performs}
 use Rattle.hb_core.specs.Acting.{MeetsBadPage}
 use Rattle.hb_core.specs.Forcing.{ForcesFirst, StaysSo}
 use Rattle.hb_core.specs.SessionRows.{next_line, taking}
-use Rattle.hb_core.specs.Steps.{AwaitsPlace, StepsAs, TakesNextLine, TakesPosting, WantsBoxes, Works}
+use Rattle.hb_core.specs.Steps.{AwaitsPlace, StepsAs, TakesPosting, WantsBoxes, Works}
 use Rattle.hb_core.specs.Laws.{OrderGrows, OthersStay}
 
 -- All but the disk is as it was, and what was in memory is there.

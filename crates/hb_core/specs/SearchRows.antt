@@ -1,5 +1,5 @@
 -- The row of a search, at a page whose leaf at the point of its walk has records.
-use Rattle.std.specs.Prelude.{◌≡◌, ℕ, ◌+◌, List, [], ◌∷◌, ◌++◌, filter, Some, None, AllPairs}
+use Rattle.std.specs.Prelude.{◌≡◌, ℕ, List, [], ◌∷◌, ◌++◌, filter, Some, None, AllPairs}
 use Rattle.std.specs.List.Sorted.{IsPermutation}
 use Rattle.hb_space.specs.Boxes.{Area, common_area, holds, pieces_outside}
 use Rattle.hb_space.specs.declared.records.Record.{Record}

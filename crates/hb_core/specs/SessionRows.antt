@@ -21,7 +21,7 @@ use Rattle.hb_activity.specs.declared.activities.Activity.{Activity}
 use Rattle.hb_activity.specs.declared.activities.Activity.TheVariants.{SessionWalk, SessionSplit}
 use Rattle.hb_core.specs.Stages.{pages_are_merged}
 use Rattle.hb_core.specs.Machines.{Machine, is_answered}
-use Rattle.hb_core.specs.Deeds.{Deed, does, moves_to, takes_effect}
+use Rattle.hb_core.specs.Deeds.{Deed, moves_to, takes_effect}
 use Rattle.hb_core.specs.SearchRows.{Gathers}
 
 -- Idle: the line that a session takes next, its first one without an answer. It walks from the root; a search has its

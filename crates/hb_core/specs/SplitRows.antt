@@ -1,7 +1,7 @@
 -- The rows of a session that splits a page, and puts its record into one of the halves. They latch no page but the one
 -- that is made.
 use Rattle.std.specs.Prelude.{◌≡◌, ◌⊎◌, ℕ, ◌<◌, List, [], ◌∷◌, Some}
-use Rattle.hb_space.specs.Boxes.{Area, holds}
+use Rattle.hb_space.specs.Boxes.{Area}
 use Rattle.hb_space.specs.declared.records.Record.{Record}
 use Rattle.hb_frag.specs.declared.pages.LivePage.{LivePage}
 use Rattle.hb_frag.specs.declared.paths.Side.{Side}

@@ -1,11 +1,9 @@
 -- The rows of the poster and the consolidator. The page of a row is the one that the step latches.
-use Rattle.std.specs.Prelude.{◌≡◌, ◌≢◌, ◌⊎◌, ℕ, ◌+◌, ◌<◌, ◌≤◌, List, [], ◌∷◌, Option, Some, None}
+use Rattle.std.specs.Prelude.{◌≡◌, ◌≢◌, ◌⊎◌, ℕ, ◌+◌, ◌<◌, List, [], ◌∷◌, Some, None}
 use Rattle.hb_space.specs.Boxes.{Area}
 use Rattle.hb_layout.specs.declared.limits.TheConstants.{HEIGHT_MAX}
-use Rattle.hb_frag.specs.declared.leaves.Leaf.{Leaf}
-use Rattle.hb_frag.specs.declared.leaves.Leaf.TheVariants.{Records, Child, Sibling}
+use Rattle.hb_frag.specs.declared.leaves.Leaf.TheVariants.{Child}
 use Rattle.hb_frag.specs.declared.pages.LivePage.{LivePage}
-use Rattle.hb_frag.specs.declared.paths.Side.{Side}
 use Rattle.hb_frag.specs.Leaves.{leaf_at, siblings_of}
 use Rattle.hb_ops.specs.declared.operations.Op.TheVariants as ops
 use Rattle.hb_terms.specs.Plans.{IsPlan}
@@ -16,7 +14,7 @@ use Rattle.hb_activity.specs.Queue.{LeavesFirst}
 use Rattle.hb_activity.specs.declared.jobs.Job.{Job}
 use Rattle.hb_activity.specs.declared.jobs.JobKind.TheVariants.{Post}
 use Rattle.hb_activity.specs.declared.activities.Activity.{Activity}
-use Rattle.hb_activity.specs.declared.activities.Activity.TheVariants.{PosterIdle, PosterGrow, PosterWalk, PosterChild, PosterPromote, PosterAgain}
+use Rattle.hb_activity.specs.declared.activities.Activity.TheVariants.{PosterIdle, PosterGrow, PosterWalk, PosterChild, PosterPromote}
 use Rattle.hb_core.specs.declared.outcomes.Outcome.TheVariants as outcomes
 use Rattle.hb_core.specs.Machines.{Machine, live_here}
 use Rattle.hb_core.specs.Deeds.{Deed, does, moves_to}
