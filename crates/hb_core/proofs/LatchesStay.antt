@@ -1,16 +1,12 @@
 -- After a step each actor holds the latches of its activity, on pages in use, and latches on one page go beside each other.
-use Rattle.std.proofs.Common.{◌≡◌, ◌≢◌, ◌⊎◌, inl, inr, ℕ, ◌==◌, Bool, cond, List, [], Option, Some, None, IfSome, IsTrue, refl, sym, ap, ◌∙◌, subst}
-use Rattle.std.specs.Prelude.{MatchOption}
+use Rattle.std.proofs.Common.{◌≡◌, ◌≢◌, inl, inr, ℕ, ◌==◌, Bool, cond, List, [], Option, Some, None, IfSome, IsTrue, refl, sym, ap, ◌∙◌, subst}
 use Rattle.std.proofs.lemmas.Bool.{cases_Bool, eqb-true, eqb-false, eq-eqb, ne_eqb}
 use Rattle.hb_frag.specs.declared.pages.LivePage.{LivePage}
 use Rattle.hb_frag.specs.declared.pages.Page.TheVariants.{Live}
-use Rattle.hb_set.specs.declared.commands.Reply.TheVariants as replies
-use Rattle.hb_set.specs.declared.scripts.Line.{Line}
 use Rattle.hb_latch.specs.declared.modes.Mode.{Mode}
 use Rattle.hb_latch.specs.Modes.{goes_beside}
 use Rattle.hb_latch.specs.Tables.{AreCompatible, IsGrantable, LatchTable, MayLatch, mode_at}
 use Rattle.hb_activity.specs.declared.holding.Latch.{Latch}
-use Rattle.hb_activity.specs.declared.jobs.Job.{Job}
 use Rattle.hb_activity.specs.declared.wanting.Wanted.{Wanted}
 use Rattle.hb_activity.specs.declared.activities.Activity.{Activity}
 use Rattle.hb_activity.specs.declared.activities.Activity.TheVariants as at
@@ -18,22 +14,19 @@ use Rattle.hb_activity.specs.Holding.{walk_latch}
 use Rattle.hb_activity.specs.Walks.{job_mode, session_mode, walk_held}
 use Rattle.hb_ops.specs.Files.{if_live}
 use Rattle.hb_store.specs.Keeps.{StoreState}
-use Rattle.hb_store.specs.declared.stops.StopWhy.{StopWhy}
 use Rattle.hb_core.specs.declared.outcomes.DropWhy.{DropWhy}
 use Rattle.hb_core.specs.declared.outcomes.Outcome.{Outcome}
 use Rattle.hb_core.specs.declared.outcomes.Outcome.TheVariants as outcomes
 use Rattle.hb_core.specs.Machines.{Machine, live_here, with_activity}
 use Rattle.hb_core.specs.Asking.{wanted_by}
-use Rattle.hb_core.specs.Deeds.{Deed, answers_now}
+use Rattle.hb_core.specs.Deeds.{Deed}
 use Rattle.hb_core.specs.Performing.{Performs, latches_held, mode_among}
-use Rattle.hb_core.specs.Forcing.{StaysSo}
 use Rattle.hb_core.specs.GivingUp.{gives_up, runs_out}
-use Rattle.hb_core.specs.SessionRows.{next_line, taking}
-use Rattle.hb_core.specs.Steps.{AwaitsPlace, StepsAs, StepsTo, TakesPosting, WantsBoxes, Works}
-use Rattle.hb_core.specs.WorkerRows.{IsPostingOf}
+use Rattle.hb_core.specs.Steps.{StepsTo, Works}
 use Rattle.hb_core.specs.Keeps.{HoldsPagesOfFile, LatchesFit}
 use Rattle.hb_core.specs.Laws.{LatchesStayFit}
 use Rattle.hb_core.proofs.Backing.{BackedIn, ComesFrom, backed_row, rests}
+use Rattle.hb_core.proofs.StepKinds.{each_kind}
 use Rattle.hb_core.proofs.Ways.{KeepsAllButDisk, forces_so, meets_so, stays_so}
 use Rattle.hb_core.proofs.OwnPages.{held_pages_stay}
 
@@ -261,11 +254,6 @@ ran_out m actor st (at.ConsolidatorKeep job parent keep gone) = rests m actor st
 ran_out m actor st (at.ConsolidatorDecide job parent keep gone) = rests m actor st _ refl refl
 ran_out m actor st at.Flusher = rests m actor st _ refl refl
 
-job_taken : (m : Machine) (actor : ℕ) (st : StoreState) (job : Job) (height : ℕ) (next : Activity) → IsPostingOf job height next → BackedIn m actor st next
-job_taken m actor st job height next (inl (above, is)) = subst (BackedIn m actor st) (sym is) (rests m actor st _ refl refl)
-job_taken m actor st job height next (inr (inl (same, is))) = subst (BackedIn m actor st) (sym is) (rests m actor st _ refl refl)
-job_taken m actor st job height next (inr (inr (below, is))) = subst (BackedIn m actor st) (sym is) (rests m actor st _ refl refl)
-
 -- ---- each step
 
 module _ (mutual_modes : (mode other : Mode) → goes_beside mode other ≡ goes_beside other mode) (m : Machine) (actor : ℕ) (outcome : Outcome) (new : Machine) (latches : MayLatch actor) (fit : LatchesFit m) (inside : HoldsPagesOfFile m) (step : StepsTo m actor outcome new) where
@@ -288,44 +276,11 @@ module _ (mutual_modes : (mode other : Mode) → goes_beside mode other ≡ goes
   worked (inr (inr (free, ready, inr (inl gives)))) = fits gives.fetched _ gives.performs (given_up m actor new.store gives.why (m.activity actor))
   worked (inr (inr (free, ready, inr (inr meets)))) = kept (meets_so m actor outcome new meets)
 
-  took_line : (line : Option Line) → MatchOption line (StaysSo m outcomes.Idle outcome new) (λ line. Performs m m.store actor (taking m line) outcome new ⊎ (WantsBoxes line.command × Performs m m.store actor (answers_now m line.number replies.NoMemory) outcome new)) → LatchesFit new
-  took_line None so = kept (stays_so m actor outcome new outcomes.Idle so)
-  took_line (Some line) (inl performs) = rested m.store _ performs refl refl
-  took_line (Some line) (inr (boxes, performs)) = rested m.store _ performs refl refl
-
-  took_posting : TakesPosting m actor outcome new → LatchesFit new
-  took_posting (inl (none, so)) = kept (stays_so m actor outcome new outcomes.Idle so)
-  took_posting (inr (deed, takes, performs)) =
-      fits m.store deed performs (subst (λ (d : Deed). BackedIn m actor new.store d.next) (sym takes.deed_is) (job_taken m actor new.store takes.job m.store.meta.height takes.next takes.posting))
-
-  awaited : (number : ℕ) (reply : _) (place : ℕ) → AwaitsPlace m actor number reply place outcome new → LatchesFit new
-  awaited number reply place (inl (settled, performs)) = rested m.store _ performs refl refl
-  awaited number reply place (inr (waits, force)) = kept (forces_so m actor outcome new outcomes.Moved force)
-
-  stepped : (activity : Activity) → StepsAs activity m actor outcome new → LatchesFit new
-  stepped at.SessionIdle one = took_line (next_line actor m.answered m.lines) one
-  stepped (at.SessionAwait number reply place) one = awaited number reply place one
-  stepped at.PosterIdle one = took_posting one
-  stepped at.ConsolidatorIdle one = kept (stays_so m actor outcome new outcomes.Idle one)
-  stepped at.Flusher one = kept (stays_so m actor outcome new outcomes.Idle one)
-  stepped (at.SessionWalk line held rest found) one = worked one
-  stepped (at.SessionSplit line held) one = worked one
-  stepped (at.SessionPut line source fresh) one = worked one
-  stepped (at.PosterGrow job) one = worked one
-  stepped (at.PosterWalk job held) one = worked one
-  stepped (at.PosterChild job parent) one = worked one
-  stepped (at.PosterPromote job parent) one = worked one
-  stepped (at.PosterAgain job parent) one = worked one
-  stepped (at.ConsolidatorWalk job held) one = worked one
-  stepped (at.ConsolidatorScan job parent child) one = worked one
-  stepped (at.ConsolidatorTry job parent keep gone leaf) one = worked one
-  stepped (at.ConsolidatorPromote job parent keep gone) one = worked one
-  stepped (at.ConsolidatorKeep job parent keep gone) one = worked one
-  stepped (at.ConsolidatorDecide job parent keep gone) one = worked one
-
-  ran : (stop : Option StopWhy) → MatchOption stop (StepsAs (m.activity actor) m actor outcome new) (λ why. StaysSo m (outcomes.Stopped why) outcome new) → LatchesFit new
-  ran None one = stepped (m.activity actor) one
-  ran (Some why) so = kept (stays_so m actor outcome new (outcomes.Stopped why) so)
-
 pub latches_stay_fit : ((mode other : Mode) → goes_beside mode other ≡ goes_beside other mode) → LatchesStayFit
-latches_stay_fit mutual_modes m actor outcome new latches fit inside step = ran mutual_modes m actor outcome new latches fit inside step m.stop step
+latches_stay_fit mutual_modes m actor outcome new latches fit inside step =
+    each_kind m actor outcome new (LatchesFit new)
+    (λ said quiet so. kept mutual_modes m actor outcome new latches fit inside step (stays_so m actor outcome new said so))
+    (λ said quiet force. kept mutual_modes m actor outcome new latches fit inside step (forces_so m actor outcome new said force))
+    (λ deed outright performs. rested mutual_modes m actor outcome new latches fit inside step m.store deed performs outright.walk (outright.latches new.store))
+    (worked mutual_modes m actor outcome new latches fit inside step)
+    step

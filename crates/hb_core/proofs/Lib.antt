@@ -1,5 +1,6 @@
 pub mod Targets
 pub mod OwnedOps
+pub mod StepKinds
 pub mod OwnPages
 pub mod Ways
 pub mod OnePlace

@@ -1,23 +1,17 @@
 -- What a step does to the clock, and when a line is answered.
-use Rattle.std.proofs.Common.{◌≡◌, ◌≢◌, ◌⊎◌, inl, inr, ℕ, ◌+◌, ◌≤◌, List, [], ◌∷◌, ◌++◌, Option, Some, None, refl, sym, ap, ◌∙◌, subst, arith, append-nil}
-use Rattle.std.specs.Prelude.{MatchOption}
+use Rattle.std.proofs.Common.{◌≡◌, ◌≢◌, ◌⊎◌, inl, inr, ℕ, ◌+◌, ◌≤◌, List, [], ◌∷◌, ◌++◌, refl, sym, ap, ◌∙◌, arith, append-nil}
 use Rattle.hb_wal.specs.Log.{Waiting}
-use Rattle.hb_set.specs.declared.commands.Reply.TheVariants as replies
-use Rattle.hb_set.specs.declared.scripts.Line.{Line}
 use Rattle.hb_set.specs.declared.scripts.Answered.{Answered}
-use Rattle.hb_activity.specs.declared.activities.Activity.{Activity}
-use Rattle.hb_activity.specs.declared.activities.Activity.TheVariants as at
 use Rattle.hb_store.specs.Keeps.{StoreState}
-use Rattle.hb_store.specs.declared.stops.StopWhy.{StopWhy}
 use Rattle.hb_core.specs.declared.outcomes.Outcome.{Outcome}
 use Rattle.hb_core.specs.declared.outcomes.Outcome.TheVariants as outcomes
 use Rattle.hb_core.specs.Machines.{Machine}
 use Rattle.hb_core.specs.Acting.{MeetsBadPage}
-use Rattle.hb_core.specs.Deeds.{Deed, answers_now}
+use Rattle.hb_core.specs.Deeds.{Deed}
 use Rattle.hb_core.specs.Performing.{Performs, given_by}
 use Rattle.hb_core.specs.Forcing.{ForcesFirst, StaysSo, calls_of_force}
-use Rattle.hb_core.specs.SessionRows.{next_line, taking}
-use Rattle.hb_core.specs.Steps.{AwaitsPlace, StepsAs, StepsTo, TakesPosting, WantsBoxes, Works}
+use Rattle.hb_core.specs.Steps.{StepsTo, Works}
+use Rattle.hb_core.proofs.StepKinds.{each_kind}
 use Rattle.hb_core.specs.Laws.{AnswersAreTimed, ClockMoves}
 
 -- what a step does to both
@@ -72,46 +66,17 @@ module _ (m : Machine) (actor : ℕ) (outcome : Outcome) (new : Machine) where
   worked (inr (inr (free, ready, inr (inl gives)))) = performed gives.fetched _ gives.performs
   worked (inr (inr (free, ready, inr (inr meets)))) = met meets
 
-  took_line : (line : Option Line) → MatchOption line (StaysSo m outcomes.Idle outcome new) (λ line. Performs m m.store actor (taking m line) outcome new ⊎ (WantsBoxes line.command × Performs m m.store actor (answers_now m line.number replies.NoMemory) outcome new)) → Times m outcome new
-  took_line None so = same outcomes.Idle refl so
-  took_line (Some line) (inl performs) = performed m.store _ performs
-  took_line (Some line) (inr (boxes, performs)) = performed m.store _ performs
-
-  took_posting : TakesPosting m actor outcome new → Times m outcome new
-  took_posting (inl (none, so)) = same outcomes.Idle refl so
-  took_posting (inr (deed, takes, performs)) = performed m.store deed performs
-
-  awaited : (number : ℕ) (reply : _) (place : ℕ) → AwaitsPlace m actor number reply place outcome new → Times m outcome new
-  awaited number reply place (inl (settled, performs)) = performed m.store _ performs
-  awaited number reply place (inr (waits, force)) = forced outcomes.Moved refl force
-
-  stepped : (activity : Activity) → StepsAs activity m actor outcome new → Times m outcome new
-  stepped at.SessionIdle one = took_line (next_line actor m.answered m.lines) one
-  stepped (at.SessionAwait number reply place) one = awaited number reply place one
-  stepped at.PosterIdle one = took_posting one
-  stepped at.ConsolidatorIdle one = same outcomes.Idle refl one
-  stepped at.Flusher one = same outcomes.Idle refl one
-  stepped (at.SessionWalk line held rest found) one = worked one
-  stepped (at.SessionSplit line held) one = worked one
-  stepped (at.SessionPut line source fresh) one = worked one
-  stepped (at.PosterGrow job) one = worked one
-  stepped (at.PosterWalk job held) one = worked one
-  stepped (at.PosterChild job parent) one = worked one
-  stepped (at.PosterPromote job parent) one = worked one
-  stepped (at.PosterAgain job parent) one = worked one
-  stepped (at.ConsolidatorWalk job held) one = worked one
-  stepped (at.ConsolidatorScan job parent child) one = worked one
-  stepped (at.ConsolidatorTry job parent keep gone leaf) one = worked one
-  stepped (at.ConsolidatorPromote job parent keep gone) one = worked one
-  stepped (at.ConsolidatorKeep job parent keep gone) one = worked one
-  stepped (at.ConsolidatorDecide job parent keep gone) one = worked one
-
-  times : (stop : Option StopWhy) → MatchOption stop (StepsAs (m.activity actor) m actor outcome new) (λ why. StaysSo m (outcomes.Stopped why) outcome new) → Times m outcome new
-  times None one = stepped (m.activity actor) one
-  times (Some why) so = same (outcomes.Stopped why) refl so
+times : (m : Machine) (actor : ℕ) (outcome : Outcome) (new : Machine) → StepsTo m actor outcome new → Times m outcome new
+times m actor outcome new step =
+    each_kind m actor outcome new (Times m outcome new)
+    (λ said quiet so. same m actor outcome new said (quiet new.clock) so)
+    (λ said quiet force. forced m actor outcome new said (quiet new.clock) force)
+    (λ deed rests performs. performed m actor outcome new m.store deed performs)
+    (worked m actor outcome new)
+    step
 
 pub clock_moves : ClockMoves
-clock_moves m actor outcome new step = (times m actor outcome new m.stop step).clock
+clock_moves m actor outcome new step = (times m actor outcome new step).clock
 
 pub answers_are_timed : AnswersAreTimed
-answers_are_timed m actor outcome new step = (times m actor outcome new m.stop step).answered
+answers_are_timed m actor outcome new step = (times m actor outcome new step).answered

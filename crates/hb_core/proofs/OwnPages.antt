@@ -1,13 +1,10 @@
 -- A step changes no page in use but those that its actor has for itself.
 use Rattle.std.proofs.Common.{◌≡◌, ◌≢◌, ◌⊎◌, inl, inr, ℕ, true, Option, Some, None, IsSome, IfSome, IsTrue, refl, sym, ap, ◌∙◌, subst}
-use Rattle.std.specs.Prelude.{MatchOption}
 use Rattle.std.proofs.lemmas.Bool.{false≢true}
 use Rattle.hb_frag.specs.declared.pages.LivePage.{LivePage}
 use Rattle.hb_frag.specs.declared.pages.Page.{Page}
 use Rattle.hb_frag.specs.declared.pages.Page.TheVariants.{Live}
 use Rattle.hb_ops.specs.declared.operations.Op.{Op}
-use Rattle.hb_set.specs.declared.commands.Reply.TheVariants as replies
-use Rattle.hb_set.specs.declared.scripts.Line.{Line}
 use Rattle.hb_latch.specs.declared.modes.Mode.{Mode}
 use Rattle.hb_latch.specs.declared.modes.Mode.TheVariants.{Shared, Update, Exclusive}
 use Rattle.hb_latch.specs.Modes.{goes_beside}
@@ -17,7 +14,6 @@ use Rattle.hb_activity.specs.declared.activities.Activity.{Activity}
 use Rattle.hb_activity.specs.declared.activities.Activity.TheVariants as at
 use Rattle.hb_store.specs.Calls.{change_here, framed_read}
 use Rattle.hb_store.specs.Keeps.{StoreState}
-use Rattle.hb_store.specs.declared.stops.StopWhy.{StopWhy}
 use Rattle.hb_core.specs.declared.outcomes.DropWhy.{DropWhy}
 use Rattle.hb_core.specs.declared.outcomes.Outcome.{Outcome}
 use Rattle.hb_core.specs.declared.outcomes.Outcome.TheVariants as outcomes
@@ -25,14 +21,14 @@ use Rattle.hb_core.specs.Machines.{Machine}
 use Rattle.hb_core.specs.Asking.{wanted_by}
 use Rattle.hb_core.specs.Fetching.{Brings}
 use Rattle.hb_store.specs.Replay.{set_pages}
-use Rattle.hb_core.specs.Deeds.{Deed, answers_now}
+use Rattle.hb_core.specs.Deeds.{Deed}
 use Rattle.hb_core.specs.Performing.{MayDo, Performs}
 use Rattle.hb_core.specs.Forcing.{ForcesFirst, StaysSo}
 use Rattle.hb_core.specs.GivingUp.{gives_up, runs_out}
-use Rattle.hb_core.specs.SessionRows.{next_line, taking}
-use Rattle.hb_core.specs.Steps.{AwaitsPlace, GetsReady, StepsAs, TakesPosting, WantsBoxes, Works}
+use Rattle.hb_core.specs.Steps.{GetsReady, Works}
 use Rattle.hb_core.specs.Keeps.{HoldsPagesOfFile, LatchesFit}
 use Rattle.hb_core.specs.Laws.{HasAlone, HeldPagesStay, IsInUse, OwnPagesChange, TakesAlone}
+use Rattle.hb_core.proofs.StepKinds.{IsOutright, each_kind}
 use Rattle.hb_core.proofs.Targets.{IsNumber, numbers_are_targets, set_elsewhere}
 use Rattle.hb_core.proofs.OwnedOps.{IsFreeFor, OwnsTargets, allowed_by, owned_row}
 
@@ -139,46 +135,17 @@ module _ (m : Machine) (actor : ℕ) (latches : MayLatch actor) (fit : LatchesFi
       performed _ gives.fetched (gives_up m gives.why (m.activity actor)) outcome gives.brings (owns_nothing _ (gives_up_nothing m gives.why (m.activity actor))) gives.performs
   worked outcome (inr (inr (free, ready, inr (inr meets)))) = inl (ap (λ (n : Machine). n.store.frame id) meets.stops ∙ fetched_stays _ meets.fetched meets.brings)
 
-  takes_line : (outcome : Outcome) (line : Option Line) → MatchOption line (StaysSo m outcomes.Idle outcome new) (λ line. Performs m m.store actor (taking m line) outcome new ⊎ (WantsBoxes line.command × Performs m m.store actor (answers_now m line.number replies.NoMemory) outcome new)) → Goal
-  takes_line outcome None so = stays outcomes.Idle outcome so
-  takes_line outcome (Some line) (inl performs) = only_moved (taking m line) outcome refl performs
-  takes_line outcome (Some line) (inr (boxes, performs)) = only_moved _ outcome refl performs
-
-  takes_posting : (outcome : Outcome) → TakesPosting m actor outcome new → Goal
-  takes_posting outcome (inl (none, so)) = stays outcomes.Idle outcome so
-  takes_posting outcome (inr (deed, takes, performs)) = only_moved deed outcome (ap (λ (d : Deed). d.op) takes.deed_is) performs
-
-  awaited : (number : ℕ) (reply : _) (place : ℕ) (outcome : Outcome) → AwaitsPlace m actor number reply place outcome new → Goal
-  awaited number reply place outcome (inl (settled, performs)) = only_moved _ outcome refl performs
-  awaited number reply place outcome (inr (waits, force)) = forced outcomes.Moved outcome force
-
-  stepped : (outcome : Outcome) (activity : Activity) → StepsAs activity m actor outcome new → Goal
-  stepped outcome at.SessionIdle step = takes_line outcome (next_line actor m.answered m.lines) step
-  stepped outcome (at.SessionAwait number reply place) step = awaited number reply place outcome step
-  stepped outcome at.PosterIdle step = takes_posting outcome step
-  stepped outcome at.ConsolidatorIdle step = stays outcomes.Idle outcome step
-  stepped outcome at.Flusher step = stays outcomes.Idle outcome step
-  stepped outcome (at.SessionWalk line held rest found) step = worked outcome step
-  stepped outcome (at.SessionSplit line held) step = worked outcome step
-  stepped outcome (at.SessionPut line source fresh) step = worked outcome step
-  stepped outcome (at.PosterGrow job) step = worked outcome step
-  stepped outcome (at.PosterWalk job held) step = worked outcome step
-  stepped outcome (at.PosterChild job parent) step = worked outcome step
-  stepped outcome (at.PosterPromote job parent) step = worked outcome step
-  stepped outcome (at.PosterAgain job parent) step = worked outcome step
-  stepped outcome (at.ConsolidatorWalk job held) step = worked outcome step
-  stepped outcome (at.ConsolidatorScan job parent child) step = worked outcome step
-  stepped outcome (at.ConsolidatorTry job parent keep gone leaf) step = worked outcome step
-  stepped outcome (at.ConsolidatorPromote job parent keep gone) step = worked outcome step
-  stepped outcome (at.ConsolidatorKeep job parent keep gone) step = worked outcome step
-  stepped outcome (at.ConsolidatorDecide job parent keep gone) step = worked outcome step
-
-  ran : (outcome : Outcome) (stop : Option StopWhy) → MatchOption stop (StepsAs (m.activity actor) m actor outcome new) (λ why. StaysSo m (outcomes.Stopped why) outcome new) → Goal
-  ran outcome None step = stepped outcome (m.activity actor) step
-  ran outcome (Some why) so = stays (outcomes.Stopped why) outcome so
+  moved : (outcome : Outcome) (deed : Deed) → IsOutright deed → Performs m m.store actor deed outcome new → Goal
+  moved outcome deed rests performs = only_moved deed outcome rests.op performs
 
 pub own_pages_change : OwnPagesChange
-own_pages_change m actor outcome new latches fit inside step id page used = ran m actor latches fit inside new id page used outcome m.stop step
+own_pages_change m actor outcome new latches fit inside step id page used =
+    each_kind m actor outcome new (IsInUse new id page ⊎ HasAlone m actor id)
+    (λ said quiet so. stays m actor latches fit inside new id page used said outcome so)
+    (λ said quiet force. forced m actor latches fit inside new id page used said outcome force)
+    (moved m actor latches fit inside new id page used outcome)
+    (worked m actor latches fit inside new id page used outcome)
+    step
 
 -- ---- what another actor holds
 

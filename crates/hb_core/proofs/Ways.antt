@@ -1,25 +1,21 @@
 -- Each step does a deed of its actor, or leaves all but the disk as it was.
 use Rattle.std.proofs.Common.{◌≡◌, ◌⊎◌, inl, inr, ℕ, ◌++◌, Bool, cond, List, [], ◌∷◌, Option, Some, None, IsSome, refl, sym, ap, ◌∙◌, subst, ne_eqb, append-nil}
-use Rattle.std.specs.Prelude.{MatchOption}
 use Rattle.hb_frag.specs.declared.pages.Page.{Page}
 use Rattle.hb_core.specs.Fetching.{Brings}
 use Rattle.hb_set.specs.Order.{Entry}
-use Rattle.hb_set.specs.declared.scripts.Line.{Line}
 use Rattle.hb_latch.specs.Tables.{LatchTable, mode_at}
 use Rattle.hb_activity.specs.declared.activities.Activity.{Activity}
-use Rattle.hb_activity.specs.declared.activities.Activity.TheVariants as at
 use Rattle.hb_store.specs.Keeps.{StoreState}
-use Rattle.hb_store.specs.declared.stops.StopWhy.{StopWhy}
 use Rattle.hb_core.specs.declared.outcomes.Outcome.{Outcome}
 use Rattle.hb_core.specs.declared.outcomes.Outcome.TheVariants as outcomes
 use Rattle.hb_core.specs.Machines.{Machine, if_some}
-use Rattle.hb_set.specs.declared.commands.Reply.TheVariants as replies
-use Rattle.hb_core.specs.Deeds.{Deed, answers_now}
+use Rattle.hb_core.specs.Deeds.{Deed}
 use Rattle.hb_core.specs.Performing.{Performs}
 use Rattle.hb_core.specs.Acting.{MeetsBadPage}
 use Rattle.hb_core.specs.Forcing.{ForcesFirst, StaysSo}
-use Rattle.hb_core.specs.SessionRows.{next_line, taking}
-use Rattle.hb_core.specs.Steps.{AwaitsPlace, StepsAs, TakesPosting, WantsBoxes, Works}
+use Rattle.hb_core.specs.Steps.{Works}
+use Rattle.hb_core.specs.Steps.{StepsTo}
+use Rattle.hb_core.proofs.StepKinds.{each_kind}
 use Rattle.hb_core.specs.Laws.{OrderGrows, OthersStay}
 
 -- All but the disk is as it was, and what was in memory is there.
@@ -66,48 +62,19 @@ module _ (m : Machine) (actor : ℕ) (outcome : Outcome) (new : Machine) where
   worked (inr (inr (free, ready, inr (inl gives)))) = inr (gives.fetched, _, gives.performs)
   worked (inr (inr (free, ready, inr (inr meets)))) = inl (meets_so meets)
 
-  took_line : (line : Option Line) → MatchOption line (StaysSo m outcomes.Idle outcome new) (λ line. Performs m m.store actor (taking m line) outcome new ⊎ (WantsBoxes line.command × Performs m m.store actor (answers_now m line.number replies.NoMemory) outcome new)) → HasWay m actor outcome new
-  took_line None so = same outcomes.Idle so
-  took_line (Some line) (inl performs) = inr (m.store, _, performs)
-  took_line (Some line) (inr (boxes, performs)) = inr (m.store, _, performs)
-
-  took_posting : TakesPosting m actor outcome new → HasWay m actor outcome new
-  took_posting (inl (none, so)) = same outcomes.Idle so
-  took_posting (inr (deed, takes, performs)) = inr (m.store, deed, performs)
-
-  awaited : (number : ℕ) (reply : _) (place : ℕ) → AwaitsPlace m actor number reply place outcome new → HasWay m actor outcome new
-  awaited number reply place (inl (settled, performs)) = inr (m.store, _, performs)
-  awaited number reply place (inr (waits, force)) = forced outcomes.Moved force
-
-  stepped : (activity : Activity) → StepsAs activity m actor outcome new → HasWay m actor outcome new
-  stepped at.SessionIdle step = took_line (next_line actor m.answered m.lines) step
-  stepped (at.SessionAwait number reply place) step = awaited number reply place step
-  stepped at.PosterIdle step = took_posting step
-  stepped at.ConsolidatorIdle step = same outcomes.Idle step
-  stepped at.Flusher step = same outcomes.Idle step
-  stepped (at.SessionWalk line held rest found) step = worked step
-  stepped (at.SessionSplit line held) step = worked step
-  stepped (at.SessionPut line source fresh) step = worked step
-  stepped (at.PosterGrow job) step = worked step
-  stepped (at.PosterWalk job held) step = worked step
-  stepped (at.PosterChild job parent) step = worked step
-  stepped (at.PosterPromote job parent) step = worked step
-  stepped (at.PosterAgain job parent) step = worked step
-  stepped (at.ConsolidatorWalk job held) step = worked step
-  stepped (at.ConsolidatorScan job parent child) step = worked step
-  stepped (at.ConsolidatorTry job parent keep gone leaf) step = worked step
-  stepped (at.ConsolidatorPromote job parent keep gone) step = worked step
-  stepped (at.ConsolidatorKeep job parent keep gone) step = worked step
-  stepped (at.ConsolidatorDecide job parent keep gone) step = worked step
-
-  pub way_of : (stop : Option StopWhy) → MatchOption stop (StepsAs (m.activity actor) m actor outcome new) (λ why. StaysSo m (outcomes.Stopped why) outcome new) → HasWay m actor outcome new
-  way_of None step = stepped (m.activity actor) step
-  way_of (Some why) so = same (outcomes.Stopped why) so
+pub way_of : (m : Machine) (actor : ℕ) (outcome : Outcome) (new : Machine) → StepsTo m actor outcome new → HasWay m actor outcome new
+way_of m actor outcome new step =
+    each_kind m actor outcome new (HasWay m actor outcome new)
+    (λ said quiet so. same m actor outcome new said so)
+    (λ said quiet force. forced m actor outcome new said force)
+    (λ deed rests performs. inr (m.store, deed, performs))
+    (worked m actor outcome new)
+    step
 
 -- ---- so other actors stay where they are
 
 pub others_stay : OthersStay
-others_stay m actor outcome new step other another = by (way_of m actor outcome new m.stop step)
+others_stay m actor outcome new step other another = by (way_of m actor outcome new step)
   where
     by : HasWay m actor outcome new → (new.activity other ≡ m.activity other) × ((page : ℕ) → mode_at new.latches other page ≡ mode_at m.latches other page)
     by (inl keeps) = (ap (λ (all : ℕ → Activity). all other) keeps.activity, λ page. ap (λ (table : LatchTable). mode_at table other page) keeps.latches)
@@ -123,7 +90,7 @@ joined_by order None new is = inl (is ∙ append-nil order)
 joined_by order (Some entry) new is = inr (entry, is)
 
 pub order_grows : OrderGrows
-order_grows m actor outcome new step = by (way_of m actor outcome new m.stop step)
+order_grows m actor outcome new step = by (way_of m actor outcome new step)
   where
     by : HasWay m actor outcome new → (new.lines ≡ m.lines) × ((new.order ≡ m.order) ⊎ ((entry : Entry) × (new.order ≡ m.order ++ entry ∷ [])))
     by (inl keeps) = (keeps.lines, inl keeps.order)
