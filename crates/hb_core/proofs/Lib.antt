@@ -6,3 +6,4 @@ pub mod OnePlace
 pub mod Backing
 pub mod LatchesStay
 pub mod LaterPages
+pub mod Moments

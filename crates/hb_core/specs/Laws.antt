@@ -1,5 +1,5 @@
 -- What a step leaves alone, as laws.
-use Rattle.std.specs.Prelude.{◌≡◌, ◌≢◌, ◌⊎◌, ℕ, List, [], ◌∷◌, ◌++◌, Some}
+use Rattle.std.specs.Prelude.{◌≡◌, ◌≢◌, ◌⊎◌, ℕ, ◌+◌, ◌≤◌, List, [], ◌∷◌, ◌++◌, Some}
 use Rattle.std.specs.List.{Contains}
 use Rattle.hb_frag.specs.declared.pages.LivePage.{LivePage}
 use Rattle.hb_frag.specs.declared.pages.Page.TheVariants.{Live}
@@ -14,6 +14,7 @@ use Rattle.hb_activity.specs.Walks.{walk_held, walk_point}
 use Rattle.hb_core.specs.declared.outcomes.Outcome.{Outcome}
 use Rattle.hb_core.specs.Machines.{Files, Machine, current_file, live_here}
 use Rattle.hb_core.specs.Asking.{HasWayFree, wanted_by}
+use Rattle.hb_core.specs.Performing.{given_by}
 use Rattle.hb_core.specs.Keeps.{HasSoundFile, HoldsPagesOfFile, LatchesFit}
 use Rattle.hb_core.specs.Steps.{StepsTo}
 
@@ -71,3 +72,13 @@ abbrev pub WalksGoFurther : Type 0
 WalksGoFurther = (m : Machine) (files : Files) (actor held : ℕ) (page : LivePage) (p : List ℕ) (wanted : Wanted) → HasSoundFile m files → IsPointOf (current_file files) p →
     walk_held (m.activity actor) ≡ Some held → walk_point (m.activity actor) ≡ Some p → live_here m.store held ≡ Some page → wanted_by m actor ≡ Some wanted →
     LeadsFurther (current_file files) p page wanted.page
+
+-- A step that makes no device call leaves the clock. One that does is a force, with a group that waits: it moves the clock by
+-- four at most.
+abbrev pub ClockMoves : Type 0
+ClockMoves = (m : Machine) (actor : ℕ) (outcome : Outcome) (new : Machine) → StepsTo m actor outcome new →
+    (new.clock ≡ m.clock) ⊎ ((m.store.log.groups ≢ []) × (m.clock ≤ new.clock) × (new.clock ≤ m.clock + 4))
+
+-- A line is answered by the step whose outcome says so, with the clock after it, and by no other.
+abbrev pub AnswersAreTimed : Type 0
+AnswersAreTimed = (m : Machine) (actor : ℕ) (outcome : Outcome) (new : Machine) → StepsTo m actor outcome new → new.answered ≡ m.answered ++ given_by outcome new.clock

@@ -1,7 +1,7 @@
 //! What follows of steps from the table alone. Each law is the contract of a function that does
 //! nothing: a caller learns it by the call.
 
-ghost use Rattle.hb_core.specs.Laws.{HeldPagesStay, LatchesStayFit, OrderGrows, OthersStay, OwnPagesChange, PointsHaveOnePage, WalksGoFurther};
+ghost use Rattle.hb_core.specs.Laws.{AnswersAreTimed, ClockMoves, HeldPagesStay, LatchesStayFit, OrderGrows, OthersStay, OwnPagesChange, PointsHaveOnePage, WalksGoFurther};
 
 use hb_latch::laws::going_beside_is_mutual;
 use hb_sound::laws::{
@@ -47,3 +47,10 @@ pub fn walks_go_further()
 {
     each_step_of_a_walk_leads_further();
 }
+
+/// A step that makes no device call leaves the clock; one that does is a force with a group that waits, and
+/// moves it by four at most. A line is answered by the step whose outcome says so, with the clock after it.
+pub fn a_step_is_timed()
+    ensures clock { ClockMoves }
+    ensures answered { AnswersAreTimed }
+{}
