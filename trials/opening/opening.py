@@ -9,45 +9,51 @@ from replaying import replayed
 from model import audit
 
 
-# what is said, its name and a finer one, the bytes that are left, and how many calls write, zero or sync
-Answer = collections.namedtuple("Answer", "told name fine left calls")
+# what is said, its name and a finer one, and the calls that write, zero or sync
+Answer = collections.namedtuple("Answer", "told name fine calls")
 
 
-def next_superblock(turn, meta, disk):
-    """Its turn, its place, and its body; and whether the place hides another body of that turn."""
-    turn = (turn + 1) % 4
-    at, body = PAGE * (turn % 2), body_bytes(turn, meta)
-    there = superblock(disk[at + 1:at + 41], turn % 2)
-    hides = disk[at] != OPEN and there is not None and there[0] == turn and there[1] != meta
-    return turn, at, body, hides
+def superblock_calls(turn, body, hides):
+    at, sync = PAGE * (turn % 2), ("sync",)
+    hidden = [("zero", at + 1, 40), sync] if hides else []
+    return hidden + [("write", at, b"\0"), sync, ("write", at + 1, body), sync, ("write", at, bytes([OPEN])), sync]
 
 
-def renewed(disk, turn, meta, touched):
-    """The bytes that an opening leaves, and how many writes, zeroes and syncs it takes."""
+def renewal(disk, turn, meta, touched):
+    """The calls by which an opening begins the next turn."""
+    next_turn = (turn + 1) % 4
+    at = PAGE * (next_turn % 2)
+    there = superblock(disk[at + 1:at + 41], next_turn % 2)
+    hides = disk[at] != OPEN and there is not None and there[0] == next_turn and there[1] != meta
+    pages = [("write", page_at(number, meta), whole_page(page)) for number, page in sorted(touched.items())]
+    area = [("sync",), ("zero", log_at(next_turn, meta), meta["log"]), ("sync",)]
+    return [("sync",)] + pages + area + superblock_calls(next_turn, body_bytes(next_turn, meta), hides)
+
+
+def left_by(calls, disk):
+    """The bytes behind these calls."""
     left = bytearray(disk)
-    for number, page in touched.items():
-        left[page_at(number, meta):page_at(number, meta) + PAGE] = whole_page(page)
-    turn, at, body, hides = next_superblock(turn, meta, disk)
-    log = log_at(turn, meta)
-    left[log:log + meta["log"]] = bytes(meta["log"])
-    left[at:at + 41] = bytes([OPEN]) + body
-    return left, 10 + len(touched) + 2 * hides
+    for name, *of in calls:
+        if name != "sync":
+            at, piece = of if name == "write" else (of[0], bytes(of[1]))
+            left[at:at + len(piece)] = piece
+    return bytes(left)
 
 
-def refused(disk, told, name, fine=None):
-    """A refusal leaves the bytes as they are, without a call that writes."""
-    return Answer(told, name, fine or name, disk, 0)
+def refused(told, name, fine=None):
+    """A refusal comes before all calls that write, zero or sync."""
+    return Answer(told, name, fine or name, [])
 
 
 def without_super(disk):
     """What is refused before the log is read, or None."""
     if len(disk) < 2 * PAGE:
-        return refused(disk, f"small {2 * PAGE} {len(disk)}", "small, two places")
+        return refused(f"small {2 * PAGE} {len(disk)}", "small, two places")
     found = newest(disk)
     if found is None:
-        return refused(disk, "no super", "no super")
+        return refused("no super", "no super")
     if len(disk) < size_of(found[1]):
-        return refused(disk, f"small {size_of(found[1])} {len(disk)}", "small, layout")
+        return refused(f"small {size_of(found[1])} {len(disk)}", "small, layout")
     return None
 
 
@@ -58,7 +64,7 @@ def behind_log(disk, turn, meta):
         try:
             meta = replayed(payload, meta, touched)
         except Bad as why:
-            return refused(disk, f"bad group {frame}", "bad group", f"bad group, {why}")
+            return refused(f"bad group {frame}", "bad group", f"bad group, {why}")
     return meta, touched
 
 
@@ -82,21 +88,26 @@ def opened(disk):
     meta, touched = found
     told = audited(disk, meta, touched)
     if told[0] != "ok":
-        return refused(disk, f"damaged {told[2]} S{told[1]}", f"S{told[1]}")
-    left, calls = renewed(disk, turn, meta, touched)
+        return refused(f"damaged {told[2]} S{told[1]}", f"S{told[1]}")
     fields = " ".join(str(meta[name]) for name, _ in FIELDS)
-    return Answer(f"ok {told[1]} {fields}", "opens", f"opens, {len(touched)} pages touched", bytes(left), calls)
+    return Answer(f"ok {told[1]} {fields}", "opens", f"opens, {len(touched)} pages touched", renewal(disk, turn, meta, touched))
 
 
-def blocks(before, after):
-    """Which blocks of 4,096 bytes are other ones afterwards, and a sum of each."""
+def calls_text(calls):
+    """The calls, with a sum of what each writes."""
+    spelled = {"sync": lambda: " s", "zero": lambda at, length: f" z{at}+{length}", "write": lambda at, piece: f" w{at}+{len(piece)}:{zlib.crc32(piece):08x}"}
+    return "".join(spelled[name](*of) for name, *of in calls)
+
+
+def blocks_text(before, after):
+    """Which blocks of 4,096 bytes are other ones afterwards, with a sum of each."""
     differ = (at for at in range(0, len(after), PAGE) if before[at:at + PAGE] != after[at:at + PAGE])
     return "".join(f" {at // PAGE}:{zlib.crc32(after[at:at + PAGE]):08x}" for at in differ)
 
 
-def answer(disk):
-    """All that is compared: what is said, the calls that write, zero or sync, and what then stands otherwise.
-    And its two names."""
-    told, name, fine, left, calls = opened(disk)
-    assert len(left) == len(disk)
-    return f"{told} calls {calls}{blocks(disk, left)}", name, fine
+def all_said(disk, answer, whole):
+    """All that is compared: what is said and each call; and of some files how many calls and which blocks."""
+    line = answer.told + calls_text(answer.calls)
+    if not whole:
+        return line
+    return f"{answer.told} calls {len(answer.calls)}{blocks_text(disk, left_by(answer.calls, disk))} and {line}"

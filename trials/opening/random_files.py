@@ -4,10 +4,10 @@
     trials/opening/random_files.py COUNT [SEED]
 
 It copies the repository's sources into a temporary folder, puts program.txt there as one more program,
-and runs it unproved (`rt try`) on COUNT files, which files.py makes and spoiling.py spoils. What each
-opening says, how many calls it takes that write, zero or sync, and which blocks of the file are other
-ones afterwards, with a sum of each, has to be what opening.py says. It prints how many files there were
-of each answer, and the first that differ. The status is 0 where none does.
+and runs it unproved (`rt try`) on COUNT files, which files.py makes and spoiling.py spoils. What an
+opening says, and each call by which it writes, zeroes or syncs, with a sum of what it writes, has to be
+what opening.py says. Of one file in fifty all bytes are compared too, over a disk in memory. It prints
+how many files there were of each answer, and the first that differ. The status is 0 where none does.
 """
 import collections
 import os
@@ -24,8 +24,9 @@ import spoiling
 
 HERE = os.path.dirname(os.path.abspath(__file__))
 ROOT = os.path.dirname(os.path.dirname(HERE))
-USES = "hb_space hb_disk hb_layout hb_ops hb_store hb_restart"
-SAME, BATCH = 10, 25000  # how many files are made of one, and how many a run of the program takes
+USES = "hb_space hb_outside hb_disk hb_layout hb_ops hb_store hb_restart"
+# how many files are made of one, of how many all bytes are compared, and how many a run of the program takes
+SAME, WHOLE, BATCH = 10, 50, 100000
 
 
 # ---- cases
@@ -72,8 +73,9 @@ def cases(rng, count):
         first = made[-1]
         for _ in range(min(SAME, count - len(wanted))):
             disk = spoiling.spoiled(rng, file, meta, pages)
-            made.append(spelled(1, base, disk))
-            wanted.append((*opening.answer(disk), first, made[-1]))
+            answer, whole = opening.opened(disk), len(wanted) % WHOLE == 0
+            made.append(spelled(2 if whole else 1, base, disk))
+            wanted.append((opening.all_said(disk, answer, whole), answer.name, answer.fine, first, made[-1]))
     return b"".join(made), wanted
 
 

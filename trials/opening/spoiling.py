@@ -6,7 +6,7 @@ do nothing to some files, and some do nothing that an opening looks at.
 import spoil_log as log
 import spoil_pages as place
 import spoil_supers as supers
-from opening import opened
+from opening import left_by, opened
 
 # how often each is taken, beside the others
 OFTEN = {
@@ -25,4 +25,4 @@ def spoiled(rng, file, meta, pages):
     for spoiler in rng.choices(list(OFTEN), list(OFTEN.values()), k=rng.choice((0, 0, 1, 1, 1, 1, 1, 2, 2, 3))):
         spoiler(rng, made, meta, pages)
     disk = made.spelled()
-    return opened(disk).left if rng.random() < 0.05 else disk
+    return left_by(opened(disk).calls, disk) if rng.random() < 0.05 else disk
