@@ -18,8 +18,8 @@ range_of (Tried at len) = Some (at, len)
 range_of Synced = None
 
 -- a change lies within so many bytes
-abbrev pub Reaches : Change → ℕ → Type 0
-Reaches change size = IfSome (range_of change) (λ range. range.0 + range.1 ≤ size)
+abbrev pub LiesWithin : Change → ℕ → Type 0
+LiesWithin change size = IfSome (range_of change) (λ range. range.0 + range.1 ≤ size)
 
 -- the bytes before a change, from those after it
 abbrev pub undone : Change → List ℕ → List ℕ
@@ -69,16 +69,16 @@ IsPicked New bytes events image = image ≡ bytes
 IsPicked (Noise byte) bytes events image = IsNoise byte bytes events image
 
 -- each event lies within so many bytes
-abbrev pub AllReach : ℕ → List Event → Type 0
-AllReach size events = All (λ e. Reaches e.change size) events
+abbrev pub AllLieWithin : ℕ → List Event → Type 0
+AllLieWithin size events = All (λ e. LiesWithin e.change size) events
 
 -- each event came before this value of the clock and lies within so many bytes
 abbrev pub AreKept : ℕ → ℕ → List Event → Type 0
-AreKept clock size events = All (λ e. (e.clock < clock) × Reaches e.change size) events
+AreKept clock size events = All (λ e. (e.clock < clock) × LiesWithin e.change size) events
 
 -- a disk of these bytes, after these events
-abbrev pub disk_of : List ℕ → List Event → ℕ → ℕ → ℕ → DiskModel
-disk_of bytes events clock reads writes = record {
+abbrev pub disk_after : List ℕ → List Event → ℕ → ℕ → ℕ → DiskModel
+disk_after bytes events clock reads writes = record {
   told = Some bytes;
   size = length bytes;
   clock = clock;

@@ -19,9 +19,9 @@ abbrev pub ◌>>=◌ : {A B : Type 0} → Option A → (A → Option B) → Opti
 None >>= f = None
 
 -- What a function returned, seen by view, is what reading gives.
-abbrev pub Reads : {X Y : Type 0} → (X → Y) → Option X → Option Y → Type 0
-Reads view (Some x) read = read ≡ Some (view x)
-Reads view None read = read ≡ None
+abbrev pub ReadsAs : {X Y : Type 0} → (X → Y) → Option X → Option Y → Type 0
+ReadsAs view (Some x) read = read ≡ Some (view x)
+ReadsAs view None read = read ≡ None
 
 -- The same where memory may be wanted.
 abbrev pub Fails : {Y : Type 0} → PageError → Option Y → Type 0
@@ -159,8 +159,8 @@ fields_at (suc (suc zero) ∷ rest) = do
 fields_at (suc (suc (suc b)) ∷ rest) = None
 
 -- a page: as many bytes as it takes, with zeros behind the fields
-unfoldable pub page_at : List ℕ → Option Page
-page_at bytes = if length bytes == PAGE then ends_in_zeros (fields_at bytes) else None
+unfoldable pub page_of_bytes : List ℕ → Option Page
+page_of_bytes bytes = if length bytes == PAGE then ends_in_zeros (fields_at bytes) else None
   where
     ends_in_zeros : Option (Page × List ℕ) → Option Page
     ends_in_zeros read = do

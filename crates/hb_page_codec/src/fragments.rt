@@ -1,7 +1,7 @@
 //! A page's inside, from the front of bytes.
 ghost use Rattle.std.specs.Prelude.{◌≡◌, ◌<◌, ◌≤◌, length};
 ghost use Rattle.hb_page_codec.specs.Memory.{WantsOnly, IsSomeCount, IsCutOrRecords};
-ghost use Rattle.hb_page_codec.specs.Reading.{Reads, Gives, count_at, records_at, axis_at, cut_at, records_tip_at, node_at, tree_at};
+ghost use Rattle.hb_page_codec.specs.Reading.{ReadsAs, Gives, count_at, records_at, axis_at, cut_at, records_tip_at, node_at, tree_at};
 ghost use Rattle.hb_frag.specs.Nodes.{tree_of};
 
 use crate::errors::PageError;
@@ -16,7 +16,7 @@ use std::alloc::Global;
 #[tactic(auto, unfolding(crate::specs::Reading::count_at))]
 fn count_of(k: u8, bytes: &[u8]) -> Option<(u16, &[u8])>
     requires { k ≤ KMAX }
-    ensures { Reads (λ x. (x.0, x.1.now)) result (count_at k bytes.now) }
+    ensures { ReadsAs (λ x. (x.0, x.1.now)) result (count_at k bytes.now) }
 {
     let (count, rest) = u16_of(bytes)?;
     let least = 8 * usize::from(k) + 1;
@@ -59,7 +59,7 @@ fn records_tip_of(alloc: Global, k: u8, bytes: &[u8]) -> Result<(Node, &[u8]), P
 /// An attribute below `k`.
 #[tactic(auto, unfolding(crate::specs::Reading::axis_at))]
 fn axis_of(k: u8, bytes: &[u8]) -> Option<(u8, &[u8])>
-    ensures { Reads (λ x. (x.0, x.1.now)) result (axis_at k bytes.now) }
+    ensures { ReadsAs (λ x. (x.0, x.1.now)) result (axis_at k bytes.now) }
 {
     let (axis, rest) = bytes.split_first()?;
     if *axis < k { Some((*axis, rest)) } else { None }

@@ -9,16 +9,16 @@ use Rattle.hb_set.specs.declared.scripts.Answered.{Answered}
 use Rattle.hb_set.specs.Machine.{RecordSet, reply_of, set_after, Answers}
 use Rattle.hb_set.specs.MachineLaws.{is_replied, replied}
 use Rattle.hb_set.specs.Laws.{OneAnswer, PartsAreLegal, ResultIsByParts, RepliesAreByParts, RepliesGrow, ResultGrows, TextKeepsSessions, EntriesGrow, RunsGrow, RunsReply, RunsAreLegal, RunsAnswerEach}
-use Rattle.hb_set.specs.Order.{Entry, AreReplies, result_of, lines_of, MayPrecede, KeepsSessions, joined, entries_of, IsAbove, IsAnswerTo}
+use Rattle.hb_set.specs.Order.{Entry, AreReplies, result_of, order_lines, MayPrecede, KeepsSessions, with_entry, entries_of, IsAbove, IsAnswerTo}
 
 -- lists of the same lines that both have the machine's replies are one
-pub same_entries : (m : RecordSet) (es fs : List Entry) → lines_of es ≡ lines_of fs → AreReplies m es → AreReplies m fs → es ≡ fs
+pub same_entries : (m : RecordSet) (es fs : List Entry) → order_lines es ≡ order_lines fs → AreReplies m es → AreReplies m fs → es ≡ fs
 same_entries m [] [] same p q = refl
 same_entries m [] (f ∷ fs) same p q = cc
 same_entries m (e ∷ es) [] same p q = cc
 same_entries m (e ∷ es) (f ∷ fs) same p q =
     let line : e.line ≡ f.line = cc in
-    let lines : lines_of es ≡ lines_of fs = cc in
+    let lines : order_lines es ≡ order_lines fs = cc in
     let reply : e.reply ≡ f.reply = p.0 ∙ ap (λ (l : Line). reply_of l.command m) line ∙ sym q.0 in
     let rest = same_entries (set_after e.line.command m) es fs lines p.1 (subst (λ (l : Line). AreReplies (set_after l.command m) fs) (sym line) q.1) in
     λ i. record { line = line i; reply = reply i } ∷ rest i
@@ -65,7 +65,7 @@ pub result_grown : ResultGrows
 result_grown m es e = result_of-append m es (e ∷ [])
 
 -- lines answered in the order of the text
-above_joined : (x : Entry) (l : Line) (r : Reply) (es : List Entry) → MayPrecede x (record { line = l; reply = r }) → AllByRecursion (MayPrecede x) es → AllByRecursion (MayPrecede x) (joined l r es)
+above_joined : (x : Entry) (l : Line) (r : Reply) (es : List Entry) → MayPrecede x (record { line = l; reply = r }) → AllByRecursion (MayPrecede x) es → AllByRecursion (MayPrecede x) (with_entry l r es)
 above_joined x l Full es p h = h
 above_joined x l NoMemory es p h = h
 above_joined x l ReadFault es p h = h
@@ -76,7 +76,7 @@ above_entries x [] answered h = tt
 above_entries x (l ∷ ls) [] h = tt
 above_entries x (l ∷ ls) (a ∷ rest) h = above_joined x l a.reply (entries_of ls rest) (record { other_line = λ same. omega (arith, h.0); session_order = λ _. h.0 }) (above_entries x ls rest h.1)
 
-sessions_joined : (l : Line) (r : Reply) (es : List Entry) → ((x : Entry) → x.line ≡ l → AllByRecursion (MayPrecede x) es) → KeepsSessions es → KeepsSessions (joined l r es)
+sessions_joined : (l : Line) (r : Reply) (es : List Entry) → ((x : Entry) → x.line ≡ l → AllByRecursion (MayPrecede x) es) → KeepsSessions es → KeepsSessions (with_entry l r es)
 sessions_joined l Full es above h = h
 sessions_joined l NoMemory es above h = h
 sessions_joined l ReadFault es above h = h
@@ -88,7 +88,7 @@ sessions_of_text (l ∷ ls) [] h = tt
 sessions_of_text (l ∷ ls) (a ∷ rest) h = sessions_joined l a.reply (entries_of ls rest) (λ x is. above_entries x ls rest (subst (λ (k : Line). IsAbove k ls) (sym is) h.0)) (sessions_of_text ls rest h.1)
 
 -- one more line at the end of the text
-joined_append : (l : Line) (r : Reply) (es fs : List Entry) → joined l r (es ++ fs) ≡ joined l r es ++ fs
+joined_append : (l : Line) (r : Reply) (es fs : List Entry) → with_entry l r (es ++ fs) ≡ with_entry l r es ++ fs
 joined_append l Full es fs = refl
 joined_append l NoMemory es fs = refl
 joined_append l ReadFault es fs = refl
@@ -98,7 +98,7 @@ pub entries_of-push : EntriesGrow
 entries_of-push [] [] l a same = refl
 entries_of-push [] (b ∷ rest) l a same = absurd (omega arith)
 entries_of-push (k ∷ ls) [] l a same = absurd (omega arith)
-entries_of-push (k ∷ ls) (b ∷ rest) l a same = ap (joined k b.reply) (entries_of-push ls rest l a (omega arith)) ∙ joined_append k b.reply (entries_of ls rest) (joined l a.reply [])
+entries_of-push (k ∷ ls) (b ∷ rest) l a same = ap (with_entry k b.reply) (entries_of-push ls rest l a (omega arith)) ∙ joined_append k b.reply (entries_of ls rest) (with_entry l a.reply [])
 
 -- a run: it grows by one answer at its end
 pub ran_grown : RunsGrow
@@ -111,7 +111,7 @@ ran_grown m (k ∷ ls) (b ∷ rest) n l a next ran answer = (ran.0, ran.1, ran_g
 refused : (c : _) (m : RecordSet) (r : Reply) → r ≡ reply_of c m → is_replied r ≡ false → ⊥
 refused c m r is none = false≢true (sym none ∙ ap is_replied is ∙ replied c m)
 
-joined_replies : (m : RecordSet) (l : Line) (r : Reply) (next : RecordSet) (es : List Entry) (n : RecordSet) → Answers m l.command r next → AreReplies next es × (result_of next es ≡ n) → AreReplies m (joined l r es) × (result_of m (joined l r es) ≡ n)
+joined_replies : (m : RecordSet) (l : Line) (r : Reply) (next : RecordSet) (es : List Entry) (n : RecordSet) → Answers m l.command r next → AreReplies next es × (result_of next es ≡ n) → AreReplies m (with_entry l r es) × (result_of m (with_entry l r es) ≡ n)
 joined_replies m l Full next es n h rest = absurd (refused l.command m Full h.0 refl)
 joined_replies m l NoMemory next es n h rest = subst (λ (k : RecordSet). AreReplies k es × (result_of k es ≡ n)) h rest
 joined_replies m l ReadFault next es n h rest = absurd (refused l.command m ReadFault h.0 refl)

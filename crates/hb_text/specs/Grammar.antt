@@ -136,12 +136,12 @@ abbrev pub highs : List ℕ → List ℕ
 highs (lo ∷ hi ∷ rest) = hi ∷ highs rest
 highs _ = []
 
-abbrev pub are_ordered : List ℕ → Bool
-are_ordered (lo ∷ hi ∷ rest) = nat_le lo hi && are_ordered rest
-are_ordered _ = true
+abbrev pub pairs_are_ordered : List ℕ → Bool
+pairs_are_ordered (lo ∷ hi ∷ rest) = nat_le lo hi && pairs_are_ordered rest
+pairs_are_ordered _ = true
 
 abbrev pub box_read : List ℕ → Result Area TextRule
-box_read values = if are_ordered values then Ok (record { lo = lows values; hi = highs values }) else Err EmptyBox
+box_read values = if pairs_are_ordered values then Ok (record { lo = lows values; hi = highs values }) else Err EmptyBox
 
 abbrev pub box_words_read : List (List ℕ) → Result Area TextRule
 box_words_read words = values_read words >>= box_read

@@ -18,7 +18,7 @@ use Rattle.hb_text.specs.declared.rules.TextRule.TheVariants.{TooMany, LongLine,
 use Rattle.hb_space.specs.declared.form.TheConstants.{LINE}
 use Rattle.hb_text.specs.declared.verbs.Verb.{Verb}
 use Rattle.hb_text.specs.declared.verbs.Verb.TheVariants as verbs
-use Rattle.hb_text.specs.Grammar.{◌>>=◌, or_fault, values_read, lows, highs, are_ordered, box_read, box_words_read, body_read, operand_count, operands_read, verb_of, verb_read, command_read, session_number, session_of, says_command, session_read, words_read, words_of, steps_read, says_steps, line_read, lines_read, lines_of, at_line, text_read, Said, Reading, is_empty, is_printable}
+use Rattle.hb_text.specs.Grammar.{◌>>=◌, or_fault, values_read, lows, highs, pairs_are_ordered, box_read, box_words_read, body_read, operand_count, operands_read, verb_of, verb_read, command_read, session_number, session_of, says_command, session_read, words_read, words_of, steps_read, says_steps, line_read, lines_read, lines_of, at_line, text_read, Said, Reading, is_empty, is_printable}
 use Rattle.std.proofs.lemmas.Bool.Decides.{nat_tests}
 use Rattle.std.proofs.lemmas.List.{length-take}
 
@@ -78,7 +78,7 @@ operands_attributes verbs.Search k words command count e =
     let area = bound (box_words_read words) _ command e in
     let values = bound (values_read words) box_read area.0 area.1 in
     let same : Search area.0 ≡ command = cc (area.2) in
-    rw (← same) (elim (chosen (are_ordered values.0) (Ok (record { lo = lows values.0; hi = highs values.0 })) (Err EmptyBox) (Ok area.0) values.2) [
+    rw (← same) (elim (chosen (pairs_are_ordered values.0) (Ok (record { lo = lows values.0; hi = highs values.0 })) (Err EmptyBox) (Ok area.0) values.2) [
       | inl ordered ↦ ap (λ (a : Area). length a.lo) (sym (ok_same _ _ ordered.1)) ∙ half_of values.0 k (values_length words values.0 values.1 ∙ count)
       | inr empty ↦ cc (empty.1)
     ])

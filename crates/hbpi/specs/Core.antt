@@ -92,7 +92,7 @@ MayFail command c s ReadFault = c.store.frame c.store.meta.root ≡ None
 MayFail command c s _ = ⊥
 
 -- A step that answers the line at once, outside the order: the session is idle again, and the file as it was.
-pub record Refuses (line : Line) (reply : Reply) (old : CoreState) (s : FileState) (outcome : Outcome) (new : CoreState) (t : FileState) : Type 0 where
+pub record RefusesLine (line : Line) (reply : Reply) (old : CoreState) (s : FileState) (outcome : Outcome) (new : CoreState) (t : FileState) : Type 0 where
   pub answered : outcome ≡ outcomes.Answered line.number reply
   pub taken : new.taken ≡ old.taken
   pub session : new.session ≡ sessions.Idle
@@ -133,9 +133,9 @@ TakesNext old s outcome new t =
 abbrev pub Walks : Line → CoreState → FileState → Outcome → CoreState → FileState → Type 0
 Walks line old s outcome new t =
     (MayCommit line.command × (¬ (IsReady old.store)) × (old.store.log.groups ≢ []) × Forces outcomes.Helped old s outcome new t)
-    ⊎ (MayCommit line.command × (¬ (IsReady old.store)) × (old.store.log.groups ≡ []) × Refuses line Full old s outcome new t)
-    ⊎ (((MayCommit line.command → ⊥) ⊎ IsReady old.store) × (HasNoRoom line.command s) × Refuses line Full old s outcome new t)
-    ⊎ (((MayCommit line.command → ⊥) ⊎ IsReady old.store) × ((reply : Reply) × MayFail line.command old s reply × Refuses line reply old s outcome new t))
+    ⊎ (MayCommit line.command × (¬ (IsReady old.store)) × (old.store.log.groups ≡ []) × RefusesLine line Full old s outcome new t)
+    ⊎ (((MayCommit line.command → ⊥) ⊎ IsReady old.store) × (HasNoRoom line.command s) × RefusesLine line Full old s outcome new t)
+    ⊎ (((MayCommit line.command → ⊥) ⊎ IsReady old.store) × ((reply : Reply) × MayFail line.command old s reply × RefusesLine line reply old s outcome new t))
     ⊎ (((MayCommit line.command → ⊥) ⊎ IsReady old.store) × (¬ (HasNoRoom line.command s)) × TakesEffect line old s outcome new t)
 
 abbrev pub Awaits : Line → Reply → ℕ → CoreState → FileState → Outcome → CoreState → FileState → Type 0
@@ -282,14 +282,14 @@ pub record StandsAt (n : RecordSet) (done : List Line) (a : Answered) : Type 0 w
   pub number : line.number ≡ a.line
   pub reply : a.reply ≡ reply_of line.command (set_of n (take place done))
 
-abbrev pub IsOutside : Reply → Type 0
-IsOutside Full = Unit {0}
-IsOutside NoMemory = Unit {0}
-IsOutside ReadFault = Unit {0}
-IsOutside _ = ⊥
+abbrev pub IsOutsideOrder : Reply → Type 0
+IsOutsideOrder Full = Unit {0}
+IsOutsideOrder NoMemory = Unit {0}
+IsOutsideOrder ReadFault = Unit {0}
+IsOutsideOrder _ = ⊥
 
 abbrev pub IsReplied : RecordSet → List Line → Answered → Type 0
-IsReplied n done a = StandsAt n done a ⊎ (IsOutside a.reply × All (λ (l : Line). l.number ≢ a.line) done)
+IsReplied n done a = StandsAt n done a ⊎ (IsOutsideOrder a.reply × All (λ (l : Line). l.number ≢ a.line) done)
 
 -- how many of the lines that were taken have an answer: all but the one that the session works for
 abbrev pub answered_in : Session → ℕ → ℕ

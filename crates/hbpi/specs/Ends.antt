@@ -152,13 +152,13 @@ HasMade SinkFault = Unit {0}
 HasMade _ = ⊥
 
 -- What was put of a text so far: all of it and with no fault, or a front where the sink failed.
-abbrev pub HasPut : Option (List ℕ) → Option (List ℕ) → ℕ → ℕ → Bool → List ℕ → Type 0
-HasPut before after faults_before faults_after false text = Appends before after text × (faults_after ≡ faults_before)
-HasPut before after faults_before faults_after true text = AppendsFront before after text × Rose faults_before faults_after × (faults_before ≤ faults_after)
+abbrev pub HasPutText : Option (List ℕ) → Option (List ℕ) → ℕ → ℕ → Bool → List ℕ → Type 0
+HasPutText before after faults_before faults_after false text = Appends before after text × (faults_after ≡ faults_before)
+HasPutText before after faults_before faults_after true text = AppendsFront before after text × Rose faults_before faults_after × (faults_before ≤ faults_after)
 
 -- One piece more is put only where none failed before.
 abbrev pub PutsMore : Option (List ℕ) → Option (List ℕ) → ℕ → ℕ → Bool → Bool → List ℕ → Type 0
-PutsMore before after faults_before faults_after false failed piece = HasPut before after faults_before faults_after failed piece
+PutsMore before after faults_before faults_after false failed piece = HasPutText before after faults_before faults_after failed piece
 PutsMore before after faults_before faults_after true failed piece = (after ≡ before) × (faults_after ≡ faults_before) × (failed ≡ true)
 
 -- a text that was read and says a script over k attributes
