@@ -3,3 +3,4 @@ pub mod Exact
 pub mod Memory
 pub mod Writing
 pub mod Weight
+pub mod LoopLaws

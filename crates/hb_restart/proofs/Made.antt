@@ -20,7 +20,7 @@ use Rattle.hb_store.specs.Keeps.{IsFresh}
 use Rattle.hb_store.specs.ReplayLaws.{opens_fresh}
 use Rattle.hb_restart.specs.Creation.{IsLaidOut}
 use Rattle.hb_restart.specs.NewFiles.{lone}
-use Rattle.hb_restart.proofs.OnePage.{page_alone}
+use Rattle.hb_restart.specs.LoneLaws.{page_alone}
 
 -- a part of the bytes that isn't overwritten
 pub part_kept : (b : List ℕ) (at : ℕ) (piece : List ℕ) (from m : ℕ) → at + length piece ≤ length b → (from + m ≤ at) ⊎ (at + length piece ≤ from)

@@ -1,10 +1,10 @@
 -- The file that is made first: its page has a spelling, it is sound, and it has no record.
 use Rattle.std.proofs.Common.{◌≡◌, nat_le, ◌&&◌, Bool, true, false, cond, Option, Some, None, IsNone, ℕ, zero, suc, ◌+◌, ◌-◌, ◌*◌, ◌^◌, ◌<◌, ◌≤◌, List, [], ◌++◌, length, replicate, slice_index, Contains, refl, sym, ◌∙◌, subst, arith, length-append}
 use Rattle.std.proofs.lemmas.List.{length-replicate}
-use Rattle.std.proofs.lemmas.List.Elements.{All-replicate, All-nil}
-use Rattle.hb_space.specs.Boxes.{IsArea, whole_area}
+use Rattle.std.proofs.lemmas.List.Elements.{All-replicate, All-nil, All-cons}
+use Rattle.hb_space.specs.Boxes.{IsArea, whole_area, Holds}
 use Rattle.hb_space.specs.Points.{IsPoint}
-use Rattle.hb_space.specs.declared.form.TheConstants.{KMAX}
+use Rattle.hb_space.specs.declared.form.TheConstants.{KMAX, ICAP_MIN}
 use Rattle.hb_outside.specs.Numbers.{big_endian}
 use Rattle.hb_frag.specs.declared.leaves.Leaf.TheVariants.{Records, Child}
 use Rattle.hb_frag.specs.declared.pages.Page.TheVariants.{Live}
@@ -12,9 +12,6 @@ use Rattle.hb_frag.specs.Leaves.{leaves_of, siblings_of}
 use Rattle.hb_frag.specs.Grammar.{HasSpelling, FitsRecord, leaf_bytes, tree_bytes, point_bytes}
 use Rattle.hb_frag.specs.Trees.{Tip}
 use Rattle.std.proofs.lemmas.Bool.{false≢true, leb-true}
-use Rattle.std.proofs.lemmas.List.Elements.{All-cons}
-use Rattle.hb_space.specs.Boxes.{Holds}
-use Rattle.hb_space.specs.declared.form.TheConstants.{ICAP_MIN}
 use Rattle.hb_frag.specs.declared.pages.LivePage.{LivePage}
 use Rattle.hb_frag.specs.Rules.{BelongsAt, IsInOrder}
 use Rattle.hb_layout.specs.Limits.{IsLayout}
@@ -26,7 +23,8 @@ use Rattle.hb_restart.specs.declared.faults.Field.TheVariants as fields
 use Rattle.hb_restart.specs.declared.faults.OpenFault.{OpenFault}
 use Rattle.hb_restart.specs.declared.faults.OpenFault.TheVariants as faults
 use Rattle.hb_restart.specs.declared.layout.Layout.{Layout}
-use Rattle.hb_restart.proofs.OnePage.{live_alone, live_is, no_child, to_rooted, to_counted}
+use Rattle.hb_restart.proofs.NoChild.{no_child}
+use Rattle.hb_restart.specs.LoneLaws.{live_alone, live_is, to_rooted, to_counted}
 
 replicate_point : (k x : ℕ) → 0 < k → k ≤ KMAX → x < 2 ^ 64 → IsPoint (replicate k x)
 replicate_point k x some few fits = record {
