@@ -21,7 +21,6 @@ use Rattle.hbpi.proofs.EndLaws.{front_reads}
 
 -- no refusal of a file names a line
 no_line : (fault : StartFault) (bad : BadLine) → start_status fault ≡ BadText bad → ⊥
-no_line (starts.Closed (faults.BadLayout field value)) bad is = cc is
 no_line (starts.Closed (faults.Small needed found)) bad is = cc is
 no_line (starts.Closed faults.NoSuper) bad is = cc is
 no_line starts.NotBuilt bad is = cc is

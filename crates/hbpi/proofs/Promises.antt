@@ -27,7 +27,6 @@ use Rattle.hbpi.proofs.LinesInOrder.{among_whole}
 use Rattle.hbpi.proofs.Reopened.{no_line_yet}
 
 not_done : (fault : StartFault) → start_status fault ≡ Done → ⊥
-not_done (starts.Closed (faults.BadLayout field value)) is = cc (is)
 not_done (starts.Closed (faults.Small needed found)) is = cc (is)
 not_done (starts.Closed faults.NoSuper) is = cc (is)
 not_done starts.NotBuilt is = cc (is)

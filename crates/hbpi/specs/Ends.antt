@@ -11,8 +11,7 @@ use Rattle.hbpi.specs.declared.forms.Form.{Form}
 use Rattle.hbpi.specs.declared.forms.Form.TheVariants.{Create, Dry, Drive}
 use Rattle.hbpi.specs.declared.statuses.Status.{Status}
 use Rattle.hbpi.specs.declared.statuses.Status.TheVariants.{Done, Usage, BadText, SourceFault, SinkFault, DiskFault, Damaged, NoMemory, BadLayout, Small, NotBuilt}
-use Rattle.hb_restart.specs.declared.faults.OpenFault.{OpenFault}
-use Rattle.hb_restart.specs.declared.faults.OpenFault.TheVariants as opens
+use Rattle.hb_restart.specs.declared.faults.BadField.{BadField}
 use Rattle.hb_restart.specs.Layouts.{first_fault, size_of}
 use Rattle.hbpi.specs.Outcome.{fault_line, GetsLine, IsTextOf, IsWholeText, IsDryRun}
 
@@ -104,7 +103,7 @@ pub record KeepsFaults (disk : DiskSeen) : Type 0 where
   pub writes : disk.writes_after ≡ disk.writes_before
 
 -- a file was made: its layout is within the limits, and the disk has room for it
-pub record IsMade (fault : Option OpenFault) (needed : ℕ) (seen : Seen) (disk : DiskSeen) : Type 0 where
+pub record IsMade (fault : Option BadField) (needed : ℕ) (seen : Seen) (disk : DiskSeen) : Type 0 where
   pub good : fault ≡ None
   pub large : needed ≤ disk.size
   pub faults : KeepsFaults disk
@@ -113,16 +112,16 @@ pub record IsMade (fault : Option OpenFault) (needed : ℕ) (seen : Seen) (disk 
   pub none_ordered : seen.order ≡ []
 
 -- making a file was refused behind the test of the layout
-pub record IsNotMade (fault : Option OpenFault) (seen : Seen) (status : Status) : Type 0 where
+pub record IsNotMade (fault : Option BadField) (seen : Seen) (status : Status) : Type 0 where
   pub good : fault ≡ None
   pub refused : IsRefused seen status
   pub unread : IsUnread seen
 
--- a new file, whose layout has this fault and wants so many bytes
-abbrev pub CreateEnds : Option OpenFault → ℕ → Seen → DiskSeen → Status → Type 0
+-- a new file, whose layout has this bad field and wants so many bytes
+abbrev pub CreateEnds : Option BadField → ℕ → Seen → DiskSeen → Status → Type 0
 CreateEnds fault needed seen disk Done = IsMade fault needed seen disk × Appends seen.held seen.holds (codes "created\n") × (seen.sink_after ≡ seen.sink_before)
 CreateEnds fault needed seen disk SinkFault = IsMade fault needed seen disk × AppendsFront seen.held seen.holds (codes "created\n") × Rose seen.sink_before seen.sink_after
-CreateEnds fault needed seen disk (BadLayout field value) = (fault ≡ Some (opens.BadLayout field value)) × IsRefused seen (BadLayout field value) × IsUnread seen × KeepsFaults disk
+CreateEnds fault needed seen disk (BadLayout field value) = (fault ≡ Some (record { field = field; value = value })) × IsRefused seen (BadLayout field value) × IsUnread seen × KeepsFaults disk
 CreateEnds fault needed seen disk (Small wanted found) = (wanted ≡ needed) × (found ≡ disk.size) × (disk.size < needed) × IsNotMade fault seen (Small wanted found) × KeepsFaults disk
 CreateEnds fault needed seen disk DiskFault = (needed ≤ disk.size) × Rose disk.writes_before disk.writes_after × IsNotMade fault seen DiskFault × (disk.reads_after ≡ disk.reads_before)
 CreateEnds fault needed seen disk NoMemory = (needed ≤ disk.size) × IsNotMade fault seen NoMemory × KeepsFaults disk
