@@ -129,7 +129,11 @@ fn make<D: Device>(alloc: Global, disk: D, layout: Layout) -> Result<Store<D>, (
 
 /// Makes a new file on a disk: no record, one page. `BadLayout` names the first field that is out of its limits; then
 /// `Small` comes exactly where the disk has fewer bytes than the layout. Nothing is written before these two.
-pub fn create<D: Device>(alloc: Global, disk: D, layout: Layout) -> Result<Store<D>, (CreateFault, D)>
+pub fn create<D: Device>(
+    alloc: Global,
+    disk: D,
+    layout: Layout,
+) -> Result<Store<D>, (CreateFault, D)>
     ensures made { IfOk result (λ st. IsSome (D.model disk).told → StoreKeeps (D.model (disk_of st)) (seen_as st) (new_file layout) []) }
     ensures new { IfOk result (λ st. IsNew 0 (new_meta layout) (seen_as st)) }
     ensures good { IfOk result (λ st. IsNone (layout_fault layout)) }
