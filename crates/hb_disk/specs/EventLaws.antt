@@ -3,7 +3,7 @@ use Rattle.std.proofs.Common.{inl, inr, ℕ, ◌^◌, ◌<◌, ◌≤◌, List, 
 use Rattle.std.specs.List.{All}
 use Rattle.std.proofs.lemmas.List.Elements.{All-head}
 use Rattle.hb_disk.specs.Model.{IsDisk, last_value}
-use Rattle.hb_disk.specs.RunLaws.{some_same}
+use Rattle.hb_disk.specs.ValueLaws.{some_same}
 use Rattle.hb_disk.specs.Events.{IsImage, IsImageSince, LiesWithin, AreKept, disk_after}
 use Rattle.hb_disk.specs.declared.event.Event.{Event}
 

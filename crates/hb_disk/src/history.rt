@@ -4,7 +4,8 @@ ghost use Rattle.std.proofs.Props.{props};
 ghost use Rattle.hb_outside.specs.Memory.{next_count};
 ghost use Rattle.hb_disk.specs.Model.{last_value, overwritten};
 ghost use Rattle.hb_disk.specs.Calls.{Ticks, Writes, Syncs};
-ghost use Rattle.hb_disk.specs.Events.{LiesWithin, AreKept, IsImage, IsImageSince, IsPicked, rewound, disk_after, Notes, IsOver, IsTry, IsSync, Explains, NotNoted, LeavesTry};
+ghost use Rattle.hb_disk.specs.Events.{LiesWithin, AreKept, IsImage, IsImageSince, IsPicked, rewound, disk_after};
+ghost use Rattle.hb_disk.specs.NotedCalls.{Notes, IsOver, IsTry, IsSync, Explains, NotNoted, LeavesTry};
 
 use crate::event::{Change, Event, Pick, Refused, fill_at, put_at};
 use crate::images::choose_before;

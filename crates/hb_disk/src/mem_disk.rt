@@ -4,7 +4,8 @@ ghost use Rattle.hb_outside.specs.Streams.{Rose};
 ghost use Rattle.hb_outside.specs.Memory.{next_count};
 ghost use Rattle.hb_disk.specs.Model.{Stays, last_value};
 ghost use Rattle.hb_disk.specs.Calls.{Ticks, WriteFaults, Writes, Syncs, Reads, ReadFaults};
-ghost use Rattle.hb_disk.specs.Events.{rewound, IsPicked, IsImage, disk_after, Alike, faults_after, starved_after};
+ghost use Rattle.hb_disk.specs.Events.{rewound, IsPicked, IsImage, disk_after};
+ghost use Rattle.hb_disk.specs.NotedCalls.{Alike, faults_after, starved_after};
 ghost use Rattle.hb_disk.specs.EventLaws.{history_is_disk};
 
 use crate::event::{Pick, Refused};
@@ -120,7 +121,7 @@ fn answer(done: Result<(), Refused>, faults: &mut u64, starved: &mut u64) -> Res
 
 impl Device for MemDisk {
     ghost use Rattle.hb_disk.specs.MemDisk.{bytes_of, mem_disk_seen, ReadExactly, CalledExactly, HasSameRecord, Records};
-    ghost use Rattle.hb_disk.specs.Events.{IsOver, IsTry, IsSync};
+    ghost use Rattle.hb_disk.specs.NotedCalls.{IsOver, IsTry, IsSync};
 
     ghost model = { λ d. disk_after d.history.bytes.items (reverse d.history.events.items) d.history.clock
         d.read_faults d.write_faults };

@@ -30,7 +30,7 @@ fn rot(inner: &mut MemDisk, before: u64, at: u64, byte: u8)
 impl Device for RotDisk {
     ghost use Rattle.hb_disk.specs.RotDisk.{hidden, AfterRot};
     ghost use Rattle.hb_disk.specs.MemDisk.{bytes_of, HasSameRecord, Records};
-    ghost use Rattle.hb_disk.specs.Events.{IsOver, IsTry, IsSync};
+    ghost use Rattle.hb_disk.specs.NotedCalls.{IsOver, IsTry, IsSync};
 
     ghost model = { λ d. untold_of (length d.inner.history.bytes.items) d.inner.read_faults d.inner.write_faults };
 

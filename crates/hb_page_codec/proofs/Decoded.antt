@@ -8,7 +8,9 @@ use Rattle.hb_frag.specs.Grammar.{HasSpelling, SpellsPage}
 use Rattle.hb_page_codec.specs.declared.errors.PageError.{PageError}
 use Rattle.hb_page_codec.specs.declared.errors.PageError.TheVariants as errors
 use Rattle.hb_page_codec.specs.Memory.{Wants, IsSomeCount, IsCutOrRecords, BeginsWithMany}
-use Rattle.hb_page_codec.specs.Reading.{Gives, number_at, count_at, head_at, area_at, page_of_bytes}
+use Rattle.hb_page_codec.specs.Reading.{Gives, number_at}
+use Rattle.hb_page_codec.specs.ReadingFields.{count_at, area_at}
+use Rattle.hb_page_codec.specs.ReadingPages.{head_at, page_of_bytes}
 use Rattle.hb_page_codec.specs.Weight.{IsLight}
 use Rattle.hb_page_codec.proofs.Fields.{IsBytes, some_is, bind_some, unless_some, area_takes}
 use Rattle.hb_page_codec.proofs.PageLaws.{page_takes, page_again, has_spelling, head_takes}

@@ -3,7 +3,8 @@ use Rattle.std.proofs.Common.{◌≡◌, ℕ, zero, suc, ◌≤◌, true, false,
 use Rattle.std.specs.Prelude.{◌↔◌, IsSome, IfSome, EachIndex, slice_index}
 use Rattle.std.proofs.lemmas.Bool.{and_parts, and_from, le-leb, leb-true, false≢true}
 use Rattle.hb_space.specs.Boxes.{Area}
-use Rattle.hb_page_codec.specs.Reading.{ReadsAs, are_ordered, area_between}
+use Rattle.hb_page_codec.specs.Reading.{ReadsAs}
+use Rattle.hb_page_codec.specs.ReadingFields.{are_ordered, area_between}
 
 abbrev AreOrdered : List ℕ → List ℕ → Type 0
 AreOrdered lo hi = EachIndex lo (λ i. slice_index lo i ≤ slice_index hi i)

@@ -8,7 +8,9 @@ use Rattle.hb_space.specs.declared.form.TheConstants.{PAGE, KMAX}
 use Rattle.hb_frag.specs.declared.pages.Page.{Page}
 use Rattle.hb_frag.specs.declared.pages.Page.TheVariants.{Live, Free}
 use Rattle.hb_frag.specs.Grammar.{point_bytes, tree_bytes, page_fields, FitsTree, FitsPage, HasSpelling, SpellsPage}
-use Rattle.hb_page_codec.specs.Reading.{◌>>=◌, number_at, area_at, tree_at, head_at, live_at, fields_at, page_of_bytes}
+use Rattle.hb_page_codec.specs.Reading.{◌>>=◌, number_at}
+use Rattle.hb_page_codec.specs.ReadingFields.{area_at}
+use Rattle.hb_page_codec.specs.ReadingPages.{tree_at, head_at, live_at, fields_at, page_of_bytes}
 use Rattle.hb_page_codec.proofs.Fields.{IsBytes, IsBytes-rest, Takes, Takes-then, Takes-byte, bind_some, some_is, unless_some, when_some, wide_4, number_takes, number_again, area_takes, area_again}
 use Rattle.hb_page_codec.proofs.TreeLaws.{tree_takes, tree_again}
 

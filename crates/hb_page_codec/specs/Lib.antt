@@ -1,4 +1,6 @@
 pub mod Reading
+pub mod ReadingFields
+pub mod ReadingPages
 pub mod Exact
 pub mod Memory
 pub mod Writing

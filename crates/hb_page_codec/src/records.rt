@@ -1,6 +1,7 @@
 //! Points, boxes and records, from the front of bytes.
 ghost use Rattle.std.specs.Prelude.{◌≡◌, ◌<◌, ◌≤◌, length, IfSome};
-ghost use Rattle.hb_page_codec.specs.Reading.{ReadsAs, point_at, area_between, area_at, body_at, record_at};
+ghost use Rattle.hb_page_codec.specs.Reading.{ReadsAs};
+ghost use Rattle.hb_page_codec.specs.ReadingFields.{point_at, area_between, area_at, body_at, record_at};
 
 use crate::numbers::u64_of;
 use arrayvec::ArrayVec;
@@ -33,7 +34,7 @@ fn area_of_corners(lo: Point, hi: Point) -> Option<Area>
 }
 
 /// A box of `k` attributes.
-#[tactic(auto, unfolding(crate::specs::Reading::area_at))]
+#[tactic(auto, unfolding(crate::specs::ReadingFields::area_at))]
 pub fn area_of(k: u8, bytes: &[u8]) -> Option<(Area, &[u8])>
     requires some { 0 < k }
     requires few { k ≤ KMAX }
@@ -46,7 +47,7 @@ pub fn area_of(k: u8, bytes: &[u8]) -> Option<(Area, &[u8])>
 }
 
 /// A body, behind its length.
-#[tactic(auto, unfolding(crate::specs::Reading::body_at))]
+#[tactic(auto, unfolding(crate::specs::ReadingFields::body_at))]
 fn body_of(bytes: &[u8]) -> Option<(Body, &[u8])>
     ensures { ReadsAs (λ x. (x.0, x.1.now)) result (body_at bytes.now) }
 {
@@ -60,7 +61,7 @@ fn body_of(bytes: &[u8]) -> Option<(Body, &[u8])>
 }
 
 /// A record whose point has `k` values.
-#[tactic(auto, unfolding(crate::specs::Reading::record_at))]
+#[tactic(auto, unfolding(crate::specs::ReadingFields::record_at))]
 pub fn record_of(k: u8, bytes: &[u8]) -> Option<(Record, &[u8])>
     requires some { 0 < k }
     requires few { k ≤ KMAX }

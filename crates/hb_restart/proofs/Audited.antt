@@ -10,7 +10,7 @@ use Rattle.hb_frag.specs.Grammar.{SpellsPage}
 use Rattle.hb_layout.specs.declared.meta.Meta.{Meta}
 use Rattle.hb_layout.specs.Limits.{IsLayout}
 use Rattle.hb_page_codec.specs.Exact.{AreBytes, PagesAreExact}
-use Rattle.hb_page_codec.specs.Reading.{page_of_bytes}
+use Rattle.hb_page_codec.specs.ReadingPages.{page_of_bytes}
 use Rattle.hb_ops.specs.Files.{page_of}
 use Rattle.hb_sound.specs.Names.{IsSoundWith, Names}
 use Rattle.hb_sound.specs.Stops.{OnBroken}

@@ -12,7 +12,7 @@ use Rattle.hb_frag.specs.declared.pages.Page.TheVariants.{Live, Free}
 use Rattle.hb_frag.specs.Leaves.{weight_of}
 use Rattle.hb_layout.specs.declared.meta.Meta.{Meta}
 use Rattle.hb_layout.specs.Offsets.{file_size}
-use Rattle.hb_page_codec.specs.Reading.{page_of_bytes}
+use Rattle.hb_page_codec.specs.ReadingPages.{page_of_bytes}
 use Rattle.hb_space.specs.declared.form.TheConstants.{PAGE}
 use Rattle.hb_store.specs.Opening.{place_bytes}
 

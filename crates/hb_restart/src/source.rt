@@ -4,7 +4,7 @@ ghost use Rattle.hb_space.specs.declared.form.TheConstants.{PAGE};
 ghost use Rattle.hb_outside.specs.Streams.{Rose};
 ghost use Rattle.hb_disk.specs.Calls.{OnlyReads};
 ghost use Rattle.hb_layout.specs.Offsets.{file_size};
-ghost use Rattle.hb_page_codec.specs.Reading.{page_of_bytes};
+ghost use Rattle.hb_page_codec.specs.ReadingPages.{page_of_bytes};
 ghost use Rattle.hb_page_codec.specs.Weight.{IsLight};
 ghost use Rattle.hb_restart.specs.Source.{IsSource, IsSource-prop};
 ghost use Rattle.hb_sound.specs.declared.pages.PageStop.TheVariants.{Failed};

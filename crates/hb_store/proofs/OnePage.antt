@@ -12,9 +12,9 @@ use Rattle.hb_disk.specs.EventLaws.{history_is_disk}
 use Rattle.hb_disk.specs.MemDisk.{StartsWith, bytes_of, mem_disk_seen}
 use Rattle.hb_disk.specs.declared.event.Event.{Event}
 use Rattle.hb_disk.specs.declared.mem_disk.MemDisk.{MemDisk}
-use Rattle.hb_disk.specs.RunLaws.{of_value, has_value, some_same}
+use Rattle.hb_disk.specs.ValueLaws.{of_value, has_value, some_same}
 use Rattle.hb_wal.specs.Frames.{IsPayload, range}
-use Rattle.hb_layout.specs.Offsets.{slot_offset}
+use Rattle.hb_layout.specs.Offsets.{slot_offset, log_start}
 use Rattle.hb_super.specs.Superblocks.{IsNewest, body_bytes}
 use Rattle.hb_frag.specs.declared.leaves.Leaf.TheVariants.{Records}
 use Rattle.hb_frag.specs.declared.pages.Page.{Page}
@@ -23,7 +23,6 @@ use Rattle.hb_frag.specs.Trees.{Tip}
 use Rattle.hb_frag.specs.Grammar.{FitsRecord, SpellsPage, page_fields}
 use Rattle.hb_layout.specs.declared.meta.Meta.{Meta}
 use Rattle.hb_ops.specs.Files.{FileState, page_at, page_of}
-use Rattle.hb_layout.specs.Offsets.{log_start}
 use Rattle.hb_store.specs.Opening.{place_bytes}
 use Rattle.hb_store.specs.Keeps.{IsFresh}
 use Rattle.hb_store.specs.StoreLaws.{IsFresh-from}

@@ -5,7 +5,8 @@ use Rattle.std.proofs.lemmas.List.{length-append}
 use Rattle.hb_set.specs.declared.scripts.Line.{Line}
 use Rattle.hb_text.specs.declared.rules.BadLine.{BadLine}
 use Rattle.hb_text.specs.declared.rules.TextRule.{TextRule}
-use Rattle.hb_text.specs.Grammar.{◌>>=◌, Said, Reading, with_said, line_read, lines_read, lines_of, text_read}
+use Rattle.hb_text.specs.Grammar.{Said, Reading, with_said, line_read, lines_read, text_read}
+use Rattle.hb_text.specs.Words.{◌>>=◌, lines_of}
 use Rattle.hb_text.specs.declared.rules.TextError.{TextError}
 use Rattle.hb_text.specs.declared.rules.TextError.TheVariants as errors
 use Rattle.hb_text.specs.Reading.{ReadsScript, AddsLine}

@@ -8,7 +8,8 @@ use Rattle.std.proofs.lemmas.Bool.Decides.{nat_tests}
 use Rattle.hb_text.specs.declared.rules.TextRule.{TextRule}
 use Rattle.hb_text.specs.declared.rules.TextRule.TheVariants.{EmptyBox}
 use Rattle.hb_text.specs.Numbers.{number_read}
-use Rattle.hb_text.specs.Grammar.{◌>>=◌, or_fault, values_read, lows, highs, pairs_are_ordered, box_read}
+use Rattle.hb_text.specs.Words.{◌>>=◌}
+use Rattle.hb_text.specs.Operands.{or_fault, values_read, lows, highs, pairs_are_ordered, box_read}
 
 -- the values so far, and what the rest reads
 abbrev pub after_values : List ℕ → Result (List ℕ) TextRule → Result (List ℕ) TextRule

@@ -7,7 +7,8 @@ use Rattle.hb_text.specs.declared.rules.TextError.{TextError}
 use Rattle.hb_text.specs.declared.rules.TextError.TheVariants as errors
 use Rattle.hb_text.specs.declared.rules.TextRule.{TextRule}
 use Rattle.hb_text.specs.declared.rules.BadLine.{BadLine}
-use Rattle.hb_text.specs.Grammar.{Said, Reading, line_read, lines_of, text_read}
+use Rattle.hb_text.specs.Grammar.{Said, Reading, line_read, text_read}
+use Rattle.hb_text.specs.Words.{lines_of}
 
 -- The script is what the text says, and the bad line the first that breaks a rule. `WantsMemory` bounds want of memory.
 abbrev pub ReadsScript : Result Script TextError → Result Reading BadLine → Type 0

@@ -1,6 +1,8 @@
 ghost use Rattle.std.specs.Prelude.{◌≡◌, ℕ, ◌+◌, ◌<◌, ◌≤◌, false, List, [], ◌∷◌, ◌++◌, length, drop, Some, All, OnOk, IfOk};
 ghost use Rattle.hb_set.specs.Scripts.{IsScriptFor};
-ghost use Rattle.hb_text.specs.Grammar.{line_read, steps_of, text_read, words_of};
+ghost use Rattle.hb_text.specs.Grammar.{line_read, text_read};
+ghost use Rattle.hb_text.specs.StepWords.{steps_of};
+ghost use Rattle.hb_text.specs.Words.{words_of};
 ghost use Rattle.hb_text.specs.Reading.{ReadsScript, AddsLine, WantsMemory};
 
 use crate::lines::{Meaning, first_line, read_line};

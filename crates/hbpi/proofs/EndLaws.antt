@@ -1,7 +1,6 @@
 -- What follows from how a run ends.
-use Rattle.std.proofs.Common.{◌≡◌, ℕ, ◌⊎◌, inl, inr, Bool, false, List, length, take, Option, Some, None, Result, Ok, Err, refl, sym, ap, subst, ◌∙◌, arith}
+use Rattle.std.proofs.Common.{◌≡◌, ℕ, ◌⊎◌, inl, inr, Bool, false, List, length, take, Option, Some, None, Result, Ok, Err, refl, sym, ap, subst, ◌∙◌, arith, drop, ◌<◌, ◌≤◌, length-take, take-append-drop}
 use Rattle.std.proofs.lemmas.List.{take_all}
-use Rattle.std.proofs.Common.{drop, ◌<◌, ◌≤◌, length-take, take-append-drop}
 use Rattle.std.proofs.lemmas.Bool.{cases_lt}
 use Rattle.hb_text.specs.TextFront.{front_is_all}
 use Rattle.hb_text.specs.declared.rules.BadLine.{BadLine}
@@ -17,7 +16,9 @@ use Rattle.hb_disk.specs.Model.{DiskModel}
 use Rattle.hb_restart.specs.Layouts.{first_fault, size_of}
 use Rattle.hb_restart.specs.declared.faults.BadField.{BadField}
 use Rattle.hbpi.specs.Runs.{RunEnds, disk_seen}
-use Rattle.hbpi.specs.Ends.{Seen, DiskSeen, CreateEnds, IsMadeWhole, DryEnds, IsAnswered, IsComplete, RefusesBadText, NamesBadLine}
+use Rattle.hbpi.specs.Ends.{DryEnds, IsAnswered, IsComplete, RefusesBadText, NamesBadLine}
+use Rattle.hbpi.specs.SeenRuns.{Seen, DiskSeen}
+use Rattle.hbpi.specs.MadeEnds.{CreateEnds, IsMadeWhole}
 
 -- a good text is read whole
 pub good_is_whole : (allowed : Bool) (k : ℕ) (left : List ℕ) (reading : Reading) → text_read allowed k left ≡ Ok reading → take greatest_text left ≡ left

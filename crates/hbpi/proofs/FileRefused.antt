@@ -1,14 +1,15 @@
 -- A file that doesn't open is refused, in one way.
 use Rattle.std.proofs.Common.{◌≡◌, ◌⊎◌, inl, inr, ℕ, List, Some, refl, sym, ap, subst, ◌∙◌}
 use Rattle.hb_disk.specs.Model.{DiskModel}
-use Rattle.hb_disk.specs.RunLaws.{at_value}
+use Rattle.hb_disk.specs.ValueLaws.{at_value}
 use Rattle.hb_ops.specs.Files.{FileState}
 use Rattle.hb_ops.specs.Sound.{IsSound}
 use Rattle.hb_store.specs.Opening.{OpensTo}
 use Rattle.hbpi.specs.Codes.{start_status}
 use Rattle.hbpi.specs.Core.{CoreState}
-use Rattle.hbpi.specs.Driven.{Drove, IsTurnedAway, OpenedEnds, DriveCommandEnds}
-use Rattle.hbpi.specs.Ends.{Seen}
+use Rattle.hbpi.specs.Driven.{IsTurnedAway, OpenedEnds, DriveCommandEnds}
+use Rattle.hbpi.specs.DrivenRuns.{Drove}
+use Rattle.hbpi.specs.SeenRuns.{Seen}
 use Rattle.hbpi.specs.Starting.{GoodIsServed, IsOfBytes, IsOfNone, IsOnePage, IsRefusedInOneWay, RefusesStart}
 use Rattle.hbpi.specs.Runs.{RefusesFile}
 use Rattle.hbpi.proofs.Started.{never as never_open}

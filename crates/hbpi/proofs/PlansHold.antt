@@ -24,7 +24,7 @@ use Rattle.hb_set.specs.declared.commands.Command.{Command}
 use Rattle.hb_set.specs.declared.commands.Command.TheVariants.{Insert, Delete, Lookup, Search}
 use Rattle.hb_set.specs.declared.commands.Reply.TheVariants as replies
 use Rattle.hb_set.specs.Machine.{attributes, found_or_missing, if_there, reply_of, set_after}
-use Rattle.hbpi.specs.Core.{HasNoRoom, op_if, op_of}
+use Rattle.hbpi.specs.Commands.{HasNoRoom, op_if, op_of}
 use Rattle.hbpi.specs.FileLaws.{FileLaws}
 use Rattle.hbpi.specs.Plans.{DeletesBy, InsertsBy, LooksBy, PlansOn}
 use Rattle.hbpi.specs.declared.engine.plans.Plan.{Plan}

@@ -6,7 +6,7 @@ use Rattle.hb_outside.specs.Streams.{Rose, Appends, AppendsFront}
 use Rattle.hb_set.specs.declared.scripts.Answered.{Answered}
 use Rattle.hb_text.specs.Output.{answer_text, order_text, output_text}
 use Rattle.hb_text.specs.OutputLaws.{Appends-both, Appends-front, AppendsFront-longer, Appends-none, Rose-later}
-use Rattle.hbpi.specs.Ends.{HasPutText, PutsMore, EndsBySink, EndsRun}
+use Rattle.hbpi.specs.DryParts.{HasPutText, PutsMore, EndsBySink, EndsRun}
 use Rattle.hbpi.specs.Outcome.{IsDryRun}
 use Rattle.hb_set.specs.declared.scripts.Line.{Line}
 use Rattle.hbpi.specs.declared.statuses.Status.{Status}

@@ -19,7 +19,10 @@ use Rattle.hb_store.specs.declared.stops.FetchStop.TheVariants as fetches
 use Rattle.hbpi.specs.declared.engine.session.Session.TheVariants as sessions
 use Rattle.hbpi.specs.declared.engine.session.Outcome.{Outcome}
 use Rattle.hbpi.specs.declared.engine.session.Outcome.TheVariants as outcomes
-use Rattle.hbpi.specs.Core.{CoreKeeps, CoreState, IsCurrent, MayCommit, RefusesLine, StepKeeps, Walks}
+use Rattle.hbpi.specs.Core.{CoreState, IsCurrent}
+use Rattle.hbpi.specs.Keeping.{CoreKeeps, StepKeeps}
+use Rattle.hbpi.specs.Commands.{MayCommit}
+use Rattle.hbpi.specs.StepTable.{RefusesLine, Walks}
 use Rattle.hbpi.specs.Steps.{GivesUp, KeepsAt, with_session, with_store}
 use Rattle.hbpi.proofs.PrefixOpens.{quiet_moments}
 use Rattle.hbpi.proofs.CoreStays.{stands, stays_kept, step_kept, steps_going}

@@ -11,8 +11,9 @@ use Rattle.hb_set.specs.Order.{AreRising}
 use Rattle.hb_set.specs.declared.scripts.Line.{Line}
 use Rattle.hb_set.specs.declared.scripts.Answered.{Answered}
 use Rattle.hb_store.specs.declared.stops.StopWhy.{StopWhy}
-use Rattle.hbpi.specs.Ends.{HasPutText, PutsMore}
-use Rattle.hbpi.specs.Core.{CoreState, AnswersFirst, answered_count, left_lines, settled_of}
+use Rattle.hbpi.specs.DryParts.{HasPutText, PutsMore}
+use Rattle.hbpi.specs.Core.{CoreState, settled_of}
+use Rattle.hbpi.specs.AnsweredLines.{AnswersFirst, answered_count, left_lines}
 use Rattle.hbpi.specs.Drives.{DriveEnds, EndsAs, run_output}
 use Rattle.hbpi.specs.declared.drive.End.{End}
 use Rattle.hbpi.specs.declared.drive.End.TheVariants as ends

@@ -14,7 +14,11 @@ use Rattle.hb_set.specs.declared.commands.Reply.{Reply}
 use Rattle.hb_set.specs.declared.scripts.Line.{Line}
 use Rattle.hb_set.specs.declared.scripts.Answered.{Answered}
 use Rattle.hb_store.specs.Keeps.{last_of}
-use Rattle.hbpi.specs.Core.{CoreState, CoreKeeps, StepKeeps, StepsTo, Reaches, OpensToPrefix, StandsIn, IsReplied, IsOutsideOrder, AreAmong, IsCurrent, AnswersFirst, set_of, settled_of, answers_of}
+use Rattle.hbpi.specs.Core.{CoreState, IsCurrent, settled_of}
+use Rattle.hbpi.specs.Keeping.{CoreKeeps, StepKeeps, OpensToPrefix, StandsIn, AreAmong, set_of}
+use Rattle.hbpi.specs.StepTable.{StepsTo}
+use Rattle.hbpi.specs.Moments.{Reaches, answers_of}
+use Rattle.hbpi.specs.AnsweredLines.{IsReplied, IsOutsideOrder, AnswersFirst}
 use Rattle.hbpi.specs.Moves.{Moves}
 use Rattle.hbpi.specs.Drives.{RunsTo}
 use Rattle.hbpi.specs.declared.engine.session.Session.{Session}

@@ -14,7 +14,10 @@ use Rattle.hb_store.specs.Calls.{forced_state, stopped_state}
 use Rattle.hb_set.specs.declared.commands.Reply.TheVariants.{Full}
 use Rattle.hb_store.specs.declared.stops.StopWhy.{StopWhy}
 use Rattle.hb_store.specs.declared.stops.StopWhy.TheVariants.{WriteFault}
-use Rattle.hbpi.specs.Core.{CoreState, CoreKeeps, StepsTo, StepsOn, TakesNext, Walks, Awaits, Forces, RefusesLine, TakesEffect, AwaitsOne, op_of, settled_of}
+use Rattle.hbpi.specs.Core.{CoreState, settled_of}
+use Rattle.hbpi.specs.Keeping.{CoreKeeps, AwaitsOne}
+use Rattle.hbpi.specs.StepTable.{StepsTo, StepsOn, TakesNext, Walks, Awaits, Forces, RefusesLine, TakesEffect}
+use Rattle.hbpi.specs.Commands.{op_of}
 use Rattle.hbpi.specs.declared.engine.session.Session.{Session}
 use Rattle.hbpi.specs.declared.engine.session.Session.TheVariants as sessions
 use Rattle.hbpi.specs.declared.engine.session.Outcome.{Outcome}

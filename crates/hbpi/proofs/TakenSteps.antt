@@ -6,8 +6,11 @@ use Rattle.std.specs.List.{flat_map}
 use Rattle.hb_set.specs.declared.scripts.Line.{Line}
 use Rattle.hb_set.specs.declared.scripts.Answered.{Answered}
 use Rattle.hb_text.specs.Output.{answer_text}
-use Rattle.hbpi.specs.Ends.{HasPutText, PutsMore}
-use Rattle.hbpi.specs.Core.{CoreState, AreAmong, AnswersFirst, answered_in, answered_count, answers_of}
+use Rattle.hbpi.specs.DryParts.{HasPutText, PutsMore}
+use Rattle.hbpi.specs.Core.{CoreState}
+use Rattle.hbpi.specs.Keeping.{AreAmong}
+use Rattle.hbpi.specs.AnsweredLines.{AnswersFirst, answered_in, answered_count}
+use Rattle.hbpi.specs.Moments.{answers_of}
 use Rattle.hbpi.specs.Moves.{Moves, MovesOn, HasOrder, Shown, StepFaults}
 use Rattle.hbpi.specs.Drives.{IsStart}
 use Rattle.hbpi.specs.declared.engine.session.Session.{Session}

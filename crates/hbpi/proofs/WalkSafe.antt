@@ -21,7 +21,8 @@ use Rattle.hb_store.specs.declared.stops.StopWhy.TheVariants as stops
 use Rattle.hbpi.specs.declared.engine.session.Session.TheVariants as sessions
 use Rattle.hbpi.specs.declared.engine.session.Outcome.{Outcome}
 use Rattle.hbpi.specs.declared.engine.session.Outcome.TheVariants as outcomes
-use Rattle.hbpi.specs.Core.{CoreState, IsCore, IsCurrent, IsOutsideOrder}
+use Rattle.hbpi.specs.Core.{CoreState, IsCore, IsCurrent}
+use Rattle.hbpi.specs.AnsweredLines.{IsOutsideOrder}
 use Rattle.hbpi.specs.Damages.{IsDamagedFor, MeetsDamage}
 use Rattle.hbpi.specs.Moves.{Moves}
 use Rattle.hbpi.specs.Plans.{Acts, Does, LooksBy, PlansBy}

@@ -17,7 +17,9 @@ use Rattle.hb_store.specs.Keeps.{StoreKeeps, StoreState, last_of}
 use Rattle.hb_store.specs.Calls.{Fetched, IsReady}
 use Rattle.hbpi.specs.declared.engine.session.Session.TheVariants as sessions
 use Rattle.hbpi.specs.declared.engine.session.Outcome.{Outcome}
-use Rattle.hbpi.specs.Core.{CoreKeeps, CoreState, IsCurrent, MayCommit, StepKeeps, op_of}
+use Rattle.hbpi.specs.Core.{CoreState, IsCurrent}
+use Rattle.hbpi.specs.Keeping.{CoreKeeps, StepKeeps}
+use Rattle.hbpi.specs.Commands.{MayCommit, op_of}
 use Rattle.hbpi.specs.FileLaws.{FileLaws}
 use Rattle.hbpi.specs.Damages.{IsRootPage}
 use Rattle.hbpi.specs.Plans.{Acts, Does, PlansBy, PlansOn}

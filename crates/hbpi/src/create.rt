@@ -1,7 +1,7 @@
 //! The command `create`.
 ghost use Rattle.std.specs.Prelude.{◌≡◌, ◌≢◌, ℕ, ◌≤◌, ◌<◌, List, Option, IfOk, IfErr, IsSome, Some, None};
 ghost use Rattle.hb_store.specs.Opening.{IsEven};
-ghost use Rattle.hbpi.specs.Ends.{CreateEnds, HasMade};
+ghost use Rattle.hbpi.specs.MadeEnds.{CreateEnds, HasMade};
 ghost use Rattle.hb_restart.specs.Layouts.{first_fault, size_of};
 ghost use Rattle.hb_restart.specs.NewFiles.{new_file};
 ghost use Rattle.hb_restart.specs.Beyond.{KeepsBeyond};

@@ -1,5 +1,6 @@
 use Rattle.std.proofs.Common.{◌≡◌, ◌-◌}
-use Rattle.hb_page_codec.specs.Reading.{record_at, records_at, many_at}
+use Rattle.hb_page_codec.specs.Reading.{many_at}
+use Rattle.hb_page_codec.specs.ReadingFields.{record_at, records_at}
 use Rattle.hb_page_codec.specs.LoopLaws.{with_front}
 use Rattle.hb_page_codec.proofs.fragments.records_of.Given as goal
 

@@ -6,7 +6,7 @@ use Rattle.hb_set.specs.Machine.{HasAttributes}
 use Rattle.hb_set.specs.Order.{Ran, entries_of, order_of}
 use Rattle.hb_set.specs.Scripts.{IsScriptFor}
 use Rattle.hb_text.specs.Output.{answer_text}
-use Rattle.hbpi.specs.Ends.{HasPutText}
+use Rattle.hbpi.specs.DryParts.{HasPutText}
 use Rattle.hbpi.proofs.answers.answer_lines.Given as goal
 
 -- the lines so far were answered, and the text of their answers was put

@@ -5,9 +5,11 @@ use Rattle.hb_set.specs.Machine.{RecordSet}
 use Rattle.hb_set.specs.declared.scripts.Line.{Line}
 use Rattle.hb_text.specs.Output.{answer_text}
 use Rattle.hb_store.specs.Keeps.{last_of}
-use Rattle.hbpi.specs.Ends.{HasPutText}
+use Rattle.hbpi.specs.DryParts.{HasPutText}
 use Rattle.hbpi.specs.Beyond.{StaysInLog}
-use Rattle.hbpi.specs.Core.{CoreKeeps, IsCore, AnswersFirst}
+use Rattle.hbpi.specs.Core.{IsCore}
+use Rattle.hbpi.specs.Keeping.{CoreKeeps}
+use Rattle.hbpi.specs.AnsweredLines.{AnswersFirst}
 use Rattle.hbpi.specs.Moves.{MovesOn, shown}
 use Rattle.hbpi.specs.CoreSeen.{core_seen, core_disk}
 use Rattle.hbpi.proofs.FirstAnswers.{Ordered}

@@ -1,6 +1,6 @@
 use Rattle.std.proofs.Common.{◌↔◌, ℕ, List, IsTrue, subst, refl}
 use Rattle.std.specs.List.{Contains}
-use Rattle.hb_disk.specs.Events.{Notes, IsSync}
+use Rattle.hb_disk.specs.NotedCalls.{Notes, IsSync}
 use Rattle.hb_disk.specs.MemDisk.{mem_disk_seen, HasSameRecord}
 use Rattle.hb_disk.specs.declared.mem_disk.MemDisk.{MemDisk}
 use Rattle.hb_disk.proofs.MemDisks.{told_syncs, told_ticks, told_faults, told_on_ok, called_exactly, on_err}

@@ -1,6 +1,6 @@
 use Rattle.std.proofs.Common.{◌↔◌, length, ℕ, List, IsTrue, subst, refl}
 use Rattle.std.specs.List.{Contains}
-use Rattle.hb_disk.specs.Events.{Notes, IsOver, IsTry}
+use Rattle.hb_disk.specs.NotedCalls.{Notes, IsOver, IsTry}
 use Rattle.hb_disk.specs.MemDisk.{mem_disk_seen, Records}
 use Rattle.hb_disk.specs.declared.mem_disk.MemDisk.{MemDisk}
 use Rattle.hb_disk.proofs.MemDisks.{told_writes, told_ticks, told_faults, told_on_ok, called_exactly}

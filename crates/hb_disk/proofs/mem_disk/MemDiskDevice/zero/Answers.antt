@@ -1,6 +1,6 @@
 use Rattle.std.proofs.Common.{◌↔◌, ℕ, List, IsTrue, subst, refl, replicate}
 use Rattle.std.specs.List.{Contains}
-use Rattle.hb_disk.specs.Events.{Notes, IsOver, IsTry}
+use Rattle.hb_disk.specs.NotedCalls.{Notes, IsOver, IsTry}
 use Rattle.hb_disk.specs.MemDisk.{mem_disk_seen, Records}
 use Rattle.hb_disk.specs.declared.mem_disk.MemDisk.{MemDisk}
 use Rattle.hb_disk.proofs.MemDisks.{told_writes, told_ticks, told_faults, told_on_ok, called_exactly}
