@@ -1,18 +1,14 @@
 -- A part of a page by its path: its box, its shape, and the page with another part there.
-use Rattle.std.proofs.Common.{◌≡◌, zero, suc, List, [], ◌∷◌, length, Some, refl, sym, ap, subst, ◌∙◌, arith, inl, inr}
-use Rattle.std.specs.List.{All, Contains}
-use Rattle.std.proofs.lemmas.List.Elements.{All-append, All-cons, All-contains_itself, All-nil, All-weaker, Contains-append_cases, Contains-append_left, Contains-append_right}
+use Rattle.std.proofs.Common.{◌≡◌, List, [], ◌∷◌, length, Some, refl, sym, subst, ◌∙◌}
 use Rattle.hb_space.specs.Boxes.{Area, side_below, side_from}
-use Rattle.hb_frag.specs.declared.leaves.Leaf.{Leaf}
 use Rattle.hb_frag.specs.declared.paths.Side.{Side}
 use Rattle.hb_frag.specs.declared.paths.Side.TheVariants.{Left, Right}
 use Rattle.hb_frag.specs.Trees.{Tree, Tip, Cut}
-use Rattle.hb_frag.specs.Leaves.{Placed, IsWellCut, leaves, leaves_of}
+use Rattle.hb_frag.specs.Leaves.{IsWellCut}
 use Rattle.hb_frag.specs.Rules.{IsNormal, IsSiblingTip}
 use Rattle.hb_frag.specs.Paths.{part_at, with_part}
 use Rattle.hb_ops.specs.CutShapeLaws.{LikeNone, cut_like_none}
 use Rattle.hb_ops.specs.LeafHalfLaws.{side_attributes}
-use Rattle.hb_ops.specs.PlacedLaws.{placed}
 
 -- what a part has from its tree
 pub record HasFrom (t : Tree) (area : Area) (w : Tree × Area) : Type 0 where
