@@ -6,7 +6,7 @@ use Rattle.hb_disk.specs.RunLaws.{Becomes-read, Becomes-torn, OnlyReads-none}
 use Rattle.hb_disk.specs.TornLaws.{Torn-itself}
 use Rattle.hb_wal.specs.Log.{LogState}
 use Rattle.hb_store.specs.Calls.{Fetched}
-use Rattle.hb_store.specs.Keeps.{IsNew, StoreState}
+use Rattle.hb_store.specs.States.{IsNew, StoreState}
 use Rattle.hb_layout.specs.Offsets.{file_size, log_start}
 use Rattle.hb_store.specs.declared.stops.FetchStop.{FetchStop}
 use Rattle.hb_store.specs.declared.stops.FetchStop.TheVariants as fetches

@@ -22,7 +22,8 @@ use Rattle.hb_set.specs.declared.commands.Reply.TheVariants.{Full, NoMemory, Rea
 use Rattle.hb_set.specs.declared.scripts.Line.{Line}
 use Rattle.hb_set.specs.declared.scripts.Answered.{Answered}
 use Rattle.hb_store.specs.Opening.{OpensTo}
-use Rattle.hb_store.specs.Keeps.{StoreState, StoreKeeps, last_of}
+use Rattle.hb_store.specs.States.{StoreState, in_memory}
+use Rattle.hb_store.specs.Keeps.{StoreKeeps, last_of}
 use Rattle.hb_store.specs.Calls.{IsReady, forced_state, stopped_state}
 use Rattle.hb_store.specs.declared.stops.StopWhy.{StopWhy}
 use Rattle.hb_store.specs.declared.stops.StopWhy.TheVariants.{WriteFault}
@@ -87,8 +88,8 @@ HasNoRoom (Search a) s = ⊥
 -- Why a walking line may be answered outside the order though there is room. The root is read where it is in no frame,
 -- and memory is wanted to keep it or for an operation's group.
 abbrev pub MayFail : Command → CoreState → FileState → Reply → Type 0
-MayFail command c s NoMemory = (c.store.frame c.store.meta.root ≡ None) ⊎ IsSome (op_of command s)
-MayFail command c s ReadFault = c.store.frame c.store.meta.root ≡ None
+MayFail command c s NoMemory = (in_memory c.store c.store.meta.root ≡ None) ⊎ IsSome (op_of command s)
+MayFail command c s ReadFault = in_memory c.store c.store.meta.root ≡ None
 MayFail command c s _ = ⊥
 
 -- A step that answers the line at once, outside the order: the session is idle again, and the file as it was.

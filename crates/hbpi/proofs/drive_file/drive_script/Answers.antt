@@ -6,7 +6,8 @@ use Rattle.hb_ops.specs.Files.{FileState, contents_of}
 use Rattle.hb_ops.specs.Sound.{IsSound}
 use Rattle.hb_set.specs.declared.scripts.Answered.{Answered}
 use Rattle.hb_set.specs.declared.scripts.Line.{Line}
-use Rattle.hb_store.specs.Keeps.{StoreState, StoreKeeps, IsNew, last_of}
+use Rattle.hb_store.specs.States.{StoreState, IsNew}
+use Rattle.hb_store.specs.Keeps.{StoreKeeps, last_of}
 use Rattle.hb_store.specs.Seen.{seen_as, disk_of}
 use Rattle.hbpi.specs.Core.{CoreState}
 use Rattle.hbpi.specs.CoreSeen.{core_seen, core_disk}
@@ -28,7 +29,7 @@ use Rattle.hbpi.proofs.drive_file.drive_script.Goals as goal
 pub drive-requires-clause-kept : goal.drive-requires-clause-kept
 drive-requires-clause-kept g c tells =
     let kept = c.requires.kept (subst (λ (x : g.row.D.Denot). IsSome (g.D.Device.model x).told) c.in-Ok.ensures.disk tells) in
-    let meta = kept.2.meta_is in
+    let meta = kept.2.memory.meta_is in
     (contents_of kept.0, (c.in-Ok.ensures.keeps kept.0 c.requires.new kept.1 (ap (λ (m : Meta). m.root) meta ∙ c.requires.one_page.0) (ap (λ (m : Meta). m.high) meta ∙ c.requires.one_page.1) (ap (λ (m : Meta). m.height) meta ∙ c.requires.one_page.2) kept.2).0)
 
 pub returns-in-Ok-clause-ends : goal.returns-in-Ok-clause-ends
@@ -72,7 +73,7 @@ returns-in-Ok-clause-ends g c left rest before after scheduled same_source =
       one_page = subst (λ (st : StoreState). IsOnePage st.meta) (sym stored) (one_page_of store.meta c.requires.one_page.1 c.requires.one_page.2);
       told = if_value d.told _ (λ b is.
           let from = c.requires.kept (tells (has_value d.told b is)) in
-          let meta = from.2.meta_is in
+          let meta = from.2.memory.meta_is in
           let here = kept (has_value d.told b is) in
           let even = even_store d (seen_as store) from.0 [] here.2 c.requires.new.running in
           let made = c.in-Ok.ensures.keeps from.0 c.requires.new from.1 (ap (λ (m : Meta). m.root) meta ∙ c.requires.one_page.0) (ap (λ (m : Meta). m.high) meta ∙ c.requires.one_page.1) (ap (λ (m : Meta). m.height) meta ∙ c.requires.one_page.2) from.2 in (
