@@ -52,7 +52,9 @@ same_allowed op m n a a' b b' c c' em ea eb ec h =
 same_log : (d : DiskModel) (old new : LogState) (payloads : List (List ℕ)) → new.area ≡ old.area → new.len ≡ old.len → new.written ≡ old.written → HasLog d old payloads → HasLog d new payloads
 same_log d old new payloads area len written has =
     let Q : LogState → Type 0 = λ l. HasLog d l payloads in
-    subst Q (λ i. record { area = sym area i; len = sym len i; written = sym written i; groups = new.groups })
+    let moved : LogState = record { area = old.area; len = old.len; written = old.written; groups = new.groups } in
+    let same : moved ≡ new = λ i. record { area = sym area i; len = sym len i; written = sym written i; groups = new.groups } in
+    subst Q same
     (record { synced = has.synced; payloads_fit = has.payloads_fit; count = has.count; reads = has.reads })
 
 -- ---- the store after a commit

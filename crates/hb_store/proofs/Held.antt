@@ -17,6 +17,7 @@ use Rattle.hb_ops.specs.declared.operations.Op.{Op}
 use Rattle.hb_ops.specs.Operations.{reads_of}
 use Rattle.hb_wal.specs.Log.{LogState}
 use Rattle.hb_log_codec.specs.Groups.{Logged}
+use Rattle.hb_store.specs.Fetching.{with_page}
 use Rattle.hb_store.specs.Images.{group_here, images_needed}
 use Rattle.hb_store.specs.States.{StoreState, new_state}
 
@@ -64,10 +65,27 @@ group_seen m s st pages imaged op = λ i. record {
   op = op;
 }
 
--- nothing is held
-pub nothing_seen : {S T : Type 0} (turn : ℕ) (meta : Meta) (log : LogState) (m : hash.HashMap ℕ Page S) (s : bag.HashSet ℕ T) → log ≡ (new_state turn meta).log → m.entries ≡ [] → s.keys ≡ []
-    → ◌≡◌ {A = StoreState} (record { turn = turn; meta = meta; log = log; pages = map_of m; imaged = set_of s; stopped = false }) (new_state turn meta)
-nothing_seen turn meta log m s log_is pages imaged = λ i. record { turn = turn; meta = meta; log = log_is i; pages = map.from_entries (pages i); imaged = set.from_list (imaged i); stopped = false }
+-- ---- the states of what is held
+
+module _ {S T : Type 0} where
+  abbrev pub state_of : ℕ → Meta → LogState → hash.HashMap ℕ Page S → bag.HashSet ℕ T → Bool → StoreState
+  state_of turn meta log m s stopped = record { turn = turn; meta = meta; log = log; pages = map_of m; imaged = set_of s; stopped = stopped }
+
+  -- what answers alike is seen alike
+  pub state_same : (turn : ℕ) (meta : Meta) (log : LogState) (m n : hash.HashMap ℕ Page S) (s t : bag.HashSet ℕ T) (stopped : Bool)
+      → ((q : ℕ) → hash.get nat_eq n q ≡ hash.get nat_eq m q) → ((q : ℕ) → bag.contains nat_eq t q ≡ bag.contains nat_eq s q)
+      → state_of turn meta log n t stopped ≡ state_of turn meta log m s stopped
+  state_same turn meta log m n s t stopped pages imaged =
+      λ i. record { turn = turn; meta = meta; log = log; pages = map_same m n pages i; imaged = set_same s t imaged i; stopped = stopped }
+
+  pub state_put : (turn : ℕ) (meta : Meta) (log : LogState) (m n : hash.HashMap ℕ Page S) (s : bag.HashSet ℕ T) (stopped : Bool) (id : ℕ) (page : Page)
+      → ((q : ℕ) → hash.get nat_eq n q ≡ cond (nat_eq id q) (Some page) (hash.get nat_eq m q)) → state_of turn meta log n s stopped ≡ with_page id page (state_of turn meta log m s stopped)
+  state_put turn meta log m n s stopped id page put = λ i. record { turn = turn; meta = meta; log = log; pages = map_put m n id page put i; imaged = set_of s; stopped = stopped }
+
+  -- nothing is held
+  pub nothing_seen : (turn : ℕ) (meta : Meta) (log : LogState) (m : hash.HashMap ℕ Page S) (s : bag.HashSet ℕ T) → log ≡ (new_state turn meta).log → m.entries ≡ [] → s.keys ≡ []
+      → state_of turn meta log m s false ≡ new_state turn meta
+  nothing_seen turn meta log m s log_is pages imaged = λ i. record { turn = turn; meta = meta; log = log_is i; pages = map.from_entries (pages i); imaged = set.from_list (imaged i); stopped = false }
 
 -- what a look-up lends
 pub lent_page : (r : Option (Bor Page)) (o : Option Page) → option_copied r ≡ o → MatchOption r (o ≡ None) (λ page. o ≡ Some page.now)

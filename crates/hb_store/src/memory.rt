@@ -1,10 +1,9 @@
 //! What a store has in memory. No disk is spoken of.
-ghost use Rattle.std.specs.Prelude.{◌≡◌, ◌-◌, ◌↔◌, [], None, Some, IsTrue, IfOk, MatchOption, OnOk, OnErr};
+ghost use Rattle.std.specs.Prelude.{◌≡◌, ◌-◌, ◌≤◌, ◌↔◌, [], None, Some, IsTrue, IfOk, MatchOption, OnOk, OnErr};
 ghost use Rattle.hb_wal.specs.Log.{IsLog, room_of, pending_bytes, mark_of};
 ghost use Rattle.hb_store.specs.States.{IsGoodPage, IsMemory, IsStanding, in_memory, new_state};
 ghost use Rattle.hb_store.specs.Fetching.{with_page};
 ghost use Rattle.hb_store.specs.Calls.{IsReady};
-ghost use Rattle.std.specs.Prelude.{◌≤◌};
 
 use hb_frag::Page;
 use hb_layout::log_start;
