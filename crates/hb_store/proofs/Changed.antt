@@ -1,5 +1,5 @@
 -- What an allowed operation makes of the pages in memory is good for the file afterwards.
-use Rattle.std.proofs.Common.{◌≡◌, ℕ, ◌*◌, ◌^◌, ◌<◌, ◌≤◌, get_or, All, Option, Some, None, sym, subst, arith}
+use Rattle.std.proofs.Common.{◌≡◌, ℕ, ◌+◌, ◌*◌, ◌^◌, ◌<◌, ◌≤◌, get_or, All, Option, Some, None, sym, subst, arith}
 use Rattle.std.specs.Option.{IfSome}
 use denote.Bor.{Bor}
 use Rattle.hb_space.specs.declared.form.TheConstants.{PAGE}

@@ -1,5 +1,5 @@
 -- A store keeps its disk once an operation was done in memory and its group waits.
-use Rattle.std.proofs.Common.{◌≡◌, inl, inr, ℕ, ◌+◌, ◌*◌, ◌%◌, ◌≤◌, Bool, true, false, List, [], ◌∷◌, ◌++◌, length, get_or, map, All, Option, Some, None, IsSome, IsTrue, Result, Ok, Err, refl, sym, ap, ◌∙◌, subst, arith}
+use Rattle.std.proofs.Common.{◌≡◌, inl, inr, ℕ, ◌+◌, ◌*◌, ◌%◌, ◌≤◌, Bool, false, List, [], ◌∷◌, ◌++◌, length, get_or, map, All, Option, Some, None, IsSome, IsTrue, Result, Ok, Err, refl, sym, ap, ◌∙◌, subst, arith}
 use Rattle.std.specs.Prelude.{◌||◌, OnErr, OnOk}
 use Rattle.std.specs.Option.{is_some}
 use Rattle.std.proofs.lemmas.Bool.{cases_Bool, cases_lt}
@@ -22,7 +22,7 @@ use Rattle.hb_store.specs.Replay.{MayFollow, Replayed, after_group, change_in, r
 use Rattle.hb_store.specs.ReplayLaws.{Leads-append, last_of-append, replay-append}
 use Rattle.hb_store.specs.Opening.{IsPageIn, Shows}
 use Rattle.hb_store.specs.States.{IsGoodPage, IsMemory, IsSameLayout, IsStanding, StoreState, in_memory, is_imaged}
-use Rattle.hb_store.specs.Keeps.{AreImagesOf, IsDurable, IsImaged, IsInMemory, IsRunning, IsWaiting, Parts, StoreKeeps, all_pages, last_of, written_pages}
+use Rattle.hb_store.specs.Keeps.{AreImagesOf, IsDurable, IsImaged, IsInMemory, IsWaiting, Parts, StoreKeeps, all_pages, last_of, written_pages}
 use Rattle.hb_store.specs.StoreLaws.{StoreKeeps-by}
 use Rattle.hb_store.specs.Calls.{Commits, IsAllowedHere, change_here, read_here, with_op}
 use Rattle.hb_store.specs.Images.{group_here}

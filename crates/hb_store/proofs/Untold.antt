@@ -1,5 +1,5 @@
 -- What tests use of a store: over a disk that tells nothing no licence is owed, and reads leave the groups as they are.
-use Rattle.std.proofs.Common.{◌≡◌, ◌⊎◌, inl, inr, ℕ, ◌≤◌, true, false, List, All, sym, ap, ◌∙◌, subst}
+use Rattle.std.proofs.Common.{◌≡◌, inl, inr, ℕ, ◌≤◌, true, false, List, All, sym, ap, ◌∙◌, subst}
 use Rattle.hb_disk.specs.Untold.{untold_of}
 use Rattle.hb_wal.specs.Log.{LogState, Waiting}
 use Rattle.hb_ops.specs.declared.operations.Op.{Op}

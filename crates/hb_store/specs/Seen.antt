@@ -1,6 +1,4 @@
 -- What contracts see of a store.
-use Rattle.std.specs.Prelude.{ℕ, ◌≤◌}
-use Rattle.std.proofs.Props.{props}
 use Rattle.hb_disk.specs.declared.traits.Device.{Ghosts}
 use Rattle.hb_store.specs.States.{StoreState}
 use Rattle.hb_store.specs.declared.store.Store.{Store}

@@ -1,7 +1,7 @@
-use Rattle.std.proofs.Common.{◌≡◌, ℕ, ◌+◌, ◌<◌, Bool, List, ◌∷◌, length, get_or, drop, refl, sym, ap, ◌∙◌, add-one, arith}
+use Rattle.std.proofs.Common.{◌≡◌, ℕ, ◌+◌, ◌<◌, List, ◌∷◌, length, get_or, drop, refl, sym, ap, ◌∙◌, add-one, arith}
 use Rattle.std.proofs.Math.Seq.{drop-cons}
 use Rattle.std.specs.Prelude.{◌||◌, nat_eq}
-use Rattle.std.specs.HashSet.{contains, spare}
+use Rattle.std.specs.HashSet.{contains}
 use Rattle.hb_store.specs.Marks.{is_among}
 use Rattle.hb_store.proofs.Setting.{add_next}
 use Rattle.hb_store.proofs.pages.add_all.Goals as goal

@@ -1,8 +1,7 @@
-use Rattle.std.proofs.Common.{◌≡◌, ℕ, ◌<◌, ◌-◌, List, length, ap, ◌∙◌, arith}
+use Rattle.std.proofs.Common.{◌<◌, ◌-◌, length, arith}
 use Rattle.std.specs.Prelude.{nat_eq}
-use Rattle.std.specs.HashMap.{get, spare}
-use Rattle.std.specs.HashSet.{contains, spare as spare_of}
-use Rattle.hb_frag.specs.declared.pages.Page.{Page}
+use Rattle.std.specs.HashMap.{get}
+use Rattle.std.specs.HashSet.{contains}
 use Rattle.hb_store.proofs.Setting.{set_one, one_less}
 use Rattle.hb_store.proofs.pages.set_all.Goals as goal
 

@@ -1,12 +1,10 @@
-use Rattle.std.proofs.Common.{◌≡◌, ℕ, Bool, List, ◌∷◌, [], ◌++◌, length, refl, sym, subst, ap, ◌∙◌, arith}
+use Rattle.std.proofs.Common.{◌≡◌, ℕ, Bool, List, ◌∷◌, [], ◌++◌, refl, sym, subst, ap, ◌∙◌}
 use Rattle.std.specs.Prelude.{◌||◌, nat_eq}
 use Rattle.std.specs.HashMap.{get}
 use Rattle.std.specs.HashSet.{contains}
 use Rattle.hb_ops.specs.Operations.{Change, reads_of}
 use Rattle.hb_wal.specs.Log.{LogState}
-use Rattle.hb_log_codec.specs.Groups.{group_bytes}
-use Rattle.hb_store.specs.Calls.{Commits, change_here}
-use Rattle.hb_store.specs.Images.{group_here}
+use Rattle.hb_store.specs.Calls.{Commits}
 use Rattle.hb_store.specs.Inside.{memory_seen}
 use Rattle.hb_store.specs.Making.{IsWellMade}
 use Rattle.hb_store.specs.Marks.{has_page, is_among}

@@ -1,10 +1,9 @@
-use Rattle.std.proofs.Common.{◌≡◌, ℕ, refl, sym, subst, ap, ◌∙◌}
-use Rattle.std.proofs.lemmas.Result.{on_ok_weaker}
+use Rattle.std.proofs.Common.{◌≡◌, refl, sym, subst, ap, ◌∙◌}
 use Rattle.std.specs.Prelude.{nat_eq}
 use Rattle.std.specs.Map.{lookup}
 use Rattle.hb_store.specs.Fetching.{with_page}
 use Rattle.hb_store.specs.Inside.{memory_seen}
-use Rattle.hb_store.specs.States.{IsMemory, StoreState}
+use Rattle.hb_store.specs.States.{IsMemory}
 use Rattle.hb_store.proofs.Fetched.{memory_with}
 use Rattle.hb_store.proofs.Held.{state_of, state_same, state_put}
 use Rattle.hb_store.proofs.Touches.{on_err}

@@ -1,6 +1,6 @@
 use Rattle.std.proofs.Common.{◌≡◌, ℕ, [], sym, subst, ap, ◌∙◌}
 use Rattle.hb_wal.specs.Log.{LogState}
-use Rattle.hb_store.specs.States.{IsMemory, StoreState, new_state}
+use Rattle.hb_store.specs.States.{IsMemory, new_state}
 use Rattle.hb_store.proofs.Held.{nothing_seen}
 use Rattle.hb_store.proofs.Openings.{new_memory}
 use Rattle.hb_store.proofs.memory.Memory.new.Goals as goal

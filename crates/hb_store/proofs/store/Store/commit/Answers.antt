@@ -1,7 +1,4 @@
-use Rattle.std.proofs.Common.{◌≡◌, ◌≤◌, sym, subst, ap, ◌∙◌}
-use Rattle.hb_layout.specs.Offsets.{file_size}
 use Rattle.hb_store.specs.Seen.{seen_as}
-use Rattle.hb_store.proofs.Changed.{same_size}
 use Rattle.hb_store.proofs.Committed.{keeps_made, room_made}
 use Rattle.hb_store.proofs.store.Store.commit.Goals as goal
 
