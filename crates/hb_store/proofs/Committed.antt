@@ -26,7 +26,7 @@ use Rattle.hb_store.specs.Keeps.{AreImagesOf, IsDurable, IsImaged, IsInMemory, I
 use Rattle.hb_store.specs.StoreLaws.{StoreKeeps-by}
 use Rattle.hb_store.specs.Calls.{Commits, IsAllowedHere, change_here, read_here, with_op}
 use Rattle.hb_store.specs.Images.{group_here}
-use Rattle.hb_store.specs.Making.{IsWellMade}
+use Rattle.hb_store.specs.Making.{MakesWell}
 use Rattle.hb_store.specs.Marks.{has_page, is_among}
 use Rattle.hb_store.proofs.Changed.{reads_numbered, same_size}
 use Rattle.hb_store.proofs.FilePages.{Reaches, pages_set}
@@ -78,7 +78,7 @@ commits_here op mark st new change bytes is turn stopped meta pages imaged log =
   groups = ap (λ (l : LogState). l.groups) log;
 }
 
-module _ (st new : StoreState) (op : Op) (mark : ℕ) (well : IsWellMade op st) (allowed : IsAllowedHere st op) (commits : Commits op mark st new) where
+module _ (st new : StoreState) (op : Op) (mark : ℕ) (well : MakesWell op st) (allowed : IsAllowedHere st op) (commits : Commits op mark st new) where
   abbrev change : Change
   change = change_here st op
 
@@ -300,14 +300,14 @@ module _ (st new : StoreState) (op : Op) (mark : ℕ) (well : IsWellMade op st) 
 -- ---- where the commit is Ok, and where it isn't
 
 pub room_made : {E : Type 0} (result : Result (Unit {0}) E) (size : ℕ) (st new : StoreState) (op : Op) (mark : ℕ) → file_size st.meta ≤ size
-    → OnOk result (Commits op mark st new) → OnOk result (IsWellMade op st) → OnErr result (new ≡ st) → file_size new.meta ≤ size
+    → OnOk result (Commits op mark st new) → OnOk result (MakesWell op st) → OnErr result (new ≡ st) → file_size new.meta ≤ size
 room_made (Ok x) size st new op mark room commits well kept =
     subst (λ (n : ℕ). n ≤ size) (sym (ap (λ (m : Meta). file_size m) commits.meta ∙ same_size st.meta (change_here st op).meta well.change.layout)) room
 room_made (Err e) size st new op mark room commits well kept = subst (λ (s : StoreState). file_size s.meta ≤ size) (sym kept) room
 
 pub keeps_made : {E : Type 0} (result : Result (Unit {0}) E) (d : DiskModel) → IsDisk d → (st new : StoreState) (durable : FileState) (later : List FileState) (op : Op) (mark : ℕ) → st.stopped ≡ false → StoreKeeps d st durable later
     → IsAllowedHere st op → IsLicensed (last_of durable later) op → OnOk result (Commits op mark st new)
-    → OnOk result (new.log.groups ≡ st.log.groups ++ record { bytes = group_bytes (group_here st op); mark = mark } ∷ []) → OnOk result (IsWellMade op st)
+    → OnOk result (new.log.groups ≡ st.log.groups ++ record { bytes = group_bytes (group_here st op); mark = mark } ∷ []) → OnOk result (MakesWell op st)
     → OnOk result (StoreKeeps d new durable (with_op durable later op))
 keeps_made (Ok x) d disk st new durable later op mark going keeps allowed licensed commits waits well =
     keeps_after st new op mark well allowed commits d disk durable later going keeps licensed waits

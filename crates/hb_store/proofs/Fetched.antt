@@ -24,7 +24,7 @@ use Rattle.hb_store.specs.States.{IsGoodPage, IsMemory, StoreState, in_memory}
 use Rattle.hb_store.specs.Keeps.{StoreKeeps, last_of}
 use Rattle.hb_store.specs.Calls.{Fetched}
 use Rattle.hb_store.specs.Stops.{IsDamagedBy, IsNoPage}
-use Rattle.hb_store.specs.Fetching.{HoldsNot, with_page}
+use Rattle.hb_store.specs.Fetching.{HoldsNot, with_held}
 use Rattle.hb_store.specs.declared.stops.FetchStop.{FetchStop}
 use Rattle.hb_store.specs.declared.stops.FetchStop.TheVariants as fetches
 use Rattle.hb_store.specs.declared.stops.Why.TheVariants.{Rule, Level, Extent}
@@ -56,7 +56,7 @@ read_not (Err stop) (Some b) bytes place meta id why read = subst (λ l. HoldsNo
 
 -- ---- a page brought into memory
 
-pub memory_with : (st : StoreState) (id : ℕ) (page : Page) → IsMemory st → 1 ≤ id → id ≤ st.meta.high → IsGoodPage st.meta page → IsMemory (with_page id page st)
+pub memory_with : (st : StoreState) (id : ℕ) (page : Page) → IsMemory st → 1 ≤ id → id ≤ st.meta.high → IsGoodPage st.meta page → IsMemory (with_held id page st)
 memory_with st id page is some high good = record {
   stands = is.stands;
   area = is.area;
@@ -113,7 +113,7 @@ no_none : {x : Page} → Some x ≡ None → ⊥
 no_none h = absurd cc
 
 pub keeps_with : (d : DiskModel) (st : StoreState) (durable : FileState) (later : List FileState) (id : ℕ) (page : Page) → page_of (last_of durable later) id ≡ Some page → StoreKeeps d st durable later
-    → StoreKeeps d (with_page id page st) durable later
+    → StoreKeeps d (with_held id page st) durable later
 keeps_with d st durable later id page there k = record {
   parts = k.parts;
   disk = k.disk;
@@ -158,7 +158,7 @@ is_the_page once d st durable later id page disk k some high none there =
     let spelled : SpellsPage (place_bytes st.meta id b.0) page = subst (λ (t : Option (List ℕ)). IfSome t (λ l. SpellsPage (place_bytes st.meta id l) page)) b.1 there in
     p.1 ∙ ap Some (once (place_bytes st.meta id b.0) p.0 page p.2 spelled)
 
-pub fetched_with : (st : StoreState) (id : ℕ) (page : Page) → in_memory st id ≡ None → Fetched id st (with_page id page st)
+pub fetched_with : (st : StoreState) (id : ℕ) (page : Page) → in_memory st id ≡ None → Fetched id st (with_held id page st)
 fetched_with st id page none = record {
   rest = record { turn = refl; meta = refl; log = refl; imaged = refl; stopped = refl };
   there = subst (λ (o : Option Page). IsSome o) (sym (get_put id id page st.pages ∙ ap (λ b. cond b (Some page) (in_memory st id)) (eq-eqb id id refl))) refl;

@@ -17,7 +17,7 @@ use Rattle.hb_ops.specs.declared.operations.Op.{Op}
 use Rattle.hb_ops.specs.Operations.{reads_of}
 use Rattle.hb_wal.specs.Log.{LogState}
 use Rattle.hb_log_codec.specs.Groups.{Logged}
-use Rattle.hb_store.specs.Fetching.{with_page}
+use Rattle.hb_store.specs.Fetching.{with_held}
 use Rattle.hb_store.specs.Images.{group_here, images_needed}
 use Rattle.hb_store.specs.States.{StoreState, new_state}
 
@@ -79,7 +79,7 @@ module _ {S T : Type 0} where
       λ i. record { turn = turn; meta = meta; log = log; pages = map_same m n pages i; imaged = set_same s t imaged i; stopped = stopped }
 
   pub state_put : (turn : ℕ) (meta : Meta) (log : LogState) (m n : hash.HashMap ℕ Page S) (s : bag.HashSet ℕ T) (stopped : Bool) (id : ℕ) (page : Page)
-      → ((q : ℕ) → hash.get nat_eq n q ≡ cond (nat_eq id q) (Some page) (hash.get nat_eq m q)) → state_of turn meta log n s stopped ≡ with_page id page (state_of turn meta log m s stopped)
+      → ((q : ℕ) → hash.get nat_eq n q ≡ cond (nat_eq id q) (Some page) (hash.get nat_eq m q)) → state_of turn meta log n s stopped ≡ with_held id page (state_of turn meta log m s stopped)
   state_put turn meta log m n s stopped id page put = λ i. record { turn = turn; meta = meta; log = log; pages = map_put m n id page put i; imaged = set_of s; stopped = stopped }
 
   -- nothing is held

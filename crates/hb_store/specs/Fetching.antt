@@ -13,8 +13,8 @@ use Rattle.hb_store.specs.declared.stops.FetchStop.TheVariants as fetches
 use Rattle.hb_store.specs.declared.stops.Why.TheVariants.{Rule, Level, Extent}
 
 -- a store with a page in memory, under its number
-abbrev pub with_page : ℕ → Page → StoreState → StoreState
-with_page id page st = record { turn = st.turn; meta = st.meta; log = st.log; pages = map.insert st.pages id page; imaged = st.imaged; stopped = st.stopped }
+abbrev pub with_held : ℕ → Page → StoreState → StoreState
+with_held id page st = record { turn = st.turn; meta = st.meta; log = st.log; pages = map.insert st.pages id page; imaged = st.imaged; stopped = st.stopped }
 
 -- The page breaks a rule that speaks of it alone, and the stop names it.
 abbrev pub BreaksHere : Meta → ℕ → Page → FetchStop → Type 0

@@ -46,7 +46,7 @@ pub record ChangesWell (turn : ℕ) (meta : Meta) (change : Change) : Type 0 whe
   pub pages : All (λ c. IsPageOf change.meta c.0 × IsGoodPage change.meta c.1) change.pages
 
 -- What an operation makes of a store is well made, and its group fits the log.
-pub record IsWellMade (op : Op) (st : StoreState) : Type 0 where
+pub record MakesWell (op : Op) (st : StoreState) : Type 0 where
   pub memory : IsMemory st
   pub change : ChangesWell st.turn st.meta (change_here st op)
   pub group : FitsGroup st.meta.k (group_here st op)

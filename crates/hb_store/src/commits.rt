@@ -8,7 +8,7 @@ ghost use Rattle.hb_ops.specs.Operations.{IsLicensed, OpHas, reads_of};
 ghost use Rattle.hb_log_codec.specs.Groups.{FitsGroup, group_bytes};
 ghost use Rattle.hb_store.specs.Images.{group_here};
 ghost use Rattle.hb_store.specs.Keeps.{StoreKeeps, last_of};
-ghost use Rattle.hb_store.specs.Making.{IsWellMade};
+ghost use Rattle.hb_store.specs.Making.{MakesWell};
 ghost use Rattle.hb_store.specs.Seen.{seen_as};
 ghost use Rattle.hb_store.specs.Calls.{Commits, IsAllowedHere, IsReady, change_here, read_here, with_op};
 
@@ -55,7 +55,7 @@ impl Memory {
         requires marks { All (λ g. g.mark ≤ mark) self.old.log.groups }
         ensures commits { OnOk result (Commits op mark self.old self.new) }
         ensures group { OnOk result (self.new.log.groups ≡ self.old.log.groups ++ record { bytes = group_bytes (group_here self.old op); mark = mark } ∷ []) }
-        ensures well { OnOk result (IsWellMade op self.old) }
+        ensures well { OnOk result (MakesWell op self.old) }
         ensures kept { OnErr result (self.new ≡ self.old) }
     {
         what_is_made_can_be_written();

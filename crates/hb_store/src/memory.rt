@@ -2,7 +2,7 @@
 ghost use Rattle.std.specs.Prelude.{◌≡◌, ◌-◌, ◌≤◌, ◌↔◌, [], None, Some, IsTrue, IfOk, MatchOption, OnOk, OnErr};
 ghost use Rattle.hb_wal.specs.Log.{IsLog, room_of, pending_bytes, mark_of};
 ghost use Rattle.hb_store.specs.States.{IsGoodPage, IsMemory, IsStanding, in_memory, new_state};
-ghost use Rattle.hb_store.specs.Fetching.{with_page};
+ghost use Rattle.hb_store.specs.Fetching.{with_held};
 ghost use Rattle.hb_store.specs.Calls.{IsReady};
 
 use hb_frag::Page;
@@ -83,7 +83,7 @@ impl Memory {
         requires some { 1 ≤ id }
         requires high { id ≤ self.old.meta.high }
         requires good { IsGoodPage self.old.meta page }
-        ensures held { OnOk result (self.new ≡ with_page id page self.old) }
+        ensures held { OnOk result (self.new ≡ with_held id page self.old) }
         ensures kept { OnErr result (self.new ≡ self.old) }
     {
         self.pages.insert(id, page)?;

@@ -6,7 +6,7 @@ use Rattle.hb_ops.specs.Operations.{Change, reads_of}
 use Rattle.hb_wal.specs.Log.{LogState}
 use Rattle.hb_store.specs.Calls.{Commits}
 use Rattle.hb_store.specs.Inside.{memory_seen}
-use Rattle.hb_store.specs.Making.{IsWellMade}
+use Rattle.hb_store.specs.Making.{MakesWell}
 use Rattle.hb_store.specs.Marks.{has_page, is_among}
 use Rattle.hb_store.specs.States.{IsMemory, StoreState, in_memory, is_imaged}
 use Rattle.hb_store.proofs.Changed.{changes_well}
@@ -35,7 +35,7 @@ change_made c = record { meta = c.in_ok-changed.changed.meta; pages = c.in_ok-ch
 abbrev seen_after : (c : goal.After-set_all) → StoreState
 seen_after c = state_of c.self.inside.turn c.in_ok-changed.changed.meta c.append.new.self c.set_all.new.pages c.set_all.new.imaged c.self.inside.stopped
 
-well_made : (c : goal.After-set_all) → IsWellMade c.args.op c.args.self.now
+well_made : (c : goal.After-set_all) → MakesWell c.args.op c.args.self.now
 well_made c =
     let st = c.args.self.now in
     let is : IsMemory st = subst IsMemory c.self.view_is c.self.invariant in

@@ -1,7 +1,7 @@
 use Rattle.std.proofs.Common.{inl, inr, ◌≡◌, None, ap, sym, subst, ◌∙◌, arith}
 use Rattle.std.proofs.lemmas.Result.{err_from_is_err_and}
 use Rattle.hb_store.specs.Calls.{Fetched}
-use Rattle.hb_store.specs.Fetching.{with_page}
+use Rattle.hb_store.specs.Fetching.{with_held}
 use Rattle.hb_store.specs.States.{in_memory}
 use Rattle.hb_store.specs.Keeps.{StoreKeeps}
 use Rattle.hb_store.specs.Seen.{seen_as}
@@ -34,7 +34,7 @@ pub returns-clause-fetched : goal.returns-clause-fetched
 returns-clause-fetched g c =
     let st = seen_as c.args.self.now in
     let page = c.in_ok-page.page in
-    let same = c.in_ok-hold.ensures.held ∙ ap (with_page c.args.id page) c.read_page.ensures.kept in
+    let same = c.in_ok-hold.ensures.held ∙ ap (with_held c.args.id page) c.read_page.ensures.kept in
     let none : in_memory st c.args.id ≡ None = (no_page_in c.get.result (in_memory (seen_as c.args.self.now) c.args.id) c.get.ensures (sym c.if-is_some.ensures)) in
     subst (Fetched c.args.id st) (sym same) (fetched_with st c.args.id page none)
 
@@ -44,7 +44,7 @@ returns-clause-keeps g c =
     let page = c.in_ok-page.page in
     let d = g.D.Device.model c.args.self.now.disk in
     let e = g.D.Device.model c.read_page.new.self.disk in
-    let same = c.in_ok-hold.ensures.held ∙ ap (with_page c.args.id page) c.read_page.ensures.kept in
+    let same = c.in_ok-hold.ensures.held ∙ ap (with_held c.args.id page) c.read_page.ensures.kept in
     let none : in_memory st c.args.id ≡ None = (no_page_in c.get.result (in_memory (seen_as c.args.self.now) c.args.id) c.get.ensures (sym c.if-is_some.ensures)) in
     λ durable later k.
     let there = is_the_page c.spelling_law.ensures.one_page d st durable later c.args.id page (g.met.D.Device.is_disk c.args.self.now.disk) k (omega (arith, c.if-id-eq0.false)) (omega (arith, c.if-id-high.false)) none c.in_ok-page.ensures.there in
