@@ -1,4 +1,3 @@
-pub mod Lists
 pub mod Orders
 pub mod Boxes
 pub mod Tips
@@ -10,11 +9,6 @@ pub mod Opened
 pub mod Remade
 pub mod Sound
 pub mod Looks
-pub mod LeafHalves
-pub mod CutLeaves
-pub mod CutShapes
-pub mod PathParts
-pub mod PagesParted
 pub mod CutTests
 pub mod PostTests
 pub mod CarvedCuts

@@ -16,7 +16,7 @@ use Rattle.hb_sound.proofs.Extractions.{Extraction}
 use Rattle.hb_ops.specs.Allocating.{allocated}
 use Rattle.hb_sound.proofs.FileParted.{IsParted, is_parted}
 use Rattle.hb_sound.proofs.PageLists.{number_of, range_of, with_page-there}
-use Rattle.hb_sound.proofs.PagePlaces.{live_so}
+use Rattle.hb_ops.specs.PageNumberLaws.{live_so}
 use Rattle.hb_sound.proofs.SplitChains.{counted_again, high_fits, same_Some}
 
 -- a page put where it stands already changes nothing

@@ -20,10 +20,8 @@ pub mod LatePosting
 pub mod TowerFile
 pub mod Extractions
 pub mod Growths
-pub mod LeafHalves
-pub mod CutLeaves
-pub mod CutShapes
-pub mod PathParts
+pub mod CutWidths
+pub mod CutNames
 pub mod PagesParted
 pub mod PageLists
 pub mod FileParted
@@ -46,8 +44,6 @@ mod Marked
 mod LeftOut
 mod Levels
 mod Firsts
-mod PartTests
-mod LeafBoxes
 mod Counts
 mod ToldPages
 mod ReadUp

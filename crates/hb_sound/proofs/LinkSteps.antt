@@ -16,7 +16,7 @@ use Rattle.hb_sound.specs.declared.links.Links.{Links}
 use Rattle.hb_sound.specs.declared.names.Times.{Times}
 use Rattle.hb_sound.specs.declared.names.Times.TheVariants.{Never}
 use Rattle.hb_sound.specs.Facts.{more, names_in}
-use Rattle.hb_sound.specs.Links.{Adds, AddsPage, AreLinks, AreRead, FindsChildren, FindsSiblings, IsCut, IsFirstUpTo, IsNext, LosesChild, LosesSibling}
+use Rattle.hb_sound.specs.Links.{Adds, AddsPage, AreLinks, AreRead, FindsChildren, FindsSiblings, IsCut, IsFirstUpTo, IsNextBad, LosesChild, LosesSibling}
 use Rattle.hb_sound.specs.Stops.{OnBroken}
 use Rattle.hb_sound.specs.Told.{item_at}
 use Rattle.hb_sound.specs.declared.pages.AuditStop.{AuditStop}
@@ -28,7 +28,7 @@ use Rattle.hb_sound.proofs.ReadUp.{take_more}
 use Rattle.hb_sound.proofs.ToldPages.{slice_get_inside}
 
 -- the first bad one after one more
-pub next_first : (p : ℕ → Type 0) (good : Type 0) (n : ℕ) (first after : Option ℕ) → IsFirstUpTo p n first → IsNext good (n + 1) first after
+pub next_first : (p : ℕ → Type 0) (good : Type 0) (n : ℕ) (first after : Option ℕ) → IsFirstUpTo p n first → IsNextBad good (n + 1) first after
     → (good → ¬ (p (n + 1))) → (¬ good → p (n + 1)) → IsFirstUpTo p (n + 1) after
 next_first p good n None after is (inl keeps) none some =
     let Q : Option ℕ → Type 0 = λ o. IsFirstUpTo p (n + 1) o in

@@ -8,7 +8,7 @@ use Rattle.hb_frag.specs.Leaves.{siblings_of}
 use Rattle.hb_ops.specs.Files.{page_at}
 use Rattle.hb_ops.specs.Operations.{with_page}
 use Rattle.hb_ops.specs.Sound.{count_live, count_name, times_named}
-use Rattle.hb_sound.proofs.PagePlaces.{page_at-suc, page_at-zero}
+use Rattle.hb_ops.specs.PageNumberLaws.{page_at-suc, page_at-zero}
 
 -- what a page adds to the pages in use, and to the names
 abbrev pub lives : Page → ℕ

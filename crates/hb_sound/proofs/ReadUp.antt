@@ -5,7 +5,7 @@ use Rattle.hb_frag.specs.declared.pages.Page.{Page}
 use Rattle.hb_layout.specs.declared.meta.Meta.{Meta}
 use Rattle.hb_sound.specs.declared.facts.Fact.{Fact}
 use Rattle.hb_sound.specs.Facts.{AreFactsOf, IsFactOf}
-use Rattle.hb_sound.specs.Told.{CoversFile, IsHole, IsWholeFile, file_of, item_at, shown}
+use Rattle.hb_sound.specs.Told.{CoversFile, IsHole, IsWholeFile, file_of, item_at, shown_pages}
 use Rattle.hb_sound.specs.Walks.{IsLeast}
 use Rattle.hb_sound.proofs.Firsts.{item_behind}
 use Rattle.hb_sound.proofs.ToldPages.{slice_get_inside}
@@ -13,7 +13,7 @@ use Rattle.hb_sound.proofs.ToldPages.{slice_get_inside}
 -- no hole so far, and these are the facts of the pages so far
 pub record IsReadTo (meta : Meta) (told : List (Option Page)) (n : ℕ) (facts : List Fact) : Type 0 where
   pub whole : (id : ℕ) → id ≤ n → ¬ (IsHole meta told id)
-  pub facts_are : AreFactsOf meta facts (shown (take n told))
+  pub facts_are : AreFactsOf meta facts (shown_pages (take n told))
 
 pub take_more : {A : Type 0} (xs : List A) (n : ℕ) (x : A) → slice_get xs n ≡ Some x → take (n + 1) xs ≡ take n xs ++ x ∷ []
 take_more {A} [] n x e = let never : None ≡ Some x = e in cc
@@ -22,7 +22,7 @@ take_more {A} (y ∷ xs) (suc n) x e =
     let one : suc n + 1 ≡ suc (n + 1) = omega arith in
     ap (λ (m : ℕ). take m (y ∷ xs)) one ∙ ap (λ (l : List A). y ∷ l) (take_more xs n x e)
 
-shown_more : (xs : List (Option Page)) (page : Page) → shown (xs ++ Some page ∷ []) ≡ shown xs ++ page ∷ []
+shown_more : (xs : List (Option Page)) (page : Page) → shown_pages (xs ++ Some page ∷ []) ≡ shown_pages xs ++ page ∷ []
 shown_more [] page = refl
 shown_more (None ∷ xs) page = shown_more xs page
 shown_more (Some first ∷ xs) page = ap (λ (l : List Page). first ∷ l) (shown_more xs page)
@@ -60,8 +60,8 @@ read_more meta told n facts fact covers read within is there =
             absurd (not_hole (subst Q e hole))
         | inr before ↦ read.whole id before hole
       ];
-      facts_are = subst Q (sym (ap shown (take_more told n (Some page.0) here) ∙ shown_more (take n told) page.0))
-          (facts_more meta facts (shown (take n told)) fact page.0 read.facts_are fact_is);
+      facts_are = subst Q (sym (ap shown_pages (take_more told n (Some page.0) here) ∙ shown_more (take n told) page.0))
+          (facts_more meta facts (shown_pages (take n told)) fact page.0 read.facts_are fact_is);
     }
   where
     some_page : (o : Option Page) → (o ≡ None → ⊥) → (page : Page) × (o ≡ Some page)
@@ -75,7 +75,7 @@ read_more meta told n facts fact covers read within is there =
 pub read_whole : (meta : Meta) (told : List (Option Page)) (n : ℕ) (facts : List Fact) → n ≡ meta.high → IsReadTo meta told n facts → IsWholeFile meta told × AreFactsOf meta facts (file_of meta told).pages
 read_whole meta told n facts all read = (
   λ id hole. let few = hole.1 in read.whole id (omega (arith, few, all)) hole,
-  (let Q : ℕ → Type 0 = λ m. AreFactsOf meta facts (shown (take m told)) in subst Q all read.facts_are),
+  (let Q : ℕ → Type 0 = λ m. AreFactsOf meta facts (shown_pages (take m told)) in subst Q all read.facts_are),
 )
 
 -- the first hole

@@ -11,7 +11,7 @@ use Rattle.hb_sound.proofs.Extractions.{Extraction, LicensesExtraction}
 use Rattle.hb_ops.specs.Allocating.{Allocates, allocated}
 use Rattle.hb_sound.proofs.FileParted.{ArePartsOf, IsParted}
 use Rattle.hb_sound.proofs.PageLists.{live_few, number_of, range_of}
-use Rattle.hb_sound.proofs.PagePlaces.{live_so}
+use Rattle.hb_ops.specs.PageNumberLaws.{live_so}
 
 -- a chain is told by its head
 same_length : (s : FileState) (head : ℕ) (chain other : List ℕ) → IsChain s head chain → IsChain s head other → length chain ≡ length other

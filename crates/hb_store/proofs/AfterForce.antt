@@ -7,18 +7,19 @@ use Rattle.std.proofs.lemmas.List.Elements.{All-head, All-tail}
 use Rattle.hb_space.specs.declared.form.TheConstants.{PAGE}
 use Rattle.hb_disk.specs.Model.{DiskModel, IsDisk, Torn}
 use Rattle.hb_disk.specs.Calls.{Leaves, Becomes, IsSynced}
-use Rattle.hb_disk.specs.RunLaws.{at_value, has_value, some_same, Leaves-weaker, IsSynced-part, IsSynced-elsewhere}
+use Rattle.hb_disk.specs.RunLaws.{Leaves-weaker}
+use Rattle.hb_disk.specs.ValueLaws.{at_value, has_value, some_same}
+use Rattle.hb_disk.specs.SyncedLaws.{IsSynced-part, IsSynced-elsewhere}
 use Rattle.hb_wal.specs.Frames.{frames, frame_bytes, range, HasFrames}
 use Rattle.hb_wal.specs.Log.{Waiting, LogState, forced, left_waiting, after_force}
 use Rattle.hb_wal.specs.Forces.{HasLog, ForceLeaves}
-use Rattle.hb_layout.specs.Offsets.{slot_offset}
+use Rattle.hb_layout.specs.Offsets.{slot_offset, log_start}
 use Rattle.hb_frag.specs.declared.pages.Page.{Page}
 use Rattle.hb_frag.specs.Grammar.{SpellsPage}
 use Rattle.hb_layout.specs.declared.meta.Meta.{Meta}
 use Rattle.hb_ops.specs.Files.{FileState, page_of}
 use Rattle.hb_log_codec.specs.Groups.{Logged, FitsGroup, group_bytes}
 use Rattle.hb_store.specs.Replay.{Replayed, untouched, replay}
-use Rattle.hb_layout.specs.Offsets.{log_start}
 use Rattle.hb_store.specs.Opening.{OpensBy, log_bytes, place_bytes}
 use Rattle.hb_store.specs.Keeps.{StoreState, StoreKeeps, IsStore, Leads, OpensNext, OpensToFirst, last_of}
 use Rattle.hb_store.specs.Calls.{stopped_state, forced_state, with_log, durable_after, later_after}

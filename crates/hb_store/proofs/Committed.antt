@@ -12,7 +12,7 @@ use Rattle.hb_frag.specs.declared.pages.Page.{Page}
 use Rattle.hb_layout.specs.declared.meta.Meta.{Meta}
 use Rattle.hb_ops.specs.declared.operations.Op.{Op}
 use Rattle.hb_ops.specs.Files.{FileState, if_live, page_at, page_of}
-use Rattle.hb_ops.specs.Operations.{Change, IsAllowed, IsAllowedOn, IsLicensed, change_of, effect_of, nth_read, reads_of, with_pages}
+use Rattle.hb_ops.specs.Operations.{Change, IsAllowed, IsAllowedOn, IsLicensed, change_of, effect_of, nth_read, reads_of, with_changed_pages}
 use Rattle.hb_log_codec.specs.Groups.{FitsGroup, Logged, group_bytes}
 use Rattle.hb_store.specs.Replay.{MayFollow, Replayed, after_group, change_in, replay, set_pages, touched_read, untouched, with_images}
 use Rattle.hb_store.specs.ReplayLaws.{Leads-append, last_of-append, replay-append}
@@ -244,7 +244,7 @@ module _ (turn : ℕ) (meta : Meta) (log : LogState) (F : ℕ → Option Frame) 
         (one.0.0, omega (arith, one.0.1, well.next, high))
 
     page_after : (q : ℕ) → page_of n q ≡ set_pages change.pages (page_of s) q
-    page_after q = ap (λ (c : Change). page_at (with_pages c.pages s.pages) q) (sym change_file) ∙ pages_set change.pages s.pages reach q
+    page_after q = ap (λ (c : Change). page_at (with_changed_pages c.pages s.pages) q) (sym change_file) ∙ pages_set change.pages s.pages reach q
 
     -- the touched pages are marked
     touched_after : (q : ℕ) → Tells (F' q) ((replay (untouched keeps.said) (keeps.written ++ (keeps.waiting ++ logged ∷ []))).page q)

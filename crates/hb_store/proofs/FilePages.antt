@@ -5,7 +5,7 @@ use Rattle.std.proofs.lemmas.Bool.{cases_Bool, cases_lt, eq-eqb, eqb-true, eqb-f
 use Rattle.std.proofs.lemmas.List.Elements.{All-head, All-tail}
 use Rattle.hb_frag.specs.declared.pages.Page.{Page}
 use Rattle.hb_ops.specs.Files.{page_at}
-use Rattle.hb_ops.specs.Operations.{with_page, with_pages}
+use Rattle.hb_ops.specs.Operations.{with_page, with_changed_pages}
 use Rattle.hb_store.specs.Replay.{set_pages}
 use Rattle.hb_store.specs.ReplayLists.{set_one-same, set_one-other}
 use Rattle.hb_store.proofs.Marking.{set_pages-same}
@@ -136,13 +136,13 @@ module _ (one : ℕ × Page) (rest : List (ℕ × Page)) (file : List Page) (rea
         first_set.others q ne ∙ sym (set_one-other (page_at file) one.0 one.1 q ne)
   ]
 
-pub pages_set : (pages : List (ℕ × Page)) (file : List Page) → All (Reaches (length file)) pages → (q : ℕ) → page_at (with_pages pages file) q ≡ set_pages pages (page_at file) q
+pub pages_set : (pages : List (ℕ × Page)) (file : List Page) → All (Reaches (length file)) pages → (q : ℕ) → page_at (with_changed_pages pages file) q ≡ set_pages pages (page_at file) q
 pages_set [] file reach q = refl
 pages_set (one ∷ rest) file reach q =
     pages_set rest (with_page one.0 one.1 file) (rest_reach one rest file reach) q
     ∙ set_pages-same rest (page_at (with_page one.0 one.1 file)) (λ r. cond (r == one.0) (Some one.1) (page_at file r)) (one_at one rest file reach) q
 
-pub pages_long : (pages : List (ℕ × Page)) (file : List Page) → All (Reaches (length file)) pages → length (with_pages pages file) ≡ greatest (length file) pages
+pub pages_long : (pages : List (ℕ × Page)) (file : List Page) → All (Reaches (length file)) pages → length (with_changed_pages pages file) ≡ greatest (length file) pages
 pages_long [] file reach = refl
 pages_long (one ∷ rest) file reach =
     pages_long rest (with_page one.0 one.1 file) (rest_reach one rest file reach)

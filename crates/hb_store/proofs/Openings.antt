@@ -2,7 +2,8 @@
 use Rattle.std.proofs.Common.{◌≡◌, inl, ℕ, ◌-◌, ◌≤◌, Bool, false, List, [], length, replicate, Option, Some, None, refl, sym, ap, ◌∙◌, subst, arith}
 use Rattle.std.proofs.lemmas.List.Elements.{All-nil}
 use Rattle.hb_disk.specs.Model.{DiskModel, IsDisk}
-use Rattle.hb_disk.specs.RunLaws.{at_value, IsSynced-part}
+use Rattle.hb_disk.specs.ValueLaws.{at_value}
+use Rattle.hb_disk.specs.SyncedLaws.{IsSynced-part}
 use Rattle.hb_wal.specs.Frames.{range}
 use Rattle.hb_wal.specs.Log.{LogState}
 use Rattle.hb_frag.specs.declared.pages.Page.{Page}

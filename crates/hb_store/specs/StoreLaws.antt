@@ -3,11 +3,12 @@ use Rattle.std.proofs.Common.{◌≡◌, ◌⊎◌, inl, inr, ℕ, ◌+◌, ◌-
 use Rattle.std.proofs.lemmas.List.{get_or-take, get_or-drop}
 use Rattle.hb_disk.specs.Model.{DiskModel, IsDisk}
 use Rattle.hb_disk.specs.Calls.{IsSynced}
-use Rattle.hb_disk.specs.RunLaws.{part_of, some_value, at_value}
+use Rattle.hb_disk.specs.SyncedLaws.{part_of}
+use Rattle.hb_disk.specs.ValueLaws.{some_value, at_value}
 use Rattle.hb_wal.specs.Frames.{range}
 use Rattle.hb_wal.specs.Forces.{HasLog}
 use Rattle.hb_wal.specs.Log.{Waiting}
-use Rattle.hb_layout.specs.Offsets.{slot_offset}
+use Rattle.hb_layout.specs.Offsets.{slot_offset, log_start, file_size}
 use Rattle.hb_super.specs.Superblocks.{HasSuper, IsNewest}
 use Rattle.hb_layout.specs.declared.meta.Meta.{Meta}
 use Rattle.hb_ops.specs.Files.{FileState, page_of}
@@ -15,7 +16,6 @@ use Rattle.hb_frag.specs.declared.pages.Page.{Page}
 use Rattle.hb_frag.specs.Grammar.{SpellsPage}
 use Rattle.hb_log_codec.specs.Groups.{Logged, group_bytes}
 use Rattle.hb_store.specs.Replay.{Replayed}
-use Rattle.hb_layout.specs.Offsets.{log_start, file_size}
 use Rattle.hb_store.specs.Opening.{OpensBy, OpensTo, place_bytes}
 use Rattle.hb_store.specs.Keeps.{StoreState, StoreKeeps, Leads, OpensNext, OpensToFirst, IsFresh}
 use Rattle.hb_store.specs.ReplayLaws.{opens_fresh}

@@ -39,7 +39,7 @@ pub(crate) const SPLIT: [u8; 26] = [
 fn disk(alloc: Global, log: &[u8], page: &[u8], failing: &[u64]) -> Result<MemDisk, Fail>
     requires log { length log.now ≤ 65536 }
     requires page { length page.now ≤ 4096 }
-    ensures { IfOk result (λ d. (memory.seen_as d).size ≡ 147456) }
+    ensures { IfOk result (λ d. (memory.mem_disk_seen d).size ≡ 147456) }
 {
     let mut bytes = vec![in alloc; 0; 147_456]?;
     bytes[8192..8192 + log.len()].copy_from_slice(log);
@@ -163,7 +163,7 @@ fn store_over(
     live: u32,
     free: u32,
 ) -> Result<Store<MemDisk>, Fail>
-    requires { (memory.seen_as disk).size ≡ 147456 }
+    requires { (memory.mem_disk_seen disk).size ≡ 147456 }
 {
     if high == 0 || high > 2 || live > 2 {
         return Err(Fail::from("no file of two pages says so"));

@@ -3,8 +3,10 @@ use Rattle.std.proofs.Common.{◌≡◌, ◌+◌, ◌-◌, ◌≤◌, ℕ, List,
 use Rattle.std.proofs.lemmas.List.{length-replicate}
 use Rattle.hb_disk.specs.Model.{DiskModel, IsDisk, overwritten}
 use Rattle.hb_disk.specs.Calls.{Writes, Syncs}
-use Rattle.hb_disk.specs.RunLaws.{IsSynced-sync, if_value, told_written, some_same}
-use Rattle.hb_disk.specs.TornLaws.{overwritten-reads}
+use Rattle.hb_disk.specs.SyncedLaws.{IsSynced-sync}
+use Rattle.hb_disk.specs.ValueLaws.{if_value, some_same}
+use Rattle.hb_disk.specs.BecomesLaws.{told_written}
+use Rattle.hb_disk.specs.OverwrittenLaws.{overwritten-reads}
 use Rattle.hb_wal.specs.Frames.{range}
 use Rattle.hb_wal.specs.Log.{LogState}
 use Rattle.hb_wal.specs.Forces.{HasLog}

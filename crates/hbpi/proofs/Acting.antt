@@ -11,7 +11,8 @@ use Rattle.hb_ops.specs.Operations.{IsLicensed}
 use Rattle.hb_set.specs.declared.commands.Command.{Command}
 use Rattle.hb_set.specs.declared.commands.Command.TheVariants.{Insert, Delete, Lookup, Search}
 use Rattle.hb_set.specs.declared.scripts.Line.{Line}
-use Rattle.hbpi.specs.Core.{CoreState, IsCurrent, MayCommit}
+use Rattle.hbpi.specs.Core.{CoreState, IsCurrent}
+use Rattle.hbpi.specs.Commands.{MayCommit}
 use Rattle.hbpi.specs.Plans.{Acts, Does, PlansBy}
 use Rattle.hbpi.specs.declared.engine.plans.Plan.{Plan}
 use Rattle.hbpi.specs.declared.engine.plans.Plan.TheVariants as plans

@@ -12,7 +12,9 @@ use Rattle.hb_store.specs.declared.stops.StopWhy.{StopWhy}
 use Rattle.hbpi.specs.declared.engine.session.Session.{Session}
 use Rattle.hbpi.specs.declared.engine.session.Outcome.{Outcome}
 use Rattle.hbpi.specs.declared.engine.session.Outcome.TheVariants as outcomes
-use Rattle.hbpi.specs.Core.{AreAmong, AwaitsOne, CoreKeeps, CoreState, Grows, OpensToPrefix, StandsIn, StepKeeps, StepsOn, StepsTo, set_of, settled_of}
+use Rattle.hbpi.specs.Core.{CoreState, settled_of}
+use Rattle.hbpi.specs.Keeping.{AreAmong, AwaitsOne, CoreKeeps, Grows, OpensToPrefix, StandsIn, StepKeeps, set_of}
+use Rattle.hbpi.specs.StepTable.{StepsOn, StepsTo}
 
 -- a step of a core that goes on
 pub steps_going : (old : CoreState) (s : FileState) (outcome : Outcome) (new : CoreState) (t : FileState) (session : Session) → old.stop ≡ None → old.session ≡ session

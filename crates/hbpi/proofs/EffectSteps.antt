@@ -25,7 +25,10 @@ use Rattle.hb_store.specs.ReplayLaws.{last_of-append}
 use Rattle.hbpi.specs.declared.engine.session.Session.TheVariants as sessions
 use Rattle.hbpi.specs.declared.engine.session.Outcome.{Outcome}
 use Rattle.hbpi.specs.declared.engine.session.Outcome.TheVariants as outcomes
-use Rattle.hbpi.specs.Core.{AwaitsOne, CoreKeeps, CoreState, IsCurrent, MayCommit, StepKeeps, TakesEffect, op_if, op_of, set_of}
+use Rattle.hbpi.specs.Core.{CoreState, IsCurrent}
+use Rattle.hbpi.specs.Keeping.{AwaitsOne, CoreKeeps, StepKeeps, set_of}
+use Rattle.hbpi.specs.Commands.{MayCommit, op_if, op_of}
+use Rattle.hbpi.specs.StepTable.{TakesEffect}
 use Rattle.hbpi.specs.FileLaws.{FileLaws}
 use Rattle.hbpi.specs.Steps.{joined_core, with_store}
 use Rattle.hbpi.specs.declared.engine.plans.Plan.TheVariants as plans

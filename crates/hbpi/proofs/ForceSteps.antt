@@ -20,7 +20,8 @@ use Rattle.hbpi.specs.declared.engine.session.Session.{Session}
 use Rattle.hbpi.specs.declared.engine.session.Session.TheVariants as sessions
 use Rattle.hbpi.specs.declared.engine.session.Outcome.{Outcome}
 use Rattle.hbpi.specs.declared.engine.session.Outcome.TheVariants as outcomes
-use Rattle.hbpi.specs.Core.{AwaitsOne, CoreKeeps, CoreState, IsCore, IsCurrent, StandsIn, StepKeeps, set_of, settled_of}
+use Rattle.hbpi.specs.Core.{CoreState, IsCore, IsCurrent, settled_of}
+use Rattle.hbpi.specs.Keeping.{AwaitsOne, CoreKeeps, StandsIn, StepKeeps, set_of}
 use Rattle.hbpi.specs.Moves.{MovesBy, StaysThere}
 use Rattle.hbpi.specs.Steps.{Forced, ForcesOnce, KeepsAt, StepsSafely, with_stop, with_store}
 use Rattle.hbpi.proofs.PrefixOpens.{force_moments, order_long}

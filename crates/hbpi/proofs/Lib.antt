@@ -3,8 +3,7 @@ pub mod TextPieces
 pub mod PutTexts
 pub mod RunLines
 pub mod EndLaws
-pub mod Boxes
-pub mod Own
+pub mod NoChild
 pub mod Lone
 mod LinesDone
 mod PrefixOpens

@@ -9,7 +9,8 @@ use Rattle.hb_ops.specs.Sound.{IsSound}
 use Rattle.hb_set.specs.declared.scripts.Line.{Line}
 use Rattle.hb_store.specs.Keeps.{IsNew, StoreKeeps, StoreState, last_of}
 use Rattle.hbpi.specs.declared.engine.session.Session.TheVariants as sessions
-use Rattle.hbpi.specs.Core.{AwaitsOne, CoreKeeps, CoreState, set_of}
+use Rattle.hbpi.specs.Core.{CoreState}
+use Rattle.hbpi.specs.Keeping.{AwaitsOne, CoreKeeps, set_of}
 
 abbrev pub new_core : List Line → List ℕ → StoreState → CoreState
 new_core lines order st = record { lines = lines; taken = 0; session = sessions.Idle; order = order; stop = None; store = st }

@@ -11,7 +11,8 @@ use Rattle.hb_set.specs.Machine.{RecordSet}
 use Rattle.hb_store.specs.Opening.{OpensTo}
 use Rattle.hb_store.specs.Keeps.{OpensToFirst, last_of}
 use Rattle.hb_store.specs.StoreLaws.{StoreKeeps-opens, StoreKeeps-one, StoreKeeps-alone}
-use Rattle.hbpi.specs.Core.{AwaitsOne, CoreKeeps, CoreState, Grows, OpensToPrefix, set_of, settled_of}
+use Rattle.hbpi.specs.Core.{CoreState, settled_of}
+use Rattle.hbpi.specs.Keeping.{AwaitsOne, CoreKeeps, Grows, OpensToPrefix, set_of}
 use Rattle.hbpi.proofs.LinesDone.{grown_long, grown_take}
 
 mark_within : (groups : List Waiting) (done : List Line) (now : ℕ) → now ≡ length done → AwaitsOne groups done → mark_of groups now ≤ length done

@@ -19,7 +19,10 @@ use Rattle.hb_store.specs.declared.stops.FetchStop.TheVariants as fetches
 use Rattle.hbpi.specs.declared.engine.session.Session.TheVariants as sessions
 use Rattle.hbpi.specs.declared.engine.session.Outcome.{Outcome}
 use Rattle.hbpi.specs.declared.engine.session.Outcome.TheVariants as outcomes
-use Rattle.hbpi.specs.Core.{CoreKeeps, CoreState, IsCurrent, MayCommit, Refuses, StepKeeps, Walks}
+use Rattle.hbpi.specs.Core.{CoreState, IsCurrent}
+use Rattle.hbpi.specs.Keeping.{CoreKeeps, StepKeeps}
+use Rattle.hbpi.specs.Commands.{MayCommit}
+use Rattle.hbpi.specs.StepTable.{RefusesLine, Walks}
 use Rattle.hbpi.specs.Steps.{GivesUp, KeepsAt, with_session, with_store}
 use Rattle.hbpi.proofs.PrefixOpens.{quiet_moments}
 use Rattle.hbpi.proofs.CoreStays.{stands, stays_kept, step_kept, steps_going}
@@ -58,7 +61,7 @@ module _ (d : DiskModel) (is_disk : IsDisk d) (old : CoreState) (going : old.sto
 
     pub refused_keeps : (outcome : Outcome) (new : CoreState) (line : Line) (reply : Reply) → IsCurrent old line → outcome ≡ outcomes.Answered line.number reply → new ≡ idle_core
         → (n : RecordSet) (done : List Line) (kept : CoreKeeps d old n done)
-        → (Refuses line reply old (last_of kept.durable kept.later) (outcomes.Answered line.number reply) idle_core (last_of kept.durable kept.later)
+        → (RefusesLine line reply old (last_of kept.durable kept.later) (outcomes.Answered line.number reply) idle_core (last_of kept.durable kept.later)
         → Walks line old (last_of kept.durable kept.later) (outcomes.Answered line.number reply) idle_core (last_of kept.durable kept.later))
         → StepKeeps d old (last_of kept.durable kept.later) outcome e new n done
     refused_keeps outcome new line reply current is new_is n done kept walks =

@@ -14,7 +14,11 @@ use Rattle.hb_set.specs.declared.commands.Reply.{Reply}
 use Rattle.hb_set.specs.declared.scripts.Line.{Line}
 use Rattle.hb_set.specs.declared.scripts.Answered.{Answered}
 use Rattle.hb_store.specs.Keeps.{last_of}
-use Rattle.hbpi.specs.Core.{CoreState, CoreKeeps, StepKeeps, StepsTo, Reaches, OpensToPrefix, StandsIn, IsReplied, IsOutside, AreAmong, IsCurrent, AnswersFirst, set_of, settled_of, answers_of}
+use Rattle.hbpi.specs.Core.{CoreState, IsCurrent, settled_of}
+use Rattle.hbpi.specs.Keeping.{CoreKeeps, StepKeeps, OpensToPrefix, StandsIn, AreAmong, set_of}
+use Rattle.hbpi.specs.StepTable.{StepsTo}
+use Rattle.hbpi.specs.Moments.{Reaches, answers_of}
+use Rattle.hbpi.specs.AnsweredLines.{IsReplied, IsOutsideOrder, AnswersFirst}
 use Rattle.hbpi.specs.Moves.{Moves}
 use Rattle.hbpi.specs.Drives.{RunsTo}
 use Rattle.hbpi.specs.declared.engine.session.Session.{Session}
@@ -194,7 +198,7 @@ module _ (e f : DiskModel) (n : RecordSet) (old new : CoreState) (done after : L
       some_same x y e = cc
 
   -- the answer of a line outside the order
-  refused : (number : ℕ) (reply : Reply) (at : ℕ) (line : Line) → at ≡ f.clock → after ≡ done → Ordered old done → IsCurrent old line → number ≡ line.number → old.session ≡ sessions.Walk → IsOutside reply
+  refused : (number : ℕ) (reply : Reply) (at : ℕ) (line : Line) → at ≡ f.clock → after ≡ done → Ordered old done → IsCurrent old line → number ≡ line.number → old.session ≡ sessions.Walk → IsOutsideOrder reply
       → Held f n after (settled_of new) (record { line = number; reply = reply; at = at })
   refused number reply at line at_is same order current number_is walk outside =
       let K : ℕ → Type 0 = λ k. AreAmong done (take k old.lines) in

@@ -2,7 +2,8 @@
 use Rattle.std.proofs.Common.{◌≡◌, ◌≢◌, inl, inr, ℕ, zero, suc, ◌≤◌, List, [], ◌++◌, length, take, Option, Some, None, IfSome, IsSome, false, refl, sym, ap, subst, ◌∙◌, arith, MatchOption}
 use Rattle.hb_disk.specs.Model.{DiskModel, IsDisk}
 use Rattle.hb_layout.specs.declared.meta.Meta.{Meta}
-use Rattle.hb_disk.specs.RunLaws.{at_value, if_value, has_value, Leaves-start}
+use Rattle.hb_disk.specs.RunLaws.{Leaves-start}
+use Rattle.hb_disk.specs.ValueLaws.{at_value, if_value, has_value}
 use Rattle.hb_outside.specs.Streams.{Rose, Appends, AppendsFront}
 use Rattle.hb_ops.specs.Files.{FileState, contents_of}
 use Rattle.hb_ops.specs.Sound.{IsSound}
@@ -14,10 +15,16 @@ use Rattle.hb_store.specs.declared.stops.StopWhy.{StopWhy}
 use Rattle.hb_store.specs.declared.stops.StopWhy.TheVariants as stops
 use Rattle.hb_store.specs.declared.stops.Why.{Why}
 use Rattle.hb_text.specs.OutputLaws.{Appends-both, Appends-front, Rose-later}
-use Rattle.hbpi.specs.Core.{CoreState, CoreKeeps, StepsOn, Moment, Reaches, AnswersFirst, set_of, settled_of}
+use Rattle.hbpi.specs.Core.{CoreState, settled_of}
+use Rattle.hbpi.specs.Keeping.{CoreKeeps, set_of}
+use Rattle.hbpi.specs.StepTable.{StepsOn}
+use Rattle.hbpi.specs.Moments.{Moment, Reaches}
+use Rattle.hbpi.specs.AnsweredLines.{AnswersFirst}
 use Rattle.hbpi.specs.Drives.{IsStart, RunFaults, RunsTo, DriveEnds, run_output}
-use Rattle.hbpi.specs.Driven.{IsScheduled, IsServedScript, RunsFrom, Drove, IsTurnedAway, GetsOutput, OpenedEnds, NotScheduled, status_after, status_by}
-use Rattle.hbpi.specs.Ends.{Seen, IsRefused}
+use Rattle.hbpi.specs.Driven.{IsTurnedAway, GetsOutput, OpenedEnds, status_after, status_by}
+use Rattle.hbpi.specs.Schedules.{IsScheduled, IsServedScript, NotScheduled}
+use Rattle.hbpi.specs.DrivenRuns.{RunsFrom, Drove}
+use Rattle.hbpi.specs.SeenRuns.{Seen, IsRefused}
 use Rattle.hbpi.specs.Moves.{MovesOn, HasOrder, shown}
 use Rattle.hbpi.specs.Outcome.{GetsLine, fault_line}
 use Rattle.hbpi.specs.Starting.{IsOnePage}

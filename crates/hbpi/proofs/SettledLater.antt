@@ -14,7 +14,10 @@ use Rattle.hb_store.specs.Calls.{forced_state, stopped_state}
 use Rattle.hb_set.specs.declared.commands.Reply.TheVariants.{Full}
 use Rattle.hb_store.specs.declared.stops.StopWhy.{StopWhy}
 use Rattle.hb_store.specs.declared.stops.StopWhy.TheVariants.{WriteFault}
-use Rattle.hbpi.specs.Core.{CoreState, CoreKeeps, StepsTo, StepsOn, TakesNext, Walks, Awaits, Forces, Refuses, TakesEffect, AwaitsOne, op_of, settled_of}
+use Rattle.hbpi.specs.Core.{CoreState, settled_of}
+use Rattle.hbpi.specs.Keeping.{CoreKeeps, AwaitsOne}
+use Rattle.hbpi.specs.StepTable.{StepsTo, StepsOn, TakesNext, Walks, Awaits, Forces, RefusesLine, TakesEffect}
+use Rattle.hbpi.specs.Commands.{op_of}
 use Rattle.hbpi.specs.declared.engine.session.Session.{Session}
 use Rattle.hbpi.specs.declared.engine.session.Session.TheVariants as sessions
 use Rattle.hbpi.specs.declared.engine.session.Outcome.{Outcome}
@@ -45,7 +48,7 @@ same_core : (old new : CoreState) → new.store.log.groups ≡ old.store.log.gro
 same_core old new groups order = settled_as old new groups (omega (arith, ap length order))
 
 module _ (old new : CoreState) (s t : FileState) where
-  by_refusal : (line : Line) (reply : Reply) (outcome : Outcome) → Refuses line reply old s outcome new t → SettlesNoLess old new
+  by_refusal : (line : Line) (reply : Reply) (outcome : Outcome) → RefusesLine line reply old s outcome new t → SettlesNoLess old new
   by_refusal line reply outcome refuses = same_core old new (ap (λ (l : LogState). l.groups) refuses.log) refuses.order
 
   by_effect : (line : Line) (outcome : Outcome) → TakesEffect line old s outcome new t → SettlesNoLess old new

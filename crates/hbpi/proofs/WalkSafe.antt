@@ -21,7 +21,8 @@ use Rattle.hb_store.specs.declared.stops.StopWhy.TheVariants as stops
 use Rattle.hbpi.specs.declared.engine.session.Session.TheVariants as sessions
 use Rattle.hbpi.specs.declared.engine.session.Outcome.{Outcome}
 use Rattle.hbpi.specs.declared.engine.session.Outcome.TheVariants as outcomes
-use Rattle.hbpi.specs.Core.{CoreState, IsCore, IsCurrent, IsOutside}
+use Rattle.hbpi.specs.Core.{CoreState, IsCore, IsCurrent}
+use Rattle.hbpi.specs.AnsweredLines.{IsOutsideOrder}
 use Rattle.hbpi.specs.Damages.{IsDamagedFor, MeetsDamage}
 use Rattle.hbpi.specs.Moves.{Moves}
 use Rattle.hbpi.specs.Plans.{Acts, Does, LooksBy, PlansBy}
@@ -104,7 +105,7 @@ module _ (d m : DiskModel) (reads : OnlyReads d m) (no_fault : m.read_faults ≡
     k_same n goes = ap (λ (x : Meta). x.k) goes.meta
 
     -- the line is answered outside the order
-    pub refused_safe : StoreGoes old st (length old.order) → (outcome : Outcome) (new : CoreState) (line : Line) (reply : Reply) → IsCurrent old line → IsOutside reply → reply ≢ replies.ReadFault
+    pub refused_safe : StoreGoes old st (length old.order) → (outcome : Outcome) (new : CoreState) (line : Line) (reply : Reply) → IsCurrent old line → IsOutsideOrder reply → reply ≢ replies.ReadFault
         → outcome ≡ outcomes.Answered line.number reply → new ≡ with_session sessions.Idle (with_store st old) → StepsSafely d old outcome m new
     refused_safe goes outcome new line reply current outside well is new_is =
         let o : Outcome = outcomes.Answered line.number reply in

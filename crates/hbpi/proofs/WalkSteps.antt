@@ -17,7 +17,9 @@ use Rattle.hb_store.specs.Keeps.{StoreKeeps, StoreState, last_of}
 use Rattle.hb_store.specs.Calls.{Fetched, IsReady}
 use Rattle.hbpi.specs.declared.engine.session.Session.TheVariants as sessions
 use Rattle.hbpi.specs.declared.engine.session.Outcome.{Outcome}
-use Rattle.hbpi.specs.Core.{CoreKeeps, CoreState, IsCurrent, MayCommit, StepKeeps, op_of}
+use Rattle.hbpi.specs.Core.{CoreState, IsCurrent}
+use Rattle.hbpi.specs.Keeping.{CoreKeeps, StepKeeps}
+use Rattle.hbpi.specs.Commands.{MayCommit, op_of}
 use Rattle.hbpi.specs.FileLaws.{FileLaws}
 use Rattle.hbpi.specs.Damages.{IsRootPage}
 use Rattle.hbpi.specs.Plans.{Acts, Does, PlansBy, PlansOn}
@@ -25,7 +27,8 @@ use Rattle.hbpi.specs.Steps.{KeepsAt, with_store}
 use Rattle.hbpi.specs.declared.engine.plans.Plan.{Plan}
 use Rattle.hbpi.specs.declared.engine.plans.Plan.TheVariants as plans
 use Rattle.hbpi.proofs.LinesDone.{by_recursion_at}
-use Rattle.hbpi.proofs.Lone.{live_is, live_so}
+use Rattle.hb_restart.specs.LoneLaws.{live_is}
+use Rattle.hb_ops.specs.PageNumberLaws.{live_so}
 use Rattle.hbpi.proofs.RootPages.{no_damage}
 use Rattle.hbpi.proofs.PlansHold.{PlanHolds, plan_holds}
 use Rattle.hbpi.proofs.RefusedSteps.{FramesOnly, refused_keeps}

@@ -11,7 +11,10 @@ use Rattle.hb_ops.specs.Files.{FileState}
 use Rattle.hb_store.specs.Keeps.{last_of}
 use Rattle.hb_store.specs.declared.stops.StopWhy.TheVariants.{WriteFault}
 use Rattle.hb_text.specs.Output.{output_text}
-use Rattle.hbpi.specs.Core.{CoreState, CoreKeeps, Reaches, CrashesTo, IsReplied, AnswersFirst, entries_from, left_lines, settled_of}
+use Rattle.hbpi.specs.Core.{CoreState, settled_of}
+use Rattle.hbpi.specs.Keeping.{CoreKeeps, entries_from}
+use Rattle.hbpi.specs.Moments.{Reaches, CrashesTo}
+use Rattle.hbpi.specs.AnsweredLines.{IsReplied, AnswersFirst, left_lines}
 use Rattle.hbpi.specs.declared.engine.session.Session.TheVariants.{Idle}
 use Rattle.hbpi.specs.declared.drive.End.{End}
 use Rattle.hbpi.specs.declared.drive.End.TheVariants as ends

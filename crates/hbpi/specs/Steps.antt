@@ -14,7 +14,8 @@ use Rattle.hb_ops.specs.Files.{FileState}
 use Rattle.hb_disk.specs.Calls.{Becomes, Leaves}
 use Rattle.hb_store.specs.declared.stops.StopWhy.{StopWhy}
 use Rattle.hb_store.specs.declared.stops.StopWhy.TheVariants.{WriteFault, Damaged}
-use Rattle.hbpi.specs.Core.{CoreState, CoreKeeps, StepKeeps, IsCore, IsCurrent}
+use Rattle.hbpi.specs.Core.{CoreState, IsCore, IsCurrent}
+use Rattle.hbpi.specs.Keeping.{CoreKeeps, StepKeeps}
 use Rattle.hbpi.specs.Moves.{Moves}
 use Rattle.hbpi.specs.declared.engine.session.Session.{Session}
 use Rattle.hbpi.specs.declared.engine.session.Session.TheVariants as sessions

@@ -7,9 +7,13 @@ ghost use Rattle.hb_set.specs.Machine.{RecordSet};
 ghost use Rattle.hb_set.specs.Scripts.{IsScriptFor};
 ghost use Rattle.hb_set.specs.declared.scripts.Line.{Line as Entry};
 ghost use Rattle.hb_text.specs.Output.{reply_text, answer_text, left_text, order_text};
-ghost use Rattle.hbpi.specs.Ends.{HasPut, PutsMore};
+ghost use Rattle.hbpi.specs.DryParts.{HasPutText, PutsMore};
 ghost use Rattle.hbpi.specs.Beyond.{StaysInLog};
-ghost use Rattle.hbpi.specs.Core.{CoreKeeps, IsCore, IsServed, AnswersFirst, answers_of, settled_of};
+ghost use Rattle.hbpi.specs.Core.{IsCore, settled_of};
+ghost use Rattle.hbpi.specs.Keeping.{CoreKeeps};
+ghost use Rattle.hbpi.specs.Commands.{IsServed};
+ghost use Rattle.hbpi.specs.AnsweredLines.{AnswersFirst};
+ghost use Rattle.hbpi.specs.Moments.{answers_of};
 ghost use Rattle.hbpi.specs.Moves.{MovesOn, HasOrder, shown};
 ghost use Rattle.hbpi.specs.CoreSeen.{core_seen, core_disk};
 ghost use Rattle.hb_store.specs.Keeps.{last_of};
@@ -95,7 +99,7 @@ fn take_steps<D: Disk, K: Sink>(
     ensures whole { IsCore (core_seen core.new) }
     ensures lines { (core_seen core.new).lines ≡ (core_seen core.old).lines }
     ensures in_log { StaysInLog (D.model (core_disk core.old)) (core_seen core.old) (D.model (core_disk core.new)) (core_seen core.new) }
-    ensures put { HasPut (K.written sink.old) (K.written sink.new) (K.faults sink.old) (K.faults sink.new) result (flat_map answer_text answered.new.items) }
+    ensures put { HasPutText (K.written sink.old) (K.written sink.new) (K.faults sink.old) (K.faults sink.new) result (flat_map answer_text answered.new.items) }
     ensures faults { RunFaults (D.model (core_disk core.old)) (D.model (core_disk core.new)) answered.new.items (core_seen core.new) }
     ensures reads_later { (D.model (core_disk core.old)).read_faults ≤ (D.model (core_disk core.new)).read_faults }
     ensures writes_later { (D.model (core_disk core.old)).write_faults ≤ (D.model (core_disk core.new)).write_faults }

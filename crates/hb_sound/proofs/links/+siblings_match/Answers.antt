@@ -1,5 +1,5 @@
 use Rattle.hb_sound.specs.Facts.{FindsSame}
-use Rattle.hb_sound.proofs.PartTests.{first_tells, one_tells, second_tells}
+use Rattle.hb_ops.specs.ListLaws.{first_tells, one_tells, second_tells}
 use Rattle.hb_sound.proofs.links.+siblings_match.Goals as goal
 
 pub returns-in-Tip : goal.returns-in-Tip

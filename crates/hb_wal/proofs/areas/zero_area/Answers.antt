@@ -2,7 +2,7 @@ use Rattle.std.proofs.Common.{◌≡◌, ◌+◌, ◌-◌, ◌≤◌, ℕ, List,
 use Rattle.std.proofs.lemmas.List.{length-replicate}
 use Rattle.hb_disk.specs.Model.{Torn}
 use Rattle.hb_disk.specs.Calls.{Writes}
-use Rattle.hb_disk.specs.RunLaws.{Becomes-torn, Becomes-torn_write, Becomes-torn_sync}
+use Rattle.hb_disk.specs.BecomesLaws.{Becomes-torn, Becomes-torn_write, Becomes-torn_sync}
 use Rattle.hb_wal.proofs.AreaZeros.{zeroed_log}
 use Rattle.hb_wal.proofs.areas.zero_area.Goals as goal
 

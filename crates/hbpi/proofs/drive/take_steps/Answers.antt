@@ -4,7 +4,9 @@ use Rattle.hb_set.specs.Order.{AreRising}
 use Rattle.hb_set.specs.declared.scripts.Line.{Line}
 use Rattle.hb_set.specs.declared.scripts.Answered.{Answered}
 use Rattle.hb_store.specs.Keeps.{last_of}
-use Rattle.hbpi.specs.Core.{CoreKeeps, AnswersFirst, answers_of}
+use Rattle.hbpi.specs.Keeping.{CoreKeeps}
+use Rattle.hbpi.specs.AnsweredLines.{AnswersFirst}
+use Rattle.hbpi.specs.Moments.{answers_of}
 use Rattle.hbpi.specs.CoreSeen.{core_seen, core_disk}
 use Rattle.hbpi.specs.Drives.{RunsTo}
 use Rattle.hbpi.specs.Moves.{shown}

@@ -1,10 +1,10 @@
 use Rattle.std.proofs.Common.{◌≡◌, [], inl, inr, refl, sym, subst, ◌∙◌}
 use Rattle.hb_disk.specs.Model.{DiskModel}
-use Rattle.hb_disk.specs.RunLaws.{at_value, if_value}
+use Rattle.hb_disk.specs.ValueLaws.{at_value, if_value}
 use Rattle.hb_store.specs.Seen.{seen_as, disk_of}
 use Rattle.hbpi.specs.Codes.{start_status}
 use Rattle.hbpi.specs.Driven.{DriveCommandEnds, IsShutOut}
-use Rattle.hbpi.specs.Ends.{Seen}
+use Rattle.hbpi.specs.SeenRuns.{Seen}
 use Rattle.hbpi.specs.Outcome.{GetsLine, fault_line}
 use Rattle.hbpi.specs.declared.statuses.Status.{Status}
 use Rattle.hbpi.proofs.Reopened.{IsOpening, ends_before}

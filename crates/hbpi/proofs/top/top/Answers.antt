@@ -1,7 +1,9 @@
 use Rattle.std.proofs.Common.{◌∙◌, Option, Some, sym, ap, subst}
 use Rattle.hbpi.specs.declared.forms.Form.{Form}
 use Rattle.hbpi.specs.declared.forms.Form.TheVariants.{Create, Dry}
-use Rattle.hbpi.specs.Ends.{Seen, seen_by, IsComplete, IsMadeWhole, RefusesBadText, NamesBadLine}
+use Rattle.hbpi.specs.Ends.{IsComplete, RefusesBadText, NamesBadLine}
+use Rattle.hbpi.specs.SeenRuns.{Seen, seen_by}
+use Rattle.hbpi.specs.MadeEnds.{IsMadeWhole}
 use Rattle.hbpi.specs.Runs.{LeavesBeyond, RunEnds, disk_seen}
 use Rattle.hbpi.proofs.EndLaws.{ends_complete, ends_refuses, ends_names, ends_made, never_usage, never_unbuilt}
 use Rattle.hbpi.proofs.DriveGiven.{is_driven}

@@ -1,5 +1,5 @@
 use Rattle.std.proofs.Common.{◌++◌, sym, subst}
-use Rattle.hb_disk.specs.RunLaws.{some_value}
+use Rattle.hb_disk.specs.ValueLaws.{some_value}
 use Rattle.hb_wal.specs.Log.{LogState, forced}
 use Rattle.hb_wal.specs.Forces.{HasLog}
 use Rattle.hb_store.specs.Keeps.{StoreKeeps}

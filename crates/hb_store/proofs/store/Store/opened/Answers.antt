@@ -1,7 +1,7 @@
 use Rattle.std.proofs.Common.{rules, ◌≡◌, false, ℕ, None}
 use Rattle.std.specs.Ordering.{nat_cmp}
 use Rattle.std.specs.BTreeMap.{get}
-use Rattle.hb_disk.specs.RunLaws.{some_value}
+use Rattle.hb_disk.specs.ValueLaws.{some_value}
 use Rattle.hb_store.specs.Frames.{page_in, imaged_in}
 use Rattle.hb_store.proofs.Openings.{new_keeps}
 use Rattle.hb_store.proofs.store.Store.opened.Goals as goal

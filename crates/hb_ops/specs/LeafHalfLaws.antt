@@ -12,8 +12,7 @@ use Rattle.hb_frag.specs.declared.paths.Side.{Side}
 use Rattle.hb_frag.specs.declared.paths.Side.TheVariants.{Left, Right}
 use Rattle.hb_frag.specs.Rules.{IsInOrder, Precedes}
 use Rattle.hb_ops.specs.Cutting.{area_on, is_on, other_side}
-use Rattle.hb_sound.proofs.SiblingLeaves.{placed}
-use Rattle.hb_sound.proofs.Widths.{below_narrower, from_narrower, width}
+use Rattle.hb_ops.specs.PlacedLaws.{placed}
 
 -- a list with another value at a place
 set_at : (xs : List ℕ) (n v i : ℕ) → n < length xs → ((i ≡ n) × (get_or (set xs n v) i 0 ≡ v)) ⊎ (get_or (set xs n v) i 0 ≡ get_or xs i 0)
@@ -23,13 +22,14 @@ set_at (x ∷ xs) zero v (suc i) lt = inr refl
 set_at (x ∷ xs) (suc n) v zero lt = inr refl
 set_at (x ∷ xs) (suc n) v (suc i) lt = elim (set_at xs n v i (omega arith)) [ inl w ↦ inl (ap suc w.0, w.1) | inr e ↦ inr e ]
 
+-- where a value isn't 0 there is a value
 present : (xs : List ℕ) (n : ℕ) → 0 < get_or xs n 0 → n < length xs
 present [] n h = absurd (omega arith)
 present (x ∷ xs) zero h = omega arith
 present (x ∷ xs) (suc n) h = let rest = present xs n h in omega (arith, rest)
 
 -- a record of the box that lies on the side lies in that side of the box
-holds_on : (side : Side) (axis value : ℕ) (a : Area) (r : Record) → Cuts a axis value → Holds a r.key → is_on side axis value r ≡ true → Holds (area_on side axis value a) r.key
+pub holds_on : (side : Side) (axis value : ℕ) (a : Area) (r : Record) → Cuts a axis value → Holds a r.key → is_on side axis value r ≡ true → Holds (area_on side axis value a) r.key
 holds_on Left axis value a r cuts h t =
     let lt : get_or r.key axis 0 < value = ltb-true (get_or r.key axis 0) value t in
     let in_hi : axis < length a.hi = present a.hi axis (omega (arith, cuts.above_least, cuts.up_to_greatest)) in
@@ -50,6 +50,7 @@ holds_on Right axis value a r cuts h t =
       ];
     }
 
+-- a half is in order where the leaf is
 pub half_in_order : (side : Side) (axis value : ℕ) (a : Area) (records : List Record) → Cuts a axis value → IsInOrder (placed (Records records) a) → IsInOrder (placed (Records (filter (is_on side axis value) records)) (area_on side axis value a))
 half_in_order side axis value a records cuts h = record {
   inside = λ k d lt.
@@ -63,15 +64,12 @@ twice_not : (b : Bool) → b ≡ not (not b)
 twice_not true = refl
 twice_not false = refl
 
+-- so both halves have as many records as the leaf
 pub both_halves : (side : Side) (axis value : ℕ) (records : List Record) → length (filter (is_on side axis value) records) + length (filter (is_on (other_side side) axis value) records) ≡ length records
 both_halves Left axis value records = length-filter_both (is_on Left axis value) (is_on Right axis value) (λ r. refl) records
 both_halves Right axis value records = length-filter_both (is_on Right axis value) (is_on Left axis value) (λ r. twice_not (is_on Left axis value r)) records
 
--- the side of a box is less wide, and has as many attributes
-pub side_narrower : (side : Side) (axis value : ℕ) (a : Area) → Cuts a axis value → width (area_on side axis value a) < width a
-side_narrower Left axis value a cuts = below_narrower a axis value cuts
-side_narrower Right axis value a cuts = from_narrower a axis value cuts
-
+-- the side of a box has as many attributes
 pub side_attributes : (side : Side) (axis value : ℕ) (a : Area) → length (area_on side axis value a).lo ≡ length a.lo
 side_attributes Left axis value a = refl
 side_attributes Right axis value a = length-set a.lo axis value

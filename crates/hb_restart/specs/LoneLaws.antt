@@ -1,34 +1,17 @@
--- A file of one page.
-use Rattle.std.proofs.Common.{◌≡◌, inl, inr, ℕ, zero, suc, ◌+◌, ◌<◌, ◌≤◌, ◌==◌, Bool, true, false, cond, List, [], ◌∷◌, slice_index_or, Contains, Option, Some, None, refl, sym, ap, ◌∙◌, subst, arith, ne_eqb}
+-- A file of one page: which page each number has, and when it keeps the rules of the root and of the counts.
+use Rattle.std.proofs.Common.{◌≡◌, inl, inr, ℕ, ◌+◌, ◌≤◌, ◌==◌, Bool, true, false, cond, [], ◌∷◌, Option, Some, None, refl, sym, ap, ◌∙◌, subst, arith, ne_eqb}
 use Rattle.std.proofs.lemmas.Bool.{cases_eq}
-use Rattle.hb_space.specs.Boxes.{Area, whole_area}
-use Rattle.hb_space.specs.declared.records.Record.{Record}
-use Rattle.hb_frag.specs.declared.leaves.Leaf.TheVariants.{Records, Child}
+use Rattle.hb_space.specs.Boxes.{whole_area}
 use Rattle.hb_frag.specs.declared.pages.LivePage.{LivePage}
 use Rattle.hb_frag.specs.declared.pages.Page.{Page}
 use Rattle.hb_frag.specs.declared.pages.Page.TheVariants.{Live, Free}
-use Rattle.hb_frag.specs.Leaves.{Placed, leaves_of}
-use Rattle.hb_frag.specs.Trees.{Tip}
 use Rattle.hb_layout.specs.declared.meta.Meta.{Meta}
-use Rattle.hb_ops.specs.Files.{FileState, if_live, page_at, live_page}
+use Rattle.hb_ops.specs.Files.{FileState, page_at, live_page}
 use Rattle.hb_ops.specs.Sound.{IsRooted, IsCounted}
 use Rattle.hb_restart.specs.NewFiles.{lone}
+use Rattle.hb_ops.specs.PageNumberLaws.{live_so}
 
-one_at : {X : Type 0} (x y : X) (k : ℕ) → k < 1 → slice_index_or (x ∷ []) k y ≡ y → x ≡ y
-one_at x y zero lt e = e
-one_at x y (suc k) lt e = absurd (omega (arith, lt))
-
--- the one element of a list
-pub contains_one : {X : Type 0} (x y : X) → Contains (x ∷ []) y → x ≡ y
-contains_one x y h = one_at x y h.0 h.1 h.2
-
--- a leaf with records names no child
-pub no_child : (records : List Record) (box : Area) (name : ℕ) (area : Area) → Contains (leaves_of (Tip (Records records)) box) (record { leaf = Child name; area = area }) → ⊥
-no_child records box name area there =
-    let same = contains_one {X = Placed} (record { leaf = Records records; area = box }) (record { leaf = Child name; area = area }) there in
-    let never : Records records ≡ Child name = ap (λ (p : Placed). p.leaf) same in
-    cc (never)
-
+-- a choice between two that are one
 cond_same : {X : Type 0} (b : Bool) (x : X) → cond b x x ≡ x
 cond_same true x = refl
 cond_same false x = refl
@@ -43,14 +26,11 @@ page_alone p id q e = elim (cases_eq id 1) [
       absurd (let never : None ≡ Some q = sym none ∙ e in cc)
 ]
 
-pub live_so : (o : Option Page) (page : LivePage) → if_live o ≡ Some page → o ≡ Some (Live page)
-live_so None page e = cc
-live_so (Some (Live q)) page e = let is : q ≡ page = cc in ap (λ (x : LivePage). Some (Live x)) is
-live_so (Some (Free next)) page e = cc
-
+-- so it is of a page in use
 pub live_alone : (meta : Meta) (p : Page) (id : ℕ) (q : LivePage) → live_page (lone meta p) id ≡ Some q → (id ≡ 1) × (p ≡ Live q)
 live_alone meta p id q e = page_alone p id (Live q) (live_so (page_at (p ∷ []) id) q e)
 
+-- a page in use is one page
 pub live_is : (p q : LivePage) → Live p ≡ Live q → p ≡ q
 live_is p q e = cc
 
@@ -58,9 +38,11 @@ module _ (meta : Meta) (page : LivePage) where
   abbrev file : FileState
   file = lone meta (Live page)
 
-  alone : (id : ℕ) (q : LivePage) → live_page file id ≡ Some q → (id ≡ 1) × (page ≡ q)
+  -- the page in use under a number is the one page
+  pub alone : (id : ℕ) (q : LivePage) → live_page file id ≡ Some q → (id ≡ 1) × (page ≡ q)
   alone id q e = let is = live_alone meta (Live page) id q e in (is.0, live_is page q is.1)
 
+  -- the file keeps the rules of the root where the page is all of the space and stands at the level of the root
   pub to_rooted : meta.high ≡ 1 → 1 ≤ meta.pages → meta.root ≡ 1 → meta.free ≤ 1 → meta.live ≤ 1 → page.level + 1 ≡ meta.height → page.area ≡ whole_area meta.k → IsRooted file
   to_rooted high pages root free live level whole = record {
     numbered = sym high;
@@ -72,6 +54,7 @@ module _ (meta : Meta) (page : LivePage) where
     top = (page, (let Q : ℕ → Type 0 = λ n. live_page file n ≡ Some page in subst Q (sym root) refl), level, whole);
   }
 
+  -- and those of the counts where no page is free
   pub to_counted : meta.free ≡ 0 → meta.live ≡ 1 → IsCounted file
   to_counted free live = record {
     chain = [];

@@ -1,18 +1,14 @@
 -- A part of a page by its path: its box, its shape, and the page with another part there.
-use Rattle.std.proofs.Common.{◌≡◌, zero, suc, List, [], ◌∷◌, length, Some, refl, sym, ap, subst, ◌∙◌, arith, inl, inr}
-use Rattle.std.specs.List.{All, Contains}
-use Rattle.std.proofs.lemmas.List.Elements.{All-append, All-cons, All-contains_itself, All-nil, All-weaker, Contains-append_cases, Contains-append_left, Contains-append_right}
+use Rattle.std.proofs.Common.{◌≡◌, List, [], ◌∷◌, length, Some, refl, sym, subst, ◌∙◌}
 use Rattle.hb_space.specs.Boxes.{Area, side_below, side_from}
-use Rattle.hb_frag.specs.declared.leaves.Leaf.{Leaf}
 use Rattle.hb_frag.specs.declared.paths.Side.{Side}
 use Rattle.hb_frag.specs.declared.paths.Side.TheVariants.{Left, Right}
 use Rattle.hb_frag.specs.Trees.{Tree, Tip, Cut}
-use Rattle.hb_frag.specs.Leaves.{Placed, IsWellCut, leaves, leaves_of}
+use Rattle.hb_frag.specs.Leaves.{IsWellCut}
 use Rattle.hb_frag.specs.Rules.{IsNormal, IsSiblingTip}
 use Rattle.hb_frag.specs.Paths.{part_at, with_part}
-use Rattle.hb_ops.proofs.CutShapes.{LikeNone, cut_like_none}
-use Rattle.hb_ops.proofs.LeafHalves.{side_attributes}
-use Rattle.hb_ops.proofs.Remade.{placed}
+use Rattle.hb_ops.specs.CutShapeLaws.{LikeNone, cut_like_none}
+use Rattle.hb_ops.specs.LeafHalfLaws.{side_attributes}
 
 -- what a part has from its tree
 pub record HasFrom (t : Tree) (area : Area) (w : Tree × Area) : Type 0 where
@@ -20,9 +16,11 @@ pub record HasFrom (t : Tree) (area : Area) (w : Tree × Area) : Type 0 where
   pub well_cut : IsWellCut w.0 w.1
   pub normal : IsNormal w.0
 
+-- the empty path leads to the root
 pub the_root : (t : Tree) (area : Area) (w : Tree × Area) → Some (t, area) ≡ Some w → (t, area) ≡ w
 the_root t area w e = cc
 
+-- a part that a path leads to has it
 pub part_has : (path : List Side) (t : Tree) (area : Area) (w : Tree × Area) → part_at path t area ≡ Some w → IsWellCut t area → IsNormal t → HasFrom t area w
 part_has [] t area w e cut normal =
     subst (λ (w : Tree × Area). HasFrom t area w) (the_root t area w e) (record { attributes = refl; well_cut = cut; normal = normal })
@@ -67,26 +65,3 @@ not_lone_again Left path (Tip leaf) area w other e lone = absurd (cc)
 not_lone_again Right path (Tip leaf) area w other e lone = absurd (cc)
 not_lone_again Left path (Cut axis value left right) area w other e lone = lone
 not_lone_again Right path (Cut axis value left right) area w other e lone = lone
-
--- a leaf with its box is one of the leaves
-pub placed_is_leaf : (t : Tree) (area : Area) (x : Placed) → Contains (leaves_of t area) x → Contains (leaves t) x.leaf
-placed_is_leaf (Tip leaf) area x (zero, lt, e) = (zero, omega arith, ap (λ (l : Placed). l.leaf) e)
-placed_is_leaf (Tip leaf) area x (suc k, lt, e) = absurd (omega arith)
-placed_is_leaf (Cut axis value left right) area x h = elim (Contains-append_cases (leaves_of left (side_below area axis value)) (leaves_of right (side_from area axis value)) x h) [
-  | inl l ↦ Contains-append_left (leaves left) (leaves right) x.leaf (placed_is_leaf left (side_below area axis value) x l)
-  | inr r ↦ Contains-append_right (leaves left) (leaves right) x.leaf (placed_is_leaf right (side_from area axis value) x r)
-]
-
--- what holds of each leaf of a tree in its box holds of each of its leaves
-pub each_leaf : (P : Leaf → Type 0) (t : Tree) (area : Area) → ((x : Placed) → Contains (leaves_of t area) x → P x.leaf) → All P (leaves t)
-each_leaf P (Tip leaf) area h = All-cons P leaf [] (h (placed leaf area) (0, omega arith, refl)) (All-nil P)
-each_leaf P (Cut axis value left right) area h =
-    let below = leaves_of left (side_below area axis value) in
-    let from = leaves_of right (side_from area axis value) in
-    All-append P (leaves left) (leaves right)
-    (each_leaf P left (side_below area axis value) (λ x has. h x (Contains-append_left below from x has)))
-    (each_leaf P right (side_from area axis value) (λ x has. h x (Contains-append_right below from x has)))
-
--- what holds of each member holds of all
-pub each_member : {X : Type 0} (P : X → Type 0) (xs : List X) → ((x : X) → Contains xs x → P x) → All P xs
-each_member P xs h = All-weaker (Contains xs) P h xs (All-contains_itself xs)

@@ -1,5 +1,5 @@
 -- The boxes of a page's leaves: each lies in the page's, and where the page is cut none is all of it.
-use Rattle.std.proofs.Common.{◌≡◌, inl, inr, ℕ, zero, suc, ◌-◌, ◌<◌, ◌≤◌, [], ◌∷◌, length, slice_index, slice_index_or, Contains, sym, ap, ◌∙◌, subst, arith}
+use Rattle.std.proofs.Common.{◌≡◌, inl, inr, ℕ, ◌-◌, ◌≤◌, length, slice_index, Contains, sym, ap, ◌∙◌, subst, arith}
 use Rattle.std.proofs.lemmas.Bool.{cases_eq}
 use Rattle.std.proofs.lemmas.List.{get_or-set_same, get_or-set_other, length-set}
 use Rattle.std.proofs.lemmas.List.Elements.{Contains-append_cases}
@@ -7,21 +7,25 @@ use Rattle.hb_space.specs.Boxes.{Area, Cuts, side_below, side_from}
 use Rattle.hb_frag.specs.declared.leaves.Leaf.{Leaf}
 use Rattle.hb_frag.specs.Leaves.{Placed, IsWellCut, leaves_of}
 use Rattle.hb_frag.specs.Trees.{Tree, Tip, Cut}
+use Rattle.hb_ops.specs.ListLaws.{only_one}
 
 -- in each attribute one box lies in another
 record Lies (a b : Area) : Type 0 where
   lows : (i : ℕ) → slice_index b.lo i ≤ slice_index a.lo i
   highs : (i : ℕ) → slice_index a.hi i ≤ slice_index b.hi i
 
+-- a box that lies in one which lies in another
 lies_then : (a b c : Area) → Lies a b → Lies b c → Lies a c
 lies_then a b c first second = record {
   lows = λ i. let one = first.lows i in let two = second.lows i in omega arith;
   highs = λ i. let one = first.highs i in let two = second.highs i in omega arith;
 }
 
+-- each lies in itself
 lies_same : (a b : Area) → a ≡ b → Lies a b
 lies_same a b e = let Q : Area → Type 0 = λ x. Lies a x in subst Q e (record { lows = λ i. omega arith; highs = λ i. omega arith })
 
+-- the two sides of a box that is cut
 module _ (b : Area) (axis value : ℕ) (same : length b.lo ≡ length b.hi) (cuts : Cuts b axis value) where
   below_high : slice_index (side_below b axis value).hi axis ≡ value - 1
   below_high = get_or-set_same b.hi axis (value - 1) 0 (omega (arith, same, cuts.attribute))
@@ -29,6 +33,7 @@ module _ (b : Area) (axis value : ℕ) (same : length b.lo ≡ length b.hi) (cut
   from_low : slice_index (side_from b axis value).lo axis ≡ value
   from_low = get_or-set_same b.lo axis value 0 cuts.attribute
 
+  -- each lies in the box
   below_lies : Lies (side_below b axis value) b
   below_lies = record {
     lows = λ i. omega arith;
@@ -49,25 +54,18 @@ module _ (b : Area) (axis value : ℕ) (same : length b.lo ≡ length b.hi) (cut
     highs = λ i. omega arith;
   }
 
+  -- each has as many lowest values as highest ones
   below_same : length (side_below b axis value).lo ≡ length (side_below b axis value).hi
   below_same = same ∙ sym (length-set b.hi axis (value - 1))
 
   from_same : length (side_from b axis value).lo ≡ length (side_from b axis value).hi
   from_same = length-set b.lo axis value ∙ same
 
-one_at : {X : Type 0} (x y : X) (k : ℕ) → k < 1 → slice_index_or (x ∷ []) k y ≡ y → x ≡ y
-one_at x y zero lt e = e
-one_at x y (suc k) lt e = absurd (omega (arith, lt))
-
--- the one element of a list
-pub contains_one : {X : Type 0} (x y : X) → Contains (x ∷ []) y → x ≡ y
-contains_one x y h = one_at x y h.0 h.1 h.2
-
 -- the box of a leaf lies in that of its tree
 leaf_lies : (tree : Tree) (area : Area) (leaf : Leaf) (a : Area) → length area.lo ≡ length area.hi → IsWellCut tree area
     → Contains (leaves_of tree area) (record { leaf = leaf; area = a }) → Lies a area
 leaf_lies (Tip own) area leaf a same cut h =
-    let is = contains_one {X = Placed} (record { leaf = own; area = area }) (record { leaf = leaf; area = a }) h in
+    let is = only_one {X = Placed} (record { leaf = own; area = area }) (record { leaf = leaf; area = a }) h in
     lies_same a area (sym (ap (λ (p : Placed). p.area) is))
 leaf_lies (Cut axis value left right) area leaf a same cut h =
     let below = side_below area axis value in
