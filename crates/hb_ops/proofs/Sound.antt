@@ -17,7 +17,7 @@ use Rattle.hb_ops.specs.Operations.{change_of, nth_read, with_page, with_changed
 use Rattle.hb_ops.specs.LawsOfContents.{PutStaysSound, DelStaysSound}
 use Rattle.hb_ops.specs.Sound.{ChildrenMatch, FitsFile, IsChain, IsCounted, IsCovered, IsRooted, IsSound, SiblingsMatch, count_live, count_name, times_named}
 use Rattle.hb_ops.proofs.Contents.{del_on, put_on}
-use Rattle.hb_ops.specs.PageNumberLaws.{in_range, live_so, page_at-suc, page_at-zero, place_of, with_page-there}
+use Rattle.hb_ops.specs.PageNumberLaws.{get-set_other, get-set_same, in_range, live_so, page_at-suc, page_at-zero, place_of, with_page-there}
 use Rattle.hb_ops.proofs.Remade.{children_again, del_made, put_made, siblings_again}
 use Rattle.hb_ops.specs.PlacedLaws.{placed}
 
@@ -31,18 +31,6 @@ pub record IsLike (meta : Meta) (page made : LivePage) : Type 0 where
 
 like_itself : (meta : Meta) (page : LivePage) → IsLike meta page page
 like_itself meta page = record { level = refl; area = refl; siblings = refl; children = λ name a h. h; fits = λ h. h }
-
-get-set_same : (pages : List Page) (n : ℕ) (new : Page) → n < length pages → slice_get (set pages n new) n ≡ Some new
-get-set_same [] n new lt = absurd (omega arith)
-get-set_same (x ∷ xs) zero new lt = refl
-get-set_same (x ∷ xs) (suc n) new lt = get-set_same xs n new (omega arith)
-
-get-set_other : (pages : List Page) (n m : ℕ) (new : Page) → m ≢ n → slice_get (set pages n new) m ≡ slice_get pages m
-get-set_other [] n m new ne = refl
-get-set_other (x ∷ xs) zero zero new ne = absurd (ne refl)
-get-set_other (x ∷ xs) zero (suc m) new ne = refl
-get-set_other (x ∷ xs) (suc n) zero new ne = refl
-get-set_other (x ∷ xs) (suc n) (suc m) new ne = get-set_other xs n m new (λ e. ne (ap suc e))
 
 count-set : (pages : List Page) (n : ℕ) (page made : LivePage) → slice_get pages n ≡ Some (Live page) → count_live (set pages n (Live made)) ≡ count_live pages
 count-set [] n page made e = refl
