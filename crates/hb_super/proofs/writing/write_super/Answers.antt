@@ -55,11 +55,10 @@ returns-in_err-write_behind_gate-clause-moments g c = λ old said next synced.
     let d = g.D.Device.model c.args.disk.now in
     let one = g.D.Device.model c.write.new.self in
     let two = g.D.Device.model c.sync.new.self in
-    let new = g.D.Device.model c.write_behind_gate.new.disk in
-    if_value d.told (λ b. IsNewest b old said → Leaves d new (WriteLeaves d b old said c.args.turn c.args.meta.now)) (λ b told newest.
+    if_value d.told (λ b. IsNewest b old said → Leaves d (g.D.Device.model c.write_behind_gate.new.disk) (WriteLeaves d b old said c.args.turn c.args.meta.now)) (λ b told newest.
     let gate = subst (λ (at : ℕ). Writes at (0 ∷ []) c.write.result d one) c.slot_offset-place.ensures c.write.ensures.writes in
     run_behind d (g.met.D.Device.is_disk c.args.disk.now) c.requires.room c.args.turn c.args.meta.now c.requires.legal old said next synced b told newest
-    c.write.result one gate c.write.ensures.ticks c.sync.result two c.sync.ensures.syncs c.sync.ensures.ticks new _ _ c.slot_offset-place.ensures c.body_of-body.ensures
+    c.write.result one gate c.write.ensures.ticks c.sync.result two c.sync.ensures.syncs c.sync.ensures.ticks (g.D.Device.model c.write_behind_gate.new.disk) _ _ c.slot_offset-place.ensures c.body_of-body.ensures
     (c.write_behind_gate.ensures.moments (still_tells (slot_offset c.args.turn) 41 d two b told (place_two d (g.met.D.Device.is_disk c.args.disk.now) c.requires.room c.args.turn c.args.meta.now c.requires.legal
     c.write.result one (g.met.D.Device.is_disk c.write.new.self) gate c.write.ensures.ticks c.sync.result two c.sync.ensures.syncs c.sync.ensures.ticks))))
 
@@ -78,11 +77,10 @@ returns-clause-moments g c = λ old said next synced.
     let d = g.D.Device.model c.args.disk.now in
     let one = g.D.Device.model c.write.new.self in
     let two = g.D.Device.model c.sync.new.self in
-    let new = g.D.Device.model c.write_behind_gate.new.disk in
-    if_value d.told (λ b. IsNewest b old said → Leaves d new (WriteLeaves d b old said c.args.turn c.args.meta.now)) (λ b told newest.
+    if_value d.told (λ b. IsNewest b old said → Leaves d (g.D.Device.model c.write_behind_gate.new.disk) (WriteLeaves d b old said c.args.turn c.args.meta.now)) (λ b told newest.
     let gate = subst (λ (at : ℕ). Writes at (0 ∷ []) c.write.result d one) c.slot_offset-place.ensures c.write.ensures.writes in
     run_behind d (g.met.D.Device.is_disk c.args.disk.now) c.requires.room c.args.turn c.args.meta.now c.requires.legal old said next synced b told newest
-    c.write.result one gate c.write.ensures.ticks c.sync.result two c.sync.ensures.syncs c.sync.ensures.ticks new _ _ c.slot_offset-place.ensures c.body_of-body.ensures
+    c.write.result one gate c.write.ensures.ticks c.sync.result two c.sync.ensures.syncs c.sync.ensures.ticks (g.D.Device.model c.write_behind_gate.new.disk) _ _ c.slot_offset-place.ensures c.body_of-body.ensures
     (c.write_behind_gate.ensures.moments (still_tells (slot_offset c.args.turn) 41 d two b told (place_two d (g.met.D.Device.is_disk c.args.disk.now) c.requires.room c.args.turn c.args.meta.now c.requires.legal
     c.write.result one (g.met.D.Device.is_disk c.write.new.self) gate c.write.ensures.ticks c.sync.result two c.sync.ensures.syncs c.sync.ensures.ticks))))
 
