@@ -6,7 +6,7 @@ use Rattle.hb_frag.specs.declared.leaves.Leaf.TheVariants.{Child, Sibling}
 use Rattle.hb_frag.specs.declared.pages.LivePage.{LivePage}
 use Rattle.hb_frag.specs.declared.paths.Side.{Side}
 use Rattle.hb_frag.specs.Trees.{Tree, Tip}
-use Rattle.hb_frag.specs.Leaves.{Placed, leaves, leaves_of, IsWellCut}
+use Rattle.hb_frag.specs.Leaves.{Placed, leaves_of, IsWellCut}
 use Rattle.hb_frag.specs.Laws.{IsStretch}
 use Rattle.hb_frag.specs.Paths.{part_at}
 use Rattle.hb_sound.proofs.Extractions.{Extraction, FitsPart, fresh_page, source_page}

@@ -20,6 +20,7 @@ pub mod laws;
 mod links;
 mod names;
 mod pages;
+mod rests;
 #[cfg(test)]
 mod source_tests;
 #[cfg(test)]

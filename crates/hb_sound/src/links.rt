@@ -2,17 +2,22 @@
 ghost use Rattle.std.specs.Prelude.{◌≡◌, ◌+◌, ◌<◌, ◌≤◌, ◌^◌, ◌↔◌, ℕ, if◌then◌else◌, List, Some, None, All, length, replicate, vec_len, IfErr, IfOk, IfSome, IsErrOf, IsTrue, OnOk};
 ghost use Rattle.hb_space.specs.Boxes.{Within};
 ghost use Rattle.hb_frag.specs.Leaves.{IsWellCut, WellCut, leaves_of};
+ghost use Rattle.hb_frag.specs.declared.pages.LivePage.{LivePage as Live};
 ghost use Rattle.hb_frag.specs.declared.pages.Page.{Page as Content};
 ghost use Rattle.hb_outside.specs.Streams.{Rose};
 ghost use Rattle.hb_sound.specs.Facts.{FindsBelow, FindsSame, SeesBelow, SeesSame};
 ghost use Rattle.hb_sound.specs.Links.{Adds, AddsPage, AreLinks, AreRead, IsCut, or_else};
+ghost use Rattle.hb_sound.specs.Rests.{IsRestOf, Knows, KnowsTold};
 ghost use Rattle.hb_sound.specs.Stops.{OnBroken};
 ghost use Rattle.hb_sound.specs.Told.{item_at};
+ghost use Rattle.hb_sound.specs.declared.facts.Fact.TheVariants.{Live as SeenLive};
 ghost use Rattle.hb_sound.specs.declared.names.Times.TheVariants.{Never};
 ghost use Rattle.hb_sound.specs.declared.pages.AuditStop.TheVariants.{Failed};
+ghost use Rattle.hb_sound.specs.declared.rests.Rest.TheVariants.{Lone};
 
 use crate::facts::{Fact, Seen, seen_in};
-use crate::names::{Times, count_names};
+use crate::names::{Times, count_names, count_one};
+use crate::rests::Rest;
 use crate::{AuditStop, Pages};
 use hb_frag::{Frag, Leaf, LivePage, Node, Page};
 use hb_space::{Area, NoMemory};
@@ -69,7 +74,7 @@ fn finds_same(facts: &[Fact], level: u8, leaf: &Leaf, area: &Area) -> bool
 }
 
 /// Whether the leaf with this box, where it is a child leaf, names a page one level down with the box in its own.
-fn finds_below(facts: &[Fact], level: u8, leaf: &Leaf, area: &Area) -> bool
+pub(crate) fn finds_below(facts: &[Fact], level: u8, leaf: &Leaf, area: &Area) -> bool
     ensures { IsTrue result ↔ FindsBelow facts.now level (record { leaf = leaf.now; area = area.now }) }
 {
     match leaf {
@@ -150,7 +155,12 @@ impl Links {
     }
 
     /// Adds those of the page of this number, which is read once more.
-    fn read<P: Pages>(&mut self, facts: &[Fact], pages: &mut P, id: u32) -> Result<(), AuditStop>
+    fn read_again<P: Pages>(
+        &mut self,
+        facts: &[Fact],
+        pages: &mut P,
+        id: u32,
+    ) -> Result<(), AuditStop>
         ensures adds { OnOk result (IfSome (P.told pages.old) (λ told. (page : Content) → item_at told id ≡ Some (Some page) → AddsPage facts.now id page self.old self.new)) }
         ensures never { IfErr result (OnBroken (λ _ _. IfSome (P.told pages.old) (λ told. (page : Content) → item_at told id ≡ Some (Some page) → IsCut page → ⊥))) }
         ensures same { vec_len self.new.named ≡ vec_len self.old.named }
@@ -171,6 +181,65 @@ impl Links {
             }
             Some(Page::Free { .. }) => Ok(()),
             None => Err(AuditStop::Broken { page: id, rule: 0 }),
+        }
+    }
+
+    /// Adds those of a page of this level with one sibling leaf, which has this box, whose child leaves keep rule 8.
+    fn add_lone(&mut self, facts: &[Fact], level: u8, id: u32, name: u32, area: &Area)
+        ensures adds { (page : Live) → page.level ≡ level → IsRestOf facts.now level (leaves_of page.frag page.area) (Lone name area.now)
+            → Adds facts.now id page self.old self.new }
+        ensures same { vec_len self.new.named ≡ vec_len self.old.named }
+    {
+        let same = sees_same(facts, level, name, area);
+        self.sibling = first_bad(self.sibling, id, same);
+        count_one(name, &mut self.named);
+    }
+
+    /// Adds those of the page in use of this number, of which this was seen. It is read once more where that doesn't say them.
+    fn read_seen<P: Pages>(
+        &mut self,
+        facts: &[Fact],
+        seen: &Seen,
+        pages: &mut P,
+        id: u32,
+    ) -> Result<(), AuditStop>
+        ensures adds { OnOk result (IfSome (P.told pages.old) (λ told. (page : Content) → item_at told id ≡ Some (Some page) → Knows facts.now (SeenLive seen.now) page
+            → AddsPage facts.now id page self.old self.new)) }
+        ensures never { IfErr result (OnBroken (λ _ _. IfSome (P.told pages.old) (λ told. (page : Content) → item_at told id ≡ Some (Some page) → IsCut page → ⊥))) }
+        ensures same { vec_len self.new.named ≡ vec_len self.old.named }
+        ensures stays { P.told pages.new ≡ P.told pages.old }
+        ensures asked { P.asked pages.old pages.new }
+        ensures cause { IsErrOf result Failed → Rose (P.faults pages.old) (P.faults pages.new) }
+        ensures no_fault { (IsErrOf result Failed → ⊥) → P.faults pages.new ≡ P.faults pages.old }
+        ensures later { P.faults pages.old ≤ P.faults pages.new }
+    {
+        match &seen.rest {
+            Rest::Nothing => Ok(()),
+            Rest::Lone { name, area } => {
+                self.add_lone(facts, seen.level, id, *name, area);
+                Ok(())
+            }
+            Rest::More => self.read_again(facts, pages, id),
+        }
+    }
+
+    /// Adds those of the page of this number.
+    fn read<P: Pages>(&mut self, facts: &[Fact], pages: &mut P, id: u32) -> Result<(), AuditStop>
+        requires some { 1 ≤ id }
+        requires within { id ≤ length facts.now }
+        ensures adds { OnOk result (IfSome (P.told pages.old) (λ told. (page : Content) → item_at told id ≡ Some (Some page) → KnowsTold facts.now told
+            → AddsPage facts.now id page self.old self.new)) }
+        ensures never { IfErr result (OnBroken (λ _ _. IfSome (P.told pages.old) (λ told. (page : Content) → item_at told id ≡ Some (Some page) → IsCut page → ⊥))) }
+        ensures same { vec_len self.new.named ≡ vec_len self.old.named }
+        ensures stays { P.told pages.new ≡ P.told pages.old }
+        ensures asked { P.asked pages.old pages.new }
+        ensures cause { IsErrOf result Failed → Rose (P.faults pages.old) (P.faults pages.new) }
+        ensures no_fault { (IsErrOf result Failed → ⊥) → P.faults pages.new ≡ P.faults pages.old }
+        ensures later { P.faults pages.old ≤ P.faults pages.new }
+    {
+        match seen_in(facts, id) {
+            Some(seen) => self.read_seen(facts, seen, pages, id),
+            None => Ok(()),
         }
     }
 }
