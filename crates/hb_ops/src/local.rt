@@ -2,9 +2,9 @@
 
 ghost use Rattle.std.specs.Prelude.{◌≡◌, ◌<◌, ◌^◌, ◌↔◌, All, AllPairs, IfSome, IsNone, IsTrue};
 ghost use Rattle.hb_space.specs.Boxes.{Holds};
-ghost use Rattle.hb_frag.specs.Leaves.{IsWellCut, leaves, leaves_of, weight_of};
+ghost use Rattle.hb_frag.specs.Leaves.{IsWellCut, WellCut, leaves, leaves_of, weight_of};
 ghost use Rattle.hb_frag.specs.Trees.{Tip};
-ghost use Rattle.hb_frag.specs.Rules.{AreAlike, BelongsAt, Fits, IsFilledRight, IsInOrder, IsNormal, IsSiblingTip, Precedes, capacity_of};
+ghost use Rattle.hb_frag.specs.Rules.{AreAlike, AreInOrder, BelongsAt, Fits, IsFilledRight, IsInOrder, IsNormal, IsSiblingTip, Precedes, capacity_of};
 ghost use Rattle.hb_ops.specs.Sound.{FitsFile};
 ghost use Rattle.hb_ops.specs.LocalRule.{BreaksFirst};
 
@@ -28,7 +28,7 @@ pub fn local_rule(page: &LivePage, meta: &Meta) -> Option<u8>
     if !is_filled_right(page, meta) {
         return Some(5);
     }
-    if !are_in_order(&page.frag, &page.area) {
+    if !is_in_order_throughout(page) {
         return Some(6);
     }
     if !is_normal(&page.frag) {
@@ -89,7 +89,21 @@ pub(crate) fn is_sibling_tip(frag: &Frag) -> bool
     matches!(&frag.node, Node::Tip(Leaf::Sibling(_)))
 }
 
-// Rule 6: the records of each leaf lie in its box and rise, in a part with this box.
+// Rule 6: the records of each leaf lie in its box and rise. Where each leaf is of a kind that stands at the level, only a
+// page of level 0 has some.
+fn is_in_order_throughout(page: &LivePage) -> bool
+    requires cut { WellCut page.now }
+    requires kinds { All (BelongsAt page.now.level) (leaves page.now.frag) }
+    ensures { IsTrue result ↔ AreInOrder page.now }
+{
+    if page.level == 0 {
+        are_in_order(&page.frag, &page.area)
+    } else {
+        true
+    }
+}
+
+// So do those of each leaf of a part with this box.
 fn are_in_order(frag: &Frag, area: &Area) -> bool
     requires { IsWellCut frag.now area.now }
     ensures { IsTrue result ↔ All IsInOrder (leaves_of frag.now area.now) }
