@@ -1,7 +1,8 @@
 -- What is left of the leaves of a page, leaf by leaf, and what that adds once all pages were read.
-use Rattle.std.proofs.Common.{◌≡◌, ◌↔◌, inl, inr, ℕ, zero, suc, ◌≤◌, ◌==◌, Bool, true, false, IsTrue, if◌then◌else◌, List, [], ◌∷◌, ◌++◌, length, All, Contains, Option, Some, None, option_map, IfSome, refl, sym, ap, ◌∙◌, subst, arith}
+use Rattle.std.proofs.Common.{◌≡◌, ◌↔◌, ◌⊎◌, inl, inr, ℕ, zero, suc, ◌-◌, ◌≤◌, ◌==◌, Bool, true, false, IsTrue, if◌then◌else◌, List, [], ◌∷◌, ◌++◌, length, All, Contains, Option, Some, None, option_map, IfSome, get_or, slice_set, take, refl, sym, ap, ◌∙◌, subst, arith}
+use Rattle.std.proofs.Math.Seq.{take-append_seam}
 use Rattle.std.proofs.lemmas.Bool.{false≢true}
-use Rattle.std.proofs.lemmas.List.{append-nil, append_assoc}
+use Rattle.std.proofs.lemmas.List.{append-nil, append_assoc, set-get_or, set-set}
 use Rattle.std.proofs.lemmas.List.Elements.{All-append, All-cons, All-contains, All-nil}
 use Rattle.hb_space.specs.Boxes.{Area}
 use Rattle.hb_frag.specs.declared.leaves.Leaf.{Leaf}
@@ -9,6 +10,7 @@ use Rattle.hb_frag.specs.declared.leaves.Leaf.TheVariants.{Records, Child, Sibli
 use Rattle.hb_frag.specs.declared.pages.LivePage.{LivePage}
 use Rattle.hb_frag.specs.declared.pages.Page.{Page}
 use Rattle.hb_frag.specs.declared.pages.Page.TheVariants as pages
+use Rattle.hb_frag.specs.Trees.{Tree, Cut}
 use Rattle.hb_frag.specs.Leaves.{Placed, leaves, leaves_of, siblings}
 use Rattle.hb_ops.specs.ListLaws.{each_member, only_one}
 use Rattle.hb_ops.specs.PlacedLaws.{leaf_is_sibling, placed, sibling_is_leaf}
@@ -58,9 +60,41 @@ module _ (facts : List Fact) (level : ℕ) (before : List Placed) where
       → IsRestOf facts level before rest → IsRestOf facts level (before ++ placed leaf area ∷ []) rest
   records_more leaf area rest none finds is = other_more (placed leaf area) rest none finds is
 
-  -- both sides of a cut
-  pub sides_more : (left right : List Placed) (rest : Rest) → IsRestOf facts level ((before ++ left) ++ right) rest → IsRestOf facts level (before ++ (left ++ right)) rest
-  sides_more left right rest is = let Q : List Placed → Type 0 = λ l. IsRestOf facts level l rest in subst Q (append_assoc before left right) is
+  -- a sibling leaf where there was none
+  pub lone_more : (rest after : Rest) (name : ℕ) (area : Area) → rest ≡ Nothing → (after ≡ More) ⊎ (after ≡ Lone name area) → IsRestOf facts level before rest
+      → IsRestOf facts level (before ++ placed (Sibling name) area ∷ []) after
+  lone_more rest after name area none made is =
+      let P : Rest → Type 0 = λ r. IsRestOf facts level before r in
+      let Q : Rest → Type 0 = λ r. IsRestOf facts level (before ++ placed (Sibling name) area ∷ []) r in
+      elim made [ inl full ↦ subst Q (sym full) tt | inr lone ↦ subst Q (sym lone) (sibling_more name area (subst P none is)) ]
+
+  -- both sides of a cut, where the corners are what they were before
+  pub cut_more : (lo hi low high : List ℕ) (axis value : ℕ) (left right : Tree) (rest : Rest) → low ≡ lo → high ≡ hi
+      → IsRestOf facts level ((before ++ leaves_of left (record { lo = lo; hi = slice_set hi axis (value - 1) })) ++ leaves_of right (record { lo = slice_set low axis value; hi = high })) rest
+      → IsRestOf facts level (before ++ leaves_of (Cut axis value left right) (record { lo = lo; hi = hi })) rest
+  cut_more lo hi low high axis value left right rest below above is =
+      let first = leaves_of left (record { lo = lo; hi = slice_set hi axis (value - 1) }) in
+      let L : List ℕ → Type 0 = λ l. IsRestOf facts level ((before ++ first) ++ leaves_of right (record { lo = slice_set l axis value; hi = high })) rest in
+      let H : List ℕ → Type 0 = λ l. IsRestOf facts level ((before ++ first) ++ leaves_of right (record { lo = slice_set lo axis value; hi = l })) rest in
+      let Q : List Placed → Type 0 = λ l. IsRestOf facts level l rest in
+      subst Q (append_assoc before first (leaves_of right (record { lo = slice_set lo axis value; hi = hi }))) (subst H above (subst L below is))
+
+-- a value that was changed and put back
+pub put_back : (xs changed : List ℕ) (at value d : ℕ) → changed ≡ slice_set xs at value → slice_set changed at (get_or xs at d) ≡ xs
+put_back xs changed at value d is = ap (λ (l : List ℕ). slice_set l at (get_or xs at d)) is ∙ set-set xs at value (get_or xs at d) ∙ set-get_or xs at d
+
+-- the values that were copied into a longer list
+pub front : (copied behind values : List ℕ) (n : ℕ) → n ≡ length values → copied ≡ values → take n (copied ++ behind) ≡ values
+front copied behind values n count same =
+    ap (λ (l : List ℕ). take n (l ++ behind)) same ∙ ap (λ (m : ℕ). take m (values ++ behind)) count ∙ take-append_seam values behind
+
+-- the leaves in the box of these corners
+pub same_corners : (facts : List Fact) (level : ℕ) (frag : Tree) (area : Area) (lo hi : List ℕ) (rest : Rest) → lo ≡ area.lo → hi ≡ area.hi
+    → IsRestOf facts level (leaves_of frag (record { lo = lo; hi = hi })) rest → IsRestOf facts level (leaves_of frag area) rest
+same_corners facts level frag area lo hi rest low high is =
+    let L : List ℕ → Type 0 = λ l. IsRestOf facts level (leaves_of frag (record { lo = l; hi = hi })) rest in
+    let H : List ℕ → Type 0 = λ l. IsRestOf facts level (leaves_of frag (record { lo = area.lo; hi = l })) rest in
+    subst H high (subst L low is)
 
 -- a test, and what is the first bad one after it
 pub next_by : (P : Type 0) (good : Bool) (id : ℕ) (first after : Option ℕ) → (IsTrue good ↔ P) → after ≡ (if good then first else or_else first id)

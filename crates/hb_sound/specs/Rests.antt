@@ -10,11 +10,6 @@ use Rattle.hb_sound.specs.declared.rests.Rest.TheVariants.{Nothing, Lone, More}
 use Rattle.hb_sound.specs.Facts.{FindsBelow}
 use Rattle.hb_sound.specs.Told.{item_at}
 
-abbrev pub IsMore : Rest → Type 0
-IsMore Nothing = ⊥
-IsMore (Lone name area) = ⊥
-IsMore More = Unit {0}
-
 -- where not more is left, each child leaf among these keeps rule 8 by the facts, and these are the sibling leaves
 abbrev pub IsRestOf : List Fact → ℕ → List Placed → Rest → Type 0
 IsRestOf facts level leaves Nothing = (siblings leaves ≡ []) × All (FindsBelow facts level) leaves

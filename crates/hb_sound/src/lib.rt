@@ -13,6 +13,7 @@ mod audits;
 #[cfg(test)]
 mod box_tests;
 mod chains;
+mod corners;
 mod covers;
 pub mod examples;
 mod facts;

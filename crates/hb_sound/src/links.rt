@@ -15,6 +15,7 @@ ghost use Rattle.hb_sound.specs.declared.names.Times.TheVariants.{Never};
 ghost use Rattle.hb_sound.specs.declared.pages.AuditStop.TheVariants.{Failed};
 ghost use Rattle.hb_sound.specs.declared.rests.Rest.TheVariants.{Lone};
 
+use crate::corners::is_within;
 use crate::facts::{Fact, Seen, seen_in};
 use crate::names::{Times, count_names, count_one};
 use crate::rests::Rest;
@@ -44,21 +45,23 @@ fn sees_same(facts: &[Fact], level: u8, id: u32, area: &Area) -> bool
     }
 }
 
-/// Whether what was seen is one level down and has this box in its own.
-fn is_below(seen: &Seen, level: u8, area: &Area) -> bool
-    ensures { IsTrue result ↔ ((seen.now.level + 1 ≡ level) × (length area.now.lo ≡ length seen.now.area.lo) × Within area.now seen.now.area) }
+/// Whether what was seen is one level down and has the box of these corners in its own.
+fn is_below(seen: &Seen, level: u8, lo: &[u64], hi: &[u64]) -> bool
+    requires { length lo.now ≡ length hi.now }
+    ensures { IsTrue result ↔ ((seen.now.level + 1 ≡ level) × (length lo.now ≡ length seen.now.area.lo) × Within (record { lo = lo.now; hi = hi.now }) seen.now.area) }
 {
     u16::from(seen.level) + 1 == u16::from(level)
-        && area.lo().attributes() == seen.area.lo().attributes()
-        && area.within(&seen.area)
+        && lo.len() == seen.area.lo().values().len()
+        && is_within(lo, hi, seen.area.lo().values(), seen.area.hi().values())
 }
 
-/// Whether a page in use of this number, which may be any, is one level down and has this box in its own.
-fn sees_below(facts: &[Fact], level: u8, id: u32, area: &Area) -> bool
-    ensures { IsTrue result ↔ SeesBelow facts.now level id area.now }
+/// Whether a page in use of this number, which may be any, is one level down and has the box of these corners in its own.
+pub(crate) fn sees_below(facts: &[Fact], level: u8, id: u32, lo: &[u64], hi: &[u64]) -> bool
+    requires { length lo.now ≡ length hi.now }
+    ensures { IsTrue result ↔ SeesBelow facts.now level id (record { lo = lo.now; hi = hi.now }) }
 {
     match seen_in(facts, id) {
-        Some(seen) => is_below(seen, level, area),
+        Some(seen) => is_below(seen, level, lo, hi),
         None => false,
     }
 }
@@ -74,11 +77,11 @@ fn finds_same(facts: &[Fact], level: u8, leaf: &Leaf, area: &Area) -> bool
 }
 
 /// Whether the leaf with this box, where it is a child leaf, names a page one level down with the box in its own.
-pub(crate) fn finds_below(facts: &[Fact], level: u8, leaf: &Leaf, area: &Area) -> bool
+fn finds_below(facts: &[Fact], level: u8, leaf: &Leaf, area: &Area) -> bool
     ensures { IsTrue result ↔ FindsBelow facts.now level (record { leaf = leaf.now; area = area.now }) }
 {
     match leaf {
-        Leaf::Child(id) => sees_below(facts, level, *id, area),
+        Leaf::Child(id) => { sees_below(facts, level, *id, area.lo().values(), area.hi().values()) }
         Leaf::Records(_) | Leaf::Sibling(_) => true,
     }
 }

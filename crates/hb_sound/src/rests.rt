@@ -1,14 +1,17 @@
 //! What the second reading is to find out of a page.
-ghost use Rattle.std.specs.Prelude.{◌↔◌, ◌++◌, ℕ, List, [], ◌∷◌, IsTrue};
+ghost use Rattle.std.specs.Prelude.{◌≡◌, ◌<◌, ◌≤◌, ◌↔◌, ◌⊎◌, ◌++◌, ℕ, List, [], ◌∷◌, length, IsTrue};
+ghost use Rattle.hb_space.specs.declared.form.TheConstants.{KMAX};
 ghost use Rattle.hb_frag.specs.Leaves.{IsWellCut, Placed, WellCut, leaves_of};
-ghost use Rattle.hb_frag.specs.declared.leaves.Leaf.TheVariants.{Sibling};
+ghost use Rattle.hb_frag.specs.declared.leaves.Leaf.TheVariants.{Child, Sibling};
 ghost use Rattle.hb_sound.specs.declared.facts.Fact.{Fact as FactSeen};
-ghost use Rattle.hb_sound.specs.Rests.{IsMore, IsRestOf};
+ghost use Rattle.hb_sound.specs.declared.rests.Rest.TheVariants.{Nothing, Lone, More};
+ghost use Rattle.hb_sound.specs.Rests.{IsRestOf};
 
 use crate::facts::Fact;
-use crate::links::finds_below;
+use crate::links::sees_below;
 use hb_frag::{Frag, Leaf, LivePage, Node};
-use hb_space::Area;
+use hb_space::form::KMAX;
+use hb_space::{Area, Point};
 
 /// What of a page's leaves is still to be looked up once all pages were read.
 #[derive(Debug, Drop)]
@@ -21,61 +24,102 @@ pub(crate) enum Rest {
     More,
 }
 
-/// Whether it may be more.
-fn is_more(rest: &Rest) -> bool
-    ensures { IsTrue result ↔ IsMore rest.now }
+/// Whether nothing is.
+fn is_nothing(rest: &Rest) -> bool
+    ensures { IsTrue result ↔ (rest.now ≡ Nothing) }
 {
-    matches!(rest, Rest::More)
+    matches!(rest, Rest::Nothing)
 }
 
-/// The same after one more sibling leaf with its box.
-fn and_sibling(rest: Rest, name: u32, area: &Area) -> Rest
-    ensures { (facts : List FactSeen) (level : ℕ) (before : List Placed) → IsRestOf facts level before rest
-        → IsRestOf facts level (before ++ record { leaf = Sibling name; area = area.now } ∷ []) result }
+/// This sibling leaf with the box of these corners.
+fn lone(name: u32, lo: &[u64], hi: &[u64]) -> Rest
+    requires some { 0 < length lo.now }
+    requires few { length lo.now ≤ KMAX }
+    requires same { length lo.now ≡ length hi.now }
+    ensures { (result ≡ More) ⊎ (result ≡ Lone name (record { lo = lo.now; hi = hi.now })) }
 {
-    match rest {
-        Rest::Nothing => Rest::Lone {
-            name,
-            area: area.copy(),
-        },
-        Rest::Lone { .. } | Rest::More => Rest::More,
+    match Area::between(Point::new(lo), Point::new(hi)) {
+        Some(area) => Rest::Lone { name, area },
+        None => Rest::More,
     }
 }
 
-/// The same after one more leaf with its box. Child leaves are looked up among these facts.
-fn and_leaf(rest: Rest, facts: &[Fact], level: u8, leaf: &Leaf, area: &Area) -> Rest
-    ensures { (before : List Placed) → IsRestOf facts.now level before rest
-        → IsRestOf facts.now level (before ++ record { leaf = leaf.now; area = area.now } ∷ []) result }
+/// Adds a sibling leaf with the box of these corners.
+fn add_sibling(rest: &mut Rest, name: u32, lo: &[u64], hi: &[u64])
+    requires some { 0 < length lo.now }
+    requires few { length lo.now ≤ KMAX }
+    requires same { length lo.now ≡ length hi.now }
+    ensures { (facts : List FactSeen) (level : ℕ) (before : List Placed) → IsRestOf facts level before rest.old
+        → IsRestOf facts level (before ++ record { leaf = Sibling name; area = record { lo = lo.now; hi = hi.now } } ∷ []) rest.new }
 {
-    if !finds_below(facts, level, leaf, area) {
-        return Rest::More;
+    *rest = if is_nothing(rest) {
+        lone(name, lo, hi)
+    } else {
+        Rest::More
+    };
+}
+
+/// Adds a child leaf with the box of these corners, which is looked up among these facts.
+fn add_child(rest: &mut Rest, facts: &[Fact], level: u8, name: u32, lo: &[u64], hi: &[u64])
+    requires { length lo.now ≡ length hi.now }
+    ensures { (before : List Placed) → IsRestOf facts.now level before rest.old
+        → IsRestOf facts.now level (before ++ record { leaf = Child name; area = record { lo = lo.now; hi = hi.now } } ∷ []) rest.new }
+{
+    if !sees_below(facts, level, name, lo, hi) {
+        *rest = Rest::More;
     }
+}
+
+/// Adds a leaf with the box of these corners.
+fn add_leaf(rest: &mut Rest, facts: &[Fact], level: u8, leaf: &Leaf, lo: &[u64], hi: &[u64])
+    requires some { 0 < length lo.now }
+    requires few { length lo.now ≤ KMAX }
+    requires same { length lo.now ≡ length hi.now }
+    ensures { (before : List Placed) → IsRestOf facts.now level before rest.old
+        → IsRestOf facts.now level (before ++ record { leaf = leaf.now; area = record { lo = lo.now; hi = hi.now } } ∷ []) rest.new }
+{
     match leaf {
-        Leaf::Sibling(name) => and_sibling(rest, *name, area),
-        Leaf::Records(_) | Leaf::Child(_) => rest,
+        Leaf::Records(_) => {}
+        Leaf::Child(name) => add_child(rest, facts, level, *name, lo, hi),
+        Leaf::Sibling(name) => add_sibling(rest, *name, lo, hi),
     }
 }
 
-/// The same after the leaves of a part with this box.
-fn and_leaves(rest: Rest, facts: &[Fact], level: u8, frag: &Frag, area: &Area) -> Rest
-    requires { IsWellCut frag.now area.now }
-    ensures { (before : List Placed) → IsRestOf facts.now level before rest
-        → IsRestOf facts.now level (before ++ leaves_of frag.now area.now) result }
+/// Adds the leaves of a part with the box of these corners, which stay as they are.
+fn add_leaves(
+    rest: &mut Rest,
+    facts: &[Fact],
+    level: u8,
+    frag: &Frag,
+    lo: &mut [u64],
+    hi: &mut [u64],
+)
+    requires cut { IsWellCut frag.now (record { lo = lo.old; hi = hi.old }) }
+    requires some { 0 < length lo.old }
+    requires few { length lo.old ≤ KMAX }
+    requires same { length lo.old ≡ length hi.old }
+    ensures rest { (before : List Placed) → IsRestOf facts.now level before rest.old
+        → IsRestOf facts.now level (before ++ leaves_of frag.now (record { lo = lo.old; hi = hi.old })) rest.new }
+    ensures lo { lo.new ≡ lo.old }
+    ensures hi { hi.new ≡ hi.old }
 {
     match &frag.node {
-        Node::Tip(leaf) => and_leaf(rest, facts, level, leaf, area),
+        Node::Tip(leaf) => add_leaf(rest, facts, level, leaf, lo, hi),
         Node::Cut {
             axis,
             value,
             left,
             right,
         } => {
-            if is_more(&rest) {
-                return Rest::More;
-            }
-            let (below, from) = area.cut(*axis, *value);
-            let rest = and_leaves(rest, facts, level, left, &below);
-            and_leaves(rest, facts, level, right, &from)
+            let at = usize::from(*axis);
+            let greatest = hi[at];
+            hi[at] = *value - 1;
+            add_leaves(rest, facts, level, left, lo, hi);
+            hi[at] = greatest;
+            let least = lo[at];
+            lo[at] = *value;
+            add_leaves(rest, facts, level, right, lo, hi);
+            lo[at] = least;
         }
     }
 }
@@ -85,5 +129,19 @@ pub(crate) fn rest_of(facts: &[Fact], page: &LivePage) -> Rest
     requires { WellCut page.now }
     ensures { IsRestOf facts.now page.now.level (leaves_of page.now.frag page.now.area) result }
 {
-    and_leaves(Rest::Nothing, facts, page.level, &page.frag, &page.area)
+    let count = page.area.lo().values().len();
+    let mut lo = [0; KMAX];
+    let mut hi = [0; KMAX];
+    lo[..count].copy_from_slice(page.area.lo().values());
+    hi[..count].copy_from_slice(page.area.hi().values());
+    let mut rest = Rest::Nothing;
+    add_leaves(
+        &mut rest,
+        facts,
+        page.level,
+        &page.frag,
+        &mut lo[..count],
+        &mut hi[..count],
+    );
+    rest
 }
