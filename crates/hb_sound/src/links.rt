@@ -247,7 +247,7 @@ impl Links {
     }
 }
 
-/// What the leaves of all pages up to the high mark name. The pages are read once more.
+/// What the leaves of all pages up to the high mark name. A page is read once more where its fact doesn't say it.
 pub(crate) fn read_links<P: Pages>(
     alloc: Global,
     facts: &[Fact],
