@@ -1,5 +1,6 @@
 pub mod Orders
 pub mod Boxes
+pub mod Corners
 pub mod Tips
 pub mod Finds
 pub mod Pages

@@ -46,9 +46,11 @@ mod Levels
 mod Firsts
 mod Counts
 mod ToldPages
+mod KnownPages
 mod ReadUp
 mod Bridge
 mod LinkSteps
+mod RestSteps
 mod ChainBridge
 mod LocalBridge
 mod SixRules

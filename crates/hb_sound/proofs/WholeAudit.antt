@@ -15,6 +15,7 @@ use Rattle.hb_sound.specs.declared.pages.AuditStop.TheVariants as stops
 use Rattle.hb_sound.specs.Facts.{AreFactsOf, IsFactOf, all_records, records_seen}
 use Rattle.hb_sound.specs.Links.{AreLinks, AreRead, IsCut, Tells}
 use Rattle.hb_sound.specs.Names.{IsSoundWith, KeepsSix, Names, NamesIn}
+use Rattle.hb_sound.specs.Rests.{KnowsTold}
 use Rattle.hb_sound.specs.Stops.{OnBroken}
 use Rattle.hb_sound.specs.Tests.{file_with}
 use Rattle.hb_sound.specs.Told.{IsWholeFile, file_of, item_at, shown_pages}
@@ -57,13 +58,14 @@ records_are meta (fact ∷ facts) (page ∷ list) are =
 
 -- what is told was read whole, and these are its facts
 abbrev pub IsReadAs : Meta → List Fact → List (Option Page) → Type 0
-IsReadAs meta facts told = IsWholeFile meta told × AreFactsOf meta facts (file_of meta told).pages
+IsReadAs meta facts told = IsWholeFile meta told × AreFactsOf meta facts (file_of meta told).pages × KnowsTold facts told
 
 module _ (meta : Meta) (facts : List Fact) (kept : (list : List Page) → AreFactsOf meta facts list → KeepsSix (file_with meta list)) where
   read_again : (told : List (Option Page)) → IsReadAs meta facts told → AreRead told facts (file_of meta told).pages
   read_again told read = record {
     told_are = tells meta told read.0;
     same = same_length meta facts (file_of meta told).pages read.1;
+    known = read.2;
     cut = is_cut;
   }
     where

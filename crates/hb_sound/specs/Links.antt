@@ -11,6 +11,7 @@ use Rattle.hb_sound.specs.declared.links.Links.{Links}
 use Rattle.hb_sound.specs.declared.names.Times.{Times}
 use Rattle.hb_sound.specs.declared.names.Times.TheVariants.{Never}
 use Rattle.hb_sound.specs.Facts.{FindsBelow, FindsSame, more, names_in}
+use Rattle.hb_sound.specs.Rests.{KnowsTold}
 use Rattle.hb_sound.specs.Told.{item_at}
 use Rattle.hb_sound.specs.Walks.{IsLeast}
 
@@ -71,8 +72,9 @@ pub record AreLinks (facts : List Fact) (list : List Page) (n : ℕ) (links : Li
   pub sibling : IsFirstUpTo (LosesSibling facts list) n links.sibling
   pub child : IsFirstUpTo (LosesChild facts list) n links.child
 
--- pages that are told, of which each cut cuts: one for each fact
+-- pages that are told, of which each cut cuts: one for each fact, which knows what the page leaves
 pub record AreRead (told : List (Option Page)) (facts : List Fact) (list : List Page) : Type 0 where
   pub told_are : Tells told list
   pub same : length list ≡ length facts
+  pub known : KnowsTold facts told
   pub cut : (id : ℕ) (page : Page) → page_at list id ≡ Some page → IsCut page
