@@ -8,7 +8,7 @@ use Rattle.hb_ops.specs.Files.{page_at}
 use Rattle.hb_ops.specs.Operations.{with_page, with_changed_pages}
 use Rattle.hb_store.specs.Replay.{set_pages}
 use Rattle.hb_store.specs.ReplayLists.{set_one-same, set_one-other}
-use Rattle.hb_store.proofs.Marking.{set_pages-same}
+use Rattle.hb_store.proofs.Setting.{set_pages-same}
 
 -- no page has the number 0, and the page of another number stands one place before
 pub page_at-zero : (pages : List Page) → page_at pages 0 ≡ None

@@ -1,75 +1,22 @@
--- What a store is seen as, and what it keeps of the disk.
-use Rattle.std.specs.Prelude.{◌≡◌, ◌⊎◌, ◌↔◌, ℕ, ◌*◌, ◌<◌, ◌≤◌, ◌^◌, Bool, false, List, [], ◌∷◌, ◌++◌, length, map, All, Option, Some, None, IsSome, IsTrue}
+-- What a store keeps of the disk: four records with a name each, joined.
+use Rattle.std.specs.Prelude.{◌≡◌, ◌⊎◌, ℕ, ◌*◌, Bool, false, List, [], ◌∷◌, ◌++◌, length, map, All, Option, Some, None, IsSome, IsTrue, is_some}
 use Rattle.hb_space.specs.declared.form.TheConstants.{PAGE}
 use Rattle.hb_disk.specs.Model.{DiskModel}
 use Rattle.hb_disk.specs.Calls.{IsSynced}
 use Rattle.hb_wal.specs.Frames.{frames}
-use Rattle.hb_wal.specs.Log.{LogState}
+use Rattle.hb_wal.specs.Log.{LogState, Waiting}
 use Rattle.hb_wal.specs.Forces.{HasLog}
-use Rattle.hb_layout.specs.Limits.{IsLayout}
-use Rattle.hb_layout.specs.Offsets.{slot_offset}
+use Rattle.hb_layout.specs.Offsets.{log_start, slot_offset}
+use Rattle.hb_layout.specs.declared.meta.Meta.{Meta}
 use Rattle.hb_super.specs.Superblocks.{IsNewest}
 use Rattle.hb_frag.specs.declared.pages.Page.{Page}
-use Rattle.hb_frag.specs.declared.pages.Page.TheVariants.{Live, Free}
-use Rattle.hb_frag.specs.Grammar.{SpellsPage, HasSpelling}
-use Rattle.hb_layout.specs.declared.meta.Meta.{Meta}
+use Rattle.hb_frag.specs.Grammar.{SpellsPage}
 use Rattle.hb_ops.specs.Files.{FileState, page_of}
-use Rattle.hb_ops.specs.Sound.{FitsFile}
 use Rattle.hb_ops.specs.Operations.{IsAllowed, IsLicensed, effect_of}
 use Rattle.hb_log_codec.specs.Groups.{Logged, FitsGroup, group_bytes}
 use Rattle.hb_store.specs.Replay.{Replayed, untouched, replay, after_group, MayFollow}
-use Rattle.hb_layout.specs.Offsets.{log_start, file_size}
 use Rattle.hb_store.specs.Opening.{OpensBy, OpensTo, Shows, place_bytes}
-
--- A store: the turn of its superblock, what the file says of itself, the log, the pages in frames, the pages imaged or
--- made in this turn, and whether it was stopped.
-pub record StoreState : Type 0 where
-  pub turn : ℕ
-  pub meta : Meta
-  pub log : LogState
-  pub frame : ℕ → Option Page
-  pub imaged : ℕ → Bool
-  pub stopped : Bool
-
--- what a disk of this size may hold of a turn and a file, whatever its bytes are
-pub record MayHold (size turn : ℕ) (meta : Meta) : Type 0 where
-  pub turn_fits : turn ≤ 3
-  pub layout : IsLayout meta
-  pub some : 1 ≤ meta.high
-  pub high : meta.high ≤ meta.pages
-  pub live : meta.live ≤ meta.pages
-  pub root_fits : meta.root < 2 ^ 32
-  pub free_fits : meta.free < 2 ^ 32
-  pub room : file_size meta ≤ size
-
--- a page in a frame has a spelling, and where it is in use keeps the rules that speak of it alone
-abbrev pub IsGoodPage : Meta → Page → Type 0
-IsGoodPage meta (Live page) = HasSpelling (Live page) × FitsFile meta page
-IsGoodPage meta (Free next) = HasSpelling (Free next)
-
--- What every store is, over every disk.
-pub record IsStore (size : ℕ) (st : StoreState) : Type 0 where
-  pub holds : MayHold size st.turn st.meta
-  pub area : st.log.area ≡ log_start st.turn st.meta
-  pub len : st.log.len ≡ st.meta.log
-  pub frames_in : (id : ℕ) (page : Page) → st.frame id ≡ Some page → (1 ≤ id) × (id ≤ st.meta.high) × IsGoodPage st.meta page
-
--- a store without frames and groups
-pub record IsNew (turn : ℕ) (meta : Meta) (st : StoreState) : Type 0 where
-  pub turn_is : st.turn ≡ turn
-  pub meta_is : st.meta ≡ meta
-  pub log_is : st.log ≡ record { area = log_start turn meta; len = meta.log; written = 0; groups = [] }
-  pub no_frame : (id : ℕ) → st.frame id ≡ None
-  pub none_imaged : (id : ℕ) → st.imaged id ≡ false
-  pub running : st.stopped ≡ false
-
--- The parts of a file that no operation changes.
-pub record IsSameLayout (old new : Meta) : Type 0 where
-  pub k : new.k ≡ old.k
-  pub pages : new.pages ≡ old.pages
-  pub log : new.log ≡ old.log
-  pub dcap : new.dcap ≡ old.dcap
-  pub icap : new.icap ≡ old.icap
+use Rattle.hb_store.specs.States.{StoreState, IsSameLayout, in_memory, is_imaged}
 
 -- each image is a page of the file as it is
 abbrev pub AreImagesOf : FileState → List (ℕ × Page) → Type 0
@@ -87,6 +34,21 @@ abbrev pub last_of : FileState → List FileState → FileState
 last_of s [] = s
 last_of s (next ∷ later) = last_of next later
 
+-- What no code has, but the disk and the groups that wait spell: what the newest superblock says, the payloads of the
+-- written frames, the groups in them, and the groups that wait.
+pub record Parts : Type 0 where
+  pub said : Meta
+  pub payloads : List (List ℕ)
+  pub written : List Logged
+  pub waiting : List Logged
+
+-- the touched pages after the written groups, and after those that wait too
+abbrev pub written_pages : Parts → Replayed
+written_pages p = replay (untouched p.said) p.written
+
+abbrev pub all_pages : Parts → Replayed
+all_pages p = replay (untouched p.said) (p.written ++ p.waiting)
+
 -- an image that has the frame of the first group that waits
 abbrev pub OpensNext : List ℕ → ℕ → Meta → List (List ℕ) → List Logged → List Logged → List FileState → Type 0
 OpensNext c turn said payloads written [] later = ⊥
@@ -94,41 +56,49 @@ OpensNext c turn said payloads written (g ∷ rest) [] = ⊥
 OpensNext c turn said payloads written (g ∷ rest) (next ∷ later) = OpensBy c turn said (payloads ++ group_bytes g ∷ []) (written ++ g ∷ []) next
 
 -- both superblock places and the area are synced, and the area reads as the written frames and zeros
-pub record IsRunning (d : DiskModel) (st : StoreState) (payloads : List (List ℕ)) : Type 0 where
+pub record IsRunning (d : DiskModel) (log : LogState) (payloads : List (List ℕ)) : Type 0 where
   pub places : IsSynced d 0 (2 * PAGE)
-  pub logged : HasLog d st.log payloads
+  pub logged : HasLog d log payloads
 
--- What a store keeps over a disk that tells. `durable` is the file that the disk has, by the superblock of the store's
--- turn and the written frames; `later` are the files after each group that waits. The last one is the store's file.
-pub record StoreKeeps (d : DiskModel) (st : StoreState) (durable : FileState) (later : List FileState) : Type 0 where
-  pub said : Meta
-  pub payloads : List (List ℕ)
-  pub written : List Logged
-  pub waiting : List Logged
+-- The durable file is what the disk has, by the superblock of the store's turn and the written frames.
+pub record IsDurable (d : DiskModel) (turn : ℕ) (log : LogState) (stopped : Bool) (p : Parts) (durable : FileState) (later : List FileState) : Type 0 where
   pub told : IsSome d.told
-  pub layout : IsSameLayout said st.meta
-  pub count : length (frames payloads) ≡ st.log.written
-  -- every image opens to the durable file; after a failed force perhaps to the next one
-  pub images : (c : List ℕ) → d.Image c → OpensBy c st.turn said payloads written durable
-      ⊎ (IsTrue st.stopped × OpensNext c st.turn said payloads written waiting later)
-  -- whatever stands behind the written frames, these groups and the places make the durable file
-  pub shows : (c : List ℕ) → d.Image c → Shows c said (replay (untouched said) written) durable
-  pub running : st.stopped ≡ false → IsRunning d st payloads
-  pub kept : IsSynced d (slot_offset st.turn) PAGE × IsSynced d st.log.area st.log.written
-  -- the groups that wait, and where they lead
-  pub spelled : map (λ w. w.bytes) st.log.groups ≡ map group_bytes waiting
-  pub fits : All (FitsGroup said.k) waiting
-  pub leads : Leads (replay (untouched said) written) durable waiting later
-  -- the pages imaged or made in this turn are those that the groups touch
-  pub touched : (id : ℕ) → IsTrue (st.imaged id) ↔ IsSome ((replay (untouched said) (written ++ waiting)).page id)
-  -- the others stand synced in their places
-  pub synced : (id : ℕ) (page : Page) → st.imaged id ≡ false → page_of (last_of durable later) id ≡ Some page →
-      (c : List ℕ) → d.Image c → SpellsPage (place_bytes said id c) page
-  -- frames hold the file's pages, and a page in no frame reads in its place
-  pub meta_is : (last_of durable later).meta ≡ st.meta
-  pub framed : (id : ℕ) (page : Page) → st.frame id ≡ Some page → page_of (last_of durable later) id ≡ Some page
-  pub unframed : (id : ℕ) (page : Page) (b : List ℕ) → st.frame id ≡ None → page_of (last_of durable later) id ≡ Some page →
-      d.told ≡ Some b → SpellsPage (place_bytes said id b) page
+  pub count : length (frames p.payloads) ≡ log.written
+  -- every image opens to it; after a failed force perhaps to the next one
+  pub images : (c : List ℕ) → d.Image c → OpensBy c turn p.said p.payloads p.written durable
+      ⊎ (IsTrue stopped × OpensNext c turn p.said p.payloads p.written p.waiting later)
+  -- whatever stands behind the written frames, these groups and the places make it
+  pub shows : (c : List ℕ) → d.Image c → Shows c p.said (written_pages p) durable
+  pub running : stopped ≡ false → IsRunning d log p.payloads
+  -- the place of the turn's superblock and the written frames are synced, also in a stopped store
+  pub kept : IsSynced d (slot_offset turn) PAGE × IsSynced d log.area log.written
+
+-- The groups that wait are these, and lead from the durable file through the later ones.
+pub record IsWaiting (groups : List Waiting) (p : Parts) (durable : FileState) (later : List FileState) : Type 0 where
+  pub spelled : map (λ w. w.bytes) groups ≡ map group_bytes p.waiting
+  pub fits : All (FitsGroup p.said.k) p.waiting
+  pub leads : Leads (written_pages p) durable p.waiting later
+
+-- The pages imaged or made in this turn are those that the groups touch; the others of the file stand synced.
+pub record IsImaged (d : DiskModel) (imaged : ℕ → Bool) (p : Parts) (file : FileState) : Type 0 where
+  pub touched : (id : ℕ) → imaged id ≡ is_some ((all_pages p).page id)
+  pub synced : (id : ℕ) (page : Page) → imaged id ≡ false → page_of file id ≡ Some page → (c : List ℕ) → d.Image c → SpellsPage (place_bytes p.said id c) page
+
+-- Memory has what the file says of itself, and pages of it; a page that isn't in memory reads in its place.
+pub record IsInMemory (d : DiskModel) (meta : Meta) (page_in : ℕ → Option Page) (p : Parts) (file : FileState) : Type 0 where
+  pub layout : IsSameLayout p.said meta
+  pub meta_is : file.meta ≡ meta
+  pub cached : (id : ℕ) (page : Page) → page_in id ≡ Some page → page_of file id ≡ Some page
+  pub placed : (id : ℕ) (page : Page) (b : List ℕ) → page_in id ≡ None → page_of file id ≡ Some page → d.told ≡ Some b → SpellsPage (place_bytes p.said id b) page
+
+-- What a store keeps over a disk that tells. `durable` is the durable file; `later` are the files after each group that
+-- waits. The last one is the store's file.
+pub record StoreKeeps (d : DiskModel) (st : StoreState) (durable : FileState) (later : List FileState) : Type 0 where
+  pub parts : Parts
+  pub disk : IsDurable d st.turn st.log st.stopped parts durable later
+  pub waits : IsWaiting st.log.groups parts durable later
+  pub imaged : IsImaged d (is_imaged st) parts (last_of durable later)
+  pub memory : IsInMemory d st.meta (in_memory st) parts (last_of durable later)
 
 -- A disk from which a store may start: every image opens to this file, both superblock places and the log area of this
 -- turn are synced, the area reads as zeros, and every page stands synced in its place.

@@ -8,7 +8,7 @@ use Rattle.hb_store.proofs.store.Store.next_page.Goals as goal
 pub returns-in_err-next-clause-sound : goal.returns-in_err-next-clause-sound
 returns-in_err-next-clause-sound g c =
     let self = c.args.self.now in
-    let some : self.meta.free ≢ 0 = omega (arith, c.if-head-ne0.true) in
+    let some : self.memory.meta.free ≢ 0 = omega (arith, c.if-head-ne0.true) in
     let p = err_from_is_err_and c.from_residual.result c.from_residual.ensures.1 in
     λ durable later keeps sound. rw (p.1, p.2) (λ fault memory.
     let free = head_free (g.D.Device.model self.disk) (seen_as self) durable later keeps sound some in
@@ -18,13 +18,13 @@ pub returns-then-head-ne0-clause-allocates : goal.returns-then-head-ne0-clause-a
 returns-then-head-ne0-clause-allocates g c =
     let self = c.args.self.now in
     let new = c.free_head.new.self in
-    let some : self.meta.free ≢ 0 = omega (arith, c.if-head-ne0.true) in
-    let few : self.meta.live ≢ self.meta.pages = omega (arith, c.if-self.false) in
-    head_allocates (g.D.Device.model new.disk).size (seen_as self) (seen_as new) c.in_ok-next.next new.is_store c.free_head.ensures.fetches few some c.in_ok-next.ensures.named
+    let some : self.memory.meta.free ≢ 0 = omega (arith, c.if-head-ne0.true) in
+    let few : self.memory.meta.live ≢ self.memory.meta.pages = omega (arith, c.if-self.false) in
+    head_allocates (seen_as self) (seen_as new) c.in_ok-next.next c.free_head.ensures.memory c.free_head.ensures.fetches few some c.in_ok-next.ensures.named
 
 pub returns-then-head-ne0-clause-names : goal.returns-then-head-ne0-clause-names
 returns-then-head-ne0-clause-names g c =
-    λ durable later keeps some. (c.free_head.ensures.keeps durable later keeps).framed c.args.self.now.meta.free (Free c.in_ok-next.next) c.in_ok-next.ensures.named
+    λ durable later keeps some. (c.free_head.ensures.keeps durable later keeps).memory.cached c.args.self.now.memory.meta.free (Free c.in_ok-next.next) c.in_ok-next.ensures.named
 
 pub returns-then-self-2-clause-sound : goal.returns-then-self-2-clause-sound
 returns-then-self-2-clause-sound g c =
