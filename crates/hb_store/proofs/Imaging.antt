@@ -62,11 +62,11 @@ module _ (P : ℕ → Option Page) (I : ℕ → Bool) where
 
   read_later : (id q : ℕ) (page : Page) (among : Bool) (T : ℕ → Option Page) → (q == id) ≡ false → IsRead q page ((q == id) || among) T → IsRead q page among T
   read_later id q page among T off (inl e) = inl e
-  read_later id q page among T off (inr (no, at)) = inr (no, ap (λ (b : Bool). b || among) (sym off) ∙ at)
+  read_later id q page among T off (inr (out, at)) = inr (out, ap (λ (b : Bool). b || among) (sym off) ∙ at)
 
   read_imaged : (q : ℕ) (page : Page) (among : Bool) (T : ℕ → Option Page) → I q ≡ true → IsRead q page among T → T q ≡ Some page
   read_imaged q page among T on (inl e) = e
-  read_imaged q page among T on (inr (no, at)) = let never : true ≡ false = sym on ∙ no in cc never
+  read_imaged q page among T on (inr (out, at)) = let never : true ≡ false = sym on ∙ out in cc never
 
   read_other : (q : ℕ) (page : Page) (among : Bool) (T U : ℕ → Option Page) → U q ≡ T q → IsRead q page among T → IsRead q page among U
   read_other q page among T U same (inl e) = inl (same ∙ e)
@@ -92,7 +92,7 @@ module _ (P : ℕ → Option Page) (I : ℕ → Bool) where
 
   read_set : (ids : List ℕ) (q : ℕ) (page : Page) → P q ≡ Some page → (T : ℕ → Option Page) → IsRead q page (is_among q ids) T → set_pages (images_needed P I ids) T q ≡ Some page
   read_set [] q page there T (inl e) = e
-  read_set [] q page there T (inr (no, at)) = cc at
+  read_set [] q page there T (inr (out, at)) = cc at
   read_set (id ∷ rest) q page there T why =
       read_with id q (P id) (I id) (images_needed P I rest) (is_among q rest) page refl refl there (λ U later. read_set rest q page there U later) T why
 

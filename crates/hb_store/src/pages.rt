@@ -1,5 +1,5 @@
 //! Pages in memory, and the numbers of those that the log has.
-ghost use Rattle.std.specs.Prelude.{◌≡◌, ℕ, ◌+◌, ◌<◌, ◌≤◌, ◌||◌, length, OnOk, nat_eq};
+ghost use Rattle.std.specs.Prelude.{◌≡◌, ℕ, ◌+◌, ◌<◌, ◌≤◌, ◌∷◌, ◌||◌, [], length, OnOk, nat_eq};
 ghost use Rattle.std.specs.HashMap.{get, spare};
 ghost use Rattle.std.specs.HashSet.{contains, spare as spare_of};
 ghost use Rattle.hb_store.specs.Marks.{has_page, is_among};

@@ -5,6 +5,6 @@ use Rattle.std.specs.HashSet.{contains}
 use Rattle.hb_store.proofs.Setting.{or_cond}
 use Rattle.hb_store.proofs.pages.add.Goals as goal
 
-pub returns-in-Ok-clause-added : goal.returns-in-Ok-clause-added
-returns-in-Ok-clause-added c = λ q.
+pub returns-clause-added : goal.returns-clause-added
+returns-clause-added c = λ q.
     c.in-Ok.ensures.updates.0 q ∙ or_cond (nat_eq c.args.id q) (contains nat_eq c.args.imaged.now q) ∙ ap (λ b. b || contains nat_eq c.args.imaged.now q) (nat_eq_equiv.symm c.args.id q)
