@@ -86,6 +86,10 @@ front_of_both area len written payloads more c fits count (inr framed) = front_o
 pub memory_logged : (st : StoreState) (log : LogState) → IsMemory st → log.area ≡ st.log.area → log.len ≡ st.log.len → IsMemory (with_log log st)
 memory_logged st log is area len = record { stands = is.stands; area = area ∙ is.area; len = len ∙ is.len; good = is.good; marked = is.marked }
 
+-- and so does a fault
+pub memory_stopped : (st : StoreState) → IsMemory st → IsMemory (stopped_state st)
+memory_stopped st is = record { stands = is.stands; area = is.area; len = is.len; good = is.good; marked = is.marked }
+
 module _ (d : DiskModel) (is_disk : IsDisk d) (st : StoreState) (is : IsMemory st) (going : st.stopped ≡ false) (durable : FileState) (later : List FileState) (keeps : StoreKeeps d st durable later) where
   abbrev p : Parts
   p = keeps.parts

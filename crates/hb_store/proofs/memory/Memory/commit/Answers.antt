@@ -17,7 +17,7 @@ use Rattle.hb_store.proofs.Touches.{on_err}
 use Rattle.hb_store.proofs.memory.Memory.commit.Goals as goal
 
 -- for want of memory nothing changed, but the order of what is held
-kept_here : (c : goal.In-Err-reserve) → state_of c.self.inside.turn c.self.inside.meta c.self.inside.log c.reserve.new.pages c.reserve.new.imaged c.self.inside.stopped ≡ memory_seen c.self.inside
+kept_here : (c : goal.Joined-op-9) → state_of c.self.inside.turn c.self.inside.meta c.self.inside.log c.reserve.new.pages c.reserve.new.imaged c.self.inside.stopped ≡ memory_seen c.self.inside
 kept_here c =
     let held = c.self.inside in
     state_same held.turn held.meta held.log held.pages c.reserve.new.pages held.imaged c.reserve.new.imaged held.stopped c.reserve.ensures.pages c.reserve.ensures.imaged
@@ -29,19 +29,19 @@ pub returns-in_err-reserve-clause-kept : goal.returns-in_err-reserve-clause-kept
 returns-in_err-reserve-clause-kept c = on_err c.from_residual-in_err-reserve.result (kept_here c ∙ c.self.view_is)
 
 -- the change, as the contracts see it
-abbrev change_made : (c : goal.After-set_all) → Change
+abbrev change_made : (c : goal.Joined-op-13) → Change
 change_made c = record { meta = c.in_ok-changed.changed.meta; pages = c.in_ok-changed.changed.pages.items }
 
-abbrev seen_after : (c : goal.After-set_all) → StoreState
+abbrev seen_after : (c : goal.Joined-op-13) → StoreState
 seen_after c = state_of c.self.inside.turn c.in_ok-changed.changed.meta c.append.new.self c.set_all.new.pages c.set_all.new.imaged c.self.inside.stopped
 
-well_made : (c : goal.After-set_all) → MakesWell c.args.op c.args.self.now
+well_made : (c : goal.Joined-op-13) → MakesWell c.args.op c.args.self.now
 well_made c =
     let st = c.args.self.now in
     let is : IsMemory st = subst IsMemory c.self.view_is c.self.invariant in
     record { memory = is; change = changes_well c.what_is_made_can_be_written.ensures.pages st is c.args.op c.in_ok-group.ensures.fits.op c.requires.allowed; group = c.in_ok-group.ensures.fits }
 
-made : (c : goal.After-set_all) → Commits c.args.op c.args.mark c.args.self.now (seen_after c)
+made : (c : goal.Joined-op-13) → Commits c.args.op c.args.mark c.args.self.now (seen_after c)
 made c =
     let held = c.self.inside in
     let st = c.args.self.now in

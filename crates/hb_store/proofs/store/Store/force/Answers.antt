@@ -8,16 +8,17 @@ use Rattle.hb_store.specs.States.{StoreState}
 use Rattle.hb_store.specs.Keeps.{OpensToFirst, StoreKeeps}
 use Rattle.hb_store.specs.Inside.{memory_seen}
 use Rattle.hb_store.specs.Calls.{with_log, stopped_state, durable_after, later_after}
-use Rattle.hb_store.proofs.AfterForce.{memory_logged, moments_open, keeps_forced, keeps_stopped}
+use Rattle.hb_store.proofs.AfterForce.{memory_logged, memory_stopped, moments_open, keeps_forced, keeps_stopped}
 use Rattle.hb_store.proofs.store.Store.force.Goals as goal
 
 pub invariant_of-memory : goal.invariant_of-memory
 invariant_of-memory g c =
     memory_logged (memory_seen c.memory.inside) c.force.new.self c.memory.invariant (ap (λ (l : LogState). l.area) c.in-Ok.ensures.forced) (ap (λ (l : LogState). l.len) c.in-Ok.ensures.forced)
 
-pub invariant_of-memory-2 : goal.invariant_of-memory-2
-invariant_of-memory-2 g c =
-    memory_logged (memory_seen c.memory.inside) c.force.new.self c.memory.invariant (ap (λ (l : LogState). l.area) c.in-Err.ensures.kept) (ap (λ (l : LogState). l.len) c.in-Err.ensures.kept)
+pub invariant_of-memory-in-Err : goal.invariant_of-memory-in-Err
+invariant_of-memory-in-Err g c =
+    memory_stopped (with_log c.force.new.self (memory_seen c.memory.inside))
+    (memory_logged (memory_seen c.memory.inside) c.force.new.self c.memory.invariant (ap (λ (l : LogState). l.area) c.in-Err.ensures.kept) (ap (λ (l : LogState). l.len) c.in-Err.ensures.kept))
 
 pub returns-in-Ok-clause-keeps_forced : goal.returns-in-Ok-clause-keeps_forced
 returns-in-Ok-clause-keeps_forced g c =
