@@ -23,7 +23,8 @@ use Rattle.hb_log_codec.specs.Groups.{Logged, FitsGroup, group_bytes}
 use Rattle.hb_store.specs.Replay.{Replayed, untouched, replay}
 use Rattle.hb_store.specs.Opening.{OpensBy, log_bytes, place_bytes}
 use Rattle.hb_store.specs.States.{IsMemory, StoreState}
-use Rattle.hb_store.specs.Keeps.{Parts, StoreKeeps, Leads, OpensNext, OpensToFirst, last_of, written_pages}
+use Rattle.hb_store.specs.Parts.{Parts, Leads, OpensNext, written_pages}
+use Rattle.hb_store.specs.Keeps.{StoreKeeps, OpensToFirst, last_of}
 use Rattle.hb_store.specs.Calls.{stopped_state, forced_state, with_log, durable_after, later_after}
 use Rattle.hb_store.specs.ReplayLaws.{replay-append, zeros_end}
 use Rattle.hb_store.specs.StoreLaws.{OpensHere, OpensOn, opens_first, StoreKeeps-by}

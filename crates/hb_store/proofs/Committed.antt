@@ -22,7 +22,8 @@ use Rattle.hb_store.specs.Replay.{MayFollow, Replayed, after_group, change_in, r
 use Rattle.hb_store.specs.ReplayLaws.{Leads-append, last_of-append, replay-append}
 use Rattle.hb_store.specs.Opening.{IsPageIn, Shows}
 use Rattle.hb_store.specs.States.{IsGoodPage, IsMemory, IsSameLayout, IsStanding, StoreState, in_memory, is_imaged}
-use Rattle.hb_store.specs.Keeps.{AreImagesOf, IsDurable, IsImaged, IsInMemory, IsWaiting, Parts, StoreKeeps, all_pages, last_of, written_pages}
+use Rattle.hb_store.specs.Parts.{AreImagesOf, IsDurable, IsImaged, IsInMemory, IsWaiting, Parts, all_pages, written_pages}
+use Rattle.hb_store.specs.Keeps.{StoreKeeps, last_of}
 use Rattle.hb_store.specs.StoreLaws.{StoreKeeps-by}
 use Rattle.hb_store.specs.Calls.{Commits, IsAllowedHere, change_here, read_here, with_op}
 use Rattle.hb_store.specs.Images.{group_here}

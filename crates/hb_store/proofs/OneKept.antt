@@ -16,7 +16,8 @@ use Rattle.hb_store.proofs.Spellings.{OneGroup, OneList, SpelledOnce, same_spell
 use Rattle.hb_store.specs.Replay.{Replayed, untouched, replay, after_group}
 use Rattle.hb_store.specs.Opening.{OpensBy, Shows, log_bytes}
 use Rattle.hb_store.specs.States.{StoreState}
-use Rattle.hb_store.specs.Keeps.{StoreKeeps, Leads, OpensNext}
+use Rattle.hb_store.specs.Parts.{Leads, OpensNext}
+use Rattle.hb_store.specs.Keeps.{StoreKeeps}
 use Rattle.hb_store.proofs.OneFile.{OneTurn, OneMeta, same_shown}
 
 -- ---- lists

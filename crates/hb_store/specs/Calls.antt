@@ -24,31 +24,50 @@ change_here st op = change_of op st.meta (read_here st op 0) (read_here st op 1)
 
 -- all but the pages in memory is the same
 pub record KeepsAllButPages (old new : StoreState) : Type 0 where
+  -- the turn is as before
   pub turn : new.turn ≡ old.turn
+  -- what the file says is as before
   pub meta : new.meta ≡ old.meta
+  -- the log is as before
   pub log : new.log ≡ old.log
+  -- no page more is imaged
   pub imaged : new.imaged ≡ old.imaged
+  -- it was stopped where it was before
   pub stopped : new.stopped ≡ old.stopped
 
 -- A fetch: the page of the number is in memory now, and the other pages there are as before.
 pub record Fetched (id : ℕ) (old new : StoreState) : Type 0 where
+  -- all but the pages in memory is as before
   pub rest : KeepsAllButPages old new
+  -- the page is in memory
   pub there : IsSome (in_memory new id)
+  -- a page that was there is there as it was
   pub kept : (q : ℕ) → IsSome (in_memory old q) → in_memory new q ≡ in_memory old q
+  -- no other page came
   pub others : (q : ℕ) → q ≢ id → in_memory new q ≡ in_memory old q
 
 -- A commit: the changed pages are in memory, they and those that were read are imaged or made in this turn, and one group
 -- more waits, with its mark.
 pub record Commits (op : Op) (mark : ℕ) (old new : StoreState) : Type 0 where
+  -- the turn is as before
   pub turn : new.turn ≡ old.turn
+  -- it was stopped where it was before
   pub stopped : new.stopped ≡ old.stopped
+  -- the file says what the operation makes of it
   pub meta : new.meta ≡ (change_here old op).meta
+  -- the pages that it makes are in memory
   pub pages : (id : ℕ) → in_memory new id ≡ set_pages (change_here old op).pages (in_memory old) id
+  -- these and the pages that it reads are imaged or made in this turn
   pub imaged : (id : ℕ) → is_imaged new id ≡ (has_page id (change_here old op).pages || (is_among id (reads_of op) || is_imaged old id))
+  -- the log lies where it did
   pub area : new.log.area ≡ old.log.area
+  -- it is as long as before
   pub len : new.log.len ≡ old.log.len
+  -- no frame was written
   pub written : new.log.written ≡ old.log.written
+  -- the bytes of the group
   pub group : List ℕ
+  -- it waits behind the others, with its mark
   pub groups : new.log.groups ≡ old.log.groups ++ record { bytes = group; mark = mark } ∷ []
 
 -- a store after a force: the first group that waited doesn't any more

@@ -4,6 +4,7 @@ pub mod Opening
 pub mod States
 pub mod Codes
 pub mod Inside
+pub mod Parts
 pub mod Keeps
 pub mod Seen
 pub mod Calls

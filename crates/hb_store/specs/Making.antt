@@ -38,15 +38,24 @@ HaveFittingParts = (op : Op) (meta : Meta) (first second third : Option LivePage
 -- What an operation changes: the layout stays, what the file says of itself still stands, good pages are good, and each
 -- changed page is one of the file then, and is good.
 pub record ChangesWell (turn : ℕ) (meta : Meta) (change : Change) : Type 0 where
+  -- the file is laid down as before
   pub layout : IsSameLayout meta change.meta
+  -- what it says of itself is within its limits
   pub stands : IsStanding turn meta → IsStanding turn change.meta
+  -- the high mark does not fall
   pub high : meta.high ≤ change.meta.high
+  -- it rises by one at most
   pub next : change.meta.high ≤ meta.high + 1
+  -- a page that was good is good
   pub others : (page : Page) → IsGoodPage meta page → IsGoodPage change.meta page
+  -- each changed page is of the file, and good
   pub pages : All (λ c. IsPageOf change.meta c.0 × IsGoodPage change.meta c.1) change.pages
 
 -- What an operation makes of a store is well made, and its group fits the log.
 pub record MakesWell (op : Op) (st : StoreState) : Type 0 where
+  -- the store was one
   pub memory : IsMemory st
+  -- what the operation makes is well made
   pub change : ChangesWell st.turn st.meta (change_here st op)
+  -- its group has its place in a frame
   pub group : FitsGroup st.meta.k (group_here st op)
