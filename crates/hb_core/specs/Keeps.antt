@@ -17,7 +17,7 @@ use Rattle.hb_latch.specs.Tables.{AreCompatible, MayLatch, mode_at}
 use Rattle.hb_activity.specs.declared.activities.Activity.TheVariants as at
 use Rattle.hb_activity.specs.declared.jobs.Job.{Job}
 use Rattle.hb_activity.specs.Walks.{walk_held, walk_point}
-use Rattle.hb_store.specs.Keeps.{IsGoodPage}
+use Rattle.hb_store.specs.States.{IsGoodPage, in_memory}
 use Rattle.hb_core.specs.Machines.{Files, Machine, current_file, live_here}
 use Rattle.hb_core.specs.Performing.{latches_held, mode_among}
 use Rattle.hb_core.specs.WorkerRows.{LeadsBelow}
@@ -30,19 +30,19 @@ pub record HasSoundFile (m : Machine) (files : Files) : Type 0 where
   pub each : length files.later ≡ length m.store.log.groups
   pub layout : IsLayout m.store.meta
   pub meta : (current_file files).meta ≡ m.store.meta
-  pub shown : (id : ℕ) (page : Page) → m.store.frame id ≡ Some page → page_of (current_file files) id ≡ Some page
+  pub shown : (id : ℕ) (page : Page) → in_memory m.store id ≡ Some page → page_of (current_file files) id ≡ Some page
 
 -- Every page in memory is one of the file, and keeps the rules that speak of a page alone. So it is over every disk.
 abbrev pub HoldsPagesOfFile : Machine → Type 0
-HoldsPagesOfFile m = (id : ℕ) (page : Page) → m.store.frame id ≡ Some page → (1 ≤ id) × (id ≤ m.store.meta.high) × IsGoodPage m.store.meta page
+HoldsPagesOfFile m = (id : ℕ) (page : Page) → in_memory m.store id ≡ Some page → (1 ≤ id) × (id ≤ m.store.meta.high) × IsGoodPage m.store.meta page
 
 -- Each actor holds the latches of its activity and no other, on pages in use; and latches of different actors on one page
 -- go beside each other.
 pub record LatchesFit (m : Machine) : Type 0 where
   pub compatible : AreCompatible m.latches
   pub exact : (actor page : ℕ) → MayLatch actor → mode_at m.latches actor page ≡ mode_among page (latches_held m.store (m.activity actor))
-  pub used : (actor page : ℕ) (mode : Mode) → mode_at m.latches actor page ≡ Some mode → (live : LivePage) × (m.store.frame page ≡ Some (Live live))
-  pub walking : (actor held : ℕ) → MayLatch actor → walk_held (m.activity actor) ≡ Some held → (live : LivePage) × (m.store.frame held ≡ Some (Live live))
+  pub used : (actor page : ℕ) (mode : Mode) → mode_at m.latches actor page ≡ Some mode → (live : LivePage) × (in_memory m.store page ≡ Some (Live live))
+  pub walking : (actor held : ℕ) → MayLatch actor → walk_held (m.activity actor) ≡ Some held → (live : LivePage) × (in_memory m.store held ≡ Some (Live live))
 
 -- The page that a walk holds has the walk's point in its box. The parent that a poster holds is of the job's level, and
 -- has a child leaf at the job's point.

@@ -17,7 +17,7 @@ use Rattle.hb_sound.specs.Stops.{OnBroken}
 use Rattle.hb_sound.specs.declared.pages.AuditStop.{AuditStop}
 use Rattle.hb_sound.specs.declared.pages.AuditStop.TheVariants as stops
 use Rattle.hb_sound.specs.Told.{IsHole, IsWholeFile, file_of, shown_pages}
-use Rattle.hb_store.specs.Keeps.{IsSameLayout}
+use Rattle.hb_store.specs.States.{IsSameLayout}
 use Rattle.hb_store.specs.Opening.{IsPageIn, Shows, place_bytes}
 use Rattle.hb_store.specs.Replay.{Replayed, untouched, replay}
 use Rattle.hb_restart.specs.Found.{IsFoundIn, IsReadIn, audit_fault, touched_pages}

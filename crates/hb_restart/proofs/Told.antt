@@ -7,7 +7,7 @@ use Rattle.hb_page_codec.specs.ReadingPages.{page_of_bytes}
 use Rattle.hb_page_codec.specs.Weight.{IsLight}
 use Rattle.hb_space.specs.declared.form.TheConstants.{PAGE}
 use Rattle.hb_sound.specs.Told.{CoversFile, GivesPage, item_at, shown_pages}
-use Rattle.hb_store.specs.Keeps.{IsSameLayout}
+use Rattle.hb_store.specs.States.{IsSameLayout}
 use Rattle.hb_store.specs.Opening.{place_bytes}
 use Rattle.hb_restart.specs.Source.{touched_or, page_there, page_weight, pages_from, told_pages}
 use Rattle.hb_restart.proofs.Numbered.{within}

@@ -9,7 +9,7 @@ use Rattle.hb_ops.specs.Operations.{with_page, with_changed_pages}
 use Rattle.hb_ops.specs.PageNumberLaws.{get-set_other, get-set_same, in_range, page_at-suc, page_at-zero, with_page-behind, with_page-there}
 use Rattle.hb_store.specs.Replay.{set_pages}
 use Rattle.hb_store.specs.ReplayLists.{set_one-same, set_one-other}
-use Rattle.hb_store.proofs.Marking.{set_pages-same}
+use Rattle.hb_store.proofs.Setting.{set_pages-same}
 
 -- a page more
 get-push_last : (pages : List Page) (new : Page) → slice_get (pages ++ (new ∷ [])) (length pages) ≡ Some new

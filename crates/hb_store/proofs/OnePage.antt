@@ -25,7 +25,7 @@ use Rattle.hb_layout.specs.declared.meta.Meta.{Meta}
 use Rattle.hb_ops.specs.Files.{FileState, page_at, page_of}
 use Rattle.hb_store.specs.Opening.{place_bytes}
 use Rattle.hb_store.specs.Keeps.{IsFresh}
-use Rattle.hb_store.specs.StoreLaws.{IsFresh-from}
+use Rattle.hb_store.specs.FreshLaws.{IsFresh-from}
 
 abbrev pub one_meta : Meta
 one_meta = record { k = 1; pages = 1; log = 65536; dcap = 6; icap = 32; root = 1; height = 1; high = 1; live = 1; free = 0 }

@@ -115,8 +115,8 @@ fn waiting(alloc: Global, failing: &[u64]) -> Result<Store<RotDisk>, Fail>
     ensures { IfOk result (λ store. (seen_as store).stopped ≡ false) }
 {
     let mut store = opened(alloc, failing)?;
-    store.log.append(&PUT, 3);
-    store.log.append(b"c", 5);
+    store.memory.log.append(&PUT, 3);
+    store.memory.log.append(b"c", 5);
     Ok(store)
 }
 

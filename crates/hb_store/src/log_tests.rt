@@ -6,13 +6,12 @@ ghost use Rattle.hb_layout.specs.Offsets.{file_size};
 ghost use Rattle.hb_super.specs.Superblocks.{IsLegal};
 
 use crate::force_tests::{EMPTY, META};
+use crate::memory::Memory;
 use crate::{FetchStop, LogStop, Store, Why, read_log};
 use hb_disk::MemDisk;
 use hb_frag::Page;
 use hb_ops::Meta;
-use hb_wal::Wal;
 use std::alloc::Global;
-use std::collections::BTreeMap;
 use std::test::Fail;
 
 /// What a file of two pages says, of which one is taken.
@@ -168,20 +167,17 @@ fn store_over(
     if high == 0 || high > 2 || live > 2 {
         return Err(Fail::from("no file of two pages says so"));
     }
-    let log = Wal::new(alloc, 8192, 65536)?;
+    let meta = Meta {
+        high,
+        live,
+        free,
+        ..TWO
+    };
+    let memory = Memory::new(alloc, 0, meta)?;
     Ok(Store {
         alloc,
         disk,
-        turn: 0,
-        meta: Meta {
-            high,
-            live,
-            free,
-            ..TWO
-        },
-        log,
-        frames: BTreeMap::new(alloc),
-        stopped: false,
+        memory,
     })
 }
 
@@ -209,7 +205,7 @@ fn fetched(alloc: Global, id: u32, page: &[u8], failing: &[u64]) -> Result<(u32,
     })
 }
 
-/// Whether the page of a number is in a frame, and in use.
+/// Whether the page of a number is in memory, and in use.
 fn shown(store: &Store<MemDisk>, id: u32) -> char {
     match store.get(id) {
         Some(Page::Live(_)) => 'l',

@@ -9,7 +9,7 @@ use Rattle.hb_disk.specs.TornLaws.{Torn-itself, Torn-wider}
 use Rattle.hb_super.specs.Superblocks.{IsNewest}
 use Rattle.hb_layout.specs.declared.meta.Meta.{Meta}
 use Rattle.hb_layout.specs.Offsets.{file_size, log_start}
-use Rattle.hb_store.specs.Keeps.{IsSameLayout}
+use Rattle.hb_store.specs.States.{IsSameLayout}
 use Rattle.hb_restart.specs.Beyond.{KeepsBeyond, KeepsBeyondFile}
 
 -- reads alone

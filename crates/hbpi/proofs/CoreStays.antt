@@ -7,7 +7,8 @@ use Rattle.hb_wal.specs.Log.{Waiting, mark_of}
 use Rattle.hb_ops.specs.Files.{FileState, contents_of}
 use Rattle.hb_set.specs.declared.scripts.Line.{Line}
 use Rattle.hb_set.specs.Machine.{RecordSet}
-use Rattle.hb_store.specs.Keeps.{StoreKeeps, StoreState, last_of}
+use Rattle.hb_store.specs.States.{StoreState}
+use Rattle.hb_store.specs.Keeps.{StoreKeeps, last_of}
 use Rattle.hb_store.specs.declared.stops.StopWhy.{StopWhy}
 use Rattle.hbpi.specs.declared.engine.session.Session.{Session}
 use Rattle.hbpi.specs.declared.engine.session.Outcome.{Outcome}

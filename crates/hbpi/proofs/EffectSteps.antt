@@ -19,7 +19,8 @@ use Rattle.hb_set.specs.declared.scripts.Line.{Line}
 use Rattle.hb_set.specs.declared.commands.Reply.{Reply}
 use Rattle.hb_set.specs.declared.commands.Reply.TheVariants as replies
 use Rattle.hb_set.specs.Machine.{RecordSet, reply_of, set_after}
-use Rattle.hb_store.specs.Keeps.{StoreKeeps, StoreState, last_of}
+use Rattle.hb_store.specs.States.{StoreState}
+use Rattle.hb_store.specs.Keeps.{StoreKeeps, last_of}
 use Rattle.hb_store.specs.Calls.{Commits, IsReady, with_op}
 use Rattle.hb_store.specs.ReplayLaws.{last_of-append}
 use Rattle.hbpi.specs.declared.engine.session.Session.TheVariants as sessions

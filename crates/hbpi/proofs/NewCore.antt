@@ -7,7 +7,8 @@ use Rattle.hb_layout.specs.declared.meta.Meta.{Meta}
 use Rattle.hb_ops.specs.Files.{FileState, contents_of}
 use Rattle.hb_ops.specs.Sound.{IsSound}
 use Rattle.hb_set.specs.declared.scripts.Line.{Line}
-use Rattle.hb_store.specs.Keeps.{IsNew, StoreKeeps, StoreState, last_of}
+use Rattle.hb_store.specs.States.{IsNew, StoreState}
+use Rattle.hb_store.specs.Keeps.{StoreKeeps, last_of}
 use Rattle.hbpi.specs.declared.engine.session.Session.TheVariants as sessions
 use Rattle.hbpi.specs.Core.{CoreState}
 use Rattle.hbpi.specs.Keeping.{AwaitsOne, CoreKeeps, set_of}

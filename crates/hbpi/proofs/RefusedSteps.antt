@@ -12,7 +12,8 @@ use Rattle.hb_set.specs.declared.scripts.Line.{Line}
 use Rattle.hb_set.specs.declared.commands.Reply.{Reply}
 use Rattle.hb_set.specs.declared.commands.Reply.TheVariants as replies
 use Rattle.hb_set.specs.Machine.{RecordSet}
-use Rattle.hb_store.specs.Keeps.{StoreKeeps, StoreState, last_of}
+use Rattle.hb_store.specs.States.{StoreState, in_memory}
+use Rattle.hb_store.specs.Keeps.{StoreKeeps, last_of}
 use Rattle.hb_store.specs.Calls.{IsReady}
 use Rattle.hb_store.specs.declared.stops.FetchStop.{FetchStop}
 use Rattle.hb_store.specs.declared.stops.FetchStop.TheVariants as fetches
@@ -28,7 +29,7 @@ use Rattle.hbpi.proofs.PrefixOpens.{quiet_moments}
 use Rattle.hbpi.proofs.CoreStays.{stands, stays_kept, step_kept, steps_going}
 use Rattle.hbpi.proofs.AnswerSteps.{along}
 
--- a page that isn't in a frame, where the number is given by an equation
+-- a page that isn't in memory, where the number is given by an equation
 pub not_framed : (frame : ℕ → Option Page) (id root : ℕ) → id ≡ root → (IsSome (frame id) → ⊥) → frame root ≡ None
 not_framed frame id root e none = let Q : ℕ → Type 0 = λ n. frame n ≡ None in subst Q e (nothing (frame id) none)
   where
@@ -92,9 +93,9 @@ module _ (d : DiskModel) (is_disk : IsDisk d) (old : CoreState) (going : old.sto
       same_current : (a b : Line) → IsCurrent old a → IsCurrent old b → a ≡ b
       same_current a b here there = let both : Some a ≡ Some b = sym here.1 ∙ there.1 in cc
 
-  -- the root wasn't fetched: it is in no frame, and isn't damaged
+  -- the root wasn't fetched: it isn't in memory, and isn't damaged
   pub gave_up_keeps : (e : DiskModel) → OnlyReads d e → (outcome : Outcome) (new : CoreState) (stop : FetchStop) → GivesUp stop old outcome new
-      → ((line : Line) → IsCurrent old line → (MayCommit line.command → ⊥) ⊎ IsReady old.store) → old.store.frame old.store.meta.root ≡ None
+      → ((line : Line) → IsCurrent old line → (MayCommit line.command → ⊥) ⊎ IsReady old.store) → in_memory old.store old.store.meta.root ≡ None
       → ((durable : FileState) (later : List FileState) → StoreKeeps d old.store durable later → StoreKeeps e old.store durable later)
       → ((n : RecordSet) (done : List Line) → CoreKeeps d old n done → stop ≢ fetches.ReadFault → stop ≢ fetches.NoMemory → ⊥)
       → KeepsAt d old outcome e new

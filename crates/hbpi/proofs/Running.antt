@@ -337,8 +337,8 @@ running_starts d core n disk going kept = record {
       enough = omega arith;
       within = omega arith;
       file = kept.durable;
-      opens = elim (kept.keeps.images c image) [
-        | inl here ↦ record { turn = core.store.turn; said = kept.keeps.said; payloads = kept.keeps.payloads; groups = kept.keeps.written; by = here }
+      opens = elim (kept.keeps.disk.images c image) [
+        | inl here ↦ record { turn = core.store.turn; said = kept.keeps.parts.said; payloads = kept.keeps.parts.payloads; groups = kept.keeps.parts.written; by = here }
         | inr next ↦ absurd (let runs = kept.running going in let stopped = next.0 in cc)
       ];
       sound = kept.sound_durable;

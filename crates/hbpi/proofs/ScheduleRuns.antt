@@ -9,7 +9,8 @@ use Rattle.hb_ops.specs.Files.{FileState, contents_of}
 use Rattle.hb_ops.specs.Sound.{IsSound}
 use Rattle.hb_set.specs.declared.scripts.Line.{Line}
 use Rattle.hb_set.specs.declared.scripts.Answered.{Answered}
-use Rattle.hb_store.specs.Keeps.{StoreState, IsNew, StoreKeeps}
+use Rattle.hb_store.specs.States.{StoreState, IsNew}
+use Rattle.hb_store.specs.Keeps.{StoreKeeps}
 use Rattle.hb_store.specs.Opening.{OpensTo, IsEven}
 use Rattle.hb_store.specs.declared.stops.StopWhy.{StopWhy}
 use Rattle.hb_store.specs.declared.stops.StopWhy.TheVariants as stops
@@ -116,9 +117,9 @@ apart_stopped same = cc (same)
 -- a store that runs is over an even disk
 pub even_store : (d : DiskModel) (st : StoreState) (durable : FileState) (later : List FileState) → StoreKeeps d st durable later → st.stopped ≡ false → IsEven d durable
 even_store d st durable later keeps running = record {
-  told = keeps.told;
-  images = λ c image. elim (keeps.images c image) [
-    | inl by ↦ record { turn = st.turn; said = keeps.said; payloads = keeps.payloads; groups = keeps.written; by = by }
+  told = keeps.disk.told;
+  images = λ c image. elim (keeps.disk.images c image) [
+    | inl by ↦ record { turn = st.turn; said = keeps.parts.said; payloads = keeps.parts.payloads; groups = keeps.parts.written; by = by }
     | inr stopped ↦ cc (stopped.0, running)
   ];
 }
@@ -135,7 +136,7 @@ turned_away d st seen status disk kept running one_page refused source = record 
   told = if_value d.told _ (λ b is.
       let here = kept (has_value d.told b is) in
       let even = even_store d st here.0 [] here.2 running in
-      (here.0, even.images b (disk.as_read b is), here.1, ap (λ (m : Meta). m.k) here.2.meta_is, even, λ was. Leaves-start d _ disk even.images, subst IsOnePage (sym here.2.meta_is) (one_page_of st.meta one_page.0 one_page.1)));
+      (here.0, even.images b (disk.as_read b is), here.1, ap (λ (m : Meta). m.k) here.2.memory.meta_is, even, λ was. Leaves-start d _ disk even.images, subst IsOnePage (sym here.2.memory.meta_is) (one_page_of st.meta one_page.0 one_page.1)));
 }
 
 -- the same over a disk that is another's

@@ -12,6 +12,7 @@ use Rattle.hb_set.specs.declared.commands.Command.TheVariants.{Insert, Delete, L
 use Rattle.hb_set.specs.declared.commands.Reply.{Reply}
 use Rattle.hb_set.specs.declared.commands.Reply.TheVariants.{NoMemory, ReadFault}
 use Rattle.hb_set.specs.declared.scripts.Line.{Line}
+use Rattle.hb_store.specs.States.{in_memory}
 use Rattle.hbpi.specs.Core.{CoreState}
 
 -- a command that may change the file
@@ -49,9 +50,9 @@ HasNoRoom (Delete p) s = ⊥
 HasNoRoom (Lookup p) s = ⊥
 HasNoRoom (Search a) s = ⊥
 
--- Why a walking line may be answered outside the order though there is room. The root is read where it is in no frame,
+-- Why a walking line may be answered outside the order though there is room. The root is read where it isn't in memory,
 -- and memory is wanted to keep it or for an operation's group.
 abbrev pub MayFail : Command → CoreState → FileState → Reply → Type 0
-MayFail command c s NoMemory = (c.store.frame c.store.meta.root ≡ None) ⊎ IsSome (op_of command s)
-MayFail command c s ReadFault = c.store.frame c.store.meta.root ≡ None
+MayFail command c s NoMemory = (in_memory c.store c.store.meta.root ≡ None) ⊎ IsSome (op_of command s)
+MayFail command c s ReadFault = in_memory c.store c.store.meta.root ≡ None
 MayFail command c s _ = ⊥

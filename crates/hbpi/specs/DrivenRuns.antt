@@ -7,7 +7,7 @@ use Rattle.hb_ops.specs.Sound.{IsSound}
 use Rattle.hb_set.specs.Order.{IsLegalOrder}
 use Rattle.hb_set.specs.declared.scripts.Line.{Line}
 use Rattle.hb_set.specs.declared.scripts.Answered.{Answered}
-use Rattle.hb_store.specs.Keeps.{IsNew}
+use Rattle.hb_store.specs.States.{IsNew}
 use Rattle.hb_store.specs.Opening.{OpensTo, IsEven}
 use Rattle.hbpi.specs.Core.{CoreState, settled_of}
 use Rattle.hbpi.specs.Keeping.{AreAmong, entries_from, set_of}

@@ -6,7 +6,8 @@ use Rattle.hb_set.specs.declared.commands.Reply.{Reply}
 use Rattle.hb_set.specs.declared.commands.Reply.TheVariants.{ReadFault, NoMemory}
 use Rattle.hb_set.specs.declared.scripts.Line.{Line}
 use Rattle.hb_set.specs.Machine.{RecordSet}
-use Rattle.hb_store.specs.Keeps.{StoreState, StoreKeeps, OpensToFirst, last_of}
+use Rattle.hb_store.specs.States.{StoreState}
+use Rattle.hb_store.specs.Keeps.{StoreKeeps, OpensToFirst, last_of}
 use Rattle.hb_store.specs.Calls.{forced_state, stopped_state, durable_after, later_after}
 use Rattle.hb_store.specs.declared.stops.FetchStop.{FetchStop}
 use Rattle.hb_store.specs.declared.stops.FetchStop.TheVariants as fetches

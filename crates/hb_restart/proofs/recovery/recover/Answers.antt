@@ -5,7 +5,8 @@ use Rattle.hb_disk.specs.Calls.{Leaves}
 use Rattle.hb_super.specs.Superblocks.{next_turn, IsNewest}
 use Rattle.hb_ops.specs.Files.{FileState}
 use Rattle.hb_store.specs.Opening.{OpensTo}
-use Rattle.hb_store.specs.Keeps.{IsFresh, IsSameLayout, StoreKeeps}
+use Rattle.hb_store.specs.States.{IsSameLayout}
+use Rattle.hb_store.specs.Keeps.{IsFresh, StoreKeeps}
 use Rattle.hb_store.specs.Seen.{seen_as, disk_of}
 use Rattle.hb_restart.specs.Found.{IsFoundIn}
 use Rattle.hb_restart.proofs.Made.{no_error}

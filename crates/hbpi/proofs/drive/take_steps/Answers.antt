@@ -98,8 +98,8 @@ loop-preserved g c =
             step = keeps;
             moves = step.moves;
             disk = g.met.D.Device.is_disk (core_disk c.step-outcome.new.self);
-            soon = step.clock run.keeps.keeps.told;
-            at_is = c.clock-at.ensures keeps.keeps.keeps.told;
+            soon = step.clock run.keeps.keeps.disk.told;
+            at_is = c.clock-at.ensures keeps.keeps.keeps.disk.told;
           }));
       reads_later = omega (arith, before.reads_later, step.reads_later);
       writes_later = omega (arith, before.writes_later, step.writes_later);

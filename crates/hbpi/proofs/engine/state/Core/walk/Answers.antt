@@ -1,7 +1,8 @@
 use Rattle.std.proofs.Common.{ℕ, ap, sym, subst}
 use Rattle.hb_layout.specs.declared.meta.Meta.{Meta}
 use Rattle.hb_store.specs.Calls.{Fetched}
-use Rattle.hb_store.specs.Keeps.{StoreKeeps, StoreState}
+use Rattle.hb_store.specs.States.{StoreState, in_memory}
+use Rattle.hb_store.specs.Keeps.{StoreKeeps}
 use Rattle.hb_store.specs.Seen.{seen_as}
 use Rattle.hbpi.specs.CoreSeen.{core_seen, core_disk}
 use Rattle.hbpi.specs.Plans.{Acts}
@@ -51,7 +52,7 @@ returns-in-Err-clause-keeps g c =
     subst P (sym c.give_up.ensures.disk)
     (gave_up_keeps d (g.met.D.Device.is_disk (core_disk c.args.self.now)) old c.requires.going c.requires.walking m c.in-Err.ensures.only_reads c.give_up.result (core_seen c.give_up.new.self) c.in-Err.stop
     (subst G c.in-Err.ensures.kept c.give_up.ensures.gives_up) (c.must_wait.ensures.goes c.if-must_wait.false)
-    (not_framed (seen_as c.args.self.now.store).frame c.meta.result.now.root (seen_as c.args.self.now.store).meta.root root (λ some. cc (c.in-Err.ensures.in_frame some).0))
+    (not_framed (in_memory (seen_as c.args.self.now.store)) c.meta.result.now.root (seen_as c.args.self.now.store).meta.root root (λ some. cc (c.in-Err.ensures.there some).0))
     (λ durable later keeps. let S : StoreState → Type 0 = λ st. StoreKeeps (g.D.Device.model c.fetch.new.self.disk) st durable later in subst S c.in-Err.ensures.kept (c.in-Err.ensures.keeps durable later keeps))
     (λ n done kept fault memory. is_a_page (seen_as c.args.self.now.store).meta c.meta.result.now.root root c.requires.whole.one_page (c.in-Err.ensures.sound kept.durable kept.later kept.keeps kept.sound fault memory)))
 
