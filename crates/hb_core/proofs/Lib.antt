@@ -8,3 +8,9 @@ pub mod Backing
 pub mod LatchesStay
 pub mod LaterPages
 pub mod Moments
+pub mod NextPlaces
+pub mod StillThere
+pub mod WalksKept
+pub mod AnswersInPlace
+pub mod OrderPlaces
+pub mod PendingKept

@@ -16,4 +16,5 @@ pub mod Steps
 pub mod KeptOrder
 pub mod Keeps
 pub mod Laws
+pub mod KeepingLaws
 pub mod Examples

@@ -1,0 +1,30 @@
+//! What each step keeps of the walks, the room and the groups that wait, and what follows for a list
+//! of steps. Each law is the contract of a function that does nothing: a caller learns it by the call.
+
+ghost use Rattle.hb_core.specs.KeepingLaws.{AnswersAreInPlace, NobodyElseComes, PrefixStaysPending, WalksStayInSpace};
+
+/// Under no number but those of the 19 actors anybody comes to stand.
+#[tactic(auto, using(crate::proofs::StillThere::nobody_else_comes))]
+pub fn nobody_else_comes()
+    ensures { NobodyElseComes }
+{}
+
+/// After a step the page that a walk holds has the walk's point in its box, and the parent that a poster
+/// holds has a child leaf at the job's point.
+#[tactic(auto, using(crate::proofs::WalksKept::walks_stay_in_space))]
+pub fn walks_stay_in_space()
+    ensures { WalksStayInSpace }
+{}
+
+/// A line is answered once its place in the order is settled, or outside of the order.
+#[tactic(auto, using(crate::proofs::AnswersInPlace::answers_are_in_place))]
+pub fn answers_are_in_place()
+    ensures { AnswersAreInPlace }
+{}
+
+/// After a step the file before each group that waits has the set after as many entries of the order as
+/// its mark says, marks don't fall, and each answered entry stands below the oldest one's.
+#[tactic(auto, using(crate::proofs::PendingKept::prefix_stays_pending))]
+pub fn prefix_stays_pending()
+    ensures { PrefixStaysPending }
+{}
