@@ -12,6 +12,8 @@ use Rattle.hb_set.specs.Order.{Entry, IsLegalOrder, result_of}
 use Rattle.hb_set.specs.declared.commands.Reply.{Reply}
 use Rattle.hb_set.specs.declared.scripts.Answered.{Answered}
 use Rattle.hb_store.specs.Calls.{durable_after, later_after}
+use Rattle.hb_log_codec.specs.Groups.{group_bytes}
+use Rattle.hb_store.specs.Images.{group_here}
 use Rattle.hb_store.specs.Keeps.{StoreState, last_of}
 use Rattle.hb_core.specs.declared.outcomes.DropWhy.{DropWhy}
 use Rattle.hb_core.specs.declared.outcomes.Outcome.{Outcome}
@@ -167,7 +169,8 @@ module _ (n : RecordSet) (m : Machine) (files : Files) (new : Machine) (files' :
     done : (op : Option Op) (fetched : StoreState) (more : List Entry) → fetched.log ≡ m.store.log → new.order ≡ m.order ++ more → new.files ≡ files_after op m.files → MayDo op (length m.order) fetched new.store → KeepsMarks n m new files'
     done None fetched more log order_is files_are does = grown more order_is (ap (λ (st : StoreState). st.log.groups) does ∙ ap (λ (log : LogState). log.groups) log) files_are
     done (Some op) fetched more log order_is files_are does =
-        joined more _ op refl order_is (does.group ∙ ap (λ (l : LogState). l.groups ++ _ ∷ []) log) files_are
+        let group : Waiting = record { bytes = group_bytes (group_here fetched op); mark = length m.order } in
+        joined more group op refl order_is (does.group ∙ ap (λ (l : LogState). l.groups ++ group ∷ []) log) files_are
 
     performed : (fetched : StoreState) (deed : Deed) → fetched.log ≡ m.store.log → Performs m fetched actor deed outcome new → KeepsMarks n m new files'
     performed fetched deed log performs = done deed.op fetched (if_some deed.joins) log performs.order performs.files performs.store

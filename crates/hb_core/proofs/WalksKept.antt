@@ -126,17 +126,17 @@ same_parent activity job parent st is has = record {
   parents = λ other at_id at_other. by other at_id is at_other;
 }
   where
-    moved : (other : Job) (at_id : ℕ) → (job, parent) ≡ (other, at_id) → HasParentOf st other at_id
-    moved other at_id same = subst (λ (q : Job × ℕ). HasParentOf st q.0 q.1) same has
+    moved : (other : Job) (at_id : ℕ) → (job ≡ other) × (parent ≡ at_id) → HasParentOf st other at_id
+    moved other at_id same = subst (λ (j : Job). HasParentOf st j at_id) same.0 (subst (λ (q : ℕ). HasParentOf st job q) same.1 has)
 
-    child : (a b : Job) (p q : ℕ) → at.PosterChild a p ≡ at.PosterChild b q → (a, p) ≡ (b, q)
-    child a b p q is = cc
+    child : (a b : Job) (p q : ℕ) → at.PosterChild a p ≡ at.PosterChild b q → (a ≡ b) × (p ≡ q)
+    child a b p q is = (cc, cc)
 
-    promote : (a b : Job) (p q : ℕ) → at.PosterPromote a p ≡ at.PosterPromote b q → (a, p) ≡ (b, q)
-    promote a b p q is = cc
+    promote : (a b : Job) (p q : ℕ) → at.PosterPromote a p ≡ at.PosterPromote b q → (a ≡ b) × (p ≡ q)
+    promote a b p q is = (cc, cc)
 
-    again : (a b : Job) (p q : ℕ) → at.PosterAgain a p ≡ at.PosterAgain b q → (a, p) ≡ (b, q)
-    again a b p q is = cc
+    again : (a b : Job) (p q : ℕ) → at.PosterAgain a p ≡ at.PosterAgain b q → (a ≡ b) × (p ≡ q)
+    again a b p q is = (cc, cc)
 
     by : (other : Job) (at_id : ℕ) → IsAtParent activity job parent → IsAtParent activity other at_id → HasParentOf st other at_id
     by other at_id (inl a) (inl b) = moved other at_id (child job other parent at_id (sym a ∙ b))

@@ -24,7 +24,6 @@ pub fn answers_are_in_place()
 
 /// After a step the file before each group that waits has the set after as many entries of the order as
 /// its mark says, marks don't fall, and each answered entry stands below the oldest one's.
-#[tactic(auto, using(crate::proofs::PendingKept::prefix_stays_pending))]
 pub fn prefix_stays_pending()
     ensures { PrefixStaysPending }
 {}
