@@ -14,3 +14,5 @@ pub mod WalksKept
 pub mod AnswersInPlace
 pub mod OrderPlaces
 pub mod PendingKept
+pub mod Prefixes
+pub mod Chains

@@ -63,7 +63,7 @@ follows_rest n order before (group ∷ rest) (next ∷ later) (low, has, follows
 
 -- ---- their marks
 
-marks_inside : (n : RecordSet) (order : List Entry) (before : FileState) (groups : List Waiting) (later : List FileState) → FollowMarks n order before groups later → All (λ (g : Waiting). g.mark ≤ length order) groups
+pub marks_inside : (n : RecordSet) (order : List Entry) (before : FileState) (groups : List Waiting) (later : List FileState) → FollowMarks n order before groups later → All (λ (g : Waiting). g.mark ≤ length order) groups
 marks_inside n order before [] later follows = All-nil (λ (g : Waiting). g.mark ≤ length order)
 marks_inside n order before (group ∷ rest) [] follows = absurd follows
 marks_inside n order before (group ∷ rest) (next ∷ later) (low, has, follows) = All-cons (λ (g : Waiting). g.mark ≤ length order) group rest low (marks_inside n order next rest later follows)
@@ -71,7 +71,7 @@ marks_inside n order before (group ∷ rest) (next ∷ later) (low, has, follows
 abbrev pub IsBelow : Waiting → Waiting → Type 0
 IsBelow g h = g.mark ≤ h.mark
 
-rising_rest : (groups : List Waiting) → AllPairs IsBelow groups → AllPairs IsBelow (left_waiting groups)
+pub rising_rest : (groups : List Waiting) → AllPairs IsBelow groups → AllPairs IsBelow (left_waiting groups)
 rising_rest [] rising = rising
 rising_rest (first ∷ rest) rising = λ i j d less inside. rising (suc i) (suc j) d (omega (arith, less)) (omega (arith, inside))
 
@@ -87,7 +87,7 @@ later_mark : (groups : List Waiting) (now then : ℕ) → now ≤ then → mark_
 later_mark [] now then le = le
 later_mark (first ∷ rest) now then le = omega arith
 
-next_mark : (groups : List Waiting) (now : ℕ) → All (λ (g : Waiting). g.mark ≤ now) groups → AllPairs IsBelow groups → mark_of groups now ≤ mark_of (left_waiting groups) now
+pub next_mark : (groups : List Waiting) (now : ℕ) → All (λ (g : Waiting). g.mark ≤ now) groups → AllPairs IsBelow groups → mark_of groups now ≤ mark_of (left_waiting groups) now
 next_mark [] now low rising = omega arith
 next_mark (first ∷ []) now low rising = low 0 first (omega arith)
 next_mark (first ∷ second ∷ rest) now low rising = rising 0 1 first (omega arith) (omega arith)
@@ -227,7 +227,7 @@ module _ (n : RecordSet) (m : Machine) (files : Files) (actor : ℕ) (new : Mach
 
 -- ---- each step
 
-grown_by : (m new : Machine) → (new.order ≡ m.order) ⊎ ((entry : Entry) × (new.order ≡ m.order ++ entry ∷ [])) → (more : List Entry) × (new.order ≡ m.order ++ more)
+pub grown_by : (m new : Machine) → (new.order ≡ m.order) ⊎ ((entry : Entry) × (new.order ≡ m.order ++ entry ∷ [])) → (more : List Entry) × (new.order ≡ m.order ++ more)
 grown_by m new (inl same) = ([], same ∙ sym (append-nil m.order))
 grown_by m new (inr (entry, is)) = (entry ∷ [], is)
 

@@ -1,7 +1,7 @@
 //! What each step keeps of the walks, the room and the groups that wait, and what follows for a list
 //! of steps. Each law is the contract of a function that does nothing: a caller learns it by the call.
 
-ghost use Rattle.hb_core.specs.KeepingLaws.{AnswersAreInPlace, NobodyElseComes, PrefixStaysPending, WalksStayInSpace};
+ghost use Rattle.hb_core.specs.KeepingLaws.{AnswersAreInPlace, FilesHavePrefixes, NobodyElseComes, PrefixStaysPending, RoomStaysKnown, StepsGoOn, StepsKeepAll, WalksStayInSpace};
 
 /// Under no number but those of the 19 actors anybody comes to stand.
 #[tactic(auto, using(crate::proofs::StillThere::nobody_else_comes))]
@@ -26,4 +26,17 @@ pub fn answers_are_in_place()
 /// its mark says, marks don't fall, and each answered entry stands below the oldest one's.
 pub fn prefix_stays_pending()
     ensures { PrefixStaysPending }
+{}
+
+/// The durable file has the set after a prefix of the order that has each answered entry, and the file
+/// after each group that waits has the set after one that is at least as long.
+pub fn files_have_prefixes()
+    ensures { FilesHavePrefixes }
+{}
+
+/// Over a list of steps the lines stay, the order and the answers only grow, at their ends, and the clock
+/// never falls. Each answer that came has a value of the clock between the first and the last one.
+#[tactic(auto, using(crate::proofs::Chains::steps_go_on))]
+pub fn steps_go_on()
+    ensures { StepsGoOn }
 {}

@@ -1,0 +1,157 @@
+-- What a list of steps does, and what it keeps.
+use Rattle.std.proofs.Common.{◌≡◌, ◌≢◌, ◌⊎◌, inl, inr, ℕ, ◌+◌, ◌≤◌, List, [], ◌∷◌, ◌++◌, All, Option, Some, None, option_map, refl, sym, ap, ◌∙◌, subst, arith, append-nil, append_assoc}
+use Rattle.std.proofs.lemmas.List.Elements.{All-append, All-cons, All-head, All-nil, All-tail, All-weaker}
+use Rattle.hb_ops.specs.declared.operations.Op.{Op}
+use Rattle.hb_set.specs.Machine.{RecordSet}
+use Rattle.hb_set.specs.Order.{Entry}
+use Rattle.hb_set.specs.declared.commands.Reply.{Reply}
+use Rattle.hb_set.specs.declared.scripts.Answered.{Answered}
+use Rattle.hb_latch.specs.Tables.{MayLatch}
+use Rattle.hb_core.specs.declared.outcomes.Outcome.{Outcome}
+use Rattle.hb_core.specs.declared.outcomes.Outcome.TheVariants as outcomes
+use Rattle.hb_core.specs.Machines.{Files, Machine}
+use Rattle.hb_core.specs.Acting.{MeetsBadPage}
+use Rattle.hb_core.specs.Deeds.{Deed}
+use Rattle.hb_core.specs.Performing.{Performs, files_after, given_by, with_effect}
+use Rattle.hb_core.specs.Forcing.{ForcesFirst, StaysSo, forced_files}
+use Rattle.hb_core.specs.Steps.{StepsInTurn, StepsTo, Works}
+use Rattle.hb_store.specs.Keeps.{StoreState}
+use Rattle.hb_core.specs.Keeps.{CoreKeeps}
+use Rattle.hb_core.specs.KeepingLaws.{FileAndOrderStay, GoesOn, HasPrefixes, IsBetween, RoomStaysKnown, StepsGoOn, StepsKeepAll}
+use Rattle.hb_core.specs.Laws.{LatchesStayFit}
+use Rattle.hb_core.proofs.Moments.{answers_are_timed, clock_moves}
+use Rattle.hb_core.proofs.PendingKept.{grown_by, prefix_stays_pending}
+use Rattle.hb_core.proofs.Prefixes.{files_have_prefixes}
+use Rattle.hb_core.proofs.StepKinds.{each_kind}
+use Rattle.hb_core.proofs.StillThere.{nobody_else_comes}
+use Rattle.hb_core.proofs.WalksKept.{walks_stay_in_space}
+use Rattle.hb_core.proofs.Ways.{order_grows}
+
+-- ---- the lines, the order, the answers and the clock
+
+given_between : (outcome : Outcome) (first last : ℕ) → first ≤ last → All (IsBetween first last) (given_by outcome last)
+given_between (outcomes.Answered number reply) first last le = All-cons (IsBetween first last) _ [] (le, omega arith) (All-nil (IsBetween first last))
+given_between (outcomes.Stopped why) first last le = All-nil (IsBetween first last)
+given_between outcomes.Idle first last le = All-nil (IsBetween first last)
+given_between (outcomes.Blocked by) first last le = All-nil (IsBetween first last)
+given_between outcomes.Helped first last le = All-nil (IsBetween first last)
+given_between (outcomes.Dropped why) first last le = All-nil (IsBetween first last)
+given_between outcomes.Moved first last le = All-nil (IsBetween first last)
+
+never_back : (m : Machine) (actor : ℕ) (outcome : Outcome) (new : Machine) → StepsTo m actor outcome new → m.clock ≤ new.clock
+never_back m actor outcome new step = by (clock_moves m actor outcome new step)
+  where
+    by : (new.clock ≡ m.clock) ⊎ ((m.store.log.groups ≢ []) × (m.clock ≤ new.clock) × (new.clock ≤ m.clock + 4)) → m.clock ≤ new.clock
+    by (inl same) = omega (arith, same)
+    by (inr (waits, le, few)) = le
+
+one_step : (m : Machine) (actor : ℕ) (outcome : Outcome) (new : Machine) → StepsTo m actor outcome new → GoesOn m new
+one_step m actor outcome new step =
+    let grows = order_grows m actor outcome new step in
+    let more = grown_by m new grows.1 in
+    let clock = never_back m actor outcome new step in
+    record {
+      lines = grows.0;
+      entries = more.0;
+      order = more.1;
+      answers = given_by outcome new.clock;
+      answered = answers_are_timed m actor outcome new step;
+      clock = clock;
+      timed = given_between outcome m.clock new.clock clock;
+    }
+
+both_steps : (m next new : Machine) → GoesOn m next → GoesOn next new → GoesOn m new
+both_steps m next new first second =
+    let up = first.clock in
+    let further = second.clock in
+    record {
+      lines = second.lines ∙ first.lines;
+      entries = first.entries ++ second.entries;
+      order = second.order ∙ ap (λ (l : List Entry). l ++ second.entries) first.order ∙ append_assoc m.order first.entries second.entries;
+      answers = first.answers ++ second.answers;
+      answered = second.answered ∙ ap (λ (l : List Answered). l ++ second.answers) first.answered ∙ append_assoc m.answered first.answers second.answers;
+      clock = omega (arith, up, further);
+      timed = All-append (IsBetween m.clock new.clock) first.answers second.answers
+          (All-weaker (IsBetween m.clock next.clock) (IsBetween m.clock new.clock) (λ a between. let low = between.0 in let high = between.1 in (low, omega (arith, high, further))) first.answers first.timed)
+          (All-weaker (IsBetween next.clock new.clock) (IsBetween m.clock new.clock) (λ a between. let low = between.0 in let high = between.1 in (omega (arith, low, up), high)) second.answers second.timed);
+    }
+
+no_step : (m new : Machine) → new ≡ m → GoesOn m new
+no_step m new is =
+    let clock = ap (λ (x : Machine). x.clock) is in
+    record {
+      lines = ap (λ (x : Machine). x.lines) is;
+      entries = [];
+      order = ap (λ (x : Machine). x.order) is ∙ sym (append-nil m.order);
+      answers = [];
+      answered = ap (λ (x : Machine). x.answered) is ∙ sym (append-nil m.answered);
+      clock = omega (arith, clock);
+      timed = All-nil (IsBetween m.clock new.clock);
+    }
+
+pub steps_go_on : StepsGoOn
+steps_go_on [] m new is = no_step m new is
+steps_go_on (actor ∷ rest) m new (outcome, next, step, steps) = both_steps m next new (one_step m actor outcome next step) (steps_go_on rest next new steps)
+
+-- ---- a disk that tells goes on telling
+
+abbrev IsTold : Machine → Type 0
+IsTold new = (files : Files) × (new.files ≡ Some files)
+
+module _ (m : Machine) (files : Files) (told : m.files ≡ Some files) (actor : ℕ) (outcome : Outcome) (new : Machine) where
+  told_after : (op : Option Op) → new.files ≡ files_after op m.files → IsTold new
+  told_after None is = (files, is ∙ told)
+  told_after (Some op) is = (with_effect op files, is ∙ ap (option_map (with_effect op)) told)
+
+  told_stays : (said : Outcome) → StaysSo m said outcome new → IsTold new
+  told_stays said so = (files, ap (λ (x : Machine). x.files) so.1 ∙ told)
+
+  told_forced : (said : Outcome) → ForcesFirst m said outcome new → IsTold new
+  told_forced said (inl well) = (forced_files files, ap (λ (x : Machine). x.files) well.1 ∙ ap (option_map forced_files) told)
+  told_forced said (inr badly) = (files, ap (λ (x : Machine). x.files) badly.stops ∙ told)
+
+  told_works : Works m actor outcome new → IsTold new
+  told_works (inl (by, way, so)) = told_stays (outcomes.Blocked by) so
+  told_works (inr (inl (free, unready, inl (waits, force)))) = told_forced outcomes.Helped force
+  told_works (inr (inl (free, unready, inr (none, performs)))) = told_after _ performs.files
+  told_works (inr (inr (free, ready, inl acts))) = told_after _ acts.performs.files
+  told_works (inr (inr (free, ready, inr (inl gives)))) = told_after _ gives.performs.files
+  told_works (inr (inr (free, ready, inr (inr meets)))) = (files, ap (λ (x : Machine). x.files) meets.stops ∙ told)
+
+  still_told : StepsTo m actor outcome new → IsTold new
+  still_told step =
+      each_kind m actor outcome new (IsTold new)
+      (λ said quiet so. told_stays said so)
+      (λ said quiet force. told_forced said force)
+      (λ deed outright performs. told_after deed.op performs.files)
+      told_works
+      step
+
+-- ---- all that a machine keeps
+
+module _ (latches_stay : LatchesStayFit) (room_stays : RoomStaysKnown) (n : RecordSet) (file_stays : FileAndOrderStay n) where
+  kept_by_step : (m : Machine) (files : Files) (actor : ℕ) (outcome : Outcome) (new : Machine) (files' : Files) → MayLatch actor → CoreKeeps n m files → StepsTo m actor outcome new → new.files ≡ Some files' → CoreKeeps n new files'
+  kept_by_step m files actor outcome new files' may keeps step told =
+      let file = file_stays m files actor outcome new files' may keeps step told in
+      record {
+        told = told;
+        pages_of_file = file.pages_of_file;
+        sound_file = file.sound_file;
+        latches_fit = latches_stay m actor outcome new may keeps.latches_fit keeps.pages_of_file step;
+        nobody_else = nobody_else_comes m actor outcome new may keeps.nobody_else step;
+        walk_in_space = walks_stay_in_space m actor outcome new may keeps.latches_fit keeps.pages_of_file keeps.nobody_else keeps.walk_in_space step;
+        room_known = room_stays m files actor outcome new may keeps.told keeps.latches_fit keeps.pages_of_file keeps.sound_file keeps.nobody_else keeps.room_known step;
+        order_legal = file.order_legal;
+        pending_prefix = prefix_stays_pending n m files actor outcome new files' keeps.told told keeps.sound_file keeps.order_legal keeps.pending_prefix step file.order_legal.legal;
+      }
+
+  kept_in_turn : (actors : List ℕ) (m : Machine) (files : Files) (new : Machine) → All MayLatch actors → CoreKeeps n m files → StepsInTurn actors m new → (files' : Files) × CoreKeeps n new files' × HasPrefixes n new files'
+  kept_in_turn [] m files new may keeps is =
+      let now : CoreKeeps n new files = subst (λ (x : Machine). CoreKeeps n x files) (sym is) keeps in
+      (files, now, files_have_prefixes n new files now.sound_file now.order_legal now.pending_prefix)
+  kept_in_turn (actor ∷ rest) m files new may keeps (outcome, next, step, steps) =
+      let told = still_told m files keeps.told actor outcome next step in
+      kept_in_turn rest next told.0 new (All-tail MayLatch actor rest may) (kept_by_step m files actor outcome next told.0 (All-head MayLatch actor rest may) keeps step told.1) steps
+
+pub steps_keep_all : LatchesStayFit → RoomStaysKnown → StepsKeepAll
+steps_keep_all latches_stay room_stays n file_stays actors m files new may keeps steps = kept_in_turn latches_stay room_stays n file_stays actors m files new may keeps steps
