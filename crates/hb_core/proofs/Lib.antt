@@ -16,3 +16,7 @@ pub mod OrderPlaces
 pub mod PendingKept
 pub mod Prefixes
 pub mod Chains
+pub mod SplitWeights
+pub mod SplitHome
+pub mod SplitHalves
+pub mod RoomKept

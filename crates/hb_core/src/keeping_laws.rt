@@ -3,6 +3,14 @@
 
 ghost use Rattle.hb_core.specs.KeepingLaws.{AnswersAreInPlace, FilesHavePrefixes, NobodyElseComes, PrefixStaysPending, RoomStaysKnown, StepsGoOn, StepsKeepAll, WalksStayInSpace};
 
+use hb_frag::laws::{each_point_has_one_leaf, leaves_part_the_box, parts_are_stretches};
+use hb_layout::limits::limits_of_this_version;
+use hb_sound::laws::{
+    a_split_keeps_a_file_sound, each_page_has_a_box, operations_keep_a_file_sound,
+    what_stands_is_what_the_contents_have,
+};
+use hb_space::laws::held_is_a_point;
+
 /// Under no number but those of the 19 actors anybody comes to stand.
 #[tactic(auto, using(crate::proofs::StillThere::nobody_else_comes))]
 pub fn nobody_else_comes()
@@ -15,6 +23,23 @@ pub fn nobody_else_comes()
 pub fn walks_stay_in_space()
     ensures { WalksStayInSpace }
 {}
+
+/// After a step a page that is to be split directly holds the point of its insert, without a record there
+/// and without room, and one of the two halves of a split directly holds it, without a record there and
+/// with room.
+pub fn room_stays_known()
+    ensures { RoomStaysKnown }
+{
+    leaves_part_the_box();
+    each_point_has_one_leaf();
+    parts_are_stretches();
+    held_is_a_point();
+    a_split_keeps_a_file_sound();
+    operations_keep_a_file_sound();
+    what_stands_is_what_the_contents_have();
+    each_page_has_a_box();
+    limits_of_this_version();
+}
 
 /// A line is answered once its place in the order is settled, or outside of the order.
 #[tactic(auto, using(crate::proofs::AnswersInPlace::answers_are_in_place))]
