@@ -3,6 +3,7 @@
 
 ghost use Rattle.hb_core.specs.KeepingLaws.{AnswersAreInPlace, FilesHavePrefixes, NobodyElseComes, PrefixStaysPending, RoomStaysKnown, StepsGoOn, StepsKeepAll, WalksStayInSpace};
 
+use crate::laws::latches_stay_fit;
 use hb_frag::laws::{each_point_has_one_leaf, leaves_part_the_box, parts_are_stretches};
 use hb_layout::limits::limits_of_this_version;
 use hb_sound::laws::{
@@ -65,3 +66,12 @@ pub fn files_have_prefixes()
 pub fn steps_go_on()
     ensures { StepsGoOn }
 {}
+
+/// Where each step keeps the pages, the file and the order, a list of steps of the 19 actors keeps all that
+/// a machine keeps over a disk that tells.
+pub fn steps_keep_all()
+    ensures { StepsKeepAll }
+{
+    latches_stay_fit();
+    room_stays_known();
+}
