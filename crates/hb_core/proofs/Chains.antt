@@ -7,23 +7,26 @@ use Rattle.hb_set.specs.Order.{Entry}
 use Rattle.hb_set.specs.declared.commands.Reply.{Reply}
 use Rattle.hb_set.specs.declared.scripts.Answered.{Answered}
 use Rattle.hb_latch.specs.Tables.{MayLatch}
+use Rattle.hb_store.specs.declared.stops.StopWhy.{StopWhy}
+use Rattle.std.specs.Prelude.{MatchOption}
 use Rattle.hb_core.specs.declared.outcomes.Outcome.{Outcome}
 use Rattle.hb_core.specs.declared.outcomes.Outcome.TheVariants as outcomes
-use Rattle.hb_core.specs.Machines.{Files, Machine}
+use Rattle.hb_core.specs.Machines.{Files, Machine, settled_count}
 use Rattle.hb_core.specs.Acting.{MeetsBadPage}
 use Rattle.hb_core.specs.Deeds.{Deed}
 use Rattle.hb_core.specs.Performing.{Performs, files_after, given_by, with_effect}
 use Rattle.hb_core.specs.Forcing.{ForcesFirst, StaysSo, forced_files}
-use Rattle.hb_core.specs.Steps.{StepsInTurn, StepsTo, Works}
+use Rattle.hb_core.specs.Steps.{StepsAs, StepsInTurn, StepsTo}
 use Rattle.hb_store.specs.Keeps.{StoreState}
 use Rattle.hb_core.specs.Keeps.{CoreKeeps}
-use Rattle.hb_core.specs.KeepingLaws.{FileAndOrderStay, GoesOn, HasPrefixes, IsBetween, RoomStaysKnown, StepsGoOn, StepsKeepAll}
+use Rattle.hb_core.specs.KeepingLaws.{FileAndOrderStay, GoesOn, HasKeptAll, IsBetween, RoomStaysKnown, StepsGoOn, StepsKeepAll, StoppedStays}
 use Rattle.hb_core.specs.Laws.{LatchesStayFit}
 use Rattle.hb_core.proofs.Moments.{answers_are_timed, clock_moves}
-use Rattle.hb_core.proofs.PendingKept.{grown_by, prefix_stays_pending}
+use Rattle.hb_core.proofs.PendingKept.{grown_by, prefix_stays_pending, settled_stays_settled}
 use Rattle.hb_core.proofs.Prefixes.{files_have_prefixes}
 use Rattle.hb_core.proofs.StepKinds.{each_kind}
 use Rattle.hb_core.proofs.StillThere.{nobody_else_comes}
+use Rattle.hb_core.proofs.ToldStays.{still_told}
 use Rattle.hb_core.proofs.WalksKept.{walks_stay_in_space}
 use Rattle.hb_core.proofs.Ways.{order_grows}
 
@@ -93,40 +96,6 @@ pub steps_go_on : StepsGoOn
 steps_go_on [] m new is = no_step m new is
 steps_go_on (actor ∷ rest) m new (outcome, next, step, steps) = both_steps m next new (one_step m actor outcome next step) (steps_go_on rest next new steps)
 
--- ---- a disk that tells goes on telling
-
-abbrev IsTold : Machine → Type 0
-IsTold new = (files : Files) × (new.files ≡ Some files)
-
-module _ (m : Machine) (files : Files) (told : m.files ≡ Some files) (actor : ℕ) (outcome : Outcome) (new : Machine) where
-  told_after : (op : Option Op) → new.files ≡ files_after op m.files → IsTold new
-  told_after None is = (files, is ∙ told)
-  told_after (Some op) is = (with_effect op files, is ∙ ap (option_map (with_effect op)) told)
-
-  told_stays : (said : Outcome) → StaysSo m said outcome new → IsTold new
-  told_stays said so = (files, ap (λ (x : Machine). x.files) so.1 ∙ told)
-
-  told_forced : (said : Outcome) → ForcesFirst m said outcome new → IsTold new
-  told_forced said (inl well) = (forced_files files, ap (λ (x : Machine). x.files) well.1 ∙ ap (option_map forced_files) told)
-  told_forced said (inr badly) = (files, ap (λ (x : Machine). x.files) badly.stops ∙ told)
-
-  told_works : Works m actor outcome new → IsTold new
-  told_works (inl (by, way, so)) = told_stays (outcomes.Blocked by) so
-  told_works (inr (inl (free, unready, inl (waits, force)))) = told_forced outcomes.Helped force
-  told_works (inr (inl (free, unready, inr (none, performs)))) = told_after _ performs.files
-  told_works (inr (inr (free, ready, inl acts))) = told_after _ acts.performs.files
-  told_works (inr (inr (free, ready, inr (inl gives)))) = told_after _ gives.performs.files
-  told_works (inr (inr (free, ready, inr (inr meets)))) = (files, ap (λ (x : Machine). x.files) meets.stops ∙ told)
-
-  still_told : StepsTo m actor outcome new → IsTold new
-  still_told step =
-      each_kind m actor outcome new (IsTold new)
-      (λ said quiet so. told_stays said so)
-      (λ said quiet force. told_forced said force)
-      (λ deed outright performs. told_after deed.op performs.files)
-      told_works
-      step
-
 -- ---- all that a machine keeps
 
 module _ (latches_stay : LatchesStayFit) (room_stays : RoomStaysKnown) (n : RecordSet) (file_stays : FileAndOrderStay n) where
@@ -145,13 +114,29 @@ module _ (latches_stay : LatchesStayFit) (room_stays : RoomStaysKnown) (n : Reco
         pending_prefix = prefix_stays_pending n m files actor outcome new files' keeps.told told keeps.sound_file keeps.order_legal keeps.pending_prefix step file.order_legal.legal;
       }
 
-  kept_in_turn : (actors : List ℕ) (m : Machine) (files : Files) (new : Machine) → All MayLatch actors → CoreKeeps n m files → StepsInTurn actors m new → (files' : Files) × CoreKeeps n new files' × HasPrefixes n new files'
+  kept_in_turn : (actors : List ℕ) (m : Machine) (files : Files) (new : Machine) → All MayLatch actors → CoreKeeps n m files → StepsInTurn actors m new → (files' : Files) × HasKeptAll n m new files'
   kept_in_turn [] m files new may keeps is =
       let now : CoreKeeps n new files = subst (λ (x : Machine). CoreKeeps n x files) (sym is) keeps in
-      (files, now, files_have_prefixes n new files now.sound_file now.order_legal now.pending_prefix)
+      let same = ap settled_count is in
+      (files, record { keeps = now; prefixes = files_have_prefixes n new files now.sound_file now.order_legal now.pending_prefix; settled = omega (arith, same) })
   kept_in_turn (actor ∷ rest) m files new may keeps (outcome, next, step, steps) =
       let told = still_told m files keeps.told actor outcome next step in
-      kept_in_turn rest next told.0 new (All-tail MayLatch actor rest may) (kept_by_step m files actor outcome next told.0 (All-head MayLatch actor rest may) keeps step told.1) steps
+      let kept = kept_in_turn rest next told.0 new (All-tail MayLatch actor rest may) (kept_by_step m files actor outcome next told.0 (All-head MayLatch actor rest may) keeps step told.1) steps in
+      let rises = settled_stays_settled n m files actor outcome next keeps.told keeps.sound_file keeps.order_legal keeps.pending_prefix step in
+      let further = kept.1.settled in
+      (kept.0, record { keeps = kept.1.keeps; prefixes = kept.1.prefixes; settled = omega (arith, rises, further) })
 
 pub steps_keep_all : LatchesStayFit → RoomStaysKnown → StepsKeepAll
 steps_keep_all latches_stay room_stays n file_stays actors m files new may keeps steps = kept_in_turn latches_stay room_stays n file_stays actors m files new may keeps steps
+
+-- ---- a machine that is stopped
+
+stopped_step : (m : Machine) (actor : ℕ) (outcome : Outcome) (new : Machine) (why : StopWhy) → m.stop ≡ Some why → StepsTo m actor outcome new → new ≡ m
+stopped_step m actor outcome new why is step =
+    (subst (λ (o : Option StopWhy). MatchOption o (StepsAs (m.activity actor) m actor outcome new) (λ why. StaysSo m (outcomes.Stopped why) outcome new)) is step).1
+
+pub stopped_stays : StoppedStays
+stopped_stays [] m new why is same = same
+stopped_stays (actor ∷ rest) m new why is (outcome, next, step, steps) =
+    let same = stopped_step m actor outcome next why is step in
+    stopped_stays rest next new why (ap (λ (x : Machine). x.stop) same ∙ is) steps ∙ same

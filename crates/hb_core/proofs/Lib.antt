@@ -13,6 +13,7 @@ pub mod StillThere
 pub mod WalksKept
 pub mod AnswersInPlace
 pub mod OrderPlaces
+pub mod ToldStays
 pub mod PendingKept
 pub mod Prefixes
 pub mod Chains

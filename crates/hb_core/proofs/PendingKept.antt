@@ -27,11 +27,12 @@ use Rattle.hb_core.specs.Forcing.{ForcesFirst, StaysSo, forced_files}
 use Rattle.hb_core.specs.Steps.{StepsTo, Works}
 use Rattle.hb_core.specs.Keeps.{HasSoundFile}
 use Rattle.hb_core.specs.KeptOrder.{FollowMarks, HasLegalOrder, HasPendingPrefix, StandsInOrder, StandsOutside}
-use Rattle.hb_core.specs.KeepingLaws.{IsAnsweredInPlace, PrefixStaysPending}
+use Rattle.hb_core.specs.KeepingLaws.{IsAnsweredInPlace, PrefixStaysPending, SettledStaysSettled}
 use Rattle.hb_core.proofs.AnswersInPlace.{answers_are_in_place}
 use Rattle.hb_core.proofs.Moments.{answers_are_timed}
 use Rattle.hb_core.proofs.OrderPlaces.{no_place, one_place, stands_longer}
 use Rattle.hb_core.proofs.StepKinds.{each_kind}
+use Rattle.hb_core.proofs.ToldStays.{still_told}
 use Rattle.hb_core.proofs.Ways.{order_grows}
 
 -- ---- groups and the files before them
@@ -240,3 +241,9 @@ prefix_stays_pending n m files actor outcome new files' told told' sound legal p
       rising = marks.rising;
       settled = answers_settled n m files actor new more.0 legal pending legal_now more.1 marks.rises outcome (answers_are_in_place m actor outcome new step) (answers_are_timed m actor outcome new step);
     }
+
+-- and no place is unsettled
+pub settled_stays_settled : SettledStaysSettled
+settled_stays_settled n m files actor outcome new told sound legal pending step =
+    let told_after = still_told m files told actor outcome new step in
+    (keeps_marks n m files new told_after.0 told told_after.1 sound legal pending actor outcome step).rises

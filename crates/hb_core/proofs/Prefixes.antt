@@ -1,5 +1,5 @@
 -- The durable file has the set after a prefix of the order that has each answered entry, and those that wait after longer ones.
-use Rattle.std.proofs.Common.{◌≡◌, ℕ, ◌<◌, ◌≤◌, List, [], ◌∷◌, length, take, get_or, All, AllPairs, refl, sym, ap, ◌∙◌, subst, arith}
+use Rattle.std.proofs.Common.{◌≡◌, ◌⊎◌, inl, inr, ℕ, ◌<◌, ◌≤◌, List, [], ◌∷◌, length, take, get_or, All, AllPairs, refl, sym, ap, ◌∙◌, subst, arith}
 use Rattle.std.proofs.lemmas.List.{take_all}
 use Rattle.std.proofs.lemmas.List.Elements.{All-cons, All-nil, All-weaker}
 use Rattle.hb_wal.specs.Log.{Waiting, mark_of}
@@ -9,8 +9,8 @@ use Rattle.hb_set.specs.Order.{Entry, result_of}
 use Rattle.hb_set.specs.declared.scripts.Answered.{Answered}
 use Rattle.hb_store.specs.Keeps.{last_of}
 use Rattle.hb_core.specs.Machines.{Machine, settled_count}
-use Rattle.hb_core.specs.KeptOrder.{FollowMarks, StandsInOrder}
-use Rattle.hb_core.specs.KeepingLaws.{FilesHavePrefixes, HasSetAfter, IsAfterLonger}
+use Rattle.hb_core.specs.KeptOrder.{FollowMarks, StandsInOrder, StandsOutside}
+use Rattle.hb_core.specs.KeepingLaws.{FilesHavePrefixes, HasSetAfter, IsAfterLonger, IsAmongFirst}
 use Rattle.hb_core.proofs.PendingKept.{IsBelow, marks_inside, next_mark, rising_rest}
 
 -- a file has the set after so many entries
@@ -49,13 +49,21 @@ files_have_prefixes n m files sound legal pending =
     let first = first_file n m.order (settled_count m) files.durable m.store.log.groups files.later pending.marks sound.each legal.result (omega arith) in
     let rest = later_files n m.order (settled_count m) files.durable m.store.log.groups files.later pending.marks pending.rising sound.each legal.result (omega arith) in
     record {
-      durable = record { inside = first.inside; contents = first.contents; answered = pending.settled };
+      durable = record { inside = first.inside; contents = first.contents; answered = λ k d lt. among (get_or m.answered k d) (legal.answers k d lt) (pending.settled k d lt) };
       later = All-weaker (HasSome n m.order (settled_count m)) (IsAfterLonger n m) (λ s. longer s) files.later rest;
     }
   where
+    among : (a : Answered) → StandsOutside a.reply ⊎ ((place : ℕ) × StandsInOrder m a.line a.reply place) → ((place : ℕ) → StandsInOrder m a.line a.reply place → place < settled_count m) → IsAmongFirst m (settled_count m) a
+    among a (inl outside) settled = inl outside
+    among a (inr (place, stands)) settled = inr (place, settled place stands, stands)
+
+    further : (count : ℕ) → settled_count m ≤ count → (a : Answered) → IsAmongFirst m (settled_count m) a → IsAmongFirst m count a
+    further count above a (inl outside) = inl outside
+    further count above a (inr (place, less, stands)) = inr (place, omega (arith, less, above), stands)
+
     longer : (s : FileState) → HasSome n m.order (settled_count m) s → IsAfterLonger n m s
     longer s (count, has) = (count, has.above, record {
       inside = has.inside;
       contents = has.contents;
-      answered = λ k d lt place stands. let less = pending.settled k d lt place stands in let above = has.above in omega (arith, less, above);
+      answered = λ k d lt. further count has.above (get_or m.answered k d) (among (get_or m.answered k d) (legal.answers k d lt) (pending.settled k d lt));
     })

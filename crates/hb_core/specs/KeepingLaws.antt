@@ -6,6 +6,7 @@ use Rattle.hb_set.specs.Order.{Entry, IsLegalOrder, result_of}
 use Rattle.hb_set.specs.declared.scripts.Answered.{Answered}
 use Rattle.hb_latch.specs.Tables.{MayLatch}
 use Rattle.hb_activity.specs.declared.activities.Activity.TheVariants as at
+use Rattle.hb_store.specs.declared.stops.StopWhy.{StopWhy}
 use Rattle.hb_core.specs.declared.outcomes.Outcome.{Outcome}
 use Rattle.hb_core.specs.declared.outcomes.Outcome.TheVariants as outcomes
 use Rattle.hb_core.specs.Machines.{Files, Machine, settled_count}
@@ -37,17 +38,26 @@ IsAnsweredInPlace m actor other = Unit {0}
 abbrev pub AnswersAreInPlace : Type 0
 AnswersAreInPlace = (m : Machine) (actor : ℕ) (outcome : Outcome) (new : Machine) → StepsTo m actor outcome new → IsAnsweredInPlace m actor outcome
 
+-- No step unsettles a place of the order.
+abbrev pub SettledStaysSettled : Type 0
+SettledStaysSettled = (n : RecordSet) (m : Machine) (files : Files) (actor : ℕ) (outcome : Outcome) (new : Machine) → m.files ≡ Some files → HasSoundFile m files → HasLegalOrder n m files → HasPendingPrefix n m files →
+    StepsTo m actor outcome new → settled_count m ≤ settled_count new
+
 -- After a step the file before each group that waits has the set after as many entries of the order as its mark says, marks
 -- don't fall, and each answered entry stands below the oldest one's, where the order is legal before and after the step.
 abbrev pub PrefixStaysPending : Type 0
 PrefixStaysPending = (n : RecordSet) (m : Machine) (files : Files) (actor : ℕ) (outcome : Outcome) (new : Machine) (files' : Files) → m.files ≡ Some files → new.files ≡ Some files' → HasSoundFile m files →
     HasLegalOrder n m files → HasPendingPrefix n m files → StepsTo m actor outcome new → IsLegalOrder n new.order → HasPendingPrefix n new files'
 
--- A file has the set after the first entries of the order, as many as this number, and each answered entry is one of them.
+-- A file has the set after the first entries of the order, as many as this number; and each line that was answered is one of
+-- them, with its reply, or was answered outside of the order.
+abbrev pub IsAmongFirst : Machine → ℕ → Answered → Type 0
+IsAmongFirst m count a = StandsOutside a.reply ⊎ ((place : ℕ) × (place < count) × StandsInOrder m a.line a.reply place)
+
 pub record HasSetAfter (n : RecordSet) (m : Machine) (s : FileState) (count : ℕ) : Type 0 where
   pub inside : count ≤ length m.order
   pub contents : contents_of s ≡ result_of n (take count m.order)
-  pub answered : All (λ (a : Answered). (place : ℕ) → StandsInOrder m a.line a.reply place → place < count) m.answered
+  pub answered : All (IsAmongFirst m count) m.answered
 
 -- So the durable file has the set after a prefix of the order that has each entry answered by then, and the file after each
 -- group that waits has the set after one that is at least as long.
@@ -87,7 +97,17 @@ pub record KeepsFileAndOrder (n : RecordSet) (new : Machine) (files : Files) : T
 abbrev pub FileAndOrderStay : RecordSet → Type 0
 FileAndOrderStay n = (m : Machine) (files : Files) (actor : ℕ) (outcome : Outcome) (new : Machine) (files' : Files) → MayLatch actor → CoreKeeps n m files → StepsTo m actor outcome new → new.files ≡ Some files' → KeepsFileAndOrder n new files'
 
--- Where each step does, a list of steps of the 19 actors keeps all that a machine keeps over a disk that tells.
+-- Where each step does, a list of steps of the 19 actors keeps all that a machine keeps over a disk that tells, and unsettles
+-- no place of the order.
+pub record HasKeptAll (n : RecordSet) (m new : Machine) (files : Files) : Type 0 where
+  pub keeps : CoreKeeps n new files
+  pub prefixes : HasPrefixes n new files
+  pub settled : settled_count m ≤ settled_count new
+
 abbrev pub StepsKeepAll : Type 0
 StepsKeepAll = (n : RecordSet) → FileAndOrderStay n → (actors : List ℕ) (m : Machine) (files : Files) (new : Machine) → All MayLatch actors → CoreKeeps n m files → StepsInTurn actors m new →
-    (files' : Files) × CoreKeeps n new files' × HasPrefixes n new files'
+    (files' : Files) × HasKeptAll n m new files'
+
+-- A machine that is stopped stays as it is.
+abbrev pub StoppedStays : Type 0
+StoppedStays = (actors : List ℕ) (m new : Machine) (why : StopWhy) → m.stop ≡ Some why → StepsInTurn actors m new → new ≡ m

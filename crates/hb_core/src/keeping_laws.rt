@@ -1,7 +1,7 @@
 //! What each step keeps of the walks, the room and the groups that wait, and what follows for a list
 //! of steps. Each law is the contract of a function that does nothing: a caller learns it by the call.
 
-ghost use Rattle.hb_core.specs.KeepingLaws.{AnswersAreInPlace, FilesHavePrefixes, NobodyElseComes, PrefixStaysPending, RoomStaysKnown, StepsGoOn, StepsKeepAll, WalksStayInSpace};
+ghost use Rattle.hb_core.specs.KeepingLaws.{AnswersAreInPlace, FilesHavePrefixes, NobodyElseComes, PrefixStaysPending, RoomStaysKnown, SettledStaysSettled, StepsGoOn, StepsKeepAll, StoppedStays, WalksStayInSpace};
 
 use crate::laws::latches_stay_fit;
 use hb_frag::laws::{each_point_has_one_leaf, leaves_part_the_box, parts_are_stretches};
@@ -49,9 +49,11 @@ pub fn answers_are_in_place()
 {}
 
 /// After a step the file before each group that waits has the set after as many entries of the order as
-/// its mark says, marks don't fall, and each answered entry stands below the oldest one's.
+/// its mark says, marks don't fall, and each answered entry stands below the oldest one's. No step
+/// unsettles a place of the order.
 pub fn prefix_stays_pending()
-    ensures { PrefixStaysPending }
+    ensures prefix { PrefixStaysPending }
+    ensures settled { SettledStaysSettled }
 {}
 
 /// The durable file has the set after a prefix of the order that has each answered entry, and the file
@@ -61,14 +63,15 @@ pub fn files_have_prefixes()
 {}
 
 /// Over a list of steps the lines stay, the order and the answers only grow, at their ends, and the clock
-/// never falls. Each answer that came has a value of the clock between the first and the last one.
-#[tactic(auto, using(crate::proofs::Chains::steps_go_on))]
+/// never falls. Each answer that came has a value of the clock between the first and the last one. A machine
+/// that is stopped stays as it is.
 pub fn steps_go_on()
-    ensures { StepsGoOn }
+    ensures further { StepsGoOn }
+    ensures stopped { StoppedStays }
 {}
 
 /// Where each step keeps the pages, the file and the order, a list of steps of the 19 actors keeps all that
-/// a machine keeps over a disk that tells.
+/// a machine keeps over a disk that tells, and unsettles no place of the order.
 pub fn steps_keep_all()
     ensures { StepsKeepAll }
 {
