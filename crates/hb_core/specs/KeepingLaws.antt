@@ -1,5 +1,5 @@
 -- What each step keeps of the walks, the room and the groups that wait, and what follows for a list of steps, as laws.
-use Rattle.std.specs.Prelude.{◌≡◌, ◌⊎◌, ℕ, ◌<◌, ◌≤◌, List, ◌++◌, length, take, All, Some}
+use Rattle.std.specs.Prelude.{◌≡◌, ◌⊎◌, ℕ, ◌<◌, ◌≤◌, List, [], ◌∷◌, ◌++◌, length, take, All, Some}
 use Rattle.hb_ops.specs.Files.{FileState, contents_of}
 use Rattle.hb_set.specs.Machine.{RecordSet}
 use Rattle.hb_set.specs.Order.{Entry, IsLegalOrder, result_of}
@@ -88,25 +88,28 @@ pub record GoesOn (m new : Machine) : Type 0 where
 abbrev pub StepsGoOn : Type 0
 StepsGoOn = (actors : List ℕ) (m new : Machine) → StepsInTurn actors m new → GoesOn m new
 
--- What each step keeps of the pages, the file and the order.
+-- The pages, the file and the order of a machine over a disk that tells are as they should be.
 pub record KeepsFileAndOrder (n : RecordSet) (new : Machine) (files : Files) : Type 0 where
   pub pages_of_file : HoldsPagesOfFile new
   pub sound_file : HasSoundFile new files
   pub order_legal : HasLegalOrder n new files
 
-abbrev pub FileAndOrderStay : RecordSet → Type 0
-FileAndOrderStay n = (m : Machine) (files : Files) (actor : ℕ) (outcome : Outcome) (new : Machine) (files' : Files) → MayLatch actor → CoreKeeps n m files → StepsTo m actor outcome new → new.files ≡ Some files' → KeepsFileAndOrder n new files'
+abbrev pub HasFileAndOrder : RecordSet → Machine → Type 0
+HasFileAndOrder n m = (files : Files) → m.files ≡ Some files → KeepsFileAndOrder n m files
 
--- Where each step does, a list of steps of the 19 actors keeps all that a machine keeps over a disk that tells, and unsettles
--- no place of the order.
+-- Steps of these actors in turn, where each machine to which one leads is like that.
+abbrev pub StepsInOrder : RecordSet → List ℕ → Machine → Machine → Type 0
+StepsInOrder n [] m new = new ≡ m
+StepsInOrder n (actor ∷ rest) m new = (outcome : Outcome) × (next : Machine) × StepsTo m actor outcome next × HasFileAndOrder n next × StepsInOrder n rest next new
+
+-- Such steps of the 19 actors keep all that a machine keeps over a disk that tells, and unsettle no place of the order.
 pub record HasKeptAll (n : RecordSet) (m new : Machine) (files : Files) : Type 0 where
   pub keeps : CoreKeeps n new files
   pub prefixes : HasPrefixes n new files
   pub settled : settled_count m ≤ settled_count new
 
 abbrev pub StepsKeepAll : Type 0
-StepsKeepAll = (n : RecordSet) → FileAndOrderStay n → (actors : List ℕ) (m : Machine) (files : Files) (new : Machine) → All MayLatch actors → CoreKeeps n m files → StepsInTurn actors m new →
-    (files' : Files) × HasKeptAll n m new files'
+StepsKeepAll = (n : RecordSet) (actors : List ℕ) (m : Machine) (files : Files) (new : Machine) → All MayLatch actors → CoreKeeps n m files → StepsInOrder n actors m new → (files' : Files) × HasKeptAll n m new files'
 
 -- A machine that is stopped stays as it is.
 abbrev pub StoppedStays : Type 0

@@ -70,8 +70,8 @@ pub fn steps_go_on()
     ensures stopped { StoppedStays }
 {}
 
-/// Where each step keeps the pages, the file and the order, a list of steps of the 19 actors keeps all that
-/// a machine keeps over a disk that tells, and unsettles no place of the order.
+/// A list of steps of the 19 actors keeps all that a machine keeps over a disk that tells, and unsettles no
+/// place of the order, where the pages, the file and the order are as they should be after each step.
 pub fn steps_keep_all()
     ensures { StepsKeepAll }
 {
