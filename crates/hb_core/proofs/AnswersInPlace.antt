@@ -1,5 +1,5 @@
 -- A line is answered once its place in the order is settled, or outside of the order.
-use Rattle.std.proofs.Common.{◌≡◌, ◌⊎◌, inl, inr, ℕ, List, [], ◌∷◌, Option, Some, None, refl, sym, ap, ◌∙◌, subst}
+use Rattle.std.proofs.Common.{◌≡◌, ◌⊎◌, inl, inr, ℕ, List, [], ◌∷◌, Option, Some, None, refl, sym, subst}
 use Rattle.std.specs.Prelude.{MatchOption}
 use Rattle.hb_space.specs.Boxes.{Area}
 use Rattle.hb_space.specs.declared.records.Record.{Record}
@@ -22,7 +22,6 @@ use Rattle.hb_core.specs.declared.outcomes.DropWhy.TheVariants as drops
 use Rattle.hb_core.specs.declared.outcomes.Outcome.{Outcome}
 use Rattle.hb_core.specs.declared.outcomes.Outcome.TheVariants as outcomes
 use Rattle.hb_core.specs.Machines.{Machine}
-use Rattle.hb_core.specs.Acting.{MeetsBadPage}
 use Rattle.hb_core.specs.Deeds.{Deed, answers_now}
 use Rattle.hb_core.specs.Performing.{Performs}
 use Rattle.hb_core.specs.Forcing.{ForcesFirst, StaysSo}
@@ -33,7 +32,7 @@ use Rattle.hb_core.specs.WorkerRows.{DoesPlan, after_look}
 use Rattle.hb_core.specs.Rows.{Row, RowAlone, RowAt}
 use Rattle.hb_core.specs.KeptOrder.{StandsOutside}
 use Rattle.hb_core.specs.KeepingLaws.{AnswersAreInPlace, IsAnsweredInPlace}
-use Rattle.hb_core.specs.Steps.{AwaitsPlace, StepsAs, StepsTo, TakesPosting, WantsBoxes, Works}
+use Rattle.hb_core.specs.Steps.{AwaitsPlace, StepsAs, TakesPosting, WantsBoxes, Works}
 
 -- what is given up is answered outside of the order
 reply_outside : (why : DropWhy) → StandsOutside (reply_for why)

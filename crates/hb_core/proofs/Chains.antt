@@ -1,10 +1,8 @@
 -- What a list of steps does, and what it keeps.
-use Rattle.std.proofs.Common.{◌≡◌, ◌≢◌, ◌⊎◌, inl, inr, ℕ, ◌+◌, ◌≤◌, List, [], ◌∷◌, ◌++◌, All, Option, Some, None, option_map, refl, sym, ap, ◌∙◌, subst, arith, append-nil, append_assoc}
+use Rattle.std.proofs.Common.{◌≡◌, ◌≢◌, ◌⊎◌, inl, inr, ℕ, ◌+◌, ◌≤◌, List, [], ◌∷◌, ◌++◌, All, Option, Some, sym, ap, ◌∙◌, subst, arith, append-nil, append_assoc}
 use Rattle.std.proofs.lemmas.List.Elements.{All-append, All-cons, All-head, All-nil, All-tail, All-weaker}
-use Rattle.hb_ops.specs.declared.operations.Op.{Op}
 use Rattle.hb_set.specs.Machine.{RecordSet}
 use Rattle.hb_set.specs.Order.{Entry}
-use Rattle.hb_set.specs.declared.commands.Reply.{Reply}
 use Rattle.hb_set.specs.declared.scripts.Answered.{Answered}
 use Rattle.hb_latch.specs.Tables.{MayLatch}
 use Rattle.hb_store.specs.declared.stops.StopWhy.{StopWhy}
@@ -12,19 +10,15 @@ use Rattle.std.specs.Prelude.{MatchOption}
 use Rattle.hb_core.specs.declared.outcomes.Outcome.{Outcome}
 use Rattle.hb_core.specs.declared.outcomes.Outcome.TheVariants as outcomes
 use Rattle.hb_core.specs.Machines.{Files, Machine, settled_count}
-use Rattle.hb_core.specs.Acting.{MeetsBadPage}
-use Rattle.hb_core.specs.Deeds.{Deed}
-use Rattle.hb_core.specs.Performing.{Performs, files_after, given_by, with_effect}
-use Rattle.hb_core.specs.Forcing.{ForcesFirst, StaysSo, forced_files}
-use Rattle.hb_core.specs.Steps.{StepsAs, StepsInTurn, StepsTo}
-use Rattle.hb_store.specs.Keeps.{StoreState}
+use Rattle.hb_core.specs.Performing.{given_by}
+use Rattle.hb_core.specs.Forcing.{StaysSo}
+use Rattle.hb_core.specs.Steps.{StepsAs, StepsTo}
 use Rattle.hb_core.specs.Keeps.{CoreKeeps}
-use Rattle.hb_core.specs.KeepingLaws.{GoesOn, HasKeptAll, IsBetween, KeepsFileAndOrder, RoomStaysKnown, StepsGoOn, StepsInOrder, StepsKeepAll, StoppedStays}
+use Rattle.hb_core.specs.KeepingLaws.{HasGoneOn, HasKeptAll, IsBetween, KeepsFileAndOrder, RoomStaysKnown, StepsGoOn, StepsInOrder, StepsKeepAll, StoppedStays}
 use Rattle.hb_core.specs.Laws.{LatchesStayFit}
 use Rattle.hb_core.proofs.Moments.{answers_are_timed, clock_moves}
 use Rattle.hb_core.proofs.PendingKept.{grown_by, prefix_stays_pending, settled_stays_settled}
 use Rattle.hb_core.proofs.Prefixes.{files_have_prefixes}
-use Rattle.hb_core.proofs.StepKinds.{each_kind}
 use Rattle.hb_core.proofs.StillThere.{nobody_else_comes}
 use Rattle.hb_core.proofs.ToldStays.{still_told}
 use Rattle.hb_core.proofs.WalksKept.{walks_stay_in_space}
@@ -48,7 +42,7 @@ never_back m actor outcome new step = by (clock_moves m actor outcome new step)
     by (inl same) = omega (arith, same)
     by (inr (waits, le, few)) = le
 
-one_step : (m : Machine) (actor : ℕ) (outcome : Outcome) (new : Machine) → StepsTo m actor outcome new → GoesOn m new
+one_step : (m : Machine) (actor : ℕ) (outcome : Outcome) (new : Machine) → StepsTo m actor outcome new → HasGoneOn m new
 one_step m actor outcome new step =
     let grows = order_grows m actor outcome new step in
     let more = grown_by m new grows.1 in
@@ -63,7 +57,7 @@ one_step m actor outcome new step =
       timed = given_between outcome m.clock new.clock clock;
     }
 
-both_steps : (m next new : Machine) → GoesOn m next → GoesOn next new → GoesOn m new
+both_steps : (m next new : Machine) → HasGoneOn m next → HasGoneOn next new → HasGoneOn m new
 both_steps m next new first second =
     let up = first.clock in
     let further = second.clock in
@@ -79,7 +73,7 @@ both_steps m next new first second =
           (All-weaker (IsBetween next.clock new.clock) (IsBetween m.clock new.clock) (λ a between. let low = between.0 in let high = between.1 in (omega (arith, low, up), high)) second.answers second.timed);
     }
 
-no_step : (m new : Machine) → new ≡ m → GoesOn m new
+no_step : (m new : Machine) → new ≡ m → HasGoneOn m new
 no_step m new is =
     let clock = ap (λ (x : Machine). x.clock) is in
     record {

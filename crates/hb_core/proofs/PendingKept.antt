@@ -15,13 +15,11 @@ use Rattle.hb_store.specs.Calls.{durable_after, later_after}
 use Rattle.hb_log_codec.specs.Groups.{group_bytes}
 use Rattle.hb_store.specs.Images.{group_here}
 use Rattle.hb_store.specs.Keeps.{StoreState, last_of}
-use Rattle.hb_core.specs.declared.outcomes.DropWhy.{DropWhy}
 use Rattle.hb_core.specs.declared.outcomes.Outcome.{Outcome}
 use Rattle.hb_core.specs.declared.outcomes.Outcome.TheVariants as outcomes
 use Rattle.hb_core.specs.Machines.{Files, Machine, current_file, if_some, settled_count}
 use Rattle.hb_core.specs.Acting.{MeetsBadPage}
 use Rattle.hb_core.specs.Deeds.{Deed}
-use Rattle.hb_core.specs.Fetching.{Brings}
 use Rattle.hb_core.specs.Performing.{MayDo, Performs, files_after, given_by, with_effect}
 use Rattle.hb_core.specs.Forcing.{ForcesFirst, StaysSo, forced_files}
 use Rattle.hb_core.specs.Steps.{StepsTo, Works}

@@ -1,5 +1,5 @@
 -- The durable file has the set after a prefix of the order that has each answered entry, and those that wait after longer ones.
-use Rattle.std.proofs.Common.{◌≡◌, ◌⊎◌, inl, inr, ℕ, ◌<◌, ◌≤◌, List, [], ◌∷◌, length, take, get_or, All, AllPairs, refl, sym, ap, ◌∙◌, subst, arith}
+use Rattle.std.proofs.Common.{◌≡◌, ◌⊎◌, inl, inr, ℕ, ◌<◌, ◌≤◌, List, [], ◌∷◌, length, take, get_or, All, AllPairs, sym, ap, ◌∙◌, arith}
 use Rattle.std.proofs.lemmas.List.{take_all}
 use Rattle.std.proofs.lemmas.List.Elements.{All-cons, All-nil, All-weaker}
 use Rattle.hb_wal.specs.Log.{Waiting, mark_of}
@@ -8,9 +8,9 @@ use Rattle.hb_set.specs.Machine.{RecordSet}
 use Rattle.hb_set.specs.Order.{Entry, result_of}
 use Rattle.hb_set.specs.declared.scripts.Answered.{Answered}
 use Rattle.hb_store.specs.Keeps.{last_of}
-use Rattle.hb_core.specs.Machines.{Machine, settled_count}
+use Rattle.hb_core.specs.Machines.{settled_count}
 use Rattle.hb_core.specs.KeptOrder.{FollowMarks, StandsInOrder, StandsOutside}
-use Rattle.hb_core.specs.KeepingLaws.{FilesHavePrefixes, HasSetAfter, IsAfterLonger, IsAmongFirst}
+use Rattle.hb_core.specs.KeepingLaws.{FilesHavePrefixes, IsAfterLonger, IsAmongFirst}
 use Rattle.hb_core.proofs.PendingKept.{IsBelow, marks_inside, next_mark, rising_rest}
 
 -- a file has the set after so many entries
@@ -62,8 +62,12 @@ files_have_prefixes n m files sound legal pending =
     further count above a (inr (place, less, stands)) = inr (place, omega (arith, less, above), stands)
 
     longer : (s : FileState) → HasSome n m.order (settled_count m) s → IsAfterLonger n m s
-    longer s (count, has) = (count, has.above, record {
-      inside = has.inside;
-      contents = has.contents;
-      answered = λ k d lt. further count has.above (get_or m.answered k d) (among (get_or m.answered k d) (legal.answers k d lt) (pending.settled k d lt));
-    })
+    longer s (count, has) = (
+      count,
+      has.above,
+      record {
+        inside = has.inside;
+        contents = has.contents;
+        answered = λ k d lt. further count has.above (get_or m.answered k d) (among (get_or m.answered k d) (legal.answers k d lt) (pending.settled k d lt));
+      },
+    )

@@ -13,7 +13,6 @@ use Rattle.hb_ops.specs.declared.operations.Op.TheVariants as ops
 use Rattle.hb_ops.specs.Files.{if_live}
 use Rattle.hb_ops.specs.Operations.{change_of}
 use Rattle.hb_ops.specs.Recording.{put_page}
-use Rattle.hb_set.specs.declared.commands.Command.{Command}
 use Rattle.hb_set.specs.declared.commands.Command.TheVariants.{Insert}
 use Rattle.hb_set.specs.declared.scripts.Line.{Line}
 use Rattle.hb_latch.specs.declared.modes.Mode.{Mode}
@@ -34,12 +33,12 @@ use Rattle.hb_core.specs.Acting.{MeetsBadPage}
 use Rattle.hb_core.specs.Deeds.{Deed}
 use Rattle.hb_core.specs.Forcing.{ForcesFirst, StaysSo}
 use Rattle.hb_core.specs.Fetching.{Brings}
-use Rattle.hb_core.specs.Performing.{MayDo, Performs, latches_held, mode_among}
+use Rattle.hb_core.specs.Performing.{MayDo, Performs, latches_held}
 use Rattle.hb_core.specs.Steps.{StepsTo, Works}
 use Rattle.hb_core.specs.Keeps.{HasNobodyElse, HasRoomFor, HasSoundFile, HoldsPagesOfFile, KnowsRoom, LacksRoomFor, LatchesFit}
 use Rattle.hb_core.specs.KeepingLaws.{RoomStaysKnown}
 use Rattle.hb_core.proofs.Backing.{live_frame}
-use Rattle.hb_core.proofs.NextPlaces.{HasPlace, HoldsNothing, KeepsParent, PartsFull, TakesFull, TakesParent, WalksTo, nothing_given_up, nothing_run_out, now, place_after}
+use Rattle.hb_core.proofs.NextPlaces.{HasPlace, HoldsNothing, KeepsParent, PartsFull, TakesFull, nothing_given_up, nothing_run_out, now, place_after}
 use Rattle.hb_core.proofs.SplitHalves.{one_has_room, takes_full}
 use Rattle.hb_core.proofs.SplitHome.{RoomLaws}
 use Rattle.hb_core.proofs.StepKinds.{each_kind}

@@ -1,9 +1,9 @@
 -- A page that is to be split lacks room for its insert, and of its two halves one has room.
 use Rattle.std.proofs.Common.{◌≡◌, ◌≢◌, ◌⊎◌, inl, inr, ℕ, ◌==◌, ◌*◌, ◌<◌, ◌≤◌, ◌+◌, Bool, cond, List, [], ◌∷◌, length, get_or, Option, Some, None, IsSome, IfSome, refl, sym, ap, ◌∙◌, subst, arith}
-use Rattle.std.proofs.lemmas.Bool.{cases_Bool, eq-eqb, eqb-true, eqb-false, ne_eqb}
+use Rattle.std.proofs.lemmas.Bool.{eq-eqb, ne_eqb}
 use Rattle.std.proofs.lemmas.List.Elements.{Contains-get_or}
-use Rattle.std.proofs.lemmas.Option.{none-some, same_Some}
-use Rattle.hb_space.specs.Boxes.{Area, Holds, IsArea}
+use Rattle.std.proofs.lemmas.Option.{same_Some}
+use Rattle.hb_space.specs.Boxes.{Area, IsArea}
 use Rattle.hb_space.specs.declared.records.Record.{Record}
 use Rattle.hb_layout.specs.Limits.{IsLayout}
 use Rattle.hb_layout.specs.declared.limits.TheConstants.{DCAP_MIN}
@@ -12,8 +12,8 @@ use Rattle.hb_frag.specs.declared.leaves.Leaf.TheVariants.{Records, Sibling}
 use Rattle.hb_frag.specs.declared.pages.LivePage.{LivePage}
 use Rattle.hb_frag.specs.declared.pages.Page.{Page}
 use Rattle.hb_frag.specs.declared.pages.Page.TheVariants.{Free, Live}
-use Rattle.hb_frag.specs.Leaves.{DirectlyHolds, Placed, leaf_at, leaves_of, siblings_of, weight_of}
-use Rattle.hb_frag.specs.Paths.{part_at, with_part}
+use Rattle.hb_frag.specs.Leaves.{DirectlyHolds, Placed, leaves_of, siblings_of, weight_of}
+use Rattle.hb_frag.specs.Paths.{part_at}
 use Rattle.hb_frag.specs.Rules.{capacity_of}
 use Rattle.hb_frag.specs.Trees.{Tree, Tip}
 use Rattle.hb_ops.specs.declared.operations.Op.{Op}
@@ -29,29 +29,20 @@ use Rattle.hb_ops.specs.Standing.{StandsNot}
 use Rattle.hb_ops.proofs.Tips.{first_held}
 use Rattle.hb_split.specs.Laws.{IsThirds}
 use Rattle.hb_split.proofs.Ends.{is_thirds}
-use Rattle.hb_set.specs.declared.commands.Command.TheVariants.{Insert}
 use Rattle.hb_set.specs.declared.scripts.Line.{Line}
-use Rattle.hb_latch.specs.declared.modes.Mode.{Mode}
-use Rattle.hb_latch.specs.declared.modes.Mode.TheVariants.{Exclusive}
-use Rattle.hb_latch.specs.Tables.{MayLatch}
-use Rattle.hb_activity.specs.declared.activities.Activity.{Activity}
-use Rattle.hb_activity.specs.declared.activities.Activity.TheVariants as at
-use Rattle.hb_activity.specs.Holding.{latch_on}
-use Rattle.hb_activity.specs.Walks.{walk_held}
 use Rattle.hb_sound.specs.LawsOfOperations.{ChangesTwo}
-use Rattle.hb_store.specs.Calls.{IsAllowedHere, change_here, framed_read}
-use Rattle.hb_store.specs.Keeps.{StoreState, last_of}
-use Rattle.hb_store.specs.NextPage.{IsNext}
+use Rattle.hb_store.specs.Calls.{change_here, framed_read}
+use Rattle.hb_store.specs.Keeps.{StoreState}
 use Rattle.hb_store.specs.Replay.{set_pages}
 use Rattle.hb_core.specs.Machines.{Files, Machine, current_file, live_here}
 use Rattle.hb_core.specs.Fetching.{Brings}
 use Rattle.hb_core.specs.Deeds.{Deed}
-use Rattle.hb_core.specs.Performing.{DoesOp, MayDo, Performs, latches_held, mode_among}
+use Rattle.hb_core.specs.Performing.{DoesOp, MayDo}
 use Rattle.hb_core.specs.SplitRows.{Splits}
-use Rattle.hb_core.specs.Keeps.{HasRoomFor, HasSoundFile, HoldsPagesOfFile, KnowsRoom, LacksRoomFor}
+use Rattle.hb_core.specs.Keeps.{HasRoomFor, HasSoundFile, HoldsPagesOfFile, LacksRoomFor}
 use Rattle.hb_core.proofs.Backing.{live_frame}
 use Rattle.hb_core.proofs.LaterPages.{last_sound}
-use Rattle.hb_core.proofs.NextPlaces.{HasPlace, HoldsNothing, PartsFull, TakesFull, now}
+use Rattle.hb_core.proofs.NextPlaces.{TakesFull, now}
 use Rattle.hb_core.proofs.OwnedOps.{made_was_free}
 use Rattle.hb_core.proofs.SplitHome.{IsHome, RoomLaws, one_is_home, t, two}
 use Rattle.hb_core.proofs.SplitWeights.{both_have_room, parted_weighs, put_weighs}

@@ -1,7 +1,6 @@
 -- Of a page of level 0 that is split: where a point that it directly held is at home afterwards.
-use Rattle.std.proofs.Common.{◌≡◌, ◌⊎◌, inl, inr, ℕ, ◌+◌, ◌<◌, ◌↔◌, List, get_or, Option, Some, None, IsSome, refl, sym, ap, ◌∙◌, subst, arith}
+use Rattle.std.proofs.Common.{◌≡◌, ◌⊎◌, inl, inr, ℕ, ◌+◌, ◌<◌, List, get_or, Option, Some, None, IsSome, refl, sym, ap, ◌∙◌, arith}
 use Rattle.std.specs.FinMap as finite
-use Rattle.std.specs.List.{Contains}
 use Rattle.std.proofs.lemmas.List.Elements.{All-contains}
 use Rattle.std.proofs.lemmas.Option.{none-some, same_Some, slice_get-get_or}
 use Rattle.hb_space.specs.Points.{IsPoint}
@@ -20,7 +19,6 @@ use Rattle.hb_frag.specs.Trees.{Tree}
 use Rattle.hb_ops.specs.declared.leaf_cuts.LeafCut.{LeafCut}
 use Rattle.hb_ops.specs.declared.operations.Op.{Op}
 use Rattle.hb_ops.specs.declared.operations.Op.TheVariants as ops
-use Rattle.hb_ops.specs.Extracting.{fresh_page, source_page}
 use Rattle.hb_ops.specs.Files.{FileState, contents_of, live_page}
 use Rattle.hb_ops.specs.Operations.{IsAllowed, IsLicensed, change_of, effect_of, nth_read}
 use Rattle.hb_ops.specs.PlacedLaws.{leaf_is_sibling, placed, placed_is_leaf}

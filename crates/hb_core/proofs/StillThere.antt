@@ -1,6 +1,6 @@
 -- What a step leaves of the pages that actors hold between two steps.
-use Rattle.std.proofs.Common.{◌≡◌, ◌≢◌, ◌⊎◌, inl, inr, ℕ, ◌==◌, ◌≤◌, nat_le, Bool, cond, true, false, Option, Some, None, IsSome, refl, sym, ap, ◌∙◌, subst, leb-true, leb-false, arith}
-use Rattle.std.proofs.lemmas.Bool.{cases_Bool, eq-eqb, ne_eqb}
+use Rattle.std.proofs.Common.{◌≡◌, ◌≢◌, ◌⊎◌, inl, inr, ℕ, nat_le, Bool, cond, Option, Some, None, IsSome, refl, sym, ap, ◌∙◌, subst, leb-true, leb-false, arith}
+use Rattle.std.proofs.lemmas.Bool.{cases_Bool, eq-eqb}
 use Rattle.hb_frag.specs.declared.pages.LivePage.{LivePage}
 use Rattle.hb_frag.specs.declared.pages.Page.{Page}
 use Rattle.hb_frag.specs.declared.pages.Page.TheVariants.{Live}
@@ -9,18 +9,16 @@ use Rattle.hb_ops.specs.Files.{if_live}
 use Rattle.hb_latch.specs.declared.modes.Mode.{Mode}
 use Rattle.hb_latch.specs.Tables.{MayLatch, mode_at}
 use Rattle.hb_activity.specs.declared.activities.Activity.{Activity}
-use Rattle.hb_activity.specs.declared.activities.Activity.TheVariants as at
 use Rattle.hb_activity.specs.Walks.{walk_held}
 use Rattle.hb_store.specs.Keeps.{IsGoodPage, StoreState}
 use Rattle.hb_core.specs.declared.outcomes.Outcome.{Outcome}
-use Rattle.hb_core.specs.Machines.{Machine, live_here, with_activity}
+use Rattle.hb_core.specs.Machines.{Machine, live_here}
 use Rattle.hb_core.specs.Fetching.{Brings}
 use Rattle.hb_core.specs.Deeds.{Deed}
 use Rattle.hb_core.specs.Performing.{MayDo, Performs, latches_held, mode_among}
 use Rattle.hb_core.specs.Steps.{StepsTo}
-use Rattle.hb_core.specs.Keeps.{HasNobodyElse, HoldsPagesOfFile, LatchesFit}
+use Rattle.hb_core.specs.Keeps.{HoldsPagesOfFile, LatchesFit}
 use Rattle.hb_core.specs.KeepingLaws.{NobodyElseComes}
-use Rattle.hb_core.specs.Laws.{IsInUse}
 use Rattle.hb_core.proofs.Backing.{live_frame}
 use Rattle.hb_core.proofs.LatchesStay.{walk_latched}
 use Rattle.hb_core.proofs.OwnPages.{held_pages_stay}

@@ -10,7 +10,6 @@ use Rattle.hb_set.specs.declared.scripts.Line.{Line}
 use Rattle.hb_latch.specs.declared.modes.Mode.{Mode}
 use Rattle.hb_latch.specs.declared.modes.Mode.TheVariants.{Update, Exclusive}
 use Rattle.hb_latch.specs.Tables.{MayLatch}
-use Rattle.hb_activity.specs.declared.holding.Latch.{Latch}
 use Rattle.hb_activity.specs.declared.jobs.Job.{Job}
 use Rattle.hb_activity.specs.declared.activities.Activity.{Activity}
 use Rattle.hb_activity.specs.declared.activities.Activity.TheVariants as at
@@ -30,7 +29,7 @@ use Rattle.hb_core.specs.WorkerRows.{LeadsBelow}
 use Rattle.hb_core.proofs.Backing.{live_frame}
 use Rattle.hb_core.proofs.NextPlaces.{HasPlace, HoldsNothing, KeepsParent, TakesParent, WalksTo, nothing_given_up, nothing_run_out, now, place_after}
 use Rattle.hb_core.proofs.StepKinds.{each_kind}
-use Rattle.hb_core.proofs.StillThere.{fetched_good, may_or_not, nothing_done, other_holds, other_stands, other_walks, own_next, still_fetched}
+use Rattle.hb_core.proofs.StillThere.{fetched_good, may_or_not, nothing_done, other_holds, other_walks, own_next, still_fetched}
 use Rattle.hb_core.proofs.Ways.{KeepsAllButDisk, forces_so, meets_so, stays_so}
 
 abbrev pub IsAtParent : Activity → Job → ℕ → Type 0
@@ -246,8 +245,8 @@ module _ (m : Machine) (actor : ℕ) (outcome : Outcome) (new : Machine) (latche
   same_but_disk keeps = with_own
       (subst (StandsInSpace new.store) (sym (ap (λ (all : ℕ → Activity). all actor) keeps.activity)) (stands_again (m.activity actor) m.store new.store (each_stands m walks actor)
       (λ held page on live.
-          let old = fit.walking actor held latches on in
-          ap if_live old.1 ∙ sym (ap if_live (keeps.memory held (Live old.0) old.1)) ∙ live)
+      let old = fit.walking actor held latches on in
+      ap if_live old.1 ∙ sym (ap if_live (keeps.memory held (Live old.0) old.1)) ∙ live)
       (λ job parent page is live. ap if_live (keeps.memory parent (Live page) (live_frame (m.store.frame parent) page live)))))
       (λ other another. ap (λ (all : ℕ → Activity). all other) keeps.activity)
 

@@ -76,7 +76,7 @@ FilesHavePrefixes = (n : RecordSet) (m : Machine) (files : Files) → HasSoundFi
 abbrev pub IsBetween : ℕ → ℕ → Answered → Type 0
 IsBetween first last a = (first ≤ a.at) × (a.at ≤ last)
 
-pub record GoesOn (m new : Machine) : Type 0 where
+pub record HasGoneOn (m new : Machine) : Type 0 where
   pub lines : new.lines ≡ m.lines
   pub entries : List Entry
   pub order : new.order ≡ m.order ++ entries
@@ -86,7 +86,7 @@ pub record GoesOn (m new : Machine) : Type 0 where
   pub timed : All (IsBetween m.clock new.clock) answers
 
 abbrev pub StepsGoOn : Type 0
-StepsGoOn = (actors : List ℕ) (m new : Machine) → StepsInTurn actors m new → GoesOn m new
+StepsGoOn = (actors : List ℕ) (m new : Machine) → StepsInTurn actors m new → HasGoneOn m new
 
 -- The pages, the file and the order of a machine over a disk that tells are as they should be.
 pub record KeepsFileAndOrder (n : RecordSet) (new : Machine) (files : Files) : Type 0 where
