@@ -8,3 +8,12 @@ pub mod Backing
 pub mod LatchesStay
 pub mod LaterPages
 pub mod Moments
+pub mod LineFates
+pub mod StepCases
+pub mod LinesFit
+pub mod RowTells
+pub mod FitOps
+pub mod KeptPages
+pub mod FileOps
+pub mod SoundFiles
+pub mod RowContents

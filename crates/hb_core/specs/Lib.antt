@@ -16,4 +16,7 @@ pub mod Steps
 pub mod KeptOrder
 pub mod Keeps
 pub mod Laws
+pub mod KeptLines
+pub mod FileLaws
+pub mod ContentsLaws
 pub mod Examples
