@@ -27,9 +27,9 @@ use Rattle.hb_store.specs.Calls.{IsAllowedHere, change_here, framed_read}
 use Rattle.hb_store.specs.Keeps.{StoreState, last_of}
 use Rattle.hb_store.specs.NextPage.{IsNext}
 use Rattle.hb_store.specs.Replay.{set_pages}
-use Rattle.hb_store.proofs.Changed.{ChangesWell}
 use Rattle.hb_store.proofs.FilePages.{Reaches, page_at-zero, pages_set}
 use Rattle.hb_store.proofs.MadeMeta.{op_has, reads_some}
+use Rattle.hb_core.proofs.GoodChanges.{IsGoodChange}
 use Rattle.hb_core.proofs.KeptPages.{KeepsPages}
 use Rattle.hb_core.proofs.RowTells.{IsPlanned, TellsOp}
 
@@ -88,7 +88,7 @@ module _ (st : StoreState) (s : FileState) (keeps : KeepsPages st) (file : Shows
   change_in_file : change_here st op ≡ change_of op s.meta (nth_read s op 0) (nth_read s op 1) (nth_read s op 2)
   change_in_file = same_change op st.meta s.meta _ _ _ _ _ _ (sym file.meta) (read_file 0) (read_file 1) (read_file 2)
 
-  module _ (well : ChangesWell st.turn st.meta (change_here st op)) where
+  module _ (well : IsGoodChange st.meta (change_here st op)) where
     reach : All (Reaches (length s.pages)) (change_here st op).pages
     reach k e lt =
         let one = well.pages k e lt in

@@ -30,9 +30,9 @@ use Rattle.hb_store.specs.Keeps.{IsGoodPage, StoreState}
 use Rattle.hb_store.specs.Making.{HaveFittingParts, IsReadable}
 use Rattle.hb_store.specs.NextPage.{IsNext}
 use Rattle.hb_store.specs.Replaying.{HasLimits}
-use Rattle.hb_store.proofs.Changed.{IsFramedGood, framed_readable}
 use Rattle.hb_store.proofs.MadeLeaves.{AllFit, FitsIn, all_fit, back_all, front_all}
 use Rattle.hb_core.proofs.Backing.{live_frame}
+use Rattle.hb_core.proofs.GoodChanges.{AreGoodPages, can_be_read}
 use Rattle.hb_core.proofs.RowTells.{IsPlanned, TellsOp}
 
 abbrev pub HeldArePoints : Type 0
@@ -66,7 +66,7 @@ module _ (points : HeldArePoints) (meta : Meta) (page : LivePage) (good : IsGood
   pub leaf_fits_there : FitsIn (length page.area.lo) l.leaf
   leaf_fits_there = All-contains (λ (l : Placed). FitsIn (length page.area.lo) l.leaf) (leaves_of page.frag page.area) l (placed_fit (length page.area.lo) page.frag page.area (all_fit (length page.area.lo) page.frag good.0.fits.2)) at_leaf.0
 
-module _ (points : HeldArePoints) (parts : HaveFittingParts) (st : StoreState) (limits : HasLimits st.meta) (high : st.meta.high ≤ st.meta.pages) (framed : IsFramedGood st.meta st.frame) where
+module _ (points : HeldArePoints) (parts : HaveFittingParts) (st : StoreState) (limits : HasLimits st.meta) (high : st.meta.high ≤ st.meta.pages) (framed : AreGoodPages st.meta st.frame) where
   -- numbers of pages are short
   number_fits : (id : ℕ) → id ≤ st.meta.pages → id < 2 ^ 32
   number_fits id few = omega (arith, few, limits.layout.few_pages)
@@ -125,7 +125,7 @@ module _ (points : HeldArePoints) (parts : HaveFittingParts) (st : StoreState) (
       record {
         parent_fits = page_fits parent (Live page) tells.live;
         inner_fits = leaf_fits_there points st.meta child good_child tells.p sibling below;
-        steps = parts (ops.Post parent at inner area) st.meta (framed_read st (ops.Post parent at inner area) 0) (framed_read st (ops.Post parent at inner area) 1) (framed_read st (ops.Post parent at inner area) 2) limits allowed (framed_readable st.meta st.frame framed parent);
+        steps = parts (ops.Post parent at inner area) st.meta (framed_read st (ops.Post parent at inner area) 0) (framed_read st (ops.Post parent at inner area) 1) (framed_read st (ops.Post parent at inner area) 2) limits allowed (can_be_read st.meta st.frame framed parent);
         is_area = may.given_area;
         attributes = sym (at_leaf points st.meta child good_child tells.p sibling below).1.same ∙ as_many points st.meta child good_child tells.p sibling below;
       }
@@ -136,7 +136,7 @@ module _ (points : HeldArePoints) (parts : HaveFittingParts) (st : StoreState) (
   fits_split source fresh path cuts free_after (Some page) is second third next allowed =
       let op = ops.Extract source fresh path cuts free_after in
       let number = takes_number fresh free_after next in
-      let short = parts op st.meta (Some page) second third limits allowed (subst (λ (o : Option LivePage). IsReadable o) is (framed_readable st.meta st.frame framed source)) in
+      let short = parts op st.meta (Some page) second third limits allowed (subst (λ (o : Option LivePage). IsReadable o) is (can_be_read st.meta st.frame framed source)) in
       record {
         source_fits = page_fits source (Live page) (live_frame (st.frame source) page is);
         fresh_fits = number.fresh_fits;

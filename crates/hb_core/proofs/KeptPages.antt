@@ -10,9 +10,6 @@ use Rattle.hb_store.specs.Calls.{IsAllowedHere, change_here, framed_read}
 use Rattle.hb_store.specs.Keeps.{IsGoodPage, StoreState}
 use Rattle.hb_store.specs.Making.{HaveFittingParts, MakesGoodPages}
 use Rattle.hb_store.specs.Replaying.{HasLimits}
-use Rattle.hb_store.proofs.Changed.{ChangesWell, made_well}
-use Rattle.hb_store.proofs.Marking.{all_set}
-use Rattle.hb_store.proofs.MadeMeta.{comes_after}
 use Rattle.hb_core.specs.declared.outcomes.Outcome.{Outcome}
 use Rattle.hb_core.specs.declared.outcomes.Outcome.TheVariants as outcomes
 use Rattle.hb_core.specs.Machines.{Machine}
@@ -26,6 +23,7 @@ use Rattle.hb_core.specs.KeptLines.{LinesFit, MarksInPlace}
 use Rattle.hb_core.specs.FileLaws.{MarksStayInPlace, PagesStayOfFile}
 use Rattle.hb_core.specs.Asking.{wanted_by}
 use Rattle.hb_core.specs.Steps.{StepsTo, Works}
+use Rattle.hb_core.proofs.GoodChanges.{AreGoodPages, IsGoodChange, each_set, good_change}
 use Rattle.hb_core.proofs.FitOps.{HeldArePoints, fits_op}
 use Rattle.hb_core.proofs.OwnPages.{gives_up_nothing, runs_out_nothing}
 use Rattle.hb_core.proofs.RowTells.{Tells, TellsOp, tells_row}
@@ -36,7 +34,7 @@ pub record KeepsPages (st : StoreState) : Type 0 where
   pub limits : HasLimits st.meta
   pub high : st.meta.high ≤ st.meta.pages
   pub free : st.meta.free < 2 ^ 32
-  pub framed : (id : ℕ) (page : Page) → st.frame id ≡ Some page → (1 ≤ id) × (id ≤ st.meta.high) × IsGoodPage st.meta page
+  pub framed : AreGoodPages st.meta st.frame
 
 pub keeps_pages : (m : Machine) → MarksInPlace m → HoldsPagesOfFile m → KeepsPages m.store
 keeps_pages m marks inside = record { limits = record { layout = marks.layout; root_fits = marks.root }; high = marks.high; free = marks.free; framed = inside }
@@ -64,26 +62,25 @@ brought m may fetched brings keeps =
 
 -- so what an operation makes, where it may be done
 module _ (makes : MakesGoodPages) (parts : HaveFittingParts) (points : HeldArePoints) where
-  pub change_is_well : (st : StoreState) (op : Op) → KeepsPages st → TellsOp st op → IsAllowedHere st op → ChangesWell st.turn st.meta (change_here st op)
+  pub change_is_well : (st : StoreState) (op : Op) → KeepsPages st → TellsOp st op → IsAllowedHere st op → IsGoodChange st.meta (change_here st op)
   change_is_well st op keeps tells allowed =
-      made_well makes st.turn st.meta keeps.limits st.frame keeps.framed op (framed_read st op 1) (framed_read st op 2) (change_here st op) refl (fits_op points parts st keeps.limits keeps.high keeps.framed op tells allowed) allowed
+      good_change makes st.meta keeps.limits st.frame keeps.framed op (framed_read st op 1) (framed_read st op 2) (fits_op points parts st keeps.limits keeps.high keeps.framed op tells allowed) allowed
 
   done : (op : Option Op) (mark : ℕ) (old new : StoreState) → KeepsPages old → Tells old op → MayDo op mark old new → KeepsPages new
   done None mark old new keeps tells same = subst KeepsPages (sym same) keeps
   done (Some op) mark old new keeps tells does =
-      let fits = fits_op points parts old keeps.limits keeps.high keeps.framed op tells does.allowed in
       let change = change_here old op in
-      let after = comes_after op old.meta (framed_read old op 0) (framed_read old op 1) (framed_read old op 2) keeps.limits fits does.allowed in
       let well = change_is_well old op keeps tells does.allowed in
+      let after = well.after in
       let meta : change.meta ≡ new.meta = sym does.commits.meta in
       record {
         limits = subst HasLimits meta after.limits;
         high = subst (λ (meta : Meta). meta.high ≤ meta.pages) meta (after.high keeps.high);
         free = subst (λ (meta : Meta). meta.free < 2 ^ 32) meta (after.free keeps.free);
         framed = λ id page there. subst (λ (meta : Meta). (1 ≤ id) × (id ≤ meta.high) × IsGoodPage meta page) meta
-            (all_set (λ n p. (1 ≤ n) × (n ≤ change.meta.high) × IsGoodPage change.meta p) change.pages old.frame
+            (each_set (λ n p. (1 ≤ n) × (n ≤ change.meta.high) × IsGoodPage change.meta p) change.pages old.frame
             (λ k d lt. let c = well.pages k d lt in (c.0.0, c.0.1, c.1))
-            (λ n p is. let was = keeps.framed n p is in (was.0, omega (arith, was.1, well.high), well.others p was.2))
+            (λ n p is. let was = keeps.framed n p is in (was.0, omega (arith, was.1, after.rises), well.others p was.2))
             id page (sym (does.commits.frame id) ∙ there));
       }
 

@@ -12,6 +12,7 @@ pub mod LineFates
 pub mod StepCases
 pub mod LinesFit
 pub mod RowTells
+pub mod GoodChanges
 pub mod FitOps
 pub mod KeptPages
 pub mod FileOps

@@ -103,9 +103,9 @@ module _ (m : Machine) (actor : ℕ) (may : ℕ → Type 0) (fetched : StoreStat
       ap if_live (brings.stays id (subst (λ (o : Option Page). IsSome o) (sym there) refl)) ∙ live
 
   -- a posting, by the child that was latched
-  planned : (job : Job) (parent : ℕ) (wanted : Wanted) (child page : LivePage) (at : List Side) (inner : ℕ) (area : Area) → wanted_of (at.PosterAgain job parent) m.store.meta (if_live (m.store.frame parent)) ≡ Some wanted
-      → if_live (fetched.frame wanted.page) ≡ Some child → if_live (fetched.frame parent) ≡ Some page → Posts page child job.point fetched.meta.icap at inner area → IsPlanned fetched parent at inner area
-  planned job parent wanted child page at inner area wants child_live live posts = by (if_live (m.store.frame parent)) refl wants
+  planned : (job : Job) (parent : ℕ) (wanted : Wanted) (child page : LivePage) (path : List Side) (inner : ℕ) (area : Area) → wanted_of (at.PosterAgain job parent) m.store.meta (if_live (m.store.frame parent)) ≡ Some wanted
+      → if_live (fetched.frame wanted.page) ≡ Some child → if_live (fetched.frame parent) ≡ Some page → Posts page child job.point fetched.meta.icap path inner area → IsPlanned fetched parent path inner area
+  planned job parent wanted child page path inner area wants child_live live posts = by (if_live (m.store.frame parent)) refl wants
     where
       nothing : (w : Wanted) → None ≡ Some w → ⊥
       nothing w is = cc
@@ -113,7 +113,7 @@ module _ (m : Machine) (actor : ℕ) (may : ℕ → Type 0) (fetched : StoreStat
       same_page : (a b : LivePage) → Some a ≡ Some b → a ≡ b
       same_page a b is = cc
 
-      by : (looked : Option LivePage) → if_live (m.store.frame parent) ≡ looked → wanted_of (at.PosterAgain job parent) m.store.meta looked ≡ Some wanted → IsPlanned fetched parent at inner area
+      by : (looked : Option LivePage) → if_live (m.store.frame parent) ≡ looked → wanted_of (at.PosterAgain job parent) m.store.meta looked ≡ Some wanted → IsPlanned fetched parent path inner area
       by None is none = absurd (nothing wanted none)
       by (Some old) is some =
           let named = wants_child job.point old.level (leaf_at old job.point) wanted some in

@@ -14,7 +14,6 @@ use Rattle.hb_store.specs.Calls.{IsAllowedHere, change_here, durable_after, late
 use Rattle.hb_store.specs.Keeps.{StoreState, last_of}
 use Rattle.hb_store.specs.Making.{HaveFittingParts, MakesGoodPages}
 use Rattle.hb_store.specs.ReplayLaws.{last_of-append}
-use Rattle.hb_store.proofs.MadeMeta.{comes_after}
 use Rattle.hb_core.specs.declared.outcomes.Outcome.{Outcome}
 use Rattle.hb_core.specs.declared.outcomes.Outcome.TheVariants as outcomes
 use Rattle.hb_core.specs.Machines.{Files, Machine, current_file}
@@ -133,13 +132,10 @@ module _ (makes : MakesGoodPages) (parts : HaveFittingParts) (points : HeldArePo
           durable = holds.durable;
           later = All-append IsSound files.later (n ∷ []) holds.later (All-cons IsSound n [] sound (All-nil IsSound));
           each = omega (arith, groups, more, holds.each);
-          layout = subst IsLayout (sym does.commits.meta) (change_layout st op keeps tells does.allowed);
+          layout = subst IsLayout (sym does.commits.meta) well.after.limits.layout;
           meta = ap (λ (f : FileState). f.meta) last ∙ meta;
           shown = λ id page there. ap (λ (f : FileState). page_of f id) last ∙ shown_after st s keeps file op does.allowed well id page (sym (does.commits.frame id) ∙ there);
         }
-      where
-        change_layout : (st : StoreState) (op : Op) → KeepsPages st → TellsOp st op → IsAllowedHere st op → IsLayout (change_here st op).meta
-        change_layout st op keeps tells allowed = (comes_after op st.meta _ _ _ keeps.limits (fits_op points parts st keeps.limits keeps.high keeps.framed op tells allowed) allowed).limits.layout
 
     -- What is to be shown of a step: there are files afterwards, and they hold.
     abbrev pub HoldAfter : Machine → Type 0

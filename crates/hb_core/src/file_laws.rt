@@ -1,10 +1,11 @@
 //! What a step does to the file: the pages in memory stay pages of a file, and every file stays sound.
 
-ghost use Rattle.hb_core.specs.FileLaws.{LinesStayFit, MarksStayInPlace, PagesStayOfFile};
+ghost use Rattle.hb_core.specs.FileLaws.{FilesStaySound, LinesStayFit, MarksStayInPlace, PagesStayOfFile, RowsAreLicensed};
 
 use hb_frag::laws::{leaves_part_the_box, parts_are_stretches};
 use hb_ops::changed_pages_are_well_made;
 use hb_page_codec::laws::page_within_capacity_has_spelling;
+use hb_sound::laws::operations_keep_a_file_sound;
 use hb_space::laws::{held_is_a_point, whole_space_holds_every_point};
 
 /// What the lines of the script and those in hand would store can be stored, after a step, too.
@@ -25,4 +26,29 @@ pub fn pages_stay_pages_of_the_file()
     parts_are_stretches();
     whole_space_holds_every_point();
     held_is_a_point();
+}
+
+/// The operation that a row does may be done in the file: it is allowed and licensed there.
+pub fn rows_are_licensed()
+    ensures { RowsAreLicensed }
+{
+    changed_pages_are_well_made();
+    page_within_capacity_has_spelling();
+    leaves_part_the_box();
+    parts_are_stretches();
+    whole_space_holds_every_point();
+    held_is_a_point();
+}
+
+/// After a step every file is sound: the durable one, and that after each group that waits.
+pub fn files_stay_sound()
+    ensures { FilesStaySound }
+{
+    changed_pages_are_well_made();
+    page_within_capacity_has_spelling();
+    leaves_part_the_box();
+    parts_are_stretches();
+    whole_space_holds_every_point();
+    held_is_a_point();
+    operations_keep_a_file_sound();
 }
