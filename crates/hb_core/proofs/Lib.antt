@@ -18,3 +18,4 @@ pub mod KeptPages
 pub mod FileOps
 pub mod SoundFiles
 pub mod RowContents
+pub mod StepContents

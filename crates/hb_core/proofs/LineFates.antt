@@ -127,6 +127,49 @@ fate_ran_out m (at.ConsolidatorKeep job parent keep gone) = goes m _ _ refl (λ 
 fate_ran_out m (at.ConsolidatorDecide job parent keep gone) = goes m _ _ refl (λ at. refl) refl (λ never. never)
 fate_ran_out m at.Flusher = goes m _ _ refl (λ at. refl) refl (λ never. never)
 
+-- so it joins no order
+pub given_up_joins_nothing : (m : Machine) (why : DropWhy) (activity : Activity) → (gives_up m why activity).joins ≡ None
+given_up_joins_nothing m why at.SessionIdle = refl
+given_up_joins_nothing m why (at.SessionWalk line held rest found) = refl
+given_up_joins_nothing m why (at.SessionSplit line held) = refl
+given_up_joins_nothing m why (at.SessionPut line source fresh) = refl
+given_up_joins_nothing m why (at.SessionAwait number reply place) = refl
+given_up_joins_nothing m why at.PosterIdle = refl
+given_up_joins_nothing m why (at.PosterGrow job) = refl
+given_up_joins_nothing m why (at.PosterWalk job held) = refl
+given_up_joins_nothing m why (at.PosterChild job parent) = refl
+given_up_joins_nothing m why (at.PosterPromote job parent) = refl
+given_up_joins_nothing m why (at.PosterAgain job parent) = refl
+given_up_joins_nothing m why at.ConsolidatorIdle = refl
+given_up_joins_nothing m why (at.ConsolidatorWalk job held) = refl
+given_up_joins_nothing m why (at.ConsolidatorScan job parent child) = refl
+given_up_joins_nothing m why (at.ConsolidatorTry job parent keep gone leaf) = refl
+given_up_joins_nothing m why (at.ConsolidatorPromote job parent keep gone) = refl
+given_up_joins_nothing m why (at.ConsolidatorKeep job parent keep gone) = refl
+given_up_joins_nothing m why (at.ConsolidatorDecide job parent keep gone) = refl
+given_up_joins_nothing m why at.Flusher = refl
+
+pub ran_out_joins_nothing : (m : Machine) (activity : Activity) → (runs_out m activity).joins ≡ None
+ran_out_joins_nothing m at.SessionIdle = refl
+ran_out_joins_nothing m (at.SessionWalk line held rest found) = refl
+ran_out_joins_nothing m (at.SessionSplit line held) = refl
+ran_out_joins_nothing m (at.SessionPut line source fresh) = refl
+ran_out_joins_nothing m (at.SessionAwait number reply place) = refl
+ran_out_joins_nothing m at.PosterIdle = refl
+ran_out_joins_nothing m (at.PosterGrow job) = refl
+ran_out_joins_nothing m (at.PosterWalk job held) = refl
+ran_out_joins_nothing m (at.PosterChild job parent) = refl
+ran_out_joins_nothing m (at.PosterPromote job parent) = refl
+ran_out_joins_nothing m (at.PosterAgain job parent) = refl
+ran_out_joins_nothing m at.ConsolidatorIdle = refl
+ran_out_joins_nothing m (at.ConsolidatorWalk job held) = refl
+ran_out_joins_nothing m (at.ConsolidatorScan job parent child) = refl
+ran_out_joins_nothing m (at.ConsolidatorTry job parent keep gone leaf) = refl
+ran_out_joins_nothing m (at.ConsolidatorPromote job parent keep gone) = refl
+ran_out_joins_nothing m (at.ConsolidatorKeep job parent keep gone) = refl
+ran_out_joins_nothing m (at.ConsolidatorDecide job parent keep gone) = refl
+ran_out_joins_nothing m at.Flusher = refl
+
 -- ---- the rows
 
 module _ (m : Machine) (fetched : StoreState) where

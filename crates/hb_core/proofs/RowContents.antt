@@ -11,7 +11,7 @@ use Rattle.hb_frag.specs.Leaves.{Placed, leaf_at}
 use Rattle.hb_layout.specs.declared.meta.Meta.{Meta}
 use Rattle.hb_ops.specs.declared.operations.Op.{Op}
 use Rattle.hb_ops.specs.declared.operations.Op.TheVariants as ops
-use Rattle.hb_ops.specs.Files.{FileState, contents_of, if_live}
+use Rattle.hb_ops.specs.Files.{FileState, contents_of, if_live, live_page}
 use Rattle.hb_ops.specs.Standing.{StandsNot, StandsThere}
 use Rattle.hb_set.specs.Machine.{RecordSet, found_or_missing, if_there, reply_of, set_after}
 use Rattle.hb_set.specs.Order.{Entry}
@@ -121,7 +121,7 @@ module _ (points : HeldArePoints) (standing : StandingIsContents) (lacking : Lac
         attributes = as_many points fetched.meta page good p l there ∙ sym (ap (λ (m : Meta). m.k) file.meta);
       }
 
-  in_file : (id : ℕ) (page : LivePage) → if_live (fetched.frame id) ≡ Some page → _
+  in_file : (id : ℕ) (page : LivePage) → if_live (fetched.frame id) ≡ Some page → live_page s id ≡ Some page
   in_file id page live = ap if_live (file.shown id (Live page) (live_frame (fetched.frame id) page live))
 
   stands : (id : ℕ) (page : LivePage) (p : List ℕ) (r : Record) → if_live (fetched.frame id) ≡ Some page → StandsThere page p r → map.get (contents_of s) p ≡ Some r.body

@@ -1,11 +1,12 @@
 //! What a step does to the file: the pages in memory stay pages of a file, and every file stays sound.
 
+ghost use Rattle.hb_core.specs.ContentsLaws.{ContentsFollowOrder, PointsStay};
 ghost use Rattle.hb_core.specs.FileLaws.{FilesStaySound, LinesStayFit, MarksStayInPlace, PagesStayOfFile, RowsAreLicensed};
 
 use hb_frag::laws::{leaves_part_the_box, parts_are_stretches};
 use hb_ops::changed_pages_are_well_made;
 use hb_page_codec::laws::page_within_capacity_has_spelling;
-use hb_sound::laws::operations_keep_a_file_sound;
+use hb_sound::laws::{operations_keep_a_file_sound, what_stands_is_what_the_contents_have};
 use hb_space::laws::{held_is_a_point, whole_space_holds_every_point};
 
 /// What the lines of the script and those in hand would store can be stored, after a step, too.
@@ -51,4 +52,21 @@ pub fn files_stay_sound()
     whole_space_holds_every_point();
     held_is_a_point();
     operations_keep_a_file_sound();
+}
+
+/// A step leaves the contents as they are, and no line joins the order; or its actor's line joins it, and
+/// takes effect on them. So it changes what the file has under a point only where that line changes the
+/// point.
+pub fn contents_follow_the_order()
+    ensures contents { ContentsFollowOrder }
+    ensures points { PointsStay }
+{
+    changed_pages_are_well_made();
+    page_within_capacity_has_spelling();
+    leaves_part_the_box();
+    parts_are_stretches();
+    whole_space_holds_every_point();
+    held_is_a_point();
+    operations_keep_a_file_sound();
+    what_stands_is_what_the_contents_have();
 }
