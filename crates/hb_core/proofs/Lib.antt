@@ -19,3 +19,5 @@ pub mod FileOps
 pub mod SoundFiles
 pub mod RowContents
 pub mod StepContents
+pub mod NextLines
+pub mod Turns

@@ -69,7 +69,7 @@ no_line : (deed : Deed) → line_in_hand deed.next ≡ None → IfSome (line_in_
 no_line deed none = subst (λ (o : Option Line). IfSome o HasLineBody) (sym none) tt
 
 -- a job that was taken is no line
-took_job : (m : Machine) (deed : Deed) → TakesJob m deed → line_in_hand deed.next ≡ None
+pub took_job : (m : Machine) (deed : Deed) → TakesJob m deed → line_in_hand deed.next ≡ None
 took_job m deed takes = ap (λ (d : Deed). line_in_hand d.next) takes.deed_is ∙ by takes.next takes.posting
   where
     by : (next : Activity) → IsPostingOf takes.job m.store.meta.height next → line_in_hand next ≡ None

@@ -19,4 +19,6 @@ pub mod Laws
 pub mod KeptLines
 pub mod FileLaws
 pub mod ContentsLaws
+pub mod KeptTurns
+pub mod OrderLaws
 pub mod Examples

@@ -2,6 +2,7 @@
 
 ghost use Rattle.hb_core.specs.ContentsLaws.{ContentsFollowOrder, PointsStay};
 ghost use Rattle.hb_core.specs.FileLaws.{FilesStaySound, LinesStayFit, MarksStayInPlace, PagesStayOfFile, RowsAreLicensed};
+ghost use Rattle.hb_core.specs.OrderLaws.{TurnsStay};
 
 use hb_frag::laws::{leaves_part_the_box, parts_are_stretches};
 use hb_ops::changed_pages_are_well_made;
@@ -70,3 +71,10 @@ pub fn contents_follow_the_order()
     operations_keep_a_file_sound();
     what_stands_is_what_the_contents_have();
 }
+
+/// After a step each session still answers its lines in their order: the line that it has in hand, or for
+/// whose place it waits, is its first one without an answer.
+#[tactic(auto, using(crate::proofs::Turns::turns_stay))]
+pub fn turns_stay()
+    ensures { TurnsStay }
+{}
