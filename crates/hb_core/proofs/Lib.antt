@@ -21,3 +21,5 @@ pub mod RowContents
 pub mod StepContents
 pub mod NextLines
 pub mod Turns
+pub mod OrderPlaces
+pub mod LegalOrder

@@ -2,7 +2,7 @@
 
 ghost use Rattle.hb_core.specs.ContentsLaws.{ContentsFollowOrder, PointsStay};
 ghost use Rattle.hb_core.specs.FileLaws.{FilesStaySound, LinesStayFit, MarksStayInPlace, PagesStayOfFile, RowsAreLicensed};
-ghost use Rattle.hb_core.specs.OrderLaws.{TurnsStay};
+ghost use Rattle.hb_core.specs.OrderLaws.{OrderStaysLegal, TurnsStay};
 
 use hb_frag::laws::{leaves_part_the_box, parts_are_stretches};
 use hb_ops::changed_pages_are_well_made;
@@ -78,3 +78,10 @@ pub fn contents_follow_the_order()
 pub fn turns_stay()
     ensures { TurnsStay }
 {}
+
+/// After a step that has no search in hand the order is legal, and the file has its result.
+pub fn the_order_stays_legal()
+    ensures { OrderStaysLegal }
+{
+    contents_follow_the_order();
+}
