@@ -6,6 +6,8 @@ use Rattle.std.proofs.lemmas.List.Elements.{All-head, All-tail}
 use Rattle.hb_ops.specs.Files.{contents_of}
 use Rattle.hb_set.specs.Machine.{RecordSet, reply_of, set_after}
 use Rattle.hb_set.specs.Order.{AreReplies, Entry, IsLegalOrder, KeepsSessions, MayPrecede, result_of}
+use Rattle.hb_set.specs.declared.commands.Command.{Command}
+use Rattle.hb_set.specs.declared.commands.Command.TheVariants.{Insert, Delete, Lookup, Search}
 use Rattle.hb_set.specs.declared.scripts.Line.{Line}
 use Rattle.hb_activity.specs.declared.activities.Activity.{Activity}
 use Rattle.hb_activity.specs.declared.activities.Activity.TheVariants as at
@@ -15,7 +17,7 @@ use Rattle.hb_core.specs.KeptLines.{line_in_hand}
 use Rattle.hb_core.specs.KeptOrder.{HasLegalOrder}
 use Rattle.hb_core.specs.KeptTurns.{IsInTurn, LinesInTurn, awaited_number}
 use Rattle.hb_core.specs.ContentsLaws.{ContentsFollowOrder, ContentsStep, TakesEffectOn, contents_now}
-use Rattle.hb_core.specs.OrderLaws.{HasNoSearch, OrderStaysLegal}
+use Rattle.hb_core.specs.OrderLaws.{SearchIsRight, OrderStaysLegal}
 use Rattle.hb_core.specs.Steps.{WantsBoxes}
 use Rattle.hb_core.proofs.NextLines.{earlier_answered, next_is, same_line}
 use Rattle.hb_core.proofs.OrderPlaces.{KeepsReplies, replies_kept}
@@ -100,12 +102,18 @@ module _ (m : Machine) (turn : LinesInTurn m) (actor : ℕ) (entry : Entry) (han
 
 -- ---- each step
 
-module _ (n : RecordSet) (m : Machine) (files after : Files) (actor : ℕ) (new : Machine) (turn : LinesInTurn m) (legal : HasLegalOrder n m files) (no_search : HasNoSearch m actor) where
+search_or_not : (command : Command) → WantsBoxes command ⊎ (WantsBoxes command → ⊥)
+search_or_not (Insert rec) = inr (λ never. never)
+search_or_not (Delete point) = inr (λ never. never)
+search_or_not (Lookup point) = inr (λ never. never)
+search_or_not (Search area) = inl tt
+
+module _ (n : RecordSet) (m : Machine) (files after : Files) (actor : ℕ) (new : Machine) (turn : LinesInTurn m) (legal : HasLegalOrder n m files) (right : SearchIsRight m new files) where
   still_legal : ContentsStep m actor new (contents_now files) (contents_now after) → IsLegalOrder n new.order × (result_of n new.order ≡ contents_now after)
   still_legal (inl (order, same)) = (subst (IsLegalOrder n) (sym order) legal.legal, ap (result_of n) order ∙ legal.result ∙ sym same)
   still_legal (inr (entry, order, takes)) =
-      let other : WantsBoxes entry.line.command → ⊥ = subst (λ (o : Option Line). IfSome o (λ line. WantsBoxes line.command → ⊥)) takes.hand no_search in
-      let reply : entry.reply ≡ reply_of entry.line.command (result_of n m.order) = takes.reply other ∙ ap (reply_of entry.line.command) (sym legal.result) in
+      let machine : entry.reply ≡ reply_of entry.line.command (contents_now files) = elim (search_or_not entry.line.command) [ inl search ↦ right entry order search | inr other ↦ takes.reply other ] in
+      let reply : entry.reply ≡ reply_of entry.line.command (result_of n m.order) = machine ∙ ap (reply_of entry.line.command) (sym legal.result) in
       (subst (IsLegalOrder n) (sym order) (record {
         replies = replies_more n m.order entry legal.legal.replies reply;
         sessions = sessions_more m.order entry legal.legal.sessions (λ i d lt. may_precede m turn actor entry takes.hand _ (turn.placed i d lt));
@@ -113,7 +121,7 @@ module _ (n : RecordSet) (m : Machine) (files after : Files) (actor : ℕ) (new 
       ap (result_of n) order ∙ result_more n m.order entry ∙ ap (set_after entry.line.command) legal.result ∙ sym takes.leaves)
 
 pub order_stays_legal : ContentsFollowOrder → OrderStaysLegal
-order_stays_legal law n m files after actor outcome new told fit inside has turn legal no_search step is =
-    let both = still_legal n m files after actor new turn legal no_search (law m files after actor outcome new told fit inside has step is) in
+order_stays_legal law n m files after actor outcome new told fit inside has turn legal right step is =
+    let both = still_legal n m files after actor new turn legal right (law m files after actor outcome new told fit inside has step is) in
     let replies = replies_kept m actor outcome new (record { awaits = legal.awaits; answers = legal.answers }) step in
     record { legal = both.0; result = both.1; awaits = replies.awaits; answers = replies.answers }

@@ -13,12 +13,12 @@ pub mod Forcing
 pub mod GivingUp
 pub mod Acting
 pub mod Steps
+pub mod KeptLines
+pub mod KeptTurns
 pub mod KeptOrder
 pub mod Keeps
 pub mod Laws
-pub mod KeptLines
 pub mod FileLaws
 pub mod ContentsLaws
-pub mod KeptTurns
 pub mod OrderLaws
 pub mod Examples

@@ -79,7 +79,8 @@ pub fn turns_stay()
     ensures { TurnsStay }
 {}
 
-/// After a step that has no search in hand the order is legal, and the file has its result.
+/// After a step the order is legal, and the file has its result, where a search that takes effect in it has
+/// the right reply.
 pub fn the_order_stays_legal()
     ensures { OrderStaysLegal }
 {
