@@ -1,10 +1,8 @@
 -- What is done in memory is done in the file: an operation is allowed and licensed there, and makes the same of it.
-use Rattle.std.proofs.Common.{◌≡◌, ◌≢◌, ◌⊎◌, inl, inr, ℕ, ◌+◌, ◌<◌, ◌≤◌, ◌^◌, ◌==◌, Bool, true, false, cond, List, [], ◌∷◌, ◌++◌, length, get_or, All, Option, Some, None, IsSome, IfSome, refl, sym, ap, ◌∙◌, subst, arith}
-use Rattle.std.specs.List.{Contains}
+use Rattle.std.proofs.Common.{◌≡◌, ◌≢◌, inl, inr, ℕ, ◌≤◌, ◌==◌, true, false, cond, List, [], ◌∷◌, length, get_or, All, Option, Some, None, IsSome, refl, sym, ap, ◌∙◌, subst, arith}
 use Rattle.std.proofs.lemmas.Bool.{cases_lt}
 use Rattle.std.proofs.lemmas.List.{get_or_past}
-use Rattle.std.proofs.lemmas.List.Elements.{All-head, All-tail}
-use Rattle.hb_frag.specs.declared.leaves.Leaf.TheVariants.{Child, Sibling}
+use Rattle.hb_frag.specs.declared.leaves.Leaf.TheVariants.{Child}
 use Rattle.hb_frag.specs.declared.pages.LivePage.{LivePage}
 use Rattle.hb_frag.specs.declared.pages.Page.{Page}
 use Rattle.hb_frag.specs.declared.pages.Page.TheVariants.{Live, Free}
@@ -13,7 +11,6 @@ use Rattle.hb_frag.specs.Paths.{part_at}
 use Rattle.hb_frag.specs.Trees.{Tip}
 use Rattle.hb_frag.proofs.Tiles.{found_where_held}
 use Rattle.hb_layout.specs.declared.meta.Meta.{Meta}
-use Rattle.hb_layout.specs.Limits.{IsLayout}
 use Rattle.hb_space.specs.Boxes.{Area, Holds}
 use Rattle.hb_ops.specs.declared.operations.Op.{Op}
 use Rattle.hb_ops.specs.declared.operations.Op.TheVariants as ops
@@ -24,7 +21,7 @@ use Rattle.hb_ops.specs.Sound.{IsSound}
 use Rattle.hb_log_codec.specs.Groups.{FitsOp}
 use Rattle.hb_terms.proofs.Owing.{planned_may_be, way_ends_there}
 use Rattle.hb_store.specs.Calls.{IsAllowedHere, change_here, framed_read}
-use Rattle.hb_store.specs.Keeps.{StoreState, last_of}
+use Rattle.hb_store.specs.Keeps.{StoreState}
 use Rattle.hb_store.specs.NextPage.{IsNext}
 use Rattle.hb_store.specs.Replay.{set_pages}
 use Rattle.hb_store.proofs.FilePages.{Reaches, page_at-zero, pages_set}

@@ -1,28 +1,25 @@
 -- The operation of a row has its place in the log: its numbers, its point, its body and its box.
-use Rattle.std.proofs.Common.{◌≡◌, ◌≢◌, inl, inr, ℕ, ◌+◌, ◌<◌, ◌≤◌, ◌^◌, ◌==◌, List, [], ◌∷◌, ◌++◌, length, get_or, All, Option, Some, None, IsSome, refl, sym, ap, ◌∙◌, subst, arith}
+use Rattle.std.proofs.Common.{◌≡◌, inl, inr, ℕ, ◌<◌, ◌≤◌, ◌^◌, ◌==◌, List, [], length, All, Option, Some, None, IsSome, refl, sym, ◌∙◌, subst, arith}
 use Rattle.std.specs.List.{Contains}
 use Rattle.std.proofs.lemmas.Bool.{cases_Bool, eqb-true, eqb-false}
 use Rattle.std.proofs.lemmas.List.Elements.{All-append, All-cons, All-contains, All-head, All-nil}
 use Rattle.hb_space.specs.Boxes.{Area, IsArea, Holds, side_below, side_from}
 use Rattle.hb_space.specs.Points.{IsPoint}
 use Rattle.hb_space.specs.declared.records.Record.{Record}
-use Rattle.hb_frag.specs.declared.leaves.Leaf.{Leaf}
-use Rattle.hb_frag.specs.declared.leaves.Leaf.TheVariants.{Records, Child, Sibling}
+use Rattle.hb_frag.specs.declared.leaves.Leaf.TheVariants.{Records, Sibling}
 use Rattle.hb_frag.specs.declared.pages.LivePage.{LivePage}
 use Rattle.hb_frag.specs.declared.pages.Page.{Page}
 use Rattle.hb_frag.specs.declared.pages.Page.TheVariants.{Live, Free}
 use Rattle.hb_frag.specs.declared.paths.Side.{Side}
 use Rattle.hb_frag.specs.Trees.{Tree, Tip, Cut}
-use Rattle.hb_frag.specs.Leaves.{Placed, first_at, leaf_at, leaves, leaves_of}
-use Rattle.hb_frag.specs.Grammar.{FitsRecord, HasSpelling}
-use Rattle.hb_frag.proofs.Tiles.{first_tells, found_where_held, tiles_areas}
+use Rattle.hb_frag.specs.Leaves.{Placed, leaf_at, leaves, leaves_of}
+use Rattle.hb_frag.proofs.Tiles.{first_tells, found_where_held}
 use Rattle.hb_layout.specs.declared.meta.Meta.{Meta}
 use Rattle.hb_ops.specs.declared.leaf_cuts.LeafCut.{LeafCut}
 use Rattle.hb_ops.specs.declared.operations.Op.{Op}
 use Rattle.hb_ops.specs.declared.operations.Op.TheVariants as ops
 use Rattle.hb_ops.specs.Files.{if_live}
 use Rattle.hb_ops.specs.Operations.{IsAllowedOn}
-use Rattle.hb_ops.specs.Sound.{FitsFile}
 use Rattle.hb_log_codec.specs.Groups.{FitsOp}
 use Rattle.hb_terms.proofs.Owing.{planned_may_be}
 use Rattle.hb_store.specs.Calls.{IsAllowedHere, framed_read}
@@ -33,7 +30,7 @@ use Rattle.hb_store.specs.Replaying.{HasLimits}
 use Rattle.hb_store.proofs.MadeLeaves.{AllFit, FitsIn, all_fit, back_all, front_all}
 use Rattle.hb_core.proofs.Backing.{live_frame}
 use Rattle.hb_core.proofs.GoodChanges.{AreGoodPages, can_be_read}
-use Rattle.hb_core.proofs.RowTells.{IsPlanned, TellsOp}
+use Rattle.hb_core.proofs.RowTells.{TellsOp}
 
 abbrev pub HeldArePoints : Type 0
 HeldArePoints = (a : Area) (p : List ℕ) → IsArea a → Holds a p → IsPoint p
@@ -97,12 +94,14 @@ module _ (points : HeldArePoints) (parts : HaveFittingParts) (st : StoreState) (
   fits_put id rec (Some page) is second third body allowed =
       let good = good_live id page is in
       let at = allowed.absent in
-      let l : Placed = record { leaf = Records at.records; area = at.area } in
-      (page_fits id (Live page) (live_frame (st.frame id) page is), record {
-        attributes = as_many points st.meta page good rec.key l at.leaf;
-        values = (point_there points st.meta page good rec.key l at.leaf).fits;
-        body = body;
-      })
+      let l : Placed = record { leaf = Records at.records; area = at.area } in (
+        page_fits id (Live page) (live_frame (st.frame id) page is),
+        record {
+          attributes = as_many points st.meta page good rec.key l at.leaf;
+          values = (point_there points st.meta page good rec.key l at.leaf).fits;
+          body = body;
+        },
+      )
 
   fits_del : (id : ℕ) (p : List ℕ) (o : Option LivePage) → if_live (st.frame id) ≡ o → (second third : Option LivePage) → IsAllowedOn (ops.Del id p) st.meta o second third → FitsOp st.meta.k (ops.Del id p)
   fits_del id p None is second third allowed = absurd allowed

@@ -1,5 +1,5 @@
 -- What an allowed operation makes of the pages in memory is good for the file afterwards.
-use Rattle.std.proofs.Common.{◌≡◌, inl, inr, ℕ, ◌+◌, ◌<◌, ◌≤◌, ◌==◌, Bool, cond, List, [], ◌∷◌, get_or, All, Option, Some, None, sym, ap, ◌∙◌, subst, arith}
+use Rattle.std.proofs.Common.{◌≡◌, inl, inr, ℕ, ◌+◌, ◌≤◌, ◌==◌, Bool, cond, List, [], ◌∷◌, get_or, All, Option, Some, sym, ap, ◌∙◌, subst, arith}
 use Rattle.std.proofs.lemmas.Bool.{cases_Bool, eqb-true}
 use Rattle.std.proofs.lemmas.List.Elements.{All-head, All-tail}
 use Rattle.hb_frag.specs.declared.pages.LivePage.{LivePage}
@@ -15,7 +15,7 @@ use Rattle.hb_log_codec.specs.Groups.{FitsOp}
 use Rattle.hb_store.specs.Keeps.{IsGoodPage}
 use Rattle.hb_store.specs.Making.{IsReadable, MakesGoodPages}
 use Rattle.hb_store.specs.Replay.{set_pages}
-use Rattle.hb_store.specs.ReplayLists.{live_so, set_one-other, set_one-same}
+use Rattle.hb_store.specs.ReplayLists.{live_so, set_one-same}
 use Rattle.hb_store.specs.Replaying.{ComesAfter, HasLimits, IsPageOf}
 use Rattle.hb_store.proofs.Counting.{high_next}
 use Rattle.hb_store.proofs.MadeMeta.{comes_after, made_numbered, reads_some, some_page}

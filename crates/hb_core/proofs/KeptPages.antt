@@ -1,11 +1,8 @@
 -- After a step every page in memory is one of the file and good, and what the file says of itself is within its limits.
-use Rattle.std.proofs.Common.{◌≡◌, inl, inr, ℕ, ◌<◌, ◌≤◌, ◌^◌, List, [], ◌∷◌, length, get_or, Option, Some, None, IsSome, refl, sym, ap, ◌∙◌, subst, arith}
-use Rattle.hb_frag.specs.declared.pages.LivePage.{LivePage}
+use Rattle.std.proofs.Common.{◌≡◌, inl, inr, ℕ, ◌<◌, ◌≤◌, ◌^◌, Option, Some, None, IsSome, refl, sym, ap, ◌∙◌, subst, arith}
 use Rattle.hb_frag.specs.declared.pages.Page.{Page}
 use Rattle.hb_layout.specs.declared.meta.Meta.{Meta}
 use Rattle.hb_ops.specs.declared.operations.Op.{Op}
-use Rattle.hb_ops.specs.Files.{if_live}
-use Rattle.hb_ops.specs.Operations.{Change, reads_of}
 use Rattle.hb_store.specs.Calls.{IsAllowedHere, change_here, framed_read}
 use Rattle.hb_store.specs.Keeps.{IsGoodPage, StoreState}
 use Rattle.hb_store.specs.Making.{HaveFittingParts, MakesGoodPages}
@@ -27,7 +24,7 @@ use Rattle.hb_core.proofs.GoodChanges.{AreGoodPages, IsGoodChange, each_set, goo
 use Rattle.hb_core.proofs.FitOps.{HeldArePoints, fits_op}
 use Rattle.hb_core.proofs.OwnPages.{gives_up_nothing, runs_out_nothing}
 use Rattle.hb_core.proofs.RowTells.{Tells, TellsOp, tells_row}
-use Rattle.hb_core.proofs.StepKinds.{IsOutright, each_kind}
+use Rattle.hb_core.proofs.StepKinds.{each_kind}
 
 -- What a store keeps of its pages and of what its file says of itself.
 pub record KeepsPages (st : StoreState) : Type 0 where

@@ -1,9 +1,8 @@
 -- After a step the order is legal, and the file has its result.
-use Rattle.std.proofs.Common.{◌≡◌, ◌≢◌, ◌⊎◌, inl, inr, ℕ, ◌<◌, ◌≤◌, Bool, true, false, List, [], ◌∷◌, ◌++◌, All, Option, Some, None, IfSome, refl, sym, ap, ◌∙◌, subst, arith}
+use Rattle.std.proofs.Common.{◌≡◌, ◌≢◌, ◌⊎◌, inl, inr, ℕ, ◌<◌, ◌≤◌, true, List, [], ◌∷◌, ◌++◌, All, Option, Some, IfSome, refl, sym, ap, ◌∙◌, subst, arith}
 use Rattle.std.specs.List.{AllByRecursion}
 use Rattle.std.proofs.lemmas.Bool.{cases_lt, false≢true}
 use Rattle.std.proofs.lemmas.List.Elements.{All-head, All-tail}
-use Rattle.hb_ops.specs.Files.{contents_of}
 use Rattle.hb_set.specs.Machine.{RecordSet, reply_of, set_after}
 use Rattle.hb_set.specs.Order.{AreReplies, Entry, IsLegalOrder, KeepsSessions, MayPrecede, result_of}
 use Rattle.hb_set.specs.declared.commands.Command.{Command}
@@ -11,16 +10,16 @@ use Rattle.hb_set.specs.declared.commands.Command.TheVariants.{Insert, Delete, L
 use Rattle.hb_set.specs.declared.scripts.Line.{Line}
 use Rattle.hb_activity.specs.declared.activities.Activity.{Activity}
 use Rattle.hb_activity.specs.declared.activities.Activity.TheVariants as at
-use Rattle.hb_core.specs.Machines.{Files, Machine, current_file, is_answered}
+use Rattle.hb_core.specs.Machines.{Files, Machine, is_answered}
 use Rattle.hb_core.specs.SessionRows.{next_line}
 use Rattle.hb_core.specs.KeptLines.{line_in_hand}
 use Rattle.hb_core.specs.KeptOrder.{HasLegalOrder}
 use Rattle.hb_core.specs.KeptTurns.{IsInTurn, LinesInTurn, awaited_number}
-use Rattle.hb_core.specs.ContentsLaws.{ContentsFollowOrder, ContentsStep, TakesEffectOn, contents_now}
+use Rattle.hb_core.specs.ContentsLaws.{ContentsFollowOrder, ContentsStep, contents_now}
 use Rattle.hb_core.specs.OrderLaws.{SearchIsRight, OrderStaysLegal}
 use Rattle.hb_core.specs.Steps.{WantsBoxes}
-use Rattle.hb_core.proofs.NextLines.{earlier_answered, next_is, same_line}
-use Rattle.hb_core.proofs.OrderPlaces.{KeepsReplies, replies_kept}
+use Rattle.hb_core.proofs.NextLines.{next_is, same_line}
+use Rattle.hb_core.proofs.OrderPlaces.{replies_kept}
 
 -- ---- one entry more
 
@@ -113,12 +112,13 @@ module _ (n : RecordSet) (m : Machine) (files after : Files) (actor : ℕ) (new 
   still_legal (inl (order, same)) = (subst (IsLegalOrder n) (sym order) legal.legal, ap (result_of n) order ∙ legal.result ∙ sym same)
   still_legal (inr (entry, order, takes)) =
       let machine : entry.reply ≡ reply_of entry.line.command (contents_now files) = elim (search_or_not entry.line.command) [ inl search ↦ right entry order search | inr other ↦ takes.reply other ] in
-      let reply : entry.reply ≡ reply_of entry.line.command (result_of n m.order) = machine ∙ ap (reply_of entry.line.command) (sym legal.result) in
-      (subst (IsLegalOrder n) (sym order) (record {
-        replies = replies_more n m.order entry legal.legal.replies reply;
-        sessions = sessions_more m.order entry legal.legal.sessions (λ i d lt. may_precede m turn actor entry takes.hand _ (turn.placed i d lt));
-      }),
-      ap (result_of n) order ∙ result_more n m.order entry ∙ ap (set_after entry.line.command) legal.result ∙ sym takes.leaves)
+      let reply : entry.reply ≡ reply_of entry.line.command (result_of n m.order) = machine ∙ ap (reply_of entry.line.command) (sym legal.result) in (
+        subst (IsLegalOrder n) (sym order) (record {
+          replies = replies_more n m.order entry legal.legal.replies reply;
+          sessions = sessions_more m.order entry legal.legal.sessions (λ i d lt. may_precede m turn actor entry takes.hand _ (turn.placed i d lt));
+        }),
+        ap (result_of n) order ∙ result_more n m.order entry ∙ ap (set_after entry.line.command) legal.result ∙ sym takes.leaves,
+      )
 
 pub order_stays_legal : ContentsFollowOrder → OrderStaysLegal
 order_stays_legal law n m files after actor outcome new told fit inside has turn legal right step is =

@@ -1,24 +1,22 @@
 -- What the lines would store can be stored after a step, too.
-use Rattle.std.proofs.Common.{◌≡◌, ◌⊎◌, inl, inr, ℕ, ◌==◌, ◌&&◌, not, true, false, Bool, cond, List, [], ◌∷◌, All, Option, Some, None, IfSome, refl, sym, ap, ◌∙◌, subst, ne_eqb}
-use Rattle.std.specs.Prelude.{MatchOption}
-use Rattle.std.proofs.lemmas.Bool.{cases_Bool, eq-eqb, eqb-true, eqb-false}
+use Rattle.std.proofs.Common.{◌≡◌, inl, inr, ℕ, ◌==◌, ◌&&◌, not, true, false, Bool, cond, List, [], ◌∷◌, All, Option, Some, None, IfSome, sym, ap, ◌∙◌, subst}
+use Rattle.std.proofs.lemmas.Bool.{cases_Bool}
 use Rattle.std.proofs.lemmas.List.Elements.{All-head, All-tail}
 use Rattle.hb_set.specs.declared.scripts.Answered.{Answered}
 use Rattle.hb_set.specs.declared.scripts.Line.{Line}
 use Rattle.hb_activity.specs.declared.activities.Activity.{Activity}
-use Rattle.hb_activity.specs.declared.activities.Activity.TheVariants as at
 use Rattle.hb_store.specs.Keeps.{StoreState}
 use Rattle.hb_core.specs.declared.outcomes.Outcome.{Outcome}
 use Rattle.hb_core.specs.declared.outcomes.Outcome.TheVariants as outcomes
-use Rattle.hb_core.specs.Machines.{Machine, is_answered, with_activity}
-use Rattle.hb_core.specs.Deeds.{Deed, answers_now}
+use Rattle.hb_core.specs.Machines.{Machine, is_answered}
+use Rattle.hb_core.specs.Deeds.{Deed}
 use Rattle.hb_core.specs.Performing.{Performs}
-use Rattle.hb_core.specs.SessionRows.{next_line, taking}
+use Rattle.hb_core.specs.SessionRows.{next_line}
 use Rattle.hb_core.specs.WorkerRows.{IsPostingOf, TakesJob}
 use Rattle.hb_core.specs.Steps.{Works}
 use Rattle.hb_core.specs.KeptLines.{HasLineBody, LinesFit, line_in_hand}
 use Rattle.hb_core.specs.FileLaws.{LinesStayFit}
-use Rattle.hb_core.proofs.LineFates.{GoesOn, LineFate, fate_given_up, fate_ran_out, fate_row}
+use Rattle.hb_core.proofs.LineFates.{LineFate, fate_given_up, fate_ran_out, fate_row}
 use Rattle.hb_core.proofs.StepCases.{each_step}
 use Rattle.hb_core.proofs.Ways.{KeepsAllButDisk, forces_so, meets_so, stays_so}
 

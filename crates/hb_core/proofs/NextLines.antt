@@ -1,7 +1,7 @@
 -- The line that a session takes next, where others are answered.
-use Rattle.std.proofs.Common.{◌≡◌, ◌≢◌, ◌⊎◌, inl, inr, ℕ, zero, suc, ◌<◌, ◌==◌, ◌&&◌, ◌||◌, not, Bool, true, false, cond, List, [], ◌∷◌, ◌++◌, length, get_or, Option, Some, None, IsTrue, refl, sym, ap, ◌∙◌, subst, arith, ne_eqb}
-use Rattle.std.specs.List.{AllByRecursion, Contains, list_any}
-use Rattle.std.proofs.lemmas.Bool.{cases_Bool, eq-eqb, eqb-true, false≢true}
+use Rattle.std.proofs.Common.{◌≡◌, ◌≢◌, ◌⊎◌, inl, inr, ℕ, zero, suc, ◌<◌, ◌==◌, ◌&&◌, ◌||◌, not, Bool, true, false, cond, List, [], ◌∷◌, ◌++◌, Option, Some, None, refl, sym, ap, ◌∙◌, subst, arith, ne_eqb}
+use Rattle.std.specs.List.{Contains}
+use Rattle.std.proofs.lemmas.Bool.{eq-eqb, eqb-true, false≢true}
 use Rattle.hb_set.specs.Order.{AreRising, IsAbove}
 use Rattle.hb_set.specs.declared.scripts.Answered.{Answered}
 use Rattle.hb_set.specs.declared.scripts.Line.{Line}
@@ -146,7 +146,7 @@ pub next_stays : (session : ℕ) (answered : List Answered) (a : Answered) (line
 next_stays session answered a [] apart = refl
 next_stays session answered a (x ∷ lines) apart =
     let here : ((x.session == session) && not (is_answered x.number (answered ++ a ∷ []))) ≡ ((x.session == session) && not (is_answered x.number answered)) =
-        and_later (x.session == session) (not (is_answered x.number (answered ++ a ∷ []))) (not (is_answered x.number answered))
-        (λ own. ap not (unanswered_same x.number answered a (apart x (zero, omega arith, refl) (eqb-true x.session session own)))) in
+    and_later (x.session == session) (not (is_answered x.number (answered ++ a ∷ []))) (not (is_answered x.number answered))
+    (λ own. ap not (unanswered_same x.number answered a (apart x (zero, omega arith, refl) (eqb-true x.session session own)))) in
     ap (λ (b : Bool). cond b (Some x) (next_line session (answered ++ a ∷ []) lines)) here
     ∙ ap (λ (o : Option Line). cond ((x.session == session) && not (is_answered x.number answered)) (Some x) o) (next_stays session answered a lines (λ line there own. apart line (behind lines x line there) own))

@@ -1,10 +1,9 @@
 -- What a row does to the contents: its line takes effect, or they stay.
-use Rattle.std.proofs.Common.{◌≡◌, ◌⊎◌, inl, inr, ℕ, List, [], ◌∷◌, ◌++◌, Option, Some, None, refl, sym, ap, ◌∙◌, subst}
+use Rattle.std.proofs.Common.{◌≡◌, ◌⊎◌, inl, inr, ℕ, List, [], ◌∷◌, Option, Some, None, refl, sym, ap, ◌∙◌, subst}
 use Rattle.std.specs.Prelude.{MatchOption}
 use Rattle.std.specs.FinMap as map
 use Rattle.hb_space.specs.Boxes.{Area}
 use Rattle.hb_space.specs.declared.records.Record.{Record}
-use Rattle.hb_frag.specs.declared.leaves.Leaf.TheVariants.{Records}
 use Rattle.hb_frag.specs.declared.pages.LivePage.{LivePage}
 use Rattle.hb_frag.specs.declared.pages.Page.TheVariants.{Live}
 use Rattle.hb_frag.specs.Leaves.{Placed, leaf_at}
@@ -31,7 +30,7 @@ use Rattle.hb_activity.specs.declared.activities.Activity.TheVariants as at
 use Rattle.hb_activity.specs.Walks.{goal_of}
 use Rattle.hb_store.specs.Keeps.{StoreState}
 use Rattle.hb_core.specs.Machines.{Machine, with_disk}
-use Rattle.hb_core.specs.Deeds.{Deed, takes_effect}
+use Rattle.hb_core.specs.Deeds.{Deed}
 use Rattle.hb_core.specs.KeptLines.{line_in_hand}
 use Rattle.hb_core.specs.ContentsLaws.{TakesEffectOn}
 use Rattle.hb_core.specs.SearchRows.{SearchGoesOn}

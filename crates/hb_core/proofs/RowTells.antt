@@ -1,8 +1,8 @@
 -- What a row tells of the operation that it does, beyond what the pages that this reads tell.
-use Rattle.std.proofs.Common.{◌≡◌, ◌⊎◌, inl, inr, ℕ, ◌-◌, List, [], ◌∷◌, length, Option, Some, None, IsSome, IfSome, refl, sym, ap, ◌∙◌, subst}
-use Rattle.std.specs.Prelude.{Contains, MatchOption}
+use Rattle.std.proofs.Common.{◌≡◌, ◌⊎◌, inl, inr, ℕ, ◌-◌, List, [], ◌∷◌, Option, Some, None, IsSome, IfSome, refl, sym, ap, ◌∙◌, subst}
+use Rattle.std.specs.Prelude.{MatchOption}
 use Rattle.std.specs.Option.{option_and_then}
-use Rattle.hb_space.specs.Boxes.{Area, IsArea}
+use Rattle.hb_space.specs.Boxes.{Area}
 use Rattle.hb_space.specs.Points.{IsBody}
 use Rattle.hb_space.specs.declared.records.Record.{Record}
 use Rattle.hb_frag.specs.declared.leaves.Leaf.{Leaf}
@@ -11,10 +11,8 @@ use Rattle.hb_frag.specs.declared.pages.LivePage.{LivePage}
 use Rattle.hb_frag.specs.declared.pages.Page.{Page}
 use Rattle.hb_frag.specs.declared.pages.Page.TheVariants.{Live}
 use Rattle.hb_frag.specs.declared.paths.Side.{Side}
-use Rattle.hb_frag.specs.Leaves.{Placed, leaf_at, siblings_of}
-use Rattle.hb_latch.specs.declared.modes.Mode.{Mode}
+use Rattle.hb_frag.specs.Leaves.{Placed, leaf_at}
 use Rattle.hb_latch.specs.declared.modes.Mode.TheVariants.{Shared}
-use Rattle.hb_layout.specs.declared.meta.Meta.{Meta}
 use Rattle.hb_ops.specs.declared.operations.Op.{Op}
 use Rattle.hb_ops.specs.declared.operations.Op.TheVariants as ops
 use Rattle.hb_ops.specs.Files.{if_live}
@@ -29,10 +27,10 @@ use Rattle.hb_activity.specs.declared.wanting.Wanted.{Wanted}
 use Rattle.hb_activity.specs.declared.activities.Activity.{Activity}
 use Rattle.hb_activity.specs.declared.activities.Activity.TheVariants as at
 use Rattle.hb_activity.specs.Walks.{goal_of}
-use Rattle.hb_activity.specs.Wanting.{child_of, in_mode, named_child, wanted_of, wanted_page}
+use Rattle.hb_activity.specs.Wanting.{in_mode, named_child, wanted_of, wanted_page}
 use Rattle.hb_store.specs.Keeps.{StoreState}
 use Rattle.hb_store.specs.NextPage.{IsNext}
-use Rattle.hb_core.specs.Machines.{Machine, live_here, with_disk}
+use Rattle.hb_core.specs.Machines.{Machine, with_disk}
 use Rattle.hb_core.specs.Asking.{looked_live, wanted_by}
 use Rattle.hb_core.specs.Fetching.{Brings}
 use Rattle.hb_core.specs.Deeds.{Deed}

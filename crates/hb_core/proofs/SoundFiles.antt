@@ -1,5 +1,5 @@
 -- The operation of a row is allowed and licensed in the file, and every file stays sound.
-use Rattle.std.proofs.Common.{◌≡◌, ◌⊎◌, inl, inr, ℕ, ◌+◌, ◌≤◌, List, [], ◌∷◌, ◌++◌, length, All, Option, Some, None, IsSome, IfSome, option_map, refl, sym, ap, ◌∙◌, subst, arith, length-append}
+use Rattle.std.proofs.Common.{◌≡◌, inl, inr, ℕ, ◌+◌, List, [], ◌∷◌, ◌++◌, length, All, Option, Some, None, IsSome, IfSome, option_map, refl, sym, ap, ◌∙◌, subst, arith, length-append}
 use Rattle.std.proofs.lemmas.List.Elements.{All-append, All-cons, All-head, All-nil, All-tail}
 use Rattle.hb_frag.specs.declared.pages.Page.{Page}
 use Rattle.hb_layout.specs.declared.meta.Meta.{Meta}
@@ -7,10 +7,10 @@ use Rattle.hb_layout.specs.Limits.{IsLayout}
 use Rattle.hb_wal.specs.Log.{Waiting, left_waiting}
 use Rattle.hb_ops.specs.declared.operations.Op.{Op}
 use Rattle.hb_ops.specs.Files.{FileState, page_of}
-use Rattle.hb_ops.specs.Operations.{IsAllowed, effect_of}
+use Rattle.hb_ops.specs.Operations.{effect_of}
 use Rattle.hb_ops.specs.Sound.{IsSound}
 use Rattle.hb_sound.specs.LawsOfOperations.{OperationsKeepSound}
-use Rattle.hb_store.specs.Calls.{IsAllowedHere, change_here, durable_after, later_after}
+use Rattle.hb_store.specs.Calls.{IsAllowedHere, durable_after, later_after}
 use Rattle.hb_store.specs.Keeps.{StoreState, last_of}
 use Rattle.hb_store.specs.Making.{HaveFittingParts, MakesGoodPages}
 use Rattle.hb_store.specs.ReplayLaws.{last_of-append}
@@ -21,19 +21,19 @@ use Rattle.hb_core.specs.Asking.{wanted_by}
 use Rattle.hb_core.specs.Fetching.{Brings}
 use Rattle.hb_core.specs.Deeds.{Deed}
 use Rattle.hb_core.specs.Performing.{DoesOp, MayDo, Performs, files_after, with_effect}
-use Rattle.hb_core.specs.Acting.{DoesRow, MeetsBadPage}
+use Rattle.hb_core.specs.Acting.{MeetsBadPage}
 use Rattle.hb_core.specs.Forcing.{ForcesFirst, StaysSo, forced_files}
-use Rattle.hb_core.specs.Keeps.{HasSoundFile, HoldsPagesOfFile}
+use Rattle.hb_core.specs.Keeps.{HasSoundFile}
 use Rattle.hb_core.specs.KeptLines.{LinesFit, MarksInPlace}
 use Rattle.hb_core.specs.FileLaws.{FilesStaySound, MayBeDoneIn, RowsAreLicensed}
-use Rattle.hb_core.specs.Steps.{StepsTo, Works}
+use Rattle.hb_core.specs.Steps.{Works}
 use Rattle.hb_core.proofs.FileOps.{ShowsFile, allowed_in_file, has_in_file, licensed_in_file, meta_after, shown_after}
 use Rattle.hb_core.proofs.FitOps.{HeldArePoints, fits_op}
 use Rattle.hb_core.proofs.KeptPages.{KeepsPages, brought, change_is_well, keeps_pages}
 use Rattle.hb_core.proofs.LaterPages.{last_sound}
 use Rattle.hb_core.proofs.OwnPages.{gives_up_nothing, runs_out_nothing}
 use Rattle.hb_core.proofs.RowTells.{Tells, TellsOp, tells_row}
-use Rattle.hb_core.proofs.StepKinds.{IsOutright, each_kind}
+use Rattle.hb_core.proofs.StepKinds.{each_kind}
 
 -- What a store and the files over its disk have in common.
 pub record FilesHold (st : StoreState) (files : Files) : Type 0 where
@@ -171,23 +171,30 @@ module _ (makes : MakesGoodPages) (parts : HaveFittingParts) (points : HeldArePo
 
       forces : (said : Outcome) → ForcesFirst m said outcome new → HoldAfter new
       forces said (inl (says, is)) =
-          let both = force_holds files.durable files.later m.store.log.groups holds.durable holds.later holds.each in
-          (forced_files files, ap (λ (n : Machine). n.files) is ∙ ap (option_map forced_files) told, subst (λ (n : Machine). FilesHold n.store (forced_files files)) (sym is) (record {
-            durable = both.0;
-            later = both.1;
-            each = both.2;
-            layout = holds.layout;
-            meta = ap (λ (f : FileState). f.meta) both.3 ∙ holds.meta;
-            shown = λ id page there. ap (λ (f : FileState). page_of f id) both.3 ∙ holds.shown id page there;
-          }))
-      forces said (inr badly) = (files, ap (λ (n : Machine). n.files) badly.stops ∙ told, subst (λ (n : Machine). FilesHold n.store files) (sym badly.stops) (record {
-        durable = holds.durable;
-        later = holds.later;
-        each = holds.each;
-        layout = holds.layout;
-        meta = holds.meta;
-        shown = holds.shown;
-      }))
+          let both = force_holds files.durable files.later m.store.log.groups holds.durable holds.later holds.each in (
+            forced_files files,
+            ap (λ (n : Machine). n.files) is ∙ ap (option_map forced_files) told,
+            subst (λ (n : Machine). FilesHold n.store (forced_files files)) (sym is) (record {
+              durable = both.0;
+              later = both.1;
+              each = both.2;
+              layout = holds.layout;
+              meta = ap (λ (f : FileState). f.meta) both.3 ∙ holds.meta;
+              shown = λ id page there. ap (λ (f : FileState). page_of f id) both.3 ∙ holds.shown id page there;
+            }),
+          )
+      forces said (inr badly) = (
+        files,
+        ap (λ (n : Machine). n.files) badly.stops ∙ told,
+        subst (λ (n : Machine). FilesHold n.store files) (sym badly.stops) (record {
+          durable = holds.durable;
+          later = holds.later;
+          each = holds.each;
+          layout = holds.layout;
+          meta = holds.meta;
+          shown = holds.shown;
+        }),
+      )
 
       worked : Works m actor outcome new → HoldAfter new
       worked (inl (by, way, so)) = stays (outcomes.Blocked by) so

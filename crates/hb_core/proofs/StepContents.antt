@@ -1,7 +1,7 @@
 -- What a step does to the contents of the file: they stay, or the line that joins the order takes effect on them.
-use Rattle.std.proofs.Common.{◌≡◌, ◌≢◌, ◌⊎◌, inl, inr, ℕ, Bool, true, false, cond, List, [], ◌∷◌, ◌++◌, Option, Some, None, option_map, refl, sym, ap, ◌∙◌, subst, append-nil}
+use Rattle.std.proofs.Common.{◌≡◌, ◌⊎◌, inl, inr, ℕ, Bool, true, cond, List, [], ◌∷◌, ◌++◌, Option, Some, None, option_map, refl, sym, ap, ◌∙◌, subst, append-nil}
 use Rattle.std.specs.FinMap as map
-use Rattle.std.specs.FinMap.{IsAntisymmetric, nat_cmp-IsAntisymmetric, slice_cmp-IsAntisymmetric}
+use Rattle.std.specs.FinMap.{nat_cmp-IsAntisymmetric, slice_cmp-IsAntisymmetric}
 use Rattle.std.specs.Ordering.{eq_by_cmp, is_eq}
 use Rattle.std.specs.declared.cmp.Ordering.{Ordering}
 use Rattle.std.specs.declared.cmp.Ordering.TheVariants.{Less, Equal, Greater}
@@ -19,7 +19,6 @@ use Rattle.hb_set.specs.declared.commands.Command.{Command}
 use Rattle.hb_set.specs.declared.commands.Command.TheVariants.{Insert, Delete, Lookup, Search}
 use Rattle.hb_sound.specs.Laws.{LackIsContents, StandingIsContents}
 use Rattle.hb_sound.specs.LawsOfOperations.{ContentsBecome, OperationsKeepContents}
-use Rattle.hb_activity.specs.declared.activities.Activity.{Activity}
 use Rattle.hb_store.specs.Calls.{durable_after, later_after}
 use Rattle.hb_store.specs.Keeps.{StoreState, last_of}
 use Rattle.hb_store.specs.Making.{HaveFittingParts, MakesGoodPages}
@@ -32,7 +31,6 @@ use Rattle.hb_core.specs.Deeds.{Deed}
 use Rattle.hb_core.specs.Performing.{MayDo, Performs, files_after, with_effect}
 use Rattle.hb_core.specs.Acting.{MeetsBadPage}
 use Rattle.hb_core.specs.Forcing.{ForcesFirst, StaysSo, forced_files}
-use Rattle.hb_core.specs.Keeps.{HasSoundFile, HoldsPagesOfFile}
 use Rattle.hb_core.specs.KeptLines.{LinesFit, line_in_hand}
 use Rattle.hb_core.specs.ContentsLaws.{ChangesAt, ContentsFollowOrder, ContentsStep, PointsStay, contents_now}
 use Rattle.hb_core.specs.Steps.{StepsTo, Works}
@@ -92,9 +90,11 @@ module _ (makes : MakesGoodPages) (parts : HaveFittingParts) (points : HeldArePo
       let file = shows_file fetched files holds in
       let may = may_be_done makes parts points fetched files op keeps holds tells does.allowed in
       let layout : IsLayout s.meta = subst IsLayout (sym holds.meta) holds.layout in
-      let last : last_of files.durable (files.later ++ effect_of s op ∷ []) ≡ effect_of s op = last_of-append files.durable files.later (effect_of s op) in
-      (with_effect op files, is ∙ ap (files_after (Some op)) told,
-      subst (λ (f : FileState). Becomes (contents_of s) (contents_of f) (Some op)) (sym last) (becomes_so s op (keep_contents s op file.sound layout may.attributes may.allowed may.licensed)))
+      let last : last_of files.durable (files.later ++ effect_of s op ∷ []) ≡ effect_of s op = last_of-append files.durable files.later (effect_of s op) in (
+        with_effect op files,
+        is ∙ ap (files_after (Some op)) told,
+        subst (λ (f : FileState). Becomes (contents_of s) (contents_of f) (Some op)) (sym last) (becomes_so s op (keep_contents s op file.sound layout may.attributes may.allowed may.licensed)),
+      )
 
   joined : (after : Files) (joins : Option Entry) → new.order ≡ m.order ++ if_some joins → JoinsWith (contents_now files) (contents_now after) (m.activity actor) joins → ContentsStep m actor new (contents_now files) (contents_now after)
   joined after None order same = inl (order ∙ append-nil m.order, same)
@@ -108,9 +108,12 @@ module _ (makes : MakesGoodPages) (parts : HaveFittingParts) (points : HeldArePo
       let here = brought m _ acts.fetched acts.brings keeps in
       let hold = brought_shown m files _ acts.fetched told acts.brings holds in
       let tells = tells_row m actor _ acts.fetched acts.brings (wanted_by m actor) acts.deed refl (fit.in_hand actor) acts.row in
-      let done = becomes acts.fetched acts.deed.op _ here hold tells acts.performs.store acts.performs.files in
-      (done.0, done.1, joined done.0 acts.deed.joins acts.performs.order
-      (joins_row points standing lacking m acts.fetched (current_file files) here (shows_file acts.fetched files hold) (contents_now done.0) (m.activity actor) (wanted_by m actor) acts.deed done.2 acts.row))
+      let done = becomes acts.fetched acts.deed.op _ here hold tells acts.performs.store acts.performs.files in (
+        done.0,
+        done.1,
+        joined done.0 acts.deed.joins acts.performs.order
+            (joins_row points standing lacking m acts.fetched (current_file files) here (shows_file acts.fetched files hold) (contents_now done.0) (m.activity actor) (wanted_by m actor) acts.deed done.2 acts.row),
+      )
   worked (inr (inr (free, ready, inr (inl gives)))) = quiet gives.fetched _ (gives_up_nothing m gives.why (m.activity actor)) (given_up_joins_nothing m gives.why (m.activity actor)) gives.performs
   worked (inr (inr (free, ready, inr (inr bad)))) = meets bad
 

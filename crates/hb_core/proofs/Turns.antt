@@ -1,8 +1,8 @@
 -- After a step each session still answers its lines in their order.
-use Rattle.std.proofs.Common.{◌≡◌, ◌≢◌, ◌⊎◌, inl, inr, ℕ, ◌<◌, ◌==◌, Bool, true, false, cond, List, [], ◌∷◌, ◌++◌, All, Option, Some, None, IfSome, IsTrue, refl, sym, ap, ◌∙◌, subst, append-nil, ne_eqb}
+use Rattle.std.proofs.Common.{◌≡◌, ◌≢◌, ◌⊎◌, inl, inr, ℕ, ◌<◌, ◌==◌, Bool, true, cond, List, [], ◌∷◌, ◌++◌, All, Option, Some, None, IfSome, refl, sym, ap, ◌∙◌, subst, append-nil, ne_eqb}
 use Rattle.std.specs.List.{Contains}
 use Rattle.std.specs.Option.{IsSomeAnd}
-use Rattle.std.proofs.lemmas.Bool.{cases_Bool, eq-eqb, eqb-true, eqb-false, false≢true}
+use Rattle.std.proofs.lemmas.Bool.{cases_Bool, eq-eqb, eqb-true, eqb-false}
 use Rattle.std.proofs.lemmas.List.Elements.{All-append, All-cons, All-nil}
 use Rattle.hb_set.specs.Order.{AreRising, Entry}
 use Rattle.hb_set.specs.declared.commands.Reply.{Reply}
@@ -16,9 +16,9 @@ use Rattle.hb_core.specs.declared.outcomes.Outcome.TheVariants as outcomes
 use Rattle.hb_core.specs.Machines.{Machine, if_some, is_answered, with_activity}
 use Rattle.hb_core.specs.Deeds.{Deed}
 use Rattle.hb_core.specs.Performing.{Performs, given_by}
-use Rattle.hb_core.specs.SessionRows.{next_line, taking}
+use Rattle.hb_core.specs.SessionRows.{next_line}
 use Rattle.hb_core.specs.KeptLines.{line_in_hand}
-use Rattle.hb_core.specs.KeptTurns.{IsInTurn, LinesInTurn, awaited_number}
+use Rattle.hb_core.specs.KeptTurns.{LinesInTurn, awaited_number}
 use Rattle.hb_core.specs.OrderLaws.{TurnsStay}
 use Rattle.hb_core.specs.WorkerRows.{IsPostingOf, TakesJob}
 use Rattle.hb_core.specs.Steps.{Works}

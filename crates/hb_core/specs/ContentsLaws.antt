@@ -1,5 +1,5 @@
 -- What a step does to the contents of the file, as laws.
-use Rattle.std.specs.Prelude.{◌≡◌, ◌≢◌, ◌⊎◌, ℕ, List, [], ◌∷◌, ◌++◌, Some}
+use Rattle.std.specs.Prelude.{◌≡◌, ◌⊎◌, ℕ, List, [], ◌∷◌, ◌++◌, Some}
 use Rattle.std.specs.FinMap as map
 use Rattle.hb_ops.specs.Files.{contents_of}
 use Rattle.hb_set.specs.Machine.{RecordSet, reply_of, set_after}

@@ -1,5 +1,5 @@
 -- What every machine keeps of its script's lines, and of the marks of its file.
-use Rattle.std.specs.Prelude.{◌≡◌, ◌<◌, ◌≤◌, ◌^◌, ℕ, All, Option, Some, None, IfSome}
+use Rattle.std.specs.Prelude.{◌<◌, ◌≤◌, ◌^◌, ℕ, All, Option, Some, None, IfSome}
 use Rattle.hb_space.specs.Points.{IsBody}
 use Rattle.hb_layout.specs.Limits.{IsLayout}
 use Rattle.hb_set.specs.declared.commands.Command.{Command}
