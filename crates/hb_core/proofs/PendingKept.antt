@@ -28,7 +28,7 @@ use Rattle.hb_core.specs.KeptOrder.{FollowMarks, HasLegalOrder, HasPendingPrefix
 use Rattle.hb_core.specs.KeepingLaws.{IsAnsweredInPlace, PrefixStaysPending, SettledStaysSettled}
 use Rattle.hb_core.proofs.AnswersInPlace.{answers_are_in_place}
 use Rattle.hb_core.proofs.Moments.{answers_are_timed}
-use Rattle.hb_core.proofs.OrderPlaces.{no_place, one_place, stands_longer}
+use Rattle.hb_core.proofs.SinglePlaces.{no_place, one_place, stands_longer}
 use Rattle.hb_core.proofs.StepKinds.{each_kind}
 use Rattle.hb_core.proofs.ToldStays.{still_told}
 use Rattle.hb_core.proofs.Ways.{order_grows}

@@ -21,6 +21,8 @@ use Rattle.hb_store.specs.Keeps.{IsGoodPage}
 use Rattle.hb_core.specs.Machines.{Files, Machine, current_file, live_here}
 use Rattle.hb_core.specs.Performing.{latches_held, mode_among}
 use Rattle.hb_core.specs.WorkerRows.{LeadsBelow}
+use Rattle.hb_core.specs.KeptLines.{LinesFit}
+use Rattle.hb_core.specs.KeptTurns.{LinesInTurn}
 use Rattle.hb_core.specs.KeptOrder.{HasLegalOrder, HasPendingPrefix}
 
 -- Every file is sound: the durable one, and that after each group that waits. What is in memory is the last one's.
@@ -83,6 +85,8 @@ HasNobodyElse m = (actor : ℕ) → ¬ (MayLatch actor) → m.activity actor ≡
 -- All of them, from the set that was opened.
 pub record CoreKeeps (n : RecordSet) (m : Machine) (files : Files) : Type 0 where
   pub told : m.files ≡ Some files
+  pub lines_fit : LinesFit m
+  pub lines_in_turn : LinesInTurn m
   pub pages_of_file : HoldsPagesOfFile m
   pub sound_file : HasSoundFile m files
   pub latches_fit : LatchesFit m
