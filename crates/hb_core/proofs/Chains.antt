@@ -14,7 +14,7 @@ use Rattle.hb_core.specs.Performing.{given_by}
 use Rattle.hb_core.specs.Forcing.{StaysSo}
 use Rattle.hb_core.specs.Steps.{StepsAs, StepsTo}
 use Rattle.hb_core.specs.Keeps.{CoreKeeps}
-use Rattle.hb_core.specs.KeepingLaws.{HasGoneOn, HasKeptAll, IsBetween, KeepsFileAndOrder, RoomStaysKnown, StepsGoOn, StepsInOrder, StepsKeepAll, StoppedStays}
+use Rattle.hb_core.specs.KeepingLaws.{HasGoneOn, IsBetween, StepsGoOn, StoppedStays}
 use Rattle.hb_core.specs.Laws.{LatchesStayFit}
 use Rattle.hb_core.proofs.Moments.{answers_are_timed, clock_moves}
 use Rattle.hb_core.proofs.PendingKept.{grown_by, prefix_stays_pending, settled_stays_settled}
@@ -89,37 +89,6 @@ no_step m new is =
 pub steps_go_on : StepsGoOn
 steps_go_on [] m new is = no_step m new is
 steps_go_on (actor ∷ rest) m new (outcome, next, step, steps) = both_steps m next new (one_step m actor outcome next step) (steps_go_on rest next new steps)
-
--- ---- all that a machine keeps
-
-module _ (latches_stay : LatchesStayFit) (room_stays : RoomStaysKnown) (n : RecordSet) where
-  kept_by_step : (m : Machine) (files : Files) (actor : ℕ) (outcome : Outcome) (new : Machine) (files' : Files) → MayLatch actor → CoreKeeps n m files → StepsTo m actor outcome new → new.files ≡ Some files' → KeepsFileAndOrder n new files' → CoreKeeps n new files'
-  kept_by_step m files actor outcome new files' may keeps step told file = record {
-    told = told;
-    pages_of_file = file.pages_of_file;
-    sound_file = file.sound_file;
-    latches_fit = latches_stay m actor outcome new may keeps.latches_fit keeps.pages_of_file step;
-    nobody_else = nobody_else_comes m actor outcome new may keeps.nobody_else step;
-    walk_in_space = walks_stay_in_space m actor outcome new may keeps.latches_fit keeps.pages_of_file keeps.nobody_else keeps.walk_in_space step;
-    room_known = room_stays m files actor outcome new may keeps.told keeps.latches_fit keeps.pages_of_file keeps.sound_file keeps.nobody_else keeps.room_known step;
-    order_legal = file.order_legal;
-    pending_prefix = prefix_stays_pending n m files actor outcome new files' keeps.told told keeps.sound_file keeps.order_legal keeps.pending_prefix step file.order_legal.legal;
-  }
-
-  kept_in_turn : (actors : List ℕ) (m : Machine) (files : Files) (new : Machine) → All MayLatch actors → CoreKeeps n m files → StepsInOrder n actors m new → (files' : Files) × HasKeptAll n m new files'
-  kept_in_turn [] m files new may keeps is =
-      let now : CoreKeeps n new files = subst (λ (x : Machine). CoreKeeps n x files) (sym is) keeps in
-      let same = ap settled_count is in
-      (files, record { keeps = now; prefixes = files_have_prefixes n new files now.sound_file now.order_legal now.pending_prefix; settled = omega (arith, same) })
-  kept_in_turn (actor ∷ rest) m files new may keeps (outcome, next, step, has, steps) =
-      let told = still_told m files keeps.told actor outcome next step in
-      let kept = kept_in_turn rest next told.0 new (All-tail MayLatch actor rest may) (kept_by_step m files actor outcome next told.0 (All-head MayLatch actor rest may) keeps step told.1 (has told.0 told.1)) steps in
-      let rises = settled_stays_settled n m files actor outcome next keeps.told keeps.sound_file keeps.order_legal keeps.pending_prefix step in
-      let further = kept.1.settled in
-      (kept.0, record { keeps = kept.1.keeps; prefixes = kept.1.prefixes; settled = omega (arith, rises, further) })
-
-pub steps_keep_all : LatchesStayFit → RoomStaysKnown → StepsKeepAll
-steps_keep_all latches_stay room_stays n actors m files new may keeps steps = kept_in_turn latches_stay room_stays n actors m files new may keeps steps
 
 -- ---- a machine that is stopped
 

@@ -32,6 +32,7 @@ pub mod ToldStays
 pub mod PendingKept
 pub mod Prefixes
 pub mod Chains
+pub mod KeptInTurn
 pub mod SplitWeights
 pub mod SplitHome
 pub mod SplitHalves

@@ -4,6 +4,7 @@ use Rattle.hb_ops.specs.Files.{FileState, contents_of}
 use Rattle.hb_set.specs.Machine.{RecordSet}
 use Rattle.hb_set.specs.Order.{Entry, IsLegalOrder, result_of}
 use Rattle.hb_set.specs.declared.scripts.Answered.{Answered}
+use Rattle.hb_set.specs.declared.scripts.Line.{Line}
 use Rattle.hb_latch.specs.Tables.{MayLatch}
 use Rattle.hb_activity.specs.declared.activities.Activity.TheVariants as at
 use Rattle.hb_store.specs.declared.stops.StopWhy.{StopWhy}
@@ -12,7 +13,8 @@ use Rattle.hb_core.specs.declared.outcomes.Outcome.TheVariants as outcomes
 use Rattle.hb_core.specs.Machines.{Files, Machine, settled_count}
 use Rattle.hb_core.specs.Keeps.{CoreKeeps, HasNobodyElse, HasSoundFile, HoldsPagesOfFile, KnowsRoom, LatchesFit, WalksInSpace}
 use Rattle.hb_core.specs.KeptOrder.{HasLegalOrder, HasPendingPrefix, StandsInOrder, StandsOutside}
-use Rattle.hb_core.specs.Steps.{StepsInTurn, StepsTo}
+use Rattle.hb_core.specs.OrderLaws.{SearchIsRight}
+use Rattle.hb_core.specs.Steps.{StepsInTurn, StepsTo, WantsBoxes}
 
 -- Under no number but those of the 19 actors anybody comes to stand.
 abbrev pub NobodyElseComes : Type 0
@@ -88,19 +90,14 @@ pub record HasGoneOn (m new : Machine) : Type 0 where
 abbrev pub StepsGoOn : Type 0
 StepsGoOn = (actors : List ℕ) (m new : Machine) → StepsInTurn actors m new → HasGoneOn m new
 
--- The pages, the file and the order of a machine over a disk that tells are as they should be.
-pub record KeepsFileAndOrder (n : RecordSet) (new : Machine) (files : Files) : Type 0 where
-  pub pages_of_file : HoldsPagesOfFile new
-  pub sound_file : HasSoundFile new files
-  pub order_legal : HasLegalOrder n new files
+-- Steps of these actors in turn, where each search that takes effect has the machine's reply. Nothing keeps a box from being
+-- changed while a search goes through it, before there are locks on boxes.
+abbrev pub AnswersSearches : Machine → Machine → Type 0
+AnswersSearches m new = (files : Files) → m.files ≡ Some files → SearchIsRight m new files
 
-abbrev pub HasFileAndOrder : RecordSet → Machine → Type 0
-HasFileAndOrder n m = (files : Files) → m.files ≡ Some files → KeepsFileAndOrder n m files
-
--- Steps of these actors in turn, where each machine to which one leads is like that.
-abbrev pub StepsInOrder : RecordSet → List ℕ → Machine → Machine → Type 0
-StepsInOrder n [] m new = new ≡ m
-StepsInOrder n (actor ∷ rest) m new = (outcome : Outcome) × (next : Machine) × StepsTo m actor outcome next × HasFileAndOrder n next × StepsInOrder n rest next new
+abbrev pub StepsRightly : List ℕ → Machine → Machine → Type 0
+StepsRightly [] m new = new ≡ m
+StepsRightly (actor ∷ rest) m new = (outcome : Outcome) × (next : Machine) × StepsTo m actor outcome next × AnswersSearches m next × StepsRightly rest next new
 
 -- Such steps of the 19 actors keep all that a machine keeps over a disk that tells, and unsettle no place of the order.
 pub record HasKeptAll (n : RecordSet) (m new : Machine) (files : Files) : Type 0 where
@@ -109,7 +106,14 @@ pub record HasKeptAll (n : RecordSet) (m new : Machine) (files : Files) : Type 0
   pub settled : settled_count m ≤ settled_count new
 
 abbrev pub StepsKeepAll : Type 0
-StepsKeepAll = (n : RecordSet) (actors : List ℕ) (m : Machine) (files : Files) (new : Machine) → All MayLatch actors → CoreKeeps n m files → StepsInOrder n actors m new → (files' : Files) × HasKeptAll n m new files'
+StepsKeepAll = (n : RecordSet) (actors : List ℕ) (m : Machine) (files : Files) (new : Machine) → All MayLatch actors → CoreKeeps n m files → StepsRightly actors m new → (files' : Files) × HasKeptAll n m new files'
+
+-- So all steps do of a machine whose lines aren't searches, in whatever turn its actors take them.
+abbrev pub HasNoSearch : Machine → Type 0
+HasNoSearch m = All (λ (line : Line). ¬ (WantsBoxes line.command)) m.lines
+
+abbrev pub ChangesKeepAll : Type 0
+ChangesKeepAll = (n : RecordSet) (actors : List ℕ) (m : Machine) (files : Files) (new : Machine) → All MayLatch actors → HasNoSearch m → CoreKeeps n m files → StepsInTurn actors m new → (files' : Files) × HasKeptAll n m new files'
 
 -- A machine that is stopped stays as it is.
 abbrev pub StoppedStays : Type 0
