@@ -1,27 +1,19 @@
 -- What a list of steps does, and what it keeps.
 use Rattle.std.proofs.Common.{◌≡◌, ◌≢◌, ◌⊎◌, inl, inr, ℕ, ◌+◌, ◌≤◌, List, [], ◌∷◌, ◌++◌, All, Option, Some, sym, ap, ◌∙◌, subst, arith, append-nil, append_assoc}
-use Rattle.std.proofs.lemmas.List.Elements.{All-append, All-cons, All-head, All-nil, All-tail, All-weaker}
-use Rattle.hb_set.specs.Machine.{RecordSet}
+use Rattle.std.proofs.lemmas.List.Elements.{All-append, All-cons, All-nil, All-weaker}
 use Rattle.hb_set.specs.Order.{Entry}
 use Rattle.hb_set.specs.declared.scripts.Answered.{Answered}
-use Rattle.hb_latch.specs.Tables.{MayLatch}
 use Rattle.hb_store.specs.declared.stops.StopWhy.{StopWhy}
 use Rattle.std.specs.Prelude.{MatchOption}
 use Rattle.hb_core.specs.declared.outcomes.Outcome.{Outcome}
 use Rattle.hb_core.specs.declared.outcomes.Outcome.TheVariants as outcomes
-use Rattle.hb_core.specs.Machines.{Files, Machine, settled_count}
+use Rattle.hb_core.specs.Machines.{Machine}
 use Rattle.hb_core.specs.Performing.{given_by}
 use Rattle.hb_core.specs.Forcing.{StaysSo}
 use Rattle.hb_core.specs.Steps.{StepsAs, StepsTo}
-use Rattle.hb_core.specs.Keeps.{CoreKeeps}
 use Rattle.hb_core.specs.KeepingLaws.{HasGoneOn, IsBetween, StepsGoOn, StoppedStays}
-use Rattle.hb_core.specs.Laws.{LatchesStayFit}
 use Rattle.hb_core.proofs.Moments.{answers_are_timed, clock_moves}
-use Rattle.hb_core.proofs.PendingKept.{grown_by, prefix_stays_pending, settled_stays_settled}
-use Rattle.hb_core.proofs.Prefixes.{files_have_prefixes}
-use Rattle.hb_core.proofs.StillThere.{nobody_else_comes}
-use Rattle.hb_core.proofs.ToldStays.{still_told}
-use Rattle.hb_core.proofs.WalksKept.{walks_stay_in_space}
+use Rattle.hb_core.proofs.PendingKept.{grown_by}
 use Rattle.hb_core.proofs.Ways.{order_grows}
 
 -- ---- the lines, the order, the answers and the clock

@@ -1,5 +1,5 @@
 -- A list of steps keeps all that a machine keeps.
-use Rattle.std.proofs.Common.{◌≡◌, ℕ, ◌≤◌, List, [], ◌∷◌, ◌++◌, All, Contains, Some, refl, sym, ap, ◌∙◌, subst, arith}
+use Rattle.std.proofs.Common.{◌≡◌, ℕ, List, [], ◌∷◌, All, Contains, sym, ap, subst, arith}
 use Rattle.std.proofs.lemmas.List.Elements.{All-contains, All-head, All-tail, Contains-push}
 use Rattle.hb_set.specs.Machine.{RecordSet}
 use Rattle.hb_set.specs.Order.{Entry}
@@ -18,7 +18,6 @@ use Rattle.hb_core.proofs.PendingKept.{prefix_stays_pending, settled_stays_settl
 use Rattle.hb_core.proofs.Prefixes.{files_have_prefixes}
 use Rattle.hb_core.proofs.SoundFiles.{keeps_marks}
 use Rattle.hb_core.proofs.StillThere.{nobody_else_comes}
-use Rattle.hb_core.proofs.ToldStays.{still_told}
 use Rattle.hb_core.proofs.WalksKept.{walks_stay_in_space}
 use Rattle.hb_core.proofs.Ways.{order_grows}
 
@@ -36,20 +35,22 @@ module _ (laws : StepLaws) (n : RecordSet) where
   kept_by_step : (m : Machine) (files : Files) (actor : ℕ) (outcome : Outcome) (new : Machine) → MayLatch actor → CoreKeeps n m files → StepsTo m actor outcome new → AnswersSearches m new → (files' : Files) × CoreKeeps n new files'
   kept_by_step m files actor outcome new may keeps step right =
       let after = laws.files m files actor outcome new keeps.told keeps.lines_fit keeps.pages_of_file keeps.sound_file step in
-      let legal = laws.order n m files after.0 actor outcome new keeps.told keeps.lines_fit keeps.pages_of_file keeps.sound_file keeps.lines_in_turn keeps.order_legal (right files keeps.told) step after.1 in
-      (after.0, record {
-        told = after.1;
-        lines_fit = laws.lines m actor outcome new keeps.lines_fit step;
-        lines_in_turn = laws.turns m actor outcome new keeps.lines_in_turn step;
-        pages_of_file = laws.pages m actor outcome new keeps.lines_fit (keeps_marks m files keeps.sound_file) keeps.pages_of_file step;
-        sound_file = after.2;
-        latches_fit = laws.latches m actor outcome new may keeps.latches_fit keeps.pages_of_file step;
-        nobody_else = nobody_else_comes m actor outcome new may keeps.nobody_else step;
-        walk_in_space = walks_stay_in_space m actor outcome new may keeps.latches_fit keeps.pages_of_file keeps.nobody_else keeps.walk_in_space step;
-        room_known = laws.room m files actor outcome new may keeps.told keeps.latches_fit keeps.pages_of_file keeps.sound_file keeps.nobody_else keeps.room_known step;
-        order_legal = legal;
-        pending_prefix = prefix_stays_pending n m files actor outcome new after.0 keeps.told after.1 keeps.sound_file keeps.order_legal keeps.pending_prefix step legal.legal;
-      })
+      let legal = laws.order n m files after.0 actor outcome new keeps.told keeps.lines_fit keeps.pages_of_file keeps.sound_file keeps.lines_in_turn keeps.order_legal (right files keeps.told) step after.1 in (
+        after.0,
+        record {
+          told = after.1;
+          lines_fit = laws.lines m actor outcome new keeps.lines_fit step;
+          lines_in_turn = laws.turns m actor outcome new keeps.lines_in_turn step;
+          pages_of_file = laws.pages m actor outcome new keeps.lines_fit (keeps_marks m files keeps.sound_file) keeps.pages_of_file step;
+          sound_file = after.2;
+          latches_fit = laws.latches m actor outcome new may keeps.latches_fit keeps.pages_of_file step;
+          nobody_else = nobody_else_comes m actor outcome new may keeps.nobody_else step;
+          walk_in_space = walks_stay_in_space m actor outcome new may keeps.latches_fit keeps.pages_of_file keeps.nobody_else keeps.walk_in_space step;
+          room_known = laws.room m files actor outcome new may keeps.told keeps.latches_fit keeps.pages_of_file keeps.sound_file keeps.nobody_else keeps.room_known step;
+          order_legal = legal;
+          pending_prefix = prefix_stays_pending n m files actor outcome new after.0 keeps.told after.1 keeps.sound_file keeps.order_legal keeps.pending_prefix step legal.legal;
+        },
+      )
 
   nothing_done : (m : Machine) (files : Files) (new : Machine) → CoreKeeps n m files → new ≡ m → HasKeptAll n m new files
   nothing_done m files new keeps is =

@@ -4,7 +4,8 @@
 ghost use Rattle.hb_core.specs.KeepingLaws.{AnswersAreInPlace, ChangesKeepAll, FilesHavePrefixes, NobodyElseComes, PrefixStaysPending, RoomStaysKnown, SettledStaysSettled, StepsGoOn, StepsKeepAll, StoppedStays, WalksStayInSpace};
 
 use crate::file_laws::{
-    files_stay_sound, lines_stay_fit, pages_stay_pages_of_the_file, the_order_stays_legal, turns_stay,
+    files_stay_sound, lines_stay_fit, pages_stay_pages_of_the_file, the_order_stays_legal,
+    turns_stay,
 };
 use crate::laws::latches_stay_fit;
 use hb_frag::laws::{each_point_has_one_leaf, leaves_part_the_box, parts_are_stretches};
