@@ -64,7 +64,7 @@ one_latched : (held : ℕ) (o : Option LivePage) (mode : ℕ → Mode) (page : L
 one_latched held o mode page is = subst (λ (o : Option LivePage). (one : Mode) × (mode_among held (walk_latch (Some held) o mode) ≡ Some one)) (sym is)
     (mode page.level, ap (λ (b : Bool). cond b (Some (mode page.level)) None) (eq-eqb held held refl))
 
-walk_latched : (activity : Activity) (st : StoreState) (held : ℕ) (page : LivePage) → walk_held activity ≡ Some held → live_here st held ≡ Some page → Latched held (latches_held st activity)
+pub walk_latched : (activity : Activity) (st : StoreState) (held : ℕ) (page : LivePage) → walk_held activity ≡ Some held → live_here st held ≡ Some page → Latched held (latches_held st activity)
 walk_latched (at.SessionWalk line None rest found) st held page is live = cc
 walk_latched (at.SessionWalk line (Some id) rest found) st held page is live =
     let same : id ≡ held = cc in

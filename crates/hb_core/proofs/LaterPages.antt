@@ -27,7 +27,7 @@ use Rattle.hb_core.specs.Laws.{WalksGoFurther}
 use Rattle.hb_core.proofs.Backing.{live_there}
 
 -- the last file is sound
-last_sound : (s : FileState) (later : List FileState) → IsSound s → All IsSound later → IsSound (last_of s later)
+pub last_sound : (s : FileState) (later : List FileState) → IsSound s → All IsSound later → IsSound (last_of s later)
 last_sound s [] sound all = sound
 last_sound s (next ∷ later) sound all = last_sound next later (All-head IsSound next later all) (All-tail IsSound next later all)
 

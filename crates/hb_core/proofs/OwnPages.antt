@@ -33,7 +33,7 @@ use Rattle.hb_core.proofs.Targets.{IsNumber, numbers_are_targets, set_elsewhere}
 use Rattle.hb_core.proofs.OwnedOps.{IsFreeFor, OwnsTargets, allowed_by, owned_row}
 
 -- what a line or a job that can't go on does to the file
-gives_up_nothing : (m : Machine) (why : DropWhy) (activity : Activity) → (gives_up m why activity).op ≡ None
+pub gives_up_nothing : (m : Machine) (why : DropWhy) (activity : Activity) → (gives_up m why activity).op ≡ None
 gives_up_nothing m why at.SessionIdle = refl
 gives_up_nothing m why (at.SessionWalk line held rest found) = refl
 gives_up_nothing m why (at.SessionSplit line held) = refl
@@ -54,7 +54,7 @@ gives_up_nothing m why (at.ConsolidatorKeep job parent keep gone) = refl
 gives_up_nothing m why (at.ConsolidatorDecide job parent keep gone) = refl
 gives_up_nothing m why at.Flusher = refl
 
-runs_out_nothing : (m : Machine) (activity : Activity) → (runs_out m activity).op ≡ None
+pub runs_out_nothing : (m : Machine) (activity : Activity) → (runs_out m activity).op ≡ None
 runs_out_nothing m at.SessionIdle = refl
 runs_out_nothing m (at.SessionWalk line held rest found) = refl
 runs_out_nothing m (at.SessionSplit line held) = refl

@@ -21,6 +21,8 @@ use Rattle.hb_store.specs.States.{IsGoodPage, in_memory}
 use Rattle.hb_core.specs.Machines.{Files, Machine, current_file, live_here}
 use Rattle.hb_core.specs.Performing.{latches_held, mode_among}
 use Rattle.hb_core.specs.WorkerRows.{LeadsBelow}
+use Rattle.hb_core.specs.KeptLines.{LinesFit}
+use Rattle.hb_core.specs.KeptTurns.{LinesInTurn}
 use Rattle.hb_core.specs.KeptOrder.{HasLegalOrder, HasPendingPrefix}
 
 -- Every file is sound: the durable one, and that after each group that waits. What is in memory is the last one's.
@@ -76,12 +78,19 @@ pub record KnowsRoom (m : Machine) : Type 0 where
   pub puts : (actor source fresh : ℕ) (line : _) → m.activity actor ≡ at.SessionPut line source fresh →
       (rec : _) × (line.command ≡ Insert rec) × (HasRoomFor m source rec.key rec.body ⊎ HasRoomFor m fresh rec.key rec.body)
 
+-- There are 19 actors: under every other number an idle session stands.
+abbrev pub HasNobodyElse : Machine → Type 0
+HasNobodyElse m = (actor : ℕ) → ¬ (MayLatch actor) → m.activity actor ≡ at.SessionIdle
+
 -- All of them, from the set that was opened.
 pub record CoreKeeps (n : RecordSet) (m : Machine) (files : Files) : Type 0 where
   pub told : m.files ≡ Some files
+  pub lines_fit : LinesFit m
+  pub lines_in_turn : LinesInTurn m
   pub pages_of_file : HoldsPagesOfFile m
   pub sound_file : HasSoundFile m files
   pub latches_fit : LatchesFit m
+  pub nobody_else : HasNobodyElse m
   pub walk_in_space : WalksInSpace m
   pub room_known : KnowsRoom m
   pub order_legal : HasLegalOrder n m files

@@ -14,6 +14,8 @@
 #![tactic(auto)]
 
 pub mod examples;
+pub mod file_laws;
+pub mod keeping_laws;
 pub mod laws;
 mod outcomes;
 mod threads;
