@@ -23,3 +23,4 @@ pub mod NextLines
 pub mod Turns
 pub mod OrderPlaces
 pub mod LegalOrder
+pub mod AllowedRows

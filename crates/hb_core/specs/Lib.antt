@@ -21,4 +21,5 @@ pub mod Laws
 pub mod FileLaws
 pub mod ContentsLaws
 pub mod OrderLaws
+pub mod AllowedLaws
 pub mod Examples

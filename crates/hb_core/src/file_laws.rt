@@ -1,5 +1,6 @@
 //! What a step does to the file: the pages in memory stay pages of a file, and every file stays sound.
 
+ghost use Rattle.hb_core.specs.AllowedLaws.{RowsAreAllowed};
 ghost use Rattle.hb_core.specs.ContentsLaws.{ContentsFollowOrder, PointsStay};
 ghost use Rattle.hb_core.specs.FileLaws.{FilesStaySound, LinesStayFit, MarksStayInPlace, PagesStayOfFile, RowsAreLicensed};
 ghost use Rattle.hb_core.specs.OrderLaws.{OrderStaysLegal, TurnsStay};
@@ -86,3 +87,10 @@ pub fn the_order_stays_legal()
 {
     contents_follow_the_order();
 }
+
+/// Where a row has an operation, that is allowed on the pages in memory: nothing but the row's own condition
+/// keeps it from being done.
+#[tactic(auto, using(crate::proofs::AllowedRows::rows_are_allowed))]
+pub fn rows_are_allowed()
+    ensures { RowsAreAllowed }
+{}
