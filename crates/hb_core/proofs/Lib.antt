@@ -24,3 +24,4 @@ pub mod Turns
 pub mod OrderPlaces
 pub mod LegalOrder
 pub mod AllowedRows
+pub mod SteppedFile

@@ -22,4 +22,5 @@ pub mod FileLaws
 pub mod ContentsLaws
 pub mod OrderLaws
 pub mod AllowedLaws
+pub mod SteppingLaws
 pub mod Examples
