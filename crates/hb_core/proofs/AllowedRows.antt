@@ -1,16 +1,15 @@
 -- The operation that a row says is allowed on the pages in memory.
-use Rattle.std.proofs.Common.{◌≡◌, ◌≢◌, ◌⊎◌, inl, inr, ℕ, zero, suc, ◌+◌, ◌*◌, ◌<◌, ◌≤◌, ◌==◌, max, Bool, true, false, cond, List, [], ◌∷◌, ◌++◌, length, get_or, All, Any, Option, Some, None, IsSome, refl, sym, ap, ◌∙◌, subst, arith, ne_eqb, length-append}
+use Rattle.std.proofs.Common.{◌≡◌, ◌⊎◌, inl, inr, ℕ, zero, suc, ◌+◌, ◌<◌, ◌≤◌, Bool, true, false, cond, List, [], ◌∷◌, length, All, Any, Option, Some, None, IsSome, refl, sym, ap, ◌∙◌, subst, arith, ne_eqb, length-append}
 use Rattle.std.specs.Prelude.{MatchOption}
-use Rattle.std.specs.List.{Contains, filter, slice_get}
+use Rattle.std.specs.List.{filter, slice_get}
 use Rattle.std.specs.Ordering.{is_gt, is_lt}
 use Rattle.std.specs.declared.cmp.Ordering.{Ordering}
 use Rattle.std.specs.declared.cmp.Ordering.TheVariants.{Less, Equal, Greater}
-use Rattle.std.proofs.lemmas.Bool.{cases_Bool, cases_lt, eqb-true, eqb-false}
+use Rattle.std.proofs.lemmas.Bool.{cases_lt}
 use Rattle.std.proofs.lemmas.List.Elements.{All-append, All-cons, All-contains, All-head, All-nil}
 use Rattle.hb_space.specs.Boxes.{Area, Holds, common_area, side_below, side_from}
 use Rattle.hb_space.specs.Points.{point_cmp}
 use Rattle.hb_space.specs.declared.records.Record.{Record}
-use Rattle.hb_frag.specs.declared.leaves.Leaf.{Leaf}
 use Rattle.hb_frag.specs.declared.leaves.Leaf.TheVariants.{Records, Child}
 use Rattle.hb_frag.specs.declared.pages.LivePage.{LivePage}
 use Rattle.hb_frag.specs.declared.pages.Page.{Page}
@@ -19,25 +18,22 @@ use Rattle.hb_frag.specs.declared.paths.Side.{Side}
 use Rattle.hb_frag.specs.Trees.{Tree, Tip, Cut}
 use Rattle.hb_frag.specs.Leaves.{Placed, leaf_at, leaves, leaves_of, weight_of}
 use Rattle.hb_frag.specs.Paths.{part_at}
-use Rattle.hb_frag.specs.Rules.{BelongsAt, capacity_of}
+use Rattle.hb_frag.specs.Rules.{BelongsAt}
 use Rattle.hb_frag.proofs.CarvedKinds.{carved_light}
 use Rattle.hb_frag.proofs.Tiles.{first_tells, found_where_held, tiles_attributes}
 use Rattle.hb_layout.specs.declared.meta.Meta.{Meta}
 use Rattle.hb_ops.specs.Allocating.{Allocates}
-use Rattle.hb_ops.specs.Extracting.{FitsExtract, FitsPart}
 use Rattle.hb_ops.specs.Files.{if_live}
 use Rattle.hb_ops.specs.Operations.{IsAllowedOn}
 use Rattle.hb_ops.specs.Posting.{posted}
-use Rattle.hb_ops.specs.Recording.{HasRecordsAt, joined, put_page}
+use Rattle.hb_ops.specs.Recording.{joined, put_page}
 use Rattle.hb_ops.specs.Standing.{StandsNot, StandsThere}
-use Rattle.hb_ops.specs.declared.leaf_cuts.LeafCut.{LeafCut}
 use Rattle.hb_ops.specs.declared.operations.Op.{Op}
 use Rattle.hb_ops.specs.declared.operations.Op.TheVariants as ops
 use Rattle.hb_ops.proofs.Opened.{weight_changed}
 use Rattle.hb_set.specs.declared.commands.Command.{Command}
 use Rattle.hb_set.specs.declared.commands.Command.TheVariants.{Insert, Delete, Lookup, Search}
 use Rattle.hb_set.specs.declared.scripts.Line.{Line}
-use Rattle.hb_split.specs.Choosing.{IsChosen}
 use Rattle.hb_split.proofs.Allowed.{is_allowed}
 use Rattle.hb_split.proofs.Ends.{is_thirds}
 use Rattle.hb_terms.specs.Plans.{IsPlan, LacksRoom}
@@ -49,14 +45,14 @@ use Rattle.hb_activity.specs.declared.wanting.Wanted.{Wanted}
 use Rattle.hb_activity.specs.declared.activities.Activity.{Activity}
 use Rattle.hb_activity.specs.declared.activities.Activity.TheVariants as at
 use Rattle.hb_activity.specs.Walks.{goal_of}
-use Rattle.hb_store.specs.Calls.{IsAllowedHere, framed_read}
+use Rattle.hb_store.specs.Calls.{IsAllowedHere}
 use Rattle.hb_store.specs.Keeps.{IsGoodPage, StoreState}
 use Rattle.hb_store.specs.NextPage.{IsNext}
 use Rattle.hb_core.specs.Machines.{Machine, with_disk}
 use Rattle.hb_core.specs.Asking.{wanted_by}
 use Rattle.hb_core.specs.Fetching.{Brings}
 use Rattle.hb_core.specs.Deeds.{Deed}
-use Rattle.hb_core.specs.Keeps.{HasRoomFor, KnowsRoom, LacksRoomFor}
+use Rattle.hb_core.specs.Keeps.{KnowsRoom, LacksRoomFor}
 use Rattle.hb_core.specs.SearchRows.{SearchGoesOn}
 use Rattle.hb_core.specs.SessionRows.{DoesThere, PassesOn}
 use Rattle.hb_core.specs.SplitRows.{PartLeavesTo}
@@ -65,7 +61,6 @@ use Rattle.hb_core.specs.Rows.{Row, RowAlone, RowAt}
 use Rattle.hb_core.specs.AllowedLaws.{AnyPage, HalfHasRoom, RowsAreAllowed}
 use Rattle.hb_core.proofs.Backing.{live_frame}
 use Rattle.hb_core.proofs.KeptPages.{KeepsPages, brought, keeps_pages}
-use Rattle.hb_core.proofs.OwnedOps.{Allowed}
 use Rattle.hb_store.proofs.MadeLeaves.{back_all, front_all}
 
 -- ---- leaves belong at the level of their page

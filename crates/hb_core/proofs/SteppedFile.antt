@@ -1,13 +1,13 @@
 -- Steps keep the lines, the file and the order, where the script has no searches.
-use Rattle.std.proofs.Common.{◌≡◌, ◌⊎◌, inl, inr, ℕ, List, [], ◌∷◌, ◌++◌, All, Option, Some, None, IfSome, refl, sym, ap, ◌∙◌, subst}
+use Rattle.std.proofs.Common.{◌≡◌, inl, inr, ℕ, List, [], ◌∷◌, ◌++◌, All, Option, Some, IfSome, sym, ◌∙◌, subst}
 use Rattle.std.proofs.lemmas.List.Elements.{All-contains}
-use Rattle.hb_set.specs.Machine.{RecordSet, reply_of}
+use Rattle.hb_set.specs.Machine.{RecordSet}
 use Rattle.hb_set.specs.Order.{Entry}
 use Rattle.hb_set.specs.declared.scripts.Line.{Line}
 use Rattle.hb_core.specs.declared.outcomes.Outcome.{Outcome}
 use Rattle.hb_core.specs.Machines.{Files, Machine}
 use Rattle.hb_core.specs.SessionRows.{next_line}
-use Rattle.hb_core.specs.KeptLines.{MarksInPlace, line_in_hand}
+use Rattle.hb_core.specs.KeptLines.{line_in_hand}
 use Rattle.hb_core.specs.ContentsLaws.{ContentsFollowOrder, ContentsStep, contents_now}
 use Rattle.hb_core.specs.FileLaws.{FilesStaySound, LinesStayFit, PagesStayOfFile}
 use Rattle.hb_core.specs.Laws.{OrderGrows}

@@ -1,4 +1,5 @@
-//! What a step does to the file: the pages in memory stay pages of a file, and every file stays sound.
+//! What a step does to the file, to its contents and to the order. Each law is the contract of a function
+//! that does nothing: a caller learns it by the call.
 
 ghost use Rattle.hb_core.specs.AllowedLaws.{RowsAreAllowed};
 ghost use Rattle.hb_core.specs.ContentsLaws.{ContentsFollowOrder, PointsStay};
