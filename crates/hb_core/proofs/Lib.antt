@@ -37,3 +37,5 @@ pub mod SplitWeights
 pub mod SplitHome
 pub mod SplitHalves
 pub mod RoomKept
+pub mod AllowedRows
+pub mod SteppedFile

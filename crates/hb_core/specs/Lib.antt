@@ -22,4 +22,6 @@ pub mod FileLaws
 pub mod ContentsLaws
 pub mod OrderLaws
 pub mod KeepingLaws
+pub mod AllowedLaws
+pub mod SteppingLaws
 pub mod Examples
