@@ -18,6 +18,7 @@ mod RefusedSteps
 mod EffectSteps
 mod WalkSteps
 mod WalkSafe
+mod GaveUp
 mod NewCore
 pub mod LinesInOrder
 pub mod FirstAnswers
