@@ -21,5 +21,7 @@ pub mod Laws
 pub mod FileLaws
 pub mod ContentsLaws
 pub mod OrderLaws
+pub mod AllowedLaws
+pub mod SteppingLaws
 pub mod KeepingLaws
 pub mod Examples

@@ -1,9 +1,13 @@
-//! What a step does to the file: the pages in memory stay pages of a file, and every file stays sound.
+//! What a step does to the file, to its contents and to the order. Each law is the contract of a function
+//! that does nothing: a caller learns it by the call.
 
+ghost use Rattle.hb_core.specs.AllowedLaws.{RowsAreAllowed};
 ghost use Rattle.hb_core.specs.ContentsLaws.{ContentsFollowOrder, PointsStay};
 ghost use Rattle.hb_core.specs.FileLaws.{FilesStaySound, LinesStayFit, MarksStayInPlace, PagesStayOfFile, RowsAreLicensed};
 ghost use Rattle.hb_core.specs.OrderLaws.{OrderStaysLegal, TurnsStay};
+ghost use Rattle.hb_core.specs.SteppingLaws.{BeginningKeepsAll, StepsKeepFile};
 
+use crate::laws::a_step_leaves_other_actors_alone;
 use hb_frag::laws::{leaves_part_the_box, parts_are_stretches};
 use hb_ops::changed_pages_are_well_made;
 use hb_page_codec::laws::page_within_capacity_has_spelling;
@@ -85,4 +89,31 @@ pub fn the_order_stays_legal()
     ensures { OrderStaysLegal }
 {
     contents_follow_the_order();
+}
+
+/// Where a row has an operation, that is allowed on the pages in memory: nothing but the row's own condition
+/// keeps it from being done.
+#[tactic(auto, using(crate::proofs::AllowedRows::rows_are_allowed))]
+pub fn rows_are_allowed()
+    ensures { RowsAreAllowed }
+{}
+
+/// A machine over a sound file that has taken no step keeps all that a machine keeps, from the contents of
+/// the file.
+pub fn a_beginning_keeps_all()
+    ensures { BeginningKeepsAll }
+{}
+
+/// Steps of whatever actors in whatever order keep every file sound and the order legal, with the file as
+/// its result, where the script has no searches.
+pub fn steps_keep_the_file()
+    ensures { StepsKeepFile }
+{
+    lines_stay_fit();
+    turns_stay();
+    pages_stay_pages_of_the_file();
+    files_stay_sound();
+    contents_follow_the_order();
+    the_order_stays_legal();
+    a_step_leaves_other_actors_alone();
 }

@@ -1,0 +1,60 @@
+-- What lists of steps keep, as laws.
+use Rattle.std.specs.Prelude.{◌≡◌, ℕ, List, [], All, Some, None}
+use Rattle.hb_layout.specs.Limits.{IsLayout}
+use Rattle.hb_ops.specs.Files.{FileState, contents_of}
+use Rattle.hb_ops.specs.Sound.{IsSound}
+use Rattle.hb_set.specs.Machine.{RecordSet}
+use Rattle.hb_set.specs.Order.{AreRising}
+use Rattle.hb_latch.specs.Tables.{mode_at}
+use Rattle.hb_activity.specs.declared.activities.Activity.{Activity}
+use Rattle.hb_activity.specs.declared.activities.Activity.TheVariants as at
+use Rattle.hb_core.specs.Machines.{Files, Machine}
+use Rattle.hb_core.specs.Keeps.{CoreKeeps, HasSoundFile, HoldsPagesOfFile}
+use Rattle.hb_core.specs.KeptLines.{HasLineBody, LinesFit}
+use Rattle.hb_core.specs.KeptOrder.{HasLegalOrder}
+use Rattle.hb_core.specs.KeptTurns.{LinesInTurn}
+use Rattle.hb_core.specs.Steps.{StepsInTurn, WantsBoxes}
+
+-- The parts of what a machine keeps that speak of its lines, its file and its order.
+pub record KeepsFile (n : RecordSet) (m : Machine) (files : Files) : Type 0 where
+  pub told : m.files ≡ Some files
+  pub lines_fit : LinesFit m
+  pub lines_in_turn : LinesInTurn m
+  pub pages_of_file : HoldsPagesOfFile m
+  pub sound_file : HasSoundFile m files
+  pub order_legal : HasLegalOrder n m files
+
+abbrev pub HasNoSearches : Machine → Type 0
+HasNoSearches m = All (λ line. WantsBoxes line.command → ⊥) m.lines
+
+-- Steps keep these, whatever actors take them in whatever order, where the script has no searches.
+abbrev pub StepsKeepFile : Type 0
+StepsKeepFile = (n : RecordSet) (m : Machine) (files : Files) (actors : List ℕ) (new : Machine) → KeepsFile n m files → HasNoSearches m → StepsInTurn actors m new → (after : Files) × KeepsFile n new after
+
+-- an actor that has nothing in hand
+abbrev pub IsAtRest : Activity → Type 0
+IsAtRest at.SessionIdle = Unit {0}
+IsAtRest at.PosterIdle = Unit {0}
+IsAtRest at.ConsolidatorIdle = Unit {0}
+IsAtRest at.Flusher = Unit {0}
+IsAtRest other = ⊥
+
+-- A machine over a sound file that has taken no step: no line was answered, nobody holds or does anything, no page is in
+-- memory, and no group waits.
+pub record IsBegun (m : Machine) (s : FileState) : Type 0 where
+  pub rising : AreRising m.lines
+  pub bodies : All HasLineBody m.lines
+  pub unanswered : m.answered ≡ []
+  pub resting : (actor : ℕ) → IsAtRest (m.activity actor)
+  pub unlatched : (actor page : ℕ) → mode_at m.latches actor page ≡ None
+  pub no_order : m.order ≡ []
+  pub no_page : (id : ℕ) → m.store.frame id ≡ None
+  pub no_group : m.store.log.groups ≡ []
+  pub told : m.files ≡ Some (record { durable = s; later = [] })
+  pub meta : s.meta ≡ m.store.meta
+  pub layout : IsLayout s.meta
+  pub sound : IsSound s
+
+-- It keeps all that a machine keeps, from the contents of the file.
+abbrev pub BeginningKeepsAll : Type 0
+BeginningKeepsAll = (m : Machine) (s : FileState) → IsBegun m s → CoreKeeps (contents_of s) m (record { durable = s; later = [] })
