@@ -39,3 +39,4 @@ pub mod SplitWeights
 pub mod SplitHome
 pub mod SplitHalves
 pub mod RoomKept
+pub mod PutHalves

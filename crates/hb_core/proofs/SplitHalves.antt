@@ -123,7 +123,7 @@ module _ (m : Machine) (files : Files) (actor : ℕ) (may : ℕ → Type 0) (fet
 
   -- the page that lacked room
   same_page : lacks.page ≡ page
-  same_page = same_Some lacks.page page (sym (still_fetched m may fetched inside brings held lacks.page lacks.live) ∙ row.live)
+  same_page = same_Some lacks.page page (sym (still_fetched m may fetched brings held lacks.page lacks.live) ∙ row.live)
 
   abbrev p : List ℕ
   p = rec.key

@@ -22,6 +22,7 @@ pub mod FileLaws
 pub mod ContentsLaws
 pub mod OrderLaws
 pub mod AllowedLaws
+pub mod DoableLaws
 pub mod SteppingLaws
 pub mod KeepingLaws
 pub mod Examples
