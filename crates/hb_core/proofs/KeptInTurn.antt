@@ -1,6 +1,7 @@
 -- A list of steps keeps all that a machine keeps.
 use Rattle.std.proofs.Common.{◌≡◌, ℕ, List, [], ◌∷◌, All, Contains, sym, ap, subst, arith}
 use Rattle.std.proofs.lemmas.List.Elements.{All-contains, All-head, All-tail, Contains-push}
+use Rattle.hb_ops.specs.Files.{contents_of}
 use Rattle.hb_set.specs.Machine.{RecordSet}
 use Rattle.hb_set.specs.Order.{Entry}
 use Rattle.hb_set.specs.declared.scripts.Line.{Line}
@@ -12,7 +13,8 @@ use Rattle.hb_core.specs.Keeps.{CoreKeeps}
 use Rattle.hb_core.specs.KeptTurns.{IsInTurn}
 use Rattle.hb_core.specs.FileLaws.{FilesStaySound, LinesStayFit, PagesStayOfFile}
 use Rattle.hb_core.specs.OrderLaws.{OrderStaysLegal, TurnsStay}
-use Rattle.hb_core.specs.KeepingLaws.{AnswersSearches, ChangesKeepAll, HasKeptAll, HasNoSearch, RoomStaysKnown, StepsKeepAll, StepsRightly}
+use Rattle.hb_core.specs.SteppingLaws.{BeginningKeepsAll, HasNoSearches}
+use Rattle.hb_core.specs.KeepingLaws.{AnswersSearches, BegunKeepsAll, ChangesKeepAll, HasKeptAll, RoomStaysKnown, StepsKeepAll, StepsRightly}
 use Rattle.hb_core.specs.Laws.{LatchesStayFit}
 use Rattle.hb_core.proofs.PendingKept.{prefix_stays_pending, settled_stays_settled}
 use Rattle.hb_core.proofs.Prefixes.{files_have_prefixes}
@@ -73,17 +75,17 @@ module _ (laws : StepLaws) (n : RecordSet) where
 
   -- ---- where no line is a search
 
-  no_search_now : (m : Machine) (actor : ℕ) (outcome : Outcome) (new : Machine) → HasNoSearch m → StepsTo m actor outcome new → HasNoSearch new
+  no_search_now : (m : Machine) (actor : ℕ) (outcome : Outcome) (new : Machine) → HasNoSearches m → StepsTo m actor outcome new → HasNoSearches new
   no_search_now m actor outcome new none step = subst (λ (lines : List Line). All (λ (line : Line). ¬ (WantsBoxes line.command)) lines) (sym (order_grows m actor outcome new step).0) none
 
-  never_searches : (m : Machine) (files : Files) (actor : ℕ) (outcome : Outcome) (new : Machine) → HasNoSearch m → CoreKeeps n m files → StepsTo m actor outcome new → AnswersSearches m new
+  never_searches : (m : Machine) (files : Files) (actor : ℕ) (outcome : Outcome) (new : Machine) → HasNoSearches m → CoreKeeps n m files → StepsTo m actor outcome new → AnswersSearches m new
   never_searches m files actor outcome new none keeps step before told entry is wants =
       let turns = laws.turns m actor outcome new keeps.lines_in_turn step in
       let there : Contains new.order entry = subst (λ (es : List Entry). Contains es entry) (sym is) (Contains-push m.order entry) in
       let in_turn = All-contains (IsInTurn new) new.order entry turns.placed there in
       absurd (All-contains (λ (line : Line). ¬ (WantsBoxes line.command)) new.lines entry.line (no_search_now m actor outcome new none step) in_turn.among wants)
 
-  kept_without : (actors : List ℕ) (m : Machine) (files : Files) (new : Machine) → All MayLatch actors → HasNoSearch m → CoreKeeps n m files → StepsInTurn actors m new → (files' : Files) × HasKeptAll n m new files'
+  kept_without : (actors : List ℕ) (m : Machine) (files : Files) (new : Machine) → All MayLatch actors → HasNoSearches m → CoreKeeps n m files → StepsInTurn actors m new → (files' : Files) × HasKeptAll n m new files'
   kept_without [] m files new may none keeps is = (files, nothing_done m files new keeps is)
   kept_without (actor ∷ rest) m files new may none keeps (outcome, next, step, steps) =
       let after = kept_by_step m files actor outcome next (All-head MayLatch actor rest may) keeps step (never_searches m files actor outcome next none keeps step) in
@@ -95,3 +97,6 @@ steps_keep_all laws n actors m files new may keeps steps = kept_in_turn laws n a
 
 pub changes_keep_all : StepLaws → ChangesKeepAll
 changes_keep_all laws n actors m files new may none keeps steps = kept_without laws n actors m files new may none keeps steps
+
+pub begun_keeps_all : StepLaws → BeginningKeepsAll → BegunKeepsAll
+begun_keeps_all laws begins s actors m new begun may none steps = kept_without laws (contents_of s) actors m _ new may none (begins m s begun) steps

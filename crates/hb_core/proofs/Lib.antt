@@ -23,6 +23,8 @@ pub mod NextLines
 pub mod Turns
 pub mod OrderPlaces
 pub mod LegalOrder
+pub mod AllowedRows
+pub mod SteppedFile
 pub mod NextPlaces
 pub mod StillThere
 pub mod WalksKept
@@ -37,5 +39,4 @@ pub mod SplitWeights
 pub mod SplitHome
 pub mod SplitHalves
 pub mod RoomKept
-pub mod AllowedRows
-pub mod SteppedFile
+pub mod PutHalves

@@ -35,7 +35,7 @@ use Rattle.hb_core.specs.Forcing.{ForcesFirst, StaysSo}
 use Rattle.hb_core.specs.Fetching.{Brings}
 use Rattle.hb_core.specs.Performing.{MayDo, Performs, latches_held}
 use Rattle.hb_core.specs.Steps.{StepsTo, Works}
-use Rattle.hb_core.specs.Keeps.{HasNobodyElse, HasRoomFor, HasSoundFile, HoldsPagesOfFile, KnowsRoom, LacksRoomFor, LatchesFit}
+use Rattle.hb_core.specs.Keeps.{HasNobodyElse, HasRoomFor, HasSoundFile, HoldsPagesOfFile, KnowsRoom, LacksRoomFor, LatchesFit, OneHasRoom}
 use Rattle.hb_core.specs.KeepingLaws.{RoomStaysKnown}
 use Rattle.hb_core.proofs.Backing.{live_frame}
 use Rattle.hb_core.proofs.NextPlaces.{HasPlace, HoldsNothing, KeepsParent, PartsFull, TakesFull, nothing_given_up, nothing_run_out, now, place_after}
@@ -99,7 +99,7 @@ abbrev pub LacksRoom : Machine → Line → ℕ → Type 0
 LacksRoom m line held = (rec : Record) × (line.command ≡ Insert rec) × LacksRoomFor m held rec.key rec.body
 
 abbrev pub HasRoom : Machine → Line → ℕ → ℕ → Type 0
-HasRoom m line source fresh = (rec : Record) × (line.command ≡ Insert rec) × (HasRoomFor m source rec.key rec.body ⊎ HasRoomFor m fresh rec.key rec.body)
+HasRoom m line source fresh = (rec : Record) × (line.command ≡ Insert rec) × OneHasRoom m source fresh rec.key rec.body
 
 pub record KnowsOf (m : Machine) (activity : Activity) : Type 0 where
   pub splits : (held : ℕ) (line : Line) → activity ≡ at.SessionSplit line held → LacksRoom m line held
@@ -136,10 +136,24 @@ module _ (m new : Machine) (capacity : SameCapacity m new) where
   splits_again : (line : Line) (held : ℕ) → ((page : LivePage) → live_here m.store held ≡ Some page → live_here new.store held ≡ Some page) → LacksRoom m line held → LacksRoom new line held
   splits_again line held there (rec, command, lacks) = (rec, command, lacks_again held rec.key rec.body there lacks)
 
+  one_again : (source fresh : ℕ) (p body : List ℕ) → ((page : LivePage) → live_here m.store source ≡ Some page → live_here new.store source ≡ Some page) → ((page : LivePage) → live_here m.store fresh ≡ Some page → live_here new.store fresh ≡ Some page)
+      → OneHasRoom m source fresh p body → OneHasRoom new source fresh p body
+  one_again source fresh p body first second one = record {
+    first = one.first;
+    second = one.second;
+    first_live = first one.first one.first_live;
+    second_live = second one.second one.second_live;
+    not_both = one.not_both;
+    room = by one.room;
+  }
+    where
+      by : HasRoomFor m source p body ⊎ HasRoomFor m fresh p body → HasRoomFor new source p body ⊎ HasRoomFor new fresh p body
+      by (inl has) = inl (has_again source p body first has)
+      by (inr has) = inr (has_again fresh p body second has)
+
   puts_again : (line : Line) (source fresh : ℕ) → ((page : LivePage) → live_here m.store source ≡ Some page → live_here new.store source ≡ Some page) → ((page : LivePage) → live_here m.store fresh ≡ Some page → live_here new.store fresh ≡ Some page)
       → HasRoom m line source fresh → HasRoom new line source fresh
-  puts_again line source fresh first second (rec, command, inl has) = (rec, command, inl (has_again source rec.key rec.body first has))
-  puts_again line source fresh first second (rec, command, inr has) = (rec, command, inr (has_again fresh rec.key rec.body second has))
+  puts_again line source fresh first second (rec, command, one) = (rec, command, one_again source fresh rec.key rec.body first second one)
 
 -- ---- an activity that neither splits nor has split
 

@@ -39,12 +39,12 @@ use Rattle.hb_core.specs.Fetching.{Brings}
 use Rattle.hb_core.specs.Deeds.{Deed}
 use Rattle.hb_core.specs.Performing.{DoesOp, MayDo}
 use Rattle.hb_core.specs.SplitRows.{Splits}
-use Rattle.hb_core.specs.Keeps.{HasRoomFor, HasSoundFile, HoldsPagesOfFile, LacksRoomFor}
+use Rattle.hb_core.specs.Keeps.{HasRoomFor, HasSoundFile, HoldsPagesOfFile, LacksRoomFor, OneHasRoom}
 use Rattle.hb_core.proofs.Backing.{live_frame}
 use Rattle.hb_core.proofs.LaterPages.{last_sound}
 use Rattle.hb_core.proofs.NextPlaces.{TakesFull, now}
 use Rattle.hb_core.proofs.OwnedOps.{made_was_free}
-use Rattle.hb_core.proofs.SplitHome.{IsHome, RoomLaws, one_is_home, t, two}
+use Rattle.hb_core.proofs.SplitHome.{IsHome, RoomLaws, never_both, one_is_home, t, two}
 use Rattle.hb_core.proofs.SplitWeights.{both_have_room, parted_weighs, put_weighs}
 use Rattle.hb_core.proofs.StillThere.{fetched_good, nothing_done, still_fetched}
 
@@ -123,7 +123,7 @@ module _ (m : Machine) (files : Files) (actor : ℕ) (may : ℕ → Type 0) (fet
 
   -- the page that lacked room
   same_page : lacks.page ≡ page
-  same_page = same_Some lacks.page page (sym (still_fetched m may fetched inside brings held lacks.page lacks.live) ∙ row.live)
+  same_page = same_Some lacks.page page (sym (still_fetched m may fetched brings held lacks.page lacks.live) ∙ row.live)
 
   abbrev p : List ℕ
   p = rec.key
@@ -277,8 +277,15 @@ module _ (m : Machine) (files : Files) (actor : ℕ) (may : ℕ → Type 0) (fet
   made_after : live_page after row.leaves.fresh ≡ Some made
   made_after = changes.fresh_now ∙ ap (λ (q : LivePage). Some (fresh_page row.leaves.cuts q changes.part)) then_page ∙ ap (λ (part : Tree × Area). Some (fresh_page row.leaves.cuts page part)) then_part
 
-  pub one_has_room : HasRoomFor new held p rec.body ⊎ HasRoomFor new row.leaves.fresh p rec.body
-  one_has_room = by (one_is_home laws file held row.leaves.fresh row.leaves.path row.leaves.cuts row.leaves.free_after page p (sound_now m files told sound) layout live_in_file allowed licensed level direct absent)
+  pub one_has_room : OneHasRoom new held row.leaves.fresh p rec.body
+  one_has_room = record {
+    first = source;
+    second = made;
+    first_live = source_there;
+    second_live = made_there;
+    not_both = λ first second. never_both laws file held row.leaves.fresh row.leaves.path row.leaves.cuts row.leaves.free_after page p (sound_now m files told sound) layout live_in_file allowed licensed level direct absent (source, source_after, first) (made, made_after, second);
+    room = by (one_is_home laws file held row.leaves.fresh row.leaves.path row.leaves.cuts row.leaves.free_after page p (sound_now m files told sound) layout live_in_file allowed licensed level direct absent);
+  }
     where
       by : IsHome after held p ⊎ IsHome after row.leaves.fresh p → HasRoomFor new held p rec.body ⊎ HasRoomFor new row.leaves.fresh p rec.body
       by (inl home) = inl (has_room held source after home (same_Some home.page source (sym home.live ∙ source_after)) source_there room.0)

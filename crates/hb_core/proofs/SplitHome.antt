@@ -148,6 +148,10 @@ module _ (laws : RoomLaws) (s : FileState) (held fresh : ℕ) (path : List Side)
       let is = same_Some _ q (sym two.fresh_now ∙ here) in
       home_at fresh q here (ap (λ (x : LivePage). x.level) (sym is) ∙ ap (λ (x : LivePage). x.level) same_then ∙ level) holds
 
+  -- and never in both
+  pub never_both : HasDirectly t held p → HasDirectly t fresh p → ⊥
+  never_both = (laws.direct s held fresh path cuts free_after p sound point allowed licensed).not_both
+
   pub one_is_home : IsHome t held p ⊎ IsHome t fresh p
   one_is_home = by ((laws.direct s held fresh path cuts free_after p sound point allowed licensed).either.0 (page, live, direct))
     where

@@ -48,13 +48,14 @@ nobody_else_comes m actor outcome new may nobody step other none =
 pub nothing_done : (op : Option Op) (mark : ℕ) (fetched new : StoreState) → op ≡ None → MayDo op mark fetched new → new ≡ fetched
 nothing_done op mark fetched new none done = subst (λ (o : Option Op). MayDo o mark fetched new) none done
 
-module _ (m : Machine) (may : ℕ → Type 0) (fetched : StoreState) (inside : HoldsPagesOfFile m) (brings : Brings m.files may m.store fetched) where
-  pub still_fetched : (id : ℕ) (page : LivePage) → live_here m.store id ≡ Some page → live_here fetched id ≡ Some page
-  still_fetched id page live =
-      let there = live_frame (m.store.frame id) page live in
-      let some : IsSome (m.store.frame id) = subst (λ (o : Option Page). IsSome o) (sym there) refl in
-      ap if_live (brings.stays id some) ∙ live
+-- what was in memory in use is there after a fetch
+pub still_fetched : (m : Machine) (may : ℕ → Type 0) (fetched : StoreState) → Brings m.files may m.store fetched → (id : ℕ) (page : LivePage) → live_here m.store id ≡ Some page → live_here fetched id ≡ Some page
+still_fetched m may fetched brings id page live =
+    let there = live_frame (m.store.frame id) page live in
+    let some : IsSome (m.store.frame id) = subst (λ (o : Option Page). IsSome o) (sym there) refl in
+    ap if_live (brings.stays id some) ∙ live
 
+module _ (m : Machine) (may : ℕ → Type 0) (fetched : StoreState) (inside : HoldsPagesOfFile m) (brings : Brings m.files may m.store fetched) where
   by_frame : (id : ℕ) (page : Page) (o : Option Page) → m.store.frame id ≡ o → fetched.frame id ≡ Some page → IsGoodPage m.store.meta page
   by_frame id page None none there = (brings.good id page none there).2
   by_frame id page (Some old) some there =

@@ -195,7 +195,7 @@ module _ (m : Machine) (actor : ℕ) (may : ℕ → Type 0) (fetched : StoreStat
   keeps_parent keeps =
       let store = nothing_done deed.op _ fetched new.store keeps.nothing performs.store in
       same_parent deed.next keeps.job keeps.parent new.store (at_parent_after keeps.job keeps.parent keeps.after)
-      (moved_parent m.store new.store keeps.job keeps.parent (λ page live. ap (λ (st : StoreState). live_here st keeps.parent) store ∙ still_fetched m may fetched inside brings keeps.parent page live)
+      (moved_parent m.store new.store keeps.job keeps.parent (λ page live. ap (λ (st : StoreState). live_here st keeps.parent) store ∙ still_fetched m may fetched brings keeps.parent page live)
       (walks.parents actor keeps.job keeps.parent (at_parent_before keeps.job keeps.parent keeps.before)))
 
   placed_in_space : HasPlace m actor (now m actor fetched) deed → StandsInSpace new.store deed.next

@@ -4,7 +4,6 @@ use Rattle.hb_ops.specs.Files.{FileState, contents_of}
 use Rattle.hb_set.specs.Machine.{RecordSet}
 use Rattle.hb_set.specs.Order.{Entry, IsLegalOrder, result_of}
 use Rattle.hb_set.specs.declared.scripts.Answered.{Answered}
-use Rattle.hb_set.specs.declared.scripts.Line.{Line}
 use Rattle.hb_latch.specs.Tables.{MayLatch}
 use Rattle.hb_activity.specs.declared.activities.Activity.TheVariants as at
 use Rattle.hb_store.specs.declared.stops.StopWhy.{StopWhy}
@@ -14,7 +13,8 @@ use Rattle.hb_core.specs.Machines.{Files, Machine, settled_count}
 use Rattle.hb_core.specs.Keeps.{CoreKeeps, HasNobodyElse, HasSoundFile, HoldsPagesOfFile, KnowsRoom, LatchesFit, WalksInSpace}
 use Rattle.hb_core.specs.KeptOrder.{HasLegalOrder, HasPendingPrefix, StandsInOrder, StandsOutside}
 use Rattle.hb_core.specs.OrderLaws.{SearchIsRight}
-use Rattle.hb_core.specs.Steps.{StepsInTurn, StepsTo, WantsBoxes}
+use Rattle.hb_core.specs.Steps.{StepsInTurn, StepsTo}
+use Rattle.hb_core.specs.SteppingLaws.{HasNoSearches, IsBegun}
 
 -- Under no number but those of the 19 actors anybody comes to stand.
 abbrev pub NobodyElseComes : Type 0
@@ -108,12 +108,12 @@ pub record HasKeptAll (n : RecordSet) (m new : Machine) (files : Files) : Type 0
 abbrev pub StepsKeepAll : Type 0
 StepsKeepAll = (n : RecordSet) (actors : List ℕ) (m : Machine) (files : Files) (new : Machine) → All MayLatch actors → CoreKeeps n m files → StepsRightly actors m new → (files' : Files) × HasKeptAll n m new files'
 
--- So all steps do of a machine whose lines aren't searches, in whatever turn its actors take them.
-abbrev pub HasNoSearch : Machine → Type 0
-HasNoSearch m = All (λ (line : Line). ¬ (WantsBoxes line.command)) m.lines
-
+-- So all steps do of a machine whose lines aren't searches, in whatever turn its actors take them; and from a beginning on.
 abbrev pub ChangesKeepAll : Type 0
-ChangesKeepAll = (n : RecordSet) (actors : List ℕ) (m : Machine) (files : Files) (new : Machine) → All MayLatch actors → HasNoSearch m → CoreKeeps n m files → StepsInTurn actors m new → (files' : Files) × HasKeptAll n m new files'
+ChangesKeepAll = (n : RecordSet) (actors : List ℕ) (m : Machine) (files : Files) (new : Machine) → All MayLatch actors → HasNoSearches m → CoreKeeps n m files → StepsInTurn actors m new → (files' : Files) × HasKeptAll n m new files'
+
+abbrev pub BegunKeepsAll : Type 0
+BegunKeepsAll = (s : FileState) (actors : List ℕ) (m new : Machine) → IsBegun m s → All MayLatch actors → HasNoSearches m → StepsInTurn actors m new → (files : Files) × HasKeptAll (contents_of s) m new files
 
 -- A machine that is stopped stays as it is.
 abbrev pub StoppedStays : Type 0

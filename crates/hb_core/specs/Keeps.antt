@@ -56,7 +56,7 @@ pub record WalksInSpace (m : Machine) : Type 0 where
       (page : LivePage) × (live_here m.store parent ≡ Some page) × (page.level ≡ job.level) × LeadsBelow page job
 
 -- A page that is to be split directly holds the point of the insert, has no record there, and has no room for it. Of the
--- two halves one directly holds the point, has no record there, and has room.
+-- two halves, which are in use, one directly holds the point, has no record there, and has room; and not both hold it.
 pub record LacksRoomFor (m : Machine) (held : ℕ) (p body : List ℕ) : Type 0 where
   pub page : LivePage
   pub live : live_here m.store held ≡ Some page
@@ -73,10 +73,18 @@ pub record HasRoomFor (m : Machine) (half : ℕ) (p body : List ℕ) : Type 0 wh
   pub absent : StandsNot page p
   pub room : weight_of (put_page (record { key = p; body = body }) page).frag ≤ m.store.meta.dcap
 
+pub record OneHasRoom (m : Machine) (source fresh : ℕ) (p body : List ℕ) : Type 0 where
+  pub first : LivePage
+  pub second : LivePage
+  pub first_live : live_here m.store source ≡ Some first
+  pub second_live : live_here m.store fresh ≡ Some second
+  pub not_both : DirectlyHolds first p → DirectlyHolds second p → ⊥
+  pub room : HasRoomFor m source p body ⊎ HasRoomFor m fresh p body
+
 pub record KnowsRoom (m : Machine) : Type 0 where
   pub splits : (actor held : ℕ) (line : _) → m.activity actor ≡ at.SessionSplit line held → (rec : _) × (line.command ≡ Insert rec) × LacksRoomFor m held rec.key rec.body
   pub puts : (actor source fresh : ℕ) (line : _) → m.activity actor ≡ at.SessionPut line source fresh →
-      (rec : _) × (line.command ≡ Insert rec) × (HasRoomFor m source rec.key rec.body ⊎ HasRoomFor m fresh rec.key rec.body)
+      (rec : _) × (line.command ≡ Insert rec) × OneHasRoom m source fresh rec.key rec.body
 
 -- There are 19 actors: under every other number an idle session stands.
 abbrev pub HasNobodyElse : Machine → Type 0

@@ -21,7 +21,8 @@ pub mod Laws
 pub mod FileLaws
 pub mod ContentsLaws
 pub mod OrderLaws
-pub mod KeepingLaws
 pub mod AllowedLaws
+pub mod DoableLaws
 pub mod SteppingLaws
+pub mod KeepingLaws
 pub mod Examples

@@ -9,7 +9,7 @@ use Rattle.hb_latch.specs.Tables.{mode_at}
 use Rattle.hb_activity.specs.declared.activities.Activity.{Activity}
 use Rattle.hb_activity.specs.declared.activities.Activity.TheVariants as at
 use Rattle.hb_core.specs.Machines.{Files, Machine}
-use Rattle.hb_core.specs.Keeps.{CoreKeeps, HasSoundFile, HoldsPagesOfFile}
+use Rattle.hb_core.specs.Keeps.{CoreKeeps, HasNobodyElse, HasSoundFile, HoldsPagesOfFile}
 use Rattle.hb_core.specs.KeptLines.{HasLineBody, LinesFit}
 use Rattle.hb_core.specs.KeptOrder.{HasLegalOrder}
 use Rattle.hb_core.specs.KeptTurns.{LinesInTurn}
@@ -46,6 +46,7 @@ pub record IsBegun (m : Machine) (s : FileState) : Type 0 where
   pub bodies : All HasLineBody m.lines
   pub unanswered : m.answered ≡ []
   pub resting : (actor : ℕ) → IsAtRest (m.activity actor)
+  pub nobody_else : HasNobodyElse m
   pub unlatched : (actor page : ℕ) → mode_at m.latches actor page ≡ None
   pub no_order : m.order ≡ []
   pub no_page : (id : ℕ) → m.store.frame id ≡ None

@@ -1,11 +1,12 @@
 //! What each step keeps of the walks, the room and the groups that wait, and what follows for a list
 //! of steps. Each law is the contract of a function that does nothing: a caller learns it by the call.
 
-ghost use Rattle.hb_core.specs.KeepingLaws.{AnswersAreInPlace, ChangesKeepAll, FilesHavePrefixes, NobodyElseComes, PrefixStaysPending, RoomStaysKnown, SettledStaysSettled, StepsGoOn, StepsKeepAll, StoppedStays, WalksStayInSpace};
+ghost use Rattle.hb_core.specs.DoableLaws.{PutsFindRoom, RowsCanBeDone};
+ghost use Rattle.hb_core.specs.KeepingLaws.{AnswersAreInPlace, BegunKeepsAll, ChangesKeepAll, FilesHavePrefixes, NobodyElseComes, PrefixStaysPending, RoomStaysKnown, SettledStaysSettled, StepsGoOn, StepsKeepAll, StoppedStays, WalksStayInSpace};
 
 use crate::file_laws::{
-    files_stay_sound, lines_stay_fit, pages_stay_pages_of_the_file, the_order_stays_legal,
-    turns_stay,
+    a_beginning_keeps_all, files_stay_sound, lines_stay_fit, pages_stay_pages_of_the_file,
+    rows_are_allowed, the_order_stays_legal, turns_stay,
 };
 use crate::laws::latches_stay_fit;
 use hb_frag::laws::{each_point_has_one_leaf, leaves_part_the_box, parts_are_stretches};
@@ -46,6 +47,15 @@ pub fn room_stays_known()
     limits_of_this_version();
 }
 
+/// A session puts its record into the half of a split that has room, since the halves never both hold its
+/// point. So where a row has an operation, that is allowed on the pages in memory, over every disk.
+pub fn rows_can_be_done()
+    ensures room { PutsFindRoom }
+    ensures allowed { RowsCanBeDone }
+{
+    rows_are_allowed();
+}
+
 /// A line is answered once its place in the order is settled, or outside of the order.
 #[tactic(auto, using(crate::proofs::AnswersInPlace::answers_are_in_place))]
 pub fn answers_are_in_place()
@@ -76,11 +86,13 @@ pub fn steps_go_on()
 
 /// A list of steps of the 19 actors keeps all that a machine keeps over a disk that tells, and unsettles no
 /// place of the order, where each search that takes effect has the machine's reply; so any list of steps
-/// does of a machine whose lines aren't searches.
+/// does of a machine whose lines aren't searches, and from a beginning on.
 pub fn steps_keep_all()
     ensures searches { StepsKeepAll }
     ensures changes { ChangesKeepAll }
+    ensures begun { BegunKeepsAll }
 {
+    a_beginning_keeps_all();
     latches_stay_fit();
     room_stays_known();
     lines_stay_fit();
