@@ -24,7 +24,6 @@ pub mod Turns
 pub mod OrderPlaces
 pub mod LegalOrder
 pub mod AllowedRows
-pub mod SteppedFile
 pub mod NextPlaces
 pub mod StillThere
 pub mod WalksKept

@@ -1,4 +1,4 @@
--- What lists of steps keep, as laws.
+-- The machine that has taken no step, as a law.
 use Rattle.std.specs.Prelude.{◌≡◌, ℕ, List, [], All, Some, None}
 use Rattle.hb_layout.specs.Limits.{IsLayout}
 use Rattle.hb_ops.specs.Files.{FileState, contents_of}
@@ -15,21 +15,9 @@ use Rattle.hb_core.specs.KeptOrder.{HasLegalOrder}
 use Rattle.hb_core.specs.KeptTurns.{LinesInTurn}
 use Rattle.hb_core.specs.Steps.{StepsInTurn, WantsBoxes}
 
--- The parts of what a machine keeps that speak of its lines, its file and its order.
-pub record KeepsFile (n : RecordSet) (m : Machine) (files : Files) : Type 0 where
-  pub told : m.files ≡ Some files
-  pub lines_fit : LinesFit m
-  pub lines_in_turn : LinesInTurn m
-  pub pages_of_file : HoldsPagesOfFile m
-  pub sound_file : HasSoundFile m files
-  pub order_legal : HasLegalOrder n m files
-
+-- No line of the script is a search.
 abbrev pub HasNoSearches : Machine → Type 0
 HasNoSearches m = All (λ line. WantsBoxes line.command → ⊥) m.lines
-
--- Steps keep these, whatever actors take them in whatever order, where the script has no searches.
-abbrev pub StepsKeepFile : Type 0
-StepsKeepFile = (n : RecordSet) (m : Machine) (files : Files) (actors : List ℕ) (new : Machine) → KeepsFile n m files → HasNoSearches m → StepsInTurn actors m new → (after : Files) × KeepsFile n new after
 
 -- an actor that has nothing in hand
 abbrev pub IsAtRest : Activity → Type 0

@@ -5,7 +5,7 @@ ghost use Rattle.hb_core.specs.AllowedLaws.{RowsAreAllowed};
 ghost use Rattle.hb_core.specs.ContentsLaws.{ContentsFollowOrder, PointsStay};
 ghost use Rattle.hb_core.specs.FileLaws.{FilesStaySound, LinesStayFit, MarksStayInPlace, PagesStayOfFile, RowsAreLicensed};
 ghost use Rattle.hb_core.specs.OrderLaws.{OrderStaysLegal, TurnsStay};
-ghost use Rattle.hb_core.specs.SteppingLaws.{BeginningKeepsAll, StepsKeepFile};
+ghost use Rattle.hb_core.specs.SteppingLaws.{BeginningKeepsAll};
 
 use crate::laws::a_step_leaves_other_actors_alone;
 use hb_frag::laws::{leaves_part_the_box, parts_are_stretches};
@@ -103,17 +103,3 @@ pub fn rows_are_allowed()
 pub fn a_beginning_keeps_all()
     ensures { BeginningKeepsAll }
 {}
-
-/// Steps of whatever actors in whatever order keep every file sound and the order legal, with the file as
-/// its result, where the script has no searches.
-pub fn steps_keep_the_file()
-    ensures { StepsKeepFile }
-{
-    lines_stay_fit();
-    turns_stay();
-    pages_stay_pages_of_the_file();
-    files_stay_sound();
-    contents_follow_the_order();
-    the_order_stays_legal();
-    a_step_leaves_other_actors_alone();
-}
