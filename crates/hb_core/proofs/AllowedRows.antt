@@ -46,8 +46,8 @@ use Rattle.hb_activity.specs.declared.activities.Activity.{Activity}
 use Rattle.hb_activity.specs.declared.activities.Activity.TheVariants as at
 use Rattle.hb_activity.specs.Walks.{goal_of}
 use Rattle.hb_store.specs.Calls.{IsAllowedHere}
-use Rattle.hb_store.specs.Keeps.{IsGoodPage, StoreState}
 use Rattle.hb_store.specs.NextPage.{IsNext}
+use Rattle.hb_store.specs.States.{IsGoodPage, StoreState, in_memory}
 use Rattle.hb_core.specs.Machines.{Machine, with_disk}
 use Rattle.hb_core.specs.Asking.{wanted_by}
 use Rattle.hb_core.specs.Fetching.{Brings}
@@ -59,7 +59,7 @@ use Rattle.hb_core.specs.SplitRows.{PartLeavesTo}
 use Rattle.hb_core.specs.WorkerRows.{DoesPlan, after_look}
 use Rattle.hb_core.specs.Rows.{Row, RowAlone, RowAt}
 use Rattle.hb_core.specs.AllowedLaws.{AnyPage, HalfHasRoom, RowsAreAllowed}
-use Rattle.hb_core.proofs.Backing.{live_frame}
+use Rattle.hb_core.proofs.Backing.{live_there}
 use Rattle.hb_core.proofs.KeptPages.{KeepsPages, brought, keeps_pages}
 use Rattle.hb_store.proofs.MadeLeaves.{back_all, front_all}
 
@@ -113,13 +113,13 @@ put_weighs meta page rec good absent =
 -- ---- each operation
 
 module _ (st : StoreState) (keeps : KeepsPages st) where
-  good_live : (id : ℕ) (page : LivePage) → if_live (st.frame id) ≡ Some page → IsGoodPage st.meta (Live page)
-  good_live id page live = (keeps.framed id (Live page) (live_frame (st.frame id) page live)).2
+  good_live : (id : ℕ) (page : LivePage) → if_live (in_memory st id) ≡ Some page → IsGoodPage st.meta (Live page)
+  good_live id page live = (keeps.framed id (Live page) (live_there (in_memory st id) page live)).2
 
-  by_read : (op : Op) (id : ℕ) (page : LivePage) (second third : Option LivePage) → if_live (st.frame id) ≡ Some page → IsAllowedOn op st.meta (Some page) second third → IsAllowedOn op st.meta (if_live (st.frame id)) second third
+  by_read : (op : Op) (id : ℕ) (page : LivePage) (second third : Option LivePage) → if_live (in_memory st id) ≡ Some page → IsAllowedOn op st.meta (Some page) second third → IsAllowedOn op st.meta (if_live (in_memory st id)) second third
   by_read op id page second third live allowed = subst (λ (o : Option LivePage). IsAllowedOn op st.meta o second third) (sym live) allowed
 
-  pub put_allowed : (id : ℕ) (rec : Record) (page : LivePage) → if_live (st.frame id) ≡ Some page → StandsNot page rec.key → weight_of (put_page rec page).frag ≤ st.meta.dcap → IsAllowedHere st (ops.Put id rec)
+  pub put_allowed : (id : ℕ) (rec : Record) (page : LivePage) → if_live (in_memory st id) ≡ Some page → StandsNot page rec.key → weight_of (put_page rec page).frag ≤ st.meta.dcap → IsAllowedHere st (ops.Put id rec)
   put_allowed id rec page live absent room =
       by_read (ops.Put id rec) id page _ _ live (record {
         made = (good_live id page live).1;
@@ -136,7 +136,7 @@ module _ (st : StoreState) (keeps : KeepsPages st) where
   any_at (x ∷ records) zero r p is key = let same : x ≡ r = cc in (0, r, omega arith, same, key)
   any_at (x ∷ records) (suc place) r p is key = let rest = any_at records place r p is key in (suc rest.0, rest.1, omega (arith, rest.2), rest.3, rest.4)
 
-  pub del_allowed : (id : ℕ) (p : List ℕ) (page : LivePage) (r : Record) → if_live (st.frame id) ≡ Some page → StandsThere page p r → IsAllowedHere st (ops.Del id p)
+  pub del_allowed : (id : ℕ) (p : List ℕ) (page : LivePage) (r : Record) → if_live (in_memory st id) ≡ Some page → StandsThere page p r → IsAllowedHere st (ops.Del id p)
   del_allowed id p page r live there =
       by_read (ops.Del id p) id page _ _ live (record {
         made = (good_live id page live).1;
@@ -155,7 +155,7 @@ module _ (st : StoreState) (keeps : KeepsPages st) where
   grow_allowed fresh free_after room next low = record { allocates = allocates fresh free_after room next; height = low }
 
   -- a part that is chosen may leave a page that weighs 6 or more
-  pub split_allowed : (id : ℕ) (page : LivePage) (leaves : PartLeavesTo st page) → if_live (st.frame id) ≡ Some page → 6 ≤ weight_of page.frag → IsAllowedHere st (ops.Extract id leaves.fresh leaves.path leaves.cuts leaves.free_after)
+  pub split_allowed : (id : ℕ) (page : LivePage) (leaves : PartLeavesTo st page) → if_live (in_memory st id) ≡ Some page → 6 ≤ weight_of page.frag → IsAllowedHere st (ops.Extract id leaves.fresh leaves.path leaves.cuts leaves.free_after)
   split_allowed id page leaves live full =
       let good = good_live id page live in
       let n = weight_of page.frag in
@@ -176,7 +176,7 @@ module _ (st : StoreState) (keeps : KeepsPages st) where
       })
 
   -- what a plan posts may be posted
-  pub post_allowed : (parent : ℕ) (path : List Side) (inner : ℕ) (area : Area) (page child : LivePage) (other : ℕ) (p : List ℕ) → if_live (st.frame parent) ≡ Some page → if_live (st.frame other) ≡ Some child → IsPlan page child p st.meta.icap (plans.Post path inner area) → IsAllowedHere st (ops.Post parent path inner area)
+  pub post_allowed : (parent : ℕ) (path : List Side) (inner : ℕ) (area : Area) (page child : LivePage) (other : ℕ) (p : List ℕ) → if_live (in_memory st parent) ≡ Some page → if_live (in_memory st other) ≡ Some child → IsPlan page child p st.meta.icap (plans.Post path inner area) → IsAllowedHere st (ops.Post parent path inner area)
   post_allowed parent path inner area page child other p live child_live plan =
       let good = good_live parent page live in
       let good_child = good_live other child child_live in
@@ -193,7 +193,7 @@ module _ (st : StoreState) (keeps : KeepsPages st) where
       })
 
   -- a parent that has no room weighs enough to be split
-  heavy_parent : (parent : ℕ) (page child : LivePage) (p : List ℕ) → if_live (st.frame parent) ≡ Some page → LacksRoom page child p st.meta.icap → 6 ≤ weight_of page.frag
+  heavy_parent : (parent : ℕ) (page child : LivePage) (p : List ℕ) → if_live (in_memory st parent) ≡ Some page → LacksRoom page child p st.meta.icap → 6 ≤ weight_of page.frag
   heavy_parent parent page child p live lacks =
       let good = good_live parent page live in
       let above = kind_at st.meta page p (record { leaf = Child lacks.outer; area = lacks.leaf }) good lacks.owed.above in
@@ -230,16 +230,16 @@ module _ (m : Machine) (actor : ℕ) (may : ℕ → Type 0) (fetched : StoreStat
       same : (a b : Op) → Some a ≡ Some b → a ≡ b
       same a b is = cc
 
-  stays_live : (id : ℕ) (page : LivePage) → if_live (m.store.frame id) ≡ Some page → if_live (fetched.frame id) ≡ Some page
+  stays_live : (id : ℕ) (page : LivePage) → if_live (in_memory m.store id) ≡ Some page → if_live (in_memory fetched id) ≡ Some page
   stays_live id page live =
-      let there = live_frame (m.store.frame id) page live in
+      let there = live_there (in_memory m.store id) page live in
       ap if_live (brings.stays id (subst (λ (o : Option Page). IsSome o) (sym there) refl)) ∙ live
 
   dcap_same : m.store.meta.dcap ≡ fetched.meta.dcap
   dcap_same = sym (ap (λ (m : Meta). m.dcap) brings.rest.meta)
 
   -- a page that lacks room for a record weighs enough to be split
-  lacking_weighs : (held : ℕ) (p body : List ℕ) (page : LivePage) → LacksRoomFor m held p body → if_live (fetched.frame held) ≡ Some page → 6 ≤ weight_of page.frag
+  lacking_weighs : (held : ℕ) (p body : List ℕ) (page : LivePage) → LacksRoomFor m held p body → if_live (in_memory fetched held) ≡ Some page → 6 ≤ weight_of page.frag
   lacking_weighs held p body page lacks live =
       let rec : Record = record { key = p; body = body } in
       let now = stays_live held lacks.page lacks.live in
@@ -255,7 +255,7 @@ module _ (m : Machine) (actor : ℕ) (may : ℕ → Type 0) (fetched : StoreStat
   shown_search line [] found deed (ordered, same, rising, is) = none_shown deed _ is refl
   shown_search line (area ∷ rest) found deed is = none_shown deed _ is refl
 
-  shown_there : (line : Line) (command : Command) (rest : List Area) (found : List Record) (id : ℕ) (page : LivePage) (p : List ℕ) (deed : Deed) → if_live (fetched.frame id) ≡ Some page → DoesThere m' line command rest found id page p deed → Shown deed
+  shown_there : (line : Line) (command : Command) (rest : List Area) (found : List Record) (id : ℕ) (page : LivePage) (p : List ℕ) (deed : Deed) → if_live (in_memory fetched id) ≡ Some page → DoesThere m' line command rest found id page p deed → Shown deed
   shown_there line (Insert rec) rest found id page p deed live (inl row) = none_shown deed _ row.deed_is refl
   shown_there line (Insert rec) rest found id page p deed live (inr (inl row)) = one_shown deed _ (ops.Put id rec) row.deed_is refl (put_allowed fetched keeps id rec page live row.absent row.room)
   shown_there line (Insert rec) rest found id page p deed live (inr (inr row)) = none_shown deed _ row.deed_is refl
@@ -265,7 +265,7 @@ module _ (m : Machine) (actor : ℕ) (may : ℕ → Type 0) (fetched : StoreStat
   shown_there line (Lookup point) rest found id page p deed live (inr row) = none_shown deed _ row.deed_is refl
   shown_there line (Search area) rest found id page p deed live row = shown_search line _ _ deed row.goes
 
-  shown_walk : (line : Line) (rest : List Area) (found : List Record) (id : ℕ) (page : LivePage) (deed : Deed) (goal : Option (List ℕ)) → if_live (fetched.frame id) ≡ Some page
+  shown_walk : (line : Line) (rest : List Area) (found : List Record) (id : ℕ) (page : LivePage) (deed : Deed) (goal : Option (List ℕ)) → if_live (in_memory fetched id) ≡ Some page
       → MatchOption goal ⊥ (λ p. PassesOn page p m' (at.SessionWalk line (Some id) rest found) deed ⊎ DoesThere m' line line.command rest found id page p deed) → Shown deed
   shown_walk line rest found id page deed None live never = absurd never
   shown_walk line rest found id page deed (Some p) live (inl row) = none_shown deed _ row.deed_is refl
@@ -307,13 +307,13 @@ module _ (m : Machine) (actor : ℕ) (may : ℕ → Type 0) (fetched : StoreStat
   shown_look job parent (plans.Post path inner area) deed is = none_shown deed _ is refl
   shown_look job parent plans.SplitFirst deed is = none_shown deed _ is refl
 
-  shown_plan : (job : Job) (parent other : ℕ) (page child : LivePage) (plan : PostPlan) (deed : Deed) → if_live (fetched.frame parent) ≡ Some page → if_live (fetched.frame other) ≡ Some child → IsPlan page child job.point fetched.meta.icap plan → DoesPlan m' job parent page plan deed → Shown deed
+  shown_plan : (job : Job) (parent other : ℕ) (page child : LivePage) (plan : PostPlan) (deed : Deed) → if_live (in_memory fetched parent) ≡ Some page → if_live (in_memory fetched other) ≡ Some child → IsPlan page child job.point fetched.meta.icap plan → DoesPlan m' job parent page plan deed → Shown deed
   shown_plan job parent other page child plans.Nothing deed live child_live plan is = none_shown deed _ is refl
   shown_plan job parent other page child (plans.Post path inner area) deed live child_live plan is = one_shown deed _ _ is refl (post_allowed fetched keeps parent path inner area page child other job.point live child_live plan)
   shown_plan job parent other page child plans.SplitFirst deed live child_live plan (inl row) = none_shown deed _ row.deed_is refl
   shown_plan job parent other page child plans.SplitFirst deed live child_live plan (inr row) = one_shown deed _ _ row.deed_is refl (split_allowed fetched keeps parent page row.leaves live (heavy_parent fetched keeps parent page child job.point live plan))
 
-  shown_at : (activity : Activity) (id : ℕ) (page : LivePage) (deed : Deed) → if_live (fetched.frame id) ≡ Some page → RowAt activity m' id page deed → Shown deed
+  shown_at : (activity : Activity) (id : ℕ) (page : LivePage) (deed : Deed) → if_live (in_memory fetched id) ≡ Some page → RowAt activity m' id page deed → Shown deed
   shown_at (at.SessionWalk line held rest found) id page deed live row = shown_walk line rest found id page deed (goal_of line.command rest) live row
   shown_at (at.PosterGrow job) id page deed live (inl row) = one_shown deed _ _ row.deed_is refl (grow_allowed fetched keeps row.fresh row.free_after row.free row.next row.may.below)
   shown_at (at.PosterGrow job) id page deed live (inr row) = none_shown deed _ row.deed_is refl

@@ -31,8 +31,8 @@ use Rattle.hb_activity.specs.Holding.{latch_on, walk_latch}
 use Rattle.hb_activity.specs.Walks.{goal_of, job_mode, session_mode, walk_held}
 use Rattle.hb_activity.specs.Wanting.{walk_next, wanted_of, wanted_page}
 use Rattle.hb_store.specs.Calls.{change_here, read_here}
-use Rattle.hb_store.specs.States.{StoreState, in_memory}
 use Rattle.hb_store.specs.Replay.{set_pages}
+use Rattle.hb_store.specs.States.{StoreState, in_memory}
 use Rattle.hb_core.specs.Machines.{Machine, with_disk}
 use Rattle.hb_core.specs.Asking.{HasWayFree, looked_live, wanted_by}
 use Rattle.hb_core.specs.Fetching.{Brings}

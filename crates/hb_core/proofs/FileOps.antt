@@ -20,11 +20,12 @@ use Rattle.hb_ops.specs.Posting.{GaveAway}
 use Rattle.hb_ops.specs.Sound.{IsSound}
 use Rattle.hb_log_codec.specs.Groups.{FitsOp}
 use Rattle.hb_terms.proofs.Owing.{planned_may_be, way_ends_there}
-use Rattle.hb_store.specs.Calls.{IsAllowedHere, change_here, framed_read}
-use Rattle.hb_store.specs.Keeps.{StoreState}
+use Rattle.hb_store.specs.Calls.{IsAllowedHere, change_here, read_here}
 use Rattle.hb_store.specs.NextPage.{IsNext}
 use Rattle.hb_store.specs.Replay.{set_pages}
-use Rattle.hb_store.proofs.FilePages.{Reaches, page_at-zero, pages_set}
+use Rattle.hb_store.specs.States.{StoreState, in_memory}
+use Rattle.hb_ops.specs.PageNumberLaws.{page_at-zero}
+use Rattle.hb_store.proofs.FilePages.{Reaches, pages_set}
 use Rattle.hb_store.proofs.MadeMeta.{op_has, reads_some}
 use Rattle.hb_core.proofs.GoodChanges.{IsGoodChange}
 use Rattle.hb_core.proofs.KeptPages.{KeepsPages}
@@ -34,7 +35,7 @@ use Rattle.hb_core.proofs.RowTells.{IsPlanned, TellsOp}
 pub record ShowsFile (st : StoreState) (s : FileState) : Type 0 where
   pub sound : IsSound s
   pub meta : s.meta ≡ st.meta
-  pub shown : (id : ℕ) (page : Page) → st.frame id ≡ Some page → page_of s id ≡ Some page
+  pub shown : (id : ℕ) (page : Page) → (in_memory st) id ≡ Some page → page_of s id ≡ Some page
 
 -- pages that others have too are so once the same were set in both
 pub set_both : (pages : List (ℕ × Page)) (f g : ℕ → Option Page) → ((q : ℕ) (page : Page) → f q ≡ Some page → g q ≡ Some page) → (q : ℕ) (page : Page) → set_pages pages f q ≡ Some page → set_pages pages g q ≡ Some page
@@ -60,23 +61,23 @@ module _ (st : StoreState) (s : FileState) (keeps : KeepsPages st) (file : Shows
   none_at_zero None h = refl
   none_at_zero (Some page) h = absurd (omega (arith, h page refl))
 
-  no_frame : st.frame 0 ≡ None
-  no_frame = none_at_zero (st.frame 0) (λ page e. (keeps.framed 0 page e).0)
+  no_frame : (in_memory st) 0 ≡ None
+  no_frame = none_at_zero (in_memory st 0) (λ page e. (keeps.framed 0 page e).0)
 
   in_file_at : (q : ℕ) (o : Option Page) → IsSome o → ((page : Page) → o ≡ Some page → page_of s q ≡ Some page) → o ≡ page_of s q
   in_file_at q None h shown = cc h
   in_file_at q (Some page) h shown = sym (shown page refl)
 
   -- what the operation reads in memory is what it reads in the file
-  read_file : (place : ℕ) → framed_read st op place ≡ nth_read s op place
+  read_file : (place : ℕ) → read_here st op place ≡ nth_read s op place
   read_file place = elim (cases_lt place (length (reads_of op))) [
     | inl lt ↦
-        let there = reads_some op st.meta st.frame (framed_read st op 1) (framed_read st op 2) allowed place 0 lt in
+        let there = reads_some op st.meta (in_memory st) (read_here st op 1) (read_here st op 2) allowed place 0 lt in
         let q = get_or (reads_of op) place 0 in
-        ap if_live (in_file_at q (st.frame q) there (file.shown q))
+        ap if_live (in_file_at q (in_memory st q) there (file.shown q))
     | inr le ↦
         let past : get_or (reads_of op) place 0 ≡ 0 = get_or_past (reads_of op) place 0 le in
-        subst (λ (n : ℕ). if_live (st.frame n) ≡ if_live (page_of s n)) (sym past) (ap if_live no_frame ∙ ap if_live (sym (page_at-zero s.pages)))
+        subst (λ (n : ℕ). if_live (in_memory st n) ≡ if_live (page_of s n)) (sym past) (ap if_live no_frame ∙ ap if_live (sym (page_at-zero s.pages)))
   ]
 
   pub allowed_in_file : IsAllowed s op
@@ -99,8 +100,8 @@ module _ (st : StoreState) (s : FileState) (keeps : KeepsPages st) (file : Shows
     meta_after = ap (λ (c : Change). c.meta) (sym change_in_file)
 
     -- a page in memory afterwards is one of the file afterwards
-    pub shown_after : (id : ℕ) (page : Page) → set_pages (change_here st op).pages st.frame id ≡ Some page → page_of (effect_of s op) id ≡ Some page
-    shown_after id page there = page_after id ∙ set_both (change_here st op).pages st.frame (page_of s) file.shown id page there
+    pub shown_after : (id : ℕ) (page : Page) → set_pages (change_here st op).pages (in_memory st) id ≡ Some page → page_of (effect_of s op) id ≡ Some page
+    shown_after id page there = page_after id ∙ set_both (change_here st op).pages (in_memory st) (page_of s) file.shown id page there
 
 -- ---- what its caller knows
 

@@ -22,13 +22,13 @@ use Rattle.hb_ops.specs.Files.{if_live}
 use Rattle.hb_ops.specs.Operations.{IsAllowedOn}
 use Rattle.hb_log_codec.specs.Groups.{FitsOp}
 use Rattle.hb_terms.proofs.Owing.{planned_may_be}
-use Rattle.hb_store.specs.Calls.{IsAllowedHere, framed_read}
-use Rattle.hb_store.specs.Keeps.{IsGoodPage, StoreState}
+use Rattle.hb_store.specs.Calls.{IsAllowedHere, read_here}
 use Rattle.hb_store.specs.Making.{HaveFittingParts, IsReadable}
 use Rattle.hb_store.specs.NextPage.{IsNext}
 use Rattle.hb_store.specs.Replaying.{HasLimits}
+use Rattle.hb_store.specs.States.{IsGoodPage, StoreState, in_memory}
 use Rattle.hb_store.proofs.MadeLeaves.{AllFit, FitsIn, all_fit, back_all, front_all}
-use Rattle.hb_core.proofs.Backing.{live_frame}
+use Rattle.hb_core.proofs.Backing.{live_there}
 use Rattle.hb_core.proofs.GoodChanges.{AreGoodPages, can_be_read}
 use Rattle.hb_core.proofs.RowTells.{TellsOp}
 
@@ -63,16 +63,16 @@ module _ (points : HeldArePoints) (meta : Meta) (page : LivePage) (good : IsGood
   pub leaf_fits_there : FitsIn (length page.area.lo) l.leaf
   leaf_fits_there = All-contains (λ (l : Placed). FitsIn (length page.area.lo) l.leaf) (leaves_of page.frag page.area) l (placed_fit (length page.area.lo) page.frag page.area (all_fit (length page.area.lo) page.frag good.0.fits.2)) at_leaf.0
 
-module _ (points : HeldArePoints) (parts : HaveFittingParts) (st : StoreState) (limits : HasLimits st.meta) (high : st.meta.high ≤ st.meta.pages) (framed : AreGoodPages st.meta st.frame) where
+module _ (points : HeldArePoints) (parts : HaveFittingParts) (st : StoreState) (limits : HasLimits st.meta) (high : st.meta.high ≤ st.meta.pages) (framed : AreGoodPages st.meta (in_memory st)) where
   -- numbers of pages are short
   number_fits : (id : ℕ) → id ≤ st.meta.pages → id < 2 ^ 32
   number_fits id few = omega (arith, few, limits.layout.few_pages)
 
-  page_fits : (id : ℕ) (page : Page) → st.frame id ≡ Some page → id < 2 ^ 32
+  page_fits : (id : ℕ) (page : Page) → (in_memory st) id ≡ Some page → id < 2 ^ 32
   page_fits id page there = number_fits id (let at = framed id page there in omega (arith, at.1, high))
 
-  good_live : (id : ℕ) (page : LivePage) → if_live (st.frame id) ≡ Some page → IsGoodPage st.meta (Live page)
-  good_live id page live = (framed id (Live page) (live_frame (st.frame id) page live)).2
+  good_live : (id : ℕ) (page : LivePage) → if_live (in_memory st id) ≡ Some page → IsGoodPage st.meta (Live page)
+  good_live id page live = (framed id (Live page) (live_there (in_memory st id) page live)).2
 
   -- the number that is taken, and the free head after it
   record TakesNumber (fresh free_after : ℕ) : Type 0 where
@@ -89,13 +89,13 @@ module _ (points : HeldArePoints) (parts : HaveFittingParts) (st : StoreState) (
         record { fresh_fits = page_fits fresh (Free free_after) head.1; free_fits = (framed fresh (Free free_after) head.1).2.fits }
   ]
 
-  fits_put : (id : ℕ) (rec : Record) (o : Option LivePage) → if_live (st.frame id) ≡ o → (second third : Option LivePage) → TellsOp st (ops.Put id rec) → IsAllowedOn (ops.Put id rec) st.meta o second third → FitsOp st.meta.k (ops.Put id rec)
+  fits_put : (id : ℕ) (rec : Record) (o : Option LivePage) → if_live (in_memory st id) ≡ o → (second third : Option LivePage) → TellsOp st (ops.Put id rec) → IsAllowedOn (ops.Put id rec) st.meta o second third → FitsOp st.meta.k (ops.Put id rec)
   fits_put id rec None is second third body allowed = absurd allowed
   fits_put id rec (Some page) is second third body allowed =
       let good = good_live id page is in
       let at = allowed.absent in
       let l : Placed = record { leaf = Records at.records; area = at.area } in (
-        page_fits id (Live page) (live_frame (st.frame id) page is),
+        page_fits id (Live page) (live_there (in_memory st id) page is),
         record {
           attributes = as_many points st.meta page good rec.key l at.leaf;
           values = (point_there points st.meta page good rec.key l at.leaf).fits;
@@ -103,13 +103,13 @@ module _ (points : HeldArePoints) (parts : HaveFittingParts) (st : StoreState) (
         },
       )
 
-  fits_del : (id : ℕ) (p : List ℕ) (o : Option LivePage) → if_live (st.frame id) ≡ o → (second third : Option LivePage) → IsAllowedOn (ops.Del id p) st.meta o second third → FitsOp st.meta.k (ops.Del id p)
+  fits_del : (id : ℕ) (p : List ℕ) (o : Option LivePage) → if_live (in_memory st id) ≡ o → (second third : Option LivePage) → IsAllowedOn (ops.Del id p) st.meta o second third → FitsOp st.meta.k (ops.Del id p)
   fits_del id p None is second third allowed = absurd allowed
   fits_del id p (Some page) is second third allowed =
       let good = good_live id page is in
       let at = allowed.there in
       let l : Placed = record { leaf = Records at.records; area = at.area } in
-      (page_fits id (Live page) (live_frame (st.frame id) page is), as_many points st.meta page good p l at.leaf, (point_there points st.meta page good p l at.leaf).fits)
+      (page_fits id (Live page) (live_there (in_memory st id) page is), as_many points st.meta page good p l at.leaf, (point_there points st.meta page good p l at.leaf).fits)
 
   -- what a plan posts
   fits_post : (parent : ℕ) (at : List Side) (inner : ℕ) (area : Area) → TellsOp st (ops.Post parent at inner area) → IsAllowedHere st (ops.Post parent at inner area) → FitsOp st.meta.k (ops.Post parent at inner area)
@@ -124,20 +124,20 @@ module _ (points : HeldArePoints) (parts : HaveFittingParts) (st : StoreState) (
       record {
         parent_fits = page_fits parent (Live page) tells.live;
         inner_fits = leaf_fits_there points st.meta child good_child tells.p sibling below;
-        steps = parts (ops.Post parent at inner area) st.meta (framed_read st (ops.Post parent at inner area) 0) (framed_read st (ops.Post parent at inner area) 1) (framed_read st (ops.Post parent at inner area) 2) limits allowed (can_be_read st.meta st.frame framed parent);
+        steps = parts (ops.Post parent at inner area) st.meta (read_here st (ops.Post parent at inner area) 0) (read_here st (ops.Post parent at inner area) 1) (read_here st (ops.Post parent at inner area) 2) limits allowed (can_be_read st.meta (in_memory st) framed parent);
         is_area = may.given_area;
         attributes = sym (at_leaf points st.meta child good_child tells.p sibling below).1.same ∙ as_many points st.meta child good_child tells.p sibling below;
       }
 
-  fits_split : (source fresh : ℕ) (path : List Side) (cuts : List LeafCut) (free_after : ℕ) (o : Option LivePage) → if_live (st.frame source) ≡ o → (second third : Option LivePage) → IsNext st fresh free_after → IsAllowedOn (ops.Extract source fresh path cuts free_after) st.meta o second third
+  fits_split : (source fresh : ℕ) (path : List Side) (cuts : List LeafCut) (free_after : ℕ) (o : Option LivePage) → if_live (in_memory st source) ≡ o → (second third : Option LivePage) → IsNext st fresh free_after → IsAllowedOn (ops.Extract source fresh path cuts free_after) st.meta o second third
       → FitsOp st.meta.k (ops.Extract source fresh path cuts free_after)
   fits_split source fresh path cuts free_after None is second third next allowed = absurd allowed
   fits_split source fresh path cuts free_after (Some page) is second third next allowed =
       let op = ops.Extract source fresh path cuts free_after in
       let number = takes_number fresh free_after next in
-      let short = parts op st.meta (Some page) second third limits allowed (subst (λ (o : Option LivePage). IsReadable o) is (can_be_read st.meta st.frame framed source)) in
+      let short = parts op st.meta (Some page) second third limits allowed (subst (λ (o : Option LivePage). IsReadable o) is (can_be_read st.meta (in_memory st) framed source)) in
       record {
-        source_fits = page_fits source (Live page) (live_frame (st.frame source) page is);
+        source_fits = page_fits source (Live page) (live_there (in_memory st source) page is);
         fresh_fits = number.fresh_fits;
         free_fits = number.free_fits;
         steps = short.0;
@@ -146,8 +146,8 @@ module _ (points : HeldArePoints) (parts : HaveFittingParts) (st : StoreState) (
       }
 
   pub fits_op : (op : Op) → TellsOp st op → IsAllowedHere st op → FitsOp st.meta.k op
-  fits_op (ops.Put id rec) tells allowed = fits_put id rec (if_live (st.frame id)) refl _ _ tells allowed
-  fits_op (ops.Del id p) tells allowed = fits_del id p (if_live (st.frame id)) refl _ _ allowed
-  fits_op (ops.Extract source fresh path cuts free_after) tells allowed = fits_split source fresh path cuts free_after (if_live (st.frame source)) refl _ _ tells allowed
+  fits_op (ops.Put id rec) tells allowed = fits_put id rec (if_live (in_memory st id)) refl _ _ tells allowed
+  fits_op (ops.Del id p) tells allowed = fits_del id p (if_live (in_memory st id)) refl _ _ allowed
+  fits_op (ops.Extract source fresh path cuts free_after) tells allowed = fits_split source fresh path cuts free_after (if_live (in_memory st source)) refl _ _ tells allowed
   fits_op (ops.Post parent at inner area) tells allowed = fits_post parent at inner area tells allowed
   fits_op (ops.Grow fresh free_after) tells allowed = let number = takes_number fresh free_after tells in (number.fresh_fits, number.free_fits)

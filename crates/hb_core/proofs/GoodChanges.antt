@@ -12,11 +12,11 @@ use Rattle.hb_ops.specs.Files.{if_live}
 use Rattle.hb_ops.specs.Operations.{Change, IsAllowedOn, change_of, reads_of}
 use Rattle.hb_ops.specs.Sound.{FitsFile}
 use Rattle.hb_log_codec.specs.Groups.{FitsOp}
-use Rattle.hb_store.specs.Keeps.{IsGoodPage}
 use Rattle.hb_store.specs.Making.{IsReadable, MakesGoodPages}
 use Rattle.hb_store.specs.Replay.{set_pages}
 use Rattle.hb_store.specs.ReplayLists.{live_so, set_one-same}
 use Rattle.hb_store.specs.Replaying.{ComesAfter, HasLimits, IsPageOf}
+use Rattle.hb_store.specs.States.{IsGoodPage}
 use Rattle.hb_store.proofs.Counting.{high_next}
 use Rattle.hb_store.proofs.MadeMeta.{comes_after, made_numbered, reads_some, some_page}
 

@@ -3,10 +3,10 @@ use Rattle.std.proofs.Common.{◌≡◌, inl, inr, ℕ, ◌<◌, ◌≤◌, ◌^
 use Rattle.hb_frag.specs.declared.pages.Page.{Page}
 use Rattle.hb_layout.specs.declared.meta.Meta.{Meta}
 use Rattle.hb_ops.specs.declared.operations.Op.{Op}
-use Rattle.hb_store.specs.Calls.{IsAllowedHere, change_here, framed_read}
-use Rattle.hb_store.specs.Keeps.{IsGoodPage, StoreState}
+use Rattle.hb_store.specs.Calls.{IsAllowedHere, change_here, read_here}
 use Rattle.hb_store.specs.Making.{HaveFittingParts, MakesGoodPages}
 use Rattle.hb_store.specs.Replaying.{HasLimits}
+use Rattle.hb_store.specs.States.{IsGoodPage, StoreState, in_memory}
 use Rattle.hb_core.specs.declared.outcomes.Outcome.{Outcome}
 use Rattle.hb_core.specs.declared.outcomes.Outcome.TheVariants as outcomes
 use Rattle.hb_core.specs.Machines.{Machine}
@@ -31,7 +31,7 @@ pub record KeepsPages (st : StoreState) : Type 0 where
   pub limits : HasLimits st.meta
   pub high : st.meta.high ≤ st.meta.pages
   pub free : st.meta.free < 2 ^ 32
-  pub framed : AreGoodPages st.meta st.frame
+  pub framed : AreGoodPages st.meta (in_memory st)
 
 pub keeps_pages : (m : Machine) → MarksInPlace m → HoldsPagesOfFile m → KeepsPages m.store
 keeps_pages m marks inside = record { limits = record { layout = marks.layout; root_fits = marks.root }; high = marks.high; free = marks.free; framed = inside }
@@ -50,10 +50,10 @@ brought m may fetched brings keeps =
       limits = subst HasLimits meta keeps.limits;
       high = subst (λ (meta : Meta). meta.high ≤ meta.pages) meta keeps.high;
       free = subst (λ (meta : Meta). meta.free < 2 ^ 32) meta keeps.free;
-      framed = λ id page there. subst (λ (meta : Meta). (1 ≤ id) × (id ≤ meta.high) × IsGoodPage meta page) meta (by id page there (m.store.frame id) refl);
+      framed = λ id page there. subst (λ (meta : Meta). (1 ≤ id) × (id ≤ meta.high) × IsGoodPage meta page) meta (by id page there (in_memory m.store id) refl);
     }
   where
-    by : (id : ℕ) (page : Page) → fetched.frame id ≡ Some page → (o : Option Page) → m.store.frame id ≡ o → (1 ≤ id) × (id ≤ m.store.meta.high) × IsGoodPage m.store.meta page
+    by : (id : ℕ) (page : Page) → (in_memory fetched) id ≡ Some page → (o : Option Page) → (in_memory m.store) id ≡ o → (1 ≤ id) × (id ≤ m.store.meta.high) × IsGoodPage m.store.meta page
     by id page there None none = brings.good id page none there
     by id page there (Some old) some = keeps.framed id page (sym (brings.stays id (subst (λ (o : Option Page). IsSome o) (sym some) refl)) ∙ there)
 
@@ -61,7 +61,7 @@ brought m may fetched brings keeps =
 module _ (makes : MakesGoodPages) (parts : HaveFittingParts) (points : HeldArePoints) where
   pub change_is_well : (st : StoreState) (op : Op) → KeepsPages st → TellsOp st op → IsAllowedHere st op → IsGoodChange st.meta (change_here st op)
   change_is_well st op keeps tells allowed =
-      good_change makes st.meta keeps.limits st.frame keeps.framed op (framed_read st op 1) (framed_read st op 2) (fits_op points parts st keeps.limits keeps.high keeps.framed op tells allowed) allowed
+      good_change makes st.meta keeps.limits (in_memory st) keeps.framed op (read_here st op 1) (read_here st op 2) (fits_op points parts st keeps.limits keeps.high keeps.framed op tells allowed) allowed
 
   done : (op : Option Op) (mark : ℕ) (old new : StoreState) → KeepsPages old → Tells old op → MayDo op mark old new → KeepsPages new
   done None mark old new keeps tells same = subst KeepsPages (sym same) keeps
@@ -75,10 +75,10 @@ module _ (makes : MakesGoodPages) (parts : HaveFittingParts) (points : HeldArePo
         high = subst (λ (meta : Meta). meta.high ≤ meta.pages) meta (after.high keeps.high);
         free = subst (λ (meta : Meta). meta.free < 2 ^ 32) meta (after.free keeps.free);
         framed = λ id page there. subst (λ (meta : Meta). (1 ≤ id) × (id ≤ meta.high) × IsGoodPage meta page) meta
-            (each_set (λ n p. (1 ≤ n) × (n ≤ change.meta.high) × IsGoodPage change.meta p) change.pages old.frame
+            (each_set (λ n p. (1 ≤ n) × (n ≤ change.meta.high) × IsGoodPage change.meta p) change.pages (in_memory old)
             (λ k d lt. let c = well.pages k d lt in (c.0.0, c.0.1, c.1))
             (λ n p is. let was = keeps.framed n p is in (was.0, omega (arith, was.1, after.rises), well.others p was.2))
-            id page (sym (does.commits.frame id) ∙ there));
+            id page (sym (does.commits.pages id) ∙ there));
       }
 
   module _ (m : Machine) (actor : ℕ) (outcome : Outcome) (new : Machine) (fit : LinesFit m) (keeps : KeepsPages m.store) where

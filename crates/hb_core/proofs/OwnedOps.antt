@@ -27,8 +27,8 @@ use Rattle.hb_activity.specs.declared.activities.Activity.TheVariants as at
 use Rattle.hb_activity.specs.Walks.{goal_of, may_change, session_mode}
 use Rattle.hb_activity.specs.Wanting.{in_mode, walk_next, wanted_of, wanted_page}
 use Rattle.hb_store.specs.Calls.{IsAllowedHere, read_here}
-use Rattle.hb_store.specs.States.{StoreState, in_memory}
 use Rattle.hb_store.specs.NextPage.{IsNext}
+use Rattle.hb_store.specs.States.{StoreState, in_memory}
 use Rattle.hb_core.specs.Machines.{Machine, with_disk}
 use Rattle.hb_core.specs.Asking.{HasWayFree, looked_live, wanted_by}
 use Rattle.hb_core.specs.Fetching.{Brings}

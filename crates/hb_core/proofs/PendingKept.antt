@@ -12,9 +12,10 @@ use Rattle.hb_set.specs.Order.{Entry, IsLegalOrder, result_of}
 use Rattle.hb_set.specs.declared.commands.Reply.{Reply}
 use Rattle.hb_set.specs.declared.scripts.Answered.{Answered}
 use Rattle.hb_store.specs.Calls.{durable_after, later_after}
-use Rattle.hb_log_codec.specs.Groups.{group_bytes}
 use Rattle.hb_store.specs.Images.{group_here}
-use Rattle.hb_store.specs.Keeps.{StoreState, last_of}
+use Rattle.hb_store.specs.Keeps.{last_of}
+use Rattle.hb_store.specs.States.{StoreState}
+use Rattle.hb_log_codec.specs.Groups.{group_bytes}
 use Rattle.hb_core.specs.declared.outcomes.Outcome.{Outcome}
 use Rattle.hb_core.specs.declared.outcomes.Outcome.TheVariants as outcomes
 use Rattle.hb_core.specs.Machines.{Files, Machine, current_file, if_some, settled_count}

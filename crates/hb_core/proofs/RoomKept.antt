@@ -24,8 +24,8 @@ use Rattle.hb_activity.specs.declared.activities.Activity.{Activity}
 use Rattle.hb_activity.specs.declared.activities.Activity.TheVariants as at
 use Rattle.hb_activity.specs.Holding.{latch_on}
 use Rattle.hb_activity.specs.Walks.{walk_held}
-use Rattle.hb_store.specs.Calls.{framed_read}
-use Rattle.hb_store.specs.Keeps.{StoreState}
+use Rattle.hb_store.specs.Calls.{read_here}
+use Rattle.hb_store.specs.States.{StoreState, in_memory}
 use Rattle.hb_core.specs.declared.outcomes.Outcome.{Outcome}
 use Rattle.hb_core.specs.declared.outcomes.Outcome.TheVariants as outcomes
 use Rattle.hb_core.specs.Machines.{Files, Machine, live_here}
@@ -37,7 +37,7 @@ use Rattle.hb_core.specs.Performing.{MayDo, Performs, latches_held}
 use Rattle.hb_core.specs.Steps.{StepsTo, Works}
 use Rattle.hb_core.specs.Keeps.{HasNobodyElse, HasRoomFor, HasSoundFile, HoldsPagesOfFile, KnowsRoom, LacksRoomFor, LatchesFit, OneHasRoom}
 use Rattle.hb_core.specs.KeepingLaws.{RoomStaysKnown}
-use Rattle.hb_core.proofs.Backing.{live_frame}
+use Rattle.hb_core.proofs.Backing.{live_there}
 use Rattle.hb_core.proofs.NextPlaces.{HasPlace, HoldsNothing, KeepsParent, PartsFull, TakesFull, nothing_given_up, nothing_run_out, now, place_after}
 use Rattle.hb_core.proofs.SplitHalves.{one_has_room, takes_full}
 use Rattle.hb_core.proofs.SplitHome.{RoomLaws}
@@ -66,7 +66,7 @@ module _ (m : Machine) (actor : ℕ) (outcome : Outcome) (new : Machine) where
   by_op None mark fetched meta does = ap (λ (st : StoreState). st.meta.dcap) does ∙ ap (λ (x : Meta). x.dcap) meta
   by_op (Some op) mark fetched meta does =
       ap (λ (x : Meta). x.dcap) does.commits.meta
-      ∙ capacity_of_change op fetched.meta (framed_read fetched op 0) (framed_read fetched op 1) (framed_read fetched op 2)
+      ∙ capacity_of_change op fetched.meta (read_here fetched op 0) (read_here fetched op 1) (read_here fetched op 2)
       ∙ ap (λ (x : Meta). x.dcap) meta
 
   pub by_deed : (fetched : StoreState) (deed : Deed) → fetched.meta ≡ m.store.meta → Performs m fetched actor deed outcome new → SameCapacity m new
@@ -289,7 +289,7 @@ module _ (laws : RoomLaws) (least : DCAP_MIN ≡ 6) (m : Machine) (files : Files
       (λ other another. ap (λ (all : ℕ → Activity). all other) keeps.activity)
     where
       still : (id : ℕ) (page : LivePage) → live_here m.store id ≡ Some page → live_here new.store id ≡ Some page
-      still id page live = ap if_live (keeps.memory id (Live page) (live_frame (m.store.frame id) page live))
+      still id page live = ap if_live (keeps.memory id (Live page) (live_there (in_memory m.store id) page live))
 
   did : (fetched : StoreState) (deed : Deed) → Performs m fetched actor deed outcome new → KnowsOf new deed.next → KnowsRoom new
   did fetched deed performs own = with_own (knows_as new (new.activity actor) deed.next (own_next m actor fetched deed outcome new performs) own) (λ other another. stood other another)

@@ -28,7 +28,7 @@ use Rattle.hb_activity.specs.declared.wanting.Wanted.{Wanted}
 use Rattle.hb_activity.specs.declared.activities.Activity.{Activity}
 use Rattle.hb_activity.specs.declared.activities.Activity.TheVariants as at
 use Rattle.hb_activity.specs.Walks.{goal_of}
-use Rattle.hb_store.specs.Keeps.{StoreState}
+use Rattle.hb_store.specs.States.{StoreState, in_memory}
 use Rattle.hb_core.specs.Machines.{Machine, with_disk}
 use Rattle.hb_core.specs.Deeds.{Deed}
 use Rattle.hb_core.specs.KeptLines.{line_in_hand}
@@ -38,7 +38,7 @@ use Rattle.hb_core.specs.SessionRows.{DoesThere, PassesOn}
 use Rattle.hb_core.specs.Steps.{WantsBoxes}
 use Rattle.hb_core.specs.WorkerRows.{DoesPlan, after_look}
 use Rattle.hb_core.specs.Rows.{Row, RowAlone, RowAt}
-use Rattle.hb_core.proofs.Backing.{live_frame}
+use Rattle.hb_core.proofs.Backing.{live_there}
 use Rattle.hb_core.proofs.FileOps.{ShowsFile}
 use Rattle.hb_core.proofs.FitOps.{HeldArePoints, as_many, point_there}
 use Rattle.hb_core.proofs.KeptPages.{KeepsPages}
@@ -112,21 +112,21 @@ module _ (points : HeldArePoints) (standing : StandingIsContents) (lacking : Lac
   abbrev pub before : RecordSet
   before = contents_of s
 
-  point_of : (id : ℕ) (page : LivePage) (p : List ℕ) (l : Placed) → if_live (fetched.frame id) ≡ Some page → leaf_at page p ≡ Some l → IsPointOf s p
+  point_of : (id : ℕ) (page : LivePage) (p : List ℕ) (l : Placed) → if_live (in_memory fetched id) ≡ Some page → leaf_at page p ≡ Some l → IsPointOf s p
   point_of id page p l live there =
-      let good = (keeps.framed id (Live page) (live_frame (fetched.frame id) page live)).2 in
+      let good = (keeps.framed id (Live page) (live_there (in_memory fetched id) page live)).2 in
       record {
         point = point_there points fetched.meta page good p l there;
         attributes = as_many points fetched.meta page good p l there ∙ sym (ap (λ (m : Meta). m.k) file.meta);
       }
 
-  in_file : (id : ℕ) (page : LivePage) → if_live (fetched.frame id) ≡ Some page → live_page s id ≡ Some page
-  in_file id page live = ap if_live (file.shown id (Live page) (live_frame (fetched.frame id) page live))
+  in_file : (id : ℕ) (page : LivePage) → if_live (in_memory fetched id) ≡ Some page → live_page s id ≡ Some page
+  in_file id page live = ap if_live (file.shown id (Live page) (live_there (in_memory fetched id) page live))
 
-  stands : (id : ℕ) (page : LivePage) (p : List ℕ) (r : Record) → if_live (fetched.frame id) ≡ Some page → StandsThere page p r → map.get (contents_of s) p ≡ Some r.body
+  stands : (id : ℕ) (page : LivePage) (p : List ℕ) (r : Record) → if_live (in_memory fetched id) ≡ Some page → StandsThere page p r → map.get (contents_of s) p ≡ Some r.body
   stands id page p r live there = standing s p id page r file.sound (point_of id page p _ live there.leaf) (in_file id page live) there
 
-  lacks : (id : ℕ) (page : LivePage) (p : List ℕ) → if_live (fetched.frame id) ≡ Some page → StandsNot page p → map.get (contents_of s) p ≡ None
+  lacks : (id : ℕ) (page : LivePage) (p : List ℕ) → if_live (in_memory fetched id) ≡ Some page → StandsNot page p → map.get (contents_of s) p ≡ None
   lacks id page p live there = lacking s p id page file.sound (point_of id page p _ live there.leaf) (in_file id page live) there
 
   abbrev pub Joins : Activity → Deed → Type 0
@@ -146,7 +146,7 @@ module _ (points : HeldArePoints) (standing : StandingIsContents) (lacking : Lac
   joins_search activity line area (box ∷ rest) found deed is hand becomes deed_is = effect activity deed _ deed_is becomes (λ stays. stays)
 
   joins_there : (activity : Activity) (line : Line) (command : Command) (rest : List Area) (found : List Record) (id : ℕ) (page : LivePage) (p : List ℕ) (deed : Deed) → line.command ≡ command → line_in_hand activity ≡ Some line
-      → if_live (fetched.frame id) ≡ Some page → Becomes (contents_of s) after deed.op → DoesThere m' line command rest found id page p deed → Joins activity deed
+      → if_live (in_memory fetched id) ≡ Some page → Becomes (contents_of s) after deed.op → DoesThere m' line command rest found id page p deed → Joins activity deed
   joins_there activity line (Insert rec) rest found id page p deed is hand live becomes (inl row) = effect activity deed _ row.deed_is becomes (λ stays. twin_stays (contents_of s) after activity line rec row.twin.body is hand (stands id page rec.key row.twin live row.there) stays)
   joins_there activity line (Insert rec) rest found id page p deed is hand live becomes (inr (inl row)) = effect activity deed _ row.deed_is becomes (λ more. put_joins (contents_of s) after activity line rec is hand more.0 more.1)
   joins_there activity line (Insert rec) rest found id page p deed is hand live becomes (inr (inr row)) = effect activity deed _ row.deed_is becomes (λ stays. stays)
@@ -156,7 +156,7 @@ module _ (points : HeldArePoints) (standing : StandingIsContents) (lacking : Lac
   joins_there activity line (Lookup point) rest found id page p deed is hand live becomes (inr row) = effect activity deed _ row.deed_is becomes (λ stays. finds_joins (contents_of s) after activity line point None is hand (lacks id page point live row.absent) stays)
   joins_there activity line (Search area) rest found id page p deed is hand live becomes row = joins_search activity line area _ _ deed is hand becomes row.goes
 
-  joins_walk : (line : Line) (held : Option ℕ) (rest : List Area) (found : List Record) (id : ℕ) (page : LivePage) (deed : Deed) (goal : Option (List ℕ)) → if_live (fetched.frame id) ≡ Some page → Becomes (contents_of s) after deed.op
+  joins_walk : (line : Line) (held : Option ℕ) (rest : List Area) (found : List Record) (id : ℕ) (page : LivePage) (deed : Deed) (goal : Option (List ℕ)) → if_live (in_memory fetched id) ≡ Some page → Becomes (contents_of s) after deed.op
       → MatchOption goal ⊥ (λ p. PassesOn page p m' (at.SessionWalk line (Some id) rest found) deed ⊎ DoesThere m' line line.command rest found id page p deed) → Joins (at.SessionWalk line held rest found) deed
   joins_walk line held rest found id page deed None live becomes never = absurd never
   joins_walk line held rest found id page deed (Some p) live becomes (inl row) = effect _ deed _ row.deed_is becomes (λ stays. stays)
@@ -195,7 +195,7 @@ module _ (points : HeldArePoints) (standing : StandingIsContents) (lacking : Lac
   joins_plan job parent page plans.SplitFirst deed becomes (inl row) = effect _ deed _ row.deed_is becomes (λ stays. stays)
   joins_plan job parent page plans.SplitFirst deed becomes (inr row) = effect _ deed _ row.deed_is becomes (λ stays. stays)
 
-  joins_at : (activity : Activity) (id : ℕ) (page : LivePage) (deed : Deed) → if_live (fetched.frame id) ≡ Some page → Becomes (contents_of s) after deed.op → RowAt activity m' id page deed → Joins activity deed
+  joins_at : (activity : Activity) (id : ℕ) (page : LivePage) (deed : Deed) → if_live (in_memory fetched id) ≡ Some page → Becomes (contents_of s) after deed.op → RowAt activity m' id page deed → Joins activity deed
   joins_at (at.SessionWalk line held rest found) id page deed live becomes row = joins_walk line held rest found id page deed (goal_of line.command rest) live becomes row
   joins_at (at.PosterGrow job) id page deed live becomes (inl row) = effect _ deed _ row.deed_is becomes (λ stays. stays)
   joins_at (at.PosterGrow job) id page deed live becomes (inr row) = effect _ deed _ row.deed_is becomes (λ stays. stays)

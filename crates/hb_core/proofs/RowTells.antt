@@ -28,8 +28,8 @@ use Rattle.hb_activity.specs.declared.activities.Activity.{Activity}
 use Rattle.hb_activity.specs.declared.activities.Activity.TheVariants as at
 use Rattle.hb_activity.specs.Walks.{goal_of}
 use Rattle.hb_activity.specs.Wanting.{in_mode, named_child, wanted_of, wanted_page}
-use Rattle.hb_store.specs.Keeps.{StoreState}
 use Rattle.hb_store.specs.NextPage.{IsNext}
+use Rattle.hb_store.specs.States.{StoreState, in_memory}
 use Rattle.hb_core.specs.Machines.{Machine, with_disk}
 use Rattle.hb_core.specs.Asking.{looked_live, wanted_by}
 use Rattle.hb_core.specs.Fetching.{Brings}
@@ -39,16 +39,16 @@ use Rattle.hb_core.specs.SearchRows.{SearchGoesOn}
 use Rattle.hb_core.specs.SessionRows.{DoesThere, PassesOn}
 use Rattle.hb_core.specs.WorkerRows.{DoesPlan, after_look}
 use Rattle.hb_core.specs.Rows.{Row, RowAlone, RowAt}
-use Rattle.hb_core.proofs.Backing.{live_frame}
+use Rattle.hb_core.proofs.Backing.{live_there}
 
 -- A posting by a plan: the parent and its child are in memory and in use, and at the job's point the parent's leaf names
 -- the child.
 pub record IsPlanned (st : StoreState) (parent : ℕ) (at : List Side) (inner : ℕ) (area : Area) : Type 0 where
   pub page : LivePage
-  pub live : st.frame parent ≡ Some (Live page)
+  pub live : (in_memory st) parent ≡ Some (Live page)
   pub child : LivePage
   pub outer : ℕ
-  pub named : st.frame outer ≡ Some (Live child)
+  pub named : (in_memory st) outer ≡ Some (Live child)
   pub p : List ℕ
   pub box : Area
   pub above : leaf_at page p ≡ Some (record { leaf = Child outer; area = box })
@@ -95,15 +95,15 @@ module _ (m : Machine) (actor : ℕ) (may : ℕ → Type 0) (fetched : StoreStat
   Told deed = Tells fetched deed.op
 
   -- the page that the step looked into is the one that the row has
-  looked_page_stays : (id : ℕ) (page : LivePage) → if_live (m.store.frame id) ≡ Some page → if_live (fetched.frame id) ≡ Some page
+  looked_page_stays : (id : ℕ) (page : LivePage) → if_live (in_memory m.store id) ≡ Some page → if_live (in_memory fetched id) ≡ Some page
   looked_page_stays id page live =
-      let there = live_frame (m.store.frame id) page live in
+      let there = live_there (in_memory m.store id) page live in
       ap if_live (brings.stays id (subst (λ (o : Option Page). IsSome o) (sym there) refl)) ∙ live
 
   -- a posting, by the child that was latched
-  planned : (job : Job) (parent : ℕ) (wanted : Wanted) (child page : LivePage) (path : List Side) (inner : ℕ) (area : Area) → wanted_of (at.PosterAgain job parent) m.store.meta (if_live (m.store.frame parent)) ≡ Some wanted
-      → if_live (fetched.frame wanted.page) ≡ Some child → if_live (fetched.frame parent) ≡ Some page → Posts page child job.point fetched.meta.icap path inner area → IsPlanned fetched parent path inner area
-  planned job parent wanted child page path inner area wants child_live live posts = by (if_live (m.store.frame parent)) refl wants
+  planned : (job : Job) (parent : ℕ) (wanted : Wanted) (child page : LivePage) (path : List Side) (inner : ℕ) (area : Area) → wanted_of (at.PosterAgain job parent) m.store.meta (if_live (in_memory m.store parent)) ≡ Some wanted
+      → if_live (in_memory fetched wanted.page) ≡ Some child → if_live (in_memory fetched parent) ≡ Some page → Posts page child job.point fetched.meta.icap path inner area → IsPlanned fetched parent path inner area
+  planned job parent wanted child page path inner area wants child_live live posts = by (if_live (in_memory m.store parent)) refl wants
     where
       nothing : (w : Wanted) → None ≡ Some w → ⊥
       nothing w is = cc
@@ -111,25 +111,25 @@ module _ (m : Machine) (actor : ℕ) (may : ℕ → Type 0) (fetched : StoreStat
       same_page : (a b : LivePage) → Some a ≡ Some b → a ≡ b
       same_page a b is = cc
 
-      by : (looked : Option LivePage) → if_live (m.store.frame parent) ≡ looked → wanted_of (at.PosterAgain job parent) m.store.meta looked ≡ Some wanted → IsPlanned fetched parent path inner area
+      by : (looked : Option LivePage) → if_live (in_memory m.store parent) ≡ looked → wanted_of (at.PosterAgain job parent) m.store.meta looked ≡ Some wanted → IsPlanned fetched parent path inner area
       by None is none = absurd (nothing wanted none)
       by (Some old) is some =
           let named = wants_child job.point old.level (leaf_at old job.point) wanted some in
           let same : old ≡ page = same_page old page (sym (looked_page_stays parent old is) ∙ live) in
           record {
             page = page;
-            live = live_frame (fetched.frame parent) page live;
+            live = live_there (in_memory fetched parent) page live;
             child = child;
             outer = wanted.page;
-            named = live_frame (fetched.frame wanted.page) child child_live;
+            named = live_there (in_memory fetched wanted.page) child child_live;
             p = job.point;
             box = named.0;
             above = ap (λ (q : LivePage). leaf_at q job.point) (sym same) ∙ named.1;
             planned = posts;
           }
 
-  tells_plan : (job : Job) (parent : ℕ) (wanted : Wanted) (child page : LivePage) (plan : PostPlan) (deed : Deed) → wanted_of (at.PosterAgain job parent) m.store.meta (if_live (m.store.frame parent)) ≡ Some wanted
-      → if_live (fetched.frame wanted.page) ≡ Some child → if_live (fetched.frame parent) ≡ Some page → IsPlan page child job.point fetched.meta.icap plan → DoesPlan m' job parent page plan deed → Told deed
+  tells_plan : (job : Job) (parent : ℕ) (wanted : Wanted) (child page : LivePage) (plan : PostPlan) (deed : Deed) → wanted_of (at.PosterAgain job parent) m.store.meta (if_live (in_memory m.store parent)) ≡ Some wanted
+      → if_live (in_memory fetched wanted.page) ≡ Some child → if_live (in_memory fetched parent) ≡ Some page → IsPlan page child job.point fetched.meta.icap plan → DoesPlan m' job parent page plan deed → Told deed
   tells_plan job parent wanted child page plans.Nothing deed wants child_live live plan is = tells_of fetched deed _ is tt
   tells_plan job parent wanted child page (plans.Post at inner area) deed wants child_live live plan is = tells_of fetched deed _ is (planned job parent wanted child page at inner area wants child_live live plan)
   tells_plan job parent wanted child page plans.SplitFirst deed wants child_live live plan (inl row) = tells_of fetched deed _ row.deed_is tt
@@ -185,7 +185,7 @@ module _ (m : Machine) (actor : ℕ) (may : ℕ → Type 0) (fetched : StoreStat
   tells_look job parent (plans.Post at inner area) deed is = tells_of fetched deed _ is tt
   tells_look job parent plans.SplitFirst deed is = tells_of fetched deed _ is tt
 
-  tells_at : (activity : Activity) (wanted : Wanted) (page : LivePage) (deed : Deed) → wanted_of activity m.store.meta (looked_live m.store activity) ≡ Some wanted → if_live (fetched.frame wanted.page) ≡ Some page
+  tells_at : (activity : Activity) (wanted : Wanted) (page : LivePage) (deed : Deed) → wanted_of activity m.store.meta (looked_live m.store activity) ≡ Some wanted → if_live (in_memory fetched wanted.page) ≡ Some page
       → IfSome (line_in_hand activity) HasLineBody → RowAt activity m' wanted.page page deed → Told deed
   tells_at (at.SessionWalk line held rest found) wanted page deed wants live body row = tells_walk line rest found wanted.page page deed (goal_of line.command rest) body row
   tells_at (at.PosterGrow job) wanted page deed wants live body (inl row) = tells_of fetched deed _ row.deed_is row.next

@@ -11,9 +11,10 @@ use Rattle.hb_ops.specs.Operations.{effect_of}
 use Rattle.hb_ops.specs.Sound.{IsSound}
 use Rattle.hb_sound.specs.LawsOfOperations.{OperationsKeepSound}
 use Rattle.hb_store.specs.Calls.{IsAllowedHere, durable_after, later_after}
-use Rattle.hb_store.specs.Keeps.{StoreState, last_of}
+use Rattle.hb_store.specs.Keeps.{last_of}
 use Rattle.hb_store.specs.Making.{HaveFittingParts, MakesGoodPages}
 use Rattle.hb_store.specs.ReplayLaws.{last_of-append}
+use Rattle.hb_store.specs.States.{StoreState, in_memory}
 use Rattle.hb_core.specs.declared.outcomes.Outcome.{Outcome}
 use Rattle.hb_core.specs.declared.outcomes.Outcome.TheVariants as outcomes
 use Rattle.hb_core.specs.Machines.{Files, Machine, current_file}
@@ -42,7 +43,7 @@ pub record FilesHold (st : StoreState) (files : Files) : Type 0 where
   pub each : length files.later ≡ length st.log.groups
   pub layout : IsLayout st.meta
   pub meta : (current_file files).meta ≡ st.meta
-  pub shown : (id : ℕ) (page : Page) → st.frame id ≡ Some page → page_of (current_file files) id ≡ Some page
+  pub shown : (id : ℕ) (page : Page) → (in_memory st) id ≡ Some page → page_of (current_file files) id ≡ Some page
 
 pub files_hold : (m : Machine) (files : Files) → HasSoundFile m files → FilesHold m.store files
 files_hold m files has = record { durable = has.durable; later = has.later; each = has.each; layout = has.layout; meta = has.meta; shown = has.shown }
@@ -80,10 +81,10 @@ brought_shown m files may fetched told brings holds = record {
   each = holds.each ∙ sym (ap (λ (l : _). length l.groups) brings.rest.log);
   layout = subst IsLayout (sym brings.rest.meta) holds.layout;
   meta = holds.meta ∙ sym brings.rest.meta;
-  shown = λ id page there. by id page there (m.store.frame id) refl;
+  shown = λ id page there. by id page there (in_memory m.store id) refl;
 }
   where
-    by : (id : ℕ) (page : Page) → fetched.frame id ≡ Some page → (o : Option Page) → m.store.frame id ≡ o → page_of (current_file files) id ≡ Some page
+    by : (id : ℕ) (page : Page) → (in_memory fetched) id ≡ Some page → (o : Option Page) → (in_memory m.store) id ≡ o → page_of (current_file files) id ≡ Some page
     by id page there None none = subst (λ (o : Option Files). IfSome o (λ files. page_of (current_file files) id ≡ Some page)) told (brings.told id page none there)
     by id page there (Some old) some = holds.shown id page (sym (brings.stays id (subst (λ (o : Option Page). IsSome o) (sym some) refl)) ∙ there)
 
@@ -134,7 +135,7 @@ module _ (makes : MakesGoodPages) (parts : HaveFittingParts) (points : HeldArePo
           each = omega (arith, groups, more, holds.each);
           layout = subst IsLayout (sym does.commits.meta) well.after.limits.layout;
           meta = ap (λ (f : FileState). f.meta) last ∙ meta;
-          shown = λ id page there. ap (λ (f : FileState). page_of f id) last ∙ shown_after st s keeps file op does.allowed well id page (sym (does.commits.frame id) ∙ there);
+          shown = λ id page there. ap (λ (f : FileState). page_of f id) last ∙ shown_after st s keeps file op does.allowed well id page (sym (does.commits.pages id) ∙ there);
         }
 
     -- What is to be shown of a step: there are files afterwards, and they hold.

@@ -31,16 +31,16 @@ use Rattle.hb_split.specs.Laws.{IsThirds}
 use Rattle.hb_split.proofs.Ends.{is_thirds}
 use Rattle.hb_set.specs.declared.scripts.Line.{Line}
 use Rattle.hb_sound.specs.LawsOfOperations.{ChangesTwo}
-use Rattle.hb_store.specs.Calls.{change_here, framed_read}
-use Rattle.hb_store.specs.Keeps.{StoreState}
+use Rattle.hb_store.specs.Calls.{change_here, read_here}
 use Rattle.hb_store.specs.Replay.{set_pages}
+use Rattle.hb_store.specs.States.{StoreState, in_memory}
 use Rattle.hb_core.specs.Machines.{Files, Machine, current_file, live_here}
 use Rattle.hb_core.specs.Fetching.{Brings}
 use Rattle.hb_core.specs.Deeds.{Deed}
 use Rattle.hb_core.specs.Performing.{DoesOp, MayDo}
 use Rattle.hb_core.specs.SplitRows.{Splits}
 use Rattle.hb_core.specs.Keeps.{HasRoomFor, HasSoundFile, HoldsPagesOfFile, LacksRoomFor, OneHasRoom}
-use Rattle.hb_core.proofs.Backing.{live_frame}
+use Rattle.hb_core.proofs.Backing.{live_there}
 use Rattle.hb_core.proofs.LaterPages.{last_sound}
 use Rattle.hb_core.proofs.NextPlaces.{TakesFull, now}
 use Rattle.hb_core.proofs.OwnedOps.{made_was_free}
@@ -58,15 +58,15 @@ module _ (m : Machine) (files : Files) (told : m.files ≡ Some files) (sound : 
   sound_now = last_sound files.durable files.later sound.durable sound.later
 
   module _ (may : ℕ → Type 0) (fetched : StoreState) (brings : Brings m.files may m.store fetched) where
-    by_frame : (id : ℕ) (page : Page) (o : Option Page) → m.store.frame id ≡ o → fetched.frame id ≡ Some page → page_of s id ≡ Some page
+    by_frame : (id : ℕ) (page : Page) (o : Option Page) → (in_memory m.store) id ≡ o → (in_memory fetched) id ≡ Some page → page_of s id ≡ Some page
     by_frame id page None none there = subst (λ (o : Option Files). IfSome o (λ files. page_of (current_file files) id ≡ Some page)) told (brings.told id page none there)
     by_frame id page (Some old) some there =
-        let is : IsSome (m.store.frame id) = subst (λ (o : Option Page). IsSome o) (sym some) refl in
+        let is : IsSome (in_memory m.store id) = subst (λ (o : Option Page). IsSome o) (sym some) refl in
         sound.shown id page (sym (brings.stays id is) ∙ there)
 
     -- what is in memory after a fetch is the file's
-    pub fetched_in_file : (id : ℕ) (page : Page) → fetched.frame id ≡ Some page → page_of s id ≡ Some page
-    fetched_in_file id page there = by_frame id page (m.store.frame id) refl there
+    pub fetched_in_file : (id : ℕ) (page : Page) → (in_memory fetched) id ≡ Some page → page_of s id ≡ Some page
+    fetched_in_file id page there = by_frame id page (in_memory m.store id) refl there
 
 -- ---- a page that lacks room
 
@@ -145,13 +145,13 @@ module _ (m : Machine) (files : Files) (actor : ℕ) (may : ℕ → Type 0) (fet
 
   -- the split is allowed in the file
   allowed_here : FitsExtract fetched.meta page row.leaves.fresh row.leaves.path row.leaves.cuts row.leaves.free_after
-  allowed_here = subst (λ (o : Option LivePage). IsAllowedOn split fetched.meta o (framed_read fetched split 1) (framed_read fetched split 2)) row.live does.allowed
+  allowed_here = subst (λ (o : Option LivePage). IsAllowedOn split fetched.meta o (read_here fetched split 1) (read_here fetched split 2)) row.live does.allowed
 
   abbrev file : FileState
   file = s m files told sound
 
   live_in_file : live_page file held ≡ Some page
-  live_in_file = ap if_live (sound.shown held (Live page) (live_frame (m.store.frame held) page live_before))
+  live_in_file = ap if_live (sound.shown held (Live page) (live_there (in_memory m.store held) page live_before))
 
   same_meta : fetched.meta ≡ file.meta
   same_meta = brings.rest.meta ∙ sym sound.meta
@@ -178,25 +178,25 @@ module _ (m : Machine) (files : Files) (actor : ℕ) (may : ℕ → Type 0) (fet
 
   changed_are : (change_here fetched split).pages ≡ changed
   changed_are =
-      ap (λ (o : Option LivePage). (change_of split fetched.meta o (framed_read fetched split 1) (framed_read fetched split 2)).pages) row.live
+      ap (λ (o : Option LivePage). (change_of split fetched.meta o (read_here fetched split 1) (read_here fetched split 2)).pages) row.live
       ∙ ap (λ (o : Option (Tree × Area)). split_pages held row.leaves.fresh row.leaves.path row.leaves.cuts page o) row.leaves.there
 
-  frame_is : (id : ℕ) → new.store.frame id ≡ set_pages changed fetched.frame id
-  frame_is id = does.commits.frame id ∙ ap (λ (pages : List (ℕ × Page)). set_pages pages fetched.frame id) changed_are
+  frame_is : (id : ℕ) → (in_memory new.store) id ≡ set_pages changed (in_memory fetched) id
+  frame_is id = does.commits.pages id ∙ ap (λ (pages : List (ℕ × Page)). set_pages pages (in_memory fetched) id) changed_are
 
   apart : held ≢ row.leaves.fresh
-  apart same = made_was_free m may fetched row.leaves.fresh row.leaves.free_after inside brings row.leaves.next page (subst (λ (n : ℕ). m.store.frame n ≡ Some (Live page)) same (live_frame (m.store.frame held) page live_before))
+  apart same = made_was_free m may fetched row.leaves.fresh row.leaves.free_after inside brings row.leaves.next page (subst (λ (n : ℕ). (in_memory m.store) n ≡ Some (Live page)) same (live_there (in_memory m.store held) page live_before))
 
   source_there : live_here new.store held ≡ Some source
   source_there =
       ap if_live (frame_is held)
-      ∙ ap (λ (b : Bool). if_live (cond b (Some (Live made)) (cond (held == held) (Some (Live source)) (fetched.frame held)))) (ne_eqb held row.leaves.fresh apart)
-      ∙ ap (λ (b : Bool). if_live (cond b (Some (Live source)) (fetched.frame held))) (eq-eqb held held refl)
+      ∙ ap (λ (b : Bool). if_live (cond b (Some (Live made)) (cond (held == held) (Some (Live source)) (in_memory fetched held)))) (ne_eqb held row.leaves.fresh apart)
+      ∙ ap (λ (b : Bool). if_live (cond b (Some (Live source)) (in_memory fetched held))) (eq-eqb held held refl)
 
   made_there : live_here new.store row.leaves.fresh ≡ Some made
   made_there =
       ap if_live (frame_is row.leaves.fresh)
-      ∙ ap (λ (b : Bool). if_live (cond b (Some (Live made)) (cond (row.leaves.fresh == held) (Some (Live source)) (fetched.frame row.leaves.fresh)))) (eq-eqb row.leaves.fresh row.leaves.fresh refl)
+      ∙ ap (λ (b : Bool). if_live (cond b (Some (Live made)) (cond (row.leaves.fresh == held) (Some (Live source)) (in_memory fetched row.leaves.fresh)))) (eq-eqb row.leaves.fresh row.leaves.fresh refl)
 
   -- what they weigh
   fits_page : FitsFile file.meta page

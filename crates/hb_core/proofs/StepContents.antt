@@ -20,9 +20,10 @@ use Rattle.hb_set.specs.declared.commands.Command.TheVariants.{Insert, Delete, L
 use Rattle.hb_sound.specs.Laws.{LackIsContents, StandingIsContents}
 use Rattle.hb_sound.specs.LawsOfOperations.{ContentsBecome, OperationsKeepContents}
 use Rattle.hb_store.specs.Calls.{durable_after, later_after}
-use Rattle.hb_store.specs.Keeps.{StoreState, last_of}
+use Rattle.hb_store.specs.Keeps.{last_of}
 use Rattle.hb_store.specs.Making.{HaveFittingParts, MakesGoodPages}
 use Rattle.hb_store.specs.ReplayLaws.{last_of-append}
+use Rattle.hb_store.specs.States.{StoreState}
 use Rattle.hb_core.specs.declared.outcomes.Outcome.{Outcome}
 use Rattle.hb_core.specs.declared.outcomes.Outcome.TheVariants as outcomes
 use Rattle.hb_core.specs.Machines.{Files, Machine, current_file, if_some}

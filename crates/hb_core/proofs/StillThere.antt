@@ -10,7 +10,7 @@ use Rattle.hb_latch.specs.declared.modes.Mode.{Mode}
 use Rattle.hb_latch.specs.Tables.{MayLatch, mode_at}
 use Rattle.hb_activity.specs.declared.activities.Activity.{Activity}
 use Rattle.hb_activity.specs.Walks.{walk_held}
-use Rattle.hb_store.specs.Keeps.{IsGoodPage, StoreState}
+use Rattle.hb_store.specs.States.{IsGoodPage, StoreState, in_memory}
 use Rattle.hb_core.specs.declared.outcomes.Outcome.{Outcome}
 use Rattle.hb_core.specs.Machines.{Machine, live_here}
 use Rattle.hb_core.specs.Fetching.{Brings}
@@ -19,7 +19,7 @@ use Rattle.hb_core.specs.Performing.{MayDo, Performs, latches_held, mode_among}
 use Rattle.hb_core.specs.Steps.{StepsTo}
 use Rattle.hb_core.specs.Keeps.{HoldsPagesOfFile, LatchesFit}
 use Rattle.hb_core.specs.KeepingLaws.{NobodyElseComes}
-use Rattle.hb_core.proofs.Backing.{live_frame}
+use Rattle.hb_core.proofs.Backing.{live_there}
 use Rattle.hb_core.proofs.LatchesStay.{walk_latched}
 use Rattle.hb_core.proofs.OwnPages.{held_pages_stay}
 use Rattle.hb_core.proofs.Ways.{others_stay}
@@ -51,21 +51,21 @@ nothing_done op mark fetched new none done = subst (λ (o : Option Op). MayDo o 
 -- what was in memory in use is there after a fetch
 pub still_fetched : (m : Machine) (may : ℕ → Type 0) (fetched : StoreState) → Brings m.files may m.store fetched → (id : ℕ) (page : LivePage) → live_here m.store id ≡ Some page → live_here fetched id ≡ Some page
 still_fetched m may fetched brings id page live =
-    let there = live_frame (m.store.frame id) page live in
-    let some : IsSome (m.store.frame id) = subst (λ (o : Option Page). IsSome o) (sym there) refl in
+    let there = live_there (in_memory m.store id) page live in
+    let some : IsSome (in_memory m.store id) = subst (λ (o : Option Page). IsSome o) (sym there) refl in
     ap if_live (brings.stays id some) ∙ live
 
 module _ (m : Machine) (may : ℕ → Type 0) (fetched : StoreState) (inside : HoldsPagesOfFile m) (brings : Brings m.files may m.store fetched) where
-  by_frame : (id : ℕ) (page : Page) (o : Option Page) → m.store.frame id ≡ o → fetched.frame id ≡ Some page → IsGoodPage m.store.meta page
+  by_frame : (id : ℕ) (page : Page) (o : Option Page) → (in_memory m.store) id ≡ o → (in_memory fetched) id ≡ Some page → IsGoodPage m.store.meta page
   by_frame id page None none there = (brings.good id page none there).2
   by_frame id page (Some old) some there =
-      let is : IsSome (m.store.frame id) = subst (λ (o : Option Page). IsSome o) (sym some) refl in
-      let same : m.store.frame id ≡ Some page = sym (brings.stays id is) ∙ there in
+      let is : IsSome (in_memory m.store id) = subst (λ (o : Option Page). IsSome o) (sym some) refl in
+      let same : (in_memory m.store) id ≡ Some page = sym (brings.stays id is) ∙ there in
       (inside id page same).2
 
   -- what is in memory after a fetch keeps the rules that speak of a page alone
   pub fetched_good : (id : ℕ) (page : LivePage) → live_here fetched id ≡ Some page → IsGoodPage m.store.meta (Live page)
-  fetched_good id page live = by_frame id (Live page) (m.store.frame id) refl (live_frame (fetched.frame id) page live)
+  fetched_good id page live = by_frame id (Live page) (in_memory m.store id) refl (live_there (in_memory fetched id) page live)
 
 module _ (m : Machine) (actor : ℕ) (fetched : StoreState) (deed : Deed) (outcome : Outcome) (new : Machine) (performs : Performs m fetched actor deed outcome new) where
   pub own_next : new.activity actor ≡ deed.next
@@ -77,7 +77,7 @@ module _ (m : Machine) (actor : ℕ) (outcome : Outcome) (new : Machine) (latche
   other_stands = (others_stay m actor outcome new step other another).0
 
   latched_stays : (id : ℕ) (mode : Mode) (page : LivePage) → mode_at m.latches other id ≡ Some mode → live_here m.store id ≡ Some page → live_here new.store id ≡ Some page
-  latched_stays id mode page holds live = ap if_live (held_pages_stay m actor outcome new latches fit inside step other id mode page another holds (live_frame (m.store.frame id) page live))
+  latched_stays id mode page holds live = ap if_live (held_pages_stay m actor outcome new latches fit inside step other id mode page another holds (live_there (in_memory m.store id) page live))
 
   -- what it has latched stays
   pub other_holds : (activity : Activity) (id : ℕ) (mode : Mode) (page : LivePage) → m.activity other ≡ activity → mode_among id (latches_held m.store activity) ≡ Some mode → live_here m.store id ≡ Some page → live_here new.store id ≡ Some page

@@ -10,7 +10,7 @@ use Rattle.hb_set.specs.declared.scripts.Answered.{Answered}
 use Rattle.hb_set.specs.declared.scripts.Line.{Line}
 use Rattle.hb_activity.specs.declared.activities.Activity.{Activity}
 use Rattle.hb_activity.specs.declared.activities.Activity.TheVariants as at
-use Rattle.hb_store.specs.Keeps.{StoreState}
+use Rattle.hb_store.specs.States.{StoreState}
 use Rattle.hb_core.specs.declared.outcomes.Outcome.{Outcome}
 use Rattle.hb_core.specs.declared.outcomes.Outcome.TheVariants as outcomes
 use Rattle.hb_core.specs.Machines.{Machine, if_some, is_answered, with_activity}

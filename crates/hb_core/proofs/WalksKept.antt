@@ -15,7 +15,7 @@ use Rattle.hb_activity.specs.declared.activities.Activity.{Activity}
 use Rattle.hb_activity.specs.declared.activities.Activity.TheVariants as at
 use Rattle.hb_activity.specs.Holding.{latch_on}
 use Rattle.hb_activity.specs.Walks.{walk_held, walk_point}
-use Rattle.hb_store.specs.Keeps.{StoreState}
+use Rattle.hb_store.specs.States.{StoreState, in_memory}
 use Rattle.hb_core.specs.declared.outcomes.Outcome.{Outcome}
 use Rattle.hb_core.specs.declared.outcomes.Outcome.TheVariants as outcomes
 use Rattle.hb_core.specs.Machines.{Machine, live_here}
@@ -26,7 +26,7 @@ use Rattle.hb_core.specs.Steps.{StepsTo, Works}
 use Rattle.hb_core.specs.Keeps.{HasNobodyElse, HoldsPagesOfFile, LatchesFit, WalksInSpace}
 use Rattle.hb_core.specs.KeepingLaws.{WalksStayInSpace}
 use Rattle.hb_core.specs.WorkerRows.{LeadsBelow}
-use Rattle.hb_core.proofs.Backing.{live_frame}
+use Rattle.hb_core.proofs.Backing.{live_there}
 use Rattle.hb_core.proofs.NextPlaces.{HasPlace, HoldsNothing, KeepsParent, TakesParent, WalksTo, nothing_given_up, nothing_run_out, now, place_after}
 use Rattle.hb_core.proofs.StepKinds.{each_kind}
 use Rattle.hb_core.proofs.StillThere.{fetched_good, may_or_not, nothing_done, other_holds, other_walks, own_next, still_fetched}
@@ -247,7 +247,7 @@ module _ (m : Machine) (actor : ℕ) (outcome : Outcome) (new : Machine) (latche
       (λ held page on live.
       let old = fit.walking actor held latches on in
       ap if_live old.1 ∙ sym (ap if_live (keeps.memory held (Live old.0) old.1)) ∙ live)
-      (λ job parent page is live. ap if_live (keeps.memory parent (Live page) (live_frame (m.store.frame parent) page live)))))
+      (λ job parent page is live. ap if_live (keeps.memory parent (Live page) (live_there (in_memory m.store parent) page live)))))
       (λ other another. ap (λ (all : ℕ → Activity). all other) keeps.activity)
 
   -- a deed is done

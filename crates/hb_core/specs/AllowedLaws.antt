@@ -6,7 +6,7 @@ use Rattle.hb_ops.specs.declared.operations.Op.TheVariants.{Put}
 use Rattle.hb_set.specs.declared.scripts.Line.{Line}
 use Rattle.hb_activity.specs.declared.activities.Activity.TheVariants.{SessionPut}
 use Rattle.hb_store.specs.Calls.{IsAllowedHere}
-use Rattle.hb_store.specs.Keeps.{StoreState}
+use Rattle.hb_store.specs.States.{StoreState}
 use Rattle.hb_core.specs.Machines.{Machine, with_disk}
 use Rattle.hb_core.specs.Asking.{wanted_by}
 use Rattle.hb_core.specs.Fetching.{Brings}

@@ -2,7 +2,7 @@
 use Rattle.std.specs.Prelude.{◌≡◌, ℕ, Some}
 use Rattle.hb_ops.specs.declared.operations.Op.{Op}
 use Rattle.hb_store.specs.Calls.{IsAllowedHere}
-use Rattle.hb_store.specs.Keeps.{StoreState}
+use Rattle.hb_store.specs.States.{StoreState}
 use Rattle.hb_core.specs.Machines.{Machine, with_disk}
 use Rattle.hb_core.specs.Asking.{wanted_by}
 use Rattle.hb_core.specs.Fetching.{Brings}

@@ -10,8 +10,8 @@ use Rattle.hb_set.specs.declared.scripts.Answered.{Answered}
 use Rattle.hb_latch.specs.Tables.{LatchTable}
 use Rattle.hb_activity.specs.declared.jobs.Job.{Job}
 use Rattle.hb_activity.specs.declared.activities.Activity.{Activity}
-use Rattle.hb_store.specs.States.{StoreState, in_memory}
 use Rattle.hb_store.specs.Keeps.{last_of}
+use Rattle.hb_store.specs.States.{StoreState, in_memory}
 use Rattle.hb_store.specs.declared.stops.StopWhy.{StopWhy}
 
 -- The files over a disk that tells: the one that is durable, and those after each group that waits, in their order.

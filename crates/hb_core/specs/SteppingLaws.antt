@@ -1,19 +1,17 @@
 -- The machine that has taken no step, as a law.
-use Rattle.std.specs.Prelude.{◌≡◌, ℕ, List, [], All, Some, None}
+use Rattle.std.specs.Prelude.{◌≡◌, ℕ, [], All, Some, None}
 use Rattle.hb_layout.specs.Limits.{IsLayout}
 use Rattle.hb_ops.specs.Files.{FileState, contents_of}
 use Rattle.hb_ops.specs.Sound.{IsSound}
-use Rattle.hb_set.specs.Machine.{RecordSet}
 use Rattle.hb_set.specs.Order.{AreRising}
 use Rattle.hb_latch.specs.Tables.{mode_at}
 use Rattle.hb_activity.specs.declared.activities.Activity.{Activity}
 use Rattle.hb_activity.specs.declared.activities.Activity.TheVariants as at
-use Rattle.hb_core.specs.Machines.{Files, Machine}
-use Rattle.hb_core.specs.Keeps.{CoreKeeps, HasNobodyElse, HasSoundFile, HoldsPagesOfFile}
-use Rattle.hb_core.specs.KeptLines.{HasLineBody, LinesFit}
-use Rattle.hb_core.specs.KeptOrder.{HasLegalOrder}
-use Rattle.hb_core.specs.KeptTurns.{LinesInTurn}
-use Rattle.hb_core.specs.Steps.{StepsInTurn, WantsBoxes}
+use Rattle.hb_store.specs.States.{in_memory}
+use Rattle.hb_core.specs.Machines.{Machine}
+use Rattle.hb_core.specs.Keeps.{CoreKeeps, HasNobodyElse}
+use Rattle.hb_core.specs.KeptLines.{HasLineBody}
+use Rattle.hb_core.specs.Steps.{WantsBoxes}
 
 -- No line of the script is a search.
 abbrev pub HasNoSearches : Machine → Type 0
@@ -37,7 +35,7 @@ pub record IsBegun (m : Machine) (s : FileState) : Type 0 where
   pub nobody_else : HasNobodyElse m
   pub unlatched : (actor page : ℕ) → mode_at m.latches actor page ≡ None
   pub no_order : m.order ≡ []
-  pub no_page : (id : ℕ) → m.store.frame id ≡ None
+  pub no_page : (id : ℕ) → (in_memory m.store) id ≡ None
   pub no_group : m.store.log.groups ≡ []
   pub told : m.files ≡ Some (record { durable = s; later = [] })
   pub meta : s.meta ≡ m.store.meta
