@@ -1,11 +1,10 @@
 -- What a step of a session that walks does over every disk where the root wasn't fetched.
-use Rattle.std.proofs.Common.{◌≡◌, ◌≢◌, inl, inr, ℕ, ◌+◌, ◌≤◌, List, length, Option, None, Some, IsSome, refl, sym, ap, subst, ◌∙◌, arith}
+use Rattle.std.proofs.Common.{◌≡◌, ◌≢◌, inl, inr, ℕ, List, Option, None, Some, IsSome, refl, sym, ap, subst, ◌∙◌, arith}
 use Rattle.hb_outside.specs.Streams.{Rose}
 use Rattle.hb_disk.specs.Model.{DiskModel}
 use Rattle.hb_disk.specs.Calls.{OnlyReads}
 use Rattle.hb_set.specs.declared.commands.Reply.{Reply}
 use Rattle.hb_set.specs.declared.commands.Reply.TheVariants as replies
-use Rattle.hb_set.specs.declared.scripts.Line.{Line}
 use Rattle.hb_store.specs.States.{in_memory}
 use Rattle.hb_store.specs.Stops.{Breaks, FetchesNot}
 use Rattle.hb_store.specs.declared.stops.FetchStop.{FetchStop}
@@ -15,14 +14,13 @@ use Rattle.hb_store.specs.declared.stops.Why.TheVariants.{Rule, Level, Extent}
 use Rattle.hbpi.specs.declared.engine.session.Session.TheVariants as sessions
 use Rattle.hbpi.specs.declared.engine.session.Outcome.{Outcome}
 use Rattle.hbpi.specs.declared.engine.session.Outcome.TheVariants as outcomes
-use Rattle.hbpi.specs.Core.{CoreState, IsCore, IsCurrent}
+use Rattle.hbpi.specs.Core.{CoreState, IsCore}
 use Rattle.hbpi.specs.AnsweredLines.{IsOutsideOrder}
-use Rattle.hbpi.specs.Moves.{Moves}
 use Rattle.hbpi.specs.Steps.{AnswersIt, GivesUp, StepsSafely, with_session}
 use Rattle.hbpi.proofs.AnswerSteps.{along}
 use Rattle.hbpi.proofs.ForceSteps.{none_is_some, not_some}
 use Rattle.hbpi.proofs.RefusedSteps.{is_a_page}
-use Rattle.hbpi.proofs.WalkSafe.{StoreGoes, damaged_safe}
+use Rattle.hbpi.proofs.WalkSafe.{damaged_safe}
 
 module _ (d m : DiskModel) (reads : OnlyReads d m) (old : CoreState) (going : old.stop ≡ None) (was : old.session ≡ sessions.Walk) (whole : IsCore old) where
   no_fault_yet : old.stop ≡ Some stops.WriteFault → ⊥
