@@ -51,6 +51,7 @@ mod ReadUp
 mod Bridge
 mod LinkSteps
 mod RestSteps
+mod LeafTests
 mod ChainBridge
 mod LocalBridge
 mod SixRules

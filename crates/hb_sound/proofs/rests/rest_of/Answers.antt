@@ -1,4 +1,4 @@
-use Rattle.std.proofs.Common.{[], refl, sym, ◌∙◌, ap, length, List, ℕ}
+use Rattle.std.proofs.Common.{[], refl, ◌∙◌, ap, length, List, ℕ}
 use Rattle.std.proofs.lemmas.List.Elements.{All-nil}
 use Rattle.hb_sound.specs.Facts.{FindsBelow}
 use Rattle.hb_sound.proofs.RestSteps.{front, same_corners}
