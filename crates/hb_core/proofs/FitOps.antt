@@ -26,10 +26,10 @@ use Rattle.hb_store.specs.Calls.{IsAllowedHere, read_here}
 use Rattle.hb_store.specs.Making.{HaveFittingParts, IsReadable}
 use Rattle.hb_store.specs.NextPage.{IsNext}
 use Rattle.hb_store.specs.Replaying.{HasLimits}
-use Rattle.hb_store.specs.States.{IsGoodPage, StoreState, in_memory}
+use Rattle.hb_store.specs.States.{AreGood, IsGoodPage, StoreState, in_memory}
 use Rattle.hb_store.proofs.MadeLeaves.{AllFit, FitsIn, all_fit, back_all, front_all}
 use Rattle.hb_core.proofs.Backing.{live_there}
-use Rattle.hb_core.proofs.GoodChanges.{AreGoodPages, can_be_read}
+use Rattle.hb_store.proofs.Changed.{good_readable}
 use Rattle.hb_core.proofs.RowTells.{TellsOp}
 
 abbrev pub HeldArePoints : Type 0
@@ -63,7 +63,7 @@ module _ (points : HeldArePoints) (meta : Meta) (page : LivePage) (good : IsGood
   pub leaf_fits_there : FitsIn (length page.area.lo) l.leaf
   leaf_fits_there = All-contains (λ (l : Placed). FitsIn (length page.area.lo) l.leaf) (leaves_of page.frag page.area) l (placed_fit (length page.area.lo) page.frag page.area (all_fit (length page.area.lo) page.frag good.0.fits.2)) at_leaf.0
 
-module _ (points : HeldArePoints) (parts : HaveFittingParts) (st : StoreState) (limits : HasLimits st.meta) (high : st.meta.high ≤ st.meta.pages) (framed : AreGoodPages st.meta (in_memory st)) where
+module _ (points : HeldArePoints) (parts : HaveFittingParts) (st : StoreState) (limits : HasLimits st.meta) (high : st.meta.high ≤ st.meta.pages) (framed : AreGood st.meta (in_memory st)) where
   -- numbers of pages are short
   number_fits : (id : ℕ) → id ≤ st.meta.pages → id < 2 ^ 32
   number_fits id few = omega (arith, few, limits.layout.few_pages)
@@ -124,7 +124,7 @@ module _ (points : HeldArePoints) (parts : HaveFittingParts) (st : StoreState) (
       record {
         parent_fits = page_fits parent (Live page) tells.live;
         inner_fits = leaf_fits_there points st.meta child good_child tells.p sibling below;
-        steps = parts (ops.Post parent at inner area) st.meta (read_here st (ops.Post parent at inner area) 0) (read_here st (ops.Post parent at inner area) 1) (read_here st (ops.Post parent at inner area) 2) limits allowed (can_be_read st.meta (in_memory st) framed parent);
+        steps = parts (ops.Post parent at inner area) st.meta (read_here st (ops.Post parent at inner area) 0) (read_here st (ops.Post parent at inner area) 1) (read_here st (ops.Post parent at inner area) 2) limits allowed (good_readable st.meta (in_memory st) framed parent);
         is_area = may.given_area;
         attributes = sym (at_leaf points st.meta child good_child tells.p sibling below).1.same ∙ as_many points st.meta child good_child tells.p sibling below;
       }
@@ -135,7 +135,7 @@ module _ (points : HeldArePoints) (parts : HaveFittingParts) (st : StoreState) (
   fits_split source fresh path cuts free_after (Some page) is second third next allowed =
       let op = ops.Extract source fresh path cuts free_after in
       let number = takes_number fresh free_after next in
-      let short = parts op st.meta (Some page) second third limits allowed (subst (λ (o : Option LivePage). IsReadable o) is (can_be_read st.meta (in_memory st) framed source)) in
+      let short = parts op st.meta (Some page) second third limits allowed (subst (λ (o : Option LivePage). IsReadable o) is (good_readable st.meta (in_memory st) framed source)) in
       record {
         source_fits = page_fits source (Live page) (live_there (in_memory st source) page is);
         fresh_fits = number.fresh_fits;

@@ -16,13 +16,10 @@ use Rattle.hb_store.specs.Making.{IsReadable, MakesGoodPages}
 use Rattle.hb_store.specs.Replay.{set_pages}
 use Rattle.hb_store.specs.ReplayLists.{live_so, set_one-same}
 use Rattle.hb_store.specs.Replaying.{ComesAfter, HasLimits, IsPageOf}
-use Rattle.hb_store.specs.States.{IsGoodPage}
+use Rattle.hb_store.specs.States.{AreGood, IsGoodPage}
+use Rattle.hb_store.proofs.Changed.{good_readable, still_good}
 use Rattle.hb_store.proofs.Counting.{high_next}
 use Rattle.hb_store.proofs.MadeMeta.{comes_after, made_numbered, reads_some, some_page}
-
--- every page in memory is one of the file, and good
-abbrev pub AreGoodPages : Meta → (ℕ → Option Page) → Type 0
-AreGoodPages meta frame = (id : ℕ) (page : Page) → frame id ≡ Some page → (1 ≤ id) × (id ≤ meta.high) × IsGoodPage meta page
 
 -- What a change makes: what the file says of itself comes after what it said, good pages stay good, and each changed page
 -- is one of the file then, and is good.
@@ -32,27 +29,7 @@ pub record IsGoodChange (meta : Meta) (change : Change) : Type 0 where
   pub others : (page : Page) → IsGoodPage meta page → IsGoodPage change.meta page
   pub pages : All (λ c. IsPageOf change.meta c.0 × IsGoodPage change.meta c.1) change.pages
 
-still_fits : (old new : Meta) → ComesAfter old new → (page : LivePage) → FitsFile old page → FitsFile new page
-still_fits old new after page fits = record {
-  fits = record {
-    level = omega (arith, fits.fits.level, after.grows);
-    attributes = omega (arith, fits.fits.attributes, after.layout.k);
-  };
-  well_cut = fits.well_cut;
-  filled = subst (λ (n : ℕ). IsFilledRight page new.dcap n) (sym after.layout.icap) (subst (λ (n : ℕ). IsFilledRight page n old.icap) (sym after.layout.dcap) fits.filled);
-  in_order = fits.in_order;
-  normal = fits.normal;
-}
-
-still_good : (old new : Meta) → ComesAfter old new → (page : Page) → IsGoodPage old page → IsGoodPage new page
-still_good old new after (Live page) good = (good.0, still_fits old new after page good.1)
-still_good old new after (Free next) good = good
-
--- a page in use that is in memory can be written
-pub can_be_read : (meta : Meta) (frame : ℕ → Option Page) → AreGoodPages meta frame → (id : ℕ) → IsReadable (if_live (frame id))
-can_be_read meta frame good id page is = (good id (Live page) (live_so (frame id) page is)).2.0
-
-module _ (makes : MakesGoodPages) (meta : Meta) (limits : HasLimits meta) (frame : ℕ → Option Page) (framed : AreGoodPages meta frame) where
+module _ (makes : MakesGoodPages) (meta : Meta) (limits : HasLimits meta) (frame : ℕ → Option Page) (framed : AreGood meta frame) where
   pub good_change : (op : Op) (second third : Option LivePage) → FitsOp meta.k op → IsAllowedOn op meta (if_live (frame (get_or (reads_of op) 0 0))) second third
       → IsGoodChange meta (change_of op meta (if_live (frame (get_or (reads_of op) 0 0))) second third)
   good_change op second third fits allowed =
@@ -65,7 +42,7 @@ module _ (makes : MakesGoodPages) (meta : Meta) (limits : HasLimits meta) (frame
       let at = framed (get_or (reads_of op) i d) page.0 page.1 in
       (at.0, at.1) in
       let numbered = made_numbered op meta first second third allowed reads in
-      let good = makes op meta first second third limits fits allowed (can_be_read meta frame framed id) in
+      let good = makes op meta first second third limits fits allowed (good_readable meta frame framed id) in
       record {
         after = after;
         next = high_next op meta first second third allowed;

@@ -6,7 +6,7 @@ use Rattle.hb_ops.specs.declared.operations.Op.{Op}
 use Rattle.hb_store.specs.Calls.{IsAllowedHere, change_here, read_here}
 use Rattle.hb_store.specs.Making.{HaveFittingParts, MakesGoodPages}
 use Rattle.hb_store.specs.Replaying.{HasLimits}
-use Rattle.hb_store.specs.States.{IsGoodPage, StoreState, in_memory}
+use Rattle.hb_store.specs.States.{AreGood, IsGoodPage, StoreState, in_memory}
 use Rattle.hb_core.specs.declared.outcomes.Outcome.{Outcome}
 use Rattle.hb_core.specs.declared.outcomes.Outcome.TheVariants as outcomes
 use Rattle.hb_core.specs.Machines.{Machine}
@@ -20,7 +20,7 @@ use Rattle.hb_core.specs.KeptLines.{LinesFit, MarksInPlace}
 use Rattle.hb_core.specs.FileLaws.{MarksStayInPlace, PagesStayOfFile}
 use Rattle.hb_core.specs.Asking.{wanted_by}
 use Rattle.hb_core.specs.Steps.{StepsTo, Works}
-use Rattle.hb_core.proofs.GoodChanges.{AreGoodPages, IsGoodChange, each_set, good_change}
+use Rattle.hb_core.proofs.GoodChanges.{IsGoodChange, each_set, good_change}
 use Rattle.hb_core.proofs.FitOps.{HeldArePoints, fits_op}
 use Rattle.hb_core.proofs.OwnPages.{gives_up_nothing, runs_out_nothing}
 use Rattle.hb_core.proofs.RowTells.{Tells, TellsOp, tells_row}
@@ -31,7 +31,7 @@ pub record KeepsPages (st : StoreState) : Type 0 where
   pub limits : HasLimits st.meta
   pub high : st.meta.high ≤ st.meta.pages
   pub free : st.meta.free < 2 ^ 32
-  pub framed : AreGoodPages st.meta (in_memory st)
+  pub framed : AreGood st.meta (in_memory st)
 
 pub keeps_pages : (m : Machine) → MarksInPlace m → HoldsPagesOfFile m → KeepsPages m.store
 keeps_pages m marks inside = record { limits = record { layout = marks.layout; root_fits = marks.root }; high = marks.high; free = marks.free; framed = inside }

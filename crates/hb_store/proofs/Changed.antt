@@ -56,7 +56,8 @@ still_fits old new after page fits = record {
   normal = fits.normal;
 }
 
-still_good : (old new : Meta) → ComesAfter old new → (page : Page) → IsGoodPage old page → IsGoodPage new page
+-- a good page stays good behind a change
+pub still_good : (old new : Meta) → ComesAfter old new → (page : Page) → IsGoodPage old page → IsGoodPage new page
 still_good old new after (Live page) good = (good.0, still_fits old new after page good.1)
 still_good old new after (Free next) good = good
 

@@ -9,7 +9,7 @@ mod AfterForce
 mod Setting
 mod Held
 mod Grouped
-mod Changed
+pub mod Changed
 mod Imaging
 mod Committed
 pub mod FilePages

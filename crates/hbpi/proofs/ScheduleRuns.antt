@@ -17,7 +17,7 @@ use Rattle.hb_store.specs.declared.stops.StopWhy.TheVariants as stops
 use Rattle.hb_store.specs.declared.stops.Why.{Why}
 use Rattle.hb_text.specs.OutputLaws.{Appends-both, Appends-front, Rose-later}
 use Rattle.hbpi.specs.Core.{CoreState, settled_of}
-use Rattle.hbpi.specs.Keeping.{CoreKeeps, set_of}
+use Rattle.hbpi.specs.Keeping.{EngineKeeps, set_of}
 use Rattle.hbpi.specs.StepTable.{StepsOn}
 use Rattle.hbpi.specs.Moments.{Moment, Reaches}
 use Rattle.hbpi.specs.AnsweredLines.{AnswersFirst}
@@ -147,7 +147,7 @@ away_on {X = X} M k d seen status x y same away = subst (λ (z : X). IsTurnedAwa
 pub refused_on : {X : Type 0} (W : X → Option (List ℕ)) (F : X → ℕ) (x y : X) (holds : Option (List ℕ)) (after : ℕ) (line : List ℕ) → y ≡ x → GetsLine (W y) holds (F y) after line → GetsLine (W x) holds (F x) after line
 refused_on {X = X} W F x y holds after line same gets = subst (λ (z : X). GetsLine (W z) holds (F z) after line) same gets
 
-even_run : (e : DiskModel) (s : FileState) (after : CoreState) (done : List Line) → CoreKeeps e after (contents_of s) done → after.stop ≡ None
+even_run : (e : DiskModel) (s : FileState) (after : CoreState) (done : List Line) → EngineKeeps e after (contents_of s) done → after.stop ≡ None
     → (t : FileState) × IsEven e t × IsSound t × (contents_of t ≡ set_of (contents_of s) (take (settled_of after) done))
 even_run e s after done keeps going =
     (keeps.durable, even_store e after.store keeps.durable keeps.later keeps.keeps (keeps.running going), keeps.sound_durable, keeps.durable_set)

@@ -19,7 +19,7 @@ use Rattle.hb_store.specs.Calls.{Fetched, IsReady}
 use Rattle.hbpi.specs.declared.engine.session.Session.TheVariants as sessions
 use Rattle.hbpi.specs.declared.engine.session.Outcome.{Outcome}
 use Rattle.hbpi.specs.Core.{CoreState, IsCurrent}
-use Rattle.hbpi.specs.Keeping.{CoreKeeps, StepKeeps}
+use Rattle.hbpi.specs.Keeping.{EngineKeeps, StepKeeps}
 use Rattle.hbpi.specs.Commands.{MayCommit, op_of}
 use Rattle.hbpi.specs.FileLaws.{FileLaws}
 use Rattle.hbpi.specs.Damages.{IsRootPage}
@@ -42,7 +42,7 @@ module _ (laws : FileLaws) (d m : DiskModel) (is_disk : IsDisk d) (old : CoreSta
   same : FramesOnly old.store st
   same = record { log = fetched.rest.log; stopped = fetched.rest.stopped }
 
-  module _ (n : RecordSet) (done : List Line) (kept : CoreKeeps d old n done) where
+  module _ (n : RecordSet) (done : List Line) (kept : EngineKeeps d old n done) where
     abbrev file : FileState
     file = last_of kept.durable kept.later
 

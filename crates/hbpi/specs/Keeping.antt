@@ -14,7 +14,7 @@ use Rattle.hbpi.specs.declared.engine.session.Session.{Session}
 use Rattle.hbpi.specs.declared.engine.session.Session.TheVariants as sessions
 use Rattle.hbpi.specs.declared.engine.session.Outcome.{Outcome}
 use Rattle.hbpi.specs.Core.{CoreState, settled_of, IsCurrent}
-use Rattle.hbpi.specs.StepTable.{StepsTo}
+use Rattle.hbpi.specs.StepTable.{EngineStepsTo}
 
 -- the set after lines that took effect one after the other, and their entries with the machine's replies
 abbrev pub set_of : RecordSet → List Line → RecordSet
@@ -45,7 +45,7 @@ StandsIn sessions.Walk c n done = (c.stop ≡ None → c.store.log.groups ≡ []
 StandsIn (sessions.Await reply place) c n done = (before : List Line) × (line : Line) × (done ≡ before ++ line ∷ []) × IsCurrent c line × (place ≡ length before) × (reply ≡ reply_of line.command (set_of n before))
 
 -- What a core keeps over a disk that tells, from the set on that its file had first: the lines that took effect, in order.
-pub record CoreKeeps (d : DiskModel) (c : CoreState) (n : RecordSet) (done : List Line) : Type 0 where
+pub record EngineKeeps (d : DiskModel) (c : CoreState) (n : RecordSet) (done : List Line) : Type 0 where
   pub durable : FileState
   pub later : List FileState
   pub keeps : StoreKeeps d c.store durable later
@@ -79,9 +79,9 @@ Grows done after = (after ≡ done) ⊎ ((line : Line) × (after ≡ done ++ lin
 -- moment inside opens to the set after a prefix of the lines that took effect, with all that were settled before it.
 pub record StepKeeps (d : DiskModel) (old : CoreState) (file : FileState) (outcome : Outcome) (e : DiskModel) (new : CoreState) (n : RecordSet) (done : List Line) : Type 0 where
   pub file_after : FileState
-  pub steps : StepsTo old file outcome new file_after
+  pub steps : EngineStepsTo old file outcome new file_after
   pub after : List Line
   pub grows : Grows done after
-  pub keeps : CoreKeeps e new n after
+  pub keeps : EngineKeeps e new n after
   pub file_is : last_of keeps.durable keeps.later ≡ file_after
   pub moments : Leaves d e (OpensToPrefix n after (settled_of old))

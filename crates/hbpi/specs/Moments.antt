@@ -10,7 +10,7 @@ use Rattle.hb_set.specs.declared.scripts.Answered.{Answered}
 use Rattle.hbpi.specs.declared.engine.session.Outcome.{Outcome}
 use Rattle.hbpi.specs.declared.engine.session.Outcome.TheVariants as outcomes
 use Rattle.hbpi.specs.Core.{CoreState}
-use Rattle.hbpi.specs.StepTable.{StepsTo}
+use Rattle.hbpi.specs.StepTable.{EngineStepsTo}
 use Rattle.hbpi.specs.Keeping.{OpensToPrefix}
 
 -- a core over a file at a value of the disk's clock
@@ -30,7 +30,7 @@ answers_of outcomes.Moved at = []
 -- one step, from a moment to the next
 pub record StepsAt (from : Moment) (answered : List Answered) (to : Moment) : Type 0 where
   pub outcome : Outcome
-  pub steps : StepsTo from.core from.file outcome to.core to.file
+  pub steps : EngineStepsTo from.core from.file outcome to.core to.file
   pub answers : answered ≡ answers_of outcome to.clock
   pub later : from.clock ≤ to.clock
   pub soon : to.clock ≤ from.clock + 4

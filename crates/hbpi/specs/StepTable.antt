@@ -72,8 +72,8 @@ StepsOn sessions.Idle old s outcome new t = TakesNext old s outcome new t
 StepsOn sessions.Walk old s outcome new t = (line : Line) × IsCurrent old line × Walks line old s outcome new t
 StepsOn (sessions.Await reply place) old s outcome new t = (line : Line) × IsCurrent old line × Awaits line reply place old s outcome new t
 
--- One step of the session, from a core over a file to another. That both files are sound and of one page is in `CoreKeeps`.
-abbrev pub StepsTo : CoreState → FileState → Outcome → CoreState → FileState → Type 0
-StepsTo old s outcome new t = MatchOption old.stop
+-- One step of the session, from a core over a file to another. That both files are sound and of one page is in `EngineKeeps`.
+abbrev pub EngineStepsTo : CoreState → FileState → Outcome → CoreState → FileState → Type 0
+EngineStepsTo old s outcome new t = MatchOption old.stop
     ((new.lines ≡ old.lines) × StepsOn old.session old s outcome new t)
     (λ why. (outcome ≡ outcomes.Stopped) × (new ≡ old) × (t ≡ s))

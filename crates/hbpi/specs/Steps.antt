@@ -16,7 +16,7 @@ use Rattle.hb_disk.specs.Calls.{Becomes, Leaves}
 use Rattle.hb_store.specs.declared.stops.StopWhy.{StopWhy}
 use Rattle.hb_store.specs.declared.stops.StopWhy.TheVariants.{WriteFault, Damaged}
 use Rattle.hbpi.specs.Core.{CoreState, IsCore, IsCurrent}
-use Rattle.hbpi.specs.Keeping.{CoreKeeps, StepKeeps}
+use Rattle.hbpi.specs.Keeping.{EngineKeeps, StepKeeps}
 use Rattle.hbpi.specs.Moves.{Moves}
 use Rattle.hbpi.specs.declared.engine.session.Session.{Session}
 use Rattle.hbpi.specs.declared.engine.session.Session.TheVariants as sessions
@@ -104,4 +104,4 @@ pub record StepsSafely (d : DiskModel) (old : CoreState) (outcome : Outcome) (e 
 
 -- what it keeps over a disk that tells
 abbrev pub KeepsAt : DiskModel → CoreState → Outcome → DiskModel → CoreState → Type 0
-KeepsAt d old outcome e new = (n : RecordSet) (done : List Line) (kept : CoreKeeps d old n done) → StepKeeps d old (last_of kept.durable kept.later) outcome e new n done
+KeepsAt d old outcome e new = (n : RecordSet) (done : List Line) (kept : EngineKeeps d old n done) → StepKeeps d old (last_of kept.durable kept.later) outcome e new n done

@@ -11,7 +11,7 @@ ghost use Rattle.hb_store.specs.Seen.{seen_as};
 ghost use Rattle.hb_store.specs.States.{in_memory};
 ghost use Rattle.hbpi.specs.Beyond.{StaysInLog};
 ghost use Rattle.hbpi.specs.Core.{IsCore, IsCurrent};
-ghost use Rattle.hbpi.specs.Keeping.{CoreKeeps};
+ghost use Rattle.hbpi.specs.Keeping.{EngineKeeps};
 ghost use Rattle.hbpi.specs.Commands.{IsServed, IsServedCommand, MayCommit};
 ghost use Rattle.hbpi.specs.CoreSeen.{core_seen, core_disk};
 ghost use Rattle.hbpi.specs.FileLaws.{FileLaws};
@@ -79,7 +79,7 @@ impl<D: Device> Core<D> {
         requires whole { IsCore (core_seen self.old) }
         requires going { (core_seen self.old).stop ≡ None }
         requires walking { (core_seen self.old).session ≡ Session.Walk }
-        requires kept { IsSome (D.model (core_disk self.old)).told → (n : RecordSet) × (done : List Entry) × CoreKeeps (D.model (core_disk self.old)) (core_seen self.old) n done }
+        requires kept { IsSome (D.model (core_disk self.old)).told → (n : RecordSet) × (done : List Entry) × EngineKeeps (D.model (core_disk self.old)) (core_seen self.old) n done }
         ensures keeps { KeepsAt (D.model (core_disk self.old)) (core_seen self.old) result (D.model (core_disk self.new)) (core_seen self.new) }
         ensures safe { StepsSafely (D.model (core_disk self.old)) (core_seen self.old) result (D.model (core_disk self.new)) (core_seen self.new) }
         ensures in_log { StaysInLog (D.model (core_disk self.old)) (core_seen self.old) (D.model (core_disk self.new)) (core_seen self.new) }
@@ -114,7 +114,7 @@ impl<D: Device> Core<D> {
         requires whole { IsCore (core_seen self.old) }
         requires going { (core_seen self.old).stop ≡ None }
         requires walking { (core_seen self.old).session ≡ Session.Walk }
-        requires kept { IsSome (D.model (core_disk self.old)).told → (n : RecordSet) × (done : List Entry) × CoreKeeps (D.model (core_disk self.old)) (core_seen self.old) n done }
+        requires kept { IsSome (D.model (core_disk self.old)).told → (n : RecordSet) × (done : List Entry) × EngineKeeps (D.model (core_disk self.old)) (core_seen self.old) n done }
         requires waits { (line : Entry) × IsCurrent (core_seen self.old) line × MayCommit line.command × (¬ (IsReady (core_seen self.old).store)) }
         ensures keeps { KeepsAt (D.model (core_disk self.old)) (core_seen self.old) result (D.model (core_disk self.new)) (core_seen self.new) }
         ensures safe { StepsSafely (D.model (core_disk self.old)) (core_seen self.old) result (D.model (core_disk self.new)) (core_seen self.new) }
@@ -131,7 +131,7 @@ impl<D: Device> Core<D> {
     pub(crate) fn force(&mut self, done: Outcome) -> Outcome
         requires going { (core_seen self.old).stop ≡ None }
         requires running { (core_seen self.old).store.stopped ≡ false }
-        requires kept { IsSome (D.model (core_disk self.old)).told → (n : RecordSet) × (done : List Entry) × CoreKeeps (D.model (core_disk self.old)) (core_seen self.old) n done }
+        requires kept { IsSome (D.model (core_disk self.old)).told → (n : RecordSet) × (done : List Entry) × EngineKeeps (D.model (core_disk self.old)) (core_seen self.old) n done }
         ensures { Forced done (D.model (core_disk self.old)) (core_seen self.old) result (D.model (core_disk self.new)) (core_seen self.new) }
     {
         match self.store.force() {

@@ -4,7 +4,7 @@ use Rattle.hb_set.specs.Order.{AreRising}
 use Rattle.hb_set.specs.declared.scripts.Line.{Line}
 use Rattle.hb_set.specs.declared.scripts.Answered.{Answered}
 use Rattle.hb_store.specs.Keeps.{last_of}
-use Rattle.hbpi.specs.Keeping.{CoreKeeps}
+use Rattle.hbpi.specs.Keeping.{EngineKeeps}
 use Rattle.hbpi.specs.AnsweredLines.{AnswersFirst}
 use Rattle.hbpi.specs.Moments.{answers_of}
 use Rattle.hbpi.specs.CoreSeen.{core_seen, core_disk}
@@ -22,7 +22,7 @@ pub loop-init : goal.loop-init
 loop-init g c =
     let none = c.requires.none in
     let start = c.requires.start in
-    let R : List Answered → Type 0 = λ answered. (n : RecordSet) (kept : CoreKeeps (g.D.Device.model (core_disk c.args.core.now)) (core_seen c.args.core.now) n []) →
+    let R : List Answered → Type 0 = λ answered. (n : RecordSet) (kept : EngineKeeps (g.D.Device.model (core_disk c.args.core.now)) (core_seen c.args.core.now) n []) →
     Running 0 (g.D.Device.model (core_disk c.args.core.now)) (core_seen c.args.core.now) (last_of kept.durable kept.later) answered (g.D.Device.model (core_disk c.args.core.now)) (core_seen c.args.core.now) n in
     record {
       moves = (refl, none);

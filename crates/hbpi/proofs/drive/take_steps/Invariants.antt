@@ -8,7 +8,7 @@ use Rattle.hb_store.specs.Keeps.{last_of}
 use Rattle.hbpi.specs.DryParts.{HasPutText}
 use Rattle.hbpi.specs.Beyond.{StaysInLog}
 use Rattle.hbpi.specs.Core.{IsCore}
-use Rattle.hbpi.specs.Keeping.{CoreKeeps}
+use Rattle.hbpi.specs.Keeping.{EngineKeeps}
 use Rattle.hbpi.specs.AnsweredLines.{AnswersFirst}
 use Rattle.hbpi.specs.Moves.{MovesOn, shown}
 use Rattle.hbpi.specs.CoreSeen.{core_seen, core_disk}
@@ -28,7 +28,7 @@ invariant-loop g l = record {
   room : length (core_seen l.core).lines ≤ vec_capacity l.answered;
   in_log : StaysInLog (g.D.Device.model (core_disk l.fn.core)) (core_seen l.fn.core) (g.D.Device.model (core_disk l.core)) (core_seen l.core);
   silent : (g.D.Device.model (core_disk l.fn.core)).told ≡ None → (g.D.Device.model (core_disk l.core)).told ≡ None;
-  runs : (n : RecordSet) (kept : CoreKeeps (g.D.Device.model (core_disk l.fn.core)) (core_seen l.fn.core) n []) →
+  runs : (n : RecordSet) (kept : EngineKeeps (g.D.Device.model (core_disk l.fn.core)) (core_seen l.fn.core) n []) →
       Running l.counter (g.D.Device.model (core_disk l.fn.core)) (core_seen l.fn.core) (last_of kept.durable kept.later) l.answered.items (g.D.Device.model (core_disk l.core)) (core_seen l.core) n;
   reads_later : (g.D.Device.model (core_disk l.fn.core)).read_faults ≤ (g.D.Device.model (core_disk l.core)).read_faults;
   writes_later : (g.D.Device.model (core_disk l.fn.core)).write_faults ≤ (g.D.Device.model (core_disk l.core)).write_faults;
