@@ -39,3 +39,5 @@ pub mod SplitHome
 pub mod SplitHalves
 pub mod RoomKept
 pub mod PutHalves
+pub mod RowSays
+pub mod OneOutcome

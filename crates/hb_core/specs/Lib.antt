@@ -23,6 +23,7 @@ pub mod ContentsLaws
 pub mod OrderLaws
 pub mod AllowedLaws
 pub mod DoableLaws
+pub mod OutcomeLaws
 pub mod SteppingLaws
 pub mod KeepingLaws
 pub mod Examples

@@ -1,0 +1,39 @@
+-- What two steps of one actor from one machine come to: the same, but for want of memory and faults of the device.
+use Rattle.std.specs.Prelude.{◌≡◌, ◌⊎◌, ℕ, Some}
+use Rattle.hb_set.specs.declared.commands.Reply.TheVariants as replies
+use Rattle.hb_set.specs.declared.scripts.Line.{Line}
+use Rattle.hb_activity.specs.declared.activities.Activity.TheVariants as at
+use Rattle.hb_core.specs.declared.outcomes.Outcome.{Outcome}
+use Rattle.hb_core.specs.Machines.{Files, Machine}
+use Rattle.hb_core.specs.Acting.{Abandons, MeetsBadPage}
+use Rattle.hb_core.specs.Deeds.{answers_now}
+use Rattle.hb_core.specs.Forcing.{ForcesBadly}
+use Rattle.hb_core.specs.Performing.{Performs}
+use Rattle.hb_core.specs.SessionRows.{next_line}
+use Rattle.hb_core.specs.Steps.{StepsTo, WantsBoxes}
+
+-- memory is refused to an idle session for the box of its search, whose line is answered so
+pub record RefusesSearch (m : Machine) (actor : ℕ) (outcome : Outcome) (new : Machine) : Type 0 where
+  pub idle : m.activity actor ≡ at.SessionIdle
+  pub line : Line
+  pub next : next_line actor m.answered m.lines ≡ Some line
+  pub boxes : WantsBoxes line.command
+  pub performs : Performs m m.store actor (answers_now m line.number replies.NoMemory) outcome new
+
+-- A step that want of memory or a fault of the device has turned aside: such a search; a force that failed; a line or a job
+-- that is given up; or a page that is damaged.
+abbrev pub IsTurnedAside : Machine → ℕ → Outcome → Machine → Type 0
+IsTurnedAside m actor outcome new = RefusesSearch m actor outcome new ⊎ ForcesBadly m outcome new ⊎ Abandons m actor outcome new ⊎ MeetsBadPage m actor outcome new
+
+-- Two steps came to the same: they say the same, and left the lines, the answers, the stop and the clock the same.
+pub record ComesToSame (outcome other : Outcome) (new next : Machine) : Type 0 where
+  pub says : outcome ≡ other
+  pub lines : new.lines ≡ next.lines
+  pub answered : new.answered ≡ next.answered
+  pub stop : new.stop ≡ next.stop
+  pub clock : new.clock ≡ next.clock
+
+-- So two steps of one actor from one machine do, over every disk, unless one of them was turned aside.
+abbrev pub OutcomeIsOne : Type 0
+OutcomeIsOne = (m : Machine) (actor : ℕ) (outcome other : Outcome) (new next : Machine) → StepsTo m actor outcome new → StepsTo m actor other next →
+    IsTurnedAside m actor outcome new ⊎ IsTurnedAside m actor other next ⊎ ComesToSame outcome other new next
