@@ -1,5 +1,5 @@
 -- Two steps of one actor from one machine come to the same.
-use Rattle.std.proofs.Common.{◌≡◌, ◌⊎◌, inl, inr, ℕ, ◌++◌, List, [], ◌∷◌, Option, Some, None, IfSome, IsSome, refl, sym, ap, ◌∙◌, subst}
+use Rattle.std.proofs.Common.{◌≡◌, ◌⊎◌, inl, inr, ℕ, ◌++◌, [], Option, Some, None, IfSome, IsSome, refl, sym, ap, ◌∙◌, subst}
 use Rattle.hb_space.specs.declared.records.Record.{Record}
 use Rattle.hb_frag.specs.declared.pages.LivePage.{LivePage}
 use Rattle.hb_frag.specs.declared.pages.Page.{Page}
@@ -7,14 +7,10 @@ use Rattle.hb_frag.specs.Leaves.{DirectlyHolds}
 use Rattle.hb_frag.specs.Rules.{AreInOrder}
 use Rattle.std.proofs.lemmas.Option.{same_Some}
 use Rattle.hb_ops.specs.Files.{page_of}
-use Rattle.hb_ops.specs.declared.operations.Op.{Op}
 use Rattle.hb_ops.specs.declared.operations.Op.TheVariants.{Put}
 use Rattle.hb_set.specs.declared.commands.Command.TheVariants.{Insert}
 use Rattle.hb_set.specs.declared.commands.Reply.TheVariants as replies
 use Rattle.hb_set.specs.declared.scripts.Line.{Line}
-use Rattle.hb_activity.specs.declared.jobs.Job.{Job}
-use Rattle.hb_activity.specs.declared.activities.Activity.{Activity}
-use Rattle.hb_activity.specs.declared.activities.Activity.TheVariants as at
 use Rattle.hb_store.specs.States.{StoreState, in_memory}
 use Rattle.hb_core.specs.declared.outcomes.Outcome.{Outcome}
 use Rattle.hb_core.specs.Machines.{Files, Machine, current_file, if_some, live_here, with_activity, with_disk}

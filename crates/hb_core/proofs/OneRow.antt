@@ -1,23 +1,20 @@
 -- Two rows of one activity, over memories that have the same pages, are one deed.
-use Rattle.std.proofs.Common.{◌≡◌, ◌≢◌, ◌⊎◌, inl, inr, ℕ, ◌+◌, ◌<◌, ◌≤◌, ◌++◌, List, [], ◌∷◌, length, Option, Some, None, refl, sym, ap, ◌∙◌, subst, arith, filter, slice_get}
+use Rattle.std.proofs.Common.{◌≡◌, ◌⊎◌, inl, inr, ℕ, ◌+◌, ◌<◌, ◌++◌, List, [], ◌∷◌, length, Option, Some, None, refl, sym, ap, ◌∙◌, subst, arith, filter, slice_get}
 use Rattle.std.specs.Prelude.{MatchOption}
 use Rattle.std.proofs.lemmas.Option.{same_Some}
 use Rattle.hb_space.specs.Boxes.{Area, common_area, holds, pieces_outside}
 use Rattle.hb_space.specs.declared.records.Record.{Record}
 use Rattle.hb_layout.specs.declared.meta.Meta.{Meta}
-use Rattle.hb_layout.specs.declared.limits.TheConstants.{HEIGHT_MAX}
-use Rattle.hb_frag.specs.declared.leaves.Leaf.{Leaf}
-use Rattle.hb_frag.specs.declared.leaves.Leaf.TheVariants.{Records, Child, Sibling}
+use Rattle.hb_frag.specs.declared.leaves.Leaf.TheVariants.{Records}
 use Rattle.hb_frag.specs.declared.pages.LivePage.{LivePage}
 use Rattle.hb_frag.specs.declared.pages.Page.{Page}
-use Rattle.hb_frag.specs.declared.pages.Page.TheVariants.{Live, Free}
+use Rattle.hb_frag.specs.declared.pages.Page.TheVariants.{Live}
 use Rattle.hb_frag.specs.declared.paths.Side.{Side}
 use Rattle.hb_frag.specs.Leaves.{Placed, leaf_at, weight_of}
 use Rattle.hb_frag.specs.Paths.{part_at}
 use Rattle.hb_frag.specs.Rules.{AreInOrder}
 use Rattle.hb_frag.specs.Trees.{Tree}
 use Rattle.hb_ops.specs.Cutting.{reached}
-use Rattle.hb_ops.specs.Recording.{put_page}
 use Rattle.hb_ops.specs.Standing.{StandsNot, StandsThere}
 use Rattle.hb_ops.specs.declared.leaf_cuts.LeafCut.{LeafCut}
 use Rattle.hb_ops.specs.declared.operations.Op.TheVariants as ops
@@ -37,11 +34,11 @@ use Rattle.hb_activity.specs.declared.activities.Activity.TheVariants as at
 use Rattle.hb_activity.specs.Walks.{goal_of}
 use Rattle.hb_store.specs.States.{StoreState, in_memory}
 use Rattle.hb_core.specs.Machines.{Machine, live_here, with_disk}
-use Rattle.hb_core.specs.Deeds.{Deed, answers_now, does, moves_to, takes_effect}
+use Rattle.hb_core.specs.Deeds.{Deed, does, moves_to, takes_effect}
 use Rattle.hb_core.specs.SearchRows.{Gathers, SearchGoesOn}
-use Rattle.hb_core.specs.SessionRows.{Deletes, DoesThere, FindsBody, IsPointer, PassesOn, merges_due, posts_owed}
-use Rattle.hb_core.specs.SplitRows.{HasNoPage, PartLeavesTo, Puts, Splits, corner_of}
-use Rattle.hb_core.specs.WorkerRows.{Arrives, DoesPlan, GrowsFile, GrowsNot, LooksAgain, LooksAtChild, MayGrow, PosterPasses, SplitsParent, after_look}
+use Rattle.hb_core.specs.SessionRows.{DoesThere, IsPointer, PassesOn, merges_due, posts_owed}
+use Rattle.hb_core.specs.SplitRows.{PartLeavesTo, Puts, Splits, corner_of}
+use Rattle.hb_core.specs.WorkerRows.{Arrives, DoesPlan, GrowsFile, GrowsNot, LooksAgain, LooksAtChild, MayGrow, PosterPasses, after_look}
 use Rattle.hb_core.specs.Rows.{Row, RowAlone, RowAt}
 use Rattle.hb_core.proofs.Backing.{live_there}
 use Rattle.hb_core.proofs.OneOrder.{leaf_rises, not_lacking, one_of_point, one_order}
