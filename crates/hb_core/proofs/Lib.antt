@@ -39,5 +39,9 @@ pub mod SplitHome
 pub mod SplitHalves
 pub mod RoomKept
 pub mod PutHalves
+pub mod OneOrder
+pub mod OnePiece
+pub mod OneRow
 pub mod RowSays
+pub mod OnePair
 pub mod OneOutcome

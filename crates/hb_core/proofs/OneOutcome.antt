@@ -1,184 +1,152 @@
 -- Two steps of one actor from one machine come to the same.
-use Rattle.std.proofs.Common.{◌≡◌, ◌≢◌, ◌⊎◌, inl, inr, ℕ, zero, ◌<◌, ◌≤◌, ◌++◌, Bool, List, [], ◌∷◌, length, All, Option, Some, None, IfSome, IsSomeAnd, IsTrue, refl, sym, ap, ◌∙◌, subst, arith}
-use Rattle.std.specs.Prelude.{MatchOption}
-use Rattle.std.specs.List.{Contains}
-use Rattle.std.proofs.lemmas.Bool.{cases_lt}
-use Rattle.std.proofs.lemmas.List.Elements.{All-contains, Contains-append_right, Contains-get_or}
-use Rattle.hb_latch.specs.declared.modes.Mode.{Mode}
-use Rattle.hb_latch.specs.Modes.{goes_beside}
-use Rattle.hb_latch.specs.Tables.{IsGrantable, IsLeastInTheWay, KeepsFrom, LatchTable, mode_at}
-use Rattle.hb_set.specs.declared.commands.Reply.{Reply}
+use Rattle.std.proofs.Common.{◌≡◌, ◌⊎◌, inl, inr, ℕ, ◌++◌, [], Option, Some, None, IfSome, IsSome, refl, sym, ap, ◌∙◌, subst}
+use Rattle.hb_space.specs.declared.records.Record.{Record}
+use Rattle.hb_frag.specs.declared.pages.LivePage.{LivePage}
+use Rattle.hb_frag.specs.declared.pages.Page.{Page}
+use Rattle.hb_frag.specs.Leaves.{DirectlyHolds}
+use Rattle.hb_frag.specs.Rules.{AreInOrder}
+use Rattle.std.proofs.lemmas.Option.{same_Some}
+use Rattle.hb_ops.specs.Files.{page_of}
+use Rattle.hb_ops.specs.declared.operations.Op.TheVariants.{Put}
+use Rattle.hb_set.specs.declared.commands.Command.TheVariants.{Insert}
 use Rattle.hb_set.specs.declared.commands.Reply.TheVariants as replies
 use Rattle.hb_set.specs.declared.scripts.Line.{Line}
-use Rattle.hb_activity.specs.declared.jobs.Job.{Job}
-use Rattle.hb_activity.specs.declared.jobs.JobKind.{JobKind}
-use Rattle.hb_activity.specs.declared.jobs.JobKind.TheVariants.{Post}
-use Rattle.hb_activity.specs.declared.wanting.Wanted.{Wanted}
-use Rattle.hb_activity.specs.declared.activities.Activity.{Activity}
-use Rattle.hb_activity.specs.declared.activities.Activity.TheVariants as at
-use Rattle.hb_store.specs.States.{StoreState}
-use Rattle.hb_store.specs.declared.stops.StopWhy.{StopWhy}
+use Rattle.hb_store.specs.States.{StoreState, in_memory}
 use Rattle.hb_core.specs.declared.outcomes.Outcome.{Outcome}
-use Rattle.hb_core.specs.declared.outcomes.Outcome.TheVariants as outcomes
-use Rattle.hb_core.specs.Machines.{Machine, settled_count}
-use Rattle.hb_core.specs.Acting.{Abandons, DoesRow, MeetsBadPage}
-use Rattle.hb_core.specs.Asking.{HasWayFree, IsInTheWay, wanted_by}
-use Rattle.hb_core.specs.Deeds.{Deed, answers_now}
-use Rattle.hb_core.specs.Performing.{Performs, given_by}
-use Rattle.hb_core.specs.Forcing.{ForcesFirst, StaysSo}
-use Rattle.hb_core.specs.SessionRows.{next_line, taking}
-use Rattle.hb_core.specs.WorkerRows.{TakesJob}
-use Rattle.hb_core.specs.OutcomeLaws.{ComesToSame, IsTurnedAside, OutcomeIsOne}
-use Rattle.hb_core.specs.Steps.{AwaitsPlace, GetsReady, StepsAs, StepsTo, TakesPosting, WantsBoxes, Works}
+use Rattle.hb_core.specs.Machines.{Files, Machine, current_file, if_some, live_here, with_activity, with_disk}
+use Rattle.hb_core.specs.Acting.{DoesRow}
+use Rattle.hb_core.specs.Asking.{wanted_by}
+use Rattle.hb_core.specs.Fetching.{Brings}
+use Rattle.hb_core.specs.Deeds.{AddsJobs, Deed, takes_effect}
+use Rattle.hb_core.specs.Keeps.{HoldsPagesOfFile, KnowsRoom, OneHasRoom}
+use Rattle.hb_core.specs.Performing.{Performs, files_after, given_by}
+use Rattle.hb_core.specs.Rows.{Row}
+use Rattle.hb_core.specs.SplitRows.{Puts}
+use Rattle.hb_core.specs.OutcomeLaws.{ComesToSame, IsTurnedAside, LeavesSame, OutcomeIsOne, StateIsOne}
+use Rattle.hb_core.proofs.OnePair.{both_steps}
+use Rattle.hb_core.proofs.OnePiece.{one_queue}
+use Rattle.hb_core.proofs.OneRow.{one_row}
 use Rattle.hb_core.proofs.RowSays.{rows_say_the_same}
+use Rattle.hb_core.proofs.StillThere.{fetched_good, still_fetched}
 
--- ---- the least actor in the way is one, and where one is the way isn't free
-
-module _ (table : LatchTable) (actor : ℕ) where
-  one_least : (wanted : Option Wanted) (by other : ℕ) → IsSomeAnd wanted (λ w. IsLeastInTheWay table actor w.page w.mode by) → IsSomeAnd wanted (λ w. IsLeastInTheWay table actor w.page w.mode other) → by ≡ other
-  one_least None by other none least = absurd none
-  one_least (Some w) by other first second = elim (cases_lt by other) [
-    | inl lt ↦ absurd (second.least by lt first.keeps)
-    | inr ge ↦ elim (cases_lt other by) [
-      | inl lt ↦ absurd (first.least other lt second.keeps)
-      | inr le ↦ omega (arith, ge, le)
-    ]
-  ]
-
-  clash_at : (mode : Mode) (held : Option Mode) → IsSomeAnd held (λ h. ¬ (IsTrue (goes_beside mode h))) → IfSome held (λ h. IsTrue (goes_beside mode h)) → ⊥
-  clash_at mode None conflict beside = conflict
-  clash_at mode (Some h) conflict beside = conflict beside
-
-  not_free : (wanted : Option Wanted) (by : ℕ) → IsSomeAnd wanted (λ w. IsLeastInTheWay table actor w.page w.mode by) → IfSome wanted (λ w. IsGrantable table actor w.page w.mode) → ⊥
-  not_free None by none free = none
-  not_free (Some w) by least free = clash_at w.mode (mode_at table by w.page) least.keeps.conflict (free by least.keeps.another)
+-- ---- they say the same
 
 module _ (m : Machine) (actor : ℕ) (outcome other : Outcome) (new next : Machine) where
-  abbrev One : Type 0
-  One = IsTurnedAside m actor outcome new ⊎ IsTurnedAside m actor other next ⊎ ComesToSame outcome other new next
-
-  first_aside : IsTurnedAside m actor outcome new → One
-  first_aside aside = inl aside
-
-  second_aside : IsTurnedAside m actor other next → One
-  second_aside aside = inr (inl aside)
-
-  both_stay : (said : Outcome) → StaysSo m said outcome new → StaysSo m said other next → One
-  both_stay said (a, b) (c, d) = let same : new ≡ next = b ∙ sym d in inr (inr (record {
-    says = a ∙ sym c;
+  said_so : outcome ≡ other → new ≡ next → ComesToSame outcome other new next
+  said_so says same = record {
+    says = says;
     lines = ap (λ (x : Machine). x.lines) same;
     answered = ap (λ (x : Machine). x.answered) same;
     stop = ap (λ (x : Machine). x.stop) same;
     clock = ap (λ (x : Machine). x.clock) same;
-  }))
+  }
 
-  both_force : (said : Outcome) → ForcesFirst m said outcome new → ForcesFirst m said other next → One
-  both_force said (inr badly) second = first_aside (inr (inl badly))
-  both_force said (inl well) (inr badly) = second_aside (inr (inl badly))
-  both_force said (inl (a, b)) (inl (c, d)) = let same : new ≡ next = b ∙ sym d in inr (inr (record {
-    says = a ∙ sym c;
-    lines = ap (λ (x : Machine). x.lines) same;
-    answered = ap (λ (x : Machine). x.answered) same;
-    stop = ap (λ (x : Machine). x.stop) same;
-    clock = ap (λ (x : Machine). x.clock) same;
-  }))
-
-  both_perform : (f g : StoreState) (d e : Deed) → d.says ≡ e.says → Performs m f actor d outcome new → Performs m g actor e other next → One
-  both_perform f g d e same first second = inr (inr (record {
+  said_both : (f g : StoreState) (d e : Deed) → d.says ≡ e.says → Performs m f actor d outcome new → Performs m g actor e other next → ComesToSame outcome other new next
+  said_both f g d e same first second = record {
     says = first.says ∙ same ∙ sym second.says;
     lines = first.lines ∙ sym second.lines;
     answered = first.answered ∙ ap (λ (o : Outcome). m.answered ++ given_by o m.clock) same ∙ sym second.answered;
     stop = first.stop ∙ sym second.stop;
     clock = first.clock ∙ sym second.clock;
-  }))
+  }
 
-  -- ---- what works
-
-  both_get_ready : GetsReady m actor outcome new → GetsReady m actor other next → One
-  both_get_ready (inl (waits, first)) (inl (again, second)) = both_force outcomes.Helped first second
-  both_get_ready (inl (waits, first)) (inr (none, second)) = absurd (waits none)
-  both_get_ready (inr (none, first)) (inl (waits, second)) = absurd (waits none)
-  both_get_ready (inr (none, first)) (inr (again, second)) = both_perform m.store m.store _ _ refl first second
-
-  both_act : DoesRow m actor outcome new ⊎ Abandons m actor outcome new ⊎ MeetsBadPage m actor outcome new → DoesRow m actor other next ⊎ Abandons m actor other next ⊎ MeetsBadPage m actor other next → One
-  both_act (inr (inl gives)) second = first_aside (inr (inr (inl gives)))
-  both_act (inr (inr meets)) second = first_aside (inr (inr (inr meets)))
-  both_act (inl row) (inr (inl gives)) = second_aside (inr (inr (inl gives)))
-  both_act (inl row) (inr (inr meets)) = second_aside (inr (inr (inr meets)))
-  both_act (inl row) (inl again) =
-      both_perform row.fetched again.fetched row.deed again.deed
+  said_rows : DoesRow m actor outcome new → DoesRow m actor other next → ComesToSame outcome other new next
+  said_rows row again =
+      said_both row.fetched again.fetched row.deed again.deed
       (rows_say_the_same m row.fetched again.fetched row.brings.rest.meta again.brings.rest.meta (m.activity actor) (wanted_by m actor) row.deed again.deed row.row again.row)
       row.performs again.performs
 
-  both_work : Works m actor outcome new → Works m actor other next → One
-  both_work (inl (by, way, first)) (inl (by', way', second)) =
-      let same = one_least m.latches actor (wanted_by m actor) by by' way way' in
-      both_stay (outcomes.Blocked by) first (subst (λ (n : ℕ). StaysSo m (outcomes.Blocked n) other next) (sym same) second)
-  both_work (inl (by, way, first)) (inr (inl (free, ready, rest))) = absurd (not_free m.latches actor (wanted_by m actor) by way free)
-  both_work (inl (by, way, first)) (inr (inr (free, ready, rest))) = absurd (not_free m.latches actor (wanted_by m actor) by way free)
-  both_work (inr (inl (free, ready, rest))) (inl (by, way, second)) = absurd (not_free m.latches actor (wanted_by m actor) by way free)
-  both_work (inr (inr (free, ready, rest))) (inl (by, way, second)) = absurd (not_free m.latches actor (wanted_by m actor) by way free)
-  both_work (inr (inl (free, unready, first))) (inr (inl (free', unready', second))) = both_get_ready first second
-  both_work (inr (inl (free, unready, first))) (inr (inr (free', ready, second))) = absurd (ready unready)
-  both_work (inr (inr (free, ready, first))) (inr (inl (free', unready, second))) = absurd (ready unready)
-  both_work (inr (inr (free, ready, first))) (inr (inr (free', ready', second))) = both_act first second
-
-  -- ---- what takes a line or a job, and what awaits its place
-
-  abbrev TakesOr : (o : Outcome) (n : Machine) → Option Line → Type 0
-  TakesOr o n line = MatchOption line (StaysSo m outcomes.Idle o n) (λ line. Performs m m.store actor (taking m line) o n ⊎ (WantsBoxes line.command × Performs m m.store actor (answers_now m line.number replies.NoMemory) o n))
-
-  both_take : (line : Option Line) → m.activity actor ≡ at.SessionIdle → next_line actor m.answered m.lines ≡ line → TakesOr outcome new line → TakesOr other next line → One
-  both_take None idle is first second = both_stay outcomes.Idle first second
-  both_take (Some line) idle is (inr (boxes, performs)) second = first_aside (inl (record { idle = idle; line = line; next = is; boxes = boxes; performs = performs }))
-  both_take (Some line) idle is (inl first) (inr (boxes, performs)) = second_aside (inl (record { idle = idle; line = line; next = is; boxes = boxes; performs = performs }))
-  both_take (Some line) idle is (inl first) (inl second) = both_perform m.store m.store _ _ refl first second
-
-  no_posting : (deed : Deed) → All (λ (job : Job). job.kind ≢ Post) m.jobs → TakesJob m deed → ⊥
-  no_posting deed none takes =
-      let oldest = takes.oldest in
-      let among : Contains (oldest.front ++ takes.job ∷ oldest.behind) takes.job = Contains-append_right oldest.front (takes.job ∷ oldest.behind) takes.job (Contains-get_or (takes.job ∷ oldest.behind) 0 takes.job (omega arith)) in
-      All-contains (λ (job : Job). job.kind ≢ Post) m.jobs takes.job none (subst (λ (jobs : List Job). Contains jobs takes.job) (sym oldest.whole) among) oldest.of_kind
-
-  both_post : TakesPosting m actor outcome new → TakesPosting m actor other next → One
-  both_post (inl (none, first)) (inl (none', second)) = both_stay outcomes.Idle first second
-  both_post (inl (none, first)) (inr (deed, takes, second)) = absurd (no_posting deed none takes)
-  both_post (inr (deed, takes, first)) (inl (none, second)) = absurd (no_posting deed none takes)
-  both_post (inr (d, takes, first)) (inr (e, takes', second)) =
-      both_perform m.store m.store d e (ap (λ (d : Deed). d.says) takes.deed_is ∙ sym (ap (λ (d : Deed). d.says) takes'.deed_is)) first second
-
-  both_await : (number : ℕ) (reply : Reply) (place : ℕ) → AwaitsPlace m actor number reply place outcome new → AwaitsPlace m actor number reply place other next → One
-  both_await number reply place (inl (lt, first)) (inl (lt', second)) = both_perform m.store m.store _ _ refl first second
-  both_await number reply place (inl (lt, first)) (inr (ge, second)) = absurd (omega (arith, lt, ge))
-  both_await number reply place (inr (ge, first)) (inl (lt, second)) = absurd (omega (arith, lt, ge))
-  both_await number reply place (inr (ge, first)) (inr (ge', second)) = both_force outcomes.Moved first second
-
-  both_step : (activity : Activity) → m.activity actor ≡ activity → StepsAs activity m actor outcome new → StepsAs activity m actor other next → One
-  both_step at.SessionIdle is first second = both_take (next_line actor m.answered m.lines) is refl first second
-  both_step (at.SessionAwait number reply place) is first second = both_await number reply place first second
-  both_step at.PosterIdle is first second = both_post first second
-  both_step at.ConsolidatorIdle is first second = both_stay outcomes.Idle first second
-  both_step at.Flusher is first second = both_stay outcomes.Idle first second
-  both_step (at.SessionWalk line held rest found) is first second = both_work first second
-  both_step (at.SessionSplit line held) is first second = both_work first second
-  both_step (at.SessionPut line source fresh) is first second = both_work first second
-  both_step (at.PosterGrow job) is first second = both_work first second
-  both_step (at.PosterWalk job held) is first second = both_work first second
-  both_step (at.PosterChild job parent) is first second = both_work first second
-  both_step (at.PosterPromote job parent) is first second = both_work first second
-  both_step (at.PosterAgain job parent) is first second = both_work first second
-  both_step (at.ConsolidatorWalk job held) is first second = both_work first second
-  both_step (at.ConsolidatorScan job parent child) is first second = both_work first second
-  both_step (at.ConsolidatorTry job parent keep gone leaf) is first second = both_work first second
-  both_step (at.ConsolidatorPromote job parent keep gone) is first second = both_work first second
-  both_step (at.ConsolidatorKeep job parent keep gone) is first second = both_work first second
-  both_step (at.ConsolidatorDecide job parent keep gone) is first second = both_work first second
-
-  both_run : (stop : Option StopWhy)
-      → MatchOption stop (StepsAs (m.activity actor) m actor outcome new) (λ why. StaysSo m (outcomes.Stopped why) outcome new)
-      → MatchOption stop (StepsAs (m.activity actor) m actor other next) (λ why. StaysSo m (outcomes.Stopped why) other next) → One
-  both_run None first second = both_step (m.activity actor) refl first second
-  both_run (Some why) first second = both_stay (outcomes.Stopped why) first second
-
 pub outcome_is_one : OutcomeIsOne
-outcome_is_one m actor outcome other new next first second = both_run m actor outcome other new next m.stop first second
+outcome_is_one m actor outcome other new next first second =
+    both_steps m actor outcome other new next (IsTurnedAside m actor outcome new ⊎ IsTurnedAside m actor other next ⊎ ComesToSame outcome other new next) (record {
+      first_aside = λ aside. inl aside;
+      second_aside = λ aside. inr (inl aside);
+      same = λ says is. inr (inr (said_so m actor outcome other new next says is));
+      deeds = λ d e is a b. inr (inr (said_both m actor outcome other new next m.store m.store d e (ap (λ (d : Deed). d.says) is) a b));
+      rows = λ a b. inr (inr (said_rows m actor outcome other new next a b));
+    }) first second
+
+-- ---- over a disk that tells they leave the same
+
+insert_of : (rec same : Record) → Insert rec ≡ Insert same → rec ≡ same
+insert_of rec same is = cc
+
+module _ (m : Machine) (files : Files) (tells : m.files ≡ Some files) (may might : ℕ → Type 0) (f g : StoreState) (first : Brings m.files may m.store f) (second : Brings m.files might m.store g) where
+  told_of : (page : Page) (id : ℕ) → IfSome m.files (λ files. page_of (current_file files) id ≡ Some page) → page_of (current_file files) id ≡ Some page
+  told_of page id told = subst (λ (o : Option Files). IfSome o (λ files. page_of (current_file files) id ≡ Some page)) tells told
+
+  agree_by : (id : ℕ) (a b : Page) (old : Option Page) → in_memory m.store id ≡ old → in_memory f id ≡ Some a → in_memory g id ≡ Some b → a ≡ b
+  agree_by id a b None none one two = same_Some a b (sym (told_of a id (first.told id a none one)) ∙ told_of b id (second.told id b none two))
+  agree_by id a b (Some page) some one two =
+      let there : IsSome (in_memory m.store id) = subst (λ (o : Option Page). IsSome o) (sym some) refl in
+      same_Some a b (sym one ∙ first.stays id there ∙ sym (second.stays id there) ∙ two)
+
+  agree : (id : ℕ) (a b : Page) → in_memory f id ≡ Some a → in_memory g id ≡ Some b → a ≡ b
+  agree id a b one two = agree_by id a b (in_memory m.store id) refl one two
+
+  in_order : HoldsPagesOfFile m → (id : ℕ) (page : LivePage) → live_here f id ≡ Some page → AreInOrder page
+  in_order inside id page live = (fetched_good m may f inside first id page live).1.in_order
+
+  -- a record goes into one of the halves
+  module _ (line : Line) (source fresh : ℕ) (d e : Deed) (a : Puts (with_disk f m.files m.clock m) line source fresh d) (b : Puts (with_disk g m.files m.clock m) line source fresh e) (rec : Record) (command : line.command ≡ Insert rec) (one : OneHasRoom m source fresh rec.key rec.body) where
+    rec_a : a.rec ≡ rec
+    rec_a = insert_of a.rec rec (sym a.command ∙ command)
+
+    rec_b : b.rec ≡ rec
+    rec_b = insert_of b.rec rec (sym b.command ∙ command)
+
+    at_a : (id : ℕ) (page : LivePage) → live_here m.store id ≡ Some page → a.half ≡ id → DirectlyHolds page rec.key
+    at_a id page live is =
+        let same : a.page ≡ page = same_Some a.page page (sym a.live ∙ ap (live_here f) is ∙ still_fetched m may f first id page live) in
+        subst (λ (r : Record). DirectlyHolds page r.key) rec_a (subst (λ (q : LivePage). DirectlyHolds q a.rec.key) same a.holds)
+
+    at_b : (id : ℕ) (page : LivePage) → live_here m.store id ≡ Some page → b.half ≡ id → DirectlyHolds page rec.key
+    at_b id page live is =
+        let same : b.page ≡ page = same_Some b.page page (sym b.live ∙ ap (live_here g) is ∙ still_fetched m might g second id page live) in
+        subst (λ (r : Record). DirectlyHolds page r.key) rec_b (subst (λ (q : LivePage). DirectlyHolds q b.rec.key) same b.holds)
+
+    one_half : (a.half ≡ source) ⊎ (a.half ≡ fresh) → (b.half ≡ source) ⊎ (b.half ≡ fresh) → a.half ≡ b.half
+    one_half (inl x) (inl y) = x ∙ sym y
+    one_half (inr x) (inr y) = x ∙ sym y
+    one_half (inl x) (inr y) = absurd (one.not_both (at_a source one.first one.first_live x) (at_b fresh one.second one.second_live y))
+    one_half (inr x) (inl y) = absurd (one.not_both (at_b source one.first one.first_live y) (at_a fresh one.second one.second_live x))
+
+    one_put : d ≡ e
+    one_put =
+        a.deed_is ∙ ap (λ (r : Record). takes_effect m line replies.Done (Some (Put a.half r)) []) (rec_a ∙ sym rec_b)
+        ∙ ap (λ n. takes_effect m line replies.Done (Some (Put n b.rec)) []) (one_half a.either b.either) ∙ sym b.deed_is
+
+  one_deed : (actor : ℕ) (d e : Deed) → HoldsPagesOfFile m → KnowsRoom m
+      → Row (m.activity actor) (wanted_by m actor) (with_disk f m.files m.clock m) d → Row (m.activity actor) (wanted_by m actor) (with_disk g m.files m.clock m) e → d ≡ e
+  one_deed actor d e inside knows row again =
+      one_row m f g (first.rest.meta ∙ sym second.rest.meta) agree (in_order inside) (m.activity actor) (wanted_by m actor) d e
+      (λ line source fresh d e is a b. let has = knows.puts actor source fresh line is in one_put line source fresh d e a b has.0 has.1 has.2)
+      row again
+
+module _ (m : Machine) (actor : ℕ) (outcome other : Outcome) (new next : Machine) where
+  left_so : new ≡ next → LeavesSame new next
+  left_so same = record {
+    activity = λ who. ap (λ (x : Machine). x.activity who) same;
+    jobs = ap (λ (x : Machine). x.jobs) same;
+    order = ap (λ (x : Machine). x.order) same;
+    files = ap (λ (x : Machine). x.files) same;
+  }
+
+  left_both : (f g : StoreState) (d e : Deed) → d ≡ e → Performs m f actor d outcome new → Performs m g actor e other next → LeavesSame new next
+  left_both f g d e same first second = record {
+    activity = λ who. first.activity who ∙ ap (λ (d : Deed). with_activity actor d.next m.activity who) same ∙ sym (second.activity who);
+    jobs = one_queue e.adds e.left new.jobs next.jobs (subst (λ (d : Deed). AddsJobs d.adds d.left new.jobs) same first.jobs) second.jobs;
+    order = first.order ∙ ap (λ (d : Deed). m.order ++ if_some d.joins) same ∙ sym second.order;
+    files = first.files ∙ ap (λ (d : Deed). files_after d.op m.files) same ∙ sym second.files;
+  }
+
+pub state_is_one : StateIsOne
+state_is_one m files actor outcome other new next tells inside knows first second =
+    both_steps m actor outcome other new next (IsTurnedAside m actor outcome new ⊎ IsTurnedAside m actor other next ⊎ LeavesSame new next) (record {
+      first_aside = λ aside. inl aside;
+      second_aside = λ aside. inr (inl aside);
+      same = λ says is. inr (inr (left_so m actor outcome other new next is));
+      deeds = λ d e is a b. inr (inr (left_both m actor outcome other new next m.store m.store d e is a b));
+      rows = λ a b. inr (inr (left_both m actor outcome other new next a.fetched b.fetched a.deed b.deed
+          (one_deed m files tells _ _ a.fetched b.fetched a.brings b.brings actor a.deed b.deed inside knows a.row b.row) a.performs b.performs));
+    }) first second

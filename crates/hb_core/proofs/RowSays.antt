@@ -1,5 +1,5 @@
 -- What a row says: that its actor moved on, but where a session's page is to be split and no page is free.
-use Rattle.std.proofs.Common.{◌≡◌, ◌⊎◌, inl, inr, ℕ, ◌<◌, List, [], ◌∷◌, Option, Some, None, refl, sym, ap, ◌∙◌, arith}
+use Rattle.std.proofs.Common.{◌≡◌, ◌⊎◌, inl, inr, ℕ, List, [], ◌∷◌, Option, Some, None, refl, sym, ap, ◌∙◌, arith}
 use Rattle.std.specs.Prelude.{MatchOption}
 use Rattle.hb_space.specs.Boxes.{Area}
 use Rattle.hb_space.specs.declared.records.Record.{Record}
@@ -7,7 +7,6 @@ use Rattle.hb_frag.specs.declared.pages.LivePage.{LivePage}
 use Rattle.hb_layout.specs.declared.meta.Meta.{Meta}
 use Rattle.hb_set.specs.declared.commands.Command.{Command}
 use Rattle.hb_set.specs.declared.commands.Command.TheVariants.{Insert, Delete, Lookup, Search}
-use Rattle.hb_set.specs.declared.commands.Reply.TheVariants as replies
 use Rattle.hb_set.specs.declared.scripts.Line.{Line}
 use Rattle.hb_terms.specs.declared.plans.PostPlan.{PostPlan}
 use Rattle.hb_terms.specs.declared.plans.PostPlan.TheVariants as plans
@@ -19,10 +18,9 @@ use Rattle.hb_activity.specs.Walks.{goal_of}
 use Rattle.hb_store.specs.States.{StoreState}
 use Rattle.hb_core.specs.declared.outcomes.Outcome.TheVariants as outcomes
 use Rattle.hb_core.specs.Machines.{Machine, with_disk}
-use Rattle.hb_core.specs.Deeds.{Deed, answers_now}
+use Rattle.hb_core.specs.Deeds.{Deed}
 use Rattle.hb_core.specs.SearchRows.{SearchGoesOn}
 use Rattle.hb_core.specs.SessionRows.{DoesThere, PassesOn}
-use Rattle.hb_core.specs.SplitRows.{HasNoPage, Splits}
 use Rattle.hb_core.specs.WorkerRows.{DoesPlan, after_look}
 use Rattle.hb_core.specs.Rows.{Row, RowAlone, RowAt}
 

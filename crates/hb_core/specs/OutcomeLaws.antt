@@ -8,6 +8,7 @@ use Rattle.hb_core.specs.Machines.{Files, Machine}
 use Rattle.hb_core.specs.Acting.{Abandons, MeetsBadPage}
 use Rattle.hb_core.specs.Deeds.{answers_now}
 use Rattle.hb_core.specs.Forcing.{ForcesBadly}
+use Rattle.hb_core.specs.Keeps.{HoldsPagesOfFile, KnowsRoom}
 use Rattle.hb_core.specs.Performing.{Performs}
 use Rattle.hb_core.specs.SessionRows.{next_line}
 use Rattle.hb_core.specs.Steps.{StepsTo, WantsBoxes}
@@ -37,3 +38,16 @@ pub record ComesToSame (outcome other : Outcome) (new next : Machine) : Type 0 w
 abbrev pub OutcomeIsOne : Type 0
 OutcomeIsOne = (m : Machine) (actor : ℕ) (outcome other : Outcome) (new next : Machine) → StepsTo m actor outcome new → StepsTo m actor other next →
     IsTurnedAside m actor outcome new ⊎ IsTurnedAside m actor other next ⊎ ComesToSame outcome other new next
+
+-- They leave each actor where the other step did, and the same jobs, order and files.
+pub record LeavesSame (new next : Machine) : Type 0 where
+  pub activity : (who : ℕ) → new.activity who ≡ next.activity who
+  pub jobs : new.jobs ≡ next.jobs
+  pub order : new.order ≡ next.order
+  pub files : new.files ≡ next.files
+
+-- So they do over a disk that tells, where pages in memory keep the rules that speak of a page alone and not both halves of a
+-- split hold the point of the insert. Which pages came into memory beside those of the row is left open.
+abbrev pub StateIsOne : Type 0
+StateIsOne = (m : Machine) (files : Files) (actor : ℕ) (outcome other : Outcome) (new next : Machine) → m.files ≡ Some files → HoldsPagesOfFile m → KnowsRoom m → StepsTo m actor outcome new → StepsTo m actor other next →
+    IsTurnedAside m actor outcome new ⊎ IsTurnedAside m actor other next ⊎ LeavesSame new next
