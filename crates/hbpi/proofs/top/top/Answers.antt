@@ -2,7 +2,7 @@ use Rattle.std.proofs.Common.{◌∙◌, Option, Some, sym, ap, subst}
 use Rattle.hbpi.specs.declared.forms.Form.{Form}
 use Rattle.hbpi.specs.declared.forms.Form.TheVariants.{Create, Dry}
 use Rattle.hbpi.specs.Ends.{IsComplete, RefusesBadText, NamesBadLine}
-use Rattle.hbpi.specs.SeenRuns.{Seen, seen_by}
+use Rattle.hbpi.specs.SeenRuns.{seen_by}
 use Rattle.hbpi.specs.MadeEnds.{IsMadeWhole}
 use Rattle.hbpi.specs.Runs.{LeavesBeyond, RunEnds, disk_seen}
 use Rattle.hbpi.proofs.EndLaws.{ends_complete, ends_refuses, ends_names, ends_made, never_usage, never_unbuilt}
@@ -14,15 +14,21 @@ use Rattle.hbpi.proofs.top.top.Goals as goal
 
 pub returns-in-Some-Dry-clause-complete : goal.returns-in-Some-Dry-clause-complete
 returns-in-Some-Dry-clause-complete g c =
-    subst (λ (form : Option Form). IsComplete form _ c.dry.result.status) (sym (ap Some c.in-Some-Dry.field-0-is) ∙ c.in-Some-Dry.ensures.form) (ends_complete (Some (Dry c.in-Some-Dry.k)) _ (g.D.Device.model c.args.disk) (g.D.Device.model c.dry.result.disk) c.dry.result.status c.dry.ensures.ends)
+    let seen = seen_by (g.S.Source.left c.args.source.now) (g.S.Source.left c.dry.new.source) (g.S.Source.faults c.args.source.now) (g.S.Source.faults c.dry.new.source)
+    (g.K.Sink.written c.args.sink) (g.K.Sink.written c.dry.result.sink) (g.K.Sink.faults c.args.sink) (g.K.Sink.faults c.dry.result.sink) c.dry.result.answered.items c.dry.result.order.items in
+    subst (λ (form : Option Form). IsComplete form seen c.dry.result.status) (sym (ap Some c.in-Some-Dry.field-0-is) ∙ c.in-Some-Dry.ensures.form) (ends_complete (Some (Dry c.in-Some-Dry.k)) seen (g.D.Device.model c.args.disk) (g.D.Device.model c.dry.result.disk) c.dry.result.status c.dry.ensures.ends)
 
 pub returns-in-Some-Dry-clause-bad_text : goal.returns-in-Some-Dry-clause-bad_text
 returns-in-Some-Dry-clause-bad_text g c =
-    subst (λ (form : Option Form). RefusesBadText form _ c.dry.result.status) (sym (ap Some c.in-Some-Dry.field-0-is) ∙ c.in-Some-Dry.ensures.form) (ends_refuses (Some (Dry c.in-Some-Dry.k)) _ (g.D.Device.model c.args.disk) (g.D.Device.model c.dry.result.disk) c.dry.result.status c.dry.ensures.ends)
+    let seen = seen_by (g.S.Source.left c.args.source.now) (g.S.Source.left c.dry.new.source) (g.S.Source.faults c.args.source.now) (g.S.Source.faults c.dry.new.source)
+    (g.K.Sink.written c.args.sink) (g.K.Sink.written c.dry.result.sink) (g.K.Sink.faults c.args.sink) (g.K.Sink.faults c.dry.result.sink) c.dry.result.answered.items c.dry.result.order.items in
+    subst (λ (form : Option Form). RefusesBadText form seen c.dry.result.status) (sym (ap Some c.in-Some-Dry.field-0-is) ∙ c.in-Some-Dry.ensures.form) (ends_refuses (Some (Dry c.in-Some-Dry.k)) seen (g.D.Device.model c.args.disk) (g.D.Device.model c.dry.result.disk) c.dry.result.status c.dry.ensures.ends)
 
 pub returns-in-Some-Dry-clause-named : goal.returns-in-Some-Dry-clause-named
 returns-in-Some-Dry-clause-named g c =
-    subst (λ (form : Option Form). NamesBadLine form _ c.dry.result.status) (sym (ap Some c.in-Some-Dry.field-0-is) ∙ c.in-Some-Dry.ensures.form) (ends_names (Some (Dry c.in-Some-Dry.k)) _ (g.D.Device.model c.args.disk) (g.D.Device.model c.dry.result.disk) c.dry.result.status c.dry.ensures.ends)
+    let seen = seen_by (g.S.Source.left c.args.source.now) (g.S.Source.left c.dry.new.source) (g.S.Source.faults c.args.source.now) (g.S.Source.faults c.dry.new.source)
+    (g.K.Sink.written c.args.sink) (g.K.Sink.written c.dry.result.sink) (g.K.Sink.faults c.args.sink) (g.K.Sink.faults c.dry.result.sink) c.dry.result.answered.items c.dry.result.order.items in
+    subst (λ (form : Option Form). NamesBadLine form seen c.dry.result.status) (sym (ap Some c.in-Some-Dry.field-0-is) ∙ c.in-Some-Dry.ensures.form) (ends_names (Some (Dry c.in-Some-Dry.k)) seen (g.D.Device.model c.args.disk) (g.D.Device.model c.dry.result.disk) c.dry.result.status c.dry.ensures.ends)
 
 pub returns-in-Some-Drive-clause-promise : goal.returns-in-Some-Drive-clause-promise
 returns-in-Some-Drive-clause-promise g c b s is told opens sound =
