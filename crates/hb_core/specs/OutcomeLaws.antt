@@ -2,6 +2,7 @@
 use Rattle.std.specs.Prelude.{◌≡◌, ◌⊎◌, ℕ, Some}
 use Rattle.hb_frag.specs.declared.pages.Page.{Page}
 use Rattle.hb_store.specs.States.{in_memory}
+use Rattle.hb_latch.specs.Tables.{mode_at}
 use Rattle.hb_set.specs.declared.commands.Reply.TheVariants as replies
 use Rattle.hb_set.specs.declared.scripts.Line.{Line}
 use Rattle.hb_activity.specs.declared.activities.Activity.TheVariants as at
@@ -42,15 +43,16 @@ abbrev pub OutcomeIsOne : Type 0
 OutcomeIsOne = (m : Machine) (actor : ℕ) (outcome other : Outcome) (new next : Machine) → StepsTo m actor outcome new → StepsTo m actor other next →
     IsTurnedAside m actor outcome new ⊎ IsTurnedAside m actor other next ⊎ ComesToSame outcome other new next
 
--- They leave each actor where the other step did, and the same jobs, order and files.
+-- They leave each actor where the other step did, with the same latches, and the same jobs, order and files.
 pub record LeavesSame (new next : Machine) : Type 0 where
   pub activity : (who : ℕ) → new.activity who ≡ next.activity who
+  pub latches : (who page : ℕ) → mode_at new.latches who page ≡ mode_at next.latches who page
   pub jobs : new.jobs ≡ next.jobs
   pub order : new.order ≡ next.order
   pub files : new.files ≡ next.files
 
 -- So they do over a disk that tells, where pages in memory keep the rules that speak of a page alone and not both halves of a
--- split hold the point of the insert. Which pages came into memory beside those of the row is left open.
+-- split hold the point of the insert. Which of the pages that the step may need came into memory is left open, and so is the store.
 abbrev pub StateIsOne : Type 0
 StateIsOne = (m : Machine) (files : Files) (actor : ℕ) (outcome other : Outcome) (new next : Machine) → m.files ≡ Some files → HoldsPagesOfFile m → KnowsRoom m → StepsTo m actor outcome new → StepsTo m actor other next →
     IsTurnedAside m actor outcome new ⊎ IsTurnedAside m actor other next ⊎ LeavesSame new next

@@ -5,8 +5,8 @@ ghost use Rattle.hb_core.specs.OutcomeLaws.{AsideChangesNoFile, OutcomeIsOne, St
 
 /// Two steps of one actor from one machine say the same, and leave the lines, the answers, the stop and the
 /// clock the same, unless memory was refused to one of them, its device failed or a page was damaged. So it
-/// is over every disk. Over a disk that tells they also leave each actor at the same place, and the same
-/// jobs, order and files.
+/// is over every disk. Over a disk that tells they also leave each actor at the same place with the same
+/// latches, and the same jobs, order and files.
 pub fn a_step_has_one_outcome()
     ensures outcome { OutcomeIsOne }
     ensures state { StateIsOne }
