@@ -39,6 +39,7 @@ pub mod SplitHome
 pub mod SplitHalves
 pub mod RoomKept
 pub mod PutHalves
+pub mod Aside
 pub mod OneOrder
 pub mod OnePiece
 pub mod OneRow

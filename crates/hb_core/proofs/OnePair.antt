@@ -1,5 +1,5 @@
 -- Two steps of one actor from one machine go the same way, unless one was turned aside.
-use Rattle.std.proofs.Common.{◌≡◌, ◌≢◌, ◌⊎◌, inl, inr, ℕ, ◌++◌, List, ◌∷◌, All, Option, Some, None, IfSome, IsSomeAnd, IsTrue, refl, sym, ◌∙◌, subst, arith}
+use Rattle.std.proofs.Common.{ap, ◌≡◌, ◌≢◌, ◌⊎◌, inl, inr, ℕ, ◌++◌, List, ◌∷◌, All, Option, Some, None, IfSome, IsSomeAnd, IsTrue, refl, sym, ◌∙◌, subst, arith}
 use Rattle.std.specs.Prelude.{MatchOption}
 use Rattle.std.specs.List.{Contains}
 use Rattle.std.proofs.lemmas.Bool.{cases_lt}
@@ -25,9 +25,12 @@ use Rattle.hb_core.specs.Deeds.{Deed, answers_now}
 use Rattle.hb_core.specs.Performing.{Performs}
 use Rattle.hb_core.specs.Forcing.{ForcesFirst, StaysSo}
 use Rattle.hb_core.specs.SessionRows.{next_line, taking}
-use Rattle.hb_core.specs.WorkerRows.{TakesJob}
+use Rattle.hb_core.specs.WorkerRows.{IsPostingOf, TakesJob}
 use Rattle.hb_core.specs.OutcomeLaws.{IsTurnedAside}
 use Rattle.hb_core.specs.Steps.{AwaitsPlace, GetsReady, StepsAs, StepsTo, TakesPosting, WantsBoxes, Works}
+use Rattle.hb_activity.specs.Walks.{walk_held}
+use Rattle.hb_core.specs.GivingUp.{runs_out}
+use Rattle.hb_core.proofs.NextPlaces.{nothing_run_out}
 use Rattle.hb_core.proofs.OnePiece.{one_job}
 
 -- ---- the least actor in the way is one, and where one is the way isn't free
@@ -51,12 +54,18 @@ module _ (table : LatchTable) (actor : ℕ) where
   not_free None by none free = none
   not_free (Some w) by least free = clash_at w.mode (mode_at table by w.page) least.keeps.conflict (free by least.keeps.another)
 
+-- who takes a job holds no page of a walk yet
+posting_holds_nothing : (job : Job) (height : ℕ) (next : Activity) → IsPostingOf job height next → walk_held next ≡ None
+posting_holds_nothing job height next (inl (above, is)) = ap walk_held is
+posting_holds_nothing job height next (inr (inl (same, is))) = ap walk_held is
+posting_holds_nothing job height next (inr (inr (below, is))) = ap walk_held is
+
 -- What is to be shown of two steps.
 pub record ShowsBoth (m : Machine) (actor : ℕ) (outcome other : Outcome) (new next : Machine) (G : Type 0) : Type 0 where
   pub first_aside : IsTurnedAside m actor outcome new → G
   pub second_aside : IsTurnedAside m actor other next → G
   pub same : outcome ≡ other → new ≡ next → G
-  pub deeds : (d e : Deed) → d ≡ e → Performs m m.store actor d outcome new → Performs m m.store actor e other next → G
+  pub deeds : (d e : Deed) → d ≡ e → walk_held d.next ≡ None → Performs m m.store actor d outcome new → Performs m m.store actor e other next → G
   pub rows : DoesRow m actor outcome new → DoesRow m actor other next → G
 
 module _ (m : Machine) (actor : ℕ) (outcome other : Outcome) (new next : Machine) (G : Type 0) (shows : ShowsBoth m actor outcome other new next G) where
@@ -74,7 +83,7 @@ module _ (m : Machine) (actor : ℕ) (outcome other : Outcome) (new next : Machi
   both_get_ready (inl (waits, first)) (inl (again, second)) = both_force outcomes.Helped first second
   both_get_ready (inl (waits, first)) (inr (none, second)) = absurd (waits none)
   both_get_ready (inr (none, first)) (inl (waits, second)) = absurd (waits none)
-  both_get_ready (inr (none, first)) (inr (again, second)) = shows.deeds _ _ refl first second
+  both_get_ready (inr (none, first)) (inr (again, second)) = shows.deeds (runs_out m (m.activity actor)) (runs_out m (m.activity actor)) refl (nothing_run_out m (m.activity actor)).walk first second
 
   both_act : DoesRow m actor outcome new ⊎ Abandons m actor outcome new ⊎ MeetsBadPage m actor outcome new → DoesRow m actor other next ⊎ Abandons m actor other next ⊎ MeetsBadPage m actor other next → G
   both_act (inr (inl gives)) second = shows.first_aside (inr (inr (inl gives)))
@@ -105,7 +114,7 @@ module _ (m : Machine) (actor : ℕ) (outcome other : Outcome) (new next : Machi
   both_take None idle is first second = both_stay outcomes.Idle first second
   both_take (Some line) idle is (inr (boxes, performs)) second = shows.first_aside (inl (record { idle = idle; line = line; next = is; boxes = boxes; performs = performs }))
   both_take (Some line) idle is (inl first) (inr (boxes, performs)) = shows.second_aside (inl (record { idle = idle; line = line; next = is; boxes = boxes; performs = performs }))
-  both_take (Some line) idle is (inl first) (inl second) = shows.deeds _ _ refl first second
+  both_take (Some line) idle is (inl first) (inl second) = shows.deeds (taking m line) (taking m line) refl refl first second
 
   no_posting : (deed : Deed) → All (λ (job : Job). job.kind ≢ Post) m.jobs → TakesJob m deed → ⊥
   no_posting deed none takes =
@@ -117,10 +126,10 @@ module _ (m : Machine) (actor : ℕ) (outcome other : Outcome) (new next : Machi
   both_post (inl (none, first)) (inl (none', second)) = both_stay outcomes.Idle first second
   both_post (inl (none, first)) (inr (deed, takes, second)) = absurd (no_posting deed none takes)
   both_post (inr (deed, takes, first)) (inl (none, second)) = absurd (no_posting deed none takes)
-  both_post (inr (d, takes, first)) (inr (e, again, second)) = shows.deeds d e (one_job m d e takes again) first second
+  both_post (inr (d, takes, first)) (inr (e, again, second)) = shows.deeds d e (one_job m d e takes again) (ap (λ (x : Deed). walk_held x.next) takes.deed_is ∙ posting_holds_nothing takes.job m.store.meta.height takes.next takes.posting) first second
 
   both_await : (number : ℕ) (reply : Reply) (place : ℕ) → AwaitsPlace m actor number reply place outcome new → AwaitsPlace m actor number reply place other next → G
-  both_await number reply place (inl (lt, first)) (inl (lt', second)) = shows.deeds _ _ refl first second
+  both_await number reply place (inl (lt, first)) (inl (lt', second)) = shows.deeds (answers_now m number reply) (answers_now m number reply) refl refl first second
   both_await number reply place (inl (lt, first)) (inr (ge, second)) = absurd (omega (arith, lt, ge))
   both_await number reply place (inr (ge, first)) (inl (lt, second)) = absurd (omega (arith, lt, ge))
   both_await number reply place (inr (ge, first)) (inr (ge', second)) = both_force outcomes.Moved first second
