@@ -166,11 +166,11 @@ module _ (m : Machine) (f g : StoreState) (meta : f.meta ≡ g.meta) (agree : (i
 
   -- ---- the part that leaves a page
 
-  abbrev leaving : (ℕ → List Job) → (ℕ → Activity) → ℕ → (List ℕ → List Job) → ℕ → List Side → List LeafCut → ℕ → List ℕ → Deed
-  leaving none next source adds fresh path cuts after corner = does m (next fresh) (ops.Extract source fresh path cuts after) (adds corner)
+  abbrev leaving : (ℕ → Activity) → ℕ → (List ℕ → List Job) → ℕ → List Side → List LeafCut → ℕ → List ℕ → Deed
+  leaving next source adds fresh path cuts after corner = does m (next fresh) (ops.Extract source fresh path cuts after) (adds corner)
 
   one_leaving : (next : ℕ → Activity) (source : ℕ) (adds : List ℕ → List Job) (page : LivePage) (a : PartLeavesTo f page) (b : PartLeavesTo g page)
-      → leaving (λ n. []) next source adds a.fresh a.path a.cuts a.free_after (corner_of a) ≡ leaving (λ n. []) next source adds b.fresh b.path b.cuts b.free_after (corner_of b)
+      → leaving next source adds a.fresh a.path a.cuts a.free_after (corner_of a) ≡ leaving next source adds b.fresh b.path b.cuts b.free_after (corner_of b)
   one_leaving next source adds page a b =
       let numbers = one_next f g a.fresh b.fresh a.free_after b.free_after meta agree a.next b.next in
       let path : a.path ≡ b.path = a.chosen.way ∙ sym b.chosen.way in
@@ -181,11 +181,11 @@ module _ (m : Machine) (f g : StoreState) (meta : f.meta ≡ g.meta) (agree : (i
       (subst (λ (x : Tree × Area). AreChosen (weight_of page.frag) (length page.area.lo) a.cuts x.0) by_a a.chosen.chosen)
       (subst (λ (x : Tree × Area). AreChosen (weight_of page.frag) (length page.area.lo) b.cuts x.0) by_b b.chosen.chosen) in
       let corner : corner_of a ≡ corner_of b = ap (λ (x : Tree × Area). (reached a.cuts x.0 x.1).1.lo) part ∙ ap (λ (c : List LeafCut). (reached c b.part.0 b.part.1).1.lo) cuts in
-      ap (λ n. leaving (λ n. []) next source adds n a.path a.cuts a.free_after (corner_of a)) numbers.0
-      ∙ ap (λ x. leaving (λ n. []) next source adds b.fresh x a.cuts a.free_after (corner_of a)) path
-      ∙ ap (λ x. leaving (λ n. []) next source adds b.fresh b.path x a.free_after (corner_of a)) cuts
-      ∙ ap (λ n. leaving (λ n. []) next source adds b.fresh b.path b.cuts n (corner_of a)) numbers.1
-      ∙ ap (λ x. leaving (λ n. []) next source adds b.fresh b.path b.cuts b.free_after x) corner
+      ap (λ n. leaving next source adds n a.path a.cuts a.free_after (corner_of a)) numbers.0
+      ∙ ap (λ x. leaving next source adds b.fresh x a.cuts a.free_after (corner_of a)) path
+      ∙ ap (λ x. leaving next source adds b.fresh b.path x a.free_after (corner_of a)) cuts
+      ∙ ap (λ n. leaving next source adds b.fresh b.path b.cuts n (corner_of a)) numbers.1
+      ∙ ap (λ x. leaving next source adds b.fresh b.path b.cuts b.free_after x) corner
 
   full : f.meta.live ≡ f.meta.pages → g.meta.live < g.meta.pages → ⊥
   full none free = omega (arith, none, free, ap (λ (x : Meta). x.live) meta, ap (λ (x : Meta). x.pages) meta)
@@ -194,7 +194,7 @@ module _ (m : Machine) (f g : StoreState) (meta : f.meta ≡ g.meta) (agree : (i
   full_too free none = omega (arith, none, free, ap (λ (x : Meta). x.live) meta, ap (λ (x : Meta). x.pages) meta)
 
   abbrev SplitTo : ℕ → (ℕ → Activity) → (List ℕ → List Job) → Deed → LivePage → Type 0
-  SplitTo source next adds d page = (leaves : PartLeavesTo f page) × (d ≡ leaving (λ n. []) next source adds leaves.fresh leaves.path leaves.cuts leaves.free_after (corner_of leaves))
+  SplitTo source next adds d page = (leaves : PartLeavesTo f page) × (d ≡ leaving next source adds leaves.fresh leaves.path leaves.cuts leaves.free_after (corner_of leaves))
 
   one_split : (line : Line) (held : ℕ) (d e : Deed) → Splits m1 line held d → Splits m2 line held e → d ≡ e
   one_split line held d e a b =
