@@ -30,9 +30,9 @@ use Rattle.hb_activity.specs.declared.activities.Activity.TheVariants as at
 use Rattle.hb_activity.specs.Holding.{latch_on, walk_latch}
 use Rattle.hb_activity.specs.Walks.{goal_of, job_mode, session_mode, walk_held}
 use Rattle.hb_activity.specs.Wanting.{walk_next, wanted_of, wanted_page}
-use Rattle.hb_store.specs.Calls.{change_here, framed_read}
-use Rattle.hb_store.specs.Keeps.{StoreState}
+use Rattle.hb_store.specs.Calls.{change_here, read_here}
 use Rattle.hb_store.specs.Replay.{set_pages}
+use Rattle.hb_store.specs.States.{StoreState, in_memory}
 use Rattle.hb_core.specs.Machines.{Machine, with_disk}
 use Rattle.hb_core.specs.Asking.{HasWayFree, looked_live, wanted_by}
 use Rattle.hb_core.specs.Fetching.{Brings}
@@ -61,7 +61,7 @@ ComesFrom m actor page mode = (mode_at m.latches actor page ≡ Some mode) ⊎ I
 pub record IsBacked (m : Machine) (actor : ℕ) (st : StoreState) (page : ℕ) (mode : Mode) : Type 0 where
   pub from : ComesFrom m actor page mode
   pub live : LivePage
-  pub there : st.frame page ≡ Some (Live live)
+  pub there : in_memory st page ≡ Some (Live live)
 
 -- so for all latches of an activity
 abbrev pub AreBacked : Machine → ℕ → StoreState → List Latch → Type 0
@@ -91,18 +91,18 @@ two_backed m actor st first second a b page asked is = elim (cases_Bool (first =
   | inr off ↦ one_backed m actor st second Exclusive b page asked (sym (ap (λ (c : Bool). cond c (Some Exclusive) (mode_among page (latch_on second Exclusive ∷ []))) off) ∙ is)
 ]
 
-pub live_frame : (o : Option Page) (page : LivePage) → if_live o ≡ Some page → o ≡ Some (Live page)
-live_frame None page is = cc
-live_frame (Some (Live q)) page is = cc
-live_frame (Some (Free next)) page is = cc
+pub live_there : (o : Option Page) (page : LivePage) → if_live o ≡ Some page → o ≡ Some (Live page)
+live_there None page is = cc
+live_there (Some (Live q)) page is = cc
+live_there (Some (Free next)) page is = cc
 
-walk_backed : (m : Machine) (actor : ℕ) (st : StoreState) (id : ℕ) (page : LivePage) (mode : ℕ → Mode) → if_live (st.frame id) ≡ Some page → IsBacked m actor st id (mode page.level) → AreBacked m actor st (walk_latch (Some id) (if_live (st.frame id)) mode)
+walk_backed : (m : Machine) (actor : ℕ) (st : StoreState) (id : ℕ) (page : LivePage) (mode : ℕ → Mode) → if_live (in_memory st id) ≡ Some page → IsBacked m actor st id (mode page.level) → AreBacked m actor st (walk_latch (Some id) (if_live (in_memory st id)) mode)
 walk_backed m actor st id page mode live backed = subst (λ (o : Option LivePage). AreBacked m actor st (walk_latch (Some id) o mode)) (sym live) (one_backed m actor st id (mode page.level) backed)
 
 -- An activity whose latches are backed, and whose walk holds a page in use.
 pub record BackedIn (m : Machine) (actor : ℕ) (st : StoreState) (activity : Activity) : Type 0 where
   pub latches : AreBacked m actor st (latches_held st activity)
-  pub walk : (held : ℕ) → walk_held activity ≡ Some held → (live : LivePage) × (st.frame held ≡ Some (Live live))
+  pub walk : (held : ℕ) → walk_held activity ≡ Some held → (live : LivePage) × (in_memory st held ≡ Some (Live live))
 
 -- an activity that doesn't walk, or not yet; and one that holds nothing
 stands : (m : Machine) (actor : ℕ) (st : StoreState) (activity : Activity) → walk_held activity ≡ None → AreBacked m actor st (latches_held st activity) → BackedIn m actor st activity
@@ -115,10 +115,10 @@ pub rests : (m : Machine) (actor : ℕ) (st : StoreState) (activity : Activity) 
 rests m actor st activity none nothing = stands m actor st activity none (subst (AreBacked m actor st) (sym nothing) (none_backed m actor st))
 
 -- a walk that holds a page in use
-goes : (m : Machine) (actor : ℕ) (st : StoreState) (activity : Activity) (id : ℕ) (page : LivePage) → walk_held activity ≡ Some id → st.frame id ≡ Some (Live page) → AreBacked m actor st (latches_held st activity) → BackedIn m actor st activity
+goes : (m : Machine) (actor : ℕ) (st : StoreState) (activity : Activity) (id : ℕ) (page : LivePage) → walk_held activity ≡ Some id → in_memory st id ≡ Some (Live page) → AreBacked m actor st (latches_held st activity) → BackedIn m actor st activity
 goes m actor st activity id page at_id there backed = record {
   latches = backed;
-  walk = λ held some. (page, ap st.frame (sym (some_is held id (sym at_id ∙ some))) ∙ there);
+  walk = λ held some. (page, ap (in_memory st) (sym (some_is held id (sym at_id ∙ some))) ∙ there);
 }
   where
     some_is : (held id : ℕ) → Some id ≡ Some held → id ≡ held
@@ -126,13 +126,13 @@ goes m actor st activity id page at_id there backed = record {
 
 -- ---- the pages of a split are in use
 
-split_in_use : (source fresh : ℕ) (a b : LivePage) (frame : ℕ → Option Page) → ((live : LivePage) × (set_pages ((source, Live a) ∷ (fresh, Live b) ∷ []) frame source ≡ Some (Live live))) × ((live : LivePage) × (set_pages ((source, Live a) ∷ (fresh, Live b) ∷ []) frame fresh ≡ Some (Live live)))
-split_in_use source fresh a b frame = (first, (b, ap (λ (c : Bool). cond c (Some (Live b)) (cond (fresh == source) (Some (Live a)) (frame fresh))) (eq-eqb fresh fresh refl)))
+split_in_use : (source fresh : ℕ) (a b : LivePage) (page_in : ℕ → Option Page) → ((live : LivePage) × (set_pages ((source, Live a) ∷ (fresh, Live b) ∷ []) page_in source ≡ Some (Live live))) × ((live : LivePage) × (set_pages ((source, Live a) ∷ (fresh, Live b) ∷ []) page_in fresh ≡ Some (Live live)))
+split_in_use source fresh a b page_in = (first, (b, ap (λ (c : Bool). cond c (Some (Live b)) (cond (fresh == source) (Some (Live a)) (page_in fresh))) (eq-eqb fresh fresh refl)))
   where
-    first : (live : LivePage) × (set_pages ((source, Live a) ∷ (fresh, Live b) ∷ []) frame source ≡ Some (Live live))
+    first : (live : LivePage) × (set_pages ((source, Live a) ∷ (fresh, Live b) ∷ []) page_in source ≡ Some (Live live))
     first = elim (cases_Bool (source == fresh)) [
-      | inl here ↦ (b, ap (λ (c : Bool). cond c (Some (Live b)) (cond (source == source) (Some (Live a)) (frame source))) here)
-      | inr off ↦ (a, ap (λ (c : Bool). cond c (Some (Live b)) (cond (source == source) (Some (Live a)) (frame source))) off ∙ ap (λ (c : Bool). cond c (Some (Live a)) (frame source)) (eq-eqb source source refl))
+      | inl here ↦ (b, ap (λ (c : Bool). cond c (Some (Live b)) (cond (source == source) (Some (Live a)) (page_in source))) here)
+      | inr off ↦ (a, ap (λ (c : Bool). cond c (Some (Live b)) (cond (source == source) (Some (Live a)) (page_in source))) off ∙ ap (λ (c : Bool). cond c (Some (Live a)) (page_in source)) (eq-eqb source source refl))
     ]
 
 -- ---- the rows
@@ -151,8 +151,8 @@ module _ (m : Machine) (actor : ℕ) (may : ℕ → Type 0) (fetched : StoreStat
   held_backed : (page : ℕ) (mode : Mode) → new ≡ fetched → mode_at m.latches actor page ≡ Some mode → IsBacked m actor new page mode
   held_backed page mode none holds =
       let used = fit.used actor page mode holds in
-      let there : IsSome (m.store.frame page) = subst (λ (o : Option Page). IsSome o) (sym used.1) refl in
-      record { from = inl holds; live = used.0; there = ap (λ (st : StoreState). st.frame page) none ∙ brings.stays page there ∙ used.1 }
+      let there : IsSome (in_memory m.store page) = subst (λ (o : Option Page). IsSome o) (sym used.1) refl in
+      record { from = inl holds; live = used.0; there = ap (λ (st : StoreState). in_memory st page) none ∙ brings.stays page there ∙ used.1 }
 
   own_mode : (activity : Activity) (page : ℕ) (mode : Mode) → m.activity actor ≡ activity → mode_among page (latches_held m.store activity) ≡ Some mode → mode_at m.latches actor page ≡ Some mode
   own_mode activity page mode is among = fit.exact actor page latches ∙ subst (λ (a : Activity). mode_among page (latches_held m.store a) ≡ Some mode) (sym is) among
@@ -161,12 +161,12 @@ module _ (m : Machine) (actor : ℕ) (may : ℕ → Type 0) (fetched : StoreStat
   same_first id mode = ap (λ (b : Bool). cond b (Some mode) None) (eq-eqb id id refl)
 
   -- the page that was latched
-  module _ (wanted : Wanted) (page : LivePage) (wants : wanted_by m actor ≡ Some wanted) (live : if_live (fetched.frame wanted.page) ≡ Some page) (level : page.level ≡ wanted.level) (none : new ≡ fetched) where
-    live_now : if_live (new.frame wanted.page) ≡ Some page
-    live_now = ap (λ (st : StoreState). if_live (st.frame wanted.page)) none ∙ live
+  module _ (wanted : Wanted) (page : LivePage) (wants : wanted_by m actor ≡ Some wanted) (live : if_live (in_memory fetched wanted.page) ≡ Some page) (level : page.level ≡ wanted.level) (none : new ≡ fetched) where
+    live_now : if_live (in_memory new wanted.page) ≡ Some page
+    live_now = ap (λ (st : StoreState). if_live (in_memory st wanted.page)) none ∙ live
 
-    there_now : new.frame wanted.page ≡ Some (Live page)
-    there_now = live_frame (new.frame wanted.page) page live_now
+    there_now : in_memory new wanted.page ≡ Some (Live page)
+    there_now = live_there (in_memory new wanted.page) page live_now
 
     at_hand : (mode : Mode) → wanted.mode ≡ mode → IsBacked m actor new wanted.page mode
     at_hand mode is = record {
@@ -230,7 +230,7 @@ module _ (m : Machine) (actor : ℕ) (may : ℕ → Type 0) (fetched : StoreStat
   backed_search line [] found deed (ordered, same, rising, is) = backed_deed deed _ is (rests m actor new _ refl refl)
   backed_search line (area ∷ boxes) found deed is = backed_deed deed _ is (rests m actor new _ refl refl)
 
-  backed_there : (wanted : Wanted) (page : LivePage) (line : Line) (held : Option ℕ) (command : Command) (rest : List Area) (found : List Record) (p : List ℕ) (deed : Deed) → wanted_by m actor ≡ Some wanted → if_live (fetched.frame wanted.page) ≡ Some page
+  backed_there : (wanted : Wanted) (page : LivePage) (line : Line) (held : Option ℕ) (command : Command) (rest : List Area) (found : List Record) (p : List ℕ) (deed : Deed) → wanted_by m actor ≡ Some wanted → if_live (in_memory fetched wanted.page) ≡ Some page
       → page.level ≡ wanted.level → m.activity actor ≡ at.SessionWalk line held rest found → line.command ≡ command → MayDo deed.op (length m.order) fetched new → DoesThere m' line command rest found wanted.page page p deed → Backed deed
   backed_there wanted page line held (Insert rec) rest found p deed wants live level is command done (inl row) = backed_deed deed _ row.deed_is (rests m actor new _ refl refl)
   backed_there wanted page line held (Insert rec) rest found p deed wants live level is command done (inr (inl row)) = backed_deed deed _ row.deed_is (rests m actor new _ refl refl)
@@ -242,7 +242,7 @@ module _ (m : Machine) (actor : ℕ) (may : ℕ → Type 0) (fetched : StoreStat
   backed_there wanted page line held (Lookup point) rest found p deed wants live level is command done (inr row) = backed_deed deed _ row.deed_is (rests m actor new _ refl refl)
   backed_there wanted page line held (Search area) rest found p deed wants live level is command done row = backed_search line _ _ deed row.goes
 
-  backed_walk : (wanted : Wanted) (page : LivePage) (line : Line) (held : Option ℕ) (rest : List Area) (found : List Record) (goal : Option (List ℕ)) (deed : Deed) → wanted_by m actor ≡ Some wanted → if_live (fetched.frame wanted.page) ≡ Some page
+  backed_walk : (wanted : Wanted) (page : LivePage) (line : Line) (held : Option ℕ) (rest : List Area) (found : List Record) (goal : Option (List ℕ)) (deed : Deed) → wanted_by m actor ≡ Some wanted → if_live (in_memory fetched wanted.page) ≡ Some page
       → page.level ≡ wanted.level → m.activity actor ≡ at.SessionWalk line held rest found → MayDo deed.op (length m.order) fetched new
       → MatchOption goal ⊥ (λ p. PassesOn page p m' (at.SessionWalk line (Some wanted.page) rest found) deed ⊎ DoesThere m' line line.command rest found wanted.page page p deed) → Backed deed
   backed_walk wanted page line held rest found None deed wants live level is done row = absurd row
@@ -280,18 +280,18 @@ module _ (m : Machine) (actor : ℕ) (may : ℕ → Type 0) (fetched : StoreStat
 
     changed_are : (change_here fetched split).pages ≡ changed
     changed_are =
-        ap (λ (o : Option LivePage). (change_of split fetched.meta o (framed_read fetched split 1) (framed_read fetched split 2)).pages) row.live
+        ap (λ (o : Option LivePage). (change_of split fetched.meta o (read_here fetched split 1) (read_here fetched split 2)).pages) row.live
         ∙ ap (λ (o : Option (Tree × Area)). split_pages held row.leaves.fresh row.leaves.path row.leaves.cuts row.page o) row.leaves.there
 
-    frame_is : (id : ℕ) → new.frame id ≡ set_pages changed fetched.frame id
-    frame_is id = does.commits.frame id ∙ ap (λ (pages : List (ℕ × Page)). set_pages pages fetched.frame id) changed_are
+    pages_are : (id : ℕ) → in_memory new id ≡ set_pages changed (in_memory fetched) id
+    pages_are id = does.commits.pages id ∙ ap (λ (pages : List (ℕ × Page)). set_pages pages (in_memory fetched) id) changed_are
 
     backed_split : Backed deed
     backed_split =
-        let used = split_in_use held row.leaves.fresh (source_page row.leaves.fresh row.leaves.path row.leaves.cuts row.page row.leaves.part) (fresh_page row.leaves.cuts row.page row.leaves.part) fetched.frame in
+        let used = split_in_use held row.leaves.fresh (source_page row.leaves.fresh row.leaves.path row.leaves.cuts row.page row.leaves.part) (fresh_page row.leaves.cuts row.page row.leaves.part) (in_memory fetched) in
         backed_deed deed _ row.deed_is (stands m actor new _ refl (two_backed m actor new held row.leaves.fresh
-        (record { from = inl (own_mode (at.SessionSplit line held) held Exclusive is (same_first held Exclusive)); live = used.0.0; there = frame_is held ∙ used.0.1 })
-        (record { from = inr (inr (made_was_free m may fetched row.leaves.fresh row.leaves.free_after inside brings row.leaves.next)); live = used.1.0; there = frame_is row.leaves.fresh ∙ used.1.1 })))
+        (record { from = inl (own_mode (at.SessionSplit line held) held Exclusive is (same_first held Exclusive)); live = used.0.0; there = pages_are held ∙ used.0.1 })
+        (record { from = inr (inr (made_was_free m may fetched row.leaves.fresh row.leaves.free_after inside brings row.leaves.next)); live = used.1.0; there = pages_are row.leaves.fresh ∙ used.1.1 })))
 
   -- ---- every row
 
@@ -317,7 +317,7 @@ module _ (m : Machine) (actor : ℕ) (may : ℕ → Type 0) (fetched : StoreStat
   backed_alone (at.ConsolidatorDecide job parent keep gone) deed is done row = absurd row
   backed_alone at.Flusher deed is done row = absurd row
 
-  backed_at : (activity : Activity) (wanted : Wanted) (page : LivePage) (deed : Deed) → m.activity actor ≡ activity → wanted_by m actor ≡ Some wanted → if_live (fetched.frame wanted.page) ≡ Some page → page.level ≡ wanted.level → MayDo deed.op (length m.order) fetched new
+  backed_at : (activity : Activity) (wanted : Wanted) (page : LivePage) (deed : Deed) → m.activity actor ≡ activity → wanted_by m actor ≡ Some wanted → if_live (in_memory fetched wanted.page) ≡ Some page → page.level ≡ wanted.level → MayDo deed.op (length m.order) fetched new
       → RowAt activity m' wanted.page page deed → Backed deed
   backed_at (at.SessionWalk line held rest found) wanted page deed is wants live level done row = backed_walk wanted page line held rest found (goal_of line.command rest) deed wants live level is done row
   backed_at (at.PosterGrow job) wanted page deed is wants live level done (inl row) = backed_deed deed _ row.deed_is (rests m actor new _ refl refl)

@@ -13,7 +13,7 @@ use Rattle.hb_activity.specs.declared.activities.Activity.TheVariants as at
 use Rattle.hb_activity.specs.Holding.{walk_latch}
 use Rattle.hb_activity.specs.Walks.{job_mode, session_mode, walk_held}
 use Rattle.hb_ops.specs.Files.{if_live}
-use Rattle.hb_store.specs.Keeps.{StoreState}
+use Rattle.hb_store.specs.States.{StoreState, in_memory}
 use Rattle.hb_core.specs.declared.outcomes.DropWhy.{DropWhy}
 use Rattle.hb_core.specs.declared.outcomes.Outcome.{Outcome}
 use Rattle.hb_core.specs.declared.outcomes.Outcome.TheVariants as outcomes
@@ -64,7 +64,7 @@ one_latched : (held : ℕ) (o : Option LivePage) (mode : ℕ → Mode) (page : L
 one_latched held o mode page is = subst (λ (o : Option LivePage). (one : Mode) × (mode_among held (walk_latch (Some held) o mode) ≡ Some one)) (sym is)
     (mode page.level, ap (λ (b : Bool). cond b (Some (mode page.level)) None) (eq-eqb held held refl))
 
-walk_latched : (activity : Activity) (st : StoreState) (held : ℕ) (page : LivePage) → walk_held activity ≡ Some held → live_here st held ≡ Some page → Latched held (latches_held st activity)
+pub walk_latched : (activity : Activity) (st : StoreState) (held : ℕ) (page : LivePage) → walk_held activity ≡ Some held → live_here st held ≡ Some page → Latched held (latches_held st activity)
 walk_latched (at.SessionWalk line None rest found) st held page is live = cc
 walk_latched (at.SessionWalk line (Some id) rest found) st held page is live =
     let same : id ≡ held = cc in
@@ -105,18 +105,18 @@ if_that o P mode all is = subst (λ (o : Option Mode). IfSome o P) is all
 
 module _ (mutual_modes : (mode other : Mode) → goes_beside mode other ≡ goes_beside other mode) (m : Machine) (actor : ℕ) (outcome : Outcome) (new : Machine) (latches : MayLatch actor) (fit : LatchesFit m) (inside : HoldsPagesOfFile m) (step : StepsTo m actor outcome new) where
   -- another actor's page stays
-  others_page : (other page : ℕ) (mode : Mode) → other ≢ actor → mode_at m.latches other page ≡ Some mode → (live : LivePage) × (new.store.frame page ≡ Some (Live live))
+  others_page : (other page : ℕ) (mode : Mode) → other ≢ actor → mode_at m.latches other page ≡ Some mode → (live : LivePage) × (in_memory new.store page ≡ Some (Live live))
   others_page other page mode another holds =
       let used = fit.used other page mode holds in
       (used.0, held_pages_stay m actor outcome new latches fit inside step other page mode used.0 another holds used.1)
 
   -- and so what its activity says of its latches
-  walks_latch : (other held : ℕ) (live : LivePage) → MayLatch other → walk_held (m.activity other) ≡ Some held → m.store.frame held ≡ Some (Live live) → (mode : Mode) × (mode_at m.latches other held ≡ Some mode)
+  walks_latch : (other held : ℕ) (live : LivePage) → MayLatch other → walk_held (m.activity other) ≡ Some held → in_memory m.store held ≡ Some (Live live) → (mode : Mode) × (mode_at m.latches other held ≡ Some mode)
   walks_latch other held live may walks there =
       let latched = walk_latched (m.activity other) m.store held live walks (ap if_live there) in
       (latched.0, fit.exact other held may ∙ latched.1)
 
-  others_walk : (other held : ℕ) → other ≢ actor → MayLatch other → walk_held (m.activity other) ≡ Some held → (live : LivePage) × (m.store.frame held ≡ Some (Live live)) × (new.store.frame held ≡ Some (Live live))
+  others_walk : (other held : ℕ) → other ≢ actor → MayLatch other → walk_held (m.activity other) ≡ Some held → (live : LivePage) × (in_memory m.store held ≡ Some (Live live)) × (in_memory new.store held ≡ Some (Live live))
   others_walk other held another may walks =
       let old = fit.walking other held may walks in
       let latch = walks_latch other held old.0 may walks old.1 in

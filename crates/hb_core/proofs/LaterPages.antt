@@ -4,6 +4,7 @@ use Rattle.std.specs.Option.{option_and_then}
 use Rattle.std.proofs.lemmas.List.Elements.{All-head, All-tail}
 use Rattle.hb_ops.specs.Sound.{IsSound}
 use Rattle.hb_store.specs.Keeps.{last_of}
+use Rattle.hb_store.specs.States.{in_memory}
 use Rattle.hb_frag.specs.declared.leaves.Leaf.{Leaf}
 use Rattle.hb_frag.specs.declared.leaves.Leaf.TheVariants.{Records, Child, Sibling}
 use Rattle.hb_frag.specs.declared.pages.LivePage.{LivePage}
@@ -23,10 +24,10 @@ use Rattle.hb_core.specs.Machines.{Files, Machine, current_file, live_here}
 use Rattle.hb_core.specs.Asking.{looked_live}
 use Rattle.hb_core.specs.Keeps.{HasSoundFile}
 use Rattle.hb_core.specs.Laws.{WalksGoFurther}
-use Rattle.hb_core.proofs.Backing.{live_frame}
+use Rattle.hb_core.proofs.Backing.{live_there}
 
 -- the last file is sound
-last_sound : (s : FileState) (later : List FileState) → IsSound s → All IsSound later → IsSound (last_of s later)
+pub last_sound : (s : FileState) (later : List FileState) → IsSound s → All IsSound later → IsSound (last_of s later)
 last_sound s [] sound all = sound
 last_sound s (next ∷ later) sound all = last_sound next later (All-head IsSound next later all) (All-tail IsSound next later all)
 
@@ -62,7 +63,7 @@ walk_leads s p held page meta mode wanted looked is live wants =
 
 module _ (further : StepsLeadFurther) (m : Machine) (files : Files) (held : ℕ) (page : LivePage) (p : List ℕ) (wanted : Wanted) (keeps : HasSoundFile m files) (live : live_here m.store held ≡ Some page) where
   in_file : live_page (current_file files) held ≡ Some page
-  in_file = ap if_live (keeps.shown held (Live page) (live_frame (m.store.frame held) page live))
+  in_file = ap if_live (keeps.shown held (Live page) (live_there (in_memory m.store held) page live))
 
   leads : (activity : Activity) → walk_held activity ≡ Some held → walk_point activity ≡ Some p → wanted_of activity m.store.meta (looked_live m.store activity) ≡ Some wanted → LeadsOn (current_file files) p held wanted.page
   leads (at.SessionWalk line None rest found) holds goal wants = cc

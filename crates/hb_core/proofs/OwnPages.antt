@@ -12,15 +12,15 @@ use Rattle.hb_latch.specs.Tables.{IsGrantable, MayLatch, mode_at}
 use Rattle.hb_activity.specs.declared.wanting.Wanted.{Wanted}
 use Rattle.hb_activity.specs.declared.activities.Activity.{Activity}
 use Rattle.hb_activity.specs.declared.activities.Activity.TheVariants as at
-use Rattle.hb_store.specs.Calls.{change_here, framed_read}
-use Rattle.hb_store.specs.Keeps.{StoreState}
+use Rattle.hb_store.specs.Calls.{change_here, read_here}
+use Rattle.hb_store.specs.Replay.{set_pages}
+use Rattle.hb_store.specs.States.{StoreState, in_memory}
 use Rattle.hb_core.specs.declared.outcomes.DropWhy.{DropWhy}
 use Rattle.hb_core.specs.declared.outcomes.Outcome.{Outcome}
 use Rattle.hb_core.specs.declared.outcomes.Outcome.TheVariants as outcomes
 use Rattle.hb_core.specs.Machines.{Machine}
 use Rattle.hb_core.specs.Asking.{wanted_by}
 use Rattle.hb_core.specs.Fetching.{Brings}
-use Rattle.hb_store.specs.Replay.{set_pages}
 use Rattle.hb_core.specs.Deeds.{Deed}
 use Rattle.hb_core.specs.Performing.{MayDo, Performs}
 use Rattle.hb_core.specs.Forcing.{ForcesFirst, StaysSo}
@@ -33,7 +33,7 @@ use Rattle.hb_core.proofs.Targets.{IsNumber, numbers_are_targets, set_elsewhere}
 use Rattle.hb_core.proofs.OwnedOps.{IsFreeFor, OwnsTargets, allowed_by, owned_row}
 
 -- what a line or a job that can't go on does to the file
-gives_up_nothing : (m : Machine) (why : DropWhy) (activity : Activity) → (gives_up m why activity).op ≡ None
+pub gives_up_nothing : (m : Machine) (why : DropWhy) (activity : Activity) → (gives_up m why activity).op ≡ None
 gives_up_nothing m why at.SessionIdle = refl
 gives_up_nothing m why (at.SessionWalk line held rest found) = refl
 gives_up_nothing m why (at.SessionSplit line held) = refl
@@ -54,7 +54,7 @@ gives_up_nothing m why (at.ConsolidatorKeep job parent keep gone) = refl
 gives_up_nothing m why (at.ConsolidatorDecide job parent keep gone) = refl
 gives_up_nothing m why at.Flusher = refl
 
-runs_out_nothing : (m : Machine) (activity : Activity) → (runs_out m activity).op ≡ None
+pub runs_out_nothing : (m : Machine) (activity : Activity) → (runs_out m activity).op ≡ None
 runs_out_nothing m at.SessionIdle = refl
 runs_out_nothing m (at.SessionWalk line held rest found) = refl
 runs_out_nothing m (at.SessionSplit line held) = refl
@@ -84,20 +84,20 @@ module _ (m : Machine) (actor : ℕ) (latches : MayLatch actor) (fit : LatchesFi
 
   -- the page stays where the memory stays
   same_memory : new.store ≡ m.store → Goal
-  same_memory is = inl (ap (λ (st : StoreState). st.frame id) is ∙ used)
+  same_memory is = inl (ap (λ (st : StoreState). in_memory st id) is ∙ used)
 
   -- a fetch leaves it
-  fetched_stays : (may : ℕ → Type 0) (fetched : StoreState) → Brings m.files may m.store fetched → fetched.frame id ≡ Some (Live page)
-  fetched_stays may fetched brings = brings.stays id (is_there (m.store.frame id) (Live page) used) ∙ used
+  fetched_stays : (may : ℕ → Type 0) (fetched : StoreState) → Brings m.files may m.store fetched → in_memory fetched id ≡ Some (Live page)
+  fetched_stays may fetched brings = brings.stays id (is_there (in_memory m.store id) (Live page) used) ∙ used
 
   -- and so does what is done on other pages
-  done : (op : Option Op) (mark : ℕ) (fetched : StoreState) → fetched.frame id ≡ Some (Live page) → OwnsTargets m actor op → MayDo op mark fetched new.store → Goal
-  done None mark fetched there owned does = inl (ap (λ (st : StoreState). st.frame id) does ∙ there)
-  done (Some op) mark fetched there owned does = by (set_elsewhere (change_here fetched op).pages fetched.frame id)
+  done : (op : Option Op) (mark : ℕ) (fetched : StoreState) → in_memory fetched id ≡ Some (Live page) → OwnsTargets m actor op → MayDo op mark fetched new.store → Goal
+  done None mark fetched there owned does = inl (ap (λ (st : StoreState). in_memory st id) does ∙ there)
+  done (Some op) mark fetched there owned does = by (set_elsewhere (change_here fetched op).pages (in_memory fetched) id)
     where
-      by : (set_pages (change_here fetched op).pages fetched.frame id ≡ fetched.frame id) ⊎ IsNumber id (change_here fetched op).pages → Goal
-      by (inl same) = inl (does.commits.frame id ∙ same ∙ there)
-      by (inr number) = free (owned id (numbers_are_targets op fetched.meta (framed_read fetched op 0) (framed_read fetched op 1) (framed_read fetched op 2) id number))
+      by : (set_pages (change_here fetched op).pages (in_memory fetched) id ≡ in_memory fetched id) ⊎ IsNumber id (change_here fetched op).pages → Goal
+      by (inl same) = inl (does.commits.pages id ∙ same ∙ there)
+      by (inr number) = free (owned id (numbers_are_targets op fetched.meta (read_here fetched op 0) (read_here fetched op 1) (read_here fetched op 2) id number))
         where
           free : IsFreeFor m actor id → Goal
           free (inl alone) = inr alone
@@ -114,11 +114,11 @@ module _ (m : Machine) (actor : ℕ) (latches : MayLatch actor) (fit : LatchesFi
   only_moved deed outcome none performs = done deed.op _ m.store used (owns_nothing deed.op none) performs.store
 
   forced : (said outcome : Outcome) → ForcesFirst m said outcome new → Goal
-  forced said outcome (inl (says, is)) = inl (ap (λ (n : Machine). n.store.frame id) is ∙ used)
-  forced said outcome (inr badly) = inl (ap (λ (n : Machine). n.store.frame id) badly.stops ∙ used)
+  forced said outcome (inl (says, is)) = inl (ap (λ (n : Machine). in_memory n.store id) is ∙ used)
+  forced said outcome (inr badly) = inl (ap (λ (n : Machine). in_memory n.store id) badly.stops ∙ used)
 
   stays : (said outcome : Outcome) → StaysSo m said outcome new → Goal
-  stays said outcome (says, is) = inl (ap (λ (n : Machine). n.store.frame id) is ∙ used)
+  stays said outcome (says, is) = inl (ap (λ (n : Machine). in_memory n.store id) is ∙ used)
 
   made_ready : (outcome : Outcome) → GetsReady m actor outcome new → Goal
   made_ready outcome (inl (waits, force)) = forced outcomes.Helped outcome force
@@ -133,7 +133,7 @@ module _ (m : Machine) (actor : ℕ) (latches : MayLatch actor) (fit : LatchesFi
       acts.performs
   worked outcome (inr (inr (free, ready, inr (inl gives)))) =
       performed _ gives.fetched (gives_up m gives.why (m.activity actor)) outcome gives.brings (owns_nothing _ (gives_up_nothing m gives.why (m.activity actor))) gives.performs
-  worked outcome (inr (inr (free, ready, inr (inr meets)))) = inl (ap (λ (n : Machine). n.store.frame id) meets.stops ∙ fetched_stays _ meets.fetched meets.brings)
+  worked outcome (inr (inr (free, ready, inr (inr meets)))) = inl (ap (λ (n : Machine). in_memory n.store id) meets.stops ∙ fetched_stays _ meets.fetched meets.brings)
 
   moved : (outcome : Outcome) (deed : Deed) → IsOutright deed → Performs m m.store actor deed outcome new → Goal
   moved outcome deed rests performs = only_moved deed outcome rests.op performs

@@ -26,9 +26,9 @@ use Rattle.hb_activity.specs.declared.activities.Activity.{Activity}
 use Rattle.hb_activity.specs.declared.activities.Activity.TheVariants as at
 use Rattle.hb_activity.specs.Walks.{goal_of, may_change, session_mode}
 use Rattle.hb_activity.specs.Wanting.{in_mode, walk_next, wanted_of, wanted_page}
-use Rattle.hb_store.specs.Calls.{IsAllowedHere, framed_read}
-use Rattle.hb_store.specs.Keeps.{StoreState}
+use Rattle.hb_store.specs.Calls.{IsAllowedHere, read_here}
 use Rattle.hb_store.specs.NextPage.{IsNext}
+use Rattle.hb_store.specs.States.{StoreState, in_memory}
 use Rattle.hb_core.specs.Machines.{Machine, with_disk}
 use Rattle.hb_core.specs.Asking.{HasWayFree, looked_live, wanted_by}
 use Rattle.hb_core.specs.Fetching.{Brings}
@@ -69,8 +69,8 @@ made_was_free m may fetched fresh free_after inside brings next = elim (cases_Bo
       omega (arith, behind.0, within.1, meta)
   | inr some ↦ λ page used.
       let head = next.from_chain (eqb-false fetched.meta.free 0 some) in
-      let there : IsSome (m.store.frame fresh) = subst (λ (o : Option Page). IsSome o) (sym used) refl in
-      let same : fetched.frame fresh ≡ m.store.frame fresh = brings.stays fresh there in
+      let there : IsSome (in_memory m.store fresh) = subst (λ (o : Option Page). IsSome o) (sym used) refl in
+      let same : in_memory fetched fresh ≡ in_memory m.store fresh = brings.stays fresh there in
       free_is_not_live free_after page (sym head.1 ∙ same ∙ used)
 ]
   where
@@ -117,15 +117,15 @@ walk_takes_alone m actor line held rest found wanted is wants free level may =
 
 -- ---- what is allowed on the page that was latched
 
-put_level : (st : StoreState) (id : ℕ) (rec : Record) (page : LivePage) → if_live (st.frame id) ≡ Some page → IsAllowedHere st (ops.Put id rec) → page.level ≡ 0
+put_level : (st : StoreState) (id : ℕ) (rec : Record) (page : LivePage) → if_live (in_memory st id) ≡ Some page → IsAllowedHere st (ops.Put id rec) → page.level ≡ 0
 put_level st id rec page live allowed =
     let op = ops.Put id rec in
-    (subst (λ (o : Option LivePage). IsAllowedOn op st.meta o (framed_read st op 1) (framed_read st op 2)) live allowed).level
+    (subst (λ (o : Option LivePage). IsAllowedOn op st.meta o (read_here st op 1) (read_here st op 2)) live allowed).level
 
-del_level : (st : StoreState) (id : ℕ) (point : List ℕ) (page : LivePage) → if_live (st.frame id) ≡ Some page → IsAllowedHere st (ops.Del id point) → page.level ≡ 0
+del_level : (st : StoreState) (id : ℕ) (point : List ℕ) (page : LivePage) → if_live (in_memory st id) ≡ Some page → IsAllowedHere st (ops.Del id point) → page.level ≡ 0
 del_level st id point page live allowed =
     let op = ops.Del id point in
-    (subst (λ (o : Option LivePage). IsAllowedOn op st.meta o (framed_read st op 1) (framed_read st op 2)) live allowed).level
+    (subst (λ (o : Option LivePage). IsAllowedOn op st.meta o (read_here st op 1) (read_here st op 2)) live allowed).level
 
 -- what is done is allowed
 abbrev pub Allowed : StoreState → Option Op → Type 0
@@ -187,7 +187,7 @@ module _ (m : Machine) (actor : ℕ) (may : ℕ → Type 0) (fetched : StoreStat
   owned_search line [] found deed (ordered, same, rising, is) = owned_deed m actor deed _ is tt
   owned_search line (area ∷ rest) found deed is = owned_deed m actor deed _ is tt
 
-  owned_there : (line : Line) (command : Command) (rest : List Area) (found : List Record) (id : ℕ) (page : LivePage) (p : List ℕ) (deed : Deed) → if_live (fetched.frame id) ≡ Some page → Allowed fetched deed.op
+  owned_there : (line : Line) (command : Command) (rest : List Area) (found : List Record) (id : ℕ) (page : LivePage) (p : List ℕ) (deed : Deed) → if_live (in_memory fetched id) ≡ Some page → Allowed fetched deed.op
       → (page.level ≡ 0 → may_change command ≡ true → IsFreeFor m actor id) → DoesThere m' line command rest found id page p deed → OwnsTargets m actor deed.op
   owned_there line (Insert rec) rest found id page p deed live allowed alone (inl row) = owned_deed m actor deed _ row.deed_is tt
   owned_there line (Insert rec) rest found id page p deed live allowed alone (inr (inl row)) =
@@ -203,7 +203,7 @@ module _ (m : Machine) (actor : ℕ) (may : ℕ → Type 0) (fetched : StoreStat
   owned_there line (Search area) rest found id page p deed live allowed alone row = owned_search line _ _ deed row.goes
 
   owned_walk : (line : Line) (held : Option ℕ) (rest : List Area) (found : List Record) (wanted : Wanted) (page : LivePage) (deed : Deed) (goal : Option (List ℕ)) → m.activity actor ≡ at.SessionWalk line held rest found
-      → wanted_by m actor ≡ Some wanted → if_live (fetched.frame wanted.page) ≡ Some page → page.level ≡ wanted.level → Allowed fetched deed.op
+      → wanted_by m actor ≡ Some wanted → if_live (in_memory fetched wanted.page) ≡ Some page → page.level ≡ wanted.level → Allowed fetched deed.op
       → MatchOption goal ⊥ (λ p. PassesOn page p m' (at.SessionWalk line (Some wanted.page) rest found) deed ⊎ DoesThere m' line line.command rest found wanted.page page p deed) → OwnsTargets m actor deed.op
   owned_walk line held rest found wanted page deed None is wants live level allowed row = absurd row
   owned_walk line held rest found wanted page deed (Some p) is wants live level allowed (inl row) = owned_deed m actor deed _ row.deed_is tt
@@ -230,7 +230,7 @@ module _ (m : Machine) (actor : ℕ) (may : ℕ → Type 0) (fetched : StoreStat
   owned_nothing : (deed : Deed) → deed.op ≡ None → OwnsTargets m actor deed.op
   owned_nothing deed is = subst (OwnsTargets m actor) (sym is) tt
 
-  owned_at : (activity : Activity) (wanted : Wanted) (page : LivePage) (deed : Deed) → m.activity actor ≡ activity → wanted_by m actor ≡ Some wanted → if_live (fetched.frame wanted.page) ≡ Some page → page.level ≡ wanted.level → Allowed fetched deed.op
+  owned_at : (activity : Activity) (wanted : Wanted) (page : LivePage) (deed : Deed) → m.activity actor ≡ activity → wanted_by m actor ≡ Some wanted → if_live (in_memory fetched wanted.page) ≡ Some page → page.level ≡ wanted.level → Allowed fetched deed.op
       → RowAt activity m' wanted.page page deed → OwnsTargets m actor deed.op
   owned_at (at.SessionWalk line held rest found) wanted page deed is wants live level allowed row = owned_walk line held rest found wanted page deed (goal_of line.command rest) is wants live level allowed row
   owned_at (at.PosterGrow job) wanted page deed is wants live level allowed (inl row) =

@@ -21,15 +21,15 @@ IsNumber id [] = ⊥
 IsNumber id (one ∷ rest) = (id ≡ one.0) ⊎ IsNumber id rest
 
 -- a page that is in none of the places that are set stays
-pub set_elsewhere : (pages : List (ℕ × Page)) (frame : ℕ → Option Page) (id : ℕ) → (set_pages pages frame id ≡ frame id) ⊎ IsNumber id pages
-set_elsewhere [] frame id = inl refl
-set_elsewhere (one ∷ rest) frame id = by (set_elsewhere rest (λ q. cond (q == one.0) (Some one.1) (frame q)) id)
+pub set_elsewhere : (pages : List (ℕ × Page)) (page_in : ℕ → Option Page) (id : ℕ) → (set_pages pages page_in id ≡ page_in id) ⊎ IsNumber id pages
+set_elsewhere [] page_in id = inl refl
+set_elsewhere (one ∷ rest) page_in id = by (set_elsewhere rest (λ q. cond (q == one.0) (Some one.1) (page_in q)) id)
   where
-    by : (set_pages rest (λ q. cond (q == one.0) (Some one.1) (frame q)) id ≡ cond (id == one.0) (Some one.1) (frame id)) ⊎ IsNumber id rest → (set_pages (one ∷ rest) frame id ≡ frame id) ⊎ IsNumber id (one ∷ rest)
+    by : (set_pages rest (λ q. cond (q == one.0) (Some one.1) (page_in q)) id ≡ cond (id == one.0) (Some one.1) (page_in id)) ⊎ IsNumber id rest → (set_pages (one ∷ rest) page_in id ≡ page_in id) ⊎ IsNumber id (one ∷ rest)
     by (inr later) = inr (inr later)
     by (inl same) = elim (cases_Bool (id == one.0)) [
       | inl here ↦ inr (inl (eqb-true id one.0 here))
-      | inr off ↦ inl (same ∙ ap (λ (b : Bool). cond b (Some one.1) (frame id)) off)
+      | inr off ↦ inl (same ∙ ap (λ (b : Bool). cond b (Some one.1) (page_in id)) off)
     ]
 
 -- the pages that an operation changes or makes

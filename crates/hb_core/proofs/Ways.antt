@@ -5,7 +5,7 @@ use Rattle.hb_core.specs.Fetching.{Brings}
 use Rattle.hb_set.specs.Order.{Entry}
 use Rattle.hb_latch.specs.Tables.{LatchTable, mode_at}
 use Rattle.hb_activity.specs.declared.activities.Activity.{Activity}
-use Rattle.hb_store.specs.Keeps.{StoreState}
+use Rattle.hb_store.specs.States.{StoreState, in_memory}
 use Rattle.hb_core.specs.declared.outcomes.Outcome.{Outcome}
 use Rattle.hb_core.specs.declared.outcomes.Outcome.TheVariants as outcomes
 use Rattle.hb_core.specs.Machines.{Machine, if_some}
@@ -26,7 +26,7 @@ pub record KeepsAllButDisk (m new : Machine) : Type 0 where
   pub latches : new.latches ≡ m.latches
   pub jobs : new.jobs ≡ m.jobs
   pub order : new.order ≡ m.order
-  pub memory : (id : ℕ) (page : Page) → m.store.frame id ≡ Some page → new.store.frame id ≡ Some page
+  pub memory : (id : ℕ) (page : Page) → in_memory m.store id ≡ Some page → in_memory new.store id ≡ Some page
 
 keeps_by : (m other new : Machine) → new ≡ other → KeepsAllButDisk m other → KeepsAllButDisk m new
 keeps_by m other new is keeps = subst (KeepsAllButDisk m) (sym is) keeps
@@ -35,7 +35,7 @@ abbrev pub HasWay : Machine → ℕ → Outcome → Machine → Type 0
 HasWay m actor outcome new = KeepsAllButDisk m new ⊎ ((fetched : StoreState) × (deed : Deed) × Performs m fetched actor deed outcome new)
 
 module _ (m : Machine) (actor : ℕ) (outcome : Outcome) (new : Machine) where
-  brought : (may : ℕ → Type 0) (fetched : StoreState) → Brings m.files may m.store fetched → (id : ℕ) (page : Page) → m.store.frame id ≡ Some page → fetched.frame id ≡ Some page
+  brought : (may : ℕ → Type 0) (fetched : StoreState) → Brings m.files may m.store fetched → (id : ℕ) (page : Page) → in_memory m.store id ≡ Some page → in_memory fetched id ≡ Some page
   brought may fetched brings id page there = brings.stays id (subst (λ (o : Option Page). IsSome o) (sym there) refl) ∙ there
 
   pub stays_so : (said : Outcome) → StaysSo m said outcome new → KeepsAllButDisk m new

@@ -10,7 +10,7 @@ use Rattle.hb_activity.specs.declared.jobs.Job.{Job}
 use Rattle.hb_activity.specs.declared.wanting.Wanted.{Wanted}
 use Rattle.hb_activity.specs.declared.activities.Activity.{Activity}
 use Rattle.hb_activity.specs.declared.activities.Activity.TheVariants as at
-use Rattle.hb_store.specs.Keeps.{StoreState}
+use Rattle.hb_store.specs.States.{StoreState, in_memory}
 use Rattle.hb_store.specs.declared.stops.StopWhy.TheVariants.{Damaged}
 use Rattle.hb_store.specs.declared.stops.Why.{Why}
 use Rattle.hb_core.specs.declared.outcomes.DropWhy.{DropWhy}
@@ -57,7 +57,7 @@ MayNeed m actor fetched id = IsWantedPage (wanted_by m actor) id ⊎ (NeedsNumbe
 
 -- one of them isn't in memory
 abbrev pub LacksNeeded : Machine → ℕ → StoreState → Type 0
-LacksNeeded m actor fetched = (id : ℕ) × MayNeed m actor fetched id × (fetched.frame id ≡ None)
+LacksNeeded m actor fetched = (id : ℕ) × MayNeed m actor fetched id × (in_memory fetched id ≡ None)
 
 -- Or a page couldn't be read, or memory was refused: the line or the job is given up. A promotion wants neither.
 abbrev pub MayGiveUp : Activity → Type 0

@@ -14,7 +14,7 @@ use Rattle.hb_activity.specs.declared.activities.Activity.{Activity}
 use Rattle.hb_activity.specs.declared.activities.Activity.TheVariants.{PosterChild, PosterPromote, PosterAgain, ConsolidatorScan, ConsolidatorTry, ConsolidatorPromote, ConsolidatorKeep, ConsolidatorDecide}
 use Rattle.hb_activity.specs.Walks.{walk_point, walk_held}
 use Rattle.hb_activity.specs.Wanting.{wanted_of}
-use Rattle.hb_store.specs.Keeps.{StoreState}
+use Rattle.hb_store.specs.States.{StoreState}
 use Rattle.hb_store.specs.declared.stops.Why.{Why}
 use Rattle.hb_store.specs.declared.stops.Why.TheVariants.{Rule, Level, Extent}
 use Rattle.hb_core.specs.Machines.{Machine, live_here}

@@ -5,8 +5,8 @@ use Rattle.hb_frag.specs.declared.pages.Page.{Page}
 use Rattle.hb_frag.specs.declared.pages.Page.TheVariants.{Live}
 use Rattle.hb_ops.specs.Files.{page_of}
 use Rattle.hb_activity.specs.declared.wanting.Wanted.{Wanted}
-use Rattle.hb_store.specs.Calls.{KeepsAllButFrames}
-use Rattle.hb_store.specs.Keeps.{IsGoodPage, StoreState}
+use Rattle.hb_store.specs.Calls.{KeepsAllButPages}
+use Rattle.hb_store.specs.States.{IsGoodPage, StoreState, in_memory}
 use Rattle.hb_store.specs.Stops.{IsNoPage}
 use Rattle.hb_store.specs.declared.stops.Why.{Why}
 use Rattle.hb_store.specs.declared.stops.Why.TheVariants.{Rule, Level, Extent}
@@ -16,11 +16,11 @@ use Rattle.hb_core.specs.Asking.{AskedBox, IsNotAsked}
 -- Pages came into memory, of these numbers at most: what was there stays, and what came is of the file and keeps the rules
 -- that speak of a page alone; where the disk tells, it is what the file has there. Else nothing changed.
 pub record Brings (files : Option Files) (may : ℕ → Type 0) (old new : StoreState) : Type 0 where
-  pub rest : KeepsAllButFrames old new
-  pub stays : (id : ℕ) → IsSome (old.frame id) → new.frame id ≡ old.frame id
-  pub only : (id : ℕ) → old.frame id ≡ None → IsSome (new.frame id) → may id
-  pub good : (id : ℕ) (page : Page) → old.frame id ≡ None → new.frame id ≡ Some page → (1 ≤ id) × (id ≤ old.meta.high) × IsGoodPage old.meta page
-  pub told : (id : ℕ) (page : Page) → old.frame id ≡ None → new.frame id ≡ Some page → IfSome files (λ files. page_of (current_file files) id ≡ Some page)
+  pub rest : KeepsAllButPages old new
+  pub stays : (id : ℕ) → IsSome (in_memory old id) → in_memory new id ≡ in_memory old id
+  pub only : (id : ℕ) → in_memory old id ≡ None → IsSome (in_memory new id) → may id
+  pub good : (id : ℕ) (page : Page) → in_memory old id ≡ None → in_memory new id ≡ Some page → (1 ≤ id) × (id ≤ old.meta.high) × IsGoodPage old.meta page
+  pub told : (id : ℕ) (page : Page) → in_memory old id ≡ None → in_memory new id ≡ Some page → IfSome files (λ files. page_of (current_file files) id ≡ Some page)
 
 -- What a step may need: the page that it wants, and, where it takes a number for a page that it makes, the first page of
 -- the free chain.
@@ -34,7 +34,7 @@ IsFreeHead st id = (id ≡ st.meta.free) × (id ≢ 0)
 -- The wanted page is damaged: no page of the file has its number; or what the disk read as is no page or breaks a rule by
 -- itself, which only a disk does that doesn't tell; or it isn't the page that was asked for.
 abbrev pub IsBadRead : Option Files → StoreState → ℕ → Why → Type 0
-IsBadRead files st id (Rule rule) = (files ≡ None) × (st.frame id ≡ None) × (rule ≢ 1)
+IsBadRead files st id (Rule rule) = (files ≡ None) × (in_memory st id ≡ None) × (rule ≢ 1)
 IsBadRead files st id (Level level found) = ⊥
 IsBadRead files st id (Extent area found) = ⊥
 
@@ -42,7 +42,7 @@ abbrev pub IsDamaged : Option Files → StoreState → Wanted → AskedBox → W
 IsDamaged files st wanted asked why =
     (IsNoPage st.meta wanted.page × (why ≡ Rule 1))
     ⊎ ((¬ (IsNoPage st.meta wanted.page)) × IsBadRead files st wanted.page why)
-    ⊎ ((¬ (IsNoPage st.meta wanted.page)) × (page : Page) × (st.frame wanted.page ≡ Some page) × IsNotAsked wanted asked page why)
+    ⊎ ((¬ (IsNoPage st.meta wanted.page)) × (page : Page) × (in_memory st wanted.page ≡ Some page) × IsNotAsked wanted asked page why)
 
 -- The first page of the free chain is damaged: no page of the file has its number, or it was read so, or it is in use. So
 -- is page 0, where the chain has none, pages are left, and no number is.
@@ -50,5 +50,5 @@ abbrev pub IsBadHead : Option Files → StoreState → ℕ → Why → Type 0
 IsBadHead files st id why =
     ((st.meta.free ≢ 0) × (id ≡ st.meta.free) × IsNoPage st.meta id × (why ≡ Rule 1))
     ⊎ ((st.meta.free ≢ 0) × (id ≡ st.meta.free) × (¬ (IsNoPage st.meta id)) × IsBadRead files st id why)
-    ⊎ ((st.meta.free ≢ 0) × (id ≡ st.meta.free) × (page : LivePage) × (st.frame id ≡ Some (Live page)) × (why ≡ Rule 2))
+    ⊎ ((st.meta.free ≢ 0) × (id ≡ st.meta.free) × (page : LivePage) × (in_memory st id ≡ Some (Live page)) × (why ≡ Rule 2))
     ⊎ ((st.meta.free ≡ 0) × (st.meta.high ≡ st.meta.pages) × (id ≡ 0) × (why ≡ Rule 2))

@@ -17,10 +17,12 @@ use Rattle.hb_latch.specs.Tables.{AreCompatible, MayLatch, mode_at}
 use Rattle.hb_activity.specs.declared.activities.Activity.TheVariants as at
 use Rattle.hb_activity.specs.declared.jobs.Job.{Job}
 use Rattle.hb_activity.specs.Walks.{walk_held, walk_point}
-use Rattle.hb_store.specs.Keeps.{IsGoodPage}
+use Rattle.hb_store.specs.States.{IsGoodPage, in_memory}
 use Rattle.hb_core.specs.Machines.{Files, Machine, current_file, live_here}
 use Rattle.hb_core.specs.Performing.{latches_held, mode_among}
 use Rattle.hb_core.specs.WorkerRows.{LeadsBelow}
+use Rattle.hb_core.specs.KeptLines.{LinesFit}
+use Rattle.hb_core.specs.KeptTurns.{LinesInTurn}
 use Rattle.hb_core.specs.KeptOrder.{HasLegalOrder, HasPendingPrefix}
 
 -- Every file is sound: the durable one, and that after each group that waits. What is in memory is the last one's.
@@ -30,19 +32,19 @@ pub record HasSoundFile (m : Machine) (files : Files) : Type 0 where
   pub each : length files.later ≡ length m.store.log.groups
   pub layout : IsLayout m.store.meta
   pub meta : (current_file files).meta ≡ m.store.meta
-  pub shown : (id : ℕ) (page : Page) → m.store.frame id ≡ Some page → page_of (current_file files) id ≡ Some page
+  pub shown : (id : ℕ) (page : Page) → in_memory m.store id ≡ Some page → page_of (current_file files) id ≡ Some page
 
 -- Every page in memory is one of the file, and keeps the rules that speak of a page alone. So it is over every disk.
 abbrev pub HoldsPagesOfFile : Machine → Type 0
-HoldsPagesOfFile m = (id : ℕ) (page : Page) → m.store.frame id ≡ Some page → (1 ≤ id) × (id ≤ m.store.meta.high) × IsGoodPage m.store.meta page
+HoldsPagesOfFile m = (id : ℕ) (page : Page) → in_memory m.store id ≡ Some page → (1 ≤ id) × (id ≤ m.store.meta.high) × IsGoodPage m.store.meta page
 
 -- Each actor holds the latches of its activity and no other, on pages in use; and latches of different actors on one page
 -- go beside each other.
 pub record LatchesFit (m : Machine) : Type 0 where
   pub compatible : AreCompatible m.latches
   pub exact : (actor page : ℕ) → MayLatch actor → mode_at m.latches actor page ≡ mode_among page (latches_held m.store (m.activity actor))
-  pub used : (actor page : ℕ) (mode : Mode) → mode_at m.latches actor page ≡ Some mode → (live : LivePage) × (m.store.frame page ≡ Some (Live live))
-  pub walking : (actor held : ℕ) → MayLatch actor → walk_held (m.activity actor) ≡ Some held → (live : LivePage) × (m.store.frame held ≡ Some (Live live))
+  pub used : (actor page : ℕ) (mode : Mode) → mode_at m.latches actor page ≡ Some mode → (live : LivePage) × (in_memory m.store page ≡ Some (Live live))
+  pub walking : (actor held : ℕ) → MayLatch actor → walk_held (m.activity actor) ≡ Some held → (live : LivePage) × (in_memory m.store held ≡ Some (Live live))
 
 -- The page that a walk holds has the walk's point in its box. The parent that a poster holds is of the job's level, and
 -- has a child leaf at the job's point.
@@ -54,7 +56,7 @@ pub record WalksInSpace (m : Machine) : Type 0 where
       (page : LivePage) × (live_here m.store parent ≡ Some page) × (page.level ≡ job.level) × LeadsBelow page job
 
 -- A page that is to be split directly holds the point of the insert, has no record there, and has no room for it. Of the
--- two halves one directly holds the point, has no record there, and has room.
+-- two halves, which are in use, one directly holds the point, has no record there, and has room; and not both hold it.
 pub record LacksRoomFor (m : Machine) (held : ℕ) (p body : List ℕ) : Type 0 where
   pub page : LivePage
   pub live : live_here m.store held ≡ Some page
@@ -71,17 +73,32 @@ pub record HasRoomFor (m : Machine) (half : ℕ) (p body : List ℕ) : Type 0 wh
   pub absent : StandsNot page p
   pub room : weight_of (put_page (record { key = p; body = body }) page).frag ≤ m.store.meta.dcap
 
+pub record OneHasRoom (m : Machine) (source fresh : ℕ) (p body : List ℕ) : Type 0 where
+  pub first : LivePage
+  pub second : LivePage
+  pub first_live : live_here m.store source ≡ Some first
+  pub second_live : live_here m.store fresh ≡ Some second
+  pub not_both : DirectlyHolds first p → DirectlyHolds second p → ⊥
+  pub room : HasRoomFor m source p body ⊎ HasRoomFor m fresh p body
+
 pub record KnowsRoom (m : Machine) : Type 0 where
   pub splits : (actor held : ℕ) (line : _) → m.activity actor ≡ at.SessionSplit line held → (rec : _) × (line.command ≡ Insert rec) × LacksRoomFor m held rec.key rec.body
   pub puts : (actor source fresh : ℕ) (line : _) → m.activity actor ≡ at.SessionPut line source fresh →
-      (rec : _) × (line.command ≡ Insert rec) × (HasRoomFor m source rec.key rec.body ⊎ HasRoomFor m fresh rec.key rec.body)
+      (rec : _) × (line.command ≡ Insert rec) × OneHasRoom m source fresh rec.key rec.body
+
+-- There are 19 actors: under every other number an idle session stands.
+abbrev pub HasNobodyElse : Machine → Type 0
+HasNobodyElse m = (actor : ℕ) → ¬ (MayLatch actor) → m.activity actor ≡ at.SessionIdle
 
 -- All of them, from the set that was opened.
 pub record CoreKeeps (n : RecordSet) (m : Machine) (files : Files) : Type 0 where
   pub told : m.files ≡ Some files
+  pub lines_fit : LinesFit m
+  pub lines_in_turn : LinesInTurn m
   pub pages_of_file : HoldsPagesOfFile m
   pub sound_file : HasSoundFile m files
   pub latches_fit : LatchesFit m
+  pub nobody_else : HasNobodyElse m
   pub walk_in_space : WalksInSpace m
   pub room_known : KnowsRoom m
   pub order_legal : HasLegalOrder n m files

@@ -11,6 +11,7 @@ use Rattle.hb_latch.specs.declared.modes.Mode.TheVariants.{Exclusive}
 use Rattle.hb_latch.specs.Tables.{MayLatch, mode_at}
 use Rattle.hb_activity.specs.declared.wanting.Wanted.{Wanted}
 use Rattle.hb_activity.specs.Walks.{walk_held, walk_point}
+use Rattle.hb_store.specs.States.{in_memory}
 use Rattle.hb_core.specs.declared.outcomes.Outcome.{Outcome}
 use Rattle.hb_core.specs.Machines.{Files, Machine, current_file, live_here}
 use Rattle.hb_core.specs.Asking.{HasWayFree, wanted_by}
@@ -31,7 +32,7 @@ HasAlone m actor id = (mode_at m.latches actor id ≡ Some Exclusive) ⊎ TakesA
 
 -- the page is in memory and in use
 abbrev pub IsInUse : Machine → ℕ → LivePage → Type 0
-IsInUse m id page = m.store.frame id ≡ Some (Live page)
+IsInUse m id page = in_memory m.store id ≡ Some (Live page)
 
 -- A step changes no page in use but those that its actor has for itself. The page that it makes was in no use.
 abbrev pub OwnPagesChange : Type 0

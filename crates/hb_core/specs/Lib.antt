@@ -13,7 +13,17 @@ pub mod Forcing
 pub mod GivingUp
 pub mod Acting
 pub mod Steps
+pub mod KeptLines
+pub mod KeptTurns
 pub mod KeptOrder
 pub mod Keeps
 pub mod Laws
+pub mod FileLaws
+pub mod ContentsLaws
+pub mod OrderLaws
+pub mod AllowedLaws
+pub mod DoableLaws
+pub mod OutcomeLaws
+pub mod SteppingLaws
+pub mod KeepingLaws
 pub mod Examples

@@ -10,7 +10,8 @@ use Rattle.hb_set.specs.declared.scripts.Answered.{Answered}
 use Rattle.hb_latch.specs.Tables.{LatchTable}
 use Rattle.hb_activity.specs.declared.jobs.Job.{Job}
 use Rattle.hb_activity.specs.declared.activities.Activity.{Activity}
-use Rattle.hb_store.specs.Keeps.{StoreState, last_of}
+use Rattle.hb_store.specs.Keeps.{last_of}
+use Rattle.hb_store.specs.States.{StoreState, in_memory}
 use Rattle.hb_store.specs.declared.stops.StopWhy.{StopWhy}
 
 -- The files over a disk that tells: the one that is durable, and those after each group that waits, in their order.
@@ -51,7 +52,7 @@ settled_count m = mark_of m.store.log.groups (length m.order)
 
 -- the page of a number, where it is in memory and in use
 abbrev pub live_here : StoreState → ℕ → Option LivePage
-live_here st id = if_live (st.frame id)
+live_here st id = if_live (in_memory st id)
 
 -- whether a line of this number was answered
 abbrev pub is_answered : ℕ → List Answered → Bool

@@ -1,8 +1,6 @@
 -- How a deed is done: what becomes of the latches, the file, the queue, the order and the answers.
-use Rattle.std.specs.Prelude.{◌≡◌, ◌≢◌, ℕ, ◌==◌, ◌||◌, if◌then◌else◌, Bool, List, [], ◌∷◌, ◌++◌, length, map, Option, Some, None, option_map}
-use Rattle.std.specs.List.{list_any}
+use Rattle.std.specs.Prelude.{◌≡◌, ◌≢◌, ℕ, ◌==◌, if◌then◌else◌, List, [], ◌∷◌, ◌++◌, length, Option, Some, None, option_map}
 use Rattle.hb_ops.specs.declared.operations.Op.{Op}
-use Rattle.hb_ops.specs.Operations.{reads_of}
 use Rattle.hb_log_codec.specs.Groups.{group_bytes}
 use Rattle.hb_set.specs.declared.scripts.Answered.{Answered}
 use Rattle.hb_latch.specs.declared.modes.Mode.{Mode}
@@ -11,9 +9,9 @@ use Rattle.hb_activity.specs.declared.holding.Latch.{Latch}
 use Rattle.hb_activity.specs.declared.activities.Activity.{Activity}
 use Rattle.hb_activity.specs.Holding.{held_of}
 use Rattle.hb_activity.specs.Walks.{walk_held}
-use Rattle.hb_store.specs.Calls.{Commits, IsAllowedHere, change_here, with_op}
+use Rattle.hb_store.specs.Calls.{Commits, IsAllowedHere, with_op}
 use Rattle.hb_store.specs.Images.{group_here}
-use Rattle.hb_store.specs.Keeps.{StoreState}
+use Rattle.hb_store.specs.States.{StoreState}
 use Rattle.hb_core.specs.declared.outcomes.Outcome.{Outcome}
 use Rattle.hb_core.specs.declared.outcomes.Outcome.TheVariants as outcomes
 use Rattle.hb_core.specs.Machines.{Files, Machine, if_some, live_here, with_activity}
@@ -33,17 +31,12 @@ pub record Relatches (actor : ℕ) (latches : List Latch) (old new : LatchTable)
   pub own : (page : ℕ) → mode_at new actor page ≡ mode_among page latches
   pub others : (other page : ℕ) → other ≢ actor → mode_at new other page ≡ mode_at old other page
 
--- the numbers of the pages that an operation reads or makes
-abbrev pub touches : StoreState → Op → ℕ → Bool
-touches st op id = list_any (λ read. read == id) (reads_of op) || list_any (λ made. made == id) (map (λ c. c.0) (change_here st op).pages)
-
 -- An operation is done in memory: it is allowed there, the pages are changed, and its group waits with its mark. The
--- pages that it reads or makes were imaged or made in this turn from then on.
+-- pages that it reads or makes were imaged or made in this turn from then on (`imaged` of `Commits`).
 pub record DoesOp (op : Op) (mark : ℕ) (old new : StoreState) : Type 0 where
   pub allowed : IsAllowedHere old op
   pub commits : Commits op mark old new
   pub group : new.log.groups ≡ old.log.groups ++ record { bytes = group_bytes (group_here old op); mark = mark } ∷ []
-  pub imaged : (id : ℕ) → new.imaged id ≡ (old.imaged id || touches old op id)
 
 abbrev pub MayDo : Option Op → ℕ → StoreState → StoreState → Type 0
 MayDo None mark old new = new ≡ old

@@ -15,8 +15,8 @@ use Rattle.hb_set.specs.declared.commands.Command.TheVariants.{Insert}
 use Rattle.hb_set.specs.declared.commands.Reply.TheVariants as replies
 use Rattle.hb_set.specs.declared.scripts.Line.{Line}
 use Rattle.hb_split.specs.Choosing.{IsChosen}
-use Rattle.hb_store.specs.Keeps.{StoreState}
 use Rattle.hb_store.specs.NextPage.{IsNext}
+use Rattle.hb_store.specs.States.{StoreState}
 use Rattle.hb_activity.specs.declared.jobs.JobKind.TheVariants.{Post}
 use Rattle.hb_activity.specs.declared.activities.Activity.TheVariants.{SessionPut}
 use Rattle.hb_core.specs.Machines.{Machine, live_here}

@@ -1,6 +1,6 @@
 //! Rows of the table that are worked out by hand. Each is the contract of a function that does nothing.
 
-ghost use Rattle.hb_store.specs.Keeps.{StoreState};
+ghost use Rattle.hb_store.specs.States.{StoreState};
 ghost use Rattle.hb_core.specs.Examples.{CountsCalls, HoldsLatches, OwesPostings, TakesLinesInOrder};
 
 /// Of three lines, two of session 1 and one of session 2 between them: which line a session takes next.

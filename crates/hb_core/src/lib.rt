@@ -4,7 +4,8 @@
 //!
 //! The one contract: a step is one of the table. The table is `StepsTo` of `specs/Steps.antt`, with a
 //! record for each row in `specs/SessionRows.antt` and `specs/WorkerRows.antt`. What follows of it is
-//! in `laws`, and `docs/STEPS.md` tells every row in words.
+//! in `laws`, and what it does to the file, its contents and the order in `file_laws`. `docs/STEPS.md`
+//! tells every row in words.
 //!
 //! No type keeps an invariant. What every machine keeps is in `specs/Keeps.antt`, a record for each
 //! part.
@@ -14,7 +15,10 @@
 #![tactic(auto)]
 
 pub mod examples;
+pub mod file_laws;
+pub mod keeping_laws;
 pub mod laws;
+pub mod outcome_laws;
 mod outcomes;
 mod threads;
 

@@ -6,8 +6,10 @@ use Rattle.std.proofs.lemmas.List.Elements.{All-take, All-drop}
 use Rattle.hb_outside.specs.Memory.{next_count}
 use Rattle.hb_disk.specs.Model.{overwritten, last_value, Torn, Elapses}
 use Rattle.hb_disk.specs.Calls.{Ticks, Writes, Syncs}
-use Rattle.hb_disk.specs.TornLaws.{IsOutside, cases_range, Torn-from, Torn-same, Torn-itself, length-overwritten, overwritten-inside, overwritten-outside, All-overwritten}
-use Rattle.hb_disk.specs.Events.{IsOpen, IsImage, IsImageSince, undone, range_of, disk_of, Notes, IsOver, LeavesTry}
+use Rattle.hb_disk.specs.TornLaws.{IsOutside, cases_range, Torn-from, Torn-same, Torn-itself}
+use Rattle.hb_disk.specs.OverwrittenLaws.{length-overwritten, overwritten-inside, overwritten-outside, All-overwritten}
+use Rattle.hb_disk.specs.Events.{IsOpen, IsImage, IsImageSince, undone, range_of, disk_after}
+use Rattle.hb_disk.specs.NotedCalls.{Notes, IsOver, LeavesTry}
 use Rattle.hb_disk.specs.declared.event.Change.{Change}
 use Rattle.hb_disk.specs.declared.event.Change.TheVariants.{Tried, Synced}
 use Rattle.hb_disk.specs.declared.event.Event.{Event}
@@ -110,7 +112,7 @@ module _ (bytes now : List ℕ) (es : List Event) (e : Event) (at n : ℕ) (rang
 -- a disk after one event more
 module _ (bytes now : List ℕ) (es es_now : List Event) (e : Event) (first : es_now ≡ e ∷ es) (undoes : undone e.change now ≡ bytes)
     (clock next f g h k : ℕ) (at_clock : e.clock ≡ clock) where
-  pub elapses_noted : Elapses (disk_of bytes es clock f g) (disk_of now es_now next h k)
+  pub elapses_noted : Elapses (disk_after bytes es clock f g) (disk_after now es_now next h k)
   elapses_noted = record {
     nothing_else = λ t c le left.
         let split : IsImageSince t now (e ∷ es) c = subst (λ (l : List Event). IsImageSince t now l c) first left in
@@ -121,7 +123,7 @@ module _ (bytes now : List ℕ) (es es_now : List Event) (e : Event) (first : es
   }
 
 -- a disk after a call that left nothing on record
-pub elapses_same : (bytes : List ℕ) (es : List Event) (clock next f g h k : ℕ) → Elapses (disk_of bytes es clock f g) (disk_of bytes es next h k)
+pub elapses_same : (bytes : List ℕ) (es : List Event) (clock next f g h k : ℕ) → Elapses (disk_after bytes es clock f g) (disk_after bytes es next h k)
 elapses_same bytes es clock next f g h k = record { nothing_else = λ t c le left. inl left; keeps = λ t c le left. left }
 
 pub next_clock : (clock : ℕ) → clock < last_value → next_count clock ≡ clock + 1
@@ -130,7 +132,7 @@ next_clock clock before = omega arith
 -- The three kinds of ends of a call. `reads` and `writes` are any counts of faults.
 module _ (bytes : List ℕ) (es : List Event) (clock : ℕ) (fit : All (λ x. x < 2 ^ 8) bytes) (clock_fits : clock ≤ last_value) (f g h k : ℕ) where
   -- one that left nothing on record, and failed
-  pub ticks_missed : {T E : Type 0} (err : E) → Ticks {T = T} (Err err) (disk_of bytes es clock f g) (disk_of bytes es (next_count clock) h k)
+  pub ticks_missed : {T E : Type 0} (err : E) → Ticks {T = T} (Err err) (disk_after bytes es clock f g) (disk_after bytes es (next_count clock) h k)
   ticks_missed err = record {
     tick = λ tells before. next_clock clock before;
     later = omega arith;
@@ -150,7 +152,7 @@ module _ (bytes : List ℕ) (es : List Event) (clock : ℕ) (fit : All (λ x. x 
     size = refl;
   }
 
-  pub writes_missed : {T E : Type 0} (err : E) (at : ℕ) (piece : List ℕ) (next : ℕ) → Writes {T = T} at piece (Err err) (disk_of bytes es clock f g) (disk_of bytes es next h k)
+  pub writes_missed : {T E : Type 0} (err : E) (at : ℕ) (piece : List ℕ) (next : ℕ) → Writes {T = T} at piece (Err err) (disk_after bytes es clock f g) (disk_after bytes es next h k)
   writes_missed err at piece next = record {
     written = tt;
     tried = (bytes, refl, Torn-itself at (length piece) bytes fit);
@@ -160,12 +162,12 @@ module _ (bytes : List ℕ) (es : List Event) (clock : ℕ) (fit : All (λ x. x 
     opened_or_not = inr (record { told = refl; image = λ c image. image; image_kept = λ c image. image });
   }
 
-  pub syncs_missed : {T E : Type 0} (err : E) (next : ℕ) → Syncs {T = T} (Err err) (disk_of bytes es clock f g) (disk_of bytes es next h k)
+  pub syncs_missed : {T E : Type 0} (err : E) (next : ℕ) → Syncs {T = T} (Err err) (disk_after bytes es clock f g) (disk_after bytes es next h k)
   syncs_missed err next = record { same = refl; durable = tt; crash = λ c image. image; left_open = λ c image. image }
 
   -- one that left an event on record
   pub ticks_noted : {T E : Type 0} (r : Result T E) (now : List ℕ) (es_now : List Event) (e : Event) → es_now ≡ e ∷ es → undone e.change now ≡ bytes → e.clock ≡ clock → clock < last_value
-      → length now ≡ length bytes → Ticks r (disk_of bytes es clock f g) (disk_of now es_now (next_count clock) h k)
+      → length now ≡ length bytes → Ticks r (disk_after bytes es clock f g) (disk_after now es_now (next_count clock) h k)
   ticks_noted r now es_now e first undoes at_clock before long = record {
     tick = λ tells not_last. next_clock clock not_last;
     later = omega arith;
@@ -176,7 +178,7 @@ module _ (bytes : List ℕ) (es : List Event) (clock : ℕ) (fit : All (λ x. x 
 
   -- a write that was done
   pub writes_done : {T E : Type 0} (v : T) (at : ℕ) (piece : List ℕ) (es_now : List Event) (e : Event) (next : ℕ) → es_now ≡ e ∷ es → IsOver at (length piece) bytes e.change → at + length piece ≤ length bytes
-      → Writes {E = E} at piece (Ok v) (disk_of bytes es clock f g) (disk_of (overwritten bytes at piece) es_now next h k)
+      → Writes {E = E} at piece (Ok v) (disk_after bytes es clock f g) (disk_after (overwritten bytes at piece) es_now next h k)
   writes_done v at piece es_now e next first over fits = record {
     written = refl;
     tried = tt;
@@ -196,7 +198,7 @@ module _ (bytes : List ℕ) (es : List Event) (clock : ℕ) (fit : All (λ x. x 
 
   -- a write that was tried
   pub writes_tried : {T E : Type 0} (err : E) (at : ℕ) (piece : List ℕ) (es_now : List Event) (e : Event) (next : ℕ) → es_now ≡ e ∷ es → e.change ≡ Tried at (length piece) → at + length piece ≤ length bytes
-      → Writes {T = T} at piece (Err err) (disk_of bytes es clock f g) (disk_of bytes es_now next h k)
+      → Writes {T = T} at piece (Err err) (disk_after bytes es clock f g) (disk_after bytes es_now next h k)
   writes_tried err at piece es_now e next first is fits = record {
     written = tt;
     tried = (bytes, refl, Torn-itself at (length piece) bytes fit);
@@ -210,7 +212,7 @@ module _ (bytes : List ℕ) (es : List Event) (clock : ℕ) (fit : All (λ x. x 
 
   -- a sync that was done
   pub syncs_done : {T E : Type 0} (v : T) (es_now : List Event) (e : Event) (next : ℕ) → es_now ≡ e ∷ es → e.change ≡ Synced
-      → Syncs {E = E} (Ok v) (disk_of bytes es clock f g) (disk_of bytes es_now next h k)
+      → Syncs {E = E} (Ok v) (disk_after bytes es clock f g) (disk_after bytes es_now next h k)
   syncs_done v es_now e next first is = record {
     same = refl;
     durable = λ c image. all_same c (subst (λ (l : List Event). IsImage bytes l c) first image);
@@ -238,39 +240,39 @@ both_same Q bytes now events after same none h = subst (λ (es : List Event). Q 
 module _ (bytes : List ℕ) (events : List Event) (clock : ℕ) (fit : All (λ x. x < 2 ^ 8) bytes) (clock_fits : clock ≤ last_value) (call : ℕ) where
   pub sync_noted : {T E : Type 0} (r : Result T E) (now : List ℕ) (after : List Event) (next : ℕ) → now ≡ bytes
       → OnOk r (Notes (λ d. d ≡ Synced) clock call events after) → OnErr r (after ≡ events)
-      → (f g h k : ℕ) → Syncs r (disk_of bytes (reverse events) clock f g) (disk_of now (reverse after) next h k)
+      → (f g h k : ℕ) → Syncs r (disk_after bytes (reverse events) clock f g) (disk_after now (reverse after) next h k)
   sync_noted {T = T} {E = E} (Ok v) now after next same done refused f g h k =
-      let Q : List ℕ → Type 0 = λ l. Syncs {T = T} {E = E} (Ok v) (disk_of bytes (reverse events) clock f g) (disk_of l (reverse after) next h k) in
+      let Q : List ℕ → Type 0 = λ l. Syncs {T = T} {E = E} (Ok v) (disk_after bytes (reverse events) clock f g) (disk_after l (reverse after) next h k) in
       subst Q (sym same) (syncs_done bytes (reverse events) clock fit clock_fits f g h k v (reverse after) done.event next (newest (λ d. d ≡ Synced) clock call events after done) done.change)
   sync_noted {T = T} {E = E} (Err e) now after next same done refused f g h k =
-      let Q : List ℕ → List Event → Type 0 = λ l es. Syncs {T = T} {E = E} (Err e) (disk_of bytes (reverse events) clock f g) (disk_of l (reverse es) next h k) in
+      let Q : List ℕ → List Event → Type 0 = λ l es. Syncs {T = T} {E = E} (Err e) (disk_after bytes (reverse events) clock f g) (disk_after l (reverse es) next h k) in
       both_same Q bytes now events after same refused (syncs_missed bytes (reverse events) clock fit clock_fits f g h k e next)
 
   pub write_refused : {T E : Type 0} (r : Result T E) (at : ℕ) (piece : List ℕ) (now : List ℕ) (after : List Event) (next : ℕ) → IsErr r → at + length piece ≤ length bytes → now ≡ bytes
       → (after ≡ events) ⊎ Notes (λ d. d ≡ Tried at (length piece)) clock call events after
-      → (f g h k : ℕ) → Writes at piece r (disk_of bytes (reverse events) clock f g) (disk_of now (reverse after) next h k)
+      → (f g h k : ℕ) → Writes at piece r (disk_after bytes (reverse events) clock f g) (disk_after now (reverse after) next h k)
   write_refused (Ok v) at piece now after next failed fits same how f g h k = cc
   write_refused {T = T} {E = E} (Err e) at piece now after next failed fits same (inl none) f g h k =
-      let Q : List ℕ → List Event → Type 0 = λ l es. Writes {T = T} {E = E} at piece (Err e) (disk_of bytes (reverse events) clock f g) (disk_of l (reverse es) next h k) in
+      let Q : List ℕ → List Event → Type 0 = λ l es. Writes {T = T} {E = E} at piece (Err e) (disk_after bytes (reverse events) clock f g) (disk_after l (reverse es) next h k) in
       both_same Q bytes now events after same none (writes_missed bytes (reverse events) clock fit clock_fits f g h k e at piece next)
   write_refused {T = T} {E = E} (Err e) at piece now after next failed fits same (inr tried) f g h k =
-      let Q : List ℕ → Type 0 = λ l. Writes {T = T} {E = E} at piece (Err e) (disk_of bytes (reverse events) clock f g) (disk_of l (reverse after) next h k) in
+      let Q : List ℕ → Type 0 = λ l. Writes {T = T} {E = E} at piece (Err e) (disk_after bytes (reverse events) clock f g) (disk_after l (reverse after) next h k) in
       subst Q (sym same) (writes_tried bytes (reverse events) clock fit clock_fits f g h k e at piece (reverse after) tried.event next
       (newest (λ d. d ≡ Tried at (length piece)) clock call events after tried) tried.change fits)
 
   pub write_kept : {T E : Type 0} (v : T) (at : ℕ) (piece : List ℕ) (now : List ℕ) (after : List Event) (next : ℕ) → at + length piece ≤ length bytes → now ≡ overwritten bytes at piece
       → Notes (IsOver at (length piece) bytes) clock call events after
-      → (f g h k : ℕ) → Writes {E = E} at piece (Ok v) (disk_of bytes (reverse events) clock f g) (disk_of now (reverse after) next h k)
+      → (f g h k : ℕ) → Writes {E = E} at piece (Ok v) (disk_after bytes (reverse events) clock f g) (disk_after now (reverse after) next h k)
   write_kept {T = T} {E = E} v at piece now after next fits same noted f g h k =
-      let Q : List ℕ → Type 0 = λ l. Writes {T = T} {E = E} at piece (Ok v) (disk_of bytes (reverse events) clock f g) (disk_of l (reverse after) next h k) in
+      let Q : List ℕ → Type 0 = λ l. Writes {T = T} {E = E} at piece (Ok v) (disk_after bytes (reverse events) clock f g) (disk_after l (reverse after) next h k) in
       subst Q (sym same) (writes_done bytes (reverse events) clock fit clock_fits f g h k v at piece (reverse after) noted.event next
       (newest (IsOver at (length piece) bytes) clock call events after noted) noted.change fits)
 
   pub ticks_kept : {T E : Type 0} (r : Result T E) (at : ℕ) (piece : List ℕ) (now : List ℕ) (after : List Event) (next : ℕ) → at + length piece ≤ length bytes → now ≡ overwritten bytes at piece
       → next ≡ next_count clock → Notes (IsOver at (length piece) bytes) clock call events after
-      → (f g h k : ℕ) → Ticks r (disk_of bytes (reverse events) clock f g) (disk_of now (reverse after) next h k)
+      → (f g h k : ℕ) → Ticks r (disk_after bytes (reverse events) clock f g) (disk_after now (reverse after) next h k)
   ticks_kept {T = T} {E = E} r at piece now after next fits same ticked noted f g h k =
-      let Q : List ℕ → ℕ → Type 0 = λ l t. Ticks r (disk_of bytes (reverse events) clock f g) (disk_of l (reverse after) t h k) in
+      let Q : List ℕ → ℕ → Type 0 = λ l t. Ticks r (disk_after bytes (reverse events) clock f g) (disk_after l (reverse after) t h k) in
       let over = noted.change in
       let undoes : undone noted.event.change (overwritten bytes at piece) ≡ bytes = ap (λ d. undone d (overwritten bytes at piece)) over.1 ∙ put_back bytes at piece over.0.items fits over.2 in
       subst (λ t. Q now t) (sym ticked) (subst (λ (l : List ℕ). Q l (next_count clock)) (sym same)

@@ -4,7 +4,9 @@ use Rattle.hb_disk.specs.Model.{DiskModel, IsDisk, overwritten, Torn}
 use Rattle.hb_disk.specs.Calls.{Ticks, Writes, Syncs, Leaves, Becomes, Then}
 use Rattle.hb_disk.specs.Calls as calls
 use Rattle.hb_disk.specs.TornLaws.{Torn-itself}
-use Rattle.hb_disk.specs.RunLaws.{told_written, only_told, Leaves-start, Leaves-call, Becomes-write, Becomes-then, Becomes-weaker, Becomes-torn, Becomes-torn_sync}
+use Rattle.hb_disk.specs.RunLaws.{Leaves-start, Leaves-call}
+use Rattle.hb_disk.specs.BecomesLaws.{told_written, Becomes-write, Becomes-then, Becomes-weaker, Becomes-torn, Becomes-torn_sync}
+use Rattle.hb_disk.specs.SyncedLaws.{only_told}
 
 module _ (old : DiskModel) (first : ℕ) (a : List ℕ) (second : ℕ) (b : List ℕ) where
   -- an image of before, after some of the two pieces

@@ -5,7 +5,7 @@ use Rattle.hb_outside.specs.Streams.{Rose}
 use Rattle.hb_outside.specs.Memory.{next_count}
 use Rattle.hb_disk.specs.Model.{DiskModel, last_value}
 use Rattle.hb_disk.specs.Calls.{Ticks, Writes, Syncs, WriteFaults}
-use Rattle.hb_disk.specs.Events.{Alike, Explains, LeavesTry, faults_after, starved_after}
+use Rattle.hb_disk.specs.NotedCalls.{Alike, Explains, LeavesTry, faults_after, starved_after}
 use Rattle.hb_disk.specs.MemDisk.{bytes_of, IsListed, CalledExactly, FailsFor, HasSameRecord}
 use Rattle.hb_disk.specs.declared.event.Refused.{Refused}
 use Rattle.hb_disk.specs.declared.event.Refused.TheVariants.{Listed, Over, NoMemory}

@@ -7,9 +7,10 @@ use Rattle.std.proofs.lemmas.Bool.Decides.{nat_tests}
 use Rattle.std.proofs.lemmas.List.{reverse-append, get_or-replicate, length-replicate}
 use Rattle.std.proofs.lemmas.List.Elements.{All-head, All-tail}
 use Rattle.hb_disk.specs.Model.{overwritten}
-use Rattle.hb_disk.specs.TornLaws.{IsOutside, cases_range, length-overwritten, overwritten-inside, overwritten-outside}
-use Rattle.hb_disk.specs.RunLaws.{at_value}
-use Rattle.hb_disk.specs.Events.{IsOpen, IsImage, IsImageSince, IsNoise, IsPicked, AllReach, Reaches, rewound, as_synced, undone, range_of}
+use Rattle.hb_disk.specs.TornLaws.{IsOutside, cases_range}
+use Rattle.hb_disk.specs.OverwrittenLaws.{length-overwritten, overwritten-inside, overwritten-outside}
+use Rattle.hb_disk.specs.ValueLaws.{at_value}
+use Rattle.hb_disk.specs.Events.{IsOpen, IsImage, IsImageSince, IsNoise, IsPicked, AllLieWithin, LiesWithin, rewound, as_synced, undone, range_of}
 use Rattle.hb_disk.specs.declared.event.Change.{Change}
 use Rattle.hb_disk.specs.declared.event.Change.TheVariants.{Wrote, Tried, Synced}
 use Rattle.hb_disk.specs.declared.event.Pick.{Pick}
@@ -20,20 +21,20 @@ use Rattle.hb_disk.specs.declared.event.Event.{Event}
 pub last_first : (rest earlier : List Event) (e : Event) → rest ≡ earlier ++ e ∷ [] → reverse rest ≡ e ∷ reverse earlier
 last_first rest earlier e is = ap reverse is ∙ reverse-append earlier (e ∷ [])
 
-pub reach_first : (size : ℕ) (e : Event) (es : List Event) → AllReach size (e ∷ es) → Reaches e.change size
-reach_first size e es reach = All-head (λ (e : Event). Reaches e.change size) e es reach
+pub reach_first : (size : ℕ) (e : Event) (es : List Event) → AllLieWithin size (e ∷ es) → LiesWithin e.change size
+reach_first size e es reach = All-head (λ (e : Event). LiesWithin e.change size) e es reach
 
-pub reach_rest : (size : ℕ) (e : Event) (es : List Event) → AllReach size (e ∷ es) → AllReach size es
-reach_rest size e es reach = All-tail (λ (e : Event). Reaches e.change size) e es reach
+pub reach_rest : (size : ℕ) (e : Event) (es : List Event) → AllLieWithin size (e ∷ es) → AllLieWithin size es
+reach_rest size e es reach = All-tail (λ (e : Event). LiesWithin e.change size) e es reach
 
 -- taking a change back leaves as many bytes
-pub undone_long : (change : Change) (bytes : List ℕ) → Reaches change (length bytes) → length (undone change bytes) ≡ length bytes
+pub undone_long : (change : Change) (bytes : List ℕ) → LiesWithin change (length bytes) → length (undone change bytes) ≡ length bytes
 undone_long (Wrote at before) bytes reach = length-overwritten bytes at before.items reach
 undone_long (Tried at len) bytes reach = refl
 undone_long Synced bytes reach = refl
 
 -- and the same outside its range
-undone_outside : (change : Change) (bytes : List ℕ) → Reaches change (length bytes) → (range : ℕ × ℕ) → range_of change ≡ Some range → (i : ℕ) → IsOutside range.0 range.1 i
+undone_outside : (change : Change) (bytes : List ℕ) → LiesWithin change (length bytes) → (range : ℕ × ℕ) → range_of change ≡ Some range → (i : ℕ) → IsOutside range.0 range.1 i
     → get_or (undone change bytes) i 0 ≡ get_or bytes i 0
 undone_outside (Wrote at before) bytes reach range is i outside =
     let same : (at, length before.items) ≡ range = cc in
@@ -88,21 +89,21 @@ noise_more byte bytes e es at n image is fits noise =
     }
 
 -- the bytes of the last sync are an image
-synced_long : (bytes : List ℕ) (events : List Event) → AllReach (length bytes) events → length (as_synced bytes events) ≡ length bytes
+synced_long : (bytes : List ℕ) (events : List Event) → AllLieWithin (length bytes) events → length (as_synced bytes events) ≡ length bytes
 synced_long bytes [] reach = refl
 synced_long bytes (e ∷ es) reach =
     let before = undone e.change bytes in
     let long = undone_long e.change bytes (reach_first (length bytes) e es reach) in
-    let rest = synced_long before es (subst (λ n. AllReach n es) (sym long) (reach_rest (length bytes) e es reach)) in
+    let rest = synced_long before es (subst (λ n. AllLieWithin n es) (sym long) (reach_rest (length bytes) e es reach)) in
     elim (is_some (range_of e.change)) as (λ b. length (cond b (as_synced before es) bytes) ≡ length bytes) [ true ↦ rest ∙ long | false ↦ refl ]
 
-synced_kept : (bytes : List ℕ) (events : List Event) → AllReach (length bytes) events → (i : ℕ) → (IsOpen events i → ⊥) → get_or (as_synced bytes events) i 0 ≡ get_or bytes i 0
+synced_kept : (bytes : List ℕ) (events : List Event) → AllLieWithin (length bytes) events → (i : ℕ) → (IsOpen events i → ⊥) → get_or (as_synced bytes events) i 0 ≡ get_or bytes i 0
 synced_kept bytes [] reach i shut = refl
 synced_kept bytes (e ∷ es) reach i shut =
     let before = undone e.change bytes in
     let here = reach_first (length bytes) e es reach in
     let long = undone_long e.change bytes here in
-    let rest = synced_kept before es (subst (λ n. AllReach n es) (sym long) (reach_rest (length bytes) e es reach)) i in
+    let rest = synced_kept before es (subst (λ n. AllLieWithin n es) (sym long) (reach_rest (length bytes) e es reach)) i in
     elim (range_of e.change) as (λ o. range_of e.change ≡ o → get_or (cond (is_some o) (as_synced before es) bytes) i 0 ≡ get_or bytes i 0) [
       | None ↦ λ is. refl
       | Some range ↦ λ is.
@@ -114,7 +115,7 @@ synced_kept bytes (e ∷ es) reach i shut =
     ] refl
 
 -- what is picked is an image
-pub picked_image : (pick : Pick) (bytes : List ℕ) (events : List Event) (image : List ℕ) → AllReach (length bytes) events → All (λ x. x < 2 ^ 8) image
+pub picked_image : (pick : Pick) (bytes : List ℕ) (events : List Event) (image : List ℕ) → AllLieWithin (length bytes) events → All (λ x. x < 2 ^ 8) image
     → IsPicked pick bytes events image → IsImage bytes events image
 picked_image Old bytes events image reach fit is = record {
   long = ap length is ∙ synced_long bytes events reach;
@@ -140,13 +141,13 @@ moment_since before bytes (e ∷ es) image =
     ]
 
 -- the steps of the loops that go over the events from the newest back
-pub reach_of : (size : ℕ) (rest earlier : List Event) (e : Event) → rest ≡ earlier ++ e ∷ [] → AllReach size (reverse rest) → Reaches e.change size × AllReach size (reverse earlier)
+pub reach_of : (size : ℕ) (rest earlier : List Event) (e : Event) → rest ≡ earlier ++ e ∷ [] → AllLieWithin size (reverse rest) → LiesWithin e.change size × AllLieWithin size (reverse earlier)
 reach_of size rest earlier e is reach =
-    let here = subst (λ (es : List Event). AllReach size es) (last_first rest earlier e is) reach in
+    let here = subst (λ (es : List Event). AllLieWithin size es) (last_first rest earlier e is) reach in
     (reach_first size e (reverse earlier) here, reach_rest size e (reverse earlier) here)
 
-pub reach_undone : (bytes now : List ℕ) (e : Event) (es : List Event) → now ≡ undone e.change bytes → Reaches e.change (length bytes) → AllReach (length bytes) es → AllReach (length now) es
-reach_undone bytes now e es is reach rest = subst (λ n. AllReach n es) (sym (ap length is ∙ undone_long e.change bytes reach)) rest
+pub reach_undone : (bytes now : List ℕ) (e : Event) (es : List Event) → now ≡ undone e.change bytes → LiesWithin e.change (length bytes) → AllLieWithin (length bytes) es → AllLieWithin (length now) es
+reach_undone bytes now e es is reach rest = subst (λ n. AllLieWithin n es) (sym (ap length is ∙ undone_long e.change bytes reach)) rest
 
 not_before : (call before : ℕ) → before ≤ call → ltb call before ≡ false
 not_before call before le = grind (arith, nat_tests)
@@ -171,5 +172,5 @@ noise_step byte bytes now rest earlier e at n image is range fits filled noise =
     subst (λ (es : List Event). IsNoise byte bytes es image) (sym (last_first rest earlier e is))
     (noise_more byte bytes e (reverse earlier) at n image range fits (subst (λ (l : List ℕ). IsNoise byte l (reverse earlier) image) filled noise))
 
-pub reach_range : (size : ℕ) (e : Event) (at n : ℕ) → range_of e.change ≡ Some (at, n) → Reaches e.change size → at + n ≤ size
+pub reach_range : (size : ℕ) (e : Event) (at n : ℕ) → range_of e.change ≡ Some (at, n) → LiesWithin e.change size → at + n ≤ size
 reach_range size e at n is reach = at_value (range_of e.change) (λ range. range.0 + range.1 ≤ size) (at, n) is reach

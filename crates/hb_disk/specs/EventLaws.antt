@@ -3,8 +3,8 @@ use Rattle.std.proofs.Common.{inl, inr, ℕ, ◌^◌, ◌<◌, ◌≤◌, List, 
 use Rattle.std.specs.List.{All}
 use Rattle.std.proofs.lemmas.List.Elements.{All-head}
 use Rattle.hb_disk.specs.Model.{IsDisk, last_value}
-use Rattle.hb_disk.specs.RunLaws.{some_same}
-use Rattle.hb_disk.specs.Events.{IsImage, IsImageSince, Reaches, AreKept, disk_of}
+use Rattle.hb_disk.specs.ValueLaws.{some_same}
+use Rattle.hb_disk.specs.Events.{IsImage, IsImageSince, LiesWithin, AreKept, disk_after}
 use Rattle.hb_disk.specs.declared.event.Event.{Event}
 
 -- the bytes are one of their images
@@ -21,11 +21,11 @@ pub only_since : (clock size : ℕ) (bytes : List ℕ) (events : List Event) (c 
 only_since clock size bytes [] c kept left = left
 only_since clock size bytes (e ∷ es) c kept (inl image) = image
 only_since clock size bytes (e ∷ es) c kept (inr past) =
-    let first = All-head (λ (e : Event). (e.clock < clock) × Reaches e.change size) e es kept in
+    let first = All-head (λ (e : Event). (e.clock < clock) × LiesWithin e.change size) e es kept in
     absurd (omega (arith, first.0, past.0))
 
 pub history_is_disk : (bytes : List ℕ) (events : List Event) (clock reads writes : ℕ) → All (λ x. x < 2 ^ 8) bytes → length bytes ≤ last_value → clock ≤ last_value
-    → AreKept clock (length bytes) events → IsDisk (disk_of bytes events clock reads writes)
+    → AreKept clock (length bytes) events → IsDisk (disk_after bytes events clock reads writes)
 history_is_disk bytes events clock reads writes fit size_fits clock_fits kept = record {
   as_read = λ b told. subst (λ (l : List ℕ). IsImage bytes events l) (some_same bytes b told) (own_image bytes events fit);
   long = λ b image. image.long;

@@ -2,7 +2,8 @@
 use Rattle.std.specs.Prelude.{◌≡◌, ◌⊎◌, ◌↔◌, ℕ, ◌<◌, ◌≤◌, List, [], ◌∷◌, length, reverse, Contains, Result, IsErr, OnOk, OnErr}
 use Rattle.hb_outside.specs.Memory.{next_count}
 use Rattle.hb_disk.specs.Model.{DiskModel, overwritten, last_value}
-use Rattle.hb_disk.specs.Events.{Notes, disk_of}
+use Rattle.hb_disk.specs.Events.{disk_after}
+use Rattle.hb_disk.specs.NotedCalls.{Notes}
 use Rattle.hb_disk.specs.declared.event.Change.{Change}
 use Rattle.hb_disk.specs.declared.event.Event.{Event}
 use Rattle.hb_disk.specs.declared.mem_disk.MemDisk.{MemDisk}
@@ -16,8 +17,8 @@ abbrev pub events_of : MemDisk → List Event
 events_of d = reverse d.history.events.items
 
 -- the disk that it is
-abbrev pub seen_as : MemDisk → DiskModel
-seen_as d = disk_of (bytes_of d) (events_of d) d.history.clock d.read_faults d.write_faults
+abbrev pub mem_disk_seen : MemDisk → DiskModel
+mem_disk_seen d = disk_after (bytes_of d) (events_of d) d.history.clock d.read_faults d.write_faults
 
 -- the next call is one of those that fail
 abbrev pub IsListed : MemDisk → Type 0

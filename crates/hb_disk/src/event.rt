@@ -1,7 +1,7 @@
 //! What the calls of a disk in memory leave on record.
 ghost use Rattle.std.specs.Prelude.{◌≡◌, ◌+◌, ◌≤◌, length, replicate};
 ghost use Rattle.hb_disk.specs.Model.{overwritten};
-ghost use Rattle.hb_disk.specs.Events.{undone, range_of, Reaches};
+ghost use Rattle.hb_disk.specs.Events.{undone, range_of, LiesWithin};
 
 /// Why a call wasn't done.
 #[derive(Clone, Copy, Debug, PartialEq, Eq)]
@@ -47,7 +47,7 @@ pub(crate) struct Event {
 impl Change {
     /// Takes the change back.
     pub(crate) fn undo(&self, bytes: &mut [u8])
-        requires { Reaches self.now (length bytes.old) }
+        requires { LiesWithin self.now (length bytes.old) }
         ensures { bytes.new ≡ undone self.now bytes.old }
     {
         if let Change::Wrote { at, before } = self {

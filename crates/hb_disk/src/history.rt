@@ -4,7 +4,8 @@ ghost use Rattle.std.proofs.Props.{props};
 ghost use Rattle.hb_outside.specs.Memory.{next_count};
 ghost use Rattle.hb_disk.specs.Model.{last_value, overwritten};
 ghost use Rattle.hb_disk.specs.Calls.{Ticks, Writes, Syncs};
-ghost use Rattle.hb_disk.specs.Events.{Reaches, AreKept, IsImage, IsImageSince, IsPicked, rewound, disk_of, Notes, IsOver, IsTry, IsSync, Explains, NotNoted, LeavesTry};
+ghost use Rattle.hb_disk.specs.Events.{LiesWithin, AreKept, IsImage, IsImageSince, IsPicked, rewound, disk_after};
+ghost use Rattle.hb_disk.specs.NotedCalls.{Notes, IsOver, IsTry, IsSync, Explains, NotNoted, LeavesTry};
 
 use crate::event::{Change, Event, Pick, Refused, fill_at, put_at};
 use crate::images::choose_before;
@@ -68,7 +69,7 @@ impl History {
 
     /// A call passes that leaves this change on record.
     fn note(&mut self, call: u64, change: Change) -> Result<(), Refused>
-        requires { Reaches change (length self.old.bytes.items) }
+        requires { LiesWithin change (length self.old.bytes.items) }
         ensures done { OnOk result (Notes (λ c. c ≡ change) self.old.clock call
             self.old.events.items self.new.events.items) }
         ensures refused { OnErr result (self.new.events.items ≡ self.old.events.items) }
@@ -169,11 +170,11 @@ impl History {
     ) -> Result<(), Refused>
         requires { at + length piece.now ≤ length self.old.bytes.items }
         ensures writes { (f g h k : ℕ) → Writes at piece.now result
-            (disk_of self.old.bytes.items (reverse self.old.events.items) self.old.clock f g)
-            (disk_of self.new.bytes.items (reverse self.new.events.items) self.new.clock h k) }
+            (disk_after self.old.bytes.items (reverse self.old.events.items) self.old.clock f g)
+            (disk_after self.new.bytes.items (reverse self.new.events.items) self.new.clock h k) }
         ensures ticks { (f g h k : ℕ) → Ticks result
-            (disk_of self.old.bytes.items (reverse self.old.events.items) self.old.clock f g)
-            (disk_of self.new.bytes.items (reverse self.new.events.items) self.new.clock h k) }
+            (disk_after self.old.bytes.items (reverse self.old.events.items) self.old.clock f g)
+            (disk_after self.new.bytes.items (reverse self.new.events.items) self.new.clock h k) }
         ensures done { OnOk result (Notes (IsOver at (length piece.now) self.old.bytes.items) self.old.clock call
             self.old.events.items self.new.events.items) }
         ensures refused { IfErr result (LeavesTry
@@ -199,11 +200,11 @@ impl History {
     ) -> Result<(), Refused>
         requires { at + len ≤ length self.old.bytes.items }
         ensures writes { (f g h k : ℕ) → Writes at (replicate len 0) result
-            (disk_of self.old.bytes.items (reverse self.old.events.items) self.old.clock f g)
-            (disk_of self.new.bytes.items (reverse self.new.events.items) self.new.clock h k) }
+            (disk_after self.old.bytes.items (reverse self.old.events.items) self.old.clock f g)
+            (disk_after self.new.bytes.items (reverse self.new.events.items) self.new.clock h k) }
         ensures ticks { (f g h k : ℕ) → Ticks result
-            (disk_of self.old.bytes.items (reverse self.old.events.items) self.old.clock f g)
-            (disk_of self.new.bytes.items (reverse self.new.events.items) self.new.clock h k) }
+            (disk_after self.old.bytes.items (reverse self.old.events.items) self.old.clock f g)
+            (disk_after self.new.bytes.items (reverse self.new.events.items) self.new.clock h k) }
         ensures done { OnOk result (Notes (IsOver at len self.old.bytes.items) self.old.clock call
             self.old.events.items self.new.events.items) }
         ensures refused { IfErr result (LeavesTry
@@ -221,11 +222,11 @@ impl History {
     /// Makes all that was written last.
     pub(crate) fn sync(&mut self, call: u64, listed: bool) -> Result<(), Refused>
         ensures syncs { (f g h k : ℕ) → Syncs result
-            (disk_of self.old.bytes.items (reverse self.old.events.items) self.old.clock f g)
-            (disk_of self.new.bytes.items (reverse self.new.events.items) self.new.clock h k) }
+            (disk_after self.old.bytes.items (reverse self.old.events.items) self.old.clock f g)
+            (disk_after self.new.bytes.items (reverse self.new.events.items) self.new.clock h k) }
         ensures ticks { (f g h k : ℕ) → Ticks result
-            (disk_of self.old.bytes.items (reverse self.old.events.items) self.old.clock f g)
-            (disk_of self.new.bytes.items (reverse self.new.events.items) self.new.clock h k) }
+            (disk_after self.old.bytes.items (reverse self.old.events.items) self.old.clock f g)
+            (disk_after self.new.bytes.items (reverse self.new.events.items) self.new.clock h k) }
         ensures done { OnOk result (Notes IsSync self.old.clock call self.old.events.items self.new.events.items) }
         ensures refused { IfErr result (LeavesTry (self.new.events.items ≡ self.old.events.items)
             (self.new.events.items ≡ self.old.events.items)) }

@@ -1,5 +1,5 @@
 //! What follows of bytes that are overwritten or torn. Each law is the contract of a function that
-//! does nothing; `specs/TornLaws.antt` has the proofs.
+//! does nothing; the proofs stand in `specs/`.
 ghost use Rattle.std.specs.Prelude.{◌≡◌, ℕ, ◌+◌, ◌^◌, ◌<◌, ◌≤◌, List, ◌++◌, length, take, drop, All};
 ghost use Rattle.hb_disk.specs.Model.{overwritten, Torn};
 ghost use Rattle.hb_disk.specs.Calls.{Apart};

@@ -4,7 +4,8 @@ ghost use Rattle.hb_outside.specs.Streams.{Rose};
 ghost use Rattle.hb_outside.specs.Memory.{next_count};
 ghost use Rattle.hb_disk.specs.Model.{Stays, last_value};
 ghost use Rattle.hb_disk.specs.Calls.{Ticks, WriteFaults, Writes, Syncs, Reads, ReadFaults};
-ghost use Rattle.hb_disk.specs.Events.{rewound, IsPicked, IsImage, disk_of, Alike, faults_after, starved_after};
+ghost use Rattle.hb_disk.specs.Events.{rewound, IsPicked, IsImage, disk_after};
+ghost use Rattle.hb_disk.specs.NotedCalls.{Alike, faults_after, starved_after};
 ghost use Rattle.hb_disk.specs.EventLaws.{history_is_disk};
 
 use crate::event::{Pick, Refused};
@@ -31,7 +32,7 @@ pub struct MemDisk {
 }
 
 impl MemDisk {
-    ghost use Rattle.hb_disk.specs.MemDisk.{bytes_of, events_of, seen_as, StartsWith};
+    ghost use Rattle.hb_disk.specs.MemDisk.{bytes_of, events_of, mem_disk_seen, StartsWith};
 
     /// A disk of these bytes that fails at no call.
     pub fn new(alloc: Global, bytes: Vec<u8>) -> MemDisk
@@ -77,7 +78,7 @@ impl MemDisk {
             IsPicked pick moment.0 moment.1 v.items)) }
         ensures image { IfOk result (λ o. IfSome o (λ v. let moment = rewound before (bytes_of self.now) (events_of self.now) in
             IsImage moment.0 moment.1 v.items)) }
-        ensures since { IfOk result (λ o. IfSome o (λ v. (seen_as self.now).ImageSince 0 v.items)) }
+        ensures since { IfOk result (λ o. IfSome o (λ v. (mem_disk_seen self.now).ImageSince 0 v.items)) }
     {
         if before > self.calls {
             return Ok(None);
@@ -119,10 +120,10 @@ fn answer(done: Result<(), Refused>, faults: &mut u64, starved: &mut u64) -> Res
 }
 
 impl Device for MemDisk {
-    ghost use Rattle.hb_disk.specs.MemDisk.{bytes_of, seen_as, ReadExactly, CalledExactly, HasSameRecord, Records};
-    ghost use Rattle.hb_disk.specs.Events.{IsOver, IsTry, IsSync};
+    ghost use Rattle.hb_disk.specs.MemDisk.{bytes_of, mem_disk_seen, ReadExactly, CalledExactly, HasSameRecord, Records};
+    ghost use Rattle.hb_disk.specs.NotedCalls.{IsOver, IsTry, IsSync};
 
-    ghost model = { λ d. disk_of d.history.bytes.items (reverse d.history.events.items) d.history.clock
+    ghost model = { λ d. disk_after d.history.bytes.items (reverse d.history.events.items) d.history.clock
         d.read_faults d.write_faults };
 
     fn size(&self) -> u64 {
@@ -130,10 +131,10 @@ impl Device for MemDisk {
     }
 
     fn read(&mut self, at: u64, into: &mut [u8]) -> Result<(), Failed>
-        requires { at + length into.old ≤ (seen_as self.old).size }
-        ensures bytes { OnOk result (Reads at into.new (seen_as self.old)) }
-        ensures stays { Stays (seen_as self.old) (seen_as self.new) }
-        ensures faults { ReadFaults result (seen_as self.old) (seen_as self.new) }
+        requires { at + length into.old ≤ (mem_disk_seen self.old).size }
+        ensures bytes { OnOk result (Reads at into.new (mem_disk_seen self.old)) }
+        ensures stays { Stays (mem_disk_seen self.old) (mem_disk_seen self.new) }
+        ensures faults { ReadFaults result (mem_disk_seen self.old) (mem_disk_seen self.new) }
         ensures exact { ReadExactly result self.old self.new }
     {
         let listed = is_listed(&self.failing, self.calls);
@@ -148,10 +149,10 @@ impl Device for MemDisk {
     }
 
     fn write(&mut self, at: u64, from: &[u8]) -> Result<(), Failed>
-        requires { at + length from.now ≤ (seen_as self.old).size }
-        ensures writes { Writes at from.now result (seen_as self.old) (seen_as self.new) }
-        ensures ticks { Ticks result (seen_as self.old) (seen_as self.new) }
-        ensures faults { WriteFaults result (seen_as self.old) (seen_as self.new) }
+        requires { at + length from.now ≤ (mem_disk_seen self.old).size }
+        ensures writes { Writes at from.now result (mem_disk_seen self.old) (mem_disk_seen self.new) }
+        ensures ticks { Ticks result (mem_disk_seen self.old) (mem_disk_seen self.new) }
+        ensures faults { WriteFaults result (mem_disk_seen self.old) (mem_disk_seen self.new) }
         ensures exact { CalledExactly (Records (IsTry at (length from.now)) self.old self.new) result self.old self.new }
         ensures recorded { OnOk result (Records (IsOver at (length from.now) (bytes_of self.old)) self.old self.new) }
     {
@@ -164,10 +165,10 @@ impl Device for MemDisk {
     }
 
     fn zero(&mut self, at: u64, len: u64) -> Result<(), Failed>
-        requires { at + len ≤ (seen_as self.old).size }
-        ensures writes { Writes at (replicate len 0) result (seen_as self.old) (seen_as self.new) }
-        ensures ticks { Ticks result (seen_as self.old) (seen_as self.new) }
-        ensures faults { WriteFaults result (seen_as self.old) (seen_as self.new) }
+        requires { at + len ≤ (mem_disk_seen self.old).size }
+        ensures writes { Writes at (replicate len 0) result (mem_disk_seen self.old) (mem_disk_seen self.new) }
+        ensures ticks { Ticks result (mem_disk_seen self.old) (mem_disk_seen self.new) }
+        ensures faults { WriteFaults result (mem_disk_seen self.old) (mem_disk_seen self.new) }
         ensures exact { CalledExactly (Records (IsTry at len) self.old self.new) result self.old self.new }
         ensures recorded { OnOk result (Records (IsOver at len (bytes_of self.old)) self.old self.new) }
     {
@@ -180,9 +181,9 @@ impl Device for MemDisk {
     }
 
     fn sync(&mut self) -> Result<(), Failed>
-        ensures syncs { Syncs result (seen_as self.old) (seen_as self.new) }
-        ensures ticks { Ticks result (seen_as self.old) (seen_as self.new) }
-        ensures faults { WriteFaults result (seen_as self.old) (seen_as self.new) }
+        ensures syncs { Syncs result (mem_disk_seen self.old) (mem_disk_seen self.new) }
+        ensures ticks { Ticks result (mem_disk_seen self.old) (mem_disk_seen self.new) }
+        ensures faults { WriteFaults result (mem_disk_seen self.old) (mem_disk_seen self.new) }
         ensures exact { CalledExactly (HasSameRecord self.old self.new) result self.old self.new }
         ensures recorded { OnOk result (Records IsSync self.old self.new) }
     {
@@ -197,10 +198,10 @@ impl Device for MemDisk {
 }
 
 impl Disk for MemDisk {
-    ghost use Rattle.hb_disk.specs.MemDisk.{seen_as};
+    ghost use Rattle.hb_disk.specs.MemDisk.{mem_disk_seen};
 
     fn clock(&self) -> u64
-        ensures { result ≡ (seen_as self.now).clock }
+        ensures { result ≡ (mem_disk_seen self.now).clock }
     {
         self.history.clock
     }

@@ -2,7 +2,7 @@
 ghost use Rattle.std.specs.Prelude.{◌≡◌, ℕ, ◌+◌, ◌<◌, ◌≤◌, [], ◌∷◌, length, replicate, OnOk, OnErr, IsErr};
 ghost use Rattle.hb_disk.specs.Model.{Stays, overwritten};
 ghost use Rattle.hb_disk.specs.Calls.{Ticks, WriteFaults, Writes, Syncs, Reads, ReadFaults};
-ghost use Rattle.hb_disk.specs.MemDisk.{SetsByte, seen_as, ReadExactly, CalledExactly};
+ghost use Rattle.hb_disk.specs.MemDisk.{SetsByte, mem_disk_seen, ReadExactly, CalledExactly};
 ghost use Rattle.hb_disk.specs.Untold.{untold_of, untold_is_disk};
 
 use crate::{Device, Disk, MemDisk};
@@ -30,7 +30,7 @@ fn rot(inner: &mut MemDisk, before: u64, at: u64, byte: u8)
 impl Device for RotDisk {
     ghost use Rattle.hb_disk.specs.RotDisk.{hidden, AfterRot};
     ghost use Rattle.hb_disk.specs.MemDisk.{bytes_of, HasSameRecord, Records};
-    ghost use Rattle.hb_disk.specs.Events.{IsOver, IsTry, IsSync};
+    ghost use Rattle.hb_disk.specs.NotedCalls.{IsOver, IsTry, IsSync};
 
     ghost model = { λ d. untold_of (length d.inner.history.bytes.items) d.inner.read_faults d.inner.write_faults };
 
@@ -44,7 +44,7 @@ impl Device for RotDisk {
         ensures stays { Stays (hidden self.old) (hidden self.new) }
         ensures faults { ReadFaults result (hidden self.old) (hidden self.new) }
         ensures exact { AfterRot self.old (λ found. ReadExactly result found self.new.inner
-            × OnOk result (Reads at into.new (seen_as found))) }
+            × OnOk result (Reads at into.new (mem_disk_seen found))) }
     {
         rot(&mut self.inner, self.before, self.at, self.byte);
         self.inner.read(at, into)
@@ -58,7 +58,7 @@ impl Device for RotDisk {
         ensures exact { AfterRot self.old (λ found.
             CalledExactly (Records (IsTry at (length from.now)) found self.new.inner) result found self.new.inner
             × OnOk result (Records (IsOver at (length from.now) (bytes_of found)) found self.new.inner)
-            × Writes at from.now result (seen_as found) (seen_as self.new.inner)) }
+            × Writes at from.now result (mem_disk_seen found) (mem_disk_seen self.new.inner)) }
     {
         rot(&mut self.inner, self.before, self.at, self.byte);
         self.inner.write(at, from)
@@ -72,7 +72,7 @@ impl Device for RotDisk {
         ensures exact { AfterRot self.old (λ found.
             CalledExactly (Records (IsTry at len) found self.new.inner) result found self.new.inner
             × OnOk result (Records (IsOver at len (bytes_of found)) found self.new.inner)
-            × Writes at (replicate len 0) result (seen_as found) (seen_as self.new.inner)) }
+            × Writes at (replicate len 0) result (mem_disk_seen found) (mem_disk_seen self.new.inner)) }
     {
         rot(&mut self.inner, self.before, self.at, self.byte);
         self.inner.zero(at, len)
@@ -85,7 +85,7 @@ impl Device for RotDisk {
         ensures exact { AfterRot self.old (λ found.
             CalledExactly (HasSameRecord found self.new.inner) result found self.new.inner
             × OnOk result (Records IsSync found self.new.inner)
-            × Syncs result (seen_as found) (seen_as self.new.inner)) }
+            × Syncs result (mem_disk_seen found) (mem_disk_seen self.new.inner)) }
     {
         rot(&mut self.inner, self.before, self.at, self.byte);
         self.inner.sync()

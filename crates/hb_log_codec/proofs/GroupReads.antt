@@ -12,10 +12,10 @@ use Rattle.hb_frag.specs.Grammar.{SpellsPage}
 use Rattle.hb_ops.specs.declared.operations.Op.{Op}
 use Rattle.hb_page_codec.specs.declared.errors.PageError.{PageError}
 use Rattle.hb_page_codec.specs.declared.errors.PageError.TheVariants as pages
-use Rattle.hb_page_codec.specs.Reading.{Reads, number_at}
+use Rattle.hb_page_codec.specs.Reading.{ReadsAs, number_at}
 use Rattle.hb_log_codec.specs.Groups.{Logged, FitsGroup, FitsImage, FitsOp, group_bytes, image_bytes, op_bytes, page_bytes}
 use Rattle.hb_log_codec.specs.Fields.{op_at}
-use Rattle.hb_log_codec.specs.Reading.{Begins, BeginsNone, Finds, Gives, StopsFor, FitImages, GroupsEnd, images_bytes, logged, stop_of, stop_at}
+use Rattle.hb_log_codec.specs.Reading.{Begins, BeginsNone, Finds, GivesOrStops, StopsFor, FitImages, GroupsEnd, images_bytes, logged, stop_of, stop_at}
 use Rattle.hb_log_codec.proofs.GroupLaws.{SpelledOnce, spells_page_bytes, page_bytes_spell, length_page, same_fronts, same_images, same_group}
 use Rattle.hb_page_codec.specs.Exact.{AreBytes}
 use Rattle.hb_log_codec.specs.ExactFields.{ExactFields}
@@ -25,8 +25,8 @@ use Rattle.hb_log_codec.specs.declared.groups.Group.{Group}
 use Rattle.hb_log_codec.specs.declared.reading.GroupStop.{GroupStop}
 use Rattle.hb_log_codec.specs.declared.reading.GroupStop.TheVariants as stops
 
-pub read_some : {X Y : Type 0} (view : X → Y) (found : Option X) (x : X) (read : Option Y) → found ≡ Some x → Reads view found read → read ≡ Some (view x)
-read_some view found x read e h = subst (λ o. Reads view o read) e h
+pub read_some : {X Y : Type 0} (view : X → Y) (found : Option X) (x : X) (read : Option Y) → found ≡ Some x → ReadsAs view found read → read ≡ Some (view x)
+read_some view found x read e h = subst (λ o. ReadsAs view o read) e h
 
 pub halves : (n : ℕ) (bytes front back : List ℕ) → front ≡ take n bytes → back ≡ drop n bytes → bytes ≡ front ++ back
 halves n bytes front back f b = sym (take-append-drop n bytes) ∙ (λ i. sym f i ++ sym b i)
@@ -36,7 +36,7 @@ halves n bytes front back f b = sym (take-append-drop n bytes) ∙ (λ i. sym f 
 none_some : {A : Type 0} (y : A) → None ≡ Some y → ⊥
 none_some y h = absurd cc
 
-pub op_found : ExactFields → {X : Type 0} (view : X → Op × List ℕ) (k : ℕ) → 0 < k → k ≤ KMAX → (bytes : List ℕ) (result : Result X GroupStop) → AreBytes bytes → Gives view result (op_at k bytes) → Finds (FitsOp k) op_bytes bytes view result
+pub op_found : ExactFields → {X : Type 0} (view : X → Op × List ℕ) (k : ℕ) → 0 < k → k ≤ KMAX → (bytes : List ℕ) (result : Result X GroupStop) → AreBytes bytes → GivesOrStops view result (op_at k bytes) → Finds (FitsOp k) op_bytes bytes view result
 op_found f view k some few bytes (Ok x) fits e =
     let taken = (op_exact f k some few).takes bytes (view x) fits e in
     record { fits = taken.1; parts = taken.0 }

@@ -10,7 +10,8 @@ use Rattle.hb_ops.specs.declared.leaf_cuts.LeafCut.{LeafCut}
 use Rattle.hb_ops.specs.declared.operations.Op.{Op}
 use Rattle.hb_ops.specs.declared.operations.Op.TheVariants.{Put, Del, Extract, Post, Grow}
 use Rattle.hb_page_codec.specs.Exact.{AreBytes, IsExact}
-use Rattle.hb_page_codec.specs.Reading.{◌>>=◌, area_at, number_at, point_at, record_at}
+use Rattle.hb_page_codec.specs.Reading.{◌>>=◌, number_at}
+use Rattle.hb_page_codec.specs.ReadingFields.{area_at, point_at, record_at}
 use Rattle.hb_log_codec.specs.Groups.{FitsOp, cuts_bytes, op_bytes, path_bytes}
 use Rattle.hb_log_codec.specs.Fields.{cuts_at, del_at, extract_at, grow_at, op_at, path_at, post_at, put_at}
 use Rattle.hb_log_codec.specs.ExactFields.{ExactFields}

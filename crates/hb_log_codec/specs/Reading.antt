@@ -63,6 +63,6 @@ GroupsEnd k bytes (ends.BadBytes at) = IsBadAt k bytes at × ((groups : List Log
 GroupsEnd k bytes ends.NoMemory = Unit {0}
 
 -- What a reader gives, seen by view, is what reading gives; want of memory says nothing.
-abbrev pub Gives : {X Y : Type 0} → (X → Y) → Result X GroupStop → Option Y → Type 0
-Gives view (Ok x) read = read ≡ Some (view x)
-Gives view (Err stop) read = StopsFor (read ≡ None) stop
+abbrev pub GivesOrStops : {X Y : Type 0} → (X → Y) → Result X GroupStop → Option Y → Type 0
+GivesOrStops view (Ok x) read = read ≡ Some (view x)
+GivesOrStops view (Err stop) read = StopsFor (read ≡ None) stop

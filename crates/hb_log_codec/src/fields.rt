@@ -1,7 +1,7 @@
 //! Operations, from the front of bytes.
 ghost use Rattle.std.specs.Prelude.{◌<◌, ◌≤◌};
 ghost use Rattle.hb_log_codec.specs.Fields.{side_at, path_at, leaf_cut_at, cuts_at, put_at, del_at, extract_at, post_at, grow_at, op_at};
-ghost use Rattle.hb_log_codec.specs.Reading.{Gives};
+ghost use Rattle.hb_log_codec.specs.Reading.{GivesOrStops};
 ghost use Rattle.hb_page_codec.specs.Reading.{byte_at, many_at};
 
 use crate::reading::GroupStop;
@@ -14,7 +14,7 @@ use std::alloc::Global;
 
 /// A step of a path, or a side of a cut.
 fn side_of(bytes: &[u8]) -> Result<(Side, &[u8]), GroupStop>
-    ensures { Gives (λ x. (x.0, x.1.now)) result (side_at bytes.now) }
+    ensures { GivesOrStops (λ x. (x.0, x.1.now)) result (side_at bytes.now) }
 {
     match bytes {
         [0, rest @ ..] => Ok((Side::Left, rest)),
@@ -25,7 +25,7 @@ fn side_of(bytes: &[u8]) -> Result<(Side, &[u8]), GroupStop>
 
 /// A byte, and the bytes behind it.
 fn byte_of(bytes: &[u8]) -> Result<(u8, &[u8]), GroupStop>
-    ensures { Gives (λ x. (x.0, x.1.now)) result (byte_at bytes.now) }
+    ensures { GivesOrStops (λ x. (x.0, x.1.now)) result (byte_at bytes.now) }
 {
     match bytes {
         [byte, rest @ ..] => Ok((*byte, rest)),
@@ -36,7 +36,7 @@ fn byte_of(bytes: &[u8]) -> Result<(u8, &[u8]), GroupStop>
 /// A path, behind its length.
 #[tactic(auto, unfolding(crate::specs::Fields::path_at))]
 fn path_of(alloc: Global, bytes: &[u8]) -> Result<(Path, &[u8]), GroupStop>
-    ensures { Gives (λ x. (x.0, x.1.now)) result (path_at bytes.now) }
+    ensures { GivesOrStops (λ x. (x.0, x.1.now)) result (path_at bytes.now) }
 {
     let (count, rest) = byte_of(bytes)?;
     let (steps, rest) = steps_of(alloc, count, rest)?;
@@ -49,7 +49,7 @@ fn steps_of(
     count: u8,
     bytes: &[u8],
 ) -> Result<(SmallVec<Side, 32>, &[u8]), GroupStop>
-    ensures { Gives (λ x. (x.0.items, x.1.now)) result (many_at side_at count bytes.now) }
+    ensures { GivesOrStops (λ x. (x.0.items, x.1.now)) result (many_at side_at count bytes.now) }
 {
     let mut steps = SmallVec::new(alloc);
     let mut rest = bytes;
@@ -64,7 +64,7 @@ fn steps_of(
 /// A cut of a records leaf.
 #[tactic(auto, unfolding(crate::specs::Fields::leaf_cut_at))]
 fn leaf_cut_of(bytes: &[u8]) -> Result<(LeafCut, &[u8]), GroupStop>
-    ensures { Gives (λ x. (x.0, x.1.now)) result (leaf_cut_at bytes.now) }
+    ensures { GivesOrStops (λ x. (x.0, x.1.now)) result (leaf_cut_at bytes.now) }
 {
     let (axis, rest) = byte_of(bytes)?;
     let (value, rest) = u64_of(rest).ok_or(GroupStop::Bad)?;
@@ -75,7 +75,7 @@ fn leaf_cut_of(bytes: &[u8]) -> Result<(LeafCut, &[u8]), GroupStop>
 /// Cuts, behind their number.
 #[tactic(auto, unfolding(crate::specs::Fields::cuts_at))]
 fn cuts_of(alloc: Global, bytes: &[u8]) -> Result<(Cuts, &[u8]), GroupStop>
-    ensures { Gives (λ x. (x.0, x.1.now)) result (cuts_at bytes.now) }
+    ensures { GivesOrStops (λ x. (x.0, x.1.now)) result (cuts_at bytes.now) }
 {
     let (count, rest) = byte_of(bytes)?;
     let (cuts, rest) = leaf_cuts_of(alloc, count, rest)?;
@@ -88,7 +88,7 @@ fn leaf_cuts_of(
     count: u8,
     bytes: &[u8],
 ) -> Result<(SmallVec<LeafCut, 8>, &[u8]), GroupStop>
-    ensures { Gives (λ x. (x.0.items, x.1.now)) result (many_at leaf_cut_at count bytes.now) }
+    ensures { GivesOrStops (λ x. (x.0.items, x.1.now)) result (many_at leaf_cut_at count bytes.now) }
 {
     let mut cuts = SmallVec::new(alloc);
     let mut rest = bytes;
@@ -105,7 +105,7 @@ fn leaf_cuts_of(
 fn put_of(k: u8, bytes: &[u8]) -> Result<(Op, &[u8]), GroupStop>
     requires some { 0 < k }
     requires few { k ≤ KMAX }
-    ensures { Gives (λ x. (x.0, x.1.now)) result (put_at k bytes.now) }
+    ensures { GivesOrStops (λ x. (x.0, x.1.now)) result (put_at k bytes.now) }
 {
     let (page, rest) = u32_of(bytes).ok_or(GroupStop::Bad)?;
     let (rec, rest) = record_of(k, rest).ok_or(GroupStop::Bad)?;
@@ -117,7 +117,7 @@ fn put_of(k: u8, bytes: &[u8]) -> Result<(Op, &[u8]), GroupStop>
 fn del_of(k: u8, bytes: &[u8]) -> Result<(Op, &[u8]), GroupStop>
     requires some { 0 < k }
     requires few { k ≤ KMAX }
-    ensures { Gives (λ x. (x.0, x.1.now)) result (del_at k bytes.now) }
+    ensures { GivesOrStops (λ x. (x.0, x.1.now)) result (del_at k bytes.now) }
 {
     let (page, rest) = u32_of(bytes).ok_or(GroupStop::Bad)?;
     let (point, rest) = point_of(k, rest).ok_or(GroupStop::Bad)?;
@@ -127,7 +127,7 @@ fn del_of(k: u8, bytes: &[u8]) -> Result<(Op, &[u8]), GroupStop>
 /// A split, behind its tag.
 #[tactic(auto, unfolding(crate::specs::Fields::extract_at))]
 fn extract_of(alloc: Global, bytes: &[u8]) -> Result<(Op, &[u8]), GroupStop>
-    ensures { Gives (λ x. (x.0, x.1.now)) result (extract_at bytes.now) }
+    ensures { GivesOrStops (λ x. (x.0, x.1.now)) result (extract_at bytes.now) }
 {
     let (source, rest) = u32_of(bytes).ok_or(GroupStop::Bad)?;
     let (fresh, rest) = u32_of(rest).ok_or(GroupStop::Bad)?;
@@ -149,7 +149,7 @@ fn extract_of(alloc: Global, bytes: &[u8]) -> Result<(Op, &[u8]), GroupStop>
 fn post_of(alloc: Global, k: u8, bytes: &[u8]) -> Result<(Op, &[u8]), GroupStop>
     requires some { 0 < k }
     requires few { k ≤ KMAX }
-    ensures { Gives (λ x. (x.0, x.1.now)) result (post_at k bytes.now) }
+    ensures { GivesOrStops (λ x. (x.0, x.1.now)) result (post_at k bytes.now) }
 {
     let (parent, rest) = u32_of(bytes).ok_or(GroupStop::Bad)?;
     let (at, rest) = path_of(alloc, rest)?;
@@ -167,7 +167,7 @@ fn post_of(alloc: Global, k: u8, bytes: &[u8]) -> Result<(Op, &[u8]), GroupStop>
 /// A growth, behind its tag.
 #[tactic(auto, unfolding(crate::specs::Fields::grow_at))]
 fn grow_of(bytes: &[u8]) -> Result<(Op, &[u8]), GroupStop>
-    ensures { Gives (λ x. (x.0, x.1.now)) result (grow_at bytes.now) }
+    ensures { GivesOrStops (λ x. (x.0, x.1.now)) result (grow_at bytes.now) }
 {
     let (fresh, rest) = u32_of(bytes).ok_or(GroupStop::Bad)?;
     let (free_after, rest) = u32_of(rest).ok_or(GroupStop::Bad)?;
@@ -178,7 +178,7 @@ fn grow_of(bytes: &[u8]) -> Result<(Op, &[u8]), GroupStop>
 pub(crate) fn op_of(alloc: Global, k: u8, bytes: &[u8]) -> Result<(Op, &[u8]), GroupStop>
     requires some { 0 < k }
     requires few { k ≤ KMAX }
-    ensures { Gives (λ x. (x.0, x.1.now)) result (op_at k bytes.now) }
+    ensures { GivesOrStops (λ x. (x.0, x.1.now)) result (op_at k bytes.now) }
 {
     match bytes {
         [1, rest @ ..] => put_of(k, rest),

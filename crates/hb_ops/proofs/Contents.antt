@@ -17,11 +17,12 @@ use Rattle.hb_layout.specs.declared.meta.Meta.{Meta}
 use Rattle.hb_ops.specs.declared.operations.Op.TheVariants.{Put, Del}
 use Rattle.hb_ops.specs.Files.{FileState, file_records, live_page, page_of, page_records}
 use Rattle.hb_ops.specs.Recording.{FitsDel, FitsPut, joined, on_records, page_with, put_page, del_page, without}
-use Rattle.hb_ops.specs.Operations.{IsAllowedOn, change_of, effect_of, nth_read, with_page, with_pages}
+use Rattle.hb_ops.specs.Operations.{IsAllowedOn, change_of, effect_of, nth_read, with_page, with_changed_pages}
 use Rattle.hb_ops.specs.LawsOfContents.{DelTakesOne, LonePage, OthersLack, PutAddsOne}
 use Rattle.hb_ops.proofs.Finds.{absent, contents, del_done, put_done, there}
-use Rattle.hb_ops.proofs.Lists.{whole}
-use Rattle.hb_ops.proofs.Pages.{Lack, in_range, live_so, page_at-suc, place_of, stands_among, with_page-there}
+use Rattle.hb_ops.specs.ListLaws.{whole}
+use Rattle.hb_ops.proofs.Pages.{Lack, stands_among}
+use Rattle.hb_ops.specs.PageNumberLaws.{in_range, live_so, page_at-suc, place_of, with_page-there}
 use Rattle.hb_ops.proofs.Tips.{LeafLacks, parted}
 
 -- the records of leaves that lack the point
@@ -81,10 +82,10 @@ del_on id point meta (Some page) second third h = (page, refl, h)
 
 -- the pages afterwards
 pub put_pages : (s : FileState) (id : ℕ) (rec : Record) (page : LivePage) → live_page s id ≡ Some page → (effect_of s (Put id rec)).pages ≡ with_page id (Live (put_page rec page)) s.pages
-put_pages s id rec page live = ap (λ (o : Option LivePage). with_pages (change_of (Put id rec) s.meta o (nth_read s (Put id rec) 1) (nth_read s (Put id rec) 2)).pages s.pages) live
+put_pages s id rec page live = ap (λ (o : Option LivePage). with_changed_pages (change_of (Put id rec) s.meta o (nth_read s (Put id rec) 1) (nth_read s (Put id rec) 2)).pages s.pages) live
 
 pub del_pages : (s : FileState) (id : ℕ) (point : List ℕ) (page : LivePage) → live_page s id ≡ Some page → (effect_of s (Del id point)).pages ≡ with_page id (Live (del_page point page)) s.pages
-del_pages s id point page live = ap (λ (o : Option LivePage). with_pages (change_of (Del id point) s.meta o (nth_read s (Del id point) 1) (nth_read s (Del id point) 2)).pages s.pages) live
+del_pages s id point page live = ap (λ (o : Option LivePage). with_changed_pages (change_of (Del id point) s.meta o (nth_read s (Del id point) 1) (nth_read s (Del id point) 2)).pages s.pages) live
 
 pub put_adds_one : PutAddsOne
 put_adds_one s id rec allowed has others =

@@ -1,6 +1,6 @@
-pub mod Lists
 pub mod Orders
 pub mod Boxes
+pub mod Corners
 pub mod Tips
 pub mod Finds
 pub mod Pages
@@ -10,11 +10,6 @@ pub mod Opened
 pub mod Remade
 pub mod Sound
 pub mod Looks
-pub mod LeafHalves
-pub mod CutLeaves
-pub mod CutShapes
-pub mod PathParts
-pub mod PagesParted
 pub mod CutTests
 pub mod PostTests
 pub mod CarvedCuts

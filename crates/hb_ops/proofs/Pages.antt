@@ -1,56 +1,10 @@
--- The pages of a file by their numbers, and the records of the page at a number among those of the others.
-use Rattle.std.proofs.Common.{◌≡◌, ◌≢◌, ℕ, zero, suc, ◌+◌, ◌-◌, ◌<◌, ◌==◌, Bool, cond, List, [], ◌∷◌, ◌++◌, length, set, slice_get, flat_map, Option, Some, None, refl, sym, ap, ◌∙◌, arith, append_assoc, ne_eqb, lt-ltb, nat_lt}
+-- The records of the page at a number among those of the other pages.
+use Rattle.std.proofs.Common.{◌≡◌, ◌≢◌, ℕ, zero, suc, List, [], ◌∷◌, ◌++◌, set, slice_get, flat_map, Some, refl, sym, ap, ◌∙◌, arith, append_assoc}
 use Rattle.std.specs.List.{AllByRecursion}
 use Rattle.hb_space.specs.declared.records.Record.{Record}
-use Rattle.hb_frag.specs.declared.pages.LivePage.{LivePage}
 use Rattle.hb_frag.specs.declared.pages.Page.{Page}
-use Rattle.hb_frag.specs.declared.pages.Page.TheVariants.{Live, Free}
-use Rattle.hb_ops.specs.Files.{if_live, page_at, page_records}
-use Rattle.hb_ops.specs.Operations.{with_page}
-use Rattle.hb_ops.proofs.Lists.{whole}
-
--- no page has the number 0, and the page of another number stands one place before
-pub page_at-zero : (pages : List Page) → page_at pages 0 ≡ None
-page_at-zero [] = refl
-page_at-zero (page ∷ rest) = refl
-
-pub page_at-suc : (pages : List Page) (n : ℕ) → page_at pages (suc n) ≡ slice_get pages n
-page_at-suc [] n = refl
-page_at-suc (page ∷ rest) zero = refl
-page_at-suc (page ∷ rest) (suc n) =
-    ap (λ (b : Bool). cond b None (cond (suc (suc n) == 1) (Some page) (page_at rest (suc (suc n) - 1)))) (ne_eqb (suc (suc n)) 0 (λ e. omega arith))
-    ∙ ap (λ (b : Bool). cond b (Some page) (page_at rest (suc (suc n) - 1))) (ne_eqb (suc (suc n)) 1 (λ e. omega arith))
-    ∙ ap (page_at rest) (let e : suc (suc n) - 1 ≡ suc n = omega arith in e)
-    ∙ page_at-suc rest n
-
--- so a page that is there has a place
-pub place_of : (pages : List Page) (id : ℕ) (page : Page) → page_at pages id ≡ Some page → (n : ℕ) × (id ≡ suc n) × (slice_get pages n ≡ Some page)
-place_of pages zero page e = let none = page_at-zero pages in cc
-place_of pages (suc n) page e = (n, refl, sym (page_at-suc pages n) ∙ e)
-
-pub in_range : (pages : List Page) (n : ℕ) (page : Page) → slice_get pages n ≡ Some page → n < length pages
-in_range [] n page e = cc
-in_range (x ∷ xs) zero page e = omega arith
-in_range (x ∷ xs) (suc n) page e = let rest = in_range xs n page e in omega arith
-
--- another page at the place of one that is there
-pub with_page-there : (pages : List Page) (n : ℕ) (new : Page) → n < length pages → with_page (suc n) new pages ≡ set pages n new
-with_page-there pages n new lt =
-    let back : suc n - 1 ≡ n = omega arith in
-    let rest : List Page = cond (suc n == length pages + 1) (pages ++ (new ∷ [])) pages in
-    ap (λ (b : Bool). cond b pages (cond (nat_lt (suc n - 1) (length pages)) (set pages (suc n - 1) new) rest)) (ne_eqb (suc n) 0 (λ e. omega arith))
-    ∙ ap (λ (m : ℕ). cond (nat_lt m (length pages)) (set pages m new) rest) back
-    ∙ ap (λ (b : Bool). cond b (set pages n new) rest) (lt-ltb n (length pages) lt)
-
--- a page in use
-pub live_so : (o : Option Page) (page : LivePage) → if_live o ≡ Some page → o ≡ Some (Live page)
-live_so None page e = cc
-live_so (Some (Live q)) page e = ap (λ (o : Option LivePage). live_again o) e
-  where
-    live_again : Option LivePage → Option Page
-    live_again None = None
-    live_again (Some page) = Some (Live page)
-live_so (Some (Free next)) page e = cc
+use Rattle.hb_ops.specs.Files.{page_records}
+use Rattle.hb_ops.specs.ListLaws.{whole}
 
 -- no record of these pages has the point
 abbrev pub Lack : List ℕ → List Record → Type 0

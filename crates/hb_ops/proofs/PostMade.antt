@@ -18,10 +18,10 @@ use Rattle.hb_layout.specs.declared.meta.Meta.{Meta}
 use Rattle.hb_ops.specs.Posting.{FitsPost, post_page}
 use Rattle.hb_ops.specs.Sound.{FitsFile}
 use Rattle.hb_ops.proofs.CarvedCuts.{carved_below, carved_own, carved_well_cut}
-use Rattle.hb_ops.proofs.Lists.{All-parts}
-use Rattle.hb_ops.proofs.PathParts.{not_lone_again, well_cut_again}
+use Rattle.hb_ops.specs.ListLaws.{All-parts}
+use Rattle.hb_ops.specs.PathLaws.{not_lone_again, well_cut_again}
 use Rattle.hb_ops.proofs.PostTests.{leaf_attributes, page_named, the_tree}
-use Rattle.hb_ops.proofs.Remade.{placed}
+use Rattle.hb_ops.specs.PlacedLaws.{placed}
 
 -- what the laws of joined leaves say
 pub record JoinLaws : Type 0 where
@@ -41,7 +41,7 @@ with_leaves P (Right ∷ path) (Cut axis value left right) other old new =
     All-append P (leaves left) (leaves (with_part path right other)) both.0 (with_leaves P path right other both.1 new)
 
 -- above level 0 there are no records to be in order
-order_above : (level : ℕ) (t : Tree) (area : Area) → 0 < level → All (BelongsAt level) (leaves t) → All IsInOrder (leaves_of t area)
+pub order_above : (level : ℕ) (t : Tree) (area : Area) → 0 < level → All (BelongsAt level) (leaves t) → All IsInOrder (leaves_of t area)
 order_above level (Tip (Records records)) area above kinds = absurd (let e = All-head (BelongsAt level) (Records records) [] kinds in omega (arith, e, above))
 order_above level (Tip (Child page)) area above kinds = All-cons IsInOrder (placed (Child page) area) [] (record { inside = All-nil (λ r. Holds area r.key); rising = λ i j d lt in_range. absurd (omega arith) }) (All-nil IsInOrder)
 order_above level (Tip (Sibling page)) area above kinds = All-cons IsInOrder (placed (Sibling page) area) [] (record { inside = All-nil (λ r. Holds area r.key); rising = λ i j d lt in_range. absurd (omega arith) }) (All-nil IsInOrder)

@@ -1,5 +1,5 @@
 -- A file with the records of one leaf changed: it is as sound as before.
-use Rattle.std.proofs.Common.{◌≡◌, ◌≢◌, ℕ, zero, suc, ◌+◌, ◌<◌, List, [], ◌∷◌, length, set, slice_get, Contains, Option, Some, refl, sym, ap, subst, ◌∙◌, arith, inl, inr}
+use Rattle.std.proofs.Common.{◌≡◌, ◌≢◌, ℕ, zero, suc, ◌+◌, List, [], ◌∷◌, set, slice_get, Contains, Option, Some, refl, sym, ap, subst, ◌∙◌, inl, inr}
 use Rattle.std.proofs.lemmas.Bool.{cases_eq}
 use Rattle.std.proofs.lemmas.List.{length-set}
 use Rattle.hb_space.specs.Boxes.{Area, Within}
@@ -13,12 +13,13 @@ use Rattle.hb_layout.specs.declared.meta.Meta.{Meta}
 use Rattle.hb_ops.specs.declared.operations.Op.TheVariants.{Put, Del}
 use Rattle.hb_ops.specs.Files.{FileState, if_live, live_page, page_of}
 use Rattle.hb_ops.specs.Recording.{joined, page_with, without}
-use Rattle.hb_ops.specs.Operations.{change_of, nth_read, with_page, with_pages}
+use Rattle.hb_ops.specs.Operations.{change_of, nth_read, with_page, with_changed_pages}
 use Rattle.hb_ops.specs.LawsOfContents.{PutStaysSound, DelStaysSound}
 use Rattle.hb_ops.specs.Sound.{ChildrenMatch, FitsFile, IsChain, IsCounted, IsCovered, IsRooted, IsSound, SiblingsMatch, count_live, count_name, times_named}
 use Rattle.hb_ops.proofs.Contents.{del_on, put_on}
-use Rattle.hb_ops.proofs.Pages.{in_range, live_so, page_at-suc, page_at-zero, place_of, with_page-there}
-use Rattle.hb_ops.proofs.Remade.{children_again, del_made, placed, put_made, siblings_again}
+use Rattle.hb_ops.specs.PageNumberLaws.{get-set_other, get-set_same, in_range, live_so, page_at-suc, page_at-zero, place_of, with_page-there}
+use Rattle.hb_ops.proofs.Remade.{children_again, del_made, put_made, siblings_again}
+use Rattle.hb_ops.specs.PlacedLaws.{placed}
 
 -- what one page has in common with another that takes its place
 pub record IsLike (meta : Meta) (page made : LivePage) : Type 0 where
@@ -30,18 +31,6 @@ pub record IsLike (meta : Meta) (page made : LivePage) : Type 0 where
 
 like_itself : (meta : Meta) (page : LivePage) → IsLike meta page page
 like_itself meta page = record { level = refl; area = refl; siblings = refl; children = λ name a h. h; fits = λ h. h }
-
-get-set_same : (pages : List Page) (n : ℕ) (new : Page) → n < length pages → slice_get (set pages n new) n ≡ Some new
-get-set_same [] n new lt = absurd (omega arith)
-get-set_same (x ∷ xs) zero new lt = refl
-get-set_same (x ∷ xs) (suc n) new lt = get-set_same xs n new (omega arith)
-
-get-set_other : (pages : List Page) (n m : ℕ) (new : Page) → m ≢ n → slice_get (set pages n new) m ≡ slice_get pages m
-get-set_other [] n m new ne = refl
-get-set_other (x ∷ xs) zero zero new ne = absurd (ne refl)
-get-set_other (x ∷ xs) zero (suc m) new ne = refl
-get-set_other (x ∷ xs) (suc n) zero new ne = refl
-get-set_other (x ∷ xs) (suc n) (suc m) new ne = get-set_other xs n m new (λ e. ne (ap suc e))
 
 count-set : (pages : List Page) (n : ℕ) (page made : LivePage) → slice_get pages n ≡ Some (Live page) → count_live (set pages n (Live made)) ≡ count_live pages
 count-set [] n page made e = refl
@@ -199,11 +188,11 @@ with_remade s id page p change live made sound =
 pub put_stays_sound : PutStaysSound
 put_stays_sound s id rec sound has allowed =
     let on = put_on id rec s.meta (live_page s id) (nth_read s (Put id rec) 1) (nth_read s (Put id rec) 2) allowed in
-    let state : Option LivePage → FileState = λ o. let made = change_of (Put id rec) s.meta o (nth_read s (Put id rec) 1) (nth_read s (Put id rec) 2) in record { meta = made.meta; pages = with_pages made.pages s.pages } in
+    let state : Option LivePage → FileState = λ o. let made = change_of (Put id rec) s.meta o (nth_read s (Put id rec) 1) (nth_read s (Put id rec) 2) in record { meta = made.meta; pages = with_changed_pages made.pages s.pages } in
     subst (λ (o : Option LivePage). IsSound (state o)) (sym on.1) (with_remade s id on.0 rec.key (joined rec) on.1 (put_made s.meta on.0 rec on.2) sound)
 
 pub del_stays_sound : DelStaysSound
 del_stays_sound s id point sound has allowed =
     let on = del_on id point s.meta (live_page s id) (nth_read s (Del id point) 1) (nth_read s (Del id point) 2) allowed in
-    let state : Option LivePage → FileState = λ o. let made = change_of (Del id point) s.meta o (nth_read s (Del id point) 1) (nth_read s (Del id point) 2) in record { meta = made.meta; pages = with_pages made.pages s.pages } in
+    let state : Option LivePage → FileState = λ o. let made = change_of (Del id point) s.meta o (nth_read s (Del id point) 1) (nth_read s (Del id point) 2) in record { meta = made.meta; pages = with_changed_pages made.pages s.pages } in
     subst (λ (o : Option LivePage). IsSound (state o)) (sym on.1) (with_remade s id on.0 point (without point) on.1 (del_made s.meta on.0 point on.2) sound)

@@ -84,13 +84,13 @@ abbrev pub with_page : ℕ → Page → List Page → List Page
 with_page id page pages = if id == 0 then pages else if nat_lt (id - 1) (length pages) then slice_set pages (id - 1) page
     else if id == length pages + 1 then pages ++ page ∷ [] else pages
 
-abbrev pub with_pages : List (ℕ × Page) → List Page → List Page
-with_pages [] pages = pages
-with_pages (changed ∷ rest) pages = with_pages rest (with_page changed.0 changed.1 pages)
+abbrev pub with_changed_pages : List (ℕ × Page) → List Page → List Page
+with_changed_pages [] pages = pages
+with_changed_pages (changed ∷ rest) pages = with_changed_pages rest (with_page changed.0 changed.1 pages)
 
 -- the file after an operation
 abbrev pub effect_of : FileState → Op → FileState
-effect_of s op = let change = change_of op s.meta (nth_read s op 0) (nth_read s op 1) (nth_read s op 2) in record { meta = change.meta; pages = with_pages change.pages s.pages }
+effect_of s op = let change = change_of op s.meta (nth_read s op 0) (nth_read s op 1) (nth_read s op 2) in record { meta = change.meta; pages = with_changed_pages change.pages s.pages }
 
 -- the points and the box of an operation have k attributes
 abbrev pub OpHas : ℕ → Op → Type 0

@@ -1,15 +1,16 @@
 //! Which of its own rules a page breaks.
 
-ghost use Rattle.std.specs.Prelude.{◌≡◌, ◌<◌, ◌^◌, ◌↔◌, All, AllPairs, IfSome, IsNone, IsTrue};
-ghost use Rattle.hb_space.specs.Boxes.{Holds};
-ghost use Rattle.hb_frag.specs.Leaves.{IsWellCut, leaves, leaves_of, weight_of};
+ghost use Rattle.std.specs.Prelude.{◌≡◌, ◌<◌, ◌^◌, ◌↔◌, length, All, AllPairs, IfSome, IsNone, IsTrue};
+ghost use Rattle.hb_space.specs.Boxes.{Cuts, Holds};
+ghost use Rattle.hb_frag.specs.Leaves.{IsWellCut, WellCut, leaves, leaves_of, weight_of};
 ghost use Rattle.hb_frag.specs.Trees.{Tip};
-ghost use Rattle.hb_frag.specs.Rules.{AreAlike, BelongsAt, Fits, IsFilledRight, IsInOrder, IsNormal, IsSiblingTip, Precedes, capacity_of};
+ghost use Rattle.hb_frag.specs.Rules.{AreAlike, AreInOrder, BelongsAt, Fits, IsFilledRight, IsInOrder, IsNormal, IsSiblingTip, Precedes, capacity_of};
 ghost use Rattle.hb_ops.specs.Sound.{FitsFile};
 ghost use Rattle.hb_ops.specs.LocalRule.{BreaksFirst};
 
 use crate::Meta;
 use hb_frag::{Frag, Leaf, LivePage, Node};
+use hb_space::form::KMAX;
 use hb_space::{Area, Record};
 
 /// The least of the rules 3, 4, 5, 6 and 10 that the page breaks by itself in a file that says
@@ -22,13 +23,13 @@ pub fn local_rule(page: &LivePage, meta: &Meta) -> Option<u8>
     if !fits(page, meta) {
         return Some(3);
     }
-    if !page.is_well_cut() {
+    if !is_cut(page) {
         return Some(4);
     }
     if !is_filled_right(page, meta) {
         return Some(5);
     }
-    if !are_in_order(&page.frag, &page.area) {
+    if !is_in_order_throughout(page) {
         return Some(6);
     }
     if !is_normal(&page.frag) {
@@ -42,6 +43,59 @@ fn fits(page: &LivePage, meta: &Meta) -> bool
     ensures { IsTrue result ↔ Fits page.now meta.now.k meta.now.height }
 {
     page.level < meta.height && page.area.lo().attributes() == meta.k
+}
+
+// Rule 4: every cut cuts its box.
+fn is_cut(page: &LivePage) -> bool
+    ensures { IsTrue result ↔ WellCut page.now }
+{
+    let count = page.area.lo().values().len();
+    let mut lo = [0; KMAX];
+    let mut hi = [0; KMAX];
+    lo[..count].copy_from_slice(page.area.lo().values());
+    hi[..count].copy_from_slice(page.area.hi().values());
+    all_cut(&page.frag, &mut lo[..count], &mut hi[..count])
+}
+
+// Whether the plane cuts the box of these corners.
+fn cuts(lo: &[u64], hi: &[u64], axis: u8, value: u64) -> bool
+    requires { length lo.now ≡ length hi.now }
+    ensures { IsTrue result ↔ Cuts (record { lo = lo.now; hi = hi.now }) axis value }
+{
+    let at = usize::from(axis);
+    at < lo.len() && lo[at] < value && value <= hi[at]
+}
+
+// Whether every cut of the part cuts its box, which has these corners. They stay as they are.
+fn all_cut(frag: &Frag, lo: &mut [u64], hi: &mut [u64]) -> bool
+    requires { length lo.old ≡ length hi.old }
+    ensures cut { IsTrue result ↔ IsWellCut frag.now (record { lo = lo.old; hi = hi.old }) }
+    ensures lo { lo.new ≡ lo.old }
+    ensures hi { hi.new ≡ hi.old }
+{
+    match &frag.node {
+        Node::Tip(_) => true,
+        Node::Cut {
+            axis,
+            value,
+            left,
+            right,
+        } => {
+            if !cuts(lo, hi, *axis, *value) {
+                return false;
+            }
+            let at = usize::from(*axis);
+            let greatest = hi[at];
+            hi[at] = *value - 1;
+            let below = all_cut(left, lo, hi);
+            hi[at] = greatest;
+            let least = lo[at];
+            lo[at] = *value;
+            let from = all_cut(right, lo, hi);
+            lo[at] = least;
+            below && from
+        }
+    }
 }
 
 // Rule 5: leaves of the right kinds, a weight that the page may have, and no lone sibling leaf.
@@ -89,7 +143,21 @@ pub(crate) fn is_sibling_tip(frag: &Frag) -> bool
     matches!(&frag.node, Node::Tip(Leaf::Sibling(_)))
 }
 
-// Rule 6: the records of each leaf lie in its box and rise, in a part with this box.
+// Rule 6: the records of each leaf lie in its box and rise. Where each leaf is of a kind that stands at the level, only a
+// page of level 0 has some.
+fn is_in_order_throughout(page: &LivePage) -> bool
+    requires cut { WellCut page.now }
+    requires kinds { All (BelongsAt page.now.level) (leaves page.now.frag) }
+    ensures { IsTrue result ↔ AreInOrder page.now }
+{
+    if page.level == 0 {
+        are_in_order(&page.frag, &page.area)
+    } else {
+        true
+    }
+}
+
+// So do those of each leaf of a part with this box.
 fn are_in_order(frag: &Frag, area: &Area) -> bool
     requires { IsWellCut frag.now area.now }
     ensures { IsTrue result ↔ All IsInOrder (leaves_of frag.now area.now) }

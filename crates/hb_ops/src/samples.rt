@@ -3,10 +3,11 @@
 //! A page is spelled as its leaves from the left, with ` / VALUE:` for each cut. A leaf is its
 //! records, each as `POINT=BODY`, or `^PAGE` for a child and `>PAGE` for a sibling.
 
-ghost use Rattle.std.specs.Prelude.{◌≡◌, ◌<◌, ◌^◌, length, IfOk, IfSome};
+ghost use Rattle.std.specs.Prelude.{◌≡◌, ◌<◌, ◌≤◌, ◌^◌, length, IfOk, IfSome};
 ghost use Rattle.hb_frag.specs.Leaves.{leaf_weight, weight_of};
+ghost use Rattle.hb_ops.specs.Operations.{OpHas};
 
-use crate::Meta;
+use crate::{ChangeError, Changed, Meta, Op, change};
 use hb_frag::{Frag, Leaf, LivePage, Node};
 use hb_space::form::BMAX;
 use hb_space::{Area, Body, NoMemory, Point, Record, Records};
@@ -29,6 +30,20 @@ pub(crate) fn meta_of(dcap: u16) -> Meta
         live: 3,
         free: 0,
     }
+}
+
+/// What an operation makes of the page that it reads, in a file that says this.
+pub(crate) fn change_of(
+    alloc: Global,
+    op: Op,
+    meta: &Meta,
+    page: Option<LivePage>,
+) -> Result<Changed, ChangeError>
+    requires attributes { meta.now.k ≡ 1 }
+    requires points { OpHas 1 op }
+    requires light { IfSome page (λ p. weight_of p.frag < 2 ^ 32) }
+{
+    change(alloc, &op, meta, page.as_ref(), None, None)
 }
 
 pub(crate) fn point_of(word: &str) -> Result<Point, Fail>

@@ -5,8 +5,8 @@ ghost use Rattle.std.specs.Prelude.{◌≡◌, IfOk, length};
 ghost use Rattle.hb_space.specs.Boxes.{IsArea};
 ghost use Rattle.hb_ops.specs.Operations.{OpHas};
 
-use crate::samples::{leveled, meta_of, push_leaf};
-use crate::{Changed, Cuts, LeafCut, Meta, Op, change};
+use crate::samples::{change_of, leveled, meta_of, push_leaf};
+use crate::{ChangeError, Changed, Cuts, LeafCut, Meta, Op};
 use hb_frag::{Frag, LivePage, Node, Page, Path, Side};
 use hb_space::{Area, NoMemory, Point};
 use smallvec::SmallVec;
@@ -113,7 +113,11 @@ fn push_page(text: &mut String, page: &LivePage) -> Result<(), NoMemory> {
 }
 
 // The root, the height, the high mark, the pages in use and the free head; then each page.
-fn drawn(alloc: Global, changed: &Changed) -> Result<String, NoMemory> {
+fn drawn(alloc: Global, changed: Result<Changed, ChangeError>) -> Result<String, Fail> {
+    let changed = match changed {
+        Ok(changed) => changed,
+        Err(error) => return Ok(format!(in alloc; "{error:?}")?),
+    };
     let meta = &changed.meta;
     let mut text = format!(in alloc;
         "{} {} {} {} {}",
@@ -149,77 +153,48 @@ fn split(
         cuts: cuts_of(alloc, cuts)?,
         free_after,
     };
-    match change(alloc, &op, meta, Some(&page), None, None) {
-        Ok(changed) => Ok(drawn(alloc, &changed)?),
-        Err(error) => Ok(format!(in alloc; "{error:?}")?),
-    }
+    drawn(alloc, change_of(alloc, op, meta, Some(page)))
 }
 
 #[test]
 fn parts_that_leave(rt: HostRuntime) -> Result<(), Fail> {
     let alloc = rt.alloc();
     let meta = file(8, 3, 3, 0);
-    for (page, part, wanted) in [
+    for row in [
         // a leaf on the right, one on the left, and a side of a cut
-        (
-            "0 10=a / 40: >2 / 60: 70=b",
-            "RR:",
-            "3 level 0 from 0 ( 10=a |40| (>2 |60| >4)); 4 level 0 from 60  70=b",
-        ),
-        (
-            "0 10=a / 40: >2 / 60: 70=b",
-            "L:",
-            "3 level 0 from 0 (>4 |40| (>2 |60|  70=b)); 4 level 0 from 0 to 39  10=a",
-        ),
-        (
-            "0 10=a / 40: >2 / 60: 70=b",
-            "R:",
-            "3 level 0 from 0 ( 10=a |40| >4); 4 level 0 from 40 (>2 |60|  70=b)",
-        ),
-        (
-            "1 ^2 / 40: ^3 / 60: ^2",
-            "R:",
-            "3 level 1 from 0 (^2 |40| >4); 4 level 1 from 40 (^3 |60| ^2)",
-        ),
+        "0 10=a / 40: >2 / 60: 70=b | RR: => 3 level 0 from 0 ( 10=a |40| (>2 |60| >4)); 4 level 0 from 60  70=b",
+        "0 10=a / 40: >2 / 60: 70=b | L: => 3 level 0 from 0 (>4 |40| (>2 |60|  70=b)); 4 level 0 from 0 to 39  10=a",
+        "0 10=a / 40: >2 / 60: 70=b | R: => 3 level 0 from 0 ( 10=a |40| >4); 4 level 0 from 40 (>2 |60|  70=b)",
+        "1 ^2 / 40: ^3 / 60: ^2 | R: => 3 level 1 from 0 (^2 |40| >4); 4 level 1 from 40 (^3 |60| ^2)",
         // one cut of a records leaf, and two, one inside the other
-        (
-            "0 10=a 20=b 30=c 40=d 50=e",
-            ":0 L 30",
-            "3 level 0 from 0 (>4 |30|  30=c 40=d 50=e); 4 level 0 from 0 to 29  10=a 20=b",
-        ),
-        (
-            "0 10=a 20=b 30=c 40=d 50=e",
-            ":0 R 20, 0 L 50",
-            "3 level 0 from 0 ( 10=a |20| (>4 |50|  50=e)); 4 level 0 from 20 to 49  20=b 30=c 40=d",
-        ),
-        (
-            "0 >2 / 5: 10=a 20=b 30=c",
-            "R:0 L 20",
-            "3 level 0 from 0 (>2 |5| (>4 |20|  20=b 30=c)); 4 level 0 from 5 to 19  10=a",
-        ),
+        "0 10=a 20=b 30=c 40=d 50=e | :0 L 30 => 3 level 0 from 0 (>4 |30|  30=c 40=d 50=e); 4 level 0 from 0 to 29  10=a 20=b",
+        "0 10=a 20=b 30=c 40=d 50=e | :0 R 20, 0 L 50 => 3 level 0 from 0 ( 10=a |20| (>4 |50|  50=e)); 4 level 0 from 20 to 49  20=b 30=c 40=d",
+        "0 >2 / 5: 10=a 20=b 30=c | R:0 L 20 => 3 level 0 from 0 (>2 |5| (>4 |20|  20=b 30=c)); 4 level 0 from 5 to 19  10=a",
         // a path that leads out, a lone sibling leaf, the whole page
-        ("0 10=a / 40: >2", "LL:", "Unfit"),
-        ("0 10=a / 40: >2", "R:", "Unfit"),
-        ("0 10=a / 40: >2", ":", "Unfit"),
-        ("0 10=a", ":", "Unfit"),
+        "0 10=a / 40: >2 | LL: => Unfit",
+        "0 10=a / 40: >2 | R: => Unfit",
+        "0 10=a / 40: >2 | : => Unfit",
+        "0 10=a | : => Unfit",
         // a cut of no records leaf, and cuts that leave no record on one side
-        ("0 10=a / 40: >2", "R:0 R 50", "Unfit"),
-        ("0 10=a / 40: >2", ":0 R 5", "Unfit"),
-        ("1 ^2 / 40: ^3", "L:0 R 5", "Unfit"),
-        ("0 10=a 20=b", ":0 R 10", "Unfit"),
-        ("0 10=a 20=b", ":0 L 21", "Unfit"),
-        ("0 10=a 20=b 30=c", ":0 R 20, 0 L 40", "Unfit"),
+        "0 10=a / 40: >2 | R:0 R 50 => Unfit",
+        "0 10=a / 40: >2 | :0 R 5 => Unfit",
+        "1 ^2 / 40: ^3 | L:0 R 5 => Unfit",
+        "0 10=a 20=b | :0 R 10 => Unfit",
+        "0 10=a 20=b | :0 L 21 => Unfit",
+        "0 10=a 20=b 30=c | :0 R 20, 0 L 40 => Unfit",
         // a plane at the end of the box, one that the first cut left behind, another attribute
-        ("0 10=a 20=b", ":0 R 0", "Unfit"),
-        ("0 10=a 20=b 30=c", ":0 R 20, 0 R 20", "Unfit"),
-        ("0 10=a 20=b", ":1 R 20", "Unfit"),
+        "0 10=a 20=b | :0 R 0 => Unfit",
+        "0 10=a 20=b 30=c | :0 R 20, 0 R 20 => Unfit",
+        "0 10=a 20=b | :1 R 20 => Unfit",
         // a page that breaks a rule of its own
-        ("0 10=a / 40: 50=b", "L:", "Unfit"),
-        ("2 ^2 / 40: ^3", "L:", "Unfit"),
+        "0 10=a / 40: 50=b | L: => Unfit",
+        "2 ^2 / 40: ^3 | L: => Unfit",
     ] {
+        let (given, wanted) = row.split_once(" => ").ok_or("no row")?;
+        let (page, part) = given.split_once(" | ").ok_or("no part")?;
         let told = split(alloc, &meta, page, 4, part, 0)?;
         let pages = told.strip_prefix("1 2 4 4 0; ").unwrap_or(&told);
-        assert_eq!(rt; pages, wanted, "{page} {part}");
+        assert_eq!(rt; pages, wanted, "{given}");
     }
     Ok(())
 }
@@ -268,82 +243,70 @@ fn child_named_from_both_pages(rt: HostRuntime) -> Result<(), Fail> {
         cuts: cuts_of(alloc, "")?,
         free_after: 0,
     };
-    let Ok(changed) = change(alloc, &op, &file(16, 9, 9, 0), Some(&page), None, None) else {
-        return Err("not split".into());
-    };
-    let told = drawn(alloc, &changed)?;
+    let told = drawn(alloc, change_of(alloc, op, &file(16, 9, 9, 0), Some(page)))?;
     let wanted = "1 2 10 10 0; 9 level 1 from 0 (^2 |40| >10); 10 level 1 from 40 (^3 |60| ^2)";
     assert_eq!(rt; told.as_str(), wanted);
     Ok(())
 }
 
-// What a posting of page 2 in page 3 makes.
-fn posted(
-    alloc: Global,
-    text: &str,
-    at: &str,
-    inner: u32,
-    area: (u64, u64),
-) -> Result<String, Fail> {
-    let page = leveled(alloc, text)?;
-    let at = path_of(alloc, at)?;
-    let area = area_of(area.0, area.1)?;
-    let op = Op::Post {
+// What a posting of page 2 in page 3 makes, from `PAGE @WAY from LO to HI`.
+fn posted(alloc: Global, text: &str) -> Result<String, Fail> {
+    let (page, rest) = text.split_once(" @").ok_or("no way")?;
+    let (at, area) = rest.split_once(" from ").ok_or("no box")?;
+    let (lo, hi) = area.split_once(" to ").ok_or("no end")?;
+    let op = posting(path_of(alloc, at)?, lo.parse()?, hi.parse()?)?;
+    drawn(
+        alloc,
+        change_of(alloc, op, &meta_of(6), Some(leveled(alloc, page)?)),
+    )
+}
+
+fn posting(at: Path, lo: u64, hi: u64) -> Result<Op, Fail>
+    ensures { IfOk result (λ op. OpHas 1 op) }
+{
+    Ok(Op::Post {
         parent: 3,
         at,
-        inner,
-        area,
-    };
-    match change(alloc, &op, &meta_of(6), Some(&page), None, None) {
-        Ok(changed) => Ok(drawn(alloc, &changed)?),
-        Err(error) => Ok(format!(in alloc; "{error:?}")?),
-    }
+        inner: 2,
+        area: area_of(lo, hi)?,
+    })
 }
 
 #[test]
 fn postings(rt: HostRuntime) -> Result<(), Fail> {
     let alloc = rt.alloc();
-    for (page, at, area, wanted) in [
+    for row in [
         // below, above and inside
-        ("1 ^1", "", (0, 39), "(^2 |40| ^1)"),
-        ("1 ^1", "", (40, MAX), "(^1 |40| ^2)"),
-        ("1 ^1", "", (40, 59), "(^1 |40| (^2 |60| ^1))"),
-        ("1 ^1 / 40: ^3", "R", (0, 59), "(^1 |40| (^2 |60| ^3))"),
+        "1 ^1 @ from 0 to 39 => (^2 |40| ^1)",
+        "1 ^1 @ from 40 to 18446744073709551615 => (^1 |40| ^2)",
+        "1 ^1 @ from 40 to 59 => (^1 |40| (^2 |60| ^1))",
+        "1 ^1 / 40: ^3 @R from 0 to 59 => (^1 |40| (^2 |60| ^3))",
         // the whole leaf, and where two leaves join then
-        ("1 ^1 / 40: ^3", "L", (0, 39), "(^2 |40| ^3)"),
-        ("1 ^1 / 40: ^2", "L", (0, MAX), "^2"),
-        ("1 ^3 / 20: ^1 / 40: ^2", "RL", (20, 39), "(^3 |20| ^2)"),
+        "1 ^1 / 40: ^3 @L from 0 to 39 => (^2 |40| ^3)",
+        "1 ^1 / 40: ^2 @L from 0 to 18446744073709551615 => ^2",
+        "1 ^3 / 20: ^1 / 40: ^2 @RL from 20 to 39 => (^3 |20| ^2)",
         // exactly enough room, and one too little
-        (
-            "1 ^1 / 40: ^3 / 60: ^1",
-            "L",
-            (0, 19),
-            "((^2 |20| ^1) |40| (^3 |60| ^1))",
-        ),
-        ("1 ^1 / 40: ^3 / 60: ^1", "L", (10, 19), "Unfit"),
-        ("1 ^1 / 40: ^3 / 60: ^1 / 80: ^3", "L", (0, 19), "Unfit"),
-        (
-            "1 ^1 / 40: ^3 / 60: ^1 / 80: ^3",
-            "L",
-            (0, 39),
-            "(^2 |40| (^3 |60| (^1 |80| ^3)))",
-        ),
+        "1 ^1 / 40: ^3 / 60: ^1 @L from 0 to 19 => ((^2 |20| ^1) |40| (^3 |60| ^1))",
+        "1 ^1 / 40: ^3 / 60: ^1 @L from 10 to 19 => Unfit",
+        "1 ^1 / 40: ^3 / 60: ^1 / 80: ^3 @L from 0 to 19 => Unfit",
+        "1 ^1 / 40: ^3 / 60: ^1 / 80: ^3 @L from 0 to 39 => (^2 |40| (^3 |60| (^1 |80| ^3)))",
         // the leaf names it already, or its box doesn't meet the one that was given
-        ("1 ^2", "", (0, 39), "Unfit"),
-        ("1 ^1 / 40: ^3", "R", (0, 39), "Unfit"),
-        ("1 ^1 / 40: ^3", "L", (40, 59), "Unfit"),
+        "1 ^2 @ from 0 to 39 => Unfit",
+        "1 ^1 / 40: ^3 @R from 0 to 39 => Unfit",
+        "1 ^1 / 40: ^3 @L from 40 to 59 => Unfit",
         // no child leaf there, a page of level 0, one that breaks a rule of its own
-        ("1 ^1 / 40: >3", "R", (40, 59), "Unfit"),
-        ("1 ^1 / 40: ^3", "", (0, 39), "Unfit"),
-        ("1 ^1", "L", (0, 39), "Unfit"),
-        ("0 10=a", "", (0, 39), "Unfit"),
-        ("1 ^1 / 40: ^1", "L", (0, 19), "Unfit"),
+        "1 ^1 / 40: >3 @R from 40 to 59 => Unfit",
+        "1 ^1 / 40: ^3 @ from 0 to 39 => Unfit",
+        "1 ^1 @L from 0 to 39 => Unfit",
+        "0 10=a @ from 0 to 39 => Unfit",
+        "1 ^1 / 40: ^1 @L from 0 to 19 => Unfit",
     ] {
-        let told = posted(alloc, page, at, 2, area)?;
+        let (given, wanted) = row.split_once(" => ").ok_or("no row")?;
+        let told = posted(alloc, given)?;
         let tree = told
             .strip_prefix("1 2 3 3 0; 3 level 1 from 0 ")
             .unwrap_or(&told);
-        assert_eq!(rt; tree, wanted, "{page} {at}");
+        assert_eq!(rt; tree, wanted, "{given}");
     }
     Ok(())
 }
@@ -352,10 +315,7 @@ fn grown(alloc: Global, meta: &Meta, fresh: u32, free_after: u32) -> Result<Stri
     requires { meta.now.k ≡ 1 }
 {
     let op = Op::Grow { fresh, free_after };
-    match change(alloc, &op, meta, None, None, None) {
-        Ok(changed) => Ok(drawn(alloc, &changed)?),
-        Err(error) => Ok(format!(in alloc; "{error:?}")?),
-    }
+    drawn(alloc, change_of(alloc, op, meta, None))
 }
 
 #[test]
@@ -380,32 +340,53 @@ fn growths(rt: HostRuntime) -> Result<(), Fail> {
     Ok(())
 }
 
-#[test]
-fn pages_that_are_read(rt: HostRuntime) -> Result<(), Fail> {
-    let alloc = rt.alloc();
-    let split = Op::Extract {
+// A split of page 3.
+fn split_of_three(alloc: Global) -> Result<Op, Fail>
+    ensures { IfOk result (λ op. OpHas 1 op) }
+{
+    Ok(Op::Extract {
         source: 3,
         fresh: 4,
         path: path_of(alloc, "")?,
         cuts: cuts_of(alloc, "0 R 5")?,
         free_after: 0,
-    };
-    let posting = Op::Post {
-        parent: 5,
-        at: path_of(alloc, "")?,
-        inner: 2,
-        area: Area::whole(1),
-    };
+    })
+}
+
+// The numbers of the pages that an operation reads, one behind the other.
+fn reads(alloc: Global, op: Op) -> Result<String, NoMemory> {
+    let mut text = String::new(alloc);
+    for id in op.reads() {
+        write!(text, "{id};")?;
+    }
+    Ok(text)
+}
+
+#[test]
+fn pages_that_are_read(rt: HostRuntime) -> Result<(), Fail> {
+    let alloc = rt.alloc();
     let growth = Op::Grow {
         fresh: 4,
         free_after: 0,
     };
-    assert_eq!(rt; split.reads().as_slice(), [3].as_slice());
-    assert_eq!(rt; posting.reads().as_slice(), [5].as_slice());
-    assert!(rt; growth.reads().is_empty());
-    for op in [&split, &posting] {
-        let answer = change(alloc, op, &meta_of(6), None, None, None);
-        assert!(rt; answer.is_err());
-    }
+    assert_eq!(rt; reads(alloc, growth)?.as_str(), "");
+    assert_eq!(rt; reads(alloc, split_of_three(alloc)?)?.as_str(), "3;");
+    let posting = posting(path_of(alloc, "")?, 0, 9)?;
+    assert_eq!(rt; reads(alloc, posting)?.as_str(), "3;");
+    Ok(())
+}
+
+// Without the page that they read.
+#[test]
+fn pages_out_of_use(rt: HostRuntime) -> Result<(), Fail> {
+    let alloc = rt.alloc();
+    let meta = meta_of(6);
+    let split = drawn(alloc, change_of(alloc, split_of_three(alloc)?, &meta, None))?;
+    assert_eq!(rt; split.as_str(), "Unfit");
+    let posting = drawn(
+        alloc,
+        change_of(alloc, posting(path_of(alloc, "")?, 0, 9)?, &meta, None),
+    )?;
+    assert_eq!(rt; posting.as_str(), "Unfit");
     Ok(())
 }

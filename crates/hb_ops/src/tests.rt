@@ -4,8 +4,8 @@
 ghost use Rattle.std.specs.Prelude.{IfOk};
 ghost use Rattle.hb_ops.specs.Operations.{OpHas};
 
-use crate::samples::{leveled, meta_of, point_of, push_leaf, record_of};
-use crate::{Changed, Op, change, local_rule};
+use crate::samples::{change_of, leveled, meta_of, point_of, push_leaf, record_of};
+use crate::{ChangeError, Changed, Op, local_rule};
 use hb_frag::{Frag, Leaf, LivePage, Node, Page};
 use hb_space::{Area, NoMemory};
 use std::alloc::Global;
@@ -44,8 +44,12 @@ fn push_frag(text: &mut String, frag: &Frag) -> Result<(), NoMemory> {
     }
 }
 
-fn shown(alloc: Global, changed: &Changed) -> Result<String, NoMemory> {
+fn shown(alloc: Global, changed: Result<Changed, ChangeError>) -> Result<String, Fail> {
     let mut text = String::new(alloc);
+    let changed = match changed {
+        Ok(changed) => changed,
+        Err(error) => return Ok(format!(in alloc; "{error:?}")?),
+    };
     for (id, page) in &changed.pages {
         write!(text, "{id}:")?;
         match page {
@@ -62,11 +66,7 @@ fn told(alloc: Global, text: &str) -> Result<String, Fail> {
     let (dcap, page) = file.split_once(' ').ok_or("no capacity")?;
     let meta = meta_of(dcap.parse()?);
     let page = leveled(alloc, page)?;
-    let op = op_of(op)?;
-    match change(alloc, &op, &meta, Some(&page), None, None) {
-        Ok(changed) => Ok(shown(alloc, &changed)?),
-        Err(error) => Ok(format!(in alloc; "{error:?}")?),
-    }
+    shown(alloc, change_of(alloc, op_of(op)?, &meta, Some(page)))
 }
 
 #[test]
@@ -113,9 +113,8 @@ fn puts_and_deletes(rt: HostRuntime) -> Result<(), Fail> {
 fn pages_out_of_use(rt: HostRuntime) -> Result<(), Fail> {
     let alloc = rt.alloc();
     for text in ["put 7=a", "del 7"] {
-        let op = op_of(text)?;
-        let answer = change(alloc, &op, &meta_of(6), None, None, None);
-        assert!(rt; answer.is_err(), "{text}");
+        let told = shown(alloc, change_of(alloc, op_of(text)?, &meta_of(6), None))?;
+        assert_eq!(rt; told.as_str(), "Unfit", "{text}");
     }
     Ok(())
 }

@@ -8,25 +8,27 @@ use Rattle.hb_frag.specs.Grammar.{HasSpelling, SpellsPage}
 use Rattle.hb_page_codec.specs.declared.errors.PageError.{PageError}
 use Rattle.hb_page_codec.specs.declared.errors.PageError.TheVariants as errors
 use Rattle.hb_page_codec.specs.Memory.{Wants, IsSomeCount, IsCutOrRecords, BeginsWithMany}
-use Rattle.hb_page_codec.specs.Reading.{Gives, number_at, count_at, head_at, area_at, page_at}
+use Rattle.hb_page_codec.specs.Reading.{Gives, number_at}
+use Rattle.hb_page_codec.specs.ReadingFields.{count_at, area_at}
+use Rattle.hb_page_codec.specs.ReadingPages.{head_at, page_of_bytes}
 use Rattle.hb_page_codec.specs.Weight.{IsLight}
 use Rattle.hb_page_codec.proofs.Fields.{IsBytes, some_is, bind_some, unless_some, area_takes}
 use Rattle.hb_page_codec.proofs.PageLaws.{page_takes, page_again, has_spelling, head_takes}
 use Rattle.hb_page_codec.proofs.Weights.{is_light}
 
-pub is_found : (bytes : List ℕ) (r : Result Page PageError) → IsBytes bytes → Gives (λ x. x) r (page_at bytes) → IfOk r (λ page. SpellsPage bytes page)
+pub is_found : (bytes : List ℕ) (r : Result Page PageError) → IsBytes bytes → Gives (λ x. x) r (page_of_bytes bytes) → IfOk r (λ page. SpellsPage bytes page)
 is_found bytes (Ok page) fits given = page_takes bytes page fits given
 is_found bytes (Err e) fits given = tt
 
-pub is_light_page : (bytes : List ℕ) (r : Result Page PageError) → IsBytes bytes → Gives (λ x. x) r (page_at bytes) → IfOk r (λ page. IsLight page)
+pub is_light_page : (bytes : List ℕ) (r : Result Page PageError) → IsBytes bytes → Gives (λ x. x) r (page_of_bytes bytes) → IfOk r (λ page. IsLight page)
 is_light_page bytes (Ok page) fits given = is_light bytes page (page_takes bytes page fits given)
 is_light_page bytes (Err e) fits given = tt
 
-pub is_writable : (bytes : List ℕ) (r : Result Page PageError) → IsBytes bytes → Gives (λ x. x) r (page_at bytes) → IfOk r (λ page. HasSpelling page)
+pub is_writable : (bytes : List ℕ) (r : Result Page PageError) → IsBytes bytes → Gives (λ x. x) r (page_of_bytes bytes) → IfOk r (λ page. HasSpelling page)
 is_writable bytes (Ok page) fits given = (has_spelling page).1 (bytes, page_takes bytes page fits given)
 is_writable bytes (Err e) fits given = tt
 
-pub is_only : (bytes : List ℕ) (r : Result Page PageError) (page : Page) → Gives (λ x. x) r (page_at bytes) → SpellsPage bytes page → (r ≡ Ok page) ⊎ (r ≡ Err errors.NoMemory)
+pub is_only : (bytes : List ℕ) (r : Result Page PageError) (page : Page) → Gives (λ x. x) r (page_of_bytes bytes) → SpellsPage bytes page → (r ≡ Ok page) ⊎ (r ≡ Err errors.NoMemory)
 is_only bytes (Ok found) page given s = inl (ap Ok (some_is found page (sym given ∙ page_again bytes page s)))
 is_only bytes (Err errors.BadPage) page given s = let same : None ≡ Some page = sym given ∙ page_again bytes page s in absurd cc
 is_only bytes (Err errors.NoMemory) page given s = inr refl

@@ -8,7 +8,8 @@ use Rattle.hb_space.specs.declared.form.TheConstants.{KMAX}
 use Rattle.hb_space.specs.declared.records.Record.{Record}
 use Rattle.hb_frag.specs.Grammar.{FitsRecord, point_bytes, record_bytes}
 use Rattle.hb_page_codec.specs.Exact.{BytesAreExact, NumbersAreExact, PointsAreExact, BoxesAreExact, RecordsAreExact, PagesAreExact}
-use Rattle.hb_page_codec.specs.Reading.{area_at, byte_at, number_at, point_at, record_at}
+use Rattle.hb_page_codec.specs.Reading.{byte_at, number_at}
+use Rattle.hb_page_codec.specs.ReadingFields.{area_at, point_at, record_at}
 use Rattle.hb_page_codec.proofs.PageLaws.{page_takes, page_again}
 use Rattle.hb_page_codec.proofs.Fields.{IsWide, wide_4, wide_8, byte_takes, number_takes, number_again, point_takes, point_again, area_takes, area_again, record_takes, record_again}
 

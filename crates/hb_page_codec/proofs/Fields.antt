@@ -15,7 +15,8 @@ use Rattle.hb_space.specs.Boxes.{Area, IsArea}
 use Rattle.hb_space.specs.declared.form.TheConstants.{KMAX, BMAX}
 use Rattle.hb_space.specs.declared.records.Record.{Record}
 use Rattle.hb_frag.specs.Grammar.{point_bytes, record_bytes, FitsRecord}
-use Rattle.hb_page_codec.specs.Reading.{◌>>=◌, byte_at, number_at, many_at, point_at, are_ordered, area_between, area_at, body_at, record_at, count_at, axis_at}
+use Rattle.hb_page_codec.specs.Reading.{◌>>=◌, byte_at, number_at, many_at}
+use Rattle.hb_page_codec.specs.ReadingFields.{point_at, are_ordered, area_between, area_at, body_at, record_at, count_at, axis_at}
 use Rattle.hb_page_codec.proofs.Spelled.{big_number-spelled}
 use Rattle.hb_page_codec.proofs.Ordered.{ordered, ordered_test}
 

@@ -1,4 +1,3 @@
-pub mod Loops
 pub mod Spelled
 pub mod Ordered
 pub mod Refusals

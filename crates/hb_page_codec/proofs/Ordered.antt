@@ -3,7 +3,8 @@ use Rattle.std.proofs.Common.{◌≡◌, ℕ, zero, suc, ◌≤◌, true, false,
 use Rattle.std.specs.Prelude.{◌↔◌, IsSome, IfSome, EachIndex, slice_index}
 use Rattle.std.proofs.lemmas.Bool.{and_parts, and_from, le-leb, leb-true, false≢true}
 use Rattle.hb_space.specs.Boxes.{Area}
-use Rattle.hb_page_codec.specs.Reading.{Reads, are_ordered, area_between}
+use Rattle.hb_page_codec.specs.Reading.{ReadsAs}
+use Rattle.hb_page_codec.specs.ReadingFields.{are_ordered, area_between}
 
 abbrev AreOrdered : List ℕ → List ℕ → Type 0
 AreOrdered lo hi = EachIndex lo (λ i. slice_index lo i ≤ slice_index hi i)
@@ -19,7 +20,7 @@ ordered_test [] hi same h = refl
 ordered_test (l ∷ ls) [] same h = absurd (omega arith)
 ordered_test (l ∷ ls) (k ∷ ks) same h = and_from _ _ (le-leb l k (h 0 (omega arith))) (ordered_test ls ks (omega arith) (λ i lt. h (suc i) (omega arith)))
 
-pub is_between : (lo hi : List ℕ) (made : Option Area) → length lo ≡ length hi → (IsSome made ↔ AreOrdered lo hi) → IfSome made (λ a. (a.lo ≡ lo) × (a.hi ≡ hi)) → Reads (λ a. a) made (area_between lo hi)
+pub is_between : (lo hi : List ℕ) (made : Option Area) → length lo ≡ length hi → (IsSome made ↔ AreOrdered lo hi) → IfSome made (λ a. (a.lo ≡ lo) × (a.hi ≡ hi)) → ReadsAs (λ a. a) made (area_between lo hi)
 is_between lo hi (Some a) same is corners =
     let test = ordered_test lo hi same (is.0 refl) in
     rw (test, sym corners.0, sym corners.1) refl

@@ -8,7 +8,9 @@ use Rattle.hb_space.specs.declared.form.TheConstants.{PAGE, KMAX}
 use Rattle.hb_frag.specs.declared.pages.Page.{Page}
 use Rattle.hb_frag.specs.declared.pages.Page.TheVariants.{Live, Free}
 use Rattle.hb_frag.specs.Grammar.{point_bytes, tree_bytes, page_fields, FitsTree, FitsPage, HasSpelling, SpellsPage}
-use Rattle.hb_page_codec.specs.Reading.{◌>>=◌, number_at, area_at, tree_at, head_at, live_at, fields_at, page_at}
+use Rattle.hb_page_codec.specs.Reading.{◌>>=◌, number_at}
+use Rattle.hb_page_codec.specs.ReadingFields.{area_at}
+use Rattle.hb_page_codec.specs.ReadingPages.{tree_at, head_at, live_at, fields_at, page_of_bytes}
 use Rattle.hb_page_codec.proofs.Fields.{IsBytes, IsBytes-rest, Takes, Takes-then, Takes-byte, bind_some, some_is, unless_some, when_some, wide_4, number_takes, number_again, area_takes, area_again}
 use Rattle.hb_page_codec.proofs.TreeLaws.{tree_takes, tree_again}
 
@@ -80,8 +82,8 @@ zeros_are : (n : ℕ) → list_all (λ b. eqb b 0) (replicate n 0) ≡ true
 zeros_are zero = refl
 zeros_are (suc n) = zeros_are n
 
-pub page_takes : (bytes : List ℕ) (page : Page) → IsBytes bytes → page_at bytes ≡ Some page → SpellsPage bytes page
-unfolding page_at
+pub page_takes : (bytes : List ℕ) (page : Page) → IsBytes bytes → page_of_bytes bytes ≡ Some page → SpellsPage bytes page
+unfolding page_of_bytes
 page_takes bytes page fits e =
     let g = when_some (eqb (length bytes) PAGE) (fields_at bytes >>= λ x. cond (list_all (λ b. eqb b 0) x.1) (Some x.0) None) page e in
     let a = bind_some (fields_at bytes) (λ x. cond (list_all (λ b. eqb b 0) x.1) (Some x.0) None) page g.1 in
@@ -112,8 +114,8 @@ fields_again (Live page) rest fits =
     ap (λ (xs : List ℕ). fields_at (1 ∷ page.level ∷ k ∷ 0 ∷ xs)) regrouped
     ∙ rw (head_again page.level k (lo ++ hi ++ (tree_bytes page.frag ++ rest)) fits.1.lo_point.some fits.1.lo_point.few, area_again page.area (tree_bytes page.frag ++ rest) fits.1, tree_again k page.frag rest fits.2) refl
 
-pub page_again : (bytes : List ℕ) (page : Page) → SpellsPage bytes page → page_at bytes ≡ Some page
-unfolding page_at
+pub page_again : (bytes : List ℕ) (page : Page) → SpellsPage bytes page → page_of_bytes bytes ≡ Some page
+unfolding page_of_bytes
 page_again bytes page s =
     let fields : fields_at bytes ≡ Some (page, replicate s.spelled.0 0) = ap fields_at s.spelled.1 ∙ fields_again page (replicate s.spelled.0 0) s.fits in
     rw (eq-eqb (length bytes) PAGE s.long, fields, zeros_are s.spelled.0) refl

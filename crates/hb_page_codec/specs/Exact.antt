@@ -5,7 +5,9 @@ use Rattle.hb_space.specs.declared.form.TheConstants.{KMAX}
 use Rattle.hb_frag.specs.declared.pages.Page.{Page}
 use Rattle.hb_frag.specs.Grammar.{FitsRecord, SpellsPage, point_bytes, record_bytes}
 use Rattle.hb_outside.specs.Numbers.{big_endian}
-use Rattle.hb_page_codec.specs.Reading.{area_at, byte_at, number_at, page_at, point_at, record_at}
+use Rattle.hb_page_codec.specs.Reading.{byte_at, number_at}
+use Rattle.hb_page_codec.specs.ReadingFields.{area_at, point_at, record_at}
+use Rattle.hb_page_codec.specs.ReadingPages.{page_of_bytes}
 
 -- each number of the list is a byte
 abbrev pub AreBytes : List ℕ → Type 0
@@ -34,4 +36,4 @@ RecordsAreExact = (k : ℕ) → IsExact (record_at k) record_bytes (FitsRecord k
 
 -- what bytes are read as is the page that they spell
 abbrev pub PagesAreExact : Type 0
-PagesAreExact = (bytes : List ℕ) (page : Page) → AreBytes bytes → (page_at bytes ≡ Some page) ↔ SpellsPage bytes page
+PagesAreExact = (bytes : List ℕ) (page : Page) → AreBytes bytes → (page_of_bytes bytes ≡ Some page) ↔ SpellsPage bytes page

@@ -37,5 +37,5 @@ pub record BeginsWithMany (bytes : List ℕ) : Type 0 where
   pub root : IsCutOrRecords rest
 
 -- the same, and they are as many as a page has
-abbrev pub MayWantMemory : List ℕ → Type 0
-MayWantMemory bytes = (length bytes ≡ PAGE) × BeginsWithMany bytes
+abbrev pub PageMayWantMemory : List ℕ → Type 0
+PageMayWantMemory bytes = (length bytes ≡ PAGE) × BeginsWithMany bytes

@@ -3,10 +3,11 @@ ghost use Rattle.std.specs.Prelude.{◌≡◌, ◌<◌, ◌≤◌, ◌⊎◌, �
 ghost use Rattle.std.specs.List.{list_all};
 ghost use Rattle.hb_frag.specs.declared.pages.Page.{Page as Content};
 ghost use Rattle.hb_frag.specs.Grammar.{HasSpelling, SpellsPage};
-ghost use Rattle.hb_page_codec.specs.Memory.{WantsOnly, BeginsWithMany, MayWantMemory};
+ghost use Rattle.hb_page_codec.specs.Memory.{WantsOnly, BeginsWithMany, PageMayWantMemory};
 ghost use Rattle.hb_page_codec.specs.Weight.{IsLight};
 ghost use Rattle.hb_page_codec.specs.declared.errors.PageError.TheVariants.{NoMemory};
-ghost use Rattle.hb_page_codec.specs.Reading.{Reads, Gives, head_at, live_at, fields_at, page_at};
+ghost use Rattle.hb_page_codec.specs.Reading.{ReadsAs, Gives};
+ghost use Rattle.hb_page_codec.specs.ReadingPages.{head_at, live_at, fields_at, page_of_bytes};
 
 use crate::errors::PageError;
 use crate::fragments::fragment_of;
@@ -17,9 +18,9 @@ use hb_space::form::{KMAX, PAGE};
 use std::alloc::Global;
 
 /// The level and the number of attributes, and the byte that is zero.
-#[tactic(auto, unfolding(crate::specs::Reading::head_at))]
+#[tactic(auto, unfolding(crate::specs::ReadingPages::head_at))]
 fn head_of(bytes: &[u8]) -> Option<(u8, u8, &[u8])>
-    ensures reads { Reads (λ x. (x.0, x.1, x.2.now)) result (head_at bytes.now) }
+    ensures reads { ReadsAs (λ x. (x.0, x.1, x.2.now)) result (head_at bytes.now) }
     ensures attributes { IfSome result (λ x. (0 < x.1) × (x.1 ≤ KMAX)) }
 {
     match bytes {
@@ -34,7 +35,7 @@ fn head_of(bytes: &[u8]) -> Option<(u8, u8, &[u8])>
 }
 
 /// A live page, behind its tag.
-#[tactic(auto, unfolding(crate::specs::Reading::live_at))]
+#[tactic(auto, unfolding(crate::specs::ReadingPages::live_at))]
 fn live_of(alloc: Global, bytes: &[u8]) -> Result<(Page, &[u8]), PageError>
     ensures gives { Gives (λ x. (x.0, x.1.now)) result (live_at bytes.now) }
     ensures memory { WantsOnly result (BeginsWithMany (1 ∷ bytes.now)) }
@@ -46,7 +47,7 @@ fn live_of(alloc: Global, bytes: &[u8]) -> Result<(Page, &[u8]), PageError>
 }
 
 /// All fields of a page.
-#[tactic(auto, unfolding(crate::specs::Reading::fields_at))]
+#[tactic(auto, unfolding(crate::specs::ReadingPages::fields_at))]
 fn fields_of(alloc: Global, bytes: &[u8]) -> Result<(Page, &[u8]), PageError>
     ensures gives { Gives (λ x. (x.0, x.1.now)) result (fields_at bytes.now) }
     ensures memory { WantsOnly result (BeginsWithMany bytes.now) }
@@ -69,10 +70,10 @@ fn is_zero(bytes: &[u8]) -> bool
 }
 
 /// The page that all of the bytes spell.
-#[tactic(auto, unfolding(crate::specs::Reading::page_at))]
+#[tactic(auto, unfolding(crate::specs::ReadingPages::page_of_bytes))]
 fn page_of(alloc: Global, bytes: &[u8]) -> Result<Page, PageError>
-    ensures gives { Gives (λ x. x) result (page_at bytes.now) }
-    ensures memory { WantsOnly result (MayWantMemory bytes.now) }
+    ensures gives { Gives (λ x. x) result (page_of_bytes bytes.now) }
+    ensures memory { WantsOnly result (PageMayWantMemory bytes.now) }
 {
     if bytes.len() != PAGE {
         return Err(PageError::BadPage);
@@ -97,7 +98,7 @@ pub fn decode(alloc: Global, bytes: &[u8]) -> Result<Page, PageError>
     ensures only { (page : Content) → SpellsPage bytes.now page →
         ((result ≡ Ok page) ⊎ (result ≡ Err NoMemory)) }
     // Where memory may be wanted.
-    ensures memory { WantsOnly result (MayWantMemory bytes.now) }
+    ensures memory { WantsOnly result (PageMayWantMemory bytes.now) }
     // What is read can be written again.
     ensures writable { IfOk result (λ page. HasSpelling page) }
     // What is read weighs no more than a page has bytes.

@@ -1,7 +1,9 @@
 //! A page's inside, from the front of bytes.
 ghost use Rattle.std.specs.Prelude.{◌≡◌, ◌<◌, ◌≤◌, length};
 ghost use Rattle.hb_page_codec.specs.Memory.{WantsOnly, IsSomeCount, IsCutOrRecords};
-ghost use Rattle.hb_page_codec.specs.Reading.{Reads, Gives, count_at, records_at, axis_at, cut_at, records_tip_at, node_at, tree_at};
+ghost use Rattle.hb_page_codec.specs.Reading.{ReadsAs, Gives};
+ghost use Rattle.hb_page_codec.specs.ReadingFields.{count_at, records_at, axis_at};
+ghost use Rattle.hb_page_codec.specs.ReadingPages.{cut_at, records_tip_at, node_at, tree_at};
 ghost use Rattle.hb_frag.specs.Nodes.{tree_of};
 
 use crate::errors::PageError;
@@ -13,10 +15,10 @@ use hb_space::form::KMAX;
 use std::alloc::Global;
 
 /// How many records follow, each with `k` attributes: no more than there is room for.
-#[tactic(auto, unfolding(crate::specs::Reading::count_at))]
+#[tactic(auto, unfolding(crate::specs::ReadingFields::count_at))]
 fn count_of(k: u8, bytes: &[u8]) -> Option<(u16, &[u8])>
     requires { k ≤ KMAX }
-    ensures { Reads (λ x. (x.0, x.1.now)) result (count_at k bytes.now) }
+    ensures { ReadsAs (λ x. (x.0, x.1.now)) result (count_at k bytes.now) }
 {
     let (count, rest) = u16_of(bytes)?;
     let least = 8 * usize::from(k) + 1;
@@ -44,7 +46,7 @@ fn records_of(alloc: Global, k: u8, count: u16, bytes: &[u8]) -> Result<(Records
 }
 
 /// A leaf of records, behind its tag.
-#[tactic(auto, unfolding(crate::specs::Reading::records_tip_at))]
+#[tactic(auto, unfolding(crate::specs::ReadingPages::records_tip_at))]
 fn records_tip_of(alloc: Global, k: u8, bytes: &[u8]) -> Result<(Node, &[u8]), PageError>
     requires some { 0 < k }
     requires few { k ≤ KMAX }
@@ -57,9 +59,9 @@ fn records_tip_of(alloc: Global, k: u8, bytes: &[u8]) -> Result<(Node, &[u8]), P
 }
 
 /// An attribute below `k`.
-#[tactic(auto, unfolding(crate::specs::Reading::axis_at))]
+#[tactic(auto, unfolding(crate::specs::ReadingFields::axis_at))]
 fn axis_of(k: u8, bytes: &[u8]) -> Option<(u8, &[u8])>
-    ensures { Reads (λ x. (x.0, x.1.now)) result (axis_at k bytes.now) }
+    ensures { ReadsAs (λ x. (x.0, x.1.now)) result (axis_at k bytes.now) }
 {
     let (axis, rest) = bytes.split_first()?;
     if *axis < k { Some((*axis, rest)) } else { None }
@@ -67,7 +69,7 @@ fn axis_of(k: u8, bytes: &[u8]) -> Option<(u8, &[u8])>
 
 /// A cut, behind its tag.
 #[cycle(fragments)]
-#[tactic(auto, unfolding(crate::specs::Reading::cut_at))]
+#[tactic(auto, unfolding(crate::specs::ReadingPages::cut_at))]
 fn cut_of(alloc: Global, k: u8, bytes: &[u8]) -> Result<(Node, &[u8]), PageError>
     requires some { 0 < k }
     requires few { k ≤ KMAX }
@@ -90,7 +92,7 @@ fn cut_of(alloc: Global, k: u8, bytes: &[u8]) -> Result<(Node, &[u8]), PageError
 
 /// The root of a fragment, with what lies below it.
 #[cycle(fragments)]
-#[tactic(auto, unfolding(crate::specs::Reading::node_at))]
+#[tactic(auto, unfolding(crate::specs::ReadingPages::node_at))]
 fn node_of(alloc: Global, k: u8, bytes: &[u8]) -> Result<(Node, &[u8]), PageError>
     requires some { 0 < k }
     requires few { k ≤ KMAX }

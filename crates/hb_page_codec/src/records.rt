@@ -1,6 +1,7 @@
 //! Points, boxes and records, from the front of bytes.
 ghost use Rattle.std.specs.Prelude.{◌≡◌, ◌<◌, ◌≤◌, length, IfSome};
-ghost use Rattle.hb_page_codec.specs.Reading.{Reads, point_at, area_between, area_at, body_at, record_at};
+ghost use Rattle.hb_page_codec.specs.Reading.{ReadsAs};
+ghost use Rattle.hb_page_codec.specs.ReadingFields.{point_at, area_between, area_at, body_at, record_at};
 
 use crate::numbers::u64_of;
 use arrayvec::ArrayVec;
@@ -11,7 +12,7 @@ use hb_space::{Area, Body, Point, Record};
 pub fn point_of(k: u8, bytes: &[u8]) -> Option<(Point, &[u8])>
     requires some { 0 < k }
     requires few { k ≤ KMAX }
-    ensures reads { Reads (λ x. (x.0, x.1.now)) result (point_at k bytes.now) }
+    ensures reads { ReadsAs (λ x. (x.0, x.1.now)) result (point_at k bytes.now) }
     ensures count { IfSome result (λ x. length x.0 ≡ k) }
 {
     let mut values: ArrayVec<u64, KMAX> = ArrayVec::new();
@@ -27,17 +28,17 @@ pub fn point_of(k: u8, bytes: &[u8]) -> Option<(Point, &[u8])>
 /// The box between these corners. `None` where a lower value exceeds its upper one.
 fn area_of_corners(lo: Point, hi: Point) -> Option<Area>
     requires { length lo ≡ length hi }
-    ensures { Reads (λ x. x) result (area_between lo hi) }
+    ensures { ReadsAs (λ x. x) result (area_between lo hi) }
 {
     Area::between(lo, hi)
 }
 
 /// A box of `k` attributes.
-#[tactic(auto, unfolding(crate::specs::Reading::area_at))]
+#[tactic(auto, unfolding(crate::specs::ReadingFields::area_at))]
 pub fn area_of(k: u8, bytes: &[u8]) -> Option<(Area, &[u8])>
     requires some { 0 < k }
     requires few { k ≤ KMAX }
-    ensures { Reads (λ x. (x.0, x.1.now)) result (area_at k bytes.now) }
+    ensures { ReadsAs (λ x. (x.0, x.1.now)) result (area_at k bytes.now) }
 {
     let (lo, rest) = point_of(k, bytes)?;
     let (hi, rest) = point_of(k, rest)?;
@@ -46,9 +47,9 @@ pub fn area_of(k: u8, bytes: &[u8]) -> Option<(Area, &[u8])>
 }
 
 /// A body, behind its length.
-#[tactic(auto, unfolding(crate::specs::Reading::body_at))]
+#[tactic(auto, unfolding(crate::specs::ReadingFields::body_at))]
 fn body_of(bytes: &[u8]) -> Option<(Body, &[u8])>
-    ensures { Reads (λ x. (x.0, x.1.now)) result (body_at bytes.now) }
+    ensures { ReadsAs (λ x. (x.0, x.1.now)) result (body_at bytes.now) }
 {
     let (count, rest) = bytes.split_first()?;
     let count = usize::from(*count);
@@ -60,11 +61,11 @@ fn body_of(bytes: &[u8]) -> Option<(Body, &[u8])>
 }
 
 /// A record whose point has `k` values.
-#[tactic(auto, unfolding(crate::specs::Reading::record_at))]
+#[tactic(auto, unfolding(crate::specs::ReadingFields::record_at))]
 pub fn record_of(k: u8, bytes: &[u8]) -> Option<(Record, &[u8])>
     requires some { 0 < k }
     requires few { k ≤ KMAX }
-    ensures { Reads (λ x. (x.0, x.1.now)) result (record_at k bytes.now) }
+    ensures { ReadsAs (λ x. (x.0, x.1.now)) result (record_at k bytes.now) }
 {
     let (key, rest) = point_of(k, bytes)?;
     let (body, rest) = body_of(rest)?;

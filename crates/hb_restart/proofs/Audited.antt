@@ -10,14 +10,14 @@ use Rattle.hb_frag.specs.Grammar.{SpellsPage}
 use Rattle.hb_layout.specs.declared.meta.Meta.{Meta}
 use Rattle.hb_layout.specs.Limits.{IsLayout}
 use Rattle.hb_page_codec.specs.Exact.{AreBytes, PagesAreExact}
-use Rattle.hb_page_codec.specs.Reading.{page_at}
+use Rattle.hb_page_codec.specs.ReadingPages.{page_of_bytes}
 use Rattle.hb_ops.specs.Files.{page_of}
 use Rattle.hb_sound.specs.Names.{IsSoundWith, Names}
 use Rattle.hb_sound.specs.Stops.{OnBroken}
 use Rattle.hb_sound.specs.declared.pages.AuditStop.{AuditStop}
 use Rattle.hb_sound.specs.declared.pages.AuditStop.TheVariants as stops
-use Rattle.hb_sound.specs.Told.{IsHole, IsWholeFile, file_of, shown}
-use Rattle.hb_store.specs.Keeps.{IsSameLayout}
+use Rattle.hb_sound.specs.Told.{IsHole, IsWholeFile, file_of, shown_pages}
+use Rattle.hb_store.specs.States.{IsSameLayout}
 use Rattle.hb_store.specs.Opening.{IsPageIn, Shows, place_bytes}
 use Rattle.hb_store.specs.Replay.{Replayed, untouched, replay}
 use Rattle.hb_restart.specs.Found.{IsFoundIn, IsReadIn, audit_fault, touched_pages}
@@ -68,10 +68,10 @@ module _ (exact : PagesAreExact) (b : List ℕ) (are : AreBytes b) (said meta : 
   high_is = ap (λ (m : Meta). m.high) meta_is
 
   -- what is read in a place
-  spelled_at : (id : ℕ) (p : Page) → page_at (place_bytes said id b) ≡ Some p → SpellsPage (place_bytes said id b) p
+  spelled_at : (id : ℕ) (p : Page) → page_of_bytes (place_bytes said id b) ≡ Some p → SpellsPage (place_bytes said id b) p
   spelled_at id p e = (exact (place_bytes said id b) p (place_is_bytes said id b are)).0 e
 
-  none_at : (id : ℕ) (o : Option Page) → page_at (place_bytes said id b) ≡ o → ((p : Page) → SpellsPage (place_bytes said id b) p → ⊥) → o ≡ None
+  none_at : (id : ℕ) (o : Option Page) → page_of_bytes (place_bytes said id b) ≡ o → ((p : Page) → SpellsPage (place_bytes said id b) p → ⊥) → o ≡ None
   none_at id None e none = refl
   none_at id (Some p) e none = absurd (none p (spelled_at id p e))
 
@@ -79,7 +79,7 @@ module _ (exact : PagesAreExact) (b : List ℕ) (are : AreBytes b) (said meta : 
   is_in : (id : ℕ) (p : Page) → page id ≡ Some p → IsPageIn b said id (t.page id) p
   is_in id p there = subst (λ (o : Option Page). IsPageIn b said id o p) (touched_is id) (by (touched id) there)
     where
-      by : (o : Option Page) → touched_or o (page_at (place_bytes said id b)) ≡ Some p → IsPageIn b said id o p
+      by : (o : Option Page) → touched_or o (page_of_bytes (place_bytes said id b)) ≡ Some p → IsPageIn b said id o p
       by None there = spelled_at id p there
       by (Some q) there = let is : Some q ≡ Some p = there in cc (is)
 
@@ -88,7 +88,7 @@ module _ (exact : PagesAreExact) (b : List ℕ) (are : AreBytes b) (said meta : 
   hole_lacks id (some, most, (inl beyond)) = let pages = same.pages in (some, omega (arith, most, high_is), inl (omega (arith, beyond, pages)))
   hole_lacks id (some, most, (inr none)) = (some, omega (arith, most, high_is), inr (by (touched id) refl (told_is page said.pages id None none).2))
     where
-      by : (o : Option Page) → touched id ≡ o → touched_or o (page_at (place_bytes said id b)) ≡ None → (t.page id ≡ None) × ((p : Page) → SpellsPage (place_bytes said id b) p → ⊥)
+      by : (o : Option Page) → touched id ≡ o → touched_or o (page_of_bytes (place_bytes said id b)) ≡ None → (t.page id ≡ None) × ((p : Page) → SpellsPage (place_bytes said id b) p → ⊥)
       by (Some q) is e = absurd (let never : Some q ≡ None = e in cc)
       by None is e = (sym (touched_is id) ∙ is, λ p spells. let read = (exact (place_bytes said id b) p (place_is_bytes said id b are)).1 spells in let never : None ≡ Some p = sym e ∙ read in cc (never))
 
@@ -100,7 +100,7 @@ module _ (exact : PagesAreExact) (b : List ℕ) (are : AreBytes b) (said meta : 
     elim (cases_lt said.pages id) [
       | inl beyond ↦ (let pages = same.pages in inl (omega (arith, beyond, pages)))
       | inr inside ↦ inr (told_at page said.pages id some inside ∙ ap (λ (o : Option Page). Some o)
-          (ap (λ (o : Option Page). touched_or o (page_at (place_bytes said id b))) (touched_is id ∙ none) ∙ none_at id (page_at (place_bytes said id b)) refl spelled))
+          (ap (λ (o : Option Page). touched_or o (page_of_bytes (place_bytes said id b))) (touched_is id ∙ none) ∙ none_at id (page_of_bytes (place_bytes said id b)) refl spelled))
     ],
   )
 
@@ -129,10 +129,10 @@ module _ (exact : PagesAreExact) (b : List ℕ) (are : AreBytes b) (said meta : 
           each = λ id p is. at id p is each.1;
         }
       where
-        at : (id : ℕ) (p : Page) → page_of (file_of meta told) id ≡ Some p → ((k : ℕ) (q : Page) → slice_get (shown front) k ≡ Some q → slice_get front k ≡ Some (Some q)) → IsPageIn b said id (t.page id) p
-        at zero p is each = absurd (let first = some_number (shown front) zero p is in omega (arith, first))
+        at : (id : ℕ) (p : Page) → page_of (file_of meta told) id ≡ Some p → ((k : ℕ) (q : Page) → slice_get (shown_pages front) k ≡ Some q → slice_get front k ≡ Some (Some q)) → IsPageIn b said id (t.page id) p
+        at zero p is each = absurd (let first = some_number (shown_pages front) zero p is in omega (arith, first))
         at (suc k) p is each =
-            let here = each k p (sym (page_at-place (shown front) k) ∙ is) in
+            let here = each k p (sym (page_at-place (shown_pages front) k) ∙ is) in
             is_in (suc k) p (told_is page said.pages (suc k) (Some p) (front_at meta.high told k (Some p) here).1).2
 
 -- What the audit answers where the superblock and the log were read.

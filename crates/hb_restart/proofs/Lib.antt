@@ -1,5 +1,5 @@
 pub mod Numbered
-pub mod OnePage
+pub mod NoChild
 pub mod NewFile
 pub mod Made
 pub mod Beyond

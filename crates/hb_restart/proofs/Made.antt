@@ -6,8 +6,10 @@ use Rattle.hb_space.specs.declared.form.TheConstants.{PAGE}
 use Rattle.hb_outside.specs.Numbers.{big_endian}
 use Rattle.hb_disk.specs.Model.{DiskModel, IsDisk, overwritten}
 use Rattle.hb_disk.specs.Calls.{open_gate}
-use Rattle.hb_disk.specs.RunLaws.{at_value, of_value, has_value, IsSynced-durable}
-use Rattle.hb_disk.specs.TornLaws.{IsOutside, length-overwritten, overwritten-inside, overwritten-outside, overwritten-reads}
+use Rattle.hb_disk.specs.ValueLaws.{at_value, of_value, has_value}
+use Rattle.hb_disk.specs.SyncedLaws.{IsSynced-durable}
+use Rattle.hb_disk.specs.TornLaws.{IsOutside}
+use Rattle.hb_disk.specs.OverwrittenLaws.{length-overwritten, overwritten-inside, overwritten-outside, overwritten-reads}
 use Rattle.hb_frag.specs.declared.pages.Page.{Page}
 use Rattle.hb_frag.specs.Grammar.{SpellsPage}
 use Rattle.hb_wal.specs.Frames.{range}
@@ -20,7 +22,7 @@ use Rattle.hb_store.specs.Keeps.{IsFresh}
 use Rattle.hb_store.specs.ReplayLaws.{opens_fresh}
 use Rattle.hb_restart.specs.Creation.{IsLaidOut}
 use Rattle.hb_restart.specs.NewFiles.{lone}
-use Rattle.hb_restart.proofs.OnePage.{page_alone}
+use Rattle.hb_restart.specs.LoneLaws.{page_alone}
 
 -- a part of the bytes that isn't overwritten
 pub part_kept : (b : List ℕ) (at : ℕ) (piece : List ℕ) (from m : ℕ) → at + length piece ≤ length b → (from + m ≤ at) ⊎ (at + length piece ≤ from)

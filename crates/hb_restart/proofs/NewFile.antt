@@ -1,10 +1,10 @@
 -- The file that is made first: its page has a spelling, it is sound, and it has no record.
 use Rattle.std.proofs.Common.{◌≡◌, nat_le, ◌&&◌, Bool, true, false, cond, Option, Some, None, IsNone, ℕ, zero, suc, ◌+◌, ◌-◌, ◌*◌, ◌^◌, ◌<◌, ◌≤◌, List, [], ◌++◌, length, replicate, slice_index, Contains, refl, sym, ◌∙◌, subst, arith, length-append}
 use Rattle.std.proofs.lemmas.List.{length-replicate}
-use Rattle.std.proofs.lemmas.List.Elements.{All-replicate, All-nil}
-use Rattle.hb_space.specs.Boxes.{IsArea, whole_area}
+use Rattle.std.proofs.lemmas.List.Elements.{All-replicate, All-nil, All-cons}
+use Rattle.hb_space.specs.Boxes.{IsArea, whole_area, Holds}
 use Rattle.hb_space.specs.Points.{IsPoint}
-use Rattle.hb_space.specs.declared.form.TheConstants.{KMAX}
+use Rattle.hb_space.specs.declared.form.TheConstants.{KMAX, ICAP_MIN}
 use Rattle.hb_outside.specs.Numbers.{big_endian}
 use Rattle.hb_frag.specs.declared.leaves.Leaf.TheVariants.{Records, Child}
 use Rattle.hb_frag.specs.declared.pages.Page.TheVariants.{Live}
@@ -12,9 +12,6 @@ use Rattle.hb_frag.specs.Leaves.{leaves_of, siblings_of}
 use Rattle.hb_frag.specs.Grammar.{HasSpelling, FitsRecord, leaf_bytes, tree_bytes, point_bytes}
 use Rattle.hb_frag.specs.Trees.{Tip}
 use Rattle.std.proofs.lemmas.Bool.{false≢true, leb-true}
-use Rattle.std.proofs.lemmas.List.Elements.{All-cons}
-use Rattle.hb_space.specs.Boxes.{Holds}
-use Rattle.hb_space.specs.declared.form.TheConstants.{ICAP_MIN}
 use Rattle.hb_frag.specs.declared.pages.LivePage.{LivePage}
 use Rattle.hb_frag.specs.Rules.{BelongsAt, IsInOrder}
 use Rattle.hb_layout.specs.Limits.{IsLayout}
@@ -23,10 +20,11 @@ use Rattle.hb_ops.specs.Files.{file_records, live_page}
 use Rattle.hb_restart.specs.NewFiles.{new_meta, new_file, new_page}
 use Rattle.hb_restart.specs.Layouts.{layout_fault}
 use Rattle.hb_restart.specs.declared.faults.Field.TheVariants as fields
-use Rattle.hb_restart.specs.declared.faults.OpenFault.{OpenFault}
-use Rattle.hb_restart.specs.declared.faults.OpenFault.TheVariants as faults
+use Rattle.hb_restart.specs.declared.faults.BadField.{BadField}
+use Rattle.hb_restart.specs.declared.faults.Field.{Field}
 use Rattle.hb_restart.specs.declared.layout.Layout.{Layout}
-use Rattle.hb_restart.proofs.OnePage.{live_alone, live_is, no_child, to_rooted, to_counted}
+use Rattle.hb_restart.proofs.NoChild.{no_child}
+use Rattle.hb_restart.specs.LoneLaws.{live_alone, live_is, to_rooted, to_counted}
 
 replicate_point : (k x : ℕ) → 0 < k → k ≤ KMAX → x < 2 ^ 64 → IsPoint (replicate k x)
 replicate_point k x some few fits = record {
@@ -74,7 +72,7 @@ new_page_spelling k some few = record {
 }
 
 -- a layout without fault is one that a file may have
-none_left : (b : Bool) (rest : Option OpenFault) (fault : OpenFault) → cond b rest (Some fault) ≡ None → (b ≡ true) × (rest ≡ None)
+none_left : (b : Bool) (rest : Option BadField) (fault : BadField) → cond b rest (Some fault) ≡ None → (b ≡ true) × (rest ≡ None)
 none_left true rest fault e = (refl, e)
 none_left false rest fault e = absurd (let never : Some fault ≡ None = e in cc)
 
@@ -87,15 +85,16 @@ within low n high e = let both = both_true (nat_le low n) (nat_le n high) e in (
 
 pub layout_is : (l : Layout) → layout_fault l ≡ None → IsLayout (new_meta l)
 layout_is l none =
-    let icap_rest = cond (nat_le ICAP_MIN l.icap && nat_le l.icap 256) None (Some (faults.BadLayout fields.Icap l.icap)) in
-    let dcap_rest = cond (nat_le 6 l.dcap && nat_le l.dcap 48) icap_rest (Some (faults.BadLayout fields.Dcap l.dcap)) in
-    let log_rest = cond (nat_le 65536 l.log && nat_le l.log 67108864) dcap_rest (Some (faults.BadLayout fields.Log l.log)) in
-    let pages_rest = cond (nat_le 1 l.pages && nat_le l.pages 65536) log_rest (Some (faults.BadLayout fields.Pages l.pages)) in
-    let one = none_left (nat_le 1 l.k && nat_le l.k KMAX) pages_rest (faults.BadLayout fields.K l.k) none in
-    let two = none_left (nat_le 1 l.pages && nat_le l.pages 65536) log_rest (faults.BadLayout fields.Pages l.pages) one.1 in
-    let three = none_left (nat_le 65536 l.log && nat_le l.log 67108864) dcap_rest (faults.BadLayout fields.Log l.log) two.1 in
-    let four = none_left (nat_le 6 l.dcap && nat_le l.dcap 48) icap_rest (faults.BadLayout fields.Dcap l.dcap) three.1 in
-    let five = none_left (nat_le ICAP_MIN l.icap && nat_le l.icap 256) None (faults.BadLayout fields.Icap l.icap) four.1 in
+    let bad : Field → ℕ → BadField = λ field value. record { field = field; value = value } in
+    let icap_rest = cond (nat_le ICAP_MIN l.icap && nat_le l.icap 256) None (Some (bad fields.Icap l.icap)) in
+    let dcap_rest = cond (nat_le 6 l.dcap && nat_le l.dcap 48) icap_rest (Some (bad fields.Dcap l.dcap)) in
+    let log_rest = cond (nat_le 65536 l.log && nat_le l.log 67108864) dcap_rest (Some (bad fields.Log l.log)) in
+    let pages_rest = cond (nat_le 1 l.pages && nat_le l.pages 65536) log_rest (Some (bad fields.Pages l.pages)) in
+    let one = none_left (nat_le 1 l.k && nat_le l.k KMAX) pages_rest (bad fields.K l.k) none in
+    let two = none_left (nat_le 1 l.pages && nat_le l.pages 65536) log_rest (bad fields.Pages l.pages) one.1 in
+    let three = none_left (nat_le 65536 l.log && nat_le l.log 67108864) dcap_rest (bad fields.Log l.log) two.1 in
+    let four = none_left (nat_le 6 l.dcap && nat_le l.dcap 48) icap_rest (bad fields.Dcap l.dcap) three.1 in
+    let five = none_left (nat_le ICAP_MIN l.icap && nat_le l.icap 256) None (bad fields.Icap l.icap) four.1 in
     let k = within 1 l.k KMAX one.0 in
     let pages = within 1 l.pages 65536 two.0 in
     let log = within 65536 l.log 67108864 three.0 in

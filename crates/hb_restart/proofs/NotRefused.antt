@@ -91,7 +91,6 @@ module _ (once : OneList) (turns : (bytes : List ℕ) (t s : ℕ) (m n : Meta) �
   ]
 
   pub not_refused : GoodIsNotRefused
-  not_refused (faults.BadLayout field value) b s opens sound refuses = absurd refuses
   not_refused (faults.Small needed found) b s opens sound refuses = elim refuses.2 [
     | inl least ↦ absurd (omega (arith, refuses.0, refuses.1, least, least_size opens.said, opens.by.fits))
     | inr layout ↦

@@ -98,34 +98,29 @@ module _ (once : OneList) (turns : (bytes : List ℕ) (t s : ℕ) (m n : Meta) �
   bad_not t s m n f groups x y bad log = bad_or_whole once b s n f groups (moved (λ k said. HasBadGroup b k said f) t s m n x y bad) log
 
   pub refused_once : (f g : OpenFault) → Refuses f b → Refuses g b → IsUnwritten f → IsUnwritten g → f ≡ g
-  refused_once (faults.BadLayout field value) g x y u v = absurd x
   refused_once faults.DiskFault g x y u v = absurd u
   refused_once faults.NoMemory g x y u v = absurd u
   refused_once (faults.Small needed found) (faults.Small wanted there) x y u v = same_small needed found wanted there (small_same needed found wanted there x y) (x.0 ∙ sym y.0)
   refused_once (faults.Small needed found) faults.NoSuper x y u v = absurd (small_none needed found x y)
   refused_once (faults.Small needed found) (faults.BadGroup other) x y u v = absurd (small_layout needed found y.0 y.1 x y.2)
   refused_once (faults.Small needed found) (faults.Unsound place broken) x y u v = absurd (small_layout needed found y.0 y.1 x y.2)
-  refused_once (faults.Small needed found) (faults.BadLayout field value) x y u v = absurd y
   refused_once (faults.Small needed found) faults.DiskFault x y u v = absurd v
   refused_once (faults.Small needed found) faults.NoMemory x y u v = absurd v
   refused_once faults.NoSuper (faults.Small wanted there) x y u v = absurd (small_none wanted there y x)
   refused_once faults.NoSuper faults.NoSuper x y u v = refl
   refused_once faults.NoSuper (faults.BadGroup other) x y u v = absurd (none_layout y.0 y.1 x y.2)
   refused_once faults.NoSuper (faults.Unsound place broken) x y u v = absurd (none_layout y.0 y.1 x y.2)
-  refused_once faults.NoSuper (faults.BadLayout field value) x y u v = absurd y
   refused_once faults.NoSuper faults.DiskFault x y u v = absurd v
   refused_once faults.NoSuper faults.NoMemory x y u v = absurd v
   refused_once (faults.BadGroup frame) (faults.Small wanted there) x y u v = absurd (small_layout wanted there x.0 x.1 y x.2)
   refused_once (faults.BadGroup frame) faults.NoSuper x y u v = absurd (none_layout x.0 x.1 y x.2)
   refused_once (faults.BadGroup frame) (faults.BadGroup other) x y u v = ap (λ (n : ℕ). faults.BadGroup n) (bad_same x.0 y.0 x.1 y.1 frame other x.2 y.2 x.3 y.3)
   refused_once (faults.BadGroup frame) (faults.Unsound place broken) x y u v = absurd (bad_not x.0 y.0 x.1 y.1 frame y.3 x.2 y.2 x.3 y.4)
-  refused_once (faults.BadGroup frame) (faults.BadLayout field value) x y u v = absurd y
   refused_once (faults.BadGroup frame) faults.DiskFault x y u v = absurd v
   refused_once (faults.BadGroup frame) faults.NoMemory x y u v = absurd v
   refused_once (faults.Unsound page rule) (faults.Small wanted there) x y u v = absurd (small_layout wanted there x.0 x.1 y x.2)
   refused_once (faults.Unsound page rule) faults.NoSuper x y u v = absurd (none_layout x.0 x.1 y x.2)
   refused_once (faults.Unsound page rule) (faults.BadGroup other) x y u v = absurd (bad_not y.0 x.0 y.1 x.1 other x.3 y.2 x.2 y.3 x.4)
   refused_once (faults.Unsound page rule) (faults.Unsound place broken) x y u v = (let same = unsound_one x.0 y.0 x.1 y.1 x.3 y.3 page place rule broken x.2 y.2 x.4 y.4 x.5 y.5 in same_unsound page rule place broken same.0 same.1)
-  refused_once (faults.Unsound page rule) (faults.BadLayout field value) x y u v = absurd y
   refused_once (faults.Unsound page rule) faults.DiskFault x y u v = absurd v
   refused_once (faults.Unsound page rule) faults.NoMemory x y u v = absurd v

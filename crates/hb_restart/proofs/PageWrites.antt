@@ -3,8 +3,8 @@ use Rattle.std.proofs.Common.{◌≡◌, ℕ, ◌+◌, ◌≤◌, List, length, 
 use Rattle.hb_space.specs.declared.form.TheConstants.{PAGE}
 use Rattle.hb_disk.specs.Model.{DiskModel, IsDisk, overwritten, Torn}
 use Rattle.hb_disk.specs.Calls.{Becomes}
-use Rattle.hb_disk.specs.RunLaws.{at_value, some_value, has_value, some_same}
-use Rattle.hb_disk.specs.TornLaws.{overwritten-reads}
+use Rattle.hb_disk.specs.ValueLaws.{at_value, some_value, has_value, some_same}
+use Rattle.hb_disk.specs.OverwrittenLaws.{overwritten-reads}
 use Rattle.hb_frag.specs.declared.pages.Page.{Page}
 use Rattle.hb_frag.specs.Grammar.{SpellsPage}
 use Rattle.hb_layout.specs.declared.meta.Meta.{Meta}

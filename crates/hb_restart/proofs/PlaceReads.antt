@@ -6,7 +6,7 @@ use Rattle.hb_frag.specs.Grammar.{SpellsPage}
 use Rattle.hb_layout.specs.Offsets.{page_offset}
 use Rattle.hb_layout.specs.declared.meta.Meta.{Meta}
 use Rattle.hb_page_codec.specs.Exact.{AreBytes, PagesAreExact}
-use Rattle.hb_page_codec.specs.Reading.{page_at}
+use Rattle.hb_page_codec.specs.ReadingPages.{page_of_bytes}
 use Rattle.hb_page_codec.specs.declared.errors.PageError.{PageError}
 use Rattle.hb_page_codec.specs.declared.errors.PageError.TheVariants as errors
 use Rattle.hb_store.specs.Opening.{place_bytes}
@@ -18,13 +18,13 @@ place_read (Some b) into meta id at same long reads =
     reads ∙ ap (λ (n : ℕ). take n (drop at b)) long ∙ ap (λ (n : ℕ). take PAGE (drop n b)) same
 
 -- bytes that were read as no page spell none
-none_read : (exact : PagesAreExact) (bytes : List ℕ) → AreBytes bytes → ((page : Page) → SpellsPage bytes page → ⊥) → (read : Option Page) → page_at bytes ≡ read → None ≡ read
+none_read : (exact : PagesAreExact) (bytes : List ℕ) → AreBytes bytes → ((page : Page) → SpellsPage bytes page → ⊥) → (read : Option Page) → page_of_bytes bytes ≡ read → None ≡ read
 none_read exact bytes are none None is = refl
 none_read exact bytes are none (Some page) is = absurd (none page ((exact bytes page are).0 is))
 
 pub bad_read : (exact : PagesAreExact) (bytes : List ℕ) → AreBytes bytes → (e : PageError) → e ≡ errors.BadPage
-    → ((page : Page) → SpellsPage bytes page → (◌≡◌ {A = Result Page PageError} (Err e) (Ok page)) ⊎ (◌≡◌ {A = Result Page PageError} (Err e) (Err errors.NoMemory))) → None ≡ page_at bytes
-bad_read exact bytes are e is only = none_read exact bytes are (λ page spells. never page (only page spells)) (page_at bytes) refl
+    → ((page : Page) → SpellsPage bytes page → (◌≡◌ {A = Result Page PageError} (Err e) (Ok page)) ⊎ (◌≡◌ {A = Result Page PageError} (Err e) (Err errors.NoMemory))) → None ≡ page_of_bytes bytes
+bad_read exact bytes are e is only = none_read exact bytes are (λ page spells. never page (only page spells)) (page_of_bytes bytes) refl
   where
     never : (page : Page) → (◌≡◌ {A = Result Page PageError} (Err e) (Ok page)) ⊎ (◌≡◌ {A = Result Page PageError} (Err e) (Err errors.NoMemory)) → ⊥
     never page (inl same) = cc (is, same)

@@ -4,14 +4,14 @@ use Rattle.hb_frag.specs.declared.pages.Page.{Page}
 use Rattle.hb_ops.specs.Files.{FileState}
 use Rattle.hb_ops.specs.Sound.{IsSound}
 use Rattle.hb_sound.specs.Names.{NamesIn, SoundBreaksNone}
-use Rattle.hb_sound.specs.Told.{IsWholeFile, file_of, item_at, shown}
+use Rattle.hb_sound.specs.Told.{IsWholeFile, file_of, item_at, shown_pages}
 
 -- a source of all pages
 abbrev all_told : List Page → List (Option Page)
 all_told [] = []
 all_told (page ∷ rest) = Some page ∷ all_told rest
 
-shown_all : (pages : List Page) → shown (take (length pages) (all_told pages)) ≡ pages
+shown_all : (pages : List Page) → shown_pages (take (length pages) (all_told pages)) ≡ pages
 shown_all [] = refl
 shown_all (page ∷ rest) = ap (λ (l : List Page). page ∷ l) (shown_all rest)
 
@@ -35,5 +35,5 @@ sound_names law s id rule names sound =
     ] in
     let same : file_of s.meta told ≡ s =
     ap (λ (l : List Page). record { meta = s.meta; pages = l })
-    (ap (λ (n : ℕ). shown (take n told)) (sym sound.rooted.numbered) ∙ shown_all s.pages) in
+    (ap (λ (n : ℕ). shown_pages (take n told)) (sym sound.rooted.numbered) ∙ shown_all s.pages) in
     law s.meta told id rule (inr (whole, subst (λ (x : FileState). NamesIn x id rule) (sym same) names)) whole (subst IsSound (sym same) sound)

@@ -3,11 +3,11 @@ use Rattle.std.proofs.Common.{◌≡◌, ◌⊎◌, inl, inr, ℕ, zero, suc, �
 use Rattle.hb_frag.specs.declared.pages.Page.{Page}
 use Rattle.hb_frag.specs.declared.pages.Page.TheVariants.{Live, Free}
 use Rattle.hb_layout.specs.declared.meta.Meta.{Meta}
-use Rattle.hb_page_codec.specs.Reading.{page_at}
+use Rattle.hb_page_codec.specs.ReadingPages.{page_of_bytes}
 use Rattle.hb_page_codec.specs.Weight.{IsLight}
 use Rattle.hb_space.specs.declared.form.TheConstants.{PAGE}
-use Rattle.hb_sound.specs.Told.{CoversFile, GivesPage, item_at, shown}
-use Rattle.hb_store.specs.Keeps.{IsSameLayout}
+use Rattle.hb_sound.specs.Told.{CoversFile, GivesPage, item_at, shown_pages}
+use Rattle.hb_store.specs.States.{IsSameLayout}
 use Rattle.hb_store.specs.Opening.{place_bytes}
 use Rattle.hb_restart.specs.Source.{touched_or, page_there, page_weight, pages_from, told_pages}
 use Rattle.hb_restart.proofs.Numbered.{within}
@@ -41,7 +41,7 @@ told_is page n (suc k) there e =
 pub gives_touched : (o : Option (List ℕ)) (said : Meta) (touched : ℕ → Option Page) (id : ℕ) (page : Page) → touched id ≡ Some page → GivesPage (told_pages o said touched) id (Some page)
 gives_touched None said touched id page is = tt
 gives_touched (Some b) said touched id page is = λ there e.
-    ap (λ (o : Option Page). touched_or o (page_at (place_bytes said id b))) (sym is) ∙ (told_is (page_there b said touched) said.pages id there e).2
+    ap (λ (o : Option Page). touched_or o (page_of_bytes (place_bytes said id b))) (sym is) ∙ (told_is (page_there b said touched) said.pages id there e).2
 
 pub gives_none : (o : Option (List ℕ)) (said : Meta) (touched : ℕ → Option Page) (id : ℕ) → (id ≡ 0) ⊎ (said.pages < id) → GivesPage (told_pages o said touched) id None
 gives_none None said touched id outside = tt
@@ -49,14 +49,14 @@ gives_none (Some b) said touched id outside = λ there e.
     let told = told_is (page_there b said touched) said.pages id there e in
     elim outside [ inl none ↦ absurd (omega (arith, none, told.0)) | inr beyond ↦ absurd (omega (arith, beyond, told.1)) ]
 
-pub gives_place : (o : Option (List ℕ)) (said : Meta) (touched : ℕ → Option Page) (id : ℕ) (page : Option Page) → touched id ≡ None → IfSome o (λ b. page ≡ page_at (place_bytes said id b))
+pub gives_place : (o : Option (List ℕ)) (said : Meta) (touched : ℕ → Option Page) (id : ℕ) (page : Option Page) → touched id ≡ None → IfSome o (λ b. page ≡ page_of_bytes (place_bytes said id b))
     → GivesPage (told_pages o said touched) id page
 gives_place None said touched id page none read = tt
 gives_place (Some b) said touched id page none read = λ there e.
-    read ∙ ap (λ (o : Option Page). touched_or o (page_at (place_bytes said id b))) (sym none) ∙ (told_is (page_there b said touched) said.pages id there e).2
+    read ∙ ap (λ (o : Option Page). touched_or o (page_of_bytes (place_bytes said id b))) (sym none) ∙ (told_is (page_there b said touched) said.pages id there e).2
 
 pub gives_read : {E : Type 0} (r : Result (Option Page) E) (o : Option (List ℕ)) (said : Meta) (touched : ℕ → Option Page) (id : ℕ) → touched id ≡ None
-    → IfOk r (λ page. IfSome o (λ b. page ≡ page_at (place_bytes said id b))) → IfOk r (λ page. GivesPage (told_pages o said touched) id page)
+    → IfOk r (λ page. IfSome o (λ b. page ≡ page_of_bytes (place_bytes said id b))) → IfOk r (λ page. GivesPage (told_pages o said touched) id page)
 gives_read (Ok page) o said touched id none read = gives_place o said touched id page none read
 gives_read (Err e) o said touched id none read = tt
 
@@ -76,14 +76,14 @@ weight_page (Free next) light = omega arith
 
 -- the pages that are shown of a list without a hole
 pub shown_each : (list : List (Option Page)) → ((k : ℕ) → slice_get list k ≡ Some None → ⊥)
-    → (length (shown list) ≡ length list) × ((k : ℕ) (page : Page) → slice_get (shown list) k ≡ Some page → slice_get list k ≡ Some (Some page))
+    → (length (shown_pages list) ≡ length list) × ((k : ℕ) (page : Page) → slice_get (shown_pages list) k ≡ Some page → slice_get list k ≡ Some (Some page))
 shown_each [] none = (refl, λ k page e. absurd (let never : None ≡ Some page = e in cc))
 shown_each (None ∷ rest) none = absurd (none 0 refl)
 shown_each (Some first ∷ rest) none =
     let behind = shown_each rest (λ k e. none (suc k) e) in
     (let long = behind.0 in omega (arith, long), at behind.1)
   where
-    at : ((k : ℕ) (page : Page) → slice_get (shown rest) k ≡ Some page → slice_get rest k ≡ Some (Some page)) → (k : ℕ) (page : Page) → slice_get (first ∷ shown rest) k ≡ Some page
+    at : ((k : ℕ) (page : Page) → slice_get (shown_pages rest) k ≡ Some page → slice_get rest k ≡ Some (Some page)) → (k : ℕ) (page : Page) → slice_get (first ∷ shown_pages rest) k ≡ Some page
         → slice_get (Some first ∷ rest) k ≡ Some (Some page)
     at behind zero page e = ap (λ (o : Option Page). Some o) e
     at behind (suc k) page e = behind k page e

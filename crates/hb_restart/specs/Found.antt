@@ -56,9 +56,8 @@ pub record IsWhole (size turn : ℕ) (meta : Meta) : Type 0 where
   pub room : file_size meta ≤ size
   pub marks : HasMarks meta
 
--- no refusal of a layout, and none by the size of the disk
+-- no refusal by the size of the disk
 abbrev pub NamesNoSize : OpenFault → Type 0
-NamesNoSize (faults.BadLayout field value) = ⊥
 NamesNoSize (faults.Small needed found) = ⊥
 NamesNoSize _ = Unit {0}
 

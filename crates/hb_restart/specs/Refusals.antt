@@ -1,4 +1,4 @@
--- Why a file isn't made or opened.
+-- Why a file isn't opened.
 use Rattle.std.specs.Prelude.{◌≡◌, ◌⊎◌, ℕ, ◌*◌, ◌≤◌, ◌<◌, List, length, None}
 use Rattle.hb_space.specs.declared.form.TheConstants.{PAGE}
 use Rattle.hb_wal.specs.Frames.{HasFrames}
@@ -49,7 +49,6 @@ IsSmall bytes needed found = (found ≡ length bytes) × (found < needed)
 
 -- Why bytes aren't opened, in the order in which it is tested. A fault of the disk and want of memory say nothing of them.
 abbrev pub Refuses : OpenFault → List ℕ → Type 0
-Refuses (faults.BadLayout field value) bytes = ⊥
 Refuses (faults.Small needed found) bytes = IsSmall bytes needed found
 Refuses faults.NoSuper bytes = (2 * PAGE ≤ length bytes) × HasNone bytes
 Refuses (faults.BadGroup frame) bytes = (turn : ℕ) × (said : Meta) × HasLayout bytes turn said × HasBadGroup bytes turn said frame
@@ -57,9 +56,8 @@ Refuses (faults.Unsound page rule) bytes = (turn : ℕ) × (said : Meta) × HasL
 Refuses faults.DiskFault bytes = Unit {0}
 Refuses faults.NoMemory bytes = Unit {0}
 
--- Whatever the disk was: a layout is refused only by making a file, and a disk is small by its size.
+-- whatever the disk was, it is small by its size
 abbrev pub IsShut : ℕ → OpenFault → Type 0
-IsShut size (faults.BadLayout field value) = ⊥
 IsShut size (faults.Small needed found) = (found ≡ size) × (found < needed)
 IsShut size faults.NoSuper = Unit {0}
 IsShut size (faults.BadGroup frame) = Unit {0}

@@ -12,7 +12,7 @@ use Rattle.hb_frag.specs.Grammar.{SpellsPage}
 use Rattle.hb_layout.specs.declared.meta.Meta.{Meta}
 use Rattle.hb_log_codec.specs.Groups.{Logged}
 use Rattle.hb_ops.specs.Files.{FileState, page_of}
-use Rattle.hb_store.specs.Keeps.{IsSameLayout}
+use Rattle.hb_store.specs.States.{IsSameLayout}
 use Rattle.hb_store.specs.Replay.{untouched, replay}
 use Rattle.hb_store.specs.Opening.{OpensBy, log_bytes, place_bytes}
 

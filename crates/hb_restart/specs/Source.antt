@@ -12,7 +12,7 @@ use Rattle.hb_frag.specs.declared.pages.Page.TheVariants.{Live, Free}
 use Rattle.hb_frag.specs.Leaves.{weight_of}
 use Rattle.hb_layout.specs.declared.meta.Meta.{Meta}
 use Rattle.hb_layout.specs.Offsets.{file_size}
-use Rattle.hb_page_codec.specs.Reading.{page_at}
+use Rattle.hb_page_codec.specs.ReadingPages.{page_of_bytes}
 use Rattle.hb_space.specs.declared.form.TheConstants.{PAGE}
 use Rattle.hb_store.specs.Opening.{place_bytes}
 
@@ -23,7 +23,7 @@ touched_or None read = read
 
 -- the page of a number: the touched one, or what the bytes in its place are read as
 abbrev pub page_there : List ℕ → Meta → (ℕ → Option Page) → ℕ → Option Page
-page_there bytes said touched id = touched_or (touched id) (page_at (place_bytes said id bytes))
+page_there bytes said touched id = touched_or (touched id) (page_of_bytes (place_bytes said id bytes))
 
 -- the pages of so many numbers from one on
 abbrev pub pages_from : (ℕ → Option Page) → ℕ → ℕ → List (Option Page)

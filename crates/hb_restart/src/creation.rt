@@ -8,15 +8,16 @@ ghost use Rattle.hb_frag.specs.Grammar.{SpellsPage};
 ghost use Rattle.hb_layout.specs.Limits.{IsLayout};
 ghost use Rattle.hb_layout.specs.declared.meta.Meta.{Meta as Said};
 ghost use Rattle.hb_layout.specs.Offsets.{file_size};
-ghost use Rattle.hb_store.specs.Keeps.{IsFresh, IsNew, StoreKeeps};
+ghost use Rattle.hb_store.specs.States.{IsNew};
+ghost use Rattle.hb_store.specs.Keeps.{IsFresh, StoreKeeps};
 ghost use Rattle.hb_store.specs.Seen.{seen_as, disk_of};
 ghost use Rattle.hb_restart.specs.Beyond.{KeepsBeyond};
 ghost use Rattle.hb_restart.specs.Creation.{IsLaidOut};
 ghost use Rattle.hb_restart.specs.NewFiles.{lone, new_file, new_meta};
-ghost use Rattle.hb_restart.specs.Layouts.{layout_fault, layout_size};
-ghost use Rattle.hb_restart.specs.declared.faults.OpenFault.TheVariants.{DiskFault, NoMemory};
+ghost use Rattle.hb_restart.specs.Layouts.{RefusesLayout, layout_fault, layout_size};
+ghost use Rattle.hb_restart.specs.declared.faults.CreateFault.TheVariants.{DiskFault, NoMemory};
 
-use crate::faults::OpenFault;
+use crate::faults::CreateFault;
 use crate::layout::{Layout, empty_page};
 use hb_disk::Device;
 use hb_layout::{log_start, page_offset};
@@ -99,12 +100,13 @@ fn write_file<D: Device>(
 }
 
 /// The disk's file is made, and the store is opened over it. Memory is wanted only once the file is made.
-fn make<D: Device>(alloc: Global, disk: D, layout: Layout) -> Result<Store<D>, (OpenFault, D)>
+fn make<D: Device>(alloc: Global, disk: D, layout: Layout) -> Result<Store<D>, (CreateFault, D)>
     requires good { IsNone (layout_fault layout) }
     requires large { layout_size layout ≤ (D.model disk).size }
     ensures made { IfOk result (λ st. IsSome (D.model disk).told → StoreKeeps (D.model (disk_of st)) (seen_as st) (new_file layout) []) }
     ensures new { IfOk result (λ st. IsNew 0 (new_meta layout) (seen_as st)) }
-    ensures refused { IfErr result (λ e. (e.0 ≡ DiskFault) ⊎ (e.0 ≡ NoMemory)) }
+    ensures refused { IfErr result (λ e. RefusesLayout layout (D.model disk).size e.0) }
+    ensures behind_tests { IfErr result (λ e. (e.0 ≡ DiskFault) ⊎ (e.0 ≡ NoMemory)) }
     ensures made_anyway { IfErr result (λ e. e.0 ≡ NoMemory → IsSome (D.model disk).told → IsFresh (D.model e.1) 0 (new_meta layout) (new_file layout)) }
     ensures beyond { IfOk result (λ st. KeepsBeyond (layout_size layout) (D.model disk) (D.model (disk_of st))) }
     ensures beyond_after_fault { IfErr result (λ e. KeepsBeyond (layout_size layout) (D.model disk) (D.model e.1)) }
@@ -118,24 +120,26 @@ fn make<D: Device>(alloc: Global, disk: D, layout: Layout) -> Result<Store<D>, (
     let mut page = [0; PAGE];
     encode(&empty_page(alloc, layout.k), &mut page);
     if write_file(&mut disk, &meta, &page).is_err() {
-        return Err((OpenFault::DiskFault, disk));
+        return Err((CreateFault::DiskFault, disk));
     }
     match Store::opened(alloc, disk, 0, meta) {
         Ok(store) => Ok(store),
-        Err((_, disk)) => Err((OpenFault::NoMemory, disk)),
+        Err((_, disk)) => Err((CreateFault::NoMemory, disk)),
     }
 }
 
 /// Makes a new file on a disk: no record, one page. `BadLayout` names the first field that is out of its limits; then
 /// `Small` comes exactly where the disk has fewer bytes than the layout. Nothing is written before these two.
-pub fn create<D: Device>(alloc: Global, disk: D, layout: Layout) -> Result<Store<D>, (OpenFault, D)>
+pub fn create<D: Device>(
+    alloc: Global,
+    disk: D,
+    layout: Layout,
+) -> Result<Store<D>, (CreateFault, D)>
     ensures made { IfOk result (λ st. IsSome (D.model disk).told → StoreKeeps (D.model (disk_of st)) (seen_as st) (new_file layout) []) }
     ensures new { IfOk result (λ st. IsNew 0 (new_meta layout) (seen_as st)) }
     ensures good { IfOk result (λ st. IsNone (layout_fault layout)) }
     ensures large { IfOk result (λ st. layout_size layout ≤ (D.model disk).size) }
-    ensures refused { IfErr result (λ e. (layout_fault layout ≡ Some e.0)
-        ⊎ (IsNone (layout_fault layout) × ((e.0 ≡ OpenFault.Small (layout_size layout) (D.model disk).size) × ((D.model disk).size < layout_size layout)))
-        ⊎ (IsNone (layout_fault layout) × (layout_size layout ≤ (D.model disk).size) × ((e.0 ≡ DiskFault) ⊎ (e.0 ≡ NoMemory)))) }
+    ensures refused { IfErr result (λ e. RefusesLayout layout (D.model disk).size e.0) }
     ensures unwritten { IfErr result (λ e. e.0 ≢ DiskFault → e.0 ≢ NoMemory → e.1 ≡ disk) }
     // memory is refused only once the file is made
     ensures made_anyway { IfErr result (λ e. e.0 ≡ NoMemory → IsSome (D.model disk).told → IsFresh (D.model e.1) 0 (new_meta layout) (new_file layout)) }
@@ -147,12 +151,12 @@ pub fn create<D: Device>(alloc: Global, disk: D, layout: Layout) -> Result<Store
     ensures later_after_fault { IfErr result (λ e. ((D.model e.1).read_faults ≡ (D.model disk).read_faults) × ((D.model disk).write_faults ≤ (D.model e.1).write_faults)) }
 {
     if let Some(fault) = layout.fault() {
-        return Err((fault, disk));
+        return Err((CreateFault::BadLayout(fault), disk));
     }
     let needed = layout.size();
     let found = disk.size();
     if found < needed {
-        return Err((OpenFault::Small { needed, found }, disk));
+        return Err((CreateFault::Small { needed, found }, disk));
     }
     make(alloc, disk, layout)
 }

@@ -12,11 +12,29 @@ pub enum Field {
     Icap,
 }
 
-/// Why a file wasn't made or opened.
+/// A field of a file's layout that is out of its limits, and the value that it was to have.
+#[derive(Clone, Copy, Debug, PartialEq, Eq)]
+pub struct BadField {
+    pub field: Field,
+    pub value: u64,
+}
+
+/// Why a file wasn't made.
+#[derive(Clone, Copy, Debug, PartialEq, Eq)]
+pub enum CreateFault {
+    /// This field of the layout, the first one, is out of its limits.
+    BadLayout(BadField),
+    /// The disk has fewer bytes than the layout needs.
+    Small { needed: u64, found: u64 },
+    /// The disk failed.
+    DiskFault,
+    /// Memory was refused, once the file was made.
+    NoMemory,
+}
+
+/// Why a file wasn't opened.
 #[derive(Clone, Copy, Debug, PartialEq, Eq)]
 pub enum OpenFault {
-    /// This field of the layout, the first one, is out of its limits.
-    BadLayout { field: Field, value: u64 },
     /// The disk has fewer bytes than are needed.
     Small { needed: u64, found: u64 },
     /// Neither superblock place is open over a legal body.

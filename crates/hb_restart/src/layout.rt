@@ -9,7 +9,7 @@ ghost use Rattle.hb_restart.specs.NewFiles.{new_file, new_meta, new_page};
 ghost use Rattle.hb_restart.specs.declared.layout.Layout.{Layout as Kind};
 ghost use Rattle.hb_restart.specs.Layouts.{first_fault, layout_fault, layout_size};
 
-use crate::faults::{Field, OpenFault};
+use crate::faults::{BadField, Field};
 use hb_frag::{Frag, Leaf, LivePage, Page};
 use hb_ops::Meta;
 use hb_space::form::{ICAP_MIN, KMAX, PAGE};
@@ -27,7 +27,7 @@ pub struct Layout {
 }
 
 /// The first of these numbers that is out of its limits.
-fn fault_of(k: u64, pages: u64, log: u64, dcap: u64, icap: u64) -> Option<OpenFault>
+fn fault_of(k: u64, pages: u64, log: u64, dcap: u64, icap: u64) -> Option<BadField>
     ensures { result ≡ first_fault k pages log dcap icap }
 {
     if !(1 <= k && k <= KMAX as u64) {
@@ -48,11 +48,11 @@ fn fault_of(k: u64, pages: u64, log: u64, dcap: u64, icap: u64) -> Option<OpenFa
     None
 }
 
-/// The refusal of this field.
-fn bad(field: Field, value: u64) -> OpenFault
-    ensures { result ≡ OpenFault.BadLayout field value }
+/// This field, as one that is out of its limits.
+fn bad(field: Field, value: u64) -> BadField
+    ensures { result ≡ record { field = field; value = value } }
 {
-    OpenFault::BadLayout { field, value }
+    BadField { field, value }
 }
 
 impl Layout {
@@ -63,7 +63,7 @@ impl Layout {
         log: u64,
         dcap: u64,
         icap: u64,
-    ) -> Result<Layout, OpenFault>
+    ) -> Result<Layout, BadField>
         ensures numbers { IfOk result (λ l. (l.k ≡ k) × (l.pages ≡ pages) × (l.log ≡ log) × (l.dcap ≡ dcap) × (l.icap ≡ icap)) }
         ensures good { IfOk result (λ l. IsNone (layout_fault l)) }
         ensures first { IfErr result (λ fault. first_fault k pages log dcap icap ≡ Some fault) }
@@ -81,7 +81,7 @@ impl Layout {
     }
 
     /// The first field that is out of its limits.
-    pub fn fault(&self) -> Option<OpenFault>
+    pub fn fault(&self) -> Option<BadField>
         ensures { result ≡ layout_fault self.now }
     {
         fault_of(

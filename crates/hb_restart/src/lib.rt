@@ -26,6 +26,6 @@ mod tests;
 mod threads;
 
 pub use creation::create;
-pub use faults::{Field, OpenFault};
+pub use faults::{BadField, CreateFault, Field, OpenFault};
 pub use layout::{Layout, a_new_file_is_sound};
 pub use recovery::recover;

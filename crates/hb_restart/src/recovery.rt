@@ -7,7 +7,8 @@ ghost use Rattle.hb_ops.specs.Files.{FileState, file_records};
 ghost use Rattle.hb_ops.specs.Sound.{IsSound};
 ghost use Rattle.hb_super.specs.Superblocks.{IsNewest};
 ghost use Rattle.hb_store.specs.Opening.{OpensTo, IsEven};
-ghost use Rattle.hb_store.specs.Keeps.{StoreKeeps, IsNew, IsSameLayout};
+ghost use Rattle.hb_store.specs.States.{IsNew, IsSameLayout};
+ghost use Rattle.hb_store.specs.Keeps.{StoreKeeps};
 ghost use Rattle.hb_store.specs.Seen.{seen_as, disk_of};
 ghost use Rattle.hb_restart.specs.Beyond.{KeepsBeyondFile};
 ghost use Rattle.hb_restart.specs.Refusals.{Refuses, IsShut, IsUnwritten};
@@ -23,7 +24,7 @@ use hb_super::laws::one_superblock_is_newest;
 use std::alloc::Global;
 
 /// Opens the file of a disk: reads the newest superblock and its log, replays it, and tests all rules. Then it syncs,
-/// writes the touched pages to their places, and switches to the next turn. It gives the store, without a page in a frame and
+/// writes the touched pages to their places, and switches to the next turn. It gives the store, without a page in memory and
 /// without a group, and the number of the file's records. The refusals come in this order: `Small` for two superblock
 /// places, `NoSuper`, `Small` for the layout, `BadGroup`, `Unsound`; nothing is written before any of these.
 pub fn recover<D: Device>(alloc: Global, disk: D) -> Result<(Store<D>, u64), (OpenFault, D)>

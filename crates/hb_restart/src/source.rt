@@ -4,7 +4,7 @@ ghost use Rattle.hb_space.specs.declared.form.TheConstants.{PAGE};
 ghost use Rattle.hb_outside.specs.Streams.{Rose};
 ghost use Rattle.hb_disk.specs.Calls.{OnlyReads};
 ghost use Rattle.hb_layout.specs.Offsets.{file_size};
-ghost use Rattle.hb_page_codec.specs.Reading.{page_at};
+ghost use Rattle.hb_page_codec.specs.ReadingPages.{page_of_bytes};
 ghost use Rattle.hb_page_codec.specs.Weight.{IsLight};
 ghost use Rattle.hb_restart.specs.Source.{IsSource, IsSource-prop};
 ghost use Rattle.hb_sound.specs.declared.pages.PageStop.TheVariants.{Failed};
@@ -39,7 +39,7 @@ fn copy_of(alloc: Global, page: &Page) -> Result<Page, NoMemory>
 
 /// The page that the bytes spell, or that they spell none.
 fn spelled(alloc: Global, bytes: &[u8]) -> Result<Option<Page>, PageStop>
-    ensures page { IfOk result (λ page. page ≡ page_at bytes.now) }
+    ensures page { IfOk result (λ page. page ≡ page_of_bytes bytes.now) }
     ensures light { IfOk result (λ page. IfSome page IsLight) }
     ensures memory { IsErrOf result Failed → ⊥ }
 {
@@ -79,7 +79,7 @@ fn page_in_place<D: Device>(
     requires room { file_size meta.now ≤ (D.model disk.old).size }
     requires some { 1 ≤ id }
     requires most { id ≤ meta.now.pages }
-    ensures there { IfOk result (λ page. IfSome (D.model disk.old).told (λ b. page ≡ page_at (place_bytes meta.now id b))) }
+    ensures there { IfOk result (λ page. IfSome (D.model disk.old).told (λ b. page ≡ page_of_bytes (place_bytes meta.now id b))) }
     ensures light { IfOk result (λ page. IfSome page IsLight) }
     ensures cause { IsErrOf result Failed → Rose (D.model disk.old).read_faults (D.model disk.new).read_faults }
     ensures no_fault { (IsErrOf result Failed → ⊥) → (D.model disk.new).read_faults ≡ (D.model disk.old).read_faults }

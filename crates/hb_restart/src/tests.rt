@@ -1,5 +1,6 @@
 //! A file of two levels, by hand: its log makes three pages of one, which doesn't stand in its place. It is opened, and
-//! opened again after a stop before each device call, and after each failing one. Then the same file with a byte or two that
+//! opened again after a stop before each device call, also where that opening is stopped in its turn, and after each failing
+//! one. Then the same file with a byte or two that
 //! are other ones. Offsets and bytes are worked out from `docs/FORMAT.md`.
 
 use crate::{Layout, OpenFault, create, recover};
@@ -153,6 +154,30 @@ fn a_stopped_opening_opens_again(rt: HostRuntime) -> Result<(), Fail> {
     let (_, disk) = open(rt.alloc(), MemDisk::new(rt.alloc(), file(rt.alloc())?));
     for pick in [Pick::Old, Pick::New, Pick::Noise(165)] {
         assert_eq!(rt; first_lost(rt.alloc(), &disk, pick)?, None);
+    }
+    Ok(())
+}
+
+/// The first call of an opening before which a stop leaves bytes of which a second opening, stopped in its turn, loses the
+/// file. `None` where there is none.
+fn first_lost_again(alloc: Global, disk: &MemDisk, pick: Pick) -> Result<Option<u64>, Fail> {
+    for before in 0..disk.calls().saturating_add(1) {
+        let Some(image) = disk.image(before, pick)? else {
+            return Err(Fail::from("no image"));
+        };
+        let (_, again) = open(alloc, MemDisk::new(alloc, image));
+        if first_lost(alloc, &again, pick)?.is_some() {
+            return Ok(Some(before));
+        }
+    }
+    Ok(None)
+}
+
+#[test]
+fn an_opening_stops_twice(rt: HostRuntime) -> Result<(), Fail> {
+    let (_, disk) = open(rt.alloc(), MemDisk::new(rt.alloc(), file(rt.alloc())?));
+    for pick in [Pick::Old, Pick::New, Pick::Noise(165)] {
+        assert_eq!(rt; first_lost_again(rt.alloc(), &disk, pick)?, None);
     }
     Ok(())
 }

@@ -2,10 +2,12 @@
 
 ghost use Rattle.std.specs.Thread.{IsSend, IsSync};
 
-use crate::{Field, Layout, OpenFault};
+use crate::{BadField, CreateFault, Field, Layout, OpenFault};
 
 /// Each type of the crate does.
 fn types_cross_threads() {
+    crosses::<BadField>();
+    crosses::<CreateFault>();
     crosses::<Field>();
     crosses::<Layout>();
     crosses::<OpenFault>();

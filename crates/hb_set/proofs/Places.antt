@@ -13,8 +13,8 @@ use Rattle.std.proofs.lemmas.Bool.{and_parts, false≢true}
 use Rattle.std.proofs.lemmas.List.Sorted.{searchable_from_sorted}
 use Rattle.hb_space.specs.Points.{point_cmp}
 use Rattle.hb_space.specs.declared.records.Record.{Record}
-use Rattle.hb_set.specs.MachineLaws.{exact_points, without}
-use Rattle.hb_set.specs.Kept.{entries_behind, PointsRise, IsAt, IsGapFor}
+use Rattle.hb_set.specs.MachineLaws.{exact_points, entries_without}
+use Rattle.hb_set.specs.Kept.{entries_behind, PointsRise, IsHandleAt, IsHandleGapFor}
 
 pub less_so : (o : Ordering) → is_lt o ≡ true → o ≡ Less
 less_so Less h = refl
@@ -43,18 +43,18 @@ pub comparisons_rise : (hs : List (Box Record Global)) (p : List ℕ) → Points
 comparisons_rise hs p r = searchable_from_sorted nat_list_cmp_total (λ h. h.value.key) hs p (λ k d low high. ap is_lt (turned (get_or hs k d).value.key (get_or hs (k + 1) d).value.key Less (rise_at hs r k (k + 1) d (omega arith) high)))
 
 -- a binary search ends at the point, or at the gap for it
-pub found_at : (hs : List (Box Record Global)) (p : List ℕ) (r : Result ℕ ℕ) → IsSearchInRange r (length hs) → IsBinarySearchResult (λ h. point_cmp h.value.key p) hs r → IfOk r (IsAt hs p)
+pub found_at : (hs : List (Box Record Global)) (p : List ℕ) (r : Result ℕ ℕ) → IsSearchInRange r (length hs) → IsBinarySearchResult (λ h. point_cmp h.value.key p) hs r → IfOk r (IsHandleAt hs p)
 found_at hs p (Ok i) in_range here = record { in_range = in_range; same_point = λ d. exact_points _ _ (here d) }
 found_at hs p (Err i) in_range here = tt
 
-pub gap_at : (hs : List (Box Record Global)) (p : List ℕ) → PointsRise hs → (r : Result ℕ ℕ) → IsSearchInRange r (length hs) → IsBinarySearchResult (λ h. point_cmp h.value.key p) hs r → IfErr r (IsGapFor hs p)
+pub gap_at : (hs : List (Box Record Global)) (p : List ℕ) → PointsRise hs → (r : Result ℕ ℕ) → IsSearchInRange r (length hs) → IsBinarySearchResult (λ h. point_cmp h.value.key p) hs r → IfErr r (IsHandleGapFor hs p)
 gap_at hs p rise (Ok i) in_range parted = tt
 gap_at hs p rise (Err i) in_range parted = record { in_range = in_range; lesser_before = (parted (comparisons_rise hs p rise)).0; greater_after = (parted (comparisons_rise hs p rise)).1 }
 
-at_tail : (h : Box Record Global) (hs : List (Box Record Global)) (p : List ℕ) (i : ℕ) → IsAt (h ∷ hs) p (suc i) → IsAt hs p i
+at_tail : (h : Box Record Global) (hs : List (Box Record Global)) (p : List ℕ) (i : ℕ) → IsHandleAt (h ∷ hs) p (suc i) → IsHandleAt hs p i
 at_tail h hs p i at = record { in_range = omega (arith, at.in_range); same_point = at.same_point }
 
-gap_tail : (h : Box Record Global) (hs : List (Box Record Global)) (p : List ℕ) (i : ℕ) → IsGapFor (h ∷ hs) p (suc i) → IsGapFor hs p i
+gap_tail : (h : Box Record Global) (hs : List (Box Record Global)) (p : List ℕ) (i : ℕ) → IsHandleGapFor (h ∷ hs) p (suc i) → IsHandleGapFor hs p i
 gap_tail h hs p i gap = record {
   in_range = omega (arith, gap.in_range);
   lesser_before = λ k d low high. gap.lesser_before (suc k) d (omega arith) (omega arith);
@@ -72,11 +72,11 @@ tied_first : (p q : List ℕ) → q ≡ p → eq_by_cmp point_cmp p q ≡ true
 tied_first p q h = subst (λ (x : List ℕ). eq_by_cmp point_cmp p x ≡ true) (sym h) (ap is_eq (tied_itself nat_list_cmp_total p))
 
 -- before the place of the point stand lesser ones
-lesser_first : (h : Box Record Global) (hs : List (Box Record Global)) (p : List ℕ) (i : ℕ) → PointsRise (h ∷ hs) → IsAt (h ∷ hs) p (suc i) → point_cmp h.value.key p ≡ Less
+lesser_first : (h : Box Record Global) (hs : List (Box Record Global)) (p : List ℕ) (i : ℕ) → PointsRise (h ∷ hs) → IsHandleAt (h ∷ hs) p (suc i) → point_cmp h.value.key p ≡ Less
 lesser_first h hs p i r at = subst (λ (x : List ℕ). point_cmp h.value.key x ≡ Less) (at.same_point h) (rise_at (h ∷ hs) r zero (suc i) h (omega arith) at.in_range)
 
 -- the body under the point is the one at its place
-pub find_at : (hs : List (Box Record Global)) (p : List ℕ) (i : ℕ) (d : Box Record Global) → PointsRise hs → IsAt hs p i → find point_cmp p (entries_behind hs) ≡ Some (get_or hs i d).value.body
+pub find_at : (hs : List (Box Record Global)) (p : List ℕ) (i : ℕ) (d : Box Record Global) → PointsRise hs → IsHandleAt hs p i → find point_cmp p (entries_behind hs) ≡ Some (get_or hs i d).value.body
 find_at [] p i d r at = absurd (omega (arith, at.in_range))
 find_at (h ∷ hs) p zero d r at = ap (λ b. cond b (Some h.value.body) (find point_cmp p (entries_behind hs))) (tied_first p h.value.key (at.same_point d))
 find_at (h ∷ hs) p (suc i) d r at =
@@ -84,7 +84,7 @@ find_at (h ∷ hs) p (suc i) d r at =
     ∙ find_at hs p i d (and_parts _ _ r).1 (at_tail h hs p i at)
 
 -- a point with a gap is not there
-pub find_gap : (hs : List (Box Record Global)) (p : List ℕ) (i : ℕ) → IsGapFor hs p i → find point_cmp p (entries_behind hs) ≡ None
+pub find_gap : (hs : List (Box Record Global)) (p : List ℕ) (i : ℕ) → IsHandleGapFor hs p i → find point_cmp p (entries_behind hs) ≡ None
 find_gap [] p i gap = refl
 find_gap (h ∷ hs) p zero gap =
     ap (λ b. cond b (Some h.value.body) (find point_cmp p (entries_behind hs))) (above_first p h.value.key (gap.greater_after 0 h (omega arith) (omega arith)))
@@ -94,7 +94,7 @@ find_gap (h ∷ hs) p (suc i) gap =
     ∙ find_gap hs p i (gap_tail h hs p i gap)
 
 -- a record that goes into its gap is put among the entries
-pub put_gap : (hs : List (Box Record Global)) (n : Box Record Global) (i : ℕ) → IsGapFor hs n.value.key i → put point_cmp n.value.key n.value.body (entries_behind hs) ≡ entries_behind (insert hs i n)
+pub put_gap : (hs : List (Box Record Global)) (n : Box Record Global) (i : ℕ) → IsHandleGapFor hs n.value.key i → put point_cmp n.value.key n.value.body (entries_behind hs) ≡ entries_behind (insert hs i n)
 put_gap [] n zero gap = refl
 put_gap [] n (suc i) gap = refl
 put_gap (h ∷ hs) n zero gap = ap (λ o. by_order o ((n.value.key, n.value.body) ∷ entries_behind (h ∷ hs)) ((h.value.key, n.value.body) ∷ entries_behind hs) ((h.value.key, h.value.body) ∷ put point_cmp n.value.key n.value.body (entries_behind hs))) (turned h.value.key n.value.key Greater (gap.greater_after 0 h (omega arith) (omega arith)))
@@ -107,18 +107,18 @@ abbrev pub kept_first : List (List ℕ × List ℕ) → Box Record Global → Bo
 kept_first es h goes = cond (not goes) ((h.value.key, h.value.body) ∷ es) es
 
 -- nothing goes where all points are greater
-without_below : (p : List ℕ) (hs : List (Box Record Global)) → below_all point_cmp p (entries_behind hs) ≡ true → without p (entries_behind hs) ≡ entries_behind hs
+without_below : (p : List ℕ) (hs : List (Box Record Global)) → below_all point_cmp p (entries_behind hs) ≡ true → entries_without p (entries_behind hs) ≡ entries_behind hs
 without_below p [] b = refl
 without_below p (h ∷ hs) b =
-    ap (kept_first (without p (entries_behind hs)) h) (ap is_eq (less_so _ (and_parts _ _ b).0))
+    ap (kept_first (entries_without p (entries_behind hs)) h) (ap is_eq (less_so _ (and_parts _ _ b).0))
     ∙ ap (λ es. (h.value.key, h.value.body) ∷ es) (without_below p hs (and_parts _ _ b).1)
 
 -- to remove the record at the point's place is to leave the point out
-pub without_at : (hs : List (Box Record Global)) (p : List ℕ) (i : ℕ) → PointsRise hs → IsAt hs p i → without p (entries_behind hs) ≡ entries_behind (remove hs i)
+pub without_at : (hs : List (Box Record Global)) (p : List ℕ) (i : ℕ) → PointsRise hs → IsHandleAt hs p i → entries_without p (entries_behind hs) ≡ entries_behind (remove hs i)
 without_at [] p i r at = absurd (omega (arith, at.in_range))
 without_at (h ∷ hs) p zero r at =
-    ap (kept_first (without p (entries_behind hs)) h) (tied_first p h.value.key (at.same_point h))
+    ap (kept_first (entries_without p (entries_behind hs)) h) (tied_first p h.value.key (at.same_point h))
     ∙ without_below p hs (subst (λ (x : List ℕ). below_all point_cmp x (entries_behind hs) ≡ true) (at.same_point h) (and_parts _ _ r).0)
 without_at (h ∷ hs) p (suc i) r at =
-    ap (kept_first (without p (entries_behind hs)) h) (below_first p h.value.key (lesser_first h hs p i r at))
+    ap (kept_first (entries_without p (entries_behind hs)) h) (below_first p h.value.key (lesser_first h hs p i r at))
     ∙ ap (λ es. (h.value.key, h.value.body) ∷ es) (without_at hs p i (and_parts _ _ r).1 (at_tail h hs p i at))

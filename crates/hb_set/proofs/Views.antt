@@ -15,9 +15,9 @@ use Rattle.hb_space.specs.declared.records.Record.{Record}
 use Rattle.hb_space.specs.Boxes.{Area, holds}
 use Rattle.hb_set.specs.declared.commands.Command.TheVariants.{Insert, Delete, Lookup, Search}
 use Rattle.hb_set.specs.declared.commands.Reply.TheVariants.{Done, Duplicate, Absent, Found, Missing, Within}
-use Rattle.hb_set.specs.Machine.{RecordSet, record_of, records_of, HasAttributes, Answers, if_there, found_or_missing, reply_of}
-use Rattle.hb_set.specs.MachineLaws.{without, entries-remove}
-use Rattle.hb_set.specs.Kept.{records_behind, entries_behind, PointsRise, KeysHave, IsAt, IsGapFor}
+use Rattle.hb_set.specs.Machine.{RecordSet, record_of, set_records, HasAttributes, Answers, if_there, found_or_missing, reply_of}
+use Rattle.hb_set.specs.MachineLaws.{entries_without, entries-remove}
+use Rattle.hb_set.specs.Kept.{records_behind, entries_behind, PointsRise, KeysHave, IsHandleAt, IsHandleGapFor}
 use Rattle.hb_set.proofs.Places.{find_at, find_gap, put_gap, without_at}
 
 -- the set of the records behind the handles
@@ -35,32 +35,32 @@ pub entries_are : (hs : List (Box Record Global)) → PointsRise hs → map.entr
 entries_are hs r = map.entries-from_sorted point_cmp (entries_behind hs) (sorted_T hs r)
 
 -- what the set has at a point
-pub get_at : (hs : List (Box Record Global)) (p : List ℕ) (i : ℕ) (d : Box Record Global) → PointsRise hs → IsAt hs p i → map.get (set_behind hs) p ≡ Some (get_or hs i d).value.body
+pub get_at : (hs : List (Box Record Global)) (p : List ℕ) (i : ℕ) (d : Box Record Global) → PointsRise hs → IsHandleAt hs p i → map.get (set_behind hs) p ≡ Some (get_or hs i d).value.body
 get_at hs p i d r at = map.get-from_sorted point_cmp (entries_behind hs) p (sorted_T hs r) ∙ find_at hs p i d r at
 
-pub get_gap : (hs : List (Box Record Global)) (p : List ℕ) (i : ℕ) → PointsRise hs → IsGapFor hs p i → map.get (set_behind hs) p ≡ None
+pub get_gap : (hs : List (Box Record Global)) (p : List ℕ) (i : ℕ) → PointsRise hs → IsHandleGapFor hs p i → map.get (set_behind hs) p ≡ None
 get_gap hs p i r gap = map.get-from_sorted point_cmp (entries_behind hs) p (sorted_T hs r) ∙ find_gap hs p i gap
 
 -- a record goes into its gap
-pub rise_insert : (hs : List (Box Record Global)) (n : Box Record Global) (i : ℕ) → PointsRise hs → IsGapFor hs n.value.key i → PointsRise (insert hs i n)
+pub rise_insert : (hs : List (Box Record Global)) (n : Box Record Global) (i : ℕ) → PointsRise hs → IsHandleGapFor hs n.value.key i → PointsRise (insert hs i n)
 rise_insert hs n i r gap = T_true _ (subst (λ es. T (is_sorted point_cmp es)) (put_gap hs n i gap) (is_sorted-put point_cmp nat_list_cmp_total n.value.key n.value.body (entries_behind hs) (sorted_T hs r)))
 
-pub set_insert : (hs : List (Box Record Global)) (n : Box Record Global) (i : ℕ) → PointsRise hs → IsGapFor hs n.value.key i → set_behind (insert hs i n) ≡ map.insert (set_behind hs) n.value.key n.value.body
+pub set_insert : (hs : List (Box Record Global)) (n : Box Record Global) (i : ℕ) → PointsRise hs → IsHandleGapFor hs n.value.key i → set_behind (insert hs i n) ≡ map.insert (set_behind hs) n.value.key n.value.body
 set_insert hs n i r gap = map.same_entries_map _ _ (
     entries_are (insert hs i n) (rise_insert hs n i r gap)
     ∙ sym (map.entries-insert nat_list_cmp_total (set_behind hs) n.value.key n.value.body ∙ ap (map.put point_cmp n.value.key n.value.body) (entries_are hs r) ∙ put_gap hs n i gap))
 
 -- a record goes
-pub rise_remove : (hs : List (Box Record Global)) (p : List ℕ) (i : ℕ) → PointsRise hs → IsAt hs p i → PointsRise (remove hs i)
+pub rise_remove : (hs : List (Box Record Global)) (p : List ℕ) (i : ℕ) → PointsRise hs → IsHandleAt hs p i → PointsRise (remove hs i)
 rise_remove hs p i r at = T_true _ (subst (λ es. T (is_sorted point_cmp es)) (without_at hs p i r at) (is_sorted-where_key point_cmp (λ x. not (eq_by_cmp point_cmp p x)) (entries_behind hs) (sorted_T hs r)))
 
-pub set_remove : (hs : List (Box Record Global)) (p : List ℕ) (i : ℕ) → PointsRise hs → IsAt hs p i → set_behind (remove hs i) ≡ map.remove (set_behind hs) p
+pub set_remove : (hs : List (Box Record Global)) (p : List ℕ) (i : ℕ) → PointsRise hs → IsHandleAt hs p i → set_behind (remove hs i) ≡ map.remove (set_behind hs) p
 set_remove hs p i r at = map.same_entries_map _ _ (
     entries_are (remove hs i) (rise_remove hs p i r at)
-    ∙ sym (entries-remove (set_behind hs) p ∙ ap (without p) (entries_are hs r) ∙ without_at hs p i r at))
+    ∙ sym (entries-remove (set_behind hs) p ∙ ap (entries_without p) (entries_are hs r) ∙ without_at hs p i r at))
 
 -- its records, in order
-pub records_are : (hs : List (Box Record Global)) → PointsRise hs → records_of (set_behind hs) ≡ records_behind hs
+pub records_are : (hs : List (Box Record Global)) → PointsRise hs → set_records (set_behind hs) ≡ records_behind hs
 records_are hs r = ap (map record_of) (entries_are hs r) ∙ one_by_one hs
   where
     one_by_one : (hs : List (Box Record Global)) → map record_of (entries_behind hs) ≡ records_behind hs
@@ -85,37 +85,37 @@ keys_have k hs r all i d lt =
     subst (λ (r : Record). length r.key ≡ k) (get_or-map (λ (h : Box Record Global). h.value) hs i d) (each i d.value (simp length-map lt))
 
 -- a point at a place is there
-there : (hs : List (Box Record Global)) (p : List ℕ) (i : ℕ) → PointsRise hs → IsAt hs p i → (body : List ℕ) × (map.get (set_behind hs) p ≡ Some body)
+there : (hs : List (Box Record Global)) (p : List ℕ) (i : ℕ) → PointsRise hs → IsHandleAt hs p i → (body : List ℕ) × (map.get (set_behind hs) p ≡ Some body)
 there [] p i rise at = absurd (omega (arith, at.in_range))
 there (h ∷ hs) p i rise at = ((get_or (h ∷ hs) i h).value.body, get_at (h ∷ hs) p i h rise at)
 
 -- an insert where the point is there, and where it isn't
-pub insert_there : (hs : List (Box Record Global)) (r : Record) (i : ℕ) → PointsRise hs → IsAt hs r.key i → Answers (set_behind hs) (Insert r) Duplicate (set_behind hs)
+pub insert_there : (hs : List (Box Record Global)) (r : Record) (i : ℕ) → PointsRise hs → IsHandleAt hs r.key i → Answers (set_behind hs) (Insert r) Duplicate (set_behind hs)
 insert_there hs r i rise at =
     let found = (there hs r.key i rise at).1 in
     (sym (ap (λ o. if_there o Duplicate Done) found), sym (ap (λ o. if_there o (set_behind hs) (map.insert (set_behind hs) r.key r.body)) found))
 
-pub insert_done : (hs : List (Box Record Global)) (n : Box Record Global) (i : ℕ) → PointsRise hs → IsGapFor hs n.value.key i → Answers (set_behind hs) (Insert n.value) Done (set_behind (insert hs i n))
+pub insert_done : (hs : List (Box Record Global)) (n : Box Record Global) (i : ℕ) → PointsRise hs → IsHandleGapFor hs n.value.key i → Answers (set_behind hs) (Insert n.value) Done (set_behind (insert hs i n))
 insert_done hs n i rise gap =
     let none = get_gap hs n.value.key i rise gap in
     (sym (ap (λ o. if_there o Duplicate Done) none), set_insert hs n i rise gap ∙ sym (ap (λ o. if_there o (set_behind hs) (map.insert (set_behind hs) n.value.key n.value.body)) none))
 
 -- a delete
-pub delete_done : (hs : List (Box Record Global)) (p : List ℕ) (i : ℕ) → PointsRise hs → IsAt hs p i → Answers (set_behind hs) (Delete p) Done (set_behind (remove hs i))
+pub delete_done : (hs : List (Box Record Global)) (p : List ℕ) (i : ℕ) → PointsRise hs → IsHandleAt hs p i → Answers (set_behind hs) (Delete p) Done (set_behind (remove hs i))
 delete_done hs p i rise at =
     let found = (there hs p i rise at).1 in
     (sym (ap (λ o. if_there o Done Absent) found), set_remove hs p i rise at ∙ sym (ap (λ o. if_there o (map.remove (set_behind hs) p) (set_behind hs)) found))
 
-pub delete_absent : (hs : List (Box Record Global)) (p : List ℕ) (i : ℕ) → PointsRise hs → IsGapFor hs p i → Answers (set_behind hs) (Delete p) Absent (set_behind hs)
+pub delete_absent : (hs : List (Box Record Global)) (p : List ℕ) (i : ℕ) → PointsRise hs → IsHandleGapFor hs p i → Answers (set_behind hs) (Delete p) Absent (set_behind hs)
 delete_absent hs p i rise gap =
     let none = get_gap hs p i rise gap in
     (sym (ap (λ o. if_there o Done Absent) none), sym (ap (λ o. if_there o (map.remove (set_behind hs) p) (set_behind hs)) none))
 
 -- a lookup
-pub lookup_found : (hs : List (Box Record Global)) (p : List ℕ) (i : ℕ) (h : Box Record Global) → PointsRise hs → IsAt hs p i → h ≡ get_or hs i h → Found h.value.body ≡ reply_of (Lookup p) (set_behind hs)
+pub lookup_found : (hs : List (Box Record Global)) (p : List ℕ) (i : ℕ) (h : Box Record Global) → PointsRise hs → IsHandleAt hs p i → h ≡ get_or hs i h → Found h.value.body ≡ reply_of (Lookup p) (set_behind hs)
 lookup_found hs p i h rise at is = ap (λ (x : Box Record Global). Found x.value.body) is ∙ sym (ap found_or_missing (get_at hs p i h rise at))
 
-pub lookup_missing : (hs : List (Box Record Global)) (p : List ℕ) (i : ℕ) → PointsRise hs → IsGapFor hs p i → Missing ≡ reply_of (Lookup p) (set_behind hs)
+pub lookup_missing : (hs : List (Box Record Global)) (p : List ℕ) (i : ℕ) → PointsRise hs → IsHandleGapFor hs p i → Missing ≡ reply_of (Lookup p) (set_behind hs)
 lookup_missing hs p i rise gap = sym (ap found_or_missing (get_gap hs p i rise gap))
 
 -- a search

@@ -24,12 +24,12 @@ abbrev pub KeysHave : ℕ → List (Box Record Global) → Type 0
 KeysHave k handles = All (λ h. length h.value.key ≡ k) handles
 
 -- the record at the place has the point
-pub record IsAt (handles : List (Box Record Global)) (p : List ℕ) (place : ℕ) : Type 0 where
+pub record IsHandleAt (handles : List (Box Record Global)) (p : List ℕ) (place : ℕ) : Type 0 where
   pub in_range : place < length handles
   pub same_point : HoldsAt (λ h. h.value.key ≡ p) handles place
 
 -- the point would go to the place: lesser points before it, and greater ones from it on
-pub record IsGapFor (handles : List (Box Record Global)) (p : List ℕ) (place : ℕ) : Type 0 where
+pub record IsHandleGapFor (handles : List (Box Record Global)) (p : List ℕ) (place : ℕ) : Type 0 where
   pub in_range : place ≤ length handles
   pub lesser_before : AllWithin (λ h. point_cmp h.value.key p ≡ Less) handles 0 place
   pub greater_after : AllWithin (λ h. point_cmp h.value.key p ≡ Greater) handles place (length handles)

@@ -5,11 +5,11 @@ use Rattle.hb_set.specs.declared.commands.Reply.{Reply}
 use Rattle.hb_set.specs.declared.scripts.Line.{Line}
 use Rattle.hb_set.specs.declared.scripts.Answered.{Answered}
 use Rattle.hb_set.specs.Machine.{RecordSet, reply_of, set_after, Answers, attributes, HasAttributes}
-use Rattle.hb_set.specs.Order.{Entry, AreReplies, result_of, lines_of, KeepsSessions, IsLegalOrder, joined, entries_of, AreRising, IsAnswerTo, Ran}
+use Rattle.hb_set.specs.Order.{Entry, AreReplies, result_of, order_lines, KeepsSessions, IsLegalOrder, with_entry, entries_of, AreRising, IsAnswerTo, Ran}
 
 -- lists of the same lines that both have the machine's replies are one, with one result
 abbrev pub OneAnswer : Type 0
-OneAnswer = (m : RecordSet) (es fs : List Entry) → lines_of es ≡ lines_of fs → AreReplies m es → AreReplies m fs → (es ≡ fs) × (result_of m es ≡ result_of m fs)
+OneAnswer = (m : RecordSet) (es fs : List Entry) → order_lines es ≡ order_lines fs → AreReplies m es → AreReplies m fs → (es ≡ fs) × (result_of m es ≡ result_of m fs)
 
 -- both parts of a legal order are legal, the second from what the first one leaves
 abbrev pub PartsAreLegal : Type 0
@@ -35,7 +35,7 @@ TextKeepsSessions = (lines : List Line) (answered : List Answered) → AreRising
 
 -- one line more at the end of the text
 abbrev pub EntriesGrow : Type 0
-EntriesGrow = (lines : List Line) (answered : List Answered) (l : Line) (a : Answered) → length lines ≡ length answered → entries_of (lines ++ l ∷ []) (answered ++ a ∷ []) ≡ entries_of lines answered ++ joined l a.reply []
+EntriesGrow = (lines : List Line) (answered : List Answered) (l : Line) (a : Answered) → length lines ≡ length answered → entries_of (lines ++ l ∷ []) (answered ++ a ∷ []) ≡ entries_of lines answered ++ with_entry l a.reply []
 
 -- a run grows by one answer at its end
 abbrev pub RunsGrow : Type 0

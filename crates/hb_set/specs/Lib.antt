@@ -4,6 +4,7 @@ pub mod Machine
 pub mod MachineLaws
 pub mod Order
 pub mod OrderLaws
+pub mod TextOrderLaws
 pub mod Laws
 pub mod Scripts
 pub mod Kept

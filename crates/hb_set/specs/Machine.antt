@@ -18,12 +18,12 @@ abbrev pub record_of : List ℕ × List ℕ → Record
 record_of e = record { key = e.0; body = e.1 }
 
 -- all records of the set, in the order of their points
-abbrev pub records_of : RecordSet → List Record
-records_of m = map record_of (map.entries m)
+abbrev pub set_records : RecordSet → List Record
+set_records m = map record_of (map.entries m)
 
 -- the records that the box holds, in the order of their points
 abbrev pub records_within : Area → RecordSet → List Record
-records_within a m = filter (λ r. holds a r.key) (records_of m)
+records_within a m = filter (λ r. holds a r.key) (set_records m)
 
 abbrev pub found_or_missing : Option (List ℕ) → Reply
 found_or_missing None = Missing
@@ -68,4 +68,4 @@ attributes (Search a) = length a.lo
 
 -- the records of the set have as many attributes
 abbrev pub HasAttributes : ℕ → RecordSet → Type 0
-HasAttributes k m = All (λ r. length r.key ≡ k) (records_of m)
+HasAttributes k m = All (λ r. length r.key ≡ k) (set_records m)

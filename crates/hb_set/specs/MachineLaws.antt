@@ -15,7 +15,7 @@ use Rattle.hb_set.specs.declared.commands.Command.{Command}
 use Rattle.hb_set.specs.declared.commands.Command.TheVariants.{Insert, Delete, Lookup, Search}
 use Rattle.hb_set.specs.declared.commands.Reply.{Reply}
 use Rattle.hb_set.specs.declared.commands.Reply.TheVariants.{Done, Duplicate, Absent, Full, NoMemory, ReadFault}
-use Rattle.hb_set.specs.Machine.{RecordSet, record_of, records_of, if_there, found_or_missing, reply_of, set_after, Answers, attributes, HasAttributes}
+use Rattle.hb_set.specs.Machine.{RecordSet, record_of, set_records, if_there, found_or_missing, reply_of, set_after, Answers, attributes, HasAttributes}
 
 -- points that compare alike are one
 pub exact_points : IsAntisymmetric point_cmp
@@ -39,23 +39,23 @@ turned true x y = refl
 turned false x y = refl
 
 -- the entries without those of a point
-abbrev pub without : List ℕ → List (List ℕ × List ℕ) → List (List ℕ × List ℕ)
-without p es = where_key point_cmp (λ x. not (eq_by_cmp point_cmp p x)) es
+abbrev pub entries_without : List ℕ → List (List ℕ × List ℕ) → List (List ℕ × List ℕ)
+entries_without p es = where_key point_cmp (λ x. not (eq_by_cmp point_cmp p x)) es
 
-sorted_without : (m : RecordSet) (p : List ℕ) → T (map.is_sorted point_cmp (without p (map.entries m)))
+sorted_without : (m : RecordSet) (p : List ℕ) → T (map.is_sorted point_cmp (entries_without p (map.entries m)))
 sorted_without m p = is_sorted-where_key point_cmp (λ x. not (eq_by_cmp point_cmp p x)) (map.entries m) (map.entries_sorted m)
 
 -- what a removal leaves, as entries
-pub entries-remove : (m : RecordSet) (p : List ℕ) → map.entries (map.remove m p) ≡ without p (map.entries m)
+pub entries-remove : (m : RecordSet) (p : List ℕ) → map.entries (map.remove m p) ≡ entries_without p (map.entries m)
 entries-remove m p =
-    let same : map.remove m p ≡ map.from_sorted (without p (map.entries m)) = map.same_map nat_list_cmp_total exact_points _ _ (λ q.
+    let same : map.remove m p ≡ map.from_sorted (entries_without p (map.entries m)) = map.same_map nat_list_cmp_total exact_points _ _ (λ q.
     map.get-remove nat_list_cmp_total m p q
     ∙ ap (cond (eq_by_cmp point_cmp q p) None) (map.get-entries m q)
-    ∙ sym (map.get-from_sorted point_cmp (without p (map.entries m)) q (sorted_without m p)
+    ∙ sym (map.get-from_sorted point_cmp (entries_without p (map.entries m)) q (sorted_without m p)
     ∙ find-where_key point_cmp (λ x. not (eq_by_cmp point_cmp p x)) q (λ x t. ap (λ o. not (is_eq o)) (sym (alike_right nat_list_cmp_total q x p t))) (map.entries m)
     ∙ turned (eq_by_cmp point_cmp p q) _ _
     ∙ ap (λ b. cond b None (map.find point_cmp q (map.entries m))) ((eq_by_cmp_equiv nat_list_cmp_total).symm p q))) in
-    ap map.entries same ∙ map.entries-from_sorted point_cmp (without p (map.entries m)) (sorted_without m p)
+    ap map.entries same ∙ map.entries-from_sorted point_cmp (entries_without p (map.entries m)) (sorted_without m p)
 
 -- an empty set has records of any number of attributes
 pub attributes-empty : (k : ℕ) → HasAttributes k map.empty
@@ -66,10 +66,10 @@ abbrev pub EntriesHave : ℕ → List (List ℕ × List ℕ) → Type 0
 EntriesHave k es = AllByRecursion (λ (r : Record). length r.key ≡ k) (map record_of es)
 
 entries_have : (k : ℕ) (m : RecordSet) → HasAttributes k m → EntriesHave k (map.entries m)
-entries_have k m h = recursion_from_All (λ (r : Record). length r.key ≡ k) (records_of m) h
+entries_have k m h = recursion_from_All (λ (r : Record). length r.key ≡ k) (set_records m) h
 
 attributes_from : (k : ℕ) (m : RecordSet) (es : List (List ℕ × List ℕ)) → map.entries m ≡ es → EntriesHave k es → HasAttributes k m
-attributes_from k m es is h = All-from_recursion (λ (r : Record). length r.key ≡ k) (records_of m) (subst (EntriesHave k) (sym is) h)
+attributes_from k m es is h = All-from_recursion (λ (r : Record). length r.key ≡ k) (set_records m) (subst (EntriesHave k) (sym is) h)
 
 put_has : (k : ℕ) (p v : List ℕ) (es : List (List ℕ × List ℕ)) → length p ≡ k → EntriesHave k es → EntriesHave k (put point_cmp p v es)
 put_has k p v [] new h = (new, tt)
@@ -79,9 +79,9 @@ put_has k p v (e ∷ es) new h = elim (point_cmp p e.0) as (λ o. EntriesHave k 
   | Greater ↦ (h.0, put_has k p v es new h.1)
 ]
 
-without_has : (k : ℕ) (p : List ℕ) (es : List (List ℕ × List ℕ)) → EntriesHave k es → EntriesHave k (without p es)
+without_has : (k : ℕ) (p : List ℕ) (es : List (List ℕ × List ℕ)) → EntriesHave k es → EntriesHave k (entries_without p es)
 without_has k p [] h = tt
-without_has k p (e ∷ es) h = elim (eq_by_cmp point_cmp p e.0) as (λ b. EntriesHave k (cond (not b) (e ∷ without p es) (without p es))) [
+without_has k p (e ∷ es) h = elim (eq_by_cmp point_cmp p e.0) as (λ b. EntriesHave k (cond (not b) (e ∷ entries_without p es) (entries_without p es))) [
   | true ↦ without_has k p es h.1
   | false ↦ (h.0, without_has k p es h.1)
 ]
@@ -90,7 +90,7 @@ pub attributes-insert : (k : ℕ) (m : RecordSet) (p v : List ℕ) → length p 
 attributes-insert k m p v new h = attributes_from k (map.insert m p v) (put point_cmp p v (map.entries m)) (map.entries-insert nat_list_cmp_total m p v) (put_has k p v (map.entries m) new (entries_have k m h))
 
 pub attributes-remove : (k : ℕ) (m : RecordSet) (p : List ℕ) → HasAttributes k m → HasAttributes k (map.remove m p)
-attributes-remove k m p h = attributes_from k (map.remove m p) (without p (map.entries m)) (entries-remove m p) (without_has k p (map.entries m) (entries_have k m h))
+attributes-remove k m p h = attributes_from k (map.remove m p) (entries_without p (map.entries m)) (entries-remove m p) (without_has k p (map.entries m) (entries_have k m h))
 
 if_there_both : (P : RecordSet → Type 0) (o : Option (List ℕ)) (m n : RecordSet) → P m → P n → P (if_there o m n)
 if_there_both P None m n p q = q

@@ -23,8 +23,8 @@ result_of m [] = m
 result_of m (e ∷ es) = result_of (set_after e.line.command m) es
 
 -- its lines, and their numbers
-abbrev pub lines_of : List Entry → List Line
-lines_of es = map (λ e. e.line) es
+abbrev pub order_lines : List Entry → List Line
+order_lines es = map (λ e. e.line) es
 
 abbrev pub order_of : List Entry → List ℕ
 order_of es = map (λ e. e.line.number) es
@@ -45,17 +45,17 @@ pub record IsLegalOrder (m : RecordSet) (es : List Entry) : Type 0 where
   pub sessions : KeepsSessions es
 
 -- `full`, `no memory` and `read fault` stand outside the order
-abbrev pub joined : Line → Reply → List Entry → List Entry
-joined l Full es = es
-joined l NoMemory es = es
-joined l ReadFault es = es
-joined l r es = record { line = l; reply = r } ∷ es
+abbrev pub with_entry : Line → Reply → List Entry → List Entry
+with_entry l Full es = es
+with_entry l NoMemory es = es
+with_entry l ReadFault es = es
+with_entry l r es = record { line = l; reply = r } ∷ es
 
 -- the entries of lines that were answered one after the other
 abbrev pub entries_of : List Line → List Answered → List Entry
 entries_of [] answered = []
 entries_of (l ∷ ls) [] = []
-entries_of (l ∷ ls) (a ∷ rest) = joined l a.reply (entries_of ls rest)
+entries_of (l ∷ ls) (a ∷ rest) = with_entry l a.reply (entries_of ls rest)
 
 -- the line numbers rise strictly
 abbrev pub IsAbove : Line → List Line → Type 0

@@ -1,24 +1,19 @@
 -- What follows from the definitions of legal orders.
-use Rattle.std.proofs.Common.{◌≡◌, suc, false, List, [], ◌∷◌, ◌++◌, refl, sym, ap, subst, ◌∙◌, arith}
+use Rattle.std.proofs.Common.{◌≡◌, List, [], ◌∷◌, ◌++◌, refl, sym, ap, subst, ◌∙◌}
 use Rattle.std.specs.List.{AllByRecursion}
-use Rattle.std.proofs.lemmas.Bool.{false≢true}
-use Rattle.hb_set.specs.declared.commands.Reply.{Reply}
-use Rattle.hb_set.specs.declared.commands.Reply.TheVariants.{Full, NoMemory, ReadFault}
 use Rattle.hb_set.specs.declared.scripts.Line.{Line}
-use Rattle.hb_set.specs.declared.scripts.Answered.{Answered}
-use Rattle.hb_set.specs.Machine.{RecordSet, reply_of, set_after, Answers}
-use Rattle.hb_set.specs.MachineLaws.{is_replied, replied}
-use Rattle.hb_set.specs.Laws.{OneAnswer, PartsAreLegal, ResultIsByParts, RepliesAreByParts, RepliesGrow, ResultGrows, TextKeepsSessions, EntriesGrow, RunsGrow, RunsReply, RunsAreLegal, RunsAnswerEach}
-use Rattle.hb_set.specs.Order.{Entry, AreReplies, result_of, lines_of, MayPrecede, KeepsSessions, joined, entries_of, IsAbove, IsAnswerTo}
+use Rattle.hb_set.specs.Machine.{RecordSet, reply_of, set_after}
+use Rattle.hb_set.specs.Laws.{OneAnswer, PartsAreLegal, ResultIsByParts, RepliesAreByParts, RepliesGrow, ResultGrows}
+use Rattle.hb_set.specs.Order.{Entry, AreReplies, result_of, order_lines, MayPrecede, KeepsSessions}
 
 -- lists of the same lines that both have the machine's replies are one
-pub same_entries : (m : RecordSet) (es fs : List Entry) → lines_of es ≡ lines_of fs → AreReplies m es → AreReplies m fs → es ≡ fs
+pub same_entries : (m : RecordSet) (es fs : List Entry) → order_lines es ≡ order_lines fs → AreReplies m es → AreReplies m fs → es ≡ fs
 same_entries m [] [] same p q = refl
 same_entries m [] (f ∷ fs) same p q = cc
 same_entries m (e ∷ es) [] same p q = cc
 same_entries m (e ∷ es) (f ∷ fs) same p q =
     let line : e.line ≡ f.line = cc in
-    let lines : lines_of es ≡ lines_of fs = cc in
+    let lines : order_lines es ≡ order_lines fs = cc in
     let reply : e.reply ≡ f.reply = p.0 ∙ ap (λ (l : Line). reply_of l.command m) line ∙ sym q.0 in
     let rest = same_entries (set_after e.line.command m) es fs lines p.1 (subst (λ (l : Line). AreReplies (set_after l.command m) fs) (sym line) q.1) in
     λ i. record { line = line i; reply = reply i } ∷ rest i
@@ -63,73 +58,3 @@ replies_grown m es e p q = replies_joined m es (e ∷ []) p (q, tt)
 
 pub result_grown : ResultGrows
 result_grown m es e = result_of-append m es (e ∷ [])
-
--- lines answered in the order of the text
-above_joined : (x : Entry) (l : Line) (r : Reply) (es : List Entry) → MayPrecede x (record { line = l; reply = r }) → AllByRecursion (MayPrecede x) es → AllByRecursion (MayPrecede x) (joined l r es)
-above_joined x l Full es p h = h
-above_joined x l NoMemory es p h = h
-above_joined x l ReadFault es p h = h
-above_joined x l r es p h = (p, h)
-
-above_entries : (x : Entry) (ls : List Line) (answered : List Answered) → IsAbove x.line ls → AllByRecursion (MayPrecede x) (entries_of ls answered)
-above_entries x [] answered h = tt
-above_entries x (l ∷ ls) [] h = tt
-above_entries x (l ∷ ls) (a ∷ rest) h = above_joined x l a.reply (entries_of ls rest) (record { other_line = λ same. omega (arith, h.0); session_order = λ _. h.0 }) (above_entries x ls rest h.1)
-
-sessions_joined : (l : Line) (r : Reply) (es : List Entry) → ((x : Entry) → x.line ≡ l → AllByRecursion (MayPrecede x) es) → KeepsSessions es → KeepsSessions (joined l r es)
-sessions_joined l Full es above h = h
-sessions_joined l NoMemory es above h = h
-sessions_joined l ReadFault es above h = h
-sessions_joined l r es above h = (above (record { line = l; reply = r }) refl, h)
-
-pub sessions_of_text : TextKeepsSessions
-sessions_of_text [] answered h = tt
-sessions_of_text (l ∷ ls) [] h = tt
-sessions_of_text (l ∷ ls) (a ∷ rest) h = sessions_joined l a.reply (entries_of ls rest) (λ x is. above_entries x ls rest (subst (λ (k : Line). IsAbove k ls) (sym is) h.0)) (sessions_of_text ls rest h.1)
-
--- one more line at the end of the text
-joined_append : (l : Line) (r : Reply) (es fs : List Entry) → joined l r (es ++ fs) ≡ joined l r es ++ fs
-joined_append l Full es fs = refl
-joined_append l NoMemory es fs = refl
-joined_append l ReadFault es fs = refl
-joined_append l r es fs = refl
-
-pub entries_of-push : EntriesGrow
-entries_of-push [] [] l a same = refl
-entries_of-push [] (b ∷ rest) l a same = absurd (omega arith)
-entries_of-push (k ∷ ls) [] l a same = absurd (omega arith)
-entries_of-push (k ∷ ls) (b ∷ rest) l a same = ap (joined k b.reply) (entries_of-push ls rest l a (omega arith)) ∙ joined_append k b.reply (entries_of ls rest) (joined l a.reply [])
-
--- a run: it grows by one answer at its end
-pub ran_grown : RunsGrow
-ran_grown m [] [] n l a next ran answer = (next, subst (λ (k : RecordSet). IsAnswerTo k l a next) ran answer, refl)
-ran_grown m [] (b ∷ rest) n l a next ran answer = absurd ran
-ran_grown m (k ∷ ls) [] n l a next ran answer = absurd ran
-ran_grown m (k ∷ ls) (b ∷ rest) n l a next ran answer = (ran.0, ran.1, ran_grown ran.0 ls rest n l a next ran.2 answer)
-
--- its entries have the machine's replies, and lead to its last set
-refused : (c : _) (m : RecordSet) (r : Reply) → r ≡ reply_of c m → is_replied r ≡ false → ⊥
-refused c m r is none = false≢true (sym none ∙ ap is_replied is ∙ replied c m)
-
-joined_replies : (m : RecordSet) (l : Line) (r : Reply) (next : RecordSet) (es : List Entry) (n : RecordSet) → Answers m l.command r next → AreReplies next es × (result_of next es ≡ n) → AreReplies m (joined l r es) × (result_of m (joined l r es) ≡ n)
-joined_replies m l Full next es n h rest = absurd (refused l.command m Full h.0 refl)
-joined_replies m l NoMemory next es n h rest = subst (λ (k : RecordSet). AreReplies k es × (result_of k es ≡ n)) h rest
-joined_replies m l ReadFault next es n h rest = absurd (refused l.command m ReadFault h.0 refl)
-joined_replies m l r next es n h rest = ((h.0, subst (λ (k : RecordSet). AreReplies k es) h.1 rest.0), subst (λ (k : RecordSet). result_of k es ≡ n) h.1 rest.1)
-
-pub ran_replies : RunsReply
-ran_replies m [] [] n ran = (tt, sym ran)
-ran_replies m [] (b ∷ rest) n ran = absurd ran
-ran_replies m (k ∷ ls) [] n ran = absurd ran
-ran_replies m (k ∷ ls) (b ∷ rest) n ran = joined_replies m k b.reply ran.0 (entries_of ls rest) n ran.1.answers (ran_replies ran.0 ls rest n ran.2)
-
--- and are a legal order, where the lines rise
-pub ran_legal : RunsAreLegal
-ran_legal m ls answered n ran rising = record { replies = (ran_replies m ls answered n ran).0; sessions = sessions_of_text ls answered rising }
-
--- a run has an answer for each line
-pub ran_each : RunsAnswerEach
-ran_each m [] [] n ran = refl
-ran_each m [] (b ∷ rest) n ran = absurd ran
-ran_each m (k ∷ ls) [] n ran = absurd ran
-ran_each m (k ∷ ls) (b ∷ rest) n ran = ap suc (ran_each ran.0 ls rest n ran.2)

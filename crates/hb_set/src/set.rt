@@ -1,7 +1,7 @@
 ghost use Rattle.std.specs.Prelude.{◌≡◌, ◌≢◌, ◌==◌, ℕ, length, None, IfOk, IfErr};
 ghost use Rattle.std.specs.FinMap as map;
 ghost use Rattle.hb_set.specs.Machine.{Answers, HasAttributes, MayWantMemory, attributes, reply_of};
-ghost use Rattle.hb_set.specs.Kept.{PointsRise, IsAt, IsGapFor};
+ghost use Rattle.hb_set.specs.Kept.{PointsRise, IsHandleAt, IsHandleGapFor};
 
 use crate::search::held_by;
 use crate::{Command, Reply};
@@ -132,8 +132,8 @@ impl Set {
 // Where the point is, or where it would go.
 fn place_of(records: &[Box<Record>], point: &Point) -> Result<usize, usize>
     requires { PointsRise records.now }
-    ensures found { IfOk result (IsAt records.now point.now) }
-    ensures absent { IfErr result (IsGapFor records.now point.now) }
+    ensures found { IfOk result (IsHandleAt records.now point.now) }
+    ensures absent { IfErr result (IsHandleGapFor records.now point.now) }
 {
     records.binary_search_by(|handle| handle.key.cmp(point))
 }

@@ -37,7 +37,7 @@ get_set_other {A} (z ∷ xs) zero (suc k) x other = refl
 get_set_other {A} (z ∷ xs) (suc n) zero x other = refl
 get_set_other {A} (z ∷ xs) (suc n) (suc k) x other = get_set_other xs n k x (λ e. other (ap suc e))
 
-none_more : (o : Option Times) → option_map (more 0) o ≡ o
+pub none_more : (o : Option Times) → option_map (more 0) o ≡ o
 none_more None = refl
 none_more (Some t) = refl
 

@@ -28,7 +28,7 @@ use Rattle.hb_sound.specs.Names.{KeepsSix, NamesLoose}
 use Rattle.hb_sound.specs.Tests.{file_with}
 use Rattle.hb_sound.specs.Told.{item_at}
 use Rattle.hb_sound.proofs.Bridge.{live_seen, page_item, seen_live}
-use Rattle.hb_sound.proofs.LeafBoxes.{contains_one}
+use Rattle.hb_ops.specs.ListLaws.{only_one}
 use Rattle.hb_sound.proofs.LeafBridge.{known_area}
 use Rattle.hb_sound.proofs.Levels.{seen_fact}
 
@@ -257,7 +257,7 @@ is_cut (Cut axis value left right) = 1
 grows : (tree : Tree) (area : Area) (leaf : Leaf) (a : Area) → IsWellCut tree area → Contains (leaves_of tree area) (placed leaf a)
     → ((i : ℕ) → slice_index a.lo i ≡ 0) → (a.lo ≡ area.lo) × (total a.hi + is_cut tree ≤ total area.hi)
 grows (Tip own) area leaf a cut h zeros =
-    let is = contains_one {X = Placed} (placed own area) (placed leaf a) h in
+    let is = only_one {X = Placed} (placed own area) (placed leaf a) h in
     let same : area ≡ a = ap (λ (p : Placed). p.area) is in
     let high : total area.hi ≡ total a.hi = ap (λ (x : Area). total x.hi) same in
     (sym (ap (λ (x : Area). x.lo) same), omega (arith, high))
@@ -280,7 +280,7 @@ grows (Cut axis value left right) area leaf a cut h zeros =
 sibling_cut : (tree : Tree) (area : Area) (name : ℕ) (a : Area) → Contains (leaves_of tree area) (placed (Sibling name) a) → ¬ (IsSiblingTip tree) → is_cut tree ≡ 1
 sibling_cut (Cut axis value left right) area name a h own = refl
 sibling_cut (Tip leaf) area name a h own =
-    let is : leaf ≡ Sibling name = ap (λ (p : Placed). p.leaf) (contains_one {X = Placed} (placed leaf area) (placed (Sibling name) a) h) in
+    let is : leaf ≡ Sibling name = ap (λ (p : Placed). p.leaf) (only_one {X = Placed} (placed leaf area) (placed (Sibling name) a) h) in
     let Q : Leaf → Type 0 = λ l. IsSiblingTip (Tip l) in
     absurd (own (subst Q (sym is) tt))
 

@@ -12,7 +12,7 @@ use Rattle.hb_ops.specs.declared.operations.Op.TheVariants.{Extract}
 use Rattle.hb_ops.specs.Allocating.{Allocates, NamesNext, allocated}
 use Rattle.hb_ops.specs.Extracting as ops
 use Rattle.hb_ops.specs.Files.{FileState, live_page}
-use Rattle.hb_ops.specs.Operations.{IsAllowed, IsAllowedOn, change_of, effect_of, with_page, with_pages}
+use Rattle.hb_ops.specs.Operations.{IsAllowed, IsAllowedOn, change_of, effect_of, with_page, with_changed_pages}
 use Rattle.hb_ops.specs.Sound.{FitsFile}
 
 -- the page that is split, the page that is made, the part that goes there, and the free head afterwards
@@ -61,10 +61,10 @@ may_extract s x h =
 
 -- the file afterwards
 abbrev split_file : FileState → Extraction → Option LivePage → FileState
-split_file s x o = let change = change_of (split_of x) s.meta o (live_page s 0) (live_page s 0) in record { meta = change.meta; pages = with_pages change.pages s.pages }
+split_file s x o = let change = change_of (split_of x) s.meta o (live_page s 0) (live_page s 0) in record { meta = change.meta; pages = with_changed_pages change.pages s.pages }
 
 abbrev part_file : FileState → Extraction → LivePage → Option (Tree × Area) → FileState
-part_file s x page part = record { meta = allocated s.meta x.fresh x.free_after; pages = with_pages (ops.split_pages x.source x.fresh x.path x.cuts page part) s.pages }
+part_file s x page part = record { meta = allocated s.meta x.fresh x.free_after; pages = with_changed_pages (ops.split_pages x.source x.fresh x.path x.cuts page part) s.pages }
 
 pub extracted_so : (s : FileState) (x : Extraction) (page : LivePage) (part : Tree × Area) → live_page s x.source ≡ Some page → FitsPart x page part →
     effect_of s (split_of x) ≡ record { meta = allocated s.meta x.fresh x.free_after; pages = with_page x.fresh (Live (fresh_page x page part)) (with_page x.source (Live (source_page x page part)) s.pages) }

@@ -15,8 +15,7 @@ use Rattle.hb_ops.specs.Growing.{new_root, raised}
 use Rattle.hb_sound.proofs.Extractions.{Extraction}
 use Rattle.hb_ops.specs.Allocating.{allocated}
 use Rattle.hb_sound.proofs.FileParted.{IsParted, is_parted}
-use Rattle.hb_sound.proofs.PageLists.{number_of, range_of, with_page-there}
-use Rattle.hb_sound.proofs.PagePlaces.{live_so}
+use Rattle.hb_ops.specs.PageNumberLaws.{in_range, live_so, place_of, with_page-there}
 use Rattle.hb_sound.proofs.SplitChains.{counted_again, high_fits, same_Some}
 
 -- a page put where it stands already changes nothing
@@ -27,8 +26,8 @@ set_same (x ∷ xs) (suc n) q e = ap (λ (ys : List Page). x ∷ ys) (set_same x
 
 put_same : (s : FileState) (id : ℕ) (q : Page) → page_of s id ≡ Some q → with_page id q s.pages ≡ s.pages
 put_same s id q e =
-    let here = number_of s.pages id q e in
-    ap (λ (m : ℕ). with_page m q s.pages) here.1 ∙ with_page-there s.pages here.0 q (range_of s.pages here.0 q here.2) ∙ set_same s.pages here.0 q here.2
+    let here = place_of s.pages id q e in
+    ap (λ (m : ℕ). with_page m q s.pages) here.1 ∙ with_page-there s.pages here.0 q (in_range s.pages here.0 q here.2) ∙ set_same s.pages here.0 q here.2
 
 -- a chain is one of the pages, whatever the file says of itself
 chain_stays : (meta other : Meta) (pages : List Page) (head : ℕ) (chain : List ℕ) → IsChain (record { meta = meta; pages = pages }) head chain → IsChain (record { meta = other; pages = pages }) head chain

@@ -15,11 +15,13 @@ use Rattle.hb_ops.specs.Operations.{with_page}
 use Rattle.hb_ops.specs.Sound.{FitsFile, count_live, count_name, times_named}
 use Rattle.hb_sound.proofs.Extractions.{Extraction, FitsPart, LicensesExtraction, fresh_page, source_page}
 use Rattle.hb_ops.specs.Allocating.{Allocates, allocated}
-use Rattle.hb_sound.proofs.CutShapes.{once}
+use Rattle.hb_sound.proofs.CutNames.{once}
 use Rattle.hb_sound.proofs.PageLists.{HasInstead, none_behind, put_behind, put_instead}
-use Rattle.hb_sound.proofs.PagePlaces.{live_so}
-use Rattle.hb_sound.proofs.PagesParted.{PartLaws, fresh_made, fresh_narrower, fresh_stems, names_parted, source_made, source_stems, stems_child, stems_sibling}
-use Rattle.hb_sound.proofs.SiblingLeaves.{leaf_is_sibling, placed, sibling_is_leaf}
+use Rattle.hb_ops.specs.PageNumberLaws.{live_so}
+use Rattle.hb_sound.proofs.PagesParted.{fresh_narrower, names_parted, stems_child, stems_sibling}
+use Rattle.hb_ops.specs.PartedPageLaws.{fresh_made, source_made}
+use Rattle.hb_ops.specs.StemLaws.{fresh_stems, source_stems, PartLaws}
+use Rattle.hb_ops.specs.PlacedLaws.{leaf_is_sibling, placed, sibling_is_leaf}
 use Rattle.hb_sound.proofs.Widths.{width}
 
 -- what the page that is split and the page that is made have of the page before; the one names the other
@@ -51,20 +53,20 @@ parts_of laws meta x page part made fits =
       level = refl;
       area = refl;
       fresh_level = refl;
-      narrower = fresh_narrower laws meta x page part made fits;
-      siblings = λ n a has. elim (source_stems laws meta x page part made fits (placed (Sibling n) a) (sibling_is_leaf (leaves_of source.frag source.area) n a has)) [
+      narrower = fresh_narrower laws x page part made.well_cut fits;
+      siblings = λ n a has. elim (source_stems laws x.fresh x.path x.cuts page part fits (placed (Sibling n) a) (sibling_is_leaf (leaves_of source.frag source.area) n a has)) [
         | inl is ↦ inl (names_same x.fresh n fresh.area a is)
         | inr stems ↦ inr (leaf_is_sibling old n a (stems_sibling old n a stems))
       ];
-      children = λ n a has. elim (source_stems laws meta x page part made fits (placed (Child n) a) has) [
+      children = λ n a has. elim (source_stems laws x.fresh x.path x.cuts page part fits (placed (Child n) a) has) [
         | inl is ↦ absurd (let leaf = ap (λ (l : Placed). l.leaf) is in let no : ⊥ = cc in no)
         | inr stems ↦ stems_child old n a stems
       ];
-      fresh_siblings = λ n a has. leaf_is_sibling old n a (stems_sibling old n a (fresh_stems laws meta x page part made fits (placed (Sibling n) a) (sibling_is_leaf (leaves_of fresh.frag fresh.area) n a has)));
-      fresh_children = λ n a has. stems_child old n a (fresh_stems laws meta x page part made fits (placed (Child n) a) has);
-      names = names_parted laws meta x page part made fits;
-      source_made = source_made laws meta x page part made fits;
-      fresh_made = fresh_made laws meta x page part made fits;
+      fresh_siblings = λ n a has. leaf_is_sibling old n a (stems_sibling old n a (fresh_stems laws x.fresh x.path x.cuts page part fits (placed (Sibling n) a) (sibling_is_leaf (leaves_of fresh.frag fresh.area) n a has)));
+      fresh_children = λ n a has. stems_child old n a (fresh_stems laws x.fresh x.path x.cuts page part fits (placed (Child n) a) has);
+      names = names_parted laws x page part made.well_cut fits;
+      source_made = source_made laws meta x.fresh x.path x.cuts page part made fits;
+      fresh_made = fresh_made laws meta x.fresh x.path x.cuts page part made fits;
     }
 
 -- the file t has the one page under the number of the source, the other under the new one, and else what s has

@@ -14,12 +14,12 @@ use Rattle.hb_frag.specs.declared.pages.Page.TheVariants.{Live, Free}
 use Rattle.hb_ops.specs.Files.{FileState, file_records, if_live, page_records}
 use Rattle.hb_ops.specs.Operations.{with_page}
 use Rattle.hb_ops.specs.Sound.{IsSound}
+use Rattle.hb_ops.specs.PageNumberLaws.{in_range, place_of, with_page-behind, with_page-there}
 use Rattle.hb_sound.proofs.Growths.{Growth, LicensesGrowth, MayGrow, growth, grown}
 use Rattle.hb_sound.specs.LawsOfOperations.{GrowthKeepsContents, GrowthKeepsDirect}
 use Rattle.hb_ops.specs.Growing.{new_root}
 use Rattle.hb_sound.proofs.ExampleParts.{each_at}
 use Rattle.hb_sound.proofs.FileGrown.{comes_from, is_grown, stays_live}
-use Rattle.hb_sound.proofs.PageLists.{number_of, range_of, with_page-behind, with_page-there}
 use Rattle.hb_sound.proofs.Partition.{SpaceLaws}
 use Rattle.hb_sound.proofs.SplitChains.{same_Some}
 
@@ -49,9 +49,9 @@ module _ (s : FileState) (x : Growth) (sound : IsSound s) (may : MayGrow s x) (l
         ∙ ap (λ (xs : List Record). flat_map page_records s.pages ++ (xs ++ [])) no_records
         ∙ append-nil (flat_map page_records s.pages)
     | inr some ↦
-        let here = number_of s.pages x.fresh (Free x.free_after) (licensed some) in
+        let here = place_of s.pages x.fresh (Free x.free_after) (licensed some) in
         ap (λ (m : ℕ). flat_map page_records (with_page m new s.pages)) here.1
-        ∙ ap (flat_map page_records) (with_page-there s.pages here.0 new (range_of s.pages here.0 (Free x.free_after) here.2))
+        ∙ ap (flat_map page_records) (with_page-there s.pages here.0 new (in_range s.pages here.0 (Free x.free_after) here.2))
         ∙ records-set s.pages here.0 (Free x.free_after) new here.2 no_records
   ]
 

@@ -1,5 +1,5 @@
 -- Rules 7 and 8: what the leaves of the pages name, from the facts to the pages.
-use Rattle.std.proofs.Common.{◌≡◌, ◌⊎◌, inl, inr, ℕ, zero, suc, ◌+◌, ◌<◌, ◌≤◌, List, [], ◌∷◌, length, slice_index_or, All, Contains, Option, Some, None, refl, sym, ap, ◌∙◌, subst, arith}
+use Rattle.std.proofs.Common.{◌≡◌, ◌⊎◌, inl, inr, ℕ, zero, suc, ◌+◌, ◌<◌, ◌≤◌, List, [], ◌∷◌, length, All, Contains, Option, Some, None, refl, sym, ap, ◌∙◌, subst, arith}
 use Rattle.std.proofs.lemmas.Bool.{cases_Bool, cases_eq, cases_lt, true≢false}
 use Rattle.std.proofs.lemmas.List.{length-set}
 use Rattle.std.proofs.lemmas.List.Elements.{All-cons, All-contains, All-nil, Contains-append_cases, Contains-append_right}
@@ -10,7 +10,7 @@ use Rattle.hb_frag.specs.declared.leaves.Leaf.{Leaf}
 use Rattle.hb_frag.specs.declared.leaves.Leaf.TheVariants.{Records, Child, Sibling}
 use Rattle.hb_frag.specs.declared.pages.LivePage.{LivePage}
 use Rattle.hb_frag.specs.declared.pages.Page.{Page}
-use Rattle.hb_frag.specs.Leaves.{Placed, leaves_of, siblings}
+use Rattle.hb_frag.specs.Leaves.{Placed, leaves_of}
 use Rattle.hb_frag.specs.Rules.{Fits}
 use Rattle.hb_frag.specs.Trees.{Tree, Tip, Cut}
 use Rattle.hb_layout.specs.declared.meta.Meta.{Meta}
@@ -28,67 +28,18 @@ use Rattle.hb_sound.specs.Told.{item_at}
 use Rattle.hb_sound.specs.Walks.{IsLeast}
 use Rattle.hb_sound.proofs.Bridge.{live_seen, seen_live}
 use Rattle.hb_sound.proofs.Firsts.{item_within}
-use Rattle.hb_sound.proofs.LeafBoxes.{contains_one}
+use Rattle.hb_ops.specs.ListLaws.{only_one}
 use Rattle.hb_sound.proofs.Levels.{seen_fact}
 use Rattle.hb_sound.proofs.LocalBridge.{fits}
-
-abbrev placed : Leaf → Area → Placed
-placed leaf area = record { leaf = leaf; area = area }
+use Rattle.hb_ops.specs.PlacedLaws.{placed, leaf_is_sibling, sibling_is_leaf}
 
 contains_head : {X : Type 0} (x : X) (xs : List X) → Contains (x ∷ xs) x
 contains_head x xs = (0, omega arith, refl)
 
-contains_at : {X : Type 0} (x y : X) (xs : List X) (k : ℕ) → k < length (x ∷ xs) → slice_index_or (x ∷ xs) k y ≡ y → (x ≡ y) ⊎ Contains xs y
-contains_at x y xs zero lt e = inl e
-contains_at x y xs (suc k) lt e = inr (k, omega (arith, lt), e)
-
-contains_cases : {X : Type 0} (x y : X) (xs : List X) → Contains (x ∷ xs) y → (x ≡ y) ⊎ Contains xs y
-contains_cases x y xs h = contains_at x y xs h.0 h.1 h.2
-
--- a sibling leaf and its box, and the same among the leaves
-sibling_leaf : (all : List Placed) (name : ℕ) (a : Area) → Contains (siblings all) (name, a) → Contains all (placed (Sibling name) a)
-sibling_leaf [] name a h = absurd (omega (arith, h.1))
-sibling_leaf (first ∷ rest) name a h = by_leaf (sibling_leaf rest name a) first.leaf first.area h
-  where
-    by_leaf : (Contains (siblings rest) (name, a) → Contains rest (placed (Sibling name) a)) → (leaf : Leaf) (area : Area)
-        → Contains (siblings (placed leaf area ∷ rest)) (name, a) → Contains (placed leaf area ∷ rest) (placed (Sibling name) a)
-    by_leaf again (Records records) area there = Contains-append_right (placed (Records records) area ∷ []) rest (placed (Sibling name) a) (again there)
-    by_leaf again (Child page) area there = Contains-append_right (placed (Child page) area ∷ []) rest (placed (Sibling name) a) (again there)
-    by_leaf again (Sibling page) area there = elim (contains_cases {X = ℕ × Area} (page, area) (name, a) (siblings rest) there) [
-      | inl is ↦ let Q : ℕ × Area → Type 0 = λ pair. Contains (placed (Sibling page) area ∷ rest) (placed (Sibling pair.0) pair.1) in
-          subst Q is (contains_head {X = Placed} (placed (Sibling page) area) rest)
-      | inr behind ↦ Contains-append_right (placed (Sibling page) area ∷ []) rest (placed (Sibling name) a) (again behind)
-    ]
-
-leaf_sibling : (all : List Placed) (name : ℕ) (a : Area) → Contains all (placed (Sibling name) a) → Contains (siblings all) (name, a)
-leaf_sibling [] name a h = absurd (omega (arith, h.1))
-leaf_sibling (first ∷ rest) name a h = by_leaf (leaf_sibling rest name a) first.leaf first.area h
-  where
-    by_leaf : (Contains rest (placed (Sibling name) a) → Contains (siblings rest) (name, a)) → (leaf : Leaf) (area : Area)
-        → Contains (placed leaf area ∷ rest) (placed (Sibling name) a) → Contains (siblings (placed leaf area ∷ rest)) (name, a)
-    by_leaf again (Records records) area there = elim (contains_cases {X = Placed} (placed (Records records) area) (placed (Sibling name) a) rest there) [
-      | inl is ↦ let never : Records records ≡ Sibling name = ap (λ (p : Placed). p.leaf) is in cc
-      | inr behind ↦ again behind
-    ]
-    by_leaf again (Child page) area there = elim (contains_cases {X = Placed} (placed (Child page) area) (placed (Sibling name) a) rest there) [
-      | inl is ↦ let never : Child page ≡ Sibling name = ap (λ (p : Placed). p.leaf) is in cc
-      | inr behind ↦ again behind
-    ]
-    by_leaf again (Sibling page) area there = elim (contains_cases {X = Placed} (placed (Sibling page) area) (placed (Sibling name) a) rest there) [
-      | inl is ↦
-          let leaves_same : Sibling page ≡ Sibling name = ap (λ (p : Placed). p.leaf) is in
-          let named : page ≡ name = cc in
-          let boxed : area ≡ a = ap (λ (p : Placed). p.area) is in
-          let Q : ℕ × Area → Type 0 = λ pair. Contains ((page, area) ∷ siblings rest) pair in
-          let same : (page, area) ≡ (name, a) = cc in
-          subst Q same (contains_head {X = ℕ × Area} (page, area) (siblings rest))
-      | inr behind ↦ Contains-append_right ((page, area) ∷ []) (siblings rest) (name, a) (again behind)
-    ]
-
 -- the box of a leaf has as many attributes as that of its tree
 leaf_attributes : (tree : Tree) (area : Area) (leaf : Leaf) (a : Area) → Contains (leaves_of tree area) (placed leaf a) → length a.lo ≡ length area.lo
 leaf_attributes (Tip own) area leaf a h =
-    ap (λ (p : Placed). length p.area.lo) (sym (contains_one {X = Placed} (placed own area) (placed leaf a) h))
+    ap (λ (p : Placed). length p.area.lo) (sym (only_one {X = Placed} (placed own area) (placed leaf a) h))
 leaf_attributes (Cut axis value left right) area leaf a h =
     let below = side_below area axis value in
     let from = side_from area axis value in
@@ -220,7 +171,7 @@ module _ (meta : Meta) (facts : List Fact) (list : List Page) (are : AreFactsOf 
         loses.1,
         name,
         area,
-        leaf_sibling (leaves_of loses.0.frag loses.0.area) name area there,
+        leaf_is_sibling (leaves_of loses.0.frag loses.0.area) name area there,
         λ has. bad (record { same = has_same loses.0.level name area has }),
       )
 
@@ -231,7 +182,7 @@ module _ (meta : Meta) (facts : List Fact) (list : List Page) (are : AreFactsOf 
         page,
         misses.1,
         λ finds.
-            let at = All-contains (FindsSame facts page.level) all (placed (Sibling misses.2) misses.3) finds (sibling_leaf all misses.2 misses.3 misses.4) in
+            let at = All-contains (FindsSame facts page.level) all (placed (Sibling misses.2) misses.3) finds (sibling_is_leaf all misses.2 misses.3 misses.4) in
             misses.5 (same_has page.level misses.2 misses.3 at.same),
       )
 

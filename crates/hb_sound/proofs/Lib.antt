@@ -20,10 +20,8 @@ pub mod LatePosting
 pub mod TowerFile
 pub mod Extractions
 pub mod Growths
-pub mod LeafHalves
-pub mod CutLeaves
-pub mod CutShapes
-pub mod PathParts
+pub mod CutWidths
+pub mod CutNames
 pub mod PagesParted
 pub mod PageLists
 pub mod FileParted
@@ -46,13 +44,14 @@ mod Marked
 mod LeftOut
 mod Levels
 mod Firsts
-mod PartTests
-mod LeafBoxes
 mod Counts
 mod ToldPages
+mod KnownPages
 mod ReadUp
 mod Bridge
 mod LinkSteps
+mod RestSteps
+mod LeafTests
 mod ChainBridge
 mod LocalBridge
 mod SixRules

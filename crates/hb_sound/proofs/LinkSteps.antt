@@ -16,7 +16,8 @@ use Rattle.hb_sound.specs.declared.links.Links.{Links}
 use Rattle.hb_sound.specs.declared.names.Times.{Times}
 use Rattle.hb_sound.specs.declared.names.Times.TheVariants.{Never}
 use Rattle.hb_sound.specs.Facts.{more, names_in}
-use Rattle.hb_sound.specs.Links.{Adds, AddsPage, AreLinks, AreRead, FindsChildren, FindsSiblings, IsCut, IsFirstUpTo, IsNext, LosesChild, LosesSibling}
+use Rattle.hb_sound.specs.Links.{Adds, AddsPage, AreLinks, AreRead, FindsChildren, FindsSiblings, IsCut, IsFirstUpTo, IsNextBad, LosesChild, LosesSibling}
+use Rattle.hb_sound.specs.Rests.{KnowsTold}
 use Rattle.hb_sound.specs.Stops.{OnBroken}
 use Rattle.hb_sound.specs.Told.{item_at}
 use Rattle.hb_sound.specs.declared.pages.AuditStop.{AuditStop}
@@ -28,7 +29,7 @@ use Rattle.hb_sound.proofs.ReadUp.{take_more}
 use Rattle.hb_sound.proofs.ToldPages.{slice_get_inside}
 
 -- the first bad one after one more
-pub next_first : (p : ℕ → Type 0) (good : Type 0) (n : ℕ) (first after : Option ℕ) → IsFirstUpTo p n first → IsNext good (n + 1) first after
+pub next_first : (p : ℕ → Type 0) (good : Type 0) (n : ℕ) (first after : Option ℕ) → IsFirstUpTo p n first → IsNextBad good (n + 1) first after
     → (good → ¬ (p (n + 1))) → (¬ good → p (n + 1)) → IsFirstUpTo p (n + 1) after
 next_first p good n None after is (inl keeps) none some =
     let Q : Option ℕ → Type 0 = λ o. IsFirstUpTo p (n + 1) o in
@@ -59,7 +60,7 @@ count_append : (id : ℕ) (xs ys : List (ℕ × Area)) → count_name id (xs ++ 
 count_append id [] ys = omega arith
 count_append id (s ∷ xs) ys = let rest = count_append id xs ys in omega (arith, rest)
 
-sibling_append : (xs ys : List Placed) → siblings (xs ++ ys) ≡ siblings xs ++ siblings ys
+pub sibling_append : (xs ys : List Placed) → siblings (xs ++ ys) ≡ siblings xs ++ siblings ys
 sibling_append [] ys = refl
 sibling_append (first ∷ xs) ys = by_leaf (sibling_append xs ys) first.leaf first.area
   where
@@ -158,12 +159,12 @@ page_there facts list n same lt =
 -- one more page, where it is told
 pub links_more : (o : Option (List (Option Page))) (facts : List Fact) (n : ℕ) (old new : Links) → n < length facts
     → IfSome o (λ told. (list : List Page) → AreRead told facts list → AreLinks facts list n old)
-    → IfSome o (λ told. (page : Page) → item_at told (n + 1) ≡ Some (Some page) → AddsPage facts (n + 1) page old new)
+    → IfSome o (λ told. (page : Page) → item_at told (n + 1) ≡ Some (Some page) → KnowsTold facts told → AddsPage facts (n + 1) page old new)
     → IfSome o (λ told. (list : List Page) → AreRead told facts list → AreLinks facts list (n + 1) new)
 links_more None facts n old new lt links adds = tt
 links_more (Some told) facts n old new lt links adds = λ list read.
     let page = page_there facts list n read.same lt in
-    by_page facts list n page.0 old new page.1 (links list read) (adds page.0 (read.told_are (n + 1) page.0 page.1))
+    by_page facts list n page.0 old new page.1 (links list read) (adds page.0 (read.told_are (n + 1) page.0 page.1) read.known)
 
 -- the page is there, and cut, so it is never refused
 pub never_broken : (o : Option (List (Option Page))) (facts : List Fact) (n : ℕ) → n < length facts

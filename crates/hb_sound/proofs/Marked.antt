@@ -6,7 +6,7 @@ use Rattle.hb_sound.specs.Chains.{IsChained}
 use Rattle.hb_sound.specs.Told.{item_at}
 use Rattle.hb_sound.specs.Walks.{IsOnce, LeadsAlong}
 use Rattle.hb_sound.proofs.Counts.{get_set_other, get_set_same}
-use Rattle.hb_sound.proofs.LeafBoxes.{contains_one}
+use Rattle.hb_ops.specs.ListLaws.{only_one}
 
 -- how many marks aren't set
 abbrev pub unmarked : List Bool → ℕ
@@ -49,7 +49,7 @@ once_on [] id once new = (λ h. absurd (omega (arith, h.1)), tt)
 once_on (first ∷ rest) id once new = (
   λ h. elim (Contains-append_cases rest (id ∷ []) first h) [
     | inl here ↦ once.0 here
-    | inr here ↦ let e : id ≡ first = contains_one {X = ℕ} id first here in
+    | inr here ↦ let e : id ≡ first = only_one {X = ℕ} id first here in
         new (let Q : ℕ → Type 0 = λ x. Contains (first ∷ rest) x in subst Q (sym e) (0, omega arith, refl))
   ],
   once_on rest id once.1 (λ h. new (Contains-append_right (first ∷ []) rest id h)),
@@ -69,7 +69,7 @@ chained_on chain marks id chained off other =
             let Q : ℕ → Type 0 = λ n. item_at marks n ≡ Some true in
             apart_then (λ e. absurd (let never : Some true ≡ Some false = sym (subst Q e on) ∙ off in cc)) ∙ on
         | inr here ↦
-            let e : id ≡ other = contains_one {X = ℕ} id other here in
+            let e : id ≡ other = only_one {X = ℕ} id other here in
             let Q : ℕ → Type 0 = λ n. item_at (slice_set marks (id - 1) true) n ≡ Some true in
             subst Q e (item_set_same marks id true false off)
       ],

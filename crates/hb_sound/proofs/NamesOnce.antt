@@ -9,7 +9,7 @@ use Rattle.hb_ops.specs.LocalRule.{BreaksFirst}
 use Rattle.hb_ops.specs.Sound.{FitsFile, SiblingsMatch, ChildrenMatch}
 use Rattle.hb_sound.specs.Broken.{BreaksRule, MissesSibling, MissesChild, IsLoose}
 use Rattle.hb_sound.specs.Names.{KeepsLocally, NamesFree, NamesIn, NamesLocal, NamesLoose}
-use Rattle.hb_sound.specs.Walks.{IsChainWalk, IsLeast, IsLeftOut, IsOnce, LeadsAlong, next_free}
+use Rattle.hb_sound.specs.Walks.{IsLeast, IsLeftOut, IsOnce, LeadsAlong, next_free}
 use Rattle.hb_sound.proofs.ChainBridge.{contains_cases}
 
 pub least_one : (p : ℕ → Type 0) (m n : ℕ) → IsLeast p m → IsLeast p n → m ≡ n

@@ -11,7 +11,8 @@ use Rattle.hb_frag.specs.Leaves.{Placed, IsWellCut, first_at, leaf_at, leaves_of
 use Rattle.hb_ops.specs.Files.{FileState, live_page}
 use Rattle.hb_ops.specs.Sound.{AreWellMade, IsCovered, SiblingsMatch}
 use Rattle.hb_sound.proofs.PagePlaces.{areas_same, live_there, page_no_wider, total}
-use Rattle.hb_sound.proofs.SiblingLeaves.{named_among, placed, sibling_is_leaf}
+use Rattle.hb_sound.proofs.SiblingLeaves.{named_among}
+use Rattle.hb_ops.specs.PlacedLaws.{placed, sibling_is_leaf}
 use Rattle.hb_sound.proofs.Widths.{sibling_narrower, width}
 
 -- what the laws of trees say

@@ -1,6 +1,5 @@
 -- The pages of a file with another page under a number: one in place of a page in use, or one in use in place of a free page or behind the last.
-use Rattle.std.proofs.Common.{◌≡◌, ◌≢◌, ℕ, zero, suc, ◌+◌, ◌-◌, ◌<◌, ◌≤◌, ◌==◌, Bool, cond, List, [], ◌∷◌, ◌++◌, length, set, slice_get, Some, None, refl, sym, ap, subst, ◌∙◌, arith, eq-eqb, lt-ltb, ne_eqb, nat_lt}
-use Rattle.std.proofs.lemmas.Bool.{le-ltb}
+use Rattle.std.proofs.Common.{◌≡◌, ◌≢◌, ℕ, zero, suc, ◌+◌, ◌≤◌, List, [], ◌∷◌, ◌++◌, length, set, slice_get, Some, None, refl, sym, ap, subst, ◌∙◌, arith}
 use Rattle.std.proofs.lemmas.List.{length-append, length-set}
 use Rattle.hb_frag.specs.declared.pages.Page.{Page}
 use Rattle.hb_frag.specs.declared.pages.Page.TheVariants.{Live, Free}
@@ -8,7 +7,7 @@ use Rattle.hb_frag.specs.Leaves.{siblings_of}
 use Rattle.hb_ops.specs.Files.{page_at}
 use Rattle.hb_ops.specs.Operations.{with_page}
 use Rattle.hb_ops.specs.Sound.{count_live, count_name, times_named}
-use Rattle.hb_sound.proofs.PagePlaces.{page_at-suc, page_at-zero}
+use Rattle.hb_ops.specs.PageNumberLaws.{get-set_other, get-set_same, in_range, page_at-suc, page_at-zero, place_of, with_page-behind, with_page-there}
 
 -- what a page adds to the pages in use, and to the names
 abbrev pub lives : Page → ℕ
@@ -26,24 +25,6 @@ count-cons (Free next) rest = omega arith
 times-cons : (id : ℕ) (q : Page) (rest : List Page) → times_named id (q ∷ rest) ≡ names_in id q + times_named id rest
 times-cons id (Live page) rest = refl
 times-cons id (Free next) rest = omega arith
-
--- another page at a place
-pub range_of : (pages : List Page) (n : ℕ) (q : Page) → slice_get pages n ≡ Some q → n < length pages
-range_of [] n q e = cc
-range_of (x ∷ xs) zero q e = omega arith
-range_of (x ∷ xs) (suc n) q e = let rest = range_of xs n q e in omega arith
-
-get-set_same : (pages : List Page) (n : ℕ) (new : Page) → n < length pages → slice_get (set pages n new) n ≡ Some new
-get-set_same [] n new lt = absurd (omega arith)
-get-set_same (x ∷ xs) zero new lt = refl
-get-set_same (x ∷ xs) (suc n) new lt = get-set_same xs n new (omega arith)
-
-get-set_other : (pages : List Page) (n m : ℕ) (new : Page) → m ≢ n → slice_get (set pages n new) m ≡ slice_get pages m
-get-set_other [] n m new ne = refl
-get-set_other (x ∷ xs) zero zero new ne = absurd (ne refl)
-get-set_other (x ∷ xs) zero (suc m) new ne = refl
-get-set_other (x ∷ xs) (suc n) zero new ne = refl
-get-set_other (x ∷ xs) (suc n) (suc m) new ne = get-set_other xs n m new (λ e. ne (ap suc e))
 
 count-set : (pages : List Page) (n : ℕ) (q new : Page) → slice_get pages n ≡ Some q → count_live (set pages n new) + lives q ≡ count_live pages + lives new
 count-set [] n q new e = cc
@@ -100,29 +81,6 @@ times-push id (x ∷ xs) new =
     let two = times-cons id x (xs ++ (new ∷ [])) in
     omega (arith, rest, one, two)
 
--- the same by numbers
-pub number_of : (pages : List Page) (id : ℕ) (q : Page) → page_at pages id ≡ Some q → (n : ℕ) × (id ≡ suc n) × (slice_get pages n ≡ Some q)
-number_of pages zero q e = let none = page_at-zero pages in cc
-number_of pages (suc n) q e = (n, refl, sym (page_at-suc pages n) ∙ e)
-
-pub with_page-there : (pages : List Page) (n : ℕ) (new : Page) → n < length pages → with_page (suc n) new pages ≡ set pages n new
-with_page-there pages n new lt =
-    let back : suc n - 1 ≡ n = omega arith in
-    let rest : List Page = cond (suc n == length pages + 1) (pages ++ (new ∷ [])) pages in
-    ap (λ (b : Bool). cond b pages (cond (nat_lt (suc n - 1) (length pages)) (set pages (suc n - 1) new) rest)) (ne_eqb (suc n) 0 (λ e. omega arith))
-    ∙ ap (λ (m : ℕ). cond (nat_lt m (length pages)) (set pages m new) rest) back
-    ∙ ap (λ (b : Bool). cond b (set pages n new) rest) (lt-ltb n (length pages) lt)
-
-pub with_page-behind : (pages : List Page) (new : Page) → with_page (suc (length pages)) new pages ≡ pages ++ (new ∷ [])
-with_page-behind pages new =
-    let back : suc (length pages) - 1 ≡ length pages = omega arith in
-    let next : suc (length pages) ≡ length pages + 1 = omega arith in
-    let rest : List Page = cond (suc (length pages) == length pages + 1) (pages ++ (new ∷ [])) pages in
-    ap (λ (b : Bool). cond b pages (cond (nat_lt (suc (length pages) - 1) (length pages)) (set pages (suc (length pages) - 1) new) rest)) (ne_eqb (suc (length pages)) 0 (λ e. omega arith))
-    ∙ ap (λ (m : ℕ). cond (nat_lt m (length pages)) (set pages m new) rest) back
-    ∙ ap (λ (b : Bool). cond b (set pages (length pages) new) rest) (le-ltb (length pages) (length pages) (omega arith))
-    ∙ ap (λ (b : Bool). cond b (pages ++ (new ∷ [])) pages) (eq-eqb (suc (length pages)) (length pages + 1) next)
-
 -- pages afterwards: the new page stands under the number, the others as before, and one page went away or none
 pub record HasInstead (pages : List Page) (id : ℕ) (was now : Page) (after : List Page) : Type 0 where
   pub there : page_at after id ≡ Some now
@@ -132,7 +90,7 @@ pub record HasInstead (pages : List Page) (id : ℕ) (was now : Page) (after : L
 
 instead : (pages : List Page) (n : ℕ) (was now : Page) → slice_get pages n ≡ Some was → HasInstead pages (suc n) was now (set pages n now)
 instead pages n was now e = record {
-  there = page_at-suc (set pages n now) n ∙ get-set_same pages n now (range_of pages n was e);
+  there = page_at-suc (set pages n now) n ∙ get-set_same pages n now (in_range pages n was e);
   others = others;
   counted = count-set pages n was now e;
   times = λ name. times-set name pages n was now e;
@@ -144,8 +102,8 @@ instead pages n was now e = record {
 
 pub put_instead : (pages : List Page) (id : ℕ) (was now : Page) → page_at pages id ≡ Some was → HasInstead pages id was now (with_page id now pages) × (length (with_page id now pages) ≡ length pages)
 put_instead pages id was now e =
-    let here = number_of pages id was e in
-    let is : with_page id now pages ≡ set pages here.0 now = ap (λ (m : ℕ). with_page m now pages) here.1 ∙ with_page-there pages here.0 now (range_of pages here.0 was here.2) in (
+    let here = place_of pages id was e in
+    let is : with_page id now pages ≡ set pages here.0 now = ap (λ (m : ℕ). with_page m now pages) here.1 ∙ with_page-there pages here.0 now (in_range pages here.0 was here.2) in (
       subst (λ (after : List Page). HasInstead pages id was now after) (sym is)
           (subst (λ (m : ℕ). HasInstead pages m was now (set pages here.0 now)) (sym here.1) (instead pages here.0 was now here.2)),
       ap length is ∙ length-set pages here.0 now,

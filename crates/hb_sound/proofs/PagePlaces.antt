@@ -1,5 +1,5 @@
 -- The pages of a file by their places, and how wide they can be.
-use Rattle.std.proofs.Common.{◌≡◌, ◌≢◌, ℕ, zero, suc, ◌+◌, ◌-◌, ◌≤◌, ◌==◌, ◌⊎◌, inl, inr, Bool, cond, List, [], ◌∷◌, slice_get, Option, Some, None, refl, sym, ap, ◌∙◌, arith, ne_eqb}
+use Rattle.std.proofs.Common.{◌≡◌, ◌≢◌, ℕ, zero, suc, ◌+◌, ◌≤◌, ◌⊎◌, inl, inr, List, [], ◌∷◌, slice_get, Some, refl, sym, ap, ◌∙◌, arith}
 use Rattle.std.proofs.lemmas.Bool.{cases_eq}
 use Rattle.hb_space.specs.Boxes.{Area}
 use Rattle.hb_frag.specs.declared.pages.LivePage.{LivePage}
@@ -7,25 +7,7 @@ use Rattle.hb_frag.specs.declared.pages.Page.{Page}
 use Rattle.hb_frag.specs.declared.pages.Page.TheVariants.{Live, Free}
 use Rattle.hb_ops.specs.Files.{FileState, if_live, live_page, page_at}
 use Rattle.hb_sound.proofs.Widths.{width}
-
--- no page has the number 0, and the page of another number stands one place before
-pub page_at-zero : (pages : List Page) → page_at pages 0 ≡ None
-page_at-zero [] = refl
-page_at-zero (page ∷ rest) = refl
-
-pub page_at-suc : (pages : List Page) (n : ℕ) → page_at pages (suc n) ≡ slice_get pages n
-page_at-suc [] n = refl
-page_at-suc (page ∷ rest) zero = refl
-page_at-suc (page ∷ rest) (suc n) =
-    ap (λ (b : Bool). cond b None (cond (suc (suc n) == 1) (Some page) (page_at rest (suc (suc n) - 1)))) (ne_eqb (suc (suc n)) 0 (λ e. omega arith))
-    ∙ ap (λ (b : Bool). cond b (Some page) (page_at rest (suc (suc n) - 1))) (ne_eqb (suc (suc n)) 1 (λ e. omega arith))
-    ∙ ap (page_at rest) (let e : suc (suc n) - 1 ≡ suc n = omega arith in e)
-    ∙ page_at-suc rest n
-
-pub live_so : (o : Option Page) (page : LivePage) → if_live o ≡ Some page → o ≡ Some (Live page)
-live_so None page e = cc
-live_so (Some (Live q)) page e = let same : q ≡ page = cc in ap (λ (x : LivePage). Some (Live x)) same
-live_so (Some (Free next)) page e = cc
+use Rattle.hb_ops.specs.PageNumberLaws.{live_so, page_at-suc, page_at-zero}
 
 -- a page in use has a place, and what stands there is in use
 pub live_there : (s : FileState) (n : ℕ) (page : LivePage) → slice_get s.pages n ≡ Some (Live page) → live_page s (suc n) ≡ Some page

@@ -14,7 +14,7 @@ use Rattle.hb_frag.specs.Trees.{Tree, Tip}
 use Rattle.hb_layout.specs.declared.meta.Meta.{Meta}
 use Rattle.hb_ops.specs.declared.operations.Op.TheVariants.{Post}
 use Rattle.hb_ops.specs.Files.{FileState, contents_of, file_records, live_page, page_of, page_records}
-use Rattle.hb_ops.specs.Operations.{IsAllowedOn, change_of, effect_of, with_page, with_pages}
+use Rattle.hb_ops.specs.Operations.{IsAllowedOn, change_of, effect_of, with_page, with_changed_pages}
 use Rattle.hb_ops.specs.Posting.{FitsPost, GaveAway, IsChildAt, post_page}
 use Rattle.hb_ops.specs.Sound.{IsSound}
 use Rattle.hb_sound.specs.LawsOfPostings.{ChangesParent, MayBeDone, NamesAt, PostingsChangeParent, PostingsKeepContents, PostingsKeepDirect, PostingsKeepSound, PostingsName}
@@ -22,11 +22,10 @@ use Rattle.hb_sound.specs.PointWalks.{HasOn}
 use Rattle.hb_sound.proofs.GrowthKept.{contents_from, records-set}
 use Rattle.hb_sound.proofs.OneChanged.{IsBelow, IsLike, after as changed, new_live, others_stay, pair_of_new, pair_of_old, sound_again}
 use Rattle.hb_sound.proofs.OneLevel.{TreeLaws, same_page}
-use Rattle.hb_sound.proofs.PageLists.{number_of, range_of, with_page-there}
-use Rattle.hb_sound.proofs.PagePlaces.{live_so}
+use Rattle.hb_ops.specs.PageNumberLaws.{in_range, live_so, place_of, with_page-there}
 use Rattle.hb_sound.proofs.Partition.{SpaceLaws, pages_have_boxes}
 use Rattle.hb_sound.proofs.PostedPage.{PostLaws, SaysAsBefore, keeps, leaf_there, names_at, new as posted_page, new_cut, new_made, origin, posted_so, siblings_stay}
-use Rattle.hb_sound.proofs.SiblingLeaves.{placed}
+use Rattle.hb_ops.specs.PlacedLaws.{placed}
 use Rattle.hb_sound.proofs.SplitChains.{same_Some}
 use Rattle.hb_sound.proofs.WalksDown.{holds_within}
 
@@ -151,7 +150,7 @@ module _ (trees : TreeLaws) (space : SpaceLaws) (laws : PostLaws) (s : FileState
 
   -- the file after the operation
   abbrev post_file : Option LivePage → FileState
-  post_file o = let change = change_of (Post parent at inner area) s.meta o (live_page s 0) (live_page s 0) in record { meta = change.meta; pages = with_pages change.pages s.pages }
+  post_file o = let change = change_of (Post parent at inner area) s.meta o (live_page s 0) (live_page s 0) in record { meta = change.meta; pages = with_changed_pages change.pages s.pages }
 
   page_so : post_page at inner area page ≡ new
   page_so = posted_so trees laws s.meta page at inner area page_box may.has.0 may.has.1 fits
@@ -196,9 +195,9 @@ module _ (trees : TreeLaws) (space : SpaceLaws) (laws : PostLaws) (s : FileState
 
   same_records : file_records after ≡ file_records s
   same_records =
-      let here = number_of s.pages parent (Live page) (live_so (page_of s parent) page live) in
+      let here = place_of s.pages parent (Live page) (live_so (page_of s parent) page live) in
       ap (λ (m : ℕ). flat_map page_records (with_page m (Live new) s.pages)) here.1
-      ∙ ap (flat_map page_records) (with_page-there s.pages here.0 (Live new) (range_of s.pages here.0 (Live page) here.2))
+      ∙ ap (flat_map page_records) (with_page-there s.pages here.0 (Live new) (in_range s.pages here.0 (Live page) here.2))
       ∙ records-set s.pages here.0 (Live page) (Live new) here.2 (no_records new fits.above ∙ sym (no_records page fits.above))
 
   pub posting_contents : contents_of (effect_of s (Post parent at inner area)) ≡ contents_of s

@@ -5,15 +5,18 @@ use Rattle.hb_frag.specs.declared.pages.Page.{Page}
 use Rattle.hb_layout.specs.declared.meta.Meta.{Meta}
 use Rattle.hb_sound.specs.declared.facts.Fact.{Fact}
 use Rattle.hb_sound.specs.Facts.{AreFactsOf, IsFactOf}
-use Rattle.hb_sound.specs.Told.{CoversFile, IsHole, IsWholeFile, file_of, item_at, shown}
+use Rattle.hb_sound.specs.Rests.{Knows, KnowsTold}
+use Rattle.hb_sound.specs.Told.{CoversFile, IsHole, IsWholeFile, file_of, item_at, shown_pages}
 use Rattle.hb_sound.specs.Walks.{IsLeast}
 use Rattle.hb_sound.proofs.Firsts.{item_behind}
+use Rattle.hb_sound.proofs.KnownPages.{knows_more, knows_none}
 use Rattle.hb_sound.proofs.ToldPages.{slice_get_inside}
 
 -- no hole so far, and these are the facts of the pages so far
 pub record IsReadTo (meta : Meta) (told : List (Option Page)) (n : ℕ) (facts : List Fact) : Type 0 where
   pub whole : (id : ℕ) → id ≤ n → ¬ (IsHole meta told id)
-  pub facts_are : AreFactsOf meta facts (shown (take n told))
+  pub facts_are : AreFactsOf meta facts (shown_pages (take n told))
+  pub known : KnowsTold facts told
 
 pub take_more : {A : Type 0} (xs : List A) (n : ℕ) (x : A) → slice_get xs n ≡ Some x → take (n + 1) xs ≡ take n xs ++ x ∷ []
 take_more {A} [] n x e = let never : None ≡ Some x = e in cc
@@ -22,7 +25,7 @@ take_more {A} (y ∷ xs) (suc n) x e =
     let one : suc n + 1 ≡ suc (n + 1) = omega arith in
     ap (λ (m : ℕ). take m (y ∷ xs)) one ∙ ap (λ (l : List A). y ∷ l) (take_more xs n x e)
 
-shown_more : (xs : List (Option Page)) (page : Page) → shown (xs ++ Some page ∷ []) ≡ shown xs ++ page ∷ []
+shown_more : (xs : List (Option Page)) (page : Page) → shown_pages (xs ++ Some page ∷ []) ≡ shown_pages xs ++ page ∷ []
 shown_more [] page = refl
 shown_more (None ∷ xs) page = shown_more xs page
 shown_more (Some first ∷ xs) page = ap (λ (l : List Page). first ∷ l) (shown_more xs page)
@@ -39,13 +42,15 @@ pub read_none : (meta : Meta) (told : List (Option Page)) → IsReadTo meta told
 read_none meta told = record {
   whole = λ id le hole. let some = hole.0 in absurd (omega (arith, le, some));
   facts_are = tt;
+  known = knows_none told;
 }
 
 -- one more page is there
-pub read_more : (meta : Meta) (told : List (Option Page)) (n : ℕ) (facts : List Fact) (fact : Fact) → CoversFile meta told → IsReadTo meta told n facts → n + 1 ≤ meta.pages
+pub read_more : (meta : Meta) (told : List (Option Page)) (n : ℕ) (facts : List Fact) (fact : Fact) → CoversFile meta told → IsReadTo meta told n facts → length facts ≡ n → n + 1 ≤ meta.pages
     → ((page : Page) → item_at told (n + 1) ≡ Some (Some page) → IsFactOf meta fact page) → (item_at told (n + 1) ≡ Some None → ⊥)
+    → ((page : Page) → item_at told (n + 1) ≡ Some (Some page) → Knows facts fact page)
     → IsReadTo meta told (n + 1) (facts ++ fact ∷ [])
-read_more meta told n facts fact covers read within is there =
+read_more meta told n facts fact covers read count within is there knows =
     let found = slice_get_inside told n (omega (arith, covers, within)) in
     let at : item_at told (n + 1) ≡ Some found.0 = item_behind told n ∙ found.1 in
     let page = some_page found.0 (λ e. there (at ∙ ap (λ (o : Option Page). Some o) e)) in
@@ -60,8 +65,9 @@ read_more meta told n facts fact covers read within is there =
             absurd (not_hole (subst Q e hole))
         | inr before ↦ read.whole id before hole
       ];
-      facts_are = subst Q (sym (ap shown (take_more told n (Some page.0) here) ∙ shown_more (take n told) page.0))
-          (facts_more meta facts (shown (take n told)) fact page.0 read.facts_are fact_is);
+      facts_are = subst Q (sym (ap shown_pages (take_more told n (Some page.0) here) ∙ shown_more (take n told) page.0))
+          (facts_more meta facts (shown_pages (take n told)) fact page.0 read.facts_are fact_is);
+      known = knows_more facts told n fact count read.known knows;
     }
   where
     some_page : (o : Option Page) → (o ≡ None → ⊥) → (page : Page) × (o ≡ Some page)
@@ -72,10 +78,12 @@ read_more meta told n facts fact covers read within is there =
     not_hole hole = elim hole.2 [ inl beyond ↦ omega (arith, beyond, within) | inr none ↦ there none ]
 
 -- all pages are read
-pub read_whole : (meta : Meta) (told : List (Option Page)) (n : ℕ) (facts : List Fact) → n ≡ meta.high → IsReadTo meta told n facts → IsWholeFile meta told × AreFactsOf meta facts (file_of meta told).pages
+pub read_whole : (meta : Meta) (told : List (Option Page)) (n : ℕ) (facts : List Fact) → n ≡ meta.high → IsReadTo meta told n facts
+    → IsWholeFile meta told × AreFactsOf meta facts (file_of meta told).pages × KnowsTold facts told
 read_whole meta told n facts all read = (
   λ id hole. let few = hole.1 in read.whole id (omega (arith, few, all)) hole,
-  (let Q : ℕ → Type 0 = λ m. AreFactsOf meta facts (shown (take m told)) in subst Q all read.facts_are),
+  (let Q : ℕ → Type 0 = λ m. AreFactsOf meta facts (shown_pages (take m told)) in subst Q all read.facts_are),
+  read.known,
 )
 
 -- the first hole
@@ -95,14 +103,15 @@ pub if_none : (o : Option (List (Option Page))) (meta : Meta) → IfSome o (λ t
 if_none None meta = tt
 if_none (Some told) meta = read_none meta told
 
-pub if_more : (o : Option (List (Option Page))) (meta : Meta) (n : ℕ) (facts : List Fact) (fact : Fact) → IfSome o (CoversFile meta) → IfSome o (λ told. IsReadTo meta told n facts) → n + 1 ≤ meta.pages
+pub if_more : (o : Option (List (Option Page))) (meta : Meta) (n : ℕ) (facts : List Fact) (fact : Fact) → IfSome o (CoversFile meta) → IfSome o (λ told. IsReadTo meta told n facts) → length facts ≡ n → n + 1 ≤ meta.pages
     → IfSome o (λ told. (page : Page) → item_at told (n + 1) ≡ Some (Some page) → IsFactOf meta fact page) → IfSome o (λ told. item_at told (n + 1) ≡ Some None → ⊥)
+    → IfSome o (λ told. (page : Page) → item_at told (n + 1) ≡ Some (Some page) → Knows facts fact page)
     → IfSome o (λ told. IsReadTo meta told (n + 1) (facts ++ fact ∷ []))
-if_more None meta n facts fact covers read within is there = tt
-if_more (Some told) meta n facts fact covers read within is there = read_more meta told n facts fact covers read within is there
+if_more None meta n facts fact covers read count within is there knows = tt
+if_more (Some told) meta n facts fact covers read count within is there knows = read_more meta told n facts fact covers read count within is there knows
 
 pub if_whole : (o : Option (List (Option Page))) (meta : Meta) (n : ℕ) (facts : List Fact) → n ≡ meta.high → IfSome o (λ told. IsReadTo meta told n facts)
-    → IfSome o (λ told. IsWholeFile meta told × AreFactsOf meta facts (file_of meta told).pages)
+    → IfSome o (λ told. IsWholeFile meta told × AreFactsOf meta facts (file_of meta told).pages × KnowsTold facts told)
 if_whole None meta n facts all read = tt
 if_whole (Some told) meta n facts all read = read_whole meta told n facts all read
 

@@ -1,5 +1,5 @@
 -- The records of a page that is split are those of the two pages afterwards.
-use Rattle.std.proofs.Common.{◌≡◌, ℕ, zero, ◌⊎◌, inl, inr, Bool, true, false, List, [], ◌∷◌, ◌++◌, filter, refl, sym, subst, arith}
+use Rattle.std.proofs.Common.{◌≡◌, ℕ, zero, suc, ◌⊎◌, inl, inr, Bool, true, false, cond, List, [], ◌∷◌, ◌++◌, filter, refl, sym, ap, ◌∙◌, subst, arith}
 use Rattle.std.specs.List.{Contains}
 use Rattle.std.proofs.lemmas.Bool.{not-false, not_from_false}
 use Rattle.std.proofs.lemmas.List.Elements.{Contains-append_cases, Contains-append_left, Contains-append_right}
@@ -17,9 +17,20 @@ use Rattle.hb_ops.specs.Sound.{FitsFile}
 use Rattle.hb_sound.proofs.Extractions.{Extraction, FitsPart, fresh_page, source_page}
 use Rattle.hb_ops.specs.declared.leaf_cuts.LeafCut.{LeafCut}
 use Rattle.hb_ops.specs.Cutting.{PartLeaves, PartsLeaf, area_on, cut_through, cut_with, going, half_area, half_on, is_on, other_side, reached, records_in, staying}
-use Rattle.hb_sound.proofs.CutLeaves.{StemsFrom, filter_keeps, only_one}
-use Rattle.hb_sound.proofs.PagesParted.{PartLaws, fresh_stems, source_stems}
-use Rattle.hb_sound.proofs.SiblingLeaves.{placed}
+use Rattle.hb_ops.specs.ListLaws.{only_one}
+use Rattle.hb_ops.specs.CutLeafLaws.{StemsFrom}
+use Rattle.hb_ops.specs.StemLaws.{fresh_stems, source_stems, PartLaws}
+use Rattle.hb_ops.specs.PlacedLaws.{placed}
+
+-- what passes stays among what a filter keeps
+filter_keeps : {X : Type 0} (p : X → Bool) (xs : List X) (x : X) → Contains xs x → p x ≡ true → Contains (filter p xs) x
+filter_keeps p [] x (k, lt, e) passes = absurd (omega arith)
+filter_keeps p (y ∷ ys) x (zero, lt, e) passes =
+    subst (λ (b : Bool). Contains (cond b (y ∷ filter p ys) (filter p ys)) x) (sym (ap p e ∙ passes)) (zero, omega arith, e)
+filter_keeps p (y ∷ ys) x (suc k, lt, e) passes = elim (p y) as (λ b. Contains (cond b (y ∷ filter p ys) (filter p ys)) x) [
+  | true ↦ Contains-append_right (y ∷ []) (filter p ys) x (filter_keeps p ys x (k, omega arith, e) passes)
+  | false ↦ filter_keeps p ys x (k, omega arith, e) passes
+]
 
 -- a leaf of these has the record
 pub record AmongLeaves (ls : List Placed) (r : Record) : Type 0 where
@@ -125,7 +136,7 @@ module _ (laws : PartLaws) (meta : Meta) (x : Extraction) (page : LivePage) (par
       ]
 
   from_source : (r : Record) → AmongLeaves (leaves_of source.frag source.area) r → AmongLeaves old r
-  from_source r w = elim (source_stems laws meta x page part made fits w.leaf w.there) [
+  from_source r w = elim (source_stems laws x.fresh x.path x.cuts page part fits w.leaf w.there) [
     | inl is ↦ let none : Contains [] r = subst (λ (l : Placed). Contains (records_of l.leaf) r) (sym is) w.among in absurd (omega (arith, none.1))
     | inr stems ↦ stems_among old w.leaf r stems w.among
   ]
@@ -134,5 +145,5 @@ module _ (laws : PartLaws) (meta : Meta) (x : Extraction) (page : LivePage) (par
   share_records = record {
     forth = forth;
     from_source = from_source;
-    from_fresh = λ r w. stems_among old w.leaf r (fresh_stems laws meta x page part made fits w.leaf w.there) w.among;
+    from_fresh = λ r w. stems_among old w.leaf r (fresh_stems laws x.fresh x.path x.cuts page part fits w.leaf w.there) w.among;
   }

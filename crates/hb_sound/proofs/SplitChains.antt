@@ -10,8 +10,8 @@ use Rattle.hb_ops.specs.Sound.{IsChain, IsCounted, IsRooted, count_live}
 use Rattle.hb_sound.proofs.Extractions.{Extraction, LicensesExtraction}
 use Rattle.hb_ops.specs.Allocating.{Allocates, allocated}
 use Rattle.hb_sound.proofs.FileParted.{ArePartsOf, IsParted}
-use Rattle.hb_sound.proofs.PageLists.{live_few, number_of, range_of}
-use Rattle.hb_sound.proofs.PagePlaces.{live_so}
+use Rattle.hb_sound.proofs.PageLists.{live_few}
+use Rattle.hb_ops.specs.PageNumberLaws.{in_range, live_so, place_of}
 
 -- a chain is told by its head
 same_length : (s : FileState) (head : ℕ) (chain other : List ℕ) → IsChain s head chain → IsChain s head other → length chain ≡ length other
@@ -52,8 +52,8 @@ chain_of_none s head (id ∷ chain) h e = absurd (h.1 e)
 pub head_there : (s : FileState) (head : ℕ) (chain : List ℕ) → IsChain s head chain → head ≤ length s.pages
 head_there s head [] h = omega (arith, h)
 head_there s head (id ∷ chain) h =
-    let here = number_of s.pages id (Free h.2) h.3 in
-    let lt = range_of s.pages here.0 (Free h.2) here.2 in
+    let here = place_of s.pages id (Free h.2) h.3 in
+    let lt = in_range s.pages here.0 (Free h.2) here.2 in
     omega (arith, h.0, here.1, lt)
 
 pub same_Some : {A : Type 0} (x y : A) → Some x ≡ Some y → x ≡ y

@@ -15,15 +15,16 @@ use Rattle.hb_sound.specs.declared.pages.AuditStop.TheVariants as stops
 use Rattle.hb_sound.specs.Facts.{AreFactsOf, IsFactOf, all_records, records_seen}
 use Rattle.hb_sound.specs.Links.{AreLinks, AreRead, IsCut, Tells}
 use Rattle.hb_sound.specs.Names.{IsSoundWith, KeepsSix, Names, NamesIn}
+use Rattle.hb_sound.specs.Rests.{KnowsTold}
 use Rattle.hb_sound.specs.Stops.{OnBroken}
 use Rattle.hb_sound.specs.Tests.{file_with}
-use Rattle.hb_sound.specs.Told.{IsWholeFile, file_of, item_at, shown}
+use Rattle.hb_sound.specs.Told.{IsWholeFile, file_of, item_at, shown_pages}
 use Rattle.hb_sound.proofs.Bridge.{page_item, same_length}
 use Rattle.hb_sound.proofs.LocalBridge.{cut}
 
 -- each page of the file is told under its number
 shown_told : (told : List (Option Page)) (n k : ℕ) (page : Page) → ((i : ℕ) → i < n → slice_get told i ≡ Some None → ⊥)
-    → slice_get (shown (take n told)) k ≡ Some page → slice_get told k ≡ Some (Some page)
+    → slice_get (shown_pages (take n told)) k ≡ Some page → slice_get told k ≡ Some (Some page)
 shown_told [] zero k page there e = let never : None ≡ Some page = e in cc
 shown_told [] (suc n) k page there e = let never : None ≡ Some page = e in cc
 shown_told (first ∷ told) zero k page there e = let never : None ≡ Some page = e in cc
@@ -32,9 +33,9 @@ shown_told (Some own ∷ told) (suc n) zero page there e = ap (λ (o : Option Pa
 shown_told (Some own ∷ told) (suc n) (suc k) page there e = shown_told told n k page (λ i lt. there (suc i) (omega (arith, lt))) e
 
 tells : (meta : Meta) (told : List (Option Page)) → IsWholeFile meta told → Tells told (file_of meta told).pages
-tells meta told whole id page e = by_number id (sym (page_item (shown (take meta.high told)) id) ∙ e)
+tells meta told whole id page e = by_number id (sym (page_item (shown_pages (take meta.high told)) id) ∙ e)
   where
-    by_number : (n : ℕ) → item_at (shown (take meta.high told)) n ≡ Some page → item_at told n ≡ Some (Some page)
+    by_number : (n : ℕ) → item_at (shown_pages (take meta.high told)) n ≡ Some page → item_at told n ≡ Some (Some page)
     by_number zero at = let never : None ≡ Some page = at in cc
     by_number (suc k) at = shown_told told meta.high k page (λ i lt none. whole (suc i) (omega arith, omega (arith, lt), inr none)) at
 
@@ -57,13 +58,14 @@ records_are meta (fact ∷ facts) (page ∷ list) are =
 
 -- what is told was read whole, and these are its facts
 abbrev pub IsReadAs : Meta → List Fact → List (Option Page) → Type 0
-IsReadAs meta facts told = IsWholeFile meta told × AreFactsOf meta facts (file_of meta told).pages
+IsReadAs meta facts told = IsWholeFile meta told × AreFactsOf meta facts (file_of meta told).pages × KnowsTold facts told
 
 module _ (meta : Meta) (facts : List Fact) (kept : (list : List Page) → AreFactsOf meta facts list → KeepsSix (file_with meta list)) where
   read_again : (told : List (Option Page)) → IsReadAs meta facts told → AreRead told facts (file_of meta told).pages
   read_again told read = record {
     told_are = tells meta told read.0;
     same = same_length meta facts (file_of meta told).pages read.1;
+    known = read.2;
     cut = is_cut;
   }
     where

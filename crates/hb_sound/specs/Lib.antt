@@ -18,3 +18,4 @@ pub mod Chains
 pub mod Links
 pub mod Covers
 pub mod Tests
+pub mod Rests

@@ -11,6 +11,7 @@ use Rattle.hb_sound.specs.declared.links.Links.{Links}
 use Rattle.hb_sound.specs.declared.names.Times.{Times}
 use Rattle.hb_sound.specs.declared.names.Times.TheVariants.{Never}
 use Rattle.hb_sound.specs.Facts.{FindsBelow, FindsSame, more, names_in}
+use Rattle.hb_sound.specs.Rests.{KnowsTold}
 use Rattle.hb_sound.specs.Told.{item_at}
 use Rattle.hb_sound.specs.Walks.{IsLeast}
 
@@ -34,8 +35,8 @@ or_else None id = Some id
 or_else (Some first) id = Some first
 
 -- the first bad one after one more, which is good or bad
-abbrev pub IsNext : Type 0 → ℕ → Option ℕ → Option ℕ → Type 0
-IsNext good id first after = (good × (after ≡ first)) ⊎ ((¬ good) × (after ≡ or_else first id))
+abbrev pub IsNextBad : Type 0 → ℕ → Option ℕ → Option ℕ → Type 0
+IsNextBad good id first after = (good × (after ≡ first)) ⊎ ((¬ good) × (after ≡ or_else first id))
 
 -- each sibling leaf of the page, and each child leaf, names a page that is seen as the rule wants it
 abbrev pub FindsSiblings : List Fact → LivePage → Type 0
@@ -51,8 +52,8 @@ IsCountedOn page old new = (id : ℕ) → item_at new id ≡ option_map (more (n
 -- the page of this number was added
 pub record Adds (facts : List Fact) (id : ℕ) (page : LivePage) (old new : Links) : Type 0 where
   pub named : IsCountedOn page old.named.items new.named.items
-  pub sibling : IsNext (FindsSiblings facts page) id old.sibling new.sibling
-  pub child : IsNext (FindsChildren facts page) id old.child new.child
+  pub sibling : IsNextBad (FindsSiblings facts page) id old.sibling new.sibling
+  pub child : IsNextBad (FindsChildren facts page) id old.child new.child
 
 abbrev pub AddsPage : List Fact → ℕ → Page → Links → Links → Type 0
 AddsPage facts id (pages.Live page) old new = Adds facts id page old new
@@ -71,8 +72,9 @@ pub record AreLinks (facts : List Fact) (list : List Page) (n : ℕ) (links : Li
   pub sibling : IsFirstUpTo (LosesSibling facts list) n links.sibling
   pub child : IsFirstUpTo (LosesChild facts list) n links.child
 
--- pages that are told, of which each cut cuts: one for each fact
+-- pages that are told, of which each cut cuts: one for each fact, which knows what the page leaves
 pub record AreRead (told : List (Option Page)) (facts : List Fact) (list : List Page) : Type 0 where
   pub told_are : Tells told list
   pub same : length list ≡ length facts
+  pub known : KnowsTold facts told
   pub cut : (id : ℕ) (page : Page) → page_at list id ≡ Some page → IsCut page

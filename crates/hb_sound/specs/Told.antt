@@ -15,14 +15,14 @@ GivesPage None id page = Unit {0}
 GivesPage (Some told) id page = (there : Option Page) → item_at told id ≡ Some there → page ≡ there
 
 -- the pages that are there
-abbrev pub shown : List (Option Page) → List Page
-shown [] = []
-shown (None ∷ rest) = shown rest
-shown (Some page ∷ rest) = page ∷ shown rest
+abbrev pub shown_pages : List (Option Page) → List Page
+shown_pages [] = []
+shown_pages (None ∷ rest) = shown_pages rest
+shown_pages (Some page ∷ rest) = page ∷ shown_pages rest
 
 -- the file of them, up to the high mark
 abbrev pub file_of : Meta → List (Option Page) → FileState
-file_of meta told = record { meta = meta; pages = shown (take meta.high told) }
+file_of meta told = record { meta = meta; pages = shown_pages (take meta.high told) }
 
 -- S0: a number from 1 to the high mark beyond the pages that the file may have, or with bytes that are no page
 abbrev pub IsHole : Meta → List (Option Page) → ℕ → Type 0

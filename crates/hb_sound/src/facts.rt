@@ -1,17 +1,19 @@
 //! The few facts that the audit keeps of each page.
 ghost use Rattle.std.specs.Prelude.{◌≡◌, ◌<◌, ◌≤◌, ◌^◌, ◌⊎◌, ◌++◌, [], ◌∷◌, Some, None, All, length, flat_map, option_map, vec_len, IfErr, IfOk, IfSome, IsErrOf, OnOk};
-ghost use Rattle.hb_frag.specs.Leaves.{leaf_weight, leaves, records_of, weight_of};
+ghost use Rattle.hb_frag.specs.Leaves.{WellCut, leaf_weight, leaves, leaves_of, records_of, weight_of};
 ghost use Rattle.hb_frag.specs.declared.pages.Page.{Page as Content};
 ghost use Rattle.hb_frag.specs.declared.pages.Page.TheVariants as content;
 ghost use Rattle.hb_outside.specs.Streams.{Rose};
 ghost use Rattle.hb_page_codec.specs.Weight.{IsLight};
 ghost use Rattle.hb_ops.specs.Files.{page_records};
 ghost use Rattle.hb_sound.specs.Facts.{AreFactsOf, IsFactOf, IsLightFact, IsOwnRule, IsSeenOf, next_at, seen_at};
+ghost use Rattle.hb_sound.specs.Rests.{IsRestOf, Knows, KnowsTold};
 ghost use Rattle.hb_sound.specs.Stops.{OnBroken};
 ghost use Rattle.hb_sound.specs.Told.{CoversFile, IsHole, IsWholeFile, file_of, item_at};
 ghost use Rattle.hb_sound.specs.Walks.{IsLeast};
 ghost use Rattle.hb_sound.specs.declared.pages.AuditStop.TheVariants.{Failed};
 
+use crate::rests::{Rest, rest_of};
 use crate::{AuditStop, Pages};
 use hb_frag::{Frag, Leaf, LivePage, Node, Page};
 use hb_ops::{Meta, local_rule};
@@ -27,6 +29,8 @@ pub(crate) struct Seen {
     pub(crate) rule: u8,
     /// How many records it has.
     pub(crate) records: u64,
+    /// What of its leaves is still to be looked up.
+    pub(crate) rest: Rest,
 }
 
 /// What is kept of a page.
@@ -77,7 +81,8 @@ fn records_in(page: &LivePage) -> u64
 /// The first rule that a page breaks by itself, 0 for none.
 fn own_rule(page: &LivePage, meta: &Meta) -> u8
     requires { weight_of page.now.frag < 2 ^ 32 }
-    ensures { IsOwnRule result page.now meta.now }
+    ensures own { IsOwnRule result page.now meta.now }
+    ensures cut { result ≡ 0 → WellCut page.now }
 {
     match local_rule(page, meta) {
         Some(rule) => rule,
@@ -85,37 +90,60 @@ fn own_rule(page: &LivePage, meta: &Meta) -> u8
     }
 }
 
-/// What is kept of a page in use.
-fn seen_of(page: LivePage, meta: &Meta) -> Seen
+/// What of the leaves of a page that breaks this rule by itself, or none, is still to be looked up behind these facts.
+fn rest_by(rule: u8, facts: &[Fact], page: &LivePage) -> Rest
+    requires { rule ≡ 0 → WellCut page.now }
+    ensures { IsRestOf facts.now page.now.level (leaves_of page.now.frag page.now.area) result }
+{
+    if rule == 0 {
+        rest_of(facts, page)
+    } else {
+        Rest::More
+    }
+}
+
+/// What is kept of a page in use, behind these facts.
+fn seen_of(page: LivePage, meta: &Meta, facts: &[Fact]) -> Seen
     requires { weight_of page.frag < 2 ^ 32 }
     ensures seen { IsSeenOf meta.now result page }
+    ensures rest { IsRestOf facts.now page.level (leaves_of page.frag page.area) result.rest }
     ensures light { result.records < 2 ^ 32 }
 {
     let rule = own_rule(&page, meta);
     let records = records_in(&page);
+    let rest = rest_by(rule, facts, &page);
     Seen {
         level: page.level,
         area: page.area,
         rule,
         records,
+        rest,
     }
 }
 
-/// What is kept of a page.
-fn fact_of(page: Page, meta: &Meta) -> Fact
+/// What is kept of a page, behind these facts.
+fn fact_of(page: Page, meta: &Meta, facts: &[Fact]) -> Fact
     requires { IsLight page }
     ensures fact { IsFactOf meta.now result page }
+    ensures knows { Knows facts.now result page }
     ensures light { IsLightFact result }
 {
     match page {
-        Page::Live(page) => Fact::Live(seen_of(page, meta)),
+        Page::Live(page) => Fact::Live(seen_of(page, meta, facts)),
         Page::Free { next } => Fact::Free(next),
     }
 }
 
-/// Reads the page of a number, and keeps what is kept of it. Broken: it is beyond the pages of the file, or none is there.
-fn read_fact<P: Pages>(meta: &Meta, pages: &mut P, id: u32) -> Result<Fact, AuditStop>
+/// Reads the page of a number, and keeps what is kept of it behind these facts. Broken: it is beyond the pages of the
+/// file, or none is there.
+fn read_fact<P: Pages>(
+    meta: &Meta,
+    facts: &[Fact],
+    pages: &mut P,
+    id: u32,
+) -> Result<Fact, AuditStop>
     requires some { 1 ≤ id }
+    ensures knows { IfOk result (λ fact. IfSome (P.told pages.old) (λ told. (page : Content) → item_at told id ≡ Some (Some page) → Knows facts.now fact page)) }
     ensures fact { IfOk result (λ fact. IfSome (P.told pages.old) (λ told. (page : Content) → item_at told id ≡ Some (Some page) → IsFactOf meta.now fact page)) }
     ensures light { IfOk result IsLightFact }
     ensures there { IfOk result (λ fact. (id ≤ meta.now.pages) × IfSome (P.told pages.old) (λ told. item_at told id ≡ Some None → ⊥)) }
@@ -131,7 +159,7 @@ fn read_fact<P: Pages>(meta: &Meta, pages: &mut P, id: u32) -> Result<Fact, Audi
         return Err(AuditStop::Broken { page: id, rule: 0 });
     }
     match pages.page(id)? {
-        Some(page) => Ok(fact_of(page, meta)),
+        Some(page) => Ok(fact_of(page, meta, facts)),
         None => Err(AuditStop::Broken { page: id, rule: 0 }),
     }
 }
@@ -151,7 +179,7 @@ pub(crate) fn read_facts<P: Pages>(
     pages: &mut P,
 ) -> Result<Vec<Fact>, AuditStop>
     requires covered { IfSome (P.told pages.old) (CoversFile meta.now) }
-    ensures facts { IfOk result (λ facts. IfSome (P.told pages.old) (λ told. IsWholeFile meta.now told × AreFactsOf meta.now facts.items (file_of meta.now told).pages)) }
+    ensures facts { IfOk result (λ facts. IfSome (P.told pages.old) (λ told. IsWholeFile meta.now told × AreFactsOf meta.now facts.items (file_of meta.now told).pages × KnowsTold facts.items told)) }
     ensures light { IfOk result (λ facts. All IsLightFact facts.items) }
     ensures count { IfOk result (λ facts. (vec_len facts ≡ meta.now.high) × (meta.now.high ≤ meta.now.pages)) }
     ensures hole { IfErr result (OnBroken (λ page rule. IfSome (P.told pages.old) (λ told. (rule ≡ 0) × IsLeast (IsHole meta.now told) page))) }
@@ -163,7 +191,8 @@ pub(crate) fn read_facts<P: Pages>(
 {
     let mut facts = Vec::new(alloc);
     for place in 0..meta.high {
-        keep(&mut facts, read_fact(meta, pages, place + 1)?)?;
+        let fact = read_fact(meta, &facts, pages, place + 1)?;
+        keep(&mut facts, fact)?;
     }
     Ok(facts)
 }

@@ -13,6 +13,7 @@ mod audits;
 #[cfg(test)]
 mod box_tests;
 mod chains;
+mod corners;
 mod covers;
 pub mod examples;
 mod facts;
@@ -20,6 +21,7 @@ pub mod laws;
 mod links;
 mod names;
 mod pages;
+mod rests;
 #[cfg(test)]
 mod source_tests;
 #[cfg(test)]

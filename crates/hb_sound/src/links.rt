@@ -2,19 +2,26 @@
 ghost use Rattle.std.specs.Prelude.{◌≡◌, ◌+◌, ◌<◌, ◌≤◌, ◌^◌, ◌↔◌, ℕ, if◌then◌else◌, List, Some, None, All, length, replicate, vec_len, IfErr, IfOk, IfSome, IsErrOf, IsTrue, OnOk};
 ghost use Rattle.hb_space.specs.Boxes.{Within};
 ghost use Rattle.hb_frag.specs.Leaves.{IsWellCut, WellCut, leaves_of};
+ghost use Rattle.hb_frag.specs.declared.pages.LivePage.{LivePage as Live};
 ghost use Rattle.hb_frag.specs.declared.pages.Page.{Page as Content};
 ghost use Rattle.hb_outside.specs.Streams.{Rose};
 ghost use Rattle.hb_sound.specs.Facts.{FindsBelow, FindsSame, SeesBelow, SeesSame};
-ghost use Rattle.hb_sound.specs.Links.{Adds, AddsPage, AreLinks, AreRead, IsCut, or_else};
+ghost use Rattle.hb_sound.specs.Links.{Adds, AddsPage, FindsChildren, FindsSiblings, AreLinks, AreRead, IsCut, or_else};
+ghost use Rattle.hb_sound.specs.Rests.{IsRestOf, Knows, KnowsTold};
 ghost use Rattle.hb_sound.specs.Stops.{OnBroken};
 ghost use Rattle.hb_sound.specs.Told.{item_at};
+ghost use Rattle.hb_sound.specs.declared.facts.Fact.TheVariants.{Live as SeenLive};
 ghost use Rattle.hb_sound.specs.declared.names.Times.TheVariants.{Never};
 ghost use Rattle.hb_sound.specs.declared.pages.AuditStop.TheVariants.{Failed};
+ghost use Rattle.hb_sound.specs.declared.rests.Rest.TheVariants.{Lone};
 
+use crate::corners::is_within;
 use crate::facts::{Fact, Seen, seen_in};
-use crate::names::{Times, count_names};
+use crate::names::{Times, count_names, count_one};
+use crate::rests::Rest;
 use crate::{AuditStop, Pages};
 use hb_frag::{Frag, Leaf, LivePage, Node, Page};
+use hb_space::form::KMAX;
 use hb_space::{Area, NoMemory};
 use std::alloc::Global;
 
@@ -29,91 +36,132 @@ pub(crate) struct Links {
     pub(crate) child: Option<u32>,
 }
 
-/// Whether a page in use of this number, which may be any, has this level and box.
-fn sees_same(facts: &[Fact], level: u8, id: u32, area: &Area) -> bool
-    ensures { IsTrue result ↔ SeesSame facts.now level id area.now }
+/// Whether what was seen has this level and the box of these corners.
+fn is_same(seen: &Seen, level: u8, lo: &[u64], hi: &[u64]) -> bool
+    ensures { IsTrue result ↔ ((seen.now.level ≡ level) × (seen.now.area ≡ record { lo = lo.now; hi = hi.now })) }
+{
+    seen.level == level && seen.area.lo().values() == lo && seen.area.hi().values() == hi
+}
+
+/// Whether a page in use of this number, which may be any, has this level and the box of these corners.
+fn sees_same(facts: &[Fact], level: u8, id: u32, lo: &[u64], hi: &[u64]) -> bool
+    ensures { IsTrue result ↔ SeesSame facts.now level id (record { lo = lo.now; hi = hi.now }) }
 {
     match seen_in(facts, id) {
-        Some(seen) => seen.level == level && seen.area == *area,
+        Some(seen) => is_same(seen, level, lo, hi),
         None => false,
     }
 }
 
-/// Whether what was seen is one level down and has this box in its own.
-fn is_below(seen: &Seen, level: u8, area: &Area) -> bool
-    ensures { IsTrue result ↔ ((seen.now.level + 1 ≡ level) × (length area.now.lo ≡ length seen.now.area.lo) × Within area.now seen.now.area) }
+/// Whether what was seen is one level down and has the box of these corners in its own.
+fn is_below(seen: &Seen, level: u8, lo: &[u64], hi: &[u64]) -> bool
+    requires { length lo.now ≡ length hi.now }
+    ensures { IsTrue result ↔ ((seen.now.level + 1 ≡ level) × (length lo.now ≡ length seen.now.area.lo) × Within (record { lo = lo.now; hi = hi.now }) seen.now.area) }
 {
     u16::from(seen.level) + 1 == u16::from(level)
-        && area.lo().attributes() == seen.area.lo().attributes()
-        && area.within(&seen.area)
+        && lo.len() == seen.area.lo().values().len()
+        && is_within(lo, hi, seen.area.lo().values(), seen.area.hi().values())
 }
 
-/// Whether a page in use of this number, which may be any, is one level down and has this box in its own.
-fn sees_below(facts: &[Fact], level: u8, id: u32, area: &Area) -> bool
-    ensures { IsTrue result ↔ SeesBelow facts.now level id area.now }
+/// Whether a page in use of this number, which may be any, is one level down and has the box of these corners in its own.
+pub(crate) fn sees_below(facts: &[Fact], level: u8, id: u32, lo: &[u64], hi: &[u64]) -> bool
+    requires { length lo.now ≡ length hi.now }
+    ensures { IsTrue result ↔ SeesBelow facts.now level id (record { lo = lo.now; hi = hi.now }) }
 {
     match seen_in(facts, id) {
-        Some(seen) => is_below(seen, level, area),
+        Some(seen) => is_below(seen, level, lo, hi),
         None => false,
     }
 }
 
-/// Whether the leaf with this box, where it is a sibling leaf, names a page of its level and box.
-fn finds_same(facts: &[Fact], level: u8, leaf: &Leaf, area: &Area) -> bool
-    ensures { IsTrue result ↔ FindsSame facts.now level (record { leaf = leaf.now; area = area.now }) }
+/// Whether the leaf with the box of these corners, where it is a sibling leaf, names a page of its level and box.
+fn finds_same(facts: &[Fact], level: u8, leaf: &Leaf, lo: &[u64], hi: &[u64]) -> bool
+    ensures { IsTrue result ↔ FindsSame facts.now level (record { leaf = leaf.now; area = record { lo = lo.now; hi = hi.now } }) }
 {
     match leaf {
-        Leaf::Sibling(id) => sees_same(facts, level, *id, area),
+        Leaf::Sibling(id) => sees_same(facts, level, *id, lo, hi),
         Leaf::Records(_) | Leaf::Child(_) => true,
     }
 }
 
-/// Whether the leaf with this box, where it is a child leaf, names a page one level down with the box in its own.
-fn finds_below(facts: &[Fact], level: u8, leaf: &Leaf, area: &Area) -> bool
-    ensures { IsTrue result ↔ FindsBelow facts.now level (record { leaf = leaf.now; area = area.now }) }
+/// Whether the leaf with the box of these corners, where it is a child leaf, names a page one level down with the box in
+/// its own.
+fn finds_below(facts: &[Fact], level: u8, leaf: &Leaf, lo: &[u64], hi: &[u64]) -> bool
+    requires { length lo.now ≡ length hi.now }
+    ensures { IsTrue result ↔ FindsBelow facts.now level (record { leaf = leaf.now; area = record { lo = lo.now; hi = hi.now } }) }
 {
     match leaf {
-        Leaf::Child(id) => sees_below(facts, level, *id, area),
+        Leaf::Child(id) => sees_below(facts, level, *id, lo, hi),
         Leaf::Records(_) | Leaf::Sibling(_) => true,
     }
 }
 
-/// Whether each sibling leaf of the part, which has this box, names a page of its level and the leaf's box.
-fn siblings_match(facts: &[Fact], level: u8, frag: &Frag, area: &Area) -> bool
-    requires { IsWellCut frag.now area.now }
-    ensures { IsTrue result ↔ All (FindsSame facts.now level) (leaves_of frag.now area.now) }
+/// Whether both hold.
+fn both(one: bool, other: bool) -> bool
+    ensures { IsTrue result ↔ (IsTrue one × IsTrue other) }
+{
+    one && other
+}
+
+/// Whether each sibling leaf of the part, whose box has these corners, names a page of its level and the leaf's box, and
+/// whether each child leaf names one a level down with the leaf's box in its own. The corners stay as they are.
+fn leaves_match(
+    facts: &[Fact],
+    level: u8,
+    frag: &Frag,
+    lo: &mut [u64],
+    hi: &mut [u64],
+) -> (bool, bool)
+    requires cut { IsWellCut frag.now (record { lo = lo.old; hi = hi.old }) }
+    requires same { length lo.old ≡ length hi.old }
+    ensures siblings { IsTrue result.0 ↔ All (FindsSame facts.now level) (leaves_of frag.now (record { lo = lo.old; hi = hi.old })) }
+    ensures children { IsTrue result.1 ↔ All (FindsBelow facts.now level) (leaves_of frag.now (record { lo = lo.old; hi = hi.old })) }
+    ensures lo { lo.new ≡ lo.old }
+    ensures hi { hi.new ≡ hi.old }
 {
     match &frag.node {
-        Node::Tip(leaf) => finds_same(facts, level, leaf, area),
+        Node::Tip(leaf) => (
+            finds_same(facts, level, leaf, lo, hi),
+            finds_below(facts, level, leaf, lo, hi),
+        ),
         Node::Cut {
             axis,
             value,
             left,
             right,
         } => {
-            let (below, from) = area.cut(*axis, *value);
-            siblings_match(facts, level, left, &below) && siblings_match(facts, level, right, &from)
+            let at = usize::from(*axis);
+            let greatest = hi[at];
+            hi[at] = *value - 1;
+            let below = leaves_match(facts, level, left, lo, hi);
+            hi[at] = greatest;
+            let least = lo[at];
+            lo[at] = *value;
+            let from = leaves_match(facts, level, right, lo, hi);
+            lo[at] = least;
+            (both(below.0, from.0), both(below.1, from.1))
         }
     }
 }
 
-/// Whether each child leaf of the part, which has this box, names a page one level down with the leaf's box in its own.
-fn children_match(facts: &[Fact], level: u8, frag: &Frag, area: &Area) -> bool
-    requires { IsWellCut frag.now area.now }
-    ensures { IsTrue result ↔ All (FindsBelow facts.now level) (leaves_of frag.now area.now) }
+/// The same of the leaves of a page.
+fn page_matches(facts: &[Fact], page: &LivePage) -> (bool, bool)
+    requires { WellCut page.now }
+    ensures siblings { IsTrue result.0 ↔ FindsSiblings facts.now page.now }
+    ensures children { IsTrue result.1 ↔ FindsChildren facts.now page.now }
 {
-    match &frag.node {
-        Node::Tip(leaf) => finds_below(facts, level, leaf, area),
-        Node::Cut {
-            axis,
-            value,
-            left,
-            right,
-        } => {
-            let (below, from) = area.cut(*axis, *value);
-            children_match(facts, level, left, &below) && children_match(facts, level, right, &from)
-        }
-    }
+    let count = page.area.lo().values().len();
+    let mut lo = [0; KMAX];
+    let mut hi = [0; KMAX];
+    lo[..count].copy_from_slice(page.area.lo().values());
+    hi[..count].copy_from_slice(page.area.hi().values());
+    leaves_match(
+        facts,
+        page.level,
+        &page.frag,
+        &mut lo[..count],
+        &mut hi[..count],
+    )
 }
 
 /// The first page that isn't good, after one more page.
@@ -142,15 +190,19 @@ impl Links {
         ensures adds { Adds facts.now id page.now self.old self.new }
         ensures same { vec_len self.new.named ≡ vec_len self.old.named }
     {
-        let same = siblings_match(facts, page.level, &page.frag, &page.area);
+        let (same, below) = page_matches(facts, page);
         self.sibling = first_bad(self.sibling, id, same);
-        let below = children_match(facts, page.level, &page.frag, &page.area);
         self.child = first_bad(self.child, id, below);
         count_names(&page.frag, &mut self.named);
     }
 
     /// Adds those of the page of this number, which is read once more.
-    fn read<P: Pages>(&mut self, facts: &[Fact], pages: &mut P, id: u32) -> Result<(), AuditStop>
+    fn read_again<P: Pages>(
+        &mut self,
+        facts: &[Fact],
+        pages: &mut P,
+        id: u32,
+    ) -> Result<(), AuditStop>
         ensures adds { OnOk result (IfSome (P.told pages.old) (λ told. (page : Content) → item_at told id ≡ Some (Some page) → AddsPage facts.now id page self.old self.new)) }
         ensures never { IfErr result (OnBroken (λ _ _. IfSome (P.told pages.old) (λ told. (page : Content) → item_at told id ≡ Some (Some page) → IsCut page → ⊥))) }
         ensures same { vec_len self.new.named ≡ vec_len self.old.named }
@@ -173,9 +225,68 @@ impl Links {
             None => Err(AuditStop::Broken { page: id, rule: 0 }),
         }
     }
+
+    /// Adds those of a page of this level with one sibling leaf, which has this box, whose child leaves keep rule 8.
+    fn add_lone(&mut self, facts: &[Fact], level: u8, id: u32, name: u32, area: &Area)
+        ensures adds { (page : Live) → page.level ≡ level → IsRestOf facts.now level (leaves_of page.frag page.area) (Lone name area.now)
+            → Adds facts.now id page self.old self.new }
+        ensures same { vec_len self.new.named ≡ vec_len self.old.named }
+    {
+        let same = sees_same(facts, level, name, area.lo().values(), area.hi().values());
+        self.sibling = first_bad(self.sibling, id, same);
+        count_one(name, &mut self.named);
+    }
+
+    /// Adds those of the page in use of this number, of which this was seen. It is read once more where that doesn't say them.
+    fn read_seen<P: Pages>(
+        &mut self,
+        facts: &[Fact],
+        seen: &Seen,
+        pages: &mut P,
+        id: u32,
+    ) -> Result<(), AuditStop>
+        ensures adds { OnOk result (IfSome (P.told pages.old) (λ told. (page : Content) → item_at told id ≡ Some (Some page) → Knows facts.now (SeenLive seen.now) page
+            → AddsPage facts.now id page self.old self.new)) }
+        ensures never { IfErr result (OnBroken (λ _ _. IfSome (P.told pages.old) (λ told. (page : Content) → item_at told id ≡ Some (Some page) → IsCut page → ⊥))) }
+        ensures same { vec_len self.new.named ≡ vec_len self.old.named }
+        ensures stays { P.told pages.new ≡ P.told pages.old }
+        ensures asked { P.asked pages.old pages.new }
+        ensures cause { IsErrOf result Failed → Rose (P.faults pages.old) (P.faults pages.new) }
+        ensures no_fault { (IsErrOf result Failed → ⊥) → P.faults pages.new ≡ P.faults pages.old }
+        ensures later { P.faults pages.old ≤ P.faults pages.new }
+    {
+        match &seen.rest {
+            Rest::Nothing => Ok(()),
+            Rest::Lone { name, area } => {
+                self.add_lone(facts, seen.level, id, *name, area);
+                Ok(())
+            }
+            Rest::More => self.read_again(facts, pages, id),
+        }
+    }
+
+    /// Adds those of the page of this number.
+    fn read<P: Pages>(&mut self, facts: &[Fact], pages: &mut P, id: u32) -> Result<(), AuditStop>
+        requires some { 1 ≤ id }
+        requires within { id ≤ length facts.now }
+        ensures adds { OnOk result (IfSome (P.told pages.old) (λ told. (page : Content) → item_at told id ≡ Some (Some page) → KnowsTold facts.now told
+            → AddsPage facts.now id page self.old self.new)) }
+        ensures never { IfErr result (OnBroken (λ _ _. IfSome (P.told pages.old) (λ told. (page : Content) → item_at told id ≡ Some (Some page) → IsCut page → ⊥))) }
+        ensures same { vec_len self.new.named ≡ vec_len self.old.named }
+        ensures stays { P.told pages.new ≡ P.told pages.old }
+        ensures asked { P.asked pages.old pages.new }
+        ensures cause { IsErrOf result Failed → Rose (P.faults pages.old) (P.faults pages.new) }
+        ensures no_fault { (IsErrOf result Failed → ⊥) → P.faults pages.new ≡ P.faults pages.old }
+        ensures later { P.faults pages.old ≤ P.faults pages.new }
+    {
+        match seen_in(facts, id) {
+            Some(seen) => self.read_seen(facts, seen, pages, id),
+            None => Ok(()),
+        }
+    }
 }
 
-/// What the leaves of all pages up to the high mark name. The pages are read once more.
+/// What the leaves of all pages up to the high mark name. A page is read once more where its fact doesn't say it.
 pub(crate) fn read_links<P: Pages>(
     alloc: Global,
     facts: &[Fact],

@@ -27,7 +27,7 @@ impl Times {
 }
 
 /// Counts the page of this number, which may be any, once more. A number of no page counts nothing.
-fn count_one(id: u32, named: &mut [Times])
+pub(crate) fn count_one(id: u32, named: &mut [Times])
     ensures same { length named.new ≡ length named.old }
     ensures counted { (other : ℕ) → item_at named.new other ≡ option_map (more (if id == other then 1 else 0)) (item_at named.old other) }
 {

@@ -3,7 +3,7 @@
 use crate::test_files::{KeptPages, Marks, expect_answer, meta_of};
 use std::test::Fail;
 
-const ROWS: [(Marks, &str, &str); 61] = [
+const ROWS: [(Marks, &str, &str); 65] = [
     (
         (1, 3, 8, 8, 0),
         "2 * ^3 / 500: >2 | 2 500-18446744073709551615 ^3 | 1 * ^5 / 100: ^6 / 300: >4 | 1 300-18446744073709551615 ^6 / 400: ^7 | 0 * 7 99 / 100: >6 / 400: >7 | 0 100-399 100 299 300 399 | 0 400-18446744073709551615 450 / 600: >8 / 800: 18446744073709551615 | 0 600-799 600 799",
@@ -28,6 +28,17 @@ const ROWS: [(Marks, &str, &str); 61] = [
         "ok 3",
     ),
     ((1, 1, 3, 1, 3), "0 * 3 | free 0 | free 2", "ok 1"),
+    // and children and a sibling that stand in front of the page that names them
+    (
+        (3, 2, 3, 3, 0),
+        "0 10-* 11 | 0 * 1 / 10: >1 | 1 * ^2 / 10: ^1",
+        "ok 2",
+    ),
+    (
+        (4, 2, 4, 4, 0),
+        "0 10-19 11 | 0 20-* 21 | 0 * 1 / 10: >1 / 20: >2 | 1 * ^3 / 10: ^1 / 20: ^2",
+        "ok 3",
+    ),
     // 0: no page there; beyond the pages that the file may have
     ((1, 1, 2, 1, 0), "0 * | bad", "2 0"),
     ((1, 1, 3, 1, 0), "0 * | bad | bad", "2 0"),
@@ -68,6 +79,7 @@ const ROWS: [(Marks, &str, &str); 61] = [
         "1 4",
     ),
     ((1, 1, 2, 2, 0), "0 * 5 4 | 0 * ^1", "2 5"),
+    ((1, 1, 3, 3, 0), "0 * | 0 * ^1 | 0 * >1", "2 5"),
     ((1, 1, 1, 1, 0), "0 * 1 2 3 4 5 6 7", "1 5"),
     ((1, 1, 1, 1, 0), "0 * >1", "1 5"),
     ((1, 1, 1, 1, 0), "0 * 7 3", "1 6"),
@@ -104,6 +116,12 @@ const ROWS: [(Marks, &str, &str); 61] = [
         (1, 2, 3, 3, 0),
         "1 * ^2 / 10: ^3 | 0 * 1 / 20: >3 | 0 20-18446744073709551615",
         "1 8",
+    ),
+    // and one in front of the page that names it
+    (
+        (3, 2, 3, 3, 0),
+        "0 10-* 11 | 0 * 1 / 10: >1 | 1 * ^2 / 9: ^1",
+        "3 8",
     ),
     // 9: a level without a page of the whole space, two and three of one level, one that nobody names, one that two name
     (

@@ -1,7 +1,6 @@
 -- What is chosen may leave the page.
-use Rattle.std.proofs.Common.{◌≡◌, ℕ, zero, suc, ◌-◌, ◌*◌, ◌<◌, ◌≤◌, ◌⊎◌, inl, inr, true, List, [], ◌∷◌, length, get_or, set, filter, Option, Some, None, refl, sym, ap, ◌∙◌, arith, subst}
+use Rattle.std.proofs.Common.{◌≡◌, ℕ, ◌*◌, ◌≤◌, List, [], ◌∷◌, length, get_or, filter, Option, Some, None, refl, sym, ◌∙◌, arith, subst}
 use Rattle.std.specs.List.{All}
-use Rattle.std.proofs.lemmas.Bool.{ltb-false, ltb-true, not-true}
 use Rattle.std.proofs.lemmas.List.{length-set}
 use Rattle.std.proofs.lemmas.List.Elements.{All-filter, filter_passes}
 use Rattle.hb_space.specs.Boxes.{Area, Cuts, Holds}
@@ -20,40 +19,7 @@ use Rattle.hb_split.specs.Choosing.{way_down, MayCut, AreChosen}
 use Rattle.hb_split.specs.Laws.{IsThirds, MayLeave}
 use Rattle.hb_split.proofs.Ends.{at_end, of_page, records_held}
 use Rattle.hb_split.proofs.Nexts.{parts}
-
-replaced : (xs : List ℕ) (n v i : ℕ) → n < length xs → ((i ≡ n) × (get_or (set xs n v) i 0 ≡ v)) ⊎ (get_or (set xs n v) i 0 ≡ get_or xs i 0)
-replaced [] n v i lt = absurd (omega arith)
-replaced (x ∷ xs) zero v zero lt = inl (refl, refl)
-replaced (x ∷ xs) zero v (suc i) lt = inr refl
-replaced (x ∷ xs) (suc n) v zero lt = inr refl
-replaced (x ∷ xs) (suc n) v (suc i) lt = elim (replaced xs n v i (omega arith)) [ inl w ↦ inl (ap suc w.0, w.1) | inr e ↦ inr e ]
-
-present : (xs : List ℕ) (n : ℕ) → 0 < get_or xs n 0 → n < length xs
-present [] n h = absurd (omega arith)
-present (x ∷ xs) zero h = omega arith
-present (x ∷ xs) (suc n) h = let rest = present xs n h in omega (arith, rest)
-
--- a record of the box on a side of a plane lies in that side of the box
-on_side : (side : Side) (axis value : ℕ) (a : Area) (r : Record) → Cuts a axis value → Holds a r.key → is_on side axis value r ≡ true → Holds (area_on side axis value a) r.key
-on_side Left axis value a r cuts h t =
-    let lt : get_or r.key axis 0 < value = ltb-true (get_or r.key axis 0) value t in
-    let there : axis < length a.hi = present a.hi axis (omega (arith, cuts.above_least, cuts.up_to_greatest)) in
-    record {
-      same = h.same;
-      between = λ i l. elim (replaced a.hi axis (value - 1) i there) [
-        | inl w ↦ let at : get_or r.key i 0 ≡ get_or r.key axis 0 = ap (λ (j : ℕ). get_or r.key j 0) w.0 in ((h.between i l).0, omega (arith, w.1, at, lt, cuts.above_least))
-        | inr e ↦ ((h.between i l).0, omega (arith, (h.between i l).1, e))
-      ];
-    }
-on_side Right axis value a r cuts h t =
-    let ge = ltb-false (get_or r.key axis 0) value (not-true _ t) in
-    record {
-      same = h.same ∙ sym (length-set a.lo axis value);
-      between = λ i l. elim (replaced a.lo axis value i cuts.attribute) [
-        | inl w ↦ let at : get_or r.key i 0 ≡ get_or r.key axis 0 = ap (λ (j : ℕ). get_or r.key j 0) w.0 in (omega (arith, w.1, at, ge), (h.between i l).1)
-        | inr e ↦ (omega (arith, (h.between i l).0, e), (h.between i l).1)
-      ];
-    }
+use Rattle.hb_ops.specs.LeafHalfLaws.{holds_on}
 
 -- the plane of a chosen cut cuts the box that its records lie in
 plane_cuts : (k axis value : ℕ) (records : List Record) (a : Area) → length a.lo ≡ k → All (λ r. Holds a r.key) records → MayCut k axis value records → Cuts a axis value
@@ -85,7 +51,7 @@ part_leaves n k (cut ∷ cuts) tree a same held c =
         off = parts k cut.axis cut.value c.0.records c.0.best.may (other_side cut.side);
       },
       part_leaves n k cuts (going cut tree) (half_area cut a) (as_long cut.side cut.axis cut.value a ∙ same)
-          (λ i d lt. on_side cut.side cut.axis cut.value a (get_or (filter on (records_in tree)) i d) plane (All-filter on (λ (r : Record). Holds a r.key) (records_in tree) held i d lt) (filter_passes on (records_in tree) i d lt)) c.1,
+          (λ i d lt. holds_on cut.side cut.axis cut.value a (get_or (filter on (records_in tree)) i d) plane (All-filter on (λ (r : Record). Holds a r.key) (records_in tree) held i d lt) (filter_passes on (records_in tree) i d lt)) c.1,
     )
 
 light_tip : (t : Tree) → IsSiblingTip t → weight_of t ≡ 1

@@ -17,7 +17,7 @@ use Rattle.hb_ops.specs.Cutting.{is_on}
 use Rattle.hb_ops.specs.declared.leaf_cuts.LeafCut.{LeafCut}
 use Rattle.hb_split.specs.declared.planes.Candidate.{Candidate}
 use Rattle.hb_split.specs.Choosing.{MayCut, count_on}
-use Rattle.hb_split.specs.Steps.{AreOf, BestOf, IsNext, AddsCuts}
+use Rattle.hb_split.specs.Steps.{AreOf, BestOf, IsNextCut, AddsCuts}
 use Rattle.hb_split.proofs.Thirds.{both}
 
 some_on : (p : Record → Bool) (records : List Record) (k : ℕ) (r : Record) → k < length records → get_or records k r ≡ r → p r ≡ true → 0 < length (filter p records)
@@ -35,7 +35,7 @@ fewer : (k axis value : ℕ) (records : List Record) → MayCut k axis value rec
 fewer k axis value records m Left = let all = both axis value records in let other = parts k axis value records m Right in omega (arith, all, other)
 fewer k axis value records m Right = let all = both axis value records in let other = parts k axis value records m Left in omega (arith, all, other)
 
-pub next_of : (k : ℕ) (records : List Record) (c : Candidate) → AreOf k records → BestOf k records (Some c) → IsNext k records c.cut
+pub next_of : (k : ℕ) (records : List Record) (c : Candidate) → AreOf k records → BestOf k records (Some c) → IsNextCut k records c.cut
 next_of k records c a b =
     let on = is_on c.cut.side c.cut.axis c.cut.value in
     let lt = b.0.may.attribute in
@@ -89,7 +89,7 @@ ended k j records best r le ge b e = subst (BestOf k records) e (subst (λ (x : 
 pub adds_none : (n k : ℕ) (records : List Record) (old : List LeafCut) → 6 ≤ n → 3 * length records ≤ 2 * n → AddsCuts n k records old old
 adds_none n k records old full light = ([], sym (append-nil old), omega (arith, full, light))
 
-pub adds_one : (n k : ℕ) (records : List Record) (cut : LeafCut) (old new : List LeafCut) → 6 ≤ n → 2 * n < 3 * length records → IsNext k records cut
+pub adds_one : (n k : ℕ) (records : List Record) (cut : LeafCut) (old new : List LeafCut) → 6 ≤ n → 2 * n < 3 * length records → IsNextCut k records cut
     → AddsCuts n k (filter (is_on cut.side cut.axis cut.value) records) (old ++ cut ∷ []) new → AddsCuts n k records old new
 adds_one n k records cut old new full heavy next rest = (
   cut ∷ rest.0,

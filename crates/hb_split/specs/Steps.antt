@@ -38,7 +38,7 @@ BestOf k records best = MatchOption best
     (λ c. IsBest k c.cut.axis c.cut.value records × IsOfPlane records c)
 
 -- the cut that is made next of these records, and what it leaves
-pub record IsNext (k : ℕ) (records : List Record) (cut : LeafCut) : Type 0 where
+pub record IsNextCut (k : ℕ) (records : List Record) (cut : LeafCut) : Type 0 where
   pub best : IsBest k cut.axis cut.value records
   pub side : cut.side ≡ heavier_side (count_on Left cut.axis cut.value records) (count_on Right cut.axis cut.value records)
   pub inside : All (λ r. cut.axis < length r.key) records

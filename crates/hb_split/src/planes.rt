@@ -1,5 +1,5 @@
 ghost use Rattle.std.specs.Prelude.{◌≡◌, ◌≤◌, ◌<◌, ◌^◌, ◌+◌, ◌-◌, length, slice_index, All, Some, IfOk};
-ghost use Rattle.hb_split.specs.Steps.{AreOf, AreValues, BestOf, BestOn, BestStep, IsBestOn, IsNext, heavier_at};
+ghost use Rattle.hb_split.specs.Steps.{AreOf, AreValues, BestOf, BestOn, BestStep, IsBestOn, IsNextCut, heavier_at};
 ghost use Rattle.hb_split.specs.Choosing.{heavier_side};
 
 use crate::ways::heavier_side;
@@ -25,7 +25,7 @@ pub(crate) fn best_cut(
     requires few { length records.now < 2 ^ 32 }
     requires several { 2 ≤ length records.now }
     requires records { AreOf attributes records.now }
-    ensures { IfOk result (IsNext attributes records.now) }
+    ensures { IfOk result (IsNextCut attributes records.now) }
 {
     let mut best = None;
     for axis in 0..attributes {

@@ -1,29 +1,33 @@
 -- What a force leaves of a running store: inside, after a fault, and once the frame is written.
-use Rattle.std.proofs.Common.{◌≡◌, ◌⊎◌, ◌↔◌, inl, inr, ℕ, ◌+◌, ◌*◌, ◌-◌, ◌%◌, ◌≤◌, true, false, IsTrue, List, [], ◌∷◌, ◌++◌, length, map, take, drop, replicate, Some, IsSome, refl, sym, ap, ◌∙◌, subst, arith, append_assoc, length-take, length-append}
+use Rattle.std.proofs.Common.{◌≡◌, ◌⊎◌, inl, inr, ℕ, ◌+◌, ◌*◌, ◌-◌, ◌%◌, ◌≤◌, true, false, IsTrue, List, [], ◌∷◌, ◌++◌, length, map, take, drop, replicate, Some, IsSome, refl, sym, ap, ◌∙◌, subst, arith, append_assoc, length-take, length-append}
 use Rattle.std.specs.List.{All}
+use Rattle.std.specs.Option.{is_some}
 use Rattle.std.proofs.lemmas.Grind.{flat_map-append}
 use Rattle.std.proofs.lemmas.List.{append-nil, take_at, take-take}
 use Rattle.std.proofs.lemmas.List.Elements.{All-head, All-tail}
 use Rattle.hb_space.specs.declared.form.TheConstants.{PAGE}
 use Rattle.hb_disk.specs.Model.{DiskModel, IsDisk, Torn}
 use Rattle.hb_disk.specs.Calls.{Leaves, Becomes, IsSynced}
-use Rattle.hb_disk.specs.RunLaws.{at_value, has_value, some_same, Leaves-weaker, IsSynced-part, IsSynced-elsewhere}
+use Rattle.hb_disk.specs.RunLaws.{Leaves-weaker}
+use Rattle.hb_disk.specs.ValueLaws.{at_value, has_value, some_same}
+use Rattle.hb_disk.specs.SyncedLaws.{IsSynced-part, IsSynced-elsewhere}
 use Rattle.hb_wal.specs.Frames.{frames, frame_bytes, range, HasFrames}
 use Rattle.hb_wal.specs.Log.{Waiting, LogState, forced, left_waiting, after_force}
 use Rattle.hb_wal.specs.Forces.{HasLog, ForceLeaves}
-use Rattle.hb_layout.specs.Offsets.{slot_offset}
+use Rattle.hb_layout.specs.Offsets.{slot_offset, log_start}
 use Rattle.hb_frag.specs.declared.pages.Page.{Page}
 use Rattle.hb_frag.specs.Grammar.{SpellsPage}
 use Rattle.hb_layout.specs.declared.meta.Meta.{Meta}
 use Rattle.hb_ops.specs.Files.{FileState, page_of}
 use Rattle.hb_log_codec.specs.Groups.{Logged, FitsGroup, group_bytes}
 use Rattle.hb_store.specs.Replay.{Replayed, untouched, replay}
-use Rattle.hb_layout.specs.Offsets.{log_start}
 use Rattle.hb_store.specs.Opening.{OpensBy, log_bytes, place_bytes}
-use Rattle.hb_store.specs.Keeps.{StoreState, StoreKeeps, IsStore, Leads, OpensNext, OpensToFirst, last_of}
+use Rattle.hb_store.specs.States.{IsMemory, StoreState}
+use Rattle.hb_store.specs.Parts.{Parts, Leads, OpensNext, written_pages}
+use Rattle.hb_store.specs.Keeps.{StoreKeeps, OpensToFirst, last_of}
 use Rattle.hb_store.specs.Calls.{stopped_state, forced_state, with_log, durable_after, later_after}
 use Rattle.hb_store.specs.ReplayLaws.{replay-append, zeros_end}
-use Rattle.hb_store.specs.StoreLaws.{opens_first, StoreKeeps-by}
+use Rattle.hb_store.specs.StoreLaws.{OpensHere, OpensOn, opens_first, StoreKeeps-by}
 use Rattle.hb_store.proofs.AreaTorn.{spelled_kept, shows_kept, opens_same, opens_more}
 
 -- The bytes open to the durable file, or to the next one where the first group's frame is there.
@@ -79,77 +83,88 @@ front_of_both area len written payloads more c fits count (inl framed) =
     front_of area len written payloads [] c fits count (subst Q (sym (append-nil payloads)) framed)
 front_of_both area len written payloads more c fits count (inr framed) = front_of area len written payloads more c fits count framed
 
-module _ (d : DiskModel) (is_disk : IsDisk d) (st : StoreState) (is_store : IsStore d.size st) (going : st.stopped ≡ false) (durable : FileState) (later : List FileState) (keeps : StoreKeeps d st durable later) where
-  area_is : st.log.area ≡ log_start st.turn keeps.said
-  area_is = is_store.area ∙ ap (λ (n : ℕ). 8192 + (st.turn % 2) * n) keeps.layout.log
+-- a log of the same area leaves the rest as it is
+pub memory_logged : (st : StoreState) (log : LogState) → IsMemory st → log.area ≡ st.log.area → log.len ≡ st.log.len → IsMemory (with_log log st)
+memory_logged st log is area len = record { stands = is.stands; area = area ∙ is.area; len = len ∙ is.len; good = is.good; marked = is.marked }
 
-  len_is : st.log.len ≡ keeps.said.log
-  len_is = is_store.len ∙ keeps.layout.log
+-- and so does a fault
+pub memory_stopped : (st : StoreState) → IsMemory st → IsMemory (stopped_state st)
+memory_stopped st is = record { stands = is.stands; area = is.area; len = is.len; good = is.good; marked = is.marked }
 
-  torn_there : (b c : List ℕ) → Torn st.log.area st.log.len b c → Torn (log_start st.turn keeps.said) keeps.said.log b c
+module _ (d : DiskModel) (is_disk : IsDisk d) (st : StoreState) (is : IsMemory st) (going : st.stopped ≡ false) (durable : FileState) (later : List FileState) (keeps : StoreKeeps d st durable later) where
+  abbrev p : Parts
+  p = keeps.parts
+
+  area_is : st.log.area ≡ log_start st.turn p.said
+  area_is = is.area ∙ ap (λ (n : ℕ). 8192 + (st.turn % 2) * n) keeps.memory.layout.log
+
+  len_is : st.log.len ≡ p.said.log
+  len_is = is.len ∙ keeps.memory.layout.log
+
+  torn_there : (b c : List ℕ) → Torn st.log.area st.log.len b c → Torn (log_start st.turn p.said) p.said.log b c
   torn_there b c torn =
       let Q : ℕ → ℕ → Type 0 = λ at n. Torn at n b c in
-      subst (λ (n : ℕ). Q (log_start st.turn keeps.said) n) len_is (subst (λ (at : ℕ). Q at st.log.len) area_is torn)
+      subst (λ (n : ℕ). Q (log_start st.turn p.said) n) len_is (subst (λ (at : ℕ). Q at st.log.len) area_is torn)
 
-  frames_there : (c : List ℕ) (payloads : List (List ℕ)) → HasFrames (range st.log.area st.log.len c) payloads → HasFrames (log_bytes st.turn keeps.said c) payloads
+  frames_there : (c : List ℕ) (payloads : List (List ℕ)) → HasFrames (range st.log.area st.log.len c) payloads → HasFrames (log_bytes st.turn p.said c) payloads
   frames_there c payloads framed =
       let Q : ℕ → ℕ → Type 0 = λ at n. HasFrames (range at n c) payloads in
-      subst (λ (n : ℕ). Q (log_start st.turn keeps.said) n) len_is (subst (λ (at : ℕ). Q at st.log.len) area_is framed)
+      subst (λ (n : ℕ). Q (log_start st.turn p.said) n) len_is (subst (λ (at : ℕ). Q at st.log.len) area_is framed)
 
   pub may_force : (payloads : List (List ℕ)) × HasLog d st.log payloads
-  may_force = (keeps.payloads, (keeps.running going).logged)
+  may_force = (p.payloads, (keeps.disk.running going).logged)
 
   -- inside
-  pub inside_opens : (c : List ℕ) → ForceLeaves d st.log keeps.payloads c
-      → OpensBy c st.turn keeps.said keeps.payloads keeps.written durable ⊎ OpensNext c st.turn keeps.said keeps.payloads keeps.written keeps.waiting later
+  pub inside_opens : (c : List ℕ) → ForceLeaves d st.log p.payloads c
+      → OpensBy c st.turn p.said p.payloads p.written durable ⊎ OpensNext c st.turn p.said p.payloads p.written p.waiting later
   inside_opens c leaves =
-      inside_by st.turn keeps.said leaves.before c (torn_there leaves.before c leaves.elsewhere) keeps.payloads keeps.written durable
-      (StoreKeeps-by d st durable later keeps going leaves.before leaves.image) st.log.groups keeps.waiting later keeps.spelled keeps.fits keeps.leads
+      inside_by st.turn p.said leaves.before c (torn_there leaves.before c leaves.elsewhere) p.payloads p.written durable
+      (StoreKeeps-by d st durable later keeps going leaves.before leaves.image) st.log.groups p.waiting later keeps.waits.spelled keeps.waits.fits keeps.waits.leads
       (elim leaves.frames_of [
-        | inl same ↦ inl (frames_there c keeps.payloads same)
-        | inr more ↦ inr (frames_there c (keeps.payloads ++ forced st.log.groups) more)
+        | inl same ↦ inl (frames_there c p.payloads same)
+        | inr more ↦ inr (frames_there c (p.payloads ++ forced st.log.groups) more)
       ])
 
-  pub moments_open : (new : DiskModel) → Leaves d new (ForceLeaves d st.log keeps.payloads) → Leaves d new (OpensToFirst durable later)
-  moments_open new run = Leaves-weaker d new (ForceLeaves d st.log keeps.payloads) (OpensToFirst durable later)
-      (λ c leaves. opens_first c st.turn keeps.said keeps.payloads keeps.written keeps.waiting durable later (inside_opens c leaves)) run
+  pub moments_open : (new : DiskModel) → Leaves d new (ForceLeaves d st.log p.payloads) → Leaves d new (OpensToFirst durable later)
+  moments_open new run = Leaves-weaker d new (ForceLeaves d st.log p.payloads) (OpensToFirst durable later)
+      (λ c leaves. opens_first c st.turn p.said p.payloads p.written p.waiting durable later (inside_opens c leaves)) run
 
   module _ (new : DiskModel) (is_new : IsDisk new) (place : Becomes (Torn st.log.area st.log.len) d new) (b : List ℕ) (told : d.told ≡ Some b) where
     abbrev after : (c : List ℕ) × (new.told ≡ Some c) × Torn st.log.area st.log.len b c
     after = at_value d.told (λ b. (c : List ℕ) × (new.told ≡ Some c) × Torn st.log.area st.log.len b c) b told place.told
 
-    logged : HasLog d st.log keeps.payloads
-    logged = (keeps.running going).logged
+    logged : HasLog d st.log p.payloads
+    logged = (keeps.disk.running going).logged
 
     still_told : IsSome new.told
     still_told = has_value new.told after.0 after.1
 
     -- superblock places and page places stand as before
     places_synced : IsSynced new 0 8192
-    places_synced = IsSynced-elsewhere d new 0 8192 st.log.area st.log.len (inl (omega (arith, area_is))) place (keeps.running going).places
+    places_synced = IsSynced-elsewhere d new 0 8192 st.log.area st.log.len (inl (omega (arith, area_is))) place (keeps.disk.running going).places
 
     place_synced : IsSynced new (slot_offset st.turn) PAGE
     place_synced = IsSynced-part new 0 8192 (slot_offset st.turn) PAGE (omega arith) (omega arith) places_synced
 
-    page_synced : (id : ℕ) (page : Page) → ((c : List ℕ) → d.Image c → SpellsPage (place_bytes keeps.said id c) page) → (c : List ℕ) → new.Image c → SpellsPage (place_bytes keeps.said id c) page
+    page_synced : (id : ℕ) (page : Page) → ((c : List ℕ) → d.Image c → SpellsPage (place_bytes p.said id c) page) → (c : List ℕ) → new.Image c → SpellsPage (place_bytes p.said id c) page
     page_synced id page was c image =
         let old = place.crash c image in
-        spelled_kept st.turn keeps.said old.0 c (torn_there old.0 c old.2) id page (was old.0 old.1)
+        spelled_kept st.turn p.said old.0 c (torn_there old.0 c old.2) id page (was old.0 old.1)
 
-    page_reads : (id : ℕ) (page : Page) → ((b : List ℕ) → d.told ≡ Some b → SpellsPage (place_bytes keeps.said id b) page) → (e : List ℕ) → new.told ≡ Some e → SpellsPage (place_bytes keeps.said id e) page
+    page_reads : (id : ℕ) (page : Page) → ((b : List ℕ) → d.told ≡ Some b → SpellsPage (place_bytes p.said id b) page) → (e : List ℕ) → new.told ≡ Some e → SpellsPage (place_bytes p.said id e) page
     page_reads id page was e tells =
         let same : after.0 ≡ e = some_same after.0 e (sym after.1 ∙ tells) in
-        let Q : List ℕ → Type 0 = λ l. SpellsPage (place_bytes keeps.said id l) page in
-        subst Q same (spelled_kept st.turn keeps.said b after.0 (torn_there b after.0 after.2) id page (was b told))
+        let Q : List ℕ → Type 0 = λ l. SpellsPage (place_bytes p.said id l) page in
+        subst Q same (spelled_kept st.turn p.said b after.0 (torn_there b after.0 after.2) id page (was b told))
 
     -- after a fault
-    module _ (run : Leaves d new (ForceLeaves d st.log keeps.payloads)) where
-      image_inside : (c : List ℕ) → new.Image c → ForceLeaves d st.log keeps.payloads c
+    module _ (run : Leaves d new (ForceLeaves d st.log p.payloads)) where
+      image_inside : (c : List ℕ) → new.Image c → ForceLeaves d st.log p.payloads c
       image_inside c image = run.each c (is_new.counts_now d.clock c run.later image)
 
-      front_there : (c : List ℕ) → new.Image c → take st.log.written (drop st.log.area c) ≡ frames keeps.payloads
-      front_there c image = front_of_both st.log.area st.log.len st.log.written keeps.payloads (forced st.log.groups) c
-          (written_fits d st.log keeps.payloads logged b told) keeps.count (image_inside c image).frames_of
+      front_there : (c : List ℕ) → new.Image c → take st.log.written (drop st.log.area c) ≡ frames p.payloads
+      front_there c image = front_of_both st.log.area st.log.len st.log.written p.payloads (forced st.log.groups) c
+          (written_fits d st.log p.payloads logged b told) keeps.disk.count (image_inside c image).frames_of
 
       stopped_images : (A B : Type 0) → A ⊎ B → A ⊎ (IsTrue true × B)
       stopped_images A B (inl a) = inl a
@@ -157,31 +172,28 @@ module _ (d : DiskModel) (is_disk : IsDisk d) (st : StoreState) (is_store : IsSt
 
       pub keeps_stopped : StoreKeeps new (stopped_state st) durable later
       keeps_stopped = record {
-        said = keeps.said;
-        payloads = keeps.payloads;
-        written = keeps.written;
-        waiting = keeps.waiting;
-        told = still_told;
-        layout = record { k = keeps.layout.k; pages = keeps.layout.pages; log = keeps.layout.log; dcap = keeps.layout.dcap; icap = keeps.layout.icap };
-        count = keeps.count;
-        images = λ c image. stopped_images (OpensBy c st.turn keeps.said keeps.payloads keeps.written durable) (OpensNext c st.turn keeps.said keeps.payloads keeps.written keeps.waiting later)
-            (inside_opens c (image_inside c image));
-        shows = λ c image.
-            let old = place.crash c image in
-            shows_kept st.turn keeps.said old.0 c (torn_there old.0 c old.2) (replay (untouched keeps.said) keeps.written) durable (keeps.shows old.0 old.1);
-        running = λ never. cc never;
-        kept = (
-          place_synced,
-          record { each = λ e c tells image. front_there c image ∙ sym (front_there e (is_new.as_read e tells)) },
-        );
-        spelled = keeps.spelled;
-        fits = keeps.fits;
-        leads = keeps.leads;
-        touched = keeps.touched;
-        synced = λ id page off is c image. page_synced id page (keeps.synced id page off is) c image;
-        meta_is = keeps.meta_is;
-        framed = keeps.framed;
-        unframed = λ id page e none is tells. page_reads id page (λ b told. keeps.unframed id page b none is told) e tells;
+        parts = p;
+        disk = record {
+          told = still_told;
+          count = keeps.disk.count;
+          images = λ c image. stopped_images (OpensHere c st.turn p durable) (OpensOn c st.turn p later) (inside_opens c (image_inside c image));
+          shows = λ c image.
+              let old = place.crash c image in
+              shows_kept st.turn p.said old.0 c (torn_there old.0 c old.2) (written_pages p) durable (keeps.disk.shows old.0 old.1);
+          running = λ never. cc never;
+          kept = (
+            place_synced,
+            record { each = λ e c tells image. front_there c image ∙ sym (front_there e (is_new.as_read e tells)) },
+          );
+        };
+        waits = keeps.waits;
+        imaged = record { touched = keeps.imaged.touched; synced = λ id page off is c image. page_synced id page (keeps.imaged.synced id page off is) c image };
+        memory = record {
+          layout = keeps.memory.layout;
+          meta_is = keeps.memory.meta_is;
+          cached = keeps.memory.cached;
+          placed = λ id page e none is tells. page_reads id page (λ b told. keeps.memory.placed id page b none is told) e tells;
+        };
       }
 
     -- once the frame is written, or where none was: a log of this area with these groups left
@@ -189,53 +201,54 @@ module _ (d : DiskModel) (is_disk : IsDisk d) (st : StoreState) (is_store : IsSt
       abbrev moved : LogState
       moved = record { area = st.log.area; len = st.log.len; written = n; groups = groups }
 
-      framed_image : (payloads : List (List ℕ)) → HasLog new moved payloads → (c : List ℕ) → new.Image c → HasFrames (log_bytes st.turn keeps.said c) payloads
+      framed_image : (payloads : List (List ℕ)) → HasLog new moved payloads → (c : List ℕ) → new.Image c → HasFrames (log_bytes st.turn p.said c) payloads
       framed_image payloads has c image = frames_there c payloads (image_frames new moved payloads has after.0 after.1 c image)
 
       -- a store whose durable file goes on, and whose file is the same
       forced_with : (payloads : List (List ℕ)) (written waiting : List Logged) (s : FileState) (files : List FileState) → HasLog new moved payloads
-          → ((c : List ℕ) → new.Image c → OpensBy c st.turn keeps.said payloads written s)
-          → map (λ w. w.bytes) groups ≡ map group_bytes waiting → All (FitsGroup keeps.said.k) waiting → Leads (replay (untouched keeps.said) written) s waiting files
-          → keeps.written ++ keeps.waiting ≡ written ++ waiting → last_of s files ≡ last_of durable later → StoreKeeps new (with_log moved st) s files
+          → ((c : List ℕ) → new.Image c → OpensBy c st.turn p.said payloads written s)
+          → map (λ w. w.bytes) groups ≡ map group_bytes waiting → All (FitsGroup p.said.k) waiting → Leads (replay (untouched p.said) written) s waiting files
+          → p.written ++ p.waiting ≡ written ++ waiting → last_of s files ≡ last_of durable later → StoreKeeps new (with_log moved st) s files
       forced_with payloads written waiting s files has opens spelled fits leads all last = record {
-        said = keeps.said;
-        payloads = payloads;
-        written = written;
-        waiting = waiting;
-        told = still_told;
-        layout = record { k = keeps.layout.k; pages = keeps.layout.pages; log = keeps.layout.log; dcap = keeps.layout.dcap; icap = keeps.layout.icap };
-        count = has.count;
-        images = λ c image. inl (opens c image);
-        shows = λ c image. (opens c image).shows;
-        running = λ going. record { places = places_synced; logged = has };
-        kept = (
-          place_synced,
-          IsSynced-part new st.log.area st.log.len st.log.area n (omega arith) (let fits : n ≤ st.log.len = written_fits new moved payloads has after.0 after.1 in omega (arith, fits)) has.synced,
-        );
-        spelled = spelled;
-        fits = fits;
-        leads = leads;
-        touched = λ id. let Q : List Logged → Type 0 = λ gs. IsTrue (st.imaged id) ↔ IsSome ((replay (untouched keeps.said) gs).page id) in subst Q all (keeps.touched id);
-        synced = λ id page off is c image. page_synced id page (keeps.synced id page off (ap (λ (f : FileState). page_of f id) (sym last) ∙ is)) c image;
-        meta_is = ap (λ (f : FileState). f.meta) last ∙ keeps.meta_is;
-        framed = λ id page is. ap (λ (f : FileState). page_of f id) last ∙ keeps.framed id page is;
-        unframed = λ id page e none is tells.
-            page_reads id page (λ b told. keeps.unframed id page b none (ap (λ (f : FileState). page_of f id) (sym last) ∙ is) told) e tells;
+        parts = record { said = p.said; payloads = payloads; written = written; waiting = waiting };
+        disk = record {
+          told = still_told;
+          count = has.count;
+          images = λ c image. inl (opens c image);
+          shows = λ c image. (opens c image).shows;
+          running = λ going. record { places = places_synced; logged = has };
+          kept = (
+            place_synced,
+            IsSynced-part new st.log.area st.log.len st.log.area n (omega arith) (let fits : n ≤ st.log.len = written_fits new moved payloads has after.0 after.1 in omega (arith, fits)) has.synced,
+          );
+        };
+        waits = record { spelled = spelled; fits = fits; leads = leads };
+        imaged = record {
+          touched = λ id. keeps.imaged.touched id ∙ ap (λ (gs : List Logged). is_some ((replay (untouched p.said) gs).page id)) all;
+          synced = λ id page off is c image. page_synced id page (keeps.imaged.synced id page off (ap (λ (f : FileState). page_of f id) (sym last) ∙ is)) c image;
+        };
+        memory = record {
+          layout = keeps.memory.layout;
+          meta_is = ap (λ (f : FileState). f.meta) last ∙ keeps.memory.meta_is;
+          cached = λ id page is. ap (λ (f : FileState). page_of f id) last ∙ keeps.memory.cached id page is;
+          placed = λ id page e none is tells.
+              page_reads id page (λ b told. keeps.memory.placed id page b none (ap (λ (f : FileState). page_of f id) (sym last) ∙ is) told) e tells;
+        };
       }
 
     forced_by : (n : ℕ) (groups : List Waiting) (waiting : List Logged) (files : List FileState) → map (λ w. w.bytes) groups ≡ map group_bytes waiting
-        → All (FitsGroup keeps.said.k) waiting → Leads (replay (untouched keeps.said) keeps.written) durable waiting files
-        → HasLog new (moved n (left_waiting groups)) (keeps.payloads ++ forced groups)
-        → keeps.written ++ keeps.waiting ≡ keeps.written ++ waiting → last_of durable files ≡ last_of durable later
+        → All (FitsGroup p.said.k) waiting → Leads (replay (untouched p.said) p.written) durable waiting files
+        → HasLog new (moved n (left_waiting groups)) (p.payloads ++ forced groups)
+        → p.written ++ p.waiting ≡ p.written ++ waiting → last_of durable files ≡ last_of durable later
         → StoreKeeps new (with_log (moved n (left_waiting groups)) st) (durable_after durable files) (later_after files)
     forced_by n [] [] [] same fits leads has all last =
         let L : List (List ℕ) → Type 0 = λ ps. HasLog new (moved n []) ps in
-        let log : HasLog new (moved n []) keeps.payloads = subst L (append-nil keeps.payloads) has in
-        forced_with n [] keeps.payloads keeps.written [] durable [] log
+        let log : HasLog new (moved n []) p.payloads = subst L (append-nil p.payloads) has in
+        forced_with n [] p.payloads p.written [] durable [] log
         (λ c image.
         let old = place.crash c image in
-        opens_same st.turn keeps.said old.0 c (torn_there old.0 c old.2) keeps.payloads keeps.written durable
-        (StoreKeeps-by d st durable later keeps going old.0 old.1) (framed_image n [] keeps.payloads log c image))
+        opens_same st.turn p.said old.0 c (torn_there old.0 c old.2) p.payloads p.written durable
+        (StoreKeeps-by d st durable later keeps going old.0 old.1) (framed_image n [] p.payloads log c image))
         refl fits refl all last
     forced_by n [] [] (next ∷ files) same fits leads has all last = cc leads
     forced_by n [] (g ∷ waiting) files same fits leads has all last = cc same
@@ -244,20 +257,20 @@ module _ (d : DiskModel) (is_disk : IsDisk d) (st : StoreState) (is_store : IsSt
     forced_by n (w ∷ groups) (g ∷ waiting) (next ∷ files) same fits leads has all last =
         let bytes_are : w.bytes ≡ group_bytes g = cc in
         let rest : map (λ (w : Waiting). w.bytes) groups ≡ map group_bytes waiting = cc in
-        let payloads : List (List ℕ) = keeps.payloads ++ group_bytes g ∷ [] in
-        let L : List ℕ → Type 0 = λ l. HasLog new (moved n groups) (keeps.payloads ++ l ∷ []) in
+        let payloads : List (List ℕ) = p.payloads ++ group_bytes g ∷ [] in
+        let L : List ℕ → Type 0 = λ l. HasLog new (moved n groups) (p.payloads ++ l ∷ []) in
         let log : HasLog new (moved n groups) payloads = subst L bytes_are has in
-        let N : FileState → Type 0 = λ s. (c : List ℕ) → new.Image c → OpensBy c st.turn keeps.said payloads (keeps.written ++ g ∷ []) s in
+        let N : FileState → Type 0 = λ s. (c : List ℕ) → new.Image c → OpensBy c st.turn p.said payloads (p.written ++ g ∷ []) s in
         let T : Replayed → Type 0 = λ t. Leads t next waiting files in
-        forced_with n groups payloads (keeps.written ++ g ∷ []) waiting next files log
+        forced_with n groups payloads (p.written ++ g ∷ []) waiting next files log
         (subst N (sym leads.4) (λ c image.
         let old = place.crash c image in
-        opens_more st.turn keeps.said old.0 c (torn_there old.0 c old.2) keeps.payloads keeps.written durable
+        opens_more st.turn p.said old.0 c (torn_there old.0 c old.2) p.payloads p.written durable
         (StoreKeeps-by d st durable later keeps going old.0 old.1) g (framed_image n groups payloads log c image)
-        (All-head (FitsGroup keeps.said.k) g waiting fits) leads.0 leads.1 leads.2))
-        rest (All-tail (FitsGroup keeps.said.k) g waiting fits)
-        (subst T (sym (replay-append (untouched keeps.said) keeps.written (g ∷ []))) leads.5)
-        (all ∙ sym (append_assoc keeps.written (g ∷ []) waiting)) last
+        (All-head (FitsGroup p.said.k) g waiting fits) leads.0 leads.1 leads.2))
+        rest (All-tail (FitsGroup p.said.k) g waiting fits)
+        (subst T (sym (replay-append (untouched p.said) p.written (g ∷ []))) leads.5)
+        (all ∙ sym (append_assoc p.written (g ∷ []) waiting)) last
 
-    pub keeps_forced : HasLog new (after_force st.log) (keeps.payloads ++ forced st.log.groups) → StoreKeeps new (forced_state st) (durable_after durable later) (later_after later)
-    keeps_forced has = forced_by (after_force st.log).written st.log.groups keeps.waiting later keeps.spelled keeps.fits keeps.leads has refl refl
+    pub keeps_forced : HasLog new (after_force st.log) (p.payloads ++ forced st.log.groups) → StoreKeeps new (forced_state st) (durable_after durable later) (later_after later)
+    keeps_forced has = forced_by (after_force st.log).written st.log.groups p.waiting later keeps.waits.spelled keeps.waits.fits keeps.waits.leads has refl refl

@@ -17,10 +17,10 @@ use Rattle.hb_store.specs.Payloads.{SpellAll}
 use Rattle.hb_store.specs.Replay.{Replayed, untouched, replay, MayFollow}
 use Rattle.hb_layout.specs.Offsets.{log_start, page_offset}
 use Rattle.hb_store.specs.Opening.{OpensBy, Shows, IsPageIn, log_bytes, place_bytes}
-use Rattle.hb_store.specs.Keeps.{AreImagesOf}
+use Rattle.hb_store.specs.Parts.{AreImagesOf}
 use Rattle.hb_store.specs.ReplayLaws.{replay-append, MayReplay-append, SpellAll-append}
 use Rattle.hb_store.proofs.Shown.{Shows-after}
-use Rattle.hb_store.specs.StoreLaws.{IsNewest-elsewhere}
+use Rattle.hb_store.specs.FreshLaws.{IsNewest-elsewhere}
 
 -- the area of a turn ends in front of the pages
 pub area_end : (turn : ℕ) (said : Meta) → log_start turn said + said.log ≤ 8192 + 2 * said.log

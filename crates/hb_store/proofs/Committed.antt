@@ -1,88 +1,46 @@
 -- A store keeps its disk once an operation was done in memory and its group waits.
-use Rattle.std.proofs.Common.{◌≡◌, inl, inr, ℕ, ◌+◌, ◌*◌, ◌%◌, ◌≤◌, ◌==◌, Bool, true, false, cond, List, [], ◌∷◌, ◌++◌, length, get_or, map, All, Option, Some, None, IsSome, refl, sym, ap, ◌∙◌, subst, arith}
-use Rattle.std.proofs.lemmas.Bool.{cases_lt}
+use Rattle.std.proofs.Common.{◌≡◌, inl, inr, ℕ, ◌+◌, ◌*◌, ◌%◌, ◌≤◌, Bool, false, List, [], ◌∷◌, ◌++◌, length, get_or, map, All, Option, Some, None, IsSome, IsTrue, Result, Ok, Err, refl, sym, ap, ◌∙◌, subst, arith}
+use Rattle.std.specs.Prelude.{◌||◌, OnErr, OnOk}
+use Rattle.std.specs.Option.{is_some}
+use Rattle.std.proofs.lemmas.Bool.{cases_Bool, cases_lt}
 use Rattle.std.proofs.lemmas.List.{get_or_past, map-append}
 use Rattle.std.proofs.lemmas.List.Elements.{All-append, All-cons, All-nil}
 use Rattle.hb_disk.specs.Model.{DiskModel, IsDisk}
 use Rattle.hb_disk.specs.Calls.{IsSynced}
+use Rattle.hb_disk.specs.ValueLaws.{some_value}
 use Rattle.hb_wal.specs.Log.{LogState, Waiting}
 use Rattle.hb_wal.specs.Forces.{HasLog}
 use Rattle.hb_frag.specs.declared.pages.LivePage.{LivePage}
 use Rattle.hb_frag.specs.declared.pages.Page.{Page}
 use Rattle.hb_layout.specs.declared.meta.Meta.{Meta}
+use Rattle.hb_layout.specs.Offsets.{file_size}
 use Rattle.hb_ops.specs.declared.operations.Op.{Op}
 use Rattle.hb_ops.specs.Files.{FileState, if_live, page_at, page_of}
-use Rattle.hb_ops.specs.Operations.{Change, IsAllowed, IsAllowedOn, IsLicensed, change_of, effect_of, nth_read, reads_of, with_pages}
+use Rattle.hb_ops.specs.Operations.{Change, IsAllowed, IsAllowedOn, IsLicensed, change_of, effect_of, nth_read, reads_of, with_changed_pages}
 use Rattle.hb_log_codec.specs.Groups.{FitsGroup, Logged, group_bytes}
 use Rattle.hb_store.specs.Replay.{MayFollow, Replayed, after_group, change_in, replay, set_pages, touched_read, untouched, with_images}
 use Rattle.hb_store.specs.ReplayLaws.{Leads-append, last_of-append, replay-append}
 use Rattle.hb_store.specs.Opening.{IsPageIn, Shows}
-use Rattle.hb_store.specs.Keeps.{AreImagesOf, IsGoodPage, IsRunning, IsStore, StoreKeeps, StoreState, last_of}
+use Rattle.hb_store.specs.States.{IsGoodPage, IsMemory, IsSameLayout, IsStanding, StoreState, in_memory, is_imaged}
+use Rattle.hb_store.specs.Parts.{AreImagesOf, IsDurable, IsImaged, IsInMemory, IsWaiting, Parts, all_pages, written_pages}
+use Rattle.hb_store.specs.Keeps.{StoreKeeps, last_of}
 use Rattle.hb_store.specs.StoreLaws.{StoreKeeps-by}
-use Rattle.hb_store.specs.Calls.{Commits, IsAllowedHere, change_here, framed_read, with_op}
-use Rattle.hb_store.specs.Frames.{imaged_in, page_in}
-use Rattle.hb_store.specs.Marks.{as_imaged, mark_frames, set_frames, with_frame, with_mark}
-use Rattle.hb_store.specs.declared.frames.Frame.{Frame}
-use Rattle.hb_store.proofs.Changed.{ChangesWell}
+use Rattle.hb_store.specs.Calls.{Commits, IsAllowedHere, change_here, read_here, with_op}
+use Rattle.hb_store.specs.Images.{group_here}
+use Rattle.hb_store.specs.Making.{MakesWell}
+use Rattle.hb_store.specs.Marks.{has_page, is_among}
+use Rattle.hb_store.proofs.Changed.{reads_numbered, same_size}
 use Rattle.hb_store.proofs.FilePages.{Reaches, pages_set}
 use Rattle.hb_store.proofs.MadeMeta.{reads_some}
 use Rattle.hb_store.proofs.Shown.{Shows-leads}
-use Rattle.hb_store.proofs.Grouped.{all_due, due}
-use Rattle.hb_store.proofs.Marking.{all_set, frames_after, page_in-after}
-use Rattle.hb_store.proofs.Imaging.{Agrees, Marks, Tells, marks_after, read_page}
-
--- what a store with these frames is seen as
-abbrev pub seen : ℕ → Meta → LogState → (ℕ → Option Frame) → Bool → StoreState
-seen turn meta log F stopped = record { turn = turn; meta = meta; log = log; frame = λ id. page_in (F id); imaged = λ id. imaged_in (F id); stopped = stopped }
-
--- ---- pages of a file, and frames, once others were set
-
--- pages that others have too are so once the same were set in both
-set_both : (pages : List (ℕ × Page)) (f g : ℕ → Option Page) → ((q : ℕ) (page : Page) → f q ≡ Some page → g q ≡ Some page) → (q : ℕ) (page : Page) → set_pages pages f q ≡ Some page → set_pages pages g q ≡ Some page
-set_both [] f g h q page e = h q page e
-set_both (one ∷ rest) f g h q page e =
-    set_both rest (λ r. cond (r == one.0) (Some one.1) (f r)) (λ r. cond (r == one.0) (Some one.1) (g r))
-    (λ r page. elim (r == one.0) as (λ b. cond b (Some one.1) (f r) ≡ Some page → cond b (Some one.1) (g r) ≡ Some page) [ true ↦ λ e. e | false ↦ h r page ]) q page e
-
--- where none is then, none was set
-record NotSet (pages : List (ℕ × Page)) (q : ℕ) : Type 0 where
-  same : (g : ℕ → Option Page) → set_pages pages g q ≡ g q
-
-set_none : (pages : List (ℕ × Page)) (f : ℕ → Option Page) (q : ℕ) → set_pages pages f q ≡ None → (f q ≡ None) × NotSet pages q
-set_none [] f q e = (e, record { same = λ g. refl })
-set_none (one ∷ rest) f q e =
-    let later = set_none rest (λ r. cond (r == one.0) (Some one.1) (f r)) q e in
-    elim (q == one.0) as (λ b. (q == one.0) ≡ b → cond b (Some one.1) (f q) ≡ None → (f q ≡ None) × NotSet (one ∷ rest) q) [
-      | true ↦ λ here none. cc none
-      | false ↦ λ off none. (none, record { same = λ g. later.1.same (λ r. cond (r == one.0) (Some one.1) (g r)) ∙ ap (λ (b : Bool). cond b (Some one.1) (g q)) off })
-    ] refl later.0
-
--- a page that isn't marked wasn't set, nor marked before
-set_unmarked : (pages : List (ℕ × Page)) (F : ℕ → Option Frame) (q : ℕ) → imaged_in (set_frames pages F q) ≡ false → (imaged_in (F q) ≡ false) × NotSet pages q
-set_unmarked [] F q e = (e, record { same = λ g. refl })
-set_unmarked (one ∷ rest) F q e =
-    let later = set_unmarked rest (with_frame one.0 one.1 F) q e in
-    elim (q == one.0) as (λ b. (q == one.0) ≡ b → imaged_in (cond b (Some (record { page = one.1; imaged = true })) (F q)) ≡ false → (imaged_in (F q) ≡ false) × NotSet (one ∷ rest) q) [
-      | true ↦ λ here no. cc no
-      | false ↦ λ off no. (no, record { same = λ g. later.1.same (λ r. cond (r == one.0) (Some one.1) (g r)) ∙ ap (λ (b : Bool). cond b (Some one.1) (g q)) off })
-    ] refl later.0
-
-was_unmarked : (o : Option Frame) → imaged_in (as_imaged o) ≡ false → imaged_in o ≡ false
-was_unmarked None e = refl
-was_unmarked (Some frame) e = cc e
-
-mark_unmarked : (ids : List ℕ) (F : ℕ → Option Frame) (q : ℕ) → imaged_in (mark_frames ids F q) ≡ false → imaged_in (F q) ≡ false
-mark_unmarked [] F q e = e
-mark_unmarked (id ∷ rest) F q e =
-    elim (q == id) as (λ b. imaged_in (cond b (as_imaged (F q)) (F q)) ≡ false → imaged_in (F q) ≡ false) [ true ↦ was_unmarked (F q) | false ↦ λ e. e ]
-    (mark_unmarked rest (with_mark id F) q e)
+use Rattle.hb_store.proofs.Grouped.{all_needed}
+use Rattle.hb_store.proofs.Setting.{all_set, among_all, has_all, none_set, or_either, or_none, set_both, set_not, set_some}
+use Rattle.hb_store.proofs.Imaging.{imaged_all, read_page}
 
 -- ---- operations on the same pages
 
 same_change : (op : Op) (m n : Meta) (a a' b b' c c' : Option LivePage) → m ≡ n → a ≡ a' → b ≡ b' → c ≡ c' → change_of op m a b c ≡ change_of op n a' b' c'
-same_change op m n a a' b b' c c' em ea eb ec =
-    ap (λ (x : Meta). change_of op x a b c) em ∙ ap (λ (x : Option LivePage). change_of op n x b c) ea
-    ∙ ap (λ (x : Option LivePage). change_of op n a' x c) eb ∙ ap (λ (x : Option LivePage). change_of op n a' b' x) ec
+same_change op m n a a' b b' c c' em ea eb ec = λ i. change_of op (em i) (ea i) (eb i) (ec i)
 
 same_allowed : (op : Op) (m n : Meta) (a a' b b' c c' : Option LivePage) → m ≡ n → a ≡ a' → b ≡ b' → c ≡ c' → IsAllowedOn op m a b c → IsAllowedOn op n a' b' c'
 same_allowed op m n a a' b b' c c' em ea eb ec h =
@@ -91,144 +49,172 @@ same_allowed op m n a a' b b' c c' em ea eb ec h =
     (subst (λ (x : Option LivePage). IsAllowedOn op n x b c) ea
     (subst (λ (x : Meta). IsAllowedOn op x a b c) em h)))
 
+-- a log that lies and is written as another has the same on the disk
+same_log : (d : DiskModel) (old new : LogState) (payloads : List (List ℕ)) → new.area ≡ old.area → new.len ≡ old.len → new.written ≡ old.written → HasLog d old payloads → HasLog d new payloads
+same_log d old new payloads area len written has =
+    let Q : LogState → Type 0 = λ l. HasLog d l payloads in
+    let moved : LogState = record { area = old.area; len = old.len; written = old.written; groups = new.groups } in
+    let same : moved ≡ new = λ i. record { area = sym area i; len = sym len i; written = sym written i; groups = new.groups } in
+    subst Q same
+    (record { synced = has.synced; payloads_fit = has.payloads_fit; count = has.count; reads = has.reads })
+
 -- ---- the store after a commit
 
-abbrev pub with_group : LogState → List ℕ → ℕ → LogState
-with_group log bytes mark = record { area = log.area; len = log.len; written = log.written; groups = log.groups ++ record { bytes = bytes; mark = mark } ∷ [] }
+-- what was changed, set and let wait is what a commit makes
+pub commits_here : (op : Op) (mark : ℕ) (st new : StoreState) (change : Change) (bytes : List ℕ) → change ≡ change_here st op → new.turn ≡ st.turn → new.stopped ≡ st.stopped → new.meta ≡ change.meta
+    → ((id : ℕ) → in_memory new id ≡ set_pages change.pages (in_memory st) id)
+    → ((id : ℕ) → is_imaged new id ≡ (has_page id change.pages || (is_among id (reads_of op) || is_imaged st id)))
+    → new.log ≡ record { area = st.log.area; len = st.log.len; written = st.log.written; groups = st.log.groups ++ record { bytes = bytes; mark = mark } ∷ [] }
+    → Commits op mark st new
+commits_here op mark st new change bytes is turn stopped meta pages imaged log = record {
+  turn = turn;
+  stopped = stopped;
+  meta = meta ∙ ap (λ (c : Change). c.meta) is;
+  pages = λ id. pages id ∙ ap (λ (c : Change). set_pages c.pages (in_memory st) id) is;
+  imaged = λ id. imaged id ∙ ap (λ (c : Change). has_page id c.pages || (is_among id (reads_of op) || is_imaged st id)) is;
+  area = ap (λ (l : LogState). l.area) log;
+  len = ap (λ (l : LogState). l.len) log;
+  written = ap (λ (l : LogState). l.written) log;
+  group = bytes;
+  groups = ap (λ (l : LogState). l.groups) log;
+}
 
-module _ (turn : ℕ) (meta : Meta) (log : LogState) (F : ℕ → Option Frame) (stopped : Bool) (size : ℕ) (store : IsStore size (seen turn meta log F stopped))
-    (op : Op) (change : Change) (well : ChangesWell turn meta change) (log' : LogState) (bytes : List ℕ) (mark : ℕ) (log_is : log' ≡ with_group log bytes mark)
-    (F' : ℕ → Option Frame) (F'_is : (q : ℕ) → F' q ≡ frames_after (reads_of op) change.pages F q) where
-  frame : ℕ → Option Page
-  frame = λ id. page_in (F id)
+module _ (st new : StoreState) (op : Op) (mark : ℕ) (well : MakesWell op st) (allowed : IsAllowedHere st op) (commits : Commits op mark st new) where
+  abbrev change : Change
+  change = change_here st op
 
-  frame_after : (q : ℕ) → page_in (F' q) ≡ set_pages change.pages (λ id. page_in (F id)) q
-  frame_after q = ap page_in (F'_is q) ∙ page_in-after (reads_of op) change.pages F q
+  log_same : new.meta.log ≡ st.meta.log
+  log_same = ap (λ (m : Meta). m.log) commits.meta ∙ well.change.layout.log
 
-  pub store_after : IsStore size (seen turn change.meta log' F' stopped)
-  store_after = record {
-    holds = well.holds size store.holds;
-    area = ap (λ (l : LogState). l.area) log_is ∙ store.area ∙ sym (ap (λ (n : ℕ). 8192 + (turn % 2) * n) well.layout.log);
-    len = ap (λ (l : LogState). l.len) log_is ∙ store.len ∙ sym well.layout.log;
-    frames_in = λ id page e.
+  rises : st.meta.high ≤ new.meta.high
+  rises = subst (λ (m : Meta). st.meta.high ≤ m.high) (sym commits.meta) well.change.high
+
+  -- a page that is imaged then is one of the file
+  marked_after : (id : ℕ) → IsTrue (is_imaged new id) → (1 ≤ id) × (id ≤ new.meta.high)
+  marked_after id on =
+      let P = λ (n : ℕ). (1 ≤ n) × (n ≤ new.meta.high) in
+      let reads = reads_numbered st well.memory op allowed in
+      elim (or_either (has_page id change.pages) (is_among id (reads_of op) || is_imaged st id) (sym (commits.imaged id) ∙ on)) [
+        | inl made ↦ has_all P change.pages id (λ k d lt. subst (λ (m : Meta). (1 ≤ (get_or change.pages k d).0) × ((get_or change.pages k d).0 ≤ m.high)) (sym commits.meta) (well.change.pages k d lt).0) made
+        | inr rest ↦ elim (or_either (is_among id (reads_of op)) (is_imaged st id) rest) [
+          | inl read ↦ among_all P (reads_of op) id (λ k d lt. let at = reads k d lt in (at.0, omega (arith, at.1, rises))) read
+          | inr before ↦ let at = well.memory.marked id before in (at.0, omega (arith, at.1, rises))
+        ]
+      ]
+
+  pub memory_after : IsMemory new
+  memory_after = record {
+    stands = subst (λ (n : ℕ). IsStanding n new.meta) (sym commits.turn) (subst (λ (m : Meta). IsStanding st.turn m) (sym commits.meta) (well.change.stands well.memory.stands));
+    area = commits.area ∙ well.memory.area ∙ (λ i. 8192 + (sym commits.turn i % 2) * sym log_same i);
+    len = commits.len ∙ well.memory.len ∙ sym log_same;
+    good = λ id page e.
         let P = λ (n : ℕ) (p : Page). (1 ≤ n) × (n ≤ change.meta.high) × IsGoodPage change.meta p in
-        all_set P change.pages (λ n. page_in (F n))
-        (λ k d lt. let c = well.pages k d lt in (c.0.0, c.0.1, c.1))
-        (λ n p is. let old = store.frames_in n p is in (old.0, omega (arith, old.1, well.high), well.others p old.2))
-        id page (sym (frame_after id) ∙ e);
-  }
-
-  pub commits_here : change ≡ change_here (seen turn meta log F stopped) op → Commits op mark (seen turn meta log F stopped) (seen turn change.meta log' F' stopped)
-  commits_here is = record {
-    turn = refl;
-    stopped = refl;
-    meta = ap (λ (c : Change). c.meta) is;
-    frame = λ id. frame_after id ∙ ap (λ (c : Change). set_pages c.pages (λ q. page_in (F q)) id) is;
-    area = ap (λ (l : LogState). l.area) log_is;
-    len = ap (λ (l : LogState). l.len) log_is;
-    written = ap (λ (l : LogState). l.written) log_is;
-    group = bytes;
-    groups = ap (λ (l : LogState). l.groups) log_is;
+        subst (λ (m : Meta). (1 ≤ id) × (id ≤ m.high) × IsGoodPage m page) (sym commits.meta)
+        (all_set P change.pages (in_memory st)
+        (λ k d lt. let c = well.change.pages k d lt in (c.0.0, c.0.1, c.1))
+        (λ n p is. let old = well.memory.good n p is in (old.0, omega (arith, old.1, well.change.high), well.change.others p old.2))
+        id page (sym (commits.pages id) ∙ e));
+    marked = marked_after;
   }
 
   -- ---- what it keeps of the disk
 
-  module _ (d : DiskModel) (disk : IsDisk d) (durable : FileState) (later : List FileState) (going : stopped ≡ false) (keeps : StoreKeeps d (seen turn meta log F stopped) durable later)
-      (is : change ≡ change_here (seen turn meta log F stopped) op) (allowed : IsAllowedHere (seen turn meta log F stopped) op) (licensed : IsLicensed (last_of durable later) op)
-      (fits : FitsGroup meta.k (record { images = due F (reads_of op); op = op })) (bytes_are : bytes ≡ group_bytes (record { images = due F (reads_of op); op = op })) where
-    st : StoreState
-    st = seen turn meta log F stopped
+  module _ (d : DiskModel) (disk : IsDisk d) (durable : FileState) (later : List FileState) (going : st.stopped ≡ false) (keeps : StoreKeeps d st durable later) (licensed : IsLicensed (last_of durable later) op)
+      (waits : new.log.groups ≡ st.log.groups ++ record { bytes = group_bytes (group_here st op); mark = mark } ∷ []) where
+    abbrev p : Parts
+    p = keeps.parts
 
     abbrev s : FileState
     s = last_of durable later
 
     abbrev logged : Logged
-    logged = record { images = due F (reads_of op); op = op }
+    logged = group_here st op
 
     -- the touched pages so far
     abbrev t : Replayed
-    t = replay (replay (untouched keeps.said) keeps.written) keeps.waiting
+    t = replay (written_pages p) p.waiting
 
     told : (b : List ℕ) × (d.told ≡ Some b)
-    told = some_of d.told keeps.told
-      where
-        some_of : (o : Option (List ℕ)) → IsSome o → (b : List ℕ) × (o ≡ Some b)
-        some_of None h = cc h
-        some_of (Some b) h = (b, refl)
+    told = some_value d.told keeps.disk.told
 
-    shows : Shows told.0 keeps.said t s
-    shows =
-        Shows-leads told.0 keeps.said (replay (untouched keeps.said) keeps.written) durable keeps.waiting later
-        (StoreKeeps-by d (seen turn meta log F stopped) durable later keeps going told.0 (disk.as_read told.0 told.1)).shows keeps.leads
+    shows : Shows told.0 p.said t s
+    shows = Shows-leads told.0 p.said (written_pages p) durable p.waiting later (StoreKeeps-by d st durable later keeps going told.0 (disk.as_read told.0 told.1)).shows keeps.waits.leads
 
-    marks : Marks F t.page
-    marks q = subst (λ (r : Replayed). Tells (F q) (r.page q)) (replay-append (untouched keeps.said) keeps.written keeps.waiting) (keeps.touched q)
+    marks : (q : ℕ) → is_imaged st q ≡ is_some (t.page q)
+    marks q = keeps.imaged.touched q ∙ ap (λ (r : Replayed). is_some (r.page q)) (replay-append (untouched p.said) p.written p.waiting)
 
-    agree_at : (q : ℕ) (o : Option Frame) (touched : Option Page) → Tells o touched → ((page : Page) → page_in o ≡ Some page → page_of s q ≡ Some page)
-        → ((page : Page) → page_of s q ≡ Some page → IsPageIn told.0 keeps.said q touched page) → Agrees o touched
-    agree_at q None None tells framed in_file = refl
-    agree_at q None (Some page) tells framed in_file = cc (tells.1 refl)
-    agree_at q (Some frame) None tells framed in_file = λ e. cc (tells.0 e)
-    agree_at q (Some frame) (Some page) tells framed in_file = λ e. ap (λ (p : Page). Some p) (in_file frame.page (framed frame.page refl))
+    agree_at : (q : ℕ) (page : Page) (touched : Option Page) → IsTrue (is_some touched) → IsPageIn told.0 p.said q touched page → touched ≡ Some page
+    agree_at q page None some is = cc some
+    agree_at q page (Some other) some is = ap (λ (o : Page). Some o) is
 
-    agree : (q : ℕ) → Agrees (F q) (t.page q)
-    agree q = agree_at q (F q) (t.page q) (marks q) (keeps.framed q) (shows.each q)
+    -- an imaged page is touched as it is in memory
+    agree : (q : ℕ) (page : Page) → in_memory st q ≡ Some page → IsTrue (is_imaged st q) → t.page q ≡ Some page
+    agree q page is on = agree_at q page (t.page q) (sym (marks q) ∙ on) (shows.each q page (keeps.memory.cached q page is))
 
-    none_at_zero : (o : Option Frame) → ((page : Page) → page_in o ≡ Some page → 1 ≤ 0) → o ≡ None
+    none_at_zero : (o : Option Page) → ((page : Page) → o ≡ Some page → 1 ≤ 0) → o ≡ None
     none_at_zero None h = refl
-    none_at_zero (Some frame) h = absurd (omega (arith, h frame.page refl))
+    none_at_zero (Some page) h = absurd (omega (arith, h page refl))
 
-    no_frame : F 0 ≡ None
-    no_frame = none_at_zero (F 0) (λ page e. (store.frames_in 0 page e).0)
+    no_page : in_memory st 0 ≡ None
+    no_page = none_at_zero (in_memory st 0) (λ page e. (well.memory.good 0 page e).0)
 
-    -- what the operation reads is the same in frames, among the touched pages, and in the file
-    read_touched : (place : ℕ) → framed_read (seen turn meta log F stopped) op place ≡ touched_read (with_images t logged) op place
-    read_touched place = ap if_live (sym (read_page F (reads_of op) place t.page no_frame agree))
+    none_touched : (o : Option Page) → is_some o ≡ false → o ≡ None
+    none_touched None e = refl
+    none_touched (Some page) e = cc e
+
+    untouched_zero : t.page 0 ≡ None
+    untouched_zero = elim (cases_Bool (is_imaged st 0)) [
+      | inl on ↦ absurd (omega (arith, (well.memory.marked 0 on).0))
+      | inr off ↦ none_touched (t.page 0) (sym (marks 0) ∙ off)
+    ]
+
+    reads : All (λ id. IsSome (in_memory st id)) (reads_of op)
+    reads = reads_some op st.meta (in_memory st) (read_here st op 1) (read_here st op 2) allowed
+
+    -- what the operation reads is the same in memory, among the touched pages, and in the file
+    read_touched : (place : ℕ) → read_here st op place ≡ touched_read (with_images t logged) op place
+    read_touched place = ap if_live (sym (read_page (in_memory st) (is_imaged st) (reads_of op) place t.page no_page untouched_zero agree reads))
 
     in_file_at : (q : ℕ) (o : Option Page) → IsSome o → ((page : Page) → o ≡ Some page → page_of s q ≡ Some page) → o ≡ page_of s q
-    in_file_at q None h framed = cc h
-    in_file_at q (Some page) h framed = sym (framed page refl)
+    in_file_at q None h cached = cc h
+    in_file_at q (Some page) h cached = sym (cached page refl)
 
-    read_file : (place : ℕ) → framed_read (seen turn meta log F stopped) op place ≡ nth_read s op place
+    read_file : (place : ℕ) → read_here st op place ≡ nth_read s op place
     read_file place = elim (cases_lt place (length (reads_of op))) [
-      | inl lt ↦
-          let there = reads_some op meta (λ id. page_in (F id)) (framed_read (seen turn meta log F stopped) op 1) (framed_read (seen turn meta log F stopped) op 2) allowed place 0 lt in
-          let q = get_or (reads_of op) place 0 in
-          ap if_live (in_file_at q (page_in (F q)) there (keeps.framed q))
+      | inl lt ↦ let q = get_or (reads_of op) place 0 in ap if_live (in_file_at q (in_memory st q) (reads place 0 lt) (keeps.memory.cached q))
       | inr le ↦
           let past : get_or (reads_of op) place 0 ≡ 0 = get_or_past (reads_of op) place 0 le in
-          subst (λ (n : ℕ). if_live (page_in (F n)) ≡ if_live (page_of s n)) (sym past)
-          (ap (λ (o : Option Frame). if_live (page_in o)) no_frame ∙ ap if_live (sym (page_at-zero s.pages)))
+          subst (λ (n : ℕ). if_live (in_memory st n) ≡ if_live (page_of s n)) (sym past) (ap if_live no_page ∙ ap if_live (sym (page_at-zero s.pages)))
     ]
       where
         page_at-zero : (pages : List Page) → page_at pages 0 ≡ None
         page_at-zero [] = refl
         page_at-zero (page ∷ rest) = refl
 
-    meta_file : meta ≡ s.meta
-    meta_file = sym keeps.meta_is
+    meta_file : st.meta ≡ s.meta
+    meta_file = sym keeps.memory.meta_is
 
-    meta_touched : meta ≡ t.meta
+    meta_touched : st.meta ≡ t.meta
     meta_touched = meta_file ∙ shows.meta
 
     allowed_file : IsAllowed s op
-    allowed_file = same_allowed op meta s.meta _ _ _ _ _ _ meta_file (read_file 0) (read_file 1) (read_file 2) allowed
+    allowed_file = same_allowed op st.meta s.meta _ _ _ _ _ _ meta_file (read_file 0) (read_file 1) (read_file 2) allowed
 
     change_file : change ≡ change_of op s.meta (nth_read s op 0) (nth_read s op 1) (nth_read s op 2)
-    change_file = is ∙ same_change op meta s.meta _ _ _ _ _ _ meta_file (read_file 0) (read_file 1) (read_file 2)
+    change_file = same_change op st.meta s.meta _ _ _ _ _ _ meta_file (read_file 0) (read_file 1) (read_file 2)
 
     change_touched : change ≡ change_in (with_images t logged) op
-    change_touched = is ∙ same_change op meta t.meta _ _ _ _ _ _ meta_touched (read_touched 0) (read_touched 1) (read_touched 2)
+    change_touched = same_change op st.meta t.meta _ _ _ _ _ _ meta_touched (read_touched 0) (read_touched 1) (read_touched 2)
 
     may : MayFollow t logged
     may = record {
-      images = all_due F (λ i. (1 ≤ i.0) × (i.0 ≤ t.meta.high)) (reads_of op)
-          (λ k e lt page there. let h = store.frames_in (get_or (reads_of op) k e) page there in (h.0, subst (λ (m : Meta). get_or (reads_of op) k e ≤ m.high) meta_touched h.1));
-      allowed = same_allowed op meta t.meta _ _ _ _ _ _ meta_touched (read_touched 0) (read_touched 1) (read_touched 2) allowed;
+      images = all_needed (in_memory st) (is_imaged st) (λ i. (1 ≤ i.0) × (i.0 ≤ t.meta.high)) (reads_of op)
+          (λ k e lt page there. let h = well.memory.good (get_or (reads_of op) k e) page there in (h.0, subst (λ (m : Meta). get_or (reads_of op) k e ≤ m.high) meta_touched h.1));
+      allowed = same_allowed op st.meta t.meta _ _ _ _ _ _ meta_touched (read_touched 0) (read_touched 1) (read_touched 2) allowed;
     }
 
     are : AreImagesOf s logged.images
-    are = all_due F (λ i. page_of s i.0 ≡ Some i.1) (reads_of op) (λ k e lt page there. keeps.framed (get_or (reads_of op) k e) page there)
+    are = all_needed (in_memory st) (is_imaged st) (λ i. page_of s i.0 ≡ Some i.1) (reads_of op) (λ k e lt page there. keeps.memory.cached (get_or (reads_of op) k e) page there)
 
     -- the file after the operation
     abbrev n : FileState
@@ -239,77 +225,91 @@ module _ (turn : ℕ) (meta : Meta) (log : LogState) (F : ℕ → Option Frame) 
 
     reach : All (Reaches (length s.pages)) change.pages
     reach k e lt =
-        let one = well.pages k e lt in
-        let high : length s.pages ≡ meta.high = shows.count ∙ sym (ap (λ (m : Meta). m.high) meta_touched) in
-        (one.0.0, omega (arith, one.0.1, well.next, high))
+        let one = well.change.pages k e lt in
+        let high : length s.pages ≡ st.meta.high = shows.count ∙ sym (ap (λ (m : Meta). m.high) meta_touched) in
+        (one.0.0, omega (arith, one.0.1, well.change.next, high))
 
-    page_after : (q : ℕ) → page_of n q ≡ set_pages change.pages (page_of s) q
-    page_after q = ap (λ (c : Change). page_at (with_pages c.pages s.pages) q) (sym change_file) ∙ pages_set change.pages s.pages reach q
+    page_after : (q : ℕ) → page_of (last_of durable (later ++ n ∷ [])) q ≡ set_pages change.pages (page_of s) q
+    page_after q =
+        ap (λ (f : FileState). page_of f q) last ∙ ap (λ (c : Change). page_at (with_changed_pages c.pages s.pages) q) (sym change_file) ∙ pages_set change.pages s.pages reach q
 
-    -- the touched pages are marked
-    touched_after : (q : ℕ) → Tells (F' q) ((replay (untouched keeps.said) (keeps.written ++ (keeps.waiting ++ logged ∷ []))).page q)
-    touched_after q =
-        let whole : replay (untouched keeps.said) (keeps.written ++ (keeps.waiting ++ logged ∷ [])) ≡ after_group t logged =
-        replay-append (untouched keeps.said) keeps.written (keeps.waiting ++ logged ∷ []) ∙ replay-append (replay (untouched keeps.said) keeps.written) keeps.waiting (logged ∷ []) in
-        subst (λ (r : Replayed). Tells (F' q) (r.page q)) (sym whole)
-        (subst (λ (c : Change). Tells (F' q) (set_pages c.pages (set_pages (due F (reads_of op)) t.page) q)) change_touched
-        (subst (λ (o : Option Frame). Tells o (set_pages change.pages (set_pages (due F (reads_of op)) t.page) q)) (sym (F'_is q))
-        (marks_after (reads_of op) change.pages F t.page marks q)))
+    abbrev grown : Parts
+    grown = record { said = p.said; payloads = p.payloads; written = p.written; waiting = p.waiting ++ logged ∷ [] }
 
-    unmarked : (q : ℕ) → imaged_in (F' q) ≡ false → (imaged_in (F q) ≡ false) × NotSet change.pages q
-    unmarked q e =
-        let set = set_unmarked change.pages (mark_frames (reads_of op) F) q (ap imaged_in (sym (F'_is q)) ∙ e) in
-        (mark_unmarked (reads_of op) F q set.0, set.1)
+    -- ---- the four records
 
-    running_after : stopped ≡ false → IsRunning d (seen turn change.meta log' F' stopped) keeps.payloads
-    running_after e =
-        let run = keeps.running e in
-        record {
-          places = run.places;
-          logged = let Q : LogState → Type 0 = λ l. HasLog d l keeps.payloads in subst Q (sym log_is)
-              (record { synced = run.logged.synced; payloads_fit = run.logged.payloads_fit; count = run.logged.count; reads = run.logged.reads });
-        }
+    stays_durable : IsDurable d new.turn new.log new.stopped grown durable (with_op durable later op)
+    stays_durable = subst (λ (n : ℕ). IsDurable d n new.log new.stopped grown durable (with_op durable later op)) (sym commits.turn) (record {
+      told = keeps.disk.told;
+      count = keeps.disk.count ∙ sym commits.written;
+      images = λ c image. inl (StoreKeeps-by d st durable later keeps going c image);
+      shows = keeps.disk.shows;
+      running = λ _. let run = keeps.disk.running going in record { places = run.places; logged = same_log d st.log new.log p.payloads commits.area commits.len commits.written run.logged };
+      kept = (keeps.disk.kept.0, subst (λ (m : ℕ). IsSynced d m new.log.written) (sym commits.area) (subst (λ (m : ℕ). IsSynced d st.log.area m) (sym commits.written) keeps.disk.kept.1));
+    })
 
-    spelled_after : map (λ w. w.bytes) log'.groups ≡ map group_bytes (keeps.waiting ++ logged ∷ [])
-    spelled_after =
-        ap (λ (l : LogState). map (λ (w : Waiting). w.bytes) l.groups) log_is
-        ∙ map-append (λ (w : Waiting). w.bytes) log.groups (record { bytes = bytes; mark = mark } ∷ [])
-        ∙ ap (λ (l : List (List ℕ)). l ++ bytes ∷ []) keeps.spelled
-        ∙ ap (λ (b : List ℕ). map group_bytes keeps.waiting ++ b ∷ []) bytes_are
-        ∙ sym (map-append group_bytes keeps.waiting (logged ∷ []))
-
-    pub keeps_after : StoreKeeps d (seen turn change.meta log' F' stopped) durable (with_op durable later op)
-    keeps_after = record {
-      said = keeps.said;
-      payloads = keeps.payloads;
-      written = keeps.written;
-      waiting = keeps.waiting ++ logged ∷ [];
-      told = keeps.told;
-      layout = record {
-        k = well.layout.k ∙ keeps.layout.k;
-        pages = well.layout.pages ∙ keeps.layout.pages;
-        log = well.layout.log ∙ keeps.layout.log;
-        dcap = well.layout.dcap ∙ keeps.layout.dcap;
-        icap = well.layout.icap ∙ keeps.layout.icap;
-      };
-      count = keeps.count ∙ sym (ap (λ (l : LogState). l.written) log_is);
-      images = λ c image. inl (StoreKeeps-by d (seen turn meta log F stopped) durable later keeps going c image);
-      shows = keeps.shows;
-      running = running_after;
-      kept = (keeps.kept.0, let Q : LogState → Type 0 = λ l. IsSynced d l.area l.written in subst Q (sym log_is) keeps.kept.1);
-      spelled = spelled_after;
+    waits_more : IsWaiting new.log.groups grown durable (with_op durable later op)
+    waits_more = record {
+      spelled =
+          ap (λ (l : List Waiting). map (λ (w : Waiting). w.bytes) l) waits
+          ∙ map-append (λ (w : Waiting). w.bytes) st.log.groups (record { bytes = group_bytes logged; mark = mark } ∷ [])
+          ∙ ap (λ (l : List (List ℕ)). l ++ group_bytes logged ∷ []) keeps.waits.spelled
+          ∙ sym (map-append group_bytes p.waiting (logged ∷ []));
       fits =
-          let k_is : meta.k ≡ keeps.said.k = keeps.layout.k in
-          All-append (FitsGroup keeps.said.k) keeps.waiting (logged ∷ []) keeps.fits
-          (All-cons (FitsGroup keeps.said.k) logged [] (subst (λ (k : ℕ). FitsGroup k logged) k_is fits) (All-nil (FitsGroup keeps.said.k)));
-      leads = Leads-append (replay (untouched keeps.said) keeps.written) durable keeps.waiting later logged keeps.leads may are allowed_file licensed;
+          All-append (FitsGroup p.said.k) p.waiting (logged ∷ []) keeps.waits.fits
+          (All-cons (FitsGroup p.said.k) logged [] (subst (λ (k : ℕ). FitsGroup k logged) keeps.memory.layout.k well.group) (All-nil (FitsGroup p.said.k)));
+      leads = Leads-append (written_pages p) durable p.waiting later logged keeps.waits.leads may are allowed_file licensed;
+    }
+
+    whole : all_pages grown ≡ after_group t logged
+    whole = replay-append (untouched p.said) p.written (p.waiting ++ logged ∷ []) ∙ replay-append (written_pages p) p.waiting (logged ∷ [])
+
+    touched_after : (id : ℕ) → is_imaged new id ≡ is_some ((all_pages grown).page id)
+    touched_after id =
+        let H = has_page id change.pages in
+        commits.imaged id
+        ∙ ap (λ (b : Bool). H || b) (sym (imaged_all (in_memory st) (is_imaged st) (reads_of op) id reads) ∙ ap (λ (b : Bool). has_page id logged.images || b) (marks id) ∙ sym (set_some logged.images t.page id))
+        ∙ sym (set_some change.pages (set_pages logged.images t.page) id)
+        ∙ ap (λ (c : Change). is_some (set_pages c.pages (set_pages logged.images t.page) id)) change_touched
+        ∙ ap (λ (r : Replayed). is_some (r.page id)) (sym whole)
+
+    imaged_more : IsImaged d (is_imaged new) grown (last_of durable (with_op durable later op))
+    imaged_more = record {
       touched = touched_after;
       synced = λ id page no e c image.
-          let before = unmarked id no in
-          keeps.synced id page before.0 (sym (before.1.same (page_of s)) ∙ sym (page_after id) ∙ ap (λ (f : FileState). page_of f id) (sym last) ∙ e) c image;
-      meta_is = ap (λ (f : FileState). f.meta) last ∙ ap (λ (c : Change). c.meta) (sym change_file);
-      framed = λ id page e. ap (λ (f : FileState). page_of f id) last ∙ page_after id ∙ set_both change.pages (λ q. page_in (F q)) (page_of s) keeps.framed id page (sym (frame_after id) ∙ e);
-      unframed = λ id page b none e is_told.
-          let before = set_none change.pages (λ q. page_in (F q)) id (sym (frame_after id) ∙ none) in
-          keeps.unframed id page b before.0 (sym (before.1.same (page_of s)) ∙ sym (page_after id) ∙ ap (λ (f : FileState). page_of f id) (sym last) ∙ e) is_told;
+          let off = or_none (has_page id change.pages) (is_among id (reads_of op) || is_imaged st id) (sym (commits.imaged id) ∙ no) in
+          keeps.imaged.synced id page (or_none (is_among id (reads_of op)) (is_imaged st id) off.1).1 (sym (set_not change.pages (page_of s) id off.0) ∙ sym (page_after id) ∙ e) c image;
     }
+
+    in_memory_then : IsInMemory d new.meta (in_memory new) grown (last_of durable (with_op durable later op))
+    in_memory_then = record {
+      layout =
+          let was = keeps.memory.layout in
+          let is = well.change.layout in
+          subst (λ (m : Meta). IsSameLayout p.said m) (sym commits.meta)
+          (record { k = is.k ∙ was.k; pages = is.pages ∙ was.pages; log = is.log ∙ was.log; dcap = is.dcap ∙ was.dcap; icap = is.icap ∙ was.icap });
+      meta_is = ap (λ (f : FileState). f.meta) last ∙ ap (λ (c : Change). c.meta) (sym change_file) ∙ sym commits.meta;
+      cached = λ id page e. page_after id ∙ set_both change.pages (in_memory st) (page_of s) keeps.memory.cached id page (sym (commits.pages id) ∙ e);
+      placed = λ id page b none e is_told.
+          let before = none_set change.pages (in_memory st) id (sym (commits.pages id) ∙ none) in
+          keeps.memory.placed id page b before.0 (sym (set_not change.pages (page_of s) id before.1) ∙ sym (page_after id) ∙ e) is_told;
+    }
+
+    pub keeps_after : StoreKeeps d new durable (with_op durable later op)
+    keeps_after = record { parts = grown; disk = stays_durable; waits = waits_more; imaged = imaged_more; memory = in_memory_then }
+
+-- ---- where the commit is Ok, and where it isn't
+
+pub room_made : {E : Type 0} (result : Result (Unit {0}) E) (size : ℕ) (st new : StoreState) (op : Op) (mark : ℕ) → file_size st.meta ≤ size
+    → OnOk result (Commits op mark st new) → OnOk result (MakesWell op st) → OnErr result (new ≡ st) → file_size new.meta ≤ size
+room_made (Ok x) size st new op mark room commits well kept =
+    subst (λ (n : ℕ). n ≤ size) (sym (ap (λ (m : Meta). file_size m) commits.meta ∙ same_size st.meta (change_here st op).meta well.change.layout)) room
+room_made (Err e) size st new op mark room commits well kept = subst (λ (s : StoreState). file_size s.meta ≤ size) (sym kept) room
+
+pub keeps_made : {E : Type 0} (result : Result (Unit {0}) E) (d : DiskModel) → IsDisk d → (st new : StoreState) (durable : FileState) (later : List FileState) (op : Op) (mark : ℕ) → st.stopped ≡ false → StoreKeeps d st durable later
+    → IsAllowedHere st op → IsLicensed (last_of durable later) op → OnOk result (Commits op mark st new)
+    → OnOk result (new.log.groups ≡ st.log.groups ++ record { bytes = group_bytes (group_here st op); mark = mark } ∷ []) → OnOk result (MakesWell op st)
+    → OnOk result (StoreKeeps d new durable (with_op durable later op))
+keeps_made (Ok x) d disk st new durable later op mark going keeps allowed licensed commits waits well =
+    keeps_after st new op mark well allowed commits d disk durable later going keeps licensed waits
+keeps_made (Err e) d disk st new durable later op mark going keeps allowed licensed commits waits well = tt

@@ -1,14 +1,13 @@
--- A page that a fetch brings into a frame is the file's.
-use Rattle.std.proofs.Common.{◌≡◌, ◌≢◌, inl, inr, ℕ, ◌+◌, ◌-◌, ◌*◌, ◌≤◌, ◌++◌, Bool, true, false, cond, eqb, List, length, take, drop, Option, Some, None, Result, Ok, Err, refl, sym, ap, subst, ◌∙◌, arith}
-use Rattle.std.specs.Prelude.{replicate, IfOk, IfErr, IfSome, IsSome, OnOk, OnErr}
+-- A page that a fetch brings into memory is the file's.
+use Rattle.std.proofs.Common.{◌≡◌, ◌≢◌, inl, inr, ℕ, ◌+◌, ◌-◌, ◌*◌, ◌≤◌, ◌++◌, true, false, cond, eqb, List, length, take, drop, Option, Some, None, Result, Ok, Err, refl, sym, ap, subst, ◌∙◌, arith}
+use Rattle.std.specs.Prelude.{replicate, IfOk, IfErr, IfSome, IsSome, MatchOption}
 use Rattle.std.specs.Option.{is_some}
-use Rattle.std.specs.Ordering.{nat_cmp}
-use Rattle.std.specs.BTreeMap.{BTreeMap, get}
+use denote.Bor.{Bor}
 use Rattle.std.proofs.lemmas.Bool.{eqb-true, eq-eqb, ne_eqb}
 use Rattle.hb_space.specs.declared.form.TheConstants.{PAGE}
 use Rattle.hb_disk.specs.Model.{DiskModel, IsDisk, Stays}
 use Rattle.hb_disk.specs.Calls.{IsSynced, Reads}
-use Rattle.hb_disk.specs.RunLaws.{some_value}
+use Rattle.hb_disk.specs.ValueLaws.{some_value}
 use Rattle.hb_frag.specs.declared.pages.LivePage.{LivePage}
 use Rattle.hb_frag.specs.declared.pages.Page.{Page}
 use Rattle.hb_frag.specs.declared.pages.Page.TheVariants.{Live}
@@ -18,21 +17,20 @@ use Rattle.hb_ops.specs.Files.{FileState, if_live, page_of}
 use Rattle.hb_ops.specs.LocalRule.{BreaksFirst}
 use Rattle.hb_ops.specs.Sound.{FitsFile, IsSound}
 use Rattle.hb_wal.specs.Frames.{frames, range}
-use Rattle.hb_wal.specs.Log.{LogState}
 use Rattle.hb_store.proofs.Spellings.{SpelledOnce}
 use Rattle.hb_layout.specs.Offsets.{page_offset}
 use Rattle.hb_store.specs.Opening.{place_bytes}
-use Rattle.hb_store.specs.Keeps.{IsGoodPage, IsStore, StoreKeeps, StoreState, last_of}
-use Rattle.hb_store.specs.Frames.{page_in, imaged_in, state_of}
+use Rattle.hb_store.specs.States.{IsGoodPage, IsMemory, StoreState, in_memory}
+use Rattle.hb_store.specs.Keeps.{StoreKeeps, last_of}
 use Rattle.hb_store.specs.Calls.{Fetched}
 use Rattle.hb_store.specs.Stops.{IsDamagedBy, IsNoPage}
-use Rattle.hb_store.specs.Fetching.{HasPut, HoldsNot, SameFrames, with_frame}
-use Rattle.hb_store.specs.declared.frames.Frame.{Frame}
+use Rattle.hb_store.specs.Fetching.{HoldsNot, with_held}
 use Rattle.hb_store.specs.declared.stops.FetchStop.{FetchStop}
 use Rattle.hb_store.specs.declared.stops.FetchStop.TheVariants as fetches
 use Rattle.hb_store.specs.declared.stops.Why.TheVariants.{Rule, Level, Extent}
 use Rattle.hb_store.proofs.Counted.{store_count}
 use Rattle.hb_store.proofs.Counting.{page_there}
+use Rattle.hb_store.proofs.Held.{get_put}
 
 -- ---- what was read
 
@@ -40,9 +38,9 @@ pub placed_read : (d : DiskModel) (at : ℕ) (into : List ℕ) (meta : Meta) (id
 placed_read d at into meta id reads long place =
     subst (λ n. IfSome d.told (λ b. into ≡ take n (drop (page_offset meta id) b))) long (subst (λ p. IfSome d.told (λ b. into ≡ take (length into) (drop p b))) place reads)
 
-pub no_page_in : (o : Option Frame) → is_some o ≡ false → page_in o ≡ None
-no_page_in None e = refl
-no_page_in (Some frame) e = absurd cc
+pub no_page_in : (o : Option (Bor Page)) (page : Option Page) → MatchOption o (page ≡ None) (λ p. page ≡ Some p.now) → is_some o ≡ false → page ≡ None
+no_page_in None page e none = e
+no_page_in (Some p) page e none = absurd cc
 
 pub read_there : {E : Type 0} (result : Result Page E) (told : Option (List ℕ)) (bytes : List ℕ) (place : List ℕ → List ℕ) → IfOk result (λ page. SpellsPage bytes page) → IfSome told (λ b. bytes ≡ place b)
     → IfOk result (λ page. IfSome told (λ b. SpellsPage (place b) page))
@@ -56,64 +54,23 @@ read_not (Ok page) told bytes place meta id why read = tt
 read_not (Err stop) None bytes place meta id why read = tt
 read_not (Err stop) (Some b) bytes place meta id why read = subst (λ l. HoldsNot meta l id stop) read why
 
--- ---- a page among frames
+-- ---- a page brought into memory
 
-no_frame : (old : Option Frame) → page_in old ≡ None → imaged_in old ≡ false
-no_frame None e = refl
-no_frame (Some frame) e = absurd (some_none e)
-  where
-    some_none : {p : Page} → Some p ≡ None → ⊥
-    some_none h = absurd cc
-
-pub put_state : (turn : ℕ) (meta : Meta) (log : LogState) (stopped : Bool) (old new : BTreeMap ℕ Frame) (id : ℕ) (page : Page) → page_in (get nat_cmp old id) ≡ None → HasPut id page old new
-    → state_of turn meta log new stopped ≡ with_frame id page (state_of turn meta log old stopped)
-put_state turn meta log stopped old new id page absent put =
-    λ i. record { turn = turn; meta = meta; log = log; frame = λ q. (ap page_in (put q) ∙ framed q (eqb q id)) i; imaged = λ q. (ap imaged_in (put q) ∙ imaged q) i; stopped = stopped }
-  where
-    framed : (q : ℕ) (b : Bool) → page_in (cond b (Some (record { page = page; imaged = false })) (get nat_cmp old q)) ≡ cond b (Some page) (page_in (get nat_cmp old q))
-    framed q true = refl
-    framed q false = refl
-
-    imaged : (q : ℕ) → imaged_in (cond (eqb q id) (Some (record { page = page; imaged = false })) (get nat_cmp old q)) ≡ imaged_in (get nat_cmp old q)
-    imaged q = elim (eqb q id) as (λ b. eqb q id ≡ b → imaged_in (cond b (Some (record { page = page; imaged = false })) (get nat_cmp old q)) ≡ imaged_in (get nat_cmp old q)) [
-      | true ↦ λ here. sym (ap (λ n. imaged_in (get nat_cmp old n)) (eqb-true q id here) ∙ no_frame (get nat_cmp old id) absent)
-      | false ↦ λ _. refl
-    ] refl
-
-pub kept_state : (turn : ℕ) (meta : Meta) (log : LogState) (stopped : Bool) (old new : BTreeMap ℕ Frame) → SameFrames old new → state_of turn meta log new stopped ≡ state_of turn meta log old stopped
-kept_state turn meta log stopped old new same =
-    λ i. record { turn = turn; meta = meta; log = log; frame = λ q. page_in (same q i); imaged = λ q. imaged_in (same q i); stopped = stopped }
-
-pub store_framed : (size : ℕ) (st : StoreState) (id : ℕ) (page : Page) → IsStore size st → 1 ≤ id → id ≤ st.meta.high → IsGoodPage st.meta page → IsStore size (with_frame id page st)
-store_framed size st id page is some high good = record {
-  holds = is.holds;
+pub memory_with : (st : StoreState) (id : ℕ) (page : Page) → IsMemory st → 1 ≤ id → id ≤ st.meta.high → IsGoodPage st.meta page → IsMemory (with_held id page st)
+memory_with st id page is some high good = record {
+  stands = is.stands;
   area = is.area;
   len = is.len;
-  frames_in = λ q p e.
-      elim (eqb q id) as (λ b. eqb q id ≡ b → cond b (Some page) (st.frame q) ≡ Some p → (1 ≤ q) × (q ≤ st.meta.high) × IsGoodPage st.meta p) [
+  good = λ q p e.
+      elim (eqb q id) as (λ b. eqb q id ≡ b → cond b (Some page) (in_memory st q) ≡ Some p → (1 ≤ q) × (q ≤ st.meta.high) × IsGoodPage st.meta p) [
         | true ↦ λ here found. subst (λ n. (1 ≤ n) × (n ≤ st.meta.high) × IsGoodPage st.meta p) (sym (eqb-true q id here)) (some, high, subst (IsGoodPage st.meta) (some_is found) good)
-        | false ↦ λ _ found. is.frames_in q p found
-      ] refl e;
+        | false ↦ λ _ found. is.good q p found
+      ] refl (sym (get_put id q page st.pages) ∙ e);
+  marked = is.marked;
 }
   where
     some_is : {x y : Page} → Some x ≡ Some y → x ≡ y
     some_is h = cc
-
-pub store_after : {E : Type 0} (result : Result (Unit {0}) E) (size turn : ℕ) (meta : Meta) (log : LogState) (stopped : Bool) (old new : BTreeMap ℕ Frame) (id : ℕ) (page : Page) → IsStore size (state_of turn meta log old stopped)
-    → 1 ≤ id → id ≤ meta.high → IsGoodPage meta page → page_in (get nat_cmp old id) ≡ None → OnOk result (HasPut id page old new) → OnErr result (SameFrames old new) → IsStore size (state_of turn meta log new stopped)
-store_after (Ok x) size turn meta log stopped old new id page is some high good absent put kept =
-    subst (IsStore size) (sym (put_state turn meta log stopped old new id page absent put)) (store_framed size (state_of turn meta log old stopped) id page is some high good)
-store_after (Err e) size turn meta log stopped old new id page is some high good absent put kept = subst (IsStore size) (sym (kept_state turn meta log stopped old new kept)) is
-
-pub put_after : {E : Type 0} (result : Result (Unit {0}) E) (turn : ℕ) (meta : Meta) (log : LogState) (stopped : Bool) (old new : BTreeMap ℕ Frame) (id : ℕ) (page : Page) → page_in (get nat_cmp old id) ≡ None
-    → OnOk result (HasPut id page old new) → OnOk result (state_of turn meta log new stopped ≡ with_frame id page (state_of turn meta log old stopped))
-put_after (Ok x) turn meta log stopped old new id page absent put = put_state turn meta log stopped old new id page absent put
-put_after (Err e) turn meta log stopped old new id page absent put = tt
-
-pub kept_after : {E : Type 0} (result : Result (Unit {0}) E) (turn : ℕ) (meta : Meta) (log : LogState) (stopped : Bool) (old new : BTreeMap ℕ Frame) → OnErr result (SameFrames old new)
-    → OnErr result (state_of turn meta log new stopped ≡ state_of turn meta log old stopped)
-kept_after (Ok x) turn meta log stopped old new kept = tt
-kept_after (Err e) turn meta log stopped old new kept = kept_state turn meta log stopped old new kept
 
 -- ---- what a store keeps
 
@@ -122,33 +79,31 @@ synced_read d e at n stays s = record { each = λ b c told image. s.each b c (sy
 
 pub keeps_read : (d e : DiskModel) (st : StoreState) (durable : FileState) (later : List FileState) → Stays d e → StoreKeeps d st durable later → StoreKeeps e st durable later
 keeps_read d e st durable later stays k = record {
-  said = k.said;
-  payloads = k.payloads;
-  written = k.written;
-  waiting = k.waiting;
-  told = subst (λ (t : Option (List ℕ)). IsSome t) (sym stays.told) k.told;
-  layout = k.layout;
-  count = k.count;
-  images = λ c image. k.images c (stays.image c image);
-  shows = λ c image. k.shows c (stays.image c image);
-  running = λ r. let run = k.running r in record {
-    places = synced_read d e 0 8192 stays run.places;
-    logged = record {
-      synced = synced_read d e st.log.area st.log.len stays run.logged.synced;
-      payloads_fit = run.logged.payloads_fit;
-      count = run.logged.count;
-      reads = subst (λ (t : Option (List ℕ)). IfSome t (λ b. range st.log.area st.log.len b ≡ frames k.payloads ++ replicate (st.log.len - st.log.written) 0)) (sym stays.told) run.logged.reads;
+  parts = k.parts;
+  disk = record {
+    told = subst (λ (t : Option (List ℕ)). IsSome t) (sym stays.told) k.disk.told;
+    count = k.disk.count;
+    images = λ c image. k.disk.images c (stays.image c image);
+    shows = λ c image. k.disk.shows c (stays.image c image);
+    running = λ r. let run = k.disk.running r in record {
+      places = synced_read d e 0 8192 stays run.places;
+      logged = record {
+        synced = synced_read d e st.log.area st.log.len stays run.logged.synced;
+        payloads_fit = run.logged.payloads_fit;
+        count = run.logged.count;
+        reads = subst (λ (t : Option (List ℕ)). IfSome t (λ b. range st.log.area st.log.len b ≡ frames k.parts.payloads ++ replicate (st.log.len - st.log.written) 0)) (sym stays.told) run.logged.reads;
+      };
     };
+    kept = (synced_read d e _ PAGE stays k.disk.kept.0, synced_read d e st.log.area st.log.written stays k.disk.kept.1);
   };
-  kept = (synced_read d e _ PAGE stays k.kept.0, synced_read d e st.log.area st.log.written stays k.kept.1);
-  spelled = k.spelled;
-  fits = k.fits;
-  leads = k.leads;
-  touched = k.touched;
-  synced = λ id page none found c image. k.synced id page none found c (stays.image c image);
-  meta_is = k.meta_is;
-  framed = k.framed;
-  unframed = λ id page b none found told. k.unframed id page b none found (sym stays.told ∙ told);
+  waits = k.waits;
+  imaged = record { touched = k.imaged.touched; synced = λ id page none found c image. k.imaged.synced id page none found c (stays.image c image) };
+  memory = record {
+    layout = k.memory.layout;
+    meta_is = k.memory.meta_is;
+    cached = k.memory.cached;
+    placed = λ id page b none found told. k.memory.placed id page b none found (sym stays.told ∙ told);
+  };
 }
 
 some_is : {x y : Page} → Some x ≡ Some y → x ≡ y
@@ -157,71 +112,62 @@ some_is h = cc
 no_none : {x : Page} → Some x ≡ None → ⊥
 no_none h = absurd cc
 
-pub keeps_framed : (d : DiskModel) (st : StoreState) (durable : FileState) (later : List FileState) (id : ℕ) (page : Page) → page_of (last_of durable later) id ≡ Some page → StoreKeeps d st durable later
-    → StoreKeeps d (with_frame id page st) durable later
-keeps_framed d st durable later id page there k = record {
-  said = k.said;
-  payloads = k.payloads;
-  written = k.written;
-  waiting = k.waiting;
-  told = k.told;
-  layout = k.layout;
-  count = k.count;
-  images = k.images;
-  shows = k.shows;
-  running = λ r. record { places = (k.running r).places; logged = (k.running r).logged };
-  kept = k.kept;
-  spelled = k.spelled;
-  fits = k.fits;
-  leads = k.leads;
-  touched = k.touched;
-  synced = k.synced;
-  meta_is = k.meta_is;
-  framed = λ q p e.
-      elim (eqb q id) as (λ b. eqb q id ≡ b → cond b (Some page) (st.frame q) ≡ Some p → page_of (last_of durable later) q ≡ Some p) [
-        | true ↦ λ here found. ap (page_of (last_of durable later)) (eqb-true q id here) ∙ there ∙ found
-        | false ↦ λ _ found. k.framed q p found
-      ] refl e;
-  unframed = λ q p b e found told.
-      elim (eqb q id) as (λ t. cond t (Some page) (st.frame q) ≡ None → SpellsPage (place_bytes k.said q b) p) [
-        | true ↦ λ here. absurd (no_none here)
-        | false ↦ λ none. k.unframed q p b none found told
-      ] e;
+pub keeps_with : (d : DiskModel) (st : StoreState) (durable : FileState) (later : List FileState) (id : ℕ) (page : Page) → page_of (last_of durable later) id ≡ Some page → StoreKeeps d st durable later
+    → StoreKeeps d (with_held id page st) durable later
+keeps_with d st durable later id page there k = record {
+  parts = k.parts;
+  disk = k.disk;
+  waits = k.waits;
+  imaged = k.imaged;
+  memory = record {
+    layout = k.memory.layout;
+    meta_is = k.memory.meta_is;
+    cached = λ q p e.
+        elim (eqb q id) as (λ b. eqb q id ≡ b → cond b (Some page) (in_memory st q) ≡ Some p → page_of (last_of durable later) q ≡ Some p) [
+          | true ↦ λ here found. ap (page_of (last_of durable later)) (eqb-true q id here) ∙ there ∙ found
+          | false ↦ λ _ found. k.memory.cached q p found
+        ] refl (sym (get_put id q page st.pages) ∙ e);
+    placed = λ q p b e found told.
+        elim (eqb q id) as (λ t. cond t (Some page) (in_memory st q) ≡ None → SpellsPage (place_bytes k.parts.said q b) p) [
+          | true ↦ λ here. absurd (no_none here)
+          | false ↦ λ none. k.memory.placed q p b none found told
+        ] (sym (get_put id q page st.pages) ∙ e);
+  };
 }
 
--- the page in a place is the file's, where it is in no frame
+-- the page in a place is the file's, where it isn't in memory
 file_page : (d : DiskModel) (st : StoreState) (durable : FileState) (later : List FileState) (id : ℕ) → IsDisk d → StoreKeeps d st durable later → 1 ≤ id → id ≤ st.meta.high → (p : Page) × (page_of (last_of durable later) id ≡ Some p)
 file_page d st durable later id disk k some high =
     let count = store_count d st durable later disk k in
-    page_there (last_of durable later).pages id some (omega (arith, high, count, ap (λ (m : Meta). m.high) k.meta_is))
+    page_there (last_of durable later).pages id some (omega (arith, high, count, ap (λ (m : Meta). m.high) k.memory.meta_is))
 
 abbrev PageThere : DiskModel → StoreState → FileState → List FileState → ℕ → List ℕ → Type 0
 PageThere d st durable later id b = (p : Page) × (page_of (last_of durable later) id ≡ Some p) × SpellsPage (place_bytes st.meta id b) p
 
-pub there_in_place : (d : DiskModel) (st : StoreState) (durable : FileState) (later : List FileState) (id : ℕ) (b : List ℕ) → IsDisk d → StoreKeeps d st durable later → 1 ≤ id → id ≤ st.meta.high → st.frame id ≡ None → d.told ≡ Some b
+pub there_in_place : (d : DiskModel) (st : StoreState) (durable : FileState) (later : List FileState) (id : ℕ) (b : List ℕ) → IsDisk d → StoreKeeps d st durable later → 1 ≤ id → id ≤ st.meta.high → in_memory st id ≡ None → d.told ≡ Some b
     → PageThere d st durable later id b
 there_in_place d st durable later id b disk k some high none told =
     let p = file_page d st durable later id disk k some high in
-    (p.0, p.1, subst (λ log. SpellsPage (take PAGE (drop (8192 + 2 * log + PAGE * (id - 1)) b)) p.0) (sym k.layout.log) (k.unframed id p.0 b none p.1 told))
+    (p.0, p.1, subst (λ log. SpellsPage (take PAGE (drop (8192 + 2 * log + PAGE * (id - 1)) b)) p.0) (sym k.memory.layout.log) (k.memory.placed id p.0 b none p.1 told))
 
-pub is_the_page : SpelledOnce → (d : DiskModel) (st : StoreState) (durable : FileState) (later : List FileState) (id : ℕ) (page : Page) → IsDisk d → StoreKeeps d st durable later → 1 ≤ id → id ≤ st.meta.high → st.frame id ≡ None
+pub is_the_page : SpelledOnce → (d : DiskModel) (st : StoreState) (durable : FileState) (later : List FileState) (id : ℕ) (page : Page) → IsDisk d → StoreKeeps d st durable later → 1 ≤ id → id ≤ st.meta.high → in_memory st id ≡ None
     → IfSome d.told (λ b. SpellsPage (place_bytes st.meta id b) page) → page_of (last_of durable later) id ≡ Some page
 is_the_page once d st durable later id page disk k some high none there =
-    let b = some_value d.told k.told in
+    let b = some_value d.told k.disk.told in
     let p = there_in_place d st durable later id b.0 disk k some high none b.1 in
     let spelled : SpellsPage (place_bytes st.meta id b.0) page = subst (λ (t : Option (List ℕ)). IfSome t (λ l. SpellsPage (place_bytes st.meta id l) page)) b.1 there in
     p.1 ∙ ap Some (once (place_bytes st.meta id b.0) p.0 page p.2 spelled)
 
-pub fetched_frame : (st : StoreState) (id : ℕ) (page : Page) → st.frame id ≡ None → Fetched id st (with_frame id page st)
-fetched_frame st id page none = record {
-  rest = record { turn = refl; meta = refl; log = refl; imaged = λ q. refl; stopped = refl };
-  there = subst (λ b. IsSome (cond b (Some page) (st.frame id))) (sym (eq-eqb id id refl)) refl;
-  kept = λ q some.
-      elim (eqb q id) as (λ b. eqb q id ≡ b → cond b (Some page) (st.frame q) ≡ st.frame q) [
-        | true ↦ λ here. absurd (not_none (st.frame q) (ap st.frame (eqb-true q id here) ∙ none) some)
+pub fetched_with : (st : StoreState) (id : ℕ) (page : Page) → in_memory st id ≡ None → Fetched id st (with_held id page st)
+fetched_with st id page none = record {
+  rest = record { turn = refl; meta = refl; log = refl; imaged = refl; stopped = refl };
+  there = subst (λ (o : Option Page). IsSome o) (sym (get_put id id page st.pages ∙ ap (λ b. cond b (Some page) (in_memory st id)) (eq-eqb id id refl))) refl;
+  kept = λ q some. get_put id q page st.pages ∙
+      elim (eqb q id) as (λ b. eqb q id ≡ b → cond b (Some page) (in_memory st q) ≡ in_memory st q) [
+        | true ↦ λ here. absurd (not_none (in_memory st q) (ap (in_memory st) (eqb-true q id here) ∙ none) some)
         | false ↦ λ _. refl
       ] refl;
-  others = λ q other. ap (λ b. cond b (Some page) (st.frame q)) (ne_eqb q id other);
+  others = λ q other. get_put id q page st.pages ∙ ap (λ b. cond b (Some page) (in_memory st q)) (ne_eqb q id other);
 }
   where
     not_none : (o : Option Page) → o ≡ None → IsSome o → ⊥
@@ -253,27 +199,27 @@ not_damaged once s id rule p bytes sound there spelled damaged = elim damaged [
       fits_all rule one.1 s.meta (sound.well_made id one.1 (ap if_live same)) one.3
 ]
 
-pub sound_stop : SpelledOnce → (d : DiskModel) (st : StoreState) (durable : FileState) (later : List FileState) (id : ℕ) (stop : FetchStop) → IsDisk d → StoreKeeps d st durable later → 1 ≤ id → id ≤ st.meta.high → st.frame id ≡ None
+pub sound_stop : SpelledOnce → (d : DiskModel) (st : StoreState) (durable : FileState) (later : List FileState) (id : ℕ) (stop : FetchStop) → IsDisk d → StoreKeeps d st durable later → 1 ≤ id → id ≤ st.meta.high → in_memory st id ≡ None
     → IfSome d.told (λ b. HoldsNot st.meta (place_bytes st.meta id b) id stop) → IsSound (last_of durable later) → stop ≢ fetches.ReadFault → stop ≢ fetches.NoMemory → ⊥
 sound_stop once d st durable later id stop disk k some high none why sound fault memory =
-    let b = some_value d.told k.told in
+    let b = some_value d.told k.disk.told in
     let p = there_in_place d st durable later id b.0 disk k some high none b.1 in
     let holds : HoldsNot st.meta (place_bytes st.meta id b.0) id stop = subst (λ (t : Option (List ℕ)). IfSome t (λ l. HoldsNot st.meta (place_bytes st.meta id l) id stop)) b.1 why in
     by_stop stop holds fault memory p
   where
-    by_stop : (stop : FetchStop) → HoldsNot st.meta (place_bytes st.meta id (some_value d.told k.told).0) id stop → stop ≢ fetches.ReadFault → stop ≢ fetches.NoMemory → PageThere d st durable later id (some_value d.told k.told).0 → ⊥
+    by_stop : (stop : FetchStop) → HoldsNot st.meta (place_bytes st.meta id (some_value d.told k.disk.told).0) id stop → stop ≢ fetches.ReadFault → stop ≢ fetches.NoMemory → PageThere d st durable later id (some_value d.told k.disk.told).0 → ⊥
     by_stop (fetches.Damaged at (Rule rule)) holds fault memory p =
-        not_damaged once (last_of durable later) id rule p.0 _ sound p.1 p.2 (subst (λ m. IsDamagedBy m (place_bytes st.meta id (some_value d.told k.told).0) rule) (sym k.meta_is) holds.2)
+        not_damaged once (last_of durable later) id rule p.0 _ sound p.1 p.2 (subst (λ m. IsDamagedBy m (place_bytes st.meta id (some_value d.told k.disk.told).0) rule) (sym k.memory.meta_is) holds.2)
     by_stop (fetches.Damaged at (Level asked found)) holds fault memory p = holds
     by_stop (fetches.Damaged at (Extent asked found)) holds fault memory p = holds
     by_stop fetches.ReadFault holds fault memory p = fault refl
     by_stop fetches.NoMemory holds fault memory p = memory refl
 
--- a number that is no page's has no frame
-pub no_frame_there : (size : ℕ) (st : StoreState) (id : ℕ) → IsStore size st → IsSome (st.frame id) → IsNoPage st.meta id → ⊥
-no_frame_there size st id is framed none =
-    let page = some_value (st.frame id) framed in
-    let range = is.frames_in id page.0 page.1 in
+-- a number that is no page's has no page in memory
+pub none_there : (st : StoreState) (id : ℕ) → IsMemory st → IsSome (in_memory st id) → IsNoPage st.meta id → ⊥
+none_there st id is some none =
+    let page = some_value (in_memory st id) some in
+    let range = is.good id page.0 page.1 in
     elim none [
       | inl zero ↦ omega (arith, zero, range.0)
       | inr above ↦ omega (arith, above, range.1)

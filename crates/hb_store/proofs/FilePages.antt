@@ -5,41 +5,11 @@ use Rattle.std.proofs.lemmas.Bool.{cases_Bool, cases_lt, eq-eqb, eqb-true, eqb-f
 use Rattle.std.proofs.lemmas.List.Elements.{All-head, All-tail}
 use Rattle.hb_frag.specs.declared.pages.Page.{Page}
 use Rattle.hb_ops.specs.Files.{page_at}
-use Rattle.hb_ops.specs.Operations.{with_page, with_pages}
+use Rattle.hb_ops.specs.Operations.{with_page, with_changed_pages}
+use Rattle.hb_ops.specs.PageNumberLaws.{get-set_other, get-set_same, in_range, page_at-suc, page_at-zero, with_page-behind, with_page-there}
 use Rattle.hb_store.specs.Replay.{set_pages}
 use Rattle.hb_store.specs.ReplayLists.{set_one-same, set_one-other}
-use Rattle.hb_store.proofs.Marking.{set_pages-same}
-
--- no page has the number 0, and the page of another number stands one place before
-pub page_at-zero : (pages : List Page) → page_at pages 0 ≡ None
-page_at-zero [] = refl
-page_at-zero (page ∷ rest) = refl
-
-pub page_at-suc : (pages : List Page) (n : ℕ) → page_at pages (suc n) ≡ slice_get pages n
-page_at-suc [] n = refl
-page_at-suc (page ∷ rest) zero = refl
-page_at-suc (page ∷ rest) (suc n) =
-    ap (λ (b : Bool). cond b None (cond (suc (suc n) == 1) (Some page) (page_at rest (suc (suc n) - 1)))) (ne_eqb (suc (suc n)) 0 (λ e. omega arith))
-    ∙ ap (λ (b : Bool). cond b (Some page) (page_at rest (suc (suc n) - 1))) (ne_eqb (suc (suc n)) 1 (λ e. omega arith))
-    ∙ ap (page_at rest) (let e : suc (suc n) - 1 ≡ suc n = omega arith in e)
-    ∙ page_at-suc rest n
-
-in_range : (pages : List Page) (n : ℕ) (page : Page) → slice_get pages n ≡ Some page → n < length pages
-in_range [] n page e = cc
-in_range (x ∷ xs) zero page e = omega arith
-in_range (x ∷ xs) (suc n) page e = let rest = in_range xs n page e in omega arith
-
-get-set_same : (pages : List Page) (n : ℕ) (new : Page) → n < length pages → slice_get (set pages n new) n ≡ Some new
-get-set_same [] n new lt = absurd (omega (arith, lt))
-get-set_same (x ∷ xs) zero new lt = refl
-get-set_same (x ∷ xs) (suc n) new lt = get-set_same xs n new (omega (arith, lt))
-
-get-set_other : (pages : List Page) (n m : ℕ) (new : Page) → m ≢ n → slice_get (set pages n new) m ≡ slice_get pages m
-get-set_other [] n m new ne = refl
-get-set_other (x ∷ xs) zero zero new ne = absurd (ne refl)
-get-set_other (x ∷ xs) zero (suc m) new ne = refl
-get-set_other (x ∷ xs) (suc n) zero new ne = refl
-get-set_other (x ∷ xs) (suc n) (suc m) new ne = get-set_other xs n m new (λ e. ne (ap suc e))
+use Rattle.hb_store.proofs.Setting.{set_pages-same}
 
 -- a page more
 get-push_last : (pages : List Page) (new : Page) → slice_get (pages ++ (new ∷ [])) (length pages) ≡ Some new
@@ -51,24 +21,6 @@ get-push_other [] zero new ne = absurd (ne refl)
 get-push_other [] (suc m) new ne = refl
 get-push_other (x ∷ xs) zero new ne = refl
 get-push_other (x ∷ xs) (suc m) new ne = get-push_other xs m new (λ e. ne (ap suc e))
-
-with_page-there : (pages : List Page) (n : ℕ) (new : Page) → n < length pages → with_page (suc n) new pages ≡ set pages n new
-with_page-there pages n new lt =
-    let back : suc n - 1 ≡ n = omega arith in
-    let rest : List Page = cond (suc n == length pages + 1) (pages ++ (new ∷ [])) pages in
-    ap (λ (b : Bool). cond b pages (cond (nat_lt (suc n - 1) (length pages)) (set pages (suc n - 1) new) rest)) (ne_eqb (suc n) 0 (λ e. omega arith))
-    ∙ ap (λ (m : ℕ). cond (nat_lt m (length pages)) (set pages m new) rest) back
-    ∙ ap (λ (b : Bool). cond b (set pages n new) rest) (lt-ltb n (length pages) lt)
-
-with_page-behind : (pages : List Page) (new : Page) → with_page (suc (length pages)) new pages ≡ pages ++ (new ∷ [])
-with_page-behind pages new =
-    let back : suc (length pages) - 1 ≡ length pages = omega arith in
-    let next : suc (length pages) ≡ length pages + 1 = omega arith in
-    let rest : List Page = cond (suc (length pages) == length pages + 1) (pages ++ (new ∷ [])) pages in
-    ap (λ (b : Bool). cond b pages (cond (nat_lt (suc (length pages) - 1) (length pages)) (set pages (suc (length pages) - 1) new) rest)) (ne_eqb (suc (length pages)) 0 (λ e. omega arith))
-    ∙ ap (λ (m : ℕ). cond (nat_lt m (length pages)) (set pages m new) rest) back
-    ∙ ap (λ (b : Bool). cond b (set pages (length pages) new) rest) (le-ltb (length pages) (length pages) (omega arith))
-    ∙ ap (λ (b : Bool). cond b (pages ++ (new ∷ [])) pages) (eq-eqb (suc (length pages)) (length pages + 1) next)
 
 -- a page stands under its number, and the others as before
 record HasSet (pages : List Page) (id : ℕ) (new : Page) (after : List Page) : Type 0 where
@@ -136,13 +88,13 @@ module _ (one : ℕ × Page) (rest : List (ℕ × Page)) (file : List Page) (rea
         first_set.others q ne ∙ sym (set_one-other (page_at file) one.0 one.1 q ne)
   ]
 
-pub pages_set : (pages : List (ℕ × Page)) (file : List Page) → All (Reaches (length file)) pages → (q : ℕ) → page_at (with_pages pages file) q ≡ set_pages pages (page_at file) q
+pub pages_set : (pages : List (ℕ × Page)) (file : List Page) → All (Reaches (length file)) pages → (q : ℕ) → page_at (with_changed_pages pages file) q ≡ set_pages pages (page_at file) q
 pages_set [] file reach q = refl
 pages_set (one ∷ rest) file reach q =
     pages_set rest (with_page one.0 one.1 file) (rest_reach one rest file reach) q
     ∙ set_pages-same rest (page_at (with_page one.0 one.1 file)) (λ r. cond (r == one.0) (Some one.1) (page_at file r)) (one_at one rest file reach) q
 
-pub pages_long : (pages : List (ℕ × Page)) (file : List Page) → All (Reaches (length file)) pages → length (with_pages pages file) ≡ greatest (length file) pages
+pub pages_long : (pages : List (ℕ × Page)) (file : List Page) → All (Reaches (length file)) pages → length (with_changed_pages pages file) ≡ greatest (length file) pages
 pages_long [] file reach = refl
 pages_long (one ∷ rest) file reach =
     pages_long rest (with_page one.0 one.1 file) (rest_reach one rest file reach)

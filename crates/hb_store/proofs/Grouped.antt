@@ -1,6 +1,5 @@
 -- The group of an operation: which images it has.
-use Rattle.std.proofs.Common.{◌≡◌, ◌≢◌, ℕ, zero, suc, ◌^◌, ◌<◌, ◌≤◌, true, false, cond, List, [], ◌∷◌, ◌++◌, length, get_or, All, AllPairs, Option, Some, None, Result, Ok, Err, refl, ap, arith}
-use Rattle.std.specs.List.{flat_map}
+use Rattle.std.proofs.Common.{◌≡◌, ◌≢◌, ℕ, zero, suc, ◌^◌, ◌<◌, ◌≤◌, Bool, true, false, List, [], ◌∷◌, ◌++◌, length, get_or, All, AllPairs, Option, Some, None, Result, Ok, Err, refl, arith}
 use Rattle.std.specs.Option.{IfSome}
 use Rattle.std.specs.Result.{IfOk, OnOk}
 use Rattle.std.proofs.lemmas.List.{length-append}
@@ -14,63 +13,55 @@ use Rattle.hb_ops.specs.declared.operations.Op.{Op}
 use Rattle.hb_ops.specs.declared.operations.Op.TheVariants.{Put, Del, Extract, Post, Grow}
 use Rattle.hb_ops.specs.Operations.{reads_of}
 use Rattle.hb_log_codec.specs.Groups.{FitsGroup, FitsImage, FitsOp}
-use Rattle.hb_store.specs.Keeps.{IsGoodPage, MayHold}
-use Rattle.hb_store.specs.Frames.{page_in}
-use Rattle.hb_store.specs.Images.{image_due}
-use Rattle.hb_store.specs.declared.frames.Frame.{Frame}
+use Rattle.hb_store.specs.States.{AreGood, IsGoodPage, IsStanding}
+use Rattle.hb_store.specs.Images.{image_needed, images_needed}
 
 pub good_spelled : (meta : Meta) (page : Page) → IsGoodPage meta page → HasSpelling page
 good_spelled meta (Live page) h = h.0
 good_spelled meta (Free next) h = h
 
-pub spelled_in : (o : Option Frame) → ((page : Page) → page_in o ≡ Some page → HasSpelling page) → IfSome o (λ frame. HasSpelling frame.page)
+pub spelled_in : (o : Option Page) → ((page : Page) → o ≡ Some page → HasSpelling page) → IfSome o HasSpelling
 spelled_in None h = tt
-spelled_in (Some frame) h = h frame.page refl
+spelled_in (Some page) h = h page refl
 
 -- ---- the images that pages of some numbers need
 
-module _ (F : ℕ → Option Frame) where
-  abbrev pub due : List ℕ → List (ℕ × Page)
-  due ids = flat_map (λ id. image_due id (F id)) ids
-
-  -- what holds of each page in a frame of these numbers holds of each image
-  pub all_due : (P : ℕ × Page → Type 0) (ids : List ℕ) → All (λ id. (page : Page) → page_in (F id) ≡ Some page → P (id, page)) ids → All P (due ids)
-  all_due P [] h = All-nil P
-  all_due P (id ∷ rest) h =
-      let Q = λ (id : ℕ). (page : Page) → page_in (F id) ≡ Some page → P (id, page) in
-      All-append P (image_due id (F id)) (due rest) (one (F id) refl) (all_due P rest (All-tail Q id rest h))
+module _ (P : ℕ → Option Page) (I : ℕ → Bool) where
+  -- what holds of each page in memory of these numbers holds of each image
+  pub all_needed : (Q : ℕ × Page → Type 0) (ids : List ℕ) → All (λ id. (page : Page) → P id ≡ Some page → Q (id, page)) ids → All Q (images_needed P I ids)
+  all_needed Q [] h = All-nil Q
+  all_needed Q (id ∷ rest) h =
+      let R = λ (id : ℕ). (page : Page) → P id ≡ Some page → Q (id, page) in
+      All-append Q (image_needed id (P id) (I id)) (images_needed P I rest) (one (P id) (I id) refl) (all_needed Q rest (All-tail R id rest h))
     where
-      one : (o : Option Frame) → F id ≡ o → All P (image_due id o)
-      one None e = All-nil P
-      one (Some frame) e =
-          let Q = λ (id : ℕ). (page : Page) → page_in (F id) ≡ Some page → P (id, page) in
-          let here : P (id, frame.page) = All-head Q id rest h frame.page (ap page_in e) in
-          elim frame.imaged as (λ b. All P (cond b [] ((id, frame.page) ∷ []))) [ true ↦ All-nil P | false ↦ All-cons P (id, frame.page) [] here (All-nil P) ]
+      one : (o : Option Page) (b : Bool) → P id ≡ o → All Q (image_needed id o b)
+      one None b e = All-nil Q
+      one (Some page) true e = All-nil Q
+      one (Some page) false e = let R = λ (id : ℕ). (page : Page) → P id ≡ Some page → Q (id, page) in All-cons Q (id, page) [] (All-head R id rest h page e) (All-nil Q)
 
-  few_at : (id : ℕ) (o : Option Frame) → length (image_due id o) ≤ 1
-  few_at id None = omega arith
-  few_at id (Some frame) =
-      let one : ℕ × Page = (id, frame.page) in
-      elim frame.imaged as (λ b. length (cond b [] (one ∷ [])) ≤ 1) [ true ↦ omega arith | false ↦ omega arith ]
+  few_at : (id : ℕ) (o : Option Page) (b : Bool) → length (image_needed id o b) ≤ 1
+  few_at id None b = omega arith
+  few_at id (Some page) true = omega arith
+  few_at id (Some page) false = omega arith
 
-  pub few_due : (ids : List ℕ) → length (due ids) ≤ length ids
-  few_due [] = omega arith
-  few_due (id ∷ rest) = omega (arith, length-append (image_due id (F id)) (due rest), few_at id (F id), few_due rest)
+  few_needed : (ids : List ℕ) → length (images_needed P I ids) ≤ length ids
+  few_needed [] = omega arith
+  few_needed (id ∷ rest) = omega (arith, length-append (image_needed id (P id) (I id)) (images_needed P I rest), few_at id (P id) (I id), few_needed rest)
 
   abbrev Apart : ℕ × Page → ℕ × Page → Type 0
   Apart i j = i.0 ≢ j.0
 
-  distinct_with : (id : ℕ) (rest : List (ℕ × Page)) (o : Option Frame) → ((page : Page) → page_in o ≡ Some page → All (Apart (id, page)) rest) → AllPairs Apart rest → AllPairs Apart (image_due id o ++ rest)
-  distinct_with id rest None first later = later
-  distinct_with id rest (Some frame) first later =
-      elim frame.imaged as (λ b. AllPairs Apart (cond b [] ((id, frame.page) ∷ []) ++ rest)) [ true ↦ later | false ↦ AllPairs-cons Apart (id, frame.page) rest (first frame.page refl) later ]
+  distinct_with : (id : ℕ) (rest : List (ℕ × Page)) (o : Option Page) (b : Bool) → ((page : Page) → o ≡ Some page → All (Apart (id, page)) rest) → AllPairs Apart rest → AllPairs Apart (image_needed id o b ++ rest)
+  distinct_with id rest None b first later = later
+  distinct_with id rest (Some page) true first later = later
+  distinct_with id rest (Some page) false first later = AllPairs-cons Apart (id, page) rest (first page refl) later
 
-  pub distinct_due : (ids : List ℕ) → AllPairs (λ i j. i ≢ j) ids → AllPairs Apart (due ids)
-  distinct_due [] h = λ i j d lt in_range. absurd (omega (arith, in_range))
-  distinct_due (id ∷ rest) h =
-      distinct_with id (due rest) (F id)
-      (λ page e. all_due (Apart (id, page)) rest (λ k d lt other is. h zero (suc k) d (omega arith) (omega (arith, lt))))
-      (distinct_due rest (λ i j d lt in_range. h (suc i) (suc j) d (omega (arith, lt)) (omega (arith, in_range))))
+  distinct_needed : (ids : List ℕ) → AllPairs (λ i j. i ≢ j) ids → AllPairs Apart (images_needed P I ids)
+  distinct_needed [] h = λ i j d lt in_range. absurd (omega (arith, in_range))
+  distinct_needed (id ∷ rest) h =
+      distinct_with id (images_needed P I rest) (P id) (I id)
+      (λ page e. all_needed (Apart (id, page)) rest (λ k d lt other is. h zero (suc k) d (omega arith) (omega (arith, lt))))
+      (distinct_needed rest (λ i j d lt in_range. h (suc i) (suc j) d (omega (arith, lt)) (omega (arith, in_range))))
 
 -- an operation reads few pages, each once
 pub few_reads : (op : Op) → length (reads_of op) ≤ 3
@@ -87,17 +78,17 @@ distinct_reads (Extract source fresh path cuts free_after) = λ i j d lt in_rang
 distinct_reads (Post parent at inner area) = λ i j d lt in_range. absurd (omega (arith, lt, in_range))
 distinct_reads (Grow fresh free_after) = λ i j d lt in_range. absurd (omega (arith, in_range))
 
-pub small_high : (meta : Meta) {size turn : ℕ} → MayHold size turn meta → meta.high < 2 ^ 32
-small_high meta h = omega (arith, h.high, h.layout.few_pages)
+small_high : (turn : ℕ) (meta : Meta) → IsStanding turn meta → meta.high < 2 ^ 32
+small_high turn meta h = omega (arith, h.high, h.layout.few_pages)
 
-pub fits_group : (F : ℕ → Option Frame) (meta : Meta) (op : Op) → meta.high < 2 ^ 32 → ((id : ℕ) (page : Page) → page_in (F id) ≡ Some page → (1 ≤ id) × (id ≤ meta.high) × IsGoodPage meta page) → FitsOp meta.k op
-    → FitsGroup meta.k (record { images = due F (reads_of op); op = op })
-fits_group F meta op small framed fits = record {
-  few = omega (arith, few_due F (reads_of op), few_reads op);
-  images = all_due F FitsImage (reads_of op) (λ k d lt page e.
-      let h = framed (get_or (reads_of op) k d) page e in
-      record { number = omega (arith, h.1, small); page = good_spelled meta page h.2 });
-  distinct = distinct_due F (reads_of op) (distinct_reads op);
+pub fits_group : (P : ℕ → Option Page) (I : ℕ → Bool) (turn : ℕ) (meta : Meta) (op : Op) → IsStanding turn meta → AreGood meta P → FitsOp meta.k op
+    → FitsGroup meta.k (record { images = images_needed P I (reads_of op); op = op })
+fits_group P I turn meta op stands good fits = record {
+  few = omega (arith, few_needed P I (reads_of op), few_reads op);
+  images = all_needed P I FitsImage (reads_of op) (λ k d lt page e.
+      let h = good (get_or (reads_of op) k d) page e in
+      record { number = omega (arith, h.1, small_high turn meta stands); page = good_spelled meta page h.2 });
+  distinct = distinct_needed P I (reads_of op) (distinct_reads op);
   op = fits;
 }
 

@@ -1,5 +1,5 @@
 -- What a sound file's free chain, and its count of pages in use, say of the page number that is taken next.
-use Rattle.std.proofs.Common.{◌≡◌, ◌≢◌, inl, inr, ℕ, ◌+◌, ◌≤◌, List, [], ◌∷◌, length, Contains, Some, refl, sym, ap, subst, ◌∙◌, arith}
+use Rattle.std.proofs.Common.{◌≡◌, ◌≢◌, inl, inr, ℕ, ◌+◌, List, [], ◌∷◌, length, Contains, Some, refl, sym, ap, subst, ◌∙◌, arith}
 use Rattle.hb_frag.specs.declared.pages.Page.{Page}
 use Rattle.hb_frag.specs.declared.pages.Page.TheVariants.{Live, Free}
 use Rattle.hb_ops.specs.Files.{FileState, page_at, page_of}
@@ -7,7 +7,8 @@ use Rattle.hb_ops.specs.Sound.{IsChain, IsSound, count_live}
 use Rattle.hb_disk.specs.Model.{DiskModel, IsDisk}
 use Rattle.hb_layout.specs.declared.meta.Meta.{Meta}
 use Rattle.hb_ops.specs.Allocating.{Allocates}
-use Rattle.hb_store.specs.Keeps.{IsStore, StoreKeeps, StoreState, last_of}
+use Rattle.hb_store.specs.States.{IsMemory, StoreState, in_memory}
+use Rattle.hb_store.specs.Keeps.{StoreKeeps, last_of}
 use Rattle.hb_store.specs.NextPage.{MayFetch}
 use Rattle.hb_store.specs.Stops.{IsNoPage}
 use Rattle.hb_store.proofs.Counted.{store_count}
@@ -47,7 +48,7 @@ module _ (d : DiskModel) (st : StoreState) (durable : FileState) (later : List F
   free_is_page disk head next is =
       let s = last_of durable later in
       let range = page_in_range s.pages head (Free next) is in
-      let high : length s.pages ≡ st.meta.high = store_count d st durable later disk keeps ∙ ap (λ (m : Meta). m.high) keeps.meta_is in
+      let high : length s.pages ≡ st.meta.high = store_count d st durable later disk keeps ∙ ap (λ (m : Meta). m.high) keeps.memory.meta_is in
       λ no. elim no [
         | inl zero ↦ absurd (omega (arith, range.0, zero))
         | inr above ↦ absurd (omega (arith, range.1, high, above))
@@ -56,23 +57,23 @@ module _ (d : DiskModel) (st : StoreState) (durable : FileState) (later : List F
   pub head_free : IsSound (last_of durable later) → st.meta.free ≢ 0 → (next : ℕ) × (page_of (last_of durable later) st.meta.free ≡ Some (Free next))
   head_free sound =
       let s = last_of durable later in
-      subst (λ (m : Meta). m.free ≢ 0 → (next : ℕ) × (page_of s m.free ≡ Some (Free next))) keeps.meta_is (sound_head s sound)
+      subst (λ (m : Meta). m.free ≢ 0 → (next : ℕ) × (page_of s m.free ≡ Some (Free next))) keeps.memory.meta_is (sound_head s sound)
 
   pub room_behind : IsSound (last_of durable later) → st.meta.free ≡ 0 → st.meta.high ≡ st.meta.pages → st.meta.live ≡ st.meta.pages
   room_behind sound =
       let s = last_of durable later in
-      subst (λ (m : Meta). m.free ≡ 0 → m.high ≡ m.pages → m.live ≡ m.pages) keeps.meta_is (sound_room s sound)
+      subst (λ (m : Meta). m.free ≡ 0 → m.high ≡ m.pages → m.live ≡ m.pages) keeps.memory.meta_is (sound_room s sound)
 
 -- the head of the chain may be taken
-pub head_allocates : (size : ℕ) (old new : StoreState) (next : ℕ) → IsStore size new → MayFetch old.meta.free old new → old.meta.live ≢ old.meta.pages → old.meta.free ≢ 0
-    → new.frame old.meta.free ≡ Some (Free next) → Allocates new.meta old.meta.free next
-head_allocates size old new next is fetch few some there =
+pub head_allocates : (old new : StoreState) (next : ℕ) → IsMemory new → MayFetch old.meta.free old new → old.meta.live ≢ old.meta.pages → old.meta.free ≢ 0
+    → in_memory new old.meta.free ≡ Some (Free next) → Allocates new.meta old.meta.free next
+head_allocates old new next is fetch few some there =
     let same : new.meta ≡ old.meta = elim fetch [ inl e ↦ ap (λ (st : StoreState). st.meta) e | inr f ↦ f.rest.meta ] in
     let few_now : new.meta.live ≢ new.meta.pages = subst (λ (m : Meta). m.live ≢ m.pages) (sym same) few in
     let some_now : new.meta.free ≢ 0 = subst (λ (m : Meta). m.free ≢ 0) (sym same) some in
-    let at = is.frames_in old.meta.free (Free next) there in
+    let at = is.good old.meta.free (Free next) there in
     record {
-      room = omega (arith, is.holds.live, few_now);
+      room = omega (arith, is.stands.live, few_now);
       from_chain = λ _. (ap (λ (m : Meta). m.free) (sym same), at.1);
       from_behind = λ none. absurd (some_now none);
     }

@@ -1,161 +1,117 @@
--- The pages that are marked as imaged are those that the groups touch; and once a group's images are set, the touched
--- pages that its operation reads are those in frames.
-use Rattle.std.proofs.Common.{◌≡◌, ◌⊎◌, ◌↔◌, inl, inr, ℕ, zero, suc, ◌<◌, ◌==◌, true, false, cond, List, [], ◌∷◌, ◌++◌, length, get_or, Option, Some, None, IsSome, IsTrue, refl, sym, ap, ◌∙◌, subst, arith}
-use Rattle.std.proofs.lemmas.Bool.{cases_lt, eqb-true}
+-- The pages imaged or made in this turn are those that the groups touch, also after a group more; and once the images of
+-- a group are set, the touched pages that its operation reads are those in memory.
+use Rattle.std.proofs.Common.{◌≡◌, ◌⊎◌, inl, inr, ℕ, zero, suc, ◌<◌, ◌==◌, Bool, true, false, cond, List, [], ◌∷◌, ◌++◌, length, get_or, All, Option, Some, None, IsSome, IsTrue, refl, sym, ap, ◌∙◌, subst, arith}
+use Rattle.std.specs.Prelude.{◌||◌}
+use Rattle.std.specs.Option.{is_some}
+use Rattle.std.proofs.lemmas.Bool.{cases_Bool, cases_lt, eq-eqb, eqb-false, eqb-true}
 use Rattle.std.proofs.lemmas.List.{get_or_past}
+use Rattle.std.proofs.lemmas.List.Elements.{All-head, All-tail}
 use Rattle.hb_frag.specs.declared.pages.Page.{Page}
-use Rattle.hb_store.specs.declared.frames.Frame.{Frame}
-use Rattle.hb_store.specs.Frames.{imaged_in, page_in}
-use Rattle.hb_store.specs.Images.{image_due}
-use Rattle.hb_store.specs.Marks.{as_imaged, mark_frames, set_frames, with_frame, with_mark}
+use Rattle.hb_store.specs.Images.{image_needed, images_needed}
+use Rattle.hb_store.specs.Marks.{has_page, is_among}
 use Rattle.hb_store.specs.Replay.{set_pages}
-use Rattle.hb_store.specs.ReplayLists.{set_one-same}
-use Rattle.hb_store.proofs.Grouped.{due}
-use Rattle.hb_store.proofs.Marking.{frames_after}
+use Rattle.hb_store.specs.ReplayLists.{set_one-same, set_one-other}
+use Rattle.hb_store.proofs.MadeMeta.{some_page}
+use Rattle.hb_store.proofs.Setting.{or_true, set_some}
 
--- a page is marked as imaged where it is touched, and only there
-abbrev pub Tells : Option Frame → Option Page → Type 0
-Tells frame touched = IsTrue (imaged_in frame) ↔ IsSome touched
+among_at : (ids : List ℕ) (place : ℕ) → place < length ids → is_among (get_or ids place 0) ids ≡ true
+among_at [] place lt = absurd (omega (arith, lt))
+among_at (id ∷ rest) zero lt = ap (λ (b : Bool). b || is_among id rest) (eq-eqb id id refl)
+among_at (id ∷ rest) (suc place) lt =
+    ap (λ (b : Bool). (get_or rest place 0 == id) || b) (among_at rest place (omega (arith, lt))) ∙ or_true (get_or rest place 0 == id)
 
-abbrev pub Marks : (ℕ → Option Frame) → (ℕ → Option Page) → Type 0
-Marks F T = (q : ℕ) → Tells (F q) (T q)
+none_of : (o : Option Page) → is_some o ≡ false → o ≡ None
+none_of None e = refl
+none_of (Some page) e = cc e
 
-marks_set : (pages : List (ℕ × Page)) (F : ℕ → Option Frame) (T : ℕ → Option Page) → Marks F T → Marks (set_frames pages F) (set_pages pages T)
-marks_set [] F T h = h
-marks_set (one ∷ rest) F T h =
-    marks_set rest (with_frame one.0 one.1 F) (λ q. cond (q == one.0) (Some one.1) (T q))
-    (λ q. elim (q == one.0) as (λ b. Tells (cond b (Some (record { page = one.1; imaged = true })) (F q)) (cond b (Some one.1) (T q))) [ true ↦ (λ e. refl, λ e. refl) | false ↦ h q ])
-
--- to mark a page that is in no frame, or is marked, changes nothing
-marked_same : (o : Option Frame) (touched : Option Page) → (o ≡ None) ⊎ IsTrue (imaged_in o) → Tells o touched → Tells (as_imaged o) touched
-marked_same None touched why h = h
-marked_same (Some frame) touched (inl none) h = cc none
-marked_same (Some frame) touched (inr set) h = (λ e. h.0 set, λ e. refl)
-
-marked_new : (frame : Frame) (o : Option Frame) (page : Page) → o ≡ Some frame → Tells (as_imaged o) (Some page)
-marked_new frame o page is = subst (λ (x : Option Frame). Tells (as_imaged x) (Some page)) (sym is) (λ e. refl, λ e. refl)
-
-marks_none : (id : ℕ) (F : ℕ → Option Frame) (T : ℕ → Option Page) → (F id ≡ None) ⊎ IsTrue (imaged_in (F id)) → Marks F T → Marks (with_mark id F) T
-marks_none id F T why h q =
-    elim (q == id) as (λ b. (q == id) ≡ b → Tells (cond b (as_imaged (F q)) (F q)) (T q)) [
-      | true ↦ λ here. let same : q ≡ id = eqb-true q id here in marked_same (F q) (T q) (subst (λ (n : ℕ). (F n ≡ None) ⊎ IsTrue (imaged_in (F n))) (sym same) why) (h q)
-      | false ↦ λ off. h q
-    ] refl
-
-marks_one : (id : ℕ) (F : ℕ → Option Frame) (T : ℕ → Option Page) (frame : Frame) (page : Page) → F id ≡ Some frame → Marks F T → Marks (with_mark id F) (λ q. cond (q == id) (Some page) (T q))
-marks_one id F T frame page is h q =
-    elim (q == id) as (λ b. (q == id) ≡ b → Tells (cond b (as_imaged (F q)) (F q)) (cond b (Some page) (T q))) [
-      | true ↦ λ here. let same : q ≡ id = eqb-true q id here in marked_new frame (F q) page (ap F same ∙ is)
-      | false ↦ λ off. h q
-    ] refl
-
--- a frame of later: it has the page of the first one, and is marked where that one was
-pub record IsLater (first later : Option Frame) : Type 0 where
-  pub page : page_in later ≡ page_in first
-  pub imaged : IsTrue (imaged_in first) → IsTrue (imaged_in later)
-
-later_marked : (first later : Option Frame) → IsLater first later → IsLater first (as_imaged later)
-later_marked first None h = h
-later_marked first (Some frame) h = record { page = h.page; imaged = λ e. refl }
-
-later_step : (id : ℕ) (F0 F : ℕ → Option Frame) → ((q : ℕ) → IsLater (F0 q) (F q)) → (q : ℕ) → IsLater (F0 q) (with_mark id F q)
-later_step id F0 F h q = elim (q == id) as (λ b. IsLater (F0 q) (cond b (as_imaged (F q)) (F q))) [ true ↦ later_marked (F0 q) (F q) (h q) | false ↦ h q ]
-
-is_none : (first later : Option Frame) → first ≡ None → IsLater first later → later ≡ None
-is_none first None e h = refl
-is_none first (Some frame) e h = let p = h.page in let none : page_in first ≡ None = ap page_in e in cc
-
-some_later : (first later : Option Frame) (frame : Frame) → first ≡ Some frame → IsLater first later → (other : Frame) × (later ≡ Some other)
-some_later first None frame e h = let p = h.page in let some : page_in first ≡ Some frame.page = ap page_in e in cc
-some_later first (Some other) frame e h = (other, refl)
-
-marks_step : (id : ℕ) (F G : ℕ → Option Frame) (T : ℕ → Option Page) (rest : List (ℕ × Page)) (o : Option Frame)
-    → ((T' : ℕ → Option Page) → Marks (with_mark id F) T' → Marks G (set_pages rest T'))
-    → IsLater o (F id) → Marks F T → Marks G (set_pages (image_due id o ++ rest) T)
-marks_step id F G T rest None go later h = go T (marks_none id F T (inl (is_none None (F id) refl later)) h)
-marks_step id F G T rest (Some frame) go later h =
-    let there = some_later (Some frame) (F id) frame refl later in
-    elim frame.imaged as (λ b. frame.imaged ≡ b → Marks G (set_pages (cond b [] ((id, frame.page) ∷ []) ++ rest) T)) [
-      | true ↦ λ e. go T (marks_none id F T (inr (later.imaged e)) h)
-      | false ↦ λ e. go (λ q. cond (q == id) (Some frame.page) (T q)) (marks_one id F T there.0 frame.page there.1 h)
-    ] refl
-
-pub marks_images : (F0 : ℕ → Option Frame) (ids : List ℕ) (F : ℕ → Option Frame) (T : ℕ → Option Page) → ((q : ℕ) → IsLater (F0 q) (F q)) → Marks F T → Marks (mark_frames ids F) (set_pages (due F0 ids) T)
-marks_images F0 [] F T later h = h
-marks_images F0 (id ∷ rest) F T later h =
-    marks_step id F (mark_frames rest (with_mark id F)) T (due F0 rest) (F0 id)
-    (λ T' h'. marks_images F0 rest (with_mark id F) T' (later_step id F0 F later) h') (later id) h
-
--- the pages that are marked once a group's images are set and its changed pages too
-pub marks_after : (ids : List ℕ) (pages : List (ℕ × Page)) (F : ℕ → Option Frame) (T : ℕ → Option Page) → Marks F T → Marks (frames_after ids pages F) (set_pages pages (set_pages (due F ids) T))
-marks_after ids pages F T h =
-    marks_set pages (mark_frames ids F) (set_pages (due F ids) T)
-    (marks_images F ids F T (λ q. record { page = refl; imaged = λ e. e }) h)
-
--- ---- what an operation reads among the touched pages
-
--- a marked page is touched as it is in its frame, and a page in no frame isn't touched
-abbrev pub Agrees : Option Frame → Option Page → Type 0
-Agrees None touched = touched ≡ None
-Agrees (Some frame) touched = IsTrue frame.imaged → touched ≡ Some frame.page
-
-module _ (F : ℕ → Option Frame) where
-  kept_step : (id q : ℕ) (T : ℕ → Option Page) (rest : List (ℕ × Page)) (o : Option Frame) → F id ≡ o
-      → ((T' : ℕ → Option Page) → T' q ≡ page_in (F q) → set_pages rest T' q ≡ page_in (F q))
-      → T q ≡ page_in (F q) → set_pages (image_due id o ++ rest) T q ≡ page_in (F q)
-  kept_step id q T rest None is go h = go T h
-  kept_step id q T rest (Some frame) is go h =
-      elim frame.imaged as (λ b. set_pages (cond b [] ((id, frame.page) ∷ []) ++ rest) T q ≡ page_in (F q)) [
-        | true ↦ go T h
-        | false ↦ go (λ r. cond (r == id) (Some frame.page) (T r))
-            (elim (q == id) as (λ b. (q == id) ≡ b → cond b (Some frame.page) (T q) ≡ page_in (F q)) [
-              | true ↦ λ here. sym (ap page_in (ap F (eqb-true q id here) ∙ is))
-              | false ↦ λ off. h
-            ] refl)
-      ]
-
-  read_kept : (ids : List ℕ) (T : ℕ → Option Page) (q : ℕ) → T q ≡ page_in (F q) → set_pages (due F ids) T q ≡ page_in (F q)
-  read_kept [] T q h = h
-  read_kept (id ∷ rest) T q h = kept_step id q T (due F rest) (F id) refl (λ T' h'. read_kept rest T' q h') h
-
-  first_step : (id : ℕ) (T : ℕ → Option Page) (rest : List (ℕ × Page)) (o : Option Frame) → F id ≡ o → Agrees o (T id)
-      → ((T' : ℕ → Option Page) → T' id ≡ page_in (F id) → set_pages rest T' id ≡ page_in (F id))
-      → set_pages (image_due id o ++ rest) T id ≡ page_in (F id)
-  first_step id T rest None is agrees go = go T (agrees ∙ sym (ap page_in is))
-  first_step id T rest (Some frame) is agrees go =
-      elim frame.imaged as (λ b. frame.imaged ≡ b → set_pages (cond b [] ((id, frame.page) ∷ []) ++ rest) T id ≡ page_in (F id)) [
-        | true ↦ λ e. go T (agrees e ∙ sym (ap page_in is))
-        | false ↦ λ e. go (λ r. cond (r == id) (Some frame.page) (T r)) (set_one-same T id frame.page id refl ∙ sym (ap page_in is))
+-- P are pages in memory, and I says which of them are imaged.
+module _ (P : ℕ → Option Page) (I : ℕ → Bool) where
+  imaged_with : (id q : ℕ) (o : Option Page) (b : Bool) (more : List (ℕ × Page)) (among : Bool) → IsSome o → I id ≡ b → (has_page q more || I q) ≡ (among || I q)
+      → (has_page q (image_needed id o b ++ more) || I q) ≡ (((q == id) || among) || I q)
+  imaged_with id q None b more among some is ih = cc some
+  imaged_with id q (Some page) true more among some is ih =
+      ih ∙ elim (q == id) as (λ b. (q == id) ≡ b → (among || I q) ≡ ((b || among) || I q)) [
+        | true ↦ λ here. ap (λ (b : Bool). among || b) (ap I (eqb-true q id here) ∙ is) ∙ or_true among
+        | false ↦ λ off. refl
       ] refl
+  imaged_with id q (Some page) false more among some is ih =
+      elim (q == id) as (λ b. ((b || has_page q more) || I q) ≡ ((b || among) || I q)) [ true ↦ refl | false ↦ ih ]
 
-  later_read : (id q : ℕ) (T : ℕ → Option Page) (rest : List (ℕ × Page)) (o : Option Frame) → F id ≡ o → Agrees (F q) (T q)
-      → ((T' : ℕ → Option Page) → Agrees (F q) (T' q) → set_pages rest T' q ≡ page_in (F q))
-      → set_pages (image_due id o ++ rest) T q ≡ page_in (F q)
-  later_read id q T rest None is agrees go = go T agrees
-  later_read id q T rest (Some frame) is agrees go =
-      elim frame.imaged as (λ b. set_pages (cond b [] ((id, frame.page) ∷ []) ++ rest) T q ≡ page_in (F q)) [
-        | true ↦ go T agrees
-        | false ↦ go (λ r. cond (r == id) (Some frame.page) (T r))
-            (elim (q == id) as (λ b. (q == id) ≡ b → Agrees (F q) (cond b (Some frame.page) (T q))) [
-              | true ↦ λ here. subst (λ (o : Option Frame). Agrees o (Some frame.page)) (sym (ap F (eqb-true q id here) ∙ is)) (λ e. refl)
-              | false ↦ λ off. agrees
-            ] refl)
+  -- a number has an image of its group, or is imaged before, exactly where it is one of these or is imaged before
+  pub imaged_all : (ids : List ℕ) (q : ℕ) → All (λ id. IsSome (P id)) ids → (has_page q (images_needed P I ids) || I q) ≡ (is_among q ids || I q)
+  imaged_all [] q some = refl
+  imaged_all (id ∷ rest) q some =
+      let S = λ (n : ℕ). IsSome (P n) in
+      imaged_with id q (P id) (I id) (images_needed P I rest) (is_among q rest) (All-head S id rest some) refl (imaged_all rest q (All-tail S id rest some))
+
+  not_with : (id q : ℕ) (o : Option Page) (b : Bool) (more : List (ℕ × Page)) → P id ≡ o → P q ≡ None → has_page q more ≡ false → has_page q (image_needed id o b ++ more) ≡ false
+  not_with id q None b more is none ih = ih
+  not_with id q (Some page) true more is none ih = ih
+  not_with id q (Some page) false more is none ih = elim (cases_Bool (q == id)) [
+    | inl here ↦ let there : None ≡ Some page = sym none ∙ ap P (eqb-true q id here) ∙ is in cc there
+    | inr off ↦ ap (λ (b : Bool). b || has_page q more) off ∙ ih
+  ]
+
+  not_needed : (ids : List ℕ) (q : ℕ) → P q ≡ None → has_page q (images_needed P I ids) ≡ false
+  not_needed [] q none = refl
+  not_needed (id ∷ rest) q none = not_with id q (P id) (I id) (images_needed P I rest) refl none (not_needed rest q none)
+
+  -- why a page is the touched one once the images are set: it was, or it is needed
+  abbrev IsRead : ℕ → Page → Bool → (ℕ → Option Page) → Type 0
+  IsRead q page among T = (T q ≡ Some page) ⊎ ((I q ≡ false) × (among ≡ true))
+
+  read_later : (id q : ℕ) (page : Page) (among : Bool) (T : ℕ → Option Page) → (q == id) ≡ false → IsRead q page ((q == id) || among) T → IsRead q page among T
+  read_later id q page among T off (inl e) = inl e
+  read_later id q page among T off (inr (out, at)) = inr (out, ap (λ (b : Bool). b || among) (sym off) ∙ at)
+
+  read_imaged : (q : ℕ) (page : Page) (among : Bool) (T : ℕ → Option Page) → I q ≡ true → IsRead q page among T → T q ≡ Some page
+  read_imaged q page among T on (inl e) = e
+  read_imaged q page among T on (inr (out, at)) = let never : true ≡ false = sym on ∙ out in cc never
+
+  read_other : (q : ℕ) (page : Page) (among : Bool) (T U : ℕ → Option Page) → U q ≡ T q → IsRead q page among T → IsRead q page among U
+  read_other q page among T U same (inl e) = inl (same ∙ e)
+  read_other q page among T U same (inr why) = inr why
+
+  read_with : (id q : ℕ) (o : Option Page) (b : Bool) (more : List (ℕ × Page)) (among : Bool) (page : Page) → P id ≡ o → I id ≡ b → P q ≡ Some page
+      → ((T : ℕ → Option Page) → IsRead q page among T → set_pages more T q ≡ Some page)
+      → (T : ℕ → Option Page) → IsRead q page ((q == id) || among) T → set_pages (image_needed id o b ++ more) T q ≡ Some page
+  read_with id q None b more among page is on there go T why = elim (cases_Bool (q == id)) [
+    | inl here ↦ let never : Some page ≡ None = sym there ∙ ap P (eqb-true q id here) ∙ is in cc never
+    | inr off ↦ go T (read_later id q page among T off why)
+  ]
+  read_with id q (Some p) true more among page is on there go T why = elim (cases_Bool (q == id)) [
+    | inl here ↦ go T (inl (read_imaged q page ((q == id) || among) T (ap I (eqb-true q id here) ∙ on) why))
+    | inr off ↦ go T (read_later id q page among T off why)
+  ]
+  read_with id q (Some p) false more among page is on there go T why =
+      let U : ℕ → Option Page = λ r. cond (r == id) (Some p) (T r) in
+      elim (cases_Bool (q == id)) [
+        | inl here ↦ go U (inl (set_one-same T id p q (eqb-true q id here) ∙ sym is ∙ ap P (sym (eqb-true q id here)) ∙ there))
+        | inr off ↦ go U (read_other q page among T U (set_one-other T id p q (eqb-false q id off)) (read_later id q page among T off why))
       ]
 
-  read_at : (ids : List ℕ) (place q : ℕ) (T : ℕ → Option Page) → place < length ids → get_or ids place 0 ≡ q → Agrees (F q) (T q) → set_pages (due F ids) T q ≡ page_in (F q)
-  read_at [] place q T lt at agrees = absurd (omega (arith, lt))
-  read_at (id ∷ rest) zero q T lt at agrees =
-      subst (λ (n : ℕ). Agrees (F n) (T n) → set_pages (due F (id ∷ rest)) T n ≡ page_in (F n)) at
-      (λ agrees. first_step id T (due F rest) (F id) refl agrees (λ T' h'. read_kept rest T' id h')) agrees
-  read_at (id ∷ rest) (suc place) q T lt at agrees =
-      later_read id q T (due F rest) (F id) refl agrees (λ T' agrees'. read_at rest place q T' (omega (arith, lt)) at agrees')
+  read_set : (ids : List ℕ) (q : ℕ) (page : Page) → P q ≡ Some page → (T : ℕ → Option Page) → IsRead q page (is_among q ids) T → set_pages (images_needed P I ids) T q ≡ Some page
+  read_set [] q page there T (inl e) = e
+  read_set [] q page there T (inr (out, at)) = cc at
+  read_set (id ∷ rest) q page there T why =
+      read_with id q (P id) (I id) (images_needed P I rest) (is_among q rest) page refl refl there (λ U later. read_set rest q page there U later) T why
 
   -- the page at a place of an operation's reads, and none behind them
-  pub read_page : (ids : List ℕ) (place : ℕ) (T : ℕ → Option Page) → F 0 ≡ None → ((q : ℕ) → Agrees (F q) (T q)) → set_pages (due F ids) T (get_or ids place 0) ≡ page_in (F (get_or ids place 0))
-  read_page ids place T none agrees = elim (cases_lt place (length ids)) [
-    | inl lt ↦ read_at ids place (get_or ids place 0) T lt refl (agrees (get_or ids place 0))
+  pub read_page : (ids : List ℕ) (place : ℕ) (T : ℕ → Option Page) → P 0 ≡ None → T 0 ≡ None → ((q : ℕ) (page : Page) → P q ≡ Some page → IsTrue (I q) → T q ≡ Some page)
+      → All (λ id. IsSome (P id)) ids → set_pages (images_needed P I ids) T (get_or ids place 0) ≡ P (get_or ids place 0)
+  read_page ids place T none untouched agrees some = elim (cases_lt place (length ids)) [
+    | inl lt ↦
+        let q = get_or ids place 0 in
+        let there = some_page (P q) (some place 0 lt) in
+        let why : IsRead q there.0 (is_among q ids) T = elim (cases_Bool (I q)) [
+          | inl on ↦ inl (agrees q there.0 there.1 on)
+          | inr off ↦ inr (off, among_at ids place lt)
+        ] in
+        read_set ids q there.0 there.1 T why ∙ sym there.1
     | inr le ↦
         let past : get_or ids place 0 ≡ 0 = get_or_past ids place 0 le in
-        let untouched : T 0 ≡ None = subst (λ (o : Option Frame). Agrees o (T 0)) none (agrees 0) in
-        subst (λ (n : ℕ). set_pages (due F ids) T n ≡ page_in (F n)) (sym past) (read_kept ids T 0 (untouched ∙ sym (ap page_in none)))
+        let images = images_needed P I ids in
+        let off : is_some (set_pages images T 0) ≡ false =
+        set_some images T 0 ∙ ap (λ (b : Bool). b || is_some (T 0)) (not_needed ids 0 none) ∙ ap (λ (o : Option Page). is_some o) untouched in
+        subst (λ (n : ℕ). set_pages images T n ≡ P n) (sym past) (none_of (set_pages images T 0) off ∙ sym none)
   ]

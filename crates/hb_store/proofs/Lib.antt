@@ -6,11 +6,11 @@ pub mod MadePages
 pub mod MadeMeta
 mod AreaTorn
 mod AfterForce
-mod Marking
+mod Setting
+mod Held
 mod Grouped
-mod Changed
+pub mod Changed
 mod Imaging
-mod Holding
 mod Committed
 pub mod FilePages
 pub mod Counting

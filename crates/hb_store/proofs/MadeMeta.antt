@@ -17,7 +17,7 @@ use Rattle.hb_ops.specs.Files.{if_live}
 use Rattle.hb_ops.specs.Extracting.{fresh_page, source_page, split_pages}
 use Rattle.hb_ops.specs.Operations.{IsAllowedOn, OpHas, change_of, reads_of}
 use Rattle.hb_log_codec.specs.Groups.{FitsOp}
-use Rattle.hb_store.specs.Keeps.{IsSameLayout}
+use Rattle.hb_store.specs.States.{IsSameLayout}
 use Rattle.hb_store.specs.Replaying.{ComesAfter, HasLimits, IsPageOf}
 
 pub op_has : (k : ℕ) (op : Op) → FitsOp k op → OpHas k op

@@ -27,7 +27,7 @@ use Rattle.hb_ops.specs.Posting.{posted, post_page}
 use Rattle.hb_ops.specs.Recording.{del_page, joined, put_page, without}
 use Rattle.hb_ops.specs.Sound.{FitsFile}
 use Rattle.hb_log_codec.specs.Groups.{FitsOp}
-use Rattle.hb_store.specs.Keeps.{IsGoodPage}
+use Rattle.hb_store.specs.States.{IsGoodPage}
 use Rattle.hb_store.specs.Making.{HaveFittingParts, IsReadable, MakesGoodPages}
 use Rattle.hb_store.specs.Replaying.{HasLimits}
 use Rattle.hb_store.proofs.MadeLeaves.{AllFit, FitsIn, all_fit, fit_carved, fit_changed, fit_cut_through, fit_normal, fit_part, fit_reached, fit_with_part, joined_fit, light_fit, without_fit}

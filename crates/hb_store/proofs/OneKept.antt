@@ -3,7 +3,7 @@ use Rattle.std.proofs.Common.{◌≡◌, ◌⊎◌, inl, inr, ℕ, IsTrue, Some,
 use Rattle.std.proofs.lemmas.Grind.{flat_map-append}
 use Rattle.std.proofs.lemmas.List.Elements.{All-head, All-tail}
 use Rattle.hb_disk.specs.Model.{DiskModel, IsDisk}
-use Rattle.hb_disk.specs.RunLaws.{some_value}
+use Rattle.hb_disk.specs.ValueLaws.{some_value}
 use Rattle.hb_super.specs.Superblocks.{IsNewest}
 use Rattle.hb_wal.specs.Frames.{frames, frame_bytes}
 use Rattle.hb_wal.specs.FrameLaws.{ReadsOneWay}
@@ -15,7 +15,9 @@ use Rattle.hb_store.specs.Payloads.{SpellAll}
 use Rattle.hb_store.proofs.Spellings.{OneGroup, OneList, SpelledOnce, same_spelled}
 use Rattle.hb_store.specs.Replay.{Replayed, untouched, replay, after_group}
 use Rattle.hb_store.specs.Opening.{OpensBy, Shows, log_bytes}
-use Rattle.hb_store.specs.Keeps.{StoreState, StoreKeeps, Leads, OpensNext}
+use Rattle.hb_store.specs.States.{StoreState}
+use Rattle.hb_store.specs.Parts.{Leads, OpensNext}
+use Rattle.hb_store.specs.Keeps.{StoreKeeps}
 use Rattle.hb_store.proofs.OneFile.{OneTurn, OneMeta, same_shown}
 
 -- ---- lists
@@ -131,43 +133,43 @@ module _ (once : SpelledOnce) (one : OneList) (group : OneGroup) (turns : OneTur
 
   module _ (d : DiskModel) (is_disk : IsDisk d) (st : StoreState) (b : List ℕ) (told : d.told ≡ Some b) where
     tells : (durable : FileState) (later : List FileState) → (keeps : StoreKeeps d st durable later)
-        → Tells b st.turn st.log.written st.log.groups keeps.said keeps.payloads keeps.written keeps.waiting durable later
+        → Tells b st.turn st.log.written st.log.groups keeps.parts.said keeps.parts.payloads keeps.parts.written keeps.parts.waiting durable later
     tells durable later keeps = record {
-      count = keeps.count;
-      opens = either (OpensBy b st.turn keeps.said keeps.payloads keeps.written durable) (IsTrue st.stopped) (OpensNext b st.turn keeps.said keeps.payloads keeps.written keeps.waiting later)
-          (keeps.images b (is_disk.as_read b told));
-      shows = keeps.shows b (is_disk.as_read b told);
-      spelled = keeps.spelled;
-      fits = keeps.fits;
-      leads = keeps.leads;
+      count = keeps.disk.count;
+      opens = either (OpensBy b st.turn keeps.parts.said keeps.parts.payloads keeps.parts.written durable) (IsTrue st.stopped) (OpensNext b st.turn keeps.parts.said keeps.parts.payloads keeps.parts.written keeps.parts.waiting later)
+          (keeps.disk.images b (is_disk.as_read b told));
+      shows = keeps.disk.shows b (is_disk.as_read b told);
+      spelled = keeps.waits.spelled;
+      fits = keeps.waits.fits;
+      leads = keeps.waits.leads;
     }
 
     module _ (durable other : FileState) (later others : List FileState) (here : StoreKeeps d st durable later) (there : StoreKeeps d st other others) where
-      said_is : there.said ≡ here.said
-      said_is = metas b st.turn st.turn there.said here.said
-          (newest b st.turn there.said there.payloads there.written there.waiting other others (tells other others there).opens)
-          (newest b st.turn here.said here.payloads here.written here.waiting durable later (tells durable later here).opens)
+      said_is : there.parts.said ≡ here.parts.said
+      said_is = metas b st.turn st.turn there.parts.said here.parts.said
+          (newest b st.turn there.parts.said there.parts.payloads there.parts.written there.parts.waiting other others (tells other others there).opens)
+          (newest b st.turn here.parts.said here.parts.payloads here.parts.written here.parts.waiting durable later (tells durable later here).opens)
 
-      there_tells : Tells b st.turn st.log.written st.log.groups here.said there.payloads there.written there.waiting other others
-      there_tells = subst (λ m. Tells b st.turn st.log.written st.log.groups m there.payloads there.written there.waiting other others) said_is (tells other others there)
+      there_tells : Tells b st.turn st.log.written st.log.groups here.parts.said there.parts.payloads there.parts.written there.parts.waiting other others
+      there_tells = subst (λ m. Tells b st.turn st.log.written st.log.groups m there.parts.payloads there.parts.written there.parts.waiting other others) said_is (tells other others there)
 
       durable_same : durable ≡ other
-      durable_same = durable_is b st.turn st.log.written st.log.groups here.said here.payloads there.payloads here.written there.written here.waiting there.waiting durable other later others
+      durable_same = durable_is b st.turn st.log.written st.log.groups here.parts.said here.parts.payloads there.parts.payloads here.parts.written there.parts.written here.parts.waiting there.parts.waiting durable other later others
           (tells durable later here) there_tells
 
       later_kept : later ≡ others
-      later_kept = later_is b st.turn st.log.written st.log.groups here.said here.payloads there.payloads here.written there.written here.waiting there.waiting durable other later others
+      later_kept = later_is b st.turn st.log.written st.log.groups here.parts.said here.parts.payloads there.parts.payloads here.parts.written there.parts.written here.parts.waiting there.parts.waiting durable other later others
           (tells durable later here) there_tells
 
   -- a store keeps one file, and the same ones to come
   pub one_durable : (d : DiskModel) → IsDisk d → (st : StoreState) (durable other : FileState) (later others : List FileState)
       → StoreKeeps d st durable later → StoreKeeps d st other others → durable ≡ other
   one_durable d is_disk st durable other later others here there =
-      let told = some_value d.told here.told in
+      let told = some_value d.told here.disk.told in
       durable_same d is_disk st told.0 told.1 durable other later others here there
 
   pub one_later : (d : DiskModel) → IsDisk d → (st : StoreState) (durable other : FileState) (later others : List FileState)
       → StoreKeeps d st durable later → StoreKeeps d st other others → later ≡ others
   one_later d is_disk st durable other later others here there =
-      let told = some_value d.told here.told in
+      let told = some_value d.told here.disk.told in
       later_kept d is_disk st told.0 told.1 durable other later others here there

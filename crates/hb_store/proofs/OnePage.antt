@@ -9,12 +9,12 @@ use Rattle.hb_disk.specs.Model.{DiskModel, IsDisk}
 use Rattle.hb_disk.specs.Calls.{IsSynced, open_gate}
 use Rattle.hb_disk.specs.Events.{IsImage}
 use Rattle.hb_disk.specs.EventLaws.{history_is_disk}
-use Rattle.hb_disk.specs.MemDisk.{StartsWith, bytes_of, seen_as}
+use Rattle.hb_disk.specs.MemDisk.{StartsWith, bytes_of, mem_disk_seen}
 use Rattle.hb_disk.specs.declared.event.Event.{Event}
 use Rattle.hb_disk.specs.declared.mem_disk.MemDisk.{MemDisk}
-use Rattle.hb_disk.specs.RunLaws.{of_value, has_value, some_same}
+use Rattle.hb_disk.specs.ValueLaws.{of_value, has_value, some_same}
 use Rattle.hb_wal.specs.Frames.{IsPayload, range}
-use Rattle.hb_layout.specs.Offsets.{slot_offset}
+use Rattle.hb_layout.specs.Offsets.{slot_offset, log_start}
 use Rattle.hb_super.specs.Superblocks.{IsNewest, body_bytes}
 use Rattle.hb_frag.specs.declared.leaves.Leaf.TheVariants.{Records}
 use Rattle.hb_frag.specs.declared.pages.Page.{Page}
@@ -23,10 +23,9 @@ use Rattle.hb_frag.specs.Trees.{Tip}
 use Rattle.hb_frag.specs.Grammar.{FitsRecord, SpellsPage, page_fields}
 use Rattle.hb_layout.specs.declared.meta.Meta.{Meta}
 use Rattle.hb_ops.specs.Files.{FileState, page_at, page_of}
-use Rattle.hb_layout.specs.Offsets.{log_start}
 use Rattle.hb_store.specs.Opening.{place_bytes}
 use Rattle.hb_store.specs.Keeps.{IsFresh}
-use Rattle.hb_store.specs.StoreLaws.{IsFresh-from}
+use Rattle.hb_store.specs.FreshLaws.{IsFresh-from}
 
 abbrev pub one_meta : Meta
 one_meta = record { k = 1; pages = 1; log = 65536; dcap = 6; icap = 32; root = 1; height = 1; high = 1; live = 1; free = 0 }
@@ -169,11 +168,11 @@ module _ (m r : ℕ) (m_is : 41 + m ≡ 139264) (r_is : 23 + r ≡ 4096) where
 pub only_image : (bytes c : List ℕ) → IsImage bytes [] c → c ≡ bytes
 only_image bytes c image = ext_get_or 0 c bytes image.long (λ i h. image.kept i (λ never. never))
 
-pub one_disk : (m r : ℕ) → 41 + m ≡ 139264 → 23 + r ≡ 4096 → (d : MemDisk) → StartsWith (bytes_with m r) [] d → IsFresh (seen_as d) 0 one_meta one_file
+pub one_disk : (m r : ℕ) → 41 + m ≡ 139264 → 23 + r ≡ 4096 → (d : MemDisk) → StartsWith (bytes_with m r) [] d → IsFresh (mem_disk_seen d) 0 one_meta one_file
 one_disk m r m_is r_is d starts =
     let disk = history_is_disk d.history.bytes.items (reverse d.history.events.items) d.history.clock d.read_faults d.write_faults
     d.history.bytes_fit d.history.size_fits d.history.clock_fits d.history.events_fit in
-    one_fresh m r m_is r_is (seen_as d) disk (ap (λ (l : List ℕ). Some l) starts.holds)
+    one_fresh m r m_is r_is (mem_disk_seen d) disk (ap (λ (l : List ℕ). Some l) starts.holds)
     (λ c image.
     let I : List Event → Type 0 = λ es. IsImage (bytes_of d) es c in
     only_image (bytes_of d) c (subst I (ap (λ (es : List Event). reverse es) starts.nothing) image) ∙ starts.holds)

@@ -1,23 +1,43 @@
 -- A store over a disk on which a file stands whole.
-use Rattle.std.proofs.Common.{◌≡◌, inl, ℕ, ◌-◌, ◌≤◌, Bool, false, List, [], length, replicate, Option, Some, None, refl, sym, ap, ◌∙◌, subst, arith}
+use Rattle.std.proofs.Common.{◌≡◌, inl, ℕ, ◌-◌, ◌≤◌, true, false, List, [], length, replicate, Some, None, refl, sym, ap, ◌∙◌, arith}
+use Rattle.std.specs.Ordering.{nat_cmp}
+use Rattle.std.specs.FinMap as map
+use Rattle.std.specs.FinSet as set
 use Rattle.std.proofs.lemmas.List.Elements.{All-nil}
 use Rattle.hb_disk.specs.Model.{DiskModel, IsDisk}
-use Rattle.hb_disk.specs.RunLaws.{at_value, IsSynced-part}
+use Rattle.hb_disk.specs.ValueLaws.{at_value}
+use Rattle.hb_disk.specs.SyncedLaws.{IsSynced-part}
 use Rattle.hb_wal.specs.Frames.{range}
-use Rattle.hb_wal.specs.Log.{LogState}
 use Rattle.hb_frag.specs.declared.pages.Page.{Page}
 use Rattle.hb_layout.specs.declared.meta.Meta.{Meta}
 use Rattle.hb_ops.specs.Files.{FileState}
 use Rattle.hb_log_codec.specs.Groups.{FitsGroup}
 use Rattle.hb_layout.specs.Offsets.{log_start, file_size}
 use Rattle.hb_store.specs.Opening.{OpensBy}
-use Rattle.hb_store.specs.Keeps.{StoreState, StoreKeeps, IsFresh}
+use Rattle.hb_store.specs.States.{IsMemory, IsNew, IsStanding, new_state}
+use Rattle.hb_store.specs.Keeps.{StoreKeeps, IsFresh}
 use Rattle.hb_store.specs.ReplayLaws.{opens_fresh}
 
-module _ (d : DiskModel) (is_disk : IsDisk d) (turn : ℕ) (meta : Meta) (s : FileState) (fresh : IsFresh d turn meta s) (room : file_size meta ≤ d.size) where
-  abbrev fresh_log : LogState
-  fresh_log = record { area = log_start turn meta; len = meta.log; written = 0; groups = [] }
+-- no page is in memory, and none is imaged
+no_page : (id : ℕ) → map.get (map.empty {X = Page} {R = nat_cmp}) id ≡ None
+no_page id = map.get-empty nat_cmp id
 
+none_imaged : (id : ℕ) → set.contains (set.empty {R = nat_cmp}) id ≡ false
+none_imaged id = set.contains-empty nat_cmp id
+
+pub is_new : (turn : ℕ) (meta : Meta) → IsNew turn meta (new_state turn meta)
+is_new turn meta = record { turn_is = refl; meta_is = refl; log_is = refl; no_page = no_page; none_imaged = none_imaged; running = refl }
+
+pub new_memory : (turn : ℕ) (meta : Meta) → IsStanding turn meta → IsMemory (new_state turn meta)
+new_memory turn meta stands = record {
+  stands = stands;
+  area = refl;
+  len = refl;
+  good = λ id page is. let never : None ≡ Some page = sym (no_page id) ∙ is in cc never;
+  marked = λ id on. let never : false ≡ true = sym (none_imaged id) ∙ on in cc never;
+}
+
+module _ (d : DiskModel) (is_disk : IsDisk d) (turn : ℕ) (meta : Meta) (s : FileState) (fresh : IsFresh d turn meta s) (room : file_size meta ≤ d.size) where
   -- every image opens by the superblock, no payload and no group
   fresh_image : (b : List ℕ) → d.told ≡ Some b → (c : List ℕ) → d.Image c → OpensBy c turn meta [] [] s
   fresh_image b told c image =
@@ -28,18 +48,11 @@ module _ (d : DiskModel) (is_disk : IsDisk d) (turn : ℕ) (meta : Meta) (s : Fi
       ∙ ap (λ (k : ℕ). replicate k 0) (let e : meta.log - 0 ≡ meta.log = omega arith in e))
       fresh.meta_is counted (λ id page is. fresh.pages id page is c image)
 
-  module _ (frame : ℕ → Option Page) (imaged : ℕ → Bool) (no_frame : (id : ℕ) → frame id ≡ None) (none_imaged : (id : ℕ) → imaged id ≡ false) where
-    abbrev new_state : LogState → StoreState
-    new_state log = record { turn = turn; meta = meta; log = log; frame = frame; imaged = imaged; stopped = false }
-
-    fresh_keeps : (b : List ℕ) → d.told ≡ Some b → StoreKeeps d (new_state fresh_log) s []
-    fresh_keeps b told = record {
-      said = meta;
-      payloads = [];
-      written = [];
-      waiting = [];
+  pub fresh_keeps : (b : List ℕ) → d.told ≡ Some b → StoreKeeps d (new_state turn meta) s []
+  fresh_keeps b told = record {
+    parts = record { said = meta; payloads = []; written = []; waiting = [] };
+    disk = record {
       told = fresh.told;
-      layout = record { k = refl; pages = refl; log = refl; dcap = refl; icap = refl };
       count = refl;
       images = λ c image. inl (fresh_image b told c image);
       shows = λ c image. (fresh_image b told c image).shows;
@@ -48,15 +61,13 @@ module _ (d : DiskModel) (is_disk : IsDisk d) (turn : ℕ) (meta : Meta) (s : Fi
         IsSynced-part d 0 8192 _ _ (omega arith) (omega arith) fresh.places,
         IsSynced-part d (log_start turn meta) meta.log (log_start turn meta) 0 (omega arith) (omega arith) fresh.logged.synced,
       );
-      spelled = refl;
-      fits = All-nil (FitsGroup meta.k);
-      leads = refl;
-      touched = λ id. (λ is. cc (none_imaged id, is), λ some. cc some);
-      synced = λ id page off is c image. fresh.pages id page is c image;
+    };
+    waits = record { spelled = refl; fits = All-nil (FitsGroup meta.k); leads = refl };
+    imaged = record { touched = λ id. none_imaged id; synced = λ id page off is c image. fresh.pages id page is c image };
+    memory = record {
+      layout = record { k = refl; pages = refl; log = refl; dcap = refl; icap = refl };
       meta_is = fresh.meta_is;
-      framed = λ id page is. cc (no_frame id, is);
-      unframed = λ id page e none is tells. fresh.pages id page is e (is_disk.as_read e tells);
-    }
-
-    pub new_keeps : (log : LogState) → log ≡ fresh_log → (b : List ℕ) → d.told ≡ Some b → StoreKeeps d (new_state log) s []
-    new_keeps log log_is b told = let Q : LogState → Type 0 = λ l. StoreKeeps d (new_state l) s [] in subst Q (sym log_is) (fresh_keeps b told)
+      cached = λ id page is. let never : None ≡ Some page = sym (no_page id) ∙ is in cc never;
+      placed = λ id page e none is tells. fresh.pages id page is e (is_disk.as_read e tells);
+    };
+  }

@@ -13,7 +13,8 @@ use Rattle.hb_log_codec.specs.Groups.{Logged}
 use Rattle.hb_store.specs.Replay.{IsAllowedIn, MayFollow, Replayed, after_group, after_op, change_in, replay, set_pages, touched_read, with_images}
 use Rattle.hb_store.specs.ReplayLists.{set_one-same, set_one-other}
 use Rattle.hb_store.specs.Opening.{IsPageIn, Shows}
-use Rattle.hb_store.specs.Keeps.{AreImagesOf, Leads, last_of}
+use Rattle.hb_store.specs.Parts.{AreImagesOf, Leads}
+use Rattle.hb_store.specs.Keeps.{last_of}
 use Rattle.hb_store.proofs.Counting.{HasCount, effect_count, effect_reaches}
 use Rattle.hb_store.proofs.FilePages.{pages_set}
 use Rattle.hb_store.proofs.MadeMeta.{reads_some, some_page}

@@ -21,7 +21,7 @@ use Rattle.hb_store.specs.Replaying.{AreItsPages, ComesAfter, HasLimits, IsPageO
 use Rattle.hb_store.specs.Making.{IsReadable, MakesGoodPages}
 use Rattle.hb_store.proofs.Grouped.{good_spelled}
 use Rattle.hb_store.proofs.MadeMeta.{comes_after, made_numbered, reads_some, some_page}
-use Rattle.hb_store.proofs.Marking.{all_set}
+use Rattle.hb_store.proofs.Setting.{all_set}
 
 -- a page of the file that can be written
 abbrev pub IsGood : Meta → ℕ × Page → Type 0

@@ -1,16 +1,17 @@
 -- What tests use of a store: over a disk that tells nothing no licence is owed, and reads leave the groups as they are.
-use Rattle.std.proofs.Common.{◌≡◌, ◌⊎◌, inl, inr, ℕ, ◌≤◌, true, false, List, All, sym, ap, ◌∙◌, subst}
+use Rattle.std.proofs.Common.{◌≡◌, inl, inr, ℕ, ◌≤◌, true, false, List, All, sym, ap, ◌∙◌, subst}
 use Rattle.hb_disk.specs.Untold.{untold_of}
 use Rattle.hb_wal.specs.Log.{LogState, Waiting}
 use Rattle.hb_ops.specs.declared.operations.Op.{Op}
 use Rattle.hb_ops.specs.Files.{FileState}
 use Rattle.hb_ops.specs.Operations.{IsLicensed}
 use Rattle.hb_store.specs.Calls.{Fetched}
-use Rattle.hb_store.specs.Keeps.{StoreState, StoreKeeps, last_of}
+use Rattle.hb_store.specs.States.{StoreState}
+use Rattle.hb_store.specs.Keeps.{StoreKeeps, last_of}
 use Rattle.hb_store.specs.NextPage.{MayFetch}
 
 pub licensed : (size reads writes : ℕ) (st : StoreState) (op : Op) (durable : FileState) (later : List FileState) → StoreKeeps (untold_of size reads writes) st durable later → IsLicensed (last_of durable later) op
-licensed size reads writes st op durable later keeps = let told : false ≡ true = keeps.told in absurd cc
+licensed size reads writes st op durable later keeps = let told : false ≡ true = keeps.disk.told in absurd cc
 
 pub fetched_runs : (id : ℕ) (old new : StoreState) → Fetched id old new → old.stopped ≡ false → new.stopped ≡ false
 fetched_runs id old new fetched runs = fetched.rest.stopped ∙ runs

@@ -1,5 +1,5 @@
 -- What the calls of a store do to what it is seen as.
-use Rattle.std.specs.Prelude.{◌≡◌, ◌≢◌, ℕ, ◌-◌, ◌≤◌, true, List, [], ◌∷◌, ◌++◌, get_or, Option, IsSome}
+use Rattle.std.specs.Prelude.{◌≡◌, ◌≢◌, ℕ, ◌-◌, ◌≤◌, ◌||◌, true, List, [], ◌∷◌, ◌++◌, get_or, Option, IsSome}
 use Rattle.hb_space.specs.declared.form.TheConstants.{GROUP, PENDING}
 use Rattle.hb_frag.specs.declared.pages.LivePage.{LivePage}
 use Rattle.hb_ops.specs.declared.operations.Op.{Op}
@@ -7,56 +7,79 @@ use Rattle.hb_ops.specs.Files.{FileState, if_live}
 use Rattle.hb_ops.specs.Operations.{Change, IsAllowedOn, change_of, effect_of, reads_of}
 use Rattle.hb_wal.specs.Log.{LogState, after_force, pending_bytes, room_of}
 use Rattle.hb_store.specs.Replay.{set_pages}
-use Rattle.hb_store.specs.Keeps.{StoreState, last_of}
+use Rattle.hb_store.specs.States.{StoreState, in_memory, is_imaged}
+use Rattle.hb_store.specs.Keeps.{last_of}
+use Rattle.hb_store.specs.Marks.{has_page, is_among}
 
--- the page in use that an operation reads at a place of its list, among those in frames
-abbrev pub framed_read : StoreState → Op → ℕ → Option LivePage
-framed_read st op place = if_live (st.frame (get_or (reads_of op) place 0))
+-- the page in use that an operation reads at a place of its list, among those in memory
+abbrev pub read_here : StoreState → Op → ℕ → Option LivePage
+read_here st op place = if_live (in_memory st (get_or (reads_of op) place 0))
 
--- an operation is allowed on the pages in frames, and what it makes of them
+-- an operation is allowed on the pages in memory, and what it makes of them
 abbrev pub IsAllowedHere : StoreState → Op → Type 0
-IsAllowedHere st op = IsAllowedOn op st.meta (framed_read st op 0) (framed_read st op 1) (framed_read st op 2)
+IsAllowedHere st op = IsAllowedOn op st.meta (read_here st op 0) (read_here st op 1) (read_here st op 2)
 
 abbrev pub change_here : StoreState → Op → Change
-change_here st op = change_of op st.meta (framed_read st op 0) (framed_read st op 1) (framed_read st op 2)
+change_here st op = change_of op st.meta (read_here st op 0) (read_here st op 1) (read_here st op 2)
 
--- all but the frames is the same
-pub record KeepsAllButFrames (old new : StoreState) : Type 0 where
+-- all but the pages in memory is the same
+pub record KeepsAllButPages (old new : StoreState) : Type 0 where
+  -- the turn is as before
   pub turn : new.turn ≡ old.turn
+  -- what the file says is as before
   pub meta : new.meta ≡ old.meta
+  -- the log is as before
   pub log : new.log ≡ old.log
-  pub imaged : (id : ℕ) → new.imaged id ≡ old.imaged id
+  -- no page more is imaged
+  pub imaged : new.imaged ≡ old.imaged
+  -- it was stopped where it was before
   pub stopped : new.stopped ≡ old.stopped
 
--- A fetch: the page of the number is in a frame now, and the other frames are as before.
+-- A fetch: the page of the number is in memory now, and the other pages there are as before.
 pub record Fetched (id : ℕ) (old new : StoreState) : Type 0 where
-  pub rest : KeepsAllButFrames old new
-  pub there : IsSome (new.frame id)
-  pub kept : (q : ℕ) → IsSome (old.frame q) → new.frame q ≡ old.frame q
-  pub others : (q : ℕ) → q ≢ id → new.frame q ≡ old.frame q
+  -- all but the pages in memory is as before
+  pub rest : KeepsAllButPages old new
+  -- the page is in memory
+  pub there : IsSome (in_memory new id)
+  -- a page that was there is there as it was
+  pub kept : (q : ℕ) → IsSome (in_memory old q) → in_memory new q ≡ in_memory old q
+  -- no other page came
+  pub others : (q : ℕ) → q ≢ id → in_memory new q ≡ in_memory old q
 
--- A commit: the changed pages are in their frames, and one group more waits, with its mark.
+-- A commit: the changed pages are in memory, they and those that were read are imaged or made in this turn, and one group
+-- more waits, with its mark.
 pub record Commits (op : Op) (mark : ℕ) (old new : StoreState) : Type 0 where
+  -- the turn is as before
   pub turn : new.turn ≡ old.turn
+  -- it was stopped where it was before
   pub stopped : new.stopped ≡ old.stopped
+  -- the file says what the operation makes of it
   pub meta : new.meta ≡ (change_here old op).meta
-  pub frame : (id : ℕ) → new.frame id ≡ set_pages (change_here old op).pages old.frame id
+  -- the pages that it makes are in memory
+  pub pages : (id : ℕ) → in_memory new id ≡ set_pages (change_here old op).pages (in_memory old) id
+  -- these and the pages that it reads are imaged or made in this turn
+  pub imaged : (id : ℕ) → is_imaged new id ≡ (has_page id (change_here old op).pages || (is_among id (reads_of op) || is_imaged old id))
+  -- the log lies where it did
   pub area : new.log.area ≡ old.log.area
+  -- it is as long as before
   pub len : new.log.len ≡ old.log.len
+  -- no frame was written
   pub written : new.log.written ≡ old.log.written
+  -- the bytes of the group
   pub group : List ℕ
+  -- it waits behind the others, with its mark
   pub groups : new.log.groups ≡ old.log.groups ++ record { bytes = group; mark = mark } ∷ []
 
 -- a store after a force: the first group that waited doesn't any more
 abbrev pub with_log : LogState → StoreState → StoreState
-with_log log st = record { turn = st.turn; meta = st.meta; log = log; frame = st.frame; imaged = st.imaged; stopped = st.stopped }
+with_log log st = record { turn = st.turn; meta = st.meta; log = log; pages = st.pages; imaged = st.imaged; stopped = st.stopped }
 
 abbrev pub forced_state : StoreState → StoreState
 forced_state st = with_log (after_force st.log) st
 
 -- a store that a fault has stopped
 abbrev pub stopped_state : StoreState → StoreState
-stopped_state st = record { turn = st.turn; meta = st.meta; log = st.log; frame = st.frame; imaged = st.imaged; stopped = true }
+stopped_state st = record { turn = st.turn; meta = st.meta; log = st.log; pages = st.pages; imaged = st.imaged; stopped = true }
 
 -- The files after a force: the next one is durable, where a group waited.
 abbrev pub durable_after : FileState → List FileState → FileState

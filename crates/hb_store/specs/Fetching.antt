@@ -1,29 +1,20 @@
 -- What a fetch reads, and what it makes of a store.
-use Rattle.std.specs.Prelude.{◌≡◌, ◌≢◌, ◌==◌, if◌then◌else◌, ℕ, List, false, Some}
-use Rattle.std.specs.Ordering.{nat_cmp}
-use Rattle.std.specs.BTreeMap.{BTreeMap, get}
+use Rattle.std.specs.Prelude.{◌≡◌, ◌≢◌, ℕ, List}
+use Rattle.std.specs.FinMap as map
 use Rattle.hb_frag.specs.declared.pages.LivePage.{LivePage}
 use Rattle.hb_frag.specs.declared.pages.Page.{Page}
 use Rattle.hb_frag.specs.declared.pages.Page.TheVariants.{Live}
 use Rattle.hb_layout.specs.declared.meta.Meta.{Meta}
 use Rattle.hb_ops.specs.LocalRule.{BreaksFirst}
-use Rattle.hb_store.specs.Keeps.{StoreState}
+use Rattle.hb_store.specs.States.{StoreState}
 use Rattle.hb_store.specs.Stops.{IsDamagedBy}
-use Rattle.hb_store.specs.declared.frames.Frame.{Frame}
 use Rattle.hb_store.specs.declared.stops.FetchStop.{FetchStop}
 use Rattle.hb_store.specs.declared.stops.FetchStop.TheVariants as fetches
 use Rattle.hb_store.specs.declared.stops.Why.TheVariants.{Rule, Level, Extent}
 
--- a store with a page in a frame
-abbrev pub with_frame : ℕ → Page → StoreState → StoreState
-with_frame id page st = record { turn = st.turn; meta = st.meta; log = st.log; frame = λ q. if q == id then Some page else st.frame q; imaged = st.imaged; stopped = st.stopped }
-
--- a page was put among frames, and else nothing changed
-abbrev pub HasPut : ℕ → Page → BTreeMap ℕ Frame → BTreeMap ℕ Frame → Type 0
-HasPut id page old new = (q : ℕ) → get nat_cmp new q ≡ (if q == id then Some (record { page = page; imaged = false }) else get nat_cmp old q)
-
-abbrev pub SameFrames : BTreeMap ℕ Frame → BTreeMap ℕ Frame → Type 0
-SameFrames old new = (q : ℕ) → get nat_cmp new q ≡ get nat_cmp old q
+-- a store with a page in memory, under its number
+abbrev pub with_held : ℕ → Page → StoreState → StoreState
+with_held id page st = record { turn = st.turn; meta = st.meta; log = st.log; pages = map.insert st.pages id page; imaged = st.imaged; stopped = st.stopped }
 
 -- The page breaks a rule that speaks of it alone, and the stop names it.
 abbrev pub BreaksHere : Meta → ℕ → Page → FetchStop → Type 0

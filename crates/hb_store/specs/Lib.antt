@@ -1,9 +1,11 @@
 pub mod Replay
 pub mod Payloads
 pub mod Opening
+pub mod States
+pub mod Codes
+pub mod Inside
+pub mod Parts
 pub mod Keeps
-pub mod Frames
-pub mod Propositions
 pub mod Seen
 pub mod Calls
 pub mod Stops
@@ -12,6 +14,7 @@ pub mod Marks
 pub mod ReplayLists
 pub mod ReplayLaws
 pub mod StoreLaws
+pub mod FreshLaws
 pub mod Fetching
 pub mod ImageLaws
 pub mod Replaying

@@ -1,15 +1,18 @@
 -- What an allowed operation makes can be written, and has its place in the log.
-use Rattle.std.specs.Prelude.{◌≡◌, ◌<◌, ◌^◌, length, All, Option, Some}
+use Rattle.std.specs.Prelude.{◌≡◌, ℕ, ◌+◌, ◌<◌, ◌≤◌, ◌^◌, length, All, Option, Some}
 use Rattle.hb_frag.specs.declared.pages.LivePage.{LivePage}
+use Rattle.hb_frag.specs.declared.pages.Page.{Page}
 use Rattle.hb_frag.specs.declared.pages.Page.TheVariants.{Live}
 use Rattle.hb_frag.specs.Grammar.{HasSpelling}
 use Rattle.hb_layout.specs.declared.meta.Meta.{Meta}
 use Rattle.hb_ops.specs.declared.operations.Op.{Op}
 use Rattle.hb_ops.specs.declared.operations.Op.TheVariants.{Put, Del, Extract, Post, Grow}
-use Rattle.hb_ops.specs.Operations.{IsAllowedOn, change_of}
-use Rattle.hb_log_codec.specs.Groups.{FitsLeafCut, FitsOp}
-use Rattle.hb_store.specs.Keeps.{IsGoodPage}
-use Rattle.hb_store.specs.Replaying.{HasLimits}
+use Rattle.hb_ops.specs.Operations.{Change, IsAllowedOn, change_of}
+use Rattle.hb_log_codec.specs.Groups.{FitsGroup, FitsLeafCut, FitsOp}
+use Rattle.hb_store.specs.States.{IsGoodPage, IsMemory, IsSameLayout, IsStanding, StoreState}
+use Rattle.hb_store.specs.Calls.{change_here}
+use Rattle.hb_store.specs.Images.{group_here}
+use Rattle.hb_store.specs.Replaying.{HasLimits, IsPageOf}
 
 -- the page that an operation reads can be written
 abbrev pub IsReadable : Option LivePage → Type 0
@@ -31,3 +34,28 @@ HasFittingParts (Grow fresh free_after) = Unit {0}
 -- An allowed operation's have.
 abbrev pub HaveFittingParts : Type 0
 HaveFittingParts = (op : Op) (meta : Meta) (first second third : Option LivePage) → HasLimits meta → IsAllowedOn op meta first second third → IsReadable first → HasFittingParts op
+
+-- What an operation changes: the layout stays, what the file says of itself still stands, good pages are good, and each
+-- changed page is one of the file then, and is good.
+pub record ChangesWell (turn : ℕ) (meta : Meta) (change : Change) : Type 0 where
+  -- the file is laid down as before
+  pub layout : IsSameLayout meta change.meta
+  -- what it says of itself is within its limits
+  pub stands : IsStanding turn meta → IsStanding turn change.meta
+  -- the high mark does not fall
+  pub high : meta.high ≤ change.meta.high
+  -- it rises by one at most
+  pub next : change.meta.high ≤ meta.high + 1
+  -- a page that was good is good
+  pub others : (page : Page) → IsGoodPage meta page → IsGoodPage change.meta page
+  -- each changed page is of the file, and good
+  pub pages : All (λ c. IsPageOf change.meta c.0 × IsGoodPage change.meta c.1) change.pages
+
+-- What an operation makes of a store is well made, and its group fits the log.
+pub record MakesWell (op : Op) (st : StoreState) : Type 0 where
+  -- the store was one
+  pub memory : IsMemory st
+  -- what the operation makes is well made
+  pub change : ChangesWell st.turn st.meta (change_here st op)
+  -- its group has its place in a frame
+  pub group : FitsGroup st.meta.k (group_here st op)

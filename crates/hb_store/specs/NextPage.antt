@@ -5,7 +5,7 @@ use Rattle.hb_frag.specs.declared.pages.LivePage.{LivePage}
 use Rattle.hb_frag.specs.declared.pages.Page.TheVariants.{Live, Free}
 use Rattle.hb_layout.specs.declared.meta.Meta.{Meta}
 use Rattle.hb_store.specs.Calls.{Fetched}
-use Rattle.hb_store.specs.Keeps.{StoreState}
+use Rattle.hb_store.specs.States.{StoreState, in_memory}
 use Rattle.hb_store.specs.Stops.{FetchesNot}
 use Rattle.hb_store.specs.declared.stops.FetchStop.{FetchStop}
 use Rattle.hb_store.specs.declared.stops.FetchStop.TheVariants.{Damaged}
@@ -18,12 +18,12 @@ MayFetch id old new = (new ≡ old) ⊎ Fetched id old new
 -- The number that is taken, and the free head after it: the first of the free chain and what it names, or where the
 -- chain has none the number behind the high mark, and none.
 pub record IsNext (st : StoreState) (fresh free_after : ℕ) : Type 0 where
-  pub from_chain : st.meta.free ≢ 0 → (fresh ≡ st.meta.free) × (st.frame fresh ≡ Some (Free free_after))
+  pub from_chain : st.meta.free ≢ 0 → (fresh ≡ st.meta.free) × (in_memory st fresh ≡ Some (Free free_after))
   pub from_behind : st.meta.free ≡ 0 → (fresh ≡ st.meta.high + 1) × (st.meta.high < st.meta.pages) × (free_after ≡ 0)
 
 -- The head of the free chain is none that is free: it isn't fetched, or it is in use.
 abbrev pub IsNoHead : Meta → DiskModel → StoreState → ℕ → FetchStop → Type 0
-IsNoHead meta d new head stop = FetchesNot meta d head stop ⊎ ((page : LivePage) × (new.frame head ≡ Some (Live page)) × (stop ≡ Damaged head (Rule 2)))
+IsNoHead meta d new head stop = FetchesNot meta d head stop ⊎ ((page : LivePage) × (in_memory new head ≡ Some (Live page)) × (stop ≡ Damaged head (Rule 2)))
 
 -- Why no number is given although there is room: the head of the chain is none, or the chain has none and no number is
 -- left behind the high mark.

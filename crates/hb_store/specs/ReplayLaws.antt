@@ -13,7 +13,8 @@ use Rattle.hb_store.specs.Payloads.{SpellAll}
 use Rattle.hb_store.specs.Replay.{Replayed, untouched, with_images, after_group, MayFollow, replay, MayReplay}
 use Rattle.hb_layout.specs.Offsets.{file_size}
 use Rattle.hb_store.specs.Opening.{IsPageIn, OpensBy, log_bytes, place_bytes}
-use Rattle.hb_store.specs.Keeps.{AreImagesOf, Leads, last_of}
+use Rattle.hb_store.specs.Parts.{AreImagesOf, Leads}
+use Rattle.hb_store.specs.Keeps.{last_of}
 use Rattle.hb_store.specs.ReplayLists.{set_pages-some}
 
 -- groups after groups

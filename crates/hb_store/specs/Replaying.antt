@@ -12,7 +12,7 @@ use Rattle.hb_log_codec.specs.Groups.{Logged, SpellsGroups}
 use Rattle.hb_store.specs.Payloads.{SpellAll}
 use Rattle.hb_store.specs.Replay.{Replayed, untouched, set_pages, replay, MayReplay}
 use Rattle.hb_store.specs.Opening.{IsBadPayload}
-use Rattle.hb_store.specs.Keeps.{IsSameLayout}
+use Rattle.hb_store.specs.States.{IsSameLayout}
 use Rattle.hb_store.specs.declared.touched.LogStop.{LogStop}
 use Rattle.hb_store.specs.declared.touched.LogStop.TheVariants as logs
 use Rattle.hb_store.specs.declared.touched.Touched.{Touched}

@@ -1,26 +1,23 @@
 -- What follows of what a store keeps: what its disk opens to, and how many files are to come.
-use Rattle.std.proofs.Common.{◌≡◌, ◌⊎◌, inl, inr, ℕ, ◌+◌, ◌-◌, ◌≤◌, Bool, false, IsTrue, List, [], ◌∷◌, ◌++◌, length, map, get_or, take, drop, replicate, Some, IsSome, refl, sym, ap, ◌∙◌, arith}
-use Rattle.std.proofs.lemmas.List.{get_or-take, get_or-drop}
-use Rattle.hb_disk.specs.Model.{DiskModel, IsDisk}
-use Rattle.hb_disk.specs.Calls.{IsSynced}
-use Rattle.hb_disk.specs.RunLaws.{part_of, some_value, at_value}
-use Rattle.hb_wal.specs.Frames.{range}
-use Rattle.hb_wal.specs.Forces.{HasLog}
+use Rattle.std.proofs.Common.{◌≡◌, ◌⊎◌, inl, inr, ℕ, Bool, false, IsTrue, List, [], ◌∷◌, ◌++◌, length, map, refl, ap, ◌∙◌, arith}
+use Rattle.hb_disk.specs.Model.{DiskModel}
 use Rattle.hb_wal.specs.Log.{Waiting}
-use Rattle.hb_layout.specs.Offsets.{slot_offset}
-use Rattle.hb_super.specs.Superblocks.{HasSuper, IsNewest}
 use Rattle.hb_layout.specs.declared.meta.Meta.{Meta}
-use Rattle.hb_ops.specs.Files.{FileState, page_of}
-use Rattle.hb_frag.specs.declared.pages.Page.{Page}
-use Rattle.hb_frag.specs.Grammar.{SpellsPage}
+use Rattle.hb_ops.specs.Files.{FileState}
 use Rattle.hb_log_codec.specs.Groups.{Logged, group_bytes}
 use Rattle.hb_store.specs.Replay.{Replayed}
-use Rattle.hb_layout.specs.Offsets.{log_start, file_size}
-use Rattle.hb_store.specs.Opening.{OpensBy, OpensTo, place_bytes}
-use Rattle.hb_store.specs.Keeps.{StoreState, StoreKeeps, Leads, OpensNext, OpensToFirst, IsFresh}
-use Rattle.hb_store.specs.ReplayLaws.{opens_fresh}
+use Rattle.hb_store.specs.Opening.{OpensBy, OpensTo}
+use Rattle.hb_store.specs.States.{StoreState}
+use Rattle.hb_store.specs.Parts.{Parts, Leads, OpensNext}
+use Rattle.hb_store.specs.Keeps.{StoreKeeps, OpensToFirst}
 
--- by the durable file's groups, or by those and the first that waits
+-- By the durable file's groups, or by those and the first that waits. `OpensHere` and `OpensOn` say so of a store's parts.
+abbrev pub OpensHere : List ℕ → ℕ → Parts → FileState → Type 0
+OpensHere c turn p durable = OpensBy c turn p.said p.payloads p.written durable
+
+abbrev pub OpensOn : List ℕ → ℕ → Parts → List FileState → Type 0
+OpensOn c turn p later = OpensNext c turn p.said p.payloads p.written p.waiting later
+
 pub opens_first : (c : List ℕ) (turn : ℕ) (said : Meta) (payloads : List (List ℕ)) (written waiting : List Logged) (durable : FileState) (later : List FileState)
     → OpensBy c turn said payloads written durable ⊎ OpensNext c turn said payloads written waiting later → OpensToFirst durable later c
 opens_first c turn said payloads written waiting durable [] (inl by) = record { turn = turn; said = said; payloads = payloads; groups = written; by = by }
@@ -42,20 +39,21 @@ as_waits A B C (inr (b, c)) = inr c
 pub StoreKeeps-opens : (d : DiskModel) (st : StoreState) (durable : FileState) (later : List FileState) → StoreKeeps d st durable later
     → (c : List ℕ) → d.Image c → OpensToFirst durable later c
 StoreKeeps-opens d st durable later keeps c image =
-    opens_first c st.turn keeps.said keeps.payloads keeps.written keeps.waiting durable later
-    (as_waits (OpensBy c st.turn keeps.said keeps.payloads keeps.written durable) (IsTrue st.stopped) (OpensNext c st.turn keeps.said keeps.payloads keeps.written keeps.waiting later) (keeps.images c image))
+    let p = keeps.parts in
+    opens_first c st.turn p.said p.payloads p.written p.waiting durable later
+    (as_waits (OpensHere c st.turn p durable) (IsTrue st.stopped) (OpensOn c st.turn p later) (keeps.disk.images c image))
 
 -- While the store runs, each image opens to the durable file: by the written groups, and so at all.
 pub StoreKeeps-by : (d : DiskModel) (st : StoreState) (durable : FileState) (later : List FileState) → (keeps : StoreKeeps d st durable later) → st.stopped ≡ false
-    → (c : List ℕ) → d.Image c → OpensBy c st.turn keeps.said keeps.payloads keeps.written durable
+    → (c : List ℕ) → d.Image c → OpensHere c st.turn keeps.parts durable
 StoreKeeps-by d st durable later keeps going c image =
-    running_only st.stopped (OpensBy c st.turn keeps.said keeps.payloads keeps.written durable) (OpensNext c st.turn keeps.said keeps.payloads keeps.written keeps.waiting later)
-    going (keeps.images c image)
+    running_only st.stopped (OpensHere c st.turn keeps.parts durable) (OpensOn c st.turn keeps.parts later) going (keeps.disk.images c image)
 
 pub StoreKeeps-running : (d : DiskModel) (st : StoreState) (durable : FileState) (later : List FileState) → StoreKeeps d st durable later → st.stopped ≡ false
     → (c : List ℕ) → d.Image c → OpensTo c durable
 StoreKeeps-running d st durable later keeps going c image =
-    record { turn = st.turn; said = keeps.said; payloads = keeps.payloads; groups = keeps.written; by = StoreKeeps-by d st durable later keeps going c image }
+    let p = keeps.parts in
+    record { turn = st.turn; said = p.said; payloads = p.payloads; groups = p.written; by = StoreKeeps-by d st durable later keeps going c image }
 
 -- one file is to come for each group that waits
 count_both : (groups : List Waiting) (waiting : List Logged) (t : Replayed) (s : FileState) (later : List FileState)
@@ -70,7 +68,7 @@ count_both (w ∷ groups) (g ∷ waiting) t s (next ∷ later) same leads =
     omega (arith, count)
 
 pub StoreKeeps-one : (d : DiskModel) (st : StoreState) (durable : FileState) (later : List FileState) → StoreKeeps d st durable later → length later ≡ length st.log.groups
-StoreKeeps-one d st durable later keeps = count_both st.log.groups keeps.waiting _ durable later keeps.spelled keeps.leads
+StoreKeeps-one d st durable later keeps = count_both st.log.groups keeps.parts.waiting _ durable later keeps.waits.spelled keeps.waits.leads
 
 none_left : (later : List FileState) → length later ≡ 0 → later ≡ []
 none_left [] count = refl
@@ -79,46 +77,3 @@ none_left (next ∷ later) count = absurd (omega (arith, count))
 pub StoreKeeps-alone : (d : DiskModel) (st : StoreState) (durable : FileState) (later : List FileState) → StoreKeeps d st durable later → st.log.groups ≡ [] → later ≡ []
 StoreKeeps-alone d st durable later keeps none =
     none_left later (StoreKeeps-one d st durable later keeps ∙ ap (λ (l : List Waiting). length l) none)
-
--- Bytes that are the same in both superblock places have the same newest superblock.
-module _ (b c : List ℕ) (same : take 8192 (drop 0 c) ≡ take 8192 (drop 0 b)) where
-  gate_same : (turn : ℕ) → get_or c (slot_offset turn) 0 ≡ get_or b (slot_offset turn) 0
-  gate_same turn =
-      let at : (l : List ℕ) → get_or (take 1 (drop (slot_offset turn) l)) 0 0 ≡ get_or l (slot_offset turn) 0
-      = λ l. get_or-take 1 (drop (slot_offset turn) l) 0 0 (omega arith) ∙ get_or-drop (slot_offset turn) l 0 0
-      ∙ ap (λ (k : ℕ). get_or l k 0) (let e : slot_offset turn + 0 ≡ slot_offset turn = omega arith in e) in
-      sym (at c) ∙ ap (λ (l : List ℕ). get_or l 0 0) (part_of 0 8192 (slot_offset turn) 1 c b (omega arith) (omega arith) same) ∙ at b
-
-  body_same : (turn : ℕ) → take 40 (drop (slot_offset turn + 1) c) ≡ take 40 (drop (slot_offset turn + 1) b)
-  body_same turn = part_of 0 8192 (slot_offset turn + 1) 40 c b (omega arith) (omega arith) same
-
-  pub HasSuper-elsewhere : (turn : ℕ) (meta : Meta) → HasSuper b turn meta → HasSuper c turn meta
-  HasSuper-elsewhere turn meta has = record { legal = has.legal; gate = gate_same turn ∙ has.gate; body = body_same turn ∙ has.body }
-
-pub IsNewest-elsewhere : (b c : List ℕ) → take 8192 (drop 0 c) ≡ take 8192 (drop 0 b) → (turn : ℕ) (meta : Meta) → IsNewest b turn meta → IsNewest c turn meta
-IsNewest-elsewhere b c same turn meta newest = record {
-  there = HasSuper-elsewhere b c same turn meta newest.there;
-  newer = λ other said has apart. newest.newer other said (HasSuper-elsewhere c b (sym same) other said has) apart;
-}
-
--- A store may start from a disk of such a size whose images all have this superblock, a log of zeros and these pages.
-pub IsFresh-from : (d : DiskModel) → IsDisk d → IsSome d.told → (turn : ℕ) (meta : Meta) (s : FileState) → file_size meta ≤ d.size → s.meta ≡ meta → length s.pages ≡ meta.high
-    → ((c : List ℕ) → d.Image c → IsNewest c turn meta) → IsSynced d 0 8192 → HasLog d (record { area = log_start turn meta; len = meta.log; written = 0; groups = [] }) []
-    → ((id : ℕ) (page : Page) → page_of s id ≡ Some page → (c : List ℕ) → d.Image c → SpellsPage (place_bytes meta id c) page) → IsFresh d turn meta s
-IsFresh-from d is_disk tells turn meta s room meta_is count newest places logged pages = record {
-  told = tells;
-  meta_is = meta_is;
-  newest = newest;
-  images = λ c image. record { turn = turn; said = meta; payloads = []; groups = []; by = fresh_image c image };
-  places = places;
-  logged = logged;
-  pages = pages;
-}
-  where
-    fresh_image : (c : List ℕ) → d.Image c → OpensBy c turn meta [] [] s
-    fresh_image c image =
-        let told = some_value d.told tells in
-        opens_fresh c turn meta s (newest c image) (omega (arith, is_disk.long c image, room))
-        (logged.synced.each told.0 c told.1 image ∙ at_value d.told (λ b. range (log_start turn meta) meta.log b ≡ replicate (meta.log - 0) 0) told.0 told.1 logged.reads
-        ∙ ap (λ (k : ℕ). replicate k 0) (let e : meta.log - 0 ≡ meta.log = omega arith in e))
-        meta_is count (λ id page is. pages id page is c image)

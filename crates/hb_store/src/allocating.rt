@@ -6,6 +6,7 @@ ghost use Rattle.hb_frag.specs.declared.pages.Page.TheVariants.{Free};
 ghost use Rattle.hb_ops.specs.Allocating.{Allocates, NamesNext};
 ghost use Rattle.hb_ops.specs.Files.{FileState, page_of};
 ghost use Rattle.hb_ops.specs.Sound.{IsSound};
+ghost use Rattle.hb_store.specs.States.{IsMemory, in_memory};
 ghost use Rattle.hb_store.specs.Keeps.{StoreKeeps, last_of};
 ghost use Rattle.hb_store.specs.NextPage.{IsNext, IsNoHead, LacksNext, MayFetch};
 ghost use Rattle.hb_store.specs.Seen.{seen_as};
@@ -41,23 +42,24 @@ impl<D: Device> Store<D> {
         ensures sound { (durable : FileState) (later : List FileState) → StoreKeeps (D.model self.old.disk) (seen_as self.old) durable later →
             IsSound (last_of durable later) → IfErr result (λ stop. (stop ≢ FetchStop.ReadFault) → (stop ≢ FetchStop.NoMemory) → ⊥) }
     {
-        if self.meta.live == self.meta.pages {
+        let meta = *self.memory.meta();
+        if meta.live == meta.pages {
             return Ok(None);
         }
-        let head = self.meta.free;
-        if head != 0 {
-            let next = self.free_head(head)?;
-            return Ok(Some((head, next)));
+        if meta.free != 0 {
+            let next = self.free_head(meta.free)?;
+            return Ok(Some((meta.free, next)));
         }
-        if self.meta.high == self.meta.pages {
+        if meta.high == meta.pages {
             return Err(damaged(0, 2));
         }
-        Ok(Some((self.meta.high + 1, 0)))
+        Ok(Some((meta.high + 1, 0)))
     }
 
     /// What the first page of the free chain names. It is fetched.
     fn free_head(&mut self, head: u32) -> Result<u32, FetchStop>
-        ensures named { IfOk result (λ next. (seen_as self.new).frame head ≡ Some (Free next)) }
+        ensures named { IfOk result (λ next. in_memory (seen_as self.new) head ≡ Some (Free next)) }
+        ensures memory { OnOk result (IsMemory (seen_as self.new)) }
         ensures fetches { MayFetch head (seen_as self.old) (seen_as self.new) }
         ensures only_reads { OnlyReads (D.model self.old.disk) (D.model self.new.disk) }
         ensures why { IfErr result (IsNoHead (seen_as self.old).meta (D.model self.old.disk) (seen_as self.new) head) }

@@ -21,9 +21,9 @@ const PUT: [u8; 14] = [1, 0, 0, 0, 1, 0, 0, 0, 0, 0, 0, 0, 1, 0];
 /// The frame of the delete of the point 1 from page 1, whose group has no image.
 const LAST: [u8; 19] = [0xA5, 0, 0, 0, 14, 0, 2, 0, 0, 0, 1, 0, 0, 0, 0, 0, 0, 0, 1];
 
-/// The store with page 1 in a frame.
+/// The store with page 1 in memory.
 #[tactic(auto, using(crate::proofs::Untold::fetched_runs, crate::proofs::Untold::fetched_marks))]
-pub(crate) fn framed(mut store: Store<RotDisk>) -> Result<Store<RotDisk>, Fail>
+pub(crate) fn fetched(mut store: Store<RotDisk>) -> Result<Store<RotDisk>, Fail>
     requires running { (seen_as store).stopped ≡ false }
     requires marks { All (λ g. g.mark ≤ 7) (seen_as store).log.groups }
     ensures running { IfOk result (λ store. (seen_as store).stopped ≡ false) }
@@ -66,7 +66,7 @@ pub(crate) fn done(store: &mut Store<RotDisk>, op: Op) -> Result<bool, Fail>
     ensures running { (seen_as store.new).stopped ≡ false }
     ensures marks { All (λ g. g.mark ≤ 7) (seen_as store.new).log.groups }
 {
-    if store.meta.k != 1 || !store.ready() {
+    if store.meta().k != 1 || !store.ready() {
         return Err(Fail::from("the store isn't ready"));
     }
     match is_allowed(store, &op) {
@@ -79,15 +79,15 @@ pub(crate) fn done(store: &mut Store<RotDisk>, op: Op) -> Result<bool, Fail>
     }
 }
 
-/// Whether an operation is allowed on the pages in frames. `None` for want of memory.
+/// Whether an operation is allowed on the pages in memory. `None` for want of memory.
 fn is_allowed(store: &Store<RotDisk>, op: &Op) -> Option<bool>
     requires { OpHas (seen_as store.now).meta.k op.now }
     ensures { result ≡ Some true → IsAllowedHere (seen_as store.now) op.now }
 {
-    let first = store.read(op, 0);
-    let second = store.read(op, 1);
-    let third = store.read(op, 2);
-    match change(store.alloc, op, &store.meta, first, second, third) {
+    let first = store.memory.read(op, 0);
+    let second = store.memory.read(op, 1);
+    let third = store.memory.read(op, 2);
+    match change(store.alloc, op, store.meta(), first, second, third) {
         Ok(_) => Some(true),
         Err(ChangeError::Unfit) => Some(false),
         Err(ChangeError::NoMemory) => None,
@@ -96,7 +96,7 @@ fn is_allowed(store: &Store<RotDisk>, op: &Op) -> Option<bool>
 
 #[test]
 fn groups_wait_and_are_forced(rt: HostRuntime) -> Result<(), Fail> {
-    let mut store = framed(opened(rt.alloc(), &[])?)?;
+    let mut store = fetched(opened(rt.alloc(), &[])?)?;
     let rows: [(bool, u64, &[u8], bool, u32); 4] = [
         (true, 1, b"", true, 4115),
         (true, 5, b"a", true, 4131),

@@ -8,19 +8,21 @@ ghost use Rattle.hb_ops.specs.Operations.{IsLicensed, OpHas, reads_of};
 ghost use Rattle.hb_log_codec.specs.Groups.{FitsGroup, group_bytes};
 ghost use Rattle.hb_store.specs.Images.{group_here};
 ghost use Rattle.hb_store.specs.Keeps.{StoreKeeps, last_of};
+ghost use Rattle.hb_store.specs.Making.{MakesWell};
 ghost use Rattle.hb_store.specs.Seen.{seen_as};
-ghost use Rattle.hb_store.specs.Calls.{Commits, IsAllowedHere, IsReady, change_here, framed_read, with_op};
+ghost use Rattle.hb_store.specs.Calls.{Commits, IsAllowedHere, IsReady, change_here, read_here, with_op};
 
-use crate::frames::{hold_made, mark_imaged, set_changed};
 use crate::group_writing::group_for;
 use crate::making::what_is_made_can_be_written;
+use crate::memory::Memory;
+use crate::pages::{add_all, reserve, set_all};
 use crate::store::Store;
 use hb_disk::Device;
 use hb_frag::{LivePage, Page};
 use hb_log_codec::laws::groups_are_short;
 use hb_ops::{ChangeError, Changed, Op, change};
 use hb_space::NoMemory;
-use std::alloc::AllocError;
+use std::alloc::{AllocError, Global};
 
 impl<D: Device> Store<D> {
     /// Does an operation in memory, and lets its group wait for a force. No device call. For want of memory nothing
@@ -40,56 +42,73 @@ impl<D: Device> Store<D> {
         ensures keeps { (durable : FileState) (later : List FileState) → StoreKeeps (D.model self.old.disk) (seen_as self.old) durable later →
             OnOk result (StoreKeeps (D.model self.new.disk) (seen_as self.new) durable (with_op durable later op)) }
     {
+        self.memory.commit(self.alloc, op, mark)
+    }
+}
+
+impl Memory {
+    /// Does an operation on the pages in memory, and lets its group wait. For want of memory nothing changes.
+    pub(crate) fn commit(&mut self, alloc: Global, op: Op, mark: u32) -> Result<(), NoMemory>
+        requires ready { IsReady self.old }
+        requires points { OpHas self.old.meta.k op }
+        requires allowed { IsAllowedHere self.old op }
+        requires marks { All (λ g. g.mark ≤ mark) self.old.log.groups }
+        ensures commits { OnOk result (Commits op mark self.old self.new) }
+        ensures group { OnOk result (self.new.log.groups ≡ self.old.log.groups ++ record { bytes = group_bytes (group_here self.old op); mark = mark } ∷ []) }
+        ensures well { OnOk result (MakesWell op self.old) }
+        ensures kept { OnErr result (self.new ≡ self.old) }
+    {
         what_is_made_can_be_written();
-        let changed = self.changed(&op)?;
-        let group = self.group(&op)?;
-        hold_made(&mut self.frames, &op)?;
+        let changed = self.changed(alloc, &op)?;
+        let group = self.group(alloc, &op)?;
+        reserve(&mut self.pages, &mut self.imaged)?;
         self.log.append(&group, mark);
-        mark_imaged(&mut self.frames, &op.reads());
-        set_changed(&mut self.frames, changed.pages);
+        add_all(&mut self.imaged, &op.reads());
+        set_all(&mut self.pages, &mut self.imaged, changed.pages);
         self.meta = changed.meta;
         Ok(())
     }
 
-    /// What an operation makes of the pages in frames.
-    fn changed(&self, op: &Op) -> Result<Changed, NoMemory>
-        requires points { OpHas (seen_as self.now).meta.k op.now }
-        requires allowed { IsAllowedHere (seen_as self.now) op.now }
-        ensures { IfOk result (λ c. record { meta = c.meta; pages = c.pages.items } ≡ change_here (seen_as self.now) op.now) }
+    /// What an operation makes of the pages in memory.
+    fn changed(&self, alloc: Global, op: &Op) -> Result<Changed, NoMemory>
+        requires points { OpHas self.now.meta.k op.now }
+        requires allowed { IsAllowedHere self.now op.now }
+        ensures { IfOk result (λ c. record { meta = c.meta; pages = c.pages.items } ≡ change_here self.now op.now) }
     {
         let first = self.read(op, 0);
         let second = self.read(op, 1);
         let third = self.read(op, 2);
-        match change(self.alloc, op, &self.meta, first, second, third) {
+        match change(alloc, op, &self.meta, first, second, third) {
             Ok(changed) => Ok(changed),
             Err(ChangeError::NoMemory) => Err(AllocError),
             Err(ChangeError::Unfit) => unreachable!(),
         }
     }
 
-    /// The page in use that an operation reads at a place of its list, where it is in a frame.
+    /// The page in use that an operation reads at a place of its list, where it is in memory.
     pub(crate) fn read(&self, op: &Op, place: usize) -> Option<&LivePage>
-        ensures page { live_given result ≡ framed_read (seen_as self.now) op.now place }
+        ensures page { live_given result ≡ read_here self.now op.now place }
         ensures light { IfSome result (λ page. weight_of page.now.frag < 2 ^ 32) }
     {
-        match self.frames.get(&read_at(op, place)) {
-            Some(frame) => live_of(&frame.page),
+        let _ = self.meta();
+        match self.get(read_at(op, place)) {
+            Some(page) => live_of(page),
             None => None,
         }
     }
 
     /// The bytes of an operation's group. It fits the log wherever the store is ready.
-    fn group(&self, op: &Op) -> Result<Vec<u8>, NoMemory>
-        requires points { OpHas (seen_as self.now).meta.k op.now }
-        requires allowed { IsAllowedHere (seen_as self.now) op.now }
-        ensures bytes { IfOk result (λ group. group.items ≡ group_bytes (group_here (seen_as self.now) op.now)) }
-        ensures fits { OnOk result (FitsGroup (seen_as self.now).meta.k (group_here (seen_as self.now) op.now)) }
+    fn group(&self, alloc: Global, op: &Op) -> Result<Vec<u8>, NoMemory>
+        requires points { OpHas self.now.meta.k op.now }
+        requires allowed { IsAllowedHere self.now op.now }
+        ensures bytes { IfOk result (λ group. group.items ≡ group_bytes (group_here self.now op.now)) }
+        ensures fits { OnOk result (FitsGroup self.now.meta.k (group_here self.now op.now)) }
         ensures some { IfOk result (λ group. 0 < length group.items) }
         ensures short { IfOk result (λ group. length group.items ≤ GROUP) }
     {
         what_is_made_can_be_written();
         groups_are_short();
-        group_for(self.alloc, &self.frames, op)
+        group_for(alloc, &self.pages, &self.imaged, op)
     }
 }
 

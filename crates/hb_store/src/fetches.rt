@@ -5,15 +5,15 @@ ghost use Rattle.hb_ops.specs.Files.{FileState};
 ghost use Rattle.hb_ops.specs.Sound.{IsSound};
 ghost use Rattle.hb_frag.specs.Grammar.{HasSpelling, SpellsPage};
 ghost use Rattle.hb_page_codec.specs.Weight.{IsLight};
-ghost use Rattle.hb_store.specs.Keeps.{IsGoodPage, StoreKeeps, last_of};
+ghost use Rattle.hb_store.specs.States.{IsGoodPage, in_memory};
+ghost use Rattle.hb_store.specs.Keeps.{StoreKeeps, last_of};
 ghost use Rattle.hb_store.specs.Opening.{place_bytes};
-ghost use Rattle.hb_store.specs.Fetching.{BreaksHere, HasPut, HoldsNot, IsFetchStop, SameFrames, with_frame};
+ghost use Rattle.hb_store.specs.Fetching.{BreaksHere, HoldsNot, IsFetchStop};
 ghost use Rattle.hb_store.specs.Seen.{seen_as};
 ghost use Rattle.hb_store.specs.Calls.{Fetched};
 ghost use Rattle.hb_store.specs.Stops.{FetchesNot, IsNoPage};
 ghost use Rattle.hb_store.specs.declared.stops.FetchStop.TheVariants.{ReadFault};
 
-use crate::frames::Frame;
 use crate::stops::{FetchStop, Why};
 use crate::store::Store;
 use hb_disk::Device;
@@ -22,13 +22,11 @@ use hb_layout::page_offset;
 use hb_ops::{Meta, local_rule};
 use hb_page_codec::laws::spelling_law;
 use hb_page_codec::{PageError, decode};
-use hb_space::NoMemory;
 use hb_space::form::PAGE;
 use std::alloc::Global;
-use std::collections::BTreeMap;
 
 impl<D: Device> Store<D> {
-    /// Brings the page of a number into a frame, where it is in none. At most one read.
+    /// Brings the page of a number into memory, where it isn't there. At most one read.
     ///
     /// `Damaged` exactly where the number isn't 1 to the high mark, which is tested first and reads nothing, or the
     /// page's bytes are no page or break one of the rules that `local_rule` tests.
@@ -39,8 +37,8 @@ impl<D: Device> Store<D> {
         ensures why { IfErr result (FetchesNot (seen_as self.old).meta (D.model self.old.disk) id) }
         ensures cause { IsErrOf result ReadFault → Rose (D.model self.old.disk).read_faults (D.model self.new.disk).read_faults }
         ensures no_fault { (IsErrOf result ReadFault → ⊥) → (D.model self.new.disk).read_faults ≡ (D.model self.old.disk).read_faults }
-        ensures framed { IsSome ((seen_as self.old).frame id) → OnOk result (seen_as self.new ≡ seen_as self.old) }
-        ensures in_frame { IsSome ((seen_as self.old).frame id) → IsOk result × (self.new.disk ≡ self.old.disk) }
+        ensures cached { IsSome (in_memory (seen_as self.old) id) → OnOk result (seen_as self.new ≡ seen_as self.old) }
+        ensures there { IsSome (in_memory (seen_as self.old) id) → IsOk result × (self.new.disk ≡ self.old.disk) }
         ensures unread { IsNoPage (seen_as self.old).meta id → self.new.disk ≡ self.old.disk }
         ensures keeps { (durable : FileState) (later : List FileState) → StoreKeeps (D.model self.old.disk) (seen_as self.old) durable later →
             StoreKeeps (D.model self.new.disk) (seen_as self.new) durable later }
@@ -48,15 +46,16 @@ impl<D: Device> Store<D> {
         ensures sound { (durable : FileState) (later : List FileState) → StoreKeeps (D.model self.old.disk) (seen_as self.old) durable later →
             IsSound (last_of durable later) → IfErr result (λ stop. (stop ≢ FetchStop.ReadFault) → (stop ≢ FetchStop.NoMemory) → IsNoPage (seen_as self.old).meta id) }
     {
-        if id == 0 || id > self.meta.high {
+        let high = self.memory.meta().high;
+        if id == 0 || id > high {
             return Err(damaged(id, 1));
         }
-        if self.frames.contains_key(&id) {
+        if self.memory.get(id).is_some() {
             return Ok(());
         }
         spelling_law();
         let page = self.read_page(id)?;
-        self.set_frame(id, page)?;
+        self.memory.hold(id, page)?;
         Ok(())
     }
 
@@ -74,38 +73,12 @@ impl<D: Device> Store<D> {
         ensures no_fault { (IsErrOf result ReadFault → ⊥) → (D.model self.new.disk).read_faults ≡ (D.model self.old.disk).read_faults }
     {
         let mut bytes = [0; PAGE];
-        let place = page_offset(&self.meta, id);
+        let place = page_offset(self.memory.meta(), id);
         match self.disk.read(place, &mut bytes) {
-            Ok(()) => page_in(self.alloc, &self.meta, id, &bytes),
+            Ok(()) => page_in(self.alloc, self.memory.meta(), id, &bytes),
             Err(_) => Err(FetchStop::ReadFault),
         }
     }
-
-    /// Puts a page into a frame, where it is in none.
-    fn set_frame(&mut self, id: u32, page: Page) -> Result<(), NoMemory>
-        requires some { 1 ≤ id }
-        requires high { id ≤ (seen_as self.old).meta.high }
-        requires good { IsGoodPage (seen_as self.old).meta page }
-        requires absent { (seen_as self.old).frame id ≡ None }
-        ensures set { OnOk result (seen_as self.new ≡ with_frame id page (seen_as self.old)) }
-        ensures kept { OnErr result (seen_as self.new ≡ seen_as self.old) }
-        ensures disk { self.new.disk ≡ self.old.disk }
-    {
-        put_frame(&mut self.frames, id, page)
-    }
-}
-
-/// Puts a page that isn't imaged in this turn among the frames, under its number.
-fn put_frame(frames: &mut BTreeMap<u32, Frame>, id: u32, page: Page) -> Result<(), NoMemory>
-    ensures set { OnOk result (HasPut id page frames.old frames.new) }
-    ensures kept { OnErr result (SameFrames frames.old frames.new) }
-{
-    let frame = Frame {
-        page,
-        imaged: false,
-    };
-    frames.insert(id, frame)?;
-    Ok(())
 }
 
 /// The stop for a page that breaks the rule of this number.

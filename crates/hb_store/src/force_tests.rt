@@ -67,8 +67,8 @@ pub(crate) fn disk(alloc: Global, pages: u8, page: &[u8], failing: &[u64]) -> Re
 
 /// A disk that tells, with that file.
 fn fresh_disk(alloc: Global) -> Result<MemDisk, Fail>
-    ensures size { IfOk result (λ d. (memory.seen_as d).size ≡ 143360) }
-    ensures fresh { IfOk result (λ d. (s : FileState) × IsFresh (memory.seen_as d) 0
+    ensures size { IfOk result (λ d. (memory.mem_disk_seen d).size ≡ 143360) }
+    ensures fresh { IfOk result (λ d. (s : FileState) × IsFresh (memory.mem_disk_seen d) 0
         (record { k = 1; pages = 1; log = 65536; dcap = 6; icap = 32; root = 1; height = 1; high = 1; live = 1; free = 0 }) s) }
 {
     let mut bytes = SUPER.to_vec(alloc)?;
@@ -81,7 +81,7 @@ fn fresh_disk(alloc: Global) -> Result<MemDisk, Fail>
 /// The store of that file.
 fn telling(alloc: Global) -> Result<Store<MemDisk>, Fail>
     ensures running { IfOk result (λ store. (seen_as store).stopped ≡ false) }
-    ensures kept { IfOk result (λ store. (durable : FileState) × (later : List FileState) × StoreKeeps (memory.seen_as store.disk) (seen_as store) durable later) }
+    ensures kept { IfOk result (λ store. (durable : FileState) × (later : List FileState) × StoreKeeps (memory.mem_disk_seen store.disk) (seen_as store) durable later) }
 {
     match Store::opened(alloc, fresh_disk(alloc)?, 0, META) {
         Ok(store) => Ok(store),
@@ -115,8 +115,8 @@ fn waiting(alloc: Global, failing: &[u64]) -> Result<Store<RotDisk>, Fail>
     ensures { IfOk result (λ store. (seen_as store).stopped ≡ false) }
 {
     let mut store = opened(alloc, failing)?;
-    store.log.append(&PUT, 3);
-    store.log.append(b"c", 5);
+    store.memory.log.append(&PUT, 3);
+    store.memory.log.append(b"c", 5);
     Ok(store)
 }
 

@@ -29,10 +29,11 @@ impl<D: Device> Store<D> {
         ensures clock { IsSome (D.model self.old.disk).told → (D.model self.new.disk).clock ≤ (D.model self.old.disk).clock + 4 }
         ensures faults { WriteFaults result (D.model self.old.disk) (D.model self.new.disk) }
     {
-        match self.log.force(&mut self.disk) {
+        let memory = &mut self.memory;
+        match memory.log.force(&mut self.disk) {
             Ok(()) => Ok(()),
             Err(_fault) => {
-                self.stopped = true;
+                memory.stopped = true;
                 Err(WriteFault)
             }
         }
@@ -67,6 +68,6 @@ impl<D: Device> Store<D> {
     fn is_idle(&self) -> bool
         ensures { IsTrue result ↔ ((seen_as self.now).log.groups ≡ []) }
     {
-        self.log.settled(0) != self.log.settled(1)
+        self.settled(0) != self.settled(1)
     }
 }

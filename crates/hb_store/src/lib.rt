@@ -13,13 +13,17 @@
 //! that they don't touch the one in its place. The functions of `laws` and `image_laws` say that an
 //! image opens to one file at most, and that an image of a store opens.
 //!
-//! Invariants of `Store`, over every disk: its turn, its layout and its marks are within their
-//! limits, the log is that of its turn, and every page in a frame is one of the file, has a
-//! spelling, and keeps the rules that speak of it alone.
+//! A `Store` is a thin shell: it owns the disk, and reads it. All else stands in `Memory`, which
+//! knows of no disk: its contracts say what a call does to the value that it is seen as, and its
+//! invariant holds over every disk. Its turn, its layout and its marks are within their limits, the
+//! log is that of its turn, every page in memory is one of the file, has a spelling, and keeps the
+//! rules that speak of it alone, and only pages of the file are imaged.
 //!
 //! A page is brought into the log as an image before an operation of this turn first reads it. So
-//! a replay needs no page from its place. A page that an operation makes needs no image: it gets a
-//! frame, and the log of the turn makes it again. Pages stay in memory once they are fetched.
+//! a replay needs no page from its place. A page that an operation makes needs no image: the log of
+//! the turn makes it again. Which pages were imaged or made is a set of its own, and no mark on a
+//! page, so that it doesn't depend on which pages are in memory. Today these stay there once they
+//! are fetched.
 #![tactic(auto)]
 
 mod allocating;
@@ -30,7 +34,6 @@ mod fetches;
 #[cfg(test)]
 mod force_tests;
 mod forces;
-mod frames;
 mod group_writing;
 mod image_laws;
 mod laws;
@@ -38,7 +41,9 @@ mod laws;
 mod log_tests;
 mod looks;
 mod making;
+mod memory;
 mod opening;
+mod pages;
 mod reading;
 mod stops;
 mod store;

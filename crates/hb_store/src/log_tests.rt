@@ -6,13 +6,12 @@ ghost use Rattle.hb_layout.specs.Offsets.{file_size};
 ghost use Rattle.hb_super.specs.Superblocks.{IsLegal};
 
 use crate::force_tests::{EMPTY, META};
+use crate::memory::Memory;
 use crate::{FetchStop, LogStop, Store, Why, read_log};
 use hb_disk::MemDisk;
 use hb_frag::Page;
 use hb_ops::Meta;
-use hb_wal::Wal;
 use std::alloc::Global;
-use std::collections::BTreeMap;
 use std::test::Fail;
 
 /// What a file of two pages says, of which one is taken.
@@ -39,7 +38,7 @@ pub(crate) const SPLIT: [u8; 26] = [
 fn disk(alloc: Global, log: &[u8], page: &[u8], failing: &[u64]) -> Result<MemDisk, Fail>
     requires log { length log.now ≤ 65536 }
     requires page { length page.now ≤ 4096 }
-    ensures { IfOk result (λ d. (memory.seen_as d).size ≡ 147456) }
+    ensures { IfOk result (λ d. (memory.mem_disk_seen d).size ≡ 147456) }
 {
     let mut bytes = vec![in alloc; 0; 147_456]?;
     bytes[8192..8192 + log.len()].copy_from_slice(log);
@@ -163,25 +162,22 @@ fn store_over(
     live: u32,
     free: u32,
 ) -> Result<Store<MemDisk>, Fail>
-    requires { (memory.seen_as disk).size ≡ 147456 }
+    requires { (memory.mem_disk_seen disk).size ≡ 147456 }
 {
     if high == 0 || high > 2 || live > 2 {
         return Err(Fail::from("no file of two pages says so"));
     }
-    let log = Wal::new(alloc, 8192, 65536)?;
+    let meta = Meta {
+        high,
+        live,
+        free,
+        ..TWO
+    };
+    let memory = Memory::new(alloc, 0, meta)?;
     Ok(Store {
         alloc,
         disk,
-        turn: 0,
-        meta: Meta {
-            high,
-            live,
-            free,
-            ..TWO
-        },
-        log,
-        frames: BTreeMap::new(alloc),
-        stopped: false,
+        memory,
     })
 }
 
@@ -209,7 +205,7 @@ fn fetched(alloc: Global, id: u32, page: &[u8], failing: &[u64]) -> Result<(u32,
     })
 }
 
-/// Whether the page of a number is in a frame, and in use.
+/// Whether the page of a number is in memory, and in use.
 fn shown(store: &Store<MemDisk>, id: u32) -> char {
     match store.get(id) {
         Some(Page::Live(_)) => 'l',

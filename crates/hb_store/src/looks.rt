@@ -1,6 +1,6 @@
-ghost use Rattle.std.specs.Prelude.{◌≡◌, ◌-◌, ◌≤◌, ◌↔◌, ℕ, [], IsTrue, MatchOption, IsSome, Some, None};
+ghost use Rattle.std.specs.Prelude.{◌≡◌, ◌-◌, ◌↔◌, [], IsTrue, MatchOption, IsSome, Some, None};
 ghost use Rattle.hb_wal.specs.Log.{IsLog, room_of, pending_bytes, mark_of};
-ghost use Rattle.hb_store.specs.Keeps.{IsStore};
+ghost use Rattle.hb_store.specs.States.{IsStore, in_memory};
 ghost use Rattle.hb_store.specs.Seen.{seen_as};
 ghost use Rattle.hb_store.specs.Calls.{IsReady};
 
@@ -8,7 +8,6 @@ use crate::store::Store;
 use hb_disk::{Device, Disk};
 use hb_frag::Page;
 use hb_ops::Meta;
-use hb_space::form::{GROUP, PENDING};
 
 impl<D: Device> Store<D> {
     /// What the file says of itself.
@@ -16,25 +15,23 @@ impl<D: Device> Store<D> {
         ensures meta { result.now ≡ (seen_as self.now).meta }
         ensures store { IsStore (D.model self.now.disk).size (seen_as self.now) }
     {
-        &self.meta
+        self.memory.meta()
     }
 
-    /// The page of a number. `None` exactly where it is in no frame.
+    /// The page of a number. `None` exactly where it isn't in memory.
     pub fn get(&self, id: u32) -> Option<&Page>
-        ensures page { MatchOption result ((seen_as self.now).frame id ≡ None) (λ page. (seen_as self.now).frame id ≡ Some page.now) }
+        ensures page { MatchOption result (in_memory (seen_as self.now) id ≡ None) (λ page. in_memory (seen_as self.now) id ≡ Some page.now) }
         ensures store { IsStore (D.model self.now.disk).size (seen_as self.now) }
     {
-        match self.frames.get(&id) {
-            Some(frame) => Some(&frame.page),
-            None => None,
-        }
+        let _ = self.memory.meta();
+        self.memory.get(id)
     }
 
     /// The bytes of the longest group that fits the log now.
     pub fn room(&self) -> u32
         ensures { result ≡ room_of (seen_as self.now).log }
     {
-        self.log.room()
+        self.memory.room()
     }
 
     /// The mark of the oldest group that waits, or `now` where none does. The marks of those behind it aren't less.
@@ -42,7 +39,7 @@ impl<D: Device> Store<D> {
         ensures mark { result ≡ mark_of (seen_as self.now).log.groups now }
         ensures log { IsLog (seen_as self.now).log }
     {
-        self.log.settled(now)
+        self.memory.settled(now)
     }
 
     /// The bytes of the groups that wait. 0 exactly where none does.
@@ -50,28 +47,28 @@ impl<D: Device> Store<D> {
         ensures bytes { result ≡ pending_bytes (seen_as self.now).log.groups }
         ensures none { (result ≡ 0) ↔ ((seen_as self.now).log.groups ≡ []) }
     {
-        self.log.pending()
+        self.memory.pending()
     }
 
     /// How many pages may still be taken into use.
     pub fn free_pages(&self) -> u32
         ensures { result ≡ (seen_as self.now).meta.pages - (seen_as self.now).meta.live }
     {
-        self.meta.pages - self.meta.live
+        self.memory.free_pages()
     }
 
     /// Whether an operation may be committed: there is room for the longest group, and few bytes wait.
     pub fn ready(&self) -> bool
         ensures { IsTrue result ↔ IsReady (seen_as self.now) }
     {
-        self.room() >= GROUP as u32 && self.pending() <= (PENDING - GROUP) as u32
+        self.memory.ready()
     }
 
     /// Whether a write, zero or sync failed.
     pub fn stopped(&self) -> bool
         ensures { result ≡ (seen_as self.now).stopped }
     {
-        self.stopped
+        self.memory.stopped()
     }
 
     /// The disk.

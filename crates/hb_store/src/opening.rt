@@ -1,16 +1,15 @@
 ghost use Rattle.std.specs.Prelude.{◌≡◌, [], IfOk, IfErr, IsSome};
 ghost use Rattle.hb_ops.specs.Files.{FileState};
-ghost use Rattle.hb_store.specs.Keeps.{MayHold, IsNew, IsFresh, StoreKeeps};
+ghost use Rattle.hb_store.specs.States.{MayHold, IsNew};
+ghost use Rattle.hb_store.specs.Keeps.{IsFresh, StoreKeeps};
 ghost use Rattle.hb_store.specs.Seen.{seen_as};
 
+use crate::memory::Memory;
 use crate::store::Store;
 use hb_disk::Device;
-use hb_layout::log_start;
 use hb_ops::Meta;
 use hb_space::NoMemory;
-use hb_wal::Wal;
 use std::alloc::Global;
-use std::collections::BTreeMap;
 
 impl<D: Device> Store<D> {
     /// The store of a file that stands whole on the disk: its newest superblock has this turn and says this, the log
@@ -24,18 +23,13 @@ impl<D: Device> Store<D> {
             StoreKeeps (D.model st.disk) (seen_as st) s []) }
         ensures back { IfErr result (λ e. e.1 ≡ disk) }
     {
-        let log = match Wal::new(alloc, log_start(turn, &meta), meta.log) {
-            Ok(log) => log,
-            Err(no_memory) => return Err((no_memory, disk)),
-        };
-        Ok(Store {
-            alloc,
-            disk,
-            turn,
-            meta,
-            log,
-            frames: BTreeMap::new(alloc),
-            stopped: false,
-        })
+        match Memory::new(alloc, turn, meta) {
+            Ok(memory) => Ok(Store {
+                alloc,
+                disk,
+                memory,
+            }),
+            Err(no_memory) => Err((no_memory, disk)),
+        }
     }
 }

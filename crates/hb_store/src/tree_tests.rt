@@ -4,7 +4,7 @@ ghost use Rattle.std.specs.Prelude.{◌≡◌, ◌≤◌, [], false, All, IfOk, 
 ghost use Rattle.hb_ops.specs.Operations.{OpHas};
 ghost use Rattle.hb_store.specs.Seen.{seen_as};
 
-use crate::commit_tests::{done, forced, framed};
+use crate::commit_tests::{done, fetched, forced};
 use crate::force_tests::{META, disk};
 use crate::log_tests::{POINTS, SPLIT, split_frame};
 use crate::{Store, read_log};
@@ -121,7 +121,7 @@ fn replayed(alloc: Global, disk: &mut RotDisk) -> Result<(Meta, usize), Fail> {
 
 #[test]
 fn a_tree_grows(rt: HostRuntime) -> Result<(), Fail> {
-    let mut store = framed(opened(rt.alloc())?)?;
+    let mut store = fetched(opened(rt.alloc())?)?;
     let rows: [(u32, &[u8], u32, [u32; 4], usize); 4] = [
         // the split has an image of page 1, and no page that was made in this turn has one
         (2, &SPLIT, 4126, [1, 1, 2, 2], 2),
@@ -129,16 +129,16 @@ fn a_tree_grows(rt: HostRuntime) -> Result<(), Fail> {
         (3, &GROW[5..], 4152, [3, 2, 3, 3], 3),
         (4, &POST[5..], 4179, [3, 2, 3, 3], 3),
     ];
-    for (fresh, group, pending, said, frames) in rows {
+    for (fresh, group, pending, said, there) in rows {
         assert_eq!(rt; next(&mut store)?, Some((fresh, 0)));
         let op = op_in(rt.alloc(), group)?;
         assert!(rt; done(&mut store, op)?);
         assert_eq!(rt; store.pending(), pending);
         assert_eq!(rt; marks(store.meta()), said);
-        assert_eq!(rt; store.frames.len(), frames);
+        assert_eq!(rt; store.memory.pages.len(), there);
     }
     assert_eq!(rt; next(&mut store)?, Some((4, 0)));
-    let meta = store.meta;
+    let meta = *store.meta();
     let mut disk = forced(store, 4)?;
     let split = split_frame(rt.alloc(), 5)?;
     assert_eq!(rt; first_other(&disk, &split), None);

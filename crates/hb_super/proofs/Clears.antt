@@ -3,8 +3,12 @@ use Rattle.std.proofs.Common.{◌≡◌, ◌≢◌, ◌⊎◌, inl, inr, ℕ, �
 use Rattle.hb_space.specs.declared.form.TheConstants.{PAGE}
 use Rattle.hb_disk.specs.Model.{DiskModel, IsDisk, overwritten, Torn}
 use Rattle.hb_disk.specs.Calls.{Writes, Leaves, Becomes, IsSynced, Apart, OnlyReads, open_gate}
-use Rattle.hb_disk.specs.TornLaws.{Torn-same, Torn-itself, Torn-elsewhere, overwritten-reads}
-use Rattle.hb_disk.specs.RunLaws.{some_same, at_value, of_value, if_value, told_written, part_of, Leaves-start, Leaves-read, Leaves-then, Leaves-weaker}
+use Rattle.hb_disk.specs.TornLaws.{Torn-same, Torn-itself, Torn-elsewhere}
+use Rattle.hb_disk.specs.OverwrittenLaws.{overwritten-reads}
+use Rattle.hb_disk.specs.RunLaws.{Leaves-start, Leaves-read, Leaves-then, Leaves-weaker}
+use Rattle.hb_disk.specs.ValueLaws.{some_same, at_value, of_value, if_value}
+use Rattle.hb_disk.specs.BecomesLaws.{told_written}
+use Rattle.hb_disk.specs.SyncedLaws.{part_of}
 use Rattle.hb_layout.specs.declared.meta.Meta.{Meta}
 use Rattle.hb_layout.specs.Offsets.{slot_offset}
 use Rattle.hb_super.specs.Superblocks.{IsLegal, IsNewest, body_bytes, next_turn}

@@ -5,7 +5,7 @@ use Rattle.hb_space.specs.declared.form.TheConstants.{PAGE}
 use Rattle.hb_layout.specs.declared.meta.Meta.{Meta}
 use Rattle.hb_layout.specs.Offsets.{slot_offset}
 use Rattle.hb_super.specs.Superblocks.{HasSuper, IsNewest, next_turn}
-use Rattle.hb_super.specs.Reading.{IsOf, Stands, NewestIs}
+use Rattle.hb_super.specs.Reading.{IsOf, StandsInPlace, NewestIs}
 
 -- the turn stands in the body
 pub turn_of : (bytes : List ℕ) (turn : ℕ) (meta : Meta) → HasSuper bytes turn meta → get_or (take 40 (drop (slot_offset turn + 1) bytes)) 9 0 ≡ turn
@@ -31,13 +31,13 @@ after_other bytes t s m n here there apart next = record {
 pub alone : (bytes : List ℕ) (t : ℕ) (m : Meta) → HasSuper bytes t m → ((s : ℕ) (n : Meta) → HasSuper bytes s n → s % 2 ≢ t % 2 → ⊥) → IsNewest bytes t m
 alone bytes t m here none = record { there = here; newer = λ other said has differs. absurd (none other said has differs) }
 
-pub first_alone : (bytes : List ℕ) (said : ℕ × Meta) → Stands 0 (Some said) bytes → Stands 1 None bytes → IsNewest bytes said.0 said.1
+pub first_alone : (bytes : List ℕ) (said : ℕ × Meta) → StandsInPlace 0 (Some said) bytes → StandsInPlace 1 None bytes → IsNewest bytes said.0 said.1
 first_alone bytes said one none = alone bytes said.0 said.1 one.0 (λ s n has differs. none s n has (odd s (λ e. differs (e ∙ sym one.1))))
   where
     odd : (s : ℕ) → s % 2 ≢ 0 → s % 2 ≡ 1
     odd s differs = omega (arith, differs)
 
-pub second_alone : (bytes : List ℕ) (found : Option (ℕ × Meta)) → Stands 0 None bytes → Stands 1 found bytes → NewestIs found bytes
+pub second_alone : (bytes : List ℕ) (found : Option (ℕ × Meta)) → StandsInPlace 0 None bytes → StandsInPlace 1 found bytes → NewestIs found bytes
 second_alone bytes None none one = λ s n has. either s (λ e. none s n has e) (λ e. one s n has e)
   where
     either : (s : ℕ) → s % 2 ≢ 0 → s % 2 ≢ 1 → ⊥
@@ -77,7 +77,7 @@ module _ (bytes : List ℕ) (long : 8192 ≤ length bytes) (place : ℕ) (of_two
   place_same : (turn : ℕ) → turn % 2 ≡ place → slot_offset turn ≡ slot_offset place
   place_same turn here = omega (arith, here, of_two)
 
-  pub stands : (found : Option (ℕ × Meta)) → IsOf place found head → Stands place found bytes
+  pub stands : (found : Option (ℕ × Meta)) → IsOf place found head → StandsInPlace place found bytes
   stands None none = λ turn meta has here. none turn meta (record {
     legal = has.legal;
     here = here;

@@ -6,8 +6,12 @@ use Rattle.std.proofs.lemmas.List.{ext_get_or}
 use Rattle.hb_outside.specs.Numbers.{big_endian}
 use Rattle.hb_disk.specs.Model.{DiskModel, IsDisk, overwritten, Torn}
 use Rattle.hb_disk.specs.Calls.{Ticks, Writes, Syncs, Leaves, Becomes, IsSynced, FrameOrNot, Apart, open_gate}
-use Rattle.hb_disk.specs.TornLaws.{cases_range, Torn-itself, Torn-wider, Torn-twice, Torn-elsewhere, length-overwritten, overwritten-inside, overwritten-outside, overwritten-reads}
-use Rattle.hb_disk.specs.RunLaws.{some_same, some_value, at_value, has_value, told_written, only_told, part_of, Leaves-start, Leaves-call, Leaves-weaker, Leaves-then, Becomes-torn, Becomes-torn_write, Becomes-torn_sync}
+use Rattle.hb_disk.specs.TornLaws.{cases_range, Torn-itself, Torn-wider, Torn-twice, Torn-elsewhere}
+use Rattle.hb_disk.specs.OverwrittenLaws.{length-overwritten, overwritten-inside, overwritten-outside, overwritten-reads}
+use Rattle.hb_disk.specs.RunLaws.{Leaves-start, Leaves-call, Leaves-weaker, Leaves-then}
+use Rattle.hb_disk.specs.ValueLaws.{some_same, some_value, at_value, has_value}
+use Rattle.hb_disk.specs.BecomesLaws.{told_written, Becomes-torn, Becomes-torn_write, Becomes-torn_sync}
+use Rattle.hb_disk.specs.SyncedLaws.{only_told, part_of}
 use Rattle.hb_layout.specs.declared.meta.Meta.{Meta}
 use Rattle.hb_layout.specs.Offsets.{slot_offset}
 use Rattle.hb_super.specs.Superblocks.{IsLegal, HasSuper, IsNewest, body_bytes, next_turn}
@@ -208,6 +212,13 @@ module _ (d : DiskModel) (is_disk : IsDisk d) (room : 8192 ≤ d.size) (turn : �
             let from = gate_written.crash framed.0 (gate_synced.crash framed.0 framed.1) in
             framed_left from.0 framed.0 c from.1 from.2 framed.2) run)
 
+        -- the same where the frame was written at this place, with these bytes
+        pub run_behind : (new : DiskModel) (at : ℕ) (bytes : List ℕ) → at ≡ place → bytes ≡ body
+            → Leaves two new (λ c. (e : List ℕ) × two.Image e × FrameOrNot at bytes e c) → Leaves d new Left
+        run_behind new at bytes at_is bytes_are run =
+            run_all new (subst (λ (n : ℕ). Leaves two new (λ c. (e : List ℕ) × two.Image e × FrameOrNot n body e c)) at_is
+            (subst (λ (l : List ℕ). Leaves two new (λ c. (e : List ℕ) × two.Image e × FrameOrNot at l e c)) bytes_are run))
+
   -- What a read then gives.
   module _ {T E : Type 0} (first : Result T E) (v : T) (first_ok : first ≡ Ok v) (one : DiskModel) (gate_written : Writes place (0 ∷ []) first d one)
       (second : Result T E) (w : T) (second_ok : second ≡ Ok w) (two : DiskModel) (gate_synced : Syncs second one two) where
@@ -242,6 +253,11 @@ module _ (d : DiskModel) (is_disk : IsDisk d) (room : 8192 ≤ d.size) (turn : �
 
       pub place_all : (new : DiskModel) → Becomes (Torn place (1 + length body)) two new → Becomes (Torn place 41) d new
       place_all new run = Becomes-torn place 41 d two new place_two (subst (λ (n : ℕ). Becomes (Torn place n) two new) (one_more turn meta) run)
+
+      pub place_behind : (new : DiskModel) (at : ℕ) (bytes : List ℕ) → at ≡ place → bytes ≡ body → Becomes (Torn at (1 + length bytes)) two new → Becomes (Torn place 41) d new
+      place_behind new at bytes at_is bytes_are run =
+          place_all new (subst (λ (n : ℕ). Becomes (Torn n (1 + length body)) two new) at_is
+          (subst (λ (l : List ℕ). Becomes (Torn at (1 + length l)) two new) bytes_are run))
 
   -- the new one is the newest
   pub newest_written : (old : ℕ) (said : Meta) → turn ≡ next_turn old → (b : List ℕ) → d.told ≡ Some b → IsNewest b old said → (new : DiskModel) → Becomes (Torn place 41) d new

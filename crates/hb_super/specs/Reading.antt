@@ -17,9 +17,9 @@ IsOf place None bytes = (turn : ℕ) (meta : Meta) → IsSuper place bytes turn 
 IsOf place (Some said) bytes = IsSuper place bytes said.0 said.1
 
 -- the superblock in a place of the disk's bytes, or that there is none
-abbrev pub Stands : ℕ → Option (ℕ × Meta) → List ℕ → Type 0
-Stands place None bytes = (turn : ℕ) (meta : Meta) → HasSuper bytes turn meta → turn % 2 ≢ place
-Stands place (Some said) bytes = HasSuper bytes said.0 said.1 × (said.0 % 2 ≡ place)
+abbrev pub StandsInPlace : ℕ → Option (ℕ × Meta) → List ℕ → Type 0
+StandsInPlace place None bytes = (turn : ℕ) (meta : Meta) → HasSuper bytes turn meta → turn % 2 ≢ place
+StandsInPlace place (Some said) bytes = HasSuper bytes said.0 said.1 × (said.0 % 2 ≡ place)
 
 -- the newest superblock, or that there is none
 abbrev pub NewestIs : Option (ℕ × Meta) → List ℕ → Type 0

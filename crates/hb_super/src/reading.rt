@@ -7,7 +7,7 @@ ghost use Rattle.hb_super.specs.declared.reading.SuperStop.TheVariants.{NoSuper,
 ghost use Rattle.hb_layout.specs.Limits.{IsLayout};
 ghost use Rattle.hb_layout.specs.Offsets.{slot_offset};
 ghost use Rattle.hb_super.specs.Superblocks.{IsLegal, IsNewest, HasNone, next_turn};
-ghost use Rattle.hb_super.specs.Reading.{IsOf, Stands, NewestIs, MayBeLegal};
+ghost use Rattle.hb_super.specs.Reading.{IsOf, StandsInPlace, NewestIs, MayBeLegal};
 
 use crate::body::{BODY, body_of, fields_of};
 use hb_disk::{Device, OPEN};
@@ -61,7 +61,7 @@ fn super_in(bytes: &[u8], place: u8) -> Option<(u8, Meta)>
 fn super_at<D: Device>(disk: &mut D, place: u8) -> Result<Option<(u8, Meta)>, Failed>
     requires room { 2 * PAGE ≤ (D.model disk.old).size }
     requires place { place < 2 }
-    ensures stands { IfOk result (λ said. IfSome (D.model disk.old).told (λ b. Stands place said b)) }
+    ensures stands { IfOk result (λ said. IfSome (D.model disk.old).told (λ b. StandsInPlace place said b)) }
     ensures legal { IfOk result (λ said. MayBeLegal said) }
     ensures cause { OnErr result (Rose (D.model disk.old).read_faults (D.model disk.new).read_faults) }
     ensures no_fault { OnOk result ((D.model disk.new).read_faults ≡ (D.model disk.old).read_faults) }
@@ -76,7 +76,7 @@ fn super_at<D: Device>(disk: &mut D, place: u8) -> Result<Option<(u8, Meta)>, Fa
 fn newer(first: (u8, Meta), second: (u8, Meta)) -> (u8, Meta)
     requires first { IsLegal first.0 first.1 }
     requires second { IsLegal second.0 second.1 }
-    ensures newest { (bytes : List ℕ) → Stands 0 (Some first) bytes → Stands 1 (Some second) bytes →
+    ensures newest { (bytes : List ℕ) → StandsInPlace 0 (Some first) bytes → StandsInPlace 1 (Some second) bytes →
         NewestIs (Some result) bytes }
     ensures legal { IsLegal result.0 result.1 }
 {
@@ -91,7 +91,7 @@ fn newer(first: (u8, Meta), second: (u8, Meta)) -> (u8, Meta)
 fn newest_of(first: Option<(u8, Meta)>, second: Option<(u8, Meta)>) -> Option<(u8, Meta)>
     requires first { MayBeLegal first }
     requires second { MayBeLegal second }
-    ensures newest { (bytes : List ℕ) → Stands 0 first bytes → Stands 1 second bytes → NewestIs result bytes }
+    ensures newest { (bytes : List ℕ) → StandsInPlace 0 first bytes → StandsInPlace 1 second bytes → NewestIs result bytes }
     ensures legal { MayBeLegal result }
 {
     match (first, second) {

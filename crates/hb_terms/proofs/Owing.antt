@@ -19,7 +19,7 @@ use Rattle.hb_frag.specs.Rules.{IsNormal}
 use Rattle.hb_frag.proofs.Points.{way_ends}
 use Rattle.hb_frag.proofs.Tiles.{first_tells, found_where_held, tiles_areas}
 use Rattle.hb_frag.proofs.CarvedPages.{carved_room}
-use Rattle.hb_terms.specs.Plans.{IsOwed, OwesNothing, posted, Posts, LacksRoom, IsPlan}
+use Rattle.hb_terms.specs.Plans.{IsOwed, OwesNothing, posted_parent, Posts, LacksRoom, IsPlan}
 use Rattle.hb_terms.specs.Laws.{MayPost}
 use Rattle.hb_terms.specs.declared.plans.PostPlan.{PostPlan}
 use Rattle.hb_terms.specs.declared.plans.PostPlan.TheVariants.{Nothing, Post, SplitFirst}
@@ -58,13 +58,13 @@ way_ends_there page p leaf area h cut held at =
     subst P same w.1.part
 
 -- whether there is room is told by the two weights
-pub room_told : (parent : LivePage) (p : List ℕ) (outer inner capacity : ℕ) (leaf area : Area) → IsArea parent.area → WellCut parent → Holds parent.area p → leaf_at parent p ≡ Some (record { leaf = Child outer; area = leaf }) → IsNormal parent.frag → weight_of parent.frag ≤ capacity → inner ≢ outer → (weight_of (posted parent p outer inner leaf area) ≤ capacity) ↔ (weight_of parent.frag + weight_of (carved leaf area outer inner) ≤ capacity + 1)
+pub room_told : (parent : LivePage) (p : List ℕ) (outer inner capacity : ℕ) (leaf area : Area) → IsArea parent.area → WellCut parent → Holds parent.area p → leaf_at parent p ≡ Some (record { leaf = Child outer; area = leaf }) → IsNormal parent.frag → weight_of parent.frag ≤ capacity → inner ≢ outer → (weight_of (posted_parent parent p outer inner leaf area) ≤ capacity) ↔ (weight_of parent.frag + weight_of (carved leaf area outer inner) ≤ capacity + 1)
 room_told parent p outer inner capacity leaf area h cut held at normal light other =
     carved_room (way_to p parent.frag) parent.frag parent.area leaf area outer inner (way_ends_there parent p (Child outer) leaf h cut held at) capacity normal other light
 
 -- so of the plans where a page is owed a leaf
 module _ (parent child : LivePage) (p : List ℕ) (outer inner capacity : ℕ) (leaf area : Area) (h : IsArea parent.area) (cut : WellCut parent) (held : Holds parent.area p) (owed : IsOwed parent child p outer inner leaf area) (normal : IsNormal parent.frag) (light : weight_of parent.frag ≤ capacity) where
-  told : (weight_of (posted parent p outer inner leaf area) ≤ capacity) ↔ (weight_of parent.frag + weight_of (carved leaf area outer inner) ≤ capacity + 1)
+  told : (weight_of (posted_parent parent p outer inner leaf area) ≤ capacity) ↔ (weight_of parent.frag + weight_of (carved leaf area outer inner) ≤ capacity + 1)
   told = room_told parent p outer inner capacity leaf area h cut held owed.above normal light owed.other
 
   pub plan_posts : (at : List Side) → at ≡ way_to p parent.frag → weight_of parent.frag + weight_of (carved leaf area outer inner) ≤ capacity + 1 → Posts parent child p capacity at inner area
@@ -77,7 +77,7 @@ module _ (parent child : LivePage) (p : List ℕ) (outer inner capacity : ℕ) (
     leaf = leaf;
     area = area;
     owed = owed;
-    heavy = elim (cases_lt capacity (weight_of (posted parent p outer inner leaf area))) [ inl heavy ↦ heavy | inr room ↦ absurd (none (told.0 room)) ];
+    heavy = elim (cases_lt capacity (weight_of (posted_parent parent p outer inner leaf area))) [ inl heavy ↦ heavy | inr room ↦ absurd (none (told.0 room)) ];
   }
 
 -- a leaf at a point lies in the page, and its box has the point
@@ -120,7 +120,7 @@ planned_may_be parent child p icap at inner area h cut k cut' plan =
     }
 
 -- two plans are the same
-not_both : (parent child : LivePage) (p : List ℕ) (icap outer inner : ℕ) (leaf area : Area) (outer' inner' : ℕ) (leaf' area' : Area) → IsOwed parent child p outer inner leaf area → IsOwed parent child p outer' inner' leaf' area' → weight_of (posted parent p outer inner leaf area) ≤ icap → icap < weight_of (posted parent p outer' inner' leaf' area') → ⊥
+not_both : (parent child : LivePage) (p : List ℕ) (icap outer inner : ℕ) (leaf area : Area) (outer' inner' : ℕ) (leaf' area' : Area) → IsOwed parent child p outer inner leaf area → IsOwed parent child p outer' inner' leaf' area' → weight_of (posted_parent parent p outer inner leaf area) ≤ icap → icap < weight_of (posted_parent parent p outer' inner' leaf' area') → ⊥
 not_both parent child p icap outer inner leaf area outer' inner' leaf' area' h k room heavy =
     let up = same_leaf (leaf_at parent p) (record { leaf = Child outer; area = leaf }) (record { leaf = Child outer'; area = leaf' }) h.above k.above in
     let down = same_leaf (leaf_at child p) (record { leaf = Sibling inner; area = area }) (record { leaf = Sibling inner'; area = area' }) h.below k.below in
@@ -128,7 +128,7 @@ not_both parent child p icap outer inner leaf area outer' inner' leaf' area' h k
     let givens = down.0 in
     let o : outer ≡ outer' = cc in
     let i : inner ≡ inner' = cc in
-    let e : posted parent p outer inner leaf area ≡ posted parent p outer' inner' leaf' area' = λ j. posted parent p (o j) (i j) (up.1 j) (down.1 j) in
+    let e : posted_parent parent p outer inner leaf area ≡ posted_parent parent p outer' inner' leaf' area' = λ j. posted_parent parent p (o j) (i j) (up.1 j) (down.1 j) in
     let w = ap weight_of e in
     omega arith
 

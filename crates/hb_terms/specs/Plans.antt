@@ -28,8 +28,8 @@ pub record IsOwed (parent child : LivePage) (p : List ℕ) (outer inner : ℕ) (
   pub other : inner ≢ outer
 
 -- the parent's inside once its leaf at the point is carved, without cuts that part nothing
-abbrev pub posted : LivePage → List ℕ → ℕ → ℕ → Area → Area → Tree
-posted parent p outer inner leaf area = normal (with_part (way_to p parent.frag) parent.frag (carved leaf area outer inner))
+abbrev pub posted_parent : LivePage → List ℕ → ℕ → ℕ → Area → Area → Tree
+posted_parent parent p outer inner leaf area = normal (with_part (way_to p parent.frag) parent.frag (carved leaf area outer inner))
 
 -- no page is owed a leaf of the parent at the point
 abbrev pub OwesNothing : LivePage → LivePage → List ℕ → Type 0
@@ -42,7 +42,7 @@ pub record Posts (parent child : LivePage) (p : List ℕ) (icap : ℕ) (at : Lis
   pub leaf : Area
   pub owed : IsOwed parent child p outer inner leaf area
   pub way : at ≡ way_to p parent.frag
-  pub room : weight_of (posted parent p outer inner leaf area) ≤ icap
+  pub room : weight_of (posted_parent parent p outer inner leaf area) ≤ icap
 
 -- some page is, and the parent has no room for it
 pub record LacksRoom (parent child : LivePage) (p : List ℕ) (icap : ℕ) : Type 0 where
@@ -52,7 +52,7 @@ pub record LacksRoom (parent child : LivePage) (p : List ℕ) (icap : ℕ) : Typ
   pub leaf : Area
   pub area : Area
   pub owed : IsOwed parent child p outer inner leaf area
-  pub heavy : icap < weight_of (posted parent p outer inner leaf area)
+  pub heavy : icap < weight_of (posted_parent parent p outer inner leaf area)
 
 -- the plan for a parent, its child, a point, and what a page above level 0 may weigh
 abbrev pub IsPlan : LivePage → LivePage → List ℕ → ℕ → PostPlan → Type 0

@@ -4,7 +4,7 @@ use Rattle.std.specs.List.{onto_first, position, position_or_len}
 use Rattle.std.proofs.Math.Numerals.{add-one}
 use Rattle.std.proofs.lemmas.List.{drop_all}
 use Rattle.std.proofs.lemmas.Bool.Decides.{nat_tests}
-use Rattle.hb_text.specs.Grammar.{lines_of}
+use Rattle.hb_text.specs.Words.{lines_of}
 use Rattle.hb_text.proofs.WordCuts.{made, not_made, take_rest}
 
 -- a text with a line feed is its first line, and the lines behind that line feed

@@ -5,10 +5,11 @@ use Rattle.std.proofs.lemmas.List.{length-append}
 use Rattle.hb_set.specs.declared.scripts.Line.{Line}
 use Rattle.hb_text.specs.declared.rules.BadLine.{BadLine}
 use Rattle.hb_text.specs.declared.rules.TextRule.{TextRule}
-use Rattle.hb_text.specs.Grammar.{◌>>=◌, Said, Reading, with_said, line_read, lines_read, lines_of, text_read}
+use Rattle.hb_text.specs.Grammar.{Said, Reading, with_said, line_read, lines_read, text_read}
+use Rattle.hb_text.specs.Words.{◌>>=◌, lines_of}
 use Rattle.hb_text.specs.declared.rules.TextError.{TextError}
 use Rattle.hb_text.specs.declared.rules.TextError.TheVariants as errors
-use Rattle.hb_text.specs.Reading.{Reads, AddsLine}
+use Rattle.hb_text.specs.Reading.{ReadsScript, AddsLine}
 
 -- a list of lines and one of steps, each for another
 pub both_same : {X : Type 0} (f : List Line → List ℕ → X) (ls ms : List Line) (ss ts : List ℕ) → ls ≡ ms → ss ≡ ts → f ls ss ≡ f ms ts
@@ -51,7 +52,7 @@ module _ (allowed : Bool) where
   text_done front before k number (c ∷ rest) e = absurd (omega arith)
 
   -- the first bad line is the answer
-  pub text_err : (front new : List Line) (before after : List ℕ) (k number : ℕ) (text rest behind line : List ℕ) (error : TextError) → lines_of rest ≡ line ∷ lines_of behind → AddsLine number front new before after (Err error) (line_read allowed k (length before) number line) → after_lines front before (lines_read allowed k (length before) number (lines_of rest)) ≡ text_read allowed k text → Reads (Err error) (text_read allowed k text)
+  pub text_err : (front new : List Line) (before after : List ℕ) (k number : ℕ) (text rest behind line : List ℕ) (error : TextError) → lines_of rest ≡ line ∷ lines_of behind → AddsLine number front new before after (Err error) (line_read allowed k (length before) number line) → after_lines front before (lines_read allowed k (length before) number (lines_of rest)) ≡ text_read allowed k text → ReadsScript (Err error) (text_read allowed k text)
   text_err front new before after k number text rest behind line errors.NoMemory cut adds told = tt
   text_err front new before after k number text rest behind line (errors.Bad bad) cut adds told =
       sym told ∙ line_err front before k number rest behind line bad.rule cut adds.1 ∙ ap (λ n. Err (record { line = n; rule = bad.rule })) (sym adds.0)

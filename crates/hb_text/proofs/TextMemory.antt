@@ -7,7 +7,8 @@ use Rattle.hb_text.specs.declared.rules.BadLine.{BadLine}
 use Rattle.hb_text.specs.declared.rules.TextRule.{TextRule}
 use Rattle.hb_text.specs.declared.rules.TextError.{TextError}
 use Rattle.hb_text.specs.declared.rules.TextError.TheVariants as errors
-use Rattle.hb_text.specs.Grammar.{◌>>=◌, Said, Reading, at_line, line_read, lines_read, lines_of, text_read}
+use Rattle.hb_text.specs.Grammar.{Said, Reading, at_line, line_read, lines_read, text_read}
+use Rattle.hb_text.specs.Words.{◌>>=◌, lines_of}
 use Rattle.hb_text.specs.Reading.{AddsLine, WantsMemory}
 use Rattle.hb_text.proofs.TextLines.{after_lines, line_ok}
 

@@ -8,7 +8,8 @@ use Rattle.std.proofs.lemmas.Bool.Decides.{nat_tests}
 use Rattle.hb_text.specs.declared.rules.TextRule.{TextRule}
 use Rattle.hb_text.specs.declared.rules.TextRule.TheVariants.{EmptyBox}
 use Rattle.hb_text.specs.Numbers.{number_read}
-use Rattle.hb_text.specs.Grammar.{◌>>=◌, or_fault, values_read, lows, highs, are_ordered, box_read}
+use Rattle.hb_text.specs.Words.{◌>>=◌}
+use Rattle.hb_text.specs.Operands.{or_fault, values_read, lows, highs, pairs_are_ordered, box_read}
 
 -- the values so far, and what the rest reads
 abbrev pub after_values : List ℕ → Result (List ℕ) TextRule → Result (List ℕ) TextRule
@@ -69,13 +70,13 @@ half_length (lo ∷ []) = (omega arith, omega arith)
 half_length (lo ∷ hi ∷ rest) = let h = half_length rest in (omega (arith, h.0), omega (arith, h.1))
 
 -- the test of a search's values is that no lower value is above its upper one
-pub ordered_by_place : (values : List ℕ) → are_ordered values ≡ true → EachIndex (lows values) (λ i. slice_index (lows values) i ≤ slice_index (highs values) i)
+pub ordered_by_place : (values : List ℕ) → pairs_are_ordered values ≡ true → EachIndex (lows values) (λ i. slice_index (lows values) i ≤ slice_index (highs values) i)
 ordered_by_place [] e i lt = absurd (omega arith)
 ordered_by_place (lo ∷ []) e i lt = absurd (omega arith)
 ordered_by_place (lo ∷ hi ∷ rest) e zero lt = grind (arith, nat_tests)
 ordered_by_place (lo ∷ hi ∷ rest) e (suc i) lt = ordered_by_place rest (grind (arith, nat_tests)) i (omega arith)
 
-pub ordered_from_places : (values : List ℕ) → EachIndex (lows values) (λ i. slice_index (lows values) i ≤ slice_index (highs values) i) → are_ordered values ≡ true
+pub ordered_from_places : (values : List ℕ) → EachIndex (lows values) (λ i. slice_index (lows values) i ≤ slice_index (highs values) i) → pairs_are_ordered values ≡ true
 ordered_from_places [] h = refl
 ordered_from_places (lo ∷ []) h = refl
 ordered_from_places (lo ∷ hi ∷ rest) h =
@@ -86,10 +87,10 @@ ordered_from_places (lo ∷ hi ∷ rest) h =
 -- what the corners make is what the values say
 pub boxed : (values lo hi : List ℕ) (made : Option Area) → lo ≡ lows values → hi ≡ highs values → (IsSome made ↔ EachIndex lo (λ i. slice_index lo i ≤ slice_index hi i)) → IfSome made (λ a. (a.lo ≡ lo) × (a.hi ≡ hi)) → ok_or made EmptyBox ≡ box_read values
 boxed values lo hi None lo_is hi_is made corners =
-    elim (are_ordered values) as (λ b. are_ordered values ≡ b → ok_or {T = Area} None EmptyBox ≡ cond b (Ok (record { lo = lows values; hi = highs values })) (Err EmptyBox)) [
+    elim (pairs_are_ordered values) as (λ b. pairs_are_ordered values ≡ b → ok_or {T = Area} None EmptyBox ≡ cond b (Ok (record { lo = lows values; hi = highs values })) (Err EmptyBox)) [
       | true ↦ λ e. absurd (false≢true (made.1 (rw (lo_is, hi_is) (ordered_by_place values e))))
       | false ↦ λ e. refl
     ] refl
 boxed values lo hi (Some a) lo_is hi_is made corners =
-    let ordered : are_ordered values ≡ true = ordered_from_places values (rw (lo_is, hi_is) at (made.0 refl)) in
+    let ordered : pairs_are_ordered values ≡ true = ordered_from_places values (rw (lo_is, hi_is) at (made.0 refl)) in
     rw ordered (ap Ok (λ i. record { lo = (corners.0 ∙ lo_is) i; hi = (corners.1 ∙ hi_is) i }))

@@ -7,13 +7,14 @@ use Rattle.hb_text.specs.declared.rules.TextError.{TextError}
 use Rattle.hb_text.specs.declared.rules.TextError.TheVariants as errors
 use Rattle.hb_text.specs.declared.rules.TextRule.{TextRule}
 use Rattle.hb_text.specs.declared.rules.BadLine.{BadLine}
-use Rattle.hb_text.specs.Grammar.{Said, Reading, line_read, lines_of, text_read}
+use Rattle.hb_text.specs.Grammar.{Said, Reading, line_read, text_read}
+use Rattle.hb_text.specs.Words.{lines_of}
 
 -- The script is what the text says, and the bad line the first that breaks a rule. `WantsMemory` bounds want of memory.
-abbrev pub Reads : Result Script TextError → Result Reading BadLine → Type 0
-Reads (Ok script) read = read ≡ Ok (record { lines = script.lines; steps = script.steps })
-Reads (Err (errors.Bad bad)) read = read ≡ Err bad
-Reads (Err errors.NoMemory) read = Unit {0}
+abbrev pub ReadsScript : Result Script TextError → Result Reading BadLine → Type 0
+ReadsScript (Ok script) read = read ≡ Ok (record { lines = script.lines; steps = script.steps })
+ReadsScript (Err (errors.Bad bad)) read = read ≡ Err bad
+ReadsScript (Err errors.NoMemory) read = Unit {0}
 
 -- What one line says joins the commands and the steps so far, or its first broken rule is the answer. Memory is wanted
 -- for a command, or for steps.

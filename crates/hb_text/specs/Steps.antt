@@ -1,6 +1,6 @@
 -- How many steps of a schedule are left behind those of a step line.
 use Rattle.std.specs.Prelude.{ℕ, ◌-◌, nat_le, if◌then◌else◌, List, [], ◌∷◌, length, Option, Some, None}
-use Rattle.hb_text.specs.Grammar.{word_steps}
+use Rattle.hb_text.specs.StepWords.{word_steps}
 
 abbrev pub left_after : ℕ → Option (List ℕ) → Option ℕ
 left_after left None = None

@@ -1,65 +1,14 @@
 -- The front of a text that is too long decides what the text says: its first bad line begins within that front.
-use Rattle.std.specs.Prelude.{◌≡◌, ℕ, suc, ◌⊎◌, ◌+◌, ◌*◌, ◌<◌, ◌≤◌, Bool, true, false, cond, ◌==◌, nat_lt, List, [], ◌∷◌, ◌++◌, length, Result, Ok, Err, refl}
+use Rattle.std.specs.Prelude.{◌≡◌, ℕ, suc, ◌+◌, ◌*◌, ◌<◌, ◌≤◌, Bool, true, false, nat_lt, List, [], ◌∷◌, ◌++◌, length, Result, Ok, Err, refl}
 use Rattle.std.proofs.Common.{zero, inl, inr, sym, ap, ◌∙◌, arith, append-nil}
-use Rattle.std.specs.List.{onto_first}
 use Rattle.std.proofs.lemmas.Bool.Decides.{nat_tests}
 use Rattle.hb_text.specs.declared.rules.TextRule.{TextRule}
 use Rattle.hb_text.specs.declared.rules.TextRule.TheVariants.{TooMany, LongLine}
 use Rattle.hb_text.specs.declared.rules.BadLine.{BadLine}
 use Rattle.hb_space.specs.declared.form.TheConstants.{LINE}
-use Rattle.hb_text.specs.Grammar.{◌>>=◌, line_read, lines_read, lines_of, at_line, text_read, with_said, is_empty, Said, Reading}
-
--- the first of some lines
-abbrev first_of : List (List ℕ) → List ℕ
-first_of [] = []
-first_of (line ∷ lines) = line
-
--- a text with a line feed: its first line, and what stands behind that line feed, whatever follows the text
-record HasFeed (text : List ℕ) : Type 0 where
-  line : List ℕ
-  behind : List ℕ
-  cuts : (rest : List ℕ) → lines_of (text ++ rest) ≡ line ∷ lines_of (behind ++ rest)
-  bytes : length text ≡ (length line + 1) + length behind
-
--- a text without a line feed is within the first line, whatever follows the text
-abbrev HasNoFeed : List ℕ → Type 0
-HasNoFeed text = (rest : List ℕ) → length text ≤ length (first_of (lines_of (text ++ rest)))
-
--- a choice whose test is known
-on_true : {A : Type 0} (b : Bool) (x y : A) → b ≡ true → cond b x y ≡ x
-on_true b x y e = rw e refl
-
-on_false : {A : Type 0} (b : Bool) (x y : A) → b ≡ false → cond b x y ≡ y
-on_false b x y e = rw e refl
-
-onto_longer : (c : ℕ) (lines : List (List ℕ)) → length (first_of (onto_first c lines)) ≡ length (first_of lines) + 1
-onto_longer c [] = omega arith
-onto_longer c (line ∷ lines) = omega arith
-
-other_cut : (c : ℕ) (text : List ℕ) → (c == 10) ≡ false → HasFeed text ⊎ HasNoFeed text → HasFeed (c ∷ text) ⊎ HasNoFeed (c ∷ text)
-other_cut c text e (inl h) = inl (record {
-  line = c ∷ h.line;
-  behind = h.behind;
-  cuts = λ rest. on_false (c == 10) ([] ∷ lines_of (text ++ rest)) (onto_first c (lines_of (text ++ rest))) e ∙ ap (onto_first c) (h.cuts rest);
-  bytes = omega (arith, h.bytes);
-})
-other_cut c text e (inr h) = inr (λ rest.
-    let is = ap (λ (lines : List (List ℕ)). length (first_of lines)) (on_false (c == 10) ([] ∷ lines_of (text ++ rest)) (onto_first c (lines_of (text ++ rest))) e) in
-    omega (arith, is, onto_longer c (lines_of (text ++ rest)), h rest))
-
--- each text has a line feed or none
-cut : (text : List ℕ) → HasFeed text ⊎ HasNoFeed text
-cut [] = inr (λ rest. omega arith)
-cut (c ∷ text) =
-    elim (c == 10) as (λ b. (c == 10) ≡ b → HasFeed (c ∷ text) ⊎ HasNoFeed (c ∷ text)) [
-      | true ↦ λ e. inl (record {
-        line = [];
-        behind = text;
-        cuts = λ rest. on_true (c == 10) ([] ∷ lines_of (text ++ rest)) (onto_first c (lines_of (text ++ rest))) e;
-        bytes = omega arith;
-      })
-      | false ↦ λ e. other_cut c text e (cut text)
-    ] refl
+use Rattle.hb_text.specs.Grammar.{line_read, lines_read, at_line, text_read, with_said, Said, Reading}
+use Rattle.hb_text.specs.Words.{◌>>=◌, lines_of, is_empty}
+use Rattle.hb_text.specs.FirstLineFeed.{first_of, HasFeed, HasNoFeed, on_true, on_false, cut}
 
 -- the rule that a line breaks which is longer than all lines that may follow it, by how many may
 abbrev broken_rule : ℕ → TextRule

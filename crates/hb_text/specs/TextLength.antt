@@ -5,8 +5,9 @@ use Rattle.std.specs.List.{list_all, list_any, onto_first}
 use Rattle.hb_text.specs.declared.rules.TextRule.{TextRule}
 use Rattle.hb_text.specs.declared.rules.TextRule.TheVariants.{TooMany, LongLine, BadByte, BadSpacing}
 use Rattle.hb_space.specs.declared.form.TheConstants.{LINE}
-use Rattle.hb_text.specs.Grammar.{words_of, words_read, line_read, lines_read, lines_of, at_line, text_read, Said, Reading, is_empty, is_printable}
-use Rattle.hb_text.specs.ScriptLaws.{bound, chosen, at_line_ok}
+use Rattle.hb_text.specs.Grammar.{words_read, line_read, lines_read, at_line, text_read, Said, Reading}
+use Rattle.hb_text.specs.Words.{words_of, lines_of, is_empty, is_printable}
+use Rattle.hb_text.specs.ReadingLaws.{bound, chosen, at_line_ok}
 use Rattle.std.proofs.lemmas.Bool.Decides.{nat_tests}
 
 -- the bytes of the lines, each with a line feed behind it

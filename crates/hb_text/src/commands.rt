@@ -1,5 +1,6 @@
 ghost use Rattle.std.specs.Prelude.{◌≡◌, ◌<◌, ◌≤◌, length};
-ghost use Rattle.hb_text.specs.Grammar.{session_of, operand_count, operands_read, command_read};
+ghost use Rattle.hb_text.specs.StepWords.{session_of};
+ghost use Rattle.hb_text.specs.Operands.{operand_count, operands_read, command_read};
 
 use crate::numbers::read_number;
 use crate::operands::{read_body, read_box, read_point};
@@ -21,7 +22,7 @@ pub(crate) fn read_session(word: &[u8]) -> Option<u8>
 }
 
 /// The command of a verb, whose words are those that are left.
-#[tactic(auto, unfolding(crate::specs::Grammar::operands_read))]
+#[tactic(auto, unfolding(crate::specs::Operands::operands_read))]
 fn read_operands(verb: Verb, attributes: u8, words: &mut Words<'_>) -> Result<Command, TextRule>
     requires some { 0 < attributes }
     requires few { attributes ≤ KMAX }
@@ -41,7 +42,7 @@ fn read_operands(verb: Verb, attributes: u8, words: &mut Words<'_>) -> Result<Co
 }
 
 /// The command that the words behind the session say.
-#[tactic(auto, unfolding(crate::specs::Grammar::command_read))]
+#[tactic(auto, unfolding(crate::specs::Operands::command_read))]
 pub(crate) fn read_command(attributes: u8, words: &mut Words<'_>) -> Result<Command, TextRule>
     requires some { 0 < attributes }
     requires few { attributes ≤ KMAX }

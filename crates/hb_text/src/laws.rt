@@ -5,11 +5,11 @@ ghost use Rattle.std.specs.Prelude.{◌≡◌, ◌≢◌, ◌<◌, ◌^◌, ◌�
 ghost use Rattle.std.specs.List.{AllByRecursion, join_with_byte};
 ghost use Rattle.std.specs.Fmt.{decimal};
 ghost use Rattle.hb_text.specs.Numbers.{number_read};
-ghost use Rattle.hb_text.specs.Grammar.{lines_of, words_of};
+ghost use Rattle.hb_text.specs.Words.{lines_of, words_of};
 ghost use Rattle.hb_text.specs.TextLaws.{HasNo, with_line_feeds};
 
 /// A word says a number exactly where it is that number's decimal spelling.
-#[tactic(auto, using(crate::specs::TextLaws::numbers_are_decimal))]
+#[tactic(auto, using(crate::specs::NumberLaws::numbers_are_decimal))]
 pub fn numbers_are_decimal()
     ensures { (word : List ℕ) (n : ℕ) → n < 2 ^ 64 → ((number_read word ≡ Ok n) ↔ (word ≡ decimal n)) }
 {}
@@ -27,7 +27,7 @@ pub fn lines_make_the_text()
 
 /// A line is its words with a space between any two, and any words without a space in them come
 /// back from such a line.
-#[tactic(auto, using(crate::specs::TextLaws::words_give_the_line, crate::specs::TextLaws::words_come_back, crate::specs::TextLaws::words_have_no_space))]
+#[tactic(auto, using(crate::specs::WordLaws::words_give_the_line, crate::specs::WordLaws::words_come_back, crate::specs::WordLaws::words_have_no_space))]
 pub fn words_make_the_line()
     ensures whole { (line : List ℕ) → join_with_byte 32 (words_of line) ≡ line }
     ensures back { (words : List (List ℕ)) → 0 < length words → AllByRecursion (HasNo 32) words → words_of (join_with_byte 32 words) ≡ words }

@@ -1,6 +1,8 @@
 ghost use Rattle.std.specs.Prelude.{◌≡◌, ◌==◌, ◌<◌, ◌≤◌, ◌∷◌, if◌then◌else◌, length, position, OnOk, Err};
 ghost use Rattle.std.specs.List.{list_all, list_any};
-ghost use Rattle.hb_text.specs.Grammar.{lines_of, words_of, is_printable, is_empty, words_read, line_read, steps_read, says_steps, SaysLine, SaysSteps};
+ghost use Rattle.hb_text.specs.Grammar.{words_read, line_read, says_steps, SaysLine, SaysSteps};
+ghost use Rattle.hb_text.specs.Words.{lines_of, words_of, is_printable, is_empty};
+ghost use Rattle.hb_text.specs.StepWords.{steps_read};
 
 use crate::commands::{read_command, read_session};
 use crate::rules::TextRule;

@@ -1,6 +1,6 @@
 ghost use Rattle.std.specs.Prelude.{◌≡◌, ◌*◌, ◌<◌, ◌≤◌, length, take, drop, Ok, Err, MatchResult, IfOk, OnOk};
 ghost use Rattle.hb_text.specs.Numbers.{number_read};
-ghost use Rattle.hb_text.specs.Grammar.{or_fault, values_read, body_read, lows, highs, box_read, box_words_read};
+ghost use Rattle.hb_text.specs.Operands.{or_fault, values_read, body_read, lows, highs, box_read, box_words_read};
 
 use crate::numbers::{NumberFault, read_number};
 use crate::rules::TextRule;

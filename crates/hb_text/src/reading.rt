@@ -1,7 +1,9 @@
 ghost use Rattle.std.specs.Prelude.{◌≡◌, ℕ, ◌+◌, ◌<◌, ◌≤◌, false, List, [], ◌∷◌, ◌++◌, length, drop, Some, All, OnOk, IfOk};
 ghost use Rattle.hb_set.specs.Scripts.{IsScriptFor};
-ghost use Rattle.hb_text.specs.Grammar.{line_read, steps_of, text_read, words_of};
-ghost use Rattle.hb_text.specs.Reading.{Reads, AddsLine, WantsMemory};
+ghost use Rattle.hb_text.specs.Grammar.{line_read, text_read};
+ghost use Rattle.hb_text.specs.StepWords.{steps_of};
+ghost use Rattle.hb_text.specs.Words.{words_of};
+ghost use Rattle.hb_text.specs.Reading.{ReadsScript, AddsLine, WantsMemory};
 
 use crate::lines::{Meaning, first_line, read_line};
 use crate::rules::{BadLine, TextError};
@@ -61,7 +63,7 @@ pub fn read_commands(
 ) -> Result<Script, TextError>
     requires some { 0 < attributes }
     requires few { attributes ≤ KMAX }
-    ensures exact { Reads result (text_read step_lines attributes text.now) }
+    ensures exact { ReadsScript result (text_read step_lines attributes text.now) }
     ensures memory { WantsMemory step_lines attributes text.now result }
     ensures no_steps { IfOk result (λ script. step_lines ≡ false → script.steps ≡ []) }
     ensures actors { IfOk result (λ script. All (λ a. (1 ≤ a) × (a ≤ 19)) script.steps) }

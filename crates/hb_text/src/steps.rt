@@ -1,7 +1,7 @@
 //! The steps of a step line.
 ghost use Rattle.std.specs.Prelude.{◌≡◌, ◌+◌, ◌≤◌, ◌==◌, ℕ, List, ◌++◌, ◌∷◌, length, position, replicate, Some, None, option_map, MatchOption, IfSome, OnOk};
 ghost use Rattle.hb_text.specs.Numbers.{number_read};
-ghost use Rattle.hb_text.specs.Grammar.{actor_of, count_number, repeated, word_steps, steps_of};
+ghost use Rattle.hb_text.specs.StepWords.{actor_of, count_number, repeated, word_steps, steps_of};
 ghost use Rattle.hb_text.specs.Steps.{steps_left};
 
 use crate::commands::read_session;

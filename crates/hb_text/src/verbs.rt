@@ -1,5 +1,5 @@
 ghost use Rattle.std.specs.Prelude.{◌≡◌};
-ghost use Rattle.hb_text.specs.Grammar.{verb_of, operand_count};
+ghost use Rattle.hb_text.specs.Operands.{verb_of, operand_count};
 
 /// What a command line asks for.
 #[derive(Clone, Copy, Debug, PartialEq, Eq)]

@@ -1,5 +1,5 @@
 ghost use Rattle.std.specs.Prelude.{◌≡◌, ◌==◌, [], ◌∷◌, length, count_by, position, MatchOption, IsTrue, ◌↔◌};
-ghost use Rattle.hb_text.specs.Grammar.{words_of};
+ghost use Rattle.hb_text.specs.Words.{words_of};
 
 use std::marker::Model;
 
@@ -36,7 +36,7 @@ pub(crate) struct Words<'a> {
 
 impl<'a> Model for Words<'a> {
     ghost use Rattle.std.specs.Prelude.{List, ℕ, if◌then◌else◌, []};
-    ghost use Rattle.hb_text.specs.Grammar.{words_of};
+    ghost use Rattle.hb_text.specs.Words.{words_of};
 
     ghost Value = { List (List ℕ) };
 

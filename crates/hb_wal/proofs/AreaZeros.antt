@@ -1,12 +1,13 @@
 -- An area that was zeroed and synced has the log without a frame.
-use Rattle.std.proofs.Common.{◌≡◌, ◌+◌, ◌-◌, ◌≤◌, ℕ, List, [], ◌++◌, Option, Some, None, IfSome, Result, Ok, Err, length, replicate, take, drop, refl, sym, ap, ◌∙◌, subst, arith}
+use Rattle.std.proofs.Common.{◌≡◌, ◌+◌, ◌-◌, ◌≤◌, ℕ, List, [], Option, Some, None, Result, Ok, length, replicate, take, drop, refl, sym, ap, ◌∙◌, arith}
 use Rattle.std.proofs.lemmas.List.{length-replicate}
-use Rattle.hb_disk.specs.Model.{DiskModel, IsDisk, overwritten}
-use Rattle.hb_disk.specs.Calls.{Writes, Syncs}
-use Rattle.hb_disk.specs.RunLaws.{IsSynced-sync, if_value, told_written, some_same}
-use Rattle.hb_disk.specs.TornLaws.{overwritten-reads}
+use Rattle.hb_disk.specs.Model.{DiskModel, IsDisk, Torn, overwritten}
+use Rattle.hb_disk.specs.Calls.{Becomes, Syncs, Ticks, Writes}
+use Rattle.hb_disk.specs.SyncedLaws.{IsSynced-sync}
+use Rattle.hb_disk.specs.ValueLaws.{if_value, some_same}
+use Rattle.hb_disk.specs.BecomesLaws.{Becomes-torn, Becomes-torn_sync, Becomes-torn_write, told_written}
+use Rattle.hb_disk.specs.OverwrittenLaws.{overwritten-reads}
 use Rattle.hb_wal.specs.Frames.{range}
-use Rattle.hb_wal.specs.Log.{LogState}
 use Rattle.hb_wal.specs.Forces.{HasLog}
 
 -- what a read of the area gives then
@@ -34,3 +35,12 @@ module _ (old mid new : DiskModel) (area len : ℕ) (is_old : IsDisk old) (insid
     count = refl;
     reads = if_value new.told (λ b. range area len b ≡ replicate (len - 0) 0) (λ b told. zeros_told old.told refl b told);
   }
+
+-- zeroed and then synced, also in part: the area alone was touched
+pub torn_area : {T E F G : Type 0} (zeroed : Result T E) (synced : Result F G) (old mid new : DiskModel) (area len : ℕ) → IsDisk old → IsDisk mid → area + len ≤ old.size
+    → Writes area (replicate len 0) zeroed old mid → Ticks zeroed old mid → Syncs synced mid new → Ticks synced mid new → Becomes (Torn area len) old new
+torn_area zeroed synced old mid new area len is_old is_mid inside writes ticks syncs sync_ticks =
+    let zeros : length {A = ℕ} (replicate len 0) ≡ len = length-replicate len 0 in
+    Becomes-torn area len old mid new
+    (Becomes-torn_write zeroed area (replicate len 0) area len old mid is_old is_mid (omega (arith, zeros, inside)) (omega arith) (omega (arith, zeros)) writes ticks)
+    (Becomes-torn_sync synced area len mid new is_mid syncs sync_ticks)

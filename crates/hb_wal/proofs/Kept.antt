@@ -16,31 +16,31 @@ use Rattle.hb_wal.specs.Frames.{frames, frame_bytes, frame_body}
 use Rattle.hb_wal.specs.declared.groups.Group.{Group}
 use Rattle.hb_wal.specs.declared.log.Wal.TheInside.{Inside}
 use Rattle.hb_wal.specs.Log.{Waiting, LogState, IsLog, BeginsWith, after_force, pending_bytes, framed_bytes, room_of}
-use Rattle.hb_wal.specs.Kept.{waiting_of, total_of, seen_as, Keeps}
+use Rattle.hb_wal.specs.Kept.{waiting_of, total_of, log_seen, Keeps}
 use Rattle.hb_wal.proofs.Waiting.{length-waiting_of, pending-waiting_of, framed-pending, count-pending, total-push, pending-push, framed-push, waiting-push}
 
 module _ (w : Inside) (keeps : Keeps w) where
   rest : length (drop 4 w.bytes.items) ≡ total_of w.groups.items
   rest = omega (arith, length-drop 4 w.bytes.items, keeps.bytes_len)
 
-  pub pending-seen : pending_bytes (seen_as w).groups ≡ total_of w.groups.items
+  pub pending-seen : pending_bytes (log_seen w).groups ≡ total_of w.groups.items
   pending-seen = pending-waiting_of (drop 4 w.bytes.items) w.groups.items (omega (arith, rest))
 
   pub total_fits : total_of w.groups.items ≤ PENDING
   total_fits = omega (arith, pending-seen, keeps.log.reserved)
 
-  pub count-seen : length (seen_as w).groups ≡ length w.groups.items
+  pub count-seen : length (log_seen w).groups ≡ length w.groups.items
   count-seen = length-waiting_of (drop 4 w.bytes.items) w.groups.items
 
   pub count_fits : length w.groups.items ≤ total_of w.groups.items
-  count_fits = omega (arith, count-seen, count-pending (seen_as w).groups keeps.log.groups, pending-seen)
+  count_fits = omega (arith, count-seen, count-pending (log_seen w).groups keeps.log.groups, pending-seen)
 
-  pub framed-seen : framed_bytes (seen_as w).groups ≡ total_of w.groups.items + 5 * length w.groups.items
-  framed-seen = omega (arith, framed-pending (seen_as w).groups, pending-seen, count-seen)
+  pub framed-seen : framed_bytes (log_seen w).groups ≡ total_of w.groups.items + 5 * length w.groups.items
+  framed-seen = omega (arith, framed-pending (log_seen w).groups, pending-seen, count-seen)
 
   -- the groups when one more joins
   pub seen-push : (bytes group : List ℕ) (g : Group) → drop 4 bytes ≡ drop 4 w.bytes.items ++ group → length group ≡ g.len
-      → waiting_of (drop 4 bytes) (w.groups.items ++ g ∷ []) ≡ (seen_as w).groups ++ record { bytes = group; mark = g.mark } ∷ []
+      → waiting_of (drop 4 bytes) (w.groups.items ++ g ∷ []) ≡ (log_seen w).groups ++ record { bytes = group; mark = g.mark } ∷ []
   seen-push bytes group g after long =
       ap (λ (l : List ℕ). waiting_of l (w.groups.items ++ g ∷ [])) after
       ∙ waiting-push (drop 4 w.bytes.items) group w.groups.items g rest long
@@ -127,7 +127,7 @@ first_of (h ∷ rest) g e = (rest, ap (λ (x : Group). x ∷ rest) (some_is h g 
     some_is x y e = cc e
 
 -- the body of the oldest group's frame stands at the front
-pub oldest_begins : (w : Inside) → Keeps w → (g : Group) (rest : List Group) → w.groups.items ≡ g ∷ rest → BeginsWith (seen_as w).groups (take (4 + g.len) w.bytes.items)
+pub oldest_begins : (w : Inside) → Keeps w → (g : Group) (rest : List Group) → w.groups.items ≡ g ∷ rest → BeginsWith (log_seen w).groups (take (4 + g.len) w.bytes.items)
 oldest_begins w keeps g rest e =
     let shown : BeginsWith (waiting_of (drop 4 w.bytes.items) (g ∷ rest)) (take (4 + g.len) w.bytes.items) =
     body_is w.bytes.items g (omega (arith, keeps.bytes_len, ap total_of e)) (keeps.front g rest e) in
@@ -166,7 +166,7 @@ module _ (w : Inside) (keeps : Keeps w) (g : Group) (rest : List Group) (is : w.
   others : waiting_of (drop 4 bytes) rest ≡ waiting_of (drop g.len (drop 4 w.bytes.items)) rest
   others = ap (λ (l : List ℕ). waiting_of l rest) (behind ∙ sym (drop-drop g.len 4 w.bytes.items ∙ ap (λ (n : ℕ). drop n w.bytes.items) (omega arith)))
 
-  split : (seen_as w).groups ≡ record { bytes = take g.len (drop 4 w.bytes.items); mark = g.mark } ∷ waiting_of (drop 4 bytes) rest
+  split : (log_seen w).groups ≡ record { bytes = take g.len (drop 4 w.bytes.items); mark = g.mark } ∷ waiting_of (drop 4 bytes) rest
   split = ap (waiting_of (drop 4 w.bytes.items)) is ∙ ap (λ (l : List Waiting). record { bytes = take g.len (drop 4 w.bytes.items); mark = g.mark } ∷ l) (sym others)
 
   pub gone_length : length bytes ≡ 4 + total_of rest
@@ -175,7 +175,7 @@ module _ (w : Inside) (keeps : Keeps w) (g : Group) (rest : List Group) (is : w.
   abbrev oldest : Waiting
   oldest = record { bytes = take g.len (drop 4 w.bytes.items); mark = g.mark }
 
-  pub gone_is : gone ≡ after_force (seen_as w)
+  pub gone_is : gone ≡ after_force (log_seen w)
   gone_is =
       let frame : length (frames (oldest.bytes ∷ [])) ≡ 5 + g.len = omega (arith, length-frame oldest.bytes, cut) in
       let After : List Waiting → Type 0 = λ groups. gone ≡ after_force (record { area = w.area; len = w.len; written = w.written; groups = groups }) in

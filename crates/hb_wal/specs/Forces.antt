@@ -14,7 +14,7 @@ pub record HasLog (d : DiskModel) (log : LogState) (payloads : List (List ℕ)) 
   pub reads : IfSome d.told (λ b. range log.area log.len b ≡ frames payloads ++ replicate (log.len - log.written) 0)
 
 -- The log lies within the disk, and the disk has it, where it tells: then it may be forced.
-pub record IsReady (d : DiskModel) (log : LogState) : Type 0 where
+pub record MayForce (d : DiskModel) (log : LogState) : Type 0 where
   pub inside : log.area + log.len ≤ d.size
   pub has : IsSome d.told → (payloads : List (List ℕ)) × HasLog d log payloads
 

@@ -14,8 +14,8 @@ abbrev pub total_of : List Group → ℕ
 total_of [] = 0
 total_of (first ∷ rest) = first.len + total_of rest
 
-abbrev pub seen_as : Inside → LogState
-seen_as w = record { area = w.area; len = w.len; written = w.written; groups = waiting_of (drop 4 w.bytes.items) w.groups.items }
+abbrev pub log_seen : Inside → LogState
+log_seen w = record { area = w.area; len = w.len; written = w.written; groups = waiting_of (drop 4 w.bytes.items) w.groups.items }
 
 -- Four bytes of room stand before the groups, all memory is reserved, and the log is one.
 pub record Keeps (w : Inside) : Type 0 where
@@ -23,4 +23,4 @@ pub record Keeps (w : Inside) : Type 0 where
   pub front : (first : Group) (rest : List Group) → w.groups.items ≡ first ∷ rest → take 4 w.bytes.items ≡ big_endian 4 first.len
   pub bytes_room : 4 + PENDING ≤ vec_capacity w.bytes
   pub groups_room : PENDING ≤ vec_capacity w.groups
-  pub log : IsLog (seen_as w)
+  pub log : IsLog (log_seen w)

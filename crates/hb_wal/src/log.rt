@@ -33,9 +33,9 @@ impl Model for Wal {
 
     ghost Value = { LogState };
 
-    ghost use Rattle.hb_wal.specs.Kept.{seen_as, Keeps};
+    ghost use Rattle.hb_wal.specs.Kept.{log_seen, Keeps};
 
-    ghost view = { seen_as };
+    ghost view = { log_seen };
 
     ghost invariant = { Keeps };
 }

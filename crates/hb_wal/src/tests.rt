@@ -1,7 +1,7 @@
 //! Frames by hand: a log's life over a disk in memory, what crashes and faults leave, and areas that
 //! are good, cut short or bad.
 ghost use Rattle.std.specs.Prelude.{◌≤◌, IfOk, IsTrue};
-ghost use Rattle.hb_wal.specs.Forces.{IsReady};
+ghost use Rattle.hb_wal.specs.Forces.{MayForce};
 
 use crate::{ReadStop, Wal, read_area, zero_area};
 use hb_disk::{Device, MemDisk, Pick};
@@ -58,7 +58,7 @@ const NOISE: &[u8; 30] = b"##############################";
 /// A log of 24 bytes behind the first two, with two groups that wait.
 fn begun<D: Device>(alloc: Global, disk: &mut D) -> Result<Wal, Fail>
     requires { 26 ≤ (D.model disk.old).size }
-    ensures ready { IfOk result (λ log. IsReady (D.model disk.new) log) }
+    ensures ready { IfOk result (λ log. MayForce (D.model disk.new) log) }
 {
     let Ok(()) = zero_area(disk, 2, 24) else {
         return Err(Fail::from("the area wasn't zeroed"));
@@ -71,8 +71,8 @@ fn begun<D: Device>(alloc: Global, disk: &mut D) -> Result<Wal, Fail>
 
 /// Whether a force succeeds.
 fn forced<D: Device>(disk: &mut D, log: &mut Wal) -> bool
-    requires { IsReady (D.model disk.old) log.old }
-    ensures { IsTrue result → IsReady (D.model disk.new) log.new }
+    requires { MayForce (D.model disk.old) log.old }
+    ensures { IsTrue result → MayForce (D.model disk.new) log.new }
 {
     log.force(disk).is_ok()
 }

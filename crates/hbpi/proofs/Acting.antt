@@ -11,11 +11,13 @@ use Rattle.hb_ops.specs.Operations.{IsLicensed}
 use Rattle.hb_set.specs.declared.commands.Command.{Command}
 use Rattle.hb_set.specs.declared.commands.Command.TheVariants.{Insert, Delete, Lookup, Search}
 use Rattle.hb_set.specs.declared.scripts.Line.{Line}
-use Rattle.hbpi.specs.Core.{CoreState, IsCurrent, MayCommit}
+use Rattle.hbpi.specs.Core.{CoreState, IsCurrent}
+use Rattle.hbpi.specs.Commands.{MayCommit}
 use Rattle.hbpi.specs.Plans.{Acts, Does, PlansBy}
 use Rattle.hbpi.specs.declared.engine.plans.Plan.{Plan}
 use Rattle.hbpi.specs.declared.engine.plans.Plan.TheVariants as plans
 use Rattle.hbpi.specs.declared.engine.session.Outcome.{Outcome}
+use Rattle.hb_store.specs.States.{in_memory}
 
 -- the line that the code reads is the one at its place
 pub found_at : (lines : List Line) (taken order : ℕ) (found : Line) → order < taken → taken ≤ length lines → found ≡ get_or lines (taken - 1) found → slice_get lines (taken - 1) ≡ Some found
@@ -26,7 +28,7 @@ same_line lines t found line a b = let both : Some found ≡ Some line = sym a �
 
 pub acts_by : (d : DiskModel) (old : CoreState) (outcome : Outcome) (e : DiskModel) (new : CoreState) (number : ℕ) (found : Line) (plan : Plan)
     → ((line : Line) × IsCurrent old line × (number ≡ line.number)) → slice_get old.lines (old.taken - 1) ≡ Some found
-    → ((page : Page) × (old.store.frame old.store.meta.root ≡ Some page) × PlansBy old.store.meta page found.command plan)
+    → ((page : Page) × (in_memory old.store old.store.meta.root ≡ Some page) × PlansBy old.store.meta page found.command plan)
     → Does number plan d old outcome e new → Acts d old outcome e new
 acts_by d old outcome e new number found plan current there planned does =
     let same = same_line old.lines (old.taken - 1) found current.0 there current.1.1 in
@@ -65,6 +67,6 @@ or_ready A B a (inr b) = b
 -- then the store is ready
 pub changes_ready : (old : CoreState) (found : Line) (op : Op) (B : Type 0) → ((line : Line) → IsCurrent old line → (MayCommit line.command → ⊥) ⊎ B) → 0 < old.taken
     → slice_get old.lines (old.taken - 1) ≡ Some found
-    → ((page : Page) × (old.store.frame old.store.meta.root ≡ Some page) × PlansBy old.store.meta page found.command (plans.Change op)) → B
+    → ((page : Page) × (in_memory old.store old.store.meta.root ≡ Some page) × PlansBy old.store.meta page found.command (plans.Change op)) → B
 changes_ready old found op B ready some there planned =
     or_ready (MayCommit found.command) B (changes_may old.store.meta planned.0 found.command op planned.2) (ready found (some, there))

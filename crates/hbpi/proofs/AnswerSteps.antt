@@ -13,7 +13,9 @@ use Rattle.hbpi.specs.declared.engine.session.Session.{Session}
 use Rattle.hbpi.specs.declared.engine.session.Session.TheVariants as sessions
 use Rattle.hbpi.specs.declared.engine.session.Outcome.{Outcome}
 use Rattle.hbpi.specs.declared.engine.session.Outcome.TheVariants as outcomes
-use Rattle.hbpi.specs.Core.{AwaitsOne, CoreState, StepKeeps, StepsOn, settled_of}
+use Rattle.hbpi.specs.Core.{CoreState, settled_of}
+use Rattle.hbpi.specs.Keeping.{AwaitsOne, StepKeeps}
+use Rattle.hbpi.specs.StepTable.{StepsOn}
 use Rattle.hbpi.specs.Steps.{AnswersIt, KeepsAt, TookNext, next_core, with_session}
 use Rattle.hbpi.proofs.LinesDone.{among_next, before_next, next_is_current}
 use Rattle.hbpi.proofs.PrefixOpens.{order_long, quiet_moments}

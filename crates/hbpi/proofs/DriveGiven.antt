@@ -1,7 +1,7 @@
 -- What `drive` answers where nothing failed.
 use Rattle.std.proofs.Common.{◌≡◌, ◌⊎◌, inl, inr, ℕ, true, List, Option, Some, Result, Ok, Err, refl, sym, ap, subst, ◌∙◌}
 use Rattle.hb_disk.specs.Model.{DiskModel}
-use Rattle.hb_disk.specs.RunLaws.{at_value}
+use Rattle.hb_disk.specs.ValueLaws.{at_value}
 use Rattle.hb_outside.specs.Streams.{Rose}
 use Rattle.hb_layout.specs.declared.meta.Meta.{Meta}
 use Rattle.hb_ops.specs.Files.{FileState}
@@ -11,8 +11,10 @@ use Rattle.hb_text.specs.declared.rules.BadLine.{BadLine}
 use Rattle.hb_text.specs.Grammar.{Reading, text_read}
 use Rattle.hbpi.specs.Codes.{start_status, status_of}
 use Rattle.hbpi.specs.Core.{CoreState}
-use Rattle.hbpi.specs.Driven.{Drove, IsScheduled, IsShutOut, IsTurnedAway, OpenedEnds, DriveCommandEnds}
-use Rattle.hbpi.specs.Ends.{Seen}
+use Rattle.hbpi.specs.Driven.{IsShutOut, IsTurnedAway, OpenedEnds, DriveCommandEnds}
+use Rattle.hbpi.specs.DrivenRuns.{Drove}
+use Rattle.hbpi.specs.Schedules.{IsScheduled}
+use Rattle.hbpi.specs.SeenRuns.{Seen}
 use Rattle.hbpi.specs.Outcome.{IsTextOf, IsWholeText}
 use Rattle.hbpi.specs.Starting.{GoodIsServed}
 use Rattle.hbpi.specs.Runs.{IsCalm, GivesFor, IsDriven}

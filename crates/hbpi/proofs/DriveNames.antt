@@ -1,7 +1,7 @@
 -- The bad line that `drive` names.
 use Rattle.std.proofs.Common.{◌≡◌, inl, inr, ℕ, true, List, Option, Some, Err, sym, ap, subst, ◌∙◌}
 use Rattle.hb_disk.specs.Model.{DiskModel}
-use Rattle.hb_disk.specs.RunLaws.{at_value}
+use Rattle.hb_disk.specs.ValueLaws.{at_value}
 use Rattle.hb_ops.specs.Files.{FileState}
 use Rattle.hb_store.specs.ImageLaws.{OpensToOne}
 use Rattle.hb_store.specs.Opening.{OpensTo}
@@ -9,7 +9,7 @@ use Rattle.hb_text.specs.declared.rules.BadLine.{BadLine}
 use Rattle.hb_text.specs.Grammar.{text_read}
 use Rattle.hbpi.specs.Codes.{start_status}
 use Rattle.hbpi.specs.Driven.{IsTurnedAway, OpenedEnds, DriveCommandEnds}
-use Rattle.hbpi.specs.Ends.{Seen}
+use Rattle.hbpi.specs.SeenRuns.{Seen}
 use Rattle.hbpi.specs.Outcome.{IsTextOf}
 use Rattle.hbpi.specs.Runs.{NamesScheduleLine}
 use Rattle.hb_restart.specs.declared.faults.OpenFault.TheVariants as faults
@@ -21,7 +21,6 @@ use Rattle.hbpi.proofs.EndLaws.{front_reads}
 
 -- no refusal of a file names a line
 no_line : (fault : StartFault) (bad : BadLine) → start_status fault ≡ BadText bad → ⊥
-no_line (starts.Closed (faults.BadLayout field value)) bad is = cc is
 no_line (starts.Closed (faults.Small needed found)) bad is = cc is
 no_line (starts.Closed faults.NoSuper) bad is = cc is
 no_line starts.NotBuilt bad is = cc is

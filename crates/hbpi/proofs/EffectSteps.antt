@@ -19,13 +19,17 @@ use Rattle.hb_set.specs.declared.scripts.Line.{Line}
 use Rattle.hb_set.specs.declared.commands.Reply.{Reply}
 use Rattle.hb_set.specs.declared.commands.Reply.TheVariants as replies
 use Rattle.hb_set.specs.Machine.{RecordSet, reply_of, set_after}
-use Rattle.hb_store.specs.Keeps.{StoreKeeps, StoreState, last_of}
+use Rattle.hb_store.specs.States.{StoreState}
+use Rattle.hb_store.specs.Keeps.{StoreKeeps, last_of}
 use Rattle.hb_store.specs.Calls.{Commits, IsReady, with_op}
 use Rattle.hb_store.specs.ReplayLaws.{last_of-append}
 use Rattle.hbpi.specs.declared.engine.session.Session.TheVariants as sessions
 use Rattle.hbpi.specs.declared.engine.session.Outcome.{Outcome}
 use Rattle.hbpi.specs.declared.engine.session.Outcome.TheVariants as outcomes
-use Rattle.hbpi.specs.Core.{AwaitsOne, CoreKeeps, CoreState, IsCurrent, MayCommit, StepKeeps, TakesEffect, op_if, op_of, set_of}
+use Rattle.hbpi.specs.Core.{CoreState, IsCurrent}
+use Rattle.hbpi.specs.Keeping.{AwaitsOne, EngineKeeps, StepKeeps, set_of}
+use Rattle.hbpi.specs.Commands.{MayCommit, op_if, op_of}
+use Rattle.hbpi.specs.StepTable.{TakesEffect}
 use Rattle.hbpi.specs.FileLaws.{FileLaws}
 use Rattle.hbpi.specs.Steps.{joined_core, with_store}
 use Rattle.hbpi.specs.declared.engine.plans.Plan.TheVariants as plans
@@ -79,7 +83,7 @@ on_records (Lookup p) s op e = let never : None ≡ Some op = e in cc (never)
 on_records (Search a) s op e = let never : None ≡ Some op = e in cc (never)
 
 module _ (d : DiskModel) (is_disk : IsDisk d) (old : CoreState) (going : old.stop ≡ None) (was : old.session ≡ sessions.Walk) (line : Line) (current : IsCurrent old line)
-    (n : RecordSet) (done : List Line) (kept : CoreKeeps d old n done) where
+    (n : RecordSet) (done : List Line) (kept : EngineKeeps d old n done) where
   abbrev file : FileState
   file = last_of kept.durable kept.later
 
@@ -114,7 +118,7 @@ module _ (d : DiskModel) (is_disk : IsDisk d) (old : CoreState) (going : old.sto
     groups_none : st.log.groups ≡ []
     groups_none = ap (λ (l : LogState). l.groups) same.log ∙ no_group
 
-    answer_kept : (k : CoreKeeps e answer_core n after) × (last_of k.durable k.later ≡ file)
+    answer_kept : (k : EngineKeeps e answer_core n after) × (last_of k.durable k.later ≡ file)
     answer_kept =
         let S : List Waiting → Type 0 = λ g. contents_of kept.durable ≡ set_of n (take (mark_of g (length (old.order ++ line.number ∷ []))) after) in
         let A : List Waiting → Type 0 = λ g. AwaitsOne g after in
@@ -197,7 +201,7 @@ module _ (d : DiskModel) (is_disk : IsDisk d) (old : CoreState) (going : old.sto
     one_group : store.log.groups ≡ record { bytes = commits.group; mark = length old.order } ∷ []
     one_group = groups_are ∙ ap (λ (g : List Waiting). g ++ record { bytes = commits.group; mark = length old.order } ∷ []) no_group
 
-    change_kept : (k : CoreKeeps e change_core n after) × (last_of k.durable k.later ≡ changed)
+    change_kept : (k : EngineKeeps e change_core n after) × (last_of k.durable k.later ≡ changed)
     change_kept =
         let S : List Waiting → Type 0 = λ g. contents_of kept.durable ≡ set_of n (take (mark_of g (length (old.order ++ line.number ∷ []))) after) in
         let A : List Waiting → Type 0 = λ g. AwaitsOne g after in

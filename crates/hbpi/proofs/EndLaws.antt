@@ -1,7 +1,6 @@
 -- What follows from how a run ends.
-use Rattle.std.proofs.Common.{◌≡◌, ℕ, ◌⊎◌, inl, inr, Bool, false, List, length, take, Option, Some, None, Result, Ok, Err, refl, sym, ap, subst, ◌∙◌, arith}
+use Rattle.std.proofs.Common.{◌≡◌, ℕ, ◌⊎◌, inl, inr, Bool, false, List, length, take, Option, Some, None, Result, Ok, Err, refl, sym, ap, subst, ◌∙◌, arith, drop, ◌<◌, ◌≤◌, length-take, take-append-drop}
 use Rattle.std.proofs.lemmas.List.{take_all}
-use Rattle.std.proofs.Common.{drop, ◌<◌, ◌≤◌, length-take, take-append-drop}
 use Rattle.std.proofs.lemmas.Bool.{cases_lt}
 use Rattle.hb_text.specs.TextFront.{front_is_all}
 use Rattle.hb_text.specs.declared.rules.BadLine.{BadLine}
@@ -15,9 +14,11 @@ use Rattle.hb_outside.specs.Streams.{Rose}
 use Rattle.hbpi.specs.Outcome.{greatest_text, IsTextOf, IsWholeText}
 use Rattle.hb_disk.specs.Model.{DiskModel}
 use Rattle.hb_restart.specs.Layouts.{first_fault, size_of}
-use Rattle.hb_restart.specs.declared.faults.OpenFault.{OpenFault}
+use Rattle.hb_restart.specs.declared.faults.BadField.{BadField}
 use Rattle.hbpi.specs.Runs.{RunEnds, disk_seen}
-use Rattle.hbpi.specs.Ends.{Seen, DiskSeen, CreateEnds, IsMadeWhole, DryEnds, IsAnswered, IsComplete, RefusesBadText, NamesBadLine}
+use Rattle.hbpi.specs.Ends.{DryEnds, IsAnswered, IsComplete, RefusesBadText, NamesBadLine}
+use Rattle.hbpi.specs.SeenRuns.{Seen, DiskSeen}
+use Rattle.hbpi.specs.MadeEnds.{CreateEnds, IsMadeWhole}
 
 -- a good text is read whole
 pub good_is_whole : (allowed : Bool) (k : ℕ) (left : List ℕ) (reading : Reading) → text_read allowed k left ≡ Ok reading → take greatest_text left ≡ left
@@ -121,7 +122,7 @@ same_layout a b c d e f g h i j P is p =
     let icap : j ≡ e = cc in
     subst (λ (x : ℕ). P x b c d e) k (subst (λ (x : ℕ). P f x c d e) pages (subst (λ (x : ℕ). P f g x d e) log (subst (λ (x : ℕ). P f g h x e) dcap (subst (λ (x : ℕ). P f g h i x) icap p))))
 
-create_complete : (fault : Option OpenFault) (needed : ℕ) (seen : Seen) (disk : DiskSeen) (status : Status) → CreateEnds fault needed seen disk status → fault ≡ None → needed ≤ disk.size → ¬ (Rose disk.writes_before disk.writes_after) → ¬ (Rose seen.sink_before seen.sink_after) → (status ≡ Done) ⊎ (status ≡ NoMemory)
+create_complete : (fault : Option BadField) (needed : ℕ) (seen : Seen) (disk : DiskSeen) (status : Status) → CreateEnds fault needed seen disk status → fault ≡ None → needed ≤ disk.size → ¬ (Rose disk.writes_before disk.writes_after) → ¬ (Rose seen.sink_before seen.sink_after) → (status ≡ Done) ⊎ (status ≡ NoMemory)
 create_complete fault needed seen disk Done ends good large writes sink = inl refl
 create_complete fault needed seen disk SinkFault ends good large writes sink = absurd (sink ends.2)
 create_complete fault needed seen disk (BadLayout field value) ends good large writes sink = cc (ends.0, good)
@@ -142,8 +143,8 @@ ends_made (Some (Create a b c x y)) seen d e status ends k pages log dcap icap i
     good large writes sink
 ends_made (Some form) seen d e status ends k pages log dcap icap is good large writes sink = cc (is)
 
-pub never_usage : (fault : Option OpenFault) (needed : ℕ) (seen : Seen) (disk : DiskSeen) (status : Status) → CreateEnds fault needed seen disk status → status ≡ Usage → ⊥
+pub never_usage : (fault : Option BadField) (needed : ℕ) (seen : Seen) (disk : DiskSeen) (status : Status) → CreateEnds fault needed seen disk status → status ≡ Usage → ⊥
 never_usage fault needed seen disk status ends is = subst (λ (x : Status). CreateEnds fault needed seen disk x) is ends
 
-pub never_unbuilt : (fault : Option OpenFault) (needed : ℕ) (seen : Seen) (disk : DiskSeen) (status : Status) → CreateEnds fault needed seen disk status → status ≡ NotBuilt → ⊥
+pub never_unbuilt : (fault : Option BadField) (needed : ℕ) (seen : Seen) (disk : DiskSeen) (status : Status) → CreateEnds fault needed seen disk status → status ≡ NotBuilt → ⊥
 never_unbuilt fault needed seen disk status ends is = subst (λ (x : Status). CreateEnds fault needed seen disk x) is ends

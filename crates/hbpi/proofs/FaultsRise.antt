@@ -9,7 +9,8 @@ use Rattle.hb_set.specs.declared.scripts.Answered.{Answered}
 use Rattle.hb_text.specs.OutputLaws.{Rose-later}
 use Rattle.hb_store.specs.declared.stops.StopWhy.{StopWhy}
 use Rattle.hb_store.specs.declared.stops.StopWhy.TheVariants.{WriteFault}
-use Rattle.hbpi.specs.Core.{CoreState, answers_of}
+use Rattle.hbpi.specs.Core.{CoreState}
+use Rattle.hbpi.specs.Moments.{answers_of}
 use Rattle.hbpi.specs.Moves.{Moves, MovesOn, Shown, shown}
 use Rattle.hbpi.specs.Drives.{HasReadFault, RunFaults}
 use Rattle.hbpi.specs.declared.engine.session.Outcome.{Outcome}

@@ -1,14 +1,15 @@
 -- A file that doesn't open is refused, in one way.
 use Rattle.std.proofs.Common.{◌≡◌, ◌⊎◌, inl, inr, ℕ, List, Some, refl, sym, ap, subst, ◌∙◌}
 use Rattle.hb_disk.specs.Model.{DiskModel}
-use Rattle.hb_disk.specs.RunLaws.{at_value}
+use Rattle.hb_disk.specs.ValueLaws.{at_value}
 use Rattle.hb_ops.specs.Files.{FileState}
 use Rattle.hb_ops.specs.Sound.{IsSound}
 use Rattle.hb_store.specs.Opening.{OpensTo}
 use Rattle.hbpi.specs.Codes.{start_status}
 use Rattle.hbpi.specs.Core.{CoreState}
-use Rattle.hbpi.specs.Driven.{Drove, IsTurnedAway, OpenedEnds, DriveCommandEnds}
-use Rattle.hbpi.specs.Ends.{Seen}
+use Rattle.hbpi.specs.Driven.{IsTurnedAway, OpenedEnds, DriveCommandEnds}
+use Rattle.hbpi.specs.DrivenRuns.{Drove}
+use Rattle.hbpi.specs.SeenRuns.{Seen}
 use Rattle.hbpi.specs.Starting.{GoodIsServed, IsOfBytes, IsOfNone, IsOnePage, IsRefusedInOneWay, RefusesStart}
 use Rattle.hbpi.specs.Runs.{RefusesFile}
 use Rattle.hbpi.proofs.Started.{never as never_open}
@@ -21,7 +22,6 @@ use Rattle.hbpi.specs.declared.statuses.Status.TheVariants.{Done, Usage, BadText
 -- a refusal that isn't a fault of the disk is one of the bytes, or want of memory
 of_bytes : (fault : StartFault) (bytes : List ℕ) (status : Status) → status ≡ start_status fault → RefusesStart fault bytes → (fault ≡ (starts.Closed faults.DiskFault) → ⊥)
     → (status ≡ NoMemory) ⊎ ((fault : StartFault) × (status ≡ start_status fault) × RefusesStart fault bytes × IsOfBytes fault)
-of_bytes (starts.Closed (faults.BadLayout field value)) bytes status is why held = absurd why
 of_bytes (starts.Closed (faults.Small needed found)) bytes status is why held = inr (starts.Closed (faults.Small needed found), is, why, tt)
 of_bytes (starts.Closed faults.NoSuper) bytes status is why held = inr ((starts.Closed faults.NoSuper), is, why, tt)
 of_bytes starts.NotBuilt bytes status is why held = inr (starts.NotBuilt, is, why, tt)
@@ -33,7 +33,6 @@ of_bytes (starts.Closed faults.NoMemory) bytes status is why held = inl is
 -- another one that is true of them is the same
 is_same : (fault other : StartFault) (bytes : List ℕ) (status : Status) → IsRefusedInOneWay → status ≡ start_status fault → RefusesStart fault bytes → (fault ≡ (starts.Closed faults.DiskFault) → ⊥) → RefusesStart other bytes → IsOfBytes other
     → (status ≡ start_status other) ⊎ (status ≡ NoMemory)
-is_same (starts.Closed (faults.BadLayout field value)) other bytes status once is why held that unwritten = absurd why
 is_same (starts.Closed (faults.Small needed found)) other bytes status once is why held that unwritten = inl (is ∙ ap start_status (once bytes (starts.Closed (faults.Small needed found)) other why that tt unwritten))
 is_same (starts.Closed faults.NoSuper) other bytes status once is why held that unwritten = inl (is ∙ ap start_status (once bytes (starts.Closed faults.NoSuper) other why that tt unwritten))
 is_same starts.NotBuilt other bytes status once is why held that unwritten = inl (is ∙ ap start_status (once bytes starts.NotBuilt other why that tt unwritten))

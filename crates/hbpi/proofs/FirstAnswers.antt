@@ -6,7 +6,10 @@ use Rattle.hb_set.specs.Order.{AreRising}
 use Rattle.hb_set.specs.declared.commands.Reply.{Reply}
 use Rattle.hb_set.specs.declared.scripts.Line.{Line}
 use Rattle.hb_set.specs.declared.scripts.Answered.{Answered}
-use Rattle.hbpi.specs.Core.{CoreState, IsCurrent, AreAmong, AnswersFirst, answered_in, answered_count, answers_of}
+use Rattle.hbpi.specs.Core.{CoreState, IsCurrent}
+use Rattle.hbpi.specs.Keeping.{AreAmong}
+use Rattle.hbpi.specs.AnsweredLines.{AnswersFirst, answered_in, answered_count}
+use Rattle.hbpi.specs.Moments.{answers_of}
 use Rattle.hbpi.specs.Moves.{Moves, StaysThere, TakesLine, JoinsOrder, GetsAnswer}
 use Rattle.hbpi.specs.declared.engine.session.Session.{Session}
 use Rattle.hbpi.specs.declared.engine.session.Session.TheVariants as sessions

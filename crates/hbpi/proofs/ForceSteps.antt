@@ -20,7 +20,8 @@ use Rattle.hbpi.specs.declared.engine.session.Session.{Session}
 use Rattle.hbpi.specs.declared.engine.session.Session.TheVariants as sessions
 use Rattle.hbpi.specs.declared.engine.session.Outcome.{Outcome}
 use Rattle.hbpi.specs.declared.engine.session.Outcome.TheVariants as outcomes
-use Rattle.hbpi.specs.Core.{AwaitsOne, CoreKeeps, CoreState, IsCore, IsCurrent, StandsIn, StepKeeps, set_of, settled_of}
+use Rattle.hbpi.specs.Core.{CoreState, IsCore, IsCurrent, settled_of}
+use Rattle.hbpi.specs.Keeping.{AwaitsOne, EngineKeeps, StandsIn, StepKeeps, set_of}
 use Rattle.hbpi.specs.Moves.{MovesBy, StaysThere}
 use Rattle.hbpi.specs.Steps.{Forced, ForcesOnce, KeepsAt, StepsSafely, with_stop, with_store}
 use Rattle.hbpi.proofs.PrefixOpens.{force_moments, order_long}
@@ -85,9 +86,9 @@ module _ (d e : DiskModel) (old : CoreState) (going : old.stop ≡ None) where
   halted_core = with_stop WriteFault (with_store (stopped_state old.store) old)
 
   -- what it keeps
-  module _ (n : RecordSet) (done : List Line) (kept : CoreKeeps d old n done) where
+  module _ (n : RecordSet) (done : List Line) (kept : EngineKeeps d old n done) where
     forced_kept : StandsIn old.session forced_core n done → StoreKeeps e (forced_state old.store) (durable_after kept.durable kept.later) (later_after kept.later)
-        → (k : CoreKeeps e forced_core n done) × (last_of k.durable k.later ≡ last_of kept.durable kept.later)
+        → (k : EngineKeeps e forced_core n done) × (last_of k.durable k.later ≡ last_of kept.durable kept.later)
     forced_kept there keeps =
         let same = same_last kept.durable kept.later in
         let count = StoreKeeps-one d old.store kept.durable kept.later kept.keeps in
@@ -113,7 +114,7 @@ module _ (d e : DiskModel) (old : CoreState) (going : old.stop ≡ None) where
         )
 
     halted_kept : StandsIn old.session halted_core n done → StoreKeeps e (stopped_state old.store) kept.durable kept.later
-        → (k : CoreKeeps e halted_core n done) × (last_of k.durable k.later ≡ last_of kept.durable kept.later)
+        → (k : EngineKeeps e halted_core n done) × (last_of k.durable k.later ≡ last_of kept.durable kept.later)
     halted_kept there keeps =
         stays_kept d old n done kept e old.taken old.session (Some WriteFault) (stopped_state old.store) keeps refl kept.among kept.few (λ h. cc h) there
 

@@ -2,11 +2,12 @@
 use Rattle.std.proofs.Common.{◌≡◌, inl, inr, ℕ, [], refl, sym, ap, subst, ◌∙◌}
 use Rattle.hb_disk.specs.Model.{DiskModel, IsDisk, Torn}
 use Rattle.hb_disk.specs.Calls.{Becomes, OnlyReads}
-use Rattle.hb_disk.specs.RunLaws.{Becomes-read, Becomes-torn, OnlyReads-none}
+use Rattle.hb_disk.specs.RunLaws.{OnlyReads-none}
+use Rattle.hb_disk.specs.BecomesLaws.{Becomes-read, Becomes-torn}
 use Rattle.hb_disk.specs.TornLaws.{Torn-itself}
 use Rattle.hb_wal.specs.Log.{LogState}
 use Rattle.hb_store.specs.Calls.{Fetched}
-use Rattle.hb_store.specs.Keeps.{IsNew, StoreState}
+use Rattle.hb_store.specs.States.{IsNew, StoreState}
 use Rattle.hb_layout.specs.Offsets.{file_size, log_start}
 use Rattle.hb_store.specs.declared.stops.FetchStop.{FetchStop}
 use Rattle.hb_store.specs.declared.stops.FetchStop.TheVariants as fetches
@@ -59,7 +60,7 @@ in_log_forced done d old outcome e new forced = by_which forced.which
         subst S (sym f.1) (record { place = forced.place; area = refl; len = refl })
 
 module _ (d m : DiskModel) (is_disk : IsDisk d) (reads : OnlyReads d m) (old : CoreState) where
-  -- the root is in a frame, and the line does what is planned
+  -- the root is in memory, and the line does what is planned
   module _ (st : StoreState) (fetched : Fetched old.store.meta.root old.store st) where
     same_area : st.log.area ≡ old.store.log.area
     same_area = ap (λ (l : LogState). l.area) fetched.rest.log

@@ -3,8 +3,7 @@ pub mod TextPieces
 pub mod PutTexts
 pub mod RunLines
 pub mod EndLaws
-pub mod Boxes
-pub mod Own
+pub mod NoChild
 pub mod Lone
 mod LinesDone
 mod PrefixOpens
@@ -19,6 +18,7 @@ mod RefusedSteps
 mod EffectSteps
 mod WalkSteps
 mod WalkSafe
+mod GaveUp
 mod NewCore
 pub mod LinesInOrder
 pub mod FirstAnswers

@@ -5,7 +5,7 @@ use Rattle.std.proofs.lemmas.List.{take_more, take-append-le}
 use Rattle.std.proofs.lemmas.Option.{slice_get_within, get_or_from_slice_get}
 use Rattle.hb_set.specs.declared.scripts.Line.{Line}
 use Rattle.hb_set.specs.Machine.{RecordSet, set_after}
-use Rattle.hbpi.specs.Core.{AreAmong, Grows, set_of}
+use Rattle.hbpi.specs.Keeping.{AreAmong, Grows, set_of}
 
 -- the set after one line more
 pub set_of-append : (n : RecordSet) (done : List Line) (line : Line) → set_of n (done ++ line ∷ []) ≡ set_after line.command (set_of n done)

@@ -5,7 +5,7 @@ use Rattle.hb_set.specs.Machine.{RecordSet, reply_of, set_after}
 use Rattle.hb_set.specs.Order.{AreReplies, MayPrecede, KeepsSessions, IsLegalOrder, AreRising}
 use Rattle.hb_set.specs.declared.commands.Reply.{Reply}
 use Rattle.hb_set.specs.declared.scripts.Line.{Line}
-use Rattle.hbpi.specs.Core.{AreAmong, entries_from}
+use Rattle.hbpi.specs.Keeping.{AreAmong, entries_from}
 
 abbrev pub numbers : List Line → List ℕ
 numbers ls = map (λ (l : Line). l.number) ls

@@ -24,13 +24,15 @@ use Rattle.hb_set.specs.declared.commands.Command.{Command}
 use Rattle.hb_set.specs.declared.commands.Command.TheVariants.{Insert, Delete, Lookup, Search}
 use Rattle.hb_set.specs.declared.commands.Reply.TheVariants as replies
 use Rattle.hb_set.specs.Machine.{attributes, found_or_missing, if_there, reply_of, set_after}
-use Rattle.hbpi.specs.Core.{HasNoRoom, op_if, op_of}
+use Rattle.hbpi.specs.Commands.{HasNoRoom, op_if, op_of}
 use Rattle.hbpi.specs.FileLaws.{FileLaws}
 use Rattle.hbpi.specs.Plans.{DeletesBy, InsertsBy, LooksBy, PlansOn}
 use Rattle.hbpi.specs.declared.engine.plans.Plan.{Plan}
 use Rattle.hbpi.specs.declared.engine.plans.Plan.TheVariants as plans
-use Rattle.hbpi.proofs.Lone.{live_so, own_or}
-use Rattle.hbpi.proofs.Own.{no_child, placed}
+use Rattle.hbpi.proofs.Lone.{own_or}
+use Rattle.hb_ops.specs.PageNumberLaws.{live_so}
+use Rattle.hbpi.proofs.NoChild.{no_child}
+use Rattle.hb_ops.specs.PlacedLaws.{placed}
 
 none_or_some : {X : Type 0} (o : Option X) (x : X) → o ≡ None → o ≡ Some x → ⊥
 none_or_some o x a b = let never : None ≡ Some x = sym a ∙ b in cc

@@ -11,7 +11,8 @@ use Rattle.hb_set.specs.Machine.{RecordSet}
 use Rattle.hb_store.specs.Opening.{OpensTo}
 use Rattle.hb_store.specs.Keeps.{OpensToFirst, last_of}
 use Rattle.hb_store.specs.StoreLaws.{StoreKeeps-opens, StoreKeeps-one, StoreKeeps-alone}
-use Rattle.hbpi.specs.Core.{AwaitsOne, CoreKeeps, CoreState, Grows, OpensToPrefix, set_of, settled_of}
+use Rattle.hbpi.specs.Core.{CoreState, settled_of}
+use Rattle.hbpi.specs.Keeping.{AwaitsOne, EngineKeeps, Grows, OpensToPrefix, set_of}
 use Rattle.hbpi.proofs.LinesDone.{grown_long, grown_take}
 
 mark_within : (groups : List Waiting) (done : List Line) (now : ℕ) → now ≡ length done → AwaitsOne groups done → mark_of groups now ≤ length done
@@ -31,7 +32,7 @@ first_or_last durable (next ∷ []) few P b here there (inl opens) = here opens
 first_or_last durable (next ∷ []) few P b here there (inr opens) = there opens
 first_or_last durable (next ∷ more ∷ rest) few P b here there opens = absurd (omega (arith, few))
 
-module _ (d : DiskModel) (c : CoreState) (n : RecordSet) (done : List Line) (kept : CoreKeeps d c n done) where
+module _ (d : DiskModel) (c : CoreState) (n : RecordSet) (done : List Line) (kept : EngineKeeps d c n done) where
   pub order_long : length c.order ≡ length done
   order_long = ap (λ (l : List ℕ). length l) (sym kept.ordered) ∙ length-map done (λ (l : Line). l.number)
 

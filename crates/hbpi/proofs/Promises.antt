@@ -4,7 +4,8 @@ use Rattle.std.specs.List.{All}
 use Rattle.std.proofs.lemmas.List.Elements.{All-nil}
 use Rattle.hb_disk.specs.Model.{DiskModel}
 use Rattle.hb_disk.specs.Calls.{Leaves}
-use Rattle.hb_disk.specs.RunLaws.{at_value, Leaves-weaker}
+use Rattle.hb_disk.specs.RunLaws.{Leaves-weaker}
+use Rattle.hb_disk.specs.ValueLaws.{at_value}
 use Rattle.hb_layout.specs.declared.meta.Meta.{Meta}
 use Rattle.hb_ops.specs.Files.{FileState, contents_of}
 use Rattle.hb_ops.specs.Sound.{IsSound}
@@ -13,9 +14,14 @@ use Rattle.hb_set.specs.declared.scripts.Answered.{Answered}
 use Rattle.hb_store.specs.ImageLaws.{OpensToOne}
 use Rattle.hb_store.specs.Opening.{OpensTo, IsEven}
 use Rattle.hbpi.specs.Codes.{start_status}
-use Rattle.hbpi.specs.Core.{CoreState, OpensToPrefix, HoldsAnswers, IsReplied, AreAmong, settled_of}
-use Rattle.hbpi.specs.Driven.{IsScheduled, RunsFrom, Drove, IsTurnedAway, OpenedEnds, DriveCommandEnds}
-use Rattle.hbpi.specs.Ends.{Seen}
+use Rattle.hbpi.specs.Core.{CoreState, settled_of}
+use Rattle.hbpi.specs.Keeping.{OpensToPrefix, AreAmong}
+use Rattle.hbpi.specs.Moments.{HoldsAnswers}
+use Rattle.hbpi.specs.AnsweredLines.{IsReplied}
+use Rattle.hbpi.specs.Driven.{IsTurnedAway, OpenedEnds, DriveCommandEnds}
+use Rattle.hbpi.specs.Schedules.{IsScheduled}
+use Rattle.hbpi.specs.DrivenRuns.{RunsFrom, Drove}
+use Rattle.hbpi.specs.SeenRuns.{Seen}
 use Rattle.hbpi.specs.Moves.{MovesOn, Shown, shown}
 use Rattle.hbpi.specs.Runs.{KeepsPromise}
 use Rattle.hb_restart.specs.declared.faults.OpenFault.TheVariants as faults
@@ -27,7 +33,6 @@ use Rattle.hbpi.proofs.LinesInOrder.{among_whole}
 use Rattle.hbpi.proofs.Reopened.{no_line_yet}
 
 not_done : (fault : StartFault) → start_status fault ≡ Done → ⊥
-not_done (starts.Closed (faults.BadLayout field value)) is = cc (is)
 not_done (starts.Closed (faults.Small needed found)) is = cc (is)
 not_done (starts.Closed faults.NoSuper) is = cc (is)
 not_done starts.NotBuilt is = cc (is)

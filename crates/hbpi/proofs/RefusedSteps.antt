@@ -12,20 +12,24 @@ use Rattle.hb_set.specs.declared.scripts.Line.{Line}
 use Rattle.hb_set.specs.declared.commands.Reply.{Reply}
 use Rattle.hb_set.specs.declared.commands.Reply.TheVariants as replies
 use Rattle.hb_set.specs.Machine.{RecordSet}
-use Rattle.hb_store.specs.Keeps.{StoreKeeps, StoreState, last_of}
+use Rattle.hb_store.specs.States.{StoreState, in_memory}
+use Rattle.hb_store.specs.Keeps.{StoreKeeps, last_of}
 use Rattle.hb_store.specs.Calls.{IsReady}
 use Rattle.hb_store.specs.declared.stops.FetchStop.{FetchStop}
 use Rattle.hb_store.specs.declared.stops.FetchStop.TheVariants as fetches
 use Rattle.hbpi.specs.declared.engine.session.Session.TheVariants as sessions
 use Rattle.hbpi.specs.declared.engine.session.Outcome.{Outcome}
 use Rattle.hbpi.specs.declared.engine.session.Outcome.TheVariants as outcomes
-use Rattle.hbpi.specs.Core.{CoreKeeps, CoreState, IsCurrent, MayCommit, Refuses, StepKeeps, Walks}
+use Rattle.hbpi.specs.Core.{CoreState, IsCurrent}
+use Rattle.hbpi.specs.Keeping.{EngineKeeps, StepKeeps}
+use Rattle.hbpi.specs.Commands.{MayCommit}
+use Rattle.hbpi.specs.StepTable.{RefusesLine, Walks}
 use Rattle.hbpi.specs.Steps.{GivesUp, KeepsAt, with_session, with_store}
 use Rattle.hbpi.proofs.PrefixOpens.{quiet_moments}
 use Rattle.hbpi.proofs.CoreStays.{stands, stays_kept, step_kept, steps_going}
 use Rattle.hbpi.proofs.AnswerSteps.{along}
 
--- a page that isn't in a frame, where the number is given by an equation
+-- a page that isn't in memory, where the number is given by an equation
 pub not_framed : (frame : ℕ → Option Page) (id root : ℕ) → id ≡ root → (IsSome (frame id) → ⊥) → frame root ≡ None
 not_framed frame id root e none = let Q : ℕ → Type 0 = λ n. frame n ≡ None in subst Q e (nothing (frame id) none)
   where
@@ -48,7 +52,7 @@ same_frames old = record { log = refl; stopped = refl }
 
 module _ (d : DiskModel) (is_disk : IsDisk d) (old : CoreState) (going : old.stop ≡ None) (was : old.session ≡ sessions.Walk) where
   -- no group waits
-  pub none_waits : (n : RecordSet) (done : List Line) → CoreKeeps d old n done → old.store.log.groups ≡ []
+  pub none_waits : (n : RecordSet) (done : List Line) → EngineKeeps d old n done → old.store.log.groups ≡ []
   none_waits n done kept = (stands sessions.Walk old n done was kept.session).0 going
 
   module _ (e : DiskModel) (reads : OnlyReads d e) (st : StoreState) (same : FramesOnly old.store st)
@@ -57,8 +61,8 @@ module _ (d : DiskModel) (is_disk : IsDisk d) (old : CoreState) (going : old.sto
     idle_core = with_session sessions.Idle (with_store st old)
 
     pub refused_keeps : (outcome : Outcome) (new : CoreState) (line : Line) (reply : Reply) → IsCurrent old line → outcome ≡ outcomes.Answered line.number reply → new ≡ idle_core
-        → (n : RecordSet) (done : List Line) (kept : CoreKeeps d old n done)
-        → (Refuses line reply old (last_of kept.durable kept.later) (outcomes.Answered line.number reply) idle_core (last_of kept.durable kept.later)
+        → (n : RecordSet) (done : List Line) (kept : EngineKeeps d old n done)
+        → (RefusesLine line reply old (last_of kept.durable kept.later) (outcomes.Answered line.number reply) idle_core (last_of kept.durable kept.later)
         → Walks line old (last_of kept.durable kept.later) (outcomes.Answered line.number reply) idle_core (last_of kept.durable kept.later))
         → StepKeeps d old (last_of kept.durable kept.later) outcome e new n done
     refused_keeps outcome new line reply current is new_is n done kept walks =
@@ -89,11 +93,11 @@ module _ (d : DiskModel) (is_disk : IsDisk d) (old : CoreState) (going : old.sto
       same_current : (a b : Line) → IsCurrent old a → IsCurrent old b → a ≡ b
       same_current a b here there = let both : Some a ≡ Some b = sym here.1 ∙ there.1 in cc
 
-  -- the root wasn't fetched: it is in no frame, and isn't damaged
+  -- the root wasn't fetched: it isn't in memory, and isn't damaged
   pub gave_up_keeps : (e : DiskModel) → OnlyReads d e → (outcome : Outcome) (new : CoreState) (stop : FetchStop) → GivesUp stop old outcome new
-      → ((line : Line) → IsCurrent old line → (MayCommit line.command → ⊥) ⊎ IsReady old.store) → old.store.frame old.store.meta.root ≡ None
+      → ((line : Line) → IsCurrent old line → (MayCommit line.command → ⊥) ⊎ IsReady old.store) → in_memory old.store old.store.meta.root ≡ None
       → ((durable : FileState) (later : List FileState) → StoreKeeps d old.store durable later → StoreKeeps e old.store durable later)
-      → ((n : RecordSet) (done : List Line) → CoreKeeps d old n done → stop ≢ fetches.ReadFault → stop ≢ fetches.NoMemory → ⊥)
+      → ((n : RecordSet) (done : List Line) → EngineKeeps d old n done → stop ≢ fetches.ReadFault → stop ≢ fetches.NoMemory → ⊥)
       → KeepsAt d old outcome e new
   gave_up_keeps e reads outcome new fetches.ReadFault gave ready none pass whole n done kept =
       refused_keeps e reads old.store (same_frames old.store) pass outcome new gave.line replies.ReadFault gave.current gave.answered gave.new_is n done kept

@@ -2,7 +2,8 @@
 use Rattle.std.proofs.Common.{◌≡◌, inl, inr, ℕ, ◌≤◌, List, length, Option, Some, None, IfSome, IsSome, refl, ap, subst, ◌∙◌, arith}
 use Rattle.hb_disk.specs.Model.{DiskModel, IsDisk}
 use Rattle.hb_disk.specs.Calls.{Leaves}
-use Rattle.hb_disk.specs.RunLaws.{at_value, has_value, if_value, some_value, Leaves-then, Leaves-weaker}
+use Rattle.hb_disk.specs.RunLaws.{Leaves-then, Leaves-weaker}
+use Rattle.hb_disk.specs.ValueLaws.{at_value, has_value, if_value, some_value}
 use Rattle.hb_ops.specs.Files.{FileState, contents_of}
 use Rattle.hb_ops.specs.Sound.{IsSound}
 use Rattle.hb_set.specs.declared.scripts.Line.{Line}
@@ -10,11 +11,13 @@ use Rattle.hb_set.specs.declared.scripts.Answered.{Answered}
 use Rattle.hb_store.specs.ImageLaws.{OpensToOne}
 use Rattle.hb_store.specs.Opening.{OpensTo, IsEven}
 use Rattle.hb_outside.specs.Streams.{Rose}
-use Rattle.hbpi.specs.Core.{CoreState, OpensToPrefix}
-use Rattle.hbpi.specs.Driven.{RunsFrom, HasRun, Drove, HasFailed, IsTurnedAway, EndsByFault, OpenedEnds}
+use Rattle.hbpi.specs.Core.{CoreState}
+use Rattle.hbpi.specs.Keeping.{OpensToPrefix}
+use Rattle.hbpi.specs.Driven.{IsTurnedAway, EndsByFault, OpenedEnds}
+use Rattle.hbpi.specs.DrivenRuns.{RunsFrom, HasRun, Drove, HasFailed}
 use Rattle.hbpi.specs.Drives.{RunFaults}
 use Rattle.hbpi.specs.Moves.{MovesOn, Shown, shown}
-use Rattle.hbpi.specs.Ends.{Seen}
+use Rattle.hbpi.specs.SeenRuns.{Seen}
 use Rattle.hbpi.specs.Starting.{IsOnePage}
 use Rattle.hbpi.specs.declared.statuses.Status.{Status}
 use Rattle.hbpi.specs.declared.statuses.Status.TheVariants.{Done, Usage, BadText, SourceFault, SinkFault, DiskFault, Damaged, NoMemory, BadLayout, Small, NotBuilt}

@@ -11,8 +11,9 @@ use Rattle.hb_set.specs.Order.{AreRising}
 use Rattle.hb_set.specs.declared.scripts.Line.{Line}
 use Rattle.hb_set.specs.declared.scripts.Answered.{Answered}
 use Rattle.hb_store.specs.declared.stops.StopWhy.{StopWhy}
-use Rattle.hbpi.specs.Ends.{HasPut, PutsMore}
-use Rattle.hbpi.specs.Core.{CoreState, AnswersFirst, answered_count, left_lines, settled_of}
+use Rattle.hbpi.specs.DryParts.{HasPutText, PutsMore}
+use Rattle.hbpi.specs.Core.{CoreState, settled_of}
+use Rattle.hbpi.specs.AnsweredLines.{AnswersFirst, answered_count, left_lines}
 use Rattle.hbpi.specs.Drives.{DriveEnds, EndsAs, run_output}
 use Rattle.hbpi.specs.declared.drive.End.{End}
 use Rattle.hbpi.specs.declared.drive.End.TheVariants as ends
@@ -146,23 +147,23 @@ going (Some why) stopped is none = cc
 
 -- How a run ends, by what was put and the flags.
 module _ (held mid holds : Option (List ℕ)) (f g h : ℕ) (early failed stopped : Bool) (answered : List Answered) (c : CoreState) (from : ℕ)
-    (put : HasPut held mid f g early (flat_map answer_text answered))
+    (put : HasPutText held mid f g early (flat_map answer_text answered))
     (more : PutsMore mid holds g h early failed (flat_map (left_text (is_some c.stop)) (numbers (drop from c.lines)) ++ order_text c.order (settled_of c)))
     (left : left_lines c.lines answered ≡ numbers (drop from c.lines)) (stop : stopped ≡ is_some c.stop) where
-  all_put : HasPut held holds f h failed (run_output answered c)
+  all_put : HasPutText held holds f h failed (run_output answered c)
   all_put =
-      let P : List ℕ → Type 0 = λ t. HasPut held holds f h failed t in
+      let P : List ℕ → Type 0 = λ t. HasPutText held holds f h failed t in
       let lefts = flat_map (left_text (is_some c.stop)) (numbers (drop from c.lines)) in
       subst P (sym (append_assoc (flat_map answer_text answered) lefts (order_text c.order (settled_of c)))
       ∙ ap (λ (ns : List ℕ). flat_map answer_text answered ++ flat_map (left_text (is_some c.stop)) ns ++ order_text c.order (settled_of c)) (sym left))
       (has_put_more held mid holds f g h early failed (flat_map answer_text answered) (lefts ++ order_text c.order (settled_of c)) put more)
 
   good_put : failed ≡ false → Appends held holds (run_output answered c) × (h ≡ f)
-  good_put good = let B : Bool → Type 0 = λ b. HasPut held holds f h b (run_output answered c) in subst B good all_put
+  good_put good = let B : Bool → Type 0 = λ b. HasPutText held holds f h b (run_output answered c) in subst B good all_put
 
   pub drive_ends : (end : End) → EndsAs end failed stopped answered → DriveEnds end held holds f h answered c
   drive_ends ends.NoMemory as_said = absurd as_said
-  drive_ends ends.SinkFault as_said = let B : Bool → Type 0 = λ b. HasPut held holds f h b (run_output answered c) in let bad = subst B as_said all_put in (bad.0, bad.1)
+  drive_ends ends.SinkFault as_said = let B : Bool → Type 0 = λ b. HasPutText held holds f h b (run_output answered c) in let bad = subst B as_said all_put in (bad.0, bad.1)
   drive_ends ends.Stopped as_said = let good = good_put as_said.0 in (good.0, sym stop ∙ as_said.1, good.1)
   drive_ends ends.ReadFault as_said = let good = good_put as_said.0 in (good.0, going c.stop stopped stop as_said.1, as_said.2, good.1)
   drive_ends ends.Finished as_said = let good = good_put as_said.0 in (good.0, going c.stop stopped stop as_said.1, as_said.2, good.1)

@@ -8,7 +8,7 @@ use Rattle.hb_frag.specs.Rules.{capacity_of}
 use Rattle.hb_layout.specs.declared.meta.Meta.{Meta}
 use Rattle.hb_ops.specs.Sound.{FitsFile}
 use Rattle.hb_layout.specs.Limits.{IsLayout}
-use Rattle.hb_store.specs.Keeps.{IsGoodPage}
+use Rattle.hb_store.specs.States.{IsGoodPage}
 use Rattle.hb_store.specs.declared.stops.Why.{Why}
 use Rattle.hbpi.specs.Damages.{IsRootPage, WhyNotRoot}
 use Rattle.hbpi.specs.Plans.{PlansNone}

@@ -7,8 +7,8 @@ use Rattle.hb_set.specs.declared.scripts.Answered.{Answered}
 use Rattle.hb_set.specs.declared.commands.Reply.{Reply}
 use Rattle.hb_set.specs.declared.commands.Reply.TheVariants.{NoMemory}
 use Rattle.hb_set.specs.Machine.{RecordSet, Answers, MayWantMemory}
-use Rattle.hb_set.specs.Order.{Ran, entries_of, joined, order_of}
-use Rattle.hb_set.specs.OrderLaws.{ran_grown, entries_of-push, ran_legal}
+use Rattle.hb_set.specs.Order.{Ran, entries_of, with_entry, order_of}
+use Rattle.hb_set.specs.TextOrderLaws.{ran_grown, entries_of-push, ran_legal}
 use Rattle.hb_set.specs.Scripts.{IsScriptFor}
 use Rattle.hbpi.specs.Outcome.{IsDryRun}
 
@@ -20,12 +20,12 @@ pub ran_more : (lines : List Line) (i : ℕ) (l : Line) (answered new : List Ans
 ran_more lines i l answered new set next r lt at ran answers wanted is =
     rw (one_line_more lines i l lt at, is) (ran_grown finite.empty (take i lines) answered set l (record { line = l.number; reply = r; at = 0 }) next ran (record { number = refl; untimed = refl; answers = answers; wanted = wanted }))
 
-pub order_more : (lines : List Line) (i : ℕ) (l : Line) (answered new : List Answered) (order grown : List ℕ) (r : Reply) → i < length lines → l ≡ get_or lines i l → length answered ≡ i → order ≡ order_of (entries_of (take i lines) answered) → grown ≡ order ++ order_of (joined l r []) → new ≡ answered ++ record { line = l.number; reply = r; at = 0 } ∷ [] → grown ≡ order_of (entries_of (take (i + 1) lines) new)
+pub order_more : (lines : List Line) (i : ℕ) (l : Line) (answered new : List Answered) (order grown : List ℕ) (r : Reply) → i < length lines → l ≡ get_or lines i l → length answered ≡ i → order ≡ order_of (entries_of (take i lines) answered) → grown ≡ order ++ order_of (with_entry l r []) → new ≡ answered ++ record { line = l.number; reply = r; at = 0 } ∷ [] → grown ≡ order_of (entries_of (take (i + 1) lines) new)
 order_more lines i l answered new order grown r lt at count order_is grown_is is =
     let a : Answered = record { line = l.number; reply = r; at = 0 } in
     let same : length (take i lines) ≡ length answered = length-take-le i lines (omega arith) ∙ sym count in
     rw (one_line_more lines i l lt at, is, entries_of-push (take i lines) answered l a same)
-    (grown_is ∙ ap (λ o. o ++ order_of (joined l r [])) order_is ∙ sym (map-append _ (entries_of (take i lines) answered) (joined l r [])))
+    (grown_is ∙ ap (λ o. o ++ order_of (with_entry l r [])) order_is ∙ sym (map-append _ (entries_of (take i lines) answered) (with_entry l r [])))
 
 -- when all lines were answered, the run is whole
 pub run_is_dry : (k : ℕ) (lines : List Line) (i : ℕ) (answered : List Answered) (order : List ℕ) (set : RecordSet) → length lines ≤ i → IsScriptFor k lines → Ran finite.empty (take i lines) answered set → order ≡ order_of (entries_of (take i lines) answered) → IsDryRun lines answered order

@@ -14,7 +14,11 @@ use Rattle.hb_set.specs.declared.commands.Reply.{Reply}
 use Rattle.hb_set.specs.declared.scripts.Line.{Line}
 use Rattle.hb_set.specs.declared.scripts.Answered.{Answered}
 use Rattle.hb_store.specs.Keeps.{last_of}
-use Rattle.hbpi.specs.Core.{CoreState, CoreKeeps, StepKeeps, StepsTo, Reaches, OpensToPrefix, StandsIn, IsReplied, IsOutside, AreAmong, IsCurrent, AnswersFirst, set_of, settled_of, answers_of}
+use Rattle.hbpi.specs.Core.{CoreState, IsCurrent, settled_of}
+use Rattle.hbpi.specs.Keeping.{EngineKeeps, StepKeeps, OpensToPrefix, StandsIn, AreAmong, set_of}
+use Rattle.hbpi.specs.StepTable.{EngineStepsTo}
+use Rattle.hbpi.specs.Moments.{Reaches, answers_of}
+use Rattle.hbpi.specs.AnsweredLines.{IsReplied, IsOutsideOrder, AnswersFirst}
 use Rattle.hbpi.specs.Moves.{Moves}
 use Rattle.hbpi.specs.Drives.{RunsTo}
 use Rattle.hbpi.specs.declared.engine.session.Session.{Session}
@@ -37,7 +41,7 @@ pub record Running (steps : ℕ) (d : DiskModel) (core : CoreState) (file : File
   pub file_after : FileState
   pub reaches : Reaches steps (record { clock = d.clock; core = core; file = file }) answered (record { clock = e.clock; core = after; file = file_after })
   pub done : List Line
-  pub keeps : CoreKeeps e after n done
+  pub keeps : EngineKeeps e after n done
   pub file_is : last_of keeps.durable keeps.later ≡ file_after
   pub held : All (Held e n done (settled_of after)) answered
   pub each : Leaves d e (OpensToPrefix n done 0)
@@ -96,7 +100,7 @@ grown old done after (inl same) = ([], same ∙ sym (append-nil done))
 grown old done after (inr next) = (next.0 ∷ [], next.1)
 
 -- the lines that took effect are those of the core's order
-ordered_done : (e : DiskModel) (c : CoreState) (n : RecordSet) (done ordered : List Line) → AreRising c.lines → CoreKeeps e c n done → Ordered c ordered → ordered ≡ done
+ordered_done : (e : DiskModel) (c : CoreState) (n : RecordSet) (done ordered : List Line) → AreRising c.lines → EngineKeeps e c n done → Ordered c ordered → ordered ≡ done
 ordered_done e c n done ordered rising keeps order =
     same_numbers ordered done c.lines rising
     (among_whole ordered c.lines (effects_in c.session c.taken) order.among)
@@ -104,7 +108,7 @@ ordered_done e c n done ordered rising keeps order =
     (order.ordered ∙ sym keeps.ordered)
 
 module _ (e f : DiskModel) (n : RecordSet) (old new : CoreState) (done after : List Line) (rising : AreRising old.lines) (joined : Joined old done after)
-    (was : CoreKeeps e old n done) (later : settled_of old ≤ settled_of new) (moments : Leaves e f (OpensToPrefix n after (settled_of old))) (disk : IsDisk f) where
+    (was : EngineKeeps e old n done) (later : settled_of old ≤ settled_of new) (moments : Leaves e f (OpensToPrefix n after (settled_of old))) (disk : IsDisk f) where
   -- a line that has an answer stands where it stood
   still_there : (a : Answered) → ((line : Line) → IsCurrent old line → old.session ≡ sessions.Walk → a.line < line.number) → (place : ℕ) (line : Line) → slice_get after place ≡ Some line → line.number ≡ a.line
       → slice_get done place ≡ Some line
@@ -194,7 +198,7 @@ module _ (e f : DiskModel) (n : RecordSet) (old new : CoreState) (done after : L
       some_same x y e = cc
 
   -- the answer of a line outside the order
-  refused : (number : ℕ) (reply : Reply) (at : ℕ) (line : Line) → at ≡ f.clock → after ≡ done → Ordered old done → IsCurrent old line → number ≡ line.number → old.session ≡ sessions.Walk → IsOutside reply
+  refused : (number : ℕ) (reply : Reply) (at : ℕ) (line : Line) → at ≡ f.clock → after ≡ done → Ordered old done → IsCurrent old line → number ≡ line.number → old.session ≡ sessions.Walk → IsOutsideOrder reply
       → Held f n after (settled_of new) (record { line = number; reply = reply; at = at })
   refused number reply at line at_is same order current number_is walk outside =
       let K : ℕ → Type 0 = λ k. AreAmong done (take k old.lines) in
@@ -220,7 +224,7 @@ pub record NextStep (e : DiskModel) (old : CoreState) (file : FileState) (outcom
   pub at_is : at ≡ f.clock
 
 -- the answer that the step gave, where it gave one
-given_held : (e f : DiskModel) (old new : CoreState) (file : FileState) (outcome : Outcome) (n : RecordSet) (done : List Line) (at : ℕ) → AreRising old.lines → CoreKeeps e old n done → Ordered old done
+given_held : (e f : DiskModel) (old new : CoreState) (file : FileState) (outcome : Outcome) (n : RecordSet) (done : List Line) (at : ℕ) → AreRising old.lines → EngineKeeps e old n done → Ordered old done
     → (next : NextStep e old file outcome f new n done at) → Joined old done next.step.after → settled_of old ≤ settled_of new
     → All (Held f n next.step.after (settled_of new)) (answers_of outcome at)
 given_held e f old new file outcomes.Stopped n done at rising was order next joined later = All-nil (Held f n next.step.after (settled_of new))
@@ -240,7 +244,7 @@ given_held e f old new file (outcomes.Answered number reply) n done at rising wa
     All-push (Held f n after (settled_of new)) [] (record { line = number; reply = reply; at = at }) (All-nil (Held f n after (settled_of new))) one
 
 -- the answers so far
-kept_held : (e f : DiskModel) (old new : CoreState) (file : FileState) (outcome : Outcome) (n : RecordSet) (done : List Line) (at : ℕ) (answered : List Answered) → AreRising old.lines → CoreKeeps e old n done
+kept_held : (e f : DiskModel) (old new : CoreState) (file : FileState) (outcome : Outcome) (n : RecordSet) (done : List Line) (at : ℕ) (answered : List Answered) → AreRising old.lines → EngineKeeps e old n done
     → AnswersFirst old answered → (next : NextStep e old file outcome f new n done at) → Joined old done next.step.after → settled_of old ≤ settled_of new
     → All (Held e n done (settled_of old)) answered → All (Held f n next.step.after (settled_of new)) answered
 kept_held e f old new file outcome n done at answered rising was first next joined later held k d lt =
@@ -267,7 +271,7 @@ running_more steps d core file answered e f old new n outcome at ordered rising 
     let joined = subst J new_done grows.joined in
     let later = settled_later e old new from next.step.file_after outcome n done run.keeps next.step.steps in
     let more = grown old done after joined in
-    let F : FileState → Type 0 = λ s. StepsTo old s outcome new next.step.file_after in
+    let F : FileState → Type 0 = λ s. EngineStepsTo old s outcome new next.step.file_after in
     let T : ℕ → Type 0 = λ k. Reaches k (record { clock = d.clock; core = core; file = file }) (answered ++ answers_of outcome at) (record { clock = f.clock; core = new; file = next.step.file_after }) in
     record {
       file_after = next.step.file_after;
@@ -312,7 +316,7 @@ running_ends steps d core file answered e after n rising first run = record {
 }
 
 -- before the first step
-pub running_starts : (d : DiskModel) (core : CoreState) (n : RecordSet) → IsDisk d → core.stop ≡ None → (kept : CoreKeeps d core n []) → Running 0 d core (last_of kept.durable kept.later) [] d core n
+pub running_starts : (d : DiskModel) (core : CoreState) (n : RecordSet) → IsDisk d → core.stop ≡ None → (kept : EngineKeeps d core n []) → Running 0 d core (last_of kept.durable kept.later) [] d core n
 running_starts d core n disk going kept = record {
   file_after = last_of kept.durable kept.later;
   reaches = (refl, refl);
@@ -333,8 +337,8 @@ running_starts d core n disk going kept = record {
       enough = omega arith;
       within = omega arith;
       file = kept.durable;
-      opens = elim (kept.keeps.images c image) [
-        | inl here ↦ record { turn = core.store.turn; said = kept.keeps.said; payloads = kept.keeps.payloads; groups = kept.keeps.written; by = here }
+      opens = elim (kept.keeps.disk.images c image) [
+        | inl here ↦ record { turn = core.store.turn; said = kept.keeps.parts.said; payloads = kept.keeps.parts.payloads; groups = kept.keeps.parts.written; by = here }
         | inr next ↦ absurd (let runs = kept.running going in let stopped = next.0 in cc)
       ];
       sound = kept.sound_durable;

@@ -2,22 +2,30 @@
 use Rattle.std.proofs.Common.{◌≡◌, ◌≢◌, inl, inr, ℕ, zero, suc, ◌≤◌, List, [], ◌++◌, length, take, Option, Some, None, IfSome, IsSome, false, refl, sym, ap, subst, ◌∙◌, arith, MatchOption}
 use Rattle.hb_disk.specs.Model.{DiskModel, IsDisk}
 use Rattle.hb_layout.specs.declared.meta.Meta.{Meta}
-use Rattle.hb_disk.specs.RunLaws.{at_value, if_value, has_value, Leaves-start}
+use Rattle.hb_disk.specs.RunLaws.{Leaves-start}
+use Rattle.hb_disk.specs.ValueLaws.{at_value, if_value, has_value}
 use Rattle.hb_outside.specs.Streams.{Rose, Appends, AppendsFront}
 use Rattle.hb_ops.specs.Files.{FileState, contents_of}
 use Rattle.hb_ops.specs.Sound.{IsSound}
 use Rattle.hb_set.specs.declared.scripts.Line.{Line}
 use Rattle.hb_set.specs.declared.scripts.Answered.{Answered}
-use Rattle.hb_store.specs.Keeps.{StoreState, IsNew, StoreKeeps}
+use Rattle.hb_store.specs.States.{StoreState, IsNew}
+use Rattle.hb_store.specs.Keeps.{StoreKeeps}
 use Rattle.hb_store.specs.Opening.{OpensTo, IsEven}
 use Rattle.hb_store.specs.declared.stops.StopWhy.{StopWhy}
 use Rattle.hb_store.specs.declared.stops.StopWhy.TheVariants as stops
 use Rattle.hb_store.specs.declared.stops.Why.{Why}
 use Rattle.hb_text.specs.OutputLaws.{Appends-both, Appends-front, Rose-later}
-use Rattle.hbpi.specs.Core.{CoreState, CoreKeeps, StepsOn, Moment, Reaches, AnswersFirst, set_of, settled_of}
+use Rattle.hbpi.specs.Core.{CoreState, settled_of}
+use Rattle.hbpi.specs.Keeping.{EngineKeeps, set_of}
+use Rattle.hbpi.specs.StepTable.{StepsOn}
+use Rattle.hbpi.specs.Moments.{Moment, Reaches}
+use Rattle.hbpi.specs.AnsweredLines.{AnswersFirst}
 use Rattle.hbpi.specs.Drives.{IsStart, RunFaults, RunsTo, DriveEnds, run_output}
-use Rattle.hbpi.specs.Driven.{IsScheduled, IsServedScript, RunsFrom, Drove, IsTurnedAway, GetsOutput, OpenedEnds, NotScheduled, status_after, status_by}
-use Rattle.hbpi.specs.Ends.{Seen, IsRefused}
+use Rattle.hbpi.specs.Driven.{IsTurnedAway, GetsOutput, OpenedEnds, status_after, status_by}
+use Rattle.hbpi.specs.Schedules.{IsScheduled, IsServedScript, NotScheduled}
+use Rattle.hbpi.specs.DrivenRuns.{RunsFrom, Drove}
+use Rattle.hbpi.specs.SeenRuns.{Seen, IsRefused}
 use Rattle.hbpi.specs.Moves.{MovesOn, HasOrder, shown}
 use Rattle.hbpi.specs.Outcome.{GetsLine, fault_line}
 use Rattle.hbpi.specs.Starting.{IsOnePage}
@@ -109,9 +117,9 @@ apart_stopped same = cc (same)
 -- a store that runs is over an even disk
 pub even_store : (d : DiskModel) (st : StoreState) (durable : FileState) (later : List FileState) → StoreKeeps d st durable later → st.stopped ≡ false → IsEven d durable
 even_store d st durable later keeps running = record {
-  told = keeps.told;
-  images = λ c image. elim (keeps.images c image) [
-    | inl by ↦ record { turn = st.turn; said = keeps.said; payloads = keeps.payloads; groups = keeps.written; by = by }
+  told = keeps.disk.told;
+  images = λ c image. elim (keeps.disk.images c image) [
+    | inl by ↦ record { turn = st.turn; said = keeps.parts.said; payloads = keeps.parts.payloads; groups = keeps.parts.written; by = by }
     | inr stopped ↦ cc (stopped.0, running)
   ];
 }
@@ -128,7 +136,7 @@ turned_away d st seen status disk kept running one_page refused source = record 
   told = if_value d.told _ (λ b is.
       let here = kept (has_value d.told b is) in
       let even = even_store d st here.0 [] here.2 running in
-      (here.0, even.images b (disk.as_read b is), here.1, ap (λ (m : Meta). m.k) here.2.meta_is, even, λ was. Leaves-start d _ disk even.images, subst IsOnePage (sym here.2.meta_is) (one_page_of st.meta one_page.0 one_page.1)));
+      (here.0, even.images b (disk.as_read b is), here.1, ap (λ (m : Meta). m.k) here.2.memory.meta_is, even, λ was. Leaves-start d _ disk even.images, subst IsOnePage (sym here.2.memory.meta_is) (one_page_of st.meta one_page.0 one_page.1)));
 }
 
 -- the same over a disk that is another's
@@ -139,7 +147,7 @@ away_on {X = X} M k d seen status x y same away = subst (λ (z : X). IsTurnedAwa
 pub refused_on : {X : Type 0} (W : X → Option (List ℕ)) (F : X → ℕ) (x y : X) (holds : Option (List ℕ)) (after : ℕ) (line : List ℕ) → y ≡ x → GetsLine (W y) holds (F y) after line → GetsLine (W x) holds (F x) after line
 refused_on {X = X} W F x y holds after line same gets = subst (λ (z : X). GetsLine (W z) holds (F z) after line) same gets
 
-even_run : (e : DiskModel) (s : FileState) (after : CoreState) (done : List Line) → CoreKeeps e after (contents_of s) done → after.stop ≡ None
+even_run : (e : DiskModel) (s : FileState) (after : CoreState) (done : List Line) → EngineKeeps e after (contents_of s) done → after.stop ≡ None
     → (t : FileState) × IsEven e t × IsSound t × (contents_of t ≡ set_of (contents_of s) (take (settled_of after) done))
 even_run e s after done keeps going =
     (keeps.durable, even_store e after.store keeps.durable keeps.later keeps.keeps (keeps.running going), keeps.sound_durable, keeps.durable_set)

@@ -9,12 +9,15 @@ use Rattle.hb_ops.specs.Operations.{effect_of}
 use Rattle.hb_set.specs.Machine.{RecordSet}
 use Rattle.hb_set.specs.declared.commands.Reply.{Reply}
 use Rattle.hb_set.specs.declared.scripts.Line.{Line}
-use Rattle.hb_store.specs.Keeps.{StoreState}
+use Rattle.hb_store.specs.States.{StoreState}
 use Rattle.hb_store.specs.Calls.{forced_state, stopped_state}
 use Rattle.hb_set.specs.declared.commands.Reply.TheVariants.{Full}
 use Rattle.hb_store.specs.declared.stops.StopWhy.{StopWhy}
 use Rattle.hb_store.specs.declared.stops.StopWhy.TheVariants.{WriteFault}
-use Rattle.hbpi.specs.Core.{CoreState, CoreKeeps, StepsTo, StepsOn, TakesNext, Walks, Awaits, Forces, Refuses, TakesEffect, AwaitsOne, op_of, settled_of}
+use Rattle.hbpi.specs.Core.{CoreState, settled_of}
+use Rattle.hbpi.specs.Keeping.{EngineKeeps, AwaitsOne}
+use Rattle.hbpi.specs.StepTable.{EngineStepsTo, StepsOn, TakesNext, Walks, Awaits, Forces, RefusesLine, TakesEffect}
+use Rattle.hbpi.specs.Commands.{op_of}
 use Rattle.hbpi.specs.declared.engine.session.Session.{Session}
 use Rattle.hbpi.specs.declared.engine.session.Session.TheVariants as sessions
 use Rattle.hbpi.specs.declared.engine.session.Outcome.{Outcome}
@@ -45,7 +48,7 @@ same_core : (old new : CoreState) → new.store.log.groups ≡ old.store.log.gro
 same_core old new groups order = settled_as old new groups (omega (arith, ap length order))
 
 module _ (old new : CoreState) (s t : FileState) where
-  by_refusal : (line : Line) (reply : Reply) (outcome : Outcome) → Refuses line reply old s outcome new t → SettlesNoLess old new
+  by_refusal : (line : Line) (reply : Reply) (outcome : Outcome) → RefusesLine line reply old s outcome new t → SettlesNoLess old new
   by_refusal line reply outcome refuses = same_core old new (ap (λ (l : LogState). l.groups) refuses.log) refuses.order
 
   by_effect : (line : Line) (outcome : Outcome) → TakesEffect line old s outcome new t → SettlesNoLess old new
@@ -95,7 +98,7 @@ module _ (old new : CoreState) (s t : FileState) where
     by_stop None steps = by_session old.session steps.1
     by_stop (Some why) stays = same_core old new (ap (λ (c : CoreState). c.store.log.groups) stays.1) (ap (λ (c : CoreState). c.order) stays.1)
 
-pub settled_later : (d : DiskModel) (old new : CoreState) (s t : FileState) (outcome : Outcome) (n : RecordSet) (done : List Line) → CoreKeeps d old n done → StepsTo old s outcome new t → SettlesNoLess old new
+pub settled_later : (d : DiskModel) (old new : CoreState) (s t : FileState) (outcome : Outcome) (n : RecordSet) (done : List Line) → EngineKeeps d old n done → EngineStepsTo old s outcome new t → SettlesNoLess old new
 settled_later d old new s t outcome n done keeps steps =
     by_stop old new s t outcome done keeps.awaits
     (omega (arith, ap length keeps.ordered, length-map done (λ (l : Line). l.number))) old.stop steps

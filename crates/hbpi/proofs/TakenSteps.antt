@@ -6,8 +6,11 @@ use Rattle.std.specs.List.{flat_map}
 use Rattle.hb_set.specs.declared.scripts.Line.{Line}
 use Rattle.hb_set.specs.declared.scripts.Answered.{Answered}
 use Rattle.hb_text.specs.Output.{answer_text}
-use Rattle.hbpi.specs.Ends.{HasPut, PutsMore}
-use Rattle.hbpi.specs.Core.{CoreState, AreAmong, AnswersFirst, answered_in, answered_count, answers_of}
+use Rattle.hbpi.specs.DryParts.{HasPutText, PutsMore}
+use Rattle.hbpi.specs.Core.{CoreState}
+use Rattle.hbpi.specs.Keeping.{AreAmong}
+use Rattle.hbpi.specs.AnsweredLines.{AnswersFirst, answered_in, answered_count}
+use Rattle.hbpi.specs.Moments.{answers_of}
 use Rattle.hbpi.specs.Moves.{Moves, MovesOn, HasOrder, Shown, StepFaults}
 use Rattle.hbpi.specs.Drives.{IsStart}
 use Rattle.hbpi.specs.declared.engine.session.Session.{Session}
@@ -47,10 +50,10 @@ moves_more n from mid to before answered outcome at was moves faults is =
     let M : ℕ → Type 0 = λ k. MovesOn k from answered to in
     subst M (sym (add-one n)) (mid, before, outcome, at, was, moves, faults, is)
 
-pub puts_more : (a b c : Option (List ℕ)) (f g h : ℕ) (failed next : Bool) (before answered given : List Answered) → answered ≡ before ++ given → HasPut a b f g failed (flat_map answer_text before)
-    → PutsMore b c g h failed next (flat_map answer_text given) → HasPut a c f h next (flat_map answer_text answered)
+pub puts_more : (a b c : Option (List ℕ)) (f g h : ℕ) (failed next : Bool) (before answered given : List Answered) → answered ≡ before ++ given → HasPutText a b f g failed (flat_map answer_text before)
+    → PutsMore b c g h failed next (flat_map answer_text given) → HasPutText a c f h next (flat_map answer_text answered)
 puts_more a b c f g h failed next before answered given is put more =
-    let P : List ℕ → Type 0 = λ t. HasPut a c f h next t in
+    let P : List ℕ → Type 0 = λ t. HasPutText a c f h next t in
     subst P (sym (ap (flat_map answer_text) is ∙ flat_map-append answer_text before given))
     (has_put_more a b c f g h failed next (flat_map answer_text before) (flat_map answer_text given) put more)
 

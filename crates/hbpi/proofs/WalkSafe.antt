@@ -1,4 +1,4 @@
--- What a step of a session that walks does over every disk, once the root is in a frame.
+-- What a step of a session that walks does over every disk, once the root is in memory.
 use Rattle.std.proofs.Common.{◌≡◌, ◌≢◌, inl, inr, ℕ, ◌+◌, ◌≤◌, List, [], ◌∷◌, ◌++◌, length, Option, Some, None, IsSome, refl, sym, ap, subst, ◌∙◌, arith, length-append}
 use Rattle.std.specs.List.{All}
 use Rattle.std.proofs.lemmas.List.Elements.{All-push, All-weaker}
@@ -14,14 +14,15 @@ use Rattle.hb_set.specs.declared.commands.Command.TheVariants.{Insert, Delete, L
 use Rattle.hb_set.specs.declared.commands.Reply.{Reply}
 use Rattle.hb_set.specs.declared.commands.Reply.TheVariants as replies
 use Rattle.hb_set.specs.declared.scripts.Line.{Line}
-use Rattle.hb_store.specs.Keeps.{StoreState}
-use Rattle.hb_store.specs.Calls.{Commits, Fetched, framed_read}
+use Rattle.hb_store.specs.States.{StoreState, in_memory}
+use Rattle.hb_store.specs.Calls.{Commits, Fetched, read_here}
 use Rattle.hb_store.specs.declared.stops.Why.{Why}
 use Rattle.hb_store.specs.declared.stops.StopWhy.TheVariants as stops
 use Rattle.hbpi.specs.declared.engine.session.Session.TheVariants as sessions
 use Rattle.hbpi.specs.declared.engine.session.Outcome.{Outcome}
 use Rattle.hbpi.specs.declared.engine.session.Outcome.TheVariants as outcomes
-use Rattle.hbpi.specs.Core.{CoreState, IsCore, IsCurrent, IsOutside}
+use Rattle.hbpi.specs.Core.{CoreState, IsCore, IsCurrent}
+use Rattle.hbpi.specs.AnsweredLines.{IsOutsideOrder}
 use Rattle.hbpi.specs.Damages.{IsDamagedFor, MeetsDamage}
 use Rattle.hbpi.specs.Moves.{Moves}
 use Rattle.hbpi.specs.Plans.{Acts, Does, LooksBy, PlansBy}
@@ -104,7 +105,7 @@ module _ (d m : DiskModel) (reads : OnlyReads d m) (no_fault : m.read_faults ≡
     k_same n goes = ap (λ (x : Meta). x.k) goes.meta
 
     -- the line is answered outside the order
-    pub refused_safe : StoreGoes old st (length old.order) → (outcome : Outcome) (new : CoreState) (line : Line) (reply : Reply) → IsCurrent old line → IsOutside reply → reply ≢ replies.ReadFault
+    pub refused_safe : StoreGoes old st (length old.order) → (outcome : Outcome) (new : CoreState) (line : Line) (reply : Reply) → IsCurrent old line → IsOutsideOrder reply → reply ≢ replies.ReadFault
         → outcome ≡ outcomes.Answered line.number reply → new ≡ with_session sessions.Idle (with_store st old) → StepsSafely d old outcome m new
     refused_safe goes outcome new line reply current outside well is new_is =
         let o : Outcome = outcomes.Answered line.number reply in
@@ -193,7 +194,7 @@ module _ (d m : DiskModel) (reads : OnlyReads d m) (no_fault : m.read_faults ≡
         (λ number e. cc e)
         (λ e. cc e))
 
-  -- once the root is in a frame
+  -- once the root is in memory
   module _ (st : StoreState) (fetched : Fetched old.store.meta.root old.store st) where
     marks_there : All (λ (g : Waiting). g.mark ≤ length old.order) st.log.groups
     marks_there = let Q : LogState → Type 0 = λ l. All (λ (g : Waiting). g.mark ≤ length old.order) l.groups in subst Q (sym fetched.rest.log) whole.marks
@@ -212,11 +213,11 @@ module _ (d m : DiskModel) (reads : OnlyReads d m) (no_fault : m.read_faults ≡
         let Q : List Waiting → Type 0 = λ l. All (λ (g : Waiting). g.mark ≤ length old.order + 1) l in
         record {
           stopped = commits.stopped ∙ fetched.rest.stopped;
-          meta = commits.meta ∙ change_meta op st.meta (framed_read st op 0) (framed_read st op 1) (framed_read st op 2) on ∙ fetched.rest.meta;
+          meta = commits.meta ∙ change_meta op st.meta (read_here st op 0) (read_here st op 1) (read_here st op 2) on ∙ fetched.rest.meta;
           marks = subst Q (sym commits.groups) (All-push (λ (g : Waiting). g.mark ≤ length old.order + 1) st.log.groups (record { bytes = commits.group; mark = length old.order }) marks_more (omega arith));
         }
 
-    does_safe : (outcome : Outcome) (new : CoreState) (line : Line) (page : Page) (plan : Plan) → IsCurrent old line → st.frame st.meta.root ≡ Some page → PlansBy st.meta page line.command plan
+    does_safe : (outcome : Outcome) (new : CoreState) (line : Line) (page : Page) (plan : Plan) → IsCurrent old line → in_memory st st.meta.root ≡ Some page → PlansBy st.meta page line.command plan
         → Does line.number plan m (with_store st old) outcome m new → StepsSafely d old outcome m new
     does_safe outcome new line page (plans.Answer reply) current framed planned does =
         joined_safe st goes_more outcome new line reply current (answers_well st.meta page line.command reply planned) does.0 does.1
@@ -227,7 +228,7 @@ module _ (d m : DiskModel) (reads : OnlyReads d m) (no_fault : m.read_faults ≡
     does_safe outcome new line page plans.Full current framed planned does =
         refused_safe st goes outcome new line replies.Full current tt (λ e. cc e) does.0 does.1
     does_safe outcome new line page (plans.Damaged id why) current framed planned does =
-        let F : Meta → Type 0 = λ x. st.frame x.root ≡ Some page in
+        let F : Meta → Type 0 = λ x. in_memory st x.root ≡ Some page in
         let D : Meta → Type 0 = λ x. IsDamagedFor x page line.command id why in
         damaged_safe st goes outcome new id why does.0 does.1
         (inr (record { line = line; current = current; page = page; framed = subst F fetched.rest.meta framed; damaged = subst D fetched.rest.meta (meets st.meta page line.command id why planned) }))

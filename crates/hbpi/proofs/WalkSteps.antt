@@ -1,4 +1,4 @@
--- A step of a session that walks, once the root is in a frame.
+-- A step of a session that walks, once the root is in memory.
 use Rattle.std.proofs.Common.{◌≡◌, ◌⊎◌, inl, inr, ℕ, ◌-◌, List, Option, Some, None, IsSome, refl, sym, ap, subst, ◌∙◌, arith}
 use Rattle.hb_disk.specs.Model.{DiskModel, IsDisk}
 use Rattle.hb_disk.specs.Calls.{OnlyReads}
@@ -13,11 +13,14 @@ use Rattle.hb_set.specs.declared.commands.Reply.TheVariants as replies
 use Rattle.hb_set.specs.declared.scripts.Line.{Line}
 use Rattle.hb_set.specs.Machine.{RecordSet, attributes}
 use Rattle.hb_set.specs.Scripts.{IsLineFor, IsScriptFor}
-use Rattle.hb_store.specs.Keeps.{StoreKeeps, StoreState, last_of}
+use Rattle.hb_store.specs.States.{StoreState, in_memory}
+use Rattle.hb_store.specs.Keeps.{StoreKeeps, last_of}
 use Rattle.hb_store.specs.Calls.{Fetched, IsReady}
 use Rattle.hbpi.specs.declared.engine.session.Session.TheVariants as sessions
 use Rattle.hbpi.specs.declared.engine.session.Outcome.{Outcome}
-use Rattle.hbpi.specs.Core.{CoreKeeps, CoreState, IsCurrent, MayCommit, StepKeeps, op_of}
+use Rattle.hbpi.specs.Core.{CoreState, IsCurrent}
+use Rattle.hbpi.specs.Keeping.{EngineKeeps, StepKeeps}
+use Rattle.hbpi.specs.Commands.{MayCommit, op_of}
 use Rattle.hbpi.specs.FileLaws.{FileLaws}
 use Rattle.hbpi.specs.Damages.{IsRootPage}
 use Rattle.hbpi.specs.Plans.{Acts, Does, PlansBy, PlansOn}
@@ -25,7 +28,8 @@ use Rattle.hbpi.specs.Steps.{KeepsAt, with_store}
 use Rattle.hbpi.specs.declared.engine.plans.Plan.{Plan}
 use Rattle.hbpi.specs.declared.engine.plans.Plan.TheVariants as plans
 use Rattle.hbpi.proofs.LinesDone.{by_recursion_at}
-use Rattle.hbpi.proofs.Lone.{live_is, live_so}
+use Rattle.hb_restart.specs.LoneLaws.{live_is}
+use Rattle.hb_ops.specs.PageNumberLaws.{live_so}
 use Rattle.hbpi.proofs.RootPages.{no_damage}
 use Rattle.hbpi.proofs.PlansHold.{PlanHolds, plan_holds}
 use Rattle.hbpi.proofs.RefusedSteps.{FramesOnly, refused_keeps}
@@ -38,7 +42,7 @@ module _ (laws : FileLaws) (d m : DiskModel) (is_disk : IsDisk d) (old : CoreSta
   same : FramesOnly old.store st
   same = record { log = fetched.rest.log; stopped = fetched.rest.stopped }
 
-  module _ (n : RecordSet) (done : List Line) (kept : CoreKeeps d old n done) where
+  module _ (n : RecordSet) (done : List Line) (kept : EngineKeeps d old n done) where
     abbrev file : FileState
     file = last_of kept.durable kept.later
 
@@ -46,10 +50,10 @@ module _ (laws : FileLaws) (d m : DiskModel) (is_disk : IsDisk d) (old : CoreSta
     there = pass kept.durable kept.later kept.keeps
 
     same_k : file.meta.k ≡ old.store.meta.k
-    same_k = ap (λ (x : Meta). x.k) kept.keeps.meta_is
+    same_k = ap (λ (x : Meta). x.k) kept.keeps.memory.meta_is
 
     -- what is planned holds of the file
-    planned_holds : (line : Line) (page : Page) (plan : Plan) → IsCurrent old line → st.frame st.meta.root ≡ Some page → PlansBy st.meta page line.command plan → PlanHolds line.command file plan
+    planned_holds : (line : Line) (page : Page) (plan : Plan) → IsCurrent old line → in_memory st st.meta.root ≡ Some page → PlansBy st.meta page line.command plan → PlanHolds line.command file plan
     planned_holds line page plan current framed planned = by_root planned
       where
         top : LivePage
@@ -61,7 +65,7 @@ module _ (laws : FileLaws) (d m : DiskModel) (is_disk : IsDisk d) (old : CoreSta
         page_is : page ≡ Live top
         page_is =
             let Q : ℕ → Type 0 = λ id. page_of file id ≡ Some page in
-            let here : page_of file file.meta.root ≡ Some page = subst Q (ap (λ (x : Meta). x.root) (sym there.meta_is)) (there.framed st.meta.root page framed) in
+            let here : page_of file file.meta.root ≡ Some page = subst Q (ap (λ (x : Meta). x.root) (sym there.memory.meta_is)) (there.memory.cached st.meta.root page framed) in
             let both : Some page ≡ Some (Live top) = sym here ∙ live_so (page_of file file.meta.root) top live in
             cc
 
@@ -71,7 +75,7 @@ module _ (laws : FileLaws) (d m : DiskModel) (is_disk : IsDisk d) (old : CoreSta
         is_root : IsRootPage st.meta page top
         is_root =
             let K : Meta → Type 0 = λ x. top.area ≡ whole_area x.k in
-            record { live = page_is; level = level; whole = subst K there.meta_is kept.sound.rooted.top.3 }
+            record { live = page_is; level = level; whole = subst K there.memory.meta_is kept.sound.rooted.top.3 }
 
         long : attributes line.command ≡ file.meta.k
         long = (by_recursion_at (IsLineFor old.store.meta.k) old.lines (old.taken - 1) line script.lines current.1).attributes_are ∙ sym same_k
@@ -81,7 +85,7 @@ module _ (laws : FileLaws) (d m : DiskModel) (is_disk : IsDisk d) (old : CoreSta
             let L : LivePage → Type 0 = λ t. PlansOn st.meta t line.command plan in
             let M : Meta → Type 0 = λ x. PlansOn x top line.command plan in
             plan_holds laws file kept.sound kept.one_page.0 kept.one_page.1 top live level kept.sound.rooted.top.3 line.command plan long
-            (subst M (sym there.meta_is) (subst L (live_is h.0 top (sym h.1.live ∙ page_is)) h.2))
+            (subst M (sym there.memory.meta_is) (subst L (live_is h.0 top (sym h.1.live ∙ page_is)) h.2))
         by_root (inr h) = absurd (no_damage st.meta page top plan is_root h)
 
     has_op : (o : Option Op) (op : Op) → o ≡ Some op → IsSome o

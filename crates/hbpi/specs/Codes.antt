@@ -1,5 +1,7 @@
 -- Exit statuses.
 use Rattle.std.specs.Prelude.{ℕ}
+use Rattle.hb_restart.specs.declared.faults.CreateFault.{CreateFault}
+use Rattle.hb_restart.specs.declared.faults.CreateFault.TheVariants as makes
 use Rattle.hb_restart.specs.declared.faults.OpenFault.{OpenFault}
 use Rattle.hb_restart.specs.declared.faults.OpenFault.TheVariants as faults
 use Rattle.hb_store.specs.declared.stops.Why.{Why}
@@ -30,9 +32,15 @@ damage_of page (whys.Rule rule) = damages.Rule page rule
 damage_of page (whys.Level asked found) = damages.Level page
 damage_of page (whys.Extent asked found) = damages.Extent page
 
--- the status of a run whose file wasn't made or opened
+-- the status of a run whose file wasn't made
+abbrev pub made_status : CreateFault → Status
+made_status (makes.BadLayout bad) = BadLayout bad.field bad.value
+made_status (makes.Small needed found) = Small needed found
+made_status makes.DiskFault = DiskFault
+made_status makes.NoMemory = NoMemory
+
+-- the status of a run whose file wasn't opened
 abbrev pub status_of : OpenFault → Status
-status_of (faults.BadLayout field value) = BadLayout field value
 status_of (faults.Small needed found) = Small needed found
 status_of faults.NoSuper = Damaged damages.NoSuper
 status_of (faults.BadGroup frame) = Damaged (damages.BadGroup frame)

@@ -1,8 +1,9 @@
 -- What the parts of making a file say.
 use Rattle.std.specs.Prelude.{◌≡◌, ℕ, ◌<◌, ◌≤◌, List, codes, Option, Some, None}
 use Rattle.hb_outside.specs.Streams.{Rose, Appends, AppendsFront}
-use Rattle.hb_restart.specs.declared.faults.OpenFault.{OpenFault}
-use Rattle.hb_restart.specs.declared.faults.OpenFault.TheVariants.{BadLayout, Small, NoSuper, BadGroup, Unsound, DiskFault, NoMemory}
+use Rattle.hb_restart.specs.declared.faults.BadField.{BadField}
+use Rattle.hb_restart.specs.declared.faults.CreateFault.{CreateFault}
+use Rattle.hb_restart.specs.declared.faults.CreateFault.TheVariants.{BadLayout, Small, DiskFault, NoMemory}
 use Rattle.hbpi.specs.declared.statuses.Status.{Status}
 use Rattle.hbpi.specs.declared.statuses.Status.TheVariants as statuses
 use Rattle.hbpi.specs.declared.statuses.Status.TheVariants.{Done, SinkFault}
@@ -13,15 +14,13 @@ IsMadeOn held holds before after Done = Appends held holds (codes "created\n") �
 IsMadeOn held holds before after SinkFault = AppendsFront held holds (codes "created\n") × Rose before after
 IsMadeOn held holds before after _ = ⊥
 
--- why a file of this fault and size was not made, on a disk of this size with these counts of failed writes
-abbrev pub NotMadeOn : Option OpenFault → ℕ → ℕ → ℕ → ℕ → OpenFault → Type 0
-NotMadeOn fault needed size before after (BadLayout field value) = (fault ≡ Some (BadLayout field value)) × (after ≡ before)
+-- why a file was not made whose layout has this bad field and wants so many bytes, on a disk of this size with these
+-- counts of failed writes
+abbrev pub NotMadeOn : Option BadField → ℕ → ℕ → ℕ → ℕ → CreateFault → Type 0
+NotMadeOn fault needed size before after (BadLayout bad) = (fault ≡ Some bad) × (after ≡ before)
 NotMadeOn fault needed size before after (Small wanted found) = (fault ≡ None) × (wanted ≡ needed) × (found ≡ size) × (size < needed) × (after ≡ before)
 NotMadeOn fault needed size before after DiskFault = (fault ≡ None) × (needed ≤ size) × Rose before after
 NotMadeOn fault needed size before after NoMemory = (fault ≡ None) × (needed ≤ size) × (after ≡ before)
-NotMadeOn fault needed size before after NoSuper = ⊥
-NotMadeOn fault needed size before after (BadGroup frame) = ⊥
-NotMadeOn fault needed size before after (Unsound page rule) = ⊥
 
 -- no file was made, for the layout or for the size of the disk
 abbrev pub IsUnmade : Status → Type 0

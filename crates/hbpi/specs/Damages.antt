@@ -10,6 +10,7 @@ use Rattle.hb_set.specs.declared.commands.Command.{Command}
 use Rattle.hb_set.specs.declared.commands.Command.TheVariants.{Insert, Delete, Lookup, Search}
 use Rattle.hb_set.specs.declared.scripts.Line.{Line}
 use Rattle.hb_store.specs.declared.stops.Why.{Why}
+use Rattle.hb_store.specs.States.{in_memory}
 use Rattle.hb_store.specs.declared.stops.Why.TheVariants.{Rule, Level, Extent}
 use Rattle.hbpi.specs.Core.{CoreState, IsCurrent}
 
@@ -43,20 +44,20 @@ IsDamagedFor meta page command id why =
     ((id ≡ meta.root) × WhyNotRoot meta page why)
     ⊎ ((top : LivePage) × IsRootPage meta page top × NamesFor top command id why)
 
--- the root wasn't fetched: it was in no frame, and breaks a rule that isn't the one of its number
+-- the root wasn't fetched: it wasn't in memory, and breaks a rule that isn't the one of its number
 pub record IsBadRoot (old : CoreState) (id : ℕ) (why : Why) : Type 0 where
-  pub unframed : old.store.frame old.store.meta.root ≡ None
+  pub unframed : in_memory old.store old.store.meta.root ≡ None
   pub root : id ≡ old.store.meta.root
   pub rule : ℕ
   pub other : rule ≢ 1
   pub why_is : why ≡ Rule rule
 
--- the root is in a frame, and its page is damaged for the line that was taken last
+-- the root is in memory, and its page is damaged for the line that was taken last
 pub record IsBadPage (old new : CoreState) (id : ℕ) (why : Why) : Type 0 where
   pub line : Line
   pub current : IsCurrent old line
   pub page : Page
-  pub framed : new.store.frame old.store.meta.root ≡ Some page
+  pub framed : in_memory new.store old.store.meta.root ≡ Some page
   pub damaged : IsDamagedFor old.store.meta page line.command id why
 
 -- What a step has met that stops the core for this page and this cause.

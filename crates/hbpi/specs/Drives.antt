@@ -11,7 +11,10 @@ use Rattle.hb_ops.specs.Files.{FileState}
 use Rattle.hb_store.specs.Keeps.{last_of}
 use Rattle.hb_store.specs.declared.stops.StopWhy.TheVariants.{WriteFault}
 use Rattle.hb_text.specs.Output.{output_text}
-use Rattle.hbpi.specs.Core.{CoreState, CoreKeeps, Reaches, CrashesTo, IsReplied, AnswersFirst, entries_from, left_lines, settled_of}
+use Rattle.hbpi.specs.Core.{CoreState, settled_of}
+use Rattle.hbpi.specs.Keeping.{EngineKeeps, entries_from}
+use Rattle.hbpi.specs.Moments.{Reaches, CrashesTo}
+use Rattle.hbpi.specs.AnsweredLines.{IsReplied, AnswersFirst, left_lines}
 use Rattle.hbpi.specs.declared.engine.session.Session.TheVariants.{Idle}
 use Rattle.hbpi.specs.declared.drive.End.{End}
 use Rattle.hbpi.specs.declared.drive.End.TheVariants as ends
@@ -31,7 +34,7 @@ pub record RunsTo (steps : ℕ) (d : DiskModel) (core : CoreState) (file : FileS
   pub file_after : FileState
   pub reaches : Reaches steps (record { clock = d.clock; core = core; file = file }) answered (record { clock = e.clock; core = after; file = file_after })
   pub done : List Line
-  pub keeps : CoreKeeps e after n done
+  pub keeps : EngineKeeps e after n done
   pub file_is : last_of keeps.durable keeps.later ≡ file_after
   pub legal : IsLegalOrder n (entries_from n done)
   pub first : AnswersFirst after answered

@@ -3,9 +3,17 @@ pub mod Codes
 pub mod Taking
 pub mod Outcome
 pub mod Ends
+pub mod SeenRuns
+pub mod MadeEnds
+pub mod DryParts
 pub mod Created
 pub mod Starting
 pub mod Core
+pub mod Commands
+pub mod StepTable
+pub mod Keeping
+pub mod Moments
+pub mod AnsweredLines
 pub mod Beyond
 pub mod CoreSeen
 pub mod Damages
@@ -15,4 +23,6 @@ pub mod Steps
 pub mod Plans
 pub mod FileLaws
 pub mod Driven
+pub mod Schedules
+pub mod DrivenRuns
 pub mod Runs

@@ -7,10 +7,12 @@ use Rattle.hb_set.specs.declared.commands.Reply.{Reply}
 use Rattle.hb_set.specs.declared.commands.Reply.TheVariants.{ReadFault}
 use Rattle.hb_set.specs.declared.scripts.Line.{Line}
 use Rattle.hb_set.specs.declared.scripts.Answered.{Answered}
-use Rattle.hb_store.specs.declared.stops.StopWhy.TheVariants.{WriteFault}
-use Rattle.hbpi.specs.Core.{CoreState, IsCurrent, IsOutside, AreAmong, settled_of, answers_of}
+use Rattle.hb_store.specs.declared.stops.StopWhy.TheVariants.{WriteFault, Damaged}
+use Rattle.hbpi.specs.Core.{CoreState, IsCurrent, settled_of}
+use Rattle.hbpi.specs.AnsweredLines.{IsOutsideOrder}
+use Rattle.hbpi.specs.Keeping.{AreAmong}
+use Rattle.hbpi.specs.Moments.{answers_of}
 use Rattle.hb_store.specs.declared.stops.Why.{Why}
-use Rattle.hb_store.specs.declared.stops.StopWhy.TheVariants.{Damaged}
 use Rattle.hbpi.specs.Damages.{MeetsDamage}
 use Rattle.hbpi.specs.declared.engine.session.Session.TheVariants as sessions
 use Rattle.hbpi.specs.declared.engine.session.Outcome.{Outcome}
@@ -45,7 +47,7 @@ pub record GetsAnswer (old : CoreState) (number : ℕ) (reply : Reply) (new : Co
   pub line : Line
   pub current : IsCurrent old line
   pub number_is : number ≡ line.number
-  pub why : ((old.session ≡ sessions.Walk) × IsOutside reply) ⊎ ((place : ℕ) × (old.session ≡ sessions.Await reply place) × (place < settled_of old))
+  pub why : ((old.session ≡ sessions.Walk) × IsOutsideOrder reply) ⊎ ((place : ℕ) × (old.session ≡ sessions.Await reply place) × (place < settled_of old))
   pub taken : new.taken ≡ old.taken
   pub session : new.session ≡ sessions.Idle
   pub order : new.order ≡ old.order

@@ -14,7 +14,8 @@ use Rattle.hb_set.specs.declared.commands.Command.{Command}
 use Rattle.hb_set.specs.declared.commands.Command.TheVariants.{Insert, Delete, Lookup, Search}
 use Rattle.hb_set.specs.declared.commands.Reply.TheVariants as replies
 use Rattle.hb_set.specs.declared.scripts.Line.{Line}
-use Rattle.hb_store.specs.Keeps.{StoreState, StoreKeeps}
+use Rattle.hb_store.specs.States.{StoreState, in_memory}
+use Rattle.hb_store.specs.Keeps.{StoreKeeps}
 use Rattle.hb_store.specs.Calls.{Commits, with_op}
 use Rattle.hb_store.specs.declared.stops.StopWhy.TheVariants as stops
 use Rattle.hbpi.specs.Core.{CoreState, IsCurrent}
@@ -84,12 +85,12 @@ Does number (plans.Change op) d old outcome e new = ChangesOr number op d old ou
 Does number plans.Full d old outcome e new = (outcome ≡ outcomes.Answered number replies.Full) × (new ≡ with_session sessions.Idle old)
 Does number (plans.Damaged page why) d old outcome e new = (outcome ≡ outcomes.Stopped) × (new ≡ with_stop (stops.Damaged page why) old)
 
--- The root is in a frame, and the line does what is planned by it.
+-- The root is in memory, and the line does what is planned by it.
 pub record Acts (d : DiskModel) (old : CoreState) (outcome : Outcome) (e : DiskModel) (new : CoreState) : Type 0 where
   pub line : Line
   pub current : IsCurrent old line
   pub page : Page
-  pub framed : old.store.frame old.store.meta.root ≡ Some page
+  pub framed : in_memory old.store old.store.meta.root ≡ Some page
   pub plan : Plan
   pub planned : PlansBy old.store.meta page line.command plan
   pub does : Does line.number plan d old outcome e new

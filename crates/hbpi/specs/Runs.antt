@@ -10,13 +10,19 @@ use Rattle.hb_store.specs.Opening.{IsEven, OpensTo}
 use Rattle.hb_text.specs.declared.rules.BadLine.{BadLine}
 use Rattle.hb_text.specs.Grammar.{Reading, text_read}
 use Rattle.hb_restart.specs.Beyond.{KeepsBeyond, KeepsBeyondFile}
-use Rattle.hbpi.specs.Core.{AreAmong, HoldsAnswers, CrashesTo, IsReplied, entries_from, set_of}
-use Rattle.hbpi.specs.Driven.{DriveCommandEnds, HasFailed, IsScheduled, IsServedScript}
+use Rattle.hbpi.specs.Keeping.{AreAmong, entries_from, set_of}
+use Rattle.hbpi.specs.Moments.{HoldsAnswers, CrashesTo}
+use Rattle.hbpi.specs.AnsweredLines.{IsReplied}
+use Rattle.hbpi.specs.Driven.{DriveCommandEnds}
+use Rattle.hbpi.specs.DrivenRuns.{HasFailed}
+use Rattle.hbpi.specs.Schedules.{IsScheduled, IsServedScript}
 use Rattle.hbpi.specs.Codes.{start_status}
 use Rattle.hbpi.specs.Created.{IsUnmade}
 use Rattle.hbpi.specs.Starting.{IsOfBytes, IsOnePage, RefusesStart}
 use Rattle.hbpi.specs.declared.starting.StartFault.{StartFault}
-use Rattle.hbpi.specs.Ends.{Seen, DiskSeen, DryEnds, CreateEnds, UsageEnds, UnbuiltEnds}
+use Rattle.hbpi.specs.Ends.{DryEnds, UsageEnds, UnbuiltEnds}
+use Rattle.hbpi.specs.SeenRuns.{Seen, DiskSeen}
+use Rattle.hbpi.specs.MadeEnds.{CreateEnds}
 use Rattle.hb_restart.specs.Layouts.{first_fault, size_of}
 use Rattle.hbpi.specs.declared.forms.Form.{Form}
 use Rattle.hbpi.specs.declared.forms.Form.TheVariants.{Create, Dry, Drive}

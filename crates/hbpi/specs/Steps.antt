@@ -6,7 +6,8 @@ use Rattle.hb_set.specs.declared.commands.Reply.{Reply}
 use Rattle.hb_set.specs.declared.commands.Reply.TheVariants.{ReadFault, NoMemory}
 use Rattle.hb_set.specs.declared.scripts.Line.{Line}
 use Rattle.hb_set.specs.Machine.{RecordSet}
-use Rattle.hb_store.specs.Keeps.{StoreState, StoreKeeps, OpensToFirst, last_of}
+use Rattle.hb_store.specs.States.{StoreState}
+use Rattle.hb_store.specs.Keeps.{StoreKeeps, OpensToFirst, last_of}
 use Rattle.hb_store.specs.Calls.{forced_state, stopped_state, durable_after, later_after}
 use Rattle.hb_store.specs.declared.stops.FetchStop.{FetchStop}
 use Rattle.hb_store.specs.declared.stops.FetchStop.TheVariants as fetches
@@ -14,7 +15,8 @@ use Rattle.hb_ops.specs.Files.{FileState}
 use Rattle.hb_disk.specs.Calls.{Becomes, Leaves}
 use Rattle.hb_store.specs.declared.stops.StopWhy.{StopWhy}
 use Rattle.hb_store.specs.declared.stops.StopWhy.TheVariants.{WriteFault, Damaged}
-use Rattle.hbpi.specs.Core.{CoreState, CoreKeeps, StepKeeps, IsCore, IsCurrent}
+use Rattle.hbpi.specs.Core.{CoreState, IsCore, IsCurrent}
+use Rattle.hbpi.specs.Keeping.{EngineKeeps, StepKeeps}
 use Rattle.hbpi.specs.Moves.{Moves}
 use Rattle.hbpi.specs.declared.engine.session.Session.{Session}
 use Rattle.hbpi.specs.declared.engine.session.Session.TheVariants as sessions
@@ -102,4 +104,4 @@ pub record StepsSafely (d : DiskModel) (old : CoreState) (outcome : Outcome) (e 
 
 -- what it keeps over a disk that tells
 abbrev pub KeepsAt : DiskModel → CoreState → Outcome → DiskModel → CoreState → Type 0
-KeepsAt d old outcome e new = (n : RecordSet) (done : List Line) (kept : CoreKeeps d old n done) → StepKeeps d old (last_of kept.durable kept.later) outcome e new n done
+KeepsAt d old outcome e new = (n : RecordSet) (done : List Line) (kept : EngineKeeps d old n done) → StepKeeps d old (last_of kept.durable kept.later) outcome e new n done

@@ -1,11 +1,11 @@
 ghost use Rattle.std.specs.Prelude.{◌≡◌, ℕ, ◌+◌, ◌^◌, ◌<◌, ◌≤◌, [], ◌∷◌, ◌++◌, length, vec_len, IfOk, OnErr};
 ghost use Rattle.std.specs.Vec.{vec_capacity};
 ghost use Rattle.std.specs.List.{flat_map};
-ghost use Rattle.hb_set.specs.Order.{joined, order_of};
+ghost use Rattle.hb_set.specs.Order.{with_entry, order_of};
 ghost use Rattle.hb_set.specs.Scripts.{IsScriptFor};
 ghost use Rattle.hb_text.specs.Output.{reply_text, answer_text, order_text};
 ghost use Rattle.hbpi.specs.Outcome.{IsDryRun};
-ghost use Rattle.hbpi.specs.Ends.{HasPut, PutsMore};
+ghost use Rattle.hbpi.specs.DryParts.{HasPutText, PutsMore};
 
 use hb_outside::Sink;
 use hb_set::{Answered, Line, Reply, Set};
@@ -46,7 +46,7 @@ pub(crate) fn put_whole_order<K: Sink>(sink: &mut K, failed: bool, order: &[u32]
 /// The line joins the order, unless its reply stands outside it. There has to be room.
 fn join_order(order: &mut Vec<u32>, line: &Line, reply: &Reply)
     requires { vec_len order.old < vec_capacity order.old }
-    ensures order { order.new.items ≡ order.old.items ++ order_of (joined line.now reply.now []) }
+    ensures order { order.new.items ≡ order.old.items ++ order_of (with_entry line.now reply.now []) }
     ensures room { vec_capacity order.old ≤ vec_capacity order.new }
     ensures one { vec_len order.new ≤ vec_len order.old + 1 }
 {
@@ -74,7 +74,7 @@ pub(crate) fn answer_lines<K: Sink>(
 ) -> Result<Answers, NoMemory>
     requires { (k : ℕ) × IsScriptFor k lines.now }
     ensures run { IfOk result (λ a. IsDryRun lines.now a.answered.items a.order.items) }
-    ensures put { IfOk result (λ a. HasPut (K.written sink.old) (K.written sink.new) (K.faults sink.old) (K.faults sink.new) a.failed (flat_map answer_text a.answered.items)) }
+    ensures put { IfOk result (λ a. HasPutText (K.written sink.old) (K.written sink.new) (K.faults sink.old) (K.faults sink.new) a.failed (flat_map answer_text a.answered.items)) }
     ensures few { IfOk result (λ a. length a.order.items ≤ 1000000) }
     ensures err { OnErr result (sink.new ≡ sink.old) }
     ensures later { K.faults sink.old ≤ K.faults sink.new }

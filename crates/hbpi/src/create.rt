@@ -1,19 +1,19 @@
 //! The command `create`.
 ghost use Rattle.std.specs.Prelude.{◌≡◌, ◌≢◌, ℕ, ◌≤◌, ◌<◌, List, Option, IfOk, IfErr, IsSome, Some, None};
 ghost use Rattle.hb_store.specs.Opening.{IsEven};
-ghost use Rattle.hbpi.specs.Ends.{CreateEnds, HasMade};
+ghost use Rattle.hbpi.specs.MadeEnds.{CreateEnds, HasMade};
 ghost use Rattle.hb_restart.specs.Layouts.{first_fault, size_of};
 ghost use Rattle.hb_restart.specs.NewFiles.{new_file};
 ghost use Rattle.hb_restart.specs.Beyond.{KeepsBeyond};
 ghost use Rattle.hbpi.specs.Created.{IsMadeOn, IsUnmade, NotMadeOn};
-ghost use Rattle.hb_restart.specs.declared.faults.OpenFault.TheVariants.{DiskFault, NoMemory};
+ghost use Rattle.hb_restart.specs.declared.faults.CreateFault.TheVariants.{DiskFault, NoMemory};
 
 use crate::dry::refused;
 use crate::finished::Finished;
 use crate::statuses::Status;
 use hb_disk::Device;
 use hb_outside::Sink;
-use hb_restart::{Layout, OpenFault, create};
+use hb_restart::{CreateFault, Layout, create};
 use hb_store::an_image_of_a_store_opens;
 use std::alloc::Global;
 
@@ -26,7 +26,7 @@ fn make<D: Device>(
     log: u64,
     dcap: u64,
     icap: u64,
-) -> Result<D, (OpenFault, D)>
+) -> Result<D, (CreateFault, D)>
     ensures made { IfOk result (λ e. (first_fault k pages log dcap icap ≡ None) × (size_of pages log ≤ (D.model disk).size)) }
     ensures opens { IfOk result (λ e. IsSome (D.model disk).told → IsEven (D.model e)
         (new_file (record { k = k; pages = pages; log = log; dcap = dcap; icap = icap }))) }
@@ -39,7 +39,7 @@ fn make<D: Device>(
 {
     let layout = match Layout::of_numbers(k, pages, log, dcap, icap) {
         Ok(layout) => layout,
-        Err(fault) => return Err((fault, disk)),
+        Err(bad) => return Err((CreateFault::BadLayout(bad), disk)),
     };
     match create(alloc, disk, layout) {
         Ok(store) => {

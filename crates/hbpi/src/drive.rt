@@ -7,9 +7,13 @@ ghost use Rattle.hb_set.specs.Machine.{RecordSet};
 ghost use Rattle.hb_set.specs.Scripts.{IsScriptFor};
 ghost use Rattle.hb_set.specs.declared.scripts.Line.{Line as Entry};
 ghost use Rattle.hb_text.specs.Output.{reply_text, answer_text, left_text, order_text};
-ghost use Rattle.hbpi.specs.Ends.{HasPut, PutsMore};
+ghost use Rattle.hbpi.specs.DryParts.{HasPutText, PutsMore};
 ghost use Rattle.hbpi.specs.Beyond.{StaysInLog};
-ghost use Rattle.hbpi.specs.Core.{CoreKeeps, IsCore, IsServed, AnswersFirst, answers_of, settled_of};
+ghost use Rattle.hbpi.specs.Core.{IsCore, settled_of};
+ghost use Rattle.hbpi.specs.Keeping.{EngineKeeps};
+ghost use Rattle.hbpi.specs.Commands.{IsServed};
+ghost use Rattle.hbpi.specs.AnsweredLines.{AnswersFirst};
+ghost use Rattle.hbpi.specs.Moments.{answers_of};
 ghost use Rattle.hbpi.specs.Moves.{MovesOn, HasOrder, shown};
 ghost use Rattle.hbpi.specs.CoreSeen.{core_seen, core_disk};
 ghost use Rattle.hb_store.specs.Keeps.{last_of};
@@ -84,10 +88,10 @@ fn take_steps<D: Disk, K: Sink>(
     requires served { IsServed (core_seen core.old).lines }
     requires start { IsStart (core_seen core.old) }
     requires whole { IsCore (core_seen core.old) }
-    requires kept { IsSome (D.model (core_disk core.old)).told → (n : RecordSet) × CoreKeeps (D.model (core_disk core.old)) (core_seen core.old) n [] }
+    requires kept { IsSome (D.model (core_disk core.old)).told → (n : RecordSet) × EngineKeeps (D.model (core_disk core.old)) (core_seen core.old) n [] }
     requires none { answered.old.items ≡ [] }
     requires room { length (core_seen core.old).lines ≤ vec_capacity answered.old }
-    ensures runs { (n : RecordSet) (kept : CoreKeeps (D.model (core_disk core.old)) (core_seen core.old) n []) →
+    ensures runs { (n : RecordSet) (kept : EngineKeeps (D.model (core_disk core.old)) (core_seen core.old) n []) →
         RunsTo steps (D.model (core_disk core.old)) (core_seen core.old) (last_of kept.durable kept.later) answered.new.items (D.model (core_disk core.new)) (core_seen core.new) n }
     ensures moves { MovesOn steps (shown (D.model (core_disk core.old)) (core_seen core.old)) answered.new.items (shown (D.model (core_disk core.new)) (core_seen core.new)) }
     ensures first { AnswersFirst (core_seen core.new) answered.new.items }
@@ -95,7 +99,7 @@ fn take_steps<D: Disk, K: Sink>(
     ensures whole { IsCore (core_seen core.new) }
     ensures lines { (core_seen core.new).lines ≡ (core_seen core.old).lines }
     ensures in_log { StaysInLog (D.model (core_disk core.old)) (core_seen core.old) (D.model (core_disk core.new)) (core_seen core.new) }
-    ensures put { HasPut (K.written sink.old) (K.written sink.new) (K.faults sink.old) (K.faults sink.new) result (flat_map answer_text answered.new.items) }
+    ensures put { HasPutText (K.written sink.old) (K.written sink.new) (K.faults sink.old) (K.faults sink.new) result (flat_map answer_text answered.new.items) }
     ensures faults { RunFaults (D.model (core_disk core.old)) (D.model (core_disk core.new)) answered.new.items (core_seen core.new) }
     ensures reads_later { (D.model (core_disk core.old)).read_faults ≤ (D.model (core_disk core.new)).read_faults }
     ensures writes_later { (D.model (core_disk core.old)).write_faults ≤ (D.model (core_disk core.new)).write_faults }
@@ -191,9 +195,9 @@ pub(crate) fn drive<D: Disk, K: Sink>(
     requires served { IsServed (core_seen core).lines }
     requires start { IsStart (core_seen core) }
     requires whole { IsCore (core_seen core) }
-    requires kept { IsSome (D.model (core_disk core)).told → (n : RecordSet) × CoreKeeps (D.model (core_disk core)) (core_seen core) n [] }
+    requires kept { IsSome (D.model (core_disk core)).told → (n : RecordSet) × EngineKeeps (D.model (core_disk core)) (core_seen core) n [] }
     // over a disk that tells: exactly these steps were taken, and crashes leave the set after a prefix of the order
-    ensures runs { (n : RecordSet) (kept : CoreKeeps (D.model (core_disk core)) (core_seen core) n []) → result.end ≢ End.NoMemory →
+    ensures runs { (n : RecordSet) (kept : EngineKeeps (D.model (core_disk core)) (core_seen core) n []) → result.end ≢ End.NoMemory →
         RunsTo steps (D.model (core_disk core)) (core_seen core) (last_of kept.durable kept.later) result.answered.items (D.model (core_disk result.core)) (core_seen result.core) n }
     // over every disk: so many steps were taken, the first lines were answered in their order, and some of them took effect
     ensures moves { result.end ≢ End.NoMemory → MovesOn steps (shown (D.model (core_disk core)) (core_seen core)) result.answered.items (shown (D.model (core_disk result.core)) (core_seen result.core)) }

@@ -4,13 +4,15 @@ ghost use Rattle.hb_outside.specs.Streams.{Rose};
 ghost use Rattle.hb_ops.specs.Files.{FileState};
 ghost use Rattle.hb_ops.specs.Sound.{IsSound};
 ghost use Rattle.hb_set.specs.Scripts.{IsScriptFor};
-ghost use Rattle.hb_store.specs.Keeps.{StoreKeeps, IsNew};
+ghost use Rattle.hb_store.specs.States.{IsNew};
+ghost use Rattle.hb_store.specs.Keeps.{StoreKeeps};
 ghost use Rattle.hb_store.specs.Seen.{seen_as, disk_of};
 ghost use Rattle.hb_layout.specs.Offsets.{file_size};
 ghost use Rattle.hb_restart.specs.Beyond.{KeepsBeyond, KeepsBeyondFile};
-ghost use Rattle.hbpi.specs.Core.{IsServed, IsServedCommand};
+ghost use Rattle.hbpi.specs.Commands.{IsServed, IsServedCommand};
 ghost use Rattle.hbpi.specs.CoreSeen.{core_seen, core_disk};
-ghost use Rattle.hbpi.specs.Driven.{IsScheduled, IsServedScript, NotScheduled, OpenedEnds, DriveCommandEnds, status_after};
+ghost use Rattle.hbpi.specs.Driven.{OpenedEnds, DriveCommandEnds, status_after};
+ghost use Rattle.hbpi.specs.Schedules.{IsScheduled, IsServedScript, NotScheduled};
 ghost use Rattle.hbpi.specs.Outcome.{GetsLine, fault_line};
 
 use crate::drive::{End, Ran, drive};

@@ -2,7 +2,8 @@ ghost use Rattle.std.specs.Prelude.{◌≡◌, ℕ, ◌<◌, ◌≤◌, [], leng
 ghost use Rattle.hb_outside.specs.Streams.{Rose};
 ghost use Rattle.hb_set.specs.Scripts.{IsScriptFor};
 ghost use Rattle.hbpi.specs.Outcome.{fault_line, GetsLine};
-ghost use Rattle.hbpi.specs.Ends.{IsRead, NotRead, EndsBySink, EndsRun, DryEnds};
+ghost use Rattle.hbpi.specs.Ends.{DryEnds};
+ghost use Rattle.hbpi.specs.DryParts.{IsRead, NotRead, EndsBySink, EndsRun};
 
 use crate::answers::{Answers, answer_lines, put_whole_order};
 use crate::faults::put_fault;

@@ -1,8 +1,8 @@
 ghost use Rattle.std.specs.Prelude.{◌≡◌, ◌≢◌};
-ghost use Rattle.hbpi.specs.Codes.{code_of, damage_of, status_of};
+ghost use Rattle.hbpi.specs.Codes.{code_of, damage_of, made_status, status_of};
 
 use crate::starting::StartFault;
-use hb_restart::{Field, OpenFault};
+use hb_restart::{CreateFault, Field, OpenFault};
 use hb_store::Why;
 use hb_text::BadLine;
 
@@ -94,16 +94,35 @@ impl Status {
     }
 }
 
+impl From<CreateFault> for Status {
+    ghost use Rattle.std.specs.Prelude.{◌≡◌};
+    ghost use Rattle.hbpi.specs.Codes.{made_status};
+
+    ghost from_gives = { λ fault status. status ≡ made_status fault };
+
+    /// The status of a run whose file wasn't made.
+    fn from(fault: CreateFault) -> Status {
+        match fault {
+            CreateFault::BadLayout(bad) => Status::BadLayout {
+                field: bad.field,
+                value: bad.value,
+            },
+            CreateFault::Small { needed, found } => Status::Small { needed, found },
+            CreateFault::DiskFault => Status::DiskFault,
+            CreateFault::NoMemory => Status::NoMemory,
+        }
+    }
+}
+
 impl From<OpenFault> for Status {
     ghost use Rattle.std.specs.Prelude.{◌≡◌};
     ghost use Rattle.hbpi.specs.Codes.{status_of};
 
     ghost from_gives = { λ fault status. status ≡ status_of fault };
 
-    /// The status of a run whose file wasn't made or opened.
+    /// The status of a run whose file wasn't opened.
     fn from(fault: OpenFault) -> Status {
         match fault {
-            OpenFault::BadLayout { field, value } => Status::BadLayout { field, value },
             OpenFault::Small { needed, found } => Status::Small { needed, found },
             OpenFault::NoSuper => Status::Damaged(Damage::NoSuper),
             OpenFault::BadGroup { frame } => Status::Damaged(Damage::BadGroup { frame }),

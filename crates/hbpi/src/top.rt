@@ -4,7 +4,9 @@ ghost use Rattle.hb_ops.specs.Sound.{IsSound};
 ghost use Rattle.hb_store.specs.Opening.{IsEven, OpensTo};
 ghost use Rattle.hb_restart.specs.NewFiles.{new_file};
 ghost use Rattle.hbpi.specs.Forms.{form_of, IsUnbuilt};
-ghost use Rattle.hbpi.specs.Ends.{seen_by, HasMade, IsComplete, IsMadeWhole, RefusesBadText, NamesBadLine, UsesNoDisk};
+ghost use Rattle.hbpi.specs.Ends.{IsComplete, RefusesBadText, NamesBadLine, UsesNoDisk};
+ghost use Rattle.hbpi.specs.SeenRuns.{seen_by};
+ghost use Rattle.hbpi.specs.MadeEnds.{HasMade, IsMadeWhole};
 ghost use Rattle.hbpi.specs.Runs.{RunEnds, IsDriven, LeavesBeyond, LeavesUnmade, KeepsPromise, NamesScheduleLine, RefusesFile, disk_seen};
 
 use crate::create::create_file;

@@ -6,7 +6,7 @@ ghost use Rattle.hb_ops.specs.Standing.{StandsNot};
 ghost use Rattle.hb_ops.specs.Looked.{Stands};
 ghost use Rattle.hb_set.specs.Machine.{attributes};
 ghost use Rattle.hb_layout.specs.Limits.{IsLayout};
-ghost use Rattle.hbpi.specs.Core.{IsServedCommand};
+ghost use Rattle.hbpi.specs.Commands.{IsServedCommand};
 ghost use Rattle.hbpi.specs.Damages.{IsRootPage, WhyNotRoot};
 ghost use Rattle.hbpi.specs.Plans.{DeletesBy, InsertsBy, LooksBy, PlansOn};
 

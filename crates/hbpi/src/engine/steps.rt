@@ -8,11 +8,14 @@ ghost use Rattle.hb_set.specs.Scripts.{IsScriptFor};
 ghost use Rattle.hb_set.specs.declared.commands.Reply.TheVariants.{ReadFault};
 ghost use Rattle.hb_set.specs.declared.scripts.Line.{Line as Entry};
 ghost use Rattle.hb_layout.specs.declared.meta.Meta.{Meta as Said};
-ghost use Rattle.hb_store.specs.Keeps.{StoreKeeps, IsNew, last_of};
+ghost use Rattle.hb_store.specs.States.{IsNew};
+ghost use Rattle.hb_store.specs.Keeps.{StoreKeeps, last_of};
 ghost use Rattle.hb_store.specs.Seen.{seen_as, disk_of};
 ghost use Rattle.hb_store.specs.declared.stops.StopWhy.TheVariants.{WriteFault};
 ghost use Rattle.hbpi.specs.Beyond.{StaysInLog};
-ghost use Rattle.hbpi.specs.Core.{CoreKeeps, StepKeeps, IsCore, IsServed};
+ghost use Rattle.hbpi.specs.Core.{IsCore};
+ghost use Rattle.hbpi.specs.Keeping.{EngineKeeps, StepKeeps};
+ghost use Rattle.hbpi.specs.Commands.{IsServed};
 ghost use Rattle.hbpi.specs.Moves.{Moves};
 ghost use Rattle.hbpi.specs.CoreSeen.{core_seen, core_disk};
 ghost use Rattle.hbpi.specs.Steps.{AnswersIt, IsAwaiting, KeepsAt, StepsSafely, TookNext};
@@ -37,7 +40,7 @@ impl<D: Device> Core<D> {
         ensures seen { IfOk result (λ c. core_seen c ≡ record { lines = lines.items; taken = 0; session = Session.Idle; order = []; stop = None; store = seen_as store }) }
         ensures disk { IfOk result (λ c. core_disk c ≡ disk_of store) }
         ensures keeps { IfOk result (λ c. (s : FileState) → IsNew (seen_as store).turn (seen_as store).meta (seen_as store) → IsSound s → s.meta.root ≡ 1 → s.meta.high ≡ 1 → s.meta.height ≡ 1 →
-            StoreKeeps (D.model (disk_of store)) (seen_as store) s [] → (kept : CoreKeeps (D.model (core_disk c)) (core_seen c) (contents_of s) []) × (last_of kept.durable kept.later ≡ s)) }
+            StoreKeeps (D.model (disk_of store)) (seen_as store) s [] → (kept : EngineKeeps (D.model (core_disk c)) (core_seen c) (contents_of s) []) × (last_of kept.durable kept.later ≡ s)) }
         ensures whole { IfOk result (λ c. (turn : ℕ) (meta : Said) → IsNew turn meta (seen_as store) → meta.root ≡ 1 → meta.high ≡ 1 → meta.height ≡ 1 → IsCore (core_seen c)) }
         ensures back { IfErr result (λ e. e.1 ≡ store) }
     {
@@ -59,8 +62,8 @@ impl<D: Device> Core<D> {
         requires script { IsScriptFor (core_seen self.old).store.meta.k (core_seen self.old).lines }
         requires served { IsServed (core_seen self.old).lines }
         requires whole { IsCore (core_seen self.old) }
-        requires kept { IsSome (D.model (core_disk self.old)).told → (n : RecordSet) × (done : List Entry) × CoreKeeps (D.model (core_disk self.old)) (core_seen self.old) n done }
-        ensures keeps { (n : RecordSet) (done : List Entry) (kept : CoreKeeps (D.model (core_disk self.old)) (core_seen self.old) n done) →
+        requires kept { IsSome (D.model (core_disk self.old)).told → (n : RecordSet) × (done : List Entry) × EngineKeeps (D.model (core_disk self.old)) (core_seen self.old) n done }
+        ensures keeps { (n : RecordSet) (done : List Entry) (kept : EngineKeeps (D.model (core_disk self.old)) (core_seen self.old) n done) →
             StepKeeps (D.model (core_disk self.old)) (core_seen self.old) (last_of kept.durable kept.later) result (D.model (core_disk self.new)) (core_seen self.new) n done }
         // over every disk
         ensures whole { IsCore (core_seen self.new) }
@@ -110,7 +113,7 @@ impl<D: Device> Core<D> {
         requires whole { IsCore (core_seen self.old) }
         requires going { (core_seen self.old).stop ≡ None }
         requires awaits { IsAwaiting place (core_seen self.old).session }
-        requires kept { IsSome (D.model (core_disk self.old)).told → (n : RecordSet) × (done : List Entry) × CoreKeeps (D.model (core_disk self.old)) (core_seen self.old) n done }
+        requires kept { IsSome (D.model (core_disk self.old)).told → (n : RecordSet) × (done : List Entry) × EngineKeeps (D.model (core_disk self.old)) (core_seen self.old) n done }
         ensures keeps { KeepsAt (D.model (core_disk self.old)) (core_seen self.old) result (D.model (core_disk self.new)) (core_seen self.new) }
         ensures safe { StepsSafely (D.model (core_disk self.old)) (core_seen self.old) result (D.model (core_disk self.new)) (core_seen self.new) }
         ensures in_log { StaysInLog (D.model (core_disk self.old)) (core_seen self.old) (D.model (core_disk self.new)) (core_seen self.new) }

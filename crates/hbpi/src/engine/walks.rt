@@ -8,8 +8,11 @@ ghost use Rattle.hb_ops.specs.Files.{FileState};
 ghost use Rattle.hb_ops.specs.Operations.{IsLicensed, OpHas};
 ghost use Rattle.hb_store.specs.Calls.{IsReady, IsAllowedHere};
 ghost use Rattle.hb_store.specs.Seen.{seen_as};
+ghost use Rattle.hb_store.specs.States.{in_memory};
 ghost use Rattle.hbpi.specs.Beyond.{StaysInLog};
-ghost use Rattle.hbpi.specs.Core.{CoreKeeps, IsCore, IsCurrent, IsServed, IsServedCommand, MayCommit};
+ghost use Rattle.hbpi.specs.Core.{IsCore, IsCurrent};
+ghost use Rattle.hbpi.specs.Keeping.{EngineKeeps};
+ghost use Rattle.hbpi.specs.Commands.{IsServed, IsServedCommand, MayCommit};
 ghost use Rattle.hbpi.specs.CoreSeen.{core_seen, core_disk};
 ghost use Rattle.hbpi.specs.FileLaws.{FileLaws};
 ghost use Rattle.hbpi.specs.Plans.{Acts, ChangesOr, PlansBy};
@@ -37,12 +40,12 @@ fn may_commit(command: &Command) -> bool
     }
 }
 
-/// What a line with this command does. The root is in a frame.
+/// What a line with this command does. The root is in memory.
 fn plan_of<D: Device>(store: &Store<D>, command: &Command) -> Plan
-    requires framed { IsSome ((seen_as store.now).frame (seen_as store.now).meta.root) }
+    requires there { IsSome (in_memory (seen_as store.now) (seen_as store.now).meta.root) }
     requires served { IsServedCommand command.now }
     requires attributes { attributes command.now ≡ (seen_as store.now).meta.k }
-    ensures { (page : Framed) × ((seen_as store.now).frame (seen_as store.now).meta.root ≡ Some page) × PlansBy (seen_as store.now).meta page command.now result }
+    ensures { (page : Framed) × (in_memory (seen_as store.now) (seen_as store.now).meta.root ≡ Some page) × PlansBy (seen_as store.now).meta page command.now result }
 {
     let meta = store.meta();
     match store.get(meta.root) {
@@ -76,7 +79,7 @@ impl<D: Device> Core<D> {
         requires whole { IsCore (core_seen self.old) }
         requires going { (core_seen self.old).stop ≡ None }
         requires walking { (core_seen self.old).session ≡ Session.Walk }
-        requires kept { IsSome (D.model (core_disk self.old)).told → (n : RecordSet) × (done : List Entry) × CoreKeeps (D.model (core_disk self.old)) (core_seen self.old) n done }
+        requires kept { IsSome (D.model (core_disk self.old)).told → (n : RecordSet) × (done : List Entry) × EngineKeeps (D.model (core_disk self.old)) (core_seen self.old) n done }
         ensures keeps { KeepsAt (D.model (core_disk self.old)) (core_seen self.old) result (D.model (core_disk self.new)) (core_seen self.new) }
         ensures safe { StepsSafely (D.model (core_disk self.old)) (core_seen self.old) result (D.model (core_disk self.new)) (core_seen self.new) }
         ensures in_log { StaysInLog (D.model (core_disk self.old)) (core_seen self.old) (D.model (core_disk self.new)) (core_seen self.new) }
@@ -111,7 +114,7 @@ impl<D: Device> Core<D> {
         requires whole { IsCore (core_seen self.old) }
         requires going { (core_seen self.old).stop ≡ None }
         requires walking { (core_seen self.old).session ≡ Session.Walk }
-        requires kept { IsSome (D.model (core_disk self.old)).told → (n : RecordSet) × (done : List Entry) × CoreKeeps (D.model (core_disk self.old)) (core_seen self.old) n done }
+        requires kept { IsSome (D.model (core_disk self.old)).told → (n : RecordSet) × (done : List Entry) × EngineKeeps (D.model (core_disk self.old)) (core_seen self.old) n done }
         requires waits { (line : Entry) × IsCurrent (core_seen self.old) line × MayCommit line.command × (¬ (IsReady (core_seen self.old).store)) }
         ensures keeps { KeepsAt (D.model (core_disk self.old)) (core_seen self.old) result (D.model (core_disk self.new)) (core_seen self.new) }
         ensures safe { StepsSafely (D.model (core_disk self.old)) (core_seen self.old) result (D.model (core_disk self.new)) (core_seen self.new) }
@@ -128,7 +131,7 @@ impl<D: Device> Core<D> {
     pub(crate) fn force(&mut self, done: Outcome) -> Outcome
         requires going { (core_seen self.old).stop ≡ None }
         requires running { (core_seen self.old).store.stopped ≡ false }
-        requires kept { IsSome (D.model (core_disk self.old)).told → (n : RecordSet) × (done : List Entry) × CoreKeeps (D.model (core_disk self.old)) (core_seen self.old) n done }
+        requires kept { IsSome (D.model (core_disk self.old)).told → (n : RecordSet) × (done : List Entry) × EngineKeeps (D.model (core_disk self.old)) (core_seen self.old) n done }
         ensures { Forced done (D.model (core_disk self.old)) (core_seen self.old) result (D.model (core_disk self.new)) (core_seen self.new) }
     {
         match self.store.force() {
@@ -155,14 +158,14 @@ impl<D: Device> Core<D> {
         }
     }
 
-    /// Does what the line does. The root is in a frame.
+    /// Does what the line does. The root is in memory.
     fn act(&mut self) -> Outcome
         requires script { IsScriptFor (core_seen self.old).store.meta.k (core_seen self.old).lines }
         requires served { IsServed (core_seen self.old).lines }
         requires whole { IsCore (core_seen self.old) }
         requires going { (core_seen self.old).stop ≡ None }
         requires walking { (core_seen self.old).session ≡ Session.Walk }
-        requires framed { IsSome ((core_seen self.old).store.frame (core_seen self.old).store.meta.root) }
+        requires there { IsSome (in_memory (core_seen self.old).store (core_seen self.old).store.meta.root) }
         requires ready { (line : Entry) → IsCurrent (core_seen self.old) line → (MayCommit line.command → ⊥) ⊎ IsReady (core_seen self.old).store }
         ensures acts { Acts (D.model (core_disk self.old)) (core_seen self.old) result (D.model (core_disk self.new)) (core_seen self.new) }
         ensures disk { core_disk self.new ≡ core_disk self.old }

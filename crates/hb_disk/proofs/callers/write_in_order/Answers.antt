@@ -1,4 +1,4 @@
-use Rattle.hb_disk.specs.RunLaws.{some_value}
+use Rattle.hb_disk.specs.ValueLaws.{some_value}
 use Rattle.hb_disk.proofs.InOrder.{run_three, run_four, place_two, place_three, place_four}
 use Rattle.hb_disk.proofs.callers.write_in_order.Goals as goal
 

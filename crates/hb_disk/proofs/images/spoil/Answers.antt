@@ -1,5 +1,5 @@
 use Rattle.std.proofs.Common.{sym, subst, length, reverse}
-use Rattle.hb_disk.specs.Events.{AllReach}
+use Rattle.hb_disk.specs.Events.{AllLieWithin}
 use Rattle.hb_disk.proofs.Picked.{reach_of, reach_range, noise_step}
 use Rattle.hb_disk.proofs.images.spoil.Goals as goal
 
@@ -19,5 +19,5 @@ loop-event-preserved c =
     record {
       goes_on = λ image noise. loop.invariant.goes_on image
           (noise_step c.args.byte loop.bytes c.fill_at.new.bytes loop.rest.now earlier event c.in-Some-range.at c.in-Some-range.len image c.in-Some.ensures.cases.0 (sym c.in-Some-range.ensures) fits c.fill_at.ensures noise);
-      reach = subst (λ n. AllReach n (reverse earlier)) (sym c.fill_at.auto.bytes) reach.1;
+      reach = subst (λ n. AllLieWithin n (reverse earlier)) (sym c.fill_at.auto.bytes) reach.1;
     }

@@ -6,18 +6,18 @@ use Rattle.hb_ops.proofs.local.local_rule.Goals as goal
 pub returns-then-not-is_normal-clause-first : goal.returns-then-not-is_normal-clause-first
 returns-then-not-is_normal-clause-first c =
     let fits = c.fits.ensures.0 c.if-not-fits.false in
-    let cut = c.is_well_cut.ensures.0 c.if-not-is_well_cut.false in
+    let cut = c.is_cut.ensures.0 c.if-not-is_cut.false in
     let filled = c.is_filled_right.ensures.0 c.if-not-is_filled_right.false in
-    let order = c.are_in_order.ensures.0 c.if-not-are_in_order.false in
+    let order = c.is_in_order_throughout.ensures.0 c.if-not-is_in_order_throughout.false in
     inr (inr (inr (inr (refl, fits, cut, filled, order, λ normal. false≢true (sym c.if-not-is_normal.true ∙ c.is_normal.ensures.1 normal)))))
 
 pub returns-clause-none : goal.returns-clause-none
 returns-clause-none c = (
   λ _. record {
     fits = c.fits.ensures.0 c.if-not-fits.false;
-    well_cut = c.is_well_cut.ensures.0 c.if-not-is_well_cut.false;
+    well_cut = c.is_cut.ensures.0 c.if-not-is_cut.false;
     filled = c.is_filled_right.ensures.0 c.if-not-is_filled_right.false;
-    in_order = c.are_in_order.ensures.0 c.if-not-are_in_order.false;
+    in_order = c.is_in_order_throughout.ensures.0 c.if-not-is_in_order_throughout.false;
     normal = c.is_normal.ensures.0 c.if-not-is_normal.false;
   },
   λ _. refl,

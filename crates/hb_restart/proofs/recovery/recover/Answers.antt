@@ -2,18 +2,18 @@ use Rattle.std.proofs.Common.{◌∙◌, ◌+◌, ℕ, List, [], IfSome, sym, su
 use Rattle.std.specs.Ordering.{nat_cmp}
 use Rattle.std.specs.BTreeMap.{get}
 use Rattle.hb_disk.specs.Calls.{Leaves}
-use Rattle.hb_super.specs.Superblocks.{next_turn}
+use Rattle.hb_super.specs.Superblocks.{next_turn, IsNewest}
 use Rattle.hb_ops.specs.Files.{FileState}
 use Rattle.hb_store.specs.Opening.{OpensTo}
-use Rattle.hb_store.specs.Keeps.{IsFresh, IsSameLayout, StoreKeeps}
+use Rattle.hb_store.specs.States.{IsSameLayout}
+use Rattle.hb_store.specs.Keeps.{IsFresh, StoreKeeps}
 use Rattle.hb_store.specs.Seen.{seen_as, disk_of}
 use Rattle.hb_restart.specs.Found.{IsFoundIn}
 use Rattle.hb_restart.proofs.Made.{no_error}
 use Rattle.hb_restart.proofs.Recovered.{recovered_even, recovered_fresh, recovered_opened, recovered_meta, recovered_late}
 use Rattle.hb_restart.specs.Beyond.{KeepsBeyondFile}
-use Rattle.hb_super.specs.Superblocks.{IsNewest}
 use Rattle.hb_layout.specs.declared.meta.Meta.{Meta}
-use Rattle.hb_disk.specs.RunLaws.{if_value}
+use Rattle.hb_disk.specs.ValueLaws.{if_value}
 use Rattle.hb_restart.proofs.Beyond.{beyond_found, found_said}
 use Rattle.hb_restart.proofs.recovery.recover.Goals as goal
 

@@ -3,6 +3,7 @@ use Rattle.std.proofs.lemmas.List.Elements.{All-append, All-cons, All-nil}
 use Rattle.hb_frag.specs.declared.pages.Page.{Page}
 use Rattle.hb_sound.specs.declared.facts.Fact.{Fact}
 use Rattle.hb_sound.specs.Facts.{IsFactOf, IsLightFact}
+use Rattle.hb_sound.specs.Rests.{Knows}
 use Rattle.hb_sound.specs.Told.{item_at}
 use Rattle.hb_sound.proofs.ReadUp.{IsReadTo, if_more, long_more}
 use Rattle.hb_sound.proofs.facts.read_facts.Goals as goal
@@ -10,8 +11,8 @@ use Rattle.hb_sound.proofs.facts.read_facts.Goals as goal
 pub loop-place-preserved : goal.loop-place-preserved
 loop-place-preserved g c =
     let kept = c.loop-place.invariant in
-    let read = c.in_ok-read_fact.ensures in
-    let fact = c.in_ok-read_fact.field-0 in
+    let read = c.in_ok-fact.ensures in
+    let fact = c.in_ok-fact.fact in
     let items = c.in_ok-keep.ensures in
     let id = c.loop-place.place + 1 in
     let long = long_more c.loop-place.facts.items fact in
@@ -20,6 +21,7 @@ loop-place-preserved g c =
     let after = c.keep.new.facts.ok.0 in
     let F : Option (List (Option Page)) → Type 0 = λ o. IfSome o (λ told. (page : Page) → item_at told id ≡ Some (Some page) → IsFactOf c.args.meta.now fact page) in
     let N : Option (List (Option Page)) → Type 0 = λ o. IfSome o (λ told. item_at told id ≡ Some None → ⊥) in
+    let K : Option (List (Option Page)) → Type 0 = λ o. IfSome o (λ told. (page : Page) → item_at told id ≡ Some (Some page) → Knows c.loop-place.facts.items fact page) in
     let R : List Fact → Type 0 = λ l. IfSome (g.P.Pages.told c.args.pages.now) (λ told. IsReadTo c.args.meta.now told id l) in
     let L : List Fact → Type 0 = λ l. All IsLightFact l in
     record {
@@ -27,9 +29,9 @@ loop-place-preserved g c =
       faults = read.no_fault (λ e. cc) ∙ kept.faults;
       asked = g.P.Pages.asked_on c.args.pages.now c.loop-place.pages c.read_fact.new.pages kept.asked c.read_fact.ensures.asked;
       count = omega (arith, long, longer, before, after, kept.count);
-      light = subst L (sym items) (All-append IsLightFact c.loop-place.facts.items (fact ∷ []) kept.light (All-cons IsLightFact fact [] read.light (All-nil IsLightFact)));
+      light = subst L (sym {A = List Fact} items) (All-append IsLightFact c.loop-place.facts.items (fact ∷ []) kept.light (All-cons IsLightFact fact [] read.light (All-nil IsLightFact)));
       most = inr read.there.0;
-      read = subst R (sym items)
-          (if_more (g.P.Pages.told c.args.pages.now) c.args.meta.now c.loop-place.place c.loop-place.facts.items fact c.requires.covered kept.read read.there.0
-          (subst F kept.told read.fact) (subst N kept.told read.there.1));
+      read = subst R (sym {A = List Fact} items)
+          (if_more (g.P.Pages.told c.args.pages.now) c.args.meta.now c.loop-place.place c.loop-place.facts.items fact c.requires.covered kept.read
+          (omega (arith, before, kept.count)) read.there.0 (subst F kept.told read.fact) (subst N kept.told read.there.1) (subst K kept.told (rw (c.deref.ensures.value) at read.knows)));
     }

@@ -2,6 +2,7 @@ use Rattle.std.proofs.Common.{◌≡◌, ◌+◌, List, Option, Some, IfSome, �
 use Rattle.std.proofs.lemmas.Result.{err_from_is_err_and}
 use Rattle.hb_frag.specs.declared.pages.Page.{Page}
 use Rattle.hb_sound.specs.Links.{AddsPage, AreRead, IsCut}
+use Rattle.hb_sound.specs.Rests.{KnowsTold}
 use Rattle.hb_sound.specs.Told.{item_at}
 use Rattle.hb_sound.proofs.LinkSteps.{links_more, never_broken, on_broken}
 use Rattle.hb_sound.proofs.links.read_links.Goals as goal
@@ -23,7 +24,7 @@ loop-place-preserved g c =
     let kept = c.loop-place.invariant in
     let read = c.in_ok-read.ensures in
     let A : Option (List (Option Page)) → Type 0 = λ o. IfSome o (λ told. (page : Page) → item_at told (c.loop-place.place + 1) ≡ Some (Some page)
-    → AddsPage c.args.facts.now (c.loop-place.place + 1) page c.loop-place.links c.read.new.self) in
+    → KnowsTold c.args.facts.now told → AddsPage c.args.facts.now (c.loop-place.place + 1) page c.loop-place.links c.read.new.self) in
     record {
       told = c.read.ensures.stays ∙ kept.told;
       faults = read.no_fault (λ e. cc) ∙ kept.faults;

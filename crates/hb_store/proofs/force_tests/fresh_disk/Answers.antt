@@ -5,7 +5,7 @@ use Rattle.hb_store.proofs.OnePage.{bytes_with, one_meta, one_file, one_disk, jo
 use Rattle.hb_store.proofs.force_tests.fresh_disk.Goals as goal
 
 -- the disk that the test makes
-fresh_there : (c : goal.After-new) → IsFresh (memory.seen_as c.new.result) 0 one_meta one_file
+fresh_there : (c : goal.After-new) → IsFresh (memory.mem_disk_seen c.new.result) 0 one_meta one_file
 fresh_there c =
     let bytes_are : c.extend_from_slice-3.new.self.items ≡ bytes_with 139223 4073 =
     joined_bytes 139223 4073 c.in_ok-bytes.bytes.items c.extend_from_slice.new.self.items c.extend_from_slice-2.new.self.items c.extend_from_slice-3.new.self.items

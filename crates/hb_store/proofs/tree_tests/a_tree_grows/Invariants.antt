@@ -4,6 +4,6 @@ use Rattle.hb_store.proofs.tree_tests.a_tree_grows.Given as goal
 -- the store runs, and no group that waits has a later mark
 abbrev pub invariant-loop-fresh : goal.invariant-loop-fresh
 invariant-loop-fresh g l = record {
-  running : l.store.stopped ≡ false;
-  marks : All (λ g. g.mark ≤ 7) l.store.log.groups;
+  running : l.store.memory.stopped ≡ false;
+  marks : All (λ g. g.mark ≤ 7) l.store.memory.log.groups;
 }

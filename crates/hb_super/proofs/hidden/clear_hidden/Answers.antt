@@ -1,4 +1,4 @@
-use Rattle.hb_disk.specs.RunLaws.{if_value, at_value}
+use Rattle.hb_disk.specs.ValueLaws.{if_value, at_value}
 use Rattle.hb_layout.specs.declared.meta.Meta.{Meta}
 use Rattle.hb_super.specs.Moments.{HidesNoOther}
 use Rattle.hb_super.proofs.Clears.{read_moments, IsSynced-reads, cleared_nothing, cleared_closed, cleared_newest, cleared_moments}

@@ -1,6 +1,7 @@
 use Rattle.std.proofs.Common.{ℕ, ◌+◌, ◌≤◌, List, IfSome, replicate, sym, ◌∙◌, subst, arith}
 use Rattle.hb_disk.specs.Calls.{Writes}
-use Rattle.hb_disk.specs.RunLaws.{if_value, on_ok, Becomes-torn, Becomes-torn_write, Becomes-torn_sync}
+use Rattle.hb_disk.specs.ValueLaws.{if_value, on_ok}
+use Rattle.hb_disk.specs.BecomesLaws.{Becomes-torn, Becomes-torn_write, Becomes-torn_sync}
 use Rattle.hb_layout.specs.declared.meta.Meta.{Meta}
 use Rattle.hb_layout.specs.Offsets.{slot_offset}
 use Rattle.hb_super.specs.Moments.{HidesNoOther}

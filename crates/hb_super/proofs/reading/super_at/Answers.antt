@@ -1,7 +1,7 @@
 use Rattle.std.proofs.Common.{◌≡◌, ℕ, List, length, take, drop, arith, ap, ◌∙◌, subst}
-use Rattle.hb_disk.specs.RunLaws.{if_value, at_value}
+use Rattle.hb_disk.specs.ValueLaws.{if_value, at_value}
 use Rattle.hb_layout.specs.Offsets.{slot_offset}
-use Rattle.hb_super.specs.Reading.{IsOf, Stands}
+use Rattle.hb_super.specs.Reading.{IsOf, StandsInPlace}
 use Rattle.hb_super.proofs.Supers.{stands}
 use Rattle.hb_super.proofs.reading.super_at.Goals as goal
 
@@ -9,7 +9,7 @@ pub returns-clause-stands : goal.returns-clause-stands
 returns-clause-stands g c =
     let d = g.D.Device.model c.args.disk.now in
     let into = c.read.new.into in
-    if_value d.told (λ b. Stands c.args.place c.super_in.result b) (λ b told.
+    if_value d.told (λ b. StandsInPlace c.args.place c.super_in.result b) (λ b told.
     let is_disk = g.met.D.Device.is_disk c.args.disk.now in
     let read : into ≡ take (length into) (drop c.slot_offset.result b) = at_value d.told (λ b. into ≡ take (length into) (drop c.slot_offset.result b)) b told c.in_ok-read.ensures.bytes in
     let long : length into ≡ 41 = c.read.auto.into in

@@ -1,7 +1,7 @@
 use Rattle.std.proofs.Common.{◌≡◌, ◌≢◌, ℕ, ◌≤◌, List, ◌∷◌, Some, IfSome, get_or, length, subst, arith}
 use Rattle.hb_disk.specs.Model.{overwritten}
 use Rattle.hb_disk.specs.Calls.{open_gate}
-use Rattle.hb_disk.specs.RunLaws.{if_value, at_value, of_value}
+use Rattle.hb_disk.specs.ValueLaws.{if_value, at_value, of_value}
 use Rattle.hb_super.specs.Superblocks.{IsNewest, body_bytes}
 use Rattle.hb_super.proofs.Firsts.{first_newest}
 use Rattle.hb_super.proofs.writing.write_first_super.Goals as goal

@@ -1,11 +1,11 @@
-use Rattle.std.proofs.Common.{◌≡◌, ℕ, ◌+◌, List, [], ◌∷◌, Some, IfSome, length, subst}
-use Rattle.hb_disk.specs.Model.{overwritten, Torn}
-use Rattle.hb_disk.specs.Calls.{Leaves, Writes, Becomes, FrameOrNot, open_gate}
-use Rattle.hb_disk.specs.RunLaws.{if_value, of_value}
+use Rattle.std.proofs.Common.{◌≡◌, ℕ, List, [], ◌∷◌, Some, IfSome, subst}
+use Rattle.hb_disk.specs.Model.{overwritten}
+use Rattle.hb_disk.specs.Calls.{Leaves, Writes, open_gate}
+use Rattle.hb_disk.specs.ValueLaws.{if_value, of_value}
 use Rattle.hb_layout.specs.Offsets.{slot_offset}
 use Rattle.hb_super.specs.Superblocks.{IsNewest, body_bytes}
 use Rattle.hb_super.specs.Moments.{WriteLeaves}
-use Rattle.hb_super.proofs.Writes.{run_one, run_two, run_all, gate_closed, new_told, place_one, place_two, place_all, newest_written, still_tells}
+use Rattle.hb_super.proofs.Writes.{run_one, run_two, run_behind, gate_closed, new_told, place_one, place_two, place_behind, newest_written, still_tells}
 use Rattle.hb_super.proofs.writing.write_super.Goals as goal
 
 pub returns-in_err-write-clause-moments : goal.returns-in_err-write-clause-moments
@@ -55,16 +55,12 @@ returns-in_err-write_behind_gate-clause-moments g c = λ old said next synced.
     let d = g.D.Device.model c.args.disk.now in
     let one = g.D.Device.model c.write.new.self in
     let two = g.D.Device.model c.sync.new.self in
-    let new = g.D.Device.model c.write_behind_gate.new.disk in
-    if_value d.told (λ b. IsNewest b old said → Leaves d new (WriteLeaves d b old said c.args.turn c.args.meta.now)) (λ b told newest.
-    run_all d (g.met.D.Device.is_disk c.args.disk.now) c.requires.room c.args.turn c.args.meta.now c.requires.legal old said next synced b told newest
-    c.write.result one (subst (λ (at : ℕ). Writes at (0 ∷ []) c.write.result d one) c.slot_offset-place.ensures c.write.ensures.writes) c.write.ensures.ticks
-    c.sync.result two c.sync.ensures.syncs c.sync.ensures.ticks new
-    (subst (λ (at : ℕ). Leaves two new (λ x. (e : List ℕ) × two.Image e × FrameOrNot at (body_bytes c.args.turn c.args.meta.now) e x)) c.slot_offset-place.ensures
-    (subst (λ (body : List ℕ). Leaves two new (λ x. (e : List ℕ) × two.Image e × FrameOrNot c.slot_offset-place.result body e x)) c.body_of-body.ensures
+    if_value d.told (λ b. IsNewest b old said → Leaves d (g.D.Device.model c.write_behind_gate.new.disk) (WriteLeaves d b old said c.args.turn c.args.meta.now)) (λ b told newest.
+    let gate = subst (λ (at : ℕ). Writes at (0 ∷ []) c.write.result d one) c.slot_offset-place.ensures c.write.ensures.writes in
+    run_behind d (g.met.D.Device.is_disk c.args.disk.now) c.requires.room c.args.turn c.args.meta.now c.requires.legal old said next synced b told newest
+    c.write.result one gate c.write.ensures.ticks c.sync.result two c.sync.ensures.syncs c.sync.ensures.ticks (g.D.Device.model c.write_behind_gate.new.disk) _ _ c.slot_offset-place.ensures c.body_of-body.ensures
     (c.write_behind_gate.ensures.moments (still_tells (slot_offset c.args.turn) 41 d two b told (place_two d (g.met.D.Device.is_disk c.args.disk.now) c.requires.room c.args.turn c.args.meta.now c.requires.legal
-    c.write.result one (g.met.D.Device.is_disk c.write.new.self) (subst (λ (at : ℕ). Writes at (0 ∷ []) c.write.result d one) c.slot_offset-place.ensures c.write.ensures.writes) c.write.ensures.ticks
-    c.sync.result two c.sync.ensures.syncs c.sync.ensures.ticks))))))
+    c.write.result one (g.met.D.Device.is_disk c.write.new.self) gate c.write.ensures.ticks c.sync.result two c.sync.ensures.syncs c.sync.ensures.ticks))))
 
 pub returns-in_err-write_behind_gate-clause-place : goal.returns-in_err-write_behind_gate-clause-place
 returns-in_err-write_behind_gate-clause-place g c =
@@ -72,27 +68,21 @@ returns-in_err-write_behind_gate-clause-place g c =
     let one = g.D.Device.model c.write.new.self in
     let two = g.D.Device.model c.sync.new.self in
     let new = g.D.Device.model c.write_behind_gate.new.disk in
-    place_all d (g.met.D.Device.is_disk c.args.disk.now) c.requires.room c.args.turn c.args.meta.now c.requires.legal
+    place_behind d (g.met.D.Device.is_disk c.args.disk.now) c.requires.room c.args.turn c.args.meta.now c.requires.legal
     c.write.result one (g.met.D.Device.is_disk c.write.new.self) (subst (λ (at : ℕ). Writes at (0 ∷ []) c.write.result d one) c.slot_offset-place.ensures c.write.ensures.writes) c.write.ensures.ticks
-    c.sync.result two c.sync.ensures.syncs c.sync.ensures.ticks new
-    (subst (λ (at : ℕ). Becomes (Torn at (1 + length (body_bytes c.args.turn c.args.meta.now))) two new) c.slot_offset-place.ensures
-    (subst (λ (body : List ℕ). Becomes (Torn c.slot_offset-place.result (1 + length body)) two new) c.body_of-body.ensures c.write_behind_gate.ensures.place))
+    c.sync.result two c.sync.ensures.syncs c.sync.ensures.ticks new _ _ c.slot_offset-place.ensures c.body_of-body.ensures c.write_behind_gate.ensures.place
 
 pub returns-clause-moments : goal.returns-clause-moments
 returns-clause-moments g c = λ old said next synced.
     let d = g.D.Device.model c.args.disk.now in
     let one = g.D.Device.model c.write.new.self in
     let two = g.D.Device.model c.sync.new.self in
-    let new = g.D.Device.model c.write_behind_gate.new.disk in
-    if_value d.told (λ b. IsNewest b old said → Leaves d new (WriteLeaves d b old said c.args.turn c.args.meta.now)) (λ b told newest.
-    run_all d (g.met.D.Device.is_disk c.args.disk.now) c.requires.room c.args.turn c.args.meta.now c.requires.legal old said next synced b told newest
-    c.write.result one (subst (λ (at : ℕ). Writes at (0 ∷ []) c.write.result d one) c.slot_offset-place.ensures c.write.ensures.writes) c.write.ensures.ticks
-    c.sync.result two c.sync.ensures.syncs c.sync.ensures.ticks new
-    (subst (λ (at : ℕ). Leaves two new (λ x. (e : List ℕ) × two.Image e × FrameOrNot at (body_bytes c.args.turn c.args.meta.now) e x)) c.slot_offset-place.ensures
-    (subst (λ (body : List ℕ). Leaves two new (λ x. (e : List ℕ) × two.Image e × FrameOrNot c.slot_offset-place.result body e x)) c.body_of-body.ensures
+    if_value d.told (λ b. IsNewest b old said → Leaves d (g.D.Device.model c.write_behind_gate.new.disk) (WriteLeaves d b old said c.args.turn c.args.meta.now)) (λ b told newest.
+    let gate = subst (λ (at : ℕ). Writes at (0 ∷ []) c.write.result d one) c.slot_offset-place.ensures c.write.ensures.writes in
+    run_behind d (g.met.D.Device.is_disk c.args.disk.now) c.requires.room c.args.turn c.args.meta.now c.requires.legal old said next synced b told newest
+    c.write.result one gate c.write.ensures.ticks c.sync.result two c.sync.ensures.syncs c.sync.ensures.ticks (g.D.Device.model c.write_behind_gate.new.disk) _ _ c.slot_offset-place.ensures c.body_of-body.ensures
     (c.write_behind_gate.ensures.moments (still_tells (slot_offset c.args.turn) 41 d two b told (place_two d (g.met.D.Device.is_disk c.args.disk.now) c.requires.room c.args.turn c.args.meta.now c.requires.legal
-    c.write.result one (g.met.D.Device.is_disk c.write.new.self) (subst (λ (at : ℕ). Writes at (0 ∷ []) c.write.result d one) c.slot_offset-place.ensures c.write.ensures.writes) c.write.ensures.ticks
-    c.sync.result two c.sync.ensures.syncs c.sync.ensures.ticks))))))
+    c.write.result one (g.met.D.Device.is_disk c.write.new.self) gate c.write.ensures.ticks c.sync.result two c.sync.ensures.syncs c.sync.ensures.ticks))))
 
 pub returns-clause-place : goal.returns-clause-place
 returns-clause-place g c =
@@ -100,11 +90,9 @@ returns-clause-place g c =
     let one = g.D.Device.model c.write.new.self in
     let two = g.D.Device.model c.sync.new.self in
     let new = g.D.Device.model c.write_behind_gate.new.disk in
-    place_all d (g.met.D.Device.is_disk c.args.disk.now) c.requires.room c.args.turn c.args.meta.now c.requires.legal
+    place_behind d (g.met.D.Device.is_disk c.args.disk.now) c.requires.room c.args.turn c.args.meta.now c.requires.legal
     c.write.result one (g.met.D.Device.is_disk c.write.new.self) (subst (λ (at : ℕ). Writes at (0 ∷ []) c.write.result d one) c.slot_offset-place.ensures c.write.ensures.writes) c.write.ensures.ticks
-    c.sync.result two c.sync.ensures.syncs c.sync.ensures.ticks new
-    (subst (λ (at : ℕ). Becomes (Torn at (1 + length (body_bytes c.args.turn c.args.meta.now))) two new) c.slot_offset-place.ensures
-    (subst (λ (body : List ℕ). Becomes (Torn c.slot_offset-place.result (1 + length body)) two new) c.body_of-body.ensures c.write_behind_gate.ensures.place))
+    c.sync.result two c.sync.ensures.syncs c.sync.ensures.ticks new _ _ c.slot_offset-place.ensures c.body_of-body.ensures c.write_behind_gate.ensures.place
 
 pub returns-clause-written : goal.returns-clause-written
 returns-clause-written g c =
@@ -131,10 +119,8 @@ returns-clause-newest g c = λ old said next.
     c.sync.result c.in_ok-sync.field-0 c.in_ok-sync.was two c.sync.ensures.syncs b told new
     (subst (λ (at : ℕ). IfSome two.told (λ e. new.told ≡ Some (overwritten e at (open_gate ∷ body_bytes c.args.turn c.args.meta.now)))) c.slot_offset-place.ensures
     (subst (λ (body : List ℕ). IfSome two.told (λ e. new.told ≡ Some (overwritten e c.slot_offset-place.result (open_gate ∷ body)))) c.body_of-body.ensures c.in_ok-write_behind_gate.ensures.written)) in
-    let run = place_all d (g.met.D.Device.is_disk c.args.disk.now) c.requires.room c.args.turn c.args.meta.now c.requires.legal
+    let run = place_behind d (g.met.D.Device.is_disk c.args.disk.now) c.requires.room c.args.turn c.args.meta.now c.requires.legal
     c.write.result one (g.met.D.Device.is_disk c.write.new.self) (subst (λ (at : ℕ). Writes at (0 ∷ []) c.write.result d one) c.slot_offset-place.ensures c.write.ensures.writes) c.write.ensures.ticks
-    c.sync.result two c.sync.ensures.syncs c.sync.ensures.ticks new
-    (subst (λ (at : ℕ). Becomes (Torn at (1 + length (body_bytes c.args.turn c.args.meta.now))) two new) c.slot_offset-place.ensures
-    (subst (λ (body : List ℕ). Becomes (Torn c.slot_offset-place.result (1 + length body)) two new) c.body_of-body.ensures c.write_behind_gate.ensures.place)) in
+    c.sync.result two c.sync.ensures.syncs c.sync.ensures.ticks new _ _ c.slot_offset-place.ensures c.body_of-body.ensures c.write_behind_gate.ensures.place in
     of_value new.told (λ e. IsNewest e c.args.turn c.args.meta.now) (overwritten b (slot_offset c.args.turn) (open_gate ∷ body_bytes c.args.turn c.args.meta.now)) now
     (newest_written d (g.met.D.Device.is_disk c.args.disk.now) c.requires.room c.args.turn c.args.meta.now c.requires.legal old said next b told newest new run now))

@@ -1,6 +1,6 @@
 use Rattle.std.proofs.Common.{◌≡◌, length}
 use Rattle.std.specs.List.{list_any}
-use Rattle.hb_text.specs.Grammar.{words_of, is_empty}
+use Rattle.hb_text.specs.Words.{words_of, is_empty}
 use Rattle.hb_text.proofs.lines.has_empty_word.Given as goal
 
 -- no word so far was empty

@@ -1,5 +1,5 @@
 use Rattle.std.proofs.Common.{◌≡◌, ◌+◌, ◌*◌, ◌≤◌, ◌++◌, length}
-use Rattle.hb_text.specs.Grammar.{lows, highs}
+use Rattle.hb_text.specs.Operands.{lows, highs}
 use Rattle.hb_text.proofs.operands.corners.Given as goal
 
 -- the corners so far, and what the rest gives

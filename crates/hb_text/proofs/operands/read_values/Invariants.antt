@@ -1,5 +1,5 @@
 use Rattle.std.proofs.Common.{◌≡◌, ◌-◌, length, take, drop}
-use Rattle.hb_text.specs.Grammar.{values_read}
+use Rattle.hb_text.specs.Operands.{values_read}
 use Rattle.hb_text.proofs.ValueWords.{after_values}
 use Rattle.hb_text.proofs.operands.read_values.Given as goal
 

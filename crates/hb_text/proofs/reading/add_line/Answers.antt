@@ -2,7 +2,9 @@ use Rattle.std.proofs.Common.{◌≡◌, ℕ, ◌+◌, ◌≤◌, Bool, List, le
 use Rattle.std.proofs.lemmas.List.{length-append}
 use Rattle.hb_text.specs.declared.lines.Meaning.{Meaning}
 use Rattle.hb_text.specs.declared.lines.Meaning.TheVariants.{Steps}
-use Rattle.hb_text.specs.Grammar.{SaysLine, line_read, steps_of, words_of}
+use Rattle.hb_text.specs.Grammar.{SaysLine, line_read}
+use Rattle.hb_text.specs.StepWords.{steps_of}
+use Rattle.hb_text.specs.Words.{words_of}
 use Rattle.hb_text.specs.StepLaws.{line_few}
 use Rattle.hb_text.proofs.reading.add_line.Goals as goal
 

@@ -1,5 +1,6 @@
 use Rattle.std.proofs.Common.{◌≡◌, ◌≤◌, length}
-use Rattle.hb_text.specs.Grammar.{lines_of, lines_read, text_read}
+use Rattle.hb_text.specs.Grammar.{lines_read, text_read}
+use Rattle.hb_text.specs.Words.{lines_of}
 use Rattle.hb_text.proofs.TextLines.{after_lines}
 use Rattle.hb_text.proofs.TextMemory.{Behind}
 use Rattle.hb_text.proofs.reading.read_commands.Given as goal

@@ -1,6 +1,6 @@
 use Rattle.std.proofs.Common.{◌≡◌, ℕ, List, length, replicate, Some, sym, ap, subst, arith}
 use Rattle.std.proofs.lemmas.List.{length-append, length-replicate}
-use Rattle.hb_text.specs.Grammar.{steps_of}
+use Rattle.hb_text.specs.StepWords.{steps_of}
 use Rattle.hb_text.proofs.StepWords.{said_more, steps_grow}
 use Rattle.hb_text.proofs.steps.push_steps.Goals as goal
 

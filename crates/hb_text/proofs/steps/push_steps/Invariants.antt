@@ -1,5 +1,5 @@
 use Rattle.std.proofs.Common.{◌≡◌, ◌+◌, ◌≤◌, ℕ, List, ◌++◌, length, Some}
-use Rattle.hb_text.specs.Grammar.{steps_of}
+use Rattle.hb_text.specs.StepWords.{steps_of}
 use Rattle.hb_text.proofs.steps.push_steps.Given as goal
 
 -- the steps so far and those of the words that are left are the steps before and those of all words

@@ -6,7 +6,7 @@ use Rattle.hb_set.specs.Machine.{HasAttributes}
 use Rattle.hb_set.specs.Order.{Ran, entries_of, order_of}
 use Rattle.hb_set.specs.Scripts.{IsScriptFor}
 use Rattle.hb_text.specs.Output.{answer_text}
-use Rattle.hbpi.specs.Ends.{HasPut}
+use Rattle.hbpi.specs.DryParts.{HasPutText}
 use Rattle.hbpi.proofs.answers.answer_lines.Given as goal
 
 -- the lines so far were answered, and the text of their answers was put
@@ -20,5 +20,5 @@ invariant-loop-line g l = record {
   order_count : length l.order.items ≤ l.line-index;
   order_room : length l.lines ≤ vec_capacity l.order;
   later : g.K.Sink.faults l.fn.sink ≤ g.K.Sink.faults l.sink;
-  put : HasPut (g.K.Sink.written l.fn.sink) (g.K.Sink.written l.sink) (g.K.Sink.faults l.fn.sink) (g.K.Sink.faults l.sink) l.failed (flat_map answer_text l.answered.items);
+  put : HasPutText (g.K.Sink.written l.fn.sink) (g.K.Sink.written l.sink) (g.K.Sink.faults l.fn.sink) (g.K.Sink.faults l.sink) l.failed (flat_map answer_text l.answered.items);
 }

@@ -1,4 +1,4 @@
-use Rattle.std.proofs.Common.{List, length, sym, ap, ◌∙◌, subst, arith}
+use Rattle.std.proofs.Common.{List, [], length, sym, ap, ◌∙◌, subst, arith}
 use Rattle.hb_set.specs.Order.{AreRising}
 use Rattle.hb_set.specs.Scripts.{script_is_short}
 use Rattle.hb_set.specs.declared.scripts.Line.{Line}
@@ -31,3 +31,6 @@ put_rest-failed-requires-clause-few g c =
     let answered = c.take_steps-failed.new.answered in
     let count = answered_length (core_seen c.take_steps-failed.new.core) answered.items c.take_steps-failed.ensures.first in
     omega (arith, count, c.len-2.ensures, answered.ok.0)
+
+pub returns-in_default-clause-order : goal.returns-in_default-clause-order
+returns-in_default-clause-order g c = record { done = []; ordered = sym c.requires.start.order; among = tt }

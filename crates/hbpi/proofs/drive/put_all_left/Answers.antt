@@ -3,7 +3,7 @@ use Rattle.std.proofs.lemmas.List.{take_all}
 use Rattle.std.specs.List.{flat_map}
 use Rattle.hb_set.specs.declared.scripts.Line.{Line}
 use Rattle.hb_text.specs.Output.{left_text}
-use Rattle.hbpi.specs.Ends.{PutsMore}
+use Rattle.hbpi.specs.DryParts.{PutsMore}
 use Rattle.hbpi.proofs.LinesInOrder.{numbers}
 use Rattle.hbpi.proofs.RestOfOutput.{puts_none, left_puts}
 use Rattle.hbpi.proofs.drive.put_all_left.Goals as goal

@@ -2,7 +2,7 @@ use Rattle.std.proofs.Common.{◌≤◌, map, take}
 use Rattle.std.specs.List.{flat_map}
 use Rattle.hb_set.specs.declared.scripts.Line.{Line}
 use Rattle.hb_text.specs.Output.{left_text}
-use Rattle.hbpi.specs.Ends.{PutsMore}
+use Rattle.hbpi.specs.DryParts.{PutsMore}
 use Rattle.hbpi.proofs.drive.put_all_left.Given as goal
 
 -- the lines so far were put

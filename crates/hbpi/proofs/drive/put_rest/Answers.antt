@@ -12,4 +12,4 @@ returns-clause-puts g c =
     c.is_some.result (is_some core.stop) _ (drop c.args.answered core.lines.items) c.as_slice-2.result.now core.order.items c.settled-settled.result _
     c.put_all_left-failed.ensures.puts c.put_settled_order.ensures.puts
     c.is_some.ensures (take_rest c.as_slice.result.now c.args.answered ∙ ap (λ (ls : List Line). drop c.args.answered ls) c.as_slice.ensures.value) c.as_slice-2.ensures.value
-    (c.settled-settled.ensures.mark ∙ ap (λ (n : ℕ). mark_of core.store.log.groups n) (c.len.ensures ∙ core.order.ok.0))
+    (c.settled-settled.ensures.mark ∙ ap (λ (n : ℕ). mark_of core.store.memory.log.groups n) (c.len.ensures ∙ core.order.ok.0))

@@ -4,7 +4,9 @@ use Rattle.hb_set.specs.Order.{AreRising}
 use Rattle.hb_set.specs.declared.scripts.Line.{Line}
 use Rattle.hb_set.specs.declared.scripts.Answered.{Answered}
 use Rattle.hb_store.specs.Keeps.{last_of}
-use Rattle.hbpi.specs.Core.{CoreKeeps, AnswersFirst, answers_of}
+use Rattle.hbpi.specs.Keeping.{EngineKeeps}
+use Rattle.hbpi.specs.AnsweredLines.{AnswersFirst}
+use Rattle.hbpi.specs.Moments.{answers_of}
 use Rattle.hbpi.specs.CoreSeen.{core_seen, core_disk}
 use Rattle.hbpi.specs.Drives.{RunsTo}
 use Rattle.hbpi.specs.Moves.{shown}
@@ -20,7 +22,7 @@ pub loop-init : goal.loop-init
 loop-init g c =
     let none = c.requires.none in
     let start = c.requires.start in
-    let R : List Answered → Type 0 = λ answered. (n : RecordSet) (kept : CoreKeeps (g.D.Device.model (core_disk c.args.core.now)) (core_seen c.args.core.now) n []) →
+    let R : List Answered → Type 0 = λ answered. (n : RecordSet) (kept : EngineKeeps (g.D.Device.model (core_disk c.args.core.now)) (core_seen c.args.core.now) n []) →
     Running 0 (g.D.Device.model (core_disk c.args.core.now)) (core_seen c.args.core.now) (last_of kept.durable kept.later) answered (g.D.Device.model (core_disk c.args.core.now)) (core_seen c.args.core.now) n in
     record {
       moves = (refl, none);
@@ -96,8 +98,8 @@ loop-preserved g c =
             step = keeps;
             moves = step.moves;
             disk = g.met.D.Device.is_disk (core_disk c.step-outcome.new.self);
-            soon = step.clock run.keeps.keeps.told;
-            at_is = c.clock-at.ensures keeps.keeps.keeps.told;
+            soon = step.clock run.keeps.keeps.disk.told;
+            at_is = c.clock-at.ensures keeps.keeps.keeps.disk.told;
           }));
       reads_later = omega (arith, before.reads_later, step.reads_later);
       writes_later = omega (arith, before.writes_later, step.writes_later);

@@ -5,9 +5,11 @@ use Rattle.hb_set.specs.Machine.{RecordSet}
 use Rattle.hb_set.specs.declared.scripts.Line.{Line}
 use Rattle.hb_text.specs.Output.{answer_text}
 use Rattle.hb_store.specs.Keeps.{last_of}
-use Rattle.hbpi.specs.Ends.{HasPut}
+use Rattle.hbpi.specs.DryParts.{HasPutText}
 use Rattle.hbpi.specs.Beyond.{StaysInLog}
-use Rattle.hbpi.specs.Core.{CoreKeeps, IsCore, AnswersFirst}
+use Rattle.hbpi.specs.Core.{IsCore}
+use Rattle.hbpi.specs.Keeping.{EngineKeeps}
+use Rattle.hbpi.specs.AnsweredLines.{AnswersFirst}
 use Rattle.hbpi.specs.Moves.{MovesOn, shown}
 use Rattle.hbpi.specs.CoreSeen.{core_seen, core_disk}
 use Rattle.hbpi.proofs.FirstAnswers.{Ordered}
@@ -22,11 +24,11 @@ invariant-loop g l = record {
   whole : IsCore (core_seen l.core);
   lines : (core_seen l.core).lines ≡ (core_seen l.fn.core).lines;
   attributes : (core_seen l.core).store.meta.k ≡ (core_seen l.fn.core).store.meta.k;
-  put : HasPut (g.K.Sink.written l.fn.sink) (g.K.Sink.written l.sink) (g.K.Sink.faults l.fn.sink) (g.K.Sink.faults l.sink) l.failed (flat_map answer_text l.answered.items);
+  put : HasPutText (g.K.Sink.written l.fn.sink) (g.K.Sink.written l.sink) (g.K.Sink.faults l.fn.sink) (g.K.Sink.faults l.sink) l.failed (flat_map answer_text l.answered.items);
   room : length (core_seen l.core).lines ≤ vec_capacity l.answered;
   in_log : StaysInLog (g.D.Device.model (core_disk l.fn.core)) (core_seen l.fn.core) (g.D.Device.model (core_disk l.core)) (core_seen l.core);
   silent : (g.D.Device.model (core_disk l.fn.core)).told ≡ None → (g.D.Device.model (core_disk l.core)).told ≡ None;
-  runs : (n : RecordSet) (kept : CoreKeeps (g.D.Device.model (core_disk l.fn.core)) (core_seen l.fn.core) n []) →
+  runs : (n : RecordSet) (kept : EngineKeeps (g.D.Device.model (core_disk l.fn.core)) (core_seen l.fn.core) n []) →
       Running l.counter (g.D.Device.model (core_disk l.fn.core)) (core_seen l.fn.core) (last_of kept.durable kept.later) l.answered.items (g.D.Device.model (core_disk l.core)) (core_seen l.core) n;
   reads_later : (g.D.Device.model (core_disk l.fn.core)).read_faults ≤ (g.D.Device.model (core_disk l.core)).read_faults;
   writes_later : (g.D.Device.model (core_disk l.fn.core)).write_faults ≤ (g.D.Device.model (core_disk l.core)).write_faults;

@@ -1,10 +1,10 @@
 use Rattle.std.proofs.Common.{◌≡◌, [], inl, inr, refl, sym, subst, ◌∙◌}
 use Rattle.hb_disk.specs.Model.{DiskModel}
-use Rattle.hb_disk.specs.RunLaws.{at_value, if_value}
+use Rattle.hb_disk.specs.ValueLaws.{at_value, if_value, some_value}
 use Rattle.hb_store.specs.Seen.{seen_as, disk_of}
 use Rattle.hbpi.specs.Codes.{start_status}
 use Rattle.hbpi.specs.Driven.{DriveCommandEnds, IsShutOut}
-use Rattle.hbpi.specs.Ends.{Seen}
+use Rattle.hbpi.specs.SeenRuns.{Seen}
 use Rattle.hbpi.specs.Outcome.{GetsLine, fault_line}
 use Rattle.hbpi.specs.declared.statuses.Status.{Status}
 use Rattle.hbpi.proofs.Reopened.{IsOpening, ends_before}
@@ -75,3 +75,10 @@ pub returns-in-Err-clause-beyond : goal.returns-in-Err-clause-beyond
 returns-in-Err-clause-beyond g c =
     let M : g.row.D.Denot → DiskModel = g.D.Device.model in
     subst (λ (x : g.row.D.Denot). KeepsBeyondFile (M c.args.disk) (M x)) (sym c.refused.ensures.disk) c.in-Err.ensures.beyond_after_fault
+
+pub drive_store-requires-clause-kept : goal.drive_store-requires-clause-kept
+drive_store-requires-clause-kept g c = λ tells.
+    let d : DiskModel = g.D.Device.model c.args.disk in
+    let told = some_value d.told (c.in-Ok.ensures.silent tells) in
+    let found = at_value d.told _ told.0 told.1 c.in-Ok.ensures.opened in
+    (found.0, found.2, found.3)

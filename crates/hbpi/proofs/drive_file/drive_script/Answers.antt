@@ -1,19 +1,21 @@
 use Rattle.std.proofs.Common.{◌≡◌, ℕ, List, [], IsSome, refl, sym, ap, subst, ◌∙◌, length}
 use Rattle.hb_disk.specs.Model.{DiskModel}
-use Rattle.hb_disk.specs.RunLaws.{has_value, if_value}
+use Rattle.hb_disk.specs.ValueLaws.{has_value, if_value}
 use Rattle.hb_layout.specs.declared.meta.Meta.{Meta}
 use Rattle.hb_ops.specs.Files.{FileState, contents_of}
 use Rattle.hb_ops.specs.Sound.{IsSound}
 use Rattle.hb_set.specs.declared.scripts.Answered.{Answered}
 use Rattle.hb_set.specs.declared.scripts.Line.{Line}
-use Rattle.hb_store.specs.Keeps.{StoreState, StoreKeeps, IsNew, last_of}
+use Rattle.hb_store.specs.States.{StoreState, IsNew}
+use Rattle.hb_store.specs.Keeps.{StoreKeeps, last_of}
 use Rattle.hb_store.specs.Seen.{seen_as, disk_of}
 use Rattle.hbpi.specs.Core.{CoreState}
 use Rattle.hbpi.specs.CoreSeen.{core_seen, core_disk}
 use Rattle.hbpi.specs.Drives.{RunsTo}
-use Rattle.hbpi.specs.Driven.{IsScheduled, IsServedScript, OpenedEnds, status_after}
+use Rattle.hbpi.specs.Driven.{OpenedEnds, status_after}
+use Rattle.hbpi.specs.Schedules.{IsScheduled, IsServedScript}
 use Rattle.hbpi.specs.Moves.{MovesOn, shown}
-use Rattle.hbpi.specs.Ends.{Seen, IsRefused}
+use Rattle.hbpi.specs.SeenRuns.{Seen, IsRefused}
 use Rattle.hbpi.specs.Starting.{IsOnePage}
 use Rattle.hbpi.specs.Outcome.{GetsLine, fault_line}
 use Rattle.hbpi.specs.declared.statuses.Status.{Status}
@@ -28,7 +30,7 @@ use Rattle.hbpi.proofs.drive_file.drive_script.Goals as goal
 pub drive-requires-clause-kept : goal.drive-requires-clause-kept
 drive-requires-clause-kept g c tells =
     let kept = c.requires.kept (subst (λ (x : g.row.D.Denot). IsSome (g.D.Device.model x).told) c.in-Ok.ensures.disk tells) in
-    let meta = kept.2.meta_is in
+    let meta = kept.2.memory.meta_is in
     (contents_of kept.0, (c.in-Ok.ensures.keeps kept.0 c.requires.new kept.1 (ap (λ (m : Meta). m.root) meta ∙ c.requires.one_page.0) (ap (λ (m : Meta). m.high) meta ∙ c.requires.one_page.1) (ap (λ (m : Meta). m.height) meta ∙ c.requires.one_page.2) kept.2).0)
 
 pub returns-in-Ok-clause-ends : goal.returns-in-Ok-clause-ends
@@ -58,8 +60,8 @@ returns-in-Ok-clause-ends g c left rest before after scheduled same_source =
     let kept : IsSome d.told → (s : FileState) × IsSound s × StoreKeeps d (seen_as store) s [] = λ t.
     let here = c.requires.kept (tells t) in
     (here.0, here.1, subst (λ (x : g.row.D.Denot). StoreKeeps (M x) (seen_as store) here.0 []) (sym c.in-Ok.ensures.disk) here.2) in
-    let ends = schedule_ends c.drive.result.end c.finish.result.status d e seen store.meta.k core ran c.args.script.steps (g.K.Sink.written c.drive.result.sink) (g.K.Sink.faults c.drive.result.sink) (record {
-      scheduled = subst (λ (ls : List Line). IsScheduled store.meta.k left rest ls c.args.script.steps) (sym lines) scheduled;
+    let ends = schedule_ends c.drive.result.end c.finish.result.status d e seen store.memory.meta.k core ran c.args.script.steps (g.K.Sink.written c.drive.result.sink) (g.K.Sink.faults c.drive.result.sink) (record {
+      scheduled = subst (λ (ls : List Line). IsScheduled store.memory.meta.k left rest ls c.args.script.steps) (sym lines) scheduled;
       served = subst (λ (ls : List Line). IsServedScript ls c.args.script.steps) (sym lines) c.requires.served;
       start = record {
         taken = ap (λ (x : CoreState). x.taken) c.in-Ok.ensures.seen;
@@ -69,10 +71,10 @@ returns-in-Ok-clause-ends g c left rest before after scheduled same_source =
       };
       opened = subst (λ (st : StoreState). IsNew st.turn st.meta st) (sym stored) c.requires.new;
       attributes = ap (λ (st : StoreState). st.meta.k) stored;
-      one_page = subst (λ (st : StoreState). IsOnePage st.meta) (sym stored) (one_page_of store.meta c.requires.one_page.1 c.requires.one_page.2);
+      one_page = subst (λ (st : StoreState). IsOnePage st.meta) (sym stored) (one_page_of store.memory.meta c.requires.one_page.1 c.requires.one_page.2);
       told = if_value d.told _ (λ b is.
           let from = c.requires.kept (tells (has_value d.told b is)) in
-          let meta = from.2.meta_is in
+          let meta = from.2.memory.meta_is in
           let here = kept (has_value d.told b is) in
           let even = even_store d (seen_as store) from.0 [] here.2 c.requires.new.running in
           let made = c.in-Ok.ensures.keeps from.0 c.requires.new from.1 (ap (λ (m : Meta). m.root) meta ∙ c.requires.one_page.0) (ap (λ (m : Meta). m.high) meta ∙ c.requires.one_page.1) (ap (λ (m : Meta). m.height) meta ∙ c.requires.one_page.2) from.2 in (
@@ -100,7 +102,7 @@ returns-in-Ok-clause-ends g c left rest before after scheduled same_source =
     let line = refused_on (λ k. g.K.Sink.written k) (λ k. g.K.Sink.faults k) c.args.sink c.drive.result.sink (g.K.Sink.written c.finish.result.sink) (g.K.Sink.faults c.finish.result.sink) (fault_line NoMemory) same.1
     (subst (λ (x : Status). GetsLine (g.K.Sink.written c.drive.result.sink) (g.K.Sink.written c.finish.result.sink) (g.K.Sink.faults c.drive.result.sink) (g.K.Sink.faults c.finish.result.sink) (fault_line x)) status c.finish.ensures.line) in
     let refused : IsRefused seen NoMemory = record { line = line; none_answered = same.2; none_ordered = ap (λ x. (core_seen x).order) same.0 ∙ ap (λ (x : CoreState). x.order) c.in-Ok.ensures.seen } in
-    away_on (λ x. g.D.Device.model (core_disk x)) store.meta.k d seen NoMemory c.in-Ok.core c.drive.result.core same.0 (turned_away d (seen_as store) seen NoMemory (g.met.D.Device.is_disk (core_disk c.in-Ok.core)) kept c.requires.new.running (c.requires.one_page.1, c.requires.one_page.2) refused (λ other. same_source)))
+    away_on (λ x. g.D.Device.model (core_disk x)) store.memory.meta.k d seen NoMemory c.in-Ok.core c.drive.result.core same.0 (turned_away d (seen_as store) seen NoMemory (g.met.D.Device.is_disk (core_disk c.in-Ok.core)) kept c.requires.new.running (c.requires.one_page.1, c.requires.one_page.2) refused (λ other. same_source)))
     c.finish.ensures.line in
     let at_start = subst (λ (x : g.row.D.Denot). OpenedEnds (M x) e seen c.finish.result.status) c.in-Ok.ensures.disk ends in
     let at_end = subst (λ (x : g.row.D.Denot). OpenedEnds (M (disk_of store)) (M x) seen c.finish.result.status) (sym c.finish.ensures.disk) at_start in
@@ -127,7 +129,7 @@ returns-clause-ends g c left rest before after scheduled same_source =
     let refused : IsRefused seen NoMemory = record { line = c.refused.ensures.line; none_answered = c.refused.ensures.answered; none_ordered = c.refused.ensures.order } in
     let back : c.refused.result.disk ≡ disk_of store = c.refused.ensures.disk ∙ c.into_disk.ensures ∙ ap (λ x. disk_of x) c.in-Err.ensures.back in
     subst (λ (x : Status). OpenedEnds d (M c.refused.result.disk) seen x) (sym c.refused.ensures.status)
-    (store.meta.k, away_on M store.meta.k d seen NoMemory (disk_of store) c.refused.result.disk back (turned_away d (seen_as store) seen NoMemory (g.met.D.Device.is_disk (disk_of store)) c.requires.kept c.requires.new.running (c.requires.one_page.1, c.requires.one_page.2) refused (λ other. same_source)))
+    (store.memory.meta.k, away_on M store.memory.meta.k d seen NoMemory (disk_of store) c.refused.result.disk back (turned_away d (seen_as store) seen NoMemory (g.met.D.Device.is_disk (disk_of store)) c.requires.kept c.requires.new.running (c.requires.one_page.1, c.requires.one_page.2) refused (λ other. same_source)))
 
 pub returns-in-Ok-clause-beyond : goal.returns-in-Ok-clause-beyond
 returns-in-Ok-clause-beyond g c =

@@ -2,8 +2,8 @@ use Rattle.std.proofs.Common.{ℕ, sym, ap, subst, ◌∙◌}
 use Rattle.hb_disk.specs.Model.{DiskModel}
 use Rattle.hb_layout.specs.declared.meta.Meta.{Meta}
 use Rattle.hb_store.specs.Seen.{seen_as, disk_of}
-use Rattle.hbpi.specs.Driven.{IsScheduled, NotScheduled}
-use Rattle.hbpi.specs.Ends.{Seen, IsRefused}
+use Rattle.hbpi.specs.Schedules.{IsScheduled, NotScheduled}
+use Rattle.hbpi.specs.SeenRuns.{Seen, IsRefused}
 use Rattle.hbpi.specs.Outcome.{GetsLine, fault_line}
 use Rattle.hbpi.specs.declared.statuses.Status.{Status}
 use Rattle.hbpi.proofs.ScheduleRuns.{turned_away, away_on, source_kept, not_scheduled_ends}
@@ -43,10 +43,10 @@ returns-in-Err-clause-ends g c =
     } in
     let why = subst (λ (n : ℕ). NotScheduled n seen.left seen.rest seen.source_before seen.source_after c.refused.result.status) k
     (subst (λ (x : Status). NotScheduled c.meta.result.now.k seen.left seen.rest seen.source_before seen.source_after x) (sym c.refused.ensures.status) c.in-Err.ensures.refused) in
-    not_scheduled_ends c.refused.result.status store.meta.k d (M c.refused.result.disk) seen why
-    (away_on M store.meta.k d seen c.refused.result.status (disk_of store) c.refused.result.disk (c.refused.ensures.disk ∙ c.into_disk.ensures)
+    not_scheduled_ends c.refused.result.status store.memory.meta.k d (M c.refused.result.disk) seen why
+    (away_on M store.memory.meta.k d seen c.refused.result.status (disk_of store) c.refused.result.disk (c.refused.ensures.disk ∙ c.into_disk.ensures)
     (turned_away d (seen_as store) seen c.refused.result.status (g.met.D.Device.is_disk (disk_of store)) c.requires.kept c.requires.new.running (c.requires.one_page.1, c.requires.one_page.2) refused
-    (source_kept c.refused.result.status store.meta.k seen.left seen.rest seen.source_before seen.source_after why)))
+    (source_kept c.refused.result.status store.memory.meta.k seen.left seen.rest seen.source_before seen.source_after why)))
 
 pub returns-in-Err-clause-beyond : goal.returns-in-Err-clause-beyond
 returns-in-Err-clause-beyond g c =

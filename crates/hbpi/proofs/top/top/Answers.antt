@@ -1,7 +1,9 @@
 use Rattle.std.proofs.Common.{◌∙◌, Option, Some, sym, ap, subst}
 use Rattle.hbpi.specs.declared.forms.Form.{Form}
 use Rattle.hbpi.specs.declared.forms.Form.TheVariants.{Create, Dry}
-use Rattle.hbpi.specs.Ends.{Seen, seen_by, IsComplete, IsMadeWhole, RefusesBadText, NamesBadLine}
+use Rattle.hbpi.specs.Ends.{IsComplete, RefusesBadText, NamesBadLine}
+use Rattle.hbpi.specs.SeenRuns.{seen_by}
+use Rattle.hbpi.specs.MadeEnds.{IsMadeWhole}
 use Rattle.hbpi.specs.Runs.{LeavesBeyond, RunEnds, disk_seen}
 use Rattle.hbpi.proofs.EndLaws.{ends_complete, ends_refuses, ends_names, ends_made, never_usage, never_unbuilt}
 use Rattle.hbpi.proofs.DriveGiven.{is_driven}
@@ -12,50 +14,20 @@ use Rattle.hbpi.proofs.top.top.Goals as goal
 
 pub returns-in-Some-Dry-clause-complete : goal.returns-in-Some-Dry-clause-complete
 returns-in-Some-Dry-clause-complete g c =
-    let seen : Seen = record {
-      left = g.S.Source.left c.args.source.now;
-      rest = g.S.Source.left c.dry.new.source;
-      source_before = g.S.Source.faults c.args.source.now;
-      source_after = g.S.Source.faults c.dry.new.source;
-      held = g.K.Sink.written c.args.sink;
-      holds = g.K.Sink.written c.dry.result.sink;
-      sink_before = g.K.Sink.faults c.args.sink;
-      sink_after = g.K.Sink.faults c.dry.result.sink;
-      answered = c.dry.result.answered.items;
-      order = c.dry.result.order.items;
-    } in
+    let seen = seen_by (g.S.Source.left c.args.source.now) (g.S.Source.left c.dry.new.source) (g.S.Source.faults c.args.source.now) (g.S.Source.faults c.dry.new.source)
+    (g.K.Sink.written c.args.sink) (g.K.Sink.written c.dry.result.sink) (g.K.Sink.faults c.args.sink) (g.K.Sink.faults c.dry.result.sink) c.dry.result.answered.items c.dry.result.order.items in
     subst (λ (form : Option Form). IsComplete form seen c.dry.result.status) (sym (ap Some c.in-Some-Dry.field-0-is) ∙ c.in-Some-Dry.ensures.form) (ends_complete (Some (Dry c.in-Some-Dry.k)) seen (g.D.Device.model c.args.disk) (g.D.Device.model c.dry.result.disk) c.dry.result.status c.dry.ensures.ends)
 
 pub returns-in-Some-Dry-clause-bad_text : goal.returns-in-Some-Dry-clause-bad_text
 returns-in-Some-Dry-clause-bad_text g c =
-    let seen : Seen = record {
-      left = g.S.Source.left c.args.source.now;
-      rest = g.S.Source.left c.dry.new.source;
-      source_before = g.S.Source.faults c.args.source.now;
-      source_after = g.S.Source.faults c.dry.new.source;
-      held = g.K.Sink.written c.args.sink;
-      holds = g.K.Sink.written c.dry.result.sink;
-      sink_before = g.K.Sink.faults c.args.sink;
-      sink_after = g.K.Sink.faults c.dry.result.sink;
-      answered = c.dry.result.answered.items;
-      order = c.dry.result.order.items;
-    } in
+    let seen = seen_by (g.S.Source.left c.args.source.now) (g.S.Source.left c.dry.new.source) (g.S.Source.faults c.args.source.now) (g.S.Source.faults c.dry.new.source)
+    (g.K.Sink.written c.args.sink) (g.K.Sink.written c.dry.result.sink) (g.K.Sink.faults c.args.sink) (g.K.Sink.faults c.dry.result.sink) c.dry.result.answered.items c.dry.result.order.items in
     subst (λ (form : Option Form). RefusesBadText form seen c.dry.result.status) (sym (ap Some c.in-Some-Dry.field-0-is) ∙ c.in-Some-Dry.ensures.form) (ends_refuses (Some (Dry c.in-Some-Dry.k)) seen (g.D.Device.model c.args.disk) (g.D.Device.model c.dry.result.disk) c.dry.result.status c.dry.ensures.ends)
 
 pub returns-in-Some-Dry-clause-named : goal.returns-in-Some-Dry-clause-named
 returns-in-Some-Dry-clause-named g c =
-    let seen : Seen = record {
-      left = g.S.Source.left c.args.source.now;
-      rest = g.S.Source.left c.dry.new.source;
-      source_before = g.S.Source.faults c.args.source.now;
-      source_after = g.S.Source.faults c.dry.new.source;
-      held = g.K.Sink.written c.args.sink;
-      holds = g.K.Sink.written c.dry.result.sink;
-      sink_before = g.K.Sink.faults c.args.sink;
-      sink_after = g.K.Sink.faults c.dry.result.sink;
-      answered = c.dry.result.answered.items;
-      order = c.dry.result.order.items;
-    } in
+    let seen = seen_by (g.S.Source.left c.args.source.now) (g.S.Source.left c.dry.new.source) (g.S.Source.faults c.args.source.now) (g.S.Source.faults c.dry.new.source)
+    (g.K.Sink.written c.args.sink) (g.K.Sink.written c.dry.result.sink) (g.K.Sink.faults c.args.sink) (g.K.Sink.faults c.dry.result.sink) c.dry.result.answered.items c.dry.result.order.items in
     subst (λ (form : Option Form). NamesBadLine form seen c.dry.result.status) (sym (ap Some c.in-Some-Dry.field-0-is) ∙ c.in-Some-Dry.ensures.form) (ends_names (Some (Dry c.in-Some-Dry.k)) seen (g.D.Device.model c.args.disk) (g.D.Device.model c.dry.result.disk) c.dry.result.status c.dry.ensures.ends)
 
 pub returns-in-Some-Drive-clause-promise : goal.returns-in-Some-Drive-clause-promise

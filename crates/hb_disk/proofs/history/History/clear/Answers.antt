@@ -5,7 +5,7 @@ use Rattle.std.proofs.lemmas.List.{length-replicate, with_items_is}
 use Rattle.std.proofs.lemmas.List.Elements.{All-replicate, All-same}
 use Rattle.hb_disk.specs.Model.{last_value}
 use Rattle.hb_disk.specs.Events.{AreKept}
-use Rattle.hb_disk.specs.TornLaws.{All-overwritten, length-overwritten}
+use Rattle.hb_disk.specs.OverwrittenLaws.{All-overwritten, length-overwritten}
 use Rattle.hb_disk.proofs.history.History.clear.Goals as goal
 
 fits : (c : goal.After-self-1) → c.args.at + length {A = ℕ} (replicate c.args.len 0) ≤ length c.deref_mut.result.now

@@ -1,6 +1,6 @@
 use Rattle.std.proofs.Common.{◌≡◌, take, drop, rules}
-use Rattle.hb_disk.specs.RunLaws.{on_ok_weaker}
-use Rattle.hb_disk.specs.Events.{Notes, IsOver}
+use Rattle.hb_disk.specs.ValueLaws.{on_ok_weaker}
+use Rattle.hb_disk.specs.NotedCalls.{Notes, IsOver}
 use Rattle.hb_disk.specs.declared.event.Change.TheVariants.{Wrote}
 use Rattle.hb_disk.proofs.Histories.{Notes-weaker}
 use Rattle.hb_disk.proofs.history.History.keep.Goals as goal

@@ -1,6 +1,6 @@
 use Rattle.std.proofs.Common.{ap, ◌∙◌, sym, subst, length}
 use Rattle.hb_disk.specs.Model.{overwritten}
-use Rattle.hb_disk.specs.Events.{Notes, IsOver}
+use Rattle.hb_disk.specs.NotedCalls.{Notes, IsOver}
 use Rattle.hb_disk.proofs.Histories.{left_by, write_refused, write_kept, ticks_kept}
 use Rattle.hb_disk.proofs.history.History.write.Goals as goal
 

@@ -1,7 +1,7 @@
 use Rattle.std.proofs.Common.{ap, ◌∙◌, sym, subst, length, replicate, ◌+◌, ◌≤◌, ◌⊎◌, ◌≡◌}
 use Rattle.std.proofs.lemmas.List.{length-replicate}
 use Rattle.hb_disk.specs.Model.{overwritten}
-use Rattle.hb_disk.specs.Events.{Notes, IsOver}
+use Rattle.hb_disk.specs.NotedCalls.{Notes, IsOver}
 use Rattle.hb_disk.specs.declared.event.Change.TheVariants.{Tried}
 use Rattle.hb_disk.proofs.Histories.{left_by, write_refused, write_kept, ticks_kept}
 use Rattle.hb_disk.proofs.history.History.zero.Goals as goal

@@ -1,7 +1,7 @@
 use Rattle.std.proofs.Common.{◌↔◌, ℕ, List, IsTrue, subst, refl}
 use Rattle.std.specs.List.{Contains}
-use Rattle.hb_disk.specs.Events.{Notes, IsSync}
-use Rattle.hb_disk.specs.MemDisk.{seen_as, HasSameRecord}
+use Rattle.hb_disk.specs.NotedCalls.{Notes, IsSync}
+use Rattle.hb_disk.specs.MemDisk.{mem_disk_seen, HasSameRecord}
 use Rattle.hb_disk.specs.declared.mem_disk.MemDisk.{MemDisk}
 use Rattle.hb_disk.proofs.MemDisks.{told_syncs, told_ticks, told_faults, told_on_ok, called_exactly, on_err}
 use Rattle.hb_disk.proofs.mem_disk.MemDiskDevice.sync.Goals as goal
@@ -20,17 +20,17 @@ new_of c = record {
 
 pub returns-clause-syncs : goal.returns-clause-syncs
 returns-clause-syncs c =
-    told_syncs c.sync-done.result c.answer.result (seen_as c.args.self.now) (seen_as (new_of c)) c.answer.ensures.alike
+    told_syncs c.sync-done.result c.answer.result (mem_disk_seen c.args.self.now) (mem_disk_seen (new_of c)) c.answer.ensures.alike
     (c.sync-done.ensures.syncs c.args.self.now.read_faults c.args.self.now.write_faults c.args.self.now.read_faults c.answer.new.faults)
 
 pub returns-clause-ticks : goal.returns-clause-ticks
 returns-clause-ticks c =
-    told_ticks c.sync-done.result c.answer.result (seen_as c.args.self.now) (seen_as (new_of c)) c.answer.ensures.alike
+    told_ticks c.sync-done.result c.answer.result (mem_disk_seen c.args.self.now) (mem_disk_seen (new_of c)) c.answer.ensures.alike
     (c.sync-done.ensures.ticks c.args.self.now.read_faults c.args.self.now.write_faults c.args.self.now.read_faults c.answer.new.faults)
 
 pub returns-clause-faults : goal.returns-clause-faults
 returns-clause-faults c =
-    told_faults c.sync-done.result c.answer.result (seen_as c.args.self.now) (seen_as (new_of c)) c.answer.ensures.alike c.answer.ensures.faults c.answer.ensures.later refl
+    told_faults c.sync-done.result c.answer.result (mem_disk_seen c.args.self.now) (mem_disk_seen (new_of c)) c.answer.ensures.alike c.answer.ensures.faults c.answer.ensures.later refl
 
 pub returns-clause-exact : goal.returns-clause-exact
 returns-clause-exact c =

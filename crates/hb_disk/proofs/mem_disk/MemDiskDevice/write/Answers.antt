@@ -1,7 +1,7 @@
 use Rattle.std.proofs.Common.{◌↔◌, length, ℕ, List, IsTrue, subst, refl}
 use Rattle.std.specs.List.{Contains}
-use Rattle.hb_disk.specs.Events.{Notes, IsOver, IsTry}
-use Rattle.hb_disk.specs.MemDisk.{seen_as, Records}
+use Rattle.hb_disk.specs.NotedCalls.{Notes, IsOver, IsTry}
+use Rattle.hb_disk.specs.MemDisk.{mem_disk_seen, Records}
 use Rattle.hb_disk.specs.declared.mem_disk.MemDisk.{MemDisk}
 use Rattle.hb_disk.proofs.MemDisks.{told_writes, told_ticks, told_faults, told_on_ok, called_exactly}
 use Rattle.hb_disk.proofs.mem_disk.MemDiskDevice.write.Goals as goal
@@ -20,17 +20,17 @@ new_of c = record {
 
 pub returns-clause-writes : goal.returns-clause-writes
 returns-clause-writes c =
-    told_writes c.write-done.result c.answer.result c.args.at c.args.from.now (seen_as c.args.self.now) (seen_as (new_of c)) c.answer.ensures.alike
+    told_writes c.write-done.result c.answer.result c.args.at c.args.from.now (mem_disk_seen c.args.self.now) (mem_disk_seen (new_of c)) c.answer.ensures.alike
     (c.write-done.ensures.writes c.args.self.now.read_faults c.args.self.now.write_faults c.args.self.now.read_faults c.answer.new.faults)
 
 pub returns-clause-ticks : goal.returns-clause-ticks
 returns-clause-ticks c =
-    told_ticks c.write-done.result c.answer.result (seen_as c.args.self.now) (seen_as (new_of c)) c.answer.ensures.alike
+    told_ticks c.write-done.result c.answer.result (mem_disk_seen c.args.self.now) (mem_disk_seen (new_of c)) c.answer.ensures.alike
     (c.write-done.ensures.ticks c.args.self.now.read_faults c.args.self.now.write_faults c.args.self.now.read_faults c.answer.new.faults)
 
 pub returns-clause-faults : goal.returns-clause-faults
 returns-clause-faults c =
-    told_faults c.write-done.result c.answer.result (seen_as c.args.self.now) (seen_as (new_of c)) c.answer.ensures.alike c.answer.ensures.faults c.answer.ensures.later refl
+    told_faults c.write-done.result c.answer.result (mem_disk_seen c.args.self.now) (mem_disk_seen (new_of c)) c.answer.ensures.alike c.answer.ensures.faults c.answer.ensures.later refl
 
 pub returns-clause-exact : goal.returns-clause-exact
 returns-clause-exact c =

@@ -1,6 +1,6 @@
 use Rattle.std.proofs.Common.{◌≡◌, ◌∙◌, ap, not, insert}
 use Rattle.std.proofs.lemmas.Bool.{cond-true}
-use Rattle.hb_set.specs.Kept.{IsGapFor}
+use Rattle.hb_set.specs.Kept.{IsHandleGapFor}
 use Rattle.hb_set.proofs.Views.{get_gap, rise_insert, insert_there, insert_done}
 use Rattle.hb_set.proofs.set.Set.insert.Goals as goal
 
@@ -18,7 +18,7 @@ returns-then-is_err-clause-memory c _ = rw (← c.self.view_is) (get_gap _ _ _ c
 same_record : (c : goal.Else-is_err) → c.in-Ok-new.handle.value ≡ c.args.added.now
 same_record c = c.in-Ok-new.ensures.ok ∙ c.copy.ensures
 
-in_gap : (c : goal.Else-is_err) → IsGapFor c.self.inside.records.items c.in-Ok-new.handle.value.key c.in-Err.place
+in_gap : (c : goal.Else-is_err) → IsHandleGapFor c.self.inside.records.items c.in-Ok-new.handle.value.key c.in-Err.place
 in_gap c = rw (same_record c, ← c.deref.ensures.value) c.in-Err.ensures.absent
 
 added : (c : goal.Else-is_err) → c.insert.new.self.items ≡ insert c.self.inside.records.items c.in-Err.place c.in-Ok-new.handle

@@ -11,7 +11,7 @@ pub returns-then-is_idle-clause-keeps_forced : goal.returns-then-is_idle-clause-
 returns-then-is_idle-clause-keeps_forced g c = λ durable later keeps.
     let d = g.D.Device.model c.args.self.now.disk in
     let st = seen_as c.args.self.now in
-    let none : c.args.self.now.log.groups ≡ [] = search rules in
+    let none : c.args.self.now.memory.log.groups ≡ [] = search rules in
     let alone : later ≡ [] = StoreKeeps-alone d st durable later keeps none in
     let Before : List FileState → Type 0 = λ l. StoreKeeps d st durable l in
     let K : List FileState → Type 0 = λ l. StoreKeeps d st (durable_after durable l) (later_after l) in

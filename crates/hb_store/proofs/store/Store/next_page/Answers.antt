@@ -1,6 +1,12 @@
-use Rattle.std.proofs.Common.{◌≢◌, arith}
+use Rattle.std.proofs.Common.{◌≡◌, ◌≢◌, ℕ, ap, sym, subst, ◌∙◌, arith}
 use Rattle.std.proofs.lemmas.Result.{err_from_is_err_and}
 use Rattle.hb_frag.specs.declared.pages.Page.TheVariants.{Free}
+use Rattle.hb_layout.specs.declared.meta.Meta.{Meta}
+use Rattle.hb_ops.specs.Allocating.{Allocates}
+use Rattle.hb_ops.specs.Files.{page_of}
+use Rattle.hb_store.specs.Keeps.{last_of}
+use Rattle.hb_store.specs.NextPage.{MayFetch}
+use Rattle.hb_store.specs.States.{in_memory}
 use Rattle.hb_store.specs.Seen.{seen_as}
 use Rattle.hb_store.proofs.Heads.{head_allocates, head_free, room_behind}
 use Rattle.hb_store.proofs.store.Store.next_page.Goals as goal
@@ -8,27 +14,35 @@ use Rattle.hb_store.proofs.store.Store.next_page.Goals as goal
 pub returns-in_err-next-clause-sound : goal.returns-in_err-next-clause-sound
 returns-in_err-next-clause-sound g c =
     let self = c.args.self.now in
-    let some : self.meta.free ≢ 0 = omega (arith, c.if-head-ne0.true) in
+    let head_is : c.meta-meta.result.now.free ≡ self.memory.meta.free = ap (λ (m : Meta). m.free) c.meta-meta.ensures.meta in
+    let some : self.memory.meta.free ≢ 0 = omega (arith, c.if-meta-ne0.true, head_is) in
     let p = err_from_is_err_and c.from_residual.result c.from_residual.ensures.1 in
     λ durable later keeps sound. rw (p.1, p.2) (λ fault memory.
     let free = head_free (g.D.Device.model self.disk) (seen_as self) durable later keeps sound some in
-    c.in_err-next.ensures.sound durable later keeps sound free.0 free.1 fault memory)
+    c.in_err-next.ensures.sound durable later keeps sound free.0 (ap (page_of (last_of durable later)) head_is ∙ free.1) fault memory)
 
-pub returns-then-head-ne0-clause-allocates : goal.returns-then-head-ne0-clause-allocates
-returns-then-head-ne0-clause-allocates g c =
+pub returns-then-meta-ne0-clause-allocates : goal.returns-then-meta-ne0-clause-allocates
+returns-then-meta-ne0-clause-allocates g c =
     let self = c.args.self.now in
     let new = c.free_head.new.self in
-    let some : self.meta.free ≢ 0 = omega (arith, c.if-head-ne0.true) in
-    let few : self.meta.live ≢ self.meta.pages = omega (arith, c.if-self.false) in
-    head_allocates (g.D.Device.model new.disk).size (seen_as self) (seen_as new) c.in_ok-next.next new.is_store c.free_head.ensures.fetches few some c.in_ok-next.ensures.named
+    let same = c.meta-meta.ensures.meta in
+    let head_is : c.meta-meta.result.now.free ≡ self.memory.meta.free = ap (λ (m : Meta). m.free) same in
+    let some : self.memory.meta.free ≢ 0 = omega (arith, c.if-meta-ne0.true, head_is) in
+    let few : self.memory.meta.live ≢ self.memory.meta.pages = omega (arith, c.if-meta.false, ap (λ (m : Meta). m.live) same, ap (λ (m : Meta). m.pages) same) in
+    let fetches : MayFetch self.memory.meta.free (seen_as self) (seen_as new) = subst (λ (id : ℕ). MayFetch id (seen_as self) (seen_as new)) head_is c.free_head.ensures.fetches in
+    subst (λ (id : ℕ). Allocates new.memory.meta id c.in_ok-next.next) (sym head_is)
+    (head_allocates (seen_as self) (seen_as new) c.in_ok-next.next c.in_ok-next.ensures.memory fetches few some (ap (in_memory (seen_as new)) (sym head_is) ∙ c.in_ok-next.ensures.named))
 
-pub returns-then-head-ne0-clause-names : goal.returns-then-head-ne0-clause-names
-returns-then-head-ne0-clause-names g c =
-    λ durable later keeps some. (c.free_head.ensures.keeps durable later keeps).framed c.args.self.now.meta.free (Free c.in_ok-next.next) c.in_ok-next.ensures.named
+pub returns-then-meta-ne0-clause-names : goal.returns-then-meta-ne0-clause-names
+returns-then-meta-ne0-clause-names g c =
+    λ durable later keeps some. (c.free_head.ensures.keeps durable later keeps).memory.cached c.meta-meta.result.now.free (Free c.in_ok-next.next) c.in_ok-next.ensures.named
 
-pub returns-then-self-2-clause-sound : goal.returns-then-self-2-clause-sound
-returns-then-self-2-clause-sound g c =
+pub returns-then-meta-2-clause-sound : goal.returns-then-meta-2-clause-sound
+returns-then-meta-2-clause-sound g c =
     let self = c.args.self.now in
+    let same = c.meta-meta.ensures.meta in
     λ durable later keeps sound fault memory.
-    let full = room_behind (g.D.Device.model self.disk) (seen_as self) durable later keeps sound (omega (arith, c.if-head-ne0.false)) (omega (arith, c.if-self-2.true)) in
-    absurd (omega (arith, c.if-self.false, full))
+    let none : self.memory.meta.free ≡ 0 = omega (arith, c.if-meta-ne0.false, ap (λ (m : Meta). m.free) same) in
+    let high : self.memory.meta.high ≡ self.memory.meta.pages = omega (arith, c.if-meta-2.true, ap (λ (m : Meta). m.high) same, ap (λ (m : Meta). m.pages) same) in
+    let full = room_behind (g.D.Device.model self.disk) (seen_as self) durable later keeps sound none high in
+    absurd (omega (arith, c.if-meta.false, full, ap (λ (m : Meta). m.live) same, ap (λ (m : Meta). m.pages) same))

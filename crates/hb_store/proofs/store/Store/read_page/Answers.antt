@@ -1,19 +1,27 @@
-use Rattle.std.proofs.Common.{◌≡◌}
-use Rattle.std.specs.Prelude.{IfSome}
+use Rattle.std.proofs.Common.{◌≡◌, ◌∙◌, ap, subst}
+use Rattle.std.specs.Prelude.{IfErr, IfSome}
+use Rattle.hb_layout.specs.Offsets.{page_offset}
+use Rattle.hb_layout.specs.declared.meta.Meta.{Meta}
+use Rattle.hb_store.specs.Fetching.{HoldsNot}
 use Rattle.hb_store.specs.Opening.{place_bytes}
 use Rattle.hb_store.proofs.Fetched.{placed_read, read_there, read_not}
 use Rattle.hb_store.proofs.store.Store.read_page.Goals as goal
 
 pub returns-in-Ok-clause-there : goal.returns-in-Ok-clause-there
 returns-in-Ok-clause-there g c =
-    let told = (g.D.Device.model c.args.self.now.disk).told in
-    let place = place_bytes c.args.self.now.meta c.args.id in
-    let read : IfSome told (λ b. c.read.new.into ≡ place b) = placed_read (g.D.Device.model c.args.self.now.disk) c.page_offset-place.result c.read.new.into c.args.self.now.meta c.args.id c.in-Ok.ensures.bytes c.read.auto.into c.page_offset-place.ensures in
-    read_there c.page_in.result told c.read.new.into place c.page_in.ensures.there read
+    let d = g.D.Device.model c.args.self.now.disk in
+    let meta = c.args.self.now.memory.meta in
+    let place = place_bytes meta c.args.id in
+    let at : c.page_offset-place.result ≡ page_offset meta c.args.id = c.page_offset-place.ensures ∙ ap (λ (m : Meta). page_offset m c.args.id) c.meta.ensures.meta in
+    let read : IfSome d.told (λ b. c.read.new.into ≡ place b) = placed_read d c.page_offset-place.result c.read.new.into meta c.args.id c.in-Ok.ensures.bytes c.read.auto.into at in
+    read_there c.page_in.result d.told c.read.new.into place c.page_in.ensures.there read
 
 pub returns-in-Ok-clause-why : goal.returns-in-Ok-clause-why
 returns-in-Ok-clause-why g c =
-    let told = (g.D.Device.model c.args.self.now.disk).told in
-    let place = place_bytes c.args.self.now.meta c.args.id in
-    let read : IfSome told (λ b. c.read.new.into ≡ place b) = placed_read (g.D.Device.model c.args.self.now.disk) c.page_offset-place.result c.read.new.into c.args.self.now.meta c.args.id c.in-Ok.ensures.bytes c.read.auto.into c.page_offset-place.ensures in
-    read_not c.page_in.result told c.read.new.into place c.args.self.now.meta c.args.id c.page_in.ensures.why read
+    let d = g.D.Device.model c.args.self.now.disk in
+    let meta = c.args.self.now.memory.meta in
+    let place = place_bytes meta c.args.id in
+    let at : c.page_offset-place.result ≡ page_offset meta c.args.id = c.page_offset-place.ensures ∙ ap (λ (m : Meta). page_offset m c.args.id) c.meta.ensures.meta in
+    let read : IfSome d.told (λ b. c.read.new.into ≡ place b) = placed_read d c.page_offset-place.result c.read.new.into meta c.args.id c.in-Ok.ensures.bytes c.read.auto.into at in
+    let why : IfErr c.page_in.result (HoldsNot meta c.read.new.into c.args.id) = subst (λ (m : Meta). IfErr c.page_in.result (HoldsNot m c.read.new.into c.args.id)) c.meta-in-Ok.ensures.meta c.page_in.ensures.why in
+    read_not c.page_in.result d.told c.read.new.into place meta c.args.id why read

@@ -3,20 +3,20 @@ use Rattle.std.proofs.lemmas.Bool.{cond-true}
 use Rattle.hb_outside.specs.Numbers.{big_endian}
 use Rattle.hb_wal.specs.declared.groups.Group.{Group}
 use Rattle.hb_wal.specs.Log.{LogState, pending_bytes}
-use Rattle.hb_wal.specs.Kept.{seen_as, total_of}
+use Rattle.hb_wal.specs.Kept.{log_seen, total_of}
 use Rattle.hb_wal.proofs.Kept.{pending-seen, count_fits, seen-push, log-push, joined_rest, joined_length, joined_first, first_length, no_groups, some_groups}
 use Rattle.hb_wal.proofs.log.Wal.append.Goals as goal
 
 pub unwrap-requires : goal.unwrap-requires
 unwrap-requires c =
-    let same : pending_bytes (seen_as c.self.inside).groups ≡ pending_bytes c.args.self.now.groups = ap (λ (s : LogState). pending_bytes s.groups) c.self.view_is in
+    let same : pending_bytes (log_seen c.self.inside).groups ≡ pending_bytes c.args.self.now.groups = ap (λ (s : LogState). pending_bytes s.groups) c.self.view_is in
     let total = pending-seen c.self.inside c.self.invariant in
     let count = first_length c.self.inside c.self.invariant (length c.args.group.now) c.is_empty.result c.set_first_length.new.bytes.items c.set_first_length.ensures.items in
     c.extend_from_slice.ensures.succeeds (omega (arith, count, c.set_first_length.new.bytes.ok.0, c.set_first_length.ensures.capacity, c.self.invariant.bytes_len, c.self.invariant.bytes_room, total, same, c.requires.reserved))
 
 pub unwrap-requires-2 : goal.unwrap-requires-2
 unwrap-requires-2 c =
-    let same : pending_bytes (seen_as c.self.inside).groups ≡ pending_bytes c.args.self.now.groups = ap (λ (s : LogState). pending_bytes s.groups) c.self.view_is in
+    let same : pending_bytes (log_seen c.self.inside).groups ≡ pending_bytes c.args.self.now.groups = ap (λ (s : LogState). pending_bytes s.groups) c.self.view_is in
     let total = pending-seen c.self.inside c.self.invariant in
     c.push.ensures.succeeds (omega (arith, c.self.inside.groups.ok.0, c.self.invariant.groups_room, count_fits c.self.inside c.self.invariant, total, same, c.requires.reserved, c.requires.some))
 
@@ -36,7 +36,7 @@ module _ (c : goal.After-unwrap-2) where
   not_first : c.is_empty.result ≡ false → c.self.inside.groups.items ≡ [] → ⊥
   not_first e = some_groups _ c.self.inside.groups.items c.self.inside.groups.ok.0 (sym c.is_empty.ensures ∙ e)
 
-  seen_after : seen_as (record { area = c.self.inside.area; len = c.self.inside.len; written = c.self.inside.written; bytes = c.extend_from_slice.new.self; groups = c.push.new.self })
+  seen_after : log_seen (record { area = c.self.inside.area; len = c.self.inside.len; written = c.self.inside.written; bytes = c.extend_from_slice.new.self; groups = c.push.new.self })
       ≡ record { area = c.args.self.now.area; len = c.args.self.now.len; written = c.args.self.now.written; groups = c.args.self.now.groups ++ record { bytes = c.args.group.now; mark = c.args.mark } ∷ [] }
   seen_after =
       let behind = joined_rest c.self.inside c.self.invariant c.args.group.now joining refl c.is_empty.result is_first not_first c.extend_from_slice.new.self.items bytes_after in

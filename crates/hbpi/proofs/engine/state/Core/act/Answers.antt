@@ -8,12 +8,12 @@ use Rattle.hbpi.proofs.engine.state.Core.act.Goals as goal
 
 pub take_effect-requires-clause-short : goal.take_effect-requires-clause-short
 take_effect-requires-clause-short g c =
-    let short = script_is_short c.args.self.now.store.meta.k c.args.self.now.lines.items c.requires.script in
+    let short = script_is_short c.args.self.now.store.memory.meta.k c.args.self.now.lines.items c.requires.script in
     omega (arith, short, c.requires.whole.few, c.requires.whole.walking c.requires.walking)
 
 pub change-requires-clause-short : goal.change-requires-clause-short
 change-requires-clause-short g c =
-    let short = script_is_short c.args.self.now.store.meta.k c.args.self.now.lines.items c.requires.script in
+    let short = script_is_short c.args.self.now.store.memory.meta.k c.args.self.now.lines.items c.requires.script in
     omega (arith, short, c.requires.whole.few, c.requires.whole.walking c.requires.walking)
 
 pub change-requires-clause-ready : goal.change-requires-clause-ready

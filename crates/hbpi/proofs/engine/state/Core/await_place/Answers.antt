@@ -12,7 +12,7 @@ use Rattle.hbpi.proofs.engine.state.Core.await_place.Goals as goal
 
 pub overflow_cast-len : goal.overflow_cast-len
 overflow_cast-len g c =
-    let short = script_is_short c.args.self.now.store.meta.k c.args.self.now.lines.items c.requires.script in
+    let short = script_is_short c.args.self.now.store.memory.meta.k c.args.self.now.lines.items c.requires.script in
     omega (arith, short, c.requires.whole.few, c.requires.whole.short, c.len.ensures, c.args.self.now.order.ok.0)
 
 pub returns-then-place-settled-clause-keeps : goal.returns-then-place-settled-clause-keeps
@@ -24,7 +24,7 @@ returns-then-place-settled-clause-keeps g c =
     c.answer_kept.result (core_seen c.answer_kept.new.self) answers.0 answers.1 answers.2
     (let at : answers.1 ≡ c.args.place = same_place c.args.place answers.1 c.args.self.now.session answers.0 c.requires.awaits answers.2 in
     let long : c.len.result ≡ length c.args.self.now.order.items = omega (arith, c.len.ensures, c.args.self.now.order.ok.0) in
-    let settled : c.settled.result ≡ settled_of (core_seen c.args.self.now) = c.settled.ensures.mark ∙ ap (mark_of c.args.self.now.store.log.groups) long in
+    let settled : c.settled.result ≡ settled_of (core_seen c.args.self.now) = c.settled.ensures.mark ∙ ap (mark_of c.args.self.now.store.memory.log.groups) long in
     omega (arith, at, settled, c.if-place-settled.true)) answers.3)
 
 pub returns-clause-keeps : goal.returns-clause-keeps
@@ -32,7 +32,7 @@ returns-clause-keeps g c =
     awaiting_forces (g.D.Device.model (core_disk c.args.self.now)) (g.D.Device.model (core_disk c.force.new.self)) (core_seen c.args.self.now) c.requires.going c.requires.whole c.force.result (core_seen c.force.new.self)
     c.args.place c.requires.awaits
     (let long : c.len.result ≡ length c.args.self.now.order.items = omega (arith, c.len.ensures, c.args.self.now.order.ok.0) in
-    let settled : c.settled.result ≡ settled_of (core_seen c.args.self.now) = c.settled.ensures.mark ∙ ap (mark_of c.args.self.now.store.log.groups) long in
+    let settled : c.settled.result ≡ settled_of (core_seen c.args.self.now) = c.settled.ensures.mark ∙ ap (mark_of c.args.self.now.store.memory.log.groups) long in
     omega (arith, settled, c.if-place-settled.false))
     c.force.ensures
 

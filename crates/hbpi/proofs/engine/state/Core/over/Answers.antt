@@ -4,4 +4,4 @@ use Rattle.hbpi.proofs.engine.state.Core.over.Goals as goal
 
 pub returns-in-Ok-clause-keeps : goal.returns-in-Ok-clause-keeps
 returns-in-Ok-clause-keeps g c = λ s new sound root high height keeps.
-    new_keeps (g.D.Device.model (disk_of c.args.store)) c.args.lines.items c.in-Ok.order.items c.args.store.turn c.args.store.meta (seen_as c.args.store) s c.in-Ok.ensures.items new sound root high height keeps
+    new_keeps (g.D.Device.model (disk_of c.args.store)) c.args.lines.items c.in-Ok.order.items c.args.store.memory.turn c.args.store.memory.meta (seen_as c.args.store) s c.in-Ok.ensures.items new sound root high height keeps

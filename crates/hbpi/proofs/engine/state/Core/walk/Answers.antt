@@ -1,13 +1,16 @@
-use Rattle.std.proofs.Common.{ℕ, ap, sym, subst}
+use Rattle.std.proofs.Common.{◌≡◌, ℕ, ap, sym, subst}
 use Rattle.hb_layout.specs.declared.meta.Meta.{Meta}
 use Rattle.hb_store.specs.Calls.{Fetched}
-use Rattle.hb_store.specs.Keeps.{StoreKeeps, StoreState}
+use Rattle.hb_store.specs.States.{StoreState, in_memory}
+use Rattle.hb_store.specs.Keeps.{StoreKeeps}
 use Rattle.hb_store.specs.Seen.{seen_as}
+use Rattle.hb_store.specs.declared.stops.FetchStop.TheVariants.{ReadFault}
 use Rattle.hbpi.specs.CoreSeen.{core_seen, core_disk}
 use Rattle.hbpi.specs.Plans.{Acts}
 use Rattle.hbpi.specs.Steps.{GivesUp, KeepsAt, StepsSafely, with_store}
 use Rattle.hbpi.proofs.RefusedSteps.{gave_up_keeps, is_a_page, not_framed}
 use Rattle.hbpi.proofs.WalkSafe.{acts_safe}
+use Rattle.hbpi.proofs.GaveUp.{gave_up_safe}
 use Rattle.hbpi.proofs.WalkSteps.{acts_keeps}
 use Rattle.hbpi.specs.Beyond.{StaysInLog}
 use Rattle.hbpi.proofs.InLog.{acts_in_log, gave_up_in_log}
@@ -51,7 +54,7 @@ returns-in-Err-clause-keeps g c =
     subst P (sym c.give_up.ensures.disk)
     (gave_up_keeps d (g.met.D.Device.is_disk (core_disk c.args.self.now)) old c.requires.going c.requires.walking m c.in-Err.ensures.only_reads c.give_up.result (core_seen c.give_up.new.self) c.in-Err.stop
     (subst G c.in-Err.ensures.kept c.give_up.ensures.gives_up) (c.must_wait.ensures.goes c.if-must_wait.false)
-    (not_framed (seen_as c.args.self.now.store).frame c.meta.result.now.root (seen_as c.args.self.now.store).meta.root root (λ some. cc (c.in-Err.ensures.in_frame some).0))
+    (not_framed (in_memory (seen_as c.args.self.now.store)) c.meta.result.now.root (seen_as c.args.self.now.store).meta.root root (λ some. cc (c.in-Err.ensures.there some).0))
     (λ durable later keeps. let S : StoreState → Type 0 = λ st. StoreKeeps (g.D.Device.model c.fetch.new.self.disk) st durable later in subst S c.in-Err.ensures.kept (c.in-Err.ensures.keeps durable later keeps))
     (λ n done kept fault memory. is_a_page (seen_as c.args.self.now.store).meta c.meta.result.now.root root c.requires.whole.one_page (c.in-Err.ensures.sound kept.durable kept.later kept.keeps kept.sound fault memory)))
 
@@ -71,3 +74,17 @@ returns-in-Err-clause-in_log g c =
     subst P (sym c.give_up.ensures.disk)
     (gave_up_in_log (g.D.Device.model (core_disk c.args.self.now)) (g.D.Device.model c.fetch.new.self.disk) (g.met.D.Device.is_disk (core_disk c.args.self.now)) c.in-Err.ensures.only_reads (core_seen c.args.self.now)
     c.in-Err.stop c.give_up.result (core_seen c.give_up.new.self) (subst G c.in-Err.ensures.kept c.give_up.ensures.gives_up))
+
+pub returns-in-Err-clause-safe : goal.returns-in-Err-clause-safe
+returns-in-Err-clause-safe g c =
+    let old = core_seen c.args.self.now in
+    let d = g.D.Device.model (core_disk c.args.self.now) in
+    let m = g.D.Device.model c.fetch.new.self.disk in
+    let root = ap (λ (x : Meta). x.root) c.meta.ensures.meta in
+    let P : g.row.D.Denot → Type 0 = λ x. StepsSafely (g.D.Device.model (core_disk c.args.self.now)) (core_seen c.args.self.now) c.give_up.result (g.D.Device.model x) (core_seen c.give_up.new.self) in
+    let G : StoreState → Type 0 = λ st. GivesUp c.in-Err.stop (with_store st (core_seen c.args.self.now)) c.give_up.result (core_seen c.give_up.new.self) in
+    subst P (sym c.give_up.ensures.disk)
+    (gave_up_safe d m c.in-Err.ensures.only_reads old c.requires.going c.requires.walking c.requires.whole c.meta.result.now.root root
+    (not_framed (in_memory (seen_as c.args.self.now.store)) c.meta.result.now.root (seen_as c.args.self.now.store).meta.root root (λ some. cc (c.in-Err.ensures.there some).0))
+    c.in-Err.stop c.in-Err.ensures.why (λ is. c.in-Err.ensures.cause (cc is)) (λ other. c.in-Err.ensures.no_fault (λ is. other (let both : c.in-Err.stop ≡ ReadFault = cc is in both)))
+    c.give_up.result (core_seen c.give_up.new.self) (subst G c.in-Err.ensures.kept c.give_up.ensures.gives_up))

@@ -1,0 +1,70 @@
+-- What an allowed operation makes of the pages in memory is good for the file afterwards.
+use Rattle.std.proofs.Common.{◌≡◌, inl, inr, ℕ, ◌+◌, ◌≤◌, ◌==◌, Bool, cond, List, [], ◌∷◌, get_or, All, Option, Some, sym, ap, ◌∙◌, subst, arith}
+use Rattle.std.proofs.lemmas.Bool.{cases_Bool, eqb-true}
+use Rattle.std.proofs.lemmas.List.Elements.{All-head, All-tail}
+use Rattle.hb_frag.specs.declared.pages.LivePage.{LivePage}
+use Rattle.hb_frag.specs.declared.pages.Page.{Page}
+use Rattle.hb_frag.specs.declared.pages.Page.TheVariants.{Live, Free}
+use Rattle.hb_frag.specs.Rules.{IsFilledRight}
+use Rattle.hb_layout.specs.declared.meta.Meta.{Meta}
+use Rattle.hb_ops.specs.declared.operations.Op.{Op}
+use Rattle.hb_ops.specs.Files.{if_live}
+use Rattle.hb_ops.specs.Operations.{Change, IsAllowedOn, change_of, reads_of}
+use Rattle.hb_ops.specs.Sound.{FitsFile}
+use Rattle.hb_log_codec.specs.Groups.{FitsOp}
+use Rattle.hb_store.specs.Making.{IsReadable, MakesGoodPages}
+use Rattle.hb_store.specs.Replay.{set_pages}
+use Rattle.hb_store.specs.ReplayLists.{live_so, set_one-same}
+use Rattle.hb_store.specs.Replaying.{ComesAfter, HasLimits, IsPageOf}
+use Rattle.hb_store.specs.States.{AreGood, IsGoodPage}
+use Rattle.hb_store.proofs.Changed.{good_readable, still_good}
+use Rattle.hb_store.proofs.Counting.{high_next}
+use Rattle.hb_store.proofs.MadeMeta.{comes_after, made_numbered, reads_some, some_page}
+
+-- What a change makes: what the file says of itself comes after what it said, good pages stay good, and each changed page
+-- is one of the file then, and is good.
+pub record IsGoodChange (meta : Meta) (change : Change) : Type 0 where
+  pub after : ComesAfter meta change.meta
+  pub next : change.meta.high ≤ meta.high + 1
+  pub others : (page : Page) → IsGoodPage meta page → IsGoodPage change.meta page
+  pub pages : All (λ c. IsPageOf change.meta c.0 × IsGoodPage change.meta c.1) change.pages
+
+module _ (makes : MakesGoodPages) (meta : Meta) (limits : HasLimits meta) (frame : ℕ → Option Page) (framed : AreGood meta frame) where
+  pub good_change : (op : Op) (second third : Option LivePage) → FitsOp meta.k op → IsAllowedOn op meta (if_live (frame (get_or (reads_of op) 0 0))) second third
+      → IsGoodChange meta (change_of op meta (if_live (frame (get_or (reads_of op) 0 0))) second third)
+  good_change op second third fits allowed =
+      let id = get_or (reads_of op) 0 0 in
+      let first = if_live (frame id) in
+      let after = comes_after op meta first second third limits fits allowed in
+      let there = reads_some op meta frame second third allowed in
+      let reads : All (IsPageOf meta) (reads_of op) = λ i d lt.
+      let page = some_page (frame (get_or (reads_of op) i d)) (there i d lt) in
+      let at = framed (get_or (reads_of op) i d) page.0 page.1 in
+      (at.0, at.1) in
+      let numbered = made_numbered op meta first second third allowed reads in
+      let good = makes op meta first second third limits fits allowed (good_readable meta frame framed id) in
+      record {
+        after = after;
+        next = high_next op meta first second third allowed;
+        others = still_good meta (change_of op meta first second third).meta after;
+        pages = λ i d lt. (numbered i d lt, good i d lt);
+      }
+
+-- ---- pages, once others were set
+
+-- what holds of the pages set and of the others holds of each that is there then
+pub each_set : (P : ℕ → Page → Type 0) (pages : List (ℕ × Page)) (f : ℕ → Option Page) → All (λ c. P c.0 c.1) pages → ((q : ℕ) (page : Page) → f q ≡ Some page → P q page)
+    → (q : ℕ) (page : Page) → set_pages pages f q ≡ Some page → P q page
+each_set P [] f set others q page e = others q page e
+each_set P (one ∷ rest) f set others q page e =
+    let C = λ (c : ℕ × Page). P c.0 c.1 in
+    each_set P rest (λ r. cond (r == one.0) (Some one.1) (f r)) (All-tail C one rest set)
+    (λ r other is. elim (cases_Bool (r == one.0)) [
+      | inl here ↦
+          let same : r ≡ one.0 = eqb-true r one.0 here in
+          let page_is : Some one.1 ≡ Some other = sym (set_one-same f one.0 one.1 r same) ∙ is in
+          let page_same : one.1 ≡ other = cc in
+          subst (λ (n : ℕ). P n other) (sym same) (subst (λ (p : Page). P one.0 p) page_same (All-head C one rest set))
+      | inr off ↦ others r other (sym (ap (λ (b : Bool). cond b (Some one.1) (f r)) off) ∙ is)
+    ])
+    q page e

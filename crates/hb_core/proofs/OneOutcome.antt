@@ -1,0 +1,208 @@
+-- Two steps of one actor from one machine come to the same.
+use Rattle.std.proofs.Common.{◌≡◌, ◌⊎◌, inl, inr, ℕ, ◌++◌, [], Option, Some, None, IfSome, IsSome, refl, sym, ap, ◌∙◌, subst, length}
+use Rattle.hb_space.specs.declared.records.Record.{Record}
+use Rattle.hb_frag.specs.declared.pages.LivePage.{LivePage}
+use Rattle.hb_frag.specs.declared.pages.Page.{Page}
+use Rattle.hb_frag.specs.Leaves.{DirectlyHolds}
+use Rattle.hb_frag.specs.Rules.{AreInOrder}
+use Rattle.std.proofs.lemmas.Option.{same_Some}
+use Rattle.hb_ops.specs.Files.{if_live, page_of}
+use Rattle.hb_ops.specs.declared.operations.Op.TheVariants.{Put}
+use Rattle.hb_set.specs.declared.commands.Command.TheVariants.{Insert}
+use Rattle.hb_set.specs.declared.commands.Reply.TheVariants as replies
+use Rattle.hb_set.specs.declared.scripts.Line.{Line}
+use Rattle.hb_store.specs.States.{StoreState, in_memory}
+use Rattle.hb_core.specs.declared.outcomes.Outcome.{Outcome}
+use Rattle.hb_core.specs.Machines.{Files, Machine, current_file, if_some, live_here, with_activity, with_disk}
+use Rattle.hb_core.specs.Acting.{DoesRow}
+use Rattle.hb_core.specs.Asking.{wanted_by}
+use Rattle.hb_core.specs.Fetching.{Brings}
+use Rattle.hb_core.specs.Deeds.{AddsJobs, Deed, takes_effect}
+use Rattle.hb_core.specs.Keeps.{HoldsPagesOfFile, KnowsRoom, OneHasRoom}
+use Rattle.hb_core.specs.Performing.{MayDo, Performs, files_after, given_by, latches_held, mode_among}
+use Rattle.hb_core.specs.Rows.{Row}
+use Rattle.hb_core.specs.SplitRows.{Puts}
+use Rattle.hb_core.specs.OutcomeLaws.{ComesToSame, IsTurnedAside, LeavesSame, OutcomeIsOne, StateIsOne}
+use Rattle.hb_core.proofs.OnePair.{both_steps}
+use Rattle.hb_core.proofs.OnePiece.{one_queue}
+use Rattle.hb_core.proofs.OneRow.{one_row}
+use Rattle.hb_core.proofs.RowSays.{rows_say_the_same}
+use Rattle.hb_core.proofs.StillThere.{fetched_good, nothing_done, still_fetched}
+use Rattle.hb_core.proofs.Backing.{live_there}
+use Rattle.hb_core.proofs.NextPlaces.{HasPlace, WalksTo, place_after}
+use Rattle.hb_activity.specs.declared.activities.Activity.{Activity}
+use Rattle.hb_activity.specs.declared.activities.Activity.TheVariants as at
+use Rattle.hb_activity.specs.Walks.{walk_held}
+use Rattle.hb_activity.specs.Holding.{held_of}
+use Rattle.hb_latch.specs.Tables.{mode_at}
+use Rattle.std.specs.Option.{option_and_then}
+use Rattle.std.proofs.lemmas.Bool.{cases_eq}
+use Rattle.hb_frag.specs.declared.pages.Page.TheVariants.{Live}
+
+-- ---- they say the same
+
+module _ (m : Machine) (actor : ℕ) (outcome other : Outcome) (new next : Machine) where
+  said_so : outcome ≡ other → new ≡ next → ComesToSame outcome other new next
+  said_so says same = record {
+    says = says;
+    lines = ap (λ (x : Machine). x.lines) same;
+    answered = ap (λ (x : Machine). x.answered) same;
+    stop = ap (λ (x : Machine). x.stop) same;
+    clock = ap (λ (x : Machine). x.clock) same;
+  }
+
+  said_both : (f g : StoreState) (d e : Deed) → d.says ≡ e.says → Performs m f actor d outcome new → Performs m g actor e other next → ComesToSame outcome other new next
+  said_both f g d e same first second = record {
+    says = first.says ∙ same ∙ sym second.says;
+    lines = first.lines ∙ sym second.lines;
+    answered = first.answered ∙ ap (λ (o : Outcome). m.answered ++ given_by o m.clock) same ∙ sym second.answered;
+    stop = first.stop ∙ sym second.stop;
+    clock = first.clock ∙ sym second.clock;
+  }
+
+  said_rows : DoesRow m actor outcome new → DoesRow m actor other next → ComesToSame outcome other new next
+  said_rows row again =
+      said_both row.fetched again.fetched row.deed again.deed
+      (rows_say_the_same m row.fetched again.fetched row.brings.rest.meta again.brings.rest.meta (m.activity actor) (wanted_by m actor) row.deed again.deed row.row again.row)
+      row.performs again.performs
+
+pub outcome_is_one : OutcomeIsOne
+outcome_is_one m actor outcome other new next first second =
+    both_steps m actor outcome other new next (IsTurnedAside m actor outcome new ⊎ IsTurnedAside m actor other next ⊎ ComesToSame outcome other new next) (record {
+      first_aside = λ aside. inl aside;
+      second_aside = λ aside. inr (inl aside);
+      same = λ says is. inr (inr (said_so m actor outcome other new next says is));
+      deeds = λ d e is walk a b. inr (inr (said_both m actor outcome other new next m.store m.store d e (ap (λ (d : Deed). d.says) is) a b));
+      rows = λ a b. inr (inr (said_rows m actor outcome other new next a b));
+    }) first second
+
+-- ---- over a disk that tells they leave the same
+
+insert_of : (rec same : Record) → Insert rec ≡ Insert same → rec ≡ same
+insert_of rec same is = cc
+
+module _ (m : Machine) (files : Files) (tells : m.files ≡ Some files) (may might : ℕ → Type 0) (f g : StoreState) (first : Brings m.files may m.store f) (second : Brings m.files might m.store g) where
+  told_of : (page : Page) (id : ℕ) → IfSome m.files (λ files. page_of (current_file files) id ≡ Some page) → page_of (current_file files) id ≡ Some page
+  told_of page id told = subst (λ (o : Option Files). IfSome o (λ files. page_of (current_file files) id ≡ Some page)) tells told
+
+  agree_by : (id : ℕ) (a b : Page) (old : Option Page) → in_memory m.store id ≡ old → in_memory f id ≡ Some a → in_memory g id ≡ Some b → a ≡ b
+  agree_by id a b None none one two = same_Some a b (sym (told_of a id (first.told id a none one)) ∙ told_of b id (second.told id b none two))
+  agree_by id a b (Some page) some one two =
+      let there : IsSome (in_memory m.store id) = subst (λ (o : Option Page). IsSome o) (sym some) refl in
+      same_Some a b (sym one ∙ first.stays id there ∙ sym (second.stays id there) ∙ two)
+
+  agree : (id : ℕ) (a b : Page) → in_memory f id ≡ Some a → in_memory g id ≡ Some b → a ≡ b
+  agree id a b one two = agree_by id a b (in_memory m.store id) refl one two
+
+  in_order : HoldsPagesOfFile m → (id : ℕ) (page : LivePage) → live_here f id ≡ Some page → AreInOrder page
+  in_order inside id page live = (fetched_good m may f inside first id page live).1.in_order
+
+  -- a record goes into one of the halves
+  module _ (line : Line) (source fresh : ℕ) (d e : Deed) (a : Puts (with_disk f m.files m.clock m) line source fresh d) (b : Puts (with_disk g m.files m.clock m) line source fresh e) (rec : Record) (command : line.command ≡ Insert rec) (one : OneHasRoom m source fresh rec.key rec.body) where
+    rec_a : a.rec ≡ rec
+    rec_a = insert_of a.rec rec (sym a.command ∙ command)
+
+    rec_b : b.rec ≡ rec
+    rec_b = insert_of b.rec rec (sym b.command ∙ command)
+
+    at_a : (id : ℕ) (page : LivePage) → live_here m.store id ≡ Some page → a.half ≡ id → DirectlyHolds page rec.key
+    at_a id page live is =
+        let same : a.page ≡ page = same_Some a.page page (sym a.live ∙ ap (live_here f) is ∙ still_fetched m may f first id page live) in
+        subst (λ (r : Record). DirectlyHolds page r.key) rec_a (subst (λ (q : LivePage). DirectlyHolds q a.rec.key) same a.holds)
+
+    at_b : (id : ℕ) (page : LivePage) → live_here m.store id ≡ Some page → b.half ≡ id → DirectlyHolds page rec.key
+    at_b id page live is =
+        let same : b.page ≡ page = same_Some b.page page (sym b.live ∙ ap (live_here g) is ∙ still_fetched m might g second id page live) in
+        subst (λ (r : Record). DirectlyHolds page r.key) rec_b (subst (λ (q : LivePage). DirectlyHolds q b.rec.key) same b.holds)
+
+    one_half : (a.half ≡ source) ⊎ (a.half ≡ fresh) → (b.half ≡ source) ⊎ (b.half ≡ fresh) → a.half ≡ b.half
+    one_half (inl x) (inl y) = x ∙ sym y
+    one_half (inr x) (inr y) = x ∙ sym y
+    one_half (inl x) (inr y) = absurd (one.not_both (at_a source one.first one.first_live x) (at_b fresh one.second one.second_live y))
+    one_half (inr x) (inl y) = absurd (one.not_both (at_b source one.first one.first_live y) (at_a fresh one.second one.second_live x))
+
+    one_put : d ≡ e
+    one_put =
+        a.deed_is ∙ ap (λ (r : Record). takes_effect m line replies.Done (Some (Put a.half r)) []) (rec_a ∙ sym rec_b)
+        ∙ ap (λ n. takes_effect m line replies.Done (Some (Put n b.rec)) []) (one_half a.either b.either) ∙ sym b.deed_is
+
+  one_deed : (actor : ℕ) (d e : Deed) → HoldsPagesOfFile m → KnowsRoom m
+      → Row (m.activity actor) (wanted_by m actor) (with_disk f m.files m.clock m) d → Row (m.activity actor) (wanted_by m actor) (with_disk g m.files m.clock m) e → d ≡ e
+  one_deed actor d e inside knows row again =
+      one_row m f g (first.rest.meta ∙ sym second.rest.meta) agree (in_order inside) (m.activity actor) (wanted_by m actor) d e
+      (λ line source fresh d e is a b. let has = knows.puts actor source fresh line is in one_put line source fresh d e a b has.0 has.1 has.2)
+      row again
+
+-- ---- what an actor holds afterwards
+
+none_held : (s t : StoreState) (next : Activity) → walk_held next ≡ None → latches_held s next ≡ latches_held t next
+none_held s t next is = ap (λ (o : Option ℕ). held_of next (option_and_then (live_here s) o)) is ∙ sym (ap (λ (o : Option ℕ). held_of next (option_and_then (live_here t) o)) is)
+
+some_held : (s t : StoreState) (next : Activity) (id : ℕ) → walk_held next ≡ Some id → live_here s id ≡ live_here t id → latches_held s next ≡ latches_held t next
+some_held s t next id is same =
+    ap (λ (o : Option ℕ). held_of next (option_and_then (live_here s) o)) is ∙ ap (held_of next) same
+    ∙ sym (ap (λ (o : Option ℕ). held_of next (option_and_then (live_here t) o)) is)
+
+held_after : (m : Machine) (actor : ℕ) (now : Machine) (deed : Deed) → HasPlace m actor now deed → (walk_held deed.next ≡ None) ⊎ WalksTo now.store deed
+held_after m actor now deed (inl holds) = inl holds.walk
+held_after m actor now deed (inr (inl walks)) = inr walks
+held_after m actor now deed (inr (inr (inl takes))) = inl (ap (λ (d : Deed). walk_held d.next) takes.row.deed_is)
+held_after m actor now deed (inr (inr (inr (inl takes)))) = inl (ap (λ (d : Deed). walk_held d.next) takes.row.deed_is)
+held_after m actor now deed (inr (inr (inr (inr (inl keeps))))) = inl (by keeps.after)
+  where
+    by : (deed.next ≡ at.PosterPromote keeps.job keeps.parent) ⊎ (deed.next ≡ at.PosterAgain keeps.job keeps.parent) → walk_held deed.next ≡ None
+    by (inl is) = ap walk_held is
+    by (inr is) = ap walk_held is
+held_after m actor now deed (inr (inr (inr (inr (inr parts))))) = inl (ap (λ (d : Deed). walk_held d.next) parts.row.deed_is)
+
+module _ (m : Machine) (actor : ℕ) (outcome other : Outcome) (new next : Machine) where
+  same_held : (f g : StoreState) (d e : Deed) → d ≡ e → ((id : ℕ) (a b : Page) → in_memory f id ≡ Some a → in_memory g id ≡ Some b → a ≡ b) → MayDo d.op (length m.order) f new.store → MayDo e.op (length m.order) g next.store
+      → (walk_held d.next ≡ None) ⊎ WalksTo f d → (walk_held e.next ≡ None) ⊎ WalksTo g e → latches_held new.store e.next ≡ latches_held next.store e.next
+  same_held f g d e same agree first second a (inl none) = none_held new.store next.store e.next none
+  same_held f g d e same agree first second (inl none) (inr w) = none_held new.store next.store e.next (ap (λ (d : Deed). walk_held d.next) (sym same) ∙ none)
+  same_held f g d e same agree first second (inr v) (inr w) =
+      let id : v.id ≡ w.id = same_Some v.id w.id (sym v.held ∙ ap (λ (d : Deed). walk_held d.next) same ∙ w.held) in
+      let old : live_here f w.id ≡ Some v.page = ap (live_here f) (sym id) ∙ v.live in
+      let page : Live v.page ≡ Live w.page = agree w.id (Live v.page) (Live w.page) (live_there (in_memory f w.id) v.page old) (live_there (in_memory g w.id) w.page w.live) in
+      some_held new.store next.store e.next w.id w.held
+      (ap (λ (st : StoreState). live_here st w.id) (nothing_done d.op (length m.order) f new.store v.nothing first) ∙ old ∙ ap (λ (p : Page). if_live (Some p)) page
+      ∙ sym (ap (λ (st : StoreState). live_here st w.id) (nothing_done e.op (length m.order) g next.store w.nothing second) ∙ w.live))
+
+  left_so : new ≡ next → LeavesSame new next
+  left_so same = record {
+    activity = λ who. ap (λ (x : Machine). x.activity who) same;
+    latches = λ who page. ap (λ (x : Machine). mode_at x.latches who page) same;
+    jobs = ap (λ (x : Machine). x.jobs) same;
+    order = ap (λ (x : Machine). x.order) same;
+    files = ap (λ (x : Machine). x.files) same;
+  }
+
+  left_both : (f g : StoreState) (d e : Deed) → d ≡ e → latches_held new.store e.next ≡ latches_held next.store e.next → Performs m f actor d outcome new → Performs m g actor e other next → LeavesSame new next
+  left_both f g d e same held first second = record {
+    activity = λ who. first.activity who ∙ ap (λ (d : Deed). with_activity actor d.next m.activity who) same ∙ sym (second.activity who);
+    latches = λ who page. elim (cases_eq who actor) [
+      | inl is ↦ subst (λ (w : ℕ). mode_at new.latches w page ≡ mode_at next.latches w page) (sym is)
+          (first.latches.own page ∙ ap (λ (d : Deed). mode_among page (latches_held new.store d.next)) same ∙ ap (mode_among page) held ∙ sym (second.latches.own page))
+      | inr another ↦ first.latches.others who page another ∙ sym (second.latches.others who page another)
+    ];
+    jobs = one_queue e.adds e.left new.jobs next.jobs (subst (λ (d : Deed). AddsJobs d.adds d.left new.jobs) same first.jobs) second.jobs;
+    order = first.order ∙ ap (λ (d : Deed). m.order ++ if_some d.joins) same ∙ sym second.order;
+    files = first.files ∙ ap (λ (d : Deed). files_after d.op m.files) same ∙ sym second.files;
+  }
+
+  left_rows : (files : Files) → m.files ≡ Some files → HoldsPagesOfFile m → KnowsRoom m → DoesRow m actor outcome new → DoesRow m actor other next → LeavesSame new next
+  left_rows files tells inside knows a b =
+      let same = one_deed m files tells _ _ a.fetched b.fetched a.brings b.brings actor a.deed b.deed inside knows a.row b.row in
+      let held = same_held a.fetched b.fetched a.deed b.deed same (agree m files tells _ _ a.fetched b.fetched a.brings b.brings) a.performs.store b.performs.store
+      (held_after m actor _ a.deed (place_after m actor a.fetched (wanted_by m actor) a.deed a.row)) (held_after m actor _ b.deed (place_after m actor b.fetched (wanted_by m actor) b.deed b.row)) in
+      left_both a.fetched b.fetched a.deed b.deed same held a.performs b.performs
+
+pub state_is_one : StateIsOne
+state_is_one m files actor outcome other new next tells inside knows first second =
+    both_steps m actor outcome other new next (IsTurnedAside m actor outcome new ⊎ IsTurnedAside m actor other next ⊎ LeavesSame new next) (record {
+      first_aside = λ aside. inl aside;
+      second_aside = λ aside. inr (inl aside);
+      same = λ says is. inr (inr (left_so m actor outcome other new next is));
+      deeds = λ d e is walk a b. inr (inr (left_both m actor outcome other new next m.store m.store d e is (none_held new.store next.store e.next (ap (λ (d : Deed). walk_held d.next) (sym is) ∙ walk)) a b));
+      rows = λ a b. inr (inr (left_rows m actor outcome other new next files tells inside knows a b));
+    }) first second

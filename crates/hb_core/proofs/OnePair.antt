@@ -1,0 +1,165 @@
+-- Two steps of one actor from one machine go the same way, unless one was turned aside.
+use Rattle.std.proofs.Common.{ap, ◌≡◌, ◌≢◌, ◌⊎◌, inl, inr, ℕ, ◌++◌, List, ◌∷◌, All, Option, Some, None, IfSome, IsSomeAnd, IsTrue, refl, sym, ◌∙◌, subst, arith}
+use Rattle.std.specs.Prelude.{MatchOption}
+use Rattle.std.specs.List.{Contains}
+use Rattle.std.proofs.lemmas.Bool.{cases_lt}
+use Rattle.std.proofs.lemmas.List.Elements.{All-contains, Contains-append_right, Contains-get_or}
+use Rattle.hb_latch.specs.declared.modes.Mode.{Mode}
+use Rattle.hb_latch.specs.Modes.{goes_beside}
+use Rattle.hb_latch.specs.Tables.{IsGrantable, IsLeastInTheWay, LatchTable, mode_at}
+use Rattle.hb_set.specs.declared.commands.Reply.{Reply}
+use Rattle.hb_set.specs.declared.commands.Reply.TheVariants as replies
+use Rattle.hb_set.specs.declared.scripts.Line.{Line}
+use Rattle.hb_activity.specs.declared.jobs.Job.{Job}
+use Rattle.hb_activity.specs.declared.jobs.JobKind.TheVariants.{Post}
+use Rattle.hb_activity.specs.declared.wanting.Wanted.{Wanted}
+use Rattle.hb_activity.specs.declared.activities.Activity.{Activity}
+use Rattle.hb_activity.specs.declared.activities.Activity.TheVariants as at
+use Rattle.hb_store.specs.declared.stops.StopWhy.{StopWhy}
+use Rattle.hb_core.specs.declared.outcomes.Outcome.{Outcome}
+use Rattle.hb_core.specs.declared.outcomes.Outcome.TheVariants as outcomes
+use Rattle.hb_core.specs.Machines.{Machine}
+use Rattle.hb_core.specs.Acting.{Abandons, DoesRow, MeetsBadPage}
+use Rattle.hb_core.specs.Asking.{wanted_by}
+use Rattle.hb_core.specs.Deeds.{Deed, answers_now}
+use Rattle.hb_core.specs.Performing.{Performs}
+use Rattle.hb_core.specs.Forcing.{ForcesFirst, StaysSo}
+use Rattle.hb_core.specs.SessionRows.{next_line, taking}
+use Rattle.hb_core.specs.WorkerRows.{IsPostingOf, TakesJob}
+use Rattle.hb_core.specs.OutcomeLaws.{IsTurnedAside}
+use Rattle.hb_core.specs.Steps.{AwaitsPlace, GetsReady, StepsAs, StepsTo, TakesPosting, WantsBoxes, Works}
+use Rattle.hb_activity.specs.Walks.{walk_held}
+use Rattle.hb_core.specs.GivingUp.{runs_out}
+use Rattle.hb_core.proofs.NextPlaces.{nothing_run_out}
+use Rattle.hb_core.proofs.OnePiece.{one_job}
+
+-- ---- the least actor in the way is one, and where one is the way isn't free
+
+module _ (table : LatchTable) (actor : ℕ) where
+  one_least : (wanted : Option Wanted) (by other : ℕ) → IsSomeAnd wanted (λ w. IsLeastInTheWay table actor w.page w.mode by) → IsSomeAnd wanted (λ w. IsLeastInTheWay table actor w.page w.mode other) → by ≡ other
+  one_least None by other none least = absurd none
+  one_least (Some w) by other first second = elim (cases_lt by other) [
+    | inl lt ↦ absurd (second.least by lt first.keeps)
+    | inr ge ↦ elim (cases_lt other by) [
+      | inl lt ↦ absurd (first.least other lt second.keeps)
+      | inr le ↦ omega (arith, ge, le)
+    ]
+  ]
+
+  clash_at : (mode : Mode) (held : Option Mode) → IsSomeAnd held (λ h. ¬ (IsTrue (goes_beside mode h))) → IfSome held (λ h. IsTrue (goes_beside mode h)) → ⊥
+  clash_at mode None conflict beside = conflict
+  clash_at mode (Some h) conflict beside = conflict beside
+
+  not_free : (wanted : Option Wanted) (by : ℕ) → IsSomeAnd wanted (λ w. IsLeastInTheWay table actor w.page w.mode by) → IfSome wanted (λ w. IsGrantable table actor w.page w.mode) → ⊥
+  not_free None by none free = none
+  not_free (Some w) by least free = clash_at w.mode (mode_at table by w.page) least.keeps.conflict (free by least.keeps.another)
+
+-- who takes a job holds no page of a walk yet
+posting_holds_nothing : (job : Job) (height : ℕ) (next : Activity) → IsPostingOf job height next → walk_held next ≡ None
+posting_holds_nothing job height next (inl (above, is)) = ap walk_held is
+posting_holds_nothing job height next (inr (inl (same, is))) = ap walk_held is
+posting_holds_nothing job height next (inr (inr (below, is))) = ap walk_held is
+
+-- What is to be shown of two steps.
+pub record ShowsBoth (m : Machine) (actor : ℕ) (outcome other : Outcome) (new next : Machine) (G : Type 0) : Type 0 where
+  pub first_aside : IsTurnedAside m actor outcome new → G
+  pub second_aside : IsTurnedAside m actor other next → G
+  pub same : outcome ≡ other → new ≡ next → G
+  pub deeds : (d e : Deed) → d ≡ e → walk_held d.next ≡ None → Performs m m.store actor d outcome new → Performs m m.store actor e other next → G
+  pub rows : DoesRow m actor outcome new → DoesRow m actor other next → G
+
+module _ (m : Machine) (actor : ℕ) (outcome other : Outcome) (new next : Machine) (G : Type 0) (shows : ShowsBoth m actor outcome other new next G) where
+  both_stay : (said : Outcome) → StaysSo m said outcome new → StaysSo m said other next → G
+  both_stay said (a, b) (c, d) = shows.same (a ∙ sym c) (b ∙ sym d)
+
+  both_force : (said : Outcome) → ForcesFirst m said outcome new → ForcesFirst m said other next → G
+  both_force said (inr badly) second = shows.first_aside (inr (inl badly))
+  both_force said (inl well) (inr badly) = shows.second_aside (inr (inl badly))
+  both_force said (inl (a, b)) (inl (c, d)) = shows.same (a ∙ sym c) (b ∙ sym d)
+
+  -- ---- what works
+
+  both_get_ready : GetsReady m actor outcome new → GetsReady m actor other next → G
+  both_get_ready (inl (waits, first)) (inl (again, second)) = both_force outcomes.Helped first second
+  both_get_ready (inl (waits, first)) (inr (none, second)) = absurd (waits none)
+  both_get_ready (inr (none, first)) (inl (waits, second)) = absurd (waits none)
+  both_get_ready (inr (none, first)) (inr (again, second)) = shows.deeds (runs_out m (m.activity actor)) (runs_out m (m.activity actor)) refl (nothing_run_out m (m.activity actor)).walk first second
+
+  both_act : DoesRow m actor outcome new ⊎ Abandons m actor outcome new ⊎ MeetsBadPage m actor outcome new → DoesRow m actor other next ⊎ Abandons m actor other next ⊎ MeetsBadPage m actor other next → G
+  both_act (inr (inl gives)) second = shows.first_aside (inr (inr (inl gives)))
+  both_act (inr (inr meets)) second = shows.first_aside (inr (inr (inr meets)))
+  both_act (inl row) (inr (inl gives)) = shows.second_aside (inr (inr (inl gives)))
+  both_act (inl row) (inr (inr meets)) = shows.second_aside (inr (inr (inr meets)))
+  both_act (inl row) (inl again) = shows.rows row again
+
+  both_work : Works m actor outcome new → Works m actor other next → G
+  both_work (inl (by, way, first)) (inl (by', way', second)) =
+      let same = one_least m.latches actor (wanted_by m actor) by by' way way' in
+      both_stay (outcomes.Blocked by) first (subst (λ (n : ℕ). StaysSo m (outcomes.Blocked n) other next) (sym same) second)
+  both_work (inl (by, way, first)) (inr (inl (free, ready, rest))) = absurd (not_free m.latches actor (wanted_by m actor) by way free)
+  both_work (inl (by, way, first)) (inr (inr (free, ready, rest))) = absurd (not_free m.latches actor (wanted_by m actor) by way free)
+  both_work (inr (inl (free, ready, rest))) (inl (by, way, second)) = absurd (not_free m.latches actor (wanted_by m actor) by way free)
+  both_work (inr (inr (free, ready, rest))) (inl (by, way, second)) = absurd (not_free m.latches actor (wanted_by m actor) by way free)
+  both_work (inr (inl (free, unready, first))) (inr (inl (free', unready', second))) = both_get_ready first second
+  both_work (inr (inl (free, unready, first))) (inr (inr (free', ready, second))) = absurd (ready unready)
+  both_work (inr (inr (free, ready, first))) (inr (inl (free', unready, second))) = absurd (ready unready)
+  both_work (inr (inr (free, ready, first))) (inr (inr (free', ready', second))) = both_act first second
+
+  -- ---- what takes a line or a job, and what awaits its place
+
+  abbrev TakesOr : (o : Outcome) (n : Machine) → Option Line → Type 0
+  TakesOr o n line = MatchOption line (StaysSo m outcomes.Idle o n) (λ line. Performs m m.store actor (taking m line) o n ⊎ (WantsBoxes line.command × Performs m m.store actor (answers_now m line.number replies.NoMemory) o n))
+
+  both_take : (line : Option Line) → m.activity actor ≡ at.SessionIdle → next_line actor m.answered m.lines ≡ line → TakesOr outcome new line → TakesOr other next line → G
+  both_take None idle is first second = both_stay outcomes.Idle first second
+  both_take (Some line) idle is (inr (boxes, performs)) second = shows.first_aside (inl (record { idle = idle; line = line; next = is; boxes = boxes; performs = performs }))
+  both_take (Some line) idle is (inl first) (inr (boxes, performs)) = shows.second_aside (inl (record { idle = idle; line = line; next = is; boxes = boxes; performs = performs }))
+  both_take (Some line) idle is (inl first) (inl second) = shows.deeds (taking m line) (taking m line) refl refl first second
+
+  no_posting : (deed : Deed) → All (λ (job : Job). job.kind ≢ Post) m.jobs → TakesJob m deed → ⊥
+  no_posting deed none takes =
+      let oldest = takes.oldest in
+      let among : Contains (oldest.front ++ takes.job ∷ oldest.behind) takes.job = Contains-append_right oldest.front (takes.job ∷ oldest.behind) takes.job (Contains-get_or (takes.job ∷ oldest.behind) 0 takes.job (omega arith)) in
+      All-contains (λ (job : Job). job.kind ≢ Post) m.jobs takes.job none (subst (λ (jobs : List Job). Contains jobs takes.job) (sym oldest.whole) among) oldest.of_kind
+
+  both_post : TakesPosting m actor outcome new → TakesPosting m actor other next → G
+  both_post (inl (none, first)) (inl (none', second)) = both_stay outcomes.Idle first second
+  both_post (inl (none, first)) (inr (deed, takes, second)) = absurd (no_posting deed none takes)
+  both_post (inr (deed, takes, first)) (inl (none, second)) = absurd (no_posting deed none takes)
+  both_post (inr (d, takes, first)) (inr (e, again, second)) = shows.deeds d e (one_job m d e takes again) (ap (λ (x : Deed). walk_held x.next) takes.deed_is ∙ posting_holds_nothing takes.job m.store.meta.height takes.next takes.posting) first second
+
+  both_await : (number : ℕ) (reply : Reply) (place : ℕ) → AwaitsPlace m actor number reply place outcome new → AwaitsPlace m actor number reply place other next → G
+  both_await number reply place (inl (lt, first)) (inl (lt', second)) = shows.deeds (answers_now m number reply) (answers_now m number reply) refl refl first second
+  both_await number reply place (inl (lt, first)) (inr (ge, second)) = absurd (omega (arith, lt, ge))
+  both_await number reply place (inr (ge, first)) (inl (lt, second)) = absurd (omega (arith, lt, ge))
+  both_await number reply place (inr (ge, first)) (inr (ge', second)) = both_force outcomes.Moved first second
+
+  both_step : (activity : Activity) → m.activity actor ≡ activity → StepsAs activity m actor outcome new → StepsAs activity m actor other next → G
+  both_step at.SessionIdle is first second = both_take (next_line actor m.answered m.lines) is refl first second
+  both_step (at.SessionAwait number reply place) is first second = both_await number reply place first second
+  both_step at.PosterIdle is first second = both_post first second
+  both_step at.ConsolidatorIdle is first second = both_stay outcomes.Idle first second
+  both_step at.Flusher is first second = both_stay outcomes.Idle first second
+  both_step (at.SessionWalk line held rest found) is first second = both_work first second
+  both_step (at.SessionSplit line held) is first second = both_work first second
+  both_step (at.SessionPut line source fresh) is first second = both_work first second
+  both_step (at.PosterGrow job) is first second = both_work first second
+  both_step (at.PosterWalk job held) is first second = both_work first second
+  both_step (at.PosterChild job parent) is first second = both_work first second
+  both_step (at.PosterPromote job parent) is first second = both_work first second
+  both_step (at.PosterAgain job parent) is first second = both_work first second
+  both_step (at.ConsolidatorWalk job held) is first second = both_work first second
+  both_step (at.ConsolidatorScan job parent child) is first second = both_work first second
+  both_step (at.ConsolidatorTry job parent keep gone leaf) is first second = both_work first second
+  both_step (at.ConsolidatorPromote job parent keep gone) is first second = both_work first second
+  both_step (at.ConsolidatorKeep job parent keep gone) is first second = both_work first second
+  both_step (at.ConsolidatorDecide job parent keep gone) is first second = both_work first second
+
+  both_run : (stop : Option StopWhy)
+      → MatchOption stop (StepsAs (m.activity actor) m actor outcome new) (λ why. StaysSo m (outcomes.Stopped why) outcome new)
+      → MatchOption stop (StepsAs (m.activity actor) m actor other next) (λ why. StaysSo m (outcomes.Stopped why) other next) → G
+  both_run None first second = both_step (m.activity actor) refl first second
+  both_run (Some why) first second = both_stay (outcomes.Stopped why) first second
+
+  pub both_steps : StepsTo m actor outcome new → StepsTo m actor other next → G
+  both_steps first second = both_run m.stop first second

@@ -1,0 +1,8 @@
+use Rattle.hb_core.proofs.PendingKept.{prefix_stays_pending, settled_stays_settled}
+use Rattle.hb_core.proofs.keeping_laws.prefix_stays_pending.Goals as goal
+
+pub returns-clause-prefix : goal.returns-clause-prefix
+returns-clause-prefix c = prefix_stays_pending
+
+pub returns-clause-settled : goal.returns-clause-settled
+returns-clause-settled c = settled_stays_settled

@@ -1,0 +1,39 @@
+-- What every machine keeps of its script's lines, and of the marks of its file.
+use Rattle.std.specs.Prelude.{◌<◌, ◌≤◌, ◌^◌, ℕ, All, Option, Some, None, IfSome}
+use Rattle.hb_space.specs.Points.{IsBody}
+use Rattle.hb_layout.specs.Limits.{IsLayout}
+use Rattle.hb_set.specs.declared.commands.Command.{Command}
+use Rattle.hb_set.specs.declared.commands.Command.TheVariants.{Insert, Delete, Lookup, Search}
+use Rattle.hb_set.specs.declared.scripts.Line.{Line}
+use Rattle.hb_activity.specs.declared.activities.Activity.{Activity}
+use Rattle.hb_activity.specs.declared.activities.Activity.TheVariants as at
+use Rattle.hb_core.specs.Machines.{Machine}
+
+-- the line that a session has in hand: it was taken, and hasn't taken effect
+abbrev pub line_in_hand : Activity → Option Line
+line_in_hand (at.SessionWalk line held rest found) = Some line
+line_in_hand (at.SessionSplit line held) = Some line
+line_in_hand (at.SessionPut line source fresh) = Some line
+line_in_hand other = None
+
+-- what a command would store can be stored
+abbrev pub HasBody : Command → Type 0
+HasBody (Insert rec) = IsBody rec.body
+HasBody (Delete point) = Unit {0}
+HasBody (Lookup point) = Unit {0}
+HasBody (Search area) = Unit {0}
+
+abbrev pub HasLineBody : Line → Type 0
+HasLineBody line = HasBody line.command
+
+-- What the lines would store can be stored: those of the script, and those in hand.
+pub record LinesFit (m : Machine) : Type 0 where
+  pub script : All HasLineBody m.lines
+  pub in_hand : (actor : ℕ) → IfSome (line_in_hand (m.activity actor)) HasLineBody
+
+-- What the file says of itself is within the limits of a file. So it is over every disk.
+pub record MarksInPlace (m : Machine) : Type 0 where
+  pub layout : IsLayout m.store.meta
+  pub high : m.store.meta.high ≤ m.store.meta.pages
+  pub root : m.store.meta.root < 2 ^ 32
+  pub free : m.store.meta.free < 2 ^ 32

@@ -1,0 +1,81 @@
+-- What two steps of one actor from one machine come to: the same, but for want of memory and faults of the device.
+use Rattle.std.specs.Prelude.{◌≡◌, ◌⊎◌, ℕ, Some}
+use Rattle.hb_frag.specs.declared.pages.Page.{Page}
+use Rattle.hb_store.specs.States.{in_memory}
+use Rattle.hb_latch.specs.Tables.{mode_at}
+use Rattle.hb_set.specs.declared.commands.Reply.TheVariants as replies
+use Rattle.hb_set.specs.declared.scripts.Line.{Line}
+use Rattle.hb_activity.specs.declared.activities.Activity.TheVariants as at
+use Rattle.hb_core.specs.declared.outcomes.Outcome.{Outcome}
+use Rattle.hb_core.specs.declared.outcomes.Outcome.TheVariants as outcomes
+use Rattle.hb_core.specs.Machines.{Files, Machine}
+use Rattle.hb_core.specs.Acting.{Abandons, MeetsBadPage}
+use Rattle.hb_core.specs.Deeds.{answers_now}
+use Rattle.hb_core.specs.Forcing.{ForcesBadly}
+use Rattle.hb_core.specs.Keeps.{HoldsPagesOfFile, KnowsRoom}
+use Rattle.hb_core.specs.Performing.{Performs}
+use Rattle.hb_core.specs.SessionRows.{next_line}
+use Rattle.hb_core.specs.Steps.{StepsTo, WantsBoxes}
+
+-- memory is refused to an idle session for the box of its search, whose line is answered so
+pub record RefusesSearch (m : Machine) (actor : ℕ) (outcome : Outcome) (new : Machine) : Type 0 where
+  pub idle : m.activity actor ≡ at.SessionIdle
+  pub line : Line
+  pub next : next_line actor m.answered m.lines ≡ Some line
+  pub boxes : WantsBoxes line.command
+  pub performs : Performs m m.store actor (answers_now m line.number replies.NoMemory) outcome new
+
+-- A step that want of memory or a fault of the device has turned aside: such a search; a force that failed; a line or a job
+-- that is given up; or a page that is damaged.
+abbrev pub IsTurnedAside : Machine → ℕ → Outcome → Machine → Type 0
+IsTurnedAside m actor outcome new = RefusesSearch m actor outcome new ⊎ ForcesBadly m outcome new ⊎ Abandons m actor outcome new ⊎ MeetsBadPage m actor outcome new
+
+-- Two steps came to the same: they say the same, and left the lines, the answers, the stop and the clock the same.
+pub record ComesToSame (outcome other : Outcome) (new next : Machine) : Type 0 where
+  pub says : outcome ≡ other
+  pub lines : new.lines ≡ next.lines
+  pub answered : new.answered ≡ next.answered
+  pub stop : new.stop ≡ next.stop
+  pub clock : new.clock ≡ next.clock
+
+-- So two steps of one actor from one machine do, over every disk, unless one of them was turned aside.
+abbrev pub OutcomeIsOne : Type 0
+OutcomeIsOne = (m : Machine) (actor : ℕ) (outcome other : Outcome) (new next : Machine) → StepsTo m actor outcome new → StepsTo m actor other next →
+    IsTurnedAside m actor outcome new ⊎ IsTurnedAside m actor other next ⊎ ComesToSame outcome other new next
+
+-- They leave each actor where the other step did, with the same latches, and the same jobs, order and files.
+pub record LeavesSame (new next : Machine) : Type 0 where
+  pub activity : (who : ℕ) → new.activity who ≡ next.activity who
+  pub latches : (who page : ℕ) → mode_at new.latches who page ≡ mode_at next.latches who page
+  pub jobs : new.jobs ≡ next.jobs
+  pub order : new.order ≡ next.order
+  pub files : new.files ≡ next.files
+
+-- So they do over a disk that tells, where pages in memory keep the rules that speak of a page alone and not both halves of a
+-- split hold the point of the insert. Which of the pages that the step may need came into memory is left open, and so is the store.
+abbrev pub StateIsOne : Type 0
+StateIsOne = (m : Machine) (files : Files) (actor : ℕ) (outcome other : Outcome) (new next : Machine) → m.files ≡ Some files → HoldsPagesOfFile m → KnowsRoom m → StepsTo m actor outcome new → StepsTo m actor other next →
+    IsTurnedAside m actor outcome new ⊎ IsTurnedAside m actor other next ⊎ LeavesSame new next
+
+-- A step that was turned aside answers a line `no memory` or `read fault`, drops a job, or stops the machine.
+abbrev pub SaysAside : Outcome → Type 0
+SaysAside (outcomes.Answered number reply) = (reply ≡ replies.NoMemory) ⊎ (reply ≡ replies.ReadFault)
+SaysAside (outcomes.Dropped why) = Unit {0}
+SaysAside (outcomes.Stopped why) = Unit {0}
+SaysAside other = ⊥
+
+-- It leaves the lines, the jobs that wait, the order and the files, what the file says of itself, the log, the imaged pages,
+-- and what was in memory.
+pub record ChangesNoFile (m : Machine) (outcome : Outcome) (new : Machine) : Type 0 where
+  pub says : SaysAside outcome
+  pub lines : new.lines ≡ m.lines
+  pub jobs : new.jobs ≡ m.jobs
+  pub order : new.order ≡ m.order
+  pub files : new.files ≡ m.files
+  pub meta : new.store.meta ≡ m.store.meta
+  pub log : new.store.log ≡ m.store.log
+  pub imaged : new.store.imaged ≡ m.store.imaged
+  pub memory : (id : ℕ) (page : Page) → in_memory m.store id ≡ Some page → in_memory new.store id ≡ Some page
+
+abbrev pub AsideChangesNoFile : Type 0
+AsideChangesNoFile = (m : Machine) (actor : ℕ) (outcome : Outcome) (new : Machine) → IsTurnedAside m actor outcome new → ChangesNoFile m outcome new

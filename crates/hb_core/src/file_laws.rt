@@ -1,0 +1,105 @@
+//! What a step does to the file, to its contents and to the order. Each law is the contract of a function
+//! that does nothing: a caller learns it by the call.
+
+ghost use Rattle.hb_core.specs.AllowedLaws.{RowsAreAllowed};
+ghost use Rattle.hb_core.specs.ContentsLaws.{ContentsFollowOrder, PointsStay};
+ghost use Rattle.hb_core.specs.FileLaws.{FilesStaySound, LinesStayFit, MarksStayInPlace, PagesStayOfFile, RowsAreLicensed};
+ghost use Rattle.hb_core.specs.OrderLaws.{OrderStaysLegal, TurnsStay};
+ghost use Rattle.hb_core.specs.SteppingLaws.{BeginningKeepsAll};
+
+use crate::laws::a_step_leaves_other_actors_alone;
+use hb_frag::laws::{leaves_part_the_box, parts_are_stretches};
+use hb_ops::changed_pages_are_well_made;
+use hb_page_codec::laws::page_within_capacity_has_spelling;
+use hb_sound::laws::{operations_keep_a_file_sound, what_stands_is_what_the_contents_have};
+use hb_space::laws::{held_is_a_point, whole_space_holds_every_point};
+
+/// What the lines of the script and those in hand would store can be stored, after a step, too.
+#[tactic(auto, using(crate::proofs::LinesFit::lines_stay_fit))]
+pub fn lines_stay_fit()
+    ensures { LinesStayFit }
+{}
+
+/// After a step every page in memory is one of the file and keeps the rules that speak of a page alone,
+/// and what the file says of itself is within its limits. So it is over every disk.
+pub fn pages_stay_pages_of_the_file()
+    ensures pages { PagesStayOfFile }
+    ensures marks { MarksStayInPlace }
+{
+    changed_pages_are_well_made();
+    page_within_capacity_has_spelling();
+    leaves_part_the_box();
+    parts_are_stretches();
+    whole_space_holds_every_point();
+    held_is_a_point();
+}
+
+/// The operation that a row does may be done in the file: it is allowed and licensed there.
+pub fn rows_are_licensed()
+    ensures { RowsAreLicensed }
+{
+    changed_pages_are_well_made();
+    page_within_capacity_has_spelling();
+    leaves_part_the_box();
+    parts_are_stretches();
+    whole_space_holds_every_point();
+    held_is_a_point();
+}
+
+/// After a step every file is sound: the durable one, and that after each group that waits.
+pub fn files_stay_sound()
+    ensures { FilesStaySound }
+{
+    changed_pages_are_well_made();
+    page_within_capacity_has_spelling();
+    leaves_part_the_box();
+    parts_are_stretches();
+    whole_space_holds_every_point();
+    held_is_a_point();
+    operations_keep_a_file_sound();
+}
+
+/// A step leaves the contents as they are, and no line joins the order; or its actor's line joins it, and
+/// takes effect on them. So it changes what the file has under a point only where that line changes the
+/// point.
+pub fn contents_follow_the_order()
+    ensures contents { ContentsFollowOrder }
+    ensures points { PointsStay }
+{
+    changed_pages_are_well_made();
+    page_within_capacity_has_spelling();
+    leaves_part_the_box();
+    parts_are_stretches();
+    whole_space_holds_every_point();
+    held_is_a_point();
+    operations_keep_a_file_sound();
+    what_stands_is_what_the_contents_have();
+}
+
+/// After a step each session still answers its lines in their order: the line that it has in hand, or for
+/// whose place it waits, is its first one without an answer.
+#[tactic(auto, using(crate::proofs::Turns::turns_stay))]
+pub fn turns_stay()
+    ensures { TurnsStay }
+{}
+
+/// After a step the order is legal, and the file has its result, where a search that takes effect in it has
+/// the right reply.
+pub fn the_order_stays_legal()
+    ensures { OrderStaysLegal }
+{
+    contents_follow_the_order();
+}
+
+/// Where a row has an operation, that is allowed on the pages in memory: nothing but the row's own condition
+/// keeps it from being done.
+#[tactic(auto, using(crate::proofs::AllowedRows::rows_are_allowed))]
+pub fn rows_are_allowed()
+    ensures { RowsAreAllowed }
+{}
+
+/// A machine over a sound file that has taken no step keeps all that a machine keeps, from the contents of
+/// the file.
+pub fn a_beginning_keeps_all()
+    ensures { BeginningKeepsAll }
+{}

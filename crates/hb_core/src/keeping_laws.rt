@@ -1,0 +1,103 @@
+//! What each step keeps of the walks, the room and the groups that wait, and what follows for a list
+//! of steps. Each law is the contract of a function that does nothing: a caller learns it by the call.
+
+ghost use Rattle.hb_core.specs.DoableLaws.{PutsFindRoom, RowsCanBeDone};
+ghost use Rattle.hb_core.specs.KeepingLaws.{AnswersAreInPlace, BegunKeepsAll, ChangesKeepAll, FilesHavePrefixes, NobodyElseComes, PrefixStaysPending, RoomStaysKnown, SettledStaysSettled, StepsGoOn, StepsKeepAll, StoppedStays, WalksStayInSpace};
+
+use crate::file_laws::{
+    a_beginning_keeps_all, files_stay_sound, lines_stay_fit, pages_stay_pages_of_the_file,
+    rows_are_allowed, the_order_stays_legal, turns_stay,
+};
+use crate::laws::latches_stay_fit;
+use hb_frag::laws::{each_point_has_one_leaf, leaves_part_the_box, parts_are_stretches};
+use hb_layout::limits::limits_of_this_version;
+use hb_sound::laws::{
+    a_split_keeps_a_file_sound, each_page_has_a_box, operations_keep_a_file_sound,
+    what_stands_is_what_the_contents_have,
+};
+use hb_space::laws::held_is_a_point;
+
+/// Under no number but those of the 19 actors anybody comes to stand.
+#[tactic(auto, using(crate::proofs::StillThere::nobody_else_comes))]
+pub fn nobody_else_comes()
+    ensures { NobodyElseComes }
+{}
+
+/// After a step the page that a walk holds has the walk's point in its box, and the parent that a poster
+/// holds has a child leaf at the job's point.
+#[tactic(auto, using(crate::proofs::WalksKept::walks_stay_in_space))]
+pub fn walks_stay_in_space()
+    ensures { WalksStayInSpace }
+{}
+
+/// After a step a page that is to be split directly holds the point of its insert, without a record there
+/// and without room, and one of the two halves of a split directly holds it, without a record there and
+/// with room.
+pub fn room_stays_known()
+    ensures { RoomStaysKnown }
+{
+    leaves_part_the_box();
+    each_point_has_one_leaf();
+    parts_are_stretches();
+    held_is_a_point();
+    a_split_keeps_a_file_sound();
+    operations_keep_a_file_sound();
+    what_stands_is_what_the_contents_have();
+    each_page_has_a_box();
+    limits_of_this_version();
+}
+
+/// A session puts its record into the half of a split that has room, since the halves never both hold its
+/// point. So where a row has an operation, that is allowed on the pages in memory, over every disk.
+pub fn rows_can_be_done()
+    ensures room { PutsFindRoom }
+    ensures allowed { RowsCanBeDone }
+{
+    rows_are_allowed();
+}
+
+/// A line is answered once its place in the order is settled, or outside of the order.
+#[tactic(auto, using(crate::proofs::AnswersInPlace::answers_are_in_place))]
+pub fn answers_are_in_place()
+    ensures { AnswersAreInPlace }
+{}
+
+/// After a step the file before each group that waits has the set after as many entries of the order as
+/// its mark says, marks don't fall, and each answered entry stands below the oldest one's. No step
+/// unsettles a place of the order.
+pub fn prefix_stays_pending()
+    ensures prefix { PrefixStaysPending }
+    ensures settled { SettledStaysSettled }
+{}
+
+/// The durable file has the set after a prefix of the order that has each answered entry, and the file
+/// after each group that waits has the set after one that is at least as long.
+pub fn files_have_prefixes()
+    ensures { FilesHavePrefixes }
+{}
+
+/// Over a list of steps the lines stay, the order and the answers only grow, at their ends, and the clock
+/// never falls. Each answer that came has a value of the clock between the first and the last one. A machine
+/// that is stopped stays as it is.
+pub fn steps_go_on()
+    ensures further { StepsGoOn }
+    ensures stopped { StoppedStays }
+{}
+
+/// A list of steps of the 19 actors keeps all that a machine keeps over a disk that tells, and unsettles no
+/// place of the order, where each search that takes effect has the machine's reply; so any list of steps
+/// does of a machine whose lines aren't searches, and from a beginning on.
+pub fn steps_keep_all()
+    ensures searches { StepsKeepAll }
+    ensures changes { ChangesKeepAll }
+    ensures begun { BegunKeepsAll }
+{
+    a_beginning_keeps_all();
+    latches_stay_fit();
+    room_stays_known();
+    lines_stay_fit();
+    turns_stay();
+    pages_stay_pages_of_the_file();
+    files_stay_sound();
+    the_order_stays_legal();
+}

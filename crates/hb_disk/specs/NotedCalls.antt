@@ -1,0 +1,68 @@
+-- What a call of a disk in memory leaves on record, why it was refused, and what it counts.
+use Rattle.std.specs.Prelude.{Bool, true, ◌≡◌, ℕ, ◌<◌, List, [], ◌∷◌, ◌++◌, take, drop, Vec, Result, Ok, Err, ⊤}
+use Rattle.std.specs.declared.alloc.Global.{Global}
+use Rattle.hb_outside.specs.Memory.{next_count}
+use Rattle.hb_disk.specs.Model.{last_value}
+use Rattle.hb_disk.specs.declared.event.Change.{Change}
+use Rattle.hb_disk.specs.declared.event.Change.TheVariants.{Wrote, Tried, Synced}
+use Rattle.hb_disk.specs.declared.event.Event.{Event}
+use Rattle.hb_disk.specs.declared.event.Refused.{Refused}
+use Rattle.hb_disk.specs.declared.event.Refused.TheVariants.{Listed, Over, NoMemory}
+
+-- One event more stands on record, of a change that is this one. The clock wasn't at its last value.
+pub record Notes (P : Change → Type 0) (clock call : ℕ) (old new : List Event) : Type 0 where
+  pub event : Event
+  pub added : new ≡ old ++ event ∷ []
+  pub at_clock : event.clock ≡ clock
+  pub at_call : event.call ≡ call
+  pub change : P event.change
+  pub time_left : clock < last_value
+
+-- the change is a write over these bytes, of so many from a place on
+abbrev pub IsOver : ℕ → ℕ → List ℕ → Change → Type 0
+IsOver at len bytes change = (before : Vec ℕ Global) × (change ≡ Wrote at before) × (before.items ≡ take len (drop at bytes))
+
+-- the change is a try at a range that failed
+abbrev pub IsTry : ℕ → ℕ → Change → Type 0
+IsTry at len change = change ≡ Tried at len
+
+-- the change is a sync
+abbrev pub IsSync : Change → Type 0
+IsSync change = change ≡ Synced
+
+-- Why a call was refused: the clock was at its last value; or else it is a listed one, or memory was wanting.
+abbrev pub Explains : Bool → ℕ → Refused → Type 0
+Explains listed clock Listed = (listed ≡ true) × (clock < last_value)
+Explains listed clock Over = clock ≡ last_value
+Explains listed clock NoMemory = clock < last_value
+
+-- why a change has no place on record
+abbrev pub NotNoted : ℕ → Refused → Type 0
+NotNoted clock Listed = ⊥
+NotNoted clock Over = clock ≡ last_value
+NotNoted clock NoMemory = clock < last_value
+
+-- What a call that was refused leaves on record: a listed one that it was tried, and the others nothing.
+abbrev pub LeavesTry : Type 0 → Type 0 → Refused → Type 0
+LeavesTry Mark Same Listed = Mark
+LeavesTry Mark Same Over = Same
+LeavesTry Mark Same NoMemory = Same
+
+-- two results are both a success, or both a failure
+abbrev pub Alike : {T E F : Type 0} → Result T E → Result T F → Type 0
+Alike (Ok v) (Ok w) = ⊤
+Alike (Ok v) (Err f) = ⊥
+Alike (Err e) (Ok w) = ⊥
+Alike (Err e) (Err f) = ⊤
+
+-- the count of faults after a call
+abbrev pub faults_after : {T : Type 0} → Result T Refused → ℕ → ℕ
+faults_after (Ok v) count = count
+faults_after (Err refused) count = next_count count
+
+-- the count of calls that found no memory, after a call
+abbrev pub starved_after : {T : Type 0} → Result T Refused → ℕ → ℕ
+starved_after (Ok v) count = count
+starved_after (Err Listed) count = count
+starved_after (Err Over) count = count
+starved_after (Err NoMemory) count = next_count count

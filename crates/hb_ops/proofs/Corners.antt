@@ -1,0 +1,35 @@
+-- The corners of a part's box, of which a walk over the cuts changes one value at a time and puts it back.
+use Rattle.std.proofs.Common.{◌≡◌, ◌↔◌, ℕ, ◌-◌, Bool, IsTrue, List, ◌++◌, get_or, slice_set, length, take, ap, ◌∙◌, subst}
+use Rattle.std.proofs.Math.Seq.{take-append_seam}
+use Rattle.std.proofs.lemmas.List.{set-get_or, set-set}
+use Rattle.hb_space.specs.Boxes.{Area, Cuts}
+use Rattle.hb_frag.specs.Leaves.{IsWellCut}
+use Rattle.hb_frag.specs.Trees.{Tree, Cut}
+
+-- a value that was changed and put back
+pub put_back : (xs changed : List ℕ) (at value d : ℕ) → changed ≡ slice_set xs at value → slice_set changed at (get_or xs at d) ≡ xs
+put_back xs changed at value d is = ap (λ (l : List ℕ). slice_set l at (get_or xs at d)) is ∙ set-set xs at value (get_or xs at d) ∙ set-get_or xs at d
+
+-- where the plane cuts the box and the left side is cut, a test of the right side tests the whole
+pub both_cut : (lo hi low high : List ℕ) (axis at value : ℕ) (left right : Tree) (r : Bool) → at ≡ axis → low ≡ lo → high ≡ hi → Cuts (record { lo = lo; hi = hi }) axis value
+    → IsWellCut left (record { lo = lo; hi = slice_set hi at (value - 1) }) → (IsTrue r ↔ IsWellCut right (record { lo = slice_set low at value; hi = high }))
+    → IsTrue r ↔ IsWellCut (Cut axis value left right) (record { lo = lo; hi = hi })
+both_cut lo hi low high axis at value left right r same below above cuts first tells =
+    let B : ℕ → Type 0 = λ n. IsWellCut left (record { lo = lo; hi = slice_set hi n (value - 1) }) in
+    let N : ℕ → Type 0 = λ n. IsTrue r ↔ IsWellCut right (record { lo = slice_set lo n value; hi = hi }) in
+    let L : List ℕ → Type 0 = λ l. IsTrue r ↔ IsWellCut right (record { lo = slice_set l at value; hi = high }) in
+    let H : List ℕ → Type 0 = λ l. IsTrue r ↔ IsWellCut right (record { lo = slice_set lo at value; hi = l }) in
+    let second = subst N same (subst H above (subst L below tells)) in
+    (λ t. (cuts, subst B same first, second.0 t), λ whole. second.1 whole.2)
+
+-- the values that were copied into a longer list
+pub front : (copied behind values : List ℕ) (n : ℕ) → n ≡ length values → copied ≡ values → take n (copied ++ behind) ≡ values
+front copied behind values n count same =
+    ap (λ (l : List ℕ). take n (l ++ behind)) same ∙ ap (λ (m : ℕ). take m (values ++ behind)) count ∙ take-append_seam values behind
+
+-- a test of a part in the box of these corners
+pub same_box : (frag : Tree) (area : Area) (lo hi : List ℕ) (r : Bool) → lo ≡ area.lo → hi ≡ area.hi → (IsTrue r ↔ IsWellCut frag (record { lo = lo; hi = hi })) → IsTrue r ↔ IsWellCut frag area
+same_box frag area lo hi r low high tells =
+    let L : List ℕ → Type 0 = λ l. IsTrue r ↔ IsWellCut frag (record { lo = l; hi = hi }) in
+    let H : List ℕ → Type 0 = λ l. IsTrue r ↔ IsWellCut frag (record { lo = area.lo; hi = l }) in
+    subst H high (subst L low tells)

@@ -1,0 +1,135 @@
+-- Pages that were set, one after the other.
+use Rattle.std.proofs.Common.{◌≡◌, ◌⊎◌, inl, inr, ℕ, suc, ◌<◌, ◌==◌, Bool, true, false, cond, List, [], ◌∷◌, length, get_or, All, Option, Some, None, IsTrue, refl, sym, ap, ◌∙◌, subst, arith}
+use Rattle.std.specs.Prelude.{◌||◌, nat_eq}
+use Rattle.std.specs.Option.{is_some}
+use Rattle.std.specs.List.{remove}
+use Rattle.std.proofs.lemmas.Bool.{cases_Bool, eqb-true, eqb-false}
+use Rattle.std.proofs.lemmas.List.Elements.{All-head, All-tail}
+use Rattle.hb_frag.specs.declared.pages.Page.{Page}
+use Rattle.hb_store.specs.Marks.{has_page, is_among}
+use Rattle.hb_store.specs.Replay.{set_pages}
+use Rattle.hb_store.specs.ReplayLists.{set_one-same, set_one-other}
+
+pub or_true : (a : Bool) → (a || true) ≡ true
+or_true true = refl
+or_true false = refl
+
+or_swap : (a b c : Bool) → (a || (b || c)) ≡ (b || (a || c))
+or_swap true true c = refl
+or_swap true false c = refl
+or_swap false b c = refl
+
+pub or_assoc : (a b c : Bool) → ((a || b) || c) ≡ (a || (b || c))
+or_assoc true b c = refl
+or_assoc false b c = refl
+
+pub set_pages-same : (pages : List (ℕ × Page)) (f g : ℕ → Option Page) → ((q : ℕ) → f q ≡ g q) → (q : ℕ) → set_pages pages f q ≡ set_pages pages g q
+set_pages-same [] f g e q = e q
+set_pages-same (one ∷ rest) f g e q =
+    set_pages-same rest (λ r. cond (r == one.0) (Some one.1) (f r)) (λ r. cond (r == one.0) (Some one.1) (g r)) (λ r. ap (λ (o : Option Page). cond (r == one.0) (Some one.1) o) (e r)) q
+
+-- what holds of the pages set and of the others holds of each that is there then
+pub all_set : (P : ℕ → Page → Type 0) (pages : List (ℕ × Page)) (f : ℕ → Option Page) → All (λ c. P c.0 c.1) pages → ((q : ℕ) (page : Page) → f q ≡ Some page → P q page)
+    → (q : ℕ) (page : Page) → set_pages pages f q ≡ Some page → P q page
+all_set P [] f set others q page e = others q page e
+all_set P (one ∷ rest) f set others q page e =
+    let C = λ (c : ℕ × Page). P c.0 c.1 in
+    all_set P rest (λ r. cond (r == one.0) (Some one.1) (f r)) (All-tail C one rest set)
+    (λ r other is. elim (cases_Bool (r == one.0)) [
+      | inl here ↦
+          let same : r ≡ one.0 = eqb-true r one.0 here in
+          let page_is : Some one.1 ≡ Some other = sym (set_one-same f one.0 one.1 r same) ∙ is in
+          let page_same : one.1 ≡ other = cc in
+          subst (λ (n : ℕ). P n other) (sym same) (subst (λ (p : Page). P one.0 p) page_same (All-head C one rest set))
+      | inr off ↦ others r other (sym (set_one-other f one.0 one.1 r (eqb-false r one.0 off)) ∙ is)
+    ]) q page e
+
+-- a page is there once others were set exactly where it was, or is one of them
+pub set_some : (pages : List (ℕ × Page)) (f : ℕ → Option Page) (q : ℕ) → is_some (set_pages pages f q) ≡ (has_page q pages || is_some (f q))
+set_some [] f q = refl
+set_some (one ∷ rest) f q =
+    set_some rest (λ r. cond (r == one.0) (Some one.1) (f r)) q
+    ∙ elim (q == one.0) as (λ b. (has_page q rest || is_some (cond b (Some one.1) (f q))) ≡ ((b || has_page q rest) || is_some (f q))) [ true ↦ or_true (has_page q rest) | false ↦ refl ]
+
+-- ---- numbers in lists
+
+pub or_none : (a b : Bool) → (a || b) ≡ false → (a ≡ false) × (b ≡ false)
+or_none true b e = cc e
+or_none false b e = (refl, e)
+
+pub or_either : (a b : Bool) → IsTrue (a || b) → IsTrue a ⊎ IsTrue b
+or_either true b e = inl refl
+or_either false b e = inr e
+
+-- what holds of the number of each page holds of one of them
+pub has_all : (Q : ℕ → Type 0) (pages : List (ℕ × Page)) (q : ℕ) → All (λ c. Q c.0) pages → IsTrue (has_page q pages) → Q q
+has_all Q [] q all is = cc is
+has_all Q (one ∷ rest) q all is =
+    let R = λ (c : ℕ × Page). Q c.0 in
+    elim (or_either (q == one.0) (has_page q rest) is) [
+      | inl here ↦ subst Q (sym (eqb-true q one.0 here)) (All-head R one rest all)
+      | inr later ↦ has_all Q rest q (All-tail R one rest all) later
+    ]
+
+pub among_all : (Q : ℕ → Type 0) (ids : List ℕ) (q : ℕ) → All Q ids → IsTrue (is_among q ids) → Q q
+among_all Q [] q all is = cc is
+among_all Q (id ∷ rest) q all is = elim (or_either (q == id) (is_among q rest) is) [
+  | inl here ↦ subst Q (sym (eqb-true q id here)) (All-head Q id rest all)
+  | inr later ↦ among_all Q rest q (All-tail Q id rest all) later
+]
+
+-- a page that isn't one of those that were set is as before
+pub set_not : (pages : List (ℕ × Page)) (f : ℕ → Option Page) (q : ℕ) → has_page q pages ≡ false → set_pages pages f q ≡ f q
+set_not [] f q none = refl
+set_not (one ∷ rest) f q none =
+    let off = or_none (q == one.0) (has_page q rest) none in
+    set_not rest (λ r. cond (r == one.0) (Some one.1) (f r)) q off.1 ∙ ap (λ (b : Bool). cond b (Some one.1) (f q)) off.0
+
+-- nor is one where none is then
+pub none_set : (pages : List (ℕ × Page)) (f : ℕ → Option Page) (q : ℕ) → set_pages pages f q ≡ None → (f q ≡ None) × (has_page q pages ≡ false)
+none_set pages f q none =
+    let off = or_none (has_page q pages) (is_some (f q)) (sym (set_some pages f q) ∙ ap (λ (o : Option Page). is_some o) none) in
+    (sym (set_not pages f q off.0) ∙ none, off.0)
+
+-- pages that others have too are so once the same were set in both
+pub set_both : (pages : List (ℕ × Page)) (f g : ℕ → Option Page) → ((q : ℕ) (page : Page) → f q ≡ Some page → g q ≡ Some page) → (q : ℕ) (page : Page) → set_pages pages f q ≡ Some page → set_pages pages g q ≡ Some page
+set_both [] f g h q page e = h q page e
+set_both (one ∷ rest) f g h q page e =
+    set_both rest (λ r. cond (r == one.0) (Some one.1) (f r)) (λ r. cond (r == one.0) (Some one.1) (g r))
+    (λ r page. elim (r == one.0) as (λ b. cond b (Some one.1) (f r) ≡ Some page → cond b (Some one.1) (g r) ≡ Some page) [ true ↦ λ e. e | false ↦ h r page ]) q page e
+
+pub or_cond : (a b : Bool) → cond a true b ≡ (a || b)
+or_cond true b = refl
+or_cond false b = refl
+
+-- one number added, of those that are left
+pub add_next : (q id : ℕ) (rest : List ℕ) (before after : Bool) → after ≡ (nat_eq q id || before) → (is_among q rest || after) ≡ (is_among q (id ∷ rest) || before)
+add_next q id rest before after is =
+    ap (λ (b : Bool). is_among q rest || b) is ∙ or_swap (is_among q rest) (q == id) before ∙ sym (or_assoc (q == id) (is_among q rest) before)
+
+-- ---- one page set, of those that are left
+
+pub one_less : (items rest : List (ℕ × Page)) → 0 < length items → rest ≡ remove items 0 → length items ≡ suc (length rest)
+one_less [] rest lt is = absurd (omega (arith, lt))
+one_less (x ∷ xs) rest lt is = ap (λ (l : List (ℕ × Page)). suc (length l)) (sym is)
+
+pub record SetsOne (items rest whole : List (ℕ × Page)) (new start : ℕ → Option Page) (marked before : ℕ → Bool) : Type 0 where
+  pub set : (q : ℕ) → set_pages rest new q ≡ set_pages whole start q
+  pub marks : (q : ℕ) → (has_page q rest || marked q) ≡ (has_page q whole || before q)
+
+pub set_one : (items rest whole : List (ℕ × Page)) (one : ℕ × Page) (new f start : ℕ → Option Page) (marked m before : ℕ → Bool) → 0 < length items → one ≡ get_or items 0 one → rest ≡ remove items 0
+    → ((q : ℕ) → new q ≡ set_pages (one ∷ []) f q) → ((q : ℕ) → marked q ≡ (nat_eq q one.0 || m q))
+    → ((q : ℕ) → set_pages items f q ≡ set_pages whole start q) → ((q : ℕ) → (has_page q items || m q) ≡ (has_page q whole || before q))
+    → SetsOne items rest whole new start marked before
+set_one [] rest whole one new f start marked m before lt is left e marks set all = absurd (omega (arith, lt))
+set_one (x ∷ xs) rest whole one new f start marked m before lt is left e marks set all = record {
+  set = λ q.
+      ap (λ (l : List (ℕ × Page)). set_pages l new q) left
+      ∙ set_pages-same xs new (λ r. cond (r == one.0) (Some one.1) (f r)) e q
+      ∙ ap (λ (p : ℕ × Page). set_pages xs (λ r. cond (r == p.0) (Some p.1) (f r)) q) is
+      ∙ set q;
+  marks = λ q.
+      ap (λ (l : List (ℕ × Page)). has_page q l || marked q) left
+      ∙ ap (λ (b : Bool). has_page q xs || b) (marks q ∙ ap (λ (p : ℕ × Page). (q == p.0) || m q) is)
+      ∙ or_swap (has_page q xs) (q == x.0) (m q) ∙ sym (or_assoc (q == x.0) (has_page q xs) (m q)) ∙ all q;
+}

@@ -1,0 +1,47 @@
+use Rattle.std.proofs.Common.{◌≡◌, ◌≤◌, length, get_or, subst, ap, ◌∙◌, arith}
+use Rattle.std.proofs.lemmas.Result.{on_ok_weaker}
+use Rattle.std.specs.Prelude.{nat_eq, IfOk}
+use Rattle.std.specs.HashMap.{get}
+use Rattle.hb_ops.specs.Operations.{reads_of}
+use Rattle.hb_log_codec.specs.Groups.{FitsGroup, Logged, group_bytes}
+use Rattle.hb_store.specs.Calls.{read_here}
+use Rattle.hb_store.specs.Images.{group_here}
+use Rattle.hb_store.specs.States.{IsMemory, StoreState, in_memory, is_imaged}
+use Rattle.hb_store.proofs.Changed.{good_readable, limits_of}
+use Rattle.hb_store.proofs.Grouped.{fits_group, good_spelled, if_both, spelled_in}
+use Rattle.hb_store.proofs.Held.{group_seen, map_seen}
+use Rattle.hb_store.proofs.memory.Memory.group.Goals as goal
+
+pub group_for-requires-clause-spelled : goal.group_for-requires-clause-spelled
+group_for-requires-clause-spelled c =
+    let held = c.self.inside in
+    λ id. spelled_in (get nat_eq held.pages id) (λ page e. good_spelled held.meta page (c.self.invariant.good id page (map_seen held.pages id ∙ e)).2)
+
+pub group_for-requires-clause-parts : goal.group_for-requires-clause-parts
+group_for-requires-clause-parts c =
+    let st = c.args.self.now in
+    let op = c.args.op.now in
+    let is : IsMemory st = subst IsMemory c.self.view_is c.self.invariant in
+    c.what_is_made_can_be_written.ensures.parts op st.meta (read_here st op 0) (read_here st op 1) (read_here st op 2) (limits_of st.turn st.meta is.stands) c.requires.allowed
+    (good_readable st.meta (in_memory st) is.good (get_or (reads_of op) 0 0))
+
+pub returns-clause-bytes : goal.returns-clause-bytes
+returns-clause-bytes c =
+    let st = c.args.self.now in
+    let same = group_seen c.self.inside.pages c.self.inside.imaged st (ap (λ (s : StoreState). s.pages) c.self.view_is) (ap (λ (s : StoreState). s.imaged) c.self.view_is) c.args.op.now in
+    subst (λ (l : Logged). IfOk c.group_for.result (λ group. group.items ≡ group_bytes l)) same c.group_for.ensures.bytes
+
+pub returns-clause-fits : goal.returns-clause-fits
+returns-clause-fits c =
+    let st = c.args.self.now in
+    let is : IsMemory st = subst IsMemory c.self.view_is c.self.invariant in
+    on_ok_weaker c.group_for.result (λ fits. fits_group (in_memory st) (is_imaged st) st.turn st.meta c.args.op.now is.stands is.good (fits st.meta.k c.requires.points)) c.group_for.ensures.op
+
+pub returns-clause-short : goal.returns-clause-short
+returns-clause-short c =
+    let st = c.args.self.now in
+    let is : IsMemory st = subst IsMemory c.self.view_is c.self.invariant in
+    let logged = group_here st c.args.op.now in
+    if_both c.group_for.result (FitsGroup st.meta.k logged) (λ group. group.items ≡ group_bytes logged) (λ group. length group.items ≤ 16384)
+    (λ fits group is_bytes. omega (arith, ap length is_bytes, c.groups_are_short.ensures.short st.meta.k logged is.stands.layout.few_attributes fits))
+    (returns-clause-fits c) (returns-clause-bytes c)

@@ -1,0 +1,15 @@
+-- How what a store has in memory is held: pages in a hash map by their numbers, and the numbers of the imaged ones in a hash set.
+use Rattle.std.specs.FinMap as map
+use Rattle.std.specs.FinSet as set
+use Rattle.hb_store.specs.States.{StoreState}
+use Rattle.hb_store.specs.declared.memory.Memory.TheInside.{Inside}
+
+abbrev pub memory_seen : Inside → StoreState
+memory_seen m = record {
+  turn = m.turn;
+  meta = m.meta;
+  log = m.log;
+  pages = map.from_entries m.pages.entries;
+  imaged = set.from_list m.imaged.keys;
+  stopped = m.stopped;
+}

@@ -1,0 +1,82 @@
+//! Pages in memory, and the numbers of those that the log has.
+ghost use Rattle.std.specs.Prelude.{◌≡◌, ℕ, ◌+◌, ◌<◌, ◌≤◌, ◌∷◌, ◌||◌, [], length, OnOk, nat_eq};
+ghost use Rattle.std.specs.HashMap.{get, spare};
+ghost use Rattle.std.specs.HashSet.{contains, spare as spare_of};
+ghost use Rattle.hb_store.specs.Marks.{has_page, is_among};
+ghost use Rattle.hb_store.specs.Replay.{set_pages};
+
+use arrayvec::ArrayVec;
+use hb_frag::Page;
+use hb_space::NoMemory;
+use std::collections::{HashMap, HashSet};
+
+/// How many pages an operation reads or changes at most.
+const PAGES: usize = 3;
+
+/// Makes room for the pages that an operation changes, and for their numbers and those of the pages that it reads.
+/// Nothing else changes.
+pub(crate) fn reserve(
+    pages: &mut HashMap<u32, Page>,
+    imaged: &mut HashSet<u32>,
+) -> Result<(), NoMemory>
+    ensures pages { (q : ℕ) → get nat_eq pages.new q ≡ get nat_eq pages.old q }
+    ensures imaged { (q : ℕ) → contains nat_eq imaged.new q ≡ contains nat_eq imaged.old q }
+    ensures room { OnOk result (3 ≤ spare pages.new) }
+    ensures marks { OnOk result (6 ≤ spare_of imaged.new) }
+{
+    pages.reserve(PAGES)?;
+    imaged.reserve(2 * PAGES)
+}
+
+/// Adds numbers. It takes no memory.
+pub(crate) fn add_all(imaged: &mut HashSet<u32>, ids: &[u32])
+    requires { length ids.now ≤ spare_of imaged.old }
+    ensures added { (q : ℕ) → contains nat_eq imaged.new q ≡ (is_among q ids.now || contains nat_eq imaged.old q) }
+    ensures room { spare_of imaged.old ≤ spare_of imaged.new + length ids.now }
+{
+    for id in ids {
+        add(imaged, *id);
+    }
+}
+
+/// Adds a number. It takes no memory.
+fn add(imaged: &mut HashSet<u32>, id: u32)
+    requires { 0 < spare_of imaged.old }
+    ensures added { (q : ℕ) → contains nat_eq imaged.new q ≡ (nat_eq q id || contains nat_eq imaged.old q) }
+    ensures room { spare_of imaged.old ≤ spare_of imaged.new + 1 }
+{
+    match imaged.insert(id) {
+        Ok(_) => {}
+        Err(_) => unreachable!(),
+    }
+}
+
+/// Sets changed pages under their numbers, in order. It takes no memory.
+pub(crate) fn set_all(
+    pages: &mut HashMap<u32, Page>,
+    imaged: &mut HashSet<u32>,
+    mut changed: ArrayVec<(u32, Page), PAGES>,
+)
+    requires room { length changed.items ≤ spare pages.old }
+    requires marks { length changed.items ≤ spare_of imaged.old }
+    ensures pages { (q : ℕ) → get nat_eq pages.new q ≡ set_pages changed.items (get nat_eq pages.old) q }
+    ensures imaged { (q : ℕ) → contains nat_eq imaged.new q ≡ (has_page q changed.items || contains nat_eq imaged.old q) }
+{
+    while !changed.is_empty() {
+        let (id, page) = changed.remove(0);
+        add(imaged, id);
+        set(pages, id, page);
+    }
+}
+
+/// Sets a page under its number. It takes no memory.
+fn set(pages: &mut HashMap<u32, Page>, id: u32, page: Page)
+    requires { 0 < spare pages.old }
+    ensures set { (q : ℕ) → get nat_eq pages.new q ≡ set_pages ((id, page) ∷ []) (get nat_eq pages.old) q }
+    ensures room { spare pages.old ≤ spare pages.new + 1 }
+{
+    match pages.insert(id, page) {
+        Ok(_) => {}
+        Err(_) => unreachable!(),
+    }
+}

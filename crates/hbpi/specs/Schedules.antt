@@ -1,0 +1,33 @@
+-- Which texts are a schedule that `drive` serves.
+use Rattle.std.specs.Prelude.{◌≡◌, ℕ, true, List, All, Option, Ok, Err}
+use Rattle.hb_outside.specs.Streams.{Rose}
+use Rattle.hb_set.specs.declared.scripts.Line.{Line}
+use Rattle.hb_text.specs.Grammar.{text_read}
+use Rattle.hbpi.specs.Commands.{IsServed}
+use Rattle.hbpi.specs.Outcome.{IsTextOf, IsWholeText}
+use Rattle.hbpi.specs.declared.statuses.Status.{Status}
+use Rattle.hbpi.specs.declared.statuses.Status.TheVariants.{Done, Usage, BadText, SourceFault, SinkFault, DiskFault, Damaged, NoMemory, BadLayout, Small, NotBuilt}
+
+-- the text was read whole, and says these lines over k attributes and these steps
+pub record IsScheduled (k : ℕ) (left rest : Option (List ℕ)) (lines : List Line) (steps : List ℕ) : Type 0 where
+  pub text : List ℕ
+  pub whole : IsWholeText left rest text
+  pub says : text_read true k text ≡ Ok (record { lines = lines; steps = steps })
+
+-- what is built: no searches, and lines and steps of session 1 alone
+abbrev pub IsServedScript : List Line → List ℕ → Type 0
+IsServedScript lines steps = IsServed lines × All (λ (a : ℕ). a ≡ 1) steps
+
+-- why no schedule was read of a text over k attributes
+abbrev pub NotScheduled : ℕ → Option (List ℕ) → Option (List ℕ) → ℕ → ℕ → Status → Type 0
+NotScheduled k left rest before after (BadText bad) = (text : List ℕ) × IsTextOf left rest text × (text_read true k text ≡ Err bad) × (after ≡ before)
+NotScheduled k left rest before after SourceFault = Rose before after
+NotScheduled k left rest before after NotBuilt = (lines : List Line) × (steps : List ℕ) × IsScheduled k left rest lines steps × (¬ (IsServedScript lines steps)) × (after ≡ before)
+NotScheduled k left rest before after NoMemory = after ≡ before
+NotScheduled k left rest before after Done = ⊥
+NotScheduled k left rest before after SinkFault = ⊥
+NotScheduled k left rest before after DiskFault = ⊥
+NotScheduled k left rest before after Usage = ⊥
+NotScheduled k left rest before after (Damaged damage) = ⊥
+NotScheduled k left rest before after (Small needed found) = ⊥
+NotScheduled k left rest before after (BadLayout field value) = ⊥
