@@ -21,8 +21,6 @@ mod images;
 pub mod laws;
 mod mem_disk;
 mod rot_disk;
-#[cfg(test)]
-mod tests;
 mod threads;
 mod traits;
 

@@ -26,8 +26,6 @@
 #![tactic(auto)]
 
 mod carving;
-#[cfg(test)]
-mod carving_tests;
 mod fragments;
 mod joining;
 pub mod laws;
@@ -36,8 +34,6 @@ mod names;
 mod pages;
 mod paths;
 mod records;
-#[cfg(test)]
-mod tests;
 mod threads;
 
 pub use carving::{carve, carved_weight};

@@ -24,8 +24,6 @@ mod fields;
 mod groups;
 pub mod laws;
 mod reading;
-#[cfg(test)]
-mod tests;
 mod threads;
 mod writing;
 

@@ -24,12 +24,6 @@ mod local;
 mod looking;
 mod operations;
 mod posting;
-#[cfg(test)]
-mod samples;
-#[cfg(test)]
-mod shape_tests;
-#[cfg(test)]
-mod tests;
 mod threads;
 
 pub use changes::{ChangeError, Changed, change};

@@ -24,8 +24,6 @@ mod fragments;
 pub mod laws;
 mod numbers;
 mod records;
-#[cfg(test)]
-mod tests;
 mod threads;
 
 pub use decoding::decode;

@@ -21,8 +21,6 @@ pub mod laws;
 mod log;
 mod payloads;
 mod reading;
-#[cfg(test)]
-mod tests;
 mod threads;
 
 pub use areas::zero_area;

@@ -1,5 +1,5 @@
 use Rattle.std.proofs.Common.{[], arith}
-use Rattle.hb_wal.proofs.tests.begun.Goals as goal
+use Rattle.hb_disk_tests.proofs.logs.begun.Goals as goal
 
 pub returns : goal.returns
 returns g c =

@@ -4,7 +4,7 @@ use Rattle.std.proofs.lemmas.List.Elements.{All-from_recursion, recursion_from_A
 use Rattle.hb_log_codec.specs.declared.groups.Group.{Group}
 use Rattle.hb_log_codec.specs.Groups.{FitsGroup}
 use Rattle.hb_log_codec.specs.Reading.{logged}
-use Rattle.hb_log_codec.proofs.tests.read.Goals as goal
+use Rattle.hb_page_tests.proofs.groups.read.Goals as goal
 
 each_fits : (groups : List Group) → AllByRecursion (FitsGroup 1) (map logged groups) → AllByRecursion (λ g. FitsGroup 1 (logged g)) groups
 each_fits [] all = tt

@@ -1,0 +1,158 @@
+//! Calls over disks in memory, and the images that each moment leaves.
+
+ghost use Rattle.std.specs.Prelude.{◌≤◌};
+
+use crate::letters::{PICKS, disk_of, push_bytes};
+use crate::rows::expect_all;
+use hb_disk::{Device, Disk, MemDisk, Pick, RotDisk, write_behind_gate, write_in_order};
+use hb_space::NoMemory;
+use std::alloc::Global;
+use std::test::Fail;
+
+fn push_image(text: &mut String, disk: &MemDisk, before: u64, pick: Pick) -> Result<(), NoMemory> {
+    text.push(' ')?;
+    match disk.image(before, pick)? {
+        Some(image) => push_bytes(text, &image),
+        None => text.push_str("none"),
+    }
+}
+
+fn push_images(text: &mut String, disk: &MemDisk, before: u64) -> Result<(), NoMemory> {
+    for pick in PICKS {
+        push_image(text, disk, before, pick)?;
+    }
+    Ok(())
+}
+
+// Writes, syncs, writes, zeroes and reads: whether each succeeded.
+fn five_calls<D: Device>(disk: &mut D) -> [bool; 5]
+    requires { 8 ≤ (D.model disk.old).size }
+{
+    let wrote = disk.write(2, b"XY").is_ok();
+    let synced = disk.sync().is_ok();
+    let wrote_more = disk.write(5, b"Z").is_ok();
+    let zeroed = disk.zero(0, 1).is_ok();
+    let mut into = [0; 3];
+    let read = disk.read(4, &mut into).is_ok();
+    [wrote, synced, wrote_more, zeroed, read]
+}
+
+fn push_calls(text: &mut String, disk: &mut MemDisk) -> Result<(), NoMemory> {
+    if disk.size() < 8 {
+        return text.push_str("a small disk");
+    }
+    for done in five_calls(disk) {
+        text.push(if done { 'y' } else { 'n' })?;
+    }
+    Ok(())
+}
+
+/// Which of five calls succeed, and the images of a moment: from `FAILING | MOMENT`, the numbers of the calls
+/// that fail and the number of the call before which the moment lies.
+pub(crate) fn run(alloc: Global, question: &str) -> Result<String, Fail> {
+    let (failing, before) = question.split_once(" | ").ok_or("no moment")?;
+    let before = before.parse()?;
+    let mut disk = disk_of(alloc, "abcdefgh", failing)?;
+    let mut text = String::new(alloc);
+    push_calls(&mut text, &mut disk)?;
+    push_images(&mut text, &disk, before)?;
+    Ok(text)
+}
+
+// What both callers do to a disk of eight bytes.
+fn frame<D: Device>(disk: &mut D) -> bool {
+    disk.size() == 8 && write_behind_gate(disk, 1, b"ab").is_ok()
+}
+
+fn pieces<D: Device>(disk: &mut D) -> bool {
+    disk.size() == 8 && write_in_order(disk, 0, b"ab", 4, b"cd").is_ok()
+}
+
+fn images(alloc: Global, disk: &MemDisk, done: bool, before: &str) -> Result<String, Fail> {
+    let before = before.parse()?;
+    let mut text = String::new(alloc);
+    text.push(if done { 'y' } else { 'n' })?;
+    push_images(&mut text, disk, before)?;
+    Ok(text)
+}
+
+/// The images of a moment while `ab` is written behind a gate.
+pub(crate) fn gate(alloc: Global, question: &str) -> Result<String, Fail> {
+    let mut disk = disk_of(alloc, "ijklmnop", "")?;
+    let done = frame(&mut disk);
+    images(alloc, &disk, done, question)
+}
+
+/// The images of a moment while `ab` and then `cd` is written.
+pub(crate) fn order(alloc: Global, question: &str) -> Result<String, Fail> {
+    let mut disk = disk_of(alloc, "ijklmnop", "")?;
+    let done = pieces(&mut disk);
+    images(alloc, &disk, done, question)
+}
+
+#[test]
+fn images_of_each_moment(rt: HostRuntime) -> Result<(), Fail> {
+    expect_all(&rt, rt.alloc(), MOMENTS)
+}
+
+const MOMENTS: &str = "
+run:  | 0 => yyyyy abcdefgh abcdefgh abcdefgh
+run:  | 1 => yyyyy abcdefgh abXYefgh ab##efgh
+run:  | 2 => yyyyy abXYefgh abXYefgh abXYefgh
+run:  | 3 => yyyyy abXYefgh abXYeZgh abXYe#gh
+run:  | 4 => yyyyy abXYefgh _bXYeZgh #bXYe#gh
+run:  | 5 => yyyyy abXYefgh _bXYeZgh #bXYe#gh
+run:  | 6 => yyyyy none none none
+// a call of each kind fails
+run: 0 | 5 => nyyyy abcdefgh _bcdeZgh #bcde#gh
+run: 1 9 | 5 => ynyyy abcdefgh _bXYeZgh #b##e#gh
+run: 2 | 5 => yynyy abXYefgh _bXYefgh #bXYe#gh
+run: 3 2 | 5 => yynny abXYefgh abXYefgh #bXYe#gh
+run: 4 | 5 => yyyyn abXYefgh _bXYeZgh #bXYe#gh
+// a gate opens last
+gate: 0 => y ijklmnop ijklmnop ijklmnop
+gate: 1 => y ijklmnop ijabmnop ij##mnop
+gate: 2 => y ijabmnop ijabmnop ijabmnop
+gate: 3 => y ijabmnop i#abmnop i#abmnop
+gate: 4 => y i#abmnop i#abmnop i#abmnop
+// the second piece waits for the first
+order: 0 => y ijklmnop ijklmnop ijklmnop
+order: 1 => y ijklmnop abklmnop ##klmnop
+order: 2 => y abklmnop abklmnop abklmnop
+order: 3 => y abklmnop abklcdop abkl##op
+order: 4 => y abklcdop abklcdop abklcdop
+";
+
+#[test]
+fn a_disk_counts(rt: HostRuntime) -> Result<(), Fail> {
+    let alloc = rt.alloc();
+    let mut disk = disk_of(alloc, "abcdefgh", "")?;
+    let mut text = String::new(alloc);
+    push_calls(&mut text, &mut disk)?;
+    assert_eq!(rt; [disk.calls(), disk.clock(), disk.starved()], [5, 4, 0]);
+    assert_eq!(rt; disk.bytes(), b"\0bXYeZgh".as_slice());
+    Ok(())
+}
+
+fn read_twice<D: Device>(disk: &mut D) -> Option<[[u8; 4]; 2]> {
+    let mut first = [0; 4];
+    let mut second = [0; 4];
+    if disk.size() != 4 {
+        return None;
+    }
+    disk.read(0, &mut first).ok()?;
+    disk.read(0, &mut second).ok()?;
+    Some([first, second])
+}
+
+#[test]
+fn a_byte_goes_bad(rt: HostRuntime) -> Result<(), Fail> {
+    let mut disk = RotDisk {
+        inner: disk_of(rt.alloc(), "abcd", "")?,
+        before: 1,
+        at: 2,
+        byte: b'X',
+    };
+    assert_eq!(rt; read_twice(&mut disk), Some([*b"abcd", *b"abXd"]));
+    Ok(())
+}

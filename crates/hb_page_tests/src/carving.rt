@@ -1,0 +1,136 @@
+//! Boxes carved in one to four attributes, and leaves joined.
+
+ghost use Rattle.std.specs.Prelude.{◌≡◌, length, IfOk};
+ghost use Rattle.hb_frag.specs.Leaves.{weight_of};
+
+use crate::drawn::{frag_text, push_frag};
+use crate::rows::expect_all;
+use crate::spelled::{area_of, frag_of};
+use hb_frag::{Frag, Leaf, Node, carve, carved_weight, normal};
+use hb_space::{Area, Body, NoMemory, Point, Record, Records};
+use std::alloc::Global;
+use std::test::Fail;
+
+fn carved_text(alloc: Global, leaf: &Area, inner: &Area) -> Result<String, Fail> {
+    if leaf.lo().attributes() != inner.lo().attributes() || !leaf.meets(inner) {
+        return Err("not a posting".into());
+    }
+    let mut text = format!(in alloc; "{} ", carved_weight(leaf, inner))?;
+    push_frag(&mut text, &carve(alloc, leaf, inner, 1, 2)?)?;
+    Ok(text)
+}
+
+/// What a leaf of child 1 weighs, and then is, once child 2 is named over what the leaf's box has in
+/// common with another one, from `BOX by BOX`.
+pub(crate) fn carved(alloc: Global, question: &str) -> Result<String, Fail> {
+    let (leaf, inner) = question.split_once(" by ").ok_or("no box")?;
+    let leaf = area_of(leaf)?;
+    let inner = area_of(inner)?;
+    carved_text(alloc, &leaf, &inner)
+}
+
+/// A tree without cuts that part nothing.
+pub(crate) fn joined(alloc: Global, question: &str) -> Result<String, Fail> {
+    let frag = normal(alloc, frag_of(alloc, question)?)?;
+    Ok(frag_text(alloc, &frag)?)
+}
+
+#[test]
+fn leaves_carved(rt: HostRuntime) -> Result<(), Fail> {
+    expect_all(&rt, rt.alloc(), CARVED)
+}
+
+const CARVED: &str = "
+// one attribute: inside, over the upper end, over the lower one
+carve: 0..99 by 40..59 => 3 ( ^1 |0:40| ( ^2 |0:60| ^1 ) )
+carve: 0..99 by 40..200 => 2 ( ^1 |0:40| ^2 )
+carve: 10..99 by 0..39 => 2 ( ^2 |0:40| ^1 )
+// the same, around it, all but the greatest value
+carve: 10..99 by 10..99 => 1 ^2
+carve: 10..20 by 0..99 => 1 ^2
+carve: 0.. by 0..18446744073709551614 => 2 ( ^2 |0:18446744073709551615| ^1 )
+// two attributes: inside, over a corner
+carve: 0..99 0..99 by 40..59 30..69 => 5 ( ^1 |0:40| ( ( ^1 |1:30| ( ^2 |1:70| ^1 ) ) |0:60| ^1 ) )
+carve: 0..99 0..99 by 50..150 60..160 => 3 ( ^1 |0:50| ( ^1 |1:60| ^2 ) )
+// over one edge, along another one, around it
+carve: 10..20 10..20 by 0..30 15..30 => 2 ( ^1 |1:15| ^2 )
+carve: 10..20 10..20 by 10..20 0..12 => 2 ( ^2 |1:13| ^1 )
+carve: 10..20 10..20 by 0..30 0..30 => 1 ^2
+// three: inside, along an edge of the box, and beside a side of it
+carve: 0..9 0..9 0..9 by 4..5 4..5 4..5 => 7 ( ^1 |0:4| ( ( ^1 |1:4| ( ( ^1 |2:4| ( ^2 |2:6| ^1 ) ) |1:6| ^1 ) ) |0:6| ^1 ) )
+carve: 0..9 0..9 0..9 by 0..1 0..9 8..9 => 3 ( ( ^1 |2:8| ^2 ) |0:2| ^1 )
+carve: 0..9 0..9 0..9 by 0..9 0..3 0..9 => 2 ( ^2 |1:4| ^1 )
+// four: inside, at a corner, the same
+carve: 0..9 0..9 0..9 0..9 by 4..5 4..5 4..5 4..5 => 9 ( ^1 |0:4| ( ( ^1 |1:4| ( ( ^1 |2:4| ( ( ^1 |3:4| ( ^2 |3:6| ^1 ) ) |2:6| ^1 ) ) |1:6| ^1 ) ) |0:6| ^1 ) )
+carve: 0..9 0..9 0..9 0..9 by 9..9 9..9 9..9 9..9 => 5 ( ^1 |0:9| ( ^1 |1:9| ( ^1 |2:9| ( ^1 |3:9| ^2 ) ) ) )
+carve: 0..9 0..9 0..9 0..9 by 0..9 0..9 0..9 0..9 => 1 ^2
+";
+
+#[test]
+fn leaves_joined(rt: HostRuntime) -> Result<(), Fail> {
+    expect_all(&rt, rt.alloc(), JOINED)
+}
+
+const JOINED: &str = "
+normal: ( 3=a,5=b |0:1| 1=c,4=d ) => 1=c,3=a,4=d,5=b
+normal: ( - |0:1| - ) => -
+normal: ( ( 5=a |0:1| 3=b ) |0:1| 1=c ) => 1=c,3=b,5=a
+normal: ( ^7 |0:1| ^7 ) => ^7
+normal: ( ( ^7 |0:1| ^7 ) |0:1| ^7 ) => ^7
+normal: ( ^7 |0:1| ^8 ) => ( ^7 |0:1| ^8 )
+normal: ( ( ^7 |0:1| ^7 ) |0:1| ^8 ) => ( ^7 |0:1| ^8 )
+normal: ( ( ^8 |0:1| ^7 ) |0:1| ^7 ) => ( ( ^8 |0:1| ^7 ) |0:1| ^7 )
+normal: ( >9 |0:1| >9 ) => ( >9 |0:1| >9 )
+normal: ( ^9 |0:1| >9 ) => ( ^9 |0:1| >9 )
+normal: ( ( 5=a |0:1| >9 ) |0:1| 3=b ) => ( ( 5=a |0:1| >9 ) |0:1| 3=b )
+";
+
+fn record_at(value: u64) -> Record {
+    let key = Point::new(&[value]);
+    let body = Body::new(b"body");
+    Record { key, body }
+}
+
+fn leaf_at(alloc: Global, value: u64) -> Result<Frag, NoMemory> {
+    let mut records = Vec::new(alloc);
+    records.push(record_at(value))?;
+    Ok(Frag::tip(Leaf::Records(Records::new(records))))
+}
+
+fn cut(alloc: Global, left: Frag, right: Frag) -> Result<Frag, NoMemory> {
+    let left = Box::new(alloc, left)?;
+    let right = Box::new(alloc, right)?;
+    Ok(Frag::cut(0, 1, left, right))
+}
+
+// 100 cuts, each with a record on its left side whose point is greater than all behind it.
+fn chain(alloc: Global) -> Result<Frag, NoMemory> {
+    let mut frag = leaf_at(alloc, 0)?;
+    for value in 1..=100 {
+        frag = cut(alloc, leaf_at(alloc, value)?, frag)?;
+    }
+    Ok(frag)
+}
+
+// Whether the tree is one leaf of 101 records, of the points 0 to 100 in their order.
+fn is_in_order(frag: &Frag) -> bool {
+    let Node::Tip(Leaf::Records(records)) = &frag.node else {
+        return false;
+    };
+    let mut wanted = 0;
+    for record in records.as_slice() {
+        if record.key.values() != [wanted].as_slice() {
+            return false;
+        }
+        wanted += 1;
+    }
+    wanted == 101
+}
+
+#[test]
+fn a_chain_joined(rt: HostRuntime) -> Result<(), Fail> {
+    let alloc = rt.alloc();
+    let frag = normal(alloc, chain(alloc)?)?;
+    assert!(rt; is_in_order(&frag));
+    Ok(())
+}

@@ -1,0 +1,332 @@
+//! Changes of pages of one attribute by each kind of operation, and rules that a page breaks.
+
+ghost use Rattle.std.specs.Prelude.{◌≡◌, ◌<◌, ◌^◌, IfOk, IfSome};
+ghost use Rattle.hb_frag.specs.Leaves.{weight_of};
+ghost use Rattle.hb_ops.specs.Operations.{OpHas};
+
+use crate::drawn::push_page;
+use crate::operations::op_of;
+use crate::rows::expect_all;
+use crate::spelled::page_of;
+use hb_frag::LivePage;
+use hb_ops::{ChangeError, Changed, Meta, Op, change, local_rule};
+use hb_space::NoMemory;
+use std::alloc::Global;
+use std::test::Fail;
+
+// Numbers in place of the first ones of these.
+fn numbers_of(text: &str) -> Result<[u32; 6], Fail> {
+    let mut numbers = [6, 8, 3, 3, 0, 2];
+    for (at, word) in text.split_whitespace().enumerate() {
+        match numbers.get_mut(at) {
+            Some(number) => *number = word.parse()?,
+            None => return Err("a number too many".into()),
+        }
+    }
+    Ok(numbers)
+}
+
+// A file of one attribute, from the weight that a page of level 0 may have, how many pages the file
+// may have, its high mark, the pages in use, its free head and its height.
+fn file_of(text: &str) -> Result<Meta, Fail>
+    ensures { IfOk result (λ meta. meta.k ≡ 1) }
+{
+    let [dcap, pages, high, live, free, height] = numbers_of(text)?;
+    Ok(Meta {
+        k: 1,
+        pages,
+        log: 0,
+        dcap: dcap.try_into()?,
+        icap: 4,
+        root: 1,
+        height: height.try_into()?,
+        high,
+        live,
+        free,
+    })
+}
+
+// No page, or the one of the text.
+fn standing(alloc: Global, text: &str) -> Result<Option<LivePage>, Fail>
+    ensures { IfOk result (λ page. IfSome page (λ p. weight_of p.frag < 2 ^ 32)) }
+{
+    if text == "none" {
+        Ok(None)
+    } else {
+        Ok(Some(page_of(alloc, text)?))
+    }
+}
+
+// The operation is taken by value: one that lives on has to be let go behind each `?`.
+fn change_of(
+    alloc: Global,
+    op: Op,
+    meta: &Meta,
+    page: Option<LivePage>,
+) -> Result<Changed, ChangeError>
+    requires attributes { meta.now.k ≡ 1 }
+    requires points { OpHas 1 op }
+    requires light { IfSome page (λ p. weight_of p.frag < 2 ^ 32) }
+{
+    change(alloc, &op, meta, page.as_ref(), None, None)
+}
+
+// Each page that changed, and what the file says of itself where that changed.
+fn push_changed(text: &mut String, meta: &Meta, changed: &Changed) -> Result<(), NoMemory> {
+    let mut mark = "";
+    for (id, page) in &changed.pages {
+        write!(text, "{mark}page {id} ")?;
+        push_page(text, page)?;
+        mark = "; ";
+    }
+    if changed.meta == *meta {
+        return Ok(());
+    }
+    let said = &changed.meta;
+    write!(
+        text,
+        "; file {} {} {} {} {}",
+        said.root, said.height, said.high, said.live, said.free
+    )
+}
+
+fn outcome(
+    alloc: Global,
+    meta: &Meta,
+    changed: Result<Changed, ChangeError>,
+) -> Result<String, NoMemory> {
+    match changed {
+        Ok(changed) => {
+            let mut text = String::new(alloc);
+            push_changed(&mut text, meta, &changed)?;
+            Ok(text)
+        }
+        Err(error) => format!(in alloc; "{error:?}"),
+    }
+}
+
+/// What an operation makes of a page, from `FILE | PAGE | OPERATION`. Where it changes what the file
+/// says of itself, that is told as the root, the height, the high mark, the pages in use and the
+/// free head.
+pub(crate) fn changed(alloc: Global, question: &str) -> Result<String, Fail> {
+    let (file, rest) = question.split_once(" | ").ok_or("no page")?;
+    let (page, op) = rest.split_once(" | ").ok_or("no operation")?;
+    let meta = file_of(file)?;
+    let page = standing(alloc, page)?;
+    let op = op_of(alloc, op)?;
+    Ok(outcome(alloc, &meta, change_of(alloc, op, &meta, page))?)
+}
+
+/// The first rule that a page breaks by itself. 0 where it keeps them all.
+pub(crate) fn rule(alloc: Global, question: &str) -> Result<String, Fail> {
+    let meta = file_of("")?;
+    let page = page_of(alloc, question)?;
+    let rule = local_rule(&page, &meta).unwrap_or(0);
+    Ok(format!(in alloc; "{rule}")?)
+}
+
+/// How many pages an operation reads, and their numbers.
+pub(crate) fn reads(alloc: Global, question: &str) -> Result<String, Fail> {
+    let reads = op_of(alloc, question)?.reads();
+    let mut text = format!(in alloc; "{}", reads.len())?;
+    for id in &reads {
+        write!(text, " {id}")?;
+    }
+    Ok(text)
+}
+
+#[test]
+fn puts_and_deletes(rt: HostRuntime) -> Result<(), Fail> {
+    expect_all(&rt, rt.alloc(), PUTS)
+}
+
+const PUTS: &str = "
+// an empty page, and the places before, between and behind others
+change: 6 | 0 - | put 3 7=a => page 3 0 0.. : 7=a
+change: 6 | 0 10=a,20=b | put 3 5=c => page 3 0 0.. : 5=c,10=a,20=b
+change: 6 | 0 10=a,20=b | put 3 15=c => page 3 0 0.. : 10=a,15=c,20=b
+change: 6 | 0 10=a,20=b | put 3 25=c => page 3 0 0.. : 10=a,20=b,25=c
+// an empty leaf weighs 1 already, so a full page takes its first record
+change: 5 | 0 ( 1=a,2=b,3=c |0:5| ( >2 |0:8| - ) ) | put 3 9=d => page 3 0 0.. : ( 1=a,2=b,3=c |0:5| ( >2 |0:8| 9=d ) )
+change: 5 | 0 ( 1=a,2=b,3=c |0:5| ( >2 |0:8| - ) ) | put 3 4=d => Unfit
+change: 6 | 0 ( 1=a,2=b,3=c |0:5| ( >2 |0:8| - ) ) | put 3 4=d => page 3 0 0.. : ( 1=a,2=b,3=c,4=d |0:5| ( >2 |0:8| - ) )
+change: 5 | 0 ( 1=a,2=b,3=c |0:5| ( >2 |0:8| 9=d ) ) | put 3 8=e => Unfit
+// a point that is there, one in a box that was given away, a page of a higher level
+change: 6 | 0 10=a,20=b | put 3 20=c => Unfit
+change: 6 | 0 ( 10=a |0:40| >2 ) | put 3 40=c => Unfit
+change: 6 | 0 ( 10=a |0:40| >2 ) | put 3 39=c => page 3 0 0.. : ( 10=a,39=c |0:40| >2 )
+change: 6 | 1 ( ^2 |0:40| ^1 ) | put 3 7=c => Unfit
+// a page that breaks a rule of its own
+change: 6 | 0 ( 10=a |0:40| 50=b ) | put 3 7=c => Unfit
+change: 6 | 2 ^2 | put 3 7=c => Unfit
+// what is there goes, and nothing else
+change: 6 | 0 10=a,20=b,30=c | del 3 10 => page 3 0 0.. : 20=b,30=c
+change: 6 | 0 10=a,20=b,30=c | del 3 20 => page 3 0 0.. : 10=a,30=c
+change: 6 | 0 10=a,20=b,30=c | del 3 30 => page 3 0 0.. : 10=a,20=b
+change: 6 | 0 ( 10=a |0:40| >2 ) | del 3 10 => page 3 0 0.. : ( - |0:40| >2 )
+change: 6 | 0 10=a,20=b,30=c | del 3 25 => Unfit
+change: 6 | 0 ( 10=a |0:40| >2 ) | del 3 40 => Unfit
+change: 6 | 0 - | del 3 0 => Unfit
+change: 2 | 0 10=a,20=b,30=c | del 3 10 => Unfit
+change: 6 | 1 ( ^2 |0:40| ^1 ) | del 3 7 => Unfit
+";
+
+#[test]
+fn first_broken_rules(rt: HostRuntime) -> Result<(), Fail> {
+    expect_all(&rt, rt.alloc(), RULES)
+}
+
+const RULES: &str = "
+rule: 0 - => 0
+rule: 0 ( 10=a,20=b |0:40| ( >2 |0:60| 70=c ) ) => 0
+rule: 1 ( ^2 |0:40| ( ^3 |0:60| >2 ) ) => 0
+rule: 1 ( ^2 |0:40| >2 ) => 0
+// the level
+rule: 2 ^2 => 3
+// cuts at and above the edges of a box
+rule: 0 ( 10=a |0:0| >2 ) => 4
+rule: 0 ( 10=a |0:40| ( >2 |0:30| 70=c ) ) => 4
+// kinds of leaves, the weight, a lone sibling leaf
+rule: 0 ^2 => 5
+rule: 1 10=a => 5
+rule: 0 1=a,2=b,3=c,4=d,5=e,6=f,7=g => 5
+rule: 0 1=a,2=b,3=c,4=d,5=e,6=f => 0
+rule: 1 ( ^2 |0:2| ( ^3 |0:3| ( ^2 |0:4| ( ^3 |0:5| ^2 ) ) ) ) => 5
+rule: 0 >2 => 5
+// a record outside its box, and points that are equal and that fall
+rule: 0 ( 50=a |0:40| >2 ) => 6
+rule: 0 10=a,10=b => 6
+rule: 0 20=a,10=b => 6
+// sides that should be one leaf
+rule: 0 ( 10=a |0:40| 50=b ) => 10
+rule: 1 ( ^2 |0:40| ^2 ) => 10
+// two rules at once
+rule: 2 ( 10=a |0:0| >2 ) => 3
+rule: 0 ( ^2 |0:0| ^2 ) => 4
+rule: 0 ( 50=a |0:40| ^2 ) => 5
+rule: 0 ( 50=a |0:40| 60=b ) => 6
+// a box of two attributes in a file of one
+rule: 0 0.. 0.. : >2 => 3
+";
+
+#[test]
+fn parts_that_leave(rt: HostRuntime) -> Result<(), Fail> {
+    expect_all(&rt, rt.alloc(), SPLITS)
+}
+
+const SPLITS: &str = "
+// a leaf on the right, one on the left, and a side of a cut
+change: 6 | 0 ( 10=a |0:40| ( >2 |0:60| 70=b ) ) | split 3 RR - 4 0 => page 3 0 0.. : ( 10=a |0:40| ( >2 |0:60| >4 ) ); page 4 0 60.. : 70=b; file 1 2 4 4 0
+change: 6 | 0 ( 10=a |0:40| ( >2 |0:60| 70=b ) ) | split 3 L - 4 0 => page 3 0 0.. : ( >4 |0:40| ( >2 |0:60| 70=b ) ); page 4 0 0..39 : 10=a; file 1 2 4 4 0
+change: 6 | 0 ( 10=a |0:40| ( >2 |0:60| 70=b ) ) | split 3 R - 4 0 => page 3 0 0.. : ( 10=a |0:40| >4 ); page 4 0 40.. : ( >2 |0:60| 70=b ); file 1 2 4 4 0
+change: 6 | 1 ( ^2 |0:40| ( ^3 |0:60| ^2 ) ) | split 3 R - 4 0 => page 3 1 0.. : ( ^2 |0:40| >4 ); page 4 1 40.. : ( ^3 |0:60| ^2 ); file 1 2 4 4 0
+// one cut of a records leaf, and two, one inside the other
+change: 6 | 0 10=a,20=b,30=c,40=d,50=e | split 3 . 0L30 4 0 => page 3 0 0.. : ( >4 |0:30| 30=c,40=d,50=e ); page 4 0 0..29 : 10=a,20=b; file 1 2 4 4 0
+change: 6 | 0 10=a,20=b,30=c,40=d,50=e | split 3 . 0R20,0L50 4 0 => page 3 0 0.. : ( 10=a |0:20| ( >4 |0:50| 50=e ) ); page 4 0 20..49 : 20=b,30=c,40=d; file 1 2 4 4 0
+change: 6 | 0 ( >2 |0:5| 10=a,20=b,30=c ) | split 3 R 0L20 4 0 => page 3 0 0.. : ( >2 |0:5| ( >4 |0:20| 20=b,30=c ) ); page 4 0 5..19 : 10=a; file 1 2 4 4 0
+// a path that leads out, a lone sibling leaf, the whole page
+change: 6 | 0 ( 10=a |0:40| >2 ) | split 3 LL - 4 0 => Unfit
+change: 6 | 0 ( 10=a |0:40| >2 ) | split 3 R - 4 0 => Unfit
+change: 6 | 0 ( 10=a |0:40| >2 ) | split 3 . - 4 0 => Unfit
+change: 6 | 0 10=a | split 3 . - 4 0 => Unfit
+// a cut of no records leaf, and cuts that leave no record on one side
+change: 6 | 0 ( 10=a |0:40| >2 ) | split 3 R 0R50 4 0 => Unfit
+change: 6 | 0 ( 10=a |0:40| >2 ) | split 3 . 0R5 4 0 => Unfit
+change: 6 | 1 ( ^2 |0:40| ^3 ) | split 3 L 0R5 4 0 => Unfit
+change: 6 | 0 10=a,20=b | split 3 . 0R10 4 0 => Unfit
+change: 6 | 0 10=a,20=b | split 3 . 0L21 4 0 => Unfit
+change: 6 | 0 10=a,20=b,30=c | split 3 . 0R20,0L40 4 0 => Unfit
+// a plane at the end of the box, one that the first cut left behind, another attribute
+change: 6 | 0 10=a,20=b | split 3 . 0R0 4 0 => Unfit
+change: 6 | 0 10=a,20=b,30=c | split 3 . 0R20,0R20 4 0 => Unfit
+change: 6 | 0 10=a,20=b | split 3 . 1R20 4 0 => Unfit
+// a page that breaks a rule of its own
+change: 6 | 0 ( 10=a |0:40| 50=b ) | split 3 L - 4 0 => Unfit
+change: 6 | 2 ( ^2 |0:40| ^3 ) | split 3 L - 4 0 => Unfit
+";
+
+#[test]
+fn numbers_that_are_taken(rt: HostRuntime) -> Result<(), Fail> {
+    expect_all(&rt, rt.alloc(), NUMBERS)
+}
+
+const NUMBERS: &str = "
+// behind the high mark, and not elsewhere
+change: 6 8 3 3 0 | 1 ( ^2 |0:40| ^3 ) | split 3 R - 4 0 => page 3 1 0.. : ( ^2 |0:40| >4 ); page 4 1 40.. : ^3; file 1 2 4 4 0
+change: 6 4 3 3 0 | 1 ( ^2 |0:40| ^3 ) | split 3 R - 4 0 => page 3 1 0.. : ( ^2 |0:40| >4 ); page 4 1 40.. : ^3; file 1 2 4 4 0
+change: 6 8 3 3 0 | 1 ( ^2 |0:40| ^3 ) | split 3 R - 5 0 => Unfit
+change: 6 8 3 3 0 | 1 ( ^2 |0:40| ^3 ) | split 3 R - 3 0 => Unfit
+change: 6 8 3 3 0 | 1 ( ^2 |0:40| ^3 ) | split 3 R - 0 0 => Unfit
+change: 6 8 3 3 0 | 1 ( ^2 |0:40| ^3 ) | split 3 R - 4 1 => Unfit
+// the head of the free chain, and nothing else
+change: 6 8 5 3 2 | 1 ( ^2 |0:40| ^3 ) | split 3 R - 2 1 => page 3 1 0.. : ( ^2 |0:40| >2 ); page 2 1 40.. : ^3; file 1 2 5 4 1
+change: 6 8 5 3 2 | 1 ( ^2 |0:40| ^3 ) | split 3 R - 2 0 => page 3 1 0.. : ( ^2 |0:40| >2 ); page 2 1 40.. : ^3; file 1 2 5 4 0
+change: 6 8 5 3 2 | 1 ( ^2 |0:40| ^3 ) | split 3 R - 1 0 => Unfit
+change: 6 8 5 3 2 | 1 ( ^2 |0:40| ^3 ) | split 3 R - 6 0 => Unfit
+change: 6 8 5 3 7 | 1 ( ^2 |0:40| ^3 ) | split 3 R - 7 0 => Unfit
+// no room: each page is in use, or the high mark is at the last one
+change: 6 3 3 3 0 | 1 ( ^2 |0:40| ^3 ) | split 3 R - 4 0 => Unfit
+change: 6 5 5 5 2 | 1 ( ^2 |0:40| ^3 ) | split 3 R - 2 0 => Unfit
+change: 6 4 4 3 0 | 1 ( ^2 |0:40| ^3 ) | split 3 R - 5 0 => Unfit
+// the page that is split itself, where a file says that it is free
+change: 6 8 5 4 3 | 1 ( ^2 |0:40| ^3 ) | split 3 R - 3 0 => page 3 1 0.. : ( ^2 |0:40| >3 ); page 3 1 40.. : ^3; file 1 2 5 5 0
+// a page where two leaves name the same child
+change: 6 16 9 9 0 | 1 ( ^2 |0:40| ( ^3 |0:60| ^2 ) ) | split 9 R - 10 0 => page 9 1 0.. : ( ^2 |0:40| >10 ); page 10 1 40.. : ( ^3 |0:60| ^2 ); file 1 2 10 10 0
+// growths
+change: 6 8 3 3 0 | none | grow 4 0 => page 4 2 0.. : ^1; file 4 3 4 4 0
+change: 6 8 5 3 2 | none | grow 2 4 => page 2 2 0.. : ^1; file 2 3 5 4 4
+change: 6 16 12 12 0 11 | none | grow 13 0 => page 13 11 0.. : ^1; file 13 12 13 13 0
+change: 6 16 12 12 0 12 | none | grow 13 0 => Unfit
+change: 6 8 5 3 2 | none | grow 6 0 => Unfit
+change: 6 3 3 3 0 | none | grow 4 0 => Unfit
+";
+
+#[test]
+fn postings(rt: HostRuntime) -> Result<(), Fail> {
+    expect_all(&rt, rt.alloc(), POSTS)
+}
+
+const POSTS: &str = "
+// below, above and inside
+change: 6 | 1 ^1 | post 3 . 2 0..39 => page 3 1 0.. : ( ^2 |0:40| ^1 )
+change: 6 | 1 ^1 | post 3 . 2 40.. => page 3 1 0.. : ( ^1 |0:40| ^2 )
+change: 6 | 1 ^1 | post 3 . 2 40..59 => page 3 1 0.. : ( ^1 |0:40| ( ^2 |0:60| ^1 ) )
+change: 6 | 1 ( ^1 |0:40| ^3 ) | post 3 R 2 0..59 => page 3 1 0.. : ( ^1 |0:40| ( ^2 |0:60| ^3 ) )
+// the whole leaf, and where two leaves join then
+change: 6 | 1 ( ^1 |0:40| ^3 ) | post 3 L 2 0..39 => page 3 1 0.. : ( ^2 |0:40| ^3 )
+change: 6 | 1 ( ^1 |0:40| ^2 ) | post 3 L 2 0.. => page 3 1 0.. : ^2
+change: 6 | 1 ( ^3 |0:20| ( ^1 |0:40| ^2 ) ) | post 3 RL 2 20..39 => page 3 1 0.. : ( ^3 |0:20| ^2 )
+// exactly enough room, and one too little
+change: 6 | 1 ( ^1 |0:40| ( ^3 |0:60| ^1 ) ) | post 3 L 2 0..19 => page 3 1 0.. : ( ( ^2 |0:20| ^1 ) |0:40| ( ^3 |0:60| ^1 ) )
+change: 6 | 1 ( ^1 |0:40| ( ^3 |0:60| ^1 ) ) | post 3 L 2 10..19 => Unfit
+change: 6 | 1 ( ^1 |0:40| ( ^3 |0:60| ( ^1 |0:80| ^3 ) ) ) | post 3 L 2 0..19 => Unfit
+change: 6 | 1 ( ^1 |0:40| ( ^3 |0:60| ( ^1 |0:80| ^3 ) ) ) | post 3 L 2 0..39 => page 3 1 0.. : ( ^2 |0:40| ( ^3 |0:60| ( ^1 |0:80| ^3 ) ) )
+// the leaf names it already, or its box doesn't meet the one that was given
+change: 6 | 1 ^2 | post 3 . 2 0..39 => Unfit
+change: 6 | 1 ( ^1 |0:40| ^3 ) | post 3 R 2 0..39 => Unfit
+change: 6 | 1 ( ^1 |0:40| ^3 ) | post 3 L 2 40..59 => Unfit
+// no child leaf there, a page of level 0, one that breaks a rule of its own
+change: 6 | 1 ( ^1 |0:40| >3 ) | post 3 R 2 40..59 => Unfit
+change: 6 | 1 ( ^1 |0:40| ^3 ) | post 3 . 2 0..39 => Unfit
+change: 6 | 1 ^1 | post 3 L 2 0..39 => Unfit
+change: 6 | 0 10=a | post 3 . 2 0..39 => Unfit
+change: 6 | 1 ( ^1 |0:40| ^1 ) | post 3 L 2 0..19 => Unfit
+";
+
+#[test]
+fn pages_that_are_read(rt: HostRuntime) -> Result<(), Fail> {
+    expect_all(&rt, rt.alloc(), READS)
+}
+
+const READS: &str = "
+reads: put 3 5=a => 1 3
+reads: del 4 5 => 1 4
+reads: split 3 . 0R5 4 0 => 1 3
+reads: post 3 . 2 0..9 => 1 3
+reads: grow 4 0 => 0
+// without the page that is read
+change: 6 | none | put 3 7=a => Unfit
+change: 6 | none | del 3 7 => Unfit
+change: 6 | none | split 3 . 0R5 4 0 => Unfit
+change: 6 | none | post 3 . 2 0..9 => Unfit
+";

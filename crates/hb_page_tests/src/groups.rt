@@ -1,0 +1,133 @@
+//! Groups of the log as bytes over one attribute, read and written again.
+
+ghost use Rattle.std.specs.Prelude.{All};
+ghost use Rattle.hb_log_codec.specs.Groups.{FitsGroup};
+ghost use Rattle.hb_log_codec.specs.Reading.{logged};
+
+use crate::bytes::bytes_of;
+use crate::drawn::push_page;
+use crate::operations::push_op;
+use crate::rows::expect_all;
+use hb_log_codec::{Group, GroupsError, decode_all, encode};
+use hb_space::NoMemory;
+use std::alloc::Global;
+use std::test::Fail;
+
+fn written(alloc: Global, groups: &[Group]) -> Result<Vec<u8>, NoMemory>
+    requires { All (λ g. FitsGroup 1 (logged g)) groups.now }
+{
+    let mut bytes = Vec::new(alloc);
+    for group in groups {
+        encode(group, 1, &mut bytes)?;
+    }
+    Ok(bytes)
+}
+
+// The images of a group, and its operation.
+fn push_group(text: &mut String, group: &Group) -> Result<(), NoMemory> {
+    for (id, page) in &group.images {
+        write!(text, "image {id} ")?;
+        push_page(text, page)?;
+        text.push_str(", ")?;
+    }
+    push_op(text, &group.op)
+}
+
+fn groups_text(alloc: Global, groups: &[Group]) -> Result<String, NoMemory> {
+    let mut text = format!(in alloc; "{}", groups.len())?;
+    for group in groups {
+        text.push_str("; ")?;
+        push_group(&mut text, group)?;
+    }
+    Ok(text)
+}
+
+fn read(alloc: Global, bytes: &[u8]) -> Result<String, Fail> {
+    match decode_all(alloc, bytes, 1) {
+        Ok(groups) => {
+            if written(alloc, &groups)?.as_slice() != bytes {
+                return Err("written otherwise".into());
+            }
+            Ok(groups_text(alloc, &groups)?)
+        }
+        Err(GroupsError::BadBytes { at }) => Ok(format!(in alloc; "none at {at}")?),
+        Err(GroupsError::NoMemory) => Err("no memory".into()),
+    }
+}
+
+/// How many groups the bytes spell, and the groups; or where the first one begins that is none. The
+/// spelling of the groups has to be these bytes.
+pub(crate) fn groups(alloc: Global, question: &str) -> Result<String, Fail> {
+    let bytes = bytes_of(alloc, question)?;
+    read(alloc, &bytes)
+}
+
+#[test]
+fn payloads(rt: HostRuntime) -> Result<(), Fail> {
+    expect_all(&rt, rt.alloc(), PAYLOADS)
+}
+
+const PAYLOADS: &str = "
+groups: @0 => 0
+groups: put => 1; put 1 5=a
+groups: del => 1; del 7 5
+groups: split => 1; split 1 R 0L40 2 9
+groups: post => 1; post 3 L 2 0..39
+groups: grow => 1; grow 3 7
+// two groups in a row
+groups: put del => 2; put 1 5=a; del 7 5
+// a byte behind a group, and a group cut short behind another
+groups: put 0 => none at 16
+groups: del 0 1 0 0 => none at 14
+// a body of 32 bytes, one of 33, and one that is cut short
+groups: 0 1 0 0 0 1 7*0 5 32 32*97 => 1; put 1 5=aaaaaaaaaaaaaaaaaaaaaaaaaaaaaaaa
+groups: 0 1 0 0 0 1 7*0 5 33 33*97 => none at 0
+groups: 0 1 0 0 0 1 7*0 5 2 97 => none at 0
+// a split without path and cuts, which is one of its spellings though no page allows it
+groups: 0 3 0 0 0 1 0 0 0 2 0 0 0 0 0 0 => 1; split 1 . - 2 0
+// a box of one point
+groups: 0 4 0 0 0 3 0 0 0 0 2 7*0 5 7*0 5 => 1; post 3 . 2 5..5
+";
+
+#[test]
+fn one_byte_changed(rt: HostRuntime) -> Result<(), Fail> {
+    expect_all(&rt, rt.alloc(), CHANGED)
+}
+
+const CHANGED: &str = "
+// tags that no operation has
+groups: put 1:0 => none at 0
+groups: put 1:5 => none at 0
+groups: put 1:7 => none at 0
+// a step of a path and a side of a cut: 0 and 1 alone
+groups: split 15:0 => 1; split 1 L 0L40 2 9
+groups: split 15:2 => none at 0
+groups: split 26:1 => 1; split 1 R 0R40 2 9
+groups: split 26:2 => none at 0
+groups: post 7:2 => none at 0
+// any attribute of a cut, but no cut more or fewer
+groups: split 17:255 => 1; split 1 R 255L40 2 9
+groups: split 16:2 => none at 0
+groups: split 16:0 => none at 17
+// a lower value that equals the upper one, and one that exceeds it
+groups: post 19:39 => 1; post 3 L 2 39..39
+groups: post 19:40 => none at 0
+";
+
+#[test]
+fn images(rt: HostRuntime) -> Result<(), Fail> {
+    expect_all(&rt, rt.alloc(), IMAGES)
+}
+
+const IMAGES: &str = "
+groups: 1 0 0 0 1 page 1 0 0 0 1 7*0 5 1 97 => 1; image 1 free 0, put 1 5=a
+groups: 2 0 0 0 1 page 0 0 0 2 page 6 0 0 0 3 0 0 0 7 => 1; image 1 free 0, image 2 free 0, grow 3 7
+groups: 3 0 0 0 3 page 0 0 0 1 page 0 0 0 2 page 2 0 0 0 7 7*0 5 => 1; image 3 free 0, image 1 free 0, image 2 free 0, del 7 5
+// two of one page, also with another one between them
+groups: 2 0 0 0 1 page 0 0 0 1 page 6 0 0 0 3 0 0 0 7 => none at 0
+groups: 3 0 0 0 1 page 0 0 0 2 page 0 0 0 1 page 6 0 0 0 3 0 0 0 7 => none at 0
+// four, one that isn't there, and four that aren't
+groups: 4 0 0 0 1 page 0 0 0 2 page 0 0 0 3 page 0 0 0 4 page 6 0 0 0 3 0 0 0 7 => none at 0
+groups: put 0:1 => none at 0
+groups: put 0:4 => none at 0
+";

@@ -1,0 +1,211 @@
+//! Operations over one attribute from text, and as text.
+//!
+//! An operation is `put PAGE VALUE=BODY`, `del PAGE VALUE`, `split SOURCE PATH CUTS FRESH FREE`,
+//! `post PARENT PATH INNER BOX` or `grow FRESH FREE`, where FREE is the free head afterwards. Cuts
+//! are `ATTRIBUTE SIDE VALUE` without blanks, as `0L30`, with `,` between them, or `-` for none.
+
+ghost use Rattle.std.specs.Prelude.{◌≡◌, IfOk, length};
+ghost use Rattle.hb_space.specs.Boxes.{IsArea};
+ghost use Rattle.hb_ops.specs.Operations.{OpHas};
+
+use crate::drawn::{push_area, push_record};
+use crate::spelled::{area_of, path_of, record_of};
+use hb_frag::{Path, Side};
+use hb_ops::{Cuts, LeafCut, Op};
+use hb_space::{Area, NoMemory, Point};
+use smallvec::SmallVec;
+use std::alloc::Global;
+use std::test::Fail;
+
+fn put_of(text: &str) -> Result<Op, Fail>
+    ensures { IfOk result (λ op. OpHas 1 op) }
+{
+    let (page, rec) = text.split_once(' ').ok_or("no record")?;
+    let page = page.parse()?;
+    let rec = record_of(rec)?;
+    Ok(Op::Put { page, rec })
+}
+
+fn del_of(text: &str) -> Result<Op, Fail>
+    ensures { IfOk result (λ op. OpHas 1 op) }
+{
+    let (page, value) = text.split_once(' ').ok_or("no point")?;
+    let page = page.parse()?;
+    let point = Point::new(&[value.parse()?]);
+    Ok(Op::Del { page, point })
+}
+
+fn cut_of(text: &str) -> Result<LeafCut, Fail> {
+    let (side, mark) = if text.contains('L') {
+        (Side::Left, 'L')
+    } else {
+        (Side::Right, 'R')
+    };
+    let (axis, value) = text.split_once(mark).ok_or("no side")?;
+    let axis = axis.parse()?;
+    let value = value.parse()?;
+    Ok(LeafCut { axis, value, side })
+}
+
+fn cuts_of(alloc: Global, text: &str) -> Result<Cuts, Fail> {
+    let mut cuts = SmallVec::new(alloc);
+    if text != "-" {
+        for cut in text.split_terminator(',') {
+            cuts.push(cut_of(cut)?)?;
+        }
+    }
+    Ok(Cuts::new(cuts))
+}
+
+fn split_of(alloc: Global, text: &str) -> Result<Op, Fail>
+    ensures { IfOk result (λ op. OpHas 1 op) }
+{
+    let (source, rest) = text.split_once(' ').ok_or("no path")?;
+    let (path, rest) = rest.split_once(' ').ok_or("no cuts")?;
+    let (cuts, rest) = rest.split_once(' ').ok_or("no fresh page")?;
+    let (fresh, free) = rest.split_once(' ').ok_or("no free head")?;
+    let source = source.parse()?;
+    let fresh = fresh.parse()?;
+    let free_after = free.parse()?;
+    let path = path_of(alloc, path)?;
+    let cuts = cuts_of(alloc, cuts)?;
+    Ok(Op::Extract {
+        source,
+        fresh,
+        path,
+        cuts,
+        free_after,
+    })
+}
+
+// A box of one attribute.
+fn short_area_of(text: &str) -> Result<Area, Fail>
+    ensures { IfOk result (λ a. IsArea a × (length a.lo ≡ 1)) }
+{
+    let area = area_of(text)?;
+    if area.lo().attributes() == 1 {
+        Ok(area)
+    } else {
+        Err("a box of another space".into())
+    }
+}
+
+fn post_of(alloc: Global, text: &str) -> Result<Op, Fail>
+    ensures { IfOk result (λ op. OpHas 1 op) }
+{
+    let (parent, rest) = text.split_once(' ').ok_or("no path")?;
+    let (at, rest) = rest.split_once(' ').ok_or("no page")?;
+    let (inner, area) = rest.split_once(' ').ok_or("no box")?;
+    let parent = parent.parse()?;
+    let inner = inner.parse()?;
+    let area = short_area_of(area)?;
+    let at = path_of(alloc, at)?;
+    Ok(Op::Post {
+        parent,
+        at,
+        inner,
+        area,
+    })
+}
+
+fn grow_of(text: &str) -> Result<Op, Fail>
+    ensures { IfOk result (λ op. OpHas 1 op) }
+{
+    let (fresh, free) = text.split_once(' ').ok_or("no free head")?;
+    let fresh = fresh.parse()?;
+    let free_after = free.parse()?;
+    Ok(Op::Grow { fresh, free_after })
+}
+
+pub(crate) fn op_of(alloc: Global, text: &str) -> Result<Op, Fail>
+    ensures { IfOk result (λ op. OpHas 1 op) }
+{
+    let (verb, rest) = text.split_once(' ').ok_or("no operation")?;
+    match verb {
+        "put" => put_of(rest),
+        "del" => del_of(rest),
+        "split" => split_of(alloc, rest),
+        "post" => post_of(alloc, rest),
+        "grow" => grow_of(rest),
+        _ => Err("no such operation".into()),
+    }
+}
+
+fn push_path(text: &mut String, path: &Path) -> Result<(), NoMemory> {
+    if path.as_slice().is_empty() {
+        return text.push('.');
+    }
+    for side in path.as_slice() {
+        text.push(letter_of(*side))?;
+    }
+    Ok(())
+}
+
+fn letter_of(side: Side) -> char {
+    match side {
+        Side::Left => 'L',
+        Side::Right => 'R',
+    }
+}
+
+fn push_cuts(text: &mut String, cuts: &Cuts) -> Result<(), NoMemory> {
+    let mut mark = " ";
+    for cut in cuts.as_slice() {
+        write!(
+            text,
+            "{mark}{}{}{}",
+            cut.axis,
+            letter_of(cut.side),
+            cut.value
+        )?;
+        mark = ",";
+    }
+    if cuts.as_slice().is_empty() {
+        text.push_str(" -")?;
+    }
+    Ok(())
+}
+
+pub(crate) fn push_op(text: &mut String, op: &Op) -> Result<(), NoMemory> {
+    match op {
+        Op::Put { page, rec } => {
+            write!(text, "put {page} ")?;
+            push_record(text, rec)
+        }
+        Op::Del { page, point } => {
+            write!(text, "del {page}")?;
+            push_values(text, point)
+        }
+        Op::Extract {
+            source,
+            fresh,
+            path,
+            cuts,
+            free_after,
+        } => {
+            write!(text, "split {source} ")?;
+            push_path(text, path)?;
+            push_cuts(text, cuts)?;
+            write!(text, " {fresh} {free_after}")
+        }
+        Op::Post {
+            parent,
+            at,
+            inner,
+            area,
+        } => {
+            write!(text, "post {parent} ")?;
+            push_path(text, at)?;
+            write!(text, " {inner}")?;
+            push_area(text, area)
+        }
+        Op::Grow { fresh, free_after } => write!(text, "grow {fresh} {free_after}"),
+    }
+}
+
+fn push_values(text: &mut String, point: &Point) -> Result<(), NoMemory> {
+    for value in point.values() {
+        write!(text, " {value}")?;
+    }
+    Ok(())
+}

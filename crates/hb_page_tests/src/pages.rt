@@ -1,0 +1,147 @@
+//! Pages as bytes, read and written again.
+
+ghost use Rattle.hb_frag.specs.Grammar.{HasSpelling};
+
+use crate::bytes::bytes_of;
+use crate::drawn::push_page;
+use crate::rows::expect_all;
+use hb_frag::Page;
+use hb_page_codec::{PageError, decode, encode};
+use hb_space::NoMemory;
+use hb_space::form::PAGE;
+use std::alloc::Global;
+use std::test::Fail;
+
+// Whether the spelling of a page is these bytes.
+fn is_written(page: &Page, bytes: &[u8]) -> bool
+    requires { HasSpelling page.now }
+{
+    let mut into = [255; PAGE];
+    encode(page, &mut into);
+    into.as_slice() == bytes
+}
+
+fn page_text(alloc: Global, page: &Page) -> Result<String, NoMemory> {
+    let mut text = String::new(alloc);
+    push_page(&mut text, page)?;
+    Ok(text)
+}
+
+fn shown(alloc: Global, bytes: &[u8]) -> Result<String, Fail> {
+    match decode(alloc, bytes) {
+        Ok(page) if is_written(&page, bytes) => Ok(page_text(alloc, &page)?),
+        Ok(_) => Err("written otherwise".into()),
+        Err(PageError::BadPage) => Ok(String::from_str(alloc, "no page")?),
+        Err(PageError::NoMemory) => Err("no memory".into()),
+    }
+}
+
+/// The page that some bytes spell, with zeros behind them up to the length of a page. Its spelling
+/// has to be these bytes.
+pub(crate) fn page(alloc: Global, question: &str) -> Result<String, Fail> {
+    let mut bytes = bytes_of(alloc, question)?;
+    bytes.resize(PAGE, 0)?;
+    shown(alloc, &bytes)
+}
+
+/// The same of the bytes alone.
+pub(crate) fn bytes(alloc: Global, question: &str) -> Result<String, Fail> {
+    let bytes = bytes_of(alloc, question)?;
+    shown(alloc, &bytes)
+}
+
+/// How many bytes the text of a page has, for pages that are too long to be shown.
+pub(crate) fn long(alloc: Global, question: &str) -> Result<String, Fail> {
+    let text = page(alloc, question)?;
+    Ok(format!(in alloc; "{}", text.len())?)
+}
+
+#[test]
+fn pages_are_read_and_written(rt: HostRuntime) -> Result<(), Fail> {
+    expect_all(&rt, rt.alloc(), PAGES)
+}
+
+const PAGES: &str = "
+page: 2 0 0 0 7 => free 7
+page: first => 0 0.. : -
+page: first 1:255 => 255 0.. : -
+page: 1 0 4 0 @68 1 => 0 0..0 0..0 0..0 0..0 : -
+// records: an empty body, point 258 with the body abc, a body of 32 bytes
+page: first 22:1 => 0 0.. : 0=
+page: first @20 1 0 1 6*0 1 2 3 97 98 99 => 0 0.. : 258=abc
+page: first @20 1 0 1 8*0 32 32*97 => 0 0.. : 0=aaaaaaaaaaaaaaaaaaaaaaaaaaaaaaaa
+// a child and a sibling
+page: first @20 2 255 255 255 255 => 0 0.. : ^4294967295
+page: first @20 3 0 0 0 0 => 0 0.. : >0
+// cuts at 72,623,859,790,382,856 and at 256
+page: first @20 0 0 1 2 3 4 5 6 7 8 2 0 0 1 0 3 255 255 255 254 => 0 0.. : ( ^256 |0:72623859790382856| >4294967294 )
+page: first @20 0 0 6*0 1 0 1 0 1 7*0 5 1 97 3 0 0 0 9 => 0 0.. : ( 5=a |0:256| >9 )
+// 452 records, of which the last has a body of 5 letters: 0= for each, 451 commas, the body, and 8 in front
+long: full @4090 5 97 98 99 100 101 => 1368
+";
+
+/// The deepest tree that has room: 313 cuts, each the left side of the one before, and 314 empty
+/// leaves. Its text has 8 bytes in front, 11 for each cut, and one for each leaf.
+#[test]
+fn deepest(rt: HostRuntime) -> Result<(), Fail> {
+    expect_all(&rt, rt.alloc(), "long: first @20 3130*0 314*1,0,0 => 3765")
+}
+
+#[test]
+fn refused(rt: HostRuntime) -> Result<(), Fail> {
+    expect_all(&rt, rt.alloc(), REFUSED)
+}
+
+const REFUSED: &str = "
+// unknown kinds
+page: 0 => no page
+page: first 0:0 => no page
+page: first 0:3 => no page
+page: 3 0 0 0 7 => no page
+// bytes behind a free page's fields
+page: 2 0 0 0 7 1 => no page
+page: 2 0 0 0 7 @4095 1 => no page
+// no attribute, and five of them
+page: 1 0 0 0 1 0 0 => no page
+page: 1 0 5 0 @84 1 => no page
+// the byte that is zero
+page: first 3:1 => no page
+page: first 3:255 => no page
+// a lower value above its upper one, also in the last attribute
+page: 1 0 1 0 7*0 1 8*0 1 0 0 => no page
+page: 1 0 4 0 31*0 1 32*0 1 => no page
+// unknown tags
+page: first @20 4 => no page
+page: first @20 255 => no page
+// counts for which there is no room: of all, and of one too many
+page: first @21 255 255 => no page
+page: first @21 1 197 => no page
+// a body of 33 bytes, and one that passes the end
+page: first @20 1 0 1 8*0 33 => no page
+page: first @20 1 0 1 8*0 255 => no page
+page: full @4090 6 => no page
+// a cut of an attribute that isn't there
+page: first @20 0 1 8*0 1 0 0 1 0 0 => no page
+page: first @20 0 255 8*0 1 0 0 1 0 0 => no page
+// a cut with a bad left side, and with a bad right side
+page: first @20 0 0 8*0 4 0 0 1 0 0 => no page
+page: first @20 0 0 8*0 1 0 0 4 0 0 => no page
+// a tree that isn't whole: cuts up to the end of the page, and such cuts where the page ends behind
+// the tag of a cut, of a leaf of records and of a child
+page: first @20 => no page
+page: first @20 @4090 3 0 0 0 0 0 => no page
+page: first @20 @4090 3 0 0 0 0 1 => no page
+page: first @20 @4090 3 0 0 0 0 2 => no page
+// a body that leaves too few bytes for the last record
+page: full @31 32 => no page
+// bytes behind the tree
+page: first 1 => no page
+page: first @4095 1 => no page
+page: first @20 2 0 0 0 1 1 => no page
+page: full @4095 1 => no page
+// bytes that aren't as many as a page has
+bytes: first => no page
+bytes: @0 => no page
+bytes: first @4095 => no page
+bytes: first @4097 => no page
+";
