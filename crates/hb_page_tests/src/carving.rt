@@ -117,14 +117,12 @@ fn is_in_order(frag: &Frag) -> bool {
     let Node::Tip(Leaf::Records(records)) = &frag.node else {
         return false;
     };
-    let mut wanted = 0;
-    for record in records.as_slice() {
-        if record.key.values() != [wanted].as_slice() {
+    for (at, record) in records.as_slice().iter().enumerate() {
+        if record.key.values() != [at as u64].as_slice() {
             return false;
         }
-        wanted += 1;
     }
-    wanted == 101
+    records.as_slice().len() == 101
 }
 
 #[test]

@@ -73,11 +73,12 @@ fn change_of(
 
 // Each page that changed, and what the file says of itself where that changed.
 fn push_changed(text: &mut String, meta: &Meta, changed: &Changed) -> Result<(), NoMemory> {
-    let mut mark = "";
     for (id, page) in &changed.pages {
-        write!(text, "{mark}page {id} ")?;
+        if !text.is_empty() {
+            text.push_str("; ")?;
+        }
+        write!(text, "page {id} ")?;
         push_page(text, page)?;
-        mark = "; ";
     }
     if changed.meta == *meta {
         return Ok(());
