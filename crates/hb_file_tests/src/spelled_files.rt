@@ -1,0 +1,292 @@
+//! Files spelled as text, and sources of their pages, for the tests of audits.
+//!
+//! A page is spelled as its level, its box and its leaves. `free NEXT` is a free page, and `bad` none. `|` parts pages.
+//! A box has the least and the greatest value of each attribute, as `LO-HI`, parted by `,`. `*` is the greatest value of
+//! all, and alone it stands for all values. The leaves stand from the inside out: the first one, and then for each cut
+//! ` / AXIS<VALUE: LEAF` or ` / AXIS≥VALUE: LEAF`, the leaf on that side, where all that stands before is on the other one.
+//! `VALUE:` alone is `0≥VALUE:`. A leaf is its records by their points, or `^PAGE` for a child and `>PAGE` for a sibling.
+ghost use Rattle.std.specs.Prelude.{◌≡◌, IfOk, IfSome, IsTrue, None};
+ghost use Rattle.hb_frag.specs.Leaves.{leaf_weight, weight_of};
+ghost use Rattle.hb_page_codec.specs.Weight.{IsLight};
+ghost use Rattle.hb_layout.specs.Limits.{IsLayout};
+
+use hb_frag::{Frag, Leaf, LivePage, Node, Page};
+use hb_ops::Meta;
+use hb_sound::{AuditStop, PageStop, Pages, audit};
+use hb_space::form::{KMAX, PAGE};
+use hb_space::{Area, Body, NoMemory, Point, Record, Records};
+use std::alloc::Global;
+use std::test::Fail;
+
+fn value_of(word: &str) -> Result<u64, Fail> {
+    Ok(if word == "*" { u64::MAX } else { word.parse()? })
+}
+
+// The least and the greatest value of an attribute.
+fn interval_of(word: &str) -> Result<(u64, u64), Fail> {
+    if word == "*" {
+        return Ok((0, u64::MAX));
+    }
+    let (least, greatest) = word.split_once('-').ok_or("no interval")?;
+    Ok((value_of(least)?, value_of(greatest)?))
+}
+
+fn point_of(values: &[u64]) -> Result<Point, Fail> {
+    if values.is_empty() || values.len() > KMAX {
+        return Err("no point".into());
+    }
+    Ok(Point::new(values))
+}
+
+fn area_between(lo: Point, hi: Point) -> Result<Area, Fail> {
+    if lo.attributes() != hi.attributes() {
+        return Err("no box".into());
+    }
+    Ok(Area::between(lo, hi).ok_or("an empty box")?)
+}
+
+fn area_of(alloc: Global, text: &str) -> Result<Area, Fail> {
+    let mut lo = Vec::new(alloc);
+    let mut hi = Vec::new(alloc);
+    for word in text.split(',') {
+        let (least, greatest) = interval_of(word)?;
+        lo.push(least)?;
+        hi.push(greatest)?;
+    }
+    area_between(point_of(&lo)?, point_of(&hi)?)
+}
+
+fn record_of(alloc: Global, text: &str) -> Result<Record, Fail> {
+    let mut values = Vec::new(alloc);
+    for word in text.split(',') {
+        values.push(word.parse()?)?;
+    }
+    Ok(Record {
+        key: point_of(&values)?,
+        body: Body::new(b""),
+    })
+}
+
+fn leaf_of(alloc: Global, words: &str) -> Result<Leaf, Fail> {
+    if let Some(name) = words.strip_prefix('^') {
+        return Ok(Leaf::Child(name.parse()?));
+    }
+    if let Some(name) = words.strip_prefix('>') {
+        return Ok(Leaf::Sibling(name.parse()?));
+    }
+    let mut records = Vec::new(alloc);
+    for word in words.split_whitespace() {
+        records.push(record_of(alloc, word)?)?;
+    }
+    Ok(Leaf::Records(Records::new(records)))
+}
+
+// A cut's attribute and value, and whether the next leaf is on the lower side.
+fn cut_of(word: &str) -> Result<(u8, u64, bool), Fail> {
+    if let Some((axis, value)) = word.split_once('<') {
+        return Ok((axis.parse()?, value.parse()?, true));
+    }
+    let (axis, value) = word.split_once('≥').unwrap_or(("0", word));
+    Ok((axis.parse()?, value.parse()?, false))
+}
+
+// A leaf on the one side of a cut, and what stands already on the other one.
+fn with_leaf(alloc: Global, frag: Frag, text: &str) -> Result<Frag, Fail> {
+    let (cut, words) = text.split_once(':').ok_or("no cut")?;
+    let (axis, value, is_below) = cut_of(cut.trim())?;
+    let leaf = Box::new(alloc, Frag::tip(leaf_of(alloc, words.trim())?))?;
+    let frag = Box::new(alloc, frag)?;
+    let (left, right) = if is_below { (leaf, frag) } else { (frag, leaf) };
+    Ok(Frag::cut(axis, value, left, right))
+}
+
+fn frag_of(alloc: Global, text: &str) -> Result<Frag, Fail> {
+    let mut leaves = text.split('/');
+    let first = leaves.next().unwrap_or("");
+    let mut frag = Frag::tip(leaf_of(alloc, first.trim())?);
+    for leaf in leaves {
+        frag = with_leaf(alloc, frag, leaf)?;
+    }
+    Ok(frag)
+}
+
+fn page_of(alloc: Global, text: &str) -> Result<Option<Page>, Fail> {
+    if text == "bad" {
+        return Ok(None);
+    }
+    let (first, rest) = text.split_once(' ').ok_or("no page")?;
+    if first == "free" {
+        return Ok(Some(Page::Free {
+            next: rest.parse()?,
+        }));
+    }
+    let (area, leaves) = rest.split_once(' ').unwrap_or((rest, ""));
+    Ok(Some(Page::Live(LivePage {
+        level: first.parse()?,
+        area: area_of(alloc, area)?,
+        frag: frag_of(alloc, leaves)?,
+    })))
+}
+
+// What the leaves weigh together, where it is below 2^32.
+fn weight(frag: &Frag) -> Option<u32>
+    ensures { IfSome result (λ w. w ≡ weight_of frag.now) }
+{
+    match &frag.node {
+        Node::Tip(leaf) => leaf_weight(leaf),
+        Node::Cut { left, right, .. } => weight(left)?.checked_add(weight(right)?),
+    }
+}
+
+fn leaf_weight(leaf: &Leaf) -> Option<u32>
+    ensures { IfSome result (λ w. w ≡ leaf_weight leaf.now) }
+{
+    match leaf {
+        Leaf::Records(records) => u32::try_from(records.as_slice().len().max(1)).ok(),
+        Leaf::Child(_) | Leaf::Sibling(_) => Some(1),
+    }
+}
+
+fn is_light(page: &Page) -> bool
+    ensures { IsTrue result → IsLight page.now }
+{
+    match page {
+        Page::Live(page) => weight(&page.frag).is_some_and(|weight| weight <= PAGE as u32),
+        Page::Free { .. } => true,
+    }
+}
+
+// The same page once more.
+fn copy_of(alloc: Global, page: &Page) -> Result<Page, NoMemory> {
+    match page {
+        Page::Live(page) => Ok(Page::Live(LivePage {
+            level: page.level,
+            area: page.area.copy(),
+            frag: page.frag.copy(alloc)?,
+        })),
+        Page::Free { next } => Ok(Page::Free { next: *next }),
+    }
+}
+
+/// Pages in memory, of a source that tells nothing.
+#[derive(Drop)]
+pub(crate) struct KeptPages {
+    alloc: Global,
+    pages: Vec<Option<Page>>,
+    /// How often each page was asked for.
+    asks: Vec<u8>,
+}
+
+impl KeptPages {
+    /// The pages that are spelled so, with another text for the page of this number, where there is one.
+    pub(crate) fn new(
+        alloc: Global,
+        text: &str,
+        number: usize,
+        other: &str,
+    ) -> Result<KeptPages, Fail> {
+        let mut pages = Vec::new(alloc);
+        for (place, page) in text.split('|').enumerate() {
+            let page = if place.wrapping_add(1) == number {
+                other
+            } else {
+                page
+            };
+            pages.push(page_of(alloc, page.trim())?)?;
+        }
+        let asks = vec![in alloc; 0; pages.len()]?;
+        Ok(KeptPages { alloc, pages, asks })
+    }
+
+    /// The page of this number, which may be any.
+    pub(crate) fn ask(&mut self, id: u32) -> Result<Option<Page>, NoMemory>
+        ensures { IfOk result (λ page. IfSome page IsLight) }
+    {
+        let place = (id as usize).wrapping_sub(1);
+        if place < self.asks.len() {
+            self.asks[place] = self.asks[place].saturating_add(1);
+        }
+        match self.pages.get(place) {
+            Some(Some(page)) => {
+                let page = copy_of(self.alloc, page)?;
+                Ok(if is_light(&page) { Some(page) } else { None })
+            }
+            _ => Ok(None),
+        }
+    }
+
+    /// Whether some page was asked for more than twice.
+    pub(crate) fn asked_too_often(&self) -> bool {
+        self.asks.iter().any(|asks| *asks > 2)
+    }
+}
+
+impl Pages for KeptPages {
+    ghost told = { λ _. None };
+
+    ghost faults = { λ _. 0 };
+
+    ghost asked = { λ _ _. Unit {0} };
+
+    ghost asked_none = { λ _. tt };
+
+    ghost asked_on = { λ _ _ _ _ _. tt };
+
+    fn page(&mut self, id: u32) -> Result<Option<Page>, PageStop> {
+        match self.ask(id) {
+            Ok(page) => Ok(page),
+            Err(NoMemory) => Err(PageStop::NoMemory),
+        }
+    }
+}
+
+/// A file's root, height, high mark, live pages and free head.
+pub(crate) type Marks = (u32, u8, u32, u32, u32);
+
+/// A file of so many attributes, 1 to 4, with 8 pages. Its height is 1 to 12.
+pub(crate) fn meta_of(k: u8, marks: Marks) -> Meta
+    ensures { IsLayout result }
+{
+    let (root, height, high, live, free) = marks;
+    Meta {
+        k: k.max(1).min(4),
+        pages: 8,
+        log: 65_536,
+        dcap: 6,
+        icap: 32,
+        root,
+        height: height.max(1).min(12),
+        high,
+        live,
+        free,
+    }
+}
+
+/// What an audit answers, as `ok RECORDS`, `PAGE RULE`, `failed` or `no memory`.
+pub(crate) fn spelled(alloc: Global, answer: Result<u64, AuditStop>) -> Result<String, Fail> {
+    Ok(match answer {
+        Ok(records) => format!(in alloc; "ok {records}")?,
+        Err(AuditStop::Broken { page, rule }) => format!(in alloc; "{page} {rule}")?,
+        Err(AuditStop::Failed) => format!(in alloc; "failed")?,
+        Err(AuditStop::NoMemory) => format!(in alloc; "no memory")?,
+    })
+}
+
+/// Fails unless the audit of these pages answers so, and asks for none of them more than twice.
+pub(crate) fn expect_answer(
+    alloc: Global,
+    meta: &Meta,
+    mut pages: KeptPages,
+    wanted: &str,
+) -> Result<(), Fail>
+    requires { IsLayout meta.now }
+{
+    let got = spelled(alloc, audit(alloc, meta, &mut pages))?;
+    if got.as_str() != wanted {
+        return Err("another answer".into());
+    }
+    if pages.asked_too_often() {
+        return Err("a page was asked for too often".into());
+    }
+    Ok(())
+}
