@@ -45,4 +45,8 @@ pub mod OnePiece
 pub mod OneRow
 pub mod RowSays
 pub mod OnePair
+pub mod OneStore
+pub mod OneFetch
 pub mod OneOutcome
+pub mod AskedPages
+pub mod NoDamage

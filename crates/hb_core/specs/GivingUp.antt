@@ -1,7 +1,8 @@
 -- What becomes of a line or a job that can't go on.
-use Rattle.std.specs.Prelude.{[], None}
+use Rattle.std.specs.Prelude.{[], Option, Some, None}
 use Rattle.hb_set.specs.declared.commands.Reply.{Reply}
 use Rattle.hb_set.specs.declared.commands.Reply.TheVariants as replies
+use Rattle.hb_activity.specs.declared.jobs.Job.{Job}
 use Rattle.hb_activity.specs.declared.activities.Activity.{Activity}
 use Rattle.hb_activity.specs.declared.activities.Activity.TheVariants as at
 use Rattle.hb_core.specs.declared.outcomes.DropWhy.{DropWhy}
@@ -15,6 +16,21 @@ use Rattle.hb_core.specs.WorkerRows.{ends_job}
 abbrev pub reply_for : DropWhy → Reply
 reply_for drops.NoMemory = replies.NoMemory
 reply_for drops.ReadFault = replies.ReadFault
+
+-- the job that a worker has in work
+abbrev pub job_in_work : Activity → Option Job
+job_in_work (at.PosterGrow job) = Some job
+job_in_work (at.PosterWalk job held) = Some job
+job_in_work (at.PosterChild job parent) = Some job
+job_in_work (at.PosterPromote job parent) = Some job
+job_in_work (at.PosterAgain job parent) = Some job
+job_in_work (at.ConsolidatorWalk job held) = Some job
+job_in_work (at.ConsolidatorScan job parent child) = Some job
+job_in_work (at.ConsolidatorTry job parent keep gone leaf) = Some job
+job_in_work (at.ConsolidatorPromote job parent keep gone) = Some job
+job_in_work (at.ConsolidatorKeep job parent keep gone) = Some job
+job_in_work (at.ConsolidatorDecide job parent keep gone) = Some job
+job_in_work other = None
 
 abbrev pub drops_job : Machine → DropWhy → Activity → Deed
 drops_job m why idle = record { next = idle; op = None; left = m.jobs; adds = []; joins = None; says = outcomes.Dropped why }

@@ -24,6 +24,7 @@ pub mod OrderLaws
 pub mod AllowedLaws
 pub mod DoableLaws
 pub mod OutcomeLaws
+pub mod DamageLaws
 pub mod SteppingLaws
 pub mod KeepingLaws
 pub mod Examples

@@ -2,7 +2,8 @@
 //! of steps. Each law is the contract of a function that does nothing: a caller learns it by the call.
 
 ghost use Rattle.hb_core.specs.DoableLaws.{PutsFindRoom, RowsCanBeDone};
-ghost use Rattle.hb_core.specs.KeepingLaws.{AnswersAreInPlace, BegunKeepsAll, ChangesKeepAll, FilesHavePrefixes, NobodyElseComes, PrefixStaysPending, RoomStaysKnown, SettledStaysSettled, StepsGoOn, StepsKeepAll, StoppedStays, WalksStayInSpace};
+ghost use Rattle.hb_core.specs.KeepingLaws.{AnswersAreInPlace, BegunKeepsAll, ChangesKeepAll, FilesHavePrefixes, NobodyElseComes, PrefixStaysPending, RoomStaysKnown, SettledStaysSettled, StepsKeepAll, WalksStayInSpace};
+ghost use Rattle.hb_core.specs.SteppingLaws.{StepsGoOn, StoppedStays};
 
 use crate::file_laws::{
     a_beginning_keeps_all, files_stay_sound, lines_stay_fit, pages_stay_pages_of_the_file,

@@ -1,0 +1,113 @@
+-- What a step asks for is in a sound file: a page in use, of the level and the box that are asked for.
+use Rattle.std.proofs.Common.{◌≡◌, ◌≢◌, ◌⊎◌, inl, inr, ℕ, zero, suc, ◌-◌, Bool, true, false, cond, List, [], ◌∷◌, Option, Some, None, refl, sym, ap, ◌∙◌, subst, arith}
+use Rattle.std.specs.List.{Contains}
+use Rattle.std.specs.Option.{option_and_then}
+use Rattle.hb_space.specs.Boxes.{Area, holds, whole_area}
+use Rattle.hb_frag.specs.declared.leaves.Leaf.{Leaf}
+use Rattle.hb_frag.specs.declared.leaves.Leaf.TheVariants.{Records, Child, Sibling}
+use Rattle.hb_frag.specs.declared.pages.LivePage.{LivePage}
+use Rattle.hb_frag.specs.Leaves.{Placed, first_at, leaf_at, leaves_of}
+use Rattle.hb_layout.specs.declared.meta.Meta.{Meta}
+use Rattle.hb_latch.specs.declared.modes.Mode.{Mode}
+use Rattle.hb_latch.specs.declared.modes.Mode.TheVariants.{Shared}
+use Rattle.hb_ops.specs.Files.{FileState, live_page}
+use Rattle.hb_ops.specs.PlacedLaws.{leaf_is_sibling, placed}
+use Rattle.hb_ops.specs.Sound.{IsSound}
+use Rattle.hb_activity.specs.declared.wanting.Wanted.{Wanted}
+use Rattle.hb_activity.specs.Wanting.{child_of, in_mode, named_child, named_page, walk_next, wanted_page}
+use Rattle.hb_core.specs.Asking.{AskedBox, HasAskedBox, box_at, box_by_leaf}
+
+pub record IsThere (s : FileState) (wanted : Wanted) (asked : AskedBox) : Type 0 where
+  pub page : LivePage
+  pub live : live_page s wanted.page ≡ Some page
+  pub level : page.level ≡ wanted.level
+  pub box : HasAskedBox asked page.area
+
+-- the leaf at a point is one of the page's
+first_among : (p : List ℕ) (xs : List Placed) (w : Placed) → first_at p xs ≡ Some w → Contains xs w
+first_among p [] w is = cc
+first_among p (x ∷ xs) w is =
+    elim (holds x.area p) as (λ b. cond b (Some x) (first_at p xs) ≡ Some w → Contains (x ∷ xs) w) [
+      | true ↦ λ e. (0, omega arith, let same : x ≡ w = cc in same)
+      | false ↦ λ e. let more = first_among p xs w e in (suc more.0, omega (arith, more.1), more.2)
+    ] is
+
+module _ (s : FileState) (sound : IsSound s) where
+  -- a page that is asked for, and found so
+  found : (name level : ℕ) (mode : Mode) (wanted : Wanted) (box asked : AskedBox) (page : LivePage) → wanted_page name level mode ≡ wanted → box ≡ asked → live_page s name ≡ Some page → page.level ≡ level → HasAskedBox box page.area → IsThere s wanted asked
+  found name level mode wanted box asked page wants asks live on has = record {
+    page = page;
+    live = subst (λ (w : Wanted). live_page s w.page ≡ Some page) wants live;
+    level = on ∙ ap (λ (w : Wanted). w.level) wants;
+    box = subst (λ (b : AskedBox). HasAskedBox b page.area) asks has;
+  }
+
+  -- ---- the root
+
+  pub root_there : (m : Meta) (k level : ℕ) (mode : Mode) (wanted : Wanted) (asked : AskedBox) → s.meta ≡ m → k ≡ m.k → level ≡ m.height - 1 → wanted_page m.root level mode ≡ wanted → record { area = whole_area k; exact = true } ≡ asked → IsThere s wanted asked
+  root_there m k level mode wanted asked meta is_k is_level wants asks =
+      let top = sound.rooted.top in
+      let height : s.meta.height ≡ m.height = ap (λ (x : Meta). x.height) meta in
+      found m.root level mode wanted (record { area = whole_area k; exact = true }) asked top.0 wants asks
+      (ap (live_page s) (ap (λ (x : Meta). x.root) (sym meta)) ∙ top.1) (omega (arith, top.2, height, is_level))
+      (top.3 ∙ ap whole_area (ap (λ (x : Meta). x.k) meta ∙ sym is_k))
+
+  -- ---- the page that a leaf of another one names
+
+  module _ (id : ℕ) (page : LivePage) (live : live_page s id ≡ Some page) where
+    pub child_there : (name : ℕ) (area : Area) (mode : Mode) (wanted : Wanted) (asked : AskedBox) → Contains (leaves_of page.frag page.area) (placed (Child name) area)
+        → wanted_page name (page.level - 1) mode ≡ wanted → record { area = area; exact = false } ≡ asked → IsThere s wanted asked
+    child_there name area mode wanted asked among wants asks =
+        let named = sound.children id page name area live among in
+        found name (page.level - 1) mode wanted (record { area = area; exact = false }) asked named.0 wants asks named.1 (omega (arith, named.2)) named.3
+
+    pub sibling_there : (name : ℕ) (area : Area) (mode : Mode) (wanted : Wanted) (asked : AskedBox) → Contains (leaves_of page.frag page.area) (placed (Sibling name) area)
+        → wanted_page name page.level mode ≡ wanted → record { area = area; exact = true } ≡ asked → IsThere s wanted asked
+    sibling_there name area mode wanted asked among wants asks =
+        let named = sound.siblings id page name area live (leaf_is_sibling (leaves_of page.frag page.area) name area among) in
+        found name page.level mode wanted (record { area = area; exact = true }) asked named.0 wants asks named.1 named.2 named.3
+
+    by_leaf : (mode : ℕ → Mode) (leaf : Leaf) (area : Area) (wanted : Wanted) (asked : AskedBox) → Contains (leaves_of page.frag page.area) (placed leaf area)
+        → in_mode mode (named_page page.level leaf) ≡ Some wanted → box_by_leaf (placed leaf area) ≡ Some asked → IsThere s wanted asked
+    by_leaf mode (Records records) area wanted asked among wants asks = cc
+    by_leaf mode (Child name) area wanted asked among wants asks = child_there name area (mode (page.level - 1)) wanted asked among (let same : wanted_page name (page.level - 1) (mode (page.level - 1)) ≡ wanted = cc in same) (let same : record { area = area; exact = false } ≡ asked = cc in same)
+    by_leaf mode (Sibling name) area wanted asked among wants asks = sibling_there name area (mode page.level) wanted asked among (let same : wanted_page name page.level (mode page.level) ≡ wanted = cc in same) (let same : record { area = area; exact = true } ≡ asked = cc in same)
+
+    by_child : (leaf : Leaf) (area : Area) (wanted : Wanted) (asked : AskedBox) → Contains (leaves_of page.frag page.area) (placed leaf area)
+        → in_mode (λ level. Shared) (named_child page.level leaf) ≡ Some wanted → box_by_leaf (placed leaf area) ≡ Some asked → IsThere s wanted asked
+    by_child (Records records) area wanted asked among wants asks = cc
+    by_child (Child name) area wanted asked among wants asks = child_there name area Shared wanted asked among (let same : wanted_page name (page.level - 1) Shared ≡ wanted = cc in same) (let same : record { area = area; exact = false } ≡ asked = cc in same)
+    by_child (Sibling name) area wanted asked among wants asks = cc
+
+    -- where a walk goes on, and the child of a poster
+    pub onward_there : (mode : ℕ → Mode) (p : List ℕ) (wanted : Wanted) (asked : AskedBox) → in_mode mode (option_and_then (λ (l : Placed). named_page page.level l.leaf) (leaf_at page p)) ≡ Some wanted
+        → option_and_then box_by_leaf (leaf_at page p) ≡ Some asked → IsThere s wanted asked
+    onward_there mode p wanted asked wants asks = by (leaf_at page p) refl wants asks
+      where
+        by : (o : Option Placed) → leaf_at page p ≡ o → in_mode mode (option_and_then (λ (l : Placed). named_page page.level l.leaf) o) ≡ Some wanted → option_and_then box_by_leaf o ≡ Some asked → IsThere s wanted asked
+        by None is wants asks = cc
+        by (Some l) is wants asks = by_leaf mode l.leaf l.area wanted asked (first_among p (leaves_of page.frag page.area) l is) wants asks
+
+    pub named_there : (p : List ℕ) (wanted : Wanted) (asked : AskedBox) → in_mode (λ level. Shared) (child_of page p) ≡ Some wanted → option_and_then box_by_leaf (leaf_at page p) ≡ Some asked → IsThere s wanted asked
+    named_there p wanted asked wants asks = by (leaf_at page p) refl wants asks
+      where
+        by : (o : Option Placed) → leaf_at page p ≡ o → in_mode (λ level. Shared) (option_and_then (λ (l : Placed). named_child page.level l.leaf) o) ≡ Some wanted → option_and_then box_by_leaf o ≡ Some asked → IsThere s wanted asked
+        by None is wants asks = cc
+        by (Some l) is wants asks = by_child l.leaf l.area wanted asked (first_among p (leaves_of page.frag page.area) l is) wants asks
+
+    -- a walk that holds the page
+    pub held_there : (mode : ℕ → Mode) (meta : Meta) (goal : Option (List ℕ)) (now then : Option LivePage) (wanted : Wanted) (asked : AskedBox) → now ≡ Some page → then ≡ Some page
+        → in_mode mode (walk_next goal (Some id) meta now) ≡ Some wanted → box_at then goal ≡ Some asked → IsThere s wanted asked
+    held_there mode meta None now then wanted asked is was wants asks = cc
+    held_there mode meta (Some p) now then wanted asked is was wants asks =
+        onward_there mode p wanted asked
+        (subst (λ (o : Option LivePage). in_mode mode (walk_next (Some p) (Some id) meta o) ≡ Some wanted) is wants)
+        (subst (λ (o : Option LivePage). box_at o (Some p) ≡ Some asked) was asks)
+
+  -- a walk that holds none
+  pub begun_there : (mode : ℕ → Mode) (m : Meta) (k : ℕ) (goal : Option (List ℕ)) (page : Option LivePage) (wanted : Wanted) (asked : AskedBox) → s.meta ≡ m → k ≡ m.k
+      → in_mode mode (walk_next goal None m page) ≡ Some wanted → Some (record { area = whole_area k; exact = true }) ≡ Some asked → IsThere s wanted asked
+  begun_there mode m k None page wanted asked meta is_k wants asks = cc
+  begun_there mode m k (Some p) page wanted asked meta is_k wants asks =
+      root_there m k (m.height - 1) (mode (m.height - 1)) wanted asked meta is_k refl
+      (let same : wanted_page m.root (m.height - 1) (mode (m.height - 1)) ≡ wanted = cc in same) (let same : record { area = whole_area k; exact = true } ≡ asked = cc in same)
