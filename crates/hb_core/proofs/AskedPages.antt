@@ -24,7 +24,7 @@ pub record IsThere (s : FileState) (wanted : Wanted) (asked : AskedBox) : Type 0
   pub box : HasAskedBox asked page.area
 
 -- the leaf at a point is one of the page's
-first_among : (p : List ℕ) (xs : List Placed) (w : Placed) → first_at p xs ≡ Some w → Contains xs w
+pub first_among : (p : List ℕ) (xs : List Placed) (w : Placed) → first_at p xs ≡ Some w → Contains xs w
 first_among p [] w is = cc
 first_among p (x ∷ xs) w is =
     elim (holds x.area p) as (λ b. cond b (Some x) (first_at p xs) ≡ Some w → Contains (x ∷ xs) w) [

@@ -50,3 +50,6 @@ pub mod OneFetch
 pub mod OneOutcome
 pub mod AskedPages
 pub mod NoDamage
+pub mod Volumes
+pub mod LaterWanted
+pub mod NoCircle

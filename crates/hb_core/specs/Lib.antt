@@ -27,4 +27,5 @@ pub mod OutcomeLaws
 pub mod DamageLaws
 pub mod SteppingLaws
 pub mod KeepingLaws
+pub mod WaitingLaws
 pub mod Examples

@@ -21,5 +21,6 @@ pub mod laws;
 pub mod outcome_laws;
 mod outcomes;
 mod threads;
+pub mod waiting_laws;
 
 pub use outcomes::{DropWhy, Outcome};
