@@ -21,7 +21,7 @@ use Rattle.hb_core.proofs.NoDamage.{stays_undamaged}
 use Rattle.hb_core.proofs.PendingKept.{prefix_stays_pending, settled_stays_settled}
 use Rattle.hb_core.proofs.Prefixes.{files_have_prefixes}
 use Rattle.hb_core.proofs.SoundFiles.{keeps_marks}
-use Rattle.hb_core.proofs.StillThere.{nobody_else_comes}
+use Rattle.hb_core.proofs.StillThere.{nobody_else_comes, nobody_else_latches}
 use Rattle.hb_core.proofs.WalksKept.{walks_stay_in_space}
 use Rattle.hb_core.proofs.Ways.{order_grows}
 
@@ -49,6 +49,7 @@ module _ (laws : StepLaws) (n : RecordSet) where
           sound_file = after.2;
           latches_fit = laws.latches m actor outcome new may keeps.latches_fit keeps.pages_of_file step;
           nobody_else = nobody_else_comes m actor outcome new may keeps.nobody_else step;
+          no_other_latches = nobody_else_latches m actor outcome new may keeps.no_other_latches step;
           walk_in_space = walks_stay_in_space m actor outcome new may keeps.latches_fit keeps.pages_of_file keeps.nobody_else keeps.walk_in_space step;
           room_known = laws.room m files actor outcome new may keeps.told keeps.latches_fit keeps.pages_of_file keeps.sound_file keeps.nobody_else keeps.room_known step;
           order_legal = legal;

@@ -53,3 +53,4 @@ pub mod NoDamage
 pub mod Volumes
 pub mod LaterWanted
 pub mod NoCircle
+pub mod SomebodyFree

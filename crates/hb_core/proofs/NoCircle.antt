@@ -51,11 +51,11 @@ module _ (m : Machine) (files : Files) (fit : LatchesFit m) (has : HasSoundFile 
   ]
 
   -- the other one holds the page for update, and its next step is to have it alone
-  record IsOwn (wanted : Wanted) (other : ℕ) (its : Wanted) : Type 0 where
+  pub record IsOwn (wanted : Wanted) (other : ℕ) (its : Wanted) : Type 0 where
     pub same : its.page ≡ wanted.page
     pub holds : mode_at m.latches other wanted.page ≡ Some Update
 
-  held_there : (o : Option Mode) (mode : Mode) → IsSomeAnd o (λ held. ¬ (IsTrue (goes_beside mode held))) → (held : Mode) × (o ≡ Some held)
+  pub held_there : (o : Option Mode) (mode : Mode) → IsSomeAnd o (λ held. ¬ (IsTrue (goes_beside mode held))) → (held : Mode) × (o ≡ Some held)
   held_there None mode never = absurd never
   held_there (Some held) mode conflict = (held, refl)
 
@@ -83,11 +83,11 @@ module _ (m : Machine) (files : Files) (fit : LatchesFit m) (has : HasSoundFile 
   first_wants actor (next ∷ rest) last (waits, more) = (waits.wanted, waits.wants_it)
 
   -- The last one's comes later than the first one's, but where that is waited for directly and promotes its own.
-  abbrev Ends : List ℕ → Wanted → ℕ → Wanted → Type 0
+  abbrev pub Ends : List ℕ → Wanted → ℕ → Wanted → Type 0
   Ends [] wanted last its = IsOwn wanted last its
   Ends (next ∷ rest) wanted last its = ⊥
 
-  in_turn : (rest : List ℕ) (actor last : ℕ) (wanted its : Wanted) → wanted_by m actor ≡ Some wanted → wanted_by m last ≡ Some its → WaitInTurn m actor rest last → ComesLater (current_file files) wanted.page its.page ⊎ Ends rest wanted last its
+  pub in_turn : (rest : List ℕ) (actor last : ℕ) (wanted its : Wanted) → wanted_by m actor ≡ Some wanted → wanted_by m last ≡ Some its → WaitInTurn m actor rest last → ComesLater (current_file files) wanted.page its.page ⊎ Ends rest wanted last its
   in_turn [] actor last wanted its wants its_wants waits = one_wait actor last wanted its wants its_wants waits
   in_turn (next ∷ []) actor last wanted its wants its_wants (waits, more) =
       both (one_wait actor next wanted more.wanted wants more.wants_it waits) (one_wait next last more.wanted its more.wants_it its_wants more)

@@ -1,5 +1,5 @@
 -- What every machine keeps over a disk that tells, a record for each part.
-use Rattle.std.specs.Prelude.{◌≡◌, ◌⊎◌, ℕ, ◌<◌, ◌≤◌, List, length, All, Some, IfSome}
+use Rattle.std.specs.Prelude.{◌≡◌, ◌⊎◌, ℕ, ◌<◌, ◌≤◌, List, length, All, Some, None, IfSome}
 use Rattle.hb_space.specs.Boxes.{Holds}
 use Rattle.hb_frag.specs.declared.pages.LivePage.{LivePage}
 use Rattle.hb_frag.specs.declared.pages.Page.{Page}
@@ -90,6 +90,10 @@ pub record KnowsRoom (m : Machine) : Type 0 where
 abbrev pub HasNobodyElse : Machine → Type 0
 HasNobodyElse m = (actor : ℕ) → ¬ (MayLatch actor) → m.activity actor ≡ at.SessionIdle
 
+-- And under no other number a latch is held.
+abbrev pub HasNoOtherLatches : Machine → Type 0
+HasNoOtherLatches m = (actor page : ℕ) → ¬ (MayLatch actor) → mode_at m.latches actor page ≡ None
+
 -- All of them, from the set that was opened.
 pub record CoreKeeps (n : RecordSet) (m : Machine) (files : Files) : Type 0 where
   pub told : m.files ≡ Some files
@@ -99,6 +103,7 @@ pub record CoreKeeps (n : RecordSet) (m : Machine) (files : Files) : Type 0 wher
   pub sound_file : HasSoundFile m files
   pub latches_fit : LatchesFit m
   pub nobody_else : HasNobodyElse m
+  pub no_other_latches : HasNoOtherLatches m
   pub walk_in_space : WalksInSpace m
   pub room_known : KnowsRoom m
   pub order_legal : HasLegalOrder n m files

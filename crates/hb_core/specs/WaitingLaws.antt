@@ -1,4 +1,5 @@
--- Which actors wait for which, as laws: what a step wants comes later than what its actor holds, so that no circle of actors waits.
+-- Which actors wait for which, as laws: what a step wants comes later than what its actor holds, so no circle of actors waits,
+-- and somebody may always go on.
 use Rattle.std.specs.Prelude.{◌≡◌, ◌⊎◌, ℕ, List, [], ◌∷◌, Some}
 use Rattle.hb_frag.specs.declared.pages.LivePage.{LivePage}
 use Rattle.hb_latch.specs.declared.modes.Mode.{Mode}
@@ -10,8 +11,9 @@ use Rattle.hb_activity.specs.declared.activities.Activity.{Activity}
 use Rattle.hb_activity.specs.declared.activities.Activity.TheVariants.{PosterPromote, ConsolidatorPromote}
 use Rattle.hb_activity.specs.Waiting.{IsLater, WaitsFor}
 use Rattle.hb_core.specs.Machines.{Files, Machine, current_file}
-use Rattle.hb_core.specs.Asking.{wanted_by}
-use Rattle.hb_core.specs.Keeps.{HasNobodyElse, HasSoundFile, LatchesFit, WalksInSpace}
+use Rattle.hb_core.specs.Asking.{IsInTheWay, wanted_by}
+use Rattle.hb_core.specs.Keeps.{HasNoOtherLatches, HasNobodyElse, HasSoundFile, LatchesFit, WalksInSpace}
+use Rattle.hb_core.specs.SteppingLaws.{IsAtRest}
 
 -- The second page comes later than the first one: its level is lower, or the level is the same and its box holds fewer points.
 pub record ComesLater (s : FileState) (id other : ℕ) : Type 0 where
@@ -50,3 +52,14 @@ WaitInTurn m actor (next ∷ rest) last = Waits m actor next × WaitInTurn m nex
 -- No actor waits for itself in this way.
 abbrev pub NobodyWaitsInACircle : Type 0
 NobodyWaitsInACircle = (m : Machine) (files : Files) (actor : ℕ) (rest : List ℕ) → LatchesFit m → HasSoundFile m files → HasNobodyElse m → WalksInSpace m → WaitInTurn m actor rest actor → ⊥
+
+-- Where an actor is at work, not every actor at work is kept waiting.
+abbrev pub IsAtWork : Machine → ℕ → Type 0
+IsAtWork m actor = MayLatch actor × (¬ (IsAtRest (m.activity actor)))
+
+abbrev pub IsKeptWaiting : Machine → ℕ → Type 0
+IsKeptWaiting m actor = (by : ℕ) × IsInTheWay m actor by
+
+abbrev pub SomebodyGoesOn : Type 0
+SomebodyGoesOn = (m : Machine) (files : Files) (actor : ℕ) → LatchesFit m → HasSoundFile m files → HasNobodyElse m → HasNoOtherLatches m → WalksInSpace m → IsAtWork m actor →
+    ((other : ℕ) → IsAtWork m other → IsKeptWaiting m other) → ⊥

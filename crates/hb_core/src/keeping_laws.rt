@@ -2,7 +2,7 @@
 //! of steps. Each law is the contract of a function that does nothing: a caller learns it by the call.
 
 ghost use Rattle.hb_core.specs.DoableLaws.{PutsFindRoom, RowsCanBeDone};
-ghost use Rattle.hb_core.specs.KeepingLaws.{AnswersAreInPlace, BegunKeepsAll, ChangesKeepAll, FilesHavePrefixes, NobodyElseComes, PrefixStaysPending, RoomStaysKnown, SettledStaysSettled, StepsKeepAll, WalksStayInSpace};
+ghost use Rattle.hb_core.specs.KeepingLaws.{AnswersAreInPlace, BegunKeepsAll, ChangesKeepAll, FilesHavePrefixes, NobodyElseComes, NobodyElseLatches, PrefixStaysPending, RoomStaysKnown, SettledStaysSettled, StepsKeepAll, WalksStayInSpace};
 ghost use Rattle.hb_core.specs.SteppingLaws.{StepsGoOn, StoppedStays};
 
 use crate::file_laws::{
@@ -18,10 +18,11 @@ use hb_sound::laws::{
 };
 use hb_space::laws::held_is_a_point;
 
-/// Under no number but those of the 19 actors anybody comes to stand.
-#[tactic(auto, using(crate::proofs::StillThere::nobody_else_comes))]
+/// Under no number but those of the 19 actors anybody comes to stand, or takes a latch.
+#[tactic(auto, using(crate::proofs::StillThere::nobody_else_comes, crate::proofs::StillThere::nobody_else_latches))]
 pub fn nobody_else_comes()
-    ensures { NobodyElseComes }
+    ensures stands { NobodyElseComes }
+    ensures latches { NobodyElseLatches }
 {}
 
 /// After a step the page that a walk holds has the walk's point in its box, and the parent that a poster
