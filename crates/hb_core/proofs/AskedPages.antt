@@ -1,12 +1,16 @@
 -- What a step asks for is in a sound file: a page in use, of the level and the box that are asked for.
-use Rattle.std.proofs.Common.{◌≡◌, ◌≢◌, ◌⊎◌, inl, inr, ℕ, zero, suc, ◌-◌, Bool, true, false, cond, List, [], ◌∷◌, Option, Some, None, refl, sym, ap, ◌∙◌, subst, arith}
-use Rattle.std.specs.List.{Contains}
-use Rattle.std.specs.Option.{option_and_then}
-use Rattle.hb_space.specs.Boxes.{Area, holds, whole_area}
+use Rattle.std.proofs.Common.{◌≡◌, ◌≢◌, ◌⊎◌, inl, inr, ℕ, zero, suc, ◌-◌, ◌==◌, Bool, true, false, cond, List, [], ◌∷◌, map, Option, Some, None, refl, sym, ap, ◌∙◌, subst, arith}
+use Rattle.std.specs.List.{Contains, slice_get}
+use Rattle.std.specs.Option.{option_and_then, option_map}
+use Rattle.std.proofs.lemmas.Bool.{eqb-true}
+use Rattle.std.proofs.lemmas.List.Elements.{Contains-append_cases, Contains-append_left, Contains-append_right}
+use Rattle.hb_space.specs.Boxes.{Area, holds, side_below, side_from, whole_area}
 use Rattle.hb_frag.specs.declared.leaves.Leaf.{Leaf}
 use Rattle.hb_frag.specs.declared.leaves.Leaf.TheVariants.{Records, Child, Sibling}
 use Rattle.hb_frag.specs.declared.pages.LivePage.{LivePage}
-use Rattle.hb_frag.specs.Leaves.{Placed, first_at, leaf_at, leaves_of}
+use Rattle.hb_frag.specs.Leaves.{Placed, first_at, first_named, leaf_at, leaves, leaves_of, siblings_of}
+use Rattle.hb_frag.specs.Trees.{Tree, Tip, Cut}
+use Rattle.hb_frag.proofs.Tiles.{leaves_placed}
 use Rattle.hb_layout.specs.declared.meta.Meta.{Meta}
 use Rattle.hb_latch.specs.declared.modes.Mode.{Mode}
 use Rattle.hb_latch.specs.declared.modes.Mode.TheVariants.{Shared}
@@ -15,7 +19,7 @@ use Rattle.hb_ops.specs.PlacedLaws.{leaf_is_sibling, placed}
 use Rattle.hb_ops.specs.Sound.{IsSound}
 use Rattle.hb_activity.specs.declared.wanting.Wanted.{Wanted}
 use Rattle.hb_activity.specs.Wanting.{child_of, in_mode, named_child, named_page, walk_next, wanted_page}
-use Rattle.hb_core.specs.Asking.{AskedBox, HasAskedBox, box_at, box_by_leaf}
+use Rattle.hb_core.specs.Asking.{AskedBox, HasAskedBox, box_at, box_by_leaf, box_of_child, box_of_place, box_of_sibling, first_child_box}
 
 pub record IsThere (s : FileState) (wanted : Wanted) (asked : AskedBox) : Type 0 where
   pub page : LivePage
@@ -111,3 +115,89 @@ module _ (s : FileState) (sound : IsSound s) where
   begun_there mode m k (Some p) page wanted asked meta is_k wants asks =
       root_there m k (m.height - 1) (mode (m.height - 1)) wanted asked meta is_k refl
       (let same : wanted_page m.root (m.height - 1) (mode (m.height - 1)) ≡ wanted = cc in same) (let same : record { area = whole_area k; exact = true } ≡ asked = cc in same)
+
+-- ---- the pages that a consolidator asks for
+
+-- the box of the first child leaf of a name is one of such a leaf
+first_child_among : (name : ℕ) (xs : List Placed) (area : Area) → first_child_box name xs ≡ Some area → Contains xs (placed (Child name) area)
+first_child_among name [] area is = cc
+first_child_among name (x ∷ xs) area is = by x.leaf x.area is
+  where
+    behind : (y : Placed) → first_child_box name xs ≡ Some area → Contains (y ∷ xs) (placed (Child name) area)
+    behind y e = let more = first_child_among name xs area e in (suc more.0, omega (arith, more.1), more.2)
+
+    by : (leaf : Leaf) (b : Area) → first_child_box name (placed leaf b ∷ xs) ≡ Some area → Contains (placed leaf b ∷ xs) (placed (Child name) area)
+    by (Records records) b e = behind (placed (Records records) b) e
+    by (Sibling page) b e = behind (placed (Sibling page) b) e
+    by (Child page) b e =
+        elim (page == name) as (λ t. (page == name) ≡ t → cond t (Some b) (first_child_box name xs) ≡ Some area → Contains (placed (Child page) b ∷ xs) (placed (Child name) area)) [
+          | true ↦ λ same e. (0, omega arith, let one : b ≡ area = cc in ap (λ (n : ℕ). placed (Child n) b) (eqb-true page name same) ∙ ap (placed (Child name)) one)
+          | false ↦ λ other e. behind (placed (Child page) b) e
+        ] refl e
+
+-- the first box of a name is one of a sibling leaf
+pub first_sibling_among : (name : ℕ) (xs : List (ℕ × Area)) (area : Area) → first_named name xs ≡ Some area → Contains xs (name, area)
+first_sibling_among name [] area is = cc
+first_sibling_among name (x ∷ xs) area is =
+    elim (x.0 == name) as (λ t. (x.0 == name) ≡ t → cond t (Some x.1) (first_named name xs) ≡ Some area → Contains (x ∷ xs) (name, area)) [
+      | true ↦ λ same e. (0, omega arith, let one : x.1 ≡ area = cc in λ i. (eqb-true x.0 name same i, one i))
+      | false ↦ λ other e. let more = first_sibling_among name xs area e in (suc more.0, omega (arith, more.1), more.2)
+    ] refl is
+
+-- the leaf of a place, without its box and with it
+get_mapped : (xs : List Placed) (place : ℕ) (leaf : Leaf) (l : Placed) → slice_get (map (λ (x : Placed). x.leaf) xs) place ≡ Some leaf → slice_get xs place ≡ Some l → leaf ≡ l.leaf
+get_mapped [] place leaf l is placed_is = cc
+get_mapped (x ∷ xs) zero leaf l is placed_is = let one : x.leaf ≡ leaf = cc in let same : x ≡ l = cc in sym one ∙ ap (λ (p : Placed). p.leaf) same
+get_mapped (x ∷ xs) (suc place) leaf l is placed_is = get_mapped xs place leaf l is placed_is
+
+pub leaf_of_place : (t : Tree) (area : Area) (place : ℕ) (leaf : Leaf) (l : Placed) → slice_get (leaves t) place ≡ Some leaf → slice_get (leaves_of t area) place ≡ Some l → leaf ≡ l.leaf
+leaf_of_place t area place leaf l is placed_is = get_mapped (leaves_of t area) place leaf l (ap (λ (ls : List Leaf). slice_get ls place) (leaves_placed t area) ∙ is) placed_is
+
+pub place_among : (xs : List Placed) (place : ℕ) (l : Placed) → slice_get xs place ≡ Some l → Contains xs l
+place_among [] place l is = cc
+place_among (x ∷ xs) zero l is = (0, omega arith, let one : x ≡ l = cc in one)
+place_among (x ∷ xs) (suc place) l is = let more = place_among xs place l is in (suc more.0, omega (arith, more.1), more.2)
+
+-- a leaf has a box
+pub leaf_with_box : (t : Tree) (area : Area) (leaf : Leaf) → Contains (leaves t) leaf → (b : Area) × Contains (leaves_of t area) (placed leaf b)
+leaf_with_box (Tip one) area leaf (zero, lt, e) = (area, (0, omega arith, ap (λ (l : Leaf). placed l area) e))
+leaf_with_box (Tip one) area leaf (suc k, lt, e) = absurd (omega (arith, lt))
+leaf_with_box (Cut axis value left right) area leaf has =
+    let below = leaves_of left (side_below area axis value) in
+    let from = leaves_of right (side_from area axis value) in
+    elim (Contains-append_cases (leaves left) (leaves right) leaf has) [
+      | inl l ↦ let one = leaf_with_box left (side_below area axis value) leaf l in (one.0, Contains-append_left below from (placed leaf one.0) one.1)
+      | inr r ↦ let one = leaf_with_box right (side_from area axis value) leaf r in (one.0, Contains-append_right below from (placed leaf one.0) one.1)
+    ]
+
+module _ (s : FileState) (sound : IsSound s) (id : ℕ) (page : LivePage) (live : live_page s id ≡ Some page) where
+  -- a child of the parent, by its first leaf from the left
+  pub named_child_there : (name : ℕ) (mode : Mode) (then : Option LivePage) (wanted : Wanted) (asked : AskedBox) → then ≡ Some page → wanted_page name (page.level - 1) mode ≡ wanted → box_of_child then name ≡ Some asked → IsThere s wanted asked
+  named_child_there name mode then wanted asked is wants asks = by (first_child_box name (leaves_of page.frag page.area)) refl (subst (λ (o : Option LivePage). box_of_child o name ≡ Some asked) is asks)
+    where
+      by : (o : Option Area) → first_child_box name (leaves_of page.frag page.area) ≡ o → option_map (λ (area : Area). record { area = area; exact = false }) o ≡ Some asked → IsThere s wanted asked
+      by None is asks = cc
+      by (Some area) is asks = child_there s sound id page live name area mode wanted asked (first_child_among name (leaves_of page.frag page.area) area is) wants (let same : record { area = area; exact = false } ≡ asked = cc in same)
+
+  -- a page to which the page gave a part of its box, by the leaf at a place
+  pub placed_sibling_there : (name place : ℕ) (mode : Mode) (then : Option LivePage) (wanted : Wanted) (asked : AskedBox) → then ≡ Some page → slice_get (leaves page.frag) place ≡ Some (Sibling name)
+      → wanted_page name page.level mode ≡ wanted → box_of_place then place ≡ Some asked → IsThere s wanted asked
+  placed_sibling_there name place mode then wanted asked is there wants asks = by (slice_get (leaves_of page.frag page.area) place) refl (subst (λ (o : Option LivePage). box_of_place o place ≡ Some asked) is asks)
+    where
+      by : (o : Option Placed) → slice_get (leaves_of page.frag page.area) place ≡ o → option_and_then box_by_leaf o ≡ Some asked → IsThere s wanted asked
+      by None is asks = cc
+      by (Some l) is asks =
+          let leaf : Sibling name ≡ l.leaf = leaf_of_place page.frag page.area place (Sibling name) l there is in
+          let among : Contains (leaves_of page.frag page.area) (placed (Sibling name) l.area) = subst (λ (x : Leaf). Contains (leaves_of page.frag page.area) (placed x l.area)) (sym leaf) (place_among (leaves_of page.frag page.area) place l is) in
+          let box : box_by_leaf (placed (Sibling name) l.area) ≡ Some asked = subst (λ (x : Leaf). box_by_leaf (placed x l.area) ≡ Some asked) (sym leaf) asks in
+          sibling_there s sound id page live name l.area mode wanted asked among wants (let same : record { area = l.area; exact = true } ≡ asked = cc in same)
+
+  -- and by its first sibling leaf to that page
+  pub given_there : (name : ℕ) (level : ℕ) (mode : Mode) (then : Option LivePage) (wanted : Wanted) (asked : AskedBox) → then ≡ Some page → page.level ≡ level → wanted_page name level mode ≡ wanted → box_of_sibling then name ≡ Some asked → IsThere s wanted asked
+  given_there name level mode then wanted asked is on wants asks = by (first_named name (siblings_of page)) refl (subst (λ (o : Option LivePage). box_of_sibling o name ≡ Some asked) is asks)
+    where
+      by : (o : Option Area) → first_named name (siblings_of page) ≡ o → option_map (λ (area : Area). record { area = area; exact = true }) o ≡ Some asked → IsThere s wanted asked
+      by None is asks = cc
+      by (Some area) is asks =
+          let named = sound.siblings id page name area live (first_sibling_among name (siblings_of page) area is) in
+          found s sound name level mode wanted (record { area = area; exact = true }) asked named.0 wants (let same : record { area = area; exact = true } ≡ asked = cc in same) named.1 (named.2 ∙ on) named.3

@@ -1,14 +1,15 @@
 -- The page that a step wants comes later than each one that its actor holds.
-use Rattle.std.proofs.Common.{◌≡◌, ◌≢◌, ◌⊎◌, inl, inr, ℕ, ◌==◌, ◌-◌, ◌<◌, Bool, true, false, cond, List, [], ◌∷◌, Option, Some, None, refl, sym, ap, ◌∙◌, subst, arith}
+use Rattle.std.proofs.Common.{◌≡◌, ◌≢◌, ◌⊎◌, inl, inr, ℕ, zero, suc, ◌==◌, ◌-◌, ◌<◌, Bool, true, false, cond, List, [], ◌∷◌, Option, Some, None, IfSome, IsSome, refl, sym, ap, ◌∙◌, subst, arith}
 use Rattle.std.proofs.lemmas.Bool.{eqb-true}
-use Rattle.std.specs.List.{Contains}
+use Rattle.std.specs.List.{All, Contains, slice_get}
+use Rattle.std.proofs.lemmas.List.Elements.{All-head, All-tail}
 use Rattle.std.specs.Option.{option_and_then, option_map}
 use Rattle.hb_space.specs.Boxes.{Area, volume}
 use Rattle.hb_frag.specs.declared.leaves.Leaf.{Leaf}
 use Rattle.hb_frag.specs.declared.leaves.Leaf.TheVariants.{Records, Child, Sibling}
 use Rattle.hb_frag.specs.declared.pages.LivePage.{LivePage}
 use Rattle.hb_frag.specs.declared.pages.Page.TheVariants.{Live}
-use Rattle.hb_frag.specs.Leaves.{Placed, leaf_at, leaves_of}
+use Rattle.hb_frag.specs.Leaves.{Placed, first_named, leaf_at, leaves, leaves_of, siblings_of}
 use Rattle.hb_layout.specs.declared.meta.Meta.{Meta}
 use Rattle.hb_latch.specs.declared.modes.Mode.{Mode}
 use Rattle.hb_latch.specs.declared.modes.Mode.TheVariants.{Shared, Update, Exclusive}
@@ -29,14 +30,20 @@ use Rattle.hb_store.specs.States.{in_memory}
 use Rattle.hb_core.specs.Machines.{Files, Machine, current_file, live_here}
 use Rattle.hb_core.specs.Asking.{looked_live, wanted_by}
 use Rattle.hb_core.specs.Keeps.{HasSoundFile, LatchesFit, WalksInSpace}
+use Rattle.hb_core.specs.KeptMerges.{AtParent, NamesKnown, PairHeld, merging_at}
 use Rattle.hb_core.specs.Performing.{latches_held, mode_among}
 use Rattle.hb_core.specs.WaitingLaws.{ComesLater, Promotes, WantedComesLater, WantsItsOwn}
-use Rattle.hb_core.proofs.AskedPages.{first_among}
+use Rattle.hb_core.proofs.AskedPages.{first_among, first_sibling_among, leaf_with_box}
 use Rattle.hb_core.proofs.Backing.{live_there}
 use Rattle.hb_core.proofs.SoundFiles.{current_sound, files_hold}
 use Rattle.hb_core.proofs.Volumes.{sibling_fewer}
 
 -- ---- in a sound file the pages that a page names come later
+
+leaf_among : (xs : List Leaf) (place : ℕ) (leaf : Leaf) → slice_get xs place ≡ Some leaf → Contains xs leaf
+leaf_among [] place leaf is = cc
+leaf_among (x ∷ xs) zero leaf is = (0, omega arith, let one : x ≡ leaf = cc in one)
+leaf_among (x ∷ xs) (suc place) leaf is = let more = leaf_among xs place leaf is in (suc more.0, omega (arith, more.1), more.2)
 
 module _ (s : FileState) (sound : IsSound s) (id : ℕ) (page : LivePage) (live : live_page s id ≡ Some page) where
   after : (name other : ℕ) (named : LivePage) → name ≡ other → live_page s name ≡ Some named → IsLater page named → ComesLater s id other
@@ -47,13 +54,15 @@ module _ (s : FileState) (sound : IsSound s) (id : ℕ) (page : LivePage) (live 
       let named = sound.children id page name area live among in
       after name other named.0 is named.1 (inl (omega (arith, named.2)))
 
-  pub sibling_later : (name other : ℕ) (area : Area) → Contains (leaves_of page.frag page.area) (placed (Sibling name) area) → name ≡ other → ComesLater s id other
-  sibling_later name other area among is =
-      let has = leaf_is_sibling (leaves_of page.frag page.area) name area among in
+  sibling_after : (name other : ℕ) (area : Area) → Contains (siblings_of page) (name, area) → name ≡ other → ComesLater s id other
+  sibling_after name other area has is =
       let named = sound.siblings id page name area live has in
       let made = sound.well_made id page live in
       let fewer = sibling_fewer page.frag page.area name area made.well_cut made.filled.own has in
       after name other named.0 is named.1 (inr (named.2, subst (λ (a : Area). volume a < volume page.area) (sym named.3) fewer))
+
+  pub sibling_later : (name other : ℕ) (area : Area) → Contains (leaves_of page.frag page.area) (placed (Sibling name) area) → name ≡ other → ComesLater s id other
+  sibling_later name other area among is = sibling_after name other area (leaf_is_sibling (leaves_of page.frag page.area) name area among) is
 
   leaf_later : (mode : ℕ → Mode) (leaf : Leaf) (area : Area) (wanted : Wanted) → Contains (leaves_of page.frag page.area) (placed leaf area) → in_mode mode (named_page page.level leaf) ≡ Some wanted → ComesLater s id wanted.page
   leaf_later mode (Records records) area wanted among wants = cc
@@ -81,7 +90,27 @@ module _ (s : FileState) (sound : IsSound s) (id : ℕ) (page : LivePage) (live 
   pub below_later : (p : List ℕ) (now : Option LivePage) (wanted : Wanted) → now ≡ Some page → in_mode (λ level. Shared) (option_and_then (λ (page : LivePage). child_of page p) now) ≡ Some wanted → ComesLater s id wanted.page
   below_later p now wanted is wants = at_child p wanted (leaf_at page p) refl (subst (λ (o : Option LivePage). in_mode (λ level. Shared) (option_and_then (λ (page : LivePage). child_of page p) o) ≡ Some wanted) is wants)
 
+  -- what a consolidator tries, and what it decides on
+  pub tried_later : (name other place : ℕ) → slice_get (leaves page.frag) place ≡ Some (Sibling name) → name ≡ other → ComesLater s id other
+  tried_later name other place there is =
+      let one = leaf_with_box page.frag page.area (Sibling name) (leaf_among (leaves page.frag) place (Sibling name) there) in
+      sibling_later name other one.0 one.1 is
+
+  pub given_later : (name other : ℕ) → IsSome (first_named name (siblings_of page)) → name ≡ other → ComesLater s id other
+  given_later name other gave is = by (first_named name (siblings_of page)) refl gave
+    where
+      by : (o : Option Area) → first_named name (siblings_of page) ≡ o → IsSome o → ComesLater s id other
+      by None none some = cc
+      by (Some area) there some = sibling_after name other area (first_sibling_among name (siblings_of page) area there) is
+
 -- ---- of the latches of an activity
+
+-- a page names a child
+abbrev IsNamed : LivePage → ℕ → Type 0
+IsNamed page name = Contains (leaves page.frag) (Child name)
+
+second_named : (page : LivePage) (first second : ℕ) → All (IsNamed page) (first ∷ second ∷ []) → IsNamed page second
+second_named page first second all = All-head (IsNamed page) second [] (All-tail (IsNamed page) first (second ∷ []) all)
 
 none_among : (id : ℕ) (mode : Mode) → mode_among id [] ≡ Some mode → ⊥
 none_among id mode is = cc
@@ -133,6 +162,32 @@ module _ (m : Machine) (files : Files) (actor id : ℕ) (mode : Mode) (wanted : 
         update = sym one.1;
       })
 
+  -- a page that a consolidator's parent names
+  abbrev at_names : Job → ℕ → List ℕ → Option PairHeld → AtParent
+  at_names job parent known pair = record { job = job; parent = parent; known = known; pair = pair }
+
+  known_at : {place : AtParent} → merging_at (m.activity actor) ≡ Some place → NamesKnown m.store place
+  known_at is = subst (λ (o : Option AtParent). IfSome o (NamesKnown m.store)) is (walks.merging actor)
+
+  wanted_is : (name : ℕ) (level : LivePage → ℕ) (its : Mode) (o : Option LivePage) → option_map (λ (page : LivePage). wanted_page name (level page) its) o ≡ Some wanted → name ≡ wanted.page
+  wanted_is name level its None wants = cc
+  wanted_is name level its (Some page) wants = let same : wanted_page name (level page) its ≡ wanted = cc in ap (λ (w : Wanted). w.page) same
+
+  of_names : (job : Job) (parent : ℕ) (names : List ℕ) (pair : Option PairHeld) (its : Mode) (known : NamesKnown m.store (at_names job parent names pair)) (name : ℕ) → IsNamed known.page name → name ≡ wanted.page
+      → mode_among id (latch_on parent its ∷ []) ≡ Some mode → Comes
+  of_names job parent names pair its known name named is holds =
+      let one = leaf_with_box known.page.frag known.page.area (Child name) named in
+      inl (subst (λ (q : ℕ). ComesLater (current_file files) q wanted.page) (one_among parent its id mode holds).0
+      (child_later (current_file files) sound_now parent known.page (in_file parent known.page known.live) name wanted.page one.0 one.1 is))
+
+  of_both : (parent keep : ℕ) (its other : Mode) → (mode_among id (latch_on parent its ∷ []) ≡ Some mode → Comes) → (mode_among id (latch_on keep other ∷ []) ≡ Some mode → Comes)
+      → mode_among id (latch_on parent its ∷ latch_on keep other ∷ []) ≡ Some mode → Comes
+  of_both parent keep its other first second holds =
+      elim (parent == id) as (λ b. (cond b (Some its) None ≡ Some mode → Comes) → cond b (Some its) (mode_among id (latch_on keep other ∷ [])) ≡ Some mode → Comes) [
+        | true ↦ λ first e. first e
+        | false ↦ λ first e. second e
+      ] first holds
+
   comes : (activity : Activity) → m.activity actor ≡ activity → wanted_of activity m.store.meta (looked_live m.store activity) ≡ Some wanted → mode_among id (latches_held m.store activity) ≡ Some mode → Comes
   comes (at.SessionWalk line None rest found) is wants holds = absurd (none_among id mode holds)
   comes (at.SessionWalk line (Some held) rest found) is wants holds = of_walk held (goal_of line.command rest) (session_mode line.command) (live_here m.store held) (ap walk_held is) wants holds
@@ -145,10 +200,24 @@ module _ (m : Machine) (files : Files) (actor id : ℕ) (mode : Mode) (wanted : 
   comes (at.PosterAgain job parent) is wants holds = let one = walks.parents actor job parent (inr (inr is)) in of_parent job parent Exclusive one.0 one.1 wants holds
   comes (at.PosterPromote job parent) is wants holds = of_promotion parent (live_here m.store parent) (subst (λ (a : Activity). Promotes a parent) (sym is) refl) wants holds
   comes (at.ConsolidatorPromote job parent keep gone) is wants holds = of_promotion parent (live_here m.store parent) (subst (λ (a : Activity). Promotes a parent) (sym is) refl) wants holds
-  comes (at.ConsolidatorScan job parent child) is wants holds = ?
-  comes (at.ConsolidatorTry job parent keep gone leaf) is wants holds = ?
-  comes (at.ConsolidatorKeep job parent keep gone) is wants holds = ?
-  comes (at.ConsolidatorDecide job parent keep gone) is wants holds = ?
+  comes (at.ConsolidatorScan job parent child) is wants holds =
+      let known : NamesKnown m.store (at_names job parent (child ∷ []) None) = known_at (ap merging_at is) in
+      of_names job parent (child ∷ []) None Update known child (All-head (IsNamed known.page) child [] known.names) (wanted_is child (λ page. page.level - 1) Shared (live_here m.store parent) wants) holds
+  comes (at.ConsolidatorTry job parent keep gone leaf) is wants holds =
+      let known : NamesKnown m.store (at_names job parent (keep ∷ gone ∷ []) (Some (record { keep = keep; gone = gone; leaf = Some leaf }))) = known_at (ap merging_at is) in
+      let goes : gone ≡ wanted.page = wanted_is gone (λ page. page.level) Shared (live_here m.store keep) wants in
+      of_both parent keep Update Shared (λ one. of_names job parent (keep ∷ gone ∷ []) _ Update known gone (second_named known.page keep gone known.names) goes one)
+      (λ one. inl (subst (λ (q : ℕ). ComesLater (current_file files) q wanted.page) (one_among keep Shared id mode one).0
+          (tried_later (current_file files) sound_now keep known.pair.page (in_file keep known.pair.page known.pair.live) gone wanted.page leaf known.pair.gave goes))) holds
+  comes (at.ConsolidatorKeep job parent keep gone) is wants holds =
+      let known : NamesKnown m.store (at_names job parent (keep ∷ gone ∷ []) None) = known_at (ap merging_at is) in
+      of_names job parent (keep ∷ gone ∷ []) None Exclusive known keep (All-head (IsNamed known.page) keep (gone ∷ []) known.names) (wanted_is keep (λ page. page.level - 1) Exclusive (live_here m.store parent) wants) holds
+  comes (at.ConsolidatorDecide job parent keep gone) is wants holds =
+      let known : NamesKnown m.store (at_names job parent (keep ∷ gone ∷ []) (Some (record { keep = keep; gone = gone; leaf = None }))) = known_at (ap merging_at is) in
+      let goes : gone ≡ wanted.page = wanted_is gone (λ page. page.level - 1) Exclusive (live_here m.store parent) wants in
+      of_both parent keep Exclusive Exclusive (λ one. of_names job parent (keep ∷ gone ∷ []) _ Exclusive known gone (second_named known.page keep gone known.names) goes one)
+      (λ one. inl (subst (λ (q : ℕ). ComesLater (current_file files) q wanted.page) (one_among keep Exclusive id mode one).0
+          (given_later (current_file files) sound_now keep known.pair.page (in_file keep known.pair.page known.pair.live) gone wanted.page known.pair.gave goes))) holds
   comes at.SessionIdle is wants holds = cc
   comes (at.SessionSplit line held) is wants holds = cc
   comes (at.SessionPut line source fresh) is wants holds = cc

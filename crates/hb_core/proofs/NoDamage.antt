@@ -1,7 +1,11 @@
 -- Over a disk that tells no step meets a damaged page.
-use Rattle.std.proofs.Common.{◌≡◌, ◌≢◌, ◌⊎◌, inl, inr, ℕ, ◌-◌, ◌<◌, true, List, Option, Some, None, IfSome, refl, sym, ap, ◌∙◌, subst, arith}
+use Rattle.std.proofs.Common.{◌≡◌, ◌≢◌, ◌⊎◌, inl, inr, ℕ, ◌-◌, ◌<◌, true, List, [], ◌∷◌, Option, Some, None, IfSome, refl, sym, ap, ◌∙◌, subst, arith}
 use Rattle.std.proofs.lemmas.Option.{same_Some}
-use Rattle.std.specs.Option.{option_and_then}
+use Rattle.std.specs.List.{Contains}
+use Rattle.std.specs.Option.{option_and_then, option_map}
+use Rattle.std.proofs.lemmas.List.Elements.{All-head}
+use Rattle.hb_frag.specs.declared.leaves.Leaf.TheVariants.{Child}
+use Rattle.hb_frag.specs.Leaves.{leaves}
 use Rattle.hb_space.specs.Boxes.{Area, whole_area}
 use Rattle.hb_frag.specs.declared.pages.LivePage.{LivePage}
 use Rattle.hb_frag.specs.declared.pages.Page.{Page}
@@ -28,16 +32,17 @@ use Rattle.hb_core.specs.declared.outcomes.Outcome.{Outcome}
 use Rattle.hb_core.specs.declared.outcomes.Outcome.TheVariants as outcomes
 use Rattle.hb_core.specs.Machines.{Files, Machine, current_file, live_here, with_disk}
 use Rattle.hb_core.specs.Acting.{IsBadWanted, MeetsBadPage, NeedsNumber}
-use Rattle.hb_core.specs.Asking.{AskedBox, HasAskedBox, IsNotAsked, asked_box, box_at, looked_live, wanted_by}
+use Rattle.hb_core.specs.Asking.{AskedBox, HasAskedBox, IsNotAsked, asked_box, box_at, box_of_child, looked_live, wanted_by}
 use Rattle.hb_core.specs.DamageLaws.{IsRefusedOrFails, IsUndamaged, KeptStepIsOne, NoPageIsDamaged, StaysUndamaged}
 use Rattle.hb_core.specs.Deeds.{Deed}
 use Rattle.hb_core.specs.Fetching.{Brings, IsBadHead, IsBadRead, IsDamaged}
 use Rattle.hb_core.specs.Forcing.{ForcesFirst, StaysSo}
 use Rattle.hb_core.specs.Keeps.{HasSoundFile, LatchesFit, WalksInSpace}
+use Rattle.hb_core.specs.KeptMerges.{AtParent, KeepsPair, NamesKnown, merging_at}
 use Rattle.hb_core.specs.OutcomeLaws.{ComesToSame, IsTurnedAside}
 use Rattle.hb_core.specs.Performing.{Performs}
 use Rattle.hb_core.specs.Steps.{StepsTo, Works}
-use Rattle.hb_core.proofs.AskedPages.{IsThere, begun_there, held_there, named_there, root_there}
+use Rattle.hb_core.proofs.AskedPages.{IsThere, begun_there, given_there, held_there, leaf_with_box, named_child_there, named_there, placed_sibling_there, root_there}
 use Rattle.hb_core.proofs.Backing.{live_there}
 use Rattle.hb_core.proofs.OneOutcome.{outcome_is_one, state_is_one}
 use Rattle.hb_core.proofs.SoundFiles.{FilesHold, brought_shown, current_sound, files_hold}
@@ -155,6 +160,20 @@ module _ (m : Machine) (files : Files) (actor : ℕ) (may : MayLatch actor) (fit
       → Some (record { area = whole_area fetched.meta.k; exact = true }) ≡ Some asked → IsThere (current_file files) wanted asked
   walk_begins goal mode wanted asked wants asks = begun_there (current_file files) sound_now mode m.store.meta fetched.meta.k goal None wanted asked meta same_k wants asks
 
+  -- a child of the parent that a consolidator holds
+  by_child : (parent name : ℕ) (mode : Mode) (above : Option LivePage) (wanted : Wanted) (asked : AskedBox) → live_here m.store parent ≡ above → option_map (λ (page : LivePage). wanted_page name (page.level - 1) mode) above ≡ Some wanted
+      → box_of_child (live_here fetched parent) name ≡ Some asked → IsThere (current_file files) wanted asked
+  by_child parent name mode None wanted asked is wants asks = cc
+  by_child parent name mode (Some page) wanted asked is wants asks =
+      named_child_there (current_file files) sound_now parent page (in_file parent page is) name mode (live_here fetched parent) wanted asked (still_fetched m needs fetched brings parent page is)
+      (same_Some (wanted_page name (page.level - 1) mode) wanted wants) asks
+
+  abbrev at_parent_of : Job → ℕ → ℕ → ℕ → Option ℕ → AtParent
+  at_parent_of job parent keep gone leaf = record { job = job; parent = parent; known = keep ∷ gone ∷ []; pair = Some (record { keep = keep; gone = gone; leaf = leaf }) }
+
+  at_pair : (job : Job) (parent keep gone : ℕ) (leaf : Option ℕ) → merging_at (m.activity actor) ≡ Some (at_parent_of job parent keep gone leaf) → KeepsPair m.store (record { keep = keep; gone = gone; leaf = leaf })
+  at_pair job parent keep gone leaf is = (subst (λ (o : Option AtParent). IfSome o (NamesKnown m.store)) is (walks.merging actor)).pair
+
   there : (activity : Activity) (wanted : Wanted) (asked : AskedBox) → m.activity actor ≡ activity → wanted_of activity m.store.meta (looked_live m.store activity) ≡ Some wanted → asked_box activity fetched ≡ Some asked → IsThere (current_file files) wanted asked
   there (at.SessionWalk line None rest found) wanted asked is wants asks = walk_begins (goal_of line.command rest) (session_mode line.command) wanted asked wants asks
   there (at.SessionWalk line (Some id) rest found) wanted asked is wants asks = walk_on id (goal_of line.command rest) (session_mode line.command) wanted asked (ap walk_held is) wants asks
@@ -169,10 +188,22 @@ module _ (m : Machine) (files : Files) (actor : ℕ) (may : MayLatch actor) (fit
   there (at.PosterAgain job parent) wanted asked is wants asks = let one = walks.parents actor job parent (inr (inr is)) in at_parent job parent wanted asked one.0 one.1 wants asks
   there (at.PosterPromote job parent) wanted asked is wants asks = cc
   there (at.ConsolidatorPromote job parent keep gone) wanted asked is wants asks = cc
-  there (at.ConsolidatorScan job parent child) wanted asked is wants asks = ?
-  there (at.ConsolidatorTry job parent keep gone leaf) wanted asked is wants asks = ?
-  there (at.ConsolidatorKeep job parent keep gone) wanted asked is wants asks = ?
-  there (at.ConsolidatorDecide job parent keep gone) wanted asked is wants asks = ?
+  there (at.ConsolidatorScan job parent child) wanted asked is wants asks = by_child parent child Shared (live_here m.store parent) wanted asked refl wants asks
+  there (at.ConsolidatorTry job parent keep gone leaf) wanted asked is wants asks =
+      let one = at_pair job parent keep gone (Some leaf) (ap merging_at is) in
+      placed_sibling_there (current_file files) sound_now keep one.page (in_file keep one.page one.live) gone leaf Shared (live_here fetched keep) wanted asked (still_fetched m needs fetched brings keep one.page one.live) one.gave
+      (same_Some (wanted_page gone one.page.level Shared) wanted (sym (ap (λ (o : Option LivePage). option_map (λ (page : LivePage). wanted_page gone page.level Shared) o) one.live) ∙ wants)) asks
+  there (at.ConsolidatorKeep job parent keep gone) wanted asked is wants asks = by_child parent keep Exclusive (live_here m.store parent) wanted asked refl wants asks
+  there (at.ConsolidatorDecide job parent keep gone) wanted asked is wants asks =
+      let place = walks.merging actor in
+      let known : NamesKnown m.store (at_parent_of job parent keep gone None) = subst (λ (o : Option AtParent). IfSome o (NamesKnown m.store)) (ap merging_at is) place in
+      let pair = known.pair in
+      let above = leaf_with_box known.page.frag known.page.area (Child keep) (All-head (λ (id : ℕ). Contains (leaves known.page.frag) (Child id)) keep (gone ∷ []) known.names) in
+      let kept = sound_now.children parent known.page keep above.0 (in_file parent known.page known.live) above.1 in
+      let same : kept.0 ≡ pair.page = same_Some kept.0 pair.page (sym kept.1 ∙ in_file keep pair.page pair.live) in
+      given_there (current_file files) sound_now keep pair.page (in_file keep pair.page pair.live) gone (known.page.level - 1) Exclusive (live_here fetched keep) wanted asked
+      (still_fetched m needs fetched brings keep pair.page pair.live) (let level : pair.page.level ≡ kept.0.level = ap (λ (p : LivePage). p.level) (sym same) in omega (arith, level, kept.2))
+      (same_Some (wanted_page gone (known.page.level - 1) Exclusive) wanted (sym (ap (λ (o : Option LivePage). option_map (λ (page : LivePage). wanted_page gone (page.level - 1) Exclusive) o) known.live) ∙ wants)) asks
   there at.SessionIdle wanted asked is wants asks = cc
   there (at.SessionSplit line held) wanted asked is wants asks = cc
   there (at.SessionPut line source fresh) wanted asked is wants asks = cc
