@@ -153,10 +153,10 @@ get_mapped (x ∷ xs) (suc place) leaf l is placed_is = get_mapped xs place leaf
 pub leaf_of_place : (t : Tree) (area : Area) (place : ℕ) (leaf : Leaf) (l : Placed) → slice_get (leaves t) place ≡ Some leaf → slice_get (leaves_of t area) place ≡ Some l → leaf ≡ l.leaf
 leaf_of_place t area place leaf l is placed_is = get_mapped (leaves_of t area) place leaf l (ap (λ (ls : List Leaf). slice_get ls place) (leaves_placed t area) ∙ is) placed_is
 
-pub place_among : (xs : List Placed) (place : ℕ) (l : Placed) → slice_get xs place ≡ Some l → Contains xs l
-place_among [] place l is = cc
-place_among (x ∷ xs) zero l is = (0, omega arith, let one : x ≡ l = cc in one)
-place_among (x ∷ xs) (suc place) l is = let more = place_among xs place l is in (suc more.0, omega (arith, more.1), more.2)
+pub place_among : {A : Type 0} (xs : List A) (place : ℕ) (x : A) → slice_get xs place ≡ Some x → Contains xs x
+place_among [] place x is = cc
+place_among (y ∷ xs) zero x is = (0, omega arith, let one : y ≡ x = cc in one)
+place_among (y ∷ xs) (suc place) x is = let more = place_among xs place x is in (suc more.0, omega (arith, more.1), more.2)
 
 -- a leaf has a box
 pub leaf_with_box : (t : Tree) (area : Area) (leaf : Leaf) → Contains (leaves t) leaf → (b : Area) × Contains (leaves_of t area) (placed leaf b)

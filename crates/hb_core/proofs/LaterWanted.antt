@@ -1,5 +1,5 @@
 -- The page that a step wants comes later than each one that its actor holds.
-use Rattle.std.proofs.Common.{◌≡◌, ◌≢◌, ◌⊎◌, inl, inr, ℕ, zero, suc, ◌==◌, ◌-◌, ◌<◌, Bool, true, false, cond, List, [], ◌∷◌, Option, Some, None, IfSome, IsSome, refl, sym, ap, ◌∙◌, subst, arith}
+use Rattle.std.proofs.Common.{◌≡◌, ◌≢◌, ◌⊎◌, inl, inr, ℕ, ◌==◌, ◌-◌, ◌<◌, Bool, true, false, cond, List, [], ◌∷◌, Option, Some, None, IfSome, IsSome, refl, sym, ap, ◌∙◌, subst, arith}
 use Rattle.std.proofs.lemmas.Bool.{eqb-true}
 use Rattle.std.specs.List.{All, Contains, slice_get}
 use Rattle.std.proofs.lemmas.List.Elements.{All-head, All-tail}
@@ -33,17 +33,12 @@ use Rattle.hb_core.specs.Keeps.{HasSoundFile, LatchesFit, WalksInSpace}
 use Rattle.hb_core.specs.KeptMerges.{AtParent, NamesKnown, PairHeld, merging_at}
 use Rattle.hb_core.specs.Performing.{latches_held, mode_among}
 use Rattle.hb_core.specs.WaitingLaws.{ComesLater, Promotes, WantedComesLater, WantsItsOwn}
-use Rattle.hb_core.proofs.AskedPages.{first_among, first_sibling_among, leaf_with_box}
+use Rattle.hb_core.proofs.AskedPages.{first_among, first_sibling_among, leaf_with_box, place_among}
 use Rattle.hb_core.proofs.Backing.{live_there}
 use Rattle.hb_core.proofs.SoundFiles.{current_sound, files_hold}
 use Rattle.hb_core.proofs.Volumes.{sibling_fewer}
 
 -- ---- in a sound file the pages that a page names come later
-
-leaf_among : (xs : List Leaf) (place : ℕ) (leaf : Leaf) → slice_get xs place ≡ Some leaf → Contains xs leaf
-leaf_among [] place leaf is = cc
-leaf_among (x ∷ xs) zero leaf is = (0, omega arith, let one : x ≡ leaf = cc in one)
-leaf_among (x ∷ xs) (suc place) leaf is = let more = leaf_among xs place leaf is in (suc more.0, omega (arith, more.1), more.2)
 
 module _ (s : FileState) (sound : IsSound s) (id : ℕ) (page : LivePage) (live : live_page s id ≡ Some page) where
   after : (name other : ℕ) (named : LivePage) → name ≡ other → live_page s name ≡ Some named → IsLater page named → ComesLater s id other
@@ -93,7 +88,7 @@ module _ (s : FileState) (sound : IsSound s) (id : ℕ) (page : LivePage) (live 
   -- what a consolidator tries, and what it decides on
   pub tried_later : (name other place : ℕ) → slice_get (leaves page.frag) place ≡ Some (Sibling name) → name ≡ other → ComesLater s id other
   tried_later name other place there is =
-      let one = leaf_with_box page.frag page.area (Sibling name) (leaf_among (leaves page.frag) place (Sibling name) there) in
+      let one = leaf_with_box page.frag page.area (Sibling name) (place_among (leaves page.frag) place (Sibling name) there) in
       sibling_later name other one.0 one.1 is
 
   pub given_later : (name other : ℕ) → IsSome (first_named name (siblings_of page)) → name ≡ other → ComesLater s id other
