@@ -11,6 +11,7 @@ use Rattle.hb_core.specs.declared.outcomes.Outcome.TheVariants as outcomes
 use Rattle.hb_core.specs.Machines.{Machine}
 use Rattle.hb_core.specs.Deeds.{Deed, answers_now}
 use Rattle.hb_core.specs.WorkerRows.{ends_job}
+use Rattle.hb_core.specs.ConsolidatorRows.{ends_merging}
 
 -- What an activity gives up: a session's line is answered outside the order, and a worker's job is dropped.
 abbrev pub reply_for : DropWhy → Reply
@@ -52,4 +53,10 @@ abbrev pub runs_out : Machine → Activity → Deed
 runs_out m (at.SessionWalk line held rest found) = answers_now m line.number replies.Full
 runs_out m (at.SessionSplit line held) = answers_now m line.number replies.Full
 runs_out m (at.SessionPut line source fresh) = answers_now m line.number replies.Full
+runs_out m (at.ConsolidatorWalk job held) = ends_merging m
+runs_out m (at.ConsolidatorScan job parent child) = ends_merging m
+runs_out m (at.ConsolidatorTry job parent keep gone leaf) = ends_merging m
+runs_out m (at.ConsolidatorPromote job parent keep gone) = ends_merging m
+runs_out m (at.ConsolidatorKeep job parent keep gone) = ends_merging m
+runs_out m (at.ConsolidatorDecide job parent keep gone) = ends_merging m
 runs_out m other = ends_job m

@@ -11,9 +11,11 @@
 #![tactic(auto)]
 
 pub mod laws;
+mod merging;
 mod plans;
 #[cfg(test)]
 mod tests;
 mod threads;
 
+pub use merging::{MergePlan, merge_plan};
 pub use plans::{PostPlan, post_plan};
