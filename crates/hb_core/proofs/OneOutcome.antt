@@ -153,7 +153,8 @@ held_after m actor now deed (inr (inr (inr (inr (inl keeps))))) = inl (by keeps.
     by : (deed.next ≡ at.PosterPromote keeps.job keeps.parent) ⊎ (deed.next ≡ at.PosterAgain keeps.job keeps.parent) → walk_held deed.next ≡ None
     by (inl is) = ap walk_held is
     by (inr is) = ap walk_held is
-held_after m actor now deed (inr (inr (inr (inr (inr parts))))) = inl (ap (λ (d : Deed). walk_held d.next) parts.row.deed_is)
+held_after m actor now deed (inr (inr (inr (inr (inr (inr merges)))))) = inl (ap (λ (d : Deed). walk_held d.next) merges.stays.moves.is ∙ merges.stays.walk)
+held_after m actor now deed (inr (inr (inr (inr (inr (inl parts)))))) = inl (ap (λ (d : Deed). walk_held d.next) parts.row.deed_is)
 
 module _ (m : Machine) (actor : ℕ) (outcome other : Outcome) (new next : Machine) where
   same_held : (f g : StoreState) (d e : Deed) → d ≡ e → ((id : ℕ) (a b : Page) → in_memory f id ≡ Some a → in_memory g id ≡ Some b → a ≡ b) → MayDo d.op (length m.order) f new.store → MayDo e.op (length m.order) g next.store
@@ -194,7 +195,7 @@ module _ (m : Machine) (actor : ℕ) (outcome other : Outcome) (new next : Machi
   left_rows files tells inside knows a b =
       let same = one_deed m files tells _ _ a.fetched b.fetched a.brings b.brings actor a.deed b.deed inside knows a.row b.row in
       let held = same_held a.fetched b.fetched a.deed b.deed same (agree m files tells _ _ a.fetched b.fetched a.brings b.brings) a.performs.store b.performs.store
-      (held_after m actor _ a.deed (place_after m actor a.fetched (wanted_by m actor) a.deed a.row)) (held_after m actor _ b.deed (place_after m actor b.fetched (wanted_by m actor) b.deed b.row)) in
+      (held_after m actor _ a.deed (place_after m actor a.fetched (wanted_by m actor) a.deed refl a.row)) (held_after m actor _ b.deed (place_after m actor b.fetched (wanted_by m actor) b.deed refl b.row)) in
       left_both a.fetched b.fetched a.deed b.deed same held a.performs b.performs
 
 pub state_is_one : StateIsOne

@@ -29,4 +29,5 @@ pub mod DoableLaws
 pub mod OutcomeLaws
 pub mod SteppingLaws
 pub mod KeepingLaws
+pub mod StageLaws
 pub mod Examples
