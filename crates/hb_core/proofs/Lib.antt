@@ -1,3 +1,8 @@
+pub mod NoMerges
+pub mod OneMerge
+pub mod MergerMoves
+pub mod MergerBacked
+pub mod MergesKept
 pub mod Targets
 pub mod OwnedOps
 pub mod StepKinds

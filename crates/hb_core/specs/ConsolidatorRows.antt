@@ -1,5 +1,5 @@
 -- The rows of the consolidator up to the promotion of a parent. The page of a row is the one that the step latches.
-use Rattle.std.specs.Prelude.{◌≡◌, ◌⊎◌, ℕ, ◌+◌, ◌==◌, ◌<◌, ◌≤◌, if◌then◌else◌, List, [], ◌∷◌, Option, Some, None, slice_get, drop}
+use Rattle.std.specs.Prelude.{◌≡◌, ◌⊎◌, ℕ, ◌+◌, ◌-◌, ◌==◌, ◌<◌, ◌≤◌, ◌&&◌, if◌then◌else◌, Bool, List, [], ◌∷◌, Option, Some, None, option_map}
 use Rattle.std.specs.List.{list_any}
 use Rattle.hb_frag.specs.declared.leaves.Leaf.{Leaf}
 use Rattle.hb_frag.specs.declared.leaves.Leaf.TheVariants.{Records, Child, Sibling}
@@ -36,13 +36,17 @@ pub record TakesMerging (m : Machine) (deed : Deed) : Type 0 where
 abbrev pub ends_merging : Machine → Deed
 ends_merging m = moves_to m ConsolidatorIdle []
 
--- The pages that a parent names, each once and in their order, and the one behind another.
+-- The pages that a parent names, each once and in their order; the first one, and the one behind another.
 abbrev pub children_of : LivePage → List ℕ
 children_of parent = firsts (child_names (leaves parent.frag))
 
+abbrev pub first_one : List ℕ → Option ℕ
+first_one [] = None
+first_one (child ∷ rest) = Some child
+
 abbrev pub one_behind : ℕ → List ℕ → Option ℕ
 one_behind child [] = None
-one_behind child (first ∷ rest) = if first == child then slice_get rest 0 else one_behind child rest
+one_behind child (first ∷ rest) = if first == child then first_one rest else one_behind child rest
 
 abbrev pub scans : Machine → Job → ℕ → Option ℕ → Deed
 scans m job parent None = ends_merging m
@@ -52,23 +56,30 @@ scans m job parent (Some child) = moves_to m (ConsolidatorScan job parent child)
 pub record ArrivesToMerge (m : Machine) (job : Job) (id : ℕ) (page : LivePage) (deed : Deed) : Type 0 where
   pub level : page.level ≡ job.level
   pub leads : LeadsBelow page job
-  pub deed_is : deed ≡ scans m job id (slice_get (children_of page) 0)
+  pub deed_is : deed ≡ scans m job id (first_one (children_of page))
 
 pub record ConsolidatorPasses (m : Machine) (job : Job) (id : ℕ) (page : LivePage) (deed : Deed) : Type 0 where
   pub farther : page.level ≡ job.level → ¬ (LeadsBelow page job)
   pub passes : PassesOn page job.point m (ConsolidatorWalk job (Some id)) deed
 
--- The first sibling leaf among these whose page has one of the names: that page, and the leaf's place. The first of them has
--- the place `place`.
-abbrev pub pair_among : List ℕ → ℕ → List Leaf → Option (ℕ × ℕ)
-pair_among names place [] = None
-pair_among names place (Sibling page ∷ rest) = if list_any (λ name. name == page) names then Some (page, place) else pair_among names (place + 1) rest
-pair_among names place (Records records ∷ rest) = pair_among names (place + 1) rest
-pair_among names place (Child page ∷ rest) = pair_among names (place + 1) rest
+-- a place one further on
+abbrev pub one_on : Option (ℕ × ℕ) → Option (ℕ × ℕ)
+one_on pair = option_map (λ (page, place). (page, place + 1)) pair
 
--- a page's sibling leaves from a place on
+-- whether a child leaf names the page
+abbrev pub names_child : LivePage → ℕ → Bool
+names_child parent id = list_any (λ name. name == id) (child_names (leaves parent.frag))
+
+-- The first of these leaves, `from` places on or later, that is a sibling leaf to a page that the parent names too: this page,
+-- and the leaf's place.
+abbrev pub pair_among : LivePage → ℕ → List Leaf → Option (ℕ × ℕ)
+pair_among parent from [] = None
+pair_among parent from (Sibling page ∷ rest) = if (from == 0) && names_child parent page then Some (page, 0) else one_on (pair_among parent (from - 1) rest)
+pair_among parent from (Records records ∷ rest) = one_on (pair_among parent (from - 1) rest)
+pair_among parent from (Child page ∷ rest) = one_on (pair_among parent (from - 1) rest)
+
 abbrev pub pair_from : LivePage → LivePage → ℕ → Option (ℕ × ℕ)
-pair_from parent keep place = pair_among (child_names (leaves parent.frag)) place (drop place (leaves keep.frag))
+pair_from parent keep from = pair_among parent from (leaves keep.frag)
 
 -- Such a pair is tried. Where there is none the next child is scanned, and after the last one the job ends.
 abbrev pub tries : Machine → Job → ℕ → LivePage → ℕ → Option (ℕ × ℕ) → Deed

@@ -1,6 +1,6 @@
 -- What every machine keeps of a consolidator at a parent.
-use Rattle.std.specs.Prelude.{◌≡◌, ℕ, List, [], ◌∷◌, All, Contains, Option, Some, None, IfSome, slice_get}
-use Rattle.hb_frag.specs.declared.leaves.Leaf.TheVariants.{Child, Sibling}
+use Rattle.std.specs.Prelude.{◌≡◌, ℕ, List, [], ◌∷◌, IsTrue, All, Option, Some, None, IfSome, slice_get}
+use Rattle.hb_frag.specs.declared.leaves.Leaf.TheVariants.{Sibling}
 use Rattle.hb_frag.specs.declared.pages.LivePage.{LivePage}
 use Rattle.hb_frag.specs.Leaves.{leaves}
 use Rattle.hb_terms.specs.Merging.{GaveTo}
@@ -9,6 +9,7 @@ use Rattle.hb_activity.specs.declared.activities.Activity.{Activity}
 use Rattle.hb_activity.specs.declared.activities.Activity.TheVariants as at
 use Rattle.hb_store.specs.States.{StoreState}
 use Rattle.hb_core.specs.Machines.{live_here}
+use Rattle.hb_core.specs.ConsolidatorRows.{names_child}
 
 -- The page to keep, where a consolidator holds it, and the page to go. `leaf` is the place of the sibling leaf that names the
 -- latter, while the pair is tried.
@@ -50,7 +51,7 @@ pub record NamesKnown (st : StoreState) (place : AtParent) : Type 0 where
   pub page : LivePage
   pub live : live_here st place.parent ≡ Some page
   pub level : page.level ≡ place.job.level
-  pub names : All (λ id. Contains (leaves page.frag) (Child id)) place.known
+  pub names : All (λ id. IsTrue (names_child page id)) place.known
   pub pair : IfSome place.pair (KeepsPair st)
 
 -- a consolidator at work

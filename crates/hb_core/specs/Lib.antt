@@ -31,4 +31,5 @@ pub mod DamageLaws
 pub mod SteppingLaws
 pub mod KeepingLaws
 pub mod WaitingLaws
+pub mod StageLaws
 pub mod Examples

@@ -11,6 +11,8 @@
 #![tactic(auto)]
 
 pub mod laws;
+#[cfg(test)]
+mod merge_tests;
 mod merging;
 mod plans;
 #[cfg(test)]
