@@ -1,6 +1,6 @@
 -- What a step asks for is in a sound file: a page in use, of the level and the box that are asked for.
-use Rattle.std.proofs.Common.{◌≡◌, ◌≢◌, ◌⊎◌, inl, inr, ℕ, zero, suc, ◌-◌, ◌==◌, Bool, true, false, cond, List, [], ◌∷◌, map, Option, Some, None, refl, sym, ap, ◌∙◌, subst, arith}
-use Rattle.std.specs.List.{Contains, slice_get}
+use Rattle.std.proofs.Common.{◌≡◌, ◌≢◌, ◌⊎◌, inl, inr, ℕ, zero, suc, ◌-◌, ◌==◌, ◌||◌, Bool, IsTrue, true, false, cond, List, [], ◌∷◌, map, Option, Some, None, refl, sym, ap, ◌∙◌, subst, arith}
+use Rattle.std.specs.List.{Contains, list_any, slice_get}
 use Rattle.std.specs.Option.{option_and_then, option_map}
 use Rattle.std.proofs.lemmas.Bool.{eqb-true}
 use Rattle.std.proofs.lemmas.List.Elements.{Contains-append_cases, Contains-append_left, Contains-append_right}
@@ -8,7 +8,7 @@ use Rattle.hb_space.specs.Boxes.{Area, holds, side_below, side_from, whole_area}
 use Rattle.hb_frag.specs.declared.leaves.Leaf.{Leaf}
 use Rattle.hb_frag.specs.declared.leaves.Leaf.TheVariants.{Records, Child, Sibling}
 use Rattle.hb_frag.specs.declared.pages.LivePage.{LivePage}
-use Rattle.hb_frag.specs.Leaves.{Placed, first_at, first_named, leaf_at, leaves, leaves_of, siblings_of}
+use Rattle.hb_frag.specs.Leaves.{Placed, child_names, first_at, first_named, leaf_at, leaves, leaves_of, siblings_of}
 use Rattle.hb_frag.specs.Trees.{Tree, Tip, Cut}
 use Rattle.hb_frag.proofs.Tiles.{leaves_placed}
 use Rattle.hb_layout.specs.declared.meta.Meta.{Meta}
@@ -19,6 +19,7 @@ use Rattle.hb_ops.specs.PlacedLaws.{leaf_is_sibling, placed}
 use Rattle.hb_ops.specs.Sound.{IsSound}
 use Rattle.hb_activity.specs.declared.wanting.Wanted.{Wanted}
 use Rattle.hb_activity.specs.Wanting.{child_of, in_mode, named_child, named_page, walk_next, wanted_page}
+use Rattle.hb_core.specs.ConsolidatorRows.{names_child}
 use Rattle.hb_core.specs.Asking.{AskedBox, HasAskedBox, box_at, box_by_leaf, box_of_child, box_of_place, box_of_sibling, first_child_box}
 
 pub record IsThere (s : FileState) (wanted : Wanted) (asked : AskedBox) : Type 0 where
@@ -118,22 +119,24 @@ module _ (s : FileState) (sound : IsSound s) where
 
 -- ---- the pages that a consolidator asks for
 
+-- what stands behind a leaf stands behind it with that leaf in front
+behind : (y : Placed) (xs : List Placed) (x : Placed) → Contains xs x → Contains (y ∷ xs) x
+behind y xs x among = (suc among.0, omega (arith, among.1), among.2)
+
+first_child_at : (name : ℕ) (leaf : Leaf) (b : Area) (xs : List Placed) (area : Area) → (first_child_box name xs ≡ Some area → Contains xs (placed (Child name) area))
+    → first_child_box name (placed leaf b ∷ xs) ≡ Some area → Contains (placed leaf b ∷ xs) (placed (Child name) area)
+first_child_at name (Records records) b xs area later e = behind (placed (Records records) b) xs (placed (Child name) area) (later e)
+first_child_at name (Sibling page) b xs area later e = behind (placed (Sibling page) b) xs (placed (Child name) area) (later e)
+first_child_at name (Child page) b xs area later e =
+    elim (page == name) as (λ t. (page == name) ≡ t → cond t (Some b) (first_child_box name xs) ≡ Some area → Contains (placed (Child page) b ∷ xs) (placed (Child name) area)) [
+      | true ↦ λ same e. (0, omega arith, let one : b ≡ area = cc in ap (λ (n : ℕ). placed (Child n) b) (eqb-true page name same) ∙ ap (placed (Child name)) one)
+      | false ↦ λ other e. behind (placed (Child page) b) xs (placed (Child name) area) (later e)
+    ] refl e
+
 -- the box of the first child leaf of a name is one of such a leaf
 first_child_among : (name : ℕ) (xs : List Placed) (area : Area) → first_child_box name xs ≡ Some area → Contains xs (placed (Child name) area)
 first_child_among name [] area is = cc
-first_child_among name (x ∷ xs) area is = by x.leaf x.area is
-  where
-    behind : (y : Placed) → first_child_box name xs ≡ Some area → Contains (y ∷ xs) (placed (Child name) area)
-    behind y e = let more = first_child_among name xs area e in (suc more.0, omega (arith, more.1), more.2)
-
-    by : (leaf : Leaf) (b : Area) → first_child_box name (placed leaf b ∷ xs) ≡ Some area → Contains (placed leaf b ∷ xs) (placed (Child name) area)
-    by (Records records) b e = behind (placed (Records records) b) e
-    by (Sibling page) b e = behind (placed (Sibling page) b) e
-    by (Child page) b e =
-        elim (page == name) as (λ t. (page == name) ≡ t → cond t (Some b) (first_child_box name xs) ≡ Some area → Contains (placed (Child page) b ∷ xs) (placed (Child name) area)) [
-          | true ↦ λ same e. (0, omega arith, let one : b ≡ area = cc in ap (λ (n : ℕ). placed (Child n) b) (eqb-true page name same) ∙ ap (placed (Child name)) one)
-          | false ↦ λ other e. behind (placed (Child page) b) e
-        ] refl e
+first_child_among name (x ∷ xs) area is = first_child_at name x.leaf x.area xs area (first_child_among name xs area) is
 
 -- the first box of a name is one of a sibling leaf
 pub first_sibling_among : (name : ℕ) (xs : List (ℕ × Area)) (area : Area) → first_named name xs ≡ Some area → Contains xs (name, area)
@@ -157,6 +160,20 @@ pub place_among : {A : Type 0} (xs : List A) (place : ℕ) (x : A) → slice_get
 place_among [] place x is = cc
 place_among (y ∷ xs) zero x is = (0, omega arith, let one : y ≡ x = cc in one)
 place_among (y ∷ xs) (suc place) x is = let more = place_among xs place x is in (suc more.0, omega (arith, more.1), more.2)
+
+-- a child that a page names has a leaf
+named_leaf : (name : ℕ) (ls : List Leaf) → IsTrue (list_any (λ x. x == name) (child_names ls)) → Contains ls (Child name)
+named_leaf name [] named = cc
+named_leaf name (Records records ∷ rest) named = let more = named_leaf name rest named in (suc more.0, omega (arith, more.1), more.2)
+named_leaf name (Sibling page ∷ rest) named = let more = named_leaf name rest named in (suc more.0, omega (arith, more.1), more.2)
+named_leaf name (Child page ∷ rest) named = by (named_leaf name rest) named
+  where
+    by : (IsTrue (list_any (λ x. x == name) (child_names rest)) → Contains rest (Child name)) → IsTrue ((page == name) || list_any (λ x. x == name) (child_names rest)) → Contains (Child page ∷ rest) (Child name)
+    by later here =
+        elim (page == name) as (λ t. (page == name) ≡ t → IsTrue (t || list_any (λ x. x == name) (child_names rest)) → Contains (Child page ∷ rest) (Child name)) [
+          | true ↦ λ same h. (0, omega arith, ap Child (eqb-true page name same))
+          | false ↦ λ other h. let more = later h in (suc more.0, omega (arith, more.1), more.2)
+        ] refl here
 
 -- a leaf has a box
 pub leaf_with_box : (t : Tree) (area : Area) (leaf : Leaf) → Contains (leaves t) leaf → (b : Area) × Contains (leaves_of t area) (placed leaf b)
@@ -201,3 +218,7 @@ module _ (s : FileState) (sound : IsSound s) (id : ℕ) (page : LivePage) (live 
       by (Some area) is asks =
           let named = sound.siblings id page name area live (first_sibling_among name (siblings_of page) area is) in
           found s sound name level mode wanted (record { area = area; exact = true }) asked named.0 wants (let same : record { area = area; exact = true } ≡ asked = cc in same) named.1 (named.2 ∙ on) named.3
+
+-- a child that a page names, with the box of a leaf
+pub named_with_box : (page : LivePage) (name : ℕ) → IsTrue (names_child page name) → (b : Area) × Contains (leaves_of page.frag page.area) (placed (Child name) b)
+named_with_box page name named = leaf_with_box page.frag page.area (Child name) (named_leaf name (leaves page.frag) named)

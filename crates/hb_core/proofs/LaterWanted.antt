@@ -1,5 +1,5 @@
 -- The page that a step wants comes later than each one that its actor holds.
-use Rattle.std.proofs.Common.{◌≡◌, ◌≢◌, ◌⊎◌, inl, inr, ℕ, ◌==◌, ◌-◌, ◌<◌, Bool, true, false, cond, List, [], ◌∷◌, Option, Some, None, IfSome, IsSome, refl, sym, ap, ◌∙◌, subst, arith}
+use Rattle.std.proofs.Common.{◌≡◌, ◌≢◌, ◌⊎◌, inl, inr, ℕ, ◌==◌, ◌-◌, ◌<◌, Bool, true, false, cond, List, [], ◌∷◌, Option, Some, None, IfSome, IsSome, IsTrue, refl, sym, ap, ◌∙◌, subst, arith}
 use Rattle.std.proofs.lemmas.Bool.{eqb-true}
 use Rattle.std.specs.List.{All, Contains, slice_get}
 use Rattle.std.proofs.lemmas.List.Elements.{All-head, All-tail}
@@ -30,10 +30,11 @@ use Rattle.hb_store.specs.States.{in_memory}
 use Rattle.hb_core.specs.Machines.{Files, Machine, current_file, live_here}
 use Rattle.hb_core.specs.Asking.{looked_live, wanted_by}
 use Rattle.hb_core.specs.Keeps.{HasSoundFile, LatchesFit, WalksInSpace}
+use Rattle.hb_core.specs.ConsolidatorRows.{names_child}
 use Rattle.hb_core.specs.KeptMerges.{AtParent, NamesKnown, PairHeld, merging_at}
 use Rattle.hb_core.specs.Performing.{latches_held, mode_among}
 use Rattle.hb_core.specs.WaitingLaws.{ComesLater, Promotes, WantedComesLater, WantsItsOwn}
-use Rattle.hb_core.proofs.AskedPages.{first_among, first_sibling_among, leaf_with_box, place_among}
+use Rattle.hb_core.proofs.AskedPages.{first_among, first_sibling_among, leaf_with_box, named_with_box, place_among}
 use Rattle.hb_core.proofs.Backing.{live_there}
 use Rattle.hb_core.proofs.SoundFiles.{current_sound, files_hold}
 use Rattle.hb_core.proofs.Volumes.{sibling_fewer}
@@ -102,7 +103,7 @@ module _ (s : FileState) (sound : IsSound s) (id : ℕ) (page : LivePage) (live 
 
 -- a page names a child
 abbrev IsNamed : LivePage → ℕ → Type 0
-IsNamed page name = Contains (leaves page.frag) (Child name)
+IsNamed page name = IsTrue (names_child page name)
 
 second_named : (page : LivePage) (first second : ℕ) → All (IsNamed page) (first ∷ second ∷ []) → IsNamed page second
 second_named page first second all = All-head (IsNamed page) second [] (All-tail (IsNamed page) first (second ∷ []) all)
@@ -171,7 +172,7 @@ module _ (m : Machine) (files : Files) (actor id : ℕ) (mode : Mode) (wanted : 
   of_names : (job : Job) (parent : ℕ) (names : List ℕ) (pair : Option PairHeld) (its : Mode) (known : NamesKnown m.store (at_names job parent names pair)) (name : ℕ) → IsNamed known.page name → name ≡ wanted.page
       → mode_among id (latch_on parent its ∷ []) ≡ Some mode → Comes
   of_names job parent names pair its known name named is holds =
-      let one = leaf_with_box known.page.frag known.page.area (Child name) named in
+      let one = named_with_box known.page name named in
       inl (subst (λ (q : ℕ). ComesLater (current_file files) q wanted.page) (one_among parent its id mode holds).0
       (child_later (current_file files) sound_now parent known.page (in_file parent known.page known.live) name wanted.page one.0 one.1 is))
 

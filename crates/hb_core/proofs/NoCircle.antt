@@ -42,7 +42,7 @@ module _ (m : Machine) (files : Files) (fit : LatchesFit m) (has : HasSoundFile 
   idle_wants actor wanted activity is wants = none (subst (λ (a : Activity). wanted_of a m.store.meta (looked_live m.store a) ≡ Some wanted) is wants)
     where
       none : None ≡ Some wanted → ⊥
-      none no = cc
+      none nothing = cc
 
   wants_may : (actor : ℕ) (wanted : Wanted) → wanted_by m actor ≡ Some wanted → MayLatch actor
   wants_may actor wanted wants = elim (may_or_not actor) [
@@ -76,7 +76,7 @@ module _ (m : Machine) (files : Files) (fit : LatchesFit m) (has : HasSoundFile 
   beside_updates a b x y beside = never (subst (λ (o : Option Mode). IfSome (Some Update) (λ mode. IfSome o (λ held. IsTrue (goes_beside mode held)))) y (subst (λ (o : Option Mode). IfSome o (λ mode. IfSome b (λ held. IsTrue (goes_beside mode held)))) x beside))
     where
       never : IsTrue (goes_beside Update Update) → ⊥
-      never no = cc
+      never beside = cc
 
   first_wants : (actor : ℕ) (rest : List ℕ) (last : ℕ) → WaitInTurn m actor rest last → (wanted : Wanted) × (wanted_by m actor ≡ Some wanted)
   first_wants actor [] last waits = (waits.wanted, waits.wants_it)

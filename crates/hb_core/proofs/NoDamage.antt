@@ -1,11 +1,9 @@
 -- Over a disk that tells no step meets a damaged page.
-use Rattle.std.proofs.Common.{◌≡◌, ◌≢◌, ◌⊎◌, inl, inr, ℕ, ◌-◌, ◌<◌, true, List, [], ◌∷◌, Option, Some, None, IfSome, refl, sym, ap, ◌∙◌, subst, arith}
+use Rattle.std.proofs.Common.{◌≡◌, ◌≢◌, ◌⊎◌, inl, inr, ℕ, ◌-◌, ◌<◌, true, List, [], ◌∷◌, Option, Some, None, IfSome, IsTrue, refl, sym, ap, ◌∙◌, subst, arith}
 use Rattle.std.proofs.lemmas.Option.{same_Some}
-use Rattle.std.specs.List.{Contains}
 use Rattle.std.specs.Option.{option_and_then, option_map}
 use Rattle.std.proofs.lemmas.List.Elements.{All-head}
-use Rattle.hb_frag.specs.declared.leaves.Leaf.TheVariants.{Child}
-use Rattle.hb_frag.specs.Leaves.{leaves}
+use Rattle.hb_core.specs.ConsolidatorRows.{names_child}
 use Rattle.hb_space.specs.Boxes.{Area, whole_area}
 use Rattle.hb_frag.specs.declared.pages.LivePage.{LivePage}
 use Rattle.hb_frag.specs.declared.pages.Page.{Page}
@@ -42,7 +40,7 @@ use Rattle.hb_core.specs.KeptMerges.{AtParent, KeepsPair, NamesKnown, merging_at
 use Rattle.hb_core.specs.OutcomeLaws.{ComesToSame, IsTurnedAside}
 use Rattle.hb_core.specs.Performing.{Performs}
 use Rattle.hb_core.specs.Steps.{StepsTo, Works}
-use Rattle.hb_core.proofs.AskedPages.{IsThere, begun_there, given_there, held_there, leaf_with_box, named_child_there, named_there, placed_sibling_there, root_there}
+use Rattle.hb_core.proofs.AskedPages.{IsThere, begun_there, given_there, held_there, named_child_there, named_there, named_with_box, placed_sibling_there, root_there}
 use Rattle.hb_core.proofs.Backing.{live_there}
 use Rattle.hb_core.proofs.OneOutcome.{outcome_is_one, state_is_one}
 use Rattle.hb_core.proofs.SoundFiles.{FilesHold, brought_shown, current_sound, files_hold}
@@ -64,12 +62,12 @@ module _ (files : Files) (st : StoreState) (holds : FilesHold st files) where
 
   -- the page has a number of the file
   no_lack : (id : ℕ) → IsNumbered id → IsNoPage st.meta id → ⊥
-  no_lack id (page, is) no =
+  no_lack id (page, is) lacks =
       let sound = current_sound st files holds in
       let range = page_in_range (current_file files).pages id page is in
       let numbered = sound.rooted.numbered in
       let high : (current_file files).meta.high ≡ st.meta.high = ap (λ (m : Meta). m.high) holds.meta in
-      elim no [
+      elim lacks [
         | inl zero ↦ absurd (omega (arith, range.0, zero))
         | inr above ↦ absurd (omega (arith, range.1, numbered, high, above))
       ]
@@ -86,7 +84,7 @@ module _ (files : Files) (st : StoreState) (holds : FilesHold st files) where
   not_other wanted asked page (Extent area found) on box (level, other, a, b) = other box
 
   pub not_damaged : (wanted : Wanted) (asked : AskedBox) (why : Why) → IsThere (current_file files) wanted asked → IsDamaged (Some files) st wanted asked why → ⊥
-  not_damaged wanted asked why there (inl (no, is)) = no_lack wanted.page (Live there.page, live_in_file (page_of (current_file files) wanted.page) there.page there.live) no
+  not_damaged wanted asked why there (inl (lacks, is)) = no_lack wanted.page (Live there.page, live_in_file (page_of (current_file files) wanted.page) there.page there.live) lacks
   not_damaged wanted asked why there (inr (inl (some, bad))) = no_bad_read files st wanted.page why bad
   not_damaged wanted asked why there (inr (inr (some, page, read, other))) =
       let same : page ≡ Live there.page = same_Some page (Live there.page) (sym (holds.shown wanted.page page read) ∙ live_in_file (page_of (current_file files) wanted.page) there.page there.live) in
@@ -108,8 +106,8 @@ module _ (files : Files) (st : StoreState) (holds : FilesHold st files) where
           (one.0, ap (page_of (current_file files)) (is ∙ sym free) ∙ one.1)
 
       by : IsBadHead (Some files) st id why → ⊥
-      by (inl (some, is, no, w)) = let one = head some is in no_lack id (Free one.0, one.1) no
-      by (inr (inl (some, is, no, bad))) = no_bad_read files st id why bad
+      by (inl (some, is, lacks, w)) = let one = head some is in no_lack id (Free one.0, one.1) lacks
+      by (inr (inl (some, is, lacks, bad))) = no_bad_read files st id why bad
       by (inr (inr (inl (some, is, page, live, w)))) =
           let one = head some is in
           let same : Some (Live page) ≡ Some (Free one.0) = sym (holds.shown id (Live page) live) ∙ one.1 in
@@ -198,7 +196,7 @@ module _ (m : Machine) (files : Files) (actor : ℕ) (may : MayLatch actor) (fit
       let place = walks.merging actor in
       let known : NamesKnown m.store (at_parent_of job parent keep gone None) = subst (λ (o : Option AtParent). IfSome o (NamesKnown m.store)) (ap merging_at is) place in
       let pair = known.pair in
-      let above = leaf_with_box known.page.frag known.page.area (Child keep) (All-head (λ (id : ℕ). Contains (leaves known.page.frag) (Child id)) keep (gone ∷ []) known.names) in
+      let above = named_with_box known.page keep (All-head (λ (id : ℕ). IsTrue (names_child known.page id)) keep (gone ∷ []) known.names) in
       let kept = sound_now.children parent known.page keep above.0 (in_file parent known.page known.live) above.1 in
       let same : kept.0 ≡ pair.page = same_Some kept.0 pair.page (sym kept.1 ∙ in_file keep pair.page pair.live) in
       given_there (current_file files) sound_now keep pair.page (in_file keep pair.page pair.live) gone (known.page.level - 1) Exclusive (live_here fetched keep) wanted asked

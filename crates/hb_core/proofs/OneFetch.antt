@@ -32,6 +32,7 @@ use Rattle.hb_core.specs.SearchRows.{SearchGoesOn}
 use Rattle.hb_core.specs.SessionRows.{DoesThere, PassesOn}
 use Rattle.hb_core.specs.WorkerRows.{DoesPlan, after_look}
 use Rattle.hb_core.proofs.Backing.{live_there}
+use Rattle.hb_core.proofs.MergerMoves.{merger_moves}
 
 -- ---- a row that takes a number has the first free page in memory
 
@@ -115,12 +116,12 @@ module _ (n : Machine) where
   next_at (at.SessionAwait line reply place) id page deed row = absurd row
   next_at at.PosterIdle id page deed row = absurd row
   next_at at.ConsolidatorIdle id page deed row = absurd row
-  next_at (at.ConsolidatorWalk job held) id page deed row = absurd row
-  next_at (at.ConsolidatorScan job parent child) id page deed row = absurd row
-  next_at (at.ConsolidatorTry job parent keep gone leaf) id page deed row = absurd row
-  next_at (at.ConsolidatorPromote job parent keep gone) id page deed row = absurd row
-  next_at (at.ConsolidatorKeep job parent keep gone) id page deed row = absurd row
-  next_at (at.ConsolidatorDecide job parent keep gone) id page deed row = absurd row
+  next_at (at.ConsolidatorWalk job held) id page deed row = next_of deed _ (merger_moves n (at.ConsolidatorWalk job held) id page deed tt row).is tt
+  next_at (at.ConsolidatorScan job parent child) id page deed row = next_of deed _ (merger_moves n (at.ConsolidatorScan job parent child) id page deed tt row).is tt
+  next_at (at.ConsolidatorTry job parent keep gone leaf) id page deed row = next_of deed _ (merger_moves n (at.ConsolidatorTry job parent keep gone leaf) id page deed tt row).is tt
+  next_at (at.ConsolidatorPromote job parent keep gone) id page deed row = next_of deed _ (merger_moves n (at.ConsolidatorPromote job parent keep gone) id page deed tt row).is tt
+  next_at (at.ConsolidatorKeep job parent keep gone) id page deed row = next_of deed _ (merger_moves n (at.ConsolidatorKeep job parent keep gone) id page deed tt row).is tt
+  next_at (at.ConsolidatorDecide job parent keep gone) id page deed row = next_of deed _ (merger_moves n (at.ConsolidatorDecide job parent keep gone) id page deed tt row).is tt
   next_at at.Flusher id page deed row = absurd row
 
   next_row : (activity : Activity) (wanted : Option Wanted) (deed : Deed) → Row activity wanted n deed → HasNext deed
@@ -163,7 +164,7 @@ module _ (m : Machine) (actor : ℕ) (f g : StoreState) (deed : Deed)
     (row : Row (m.activity actor) (wanted_by m actor) (with_disk f m.files m.clock m) deed) (again : Row (m.activity actor) (wanted_by m actor) (with_disk g m.files m.clock m) deed)
     (agree : (id : ℕ) (a b : Page) → in_memory f id ≡ Some a → in_memory g id ≡ Some b → a ≡ b) where
   nothing_there : (o : Option Page) → o ≡ None → IsSome o → ⊥
-  nothing_there o none some = let no : IsSome None = subst (λ (p : Option Page). IsSome p) none some in cc
+  nothing_there o none some = let never : IsSome {T = Page} None = subst (λ (p : Option Page). IsSome p) none some in cc
 
   some_of : (o : Option Page) (page : Page) → o ≡ Some page → IsSome o
   some_of o page is = subst (λ (p : Option Page). IsSome p) (sym is) refl

@@ -48,7 +48,7 @@ module _ (m : Machine) (files : Files) (fit : LatchesFit m) (has : HasSoundFile 
   holder_works : (actor page : ℕ) (mode : Mode) → mode_at m.latches actor page ≡ Some mode → IsAtWork m actor
   holder_works actor page mode holds = elim (may_or_not actor) [
     | inl may ↦ (may, λ rests. rests_free m.store (m.activity actor) page mode rests (sym (fit.exact actor page may) ∙ holds))
-    | inr none ↦ let no : None ≡ Some mode = sym (none_else actor page none) ∙ holds in cc
+    | inr none ↦ let nothing : None ≡ Some mode = sym (none_else actor page none) ∙ holds in cc
   ]
 
   record IsKeptBy (actor : ℕ) : Type 0 where

@@ -29,7 +29,6 @@ pub fn no_page_is_damaged()
 
 /// Of a machine that keeps all that it should, two steps of one actor say the same and lead to one machine,
 /// unless memory was refused to one of them or its device failed.
-#[tactic(auto, using(crate::proofs::NoDamage::kept_step_is_one))]
 pub fn a_kept_step_is_one()
     ensures { KeptStepIsOne }
 {}

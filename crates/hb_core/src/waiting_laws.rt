@@ -9,7 +9,6 @@ ghost use Rattle.hb_core.specs.WaitingLaws.{NobodyWaitsInACircle, SomebodyGoesOn
 /// The page that a step wants comes later than each page that its actor holds: its level is lower, or the
 /// level is the same and its box holds fewer points. The exception is a promotion: there the actor holds
 /// that one page, for update, and no other.
-#[tactic(auto, using(crate::proofs::LaterWanted::wanted_comes_later))]
 pub fn what_is_wanted_comes_later()
     ensures { WantedComesLater }
 {}
