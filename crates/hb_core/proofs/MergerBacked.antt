@@ -1,5 +1,5 @@
 -- Where the latches of a consolidator come from, after each of its rows: each was held before, or is the one that the step wanted.
-use Rattle.std.proofs.Common.{◌≡◌, ◌⊎◌, inl, inr, ℕ, ◌+◌, ◌==◌, Bool, true, cond, List, [], ◌∷◌, length, Option, Some, None, option_map, refl, sym, ap, ◌∙◌, subst}
+use Rattle.std.proofs.Common.{◌≡◌, inl, inr, ℕ, ◌==◌, Bool, cond, [], ◌∷◌, length, Option, Some, None, refl, sym, ap, ◌∙◌, subst}
 use Rattle.std.proofs.lemmas.Bool.{cases_Bool, eq-eqb, eqb-true}
 use Rattle.hb_space.specs.Boxes.{Area}
 use Rattle.hb_frag.specs.declared.pages.LivePage.{LivePage}
@@ -11,21 +11,20 @@ use Rattle.hb_latch.specs.declared.modes.Mode.TheVariants.{Shared, Update, Exclu
 use Rattle.hb_latch.specs.Tables.{MayLatch}
 use Rattle.hb_terms.specs.declared.merging.MergePlan.{MergePlan}
 use Rattle.hb_terms.specs.declared.merging.MergePlan.TheVariants as plans
-use Rattle.hb_activity.specs.declared.holding.Latch.{Latch}
 use Rattle.hb_activity.specs.declared.jobs.Job.{Job}
 use Rattle.hb_activity.specs.declared.wanting.Wanted.{Wanted}
 use Rattle.hb_activity.specs.declared.activities.Activity.{Activity}
 use Rattle.hb_activity.specs.declared.activities.Activity.TheVariants as at
 use Rattle.hb_activity.specs.Holding.{latch_on}
-use Rattle.hb_activity.specs.Walks.{job_mode, walk_held}
-use Rattle.hb_activity.specs.Wanting.{walk_next, wanted_of, wanted_page}
+use Rattle.hb_activity.specs.Walks.{job_mode}
+use Rattle.hb_activity.specs.Wanting.{walk_next, wanted_of}
 use Rattle.hb_store.specs.States.{StoreState, in_memory}
 use Rattle.hb_core.specs.Machines.{Machine, with_disk}
 use Rattle.hb_core.specs.Asking.{HasWayFree, looked_live, wanted_by}
 use Rattle.hb_core.specs.Fetching.{Brings}
 use Rattle.hb_core.specs.Deeds.{Deed}
 use Rattle.hb_core.specs.Performing.{MayDo, latches_held, mode_among}
-use Rattle.hb_core.specs.ConsolidatorRows.{after_try, children_of, ends_merging, one_behind, scans, tries}
+use Rattle.hb_core.specs.ConsolidatorRows.{after_try, children_of, one_behind, scans, tries}
 use Rattle.hb_core.specs.MergeRows.{after_keep}
 use Rattle.hb_core.specs.Rows.{Row, RowAt}
 use Rattle.hb_core.specs.KeptMerges.{IsMerging}

@@ -1,9 +1,8 @@
 -- Each row of a consolidator moves it, and does nothing to the file.
-use Rattle.std.proofs.Common.{◌≡◌, ◌⊎◌, inl, inr, ℕ, List, [], ◌∷◌, Option, Some, None, option_map, refl, sym, ap}
+use Rattle.std.proofs.Common.{◌≡◌, inl, inr, ℕ, List, [], Option, Some, None, option_map, refl, sym, ap}
 use Rattle.hb_space.specs.Boxes.{Area}
 use Rattle.hb_frag.specs.declared.pages.LivePage.{LivePage}
 use Rattle.hb_frag.specs.Leaves.{first_named, siblings_of}
-use Rattle.hb_set.specs.declared.scripts.Line.{Line}
 use Rattle.hb_terms.specs.declared.merging.MergePlan.{MergePlan}
 use Rattle.hb_terms.specs.declared.merging.MergePlan.TheVariants as plans
 use Rattle.hb_activity.specs.declared.jobs.Job.{Job}
@@ -16,7 +15,7 @@ use Rattle.hb_latch.specs.declared.modes.Mode.{Mode}
 use Rattle.hb_core.specs.Machines.{Machine}
 use Rattle.hb_core.specs.Deeds.{Deed, moves_to}
 use Rattle.hb_core.specs.KeptLines.{line_in_hand}
-use Rattle.hb_core.specs.ConsolidatorRows.{after_try, children_of, ends_merging, one_behind, pair_from, scans, tries}
+use Rattle.hb_core.specs.ConsolidatorRows.{after_try, children_of, ends_merging, one_behind, scans, tries}
 use Rattle.hb_core.specs.MergeRows.{DoesMerge, after_keep}
 use Rattle.hb_core.specs.KeptMerges.{IsMerging}
 use Rattle.hb_core.specs.Rows.{RowAt}

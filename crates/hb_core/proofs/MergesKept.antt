@@ -1,8 +1,8 @@
 -- The parent at which a consolidator stands names the pages that it knows, after each of its rows, and while another one steps.
-use Rattle.std.proofs.Common.{◌≡◌, ◌≢◌, ◌⊎◌, inl, inr, ℕ, zero, suc, ◌+◌, ◌-◌, ◌==◌, not, ◌&&◌, ◌||◌, Bool, true, false, cond, List, [], ◌∷◌, filter, slice_get, All, Option, Some, None, IsSome, IfSome, IsTrue, option_map, refl, sym, ap, ◌∙◌, subst, arith}
+use Rattle.std.proofs.Common.{◌≡◌, ◌⊎◌, inl, inr, ℕ, suc, ◌+◌, ◌-◌, ◌==◌, not, ◌&&◌, ◌||◌, Bool, true, false, cond, List, [], ◌∷◌, filter, slice_get, All, Option, Some, None, IsSome, IfSome, IsTrue, option_map, refl, sym, ap, ◌∙◌, subst, arith}
 use Rattle.std.specs.List.{list_any}
 use Rattle.std.proofs.lemmas.Option.{same_Some}
-use Rattle.std.proofs.lemmas.Bool.{cases_Bool, eq-eqb, eqb-true}
+use Rattle.std.proofs.lemmas.Bool.{cases_Bool, eq-eqb}
 use Rattle.std.proofs.lemmas.List.Elements.{All-cons, All-head, All-nil}
 use Rattle.hb_space.specs.Boxes.{Area}
 use Rattle.hb_frag.specs.declared.leaves.Leaf.{Leaf}
@@ -11,7 +11,6 @@ use Rattle.hb_frag.specs.declared.pages.LivePage.{LivePage}
 use Rattle.hb_frag.specs.Leaves.{child_names, first_named, firsts, leaves, siblings_of}
 use Rattle.hb_latch.specs.declared.modes.Mode.{Mode}
 use Rattle.hb_latch.specs.declared.modes.Mode.TheVariants.{Shared, Update, Exclusive}
-use Rattle.hb_terms.specs.Merging.{GaveTo}
 use Rattle.hb_terms.specs.declared.merging.MergePlan.{MergePlan}
 use Rattle.hb_terms.specs.declared.merging.MergePlan.TheVariants as plans
 use Rattle.hb_activity.specs.declared.jobs.Job.{Job}
@@ -28,7 +27,7 @@ use Rattle.hb_core.specs.Rows.{RowAt}
 use Rattle.hb_core.specs.Performing.{latches_held, mode_among}
 use Rattle.hb_core.specs.ConsolidatorRows.{after_try, children_of, first_one, names_child, one_behind, one_on, pair_among, pair_from, scans, tries}
 use Rattle.hb_core.specs.MergeRows.{after_keep}
-use Rattle.hb_core.specs.KeptMerges.{AtParent, HasLeafTo, IsMerging, KeepsPair, NamesKnown, PairHeld, knows, merging_at}
+use Rattle.hb_core.specs.KeptMerges.{AtParent, IsMerging, KeepsPair, NamesKnown, PairHeld, knows, merging_at}
 use Rattle.hb_core.proofs.MergerMoves.{StaysMerger, decided, of_page}
 use Rattle.hb_core.proofs.NextPlaces.{AsksFor, HoldsNothing, MergesOn, now}
 
@@ -176,30 +175,30 @@ pub record IsPair (parent : LivePage) (ls : List Leaf) (gone leaf : ℕ) : Type 
   pub named : IsTrue (names_child parent gone)
   pub at_place : slice_get ls leaf ≡ Some (Sibling gone)
 
+no_pair_there : (pair : ℕ × ℕ) → None ≡ Some pair → ⊥
+no_pair_there pair is = cc
+
 pair_on : (parent : LivePage) (first : Leaf) (rest : List Leaf) (gone leaf : ℕ) (o : Option (ℕ × ℕ)) → ((gone leaf : ℕ) → o ≡ Some (gone, leaf) → IsPair parent rest gone leaf) → one_on o ≡ Some (gone, leaf) → IsPair parent (first ∷ rest) gone leaf
-pair_on parent first rest gone leaf None later is = absurd (nothing is)
-  where
-    nothing : None ≡ Some (gone, leaf) → ⊥
-    nothing is = cc
+pair_on parent first rest gone leaf None later is = absurd (no_pair_there (gone, leaf) is)
 pair_on parent first rest gone leaf (Some (page, place)) later is =
-    let one : ℕ × ℕ = (page, suc place) in
+    let one : ℕ × ℕ = (page, place + 1) in
     let two : ℕ × ℕ = (gone, leaf) in
     let whole : one ≡ two = cc in
     let found = later page place refl in
-    subst (λ (p : ℕ × ℕ). IsPair parent (first ∷ rest) p.0 p.1) whole (record { named = found.named; at_place = found.at_place })
+    subst (λ (p : ℕ × ℕ). IsPair parent (first ∷ rest) p.0 p.1) whole (record { named = found.named; at_place = ap (slice_get (first ∷ rest)) (next place) ∙ found.at_place })
+  where
+    next : (n : ℕ) → n + 1 ≡ suc n
+    next n = omega arith
 
 pair_found : (parent : LivePage) (from : ℕ) (ls : List Leaf) (gone leaf : ℕ) → pair_among parent from ls ≡ Some (gone, leaf) → IsPair parent ls gone leaf
-pair_found parent from [] gone leaf is = absurd (nothing is)
-  where
-    nothing : None ≡ Some (gone, leaf) → ⊥
-    nothing is = cc
+pair_found parent from [] gone leaf is = absurd (no_pair_there (gone, leaf) is)
 pair_found parent from (Records records ∷ rest) gone leaf is = pair_on parent (Records records) rest gone leaf (pair_among parent (from - 1) rest) (pair_found parent (from - 1) rest) is
 pair_found parent from (Child page ∷ rest) gone leaf is = pair_on parent (Child page) rest gone leaf (pair_among parent (from - 1) rest) (pair_found parent (from - 1) rest) is
 pair_found parent from (Sibling page ∷ rest) gone leaf is = elim (cases_Bool ((from == 0) && names_child parent page)) [
   | inl here ↦
-      let found : Some (page, 0) ≡ Some (gone, leaf) = sym (ap (λ (b : Bool). cond b (Some (page, 0)) (one_on (pair_among parent (from - 1) rest))) here) ∙ is in
       let one : ℕ × ℕ = (page, 0) in
       let two : ℕ × ℕ = (gone, leaf) in
+      let found : Some one ≡ Some two = sym (ap (λ (b : Bool). cond b (Some (page, 0)) (one_on (pair_among parent (from - 1) rest))) here) ∙ is in
       let whole : one ≡ two = cc in
       subst (λ (p : ℕ × ℕ). IsPair parent (Sibling page ∷ rest) p.0 p.1) whole (record { named = second (from == 0) (names_child parent page) here; at_place = refl })
   | inr off ↦ pair_on parent (Sibling page) rest gone leaf (pair_among parent (from - 1) rest) (pair_found parent (from - 1) rest) (sym (ap (λ (b : Bool). cond b (Some (page, 0)) (one_on (pair_among parent (from - 1) rest))) off) ∙ is)

@@ -1,5 +1,5 @@
 -- While pages aren't merged no job to merge comes, and the consolidator stays idle.
-use Rattle.std.proofs.Common.{◌≡◌, ◌≢◌, ◌⊎◌, inl, inr, ℕ, ◌+◌, ◌==◌, ◌++◌, Bool, cond, List, [], ◌∷◌, All, Option, Some, None, refl, sym, ap, ◌∙◌, subst, arith}
+use Rattle.std.proofs.Common.{◌≡◌, ◌⊎◌, inl, inr, ℕ, ◌+◌, ◌==◌, ◌++◌, Bool, cond, List, [], ◌∷◌, All, Option, Some, None, refl, sym, ◌∙◌, subst, arith}
 use Rattle.std.specs.Prelude.{MatchOption}
 use Rattle.std.specs.List.{Contains}
 use Rattle.std.proofs.lemmas.Bool.{cases_Bool}
@@ -15,7 +15,6 @@ use Rattle.hb_set.specs.declared.scripts.Line.{Line}
 use Rattle.hb_terms.specs.declared.plans.PostPlan.{PostPlan}
 use Rattle.hb_terms.specs.declared.plans.PostPlan.TheVariants as plans
 use Rattle.hb_activity.specs.declared.jobs.Job.{Job}
-use Rattle.hb_activity.specs.declared.jobs.JobKind.{JobKind}
 use Rattle.hb_activity.specs.declared.jobs.JobKind.TheVariants.{Post, Merge}
 use Rattle.hb_activity.specs.declared.wanting.Wanted.{Wanted}
 use Rattle.hb_activity.specs.declared.activities.Activity.{Activity}
@@ -37,7 +36,7 @@ use Rattle.hb_core.specs.ConsolidatorRows.{TakesMerging}
 use Rattle.hb_core.specs.Rows.{Row, RowAlone, RowAt}
 use Rattle.hb_core.specs.StageLaws.{BegunHasNothingToMerge, HasNothingToMerge, IsNoMerge, MergesNothing, NothingComesToMerge, NothingIsMerged}
 use Rattle.hb_core.specs.SteppingLaws.{IsAtRest}
-use Rattle.hb_core.specs.Steps.{StepsInTurn, Works}
+use Rattle.hb_core.specs.Steps.{Works}
 use Rattle.hb_core.proofs.StepCases.{each_step}
 use Rattle.hb_core.proofs.Ways.{KeepsAllButDisk, forces_so, meets_so, stays_so}
 

@@ -1,5 +1,5 @@
 -- Two rows of a consolidator at a parent, over memories that have the same pages, are one deed.
-use Rattle.std.proofs.Common.{◌≡◌, ◌⊎◌, inl, inr, ℕ, ◌+◌, ◌<◌, [], ◌∷◌, Option, Some, None, refl, sym, ap, ◌∙◌, subst}
+use Rattle.std.proofs.Common.{◌≡◌, ℕ, ◌+◌, Option, Some, None, refl, sym, ap, ◌∙◌, subst}
 use Rattle.hb_space.specs.Boxes.{Area}
 use Rattle.hb_layout.specs.declared.meta.Meta.{Meta}
 use Rattle.hb_frag.specs.declared.pages.LivePage.{LivePage}
@@ -13,7 +13,7 @@ use Rattle.hb_activity.specs.declared.jobs.Job.{Job}
 use Rattle.hb_store.specs.States.{StoreState}
 use Rattle.hb_core.specs.Machines.{Machine, live_here, with_disk}
 use Rattle.hb_core.specs.Deeds.{Deed}
-use Rattle.hb_core.specs.ConsolidatorRows.{HasMergePlan, Scans, TriesPair, after_try, children_of, one_behind, pair_from, scans, tries}
+use Rattle.hb_core.specs.ConsolidatorRows.{Scans, TriesPair, after_try, children_of, one_behind, pair_from, scans, tries}
 use Rattle.hb_core.specs.MergeRows.{Decides, after_keep, takes_keep}
 use Rattle.hb_core.proofs.MergerMoves.{decided}
 
