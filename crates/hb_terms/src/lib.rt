@@ -1,6 +1,8 @@
-//! What a posting does: how a parent comes to name the page to which its child gave a box.
+//! What a posting does, by which a parent comes to name the page to which its child gave a box; and what
+//! a merge does, by which a page takes over another one to which it gave a part of its own.
 //!
-//! The one contract: `post_plan` gives the plan that is defined for a parent, its child and a point
+//! Two contracts. `merge_plan` gives the plan that is defined for a parent, the page to keep and the
+//! page to go (`specs/Merging.antt`). `post_plan` gives the plan that is defined for a parent, its child and a point
 //! (`specs/Plans.antt`). Where the child's leaf at the point is a sibling leaf to another page than
 //! the parent's leaf names, that page is owed a leaf of the parent. The plan is to carve the
 //! parent's leaf by the sibling leaf's box, where the parent has the capacity for what it weighs
