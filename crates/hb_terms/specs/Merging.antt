@@ -1,4 +1,4 @@
--- What a merge does: a page takes over what a sibling page has that it gave its box to.
+-- What a merge does: a page takes over what a page has to which it gave a part of its box.
 use Rattle.std.specs.Prelude.{◌≡◌, ℕ, ◌-◌, ◌+◌, ◌*◌, ◌<◌, ◌≤◌, None, IsSome}
 use Rattle.hb_frag.specs.declared.pages.LivePage.{LivePage}
 use Rattle.hb_frag.specs.Leaves.{DirectlyCovers, first_named, siblings_of, weight_of}

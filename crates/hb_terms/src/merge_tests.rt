@@ -92,25 +92,58 @@ fn kept(alloc: Global) -> Result<LivePage, Fail> {
     )
 }
 
+// A parent that gave away what lies from 50 on.
+fn one_of_two(alloc: Global) -> Result<LivePage, Fail> {
+    let part = cut(alloc, 50, tip(Leaf::Child(2)), tip(Leaf::Sibling(9)))?;
+    page(1, 0, 99, cut(alloc, 40, tip(Leaf::Child(1)), part)?)
+}
+
+// A parent that directly holds all of page 2.
+fn only(alloc: Global) -> Result<LivePage, Fail> {
+    let rest = cut(alloc, 60, tip(Leaf::Child(2)), tip(Leaf::Child(1)))?;
+    let frag = cut(alloc, 40, tip(Leaf::Child(1)), rest)?;
+    page(1, 0, u64::MAX, frag)
+}
+
+// The plan for page 1 and a page of 40 to 59 with these records.
+fn plan_with(
+    alloc: Global,
+    parent: &LivePage,
+    gone_id: u32,
+    points: &[u64],
+) -> Result<MergePlan, Fail> {
+    let keep = kept(alloc)?;
+    let gone = page(0, 40, 59, records(alloc, points)?)?;
+    planned(parent, &keep, gone_id, &gone)
+}
+
+// What a plan is called, for the page to go and its records.
+fn told(alloc: Global, whole: bool, gone_id: u32, points: &[u64]) -> Result<MergePlan, Fail> {
+    if whole {
+        let parent = only(alloc)?;
+        plan_with(alloc, &parent, gone_id, points)
+    } else {
+        let parent = one_of_two(alloc)?;
+        plan_with(alloc, &parent, gone_id, points)
+    }
+}
+
 #[test]
 fn a_merge_of_two_pages(rt: HostRuntime) -> Result<(), Fail> {
-    let alloc = rt.alloc();
-    let keep = kept(alloc)?;
-    // a parent that gave away what lies from 50 on, and one that holds all of page 2
-    let part = cut(alloc, 50, tip(Leaf::Child(2)), tip(Leaf::Sibling(9)))?;
-    let one_of_two = page(1, 0, 99, cut(alloc, 40, tip(Leaf::Child(1)), part)?)?;
-    let rest = cut(alloc, 60, tip(Leaf::Child(2)), tip(Leaf::Child(1)))?;
-    let only = page(1, 0, u64::MAX, cut(alloc, 40, tip(Leaf::Child(1)), rest)?)?;
-    let light = page(0, 40, 59, records(alloc, &[45])?)?;
-    // 4 * (3 - 1 + 3) is more than 3 * 6, and 4 * (3 - 1 + 2) isn't
-    let heavy = page(0, 40, 59, records(alloc, &[45, 46, 47])?)?;
-    let just = page(0, 40, 59, records(alloc, &[45, 46])?)?;
-    assert_eq!(rt; planned(&one_of_two, &keep, 2, &light)?, MergePlan::ManyParents);
-    assert_eq!(rt; planned(&only, &keep, 2, &light)?, MergePlan::Merge);
-    assert_eq!(rt; planned(&only, &keep, 2, &just)?, MergePlan::Merge);
-    assert_eq!(rt; planned(&only, &keep, 2, &heavy)?, MergePlan::TooHeavy);
-    // what isn't contained is said first, and many parents before the weight
-    assert_eq!(rt; planned(&one_of_two, &keep, 3, &heavy)?, MergePlan::NotContained);
-    assert_eq!(rt; planned(&one_of_two, &keep, 2, &heavy)?, MergePlan::ManyParents);
+    let points = [45, 46, 47];
+    for (whole, gone_id, records, want) in [
+        (false, 2, 1, MergePlan::ManyParents),
+        (true, 2, 1, MergePlan::Merge),
+        // 4 * (3 - 1 + 2) isn't more than 3 * 6
+        (true, 2, 2, MergePlan::Merge),
+        // 4 * (3 - 1 + 3) is
+        (true, 2, 3, MergePlan::TooHeavy),
+        // what isn't contained is said first, and many parents before the weight
+        (false, 3, 3, MergePlan::NotContained),
+        (false, 2, 3, MergePlan::ManyParents),
+    ] {
+        let plan = told(rt.alloc(), whole, gone_id, &points[..records])?;
+        assert_eq!(rt; plan, want);
+    }
     Ok(())
 }
