@@ -1,4 +1,4 @@
-ghost use Rattle.std.specs.Prelude.{◌≡◌, ◌+◌, ◌<◌, ◌^◌, ℕ, length};
+ghost use Rattle.std.specs.Prelude.{◌≡◌, ◌<◌, ◌^◌, ℕ, length};
 ghost use Rattle.hb_frag.specs.Leaves.{weight_of, WellCut};
 ghost use Rattle.hb_terms.specs.Merging.{IsMergePlan};
 
@@ -30,7 +30,8 @@ pub fn merge_plan(
     requires parent_cut { WellCut parent.now }
     requires keep_cut { WellCut keep.now }
     requires attributes { length gone.now.area.lo ≡ length parent.now.area.lo }
-    requires light { weight_of keep.now.frag + weight_of gone.now.frag < 2 ^ 29 }
+    requires keep_light { weight_of keep.now.frag < 2 ^ 32 }
+    requires gone_light { weight_of gone.now.frag < 2 ^ 32 }
     ensures { IsMergePlan parent.now keep.now gone_id gone.now cap result }
 {
     if keep.sibling_area(gone_id).is_none() {
@@ -39,7 +40,8 @@ pub fn merge_plan(
     if !parent.directly(&gone.area) {
         return MergePlan::ManyParents;
     }
-    if 4 * (keep.weight() - 1 + gone.weight()) > 3 * u32::from(cap) {
+    let merged = u64::from(keep.weight()) - 1 + u64::from(gone.weight());
+    if 4 * merged > 3 * u64::from(cap) {
         return MergePlan::TooHeavy;
     }
     MergePlan::Merge
