@@ -62,6 +62,7 @@ use Rattle.hb_core.specs.AllowedLaws.{AnyPage, HalfHasRoom, RowsAreAllowed}
 use Rattle.hb_core.proofs.Backing.{live_there}
 use Rattle.hb_core.proofs.KeptPages.{KeepsPages, brought, keeps_pages}
 use Rattle.hb_store.proofs.MadeLeaves.{back_all, front_all}
+use Rattle.hb_core.proofs.MergerMoves.{merger_moves}
 
 -- ---- leaves belong at the level of their page
 
@@ -328,12 +329,12 @@ module _ (m : Machine) (actor : ℕ) (may : ℕ → Type 0) (fetched : StoreStat
   shown_at (at.SessionAwait line reply place) id page deed live row = absurd row
   shown_at at.PosterIdle id page deed live row = absurd row
   shown_at at.ConsolidatorIdle id page deed live row = absurd row
-  shown_at (at.ConsolidatorWalk job held) id page deed live row = absurd row
-  shown_at (at.ConsolidatorScan job parent child) id page deed live row = absurd row
-  shown_at (at.ConsolidatorTry job parent keep gone leaf) id page deed live row = absurd row
-  shown_at (at.ConsolidatorPromote job parent keep gone) id page deed live row = absurd row
-  shown_at (at.ConsolidatorKeep job parent keep gone) id page deed live row = absurd row
-  shown_at (at.ConsolidatorDecide job parent keep gone) id page deed live row = absurd row
+  shown_at (at.ConsolidatorWalk job held) id page deed live row = none_shown deed _ (merger_moves m' (at.ConsolidatorWalk job held) id page deed tt row).is refl
+  shown_at (at.ConsolidatorScan job parent child) id page deed live row = none_shown deed _ (merger_moves m' (at.ConsolidatorScan job parent child) id page deed tt row).is refl
+  shown_at (at.ConsolidatorTry job parent keep gone leaf) id page deed live row = none_shown deed _ (merger_moves m' (at.ConsolidatorTry job parent keep gone leaf) id page deed tt row).is refl
+  shown_at (at.ConsolidatorPromote job parent keep gone) id page deed live row = none_shown deed _ (merger_moves m' (at.ConsolidatorPromote job parent keep gone) id page deed tt row).is refl
+  shown_at (at.ConsolidatorKeep job parent keep gone) id page deed live row = none_shown deed _ (merger_moves m' (at.ConsolidatorKeep job parent keep gone) id page deed tt row).is refl
+  shown_at (at.ConsolidatorDecide job parent keep gone) id page deed live row = none_shown deed _ (merger_moves m' (at.ConsolidatorDecide job parent keep gone) id page deed tt row).is refl
   shown_at at.Flusher id page deed live row = absurd row
 
   pub shown_row : (wanted : Option Wanted) (deed : Deed) → Row (m.activity actor) wanted m' deed → Shown deed

@@ -1,5 +1,5 @@
 -- A line is answered once its place in the order is settled, or outside of the order.
-use Rattle.std.proofs.Common.{◌≡◌, ◌⊎◌, inl, inr, ℕ, List, [], ◌∷◌, Option, Some, None, refl, sym, subst}
+use Rattle.std.proofs.Common.{◌≡◌, ◌⊎◌, inl, inr, ℕ, Bool, true, false, List, [], ◌∷◌, Option, Some, None, refl, sym, subst}
 use Rattle.std.specs.Prelude.{MatchOption}
 use Rattle.hb_space.specs.Boxes.{Area}
 use Rattle.hb_space.specs.declared.records.Record.{Record}
@@ -24,7 +24,8 @@ use Rattle.hb_core.specs.declared.outcomes.Outcome.TheVariants as outcomes
 use Rattle.hb_core.specs.Machines.{Machine}
 use Rattle.hb_core.specs.Deeds.{Deed, answers_now}
 use Rattle.hb_core.specs.Performing.{Performs}
-use Rattle.hb_core.specs.Forcing.{ForcesFirst, StaysSo}
+use Rattle.hb_core.specs.Stages.{flusher_steps}
+use Rattle.hb_core.specs.Forcing.{Flushes, ForcesFirst, StaysSo}
 use Rattle.hb_core.specs.GivingUp.{gives_up, reply_for, runs_out}
 use Rattle.hb_core.specs.SearchRows.{SearchGoesOn}
 use Rattle.hb_core.specs.SessionRows.{DoesThere, PassesOn, next_line, taking}
@@ -32,7 +33,8 @@ use Rattle.hb_core.specs.WorkerRows.{DoesPlan, after_look}
 use Rattle.hb_core.specs.Rows.{Row, RowAlone, RowAt}
 use Rattle.hb_core.specs.KeptOrder.{StandsOutside}
 use Rattle.hb_core.specs.KeepingLaws.{AnswersAreInPlace, IsAnsweredInPlace}
-use Rattle.hb_core.specs.Steps.{AwaitsPlace, StepsAs, TakesPosting, WantsBoxes, Works}
+use Rattle.hb_core.specs.Steps.{AwaitsPlace, StepsAs, TakesJobToMerge, TakesPosting, WantsBoxes, Works}
+use Rattle.hb_core.proofs.MergerMoves.{merger_moves}
 
 -- what is given up is answered outside of the order
 reply_outside : (why : DropWhy) → StandsOutside (reply_for why)
@@ -114,12 +116,12 @@ module _ (m : Machine) (actor : ℕ) where
     row_at (at.SessionAwait line reply place) id page deed row = absurd row
     row_at at.PosterIdle id page deed row = absurd row
     row_at at.ConsolidatorIdle id page deed row = absurd row
-    row_at (at.ConsolidatorWalk job held) id page deed row = absurd row
-    row_at (at.ConsolidatorScan job parent child) id page deed row = absurd row
-    row_at (at.ConsolidatorTry job parent keep gone leaf) id page deed row = absurd row
-    row_at (at.ConsolidatorPromote job parent keep gone) id page deed row = absurd row
-    row_at (at.ConsolidatorKeep job parent keep gone) id page deed row = absurd row
-    row_at (at.ConsolidatorDecide job parent keep gone) id page deed row = absurd row
+    row_at (at.ConsolidatorWalk job held) id page deed row = by_deed deed _ (merger_moves now (at.ConsolidatorWalk job held) id page deed tt row).is tt
+    row_at (at.ConsolidatorScan job parent child) id page deed row = by_deed deed _ (merger_moves now (at.ConsolidatorScan job parent child) id page deed tt row).is tt
+    row_at (at.ConsolidatorTry job parent keep gone leaf) id page deed row = by_deed deed _ (merger_moves now (at.ConsolidatorTry job parent keep gone leaf) id page deed tt row).is tt
+    row_at (at.ConsolidatorPromote job parent keep gone) id page deed row = by_deed deed _ (merger_moves now (at.ConsolidatorPromote job parent keep gone) id page deed tt row).is tt
+    row_at (at.ConsolidatorKeep job parent keep gone) id page deed row = by_deed deed _ (merger_moves now (at.ConsolidatorKeep job parent keep gone) id page deed tt row).is tt
+    row_at (at.ConsolidatorDecide job parent keep gone) id page deed row = by_deed deed _ (merger_moves now (at.ConsolidatorDecide job parent keep gone) id page deed tt row).is tt
     row_at at.Flusher id page deed row = absurd row
 
     row_says : (wanted : Option Wanted) (deed : Deed) → Row (m.activity actor) wanted now deed → InPlace deed.says
@@ -200,6 +202,15 @@ module _ (m : Machine) (actor : ℕ) where
     took_posting (inl (none, so)) = stayed outcomes.Idle tt so
     took_posting (inr (deed, takes, performs)) = by_said deed.says performs.says (by_deed deed _ takes.deed_is tt)
 
+    took_merging : TakesJobToMerge m actor outcome new → InPlace outcome
+    took_merging (inl (none, so)) = stayed outcomes.Idle tt so
+    took_merging (inr (deed, takes, performs)) = by_said deed.says performs.says (by_deed deed _ takes.deed_is tt)
+
+    flushed : (on : Bool) → Flushes on m outcome new → InPlace outcome
+    flushed false so = stayed outcomes.Idle tt so
+    flushed true (inl (waits, force)) = forced outcomes.Moved tt force
+    flushed true (inr (none, so)) = stayed outcomes.Idle tt so
+
     awaited : (number : ℕ) (reply : Reply) (place : ℕ) → m.activity actor ≡ at.SessionAwait number reply place → AwaitsPlace m actor number reply place outcome new → InPlace outcome
     awaited number reply place is (inl (settled, performs)) = by_said _ performs.says (inr (place, is, settled))
     awaited number reply place is (inr (waits, force)) = forced outcomes.Moved tt force
@@ -208,8 +219,8 @@ module _ (m : Machine) (actor : ℕ) where
     stepped at.SessionIdle is one = took_line (next_line actor m.answered m.lines) one
     stepped (at.SessionAwait number reply place) is one = awaited number reply place is one
     stepped at.PosterIdle is one = took_posting one
-    stepped at.ConsolidatorIdle is one = stayed outcomes.Idle tt one
-    stepped at.Flusher is one = stayed outcomes.Idle tt one
+    stepped at.ConsolidatorIdle is one = took_merging one
+    stepped at.Flusher is one = flushed flusher_steps one
     stepped (at.SessionWalk line held rest found) is one = worked one
     stepped (at.SessionSplit line held) is one = worked one
     stepped (at.SessionPut line source fresh) is one = worked one

@@ -43,6 +43,7 @@ use Rattle.hb_core.specs.SessionRows.{DoesThere, PassesOn}
 use Rattle.hb_core.specs.SplitRows.{Splits}
 use Rattle.hb_core.specs.WorkerRows.{DoesPlan, after_look}
 use Rattle.hb_core.specs.Rows.{Row, RowAlone, RowAt}
+use Rattle.hb_core.specs.KeptMerges.{IsMerging}
 use Rattle.hb_core.specs.Keeps.{HoldsPagesOfFile, LatchesFit}
 use Rattle.hb_core.specs.Laws.{IsInUse}
 use Rattle.hb_core.proofs.OwnedOps.{in_its_mode, made_was_free}
@@ -70,7 +71,7 @@ AreBacked m actor st latches = (page : ℕ) (mode : Mode) → mode_among page la
 none_backed : (m : Machine) (actor : ℕ) (st : StoreState) → AreBacked m actor st []
 none_backed m actor st page mode is = cc
 
-one_backed : (m : Machine) (actor : ℕ) (st : StoreState) (id : ℕ) (mode : Mode) → IsBacked m actor st id mode → AreBacked m actor st (latch_on id mode ∷ [])
+pub one_backed : (m : Machine) (actor : ℕ) (st : StoreState) (id : ℕ) (mode : Mode) → IsBacked m actor st id mode → AreBacked m actor st (latch_on id mode ∷ [])
 one_backed m actor st id mode backed page asked is = elim (cases_Bool (id == page)) [
   | inl here ↦
       let same : Some mode ≡ Some asked = sym (ap (λ (b : Bool). cond b (Some mode) None) here) ∙ is in
@@ -96,7 +97,7 @@ live_there None page is = cc
 live_there (Some (Live q)) page is = cc
 live_there (Some (Free next)) page is = cc
 
-walk_backed : (m : Machine) (actor : ℕ) (st : StoreState) (id : ℕ) (page : LivePage) (mode : ℕ → Mode) → if_live (in_memory st id) ≡ Some page → IsBacked m actor st id (mode page.level) → AreBacked m actor st (walk_latch (Some id) (if_live (in_memory st id)) mode)
+pub walk_backed : (m : Machine) (actor : ℕ) (st : StoreState) (id : ℕ) (page : LivePage) (mode : ℕ → Mode) → if_live (in_memory st id) ≡ Some page → IsBacked m actor st id (mode page.level) → AreBacked m actor st (walk_latch (Some id) (if_live (in_memory st id)) mode)
 walk_backed m actor st id page mode live backed = subst (λ (o : Option LivePage). AreBacked m actor st (walk_latch (Some id) o mode)) (sym live) (one_backed m actor st id (mode page.level) backed)
 
 -- An activity whose latches are backed, and whose walk holds a page in use.
@@ -105,7 +106,7 @@ pub record BackedIn (m : Machine) (actor : ℕ) (st : StoreState) (activity : Ac
   pub walk : (held : ℕ) → walk_held activity ≡ Some held → (live : LivePage) × (in_memory st held ≡ Some (Live live))
 
 -- an activity that doesn't walk, or not yet; and one that holds nothing
-stands : (m : Machine) (actor : ℕ) (st : StoreState) (activity : Activity) → walk_held activity ≡ None → AreBacked m actor st (latches_held st activity) → BackedIn m actor st activity
+pub stands : (m : Machine) (actor : ℕ) (st : StoreState) (activity : Activity) → walk_held activity ≡ None → AreBacked m actor st (latches_held st activity) → BackedIn m actor st activity
 stands m actor st activity none backed = record { latches = backed; walk = λ held some. absurd (nowhere held (sym none ∙ some)) }
   where
     nowhere : (held : ℕ) → None ≡ Some held → ⊥
@@ -115,7 +116,7 @@ pub rests : (m : Machine) (actor : ℕ) (st : StoreState) (activity : Activity) 
 rests m actor st activity none nothing = stands m actor st activity none (subst (AreBacked m actor st) (sym nothing) (none_backed m actor st))
 
 -- a walk that holds a page in use
-goes : (m : Machine) (actor : ℕ) (st : StoreState) (activity : Activity) (id : ℕ) (page : LivePage) → walk_held activity ≡ Some id → in_memory st id ≡ Some (Live page) → AreBacked m actor st (latches_held st activity) → BackedIn m actor st activity
+pub goes : (m : Machine) (actor : ℕ) (st : StoreState) (activity : Activity) (id : ℕ) (page : LivePage) → walk_held activity ≡ Some id → in_memory st id ≡ Some (Live page) → AreBacked m actor st (latches_held st activity) → BackedIn m actor st activity
 goes m actor st activity id page at_id there backed = record {
   latches = backed;
   walk = λ held some. (page, ap (in_memory st) (sym (some_is held id (sym at_id ∙ some))) ∙ there);
@@ -144,17 +145,17 @@ module _ (m : Machine) (actor : ℕ) (may : ℕ → Type 0) (fetched : StoreStat
   abbrev pub Backed : Deed → Type 0
   Backed deed = BackedIn m actor new deed.next
 
-  backed_deed : (deed other : Deed) → deed ≡ other → Backed other → Backed deed
+  pub backed_deed : (deed other : Deed) → deed ≡ other → Backed other → Backed deed
   backed_deed deed other is backed = subst (λ (d : Deed). BackedIn m actor new d.next) (sym is) backed
 
   -- what was held stays in use where nothing is done
-  held_backed : (page : ℕ) (mode : Mode) → new ≡ fetched → mode_at m.latches actor page ≡ Some mode → IsBacked m actor new page mode
+  pub held_backed : (page : ℕ) (mode : Mode) → new ≡ fetched → mode_at m.latches actor page ≡ Some mode → IsBacked m actor new page mode
   held_backed page mode none holds =
       let used = fit.used actor page mode holds in
       let there : IsSome (in_memory m.store page) = subst (λ (o : Option Page). IsSome o) (sym used.1) refl in
       record { from = inl holds; live = used.0; there = ap (λ (st : StoreState). in_memory st page) none ∙ brings.stays page there ∙ used.1 }
 
-  own_mode : (activity : Activity) (page : ℕ) (mode : Mode) → m.activity actor ≡ activity → mode_among page (latches_held m.store activity) ≡ Some mode → mode_at m.latches actor page ≡ Some mode
+  pub own_mode : (activity : Activity) (page : ℕ) (mode : Mode) → m.activity actor ≡ activity → mode_among page (latches_held m.store activity) ≡ Some mode → mode_at m.latches actor page ≡ Some mode
   own_mode activity page mode is among = fit.exact actor page latches ∙ subst (λ (a : Activity). mode_among page (latches_held m.store a) ≡ Some mode) (sym is) among
 
   same_first : (id : ℕ) (mode : Mode) → cond (id == id) (Some mode) None ≡ Some mode
@@ -162,13 +163,13 @@ module _ (m : Machine) (actor : ℕ) (may : ℕ → Type 0) (fetched : StoreStat
 
   -- the page that was latched
   module _ (wanted : Wanted) (page : LivePage) (wants : wanted_by m actor ≡ Some wanted) (live : if_live (in_memory fetched wanted.page) ≡ Some page) (level : page.level ≡ wanted.level) (none : new ≡ fetched) where
-    live_now : if_live (in_memory new wanted.page) ≡ Some page
+    pub live_now : if_live (in_memory new wanted.page) ≡ Some page
     live_now = ap (λ (st : StoreState). if_live (in_memory st wanted.page)) none ∙ live
 
-    there_now : in_memory new wanted.page ≡ Some (Live page)
+    pub there_now : in_memory new wanted.page ≡ Some (Live page)
     there_now = live_there (in_memory new wanted.page) page live_now
 
-    at_hand : (mode : Mode) → wanted.mode ≡ mode → IsBacked m actor new wanted.page mode
+    pub at_hand : (mode : Mode) → wanted.mode ≡ mode → IsBacked m actor new wanted.page mode
     at_hand mode is = record {
       from = inr (inl (record { wanted = wanted; wants = wants; page_is = refl; mode_is = is; free = free }));
       live = page;
@@ -317,32 +318,37 @@ module _ (m : Machine) (actor : ℕ) (may : ℕ → Type 0) (fetched : StoreStat
   backed_alone (at.ConsolidatorDecide job parent keep gone) deed is done row = absurd row
   backed_alone at.Flusher deed is done row = absurd row
 
-  backed_at : (activity : Activity) (wanted : Wanted) (page : LivePage) (deed : Deed) → m.activity actor ≡ activity → wanted_by m actor ≡ Some wanted → if_live (in_memory fetched wanted.page) ≡ Some page → page.level ≡ wanted.level → MayDo deed.op (length m.order) fetched new
-      → RowAt activity m' wanted.page page deed → Backed deed
-  backed_at (at.SessionWalk line held rest found) wanted page deed is wants live level done row = backed_walk wanted page line held rest found (goal_of line.command rest) deed wants live level is done row
-  backed_at (at.PosterGrow job) wanted page deed is wants live level done (inl row) = backed_deed deed _ row.deed_is (rests m actor new _ refl refl)
-  backed_at (at.PosterGrow job) wanted page deed is wants live level done (inr row) = backed_deed deed _ row.deed_is (rests m actor new _ refl refl)
-  backed_at (at.PosterWalk job held) wanted page deed is wants live level done (inl row) =
-      backed_deed deed _ row.deed_is (poster_arrives wanted page wants live level (nothing_done deed _ row.deed_is refl done) job held is row.level)
-  backed_at (at.PosterWalk job held) wanted page deed is wants live level done (inr row) =
-      backed_deed deed _ row.passes.deed_is (poster_goes_on wanted page wants live level (nothing_done deed _ row.passes.deed_is refl done) job held is)
-  backed_at (at.PosterChild job parent) wanted page deed is wants live level done row = backed_look job parent row.plan deed is done row.deed_is
-  backed_at (at.PosterPromote job parent) wanted page deed is wants live level done row = backed_deed deed _ row (promoted wanted page wants live level (nothing_done deed _ row refl done) job parent is)
-  backed_at (at.PosterAgain job parent) wanted page deed is wants live level done row = backed_again job parent row.page row.plan deed row.does_it
-  backed_at at.SessionIdle wanted page deed is wants live level done row = absurd row
-  backed_at (at.SessionSplit line held) wanted page deed is wants live level done row = absurd row
-  backed_at (at.SessionPut line source fresh) wanted page deed is wants live level done row = absurd row
-  backed_at (at.SessionAwait line reply place) wanted page deed is wants live level done row = absurd row
-  backed_at at.PosterIdle wanted page deed is wants live level done row = absurd row
-  backed_at at.ConsolidatorIdle wanted page deed is wants live level done row = absurd row
-  backed_at (at.ConsolidatorWalk job held) wanted page deed is wants live level done row = absurd row
-  backed_at (at.ConsolidatorScan job parent child) wanted page deed is wants live level done row = absurd row
-  backed_at (at.ConsolidatorTry job parent keep gone leaf) wanted page deed is wants live level done row = absurd row
-  backed_at (at.ConsolidatorPromote job parent keep gone) wanted page deed is wants live level done row = absurd row
-  backed_at (at.ConsolidatorKeep job parent keep gone) wanted page deed is wants live level done row = absurd row
-  backed_at (at.ConsolidatorDecide job parent keep gone) wanted page deed is wants live level done row = absurd row
-  backed_at at.Flusher wanted page deed is wants live level done row = absurd row
+  -- the rows of a consolidator are given
+  abbrev pub BacksMerger : Activity → Wanted → LivePage → Deed → Type 0
+  BacksMerger activity wanted page deed = IsMerging activity → m.activity actor ≡ activity → RowAt activity m' wanted.page page deed → Backed deed
 
-  pub backed_row : (wanted : Option Wanted) (deed : Deed) → wanted_by m actor ≡ wanted → MayDo deed.op (length m.order) fetched new → Row (m.activity actor) wanted m' deed → Backed deed
-  backed_row None deed wants done row = backed_alone (m.activity actor) deed refl done row
-  backed_row (Some wanted) deed wants done (page, hand, row) = backed_at (m.activity actor) wanted page deed refl wants hand.live hand.level done row
+  backed_at : (activity : Activity) (wanted : Wanted) (page : LivePage) (deed : Deed) → BacksMerger activity wanted page deed → m.activity actor ≡ activity → wanted_by m actor ≡ Some wanted → if_live (in_memory fetched wanted.page) ≡ Some page → page.level ≡ wanted.level → MayDo deed.op (length m.order) fetched new
+      → RowAt activity m' wanted.page page deed → Backed deed
+  backed_at (at.SessionWalk line held rest found) wanted page deed merges is wants live level done row = backed_walk wanted page line held rest found (goal_of line.command rest) deed wants live level is done row
+  backed_at (at.PosterGrow job) wanted page deed merges is wants live level done (inl row) = backed_deed deed _ row.deed_is (rests m actor new _ refl refl)
+  backed_at (at.PosterGrow job) wanted page deed merges is wants live level done (inr row) = backed_deed deed _ row.deed_is (rests m actor new _ refl refl)
+  backed_at (at.PosterWalk job held) wanted page deed merges is wants live level done (inl row) =
+      backed_deed deed _ row.deed_is (poster_arrives wanted page wants live level (nothing_done deed _ row.deed_is refl done) job held is row.level)
+  backed_at (at.PosterWalk job held) wanted page deed merges is wants live level done (inr row) =
+      backed_deed deed _ row.passes.deed_is (poster_goes_on wanted page wants live level (nothing_done deed _ row.passes.deed_is refl done) job held is)
+  backed_at (at.PosterChild job parent) wanted page deed merges is wants live level done row = backed_look job parent row.plan deed is done row.deed_is
+  backed_at (at.PosterPromote job parent) wanted page deed merges is wants live level done row = backed_deed deed _ row (promoted wanted page wants live level (nothing_done deed _ row refl done) job parent is)
+  backed_at (at.PosterAgain job parent) wanted page deed merges is wants live level done row = backed_again job parent row.page row.plan deed row.does_it
+  backed_at at.SessionIdle wanted page deed merges is wants live level done row = absurd row
+  backed_at (at.SessionSplit line held) wanted page deed merges is wants live level done row = absurd row
+  backed_at (at.SessionPut line source fresh) wanted page deed merges is wants live level done row = absurd row
+  backed_at (at.SessionAwait line reply place) wanted page deed merges is wants live level done row = absurd row
+  backed_at at.PosterIdle wanted page deed merges is wants live level done row = absurd row
+  backed_at at.ConsolidatorIdle wanted page deed merges is wants live level done row = absurd row
+  backed_at (at.ConsolidatorWalk job held) wanted page deed merges is wants live level done row = merges tt is row
+  backed_at (at.ConsolidatorScan job parent child) wanted page deed merges is wants live level done row = merges tt is row
+  backed_at (at.ConsolidatorTry job parent keep gone leaf) wanted page deed merges is wants live level done row = merges tt is row
+  backed_at (at.ConsolidatorPromote job parent keep gone) wanted page deed merges is wants live level done row = merges tt is row
+  backed_at (at.ConsolidatorKeep job parent keep gone) wanted page deed merges is wants live level done row = merges tt is row
+  backed_at (at.ConsolidatorDecide job parent keep gone) wanted page deed merges is wants live level done row = merges tt is row
+  backed_at at.Flusher wanted page deed merges is wants live level done row = absurd row
+
+  pub backed_row : (wanted : Option Wanted) (deed : Deed) → ((wanted : Wanted) (page : LivePage) → wanted_by m actor ≡ Some wanted → if_live (in_memory fetched wanted.page) ≡ Some page → page.level ≡ wanted.level → BacksMerger (m.activity actor) wanted page deed)
+      → wanted_by m actor ≡ wanted → MayDo deed.op (length m.order) fetched new → Row (m.activity actor) wanted m' deed → Backed deed
+  backed_row None deed merges wants done row = backed_alone (m.activity actor) deed refl done row
+  backed_row (Some wanted) deed merges wants done (page, hand, row) = backed_at (m.activity actor) wanted page deed (merges wanted page wants hand.live hand.level) refl wants hand.live hand.level done row

@@ -11,7 +11,7 @@ use Rattle.hb_core.specs.Machines.{Machine}
 use Rattle.hb_core.specs.Performing.{given_by}
 use Rattle.hb_core.specs.Forcing.{StaysSo}
 use Rattle.hb_core.specs.Steps.{StepsAs, StepsTo}
-use Rattle.hb_core.specs.KeepingLaws.{HasGoneOn, IsBetween, StepsGoOn, StoppedStays}
+use Rattle.hb_core.specs.SteppingLaws.{HasGoneOn, IsBetween, StepsGoOn, StoppedStays}
 use Rattle.hb_core.proofs.Moments.{answers_are_timed, clock_moves}
 use Rattle.hb_core.proofs.PendingKept.{grown_by}
 use Rattle.hb_core.proofs.Ways.{order_grows}

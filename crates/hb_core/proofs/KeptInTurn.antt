@@ -14,12 +14,14 @@ use Rattle.hb_core.specs.KeptTurns.{IsInTurn}
 use Rattle.hb_core.specs.FileLaws.{FilesStaySound, LinesStayFit, PagesStayOfFile}
 use Rattle.hb_core.specs.OrderLaws.{OrderStaysLegal, TurnsStay}
 use Rattle.hb_core.specs.SteppingLaws.{BeginningKeepsAll, HasNoSearches}
+use Rattle.hb_core.specs.DamageLaws.{IsUndamaged}
 use Rattle.hb_core.specs.KeepingLaws.{AnswersSearches, BegunKeepsAll, ChangesKeepAll, HasKeptAll, RoomStaysKnown, StepsKeepAll, StepsRightly}
 use Rattle.hb_core.specs.Laws.{LatchesStayFit}
+use Rattle.hb_core.proofs.NoDamage.{stays_undamaged}
 use Rattle.hb_core.proofs.PendingKept.{prefix_stays_pending, settled_stays_settled}
 use Rattle.hb_core.proofs.Prefixes.{files_have_prefixes}
 use Rattle.hb_core.proofs.SoundFiles.{keeps_marks}
-use Rattle.hb_core.proofs.StillThere.{nobody_else_comes}
+use Rattle.hb_core.proofs.StillThere.{nobody_else_comes, nobody_else_latches}
 use Rattle.hb_core.proofs.WalksKept.{walks_stay_in_space}
 use Rattle.hb_core.proofs.Ways.{order_grows}
 
@@ -47,6 +49,7 @@ module _ (laws : StepLaws) (n : RecordSet) where
           sound_file = after.2;
           latches_fit = laws.latches m actor outcome new may keeps.latches_fit keeps.pages_of_file step;
           nobody_else = nobody_else_comes m actor outcome new may keeps.nobody_else step;
+          no_other_latches = nobody_else_latches m actor outcome new may keeps.no_other_latches step;
           walk_in_space = walks_stay_in_space m actor outcome new may keeps.latches_fit keeps.pages_of_file keeps.nobody_else keeps.walk_in_space step;
           room_known = laws.room m files actor outcome new may keeps.told keeps.latches_fit keeps.pages_of_file keeps.sound_file keeps.nobody_else keeps.room_known step;
           order_legal = legal;
@@ -58,20 +61,25 @@ module _ (laws : StepLaws) (n : RecordSet) where
   nothing_done m files new keeps is =
       let now : CoreKeeps n new files = subst (λ (x : Machine). CoreKeeps n x files) (sym is) keeps in
       let same = ap settled_count is in
-      record { keeps = now; prefixes = files_have_prefixes n new files now.sound_file now.order_legal now.pending_prefix; settled = omega (arith, same) }
+      record { keeps = now; prefixes = files_have_prefixes n new files now.sound_file now.order_legal now.pending_prefix; settled = omega (arith, same); undamaged = λ well. subst IsUndamaged (sym is) well }
 
-  one_more : (m : Machine) (files : Files) (actor : ℕ) (outcome : Outcome) (next new : Machine) (files' : Files) → CoreKeeps n m files → StepsTo m actor outcome next → HasKeptAll n next new files' → HasKeptAll n m new files'
-  one_more m files actor outcome next new files' keeps step kept =
+  one_more : (m : Machine) (files : Files) (actor : ℕ) (outcome : Outcome) (next new : Machine) (files' : Files) → MayLatch actor → CoreKeeps n m files → StepsTo m actor outcome next → HasKeptAll n next new files' → HasKeptAll n m new files'
+  one_more m files actor outcome next new files' may keeps step kept =
       let rises = settled_stays_settled n m files actor outcome next keeps.told keeps.sound_file keeps.order_legal keeps.pending_prefix step in
       let further = kept.settled in
-      record { keeps = kept.keeps; prefixes = kept.prefixes; settled = omega (arith, rises, further) }
+      record {
+        keeps = kept.keeps;
+        prefixes = kept.prefixes;
+        settled = omega (arith, rises, further);
+        undamaged = λ well. kept.undamaged (stays_undamaged m files actor outcome next may keeps.told keeps.latches_fit keeps.sound_file keeps.walk_in_space step well);
+      }
 
   kept_in_turn : (actors : List ℕ) (m : Machine) (files : Files) (new : Machine) → All MayLatch actors → CoreKeeps n m files → StepsRightly actors m new → (files' : Files) × HasKeptAll n m new files'
   kept_in_turn [] m files new may keeps is = (files, nothing_done m files new keeps is)
   kept_in_turn (actor ∷ rest) m files new may keeps (outcome, next, step, right, steps) =
       let after = kept_by_step m files actor outcome next (All-head MayLatch actor rest may) keeps step right in
       let kept = kept_in_turn rest next after.0 new (All-tail MayLatch actor rest may) after.1 steps in
-      (kept.0, one_more m files actor outcome next new kept.0 keeps step kept.1)
+      (kept.0, one_more m files actor outcome next new kept.0 (All-head MayLatch actor rest may) keeps step kept.1)
 
   -- ---- where no line is a search
 
@@ -90,7 +98,7 @@ module _ (laws : StepLaws) (n : RecordSet) where
   kept_without (actor ∷ rest) m files new may none keeps (outcome, next, step, steps) =
       let after = kept_by_step m files actor outcome next (All-head MayLatch actor rest may) keeps step (never_searches m files actor outcome next none keeps step) in
       let kept = kept_without rest next after.0 new (All-tail MayLatch actor rest may) (no_search_now m actor outcome next none step) after.1 steps in
-      (kept.0, one_more m files actor outcome next new kept.0 keeps step kept.1)
+      (kept.0, one_more m files actor outcome next new kept.0 (All-head MayLatch actor rest may) keeps step kept.1)
 
 pub steps_keep_all : StepLaws → StepsKeepAll
 steps_keep_all laws n actors m files new may keeps steps = kept_in_turn laws n actors m files new may keeps steps

@@ -30,17 +30,18 @@ use Rattle.hb_core.proofs.StepKinds.{each_kind}
 pub record KeepsPages (st : StoreState) : Type 0 where
   pub limits : HasLimits st.meta
   pub high : st.meta.high ≤ st.meta.pages
+  pub live : st.meta.live ≤ st.meta.pages
   pub free : st.meta.free < 2 ^ 32
   pub framed : AreGood st.meta (in_memory st)
 
 pub keeps_pages : (m : Machine) → MarksInPlace m → HoldsPagesOfFile m → KeepsPages m.store
-keeps_pages m marks inside = record { limits = record { layout = marks.layout; root_fits = marks.root }; high = marks.high; free = marks.free; framed = inside }
+keeps_pages m marks inside = record { limits = record { layout = marks.layout; root_fits = marks.root }; high = marks.high; live = marks.live; free = marks.free; framed = inside }
 
 pub pages_kept : (m : Machine) → KeepsPages m.store → HoldsPagesOfFile m
 pages_kept m keeps = keeps.framed
 
 pub marks_kept : (m : Machine) → KeepsPages m.store → MarksInPlace m
-marks_kept m keeps = record { layout = keeps.limits.layout; high = keeps.high; root = keeps.limits.root_fits; free = keeps.free }
+marks_kept m keeps = record { layout = keeps.limits.layout; high = keeps.high; live = keeps.live; root = keeps.limits.root_fits; free = keeps.free }
 
 -- what a fetch brings keeps it
 pub brought : (m : Machine) (may : ℕ → Type 0) (fetched : StoreState) → Brings m.files may m.store fetched → KeepsPages m.store → KeepsPages fetched
@@ -49,6 +50,7 @@ brought m may fetched brings keeps =
     record {
       limits = subst HasLimits meta keeps.limits;
       high = subst (λ (meta : Meta). meta.high ≤ meta.pages) meta keeps.high;
+      live = subst (λ (meta : Meta). meta.live ≤ meta.pages) meta keeps.live;
       free = subst (λ (meta : Meta). meta.free < 2 ^ 32) meta keeps.free;
       framed = λ id page there. subst (λ (meta : Meta). (1 ≤ id) × (id ≤ meta.high) × IsGoodPage meta page) meta (by id page there (in_memory m.store id) refl);
     }
@@ -73,6 +75,7 @@ module _ (makes : MakesGoodPages) (parts : HaveFittingParts) (points : HeldArePo
       record {
         limits = subst HasLimits meta after.limits;
         high = subst (λ (meta : Meta). meta.high ≤ meta.pages) meta (after.high keeps.high);
+        live = subst (λ (meta : Meta). meta.live ≤ meta.pages) meta (after.live keeps.live);
         free = subst (λ (meta : Meta). meta.free < 2 ^ 32) meta (after.free keeps.free);
         framed = λ id page there. subst (λ (meta : Meta). (1 ≤ id) × (id ≤ meta.high) × IsGoodPage meta page) meta
             (each_set (λ n p. (1 ≤ n) × (n ≤ change.meta.high) × IsGoodPage change.meta p) change.pages (in_memory old)
@@ -90,8 +93,8 @@ module _ (makes : MakesGoodPages) (parts : HaveFittingParts) (points : HeldArePo
 
     -- a force changes the log alone
     forces : (said : Outcome) → ForcesFirst m said outcome new → KeepsPages new.store
-    forces said (inl (says, is)) = subst (λ (n : Machine). KeepsPages n.store) (sym is) (record { limits = keeps.limits; high = keeps.high; free = keeps.free; framed = keeps.framed })
-    forces said (inr badly) = subst (λ (n : Machine). KeepsPages n.store) (sym badly.stops) (record { limits = keeps.limits; high = keeps.high; free = keeps.free; framed = keeps.framed })
+    forces said (inl (says, is)) = subst (λ (n : Machine). KeepsPages n.store) (sym is) (record { limits = keeps.limits; high = keeps.high; live = keeps.live; free = keeps.free; framed = keeps.framed })
+    forces said (inr badly) = subst (λ (n : Machine). KeepsPages n.store) (sym badly.stops) (record { limits = keeps.limits; high = keeps.high; live = keeps.live; free = keeps.free; framed = keeps.framed })
 
     meets : MeetsBadPage m actor outcome new → KeepsPages new.store
     meets bad = subst (λ (n : Machine). KeepsPages n.store) (sym bad.stops) (brought m _ bad.fetched bad.brings keeps)

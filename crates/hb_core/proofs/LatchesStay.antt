@@ -25,7 +25,8 @@ use Rattle.hb_core.specs.GivingUp.{gives_up, runs_out}
 use Rattle.hb_core.specs.Steps.{StepsTo, Works}
 use Rattle.hb_core.specs.Keeps.{HoldsPagesOfFile, LatchesFit}
 use Rattle.hb_core.specs.Laws.{LatchesStayFit}
-use Rattle.hb_core.proofs.Backing.{BackedIn, ComesFrom, backed_row, rests}
+use Rattle.hb_core.proofs.Backing.{BackedIn, ComesFrom, rests}
+use Rattle.hb_core.proofs.MergerBacked.{every_row_backed}
 use Rattle.hb_core.proofs.StepKinds.{each_kind}
 use Rattle.hb_core.proofs.Ways.{KeepsAllButDisk, forces_so, meets_so, stays_so}
 use Rattle.hb_core.proofs.OwnPages.{held_pages_stay}
@@ -272,7 +273,7 @@ module _ (mutual_modes : (mode other : Mode) → goes_beside mode other ≡ goes
   worked (inr (inl (free, unready, inr (none, performs)))) = fits m.store _ performs (ran_out m actor new.store (m.activity actor))
   worked (inr (inr (free, ready, inl acts))) =
       fits acts.fetched acts.deed acts.performs
-      (backed_row m actor _ acts.fetched new.store latches fit inside free acts.brings (wanted_by m actor) acts.deed refl acts.performs.store acts.row)
+      (every_row_backed m actor _ acts.fetched new.store latches fit inside free acts.brings (wanted_by m actor) acts.deed refl acts.performs.store acts.row)
   worked (inr (inr (free, ready, inr (inl gives)))) = fits gives.fetched _ gives.performs (given_up m actor new.store gives.why (m.activity actor))
   worked (inr (inr (free, ready, inr (inr meets)))) = kept (meets_so m actor outcome new meets)
 

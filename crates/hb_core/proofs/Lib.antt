@@ -1,3 +1,8 @@
+pub mod NoMerges
+pub mod OneMerge
+pub mod MergerMoves
+pub mod MergerBacked
+pub mod MergesKept
 pub mod Targets
 pub mod OwnedOps
 pub mod StepKinds
@@ -45,4 +50,12 @@ pub mod OnePiece
 pub mod OneRow
 pub mod RowSays
 pub mod OnePair
+pub mod OneStore
+pub mod OneFetch
 pub mod OneOutcome
+pub mod AskedPages
+pub mod NoDamage
+pub mod Volumes
+pub mod LaterWanted
+pub mod NoCircle
+pub mod SomebodyFree

@@ -1,5 +1,5 @@
 -- What becomes of the line that an actor has in hand: it stays in hand, takes effect, or is answered outside the order.
-use Rattle.std.proofs.Common.{◌≡◌, ◌⊎◌, inl, inr, ℕ, List, [], ◌∷◌, length, Option, Some, None, refl, sym, subst}
+use Rattle.std.proofs.Common.{◌≡◌, ◌⊎◌, inl, inr, ℕ, List, [], ◌∷◌, length, Option, Some, None, refl, ◌∙◌, sym, subst}
 use Rattle.std.specs.Prelude.{MatchOption}
 use Rattle.hb_space.specs.Boxes.{Area}
 use Rattle.hb_space.specs.declared.records.Record.{Record}
@@ -29,12 +29,9 @@ use Rattle.hb_core.specs.SearchRows.{SearchGoesOn}
 use Rattle.hb_core.specs.SessionRows.{DoesThere, PassesOn}
 use Rattle.hb_core.specs.WorkerRows.{DoesPlan, after_look}
 use Rattle.hb_core.specs.Rows.{Row, RowAlone, RowAt}
+use Rattle.hb_core.proofs.MergerMoves.{MovesMerger, merger_moves}
+pub use Rattle.hb_core.proofs.MergerMoves.{Waits}
 use Rattle.hb_core.proofs.StepKinds.{IsQuiet}
-
--- what an actor waits for, where it does
-abbrev pub Waits : Activity → Type 0
-Waits (at.SessionAwait number reply place) = Unit {0}
-Waits other = ⊥
 
 -- The line stays in hand, and nothing joins the order or is answered.
 pub record GoesOn (activity : Activity) (deed : Deed) : Type 0 where
@@ -232,6 +229,10 @@ module _ (m : Machine) (fetched : StoreState) where
   fate_plan job parent page plans.SplitFirst deed (inl row) = fate_of m _ deed _ row.deed_is (goes m _ _ refl (λ at. refl) refl (λ never. never))
   fate_plan job parent page plans.SplitFirst deed (inr row) = fate_of m _ deed _ row.deed_is (goes m _ _ refl (λ at. refl) refl (λ never. never))
 
+  -- a consolidator has no line
+  fate_moved : (activity : Activity) (deed : Deed) → line_in_hand activity ≡ None → MovesMerger m' deed → LineFate m activity deed
+  fate_moved activity deed none moves = fate_of m activity deed _ moves.is (goes m activity _ refl (λ at. refl) (moves.hand ∙ sym none) moves.awaits)
+
   fate_at : (activity : Activity) (id : ℕ) (page : LivePage) (deed : Deed) → RowAt activity m' id page deed → LineFate m activity deed
   fate_at (at.SessionWalk line held rest found) id page deed row = fate_walk line held rest found id page deed (goal_of line.command rest) row
   fate_at (at.PosterGrow job) id page deed (inl row) = fate_of m _ deed _ row.deed_is (goes m _ _ refl (λ at. refl) refl (λ never. never))
@@ -247,12 +248,12 @@ module _ (m : Machine) (fetched : StoreState) where
   fate_at (at.SessionAwait line reply place) id page deed row = absurd row
   fate_at at.PosterIdle id page deed row = absurd row
   fate_at at.ConsolidatorIdle id page deed row = absurd row
-  fate_at (at.ConsolidatorWalk job held) id page deed row = absurd row
-  fate_at (at.ConsolidatorScan job parent child) id page deed row = absurd row
-  fate_at (at.ConsolidatorTry job parent keep gone leaf) id page deed row = absurd row
-  fate_at (at.ConsolidatorPromote job parent keep gone) id page deed row = absurd row
-  fate_at (at.ConsolidatorKeep job parent keep gone) id page deed row = absurd row
-  fate_at (at.ConsolidatorDecide job parent keep gone) id page deed row = absurd row
+  fate_at (at.ConsolidatorWalk job held) id page deed row = fate_moved (at.ConsolidatorWalk job held) deed refl (merger_moves m' (at.ConsolidatorWalk job held) id page deed tt row)
+  fate_at (at.ConsolidatorScan job parent child) id page deed row = fate_moved (at.ConsolidatorScan job parent child) deed refl (merger_moves m' (at.ConsolidatorScan job parent child) id page deed tt row)
+  fate_at (at.ConsolidatorTry job parent keep gone leaf) id page deed row = fate_moved (at.ConsolidatorTry job parent keep gone leaf) deed refl (merger_moves m' (at.ConsolidatorTry job parent keep gone leaf) id page deed tt row)
+  fate_at (at.ConsolidatorPromote job parent keep gone) id page deed row = fate_moved (at.ConsolidatorPromote job parent keep gone) deed refl (merger_moves m' (at.ConsolidatorPromote job parent keep gone) id page deed tt row)
+  fate_at (at.ConsolidatorKeep job parent keep gone) id page deed row = fate_moved (at.ConsolidatorKeep job parent keep gone) deed refl (merger_moves m' (at.ConsolidatorKeep job parent keep gone) id page deed tt row)
+  fate_at (at.ConsolidatorDecide job parent keep gone) id page deed row = fate_moved (at.ConsolidatorDecide job parent keep gone) deed refl (merger_moves m' (at.ConsolidatorDecide job parent keep gone) id page deed tt row)
   fate_at at.Flusher id page deed row = absurd row
 
   pub fate_row : (activity : Activity) (wanted : Option Wanted) (deed : Deed) → Row activity wanted m' deed → LineFate m activity deed

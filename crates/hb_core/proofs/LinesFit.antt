@@ -13,6 +13,7 @@ use Rattle.hb_core.specs.Deeds.{Deed}
 use Rattle.hb_core.specs.Performing.{Performs}
 use Rattle.hb_core.specs.SessionRows.{next_line}
 use Rattle.hb_core.specs.WorkerRows.{IsPostingOf, TakesJob}
+use Rattle.hb_core.specs.ConsolidatorRows.{IsMergingOf, TakesMerging}
 use Rattle.hb_core.specs.Steps.{Works}
 use Rattle.hb_core.specs.KeptLines.{HasLineBody, LinesFit, line_in_hand}
 use Rattle.hb_core.specs.FileLaws.{LinesStayFit}
@@ -75,6 +76,13 @@ took_job m deed takes = ap (λ (d : Deed). line_in_hand d.next) takes.deed_is �
     by next (inr (inl (same, is))) = ap line_in_hand is
     by next (inr (inr (below, is))) = ap line_in_hand is
 
+pub took_merging : (m : Machine) (deed : Deed) → TakesMerging m deed → line_in_hand deed.next ≡ None
+took_merging m deed takes = ap (λ (d : Deed). line_in_hand d.next) takes.deed_is ∙ by takes.next takes.merging
+  where
+    by : (next : Activity) → IsMergingOf takes.job m.store.meta.height next → line_in_hand next ≡ None
+    by next (inl (above, is)) = ap line_in_hand is
+    by next (inr (below, is)) = ap line_in_hand is
+
 pub lines_stay_fit : LinesStayFit
 lines_stay_fit m actor outcome new fit step = each_step m actor outcome new (LinesFit new) (record {
   stays = λ said so. stays m actor outcome new fit (stays_so m actor outcome new said so);
@@ -82,6 +90,7 @@ lines_stay_fit m actor outcome new fit step = each_step m actor outcome new (Lin
   takes = λ line idle next performs. performed m actor outcome new fit m.store _ performs (line_taken HasLineBody actor m.answered m.lines fit.script line next);
   refuses = λ line idle next performs. performed m actor outcome new fit m.store _ performs tt;
   posts = λ deed idle takes performs. performed m actor outcome new fit m.store deed performs (no_line deed (took_job m deed takes));
+  merges = λ deed idle takes performs. performed m actor outcome new fit m.store deed performs (no_line deed (took_merging m deed takes));
   settles = λ number place reply is settled performs. performed m actor outcome new fit m.store _ performs tt;
   works = λ none works. worked m actor outcome new fit works;
 }) step

@@ -1,5 +1,5 @@
 -- Two steps of one actor from one machine come to the same.
-use Rattle.std.proofs.Common.{◌≡◌, ◌⊎◌, inl, inr, ℕ, ◌++◌, [], Option, Some, None, IfSome, IsSome, refl, sym, ap, ◌∙◌, subst, length}
+use Rattle.std.proofs.Common.{◌≡◌, ◌⊎◌, inl, inr, ℕ, ◌++◌, [], Option, Some, None, IfSome, IsSome, IsTrue, refl, sym, ap, ◌∙◌, subst, length}
 use Rattle.hb_space.specs.declared.records.Record.{Record}
 use Rattle.hb_frag.specs.declared.pages.LivePage.{LivePage}
 use Rattle.hb_frag.specs.declared.pages.Page.{Page}
@@ -14,30 +14,22 @@ use Rattle.hb_set.specs.declared.scripts.Line.{Line}
 use Rattle.hb_store.specs.States.{StoreState, in_memory}
 use Rattle.hb_core.specs.declared.outcomes.Outcome.{Outcome}
 use Rattle.hb_core.specs.Machines.{Files, Machine, current_file, if_some, live_here, with_activity, with_disk}
-use Rattle.hb_core.specs.Acting.{DoesRow}
+use Rattle.hb_core.specs.Acting.{DoesRow, takes_number}
 use Rattle.hb_core.specs.Asking.{wanted_by}
-use Rattle.hb_core.specs.Fetching.{Brings}
+use Rattle.hb_core.specs.Fetching.{Brings, IsFreeHead, IsWantedPage}
 use Rattle.hb_core.specs.Deeds.{AddsJobs, Deed, takes_effect}
 use Rattle.hb_core.specs.Keeps.{HoldsPagesOfFile, KnowsRoom, OneHasRoom}
 use Rattle.hb_core.specs.Performing.{MayDo, Performs, files_after, given_by, latches_held, mode_among}
 use Rattle.hb_core.specs.Rows.{Row}
 use Rattle.hb_core.specs.SplitRows.{Puts}
-use Rattle.hb_core.specs.OutcomeLaws.{ComesToSame, IsTurnedAside, LeavesSame, OutcomeIsOne, StateIsOne}
+use Rattle.hb_core.specs.OutcomeLaws.{ComesToSame, IsTurnedAside, OutcomeIsOne, StateIsOne}
 use Rattle.hb_core.proofs.OnePair.{both_steps}
 use Rattle.hb_core.proofs.OnePiece.{one_queue}
 use Rattle.hb_core.proofs.OneRow.{one_row}
 use Rattle.hb_core.proofs.RowSays.{rows_say_the_same}
-use Rattle.hb_core.proofs.StillThere.{fetched_good, nothing_done, still_fetched}
-use Rattle.hb_core.proofs.Backing.{live_there}
-use Rattle.hb_core.proofs.NextPlaces.{HasPlace, WalksTo, place_after}
-use Rattle.hb_activity.specs.declared.activities.Activity.{Activity}
-use Rattle.hb_activity.specs.declared.activities.Activity.TheVariants as at
-use Rattle.hb_activity.specs.Walks.{walk_held}
-use Rattle.hb_activity.specs.Holding.{held_of}
-use Rattle.hb_latch.specs.Tables.{mode_at}
-use Rattle.std.specs.Option.{option_and_then}
-use Rattle.std.proofs.lemmas.Bool.{cases_eq}
-use Rattle.hb_frag.specs.declared.pages.Page.TheVariants.{Live}
+use Rattle.hb_core.proofs.StillThere.{fetched_good, still_fetched}
+use Rattle.hb_core.proofs.OneFetch.{same_memory}
+use Rattle.hb_core.proofs.OneStore.{one_fetch, one_performed}
 
 -- ---- they say the same
 
@@ -133,76 +125,31 @@ module _ (m : Machine) (files : Files) (tells : m.files ≡ Some files) (may mig
       (λ line source fresh d e is a b. let has = knows.puts actor source fresh line is in one_put line source fresh d e a b has.0 has.1 has.2)
       row again
 
--- ---- what an actor holds afterwards
-
-none_held : (s t : StoreState) (next : Activity) → walk_held next ≡ None → latches_held s next ≡ latches_held t next
-none_held s t next is = ap (λ (o : Option ℕ). held_of next (option_and_then (live_here s) o)) is ∙ sym (ap (λ (o : Option ℕ). held_of next (option_and_then (live_here t) o)) is)
-
-some_held : (s t : StoreState) (next : Activity) (id : ℕ) → walk_held next ≡ Some id → live_here s id ≡ live_here t id → latches_held s next ≡ latches_held t next
-some_held s t next id is same =
-    ap (λ (o : Option ℕ). held_of next (option_and_then (live_here s) o)) is ∙ ap (held_of next) same
-    ∙ sym (ap (λ (o : Option ℕ). held_of next (option_and_then (live_here t) o)) is)
-
-held_after : (m : Machine) (actor : ℕ) (now : Machine) (deed : Deed) → HasPlace m actor now deed → (walk_held deed.next ≡ None) ⊎ WalksTo now.store deed
-held_after m actor now deed (inl holds) = inl holds.walk
-held_after m actor now deed (inr (inl walks)) = inr walks
-held_after m actor now deed (inr (inr (inl takes))) = inl (ap (λ (d : Deed). walk_held d.next) takes.row.deed_is)
-held_after m actor now deed (inr (inr (inr (inl takes)))) = inl (ap (λ (d : Deed). walk_held d.next) takes.row.deed_is)
-held_after m actor now deed (inr (inr (inr (inr (inl keeps))))) = inl (by keeps.after)
-  where
-    by : (deed.next ≡ at.PosterPromote keeps.job keeps.parent) ⊎ (deed.next ≡ at.PosterAgain keeps.job keeps.parent) → walk_held deed.next ≡ None
-    by (inl is) = ap walk_held is
-    by (inr is) = ap walk_held is
-held_after m actor now deed (inr (inr (inr (inr (inr parts))))) = inl (ap (λ (d : Deed). walk_held d.next) parts.row.deed_is)
+-- ---- they lead to one machine
 
 module _ (m : Machine) (actor : ℕ) (outcome other : Outcome) (new next : Machine) where
-  same_held : (f g : StoreState) (d e : Deed) → d ≡ e → ((id : ℕ) (a b : Page) → in_memory f id ≡ Some a → in_memory g id ≡ Some b → a ≡ b) → MayDo d.op (length m.order) f new.store → MayDo e.op (length m.order) g next.store
-      → (walk_held d.next ≡ None) ⊎ WalksTo f d → (walk_held e.next ≡ None) ⊎ WalksTo g e → latches_held new.store e.next ≡ latches_held next.store e.next
-  same_held f g d e same agree first second a (inl none) = none_held new.store next.store e.next none
-  same_held f g d e same agree first second (inl none) (inr w) = none_held new.store next.store e.next (ap (λ (d : Deed). walk_held d.next) (sym same) ∙ none)
-  same_held f g d e same agree first second (inr v) (inr w) =
-      let id : v.id ≡ w.id = same_Some v.id w.id (sym v.held ∙ ap (λ (d : Deed). walk_held d.next) same ∙ w.held) in
-      let old : live_here f w.id ≡ Some v.page = ap (live_here f) (sym id) ∙ v.live in
-      let page : Live v.page ≡ Live w.page = agree w.id (Live v.page) (Live w.page) (live_there (in_memory f w.id) v.page old) (live_there (in_memory g w.id) w.page w.live) in
-      some_held new.store next.store e.next w.id w.held
-      (ap (λ (st : StoreState). live_here st w.id) (nothing_done d.op (length m.order) f new.store v.nothing first) ∙ old ∙ ap (λ (p : Page). if_live (Some p)) page
-      ∙ sym (ap (λ (st : StoreState). live_here st w.id) (nothing_done e.op (length m.order) g next.store w.nothing second) ∙ w.live))
+  one_by_deed : (d e : Deed) → d ≡ e → Performs m m.store actor d outcome new → Performs m m.store actor e other next → new ≡ next
+  one_by_deed d e same first second = one_performed m m.store actor e outcome other new next (subst (λ (x : Deed). Performs m m.store actor x outcome new) same first) second
 
-  left_so : new ≡ next → LeavesSame new next
-  left_so same = record {
-    activity = λ who. ap (λ (x : Machine). x.activity who) same;
-    latches = λ who page. ap (λ (x : Machine). mode_at x.latches who page) same;
-    jobs = ap (λ (x : Machine). x.jobs) same;
-    order = ap (λ (x : Machine). x.order) same;
-    files = ap (λ (x : Machine). x.files) same;
-  }
+  abbrev Brought : StoreState → Deed → Type 0
+  Brought f d = Brings m.files (λ id. IsWantedPage (wanted_by m actor) id ⊎ (IsTrue (takes_number d.op) × IsFreeHead m.store id)) m.store f
 
-  left_both : (f g : StoreState) (d e : Deed) → d ≡ e → latches_held new.store e.next ≡ latches_held next.store e.next → Performs m f actor d outcome new → Performs m g actor e other next → LeavesSame new next
-  left_both f g d e same held first second = record {
-    activity = λ who. first.activity who ∙ ap (λ (d : Deed). with_activity actor d.next m.activity who) same ∙ sym (second.activity who);
-    latches = λ who page. elim (cases_eq who actor) [
-      | inl is ↦ subst (λ (w : ℕ). mode_at new.latches w page ≡ mode_at next.latches w page) (sym is)
-          (first.latches.own page ∙ ap (λ (d : Deed). mode_among page (latches_held new.store d.next)) same ∙ ap (mode_among page) held ∙ sym (second.latches.own page))
-      | inr another ↦ first.latches.others who page another ∙ sym (second.latches.others who page another)
-    ];
-    jobs = one_queue e.adds e.left new.jobs next.jobs (subst (λ (d : Deed). AddsJobs d.adds d.left new.jobs) same first.jobs) second.jobs;
-    order = first.order ∙ ap (λ (d : Deed). m.order ++ if_some d.joins) same ∙ sym second.order;
-    files = first.files ∙ ap (λ (d : Deed). files_after d.op m.files) same ∙ sym second.files;
-  }
-
-  left_rows : (files : Files) → m.files ≡ Some files → HoldsPagesOfFile m → KnowsRoom m → DoesRow m actor outcome new → DoesRow m actor other next → LeavesSame new next
-  left_rows files tells inside knows a b =
+  one_by_rows : (files : Files) → m.files ≡ Some files → HoldsPagesOfFile m → KnowsRoom m → DoesRow m actor outcome new → DoesRow m actor other next → new ≡ next
+  one_by_rows files tells inside knows a b =
       let same = one_deed m files tells _ _ a.fetched b.fetched a.brings b.brings actor a.deed b.deed inside knows a.row b.row in
-      let held = same_held a.fetched b.fetched a.deed b.deed same (agree m files tells _ _ a.fetched b.fetched a.brings b.brings) a.performs.store b.performs.store
-      (held_after m actor _ a.deed (place_after m actor a.fetched (wanted_by m actor) a.deed a.row)) (held_after m actor _ b.deed (place_after m actor b.fetched (wanted_by m actor) b.deed b.row)) in
-      left_both a.fetched b.fetched a.deed b.deed same held a.performs b.performs
+      let brings : Brought a.fetched b.deed = subst (Brought a.fetched) same a.brings in
+      let row : Row (m.activity actor) (wanted_by m actor) (with_disk a.fetched m.files m.clock m) b.deed = subst (Row (m.activity actor) (wanted_by m actor) (with_disk a.fetched m.files m.clock m)) same a.row in
+      let there = same_memory m actor a.fetched b.fetched b.deed brings b.brings row b.row (agree m files tells _ _ a.fetched b.fetched a.brings b.brings) in
+      let fetched : a.fetched ≡ b.fetched = one_fetch m.store a.fetched b.fetched a.brings.rest b.brings.rest there in
+      one_performed m b.fetched actor b.deed outcome other new next
+      (subst (λ (st : StoreState). Performs m st actor b.deed outcome new) fetched (subst (λ (d : Deed). Performs m a.fetched actor d outcome new) same a.performs)) b.performs
 
 pub state_is_one : StateIsOne
 state_is_one m files actor outcome other new next tells inside knows first second =
-    both_steps m actor outcome other new next (IsTurnedAside m actor outcome new ⊎ IsTurnedAside m actor other next ⊎ LeavesSame new next) (record {
+    both_steps m actor outcome other new next (IsTurnedAside m actor outcome new ⊎ IsTurnedAside m actor other next ⊎ (new ≡ next)) (record {
       first_aside = λ aside. inl aside;
       second_aside = λ aside. inr (inl aside);
-      same = λ says is. inr (inr (left_so m actor outcome other new next is));
-      deeds = λ d e is walk a b. inr (inr (left_both m actor outcome other new next m.store m.store d e is (none_held new.store next.store e.next (ap (λ (d : Deed). walk_held d.next) (sym is) ∙ walk)) a b));
-      rows = λ a b. inr (inr (left_rows m actor outcome other new next files tells inside knows a b));
+      same = λ says is. inr (inr is);
+      deeds = λ d e is walk a b. inr (inr (one_by_deed m actor outcome other new next d e is a b));
+      rows = λ a b. inr (inr (one_by_rows m actor outcome other new next files tells inside knows a b));
     }) first second

@@ -1,5 +1,5 @@
 -- Two steps of one actor from one machine go the same way, unless one was turned aside.
-use Rattle.std.proofs.Common.{ap, ◌≡◌, ◌≢◌, ◌⊎◌, inl, inr, ℕ, ◌++◌, List, ◌∷◌, All, Option, Some, None, IfSome, IsSomeAnd, IsTrue, refl, sym, ◌∙◌, subst, arith}
+use Rattle.std.proofs.Common.{ap, ◌≡◌, ◌≢◌, ◌⊎◌, inl, inr, ℕ, ◌++◌, Bool, true, false, List, ◌∷◌, All, Option, Some, None, IfSome, IsSomeAnd, IsTrue, refl, sym, ◌∙◌, subst, arith}
 use Rattle.std.specs.Prelude.{MatchOption}
 use Rattle.std.specs.List.{Contains}
 use Rattle.std.proofs.lemmas.Bool.{cases_lt}
@@ -11,7 +11,7 @@ use Rattle.hb_set.specs.declared.commands.Reply.{Reply}
 use Rattle.hb_set.specs.declared.commands.Reply.TheVariants as replies
 use Rattle.hb_set.specs.declared.scripts.Line.{Line}
 use Rattle.hb_activity.specs.declared.jobs.Job.{Job}
-use Rattle.hb_activity.specs.declared.jobs.JobKind.TheVariants.{Post}
+use Rattle.hb_activity.specs.declared.jobs.JobKind.TheVariants.{Post, Merge}
 use Rattle.hb_activity.specs.declared.wanting.Wanted.{Wanted}
 use Rattle.hb_activity.specs.declared.activities.Activity.{Activity}
 use Rattle.hb_activity.specs.declared.activities.Activity.TheVariants as at
@@ -23,15 +23,17 @@ use Rattle.hb_core.specs.Acting.{Abandons, DoesRow, MeetsBadPage}
 use Rattle.hb_core.specs.Asking.{wanted_by}
 use Rattle.hb_core.specs.Deeds.{Deed, answers_now}
 use Rattle.hb_core.specs.Performing.{Performs}
-use Rattle.hb_core.specs.Forcing.{ForcesFirst, StaysSo}
+use Rattle.hb_core.specs.Stages.{flusher_steps}
+use Rattle.hb_core.specs.Forcing.{Flushes, ForcesFirst, StaysSo}
 use Rattle.hb_core.specs.SessionRows.{next_line, taking}
 use Rattle.hb_core.specs.WorkerRows.{IsPostingOf, TakesJob}
+use Rattle.hb_core.specs.ConsolidatorRows.{IsMergingOf, TakesMerging}
 use Rattle.hb_core.specs.OutcomeLaws.{IsTurnedAside}
-use Rattle.hb_core.specs.Steps.{AwaitsPlace, GetsReady, StepsAs, StepsTo, TakesPosting, WantsBoxes, Works}
+use Rattle.hb_core.specs.Steps.{AwaitsPlace, GetsReady, StepsAs, StepsTo, TakesJobToMerge, TakesPosting, WantsBoxes, Works}
 use Rattle.hb_activity.specs.Walks.{walk_held}
 use Rattle.hb_core.specs.GivingUp.{runs_out}
 use Rattle.hb_core.proofs.NextPlaces.{nothing_run_out}
-use Rattle.hb_core.proofs.OnePiece.{one_job}
+use Rattle.hb_core.proofs.OnePiece.{one_job, one_merging}
 
 -- ---- the least actor in the way is one, and where one is the way isn't free
 
@@ -59,6 +61,10 @@ posting_holds_nothing : (job : Job) (height : ℕ) (next : Activity) → IsPosti
 posting_holds_nothing job height next (inl (above, is)) = ap walk_held is
 posting_holds_nothing job height next (inr (inl (same, is))) = ap walk_held is
 posting_holds_nothing job height next (inr (inr (below, is))) = ap walk_held is
+
+merging_holds_nothing : (job : Job) (height : ℕ) (next : Activity) → IsMergingOf job height next → walk_held next ≡ None
+merging_holds_nothing job height next (inl (above, is)) = ap walk_held is
+merging_holds_nothing job height next (inr (below, is)) = ap walk_held is
 
 -- What is to be shown of two steps.
 pub record ShowsBoth (m : Machine) (actor : ℕ) (outcome other : Outcome) (new next : Machine) (G : Type 0) : Type 0 where
@@ -128,6 +134,25 @@ module _ (m : Machine) (actor : ℕ) (outcome other : Outcome) (new next : Machi
   both_post (inr (deed, takes, first)) (inl (none, second)) = absurd (no_posting deed none takes)
   both_post (inr (d, takes, first)) (inr (e, again, second)) = shows.deeds d e (one_job m d e takes again) (ap (λ (x : Deed). walk_held x.next) takes.deed_is ∙ posting_holds_nothing takes.job m.store.meta.height takes.next takes.posting) first second
 
+  no_merging : (deed : Deed) → All (λ (job : Job). job.kind ≢ Merge) m.jobs → TakesMerging m deed → ⊥
+  no_merging deed none takes =
+      let oldest = takes.oldest in
+      let among : Contains (oldest.front ++ takes.job ∷ oldest.behind) takes.job = Contains-append_right oldest.front (takes.job ∷ oldest.behind) takes.job (Contains-get_or (takes.job ∷ oldest.behind) 0 takes.job (omega arith)) in
+      All-contains (λ (job : Job). job.kind ≢ Merge) m.jobs takes.job none (subst (λ (jobs : List Job). Contains jobs takes.job) (sym oldest.whole) among) oldest.of_kind
+
+  both_merge : TakesJobToMerge m actor outcome new → TakesJobToMerge m actor other next → G
+  both_merge (inl (none, first)) (inl (none', second)) = both_stay outcomes.Idle first second
+  both_merge (inl (none, first)) (inr (deed, takes, second)) = absurd (no_merging deed none takes)
+  both_merge (inr (deed, takes, first)) (inl (none, second)) = absurd (no_merging deed none takes)
+  both_merge (inr (d, takes, first)) (inr (e, again, second)) = shows.deeds d e (one_merging m d e takes again) (ap (λ (x : Deed). walk_held x.next) takes.deed_is ∙ merging_holds_nothing takes.job m.store.meta.height takes.next takes.merging) first second
+
+  both_flush : (on : Bool) → Flushes on m outcome new → Flushes on m other next → G
+  both_flush false first second = both_stay outcomes.Idle first second
+  both_flush true (inl (waits, first)) (inl (again, second)) = both_force outcomes.Moved first second
+  both_flush true (inl (waits, first)) (inr (none, second)) = absurd (waits none)
+  both_flush true (inr (none, first)) (inl (waits, second)) = absurd (waits none)
+  both_flush true (inr (none, first)) (inr (again, second)) = both_stay outcomes.Idle first second
+
   both_await : (number : ℕ) (reply : Reply) (place : ℕ) → AwaitsPlace m actor number reply place outcome new → AwaitsPlace m actor number reply place other next → G
   both_await number reply place (inl (lt, first)) (inl (lt', second)) = shows.deeds (answers_now m number reply) (answers_now m number reply) refl refl first second
   both_await number reply place (inl (lt, first)) (inr (ge, second)) = absurd (omega (arith, lt, ge))
@@ -138,8 +163,8 @@ module _ (m : Machine) (actor : ℕ) (outcome other : Outcome) (new next : Machi
   both_step at.SessionIdle is first second = both_take (next_line actor m.answered m.lines) is refl first second
   both_step (at.SessionAwait number reply place) is first second = both_await number reply place first second
   both_step at.PosterIdle is first second = both_post first second
-  both_step at.ConsolidatorIdle is first second = both_stay outcomes.Idle first second
-  both_step at.Flusher is first second = both_stay outcomes.Idle first second
+  both_step at.ConsolidatorIdle is first second = both_merge first second
+  both_step at.Flusher is first second = both_flush flusher_steps first second
   both_step (at.SessionWalk line held rest found) is first second = both_work first second
   both_step (at.SessionSplit line held) is first second = both_work first second
   both_step (at.SessionPut line source fresh) is first second = both_work first second

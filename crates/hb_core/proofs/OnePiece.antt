@@ -29,6 +29,7 @@ use Rattle.hb_core.specs.declared.outcomes.Outcome.TheVariants as outcomes
 use Rattle.hb_core.specs.Machines.{Machine}
 use Rattle.hb_core.specs.Deeds.{AddsJob, AddsJobs, Deed}
 use Rattle.hb_core.specs.WorkerRows.{IsPostingOf, TakesJob}
+use Rattle.hb_core.specs.ConsolidatorRows.{IsMergingOf, TakesMerging}
 
 -- ---- the oldest job of its kind, and what its poster does next
 
@@ -63,6 +64,21 @@ one_job m d e first second =
     let b = second.oldest in
     let same = same_front _ a.front b.front a.behind b.behind first.job second.job (sym a.whole ∙ b.whole) a.of_kind b.of_kind a.first b.first in
     let next = one_posting second.job m.store.meta.height first.next second.next (subst (λ (j : Job). IsPostingOf j m.store.meta.height first.next) same.0 first.posting) second.posting in
+    let left : first.left ≡ second.left = a.rest ∙ same.1 ∙ sym b.rest in
+    first.deed_is ∙ ap (λ (n : Activity). taking_with n first.left) next ∙ ap (λ (l : List Job). taking_with second.next l) left ∙ sym second.deed_is
+
+one_merging_of : (job : Job) (height : ℕ) (next other : Activity) → IsMergingOf job height next → IsMergingOf job height other → next ≡ other
+one_merging_of job height next other (inl (a, is)) (inl (b, same)) = is ∙ sym same
+one_merging_of job height next other (inr (a, is)) (inr (b, same)) = is ∙ sym same
+one_merging_of job height next other (inl (a, is)) (inr (b, same)) = absurd (omega (arith, a, b))
+one_merging_of job height next other (inr (a, is)) (inl (b, same)) = absurd (omega (arith, a, b))
+
+pub one_merging : (m : Machine) (d e : Deed) → TakesMerging m d → TakesMerging m e → d ≡ e
+one_merging m d e first second =
+    let a = first.oldest in
+    let b = second.oldest in
+    let same = same_front _ a.front b.front a.behind b.behind first.job second.job (sym a.whole ∙ b.whole) a.of_kind b.of_kind a.first b.first in
+    let next = one_merging_of second.job m.store.meta.height first.next second.next (subst (λ (j : Job). IsMergingOf j m.store.meta.height first.next) same.0 first.merging) second.merging in
     let left : first.left ≡ second.left = a.rest ∙ same.1 ∙ sym b.rest in
     first.deed_is ∙ ap (λ (n : Activity). taking_with n first.left) next ∙ ap (λ (l : List Job). taking_with second.next l) left ∙ sym second.deed_is
 

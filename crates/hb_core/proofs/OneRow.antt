@@ -40,6 +40,8 @@ use Rattle.hb_core.specs.SessionRows.{DoesThere, IsPointer, PassesOn, merges_due
 use Rattle.hb_core.specs.SplitRows.{PartLeavesTo, Puts, Splits, corner_of}
 use Rattle.hb_core.specs.WorkerRows.{Arrives, DoesPlan, GrowsFile, GrowsNot, LooksAgain, LooksAtChild, MayGrow, PosterPasses, after_look}
 use Rattle.hb_core.specs.Rows.{Row, RowAlone, RowAt}
+use Rattle.hb_core.specs.ConsolidatorRows.{ArrivesToMerge, ConsolidatorPasses, children_of, first_one}
+use Rattle.hb_core.proofs.OneMerge.{one_decision, one_keep, one_scan, one_try, same_scan}
 use Rattle.hb_core.proofs.Backing.{live_there}
 use Rattle.hb_core.proofs.OneOrder.{leaf_rises, not_lacking, one_of_point, one_order}
 use Rattle.hb_core.proofs.OnePiece.{one_choice, one_next, one_plan}
@@ -268,6 +270,14 @@ module _ (m : Machine) (f g : StoreState) (meta : f.meta ≡ g.meta) (agree : (i
   one_way job id page d e (inr a) (inl b) = absurd (a.farther b.level (b.child, b.area, b.leaf))
   one_way job id page d e (inr a) (inr b) = one_pass page job.point (at.PosterWalk job (Some id)) d e a.passes b.passes
 
+  -- ---- the walk of a consolidator
+
+  one_arrival : (job : Job) (id : ℕ) (page : LivePage) (d e : Deed) → ArrivesToMerge m1 job id page d ⊎ ConsolidatorPasses m1 job id page d → ArrivesToMerge m2 job id page e ⊎ ConsolidatorPasses m2 job id page e → d ≡ e
+  one_arrival job id page d e (inl a) (inl b) = a.deed_is ∙ same_scan m f g job id (first_one (children_of page)) ∙ sym b.deed_is
+  one_arrival job id page d e (inl a) (inr b) = absurd (b.farther a.level a.leads)
+  one_arrival job id page d e (inr a) (inl b) = absurd (a.farther b.level b.leads)
+  one_arrival job id page d e (inr a) (inr b) = one_pass page job.point (at.ConsolidatorWalk job (Some id)) d e a.passes b.passes
+
   -- ---- each row
 
   one_at : (activity : Activity) (id : ℕ) (page : LivePage) (d e : Deed) → AreInOrder page → RowAt activity m1 id page d → RowAt activity m2 id page e → d ≡ e
@@ -283,12 +293,12 @@ module _ (m : Machine) (f g : StoreState) (meta : f.meta ≡ g.meta) (agree : (i
   one_at (at.SessionAwait line reply place) id page d e order a b = absurd a
   one_at at.PosterIdle id page d e order a b = absurd a
   one_at at.ConsolidatorIdle id page d e order a b = absurd a
-  one_at (at.ConsolidatorWalk job held) id page d e order a b = absurd a
-  one_at (at.ConsolidatorScan job parent child) id page d e order a b = absurd a
-  one_at (at.ConsolidatorTry job parent keep gone leaf) id page d e order a b = absurd a
-  one_at (at.ConsolidatorPromote job parent keep gone) id page d e order a b = absurd a
-  one_at (at.ConsolidatorKeep job parent keep gone) id page d e order a b = absurd a
-  one_at (at.ConsolidatorDecide job parent keep gone) id page d e order a b = absurd a
+  one_at (at.ConsolidatorWalk job held) id page d e order a b = one_arrival job id page d e a b
+  one_at (at.ConsolidatorScan job parent child) id page d e order a b = one_scan m f g meta agree_live job parent child page d e a b
+  one_at (at.ConsolidatorTry job parent keep gone leaf) id page d e order a b = one_try m f g meta agree_live job parent keep gone leaf page d e a b
+  one_at (at.ConsolidatorPromote job parent keep gone) id page d e order a b = a ∙ sym b
+  one_at (at.ConsolidatorKeep job parent keep gone) id page d e order a b = one_keep m f g meta agree_live job parent keep gone page d e a b
+  one_at (at.ConsolidatorDecide job parent keep gone) id page d e order a b = one_decision m f g meta agree_live job parent keep gone page d e a b
   one_at at.Flusher id page d e order a b = absurd a
 
   abbrev PutsAgree : Activity → Type 0

@@ -17,6 +17,7 @@ use Rattle.hb_core.specs.Deeds.{Deed}
 use Rattle.hb_core.specs.Performing.{Performs, given_by}
 use Rattle.hb_core.specs.KeptOrder.{StandsInOrder, StandsOutside}
 use Rattle.hb_core.specs.Steps.{StepsTo, Works}
+use Rattle.hb_core.specs.ConsolidatorRows.{IsMergingOf, TakesMerging}
 use Rattle.hb_core.specs.WorkerRows.{IsPostingOf, TakesJob}
 use Rattle.hb_core.proofs.LineFates.{LineFate, Waits, fate_given_up, fate_ran_out, fate_row}
 use Rattle.hb_core.proofs.StepCases.{each_step}
@@ -133,6 +134,13 @@ module _ (m : Machine) (actor : ℕ) (outcome : Outcome) (new : Machine) (keeps 
       by next (inr (inl (same, is))) waits = subst Waits is waits
       by next (inr (inr (below, is))) waits = subst Waits is waits
 
+  merges_wait_never : (deed : Deed) → TakesMerging m deed → Waits deed.next → ⊥
+  merges_wait_never deed takes waits = by takes.next takes.merging (subst (λ (d : Deed). Waits d.next) takes.deed_is waits)
+    where
+      by : (next : Activity) → IsMergingOf takes.job m.store.meta.height next → Waits next → ⊥
+      by next (inl (above, is)) waits = subst Waits is waits
+      by next (inr (below, is)) waits = subst Waits is waits
+
   pub replies_kept : StepsTo m actor outcome new → KeepsReplies new
   replies_kept step = each_step m actor outcome new (KeepsReplies new) (record {
     stays = λ said so. stays (stays_so m actor outcome new said so);
@@ -140,6 +148,7 @@ module _ (m : Machine) (actor : ℕ) (outcome : Outcome) (new : Machine) (keeps 
     takes = λ line idle next performs. quiet m.store _ performs refl (λ never. never);
     refuses = λ line idle next performs. answered m.store _ line.number replies.NoMemory performs refl refl (inl tt);
     posts = λ deed idle takes performs. quiet m.store deed performs (ap (λ (d : Deed). given_by d.says m.clock) takes.deed_is) (posts_wait_never deed takes);
+    merges = λ deed idle takes performs. quiet m.store deed performs (ap (λ (d : Deed). given_by d.says m.clock) takes.deed_is) (merges_wait_never deed takes);
     settles = λ number place reply is settled performs. answered m.store _ number reply performs refl refl (inr (place, stands_more [] performs.order number place reply (keeps.awaits actor number place reply is)));
     works = λ none works. worked works;
   }) step

@@ -41,6 +41,7 @@ use Rattle.hb_core.specs.WorkerRows.{DoesPlan, after_look}
 use Rattle.hb_core.specs.Rows.{Row, RowAlone, RowAt}
 use Rattle.hb_core.specs.Keeps.{HoldsPagesOfFile, LatchesFit}
 use Rattle.hb_core.specs.Laws.{HasAlone, IsInUse}
+use Rattle.hb_core.proofs.MergerMoves.{merger_moves}
 use Rattle.hb_core.proofs.Targets.{IsTarget}
 
 -- Each page that an operation changes the actor has for itself, or it was in no use.
@@ -247,12 +248,12 @@ module _ (m : Machine) (actor : ℕ) (may : ℕ → Type 0) (fetched : StoreStat
   owned_at (at.SessionAwait line reply place) wanted page deed is wants live level allowed row = absurd row
   owned_at at.PosterIdle wanted page deed is wants live level allowed row = absurd row
   owned_at at.ConsolidatorIdle wanted page deed is wants live level allowed row = absurd row
-  owned_at (at.ConsolidatorWalk job held) wanted page deed is wants live level allowed row = absurd row
-  owned_at (at.ConsolidatorScan job parent child) wanted page deed is wants live level allowed row = absurd row
-  owned_at (at.ConsolidatorTry job parent keep gone leaf) wanted page deed is wants live level allowed row = absurd row
-  owned_at (at.ConsolidatorPromote job parent keep gone) wanted page deed is wants live level allowed row = absurd row
-  owned_at (at.ConsolidatorKeep job parent keep gone) wanted page deed is wants live level allowed row = absurd row
-  owned_at (at.ConsolidatorDecide job parent keep gone) wanted page deed is wants live level allowed row = absurd row
+  owned_at (at.ConsolidatorWalk job held) wanted page deed is wants live level allowed row = owned_deed m actor deed _ (merger_moves m' (at.ConsolidatorWalk job held) wanted.page page deed tt row).is tt
+  owned_at (at.ConsolidatorScan job parent child) wanted page deed is wants live level allowed row = owned_deed m actor deed _ (merger_moves m' (at.ConsolidatorScan job parent child) wanted.page page deed tt row).is tt
+  owned_at (at.ConsolidatorTry job parent keep gone leaf) wanted page deed is wants live level allowed row = owned_deed m actor deed _ (merger_moves m' (at.ConsolidatorTry job parent keep gone leaf) wanted.page page deed tt row).is tt
+  owned_at (at.ConsolidatorPromote job parent keep gone) wanted page deed is wants live level allowed row = owned_deed m actor deed _ (merger_moves m' (at.ConsolidatorPromote job parent keep gone) wanted.page page deed tt row).is tt
+  owned_at (at.ConsolidatorKeep job parent keep gone) wanted page deed is wants live level allowed row = owned_deed m actor deed _ (merger_moves m' (at.ConsolidatorKeep job parent keep gone) wanted.page page deed tt row).is tt
+  owned_at (at.ConsolidatorDecide job parent keep gone) wanted page deed is wants live level allowed row = owned_deed m actor deed _ (merger_moves m' (at.ConsolidatorDecide job parent keep gone) wanted.page page deed tt row).is tt
   owned_at at.Flusher wanted page deed is wants live level allowed row = absurd row
 
   pub owned_row : (wanted : Option Wanted) (deed : Deed) → wanted_by m actor ≡ wanted → Allowed fetched deed.op → Row (m.activity actor) wanted m' deed → OwnsTargets m actor deed.op

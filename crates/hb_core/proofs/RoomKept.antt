@@ -35,6 +35,7 @@ use Rattle.hb_core.specs.Forcing.{ForcesFirst, StaysSo}
 use Rattle.hb_core.specs.Fetching.{Brings}
 use Rattle.hb_core.specs.Performing.{MayDo, Performs, latches_held}
 use Rattle.hb_core.specs.Steps.{StepsTo, Works}
+use Rattle.hb_core.specs.KeptLines.{line_in_hand}
 use Rattle.hb_core.specs.Keeps.{HasNobodyElse, HasRoomFor, HasSoundFile, HoldsPagesOfFile, KnowsRoom, LacksRoomFor, LatchesFit, OneHasRoom}
 use Rattle.hb_core.specs.KeepingLaws.{RoomStaysKnown}
 use Rattle.hb_core.proofs.Backing.{live_there}
@@ -166,6 +167,13 @@ free_knows m activity free = knows_none m activity (λ held line is. some held [
     some : (id : ℕ) (rest : List Latch) → latch_on id Exclusive ∷ rest ≡ [] → ⊥
     some id rest is = cc
 
+-- an actor that has no line in hand splits nothing
+handless_knows : (m : Machine) (activity : Activity) → line_in_hand activity ≡ None → KnowsOf m activity
+handless_knows m activity none = knows_none m activity (λ held line is. some line (sym none ∙ ap line_in_hand is)) (λ source fresh line is. some line (sym none ∙ ap line_in_hand is))
+  where
+    some : (line : Line) → None ≡ Some line → ⊥
+    some line is = cc
+
 walk_knows : (m : Machine) (activity : Activity) (id : ℕ) → walk_held activity ≡ Some id → KnowsOf m activity
 walk_knows m activity id walks = knows_none m activity (λ held line is. none-some id (sym (ap walk_held is) ∙ walks)) (λ source fresh line is. none-some id (sym (ap walk_held is) ∙ walks))
 
@@ -236,7 +244,8 @@ module _ (laws : RoomLaws) (least : DCAP_MIN ≡ 6) (m : Machine) (files : Files
   knows_there (inr (inr (inl full))) = knows_as new deed.next _ (ap (λ (d : Deed). d.next) full.row.deed_is) (split_knows new full.line full.id (full_known full))
   knows_there (inr (inr (inr (inl takes)))) = knows_as new deed.next _ (ap (λ (d : Deed). d.next) takes.row.deed_is) (child_knows new takes.job takes.id)
   knows_there (inr (inr (inr (inr (inl keeps))))) = kept_parent_knows keeps
-  knows_there (inr (inr (inr (inr (inr parts))))) =
+  knows_there (inr (inr (inr (inr (inr (inr merges)))))) = handless_knows new deed.next (ap (λ (d : Deed). line_in_hand d.next) merges.stays.moves.is ∙ merges.stays.moves.hand)
+  knows_there (inr (inr (inr (inr (inr (inl parts)))))) =
       knows_as new deed.next _ (ap (λ (d : Deed). d.next) parts.row.deed_is) (put_knows new parts.line parts.held parts.row.leaves.fresh (parted_known parts (knows.splits actor parts.held parts.line parts.before)))
 
 -- ---- each step
@@ -271,7 +280,7 @@ module _ (laws : RoomLaws) (least : DCAP_MIN ≡ 6) (m : Machine) (files : Files
   others_know : (other : ℕ) → other ≢ actor → new.activity other ≡ m.activity other → KnowsOf new (new.activity other)
   others_know other another same = knows_as new (new.activity other) (m.activity other) same (elim (may_or_not other) [
     | inl may ↦ other_knows other another may
-    | inr none ↦ knows_as new (m.activity other) at.SessionIdle (nobody other none) (free_knows new at.SessionIdle (record { walk = refl; latches = λ st. refl }))
+    | inr none ↦ knows_as new (m.activity other) at.SessionIdle (nobody other none) (free_knows new at.SessionIdle (record { walk = refl; latches = λ st. refl; merging = refl }))
   ])
 
   with_own : KnowsOf new (new.activity actor) → ((other : ℕ) → other ≢ actor → new.activity other ≡ m.activity other) → KnowsRoom new
@@ -306,7 +315,7 @@ module _ (laws : RoomLaws) (least : DCAP_MIN ≡ 6) (m : Machine) (files : Files
   worked (inr (inl (free, unready, inr (none, performs)))) = freed m.store _ performs (nothing_run_out m (m.activity actor))
   worked (inr (inr (free, ready, inl acts))) =
       did acts.fetched acts.deed acts.performs
-      (knows_there laws least m files actor _ acts.fetched told inside sound knows acts.brings acts.deed new capacity acts.performs.store (place_after m actor acts.fetched _ acts.deed acts.row))
+      (knows_there laws least m files actor _ acts.fetched told inside sound knows acts.brings acts.deed new capacity acts.performs.store (place_after m actor acts.fetched _ acts.deed refl acts.row))
   worked (inr (inr (free, ready, inr (inl gives)))) = freed gives.fetched _ gives.performs (nothing_given_up m gives.why (m.activity actor))
   worked (inr (inr (free, ready, inr (inr meets)))) = same_but_disk (meets_so m actor outcome new meets)
 
@@ -315,6 +324,6 @@ room_stays_known laws least m files actor outcome new latches told fit inside so
     each_kind m actor outcome new (KnowsRoom new)
     (λ said quiet so. same_but_disk laws least m files actor outcome new latches told fit inside sound nobody knows step (stays_so m actor outcome new said so))
     (λ said quiet force. same_but_disk laws least m files actor outcome new latches told fit inside sound nobody knows step (forces_so m actor outcome new said force))
-    (λ deed outright performs. freed laws least m files actor outcome new latches told fit inside sound nobody knows step m.store deed performs (record { walk = outright.walk; latches = outright.latches }))
+    (λ deed outright performs. freed laws least m files actor outcome new latches told fit inside sound nobody knows step m.store deed performs (record { walk = outright.walk; latches = outright.latches; merging = outright.merging }))
     (worked laws least m files actor outcome new latches told fit inside sound nobody knows step)
     step

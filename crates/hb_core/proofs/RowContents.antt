@@ -42,6 +42,7 @@ use Rattle.hb_core.proofs.Backing.{live_there}
 use Rattle.hb_core.proofs.FileOps.{ShowsFile}
 use Rattle.hb_core.proofs.FitOps.{HeldArePoints, as_many, point_there}
 use Rattle.hb_core.proofs.KeptPages.{KeepsPages}
+use Rattle.hb_core.proofs.MergerMoves.{merger_moves}
 
 -- what an operation does to the contents
 abbrev pub Becomes : RecordSet → RecordSet → Option Op → Type 0
@@ -210,12 +211,12 @@ module _ (points : HeldArePoints) (standing : StandingIsContents) (lacking : Lac
   joins_at (at.SessionAwait line reply place) id page deed live becomes row = absurd row
   joins_at at.PosterIdle id page deed live becomes row = absurd row
   joins_at at.ConsolidatorIdle id page deed live becomes row = absurd row
-  joins_at (at.ConsolidatorWalk job held) id page deed live becomes row = absurd row
-  joins_at (at.ConsolidatorScan job parent child) id page deed live becomes row = absurd row
-  joins_at (at.ConsolidatorTry job parent keep gone leaf) id page deed live becomes row = absurd row
-  joins_at (at.ConsolidatorPromote job parent keep gone) id page deed live becomes row = absurd row
-  joins_at (at.ConsolidatorKeep job parent keep gone) id page deed live becomes row = absurd row
-  joins_at (at.ConsolidatorDecide job parent keep gone) id page deed live becomes row = absurd row
+  joins_at (at.ConsolidatorWalk job held) id page deed live becomes row = effect _ deed _ (merger_moves m' (at.ConsolidatorWalk job held) id page deed tt row).is becomes (λ stays. stays)
+  joins_at (at.ConsolidatorScan job parent child) id page deed live becomes row = effect _ deed _ (merger_moves m' (at.ConsolidatorScan job parent child) id page deed tt row).is becomes (λ stays. stays)
+  joins_at (at.ConsolidatorTry job parent keep gone leaf) id page deed live becomes row = effect _ deed _ (merger_moves m' (at.ConsolidatorTry job parent keep gone leaf) id page deed tt row).is becomes (λ stays. stays)
+  joins_at (at.ConsolidatorPromote job parent keep gone) id page deed live becomes row = effect _ deed _ (merger_moves m' (at.ConsolidatorPromote job parent keep gone) id page deed tt row).is becomes (λ stays. stays)
+  joins_at (at.ConsolidatorKeep job parent keep gone) id page deed live becomes row = effect _ deed _ (merger_moves m' (at.ConsolidatorKeep job parent keep gone) id page deed tt row).is becomes (λ stays. stays)
+  joins_at (at.ConsolidatorDecide job parent keep gone) id page deed live becomes row = effect _ deed _ (merger_moves m' (at.ConsolidatorDecide job parent keep gone) id page deed tt row).is becomes (λ stays. stays)
   joins_at at.Flusher id page deed live becomes row = absurd row
 
   pub joins_row : (activity : Activity) (wanted : Option Wanted) (deed : Deed) → Becomes (contents_of s) after deed.op → Row activity wanted m' deed → Joins activity deed

@@ -23,6 +23,7 @@ use Rattle.hb_core.specs.SearchRows.{SearchGoesOn}
 use Rattle.hb_core.specs.SessionRows.{DoesThere, PassesOn}
 use Rattle.hb_core.specs.WorkerRows.{DoesPlan, after_look}
 use Rattle.hb_core.specs.Rows.{Row, RowAlone, RowAt}
+use Rattle.hb_core.proofs.MergerMoves.{merger_moves}
 
 -- it says that its actor moved on
 abbrev Moves : Deed → Type 0
@@ -78,12 +79,12 @@ module _ (m : Machine) where
   at_moves (at.SessionAwait line reply place) id page deed row = absurd row
   at_moves at.PosterIdle id page deed row = absurd row
   at_moves at.ConsolidatorIdle id page deed row = absurd row
-  at_moves (at.ConsolidatorWalk job held) id page deed row = absurd row
-  at_moves (at.ConsolidatorScan job parent child) id page deed row = absurd row
-  at_moves (at.ConsolidatorTry job parent keep gone leaf) id page deed row = absurd row
-  at_moves (at.ConsolidatorPromote job parent keep gone) id page deed row = absurd row
-  at_moves (at.ConsolidatorKeep job parent keep gone) id page deed row = absurd row
-  at_moves (at.ConsolidatorDecide job parent keep gone) id page deed row = absurd row
+  at_moves (at.ConsolidatorWalk job held) id page deed row = moves_as deed _ (merger_moves m (at.ConsolidatorWalk job held) id page deed tt row).is refl
+  at_moves (at.ConsolidatorScan job parent child) id page deed row = moves_as deed _ (merger_moves m (at.ConsolidatorScan job parent child) id page deed tt row).is refl
+  at_moves (at.ConsolidatorTry job parent keep gone leaf) id page deed row = moves_as deed _ (merger_moves m (at.ConsolidatorTry job parent keep gone leaf) id page deed tt row).is refl
+  at_moves (at.ConsolidatorPromote job parent keep gone) id page deed row = moves_as deed _ (merger_moves m (at.ConsolidatorPromote job parent keep gone) id page deed tt row).is refl
+  at_moves (at.ConsolidatorKeep job parent keep gone) id page deed row = moves_as deed _ (merger_moves m (at.ConsolidatorKeep job parent keep gone) id page deed tt row).is refl
+  at_moves (at.ConsolidatorDecide job parent keep gone) id page deed row = moves_as deed _ (merger_moves m (at.ConsolidatorDecide job parent keep gone) id page deed tt row).is refl
   at_moves at.Flusher id page deed row = absurd row
 
 module _ (m : Machine) (first second : StoreState) (one : first.meta ≡ m.store.meta) (two : second.meta ≡ m.store.meta) where

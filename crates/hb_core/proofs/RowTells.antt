@@ -39,6 +39,7 @@ use Rattle.hb_core.specs.SearchRows.{SearchGoesOn}
 use Rattle.hb_core.specs.SessionRows.{DoesThere, PassesOn}
 use Rattle.hb_core.specs.WorkerRows.{DoesPlan, after_look}
 use Rattle.hb_core.specs.Rows.{Row, RowAlone, RowAt}
+use Rattle.hb_core.proofs.MergerMoves.{merger_moves}
 use Rattle.hb_core.proofs.Backing.{live_there}
 
 -- A posting by a plan: the parent and its child are in memory and in use, and at the job's point the parent's leaf names
@@ -201,12 +202,12 @@ module _ (m : Machine) (actor : ℕ) (may : ℕ → Type 0) (fetched : StoreStat
   tells_at (at.SessionAwait line reply place) wanted page deed wants live body row = absurd row
   tells_at at.PosterIdle wanted page deed wants live body row = absurd row
   tells_at at.ConsolidatorIdle wanted page deed wants live body row = absurd row
-  tells_at (at.ConsolidatorWalk job held) wanted page deed wants live body row = absurd row
-  tells_at (at.ConsolidatorScan job parent child) wanted page deed wants live body row = absurd row
-  tells_at (at.ConsolidatorTry job parent keep gone leaf) wanted page deed wants live body row = absurd row
-  tells_at (at.ConsolidatorPromote job parent keep gone) wanted page deed wants live body row = absurd row
-  tells_at (at.ConsolidatorKeep job parent keep gone) wanted page deed wants live body row = absurd row
-  tells_at (at.ConsolidatorDecide job parent keep gone) wanted page deed wants live body row = absurd row
+  tells_at (at.ConsolidatorWalk job held) wanted page deed wants live body row = tells_of fetched deed _ (merger_moves m' (at.ConsolidatorWalk job held) wanted.page page deed tt row).is tt
+  tells_at (at.ConsolidatorScan job parent child) wanted page deed wants live body row = tells_of fetched deed _ (merger_moves m' (at.ConsolidatorScan job parent child) wanted.page page deed tt row).is tt
+  tells_at (at.ConsolidatorTry job parent keep gone leaf) wanted page deed wants live body row = tells_of fetched deed _ (merger_moves m' (at.ConsolidatorTry job parent keep gone leaf) wanted.page page deed tt row).is tt
+  tells_at (at.ConsolidatorPromote job parent keep gone) wanted page deed wants live body row = tells_of fetched deed _ (merger_moves m' (at.ConsolidatorPromote job parent keep gone) wanted.page page deed tt row).is tt
+  tells_at (at.ConsolidatorKeep job parent keep gone) wanted page deed wants live body row = tells_of fetched deed _ (merger_moves m' (at.ConsolidatorKeep job parent keep gone) wanted.page page deed tt row).is tt
+  tells_at (at.ConsolidatorDecide job parent keep gone) wanted page deed wants live body row = tells_of fetched deed _ (merger_moves m' (at.ConsolidatorDecide job parent keep gone) wanted.page page deed tt row).is tt
   tells_at at.Flusher wanted page deed wants live body row = absurd row
 
   pub tells_row : (wanted : Option Wanted) (deed : Deed) → wanted_by m actor ≡ wanted → IfSome (line_in_hand (m.activity actor)) HasLineBody → Row (m.activity actor) wanted m' deed → Told deed

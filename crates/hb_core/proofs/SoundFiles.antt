@@ -64,11 +64,13 @@ keeps_marks m files has =
     let rooted = sound.rooted in
     let high : (current_file files).meta.high ≡ m.store.meta.high = ap (λ (m : Meta). m.high) has.meta in
     let pages : (current_file files).meta.pages ≡ m.store.meta.pages = ap (λ (m : Meta). m.pages) has.meta in
+    let live : (current_file files).meta.live ≡ m.store.meta.live = ap (λ (m : Meta). m.live) has.meta in
     let root : (current_file files).meta.root ≡ m.store.meta.root = ap (λ (m : Meta). m.root) has.meta in
     let free : (current_file files).meta.free ≡ m.store.meta.free = ap (λ (m : Meta). m.free) has.meta in
     record {
       layout = has.layout;
       high = omega (arith, rooted.high, high, pages);
+      live = omega (arith, rooted.live, rooted.high, live, high, pages);
       root = omega (arith, rooted.root, rooted.high, high, pages, root, has.layout.few_pages);
       free = omega (arith, rooted.free, rooted.high, high, pages, free, has.layout.few_pages);
     }

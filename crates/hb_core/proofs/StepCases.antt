@@ -1,5 +1,5 @@
 -- The cases of a step, with the activity of its actor and what it took.
-use Rattle.std.proofs.Common.{◌≡◌, ◌⊎◌, inl, inr, ℕ, ◌<◌, Option, Some, None, refl, sym, subst}
+use Rattle.std.proofs.Common.{◌≡◌, ◌⊎◌, inl, inr, ℕ, ◌<◌, Bool, true, false, Option, Some, None, refl, sym, subst}
 use Rattle.std.specs.Prelude.{MatchOption}
 use Rattle.hb_set.specs.declared.commands.Reply.{Reply}
 use Rattle.hb_set.specs.declared.commands.Reply.TheVariants as replies
@@ -12,10 +12,12 @@ use Rattle.hb_core.specs.declared.outcomes.Outcome.TheVariants as outcomes
 use Rattle.hb_core.specs.Machines.{Machine, settled_count}
 use Rattle.hb_core.specs.Deeds.{Deed, answers_now}
 use Rattle.hb_core.specs.Performing.{Performs}
-use Rattle.hb_core.specs.Forcing.{ForcesFirst, StaysSo}
+use Rattle.hb_core.specs.Stages.{flusher_steps}
+use Rattle.hb_core.specs.Forcing.{Flushes, ForcesFirst, StaysSo}
 use Rattle.hb_core.specs.SessionRows.{next_line, taking}
 use Rattle.hb_core.specs.WorkerRows.{TakesJob}
-use Rattle.hb_core.specs.Steps.{AwaitsPlace, StepsAs, StepsTo, TakesPosting, WantsBoxes, Works}
+use Rattle.hb_core.specs.ConsolidatorRows.{TakesMerging}
+use Rattle.hb_core.specs.Steps.{AwaitsPlace, StepsAs, StepsTo, TakesJobToMerge, TakesPosting, WantsBoxes, Works}
 use Rattle.hb_core.proofs.LineFates.{Waits}
 use Rattle.hb_core.proofs.StepKinds.{IsQuiet}
 
@@ -26,6 +28,7 @@ pub record ShowsEach (m : Machine) (actor : ℕ) (outcome : Outcome) (new : Mach
   pub takes : (line : Line) → m.activity actor ≡ at.SessionIdle → next_line actor m.answered m.lines ≡ Some line → Performs m m.store actor (taking m line) outcome new → G
   pub refuses : (line : Line) → m.activity actor ≡ at.SessionIdle → next_line actor m.answered m.lines ≡ Some line → Performs m m.store actor (answers_now m line.number replies.NoMemory) outcome new → G
   pub posts : (deed : Deed) → m.activity actor ≡ at.PosterIdle → TakesJob m deed → Performs m m.store actor deed outcome new → G
+  pub merges : (deed : Deed) → m.activity actor ≡ at.ConsolidatorIdle → TakesMerging m deed → Performs m m.store actor deed outcome new → G
   pub settles : (number place : ℕ) (reply : Reply) → m.activity actor ≡ at.SessionAwait number reply place → place < settled_count m → Performs m m.store actor (answers_now m number reply) outcome new → G
   pub works : (Waits (m.activity actor) → ⊥) → Works m actor outcome new → G
 
@@ -40,6 +43,15 @@ module _ (m : Machine) (actor : ℕ) (outcome : Outcome) (new : Machine) (G : Ty
   took_posting idle (inl (none, so)) = shows.stays outcomes.Idle so
   took_posting idle (inr (deed, takes, performs)) = shows.posts deed idle takes performs
 
+  took_merging : m.activity actor ≡ at.ConsolidatorIdle → TakesJobToMerge m actor outcome new → G
+  took_merging idle (inl (none, so)) = shows.stays outcomes.Idle so
+  took_merging idle (inr (deed, takes, performs)) = shows.merges deed idle takes performs
+
+  flushed : (on : Bool) → Flushes on m outcome new → G
+  flushed false so = shows.stays outcomes.Idle so
+  flushed true (inl (waits, force)) = shows.forces outcomes.Moved (λ at. refl) force
+  flushed true (inr (none, so)) = shows.stays outcomes.Idle so
+
   awaited : (number place : ℕ) (reply : Reply) → m.activity actor ≡ at.SessionAwait number reply place → AwaitsPlace m actor number reply place outcome new → G
   awaited number place reply is (inl (settled, performs)) = shows.settles number place reply is settled performs
   awaited number place reply is (inr (waits, force)) = shows.forces outcomes.Moved (λ at. refl) force
@@ -51,8 +63,8 @@ module _ (m : Machine) (actor : ℕ) (outcome : Outcome) (new : Machine) (G : Ty
   stepped at.SessionIdle is one = took_line (next_line actor m.answered m.lines) is refl one
   stepped (at.SessionAwait number reply place) is one = awaited number place reply is one
   stepped at.PosterIdle is one = took_posting is one
-  stepped at.ConsolidatorIdle is one = shows.stays outcomes.Idle one
-  stepped at.Flusher is one = shows.stays outcomes.Idle one
+  stepped at.ConsolidatorIdle is one = took_merging is one
+  stepped at.Flusher is one = flushed flusher_steps one
   stepped (at.SessionWalk line held rest found) is one = works_as _ is (λ never. never) one
   stepped (at.SessionSplit line held) is one = works_as _ is (λ never. never) one
   stepped (at.SessionPut line source fresh) is one = works_as _ is (λ never. never) one

@@ -125,6 +125,7 @@ module _ (makes : MakesGoodPages) (parts : HaveFittingParts) (points : HeldArePo
     takes = λ line idle next performs. quiet m.store _ refl refl performs;
     refuses = λ line idle next performs. quiet m.store _ refl refl performs;
     posts = λ deed idle takes performs. quiet m.store deed (ap (λ (d : Deed). d.op) takes.deed_is) (ap (λ (d : Deed). d.joins) takes.deed_is) performs;
+    merges = λ deed idle takes performs. quiet m.store deed (ap (λ (d : Deed). d.op) takes.deed_is) (ap (λ (d : Deed). d.joins) takes.deed_is) performs;
     settles = λ number place reply is settled performs. quiet m.store _ refl refl performs;
     works = λ none works. worked works;
   }) step

@@ -1,6 +1,6 @@
 -- The kinds of steps: nothing happens, a group is forced, a deed is done outright, or the step works. What holds of each kind
 -- holds of each step.
-use Rattle.std.proofs.Common.{◌≡◌, ◌⊎◌, inl, inr, ℕ, [], Option, Some, None, refl, sym, ap, ◌∙◌, subst}
+use Rattle.std.proofs.Common.{◌≡◌, ◌⊎◌, inl, inr, ℕ, Bool, true, false, [], Option, Some, None, refl, sym, ap, ◌∙◌, subst}
 use Rattle.std.specs.Prelude.{MatchOption}
 use Rattle.hb_set.specs.declared.commands.Reply.{Reply}
 use Rattle.hb_set.specs.declared.commands.Reply.TheVariants as replies
@@ -16,10 +16,13 @@ use Rattle.hb_core.specs.declared.outcomes.Outcome.TheVariants as outcomes
 use Rattle.hb_core.specs.Machines.{Machine}
 use Rattle.hb_core.specs.Deeds.{Deed, answers_now}
 use Rattle.hb_core.specs.Performing.{Performs, given_by, latches_held}
-use Rattle.hb_core.specs.Forcing.{ForcesFirst, StaysSo}
+use Rattle.hb_core.specs.Stages.{flusher_steps}
+use Rattle.hb_core.specs.Forcing.{Flushes, ForcesFirst, StaysSo}
 use Rattle.hb_core.specs.SessionRows.{next_line, taking}
 use Rattle.hb_core.specs.WorkerRows.{IsPostingOf}
-use Rattle.hb_core.specs.Steps.{AwaitsPlace, StepsAs, StepsTo, TakesPosting, WantsBoxes, Works}
+use Rattle.hb_core.specs.ConsolidatorRows.{IsMergingOf}
+use Rattle.hb_core.specs.KeptMerges.{merging_at}
+use Rattle.hb_core.specs.Steps.{AwaitsPlace, StepsAs, StepsTo, TakesJobToMerge, TakesPosting, WantsBoxes, Works}
 
 -- an outcome that answers no line
 abbrev pub IsQuiet : Outcome → Type 0
@@ -30,42 +33,59 @@ pub record IsOutright (deed : Deed) : Type 0 where
   pub op : deed.op ≡ None
   pub walk : walk_held deed.next ≡ None
   pub latches : (st : StoreState) → latches_held st deed.next ≡ []
+  pub merging : merging_at deed.next ≡ None
 
-rests : (deed : Deed) → deed.op ≡ None → (next : Activity) → deed.next ≡ next → walk_held next ≡ None → ((st : StoreState) → latches_held st next ≡ []) → IsOutright deed
-rests deed none next is walk latches = record {
+rests : (deed : Deed) → deed.op ≡ None → (next : Activity) → deed.next ≡ next → walk_held next ≡ None → ((st : StoreState) → latches_held st next ≡ []) → merging_at next ≡ None → IsOutright deed
+rests deed none next is walk latches merging = record {
   op = none;
   walk = ap walk_held is ∙ walk;
   latches = λ st. ap (latches_held st) is ∙ latches st;
+  merging = ap merging_at is ∙ merging;
 }
 
 -- a job that was taken
 takes_nothing : (deed : Deed) (job : Job) (height : ℕ) → deed.op ≡ None → IsPostingOf job height deed.next → IsOutright deed
-takes_nothing deed job height none (inl (above, is)) = rests deed none at.PosterIdle is refl (λ st. refl)
-takes_nothing deed job height none (inr (inl (same, is))) = rests deed none (at.PosterGrow job) is refl (λ st. refl)
-takes_nothing deed job height none (inr (inr (below, is))) = rests deed none (at.PosterWalk job None) is refl (λ st. refl)
+takes_nothing deed job height none (inl (above, is)) = rests deed none at.PosterIdle is refl (λ st. refl) refl
+takes_nothing deed job height none (inr (inl (same, is))) = rests deed none (at.PosterGrow job) is refl (λ st. refl) refl
+takes_nothing deed job height none (inr (inr (below, is))) = rests deed none (at.PosterWalk job None) is refl (λ st. refl) refl
+
+merging_takes_nothing : (deed : Deed) (job : Job) (height : ℕ) → deed.op ≡ None → IsMergingOf job height deed.next → IsOutright deed
+merging_takes_nothing deed job height none (inl (above, is)) = rests deed none at.ConsolidatorIdle is refl (λ st. refl) refl
+merging_takes_nothing deed job height none (inr (below, is)) = rests deed none (at.ConsolidatorWalk job None) is refl (λ st. refl) refl
 
 module _ (m : Machine) (actor : ℕ) (outcome : Outcome) (new : Machine) (G : Type 0) (stays : (said : Outcome) → IsQuiet said → StaysSo m said outcome new → G) (forces : (said : Outcome) → IsQuiet said → ForcesFirst m said outcome new → G)
     (outright : (deed : Deed) → IsOutright deed → Performs m m.store actor deed outcome new → G) (works : Works m actor outcome new → G) where
   took_line : (line : Option Line) → MatchOption line (StaysSo m outcomes.Idle outcome new) (λ line. Performs m m.store actor (taking m line) outcome new ⊎ (WantsBoxes line.command × Performs m m.store actor (answers_now m line.number replies.NoMemory) outcome new)) → G
   took_line None so = stays outcomes.Idle (λ at. refl) so
-  took_line (Some line) (inl performs) = outright _ (record { op = refl; walk = refl; latches = λ st. refl }) performs
-  took_line (Some line) (inr (boxes, performs)) = outright _ (record { op = refl; walk = refl; latches = λ st. refl }) performs
+  took_line (Some line) (inl performs) = outright _ (record { op = refl; walk = refl; latches = λ st. refl; merging = refl }) performs
+  took_line (Some line) (inr (boxes, performs)) = outright _ (record { op = refl; walk = refl; latches = λ st. refl; merging = refl }) performs
 
   took_posting : TakesPosting m actor outcome new → G
   took_posting (inl (none, so)) = stays outcomes.Idle (λ at. refl) so
   took_posting (inr (deed, takes, performs)) =
       outright deed (takes_nothing deed takes.job m.store.meta.height (ap (λ (d : Deed). d.op) takes.deed_is) (subst (IsPostingOf takes.job m.store.meta.height) (sym (ap (λ (d : Deed). d.next) takes.deed_is)) takes.posting)) performs
 
+  took_merging : TakesJobToMerge m actor outcome new → G
+  took_merging (inl (none, so)) = stays outcomes.Idle (λ at. refl) so
+  took_merging (inr (deed, takes, performs)) =
+      outright deed (merging_takes_nothing deed takes.job m.store.meta.height (ap (λ (d : Deed). d.op) takes.deed_is) (subst (IsMergingOf takes.job m.store.meta.height) (sym (ap (λ (d : Deed). d.next) takes.deed_is)) takes.merging)) performs
+
+  -- whether the flusher takes steps or not
+  flushed : (on : Bool) → Flushes on m outcome new → G
+  flushed false so = stays outcomes.Idle (λ at. refl) so
+  flushed true (inl (waits, force)) = forces outcomes.Moved (λ at. refl) force
+  flushed true (inr (none, so)) = stays outcomes.Idle (λ at. refl) so
+
   awaited : (number : ℕ) (reply : Reply) (place : ℕ) → AwaitsPlace m actor number reply place outcome new → G
-  awaited number reply place (inl (settled, performs)) = outright _ (record { op = refl; walk = refl; latches = λ st. refl }) performs
+  awaited number reply place (inl (settled, performs)) = outright _ (record { op = refl; walk = refl; latches = λ st. refl; merging = refl }) performs
   awaited number reply place (inr (waits, force)) = forces outcomes.Moved (λ at. refl) force
 
   stepped : (activity : Activity) → StepsAs activity m actor outcome new → G
   stepped at.SessionIdle one = took_line (next_line actor m.answered m.lines) one
   stepped (at.SessionAwait number reply place) one = awaited number reply place one
   stepped at.PosterIdle one = took_posting one
-  stepped at.ConsolidatorIdle one = stays outcomes.Idle (λ at. refl) one
-  stepped at.Flusher one = stays outcomes.Idle (λ at. refl) one
+  stepped at.ConsolidatorIdle one = took_merging one
+  stepped at.Flusher one = flushed flusher_steps one
   stepped (at.SessionWalk line held rest found) one = works one
   stepped (at.SessionSplit line held) one = works one
   stepped (at.SessionPut line source fresh) one = works one

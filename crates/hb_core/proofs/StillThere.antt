@@ -18,7 +18,7 @@ use Rattle.hb_core.specs.Deeds.{Deed}
 use Rattle.hb_core.specs.Performing.{MayDo, Performs, latches_held, mode_among}
 use Rattle.hb_core.specs.Steps.{StepsTo}
 use Rattle.hb_core.specs.Keeps.{HoldsPagesOfFile, LatchesFit}
-use Rattle.hb_core.specs.KeepingLaws.{NobodyElseComes}
+use Rattle.hb_core.specs.KeepingLaws.{NobodyElseComes, NobodyElseLatches}
 use Rattle.hb_core.proofs.Backing.{live_there}
 use Rattle.hb_core.proofs.LatchesStay.{walk_latched}
 use Rattle.hb_core.proofs.OwnPages.{held_pages_stay}
@@ -43,6 +43,11 @@ pub nobody_else_comes : NobodyElseComes
 nobody_else_comes m actor outcome new may nobody step other none =
     let another : other ≢ actor = λ same. none (subst MayLatch (sym same) may) in
     (others_stay m actor outcome new step other another).0 ∙ nobody other none
+
+pub nobody_else_latches : NobodyElseLatches
+nobody_else_latches m actor outcome new may nobody step other page none =
+    let another : other ≢ actor = λ same. none (subst MayLatch (sym same) may) in
+    (others_stay m actor outcome new step other another).1 page ∙ nobody other page none
 
 -- where nothing is done, the memory is what was fetched
 pub nothing_done : (op : Option Op) (mark : ℕ) (fetched new : StoreState) → op ≡ None → MayDo op mark fetched new → new ≡ fetched

@@ -20,10 +20,11 @@ use Rattle.hb_core.specs.SessionRows.{next_line}
 use Rattle.hb_core.specs.KeptLines.{line_in_hand}
 use Rattle.hb_core.specs.KeptTurns.{LinesInTurn, awaited_number}
 use Rattle.hb_core.specs.OrderLaws.{TurnsStay}
+use Rattle.hb_core.specs.ConsolidatorRows.{IsMergingOf, TakesMerging}
 use Rattle.hb_core.specs.WorkerRows.{IsPostingOf, TakesJob}
 use Rattle.hb_core.specs.Steps.{Works}
 use Rattle.hb_core.proofs.LineFates.{LineFate, Waits, fate_given_up, fate_ran_out, fate_row}
-use Rattle.hb_core.proofs.LinesFit.{took_job}
+use Rattle.hb_core.proofs.LinesFit.{took_job, took_merging}
 use Rattle.hb_core.proofs.NextLines.{IsNextOf, answered_before, earlier_answered, next_is, next_stays, now_answered, same_line, still_answered}
 use Rattle.hb_core.proofs.StepCases.{each_step}
 use Rattle.hb_core.proofs.Ways.{KeepsAllButDisk, forces_so, meets_so, stays_so}
@@ -262,6 +263,13 @@ module _ (m : Machine) (actor : ℕ) (outcome : Outcome) (new : Machine) (turn :
       by next (inr (inl (same, is))) = ap awaited_number is
       by next (inr (inr (below, is))) = ap awaited_number is
 
+  merges_await_none : (deed : Deed) → TakesMerging m deed → awaited_number deed.next ≡ None
+  merges_await_none deed takes = ap (λ (d : Deed). awaited_number d.next) takes.deed_is ∙ by takes.next takes.merging
+    where
+      by : (next : Activity) → IsMergingOf takes.job m.store.meta.height next → awaited_number next ≡ None
+      by next (inl (above, is)) = ap awaited_number is
+      by next (inr (below, is)) = ap awaited_number is
+
 pub turns_stay : TurnsStay
 turns_stay m actor outcome new turn step = each_step m actor outcome new (LinesInTurn new) (record {
   stays = λ said so. stays m actor outcome new turn (stays_so m actor outcome new said so);
@@ -271,6 +279,9 @@ turns_stay m actor outcome new turn step = each_step m actor outcome new (LinesI
   posts = λ deed idle takes performs.
       quiet m actor outcome new turn m.store deed (ap awaited_number idle) (ap (λ (d : Deed). given_by d.says m.clock) takes.deed_is) (ap (λ (d : Deed). d.joins) takes.deed_is)
       (no_hand m actor outcome new turn deed (took_job m deed takes)) (posts_await_none m actor outcome new turn deed takes) performs;
+  merges = λ deed idle takes performs.
+      quiet m actor outcome new turn m.store deed (ap awaited_number idle) (ap (λ (d : Deed). given_by d.says m.clock) takes.deed_is) (ap (λ (d : Deed). d.joins) takes.deed_is)
+      (no_hand m actor outcome new turn deed (took_merging m deed takes)) (merges_await_none m actor outcome new turn deed takes) performs;
   settles = λ number place reply is settled performs.
       let one = some_such (next_line actor m.answered m.lines) number (if_such (awaited_number (m.activity actor)) (λ number. IsSomeAnd (next_line actor m.answered m.lines) (λ line. line.number ≡ number)) number (ap awaited_number is) (turn.awaited actor)) in
       answers m actor outcome new turn m.store _ one.0 number reply refl refl refl (sym one.2) one.1 (inr (ap awaited_number is ∙ ap (λ (n : ℕ). Some n) (sym one.2))) performs;

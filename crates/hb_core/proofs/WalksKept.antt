@@ -26,8 +26,10 @@ use Rattle.hb_core.specs.Steps.{StepsTo, Works}
 use Rattle.hb_core.specs.Keeps.{HasNobodyElse, HoldsPagesOfFile, LatchesFit, WalksInSpace}
 use Rattle.hb_core.specs.KeepingLaws.{WalksStayInSpace}
 use Rattle.hb_core.specs.WorkerRows.{LeadsBelow}
+use Rattle.hb_core.specs.KeptMerges.{AtParent, NamesKnown, merging_at}
 use Rattle.hb_core.proofs.Backing.{live_there}
-use Rattle.hb_core.proofs.NextPlaces.{HasPlace, HoldsNothing, KeepsParent, TakesParent, WalksTo, nothing_given_up, nothing_run_out, now, place_after}
+use Rattle.hb_core.proofs.MergesKept.{HasMergePlace, PlaceStays, merged_place, named_again, names_still, none_named, place_latched}
+use Rattle.hb_core.proofs.NextPlaces.{HasPlace, HoldsNothing, KeepsParent, MergesOn, TakesParent, WalksTo, nothing_given_up, nothing_run_out, now, place_after}
 use Rattle.hb_core.proofs.StepKinds.{each_kind}
 use Rattle.hb_core.proofs.StillThere.{fetched_good, may_or_not, nothing_done, other_holds, other_walks, own_next, still_fetched}
 use Rattle.hb_core.proofs.Ways.{KeepsAllButDisk, forces_so, meets_so, stays_so}
@@ -42,22 +44,25 @@ HasParentOf st job parent = (page : LivePage) × (live_here st parent ≡ Some p
 pub record StandsInSpace (st : StoreState) (activity : Activity) : Type 0 where
   pub held : (held : ℕ) (page : LivePage) → walk_held activity ≡ Some held → live_here st held ≡ Some page → IfSome (walk_point activity) (Holds page.area)
   pub parents : (job : Job) (parent : ℕ) → IsAtParent activity job parent → HasParentOf st job parent
+  pub merging : IfSome (merging_at activity) (NamesKnown st)
 
 each_stands : (m : Machine) → WalksInSpace m → (actor : ℕ) → StandsInSpace m.store (m.activity actor)
-each_stands m walks actor = record { held = walks.held actor; parents = walks.parents actor }
+each_stands m walks actor = record { held = walks.held actor; parents = walks.parents actor; merging = walks.merging actor }
 
 all_stand : (m : Machine) → ((actor : ℕ) → StandsInSpace m.store (m.activity actor)) → WalksInSpace m
-all_stand m each = record { held = λ actor. (each actor).held; parents = λ actor. (each actor).parents }
+all_stand m each = record { held = λ actor. (each actor).held; parents = λ actor. (each actor).parents; merging = λ actor. (each actor).merging }
 
 moved_parent : (old new : StoreState) (job : Job) (parent : ℕ) → ((page : LivePage) → live_here old parent ≡ Some page → live_here new parent ≡ Some page) → HasParentOf old job parent → HasParentOf new job parent
 moved_parent old new job parent moves (page, live, level, leads) = (page, moves page live, level, leads)
 
 -- the same activity, in a memory that has its pages
 stands_again : (activity : Activity) (old new : StoreState) → StandsInSpace old activity → ((held : ℕ) (page : LivePage) → walk_held activity ≡ Some held → live_here new held ≡ Some page → live_here old held ≡ Some page)
-    → ((job : Job) (parent : ℕ) (page : LivePage) → IsAtParent activity job parent → live_here old parent ≡ Some page → live_here new parent ≡ Some page) → StandsInSpace new activity
-stands_again activity old new stands walk parent = record {
+    → ((job : Job) (parent : ℕ) (page : LivePage) → IsAtParent activity job parent → live_here old parent ≡ Some page → live_here new parent ≡ Some page)
+    → ((place : AtParent) → merging_at activity ≡ Some place → PlaceStays old new place) → StandsInSpace new activity
+stands_again activity old new stands walk parent merges = record {
   held = λ held page walks live. stands.held held page walks (walk held page walks live);
   parents = λ job at_id is. moved_parent old new job at_id (λ page live. parent job at_id page is live) (stands.parents job at_id is);
+  merging = named_again old new (merging_at activity) merges stands.merging;
 }
 
 -- ---- an activity that holds no page of a walk, and no parent
@@ -86,6 +91,7 @@ free_stands : (st : StoreState) (activity : Activity) → HoldsNothing activity 
 free_stands st activity free = record {
   held = λ held page walks live. absurd (no_walk activity held free.walk walks);
   parents = λ job parent is. absurd (no_parent st activity job parent (free.latches st) is);
+  merging = none_named st (merging_at activity) free.merging;
 }
 
 -- a walk has no parent
@@ -94,11 +100,29 @@ walks_have_none activity id job parent walks (inl is) = no_walk activity id (ap 
 walks_have_none activity id job parent walks (inr (inl is)) = no_walk activity id (ap walk_held is) walks
 walks_have_none activity id job parent walks (inr (inr is)) = no_walk activity id (ap walk_held is) walks
 
+-- a poster at a parent merges nothing
+poster_merges_not : (activity : Activity) (job : Job) (parent : ℕ) → IsAtParent activity job parent → merging_at activity ≡ None
+poster_merges_not activity job parent (inl is) = ap merging_at is
+poster_merges_not activity job parent (inr (inl is)) = ap merging_at is
+poster_merges_not activity job parent (inr (inr is)) = ap merging_at is
+
+-- a consolidator at a parent walks no more, and is no poster
+merges_in_space : (st : StoreState) (activity : Activity) (place : AtParent) → walk_held activity ≡ None → merging_at activity ≡ Some place → NamesKnown st place → StandsInSpace st activity
+merges_in_space st activity place still is named = record {
+  held = λ held page walks live. absurd (no_walk activity held still walks);
+  parents = λ job parent at_parent. absurd (nowhere (sym (poster_merges_not activity job parent at_parent) ∙ is));
+  merging = subst (λ (o : Option AtParent). IfSome o (NamesKnown st)) (sym is) named;
+}
+  where
+    nowhere : None ≡ Some place → ⊥
+    nowhere is = cc
+
 -- a session that splits a page, or has split it, has none either
 split_stands : (st : StoreState) (activity : Activity) (line : Line) (held : ℕ) → activity ≡ at.SessionSplit line held → StandsInSpace st activity
 split_stands st activity line held is = subst (StandsInSpace st) (sym is) (record {
   held = λ id page walks live. absurd (no_walk (at.SessionSplit line held) id refl walks);
   parents = λ job parent at_parent. absurd (never job parent at_parent);
+  merging = tt;
 })
   where
     never : (job : Job) (parent : ℕ) → IsAtParent (at.SessionSplit line held) job parent → ⊥
@@ -110,6 +134,7 @@ put_stands : (st : StoreState) (activity : Activity) (line : Line) (source fresh
 put_stands st activity line source fresh is = subst (StandsInSpace st) (sym is) (record {
   held = λ id page walks live. absurd (no_walk (at.SessionPut line source fresh) id refl walks);
   parents = λ job parent at_parent. absurd (never job parent at_parent);
+  merging = tt;
 })
   where
     never : (job : Job) (parent : ℕ) → IsAtParent (at.SessionPut line source fresh) job parent → ⊥
@@ -123,6 +148,7 @@ same_parent : (activity : Activity) (job : Job) (parent : ℕ) (st : StoreState)
 same_parent activity job parent st is has = record {
   held = λ held page walks live. absurd (walks_have_none activity held job parent walks is);
   parents = λ other at_id at_other. by other at_id is at_other;
+  merging = none_named st (merging_at activity) (poster_merges_not activity job parent is);
 }
   where
     moved : (other : Job) (at_id : ℕ) → (job ≡ other) × (parent ≡ at_id) → HasParentOf st other at_id
@@ -175,7 +201,15 @@ module _ (m : Machine) (actor : ℕ) (may : ℕ → Type 0) (fetched : StoreStat
             let is = same_page (live_here fetched held) to.page page (ap (live_here fetched) (sym id) ∙ to.live) live_then in
             subst (λ (o : Option (List ℕ)). IfSome o (Holds page.area)) (sym to.point) (subst (λ (q : LivePage). Holds q.area to.p) is has);
         parents = λ job parent is. absurd (walks_have_none deed.next to.id job parent to.held is);
+        merging = none_named new.store (merging_at deed.next) to.merging;
       }
+
+  -- what was known is so in what was fetched
+  brought_named : (place : AtParent) → NamesKnown m.store place → NamesKnown fetched place
+  brought_named place named = names_still m.store fetched place named (record {
+    parent = λ page live. still_fetched m may fetched brings place.parent page live;
+    pair = λ pair is page live. still_fetched m may fetched brings pair.keep page live;
+  })
 
   takes_parent : TakesParent (now m actor fetched) deed → StandsInSpace new.store deed.next
   takes_parent takes =
@@ -198,13 +232,28 @@ module _ (m : Machine) (actor : ℕ) (may : ℕ → Type 0) (fetched : StoreStat
       (moved_parent m.store new.store keeps.job keeps.parent (λ page live. ap (λ (st : StoreState). live_here st keeps.parent) store ∙ still_fetched m may fetched brings keeps.parent page live)
       (walks.parents actor keeps.job keeps.parent (at_parent_before keeps.job keeps.parent keeps.before)))
 
+  -- a consolidator knows what the parent names
+  merged_in_space : MergesOn m actor (now m actor fetched) deed → StandsInSpace new.store deed.next
+  merged_in_space merges = by (merged_place m actor fetched (λ place is. brought_named place (subst (λ (o : Option AtParent). IfSome o (NamesKnown m.store)) is (walks.merging actor))) deed merges)
+    where
+      store : new.store ≡ fetched
+      store = nothing_done deed.op _ fetched new.store (ap (λ (d : Deed). d.op) merges.stays.moves.is) performs.store
+
+      still : walk_held deed.next ≡ None
+      still = ap (λ (d : Deed). walk_held d.next) merges.stays.moves.is ∙ merges.stays.walk
+
+      by : HoldsNothing deed.next ⊎ HasMergePlace fetched deed.next → StandsInSpace new.store deed.next
+      by (inl free) = free_stands new.store deed.next free
+      by (inr at_merge) = merges_in_space new.store deed.next at_merge.place still at_merge.is (subst (λ (st : StoreState). NamesKnown st at_merge.place) (sym store) at_merge.named)
+
   placed_in_space : HasPlace m actor (now m actor fetched) deed → StandsInSpace new.store deed.next
   placed_in_space (inl free) = free_stands new.store deed.next free
   placed_in_space (inr (inl to)) = walks_to to
   placed_in_space (inr (inr (inl full))) = split_stands new.store deed.next full.line full.id (ap (λ (d : Deed). d.next) full.row.deed_is)
   placed_in_space (inr (inr (inr (inl takes)))) = takes_parent takes
   placed_in_space (inr (inr (inr (inr (inl keeps))))) = keeps_parent keeps
-  placed_in_space (inr (inr (inr (inr (inr parts))))) = put_stands new.store deed.next parts.line parts.held parts.row.leaves.fresh (ap (λ (d : Deed). d.next) parts.row.deed_is)
+  placed_in_space (inr (inr (inr (inr (inr (inr merges)))))) = merged_in_space merges
+  placed_in_space (inr (inr (inr (inr (inr (inl parts)))))) = put_stands new.store deed.next parts.line parts.held parts.row.leaves.fresh (ap (λ (d : Deed). d.next) parts.row.deed_is)
 
 -- ---- each step
 
@@ -224,9 +273,15 @@ module _ (m : Machine) (actor : ℕ) (outcome : Outcome) (new : Machine) (latche
   other_in_space other another may = stands_again (m.activity other) m.store new.store (each_stands m walks other)
       (λ held page on live. let both = other_walks m actor outcome new latches fit inside step other another may held on in both.1.before ∙ sym both.1.after ∙ live)
       (λ job parent page is live. let latch = parent_latched m.store (m.activity other) job parent is in other_holds m actor outcome new latches fit inside step other another may (m.activity other) parent latch.0 page refl latch.1 live)
+      (λ place is.
+      let latched = place_latched m.store (m.activity other) place is in
+      record {
+        parent = λ page live. other_holds m actor outcome new latches fit inside step other another may (m.activity other) place.parent latched.parent.0 page refl latched.parent.1 live;
+        pair = λ pair held page live. let latch = latched.pair pair held in other_holds m actor outcome new latches fit inside step other another may (m.activity other) pair.keep latch.0 page refl latch.1 live;
+      })
 
   idle_in_space : (st : StoreState) (activity : Activity) → activity ≡ at.SessionIdle → StandsInSpace st activity
-  idle_in_space st activity is = subst (StandsInSpace st) (sym is) (free_stands st at.SessionIdle (record { walk = refl; latches = λ st. refl }))
+  idle_in_space st activity is = subst (StandsInSpace st) (sym is) (free_stands st at.SessionIdle (record { walk = refl; latches = λ st. refl; merging = refl }))
 
   others_in_space : (other : ℕ) → other ≢ actor → new.activity other ≡ m.activity other → StandsInSpace new.store (new.activity other)
   others_in_space other another same = subst (StandsInSpace new.store) (sym same) (elim (may_or_not other) [
@@ -247,8 +302,12 @@ module _ (m : Machine) (actor : ℕ) (outcome : Outcome) (new : Machine) (latche
       (λ held page on live.
       let old = fit.walking actor held latches on in
       ap if_live old.1 ∙ sym (ap if_live (keeps.memory held (Live old.0) old.1)) ∙ live)
-      (λ job parent page is live. ap if_live (keeps.memory parent (Live page) (live_there (in_memory m.store parent) page live)))))
+      (λ job parent page is live. still parent page live)
+      (λ place is. record { parent = λ page live. still place.parent page live; pair = λ pair held page live. still pair.keep page live })))
       (λ other another. ap (λ (all : ℕ → Activity). all other) keeps.activity)
+    where
+      still : (id : ℕ) (page : LivePage) → live_here m.store id ≡ Some page → live_here new.store id ≡ Some page
+      still id page live = ap if_live (keeps.memory id (Live page) (live_there (in_memory m.store id) page live))
 
   -- a deed is done
   did : (fetched : StoreState) (deed : Deed) → Performs m fetched actor deed outcome new → StandsInSpace new.store deed.next → WalksInSpace new
@@ -266,7 +325,7 @@ module _ (m : Machine) (actor : ℕ) (outcome : Outcome) (new : Machine) (latche
   worked (inr (inl (free, unready, inr (none, performs)))) = freed m.store _ performs (nothing_run_out m (m.activity actor))
   worked (inr (inr (free, ready, inl acts))) =
       did acts.fetched acts.deed acts.performs
-      (placed_in_space m actor _ acts.fetched inside walks acts.brings acts.deed outcome new acts.performs (place_after m actor acts.fetched _ acts.deed acts.row))
+      (placed_in_space m actor _ acts.fetched inside walks acts.brings acts.deed outcome new acts.performs (place_after m actor acts.fetched _ acts.deed refl acts.row))
   worked (inr (inr (free, ready, inr (inl gives)))) = freed gives.fetched _ gives.performs (nothing_given_up m gives.why (m.activity actor))
   worked (inr (inr (free, ready, inr (inr meets)))) = same_but_disk (meets_so m actor outcome new meets)
 
@@ -275,6 +334,6 @@ walks_stay_in_space m actor outcome new latches fit inside nobody walks step =
     each_kind m actor outcome new (WalksInSpace new)
     (λ said quiet so. same_but_disk m actor outcome new latches fit inside nobody walks step (stays_so m actor outcome new said so))
     (λ said quiet force. same_but_disk m actor outcome new latches fit inside nobody walks step (forces_so m actor outcome new said force))
-    (λ deed outright performs. freed m actor outcome new latches fit inside nobody walks step m.store deed performs (record { walk = outright.walk; latches = outright.latches }))
+    (λ deed outright performs. freed m actor outcome new latches fit inside nobody walks step m.store deed performs (record { walk = outright.walk; latches = outright.latches; merging = outright.merging }))
     (worked m actor outcome new latches fit inside nobody walks step)
     step

@@ -59,10 +59,16 @@ MayNeed m actor fetched id = IsWantedPage (wanted_by m actor) id ⊎ (NeedsNumbe
 abbrev pub LacksNeeded : Machine → ℕ → StoreState → Type 0
 LacksNeeded m actor fetched = (id : ℕ) × MayNeed m actor fetched id × (in_memory fetched id ≡ None)
 
--- Or a page couldn't be read, or memory was refused: the line or the job is given up. A promotion wants neither.
+-- Or a page couldn't be read, or memory was refused: the line or the job in hand is given up. Who has none in hand gives
+-- nothing up, and a promotion wants neither.
 abbrev pub MayGiveUp : Activity → Type 0
+MayGiveUp at.SessionIdle = ⊥
+MayGiveUp (at.SessionAwait number reply place) = ⊥
+MayGiveUp at.PosterIdle = ⊥
 MayGiveUp (at.PosterPromote job parent) = ⊥
+MayGiveUp at.ConsolidatorIdle = ⊥
 MayGiveUp (at.ConsolidatorPromote job parent keep gone) = ⊥
+MayGiveUp at.Flusher = ⊥
 MayGiveUp other = Unit {0}
 
 pub record Abandons (m : Machine) (actor : ℕ) (outcome : Outcome) (new : Machine) : Type 0 where

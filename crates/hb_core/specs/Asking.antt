@@ -1,5 +1,5 @@
 -- Which page a step asks for, and what it tests of that page before it latches it.
-use Rattle.std.specs.Prelude.{◌≡◌, ◌≢◌, ℕ, ◌==◌, if◌then◌else◌, Bool, true, false, List, [], ◌∷◌, Option, Some, None, IfSome, IsSomeAnd}
+use Rattle.std.specs.Prelude.{◌≡◌, ◌≢◌, ℕ, ◌==◌, if◌then◌else◌, Bool, true, false, List, [], ◌∷◌, slice_get, Option, Some, None, IfSome, IsSomeAnd}
 use Rattle.std.specs.Option.{option_and_then, option_map}
 use Rattle.hb_space.specs.Boxes.{Area, Within, whole_area}
 use Rattle.hb_frag.specs.declared.leaves.Leaf.{Leaf}
@@ -75,6 +75,10 @@ first_child_box name (placed ∷ rest) = if names placed.leaf then Some placed.a
     names (Child page) = page == name
     names (Sibling page) = false
 
+-- the page that the leaf of a page at a place names
+abbrev pub box_of_place : Option LivePage → ℕ → Option AskedBox
+box_of_place page place = option_and_then (λ page. option_and_then box_by_leaf (slice_get (leaves_of page.frag page.area) place)) page
+
 -- a child that a page names, and a page to which one gave a part of its box
 abbrev pub box_of_child : Option LivePage → ℕ → Option AskedBox
 box_of_child page name = option_map (λ area. record { area = area; exact = false }) (option_and_then (λ page. first_child_box name (leaves_of page.frag page.area)) page)
@@ -87,7 +91,7 @@ abbrev pub asked_box : Activity → StoreState → Option AskedBox
 asked_box (PosterChild job parent) st = box_at (live_here st parent) (Some job.point)
 asked_box (PosterAgain job parent) st = box_at (live_here st parent) (Some job.point)
 asked_box (ConsolidatorScan job parent child) st = box_of_child (live_here st parent) child
-asked_box (ConsolidatorTry job parent keep gone leaf) st = box_of_sibling (live_here st keep) gone
+asked_box (ConsolidatorTry job parent keep gone leaf) st = box_of_place (live_here st keep) leaf
 asked_box (ConsolidatorKeep job parent keep gone) st = box_of_child (live_here st parent) keep
 asked_box (ConsolidatorDecide job parent keep gone) st = box_of_sibling (live_here st keep) gone
 asked_box (PosterPromote job parent) st = None

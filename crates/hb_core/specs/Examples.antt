@@ -1,6 +1,9 @@
 -- Rows worked out by hand, where the table computes.
 use Rattle.std.specs.Prelude.{◌≡◌, ℕ, List, [], ◌∷◌, Some, None}
+use Rattle.hb_space.specs.Boxes.{whole_area}
+use Rattle.hb_frag.specs.declared.leaves.Leaf.{Leaf}
 use Rattle.hb_frag.specs.declared.leaves.Leaf.TheVariants.{Records, Child, Sibling}
+use Rattle.hb_frag.specs.Trees.{Cut, Tip}
 use Rattle.hb_frag.specs.declared.pages.LivePage.{LivePage}
 use Rattle.hb_wal.specs.Log.{Waiting}
 use Rattle.hb_latch.specs.declared.modes.Mode.TheVariants.{Update, Exclusive}
@@ -12,6 +15,7 @@ use Rattle.hb_activity.specs.declared.jobs.Job.{Job}
 use Rattle.hb_activity.specs.declared.jobs.JobKind.TheVariants.{Post}
 use Rattle.hb_activity.specs.declared.activities.Activity.TheVariants.{PosterChild, SessionIdle, SessionPut}
 use Rattle.hb_store.specs.States.{StoreState}
+use Rattle.hb_core.specs.ConsolidatorRows.{children_of, one_behind, pair_among}
 use Rattle.hb_core.specs.Forcing.{calls_of_force}
 use Rattle.hb_core.specs.Performing.{latches_held, mode_among}
 use Rattle.hb_core.specs.SessionRows.{next_line, posts_owed}
@@ -55,3 +59,21 @@ pub record CountsCalls : Type 0 where
   pub none : calls_of_force [] ≡ 0
   pub one : (group : Waiting) → calls_of_force (group ∷ []) ≡ 4
   pub two : (group other : Waiting) → calls_of_force (group ∷ other ∷ []) ≡ 4
+
+-- A parent that names 1, 2, 1 again and 4, and a page of level 0 with these leaves from the left: one of records, two to pages
+-- that the parent doesn't name or does, one more of records, and one more to a page that it names.
+abbrev pub names_three : LivePage
+names_three = record { level = 1; area = whole_area 1; frag = Cut 0 40 (Tip (Child 1)) (Cut 0 70 (Tip (Child 2)) (Cut 0 80 (Tip (Child 1)) (Tip (Child 4)))) }
+
+abbrev pub five_leaves : List Leaf
+five_leaves = Records [] ∷ Sibling 9 ∷ Sibling 2 ∷ Records [] ∷ Sibling 4 ∷ []
+
+-- The pairs are tried from the left, those alone whose second page the parent names, and a leaf's place counts all leaves. The
+-- children are scanned each once.
+pub record TriesPairsInOrder : Type 0 where
+  pub first : pair_among names_three 0 five_leaves ≡ Some (2, 2)
+  pub next : pair_among names_three 3 five_leaves ≡ Some (4, 4)
+  pub none : pair_among names_three 5 five_leaves ≡ None
+  pub children : children_of names_three ≡ 1 ∷ 2 ∷ 4 ∷ []
+  pub behind : one_behind 2 (children_of names_three) ≡ Some 4
+  pub last : one_behind 4 (children_of names_three) ≡ None

@@ -1,5 +1,5 @@
--- What a force makes of a machine.
-use Rattle.std.specs.Prelude.{◌≡◌, ◌≢◌, ◌⊎◌, ℕ, ◌+◌, ◌≤◌, List, [], ◌∷◌, option_map}
+-- What a force makes of a machine, and the step of the flusher.
+use Rattle.std.specs.Prelude.{◌≡◌, ◌≢◌, ◌⊎◌, ℕ, ◌+◌, ◌≤◌, Bool, true, false, List, [], ◌∷◌, option_map}
 use Rattle.hb_wal.specs.Log.{Waiting}
 use Rattle.hb_store.specs.Calls.{durable_after, forced_state, later_after, stopped_state}
 use Rattle.hb_store.specs.declared.stops.StopWhy.TheVariants.{WriteFault}
@@ -33,3 +33,13 @@ ForcesFirst m done outcome new = ForcesWell m done outcome new ⊎ ForcesBadly m
 -- nothing happens
 abbrev pub StaysSo : Machine → Outcome → Outcome → Machine → Type 0
 StaysSo m said outcome new = (outcome ≡ said) × (new ≡ m)
+
+-- What the flusher does once no group waits. Pages that were changed are written to their places, and the log's area is
+-- switched; neither is built, so there is nothing left to do.
+abbrev pub FlushesRest : Machine → Outcome → Machine → Type 0
+FlushesRest m outcome new = StaysSo m outcomes.Idle outcome new
+
+-- A step of the flusher, where it takes any: a group that waits is forced.
+abbrev pub Flushes : Bool → Machine → Outcome → Machine → Type 0
+Flushes false m outcome new = StaysSo m outcomes.Idle outcome new
+Flushes true m outcome new = ((m.store.log.groups ≢ []) × ForcesFirst m outcomes.Moved outcome new) ⊎ ((m.store.log.groups ≡ []) × FlushesRest m outcome new)

@@ -6,11 +6,11 @@ use Rattle.hb_set.specs.Order.{Entry, IsLegalOrder, result_of}
 use Rattle.hb_set.specs.declared.scripts.Answered.{Answered}
 use Rattle.hb_latch.specs.Tables.{MayLatch}
 use Rattle.hb_activity.specs.declared.activities.Activity.TheVariants as at
-use Rattle.hb_store.specs.declared.stops.StopWhy.{StopWhy}
 use Rattle.hb_core.specs.declared.outcomes.Outcome.{Outcome}
 use Rattle.hb_core.specs.declared.outcomes.Outcome.TheVariants as outcomes
 use Rattle.hb_core.specs.Machines.{Files, Machine, settled_count}
-use Rattle.hb_core.specs.Keeps.{CoreKeeps, HasNobodyElse, HasSoundFile, HoldsPagesOfFile, KnowsRoom, LatchesFit, WalksInSpace}
+use Rattle.hb_core.specs.Keeps.{CoreKeeps, HasNoOtherLatches, HasNobodyElse, HasSoundFile, HoldsPagesOfFile, KnowsRoom, LatchesFit, WalksInSpace}
+use Rattle.hb_core.specs.DamageLaws.{IsUndamaged}
 use Rattle.hb_core.specs.KeptOrder.{HasLegalOrder, HasPendingPrefix, StandsInOrder, StandsOutside}
 use Rattle.hb_core.specs.OrderLaws.{SearchIsRight}
 use Rattle.hb_core.specs.Steps.{StepsInTurn, StepsTo}
@@ -19,6 +19,10 @@ use Rattle.hb_core.specs.SteppingLaws.{HasNoSearches, IsBegun}
 -- Under no number but those of the 19 actors anybody comes to stand.
 abbrev pub NobodyElseComes : Type 0
 NobodyElseComes = (m : Machine) (actor : ℕ) (outcome : Outcome) (new : Machine) → MayLatch actor → HasNobodyElse m → StepsTo m actor outcome new → HasNobodyElse new
+
+-- and under no other one a latch is taken.
+abbrev pub NobodyElseLatches : Type 0
+NobodyElseLatches = (m : Machine) (actor : ℕ) (outcome : Outcome) (new : Machine) → MayLatch actor → HasNoOtherLatches m → StepsTo m actor outcome new → HasNoOtherLatches new
 
 -- After a step the page that a walk holds has the walk's point in its box, and the parent that a poster holds has a child
 -- leaf at the job's point. So it is over every disk.
@@ -73,23 +77,6 @@ pub record HasPrefixes (n : RecordSet) (m : Machine) (files : Files) : Type 0 wh
 abbrev pub FilesHavePrefixes : Type 0
 FilesHavePrefixes = (n : RecordSet) (m : Machine) (files : Files) → HasSoundFile m files → HasLegalOrder n m files → HasPendingPrefix n m files → HasPrefixes n m files
 
--- What a list of steps does: the lines stay, the order and the answers only grow, at their ends, and the clock never falls.
--- Each answer that came has a value of the clock between the first and the last one.
-abbrev pub IsBetween : ℕ → ℕ → Answered → Type 0
-IsBetween first last a = (first ≤ a.at) × (a.at ≤ last)
-
-pub record HasGoneOn (m new : Machine) : Type 0 where
-  pub lines : new.lines ≡ m.lines
-  pub entries : List Entry
-  pub order : new.order ≡ m.order ++ entries
-  pub answers : List Answered
-  pub answered : new.answered ≡ m.answered ++ answers
-  pub clock : m.clock ≤ new.clock
-  pub timed : All (IsBetween m.clock new.clock) answers
-
-abbrev pub StepsGoOn : Type 0
-StepsGoOn = (actors : List ℕ) (m new : Machine) → StepsInTurn actors m new → HasGoneOn m new
-
 -- Steps of these actors in turn, where each search that takes effect has the machine's reply. Nothing keeps a box from being
 -- changed while a search goes through it, before there are locks on boxes.
 abbrev pub AnswersSearches : Machine → Machine → Type 0
@@ -99,11 +86,13 @@ abbrev pub StepsRightly : List ℕ → Machine → Machine → Type 0
 StepsRightly [] m new = new ≡ m
 StepsRightly (actor ∷ rest) m new = (outcome : Outcome) × (next : Machine) × StepsTo m actor outcome next × AnswersSearches m next × StepsRightly rest next new
 
--- Such steps of the 19 actors keep all that a machine keeps over a disk that tells, and unsettle no place of the order.
+-- Such steps of the 19 actors keep all that a machine keeps over a disk that tells, and unsettle no place of the order. Where
+-- nothing but a write fault had stopped the machine, nothing else has.
 pub record HasKeptAll (n : RecordSet) (m new : Machine) (files : Files) : Type 0 where
   pub keeps : CoreKeeps n new files
   pub prefixes : HasPrefixes n new files
   pub settled : settled_count m ≤ settled_count new
+  pub undamaged : IsUndamaged m → IsUndamaged new
 
 abbrev pub StepsKeepAll : Type 0
 StepsKeepAll = (n : RecordSet) (actors : List ℕ) (m : Machine) (files : Files) (new : Machine) → All MayLatch actors → CoreKeeps n m files → StepsRightly actors m new → (files' : Files) × HasKeptAll n m new files'
@@ -114,7 +103,3 @@ ChangesKeepAll = (n : RecordSet) (actors : List ℕ) (m : Machine) (files : File
 
 abbrev pub BegunKeepsAll : Type 0
 BegunKeepsAll = (s : FileState) (actors : List ℕ) (m new : Machine) → IsBegun m s → All MayLatch actors → HasNoSearches m → StepsInTurn actors m new → (files : Files) × HasKeptAll (contents_of s) m new files
-
--- A machine that is stopped stays as it is.
-abbrev pub StoppedStays : Type 0
-StoppedStays = (actors : List ℕ) (m new : Machine) (why : StopWhy) → m.stop ≡ Some why → StepsInTurn actors m new → new ≡ m

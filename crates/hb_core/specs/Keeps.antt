@@ -1,5 +1,5 @@
 -- What every machine keeps over a disk that tells, a record for each part.
-use Rattle.std.specs.Prelude.{◌≡◌, ◌⊎◌, ℕ, ◌<◌, ◌≤◌, List, length, All, Some, IfSome}
+use Rattle.std.specs.Prelude.{◌≡◌, ◌⊎◌, ℕ, ◌<◌, ◌≤◌, List, length, All, Some, None, IfSome}
 use Rattle.hb_space.specs.Boxes.{Holds}
 use Rattle.hb_frag.specs.declared.pages.LivePage.{LivePage}
 use Rattle.hb_frag.specs.declared.pages.Page.{Page}
@@ -23,6 +23,7 @@ use Rattle.hb_core.specs.Performing.{latches_held, mode_among}
 use Rattle.hb_core.specs.WorkerRows.{LeadsBelow}
 use Rattle.hb_core.specs.KeptLines.{LinesFit}
 use Rattle.hb_core.specs.KeptTurns.{LinesInTurn}
+use Rattle.hb_core.specs.KeptMerges.{NamesKnown, merging_at}
 use Rattle.hb_core.specs.KeptOrder.{HasLegalOrder, HasPendingPrefix}
 
 -- Every file is sound: the durable one, and that after each group that waits. What is in memory is the last one's.
@@ -47,13 +48,15 @@ pub record LatchesFit (m : Machine) : Type 0 where
   pub walking : (actor held : ℕ) → MayLatch actor → walk_held (m.activity actor) ≡ Some held → (live : LivePage) × (in_memory m.store held ≡ Some (Live live))
 
 -- The page that a walk holds has the walk's point in its box. The parent that a poster holds is of the job's level, and
--- has a child leaf at the job's point.
+-- has a child leaf at the job's point. The parent that a consolidator holds is of the job's level, and names the pages that
+-- the activity names; a page to keep that it holds has a sibling leaf to the page to go.
 pub record WalksInSpace (m : Machine) : Type 0 where
   pub held : (actor held : ℕ) (page : LivePage) → walk_held (m.activity actor) ≡ Some held → live_here m.store held ≡ Some page →
       IfSome (walk_point (m.activity actor)) (Holds page.area)
   pub parents : (actor : ℕ) (job : Job) (parent : ℕ) →
       (m.activity actor ≡ at.PosterChild job parent) ⊎ (m.activity actor ≡ at.PosterPromote job parent) ⊎ (m.activity actor ≡ at.PosterAgain job parent) →
       (page : LivePage) × (live_here m.store parent ≡ Some page) × (page.level ≡ job.level) × LeadsBelow page job
+  pub merging : (actor : ℕ) → IfSome (merging_at (m.activity actor)) (NamesKnown m.store)
 
 -- A page that is to be split directly holds the point of the insert, has no record there, and has no room for it. Of the
 -- two halves, which are in use, one directly holds the point, has no record there, and has room; and not both hold it.
@@ -90,6 +93,10 @@ pub record KnowsRoom (m : Machine) : Type 0 where
 abbrev pub HasNobodyElse : Machine → Type 0
 HasNobodyElse m = (actor : ℕ) → ¬ (MayLatch actor) → m.activity actor ≡ at.SessionIdle
 
+-- And under no other number a latch is held.
+abbrev pub HasNoOtherLatches : Machine → Type 0
+HasNoOtherLatches m = (actor page : ℕ) → ¬ (MayLatch actor) → mode_at m.latches actor page ≡ None
+
 -- All of them, from the set that was opened.
 pub record CoreKeeps (n : RecordSet) (m : Machine) (files : Files) : Type 0 where
   pub told : m.files ≡ Some files
@@ -99,6 +106,7 @@ pub record CoreKeeps (n : RecordSet) (m : Machine) (files : Files) : Type 0 wher
   pub sound_file : HasSoundFile m files
   pub latches_fit : LatchesFit m
   pub nobody_else : HasNobodyElse m
+  pub no_other_latches : HasNoOtherLatches m
   pub walk_in_space : WalksInSpace m
   pub room_known : KnowsRoom m
   pub order_legal : HasLegalOrder n m files

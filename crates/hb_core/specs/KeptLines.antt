@@ -35,5 +35,6 @@ pub record LinesFit (m : Machine) : Type 0 where
 pub record MarksInPlace (m : Machine) : Type 0 where
   pub layout : IsLayout m.store.meta
   pub high : m.store.meta.high ≤ m.store.meta.pages
+  pub live : m.store.meta.live ≤ m.store.meta.pages
   pub root : m.store.meta.root < 2 ^ 32
   pub free : m.store.meta.free < 2 ^ 32

@@ -8,6 +8,8 @@ pub mod SearchRows
 pub mod SplitRows
 pub mod SessionRows
 pub mod WorkerRows
+pub mod ConsolidatorRows
+pub mod MergeRows
 pub mod Rows
 pub mod Forcing
 pub mod GivingUp
@@ -16,6 +18,7 @@ pub mod Steps
 pub mod KeptLines
 pub mod KeptTurns
 pub mod KeptOrder
+pub mod KeptMerges
 pub mod Keeps
 pub mod Laws
 pub mod FileLaws
@@ -24,6 +27,9 @@ pub mod OrderLaws
 pub mod AllowedLaws
 pub mod DoableLaws
 pub mod OutcomeLaws
+pub mod DamageLaws
 pub mod SteppingLaws
 pub mod KeepingLaws
+pub mod WaitingLaws
+pub mod StageLaws
 pub mod Examples

@@ -1,8 +1,7 @@
 -- What two steps of one actor from one machine come to: the same, but for want of memory and faults of the device.
-use Rattle.std.specs.Prelude.{◌≡◌, ◌⊎◌, ℕ, Some}
+use Rattle.std.specs.Prelude.{◌≡◌, ◌⊎◌, ℕ, Some, IsSome, IsSomeAnd}
 use Rattle.hb_frag.specs.declared.pages.Page.{Page}
 use Rattle.hb_store.specs.States.{in_memory}
-use Rattle.hb_latch.specs.Tables.{mode_at}
 use Rattle.hb_set.specs.declared.commands.Reply.TheVariants as replies
 use Rattle.hb_set.specs.declared.scripts.Line.{Line}
 use Rattle.hb_activity.specs.declared.activities.Activity.TheVariants as at
@@ -12,7 +11,9 @@ use Rattle.hb_core.specs.Machines.{Files, Machine}
 use Rattle.hb_core.specs.Acting.{Abandons, MeetsBadPage}
 use Rattle.hb_core.specs.Deeds.{answers_now}
 use Rattle.hb_core.specs.Forcing.{ForcesBadly}
+use Rattle.hb_core.specs.GivingUp.{job_in_work}
 use Rattle.hb_core.specs.Keeps.{HoldsPagesOfFile, KnowsRoom}
+use Rattle.hb_core.specs.KeptLines.{line_in_hand}
 use Rattle.hb_core.specs.Performing.{Performs}
 use Rattle.hb_core.specs.SessionRows.{next_line}
 use Rattle.hb_core.specs.Steps.{StepsTo, WantsBoxes}
@@ -43,31 +44,29 @@ abbrev pub OutcomeIsOne : Type 0
 OutcomeIsOne = (m : Machine) (actor : ℕ) (outcome other : Outcome) (new next : Machine) → StepsTo m actor outcome new → StepsTo m actor other next →
     IsTurnedAside m actor outcome new ⊎ IsTurnedAside m actor other next ⊎ ComesToSame outcome other new next
 
--- They leave each actor where the other step did, with the same latches, and the same jobs, order and files.
-pub record LeavesSame (new next : Machine) : Type 0 where
-  pub activity : (who : ℕ) → new.activity who ≡ next.activity who
-  pub latches : (who page : ℕ) → mode_at new.latches who page ≡ mode_at next.latches who page
-  pub jobs : new.jobs ≡ next.jobs
-  pub order : new.order ≡ next.order
-  pub files : new.files ≡ next.files
-
--- So they do over a disk that tells, where pages in memory keep the rules that speak of a page alone and not both halves of a
--- split hold the point of the insert. Which of the pages that the step may need came into memory is left open, and so is the store.
+-- Over a disk that tells they lead to one machine, where pages in memory keep the rules that speak of a page alone and not both
+-- halves of a split hold the point of the insert.
 abbrev pub StateIsOne : Type 0
 StateIsOne = (m : Machine) (files : Files) (actor : ℕ) (outcome other : Outcome) (new next : Machine) → m.files ≡ Some files → HoldsPagesOfFile m → KnowsRoom m → StepsTo m actor outcome new → StepsTo m actor other next →
-    IsTurnedAside m actor outcome new ⊎ IsTurnedAside m actor other next ⊎ LeavesSame new next
+    IsTurnedAside m actor outcome new ⊎ IsTurnedAside m actor other next ⊎ (new ≡ next)
 
--- A step that was turned aside answers a line `no memory` or `read fault`, drops a job, or stops the machine.
-abbrev pub SaysAside : Outcome → Type 0
-SaysAside (outcomes.Answered number reply) = (reply ≡ replies.NoMemory) ⊎ (reply ≡ replies.ReadFault)
-SaysAside (outcomes.Dropped why) = Unit {0}
-SaysAside (outcomes.Stopped why) = Unit {0}
-SaysAside other = ⊥
+-- the line for which an actor works: the one in its hand, or the next one of an idle session
+abbrev pub IsItsLine : Machine → ℕ → ℕ → Type 0
+IsItsLine m actor number = IsSomeAnd (line_in_hand (m.activity actor)) (λ line. line.number ≡ number)
+    ⊎ ((m.activity actor ≡ at.SessionIdle) × IsSomeAnd (next_line actor m.answered m.lines) (λ line. line.number ≡ number))
+
+-- A step that was turned aside answers its actor's line `no memory` or `read fault`, drops the job that its worker has in work,
+-- or stops the machine.
+abbrev pub SaysAside : Machine → ℕ → Outcome → Type 0
+SaysAside m actor (outcomes.Answered number reply) = IsItsLine m actor number × ((reply ≡ replies.NoMemory) ⊎ (reply ≡ replies.ReadFault))
+SaysAside m actor (outcomes.Dropped why) = IsSome (job_in_work (m.activity actor))
+SaysAside m actor (outcomes.Stopped why) = Unit {0}
+SaysAside m actor other = ⊥
 
 -- It leaves the lines, the jobs that wait, the order and the files, what the file says of itself, the log, the imaged pages,
 -- and what was in memory.
-pub record ChangesNoFile (m : Machine) (outcome : Outcome) (new : Machine) : Type 0 where
-  pub says : SaysAside outcome
+pub record ChangesNoFile (m : Machine) (actor : ℕ) (outcome : Outcome) (new : Machine) : Type 0 where
+  pub says : SaysAside m actor outcome
   pub lines : new.lines ≡ m.lines
   pub jobs : new.jobs ≡ m.jobs
   pub order : new.order ≡ m.order
@@ -78,4 +77,4 @@ pub record ChangesNoFile (m : Machine) (outcome : Outcome) (new : Machine) : Typ
   pub memory : (id : ℕ) (page : Page) → in_memory m.store id ≡ Some page → in_memory new.store id ≡ Some page
 
 abbrev pub AsideChangesNoFile : Type 0
-AsideChangesNoFile = (m : Machine) (actor : ℕ) (outcome : Outcome) (new : Machine) → IsTurnedAside m actor outcome new → ChangesNoFile m outcome new
+AsideChangesNoFile = (m : Machine) (actor : ℕ) (outcome : Outcome) (new : Machine) → IsTurnedAside m actor outcome new → ChangesNoFile m actor outcome new

@@ -14,6 +14,8 @@ use Rattle.hb_core.specs.Asking.{HasAskedBox, asked_box}
 use Rattle.hb_core.specs.Deeds.{Deed, answers_now, moves_to}
 use Rattle.hb_core.specs.SessionRows.{DoesThere, PassesOn}
 use Rattle.hb_core.specs.WorkerRows.{Arrives, GrowsFile, GrowsNot, LooksAgain, LooksAtChild, PosterPasses}
+use Rattle.hb_core.specs.ConsolidatorRows.{ArrivesToMerge, ConsolidatorPasses, Scans, TriesPair}
+use Rattle.hb_core.specs.MergeRows.{Decides, takes_keep}
 use Rattle.hb_core.specs.SplitRows.{HasNoPage, Puts, Splits}
 
 -- The row of an activity that wants no page.
@@ -35,6 +37,12 @@ RowAt (at.PosterWalk job held) m id page deed = Arrives m job id page deed ⊎ P
 RowAt (at.PosterChild job parent) m id page deed = LooksAtChild m job parent page deed
 RowAt (at.PosterPromote job parent) m id page deed = deed ≡ moves_to m (at.PosterAgain job parent) []
 RowAt (at.PosterAgain job parent) m id page deed = LooksAgain m job parent page deed
+RowAt (at.ConsolidatorWalk job held) m id page deed = ArrivesToMerge m job id page deed ⊎ ConsolidatorPasses m job id page deed
+RowAt (at.ConsolidatorScan job parent child) m id page deed = Scans m job parent child page deed
+RowAt (at.ConsolidatorTry job parent keep gone leaf) m id page deed = TriesPair m job parent keep gone leaf page deed
+RowAt (at.ConsolidatorPromote job parent keep gone) m id page deed = deed ≡ moves_to m (at.ConsolidatorKeep job parent keep gone) []
+RowAt (at.ConsolidatorKeep job parent keep gone) m id page deed = deed ≡ takes_keep m job parent keep gone page
+RowAt (at.ConsolidatorDecide job parent keep gone) m id page deed = Decides m job parent keep gone page deed
 RowAt other m id page deed = ⊥
 
 -- the wanted page is in memory and in use, and is the one that was asked for

@@ -4,20 +4,22 @@ use Rattle.hb_set.specs.declared.commands.Command.{Command}
 use Rattle.hb_set.specs.declared.commands.Command.TheVariants.{Search}
 use Rattle.hb_set.specs.declared.commands.Reply.{Reply}
 use Rattle.hb_set.specs.declared.commands.Reply.TheVariants as replies
-use Rattle.hb_activity.specs.declared.jobs.JobKind.TheVariants.{Post}
+use Rattle.hb_activity.specs.declared.jobs.JobKind.TheVariants.{Post, Merge}
 use Rattle.hb_activity.specs.declared.activities.Activity.{Activity}
 use Rattle.hb_activity.specs.declared.activities.Activity.TheVariants as at
 use Rattle.hb_activity.specs.Changing.{may_commit}
 use Rattle.hb_store.specs.Calls.{IsReady}
 use Rattle.hb_core.specs.declared.outcomes.Outcome.{Outcome}
 use Rattle.hb_core.specs.declared.outcomes.Outcome.TheVariants as outcomes
+use Rattle.hb_core.specs.Stages.{flusher_steps}
 use Rattle.hb_core.specs.Machines.{Machine, settled_count}
 use Rattle.hb_core.specs.Asking.{HasWayFree, IsInTheWay, looked_live}
 use Rattle.hb_core.specs.Deeds.{Deed, answers_now}
 use Rattle.hb_core.specs.SessionRows.{next_line, taking}
 use Rattle.hb_core.specs.WorkerRows.{TakesJob}
+use Rattle.hb_core.specs.ConsolidatorRows.{TakesMerging}
 use Rattle.hb_core.specs.Performing.{Performs}
-use Rattle.hb_core.specs.Forcing.{ForcesFirst, StaysSo}
+use Rattle.hb_core.specs.Forcing.{Flushes, ForcesFirst, StaysSo}
 use Rattle.hb_core.specs.GivingUp.{runs_out}
 use Rattle.hb_core.specs.Acting.{DoesRow, Abandons, MeetsBadPage}
 
@@ -57,19 +59,25 @@ TakesPosting m actor outcome new =
     (All (λ job. job.kind ≢ Post) m.jobs × StaysSo m outcomes.Idle outcome new)
     ⊎ ((deed : Deed) × TakesJob m deed × Performs m m.store actor deed outcome new)
 
+-- An idle consolidator takes its oldest job.
+abbrev pub TakesJobToMerge : Machine → ℕ → Outcome → Machine → Type 0
+TakesJobToMerge m actor outcome new =
+    (All (λ job. job.kind ≢ Merge) m.jobs × StaysSo m outcomes.Idle outcome new)
+    ⊎ ((deed : Deed) × TakesMerging m deed × Performs m m.store actor deed outcome new)
+
 -- A line that awaits its place is answered once that is settled. Till then the step forces.
 abbrev pub AwaitsPlace : Machine → ℕ → ℕ → Reply → ℕ → Outcome → Machine → Type 0
 AwaitsPlace m actor number reply place outcome new =
     ((place < settled_count m) × Performs m m.store actor (answers_now m number reply) outcome new)
     ⊎ ((settled_count m ≤ place) × ForcesFirst m outcomes.Moved outcome new)
 
--- One step of an activity. The consolidator has no job and the flusher no step before they are built.
+-- One step of an activity. The consolidator has no job and the flusher no step before `Stages` says so.
 abbrev pub StepsAs : Activity → Machine → ℕ → Outcome → Machine → Type 0
 StepsAs at.SessionIdle m actor outcome new = TakesNextLine m actor outcome new
 StepsAs (at.SessionAwait number reply place) m actor outcome new = AwaitsPlace m actor number reply place outcome new
 StepsAs at.PosterIdle m actor outcome new = TakesPosting m actor outcome new
-StepsAs at.ConsolidatorIdle m actor outcome new = StaysSo m outcomes.Idle outcome new
-StepsAs at.Flusher m actor outcome new = StaysSo m outcomes.Idle outcome new
+StepsAs at.ConsolidatorIdle m actor outcome new = TakesJobToMerge m actor outcome new
+StepsAs at.Flusher m actor outcome new = Flushes flusher_steps m outcome new
 StepsAs other m actor outcome new = Works m actor outcome new
 
 -- One step of an actor. A machine that is stopped stays so.

@@ -1,4 +1,4 @@
--- The rows of the poster and the consolidator. The page of a row is the one that the step latches.
+-- The rows of the poster. The page of a row is the one that the step latches.
 use Rattle.std.specs.Prelude.{◌≡◌, ◌≢◌, ◌⊎◌, ℕ, ◌+◌, ◌<◌, List, [], ◌∷◌, Some, None}
 use Rattle.hb_space.specs.Boxes.{Area}
 use Rattle.hb_layout.specs.declared.limits.TheConstants.{HEIGHT_MAX}

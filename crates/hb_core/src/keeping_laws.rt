@@ -2,7 +2,9 @@
 //! of steps. Each law is the contract of a function that does nothing: a caller learns it by the call.
 
 ghost use Rattle.hb_core.specs.DoableLaws.{PutsFindRoom, RowsCanBeDone};
-ghost use Rattle.hb_core.specs.KeepingLaws.{AnswersAreInPlace, BegunKeepsAll, ChangesKeepAll, FilesHavePrefixes, NobodyElseComes, PrefixStaysPending, RoomStaysKnown, SettledStaysSettled, StepsGoOn, StepsKeepAll, StoppedStays, WalksStayInSpace};
+ghost use Rattle.hb_core.specs.KeepingLaws.{AnswersAreInPlace, BegunKeepsAll, ChangesKeepAll, FilesHavePrefixes, NobodyElseComes, NobodyElseLatches, PrefixStaysPending, RoomStaysKnown, SettledStaysSettled, StepsKeepAll, WalksStayInSpace};
+ghost use Rattle.hb_core.specs.SteppingLaws.{StepsGoOn, StoppedStays};
+ghost use Rattle.hb_core.specs.StageLaws.{BegunHasNothingToMerge, NothingComesToMerge, NothingIsMerged};
 
 use crate::file_laws::{
     a_beginning_keeps_all, files_stay_sound, lines_stay_fit, pages_stay_pages_of_the_file,
@@ -17,10 +19,11 @@ use hb_sound::laws::{
 };
 use hb_space::laws::held_is_a_point;
 
-/// Under no number but those of the 19 actors anybody comes to stand.
-#[tactic(auto, using(crate::proofs::StillThere::nobody_else_comes))]
+/// Under no number but those of the 19 actors anybody comes to stand, or takes a latch.
+#[tactic(auto, using(crate::proofs::StillThere::nobody_else_comes, crate::proofs::StillThere::nobody_else_latches))]
 pub fn nobody_else_comes()
-    ensures { NobodyElseComes }
+    ensures stands { NobodyElseComes }
+    ensures latches { NobodyElseLatches }
 {}
 
 /// After a step the page that a walk holds has the walk's point in its box, and the parent that a poster
@@ -101,3 +104,12 @@ pub fn steps_keep_all()
     files_stay_sound();
     the_order_stays_legal();
 }
+
+/// While pages aren't merged no job to merge waits, and the consolidator stays idle: so it is after a step
+/// and after any list of steps, over every disk, and at a beginning where no job waits.
+#[tactic(auto, using(crate::proofs::NoMerges::nothing_comes_to_merge, crate::proofs::NoMerges::nothing_is_merged, crate::proofs::NoMerges::begun_has_nothing))]
+pub fn nothing_is_merged()
+    ensures begun { BegunHasNothingToMerge }
+    ensures comes { NothingComesToMerge }
+    ensures merged { NothingIsMerged }
+{}

@@ -3,7 +3,7 @@
 //! flushes take their steps in any order.
 //!
 //! The one contract: a step is one of the table. The table is `StepsTo` of `specs/Steps.antt`, with a
-//! record for each row in `specs/SessionRows.antt` and `specs/WorkerRows.antt`. What follows of it is
+//! record for each row in the files of `specs/` whose names end in `Rows`. What follows of it is
 //! in `laws`, and what it does to the file, its contents and the order in `file_laws`. `docs/STEPS.md`
 //! tells every row in words.
 //!
@@ -21,5 +21,6 @@ pub mod laws;
 pub mod outcome_laws;
 mod outcomes;
 mod threads;
+pub mod waiting_laws;
 
 pub use outcomes::{DropWhy, Outcome};

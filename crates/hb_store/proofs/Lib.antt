@@ -15,7 +15,7 @@ mod Committed
 pub mod FilePages
 pub mod Counting
 pub mod Counted
-mod Heads
+pub mod Heads
 pub mod Shown
 pub mod Fetched
 pub mod LogReads

@@ -2,10 +2,11 @@
 
 ghost use Rattle.std.specs.Thread.{IsSend, IsSync};
 
-use crate::PostPlan;
+use crate::{MergePlan, PostPlan};
 
 /// Each type of the crate does.
 fn types_cross_threads() {
+    crosses::<MergePlan>();
     crosses::<PostPlan>();
 }
 

@@ -1,0 +1,5 @@
+use Rattle.hb_core.proofs.LaterWanted.{wanted_comes_later}
+use Rattle.hb_core.proofs.waiting_laws.what_is_wanted_comes_later.Goals as goal
+
+pub returns : goal.returns
+returns c = wanted_comes_later

@@ -1,0 +1,65 @@
+-- Which actors wait for which, as laws: what a step wants comes later than what its actor holds, so no circle of actors waits,
+-- and somebody may always go on.
+use Rattle.std.specs.Prelude.{◌≡◌, ◌⊎◌, ℕ, List, [], ◌∷◌, Some}
+use Rattle.hb_frag.specs.declared.pages.LivePage.{LivePage}
+use Rattle.hb_latch.specs.declared.modes.Mode.{Mode}
+use Rattle.hb_latch.specs.declared.modes.Mode.TheVariants.{Update}
+use Rattle.hb_latch.specs.Tables.{MayLatch, mode_at}
+use Rattle.hb_ops.specs.Files.{FileState, live_page}
+use Rattle.hb_activity.specs.declared.wanting.Wanted.{Wanted}
+use Rattle.hb_activity.specs.declared.activities.Activity.{Activity}
+use Rattle.hb_activity.specs.declared.activities.Activity.TheVariants.{PosterPromote, ConsolidatorPromote}
+use Rattle.hb_activity.specs.Waiting.{IsLater, WaitsFor}
+use Rattle.hb_core.specs.Machines.{Files, Machine, current_file}
+use Rattle.hb_core.specs.Asking.{IsInTheWay, wanted_by}
+use Rattle.hb_core.specs.Keeps.{HasNoOtherLatches, HasNobodyElse, HasSoundFile, LatchesFit, WalksInSpace}
+use Rattle.hb_core.specs.SteppingLaws.{IsAtRest}
+
+-- The second page comes later than the first one: its level is lower, or the level is the same and its box holds fewer points.
+pub record ComesLater (s : FileState) (id other : ℕ) : Type 0 where
+  pub page : LivePage
+  pub named : LivePage
+  pub live : live_page s id ≡ Some page
+  pub live_named : live_page s other ≡ Some named
+  pub later : IsLater page named
+
+-- The next step makes the actor's latch on this page exclusive.
+abbrev pub Promotes : Activity → ℕ → Type 0
+Promotes (PosterPromote job parent) id = id ≡ parent
+Promotes (ConsolidatorPromote job parent keep gone) id = id ≡ parent
+Promotes other id = ⊥
+
+-- the page that a step wants is the one that its actor holds for update, to have it alone
+pub record WantsItsOwn (m : Machine) (actor id : ℕ) (mode : Mode) (wanted : Wanted) : Type 0 where
+  pub promotes : Promotes (m.activity actor) id
+  pub same : wanted.page ≡ id
+  pub update : mode ≡ Update
+
+-- The page that a step wants comes later than each page that its actor holds, but for a promotion, whose actor holds that one
+-- page alone.
+abbrev pub WantedComesLater : Type 0
+WantedComesLater = (m : Machine) (files : Files) (actor id : ℕ) (mode : Mode) (wanted : Wanted) → MayLatch actor → LatchesFit m → HasSoundFile m files → WalksInSpace m →
+    wanted_by m actor ≡ Some wanted → mode_at m.latches actor id ≡ Some mode → ComesLater (current_file files) id wanted.page ⊎ WantsItsOwn m actor id mode wanted
+
+-- An actor waits for another one, and so on, to the last.
+abbrev pub Waits : Machine → ℕ → ℕ → Type 0
+Waits m actor other = WaitsFor m.latches (wanted_by m) actor other
+
+abbrev pub WaitInTurn : Machine → ℕ → List ℕ → ℕ → Type 0
+WaitInTurn m actor [] last = Waits m actor last
+WaitInTurn m actor (next ∷ rest) last = Waits m actor next × WaitInTurn m next rest last
+
+-- No actor waits for itself in this way.
+abbrev pub NobodyWaitsInACircle : Type 0
+NobodyWaitsInACircle = (m : Machine) (files : Files) (actor : ℕ) (rest : List ℕ) → LatchesFit m → HasSoundFile m files → HasNobodyElse m → WalksInSpace m → WaitInTurn m actor rest actor → ⊥
+
+-- Where an actor is at work, not every actor at work is kept waiting.
+abbrev pub IsAtWork : Machine → ℕ → Type 0
+IsAtWork m actor = MayLatch actor × (¬ (IsAtRest (m.activity actor)))
+
+abbrev pub IsKeptWaiting : Machine → ℕ → Type 0
+IsKeptWaiting m actor = (by : ℕ) × IsInTheWay m actor by
+
+abbrev pub SomebodyGoesOn : Type 0
+SomebodyGoesOn = (m : Machine) (files : Files) (actor : ℕ) → LatchesFit m → HasSoundFile m files → HasNobodyElse m → HasNoOtherLatches m → WalksInSpace m → IsAtWork m actor →
+    ((other : ℕ) → IsAtWork m other → IsKeptWaiting m other) → ⊥
