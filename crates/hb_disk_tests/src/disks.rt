@@ -10,7 +10,9 @@ use std::alloc::Global;
 use std::test::Fail;
 
 fn push_image(text: &mut String, disk: &MemDisk, before: u64, pick: Pick) -> Result<(), NoMemory> {
-    text.push(' ')?;
+    if !text.is_empty() {
+        text.push(' ')?;
+    }
     match disk.image(before, pick)? {
         Some(image) => push_bytes(text, &image),
         None => text.push_str("none"),
@@ -59,35 +61,39 @@ pub(crate) fn run(alloc: Global, question: &str) -> Result<String, Fail> {
     Ok(text)
 }
 
-// What both callers do to a disk of eight bytes.
-fn frame<D: Device>(disk: &mut D) -> bool {
-    disk.size() == 8 && write_behind_gate(disk, 1, b"ab").is_ok()
+// The disk on which `ab` was written behind a gate.
+fn framed(alloc: Global) -> Result<MemDisk, Fail> {
+    let mut disk = MemDisk::new(alloc, b"ijklmnop".to_vec(alloc)?);
+    match write_behind_gate(&mut disk, 1, b"ab") {
+        Ok(()) => Ok(disk),
+        Err(_) => Err("the frame wasn't written".into()),
+    }
 }
 
-fn pieces<D: Device>(disk: &mut D) -> bool {
-    disk.size() == 8 && write_in_order(disk, 0, b"ab", 4, b"cd").is_ok()
+// The disk on which `ab` and then `cd` was written.
+fn pieced(alloc: Global) -> Result<MemDisk, Fail> {
+    let mut disk = MemDisk::new(alloc, b"ijklmnop".to_vec(alloc)?);
+    match write_in_order(&mut disk, 0, b"ab", 4, b"cd") {
+        Ok(()) => Ok(disk),
+        Err(_) => Err("the pieces weren't written".into()),
+    }
 }
 
-fn images(alloc: Global, disk: &MemDisk, done: bool, before: &str) -> Result<String, Fail> {
+fn images(alloc: Global, disk: &MemDisk, before: &str) -> Result<String, Fail> {
     let before = before.parse()?;
     let mut text = String::new(alloc);
-    text.push(if done { 'y' } else { 'n' })?;
     push_images(&mut text, disk, before)?;
     Ok(text)
 }
 
 /// The images of a moment while `ab` is written behind a gate.
 pub(crate) fn gate(alloc: Global, question: &str) -> Result<String, Fail> {
-    let mut disk = disk_of(alloc, "ijklmnop", "")?;
-    let done = frame(&mut disk);
-    images(alloc, &disk, done, question)
+    images(alloc, &framed(alloc)?, question)
 }
 
 /// The images of a moment while `ab` and then `cd` is written.
 pub(crate) fn order(alloc: Global, question: &str) -> Result<String, Fail> {
-    let mut disk = disk_of(alloc, "ijklmnop", "")?;
-    let done = pieces(&mut disk);
-    images(alloc, &disk, done, question)
+    images(alloc, &pieced(alloc)?, question)
 }
 
 #[test]
@@ -110,17 +116,17 @@ run: 2 | 5 => yynyy abXYefgh _bXYefgh #bXYe#gh
 run: 3 2 | 5 => yynny abXYefgh abXYefgh #bXYe#gh
 run: 4 | 5 => yyyyn abXYefgh _bXYeZgh #bXYe#gh
 // a gate opens last
-gate: 0 => y ijklmnop ijklmnop ijklmnop
-gate: 1 => y ijklmnop ijabmnop ij##mnop
-gate: 2 => y ijabmnop ijabmnop ijabmnop
-gate: 3 => y ijabmnop i#abmnop i#abmnop
-gate: 4 => y i#abmnop i#abmnop i#abmnop
+gate: 0 => ijklmnop ijklmnop ijklmnop
+gate: 1 => ijklmnop ijabmnop ij##mnop
+gate: 2 => ijabmnop ijabmnop ijabmnop
+gate: 3 => ijabmnop i#abmnop i#abmnop
+gate: 4 => i#abmnop i#abmnop i#abmnop
 // the second piece waits for the first
-order: 0 => y ijklmnop ijklmnop ijklmnop
-order: 1 => y ijklmnop abklmnop ##klmnop
-order: 2 => y abklmnop abklmnop abklmnop
-order: 3 => y abklmnop abklcdop abkl##op
-order: 4 => y abklcdop abklcdop abklcdop
+order: 0 => ijklmnop ijklmnop ijklmnop
+order: 1 => ijklmnop abklmnop ##klmnop
+order: 2 => abklmnop abklmnop abklmnop
+order: 3 => abklmnop abklcdop abkl##op
+order: 4 => abklcdop abklcdop abklcdop
 ";
 
 #[test]

@@ -1,7 +1,7 @@
 //! A log's life over a disk in memory, what crashes and faults leave, and areas that are good, cut short or
 //! bad.
 
-ghost use Rattle.std.specs.Prelude.{IfOk, IsTrue};
+ghost use Rattle.std.specs.Prelude.{◌≤◌, IfOk, IsTrue};
 ghost use Rattle.hb_wal.specs.Forces.{MayForce};
 
 use crate::letters::{PICKS, bytes_of, disk_of, push_bytes};
@@ -80,11 +80,12 @@ const NOISE: &str = "nnnnnnnnnnnnnnnnnnnnnnnnnnnnnn";
 
 // A log of 24 bytes behind the first two, with two groups that wait.
 fn begun<D: Device>(alloc: Global, disk: &mut D) -> Result<Wal, Fail>
-    ensures { IfOk result (λ log. MayForce (D.model disk.new) log) }
+    requires { 26 ≤ (D.model disk.old).size }
+    ensures ready { IfOk result (λ log. MayForce (D.model disk.new) log) }
 {
-    if disk.size() < 26 || zero_area(disk, 2, 24).is_err() {
+    let Ok(()) = zero_area(disk, 2, 24) else {
         return Err("the area wasn't zeroed".into());
-    }
+    };
     let mut log = Wal::new(alloc, 2, 24)?;
     log.append(b"ab", 3);
     log.append(b"c", 5);
@@ -99,14 +100,22 @@ fn forced<D: Device>(disk: &mut D, log: &mut Wal) -> bool
     log.force(disk).is_ok()
 }
 
+// Forces so often, or up to the first that fails.
+fn force_often<D: Device>(disk: &mut D, log: &mut Wal, forces: u8)
+    requires { MayForce (D.model disk.old) log.old }
+{
+    if forces > 0 && forced(disk, log) {
+        force_often(disk, log, forces - 1);
+    }
+}
+
 // The log after so many forces, or up to the first that fails.
 fn forced_often<D: Device>(alloc: Global, disk: &mut D, forces: u8) -> Result<Wal, Fail> {
-    let mut log = begun(alloc, disk)?;
-    for _ in 0..forces {
-        if !forced(disk, &mut log) {
-            return Ok(log);
-        }
+    if disk.size() < 26 {
+        return Err("a small disk".into());
     }
+    let mut log = begun(alloc, disk)?;
+    force_often(disk, &mut log, forces);
     Ok(log)
 }
 
@@ -180,14 +189,19 @@ force: 4 | 5 => 3 0 3 0 0 1
 force: 5 | 6 => 3 0 3 0 1 1
 ";
 
-// Forces a group into an area of exactly its frame's length, and tells the room before, between and behind.
-fn only_group<D: Device>(alloc: Global, disk: &mut D, group: &[u8; 16]) -> Result<[u32; 3], Fail> {
-    if disk.size() < 22 || zero_area(disk, 1, 21).is_err() {
+// The put of the point 5 with the body `a` into page 1, as a group of the log has it.
+const PUT: [u8; 16] = [0, 1, 0, 0, 0, 1, 0, 0, 0, 0, 0, 0, 0, 5, 1, b'a'];
+
+// Forces a put's group into an area of exactly its frame's length, and tells the room before, between and behind.
+fn put<D: Device>(alloc: Global, disk: &mut D) -> Result<[u32; 3], Fail>
+    requires { 22 ≤ (D.model disk.old).size }
+{
+    if zero_area(disk, 1, 21).is_err() {
         return Err("the area wasn't zeroed".into());
     }
     let mut log = Wal::new(alloc, 1, 21)?;
     let before = log.room();
-    log.append(group, 0);
+    log.append(&PUT, 0);
     let between = log.room();
     if log.force(disk).is_err() {
         return Err("the frame wasn't written".into());
@@ -200,8 +214,8 @@ fn only_group<D: Device>(alloc: Global, disk: &mut D, group: &[u8; 16]) -> Resul
 fn the_frame_of_a_put(rt: HostRuntime) -> Result<(), Fail> {
     let alloc = rt.alloc();
     let mut disk = disk_of(alloc, NOISE, "")?;
-    let group = [0, 1, 0, 0, 0, 1, 0, 0, 0, 0, 0, 0, 0, 5, 1, b'a'];
-    assert_eq!(rt; only_group(alloc, &mut disk, &group)?, [16, 0, 16]);
+    assert!(rt; disk.size() == 30);
+    assert_eq!(rt; put(alloc, &mut disk)?, [16, 0, 16]);
     let mut text = String::new(alloc);
     push_bytes(&mut text, disk.bytes())?;
     assert_eq!(rt; text.as_str(), "n#___%_1___1_______51annnnnnnn");
