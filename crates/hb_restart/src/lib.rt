@@ -21,8 +21,6 @@ mod reading;
 mod recovery;
 mod renewal;
 mod source;
-#[cfg(test)]
-mod tests;
 mod threads;
 
 pub use creation::create;

@@ -10,8 +10,6 @@
 #![tactic(auto)]
 
 mod audits;
-#[cfg(test)]
-mod box_tests;
 mod chains;
 mod corners;
 mod covers;
@@ -22,12 +20,6 @@ mod links;
 mod names;
 mod pages;
 mod rests;
-#[cfg(test)]
-mod source_tests;
-#[cfg(test)]
-mod test_files;
-#[cfg(test)]
-mod tests;
 mod threads;
 
 pub use audits::{a_sound_file_breaks_no_rule, audit, one_rule_is_named};

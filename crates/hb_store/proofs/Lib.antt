@@ -23,5 +23,3 @@ pub mod OneFile
 pub mod OneKept
 pub mod Replays
 pub mod Touches
-mod OnePage
-pub mod Untold

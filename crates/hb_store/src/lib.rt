@@ -27,18 +27,12 @@
 #![tactic(auto)]
 
 mod allocating;
-#[cfg(test)]
-mod commit_tests;
 mod commits;
 mod fetches;
-#[cfg(test)]
-mod force_tests;
 mod forces;
 mod group_writing;
 mod image_laws;
 mod laws;
-#[cfg(test)]
-mod log_tests;
 mod looks;
 mod making;
 mod memory;
@@ -49,8 +43,6 @@ mod stops;
 mod store;
 mod threads;
 mod touched;
-#[cfg(test)]
-mod tree_tests;
 
 pub use image_laws::an_image_opens_to_one_file;
 pub use laws::{a_store_keeps_one_file, an_image_of_a_store_opens};

@@ -26,8 +26,6 @@ mod finished;
 mod forms;
 mod starting;
 mod statuses;
-#[cfg(test)]
-mod tests;
 mod texts;
 pub mod top;
 

@@ -1,7 +1,7 @@
 //! Files of two, three and four attributes: a sound one of each, and the same with another page in the place of one of its
 //! own. The answers were worked out by hand from the rules.
 
-use crate::test_files::{KeptPages, Marks, expect_answer, meta_of};
+use crate::spelled_files::{KeptPages, Marks, expect_answer, meta_of};
 use std::test::Fail;
 
 // Page 1 is the root, and names some of the others. Page 2 has the whole space, and gave a box to another page, which gave a

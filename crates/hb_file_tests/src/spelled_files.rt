@@ -10,9 +10,9 @@ ghost use Rattle.hb_frag.specs.Leaves.{leaf_weight, weight_of};
 ghost use Rattle.hb_page_codec.specs.Weight.{IsLight};
 ghost use Rattle.hb_layout.specs.Limits.{IsLayout};
 
-use crate::{AuditStop, PageStop, Pages, audit};
 use hb_frag::{Frag, Leaf, LivePage, Node, Page};
 use hb_ops::Meta;
+use hb_sound::{AuditStop, PageStop, Pages, audit};
 use hb_space::form::{KMAX, PAGE};
 use hb_space::{Area, Body, NoMemory, Point, Record, Records};
 use std::alloc::Global;

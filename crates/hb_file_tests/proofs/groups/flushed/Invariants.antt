@@ -1,5 +1,5 @@
 use Rattle.std.proofs.Common.{◌≡◌, false}
-use Rattle.hb_store.proofs.commit_tests.forced.Given as goal
+use Rattle.hb_file_tests.proofs.groups.flushed.Given as goal
 
 abbrev pub invariant-loop : goal.invariant-loop
 invariant-loop l = l.store.memory.stopped ≡ false

@@ -1,6 +1,6 @@
 //! Files of one attribute, each with the answer that was worked out by hand from the rules.
 
-use crate::test_files::{KeptPages, Marks, expect_answer, meta_of};
+use crate::spelled_files::{KeptPages, Marks, expect_answer, meta_of};
 use std::test::Fail;
 
 const ROWS: [(Marks, &str, &str); 65] = [

@@ -1,9 +1,9 @@
 //! Sources that fail, that lack memory, and that give other pages than before.
 ghost use Rattle.std.specs.Prelude.{◌≡◌, None};
 
-use crate::test_files::{KeptPages, meta_of, spelled};
-use crate::{PageStop, Pages, audit};
+use crate::spelled_files::{KeptPages, meta_of, spelled};
 use hb_frag::Page;
+use hb_sound::{PageStop, Pages, audit};
 use std::alloc::Global;
 use std::test::Fail;
 

@@ -1,6 +1,6 @@
 //! `dry` and `drive` compared with a plain list of records, over generated texts of two attributes.
 
-use super::{drive_on, made, plain};
+use crate::runs::{SIZE, drive_on, left_of, run_on};
 use std::alloc::Global;
 use std::test::Fail;
 
@@ -16,6 +16,8 @@ struct Case {
     records: Vec<Plain>,
     text: String,
     want: String,
+    /// The line of the order, as far as the lines go.
+    order: String,
 }
 
 impl Case {
@@ -97,73 +99,84 @@ fn no_case(alloc: Global, sessions: [u8; 2]) -> Result<Case, Fail> {
         records: Vec::new(alloc),
         text: String::new(alloc),
         want: String::from_str(alloc, "0 ")?,
+        order: String::from_str(alloc, "order")?,
     })
 }
 
-/// A line for each letter, drawn from the seed.
-fn drawn_case(alloc: Global, seed: u64) -> Result<Case, Fail> {
-    let mut seed = seed;
-    let mut line = 0;
-    let mut case = no_case(alloc, [2, 3])?;
-    let mut order = String::from_str(alloc, "order")?;
-    for body in LETTERS.chars() {
-        line = u32::wrapping_add(line, 1);
-        let one = (drawn(&mut seed), drawn(&mut seed), body);
-        match drawn(&mut seed) {
-            0 | 1 | 2 | 3 => case.insert(line, one)?,
-            4 => case.delete(line, one)?,
-            5 => case.lookup(line, one)?,
+impl Case {
+    /// A line for `dry`, drawn from the seed.
+    fn dry_line(&mut self, line: u32, seed: &mut u64, body: char) -> Result<(), Fail> {
+        let one = (drawn(seed), drawn(seed), body);
+        match drawn(seed) {
+            0 | 1 | 2 | 3 => self.insert(line, one),
+            4 => self.delete(line, one),
+            5 => self.lookup(line, one),
             _ => {
-                let hi = (one.0.max(drawn(&mut seed)), one.1.max(drawn(&mut seed)));
-                case.search(line, one, hi)?;
+                let hi = (one.0.max(drawn(seed)), one.1.max(drawn(seed)));
+                self.search(line, one, hi)
             }
         }
-        write!(order, " {line}")?;
     }
-    write!(case.want, "{order}\n")?;
-    Ok(case)
+
+    /// A line of session 1 for `drive`, drawn from the seed, over six points.
+    fn drive_line(&mut self, line: u32, seed: &mut u64, body: char) -> Result<(), Fail> {
+        let one = (drawn(seed) % 2, drawn(seed) % 3, body);
+        match drawn(seed) {
+            0 | 1 | 2 => self.insert(line, one),
+            3 | 4 | 5 => self.delete(line, one),
+            _ => self.lookup(line, one),
+        }
+    }
+
+    /// A line for each letter.
+    fn draw(&mut self, is_drive: bool, seed: u64) -> Result<(), Fail> {
+        let mut seed = seed;
+        let mut line = 0;
+        for body in LETTERS.chars() {
+            line = u32::wrapping_add(line, 1);
+            if is_drive {
+                self.drive_line(line, &mut seed, body)?;
+            } else {
+                self.dry_line(line, &mut seed, body)?;
+            }
+            write!(self.order, " {line}")?;
+        }
+        write!(self.want, "{}\n", self.order)?;
+        Ok(())
+    }
+}
+
+/// Whether `dry` answers the lines drawn from a seed as a plain list does.
+fn is_dry(alloc: Global, seed: u64) -> Result<bool, Fail> {
+    let mut case = no_case(alloc, [2, 3])?;
+    case.draw(false, seed)?;
+    let left = run_on(alloc, "dry 2", case.text.as_str(), &[]).ok_or("no memory")?;
+    Ok(left.said == case.want)
+}
+
+/// Whether `drive` does, with steps enough for all.
+fn is_driven(alloc: Global, file: &[u8], seed: u64) -> Result<bool, Fail> {
+    let mut case = no_case(alloc, [1, 1])?;
+    case.draw(true, seed)?;
+    write!(case.text, "step 1x248\n")?;
+    let left = drive_on(alloc, case.text.as_str(), file).ok_or("no memory")?;
+    Ok(left.said == case.want)
 }
 
 #[test]
 fn answers_as_a_plain_list(rt: HostRuntime) -> Result<(), Fail> {
-    let alloc = rt.alloc();
     for seed in [1, 2, 3, 5, 8, 13, 21, 34] {
-        let case = drawn_case(alloc, seed)?;
-        let got = plain(alloc, "dry 2", case.text.as_str()).ok_or("no memory")?;
-        assert_eq!(rt; got.as_str(), case.want.as_str(), "{}", case.text);
+        assert!(rt; is_dry(rt.alloc(), seed)?, "{seed}");
     }
     Ok(())
 }
 
-/// A line of session 1 for each letter, drawn from the seed, over six points, with steps enough for all.
-fn drawn_drive(alloc: Global, seed: u64) -> Result<Case, Fail> {
-    let mut seed = seed;
-    let mut line = 0;
-    let mut case = no_case(alloc, [1, 1])?;
-    let mut order = String::from_str(alloc, "order")?;
-    for body in LETTERS.chars() {
-        line = u32::wrapping_add(line, 1);
-        let one = (drawn(&mut seed) % 2, drawn(&mut seed) % 3, body);
-        match drawn(&mut seed) {
-            0 | 1 | 2 => case.insert(line, one)?,
-            3 | 4 | 5 => case.delete(line, one)?,
-            _ => case.lookup(line, one)?,
-        }
-        write!(order, " {line}")?;
-    }
-    write!(case.text, "step 1x248\n")?;
-    write!(case.want, "{order}\n")?;
-    Ok(case)
-}
-
 #[test]
 fn drives_as_a_plain_list(rt: HostRuntime) -> Result<(), Fail> {
-    let alloc = rt.alloc();
-    let file = made(alloc, "create 2 64 65536 6 32").ok_or("no memory")?;
+    let words = "create 2 64 65536 6 32";
+    let file = left_of(rt.alloc(), words, &[], SIZE, 0).ok_or("no memory")?;
     for seed in [1, 2, 3, 5, 8, 13, 21, 34] {
-        let case = drawn_drive(alloc, seed)?;
-        let left = drive_on(alloc, case.text.as_str(), &file).ok_or("no memory")?;
-        assert_eq!(rt; left.said.as_str(), case.want.as_str(), "{}", case.text);
+        assert!(rt; is_driven(rt.alloc(), &file, seed)?, "{seed}");
     }
     Ok(())
 }

@@ -1,0 +1,23 @@
+//! The tests of hb_store, hb_restart and hb_sound: logs, stores and files by hand, with what comes of them.
+//!
+//! They stand in a crate of their own, since a crate with tests is proved twice. No contract is here.
+#![tactic(auto)]
+
+#[cfg(test)]
+mod audits;
+#[cfg(test)]
+mod boxes;
+#[cfg(test)]
+mod fetches;
+#[cfg(test)]
+mod groups;
+#[cfg(test)]
+mod logs;
+#[cfg(test)]
+mod openings;
+#[cfg(test)]
+mod sources;
+#[cfg(test)]
+mod spelled_files;
+#[cfg(test)]
+mod stores;

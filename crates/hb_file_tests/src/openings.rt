@@ -1,0 +1,306 @@
+//! A file of two levels, by hand: its log makes three pages of one, which doesn't stand in its place. It is opened, and
+//! opened again after a stop before each device call, also where that opening is stopped in its turn, and after each failing
+//! one. Then the same file with a byte or two that are other ones. Offsets and bytes are worked out from `docs/FORMAT.md`.
+
+use hb_disk::{Disk, MemDisk, Pick};
+use hb_ops::Meta;
+use hb_restart::{Layout, OpenFault, create, recover};
+use std::alloc::Global;
+
+/// A number that no call has.
+const NEVER: u64 = u64::MAX;
+
+/// Bytes of a file of four pages.
+const SIZE: usize = 155_648;
+
+/// What a file of one attribute and four pages says, of which one is taken, behind the gate.
+const SUPER: [u8; 41] = [
+    0xA5, 0x48, 0x42, 0x50, 0x49, 0x54, 0x52, 0x45, 0x45, 0x01, 0x00, 0x01, 0x01, 0x00, 0x00, 0x00,
+    0x04, 0x00, 0x01, 0x00, 0x00, 0x00, 0x06, 0x00, 0x20, 0x00, 0x00, 0x00, 0x01, 0x00, 0x00, 0x00,
+    0x01, 0x00, 0x00, 0x00, 0x01, 0x00, 0x00, 0x00, 0x00,
+];
+
+/// The front of the frame of a split, up to its image's page: that has the points 1 and 5.
+const SPLIT: [u8; 51] = [
+    0xA5, 0, 0, 0x10, 0x1E, 1, 0, 0, 0, 1, 1, 0, 1, 0, 0, 0, 0, 0, 0, 0, 0, 0, 255, 255, 255, 255,
+    255, 255, 255, 255, 1, 0, 2, 0, 0, 0, 0, 0, 0, 0, 1, 0, 0, 0, 0, 0, 0, 0, 0, 5, 0,
+];
+
+/// Behind the image: the split of page 1 at 5, from where on page 2 has its points. Then the frames of three more groups:
+/// the put of the point 7 with the body `a` into page 2, the growth by page 3, and the posting of page 2 there.
+const BEHIND: [u8; 93] = [
+    3, 0, 0, 0, 1, 0, 0, 0, 2, 0, 0, 0, 0, 0, 1, 0, 0, 0, 0, 0, 0, 0, 0, 5, 1, //
+    0xA5, 0, 0, 0, 16, 0, 1, 0, 0, 0, 2, 0, 0, 0, 0, 0, 0, 0, 7, 1, 0x61, //
+    0xA5, 0, 0, 0, 10, 0, 6, 0, 0, 0, 3, 0, 0, 0, 0, //
+    0xA5, 0, 0, 0, 27, 0, 4, 0, 0, 0, 3, 0, 0, 0, 0, 2, 0, 0, 0, 0, 0, 0, 0, 5, 255, 255, 255, 255,
+    255, 255, 255, 255,
+];
+
+/// The superblock of the next turn behind its gate.
+const NEXT: [u8; 41] = [
+    0xA5, 0x48, 0x42, 0x50, 0x49, 0x54, 0x52, 0x45, 0x45, 0x01, 0x01, 0x01, 0x02, 0x00, 0x00, 0x00,
+    0x04, 0x00, 0x01, 0x00, 0x00, 0x00, 0x06, 0x00, 0x20, 0x00, 0x00, 0x00, 0x03, 0x00, 0x00, 0x00,
+    0x03, 0x00, 0x00, 0x00, 0x03, 0x00, 0x00, 0x00, 0x00,
+];
+
+/// Where the three pages that the log makes stand, and their fields: below 5 the point 1, else page 2; the points 5 and 7; and
+/// the page above. Then the superblock of the next turn.
+const LEFT: [(usize, &[u8]); 4] = [
+    (
+        139_264,
+        &[
+            1, 0, 1, 0, 0, 0, 0, 0, 0, 0, 0, 0, 255, 255, 255, 255, 255, 255, 255, 255, 0, 0, 0, 0,
+            0, 0, 0, 0, 0, 5, 1, 0, 1, 0, 0, 0, 0, 0, 0, 0, 1, 0, 3, 0, 0, 0, 2, 0,
+        ],
+    ),
+    (
+        143_360,
+        &[
+            1, 0, 1, 0, 0, 0, 0, 0, 0, 0, 0, 5, 255, 255, 255, 255, 255, 255, 255, 255, 1, 0, 2, 0,
+            0, 0, 0, 0, 0, 0, 5, 0, 0, 0, 0, 0, 0, 0, 0, 7, 1, 0x61, 0,
+        ],
+    ),
+    (
+        147_456,
+        &[
+            1, 1, 1, 0, 0, 0, 0, 0, 0, 0, 0, 0, 255, 255, 255, 255, 255, 255, 255, 255, 0, 0, 0, 0,
+            0, 0, 0, 0, 0, 5, 2, 0, 0, 0, 1, 2, 0, 0, 0, 2, 0,
+        ],
+    ),
+    (4096, &NEXT),
+];
+
+/// What an opening answers: the root, the height, the high mark and the pages in use, with the number of records; or why not.
+#[derive(Clone, Copy, Debug, PartialEq, Eq)]
+enum Answer {
+    Opened([u32; 4], u64),
+    Refused(OpenFault),
+}
+
+/// What the file of two levels answers.
+const GOOD: Answer = Answer::Opened([3, 2, 3, 3], 3);
+
+fn marks(meta: &Meta) -> [u32; 4] {
+    [meta.root, u32::from(meta.height), meta.high, meta.live]
+}
+
+/// Puts bytes at an offset.
+fn put(bytes: &mut Vec<u8>, at: usize, piece: &[u8]) {
+    for (place, byte) in bytes.iter_mut().skip(at).zip(piece) {
+        *place = *byte;
+    }
+}
+
+/// The file, of so many bytes at most, with these bytes at an offset.
+fn file(alloc: Global, size: usize, at: usize, piece: &[u8]) -> Option<Vec<u8>> {
+    let mut bytes = vec![in alloc; 0; SIZE].ok()?;
+    put(&mut bytes, 0, &SUPER);
+    put(&mut bytes, 8192, &SPLIT);
+    put(&mut bytes, 12_298, &BEHIND);
+    put(&mut bytes, at, piece);
+    bytes.truncate(size);
+    Some(bytes)
+}
+
+/// What an opening of a disk answers, and what it leaves.
+fn open(alloc: Global, disk: MemDisk) -> (Answer, MemDisk) {
+    match recover(alloc, disk) {
+        Ok((store, count)) => {
+            let said = marks(store.meta());
+            (Answer::Opened(said, count), store.into_disk())
+        }
+        Err((fault, disk)) => (Answer::Refused(fault), disk),
+    }
+}
+
+/// The same of bytes.
+fn answer_of(alloc: Global, bytes: Vec<u8>) -> Answer {
+    open(alloc, MemDisk::new(alloc, bytes)).0
+}
+
+/// The same of the file, over a disk that fails at the call of this number.
+fn opened(alloc: Global, failing: u64) -> Option<(Answer, MemDisk)> {
+    let calls = [failing].to_vec(alloc).ok()?;
+    let bytes = file(alloc, SIZE, 0, &[])?;
+    Some(open(alloc, MemDisk::failing(alloc, bytes, calls)))
+}
+
+/// Whether these bytes stand at an offset.
+fn stands(bytes: &[u8], at: usize, want: &[u8]) -> bool {
+    bytes.get(at..).is_some_and(|rest| rest.starts_with(want))
+}
+
+/// Whether a disk as it reads opens to the file.
+fn opens_again(alloc: Global, disk: &MemDisk) -> bool {
+    let bytes = disk.bytes().to_vec(alloc).ok();
+    bytes.map(|bytes| answer_of(alloc, bytes)) == Some(GOOD)
+}
+
+#[test]
+fn a_file_of_two_levels_opens(rt: HostRuntime) {
+    let (said, disk) = opened(rt.alloc(), NEVER).expect(&rt, "memory");
+    assert_eq!(rt; said, GOOD);
+    assert!(rt; opens_again(rt.alloc(), &disk));
+    for (at, want) in LEFT {
+        assert!(rt; stands(disk.bytes(), at, want), "{at}");
+    }
+}
+
+/// What an opening of what a crash before this call might have left answers, and what it leaves.
+fn opened_image(
+    alloc: Global,
+    disk: &MemDisk,
+    before: u64,
+    pick: Pick,
+) -> Option<(Answer, MemDisk)> {
+    let image = disk.image(before, pick).ok()??;
+    Some(open(alloc, MemDisk::new(alloc, image)))
+}
+
+/// Whether a crash before this call leaves bytes that open to the same file.
+fn is_kept(alloc: Global, disk: &MemDisk, before: u64, pick: Pick) -> bool {
+    match opened_image(alloc, disk, before, pick) {
+        Some((answer, _)) => answer == GOOD,
+        None => false,
+    }
+}
+
+/// The first call before which a crash doesn't. `None` where there is none.
+fn first_lost(alloc: Global, disk: &MemDisk, pick: Pick) -> Option<u64> {
+    for before in 0..disk.calls().saturating_add(1) {
+        if !is_kept(alloc, disk, before, pick) {
+            return Some(before);
+        }
+    }
+    None
+}
+
+/// Whether an opening of what a crash before this call leaves, stopped in its turn, keeps the file.
+fn is_kept_twice(alloc: Global, disk: &MemDisk, before: u64, pick: Pick) -> bool {
+    match opened_image(alloc, disk, before, pick) {
+        Some((_, again)) => first_lost(alloc, &again, pick).is_none(),
+        None => false,
+    }
+}
+
+/// The first call before which a crash leaves bytes of which this isn't so.
+fn first_lost_again(alloc: Global, disk: &MemDisk, pick: Pick) -> Option<u64> {
+    for before in 0..disk.calls().saturating_add(1) {
+        if !is_kept_twice(alloc, disk, before, pick) {
+            return Some(before);
+        }
+    }
+    None
+}
+
+#[test]
+fn an_opening_stops_twice(rt: HostRuntime) {
+    let (_, disk) = opened(rt.alloc(), NEVER).expect(&rt, "memory");
+    for pick in [Pick::Old, Pick::New, Pick::Noise(165)] {
+        assert_eq!(rt; first_lost(rt.alloc(), &disk, pick), None);
+        assert_eq!(rt; first_lost_again(rt.alloc(), &disk, pick), None);
+    }
+}
+
+/// The device calls of an opening: two superblocks, two pieces of each of the four frames and the closed gate behind them;
+/// then come a sync, a write for each of the three pages, a sync, a zero, a sync, a read, and the six calls of the superblock.
+const CALLS: u64 = 25;
+
+#[test]
+fn a_failing_call_stops_an_opening(rt: HostRuntime) {
+    for call in 0..CALLS {
+        let (said, disk) = opened(rt.alloc(), call).expect(&rt, "memory");
+        assert_eq!(rt; said, Answer::Refused(OpenFault::DiskFault), "{call}");
+        assert_eq!(rt; disk.calls(), call.saturating_add(1));
+        assert!(rt; opens_again(rt.alloc(), &disk), "{call}");
+    }
+}
+
+/// How many bytes of the file there are, other bytes of it at an offset, and why it isn't opened.
+const DAMAGES: [(usize, usize, &[u8], OpenFault); 12] = [
+    // the only superblock behind a closed gate, of another version, and with too many attributes
+    (SIZE, 0, &[0xA4], OpenFault::NoSuper),
+    (SIZE, 9, &[2], OpenFault::NoSuper),
+    (SIZE, 11, &[5], OpenFault::NoSuper),
+    // more pages than the disk has room for, and disks that are too short
+    (
+        SIZE,
+        16,
+        &[5],
+        OpenFault::Small {
+            needed: 159_744,
+            found: 155_648,
+        },
+    ),
+    (
+        0,
+        0,
+        &[],
+        OpenFault::Small {
+            needed: 8192,
+            found: 0,
+        },
+    ),
+    (
+        8191,
+        0,
+        &[],
+        OpenFault::Small {
+            needed: 8192,
+            found: 8191,
+        },
+    ),
+    (
+        155_647,
+        0,
+        &[],
+        OpenFault::Small {
+            needed: 155_648,
+            found: 155_647,
+        },
+    ),
+    // a frame without a payload, one whose operation reads a page that no group touched, and one that takes a page again
+    (SIZE, 8193, &[0, 0, 0, 0], OpenFault::BadGroup { frame: 0 }),
+    (SIZE, 12_333, &[4], OpenFault::BadGroup { frame: 1 }),
+    (SIZE, 12_354, &[2], OpenFault::BadGroup { frame: 2 }),
+    // more pages in use than the high mark, and no page in its place where the log has no frame
+    (SIZE, 36, &[2], OpenFault::Unsound { page: 0, rule: 1 }),
+    (SIZE, 8192, &[0], OpenFault::Unsound { page: 1, rule: 0 }),
+];
+
+#[test]
+fn damaged_files_are_refused(rt: HostRuntime) {
+    for (size, at, piece, fault) in DAMAGES {
+        let bytes = file(rt.alloc(), size, at, piece).expect(&rt, "memory");
+        let said = answer_of(rt.alloc(), bytes);
+        assert_eq!(rt; said, Answer::Refused(fault), "{size} {at}");
+    }
+}
+
+/// The layout of the file.
+const LAYOUT: Layout = Layout {
+    k: 1,
+    pages: 4,
+    log: 65_536,
+    dcap: 6,
+    icap: 32,
+};
+
+/// What an opening of a new file answers that was made over bytes of one kind.
+fn made(alloc: Global, byte: u8) -> Option<Answer> {
+    let disk = MemDisk::new(alloc, vec![in alloc; byte; SIZE].ok()?);
+    let Ok(store) = create(alloc, disk, LAYOUT) else {
+        return None;
+    };
+    let bytes = store.into_disk().bytes().to_vec(alloc).ok()?;
+    Some(answer_of(alloc, bytes))
+}
+
+#[test]
+fn a_new_file_opens(rt: HostRuntime) {
+    // of zeros, and of noise that is an open gate everywhere
+    for byte in [0, 165] {
+        let want = Answer::Opened([1, 1, 1, 1], 0);
+        assert_eq!(rt; made(rt.alloc(), byte), Some(want), "{byte}");
+    }
+}

@@ -1,0 +1,208 @@
+//! Stores of small files of one attribute, by hand, over a disk that tells nothing. Where something is `None`, memory was
+//! refused, or a row of a test is wrong.
+ghost use Rattle.std.specs.Prelude.{◌≡◌, ◌<◌, ◌≤◌, ◌^◌, false, get_or, All, IfSome, IsTrue, Some};
+ghost use Rattle.hb_disk.specs.RotDisk.{hidden};
+ghost use Rattle.hb_frag.specs.Leaves.{weight_of};
+ghost use Rattle.hb_ops.specs.Files.{if_live};
+ghost use Rattle.hb_ops.specs.Given.{given as live_given};
+ghost use Rattle.hb_ops.specs.Operations.{OpHas, reads_of};
+ghost use Rattle.hb_store.specs.Calls.{IsAllowedHere, read_here};
+ghost use Rattle.hb_store.specs.Seen.{seen_as};
+
+use hb_disk::{MemDisk, RotDisk};
+use hb_frag::{LivePage, Page};
+use hb_log_codec::{Group, decode_all};
+use hb_ops::{ChangeError, Meta, Op, change};
+use hb_store::Store;
+use std::alloc::Global;
+
+/// What a file of one attribute and four pages says, of which one is taken.
+pub(crate) const FOUR: Meta = Meta {
+    k: 1,
+    pages: 4,
+    log: 65536,
+    dcap: 6,
+    icap: 32,
+    root: 1,
+    height: 1,
+    high: 1,
+    live: 1,
+    free: 0,
+};
+
+/// A number that no call has.
+pub(crate) const NEVER: u64 = u64::MAX;
+
+/// The fields of a page of records for the whole space, which has none.
+pub(crate) const EMPTY: [u8; 23] = [
+    1, 0, 1, 0, 0, 0, 0, 0, 0, 0, 0, 0, 255, 255, 255, 255, 255, 255, 255, 255, 1, 0, 0,
+];
+
+/// The same with the points 1 and 5.
+pub(crate) const POINTS: [u8; 41] = [
+    1, 0, 1, 0, 0, 0, 0, 0, 0, 0, 0, 0, 255, 255, 255, 255, 255, 255, 255, 255, 1, 0, 2, 0, 0, 0,
+    0, 0, 0, 0, 1, 0, 0, 0, 0, 0, 0, 0, 0, 5, 0,
+];
+
+/// The split of page 1 at 5, as a group of the log has it: what isn't below goes to page 2. No image.
+pub(crate) const SPLIT: [u8; 26] = [
+    0, 3, 0, 0, 0, 1, 0, 0, 0, 2, 0, 0, 0, 0, 0, 1, 0, 0, 0, 0, 0, 0, 0, 0, 5, 1,
+];
+
+/// A disk as long as a file of four pages, with these bytes in its first log area and those in the place of page 1. It fails
+/// at the call of this number.
+pub(crate) fn disk(alloc: Global, log: &[u8], page: &[u8], failing: u64) -> Option<RotDisk>
+    ensures { IfSome result (λ d. (hidden d).size ≡ 155648) }
+{
+    if log.len() > 65_536 || page.len() > 4096 {
+        return None;
+    }
+    let calls = [failing].to_vec(alloc).ok()?;
+    let mut bytes = vec![in alloc; 0; 155_648].ok()?;
+    bytes[8192..8192 + log.len()].copy_from_slice(log);
+    bytes[139_264..139_264 + page.len()].copy_from_slice(page);
+    Some(RotDisk {
+        inner: MemDisk::failing(alloc, bytes, calls),
+        before: 0,
+        at: u64::MAX,
+        byte: 0,
+    })
+}
+
+/// The pages that a file may have, its high mark, the pages in use and its free head.
+pub(crate) type Marks = (u32, u32, u32, u32);
+
+/// The store of a file that says so, over such a disk.
+pub(crate) fn opened(alloc: Global, marks: Marks, disk: RotDisk) -> Option<Store<RotDisk>>
+    requires { (hidden disk).size ≡ 155648 }
+    ensures running { IfSome result (λ store. (seen_as store).stopped ≡ false) }
+    ensures marks { IfSome result (λ store. All (λ g. g.mark ≤ 7) (seen_as store).log.groups) }
+{
+    let (pages, high, live, free) = marks;
+    if pages == 0 || pages > 4 || high == 0 || high > pages || live > pages {
+        return None;
+    }
+    let meta = Meta {
+        pages,
+        high,
+        live,
+        free,
+        ..FOUR
+    };
+    match Store::opened(alloc, disk, 0, meta) {
+        Ok(store) => Some(store),
+        Err(_no_memory) => None,
+    }
+}
+
+/// Whether the points and the box of an operation have one attribute.
+fn has_one(op: &Op) -> bool
+    ensures { IsTrue result → OpHas 1 op.now }
+{
+    match op {
+        Op::Put { rec, .. } => rec.key.attributes() == 1,
+        Op::Del { point, .. } => point.attributes() == 1,
+        Op::Post { area, .. } => area.lo().attributes() == 1,
+        Op::Extract { .. } | Op::Grow { .. } => true,
+    }
+}
+
+/// The operation of the group that these bytes spell.
+fn op_in(alloc: Global, bytes: &[u8]) -> Option<Op>
+    ensures { IfSome result (λ op. OpHas 1 op) }
+{
+    let Group { op, .. } = decode_all(alloc, bytes, 1).ok()?.pop()?;
+    if has_one(&op) { Some(op) } else { None }
+}
+
+/// The number at a place of those that an operation reads. 0 behind them.
+fn read_at(op: &Op, place: usize) -> u32
+    ensures { result ≡ get_or (reads_of op.now) place 0 }
+{
+    op.reads().get(place).copied().unwrap_or(0)
+}
+
+/// The page, where it is in use.
+fn live_of(page: &Page) -> Option<&LivePage>
+    ensures { live_given result ≡ if_live (Some page.now) }
+{
+    match page {
+        Page::Live(page) => Some(page),
+        Page::Free { .. } => None,
+    }
+}
+
+/// The page in use that an operation reads at a place of its list, where it is in memory.
+fn page_read<'a>(store: &'a Store<RotDisk>, op: &Op, place: usize) -> Option<&'a LivePage>
+    ensures page { live_given result ≡ read_here (seen_as store.now) op.now place }
+    ensures light { IfSome result (λ page. weight_of page.now.frag < 2 ^ 32) }
+{
+    match store.get(read_at(op, place)) {
+        Some(page) => live_of(page),
+        None => None,
+    }
+}
+
+/// Whether an operation is allowed on the pages in memory. `None` for want of memory.
+fn is_allowed(alloc: Global, store: &Store<RotDisk>, op: &Op) -> Option<bool>
+    requires { OpHas (seen_as store.now).meta.k op.now }
+    ensures { result ≡ Some true → IsAllowedHere (seen_as store.now) op.now }
+{
+    let first = page_read(store, op, 0);
+    let second = page_read(store, op, 1);
+    let third = page_read(store, op, 2);
+    match change(alloc, op, store.meta(), first, second, third) {
+        Ok(_) => Some(true),
+        Err(ChangeError::Unfit) => Some(false),
+        Err(ChangeError::NoMemory) => None,
+    }
+}
+
+/// Does the operation of a group with mark 7 where it is allowed, and says whether it is. A disk that tells nothing keeps no
+/// file, so that no licence is owed.
+#[tactic(auto, using(crate::proofs::Untold::licensed))]
+fn done(alloc: Global, store: &mut Store<RotDisk>, group: &[u8]) -> Option<bool>
+    requires running { (seen_as store.old).stopped ≡ false }
+    requires marks { All (λ g. g.mark ≤ 7) (seen_as store.old).log.groups }
+    ensures running { (seen_as store.new).stopped ≡ false }
+    ensures marks { All (λ g. g.mark ≤ 7) (seen_as store.new).log.groups }
+{
+    let op = op_in(alloc, group)?;
+    if store.meta().k != 1 || !store.ready() {
+        return None;
+    }
+    let allowed = is_allowed(alloc, store, &op)?;
+    if allowed {
+        store.commit(op, 7).ok()?;
+    }
+    Some(allowed)
+}
+
+/// Fetches page 1.
+#[tactic(auto, using(crate::proofs::Untold::fetched_runs, crate::proofs::Untold::fetched_marks))]
+fn fetched(store: &mut Store<RotDisk>) -> Option<()>
+    requires running { (seen_as store.old).stopped ≡ false }
+    requires marks { All (λ g. g.mark ≤ 7) (seen_as store.old).log.groups }
+    ensures running { (seen_as store.new).stopped ≡ false }
+    ensures marks { All (λ g. g.mark ≤ 7) (seen_as store.new).log.groups }
+{
+    store.fetch(1).ok()
+}
+
+/// The store of a file whose page 1 is fetched and has these fields, once the operations of these groups were done where
+/// they are allowed. Its disk fails at the call of this number.
+pub(crate) fn with_groups(
+    alloc: Global,
+    page: &[u8],
+    groups: &[&[u8]],
+    failing: u64,
+) -> Option<Store<RotDisk>>
+    ensures { IfSome result (λ store. (seen_as store).stopped ≡ false) }
+{
+    let mut store = opened(alloc, (4, 1, 1, 0), disk(alloc, &[], page, failing)?)?;
+    fetched(&mut store)?;
+    for group in groups {
+        done(alloc, &mut store, group)?;
+    }
+    Some(store)
+}

@@ -1,0 +1,114 @@
+//! The bytes of files that were made and driven. Places and bytes are worked out from `docs/FORMAT.md`.
+
+use crate::runs::{CREATE, SIZE, left_of};
+use std::alloc::Global;
+
+/// Where the log area 1 of such a file begins.
+const AREA_1: usize = 73_728;
+
+/// Where page 1 stands.
+const PAGE_1: usize = 139_264;
+
+/// The first bytes of a page of one attribute for the whole space, without a record.
+const EMPTY: [u8; 23] = [
+    1, 0, 1, 0, 0, 0, 0, 0, 0, 0, 0, 0, 255, 255, 255, 255, 255, 255, 255, 255, 1, 0, 0,
+];
+
+/// The superblock of turn 0 of a new file, behind its open gate.
+const SUPER: [u8; 41] = [
+    0xA5, 0x48, 0x42, 0x50, 0x49, 0x54, 0x52, 0x45, 0x45, 0x01, 0x00, 0x01, 0x01, 0x00, 0x00, 0x00,
+    0x40, 0x00, 0x01, 0x00, 0x00, 0x00, 0x06, 0x00, 0x20, 0x00, 0x00, 0x00, 0x01, 0x00, 0x00, 0x00,
+    0x01, 0x00, 0x00, 0x00, 0x01, 0x00, 0x00, 0x00, 0x00,
+];
+
+/// That of turn 1 of the same file.
+const SUPER_1: [u8; 41] = [
+    0xA5, 0x48, 0x42, 0x50, 0x49, 0x54, 0x52, 0x45, 0x45, 0x01, 0x01, 0x01, 0x01, 0x00, 0x00, 0x00,
+    0x40, 0x00, 0x01, 0x00, 0x00, 0x00, 0x06, 0x00, 0x20, 0x00, 0x00, 0x00, 0x01, 0x00, 0x00, 0x00,
+    0x01, 0x00, 0x00, 0x00, 0x01, 0x00, 0x00, 0x00, 0x00,
+];
+
+/// That of turn 0 of a file of two attributes with the other limits of `OTHER`.
+const OTHER_SUPER: [u8; 41] = [
+    0xA5, 0x48, 0x42, 0x50, 0x49, 0x54, 0x52, 0x45, 0x45, 1, 0, 2, 1, 0, 0, 0, 63, 0, 1, 0, 0, 0,
+    48, 1, 0, 0, 0, 0, 1, 0, 0, 0, 1, 0, 0, 0, 1, 0, 0, 0, 0,
+];
+
+/// The front of the first frame of a turn: the gate, the length 1 + (4 + 4096) + 15, one image, and its page.
+const HEAD: [u8; 10] = [0xA5, 0, 0, 0x10, 0x14, 1, 0, 0, 0, 1];
+
+/// A put of 5 with the body `a` into page 1, and the closed gate behind it.
+const PUT: [u8; 16] = [1, 0, 0, 0, 1, 0, 0, 0, 0, 0, 0, 0, 5, 1, 0x61, 0];
+
+/// Behind the first frame of 5 + 4116 bytes: a put of 6 and `b`, then a delete of 5, and the closed gate.
+const FRAMES: [u8; 41] = [
+    0xA5, 0, 0, 0, 16, 0, 1, 0, 0, 0, 1, 0, 0, 0, 0, 0, 0, 0, 6, 1, 0x62, 0xA5, 0, 0, 0, 14, 0, 2,
+    0, 0, 0, 1, 0, 0, 0, 0, 0, 0, 0, 5, 0,
+];
+
+/// A page with the record of 6.
+const SIX: [u8; 33] = [
+    1, 0, 1, 0, 0, 0, 0, 0, 0, 0, 0, 0, 255, 255, 255, 255, 255, 255, 255, 255, 1, 0, 1, 0, 0, 0,
+    0, 0, 0, 0, 6, 1, 0x62,
+];
+
+/// Another file.
+const OTHER: &str = "create 2 63 65536 48 256";
+
+/// A text of one change, and one of three.
+const ONE: &str = "1 insert 5 =a\nstep 1x4\n";
+
+const THREE: &str = "1 insert 5 =a\n1 insert 6 =b\n1 delete 5\nstep 1x12\n";
+
+/// The words by which a file is made, and the texts that it is driven with. Then an offset, the first bytes there, and up to
+/// how many bytes zeros follow these.
+const ROWS: [(&str, &[&str], usize, &[u8], usize); 16] = [
+    // a new file
+    (CREATE, &[], 0, &SUPER, PAGE_1),
+    (CREATE, &[], PAGE_1, &EMPTY, SIZE - PAGE_1),
+    (OTHER, &[], 0, &OTHER_SUPER, PAGE_1),
+    (OTHER, &[], PAGE_1, &[1, 0, 2, 0, 0], 5),
+    // a first group has an image
+    (CREATE, &[ONE], AREA_1, &HEAD, 10),
+    (CREATE, &[ONE], AREA_1 + 10, &EMPTY, 4096),
+    (CREATE, &[ONE], AREA_1 + 4106, &PUT, 16),
+    // the page keeps its place, and the superblock of turn 1 stands in the other place
+    (CREATE, &[ONE], PAGE_1, &EMPTY, 4096),
+    (CREATE, &[ONE], 0, &SUPER, 41),
+    (CREATE, &[ONE], 4096, &SUPER_1, 41),
+    // further groups have none
+    (CREATE, &[THREE], AREA_1 + 4121, &FRAMES, 41),
+    (CREATE, &[THREE], PAGE_1, &EMPTY, 4096),
+    // the next run writes the page's place, its log is in area 0, and the old one stays as it is
+    (CREATE, &[THREE, ""], PAGE_1, &SIX, 4096),
+    (CREATE, &[THREE, ""], 8192, &[], 65_536),
+    (CREATE, &[THREE, ""], AREA_1 + 4121, &FRAMES, 41),
+    (CREATE, &[THREE, ""], 10, &[2], 1),
+];
+
+/// Whether these bytes stand at the offset, and behind them zeros up to so many.
+fn stands(bytes: &[u8], at: usize, front: &[u8], count: usize) -> bool {
+    let Some(rest) = bytes.get(at..) else {
+        return false;
+    };
+    let mut behind = rest.iter().take(count).skip(front.len());
+    rest.len() >= count && rest.starts_with(front) && behind.all(|byte| *byte == 0)
+}
+
+#[test]
+fn files_have_these_bytes(rt: HostRuntime) {
+    for (words, texts, at, front, count) in ROWS {
+        let file = left_of(rt.alloc(), words, texts, SIZE, 0).expect(&rt, "memory");
+        assert!(rt; stands(&file, at, front, count), "{words} {at}");
+        assert_eq!(rt; file.len(), SIZE);
+    }
+}
+
+#[test]
+fn a_longer_disk_is_let_alone(rt: HostRuntime) {
+    let text = "1 insert 1 =a\nstep 1x4\n";
+    let file = left_of(rt.alloc(), CREATE, &[text], SIZE + 3, 7).expect(&rt, "memory");
+    assert!(rt; stands(&file, SIZE, &[7; 3], 3));
+    // the other log area is first zeroed by a run, and page 2 by none
+    assert!(rt; stands(&file, PAGE_1 + 4096, &[7; 4096], 4096));
+}

@@ -1,0 +1,412 @@
+//! Files that are made and driven. Where a file isn't named, it is a new one of one attribute.
+
+use crate::runs::{
+    CREATE, Left, NEVER, SIZE, drive_on, expect_said, file_of, left_of, run_on, run_over,
+};
+use hb_disk::{Disk, MemDisk};
+use std::alloc::Global;
+
+/// A text that was driven before, where it isn't empty; a text, and what `drive` says to it.
+const TEXTS: [(&str, &str, &str); 32] = [
+    ("", "", "0 order\n"),
+    ("", "step 1x9\n", "0 order\n"),
+    ("", "1 lookup 1\n", "0 1 unfinished\norder\n"),
+    (
+        "",
+        "1 insert 1 =a\n1 lookup 1\n1 delete 1\n1 delete 1\nstep 1x20\n",
+        "0 1 ok\n2 found =a\n3 ok\n4 absent\norder 1 2 3 4\n",
+    ),
+    (
+        "",
+        "1 insert 1 =a\n1 lookup 1\n1 delete 1\n1 delete 1\nstep 1x14\n",
+        "0 1 ok\n2 found =a\n3 ok\n4 absent\norder 1 2 3 4\n",
+    ),
+    (
+        "",
+        "1 insert 1 =a\n1 lookup 1\n1 delete 1\n1 delete 1\nstep 1x13\n",
+        "0 1 ok\n2 found =a\n3 ok\n4 unfinished\norder 1 2 3 4\n",
+    ),
+    ("", "1 insert 1 =\nstep 1\n", "0 1 unfinished\norder\n"),
+    (
+        "",
+        "1 insert 1 =\nstep 1x2\n",
+        "0 1 unfinished\norder | 1\n",
+    ),
+    ("", "1 insert 1 =\nstep 1x3\n", "0 1 unfinished\norder 1\n"),
+    ("", "1 insert 1 =\nstep 1x4\n", "0 1 ok\norder 1\n"),
+    (
+        "",
+        "step 1 1\n1 insert 1 =\n\nstep 1x2\n1 lookup 1\nstep 1x3\n",
+        "0 2 ok\n5 found =\norder 2 5\n",
+    ),
+    (
+        "",
+        "1 insert 1 =a\n1 insert 1 =b\n1 lookup 2\nstep 1x20\n",
+        "0 1 ok\n2 duplicate\n3 none\norder 1 2 3\n",
+    ),
+    (
+        "",
+        "1 insert 1 =a\n1 insert 3 =c\n1 insert 2 =b\n1 insert 6 =f\n1 insert 5 =e\n1 insert 4 =d\n1 insert 7 =g\nstep 1x40\n",
+        "0 1 ok\n2 ok\n3 ok\n4 ok\n5 ok\n6 ok\n7 full\norder 1 2 3 4 5 6\n",
+    ),
+    (
+        "",
+        "1 insert 1 =a\n1 insert 3 =c\n1 insert 2 =b\n1 insert 6 =f\n1 insert 5 =e\n1 insert 4 =d\n1 insert 7 =g\n1 insert 3 =x\n1 delete 1\n1 insert 7 =g\n1 lookup 7\nstep 1x60\n",
+        "0 1 ok\n2 ok\n3 ok\n4 ok\n5 ok\n6 ok\n7 full\n8 duplicate\n9 ok\n10 ok\n11 found =g\norder 1 2 3 4 5 6 8 9 10 11\n",
+    ),
+    (
+        "",
+        "1 insert 18446744073709551615 =~\n1 insert 0 =abcdefghijklmnopqrstuvwxyzabcdef\n1 lookup 0\n1 lookup 18446744073709551615\nstep 1x14\n",
+        "0 1 ok\n2 ok\n3 found =abcdefghijklmnopqrstuvwxyzabcdef\n4 found =~\norder 1 2 3 4\n",
+    ),
+    ("", "1 search 0 9\nstep 1x9\n", "11 not built\n"),
+    (
+        "",
+        "1 insert 1 =a\n2 lookup 1\nstep 1x9\n",
+        "11 not built\n",
+    ),
+    ("", "1 insert 1 =a\nstep 1x9 2\n", "11 not built\n"),
+    ("", "1 insert 1 =a\nstep 1x9 p\n", "11 not built\n"),
+    ("", "1 insert 1 =a\nstep 1x9 c\n", "11 not built\n"),
+    ("", "1 insert 1 =a\nstep 1x9\nstep f\n", "11 not built\n"),
+    ("", "1 insert 1 =a\nstep 1x0\n", "3 bad text 2 BadStep\n"),
+    ("", "1 insert 1 =a\nstep\n", "3 bad text 2 BadStep\n"),
+    ("", "1 insert 1 2 =a\nstep 1x9\n", "3 bad text 1 BadCount\n"),
+    ("", "step 2\n\n1 insert 1 a\n", "3 bad text 3 BadBody\n"),
+    (
+        "",
+        "2 search 0 9\n0 lookup 1\n",
+        "3 bad text 2 BadSession\n",
+    ),
+    (
+        "1 insert 1 =\nstep 1x2\n",
+        "1 lookup 1\nstep 1x4\n",
+        "0 1 none\norder 1\n",
+    ),
+    (
+        "1 insert 1 =\nstep 1x3\n",
+        "1 lookup 1\nstep 1x4\n",
+        "0 1 found =\norder 1\n",
+    ),
+    (
+        "1 insert 1 =\nstep 1x4\n",
+        "1 lookup 1\nstep 1x4\n",
+        "0 1 found =\norder 1\n",
+    ),
+    (
+        "1 insert 1 =\nstep 1x0\n",
+        "1 lookup 1\nstep 1x4\n",
+        "0 1 none\norder 1\n",
+    ),
+    (
+        "1 insert 1 =a\n1 insert 2 =b\n1 delete 1\n1 insert 1 =c\nstep 1x16\n",
+        "1 lookup 1\n1 lookup 2\n1 insert 3 =\n1 delete 2\nstep 1x14\n",
+        "0 1 found =c\n2 found =b\n3 ok\n4 ok\norder 1 2 3 4\n",
+    ),
+    (
+        "1 insert 1 =a\n1 insert 2 =b\n1 insert 3 =c\n1 insert 4 =d\n1 insert 5 =e\n1 insert 6 =f\nstep 1x24\n",
+        "1 insert 7 =g\n1 delete 6\n1 insert 7 =g\n1 lookup 7\n1 lookup 6\nstep 1x16\n",
+        "0 1 full\n2 ok\n3 ok\n4 found =g\n5 none\norder 2 3 4 5\n",
+    ),
+];
+
+/// What `drive` of a text says of a new file on which another one was driven, where that isn't empty.
+fn driven(alloc: Global, first: &str, text: &str) -> Option<Left> {
+    let file = if first.is_empty() {
+        file_of(alloc, &[])
+    } else {
+        file_of(alloc, &[first])
+    };
+    drive_on(alloc, text, file?.as_slice())
+}
+
+#[test]
+fn drives_texts(rt: HostRuntime) {
+    for (first, text, want) in TEXTS {
+        expect_said(&rt, driven(rt.alloc(), first, text), want, text);
+    }
+}
+
+/// The words and a text; the calls at which the source and the sink fail; and what the program says over a new file.
+const STREAMS: [(&str, &str, u64, u64, &str); 30] = [
+    (
+        "drive",
+        "1 insert 1 =a\n1 lookup 2\n1 delete 1\nstep 1x9\n",
+        NEVER,
+        NEVER,
+        "0 1 ok\n2 none\n3 unfinished\norder 1 2 | 3\n",
+    ),
+    (
+        "drive",
+        "1 insert 1 =a\n1 lookup 2\n1 delete 1\nstep 1x9\n",
+        0,
+        NEVER,
+        "4 source fault\n",
+    ),
+    (
+        "drive",
+        "1 insert 1 =a\n1 lookup 2\n1 delete 1\nstep 1x9\n",
+        1,
+        NEVER,
+        "4 source fault\n",
+    ),
+    (
+        "drive",
+        "1 insert 1 =a\n1 lookup 2\n1 delete 1\nstep 1x9\n",
+        NEVER,
+        0,
+        "5 ",
+    ),
+    (
+        "drive",
+        "1 insert 1 =a\n1 lookup 2\n1 delete 1\nstep 1x9\n",
+        NEVER,
+        1,
+        "5 1 ok\n",
+    ),
+    (
+        "drive",
+        "1 insert 1 =a\n1 lookup 2\n1 delete 1\nstep 1x9\n",
+        NEVER,
+        2,
+        "5 1 ok\n2 none\n",
+    ),
+    (
+        "drive",
+        "1 insert 1 =a\n1 lookup 2\n1 delete 1\nstep 1x9\n",
+        NEVER,
+        3,
+        "5 1 ok\n2 none\n3 unfinished\n",
+    ),
+    (
+        "drive",
+        "1 insert 1 =a\n1 lookup 2\n1 delete 1\nstep 1x9\n",
+        NEVER,
+        4,
+        "0 1 ok\n2 none\n3 unfinished\norder 1 2 | 3\n",
+    ),
+    (
+        "drive",
+        "1 insert 1 =a\n1 lookup 2\n1 delete 1\nstep 1x9\n",
+        0,
+        0,
+        "4 ",
+    ),
+    ("drive", "step 0\n", NEVER, NEVER, "3 bad text 1 BadStep\n"),
+    ("drive", "step 0\n", NEVER, 0, "3 "),
+    ("drive", "step 0\n", 0, NEVER, "4 source fault\n"),
+    (
+        "dry 1",
+        "1 insert 1 =a\n1 search 0 9\n",
+        NEVER,
+        NEVER,
+        "0 1 ok\n2 box 1\n+ 1 =a\norder 1 2\n",
+    ),
+    (
+        "dry 1",
+        "1 insert 1 =a\n1 search 0 9\n",
+        0,
+        NEVER,
+        "4 source fault\n",
+    ),
+    (
+        "dry 1",
+        "1 insert 1 =a\n1 search 0 9\n",
+        1,
+        NEVER,
+        "4 source fault\n",
+    ),
+    ("dry 1", "1 insert 1 =a\n1 search 0 9\n", NEVER, 0, "5 "),
+    (
+        "dry 1",
+        "1 insert 1 =a\n1 search 0 9\n",
+        NEVER,
+        1,
+        "5 1 ok\n",
+    ),
+    (
+        "dry 1",
+        "1 insert 1 =a\n1 search 0 9\n",
+        NEVER,
+        2,
+        "5 1 ok\n2 box 1\n",
+    ),
+    (
+        "dry 1",
+        "1 insert 1 =a\n1 search 0 9\n",
+        NEVER,
+        3,
+        "5 1 ok\n2 box 1\n+ 1 =a\n",
+    ),
+    ("dry 1", "1 insert 1 =a\n1 search 0 9\n", 0, 0, "4 "),
+    ("dry 1", "", 0, NEVER, "4 source fault\n"),
+    ("dry 1", "", NEVER, 0, "5 "),
+    (
+        "dry 1",
+        "1 lookup 01\n",
+        NEVER,
+        NEVER,
+        "3 bad text 1 BadNumber\n",
+    ),
+    ("dry 1", "1 lookup 01\n", 0, NEVER, "4 source fault\n"),
+    ("dry 1", "1 lookup 01\n", 1, NEVER, "4 source fault\n"),
+    ("dry 1", "1 lookup 01\n", NEVER, 0, "3 "),
+    ("dry 1", "1 lookup 01\n", 0, 0, "4 "),
+    ("dry", "1 lookup 01\n", 0, 0, "2 "),
+    ("run", "1 lookup 01\n", 0, NEVER, "11 not built\n"),
+    ("run", "1 lookup 01\n", 0, 0, "11 "),
+];
+
+/// What a run says over a new file whose source and sink fail at these calls.
+fn with_faults(alloc: Global, words: &str, text: &str, read: u64, write: u64) -> Option<Left> {
+    let disk = MemDisk::new(alloc, file_of(alloc, &[])?);
+    run_over(alloc, words, text, read, write, disk)
+}
+
+#[test]
+fn streams_fail(rt: HostRuntime) {
+    for (words, text, read, write, want) in STREAMS {
+        let left = with_faults(rt.alloc(), words, text, read, write);
+        expect_said(&rt, left, want, text);
+    }
+}
+
+/// The words, of how many bytes the disk is, all 7, and what the program says. It leaves the disk unless that is `created`.
+const SEVENS: [(&str, usize, &str); 7] = [
+    ("create 2 64 65536 6 32", 401_407, "9 small 401408 401407\n"),
+    ("create 2 64 65536 5 32", 401_408, "9 bad layout DCAP 5\n"),
+    ("create 2 64 65536 6 32", 401_408, "0 created\n"),
+    ("create 2 64 65536 6 32", 401_409, "0 created\n"),
+    ("drive", 8_191, "9 small 8192 8191\n"),
+    ("drive", 8_192, "7 no super\n"),
+    ("drive", 401_408, "7 no super\n"),
+];
+
+/// Whether a run left a disk of these bytes as it was, and wrote nothing.
+fn is_untouched(left: &Left, bytes: &[u8]) -> bool {
+    left.disk.clock() == 0 && left.disk.bytes() == bytes
+}
+
+/// Whether the program says this over so many bytes, all 7, and leaves them unless it made a file.
+fn says_of_sevens(alloc: Global, words: &str, size: usize, want: &str) -> Option<bool> {
+    let sevens = vec![in alloc; 7; size].ok()?;
+    let left = run_on(alloc, words, "", sevens.as_slice())?;
+    let is_made = want == "0 created\n";
+    Some(left.said.as_str() == want && is_untouched(&left, &sevens) != is_made)
+}
+
+#[test]
+fn refusals_leave_the_disk(rt: HostRuntime) {
+    for (words, size, want) in SEVENS {
+        let right = says_of_sevens(rt.alloc(), words, size, want);
+        assert!(rt; right == Some(true), "{words}: {size}");
+    }
+}
+
+/// How many bytes of a new file there are, and what `drive` says.
+const FRONTS: [(usize, &str); 6] = [
+    (0, "9 small 8192 0\n"),
+    (41, "9 small 8192 41\n"),
+    (8_191, "9 small 8192 8191\n"),
+    (8_192, "9 small 401408 8192\n"),
+    (143_360, "9 small 401408 143360\n"),
+    (401_407, "9 small 401408 401407\n"),
+];
+
+/// Whether `drive` says this over the front of a file, and leaves it.
+fn says_of_front(alloc: Global, file: &[u8], size: usize, want: &str) -> Option<bool> {
+    let front = file.get(..size)?;
+    let left = drive_on(alloc, "1 insert 1 =a\nstep 1x4\n", front)?;
+    Some(left.said.as_str() == want && is_untouched(&left, front))
+}
+
+#[test]
+fn fronts_of_files_are_small(rt: HostRuntime) {
+    let file = file_of(rt.alloc(), &[]).expect(&rt, "memory");
+    for (size, want) in FRONTS {
+        let right = says_of_front(rt.alloc(), &file, size, want);
+        assert!(rt; right == Some(true), "{want}");
+    }
+}
+
+/// Changes that fill a log area of 65,536 bytes: an insert and a delete of the point 1 in turn, so many, and a lookup. And
+/// what `drive` says to them.
+///
+/// The first frame has the image and 4,120 bytes, each later delete 19 and each later insert 20. A change is begun where
+/// the log has at most 49,147 bytes, so that a group of 16,384 fits. Behind the 2,310th change it has 4,120 + 1,154 * 39
+/// + 19 = 49,145, and behind the 2,311th 49,165. So the 2,312th line is `full`, though it is a delete.
+fn filling(alloc: Global) -> Option<(String, String)> {
+    let mut text = String::new(alloc);
+    let mut want = String::from_str(alloc, "0 ").ok()?;
+    let mut order = String::from_str(alloc, "order").ok()?;
+    for line in 1..2312 {
+        let verb = if line % 2 == 1 {
+            "insert 1 ="
+        } else {
+            "delete 1"
+        };
+        write!(text, "1 {verb}\n").ok()?;
+        write!(want, "{line} ok\n").ok()?;
+        write!(order, " {line}").ok()?;
+    }
+    write!(text, "1 delete 1\n1 lookup 1\nstep 1x9249\n").ok()?;
+    write!(want, "2312 full\n2313 found =\n{order} 2313\n").ok()?;
+    Some((text, want))
+}
+
+/// Whether `drive` says so to these changes, and what it says to the next text, where the log is empty again.
+fn fills(alloc: Global) -> Option<(bool, Left)> {
+    let (text, want) = filling(alloc)?;
+    let left = drive_on(alloc, text.as_str(), file_of(alloc, &[])?.as_slice())?;
+    let next = "1 lookup 1\n1 delete 1\n1 lookup 1\nstep 1x10\n";
+    let right = left.said == want;
+    Some((right, drive_on(alloc, next, left.disk.bytes())?))
+}
+
+#[test]
+fn a_log_fills(rt: HostRuntime) {
+    let (right, next) = fills(rt.alloc()).expect(&rt, "memory");
+    assert!(rt; right);
+    assert_eq!(rt;
+        next.said.as_str(),
+        "0 1 found =\n2 ok\n3 none\norder 1 2 3\n"
+    );
+}
+
+/// How many texts were driven, each of which inserts its own number with the body `a`, and what `drive` says of the points 0,
+/// 3 and 2.
+const TURNS: [(usize, &str); 6] = [
+    (0, "0 1 none\n2 none\n3 none\norder 1 2 3\n"),
+    (1, "0 1 found =a\n2 none\n3 none\norder 1 2 3\n"),
+    (3, "0 1 found =a\n2 none\n3 found =a\norder 1 2 3\n"),
+    (4, "0 1 found =a\n2 found =a\n3 found =a\norder 1 2 3\n"),
+    (6, "0 1 found =a\n2 found =a\n3 found =a\norder 1 2 3\n"),
+    (9, "0 1 found =a\n2 found =a\n3 found =a\norder 1 2 3\n"),
+];
+
+/// Those texts.
+const INSERTS: [&str; 9] = [
+    "1 insert 0 =a\nstep 1x4\n",
+    "1 insert 1 =a\nstep 1x4\n",
+    "1 insert 2 =a\nstep 1x4\n",
+    "1 insert 3 =a\nstep 1x4\n",
+    "1 insert 4 =a\nstep 1x4\n",
+    "1 insert 5 =a\nstep 1x4\n",
+    "1 insert 6 =a\nstep 1x4\n",
+    "1 insert 7 =a\nstep 1x4\n",
+    "1 insert 8 =a\nstep 1x4\n",
+];
+
+/// What `drive` of the lookups says once so many of the texts were driven.
+fn behind_turns(alloc: Global, turns: usize) -> Option<Left> {
+    let file = file_of(alloc, INSERTS.get(..turns)?)?;
+    let lookups = "1 lookup 0\n1 lookup 3\n1 lookup 2\nstep 1x9\n";
+    drive_on(alloc, lookups, file.as_slice())
+}
+
+#[test]
+fn keeps_records_over_many_turns(rt: HostRuntime) {
+    for (turns, want) in TURNS {
+        expect_said(&rt, behind_turns(rt.alloc(), turns), want, want);
+    }
+}

@@ -1,0 +1,19 @@
+//! The tests of hbpi: runs of the program over memory, as tables of words, text and what is left of it.
+//!
+//! They stand in a crate of their own, since a crate with tests is proved twice. No contract is here.
+#![tactic(auto)]
+
+#[cfg(test)]
+mod bytes;
+#[cfg(test)]
+mod files;
+#[cfg(test)]
+mod plain_list;
+#[cfg(test)]
+mod runs;
+#[cfg(test)]
+mod spoiled;
+#[cfg(test)]
+mod stops;
+#[cfg(test)]
+mod texts;

@@ -1,0 +1,126 @@
+//! Runs of the program over disks in memory. Where something is `None`, memory was refused.
+
+use hb_disk::MemDisk;
+use hb_outside::{MemSink, MemSource};
+use hb_set::Answered;
+use hbpi::Status;
+use hbpi::top::top;
+use std::alloc::Global;
+use std::process::Abort;
+use std::str;
+
+/// How many bytes a file has under `create K 64 65536 6 32`.
+pub(crate) const SIZE: usize = 401_408;
+
+/// A file of one attribute: 64 pages, log areas of 65,536 bytes, six records in a page.
+pub(crate) const CREATE: &str = "create 1 64 65536 6 32";
+
+/// A number that no call has.
+pub(crate) const NEVER: u64 = u64::MAX;
+
+/// What a run leaves.
+#[derive(Drop)]
+pub(crate) struct Left {
+    /// The exit status, a space, and what the sink got.
+    pub(crate) said: String,
+    pub(crate) disk: MemDisk,
+    pub(crate) answered: Vec<Answered>,
+}
+
+/// The words of a line.
+fn words_of(alloc: Global, line: &str) -> Option<Vec<String>> {
+    let mut list = Vec::new(alloc);
+    for word in line.split_whitespace() {
+        list.push(word.to_string(alloc).ok()?).ok()?;
+    }
+    Some(list)
+}
+
+/// A source of this text that fails at the call of this number.
+fn source_of(alloc: Global, text: &str, failing: u64) -> Option<MemSource> {
+    let calls = Vec::from_slice(alloc, &[failing]).ok()?;
+    let bytes = Vec::from_slice(alloc, text.as_bytes()).ok()?;
+    Some(MemSource::new(bytes, calls))
+}
+
+/// The exit status, a space, and what the sink got.
+fn said_of(alloc: Global, status: Status, sink: &MemSink) -> Option<String> {
+    let code = status.code();
+    let written = str::from_utf8(sink.bytes()).ok()?;
+    format!(in alloc; "{code} {written}").ok()
+}
+
+/// Runs the program over this disk. The source fails at the call of number `read`, and the sink at that of number `write`.
+pub(crate) fn run_over(
+    alloc: Global,
+    words: &str,
+    text: &str,
+    read: u64,
+    write: u64,
+    disk: MemDisk,
+) -> Option<Left> {
+    let list = words_of(alloc, words)?;
+    let mut source = source_of(alloc, text, read)?;
+    let sink = MemSink::new(alloc, Vec::from_slice(alloc, &[write]).ok()?);
+    let finished = top(alloc, list.as_slice(), &mut source, sink, disk);
+    let said = said_of(alloc, finished.status, &finished.sink)?;
+    Some(Left {
+        said,
+        disk: finished.disk,
+        answered: finished.answered,
+    })
+}
+
+/// Runs the program over a disk of these bytes whose call of this number fails.
+pub(crate) fn run_failing(
+    alloc: Global,
+    words: &str,
+    text: &str,
+    bytes: &[u8],
+    call: u64,
+) -> Option<Left> {
+    let calls = Vec::from_slice(alloc, &[call]).ok()?;
+    let bytes = bytes.to_vec(alloc).ok()?;
+    let disk = MemDisk::failing(alloc, bytes, calls);
+    run_over(alloc, words, text, NEVER, NEVER, disk)
+}
+
+/// Runs the program over a disk of these bytes, where nothing fails.
+pub(crate) fn run_on(alloc: Global, words: &str, text: &str, bytes: &[u8]) -> Option<Left> {
+    run_failing(alloc, words, text, bytes, NEVER)
+}
+
+/// The same with `drive`.
+pub(crate) fn drive_on(alloc: Global, text: &str, bytes: &[u8]) -> Option<Left> {
+    run_on(alloc, "drive", text, bytes)
+}
+
+/// The bytes that the words leave of a disk of so many bytes of one kind, and then these texts with `drive`, one after the
+/// other.
+pub(crate) fn left_of(
+    alloc: Global,
+    words: &str,
+    texts: &[&str],
+    size: usize,
+    byte: u8,
+) -> Option<Vec<u8>> {
+    let all = vec![in alloc; byte; size].ok()?;
+    let mut left = run_on(alloc, words, "", all.as_slice())?;
+    for text in texts {
+        left = drive_on(alloc, text, left.disk.bytes())?;
+    }
+    left.disk.bytes().to_vec(alloc).ok()
+}
+
+/// The bytes that these texts leave of a new file of one attribute.
+pub(crate) fn file_of(alloc: Global, texts: &[&str]) -> Option<Vec<u8>> {
+    left_of(alloc, CREATE, texts, SIZE, 0)
+}
+
+/// Ends the test unless the run said this.
+pub(crate) fn expect_said(rt: &impl Abort, left: Option<Left>, want: &str, row: &str) {
+    match left {
+        Some(left) => assert_eq!(rt; left.said.as_str(), want, "{row}"),
+        None => panic!(rt; "memory was refused: {row}"),
+    }
+}
