@@ -1,10 +1,10 @@
 -- The pages that a log touches are written one after another.
-use Rattle.std.proofs.Common.{◌≡◌, inl, inr, ℕ, zero, suc, ◌+◌, ◌<◌, ◌≤◌, List, Option, Some, None, IsSome, Result, Ok, refl, sym, ap, ◌∙◌, subst, arith}
+use Rattle.std.proofs.Common.{◌≡◌, inl, inr, ℕ, zero, suc, ◌+◌, ◌<◌, ◌≤◌, List, Option, Some, None, Result, Ok, refl, sym, ap, ◌∙◌, subst, arith}
 use Rattle.std.proofs.lemmas.Bool.{cases_eq, cases_lt}
 use Rattle.std.proofs.Math.Nat.{eq-or-lt_of_le}
 use Rattle.hb_space.specs.declared.form.TheConstants.{PAGE}
 use Rattle.hb_disk.specs.Model.{DiskModel, IsDisk, Torn}
-use Rattle.hb_disk.specs.Calls.{Ticks, Becomes, OnlyReads}
+use Rattle.hb_disk.specs.Calls.{Ticks, Becomes}
 use Rattle.hb_disk.specs.RunLaws.{one_tick}
 use Rattle.hb_disk.specs.TornLaws.{Torn-elsewhere}
 use Rattle.hb_disk.specs.ValueLaws.{at_value, has_value, some_value, some_same}

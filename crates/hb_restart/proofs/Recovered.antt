@@ -12,7 +12,7 @@ use Rattle.hb_ops.specs.Sound.{IsSound}
 use Rattle.hb_store.specs.Opening.{OpensTo, IsEven}
 use Rattle.hb_store.specs.Keeps.{IsFresh}
 use Rattle.hb_restart.specs.Found.{IsFoundIn}
-use Rattle.hb_restart.specs.WritingBack.{WritesAll, touched_to}
+use Rattle.hb_restart.specs.WritingBack.{WritesAll}
 use Rattle.hb_restart.proofs.Made.{told_before}
 use Rattle.hb_restart.proofs.SyncedRuns.{found_to}
 

@@ -1,5 +1,5 @@
 -- Bytes that open in two ways open in one: their logs touch the same pages.
-use Rattle.std.proofs.Common.{◌≡◌, ℕ, ◌+◌, List, Option, Some, IfSome, sym, ap, ◌∙◌, subst}
+use Rattle.std.proofs.Common.{◌≡◌, ℕ, ◌+◌, List, Option, IfSome, sym, ap, ◌∙◌, subst, arith}
 use Rattle.hb_disk.specs.Model.{DiskModel}
 use Rattle.hb_disk.specs.Calls.{OnlyReads}
 use Rattle.hb_disk.specs.ValueLaws.{at_value, if_value}
@@ -16,6 +16,8 @@ use Rattle.hb_store.specs.Payloads.{SpellAll}
 use Rattle.hb_store.specs.Replay.{Replayed, untouched, replay}
 use Rattle.hb_restart.specs.Found.{IsFoundIn}
 use Rattle.hb_restart.specs.Renewing.{StillOpens}
+use Rattle.hb_restart.specs.WritingBack.{WritesEachOnce}
+use Rattle.hb_restart.proofs.EachOnce.{none_written}
 
 module _ (once : OneList) (turns : (bytes : List ℕ) (t s : ℕ) (m n : Meta) → IsNewest bytes t m → IsNewest bytes s n → t ≡ s) (saids : (bytes : List ℕ) (t s : ℕ) (m n : Meta) → IsNewest bytes t m → IsNewest bytes s n → m ≡ n)
     (one_way : ReadsOneWay) where
@@ -56,3 +58,10 @@ module _ (once : OneList) (turns : (bytes : List ℕ) (t s : ℕ) (m n : Meta) �
         let since : W (old.clock + 1) b meta touched = subst (λ (n : ℕ). W (n + 1) b meta touched) reads.stays.clock had in
         subst (λ (q : Meta). W (old.clock + 1) b q pages) (meta_same b turn t here.said said meta other touched pages here.file s here.opens opens)
         (also (old.clock + 1) b meta touched pages (pages_same b turn t here.said said meta other touched pages here.file s here.opens opens) since))
+
+-- reads alone write none
+pub reads_write_none : (old new : DiskModel) → OnlyReads old new
+    → IfSome old.told (λ b. (turn : ℕ) (said meta : Meta) (touched : ℕ → Option Page) (s : FileState) → StillOpens turn said meta touched s b → WritesEachOnce (old.clock + 1) b meta touched new)
+reads_write_none old new reads =
+    if_value old.told (λ b. (turn : ℕ) (said meta : Meta) (touched : ℕ → Option Page) (s : FileState) → StillOpens turn said meta touched s b → WritesEachOnce (old.clock + 1) b meta touched new)
+    (λ b told turn said meta touched s opens. none_written (old.clock + 1) b meta touched new (reads.stays.told ∙ told) (let same = reads.stays.clock in omega (arith, same)))

@@ -1,5 +1,5 @@
 -- What a run leaves that began with a sync: to a disk whose file was found.
-use Rattle.std.proofs.Common.{◌≡◌, ℕ, ◌+◌, ◌≤◌, List, Option, Some, IfSome, Result, Ok, sym, ◌∙◌, subst, arith}
+use Rattle.std.proofs.Common.{◌≡◌, ℕ, ◌+◌, ◌≤◌, List, Option, Some, IfSome, Result, Ok, sym, ◌∙◌, subst}
 use Rattle.hb_disk.specs.Model.{DiskModel, IsDisk}
 use Rattle.hb_disk.specs.Calls.{Ticks, Syncs, Leaves}
 use Rattle.hb_disk.specs.RunLaws.{Leaves-start, Leaves-call, Leaves-then}

@@ -1,4 +1,4 @@
-use Rattle.std.proofs.Common.{◌∙◌, ◌+◌, ◌≤◌, ℕ, List, [], Option, IfSome, sym, subst, arith}
+use Rattle.std.proofs.Common.{◌∙◌, ◌+◌, ◌≤◌, ℕ, List, [], Option, IfSome, sym, subst}
 use Rattle.std.specs.Ordering.{nat_cmp}
 use Rattle.std.specs.BTreeMap.{get}
 use Rattle.hb_disk.specs.Calls.{Leaves}
@@ -18,7 +18,7 @@ use Rattle.hb_restart.proofs.Beyond.{beyond_found, found_said}
 use Rattle.hb_frag.specs.declared.pages.Page.{Page}
 use Rattle.hb_restart.specs.Renewing.{StillOpens}
 use Rattle.hb_restart.specs.WritingBack.{WritesAll, WritesEachOnce}
-use Rattle.hb_restart.proofs.EachOnce.{also_all, also_each, none_written}
+use Rattle.hb_restart.proofs.EachOnce.{also_all, also_each}
 use Rattle.hb_restart.proofs.SamePages.{each_way}
 use Rattle.hb_restart.proofs.recovery.recover.Goals as goal
 
@@ -112,15 +112,6 @@ returns-clause-beyond_after_fault g c =
 -- the clause of `recover` on each touched page, of a disk and of what holds of it
 abbrev each_opening : Option (List ℕ) → (List ℕ → Meta → (ℕ → Option Page) → Type 0) → Type 0
 each_opening told W = IfSome told (λ b. (turn : ℕ) (said meta : Meta) (touched : ℕ → Option Page) (s : FileState) → StillOpens turn said meta touched s b → W b meta touched)
-
-pub returns-in_err-look-clause-once_after_fault : goal.returns-in_err-look-clause-once_after_fault
-returns-in_err-look-clause-once_after_fault g c =
-    let old = g.D.Device.model c.args.disk in
-    let new = g.D.Device.model c.in_err-look.field-0.1 in
-    if_value old.told (λ b. (turn : ℕ) (said meta : Meta) (touched : ℕ → Option Page) (s : FileState) → StillOpens turn said meta touched s b → WritesEachOnce (old.clock + 1) b meta touched new)
-    (λ b told turn said meta touched s opens.
-    let reads = c.in_err-look.ensures.only_reads_refused in
-    none_written (old.clock + 1) b meta touched new (reads.stays.told ∙ told) (let same = reads.stays.clock in omega (arith, same)))
 
 pub returns-then-is_err-clause-once_after_fault : goal.returns-then-is_err-clause-once_after_fault
 returns-then-is_err-clause-once_after_fault g c =
