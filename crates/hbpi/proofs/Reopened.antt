@@ -127,8 +127,16 @@ away_before k d m e seen status one opening away = record {
   source = away.source;
   told = from_before d m (λ s. (s.meta.k ≡ k) × IsEven e s × (IsEven m s → Leaves m e (λ c. OpensTo c s)) × IsOnePage s.meta) _ _ one opening
       (λ b f. (f.0, f.1, (f.3, f.4, f.5, f.6)))
-      (λ b s is opens sound even here. (s, opens, sound, here.0, here.1, λ was. Leaves-then d m e (λ c. OpensTo c s) (opening.even s was) (here.2 even), here.3,
-      late_before d m e (λ c. OpensTo c s) (λ c. OpensTo c s) opening (has_value d.told b is) (opening.late b is s opens) (λ c here. here) (here.2 even))) away.told;
+      (λ b s is opens sound even here. (
+        s,
+        opens,
+        sound,
+        here.0,
+        here.1,
+        λ was. Leaves-then d m e (λ c. OpensTo c s) (opening.even s was) (here.2 even),
+        here.3,
+        late_before d m e (λ c. OpensTo c s) (λ c. OpensTo c s) opening (has_value d.told b is) (opening.late b is s opens) (λ c here. here) (here.2 even),
+      )) away.told;
 }
 
 failed_before : (d m e : DiskModel) → IsOpening d m → HasFailed m e → HasFailed d e

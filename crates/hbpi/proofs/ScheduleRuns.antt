@@ -1,5 +1,5 @@
 -- What a run of a schedule leaves, as the command `drive` says it.
-use Rattle.std.proofs.Common.{◌≡◌, ◌≢◌, inl, inr, ℕ, zero, suc, ◌+◌, ◌≤◌, List, [], ◌++◌, length, take, Option, Some, None, IfSome, IsSome, false, refl, sym, ap, subst, ◌∙◌, arith, MatchOption}
+use Rattle.std.proofs.Common.{◌≡◌, ◌≢◌, inl, inr, ℕ, zero, suc, ◌≤◌, List, [], ◌++◌, length, take, Option, Some, None, IfSome, IsSome, false, refl, sym, ap, subst, ◌∙◌, arith, MatchOption}
 use Rattle.hb_disk.specs.Model.{DiskModel, IsDisk}
 use Rattle.hb_layout.specs.declared.meta.Meta.{Meta}
 use Rattle.hb_disk.specs.Calls.{Leaves}
@@ -140,9 +140,16 @@ turned_away d st seen status disk kept running one_page refused source = record 
   source = source;
   told = if_value d.told _ (λ b is.
       let here = kept (has_value d.told b is) in
-      let even = even_store d st here.0 [] here.2 running in
-      (here.0, even.images b (disk.as_read b is), here.1, ap (λ (m : Meta). m.k) here.2.memory.meta_is, even, λ was. Leaves-start d _ disk even.images, subst IsOnePage (sym here.2.memory.meta_is) (one_page_of st.meta one_page.0 one_page.1),
-      since_start d d _ (Leaves-start d _ disk even.images)));
+      let even = even_store d st here.0 [] here.2 running in (
+        here.0,
+        even.images b (disk.as_read b is),
+        here.1,
+        ap (λ (m : Meta). m.k) here.2.memory.meta_is,
+        even,
+        λ was. Leaves-start d _ disk even.images,
+        subst IsOnePage (sym here.2.memory.meta_is) (one_page_of st.meta one_page.0 one_page.1),
+        since_start d d _ (Leaves-start d _ disk even.images),
+      ));
 }
 
 -- the same over a disk that is another's

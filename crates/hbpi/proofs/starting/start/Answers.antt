@@ -11,7 +11,6 @@ use Rattle.std.specs.Prelude.{IfSome}
 use Rattle.hbpi.proofs.Started.{larger_of, left_of}
 use Rattle.hb_disk.specs.ValueLaws.{at_value, if_value}
 use Rattle.hb_restart.specs.declared.faults.OpenFault.{OpenFault}
-use Rattle.hbpi.specs.declared.starting.StartFault.{StartFault}
 use Rattle.hbpi.specs.declared.starting.StartFault.TheVariants as starts
 use Rattle.hbpi.proofs.starting.start.Goals as goal
 
