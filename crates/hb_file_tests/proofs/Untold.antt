@@ -1,11 +1,12 @@
 -- What tests use of a store: over a disk that tells nothing no licence is owed, and reads leave the groups as they are.
-use Rattle.std.proofs.Common.{◌≡◌, inl, inr, ℕ, ◌≤◌, true, false, List, All, sym, ap, ◌∙◌, subst}
+use Rattle.std.proofs.Common.{◌≡◌, inl, inr, ℕ, ◌≤◌, true, false, List, [], ◌∷◌, All, sym, ap, ◌∙◌, subst}
+use Rattle.std.proofs.lemmas.List.Elements.{All-tail}
 use Rattle.hb_disk.specs.Untold.{untold_of}
-use Rattle.hb_wal.specs.Log.{LogState, Waiting}
+use Rattle.hb_wal.specs.Log.{LogState, Waiting, left_waiting}
 use Rattle.hb_ops.specs.declared.operations.Op.{Op}
 use Rattle.hb_ops.specs.Files.{FileState}
 use Rattle.hb_ops.specs.Operations.{IsLicensed}
-use Rattle.hb_store.specs.Calls.{Fetched}
+use Rattle.hb_store.specs.Calls.{Fetched, forced_state}
 use Rattle.hb_store.specs.States.{StoreState}
 use Rattle.hb_store.specs.Keeps.{StoreKeeps, last_of}
 use Rattle.hb_store.specs.NextPage.{MayFetch}
@@ -26,3 +27,11 @@ next_runs id old new (inr fetched) runs = fetched_runs id old new fetched runs
 pub next_marks : (id : ℕ) (old new : StoreState) → MayFetch id old new → All (λ (g : Waiting). g.mark ≤ 7) old.log.groups → All (λ (g : Waiting). g.mark ≤ 7) new.log.groups
 next_marks id old new (inl same) marks = subst (λ (st : StoreState). All (λ (g : Waiting). g.mark ≤ 7) st.log.groups) (sym same) marks
 next_marks id old new (inr fetched) marks = fetched_marks id old new fetched marks
+
+-- a force leaves the groups behind the first one
+left_marks : (groups : List Waiting) → All (λ (g : Waiting). g.mark ≤ 7) groups → All (λ (g : Waiting). g.mark ≤ 7) (left_waiting groups)
+left_marks [] marks = marks
+left_marks (first ∷ rest) marks = All-tail (λ (g : Waiting). g.mark ≤ 7) first rest marks
+
+pub forced_marks : (old new : StoreState) → new ≡ forced_state old → All (λ (g : Waiting). g.mark ≤ 7) old.log.groups → All (λ (g : Waiting). g.mark ≤ 7) new.log.groups
+forced_marks old new same marks = subst (λ (st : StoreState). All (λ (g : Waiting). g.mark ≤ 7) st.log.groups) (sym same) (left_marks old.log.groups marks)

@@ -8,6 +8,10 @@ mod audits;
 #[cfg(test)]
 mod boxes;
 #[cfg(test)]
+mod driven_trees;
+#[cfg(test)]
+mod drives;
+#[cfg(test)]
 mod fetches;
 #[cfg(test)]
 mod groups;

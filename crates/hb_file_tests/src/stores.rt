@@ -161,7 +161,7 @@ fn is_allowed(alloc: Global, store: &Store<RotDisk>, op: &Op) -> Option<bool>
 /// Does the operation of a group with mark 7 where it is allowed, and says whether it is. A disk that tells nothing keeps no
 /// file, so that no licence is owed.
 #[tactic(auto, using(crate::proofs::Untold::licensed))]
-fn done(alloc: Global, store: &mut Store<RotDisk>, group: &[u8]) -> Option<bool>
+pub(crate) fn done(alloc: Global, store: &mut Store<RotDisk>, group: &[u8]) -> Option<bool>
     requires running { (seen_as store.old).stopped ≡ false }
     requires marks { All (λ g. g.mark ≤ 7) (seen_as store.old).log.groups }
     ensures running { (seen_as store.new).stopped ≡ false }

@@ -1,5 +1,5 @@
 -- Runs that leave alone what lies behind the first bytes of a disk.
-use Rattle.std.proofs.Common.{◌≡◌, ℕ, zero, suc, ◌+◌, ◌*◌, ◌%◌, ◌≤◌, List, length, Option, Some, IfSome, Result, sym, subst, arith}
+use Rattle.std.proofs.Common.{◌≡◌, ℕ, zero, suc, ◌+◌, ◌*◌, ◌-◌, ◌%◌, ◌≤◌, List, length, Option, Some, IfSome, Result, sym, subst, arith}
 use Rattle.hb_disk.specs.Model.{DiskModel, IsDisk, Torn}
 use Rattle.hb_disk.specs.Calls.{Becomes, OnlyReads, Syncs, Ticks, Writes}
 use Rattle.hb_disk.specs.RunLaws.{OnlyReads-none}
@@ -40,27 +40,31 @@ beyond_write r at piece n old new is_old is_new fits within writes ticks =
 pub beyond_sync : {T E : Type 0} (r : Result T E) (n : ℕ) (old new : DiskModel) → IsDisk old → Syncs r old new → Ticks r old new → KeepsBeyond n old new
 beyond_sync r n old new is_old syncs ticks = Becomes-torn_sync r 0 n old new is_old syncs ticks
 
--- what a file has below its end: a log area, a page, a superblock, and a body
+-- what a file has in front of its pages: a log area, a superblock, and a body; and below its end a page
 by_bit : (bit log rest : ℕ) → bit ≤ 1 → 8192 + bit * log + log ≤ 8192 + 2 * log + rest
 by_bit zero log rest low = omega arith
 by_bit (suc zero) log rest low = omega arith
 by_bit (suc (suc n)) log rest low = absurd (omega (arith, low))
 
-pub log_within : (turn : ℕ) (meta : Meta) → log_start turn meta + meta.log ≤ file_size meta
-log_within turn meta = by_bit (turn % 2) meta.log (4096 * meta.pages) (omega arith)
+pub log_within : (turn : ℕ) (meta : Meta) → log_start turn meta + meta.log ≤ page_offset meta 1
+log_within turn meta = by_bit (turn % 2) meta.log (4096 * (1 - 1)) (omega arith)
 
-pub beyond_log : (turn at : ℕ) (meta : Meta) (old new : DiskModel) → at ≡ log_start turn meta → Becomes (Torn at meta.log) old new → KeepsBeyond (file_size meta) old new
+pub beyond_log : (turn at : ℕ) (meta : Meta) (old new : DiskModel) → at ≡ log_start turn meta → Becomes (Torn at meta.log) old new → KeepsBeyond (page_offset meta 1) old new
 beyond_log turn at meta old new is run =
-    beyond_wider at meta.log (file_size meta) old new (let within = log_within turn meta in omega (arith, is, within)) run
+    beyond_wider at meta.log (page_offset meta 1) old new (let within = log_within turn meta in omega (arith, is, within)) run
 
 pub beyond_page : (meta : Meta) (id : ℕ) (old new : DiskModel) → 1 ≤ id → id ≤ meta.pages → Becomes (Torn (page_offset meta id) 4096) old new → KeepsBeyond (file_size meta) old new
 beyond_page meta id old new some most run = beyond_wider (page_offset meta id) 4096 (file_size meta) old new (omega (arith, some, most)) run
 
-pub beyond_super : (turn : ℕ) (meta : Meta) (old new : DiskModel) → Becomes (Torn (slot_offset turn) 41) old new → KeepsBeyond (file_size meta) old new
-beyond_super turn meta old new run = beyond_wider (slot_offset turn) 41 (file_size meta) old new (let low : turn % 2 ≤ 1 = omega arith in omega (arith, low)) run
+pub beyond_super : (turn : ℕ) (meta : Meta) (old new : DiskModel) → Becomes (Torn (slot_offset turn) 41) old new → KeepsBeyond (page_offset meta 1) old new
+beyond_super turn meta old new run = beyond_wider (slot_offset turn) 41 (page_offset meta 1) old new (let low : turn % 2 ≤ 1 = omega arith in omega (arith, low)) run
 
-pub beyond_body : (turn : ℕ) (meta : Meta) (old new : DiskModel) → Becomes (Torn (slot_offset turn + 1) 40) old new → KeepsBeyond (file_size meta) old new
-beyond_body turn meta old new run = beyond_wider (slot_offset turn + 1) 40 (file_size meta) old new (let low : turn % 2 ≤ 1 = omega arith in omega (arith, low)) run
+pub beyond_body : (turn : ℕ) (meta : Meta) (old new : DiskModel) → Becomes (Torn (slot_offset turn + 1) 40) old new → KeepsBeyond (page_offset meta 1) old new
+beyond_body turn meta old new run = beyond_wider (slot_offset turn + 1) 40 (page_offset meta 1) old new (let low : turn % 2 ≤ 1 = omega arith in omega (arith, low)) run
+
+-- what leaves alone all that isn't in front of the pages leaves alone what lies behind the file
+pub beyond_front : (meta : Meta) (old new : DiskModel) → KeepsBeyond (page_offset meta 1) old new → KeepsBeyond (file_size meta) old new
+beyond_front meta old new run = beyond_wider 0 (page_offset meta 1) (file_size meta) old new (omega arith) run
 
 -- A run behind the reads that found the file: it leaves alone what lies behind the file by the newest superblock.
 pub found_said : (one : (bytes : List ℕ) (t s : ℕ) (m n : Meta) → IsNewest bytes t m → IsNewest bytes s n → m ≡ n) (told : Option (List ℕ)) (turn : ℕ) (meta : Meta) (touched : ℕ → Option Page) (count : ℕ)

@@ -10,6 +10,8 @@ pub mod Told
 pub mod Audited
 pub mod Renewed
 pub mod SyncedRuns
+pub mod EachOnce
+pub mod SamePages
 pub mod Recovered
 pub mod SoundFiles
 pub mod BadFrames

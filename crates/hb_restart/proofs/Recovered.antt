@@ -12,6 +12,7 @@ use Rattle.hb_ops.specs.Sound.{IsSound}
 use Rattle.hb_store.specs.Opening.{OpensTo, IsEven}
 use Rattle.hb_store.specs.Keeps.{IsFresh}
 use Rattle.hb_restart.specs.Found.{IsFoundIn}
+use Rattle.hb_restart.specs.WritingBack.{WritesAll}
 use Rattle.hb_restart.proofs.Made.{told_before}
 use Rattle.hb_restart.proofs.SyncedRuns.{found_to}
 
@@ -30,12 +31,14 @@ module _ (old mid new : DiskModel) (reads : OnlyReads old mid) (turn : ℕ) (met
       Leaves-then old mid new (λ c. OpensTo c s) (Leaves-read old old mid (λ c. OpensTo c s) (Leaves-start old (λ c. OpensTo c s) is_old is_even.images) stays)
       (at_value mid.told (λ b. IsFoundIn b turn meta touched count → (s : FileState) → IsEven mid s → Leaves mid new (λ c. OpensTo c s)) b.0 (stays.told ∙ b.1) run (found_at b.0 b.1) s still)
 
-  -- no call sets the clock back
-  pub recovered_time : IfSome mid.told (λ b. IsFoundIn b turn meta touched count → mid.clock ≤ new.clock) → IsSome old.told → old.clock ≤ new.clock
+  -- at least the first sync has moved the clock
+  pub recovered_time : IfSome mid.told (λ b. IsFoundIn b turn meta touched count → WritesAll (mid.clock + 1) b meta touched new) → IsSome old.told → old.clock + 1 ≤ new.clock
   recovered_time run tells =
       let b = some_value old.told tells in
-      let since : mid.clock ≤ new.clock = at_value mid.told (λ b. IsFoundIn b turn meta touched count → mid.clock ≤ new.clock) b.0 (reads.stays.told ∙ b.1) run (found_at b.0 b.1) in
-      omega (arith, reads.stays.clock, since)
+      let all : WritesAll (mid.clock + 1) b.0 meta touched new =
+      at_value mid.told (λ b. IsFoundIn b turn meta touched count → WritesAll (mid.clock + 1) b meta touched new) b.0 (reads.stays.told ∙ b.1) run (found_at b.0 b.1) in
+      let least = all.least in
+      omega (arith, reads.stays.clock, least)
 
   -- once the next turn has begun
   module _ (next : ℕ) (is : next ≡ next_turn turn) (renewed : IfSome mid.told (λ b. IsFoundIn b turn meta touched count → (s : FileState) → OpensTo b s → IsFresh new (next_turn turn) meta s

@@ -65,7 +65,7 @@ pub still_to : (turn : ℕ) (said meta : Meta) (touched : ℕ → Option Page) (
 still_to turn said meta touched s c opens = record { turn = turn; said = said; payloads = opens.payloads; groups = opens.groups; by = opens.by }
 
 -- places of two pages don't meet
-other_place : (meta : Meta) (id at : ℕ) → 1 ≤ id → 1 ≤ at → (id ≡ at → ⊥) → Apart (page_offset meta id) PAGE (page_offset meta at) PAGE
+pub other_place : (meta : Meta) (id at : ℕ) → 1 ≤ id → 1 ≤ at → (id ≡ at → ⊥) → Apart (page_offset meta id) PAGE (page_offset meta at) PAGE
 other_place meta id at some first other = elim (cases_lt id at) [
   | inl less ↦ inl (omega (arith, less, some, first))
   | inr most ↦ inr (omega (arith, most, other, some, first))

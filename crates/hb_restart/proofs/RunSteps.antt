@@ -1,5 +1,5 @@
 -- What follows of runs of calls: of the disk once they succeeded, and of its images.
-use Rattle.std.proofs.Common.{◌≡◌, inl, inr, ℕ, ◌+◌, ◌≤◌, List, Some, IsSome, Result, Ok, Err, OnOk, IsErr, subst, arith}
+use Rattle.std.proofs.Common.{◌≡◌, inl, inr, ℕ, ◌+◌, ◌≤◌, List, Some, IsSome, Result, Ok, Err, OnOk, IsErr, refl, subst, arith}
 use Rattle.std.proofs.Math.Nat.{eq-or-lt_of_le}
 use Rattle.hb_disk.specs.Model.{DiskModel, IsDisk}
 use Rattle.hb_disk.specs.Calls.{Ticks, Becomes, Leaves}
@@ -45,3 +45,8 @@ on_ok_given (Err e) P Q f = tt
 pub on_ok_each : {T E X : Type 0} (r : Result T E) (P : X → Type 0) → ((x : X) → OnOk r (P x)) → OnOk r ((x : X) → P x)
 on_ok_each (Ok v) P f = f
 on_ok_each (Err e) P f = tt
+
+-- what a success gives, where that it is one is known too
+pub on_ok_given_so : {T E : Type 0} (r : Result T E) (P Q : Type 0) → ((v : T) → r ≡ Ok v → P → Q) → OnOk r P → OnOk r Q
+on_ok_given_so (Ok v) P Q f p = f v refl p
+on_ok_given_so (Err e) P Q f p = tt

@@ -1,5 +1,5 @@
 -- What a run leaves that began with a sync: to a disk whose file was found.
-use Rattle.std.proofs.Common.{◌≡◌, ℕ, ◌+◌, ◌≤◌, List, Option, Some, IfSome, Result, Ok, sym, ◌∙◌, subst, arith}
+use Rattle.std.proofs.Common.{◌≡◌, ℕ, ◌+◌, ◌≤◌, List, Option, Some, IfSome, Result, Ok, sym, ◌∙◌, subst}
 use Rattle.hb_disk.specs.Model.{DiskModel, IsDisk}
 use Rattle.hb_disk.specs.Calls.{Ticks, Syncs, Leaves}
 use Rattle.hb_disk.specs.RunLaws.{Leaves-start, Leaves-call, Leaves-then}
@@ -60,10 +60,6 @@ module _ {T E : Type 0} (q : Result T E) (v : T) (ok : q ≡ Ok v) (old mid new 
   synced_late = if_value old.told (λ b. IsFoundIn b turn meta touched count → (s : FileState) → OpensTo b s → old.clock + 2 ≤ new.clock → (c : List ℕ) → new.ImageSince (old.clock + 1) c → OpensTo c s)
       (λ b told found s opens later. late b told found s opens)
 
-  pub synced_time : IfSome old.told (λ b. IsFoundIn b turn meta touched count → old.clock ≤ new.clock)
-  synced_time = if_value old.told (λ b. IsFoundIn b turn meta touched count → old.clock ≤ new.clock)
-      (λ b told found. omega (arith, ticks.later, (moments found.said found.file (here b told found)).later))
-
   pub synced_renewed : ((said : Meta) (s : FileState) → IsHere mid turn said meta touched s → IsFresh new (next_turn turn) meta s)
       → IfSome old.told (λ b. IsFoundIn b turn meta touched count → (s : FileState) → OpensTo b s → IsFresh new (next_turn turn) meta s
       × ((c : List ℕ) → new.ImageSince (old.clock + 1) c → OpensTo c s))
@@ -71,3 +67,9 @@ module _ {T E : Type 0} (q : Result T E) (v : T) (ok : q ≡ Ok v) (old mid new 
       × ((c : List ℕ) → new.ImageSince (old.clock + 1) c → OpensTo c s)) (λ b told found s opens.
       let Q : FileState → Type 0 = λ x. IsFresh new (next_turn turn) meta x in
       (subst Q (is_file b told found s opens) (fresh found.said found.file (here b told found)), late b told found s opens))
+
+  -- what is said of a run behind the sync, by the clock there and the bytes as they read
+  pub synced_counted : (W : ℕ → List ℕ → Type 0) → ((said : Meta) (s : FileState) (b : List ℕ) → IsHere mid turn said meta touched s → mid.told ≡ Some b → W mid.clock b)
+      → IfSome old.told (λ b. IsFoundIn b turn meta touched count → W (old.clock + 1) b)
+  synced_counted W run = if_value old.told (λ b. IsFoundIn b turn meta touched count → W (old.clock + 1) b) (λ b told found.
+      subst (λ (n : ℕ). W n b) (ok_tick q v old mid ok is_old (has_value old.told b told) ticks) (run found.said found.file b (here b told found) (syncs.same ∙ told)))

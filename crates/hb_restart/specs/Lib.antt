@@ -7,3 +7,4 @@ pub mod Found
 pub mod Source
 pub mod Beyond
 pub mod LoneLaws
+pub mod WritingBack

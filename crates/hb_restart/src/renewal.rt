@@ -19,6 +19,7 @@ ghost use Rattle.hb_store.specs.Keeps.{IsFresh};
 ghost use Rattle.hb_restart.specs.Beyond.{KeepsBeyond};
 ghost use Rattle.hb_restart.specs.Found.{AreSpelled, IsFoundIn, IsWhole};
 ghost use Rattle.hb_restart.specs.Renewing.{StillOpens, IsHere, IsPlaced, IsPlacedTo, IsReadyFor, Runs};
+ghost use Rattle.hb_restart.specs.WritingBack.{IsWrittenTo, WritesAll, WritesEachOnce};
 
 use crate::looking::Found;
 use hb_disk::{Device, DiskFault};
@@ -69,6 +70,10 @@ fn settle_one<D: Device>(disk: &mut D, found: &Found, id: u32) -> Result<(), Fai
     ensures placed { OnOk result ((said : Said) (s : FileState) (before : ℕ) → before + 1 ≡ id →
         IsPlacedTo before (D.model disk.old) found.now.turn said found.now.meta (get nat_cmp found.now.touched) s →
         IsPlacedTo id (D.model disk.new) found.now.turn said found.now.meta (get nat_cmp found.now.touched) s) }
+    ensures once { (from before : ℕ) (b : List ℕ) → before + 1 ≡ id → IsWrittenTo before from b found.now.meta (get nat_cmp found.now.touched) (D.model disk.old) →
+        WritesEachOnce from b found.now.meta (get nat_cmp found.now.touched) (D.model disk.new) }
+    ensures written { OnOk result ((from before : ℕ) (b : List ℕ) → before + 1 ≡ id → IsWrittenTo before from b found.now.meta (get nat_cmp found.now.touched) (D.model disk.old) →
+        IsWrittenTo id from b found.now.meta (get nat_cmp found.now.touched) (D.model disk.new)) }
 {
     match found.touched.get(&id) {
         Some(page) => write_page(disk, &found.meta, id, page),
@@ -86,6 +91,11 @@ fn settle<D: Device>(disk: &mut D, found: &Found) -> Result<(), Failed>
         Leaves (D.model disk.old) (D.model disk.new) (StillOpens found.now.turn said found.now.meta (get nat_cmp found.now.touched) s) }
     ensures placed { OnOk result ((said : Said) (s : FileState) → IsHere (D.model disk.old) found.now.turn said found.now.meta (get nat_cmp found.now.touched) s →
         IsPlaced (D.model disk.new) found.now.turn said found.now.meta (get nat_cmp found.now.touched) s) }
+    // each page once, in the order of their numbers, and no other page
+    ensures once { (b : List ℕ) → (D.model disk.old).told ≡ Some b →
+        WritesEachOnce (D.model disk.old).clock b found.now.meta (get nat_cmp found.now.touched) (D.model disk.new) }
+    ensures written { OnOk result ((b : List ℕ) → (D.model disk.old).told ≡ Some b →
+        IsWrittenTo found.now.meta.high (D.model disk.old).clock b found.now.meta (get nat_cmp found.now.touched) (D.model disk.new)) }
 {
     for place in 0..found.meta.high {
         settle_one(disk, found, place + 1)?;
@@ -98,7 +108,8 @@ fn make_room<D: Device>(disk: &mut D, turn: u8, meta: &Meta) -> Result<(), DiskF
     requires room { file_size meta.now ≤ (D.model disk.old).size }
     requires legal { IsLegal turn meta.now }
     ensures run { Runs 5 result (D.model disk.old) (D.model disk.new) }
-    ensures beyond { KeepsBeyond (file_size meta.now) (D.model disk.old) (D.model disk.new) }
+    // what stands in front of the pages alone may be other
+    ensures front { KeepsBeyond (offsets.page_offset meta.now 1) (D.model disk.old) (D.model disk.new) }
     ensures moments { (said : Said) (touched : ℕ → Option Content) (s : FileState) → IsPlaced (D.model disk.old) turn said meta.now touched s →
         Leaves (D.model disk.old) (D.model disk.new) (StillOpens turn said meta.now touched s) }
     ensures ready { OnOk result ((said : Said) (touched : ℕ → Option Content) (s : FileState) → IsPlaced (D.model disk.old) turn said meta.now touched s →
@@ -115,7 +126,8 @@ fn switch<D: Device>(disk: &mut D, turn: u8, meta: &Meta) -> Result<(), DiskFaul
     requires room { file_size meta.now ≤ (D.model disk.old).size }
     requires legal { IsLegal turn meta.now }
     ensures run { Runs 11 result (D.model disk.old) (D.model disk.new) }
-    ensures beyond { KeepsBeyond (file_size meta.now) (D.model disk.old) (D.model disk.new) }
+    // what stands in front of the pages alone may be other
+    ensures front { KeepsBeyond (offsets.page_offset meta.now 1) (D.model disk.old) (D.model disk.new) }
     ensures moments { (said : Said) (touched : ℕ → Option Content) (s : FileState) → IsPlaced (D.model disk.old) turn said meta.now touched s →
         Leaves (D.model disk.old) (D.model disk.new) (λ c. OpensTo c s) }
     ensures fresh { OnOk result ((said : Said) (touched : ℕ → Option Content) (s : FileState) → IsPlaced (D.model disk.old) turn said meta.now touched s →
@@ -136,6 +148,10 @@ fn rewrite<D: Device>(disk: &mut D, found: &Found) -> Result<(), DiskFault>
         Leaves (D.model disk.old) (D.model disk.new) (λ c. OpensTo c s) }
     ensures fresh { OnOk result ((said : Said) (s : FileState) → IsHere (D.model disk.old) found.now.turn said found.now.meta (get nat_cmp found.now.touched) s →
         IsFresh (D.model disk.new) (next_turn found.now.turn) found.now.meta s) }
+    ensures once { (said : Said) (s : FileState) (b : List ℕ) → IsHere (D.model disk.old) found.now.turn said found.now.meta (get nat_cmp found.now.touched) s →
+        (D.model disk.old).told ≡ Some b → WritesEachOnce (D.model disk.old).clock b found.now.meta (get nat_cmp found.now.touched) (D.model disk.new) }
+    ensures all { OnOk result ((said : Said) (s : FileState) (b : List ℕ) → IsHere (D.model disk.old) found.now.turn said found.now.meta (get nat_cmp found.now.touched) s →
+        (D.model disk.old).told ≡ Some b → WritesAll (D.model disk.old).clock b found.now.meta (get nat_cmp found.now.touched) (D.model disk.new)) }
 {
     settle(disk, found)?;
     switch(disk, found.turn, &found.meta)
@@ -148,8 +164,6 @@ pub(crate) fn renew<D: Device>(disk: &mut D, found: &Found) -> Result<(), DiskFa
     requires spelled { AreSpelled (get nat_cmp found.now.touched) }
     ensures run { Runs (found.now.meta.high + 12) result (D.model disk.old) (D.model disk.new) }
     ensures beyond { KeepsBeyond (file_size found.now.meta) (D.model disk.old) (D.model disk.new) }
-    ensures time { IfSome (D.model disk.old).told (λ b. IsFoundIn b found.now.turn found.now.meta (get nat_cmp found.now.touched) found.now.count →
-        (D.model disk.old).clock ≤ (D.model disk.new).clock) }
     ensures even { IfSome (D.model disk.old).told (λ b. IsFoundIn b found.now.turn found.now.meta (get nat_cmp found.now.touched) found.now.count →
         (s : FileState) → IsEven (D.model disk.old) s → Leaves (D.model disk.old) (D.model disk.new) (λ c. OpensTo c s)) }
     // a second tick of the clock comes only after the first sync has succeeded
@@ -159,6 +173,11 @@ pub(crate) fn renew<D: Device>(disk: &mut D, found: &Found) -> Result<(), DiskFa
     ensures renewed { OnOk result (IfSome (D.model disk.old).told (λ b. IsFoundIn b found.now.turn found.now.meta (get nat_cmp found.now.touched) found.now.count →
         (s : FileState) → OpensTo b s → IsFresh (D.model disk.new) (next_turn found.now.turn) found.now.meta s
         × ((c : List ℕ) → (D.model disk.new).ImageSince ((D.model disk.old).clock + 1) c → OpensTo c s))) }
+    // the sync is the first call, and the touched pages are the next ones
+    ensures once { IfSome (D.model disk.old).told (λ b. IsFoundIn b found.now.turn found.now.meta (get nat_cmp found.now.touched) found.now.count →
+        WritesEachOnce ((D.model disk.old).clock + 1) b found.now.meta (get nat_cmp found.now.touched) (D.model disk.new)) }
+    ensures all { OnOk result (IfSome (D.model disk.old).told (λ b. IsFoundIn b found.now.turn found.now.meta (get nat_cmp found.now.touched) found.now.count →
+        WritesAll ((D.model disk.old).clock + 1) b found.now.meta (get nat_cmp found.now.touched) (D.model disk.new))) }
 {
     an_image_opens_to_one_file();
     disk.sync()?;

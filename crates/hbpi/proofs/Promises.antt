@@ -1,5 +1,5 @@
 -- The promise of `drive`, from how its run ends.
-use Rattle.std.proofs.Common.{◌≡◌, inl, inr, ℕ, zero, suc, List, [], length, Option, Some, None, refl, sym, ap, subst, ◌∙◌}
+use Rattle.std.proofs.Common.{◌≡◌, ◌⊎◌, inl, inr, ℕ, ◌+◌, ◌≤◌, zero, suc, List, [], length, Option, Some, None, refl, sym, ap, subst, ◌∙◌}
 use Rattle.std.specs.List.{All}
 use Rattle.std.proofs.lemmas.List.Elements.{All-nil}
 use Rattle.hb_disk.specs.Model.{DiskModel}
@@ -16,7 +16,7 @@ use Rattle.hb_store.specs.Opening.{OpensTo, IsEven}
 use Rattle.hbpi.specs.Codes.{start_status}
 use Rattle.hbpi.specs.Core.{CoreState, settled_of}
 use Rattle.hbpi.specs.Keeping.{OpensToPrefix, AreAmong}
-use Rattle.hbpi.specs.Moments.{HoldsAnswers}
+use Rattle.hbpi.specs.Moments.{HoldsAnswers, LeavesLate}
 use Rattle.hbpi.specs.AnsweredLines.{IsReplied}
 use Rattle.hbpi.specs.Driven.{IsTurnedAway, OpenedEnds, DriveCommandEnds}
 use Rattle.hbpi.specs.Schedules.{IsScheduled}
@@ -42,8 +42,9 @@ not_done (starts.Closed faults.DiskFault) is = cc (is)
 not_done (starts.Closed faults.NoMemory) is = cc (is)
 
 -- where no command was done
-nothing_done : (s : FileState) (d e : DiskModel) (seen : Seen) (status : Status) → IsSound s → seen.answered ≡ [] → seen.order ≡ [] → (IsEven d s → Leaves d e (λ c. OpensTo c s)) → (status ≡ Done → ⊥) → KeepsPromise s d e seen status
-nothing_done s d e seen status sound none_answered none_ordered leaves undone =
+nothing_done : (s : FileState) (d e : DiskModel) (seen : Seen) (status : Status) → IsSound s → seen.answered ≡ [] → seen.order ≡ [] → (IsEven d s → Leaves d e (λ c. OpensTo c s)) → (d.clock + 2 ≤ e.clock → LeavesLate d e (λ c. OpensTo c s))
+    → (status ≡ Done → ⊥) → KeepsPromise s d e seen status
+nothing_done s d e seen status sound none_answered none_ordered leaves late undone =
     let held : HoldsAnswers e (contents_of s) [] seen.answered = let Q : List Answered → Type 0 = λ a. HoldsAnswers e (contents_of s) [] a in subst Q (sym none_answered) (All-nil _) in
     record {
       done = [];
@@ -56,6 +57,7 @@ nothing_done s d e seen status sound none_answered none_ordered leaves undone =
         each = Leaves-weaker d e (λ c. OpensTo c s) (OpensToPrefix (contents_of s) [] 0) (λ c opens. no_line_yet s [] c sound opens) (leaves even);
         since = held;
       };
+      late = λ later. let here = late later in record { since = here.since; soon = here.soon; each = λ c left. no_line_yet s [] c sound (here.each c left) };
       even = λ is. absurd (undone is);
     }
 
@@ -84,6 +86,7 @@ ran b s d e seen status after one told opens drove going =
       replied = run.replied;
       held = run.held;
       crashes = run.crashes;
+      late = λ later. run.late;
       even = λ is. let even = run.even (going is) in (even.0, settled_of after, even.1, even.2, even.3);
     }
 
@@ -91,7 +94,8 @@ away : (k : ℕ) (b : List ℕ) (s : FileState) (d e : DiskModel) (seen : Seen) 
 away k b s d e seen status one told opens sound turned undone =
     let here = at_value d.told _ b told turned.told in
     let same : here.0 ≡ s = one b here.0 s here.1 opens in
-    nothing_done s d e seen status sound turned.refused.none_answered turned.refused.none_ordered (subst (λ (f : FileState). IsEven d f → Leaves d e (λ c. OpensTo c f)) same here.5) undone
+    nothing_done s d e seen status sound turned.refused.none_answered turned.refused.none_ordered (subst (λ (f : FileState). IsEven d f → Leaves d e (λ c. OpensTo c f)) same here.5)
+    (λ later. subst (λ (f : FileState). LeavesLate d e (λ c. OpensTo c f)) same here.7) undone
 
 -- the statuses but the first
 abbrev IsOther : Status → Type 0
@@ -135,6 +139,7 @@ module _ (b : List ℕ) (s : FileState) (d e : DiskModel) (seen : Seen) (one : O
 
 pub keeps_promise : (status : Status) (b : List ℕ) (s : FileState) (d e : DiskModel) (seen : Seen) → OpensToOne → d.told ≡ Some b → OpensTo b s → IsSound s → DriveCommandEnds d e seen status → KeepsPromise s d e seen status
 keeps_promise status b s d e seen one told opens sound ends = elim ends [
-  | inl shut ↦ nothing_done s d e seen status sound shut.2.refused.none_answered shut.2.refused.none_ordered (shut.2.even s) (λ is. not_done shut.0 (sym shut.1 ∙ is))
+  | inl shut ↦ nothing_done s d e seen status sound shut.2.refused.none_answered shut.2.refused.none_ordered (shut.2.even s)
+      (λ later. at_value d.told (λ b. (s : FileState) → OpensTo b s → (shut.0 ≡ starts.NotBuilt) ⊎ (d.clock + 2 ≤ e.clock) → LeavesLate d e (λ c. OpensTo c s)) b told shut.2.late s opens (inr later)) (λ is. not_done shut.0 (sym shut.1 ∙ is))
   | inr opened ↦ opened_promise b s d e seen one told opens sound status opened
 ]

@@ -1,5 +1,5 @@
 -- A run over a file that was just opened, seen from before the opening.
-use Rattle.std.proofs.Common.{◌≡◌, inl, inr, ℕ, ◌≤◌, List, length, Option, Some, None, IfSome, IsSome, refl, ap, subst, ◌∙◌, arith}
+use Rattle.std.proofs.Common.{◌≡◌, inl, inr, ℕ, ◌+◌, ◌≤◌, List, length, Option, Some, None, IfSome, IsSome, refl, ap, subst, ◌∙◌, arith}
 use Rattle.hb_disk.specs.Model.{DiskModel, IsDisk}
 use Rattle.hb_disk.specs.Calls.{Leaves}
 use Rattle.hb_disk.specs.RunLaws.{Leaves-then, Leaves-weaker}
@@ -16,6 +16,7 @@ use Rattle.hbpi.specs.Keeping.{OpensToPrefix}
 use Rattle.hbpi.specs.Driven.{IsTurnedAway, EndsByFault, OpenedEnds}
 use Rattle.hbpi.specs.DrivenRuns.{RunsFrom, HasRun, Drove, HasFailed}
 use Rattle.hbpi.specs.Drives.{RunFaults}
+use Rattle.hbpi.specs.Moments.{LeavesLate}
 use Rattle.hbpi.specs.Moves.{MovesOn, Shown, shown}
 use Rattle.hbpi.specs.SeenRuns.{Seen}
 use Rattle.hbpi.specs.Starting.{IsOnePage}
@@ -26,8 +27,9 @@ use Rattle.hbpi.specs.declared.statuses.Status.TheVariants.{Done, Usage, BadText
 pub record IsOpening (d m : DiskModel) : Type 0 where
   pub disk : IsDisk m
   pub told : IfSome d.told (λ b. (s : FileState) × OpensTo b s × IsSound s × IsEven m s)
-  pub time : IsSome d.told → d.clock ≤ m.clock
+  pub time : IsSome d.told → d.clock + 1 ≤ m.clock
   pub even : (s : FileState) → IsEven d s → Leaves d m (λ c. OpensTo c s)
+  pub late : (b : List ℕ) → d.told ≡ Some b → (s : FileState) → OpensTo b s → (c : List ℕ) → m.ImageSince (d.clock + 1) c → OpensTo c s
   pub reads : m.read_faults ≡ d.read_faults
   pub writes : m.write_faults ≡ d.write_faults
 
@@ -44,8 +46,17 @@ from_before d m R F G one opening takes makes here = if_value d.told G (λ b is.
 pub no_line_yet : (s : FileState) (done : List Line) (c : List ℕ) → IsSound s → OpensTo c s → OpensToPrefix (contents_of s) done 0 c
 no_line_yet s done c sound opens = record { count = 0; enough = omega arith; within = omega arith; file = s; opens = opens; sound = sound; set_is = refl }
 
-run_before : (s : FileState) (steps : ℕ) (d m e : DiskModel) (before after : CoreState) (answered : List Answered) → IsOpening d m → IsSome d.told → IsSound s → IsEven m s → RunsFrom s steps m e before after answered → RunsFrom s steps d e before after answered
-run_before s steps d m e before after answered opening tells sound even run = record {
+-- since the first sync succeeded each image has what those of the opening and those behind it have
+late_before : (d m e : DiskModel) (P Q : List ℕ → Type 0) → IsOpening d m → IsSome d.told → ((c : List ℕ) → m.ImageSince (d.clock + 1) c → P c) → ((c : List ℕ) → P c → Q c) → Leaves m e Q → LeavesLate d e Q
+late_before d m e P Q opening tells late weaker run = record {
+  since = d.clock + 1;
+  soon = omega arith;
+  each = λ c left. elim (run.before (d.clock + 1) c (opening.time tells) left) [ inl was ↦ weaker c (late c was) | inr here ↦ here ];
+}
+
+run_before : (s : FileState) (steps : ℕ) (d m e : DiskModel) (before after : CoreState) (answered : List Answered) → IsOpening d m → IsSome d.told → ((c : List ℕ) → m.ImageSince (d.clock + 1) c → OpensTo c s) → IsSound s → IsEven m s
+    → RunsFrom s steps m e before after answered → RunsFrom s steps d e before after answered
+run_before s steps d m e before after answered opening tells late sound even run = record {
   start = run.start;
   begun = let time = opening.time tells in omega (arith, time, run.begun);
   file = run.file;
@@ -63,6 +74,7 @@ run_before s steps d m e before after answered opening tells sound even run = re
     each = Leaves-then d m e (OpensToPrefix (contents_of s) run.done 0) (Leaves-weaker d m (λ c. OpensTo c s) (OpensToPrefix (contents_of s) run.done 0) (λ c opens. no_line_yet s run.done c sound opens) (opening.even s was)) crashes.each;
     since = crashes.since;
   };
+  late = late_before d m e (λ c. OpensTo c s) (OpensToPrefix (contents_of s) run.done 0) opening tells late (λ c opens. no_line_yet s run.done c sound opens) (run.crashes even).each;
 }
 
 -- the opening has raised no count of faults
@@ -105,7 +117,7 @@ drove_before d m e seen after one opening drove = record {
   faults = faults_before d m e seen.answered after opening drove.faults;
   told = from_before d m (λ s. (s.meta ≡ drove.before.store.meta) × RunsFrom s (length drove.run.steps) m e drove.before after seen.answered) _ _ one opening
       (λ b f. (f.0, f.1, (f.3, f.4)))
-      (λ b s is opens sound even run. (s, opens, sound, run.0, run_before s (length drove.run.steps) d m e drove.before after seen.answered opening (has_value d.told b is) sound even run.1)) drove.told;
+      (λ b s is opens sound even run. (s, opens, sound, run.0, run_before s (length drove.run.steps) d m e drove.before after seen.answered opening (has_value d.told b is) (opening.late b is s opens) sound even run.1)) drove.told;
 }
 
 away_before : (k : ℕ) (d m e : DiskModel) (seen : Seen) (status : Status) → OpensToOne → IsOpening d m → IsTurnedAway k m e seen status → IsTurnedAway k d e seen status
@@ -115,7 +127,16 @@ away_before k d m e seen status one opening away = record {
   source = away.source;
   told = from_before d m (λ s. (s.meta.k ≡ k) × IsEven e s × (IsEven m s → Leaves m e (λ c. OpensTo c s)) × IsOnePage s.meta) _ _ one opening
       (λ b f. (f.0, f.1, (f.3, f.4, f.5, f.6)))
-      (λ b s is opens sound even here. (s, opens, sound, here.0, here.1, λ was. Leaves-then d m e (λ c. OpensTo c s) (opening.even s was) (here.2 even), here.3)) away.told;
+      (λ b s is opens sound even here. (
+        s,
+        opens,
+        sound,
+        here.0,
+        here.1,
+        λ was. Leaves-then d m e (λ c. OpensTo c s) (opening.even s was) (here.2 even),
+        here.3,
+        late_before d m e (λ c. OpensTo c s) (λ c. OpensTo c s) opening (has_value d.told b is) (opening.late b is s opens) (λ c here. here) (here.2 even),
+      )) away.told;
 }
 
 failed_before : (d m e : DiskModel) → IsOpening d m → HasFailed m e → HasFailed d e

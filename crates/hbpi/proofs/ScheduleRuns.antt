@@ -2,6 +2,7 @@
 use Rattle.std.proofs.Common.{◌≡◌, ◌≢◌, inl, inr, ℕ, zero, suc, ◌≤◌, List, [], ◌++◌, length, take, Option, Some, None, IfSome, IsSome, false, refl, sym, ap, subst, ◌∙◌, arith, MatchOption}
 use Rattle.hb_disk.specs.Model.{DiskModel, IsDisk}
 use Rattle.hb_layout.specs.declared.meta.Meta.{Meta}
+use Rattle.hb_disk.specs.Calls.{Leaves}
 use Rattle.hb_disk.specs.RunLaws.{Leaves-start}
 use Rattle.hb_disk.specs.ValueLaws.{at_value, if_value, has_value}
 use Rattle.hb_outside.specs.Streams.{Rose, Appends, AppendsFront}
@@ -17,9 +18,9 @@ use Rattle.hb_store.specs.declared.stops.StopWhy.TheVariants as stops
 use Rattle.hb_store.specs.declared.stops.Why.{Why}
 use Rattle.hb_text.specs.OutputLaws.{Appends-both, Appends-front, Rose-later}
 use Rattle.hbpi.specs.Core.{CoreState, settled_of}
-use Rattle.hbpi.specs.Keeping.{EngineKeeps, set_of}
+use Rattle.hbpi.specs.Keeping.{EngineKeeps, OpensToPrefix, set_of}
 use Rattle.hbpi.specs.StepTable.{StepsOn}
-use Rattle.hbpi.specs.Moments.{Moment, Reaches}
+use Rattle.hbpi.specs.Moments.{LeavesLate, Moment, Reaches}
 use Rattle.hbpi.specs.AnsweredLines.{AnswersFirst}
 use Rattle.hbpi.specs.Drives.{IsStart, RunFaults, RunsTo, DriveEnds, run_output}
 use Rattle.hbpi.specs.Driven.{IsTurnedAway, GetsOutput, OpenedEnds, status_after, status_by}
@@ -127,6 +128,10 @@ even_store d st durable later keeps running = record {
 pub one_page_of : (m : Meta) → m.high ≡ 1 → m.height ≡ 1 → IsOnePage m
 one_page_of m high height = (omega (arith, high), omega (arith, height))
 
+-- what each image since the beginning has
+pub since_start : (d e : DiskModel) (P : List ℕ → Type 0) → Leaves d e P → LeavesLate d e P
+since_start d e P run = record { since = d.clock; soon = omega arith; each = run.each }
+
 -- no command was done over a store that was just opened
 pub turned_away : (d : DiskModel) (st : StoreState) (seen : Seen) (status : Status) → IsDisk d → (IsSome d.told → (s : FileState) × IsSound s × StoreKeeps d st s []) → st.stopped ≡ false → (st.meta.high ≡ 1) × (st.meta.height ≡ 1) → IsRefused seen status → (¬ (status ≡ SourceFault) → seen.source_after ≡ seen.source_before) → IsTurnedAway st.meta.k d d seen status
 turned_away d st seen status disk kept running one_page refused source = record {
@@ -135,8 +140,16 @@ turned_away d st seen status disk kept running one_page refused source = record 
   source = source;
   told = if_value d.told _ (λ b is.
       let here = kept (has_value d.told b is) in
-      let even = even_store d st here.0 [] here.2 running in
-      (here.0, even.images b (disk.as_read b is), here.1, ap (λ (m : Meta). m.k) here.2.memory.meta_is, even, λ was. Leaves-start d _ disk even.images, subst IsOnePage (sym here.2.memory.meta_is) (one_page_of st.meta one_page.0 one_page.1)));
+      let even = even_store d st here.0 [] here.2 running in (
+        here.0,
+        even.images b (disk.as_read b is),
+        here.1,
+        ap (λ (m : Meta). m.k) here.2.memory.meta_is,
+        even,
+        λ was. Leaves-start d _ disk even.images,
+        subst IsOnePage (sym here.2.memory.meta_is) (one_page_of st.meta one_page.0 one_page.1),
+        since_start d d _ (Leaves-start d _ disk even.images),
+      ));
 }
 
 -- the same over a disk that is another's
@@ -168,6 +181,7 @@ runs_from s steps d e before after answered runs = record {
   even = λ going. even_run e s after runs.done runs.keeps going;
   held = runs.crashes.since;
   crashes = λ even. runs.crashes;
+  late = since_start d e (OpensToPrefix (contents_of s) runs.done 0) runs.crashes.each;
 }
 
 drove : (d e : DiskModel) (seen : Seen) (k : ℕ) (before after : CoreState) (steps : List ℕ) (end : End) (mid : Option (List ℕ)) (faults : ℕ) → IsRun d e seen k before after steps end mid faults → end ≢ ends.NoMemory → Drove d e seen after

@@ -1,5 +1,5 @@
 -- What a run of `drive` leaves, by its status.
-use Rattle.std.specs.Prelude.{◌≡◌, ◌⊎◌, ℕ, true, List, ◌++◌, Option, Some, None, Err, IfSome}
+use Rattle.std.specs.Prelude.{◌≡◌, ◌⊎◌, ℕ, ◌+◌, ◌≤◌, true, List, ◌++◌, Option, Some, None, Err, IfSome}
 use Rattle.hb_disk.specs.Model.{DiskModel}
 use Rattle.hb_disk.specs.Calls.{Leaves, OnlyReads}
 use Rattle.hb_outside.specs.Streams.{Rose, Appends, AppendsFront}
@@ -27,9 +27,11 @@ use Rattle.hbpi.specs.declared.statuses.Status.{Status}
 use Rattle.hbpi.specs.declared.statuses.Status.TheVariants.{Done, Usage, BadText, SourceFault, SinkFault, DiskFault, Damaged, NoMemory, BadLayout, Small, NotBuilt}
 use Rattle.hbpi.specs.Schedules.{IsScheduled, IsServedScript}
 use Rattle.hbpi.specs.DrivenRuns.{Drove, HasFailed, HasNotFailed}
+use Rattle.hbpi.specs.Moments.{LeavesLate}
 
 -- The file wasn't opened, or is a larger one, and the source wasn't read. Over an even disk a crash leaves the same file.
--- A larger one was opened first, and every image of now opens to it.
+-- A larger one was opened first, and every image of now opens to it. Whatever the disk was, each image since the first sync
+-- succeeded opens to the file: behind a larger one it has, and else a second tick of the clock tells so.
 pub record IsShutOut (d e : DiskModel) (seen : Seen) (fault : StartFault) : Type 0 where
   pub refused : IsRefused seen (start_status fault)
   pub unread : IsUnread seen
@@ -40,14 +42,15 @@ pub record IsShutOut (d e : DiskModel) (seen : Seen) (fault : StartFault) : Type
   pub unwritten : IsUnwrittenBy fault → OnlyReads d e
   pub left : fault ≡ starts.NotBuilt → IfSome d.told (λ b. (s : FileState) × OpensTo b s × IsEven e s)
   pub even : (s : FileState) → IsEven d s → Leaves d e (λ c. OpensTo c s)
+  pub late : IfSome d.told (λ b. (s : FileState) → OpensTo b s → (fault ≡ starts.NotBuilt) ⊎ (d.clock + 2 ≤ e.clock) → LeavesLate d e (λ c. OpensTo c s))
 
 -- The file was opened, over k attributes, and no command was done. Every image of now opens to the file; and over
--- an even disk every image since the run began does.
+-- an even disk every image since the run began does, and over any other each since the first sync succeeded.
 pub record IsTurnedAway (k : ℕ) (d e : DiskModel) (seen : Seen) (status : Status) : Type 0 where
   pub refused : IsRefused seen status
   pub no_fault : HasNotFailed d e
   pub source : ¬ (status ≡ SourceFault) → seen.source_after ≡ seen.source_before
-  pub told : IfSome d.told (λ b. (s : FileState) × OpensTo b s × IsSound s × (s.meta.k ≡ k) × IsEven e s × (IsEven d s → Leaves d e (λ c. OpensTo c s)) × IsOnePage s.meta)
+  pub told : IfSome d.told (λ b. (s : FileState) × OpensTo b s × IsSound s × (s.meta.k ≡ k) × IsEven e s × (IsEven d s → Leaves d e (λ c. OpensTo c s)) × IsOnePage s.meta × LeavesLate d e (λ c. OpensTo c s))
 
 -- the whole output and the fault line behind it, or a front of these where the sink failed
 abbrev pub GetsOutput : Seen → CoreState → Status → Type 0

@@ -10,8 +10,8 @@ use Rattle.hb_set.specs.declared.scripts.Answered.{Answered}
 use Rattle.hb_store.specs.States.{IsNew}
 use Rattle.hb_store.specs.Opening.{OpensTo, IsEven}
 use Rattle.hbpi.specs.Core.{CoreState, settled_of}
-use Rattle.hbpi.specs.Keeping.{AreAmong, entries_from, set_of}
-use Rattle.hbpi.specs.Moments.{Reaches, HoldsAnswers, CrashesTo}
+use Rattle.hbpi.specs.Keeping.{AreAmong, OpensToPrefix, entries_from, set_of}
+use Rattle.hbpi.specs.Moments.{Reaches, HoldsAnswers, CrashesTo, LeavesLate}
 use Rattle.hbpi.specs.AnsweredLines.{IsReplied, AnswersFirst}
 use Rattle.hbpi.specs.Drives.{IsStart, RunFaults}
 use Rattle.hbpi.specs.SeenRuns.{Seen}
@@ -40,7 +40,7 @@ pub record HasRun (d e : DiskModel) (seen : Seen) (k : ℕ) (before after : Core
 -- order from the file's contents; each answer is the machine's, or stands outside the order. The file after has the set
 -- after all of them; where the core isn't stopped every image of now has the set after those that are settled. A crash
 -- since an answer leaves a prefix that holds it; and where the disk was even when the run began, a crash at any moment
--- since then leaves a prefix.
+-- since then leaves a prefix. Over any other disk it does since the first sync succeeded.
 pub record RunsFrom (s : FileState) (steps : ℕ) (d e : DiskModel) (before after : CoreState) (answered : List Answered) : Type 0 where
   pub start : ℕ
   pub begun : d.clock ≤ start
@@ -56,6 +56,7 @@ pub record RunsFrom (s : FileState) (steps : ℕ) (d e : DiskModel) (before afte
   pub even : after.stop ≡ None → (t : FileState) × IsEven e t × IsSound t × (contents_of t ≡ set_of (contents_of s) (take (settled_of after) done))
   pub held : HoldsAnswers e (contents_of s) done answered
   pub crashes : IsEven d s → CrashesTo d e (contents_of s) done answered
+  pub late : LeavesLate d e (OpensToPrefix (contents_of s) done 0)
 
 -- a run of `drive` that got to its steps, and what the core was before and after them
 pub record Drove (d e : DiskModel) (seen : Seen) (after : CoreState) : Type 0 where

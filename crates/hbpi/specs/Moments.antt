@@ -40,6 +40,13 @@ abbrev pub Reaches : ℕ → Moment → List Answered → Moment → Type 0
 Reaches zero from answered to = (to ≡ from) × (answered ≡ [])
 Reaches (suc n) from answered to = (mid : Moment) × (before : List Answered) × (given : List Answered) × Reaches n from before mid × StepsAt mid given to × (answered ≡ before ++ given)
 
+-- Whatever a crash might have left when the run began: since a value of the clock that is at most one more than the first
+-- one, so since the first call that writes, every image has P.
+pub record LeavesLate (d e : DiskModel) (P : List ℕ → Type 0) : Type 0 where
+  pub since : ℕ
+  pub soon : since ≤ d.clock + 1
+  pub each : (c : List ℕ) → e.ImageSince since c → P c
+
 -- Since an answer crashes leave the set after a prefix of the lines that took effect which holds the answered line, where
 -- it is among these.
 abbrev pub HoldsAnswers : DiskModel → RecordSet → List Line → List Answered → Type 0

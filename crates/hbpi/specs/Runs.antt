@@ -1,5 +1,5 @@
 -- How a run of the program ends, by its words; and the promise of `drive`.
-use Rattle.std.specs.Prelude.{◌≡◌, ◌⊎◌, ℕ, true, List, [], map, take, All, Option, Some, None, Result, Ok, Err}
+use Rattle.std.specs.Prelude.{◌≡◌, ◌⊎◌, ℕ, ◌+◌, ◌≤◌, true, List, [], map, take, All, Option, Some, None, Result, Ok, Err}
 use Rattle.hb_disk.specs.Model.{DiskModel}
 use Rattle.hb_ops.specs.Files.{FileState, contents_of}
 use Rattle.hb_ops.specs.Sound.{IsSound}
@@ -10,8 +10,8 @@ use Rattle.hb_store.specs.Opening.{IsEven, OpensTo}
 use Rattle.hb_text.specs.declared.rules.BadLine.{BadLine}
 use Rattle.hb_text.specs.Grammar.{Reading, text_read}
 use Rattle.hb_restart.specs.Beyond.{KeepsBeyond, KeepsBeyondFile}
-use Rattle.hbpi.specs.Keeping.{AreAmong, entries_from, set_of}
-use Rattle.hbpi.specs.Moments.{HoldsAnswers, CrashesTo}
+use Rattle.hbpi.specs.Keeping.{AreAmong, OpensToPrefix, entries_from, set_of}
+use Rattle.hbpi.specs.Moments.{HoldsAnswers, CrashesTo, LeavesLate}
 use Rattle.hbpi.specs.AnsweredLines.{IsReplied}
 use Rattle.hbpi.specs.Driven.{DriveCommandEnds}
 use Rattle.hbpi.specs.DrivenRuns.{HasFailed}
@@ -57,7 +57,8 @@ LeavesBeyond _ d e = Unit {0}
 -- their numbers are the order. They are a legal order from the records of the file, and every answer is the machine's at
 -- its place, or stands outside the order. Every image that a crash may leave since an answer opens to the records after
 -- a prefix of them that holds it. Where every image opened to this file when the run began, each image since then opens to
--- the records after a prefix. And when the run is done every image of the disk opens to one sound file, which has the
+-- the records after a prefix. Over any other disk each image since the first sync succeeded does: a second tick of the
+-- clock comes only after that. And when the run is done every image of the disk opens to one sound file, which has the
 -- records after a prefix.
 pub record KeepsPromise (s : FileState) (d e : DiskModel) (seen : Seen) (status : Status) : Type 0 where
   pub done : List Line
@@ -67,6 +68,7 @@ pub record KeepsPromise (s : FileState) (d e : DiskModel) (seen : Seen) (status 
   pub replied : All (IsReplied (contents_of s) done) seen.answered
   pub held : HoldsAnswers e (contents_of s) done seen.answered
   pub crashes : IsEven d s → CrashesTo d e (contents_of s) done seen.answered
+  pub late : d.clock + 2 ≤ e.clock → LeavesLate d e (OpensToPrefix (contents_of s) done 0)
   pub even : status ≡ Done → (t : FileState) × (count : ℕ) × IsEven e t × IsSound t × (contents_of t ≡ set_of (contents_of s) (take count done))
 
 -- Nothing failed: a disk that tells bytes, which open to this sound file of one page and one level, and a source that told

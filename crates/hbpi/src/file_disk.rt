@@ -84,18 +84,20 @@ fn write_at(file: &mut File, at: u64, from: &[u8]) -> Result<(), Failed> {
     write_here(file, from)
 }
 
-/// Bytes that are written at once where zeros are.
-const ZEROS: usize = 4096;
+/// Bytes that are written at once where zeros are. An opening zeroes a whole log area, and most of the time that takes is
+/// that of the calls of the system.
+const ZEROS: usize = 65_536;
 
 /// Writes so many zero bytes from a place of the file on.
 fn zero_at(file: &mut File, at: u64, len: u64) -> Result<(), Failed> {
     if file.seek(SeekFrom::Start(at)).is_err() {
         return Err(Failed);
     }
+    let zeros = [0; ZEROS];
     let mut left = len;
     while left > 0 {
         let count = left.min(ZEROS as u64);
-        write_here(file, &[0; ZEROS][..count as usize])?;
+        write_here(file, &zeros[..count as usize])?;
         left -= count;
     }
     Ok(())

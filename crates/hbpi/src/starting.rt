@@ -60,11 +60,17 @@ pub(crate) fn start<D: Device>(alloc: Global, disk: D) -> Result<Store<D>, (Star
     // over an even disk every image since the call opens to the same file, also after a fault
     ensures even { IfOk result (λ st. (s : FileState) → IsEven (D.model disk) s → Leaves (D.model disk) (D.model (disk_of st)) (λ c. OpensTo c s)) }
     ensures even_after_fault { IfErr result (λ e. (s : FileState) → IsEven (D.model disk) s → Leaves (D.model disk) (D.model e.1) (λ c. OpensTo c s)) }
+    // over any other disk that tells, every image since the first sync succeeded does: a second tick of the clock, or a
+    // larger file that was opened, comes only after that
+    ensures late { IfOk result (λ st. IfSome (D.model disk).told (λ b. (s : FileState) → OpensTo b s → (c : List ℕ) →
+        (D.model (disk_of st)).ImageSince ((D.model disk).clock + 1) c → OpensTo c s)) }
+    ensures late_after_fault { IfErr result (λ e. IfSome (D.model disk).told (λ b. (s : FileState) → OpensTo b s → (e.0 ≡ starts.NotBuilt) ⊎ ((D.model disk).clock + 2 ≤ (D.model e.1).clock) →
+        (c : List ℕ) → (D.model e.1).ImageSince ((D.model disk).clock + 1) c → OpensTo c s)) }
     // a larger file is opened first, and every image of now opens to it
     ensures left { IfErr result (λ e. e.0 ≡ starts.NotBuilt → IfSome (D.model disk).told (λ b. (s : FileState) × OpensTo b s × IsEven (D.model e.1) s)) }
     ensures silent { IfOk result (λ st. IsSome (D.model (disk_of st)).told → IsSome (D.model disk).told) }
     ensures shut { IfErr result (λ e. IsShutBy (D.model disk).size e.0) }
-    ensures time { IfOk result (λ st. IsSome (D.model disk).told → (D.model disk).clock ≤ (D.model (disk_of st)).clock) }
+    ensures time { IfOk result (λ st. IsSome (D.model disk).told → (D.model disk).clock + 1 ≤ (D.model (disk_of st)).clock) }
     ensures said { IfOk result (λ st. IfSome (D.model disk).told (λ b. (turn : ℕ) (said : Said) → IsNewest b turn said → IsSameLayout said (seen_as st).meta)) }
     ensures beyond { IfOk result (λ st. KeepsBeyondFile (D.model disk) (D.model (disk_of st))) }
     ensures beyond_after_fault { IfErr result (λ e. KeepsBeyondFile (D.model disk) (D.model e.1)) }

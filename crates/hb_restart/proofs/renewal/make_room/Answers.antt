@@ -9,7 +9,7 @@ use Rattle.hb_restart.specs.Renewing.{StillOpens, IsPlaced, IsReadyFor}
 use Rattle.hb_restart.proofs.Renewed.{zeroed_moments, zeroed_ready, cleared_moments, cleared_ready}
 use Rattle.hb_restart.proofs.Made.{on_ok_three}
 use Rattle.hb_restart.proofs.RunSteps.{on_ok_given}
-use Rattle.hb_layout.specs.Offsets.{file_size}
+use Rattle.hb_layout.specs.Offsets.{page_offset}
 use Rattle.hb_restart.proofs.Beyond.{beyond_body, beyond_log, beyond_sync, beyond_then}
 use Rattle.hb_restart.proofs.renewal.make_room.Goals as goal
 
@@ -58,19 +58,19 @@ returns-clause-ready g c =
     hidden (synced zeroed.placed.here.places) durable)
     c.clear_hidden.ensures.hidden (on_ok_given c.clear_hidden.result (IsSynced mid 0 8192) (IsSynced new 0 8192) c.clear_hidden.ensures.synced) c.clear_hidden.ensures.durable
 
-pub returns-in_err-sync-clause-beyond : goal.returns-in_err-sync-clause-beyond
-returns-in_err-sync-clause-beyond g c =
-    beyond_sync c.sync.result (file_size c.args.meta.now) (g.D.Device.model c.args.disk.now) (g.D.Device.model c.sync.new.self) (g.met.D.Device.is_disk c.args.disk.now) c.sync.ensures.syncs c.sync.ensures.ticks
+pub returns-in_err-sync-clause-front : goal.returns-in_err-sync-clause-front
+returns-in_err-sync-clause-front g c =
+    beyond_sync c.sync.result (page_offset c.args.meta.now 1) (g.D.Device.model c.args.disk.now) (g.D.Device.model c.sync.new.self) (g.met.D.Device.is_disk c.args.disk.now) c.sync.ensures.syncs c.sync.ensures.ticks
 
-pub returns-in_err-zero_area-clause-beyond : goal.returns-in_err-zero_area-clause-beyond
-returns-in_err-zero_area-clause-beyond g c =
-    beyond_then (file_size c.args.meta.now) (g.D.Device.model c.args.disk.now) (g.D.Device.model c.sync.new.self) (g.D.Device.model c.zero_area.new.disk)
-    (beyond_sync c.sync.result (file_size c.args.meta.now) (g.D.Device.model c.args.disk.now) (g.D.Device.model c.sync.new.self) (g.met.D.Device.is_disk c.args.disk.now) c.sync.ensures.syncs c.sync.ensures.ticks)
+pub returns-in_err-zero_area-clause-front : goal.returns-in_err-zero_area-clause-front
+returns-in_err-zero_area-clause-front g c =
+    beyond_then (page_offset c.args.meta.now 1) (g.D.Device.model c.args.disk.now) (g.D.Device.model c.sync.new.self) (g.D.Device.model c.zero_area.new.disk)
+    (beyond_sync c.sync.result (page_offset c.args.meta.now 1) (g.D.Device.model c.args.disk.now) (g.D.Device.model c.sync.new.self) (g.met.D.Device.is_disk c.args.disk.now) c.sync.ensures.syncs c.sync.ensures.ticks)
     (beyond_log c.turn_after-next.result c.log_start.result c.args.meta.now (g.D.Device.model c.sync.new.self) (g.D.Device.model c.zero_area.new.disk) c.log_start.ensures c.zero_area.ensures.place)
 
-pub returns-clause-beyond : goal.returns-clause-beyond
-returns-clause-beyond g c =
-    let n = file_size c.args.meta.now in
+pub returns-clause-front : goal.returns-clause-front
+returns-clause-front g c =
+    let n = page_offset c.args.meta.now 1 in
     let d = g.D.Device.model c.args.disk.now in
     let one = g.D.Device.model c.sync.new.self in
     let two = g.D.Device.model c.zero_area.new.disk in

@@ -1,7 +1,7 @@
-use Rattle.std.proofs.Common.{ℕ, ◌+◌, ◌≤◌, List, IfSome}
+use Rattle.std.proofs.Common.{◌≡◌, ℕ, ◌+◌, List, Some, IfSome, ◌∙◌}
 use Rattle.std.specs.Ordering.{nat_cmp}
 use Rattle.std.specs.BTreeMap.{get}
-use Rattle.hb_disk.specs.ValueLaws.{if_value, on_ok_weaker}
+use Rattle.hb_disk.specs.ValueLaws.{has_value, if_value, on_ok_weaker}
 use Rattle.hb_super.specs.Superblocks.{next_turn}
 use Rattle.hb_layout.specs.declared.meta.Meta.{Meta}
 use Rattle.hb_ops.specs.Files.{FileState}
@@ -9,22 +9,13 @@ use Rattle.hb_store.specs.Opening.{OpensTo}
 use Rattle.hb_store.specs.Keeps.{IsFresh}
 use Rattle.hb_restart.specs.Found.{IsFoundIn}
 use Rattle.hb_restart.specs.Renewing.{IsHere}
-use Rattle.hb_restart.proofs.SyncedRuns.{synced_even, synced_late, synced_time, synced_renewed}
+use Rattle.hb_restart.proofs.SyncedRuns.{synced_counted, synced_even, synced_late, synced_renewed}
 use Rattle.hb_layout.specs.Offsets.{file_size}
 use Rattle.hb_restart.proofs.Beyond.{beyond_sync, beyond_then}
+use Rattle.hb_disk.specs.RunLaws.{one_tick}
+use Rattle.hb_restart.specs.WritingBack.{WritesAll, WritesEachOnce}
+use Rattle.hb_restart.proofs.EachOnce.{none_written}
 use Rattle.hb_restart.proofs.renewal.renew.Goals as goal
-
-pub returns-in_err-sync-clause-time : goal.returns-in_err-sync-clause-time
-returns-in_err-sync-clause-time g c =
-    let d = g.D.Device.model c.args.disk.now in
-    if_value d.told (λ b. IsFoundIn b c.args.found.now.turn c.args.found.now.meta (get nat_cmp c.args.found.now.touched) c.args.found.now.count
-    → d.clock ≤ (g.D.Device.model c.sync.new.self).clock) (λ b told found. c.sync.ensures.ticks.later)
-
-pub returns-clause-time : goal.returns-clause-time
-returns-clause-time g c =
-    synced_time c.sync.result c.in_ok-sync.field-0 c.in_ok-sync.was (g.D.Device.model c.args.disk.now) (g.D.Device.model c.sync.new.self) (g.D.Device.model c.rewrite.new.disk) (g.met.D.Device.is_disk c.args.disk.now)
-    c.sync.ensures.syncs c.sync.ensures.ticks c.args.found.now.turn c.args.found.now.meta (get nat_cmp c.args.found.now.touched) c.args.found.now.count
-    c.an_image_opens_to_one_file.ensures.one c.rewrite.ensures.moments
 
 pub returns-clause-even : goal.returns-clause-even
 returns-clause-even g c =
@@ -62,3 +53,35 @@ returns-clause-beyond g c =
     beyond_then (file_size c.args.found.now.meta) (g.D.Device.model c.args.disk.now) (g.D.Device.model c.sync.new.self) (g.D.Device.model c.rewrite.new.disk)
     (beyond_sync c.sync.result (file_size c.args.found.now.meta) (g.D.Device.model c.args.disk.now) (g.D.Device.model c.sync.new.self) (g.met.D.Device.is_disk c.args.disk.now) c.sync.ensures.syncs c.sync.ensures.ticks)
     c.rewrite.ensures.beyond
+
+pub returns-in_err-sync-clause-once : goal.returns-in_err-sync-clause-once
+returns-in_err-sync-clause-once g c =
+    let d = g.D.Device.model c.args.disk.now in
+    let found = c.args.found.now in
+    let touched = get nat_cmp found.touched in
+    if_value d.told (λ b. IsFoundIn b found.turn found.meta touched found.count → WritesEachOnce (d.clock + 1) b found.meta touched (g.D.Device.model c.sync.new.self)) (λ b told here.
+    none_written (d.clock + 1) b found.meta touched (g.D.Device.model c.sync.new.self) (c.sync.ensures.syncs.same ∙ told)
+    (one_tick c.sync.result d (g.D.Device.model c.sync.new.self) (g.met.D.Device.is_disk c.args.disk.now) c.sync.ensures.ticks (has_value d.told b told)))
+
+pub returns-clause-once : goal.returns-clause-once
+returns-clause-once g c =
+    let new = g.D.Device.model c.rewrite.new.disk in
+    let touched = get nat_cmp c.args.found.now.touched in
+    synced_counted c.sync.result c.in_ok-sync.field-0 c.in_ok-sync.was (g.D.Device.model c.args.disk.now) (g.D.Device.model c.sync.new.self) new (g.met.D.Device.is_disk c.args.disk.now)
+    c.sync.ensures.syncs c.sync.ensures.ticks c.args.found.now.turn c.args.found.now.meta touched c.args.found.now.count
+    c.an_image_opens_to_one_file.ensures.one c.rewrite.ensures.moments (λ n b. WritesEachOnce n b c.args.found.now.meta touched new) c.rewrite.ensures.once
+
+pub returns-clause-all : goal.returns-clause-all
+returns-clause-all g c =
+    let d = g.D.Device.model c.args.disk.now in
+    let mid = g.D.Device.model c.sync.new.self in
+    let new = g.D.Device.model c.rewrite.new.disk in
+    let turn = c.args.found.now.turn in
+    let meta = c.args.found.now.meta in
+    let touched = get nat_cmp c.args.found.now.touched in
+    let count = c.args.found.now.count in
+    on_ok_weaker c.rewrite.result ((said : Meta) (s : FileState) (b : List ℕ) → IsHere mid turn said meta touched s → mid.told ≡ Some b → WritesAll mid.clock b meta touched new)
+    (IfSome d.told (λ b. IsFoundIn b turn meta touched count → WritesAll (d.clock + 1) b meta touched new))
+    (synced_counted c.sync.result c.in_ok-sync.field-0 c.in_ok-sync.was d mid new (g.met.D.Device.is_disk c.args.disk.now)
+    c.sync.ensures.syncs c.sync.ensures.ticks turn meta touched count c.an_image_opens_to_one_file.ensures.one c.rewrite.ensures.moments (λ n b. WritesAll n b meta touched new))
+    c.rewrite.ensures.all

@@ -1,8 +1,8 @@
-use Rattle.std.proofs.Common.{ℕ, Option}
+use Rattle.std.proofs.Common.{◌≡◌, ℕ, List, Option, Some}
 use Rattle.std.specs.Ordering.{nat_cmp}
 use Rattle.std.specs.BTreeMap.{get}
 use Rattle.hb_disk.specs.RunLaws.{Leaves-weaker, Leaves-then}
-use Rattle.hb_disk.specs.ValueLaws.{on_ok_weaker}
+use Rattle.hb_disk.specs.ValueLaws.{on_ok, on_ok_weaker}
 use Rattle.hb_super.specs.Superblocks.{next_turn}
 use Rattle.hb_frag.specs.declared.pages.Page.{Page}
 use Rattle.hb_layout.specs.declared.meta.Meta.{Meta}
@@ -12,7 +12,9 @@ use Rattle.hb_store.specs.Keeps.{IsFresh}
 use Rattle.hb_restart.specs.Renewing.{StillOpens, IsHere, IsPlaced}
 use Rattle.hb_restart.proofs.Renewed.{still_to}
 use Rattle.hb_layout.specs.Offsets.{file_size}
-use Rattle.hb_restart.proofs.Beyond.{beyond_then}
+use Rattle.hb_restart.proofs.Beyond.{beyond_front, beyond_then}
+use Rattle.hb_restart.specs.WritingBack.{WritesAll}
+use Rattle.hb_restart.proofs.EachOnce.{behind_all, all_written}
 use Rattle.hb_restart.proofs.renewal.rewrite.Goals as goal
 
 pub returns-in_err-settle-clause-moments : goal.returns-in_err-settle-clause-moments
@@ -48,4 +50,27 @@ returns-clause-fresh g c =
 pub returns-clause-beyond : goal.returns-clause-beyond
 returns-clause-beyond g c =
     beyond_then (file_size c.args.found.now.meta) (g.D.Device.model c.args.disk.now) (g.D.Device.model c.settle.new.disk) (g.D.Device.model c.switch.new.disk)
-    c.settle.ensures.beyond c.switch.ensures.beyond
+    c.settle.ensures.beyond (beyond_front c.args.found.now.meta (g.D.Device.model c.settle.new.disk) (g.D.Device.model c.switch.new.disk) c.switch.ensures.front)
+
+pub returns-in_err-settle-clause-once : goal.returns-in_err-settle-clause-once
+returns-in_err-settle-clause-once g c = λ said s b here told. c.settle.ensures.once b told
+
+pub returns-clause-once : goal.returns-clause-once
+returns-clause-once g c = λ said s b here told.
+    let mid = g.D.Device.model c.settle.new.disk in
+    let touched = get nat_cmp c.args.found.now.touched in
+    behind_all (g.D.Device.model c.args.disk.now).clock b c.args.found.now.meta touched mid (g.D.Device.model c.switch.new.disk) (c.in_ok-settle.ensures.written b told)
+    (c.switch.ensures.moments said touched s (c.in_ok-settle.ensures.placed said s here)).later c.switch.ensures.front
+
+pub returns-clause-all : goal.returns-clause-all
+returns-clause-all g c =
+    let d = g.D.Device.model c.args.disk.now in
+    let mid = g.D.Device.model c.settle.new.disk in
+    let new = g.D.Device.model c.switch.new.disk in
+    let meta = c.args.found.now.meta in
+    let touched = get nat_cmp c.args.found.now.touched in
+    on_ok c.switch.result ((said : Meta) (s : FileState) (b : List ℕ) → IsHere d c.args.found.now.turn said meta touched s → d.told ≡ Some b → WritesAll d.clock b meta touched new)
+    (λ said s b here told.
+    let written = c.in_ok-settle.ensures.written b told in
+    all_written d.clock b meta touched mid new written (c.switch.ensures.moments said touched s (c.in_ok-settle.ensures.placed said s here)).later c.switch.ensures.front
+    (c.switch.ensures.run.clock written.tells))

@@ -7,6 +7,8 @@ use Rattle.hb_super.specs.Superblocks.{next_turn}
 use Rattle.hb_restart.specs.Renewing.{IsPlacedTo, StillOpens}
 use Rattle.hb_restart.proofs.Beyond.{beyond_none, beyond_then}
 use Rattle.hb_restart.proofs.Renewed.{placed_none}
+use Rattle.hb_restart.specs.WritingBack.{IsWrittenTo}
+use Rattle.hb_restart.proofs.EachOnce.{between, written_none}
 use Rattle.hb_restart.proofs.renewal.settle.Goals as goal
 
 pub returns-in_err-settle_one-clause-moments : goal.returns-in_err-settle_one-clause-moments
@@ -34,6 +36,7 @@ loop-place-init g c =
       beyond = beyond_none (file_size found.meta) d (g.met.D.Device.is_disk c.args.disk.now);
       moments = λ said s here. Leaves-start d (StillOpens found.turn said found.meta (get nat_cmp found.touched) s) (g.met.D.Device.is_disk c.args.disk.now) here.images;
       placed = λ said s here. placed_none found.turn (next_turn found.turn) said found.meta c.requires.whole.legal.turn_fits refl (get nat_cmp found.touched) s d here;
+      written = λ b told. written_none d.clock b found.meta (get nat_cmp found.touched) d told refl;
     }
 
 pub loop-place-preserved : goal.loop-place-preserved
@@ -56,6 +59,7 @@ loop-place-preserved g c =
       moments = λ said s here. Leaves-then d mid new (StillOpens found.turn said found.meta (get nat_cmp found.touched) s)
           (kept.moments said s here) (c.settle_one.ensures.moments said s (kept.placed said s here).here);
       placed = λ said s here. c.in_ok-settle_one.ensures.placed said s c.loop-place.place refl (kept.placed said s here);
+      written = λ b told. c.in_ok-settle_one.ensures.written d.clock c.loop-place.place b refl (kept.written b told);
     }
 
 pub returns-clause-placed : goal.returns-clause-placed
@@ -63,3 +67,17 @@ returns-clause-placed g c = λ said s here.
     let found = c.args.found.now in
     let last : c.loop-place.place ≡ found.meta.high = omega (arith, c.loop-place-test.false, c.loop-place.auto.place-end) in
     subst (λ (n : ℕ). IsPlacedTo n (g.D.Device.model c.loop-place.disk) found.turn said found.meta (get nat_cmp found.touched) s) last (c.loop-place.invariant.placed said s here)
+
+pub returns-in_err-settle_one-clause-once : goal.returns-in_err-settle_one-clause-once
+returns-in_err-settle_one-clause-once g c = λ b told.
+    c.settle_one.ensures.once (g.D.Device.model c.args.disk.now).clock c.loop-place.place b refl (c.loop-place.invariant.written b told)
+
+pub returns-clause-once : goal.returns-clause-once
+returns-clause-once g c = λ b told.
+    between (g.D.Device.model c.args.disk.now).clock b c.args.found.now.meta (get nat_cmp c.args.found.now.touched) c.loop-place.place (g.D.Device.model c.loop-place.disk) (c.loop-place.invariant.written b told)
+
+pub returns-clause-written : goal.returns-clause-written
+returns-clause-written g c = λ b told.
+    let found = c.args.found.now in
+    let last : c.loop-place.place ≡ found.meta.high = omega (arith, c.loop-place-test.false, c.loop-place.auto.place-end) in
+    subst (λ (n : ℕ). IsWrittenTo n (g.D.Device.model c.args.disk.now).clock b found.meta (get nat_cmp found.touched) (g.D.Device.model c.loop-place.disk)) last (c.loop-place.invariant.written b told)

@@ -1,4 +1,4 @@
-use Rattle.std.proofs.Common.{◌≡◌, ◌+◌, ◌≤◌, None, IsSome}
+use Rattle.std.proofs.Common.{◌≡◌, ◌+◌, ◌≤◌, ℕ, List, Some, None, IsSome}
 use Rattle.std.specs.Ordering.{nat_cmp}
 use Rattle.std.specs.BTreeMap.{get}
 use Rattle.hb_disk.specs.Calls.{Leaves}
@@ -7,6 +7,7 @@ use Rattle.hb_layout.specs.declared.meta.Meta.{Meta}
 use Rattle.hb_ops.specs.Files.{FileState}
 use Rattle.hb_restart.specs.Beyond.{KeepsBeyond}
 use Rattle.hb_restart.specs.Renewing.{StillOpens, IsHere, IsPlacedTo}
+use Rattle.hb_restart.specs.WritingBack.{IsWrittenTo}
 use Rattle.hb_restart.proofs.renewal.settle.Given as goal
 
 -- the pages up to this one stand in their places, and no call failed
@@ -23,4 +24,6 @@ invariant-loop-place g l = record {
       Leaves (g.D.Device.model l.fn.disk) (g.D.Device.model l.disk) (StillOpens l.found.turn said l.found.meta (get nat_cmp l.found.touched) s);
   placed : (said : Meta) (s : FileState) → IsHere (g.D.Device.model l.fn.disk) l.found.turn said l.found.meta (get nat_cmp l.found.touched) s →
       IsPlacedTo l.place (g.D.Device.model l.disk) l.found.turn said l.found.meta (get nat_cmp l.found.touched) s;
+  written : (b : List ℕ) → (g.D.Device.model l.fn.disk).told ≡ Some b →
+      IsWrittenTo l.place (g.D.Device.model l.fn.disk).clock b l.found.meta (get nat_cmp l.found.touched) (g.D.Device.model l.disk);
 }

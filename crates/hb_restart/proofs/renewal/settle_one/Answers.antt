@@ -11,6 +11,9 @@ use Rattle.hb_store.specs.Opening.{place_bytes}
 use Rattle.hb_restart.specs.Renewing.{IsPlacedTo}
 use Rattle.hb_restart.proofs.Renewed.{placed_moments, placed_there, placed_untouched, not_none}
 use Rattle.hb_restart.proofs.Beyond.{beyond_none, beyond_page}
+use Rattle.hb_restart.proofs.RunSteps.{on_ok_given_so}
+use Rattle.hb_restart.specs.WritingBack.{IsWrittenTo}
+use Rattle.hb_restart.proofs.EachOnce.{between, written_untouched, while_written, written_there}
 use Rattle.hb_restart.proofs.renewal.settle_one.Goals as goal
 
 pub write_page-requires-clause-spelling : goal.write_page-requires-clause-spelling
@@ -51,3 +54,29 @@ returns-in-Some-clause-beyond g c =
 
 pub returns-in-None-clause-beyond : goal.returns-in-None-clause-beyond
 returns-in-None-clause-beyond g c = beyond_none (file_size c.args.found.now.meta) (g.D.Device.model c.args.disk.now) (g.met.D.Device.is_disk c.args.disk.now)
+
+pub returns-in-Some-clause-once : goal.returns-in-Some-clause-once
+returns-in-Some-clause-once g c = λ from before b is stands.
+    while_written from b c.args.found.now.meta (get nat_cmp c.args.found.now.touched) c.write_page.result (g.D.Device.model c.args.disk.now) (g.D.Device.model c.write_page.new.disk) (g.met.D.Device.is_disk c.args.disk.now)
+    before c.args.id is c.in-Some.page.now (sym c.in-Some.ensures.value) stands c.write_page.ensures.ticks c.write_page.ensures.place
+
+pub returns-in-None-clause-once : goal.returns-in-None-clause-once
+returns-in-None-clause-once g c = λ from before b is stands.
+    between from b c.args.found.now.meta (get nat_cmp c.args.found.now.touched) before (g.D.Device.model c.args.disk.now) stands
+
+pub returns-in-Some-clause-written : goal.returns-in-Some-clause-written
+returns-in-Some-clause-written g c =
+    let d = g.D.Device.model c.args.disk.now in
+    let new = g.D.Device.model c.write_page.new.disk in
+    let meta = c.args.found.now.meta in
+    let touched = get nat_cmp c.args.found.now.touched in
+    on_ok_given_so c.write_page.result ((b : List ℕ) → new.told ≡ Some b → SpellsPage (place_bytes meta c.args.id b) c.in-Some.page.now)
+    ((from before : ℕ) (b : List ℕ) → before + 1 ≡ c.args.id → IsWrittenTo before from b meta touched d → IsWrittenTo c.args.id from b meta touched new)
+    (λ v ok there from before b is stands.
+    written_there from b meta touched c.write_page.result d new (g.met.D.Device.is_disk c.args.disk.now)
+    before c.args.id is c.in-Some.page.now (sym c.in-Some.ensures.value) stands c.write_page.ensures.ticks c.write_page.ensures.place v ok there)
+    c.write_page.ensures.there
+
+pub returns-in-None-clause-written : goal.returns-in-None-clause-written
+returns-in-None-clause-written g c = λ from before b is stands.
+    written_untouched from b c.args.found.now.meta (get nat_cmp c.args.found.now.touched) before c.args.id (g.D.Device.model c.args.disk.now) is (sym c.in-None.ensures.value) stands

@@ -9,7 +9,7 @@ use Rattle.hb_store.specs.Keeps.{IsFresh}
 use Rattle.hb_restart.specs.Renewing.{StillOpens, IsPlaced}
 use Rattle.hb_restart.proofs.Renewed.{still_to, super_moments, super_fresh}
 use Rattle.hb_restart.proofs.RunSteps.{on_ok_each, on_ok_two, size_after}
-use Rattle.hb_layout.specs.Offsets.{file_size}
+use Rattle.hb_layout.specs.Offsets.{page_offset}
 use Rattle.hb_restart.proofs.Beyond.{beyond_super, beyond_then}
 use Rattle.hb_restart.proofs.renewal.switch.Goals as goal
 
@@ -53,8 +53,8 @@ returns-clause-fresh g c =
     (g.met.D.Device.is_disk c.write_super.new.disk) c.write_super.ensures.place durable (newest said))
     c.write_super.ensures.durable (on_ok_each c.write_super.result (λ (said : Meta). IfSome mid.told (λ b. IsNewest b turn said → IfSome new.told (λ x. IsNewest x next meta))) (λ said. c.write_super.ensures.newest turn said c.turn_after.ensures))
 
-pub returns-clause-beyond : goal.returns-clause-beyond
-returns-clause-beyond g c =
-    beyond_then (file_size c.args.meta.now) (g.D.Device.model c.args.disk.now) (g.D.Device.model c.make_room.new.disk) (g.D.Device.model c.write_super.new.disk)
-    c.make_room.ensures.beyond
+pub returns-clause-front : goal.returns-clause-front
+returns-clause-front g c =
+    beyond_then (page_offset c.args.meta.now 1) (g.D.Device.model c.args.disk.now) (g.D.Device.model c.make_room.new.disk) (g.D.Device.model c.write_super.new.disk)
+    c.make_room.ensures.front
     (beyond_super c.turn_after.result c.args.meta.now (g.D.Device.model c.make_room.new.disk) (g.D.Device.model c.write_super.new.disk) c.write_super.ensures.place)

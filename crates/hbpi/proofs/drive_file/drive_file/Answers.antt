@@ -1,11 +1,14 @@
-use Rattle.std.proofs.Common.{◌≡◌, [], inl, inr, refl, sym, subst, ◌∙◌}
+use Rattle.std.proofs.Common.{◌≡◌, ◌⊎◌, ◌+◌, ◌≤◌, ℕ, List, [], inl, inr, refl, sym, subst, ◌∙◌, arith}
 use Rattle.hb_disk.specs.Model.{DiskModel}
 use Rattle.hb_disk.specs.ValueLaws.{at_value, if_value, some_value}
+use Rattle.hb_ops.specs.Files.{FileState}
+use Rattle.hb_store.specs.Opening.{OpensTo}
 use Rattle.hb_store.specs.Seen.{seen_as, disk_of}
 use Rattle.hbpi.specs.Codes.{start_status}
 use Rattle.hbpi.specs.Driven.{DriveCommandEnds, IsShutOut}
 use Rattle.hbpi.specs.SeenRuns.{Seen}
 use Rattle.hbpi.specs.Outcome.{GetsLine, fault_line}
+use Rattle.hbpi.specs.declared.starting.StartFault.TheVariants as starts
 use Rattle.hbpi.specs.declared.statuses.Status.{Status}
 use Rattle.hbpi.proofs.Reopened.{IsOpening, ends_before}
 use Rattle.hbpi.proofs.ScheduleRuns.{even_store}
@@ -25,6 +28,7 @@ returns-in-Ok-clause-ends g c =
           (found.0, found.1, found.2, even_store m (seen_as c.in-Ok.store) found.0 [] found.3 facts.new.running));
       time = facts.time;
       even = facts.even;
+      late = λ b is. at_value d.told _ b is facts.late;
       reads = facts.no_fault.0;
       writes = facts.no_fault.1;
     } in
@@ -63,6 +67,11 @@ returns-in-Err-clause-ends g c =
       unwritten = facts.unwritten;
       left = facts.left;
       even = facts.even_after_fault;
+      late = if_value d.told _ (λ b is s opens how. record {
+        since = d.clock + 1;
+        soon = omega arith;
+        each = at_value d.told (λ b. (s : FileState) → OpensTo b s → (fault ≡ starts.NotBuilt) ⊎ (d.clock + 2 ≤ (M c.in-Err.disk).clock) → (x : List ℕ) → (M c.in-Err.disk).ImageSince (d.clock + 1) x → OpensTo x s) b is facts.late_after_fault s opens how;
+      });
     } in
     subst (λ (x : g.row.D.Denot). DriveCommandEnds d (M x) seen c.refused.result.status) (sym c.refused.ensures.disk) (inl (fault, status, out))
 

@@ -1,4 +1,4 @@
-use Rattle.std.proofs.Common.{◌≡◌, [], sym, subst}
+use Rattle.std.proofs.Common.{◌≡◌, ◌⊎◌, inl, inr, ◌∙◌, ◌+◌, ◌≤◌, ℕ, List, [], sym, subst}
 use Rattle.hb_disk.specs.Calls.{Leaves}
 use Rattle.hb_layout.specs.declared.meta.Meta.{Meta}
 use Rattle.hb_ops.specs.Files.{FileState}
@@ -9,7 +9,14 @@ use Rattle.hb_store.specs.Seen.{seen_as, disk_of}
 use Rattle.hbpi.specs.Starting.{IsOnePage}
 use Rattle.std.specs.Prelude.{IfSome}
 use Rattle.hbpi.proofs.Started.{larger_of, left_of}
+use Rattle.hb_disk.specs.ValueLaws.{at_value, if_value}
+use Rattle.hb_restart.specs.declared.faults.OpenFault.{OpenFault}
+use Rattle.hbpi.specs.declared.starting.StartFault.TheVariants as starts
 use Rattle.hbpi.proofs.starting.start.Goals as goal
+
+-- a file that doesn't open isn't refused as a larger one
+not_larger : (fault : OpenFault) → starts.Closed fault ≡ starts.NotBuilt → ⊥
+not_larger fault is = cc is
 
 pub returns-in-Ok-clause-even : goal.returns-in-Ok-clause-even
 returns-in-Ok-clause-even g c = λ s even. c.in-Ok.ensures.even s even
@@ -39,3 +46,21 @@ returns-in-Ok-2-clause-beyond_after_fault g c =
 
 pub returns-in-Err-clause-even_after_fault : goal.returns-in-Err-clause-even_after_fault
 returns-in-Err-clause-even_after_fault g c = λ s even. c.in-Err.ensures.even_after_fault s even
+
+pub returns-in-Ok-2-clause-late_after_fault : goal.returns-in-Ok-2-clause-late_after_fault
+returns-in-Ok-2-clause-late_after_fault g c =
+    let d = g.D.Device.model c.args.disk in
+    let since : IfSome d.told (λ b. (s : FileState) → OpensTo b s → (starts.NotBuilt ≡ starts.NotBuilt) ⊎ (d.clock + 2 ≤ (g.D.Device.model (disk_of c.in-Ok.store)).clock)
+    → (e : List ℕ) → (g.D.Device.model (disk_of c.in-Ok.store)).ImageSince (d.clock + 1) e → OpensTo e s) =
+    if_value d.told _ (λ b is s opens how. at_value d.told (λ b. (s : FileState) → OpensTo b s → (e : List ℕ) → (g.D.Device.model (disk_of c.in-Ok.store)).ImageSince (d.clock + 1) e → OpensTo e s) b is c.in-Ok.ensures.late s opens) in
+    subst (λ (x : g.row.D.Denot). IfSome d.told (λ b. (s : FileState) → OpensTo b s → (starts.NotBuilt ≡ starts.NotBuilt) ⊎ (d.clock + 2 ≤ (g.D.Device.model x).clock)
+    → (e : List ℕ) → (g.D.Device.model x).ImageSince (d.clock + 1) e → OpensTo e s)) (sym c.into_disk.ensures) since
+
+pub returns-in-Err-clause-late_after_fault : goal.returns-in-Err-clause-late_after_fault
+returns-in-Err-clause-late_after_fault g c =
+    let d = g.D.Device.model c.args.disk in
+    let new = g.D.Device.model c.in-Err.disk in
+    if_value d.told _ (λ b is s opens how. elim how [
+      | inl never ↦ absurd (not_larger c.in-Err.fault (sym c.from.ensures ∙ never))
+      | inr later ↦ at_value d.told (λ b. (s : FileState) → OpensTo b s → d.clock + 2 ≤ new.clock → (e : List ℕ) → new.ImageSince (d.clock + 1) e → OpensTo e s) b is c.in-Err.ensures.late_after_fault s opens later
+    ])

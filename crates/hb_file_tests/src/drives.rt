@@ -1,0 +1,304 @@
+//! Stores that are driven over files of several pages, by hand: each allocation's number, each group, and the bytes on the
+//! disk. A driving is stopped before each of its device calls, and each call fails once. What is left is opened, and opened
+//! again after a stop inside that opening: the file has the pages after so many of the groups.
+ghost use Rattle.std.specs.Prelude.{◌≡◌, ◌≤◌, Some, true, false, All, IfSome};
+ghost use Rattle.hb_store.specs.Seen.{seen_as};
+
+use crate::driven_trees::{SPLIT_AGAIN, TWO_PARENTS};
+use crate::stores::{NEVER, done};
+use hb_disk::{MemDisk, Pick, RotDisk};
+use hb_ops::Meta;
+use hb_restart::recover;
+use hb_store::Store;
+use std::alloc::Global;
+
+/// A driving. The file has so many bytes: these pieces at their offsets, and zeros. It is opened and these pages are fetched.
+#[derive(Clone, Copy)]
+pub(crate) struct Tree {
+    pub(crate) size: usize,
+    pub(crate) file: &'static [(usize, &'static [u8])],
+    pub(crate) fetched: &'static [u32],
+    /// For each step the number that an allocation takes, 0 for none; the operation, as a group without images has it; and
+    /// how many bytes its group has.
+    pub(crate) steps: &'static [(u32, &'static [u8], u32)],
+    /// What the opening and the driving write: pieces at their offsets.
+    pub(crate) written: &'static [(usize, &'static [u8])],
+    /// After each number of steps: the root, the height, the high mark and the pages in use.
+    pub(crate) said: &'static [[u32; 4]],
+    /// How many records there are, always.
+    pub(crate) records: u64,
+    /// From which number of steps on, and up to which, a page of this number has these fields.
+    pub(crate) pages: &'static [(usize, usize, usize, &'static [u8])],
+}
+
+/// The trees.
+const TREES: [Tree; 2] = [SPLIT_AGAIN, TWO_PARENTS];
+
+/// The three kinds of images.
+const PICKS: [Pick; 3] = [Pick::Old, Pick::New, Pick::Noise(165)];
+
+/// Puts pieces at their offsets.
+fn put_all(bytes: &mut Vec<u8>, pieces: &[(usize, &[u8])]) {
+    for (at, piece) in pieces {
+        for (place, byte) in bytes.iter_mut().skip(*at).zip(*piece) {
+            *place = *byte;
+        }
+    }
+}
+
+/// The file of a tree.
+fn file(alloc: Global, tree: &Tree) -> Option<Vec<u8>> {
+    let mut bytes = vec![in alloc; 0; tree.size].ok()?;
+    put_all(&mut bytes, tree.file);
+    Some(bytes)
+}
+
+/// The store of a file, over a disk that tells nothing and fails at the call of this number.
+fn opened(alloc: Global, bytes: Vec<u8>, failing: u64) -> Option<Store<RotDisk>>
+    ensures running { IfSome result (λ store. (seen_as store).stopped ≡ false) }
+    ensures marks { IfSome result (λ store. All (λ g. g.mark ≤ 7) (seen_as store).log.groups) }
+{
+    let calls = [failing].to_vec(alloc).ok()?;
+    let disk = RotDisk {
+        inner: MemDisk::failing(alloc, bytes, calls),
+        before: 0,
+        at: u64::MAX,
+        byte: 0,
+    };
+    match recover(alloc, disk) {
+        Ok((store, _)) => Some(store),
+        Err(_) => None,
+    }
+}
+
+/// Fetches a page.
+#[tactic(auto, using(crate::proofs::Untold::fetched_runs, crate::proofs::Untold::fetched_marks))]
+fn fetched(store: &mut Store<RotDisk>, id: u32) -> Option<()>
+    requires running { (seen_as store.old).stopped ≡ false }
+    requires marks { All (λ g. g.mark ≤ 7) (seen_as store.old).log.groups }
+    ensures running { (seen_as store.new).stopped ≡ false }
+    ensures marks { All (λ g. g.mark ≤ 7) (seen_as store.new).log.groups }
+{
+    store.fetch(id).ok()
+}
+
+/// The store of a tree's file, with its pages fetched.
+fn begun(alloc: Global, tree: &Tree, failing: u64) -> Option<Store<RotDisk>>
+    ensures running { IfSome result (λ store. (seen_as store).stopped ≡ false) }
+    ensures marks { IfSome result (λ store. All (λ g. g.mark ≤ 7) (seen_as store).log.groups) }
+{
+    let mut store = opened(alloc, file(alloc, tree)?, failing)?;
+    for id in tree.fetched {
+        fetched(&mut store, *id)?;
+    }
+    Some(store)
+}
+
+/// The number that an allocation takes, 0 for none.
+#[tactic(auto, using(crate::proofs::Untold::next_runs, crate::proofs::Untold::next_marks))]
+fn number(store: &mut Store<RotDisk>) -> Option<u32>
+    requires running { (seen_as store.old).stopped ≡ false }
+    requires marks { All (λ g. g.mark ≤ 7) (seen_as store.old).log.groups }
+    ensures running { (seen_as store.new).stopped ≡ false }
+    ensures marks { All (λ g. g.mark ≤ 7) (seen_as store.new).log.groups }
+{
+    match store.next_page().ok()? {
+        Some((id, _)) => Some(id),
+        None => Some(0),
+    }
+}
+
+/// Takes a step, and forces its group. `Some(false)` where the force failed; `None` where something else isn't as it is to be.
+#[tactic(auto, using(crate::proofs::Untold::forced_marks))]
+fn stepped(alloc: Global, store: &mut Store<RotDisk>, step: (u32, &[u8], u32)) -> Option<bool>
+    requires running { (seen_as store.old).stopped ≡ false }
+    requires marks { All (λ g. g.mark ≤ 7) (seen_as store.old).log.groups }
+    ensures running { result ≡ Some true → (seen_as store.new).stopped ≡ false }
+    ensures marks { result ≡ Some true → All (λ g. g.mark ≤ 7) (seen_as store.new).log.groups }
+{
+    let (fresh, group, pending) = step;
+    if number(store)? != fresh || !done(alloc, store, group)? || store.pending() != pending {
+        return None;
+    }
+    match store.force() {
+        Ok(()) => Some(true),
+        Err(_) => Some(false),
+    }
+}
+
+/// The disk behind a driving, up to the force that failed.
+fn driven(alloc: Global, tree: &Tree, failing: u64) -> Option<MemDisk> {
+    let mut store = begun(alloc, tree, failing)?;
+    for step in tree.steps {
+        match stepped(alloc, &mut store, *step) {
+            Some(true) => {}
+            Some(false) => return Some(store.into_disk().inner),
+            None => return None,
+        }
+    }
+    Some(store.into_disk().inner)
+}
+
+/// How many device calls there are before the first force.
+fn calls_before(alloc: Global, tree: &Tree) -> Option<u64> {
+    Some(begun(alloc, tree, NEVER)?.into_disk().inner.calls())
+}
+
+/// Whether a driving leaves these bytes on the disk, and no others.
+fn writes(alloc: Global, tree: &Tree) -> Option<bool> {
+    let mut want = file(alloc, tree)?;
+    put_all(&mut want, tree.written);
+    let disk = driven(alloc, tree, NEVER)?;
+    Some(disk.bytes() == want.as_slice())
+}
+
+#[test]
+fn a_driving_writes_these_bytes(rt: HostRuntime) {
+    for tree in TREES {
+        assert!(rt; writes(rt.alloc(), &tree) == Some(true), "{}", tree.size);
+    }
+}
+
+/// Whether a page stands in its place: these fields, and zeros behind them.
+fn stands(bytes: &[u8], page: usize, fields: &[u8]) -> bool {
+    let from = 135_168 + 4096 * page;
+    match bytes.get(from..from + 4096) {
+        Some(place) => match place.strip_prefix(fields) {
+            Some(rest) => rest.iter().all(|byte| *byte == 0),
+            None => false,
+        },
+        None => false,
+    }
+}
+
+/// Whether the pages after so many steps stand in their places.
+fn stand(bytes: &[u8], tree: &Tree, count: usize) -> bool {
+    let there = |row: &(usize, usize, usize, &[u8])| row.0 <= count && count < row.1;
+    tree.pages
+        .iter()
+        .all(|row| !there(row) || stands(bytes, row.2, row.3))
+}
+
+/// The disk behind an opening, where that gives the file after so many steps.
+fn reopened(alloc: Global, tree: &Tree, count: usize, bytes: Vec<u8>) -> Option<MemDisk> {
+    let Ok((store, records)) = recover(alloc, MemDisk::new(alloc, bytes)) else {
+        return None;
+    };
+    let said = marks(store.meta());
+    let disk = store.into_disk();
+    let right = records == tree.records && tree.said.get(count) == Some(&said);
+    if right && stand(disk.bytes(), tree, count) {
+        Some(disk)
+    } else {
+        None
+    }
+}
+
+/// What changes of what a file says: the root, the height, the high mark and the pages in use.
+fn marks(meta: &Meta) -> [u32; 4] {
+    [meta.root, u32::from(meta.height), meta.high, meta.live]
+}
+
+/// Whether what a crash before this call leaves opens to the file after so many steps. The disk behind that opening.
+fn image_opened(
+    alloc: Global,
+    tree: &Tree,
+    count: usize,
+    disk: &MemDisk,
+    before: u64,
+    pick: Pick,
+) -> Option<MemDisk> {
+    reopened(alloc, tree, count, disk.image(before, pick).ok()??)
+}
+
+/// An opening ends with this many device calls at most: a sync, a write for each of six pages, a sync, a zero, a sync, a read,
+/// two that clear what is hidden, and six of the superblock. In front of them it only reads.
+const LAST_CALLS: u64 = 19;
+
+/// The same, and also where that opening is stopped before each of its last calls in its turn. A stop before a read leaves what
+/// was opened.
+fn opens_twice(
+    alloc: Global,
+    tree: &Tree,
+    count: usize,
+    disk: &MemDisk,
+    before: u64,
+    pick: Pick,
+) -> Option<()> {
+    let again = image_opened(alloc, tree, count, disk, before, pick)?;
+    for call in again.calls().saturating_sub(LAST_CALLS)..again.calls().saturating_add(1) {
+        image_opened(alloc, tree, count, &again, call, pick)?;
+    }
+    Some(())
+}
+
+/// How many steps a crash leaves that comes before this call of the forces: a group's are a write, a sync, the write of its
+/// gate, and a sync. A gate that is written and not synced is closed in an old image, and open in the others.
+fn steps_left(call: u64, pick: Pick) -> usize {
+    match pick {
+        Pick::Old => (call / 4) as usize,
+        Pick::New | Pick::Noise(_) => (call.saturating_add(1) / 4) as usize,
+    }
+}
+
+/// The first call of the forces before which a crash leaves anything else. `None` where there is none, and else 9,999 where
+/// there is no driving.
+fn first_lost(alloc: Global, tree: &Tree, pick: Pick) -> Option<u64> {
+    let (Some(first), Some(disk)) = (calls_before(alloc, tree), driven(alloc, tree, NEVER)) else {
+        return Some(9999);
+    };
+    for call in 0..disk.calls().saturating_sub(first).saturating_add(1) {
+        let count = steps_left(call, pick);
+        if opens_twice(alloc, tree, count, &disk, first.saturating_add(call), pick).is_none() {
+            return Some(call);
+        }
+    }
+    None
+}
+
+#[test]
+fn a_driving_stops_before_each_call(rt: HostRuntime) {
+    for tree in TREES {
+        for pick in PICKS {
+            assert_eq!(rt; first_lost(rt.alloc(), &tree, pick), None, "{} {pick:?}", tree.size);
+        }
+    }
+}
+
+/// How many steps more than are settled a fault leaves: at a group's payload, its sync, its gate, and the gate's sync; as an
+/// old image has them, as the disk reads, and in noise.
+const FAULTS: [[usize; 3]; 4] = [[0, 0, 0], [0, 0, 0], [0, 0, 1], [0, 1, 1]];
+
+/// Whether each image behind a fault at this call of the forces opens so.
+fn survives(alloc: Global, tree: &Tree, first: u64, call: u64) -> Option<()> {
+    let disk = driven(alloc, tree, first.saturating_add(call))?;
+    if disk.calls() != first.saturating_add(call).saturating_add(1) {
+        return None;
+    }
+    let more = FAULTS.get((call % 4) as usize)?;
+    for (pick, more) in PICKS.iter().zip(more) {
+        let count = (call / 4) as usize + *more;
+        image_opened(alloc, tree, count, &disk, disk.calls(), *pick)?;
+    }
+    Some(())
+}
+
+/// The first call of the forces behind whose fault this isn't so.
+fn first_fault_lost(alloc: Global, tree: &Tree) -> Option<u64> {
+    let Some(first) = calls_before(alloc, tree) else {
+        return Some(9999);
+    };
+    for call in 0..4 * tree.steps.len() as u64 {
+        if survives(alloc, tree, first, call).is_none() {
+            return Some(call);
+        }
+    }
+    None
+}
+
+#[test]
+fn each_call_of_a_driving_fails(rt: HostRuntime) {
+    for tree in TREES {
+        assert_eq!(rt; first_fault_lost(rt.alloc(), &tree), None, "{}", tree.size);
+    }
+}
