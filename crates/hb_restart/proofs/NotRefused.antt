@@ -49,6 +49,23 @@ lacks_none b said t s id shows few (least, most, (inr none)) =
     let there = page_there_is s.pages id least (let count = shows.count in omega (arith, count, most)) in
     none.1 there.0 (subst (λ (o : Option Page). IsPageIn b said id o there.0) none.0 (shows.each id there.0 there.1))
 
+-- where the groups of the log lead to a file, the bytes open to it
+pub opens_so : (b : List ℕ) (turn : ℕ) (said : Meta) (groups : List Logged) (s : FileState) → HasLayout b turn said → LogSays b turn said groups → Shows b said (replay (untouched said) groups) s → OpensTo b s
+opens_so b turn said groups s layout log shows = record {
+  turn = turn;
+  said = said;
+  payloads = log.payloads;
+  groups = groups;
+  by = record {
+    newest = layout.newest;
+    fits = layout.fits;
+    framed = log.framed;
+    spelled = log.spelled;
+    replayed = log.replayed;
+    shows = shows;
+  };
+}
+
 module _ (once : OneList) (turns : (bytes : List ℕ) (t s : ℕ) (m n : Meta) → IsNewest bytes t m → IsNewest bytes s n → t ≡ s) (saids : (bytes : List ℕ) (t s : ℕ) (m n : Meta) → IsNewest bytes t m → IsNewest bytes s n → m ≡ n)
     (one_way : ReadsOneWay) (one : OpensToOne) (whole : OpensWhole) (law : SoundBreaksNone) where
   -- the groups of the log are those by which the bytes open
@@ -73,20 +90,7 @@ module _ (once : OneList) (turns : (bytes : List ℕ) (t s : ℕ) (m n : Meta) �
         let kept = replay_pages (untouched said) groups in
         lacks_none b said (replay (untouched said) groups) s page shows (omega (arith, high, pages, most, kept)) hole.1.here
     | inr broken ↦
-        let other : OpensTo b broken.1 = record {
-          turn = turn;
-          said = said;
-          payloads = log.payloads;
-          groups = groups;
-          by = record {
-            newest = layout.newest;
-            fits = layout.fits;
-            framed = log.framed;
-            spelled = log.spelled;
-            replayed = log.replayed;
-            shows = broken.2;
-          };
-        } in
+        let other : OpensTo b broken.1 = opens_so b turn said groups broken.1 layout log broken.2 in
         sound_names law broken.1 page rule broken.3 (subst IsSound (sym (one b broken.1 s other opens)) sound)
   ]
 

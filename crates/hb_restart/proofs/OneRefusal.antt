@@ -17,7 +17,7 @@ use Rattle.hb_restart.specs.Refusals.{Refuses, IsUnwritten, IsSmall, IsUnsound, 
 use Rattle.hb_restart.specs.declared.faults.OpenFault.{OpenFault}
 use Rattle.hb_restart.specs.declared.faults.OpenFault.TheVariants as faults
 use Rattle.hb_restart.proofs.BadFrames.{one_bad_group, bad_or_whole}
-use Rattle.hb_restart.proofs.NotRefused.{least_size}
+use Rattle.hb_restart.proofs.NotRefused.{least_size, opens_so}
 
 least_one : (p : ℕ → Type 0) (m n : ℕ) → IsLeast p m → IsLeast p n → m ≡ n
 least_one p m n a b = let x = a.least n b.here in let y = b.least m a.here in omega (arith, x, y)
@@ -58,29 +58,13 @@ module _ (once : OneList) (turns : (bytes : List ℕ) (t s : ℕ) (m n : Meta) �
       let payloads : x.payloads ≡ y.payloads = (one_way (log_bytes turn said b)).frames x.payloads y.payloads x.framed y.framed in
       same_spelled once said.k y.payloads xs ys (subst (λ (l : List (List ℕ)). SpellAll said.k l xs) payloads x.spelled) y.spelled
 
-  opens_so : (turn : ℕ) (said : Meta) (groups : List Logged) (s : FileState) → HasLayout b turn said → LogSays b turn said groups → Shows b said (replay (untouched said) groups) s → OpensTo b s
-  opens_so turn said groups s layout log shows = record {
-    turn = turn;
-    said = said;
-    payloads = log.payloads;
-    groups = groups;
-    by = record {
-      newest = layout.newest;
-      fits = layout.fits;
-      framed = log.framed;
-      spelled = log.spelled;
-      replayed = log.replayed;
-      shows = shows;
-    };
-  }
-
   unsound_same : (turn : ℕ) (said : Meta) (groups : List Logged) (p q r t : ℕ) → HasLayout b turn said → LogSays b turn said groups
       → IsUnsound b said groups p r → IsUnsound b said groups q t → (p ≡ q) × (r ≡ t)
   unsound_same turn said groups p q r t layout log (inl x) (inl y) = (least_one (LacksPage b said (replay (untouched said) groups)) p q x.1 y.1, x.0 ∙ sym y.0)
   unsound_same turn said groups p q r t layout log (inl x) (inr y) = absurd (y.0 p x.1.here)
   unsound_same turn said groups p q r t layout log (inr x) (inl y) = absurd (x.0 q y.1.here)
   unsound_same turn said groups p q r t layout log (inr x) (inr y) =
-      let same : x.1 ≡ y.1 = one b x.1 y.1 (opens_so turn said groups x.1 layout log x.2) (opens_so turn said groups y.1 layout log y.2) in
+      let same : x.1 ≡ y.1 = one b x.1 y.1 (opens_so b turn said groups x.1 layout log x.2) (opens_so b turn said groups y.1 layout log y.2) in
       named y.1 p q r t (subst (λ (s : FileState). NamesIn s p r) same x.3) y.3
 
   unsound_one : (t s : ℕ) (m n : Meta) (xs ys : List Logged) (p q r u : ℕ) → HasLayout b t m → HasLayout b s n → LogSays b t m xs → LogSays b s n ys
