@@ -16,7 +16,7 @@ use Rattle.hb_activity.proofs.LaterPages.{never_itself, onward}
 use Rattle.hb_core.specs.Machines.{Files, Machine, current_file}
 use Rattle.hb_core.specs.Asking.{looked_live, wanted_by}
 use Rattle.hb_core.specs.Keeps.{HasNobodyElse, HasSoundFile, LatchesFit, WalksInSpace}
-use Rattle.hb_core.specs.WaitingLaws.{ComesLater, NobodyWaitsInACircle, WaitInTurn, Waits, WantsItsOwn}
+use Rattle.hb_core.specs.WaitingLaws.{ComesLater, NobodyWaitsInACircle, WaitInTurn, AwaitsActor, WantsItsOwn}
 use Rattle.hb_core.proofs.LaterWanted.{wanted_comes_later}
 use Rattle.hb_core.proofs.StillThere.{may_or_not}
 
@@ -60,7 +60,7 @@ module _ (m : Machine) (files : Files) (fit : LatchesFit m) (has : HasSoundFile 
   held_there (Some held) mode conflict = (held, refl)
 
   -- what an actor wants for which another one waits comes later than what that one wants
-  one_wait : (actor other : ℕ) (wanted its : Wanted) → wanted_by m actor ≡ Some wanted → wanted_by m other ≡ Some its → Waits m actor other → ComesLater (current_file files) wanted.page its.page ⊎ IsOwn wanted other its
+  one_wait : (actor other : ℕ) (wanted its : Wanted) → wanted_by m actor ≡ Some wanted → wanted_by m other ≡ Some its → AwaitsActor m actor other → ComesLater (current_file files) wanted.page its.page ⊎ IsOwn wanted other its
   one_wait actor other wanted its wants its_wants waits =
       let same : waits.wanted ≡ wanted = same_Some waits.wanted wanted (sym waits.wants_it ∙ wants) in
       let held = held_there (mode_at m.latches other waits.wanted.page) waits.wanted.mode waits.kept.conflict in

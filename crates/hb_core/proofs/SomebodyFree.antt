@@ -16,7 +16,7 @@ use Rattle.hb_core.specs.Asking.{IsInTheWay, wanted_by}
 use Rattle.hb_core.specs.Keeps.{HasNoOtherLatches, HasNobodyElse, HasSoundFile, LatchesFit, WalksInSpace}
 use Rattle.hb_core.specs.Performing.{latches_held, mode_among}
 use Rattle.hb_core.specs.SteppingLaws.{IsAtRest}
-use Rattle.hb_core.specs.WaitingLaws.{ComesLater, IsAtWork, IsKeptWaiting, SomebodyGoesOn, Waits}
+use Rattle.hb_core.specs.WaitingLaws.{ComesLater, IsAtWork, IsKeptWaiting, SomebodyGoesOn, AwaitsActor}
 use Rattle.hb_core.proofs.NoCircle.{held_there, in_turn}
 use Rattle.hb_core.proofs.StillThere.{may_or_not}
 
@@ -53,7 +53,7 @@ module _ (m : Machine) (files : Files) (fit : LatchesFit m) (has : HasSoundFile 
 
   record IsKeptBy (actor : ℕ) : Type 0 where
     pub other : ℕ
-    pub waits : Waits m actor other
+    pub waits : AwaitsActor m actor other
     pub works : IsAtWork m other
 
   kept_by : (actor by : ℕ) (wants : Option Wanted) → wanted_by m actor ≡ wants → IsSomeAnd wants (λ wanted. IsLeastInTheWay m.latches actor wanted.page wanted.mode by) → IsKeptBy actor

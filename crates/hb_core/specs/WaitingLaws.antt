@@ -42,12 +42,12 @@ WantedComesLater = (m : Machine) (files : Files) (actor id : ℕ) (mode : Mode) 
     wanted_by m actor ≡ Some wanted → mode_at m.latches actor id ≡ Some mode → ComesLater (current_file files) id wanted.page ⊎ WantsItsOwn m actor id mode wanted
 
 -- An actor waits for another one, and so on, to the last.
-abbrev pub Waits : Machine → ℕ → ℕ → Type 0
-Waits m actor other = WaitsFor m.latches (wanted_by m) actor other
+abbrev pub AwaitsActor : Machine → ℕ → ℕ → Type 0
+AwaitsActor m actor other = WaitsFor m.latches (wanted_by m) actor other
 
 abbrev pub WaitInTurn : Machine → ℕ → List ℕ → ℕ → Type 0
-WaitInTurn m actor [] last = Waits m actor last
-WaitInTurn m actor (next ∷ rest) last = Waits m actor next × WaitInTurn m next rest last
+WaitInTurn m actor [] last = AwaitsActor m actor last
+WaitInTurn m actor (next ∷ rest) last = AwaitsActor m actor next × WaitInTurn m next rest last
 
 -- No actor waits for itself in this way.
 abbrev pub NobodyWaitsInACircle : Type 0
