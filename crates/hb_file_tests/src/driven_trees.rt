@@ -5,50 +5,67 @@
 use crate::drives::Tree;
 
 /// In the first tree: what the file says, of five pages, of which three are taken; and what the next turn's superblock does.
-const TAKEN: &[u8] = b"\xa5HBPITREE\x01\0\x01\x02\0\0\0\x05\0\x01\0\0\0\x06\0\x20\0\0\0\x03\0\0\0\x03\0\0\0\x03\0\0\0\0";
+const TAKEN: &[u8] =
+    b"\xa5HBPITREE\x01\0\x01\x02\0\0\0\x05\0\x01\0\0\0\x06\0\x20\0\0\0\x03\0\0\0\x03\0\0\0\x03\0\0\0\0";
 
 /// The superblock of the turn after it.
-const TAKEN_NEXT: &[u8] = b"\xa5HBPITREE\x01\x01\x01\x02\0\0\0\x05\0\x01\0\0\0\x06\0\x20\0\0\0\x03\0\0\0\x03\0\0\0\x03\0\0\0\0";
+const TAKEN_NEXT: &[u8] =
+    b"\xa5HBPITREE\x01\x01\x01\x02\0\0\0\x05\0\x01\0\0\0\x06\0\x20\0\0\0\x03\0\0\0\x03\0\0\0\x03\0\0\0\0";
 
 /// Page 1: below 5 the point 1, else page 2.
-const BELOW_5: &[u8] = b"\x01\0\x01\0\0\0\0\0\0\0\0\0\xff\xff\xff\xff\xff\xff\xff\xff\0\0\0\0\0\0\0\0\0\x05\x01\0\x01\0\0\0\0\0\0\0\x01\0\x03\0\0\0\x02";
+const BELOW_5: &[u8] =
+    b"\x01\0\x01\0\0\0\0\0\0\0\0\0\xff\xff\xff\xff\xff\xff\xff\xff\0\0\0\0\0\0\0\0\0\x05\x01\0\x01\0\0\0\0\0\0\0\x01\0\x03\0\0\0\x02";
 
 /// Page 2, from 5 on: the points 5, 7 and 9. Once it is split at 9 page 4 has the last one.
-const FROM_5: &[u8] = b"\x01\0\x01\0\0\0\0\0\0\0\0\x05\xff\xff\xff\xff\xff\xff\xff\xff\x01\0\x03\0\0\0\0\0\0\0\x05\0\0\0\0\0\0\0\0\x07\0\0\0\0\0\0\0\0\x09\0";
+const FROM_5: &[u8] =
+    b"\x01\0\x01\0\0\0\0\0\0\0\0\x05\xff\xff\xff\xff\xff\xff\xff\xff\x01\0\x03\0\0\0\0\0\0\0\x05\0\0\0\0\0\0\0\0\x07\0\0\0\0\0\0\0\0\x09\0";
 
 /// The same once it is split.
-const FROM_5_SPLIT: &[u8] = b"\x01\0\x01\0\0\0\0\0\0\0\0\x05\xff\xff\xff\xff\xff\xff\xff\xff\0\0\0\0\0\0\0\0\0\x09\x01\0\x02\0\0\0\0\0\0\0\x05\0\0\0\0\0\0\0\0\x07\0\x03\0\0\0\x04";
+const FROM_5_SPLIT: &[u8] =
+    b"\x01\0\x01\0\0\0\0\0\0\0\0\x05\xff\xff\xff\xff\xff\xff\xff\xff\0\0\0\0\0\0\0\0\0\x09\x01\0\x02\0\0\0\0\0\0\0\x05\0\0\0\0\0\0\0\0\x07\0\x03\0\0\0\x04";
 
 /// Page 4, from 9 on.
-const FROM_9: &[u8] = b"\x01\0\x01\0\0\0\0\0\0\0\0\x09\xff\xff\xff\xff\xff\xff\xff\xff\x01\0\x01\0\0\0\0\0\0\0\x09\0";
+const FROM_9: &[u8] =
+    b"\x01\0\x01\0\0\0\0\0\0\0\0\x09\xff\xff\xff\xff\xff\xff\xff\xff\x01\0\x01\0\0\0\0\0\0\0\x09\0";
 
 /// Page 3, above them: page 1 alone.
-const ABOVE: &[u8] = b"\x01\x01\x01\0\0\0\0\0\0\0\0\0\xff\xff\xff\xff\xff\xff\xff\xff\x02\0\0\0\x01";
+const ABOVE: &[u8] =
+    b"\x01\x01\x01\0\0\0\0\0\0\0\0\0\xff\xff\xff\xff\xff\xff\xff\xff\x02\0\0\0\x01";
 
 /// The same with page 2 from 5 on.
-const ABOVE_TWO: &[u8] = b"\x01\x01\x01\0\0\0\0\0\0\0\0\0\xff\xff\xff\xff\xff\xff\xff\xff\0\0\0\0\0\0\0\0\0\x05\x02\0\0\0\x01\x02\0\0\0\x02";
+const ABOVE_TWO: &[u8] =
+    b"\x01\x01\x01\0\0\0\0\0\0\0\0\0\xff\xff\xff\xff\xff\xff\xff\xff\0\0\0\0\0\0\0\0\0\x05\x02\0\0\0\x01\x02\0\0\0\x02";
 
 /// And with page 4 from 9 on.
-const ABOVE_THREE: &[u8] = b"\x01\x01\x01\0\0\0\0\0\0\0\0\0\xff\xff\xff\xff\xff\xff\xff\xff\0\0\0\0\0\0\0\0\0\x05\x02\0\0\0\x01\0\0\0\0\0\0\0\0\0\x09\x02\0\0\0\x02\x02\0\0\0\x04";
+const ABOVE_THREE: &[u8] =
+    b"\x01\x01\x01\0\0\0\0\0\0\0\0\0\xff\xff\xff\xff\xff\xff\xff\xff\0\0\0\0\0\0\0\0\0\x05\x02\0\0\0\x01\0\0\0\0\0\0\0\0\0\x09\x02\0\0\0\x02\x02\0\0\0\x04";
 
 /// The split of page 2 at 9: what isn't below goes to page 4. As in the groups that follow, no image.
 const SPLIT_2: &[u8] = b"\0\x03\0\0\0\x02\0\0\0\x04\0\0\0\0\0\x01\0\0\0\0\0\0\0\0\x09\x01";
 
 /// The posting of page 2 at the only leaf of page 3, over the box from 5 on.
-const POST_2: &[u8] = b"\0\x04\0\0\0\x03\0\0\0\0\x02\0\0\0\0\0\0\0\x05\xff\xff\xff\xff\xff\xff\xff\xff";
+const POST_2: &[u8] =
+    b"\0\x04\0\0\0\x03\0\0\0\0\x02\0\0\0\0\0\0\0\x05\xff\xff\xff\xff\xff\xff\xff\xff";
 
 /// The posting of page 4 at the right side of page 3's cut, over the box from 9 on.
-const POST_4: &[u8] = b"\0\x04\0\0\0\x03\x01\x01\0\0\0\x04\0\0\0\0\0\0\0\x09\xff\xff\xff\xff\xff\xff\xff\xff";
+const POST_4: &[u8] =
+    b"\0\x04\0\0\0\x03\x01\x01\0\0\0\x04\0\0\0\0\0\0\0\x09\xff\xff\xff\xff\xff\xff\xff\xff";
 
 /// The first two behind their images.
 const SPLIT_2_BEHIND: &[u8] = b"\x03\0\0\0\x02\0\0\0\x04\0\0\0\0\0\x01\0\0\0\0\0\0\0\0\x09\x01";
-const POST_2_BEHIND: &[u8] = b"\x04\0\0\0\x03\0\0\0\0\x02\0\0\0\0\0\0\0\x05\xff\xff\xff\xff\xff\xff\xff\xff";
+
+const POST_2_BEHIND: &[u8] =
+    b"\x04\0\0\0\x03\0\0\0\0\x02\0\0\0\0\0\0\0\x05\xff\xff\xff\xff\xff\xff\xff\xff";
 
 /// A page is split that came of a split, and both are posted.
-pub(crate) 
-const SPLIT_AGAIN: Tree = Tree {
+pub(crate) const SPLIT_AGAIN: Tree = Tree {
     size: 159_744,
-    file: &[(0, TAKEN), (139_264, BELOW_5), (143_360, FROM_5), (147_456, ABOVE)],
+    file: &[
+        (0, TAKEN),
+        (139_264, BELOW_5),
+        (143_360, FROM_5),
+        (147_456, ABOVE),
+    ],
     fetched: &[2, 3],
     steps: &[(4, SPLIT_2, 4126), (5, POST_2, 4127), (5, POST_4, 28)],
     // the turn's superblock; then the frames in the second log area. The first two have an image of the page that they read
@@ -77,56 +94,71 @@ const SPLIT_AGAIN: Tree = Tree {
 };
 
 /// In the second tree: what the file says, of six pages, of which one is taken.
-const ONE: &[u8] = b"\xa5HBPITREE\x01\0\x01\x01\0\0\0\x06\0\x01\0\0\0\x06\0\x20\0\0\0\x01\0\0\0\x01\0\0\0\x01\0\0\0\0";
+const ONE: &[u8] =
+    b"\xa5HBPITREE\x01\0\x01\x01\0\0\0\x06\0\x01\0\0\0\x06\0\x20\0\0\0\x01\0\0\0\x01\0\0\0\x01\0\0\0\0";
 
 /// The superblock of the turn after it.
-const ONE_NEXT: &[u8] = b"\xa5HBPITREE\x01\x01\x01\x01\0\0\0\x06\0\x01\0\0\0\x06\0\x20\0\0\0\x01\0\0\0\x01\0\0\0\x01\0\0\0\0";
+const ONE_NEXT: &[u8] =
+    b"\xa5HBPITREE\x01\x01\x01\x01\0\0\0\x06\0\x01\0\0\0\x06\0\x20\0\0\0\x01\0\0\0\x01\0\0\0\x01\0\0\0\0";
 
 /// Page 1: the points 10, 35, 45 and 70.
-const POINTS: &[u8] = b"\x01\0\x01\0\0\0\0\0\0\0\0\0\xff\xff\xff\xff\xff\xff\xff\xff\x01\0\x04\0\0\0\0\0\0\0\x0a\0\0\0\0\0\0\0\0#\0\0\0\0\0\0\0\0-\0\0\0\0\0\0\0\0F\0";
+const POINTS: &[u8] =
+    b"\x01\0\x01\0\0\0\0\0\0\0\0\0\xff\xff\xff\xff\xff\xff\xff\xff\x01\0\x04\0\0\0\0\0\0\0\x0a\0\0\0\0\0\0\0\0#\0\0\0\0\0\0\0\0-\0\0\0\0\0\0\0\0F\0";
 
 /// The same once page 2 has the box from 40 to 59: below 30 the point 10, else below 40 the point 35, else below 60 page 2, else the
 /// point 70.
-const POINTS_HOLED: &[u8] = b"\x01\0\x01\0\0\0\0\0\0\0\0\0\xff\xff\xff\xff\xff\xff\xff\xff\0\0\0\0\0\0\0\0\0\x1e\x01\0\x01\0\0\0\0\0\0\0\x0a\0\0\0\0\0\0\0\0\0\0(\x01\0\x01\0\0\0\0\0\0\0#\0\0\0\0\0\0\0\0\0\0<\x03\0\0\0\x02\x01\0\x01\0\0\0\0\0\0\0F\0";
+const POINTS_HOLED: &[u8] =
+    b"\x01\0\x01\0\0\0\0\0\0\0\0\0\xff\xff\xff\xff\xff\xff\xff\xff\0\0\0\0\0\0\0\0\0\x1e\x01\0\x01\0\0\0\0\0\0\0\x0a\0\0\0\0\0\0\0\0\0\0(\x01\0\x01\0\0\0\0\0\0\0#\0\0\0\0\0\0\0\0\0\0<\x03\0\0\0\x02\x01\0\x01\0\0\0\0\0\0\0F\0";
 
 /// The same once all from 30 on is page 6.
-const POINTS_BELOW: &[u8] = b"\x01\0\x01\0\0\0\0\0\0\0\0\0\xff\xff\xff\xff\xff\xff\xff\xff\0\0\0\0\0\0\0\0\0\x1e\x01\0\x01\0\0\0\0\0\0\0\x0a\0\x03\0\0\0\x06";
+const POINTS_BELOW: &[u8] =
+    b"\x01\0\x01\0\0\0\0\0\0\0\0\0\xff\xff\xff\xff\xff\xff\xff\xff\0\0\0\0\0\0\0\0\0\x1e\x01\0\x01\0\0\0\0\0\0\0\x0a\0\x03\0\0\0\x06";
 
 /// Page 2, from 40 to 59: the point 45.
 const HOLE: &[u8] = b"\x01\0\x01\0\0\0\0\0\0\0\0(\0\0\0\0\0\0\0;\x01\0\x01\0\0\0\0\0\0\0-\0";
 
 /// Page 3, above: page 1 alone.
-const PARENT: &[u8] = b"\x01\x01\x01\0\0\0\0\0\0\0\0\0\xff\xff\xff\xff\xff\xff\xff\xff\x02\0\0\0\x01";
+const PARENT: &[u8] =
+    b"\x01\x01\x01\0\0\0\0\0\0\0\0\0\xff\xff\xff\xff\xff\xff\xff\xff\x02\0\0\0\x01";
 
 /// The same with page 2 from 40 to 59. Page 1 has two leaves.
-const PARENT_HOLED: &[u8] = b"\x01\x01\x01\0\0\0\0\0\0\0\0\0\xff\xff\xff\xff\xff\xff\xff\xff\0\0\0\0\0\0\0\0\0(\x02\0\0\0\x01\0\0\0\0\0\0\0\0\0<\x02\0\0\0\x02\x02\0\0\0\x01";
+const PARENT_HOLED: &[u8] =
+    b"\x01\x01\x01\0\0\0\0\0\0\0\0\0\xff\xff\xff\xff\xff\xff\xff\xff\0\0\0\0\0\0\0\0\0(\x02\0\0\0\x01\0\0\0\0\0\0\0\0\0<\x02\0\0\0\x02\x02\0\0\0\x01";
 
 /// The same once all from 40 on is page 4. So page 1 has two parents.
-const PARENT_BELOW: &[u8] = b"\x01\x01\x01\0\0\0\0\0\0\0\0\0\xff\xff\xff\xff\xff\xff\xff\xff\0\0\0\0\0\0\0\0\0(\x02\0\0\0\x01\x03\0\0\0\x04";
+const PARENT_BELOW: &[u8] =
+    b"\x01\x01\x01\0\0\0\0\0\0\0\0\0\xff\xff\xff\xff\xff\xff\xff\xff\0\0\0\0\0\0\0\0\0(\x02\0\0\0\x01\x03\0\0\0\x04";
 
 /// The same with page 6 from 30 to 39.
-const PARENT_POSTED: &[u8] = b"\x01\x01\x01\0\0\0\0\0\0\0\0\0\xff\xff\xff\xff\xff\xff\xff\xff\0\0\0\0\0\0\0\0\0(\0\0\0\0\0\0\0\0\0\x1e\x02\0\0\0\x01\x02\0\0\0\x06\x03\0\0\0\x04";
+const PARENT_POSTED: &[u8] =
+    b"\x01\x01\x01\0\0\0\0\0\0\0\0\0\xff\xff\xff\xff\xff\xff\xff\xff\0\0\0\0\0\0\0\0\0(\0\0\0\0\0\0\0\0\0\x1e\x02\0\0\0\x01\x02\0\0\0\x06\x03\0\0\0\x04";
 
 /// Page 4, from 40 on: below 60 page 2, else page 1.
-const OTHER: &[u8] = b"\x01\x01\x01\0\0\0\0\0\0\0\0(\xff\xff\xff\xff\xff\xff\xff\xff\0\0\0\0\0\0\0\0\0<\x02\0\0\0\x02\x02\0\0\0\x01";
+const OTHER: &[u8] =
+    b"\x01\x01\x01\0\0\0\0\0\0\0\0(\xff\xff\xff\xff\xff\xff\xff\xff\0\0\0\0\0\0\0\0\0<\x02\0\0\0\x02\x02\0\0\0\x01";
 
 /// The same with page 6 in place of page 1.
-const OTHER_POSTED: &[u8] = b"\x01\x01\x01\0\0\0\0\0\0\0\0(\xff\xff\xff\xff\xff\xff\xff\xff\0\0\0\0\0\0\0\0\0<\x02\0\0\0\x02\x02\0\0\0\x06";
+const OTHER_POSTED: &[u8] =
+    b"\x01\x01\x01\0\0\0\0\0\0\0\0(\xff\xff\xff\xff\xff\xff\xff\xff\0\0\0\0\0\0\0\0\0<\x02\0\0\0\x02\x02\0\0\0\x06";
 
 /// Page 5, above the two: page 3 alone.
 const ROOT: &[u8] = b"\x01\x02\x01\0\0\0\0\0\0\0\0\0\xff\xff\xff\xff\xff\xff\xff\xff\x02\0\0\0\x03";
 
 /// The same with page 4 from 40 on.
-const ROOT_POSTED: &[u8] = b"\x01\x02\x01\0\0\0\0\0\0\0\0\0\xff\xff\xff\xff\xff\xff\xff\xff\0\0\0\0\0\0\0\0\0(\x02\0\0\0\x03\x02\0\0\0\x04";
+const ROOT_POSTED: &[u8] =
+    b"\x01\x02\x01\0\0\0\0\0\0\0\0\0\xff\xff\xff\xff\xff\xff\xff\xff\0\0\0\0\0\0\0\0\0(\x02\0\0\0\x03\x02\0\0\0\x04";
 
 /// Page 6, from 30 on: below 40 the point 35, else below 60 page 2, else the point 70.
-const BOTH: &[u8] = b"\x01\0\x01\0\0\0\0\0\0\0\0\x1e\xff\xff\xff\xff\xff\xff\xff\xff\0\0\0\0\0\0\0\0\0(\x01\0\x01\0\0\0\0\0\0\0#\0\0\0\0\0\0\0\0\0\0<\x03\0\0\0\x02\x01\0\x01\0\0\0\0\0\0\0F\0";
+const BOTH: &[u8] =
+    b"\x01\0\x01\0\0\0\0\0\0\0\0\x1e\xff\xff\xff\xff\xff\xff\xff\xff\0\0\0\0\0\0\0\0\0(\x01\0\x01\0\0\0\0\0\0\0#\0\0\0\0\0\0\0\0\0\0<\x03\0\0\0\x02\x01\0\x01\0\0\0\0\0\0\0F\0";
 
 /// The split of page 1 by three cuts: what lies from 40 to 59 goes to page 2.
-const SPLIT_1: &[u8] = b"\0\x03\0\0\0\x01\0\0\0\x02\0\0\0\0\0\x03\0\0\0\0\0\0\0\0\x1e\x01\0\0\0\0\0\0\0\0(\x01\0\0\0\0\0\0\0\0<\0";
+const SPLIT_1: &[u8] =
+    b"\0\x03\0\0\0\x01\0\0\0\x02\0\0\0\0\0\x03\0\0\0\0\0\0\0\0\x1e\x01\0\0\0\0\0\0\0\0(\x01\0\0\0\0\0\0\0\0<\0";
 
 /// The same behind its image.
-const SPLIT_1_BEHIND: &[u8] = b"\x03\0\0\0\x01\0\0\0\x02\0\0\0\0\0\x03\0\0\0\0\0\0\0\0\x1e\x01\0\0\0\0\0\0\0\0(\x01\0\0\0\0\0\0\0\0<\0";
+const SPLIT_1_BEHIND: &[u8] =
+    b"\x03\0\0\0\x01\0\0\0\x02\0\0\0\0\0\x03\0\0\0\0\0\0\0\0\x1e\x01\0\0\0\0\0\0\0\0(\x01\0\0\0\0\0\0\0\0<\0";
 
 /// The growth by page 3.
 const GROW_3: &[u8] = b"\0\x06\0\0\0\x03\0\0\0\0";
@@ -141,20 +173,22 @@ const SPLIT_3: &[u8] = b"\0\x03\0\0\0\x03\0\0\0\x04\0\0\0\0\x01\x01\0";
 const GROW_5: &[u8] = b"\0\x06\0\0\0\x05\0\0\0\0";
 
 /// The posting of page 4 at the only leaf of page 5.
-const POST_OTHER: &[u8] = b"\0\x04\0\0\0\x05\0\0\0\0\x04\0\0\0\0\0\0\0(\xff\xff\xff\xff\xff\xff\xff\xff";
+const POST_OTHER: &[u8] =
+    b"\0\x04\0\0\0\x05\0\0\0\0\x04\0\0\0\0\0\0\0(\xff\xff\xff\xff\xff\xff\xff\xff";
 
 /// The split of page 1: the right side of its cut at 30 goes to page 6.
 const SPLIT_1_AGAIN: &[u8] = b"\0\x03\0\0\0\x01\0\0\0\x06\0\0\0\0\x01\x01\0";
 
 /// The posting of page 6 at the left side of page 3's cut, over the box from 30 on.
-const POST_BELOW: &[u8] = b"\0\x04\0\0\0\x03\x01\0\0\0\0\x06\0\0\0\0\0\0\0\x1e\xff\xff\xff\xff\xff\xff\xff\xff";
+const POST_BELOW: &[u8] =
+    b"\0\x04\0\0\0\x03\x01\0\0\0\0\x06\0\0\0\0\0\0\0\x1e\xff\xff\xff\xff\xff\xff\xff\xff";
 
 /// The same at the right side of page 4's cut.
-const POST_ABOVE: &[u8] = b"\0\x04\0\0\0\x04\x01\x01\0\0\0\x06\0\0\0\0\0\0\0\x1e\xff\xff\xff\xff\xff\xff\xff\xff";
+const POST_ABOVE: &[u8] =
+    b"\0\x04\0\0\0\x04\x01\x01\0\0\0\x06\0\0\0\0\0\0\0\x1e\xff\xff\xff\xff\xff\xff\xff\xff";
 
 /// A page of two parents is split, and the new page is posted in both.
-pub(crate) 
-const TWO_PARENTS: Tree = Tree {
+pub(crate) const TWO_PARENTS: Tree = Tree {
     size: 163_840,
     file: &[(0, ONE), (139_264, POINTS)],
     fetched: &[1],

@@ -260,7 +260,12 @@ fn first_lost(alloc: Global, tree: &Tree, pick: Pick) -> Option<u64> {
 fn a_driving_stops_before_each_call(rt: HostRuntime) {
     for tree in TREES {
         for pick in PICKS {
-            assert_eq!(rt; first_lost(rt.alloc(), &tree, pick), None, "{} {pick:?}", tree.size);
+            assert_eq!(rt;
+                first_lost(rt.alloc(), &tree, pick),
+                None,
+                "{} {pick:?}",
+                tree.size
+            );
         }
     }
 }
