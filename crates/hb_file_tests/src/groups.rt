@@ -73,7 +73,13 @@ fn marks(meta: &Meta) -> [u32; 4] {
 
 /// How many of the four pages are in memory.
 fn there(store: &Store<RotDisk>) -> usize {
-    (1..5).filter(|id| store.get(*id).is_some()).count()
+    let mut count = 0;
+    for id in 1..5 {
+        if store.get(id).is_some() {
+            count = usize::wrapping_add(count, 1);
+        }
+    }
+    count
 }
 
 /// Whether this comes of so many of the operations.

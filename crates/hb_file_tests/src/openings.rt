@@ -127,13 +127,18 @@ fn opened(alloc: Global, failing: u64) -> Option<(Answer, MemDisk)> {
 
 /// Whether these bytes stand at an offset.
 fn stands(bytes: &[u8], at: usize, want: &[u8]) -> bool {
-    bytes.get(at..).is_some_and(|rest| rest.starts_with(want))
+    match bytes.get(at..) {
+        Some(rest) => rest.starts_with(want),
+        None => false,
+    }
 }
 
 /// Whether a disk as it reads opens to the file.
 fn opens_again(alloc: Global, disk: &MemDisk) -> bool {
-    let bytes = disk.bytes().to_vec(alloc).ok();
-    bytes.map(|bytes| answer_of(alloc, bytes)) == Some(GOOD)
+    match disk.bytes().to_vec(alloc) {
+        Ok(bytes) => answer_of(alloc, bytes) == GOOD,
+        Err(_) => false,
+    }
 }
 
 #[test]

@@ -151,7 +151,10 @@ fn is_light(page: &Page) -> bool
     ensures { IsTrue result → IsLight page.now }
 {
     match page {
-        Page::Live(page) => weight(&page.frag).is_some_and(|weight| weight <= PAGE as u32),
+        Page::Live(page) => match weight(&page.frag) {
+            Some(weight) => weight <= PAGE as u32,
+            None => false,
+        },
         Page::Free { .. } => true,
     }
 }
@@ -217,7 +220,12 @@ impl KeptPages {
 
     /// Whether some page was asked for more than twice.
     pub(crate) fn asked_too_often(&self) -> bool {
-        self.asks.iter().any(|asks| *asks > 2)
+        for asks in &self.asks {
+            if *asks > 2 {
+                return true;
+            }
+        }
+        false
     }
 }
 
