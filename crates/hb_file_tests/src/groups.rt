@@ -1,6 +1,6 @@
 //! Operations on files of one page, by hand: what their groups are, in memory and on the disk, and a tree that grows: a page
 //! is split, one above it is made and names both, and the log makes the same pages again. The disk tells nothing.
-ghost use Rattle.std.specs.Prelude.{◌≡◌, false};
+ghost use Rattle.std.specs.Prelude.{◌≡◌, false, IfSome};
 ghost use Rattle.hb_store.specs.Seen.{seen_as};
 
 use crate::stores::{EMPTY, FOUR, NEVER, POINTS, SPLIT, with_groups};
