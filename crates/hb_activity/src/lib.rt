@@ -14,12 +14,8 @@ mod activities;
 mod box_locks;
 mod changing;
 mod holding;
-#[cfg(test)]
-mod job_tests;
 mod jobs;
 pub mod laws;
-#[cfg(test)]
-mod tests;
 mod threads;
 mod waiting_jobs;
 mod walks;

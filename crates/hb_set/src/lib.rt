@@ -15,8 +15,6 @@ pub mod laws;
 mod scripts;
 mod search;
 mod set;
-#[cfg(test)]
-mod tests;
 mod threads;
 
 pub use commands::{Command, Reply};

@@ -256,6 +256,3 @@ fn record_line(record: &Record) -> LineBuffer
     line.add(b"\n");
     line
 }
-
-#[cfg(test)]
-mod tests;

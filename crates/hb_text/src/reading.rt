@@ -86,6 +86,3 @@ pub fn read_commands(
         steps: Steps::new(steps),
     })
 }
-
-#[cfg(test)]
-mod tests;

@@ -1,0 +1,247 @@
+//! Tables of commands to a plain record set, each with the reply that was worked out by hand. Where something is `None`, memory
+//! was refused, or a row is wrong.
+
+ghost use Rattle.hb_set.specs.Machine.{HasAttributes};
+
+use hb_set::{Command, Reply, Set};
+use hb_space::form::{BMAX, KMAX};
+use hb_space::{Area, Body, NoMemory, Point, Record};
+use std::alloc::Global;
+
+/// A set of records of one number of attributes.
+#[derive(Drop)]
+pub(crate) struct Trial {
+    alloc: Global,
+    attributes: usize,
+    set: Set,
+    ghost alike: { HasAttributes attributes set },
+}
+
+impl Trial {
+    pub(crate) fn new(alloc: Global, attributes: usize) -> Result<Trial, NoMemory> {
+        Ok(Trial {
+            alloc,
+            attributes,
+            set: Set::new(alloc)?,
+        })
+    }
+
+    /// Whether the command that the line spells has this reply.
+    pub(crate) fn is_told(&mut self, line: &str, want: &str) -> bool {
+        let Some(command) = command_of(line) else {
+            return false;
+        };
+        if command.attributes() != self.attributes {
+            return false;
+        }
+        let reply = self.set.answer(&command);
+        let mut text = String::new(self.alloc);
+        show(&mut text, &reply).is_some() && text.as_str() == want
+    }
+}
+
+/// The command `insert POINT BODY`, `delete POINT`, `lookup POINT` or `search POINT..POINT`, where a point is written as its
+/// values with commas between them.
+fn command_of(line: &str) -> Option<Command> {
+    let mut words = line.split_whitespace();
+    let verb = words.next()?;
+    let place = words.next()?;
+    match verb {
+        "insert" => {
+            let key = point_of(place)?;
+            let body = body_of(words.next().unwrap_or(""))?;
+            Some(Command::Insert(Record { key, body }))
+        }
+        "delete" => Some(Command::Delete(point_of(place)?)),
+        "lookup" => Some(Command::Lookup(point_of(place)?)),
+        "search" => Some(Command::Search(area_of(place)?)),
+        _ => None,
+    }
+}
+
+fn body_of(word: &str) -> Option<Body> {
+    let bytes = word.as_bytes();
+    if bytes.len() > BMAX {
+        return None;
+    }
+    Some(Body::new(bytes))
+}
+
+fn point_of(text: &str) -> Option<Point> {
+    let mut values = [0; KMAX];
+    let mut count = 0;
+    for word in text.split(',') {
+        if count >= KMAX {
+            return None;
+        }
+        values[count] = word.parse().ok()?;
+        count += 1;
+    }
+    if count == 0 || count > KMAX {
+        return None;
+    }
+    Some(Point::new(&values[..count]))
+}
+
+fn area_of(text: &str) -> Option<Area> {
+    let (lo, hi) = text.split_once("..")?;
+    let lo = point_of(lo)?;
+    let hi = point_of(hi)?;
+    if lo.attributes() != hi.attributes() {
+        return None;
+    }
+    Area::between(lo, hi)
+}
+
+/// Adds a reply as text: `found=BODY`, `within POINT=BODY ..`, or its name.
+fn show(text: &mut String, reply: &Reply) -> Option<()> {
+    match reply {
+        Reply::Done => text.push_str("done").ok(),
+        Reply::Duplicate => text.push_str("duplicate").ok(),
+        Reply::Absent => text.push_str("absent").ok(),
+        Reply::Found(body) => {
+            text.push_str("found").ok()?;
+            show_body(text, body)
+        }
+        Reply::Missing => text.push_str("missing").ok(),
+        Reply::Within(records) => {
+            text.push_str("within").ok()?;
+            show_records(text, records.as_slice())
+        }
+        Reply::Full | Reply::NoMemory | Reply::ReadFault => None,
+    }
+}
+
+fn show_records(text: &mut String, records: &[Record]) -> Option<()> {
+    for each in records {
+        show_point(text, &each.key)?;
+        show_body(text, &each.body)?;
+    }
+    Some(())
+}
+
+fn show_point(text: &mut String, point: &Point) -> Option<()> {
+    let mut mark = ' ';
+    for value in point.values() {
+        write!(text, "{mark}{value}").ok()?;
+        mark = ',';
+    }
+    Some(())
+}
+
+fn show_body(text: &mut String, body: &Body) -> Option<()> {
+    text.push('=').ok()?;
+    for byte in body.bytes() {
+        text.push(char::from(*byte)).ok()?;
+    }
+    Some(())
+}
+
+/// Commands over points of one attribute, and the replies.
+const ONE: [(&str, &str); 26] = [
+    ("lookup 5", "missing"),
+    ("delete 5", "absent"),
+    ("search 0..18446744073709551615", "within"),
+    ("insert 5 five", "done"),
+    ("insert 5 other", "duplicate"),
+    ("lookup 5", "found=five"),
+    ("insert 18446744073709551615 last", "done"),
+    ("insert 0 first", "done"),
+    ("insert 7 seven", "done"),
+    ("insert 6", "done"),
+    ("lookup 6", "found="),
+    ("lookup 4", "missing"),
+    (
+        "search 0..18446744073709551615",
+        "within 0=first 5=five 6= 7=seven 18446744073709551615=last",
+    ),
+    ("search 6..6", "within 6="),
+    ("search 8..18446744073709551614", "within"),
+    ("search 5..7", "within 5=five 6= 7=seven"),
+    ("search 0..0", "within 0=first"),
+    (
+        "search 18446744073709551615..18446744073709551615",
+        "within 18446744073709551615=last",
+    ),
+    ("delete 6", "done"),
+    ("delete 6", "absent"),
+    ("lookup 6", "missing"),
+    ("lookup 7", "found=seven"),
+    ("insert 6 again", "done"),
+    ("delete 0", "done"),
+    ("delete 18446744073709551615", "done"),
+    (
+        "search 0..18446744073709551615",
+        "within 5=five 6=again 7=seven",
+    ),
+];
+
+/// Commands over points of two attributes, and the replies.
+const TWO: [(&str, &str); 16] = [
+    ("insert 2,1 c", "done"),
+    ("insert 1,9 b", "done"),
+    ("insert 3,0 e", "done"),
+    ("insert 1,2 a", "done"),
+    ("insert 2,9 d", "done"),
+    ("insert 2,1 x", "duplicate"),
+    ("search 0,0..9,9", "within 1,2=a 1,9=b 2,1=c 2,9=d 3,0=e"),
+    ("search 1,1..2,8", "within 1,2=a 2,1=c"),
+    ("search 1,9..3,9", "within 1,9=b 2,9=d"),
+    ("search 2,1..2,1", "within 2,1=c"),
+    ("search 2,2..2,8", "within"),
+    ("search 1,0..3,0", "within 3,0=e"),
+    ("lookup 1,9", "found=b"),
+    ("lookup 9,1", "missing"),
+    ("delete 2,1", "done"),
+    ("search 0,0..9,9", "within 1,2=a 1,9=b 2,9=d 3,0=e"),
+];
+
+/// Commands over points of three attributes, and the replies.
+const THREE: [(&str, &str); 8] = [
+    ("insert 1,1,2 b", "done"),
+    ("insert 1,1,1 a", "done"),
+    ("insert 0,18446744073709551615,0 z", "done"),
+    (
+        "search 0,0,0..1,18446744073709551615,1",
+        "within 0,18446744073709551615,0=z 1,1,1=a",
+    ),
+    ("search 1,1,2..1,1,2", "within 1,1,2=b"),
+    ("lookup 1,1,1", "found=a"),
+    ("delete 1,1,1", "done"),
+    ("lookup 1,1,1", "missing"),
+];
+
+/// Commands over points of four attributes, and the replies.
+const FOUR: [(&str, &str); 7] = [
+    ("search 0,0,0,0..0,0,0,0", "within"),
+    ("insert 4,3,2,1 down", "done"),
+    ("insert 1,2,3,4 up", "done"),
+    ("search 1,2,3,1..4,3,3,4", "within 1,2,3,4=up"),
+    ("search 1,2,2,1..4,3,3,4", "within 1,2,3,4=up 4,3,2,1=down"),
+    ("delete 4,3,2,1", "done"),
+    ("delete 4,3,2,1", "absent"),
+];
+
+/// How many records there are behind these commands to an empty set, or the place of the first one that has another reply.
+fn answered(alloc: Global, attributes: usize, rows: &[(&str, &str)]) -> Result<usize, usize> {
+    let Ok(mut trial) = Trial::new(alloc, attributes) else {
+        return Err(0);
+    };
+    if !trial.set.is_empty() {
+        return Err(0);
+    }
+    for (place, (line, reply)) in rows.iter().enumerate() {
+        if !trial.is_told(line, reply) {
+            return Err(place);
+        }
+    }
+    Ok(trial.set.len())
+}
+
+#[test]
+fn commands_are_answered(rt: HostRuntime) {
+    assert_eq!(rt; answered(rt.alloc(), 1, &ONE), Ok(3));
+    assert_eq!(rt; answered(rt.alloc(), 2, &TWO), Ok(4));
+    assert_eq!(rt; answered(rt.alloc(), 3, &THREE), Ok(2));
+    assert_eq!(rt; answered(rt.alloc(), 4, &FOUR), Ok(1));
+}
