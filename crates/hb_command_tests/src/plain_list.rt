@@ -1,17 +1,18 @@
-//! A record set compared with a plain list of records, over commands that are drawn.
+//! A record set compared with a plain list of what each point has, over commands that are drawn. The points have two values
+//! below 4.
 
 use crate::sets::Trial;
 use std::alloc::Global;
 
-/// A record of the plain list: its two values, and its body.
-type Plain = (u64, u64, char);
+/// What each point has, in the order of the points.
+type Plain = [Option<char>; 16];
 
-/// A record set, and a plain list of records in any order.
+/// A record set, and the plain list.
 #[derive(Drop)]
 struct Both {
     alloc: Global,
     trial: Trial,
-    records: Vec<Plain>,
+    plain: Plain,
 }
 
 /// The next of a row of numbers below 4 that look random.
@@ -22,77 +23,68 @@ fn drawn(seed: &mut u64) -> u64 {
     *seed >> 62
 }
 
-/// The record at the point of another.
-fn found(records: &[Plain], one: Plain) -> Option<Plain> {
-    records
-        .iter()
-        .find(|each| each.0 == one.0 && each.1 == one.1)
-        .copied()
-}
-
-/// Adds the reply of a plain list to the line `VERB A,B BODY`.
-fn reply(text: &mut String, records: &mut Vec<Plain>, verb: &str, one: Plain) -> Option<()> {
-    let there = found(records, one);
-    match (verb, there) {
+/// Adds the reply of the plain list to the line `VERB A,B BODY`.
+fn reply(
+    text: &mut String,
+    plain: &mut Plain,
+    verb: &str,
+    a: u64,
+    b: u64,
+    body: char,
+) -> Option<()> {
+    let place = ((a % 4) * 4 + b % 4) as usize;
+    match (verb, plain[place]) {
         ("insert", None) => {
-            records.push(one).ok()?;
+            plain[place] = Some(body);
             text.push_str("done").ok()
         }
         ("insert", Some(_)) => text.push_str("duplicate").ok(),
         ("delete", None) => text.push_str("absent").ok(),
         ("delete", Some(_)) => {
-            records.retain(|each| each.0 != one.0 || each.1 != one.1);
+            plain[place] = None;
             text.push_str("done").ok()
         }
         (_, None) => text.push_str("missing").ok(),
-        (_, Some(there)) => write!(text, "found={}", there.2).ok(),
+        (_, Some(there)) => write!(text, "found={there}").ok(),
     }
 }
 
-/// The records in a box, in their order.
-fn within(alloc: Global, records: &[Plain], lo: (u64, u64), hi: (u64, u64)) -> Option<Vec<Plain>> {
-    let mut held = Vec::new(alloc);
-    for each in records {
-        if lo.0 <= each.0 && each.0 <= hi.0 && lo.1 <= each.1 && each.1 <= hi.1 {
-            held.push(*each).ok()?;
-        }
-    }
-    held.sort().ok()?;
-    Some(held)
-}
-
-/// Adds them as the reply to a search.
-fn show_held(text: &mut String, held: &[Plain]) -> Option<()> {
+/// Adds its reply to a search.
+fn reply_within(text: &mut String, plain: &Plain, lo: (u64, u64), hi: (u64, u64)) -> Option<()> {
     text.push_str("within").ok()?;
-    for each in held {
-        write!(text, " {},{}={}", each.0, each.1, each.2).ok()?;
+    for (place, there) in (0..16).zip(plain) {
+        let (a, b) = (place / 4, place % 4);
+        if lo.0 <= a && a <= hi.0 && lo.1 <= b && b <= hi.1 {
+            if let Some(body) = there {
+                write!(text, " {a},{b}={body}").ok()?;
+            }
+        }
     }
     Some(())
 }
 
 impl Both {
     /// Whether both reply the same to a line `VERB A,B BODY`.
-    fn agree(&mut self, verb: &str, one: Plain) -> Option<bool> {
-        let line = format!(in self.alloc; "{verb} {},{} {}", one.0, one.1, one.2).ok()?;
+    fn agree(&mut self, verb: &str, a: u64, b: u64, body: char) -> Option<bool> {
+        let line = format!(in self.alloc; "{verb} {a},{b} {body}").ok()?;
         let mut text = String::new(self.alloc);
-        reply(&mut text, &mut self.records, verb, one)?;
+        reply(&mut text, &mut self.plain, verb, a, b, body)?;
         Some(self.trial.is_told(&line, &text))
     }
 
     /// Whether they do to a search.
     fn agree_within(&mut self, lo: (u64, u64), hi: (u64, u64)) -> Option<bool> {
         let line = format!(in self.alloc; "search {},{}..{},{}", lo.0, lo.1, hi.0, hi.1).ok()?;
-        let held = within(self.alloc, &self.records, lo, hi)?;
         let mut text = String::new(self.alloc);
-        show_held(&mut text, &held)?;
+        reply_within(&mut text, &self.plain, lo, hi)?;
         Some(self.trial.is_told(&line, &text))
     }
 
     /// Whether they do to two inserts, a delete, a lookup and a search that are drawn.
     fn agree_on_five(&mut self, seed: &mut u64, body: char) -> bool {
         for verb in ["insert", "delete", "lookup", "insert"] {
-            let one = (drawn(seed), drawn(seed), body);
-            if self.agree(verb, one) != Some(true) {
+            let (a, b) = (drawn(seed), drawn(seed));
+            if self.agree(verb, a, b, body) != Some(true) {
                 return false;
             }
         }
@@ -104,11 +96,10 @@ impl Both {
 
 #[test]
 fn same_as_a_plain_list(rt: HostRuntime) {
-    let alloc = rt.alloc();
     let mut both = Both {
-        alloc,
-        trial: Trial::new(alloc, 2).expect(&rt, "memory"),
-        records: Vec::new(alloc),
+        alloc: rt.alloc(),
+        trial: Trial::new(rt.alloc(), 2).expect(&rt, "memory"),
+        plain: [None; 16],
     };
     let mut seed = 7;
     for body in "abcdefghijklmnopqrstuvwxyzABCDEFGHIJKLMNOPQRSTUVWXYZ".chars() {

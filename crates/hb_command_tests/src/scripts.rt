@@ -4,13 +4,8 @@ use hb_set::{Command, Line, Script};
 use hb_text::{NumberFault, TextError, TextRule, read_commands, read_number};
 use std::alloc::Global;
 
-/// What a call answered: how many commands and steps there are, or the bad line.
-#[derive(Clone, Copy, Debug, PartialEq, Eq)]
-enum Outcome {
-    Read(usize, usize),
-    Bad(u32, TextRule),
-    NoMemory,
-}
+/// What is read of a text: how many commands and steps there are, or the bad line and the rule that it breaks.
+type Outcome = Result<(usize, usize), (u32, TextRule)>;
 
 /// Words, and the numbers that they say.
 const NUMBERS: [(&str, Result<u64, NumberFault>); 14] = [
@@ -37,296 +32,163 @@ fn number_words(rt: HostRuntime) {
     }
 }
 
-/// What is read of a text of one attribute, or else of two, in which step lines may stand.
-fn answer_to(alloc: Global, is_two: bool, step_lines: bool, text: &[u8]) -> Outcome {
-    let read = if is_two {
-        read_commands(alloc, text, 2, step_lines)
-    } else {
-        read_commands(alloc, text, 1, step_lines)
-    };
-    match read {
-        Ok(script) => Outcome::Read(script.lines.as_slice().len(), script.steps.as_slice().len()),
-        Err(TextError::Bad(bad)) => Outcome::Bad(bad.line, bad.rule),
-        Err(TextError::NoMemory) => Outcome::NoMemory,
+/// What is read of a text of so many attributes, in which step lines may stand or not.
+fn answer_to(alloc: Global, attributes: u8, step_lines: bool, text: &[u8]) -> Option<Outcome> {
+    if attributes == 0 || attributes > 4 {
+        return None;
+    }
+    match read_commands(alloc, text, attributes, step_lines) {
+        Ok(script) => Some(Ok((script.lines.as_slice().len(), script.steps.as_slice().len()))),
+        Err(TextError::Bad(bad)) => Some(Err((bad.line, bad.rule))),
+        Err(TextError::NoMemory) => None,
     }
 }
 
-/// Whether the text has two attributes, or else one; whether step lines may stand in it; the text; and what is read of it.
-const TEXTS: [(bool, bool, &str, Outcome); 60] = [
-    (false, false, "", Outcome::Read(0, 0)),
-    (false, false, "\n", Outcome::Read(0, 0)),
-    (false, false, "1 lookup 1", Outcome::Read(1, 0)),
-    (false, false, "1 lookup 1\n", Outcome::Read(1, 0)),
+/// The attributes, whether step lines may stand in the text, the text, and what is read of it.
+const TEXTS: [(u8, bool, &str, Outcome); 60] = [
+    (1, false, "", Ok((0, 0))),
+    (1, false, "\n", Ok((0, 0))),
+    (1, false, "1 lookup 1", Ok((1, 0))),
+    (1, false, "1 lookup 1\n", Ok((1, 0))),
+    (1, false, "\n\n1 lookup 1\n\n2 delete 1\n", Ok((2, 0))),
+    (1, false, "1 insert 1 =", Ok((1, 0))),
     (
-        false,
-        false,
-        "\n\n1 lookup 1\n\n2 delete 1\n",
-        Outcome::Read(2, 0),
-    ),
-    (false, false, "1 insert 1 =", Outcome::Read(1, 0)),
-    (
-        false,
+        1,
         false,
         "1 insert 1 =abcdefghijklmnopqrstuvwxyzabcdef",
-        Outcome::Read(1, 0),
+        Ok((1, 0)),
     ),
     (
-        false,
+        1,
         false,
         "1 insert 1 =abcdefghijklmnopqrstuvwxyzabcdefg",
-        Outcome::Bad(1, TextRule::BadBody),
+        Err((1, TextRule::BadBody)),
     ),
+    (1, false, "1 lookup 1\r\n", Err((1, TextRule::BadByte))),
+    (1, false, "1 insert 1 =\u{7f}", Err((1, TextRule::BadByte))),
+    (1, false, " 1 lookup 1", Err((1, TextRule::BadSpacing))),
+    (1, false, "1 lookup 1 \n", Err((1, TextRule::BadSpacing))),
+    (1, false, "1  lookup 1", Err((1, TextRule::BadSpacing))),
+    (1, false, "\n \n", Err((2, TextRule::BadSpacing))),
+    (1, false, "step 1", Err((1, TextRule::BadStep))),
+    (1, false, "0 lookup 1", Err((1, TextRule::BadSession))),
+    (1, false, "17 lookup 1", Err((1, TextRule::BadSession))),
+    (1, false, "01 lookup 1", Err((1, TextRule::BadSession))),
+    (1, false, "x lookup 1", Err((1, TextRule::BadSession))),
+    (1, false, "1", Err((1, TextRule::BadVerb))),
+    (1, false, "1 change 1 =a", Err((1, TextRule::BadVerb))),
+    (1, false, "1 lookup", Err((1, TextRule::BadCount))),
+    (1, false, "1 lookup 1 2", Err((1, TextRule::BadCount))),
+    (1, false, "1 insert 1", Err((1, TextRule::BadCount))),
+    (1, false, "1 lookup 01", Err((1, TextRule::BadNumber))),
+    (1, false, "1 lookup -1", Err((1, TextRule::BadNumber))),
+    (1, false, "1 lookup 1a", Err((1, TextRule::BadNumber))),
     (
-        false,
-        false,
-        "1 lookup 1\r\n",
-        Outcome::Bad(1, TextRule::BadByte),
-    ),
-    (
-        false,
-        false,
-        "1 insert 1 =\u{7f}",
-        Outcome::Bad(1, TextRule::BadByte),
-    ),
-    (
-        false,
-        false,
-        " 1 lookup 1",
-        Outcome::Bad(1, TextRule::BadSpacing),
-    ),
-    (
-        false,
-        false,
-        "1 lookup 1 \n",
-        Outcome::Bad(1, TextRule::BadSpacing),
-    ),
-    (
-        false,
-        false,
-        "1  lookup 1",
-        Outcome::Bad(1, TextRule::BadSpacing),
-    ),
-    (false, false, "\n \n", Outcome::Bad(2, TextRule::BadSpacing)),
-    (false, false, "step 1", Outcome::Bad(1, TextRule::BadStep)),
-    (
-        false,
-        false,
-        "0 lookup 1",
-        Outcome::Bad(1, TextRule::BadSession),
-    ),
-    (
-        false,
-        false,
-        "17 lookup 1",
-        Outcome::Bad(1, TextRule::BadSession),
-    ),
-    (
-        false,
-        false,
-        "01 lookup 1",
-        Outcome::Bad(1, TextRule::BadSession),
-    ),
-    (
-        false,
-        false,
-        "x lookup 1",
-        Outcome::Bad(1, TextRule::BadSession),
-    ),
-    (false, false, "1", Outcome::Bad(1, TextRule::BadVerb)),
-    (
-        false,
-        false,
-        "1 change 1 =a",
-        Outcome::Bad(1, TextRule::BadVerb),
-    ),
-    (
-        false,
-        false,
-        "1 lookup",
-        Outcome::Bad(1, TextRule::BadCount),
-    ),
-    (
-        false,
-        false,
-        "1 lookup 1 2",
-        Outcome::Bad(1, TextRule::BadCount),
-    ),
-    (
-        false,
-        false,
-        "1 insert 1",
-        Outcome::Bad(1, TextRule::BadCount),
-    ),
-    (
-        false,
-        false,
-        "1 lookup 01",
-        Outcome::Bad(1, TextRule::BadNumber),
-    ),
-    (
-        false,
-        false,
-        "1 lookup -1",
-        Outcome::Bad(1, TextRule::BadNumber),
-    ),
-    (
-        false,
-        false,
-        "1 lookup 1a",
-        Outcome::Bad(1, TextRule::BadNumber),
-    ),
-    (
-        false,
+        1,
         false,
         "1 lookup 18446744073709551616",
-        Outcome::Bad(1, TextRule::TooLarge),
+        Err((1, TextRule::TooLarge)),
     ),
-    (false, false, "1 search 2 2", Outcome::Read(1, 0)),
+    (1, false, "1 search 2 2", Ok((1, 0))),
+    (1, false, "1 search 2 1", Err((1, TextRule::EmptyBox))),
+    (1, false, "1 insert 1 x", Err((1, TextRule::BadBody))),
     (
-        false,
-        false,
-        "1 search 2 1",
-        Outcome::Bad(1, TextRule::EmptyBox),
-    ),
-    (
-        false,
-        false,
-        "1 insert 1 x",
-        Outcome::Bad(1, TextRule::BadBody),
-    ),
-    (
-        false,
+        1,
         false,
         "1 lookup 1\n\n1 lookup x\n0 lookup 1\n",
-        Outcome::Bad(3, TextRule::BadNumber),
+        Err((3, TextRule::BadNumber)),
     ),
-    (
-        false,
-        false,
-        "0 lookup 01",
-        Outcome::Bad(1, TextRule::BadSession),
-    ),
-    (
-        false,
-        false,
-        "1 search 2 1 9",
-        Outcome::Bad(1, TextRule::BadCount),
-    ),
+    (1, false, "0 lookup 01", Err((1, TextRule::BadSession))),
+    (1, false, "1 search 2 1 9", Err((1, TextRule::BadCount))),
     // of two values the first that is none decides
     (
-        true,
+        2,
         false,
         "1 lookup x 18446744073709551616",
-        Outcome::Bad(1, TextRule::BadNumber),
+        Err((1, TextRule::BadNumber)),
     ),
     (
-        true,
+        2,
         false,
         "1 lookup 18446744073709551616 x",
-        Outcome::Bad(1, TextRule::TooLarge),
+        Err((1, TextRule::TooLarge)),
     ),
-    (
-        true,
-        false,
-        "1 lookup 1",
-        Outcome::Bad(1, TextRule::BadCount),
-    ),
-    (
-        true,
-        false,
-        "1 search 1 2 4 3",
-        Outcome::Bad(1, TextRule::EmptyBox),
-    ),
+    (2, false, "1 lookup 1", Err((1, TextRule::BadCount))),
+    (2, false, "1 search 1 2 4 3", Err((1, TextRule::EmptyBox))),
     // step lines
-    (false, true, "", Outcome::Read(0, 0)),
-    (false, true, "step 1", Outcome::Read(0, 1)),
-    (false, true, "step 1x3 2\n", Outcome::Read(0, 4)),
-    (false, true, "step p c f 16x2", Outcome::Read(0, 5)),
+    (1, true, "", Ok((0, 0))),
+    (1, true, "step 1", Ok((0, 1))),
+    (1, true, "step 1x3 2\n", Ok((0, 4))),
+    (1, true, "step p c f 16x2", Ok((0, 5))),
     (
-        false,
+        1,
         true,
         "1 lookup 1\nstep 1 px2\n\n2 delete 3\nstep f",
-        Outcome::Read(2, 4),
+        Ok((2, 4)),
     ),
-    (false, true, "step", Outcome::Bad(1, TextRule::BadStep)),
-    (false, true, "step 0", Outcome::Bad(1, TextRule::BadStep)),
-    (false, true, "step 17", Outcome::Bad(1, TextRule::BadStep)),
-    (false, true, "step 01", Outcome::Bad(1, TextRule::BadStep)),
-    (false, true, "step 1x0", Outcome::Bad(1, TextRule::BadStep)),
-    (false, true, "step 1x01", Outcome::Bad(1, TextRule::BadStep)),
-    (
-        false,
-        true,
-        "step 1x1000001",
-        Outcome::Bad(1, TextRule::BadStep),
-    ),
-    (false, true, "step px", Outcome::Bad(1, TextRule::BadStep)),
-    (false, true, "step x3", Outcome::Bad(1, TextRule::BadStep)),
-    (false, true, "step p x3", Outcome::Bad(1, TextRule::BadStep)),
-    (
-        false,
-        true,
-        "step 1x2x3",
-        Outcome::Bad(1, TextRule::BadStep),
-    ),
-    (false, true, "step pp", Outcome::Bad(1, TextRule::BadStep)),
-    (
-        false,
-        true,
-        "step 1\nstep 2 q",
-        Outcome::Bad(2, TextRule::BadStep),
-    ),
-    (
-        false,
-        true,
-        "step 1 ",
-        Outcome::Bad(1, TextRule::BadSpacing),
-    ),
-    (false, true, "Step 1", Outcome::Bad(1, TextRule::BadSession)),
+    (1, true, "step", Err((1, TextRule::BadStep))),
+    (1, true, "step 0", Err((1, TextRule::BadStep))),
+    (1, true, "step 17", Err((1, TextRule::BadStep))),
+    (1, true, "step 01", Err((1, TextRule::BadStep))),
+    (1, true, "step 1x0", Err((1, TextRule::BadStep))),
+    (1, true, "step 1x01", Err((1, TextRule::BadStep))),
+    (1, true, "step 1x1000001", Err((1, TextRule::BadStep))),
+    (1, true, "step px", Err((1, TextRule::BadStep))),
+    (1, true, "step x3", Err((1, TextRule::BadStep))),
+    (1, true, "step p x3", Err((1, TextRule::BadStep))),
+    (1, true, "step 1x2x3", Err((1, TextRule::BadStep))),
+    (1, true, "step pp", Err((1, TextRule::BadStep))),
+    (1, true, "step 1\nstep 2 q", Err((2, TextRule::BadStep))),
+    (1, true, "step 1 ", Err((1, TextRule::BadSpacing))),
+    (1, true, "Step 1", Err((1, TextRule::BadSession))),
     // the longest schedule, and one step more
     (
-        false,
+        1,
         true,
         "step 1x1000000 2x1000000 3x1000000 4x1000000 5x1000000 6x1000000 7x1000000 8x1000000 9x1000000 px1000000\n",
-        Outcome::Read(0, 10_000_000),
+        Ok((0, 10_000_000)),
     ),
     (
-        false,
+        1,
         true,
         "step 1x1000000 2x1000000 3x1000000 4x1000000 5x1000000 6x1000000 7x1000000 8x1000000 9x1000000 px1000000\nstep 1\n",
-        Outcome::Bad(2, TextRule::BadStep),
+        Err((2, TextRule::BadStep)),
     ),
 ];
 
 #[test]
 fn texts_are_read(rt: HostRuntime) {
-    for (is_two, step_lines, text, want) in TEXTS {
-        let got = answer_to(rt.alloc(), is_two, step_lines, text.as_bytes());
-        assert_eq!(rt; got, want, "{text}");
+    for (attributes, step_lines, text, want) in TEXTS {
+        let got = answer_to(rt.alloc(), attributes, step_lines, text.as_bytes());
+        assert_eq!(rt; got, Some(want), "{text}");
     }
 }
 
 /// The byte of a text, how often it stands there, and what is read of it: a line of 256 bytes and 1,000,000 lines, and one
 /// more of each.
 const LONG: [(u8, usize, Outcome); 4] = [
-    (b'a', 256, Outcome::Bad(1, TextRule::BadSession)),
-    (b'a', 257, Outcome::Bad(1, TextRule::LongLine)),
-    (b'\n', 1_000_000, Outcome::Read(0, 0)),
-    (b'\n', 1_000_001, Outcome::Bad(1_000_001, TextRule::TooMany)),
+    (b'a', 256, Err((1, TextRule::BadSession))),
+    (b'a', 257, Err((1, TextRule::LongLine))),
+    (b'\n', 1_000_000, Ok((0, 0))),
+    (b'\n', 1_000_001, Err((1_000_001, TextRule::TooMany))),
 ];
 
 /// What is read of such a text.
-fn answer_to_long(alloc: Global, byte: u8, count: usize) -> Outcome {
+fn answer_to_long(alloc: Global, byte: u8, count: usize) -> Option<Outcome> {
     match vec![in alloc; byte; count] {
-        Ok(text) => answer_to(alloc, false, false, &text),
-        Err(_) => Outcome::NoMemory,
+        Ok(text) => answer_to(alloc, 1, false, &text),
+        Err(_) => None,
     }
 }
 
 #[test]
 fn limits(rt: HostRuntime) {
     for (byte, count, want) in LONG {
-        assert_eq!(rt; answer_to_long(rt.alloc(), byte, count), want, "{count}");
+        assert_eq!(rt;
+            answer_to_long(rt.alloc(), byte, count),
+            Some(want),
+            "{count}"
+        );
     }
 }
 

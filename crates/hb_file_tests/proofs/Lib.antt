@@ -1,1 +1,2 @@
+pub mod LightPages
 pub mod Untold

@@ -1,6 +1,6 @@
 //! Operations on files of one page, by hand: what their groups are, in memory and on the disk, and a tree that grows: a page
 //! is split, one above it is made and names both, and the log makes the same pages again. The disk tells nothing.
-ghost use Rattle.std.specs.Prelude.{◌≡◌, false};
+ghost use Rattle.std.specs.Prelude.{◌≡◌, false, IfSome};
 ghost use Rattle.hb_store.specs.Seen.{seen_as};
 
 use crate::stores::{EMPTY, FOUR, NEVER, POINTS, SPLIT, with_groups};
@@ -73,7 +73,13 @@ fn marks(meta: &Meta) -> [u32; 4] {
 
 /// How many of the four pages are in memory.
 fn there(store: &Store<RotDisk>) -> usize {
-    (1..5).filter(|id| store.get(*id).is_some()).count()
+    let mut count = 0;
+    for id in 1..5 {
+        if store.get(id).is_some() {
+            count = usize::wrapping_add(count, 1);
+        }
+    }
+    count
 }
 
 /// Whether this comes of so many of the operations.

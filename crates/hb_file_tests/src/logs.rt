@@ -14,7 +14,7 @@ const ONE: Meta = Meta { pages: 1, ..FOUR };
 const TWO: Meta = Meta { pages: 2, ..FOUR };
 
 /// What a log begins with.
-#[derive(Clone, Copy, PartialEq, Eq)]
+#[derive(Clone, Copy)]
 enum Front {
     /// Nothing.
     None,

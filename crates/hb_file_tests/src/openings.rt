@@ -71,14 +71,10 @@ const LEFT: [(usize, &[u8]); 4] = [
 ];
 
 /// What an opening answers: the root, the height, the high mark and the pages in use, with the number of records; or why not.
-#[derive(Clone, Copy, Debug, PartialEq, Eq)]
-enum Answer {
-    Opened([u32; 4], u64),
-    Refused(OpenFault),
-}
+type Answer = Result<([u32; 4], u64), OpenFault>;
 
 /// What the file of two levels answers.
-const GOOD: Answer = Answer::Opened([3, 2, 3, 3], 3);
+const GOOD: Answer = Ok(([3, 2, 3, 3], 3));
 
 fn marks(meta: &Meta) -> [u32; 4] {
     [meta.root, u32::from(meta.height), meta.high, meta.live]
@@ -107,9 +103,9 @@ fn open(alloc: Global, disk: MemDisk) -> (Answer, MemDisk) {
     match recover(alloc, disk) {
         Ok((store, count)) => {
             let said = marks(store.meta());
-            (Answer::Opened(said, count), store.into_disk())
+            (Ok((said, count)), store.into_disk())
         }
-        Err((fault, disk)) => (Answer::Refused(fault), disk),
+        Err((fault, disk)) => (Err(fault), disk),
     }
 }
 
@@ -127,13 +123,18 @@ fn opened(alloc: Global, failing: u64) -> Option<(Answer, MemDisk)> {
 
 /// Whether these bytes stand at an offset.
 fn stands(bytes: &[u8], at: usize, want: &[u8]) -> bool {
-    bytes.get(at..).is_some_and(|rest| rest.starts_with(want))
+    match bytes.get(at..) {
+        Some(rest) => rest.starts_with(want),
+        None => false,
+    }
 }
 
 /// Whether a disk as it reads opens to the file.
 fn opens_again(alloc: Global, disk: &MemDisk) -> bool {
-    let bytes = disk.bytes().to_vec(alloc).ok();
-    bytes.map(|bytes| answer_of(alloc, bytes)) == Some(GOOD)
+    match disk.bytes().to_vec(alloc) {
+        Ok(bytes) => answer_of(alloc, bytes) == GOOD,
+        Err(_) => false,
+    }
 }
 
 #[test]
@@ -210,7 +211,7 @@ const CALLS: u64 = 25;
 fn a_failing_call_stops_an_opening(rt: HostRuntime) {
     for call in 0..CALLS {
         let (said, disk) = opened(rt.alloc(), call).expect(&rt, "memory");
-        assert_eq!(rt; said, Answer::Refused(OpenFault::DiskFault), "{call}");
+        assert_eq!(rt; said, Err(OpenFault::DiskFault), "{call}");
         assert_eq!(rt; disk.calls(), call.saturating_add(1));
         assert!(rt; opens_again(rt.alloc(), &disk), "{call}");
     }
@@ -273,7 +274,7 @@ fn damaged_files_are_refused(rt: HostRuntime) {
     for (size, at, piece, fault) in DAMAGES {
         let bytes = file(rt.alloc(), size, at, piece).expect(&rt, "memory");
         let said = answer_of(rt.alloc(), bytes);
-        assert_eq!(rt; said, Answer::Refused(fault), "{size} {at}");
+        assert_eq!(rt; said, Err(fault), "{size} {at}");
     }
 }
 
@@ -300,7 +301,7 @@ fn made(alloc: Global, byte: u8) -> Option<Answer> {
 fn a_new_file_opens(rt: HostRuntime) {
     // of zeros, and of noise that is an open gate everywhere
     for byte in [0, 165] {
-        let want = Answer::Opened([1, 1, 1, 1], 0);
+        let want = Ok(([1, 1, 1, 1], 0));
         assert_eq!(rt; made(rt.alloc(), byte), Some(want), "{byte}");
     }
 }

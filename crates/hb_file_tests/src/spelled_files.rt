@@ -16,113 +16,116 @@ use hb_sound::{AuditStop, PageStop, Pages, audit};
 use hb_space::form::{KMAX, PAGE};
 use hb_space::{Area, Body, NoMemory, Point, Record, Records};
 use std::alloc::Global;
-use std::test::Fail;
 
-fn value_of(word: &str) -> Result<u64, Fail> {
-    Ok(if word == "*" { u64::MAX } else { word.parse()? })
+fn value_of(word: &str) -> Option<u64> {
+    if word == "*" {
+        Some(u64::MAX)
+    } else {
+        word.parse().ok()
+    }
 }
 
 // The least and the greatest value of an attribute.
-fn interval_of(word: &str) -> Result<(u64, u64), Fail> {
+fn interval_of(word: &str) -> Option<(u64, u64)> {
     if word == "*" {
-        return Ok((0, u64::MAX));
+        return Some((0, u64::MAX));
     }
-    let (least, greatest) = word.split_once('-').ok_or("no interval")?;
-    Ok((value_of(least)?, value_of(greatest)?))
+    let (least, greatest) = word.split_once('-')?;
+    Some((value_of(least)?, value_of(greatest)?))
 }
 
-fn point_of(values: &[u64]) -> Result<Point, Fail> {
+fn point_of(values: &[u64]) -> Option<Point> {
     if values.is_empty() || values.len() > KMAX {
-        return Err("no point".into());
+        return None;
     }
-    Ok(Point::new(values))
+    Some(Point::new(values))
 }
 
-fn area_between(lo: Point, hi: Point) -> Result<Area, Fail> {
+fn area_between(lo: Point, hi: Point) -> Option<Area> {
     if lo.attributes() != hi.attributes() {
-        return Err("no box".into());
+        return None;
     }
-    Ok(Area::between(lo, hi).ok_or("an empty box")?)
+    Area::between(lo, hi)
 }
 
-fn area_of(alloc: Global, text: &str) -> Result<Area, Fail> {
+fn area_of(alloc: Global, text: &str) -> Option<Area> {
     let mut lo = Vec::new(alloc);
     let mut hi = Vec::new(alloc);
     for word in text.split(',') {
         let (least, greatest) = interval_of(word)?;
-        lo.push(least)?;
-        hi.push(greatest)?;
+        lo.push(least).ok()?;
+        hi.push(greatest).ok()?;
     }
     area_between(point_of(&lo)?, point_of(&hi)?)
 }
 
-fn record_of(alloc: Global, text: &str) -> Result<Record, Fail> {
+fn record_of(alloc: Global, text: &str) -> Option<Record> {
     let mut values = Vec::new(alloc);
     for word in text.split(',') {
-        values.push(word.parse()?)?;
+        values.push(word.parse().ok()?).ok()?;
     }
-    Ok(Record {
+    Some(Record {
         key: point_of(&values)?,
         body: Body::new(b""),
     })
 }
 
-fn leaf_of(alloc: Global, words: &str) -> Result<Leaf, Fail> {
+fn leaf_of(alloc: Global, words: &str) -> Option<Leaf> {
     if let Some(name) = words.strip_prefix('^') {
-        return Ok(Leaf::Child(name.parse()?));
+        return Some(Leaf::Child(name.parse().ok()?));
     }
     if let Some(name) = words.strip_prefix('>') {
-        return Ok(Leaf::Sibling(name.parse()?));
+        return Some(Leaf::Sibling(name.parse().ok()?));
     }
     let mut records = Vec::new(alloc);
     for word in words.split_whitespace() {
-        records.push(record_of(alloc, word)?)?;
+        records.push(record_of(alloc, word)?).ok()?;
     }
-    Ok(Leaf::Records(Records::new(records)))
+    Some(Leaf::Records(Records::new(records)))
 }
 
 // A cut's attribute and value, and whether the next leaf is on the lower side.
-fn cut_of(word: &str) -> Result<(u8, u64, bool), Fail> {
+fn cut_of(word: &str) -> Option<(u8, u64, bool)> {
     if let Some((axis, value)) = word.split_once('<') {
-        return Ok((axis.parse()?, value.parse()?, true));
+        return Some((axis.parse().ok()?, value.parse().ok()?, true));
     }
     let (axis, value) = word.split_once('≥').unwrap_or(("0", word));
-    Ok((axis.parse()?, value.parse()?, false))
+    Some((axis.parse().ok()?, value.parse().ok()?, false))
 }
 
 // A leaf on the one side of a cut, and what stands already on the other one.
-fn with_leaf(alloc: Global, frag: Frag, text: &str) -> Result<Frag, Fail> {
-    let (cut, words) = text.split_once(':').ok_or("no cut")?;
+fn with_leaf(alloc: Global, frag: Frag, text: &str) -> Option<Frag> {
+    let (cut, words) = text.split_once(':')?;
     let (axis, value, is_below) = cut_of(cut.trim())?;
-    let leaf = Box::new(alloc, Frag::tip(leaf_of(alloc, words.trim())?))?;
-    let frag = Box::new(alloc, frag)?;
+    let leaf = Box::new(alloc, Frag::tip(leaf_of(alloc, words.trim())?)).ok()?;
+    let frag = Box::new(alloc, frag).ok()?;
     let (left, right) = if is_below { (leaf, frag) } else { (frag, leaf) };
-    Ok(Frag::cut(axis, value, left, right))
+    Some(Frag::cut(axis, value, left, right))
 }
 
-fn frag_of(alloc: Global, text: &str) -> Result<Frag, Fail> {
+fn frag_of(alloc: Global, text: &str) -> Option<Frag> {
     let mut leaves = text.split('/');
     let first = leaves.next().unwrap_or("");
     let mut frag = Frag::tip(leaf_of(alloc, first.trim())?);
     for leaf in leaves {
         frag = with_leaf(alloc, frag, leaf)?;
     }
-    Ok(frag)
+    Some(frag)
 }
 
-fn page_of(alloc: Global, text: &str) -> Result<Option<Page>, Fail> {
+fn page_of(alloc: Global, text: &str) -> Option<Option<Page>> {
     if text == "bad" {
-        return Ok(None);
+        return Some(None);
     }
-    let (first, rest) = text.split_once(' ').ok_or("no page")?;
+    let (first, rest) = text.split_once(' ')?;
     if first == "free" {
-        return Ok(Some(Page::Free {
-            next: rest.parse()?,
+        return Some(Some(Page::Free {
+            next: rest.parse().ok()?,
         }));
     }
     let (area, leaves) = rest.split_once(' ').unwrap_or((rest, ""));
-    Ok(Some(Page::Live(LivePage {
-        level: first.parse()?,
+    Some(Some(Page::Live(LivePage {
+        level: first.parse().ok()?,
         area: area_of(alloc, area)?,
         frag: frag_of(alloc, leaves)?,
     })))
@@ -151,7 +154,10 @@ fn is_light(page: &Page) -> bool
     ensures { IsTrue result → IsLight page.now }
 {
     match page {
-        Page::Live(page) => weight(&page.frag).is_some_and(|weight| weight <= PAGE as u32),
+        Page::Live(page) => match weight(&page.frag) {
+            Some(weight) => weight <= PAGE as u32,
+            None => false,
+        },
         Page::Free { .. } => true,
     }
 }
@@ -179,12 +185,7 @@ pub(crate) struct KeptPages {
 
 impl KeptPages {
     /// The pages that are spelled so, with another text for the page of this number, where there is one.
-    pub(crate) fn new(
-        alloc: Global,
-        text: &str,
-        number: usize,
-        other: &str,
-    ) -> Result<KeptPages, Fail> {
+    pub(crate) fn new(alloc: Global, text: &str, number: usize, other: &str) -> Option<KeptPages> {
         let mut pages = Vec::new(alloc);
         for (place, page) in text.split('|').enumerate() {
             let page = if place.wrapping_add(1) == number {
@@ -192,10 +193,10 @@ impl KeptPages {
             } else {
                 page
             };
-            pages.push(page_of(alloc, page.trim())?)?;
+            pages.push(page_of(alloc, page.trim())?).ok()?;
         }
-        let asks = vec![in alloc; 0; pages.len()]?;
-        Ok(KeptPages { alloc, pages, asks })
+        let asks = vec![in alloc; 0; pages.len()].ok()?;
+        Some(KeptPages { alloc, pages, asks })
     }
 
     /// The page of this number, which may be any.
@@ -217,7 +218,12 @@ impl KeptPages {
 
     /// Whether some page was asked for more than twice.
     pub(crate) fn asked_too_often(&self) -> bool {
-        self.asks.iter().any(|asks| *asks > 2)
+        for asks in &self.asks {
+            if *asks > 2 {
+                return true;
+            }
+        }
+        false
     }
 }
 
@@ -262,31 +268,33 @@ pub(crate) fn meta_of(k: u8, marks: Marks) -> Meta
     }
 }
 
-/// What an audit answers, as `ok RECORDS`, `PAGE RULE`, `failed` or `no memory`.
-pub(crate) fn spelled(alloc: Global, answer: Result<u64, AuditStop>) -> Result<String, Fail> {
-    Ok(match answer {
-        Ok(records) => format!(in alloc; "ok {records}")?,
-        Err(AuditStop::Broken { page, rule }) => format!(in alloc; "{page} {rule}")?,
-        Err(AuditStop::Failed) => format!(in alloc; "failed")?,
-        Err(AuditStop::NoMemory) => format!(in alloc; "no memory")?,
-    })
-}
+/// How many records an audit finds, or the page and the rule that it names.
+pub(crate) type Outcome = Result<u64, (u32, u8)>;
 
-/// Fails unless the audit of these pages answers so, and asks for none of them more than twice.
-pub(crate) fn expect_answer(
-    alloc: Global,
-    meta: &Meta,
-    mut pages: KeptPages,
-    wanted: &str,
-) -> Result<(), Fail>
+/// Whether the audit of these pages has this outcome, and asks for none of them more than twice.
+fn has_outcome(alloc: Global, meta: &Meta, mut pages: KeptPages, want: Outcome) -> bool
     requires { IsLayout meta.now }
 {
-    let got = spelled(alloc, audit(alloc, meta, &mut pages))?;
-    if got.as_str() != wanted {
-        return Err("another answer".into());
+    let got = match audit(alloc, meta, &mut pages) {
+        Ok(records) => Ok(records),
+        Err(AuditStop::Broken { page, rule }) => Err((page, rule)),
+        Err(_) => return false,
+    };
+    got == want && !pages.asked_too_often()
+}
+
+/// The same of a file of so many attributes and its text, with another text for the page of this number, where there is one.
+pub(crate) fn is_audited(
+    alloc: Global,
+    k: u8,
+    marks: Marks,
+    text: &str,
+    number: usize,
+    other: &str,
+    want: Outcome,
+) -> bool {
+    match KeptPages::new(alloc, text, number, other) {
+        Some(pages) => has_outcome(alloc, &meta_of(k, marks), pages, want),
+        None => false,
     }
-    if pages.asked_too_often() {
-        return Err("a page was asked for too often".into());
-    }
-    Ok(())
 }

@@ -1,13 +1,14 @@
 //! Stores of small files of one attribute, by hand, over a disk that tells nothing. Where something is `None`, memory was
 //! refused, or a row of a test is wrong.
-ghost use Rattle.std.specs.Prelude.{◌≡◌, ◌<◌, ◌≤◌, ◌^◌, false, get_or, All, IfSome, IsTrue, Some};
+ghost use Rattle.std.specs.Prelude.{◌≡◌, ◌<◌, ◌≤◌, ◌^◌, true, false, get_or, All, IfSome, IsTrue, Some};
 ghost use Rattle.hb_disk.specs.RotDisk.{hidden};
+ghost use Rattle.hb_frag.specs.declared.pages.Page.TheVariants.{Live};
 ghost use Rattle.hb_frag.specs.Leaves.{weight_of};
-ghost use Rattle.hb_ops.specs.Files.{if_live};
 ghost use Rattle.hb_ops.specs.Given.{given as live_given};
 ghost use Rattle.hb_ops.specs.Operations.{OpHas, reads_of};
 ghost use Rattle.hb_store.specs.Calls.{IsAllowedHere, read_here};
 ghost use Rattle.hb_store.specs.Seen.{seen_as};
+ghost use Rattle.hb_store.specs.States.{in_memory};
 
 use hb_disk::{MemDisk, RotDisk};
 use hb_frag::{LivePage, Page};
@@ -58,7 +59,9 @@ pub(crate) fn disk(alloc: Global, log: &[u8], page: &[u8], failing: u64) -> Opti
         return None;
     }
     let calls = [failing].to_vec(alloc).ok()?;
-    let mut bytes = vec![in alloc; 0; 155_648].ok()?;
+    let Ok(mut bytes) = vec![in alloc; 0; 155_648] else {
+        return None;
+    };
     bytes[8192..8192 + log.len()].copy_from_slice(log);
     bytes[139_264..139_264 + page.len()].copy_from_slice(page);
     Some(RotDisk {
@@ -122,14 +125,13 @@ fn read_at(op: &Op, place: usize) -> u32
     op.reads().get(place).copied().unwrap_or(0)
 }
 
-/// The page, where it is in use.
-fn live_of(page: &Page) -> Option<&LivePage>
-    ensures { live_given result ≡ if_live (Some page.now) }
+/// As a fact: what a page in memory weighs.
+#[tactic(auto, using(crate::proofs::LightPages::light_page))]
+fn know_weight(store: &Store<RotDisk>, id: u32, page: &LivePage)
+    requires { in_memory (seen_as store.now) id ≡ Some (Live page.now) }
+    ensures { weight_of page.now.frag < 2 ^ 32 }
 {
-    match page {
-        Page::Live(page) => Some(page),
-        Page::Free { .. } => None,
-    }
+    let _ = store.meta();
 }
 
 /// The page in use that an operation reads at a place of its list, where it is in memory.
@@ -137,8 +139,13 @@ fn page_read<'a>(store: &'a Store<RotDisk>, op: &Op, place: usize) -> Option<&'a
     ensures page { live_given result ≡ read_here (seen_as store.now) op.now place }
     ensures light { IfSome result (λ page. weight_of page.now.frag < 2 ^ 32) }
 {
-    match store.get(read_at(op, place)) {
-        Some(page) => live_of(page),
+    let id = read_at(op, place);
+    match store.get(id) {
+        Some(Page::Live(page)) => {
+            know_weight(store, id, page);
+            Some(page)
+        }
+        Some(Page::Free { .. }) => None,
         None => None,
     }
 }

@@ -91,8 +91,12 @@ fn stands(bytes: &[u8], at: usize, front: &[u8], count: usize) -> bool {
     let Some(rest) = bytes.get(at..) else {
         return false;
     };
-    let mut behind = rest.iter().take(count).skip(front.len());
-    rest.len() >= count && rest.starts_with(front) && behind.all(|byte| *byte == 0)
+    for byte in rest.iter().take(count).skip(front.len()) {
+        if *byte != 0 {
+            return false;
+        }
+    }
+    rest.len() >= count && rest.starts_with(front)
 }
 
 #[test]

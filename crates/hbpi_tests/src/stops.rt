@@ -21,9 +21,29 @@ fn one_says(
 
 /// Whether it does over each of three such images: the old bytes, the new ones, and noise of 165, which is an open gate.
 fn all_say(alloc: Global, disk: &MemDisk, before: u64, text: &str, wants: [&str; 2]) -> bool {
-    [Pick::Old, Pick::New, Pick::Noise(165)].iter().all(|pick| one_says(
-        alloc, disk, before, *pick, text, wants,
-    ) == Some(true))
+    for pick in [Pick::Old, Pick::New, Pick::Noise(165)] {
+        if one_says(alloc, disk, before, pick, text, wants) != Some(true) {
+            return false;
+        }
+    }
+    true
+}
+
+/// Whether it does before each of these calls, from the first number up to the second one.
+fn always_say(
+    alloc: Global,
+    disk: &MemDisk,
+    first: u64,
+    end: u64,
+    text: &str,
+    wants: [&str; 2],
+) -> bool {
+    for before in first..end {
+        if !all_say(alloc, disk, before, text, wants) {
+            return false;
+        }
+    }
+    true
 }
 
 /// Whether a run ended at its call of number `calls` - 1, said this, and answered so many lines.
@@ -52,8 +72,10 @@ fn a_stopped_create_leaves_no_record(rt: HostRuntime) {
     for byte in [0, 165] {
         let left = created(rt.alloc(), byte, NEVER).expect(&rt, "memory");
         assert!(rt; has_stopped(&left, 9, "0 created\n", 0), "{byte}");
-        let lost = (0..9).find(|call| !all_say(rt.alloc(), &left.disk, *call, ONE, UNMADE));
-        assert!(rt; lost.is_none(), "{byte} {lost:?}");
+        assert!(rt;
+            always_say(rt.alloc(), &left.disk, 0, 9, ONE, UNMADE),
+            "{byte}"
+        );
         assert!(rt;
             all_say(rt.alloc(), &left.disk, 9, ONE, [NONE, NONE]),
             "{byte}"
@@ -106,7 +128,13 @@ const LAST: [&str; 2] = [KEPT, KEPT];
 fn answered_by(left: &Left, calls: u64) -> usize {
     let reads = left.disk.calls().saturating_sub(left.disk.clock());
     let clock = calls.saturating_sub(reads);
-    left.answered.iter().filter(|one| one.at <= clock).count()
+    let mut count = 0;
+    for one in &left.answered {
+        if one.at <= clock {
+            count = usize::wrapping_add(count, 1);
+        }
+    }
+    count
 }
 
 /// What all records may be once so many lines are answered: one session has one more line under way.
@@ -221,12 +249,7 @@ fn recovered(alloc: Global, call: u64) -> Option<Left> {
 fn a_stopped_recovery_changes_no_record(rt: HostRuntime) {
     let left = recovered(rt.alloc(), NEVER).expect(&rt, "memory");
     assert!(rt; has_stopped(&left, WITH_LOG, "0 order\n", 0));
-    for before in 0..WITH_LOG + 1 {
-        assert!(rt;
-            all_say(rt.alloc(), &left.disk, before, ALL, LAST),
-            "{before}"
-        );
-    }
+    assert!(rt; always_say(rt.alloc(), &left.disk, 0, WITH_LOG + 1, ALL, LAST));
 }
 
 #[test]
@@ -245,16 +268,22 @@ fn recovered_page(alloc: Global) -> Option<Left> {
     drive_on(alloc, "", file.as_slice())
 }
 
+/// Whether what a crash with noise before each call of a recovery might have left has all records.
+fn keeps_all(alloc: Global, disk: &MemDisk) -> bool {
+    for before in 0..disk.calls() {
+        if one_says(alloc, disk, before, Pick::Noise(165), ALL, LAST) != Some(true) {
+            return false;
+        }
+    }
+    true
+}
+
 /// Whether a recovery of what a crash before this call might have left, stopped in its turn before each of its calls,
 /// keeps all records. The crashes leave noise.
 fn stops_twice(alloc: Global, disk: &MemDisk, before: u64) -> Option<bool> {
-    let noise = Pick::Noise(165);
-    let image = disk.image(before, noise).ok()??;
-    let second = drive_on(alloc, "", image.as_slice())?.disk;
-    let calls = second.calls();
-    let mut stops = 0..calls;
-    let kept = stops.all(|stop| one_says(alloc, &second, stop, noise, ALL, LAST) == Some(true));
-    Some(kept && calls >= 12)
+    let image = disk.image(before, Pick::Noise(165)).ok()??;
+    let second = drive_on(alloc, "", image.as_slice())?;
+    Some(second.disk.calls() >= 12 && keeps_all(alloc, &second.disk))
 }
 
 #[test]
