@@ -1,7 +1,5 @@
 //! Calls over disks in memory, and the images that each moment leaves.
 
-ghost use Rattle.std.specs.Prelude.{◌≤◌};
-
 use crate::letters::{PICKS, disk_of, push_bytes};
 use crate::rows::expect_all;
 use hb_disk::{Device, Disk, MemDisk, Pick, RotDisk, write_behind_gate, write_in_order};
@@ -26,27 +24,40 @@ fn push_images(text: &mut String, disk: &MemDisk, before: u64) -> Result<(), NoM
     Ok(())
 }
 
-// Writes, syncs, writes, zeroes and reads: whether each succeeded.
-fn five_calls<D: Device>(disk: &mut D) -> [bool; 5]
-    requires { 8 ≤ (D.model disk.old).size }
-{
-    let wrote = disk.write(2, b"XY").is_ok();
-    let synced = disk.sync().is_ok();
-    let wrote_more = disk.write(5, b"Z").is_ok();
-    let zeroed = disk.zero(0, 1).is_ok();
+fn writes<D: Device>(disk: &mut D, at: u64, from: &[u8]) -> bool {
+    at < 6 && from.len() < 3 && disk.size() > 7 && disk.write(at, from).is_ok()
+}
+
+fn zeroes<D: Device>(disk: &mut D) -> bool {
+    disk.size() > 0 && disk.zero(0, 1).is_ok()
+}
+
+fn reads<D: Device>(disk: &mut D) -> bool {
     let mut into = [0; 3];
-    let read = disk.read(4, &mut into).is_ok();
-    [wrote, synced, wrote_more, zeroed, read]
+    disk.size() > 6 && disk.read(4, &mut into).is_ok()
+}
+
+// Writes, syncs, writes, zeroes and reads: whether each succeeded.
+fn five_calls<D: Device>(disk: &mut D) -> [bool; 5] {
+    let wrote = writes(disk, 2, b"XY");
+    let synced = disk.sync().is_ok();
+    let wrote_more = writes(disk, 5, b"Z");
+    let zeroed = zeroes(disk);
+    [wrote, synced, wrote_more, zeroed, reads(disk)]
 }
 
 fn push_calls(text: &mut String, disk: &mut MemDisk) -> Result<(), NoMemory> {
-    if disk.size() < 8 {
-        return text.push_str("a small disk");
-    }
     for done in five_calls(disk) {
         text.push(if done { 'y' } else { 'n' })?;
     }
     Ok(())
+}
+
+fn run_on(alloc: Global, disk: &mut MemDisk, before: u64) -> Result<String, NoMemory> {
+    let mut text = String::new(alloc);
+    push_calls(&mut text, disk)?;
+    push_images(&mut text, disk, before)?;
+    Ok(text)
 }
 
 /// Which of five calls succeed, and the images of a moment: from `FAILING | MOMENT`, the numbers of the calls
@@ -55,10 +66,7 @@ pub(crate) fn run(alloc: Global, question: &str) -> Result<String, Fail> {
     let (failing, before) = question.split_once(" | ").ok_or("no moment")?;
     let before = before.parse()?;
     let mut disk = disk_of(alloc, "abcdefgh", failing)?;
-    let mut text = String::new(alloc);
-    push_calls(&mut text, &mut disk)?;
-    push_images(&mut text, &disk, before)?;
-    Ok(text)
+    Ok(run_on(alloc, &mut disk, before)?)
 }
 
 // The disk on which `ab` was written behind a gate.

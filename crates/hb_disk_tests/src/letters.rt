@@ -1,5 +1,6 @@
 //! Bytes as text, a letter for each: `_` is 0, `1` to `9` are these numbers, `%` is 16, `!` is 0xA4,
-//! `#` is 0xA5, which opens a gate, and `$` is 255. Every other letter is its own byte.
+//! `#` is 0xA5, which opens a gate, and `$` is 255. Every other letter is its own byte. `!` and `$` are
+//! read only.
 
 use hb_disk::{MemDisk, Pick};
 use hb_space::NoMemory;
@@ -23,9 +24,7 @@ fn letter_of(byte: u8) -> char {
         0 => '_',
         1..=9 => char::from(byte + b'0'),
         16 => '%',
-        0xA4 => '!',
         0xA5 => '#',
-        0xFF => '$',
         _ => char::from(byte),
     }
 }

@@ -130,27 +130,52 @@ fn push_log(text: &mut String, log: &Wal) -> Result<(), NoMemory> {
     )
 }
 
+fn push_life(alloc: Global, text: &mut String, disk: &mut MemDisk, forces: u8) -> Result<(), Fail> {
+    let log = forced_often(alloc, disk, forces)?;
+    push_log(text, &log)?;
+    write!(text, " {} {} ", log.room(), disk.calls())?;
+    Ok(push_bytes(text, disk.bytes())?)
+}
+
 /// The log, its room, the calls of the disk and its bytes, after so many forces.
 pub(crate) fn life(alloc: Global, question: &str) -> Result<String, Fail> {
     let forces = question.parse()?;
     let mut text = String::new(alloc);
-    let mut disk = disk_of(alloc, NOISE, "")?;
-    let log = forced_often(alloc, &mut disk, forces)?;
-    push_log(&mut text, &log)?;
-    write!(text, " {} {} ", log.room(), disk.calls())?;
-    push_bytes(&mut text, disk.bytes())?;
+    push_life(alloc, &mut text, &mut disk_of(alloc, NOISE, "")?, forces)?;
     Ok(text)
 }
 
-// How many frames an image of the disk has in the log's area.
-fn frames_in(alloc: Global, disk: &MemDisk, before: u64, pick: Pick) -> Result<usize, Fail> {
+// How many frames bytes have. 99 where they are no area.
+fn count_of(alloc: Global, bytes: Vec<u8>) -> usize {
+    match whole_area(alloc, &mut MemDisk::new(alloc, bytes)) {
+        Ok(payloads) => payloads.len(),
+        Err(_) => 99,
+    }
+}
+
+// The log's area in an image of the disk.
+fn area_in(alloc: Global, disk: &MemDisk, before: u64, pick: Pick) -> Result<Vec<u8>, Fail> {
     let image = disk.image(before, pick)?.ok_or("no such moment")?;
     let area = image.get(2..26).ok_or("a short image")?;
-    let mut disk = MemDisk::new(alloc, area.to_vec(alloc)?);
-    match whole_area(alloc, &mut disk) {
-        Ok(payloads) => Ok(payloads.len()),
-        Err(_) => Err("a bad area".into()),
+    Ok(area.to_vec(alloc)?)
+}
+
+fn push_counts(alloc: Global, text: &mut String, disk: &MemDisk, before: u64) -> Result<(), Fail> {
+    for pick in PICKS {
+        let area = area_in(alloc, disk, before, pick)?;
+        write!(text, " {}", count_of(alloc, area))?;
     }
+    Ok(())
+}
+
+fn push_force(
+    alloc: Global,
+    text: &mut String,
+    disk: &mut MemDisk,
+    before: u64,
+) -> Result<(), Fail> {
+    push_log(text, &forced_often(alloc, disk, 1)?)?;
+    push_counts(alloc, text, disk, before)
 }
 
 /// The log after a force, and how many frames the images of a moment have: from `FAILING | MOMENT`.
@@ -158,11 +183,12 @@ pub(crate) fn force(alloc: Global, question: &str) -> Result<String, Fail> {
     let (failing, before) = question.split_once(" | ").ok_or("no moment")?;
     let before = before.parse()?;
     let mut text = String::new(alloc);
-    let mut disk = disk_of(alloc, NOISE, failing)?;
-    push_log(&mut text, &forced_often(alloc, &mut disk, 1)?)?;
-    for pick in PICKS {
-        write!(text, " {}", frames_in(alloc, &disk, before, pick)?)?;
-    }
+    push_force(
+        alloc,
+        &mut text,
+        &mut disk_of(alloc, NOISE, failing)?,
+        before,
+    )?;
     Ok(text)
 }
 
@@ -210,14 +236,20 @@ fn put<D: Device>(alloc: Global, disk: &mut D) -> Result<[u32; 3], Fail>
     Ok([before, between, log.room()])
 }
 
+fn push_put(alloc: Global, text: &mut String, disk: &mut MemDisk) -> Result<(), Fail> {
+    if disk.size() < 22 {
+        return Err("a small disk".into());
+    }
+    for room in put(alloc, disk)? {
+        write!(text, "{room} ")?;
+    }
+    Ok(push_bytes(text, disk.bytes())?)
+}
+
 #[test]
 fn the_frame_of_a_put(rt: HostRuntime) -> Result<(), Fail> {
-    let alloc = rt.alloc();
-    let mut disk = disk_of(alloc, NOISE, "")?;
-    assert!(rt; disk.size() == 30);
-    assert_eq!(rt; put(alloc, &mut disk)?, [16, 0, 16]);
-    let mut text = String::new(alloc);
-    push_bytes(&mut text, disk.bytes())?;
-    assert_eq!(rt; text.as_str(), "n#___%_1___1_______51annnnnnnn");
+    let mut text = String::new(rt.alloc());
+    push_put(rt.alloc(), &mut text, &mut disk_of(rt.alloc(), NOISE, "")?)?;
+    assert_eq!(rt; text.as_str(), "16 0 16 n#___%_1___1_______51annnnnnnn");
     Ok(())
 }

@@ -39,14 +39,12 @@ fn push_many(bytes: &mut Vec<u8>, count: u32, items: &str) -> Result<(), Fail> {
     Ok(())
 }
 
-fn put_byte(bytes: &mut Vec<u8>, at: usize, byte: u8) -> Result<(), Fail> {
-    match bytes.get_mut(at) {
-        Some(old) => {
-            *old = byte;
-            Ok(())
-        }
-        None => Err("no such place".into()),
+fn put_byte(bytes: &mut [u8], at: usize, byte: u8) -> Result<(), Fail> {
+    if at >= bytes.len() {
+        return Err("no such place".into());
     }
+    bytes[at] = byte;
+    Ok(())
 }
 
 fn push_word(bytes: &mut Vec<u8>, word: &str) -> Result<(), Fail> {

@@ -12,37 +12,35 @@ use hb_frag::LivePage;
 use hb_ops::{ChangeError, Changed, Meta, Op, change, local_rule};
 use hb_space::NoMemory;
 use std::alloc::Global;
+use std::str::SplitWhitespace;
 use std::test::Fail;
 
-// Numbers in place of the first ones of these.
-fn numbers_of(text: &str) -> Result<[u32; 6], Fail> {
-    let mut numbers = [6, 8, 3, 3, 0, 2];
-    for (at, word) in text.split_whitespace().enumerate() {
-        match numbers.get_mut(at) {
-            Some(number) => *number = word.parse()?,
-            None => return Err("a number too many".into()),
-        }
+// The next number of a text, or another one where there is none.
+fn next_of(words: &mut SplitWhitespace<'_>, otherwise: u32) -> Result<u32, Fail> {
+    match words.next() {
+        Some(word) => Ok(word.parse()?),
+        None => Ok(otherwise),
     }
-    Ok(numbers)
 }
 
 // A file of one attribute, from the weight that a page of level 0 may have, how many pages the file
-// may have, its high mark, the pages in use, its free head and its height.
+// may have, its high mark, the pages in use, its free head and its height. A number that isn't there
+// is 6, 8, 3, 3, 0 and 2.
 fn file_of(text: &str) -> Result<Meta, Fail>
     ensures { IfOk result (λ meta. meta.k ≡ 1) }
 {
-    let [dcap, pages, high, live, free, height] = numbers_of(text)?;
+    let mut words = text.split_whitespace();
     Ok(Meta {
         k: 1,
-        pages,
         log: 0,
-        dcap: dcap.try_into()?,
         icap: 4,
         root: 1,
-        height: height.try_into()?,
-        high,
-        live,
-        free,
+        dcap: next_of(&mut words, 6)?.try_into()?,
+        pages: next_of(&mut words, 8)?,
+        high: next_of(&mut words, 3)?,
+        live: next_of(&mut words, 3)?,
+        free: next_of(&mut words, 0)?,
+        height: next_of(&mut words, 2)?.try_into()?,
     })
 }
 

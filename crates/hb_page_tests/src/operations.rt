@@ -35,16 +35,20 @@ fn del_of(text: &str) -> Result<Op, Fail>
     Ok(Op::Del { page, point })
 }
 
-fn cut_of(text: &str) -> Result<LeafCut, Fail> {
-    let (side, mark) = if text.contains('L') {
-        (Side::Left, 'L')
-    } else {
-        (Side::Right, 'R')
-    };
-    let (axis, value) = text.split_once(mark).ok_or("no side")?;
+fn leaf_cut(axis: &str, side: Side, value: &str) -> Result<LeafCut, Fail> {
     let axis = axis.parse()?;
     let value = value.parse()?;
     Ok(LeafCut { axis, value, side })
+}
+
+fn cut_of(text: &str) -> Result<LeafCut, Fail> {
+    match text.split_once('L') {
+        Some((axis, value)) => leaf_cut(axis, Side::Left, value),
+        None => {
+            let (axis, value) = text.split_once('R').ok_or("no side")?;
+            leaf_cut(axis, Side::Right, value)
+        }
+    }
 }
 
 fn cuts_of(alloc: Global, text: &str) -> Result<Cuts, Fail> {
