@@ -48,7 +48,9 @@ fn put_all(bytes: &mut Vec<u8>, pieces: &[(usize, &[u8])]) {
 
 /// The file of a tree.
 fn file(alloc: Global, tree: &Tree) -> Option<Vec<u8>> {
-    let mut bytes = vec![in alloc; 0; tree.size].ok()?;
+    let Ok(mut bytes) = vec![in alloc; 0; tree.size] else {
+        return None;
+    };
     put_all(&mut bytes, tree.file);
     Some(bytes)
 }
@@ -159,24 +161,29 @@ fn a_driving_writes_these_bytes(rt: HostRuntime) {
     }
 }
 
+/// As many zeros as a page has bytes.
+const ZEROS: [u8; 4096] = [0; 4096];
+
 /// Whether a page stands in its place: these fields, and zeros behind them.
 fn stands(bytes: &[u8], page: usize, fields: &[u8]) -> bool {
-    let from = 135_168 + 4096 * page;
-    match bytes.get(from..from + 4096) {
-        Some(place) => match place.strip_prefix(fields) {
-            Some(rest) => rest.iter().all(|byte| *byte == 0),
-            None => false,
-        },
+    let from = page.saturating_mul(4096).saturating_add(135_168);
+    let Some(place) = bytes.get(from..from.saturating_add(4096)) else {
+        return false;
+    };
+    match place.strip_prefix(fields) {
+        Some(rest) => ZEROS.starts_with(rest),
         None => false,
     }
 }
 
 /// Whether the pages after so many steps stand in their places.
 fn stand(bytes: &[u8], tree: &Tree, count: usize) -> bool {
-    let there = |row: &(usize, usize, usize, &[u8])| row.0 <= count && count < row.1;
-    tree.pages
-        .iter()
-        .all(|row| !there(row) || stands(bytes, row.2, row.3))
+    for (from, until, page, fields) in tree.pages {
+        if *from <= count && count < *until && !stands(bytes, *page, fields) {
+            return false;
+        }
+    }
+    true
 }
 
 /// The disk behind an opening, where that gives the file after so many steps.
@@ -282,7 +289,7 @@ fn survives(alloc: Global, tree: &Tree, first: u64, call: u64) -> Option<()> {
     }
     let more = FAULTS.get((call % 4) as usize)?;
     for (pick, more) in PICKS.iter().zip(more) {
-        let count = (call / 4) as usize + *more;
+        let count = more.saturating_add((call / 4) as usize);
         image_opened(alloc, tree, count, &disk, disk.calls(), *pick)?;
     }
     Some(())
@@ -293,7 +300,7 @@ fn first_fault_lost(alloc: Global, tree: &Tree) -> Option<u64> {
     let Some(first) = calls_before(alloc, tree) else {
         return Some(9999);
     };
-    for call in 0..4 * tree.steps.len() as u64 {
+    for call in 0..(tree.steps.len() as u64).saturating_mul(4) {
         if survives(alloc, tree, first, call).is_none() {
             return Some(call);
         }
