@@ -1,12 +1,12 @@
 -- No circle of actors waits.
-use Rattle.std.proofs.Common.{◌≡◌, ◌≢◌, ◌⊎◌, inl, inr, ℕ, IsTrue, List, [], ◌∷◌, Option, Some, None, IfSome, IsSomeAnd, refl, sym, ap, ◌∙◌, subst}
+use Rattle.std.proofs.Common.{◌≡◌, ◌⊎◌, inl, inr, ℕ, IsTrue, List, [], ◌∷◌, Option, Some, None, IfSome, IsSomeAnd, refl, sym, ap, ◌∙◌, subst}
 use Rattle.std.proofs.lemmas.Option.{same_Some}
 use Rattle.hb_frag.specs.declared.pages.LivePage.{LivePage}
 use Rattle.hb_latch.specs.declared.modes.Mode.{Mode}
 use Rattle.hb_latch.specs.declared.modes.Mode.TheVariants.{Update}
 use Rattle.hb_latch.specs.Modes.{goes_beside}
 use Rattle.hb_latch.specs.Tables.{MayLatch, mode_at}
-use Rattle.hb_ops.specs.Files.{FileState, live_page}
+use Rattle.hb_ops.specs.Files.{FileState}
 use Rattle.hb_activity.specs.declared.wanting.Wanted.{Wanted}
 use Rattle.hb_activity.specs.declared.activities.Activity.{Activity}
 use Rattle.hb_activity.specs.declared.activities.Activity.TheVariants as at

@@ -1,30 +1,29 @@
 -- Two steps of one actor from one machine come to the same.
-use Rattle.std.proofs.Common.{◌≡◌, ◌⊎◌, inl, inr, ℕ, ◌++◌, [], Option, Some, None, IfSome, IsSome, IsTrue, refl, sym, ap, ◌∙◌, subst, length}
+use Rattle.std.proofs.Common.{◌≡◌, ◌⊎◌, inl, inr, ℕ, ◌++◌, [], Option, Some, None, IfSome, IsSome, IsTrue, refl, sym, ap, ◌∙◌, subst}
 use Rattle.hb_space.specs.declared.records.Record.{Record}
 use Rattle.hb_frag.specs.declared.pages.LivePage.{LivePage}
 use Rattle.hb_frag.specs.declared.pages.Page.{Page}
 use Rattle.hb_frag.specs.Leaves.{DirectlyHolds}
 use Rattle.hb_frag.specs.Rules.{AreInOrder}
 use Rattle.std.proofs.lemmas.Option.{same_Some}
-use Rattle.hb_ops.specs.Files.{if_live, page_of}
+use Rattle.hb_ops.specs.Files.{page_of}
 use Rattle.hb_ops.specs.declared.operations.Op.TheVariants.{Put}
 use Rattle.hb_set.specs.declared.commands.Command.TheVariants.{Insert}
 use Rattle.hb_set.specs.declared.commands.Reply.TheVariants as replies
 use Rattle.hb_set.specs.declared.scripts.Line.{Line}
 use Rattle.hb_store.specs.States.{StoreState, in_memory}
 use Rattle.hb_core.specs.declared.outcomes.Outcome.{Outcome}
-use Rattle.hb_core.specs.Machines.{Files, Machine, current_file, if_some, live_here, with_activity, with_disk}
+use Rattle.hb_core.specs.Machines.{Files, Machine, current_file, live_here, with_disk}
 use Rattle.hb_core.specs.Acting.{DoesRow, takes_number}
 use Rattle.hb_core.specs.Asking.{wanted_by}
 use Rattle.hb_core.specs.Fetching.{Brings, IsFreeHead, IsWantedPage}
-use Rattle.hb_core.specs.Deeds.{AddsJobs, Deed, takes_effect}
+use Rattle.hb_core.specs.Deeds.{Deed, takes_effect}
 use Rattle.hb_core.specs.Keeps.{HoldsPagesOfFile, KnowsRoom, OneHasRoom}
-use Rattle.hb_core.specs.Performing.{MayDo, Performs, files_after, given_by, latches_held, mode_among}
+use Rattle.hb_core.specs.Performing.{Performs, given_by}
 use Rattle.hb_core.specs.Rows.{Row}
 use Rattle.hb_core.specs.SplitRows.{Puts}
 use Rattle.hb_core.specs.OutcomeLaws.{ComesToSame, IsTurnedAside, OutcomeIsOne, StateIsOne}
 use Rattle.hb_core.proofs.OnePair.{both_steps}
-use Rattle.hb_core.proofs.OnePiece.{one_queue}
 use Rattle.hb_core.proofs.OneRow.{one_row}
 use Rattle.hb_core.proofs.RowSays.{rows_say_the_same}
 use Rattle.hb_core.proofs.StillThere.{fetched_good, still_fetched}

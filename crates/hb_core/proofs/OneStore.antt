@@ -1,28 +1,20 @@
 -- Stores that have the same pages are one, and one operation makes one store of them.
-use Rattle.std.proofs.Common.{◌≡◌, ◌≢◌, inl, inr, ℕ, ◌||◌, Bool, List, ◌++◌, [], ◌∷◌, length, Option, Some, None, refl, sym, ap, ◌∙◌, subst}
+use Rattle.std.proofs.Common.{◌≡◌, inl, inr, ℕ, length, Option, Some, None, sym, ap, ◌∙◌, subst}
 use Rattle.std.proofs.lemmas.Bool.{cases_eq}
 use Rattle.std.proofs.lemmas.Cmp.{nat_cmp_total}
 use Rattle.std.specs.Ordering.{nat_cmp}
 use Rattle.std.specs.FinMap as map
 use Rattle.std.specs.FinSet as set
-use Rattle.hb_layout.specs.declared.meta.Meta.{Meta}
-use Rattle.hb_frag.specs.declared.pages.Page.{Page}
 use Rattle.hb_ops.specs.declared.operations.Op.{Op}
-use Rattle.hb_wal.specs.Log.{LogState, Waiting}
-use Rattle.hb_set.specs.Order.{Entry}
-use Rattle.hb_set.specs.declared.scripts.Answered.{Answered}
-use Rattle.hb_set.specs.declared.scripts.Line.{Line}
-use Rattle.hb_latch.specs.Tables.{LatchTable, mode_at}
+use Rattle.hb_wal.specs.Log.{LogState}
+use Rattle.hb_latch.specs.Tables.{mode_at}
 use Rattle.hb_latch.proofs.KeyOrder.{exact_keys, latch_order}
-use Rattle.hb_activity.specs.declared.activities.Activity.{Activity}
-use Rattle.hb_activity.specs.declared.jobs.Job.{Job}
 use Rattle.hb_store.specs.Calls.{KeepsAllButPages}
 use Rattle.hb_store.specs.States.{StoreState, in_memory, is_imaged}
-use Rattle.hb_store.specs.declared.stops.StopWhy.{StopWhy}
 use Rattle.hb_core.specs.declared.outcomes.Outcome.{Outcome}
-use Rattle.hb_core.specs.Machines.{Files, Machine, if_some, with_activity}
+use Rattle.hb_core.specs.Machines.{Machine}
 use Rattle.hb_core.specs.Deeds.{Deed}
-use Rattle.hb_core.specs.Performing.{DoesOp, MayDo, Performs, files_after, given_by, latches_held, mode_among}
+use Rattle.hb_core.specs.Performing.{DoesOp, MayDo, Performs, latches_held, mode_among}
 use Rattle.hb_core.proofs.OnePiece.{one_queue}
 
 -- ---- stores

@@ -1,8 +1,8 @@
 -- What each step keeps of the walks, the room and the groups that wait, and what follows for a list of steps, as laws.
-use Rattle.std.specs.Prelude.{◌≡◌, ◌⊎◌, ℕ, ◌<◌, ◌≤◌, List, [], ◌∷◌, ◌++◌, length, take, All, Some}
+use Rattle.std.specs.Prelude.{◌≡◌, ◌⊎◌, ℕ, ◌<◌, ◌≤◌, List, [], ◌∷◌, length, take, All, Some}
 use Rattle.hb_ops.specs.Files.{FileState, contents_of}
 use Rattle.hb_set.specs.Machine.{RecordSet}
-use Rattle.hb_set.specs.Order.{Entry, IsLegalOrder, result_of}
+use Rattle.hb_set.specs.Order.{IsLegalOrder, result_of}
 use Rattle.hb_set.specs.declared.scripts.Answered.{Answered}
 use Rattle.hb_latch.specs.Tables.{MayLatch}
 use Rattle.hb_activity.specs.declared.activities.Activity.TheVariants as at
