@@ -329,48 +329,72 @@ fn fronts_of_files_are_small(rt: HostRuntime) {
     }
 }
 
-/// Changes that fill a log area of 65,536 bytes: an insert and a delete of the point 1 in turn, so many, and a lookup. And
-/// what `drive` says to them.
-///
-/// The first frame has the image and 4,120 bytes, each later delete 19 and each later insert 20. A change is begun where
-/// the log has at most 49,147 bytes, so that a group of 16,384 fits. Behind the 2,310th change it has 4,120 + 1,154 * 39
-/// + 19 = 49,145, and behind the 2,311th 49,165. So the 2,312th line is `full`, though it is a delete.
-fn filling(alloc: Global) -> Option<(String, String)> {
-    let mut text = String::new(alloc);
-    let mut want = String::from_str(alloc, "0 ").ok()?;
-    let mut order = String::from_str(alloc, "order").ok()?;
-    for line in 1..2312 {
-        let verb = if line % 2 == 1 {
-            "insert 1 ="
-        } else {
-            "delete 1"
-        };
-        write!(text, "1 {verb}\n").ok()?;
-        write!(want, "{line} ok\n").ok()?;
-        write!(order, " {line}").ok()?;
-    }
-    write!(text, "1 delete 1\n1 lookup 1\nstep 1x9249\n").ok()?;
-    write!(want, "2312 full\n2313 found =\n{order} 2313\n").ok()?;
-    Some((text, want))
+/// A text, what `drive` says to it, and the line of the order as far as the lines go.
+#[derive(Drop)]
+struct Filling {
+    text: String,
+    want: String,
+    order: String,
 }
 
-/// Whether `drive` says so to these changes, and what it says to the next text, where the log is empty again.
-fn fills(alloc: Global) -> Option<(bool, Left)> {
-    let (text, want) = filling(alloc)?;
-    let left = drive_on(alloc, text.as_str(), file_of(alloc, &[])?.as_slice())?;
-    let next = "1 lookup 1\n1 delete 1\n1 lookup 1\nstep 1x10\n";
-    let right = left.said == want;
-    Some((right, drive_on(alloc, next, left.disk.bytes())?))
+impl Filling {
+    /// A change of the point 1 that is answered.
+    fn change(&mut self, line: u32, verb: &str) -> Option<()> {
+        write!(self.text, "1 {verb}\n").ok()?;
+        write!(self.want, "{line} ok\n").ok()?;
+        write!(self.order, " {line}").ok()
+    }
+
+    /// Changes that fill a log area of 65,536 bytes: an insert and a delete of the point 1 in turn, so many, and a lookup.
+    ///
+    /// The first frame has the image and 4,120 bytes, each later delete 19 and each later insert 20. A change is begun where
+    /// the log has at most 49,147 bytes, so that a group of 16,384 fits. Behind the 2,310th change it has 4,120 + 1,154 * 39
+    /// + 19 = 49,145, and behind the 2,311th 49,165. So the 2,312th line is `full`, though it is a delete.
+    fn fill(&mut self) -> Option<()> {
+        for line in 1..2312 {
+            let verb = if line % 2 == 1 {
+                "insert 1 ="
+            } else {
+                "delete 1"
+            };
+            self.change(line, verb)?;
+        }
+        self.text
+            .push_str("1 delete 1\n1 lookup 1\nstep 1x9249\n")
+            .ok()?;
+        write!(self.want, "2312 full\n2313 found =\n{} 2313\n", self.order).ok()
+    }
+}
+
+/// Those changes, and what is said to them.
+fn filling(alloc: Global) -> Option<Filling> {
+    let mut filling = Filling {
+        text: String::new(alloc),
+        want: String::new(alloc),
+        order: String::new(alloc),
+    };
+    filling.want.push_str("0 ").ok()?;
+    filling.order.push_str("order").ok()?;
+    filling.fill()?;
+    Some(filling)
+}
+
+/// What `drive` leaves of them, and whether it says so.
+fn filled(alloc: Global) -> Option<(bool, Left)> {
+    let filling = filling(alloc)?;
+    let file = file_of(alloc, &[])?;
+    let left = drive_on(alloc, filling.text.as_str(), file.as_slice())?;
+    Some((left.said == filling.want, left))
 }
 
 #[test]
 fn a_log_fills(rt: HostRuntime) {
-    let (right, next) = fills(rt.alloc()).expect(&rt, "memory");
+    let (right, left) = filled(rt.alloc()).expect(&rt, "memory");
     assert!(rt; right);
-    assert_eq!(rt;
-        next.said.as_str(),
-        "0 1 found =\n2 ok\n3 none\norder 1 2 3\n"
-    );
+    // in the next run the log is empty again
+    let text = "1 lookup 1\n1 delete 1\n1 lookup 1\nstep 1x10\n";
+    let next = drive_on(rt.alloc(), text, left.disk.bytes());
+    expect_said(&rt, next, "0 1 found =\n2 ok\n3 none\norder 1 2 3\n", text);
 }
 
 /// How many texts were driven, each of which inserts its own number with the body `a`, and what `drive` says of the points 0,

@@ -28,33 +28,45 @@ fn place_of(point: Pair) -> usize
 }
 
 impl Case {
+    /// Adds the front of a command.
+    fn ask(&mut self, session: u8, verb: &str, point: Pair) -> Option<()> {
+        let (a, b) = point;
+        write!(self.text, "{session} {verb} {a} {b}").ok()
+    }
+
+    /// Adds a reply.
+    fn say(&mut self, line: u32, reply: &str) -> Option<()> {
+        write!(self.want, "{line} {reply}\n").ok()
+    }
+
     fn insert(&mut self, line: u32, point: Pair, body: char) -> Option<()> {
+        self.ask(1, "insert", point)?;
+        write!(self.text, " ={body}\n").ok()?;
         let place = place_of(point);
-        write!(self.text, "1 insert {} {} ={body}\n", point.0, point.1).ok()?;
         if self.plain[place].is_some() {
-            return write!(self.want, "{line} duplicate\n").ok();
+            return self.say(line, "duplicate");
         }
         self.plain[place] = Some(body);
-        write!(self.want, "{line} ok\n").ok()
+        self.say(line, "ok")
     }
 
     fn delete(&mut self, line: u32, session: u8, point: Pair) -> Option<()> {
+        self.ask(session, "delete", point)?;
+        self.text.push('\n').ok()?;
         let place = place_of(point);
-        write!(self.text, "{session} delete {} {}\n", point.0, point.1).ok()?;
-        let said = if self.plain[place].is_some() {
-            "ok"
-        } else {
-            "absent"
-        };
+        if self.plain[place].is_none() {
+            return self.say(line, "absent");
+        }
         self.plain[place] = None;
-        write!(self.want, "{line} {said}\n").ok()
+        self.say(line, "ok")
     }
 
     fn lookup(&mut self, line: u32, session: u8, point: Pair) -> Option<()> {
-        write!(self.text, "{session} lookup {} {}\n", point.0, point.1).ok()?;
+        self.ask(session, "lookup", point)?;
+        self.text.push('\n').ok()?;
         match self.plain[place_of(point)] {
             Some(body) => write!(self.want, "{line} found ={body}\n").ok(),
-            None => write!(self.want, "{line} none\n").ok(),
+            None => self.say(line, "none"),
         }
     }
 
@@ -142,9 +154,11 @@ fn case_of(alloc: Global, is_drive: bool, seed: u64) -> Option<Case> {
     let mut case = Case {
         plain: [None; 64],
         text: String::new(alloc),
-        want: String::from_str(alloc, "0 ").ok()?,
-        order: String::from_str(alloc, "order").ok()?,
+        want: String::new(alloc),
+        order: String::new(alloc),
     };
+    case.want.push_str("0 ").ok()?;
+    case.order.push_str("order").ok()?;
     case.draw(is_drive, seed)?;
     Some(case)
 }

@@ -3,8 +3,8 @@
 use hb_disk::MemDisk;
 use hb_outside::{MemSink, MemSource};
 use hb_set::Answered;
-use hbpi::Status;
 use hbpi::top::top;
+use hbpi::{Finished, Status};
 use std::alloc::Global;
 use std::process::Abort;
 use std::str;
@@ -27,11 +27,16 @@ pub(crate) struct Left {
     pub(crate) answered: Vec<Answered>,
 }
 
+/// Adds a word to a list.
+fn add_word(alloc: Global, list: &mut Vec<String>, word: &str) -> Option<()> {
+    list.push(word.to_string(alloc).ok()?).ok()
+}
+
 /// The words of a line.
 fn words_of(alloc: Global, line: &str) -> Option<Vec<String>> {
     let mut list = Vec::new(alloc);
     for word in line.split_whitespace() {
-        list.push(word.to_string(alloc).ok()?).ok()?;
+        add_word(alloc, &mut list, word)?;
     }
     Some(list)
 }
@@ -43,11 +48,38 @@ fn source_of(alloc: Global, text: &str, failing: u64) -> Option<MemSource> {
     Some(MemSource::new(bytes, calls))
 }
 
+/// A sink that fails at the call of this number.
+fn sink_of(alloc: Global, failing: u64) -> Option<MemSink> {
+    let calls = Vec::from_slice(alloc, &[failing]).ok()?;
+    Some(MemSink::new(alloc, calls))
+}
+
 /// The exit status, a space, and what the sink got.
 fn said_of(alloc: Global, status: Status, sink: &MemSink) -> Option<String> {
     let code = status.code();
     let written = str::from_utf8(sink.bytes()).ok()?;
     format!(in alloc; "{code} {written}").ok()
+}
+
+/// What a run leaves.
+fn left_by(alloc: Global, finished: Finished<MemSink, MemDisk>) -> Option<Left> {
+    let said = said_of(alloc, finished.status, &finished.sink)?;
+    Some(Left {
+        said,
+        disk: finished.disk,
+        answered: finished.answered,
+    })
+}
+
+/// Runs the program.
+fn run(
+    alloc: Global,
+    words: &[String],
+    source: &mut MemSource,
+    sink: MemSink,
+    disk: MemDisk,
+) -> Finished<MemSink, MemDisk> {
+    top(alloc, words, source, sink, disk)
 }
 
 /// Runs the program over this disk. The source fails at the call of number `read`, and the sink at that of number `write`.
@@ -61,14 +93,8 @@ pub(crate) fn run_over(
 ) -> Option<Left> {
     let list = words_of(alloc, words)?;
     let mut source = source_of(alloc, text, read)?;
-    let sink = MemSink::new(alloc, Vec::from_slice(alloc, &[write]).ok()?);
-    let finished = top(alloc, list.as_slice(), &mut source, sink, disk);
-    let said = said_of(alloc, finished.status, &finished.sink)?;
-    Some(Left {
-        said,
-        disk: finished.disk,
-        answered: finished.answered,
-    })
+    let sink = sink_of(alloc, write)?;
+    left_by(alloc, run(alloc, list.as_slice(), &mut source, sink, disk))
 }
 
 /// Runs the program over a disk of these bytes whose call of this number fails.
@@ -120,7 +146,10 @@ pub(crate) fn file_of(alloc: Global, texts: &[&str]) -> Option<Vec<u8>> {
 /// Ends the test unless the run said this.
 pub(crate) fn expect_said(rt: &impl Abort, left: Option<Left>, want: &str, row: &str) {
     match left {
-        Some(left) => assert_eq!(rt; left.said.as_str(), want, "{row}"),
-        None => panic!(rt; "memory was refused: {row}"),
+        Some(left) => {
+            let said = left.said.as_str();
+            assert!(rt; said == want, "{row}: {said}");
+        }
+        None => panic!(rt; "memory was refused"),
     }
 }
