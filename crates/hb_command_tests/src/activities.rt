@@ -384,7 +384,7 @@ fn is_told(alloc: Global, spelled: &str, level: u8, height: u8, want: &str) -> O
 
 #[test]
 fn rows_of_activities(rt: HostRuntime) {
-    for (spelled, level, height, want) in ROWS {
+    for &(spelled, level, height, want) in &ROWS {
         let right = is_told(rt.alloc(), spelled, level, height, want);
         assert!(rt; right == Some(true), "{spelled}");
     }

@@ -61,7 +61,7 @@ fn takes(jobs: &mut Jobs, kind: JobKind, level: u32, value: u32) -> bool {
 #[test]
 fn jobs_in_order(rt: HostRuntime) {
     let mut jobs = Jobs::new(rt.alloc()).expect(&rt, "memory");
-    for (adds, kind, level, value, want) in ROWS {
+    for &(adds, kind, level, value, want) in &ROWS {
         let done = if adds {
             jobs.add(job(kind, level, value))
         } else {

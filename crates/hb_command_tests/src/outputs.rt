@@ -77,7 +77,7 @@ fn says_reply(alloc: Global, word: &str, failing: u64, want: &str, whole: bool) 
 
 #[test]
 fn replies(rt: HostRuntime) {
-    for (word, failing, want, whole) in REPLIES {
+    for &(word, failing, want, whole) in &REPLIES {
         let right = says_reply(rt.alloc(), word, failing, want, whole);
         assert!(rt; right == Some(true), "{want}");
     }
@@ -102,7 +102,7 @@ fn says_order(alloc: Global, order: &[u32], settled: u32, want: &str) -> Option<
 
 #[test]
 fn orders(rt: HostRuntime) {
-    for (order, settled, want) in ORDERS {
+    for &(order, settled, want) in &ORDERS {
         assert!(rt;
             says_order(rt.alloc(), order, settled, want) == Some(true),
             "{want}"

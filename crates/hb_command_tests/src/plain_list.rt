@@ -82,7 +82,7 @@ impl Both {
 
     /// Whether they do to two inserts, a delete, a lookup and a search that are drawn.
     fn agree_on_five(&mut self, seed: &mut u64, body: char) -> bool {
-        for verb in ["insert", "delete", "lookup", "insert"] {
+        for &verb in &["insert", "delete", "lookup", "insert"] {
             let (a, b) = (drawn(seed), drawn(seed));
             if self.agree(verb, a, b, body) != Some(true) {
                 return false;

@@ -27,7 +27,7 @@ const NUMBERS: [(&str, Result<u64, NumberFault>); 14] = [
 
 #[test]
 fn number_words(rt: HostRuntime) {
-    for (word, want) in NUMBERS {
+    for &(word, want) in &NUMBERS {
         assert_eq!(rt; read_number(word.as_bytes()), want, "{word}");
     }
 }
@@ -158,7 +158,7 @@ const TEXTS: [(u8, bool, &str, Outcome); 60] = [
 
 #[test]
 fn texts_are_read(rt: HostRuntime) {
-    for (attributes, step_lines, text, want) in TEXTS {
+    for &(attributes, step_lines, text, want) in &TEXTS {
         let got = answer_to(rt.alloc(), attributes, step_lines, text.as_bytes());
         assert_eq!(rt; got, Some(want), "{text}");
     }
@@ -183,7 +183,7 @@ fn answer_to_long(alloc: Global, byte: u8, count: usize) -> Option<Outcome> {
 
 #[test]
 fn limits(rt: HostRuntime) {
-    for (byte, count, want) in LONG {
+    for &(byte, count, want) in &LONG {
         assert_eq!(rt;
             answer_to_long(rt.alloc(), byte, count),
             Some(want),
@@ -213,7 +213,7 @@ const STEPS: [(&str, &[u8]); 4] = [
 
 #[test]
 fn steps_are_read(rt: HostRuntime) {
-    for (text, steps) in STEPS {
+    for &(text, steps) in &STEPS {
         assert!(rt; has_steps(rt.alloc(), text, steps), "{text}");
     }
 }

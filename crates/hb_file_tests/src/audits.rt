@@ -162,7 +162,7 @@ const ROWS: [(Marks, &str, Outcome); 65] = [
 
 #[test]
 fn answers_are_those_worked_out(rt: HostRuntime) {
-    for (marks, text, want) in ROWS {
+    for &(marks, text, want) in &ROWS {
         assert!(rt;
             is_audited(rt.alloc(), 1, marks, text, 0, "", want),
             "{text}"

@@ -107,7 +107,7 @@ const ROWS: [(u8, usize, &str, Outcome); 40] = [
 
 #[test]
 fn boxes_of_several_attributes(rt: HostRuntime) {
-    for (k, number, other, want) in ROWS {
+    for &(k, number, other, want) in &ROWS {
         let (marks, text) = sound_file(k);
         assert!(rt;
             is_audited(rt.alloc(), k, marks, text, number, other, want),

@@ -69,7 +69,7 @@ const FETCHES: [(u32, &[u8], u64, Told); 9] = [
 
 #[test]
 fn pages_are_fetched(rt: HostRuntime) {
-    for (id, page, failing, want) in FETCHES {
+    for &(id, page, failing, want) in &FETCHES {
         assert_eq!(rt; fetched(rt.alloc(), id, page, failing), Some(want), "{id}");
     }
 }
@@ -94,7 +94,7 @@ const CALLS: [(&[u32], u64, u64); 5] = [
 
 #[test]
 fn a_fetch_reads_at_most_once(rt: HostRuntime) {
-    for (ids, failing, want) in CALLS {
+    for &(ids, failing, want) in &CALLS {
         assert_eq!(rt; calls(rt.alloc(), ids, failing), Some(want), "{ids:?}");
     }
 }
@@ -133,7 +133,7 @@ const NUMBERS: [(Marks, &[u8], u64, Told); 11] = [
 
 #[test]
 fn numbers_are_taken(rt: HostRuntime) {
-    for (marks, page, failing, want) in NUMBERS {
+    for &(marks, page, failing, want) in &NUMBERS {
         assert_eq!(rt;
             next(rt.alloc(), marks, page, failing),
             Some(want),

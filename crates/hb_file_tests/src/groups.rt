@@ -92,7 +92,7 @@ fn comes(alloc: Global, row: Row) -> Option<bool> {
 
 #[test]
 fn groups_wait(rt: HostRuntime) {
-    for row in ROWS {
+    for &row in &ROWS {
         assert!(rt; comes(rt.alloc(), row) == Some(true), "{} {}", row.0, row.1);
     }
 }
@@ -136,7 +136,7 @@ fn forces(alloc: Global, failing: u64, times: u8, want: (char, u32, u32, u64)) -
 
 #[test]
 fn groups_are_forced(rt: HostRuntime) {
-    for (failing, times, last, pending, settled, calls) in FORCES {
+    for &(failing, times, last, pending, settled, calls) in &FORCES {
         let right = forces(rt.alloc(), failing, times, (last, pending, settled, calls));
         assert!(rt; right == Some(true), "{failing} {times}");
     }
@@ -187,7 +187,7 @@ fn stands(alloc: Global, is_tree: bool, at: usize, want: &[u8]) -> Option<bool> 
 
 #[test]
 fn groups_have_these_bytes(rt: HostRuntime) {
-    for (is_tree, at, want) in FRAMES {
+    for &(is_tree, at, want) in &FRAMES {
         assert!(rt;
             stands(rt.alloc(), is_tree, at, want) == Some(true),
             "{is_tree} {at}"

@@ -139,7 +139,7 @@ const ROWS: [(bool, Front, &[u8], (usize, char)); 17] = [
 
 #[test]
 fn logs_are_read(rt: HostRuntime) {
-    for (is_two, front, behind, want) in ROWS {
+    for &(is_two, front, behind, want) in &ROWS {
         assert_eq!(rt;
             told(rt.alloc(), is_two, front, behind),
             Some(want),

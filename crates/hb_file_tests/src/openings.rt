@@ -142,7 +142,7 @@ fn a_file_of_two_levels_opens(rt: HostRuntime) {
     let (said, disk) = opened(rt.alloc(), NEVER).expect(&rt, "memory");
     assert_eq!(rt; said, GOOD);
     assert!(rt; opens_again(rt.alloc(), &disk));
-    for (at, want) in LEFT {
+    for &(at, want) in &LEFT {
         assert!(rt; stands(disk.bytes(), at, want), "{at}");
     }
 }
@@ -197,7 +197,7 @@ fn first_lost_again(alloc: Global, disk: &MemDisk, pick: Pick) -> Option<u64> {
 #[test]
 fn an_opening_stops_twice(rt: HostRuntime) {
     let (_, disk) = opened(rt.alloc(), NEVER).expect(&rt, "memory");
-    for pick in [Pick::Old, Pick::New, Pick::Noise(165)] {
+    for &pick in &[Pick::Old, Pick::New, Pick::Noise(165)] {
         assert_eq!(rt; first_lost(rt.alloc(), &disk, pick), None);
         assert_eq!(rt; first_lost_again(rt.alloc(), &disk, pick), None);
     }
@@ -271,7 +271,7 @@ const DAMAGES: [(usize, usize, &[u8], OpenFault); 12] = [
 
 #[test]
 fn damaged_files_are_refused(rt: HostRuntime) {
-    for (size, at, piece, fault) in DAMAGES {
+    for &(size, at, piece, fault) in &DAMAGES {
         let bytes = file(rt.alloc(), size, at, piece).expect(&rt, "memory");
         let said = answer_of(rt.alloc(), bytes);
         assert_eq!(rt; said, Err(fault), "{size} {at}");
@@ -300,7 +300,7 @@ fn made(alloc: Global, byte: u8) -> Option<Answer> {
 #[test]
 fn a_new_file_opens(rt: HostRuntime) {
     // of zeros, and of noise that is an open gate everywhere
-    for byte in [0, 165] {
+    for &byte in &[0, 165] {
         let want = Ok(([1, 1, 1, 1], 0));
         assert_eq!(rt; made(rt.alloc(), byte), Some(want), "{byte}");
     }

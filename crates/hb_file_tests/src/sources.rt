@@ -143,7 +143,7 @@ fn changes(alloc: Global, live: u32, at: u32, then: &str, want: Outcome) -> Opti
 
 #[test]
 fn a_source_may_give_other_pages_than_before(rt: HostRuntime) {
-    for (live, at, then, want) in CHANGES {
+    for &(live, at, then, want) in &CHANGES {
         assert!(rt;
             changes(rt.alloc(), live, at, then, want) == Some(true),
             "{at} {then}"

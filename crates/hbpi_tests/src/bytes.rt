@@ -101,7 +101,7 @@ fn stands(bytes: &[u8], at: usize, front: &[u8], count: usize) -> bool {
 
 #[test]
 fn files_have_these_bytes(rt: HostRuntime) {
-    for (words, texts, at, front, count) in ROWS {
+    for &(words, texts, at, front, count) in &ROWS {
         let file = left_of(rt.alloc(), words, texts, SIZE, 0).expect(&rt, "memory");
         assert!(rt; stands(&file, at, front, count), "{words} {at}");
         assert_eq!(rt; file.len(), SIZE);

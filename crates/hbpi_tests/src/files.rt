@@ -122,7 +122,7 @@ fn driven(alloc: Global, first: &str, text: &str) -> Option<Left> {
 
 #[test]
 fn drives_texts(rt: HostRuntime) {
-    for (first, text, want) in TEXTS {
+    for &(first, text, want) in &TEXTS {
         expect_said(&rt, driven(rt.alloc(), first, text), want, text);
     }
 }
@@ -265,7 +265,7 @@ fn with_faults(alloc: Global, words: &str, text: &str, read: u64, write: u64) ->
 
 #[test]
 fn streams_fail(rt: HostRuntime) {
-    for (words, text, read, write, want) in STREAMS {
+    for &(words, text, read, write, want) in &STREAMS {
         let left = with_faults(rt.alloc(), words, text, read, write);
         expect_said(&rt, left, want, text);
     }
@@ -297,7 +297,7 @@ fn says_of_sevens(alloc: Global, words: &str, size: usize, want: &str) -> Option
 
 #[test]
 fn refusals_leave_the_disk(rt: HostRuntime) {
-    for (words, size, want) in SEVENS {
+    for &(words, size, want) in &SEVENS {
         let right = says_of_sevens(rt.alloc(), words, size, want);
         assert!(rt; right == Some(true), "{words}: {size}");
     }
@@ -323,7 +323,7 @@ fn says_of_front(alloc: Global, file: &[u8], size: usize, want: &str) -> Option<
 #[test]
 fn fronts_of_files_are_small(rt: HostRuntime) {
     let file = file_of(rt.alloc(), &[]).expect(&rt, "memory");
-    for (size, want) in FRONTS {
+    for &(size, want) in &FRONTS {
         let right = says_of_front(rt.alloc(), &file, size, want);
         assert!(rt; right == Some(true), "{want}");
     }
@@ -430,7 +430,7 @@ fn behind_turns(alloc: Global, turns: usize) -> Option<Left> {
 
 #[test]
 fn keeps_records_over_many_turns(rt: HostRuntime) {
-    for (turns, want) in TURNS {
+    for &(turns, want) in &TURNS {
         expect_said(&rt, behind_turns(rt.alloc(), turns), want, want);
     }
 }

@@ -180,7 +180,7 @@ fn is_driven(alloc: Global, file: &[u8], seed: u64) -> Option<bool> {
 
 #[test]
 fn answers_as_a_plain_list(rt: HostRuntime) {
-    for seed in [1, 2, 3, 5, 8, 13, 21, 34] {
+    for &seed in &[1, 2, 3, 5, 8, 13, 21, 34] {
         assert!(rt; is_dry(rt.alloc(), seed) == Some(true), "{seed}");
     }
 }
@@ -189,7 +189,7 @@ fn answers_as_a_plain_list(rt: HostRuntime) {
 fn drives_as_a_plain_list(rt: HostRuntime) {
     let words = "create 2 64 65536 6 32";
     let file = left_of(rt.alloc(), words, &[], SIZE, 0).expect(&rt, "memory");
-    for seed in [1, 2, 3, 5, 8, 13, 21, 34] {
+    for &seed in &[1, 2, 3, 5, 8, 13, 21, 34] {
         assert!(rt; is_driven(rt.alloc(), &file, seed) == Some(true), "{seed}");
     }
 }

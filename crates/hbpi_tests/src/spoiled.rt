@@ -180,7 +180,7 @@ fn is_right(left: &Left, want: &str) -> bool {
 
 #[test]
 fn damaged_files_are_refused(rt: HostRuntime) {
-    for (texts, at, piece, other, more, want) in ROWS {
+    for &(texts, at, piece, other, more, want) in &ROWS {
         let left = over(rt.alloc(), texts, at, piece, other, more).expect(&rt, "memory");
         assert!(rt; is_right(&left, want), "{at}: {}", left.said.as_str());
     }

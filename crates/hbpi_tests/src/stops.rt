@@ -21,7 +21,7 @@ fn one_says(
 
 /// Whether it does over each of three such images: the old bytes, the new ones, and noise of 165, which is an open gate.
 fn all_say(alloc: Global, disk: &MemDisk, before: u64, text: &str, wants: [&str; 2]) -> bool {
-    for pick in [Pick::Old, Pick::New, Pick::Noise(165)] {
+    for &pick in &[Pick::Old, Pick::New, Pick::Noise(165)] {
         if one_says(alloc, disk, before, pick, text, wants) != Some(true) {
             return false;
         }
@@ -69,7 +69,7 @@ fn created(alloc: Global, byte: u8, call: u64) -> Option<Left> {
 #[test]
 fn a_stopped_create_leaves_no_record(rt: HostRuntime) {
     // over zeros, and over noise that is an open gate everywhere
-    for byte in [0, 165] {
+    for &byte in &[0, 165] {
         let left = created(rt.alloc(), byte, NEVER).expect(&rt, "memory");
         assert!(rt; has_stopped(&left, 9, "0 created\n", 0), "{byte}");
         assert!(rt;
@@ -190,7 +190,7 @@ const ANSWERED: [(u64, usize); 12] = [
 #[test]
 fn answers_come_behind_their_forces(rt: HostRuntime) {
     let left = six(rt.alloc(), NEVER).expect(&rt, "memory");
-    for (calls, want) in ANSWERED {
+    for &(calls, want) in &ANSWERED {
         assert_eq!(rt; answered_by(&left, calls), want, "{calls}");
     }
 }

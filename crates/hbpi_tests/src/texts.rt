@@ -62,7 +62,7 @@ const TEXTS: [(&str, &str, &str); 18] = [
 
 #[test]
 fn answers_texts(rt: HostRuntime) {
-    for (words, text, want) in TEXTS {
+    for &(words, text, want) in &TEXTS {
         expect_said(&rt, run_on(rt.alloc(), words, text, &[]), want, text);
     }
 }
@@ -152,7 +152,7 @@ const WORDS: [(&str, &str); 73] = [
 
 #[test]
 fn refuses_words(rt: HostRuntime) {
-    for (words, want) in WORDS {
+    for &(words, want) in &WORDS {
         expect_said(&rt, run_on(rt.alloc(), words, "x", &[]), want, words);
     }
 }
