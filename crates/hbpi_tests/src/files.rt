@@ -338,6 +338,19 @@ struct Filling {
 }
 
 impl Filling {
+    /// The changes that fill a log, and what is said to them.
+    fn new(alloc: Global) -> Option<Filling> {
+        let mut new = Filling {
+            text: String::new(alloc),
+            want: String::new(alloc),
+            order: String::new(alloc),
+        };
+        new.want.push_str("0 ").ok()?;
+        new.order.push_str("order").ok()?;
+        new.fill()?;
+        Some(new)
+    }
+
     /// A change of the point 1 that is answered.
     fn change(&mut self, line: u32, verb: &str) -> Option<()> {
         write!(self.text, "1 {verb}\n").ok()?;
@@ -366,22 +379,9 @@ impl Filling {
     }
 }
 
-/// Those changes, and what is said to them.
-fn filling(alloc: Global) -> Option<Filling> {
-    let mut filling = Filling {
-        text: String::new(alloc),
-        want: String::new(alloc),
-        order: String::new(alloc),
-    };
-    filling.want.push_str("0 ").ok()?;
-    filling.order.push_str("order").ok()?;
-    filling.fill()?;
-    Some(filling)
-}
-
-/// What `drive` leaves of them, and whether it says so.
+/// What `drive` leaves of those changes, and whether it says so.
 fn filled(alloc: Global) -> Option<(bool, Left)> {
-    let filling = filling(alloc)?;
+    let filling = Filling::new(alloc)?;
     let file = file_of(alloc, &[])?;
     let left = drive_on(alloc, filling.text.as_str(), file.as_slice())?;
     Some((left.said == filling.want, left))
