@@ -17,3 +17,5 @@ mod spoiled;
 mod stops;
 #[cfg(test)]
 mod texts;
+#[cfg(test)]
+mod turns;
