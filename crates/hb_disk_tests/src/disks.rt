@@ -117,19 +117,40 @@ run:  | 3 => yyyyy abXYefgh abXYeZgh abXYe#gh
 run:  | 4 => yyyyy abXYefgh _bXYeZgh #bXYe#gh
 run:  | 5 => yyyyy abXYefgh _bXYeZgh #bXYe#gh
 run:  | 6 => yyyyy none none none
-// a call of each kind fails
+";
+
+#[test]
+fn a_call_of_each_kind_fails(rt: HostRuntime) -> Result<(), Fail> {
+    expect_all(&rt, rt.alloc(), FAILING)
+}
+
+const FAILING: &str = "
 run: 0 | 5 => nyyyy abcdefgh _bcdeZgh #bcde#gh
 run: 1 9 | 5 => ynyyy abcdefgh _bXYeZgh #b##e#gh
 run: 2 | 5 => yynyy abXYefgh _bXYefgh #bXYe#gh
 run: 3 2 | 5 => yynny abXYefgh abXYefgh #bXYe#gh
 run: 4 | 5 => yyyyn abXYefgh _bXYeZgh #bXYe#gh
-// a gate opens last
+";
+
+#[test]
+fn a_gate_opens_last(rt: HostRuntime) -> Result<(), Fail> {
+    expect_all(&rt, rt.alloc(), GATES)
+}
+
+const GATES: &str = "
 gate: 0 => ijklmnop ijklmnop ijklmnop
 gate: 1 => ijklmnop ijabmnop ij##mnop
 gate: 2 => ijabmnop ijabmnop ijabmnop
 gate: 3 => ijabmnop i#abmnop i#abmnop
 gate: 4 => i#abmnop i#abmnop i#abmnop
-// the second piece waits for the first
+";
+
+#[test]
+fn the_second_waits_for_the_first(rt: HostRuntime) -> Result<(), Fail> {
+    expect_all(&rt, rt.alloc(), ORDERS)
+}
+
+const ORDERS: &str = "
 order: 0 => ijklmnop ijklmnop ijklmnop
 order: 1 => ijklmnop abklmnop ##klmnop
 order: 2 => abklmnop abklmnop abklmnop

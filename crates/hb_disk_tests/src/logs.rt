@@ -71,7 +71,14 @@ area: #____x => bad 0
 area: #$$$$x => bad 0
 area: #___1x#___3yz => x bad 1
 area: #___%_1___1_______51a => _1___1_______51a end
-// a read fails
+";
+
+#[test]
+fn a_read_fails(rt: HostRuntime) -> Result<(), Fail> {
+    expect_all(&rt, rt.alloc(), READS)
+}
+
+const READS: &str = "
 area: #___1x | 1 => disk fault
 ";
 
@@ -202,13 +209,27 @@ life: 0 => 3 0 3 6 2 nn________________________nnnn
 life: 1 => 1 7 5 6 6 nn#___2ab_________________nnnn
 life: 2 => 0 13 9 6 10 nn#___2ab#___1c___________nnnn
 life: 3 => 0 13 9 6 10 nn#___2ab#___1c___________nnnn
-// a force is stopped
+";
+
+#[test]
+fn a_force_is_stopped(rt: HostRuntime) -> Result<(), Fail> {
+    expect_all(&rt, rt.alloc(), STOPPED)
+}
+
+const STOPPED: &str = "
 force:  | 2 => 1 7 5 0 0 0
 force:  | 3 => 1 7 5 0 0 0
 force:  | 4 => 1 7 5 0 0 0
 force:  | 5 => 1 7 5 0 1 1
 force:  | 6 => 1 7 5 1 1 1
-// each call of a force fails
+";
+
+#[test]
+fn each_call_fails(rt: HostRuntime) -> Result<(), Fail> {
+    expect_all(&rt, rt.alloc(), FAILING)
+}
+
+const FAILING: &str = "
 force: 2 | 3 => 3 0 3 0 0 0
 force: 3 | 4 => 3 0 3 0 0 0
 force: 4 | 5 => 3 0 3 0 0 1

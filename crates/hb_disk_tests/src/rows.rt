@@ -1,4 +1,4 @@
-//! Tables of rows. A row is `KIND: QUESTION => ANSWER`; a line that begins with `//` is a comment.
+//! Tables of rows. A row is `KIND: QUESTION => ANSWER`.
 
 use crate::{disks, logs};
 use std::alloc::Global;
@@ -18,20 +18,11 @@ fn answer(alloc: Global, text: &str) -> Result<String, Fail> {
     }
 }
 
-// Asserts that a row's question has the row's answer.
-fn expect(rt: &impl Abort, alloc: Global, row: &str) -> Result<(), Fail> {
-    let (question, wanted) = row.split_once(" => ").ok_or("no answer")?;
-    let answer = answer(alloc, question)?;
-    assert_eq!(rt; answer.as_str(), wanted, "{question}");
-    Ok(())
-}
-
 /// Asserts that each row's question has the row's answer.
 pub(crate) fn expect_all(rt: &impl Abort, alloc: Global, rows: &str) -> Result<(), Fail> {
-    for row in rows.lines() {
-        if !row.is_empty() && !row.starts_with("//") {
-            expect(rt, alloc, row)?;
-        }
+    for row in rows.trim().lines() {
+        let (question, wanted) = row.split_once(" => ").ok_or("no answer")?;
+        assert_eq!(rt; answer(alloc, question)?.as_str(), wanted, "{question}");
     }
     Ok(())
 }

@@ -35,6 +35,12 @@ pub(crate) fn joined(alloc: Global, question: &str) -> Result<String, Fail> {
     Ok(frag_text(alloc, &frag)?)
 }
 
+/// The same tree once more.
+pub(crate) fn copied(alloc: Global, question: &str) -> Result<String, Fail> {
+    let frag = frag_of(alloc, question)?;
+    Ok(frag_text(alloc, &frag.copy(alloc)?)?)
+}
+
 #[test]
 fn leaves_carved(rt: HostRuntime) -> Result<(), Fail> {
     expect_all(&rt, rt.alloc(), CARVED)
@@ -67,7 +73,7 @@ carve: 0..9 0..9 0..9 0..9 by 0..9 0..9 0..9 0..9 => 1 ^2
 ";
 
 #[test]
-fn leaves_joined(rt: HostRuntime) -> Result<(), Fail> {
+fn trees_joined_and_copied(rt: HostRuntime) -> Result<(), Fail> {
     expect_all(&rt, rt.alloc(), JOINED)
 }
 
@@ -83,6 +89,7 @@ normal: ( ( ^8 |0:1| ^7 ) |0:1| ^7 ) => ( ( ^8 |0:1| ^7 ) |0:1| ^7 )
 normal: ( >9 |0:1| >9 ) => ( >9 |0:1| >9 )
 normal: ( ^9 |0:1| >9 ) => ( ^9 |0:1| >9 )
 normal: ( ( 5=a |0:1| >9 ) |0:1| 3=b ) => ( ( 5=a |0:1| >9 ) |0:1| 3=b )
+copy: ( ( 5=a,7=b |0:9| >9 ) |1:1| ^7 ) => ( ( 5=a,7=b |0:9| >9 ) |1:1| ^7 )
 ";
 
 fn record_at(value: u64) -> Record {

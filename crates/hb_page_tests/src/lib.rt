@@ -1,9 +1,9 @@
 //! The tests of hb_frag, hb_ops, hb_page_codec and hb_log_codec, and nothing else. They stand here
 //! since a crate with tests is proved twice, once without them: of this crate nothing is left then.
 //!
-//! A test is a table of rows, each `QUESTION => ANSWER`. The modules `places` to `groups` have the
-//! tables of one library each, and what answers their questions. `rows` goes through a table,
-//! `spelled` and `drawn` turn text into pages, boxes and operations, and back.
+//! A test is a table of rows, each `QUESTION => ANSWER`. `places`, `carving`, `changes`, `pages` and
+//! `groups` have the tables, and what answers their questions. `rows` goes through a table;
+//! `spelled`, `operations` and `bytes` read what the questions spell, and `drawn` writes pages.
 //!
 //! Each answer was worked out by hand.
 #![tactic(auto)]

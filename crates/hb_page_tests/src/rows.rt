@@ -16,6 +16,7 @@ fn answer(alloc: Global, text: &str) -> Result<String, Fail> {
         "weight" => places::weight(alloc, question),
         "carve" => carving::carved(alloc, question),
         "normal" => carving::joined(alloc, question),
+        "copy" => carving::copied(alloc, question),
         "change" => changes::changed(alloc, question),
         "rule" => changes::rule(alloc, question),
         "reads" => changes::reads(alloc, question),
