@@ -44,7 +44,7 @@ pub(crate) fn push_bytes(text: &mut String, bytes: &[u8]) -> Result<(), NoMemory
     Ok(())
 }
 
-fn numbers_of(alloc: Global, text: &str) -> Result<Vec<u64>, Fail> {
+pub(crate) fn numbers_of(alloc: Global, text: &str) -> Result<Vec<u64>, Fail> {
     let mut numbers = Vec::new(alloc);
     for word in text.split_whitespace() {
         numbers.push(word.parse()?)?;

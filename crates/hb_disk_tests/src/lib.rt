@@ -1,8 +1,8 @@
-//! The tests of hb_disk and hb_wal, and nothing else. They stand here since a crate with tests is
+//! The tests of hb_outside, hb_disk, hb_wal and hb_super, and nothing else. They stand here since a crate with tests is
 //! proved twice, once without them: of this crate nothing is left then.
 //!
 //! A test is mostly a table of rows, each `QUESTION => ANSWER`, and each answer was worked out by
-//! hand. `disks` and `logs` have the tables of one library each, and what answers their questions.
+//! hand. `streams`, `numbers`, `disks`, `logs` and `supers` have the tables of one library each, and what answers their questions.
 //! `rows` goes through a table, and `letters` turns text into bytes and back.
 #![tactic(auto)]
 
@@ -13,4 +13,10 @@ mod letters;
 #[cfg(test)]
 mod logs;
 #[cfg(test)]
+mod numbers;
+#[cfg(test)]
 mod rows;
+#[cfg(test)]
+mod streams;
+#[cfg(test)]
+mod supers;

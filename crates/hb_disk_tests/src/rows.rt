@@ -1,6 +1,6 @@
 //! Tables of rows. A row is `KIND: QUESTION => ANSWER`; a line that begins with `//` is a comment.
 
-use crate::{disks, logs};
+use crate::{disks, logs, numbers, streams, supers};
 use std::alloc::Global;
 use std::process::Abort;
 use std::test::Fail;
@@ -8,12 +8,23 @@ use std::test::Fail;
 fn answer(alloc: Global, text: &str) -> Result<String, Fail> {
     let (kind, question) = text.split_once(": ").ok_or("no question")?;
     match kind {
+        "source" => streams::source(alloc, question),
+        "sink" => streams::sink(alloc, question),
+        "reader" => streams::reader(alloc, question),
+        "slice" => streams::slice(alloc, question),
+        "writer" => streams::writer(alloc, question),
+        "vector" => streams::vector(alloc),
+        "give" => numbers::given(alloc, question),
+        "take" => numbers::taken(alloc, question),
         "run" => disks::run(alloc, question),
         "gate" => disks::gate(alloc, question),
         "order" => disks::order(alloc, question),
         "area" => logs::area(alloc, question),
         "life" => logs::life(alloc, question),
         "force" => logs::force(alloc, question),
+        "newest" => supers::newest(alloc, question),
+        "write" => supers::write(alloc, question),
+        "clear" => supers::clear(alloc, question),
         _ => Err("no such kind of question".into()),
     }
 }

@@ -1,0 +1,107 @@
+//! Numbers as bytes, and back.
+
+use crate::letters::numbers_of;
+use crate::rows::expect_all;
+use hb_outside::{give_u16, give_u32, give_u64, take_u8, take_u16, take_u32, take_u64};
+use std::alloc::Global;
+use std::test::Fail;
+
+// Writes the number in so many bytes at place 1.
+fn give(into: &mut [u8; 10], width: &str, n: &str) -> Result<(), Fail> {
+    match width {
+        "2" => give_u16(into, 1, n.parse()?),
+        "4" => give_u32(into, 1, n.parse()?),
+        "8" => give_u64(into, 1, n.parse()?),
+        _ => return Err("no such width".into()),
+    }
+    Ok(())
+}
+
+/// Ten bytes that were 9 before the number was given at place 1: from `WIDTH NUMBER`.
+pub(crate) fn given(alloc: Global, question: &str) -> Result<String, Fail> {
+    let (width, n) = question.split_once(' ').ok_or("no number")?;
+    let mut bytes = [9; 10];
+    give(&mut bytes, width, n)?;
+    let mut text = String::new(alloc);
+    let mut mark = "";
+    for byte in bytes {
+        write!(text, "{mark}{byte}")?;
+        mark = " ";
+    }
+    Ok(text)
+}
+
+fn take(bytes: &[u8], width: &str, at: usize) -> Result<Option<u64>, Fail> {
+    match width {
+        "1" => Ok(take_u8(bytes, at).map(|n| u64::from(n))),
+        "2" => Ok(take_u16(bytes, at).map(|n| u64::from(n))),
+        "4" => Ok(take_u32(bytes, at).map(|n| u64::from(n))),
+        "8" => Ok(take_u64(bytes, at)),
+        _ => Err("no such width".into()),
+    }
+}
+
+// Bytes from text, with a blank between them.
+fn words_of(alloc: Global, text: &str) -> Result<Vec<u8>, Fail> {
+    let mut bytes = Vec::new(alloc);
+    for word in text.split_whitespace() {
+        bytes.push(word.parse()?)?;
+    }
+    Ok(bytes)
+}
+
+/// The number that is taken: from `WIDTH PLACE | BYTES`.
+pub(crate) fn taken(alloc: Global, question: &str) -> Result<String, Fail> {
+    let (asked, bytes) = question.split_once(" | ").ok_or("no bytes")?;
+    let (width, at) = asked.split_once(' ').ok_or("no place")?;
+    let bytes = words_of(alloc, bytes)?;
+    match take(&bytes, width, at.parse()?)? {
+        Some(n) => Ok(format!(in alloc; "{n}")?),
+        None => Ok("none".to_string(alloc)?),
+    }
+}
+
+#[test]
+fn numbers_as_bytes(rt: HostRuntime) -> Result<(), Fail> {
+    expect_all(&rt, rt.alloc(), NUMBERS)
+}
+
+const NUMBERS: &str = "
+give: 2 0 => 9 0 0 9 9 9 9 9 9 9
+give: 2 1 => 9 0 1 9 9 9 9 9 9 9
+give: 2 255 => 9 0 255 9 9 9 9 9 9 9
+give: 2 256 => 9 1 0 9 9 9 9 9 9 9
+give: 2 4660 => 9 18 52 9 9 9 9 9 9 9
+give: 2 65535 => 9 255 255 9 9 9 9 9 9 9
+give: 4 0 => 9 0 0 0 0 9 9 9 9 9
+give: 4 1 => 9 0 0 0 1 9 9 9 9 9
+give: 4 255 => 9 0 0 0 255 9 9 9 9 9
+give: 4 256 => 9 0 0 1 0 9 9 9 9 9
+give: 4 305419896 => 9 18 52 86 120 9 9 9 9 9
+give: 4 4294967295 => 9 255 255 255 255 9 9 9 9 9
+give: 8 0 => 9 0 0 0 0 0 0 0 0 9
+give: 8 1 => 9 0 0 0 0 0 0 0 1 9
+give: 8 255 => 9 0 0 0 0 0 0 0 255 9
+give: 8 256 => 9 0 0 0 0 0 0 1 0 9
+give: 8 72623859790382856 => 9 1 2 3 4 5 6 7 8 9
+give: 8 18446744073709551615 => 9 255 255 255 255 255 255 255 255 9
+take: 1 1 | 7 8 => 8
+take: 1 2 | 7 8 => none
+take: 1 18446744073709551615 | 7 8 => none
+take: 2 1 | 9 0 255 9 => 255
+take: 2 1 | 9 1 0 9 => 256
+take: 2 1 | 9 18 52 9 => 4660
+take: 2 0 | 255 255 => 65535
+take: 2 3 | 9 18 52 9 => none
+take: 2 18446744073709551615 | 9 18 52 9 => none
+take: 4 0 | 0 0 1 0 9 => 256
+take: 4 1 | 9 18 52 86 120 => 305419896
+take: 4 0 | 255 255 255 255 9 => 4294967295
+take: 4 2 | 18 52 86 120 9 => none
+take: 4 18446744073709551615 | 18 52 86 120 9 => none
+take: 8 1 | 9 0 0 0 0 0 0 1 0 => 256
+take: 8 1 | 9 1 2 3 4 5 6 7 8 => 72623859790382856
+take: 8 0 | 255 255 255 255 255 255 255 255 => 18446744073709551615
+take: 8 2 | 9 1 2 3 4 5 6 7 8 => none
+take: 8 18446744073709551615 | 9 1 2 3 4 5 6 7 8 => none
+";
