@@ -1,13 +1,16 @@
-//! The tests of hb_frag, hb_ops, hb_page_codec and hb_log_codec, and nothing else. They stand here
-//! since a crate with tests is proved twice, once without them: of this crate nothing is left then.
+//! The tests of hb_space, hb_layout, hb_frag, hb_ops, hb_page_codec, hb_log_codec, hb_split and
+//! hb_terms, and nothing else. They stand here since a crate with tests is proved twice, once without
+//! them: of this crate nothing is left then.
 //!
-//! A test is a table of rows, each `QUESTION => ANSWER`. The modules `places` to `groups` have the
+//! A test is a table of rows, each `QUESTION => ANSWER`. The modules `boxes` to `plans` have the
 //! tables of one library each, and what answers their questions. `rows` goes through a table,
 //! `spelled` and `drawn` turn text into pages, boxes and operations, and back.
 //!
 //! Each answer was worked out by hand.
 #![tactic(auto)]
 
+#[cfg(test)]
+mod boxes;
 #[cfg(test)]
 mod bytes;
 #[cfg(test)]
@@ -19,12 +22,18 @@ mod drawn;
 #[cfg(test)]
 mod groups;
 #[cfg(test)]
+mod layouts;
+#[cfg(test)]
 mod operations;
 #[cfg(test)]
 mod pages;
 #[cfg(test)]
 mod places;
 #[cfg(test)]
+mod plans;
+#[cfg(test)]
 mod rows;
 #[cfg(test)]
 mod spelled;
+#[cfg(test)]
+mod splits;

@@ -135,7 +135,7 @@ pub(crate) fn op_of(alloc: Global, text: &str) -> Result<Op, Fail>
     }
 }
 
-fn push_path(text: &mut String, path: &Path) -> Result<(), NoMemory> {
+pub(crate) fn push_path(text: &mut String, path: &Path) -> Result<(), NoMemory> {
     if path.as_slice().is_empty() {
         return text.push('.');
     }
@@ -152,7 +152,7 @@ fn letter_of(side: Side) -> char {
     }
 }
 
-fn push_cuts(text: &mut String, cuts: &Cuts) -> Result<(), NoMemory> {
+pub(crate) fn push_cuts(text: &mut String, cuts: &Cuts) -> Result<(), NoMemory> {
     let mut mark = " ";
     for cut in cuts.as_slice() {
         write!(

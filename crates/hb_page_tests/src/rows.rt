@@ -1,6 +1,6 @@
 //! Tables of rows. A row is `KIND: QUESTION => ANSWER`; a line that begins with `//` is a comment.
 
-use crate::{carving, changes, groups, pages, places};
+use crate::{boxes, carving, changes, groups, layouts, pages, places, plans, splits};
 use std::alloc::Global;
 use std::process::Abort;
 use std::test::Fail;
@@ -8,6 +8,16 @@ use std::test::Fail;
 fn answer(alloc: Global, text: &str) -> Result<String, Fail> {
     let (kind, question) = text.split_once(": ").ok_or("no question")?;
     match kind {
+        "whole" => boxes::whole(alloc, question),
+        "alone" => boxes::alone(alloc, question),
+        "between" => boxes::between(alloc, question),
+        "holds" => boxes::holds(alloc, question),
+        "lie" => boxes::lie(alloc, question),
+        "common" => boxes::common(alloc, question),
+        "cut" => boxes::cut(alloc, question),
+        "outside" => boxes::outside(alloc, question),
+        "offsets" => layouts::offsets(alloc, question),
+        "slot" => layouts::slot(alloc, question),
         "leaf" => places::leaf(alloc, question),
         "directly" => places::directly(alloc, question),
         "named" => places::named(alloc, question),
@@ -23,6 +33,12 @@ fn answer(alloc: Global, text: &str) -> Result<String, Fail> {
         "bytes" => pages::bytes(alloc, question),
         "long" => pages::long(alloc, question),
         "groups" => groups::groups(alloc, question),
+        "points" => splits::points(alloc, question),
+        "steps" => splits::steps(alloc, question),
+        "full" => splits::part(alloc, question),
+        "row" => splits::row(alloc, question),
+        "post" => plans::post(alloc, question),
+        "merge" => plans::merge(alloc, question),
         _ => Err("no such kind of question".into()),
     }
 }

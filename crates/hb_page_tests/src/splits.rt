@@ -1,0 +1,144 @@
+//! The part that leaves a full page, as it was worked out by hand from the rule: its path, and the cuts there.
+
+ghost use Rattle.std.specs.Prelude.{◌<◌, ◌^◌, IfOk};
+ghost use Rattle.hb_frag.specs.Leaves.{weight_of};
+
+use crate::operations::{push_cuts, push_path};
+use crate::rows::expect_all;
+use crate::spelled::{frag_of, page_of, point_from};
+use hb_frag::{Frag, Leaf, LivePage};
+use hb_ops::{Meta, local_rule};
+use hb_space::form::KMAX;
+use hb_space::{Area, Body, Point, Record, Records};
+use hb_split::choose;
+use std::alloc::Global;
+use std::test::Fail;
+
+// A file of so many attributes, in which a page of records may weigh up to 48, and another one 256.
+fn file_of(k: u8) -> Meta {
+    Meta {
+        k,
+        pages: 8,
+        log: 65_536,
+        dcap: 48,
+        icap: 256,
+        root: 1,
+        height: 2,
+        high: 1,
+        live: 1,
+        free: 0,
+    }
+}
+
+// The part that leaves a page of a sound file.
+fn chosen(alloc: Global, page: &LivePage) -> Result<String, Fail>
+    requires { weight_of page.now.frag < 2 ^ 32 }
+{
+    let file = file_of(page.area.lo().attributes());
+    if page.weight() < 6 || local_rule(page, &file).is_some() {
+        return Err("no page to cut".into());
+    }
+    let part = choose(alloc, page)?;
+    let mut text = String::new(alloc);
+    push_path(&mut text, &part.path)?;
+    push_cuts(&mut text, &part.cuts)?;
+    Ok(text)
+}
+
+/// The part that leaves a page.
+pub(crate) fn part(alloc: Global, question: &str) -> Result<String, Fail> {
+    chosen(alloc, &page_of(alloc, question)?)
+}
+
+fn record_at(key: Point) -> Record {
+    Record {
+        key,
+        body: Body::new(b""),
+    }
+}
+
+// The part that leaves a page with records of so many attributes alone.
+fn chosen_of(alloc: Global, k: u8, records: Vec<Record>) -> Result<String, Fail> {
+    if k < 1 || KMAX < usize::from(k) || records.len() > 48 {
+        return Err("no such page".into());
+    }
+    let page = LivePage {
+        level: 0,
+        area: Area::whole(k),
+        frag: Frag::tip(Leaf::Records(Records::new(records))),
+    };
+    chosen(alloc, &page)
+}
+
+/// The part that leaves a page with these points of three attributes.
+pub(crate) fn points(alloc: Global, question: &str) -> Result<String, Fail> {
+    let mut records = Vec::new(alloc);
+    for point in question.split(", ") {
+        records.push(record_at(point_from(point)?))?;
+    }
+    chosen_of(alloc, 3, records)
+}
+
+/// The part that leaves a page of 48 records, each of whose points adds the same to the one before: from these three
+/// values.
+pub(crate) fn steps(alloc: Global, question: &str) -> Result<String, Fail> {
+    let step = point_from(question)?;
+    let mut at = [0u64; 3];
+    let mut records = Vec::new(alloc);
+    for _ in 0..48 {
+        for (value, more) in at.iter_mut().zip(step.values()) {
+            *value = value.saturating_add(*more);
+        }
+        records.push(record_at(Point::new(&at)))?;
+    }
+    chosen_of(alloc, 3, records)
+}
+
+// So many children, each cut of which parts one more from those on its right.
+fn row_text(alloc: Global, count: u32) -> Result<String, Fail> {
+    let mut text = String::new(alloc);
+    for child in 1..count {
+        write!(text, "( ^{child} |0:{child}| ")?;
+    }
+    write!(text, "^{count}")?;
+    for _ in 1..count {
+        text.push_str(" )")?;
+    }
+    Ok(text)
+}
+
+/// The part that leaves an index page with so many children in a row.
+pub(crate) fn row(alloc: Global, question: &str) -> Result<String, Fail> {
+    let text = row_text(alloc, question.parse()?)?;
+    let page = LivePage {
+        level: 1,
+        area: Area::whole(3),
+        frag: frag_of(alloc, &text)?,
+    };
+    chosen(alloc, &page)
+}
+
+#[test]
+fn parts_that_leave(rt: HostRuntime) -> Result<(), Fail> {
+    expect_all(&rt, rt.alloc(), PARTS)
+}
+
+const PARTS: &str = "
+// points at the ends of the axes, the same with one more in the middle, and points on a line
+points: 1 5 5, 5 1 5, 5 5 1, 5 5 9, 5 9 5, 9 5 5 => . 0R5,0L9
+points: 1 5 5, 5 1 5, 5 5 1, 5 5 5, 5 5 9, 5 9 5, 9 5 5 => . 0R5,0L9,1R5
+points: 7 7 10, 7 7 20, 7 7 30, 7 7 40, 7 7 50, 7 7 60 => . 2L40
+// six records at either end of the first attribute: its one plane is as good as the best one of the
+// second attribute, and comes first. With eight and four the second attribute is better
+points: 0 1 0, 0 2 0, 0 3 0, 0 4 0, 0 5 0, 0 6 0, 9 1 0, 9 2 0, 9 3 0, 9 4 0, 9 5 0, 9 6 0 => . 0L9
+points: 0 1 0, 0 2 0, 0 3 0, 0 4 0, 0 5 0, 0 6 0, 0 7 0, 0 8 0, 9 1 0, 9 2 0, 9 3 0, 9 4 0 => . 1L4
+// full pages, on a diagonal and where the last attribute alone differs
+steps: 1 1 1 => . 0L25
+steps: 0 0 10 => . 2L250
+// three leaves around two boxes that were given away. Of 14 the right side has 9, which is little
+// enough. Of 17 the leaf in the middle has 12, which is too much: it is cut in its middle
+full: 0 ( 1=,2=,3=,4=,5= |0:20| ( >2 |0:40| ( 40=,41=,42=,43= |0:60| ( >3 |0:80| 80=,81=,82= ) ) ) ) => R -
+full: 0 ( 1=,2= |0:20| ( >2 |0:40| ( 40=,41=,42=,43=,44=,45=,46=,47=,48=,49=,50=,51= |0:60| ( >3 |0:80| 80= ) ) ) ) => RRL 0L46
+// of 256 children: at each of 86 cuts the right side is the heavier one, and has 170 behind the last
+row: 256 => RRRRRRRRRRRRRRRRRRRRRRRRRRRRRRRRRRRRRRRRRRRRRRRRRRRRRRRRRRRRRRRRRRRRRRRRRRRRRRRRRRRRRR -
+";
