@@ -200,7 +200,10 @@ fn records_are_kept(rt: HostRuntime) -> Result<(), Fail> {
         body: Body::new(b"ab"),
     };
     let records = copies(rt.alloc(), record)?;
-    assert_eq!(rt; kept(rt.alloc(), &records)?.as_str(), "3 7=8=9=ab 3 7=8=9=ab ");
+    assert_eq!(rt;
+        kept(rt.alloc(), &records)?.as_str(),
+        "3 7=8=9=ab 3 7=8=9=ab "
+    );
     assert_eq!(rt; records.into_vec().len(), 2);
     assert_eq!(rt; Area::whole(2).clone()?, Area::whole(2));
     Ok(())

@@ -17,8 +17,6 @@ mod body;
 mod hidden;
 pub mod laws;
 mod reading;
-#[cfg(test)]
-mod tests;
 mod threads;
 mod writing;
 
