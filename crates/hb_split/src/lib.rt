@@ -10,8 +10,6 @@
 mod choices;
 mod parting;
 mod planes;
-#[cfg(test)]
-mod tests;
 mod ways;
 
 pub use choices::{Extraction, choose};

@@ -15,12 +15,8 @@
 #![tactic(auto)]
 
 pub mod laws;
-#[cfg(test)]
-mod merge_tests;
 mod merging;
 mod plans;
-#[cfg(test)]
-mod tests;
 mod threads;
 
 pub use merging::{MergePlan, merge_plan};

@@ -1,6 +1,0 @@
-use Rattle.std.proofs.Common.{IsNone}
-use Rattle.hb_split.proofs.tests.chosen_in.Goals as goal
-
--- src/tests.rt
-pub choose-requires-clause-in_order : goal.choose-requires-clause-in_order
-choose-requires-clause-in_order c = let none : IsNone c.local_rule.result = cc in (c.local_rule.ensures.none.0 none).in_order
