@@ -14,8 +14,6 @@ mod layouts;
 pub mod limits;
 mod meta;
 mod offsets;
-#[cfg(test)]
-mod tests;
 mod threads;
 
 pub use meta::Meta;

@@ -16,8 +16,6 @@ mod memory_sink;
 mod memory_source;
 mod numbers;
 mod read_source;
-#[cfg(test)]
-mod tests;
 mod threads;
 mod traits;
 mod write_sink;

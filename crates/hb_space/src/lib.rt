@@ -20,8 +20,6 @@ mod pieces;
 mod points;
 mod records;
 mod sides;
-#[cfg(test)]
-mod tests;
 mod threads;
 
 pub use areas::Area;
