@@ -2,8 +2,8 @@
 //! proved twice, once without them: of this crate nothing is left then.
 //!
 //! A test is mostly a table of rows, each `QUESTION => ANSWER`, and each answer was worked out by
-//! hand. `streams`, `numbers`, `disks`, `logs` and `supers` have the tables of one library each, and what answers their questions.
-//! `rows` goes through a table, and `letters` turns text into bytes and back.
+//! hand. `streams`, `numbers`, `disks`, `logs` and `supers` have the tables, and what answers their
+//! questions. `rows` goes through a table, and `letters` turns text into bytes and back.
 #![tactic(auto)]
 
 #[cfg(test)]
