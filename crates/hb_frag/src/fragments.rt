@@ -316,18 +316,36 @@ impl Frag {
                     value,
                     left,
                     right,
-                } => {
-                    let (left, right) = match side {
-                        Side::Left => (left.copy_around(alloc, rest, part)?, right.copy(alloc)?),
-                        Side::Right => (left.copy(alloc)?, right.copy_around(alloc, rest, part)?),
-                    };
-                    let left = Box::new(alloc, left)?;
-                    let right = Box::new(alloc, right)?;
-                    Ok(Frag::cut(*axis, *value, left, right))
-                }
+                } => match side {
+                    Side::Left => {
+                        let left = left.copy_around(alloc, rest, part)?;
+                        let right = right.copy(alloc)?;
+                        boxed_cut(alloc, *axis, *value, left, right)
+                    }
+                    Side::Right => {
+                        let left = left.copy(alloc)?;
+                        let right = right.copy_around(alloc, rest, part)?;
+                        boxed_cut(alloc, *axis, *value, left, right)
+                    }
+                },
             },
         }
     }
+}
+
+/// The part that a plane cuts, of two sides that aren't boxed yet.
+pub(crate) fn boxed_cut(
+    alloc: Global,
+    axis: u8,
+    value: u64,
+    left: Frag,
+    right: Frag,
+) -> Result<Frag, NoMemory>
+    ensures { IfOk result (λ frag. frag ≡ Cut axis value left right) }
+{
+    let left = Box::new(alloc, left)?;
+    let right = Box::new(alloc, right)?;
+    Ok(Frag::cut(axis, value, left, right))
 }
 
 /// The tree with another part where the path leads.
