@@ -319,17 +319,37 @@ impl Frag {
                 } => match side {
                     Side::Left => {
                         let left = left.copy_around(alloc, rest, part)?;
-                        let right = right.copy(alloc)?;
-                        boxed_cut(alloc, *axis, *value, left, right)
+                        left.beside_copy(alloc, *axis, *value, right)
                     }
                     Side::Right => {
-                        let left = left.copy(alloc)?;
                         let right = right.copy_around(alloc, rest, part)?;
-                        boxed_cut(alloc, *axis, *value, left, right)
+                        right.behind_copy(alloc, *axis, *value, left)
                     }
                 },
             },
         }
+    }
+
+    /// A cut with this part on its left, and a copy of another one on its right.
+    fn beside_copy(
+        self,
+        alloc: Global,
+        axis: u8,
+        value: u64,
+        right: &Frag,
+    ) -> Result<Frag, NoMemory>
+        ensures { IfOk result (λ frag. frag ≡ Cut axis value self right.now) }
+    {
+        let right = right.copy(alloc)?;
+        boxed_cut(alloc, axis, value, self, right)
+    }
+
+    /// A cut with this part on its right, and a copy of another one on its left.
+    fn behind_copy(self, alloc: Global, axis: u8, value: u64, left: &Frag) -> Result<Frag, NoMemory>
+        ensures { IfOk result (λ frag. frag ≡ Cut axis value left.now self) }
+    {
+        let left = left.copy(alloc)?;
+        boxed_cut(alloc, axis, value, left, self)
     }
 }
 
