@@ -1,6 +1,7 @@
 pub mod Sides
 pub mod Cuts
 pub mod Points
+pub mod Ways
 pub mod NamesListed
 pub mod Clear
 pub mod Tiles

@@ -8,6 +8,7 @@ ghost use Rattle.hb_space.specs.Boxes.{Meets};
 ghost use Rattle.hb_frag.specs.Leaves.{weight_of};
 ghost use Rattle.hb_frag.specs.Carving.{carve_below, carve_above, carve_from, carved};
 
+use crate::fragments::boxed_cut;
 use crate::{Frag, Leaf};
 use hb_space::form::KMAX;
 use hb_space::{Area, NoMemory};
@@ -85,9 +86,8 @@ fn carve_below(
 {
     let least = common.lo().values()[usize::from(axis)];
     if leaf.lo().values()[usize::from(axis)] < least {
-        let old = Box::new(alloc, Frag::tip(Leaf::Child(outer)))?;
-        let rest = Box::new(alloc, rest)?;
-        Ok(Frag::cut(axis, least, old, rest))
+        let old = Frag::tip(Leaf::Child(outer));
+        boxed_cut(alloc, axis, least, old, rest)
     } else {
         Ok(rest)
     }

@@ -316,18 +316,56 @@ impl Frag {
                     value,
                     left,
                     right,
-                } => {
-                    let (left, right) = match side {
-                        Side::Left => (left.copy_around(alloc, rest, part)?, right.copy(alloc)?),
-                        Side::Right => (left.copy(alloc)?, right.copy_around(alloc, rest, part)?),
-                    };
-                    let left = Box::new(alloc, left)?;
-                    let right = Box::new(alloc, right)?;
-                    Ok(Frag::cut(*axis, *value, left, right))
-                }
+                } => match side {
+                    Side::Left => {
+                        let left = left.copy_around(alloc, rest, part)?;
+                        left.beside_copy(alloc, *axis, *value, right)
+                    }
+                    Side::Right => {
+                        let right = right.copy_around(alloc, rest, part)?;
+                        right.behind_copy(alloc, *axis, *value, left)
+                    }
+                },
             },
         }
     }
+
+    /// A cut with this part on its left, and a copy of another one on its right.
+    fn beside_copy(
+        self,
+        alloc: Global,
+        axis: u8,
+        value: u64,
+        right: &Frag,
+    ) -> Result<Frag, NoMemory>
+        ensures { IfOk result (λ frag. frag ≡ Cut axis value self right.now) }
+    {
+        let right = right.copy(alloc)?;
+        boxed_cut(alloc, axis, value, self, right)
+    }
+
+    /// A cut with this part on its right, and a copy of another one on its left.
+    fn behind_copy(self, alloc: Global, axis: u8, value: u64, left: &Frag) -> Result<Frag, NoMemory>
+        ensures { IfOk result (λ frag. frag ≡ Cut axis value left.now self) }
+    {
+        let left = left.copy(alloc)?;
+        boxed_cut(alloc, axis, value, left, self)
+    }
+}
+
+/// The part that a plane cuts, of two sides that aren't boxed yet.
+pub(crate) fn boxed_cut(
+    alloc: Global,
+    axis: u8,
+    value: u64,
+    left: Frag,
+    right: Frag,
+) -> Result<Frag, NoMemory>
+    ensures { IfOk result (λ frag. frag ≡ Cut axis value left right) }
+{
+    let left = Box::new(alloc, left)?;
+    let right = Box::new(alloc, right)?;
+    Ok(Frag::cut(axis, value, left, right))
 }
 
 /// The tree with another part where the path leads.

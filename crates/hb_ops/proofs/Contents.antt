@@ -100,6 +100,10 @@ put_adds_one s id rec allowed has others =
           ∙ ap (λ (rs : List Record). finite.insert (contents rs) rec.key rec.body) (sym here.is),
     )
 
+-- a body found in records that are equal
+still_there : (rs ts : List Record) (point : List ℕ) → rs ≡ ts → (body : List ℕ) × (finite.get (contents ts) point ≡ Some body) → (body : List ℕ) × (finite.get (contents rs) point ≡ Some body)
+still_there rs ts point e w = (w.0, ap (λ (xs : List Record). finite.get (contents xs) point) e ∙ w.1)
+
 pub del_takes_one : DelTakesOne
 del_takes_one s id point allowed has others =
     let on = del_on id point s.meta (live_page s id) (nth_read s (Del id point) 1) (nth_read s (Del id point) 2) allowed in
@@ -108,7 +112,7 @@ del_takes_one s id point allowed has others =
     let here = around s id point on.0 records fits.there.area on.1 fits.level fits.made.well_cut fits.made.in_order fits.there.leaf others in
     let any = fits.there.keeps in
     let found = there here.before records here.after point here.lack_before here.lack_after any.0 any.1 any.2 (ap (λ (r : Record). r.key) any.3 ∙ any.4) in (
-      (found.0, ap (λ (rs : List Record). finite.get (contents rs) point) here.is ∙ found.1),
+      still_there _ _ point here.is found,
       ap (λ (pages : List Page). contents (flat_map page_records pages)) (del_pages s id point on.0 on.1)
           ∙ ap contents (here.changed (without point))
           ∙ del_done here.before records here.after point here.lack_before here.lack_after

@@ -15,3 +15,4 @@ pub mod PostTests
 pub mod CarvedCuts
 pub mod PostMade
 pub mod Made
+pub mod Does

@@ -1,0 +1,51 @@
+-- What a change answers, by cases of the operation and of what it is given.
+use Rattle.std.proofs.Common.{◌≡◌, ℕ, List, [], ◌∷◌, Option, None, Ok, Err, sym, ap, subst, ◌∙◌}
+use Rattle.std.specs.Result.{IfOk, IsErrOf}
+use Rattle.std.specs.declared.result.Result.TheVariants.{the_data as Result}
+use denote.Bor.{Bor}
+use Rattle.hb_frag.specs.declared.pages.LivePage.{LivePage}
+use Rattle.hb_frag.specs.declared.pages.Page.{Page}
+use Rattle.hb_frag.specs.declared.pages.Page.TheVariants.{Live}
+use Rattle.hb_layout.specs.declared.meta.Meta.{Meta}
+use Rattle.hb_ops.specs.declared.changes.Changed.{Changed}
+use Rattle.hb_ops.specs.declared.changes.ChangeError.{ChangeError}
+use Rattle.hb_ops.specs.declared.changes.ChangeError.TheVariants.{Unfit, NoMemory}
+use Rattle.hb_ops.specs.declared.operations.Op.{Op}
+use Rattle.hb_ops.specs.Given.{given}
+use Rattle.hb_ops.specs.Operations.{Change, IsAllowedOn, change_of}
+
+-- the clauses of a change
+pub record Does (result : Result Changed ChangeError) (op : Op) (meta : Meta) (first second third : Option LivePage) : Type 0 where
+  pub allowed : IfOk result (λ c. IsAllowedOn op meta first second third)
+  pub effect : IfOk result (λ (c : Changed). record { meta = c.meta; pages = c.pages.items } ≡ change_of op meta first second third)
+  pub unfit : IsErrOf result Unfit → ¬ (IsAllowedOn op meta first second third)
+  pub memory : IsErrOf result NoMemory → IsAllowedOn op meta first second third
+
+-- of the operation and the page that were told apart
+pub carried : (result : Result Changed ChangeError) (op op' : Op) (meta : Meta) (first first' : Option (Bor LivePage)) (second third : Option LivePage) → op ≡ op' → first ≡ first' → Does result op' meta (given first') second third → Does result op meta (given first) second third
+carried result op op' meta first first' second third e f h =
+    subst (λ (o : Op). Does result o meta (given first) second third) (sym e) (subst (λ (x : Option (Bor LivePage)). Does result op' meta (given x) second third) (sym f) h)
+
+-- where the page isn't given
+pub refused : (op : Op) (meta : Meta) (second third : Option LivePage) → (IsAllowedOn op meta None second third → ⊥) → Does (Err Unfit) op meta None second third
+refused op meta second third h = record { allowed = tt; effect = tt; unfit = λ e. h; memory = λ e. absurd (cc) }
+
+-- where the error is that of a part
+pub failed : {T : Type 0} (result : Result Changed ChangeError) (error : ChangeError) (op : Op) (meta : Meta) (first second third : Option LivePage) → result ≡ Err error → (IsErrOf {T = T} {E = ChangeError} (Err error) Unfit → ¬ (IsAllowedOn op meta first second third)) → (IsErrOf {T = T} {E = ChangeError} (Err error) NoMemory → IsAllowedOn op meta first second third) → Does result op meta first second third
+failed {T} result error op meta first second third e h k =
+    subst (λ (r : Result Changed ChangeError). Does r op meta first second third) (sym e) (record { allowed = tt; effect = tt; unfit = λ w. h (other Unfit w); memory = λ w. k (other NoMemory w) })
+  where
+    other : (x : ChangeError) → IsErrOf {T = Changed} {E = ChangeError} (Err error) x → IsErrOf {T = T} {E = ChangeError} (Err error) x
+    other x w = let same : error ≡ x = cc in ap (λ (y : ChangeError). Err y) same
+
+change_is : (m m' : Meta) (ps qs : List (ℕ × Page)) (w : Change) → m ≡ m' → ps ≡ qs → record { meta = m'; pages = qs } ≡ w → record { meta = m; pages = ps } ≡ w
+change_is m m' ps qs w e f h = (λ i. record { meta = e i; pages = f i }) ∙ h
+
+-- where one page changes
+pub one_done : (op : Op) (meta : Meta) (first second third : Option LivePage) (id : ℕ) (made made' : LivePage) (changed : Changed) → IsAllowedOn op meta first second third → record { meta = meta; pages = (id, Live made') ∷ [] } ≡ change_of op meta first second third → made ≡ made' → changed.meta ≡ meta → changed.pages.items ≡ (id, Live made) ∷ [] → Does (Ok changed) op meta first second third
+one_done op meta first second third id made made' changed allowed does e m p = record {
+  allowed = allowed;
+  effect = change_is changed.meta meta changed.pages.items ((id, Live made') ∷ []) (change_of op meta first second third) m (p ∙ ap (λ (w : LivePage). (id, Live w) ∷ []) e) does;
+  unfit = λ e. absurd (cc);
+  memory = λ e. absurd (cc);
+}
