@@ -55,39 +55,20 @@ fn write_at(file: &File, at: u64, from: &[u8]) -> Result<(), Failed> {
     }
 }
 
-/// How many bytes are looked at, and written, at once where zeros are wanted.
-const PIECE: usize = 65_536;
+/// Bytes that are written at once where zeros are. An opening zeroes a whole log area, and most of the time that takes is
+/// that of the calls of the system.
+const ZEROS: usize = 65_536;
 
-/// Whether all of the bytes are 0. It looks at each, so that the compiler takes many at once.
-fn is_zero(bytes: &[u8]) -> bool {
-    let mut any = 0;
-    for byte in bytes {
-        any |= *byte;
-    }
-    any == 0
-}
-
-/// Makes all bytes zeros from a place of the file on, as many as the buffer has. What is zero there isn't written again.
-fn zero_piece(file: &File, at: u64, piece: &mut [u8]) -> Result<(), Failed>
-    ensures { length piece.new ≡ length piece.old }
-{
-    if read_at(file, at, piece).is_ok() && is_zero(piece) {
-        return Ok(());
-    }
-    piece.fill(0);
-    write_at(file, at, piece)
-}
-
-/// Makes so many bytes zeros from a place of the file on. A log area is zeroed as a whole whenever it is taken into use, and
-/// mostly little of it was written before.
+/// Writes so many zero bytes from a place of the file on. What is zero already is written too, so that the file has its
+/// blocks there, and no later write behind it wants new ones.
 fn zero_at(file: &File, at: u64, len: u64) -> Result<(), Failed>
     requires { at + len ≤ last_value }
 {
-    let mut piece = [0; PIECE];
+    let zeros = [0; ZEROS];
     let mut left = len;
     while left > 0 {
-        let count = left.min(PIECE as u64);
-        zero_piece(file, at + (len - left), &mut piece[..count as usize])?;
+        let count = left.min(ZEROS as u64);
+        write_at(file, at + (len - left), &zeros[..count as usize])?;
         left -= count;
     }
     Ok(())
