@@ -1,6 +1,7 @@
-//! Two trees that grow, by hand, as tables. In the first one a page is split that came of a split before, and both are posted.
-//! In the second one a page above others is split, so that one page has two parents; that page is split, and the new one is
-//! posted in both. All of it is worked out from `docs/FORMAT.md`.
+//! Two trees that grow, as tables. In the first one a page is split that came of a split before, and both are posted. In the
+//! second one a page above others is split, so that one page has two parents; that page is split, and the new one is posted in
+//! both. The operations were chosen by hand. A small assembler that isn't the program put their bytes together, after
+//! `docs/FORMAT.md`.
 
 use crate::drives::Tree;
 

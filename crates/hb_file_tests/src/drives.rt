@@ -1,5 +1,5 @@
-//! Stores that are driven over files of several pages, by hand: each allocation's number, each group, and the bytes on the
-//! disk. A driving is stopped before each of its device calls, and each call fails once. What is left is opened, and opened
+//! Stores that are driven over files of several pages, as `driven_trees` lists: each allocation's number, each group, and the
+//! bytes on the disk. A driving is stopped before each of its device calls, and each call fails once. What is left is opened, and opened
 //! again after a stop inside that opening: the file has the pages after so many of the groups.
 ghost use Rattle.std.specs.Prelude.{◌≡◌, ◌≤◌, Some, true, false, All, IfSome};
 ghost use Rattle.hb_store.specs.Seen.{seen_as};

@@ -9,3 +9,4 @@ pub mod Writes
 pub mod Weights
 pub mod Decoded
 pub mod ExactFields
+pub mod Zeros

@@ -8,7 +8,7 @@ ghost use Rattle.hb_disk.specs.Untold.{untold_of, untold_is_disk};
 use hb_disk::{Device, Disk};
 use hb_outside::Failed;
 use std::fs::File;
-use std::io::{ErrorKind, Read, Seek, SeekFrom, Write};
+use std::os::unix::fs::FileExt;
 
 /// A file of fixed size as a disk. It tells nothing of its bytes: that a file behaves as a disk that
 /// tells is assumed wherever a promise speaks of crashes.
@@ -37,67 +37,38 @@ impl FileDisk {
     }
 }
 
-/// Fills the bytes from a place of the file on.
-fn read_at(file: &mut File, at: u64, into: &mut [u8]) -> Result<(), Failed>
+/// Fills the bytes from a place of the file on. One call of the system, where the file isn't short.
+fn read_at(file: &File, at: u64, into: &mut [u8]) -> Result<(), Failed>
     ensures { length into.new ≡ length into.old }
 {
-    if file.seek(SeekFrom::Start(at)).is_err() {
-        return Err(Failed);
+    match file.read_exact_at(into, at) {
+        Ok(()) => Ok(()),
+        Err(_) => Err(Failed),
     }
-    let mut done = 0;
-    for _ in 0..u64::MAX {
-        if done == into.len() {
-            return Ok(());
-        }
-        match file.read(&mut into[done..]) {
-            Ok(0) => return Err(Failed),
-            Ok(n) => done += n,
-            Err(e) if e.kind() == ErrorKind::Interrupted => {}
-            Err(_) => return Err(Failed),
-        }
-    }
-    Err(Failed)
 }
 
-/// Writes all of the bytes where the file stands.
-fn write_here(file: &mut File, from: &[u8]) -> Result<(), Failed> {
-    let mut done = 0;
-    for _ in 0..u64::MAX {
-        if done == from.len() {
-            return Ok(());
-        }
-        match file.write(&from[done..]) {
-            Ok(0) => return Err(Failed),
-            Ok(n) => done += n,
-            Err(e) if e.kind() == ErrorKind::Interrupted => {}
-            Err(_) => return Err(Failed),
-        }
+/// Writes all of the bytes from a place of the file on. One call of the system, where the disk isn't full.
+fn write_at(file: &File, at: u64, from: &[u8]) -> Result<(), Failed> {
+    match file.write_all_at(from, at) {
+        Ok(()) => Ok(()),
+        Err(_) => Err(Failed),
     }
-    Err(Failed)
-}
-
-/// Writes all of the bytes from a place of the file on.
-fn write_at(file: &mut File, at: u64, from: &[u8]) -> Result<(), Failed> {
-    if file.seek(SeekFrom::Start(at)).is_err() {
-        return Err(Failed);
-    }
-    write_here(file, from)
 }
 
 /// Bytes that are written at once where zeros are. An opening zeroes a whole log area, and most of the time that takes is
 /// that of the calls of the system.
 const ZEROS: usize = 65_536;
 
-/// Writes so many zero bytes from a place of the file on.
-fn zero_at(file: &mut File, at: u64, len: u64) -> Result<(), Failed> {
-    if file.seek(SeekFrom::Start(at)).is_err() {
-        return Err(Failed);
-    }
+/// Writes so many zero bytes from a place of the file on. What is zero already is written too, so that the file has its
+/// blocks there, and no later write behind it wants new ones.
+fn zero_at(file: &File, at: u64, len: u64) -> Result<(), Failed>
+    requires { at + len ≤ last_value }
+{
     let zeros = [0; ZEROS];
     let mut left = len;
     while left > 0 {
         let count = left.min(ZEROS as u64);
-        write_here(file, &zeros[..count as usize])?;
+        write_at(file, at + (len - left), &zeros[..count as usize])?;
         left -= count;
     }
     Ok(())
@@ -124,17 +95,17 @@ impl Device for FileDisk {
     }
 
     fn read(&mut self, at: u64, into: &mut [u8]) -> Result<(), Failed> {
-        counted(read_at(&mut self.file, at, into), &mut self.read_faults)
+        counted(read_at(&self.file, at, into), &mut self.read_faults)
     }
 
     fn write(&mut self, at: u64, from: &[u8]) -> Result<(), Failed> {
         self.clock = self.clock.saturating_add(1);
-        counted(write_at(&mut self.file, at, from), &mut self.write_faults)
+        counted(write_at(&self.file, at, from), &mut self.write_faults)
     }
 
     fn zero(&mut self, at: u64, len: u64) -> Result<(), Failed> {
         self.clock = self.clock.saturating_add(1);
-        counted(zero_at(&mut self.file, at, len), &mut self.write_faults)
+        counted(zero_at(&self.file, at, len), &mut self.write_faults)
     }
 
     fn sync(&mut self) -> Result<(), Failed> {
