@@ -1,4 +1,5 @@
-//! The tests of hb_set, hb_text and hb_activity: sets of records, texts and outputs, activities and jobs by hand.
+//! The tests of hb_set, hb_text, hb_latch and hb_activity: sets of records, texts and outputs, latches, activities
+//! and jobs by hand.
 //!
 //! They stand in a crate of their own, since a crate with tests is proved twice. No contract is here.
 #![tactic(auto)]
@@ -7,6 +8,8 @@
 mod activities;
 #[cfg(test)]
 mod jobs;
+#[cfg(test)]
+mod latches;
 #[cfg(test)]
 mod outputs;
 #[cfg(test)]

@@ -13,8 +13,6 @@ mod entries;
 mod latches;
 pub mod laws;
 mod modes;
-#[cfg(test)]
-mod tests;
 mod threads;
 
 pub use latches::{HeldBy, LATCHES, Latches};
