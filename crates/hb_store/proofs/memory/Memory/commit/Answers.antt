@@ -1,9 +1,9 @@
-use Rattle.std.proofs.Common.{◌≡◌, ℕ, Bool, List, ◌∷◌, [], ◌++◌, refl, sym, subst, ap, ◌∙◌}
+use Rattle.std.proofs.Common.{◌≡◌, ℕ, ◌+◌, ◌≤◌, Bool, List, ◌∷◌, [], ◌++◌, length, All, refl, sym, subst, ap, ◌∙◌, arith}
 use Rattle.std.specs.Prelude.{◌||◌, nat_eq}
 use Rattle.std.specs.HashMap.{get}
 use Rattle.std.specs.HashSet.{contains}
 use Rattle.hb_ops.specs.Operations.{Change, reads_of}
-use Rattle.hb_wal.specs.Log.{LogState}
+use Rattle.hb_wal.specs.Log.{LogState, room_of, pending_bytes}
 use Rattle.hb_store.specs.Calls.{Commits}
 use Rattle.hb_store.specs.Inside.{memory_seen}
 use Rattle.hb_store.specs.Making.{MakesWell}
@@ -73,3 +73,15 @@ returns-clause-group c =
 
 pub returns-clause-well : goal.returns-clause-well
 returns-clause-well c = well_made c
+
+pub append-requires : goal.append-requires
+append-requires c =
+    let len : length c.deref.result.now ≡ length c.in_ok-group.group.items = ap length c.deref.ensures.value in
+    let log : c.args.self.now.log ≡ c.self.inside.log = sym (ap (λ (s : StoreState). s.log) c.self.view_is) in
+    let ready = c.requires.ready in
+    record {
+      some = omega (arith, len, c.in_ok-group.ensures.some);
+      room = subst (λ (l : LogState). length c.deref.result.now ≤ room_of l) log (omega (arith, len, c.in_ok-group.ensures.short, ready));
+      reserved = subst (λ (l : LogState). pending_bytes l.groups + length c.deref.result.now ≤ 65536) log (omega (arith, len, c.in_ok-group.ensures.short, ready));
+      marks = subst (λ (l : LogState). All (λ g. g.mark ≤ c.args.mark) l.groups) log c.requires.marks;
+    }
