@@ -1,12 +1,12 @@
 -- The pages of a file by their numbers, once others were set.
-use Rattle.std.proofs.Common.{◌≡◌, ◌≢◌, inl, inr, ℕ, zero, suc, ◌+◌, ◌-◌, ◌<◌, ◌≤◌, ◌==◌, max, Bool, cond, List, [], ◌∷◌, ◌++◌, length, set, slice_get, All, Some, None, refl, sym, ap, ◌∙◌, subst, arith, ne_eqb, lt-ltb, le-ltb, nat_lt, length-append}
+use Rattle.std.proofs.Common.{◌≡◌, ◌≢◌, inl, inr, ℕ, zero, suc, ◌+◌, ◌<◌, ◌≤◌, ◌==◌, max, cond, List, [], ◌∷◌, ◌++◌, length, set, slice_get, All, Some, refl, sym, ap, ◌∙◌, subst, arith, length-append}
 use Rattle.std.proofs.Math.ListN.{length-set}
-use Rattle.std.proofs.lemmas.Bool.{cases_Bool, cases_lt, eq-eqb, eqb-true, eqb-false}
+use Rattle.std.proofs.lemmas.Bool.{cases_Bool, cases_lt, eqb-true, eqb-false}
 use Rattle.std.proofs.lemmas.List.Elements.{All-head, All-tail}
 use Rattle.hb_frag.specs.declared.pages.Page.{Page}
 use Rattle.hb_ops.specs.Files.{page_at}
 use Rattle.hb_ops.specs.Operations.{with_page, with_changed_pages}
-use Rattle.hb_ops.specs.PageNumberLaws.{get-set_other, get-set_same, in_range, page_at-suc, page_at-zero, with_page-behind, with_page-there}
+use Rattle.hb_ops.specs.PageNumberLaws.{get-set_other, get-set_same, page_at-suc, page_at-zero, with_page-behind, with_page-there}
 use Rattle.hb_store.specs.Replay.{set_pages}
 use Rattle.hb_store.specs.ReplayLists.{set_one-same, set_one-other}
 use Rattle.hb_store.proofs.Setting.{set_pages-same}

@@ -15,7 +15,7 @@ ghost use Rattle.hb_store.specs.Calls.{Commits, IsAllowedHere, IsReady, change_h
 use crate::group_writing::group_for;
 use crate::making::what_is_made_can_be_written;
 use crate::memory::Memory;
-use crate::pages::{add_all, reserve, set_all};
+use crate::pages::{add_all, reserve, set_changed};
 use crate::store::Store;
 use hb_disk::Device;
 use hb_frag::{LivePage, Page};
@@ -42,30 +42,30 @@ impl<D: Device> Store<D> {
         ensures keeps { (durable : FileState) (later : List FileState) → StoreKeeps (D.model self.old.disk) (seen_as self.old) durable later →
             OnOk result (StoreKeeps (D.model self.new.disk) (seen_as self.new) durable (with_op durable later op)) }
     {
-        self.memory.commit(self.alloc, op, mark)
+        self.memory.commit(self.alloc, &op, mark)
     }
 }
 
 impl Memory {
     /// Does an operation on the pages in memory, and lets its group wait. For want of memory nothing changes.
-    pub(crate) fn commit(&mut self, alloc: Global, op: Op, mark: u32) -> Result<(), NoMemory>
+    pub(crate) fn commit(&mut self, alloc: Global, op: &Op, mark: u32) -> Result<(), NoMemory>
         requires ready { IsReady self.old }
-        requires points { OpHas self.old.meta.k op }
-        requires allowed { IsAllowedHere self.old op }
+        requires points { OpHas self.old.meta.k op.now }
+        requires allowed { IsAllowedHere self.old op.now }
         requires marks { All (λ g. g.mark ≤ mark) self.old.log.groups }
-        ensures commits { OnOk result (Commits op mark self.old self.new) }
-        ensures group { OnOk result (self.new.log.groups ≡ self.old.log.groups ++ record { bytes = group_bytes (group_here self.old op); mark = mark } ∷ []) }
-        ensures well { OnOk result (MakesWell op self.old) }
+        ensures commits { OnOk result (Commits op.now mark self.old self.new) }
+        ensures group { OnOk result (self.new.log.groups ≡ self.old.log.groups ++ record { bytes = group_bytes (group_here self.old op.now); mark = mark } ∷ []) }
+        ensures well { OnOk result (MakesWell op.now self.old) }
         ensures kept { OnErr result (self.new ≡ self.old) }
     {
         what_is_made_can_be_written();
-        let changed = self.changed(alloc, &op)?;
-        let group = self.group(alloc, &op)?;
+        let changed = self.changed(alloc, op)?;
+        let group = self.group(alloc, op)?;
         reserve(&mut self.pages, &mut self.imaged)?;
         self.log.append(&group, mark);
         add_all(&mut self.imaged, &op.reads());
-        set_all(&mut self.pages, &mut self.imaged, changed.pages);
         self.meta = changed.meta;
+        set_changed(&mut self.pages, &mut self.imaged, changed);
         Ok(())
     }
 

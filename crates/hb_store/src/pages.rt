@@ -7,6 +7,7 @@ ghost use Rattle.hb_store.specs.Replay.{set_pages};
 
 use arrayvec::ArrayVec;
 use hb_frag::Page;
+use hb_ops::Changed;
 use hb_space::NoMemory;
 use std::collections::{HashMap, HashSet};
 
@@ -51,8 +52,22 @@ fn add(imaged: &mut HashSet<u32>, id: u32)
     }
 }
 
-/// Sets changed pages under their numbers, in order. It takes no memory.
-pub(crate) fn set_all(
+/// Sets the pages that an operation changes under their numbers, in order. It takes no memory.
+pub(crate) fn set_changed(
+    pages: &mut HashMap<u32, Page>,
+    imaged: &mut HashSet<u32>,
+    changed: Changed,
+)
+    requires room { length changed.pages.items ≤ spare pages.old }
+    requires marks { length changed.pages.items ≤ spare_of imaged.old }
+    ensures pages { (q : ℕ) → get nat_eq pages.new q ≡ set_pages changed.pages.items (get nat_eq pages.old) q }
+    ensures imaged { (q : ℕ) → contains nat_eq imaged.new q ≡ (has_page q changed.pages.items || contains nat_eq imaged.old q) }
+{
+    set_all(pages, imaged, changed.pages);
+}
+
+/// Sets pages under their numbers, in order. It takes no memory.
+fn set_all(
     pages: &mut HashMap<u32, Page>,
     imaged: &mut HashSet<u32>,
     mut changed: ArrayVec<(u32, Page), PAGES>,

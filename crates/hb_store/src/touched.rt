@@ -189,12 +189,11 @@ impl Touched {
         ensures meta { OnOk result (ComesAfter self.old.meta self.new.meta) }
     {
         what_is_made_can_be_written();
-        let Group { images, op } = group;
-        if !self.has_all(images.as_slice()) {
+        if !self.has_all(group.images.as_slice()) {
             return Err(ReplayStop::Unfit);
         }
-        self.set_all(images)?;
-        self.apply(alloc, &op)
+        self.set_all(group.images)?;
+        self.apply(alloc, &group.op)
     }
 
     /// Replays the groups of a payload.

@@ -1,9 +1,9 @@
-use Rattle.std.proofs.Common.{◌≡◌, ℕ, Bool, List, ◌∷◌, [], ◌++◌, refl, sym, subst, ap, ◌∙◌}
+use Rattle.std.proofs.Common.{◌≡◌, ℕ, ◌+◌, ◌≤◌, Bool, List, ◌∷◌, [], ◌++◌, length, All, refl, sym, subst, ap, ◌∙◌, arith}
 use Rattle.std.specs.Prelude.{◌||◌, nat_eq}
 use Rattle.std.specs.HashMap.{get}
 use Rattle.std.specs.HashSet.{contains}
 use Rattle.hb_ops.specs.Operations.{Change, reads_of}
-use Rattle.hb_wal.specs.Log.{LogState}
+use Rattle.hb_wal.specs.Log.{LogState, room_of, pending_bytes}
 use Rattle.hb_store.specs.Calls.{Commits}
 use Rattle.hb_store.specs.Inside.{memory_seen}
 use Rattle.hb_store.specs.Making.{MakesWell}
@@ -17,7 +17,7 @@ use Rattle.hb_store.proofs.Touches.{on_err}
 use Rattle.hb_store.proofs.memory.Memory.commit.Goals as goal
 
 -- for want of memory nothing changed, but the order of what is held
-kept_here : (c : goal.Joined-op-9) → state_of c.self.inside.turn c.self.inside.meta c.self.inside.log c.reserve.new.pages c.reserve.new.imaged c.self.inside.stopped ≡ memory_seen c.self.inside
+kept_here : (c : goal.After-array_drop-changed-in_err-reserve) → state_of c.self.inside.turn c.self.inside.meta c.self.inside.log c.reserve.new.pages c.reserve.new.imaged c.self.inside.stopped ≡ memory_seen c.self.inside
 kept_here c =
     let held = c.self.inside in
     state_same held.turn held.meta held.log held.pages c.reserve.new.pages held.imaged c.reserve.new.imaged held.stopped c.reserve.ensures.pages c.reserve.ensures.imaged
@@ -29,29 +29,29 @@ pub returns-in_err-reserve-clause-kept : goal.returns-in_err-reserve-clause-kept
 returns-in_err-reserve-clause-kept c = on_err c.from_residual-in_err-reserve.result (kept_here c ∙ c.self.view_is)
 
 -- the change, as the contracts see it
-abbrev change_made : (c : goal.Joined-op-13) → Change
+abbrev change_made : (c : goal.After-drop-group-2) → Change
 change_made c = record { meta = c.in_ok-changed.changed.meta; pages = c.in_ok-changed.changed.pages.items }
 
-abbrev seen_after : (c : goal.Joined-op-13) → StoreState
-seen_after c = state_of c.self.inside.turn c.in_ok-changed.changed.meta c.append.new.self c.set_all.new.pages c.set_all.new.imaged c.self.inside.stopped
+abbrev seen_after : (c : goal.After-drop-group-2) → StoreState
+seen_after c = state_of c.self.inside.turn c.in_ok-changed.changed.meta c.append.new.self c.set_changed.new.pages c.set_changed.new.imaged c.self.inside.stopped
 
-well_made : (c : goal.Joined-op-13) → MakesWell c.args.op c.args.self.now
+well_made : (c : goal.After-drop-group-2) → MakesWell c.args.op.now c.args.self.now
 well_made c =
     let st = c.args.self.now in
     let is : IsMemory st = subst IsMemory c.self.view_is c.self.invariant in
-    record { memory = is; change = changes_well c.what_is_made_can_be_written.ensures.pages st is c.args.op c.in_ok-group.ensures.fits.op c.requires.allowed; group = c.in_ok-group.ensures.fits }
+    record { memory = is; change = changes_well c.what_is_made_can_be_written.ensures.pages st is c.args.op.now c.in_ok-group.ensures.fits.op c.requires.allowed; group = c.in_ok-group.ensures.fits }
 
-made : (c : goal.Joined-op-13) → Commits c.args.op c.args.mark c.args.self.now (seen_after c)
+made : (c : goal.After-drop-group-2) → Commits c.args.op.now c.args.mark c.args.self.now (seen_after c)
 made c =
     let held = c.self.inside in
     let st = c.args.self.now in
-    let op = c.args.op in
+    let op = c.args.op.now in
     commits_here op c.args.mark st (seen_after c) (change_made c) c.deref.result.now c.in_ok-changed.ensures (ap (λ (s : StoreState). s.turn) c.self.view_is) (ap (λ (s : StoreState). s.stopped) c.self.view_is) refl
     (λ q.
-    map_seen c.set_all.new.pages q ∙ c.set_all.ensures.pages q
+    map_seen c.set_changed.new.pages q ∙ c.set_changed.ensures.pages q
     ∙ set_pages-same (change_made c).pages (get nat_eq c.reserve.new.pages) (in_memory st) (λ r. c.reserve.ensures.pages r ∙ sym (map_seen held.pages r) ∙ ap (λ (s : StoreState). in_memory s r) c.self.view_is) q)
     (λ q.
-    set_seen c.set_all.new.imaged q ∙ c.set_all.ensures.imaged q
+    set_seen c.set_changed.new.imaged q ∙ c.set_changed.ensures.imaged q
     ∙ ap (λ (b : Bool). has_page q (change_made c).pages || b)
     (c.add_all.ensures.added q
     ∙ ap (λ (ids : List ℕ). is_among q ids || contains nat_eq c.reserve.new.imaged q) (c.deref-2.ensures.0 ∙ c.reads.ensures)
@@ -59,7 +59,7 @@ made c =
     (c.append.ensures ∙ ap (λ (s : StoreState). let l : LogState = record { area = s.log.area; len = s.log.len; written = s.log.written; groups = s.log.groups ++ record { bytes = c.deref.result.now; mark = c.args.mark } ∷ [] } in l) c.self.view_is)
 
 pub invariant_of-self-2 : goal.invariant_of-self-2
-invariant_of-self-2 c = memory_after c.args.self.now (seen_after c) c.args.op c.args.mark (well_made c) c.requires.allowed (made c)
+invariant_of-self-2 c = memory_after c.args.self.now (seen_after c) c.args.op.now c.args.mark (well_made c) c.requires.allowed (made c)
 
 pub returns-clause-commits : goal.returns-clause-commits
 returns-clause-commits c = made c
@@ -73,3 +73,15 @@ returns-clause-group c =
 
 pub returns-clause-well : goal.returns-clause-well
 returns-clause-well c = well_made c
+
+pub append-requires : goal.append-requires
+append-requires c =
+    let len : length c.deref.result.now ≡ length c.in_ok-group.group.items = ap length c.deref.ensures.value in
+    let log : c.args.self.now.log ≡ c.self.inside.log = sym (ap (λ (s : StoreState). s.log) c.self.view_is) in
+    let ready = c.requires.ready in
+    record {
+      some = omega (arith, len, c.in_ok-group.ensures.some);
+      room = subst (λ (l : LogState). length c.deref.result.now ≤ room_of l) log (omega (arith, len, c.in_ok-group.ensures.short, ready));
+      reserved = subst (λ (l : LogState). pending_bytes l.groups + length c.deref.result.now ≤ 65536) log (omega (arith, len, c.in_ok-group.ensures.short, ready));
+      marks = subst (λ (l : LogState). All (λ g. g.mark ≤ c.args.mark) l.groups) log c.requires.marks;
+    }
