@@ -96,3 +96,6 @@ returns-in-Some-Create-clause-bad_text g c _ _ _ is _ _ _ = cc (c.in-Some-Create
 
 pub returns-in-Some-Create-clause-named : goal.returns-in-Some-Create-clause-named
 returns-in-Some-Create-clause-named g c _ _ _ is _ _ = cc (c.in-Some-Create.field-0-is, c.in-Some-Create.ensures.form, is)
+
+pub returns-in-Some-Dry-clause-made : goal.returns-in-Some-Dry-clause-made
+returns-in-Some-Dry-clause-made g c _ _ _ _ _ is _ _ _ _ = cc (c.in-Some-Dry.field-0-is, c.in-Some-Dry.ensures.form, is)
