@@ -43,16 +43,16 @@ module _ (d e : DiskModel) (seen : Seen) (one : OpensToOne) (b : List ℕ) (s : 
       let read = subst (λ (o : Option (List ℕ)). IsTextOf o seen.rest ends.2) text ends.3 in
       let same : found ≡ bad = cc (is) in
       ap (λ (k : ℕ). text_read true k left) (sym (away_k ends.0 (BadText found) ends.1)) ∙ sym (front_reads true ends.0 left) ∙ ap (text_read true ends.0) (sym read.0) ∙ ends.4 ∙ ap Err same
-  opened_names Done ends is = cc is
-  opened_names Usage ends is = cc is
-  opened_names SourceFault ends is = cc is
-  opened_names SinkFault ends is = cc is
-  opened_names DiskFault ends is = cc is
-  opened_names (Damaged damage) ends is = cc is
-  opened_names NoMemory ends is = cc is
-  opened_names (BadLayout field value) ends is = cc is
-  opened_names (Small needed found) ends is = cc is
-  opened_names NotBuilt ends is = cc is
+  opened_names Done _ is = cc is
+  opened_names Usage _ is = cc is
+  opened_names SourceFault _ is = cc is
+  opened_names SinkFault _ is = cc is
+  opened_names DiskFault _ is = cc is
+  opened_names (Damaged damage) _ is = cc is
+  opened_names NoMemory _ is = cc is
+  opened_names (BadLayout field value) _ is = cc is
+  opened_names (Small needed found) _ is = cc is
+  opened_names NotBuilt _ is = cc is
 
 pub names_line : (d e : DiskModel) (seen : Seen) (status : Status) → OpensToOne → DriveCommandEnds d e seen status → NamesScheduleLine d seen status
 names_line d e seen status one ends b s left bad told opens text is = elim ends [

@@ -81,37 +81,40 @@ dry_refuses k seen (Small needed found) ends left bad told wrong source = absurd
 dry_refuses k seen NotBuilt ends left bad told wrong source = absurd ends
 
 pub ends_complete : (form : Option Form) (seen : Seen) (d e : DiskModel) (status : Status) → RunEnds form d e seen status → IsComplete form seen status
-ends_complete None seen d e status ends k left reading is told good source sink = cc
+ends_complete None _ _ _ _ _ _ _ _ is _ _ _ _ = cc (is)
 ends_complete (Some (Dry n)) seen d e status ends k left reading is told good source sink =
     dry_complete n seen status ends left reading told (rw (same_attributes n k is) good) source sink
-ends_complete (Some form) seen d e status ends k left reading is told good source sink = cc
+ends_complete (Some form) _ _ _ _ _ _ _ _ is _ _ _ _ = cc (is)
 
 pub ends_refuses : (form : Option Form) (seen : Seen) (d e : DiskModel) (status : Status) → RunEnds form d e seen status → RefusesBadText form seen status
-ends_refuses None seen d e status ends k left bad is told wrong source = cc
+ends_refuses None _ _ _ _ _ _ _ _ is _ _ _ = cc (is)
 ends_refuses (Some (Dry n)) seen d e status ends k left bad is told wrong source =
     dry_refuses n seen status ends left bad told (front_reads false n left ∙ rw (same_attributes n k is) wrong) source
-ends_refuses (Some form) seen d e status ends k left bad is told wrong source = cc
+ends_refuses (Some form) _ _ _ _ _ _ _ _ is _ _ _ = cc (is)
+
+same_named : (found bad : BadLine) → BadText found ≡ BadText bad → found ≡ bad
+same_named found bad is = cc (is)
 
 dry_names : (k : ℕ) (seen : Seen) (status : Status) → DryEnds k seen status → (left : List ℕ) (bad : BadLine) → seen.left ≡ Some left → status ≡ BadText bad → text_read false k left ≡ Err bad
 dry_names k seen (BadText found) ends left bad told is =
     let read = subst (λ (o : Option (List ℕ)). IsTextOf o seen.rest ends.0) told ends.1 in
-    let same : found ≡ bad = cc (is) in
+    let same : found ≡ bad = same_named found bad is in
     sym (front_reads false k left) ∙ ap (text_read false k) (sym read.0) ∙ ends.2 ∙ ap Err same
-dry_names k seen Done ends left bad told is = cc
-dry_names k seen Usage ends left bad told is = cc
-dry_names k seen SourceFault ends left bad told is = cc
-dry_names k seen SinkFault ends left bad told is = cc
-dry_names k seen NoMemory ends left bad told is = cc
-dry_names k seen DiskFault ends left bad told is = cc
-dry_names k seen (Damaged damage) ends left bad told is = cc
-dry_names k seen (BadLayout field value) ends left bad told is = cc
-dry_names k seen (Small needed found) ends left bad told is = cc
-dry_names k seen NotBuilt ends left bad told is = cc
+dry_names _ _ Done _ _ _ _ is = cc (is)
+dry_names _ _ Usage _ _ _ _ is = cc (is)
+dry_names _ _ SourceFault _ _ _ _ is = cc (is)
+dry_names _ _ SinkFault _ _ _ _ is = cc (is)
+dry_names _ _ NoMemory _ _ _ _ is = cc (is)
+dry_names _ _ DiskFault _ _ _ _ is = cc (is)
+dry_names _ _ (Damaged damage) _ _ _ _ is = cc (is)
+dry_names _ _ (BadLayout field value) _ _ _ _ is = cc (is)
+dry_names _ _ (Small needed found) _ _ _ _ is = cc (is)
+dry_names _ _ NotBuilt _ _ _ _ is = cc (is)
 
 pub ends_names : (form : Option Form) (seen : Seen) (d e : DiskModel) (status : Status) → RunEnds form d e seen status → NamesBadLine form seen status
-ends_names None seen d e status ends k left bad is told named = cc
+ends_names None _ _ _ _ _ _ _ _ is _ _ = cc (is)
 ends_names (Some (Dry n)) seen d e status ends k left bad is told named = rw (← same_attributes n k is) (dry_names n seen status ends left bad told named)
-ends_names (Some form) seen d e status ends k left bad is told named = cc
+ends_names (Some form) _ _ _ _ _ _ _ _ is _ _ = cc (is)
 
 same_layout : (a b c d e f g h i j : ℕ) (P : ℕ → ℕ → ℕ → ℕ → ℕ → Type 0) → ◌≡◌ {A = Option Form} (Some (Create a b c d e)) (Some (Create f g h i j)) → P f g h i j → P a b c d e
 same_layout a b c d e f g h i j P is p =
@@ -136,12 +139,12 @@ create_complete fault needed seen disk (Damaged damage) ends good large writes s
 create_complete fault needed seen disk NotBuilt ends good large writes sink = absurd ends
 
 pub ends_made : (form : Option Form) (seen : Seen) (d e : DiskModel) (status : Status) → RunEnds form d e seen status → IsMadeWhole form seen (disk_seen d e) status
-ends_made None seen d e status ends k pages log dcap icap is good large writes sink = cc (is)
+ends_made None _ _ _ _ _ _ _ _ _ _ is _ _ _ _ = cc (is)
 ends_made (Some (Create a b c x y)) seen d e status ends k pages log dcap icap is good large writes sink =
     create_complete (first_fault k pages log dcap icap) (size_of pages log) seen (disk_seen d e) status
     (same_layout k pages log dcap icap a b c x y (λ k pages log dcap icap. CreateEnds (first_fault k pages log dcap icap) (size_of pages log) seen (disk_seen d e) status) (sym is) ends)
     good large writes sink
-ends_made (Some form) seen d e status ends k pages log dcap icap is good large writes sink = cc (is)
+ends_made (Some form) _ _ _ _ _ _ _ _ _ _ is _ _ _ _ = cc (is)
 
 pub never_usage : (fault : Option BadField) (needed : ℕ) (seen : Seen) (disk : DiskSeen) (status : Status) → CreateEnds fault needed seen disk status → status ≡ Usage → ⊥
 never_usage fault needed seen disk status ends is = subst (λ (x : Status). CreateEnds fault needed seen disk x) is ends

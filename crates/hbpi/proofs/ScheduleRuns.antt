@@ -115,6 +115,15 @@ pub record IsRun (d e : DiskModel) (seen : Seen) (k : ℕ) (before after : CoreS
 apart_stopped : ends.Stopped ≢ ends.NoMemory
 apart_stopped same = cc (same)
 
+apart_finished : ends.Finished ≢ ends.NoMemory
+apart_finished same = cc (same)
+
+apart_sinkfault : ends.SinkFault ≢ ends.NoMemory
+apart_sinkfault same = cc (same)
+
+apart_readfault : ends.ReadFault ≢ ends.NoMemory
+apart_readfault same = cc (same)
+
 -- a store that runs is over an even disk
 pub even_store : (d : DiskModel) (st : StoreState) (durable : FileState) (later : List FileState) → StoreKeeps d st durable later → st.stopped ≡ false → IsEven d durable
 even_store d st durable later keeps running = record {
@@ -239,7 +248,7 @@ run_ends : (end : End) (d e : DiskModel) (seen : Seen) (k : ℕ) (before after :
 run_ends ends.Finished d e seen k before after steps mid faults run idle line =
     let still = run.silent_done refl in (
       after,
-      drove d e seen k before after steps ends.Finished mid faults run (λ same. cc (same)),
+      drove d e seen k before after steps ends.Finished mid faults run apart_finished,
       subst (λ (o : Option (List ℕ)). Appends seen.held o (run_output seen.answered after)) (sym still.0) run.put.0,
       run.put.1,
       run.put.2,
@@ -249,12 +258,12 @@ run_ends ends.NoMemory d e seen k before after steps mid faults run idle line = 
 run_ends ends.SinkFault d e seen k before after steps mid faults run idle line =
     let still = run.silent refl in (
       after,
-      drove d e seen k before after steps ends.SinkFault mid faults run (λ same. cc (same)),
+      drove d e seen k before after steps ends.SinkFault mid faults run apart_sinkfault,
       subst (λ (o : Option (List ℕ)). AppendsFront seen.held o (run_output seen.answered after)) (sym still.0) run.put.0,
       subst (λ (n : ℕ). Rose seen.sink_before n) (sym still.1) run.put.1,
     )
 run_ends ends.ReadFault d e seen k before after steps mid faults run idle line =
-    (after, inl (run.counts.read_fault run.put.2), drove d e seen k before after steps ends.ReadFault mid faults run (λ same. cc (same)), inr (run.put.1, run.put.2, run.counts.read_fault run.put.2), gets_output d e seen k before after steps ends.ReadFault mid faults DiskFault run run.put.0 run.put.3 line)
+    (after, inl (run.counts.read_fault run.put.2), drove d e seen k before after steps ends.ReadFault mid faults run apart_readfault, inr (run.put.1, run.put.2, run.counts.read_fault run.put.2), gets_output d e seen k before after steps ends.ReadFault mid faults DiskFault run run.put.0 run.put.3 line)
 run_ends ends.Stopped d e seen k before after steps mid faults run idle line = stopped_ends after.stop d e seen k before after steps mid faults run refl line
 
 pub schedule_ends : (end : End) (status : Status) (d e : DiskModel) (seen : Seen) (k : ℕ) (before after : CoreState) (steps : List ℕ) (mid : Option (List ℕ)) (faults : ℕ) → IsRun d e seen k before after steps end mid faults

@@ -29,7 +29,7 @@ use hb_text::{put_left, put_order, put_reply};
 use std::alloc::Global;
 
 /// How a run of a schedule ended.
-#[derive(Clone, Copy, Debug, PartialEq, Eq)]
+#[derive(Clone, Copy)]
 pub(crate) enum End {
     /// The whole output was written.
     Finished,

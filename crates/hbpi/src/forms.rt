@@ -5,7 +5,7 @@ use hb_space::form::KMAX;
 use hb_text::read_number;
 
 /// What the program is asked to do, by its words.
-#[derive(Clone, Copy, Debug, PartialEq, Eq)]
+#[derive(Clone, Copy)]
 pub enum Form {
     /// A new file of this layout, whose fields may be out of their limits.
     Create {

@@ -23,7 +23,7 @@ use hb_store::{Store, an_image_opens_to_one_file};
 use std::alloc::Global;
 
 /// Why no file is driven.
-#[derive(Clone, Copy, Debug, PartialEq, Eq)]
+#[derive(Clone, Copy)]
 pub enum StartFault {
     /// It doesn't open.
     Closed(OpenFault),

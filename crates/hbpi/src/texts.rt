@@ -8,7 +8,7 @@ use hb_outside::Source;
 use std::alloc::{AllocError, Global};
 
 /// Why the text could not be read.
-#[derive(Clone, Copy, Debug, PartialEq, Eq)]
+#[derive(Clone, Copy)]
 pub(crate) enum TextStop {
     SourceFault,
     NoMemory,

@@ -17,7 +17,7 @@ use hb_space::{Area, Point, Record};
 use hb_store::Why;
 
 /// What a line does.
-#[derive(Debug, Drop)]
+#[derive(Drop)]
 pub(crate) enum Plan {
     /// It takes effect with this reply, and the file stays as it is.
     Answer(Reply),

@@ -3,7 +3,7 @@
 use hb_set::Reply;
 
 /// Where the session stands between two steps.
-#[derive(Debug, Drop)]
+#[derive(Drop)]
 pub(crate) enum Session {
     /// It has answered all lines that it took.
     Idle,
@@ -14,7 +14,7 @@ pub(crate) enum Session {
 }
 
 /// What a step came to.
-#[derive(Debug, Drop)]
+#[derive(Drop)]
 pub(crate) enum Outcome {
     /// The core is stopped: a write failed, or a page was damaged.
     Stopped,

@@ -1,10 +1,12 @@
-use Rattle.std.proofs.Common.{List, [], length, sym, ap, ◌∙◌, subst, arith}
+use Rattle.std.proofs.Common.{List, [], length, refl, sym, ap, ◌∙◌, subst, arith}
 use Rattle.hb_set.specs.Order.{AreRising}
 use Rattle.hb_set.specs.Scripts.{script_is_short}
 use Rattle.hb_set.specs.declared.scripts.Line.{Line}
 use Rattle.hb_set.specs.declared.scripts.Answered.{Answered}
-use Rattle.hbpi.specs.CoreSeen.{core_seen}
+use Rattle.hbpi.specs.CoreSeen.{core_seen, core_disk}
 use Rattle.hbpi.specs.Drives.{EndsAs}
+use Rattle.hbpi.specs.declared.drive.End.{End}
+use Rattle.hbpi.proofs.InLog.{in_log_same}
 use Rattle.hbpi.proofs.RestOfOutput.{left_behind, drive_ends}
 use Rattle.hbpi.proofs.TakenSteps.{answered_length}
 use Rattle.hbpi.proofs.drive.drive.Goals as goal
@@ -34,3 +36,21 @@ put_rest-failed-requires-clause-few g c =
 
 pub returns-in_default-clause-order : goal.returns-in_default-clause-order
 returns-in_default-clause-order g c = record { done = []; ordered = sym c.requires.start.order; among = tt }
+
+pub returns-clause-unbegun : goal.returns-clause-unbegun
+returns-clause-unbegun g c is = absurd (subst (λ (x : End). EndsAs x c.put_rest-failed.result c.is_some.result c.as_slice.result.now) is c.end_of-end.ensures)
+
+pub returns-clause-runs : goal.returns-clause-runs
+returns-clause-runs g c n kept _ = c.take_steps-failed.ensures.runs n kept
+
+pub returns-clause-moves : goal.returns-clause-moves
+returns-clause-moves g c _ = c.take_steps-failed.ensures.moves
+
+pub returns-in_default-clause-runs : goal.returns-in_default-clause-runs
+returns-in_default-clause-runs g c _ _ ran = absurd (ran refl)
+
+pub returns-in_default-clause-moves : goal.returns-in_default-clause-moves
+returns-in_default-clause-moves g c ran = absurd (ran refl)
+
+pub returns-in_default-clause-in_log : goal.returns-in_default-clause-in_log
+returns-in_default-clause-in_log g c = in_log_same (g.D.Device.model (core_disk c.args.core)) (core_seen c.args.core) (core_seen c.args.core) (core_seen c.args.core) (g.met.D.Device.is_disk (core_disk c.args.core)) refl refl refl

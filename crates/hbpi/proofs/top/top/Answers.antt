@@ -75,3 +75,27 @@ returns-in-Some-Create-clause-made g c =
 pub returns-in-Some-Create-clause-beyond : goal.returns-in-Some-Create-clause-beyond
 returns-in-Some-Create-clause-beyond g c =
     subst (λ (form : Option Form). LeavesBeyond form (g.D.Device.model c.args.disk) (g.D.Device.model c.create_file.result.disk)) (sym (ap Some c.in-Some-Create.field-0-is) ∙ c.in-Some-Create.ensures.form) c.create_file.ensures.beyond
+
+pub returns-in-Some-Drive-clause-complete : goal.returns-in-Some-Drive-clause-complete
+returns-in-Some-Drive-clause-complete g c _ _ _ is _ _ _ _ = cc (c.in-Some-Drive.field-0-is, c.in-Some-Drive.ensures.form, is)
+
+pub returns-in-Some-Drive-clause-bad_text : goal.returns-in-Some-Drive-clause-bad_text
+returns-in-Some-Drive-clause-bad_text g c _ _ _ is _ _ _ = cc (c.in-Some-Drive.field-0-is, c.in-Some-Drive.ensures.form, is)
+
+pub returns-in-Some-Drive-clause-named : goal.returns-in-Some-Drive-clause-named
+returns-in-Some-Drive-clause-named g c _ _ _ is _ _ = cc (c.in-Some-Drive.field-0-is, c.in-Some-Drive.ensures.form, is)
+
+pub returns-in-Some-Drive-clause-made : goal.returns-in-Some-Drive-clause-made
+returns-in-Some-Drive-clause-made g c _ _ _ _ _ is _ _ _ _ = cc (c.in-Some-Drive.field-0-is, c.in-Some-Drive.ensures.form, is)
+
+pub returns-in-Some-Create-clause-complete : goal.returns-in-Some-Create-clause-complete
+returns-in-Some-Create-clause-complete g c _ _ _ is _ _ _ _ = cc (c.in-Some-Create.field-0-is, c.in-Some-Create.ensures.form, is)
+
+pub returns-in-Some-Create-clause-bad_text : goal.returns-in-Some-Create-clause-bad_text
+returns-in-Some-Create-clause-bad_text g c _ _ _ is _ _ _ = cc (c.in-Some-Create.field-0-is, c.in-Some-Create.ensures.form, is)
+
+pub returns-in-Some-Create-clause-named : goal.returns-in-Some-Create-clause-named
+returns-in-Some-Create-clause-named g c _ _ _ is _ _ = cc (c.in-Some-Create.field-0-is, c.in-Some-Create.ensures.form, is)
+
+pub returns-in-Some-Dry-clause-made : goal.returns-in-Some-Dry-clause-made
+returns-in-Some-Dry-clause-made g c _ _ _ _ _ is _ _ _ _ = cc (c.in-Some-Dry.field-0-is, c.in-Some-Dry.ensures.form, is)
