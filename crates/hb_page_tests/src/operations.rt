@@ -12,7 +12,7 @@ use crate::drawn::{push_area, push_record};
 use crate::spelled::{area_of, path_of, record_of};
 use hb_frag::{Path, Side};
 use hb_ops::{Cuts, LeafCut, Op};
-use hb_space::{Area, NoMemory, Point};
+use hb_space::{Area, NoMemory, Point, Record};
 use smallvec::SmallVec;
 use std::alloc::Global;
 use std::test::Fail;
@@ -61,16 +61,20 @@ fn cuts_of(alloc: Global, text: &str) -> Result<Cuts, Fail> {
     Ok(Cuts::new(cuts))
 }
 
+// The fresh page, and the free head afterwards.
+fn fresh_of(text: &str) -> Result<(u32, u32), Fail> {
+    let (fresh, free) = text.split_once(' ').ok_or("no free head")?;
+    Ok((fresh.parse()?, free.parse()?))
+}
+
 fn split_of(alloc: Global, text: &str) -> Result<Op, Fail>
     ensures { IfOk result (λ op. OpHas 1 op) }
 {
     let (source, rest) = text.split_once(' ').ok_or("no path")?;
     let (path, rest) = rest.split_once(' ').ok_or("no cuts")?;
     let (cuts, rest) = rest.split_once(' ').ok_or("no fresh page")?;
-    let (fresh, free) = rest.split_once(' ').ok_or("no free head")?;
     let source = source.parse()?;
-    let fresh = fresh.parse()?;
-    let free_after = free.parse()?;
+    let (fresh, free_after) = fresh_of(rest)?;
     let path = path_of(alloc, path)?;
     let cuts = cuts_of(alloc, cuts)?;
     Ok(Op::Extract {
@@ -115,9 +119,7 @@ fn post_of(alloc: Global, text: &str) -> Result<Op, Fail>
 fn grow_of(text: &str) -> Result<Op, Fail>
     ensures { IfOk result (λ op. OpHas 1 op) }
 {
-    let (fresh, free) = text.split_once(' ').ok_or("no free head")?;
-    let fresh = fresh.parse()?;
-    let free_after = free.parse()?;
+    let (fresh, free_after) = fresh_of(text)?;
     Ok(Op::Grow { fresh, free_after })
 }
 
@@ -135,7 +137,7 @@ pub(crate) fn op_of(alloc: Global, text: &str) -> Result<Op, Fail>
     }
 }
 
-pub(crate) fn push_path(text: &mut String, path: &Path) -> Result<(), NoMemory> {
+fn push_path(text: &mut String, path: &Path) -> Result<(), NoMemory> {
     if path.as_slice().is_empty() {
         return text.push('.');
     }
@@ -152,7 +154,7 @@ fn letter_of(side: Side) -> char {
     }
 }
 
-pub(crate) fn push_cuts(text: &mut String, cuts: &Cuts) -> Result<(), NoMemory> {
+fn push_cuts(text: &mut String, cuts: &Cuts) -> Result<(), NoMemory> {
     let mut mark = " ";
     for cut in cuts.as_slice() {
         write!(
@@ -170,16 +172,33 @@ pub(crate) fn push_cuts(text: &mut String, cuts: &Cuts) -> Result<(), NoMemory> 
     Ok(())
 }
 
+/// A path, and the cuts there.
+pub(crate) fn push_part(text: &mut String, path: &Path, cuts: &Cuts) -> Result<(), NoMemory> {
+    push_path(text, path)?;
+    push_cuts(text, cuts)
+}
+
+/// `LR 2 0..39`: the way, the page to be named, the area.
+pub(crate) fn push_posted(
+    text: &mut String,
+    at: &Path,
+    inner: u32,
+    area: &Area,
+) -> Result<(), NoMemory> {
+    push_path(text, at)?;
+    write!(text, " {inner}")?;
+    push_area(text, area)
+}
+
+fn push_put(text: &mut String, page: u32, rec: &Record) -> Result<(), NoMemory> {
+    write!(text, "put {page} ")?;
+    push_record(text, rec)
+}
+
 pub(crate) fn push_op(text: &mut String, op: &Op) -> Result<(), NoMemory> {
     match op {
-        Op::Put { page, rec } => {
-            write!(text, "put {page} ")?;
-            push_record(text, rec)
-        }
-        Op::Del { page, point } => {
-            write!(text, "del {page}")?;
-            push_values(text, point)
-        }
+        Op::Put { page, rec } => push_put(text, *page, rec),
+        Op::Del { page, point } => push_del(text, *page, point),
         Op::Extract {
             source,
             fresh,
@@ -188,8 +207,7 @@ pub(crate) fn push_op(text: &mut String, op: &Op) -> Result<(), NoMemory> {
             free_after,
         } => {
             write!(text, "split {source} ")?;
-            push_path(text, path)?;
-            push_cuts(text, cuts)?;
+            push_part(text, path, cuts)?;
             write!(text, " {fresh} {free_after}")
         }
         Op::Post {
@@ -199,15 +217,14 @@ pub(crate) fn push_op(text: &mut String, op: &Op) -> Result<(), NoMemory> {
             area,
         } => {
             write!(text, "post {parent} ")?;
-            push_path(text, at)?;
-            write!(text, " {inner}")?;
-            push_area(text, area)
+            push_posted(text, at, *inner, area)
         }
         Op::Grow { fresh, free_after } => write!(text, "grow {fresh} {free_after}"),
     }
 }
 
-fn push_values(text: &mut String, point: &Point) -> Result<(), NoMemory> {
+fn push_del(text: &mut String, page: u32, point: &Point) -> Result<(), NoMemory> {
+    write!(text, "del {page}")?;
     for value in point.values() {
         write!(text, " {value}")?;
     }

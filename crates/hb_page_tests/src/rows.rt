@@ -5,8 +5,7 @@ use std::alloc::Global;
 use std::process::Abort;
 use std::test::Fail;
 
-fn answer(alloc: Global, text: &str) -> Result<String, Fail> {
-    let (kind, question) = text.split_once(": ").ok_or("no question")?;
+fn of_boxes(alloc: Global, kind: &str, question: &str) -> Result<String, Fail> {
     match kind {
         "whole" => boxes::whole(alloc, question),
         "alone" => boxes::alone(alloc, question),
@@ -18,6 +17,12 @@ fn answer(alloc: Global, text: &str) -> Result<String, Fail> {
         "outside" => boxes::outside(alloc, question),
         "offsets" => layouts::offsets(alloc, question),
         "slot" => layouts::slot(alloc, question),
+        _ => of_places(alloc, kind, question),
+    }
+}
+
+fn of_places(alloc: Global, kind: &str, question: &str) -> Result<String, Fail> {
+    match kind {
         "leaf" => places::leaf(alloc, question),
         "directly" => places::directly(alloc, question),
         "named" => places::named(alloc, question),
@@ -26,6 +31,12 @@ fn answer(alloc: Global, text: &str) -> Result<String, Fail> {
         "weight" => places::weight(alloc, question),
         "carve" => carving::carved(alloc, question),
         "normal" => carving::joined(alloc, question),
+        _ => of_bytes(alloc, kind, question),
+    }
+}
+
+fn of_bytes(alloc: Global, kind: &str, question: &str) -> Result<String, Fail> {
+    match kind {
         "change" => changes::changed(alloc, question),
         "rule" => changes::rule(alloc, question),
         "reads" => changes::reads(alloc, question),
@@ -33,6 +44,12 @@ fn answer(alloc: Global, text: &str) -> Result<String, Fail> {
         "bytes" => pages::bytes(alloc, question),
         "long" => pages::long(alloc, question),
         "groups" => groups::groups(alloc, question),
+        _ => of_plans(alloc, kind, question),
+    }
+}
+
+fn of_plans(alloc: Global, kind: &str, question: &str) -> Result<String, Fail> {
+    match kind {
         "points" => splits::points(alloc, question),
         "steps" => splits::steps(alloc, question),
         "full" => splits::part(alloc, question),
@@ -41,6 +58,11 @@ fn answer(alloc: Global, text: &str) -> Result<String, Fail> {
         "merge" => plans::merge(alloc, question),
         _ => Err("no such kind of question".into()),
     }
+}
+
+fn answer(alloc: Global, text: &str) -> Result<String, Fail> {
+    let (kind, question) = text.split_once(": ").ok_or("no question")?;
+    of_boxes(alloc, kind, question)
 }
 
 // Asserts that a row's question has the row's answer.
