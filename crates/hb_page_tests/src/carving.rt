@@ -5,7 +5,7 @@ ghost use Rattle.hb_frag.specs.Leaves.{weight_of};
 
 use crate::drawn::{frag_text, push_frag};
 use crate::rows::expect_all;
-use crate::spelled::{area_of, frag_of};
+use crate::spelled::{area_of, frag_of, halves};
 use hb_frag::{Frag, Leaf, Node, carve, carved_weight, normal};
 use hb_space::{Area, Body, NoMemory, Point, Record, Records};
 use std::alloc::Global;
@@ -23,7 +23,7 @@ fn carved_text(alloc: Global, leaf: &Area, inner: &Area) -> Result<String, Fail>
 /// What a leaf of child 1 weighs, and then is, once child 2 is named over what the leaf's box has in
 /// common with another one, from `BOX by BOX`.
 pub(crate) fn carved(alloc: Global, question: &str) -> Result<String, Fail> {
-    let (leaf, inner) = question.split_once(" by ").ok_or("no box")?;
+    let (leaf, inner) = halves(question, " by ", "no box")?;
     let leaf = area_of(leaf)?;
     let inner = area_of(inner)?;
     carved_text(alloc, &leaf, &inner)

@@ -7,21 +7,12 @@ ghost use Rattle.hb_ops.specs.Operations.{OpHas};
 use crate::drawn::push_page;
 use crate::operations::op_of;
 use crate::rows::expect_all;
-use crate::spelled::page_of;
+use crate::spelled::{halves, page_of};
 use hb_frag::LivePage;
 use hb_ops::{ChangeError, Changed, Meta, Op, change, local_rule};
 use hb_space::NoMemory;
 use std::alloc::Global;
-use std::str::SplitWhitespace;
 use std::test::Fail;
-
-// The next number of a text, or another one where there is none.
-fn next_of(words: &mut SplitWhitespace<'_>, otherwise: u32) -> Result<u32, Fail> {
-    match words.next() {
-        Some(word) => Ok(word.parse()?),
-        None => Ok(otherwise),
-    }
-}
 
 // A file of one attribute, from the weight that a page of level 0 may have, how many pages the file
 // may have, its high mark, the pages in use, its free head and its height. A number that isn't there
@@ -29,18 +20,22 @@ fn next_of(words: &mut SplitWhitespace<'_>, otherwise: u32) -> Result<u32, Fail>
 fn file_of(text: &str) -> Result<Meta, Fail>
     ensures { IfOk result (λ meta. meta.k ≡ 1) }
 {
-    let mut words = text.split_whitespace();
+    let mut numbers = [6u32, 8, 3, 3, 0, 2];
+    for (number, word) in numbers.iter_mut().zip(text.split_whitespace()) {
+        *number = word.parse()?;
+    }
+    let [dcap, pages, high, live, free, height] = numbers;
     Ok(Meta {
         k: 1,
         log: 0,
         icap: 4,
         root: 1,
-        dcap: next_of(&mut words, 6)?.try_into()?,
-        pages: next_of(&mut words, 8)?,
-        high: next_of(&mut words, 3)?,
-        live: next_of(&mut words, 3)?,
-        free: next_of(&mut words, 0)?,
-        height: next_of(&mut words, 2)?.try_into()?,
+        dcap: dcap.try_into()?,
+        pages,
+        high,
+        live,
+        free,
+        height: height.try_into()?,
     })
 }
 
@@ -69,6 +64,24 @@ fn change_of(
     change(alloc, &op, meta, page.as_ref(), None, None)
 }
 
+fn tried(
+    alloc: Global,
+    meta: &Meta,
+    page: &str,
+    op: &str,
+) -> Result<Result<Changed, ChangeError>, Fail>
+    requires { meta.now.k ≡ 1 }
+{
+    let page = standing(alloc, page)?;
+    let op = op_of(alloc, op)?;
+    Ok(change_of(alloc, op, meta, page))
+}
+
+fn push_file(text: &mut String, file: &Meta) -> Result<(), NoMemory> {
+    write!(text, "; file {} {} {}", file.root, file.height, file.high)?;
+    write!(text, " {} {}", file.live, file.free)
+}
+
 // Each page that changed, and what the file says of itself where that changed.
 fn push_changed(text: &mut String, meta: &Meta, changed: &Changed) -> Result<(), NoMemory> {
     for (id, page) in &changed.pages {
@@ -81,12 +94,7 @@ fn push_changed(text: &mut String, meta: &Meta, changed: &Changed) -> Result<(),
     if changed.meta == *meta {
         return Ok(());
     }
-    let said = &changed.meta;
-    write!(
-        text,
-        "; file {} {} {} {} {}",
-        said.root, said.height, said.high, said.live, said.free
-    )
+    push_file(text, &changed.meta)
 }
 
 fn outcome(
@@ -108,12 +116,11 @@ fn outcome(
 /// says of itself, that is told as the root, the height, the high mark, the pages in use and the
 /// free head.
 pub(crate) fn changed(alloc: Global, question: &str) -> Result<String, Fail> {
-    let (file, rest) = question.split_once(" | ").ok_or("no page")?;
-    let (page, op) = rest.split_once(" | ").ok_or("no operation")?;
+    let (file, rest) = halves(question, " | ", "no page")?;
+    let (page, op) = halves(rest, " | ", "no operation")?;
     let meta = file_of(file)?;
-    let page = standing(alloc, page)?;
-    let op = op_of(alloc, op)?;
-    Ok(outcome(alloc, &meta, change_of(alloc, op, &meta, page))?)
+    let changed = tried(alloc, &meta, page, op)?;
+    Ok(outcome(alloc, &meta, changed)?)
 }
 
 /// The first rule that a page breaks by itself. 0 where it keeps them all.
@@ -124,14 +131,18 @@ pub(crate) fn rule(alloc: Global, question: &str) -> Result<String, Fail> {
     Ok(format!(in alloc; "{rule}")?)
 }
 
+fn numbers_text(alloc: Global, numbers: &[u32]) -> Result<String, NoMemory> {
+    let mut text = format!(in alloc; "{}", numbers.len())?;
+    for number in numbers {
+        write!(text, " {number}")?;
+    }
+    Ok(text)
+}
+
 /// How many pages an operation reads, and their numbers.
 pub(crate) fn reads(alloc: Global, question: &str) -> Result<String, Fail> {
     let reads = op_of(alloc, question)?.reads();
-    let mut text = format!(in alloc; "{}", reads.len())?;
-    for id in &reads {
-        write!(text, " {id}")?;
-    }
-    Ok(text)
+    Ok(numbers_text(alloc, reads.as_slice())?)
 }
 
 #[test]

@@ -8,7 +8,7 @@ ghost use Rattle.hb_terms.specs.Plans.{NamesChildAt};
 
 use crate::operations::push_posted;
 use crate::rows::expect_all;
-use crate::spelled::{page_of, point_from};
+use crate::spelled::{halves, page_of, point_from};
 use hb_frag::laws::normal_says_the_same;
 use hb_frag::{Leaf, LivePage, normal};
 use hb_space::{NoMemory, Point};
@@ -118,15 +118,15 @@ fn posted(
     requires normal { IsNormal parent.now.frag }
     requires light { weight_of parent.now.frag < 2 ^ 32 }
 {
-    let (icap, point) = text.split_once(' ').ok_or("no point")?;
+    let (icap, point) = halves(text, " ", "no point")?;
     let icap = icap.parse()?;
     planned(alloc, parent, child, &point_from(point)?, icap)
 }
 
 /// The plan of a posting: from `PARENT CHILD CAPACITY POINT`.
 pub(crate) fn post(alloc: Global, question: &str) -> Result<String, Fail> {
-    let (parent, rest) = question.split_once(' ').ok_or("no child")?;
-    let (child, rest) = rest.split_once(' ').ok_or("no capacity")?;
+    let (parent, rest) = halves(question, " ", "no child")?;
+    let (child, rest) = halves(rest, " ", "no capacity")?;
     let parent = parent_of(alloc, parent)?;
     posted(alloc, &parent, &page_of(alloc, named(child))?, rest)
 }
@@ -182,8 +182,8 @@ fn under(
 
 /// The plan of a merge that keeps the page `kept`: from `PARENT | GONE | PAGE`.
 pub(crate) fn merge(alloc: Global, question: &str) -> Result<String, Fail> {
-    let (parent, rest) = question.split_once(" | ").ok_or("no page to go")?;
-    let (gone_id, gone) = rest.split_once(" | ").ok_or("no page")?;
+    let (parent, rest) = halves(question, " | ", "no page to go")?;
+    let (gone_id, gone) = halves(rest, " | ", "no page")?;
     let gone_id = gone_id.parse()?;
     let plan = under(alloc, &page_of(alloc, named(parent))?, gone_id, gone)?;
     Ok(plan.to_string(alloc)?)

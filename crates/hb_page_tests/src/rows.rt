@@ -1,6 +1,7 @@
 //! Tables of rows. A row is `KIND: QUESTION => ANSWER`; a line that begins with `//` is a comment.
 
 use crate::{boxes, carving, changes, groups, layouts, pages, places, plans, splits};
+use crate::spelled::halves;
 use std::alloc::Global;
 use std::process::Abort;
 use std::test::Fail;
@@ -61,13 +62,13 @@ fn of_plans(alloc: Global, kind: &str, question: &str) -> Result<String, Fail> {
 }
 
 fn answer(alloc: Global, text: &str) -> Result<String, Fail> {
-    let (kind, question) = text.split_once(": ").ok_or("no question")?;
+    let (kind, question) = halves(text, ": ", "no question")?;
     of_boxes(alloc, kind, question)
 }
 
 // Asserts that a row's question has the row's answer.
 fn expect(rt: &impl Abort, alloc: Global, row: &str) -> Result<(), Fail> {
-    let (question, wanted) = row.split_once(" => ").ok_or("no answer")?;
+    let (question, wanted) = halves(row, " => ", "no answer")?;
     let answer = answer(alloc, question)?;
     assert_eq!(rt; answer.as_str(), wanted, "{question}");
     Ok(())
