@@ -193,31 +193,18 @@ fn kept(alloc: Global, records: &Records) -> Result<String, NoMemory> {
     Ok(text)
 }
 
-// Two copies of one record.
-fn two_copies(alloc: Global) -> Result<Records, Fail> {
+#[test]
+fn records_are_kept(rt: HostRuntime) -> Result<(), Fail> {
     let record = Record {
         key: Point::new(&[7, 8, 9]),
         body: Body::new(b"ab"),
     };
-    copies(alloc, record)
-}
-
-fn copies_text(alloc: Global) -> Result<String, Fail> {
-    Ok(kept(alloc, &two_copies(alloc)?)?)
-}
-
-fn is_cloned() -> Result<bool, Fail> {
-    Ok(Area::whole(2).clone()? == Area::whole(2))
-}
-
-#[test]
-fn records_are_kept(rt: HostRuntime) -> Result<(), Fail> {
-    let alloc = rt.alloc();
-    assert_eq!(rt; two_copies(alloc)?.into_vec().len(), 2);
+    let records = copies(rt.alloc(), record)?;
     assert_eq!(rt;
-        copies_text(alloc)?.as_str(),
+        kept(rt.alloc(), &records)?.as_str(),
         "3 7=8=9=ab 3 7=8=9=ab "
     );
-    assert!(rt; is_cloned()?);
+    assert_eq!(rt; records.into_vec().len(), 2);
+    assert_eq!(rt; Area::whole(2).clone()?, Area::whole(2));
     Ok(())
 }

@@ -47,20 +47,16 @@ fn put_byte(bytes: &mut [u8], at: usize, byte: u8) -> Result<(), Fail> {
     Ok(())
 }
 
-fn push_some(bytes: &mut Vec<u8>, word: &str) -> Result<(), Fail> {
-    match word.split_once('*') {
-        Some((count, items)) => push_many(bytes, count.parse()?, items),
-        None => Ok(bytes.push(word.parse()?)?),
-    }
-}
-
 fn push_word(bytes: &mut Vec<u8>, word: &str) -> Result<(), Fail> {
     if let Some(length) = word.strip_prefix('@') {
         return Ok(bytes.resize(length.parse()?, 0)?);
     }
-    match word.split_once(':') {
-        Some((at, byte)) => put_byte(bytes, at.parse()?, byte.parse()?),
-        None => push_some(bytes, word),
+    if let Some((at, byte)) = word.split_once(':') {
+        return put_byte(bytes, at.parse()?, byte.parse()?);
+    }
+    match word.split_once('*') {
+        Some((count, items)) => push_many(bytes, count.parse()?, items),
+        None => Ok(bytes.push(word.parse()?)?),
     }
 }
 

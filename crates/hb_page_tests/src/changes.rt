@@ -64,24 +64,6 @@ fn change_of(
     change(alloc, &op, meta, page.as_ref(), None, None)
 }
 
-fn tried(
-    alloc: Global,
-    meta: &Meta,
-    page: &str,
-    op: &str,
-) -> Result<Result<Changed, ChangeError>, Fail>
-    requires { meta.now.k ≡ 1 }
-{
-    let page = standing(alloc, page)?;
-    let op = op_of(alloc, op)?;
-    Ok(change_of(alloc, op, meta, page))
-}
-
-fn push_file(text: &mut String, file: &Meta) -> Result<(), NoMemory> {
-    write!(text, "; file {} {} {}", file.root, file.height, file.high)?;
-    write!(text, " {} {}", file.live, file.free)
-}
-
 // Each page that changed, and what the file says of itself where that changed.
 fn push_changed(text: &mut String, meta: &Meta, changed: &Changed) -> Result<(), NoMemory> {
     for (id, page) in &changed.pages {
@@ -94,7 +76,12 @@ fn push_changed(text: &mut String, meta: &Meta, changed: &Changed) -> Result<(),
     if changed.meta == *meta {
         return Ok(());
     }
-    push_file(text, &changed.meta)
+    let said = &changed.meta;
+    write!(
+        text,
+        "; file {} {} {} {} {}",
+        said.root, said.height, said.high, said.live, said.free
+    )
 }
 
 fn outcome(
@@ -119,8 +106,9 @@ pub(crate) fn changed(alloc: Global, question: &str) -> Result<String, Fail> {
     let (file, rest) = halves(question, " | ", "no page")?;
     let (page, op) = halves(rest, " | ", "no operation")?;
     let meta = file_of(file)?;
-    let changed = tried(alloc, &meta, page, op)?;
-    Ok(outcome(alloc, &meta, changed)?)
+    let page = standing(alloc, page)?;
+    let op = op_of(alloc, op)?;
+    Ok(outcome(alloc, &meta, change_of(alloc, op, &meta, page))?)
 }
 
 /// The first rule that a page breaks by itself. 0 where it keeps them all.
@@ -131,18 +119,14 @@ pub(crate) fn rule(alloc: Global, question: &str) -> Result<String, Fail> {
     Ok(format!(in alloc; "{rule}")?)
 }
 
-fn numbers_text(alloc: Global, numbers: &[u32]) -> Result<String, NoMemory> {
-    let mut text = format!(in alloc; "{}", numbers.len())?;
-    for number in numbers {
-        write!(text, " {number}")?;
-    }
-    Ok(text)
-}
-
 /// How many pages an operation reads, and their numbers.
 pub(crate) fn reads(alloc: Global, question: &str) -> Result<String, Fail> {
     let reads = op_of(alloc, question)?.reads();
-    Ok(numbers_text(alloc, reads.as_slice())?)
+    let mut text = format!(in alloc; "{}", reads.len())?;
+    for id in &reads {
+        write!(text, " {id}")?;
+    }
+    Ok(text)
 }
 
 #[test]

@@ -1,11 +1,8 @@
 //! Where the parts of files stand, worked out by hand.
 
-ghost use Rattle.std.specs.Prelude.{◌≤◌};
-
 use crate::rows::expect_all;
 use crate::spelled::halves;
 use hb_layout::{Meta, file_size, log_start, page_offset, slot_offset};
-use hb_space::NoMemory;
 use std::alloc::Global;
 use std::test::Fail;
 
@@ -30,16 +27,6 @@ fn file_of(pages: u32, log: u32) -> Result<Meta, Fail> {
     }
 }
 
-fn offsets_text(alloc: Global, file: &Meta) -> Result<String, NoMemory>
-    requires { 1 ≤ file.now.pages }
-{
-    let mut text = String::new(alloc);
-    write!(text, "{} {} ", log_start(2, file), log_start(3, file))?;
-    write!(text, "{} {} ", page_offset(file, 1), page_offset(file, file.pages))?;
-    write!(text, "{}", file_size(file))?;
-    Ok(text)
-}
-
 /// Where the two log areas, the first page and the last one begin, and how long the file is: from `PAGES LOG`.
 pub(crate) fn offsets(alloc: Global, question: &str) -> Result<String, Fail> {
     let (pages, log) = halves(question, " ", "no log")?;
@@ -47,7 +34,12 @@ pub(crate) fn offsets(alloc: Global, question: &str) -> Result<String, Fail> {
     if file.pages < 1 {
         return Err("no page".into());
     }
-    Ok(offsets_text(alloc, &file)?)
+    let first = log_start(2, &file);
+    let second = log_start(3, &file);
+    let mut text = format!(in alloc; "{first} {second} ")?;
+    let (least, last) = (page_offset(&file, 1), page_offset(&file, file.pages));
+    write!(text, "{least} {last} {}", file_size(&file))?;
+    Ok(text)
 }
 
 /// Where the superblock of a turn stands.

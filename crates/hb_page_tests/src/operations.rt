@@ -12,7 +12,7 @@ use crate::drawn::{push_area, push_record};
 use crate::spelled::{area_of, halves, path_of, record_of};
 use hb_frag::{Path, Side};
 use hb_ops::{Cuts, LeafCut, Op};
-use hb_space::{Area, NoMemory, Point, Record};
+use hb_space::{Area, NoMemory, Point};
 use smallvec::SmallVec;
 use std::alloc::Global;
 use std::test::Fail;
@@ -137,7 +137,7 @@ pub(crate) fn op_of(alloc: Global, text: &str) -> Result<Op, Fail>
     }
 }
 
-fn push_path(text: &mut String, path: &Path) -> Result<(), NoMemory> {
+pub(crate) fn push_path(text: &mut String, path: &Path) -> Result<(), NoMemory> {
     if path.as_slice().is_empty() {
         return text.push('.');
     }
@@ -154,7 +154,7 @@ fn letter_of(side: Side) -> char {
     }
 }
 
-fn push_cuts(text: &mut String, cuts: &Cuts) -> Result<(), NoMemory> {
+pub(crate) fn push_cuts(text: &mut String, cuts: &Cuts) -> Result<(), NoMemory> {
     let mut mark = " ";
     for cut in cuts.as_slice() {
         write!(
@@ -172,12 +172,6 @@ fn push_cuts(text: &mut String, cuts: &Cuts) -> Result<(), NoMemory> {
     Ok(())
 }
 
-/// A path, and the cuts there.
-pub(crate) fn push_part(text: &mut String, path: &Path, cuts: &Cuts) -> Result<(), NoMemory> {
-    push_path(text, path)?;
-    push_cuts(text, cuts)
-}
-
 /// `LR 2 0..39`: the way, the page to be named, the area.
 pub(crate) fn push_posted(
     text: &mut String,
@@ -190,15 +184,16 @@ pub(crate) fn push_posted(
     push_area(text, area)
 }
 
-fn push_put(text: &mut String, page: u32, rec: &Record) -> Result<(), NoMemory> {
-    write!(text, "put {page} ")?;
-    push_record(text, rec)
-}
-
 pub(crate) fn push_op(text: &mut String, op: &Op) -> Result<(), NoMemory> {
     match op {
-        Op::Put { page, rec } => push_put(text, *page, rec),
-        Op::Del { page, point } => push_del(text, *page, point),
+        Op::Put { page, rec } => {
+            write!(text, "put {page} ")?;
+            push_record(text, rec)
+        }
+        Op::Del { page, point } => {
+            write!(text, "del {page}")?;
+            push_values(text, point)
+        }
         Op::Extract {
             source,
             fresh,
@@ -207,7 +202,8 @@ pub(crate) fn push_op(text: &mut String, op: &Op) -> Result<(), NoMemory> {
             free_after,
         } => {
             write!(text, "split {source} ")?;
-            push_part(text, path, cuts)?;
+            push_path(text, path)?;
+            push_cuts(text, cuts)?;
             write!(text, " {fresh} {free_after}")
         }
         Op::Post {
@@ -223,8 +219,7 @@ pub(crate) fn push_op(text: &mut String, op: &Op) -> Result<(), NoMemory> {
     }
 }
 
-fn push_del(text: &mut String, page: u32, point: &Point) -> Result<(), NoMemory> {
-    write!(text, "del {page}")?;
+fn push_values(text: &mut String, point: &Point) -> Result<(), NoMemory> {
     for value in point.values() {
         write!(text, " {value}")?;
     }

@@ -27,19 +27,10 @@ fn page_text(alloc: Global, page: &Page) -> Result<String, NoMemory> {
     Ok(text)
 }
 
-fn written(alloc: Global, page: &Page, bytes: &[u8]) -> Result<String, Fail>
-    requires { HasSpelling page.now }
-{
-    if is_written(page, bytes) {
-        Ok(page_text(alloc, page)?)
-    } else {
-        Err("written otherwise".into())
-    }
-}
-
 fn shown(alloc: Global, bytes: &[u8]) -> Result<String, Fail> {
     match decode(alloc, bytes) {
-        Ok(page) => written(alloc, &page, bytes),
+        Ok(page) if is_written(&page, bytes) => Ok(page_text(alloc, &page)?),
+        Ok(_) => Err("written otherwise".into()),
         Err(PageError::BadPage) => Ok(String::from_str(alloc, "no page")?),
         Err(PageError::NoMemory) => Err("no memory".into()),
     }

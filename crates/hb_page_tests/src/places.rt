@@ -8,7 +8,7 @@ ghost use Rattle.hb_frag.specs.Paths.{StaysInside};
 use crate::drawn::{frag_text, push_area, push_frag, push_leaf};
 use crate::rows::expect_all;
 use crate::spelled::{area_of, page_of, path_of, point_from};
-use hb_frag::{Frag, Leaf, LivePage, Pages, Path, replace};
+use hb_frag::{Frag, Leaf, LivePage, Path, replace};
 use hb_space::{Area, NoMemory, Point};
 use std::alloc::Global;
 use std::test::Fail;
@@ -222,13 +222,10 @@ weight: 0 1=a,3=b,5=c => 3
 weight: 1 ( ( ^7 |1:30| >9 ) |0:50| ( ^8 |1:60| ( ^7 |0:80| >9 ) ) ) => 5
 ";
 
-fn children(alloc: Global) -> Result<Pages, Fail> {
-    Ok(drawn(alloc)?.children(alloc)?)
-}
-
 #[test]
 fn pages_that_are_named(rt: HostRuntime) -> Result<(), Fail> {
-    let children = children(rt.alloc())?;
+    let alloc = rt.alloc();
+    let children = drawn(alloc)?.children(alloc)?;
     assert_eq!(rt; children.as_slice(), [7, 8].as_slice());
     Ok(())
 }

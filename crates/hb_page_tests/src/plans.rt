@@ -108,27 +108,15 @@ fn planned(
     Ok(shown(alloc, &plan)?)
 }
 
-// The plan for `CAPACITY POINT`.
-fn posted(
-    alloc: Global,
-    parent: &LivePage,
-    child: &LivePage,
-    text: &str,
-) -> Result<String, Fail>
-    requires normal { IsNormal parent.now.frag }
-    requires light { weight_of parent.now.frag < 2 ^ 32 }
-{
-    let (icap, point) = halves(text, " ", "no point")?;
-    let icap = icap.parse()?;
-    planned(alloc, parent, child, &point_from(point)?, icap)
-}
-
 /// The plan of a posting: from `PARENT CHILD CAPACITY POINT`.
 pub(crate) fn post(alloc: Global, question: &str) -> Result<String, Fail> {
     let (parent, rest) = halves(question, " ", "no child")?;
     let (child, rest) = halves(rest, " ", "no capacity")?;
+    let (icap, point) = halves(rest, " ", "no point")?;
+    let icap = icap.parse()?;
+    let point = point_from(point)?;
     let parent = parent_of(alloc, parent)?;
-    posted(alloc, &parent, &page_of(alloc, named(child))?, rest)
+    planned(alloc, &parent, &page_of(alloc, named(child))?, &point, icap)
 }
 
 fn told(plan: MergePlan) -> &'static str {

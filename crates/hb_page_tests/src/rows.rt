@@ -6,7 +6,8 @@ use std::alloc::Global;
 use std::process::Abort;
 use std::test::Fail;
 
-fn of_boxes(alloc: Global, kind: &str, question: &str) -> Result<String, Fail> {
+fn answer(alloc: Global, text: &str) -> Result<String, Fail> {
+    let (kind, question) = halves(text, ": ", "no question")?;
     match kind {
         "whole" => boxes::whole(alloc, question),
         "alone" => boxes::alone(alloc, question),
@@ -18,12 +19,6 @@ fn of_boxes(alloc: Global, kind: &str, question: &str) -> Result<String, Fail> {
         "outside" => boxes::outside(alloc, question),
         "offsets" => layouts::offsets(alloc, question),
         "slot" => layouts::slot(alloc, question),
-        _ => of_places(alloc, kind, question),
-    }
-}
-
-fn of_places(alloc: Global, kind: &str, question: &str) -> Result<String, Fail> {
-    match kind {
         "leaf" => places::leaf(alloc, question),
         "directly" => places::directly(alloc, question),
         "named" => places::named(alloc, question),
@@ -32,12 +27,6 @@ fn of_places(alloc: Global, kind: &str, question: &str) -> Result<String, Fail> 
         "weight" => places::weight(alloc, question),
         "carve" => carving::carved(alloc, question),
         "normal" => carving::joined(alloc, question),
-        _ => of_bytes(alloc, kind, question),
-    }
-}
-
-fn of_bytes(alloc: Global, kind: &str, question: &str) -> Result<String, Fail> {
-    match kind {
         "change" => changes::changed(alloc, question),
         "rule" => changes::rule(alloc, question),
         "reads" => changes::reads(alloc, question),
@@ -45,12 +34,6 @@ fn of_bytes(alloc: Global, kind: &str, question: &str) -> Result<String, Fail> {
         "bytes" => pages::bytes(alloc, question),
         "long" => pages::long(alloc, question),
         "groups" => groups::groups(alloc, question),
-        _ => of_plans(alloc, kind, question),
-    }
-}
-
-fn of_plans(alloc: Global, kind: &str, question: &str) -> Result<String, Fail> {
-    match kind {
         "points" => splits::points(alloc, question),
         "steps" => splits::steps(alloc, question),
         "full" => splits::part(alloc, question),
@@ -59,11 +42,6 @@ fn of_plans(alloc: Global, kind: &str, question: &str) -> Result<String, Fail> {
         "merge" => plans::merge(alloc, question),
         _ => Err("no such kind of question".into()),
     }
-}
-
-fn answer(alloc: Global, text: &str) -> Result<String, Fail> {
-    let (kind, question) = halves(text, ": ", "no question")?;
-    of_boxes(alloc, kind, question)
 }
 
 // Asserts that a row's question has the row's answer.

@@ -62,18 +62,13 @@ fn value_of(word: &str) -> Result<u64, Fail> {
     Ok(word.parse()?)
 }
 
-fn range_of(word: &str) -> Result<(u64, u64), Fail> {
-    let (least, greatest) = halves(word, "..", "no box")?;
-    Ok((value_of(least)?, value_of(greatest)?))
-}
-
 pub(crate) fn area_of(text: &str) -> Result<Area, Fail> {
     let mut lo: ArrayVec<u64, KMAX> = ArrayVec::new();
     let mut hi: ArrayVec<u64, KMAX> = ArrayVec::new();
     for word in text.split_whitespace() {
-        let (least, greatest) = range_of(word)?;
-        lo.try_push(least)?;
-        hi.try_push(greatest)?;
+        let (least, greatest) = halves(word, "..", "no box")?;
+        lo.try_push(value_of(least)?)?;
+        hi.try_push(value_of(greatest)?)?;
     }
     between(lo.as_slice(), hi.as_slice())
 }

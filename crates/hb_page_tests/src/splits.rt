@@ -3,14 +3,14 @@
 ghost use Rattle.std.specs.Prelude.{◌<◌, ◌^◌, IfOk};
 ghost use Rattle.hb_frag.specs.Leaves.{weight_of};
 
-use crate::operations::push_part;
+use crate::operations::{push_cuts, push_path};
 use crate::rows::expect_all;
 use crate::spelled::{frag_of, page_of, point_from};
 use hb_frag::{Frag, Leaf, LivePage};
 use hb_ops::{Meta, local_rule};
 use hb_space::form::KMAX;
-use hb_space::{Area, Body, NoMemory, Point, Record, Records};
-use hb_split::{Extraction, choose};
+use hb_space::{Area, Body, Point, Record, Records};
+use hb_split::choose;
 use std::alloc::Global;
 use std::test::Fail;
 
@@ -30,12 +30,6 @@ fn file_of(k: u8) -> Meta {
     }
 }
 
-fn part_text(alloc: Global, part: &Extraction) -> Result<String, NoMemory> {
-    let mut text = String::new(alloc);
-    push_part(&mut text, &part.path, &part.cuts)?;
-    Ok(text)
-}
-
 // The part that leaves a page of a sound file.
 fn chosen(alloc: Global, page: &LivePage) -> Result<String, Fail>
     requires { weight_of page.now.frag < 2 ^ 32 }
@@ -44,7 +38,11 @@ fn chosen(alloc: Global, page: &LivePage) -> Result<String, Fail>
     if page.weight() < 6 || local_rule(page, &file).is_some() {
         return Err("no page to cut".into());
     }
-    Ok(part_text(alloc, &choose(alloc, page)?)?)
+    let part = choose(alloc, page)?;
+    let mut text = String::new(alloc);
+    push_path(&mut text, &part.path)?;
+    push_cuts(&mut text, &part.cuts)?;
+    Ok(text)
 }
 
 /// The part that leaves a page.
