@@ -120,10 +120,10 @@ pub(crate) fn outside(alloc: Global, question: &str) -> Result<String, Fail> {
 
 #[test]
 fn boxes_and_points(rt: HostRuntime) -> Result<(), Fail> {
-    expect_all(&rt, rt.alloc(), POINTS)
+    expect_all(&rt, rt.alloc(), ROWS)
 }
 
-const POINTS: &str = "
+const ROWS: &str = "
 whole: 1 => box 0..
 whole: 4 => box 0.. 0.. 0.. 0..
 alone: 3 18446744073709551615 => box 3..3 18446744073709551615..
@@ -144,14 +144,7 @@ holds: 0..9 0.. 7..7 | 5 5 7 => true
 holds: 0..9 0.. 7..7 | 5 5 8 => false
 holds: 1..2 1..2 1..2 1..2 | 1 2 1 2 => true
 holds: 1..2 1..2 1..2 1..2 | 1 2 1 3 => false
-";
-
-#[test]
-fn boxes_and_boxes(rt: HostRuntime) -> Result<(), Fail> {
-    expect_all(&rt, rt.alloc(), BOXES)
-}
-
-const BOXES: &str = "
+// boxes and boxes
 lie: 0..4 | 0.. => true true true
 lie: 0..4 | 4.. => true true false
 lie: 0..4 | 5.. => false false false

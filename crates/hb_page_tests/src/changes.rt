@@ -130,11 +130,11 @@ pub(crate) fn reads(alloc: Global, question: &str) -> Result<String, Fail> {
 }
 
 #[test]
-fn puts_and_deletes(rt: HostRuntime) -> Result<(), Fail> {
-    expect_all(&rt, rt.alloc(), PUTS)
+fn changes_rules_and_reads(rt: HostRuntime) -> Result<(), Fail> {
+    expect_all(&rt, rt.alloc(), ROWS)
 }
 
-const PUTS: &str = "
+const ROWS: &str = "
 // an empty page, and the places before, between and behind others
 change: 6 | 0 - | put 3 7=a => page 3 0 0.. : 7=a
 change: 6 | 0 10=a,20=b | put 3 5=c => page 3 0 0.. : 5=c,10=a,20=b
@@ -163,14 +163,7 @@ change: 6 | 0 ( 10=a |0:40| >2 ) | del 3 40 => Unfit
 change: 6 | 0 - | del 3 0 => Unfit
 change: 2 | 0 10=a,20=b,30=c | del 3 10 => Unfit
 change: 6 | 1 ( ^2 |0:40| ^1 ) | del 3 7 => Unfit
-";
-
-#[test]
-fn first_broken_rules(rt: HostRuntime) -> Result<(), Fail> {
-    expect_all(&rt, rt.alloc(), RULES)
-}
-
-const RULES: &str = "
+// first broken rules
 rule: 0 - => 0
 rule: 0 ( 10=a,20=b |0:40| ( >2 |0:60| 70=c ) ) => 0
 rule: 1 ( ^2 |0:40| ( ^3 |0:60| >2 ) ) => 0
@@ -201,14 +194,7 @@ rule: 0 ( 50=a |0:40| ^2 ) => 5
 rule: 0 ( 50=a |0:40| 60=b ) => 6
 // a box of two attributes in a file of one
 rule: 0 0.. 0.. : >2 => 3
-";
-
-#[test]
-fn parts_that_leave(rt: HostRuntime) -> Result<(), Fail> {
-    expect_all(&rt, rt.alloc(), SPLITS)
-}
-
-const SPLITS: &str = "
+// parts that leave
 // a leaf on the right, one on the left, and a side of a cut
 change: 6 | 0 ( 10=a |0:40| ( >2 |0:60| 70=b ) ) | split 3 RR - 4 0 => page 3 0 0.. : ( 10=a |0:40| ( >2 |0:60| >4 ) ); page 4 0 60.. : 70=b; file 1 2 4 4 0
 change: 6 | 0 ( 10=a |0:40| ( >2 |0:60| 70=b ) ) | split 3 L - 4 0 => page 3 0 0.. : ( >4 |0:40| ( >2 |0:60| 70=b ) ); page 4 0 0..39 : 10=a; file 1 2 4 4 0
@@ -237,14 +223,7 @@ change: 6 | 0 10=a,20=b | split 3 . 1R20 4 0 => Unfit
 // a page that breaks a rule of its own
 change: 6 | 0 ( 10=a |0:40| 50=b ) | split 3 L - 4 0 => Unfit
 change: 6 | 2 ( ^2 |0:40| ^3 ) | split 3 L - 4 0 => Unfit
-";
-
-#[test]
-fn numbers_that_are_taken(rt: HostRuntime) -> Result<(), Fail> {
-    expect_all(&rt, rt.alloc(), NUMBERS)
-}
-
-const NUMBERS: &str = "
+// numbers that are taken
 // behind the high mark, and not elsewhere
 change: 6 8 3 3 0 | 1 ( ^2 |0:40| ^3 ) | split 3 R - 4 0 => page 3 1 0.. : ( ^2 |0:40| >4 ); page 4 1 40.. : ^3; file 1 2 4 4 0
 change: 6 4 3 3 0 | 1 ( ^2 |0:40| ^3 ) | split 3 R - 4 0 => page 3 1 0.. : ( ^2 |0:40| >4 ); page 4 1 40.. : ^3; file 1 2 4 4 0
@@ -273,14 +252,7 @@ change: 6 16 12 12 0 11 | none | grow 13 0 => page 13 11 0.. : ^1; file 13 12 13
 change: 6 16 12 12 0 12 | none | grow 13 0 => Unfit
 change: 6 8 5 3 2 | none | grow 6 0 => Unfit
 change: 6 3 3 3 0 | none | grow 4 0 => Unfit
-";
-
-#[test]
-fn postings(rt: HostRuntime) -> Result<(), Fail> {
-    expect_all(&rt, rt.alloc(), POSTS)
-}
-
-const POSTS: &str = "
+// postings
 // below, above and inside
 change: 6 | 1 ^1 | post 3 . 2 0..39 => page 3 1 0.. : ( ^2 |0:40| ^1 )
 change: 6 | 1 ^1 | post 3 . 2 40.. => page 3 1 0.. : ( ^1 |0:40| ^2 )
@@ -305,14 +277,7 @@ change: 6 | 1 ( ^1 |0:40| ^3 ) | post 3 . 2 0..39 => Unfit
 change: 6 | 1 ^1 | post 3 L 2 0..39 => Unfit
 change: 6 | 0 10=a | post 3 . 2 0..39 => Unfit
 change: 6 | 1 ( ^1 |0:40| ^1 ) | post 3 L 2 0..19 => Unfit
-";
-
-#[test]
-fn pages_that_are_read(rt: HostRuntime) -> Result<(), Fail> {
-    expect_all(&rt, rt.alloc(), READS)
-}
-
-const READS: &str = "
+// pages that are read
 reads: put 3 5=a => 1 3
 reads: del 4 5 => 1 4
 reads: split 3 . 0R5 4 0 => 1 3

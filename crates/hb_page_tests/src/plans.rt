@@ -159,12 +159,7 @@ fn with_kept(
     merged(parent, &page_of(alloc, named("kept"))?, gone_id, gone)
 }
 
-fn under(
-    alloc: Global,
-    parent: &LivePage,
-    gone_id: u32,
-    gone: &str,
-) -> Result<&'static str, Fail> {
+fn under(alloc: Global, parent: &LivePage, gone_id: u32, gone: &str) -> Result<&'static str, Fail> {
     with_kept(alloc, parent, gone_id, &page_of(alloc, gone)?)
 }
 

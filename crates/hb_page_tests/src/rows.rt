@@ -1,7 +1,7 @@
 //! Tables of rows. A row is `KIND: QUESTION => ANSWER`; a line that begins with `//` is a comment.
 
-use crate::{boxes, carving, changes, groups, layouts, pages, places, plans, splits};
 use crate::spelled::halves;
+use crate::{boxes, carving, changes, groups, layouts, pages, places, plans, splits};
 use std::alloc::Global;
 use std::process::Abort;
 use std::test::Fail;
