@@ -5,7 +5,7 @@ ghost use Rattle.std.specs.Prelude.{◌≡◌, IfOk, length};
 
 use crate::drawn::{push_area, push_record};
 use crate::rows::expect_all;
-use crate::spelled::{area_of, point_from};
+use crate::spelled::{area_of, halves, point_from};
 use hb_space::form::KMAX;
 use hb_space::{Area, Body, NoMemory, Point, Record, Records};
 use std::alloc::Global;
@@ -33,7 +33,7 @@ pub(crate) fn alone(alloc: Global, question: &str) -> Result<String, Fail> {
 
 /// Whether there is a box between two corners: from `POINT | POINT`.
 pub(crate) fn between(alloc: Global, question: &str) -> Result<String, Fail> {
-    let (lo, hi) = question.split_once(" | ").ok_or("no upper corner")?;
+    let (lo, hi) = halves(question, " | ", "no upper corner")?;
     let (lo, hi) = (point_from(lo)?, point_from(hi)?);
     if lo.attributes() != hi.attributes() {
         return Err("corners of different spaces".into());
@@ -50,7 +50,7 @@ fn is_held(area: &Area, point: &Point) -> Result<bool, Fail> {
 
 /// Whether a box holds a point: from `BOX | POINT`.
 pub(crate) fn holds(alloc: Global, question: &str) -> Result<String, Fail> {
-    let (area, point) = question.split_once(" | ").ok_or("no point")?;
+    let (area, point) = halves(question, " | ", "no point")?;
     let held = is_held(&area_of(area)?, &point_from(point)?)?;
     Ok(format!(in alloc; "{held}")?)
 }
@@ -59,7 +59,7 @@ pub(crate) fn holds(alloc: Global, question: &str) -> Result<String, Fail> {
 fn two_of(text: &str) -> Result<(Area, Area), Fail>
     ensures { IfOk result (λ two. length two.0.lo ≡ length two.1.lo) }
 {
-    let (first, second) = text.split_once(" | ").ok_or("no second box")?;
+    let (first, second) = halves(text, " | ", "no second box")?;
     let first = area_of(first)?;
     let second = area_of(second)?;
     if first.lo().attributes() == second.lo().attributes() {
@@ -100,8 +100,8 @@ fn sides(alloc: Global, area: &Area, axis: u8, value: u64) -> Result<String, NoM
 
 /// The two sides of a plane in a box: from `BOX | ATTRIBUTE VALUE`.
 pub(crate) fn cut(alloc: Global, question: &str) -> Result<String, Fail> {
-    let (area, plane) = question.split_once(" | ").ok_or("no plane")?;
-    let (axis, value) = plane.split_once(' ').ok_or("no value")?;
+    let (area, plane) = halves(question, " | ", "no plane")?;
+    let (axis, value) = halves(plane, " ", "no value")?;
     let (axis, value) = (axis.parse()?, value.parse()?);
     Ok(sides(alloc, &area_of(area)?, axis, value)?)
 }
@@ -120,10 +120,10 @@ pub(crate) fn outside(alloc: Global, question: &str) -> Result<String, Fail> {
 
 #[test]
 fn boxes_and_points(rt: HostRuntime) -> Result<(), Fail> {
-    expect_all(&rt, rt.alloc(), POINTS)
+    expect_all(&rt, rt.alloc(), ROWS)
 }
 
-const POINTS: &str = "
+const ROWS: &str = "
 whole: 1 => box 0..
 whole: 4 => box 0.. 0.. 0.. 0..
 alone: 3 18446744073709551615 => box 3..3 18446744073709551615..
@@ -144,14 +144,7 @@ holds: 0..9 0.. 7..7 | 5 5 7 => true
 holds: 0..9 0.. 7..7 | 5 5 8 => false
 holds: 1..2 1..2 1..2 1..2 | 1 2 1 2 => true
 holds: 1..2 1..2 1..2 1..2 | 1 2 1 3 => false
-";
-
-#[test]
-fn boxes_and_boxes(rt: HostRuntime) -> Result<(), Fail> {
-    expect_all(&rt, rt.alloc(), BOXES)
-}
-
-const BOXES: &str = "
+// boxes and boxes
 lie: 0..4 | 0.. => true true true
 lie: 0..4 | 4.. => true true false
 lie: 0..4 | 5.. => false false false

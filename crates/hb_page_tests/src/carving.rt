@@ -5,7 +5,7 @@ ghost use Rattle.hb_frag.specs.Leaves.{weight_of};
 
 use crate::drawn::{frag_text, push_frag};
 use crate::rows::expect_all;
-use crate::spelled::{area_of, frag_of};
+use crate::spelled::{area_of, frag_of, halves};
 use hb_frag::{Frag, Leaf, Node, carve, carved_weight, normal};
 use hb_space::{Area, Body, NoMemory, Point, Record, Records};
 use std::alloc::Global;
@@ -23,7 +23,7 @@ fn carved_text(alloc: Global, leaf: &Area, inner: &Area) -> Result<String, Fail>
 /// What a leaf of child 1 weighs, and then is, once child 2 is named over what the leaf's box has in
 /// common with another one, from `BOX by BOX`.
 pub(crate) fn carved(alloc: Global, question: &str) -> Result<String, Fail> {
-    let (leaf, inner) = question.split_once(" by ").ok_or("no box")?;
+    let (leaf, inner) = halves(question, " by ", "no box")?;
     let leaf = area_of(leaf)?;
     let inner = area_of(inner)?;
     carved_text(alloc, &leaf, &inner)
@@ -36,11 +36,11 @@ pub(crate) fn joined(alloc: Global, question: &str) -> Result<String, Fail> {
 }
 
 #[test]
-fn leaves_carved(rt: HostRuntime) -> Result<(), Fail> {
-    expect_all(&rt, rt.alloc(), CARVED)
+fn leaves_carved_and_joined(rt: HostRuntime) -> Result<(), Fail> {
+    expect_all(&rt, rt.alloc(), ROWS)
 }
 
-const CARVED: &str = "
+const ROWS: &str = "
 // one attribute: inside, over the upper end, over the lower one
 carve: 0..99 by 40..59 => 3 ( ^1 |0:40| ( ^2 |0:60| ^1 ) )
 carve: 0..99 by 40..200 => 2 ( ^1 |0:40| ^2 )
@@ -64,14 +64,7 @@ carve: 0..9 0..9 0..9 by 0..9 0..3 0..9 => 2 ( ^2 |1:4| ^1 )
 carve: 0..9 0..9 0..9 0..9 by 4..5 4..5 4..5 4..5 => 9 ( ^1 |0:4| ( ( ^1 |1:4| ( ( ^1 |2:4| ( ( ^1 |3:4| ( ^2 |3:6| ^1 ) ) |2:6| ^1 ) ) |1:6| ^1 ) ) |0:6| ^1 ) )
 carve: 0..9 0..9 0..9 0..9 by 9..9 9..9 9..9 9..9 => 5 ( ^1 |0:9| ( ^1 |1:9| ( ^1 |2:9| ( ^1 |3:9| ^2 ) ) ) )
 carve: 0..9 0..9 0..9 0..9 by 0..9 0..9 0..9 0..9 => 1 ^2
-";
-
-#[test]
-fn leaves_joined(rt: HostRuntime) -> Result<(), Fail> {
-    expect_all(&rt, rt.alloc(), JOINED)
-}
-
-const JOINED: &str = "
+// leaves joined
 normal: ( 3=a,5=b |0:1| 1=c,4=d ) => 1=c,3=a,4=d,5=b
 normal: ( - |0:1| - ) => -
 normal: ( ( 5=a |0:1| 3=b ) |0:1| 1=c ) => 1=c,3=b,5=a

@@ -7,21 +7,12 @@ ghost use Rattle.hb_ops.specs.Operations.{OpHas};
 use crate::drawn::push_page;
 use crate::operations::op_of;
 use crate::rows::expect_all;
-use crate::spelled::page_of;
+use crate::spelled::{halves, page_of};
 use hb_frag::LivePage;
 use hb_ops::{ChangeError, Changed, Meta, Op, change, local_rule};
 use hb_space::NoMemory;
 use std::alloc::Global;
-use std::str::SplitWhitespace;
 use std::test::Fail;
-
-// The next number of a text, or another one where there is none.
-fn next_of(words: &mut SplitWhitespace<'_>, otherwise: u32) -> Result<u32, Fail> {
-    match words.next() {
-        Some(word) => Ok(word.parse()?),
-        None => Ok(otherwise),
-    }
-}
 
 // A file of one attribute, from the weight that a page of level 0 may have, how many pages the file
 // may have, its high mark, the pages in use, its free head and its height. A number that isn't there
@@ -29,18 +20,22 @@ fn next_of(words: &mut SplitWhitespace<'_>, otherwise: u32) -> Result<u32, Fail>
 fn file_of(text: &str) -> Result<Meta, Fail>
     ensures { IfOk result (λ meta. meta.k ≡ 1) }
 {
-    let mut words = text.split_whitespace();
+    let mut numbers = [6u32, 8, 3, 3, 0, 2];
+    for (number, word) in numbers.iter_mut().zip(text.split_whitespace()) {
+        *number = word.parse()?;
+    }
+    let [dcap, pages, high, live, free, height] = numbers;
     Ok(Meta {
         k: 1,
         log: 0,
         icap: 4,
         root: 1,
-        dcap: next_of(&mut words, 6)?.try_into()?,
-        pages: next_of(&mut words, 8)?,
-        high: next_of(&mut words, 3)?,
-        live: next_of(&mut words, 3)?,
-        free: next_of(&mut words, 0)?,
-        height: next_of(&mut words, 2)?.try_into()?,
+        dcap: dcap.try_into()?,
+        pages,
+        high,
+        live,
+        free,
+        height: height.try_into()?,
     })
 }
 
@@ -108,8 +103,8 @@ fn outcome(
 /// says of itself, that is told as the root, the height, the high mark, the pages in use and the
 /// free head.
 pub(crate) fn changed(alloc: Global, question: &str) -> Result<String, Fail> {
-    let (file, rest) = question.split_once(" | ").ok_or("no page")?;
-    let (page, op) = rest.split_once(" | ").ok_or("no operation")?;
+    let (file, rest) = halves(question, " | ", "no page")?;
+    let (page, op) = halves(rest, " | ", "no operation")?;
     let meta = file_of(file)?;
     let page = standing(alloc, page)?;
     let op = op_of(alloc, op)?;
@@ -135,11 +130,11 @@ pub(crate) fn reads(alloc: Global, question: &str) -> Result<String, Fail> {
 }
 
 #[test]
-fn puts_and_deletes(rt: HostRuntime) -> Result<(), Fail> {
-    expect_all(&rt, rt.alloc(), PUTS)
+fn changes_rules_and_reads(rt: HostRuntime) -> Result<(), Fail> {
+    expect_all(&rt, rt.alloc(), ROWS)
 }
 
-const PUTS: &str = "
+const ROWS: &str = "
 // an empty page, and the places before, between and behind others
 change: 6 | 0 - | put 3 7=a => page 3 0 0.. : 7=a
 change: 6 | 0 10=a,20=b | put 3 5=c => page 3 0 0.. : 5=c,10=a,20=b
@@ -168,14 +163,7 @@ change: 6 | 0 ( 10=a |0:40| >2 ) | del 3 40 => Unfit
 change: 6 | 0 - | del 3 0 => Unfit
 change: 2 | 0 10=a,20=b,30=c | del 3 10 => Unfit
 change: 6 | 1 ( ^2 |0:40| ^1 ) | del 3 7 => Unfit
-";
-
-#[test]
-fn first_broken_rules(rt: HostRuntime) -> Result<(), Fail> {
-    expect_all(&rt, rt.alloc(), RULES)
-}
-
-const RULES: &str = "
+// first broken rules
 rule: 0 - => 0
 rule: 0 ( 10=a,20=b |0:40| ( >2 |0:60| 70=c ) ) => 0
 rule: 1 ( ^2 |0:40| ( ^3 |0:60| >2 ) ) => 0
@@ -206,14 +194,7 @@ rule: 0 ( 50=a |0:40| ^2 ) => 5
 rule: 0 ( 50=a |0:40| 60=b ) => 6
 // a box of two attributes in a file of one
 rule: 0 0.. 0.. : >2 => 3
-";
-
-#[test]
-fn parts_that_leave(rt: HostRuntime) -> Result<(), Fail> {
-    expect_all(&rt, rt.alloc(), SPLITS)
-}
-
-const SPLITS: &str = "
+// parts that leave
 // a leaf on the right, one on the left, and a side of a cut
 change: 6 | 0 ( 10=a |0:40| ( >2 |0:60| 70=b ) ) | split 3 RR - 4 0 => page 3 0 0.. : ( 10=a |0:40| ( >2 |0:60| >4 ) ); page 4 0 60.. : 70=b; file 1 2 4 4 0
 change: 6 | 0 ( 10=a |0:40| ( >2 |0:60| 70=b ) ) | split 3 L - 4 0 => page 3 0 0.. : ( >4 |0:40| ( >2 |0:60| 70=b ) ); page 4 0 0..39 : 10=a; file 1 2 4 4 0
@@ -242,14 +223,7 @@ change: 6 | 0 10=a,20=b | split 3 . 1R20 4 0 => Unfit
 // a page that breaks a rule of its own
 change: 6 | 0 ( 10=a |0:40| 50=b ) | split 3 L - 4 0 => Unfit
 change: 6 | 2 ( ^2 |0:40| ^3 ) | split 3 L - 4 0 => Unfit
-";
-
-#[test]
-fn numbers_that_are_taken(rt: HostRuntime) -> Result<(), Fail> {
-    expect_all(&rt, rt.alloc(), NUMBERS)
-}
-
-const NUMBERS: &str = "
+// numbers that are taken
 // behind the high mark, and not elsewhere
 change: 6 8 3 3 0 | 1 ( ^2 |0:40| ^3 ) | split 3 R - 4 0 => page 3 1 0.. : ( ^2 |0:40| >4 ); page 4 1 40.. : ^3; file 1 2 4 4 0
 change: 6 4 3 3 0 | 1 ( ^2 |0:40| ^3 ) | split 3 R - 4 0 => page 3 1 0.. : ( ^2 |0:40| >4 ); page 4 1 40.. : ^3; file 1 2 4 4 0
@@ -278,14 +252,7 @@ change: 6 16 12 12 0 11 | none | grow 13 0 => page 13 11 0.. : ^1; file 13 12 13
 change: 6 16 12 12 0 12 | none | grow 13 0 => Unfit
 change: 6 8 5 3 2 | none | grow 6 0 => Unfit
 change: 6 3 3 3 0 | none | grow 4 0 => Unfit
-";
-
-#[test]
-fn postings(rt: HostRuntime) -> Result<(), Fail> {
-    expect_all(&rt, rt.alloc(), POSTS)
-}
-
-const POSTS: &str = "
+// postings
 // below, above and inside
 change: 6 | 1 ^1 | post 3 . 2 0..39 => page 3 1 0.. : ( ^2 |0:40| ^1 )
 change: 6 | 1 ^1 | post 3 . 2 40.. => page 3 1 0.. : ( ^1 |0:40| ^2 )
@@ -310,14 +277,7 @@ change: 6 | 1 ( ^1 |0:40| ^3 ) | post 3 . 2 0..39 => Unfit
 change: 6 | 1 ^1 | post 3 L 2 0..39 => Unfit
 change: 6 | 0 10=a | post 3 . 2 0..39 => Unfit
 change: 6 | 1 ( ^1 |0:40| ^1 ) | post 3 L 2 0..19 => Unfit
-";
-
-#[test]
-fn pages_that_are_read(rt: HostRuntime) -> Result<(), Fail> {
-    expect_all(&rt, rt.alloc(), READS)
-}
-
-const READS: &str = "
+// pages that are read
 reads: put 3 5=a => 1 3
 reads: del 4 5 => 1 4
 reads: split 3 . 0R5 4 0 => 1 3

@@ -63,11 +63,11 @@ pub(crate) fn groups(alloc: Global, question: &str) -> Result<String, Fail> {
 }
 
 #[test]
-fn payloads(rt: HostRuntime) -> Result<(), Fail> {
-    expect_all(&rt, rt.alloc(), PAYLOADS)
+fn payloads_and_images(rt: HostRuntime) -> Result<(), Fail> {
+    expect_all(&rt, rt.alloc(), ROWS)
 }
 
-const PAYLOADS: &str = "
+const ROWS: &str = "
 groups: @0 => 0
 groups: put => 1; put 1 5=a
 groups: del => 1; del 7 5
@@ -87,14 +87,7 @@ groups: 0 1 0 0 0 1 7*0 5 2 97 => none at 0
 groups: 0 3 0 0 0 1 0 0 0 2 0 0 0 0 0 0 => 1; split 1 . - 2 0
 // a box of one point
 groups: 0 4 0 0 0 3 0 0 0 0 2 7*0 5 7*0 5 => 1; post 3 . 2 5..5
-";
-
-#[test]
-fn one_byte_changed(rt: HostRuntime) -> Result<(), Fail> {
-    expect_all(&rt, rt.alloc(), CHANGED)
-}
-
-const CHANGED: &str = "
+// one byte changed
 // tags that no operation has
 groups: put 1:0 => none at 0
 groups: put 1:5 => none at 0
@@ -112,14 +105,7 @@ groups: split 16:0 => none at 17
 // a lower value that equals the upper one, and one that exceeds it
 groups: post 19:39 => 1; post 3 L 2 39..39
 groups: post 19:40 => none at 0
-";
-
-#[test]
-fn images(rt: HostRuntime) -> Result<(), Fail> {
-    expect_all(&rt, rt.alloc(), IMAGES)
-}
-
-const IMAGES: &str = "
+// images
 groups: 1 0 0 0 1 page 1 0 0 0 1 7*0 5 1 97 => 1; image 1 free 0, put 1 5=a
 groups: 2 0 0 0 1 page 0 0 0 2 page 6 0 0 0 3 0 0 0 7 => 1; image 1 free 0, image 2 free 0, grow 3 7
 groups: 3 0 0 0 3 page 0 0 0 1 page 0 0 0 2 page 2 0 0 0 7 7*0 5 => 1; image 3 free 0, image 1 free 0, image 2 free 0, del 7 5

@@ -1,6 +1,7 @@
 //! Where the parts of files stand, worked out by hand.
 
 use crate::rows::expect_all;
+use crate::spelled::halves;
 use hb_layout::{Meta, file_size, log_start, page_offset, slot_offset};
 use std::alloc::Global;
 use std::test::Fail;
@@ -28,17 +29,16 @@ fn file_of(pages: u32, log: u32) -> Result<Meta, Fail> {
 
 /// Where the two log areas, the first page and the last one begin, and how long the file is: from `PAGES LOG`.
 pub(crate) fn offsets(alloc: Global, question: &str) -> Result<String, Fail> {
-    let (pages, log) = question.split_once(' ').ok_or("no log")?;
-    let pages: u32 = pages.parse()?;
-    if pages < 1 {
+    let (pages, log) = halves(question, " ", "no log")?;
+    let file = file_of(pages.parse()?, log.parse()?)?;
+    if file.pages < 1 {
         return Err("no page".into());
     }
-    let file = file_of(pages, log.parse()?)?;
-    let logs = [log_start(2, &file), log_start(3, &file)];
-    let ends = [page_offset(&file, 1), page_offset(&file, pages)];
-    let mut text = String::new(alloc);
-    write!(text, "{} {} ", logs[0], logs[1])?;
-    write!(text, "{} {} {}", ends[0], ends[1], file_size(&file))?;
+    let first = log_start(2, &file);
+    let second = log_start(3, &file);
+    let mut text = format!(in alloc; "{first} {second} ")?;
+    let (least, last) = (page_offset(&file, 1), page_offset(&file, file.pages));
+    write!(text, "{least} {last} {}", file_size(&file))?;
     Ok(text)
 }
 

@@ -9,7 +9,7 @@ ghost use Rattle.hb_space.specs.Boxes.{IsArea};
 ghost use Rattle.hb_ops.specs.Operations.{OpHas};
 
 use crate::drawn::{push_area, push_record};
-use crate::spelled::{area_of, path_of, record_of};
+use crate::spelled::{area_of, halves, path_of, record_of};
 use hb_frag::{Path, Side};
 use hb_ops::{Cuts, LeafCut, Op};
 use hb_space::{Area, NoMemory, Point};
@@ -20,7 +20,7 @@ use std::test::Fail;
 fn put_of(text: &str) -> Result<Op, Fail>
     ensures { IfOk result (λ op. OpHas 1 op) }
 {
-    let (page, rec) = text.split_once(' ').ok_or("no record")?;
+    let (page, rec) = halves(text, " ", "no record")?;
     let page = page.parse()?;
     let rec = record_of(rec)?;
     Ok(Op::Put { page, rec })
@@ -29,7 +29,7 @@ fn put_of(text: &str) -> Result<Op, Fail>
 fn del_of(text: &str) -> Result<Op, Fail>
     ensures { IfOk result (λ op. OpHas 1 op) }
 {
-    let (page, value) = text.split_once(' ').ok_or("no point")?;
+    let (page, value) = halves(text, " ", "no point")?;
     let page = page.parse()?;
     let point = Point::new(&[value.parse()?]);
     Ok(Op::Del { page, point })
@@ -45,7 +45,7 @@ fn cut_of(text: &str) -> Result<LeafCut, Fail> {
     match text.split_once('L') {
         Some((axis, value)) => leaf_cut(axis, Side::Left, value),
         None => {
-            let (axis, value) = text.split_once('R').ok_or("no side")?;
+            let (axis, value) = halves(text, "R", "no side")?;
             leaf_cut(axis, Side::Right, value)
         }
     }
@@ -61,16 +61,20 @@ fn cuts_of(alloc: Global, text: &str) -> Result<Cuts, Fail> {
     Ok(Cuts::new(cuts))
 }
 
+// The fresh page, and the free head afterwards.
+fn fresh_of(text: &str) -> Result<(u32, u32), Fail> {
+    let (fresh, free) = halves(text, " ", "no free head")?;
+    Ok((fresh.parse()?, free.parse()?))
+}
+
 fn split_of(alloc: Global, text: &str) -> Result<Op, Fail>
     ensures { IfOk result (λ op. OpHas 1 op) }
 {
-    let (source, rest) = text.split_once(' ').ok_or("no path")?;
-    let (path, rest) = rest.split_once(' ').ok_or("no cuts")?;
-    let (cuts, rest) = rest.split_once(' ').ok_or("no fresh page")?;
-    let (fresh, free) = rest.split_once(' ').ok_or("no free head")?;
+    let (source, rest) = halves(text, " ", "no path")?;
+    let (path, rest) = halves(rest, " ", "no cuts")?;
+    let (cuts, rest) = halves(rest, " ", "no fresh page")?;
     let source = source.parse()?;
-    let fresh = fresh.parse()?;
-    let free_after = free.parse()?;
+    let (fresh, free_after) = fresh_of(rest)?;
     let path = path_of(alloc, path)?;
     let cuts = cuts_of(alloc, cuts)?;
     Ok(Op::Extract {
@@ -97,9 +101,9 @@ fn short_area_of(text: &str) -> Result<Area, Fail>
 fn post_of(alloc: Global, text: &str) -> Result<Op, Fail>
     ensures { IfOk result (λ op. OpHas 1 op) }
 {
-    let (parent, rest) = text.split_once(' ').ok_or("no path")?;
-    let (at, rest) = rest.split_once(' ').ok_or("no page")?;
-    let (inner, area) = rest.split_once(' ').ok_or("no box")?;
+    let (parent, rest) = halves(text, " ", "no path")?;
+    let (at, rest) = halves(rest, " ", "no page")?;
+    let (inner, area) = halves(rest, " ", "no box")?;
     let parent = parent.parse()?;
     let inner = inner.parse()?;
     let area = short_area_of(area)?;
@@ -115,16 +119,14 @@ fn post_of(alloc: Global, text: &str) -> Result<Op, Fail>
 fn grow_of(text: &str) -> Result<Op, Fail>
     ensures { IfOk result (λ op. OpHas 1 op) }
 {
-    let (fresh, free) = text.split_once(' ').ok_or("no free head")?;
-    let fresh = fresh.parse()?;
-    let free_after = free.parse()?;
+    let (fresh, free_after) = fresh_of(text)?;
     Ok(Op::Grow { fresh, free_after })
 }
 
 pub(crate) fn op_of(alloc: Global, text: &str) -> Result<Op, Fail>
     ensures { IfOk result (λ op. OpHas 1 op) }
 {
-    let (verb, rest) = text.split_once(' ').ok_or("no operation")?;
+    let (verb, rest) = halves(text, " ", "no operation")?;
     match verb {
         "put" => put_of(rest),
         "del" => del_of(rest),
@@ -170,6 +172,18 @@ pub(crate) fn push_cuts(text: &mut String, cuts: &Cuts) -> Result<(), NoMemory> 
     Ok(())
 }
 
+/// `LR 2 0..39`: the way, the page to be named, the area.
+pub(crate) fn push_posted(
+    text: &mut String,
+    at: &Path,
+    inner: u32,
+    area: &Area,
+) -> Result<(), NoMemory> {
+    push_path(text, at)?;
+    write!(text, " {inner}")?;
+    push_area(text, area)
+}
+
 pub(crate) fn push_op(text: &mut String, op: &Op) -> Result<(), NoMemory> {
     match op {
         Op::Put { page, rec } => {
@@ -199,9 +213,7 @@ pub(crate) fn push_op(text: &mut String, op: &Op) -> Result<(), NoMemory> {
             area,
         } => {
             write!(text, "post {parent} ")?;
-            push_path(text, at)?;
-            write!(text, " {inner}")?;
-            push_area(text, area)
+            push_posted(text, at, *inner, area)
         }
         Op::Grow { fresh, free_after } => write!(text, "grow {fresh} {free_after}"),
     }

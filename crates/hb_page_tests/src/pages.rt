@@ -58,10 +58,10 @@ pub(crate) fn long(alloc: Global, question: &str) -> Result<String, Fail> {
 
 #[test]
 fn pages_are_read_and_written(rt: HostRuntime) -> Result<(), Fail> {
-    expect_all(&rt, rt.alloc(), PAGES)
+    expect_all(&rt, rt.alloc(), ROWS)
 }
 
-const PAGES: &str = "
+const ROWS: &str = "
 page: 2 0 0 0 7 => free 7
 page: first => 0 0.. : -
 page: first 1:255 => 255 0.. : -
@@ -78,21 +78,10 @@ page: first @20 0 0 1 2 3 4 5 6 7 8 2 0 0 1 0 3 255 255 255 254 => 0 0.. : ( ^25
 page: first @20 0 0 6*0 1 0 1 0 1 7*0 5 1 97 3 0 0 0 9 => 0 0.. : ( 5=a |0:256| >9 )
 // 452 records, of which the last has a body of 5 letters: 0= for each, 451 commas, the body, and 8 in front
 long: full @4090 5 97 98 99 100 101 => 1368
-";
-
-/// The deepest tree that has room: 313 cuts, each the left side of the one before, and 314 empty
-/// leaves. Its text has 8 bytes in front, 11 for each cut, and one for each leaf.
-#[test]
-fn deepest(rt: HostRuntime) -> Result<(), Fail> {
-    expect_all(&rt, rt.alloc(), "long: first @20 3130*0 314*1,0,0 => 3765")
-}
-
-#[test]
-fn refused(rt: HostRuntime) -> Result<(), Fail> {
-    expect_all(&rt, rt.alloc(), REFUSED)
-}
-
-const REFUSED: &str = "
+// the deepest tree that has room: 313 cuts, each the left side of the one before, and 314 empty
+// leaves. Its text has 8 bytes in front, 11 for each cut, and one for each leaf
+long: first @20 3130*0 314*1,0,0 => 3765
+// bytes that are refused
 // unknown kinds
 page: 0 => no page
 page: first 0:0 => no page

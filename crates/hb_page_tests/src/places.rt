@@ -169,11 +169,11 @@ pub(crate) fn weight(alloc: Global, question: &str) -> Result<String, Fail> {
 }
 
 #[test]
-fn leaves_at_points(rt: HostRuntime) -> Result<(), Fail> {
-    expect_all(&rt, rt.alloc(), LEAVES)
+fn leaves_names_and_parts(rt: HostRuntime) -> Result<(), Fail> {
+    expect_all(&rt, rt.alloc(), ROWS)
 }
 
-const LEAVES: &str = "
+const ROWS: &str = "
 leaf: 0 0 => ^7 0..49 0..29
 leaf: 49 29 => ^7 0..49 0..29
 leaf: 49 30 => >9 0..49 30..99
@@ -181,14 +181,7 @@ leaf: 50 29 => ^8 50..99 0..59
 leaf: 79 60 => ^7 50..79 60..99
 leaf: 80 60 => >9 80..99 60..99
 leaf: 99 99 => >9 80..99 60..99
-";
-
-#[test]
-fn boxes_and_names(rt: HostRuntime) -> Result<(), Fail> {
-    expect_all(&rt, rt.alloc(), NAMES)
-}
-
-const NAMES: &str = "
+// boxes and names
 directly: 0..49 0..29 => true
 directly: 0..49 0..30 => false
 directly: 0..99 0..29 => true
@@ -199,14 +192,7 @@ named: 7 => true
 named: 8 => true
 named: 9 => false 0..49 30..99
 named: 5 => false
-";
-
-#[test]
-fn parts_and_weights(rt: HostRuntime) -> Result<(), Fail> {
-    expect_all(&rt, rt.alloc(), PARTS)
-}
-
-const PARTS: &str = "
+// parts and weights
 part: L => ( ^7 |1:30| >9 ) 0..49 0..99
 part: RR => ( ^7 |0:80| >9 ) 50..99 60..99
 part: RRL => ^7 50..79 60..99

@@ -6,10 +6,9 @@ ghost use Rattle.hb_frag.specs.Leaves.{weight_of, WellCut};
 ghost use Rattle.hb_frag.specs.Rules.{IsNormal};
 ghost use Rattle.hb_terms.specs.Plans.{NamesChildAt};
 
-use crate::drawn::push_area;
-use crate::operations::push_path;
+use crate::operations::push_posted;
 use crate::rows::expect_all;
-use crate::spelled::{page_of, point_from};
+use crate::spelled::{halves, page_of, point_from};
 use hb_frag::laws::normal_says_the_same;
 use hb_frag::{Leaf, LivePage, normal};
 use hb_space::{NoMemory, Point};
@@ -83,9 +82,7 @@ fn shown(alloc: Global, plan: &PostPlan) -> Result<String, NoMemory> {
         PostPlan::SplitFirst => text.push_str("split first")?,
         PostPlan::Post { at, inner, area } => {
             text.push_str("post ")?;
-            push_path(&mut text, at)?;
-            write!(text, " {inner}")?;
-            push_area(&mut text, area)?;
+            push_posted(&mut text, at, *inner, area)?;
         }
     }
     Ok(text)
@@ -113,9 +110,9 @@ fn planned(
 
 /// The plan of a posting: from `PARENT CHILD CAPACITY POINT`.
 pub(crate) fn post(alloc: Global, question: &str) -> Result<String, Fail> {
-    let (parent, rest) = question.split_once(' ').ok_or("no child")?;
-    let (child, rest) = rest.split_once(' ').ok_or("no capacity")?;
-    let (icap, point) = rest.split_once(' ').ok_or("no point")?;
+    let (parent, rest) = halves(question, " ", "no child")?;
+    let (child, rest) = halves(rest, " ", "no capacity")?;
+    let (icap, point) = halves(rest, " ", "no point")?;
     let icap = icap.parse()?;
     let point = point_from(point)?;
     let parent = parent_of(alloc, parent)?;
@@ -150,15 +147,29 @@ fn merged(
     Ok(told(merge_plan(parent, keep, gone_id, gone, 6)))
 }
 
+// The plan for the page `kept`.
+fn with_kept(
+    alloc: Global,
+    parent: &LivePage,
+    gone_id: u32,
+    gone: &LivePage,
+) -> Result<&'static str, Fail>
+    requires gone { weight_of gone.now.frag < 2 ^ 32 }
+{
+    merged(parent, &page_of(alloc, named("kept"))?, gone_id, gone)
+}
+
+fn under(alloc: Global, parent: &LivePage, gone_id: u32, gone: &str) -> Result<&'static str, Fail> {
+    with_kept(alloc, parent, gone_id, &page_of(alloc, gone)?)
+}
+
 /// The plan of a merge that keeps the page `kept`: from `PARENT | GONE | PAGE`.
 pub(crate) fn merge(alloc: Global, question: &str) -> Result<String, Fail> {
-    let (parent, rest) = question.split_once(" | ").ok_or("no page to go")?;
-    let (gone_id, gone) = rest.split_once(" | ").ok_or("no page")?;
+    let (parent, rest) = halves(question, " | ", "no page to go")?;
+    let (gone_id, gone) = halves(rest, " | ", "no page")?;
     let gone_id = gone_id.parse()?;
-    let parent = page_of(alloc, named(parent))?;
-    let keep = page_of(alloc, named("kept"))?;
-    let gone = page_of(alloc, gone)?;
-    Ok(merged(&parent, &keep, gone_id, &gone)?.to_string(alloc)?)
+    let plan = under(alloc, &page_of(alloc, named(parent))?, gone_id, gone)?;
+    Ok(plan.to_string(alloc)?)
 }
 
 #[test]

@@ -1,12 +1,13 @@
 //! Tables of rows. A row is `KIND: QUESTION => ANSWER`; a line that begins with `//` is a comment.
 
+use crate::spelled::halves;
 use crate::{boxes, carving, changes, groups, layouts, pages, places, plans, splits};
 use std::alloc::Global;
 use std::process::Abort;
 use std::test::Fail;
 
 fn answer(alloc: Global, text: &str) -> Result<String, Fail> {
-    let (kind, question) = text.split_once(": ").ok_or("no question")?;
+    let (kind, question) = halves(text, ": ", "no question")?;
     match kind {
         "whole" => boxes::whole(alloc, question),
         "alone" => boxes::alone(alloc, question),
@@ -45,7 +46,7 @@ fn answer(alloc: Global, text: &str) -> Result<String, Fail> {
 
 // Asserts that a row's question has the row's answer.
 fn expect(rt: &impl Abort, alloc: Global, row: &str) -> Result<(), Fail> {
-    let (question, wanted) = row.split_once(" => ").ok_or("no answer")?;
+    let (question, wanted) = halves(row, " => ", "no answer")?;
     let answer = answer(alloc, question)?;
     assert_eq!(rt; answer.as_str(), wanted, "{question}");
     Ok(())

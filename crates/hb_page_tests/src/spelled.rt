@@ -17,6 +17,18 @@ use smallvec::SmallVec;
 use std::alloc::Global;
 use std::test::Fail;
 
+/// What stands before and behind a mark, which has to be there.
+pub(crate) fn halves<'a>(
+    text: &'a str,
+    mark: &str,
+    otherwise: &'static str,
+) -> Result<(&'a str, &'a str), Fail> {
+    match text.split_once(mark) {
+        Some(halves) => Ok(halves),
+        None => Err(otherwise.into()),
+    }
+}
+
 pub(crate) fn point_of(values: &[u64]) -> Result<Point, Fail>
     ensures { IfOk result (λ p. length p ≡ length values.now) }
 {
@@ -54,7 +66,7 @@ pub(crate) fn area_of(text: &str) -> Result<Area, Fail> {
     let mut lo: ArrayVec<u64, KMAX> = ArrayVec::new();
     let mut hi: ArrayVec<u64, KMAX> = ArrayVec::new();
     for word in text.split_whitespace() {
-        let (least, greatest) = word.split_once("..").ok_or("no box")?;
+        let (least, greatest) = halves(word, "..", "no box")?;
         lo.try_push(value_of(least)?)?;
         hi.try_push(value_of(greatest)?)?;
     }
@@ -82,7 +94,7 @@ pub(crate) fn path_of(alloc: Global, text: &str) -> Result<Path, Fail> {
 pub(crate) fn record_of(word: &str) -> Result<Record, Fail>
     ensures { IfOk result (λ r. length r.key ≡ 1) }
 {
-    let (value, body) = word.split_once('=').ok_or("no body")?;
+    let (value, body) = halves(word, "=", "no body")?;
     let bytes = body.as_bytes();
     if bytes.len() > BMAX {
         return Err("a long body".into());
@@ -113,8 +125,8 @@ fn leaf_of(alloc: Global, word: &str) -> Result<Leaf, Fail> {
 
 // The attribute and the value of a cut.
 fn plane_of(text: &str) -> Result<(u8, u64), Fail> {
-    let (axis, value) = text.split_once(':').ok_or("no attribute")?;
-    let (value, _) = value.split_once('|').ok_or("no end")?;
+    let (axis, value) = halves(text, ":", "no attribute")?;
+    let (value, _) = halves(value, "|", "no end")?;
     Ok((axis.parse()?, value.parse()?))
 }
 
@@ -196,7 +208,7 @@ pub(crate) fn frag_of(alloc: Global, text: &str) -> Result<Frag, Fail>
 pub(crate) fn page_of(alloc: Global, text: &str) -> Result<LivePage, Fail>
     ensures { IfOk result (λ page. weight_of page.frag < 2 ^ 32) }
 {
-    let (level, rest) = text.split_once(' ').ok_or("no level")?;
+    let (level, rest) = halves(text, " ", "no level")?;
     let (area, tree) = rest.split_once(" : ").unwrap_or(("0..", rest));
     let level = level.parse()?;
     let area = area_of(area)?;
