@@ -128,16 +128,25 @@ fn stepped(alloc: Global, store: &mut Store<RotDisk>, step: (u32, &[u8], u32)) -
     }
 }
 
-/// The disk behind a driving, up to the force that failed.
-fn driven(alloc: Global, tree: &Tree, failing: u64) -> Option<MemDisk> {
-    let mut store = begun(alloc, tree, failing)?;
+/// Takes all steps, up to the force that failed.
+fn step_all(alloc: Global, store: &mut Store<RotDisk>, tree: &Tree) -> Option<()>
+    requires running { (seen_as store.old).stopped ≡ false }
+    requires marks { All (λ g. g.mark ≤ 7) (seen_as store.old).log.groups }
+{
     for step in tree.steps {
-        match stepped(alloc, &mut store, *step) {
+        match stepped(alloc, store, *step) {
             Some(true) => {}
-            Some(false) => return Some(store.into_disk().inner),
+            Some(false) => return Some(()),
             None => return None,
         }
     }
+    Some(())
+}
+
+/// The disk behind a driving, up to the force that failed.
+fn driven(alloc: Global, tree: &Tree, failing: u64) -> Option<MemDisk> {
+    let mut store = begun(alloc, tree, failing)?;
+    step_all(alloc, &mut store, tree)?;
     Some(store.into_disk().inner)
 }
 
@@ -156,8 +165,8 @@ fn writes(alloc: Global, tree: &Tree) -> Option<bool> {
 
 #[test]
 fn a_driving_writes_these_bytes(rt: HostRuntime) {
-    for tree in TREES {
-        assert!(rt; writes(rt.alloc(), &tree) == Some(true), "{}", tree.size);
+    for tree in &TREES {
+        assert!(rt; writes(rt.alloc(), tree) == Some(true), "{}", tree.size);
     }
 }
 
@@ -222,6 +231,14 @@ fn image_opened(
 /// two that clear what is hidden, and six of the superblock. In front of them it only reads.
 const LAST_CALLS: u64 = 19;
 
+/// Whether what a crash before each of the last calls leaves opens so.
+fn last_open(alloc: Global, tree: &Tree, count: usize, disk: &MemDisk, pick: Pick) -> Option<()> {
+    for call in disk.calls().saturating_sub(LAST_CALLS)..disk.calls().saturating_add(1) {
+        image_opened(alloc, tree, count, disk, call, pick)?;
+    }
+    Some(())
+}
+
 /// The same, and also where that opening is stopped before each of its last calls in its turn. A stop before a read leaves what
 /// was opened.
 fn opens_twice(
@@ -233,10 +250,7 @@ fn opens_twice(
     pick: Pick,
 ) -> Option<()> {
     let again = image_opened(alloc, tree, count, disk, before, pick)?;
-    for call in again.calls().saturating_sub(LAST_CALLS)..again.calls().saturating_add(1) {
-        image_opened(alloc, tree, count, &again, call, pick)?;
-    }
-    Some(())
+    last_open(alloc, tree, count, &again, pick)
 }
 
 /// How many steps a crash leaves that comes before this call of the forces: a group's are a write, a sync, the write of its
@@ -265,14 +279,10 @@ fn first_lost(alloc: Global, tree: &Tree, pick: Pick) -> Option<u64> {
 
 #[test]
 fn a_driving_stops_before_each_call(rt: HostRuntime) {
-    for tree in TREES {
-        for pick in PICKS {
-            assert_eq!(rt;
-                first_lost(rt.alloc(), &tree, pick),
-                None,
-                "{} {pick:?}",
-                tree.size
-            );
+    for tree in &TREES {
+        for &pick in &PICKS {
+            let lost = first_lost(rt.alloc(), tree, pick);
+            assert!(rt; lost.is_none(), "{} {pick:?}", tree.size);
         }
     }
 }
@@ -310,7 +320,8 @@ fn first_fault_lost(alloc: Global, tree: &Tree) -> Option<u64> {
 
 #[test]
 fn each_call_of_a_driving_fails(rt: HostRuntime) {
-    for tree in TREES {
-        assert_eq!(rt; first_fault_lost(rt.alloc(), &tree), None, "{}", tree.size);
+    for tree in &TREES {
+        let lost = first_fault_lost(rt.alloc(), tree);
+        assert!(rt; lost.is_none(), "{}", tree.size);
     }
 }

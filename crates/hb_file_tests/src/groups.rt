@@ -82,12 +82,17 @@ fn there(store: &Store<RotDisk>) -> usize {
     count
 }
 
+/// Whether a store is as a row says.
+fn is_so(store: &mut Store<RotDisk>, row: Row) -> Option<bool> {
+    let (_, _, pending, said, pages, next) = row;
+    let right = store.pending() == pending && marks(store.meta()) == said && there(store) == pages;
+    Some(right && store.next_page().ok()? == Some((next, 0)))
+}
+
 /// Whether this comes of so many of the operations.
 fn comes(alloc: Global, row: Row) -> Option<bool> {
-    let (is_tree, count, pending, said, pages, next) = row;
-    let mut store = behind(alloc, is_tree, count, NEVER)?;
-    let right = store.pending() == pending && marks(store.meta()) == said && there(&store) == pages;
-    Some(right && store.next_page().ok()? == Some((next, 0)))
+    let mut store = behind(alloc, row.0, row.1, NEVER)?;
+    is_so(&mut store, row)
 }
 
 #[test]

@@ -137,13 +137,23 @@ fn opens_again(alloc: Global, disk: &MemDisk) -> bool {
     }
 }
 
+/// Whether the file opens as it is to, and opens again.
+fn opens(alloc: Global) -> Option<bool> {
+    let (said, disk) = opened(alloc, NEVER)?;
+    Some(said == GOOD && opens_again(alloc, &disk))
+}
+
+/// Whether an opening of the file leaves these bytes at an offset.
+fn leaves(alloc: Global, at: usize, want: &[u8]) -> Option<bool> {
+    let (_, disk) = opened(alloc, NEVER)?;
+    Some(stands(disk.bytes(), at, want))
+}
+
 #[test]
 fn a_file_of_two_levels_opens(rt: HostRuntime) {
-    let (said, disk) = opened(rt.alloc(), NEVER).expect(&rt, "memory");
-    assert_eq!(rt; said, GOOD);
-    assert!(rt; opens_again(rt.alloc(), &disk));
+    assert!(rt; opens(rt.alloc()) == Some(true));
     for &(at, want) in &LEFT {
-        assert!(rt; stands(disk.bytes(), at, want), "{at}");
+        assert!(rt; leaves(rt.alloc(), at, want) == Some(true), "{at}");
     }
 }
 
@@ -194,12 +204,18 @@ fn first_lost_again(alloc: Global, disk: &MemDisk, pick: Pick) -> Option<u64> {
     None
 }
 
+/// Both of an opening of the file.
+fn lost(alloc: Global, pick: Pick) -> Option<(Option<u64>, Option<u64>)> {
+    let (_, disk) = opened(alloc, NEVER)?;
+    let once = first_lost(alloc, &disk, pick);
+    Some((once, first_lost_again(alloc, &disk, pick)))
+}
+
 #[test]
 fn an_opening_stops_twice(rt: HostRuntime) {
-    let (_, disk) = opened(rt.alloc(), NEVER).expect(&rt, "memory");
     for &pick in &[Pick::Old, Pick::New, Pick::Noise(165)] {
-        assert_eq!(rt; first_lost(rt.alloc(), &disk, pick), None);
-        assert_eq!(rt; first_lost_again(rt.alloc(), &disk, pick), None);
+        let lost = lost(rt.alloc(), pick);
+        assert!(rt; lost == Some((None, None)), "{pick:?}");
     }
 }
 
@@ -207,13 +223,17 @@ fn an_opening_stops_twice(rt: HostRuntime) {
 /// then come a sync, a write for each of the three pages, a sync, a zero, a sync, a read, and the six calls of the superblock.
 const CALLS: u64 = 25;
 
+/// Whether an opening stops at this call where it fails, and what it leaves opens.
+fn stops(alloc: Global, call: u64) -> Option<bool> {
+    let (said, disk) = opened(alloc, call)?;
+    let stopped = said == Err(OpenFault::DiskFault) && disk.calls() == call.saturating_add(1);
+    Some(stopped && opens_again(alloc, &disk))
+}
+
 #[test]
 fn a_failing_call_stops_an_opening(rt: HostRuntime) {
     for call in 0..CALLS {
-        let (said, disk) = opened(rt.alloc(), call).expect(&rt, "memory");
-        assert_eq!(rt; said, Err(OpenFault::DiskFault), "{call}");
-        assert_eq!(rt; disk.calls(), call.saturating_add(1));
-        assert!(rt; opens_again(rt.alloc(), &disk), "{call}");
+        assert!(rt; stops(rt.alloc(), call) == Some(true), "{call}");
     }
 }
 
@@ -269,12 +289,17 @@ const DAMAGES: [(usize, usize, &[u8], OpenFault); 12] = [
     (SIZE, 8192, &[0], OpenFault::Unsound { page: 1, rule: 0 }),
 ];
 
+/// Whether such a file isn't opened, for this reason.
+fn refuses(alloc: Global, size: usize, at: usize, piece: &[u8], fault: OpenFault) -> Option<bool> {
+    let bytes = file(alloc, size, at, piece)?;
+    Some(answer_of(alloc, bytes) == Err(fault))
+}
+
 #[test]
 fn damaged_files_are_refused(rt: HostRuntime) {
     for &(size, at, piece, fault) in &DAMAGES {
-        let bytes = file(rt.alloc(), size, at, piece).expect(&rt, "memory");
-        let said = answer_of(rt.alloc(), bytes);
-        assert_eq!(rt; said, Err(fault), "{size} {at}");
+        let right = refuses(rt.alloc(), size, at, piece, fault);
+        assert!(rt; right == Some(true), "{size} {at}");
     }
 }
 

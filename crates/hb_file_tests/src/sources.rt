@@ -1,7 +1,7 @@
 //! Sources that fail, that lack memory, and that give other pages than before.
 ghost use Rattle.std.specs.Prelude.{◌≡◌, None};
 
-use crate::spelled_files::{KeptPages, Outcome, meta_of};
+use crate::spelled_files::{KeptPages, Outcome, meta_of, outcome_of};
 use hb_frag::Page;
 use hb_sound::{AuditStop, PageStop, Pages, audit};
 use std::alloc::Global;
@@ -126,26 +126,32 @@ const CHANGES: [(u32, u32, &str, Outcome); 11] = [
     (3, 3, "0 * 1 / 10: >2 / 20: >3 | bad | free 0", Ok(3)),
 ];
 
-// Whether the audit has this outcome then.
-fn changes(alloc: Global, live: u32, at: u32, then: &str, want: Outcome) -> Option<bool> {
-    let mut pages = ChangingPages {
-        first: KeptPages::new(alloc, FIRST, 0, "")?,
-        then: KeptPages::new(alloc, then, 0, "")?,
-        at,
-        calls: 0,
-    };
-    match audit(alloc, &meta_of(1, (1, 1, 3, live, 0)), &mut pages) {
-        Ok(records) => Some(want == Ok(records)),
-        Err(AuditStop::Broken { page, rule }) => Some(want == Err((page, rule))),
-        Err(_) => None,
-    }
+// The outcome of the audit then.
+fn changed(alloc: Global, live: u32, at: u32, then: &str) -> Option<Outcome> {
+    let first = KeptPages::new(alloc, FIRST, 0, "")?;
+    let then = KeptPages::new(alloc, then, 0, "")?;
+    audited(
+        alloc,
+        live,
+        ChangingPages {
+            first,
+            then,
+            at,
+            calls: 0,
+        },
+    )
+}
+
+// The outcome of the audit of pages that change.
+fn audited(alloc: Global, live: u32, mut pages: ChangingPages) -> Option<Outcome> {
+    outcome_of(audit(alloc, &meta_of(1, (1, 1, 3, live, 0)), &mut pages))
 }
 
 #[test]
 fn a_source_may_give_other_pages_than_before(rt: HostRuntime) {
     for &(live, at, then, want) in &CHANGES {
         assert!(rt;
-            changes(rt.alloc(), live, at, then, want) == Some(true),
+            changed(rt.alloc(), live, at, then) == Some(want),
             "{at} {then}"
         );
     }

@@ -48,26 +48,47 @@ fn area_between(lo: Point, hi: Point) -> Option<Area> {
     Area::between(lo, hi)
 }
 
-fn area_of(alloc: Global, text: &str) -> Option<Area> {
-    let mut lo = Vec::new(alloc);
-    let mut hi = Vec::new(alloc);
-    for word in text.split(',') {
-        let (least, greatest) = interval_of(word)?;
-        lo.push(least).ok()?;
-        hi.push(greatest).ok()?;
-    }
-    area_between(point_of(&lo)?, point_of(&hi)?)
+// A box by its values, of which there are so many: too many are none.
+fn area_with(lo: &[u64], hi: &[u64]) -> Option<Area> {
+    area_between(point_of(lo)?, point_of(hi)?)
 }
 
-fn record_of(alloc: Global, text: &str) -> Option<Record> {
-    let mut values = Vec::new(alloc);
+fn area_of(text: &str) -> Option<Area> {
+    let (mut lo, mut hi) = ([0; KMAX], [0; KMAX]);
+    let mut count = 0_usize;
     for word in text.split(',') {
-        values.push(word.parse().ok()?).ok()?;
+        let (least, greatest) = interval_of(word)?;
+        *lo.get_mut(count)? = least;
+        *hi.get_mut(count)? = greatest;
+        count = count.wrapping_add(1);
+    }
+    area_with(lo.get(..count)?, hi.get(..count)?)
+}
+
+fn record_of(text: &str) -> Option<Record> {
+    let mut values = [0; KMAX];
+    let mut count = 0_usize;
+    for word in text.split(',') {
+        *values.get_mut(count)? = word.parse().ok()?;
+        count = count.wrapping_add(1);
     }
     Some(Record {
-        key: point_of(&values)?,
+        key: point_of(values.get(..count)?)?,
         body: Body::new(b""),
     })
+}
+
+// Puts a record behind others.
+fn push_record(records: &mut Vec<Record>, word: &str) -> Option<()> {
+    records.push(record_of(word)?).ok()
+}
+
+fn records_of(alloc: Global, words: &str) -> Option<Leaf> {
+    let mut records = Vec::new(alloc);
+    for word in words.split_whitespace() {
+        push_record(&mut records, word)?;
+    }
+    Some(Leaf::Records(Records::new(records)))
 }
 
 fn leaf_of(alloc: Global, words: &str) -> Option<Leaf> {
@@ -77,30 +98,50 @@ fn leaf_of(alloc: Global, words: &str) -> Option<Leaf> {
     if let Some(name) = words.strip_prefix('>') {
         return Some(Leaf::Sibling(name.parse().ok()?));
     }
-    let mut records = Vec::new(alloc);
-    for word in words.split_whitespace() {
-        records.push(record_of(alloc, word)?).ok()?;
-    }
-    Some(Leaf::Records(Records::new(records)))
+    records_of(alloc, words)
 }
 
 // A cut's attribute and value, and whether the next leaf is on the lower side.
 fn cut_of(word: &str) -> Option<(u8, u64, bool)> {
-    if let Some((axis, value)) = word.split_once('<') {
-        return Some((axis.parse().ok()?, value.parse().ok()?, true));
+    match word.split_once('<') {
+        Some((axis, value)) => cut_with(axis, value, true),
+        None => {
+            let (axis, value) = word.split_once('≥').unwrap_or(("0", word));
+            cut_with(axis, value, false)
+        }
     }
-    let (axis, value) = word.split_once('≥').unwrap_or(("0", word));
-    Some((axis.parse().ok()?, value.parse().ok()?, false))
+}
+
+fn cut_with(axis: &str, value: &str, is_below: bool) -> Option<(u8, u64, bool)> {
+    Some((axis.parse().ok()?, value.parse().ok()?, is_below))
+}
+
+fn boxed(alloc: Global, frag: Frag) -> Option<Box<Frag>> {
+    Box::new(alloc, frag).ok()
+}
+
+// Both sides of a cut.
+fn cut_at(cut: (u8, u64, bool), leaf: Box<Frag>, frag: Box<Frag>) -> Frag {
+    let (axis, value, is_below) = cut;
+    if is_below {
+        Frag::cut(axis, value, leaf, frag)
+    } else {
+        Frag::cut(axis, value, frag, leaf)
+    }
+}
+
+// The same of a leaf and of what stands already on the other side.
+fn joined(alloc: Global, cut: (u8, u64, bool), leaf: Leaf, frag: Box<Frag>) -> Option<Frag> {
+    let leaf = boxed(alloc, Frag::tip(leaf))?;
+    Some(cut_at(cut, leaf, frag))
 }
 
 // A leaf on the one side of a cut, and what stands already on the other one.
-fn with_leaf(alloc: Global, frag: Frag, text: &str) -> Option<Frag> {
-    let (cut, words) = text.split_once(':')?;
-    let (axis, value, is_below) = cut_of(cut.trim())?;
-    let leaf = Box::new(alloc, Frag::tip(leaf_of(alloc, words.trim())?)).ok()?;
-    let frag = Box::new(alloc, frag).ok()?;
-    let (left, right) = if is_below { (leaf, frag) } else { (frag, leaf) };
-    Some(Frag::cut(axis, value, left, right))
+fn with_leaf(alloc: Global, frag: Box<Frag>, cut: &str, words: &str) -> Option<Frag> {
+    match (cut_of(cut), leaf_of(alloc, words)) {
+        (Some(cut), Some(leaf)) => joined(alloc, cut, leaf, frag),
+        _ => None,
+    }
 }
 
 fn frag_of(alloc: Global, text: &str) -> Option<Frag> {
@@ -108,27 +149,42 @@ fn frag_of(alloc: Global, text: &str) -> Option<Frag> {
     let first = leaves.next().unwrap_or("");
     let mut frag = Frag::tip(leaf_of(alloc, first.trim())?);
     for leaf in leaves {
-        frag = with_leaf(alloc, frag, leaf)?;
+        let (cut, words) = leaf.split_once(':')?;
+        frag = with_leaf(alloc, boxed(alloc, frag)?, cut.trim(), words.trim())?;
     }
     Some(frag)
+}
+
+fn live_page(alloc: Global, level: u8, area: &str, leaves: &str) -> Option<Page> {
+    let area = area_of(area)?;
+    let frag = frag_of(alloc, leaves)?;
+    Some(Page::Live(LivePage { level, area, frag }))
+}
+
+// A page that isn't bad.
+fn good_page(alloc: Global, text: &str) -> Option<Page> {
+    let (first, rest) = text.split_once(' ')?;
+    if first == "free" {
+        let next = rest.parse().ok()?;
+        return Some(Page::Free { next });
+    }
+    let (area, leaves) = rest.split_once(' ').unwrap_or((rest, ""));
+    live_page(alloc, first.parse().ok()?, area, leaves)
 }
 
 fn page_of(alloc: Global, text: &str) -> Option<Option<Page>> {
     if text == "bad" {
         return Some(None);
     }
-    let (first, rest) = text.split_once(' ')?;
-    if first == "free" {
-        return Some(Some(Page::Free {
-            next: rest.parse().ok()?,
-        }));
+    match good_page(alloc, text) {
+        Some(page) => Some(Some(page)),
+        None => None,
     }
-    let (area, leaves) = rest.split_once(' ').unwrap_or((rest, ""));
-    Some(Some(Page::Live(LivePage {
-        level: first.parse().ok()?,
-        area: area_of(alloc, area)?,
-        frag: frag_of(alloc, leaves)?,
-    })))
+}
+
+// Puts the page that is spelled so behind others.
+fn push_page(alloc: Global, pages: &mut Vec<Option<Page>>, text: &str) -> Option<()> {
+    pages.push(page_of(alloc, text)?).ok()
 }
 
 // What the leaves weigh together, where it is below 2^32.
@@ -193,8 +249,13 @@ impl KeptPages {
             } else {
                 page
             };
-            pages.push(page_of(alloc, page.trim())?).ok()?;
+            push_page(alloc, &mut pages, page.trim())?;
         }
+        KeptPages::unasked(alloc, pages)
+    }
+
+    /// Pages of which none was asked for.
+    fn unasked(alloc: Global, pages: Vec<Option<Page>>) -> Option<KeptPages> {
         let asks = vec![in alloc; 0; pages.len()].ok()?;
         Some(KeptPages { alloc, pages, asks })
     }
@@ -271,16 +332,21 @@ pub(crate) fn meta_of(k: u8, marks: Marks) -> Meta
 /// How many records an audit finds, or the page and the rule that it names.
 pub(crate) type Outcome = Result<u64, (u32, u8)>;
 
+/// The outcome of an audit, where its source didn't stop it.
+pub(crate) fn outcome_of(answer: Result<u64, AuditStop>) -> Option<Outcome> {
+    match answer {
+        Ok(records) => Some(Ok(records)),
+        Err(AuditStop::Broken { page, rule }) => Some(Err((page, rule))),
+        Err(_) => None,
+    }
+}
+
 /// Whether the audit of these pages has this outcome, and asks for none of them more than twice.
 fn has_outcome(alloc: Global, meta: &Meta, mut pages: KeptPages, want: Outcome) -> bool
     requires { IsLayout meta.now }
 {
-    let got = match audit(alloc, meta, &mut pages) {
-        Ok(records) => Ok(records),
-        Err(AuditStop::Broken { page, rule }) => Err((page, rule)),
-        Err(_) => return false,
-    };
-    got == want && !pages.asked_too_often()
+    let got = outcome_of(audit(alloc, meta, &mut pages));
+    got == Some(want) && !pages.asked_too_often()
 }
 
 /// The same of a file of so many attributes and its text, with another text for the page of this number, where there is one.
