@@ -84,15 +84,26 @@ fn fetched(store: &mut Store<RotDisk>, id: u32) -> Option<()>
     store.fetch(id).ok()
 }
 
+/// Fetches the pages of these numbers.
+fn fetch_all(store: &mut Store<RotDisk>, ids: &[u32]) -> Option<()>
+    requires running { (seen_as store.old).stopped ≡ false }
+    requires marks { All (λ g. g.mark ≤ 7) (seen_as store.old).log.groups }
+    ensures running { (seen_as store.new).stopped ≡ false }
+    ensures marks { All (λ g. g.mark ≤ 7) (seen_as store.new).log.groups }
+{
+    for id in ids {
+        fetched(store, *id)?;
+    }
+    Some(())
+}
+
 /// The store of a tree's file, with its pages fetched.
 fn begun(alloc: Global, tree: &Tree, failing: u64) -> Option<Store<RotDisk>>
     ensures running { IfSome result (λ store. (seen_as store).stopped ≡ false) }
     ensures marks { IfSome result (λ store. All (λ g. g.mark ≤ 7) (seen_as store).log.groups) }
 {
     let mut store = opened(alloc, file(alloc, tree)?, failing)?;
-    for id in tree.fetched {
-        fetched(&mut store, *id)?;
-    }
+    fetch_all(&mut store, tree.fetched)?;
     Some(store)
 }
 

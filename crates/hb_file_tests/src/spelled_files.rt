@@ -48,21 +48,25 @@ fn area_between(lo: Point, hi: Point) -> Option<Area> {
     Area::between(lo, hi)
 }
 
-// A box by its values, of which there are so many: too many are none.
-fn area_with(lo: &[u64], hi: &[u64]) -> Option<Area> {
-    area_between(point_of(lo)?, point_of(hi)?)
+// One of the two values.
+fn end_of(word: &str, is_least: bool) -> Option<u64> {
+    let (least, greatest) = interval_of(word)?;
+    Some(if is_least { least } else { greatest })
+}
+
+// The corner of a box with the least values, or with the greatest ones.
+fn corner_of(text: &str, is_least: bool) -> Option<Point> {
+    let mut values = [0; KMAX];
+    let mut count = 0_usize;
+    for word in text.split(',') {
+        *values.get_mut(count)? = end_of(word, is_least)?;
+        count = count.wrapping_add(1);
+    }
+    point_of(values.get(..count)?)
 }
 
 fn area_of(text: &str) -> Option<Area> {
-    let (mut lo, mut hi) = ([0; KMAX], [0; KMAX]);
-    let mut count = 0_usize;
-    for word in text.split(',') {
-        let (least, greatest) = interval_of(word)?;
-        *lo.get_mut(count)? = least;
-        *hi.get_mut(count)? = greatest;
-        count = count.wrapping_add(1);
-    }
-    area_with(lo.get(..count)?, hi.get(..count)?)
+    area_between(corner_of(text, true)?, corner_of(text, false)?)
 }
 
 fn record_of(text: &str) -> Option<Record> {
@@ -221,13 +225,15 @@ fn is_light(page: &Page) -> bool
 // The same page once more.
 fn copy_of(alloc: Global, page: &Page) -> Result<Page, NoMemory> {
     match page {
-        Page::Live(page) => Ok(Page::Live(LivePage {
-            level: page.level,
-            area: page.area.copy(),
-            frag: page.frag.copy(alloc)?,
-        })),
+        Page::Live(page) => copy_of_live(alloc, page),
         Page::Free { next } => Ok(Page::Free { next: *next }),
     }
+}
+
+fn copy_of_live(alloc: Global, page: &LivePage) -> Result<Page, NoMemory> {
+    let frag = page.frag.copy(alloc)?;
+    let (level, area) = (page.level, page.area.copy());
+    Ok(Page::Live(LivePage { level, area, frag }))
 }
 
 /// Pages in memory, of a source that tells nothing.
@@ -345,8 +351,12 @@ pub(crate) fn outcome_of(answer: Result<u64, AuditStop>) -> Option<Outcome> {
 fn has_outcome(alloc: Global, meta: &Meta, mut pages: KeptPages, want: Outcome) -> bool
     requires { IsLayout meta.now }
 {
-    let got = outcome_of(audit(alloc, meta, &mut pages));
-    got == Some(want) && !pages.asked_too_often()
+    let got = match audit(alloc, meta, &mut pages) {
+        Ok(records) => Ok(records),
+        Err(AuditStop::Broken { page, rule }) => Err((page, rule)),
+        Err(_) => return false,
+    };
+    got == want && !pages.asked_too_often()
 }
 
 /// The same of a file of so many attributes and its text, with another text for the page of this number, where there is one.

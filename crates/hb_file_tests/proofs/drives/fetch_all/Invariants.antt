@@ -1,5 +1,5 @@
 use Rattle.std.proofs.Common.{◌≡◌, ◌≤◌, false, All}
-use Rattle.hb_file_tests.proofs.drives.begun.Given as goal
+use Rattle.hb_file_tests.proofs.drives.fetch_all.Given as goal
 
 -- the store runs, and no group that waits has a later mark
 abbrev pub invariant-loop-id : goal.invariant-loop-id
