@@ -5,7 +5,6 @@
 use hb_disk::{MemDisk, Pick};
 use hb_space::NoMemory;
 use std::alloc::Global;
-use std::test::Fail;
 
 fn byte_of(letter: u8) -> u8 {
     match letter {
@@ -44,19 +43,20 @@ pub(crate) fn push_bytes(text: &mut String, bytes: &[u8]) -> Result<(), NoMemory
     Ok(())
 }
 
-pub(crate) fn numbers_of(alloc: Global, text: &str) -> Result<Vec<u64>, Fail> {
+/// The numbers that stand in the text. None where a word is no number, or memory was refused.
+pub(crate) fn numbers_of(alloc: Global, text: &str) -> Option<Vec<u64>> {
     let mut numbers = Vec::new(alloc);
     for word in text.split_whitespace() {
-        numbers.push(word.parse()?)?;
+        numbers.push(word.parse().ok()?).ok()?;
     }
-    Ok(numbers)
+    Some(numbers)
 }
 
 /// A disk of these bytes that fails at the calls of these numbers.
-pub(crate) fn disk_of(alloc: Global, bytes: &str, failing: &str) -> Result<MemDisk, Fail> {
+pub(crate) fn disk_of(alloc: Global, bytes: &str, failing: &str) -> Option<MemDisk> {
     let failing = numbers_of(alloc, failing)?;
-    let bytes = bytes_of(alloc, bytes)?;
-    Ok(MemDisk::failing(alloc, bytes, failing))
+    let bytes = bytes_of(alloc, bytes).ok()?;
+    Some(MemDisk::failing(alloc, bytes, failing))
 }
 
 /// The three images that are told of a moment: with the old bytes, with the new ones, and with 0xA5 at each

@@ -5,12 +5,11 @@ ghost use Rattle.std.specs.Prelude.{◌≤◌, IfOk, IsTrue};
 ghost use Rattle.hb_wal.specs.Forces.{MayForce};
 
 use crate::letters::{PICKS, bytes_of, disk_of, push_bytes};
-use crate::rows::expect_all;
+use crate::rows::{Topic, expect_all};
 use hb_disk::{Device, MemDisk, Pick};
 use hb_space::NoMemory;
 use hb_wal::{Payloads, ReadStop, Wal, read_area, zero_area};
-use std::alloc::Global;
-use std::test::Fail;
+use std::alloc::{AllocError, Global};
 
 // The payloads of the frames in the whole of a disk, or why they aren't read.
 fn whole_area(alloc: Global, disk: &mut MemDisk) -> Result<Payloads, ReadStop> {
@@ -45,17 +44,17 @@ fn push_read(text: &mut String, read: Result<Payloads, ReadStop>) -> Result<(), 
 
 /// The payloads that are read from the whole of the bytes, and how the reading ends: from `BYTES` or
 /// `BYTES | FAILING`, where the calls of these numbers fail.
-pub(crate) fn area(alloc: Global, question: &str) -> Result<String, Fail> {
+fn area(alloc: Global, question: &str) -> Option<String> {
     let (bytes, failing) = question.split_once(" | ").unwrap_or((question, ""));
     let mut disk = disk_of(alloc, bytes, failing)?;
     let mut text = String::new(alloc);
-    push_read(&mut text, whole_area(alloc, &mut disk))?;
-    Ok(text)
+    push_read(&mut text, whole_area(alloc, &mut disk)).ok()?;
+    Some(text)
 }
 
 #[test]
-fn areas(rt: HostRuntime) -> Result<(), Fail> {
-    expect_all(&rt, rt.alloc(), AREAS)
+fn areas(rt: HostRuntime) {
+    expect_all(&rt, rt.alloc(), Topic::Logs, AREAS);
 }
 
 const AREAS: &str = "
@@ -78,13 +77,13 @@ area: #___1x | 1 => disk fault
 // 30 bytes of which none is zero.
 const NOISE: &str = "nnnnnnnnnnnnnnnnnnnnnnnnnnnnnn";
 
-// A log of 24 bytes behind the first two, with two groups that wait.
-fn begun<D: Device>(alloc: Global, disk: &mut D) -> Result<Wal, Fail>
+// A log of 24 bytes behind the first two, with two groups that wait. It is an error too that the area isn't zeroed.
+fn begun<D: Device>(alloc: Global, disk: &mut D) -> Result<Wal, NoMemory>
     requires { 26 ≤ (D.model disk.old).size }
     ensures ready { IfOk result (λ log. MayForce (D.model disk.new) log) }
 {
     let Ok(()) = zero_area(disk, 2, 24) else {
-        return Err("the area wasn't zeroed".into());
+        return Err(AllocError);
     };
     let mut log = Wal::new(alloc, 2, 24)?;
     log.append(b"ab", 3);
@@ -110,13 +109,13 @@ fn force_often<D: Device>(disk: &mut D, log: &mut Wal, forces: u8)
 }
 
 // The log after so many forces, or up to the first that fails.
-fn forced_often<D: Device>(alloc: Global, disk: &mut D, forces: u8) -> Result<Wal, Fail> {
+fn forced_often<D: Device>(alloc: Global, disk: &mut D, forces: u8) -> Option<Wal> {
     if disk.size() < 26 {
-        return Err("a small disk".into());
+        return None;
     }
-    let mut log = begun(alloc, disk)?;
+    let mut log = begun(alloc, disk).ok()?;
     force_often(disk, &mut log, forces);
-    Ok(log)
+    Some(log)
 }
 
 // The bytes that wait, those that are written, and the mark of the oldest group that waits, or 9.
@@ -130,19 +129,20 @@ fn push_log(text: &mut String, log: &Wal) -> Result<(), NoMemory> {
     )
 }
 
-fn push_life(alloc: Global, text: &mut String, disk: &mut MemDisk, forces: u8) -> Result<(), Fail> {
-    let log = forced_often(alloc, disk, forces)?;
-    push_log(text, &log)?;
+fn push_life(text: &mut String, disk: &MemDisk, log: &Wal) -> Result<(), NoMemory> {
+    push_log(text, log)?;
     write!(text, " {} {} ", log.room(), disk.calls())?;
-    Ok(push_bytes(text, disk.bytes())?)
+    push_bytes(text, disk.bytes())
 }
 
 /// The log, its room, the calls of the disk and its bytes, after so many forces.
-pub(crate) fn life(alloc: Global, question: &str) -> Result<String, Fail> {
-    let forces = question.parse()?;
+fn life(alloc: Global, question: &str) -> Option<String> {
+    let forces = question.parse().ok()?;
+    let mut disk = disk_of(alloc, NOISE, "")?;
+    let log = forced_often(alloc, &mut disk, forces)?;
     let mut text = String::new(alloc);
-    push_life(alloc, &mut text, &mut disk_of(alloc, NOISE, "")?, forces)?;
-    Ok(text)
+    push_life(&mut text, &disk, &log).ok()?;
+    Some(text)
 }
 
 // How many frames bytes have. 99 where they are no area.
@@ -154,47 +154,47 @@ fn count_of(alloc: Global, bytes: Vec<u8>) -> usize {
 }
 
 // The log's area in an image of the disk.
-fn area_in(alloc: Global, disk: &MemDisk, before: u64, pick: Pick) -> Result<Vec<u8>, Fail> {
-    let image = disk.image(before, pick)?.ok_or("no such moment")?;
-    let area = image.get(2..26).ok_or("a short image")?;
-    Ok(area.to_vec(alloc)?)
+fn area_in(alloc: Global, disk: &MemDisk, before: u64, pick: Pick) -> Option<Vec<u8>> {
+    let image = disk.image(before, pick).ok()??;
+    image.get(2..26)?.to_vec(alloc).ok()
 }
 
-fn push_counts(alloc: Global, text: &mut String, disk: &MemDisk, before: u64) -> Result<(), Fail> {
-    for pick in PICKS {
-        let area = area_in(alloc, disk, before, pick)?;
-        write!(text, " {}", count_of(alloc, area))?;
+fn push_counts(alloc: Global, text: &mut String, disk: &MemDisk, before: u64) -> Option<()> {
+    for &pick in &PICKS {
+        let count = count_of(alloc, area_in(alloc, disk, before, pick)?);
+        write!(text, " {count}").ok()?;
     }
-    Ok(())
+    Some(())
 }
 
-fn push_force(
-    alloc: Global,
-    text: &mut String,
-    disk: &mut MemDisk,
-    before: u64,
-) -> Result<(), Fail> {
-    push_log(text, &forced_often(alloc, disk, 1)?)?;
+fn push_force(alloc: Global, text: &mut String, disk: &mut MemDisk, before: u64) -> Option<()> {
+    let log = forced_often(alloc, disk, 1)?;
+    push_log(text, &log).ok()?;
     push_counts(alloc, text, disk, before)
 }
 
 /// The log after a force, and how many frames the images of a moment have: from `FAILING | MOMENT`.
-pub(crate) fn force(alloc: Global, question: &str) -> Result<String, Fail> {
-    let (failing, before) = question.split_once(" | ").ok_or("no moment")?;
-    let before = before.parse()?;
+fn force(alloc: Global, question: &str) -> Option<String> {
+    let (failing, before) = question.split_once(" | ")?;
+    let before = before.parse().ok()?;
+    let mut disk = disk_of(alloc, NOISE, failing)?;
     let mut text = String::new(alloc);
-    push_force(
-        alloc,
-        &mut text,
-        &mut disk_of(alloc, NOISE, failing)?,
-        before,
-    )?;
-    Ok(text)
+    push_force(alloc, &mut text, &mut disk, before)?;
+    Some(text)
+}
+
+pub(crate) fn answer(alloc: Global, kind: &str, question: &str) -> Option<String> {
+    match kind {
+        "area" => area(alloc, question),
+        "life" => life(alloc, question),
+        "force" => force(alloc, question),
+        _ => None,
+    }
 }
 
 #[test]
-fn a_log_lives(rt: HostRuntime) -> Result<(), Fail> {
-    expect_all(&rt, rt.alloc(), LIFE)
+fn a_log_lives(rt: HostRuntime) {
+    expect_all(&rt, rt.alloc(), Topic::Logs, LIFE);
 }
 
 const LIFE: &str = "
@@ -218,38 +218,43 @@ force: 5 | 6 => 3 0 3 0 1 1
 // The put of the point 5 with the body `a` into page 1, as a group of the log has it.
 const PUT: [u8; 16] = [0, 1, 0, 0, 0, 1, 0, 0, 0, 0, 0, 0, 0, 5, 1, b'a'];
 
-// Forces a put's group into an area of exactly its frame's length, and tells the room before, between and behind.
-fn put<D: Device>(alloc: Global, disk: &mut D) -> Result<[u32; 3], Fail>
+// Forces a put's group into an area of exactly its frame's length, and tells the room before, between and behind. It is an
+// error too that the disk fails.
+fn put<D: Device>(alloc: Global, disk: &mut D) -> Result<[u32; 3], NoMemory>
     requires { 22 ≤ (D.model disk.old).size }
 {
     if zero_area(disk, 1, 21).is_err() {
-        return Err("the area wasn't zeroed".into());
+        return Err(AllocError);
     }
     let mut log = Wal::new(alloc, 1, 21)?;
     let before = log.room();
     log.append(&PUT, 0);
     let between = log.room();
     if log.force(disk).is_err() {
-        return Err("the frame wasn't written".into());
+        return Err(AllocError);
     }
     log.move_to(0);
     Ok([before, between, log.room()])
 }
 
-fn push_put(alloc: Global, text: &mut String, disk: &mut MemDisk) -> Result<(), Fail> {
+fn put_on<D: Device>(alloc: Global, disk: &mut D) -> Option<[u32; 3]> {
     if disk.size() < 22 {
-        return Err("a small disk".into());
+        return None;
     }
-    for room in put(alloc, disk)? {
-        write!(text, "{room} ")?;
-    }
-    Ok(push_bytes(text, disk.bytes())?)
+    put(alloc, disk).ok()
+}
+
+// Whether a put leaves these rooms and these bytes.
+fn is_put(alloc: Global, rooms: [u32; 3], bytes: &str) -> Option<bool> {
+    let mut disk = disk_of(alloc, NOISE, "")?;
+    let told = put_on(alloc, &mut disk)?;
+    let mut text = String::new(alloc);
+    push_bytes(&mut text, disk.bytes()).ok()?;
+    Some(told == rooms && text.as_str() == bytes)
 }
 
 #[test]
-fn the_frame_of_a_put(rt: HostRuntime) -> Result<(), Fail> {
-    let mut text = String::new(rt.alloc());
-    push_put(rt.alloc(), &mut text, &mut disk_of(rt.alloc(), NOISE, "")?)?;
-    assert_eq!(rt; text.as_str(), "16 0 16 n#___%_1___1_______51annnnnnnn");
-    Ok(())
+fn the_frame_of_a_put(rt: HostRuntime) {
+    let bytes = "n#___%_1___1_______51annnnnnnn";
+    assert!(rt; is_put(rt.alloc(), [16, 0, 16], bytes) == Some(true));
 }

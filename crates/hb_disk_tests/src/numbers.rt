@@ -1,69 +1,82 @@
 //! Numbers as bytes, and back.
 
 use crate::letters::numbers_of;
-use crate::rows::expect_all;
+use crate::rows::{Topic, expect_all};
 use hb_outside::{give_u16, give_u32, give_u64, take_u8, take_u16, take_u32, take_u64};
+use hb_space::NoMemory;
 use std::alloc::Global;
-use std::test::Fail;
 
 // Writes the number in so many bytes at place 1.
-fn give(into: &mut [u8; 10], width: &str, n: &str) -> Result<(), Fail> {
+fn give(into: &mut [u8; 10], width: &str, n: &str) -> Option<()> {
     match width {
-        "2" => give_u16(into, 1, n.parse()?),
-        "4" => give_u32(into, 1, n.parse()?),
-        "8" => give_u64(into, 1, n.parse()?),
-        _ => return Err("no such width".into()),
+        "2" => give_u16(into, 1, n.parse().ok()?),
+        "4" => give_u32(into, 1, n.parse().ok()?),
+        "8" => give_u64(into, 1, n.parse().ok()?),
+        _ => return None,
     }
-    Ok(())
+    Some(())
 }
 
-/// Ten bytes that were 9 before the number was given at place 1: from `WIDTH NUMBER`.
-pub(crate) fn given(alloc: Global, question: &str) -> Result<String, Fail> {
-    let (width, n) = question.split_once(' ').ok_or("no number")?;
-    let mut bytes = [9; 10];
-    give(&mut bytes, width, n)?;
-    let mut text = String::new(alloc);
+fn push_numbers(text: &mut String, bytes: &[u8]) -> Result<(), NoMemory> {
     let mut mark = "";
     for byte in bytes {
         write!(text, "{mark}{byte}")?;
         mark = " ";
     }
-    Ok(text)
+    Ok(())
 }
 
-fn take(bytes: &[u8], width: &str, at: usize) -> Result<Option<u64>, Fail> {
+/// Ten bytes that were 9 before the number was given at place 1: from `WIDTH NUMBER`.
+fn given(alloc: Global, question: &str) -> Option<String> {
+    let (width, n) = question.split_once(' ')?;
+    let mut bytes = [9; 10];
+    give(&mut bytes, width, n)?;
+    let mut text = String::new(alloc);
+    push_numbers(&mut text, &bytes).ok()?;
+    Some(text)
+}
+
+fn take(bytes: &[u8], width: &str, at: usize) -> Option<Option<u64>> {
     match width {
-        "1" => Ok(take_u8(bytes, at).map(|n| u64::from(n))),
-        "2" => Ok(take_u16(bytes, at).map(|n| u64::from(n))),
-        "4" => Ok(take_u32(bytes, at).map(|n| u64::from(n))),
-        "8" => Ok(take_u64(bytes, at)),
-        _ => Err("no such width".into()),
+        "1" => Some(take_u8(bytes, at).map(|n| u64::from(n))),
+        "2" => Some(take_u16(bytes, at).map(|n| u64::from(n))),
+        "4" => Some(take_u32(bytes, at).map(|n| u64::from(n))),
+        "8" => Some(take_u64(bytes, at)),
+        _ => None,
     }
 }
 
 // Bytes from text, with a blank between them.
-fn words_of(alloc: Global, text: &str) -> Result<Vec<u8>, Fail> {
+fn words_of(alloc: Global, text: &str) -> Option<Vec<u8>> {
     let mut bytes = Vec::new(alloc);
     for word in text.split_whitespace() {
-        bytes.push(word.parse()?)?;
+        bytes.push(word.parse().ok()?).ok()?;
     }
-    Ok(bytes)
+    Some(bytes)
 }
 
 /// The number that is taken: from `WIDTH PLACE | BYTES`.
-pub(crate) fn taken(alloc: Global, question: &str) -> Result<String, Fail> {
-    let (asked, bytes) = question.split_once(" | ").ok_or("no bytes")?;
-    let (width, at) = asked.split_once(' ').ok_or("no place")?;
-    let bytes = words_of(alloc, bytes)?;
-    match take(&bytes, width, at.parse()?)? {
-        Some(n) => Ok(format!(in alloc; "{n}")?),
-        None => Ok("none".to_string(alloc)?),
+fn taken(alloc: Global, question: &str) -> Option<String> {
+    let (asked, bytes) = question.split_once(" | ")?;
+    let (width, at) = asked.split_once(' ')?;
+    let at = at.parse().ok()?;
+    match take(&words_of(alloc, bytes)?, width, at)? {
+        Some(n) => format!(in alloc; "{n}").ok(),
+        None => "none".to_string(alloc).ok(),
+    }
+}
+
+pub(crate) fn answer(alloc: Global, kind: &str, question: &str) -> Option<String> {
+    match kind {
+        "give" => given(alloc, question),
+        "take" => taken(alloc, question),
+        _ => None,
     }
 }
 
 #[test]
-fn numbers_as_bytes(rt: HostRuntime) -> Result<(), Fail> {
-    expect_all(&rt, rt.alloc(), NUMBERS)
+fn numbers_as_bytes(rt: HostRuntime) {
+    expect_all(&rt, rt.alloc(), Topic::Numbers, NUMBERS);
 }
 
 const NUMBERS: &str = "

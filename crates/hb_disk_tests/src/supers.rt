@@ -5,12 +5,11 @@
 ghost use Rattle.std.specs.Prelude.{◌≡◌, ◌≤◌, IfOk, length};
 
 use crate::letters::{PICKS, numbers_of};
-use crate::rows::expect_all;
+use crate::rows::{Topic, expect_all};
 use hb_disk::{Device, MemDisk, Pick};
 use hb_layout::Meta;
 use hb_super::{SuperStop, clear_hidden, read_super, write_super};
 use std::alloc::Global;
-use std::test::Fail;
 
 // What a file of one attribute with 64 pages says when it is made.
 const META: Meta = Meta {
@@ -33,49 +32,63 @@ const SUPER: [u8; 41] = [
     0x01, 0x00, 0x00, 0x00, 0x01, 0x00, 0x00, 0x00, 0x00,
 ];
 
-fn put_byte(bytes: &mut [u8], at: usize, byte: u8) -> Result<(), Fail> {
-    *bytes.get_mut(at).ok_or("no such place")? = byte;
-    Ok(())
+// Puts the byte of `PLACE=BYTE` at its place.
+fn put_byte(bytes: &mut [u8; 41], word: &str) -> Option<()> {
+    let (at, byte) = word.split_once('=')?;
+    let at = at.parse::<usize>().ok()?;
+    let byte = byte.parse().ok()?;
+    if at >= 41 {
+        return None;
+    }
+    bytes[at] = byte;
+    Some(())
 }
 
-fn super_of(text: &str) -> Result<[u8; 41], Fail> {
+fn super_of(text: &str) -> Option<[u8; 41]> {
     if text == "zeros" {
-        return Ok([0; 41]);
+        return Some([0; 41]);
     }
     let mut bytes = SUPER;
     for word in text.split_whitespace() {
-        let (at, byte) = word.split_once('=').ok_or("no byte")?;
-        put_byte(&mut bytes, at.parse()?, byte.parse()?)?;
+        put_byte(&mut bytes, word)?;
     }
-    Ok(bytes)
+    Some(bytes)
 }
 
 // The two places with these bytes, and zeros behind them, on a disk that fails at the calls of these numbers.
-fn disk_of(alloc: Global, first: &str, second: &str, failing: &str) -> Result<MemDisk, Fail> {
-    let mut bytes = vec![in alloc; 0; 8192]?;
+fn disk_of(alloc: Global, first: &str, second: &str, failing: &str) -> Option<MemDisk> {
+    let failing = numbers_of(alloc, failing)?;
+    let Ok(mut bytes) = vec![in alloc; 0; 8192] else {
+        return None;
+    };
     bytes[..41].copy_from_slice(&super_of(first)?);
     bytes[4096..4137].copy_from_slice(&super_of(second)?);
-    Ok(MemDisk::failing(alloc, bytes, numbers_of(alloc, failing)?))
+    Some(MemDisk::failing(alloc, bytes, failing))
 }
 
 // The newest turn. 8 where there is none, and 9 where the disk fails.
-fn turn_of<D: Device>(disk: &mut D) -> Result<u8, Fail> {
+fn turn_of<D: Device>(disk: &mut D) -> Option<u8> {
     if disk.size() < 8192 {
-        return Err("a small disk".into());
+        return None;
     }
     match read_super(disk) {
-        Ok((turn, _)) => Ok(turn),
-        Err(SuperStop::NoSuper) => Ok(8),
-        Err(SuperStop::DiskFault) => Ok(9),
+        Ok((turn, _)) => Some(turn),
+        Err(SuperStop::NoSuper) => Some(8),
+        Err(SuperStop::DiskFault) => Some(9),
     }
 }
 
 /// The newest turn of two places: from `FIRST | SECOND` or `FIRST | SECOND | FAILING`.
-pub(crate) fn newest(alloc: Global, question: &str) -> Result<String, Fail> {
-    let (first, rest) = question.split_once(" | ").ok_or("no second place")?;
+fn newest(alloc: Global, question: &str) -> Option<String> {
+    let (first, rest) = question.split_once(" | ")?;
     let (second, failing) = rest.split_once(" | ").unwrap_or((rest, ""));
-    let turn = turn_of(&mut disk_of(alloc, first, second, failing)?)?;
-    Ok(format!(in alloc; "{turn}")?)
+    let turn = turn_on(alloc, first, second, failing)?;
+    format!(in alloc; "{turn}").ok()
+}
+
+fn turn_on(alloc: Global, first: &str, second: &str, failing: &str) -> Option<u8> {
+    let mut disk = disk_of(alloc, first, second, failing)?;
+    turn_of(&mut disk)
 }
 
 // Whether the superblock of a turn is written.
@@ -86,30 +99,35 @@ fn wrote<D: Device>(disk: &mut D, turn: u8) -> bool
 }
 
 // The newest turn of an image of the disk.
-fn turn_in(alloc: Global, disk: &MemDisk, before: u64, pick: Pick) -> Result<u8, Fail> {
-    let image = disk.image(before, pick)?.ok_or("no such moment")?;
+fn turn_in(alloc: Global, disk: &MemDisk, before: u64, pick: Pick) -> Option<u8> {
+    let image = disk.image(before, pick).ok()??;
     turn_of(&mut MemDisk::new(alloc, image))
 }
 
-fn push_turns(alloc: Global, text: &mut String, disk: &MemDisk, before: u64) -> Result<(), Fail> {
-    for pick in PICKS {
+fn push_turns(alloc: Global, text: &mut String, disk: &MemDisk, before: u64) -> Option<()> {
+    for &pick in &PICKS {
         let turn = turn_in(alloc, disk, before, pick)?;
-        write!(text, " {turn}")?;
+        write!(text, " {turn}").ok()?;
     }
-    Ok(())
+    Some(())
 }
 
 /// Whether turn 1 is written beside `SUPER`, and the newest turns of the images of a moment: from
 /// `SECOND | FAILING | MOMENT`.
-pub(crate) fn write(alloc: Global, question: &str) -> Result<String, Fail> {
-    let (second, rest) = question.split_once(" | ").ok_or("no calls")?;
-    let (failing, before) = rest.split_once(" | ").ok_or("no moment")?;
-    let before = before.parse()?;
+fn write(alloc: Global, question: &str) -> Option<String> {
+    let (second, rest) = question.split_once(" | ")?;
+    let (failing, before) = rest.split_once(" | ")?;
+    let before = before.parse().ok()?;
     let mut disk = disk_of(alloc, "", second, failing)?;
-    let done = wrote(&mut disk, 1);
-    let mut text = format!(in alloc; "{done}")?;
-    push_turns(alloc, &mut text, &disk, before)?;
-    Ok(text)
+    write_on(alloc, &mut disk, before)
+}
+
+fn write_on(alloc: Global, disk: &mut MemDisk, before: u64) -> Option<String> {
+    let done = wrote(disk, 1);
+    let mut text = String::new(alloc);
+    write!(text, "{done}").ok()?;
+    push_turns(alloc, &mut text, disk, before)?;
+    Some(text)
 }
 
 // Whether the place of turn 1 is made to hide nothing but what META says.
@@ -118,28 +136,40 @@ fn cleared<D: Device>(disk: &mut D) -> bool {
 }
 
 // What became of the second place.
-fn fate(place: &str, after: Option<&[u8]>) -> Result<&'static str, Fail> {
-    let after = after.ok_or("a short disk")?;
+fn fate(place: &str, after: &[u8]) -> Option<&'static str> {
     if after == super_of(place)?.as_slice() {
-        Ok("as it was")
+        Some("as it was")
     } else if after == [0; 41].as_slice() {
-        Ok("zeros")
+        Some("zeros")
     } else {
-        Err("some other bytes".into())
+        None
     }
 }
 
 /// Whether the second place is made to hide nothing, by how many calls, and what becomes of it: from `SECOND`.
-pub(crate) fn clear(alloc: Global, question: &str) -> Result<String, Fail> {
-    let mut disk = disk_of(alloc, "", question, "")?;
-    let done = cleared(&mut disk);
-    let fate = fate(question, disk.bytes().get(4096..4137))?;
-    Ok(format!(in alloc; "{done} {} {fate}", disk.calls())?)
+fn clear(alloc: Global, question: &str) -> Option<String> {
+    let (done, calls, fate) = clear_on(&mut disk_of(alloc, "", question, "")?, question)?;
+    format!(in alloc; "{done} {calls} {fate}").ok()
+}
+
+fn clear_on(disk: &mut MemDisk, place: &str) -> Option<(bool, u64, &'static str)> {
+    let done = cleared(disk);
+    let fate = fate(place, disk.bytes().get(4096..4137)?)?;
+    Some((done, disk.calls(), fate))
+}
+
+pub(crate) fn answer(alloc: Global, kind: &str, question: &str) -> Option<String> {
+    match kind {
+        "newest" => newest(alloc, question),
+        "write" => write(alloc, question),
+        "clear" => clear(alloc, question),
+        _ => None,
+    }
 }
 
 #[test]
-fn superblocks(rt: HostRuntime) -> Result<(), Fail> {
-    expect_all(&rt, rt.alloc(), SUPERBLOCKS)
+fn superblocks(rt: HostRuntime) {
+    expect_all(&rt, rt.alloc(), Topic::Supers, SUPERBLOCKS);
 }
 
 const SUPERBLOCKS: &str = "
@@ -205,13 +235,22 @@ clear: 10=1 28=9 32=9 36=9 => true 1 as it was
 clear: zeros => true 1 as it was
 ";
 
+// Whether a superblock of turn 0 was written, by six calls, and these bytes stand on the disk then.
+fn is_written(disk: &mut MemDisk) -> bool {
+    wrote(disk, 0) && disk.calls() == 6 && disk.bytes().starts_with(&SUPER)
+}
+
+// Whether it is read.
+fn is_read<D: Device>(disk: &mut D) -> bool {
+    disk.size() >= 8192 && read_super(disk) == Ok((0, META))
+}
+
+fn is_written_and_read(alloc: Global) -> Option<[bool; 2]> {
+    let mut disk = disk_of(alloc, "zeros", "zeros", "")?;
+    Some([is_written(&mut disk), is_read(&mut disk)])
+}
+
 #[test]
-fn the_first_superblock(rt: HostRuntime) -> Result<(), Fail> {
-    let mut disk = disk_of(rt.alloc(), "zeros", "zeros", "")?;
-    assert!(rt; wrote(&mut disk, 0));
-    assert_eq!(rt; disk.calls(), 6);
-    assert_eq!(rt; disk.bytes().get(..41), Some(SUPER.as_slice()));
-    assert!(rt; disk.size() >= 8192);
-    assert_eq!(rt; read_super(&mut disk), Ok((0, META)));
-    Ok(())
+fn the_first_superblock(rt: HostRuntime) {
+    assert_eq!(rt; is_written_and_read(rt.alloc()), Some([true, true]));
 }
