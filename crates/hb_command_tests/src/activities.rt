@@ -373,13 +373,24 @@ fn show(text: &mut String, activity: &Activity, meta: &Meta, page: &LivePage) ->
     show_lock(text, activity)
 }
 
+// Whether this is told of the activity.
+fn is_shown(
+    alloc: Global,
+    activity: &Activity,
+    meta: &Meta,
+    page: &LivePage,
+    want: &str,
+) -> Option<bool> {
+    let mut text = String::new(alloc);
+    show(&mut text, activity, meta, page)?;
+    Some(text.as_str() == want)
+}
+
 // Whether this is told of the activity that the text spells.
 fn is_told(alloc: Global, spelled: &str, level: u8, height: u8, want: &str) -> Option<bool> {
     let activity = activity_of(alloc, spelled)?;
     let page = page_of(alloc, level)?;
-    let mut text = String::new(alloc);
-    show(&mut text, &activity, &meta(height), &page)?;
-    Some(text.as_str() == want)
+    is_shown(alloc, &activity, &meta(height), &page, want)
 }
 
 #[test]

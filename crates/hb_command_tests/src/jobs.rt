@@ -80,16 +80,34 @@ fn most(alloc: Global) -> Option<Jobs> {
     Some(jobs)
 }
 
+// Whether a new job is added, and one that waits.
+fn adds_two(jobs: &mut Jobs) -> [bool; 2] {
+    [
+        jobs.add(job(JobKind::Merge, 0, 0)),
+        jobs.add(job(JobKind::Post, 0, 255)),
+    ]
+}
+
+fn counts(jobs: &Jobs) -> [usize; 2] {
+    [jobs.count(JobKind::Post), jobs.count(JobKind::Merge)]
+}
+
+// Whether the first job is taken, and then a new job is added, and the first one again.
+fn takes_and_adds(jobs: &mut Jobs) -> [bool; 3] {
+    [
+        takes(jobs, JobKind::Post, 0, 0),
+        jobs.add(job(JobKind::Post, 0, 256)),
+        jobs.add(job(JobKind::Post, 0, 0)),
+    ]
+}
+
 #[test]
 fn one_job_too_many(rt: HostRuntime) {
     let mut jobs = most(rt.alloc()).expect(&rt, "memory");
-    assert!(rt; !jobs.add(job(JobKind::Merge, 0, 0)));
-    assert!(rt; jobs.add(job(JobKind::Post, 0, 255)));
-    assert_eq!(rt;
-        [jobs.count(JobKind::Post), jobs.count(JobKind::Merge)],
-        [256, 0]
+    let told = (
+        adds_two(&mut jobs),
+        counts(&jobs),
+        takes_and_adds(&mut jobs),
     );
-    assert!(rt; takes(&mut jobs, JobKind::Post, 0, 0));
-    assert!(rt; jobs.add(job(JobKind::Post, 0, 256)));
-    assert!(rt; !jobs.add(job(JobKind::Post, 0, 0)));
+    assert!(rt; told == ([false, true], [256, 0], [true, true, false]));
 }

@@ -52,15 +52,22 @@ fn reply(
 /// Adds its reply to a search.
 fn reply_within(text: &mut String, plain: &Plain, lo: (u64, u64), hi: (u64, u64)) -> Option<()> {
     text.push_str("within").ok()?;
-    for (place, there) in (0..16).zip(plain) {
-        let (a, b) = (place / 4, place % 4);
-        if lo.0 <= a && a <= hi.0 && lo.1 <= b && b <= hi.1 {
-            if let Some(body) = there {
-                write!(text, " {a},{b}={body}").ok()?;
-            }
+    for place in 0..16 {
+        if let Some(body) = held(plain, place, lo, hi) {
+            write!(text, " {},{}={body}", place / 4, place % 4).ok()?;
         }
     }
     Some(())
+}
+
+/// What the point at a place has, where it lies in a box.
+fn held(plain: &Plain, place: u64, lo: (u64, u64), hi: (u64, u64)) -> Option<char> {
+    let (a, b) = (place / 4, place % 4);
+    if lo.0 <= a && a <= hi.0 && lo.1 <= b && b <= hi.1 {
+        *plain.get(place as usize)?
+    } else {
+        None
+    }
 }
 
 impl Both {

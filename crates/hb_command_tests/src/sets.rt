@@ -47,16 +47,18 @@ fn command_of(line: &str) -> Option<Command> {
     let verb = words.next()?;
     let place = words.next()?;
     match verb {
-        "insert" => {
-            let key = point_of(place)?;
-            let body = body_of(words.next().unwrap_or(""))?;
-            Some(Command::Insert(Record { key, body }))
-        }
+        "insert" => insert_of(place, words.next().unwrap_or("")),
         "delete" => Some(Command::Delete(point_of(place)?)),
         "lookup" => Some(Command::Lookup(point_of(place)?)),
         "search" => Some(Command::Search(area_of(place)?)),
         _ => None,
     }
+}
+
+fn insert_of(place: &str, word: &str) -> Option<Command> {
+    let key = point_of(place)?;
+    let body = body_of(word)?;
+    Some(Command::Insert(Record { key, body }))
 }
 
 fn body_of(word: &str) -> Option<Body> {
@@ -238,10 +240,18 @@ fn answered(alloc: Global, attributes: usize, rows: &[(&str, &str)]) -> Result<u
     Ok(trial.set.len())
 }
 
+/// The attributes, the commands over points of so many, and how many records there are behind them.
+const TABLES: [(usize, &[(&str, &str)], usize); 4] = [
+    (1, &ONE, 3),
+    (2, &TWO, 4),
+    (3, &THREE, 2),
+    (4, &FOUR, 1),
+];
+
 #[test]
 fn commands_are_answered(rt: HostRuntime) {
-    assert_eq!(rt; answered(rt.alloc(), 1, &ONE), Ok(3));
-    assert_eq!(rt; answered(rt.alloc(), 2, &TWO), Ok(4));
-    assert_eq!(rt; answered(rt.alloc(), 3, &THREE), Ok(2));
-    assert_eq!(rt; answered(rt.alloc(), 4, &FOUR), Ok(1));
+    for &(attributes, rows, count) in &TABLES {
+        let told = answered(rt.alloc(), attributes, rows);
+        assert_eq!(rt; told, Ok(count), "{attributes}");
+    }
 }
