@@ -164,6 +164,13 @@ fn read_fact<P: Pages>(
     }
 }
 
+/// A list with room for what is kept of each page up to the high mark. It doesn't grow then, so nothing is moved.
+fn room_for(alloc: Global, meta: &Meta) -> Result<Vec<Fact>, NoMemory>
+    ensures { IfOk result (λ facts. facts.items ≡ []) }
+{
+    Ok(Vec::with_capacity(alloc, meta.high.min(meta.pages) as usize)?)
+}
+
 /// Adds a fact.
 fn keep(facts: &mut Vec<Fact>, fact: Fact) -> Result<(), NoMemory>
     ensures { OnOk result (facts.new.items ≡ facts.old.items ++ fact ∷ []) }
@@ -189,7 +196,7 @@ pub(crate) fn read_facts<P: Pages>(
     ensures no_fault { (IsErrOf result Failed → ⊥) → P.faults pages.new ≡ P.faults pages.old }
     ensures later { P.faults pages.old ≤ P.faults pages.new }
 {
-    let mut facts = Vec::new(alloc);
+    let mut facts = room_for(alloc, meta)?;
     for place in 0..meta.high {
         let fact = read_fact(meta, &facts, pages, place + 1)?;
         keep(&mut facts, fact)?;

@@ -1,7 +1,8 @@
 -- What reading a log tells, from what its payloads make of the file.
-use Rattle.std.proofs.Common.{◌≡◌, inl, inr, ℕ, ◌+◌, ◌<◌, ◌≤◌, ◌^◌, List, [], ◌∷◌, ◌++◌, length, get_or, map, take, drop, All, Option, Some, None, Result, Ok, Err, refl, sym, ap, subst, ◌∙◌, append_assoc, length-append, arith}
+use Rattle.std.proofs.Common.{◌≡◌, inl, inr, ℕ, ◌<◌, ◌≤◌, ◌^◌, List, [], ◌∷◌, ◌++◌, length, map, drop, All, Option, Some, None, Result, Ok, Err, Vec, refl, ap, subst, ◌∙◌, append_assoc, length-append, arith}
 use Rattle.std.specs.Prelude.{IfErr, IfSome}
-use Rattle.std.proofs.lemmas.List.{drop_more, get_or-map, length-map, length-take, take-append-drop, take_more}
+use Rattle.std.specs.declared.alloc.Global.{Global}
+use Rattle.std.proofs.lemmas.List.{length-take, map-append}
 use Rattle.std.proofs.lemmas.Grind.{flat_map-append}
 use Rattle.std.proofs.lemmas.List.Elements.{All-cons, All-head, All-nil, All-tail}
 use Rattle.hb_layout.specs.declared.meta.Meta.{Meta}
@@ -20,19 +21,10 @@ use Rattle.hb_store.specs.declared.touched.ReplayStop.TheVariants as replays
 pub none_its : (said : Meta) → AreItsPages (untouched said)
 none_its said id page e = absurd cc
 
--- the item at a place, by the items that a list was made of
-pub item_here : {A B : Type 0} (f : A → B) (xs : List A) (ys : List B) (i : ℕ) (x : A) (y : B) → map f xs ≡ ys → i < length xs → x ≡ get_or xs i x → y ≡ f x → (i < length ys) × (get_or ys i y ≡ y)
-item_here f xs ys i x y same lt here is = (
-  omega (arith, lt, length-map xs f, ap length same),
-  ap (λ l. get_or l i y) (sym same) ∙ get_or-map f xs i x y lt ∙ ap f (sym here) ∙ sym is,
-)
-
--- a list is taken apart there
-pub parted : {B : Type 0} (ys : List B) (i : ℕ) (y : B) → (i < length ys) × (get_or ys i y ≡ y) → ys ≡ take i ys ++ y ∷ drop (i + 1) ys
-parted ys i y item = sym (take-append-drop i ys) ∙ ap (λ l. take i ys ++ l) (drop_more ys i y item.0 ∙ ap (λ z. z ∷ drop (i + 1) ys) item.1)
-
-pub taken_more : {B : Type 0} (ys : List B) (i : ℕ) (y : B) → (i < length ys) × (get_or ys i y ≡ y) → take (i + 1) ys ≡ take i ys ++ y ∷ []
-taken_more ys i y item = take_more ys i y item.0 ∙ ap (λ z. take i ys ++ z ∷ []) item.1
+-- The payload that comes next, behind those that came: by what vectors hold.
+pub parted : (all came : List (Vec ℕ Global)) (next : Vec ℕ Global) (behind : List (Vec ℕ Global)) → all ≡ came ++ next ∷ behind
+    → map (λ v. v.items) all ≡ map (λ v. v.items) came ++ next.items ∷ map (λ v. v.items) behind
+parted all came next behind split = ap (map (λ v. v.items)) split ∙ map-append (λ v. v.items) came (next ∷ behind)
 
 pub touched_is : (said : Meta) (t : Touched) → ComesAfter said t.meta → AreItsPages (replayed_of t) → IsTouched said t
 touched_is said t after its = record {
@@ -40,15 +32,15 @@ touched_is said t after its = record {
   pages = λ id page e. let good = its id page e in (good.0.0, good.0.1, good.1);
 }
 
-pub first_bad : (said : Meta) (payloads : List (List ℕ)) (i : ℕ) (payload : List ℕ) (t : Replayed) (stop : ReplayStop) → payloads ≡ take i payloads ++ payload ∷ drop (i + 1) payloads → i < length payloads
-    → HasReplayed said (take i payloads) t → (stop ≡ replays.Unfit → IsBadPayload said.k t payload) → NamesBad said payloads (log_stop i stop)
-first_bad said payloads i payload t replays.NoMemory parts lt so_far bad = tt
-first_bad said payloads i payload t replays.Unfit parts lt so_far bad = record {
-  before = take i payloads;
+pub first_bad : (said : Meta) (payloads before behind : List (List ℕ)) (payload : List ℕ) (t : Replayed) (stop : ReplayStop) → payloads ≡ before ++ payload ∷ behind
+    → HasReplayed said before t → (stop ≡ replays.Unfit → IsBadPayload said.k t payload) → NamesBad said payloads (log_stop (length before) stop)
+first_bad said payloads before behind payload t replays.NoMemory parts so_far bad = tt
+first_bad said payloads before behind payload t replays.Unfit parts so_far bad = record {
+  before = before;
   payload = payload;
-  behind = drop (i + 1) payloads;
+  behind = behind;
   parts = parts;
-  counted = omega (arith, length-take i payloads, lt);
+  counted = refl;
   reached = t;
   replayed = so_far;
   bad = bad refl;

@@ -29,18 +29,20 @@ impl ReplayStop {
     }
 }
 
-/// What the payloads make of a file that says this of itself, one after the other.
-fn replayed(alloc: Global, meta: &Meta, payloads: &Payloads) -> Result<Touched, LogStop>
+/// What the payloads make of a file that says this of itself, one after the other. Each goes once it was replayed, so that
+/// its memory serves the pages behind it.
+fn replayed(alloc: Global, meta: &Meta, payloads: Payloads) -> Result<Touched, LogStop>
     requires limits { HasLimits meta.now }
-    ensures read { IfOk result (λ t. HasReplayed meta.now payloads.now (replayed_of t)) }
+    ensures read { IfOk result (λ t. HasReplayed meta.now payloads (replayed_of t)) }
     ensures touched { IfOk result (λ t. IsTouched meta.now t) }
-    ensures stopped { length payloads.now < 2 ^ 32 → IfErr result (NamesBad meta.now payloads.now) }
+    ensures stopped { length payloads < 2 ^ 32 → IfErr result (NamesBad meta.now payloads) }
     ensures no_fault { IsErrOf result DiskFault → ⊥ }
 {
     let mut touched = Touched::new(alloc, meta);
-    for (frame, payload) in payloads.as_slice().iter().enumerate() {
-        match touched.follow_all(alloc, payload) {
-            Ok(()) => {}
+    let mut frame = 0;
+    for payload in payloads.into_vec() {
+        match touched.follow_all(alloc, &payload) {
+            Ok(()) => frame += 1,
             Err(stop) => return Err(stop.at(frame)),
         }
     }
@@ -48,9 +50,9 @@ fn replayed(alloc: Global, meta: &Meta, payloads: &Payloads) -> Result<Touched, 
 }
 
 /// Why a log isn't read whose frame of this number has a bad length, behind frames of these payloads.
-fn before_bad(alloc: Global, meta: &Meta, frame: u32, before: &Payloads) -> LogStop
+fn before_bad(alloc: Global, meta: &Meta, frame: u32, before: Payloads) -> LogStop
     requires limits { HasLimits meta.now }
-    ensures stopped { length before.now < 2 ^ 32 → frame ≡ length before.now → NamesBadOr meta.now before.now result }
+    ensures stopped { length before < 2 ^ 32 → frame ≡ length before → NamesBadOr meta.now before result }
     ensures no_fault { result ≡ DiskFault → ⊥ }
 {
     match replayed(alloc, meta, before) {
@@ -76,11 +78,8 @@ pub fn read_log<D: Device>(
     ensures only_reads { OnlyReads (D.model disk.old) (D.model disk.new) }
 {
     match read_area(alloc, disk, log_start(turn, meta), meta.log) {
-        Ok(payloads) => replayed(alloc, meta, &payloads),
-        Err(ReadStop::BadFrame { frame, before }) => {
-            let stop = before_bad(alloc, meta, frame, &before);
-            Err(stop)
-        }
+        Ok(payloads) => replayed(alloc, meta, payloads),
+        Err(ReadStop::BadFrame { frame, before }) => Err(before_bad(alloc, meta, frame, before)),
         Err(ReadStop::NoMemory) => Err(LogStop::NoMemory),
         Err(ReadStop::DiskFault) => Err(LogStop::DiskFault),
     }

@@ -18,6 +18,8 @@ use std::os::unix::fs::FileExt;
 pub struct FileDisk {
     file: File,
     size: u64,
+    /// Whether the file has a block for each of its bytes.
+    is_whole: bool,
     clock: u64,
     read_faults: u64,
     write_faults: u64,
@@ -25,11 +27,12 @@ pub struct FileDisk {
 }
 
 impl FileDisk {
-    /// The disk of an open file of so many bytes.
-    pub(crate) fn new(file: File, size: u64) -> FileDisk {
+    /// The disk of an open file of so many bytes, which has a block for each of them or not.
+    pub(crate) fn new(file: File, size: u64, is_whole: bool) -> FileDisk {
         FileDisk {
             file,
             size,
+            is_whole,
             clock: 0,
             read_faults: 0,
             write_faults: 0,
@@ -55,20 +58,42 @@ fn write_at(file: &File, at: u64, from: &[u8]) -> Result<(), Failed> {
     }
 }
 
-/// Bytes that are written at once where zeros are. An opening zeroes a whole log area, and most of the time that takes is
-/// that of the calls of the system.
-const ZEROS: usize = 65_536;
+/// Bytes that are made zero at once. An opening zeroes a whole log area, and most of the time that takes is that of the
+/// calls of the system.
+const PIECE: usize = 65_536;
 
-/// Writes so many zero bytes from a place of the file on. What is zero already is written too, so that the file has its
-/// blocks there, and no later write behind it wants new ones.
-fn zero_at(file: &File, at: u64, len: u64) -> Result<(), Failed>
+/// Whether all bytes are zero.
+fn is_zero(bytes: &[u8]) -> bool {
+    let mut all = 0;
+    for byte in bytes {
+        all |= *byte;
+    }
+    all == 0
+}
+
+/// Makes the bytes from a place of the file on zero, by way of as many in memory.
+///
+/// Where the file has all its blocks, what is zero already isn't written. Where it may lack some it is, so that it has
+/// them there, and no later write behind it wants new ones.
+fn zero_piece(file: &File, at: u64, piece: &mut [u8], is_whole: bool) -> Result<(), Failed>
+    ensures { length piece.new ≡ length piece.old }
+{
+    if is_whole && file.read_exact_at(piece, at).is_ok() && is_zero(piece) {
+        return Ok(());
+    }
+    piece.fill(0);
+    write_at(file, at, piece)
+}
+
+/// Makes so many bytes from a place of the file on zero, where it has a block for each of its bytes or not.
+fn zero_at(file: &File, at: u64, len: u64, is_whole: bool) -> Result<(), Failed>
     requires { at + len ≤ last_value }
 {
-    let zeros = [0; ZEROS];
+    let mut piece = [0; PIECE];
     let mut left = len;
     while left > 0 {
-        let count = left.min(ZEROS as u64);
-        write_at(file, at + (len - left), &zeros[..count as usize])?;
+        let count = left.min(PIECE as u64);
+        zero_piece(file, at + (len - left), &mut piece[..count as usize], is_whole)?;
         left -= count;
     }
     Ok(())
@@ -105,7 +130,10 @@ impl Device for FileDisk {
 
     fn zero(&mut self, at: u64, len: u64) -> Result<(), Failed> {
         self.clock = self.clock.saturating_add(1);
-        counted(zero_at(&self.file, at, len), &mut self.write_faults)
+        counted(
+            zero_at(&self.file, at, len, self.is_whole),
+            &mut self.write_faults,
+        )
     }
 
     fn sync(&mut self) -> Result<(), Failed> {

@@ -3,7 +3,11 @@
 
 use crate::file_disk::FileDisk;
 use std::fs::File;
+use std::os::unix::fs::MetadataExt;
 use std::{fs, io};
+
+/// The bytes of what the system counts as a block of a file.
+const BLOCK: u64 = 512;
 
 /// Three handles of the root folder. Opened before a file, they take the numbers of standard streams that were closed, so
 /// that the file gets none of them: else the output would be written into the file, or the file read as the text.
@@ -40,7 +44,7 @@ pub fn make_file(rt: &HostRuntime, name: &str, size: u64) -> io::Result<FileDisk
     let _held = hold_numbers(rt)?;
     let file = File::create_new(rt, name)?;
     match set_up(rt, &file, name, size) {
-        Ok(()) => Ok(FileDisk::new(file, size)),
+        Ok(()) => Ok(FileDisk::new(file, size, false)),
         Err(error) => {
             // Nothing is left that no later call could make.
             let _left = fs::remove_file(rt, name);
@@ -56,6 +60,7 @@ pub fn open_file(rt: &HostRuntime, name: &str) -> io::Result<FileDisk> {
     let _held = hold_numbers(rt)?;
     let file = File::options().read(true).write(true).open(rt, name)?;
     file.try_lock()?;
-    let size = file.metadata()?.len();
-    Ok(FileDisk::new(file, size))
+    let said = file.metadata()?;
+    let is_whole = said.blocks() >= said.len().div_ceil(BLOCK);
+    Ok(FileDisk::new(file, said.len(), is_whole))
 }

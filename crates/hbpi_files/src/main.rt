@@ -10,10 +10,12 @@
 
 mod beside;
 mod lost;
+mod places;
 mod story;
 
 use std::io;
 
 fn main(rt: HostRuntime) -> io::Result<()> {
-    story::tell(&rt)
+    story::tell(&rt)?;
+    places::tell(&rt)
 }

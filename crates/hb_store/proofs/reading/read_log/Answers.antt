@@ -19,4 +19,4 @@ returns-in-Err-BadFrame-clause-stopped g c =
     let bad = c.in-Err-BadFrame in
     let stops = subst (λ stop. IfSome told (λ b. StopsAt stop (range c.log_start.result said.log b))) bad.field-0-is bad.ensures.stopped in
     let framed = subst (λ n. IfSome told (λ b. (bad.frame ≡ length bad.before) × HasBadFrame (range n said.log b) bad.before)) c.log_start.ensures stops in
-    no_log_bad c.args.turn said bad.frame bad.before told c.before_bad-stop.result c.requires.legal.layout.log_limit framed c.before_bad-stop.ensures.stopped
+    no_log_bad c.args.turn said bad.frame bad.before told c.before_bad.result c.requires.legal.layout.log_limit framed c.before_bad.ensures.stopped

@@ -1,11 +1,12 @@
-use Rattle.std.proofs.Common.{take}
+use Rattle.std.proofs.Common.{◌≡◌, length, map}
 use Rattle.hb_store.specs.Replaying.{AreItsPages, ComesAfter, HasReplayed, replayed_of}
 use Rattle.hb_store.proofs.reading.replayed.Given as goal
 
--- the payloads so far were replayed
-abbrev pub invariant-loop-frame : goal.invariant-loop-frame
-invariant-loop-frame l = record {
-  replayed : HasReplayed l.meta (take l.frame l.payloads) (replayed_of l.touched);
+-- the payloads so far were replayed, and counted
+abbrev pub invariant-loop-payload : goal.invariant-loop-payload
+invariant-loop-payload l = record {
+  replayed : HasReplayed l.meta (map (λ v. v.items) l.yielded) (replayed_of l.touched);
   pages : AreItsPages (replayed_of l.touched);
   meta : ComesAfter l.meta l.touched.meta;
+  counted : l.frame ≡ length l.yielded;
 }
