@@ -73,7 +73,8 @@ impl Memory {
     fn changed(&self, alloc: Global, op: &Op) -> Result<Changed, NoMemory>
         requires points { OpHas self.now.meta.k op.now }
         requires allowed { IsAllowedHere self.now op.now }
-        ensures { IfOk result (λ c. record { meta = c.meta; pages = c.pages.items } ≡ change_here self.now op.now) }
+        ensures effect { IfOk result (λ c. record { meta = c.meta; pages = c.pages.items } ≡ change_here self.now op.now) }
+        ensures few { IfOk result (λ c. length c.pages.items ≤ 3) }
     {
         let first = self.read(op, 0);
         let second = self.read(op, 1);

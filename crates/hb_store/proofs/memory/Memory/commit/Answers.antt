@@ -46,7 +46,7 @@ made c =
     let held = c.self.inside in
     let st = c.args.self.now in
     let op = c.args.op.now in
-    commits_here op c.args.mark st (seen_after c) (change_made c) c.deref.result.now c.in_ok-changed.ensures (ap (λ (s : StoreState). s.turn) c.self.view_is) (ap (λ (s : StoreState). s.stopped) c.self.view_is) refl
+    commits_here op c.args.mark st (seen_after c) (change_made c) c.deref.result.now c.in_ok-changed.ensures.effect (ap (λ (s : StoreState). s.turn) c.self.view_is) (ap (λ (s : StoreState). s.stopped) c.self.view_is) refl
     (λ q.
     map_seen c.set_changed.new.pages q ∙ c.set_changed.ensures.pages q
     ∙ set_pages-same (change_made c).pages (get nat_eq c.reserve.new.pages) (in_memory st) (λ r. c.reserve.ensures.pages r ∙ sym (map_seen held.pages r) ∙ ap (λ (s : StoreState). in_memory s r) c.self.view_is) q)
@@ -84,4 +84,21 @@ append-requires c =
       room = subst (λ (l : LogState). length c.deref.result.now ≤ room_of l) log (omega (arith, len, c.in_ok-group.ensures.short, ready));
       reserved = subst (λ (l : LogState). pending_bytes l.groups + length c.deref.result.now ≤ 65536) log (omega (arith, len, c.in_ok-group.ensures.short, ready));
       marks = subst (λ (l : LogState). All (λ g. g.mark ≤ c.args.mark) l.groups) log c.requires.marks;
+    }
+
+pub changed-requires : goal.changed-requires
+changed-requires c = record { points = c.requires.points; allowed = c.requires.allowed }
+
+pub group-requires : goal.group-requires
+group-requires c = record { points = c.requires.points; allowed = c.requires.allowed }
+
+pub add_all-requires : goal.add_all-requires
+add_all-requires c = omega (arith, c.deref-2.ensures.1, c.in_ok-reserve.ensures.marks)
+
+pub set_changed-requires : goal.set_changed-requires
+set_changed-requires c =
+    let few = c.in_ok-changed.ensures.few in
+    record {
+      room = omega (arith, few, c.in_ok-reserve.ensures.room);
+      marks = omega (arith, few, c.deref-2.ensures.1, c.add_all.ensures.room, c.in_ok-reserve.ensures.marks);
     }
