@@ -93,7 +93,12 @@ fn zero_at(file: &File, at: u64, len: u64, is_whole: bool) -> Result<(), Failed>
     let mut left = len;
     while left > 0 {
         let count = left.min(PIECE as u64);
-        zero_piece(file, at + (len - left), &mut piece[..count as usize], is_whole)?;
+        zero_piece(
+            file,
+            at + (len - left),
+            &mut piece[..count as usize],
+            is_whole,
+        )?;
         left -= count;
     }
     Ok(())

@@ -84,11 +84,7 @@ fn done<D: Device>(alloc: Global, disk: &mut D, step: Step) -> io::Result<Option
 }
 
 /// Makes each call on both disks, and says which of the first one come to something else.
-fn compare<D: Device>(
-    rt: &HostRuntime,
-    disk: &mut D,
-    beside: &mut MemDisk,
-) -> io::Result<()> {
+fn compare<D: Device>(rt: &HostRuntime, disk: &mut D, beside: &mut MemDisk) -> io::Result<()> {
     let mut same = 0;
     for (number, &step) in STEPS.iter().enumerate() {
         let found = done(rt.alloc(), disk, step)?;

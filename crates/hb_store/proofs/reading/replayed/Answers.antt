@@ -28,7 +28,7 @@ loop-payload-preserved c =
     let next = c.in-Some.payload in
     let more = sym (map-append (λ v. v.items) came (next ∷ [])) in
     let here = subst (λ p. Follows said.k (replayed_of c.loop-payload.touched) p (replayed_of c.follow_all.new.self)) c.deref.ensures.value
-        (subst (λ (k : ℕ). Follows k (replayed_of c.loop-payload.touched) c.deref.result.now (replayed_of c.follow_all.new.self)) c.loop-payload.invariant.meta.layout.k c.in-Ok.ensures.followed) in
+    (subst (λ (k : ℕ). Follows k (replayed_of c.loop-payload.touched) c.deref.result.now (replayed_of c.follow_all.new.self)) c.loop-payload.invariant.meta.layout.k c.in-Ok.ensures.followed) in
     record {
       replayed = subst (λ l. HasReplayed said l (replayed_of c.follow_all.new.self)) more
           (replayed_more said (map (λ v. v.items) came) (replayed_of c.loop-payload.touched) (replayed_of c.follow_all.new.self) next.items c.loop-payload.invariant.replayed here);
@@ -55,6 +55,6 @@ returns-in-Err-clause-stopped c =
     let parts = sym c.into_vec-payload-items.ensures ∙ parted all came next _ split in
     let count = c.loop-payload.invariant.counted ∙ sym (length-map came (λ v. v.items)) in
     λ few. subst (NamesBad said c.args.payloads) (sym (c.at.ensures.stop (omega (arith, count, ap length parts, length-append (map (λ v. v.items) came) (next.items ∷ behind), few))))
-        (subst (λ i. NamesBad said c.args.payloads (log_stop i c.in-Err.stop)) (sym count)
-        (first_bad said c.args.payloads (map (λ v. v.items) came) behind next.items here c.in-Err.stop parts c.loop-payload.invariant.replayed
-        (λ is. subst (λ p. IsBadPayload said.k here p) c.deref.ensures.value (subst (λ (k : ℕ). IsBadPayload k here c.deref.result.now) c.loop-payload.invariant.meta.layout.k (c.in-Err.ensures.unfit cc)))))
+    (subst (λ i. NamesBad said c.args.payloads (log_stop i c.in-Err.stop)) (sym count)
+    (first_bad said c.args.payloads (map (λ v. v.items) came) behind next.items here c.in-Err.stop parts c.loop-payload.invariant.replayed
+    (λ is. subst (λ p. IsBadPayload said.k here p) c.deref.ensures.value (subst (λ (k : ℕ). IsBadPayload k here c.deref.result.now) c.loop-payload.invariant.meta.layout.k (c.in-Err.ensures.unfit cc)))))
