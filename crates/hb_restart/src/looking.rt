@@ -16,6 +16,7 @@ use hb_frag::Page;
 use hb_ops::Meta;
 use hb_page_codec::laws::{fields_are_read_exactly, spelling_law};
 use hb_sound::audit;
+use hb_space::form::PAGE;
 use std::alloc::Global;
 use std::collections::BTreeMap;
 
@@ -52,6 +53,7 @@ fn audited<D: Device>(alloc: Global, disk: D, read: LogRead) -> Result<(Found, D
         disk,
         said: read.said,
         touched: read.touched.pages,
+        buffer: [0; PAGE],
     };
     let audited = audit(alloc, &meta, &mut pages);
     let FilePages { disk, touched, .. } = pages;

@@ -69,12 +69,13 @@ fn read_place<D: Device>(
     disk.read(page_offset(meta, id), into)
 }
 
-/// The page in its place, or that the bytes there are none.
+/// The page in its place, or that the bytes there are none. They are read into `into`.
 fn page_in_place<D: Device>(
     alloc: Global,
     disk: &mut D,
     meta: &Meta,
     id: u32,
+    into: &mut [u8; PAGE],
 ) -> Result<Option<Page>, PageStop>
     requires room { file_size meta.now ≤ (D.model disk.old).size }
     requires some { 1 ≤ id }
@@ -85,9 +86,8 @@ fn page_in_place<D: Device>(
     ensures no_fault { (IsErrOf result Failed → ⊥) → (D.model disk.new).read_faults ≡ (D.model disk.old).read_faults }
     ensures only_reads { OnlyReads (D.model disk.old) (D.model disk.new) }
 {
-    let mut bytes = [0; PAGE];
-    match read_place(disk, meta, id, &mut bytes) {
-        Ok(()) => spelled(alloc, &bytes),
+    match read_place(disk, meta, id, into) {
+        Ok(()) => spelled(alloc, into),
         Err(_) => Err(PageStop::Failed),
     }
 }
@@ -101,6 +101,8 @@ pub(crate) struct FilePages<D: Device> {
     pub(crate) said: Meta,
     /// What the log makes of pages, by their numbers.
     pub(crate) touched: BTreeMap<u32, Page>,
+    /// Where the bytes of a page are read into.
+    pub(crate) buffer: [u8; PAGE],
     ghost is_source: { IsSource (D.model disk).size said touched } by { IsSource-prop _ _ _ },
 }
 
@@ -129,6 +131,12 @@ impl<D: Device> Pages for FilePages<D> {
         if id == 0 || id > self.said.pages {
             return Ok(None);
         }
-        page_in_place(self.alloc, &mut self.disk, &self.said, id)
+        page_in_place(
+            self.alloc,
+            &mut self.disk,
+            &self.said,
+            id,
+            &mut self.buffer,
+        )
     }
 }
