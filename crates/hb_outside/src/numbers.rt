@@ -1,5 +1,5 @@
 //! Numbers as bytes, the highest first.
-ghost use Rattle.std.specs.Prelude.{◌≡◌, ℕ, List, ◌+◌, ◌^◌, ◌<◌, ◌≤◌, ◌↔◌, ◌++◌, All, Some, length, take, drop, IsSome, slice_get, slice_range};
+ghost use Rattle.std.specs.Prelude.{◌≡◌, ℕ, List, ◌+◌, ◌^◌, ◌<◌, ◌≤◌, ◌↔◌, ◌++◌, All, Some, length, take, drop, IsSome, IfSome, slice_get, slice_range};
 ghost use Rattle.hb_outside.specs.Numbers.{big_endian};
 
 use byteorder::{BigEndian, ByteOrder};
@@ -40,9 +40,7 @@ pub fn take_u16(bytes: &[u8], at: usize) -> Option<u16>
     ensures exact { (n : ℕ) → n < 2 ^ 16 → (result ≡ Some n) ↔
         ((at + 2 ≤ length bytes.now) × (slice_range bytes.now at (at + 2) ≡ big_endian 2 n)) }
 {
-    let end = at.checked_add(2)?;
-    let part = bytes.get(at..end)?;
-    Some(u16_of(part))
+    Some(u16_of(part(bytes, at, 2)?))
 }
 
 /// The number of four bytes at a place. `None` where fewer follow.
@@ -51,9 +49,7 @@ pub fn take_u32(bytes: &[u8], at: usize) -> Option<u32>
     ensures exact { (n : ℕ) → n < 2 ^ 32 → (result ≡ Some n) ↔
         ((at + 4 ≤ length bytes.now) × (slice_range bytes.now at (at + 4) ≡ big_endian 4 n)) }
 {
-    let end = at.checked_add(4)?;
-    let part = bytes.get(at..end)?;
-    Some(u32_of(part))
+    Some(u32_of(part(bytes, at, 4)?))
 }
 
 /// The number of eight bytes at a place. `None` where fewer follow.
@@ -62,9 +58,7 @@ pub fn take_u64(bytes: &[u8], at: usize) -> Option<u64>
     ensures exact { (n : ℕ) → n < 2 ^ 64 → (result ≡ Some n) ↔
         ((at + 8 ≤ length bytes.now) × (slice_range bytes.now at (at + 8) ≡ big_endian 8 n)) }
 {
-    let end = at.checked_add(8)?;
-    let part = bytes.get(at..end)?;
-    Some(u64_of(part))
+    Some(u64_of(part(bytes, at, 8)?))
 }
 
 /// Writes the two bytes of a number at a place.
@@ -89,6 +83,15 @@ pub fn give_u64(into: &mut [u8], at: usize, n: u64)
     ensures { into.new ≡ take at into.old ++ big_endian 8 n ++ drop (at + 8) into.old }
 {
     BigEndian::write_u64(&mut into[at..at + 8], n);
+}
+
+/// So many bytes at a place. `None` where fewer follow.
+fn part(bytes: &[u8], at: usize, count: usize) -> Option<&[u8]>
+    ensures room { IsSome result ↔ (at + count ≤ length bytes.now) }
+    ensures count { IfSome result (λ part. length part.now ≡ count) }
+    ensures exact { IfSome result (λ part. part.now ≡ slice_range bytes.now at (at + count)) }
+{
+    bytes.get(at..at.checked_add(count)?)
 }
 
 /// The number that two bytes are of.

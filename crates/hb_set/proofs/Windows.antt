@@ -10,7 +10,7 @@ use Rattle.std.specs.declared.cmp.Ordering.TheVariants.{Less}
 use Rattle.std.proofs.lemmas.Cmp.{nat_list_cmp_total, ranked, by_ranked}
 use Rattle.std.proofs.lemmas.Bool.{false≢true, cases_lt, lt-leb, le-leb, leb-true, leb-false, and_parts, and_left, and_right, and_from}
 use Rattle.std.proofs.lemmas.List.{take-append-drop, take_all, map-append, append-nil}
-use Rattle.std.proofs.lemmas.List.Elements.{filter-append}
+use Rattle.std.proofs.lemmas.List.Elements.{filter-append, All-take, All-drop}
 use Rattle.hb_space.specs.Points.{point_cmp}
 use Rattle.hb_space.specs.Boxes.{Area, is_between, holds}
 use Rattle.hb_space.specs.declared.records.Record.{Record}
@@ -176,12 +176,22 @@ filter_limit a p limit hs m n near le skips behind below = filter_rest (λ r. ho
     let under : is_lt (point_cmp (get_or (take m hs) k d).value.key limit) ≡ true = below k d (omega arith) within in
     rw get_or-take (skips (get_or hs k d).value.key (behind k d (omega arith)) (less_so _ (rw get_or-take at under))))
 
--- what holds of records holds of those behind the first
+-- what holds of records holds of the first and of those behind it
 pub rise_tail : (hs later : List (Box Record Global)) (h : Box Record Global) → hs ≡ h ∷ later → PointsRise hs → PointsRise later
 rise_tail hs later h is r = (and_parts _ _ (subst PointsRise is r)).1
 
 pub keys_tail : (k : ℕ) (hs later : List (Box Record Global)) (h : Box Record Global) → hs ≡ h ∷ later → KeysHave k hs → KeysHave k later
 keys_tail k hs later h is all i d lt = subst (KeysHave k) is all (suc i) d (omega arith)
+
+pub keys_first : (k : ℕ) (hs later : List (Box Record Global)) (h : Box Record Global) → hs ≡ h ∷ later → KeysHave k hs → length h.value.key ≡ k
+keys_first k hs later h is all = subst (KeysHave k) is all zero h (omega arith)
+
+-- and of those of a part
+pub keys_take : (k : ℕ) (hs : List (Box Record Global)) (n : ℕ) → KeysHave k hs → KeysHave k (take n hs)
+keys_take k hs n all = All-take (λ h. length h.value.key ≡ k) n hs all
+
+pub keys_drop : (k : ℕ) (hs : List (Box Record Global)) (n : ℕ) → KeysHave k hs → KeysHave k (drop n hs)
+keys_drop k hs n all = All-drop (λ h. length h.value.key ≡ k) n hs all
 
 -- and the first point is below the others
 pub first_below : (hs later : List (Box Record Global)) (h : Box Record Global) → hs ≡ h ∷ later → PointsRise hs → All (λ x. point_cmp h.value.key x.value.key ≡ Less) later

@@ -1,10 +1,11 @@
 -- Boxes and the points that they hold.
 use Rattle.std.proofs.Common.{◌≡◌, ℕ, zero, suc, ◌<◌, ◌≤◌, ◌-◌, Bool, true, false, List, [], ◌∷◌, length, get_or, EachIndex, IsTrue, ◌↔◌, refl, ap, sym, ◌∙◌, arith, min, max, inl, inr, ◌⊎◌}
-use Rattle.std.proofs.lemmas.Grind.{same_number_lists}
+use Rattle.std.proofs.lemmas.Grind.{same_number_lists, common_steps}
 use Rattle.std.proofs.lemmas.List.{length-set, get_or-set_same}
 use Rattle.std.proofs.lemmas.Bool.{cases_lt}
 use Rattle.std.proofs.lemmas.Bool.Decides.{nat_tests}
-use Rattle.hb_space.specs.Boxes.{Area, IsArea, Holds, Meets, Within, Cuts, Disjoint, holds, is_between, side_below, side_from, common_area}
+use Rattle.hb_space.specs.Points.{IsPoint}
+use Rattle.hb_space.specs.Boxes.{Area, IsArea, Holds, Meets, Within, Cuts, Disjoint, holds, is_between, whole_area, side_below, side_from, common_area}
 use Rattle.hb_space.proofs.Lists.{length-zip_by, get_or-zip_by, set_cases, IsPoint-zip_by, max_chooses, min_chooses}
 
 -- the least corner and the greatest corner lie in the box
@@ -70,6 +71,16 @@ point_from_meeting a b ha hb e m =
 pub Within-from_points : (a b : Area) → IsArea a → ((p : List ℕ) → Holds a p → Holds b p) → Within a b
 Within-from_points a b h points i k =
     (((points a.lo (lo_held a h)).between i k).0, ((points a.hi (hi_held a h)).between i (omega (arith, h.same))).1)
+
+-- one box lies within another exactly where the other holds each of its points
+pub within_by_points : (a b : Area) → IsArea a → length a.lo ≡ length b.lo → Within a b ↔ ((p : List ℕ) → Holds a p → Holds b p)
+within_by_points a b ha same = (
+  λ w p h. record {
+    same = omega arith;
+    between = λ i k. let l : i < length a.lo = omega arith in (omega (arith, (w i l).0, (h.between i k).0), omega (arith, (w i l).1, (h.between i k).1));
+  },
+  λ points. Within-from_points a b ha points,
+)
 
 -- the common box lies within both
 pub Within-common_area : (a b : Area) → IsArea a → IsArea b → length a.lo ≡ length b.lo → Meets a b → Within (common_area a b) a × Within (common_area a b) b
@@ -200,3 +211,7 @@ side_cover a axis value p h cuts =
       λ held. elim (cases_lt (get_or p axis 0) value) [ inl l ↦ inl (below.1 (held, l)) | inr l ↦ inr (from.1 (held, l)) ],
       λ side. elim side [ inl s ↦ (below.0 s).0 | inr s ↦ (from.0 s).0 ],
     )
+
+-- the whole space holds every point of as many attributes
+pub Holds-whole_area : (k : ℕ) (p : List ℕ) → IsPoint p → length p ≡ k → Holds (whole_area k) p
+Holds-whole_area k p point same = grind (arith, common_steps)

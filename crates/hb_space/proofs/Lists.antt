@@ -1,8 +1,9 @@
 -- Lists of numbers, place by place.
-use Rattle.std.proofs.Common.{◌≡◌, ℕ, zero, suc, ◌<◌, ◌≤◌, ◌+◌, ◌^◌, List, [], ◌∷◌, ◌++◌, length, get_or, set, take, replicate, ◌⊎◌, inl, inr, ◌≢◌, refl, ap, sym, ◌∙◌, arith, min, max}
-use Rattle.std.proofs.lemmas.List.{take_more, take_all, take-replicate, length-set, get_or-set_other}
+use Rattle.std.proofs.Common.{Result, Ok, Err, ◌≡◌, ℕ, zero, suc, ◌<◌, ◌≤◌, ◌+◌, ◌^◌, List, [], ◌∷◌, ◌++◌, length, get_or, set, take, replicate, ◌⊎◌, inl, inr, ◌≢◌, refl, ap, sym, ◌∙◌, arith, min, max}
+use Rattle.std.proofs.lemmas.List.{take_more, take_all, take_at, take-replicate, length-set, get_or-set_other}
 use Rattle.std.proofs.lemmas.Grind.{get_or-set_at}
-use Rattle.std.proofs.lemmas.Bool.{cases_eq}
+use Rattle.std.specs.Result.{IsOk, OnOk}
+use Rattle.std.proofs.lemmas.Bool.{cases_eq, false≢true}
 use Rattle.std.proofs.lemmas.List.Elements.{All-from_get_or, All-set}
 use Rattle.hb_space.specs.Boxes.{zip_by}
 use Rattle.hb_space.specs.Points.{IsPoint}
@@ -64,3 +65,13 @@ IsPoint-set p i v h fits = record {
   few = omega (arith, length-set p i v, h.few);
   fits = All-set (λ x. x < 2 ^ 64) p i v fits h.fits;
 }
+
+-- what a list has once another that is as it was has had a value set and was written to its front
+pub set_written : (held values rest : List ℕ) (i v : ℕ) → values ≡ held → take (length held) (set values i v ++ rest) ≡ set held i v
+set_written held values rest i v same =
+    take_at (set values i v) rest (length held) (length-set values i v ∙ ap length same) ∙ ap (λ (xs : List ℕ). set xs i v) same
+
+-- what holds where there is a value, and there is one
+pub on_ok : {T E : Type 0} (r : Result T E) (P : Type 0) → IsOk r → OnOk r P → P
+on_ok (Ok x) P some h = h
+on_ok (Err e) P some h = absurd (false≢true some)

@@ -1,7 +1,7 @@
 -- What of a box lies outside another box within it, piece by piece.
 use Rattle.std.proofs.Common.{◌≡◌, ℕ, zero, suc, ◌<◌, ◌≤◌, ◌+◌, ◌-◌, ◌*◌, cond, ltb, List, [], ◌∷◌, ◌++◌, length, get_or, set, ◌↔◌, ◌⊎◌, inl, inr, refl, ap, sym, subst, ◌∙◌, arith}
 use Rattle.std.specs.List.{Any, AllPairs}
-use Rattle.std.proofs.lemmas.List.{length-set, length-append, append_assoc, get_or-set_same, set-set}
+use Rattle.std.proofs.lemmas.List.{length-set, length-append, append-nil, append_assoc, get_or-set_same, set-set}
 use Rattle.std.proofs.lemmas.Bool.{cases_lt, cases_eq}
 use Rattle.std.proofs.lemmas.Bool.Decides.{nat_tests}
 use Rattle.hb_space.specs.Boxes.{Area, IsArea, Holds, Meets, Within, Cuts, Disjoint, side_below, side_from, pieces_below, pieces_above, rest_between, pieces_from, pieces_outside}
@@ -323,6 +323,23 @@ regrouped ps bs us rs = simp append_assoc
 pub Inner-from_peeled : (a c rest : Area) (axis : ℕ) (pieces : List Area) → axis < length a.lo → IsArea c → length c.lo ≡ length a.lo → IsPeeled a c rest axis pieces → Inner axis rest c
 Inner-from_peeled a c rest axis pieces l hc s h =
     record { attribute = omega (arith, h.same); rest_area = h.area; area = hc; same = omega (arith, s, h.same); inside = h.inside }
+
+-- at the beginning the rest is the whole box
+pub peeled_none : (a c rest : Area) (pieces : List Area) → rest ≡ a → pieces ≡ [] → IsArea a → Within c a → IsPeeled a c rest 0 pieces
+peeled_none a c rest pieces e none area inside =
+    let all : length a.lo - 0 ≡ length a.lo = omega arith in
+    subst (λ (t : Area). IsPeeled a c t 0 pieces) (sym e) (record {
+      same = refl;
+      area = area;
+      inside = inside;
+      so_far = ap (λ n. pieces ++ pieces_from n 0 a c) all ∙ ap (λ (us : List Area). us ++ pieces_outside a c) none;
+    })
+
+-- past the last attribute nothing more is left
+pub peeled_all : (a c rest : Area) (axis : ℕ) (pieces : List Area) → length a.lo ≤ axis → IsPeeled a c rest axis pieces → pieces ≡ pieces_outside a c
+peeled_all a c rest axis pieces end h =
+    let none : length a.lo - axis ≡ 0 = omega (arith, end) in
+    sym (append-nil pieces) ∙ ap (λ n. pieces ++ pieces_from n axis rest c) (sym none) ∙ h.so_far
 
 pub peeled_more : (a c rest next : Area) (axis : ℕ) (pieces more : List Area) → axis < length a.lo → IsArea c → length c.lo ≡ length a.lo → IsPeeled a c rest axis pieces → next ≡ rest_between axis rest c → more ≡ pieces ++ pieces_below axis rest c ++ pieces_above axis rest c → IsPeeled a c next (axis + 1) more
 peeled_more a c rest next axis pieces more l hc s h e k =

@@ -66,11 +66,9 @@ impl Point {
         requires { axis < length self.now }
         ensures { result ≡ slice_set self.now axis value }
     {
-        let mut values = [0; KMAX];
-        let count = self.values().len();
-        values[..count].copy_from_slice(self.values());
-        values[axis] = value;
-        Point::new(&values[..count])
+        let mut point = self.copy();
+        point.values.as_mut_slice()[axis] = value;
+        point
     }
 
     /// Whether no value exceeds that of the other point in the same attribute.

@@ -1,6 +1,6 @@
 use Rattle.std.proofs.Common.{◌≡◌, ◌∙◌, true, sym}
 use Rattle.hb_space.specs.Boxes.{holds}
-use Rattle.hb_set.proofs.Windows.{rise_tail, keys_tail, first_below, held_more}
+use Rattle.hb_set.proofs.Windows.{rise_tail, keys_tail, keys_first, first_below, held_more}
 use Rattle.hb_set.proofs.search.held_by.Goals as goal
 
 pub loop-record-preserved-then-holds : goal.loop-record-preserved-then-holds
@@ -16,3 +16,9 @@ past_outside-rest-requires-clause-attributes c = keys_tail _ _ _ _ c.in-Some.ens
 
 pub past_outside-rest-requires-clause-behind : goal.past_outside-rest-requires-clause-behind
 past_outside-rest-requires-clause-behind c = rw c.deref-else-holds.ensures (first_below _ _ c.in-Some.record.now c.in-Some.ensures.cases.0 c.loop-record.invariant.1)
+
+pub past_outside-rest-requires-clause-rise : goal.past_outside-rest-requires-clause-rise
+past_outside-rest-requires-clause-rise c = rise_tail _ _ _ c.in-Some.ensures.cases.0 c.loop-record.invariant.1
+
+pub past_outside-rest-requires-clause-same : goal.past_outside-rest-requires-clause-same
+past_outside-rest-requires-clause-same c = rw c.deref-else-holds.ensures (keys_first _ _ _ c.in-Some.record.now c.in-Some.ensures.cases.0 c.loop-record.invariant.2)

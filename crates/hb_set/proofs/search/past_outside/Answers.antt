@@ -3,7 +3,7 @@ use Rattle.std.specs.Ordering.{is_lt}
 use Rattle.std.proofs.lemmas.Fn.{always_returns_same}
 use Rattle.hb_space.specs.Points.{point_cmp}
 use Rattle.hb_set.specs.Kept.{PointsRise}
-use Rattle.hb_set.proofs.Windows.{filter_limit, rest_is, below_parts, rise_drop, rise_take}
+use Rattle.hb_set.proofs.Windows.{filter_limit, rest_is, below_parts, rise_drop, rise_take, keys_take, keys_drop}
 use Rattle.hb_set.proofs.search.past_outside.Goals as goal
 
 -- the closure compares a record's point with the limit
@@ -14,3 +14,6 @@ returns-clause-held c =
 
 pub returns-clause-rise : goal.returns-clause-rise
 returns-clause-rise c = subst PointsRise (sym (rest_is c.args.later.now c.partition_point-count.result)) (rise_drop _ c.partition_point-count.result c.requires.rise)
+
+pub returns-clause-attributes : goal.returns-clause-attributes
+returns-clause-attributes c = keys_take _ _ _ (keys_drop _ _ c.partition_point-count.result c.requires.attributes)

@@ -3,7 +3,7 @@ use Rattle.std.specs.Ordering.{is_lt}
 use Rattle.std.proofs.lemmas.Fn.{always_returns_same}
 use Rattle.hb_space.specs.Points.{point_cmp}
 use Rattle.hb_set.specs.Kept.{PointsRise}
-use Rattle.hb_set.proofs.Windows.{filter_window, rest_is, below_parts, reach_parts, rise_drop, rise_take}
+use Rattle.hb_set.proofs.Windows.{filter_window, rest_is, below_parts, reach_parts, rise_drop, rise_take, keys_take, keys_drop}
 use Rattle.hb_set.proofs.search.window.Goals as goal
 
 -- the two closures compare a record's point, and its first value
@@ -17,3 +17,6 @@ returns-clause-held c =
 
 pub returns-clause-rise : goal.returns-clause-rise
 returns-clause-rise c = rise_take _ c.partition_point-count.result (subst PointsRise (sym (rest_is c.args.records.now c.partition_point-start.result)) (rise_drop _ c.partition_point-start.result c.requires.rise))
+
+pub returns-clause-attributes : goal.returns-clause-attributes
+returns-clause-attributes c = keys_take _ _ c.partition_point-count.result (keys_take _ _ _ (keys_drop _ _ c.partition_point-start.result c.requires.attributes))

@@ -1,6 +1,6 @@
-use Rattle.std.proofs.Common.{◌≡◌, ◌+◌, [], ◌∷◌, ◌++◌, cond, ltb, get_or, set, ◌∙◌, rules}
+use Rattle.std.proofs.Common.{◌<◌, ap, arith, length, ◌≡◌, ◌+◌, [], ◌∷◌, ◌++◌, cond, ltb, get_or, set, ◌∙◌, rules}
 use Rattle.hb_space.specs.Boxes.{side_from, pieces_below}
-use Rattle.hb_space.proofs.Outside.{peeled_more, rest_between-from_steps, pieces-from_steps}
+use Rattle.hb_space.proofs.Outside.{peeled_none, peeled_all, peeled_more, rest_between-from_steps, pieces-from_steps}
 use Rattle.hb_space.proofs.areas.Area.around.Goals as goal
 
 pub loop-axis-preserved : goal.loop-axis-preserved
@@ -23,3 +23,20 @@ loop-axis-preserved c =
     c.lo.ensures.area c.requires.same c.loop-axis.invariant
     (rest_between-from_steps axis rest inner _ _ mid next)
     (pieces-from_steps axis rest inner _ _ _ _ mid more most)
+
+pub without_below-requires-clause-low : goal.without_below-requires-clause-low
+without_below-requires-clause-low c =
+    let least : get_or c.values-least.result.now c.from-at.result 0 ≡ get_or c.args.inner.now.lo c.loop-axis.axis 0 = cc in
+    omega (arith, (c.loop-axis.invariant.inside c.loop-axis.axis (omega (arith, ap length c.lo-2.ensures.value))).0)
+
+pub without_below-requires-clause-high : goal.without_below-requires-clause-high
+without_below-requires-clause-high c =
+    let here : c.loop-axis.axis < length c.args.inner.now.lo = omega (arith, ap length c.lo-2.ensures.value) in
+    let least : get_or c.values-least.result.now c.from-at.result 0 ≡ get_or c.args.inner.now.lo c.loop-axis.axis 0 = cc in
+    omega (arith, (c.loop-axis.invariant.inside c.loop-axis.axis here).1, c.lo.ensures.area.ordered c.loop-axis.axis here)
+
+pub loop-axis-init : goal.loop-axis-init
+loop-axis-init c = peeled_none _ _ _ _ c.copy-rest.ensures.value c.new-pieces.ensures.items c.copy-rest.ensures.area c.requires.inside
+
+pub returns-clause-value : goal.returns-clause-value
+returns-clause-value c = peeled_all _ _ _ _ _ (omega (arith, ap length c.lo-2.ensures.value)) c.loop-axis.invariant

@@ -1,0 +1,26 @@
+-- What sources and sinks in memory count, move and keep.
+use Rattle.std.proofs.Common.{◌≡◌, ℕ, ◌+◌, ◌-◌, ◌^◌, List, [], length, take, drop, Some, inl, inr, refl, sym, ap, subst, ◌∙◌, arith}
+use Rattle.std.proofs.lemmas.Bool.{cases_lt}
+use Rattle.std.proofs.lemmas.List.{append-nil, drop-drop, take_rest}
+use Rattle.hb_outside.specs.Memory.{next_count}
+use Rattle.hb_outside.specs.Streams.{Rose, TakesFront, Takes, AppendsFront}
+
+-- a count that went on rose
+pub Rose-next_count : (before after : ℕ) → after ≡ next_count before → Rose before after
+Rose-next_count before after e = elim (cases_lt before (2 ^ 64 - 1)) [
+  | inl less ↦ inl (omega (arith, less))
+  | inr last ↦ inr (omega (arith, last))
+]
+
+-- what is moved from the bytes from a place on is moved from what is left of them
+pub Takes-from_place : (bytes held left into : List ℕ) (at n : ℕ) → held ≡ bytes → drop at bytes ≡ left
+    → TakesFront (take (length held - at) (drop at held)) (drop n (take (length held - at) (drop at held))) into n
+    → Takes (Some left) (Some (drop (at + n) bytes)) into n
+Takes-from_place bytes held left into at n same e h =
+    let rest : take (length held - at) (drop at held) ≡ left = take_rest held at ∙ ap (drop at) same ∙ e in
+    let moved : TakesFront left (drop n left) into n = subst (λ (l : List ℕ). TakesFront l (drop n l) into n) rest h in
+    (drop (at + n) bytes, refl, subst (λ (l : List ℕ). TakesFront left l into n) (ap (drop n) (sym e) ∙ drop-drop n at bytes) moved)
+
+-- nothing was put
+pub AppendsFront-none : (before after piece : List ℕ) → after ≡ before → AppendsFront (Some before) (Some after) piece
+AppendsFront-none before after piece e = ([], (piece, refl), ap (λ (l : List ℕ). Some l) (e ∙ sym (append-nil before)))
