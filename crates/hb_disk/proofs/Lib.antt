@@ -2,4 +2,5 @@ pub mod Gate
 pub mod InOrder
 pub mod Histories
 pub mod MemDisks
+pub mod Overwriting
 pub mod Picked

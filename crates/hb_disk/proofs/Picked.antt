@@ -172,5 +172,13 @@ noise_step byte bytes now rest earlier e at n image is range fits filled noise =
     subst (λ (es : List Event). IsNoise byte bytes es image) (sym (last_first rest earlier e is))
     (noise_more byte bytes e (reverse earlier) at n image range fits (subst (λ (l : List ℕ). IsNoise byte l (reverse earlier) image) filled noise))
 
+-- where no event is left, and where the last one is a sync, no place is open
+pub noise_end : (byte : ℕ) (bytes : List ℕ) (rest : List Event) → length rest ≡ 0 → IsNoise byte bytes (reverse rest) bytes
+noise_end byte bytes [] none = noise_none byte bytes
+noise_end byte bytes (e ∷ es) none = absurd (omega arith)
+
+pub noise_stop : (byte : ℕ) (bytes : List ℕ) (rest earlier : List Event) (e : Event) → rest ≡ earlier ++ e ∷ [] → range_of e.change ≡ None → IsNoise byte bytes (reverse rest) bytes
+noise_stop byte bytes rest earlier e is closed = subst (λ (es : List Event). IsNoise byte bytes es bytes) (sym (last_first rest earlier e is)) (noise_synced byte bytes e (reverse earlier) closed)
+
 pub reach_range : (size : ℕ) (e : Event) (at n : ℕ) → range_of e.change ≡ Some (at, n) → LiesWithin e.change size → at + n ≤ size
 reach_range size e at n is reach = at_value (range_of e.change) (λ range. range.0 + range.1 ≤ size) (at, n) is reach

@@ -1,8 +1,10 @@
 -- An area that was zeroed and synced has the log without a frame.
-use Rattle.std.proofs.Common.{◌≡◌, ◌+◌, ◌-◌, ◌≤◌, ℕ, List, [], Option, Some, None, Result, Ok, length, replicate, take, drop, refl, sym, ap, ◌∙◌, arith}
+use Rattle.std.proofs.Common.{◌≡◌, ◌+◌, ◌-◌, ◌≤◌, ℕ, List, [], Option, Some, None, Result, Ok, length, replicate, take, drop, refl, sym, ap, ◌∙◌, subst, arith}
 use Rattle.std.proofs.lemmas.List.{length-replicate}
 use Rattle.hb_disk.specs.Model.{DiskModel, IsDisk, Torn, overwritten}
-use Rattle.hb_disk.specs.Calls.{Becomes, Syncs, Ticks, Writes}
+use Rattle.hb_disk.specs.Calls.{Becomes, Leaves, Syncs, Ticks, Writes}
+use Rattle.hb_disk.specs.TornLaws.{Torn-itself}
+use Rattle.hb_disk.specs.RunLaws.{Leaves-start, Leaves-call}
 use Rattle.hb_disk.specs.SyncedLaws.{IsSynced-sync}
 use Rattle.hb_disk.specs.ValueLaws.{if_value, some_same}
 use Rattle.hb_disk.specs.BecomesLaws.{Becomes-torn, Becomes-torn_sync, Becomes-torn_write, told_written}
@@ -36,11 +38,27 @@ module _ (old mid new : DiskModel) (area len : ℕ) (is_old : IsDisk old) (insid
     reads = if_value new.told (λ b. range area len b ≡ replicate (len - 0) 0) (λ b told. zeros_told old.told refl b told);
   }
 
--- zeroed and then synced, also in part: the area alone was touched
-pub torn_area : {T E F G : Type 0} (zeroed : Result T E) (synced : Result F G) (old mid new : DiskModel) (area len : ℕ) → IsDisk old → IsDisk mid → area + len ≤ old.size
-    → Writes area (replicate len 0) zeroed old mid → Ticks zeroed old mid → Syncs synced mid new → Ticks synced mid new → Becomes (Torn area len) old new
-torn_area zeroed synced old mid new area len is_old is_mid inside writes ticks syncs sync_ticks =
-    let zeros : length {A = ℕ} (replicate len 0) ≡ len = length-replicate len 0 in
-    Becomes-torn area len old mid new
-    (Becomes-torn_write zeroed area (replicate len 0) area len old mid is_old is_mid (omega (arith, zeros, inside)) (omega arith) (omega (arith, zeros)) writes ticks)
-    (Becomes-torn_sync synced area len mid new is_mid syncs sync_ticks)
+-- what two calls, the zeroing and the sync, touched and left
+module _ (old mid : DiskModel) (area len : ℕ) (is_old : IsDisk old) {T E : Type 0} (zeroed : Result T E) (writes : Writes area (replicate len 0) zeroed old mid) (ticks : Ticks zeroed old mid) where
+  -- an image of before, torn in the area
+  abbrev pub InArea : List ℕ → Type 0
+  InArea c = (b : List ℕ) × old.Image b × Torn area len b c
+
+  zeros : length {A = ℕ} (replicate len 0) ≡ len
+  zeros = length-replicate len 0
+
+  torn_image : (c : List ℕ) → mid.Image c → InArea c
+  torn_image c image = let from = writes.crash c image in (from.0, from.1, subst (λ (n : ℕ). Torn area n from.0 c) zeros from.2)
+
+  pub zero_moments : Leaves old mid InArea
+  zero_moments = Leaves-call zeroed old old mid InArea (Leaves-start old InArea is_old (λ c image. (c, image, Torn-itself area len c (is_old.bytes c image)))) ticks torn_image
+
+  pub zero_place : IsDisk mid → area + len ≤ old.size → Becomes (Torn area len) old mid
+  zero_place is_mid inside = Becomes-torn_write zeroed area (replicate len 0) area len old mid is_old is_mid (omega (arith, zeros, inside)) (omega arith) (omega (arith, zeros)) writes ticks
+
+  module _ {F G : Type 0} (synced : Result F G) (new : DiskModel) (syncs : Syncs synced mid new) (sync_ticks : Ticks synced mid new) where
+    pub sync_moments : Leaves old new InArea
+    sync_moments = Leaves-call synced old mid new InArea zero_moments sync_ticks (λ c image. torn_image c (syncs.crash c image))
+
+    pub sync_place : IsDisk mid → area + len ≤ old.size → Becomes (Torn area len) old new
+    sync_place is_mid inside = Becomes-torn area len old mid new (zero_place is_mid inside) (Becomes-torn_sync synced area len mid new is_mid syncs sync_ticks)

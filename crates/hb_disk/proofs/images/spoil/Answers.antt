@@ -1,6 +1,6 @@
 use Rattle.std.proofs.Common.{sym, subst, length, reverse}
 use Rattle.hb_disk.specs.Events.{AllLieWithin}
-use Rattle.hb_disk.proofs.Picked.{reach_of, reach_range, noise_step}
+use Rattle.hb_disk.proofs.Picked.{reach_of, reach_range, noise_step, noise_end, noise_stop}
 use Rattle.hb_disk.proofs.images.spoil.Goals as goal
 
 pub fill_at-requires : goal.fill_at-requires
@@ -21,3 +21,11 @@ loop-event-preserved c =
           (noise_step c.args.byte loop.bytes c.fill_at.new.bytes loop.rest.now earlier event c.in-Some-range.at c.in-Some-range.len image c.in-Some.ensures.cases.0 (sym c.in-Some-range.ensures) fits c.fill_at.ensures noise);
       reach = subst (λ n. AllLieWithin n (reverse earlier)) (sym c.fill_at.auto.bytes) reach.1;
     }
+
+pub returns-in_default : goal.returns-in_default
+returns-in_default c = c.loop-event.invariant.goes_on c.loop-event.bytes (noise_end c.args.byte c.loop-event.bytes c.loop-event.rest.now c.in_default.ensures.cases)
+
+pub returns-in_default-range : goal.returns-in_default-range
+returns-in_default-range c =
+    c.loop-event.invariant.goes_on c.loop-event.bytes
+    (noise_stop c.args.byte c.loop-event.bytes c.loop-event.rest.now c.in-Some.earlier.now c.in-Some.event.now c.in-Some.ensures.cases.0 (sym c.in_default-range.ensures))
