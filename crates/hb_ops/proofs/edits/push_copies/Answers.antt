@@ -1,5 +1,5 @@
 use Rattle.std.proofs.Common.{◌≡◌, ℕ, ◌+◌, ◌<◌, List, [], ◌∷◌, ◌++◌, length, get_or, take, sym, ap, ◌∙◌, append_assoc}
-use Rattle.std.proofs.lemmas.List.{take_more}
+use Rattle.std.proofs.lemmas.List.{take_all, take_more}
 use Rattle.hb_space.specs.declared.records.Record.{Record}
 use Rattle.hb_ops.proofs.edits.push_copies.Goals as goal
 
@@ -14,3 +14,6 @@ pub loop-record-preserved : goal.loop-record-preserved
 loop-record-preserved c =
     one_more c.loop-record.made.items _ c.args.made.now.items c.args.records.now c.loop-record.record-index c.copy.result c.record-item.result
     c.in_ok-push.ensures.items c.copy.ensures c.record-item.is c.loop-record-test.true c.loop-record.invariant
+
+pub returns : goal.returns
+returns c = c.loop-record.invariant ∙ ap (λ (l : List Record). c.args.made.now.items ++ l) (take_all _ _ c.loop-record-test.false)
