@@ -1,6 +1,6 @@
 -- What a change answers, by cases of the operation and of what it is given.
-use Rattle.std.proofs.Common.{◌≡◌, ℕ, List, [], ◌∷◌, Option, None, Ok, Err, sym, ap, subst, ◌∙◌}
-use Rattle.std.specs.Result.{IfOk, IsErrOf}
+use Rattle.std.proofs.Common.{◌≡◌, ℕ, List, [], ◌∷◌, Option, None, Ok, Err, refl, sym, ap, subst, ◌∙◌}
+use Rattle.std.specs.Result.{IfOk, IfErr, IsErrOf}
 use Rattle.std.specs.declared.result.Result.TheVariants.{the_data as Result}
 use denote.Bor.{Bor}
 use Rattle.hb_frag.specs.declared.pages.LivePage.{LivePage}
@@ -49,3 +49,19 @@ one_done op meta first second third id made made' changed allowed does e m p = r
   unfit = λ e. absurd (cc);
   memory = λ e. absurd (cc);
 }
+
+-- where one page changes if it was made
+pub one_tried : (op : Op) (meta : Meta) (first second third : Option LivePage) (id : ℕ) (made : Result LivePage ChangeError) (made' : LivePage) (result : Result Changed ChangeError)
+    → record { meta = meta; pages = (id, Live made') ∷ [] } ≡ change_of op meta first second third
+    → IfOk made (λ _. IsAllowedOn op meta first second third) → IfOk made (λ page. page ≡ made')
+    → (IsErrOf made Unfit → ¬ (IsAllowedOn op meta first second third)) → (IsErrOf made NoMemory → IsAllowedOn op meta first second third)
+    → IfOk result (λ (c : Changed). (page : LivePage) × (made ≡ Ok page) × (c.meta ≡ meta) × (c.pages.items ≡ (id, Live page) ∷ [])) → IfErr result (λ e. made ≡ Err e)
+    → Does result op meta first second third
+one_tried op meta first second third id made made' (Ok changed) does allowed effect unfit memory is error =
+    let A : Result LivePage ChangeError → Type 0 = λ r. IfOk r (λ _. IsAllowedOn op meta first second third) in
+    let E : Result LivePage ChangeError → Type 0 = λ r. IfOk r (λ page. page ≡ made') in
+    one_done op meta first second third id is.0 made' changed (subst A is.1 allowed) does (subst E is.1 effect) is.2 is.3
+one_tried op meta first second third id made made' (Err e) does allowed effect unfit memory is error =
+    let U : Result LivePage ChangeError → Type 0 = λ r. IsErrOf r Unfit → ¬ (IsAllowedOn op meta first second third) in
+    let M : Result LivePage ChangeError → Type 0 = λ r. IsErrOf r NoMemory → IsAllowedOn op meta first second third in
+    failed (Err e) e op meta first second third refl (subst U error unfit) (subst M error memory)

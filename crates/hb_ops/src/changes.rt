@@ -1,8 +1,9 @@
-ghost use Rattle.std.specs.Prelude.{◌≡◌, ◌<◌, ◌≤◌, ◌^◌, [], ◌∷◌, None, IfSome, IfOk, IsErrOf};
+ghost use Rattle.std.specs.Prelude.{◌≡◌, ◌<◌, ◌≤◌, ◌^◌, [], ◌∷◌, None, Ok, Err, IfSome, IfOk, IfErr, IsErrOf};
 ghost use Rattle.hb_frag.specs.Leaves.{weight_of};
 ghost use Rattle.hb_ops.specs.Allocating.{Allocates, allocated};
 ghost use Rattle.hb_ops.specs.Growing.{FitsGrow};
 ghost use Rattle.hb_ops.specs.declared.operations.Op.TheVariants as kinds;
+ghost use Rattle.hb_frag.specs.declared.pages.LivePage.{LivePage as Made};
 ghost use Rattle.hb_frag.specs.declared.pages.Page.TheVariants.{Live};
 ghost use Rattle.hb_ops.specs.Operations.{IsAllowedOn, change_of, OpHas};
 ghost use Rattle.hb_ops.specs.Given.{given};
@@ -61,11 +62,11 @@ pub fn change(
     match op {
         Op::Put { page: id, rec } => match first {
             None => Err(ChangeError::Unfit),
-            Some(page) => Ok(one_changed(meta, *id, put(alloc, page, meta, rec)?)),
+            Some(page) => one_made(meta, *id, put(alloc, page, meta, rec)),
         },
         Op::Del { page: id, point } => match first {
             None => Err(ChangeError::Unfit),
-            Some(page) => Ok(one_changed(meta, *id, delete(alloc, page, meta, point)?)),
+            Some(page) => one_made(meta, *id, delete(alloc, page, meta, point)),
         },
         Op::Extract {
             source,
@@ -87,11 +88,7 @@ pub fn change(
             area,
         } => match first {
             None => Err(ChangeError::Unfit),
-            Some(page) => Ok(one_changed(
-                meta,
-                *parent,
-                post(alloc, page, meta, at, *inner, area)?,
-            )),
+            Some(page) => one_made(meta, *parent, post(alloc, page, meta, at, *inner, area)),
         },
         Op::Grow { fresh, free_after } => grown(meta, *fresh, *free_after),
     }
@@ -132,6 +129,18 @@ fn grown(meta: &Meta, fresh: u32, free_after: u32) -> Result<Changed, ChangeErro
     }
     let said = allocated(meta, fresh, free_after);
     Ok(one_changed(&raised(&said, fresh), fresh, new_root(meta)))
+}
+
+// One page that changes, where it was made.
+fn one_made(
+    meta: &Meta,
+    id: u32,
+    made: Result<LivePage, ChangeError>,
+) -> Result<Changed, ChangeError>
+    ensures made { IfOk result (λ c. (page : Made) × (made ≡ Ok page) × (c.meta ≡ meta.now) × (c.pages.items ≡ (id, Live page) ∷ [])) }
+    ensures error { IfErr result (λ e. made ≡ Err e) }
+{
+    Ok(one_changed(meta, id, made?))
 }
 
 // One page that changes, in a file that says this of itself then.

@@ -238,7 +238,7 @@ fn split(
 }
 
 // A part that is cut: what stays, with a sibling leaf where the cuts lead, and what they reach.
-#[derive(Debug, Drop)]
+#[derive(Drop)]
 struct Parted {
     opened: Frag,
     reached: Frag,
@@ -277,7 +277,7 @@ fn records_in(alloc: Global, part: Frag) -> Records
 }
 
 // The two sides of a cut, each as a leaf.
-#[derive(Debug, Drop)]
+#[derive(Drop)]
 struct Sides {
     going: Frag,
     staying: Frag,

@@ -101,7 +101,6 @@ fn child_name(frag: &Frag) -> Option<u32>
 }
 
 // Whether the page `inner` may be named at the child leaf of this box that names `outer`.
-#[tactic(auto, using(crate::proofs::PostTests::leaf_attributes, crate::proofs::PostTests::with_room, crate::proofs::PostTests::not_itself, crate::proofs::PostTests::not_apart))]
 fn may_name(
     page: &LivePage,
     meta: &Meta,

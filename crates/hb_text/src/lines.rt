@@ -53,7 +53,7 @@ fn has_empty_word(line: &[u8]) -> bool
 }
 
 /// What a line says.
-#[derive(Debug, Drop)]
+#[derive(Drop)]
 pub(crate) enum Meaning {
     /// The line is empty.
     Nothing,

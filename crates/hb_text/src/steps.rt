@@ -20,7 +20,7 @@ const FLUSHER: Actor = 19;
 pub(crate) const STEPS: usize = 10_000_000;
 
 /// Steps of one actor, one after the other.
-#[derive(Clone, Copy, Debug, PartialEq, Eq)]
+#[derive(Clone, Copy)]
 struct Turns {
     actor: Actor,
     count: usize,
@@ -60,7 +60,6 @@ fn first_x(word: &[u8]) -> Option<usize>
 }
 
 /// What stands before the first `x` of a word, and behind it. `None` where the word has none.
-#[tactic(auto, using(crate::proofs::StepWords::steps_at_x, crate::proofs::StepWords::steps_without_x))]
 fn cut_at_x(word: &[u8]) -> Option<(&[u8], &[u8])>
     ensures { MatchOption result
         (word_steps word.now ≡ repeated (actor_of word.now) (Some 1))
