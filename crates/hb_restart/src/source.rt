@@ -131,12 +131,6 @@ impl<D: Device> Pages for FilePages<D> {
         if id == 0 || id > self.said.pages {
             return Ok(None);
         }
-        page_in_place(
-            self.alloc,
-            &mut self.disk,
-            &self.said,
-            id,
-            &mut self.buffer,
-        )
+        page_in_place(self.alloc, &mut self.disk, &self.said, id, &mut self.buffer)
     }
 }
