@@ -1,4 +1,4 @@
-use Rattle.std.proofs.Common.{ℕ, ◌+◌, inr}
+use Rattle.std.proofs.Common.{◌+◌, inr}
 use Rattle.hb_disk.specs.BecomesLaws.{Becomes-torn}
 use Rattle.hb_disk.specs.SyncedLaws.{IsSynced-durable}
 use Rattle.hb_disk.specs.ValueLaws.{if_value, at_value}
