@@ -8,6 +8,7 @@ use Rattle.hb_super.proofs.body.body_of.Goals as goal
 abbrev put : ℕ → ℕ → ℕ → List ℕ → List ℕ
 put width at n bytes = take at bytes ++ big_endian width n ++ drop (at + width) bytes
 
+-- and so over bytes that are known
 put_known : (at n : ℕ) (bytes known : List ℕ) → bytes ≡ known → put 4 at n bytes ≡ put 4 at n known
 put_known at n bytes known is = ap (put 4 at n) is
 
