@@ -1,22 +1,22 @@
 -- What the clearing of a hidden body leaves.
-use Rattle.std.proofs.Common.{◌≡◌, ◌≢◌, ◌⊎◌, inl, inr, ℕ, ◌+◌, ◌*◌, ◌%◌, ◌≤◌, List, length, take, drop, get_or, replicate, Option, Some, None, IfSome, Result, Ok, Bool, true, false, sym, ap, ◌∙◌, subst, refl, arith}
+use Rattle.std.proofs.Common.{◌≡◌, ◌≢◌, ◌⊎◌, inl, inr, ℕ, ◌+◌, ◌*◌, ◌%◌, ◌≤◌, List, length, take, drop, get_or, replicate, Option, Some, None, IsSome, IfSome, Result, Ok, OnOk, Bool, true, false, sym, ap, ◌∙◌, subst, refl, arith}
 use Rattle.hb_space.specs.declared.form.TheConstants.{PAGE}
 use Rattle.hb_disk.specs.Model.{DiskModel, IsDisk, overwritten, Torn}
-use Rattle.hb_disk.specs.Calls.{Writes, Leaves, Becomes, IsSynced, Apart, OnlyReads, open_gate}
+use Rattle.hb_disk.specs.Calls.{Writes, Syncs, Ticks, Leaves, Becomes, IsSynced, Apart, OnlyReads, open_gate}
 use Rattle.hb_disk.specs.TornLaws.{Torn-same, Torn-itself, Torn-elsewhere}
 use Rattle.hb_disk.specs.OverwrittenLaws.{overwritten-reads}
-use Rattle.hb_disk.specs.RunLaws.{Leaves-start, Leaves-read, Leaves-then, Leaves-weaker}
-use Rattle.hb_disk.specs.ValueLaws.{some_same, at_value, of_value, if_value}
-use Rattle.hb_disk.specs.BecomesLaws.{told_written}
+use Rattle.hb_disk.specs.RunLaws.{one_tick, Leaves-start, Leaves-call, Leaves-read, Leaves-then, Leaves-weaker}
+use Rattle.hb_disk.specs.ValueLaws.{some_same, some_value, at_value, of_value, if_value}
+use Rattle.hb_disk.specs.BecomesLaws.{told_written, Becomes-read, Becomes-write, Becomes-torn, Becomes-torn_sync}
 use Rattle.hb_disk.specs.SyncedLaws.{part_of}
 use Rattle.hb_layout.specs.declared.meta.Meta.{Meta}
 use Rattle.hb_layout.specs.Offsets.{slot_offset}
 use Rattle.hb_super.specs.Superblocks.{IsLegal, IsNewest, body_bytes, next_turn}
 use Rattle.hb_super.specs.Moments.{HidesNoOther}
 use Rattle.hb_super.specs.Hidden.{DifferIs, OtherIs, HidesIs, ClearLeaves}
-use Rattle.hb_super.proofs.Supers.{gate_at, same_place, other_parity}
+use Rattle.hb_super.proofs.Supers.{gate_at, body_at, same_place, other_parity}
 use Rattle.hb_super.proofs.Bodies.{one_body}
-use Rattle.hb_super.proofs.Writes.{place_fits, places_apart, next_apart}
+use Rattle.hb_super.proofs.Writes.{place_fits, places_apart, next_apart, still_tells}
 
 -- whether it is another body, where it says this
 pub other_from : (differs : Bool) (turn : ℕ) (said meta : Meta) (gate : ℕ) (body : List ℕ) → DifferIs differs said meta → gate ≢ open_gate → IsLegal turn said → body ≡ body_bytes turn said
@@ -44,6 +44,38 @@ zeroed_hides r v d one is_disk room turn ok writes e told meta = by_cases d.told
         let written : one.told ≡ Some zeroed = told_written r v (slot_offset turn + 1) (replicate 40 0) d one b ok was writes in
         subst (λ (l : List ℕ). HidesNoOther l turn meta) (some_same zeroed e (sym written ∙ told))
         (zeros_none b turn meta (omega (arith, is_disk.long b (is_disk.as_read b was), room)))
+
+-- what the zeroing of a body, and the sync after it, touched and left
+module _ (d one : DiskModel) (is_disk : IsDisk d) (is_one : IsDisk one) (room : 8192 ≤ d.size) (turn : ℕ) {T E : Type 0} (zeroed : Result T E)
+    (writes : Writes (slot_offset turn + 1) (replicate 40 0) zeroed d one) (ticks : Ticks zeroed d one) where
+  -- an image of before, torn in the body
+  abbrev pub InBody : List ℕ → Type 0
+  InBody c = (a : List ℕ) × d.Image a × Torn (slot_offset turn + 1) 40 a c
+
+  pub zero_moments : Leaves d one InBody
+  zero_moments = Leaves-call zeroed d d one InBody (Leaves-start d InBody is_disk (λ c image. (c, image, Torn-itself (slot_offset turn + 1) 40 c (is_disk.bytes c image)))) ticks writes.crash
+
+  pub zero_place : Becomes (Torn (slot_offset turn + 1) 40) d one
+  zero_place = Becomes-write zeroed (slot_offset turn + 1) (replicate 40 0) d one is_disk is_one (omega (arith, place_fits turn, room)) writes ticks
+
+  pub zero_clock : IsSome d.told → one.clock ≤ d.clock + 2
+  zero_clock tells = omega (arith, one_tick zeroed d one is_disk ticks tells)
+
+  module _ {F G : Type 0} (synced : Result F G) (new : DiskModel) (syncs : Syncs synced one new) (sync_ticks : Ticks synced one new) where
+    pub sync_moments : Leaves d new InBody
+    sync_moments = Leaves-call synced d one new InBody zero_moments sync_ticks (λ c image. writes.crash c (syncs.crash c image))
+
+    pub sync_place : Becomes (Torn (slot_offset turn + 1) 40) d new
+    sync_place = Becomes-torn (slot_offset turn + 1) 40 d one new zero_place (Becomes-torn_sync synced (slot_offset turn + 1) 40 one new is_one syncs sync_ticks)
+
+    pub sync_durable : OnOk synced (IfSome new.told (λ b. (c : List ℕ) → new.Image c → c ≡ b))
+    sync_durable = subst (λ (o : Option (List ℕ)). OnOk synced (IfSome o (λ b. (c : List ℕ) → new.Image c → c ≡ b))) (sym syncs.same) syncs.durable
+
+    pub sync_clock : IsSome d.told → new.clock ≤ d.clock + 2
+    sync_clock tells =
+        let b = some_value d.told tells in
+        let first = one_tick zeroed d one is_disk ticks tells in
+        omega (arith, first, one_tick synced one new is_one sync_ticks (still_tells (slot_offset turn + 1) 40 d one b.0 b.1 zero_place))
 
 -- the same place of lists that have the same in the first two pages
 place_part : (xs ys : List ℕ) → take 8192 (drop 0 xs) ≡ take 8192 (drop 0 ys) → (turn : ℕ) → take 41 (drop (slot_offset turn) xs) ≡ take 41 (drop (slot_offset turn) ys)
@@ -101,6 +133,31 @@ module _ (d one : DiskModel) (is_disk : IsDisk d) (reads : OnlyReads d one) (old
         elsewhere = from.2;
         newest = newest_torn from.0 old said (image_newest from.0 image) turn next c (λ is_open. closed (sym (gate_part from.0 b (synced.each b from.0 told image) turn) ∙ is_open)) from.2;
       }) run)
+
+-- what reads alone keep
+module _ (d one : DiskModel) (is_disk : IsDisk d) (reads : OnlyReads d one) (turn : ℕ) where
+  pub reads_place : Becomes (Torn (slot_offset turn + 1) 40) d one
+  reads_place = Becomes-read (Torn (slot_offset turn + 1) 40) d one is_disk (Torn-itself (slot_offset turn + 1) 40) reads.stays
+
+  pub reads_nothing : (meta : Meta) → IfSome d.told (λ b. HidesNoOther b turn meta → OnlyReads d one)
+  reads_nothing meta = if_value d.told (λ b. HidesNoOther b turn meta → OnlyReads d one) (λ _ _ _. reads)
+
+  pub reads_closed : IfSome d.told (λ b. (get_or b (slot_offset turn) 0 ≢ open_gate) ⊎ OnlyReads d one)
+  reads_closed = if_value d.told (λ b. (get_or b (slot_offset turn) 0 ≢ open_gate) ⊎ OnlyReads d one) (λ _ _. inr reads)
+
+  pub reads_newest : (old : ℕ) (said : Meta) → IfSome d.told (λ b. IsNewest b old said → IfSome one.told (λ c. IsNewest c old said))
+  reads_newest old said = if_value d.told (λ b. IsNewest b old said → IfSome one.told (λ c. IsNewest c old said)) (λ b told newest.
+      of_value one.told (λ c. IsNewest c old said) b (reads.stays.told ∙ told) newest)
+
+  pub reads_hidden : (meta : Meta) (hides : Bool) → hides ≡ false → IfSome d.told (λ b. HidesIs hides b turn meta) → IfSome one.told (λ b. HidesNoOther b turn meta)
+  reads_hidden meta hides none is = if_value one.told (λ b. HidesNoOther b turn meta) (λ b told.
+      subst (λ (h : Bool). HidesIs h b turn meta) none (at_value d.told (λ b. HidesIs hides b turn meta) b (sym reads.stays.told ∙ told) is))
+
+-- what a place hides is what the bytes that were read of it do
+pub hides_read : (hides : Bool) (turn : ℕ) (meta : Meta) (b into : List ℕ) → into ≡ take 41 (drop (slot_offset turn) b) → OtherIs hides turn meta (get_or into 0 0) (drop 1 into) → HidesIs hides b turn meta
+hides_read hides turn meta b into read is =
+    subst (λ (gate : ℕ). OtherIs hides turn meta gate (take 40 (drop (slot_offset turn + 1) b))) (ap (λ (l : List ℕ). get_or l 0 0) read ∙ gate_at b (slot_offset turn))
+    (subst (λ (body : List ℕ). OtherIs hides turn meta (get_or into 0 0) body) (ap (λ (l : List ℕ). drop 1 l) read ∙ body_at b (slot_offset turn)) is)
 
 -- where nothing was found
 pub read_moments : (d one : DiskModel) → IsDisk d → OnlyReads d one → (turn old : ℕ) (said : Meta) → turn ≡ next_turn old → IsSynced d 0 8192

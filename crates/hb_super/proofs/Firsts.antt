@@ -1,5 +1,5 @@
 -- The superblock of a new file.
-use Rattle.std.proofs.Common.{◌≡◌, ◌≢◌, inr, ℕ, ◌≤◌, List, ◌∷◌, length, get_or, sym, ap, ◌∙◌, arith}
+use Rattle.std.proofs.Common.{◌≡◌, ◌≢◌, inr, ℕ, ◌≤◌, List, ◌∷◌, length, get_or, sym, ap, ◌∙◌, subst, arith}
 use Rattle.hb_disk.specs.Model.{overwritten}
 use Rattle.hb_disk.specs.Calls.{open_gate}
 use Rattle.hb_disk.specs.OverwrittenLaws.{overwritten-outside}
@@ -20,3 +20,7 @@ first_newest b meta legal long closed =
     alone c 0 meta (framed_super b 0 meta legal long) (λ s n has differs.
     let here : slot_offset s ≡ 4096 = omega (arith, differs) in
     closed (sym kept ∙ ap (λ (at : ℕ). get_or c at 0) (sym here) ∙ has.gate))
+
+-- what is said of the place and the body that were given holds of these two
+pub of_first : (P : ℕ → List ℕ → Type 0) (meta : Meta) (at : ℕ) (body : List ℕ) → at ≡ 0 → body ≡ body_bytes 0 meta → P at body → P 0 (body_bytes 0 meta)
+of_first P meta at body at_is body_is h = subst (λ (n : ℕ). P n (body_bytes 0 meta)) at_is (subst (λ (l : List ℕ). P at l) body_is h)

@@ -8,7 +8,7 @@ use Rattle.hb_disk.specs.Model.{DiskModel, IsDisk, overwritten, Torn}
 use Rattle.hb_disk.specs.Calls.{Ticks, Writes, Syncs, Leaves, Becomes, IsSynced, FrameOrNot, Apart, open_gate}
 use Rattle.hb_disk.specs.TornLaws.{cases_range, Torn-itself, Torn-wider, Torn-twice, Torn-elsewhere}
 use Rattle.hb_disk.specs.OverwrittenLaws.{length-overwritten, overwritten-inside, overwritten-outside, overwritten-reads}
-use Rattle.hb_disk.specs.RunLaws.{Leaves-start, Leaves-call, Leaves-weaker, Leaves-then}
+use Rattle.hb_disk.specs.RunLaws.{one_tick, Leaves-start, Leaves-call, Leaves-weaker, Leaves-then}
 use Rattle.hb_disk.specs.ValueLaws.{some_same, some_value, at_value, has_value}
 use Rattle.hb_disk.specs.BecomesLaws.{told_written, Becomes-torn, Becomes-torn_write, Becomes-torn_sync}
 use Rattle.hb_disk.specs.SyncedLaws.{only_told, part_of}
@@ -247,9 +247,24 @@ module _ (d : DiskModel) (is_disk : IsDisk d) (room : 8192 ≤ d.size) (turn : �
     pub place_one : Becomes (Torn place 41) d one
     place_one = Becomes-torn_write first place (0 ∷ []) place 41 d one is_disk is_one (omega (arith, room, place_fits turn)) (omega arith) (omega arith) gate_written gate_ticks
 
+    pub clock_one : IsSome d.told → one.clock ≤ d.clock + 6
+    clock_one tells = omega (arith, one_tick first d one is_disk gate_ticks tells)
+
     module _ (second : Result T E) (two : DiskModel) (gate_synced : Syncs second one two) (sync_ticks : Ticks second one two) where
       pub place_two : Becomes (Torn place 41) d two
       place_two = Becomes-torn place 41 d one two place_one (Becomes-torn_sync second place 41 one two is_one gate_synced sync_ticks)
+
+      tells_one : IsSome d.told → IsSome one.told
+      tells_one tells = let b = some_value d.told tells in still_tells place 41 d one b.0 b.1 place_one
+
+      pub clock_two : IsSome d.told → two.clock ≤ d.clock + 6
+      clock_two tells = omega (arith, one_tick first d one is_disk gate_ticks tells, one_tick second one two is_one sync_ticks (tells_one tells))
+
+      pub clock_behind : (new : DiskModel) → (IsSome two.told → new.clock ≤ two.clock + 4) → IsSome d.told → new.clock ≤ d.clock + 6
+      clock_behind new run tells =
+          let b = some_value d.told tells in
+          let last = run (still_tells place 41 d two b.0 b.1 place_two) in
+          omega (arith, one_tick first d one is_disk gate_ticks tells, one_tick second one two is_one sync_ticks (tells_one tells), last)
 
       pub place_all : (new : DiskModel) → Becomes (Torn place (1 + length body)) two new → Becomes (Torn place 41) d new
       place_all new run = Becomes-torn place 41 d two new place_two (subst (λ (n : ℕ). Becomes (Torn place n) two new) (one_more turn meta) run)

@@ -1,26 +1,70 @@
-use Rattle.std.proofs.Common.{ℕ, ◌+◌, ◌≤◌, List, IfSome, replicate, sym, ◌∙◌, subst, arith}
+use Rattle.std.proofs.Common.{ℕ, ◌+◌, List, IfSome, replicate, sym, ◌∙◌, subst}
 use Rattle.hb_disk.specs.Calls.{Writes}
 use Rattle.hb_disk.specs.ValueLaws.{if_value, on_ok}
-use Rattle.hb_disk.specs.BecomesLaws.{Becomes-torn, Becomes-torn_write, Becomes-torn_sync}
 use Rattle.hb_layout.specs.declared.meta.Meta.{Meta}
-use Rattle.hb_layout.specs.Offsets.{slot_offset}
 use Rattle.hb_super.specs.Moments.{HidesNoOther}
-use Rattle.hb_super.proofs.Writes.{place_fits}
-use Rattle.hb_super.proofs.Clears.{zeroed_hides}
+use Rattle.hb_super.proofs.Clears.{zero_moments, zero_place, zero_clock, sync_moments, sync_place, sync_durable, sync_clock, zeroed_hides}
 use Rattle.hb_super.proofs.hidden.zero_body.Goals as goal
+
+pub returns-in_err-zero-clause-moments : goal.returns-in_err-zero-clause-moments
+returns-in_err-zero-clause-moments g c =
+    let is_disk = g.met.D.Device.is_disk in
+    let d = g.D.Device.model c.args.disk.now in
+    let one = g.D.Device.model c.zero.new.self in
+    let writes = subst (λ (at : ℕ). Writes (at + 1) (replicate 40 0) c.zero.result d one) c.slot_offset.ensures c.zero.ensures.writes in
+    zero_moments d one (is_disk c.args.disk.now) (is_disk c.zero.new.self) c.requires.room c.args.turn c.zero.result writes c.zero.ensures.ticks
+
+pub returns-in_err-zero-clause-place : goal.returns-in_err-zero-clause-place
+returns-in_err-zero-clause-place g c =
+    let is_disk = g.met.D.Device.is_disk in
+    let d = g.D.Device.model c.args.disk.now in
+    let one = g.D.Device.model c.zero.new.self in
+    let writes = subst (λ (at : ℕ). Writes (at + 1) (replicate 40 0) c.zero.result d one) c.slot_offset.ensures c.zero.ensures.writes in
+    zero_place d one (is_disk c.args.disk.now) (is_disk c.zero.new.self) c.requires.room c.args.turn c.zero.result writes c.zero.ensures.ticks
+
+pub returns-in_err-zero-clause-clock : goal.returns-in_err-zero-clause-clock
+returns-in_err-zero-clause-clock g c =
+    let is_disk = g.met.D.Device.is_disk in
+    let d = g.D.Device.model c.args.disk.now in
+    let one = g.D.Device.model c.zero.new.self in
+    let writes = subst (λ (at : ℕ). Writes (at + 1) (replicate 40 0) c.zero.result d one) c.slot_offset.ensures c.zero.ensures.writes in
+    zero_clock d one (is_disk c.args.disk.now) (is_disk c.zero.new.self) c.requires.room c.args.turn c.zero.result writes c.zero.ensures.ticks
+
+pub returns-clause-moments : goal.returns-clause-moments
+returns-clause-moments g c =
+    let is_disk = g.met.D.Device.is_disk in
+    let d = g.D.Device.model c.args.disk.now in
+    let one = g.D.Device.model c.zero.new.self in
+    let writes = subst (λ (at : ℕ). Writes (at + 1) (replicate 40 0) c.zero.result d one) c.slot_offset.ensures c.zero.ensures.writes in
+    sync_moments d one (is_disk c.args.disk.now) (is_disk c.zero.new.self) c.requires.room c.args.turn c.zero.result writes c.zero.ensures.ticks
+    c.sync.result (g.D.Device.model c.sync.new.self) c.sync.ensures.syncs c.sync.ensures.ticks
 
 pub returns-clause-place : goal.returns-clause-place
 returns-clause-place g c =
     let is_disk = g.met.D.Device.is_disk in
-    let model = g.D.Device.model in
-    let at = slot_offset c.args.turn + 1 in
-    let low : slot_offset c.args.turn + 41 ≤ 8192 = place_fits c.args.turn in
-    let inside : 8192 ≤ (model c.args.disk.now).size = c.requires.room in
-    let writes = subst (λ (at : ℕ). Writes (at + 1) (replicate 40 0) c.zero.result (model c.args.disk.now) (model c.zero.new.self)) c.slot_offset.ensures c.zero.ensures.writes in
-    Becomes-torn at 40 (model c.args.disk.now) (model c.zero.new.self) (model c.sync.new.self)
-    (Becomes-torn_write c.zero.result at (replicate 40 0) at 40 (model c.args.disk.now) (model c.zero.new.self)
-    (is_disk c.args.disk.now) (is_disk c.zero.new.self) (omega (arith, low, inside)) (omega arith) (omega arith) writes c.zero.ensures.ticks)
-    (Becomes-torn_sync c.sync.result at 40 (model c.zero.new.self) (model c.sync.new.self) (is_disk c.zero.new.self) c.sync.ensures.syncs c.sync.ensures.ticks)
+    let d = g.D.Device.model c.args.disk.now in
+    let one = g.D.Device.model c.zero.new.self in
+    let writes = subst (λ (at : ℕ). Writes (at + 1) (replicate 40 0) c.zero.result d one) c.slot_offset.ensures c.zero.ensures.writes in
+    sync_place d one (is_disk c.args.disk.now) (is_disk c.zero.new.self) c.requires.room c.args.turn c.zero.result writes c.zero.ensures.ticks
+    c.sync.result (g.D.Device.model c.sync.new.self) c.sync.ensures.syncs c.sync.ensures.ticks
+
+pub returns-clause-durable : goal.returns-clause-durable
+returns-clause-durable g c =
+    let is_disk = g.met.D.Device.is_disk in
+    let d = g.D.Device.model c.args.disk.now in
+    let one = g.D.Device.model c.zero.new.self in
+    let writes = subst (λ (at : ℕ). Writes (at + 1) (replicate 40 0) c.zero.result d one) c.slot_offset.ensures c.zero.ensures.writes in
+    sync_durable d one (is_disk c.args.disk.now) (is_disk c.zero.new.self) c.requires.room c.args.turn c.zero.result writes c.zero.ensures.ticks
+    c.sync.result (g.D.Device.model c.sync.new.self) c.sync.ensures.syncs c.sync.ensures.ticks
+
+pub returns-clause-clock : goal.returns-clause-clock
+returns-clause-clock g c =
+    let is_disk = g.met.D.Device.is_disk in
+    let d = g.D.Device.model c.args.disk.now in
+    let one = g.D.Device.model c.zero.new.self in
+    let writes = subst (λ (at : ℕ). Writes (at + 1) (replicate 40 0) c.zero.result d one) c.slot_offset.ensures c.zero.ensures.writes in
+    sync_clock d one (is_disk c.args.disk.now) (is_disk c.zero.new.self) c.requires.room c.args.turn c.zero.result writes c.zero.ensures.ticks
+    c.sync.result (g.D.Device.model c.sync.new.self) c.sync.ensures.syncs c.sync.ensures.ticks
 
 pub returns-clause-hidden : goal.returns-clause-hidden
 returns-clause-hidden g c =

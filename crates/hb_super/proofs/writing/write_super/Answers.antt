@@ -5,7 +5,7 @@ use Rattle.hb_disk.specs.ValueLaws.{if_value, of_value}
 use Rattle.hb_layout.specs.Offsets.{slot_offset}
 use Rattle.hb_super.specs.Superblocks.{IsNewest, body_bytes}
 use Rattle.hb_super.specs.Moments.{WriteLeaves}
-use Rattle.hb_super.proofs.Writes.{run_one, run_two, run_behind, gate_closed, new_told, place_one, place_two, place_behind, newest_written, still_tells}
+use Rattle.hb_super.proofs.Writes.{run_one, run_two, run_behind, gate_closed, new_told, place_one, place_two, place_behind, clock_one, clock_two, clock_behind, newest_written, still_tells}
 use Rattle.hb_super.proofs.writing.write_super.Goals as goal
 
 pub returns-in_err-write-clause-moments : goal.returns-in_err-write-clause-moments
@@ -124,3 +124,34 @@ returns-clause-newest g c = λ old said next.
     c.sync.result two c.sync.ensures.syncs c.sync.ensures.ticks new _ _ c.slot_offset-place.ensures c.body_of-body.ensures c.write_behind_gate.ensures.place in
     of_value new.told (λ e. IsNewest e c.args.turn c.args.meta.now) (overwritten b (slot_offset c.args.turn) (open_gate ∷ body_bytes c.args.turn c.args.meta.now)) now
     (newest_written d (g.met.D.Device.is_disk c.args.disk.now) c.requires.room c.args.turn c.args.meta.now c.requires.legal old said next b told newest new run now))
+
+pub returns-in_err-write-clause-clock : goal.returns-in_err-write-clause-clock
+returns-in_err-write-clause-clock g c =
+    let d = g.D.Device.model c.args.disk.now in
+    let one = g.D.Device.model c.write.new.self in
+    clock_one d (g.met.D.Device.is_disk c.args.disk.now) c.requires.room c.args.turn c.args.meta.now c.requires.legal
+    c.write.result one (g.met.D.Device.is_disk c.write.new.self) (subst (λ (at : ℕ). Writes at (0 ∷ []) c.write.result d one) c.slot_offset-place.ensures c.write.ensures.writes) c.write.ensures.ticks
+
+pub returns-in_err-sync-clause-clock : goal.returns-in_err-sync-clause-clock
+returns-in_err-sync-clause-clock g c =
+    let d = g.D.Device.model c.args.disk.now in
+    let one = g.D.Device.model c.write.new.self in
+    clock_two d (g.met.D.Device.is_disk c.args.disk.now) c.requires.room c.args.turn c.args.meta.now c.requires.legal
+    c.write.result one (g.met.D.Device.is_disk c.write.new.self) (subst (λ (at : ℕ). Writes at (0 ∷ []) c.write.result d one) c.slot_offset-place.ensures c.write.ensures.writes) c.write.ensures.ticks
+    c.sync.result (g.D.Device.model c.sync.new.self) c.sync.ensures.syncs c.sync.ensures.ticks
+
+pub returns-in_err-write_behind_gate-clause-clock : goal.returns-in_err-write_behind_gate-clause-clock
+returns-in_err-write_behind_gate-clause-clock g c =
+    let d = g.D.Device.model c.args.disk.now in
+    let one = g.D.Device.model c.write.new.self in
+    clock_behind d (g.met.D.Device.is_disk c.args.disk.now) c.requires.room c.args.turn c.args.meta.now c.requires.legal
+    c.write.result one (g.met.D.Device.is_disk c.write.new.self) (subst (λ (at : ℕ). Writes at (0 ∷ []) c.write.result d one) c.slot_offset-place.ensures c.write.ensures.writes) c.write.ensures.ticks
+    c.sync.result (g.D.Device.model c.sync.new.self) c.sync.ensures.syncs c.sync.ensures.ticks (g.D.Device.model c.write_behind_gate.new.disk) c.write_behind_gate.ensures.clock
+
+pub returns-clause-clock : goal.returns-clause-clock
+returns-clause-clock g c =
+    let d = g.D.Device.model c.args.disk.now in
+    let one = g.D.Device.model c.write.new.self in
+    clock_behind d (g.met.D.Device.is_disk c.args.disk.now) c.requires.room c.args.turn c.args.meta.now c.requires.legal
+    c.write.result one (g.met.D.Device.is_disk c.write.new.self) (subst (λ (at : ℕ). Writes at (0 ∷ []) c.write.result d one) c.slot_offset-place.ensures c.write.ensures.writes) c.write.ensures.ticks
+    c.sync.result (g.D.Device.model c.sync.new.self) c.sync.ensures.syncs c.sync.ensures.ticks (g.D.Device.model c.write_behind_gate.new.disk) c.write_behind_gate.ensures.clock
