@@ -85,11 +85,11 @@ fn done<D: Device>(alloc: Global, disk: &mut D, step: Step) -> io::Result<Option
 
 /// Makes each call on both disks, and says which of the first one come to something else.
 fn compare<D: Device>(rt: &HostRuntime, disk: &mut D, beside: &mut MemDisk) -> io::Result<()> {
-    let mut same = 0;
+    let mut same = 0_u32;
     for (number, &step) in STEPS.iter().enumerate() {
         let found = done(rt.alloc(), disk, step)?;
         if found.is_some() && found == done(rt.alloc(), beside, step)? {
-            same += 1;
+            same = same.saturating_add(1);
         } else {
             println!(rt; "call {number} comes to something else")?;
         }
