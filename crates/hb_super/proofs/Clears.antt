@@ -47,7 +47,10 @@ zeroed_hides r v d one is_disk room turn ok writes e told meta = by_cases d.told
 
 -- what the zeroing of a body, and the sync after it, touched and left
 module _ (d one : DiskModel) (is_disk : IsDisk d) (is_one : IsDisk one) (room : 8192 ≤ d.size) (turn : ℕ) {T E : Type 0} (zeroed : Result T E)
-    (writes : Writes (slot_offset turn + 1) (replicate 40 0) zeroed d one) (ticks : Ticks zeroed d one) where
+    (at : ℕ) (is : at ≡ slot_offset turn) (found : Writes (at + 1) (replicate 40 0) zeroed d one) (ticks : Ticks zeroed d one) where
+  writes : Writes (slot_offset turn + 1) (replicate 40 0) zeroed d one
+  writes = subst (λ (place : ℕ). Writes (place + 1) (replicate 40 0) zeroed d one) is found
+
   -- an image of before, torn in the body
   abbrev pub InBody : List ℕ → Type 0
   InBody c = (a : List ℕ) × d.Image a × Torn (slot_offset turn + 1) 40 a c

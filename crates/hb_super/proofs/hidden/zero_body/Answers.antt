@@ -9,61 +9,40 @@ use Rattle.hb_super.proofs.hidden.zero_body.Goals as goal
 pub returns-in_err-zero-clause-moments : goal.returns-in_err-zero-clause-moments
 returns-in_err-zero-clause-moments g c =
     let is_disk = g.met.D.Device.is_disk in
-    let d = g.D.Device.model c.args.disk.now in
-    let one = g.D.Device.model c.zero.new.self in
-    let writes = subst (λ (at : ℕ). Writes (at + 1) (replicate 40 0) c.zero.result d one) c.slot_offset.ensures c.zero.ensures.writes in
-    zero_moments d one (is_disk c.args.disk.now) (is_disk c.zero.new.self) c.requires.room c.args.turn c.zero.result writes c.zero.ensures.ticks
+    zero_moments (g.D.Device.model c.args.disk.now) (g.D.Device.model c.zero.new.self) (is_disk c.args.disk.now) (is_disk c.zero.new.self) c.requires.room c.args.turn c.zero.result c.slot_offset.result c.slot_offset.ensures c.zero.ensures.writes c.zero.ensures.ticks
 
 pub returns-in_err-zero-clause-place : goal.returns-in_err-zero-clause-place
 returns-in_err-zero-clause-place g c =
     let is_disk = g.met.D.Device.is_disk in
-    let d = g.D.Device.model c.args.disk.now in
-    let one = g.D.Device.model c.zero.new.self in
-    let writes = subst (λ (at : ℕ). Writes (at + 1) (replicate 40 0) c.zero.result d one) c.slot_offset.ensures c.zero.ensures.writes in
-    zero_place d one (is_disk c.args.disk.now) (is_disk c.zero.new.self) c.requires.room c.args.turn c.zero.result writes c.zero.ensures.ticks
+    zero_place (g.D.Device.model c.args.disk.now) (g.D.Device.model c.zero.new.self) (is_disk c.args.disk.now) (is_disk c.zero.new.self) c.requires.room c.args.turn c.zero.result c.slot_offset.result c.slot_offset.ensures c.zero.ensures.writes c.zero.ensures.ticks
 
 pub returns-in_err-zero-clause-clock : goal.returns-in_err-zero-clause-clock
 returns-in_err-zero-clause-clock g c =
     let is_disk = g.met.D.Device.is_disk in
-    let d = g.D.Device.model c.args.disk.now in
-    let one = g.D.Device.model c.zero.new.self in
-    let writes = subst (λ (at : ℕ). Writes (at + 1) (replicate 40 0) c.zero.result d one) c.slot_offset.ensures c.zero.ensures.writes in
-    zero_clock d one (is_disk c.args.disk.now) (is_disk c.zero.new.self) c.requires.room c.args.turn c.zero.result writes c.zero.ensures.ticks
+    zero_clock (g.D.Device.model c.args.disk.now) (g.D.Device.model c.zero.new.self) (is_disk c.args.disk.now) (is_disk c.zero.new.self) c.requires.room c.args.turn c.zero.result c.slot_offset.result c.slot_offset.ensures c.zero.ensures.writes c.zero.ensures.ticks
 
 pub returns-clause-moments : goal.returns-clause-moments
 returns-clause-moments g c =
     let is_disk = g.met.D.Device.is_disk in
-    let d = g.D.Device.model c.args.disk.now in
-    let one = g.D.Device.model c.zero.new.self in
-    let writes = subst (λ (at : ℕ). Writes (at + 1) (replicate 40 0) c.zero.result d one) c.slot_offset.ensures c.zero.ensures.writes in
-    sync_moments d one (is_disk c.args.disk.now) (is_disk c.zero.new.self) c.requires.room c.args.turn c.zero.result writes c.zero.ensures.ticks
+    sync_moments (g.D.Device.model c.args.disk.now) (g.D.Device.model c.zero.new.self) (is_disk c.args.disk.now) (is_disk c.zero.new.self) c.requires.room c.args.turn c.zero.result c.slot_offset.result c.slot_offset.ensures c.zero.ensures.writes c.zero.ensures.ticks
     c.sync.result (g.D.Device.model c.sync.new.self) c.sync.ensures.syncs c.sync.ensures.ticks
 
 pub returns-clause-place : goal.returns-clause-place
 returns-clause-place g c =
     let is_disk = g.met.D.Device.is_disk in
-    let d = g.D.Device.model c.args.disk.now in
-    let one = g.D.Device.model c.zero.new.self in
-    let writes = subst (λ (at : ℕ). Writes (at + 1) (replicate 40 0) c.zero.result d one) c.slot_offset.ensures c.zero.ensures.writes in
-    sync_place d one (is_disk c.args.disk.now) (is_disk c.zero.new.self) c.requires.room c.args.turn c.zero.result writes c.zero.ensures.ticks
+    sync_place (g.D.Device.model c.args.disk.now) (g.D.Device.model c.zero.new.self) (is_disk c.args.disk.now) (is_disk c.zero.new.self) c.requires.room c.args.turn c.zero.result c.slot_offset.result c.slot_offset.ensures c.zero.ensures.writes c.zero.ensures.ticks
     c.sync.result (g.D.Device.model c.sync.new.self) c.sync.ensures.syncs c.sync.ensures.ticks
 
 pub returns-clause-durable : goal.returns-clause-durable
 returns-clause-durable g c =
     let is_disk = g.met.D.Device.is_disk in
-    let d = g.D.Device.model c.args.disk.now in
-    let one = g.D.Device.model c.zero.new.self in
-    let writes = subst (λ (at : ℕ). Writes (at + 1) (replicate 40 0) c.zero.result d one) c.slot_offset.ensures c.zero.ensures.writes in
-    sync_durable d one (is_disk c.args.disk.now) (is_disk c.zero.new.self) c.requires.room c.args.turn c.zero.result writes c.zero.ensures.ticks
+    sync_durable (g.D.Device.model c.args.disk.now) (g.D.Device.model c.zero.new.self) (is_disk c.args.disk.now) (is_disk c.zero.new.self) c.requires.room c.args.turn c.zero.result c.slot_offset.result c.slot_offset.ensures c.zero.ensures.writes c.zero.ensures.ticks
     c.sync.result (g.D.Device.model c.sync.new.self) c.sync.ensures.syncs c.sync.ensures.ticks
 
 pub returns-clause-clock : goal.returns-clause-clock
 returns-clause-clock g c =
     let is_disk = g.met.D.Device.is_disk in
-    let d = g.D.Device.model c.args.disk.now in
-    let one = g.D.Device.model c.zero.new.self in
-    let writes = subst (λ (at : ℕ). Writes (at + 1) (replicate 40 0) c.zero.result d one) c.slot_offset.ensures c.zero.ensures.writes in
-    sync_clock d one (is_disk c.args.disk.now) (is_disk c.zero.new.self) c.requires.room c.args.turn c.zero.result writes c.zero.ensures.ticks
+    sync_clock (g.D.Device.model c.args.disk.now) (g.D.Device.model c.zero.new.self) (is_disk c.args.disk.now) (is_disk c.zero.new.self) c.requires.room c.args.turn c.zero.result c.slot_offset.result c.slot_offset.ensures c.zero.ensures.writes c.zero.ensures.ticks
     c.sync.result (g.D.Device.model c.sync.new.self) c.sync.ensures.syncs c.sync.ensures.ticks
 
 pub returns-clause-hidden : goal.returns-clause-hidden
