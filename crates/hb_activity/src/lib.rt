@@ -13,6 +13,7 @@
 mod activities;
 mod box_locks;
 mod changing;
+mod dropping;
 mod holding;
 mod jobs;
 pub mod laws;
@@ -23,6 +24,7 @@ mod wanting;
 
 pub use activities::Activity;
 pub use box_locks::BoxLock;
+pub use dropping::DropWhy;
 pub use holding::Latch;
 pub use jobs::{Job, JobKind};
 pub use waiting_jobs::{JOBS, Jobs};

@@ -1,7 +1,6 @@
 -- A line is answered once its place in the order is settled, or outside of the order.
 use Rattle.std.proofs.Common.{◌≡◌, ◌⊎◌, inl, inr, ℕ, Bool, true, false, List, [], ◌∷◌, Option, Some, None, refl, sym, subst}
 use Rattle.std.specs.Prelude.{MatchOption}
-use Rattle.hb_space.specs.Boxes.{Area}
 use Rattle.hb_space.specs.declared.records.Record.{Record}
 use Rattle.hb_frag.specs.declared.pages.LivePage.{LivePage}
 use Rattle.hb_set.specs.declared.commands.Command.{Command}
@@ -15,26 +14,28 @@ use Rattle.hb_activity.specs.declared.jobs.Job.{Job}
 use Rattle.hb_activity.specs.declared.wanting.Wanted.{Wanted}
 use Rattle.hb_activity.specs.declared.activities.Activity.{Activity}
 use Rattle.hb_activity.specs.declared.activities.Activity.TheVariants as at
-use Rattle.hb_activity.specs.Walks.{goal_of}
 use Rattle.hb_store.specs.declared.stops.StopWhy.{StopWhy}
-use Rattle.hb_core.specs.declared.outcomes.DropWhy.{DropWhy}
-use Rattle.hb_core.specs.declared.outcomes.DropWhy.TheVariants as drops
+use Rattle.hb_activity.specs.declared.dropping.DropWhy.{DropWhy}
+use Rattle.hb_activity.specs.declared.dropping.DropWhy.TheVariants as drops
 use Rattle.hb_core.specs.declared.outcomes.Outcome.{Outcome}
 use Rattle.hb_core.specs.declared.outcomes.Outcome.TheVariants as outcomes
-use Rattle.hb_core.specs.Machines.{Machine}
-use Rattle.hb_core.specs.Deeds.{Deed, answers_now}
-use Rattle.hb_core.specs.Performing.{Performs}
-use Rattle.hb_core.specs.Stages.{flusher_steps}
+use Rattle.hb_activity.specs.Deeds.{Deed, answers_now}
+use Rattle.hb_activity.specs.Passing.{PassesOn}
+use Rattle.hb_activity.specs.Walks.{goal_of}
+use Rattle.hb_core.proofs.MergerMoves.{merger_moves}
 use Rattle.hb_core.specs.Forcing.{Flushes, ForcesFirst, StaysSo}
 use Rattle.hb_core.specs.GivingUp.{gives_up, reply_for, runs_out}
-use Rattle.hb_core.specs.SearchRows.{SearchGoesOn}
-use Rattle.hb_core.specs.SessionRows.{DoesThere, PassesOn, next_line, taking}
-use Rattle.hb_core.specs.WorkerRows.{DoesPlan, after_look}
-use Rattle.hb_core.specs.Rows.{Row, RowAlone, RowAt}
-use Rattle.hb_core.specs.KeptOrder.{StandsOutside}
 use Rattle.hb_core.specs.KeepingLaws.{AnswersAreInPlace, IsAnsweredInPlace}
-use Rattle.hb_core.specs.Steps.{AwaitsPlace, StepsAs, TakesJobToMerge, TakesPosting, WantsBoxes, Works}
-use Rattle.hb_core.proofs.MergerMoves.{merger_moves}
+use Rattle.hb_core.specs.KeptOrder.{StandsOutside}
+use Rattle.hb_core.specs.Machines.{Machine}
+use Rattle.hb_core.specs.Performing.{Performs}
+use Rattle.hb_core.specs.Rows.{DoesHere, Row, RowAlone, RowAt}
+use Rattle.hb_core.specs.Stages.{flusher_steps}
+use Rattle.hb_core.specs.Steps.{AwaitsPlace, StepsAs, TakesJobToMerge, TakesPosting, Works}
+use Rattle.hb_point.specs.SessionRows.{next_line, taking, WantsBoxes}
+use Rattle.hb_poster.specs.PosterRows.{DoesPlan, after_look}
+use Rattle.hb_search.specs.SearchRows.{SearchGoesOn}
+use Rattle.hb_space.specs.Boxes.{Area}
 
 -- what is given up is answered outside of the order
 reply_outside : (why : DropWhy) → StandsOutside (reply_for why)
@@ -53,7 +54,7 @@ module _ (m : Machine) (actor : ℕ) where
     searched line [] found deed (ordered, same, rising, is) = by_deed deed _ is tt
     searched line (area ∷ boxes) found deed is = by_deed deed _ is tt
 
-    commanded : (line : Line) (command : Command) (rest : List Area) (found : List Record) (id : ℕ) (page : LivePage) (p : List ℕ) (deed : Deed) → DoesThere now line command rest found id page p deed → InPlace deed.says
+    commanded : (line : Line) (command : Command) (rest : List Area) (found : List Record) (id : ℕ) (page : LivePage) (p : List ℕ) (deed : Deed) → DoesHere now line command rest found id page p deed → InPlace deed.says
     commanded line (Insert rec) rest found id page p deed (inl row) = by_deed deed _ row.deed_is tt
     commanded line (Insert rec) rest found id page p deed (inr (inl row)) = by_deed deed _ row.deed_is tt
     commanded line (Insert rec) rest found id page p deed (inr (inr row)) = by_deed deed _ row.deed_is tt
@@ -63,7 +64,7 @@ module _ (m : Machine) (actor : ℕ) where
     commanded line (Lookup point) rest found id page p deed (inr row) = by_deed deed _ row.deed_is tt
     commanded line (Search area) rest found id page p deed row = searched line _ _ deed row.goes
 
-    walked : (line : Line) (rest : List Area) (found : List Record) (id : ℕ) (page : LivePage) (goal : Option (List ℕ)) (deed : Deed) → MatchOption goal ⊥ (λ p. PassesOn page p now (at.SessionWalk line (Some id) rest found) deed ⊎ DoesThere now line line.command rest found id page p deed) → InPlace deed.says
+    walked : (line : Line) (rest : List Area) (found : List Record) (id : ℕ) (page : LivePage) (goal : Option (List ℕ)) (deed : Deed) → MatchOption goal ⊥ (λ p. PassesOn page p now (at.SessionWalk line (Some id) rest found) deed ⊎ DoesHere now line line.command rest found id page p deed) → InPlace deed.says
     walked line rest found id page None deed row = absurd row
     walked line rest found id page (Some p) deed (inl row) = by_deed deed _ row.deed_is tt
     walked line rest found id page (Some p) deed (inr row) = commanded line line.command rest found id page p deed row
@@ -130,7 +131,7 @@ module _ (m : Machine) (actor : ℕ) where
 
   -- ---- what can't go on
 
-  given_up : (why : DropWhy) (activity : Activity) → InPlace (gives_up m why activity).says
+  given_up : (why : DropWhy) (activity : Activity) → InPlace (gives_up why activity).says
   given_up why at.SessionIdle = tt
   given_up why (at.SessionWalk line held rest found) = inl (reply_outside why)
   given_up why (at.SessionSplit line held) = inl (reply_outside why)
@@ -151,7 +152,7 @@ module _ (m : Machine) (actor : ℕ) where
   given_up why (at.ConsolidatorDecide job parent keep gone) = tt
   given_up why at.Flusher = tt
 
-  ran_out : (activity : Activity) → InPlace (runs_out m activity).says
+  ran_out : (activity : Activity) → InPlace (runs_out activity).says
   ran_out at.SessionIdle = tt
   ran_out (at.SessionWalk line held rest found) = inl tt
   ran_out (at.SessionSplit line held) = inl tt
@@ -183,7 +184,7 @@ module _ (m : Machine) (actor : ℕ) where
 
     forced : (said : Outcome) → InPlace said → ForcesFirst m said outcome new → InPlace outcome
     forced said in_place (inl well) = by_said said well.0 in_place
-    forced said in_place (inr badly) = by_said _ badly.says tt
+    forced said in_place (inr badly) = by_said _ badly.1.says tt
 
     worked : Works m actor outcome new → InPlace outcome
     worked (inl (by, way, so)) = stayed (outcomes.Blocked by) tt so
@@ -193,7 +194,7 @@ module _ (m : Machine) (actor : ℕ) where
     worked (inr (inr (free, ready, inr (inl gives)))) = by_said _ gives.performs.says (given_up gives.why (m.activity actor))
     worked (inr (inr (free, ready, inr (inr meets)))) = by_said _ meets.says tt
 
-    took_line : (line : Option Line) → MatchOption line (StaysSo m outcomes.Idle outcome new) (λ line. Performs m m.store actor (taking m line) outcome new ⊎ (WantsBoxes line.command × Performs m m.store actor (answers_now m line.number replies.NoMemory) outcome new)) → InPlace outcome
+    took_line : (line : Option Line) → MatchOption line (StaysSo m outcomes.Idle outcome new) (λ line. Performs m m.store actor (taking line) outcome new ⊎ (WantsBoxes line.command × Performs m m.store actor (answers_now line.number replies.NoMemory) outcome new)) → InPlace outcome
     took_line None so = stayed outcomes.Idle tt so
     took_line (Some line) (inl performs) = by_said _ performs.says tt
     took_line (Some line) (inr (boxes, performs)) = by_said _ performs.says (inl tt)

@@ -2,25 +2,26 @@
 use Rattle.std.proofs.Common.{◌≡◌, ◌⊎◌, inl, inr, ℕ, ◌++◌, List, [], length, Option, Some, None, IsSome, IsSomeAnd, refl, sym, ap, ◌∙◌, subst, append-nil}
 use Rattle.hb_frag.specs.declared.pages.Page.{Page}
 use Rattle.hb_ops.specs.declared.operations.Op.{Op}
-use Rattle.hb_set.specs.Order.{Entry}
 use Rattle.hb_set.specs.declared.commands.Reply.TheVariants as replies
 use Rattle.hb_set.specs.declared.scripts.Line.{Line}
 use Rattle.hb_activity.specs.declared.jobs.Job.{Job}
 use Rattle.hb_activity.specs.declared.activities.Activity.{Activity}
 use Rattle.hb_activity.specs.declared.activities.Activity.TheVariants as at
-use Rattle.hb_store.specs.States.{StoreState, in_memory}
-use Rattle.hb_core.specs.declared.outcomes.DropWhy.{DropWhy}
-use Rattle.hb_core.specs.declared.outcomes.DropWhy.TheVariants as drops
+use Rattle.hb_activity.specs.declared.dropping.DropWhy.{DropWhy}
+use Rattle.hb_activity.specs.declared.dropping.DropWhy.TheVariants as drops
 use Rattle.hb_core.specs.declared.outcomes.Outcome.{Outcome}
-use Rattle.hb_core.specs.Machines.{Machine, if_some}
-use Rattle.hb_core.specs.Deeds.{AddsJobs, Deed, answers_now}
+use Rattle.hb_activity.specs.Classes.{job_in_work, line_in_hand}
+use Rattle.hb_activity.specs.Deeds.{Deed, answers_now}
+use Rattle.hb_activity.specs.Queue.{AddsJobs}
+use Rattle.hb_core.specs.Acting.{Abandons, MeetsBadPage}
 use Rattle.hb_core.specs.Fetching.{Brings}
-use Rattle.hb_core.specs.GivingUp.{drops_job, gives_up, job_in_work, reply_for}
-use Rattle.hb_core.specs.KeptLines.{line_in_hand}
-use Rattle.hb_core.specs.Performing.{MayDo, Performs, files_after}
-use Rattle.hb_core.specs.Acting.{Abandons, MayGiveUp, MeetsBadPage}
 use Rattle.hb_core.specs.Forcing.{ForcesBadly}
+use Rattle.hb_core.specs.GivingUp.{drops_job, gives_up, reply_for}
+use Rattle.hb_core.specs.Machines.{Machine, if_some}
 use Rattle.hb_core.specs.OutcomeLaws.{AsideChangesNoFile, ChangesNoFile, RefusesSearch, SaysAside}
+use Rattle.hb_core.specs.Performing.{MayDo, Performs, files_after}
+use Rattle.hb_set.specs.Order.{Entry}
+use Rattle.hb_store.specs.States.{StoreState, in_memory}
 
 -- A deed that does nothing to the file, the queue and the order.
 record IsAside (m : Machine) (actor : ℕ) (deed : Deed) : Type 0 where
@@ -35,7 +36,7 @@ aside_reply drops.NoMemory = inl refl
 aside_reply drops.ReadFault = inr refl
 
 module _ (m : Machine) (actor : ℕ) (why : DropWhy) where
-  line_aside : (line : Line) → line_in_hand (m.activity actor) ≡ Some line → IsAside m actor (answers_now m line.number (reply_for why))
+  line_aside : (line : Line) → line_in_hand (m.activity actor) ≡ Some line → IsAside m actor (answers_now line.number (reply_for why))
   line_aside line is = record {
     op = refl;
     left = refl;
@@ -47,7 +48,7 @@ module _ (m : Machine) (actor : ℕ) (why : DropWhy) where
   job_aside : (job : Job) (idle : Activity) → job_in_work (m.activity actor) ≡ Some job → IsAside m actor (drops_job m why idle)
   job_aside job idle is = record { op = refl; left = refl; adds = refl; joins = refl; says = subst (λ (o : Option Job). IsSome o) (sym is) refl }
 
-  given_up_aside : (activity : Activity) → m.activity actor ≡ activity → MayGiveUp activity → IsAside m actor (gives_up m why activity)
+  given_up_aside : (activity : Activity) → m.activity actor ≡ activity → MayGiveUp activity → IsAside m actor (gives_up why activity)
   given_up_aside (at.SessionWalk line held rest found) is may = line_aside line (ap line_in_hand is)
   given_up_aside (at.SessionSplit line held) is may = line_aside line (ap line_in_hand is)
   given_up_aside (at.SessionPut line source fresh) is may = line_aside line (ap line_in_hand is)
@@ -76,7 +77,7 @@ module _ (m : Machine) (actor : ℕ) (outcome : Outcome) (new : Machine) where
     pub imaged : fetched.imaged ≡ m.store.imaged
     pub memory : (id : ℕ) (page : Page) → in_memory m.store id ≡ Some page → in_memory fetched id ≡ Some page
 
-  brought : (may : ℕ → Type 0) (fetched : StoreState) → Brings m.files may m.store fetched → KeepsStore fetched
+  brought : (may : ℕ → Type 0) (fetched : StoreState) → Brings m may fetched → KeepsStore fetched
   brought may fetched brings = record {
     meta = brings.rest.meta;
     log = brings.rest.log;

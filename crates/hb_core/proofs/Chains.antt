@@ -1,20 +1,20 @@
 -- What a list of steps does, and what it keeps.
 use Rattle.std.proofs.Common.{◌≡◌, ◌≢◌, ◌⊎◌, inl, inr, ℕ, ◌+◌, ◌≤◌, List, [], ◌∷◌, ◌++◌, All, Option, Some, sym, ap, ◌∙◌, subst, arith, append-nil, append_assoc}
 use Rattle.std.proofs.lemmas.List.Elements.{All-append, All-cons, All-nil, All-weaker}
-use Rattle.hb_set.specs.Order.{Entry}
 use Rattle.hb_set.specs.declared.scripts.Answered.{Answered}
 use Rattle.hb_store.specs.declared.stops.StopWhy.{StopWhy}
 use Rattle.std.specs.Prelude.{MatchOption}
 use Rattle.hb_core.specs.declared.outcomes.Outcome.{Outcome}
 use Rattle.hb_core.specs.declared.outcomes.Outcome.TheVariants as outcomes
-use Rattle.hb_core.specs.Machines.{Machine}
-use Rattle.hb_core.specs.Performing.{given_by}
-use Rattle.hb_core.specs.Forcing.{StaysSo}
-use Rattle.hb_core.specs.Steps.{StepsAs, StepsTo}
-use Rattle.hb_core.specs.SteppingLaws.{HasGoneOn, IsBetween, StepsGoOn, StoppedStays}
 use Rattle.hb_core.proofs.Moments.{answers_are_timed, clock_moves}
 use Rattle.hb_core.proofs.PendingKept.{grown_by}
 use Rattle.hb_core.proofs.Ways.{order_grows}
+use Rattle.hb_core.specs.Forcing.{StaysSo}
+use Rattle.hb_core.specs.Machines.{Machine}
+use Rattle.hb_core.specs.Performing.{given_by}
+use Rattle.hb_core.specs.SteppingLaws.{HasGoneOn, IsBetween, StepsGoOn, StoppedStays}
+use Rattle.hb_core.specs.Steps.{StepsAs, StepsTo}
+use Rattle.hb_set.specs.Order.{Entry}
 
 -- ---- the lines, the order, the answers and the clock
 

@@ -3,28 +3,28 @@ use Rattle.std.proofs.Common.{◌≡◌, inl, inr, ℕ, ◌<◌, ◌≤◌, ◌^
 use Rattle.hb_frag.specs.declared.pages.Page.{Page}
 use Rattle.hb_layout.specs.declared.meta.Meta.{Meta}
 use Rattle.hb_ops.specs.declared.operations.Op.{Op}
+use Rattle.hb_core.specs.declared.outcomes.Outcome.{Outcome}
+use Rattle.hb_core.specs.declared.outcomes.Outcome.TheVariants as outcomes
+use Rattle.hb_activity.specs.Deeds.{Deed, does}
+use Rattle.hb_core.proofs.FitOps.{HeldArePoints, fits_op}
+use Rattle.hb_core.proofs.GoodChanges.{IsGoodChange, each_set, good_change}
+use Rattle.hb_core.proofs.OwnPages.{gives_up_nothing, runs_out_nothing}
+use Rattle.hb_core.proofs.RowTells.{Tells, TellsOp, tells_row}
+use Rattle.hb_core.proofs.StepKinds.{each_kind}
+use Rattle.hb_core.specs.Acting.{MeetsBadPage}
+use Rattle.hb_core.specs.Asking.{wanted_by}
+use Rattle.hb_core.specs.Fetching.{Brings}
+use Rattle.hb_core.specs.FileLaws.{MarksStayInPlace, PagesStayOfFile}
+use Rattle.hb_core.specs.Forcing.{ForcesFirst, StaysSo}
+use Rattle.hb_core.specs.Keeps.{HoldsPagesOfFile}
+use Rattle.hb_core.specs.KeptLines.{LinesFit, MarksInPlace}
+use Rattle.hb_core.specs.Machines.{Machine}
+use Rattle.hb_core.specs.Performing.{MayDo, Performs}
+use Rattle.hb_core.specs.Steps.{StepsTo, Works}
 use Rattle.hb_store.specs.Calls.{IsAllowedHere, change_here, read_here}
 use Rattle.hb_store.specs.Making.{HaveFittingParts, MakesGoodPages}
 use Rattle.hb_store.specs.Replaying.{HasLimits}
 use Rattle.hb_store.specs.States.{AreGood, IsGoodPage, StoreState, in_memory}
-use Rattle.hb_core.specs.declared.outcomes.Outcome.{Outcome}
-use Rattle.hb_core.specs.declared.outcomes.Outcome.TheVariants as outcomes
-use Rattle.hb_core.specs.Machines.{Machine}
-use Rattle.hb_core.specs.Fetching.{Brings}
-use Rattle.hb_core.specs.Deeds.{Deed}
-use Rattle.hb_core.specs.Performing.{MayDo, Performs}
-use Rattle.hb_core.specs.Acting.{MeetsBadPage}
-use Rattle.hb_core.specs.Forcing.{ForcesFirst, StaysSo}
-use Rattle.hb_core.specs.Keeps.{HoldsPagesOfFile}
-use Rattle.hb_core.specs.KeptLines.{LinesFit, MarksInPlace}
-use Rattle.hb_core.specs.FileLaws.{MarksStayInPlace, PagesStayOfFile}
-use Rattle.hb_core.specs.Asking.{wanted_by}
-use Rattle.hb_core.specs.Steps.{StepsTo, Works}
-use Rattle.hb_core.proofs.GoodChanges.{IsGoodChange, each_set, good_change}
-use Rattle.hb_core.proofs.FitOps.{HeldArePoints, fits_op}
-use Rattle.hb_core.proofs.OwnPages.{gives_up_nothing, runs_out_nothing}
-use Rattle.hb_core.proofs.RowTells.{Tells, TellsOp, tells_row}
-use Rattle.hb_core.proofs.StepKinds.{each_kind}
 
 -- What a store keeps of its pages and of what its file says of itself.
 pub record KeepsPages (st : StoreState) : Type 0 where
@@ -44,7 +44,7 @@ pub marks_kept : (m : Machine) → KeepsPages m.store → MarksInPlace m
 marks_kept m keeps = record { layout = keeps.limits.layout; high = keeps.high; live = keeps.live; root = keeps.limits.root_fits; free = keeps.free }
 
 -- what a fetch brings keeps it
-pub brought : (m : Machine) (may : ℕ → Type 0) (fetched : StoreState) → Brings m.files may m.store fetched → KeepsPages m.store → KeepsPages fetched
+pub brought : (m : Machine) (may : ℕ → Type 0) (fetched : StoreState) → Brings m may fetched → KeepsPages m.store → KeepsPages fetched
 brought m may fetched brings keeps =
     let meta : m.store.meta ≡ fetched.meta = sym brings.rest.meta in
     record {
@@ -94,10 +94,10 @@ module _ (makes : MakesGoodPages) (parts : HaveFittingParts) (points : HeldArePo
     -- a force changes the log alone
     forces : (said : Outcome) → ForcesFirst m said outcome new → KeepsPages new.store
     forces said (inl (says, is)) = subst (λ (n : Machine). KeepsPages n.store) (sym is) (record { limits = keeps.limits; high = keeps.high; live = keeps.live; free = keeps.free; framed = keeps.framed })
-    forces said (inr badly) = subst (λ (n : Machine). KeepsPages n.store) (sym badly.stops) (record { limits = keeps.limits; high = keeps.high; live = keeps.live; free = keeps.free; framed = keeps.framed })
+    forces said (inr badly) = subst (λ (n : Machine). KeepsPages n.store) (sym badly.1.stops) (record { limits = keeps.limits; high = keeps.high; live = keeps.live; free = keeps.free; framed = keeps.framed })
 
     meets : MeetsBadPage m actor outcome new → KeepsPages new.store
-    meets bad = subst (λ (n : Machine). KeepsPages n.store) (sym bad.stops) (brought m _ bad.fetched bad.brings keeps)
+    meets bad = subst (λ (n : Machine). KeepsPages n.store) (sym bad.1.stops) (brought m _ bad.fetched bad.brings keeps)
 
     performed : (fetched : StoreState) (deed : Deed) → KeepsPages fetched → Tells fetched deed.op → Performs m fetched actor deed outcome new → KeepsPages new.store
     performed fetched deed keeps tells performs = done deed.op _ fetched new.store keeps tells performs.store

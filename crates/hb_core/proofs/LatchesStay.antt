@@ -4,32 +4,32 @@ use Rattle.std.proofs.lemmas.Bool.{cases_Bool, eqb-true, eqb-false, eq-eqb, ne_e
 use Rattle.hb_frag.specs.declared.pages.LivePage.{LivePage}
 use Rattle.hb_frag.specs.declared.pages.Page.TheVariants.{Live}
 use Rattle.hb_latch.specs.declared.modes.Mode.{Mode}
-use Rattle.hb_latch.specs.Modes.{goes_beside}
-use Rattle.hb_latch.specs.Tables.{AreCompatible, IsGrantable, LatchTable, MayLatch, mode_at}
 use Rattle.hb_activity.specs.declared.holding.Latch.{Latch}
 use Rattle.hb_activity.specs.declared.wanting.Wanted.{Wanted}
 use Rattle.hb_activity.specs.declared.activities.Activity.{Activity}
 use Rattle.hb_activity.specs.declared.activities.Activity.TheVariants as at
-use Rattle.hb_activity.specs.Holding.{walk_latch}
-use Rattle.hb_activity.specs.Walks.{job_mode, session_mode, walk_held}
-use Rattle.hb_ops.specs.Files.{if_live}
-use Rattle.hb_store.specs.States.{StoreState, in_memory}
-use Rattle.hb_core.specs.declared.outcomes.DropWhy.{DropWhy}
+use Rattle.hb_activity.specs.declared.dropping.DropWhy.{DropWhy}
 use Rattle.hb_core.specs.declared.outcomes.Outcome.{Outcome}
 use Rattle.hb_core.specs.declared.outcomes.Outcome.TheVariants as outcomes
-use Rattle.hb_core.specs.Machines.{Machine, live_here, with_activity}
-use Rattle.hb_core.specs.Asking.{wanted_by}
-use Rattle.hb_core.specs.Deeds.{Deed}
-use Rattle.hb_core.specs.Performing.{Performs, latches_held, mode_among}
-use Rattle.hb_core.specs.GivingUp.{gives_up, runs_out}
-use Rattle.hb_core.specs.Steps.{StepsTo, Works}
-use Rattle.hb_core.specs.Keeps.{HoldsPagesOfFile, LatchesFit}
-use Rattle.hb_core.specs.Laws.{LatchesStayFit}
+use Rattle.hb_activity.specs.Deeds.{Deed}
+use Rattle.hb_activity.specs.Holding.{walk_latch}
+use Rattle.hb_activity.specs.Walks.{job_mode, session_mode, walk_held}
 use Rattle.hb_core.proofs.Backing.{BackedIn, ComesFrom, rests}
 use Rattle.hb_core.proofs.MergerBacked.{every_row_backed}
+use Rattle.hb_core.proofs.OwnPages.{held_pages_stay}
 use Rattle.hb_core.proofs.StepKinds.{each_kind}
 use Rattle.hb_core.proofs.Ways.{KeepsAllButDisk, forces_so, meets_so, stays_so}
-use Rattle.hb_core.proofs.OwnPages.{held_pages_stay}
+use Rattle.hb_core.specs.Asking.{wanted_by}
+use Rattle.hb_core.specs.GivingUp.{gives_up, runs_out}
+use Rattle.hb_core.specs.Keeps.{HoldsPagesOfFile, LatchesFit}
+use Rattle.hb_core.specs.Laws.{LatchesStayFit}
+use Rattle.hb_core.specs.Machines.{Machine, live_here, with_activity}
+use Rattle.hb_core.specs.Performing.{Performs, latches_held, mode_among}
+use Rattle.hb_core.specs.Steps.{StepsTo, Works}
+use Rattle.hb_latch.specs.Modes.{goes_beside}
+use Rattle.hb_latch.specs.Tables.{AreCompatible, IsGrantable, LatchTable, MayLatch, mode_at}
+use Rattle.hb_ops.specs.Files.{if_live}
+use Rattle.hb_store.specs.States.{StoreState, in_memory}
 
 -- ---- what the latches of an activity are, in another memory that has its page
 
@@ -213,7 +213,7 @@ module _ (mutual_modes : (mode other : Mode) → goes_beside mode other ≡ goes
 
 -- ---- what can't go on holds nothing
 
-given_up : (m : Machine) (actor : ℕ) (st : StoreState) (why : DropWhy) (activity : Activity) → BackedIn m actor st (gives_up m why activity).next
+given_up : (m : Machine) (actor : ℕ) (st : StoreState) (why : DropWhy) (activity : Activity) → BackedIn m actor st (gives_up why activity).next
 given_up m actor st why at.SessionIdle = rests m actor st _ refl refl
 given_up m actor st why (at.SessionWalk line held rest found) = rests m actor st _ refl refl
 given_up m actor st why (at.SessionSplit line held) = rests m actor st _ refl refl
@@ -234,7 +234,7 @@ given_up m actor st why (at.ConsolidatorKeep job parent keep gone) = rests m act
 given_up m actor st why (at.ConsolidatorDecide job parent keep gone) = rests m actor st _ refl refl
 given_up m actor st why at.Flusher = rests m actor st _ refl refl
 
-ran_out : (m : Machine) (actor : ℕ) (st : StoreState) (activity : Activity) → BackedIn m actor st (runs_out m activity).next
+ran_out : (m : Machine) (actor : ℕ) (st : StoreState) (activity : Activity) → BackedIn m actor st (runs_out activity).next
 ran_out m actor st at.SessionIdle = rests m actor st _ refl refl
 ran_out m actor st (at.SessionWalk line held rest found) = rests m actor st _ refl refl
 ran_out m actor st (at.SessionSplit line held) = rests m actor st _ refl refl

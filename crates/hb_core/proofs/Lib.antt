@@ -1,3 +1,4 @@
+pub mod NextNumbers
 pub mod NoMerges
 pub mod OneMerge
 pub mod MergerMoves

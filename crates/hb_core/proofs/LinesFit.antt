@@ -5,21 +5,22 @@ use Rattle.std.proofs.lemmas.List.Elements.{All-head, All-tail}
 use Rattle.hb_set.specs.declared.scripts.Answered.{Answered}
 use Rattle.hb_set.specs.declared.scripts.Line.{Line}
 use Rattle.hb_activity.specs.declared.activities.Activity.{Activity}
-use Rattle.hb_store.specs.States.{StoreState}
 use Rattle.hb_core.specs.declared.outcomes.Outcome.{Outcome}
 use Rattle.hb_core.specs.declared.outcomes.Outcome.TheVariants as outcomes
-use Rattle.hb_core.specs.Machines.{Machine, is_answered}
-use Rattle.hb_core.specs.Deeds.{Deed}
-use Rattle.hb_core.specs.Performing.{Performs}
-use Rattle.hb_core.specs.SessionRows.{next_line}
-use Rattle.hb_core.specs.WorkerRows.{IsPostingOf, TakesJob}
-use Rattle.hb_core.specs.ConsolidatorRows.{IsMergingOf, TakesMerging}
-use Rattle.hb_core.specs.Steps.{Works}
-use Rattle.hb_core.specs.KeptLines.{HasLineBody, LinesFit, line_in_hand}
-use Rattle.hb_core.specs.FileLaws.{LinesStayFit}
+use Rattle.hb_activity.specs.Classes.{line_in_hand}
+use Rattle.hb_activity.specs.Deeds.{Deed}
+use Rattle.hb_consol.specs.ConsolidatorRows.{IsMergingOf}
 use Rattle.hb_core.proofs.LineFates.{LineFate, fate_given_up, fate_ran_out, fate_row}
 use Rattle.hb_core.proofs.StepCases.{each_step}
 use Rattle.hb_core.proofs.Ways.{KeepsAllButDisk, forces_so, meets_so, stays_so}
+use Rattle.hb_core.specs.FileLaws.{LinesStayFit}
+use Rattle.hb_core.specs.KeptLines.{HasLineBody, LinesFit}
+use Rattle.hb_core.specs.Machines.{Machine}
+use Rattle.hb_core.specs.Performing.{Performs}
+use Rattle.hb_core.specs.Steps.{TakesJob, TakesMerging, Works}
+use Rattle.hb_point.specs.SessionRows.{is_answered, next_line}
+use Rattle.hb_poster.specs.PosterRows.{IsPostingOf}
+use Rattle.hb_store.specs.States.{StoreState}
 
 taken_or : (P : Line → Type 0) (first line : Line) (later : Option Line) (b : Bool) → P first → (later ≡ Some line → P line) → cond b (Some first) later ≡ Some line → P line
 taken_or P first line later true here there is = let same : first ≡ line = cc in subst P same here

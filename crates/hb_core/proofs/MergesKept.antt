@@ -4,11 +4,9 @@ use Rattle.std.specs.List.{list_any}
 use Rattle.std.proofs.lemmas.Option.{same_Some}
 use Rattle.std.proofs.lemmas.Bool.{cases_Bool, eq-eqb}
 use Rattle.std.proofs.lemmas.List.Elements.{All-cons, All-head, All-nil}
-use Rattle.hb_space.specs.Boxes.{Area}
 use Rattle.hb_frag.specs.declared.leaves.Leaf.{Leaf}
 use Rattle.hb_frag.specs.declared.leaves.Leaf.TheVariants.{Records, Child, Sibling}
 use Rattle.hb_frag.specs.declared.pages.LivePage.{LivePage}
-use Rattle.hb_frag.specs.Leaves.{child_names, first_named, firsts, leaves, siblings_of}
 use Rattle.hb_latch.specs.declared.modes.Mode.{Mode}
 use Rattle.hb_latch.specs.declared.modes.Mode.TheVariants.{Shared, Update, Exclusive}
 use Rattle.hb_terms.specs.declared.merging.MergePlan.{MergePlan}
@@ -16,20 +14,22 @@ use Rattle.hb_terms.specs.declared.merging.MergePlan.TheVariants as plans
 use Rattle.hb_activity.specs.declared.jobs.Job.{Job}
 use Rattle.hb_activity.specs.declared.activities.Activity.{Activity}
 use Rattle.hb_activity.specs.declared.activities.Activity.TheVariants as at
+use Rattle.hb_activity.specs.Deeds.{Deed}
 use Rattle.hb_activity.specs.Holding.{latch_on}
 use Rattle.hb_activity.specs.Walks.{walk_held}
 use Rattle.hb_activity.specs.Wanting.{wanted_of, wanted_page}
-use Rattle.hb_store.specs.States.{StoreState}
-use Rattle.hb_core.specs.Machines.{Machine, live_here}
-use Rattle.hb_core.specs.Asking.{looked_live}
-use Rattle.hb_core.specs.Deeds.{Deed}
-use Rattle.hb_core.specs.Rows.{RowAt}
-use Rattle.hb_core.specs.Performing.{latches_held, mode_among}
-use Rattle.hb_core.specs.ConsolidatorRows.{after_try, children_of, first_one, names_child, one_behind, one_on, pair_among, pair_from, scans, tries}
-use Rattle.hb_core.specs.MergeRows.{after_keep}
-use Rattle.hb_core.specs.KeptMerges.{AtParent, IsMerging, KeepsPair, NamesKnown, PairHeld, knows, merging_at}
+use Rattle.hb_consol.specs.ConsolidatorRows.{after_try, children_of, first_one, names_child, one_behind, one_on, pair_among, pair_from, scans, tries}
+use Rattle.hb_consol.specs.MergeRows.{after_keep}
 use Rattle.hb_core.proofs.MergerMoves.{StaysMerger, decided, of_page}
 use Rattle.hb_core.proofs.NextPlaces.{AsksFor, HoldsNothing, MergesOn, now}
+use Rattle.hb_core.specs.Asking.{looked_live}
+use Rattle.hb_core.specs.KeptMerges.{AtParent, IsMerging, KeepsPair, NamesKnown, PairHeld, knows, merging_at}
+use Rattle.hb_core.specs.Machines.{Machine, live_here}
+use Rattle.hb_core.specs.Performing.{latches_held, mode_among}
+use Rattle.hb_core.specs.Rows.{RowAt}
+use Rattle.hb_frag.specs.Leaves.{child_names, first_named, firsts, leaves, siblings_of}
+use Rattle.hb_space.specs.Boxes.{Area}
+use Rattle.hb_store.specs.States.{StoreState}
 
 -- ---- in a memory that has its pages
 

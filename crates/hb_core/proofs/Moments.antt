@@ -1,18 +1,18 @@
 -- What a step does to the clock, and when a line is answered.
 use Rattle.std.proofs.Common.{◌≡◌, ◌≢◌, ◌⊎◌, inl, inr, ℕ, ◌+◌, ◌≤◌, List, [], ◌∷◌, ◌++◌, refl, sym, ap, ◌∙◌, arith, append-nil}
-use Rattle.hb_wal.specs.Log.{Waiting}
 use Rattle.hb_set.specs.declared.scripts.Answered.{Answered}
-use Rattle.hb_store.specs.States.{StoreState}
 use Rattle.hb_core.specs.declared.outcomes.Outcome.{Outcome}
 use Rattle.hb_core.specs.declared.outcomes.Outcome.TheVariants as outcomes
-use Rattle.hb_core.specs.Machines.{Machine}
-use Rattle.hb_core.specs.Acting.{MeetsBadPage}
-use Rattle.hb_core.specs.Deeds.{Deed}
-use Rattle.hb_core.specs.Performing.{Performs, given_by}
-use Rattle.hb_core.specs.Forcing.{ForcesFirst, StaysSo, calls_of_force}
-use Rattle.hb_core.specs.Steps.{StepsTo, Works}
+use Rattle.hb_activity.specs.Deeds.{Deed}
 use Rattle.hb_core.proofs.StepKinds.{each_kind}
+use Rattle.hb_core.specs.Acting.{MeetsBadPage}
+use Rattle.hb_core.specs.Forcing.{ForcesFirst, StaysSo, calls_of_force}
 use Rattle.hb_core.specs.Laws.{AnswersAreTimed, ClockMoves}
+use Rattle.hb_core.specs.Machines.{Machine}
+use Rattle.hb_core.specs.Performing.{Performs, given_by}
+use Rattle.hb_core.specs.Steps.{StepsTo, Works}
+use Rattle.hb_store.specs.States.{StoreState}
+use Rattle.hb_wal.specs.Log.{Waiting}
 
 -- what a step does to both
 pub record Times (m : Machine) (outcome : Outcome) (new : Machine) : Type 0 where
@@ -49,10 +49,10 @@ module _ (m : Machine) (actor : ℕ) (outcome : Outcome) (new : Machine) where
     answered = nothing_given m new outcome said well.0 none (ap (λ (n : Machine). n.answered) well.1);
   }
   forced said none (inr badly) =
-      let clock : new.clock ≡ badly.clock = ap (λ (n : Machine). n.clock) badly.stops in
+      let clock : new.clock ≡ badly.1.clock = ap (λ (n : Machine). n.clock) badly.1.stops in
       record {
-        clock = inr (badly.waits, omega (arith, clock, badly.from), omega (arith, clock, badly.few));
-        answered = nothing_given m new outcome _ badly.says refl (ap (λ (n : Machine). n.answered) badly.stops);
+        clock = inr (badly.0, omega (arith, clock, badly.1.from), omega (arith, clock, badly.1.few));
+        answered = nothing_given m new outcome _ badly.1.says refl (ap (λ (n : Machine). n.answered) badly.1.stops);
       }
 
   met : MeetsBadPage m actor outcome new → Times m outcome new

@@ -1,10 +1,8 @@
 -- Where an actor stands after a step that may be done: it holds nothing, walks on, or takes its page or its job one step further.
 use Rattle.std.proofs.Common.{◌≡◌, ◌⊎◌, inl, inr, ℕ, List, [], ◌∷◌, Option, Some, None, refl, sym, ap, ◌∙◌, subst}
 use Rattle.std.specs.Prelude.{MatchOption}
-use Rattle.hb_space.specs.Boxes.{Area}
 use Rattle.hb_space.specs.declared.records.Record.{Record}
 use Rattle.hb_frag.specs.declared.pages.LivePage.{LivePage}
-use Rattle.hb_frag.specs.Leaves.{Placed, first_named, leaf_at, siblings_of}
 use Rattle.hb_set.specs.declared.commands.Command.{Command}
 use Rattle.hb_set.specs.declared.commands.Command.TheVariants.{Insert, Delete, Lookup, Search}
 use Rattle.hb_set.specs.declared.scripts.Line.{Line}
@@ -14,21 +12,24 @@ use Rattle.hb_activity.specs.declared.jobs.Job.{Job}
 use Rattle.hb_activity.specs.declared.wanting.Wanted.{Wanted}
 use Rattle.hb_activity.specs.declared.activities.Activity.{Activity}
 use Rattle.hb_activity.specs.declared.activities.Activity.TheVariants as at
+use Rattle.hb_activity.specs.declared.dropping.DropWhy.{DropWhy}
+use Rattle.hb_activity.specs.Deeds.{Deed}
+use Rattle.hb_activity.specs.Passing.{PassesOn}
 use Rattle.hb_activity.specs.Walks.{goal_of, walk_held, walk_point}
-use Rattle.hb_store.specs.States.{StoreState}
-use Rattle.hb_core.specs.declared.outcomes.DropWhy.{DropWhy}
-use Rattle.hb_core.specs.Machines.{Machine, live_here, with_disk}
-use Rattle.hb_core.specs.Asking.{wanted_by}
-use Rattle.hb_core.specs.Deeds.{Deed}
-use Rattle.hb_core.specs.GivingUp.{gives_up, runs_out}
-use Rattle.hb_core.specs.Performing.{latches_held}
-use Rattle.hb_core.specs.SearchRows.{SearchGoesOn}
-use Rattle.hb_core.specs.SessionRows.{DoesThere, FindsNoRoom, PassesOn}
-use Rattle.hb_core.specs.SplitRows.{Splits}
-use Rattle.hb_core.specs.WorkerRows.{Arrives, DoesPlan, after_look}
-use Rattle.hb_core.specs.KeptMerges.{IsMerging, merging_at}
-use Rattle.hb_core.specs.Rows.{Row, RowAlone, RowAt}
 use Rattle.hb_core.proofs.MergerMoves.{StaysMerger, decided, ended, planned, promoted, scanned, took, tried}
+use Rattle.hb_core.specs.Asking.{wanted_by}
+use Rattle.hb_core.specs.GivingUp.{gives_up, runs_out}
+use Rattle.hb_core.specs.KeptMerges.{IsMerging, merging_at}
+use Rattle.hb_core.specs.Machines.{Machine, live_here, with_disk, sight}
+use Rattle.hb_core.specs.Performing.{latches_held}
+use Rattle.hb_core.specs.Rows.{DoesHere, Row, RowAlone, RowAt}
+use Rattle.hb_frag.specs.Leaves.{Placed, first_named, leaf_at, siblings_of}
+use Rattle.hb_point.specs.SessionRows.{FindsNoRoom}
+use Rattle.hb_point.specs.SplitRows.{Splits}
+use Rattle.hb_poster.specs.PosterRows.{Arrives, DoesPlan, after_look}
+use Rattle.hb_search.specs.SearchRows.{SearchGoesOn}
+use Rattle.hb_space.specs.Boxes.{Area}
+use Rattle.hb_store.specs.States.{StoreState}
 
 -- it holds no page between two steps
 pub record HoldsNothing (next : Activity) : Type 0 where
@@ -57,7 +58,7 @@ pub record TakesFull (m : Machine) (deed : Deed) : Type 0 where
   pub id : ℕ
   pub page : LivePage
   pub live : live_here m.store id ≡ Some page
-  pub row : FindsNoRoom m line rec id page deed
+  pub row : FindsNoRoom (sight m) line rec id page deed
 
 -- a posting arrives at the parent
 pub record TakesParent (m : Machine) (deed : Deed) : Type 0 where
@@ -65,7 +66,7 @@ pub record TakesParent (m : Machine) (deed : Deed) : Type 0 where
   pub id : ℕ
   pub page : LivePage
   pub live : live_here m.store id ≡ Some page
-  pub row : Arrives m job id page deed
+  pub row : Arrives job id page deed
 
 -- or goes on there
 pub record KeepsParent (m : Machine) (actor : ℕ) (deed : Deed) : Type 0 where
@@ -134,7 +135,7 @@ module _ (m : Machine) (actor : ℕ) (fetched : StoreState) where
   after_search line [] found deed (ordered, same, rising, is) = rests deed _ is refl (λ st. refl) refl
   after_search line (area ∷ boxes) found deed is = rests deed _ is refl (λ st. refl) refl
 
-  after_command : (id : ℕ) (page : LivePage) (line : Line) (command : Command) (rest : List Area) (found : List Record) (p : List ℕ) (deed : Deed) → live_here fetched id ≡ Some page → line.command ≡ command → DoesThere now line command rest found id page p deed → HasPlace m actor now deed
+  after_command : (id : ℕ) (page : LivePage) (line : Line) (command : Command) (rest : List Area) (found : List Record) (p : List ℕ) (deed : Deed) → live_here fetched id ≡ Some page → line.command ≡ command → DoesHere now line command rest found id page p deed → HasPlace m actor now deed
   after_command id page line (Insert rec) rest found p deed live command (inl row) = rests deed _ row.deed_is refl (λ st. refl) refl
   after_command id page line (Insert rec) rest found p deed live command (inr (inl row)) = rests deed _ row.deed_is refl (λ st. refl) refl
   after_command id page line (Insert rec) rest found p deed live command (inr (inr row)) = inr (inr (inl (record { line = line; rec = rec; command = command; id = id; page = page; live = live; row = row })))
@@ -145,7 +146,7 @@ module _ (m : Machine) (actor : ℕ) (fetched : StoreState) where
   after_command id page line (Search area) rest found p deed live command row = after_search line _ _ deed row.goes
 
   after_walk : (id : ℕ) (page : LivePage) (line : Line) (rest : List Area) (found : List Record) (goal : Option (List ℕ)) (deed : Deed) → live_here fetched id ≡ Some page → goal_of line.command rest ≡ goal
-      → MatchOption goal ⊥ (λ p. PassesOn page p now (at.SessionWalk line (Some id) rest found) deed ⊎ DoesThere now line line.command rest found id page p deed) → HasPlace m actor now deed
+      → MatchOption goal ⊥ (λ p. PassesOn page p now (at.SessionWalk line (Some id) rest found) deed ⊎ DoesHere now line line.command rest found id page p deed) → HasPlace m actor now deed
   after_walk id page line rest found None deed live goal row = absurd row
   after_walk id page line rest found (Some p) deed live goal (inl row) = goes_on id page p (at.SessionWalk line (Some id) rest found) deed live refl goal refl row
   after_walk id page line rest found (Some p) deed live goal (inr row) = after_command id page line line.command rest found p deed live refl row
@@ -234,7 +235,7 @@ module _ (m : Machine) (actor : ℕ) (fetched : StoreState) where
 
 -- ---- what can't go on holds nothing
 
-pub nothing_given_up : (m : Machine) (why : DropWhy) (activity : Activity) → HoldsNothing (gives_up m why activity).next
+pub nothing_given_up : (m : Machine) (why : DropWhy) (activity : Activity) → HoldsNothing (gives_up why activity).next
 nothing_given_up m why at.SessionIdle = record { walk = refl; latches = λ st. refl; merging = refl }
 nothing_given_up m why (at.SessionWalk line held rest found) = record { walk = refl; latches = λ st. refl; merging = refl }
 nothing_given_up m why (at.SessionSplit line held) = record { walk = refl; latches = λ st. refl; merging = refl }
@@ -255,7 +256,7 @@ nothing_given_up m why (at.ConsolidatorKeep job parent keep gone) = record { wal
 nothing_given_up m why (at.ConsolidatorDecide job parent keep gone) = record { walk = refl; latches = λ st. refl; merging = refl }
 nothing_given_up m why at.Flusher = record { walk = refl; latches = λ st. refl; merging = refl }
 
-pub nothing_run_out : (m : Machine) (activity : Activity) → HoldsNothing (runs_out m activity).next
+pub nothing_run_out : (m : Machine) (activity : Activity) → HoldsNothing (runs_out activity).next
 nothing_run_out m at.SessionIdle = record { walk = refl; latches = λ st. refl; merging = refl }
 nothing_run_out m (at.SessionWalk line held rest found) = record { walk = refl; latches = λ st. refl; merging = refl }
 nothing_run_out m (at.SessionSplit line held) = record { walk = refl; latches = λ st. refl; merging = refl }

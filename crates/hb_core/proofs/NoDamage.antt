@@ -3,49 +3,49 @@ use Rattle.std.proofs.Common.{◌≡◌, ◌≢◌, ◌⊎◌, inl, inr, ℕ, �
 use Rattle.std.proofs.lemmas.Option.{same_Some}
 use Rattle.std.specs.Option.{option_and_then, option_map}
 use Rattle.std.proofs.lemmas.List.Elements.{All-head}
-use Rattle.hb_core.specs.ConsolidatorRows.{names_child}
-use Rattle.hb_space.specs.Boxes.{whole_area}
 use Rattle.hb_frag.specs.declared.pages.LivePage.{LivePage}
 use Rattle.hb_frag.specs.declared.pages.Page.{Page}
 use Rattle.hb_frag.specs.declared.pages.Page.TheVariants.{Live, Free}
 use Rattle.hb_layout.specs.declared.meta.Meta.{Meta}
 use Rattle.hb_latch.specs.declared.modes.Mode.{Mode}
 use Rattle.hb_latch.specs.declared.modes.Mode.TheVariants.{Exclusive, Shared}
-use Rattle.hb_latch.specs.Tables.{MayLatch}
-use Rattle.hb_ops.specs.Files.{FileState, if_live, live_page, page_of}
-use Rattle.hb_ops.specs.Sound.{IsSound}
 use Rattle.hb_activity.specs.declared.jobs.Job.{Job}
 use Rattle.hb_activity.specs.declared.wanting.Wanted.{Wanted}
 use Rattle.hb_activity.specs.declared.activities.Activity.{Activity}
 use Rattle.hb_activity.specs.declared.activities.Activity.TheVariants as at
-use Rattle.hb_activity.specs.Walks.{goal_of, job_mode, session_mode, walk_held}
-use Rattle.hb_activity.specs.Wanting.{child_of, in_mode, walk_next, wanted_of, wanted_page}
-use Rattle.hb_store.specs.States.{StoreState, in_memory}
-use Rattle.hb_store.specs.Stops.{IsNoPage}
 use Rattle.hb_store.specs.declared.stops.Why.{Why}
 use Rattle.hb_store.specs.declared.stops.Why.TheVariants.{Rule, Level, Extent}
-use Rattle.hb_store.proofs.Counting.{page_in_range}
-use Rattle.hb_store.proofs.Heads.{sound_head, sound_room}
 use Rattle.hb_core.specs.declared.outcomes.Outcome.{Outcome}
 use Rattle.hb_core.specs.declared.outcomes.Outcome.TheVariants as outcomes
-use Rattle.hb_core.specs.Machines.{Files, Machine, current_file, live_here, with_disk}
-use Rattle.hb_core.specs.Acting.{IsBadWanted, MeetsBadPage, NeedsNumber}
-use Rattle.hb_core.specs.Asking.{AskedBox, HasAskedBox, IsNotAsked, asked_box, box_at, box_of_child, looked_live, wanted_by}
-use Rattle.hb_core.specs.DamageLaws.{IsRefusedOrFails, IsUndamaged, KeptStepIsOne, NoPageIsDamaged, StaysUndamaged}
-use Rattle.hb_core.specs.Deeds.{Deed}
-use Rattle.hb_core.specs.Fetching.{Brings, IsBadHead, IsBadRead, IsDamaged}
-use Rattle.hb_core.specs.Forcing.{ForcesFirst, StaysSo}
-use Rattle.hb_core.specs.Keeps.{HasSoundFile, LatchesFit, WalksInSpace}
-use Rattle.hb_core.specs.KeptMerges.{AtParent, KeepsPair, NamesKnown, merging_at}
-use Rattle.hb_core.specs.OutcomeLaws.{ComesToSame, IsTurnedAside}
-use Rattle.hb_core.specs.Performing.{Performs}
-use Rattle.hb_core.specs.Steps.{StepsTo, Works}
+use Rattle.hb_activity.specs.Deeds.{Deed}
+use Rattle.hb_activity.specs.Walks.{goal_of, job_mode, session_mode, walk_held}
+use Rattle.hb_activity.specs.Wanting.{child_of, in_mode, walk_next, wanted_of, wanted_page}
+use Rattle.hb_consol.specs.ConsolidatorRows.{names_child}
 use Rattle.hb_core.proofs.AskedPages.{IsThere, begun_there, given_there, held_there, named_child_there, named_there, named_with_box, placed_sibling_there, root_there}
 use Rattle.hb_core.proofs.Backing.{live_there}
 use Rattle.hb_core.proofs.OneOutcome.{outcome_is_one, state_is_one}
 use Rattle.hb_core.proofs.SoundFiles.{FilesHold, brought_shown, current_sound, files_hold}
 use Rattle.hb_core.proofs.StepKinds.{each_kind}
 use Rattle.hb_core.proofs.StillThere.{still_fetched}
+use Rattle.hb_core.specs.Acting.{IsBadWanted, MeetsBadPage, NeedsNumber}
+use Rattle.hb_core.specs.Asking.{AskedBox, HasAskedBox, IsNotAsked, asked_box, box_at, box_of_child, looked_live, wanted_by}
+use Rattle.hb_core.specs.DamageLaws.{IsRefusedOrFails, IsUndamaged, KeptStepIsOne, NoPageIsDamaged, StaysUndamaged}
+use Rattle.hb_core.specs.Fetching.{Brings, IsBadHead, IsBadRead, IsDamaged}
+use Rattle.hb_core.specs.Forcing.{ForcesFirst, StaysSo}
+use Rattle.hb_core.specs.Keeps.{HasSoundFile, LatchesFit, WalksInSpace}
+use Rattle.hb_core.specs.KeptMerges.{AtParent, KeepsPair, NamesKnown, merging_at}
+use Rattle.hb_core.specs.Machines.{Files, Machine, current_file, live_here, with_disk}
+use Rattle.hb_core.specs.OutcomeLaws.{ComesToSame, IsTurnedAside}
+use Rattle.hb_core.specs.Performing.{Performs}
+use Rattle.hb_core.specs.Steps.{StepsTo, Works}
+use Rattle.hb_latch.specs.Tables.{MayLatch}
+use Rattle.hb_ops.specs.Files.{FileState, if_live, live_page, page_of}
+use Rattle.hb_ops.specs.Sound.{IsSound}
+use Rattle.hb_space.specs.Boxes.{whole_area}
+use Rattle.hb_store.proofs.Counting.{page_in_range}
+use Rattle.hb_store.proofs.Heads.{sound_head, sound_room}
+use Rattle.hb_store.specs.States.{StoreState, in_memory}
+use Rattle.hb_store.specs.Stops.{IsNoPage}
 
 -- what a disk that tells reads is never damaged
 no_bad_read : (files : Files) (st : StoreState) (id : ℕ) (why : Why) → IsBadRead (Some files) st id why → ⊥
@@ -119,7 +119,7 @@ module _ (files : Files) (st : StoreState) (holds : FilesHold st files) where
           omega (arith, full, live, pages, room)
 
 module _ (m : Machine) (files : Files) (actor : ℕ) (may : MayLatch actor) (fit : LatchesFit m) (has : HasSoundFile m files) (walks : WalksInSpace m)
-    (needs : ℕ → Type 0) (fetched : StoreState) (brings : Brings m.files needs m.store fetched) where
+    (needs : ℕ → Type 0) (fetched : StoreState) (brings : Brings m needs fetched) where
   meta : (current_file files).meta ≡ m.store.meta
   meta = has.meta
 
@@ -267,7 +267,7 @@ module _ (m : Machine) (files : Files) (actor : ℕ) (outcome : Outcome) (new : 
 
   forces : (said : Outcome) → ForcesFirst m said outcome new → IsUndamaged m → IsUndamaged new
   forces said (inl (says, is)) = same_stop (ap (λ (x : Machine). x.stop) is)
-  forces said (inr badly) = λ well. inr (ap (λ (x : Machine). x.stop) badly.stops)
+  forces said (inr badly) = λ well. inr (ap (λ (x : Machine). x.stop) badly.1.stops)
 
   performed : (fetched : StoreState) (deed : Deed) → Performs m fetched actor deed outcome new → IsUndamaged m → IsUndamaged new
   performed fetched deed performs = same_stop performs.stop

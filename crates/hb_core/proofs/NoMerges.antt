@@ -4,7 +4,6 @@ use Rattle.std.specs.Prelude.{MatchOption}
 use Rattle.std.specs.List.{Contains}
 use Rattle.std.proofs.lemmas.Bool.{cases_Bool}
 use Rattle.std.proofs.lemmas.List.Elements.{All-append, All-cons, All-contains, All-head, All-nil, All-tail, Contains-append_right, Contains-get_or}
-use Rattle.hb_space.specs.Boxes.{Area}
 use Rattle.hb_space.specs.declared.records.Record.{Record}
 use Rattle.hb_frag.specs.declared.leaves.Leaf.{Leaf}
 use Rattle.hb_frag.specs.declared.leaves.Leaf.TheVariants.{Records, Child, Sibling}
@@ -19,26 +18,26 @@ use Rattle.hb_activity.specs.declared.jobs.JobKind.TheVariants.{Post, Merge}
 use Rattle.hb_activity.specs.declared.wanting.Wanted.{Wanted}
 use Rattle.hb_activity.specs.declared.activities.Activity.{Activity}
 use Rattle.hb_activity.specs.declared.activities.Activity.TheVariants as at
-use Rattle.hb_activity.specs.Walks.{goal_of}
-use Rattle.hb_store.specs.States.{StoreState}
-use Rattle.hb_core.specs.declared.outcomes.DropWhy.{DropWhy}
+use Rattle.hb_activity.specs.declared.dropping.DropWhy.{DropWhy}
 use Rattle.hb_core.specs.declared.outcomes.Outcome.{Outcome}
 use Rattle.hb_core.specs.declared.outcomes.Outcome.TheVariants as outcomes
-use Rattle.hb_core.specs.Machines.{Machine, with_disk}
-use Rattle.hb_core.specs.Deeds.{AddsJob, AddsJobs, Deed}
-use Rattle.hb_core.specs.GivingUp.{gives_up, runs_out}
-use Rattle.hb_core.specs.Performing.{Performs}
-use Rattle.hb_core.specs.SearchRows.{SearchGoesOn}
-use Rattle.hb_core.specs.SessionRows.{DoesThere, PassesOn, posts_owed}
-use Rattle.hb_core.specs.SplitRows.{corner_of}
-use Rattle.hb_core.specs.WorkerRows.{DoesPlan, IsPostingOf, TakesJob, after_look}
-use Rattle.hb_core.specs.ConsolidatorRows.{TakesMerging}
-use Rattle.hb_core.specs.Rows.{Row, RowAlone, RowAt}
-use Rattle.hb_core.specs.StageLaws.{BegunHasNothingToMerge, HasNothingToMerge, IsNoMerge, MergesNothing, NothingComesToMerge, NothingIsMerged}
-use Rattle.hb_core.specs.SteppingLaws.{IsAtRest}
-use Rattle.hb_core.specs.Steps.{Works}
+use Rattle.hb_activity.specs.Deeds.{Deed}
+use Rattle.hb_activity.specs.Passing.{PassesOn, posts_owed, corner_of}
+use Rattle.hb_activity.specs.Queue.{AddsJob, AddsJobs}
+use Rattle.hb_activity.specs.Walks.{goal_of}
 use Rattle.hb_core.proofs.StepCases.{each_step}
 use Rattle.hb_core.proofs.Ways.{KeepsAllButDisk, forces_so, meets_so, stays_so}
+use Rattle.hb_core.specs.GivingUp.{gives_up, runs_out}
+use Rattle.hb_core.specs.Machines.{Machine, with_disk}
+use Rattle.hb_core.specs.Performing.{Performs}
+use Rattle.hb_core.specs.Rows.{DoesHere, Row, RowAlone, RowAt}
+use Rattle.hb_core.specs.StageLaws.{BegunHasNothingToMerge, HasNothingToMerge, IsNoMerge, MergesNothing, NothingComesToMerge, NothingIsMerged}
+use Rattle.hb_core.specs.SteppingLaws.{IsAtRest}
+use Rattle.hb_core.specs.Steps.{TakesJob, TakesMerging, Works}
+use Rattle.hb_poster.specs.PosterRows.{DoesPlan, IsPostingOf, after_look}
+use Rattle.hb_search.specs.SearchRows.{SearchGoesOn}
+use Rattle.hb_space.specs.Boxes.{Area}
+use Rattle.hb_store.specs.States.{StoreState}
 
 -- what a deed adds is no job to merge, what is left are the jobs that waited, and its actor merges nothing then
 pub record KeepsOff (m : Machine) (deed : Deed) : Type 0 where
@@ -78,7 +77,7 @@ module _ (m : Machine) (fetched : StoreState) where
   off_search line [] found deed (ordered, same, rising, is) = adds_none deed _ is refl refl tt
   off_search line (area ∷ boxes) found deed is = adds_none deed _ is refl refl tt
 
-  off_there : (line : Line) (command : Command) (rest : List Area) (found : List Record) (id : ℕ) (page : LivePage) (p : List ℕ) (deed : Deed) → DoesThere now line command rest found id page p deed → KeepsOff m deed
+  off_there : (line : Line) (command : Command) (rest : List Area) (found : List Record) (id : ℕ) (page : LivePage) (p : List ℕ) (deed : Deed) → DoesHere now line command rest found id page p deed → KeepsOff m deed
   off_there line (Insert rec) rest found id page p deed (inl row) = adds_none deed _ row.deed_is refl refl tt
   off_there line (Insert rec) rest found id page p deed (inr (inl row)) = adds_none deed _ row.deed_is refl refl tt
   off_there line (Insert rec) rest found id page p deed (inr (inr row)) = adds_none deed _ row.deed_is refl refl tt
@@ -89,7 +88,7 @@ module _ (m : Machine) (fetched : StoreState) where
   off_there line (Search area) rest found id page p deed row = off_search line _ _ deed row.goes
 
   off_walk : (line : Line) (rest : List Area) (found : List Record) (id : ℕ) (page : LivePage) (deed : Deed) (goal : Option (List ℕ))
-      → MatchOption goal ⊥ (λ p. PassesOn page p now (at.SessionWalk line (Some id) rest found) deed ⊎ DoesThere now line line.command rest found id page p deed) → KeepsOff m deed
+      → MatchOption goal ⊥ (λ p. PassesOn page p now (at.SessionWalk line (Some id) rest found) deed ⊎ DoesHere now line line.command rest found id page p deed) → KeepsOff m deed
   off_walk line rest found id page deed None never = absurd never
   off_walk line rest found id page deed (Some p) (inl row) = off deed _ row.deed_is (owed_none page p row.leaf) refl tt
   off_walk line rest found id page deed (Some p) (inr row) = off_there line line.command rest found id page p deed row
@@ -160,47 +159,47 @@ module _ (m : Machine) where
   off_now : (deed : Deed) → deed.adds ≡ [] → deed.left ≡ m.jobs → MergesNothing deed.next → KeepsOff m deed
   off_now deed none left next = adds_none m m.store deed deed refl none left next
 
-  off_given_up : (why : DropWhy) (activity : Activity) → KeepsOff m (gives_up m why activity)
-  off_given_up why at.SessionIdle = off_now (gives_up m why at.SessionIdle) refl refl tt
-  off_given_up why (at.SessionWalk line held rest found) = off_now (gives_up m why (at.SessionWalk line held rest found)) refl refl tt
-  off_given_up why (at.SessionSplit line held) = off_now (gives_up m why (at.SessionSplit line held)) refl refl tt
-  off_given_up why (at.SessionPut line source fresh) = off_now (gives_up m why (at.SessionPut line source fresh)) refl refl tt
-  off_given_up why (at.SessionAwait line reply place) = off_now (gives_up m why (at.SessionAwait line reply place)) refl refl tt
-  off_given_up why at.PosterIdle = off_now (gives_up m why at.PosterIdle) refl refl tt
-  off_given_up why (at.PosterGrow job) = off_now (gives_up m why (at.PosterGrow job)) refl refl tt
-  off_given_up why (at.PosterWalk job held) = off_now (gives_up m why (at.PosterWalk job held)) refl refl tt
-  off_given_up why (at.PosterChild job parent) = off_now (gives_up m why (at.PosterChild job parent)) refl refl tt
-  off_given_up why (at.PosterPromote job parent) = off_now (gives_up m why (at.PosterPromote job parent)) refl refl tt
-  off_given_up why (at.PosterAgain job parent) = off_now (gives_up m why (at.PosterAgain job parent)) refl refl tt
-  off_given_up why at.ConsolidatorIdle = off_now (gives_up m why at.ConsolidatorIdle) refl refl tt
-  off_given_up why (at.ConsolidatorWalk job held) = off_now (gives_up m why (at.ConsolidatorWalk job held)) refl refl tt
-  off_given_up why (at.ConsolidatorScan job parent child) = off_now (gives_up m why (at.ConsolidatorScan job parent child)) refl refl tt
-  off_given_up why (at.ConsolidatorTry job parent keep gone leaf) = off_now (gives_up m why (at.ConsolidatorTry job parent keep gone leaf)) refl refl tt
-  off_given_up why (at.ConsolidatorPromote job parent keep gone) = off_now (gives_up m why (at.ConsolidatorPromote job parent keep gone)) refl refl tt
-  off_given_up why (at.ConsolidatorKeep job parent keep gone) = off_now (gives_up m why (at.ConsolidatorKeep job parent keep gone)) refl refl tt
-  off_given_up why (at.ConsolidatorDecide job parent keep gone) = off_now (gives_up m why (at.ConsolidatorDecide job parent keep gone)) refl refl tt
-  off_given_up why at.Flusher = off_now (gives_up m why at.Flusher) refl refl tt
+  off_given_up : (why : DropWhy) (activity : Activity) → KeepsOff m (gives_up why activity)
+  off_given_up why at.SessionIdle = off_now (gives_up why at.SessionIdle) refl refl tt
+  off_given_up why (at.SessionWalk line held rest found) = off_now (gives_up why (at.SessionWalk line held rest found)) refl refl tt
+  off_given_up why (at.SessionSplit line held) = off_now (gives_up why (at.SessionSplit line held)) refl refl tt
+  off_given_up why (at.SessionPut line source fresh) = off_now (gives_up why (at.SessionPut line source fresh)) refl refl tt
+  off_given_up why (at.SessionAwait line reply place) = off_now (gives_up why (at.SessionAwait line reply place)) refl refl tt
+  off_given_up why at.PosterIdle = off_now (gives_up why at.PosterIdle) refl refl tt
+  off_given_up why (at.PosterGrow job) = off_now (gives_up why (at.PosterGrow job)) refl refl tt
+  off_given_up why (at.PosterWalk job held) = off_now (gives_up why (at.PosterWalk job held)) refl refl tt
+  off_given_up why (at.PosterChild job parent) = off_now (gives_up why (at.PosterChild job parent)) refl refl tt
+  off_given_up why (at.PosterPromote job parent) = off_now (gives_up why (at.PosterPromote job parent)) refl refl tt
+  off_given_up why (at.PosterAgain job parent) = off_now (gives_up why (at.PosterAgain job parent)) refl refl tt
+  off_given_up why at.ConsolidatorIdle = off_now (gives_up why at.ConsolidatorIdle) refl refl tt
+  off_given_up why (at.ConsolidatorWalk job held) = off_now (gives_up why (at.ConsolidatorWalk job held)) refl refl tt
+  off_given_up why (at.ConsolidatorScan job parent child) = off_now (gives_up why (at.ConsolidatorScan job parent child)) refl refl tt
+  off_given_up why (at.ConsolidatorTry job parent keep gone leaf) = off_now (gives_up why (at.ConsolidatorTry job parent keep gone leaf)) refl refl tt
+  off_given_up why (at.ConsolidatorPromote job parent keep gone) = off_now (gives_up why (at.ConsolidatorPromote job parent keep gone)) refl refl tt
+  off_given_up why (at.ConsolidatorKeep job parent keep gone) = off_now (gives_up why (at.ConsolidatorKeep job parent keep gone)) refl refl tt
+  off_given_up why (at.ConsolidatorDecide job parent keep gone) = off_now (gives_up why (at.ConsolidatorDecide job parent keep gone)) refl refl tt
+  off_given_up why at.Flusher = off_now (gives_up why at.Flusher) refl refl tt
 
-  off_run_out : (activity : Activity) → KeepsOff m (runs_out m activity)
-  off_run_out at.SessionIdle = off_now (runs_out m at.SessionIdle) refl refl tt
-  off_run_out (at.SessionWalk line held rest found) = off_now (runs_out m (at.SessionWalk line held rest found)) refl refl tt
-  off_run_out (at.SessionSplit line held) = off_now (runs_out m (at.SessionSplit line held)) refl refl tt
-  off_run_out (at.SessionPut line source fresh) = off_now (runs_out m (at.SessionPut line source fresh)) refl refl tt
-  off_run_out (at.SessionAwait line reply place) = off_now (runs_out m (at.SessionAwait line reply place)) refl refl tt
-  off_run_out at.PosterIdle = off_now (runs_out m at.PosterIdle) refl refl tt
-  off_run_out (at.PosterGrow job) = off_now (runs_out m (at.PosterGrow job)) refl refl tt
-  off_run_out (at.PosterWalk job held) = off_now (runs_out m (at.PosterWalk job held)) refl refl tt
-  off_run_out (at.PosterChild job parent) = off_now (runs_out m (at.PosterChild job parent)) refl refl tt
-  off_run_out (at.PosterPromote job parent) = off_now (runs_out m (at.PosterPromote job parent)) refl refl tt
-  off_run_out (at.PosterAgain job parent) = off_now (runs_out m (at.PosterAgain job parent)) refl refl tt
-  off_run_out at.ConsolidatorIdle = off_now (runs_out m at.ConsolidatorIdle) refl refl tt
-  off_run_out (at.ConsolidatorWalk job held) = off_now (runs_out m (at.ConsolidatorWalk job held)) refl refl tt
-  off_run_out (at.ConsolidatorScan job parent child) = off_now (runs_out m (at.ConsolidatorScan job parent child)) refl refl tt
-  off_run_out (at.ConsolidatorTry job parent keep gone leaf) = off_now (runs_out m (at.ConsolidatorTry job parent keep gone leaf)) refl refl tt
-  off_run_out (at.ConsolidatorPromote job parent keep gone) = off_now (runs_out m (at.ConsolidatorPromote job parent keep gone)) refl refl tt
-  off_run_out (at.ConsolidatorKeep job parent keep gone) = off_now (runs_out m (at.ConsolidatorKeep job parent keep gone)) refl refl tt
-  off_run_out (at.ConsolidatorDecide job parent keep gone) = off_now (runs_out m (at.ConsolidatorDecide job parent keep gone)) refl refl tt
-  off_run_out at.Flusher = off_now (runs_out m at.Flusher) refl refl tt
+  off_run_out : (activity : Activity) → KeepsOff m (runs_out activity)
+  off_run_out at.SessionIdle = off_now (runs_out at.SessionIdle) refl refl tt
+  off_run_out (at.SessionWalk line held rest found) = off_now (runs_out (at.SessionWalk line held rest found)) refl refl tt
+  off_run_out (at.SessionSplit line held) = off_now (runs_out (at.SessionSplit line held)) refl refl tt
+  off_run_out (at.SessionPut line source fresh) = off_now (runs_out (at.SessionPut line source fresh)) refl refl tt
+  off_run_out (at.SessionAwait line reply place) = off_now (runs_out (at.SessionAwait line reply place)) refl refl tt
+  off_run_out at.PosterIdle = off_now (runs_out at.PosterIdle) refl refl tt
+  off_run_out (at.PosterGrow job) = off_now (runs_out (at.PosterGrow job)) refl refl tt
+  off_run_out (at.PosterWalk job held) = off_now (runs_out (at.PosterWalk job held)) refl refl tt
+  off_run_out (at.PosterChild job parent) = off_now (runs_out (at.PosterChild job parent)) refl refl tt
+  off_run_out (at.PosterPromote job parent) = off_now (runs_out (at.PosterPromote job parent)) refl refl tt
+  off_run_out (at.PosterAgain job parent) = off_now (runs_out (at.PosterAgain job parent)) refl refl tt
+  off_run_out at.ConsolidatorIdle = off_now (runs_out at.ConsolidatorIdle) refl refl tt
+  off_run_out (at.ConsolidatorWalk job held) = off_now (runs_out (at.ConsolidatorWalk job held)) refl refl tt
+  off_run_out (at.ConsolidatorScan job parent child) = off_now (runs_out (at.ConsolidatorScan job parent child)) refl refl tt
+  off_run_out (at.ConsolidatorTry job parent keep gone leaf) = off_now (runs_out (at.ConsolidatorTry job parent keep gone leaf)) refl refl tt
+  off_run_out (at.ConsolidatorPromote job parent keep gone) = off_now (runs_out (at.ConsolidatorPromote job parent keep gone)) refl refl tt
+  off_run_out (at.ConsolidatorKeep job parent keep gone) = off_now (runs_out (at.ConsolidatorKeep job parent keep gone)) refl refl tt
+  off_run_out (at.ConsolidatorDecide job parent keep gone) = off_now (runs_out (at.ConsolidatorDecide job parent keep gone)) refl refl tt
+  off_run_out at.Flusher = off_now (runs_out at.Flusher) refl refl tt
 
 -- ---- the queue
 

@@ -1,7 +1,6 @@
 -- Two steps that do the same bring the same pages into memory, over a disk that tells.
 use Rattle.std.proofs.Common.{◌≡◌, ◌≢◌, ◌⊎◌, inl, inr, ℕ, IsTrue, List, [], ◌∷◌, Option, Some, None, IsSome, refl, sym, ap, ◌∙◌, subst}
 use Rattle.std.specs.Prelude.{MatchOption}
-use Rattle.hb_space.specs.Boxes.{Area}
 use Rattle.hb_space.specs.declared.records.Record.{Record}
 use Rattle.hb_frag.specs.declared.pages.LivePage.{LivePage}
 use Rattle.hb_frag.specs.declared.pages.Page.{Page}
@@ -17,20 +16,21 @@ use Rattle.hb_activity.specs.declared.jobs.Job.{Job}
 use Rattle.hb_activity.specs.declared.wanting.Wanted.{Wanted}
 use Rattle.hb_activity.specs.declared.activities.Activity.{Activity}
 use Rattle.hb_activity.specs.declared.activities.Activity.TheVariants as at
+use Rattle.hb_activity.specs.Deeds.{Deed}
+use Rattle.hb_activity.specs.Passing.{PassesOn}
 use Rattle.hb_activity.specs.Walks.{goal_of}
-use Rattle.hb_store.specs.NextPage.{IsNext}
-use Rattle.hb_store.specs.States.{StoreState, in_memory}
-use Rattle.hb_core.specs.Machines.{Machine, with_disk}
-use Rattle.hb_core.specs.Acting.{takes_number}
-use Rattle.hb_core.specs.Asking.{wanted_by}
-use Rattle.hb_core.specs.Deeds.{Deed}
-use Rattle.hb_core.specs.Fetching.{Brings, IsFreeHead, IsWantedPage}
-use Rattle.hb_core.specs.Rows.{Row, RowAlone, RowAt}
-use Rattle.hb_core.specs.SearchRows.{SearchGoesOn}
-use Rattle.hb_core.specs.SessionRows.{DoesThere, PassesOn}
-use Rattle.hb_core.specs.WorkerRows.{DoesPlan, after_look}
 use Rattle.hb_core.proofs.Backing.{live_there}
 use Rattle.hb_core.proofs.MergerMoves.{merger_moves}
+use Rattle.hb_core.specs.Acting.{takes_number}
+use Rattle.hb_core.specs.Asking.{wanted_by}
+use Rattle.hb_core.specs.Fetching.{Brings, IsFreeHead, IsWantedPage}
+use Rattle.hb_core.specs.Machines.{Machine, with_disk, sight}
+use Rattle.hb_core.specs.Rows.{Row, RowAlone, RowAt, DoesHere}
+use Rattle.hb_poster.specs.PosterRows.{DoesPlan, after_look}
+use Rattle.hb_search.specs.SearchRows.{SearchGoesOn}
+use Rattle.hb_space.specs.Boxes.{Area}
+use Rattle.hb_store.specs.NextPage.{IsNext}
+use Rattle.hb_store.specs.States.{StoreState, in_memory}
 
 -- ---- a row that takes a number has the first free page in memory
 
@@ -46,22 +46,22 @@ module _ (n : Machine) where
   next_of : (deed other : Deed) → deed ≡ other → HasNext other → HasNext deed
   next_of deed other is next = subst HasNext (sym is) next
 
-  next_plan : (job : Job) (parent : ℕ) (page : LivePage) (plan : PostPlan) (deed : Deed) → DoesPlan n job parent page plan deed → HasNext deed
+  next_plan : (job : Job) (parent : ℕ) (page : LivePage) (plan : PostPlan) (deed : Deed) → DoesPlan (sight n) job parent page plan deed → HasNext deed
   next_plan job parent page plans.Nothing deed is = next_of deed _ is tt
   next_plan job parent page (plans.Post at inner area) deed is = next_of deed _ is tt
   next_plan job parent page plans.SplitFirst deed (inl row) = next_of deed _ row.deed_is tt
   next_plan job parent page plans.SplitFirst deed (inr row) = next_of deed _ row.deed_is row.leaves.next
 
-  next_look : (job : Job) (parent : ℕ) (plan : PostPlan) (deed : Deed) → deed ≡ after_look n job parent plan → HasNext deed
+  next_look : (job : Job) (parent : ℕ) (plan : PostPlan) (deed : Deed) → deed ≡ after_look job parent plan → HasNext deed
   next_look job parent plans.Nothing deed is = next_of deed _ is tt
   next_look job parent (plans.Post at inner area) deed is = next_of deed _ is tt
   next_look job parent plans.SplitFirst deed is = next_of deed _ is tt
 
-  next_search : (line : Line) (boxes : List Area) (found : List Record) (deed : Deed) → SearchGoesOn n line boxes found deed → HasNext deed
+  next_search : (line : Line) (boxes : List Area) (found : List Record) (deed : Deed) → SearchGoesOn (sight n) line boxes found deed → HasNext deed
   next_search line [] found deed (ordered, same, rising, is) = next_of deed _ is tt
   next_search line (area ∷ rest) found deed is = next_of deed _ is tt
 
-  next_there : (line : Line) (command : Command) (rest : List Area) (found : List Record) (id : ℕ) (page : LivePage) (p : List ℕ) (deed : Deed) → DoesThere n line command rest found id page p deed → HasNext deed
+  next_there : (line : Line) (command : Command) (rest : List Area) (found : List Record) (id : ℕ) (page : LivePage) (p : List ℕ) (deed : Deed) → DoesHere (sight n) line command rest found id page p deed → HasNext deed
   next_there line (Insert rec) rest found id page p deed (inl row) = next_of deed _ row.deed_is tt
   next_there line (Insert rec) rest found id page p deed (inr (inl row)) = next_of deed _ row.deed_is tt
   next_there line (Insert rec) rest found id page p deed (inr (inr row)) = next_of deed _ row.deed_is tt
@@ -72,12 +72,12 @@ module _ (n : Machine) where
   next_there line (Search area) rest found id page p deed row = next_search line _ _ deed row.goes
 
   next_walk : (line : Line) (rest : List Area) (found : List Record) (id : ℕ) (page : LivePage) (deed : Deed) (goal : Option (List ℕ))
-      → MatchOption goal ⊥ (λ p. PassesOn page p n (at.SessionWalk line (Some id) rest found) deed ⊎ DoesThere n line line.command rest found id page p deed) → HasNext deed
+      → MatchOption goal ⊥ (λ p. PassesOn page p (at.SessionWalk line (Some id) rest found) deed ⊎ DoesHere (sight n) line line.command rest found id page p deed) → HasNext deed
   next_walk line rest found id page deed None never = absurd never
   next_walk line rest found id page deed (Some p) (inl row) = next_of deed _ row.deed_is tt
   next_walk line rest found id page deed (Some p) (inr row) = next_there line line.command rest found id page p deed row
 
-  next_alone : (activity : Activity) (deed : Deed) → RowAlone activity n deed → HasNext deed
+  next_alone : (activity : Activity) (deed : Deed) → RowAlone activity (sight n) deed → HasNext deed
   next_alone (at.SessionSplit line held) deed (inl row) = next_of deed _ row.deed_is tt
   next_alone (at.SessionSplit line held) deed (inr row) = next_of deed _ row.deed_is row.leaves.next
   next_alone (at.SessionPut line source fresh) deed row = next_of deed _ row.deed_is tt
@@ -99,7 +99,7 @@ module _ (n : Machine) where
   next_alone (at.ConsolidatorDecide job parent keep gone) deed row = absurd row
   next_alone at.Flusher deed row = absurd row
 
-  next_at : (activity : Activity) (id : ℕ) (page : LivePage) (deed : Deed) → RowAt activity n id page deed → HasNext deed
+  next_at : (activity : Activity) (id : ℕ) (page : LivePage) (deed : Deed) → RowAt activity (sight n) id page deed → HasNext deed
   next_at (at.SessionWalk line held rest found) id page deed row = next_walk line rest found id page deed (goal_of line.command rest) row
   next_at (at.PosterGrow job) id page deed (inl row) = next_of deed _ row.deed_is row.next
   next_at (at.PosterGrow job) id page deed (inr row) = next_of deed _ row.deed_is tt
@@ -157,8 +157,8 @@ module _ (m : Machine) (actor : ℕ) (f : StoreState) (deed : Deed) (meta : f.me
 
 -- So two steps that do the same have the same pages in memory, where they agree on those that both have.
 module _ (m : Machine) (actor : ℕ) (f g : StoreState) (deed : Deed)
-    (first : Brings m.files (λ id. IsWantedPage (wanted_by m actor) id ⊎ (IsTrue (takes_number deed.op) × IsFreeHead m.store id)) m.store f)
-    (second : Brings m.files (λ id. IsWantedPage (wanted_by m actor) id ⊎ (IsTrue (takes_number deed.op) × IsFreeHead m.store id)) m.store g)
+    (first : Brings m (λ id. IsWantedPage (wanted_by m actor) id ⊎ (IsTrue (takes_number deed.op) × IsFreeHead m.store id)) f)
+    (second : Brings m (λ id. IsWantedPage (wanted_by m actor) id ⊎ (IsTrue (takes_number deed.op) × IsFreeHead m.store id)) g)
     (row : Row (m.activity actor) (wanted_by m actor) (with_disk f m.files m.clock m) deed) (again : Row (m.activity actor) (wanted_by m actor) (with_disk g m.files m.clock m) deed)
     (agree : (id : ℕ) (a b : Page) → in_memory f id ≡ Some a → in_memory g id ≡ Some b → a ≡ b) where
   nothing_there : (o : Option Page) → o ≡ None → IsSome o → ⊥

@@ -3,32 +3,32 @@ use Rattle.std.proofs.Common.{◌≡◌, ◌⊎◌, inl, inr, ℕ, ◌++◌, [],
 use Rattle.hb_space.specs.declared.records.Record.{Record}
 use Rattle.hb_frag.specs.declared.pages.LivePage.{LivePage}
 use Rattle.hb_frag.specs.declared.pages.Page.{Page}
-use Rattle.hb_frag.specs.Leaves.{DirectlyHolds}
-use Rattle.hb_frag.specs.Rules.{AreInOrder}
 use Rattle.std.proofs.lemmas.Option.{same_Some}
-use Rattle.hb_ops.specs.Files.{page_of}
 use Rattle.hb_ops.specs.declared.operations.Op.TheVariants.{Put}
 use Rattle.hb_set.specs.declared.commands.Command.TheVariants.{Insert}
 use Rattle.hb_set.specs.declared.commands.Reply.TheVariants as replies
 use Rattle.hb_set.specs.declared.scripts.Line.{Line}
-use Rattle.hb_store.specs.States.{StoreState, in_memory}
 use Rattle.hb_core.specs.declared.outcomes.Outcome.{Outcome}
-use Rattle.hb_core.specs.Machines.{Files, Machine, current_file, live_here, with_disk}
+use Rattle.hb_activity.specs.Deeds.{Deed, takes_effect}
+use Rattle.hb_core.proofs.OneFetch.{same_memory}
+use Rattle.hb_core.proofs.OnePair.{both_steps}
+use Rattle.hb_core.proofs.OneRow.{one_row}
+use Rattle.hb_core.proofs.OneStore.{one_fetch, one_performed}
+use Rattle.hb_core.proofs.RowSays.{rows_say_the_same}
+use Rattle.hb_core.proofs.StillThere.{fetched_good, still_fetched}
 use Rattle.hb_core.specs.Acting.{DoesRow, takes_number}
 use Rattle.hb_core.specs.Asking.{wanted_by}
 use Rattle.hb_core.specs.Fetching.{Brings, IsFreeHead, IsWantedPage}
-use Rattle.hb_core.specs.Deeds.{Deed, takes_effect}
 use Rattle.hb_core.specs.Keeps.{HoldsPagesOfFile, KnowsRoom, OneHasRoom}
+use Rattle.hb_core.specs.Machines.{Files, Machine, current_file, live_here, with_disk}
+use Rattle.hb_core.specs.OutcomeLaws.{ComesToSame, IsTurnedAside, OutcomeIsOne, StateIsOne}
 use Rattle.hb_core.specs.Performing.{Performs, given_by}
 use Rattle.hb_core.specs.Rows.{Row}
-use Rattle.hb_core.specs.SplitRows.{Puts}
-use Rattle.hb_core.specs.OutcomeLaws.{ComesToSame, IsTurnedAside, OutcomeIsOne, StateIsOne}
-use Rattle.hb_core.proofs.OnePair.{both_steps}
-use Rattle.hb_core.proofs.OneRow.{one_row}
-use Rattle.hb_core.proofs.RowSays.{rows_say_the_same}
-use Rattle.hb_core.proofs.StillThere.{fetched_good, still_fetched}
-use Rattle.hb_core.proofs.OneFetch.{same_memory}
-use Rattle.hb_core.proofs.OneStore.{one_fetch, one_performed}
+use Rattle.hb_frag.specs.Leaves.{DirectlyHolds}
+use Rattle.hb_frag.specs.Rules.{AreInOrder}
+use Rattle.hb_ops.specs.Files.{page_of}
+use Rattle.hb_point.specs.SplitRows.{Puts}
+use Rattle.hb_store.specs.States.{StoreState, in_memory}
 
 -- ---- they say the same
 
@@ -72,7 +72,7 @@ outcome_is_one m actor outcome other new next first second =
 insert_of : (rec same : Record) → Insert rec ≡ Insert same → rec ≡ same
 insert_of rec same is = cc
 
-module _ (m : Machine) (files : Files) (tells : m.files ≡ Some files) (may might : ℕ → Type 0) (f g : StoreState) (first : Brings m.files may m.store f) (second : Brings m.files might m.store g) where
+module _ (m : Machine) (files : Files) (tells : m.files ≡ Some files) (may might : ℕ → Type 0) (f g : StoreState) (first : Brings m may f) (second : Brings m might g) where
   told_of : (page : Page) (id : ℕ) → IfSome m.files (λ files. page_of (current_file files) id ≡ Some page) → page_of (current_file files) id ≡ Some page
   told_of page id told = subst (λ (o : Option Files). IfSome o (λ files. page_of (current_file files) id ≡ Some page)) tells told
 
@@ -114,8 +114,8 @@ module _ (m : Machine) (files : Files) (tells : m.files ≡ Some files) (may mig
 
     one_put : d ≡ e
     one_put =
-        a.deed_is ∙ ap (λ (r : Record). takes_effect m line replies.Done (Some (Put a.half r)) []) (rec_a ∙ sym rec_b)
-        ∙ ap (λ n. takes_effect m line replies.Done (Some (Put n b.rec)) []) (one_half a.either b.either) ∙ sym b.deed_is
+        a.deed_is ∙ ap (λ (r : Record). takes_effect (length m.order) line replies.Done (Some (Put a.half r)) []) (rec_a ∙ sym rec_b)
+        ∙ ap (λ n. takes_effect (length m.order) line replies.Done (Some (Put n b.rec)) []) (one_half a.either b.either) ∙ sym b.deed_is
 
   one_deed : (actor : ℕ) (d e : Deed) → HoldsPagesOfFile m → KnowsRoom m
       → Row (m.activity actor) (wanted_by m actor) (with_disk f m.files m.clock m) d → Row (m.activity actor) (wanted_by m actor) (with_disk g m.files m.clock m) e → d ≡ e
@@ -131,7 +131,7 @@ module _ (m : Machine) (actor : ℕ) (outcome other : Outcome) (new next : Machi
   one_by_deed d e same first second = one_performed m m.store actor e outcome other new next (subst (λ (x : Deed). Performs m m.store actor x outcome new) same first) second
 
   abbrev Brought : StoreState → Deed → Type 0
-  Brought f d = Brings m.files (λ id. IsWantedPage (wanted_by m actor) id ⊎ (IsTrue (takes_number d.op) × IsFreeHead m.store id)) m.store f
+  Brought f d = Brings m (λ id. IsWantedPage (wanted_by m actor) id ⊎ (IsTrue (takes_number d.op) × IsFreeHead m.store id)) f
 
   one_by_rows : (files : Files) → m.files ≡ Some files → HoldsPagesOfFile m → KnowsRoom m → DoesRow m actor outcome new → DoesRow m actor other next → new ≡ next
   one_by_rows files tells inside knows a b =

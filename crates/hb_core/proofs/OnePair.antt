@@ -5,8 +5,6 @@ use Rattle.std.specs.List.{Contains}
 use Rattle.std.proofs.lemmas.Bool.{cases_lt}
 use Rattle.std.proofs.lemmas.List.Elements.{All-contains, Contains-append_right, Contains-get_or}
 use Rattle.hb_latch.specs.declared.modes.Mode.{Mode}
-use Rattle.hb_latch.specs.Modes.{goes_beside}
-use Rattle.hb_latch.specs.Tables.{IsGrantable, IsLeastInTheWay, LatchTable, mode_at}
 use Rattle.hb_set.specs.declared.commands.Reply.{Reply}
 use Rattle.hb_set.specs.declared.commands.Reply.TheVariants as replies
 use Rattle.hb_set.specs.declared.scripts.Line.{Line}
@@ -18,22 +16,24 @@ use Rattle.hb_activity.specs.declared.activities.Activity.TheVariants as at
 use Rattle.hb_store.specs.declared.stops.StopWhy.{StopWhy}
 use Rattle.hb_core.specs.declared.outcomes.Outcome.{Outcome}
 use Rattle.hb_core.specs.declared.outcomes.Outcome.TheVariants as outcomes
-use Rattle.hb_core.specs.Machines.{Machine}
-use Rattle.hb_core.specs.Acting.{Abandons, DoesRow, MeetsBadPage}
-use Rattle.hb_core.specs.Asking.{wanted_by}
-use Rattle.hb_core.specs.Deeds.{Deed, answers_now}
-use Rattle.hb_core.specs.Performing.{Performs}
-use Rattle.hb_core.specs.Stages.{flusher_steps}
-use Rattle.hb_core.specs.Forcing.{Flushes, ForcesFirst, StaysSo}
-use Rattle.hb_core.specs.SessionRows.{next_line, taking}
-use Rattle.hb_core.specs.WorkerRows.{IsPostingOf, TakesJob}
-use Rattle.hb_core.specs.ConsolidatorRows.{IsMergingOf, TakesMerging}
-use Rattle.hb_core.specs.OutcomeLaws.{IsTurnedAside}
-use Rattle.hb_core.specs.Steps.{AwaitsPlace, GetsReady, StepsAs, StepsTo, TakesJobToMerge, TakesPosting, WantsBoxes, Works}
+use Rattle.hb_activity.specs.Deeds.{Deed, answers_now}
 use Rattle.hb_activity.specs.Walks.{walk_held}
-use Rattle.hb_core.specs.GivingUp.{runs_out}
+use Rattle.hb_consol.specs.ConsolidatorRows.{IsMergingOf}
 use Rattle.hb_core.proofs.NextPlaces.{nothing_run_out}
 use Rattle.hb_core.proofs.OnePiece.{one_job, one_merging}
+use Rattle.hb_core.specs.Acting.{Abandons, DoesRow, MeetsBadPage}
+use Rattle.hb_core.specs.Asking.{wanted_by}
+use Rattle.hb_core.specs.Forcing.{Flushes, ForcesFirst, StaysSo}
+use Rattle.hb_core.specs.GivingUp.{runs_out}
+use Rattle.hb_core.specs.Machines.{Machine}
+use Rattle.hb_core.specs.OutcomeLaws.{IsTurnedAside}
+use Rattle.hb_core.specs.Performing.{Performs}
+use Rattle.hb_core.specs.Stages.{flusher_steps}
+use Rattle.hb_core.specs.Steps.{TakesJob, TakesMerging, AwaitsPlace, GetsReady, StepsAs, StepsTo, TakesJobToMerge, TakesPosting, Works}
+use Rattle.hb_latch.specs.Modes.{goes_beside}
+use Rattle.hb_latch.specs.Tables.{IsGrantable, IsLeastInTheWay, LatchTable, mode_at}
+use Rattle.hb_point.specs.SessionRows.{next_line, taking, WantsBoxes}
+use Rattle.hb_poster.specs.PosterRows.{IsPostingOf}
 
 -- ---- the least actor in the way is one, and where one is the way isn't free
 
@@ -89,7 +89,7 @@ module _ (m : Machine) (actor : ℕ) (outcome other : Outcome) (new next : Machi
   both_get_ready (inl (waits, first)) (inl (again, second)) = both_force outcomes.Helped first second
   both_get_ready (inl (waits, first)) (inr (none, second)) = absurd (waits none)
   both_get_ready (inr (none, first)) (inl (waits, second)) = absurd (waits none)
-  both_get_ready (inr (none, first)) (inr (again, second)) = shows.deeds (runs_out m (m.activity actor)) (runs_out m (m.activity actor)) refl (nothing_run_out m (m.activity actor)).walk first second
+  both_get_ready (inr (none, first)) (inr (again, second)) = shows.deeds (runs_out (m.activity actor)) (runs_out (m.activity actor)) refl (nothing_run_out m (m.activity actor)).walk first second
 
   both_act : DoesRow m actor outcome new ⊎ Abandons m actor outcome new ⊎ MeetsBadPage m actor outcome new → DoesRow m actor other next ⊎ Abandons m actor other next ⊎ MeetsBadPage m actor other next → G
   both_act (inr (inl gives)) second = shows.first_aside (inr (inr (inl gives)))
@@ -114,13 +114,13 @@ module _ (m : Machine) (actor : ℕ) (outcome other : Outcome) (new next : Machi
   -- ---- what takes a line or a job, and what awaits its place
 
   abbrev TakesOr : (o : Outcome) (n : Machine) → Option Line → Type 0
-  TakesOr o n line = MatchOption line (StaysSo m outcomes.Idle o n) (λ line. Performs m m.store actor (taking m line) o n ⊎ (WantsBoxes line.command × Performs m m.store actor (answers_now m line.number replies.NoMemory) o n))
+  TakesOr o n line = MatchOption line (StaysSo m outcomes.Idle o n) (λ line. Performs m m.store actor (taking line) o n ⊎ (WantsBoxes line.command × Performs m m.store actor (answers_now line.number replies.NoMemory) o n))
 
   both_take : (line : Option Line) → m.activity actor ≡ at.SessionIdle → next_line actor m.answered m.lines ≡ line → TakesOr outcome new line → TakesOr other next line → G
   both_take None idle is first second = both_stay outcomes.Idle first second
   both_take (Some line) idle is (inr (boxes, performs)) second = shows.first_aside (inl (record { idle = idle; line = line; next = is; boxes = boxes; performs = performs }))
   both_take (Some line) idle is (inl first) (inr (boxes, performs)) = shows.second_aside (inl (record { idle = idle; line = line; next = is; boxes = boxes; performs = performs }))
-  both_take (Some line) idle is (inl first) (inl second) = shows.deeds (taking m line) (taking m line) refl refl first second
+  both_take (Some line) idle is (inl first) (inl second) = shows.deeds (taking line) (taking line) refl refl first second
 
   no_posting : (deed : Deed) → All (λ (job : Job). job.kind ≢ Post) m.jobs → TakesJob m deed → ⊥
   no_posting deed none takes =
@@ -154,7 +154,7 @@ module _ (m : Machine) (actor : ℕ) (outcome other : Outcome) (new next : Machi
   both_flush true (inr (none, first)) (inr (again, second)) = both_stay outcomes.Idle first second
 
   both_await : (number : ℕ) (reply : Reply) (place : ℕ) → AwaitsPlace m actor number reply place outcome new → AwaitsPlace m actor number reply place other next → G
-  both_await number reply place (inl (lt, first)) (inl (lt', second)) = shows.deeds (answers_now m number reply) (answers_now m number reply) refl refl first second
+  both_await number reply place (inl (lt, first)) (inl (lt', second)) = shows.deeds (answers_now number reply) (answers_now number reply) refl refl first second
   both_await number reply place (inl (lt, first)) (inr (ge, second)) = absurd (omega (arith, lt, ge))
   both_await number reply place (inr (ge, first)) (inl (lt, second)) = absurd (omega (arith, lt, ge))
   both_await number reply place (inr (ge, first)) (inr (ge', second)) = both_force outcomes.Moved first second

@@ -3,7 +3,6 @@ use Rattle.std.proofs.Common.{◌≡◌, ◌≢◌, inl, inr, ℕ, ◌++◌, Lis
 use Rattle.std.proofs.lemmas.Bool.{cases_lt}
 use Rattle.std.proofs.lemmas.List.Elements.{All-head, All-tail}
 use Rattle.std.proofs.lemmas.Option.{same_Some}
-use Rattle.hb_space.specs.Boxes.{Area}
 use Rattle.hb_space.specs.declared.records.Record.{Record}
 use Rattle.hb_layout.specs.declared.meta.Meta.{Meta}
 use Rattle.hb_frag.specs.declared.leaves.Leaf.TheVariants.{Records, Child, Sibling}
@@ -11,25 +10,28 @@ use Rattle.hb_frag.specs.declared.pages.LivePage.{LivePage}
 use Rattle.hb_frag.specs.declared.pages.Page.{Page}
 use Rattle.hb_frag.specs.declared.pages.Page.TheVariants.{Free}
 use Rattle.hb_frag.specs.declared.paths.Side.{Side}
-use Rattle.hb_frag.specs.Leaves.{Placed, weight_of}
-use Rattle.hb_frag.specs.Trees.{Tree, Tip}
-use Rattle.hb_ops.specs.Cutting.{going}
 use Rattle.hb_ops.specs.declared.leaf_cuts.LeafCut.{LeafCut}
-use Rattle.hb_split.specs.Choosing.{AreChosen, Chooses, IsBest, NotBehind, heavier_side, count_on}
 use Rattle.hb_frag.specs.declared.paths.Side.TheVariants.{Left, Right}
-use Rattle.hb_terms.specs.Plans.{IsOwed, IsPlan, posted_parent}
 use Rattle.hb_terms.specs.declared.plans.PostPlan.{PostPlan}
 use Rattle.hb_terms.specs.declared.plans.PostPlan.TheVariants as plans
 use Rattle.hb_activity.specs.declared.jobs.Job.{Job}
 use Rattle.hb_activity.specs.declared.jobs.JobKind.{JobKind}
 use Rattle.hb_activity.specs.declared.activities.Activity.{Activity}
+use Rattle.hb_core.specs.declared.outcomes.Outcome.TheVariants as outcomes
+use Rattle.hb_activity.specs.Deeds.{Deed}
+use Rattle.hb_activity.specs.Queue.{AddsJob, AddsJobs}
+use Rattle.hb_consol.specs.ConsolidatorRows.{IsMergingOf}
+use Rattle.hb_core.specs.Machines.{Machine}
+use Rattle.hb_core.specs.Steps.{TakesJob, TakesMerging}
+use Rattle.hb_frag.specs.Leaves.{Placed, weight_of}
+use Rattle.hb_frag.specs.Trees.{Tree, Tip}
+use Rattle.hb_ops.specs.Cutting.{going}
+use Rattle.hb_poster.specs.PosterRows.{IsPostingOf}
+use Rattle.hb_space.specs.Boxes.{Area}
+use Rattle.hb_split.specs.Choosing.{AreChosen, Chooses, IsBest, NotBehind, heavier_side, count_on}
 use Rattle.hb_store.specs.NextPage.{IsNext}
 use Rattle.hb_store.specs.States.{StoreState, in_memory}
-use Rattle.hb_core.specs.declared.outcomes.Outcome.TheVariants as outcomes
-use Rattle.hb_core.specs.Machines.{Machine}
-use Rattle.hb_core.specs.Deeds.{AddsJob, AddsJobs, Deed}
-use Rattle.hb_core.specs.WorkerRows.{IsPostingOf, TakesJob}
-use Rattle.hb_core.specs.ConsolidatorRows.{IsMergingOf, TakesMerging}
+use Rattle.hb_terms.specs.Plans.{IsOwed, IsPlan, posted_parent}
 
 -- ---- the oldest job of its kind, and what its poster does next
 

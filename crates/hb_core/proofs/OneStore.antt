@@ -6,16 +6,16 @@ use Rattle.std.specs.Ordering.{nat_cmp}
 use Rattle.std.specs.FinMap as map
 use Rattle.std.specs.FinSet as set
 use Rattle.hb_ops.specs.declared.operations.Op.{Op}
-use Rattle.hb_wal.specs.Log.{LogState}
-use Rattle.hb_latch.specs.Tables.{mode_at}
+use Rattle.hb_core.specs.declared.outcomes.Outcome.{Outcome}
+use Rattle.hb_activity.specs.Deeds.{Deed}
+use Rattle.hb_core.proofs.OnePiece.{one_queue}
+use Rattle.hb_core.specs.Machines.{Machine}
+use Rattle.hb_core.specs.Performing.{DoesOp, MayDo, Performs, latches_held, mode_among}
 use Rattle.hb_latch.proofs.KeyOrder.{exact_keys, latch_order}
+use Rattle.hb_latch.specs.Tables.{mode_at}
 use Rattle.hb_store.specs.Calls.{KeepsAllButPages}
 use Rattle.hb_store.specs.States.{StoreState, in_memory, is_imaged}
-use Rattle.hb_core.specs.declared.outcomes.Outcome.{Outcome}
-use Rattle.hb_core.specs.Machines.{Machine}
-use Rattle.hb_core.specs.Deeds.{Deed}
-use Rattle.hb_core.specs.Performing.{DoesOp, MayDo, Performs, latches_held, mode_among}
-use Rattle.hb_core.proofs.OnePiece.{one_queue}
+use Rattle.hb_wal.specs.Log.{LogState}
 
 -- ---- stores
 

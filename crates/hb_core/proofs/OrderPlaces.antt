@@ -3,25 +3,26 @@ use Rattle.std.proofs.Common.{◌≡◌, ◌⊎◌, inl, inr, ℕ, zero, suc, �
 use Rattle.std.specs.List.{slice_get}
 use Rattle.std.proofs.lemmas.Bool.{cases_Bool}
 use Rattle.std.proofs.lemmas.List.Elements.{All-append, All-cons, All-nil}
-use Rattle.hb_set.specs.Order.{Entry}
 use Rattle.hb_set.specs.declared.commands.Reply.{Reply}
 use Rattle.hb_set.specs.declared.commands.Reply.TheVariants as replies
 use Rattle.hb_set.specs.declared.scripts.Answered.{Answered}
 use Rattle.hb_activity.specs.declared.activities.Activity.{Activity}
 use Rattle.hb_activity.specs.declared.activities.Activity.TheVariants as at
-use Rattle.hb_store.specs.States.{StoreState}
 use Rattle.hb_core.specs.declared.outcomes.Outcome.{Outcome}
 use Rattle.hb_core.specs.declared.outcomes.Outcome.TheVariants as outcomes
-use Rattle.hb_core.specs.Machines.{Machine, if_some}
-use Rattle.hb_core.specs.Deeds.{Deed}
-use Rattle.hb_core.specs.Performing.{Performs, given_by}
-use Rattle.hb_core.specs.KeptOrder.{StandsInOrder, StandsOutside}
-use Rattle.hb_core.specs.Steps.{StepsTo, Works}
-use Rattle.hb_core.specs.ConsolidatorRows.{IsMergingOf, TakesMerging}
-use Rattle.hb_core.specs.WorkerRows.{IsPostingOf, TakesJob}
-use Rattle.hb_core.proofs.LineFates.{LineFate, Waits, fate_given_up, fate_ran_out, fate_row}
+use Rattle.hb_activity.specs.Deeds.{Deed}
+use Rattle.hb_consol.specs.ConsolidatorRows.{IsMergingOf}
+use Rattle.hb_core.proofs.LineFates.{LineFate, fate_given_up, fate_ran_out, fate_row}
 use Rattle.hb_core.proofs.StepCases.{each_step}
 use Rattle.hb_core.proofs.Ways.{KeepsAllButDisk, forces_so, meets_so, stays_so}
+use Rattle.hb_core.specs.KeptOrder.{StandsInOrder, StandsOutside}
+use Rattle.hb_core.specs.Machines.{Machine, if_some}
+use Rattle.hb_core.specs.Performing.{Performs, given_by}
+use Rattle.hb_core.specs.Steps.{StepsTo, Works, TakesMerging, TakesJob}
+use Rattle.hb_poster.specs.PosterRows.{IsPostingOf}
+use Rattle.hb_set.specs.Order.{Entry}
+use Rattle.hb_store.specs.States.{StoreState}
+use Rattle.hb_text.specs.OutputLaws.{Waits}
 
 abbrev pub StandsSomewhere : Machine → Answered → Type 0
 StandsSomewhere m a = StandsOutside a.reply ⊎ ((place : ℕ) × StandsInOrder m a.line a.reply place)

@@ -7,33 +7,33 @@ use Rattle.hb_frag.specs.declared.pages.Page.TheVariants.{Live}
 use Rattle.hb_ops.specs.declared.operations.Op.{Op}
 use Rattle.hb_latch.specs.declared.modes.Mode.{Mode}
 use Rattle.hb_latch.specs.declared.modes.Mode.TheVariants.{Shared, Update, Exclusive}
-use Rattle.hb_latch.specs.Modes.{goes_beside}
-use Rattle.hb_latch.specs.Tables.{IsGrantable, MayLatch, mode_at}
 use Rattle.hb_activity.specs.declared.wanting.Wanted.{Wanted}
 use Rattle.hb_activity.specs.declared.activities.Activity.{Activity}
 use Rattle.hb_activity.specs.declared.activities.Activity.TheVariants as at
+use Rattle.hb_activity.specs.declared.dropping.DropWhy.{DropWhy}
+use Rattle.hb_core.specs.declared.outcomes.Outcome.{Outcome}
+use Rattle.hb_core.specs.declared.outcomes.Outcome.TheVariants as outcomes
+use Rattle.hb_activity.specs.Deeds.{Deed, does}
+use Rattle.hb_core.proofs.OwnedOps.{IsFreeFor, OwnsTargets, allowed_by, owned_row}
+use Rattle.hb_core.proofs.StepKinds.{IsOutright, each_kind}
+use Rattle.hb_core.proofs.Targets.{IsNumber, numbers_are_targets, set_elsewhere}
+use Rattle.hb_core.specs.Asking.{wanted_by}
+use Rattle.hb_core.specs.Fetching.{Brings}
+use Rattle.hb_core.specs.Forcing.{ForcesFirst, StaysSo}
+use Rattle.hb_core.specs.GivingUp.{gives_up, runs_out}
+use Rattle.hb_core.specs.Keeps.{HoldsPagesOfFile, LatchesFit}
+use Rattle.hb_core.specs.Laws.{HasAlone, HeldPagesStay, IsInUse, OwnPagesChange, TakesAlone}
+use Rattle.hb_core.specs.Machines.{Machine}
+use Rattle.hb_core.specs.Performing.{MayDo, Performs}
+use Rattle.hb_core.specs.Steps.{GetsReady, Works}
+use Rattle.hb_latch.specs.Modes.{goes_beside}
+use Rattle.hb_latch.specs.Tables.{IsGrantable, MayLatch, mode_at}
 use Rattle.hb_store.specs.Calls.{change_here, read_here}
 use Rattle.hb_store.specs.Replay.{set_pages}
 use Rattle.hb_store.specs.States.{StoreState, in_memory}
-use Rattle.hb_core.specs.declared.outcomes.DropWhy.{DropWhy}
-use Rattle.hb_core.specs.declared.outcomes.Outcome.{Outcome}
-use Rattle.hb_core.specs.declared.outcomes.Outcome.TheVariants as outcomes
-use Rattle.hb_core.specs.Machines.{Machine}
-use Rattle.hb_core.specs.Asking.{wanted_by}
-use Rattle.hb_core.specs.Fetching.{Brings}
-use Rattle.hb_core.specs.Deeds.{Deed}
-use Rattle.hb_core.specs.Performing.{MayDo, Performs}
-use Rattle.hb_core.specs.Forcing.{ForcesFirst, StaysSo}
-use Rattle.hb_core.specs.GivingUp.{gives_up, runs_out}
-use Rattle.hb_core.specs.Steps.{GetsReady, Works}
-use Rattle.hb_core.specs.Keeps.{HoldsPagesOfFile, LatchesFit}
-use Rattle.hb_core.specs.Laws.{HasAlone, HeldPagesStay, IsInUse, OwnPagesChange, TakesAlone}
-use Rattle.hb_core.proofs.StepKinds.{IsOutright, each_kind}
-use Rattle.hb_core.proofs.Targets.{IsNumber, numbers_are_targets, set_elsewhere}
-use Rattle.hb_core.proofs.OwnedOps.{IsFreeFor, OwnsTargets, allowed_by, owned_row}
 
 -- what a line or a job that can't go on does to the file
-pub gives_up_nothing : (m : Machine) (why : DropWhy) (activity : Activity) → (gives_up m why activity).op ≡ None
+pub gives_up_nothing : (m : Machine) (why : DropWhy) (activity : Activity) → (gives_up why activity).op ≡ None
 gives_up_nothing m why at.SessionIdle = refl
 gives_up_nothing m why (at.SessionWalk line held rest found) = refl
 gives_up_nothing m why (at.SessionSplit line held) = refl
@@ -54,7 +54,7 @@ gives_up_nothing m why (at.ConsolidatorKeep job parent keep gone) = refl
 gives_up_nothing m why (at.ConsolidatorDecide job parent keep gone) = refl
 gives_up_nothing m why at.Flusher = refl
 
-pub runs_out_nothing : (m : Machine) (activity : Activity) → (runs_out m activity).op ≡ None
+pub runs_out_nothing : (m : Machine) (activity : Activity) → (runs_out activity).op ≡ None
 runs_out_nothing m at.SessionIdle = refl
 runs_out_nothing m (at.SessionWalk line held rest found) = refl
 runs_out_nothing m (at.SessionSplit line held) = refl
@@ -87,7 +87,7 @@ module _ (m : Machine) (actor : ℕ) (latches : MayLatch actor) (fit : LatchesFi
   same_memory is = inl (ap (λ (st : StoreState). in_memory st id) is ∙ used)
 
   -- a fetch leaves it
-  fetched_stays : (may : ℕ → Type 0) (fetched : StoreState) → Brings m.files may m.store fetched → in_memory fetched id ≡ Some (Live page)
+  fetched_stays : (may : ℕ → Type 0) (fetched : StoreState) → Brings m may fetched → in_memory fetched id ≡ Some (Live page)
   fetched_stays may fetched brings = brings.stays id (is_there (in_memory m.store id) (Live page) used) ∙ used
 
   -- and so does what is done on other pages
@@ -103,7 +103,7 @@ module _ (m : Machine) (actor : ℕ) (latches : MayLatch actor) (fit : LatchesFi
           free (inl alone) = inr alone
           free (inr never) = absurd (never page used)
 
-  performed : (may : ℕ → Type 0) (fetched : StoreState) (deed : Deed) (outcome : Outcome) → Brings m.files may m.store fetched → OwnsTargets m actor deed.op → Performs m fetched actor deed outcome new → Goal
+  performed : (may : ℕ → Type 0) (fetched : StoreState) (deed : Deed) (outcome : Outcome) → Brings m may fetched → OwnsTargets m actor deed.op → Performs m fetched actor deed outcome new → Goal
   performed may fetched deed outcome brings owned performs = done deed.op _ fetched (fetched_stays may fetched brings) owned performs.store
 
   -- with no operation
@@ -115,14 +115,14 @@ module _ (m : Machine) (actor : ℕ) (latches : MayLatch actor) (fit : LatchesFi
 
   forced : (said outcome : Outcome) → ForcesFirst m said outcome new → Goal
   forced said outcome (inl (says, is)) = inl (ap (λ (n : Machine). in_memory n.store id) is ∙ used)
-  forced said outcome (inr badly) = inl (ap (λ (n : Machine). in_memory n.store id) badly.stops ∙ used)
+  forced said outcome (inr badly) = inl (ap (λ (n : Machine). in_memory n.store id) badly.1.stops ∙ used)
 
   stays : (said outcome : Outcome) → StaysSo m said outcome new → Goal
   stays said outcome (says, is) = inl (ap (λ (n : Machine). in_memory n.store id) is ∙ used)
 
   made_ready : (outcome : Outcome) → GetsReady m actor outcome new → Goal
   made_ready outcome (inl (waits, force)) = forced outcomes.Helped outcome force
-  made_ready outcome (inr (none, performs)) = only_moved (runs_out m (m.activity actor)) outcome (runs_out_nothing m (m.activity actor)) performs
+  made_ready outcome (inr (none, performs)) = only_moved (runs_out (m.activity actor)) outcome (runs_out_nothing m (m.activity actor)) performs
 
   worked : (outcome : Outcome) → Works m actor outcome new → Goal
   worked outcome (inl (by, way, so)) = stays (outcomes.Blocked by) outcome so
@@ -132,7 +132,7 @@ module _ (m : Machine) (actor : ℕ) (latches : MayLatch actor) (fit : LatchesFi
       (owned_row m actor _ acts.fetched latches fit inside free acts.brings (wanted_by m actor) acts.deed refl (allowed_by acts.deed.op _ acts.fetched new.store acts.performs.store) acts.row)
       acts.performs
   worked outcome (inr (inr (free, ready, inr (inl gives)))) =
-      performed _ gives.fetched (gives_up m gives.why (m.activity actor)) outcome gives.brings (owns_nothing _ (gives_up_nothing m gives.why (m.activity actor))) gives.performs
+      performed _ gives.fetched (gives_up gives.why (m.activity actor)) outcome gives.brings (owns_nothing _ (gives_up_nothing m gives.why (m.activity actor))) gives.performs
   worked outcome (inr (inr (free, ready, inr (inr meets)))) = inl (ap (λ (n : Machine). in_memory n.store id) meets.stops ∙ fetched_stays _ meets.fetched meets.brings)
 
   moved : (outcome : Outcome) (deed : Deed) → IsOutright deed → Performs m m.store actor deed outcome new → Goal

@@ -4,35 +4,35 @@ use Rattle.std.proofs.Common.{◌≡◌, ◌⊎◌, inl, inr, ℕ, suc, ◌<◌,
 use Rattle.std.proofs.lemmas.List.{length-append, take_all, take-append-le}
 use Rattle.std.proofs.lemmas.List.Elements.{All-append, All-cons, All-nil, All-push}
 use Rattle.std.proofs.lemmas.List.Kept.{AllPairs-cons}
-use Rattle.hb_wal.specs.Log.{LogState, Waiting, left_waiting, mark_of}
-use Rattle.hb_ops.specs.Files.{FileState, contents_of}
 use Rattle.hb_ops.specs.declared.operations.Op.{Op}
-use Rattle.hb_set.specs.Machine.{RecordSet}
-use Rattle.hb_set.specs.Order.{Entry, IsLegalOrder, result_of}
 use Rattle.hb_set.specs.declared.commands.Reply.{Reply}
 use Rattle.hb_set.specs.declared.scripts.Answered.{Answered}
-use Rattle.hb_store.specs.Calls.{durable_after, later_after}
-use Rattle.hb_store.specs.Images.{group_here}
-use Rattle.hb_store.specs.Keeps.{last_of}
-use Rattle.hb_store.specs.States.{StoreState}
-use Rattle.hb_log_codec.specs.Groups.{group_bytes}
 use Rattle.hb_core.specs.declared.outcomes.Outcome.{Outcome}
 use Rattle.hb_core.specs.declared.outcomes.Outcome.TheVariants as outcomes
-use Rattle.hb_core.specs.Machines.{Files, Machine, current_file, if_some, settled_count}
-use Rattle.hb_core.specs.Acting.{MeetsBadPage}
-use Rattle.hb_core.specs.Deeds.{Deed}
-use Rattle.hb_core.specs.Performing.{MayDo, Performs, files_after, given_by, with_effect}
-use Rattle.hb_core.specs.Forcing.{ForcesFirst, StaysSo, forced_files}
-use Rattle.hb_core.specs.Steps.{StepsTo, Works}
-use Rattle.hb_core.specs.Keeps.{HasSoundFile}
-use Rattle.hb_core.specs.KeptOrder.{FollowMarks, HasLegalOrder, HasPendingPrefix, StandsInOrder, StandsOutside}
-use Rattle.hb_core.specs.KeepingLaws.{IsAnsweredInPlace, PrefixStaysPending, SettledStaysSettled}
+use Rattle.hb_activity.specs.Deeds.{Deed, does}
 use Rattle.hb_core.proofs.AnswersInPlace.{answers_are_in_place}
 use Rattle.hb_core.proofs.Moments.{answers_are_timed}
 use Rattle.hb_core.proofs.SinglePlaces.{no_place, one_place, stands_longer}
 use Rattle.hb_core.proofs.StepKinds.{each_kind}
 use Rattle.hb_core.proofs.ToldStays.{still_told}
 use Rattle.hb_core.proofs.Ways.{order_grows}
+use Rattle.hb_core.specs.Acting.{MeetsBadPage}
+use Rattle.hb_core.specs.Forcing.{ForcesFirst, StaysSo, forced_files}
+use Rattle.hb_core.specs.KeepingLaws.{IsAnsweredInPlace, PrefixStaysPending, SettledStaysSettled}
+use Rattle.hb_core.specs.Keeps.{HasSoundFile}
+use Rattle.hb_core.specs.KeptOrder.{FollowMarks, HasLegalOrder, HasPendingPrefix, StandsInOrder, StandsOutside}
+use Rattle.hb_core.specs.Machines.{Files, Machine, current_file, if_some, settled_count}
+use Rattle.hb_core.specs.Performing.{MayDo, Performs, files_after, given_by, with_effect}
+use Rattle.hb_core.specs.Steps.{StepsTo, Works}
+use Rattle.hb_log_codec.specs.Groups.{group_bytes}
+use Rattle.hb_ops.specs.Files.{FileState, contents_of}
+use Rattle.hb_set.specs.Machine.{RecordSet}
+use Rattle.hb_set.specs.Order.{Entry, IsLegalOrder, result_of}
+use Rattle.hb_store.specs.Calls.{durable_after, later_after}
+use Rattle.hb_store.specs.Images.{group_here}
+use Rattle.hb_store.specs.Keeps.{last_of}
+use Rattle.hb_store.specs.States.{StoreState}
+use Rattle.hb_wal.specs.Log.{LogState, Waiting, left_waiting, mark_of}
 
 -- ---- groups and the files before them
 
@@ -161,7 +161,7 @@ module _ (n : RecordSet) (m : Machine) (files : Files) (new : Machine) (files' :
 
     forced_first : (said : Outcome) → ForcesFirst m said outcome new → KeepsMarks n m new files'
     forced_first said (inl well) = forced (ap (λ (x : Machine). x.order) well.1) (ap (λ (x : Machine). x.store.log.groups) well.1) (ap (λ (x : Machine). x.files) well.1)
-    forced_first said (inr badly) = same (ap (λ (x : Machine). x.order) badly.stops) (ap (λ (x : Machine). x.store.log.groups) badly.stops) (ap (λ (x : Machine). x.files) badly.stops)
+    forced_first said (inr badly) = same (ap (λ (x : Machine). x.order) badly.1.stops) (ap (λ (x : Machine). x.store.log.groups) badly.1.stops) (ap (λ (x : Machine). x.files) badly.1.stops)
 
     met : MeetsBadPage m actor outcome new → KeepsMarks n m new files'
     met meets = same (ap (λ (x : Machine). x.order) meets.stops) (ap (λ (x : Machine). x.store.log.groups) meets.stops ∙ ap (λ (log : LogState). log.groups) meets.brings.rest.log) (ap (λ (x : Machine). x.files) meets.stops)

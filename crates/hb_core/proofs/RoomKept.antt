@@ -7,37 +7,22 @@ use Rattle.hb_layout.specs.declared.limits.TheConstants.{DCAP_MIN}
 use Rattle.hb_layout.specs.declared.meta.Meta.{Meta}
 use Rattle.hb_frag.specs.declared.pages.LivePage.{LivePage}
 use Rattle.hb_frag.specs.declared.pages.Page.TheVariants.{Live}
-use Rattle.hb_frag.specs.Leaves.{weight_of}
 use Rattle.hb_ops.specs.declared.operations.Op.{Op}
 use Rattle.hb_ops.specs.declared.operations.Op.TheVariants as ops
-use Rattle.hb_ops.specs.Files.{if_live}
-use Rattle.hb_ops.specs.Operations.{change_of}
-use Rattle.hb_ops.specs.Recording.{put_page}
 use Rattle.hb_set.specs.declared.commands.Command.TheVariants.{Insert}
 use Rattle.hb_set.specs.declared.scripts.Line.{Line}
 use Rattle.hb_latch.specs.declared.modes.Mode.{Mode}
 use Rattle.hb_latch.specs.declared.modes.Mode.TheVariants.{Exclusive}
-use Rattle.hb_latch.specs.Tables.{MayLatch}
 use Rattle.hb_activity.specs.declared.jobs.Job.{Job}
 use Rattle.hb_activity.specs.declared.holding.Latch.{Latch}
 use Rattle.hb_activity.specs.declared.activities.Activity.{Activity}
 use Rattle.hb_activity.specs.declared.activities.Activity.TheVariants as at
-use Rattle.hb_activity.specs.Holding.{latch_on}
-use Rattle.hb_activity.specs.Walks.{walk_held}
-use Rattle.hb_store.specs.Calls.{read_here}
-use Rattle.hb_store.specs.States.{StoreState, in_memory}
 use Rattle.hb_core.specs.declared.outcomes.Outcome.{Outcome}
 use Rattle.hb_core.specs.declared.outcomes.Outcome.TheVariants as outcomes
-use Rattle.hb_core.specs.Machines.{Files, Machine, live_here}
-use Rattle.hb_core.specs.Acting.{MeetsBadPage}
-use Rattle.hb_core.specs.Deeds.{Deed}
-use Rattle.hb_core.specs.Forcing.{ForcesFirst, StaysSo}
-use Rattle.hb_core.specs.Fetching.{Brings}
-use Rattle.hb_core.specs.Performing.{MayDo, Performs, latches_held}
-use Rattle.hb_core.specs.Steps.{StepsTo, Works}
-use Rattle.hb_core.specs.KeptLines.{line_in_hand}
-use Rattle.hb_core.specs.Keeps.{HasNobodyElse, HasRoomFor, HasSoundFile, HoldsPagesOfFile, KnowsRoom, LacksRoomFor, LatchesFit, OneHasRoom}
-use Rattle.hb_core.specs.KeepingLaws.{RoomStaysKnown}
+use Rattle.hb_activity.specs.Classes.{line_in_hand}
+use Rattle.hb_activity.specs.Deeds.{Deed, does}
+use Rattle.hb_activity.specs.Holding.{latch_on}
+use Rattle.hb_activity.specs.Walks.{walk_held}
 use Rattle.hb_core.proofs.Backing.{live_there}
 use Rattle.hb_core.proofs.NextPlaces.{HasPlace, HoldsNothing, KeepsParent, PartsFull, TakesFull, nothing_given_up, nothing_run_out, now, place_after}
 use Rattle.hb_core.proofs.SplitHalves.{one_has_room, takes_full}
@@ -45,6 +30,21 @@ use Rattle.hb_core.proofs.SplitHome.{RoomLaws}
 use Rattle.hb_core.proofs.StepKinds.{each_kind}
 use Rattle.hb_core.proofs.StillThere.{may_or_not, other_holds, own_next}
 use Rattle.hb_core.proofs.Ways.{KeepsAllButDisk, forces_so, meets_so, stays_so}
+use Rattle.hb_core.specs.Acting.{MeetsBadPage}
+use Rattle.hb_core.specs.Fetching.{Brings}
+use Rattle.hb_core.specs.Forcing.{ForcesFirst, StaysSo}
+use Rattle.hb_core.specs.KeepingLaws.{RoomStaysKnown}
+use Rattle.hb_core.specs.Keeps.{HasNobodyElse, HasRoomFor, HasSoundFile, HoldsPagesOfFile, KnowsRoom, LacksRoomFor, LatchesFit, OneHasRoom}
+use Rattle.hb_core.specs.Machines.{Files, Machine, live_here}
+use Rattle.hb_core.specs.Performing.{MayDo, Performs, latches_held}
+use Rattle.hb_core.specs.Steps.{StepsTo, Works}
+use Rattle.hb_frag.specs.Leaves.{weight_of}
+use Rattle.hb_latch.specs.Tables.{MayLatch}
+use Rattle.hb_ops.specs.Files.{if_live}
+use Rattle.hb_ops.specs.Operations.{change_of}
+use Rattle.hb_ops.specs.Recording.{put_page}
+use Rattle.hb_store.specs.Calls.{read_here}
+use Rattle.hb_store.specs.States.{StoreState, in_memory}
 
 -- ---- the capacity stays
 
@@ -78,7 +78,7 @@ module _ (m : Machine) (actor : ℕ) (outcome : Outcome) (new : Machine) where
 
   by_force : (said : Outcome) → ForcesFirst m said outcome new → SameCapacity m new
   by_force said (inl well) = ap (λ (x : Machine). x.store.meta.dcap) well.1
-  by_force said (inr badly) = ap (λ (x : Machine). x.store.meta.dcap) badly.stops
+  by_force said (inr badly) = ap (λ (x : Machine). x.store.meta.dcap) badly.1.stops
 
   by_bad_page : MeetsBadPage m actor outcome new → SameCapacity m new
   by_bad_page meets = ap (λ (x : Machine). x.store.meta.dcap) meets.stops ∙ ap (λ (x : Meta). x.dcap) meets.brings.rest.meta
@@ -224,7 +224,7 @@ knows_as m activity other is knows = subst (KnowsOf m) (sym is) knows
 -- ---- the actor that steps
 
 module _ (laws : RoomLaws) (least : DCAP_MIN ≡ 6) (m : Machine) (files : Files) (actor : ℕ) (may : ℕ → Type 0) (fetched : StoreState) (told : m.files ≡ Some files) (inside : HoldsPagesOfFile m) (sound : HasSoundFile m files) (knows : KnowsRoom m)
-    (brings : Brings m.files may m.store fetched) (deed : Deed) (new : Machine) (capacity : SameCapacity m new) (does : MayDo deed.op (length m.order) fetched new.store) where
+    (brings : Brings m may fetched) (deed : Deed) (new : Machine) (capacity : SameCapacity m new) (does : MayDo deed.op (length m.order) fetched new.store) where
   full_known : (full : TakesFull (now m actor fetched) deed) → LacksRoom new full.line full.id
   full_known full = (full.rec, full.command, takes_full m actor may fetched inside brings deed new does laws full)
 

@@ -3,9 +3,28 @@ use Rattle.std.proofs.Common.{◌≡◌, inl, inr, ℕ, ◌+◌, List, [], ◌�
 use Rattle.std.proofs.lemmas.List.Elements.{All-append, All-cons, All-head, All-nil, All-tail}
 use Rattle.hb_frag.specs.declared.pages.Page.{Page}
 use Rattle.hb_layout.specs.declared.meta.Meta.{Meta}
-use Rattle.hb_layout.specs.Limits.{IsLayout}
-use Rattle.hb_wal.specs.Log.{Waiting, left_waiting}
 use Rattle.hb_ops.specs.declared.operations.Op.{Op}
+use Rattle.hb_core.specs.declared.outcomes.Outcome.{Outcome}
+use Rattle.hb_core.specs.declared.outcomes.Outcome.TheVariants as outcomes
+use Rattle.hb_activity.specs.Deeds.{Deed, does}
+use Rattle.hb_core.proofs.FileOps.{ShowsFile, allowed_in_file, has_in_file, licensed_in_file, meta_after, shown_after}
+use Rattle.hb_core.proofs.FitOps.{HeldArePoints, fits_op}
+use Rattle.hb_core.proofs.KeptPages.{KeepsPages, brought, change_is_well, keeps_pages}
+use Rattle.hb_core.proofs.LaterPages.{last_sound}
+use Rattle.hb_core.proofs.OwnPages.{gives_up_nothing, runs_out_nothing}
+use Rattle.hb_core.proofs.RowTells.{Tells, TellsOp, tells_row}
+use Rattle.hb_core.proofs.StepKinds.{each_kind}
+use Rattle.hb_core.specs.Acting.{MeetsBadPage}
+use Rattle.hb_core.specs.Asking.{wanted_by}
+use Rattle.hb_core.specs.Fetching.{Brings}
+use Rattle.hb_core.specs.FileLaws.{FilesStaySound, MayBeDoneIn, RowsAreLicensed}
+use Rattle.hb_core.specs.Forcing.{ForcesFirst, StaysSo, forced_files}
+use Rattle.hb_core.specs.Keeps.{HasSoundFile}
+use Rattle.hb_core.specs.KeptLines.{LinesFit, MarksInPlace}
+use Rattle.hb_core.specs.Machines.{Files, Machine, current_file}
+use Rattle.hb_core.specs.Performing.{DoesOp, MayDo, Performs, files_after, with_effect}
+use Rattle.hb_core.specs.Steps.{Works}
+use Rattle.hb_layout.specs.Limits.{IsLayout}
 use Rattle.hb_ops.specs.Files.{FileState, page_of}
 use Rattle.hb_ops.specs.Operations.{effect_of}
 use Rattle.hb_ops.specs.Sound.{IsSound}
@@ -15,26 +34,7 @@ use Rattle.hb_store.specs.Keeps.{last_of}
 use Rattle.hb_store.specs.Making.{HaveFittingParts, MakesGoodPages}
 use Rattle.hb_store.specs.ReplayLaws.{last_of-append}
 use Rattle.hb_store.specs.States.{StoreState, in_memory}
-use Rattle.hb_core.specs.declared.outcomes.Outcome.{Outcome}
-use Rattle.hb_core.specs.declared.outcomes.Outcome.TheVariants as outcomes
-use Rattle.hb_core.specs.Machines.{Files, Machine, current_file}
-use Rattle.hb_core.specs.Asking.{wanted_by}
-use Rattle.hb_core.specs.Fetching.{Brings}
-use Rattle.hb_core.specs.Deeds.{Deed}
-use Rattle.hb_core.specs.Performing.{DoesOp, MayDo, Performs, files_after, with_effect}
-use Rattle.hb_core.specs.Acting.{MeetsBadPage}
-use Rattle.hb_core.specs.Forcing.{ForcesFirst, StaysSo, forced_files}
-use Rattle.hb_core.specs.Keeps.{HasSoundFile}
-use Rattle.hb_core.specs.KeptLines.{LinesFit, MarksInPlace}
-use Rattle.hb_core.specs.FileLaws.{FilesStaySound, MayBeDoneIn, RowsAreLicensed}
-use Rattle.hb_core.specs.Steps.{Works}
-use Rattle.hb_core.proofs.FileOps.{ShowsFile, allowed_in_file, has_in_file, licensed_in_file, meta_after, shown_after}
-use Rattle.hb_core.proofs.FitOps.{HeldArePoints, fits_op}
-use Rattle.hb_core.proofs.KeptPages.{KeepsPages, brought, change_is_well, keeps_pages}
-use Rattle.hb_core.proofs.LaterPages.{last_sound}
-use Rattle.hb_core.proofs.OwnPages.{gives_up_nothing, runs_out_nothing}
-use Rattle.hb_core.proofs.RowTells.{Tells, TellsOp, tells_row}
-use Rattle.hb_core.proofs.StepKinds.{each_kind}
+use Rattle.hb_wal.specs.Log.{Waiting, left_waiting}
 
 -- What a store and the files over its disk have in common.
 pub record FilesHold (st : StoreState) (files : Files) : Type 0 where
@@ -76,7 +76,7 @@ keeps_marks m files has =
     }
 
 -- what a fetch brings is of the file
-pub brought_shown : (m : Machine) (files : Files) (may : ℕ → Type 0) (fetched : StoreState) → m.files ≡ Some files → Brings m.files may m.store fetched → FilesHold m.store files → FilesHold fetched files
+pub brought_shown : (m : Machine) (files : Files) (may : ℕ → Type 0) (fetched : StoreState) → m.files ≡ Some files → Brings m may fetched → FilesHold m.store files → FilesHold fetched files
 brought_shown m files may fetched told brings holds = record {
   durable = holds.durable;
   later = holds.later;
@@ -152,7 +152,7 @@ module _ (makes : MakesGoodPages) (parts : HaveFittingParts) (points : HeldArePo
       stays said (says, is) = unmoved m.store holds (ap (λ (n : Machine). n.store) is) (ap (λ (n : Machine). n.files) is)
 
       meets : MeetsBadPage m actor outcome new → HoldAfter new
-      meets bad = unmoved bad.fetched (brought_shown m files _ bad.fetched told bad.brings holds) (ap (λ (n : Machine). n.store) bad.stops) (ap (λ (n : Machine). n.files) bad.stops)
+      meets bad = unmoved bad.fetched (brought_shown m files _ bad.fetched told bad.brings holds) (ap (λ (n : Machine). n.store) bad.1.stops) (ap (λ (n : Machine). n.files) bad.1.stops)
 
       done : (op : Option Op) (mark : ℕ) (old : StoreState) → KeepsPages old → FilesHold old files → Tells old op → MayDo op mark old new.store → new.files ≡ files_after op m.files → HoldAfter new
       done None mark old keeps holds tells same is = unmoved old holds same is
@@ -188,8 +188,8 @@ module _ (makes : MakesGoodPages) (parts : HaveFittingParts) (points : HeldArePo
           )
       forces said (inr badly) = (
         files,
-        ap (λ (n : Machine). n.files) badly.stops ∙ told,
-        subst (λ (n : Machine). FilesHold n.store files) (sym badly.stops) (record {
+        ap (λ (n : Machine). n.files) badly.1.stops ∙ told,
+        subst (λ (n : Machine). FilesHold n.store files) (sym badly.1.stops) (record {
           durable = holds.durable;
           later = holds.later;
           each = holds.each;

@@ -8,21 +8,21 @@ use Rattle.hb_set.specs.declared.scripts.Line.{Line}
 use Rattle.hb_activity.specs.declared.jobs.Job.{Job}
 use Rattle.hb_activity.specs.declared.activities.Activity.{Activity}
 use Rattle.hb_activity.specs.declared.activities.Activity.TheVariants as at
-use Rattle.hb_activity.specs.Walks.{walk_held}
-use Rattle.hb_store.specs.States.{StoreState}
 use Rattle.hb_store.specs.declared.stops.StopWhy.{StopWhy}
 use Rattle.hb_core.specs.declared.outcomes.Outcome.{Outcome}
 use Rattle.hb_core.specs.declared.outcomes.Outcome.TheVariants as outcomes
+use Rattle.hb_activity.specs.Deeds.{Deed, answers_now}
+use Rattle.hb_activity.specs.Walks.{walk_held}
+use Rattle.hb_consol.specs.ConsolidatorRows.{IsMergingOf}
+use Rattle.hb_core.specs.Forcing.{Flushes, ForcesFirst, StaysSo}
+use Rattle.hb_core.specs.KeptMerges.{merging_at}
 use Rattle.hb_core.specs.Machines.{Machine}
-use Rattle.hb_core.specs.Deeds.{Deed, answers_now}
 use Rattle.hb_core.specs.Performing.{Performs, given_by, latches_held}
 use Rattle.hb_core.specs.Stages.{flusher_steps}
-use Rattle.hb_core.specs.Forcing.{Flushes, ForcesFirst, StaysSo}
-use Rattle.hb_core.specs.SessionRows.{next_line, taking}
-use Rattle.hb_core.specs.WorkerRows.{IsPostingOf}
-use Rattle.hb_core.specs.ConsolidatorRows.{IsMergingOf}
-use Rattle.hb_core.specs.KeptMerges.{merging_at}
-use Rattle.hb_core.specs.Steps.{AwaitsPlace, StepsAs, StepsTo, TakesJobToMerge, TakesPosting, WantsBoxes, Works}
+use Rattle.hb_core.specs.Steps.{AwaitsPlace, StepsAs, StepsTo, TakesJobToMerge, TakesPosting, Works}
+use Rattle.hb_point.specs.SessionRows.{next_line, taking, WantsBoxes}
+use Rattle.hb_poster.specs.PosterRows.{IsPostingOf}
+use Rattle.hb_store.specs.States.{StoreState}
 
 -- an outcome that answers no line
 abbrev pub IsQuiet : Outcome → Type 0
@@ -55,7 +55,7 @@ merging_takes_nothing deed job height none (inr (below, is)) = rests deed none (
 
 module _ (m : Machine) (actor : ℕ) (outcome : Outcome) (new : Machine) (G : Type 0) (stays : (said : Outcome) → IsQuiet said → StaysSo m said outcome new → G) (forces : (said : Outcome) → IsQuiet said → ForcesFirst m said outcome new → G)
     (outright : (deed : Deed) → IsOutright deed → Performs m m.store actor deed outcome new → G) (works : Works m actor outcome new → G) where
-  took_line : (line : Option Line) → MatchOption line (StaysSo m outcomes.Idle outcome new) (λ line. Performs m m.store actor (taking m line) outcome new ⊎ (WantsBoxes line.command × Performs m m.store actor (answers_now m line.number replies.NoMemory) outcome new)) → G
+  took_line : (line : Option Line) → MatchOption line (StaysSo m outcomes.Idle outcome new) (λ line. Performs m m.store actor (taking line) outcome new ⊎ (WantsBoxes line.command × Performs m m.store actor (answers_now line.number replies.NoMemory) outcome new)) → G
   took_line None so = stays outcomes.Idle (λ at. refl) so
   took_line (Some line) (inl performs) = outright _ (record { op = refl; walk = refl; latches = λ st. refl; merging = refl }) performs
   took_line (Some line) (inr (boxes, performs)) = outright _ (record { op = refl; walk = refl; latches = λ st. refl; merging = refl }) performs

@@ -3,11 +3,11 @@ use Rattle.std.proofs.Common.{◌≡◌, inl, inr, ℕ, Option, Some, None, opti
 use Rattle.hb_ops.specs.declared.operations.Op.{Op}
 use Rattle.hb_core.specs.declared.outcomes.Outcome.{Outcome}
 use Rattle.hb_core.specs.declared.outcomes.Outcome.TheVariants as outcomes
+use Rattle.hb_core.proofs.StepKinds.{each_kind}
+use Rattle.hb_core.specs.Forcing.{ForcesFirst, StaysSo, forced_files}
 use Rattle.hb_core.specs.Machines.{Files, Machine}
 use Rattle.hb_core.specs.Performing.{files_after, with_effect}
-use Rattle.hb_core.specs.Forcing.{ForcesFirst, StaysSo, forced_files}
 use Rattle.hb_core.specs.Steps.{StepsTo, Works}
-use Rattle.hb_core.proofs.StepKinds.{each_kind}
 
 abbrev pub IsTold : Machine → Type 0
 IsTold new = (files : Files) × (new.files ≡ Some files)
@@ -22,7 +22,7 @@ module _ (m : Machine) (files : Files) (told : m.files ≡ Some files) (actor : 
 
   told_forced : (said : Outcome) → ForcesFirst m said outcome new → IsTold new
   told_forced said (inl well) = (forced_files files, ap (λ (x : Machine). x.files) well.1 ∙ ap (option_map forced_files) told)
-  told_forced said (inr badly) = (files, ap (λ (x : Machine). x.files) badly.stops ∙ told)
+  told_forced said (inr badly) = (files, ap (λ (x : Machine). x.files) badly.1.stops ∙ told)
 
   told_works : Works m actor outcome new → IsTold new
   told_works (inl (by, way, so)) = told_stays (outcomes.Blocked by) so

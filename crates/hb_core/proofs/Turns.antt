@@ -4,30 +4,31 @@ use Rattle.std.specs.List.{Contains}
 use Rattle.std.specs.Option.{IsSomeAnd}
 use Rattle.std.proofs.lemmas.Bool.{cases_Bool, eq-eqb, eqb-true, eqb-false}
 use Rattle.std.proofs.lemmas.List.Elements.{All-append, All-cons, All-nil}
-use Rattle.hb_set.specs.Order.{AreRising, Entry}
 use Rattle.hb_set.specs.declared.commands.Reply.{Reply}
 use Rattle.hb_set.specs.declared.scripts.Answered.{Answered}
 use Rattle.hb_set.specs.declared.scripts.Line.{Line}
 use Rattle.hb_activity.specs.declared.activities.Activity.{Activity}
 use Rattle.hb_activity.specs.declared.activities.Activity.TheVariants as at
-use Rattle.hb_store.specs.States.{StoreState}
 use Rattle.hb_core.specs.declared.outcomes.Outcome.{Outcome}
 use Rattle.hb_core.specs.declared.outcomes.Outcome.TheVariants as outcomes
-use Rattle.hb_core.specs.Machines.{Machine, if_some, is_answered, with_activity}
-use Rattle.hb_core.specs.Deeds.{Deed}
-use Rattle.hb_core.specs.Performing.{Performs, given_by}
-use Rattle.hb_core.specs.SessionRows.{next_line}
-use Rattle.hb_core.specs.KeptLines.{line_in_hand}
-use Rattle.hb_core.specs.KeptTurns.{LinesInTurn, awaited_number}
-use Rattle.hb_core.specs.OrderLaws.{TurnsStay}
-use Rattle.hb_core.specs.ConsolidatorRows.{IsMergingOf, TakesMerging}
-use Rattle.hb_core.specs.WorkerRows.{IsPostingOf, TakesJob}
-use Rattle.hb_core.specs.Steps.{Works}
-use Rattle.hb_core.proofs.LineFates.{LineFate, Waits, fate_given_up, fate_ran_out, fate_row}
+use Rattle.hb_activity.specs.Classes.{line_in_hand}
+use Rattle.hb_activity.specs.Deeds.{Deed}
+use Rattle.hb_consol.specs.ConsolidatorRows.{IsMergingOf}
+use Rattle.hb_core.proofs.LineFates.{LineFate, fate_given_up, fate_ran_out, fate_row}
 use Rattle.hb_core.proofs.LinesFit.{took_job, took_merging}
 use Rattle.hb_core.proofs.NextLines.{IsNextOf, answered_before, earlier_answered, next_is, next_stays, now_answered, same_line, still_answered}
 use Rattle.hb_core.proofs.StepCases.{each_step}
 use Rattle.hb_core.proofs.Ways.{KeepsAllButDisk, forces_so, meets_so, stays_so}
+use Rattle.hb_core.specs.KeptTurns.{LinesInTurn, awaited_number}
+use Rattle.hb_core.specs.Machines.{Machine, if_some, with_activity}
+use Rattle.hb_core.specs.OrderLaws.{TurnsStay}
+use Rattle.hb_core.specs.Performing.{Performs, given_by}
+use Rattle.hb_core.specs.Steps.{TakesMerging, TakesJob, Works}
+use Rattle.hb_point.specs.SessionRows.{is_answered, next_line}
+use Rattle.hb_poster.specs.PosterRows.{IsPostingOf}
+use Rattle.hb_set.specs.Order.{AreRising, Entry}
+use Rattle.hb_store.specs.States.{StoreState}
+use Rattle.hb_text.specs.OutputLaws.{Waits}
 
 pub waits_none : (activity : Activity) → (Waits activity → ⊥) → awaited_number activity ≡ None
 waits_none at.SessionIdle none = refl

@@ -1,38 +1,38 @@
 -- After a step the page that a walk holds has the walk's point in its box, and the parent that a poster holds a child leaf there.
 use Rattle.std.proofs.Common.{◌≡◌, ◌≢◌, ◌⊎◌, inl, inr, ℕ, ◌==◌, Bool, cond, List, [], ◌∷◌, Option, Some, None, IfSome, refl, sym, ap, ◌∙◌, subst}
 use Rattle.std.proofs.lemmas.Bool.{cases_Bool, eqb-true, eqb-false, eq-eqb, ne_eqb}
-use Rattle.hb_space.specs.Boxes.{Holds}
 use Rattle.hb_frag.specs.declared.pages.LivePage.{LivePage}
 use Rattle.hb_frag.specs.declared.pages.Page.TheVariants.{Live}
-use Rattle.hb_ops.specs.Files.{if_live}
-use Rattle.hb_ops.proofs.Tips.{first_held}
 use Rattle.hb_set.specs.declared.scripts.Line.{Line}
 use Rattle.hb_latch.specs.declared.modes.Mode.{Mode}
 use Rattle.hb_latch.specs.declared.modes.Mode.TheVariants.{Update, Exclusive}
-use Rattle.hb_latch.specs.Tables.{MayLatch}
 use Rattle.hb_activity.specs.declared.jobs.Job.{Job}
 use Rattle.hb_activity.specs.declared.activities.Activity.{Activity}
 use Rattle.hb_activity.specs.declared.activities.Activity.TheVariants as at
-use Rattle.hb_activity.specs.Holding.{latch_on}
-use Rattle.hb_activity.specs.Walks.{walk_held, walk_point}
-use Rattle.hb_store.specs.States.{StoreState, in_memory}
 use Rattle.hb_core.specs.declared.outcomes.Outcome.{Outcome}
 use Rattle.hb_core.specs.declared.outcomes.Outcome.TheVariants as outcomes
-use Rattle.hb_core.specs.Machines.{Machine, live_here}
-use Rattle.hb_core.specs.Fetching.{Brings}
-use Rattle.hb_core.specs.Deeds.{Deed}
-use Rattle.hb_core.specs.Performing.{Performs, latches_held, mode_among}
-use Rattle.hb_core.specs.Steps.{StepsTo, Works}
-use Rattle.hb_core.specs.Keeps.{HasNobodyElse, HoldsPagesOfFile, LatchesFit, WalksInSpace}
-use Rattle.hb_core.specs.KeepingLaws.{WalksStayInSpace}
-use Rattle.hb_core.specs.WorkerRows.{LeadsBelow}
-use Rattle.hb_core.specs.KeptMerges.{AtParent, NamesKnown, merging_at}
+use Rattle.hb_activity.specs.Deeds.{Deed}
+use Rattle.hb_activity.specs.Holding.{latch_on}
+use Rattle.hb_activity.specs.Passing.{LeadsBelow}
+use Rattle.hb_activity.specs.Walks.{walk_held, walk_point}
 use Rattle.hb_core.proofs.Backing.{live_there}
 use Rattle.hb_core.proofs.MergesKept.{HasMergePlace, PlaceStays, merged_place, named_again, names_still, none_named, place_latched}
 use Rattle.hb_core.proofs.NextPlaces.{HasPlace, HoldsNothing, KeepsParent, MergesOn, TakesParent, WalksTo, nothing_given_up, nothing_run_out, now, place_after}
 use Rattle.hb_core.proofs.StepKinds.{each_kind}
 use Rattle.hb_core.proofs.StillThere.{fetched_good, may_or_not, nothing_done, other_holds, other_walks, own_next, still_fetched}
 use Rattle.hb_core.proofs.Ways.{KeepsAllButDisk, forces_so, meets_so, stays_so}
+use Rattle.hb_core.specs.Fetching.{Brings}
+use Rattle.hb_core.specs.KeepingLaws.{WalksStayInSpace}
+use Rattle.hb_core.specs.Keeps.{HasNobodyElse, HoldsPagesOfFile, LatchesFit, WalksInSpace}
+use Rattle.hb_core.specs.KeptMerges.{AtParent, NamesKnown, merging_at}
+use Rattle.hb_core.specs.Machines.{Machine, live_here}
+use Rattle.hb_core.specs.Performing.{Performs, latches_held, mode_among}
+use Rattle.hb_core.specs.Steps.{StepsTo, Works}
+use Rattle.hb_latch.specs.Tables.{MayLatch}
+use Rattle.hb_ops.proofs.Tips.{first_held}
+use Rattle.hb_ops.specs.Files.{if_live}
+use Rattle.hb_space.specs.Boxes.{Holds}
+use Rattle.hb_store.specs.States.{StoreState, in_memory}
 
 abbrev pub IsAtParent : Activity → Job → ℕ → Type 0
 IsAtParent activity job parent = (activity ≡ at.PosterChild job parent) ⊎ (activity ≡ at.PosterPromote job parent) ⊎ (activity ≡ at.PosterAgain job parent)
@@ -188,7 +188,7 @@ same_number o id other a b = by (sym a ∙ b)
     by : Some id ≡ Some other → id ≡ other
     by is = cc
 
-module _ (m : Machine) (actor : ℕ) (may : ℕ → Type 0) (fetched : StoreState) (inside : HoldsPagesOfFile m) (walks : WalksInSpace m) (brings : Brings m.files may m.store fetched) (deed : Deed) (outcome : Outcome) (new : Machine) (performs : Performs m fetched actor deed outcome new) where
+module _ (m : Machine) (actor : ℕ) (may : ℕ → Type 0) (fetched : StoreState) (inside : HoldsPagesOfFile m) (walks : WalksInSpace m) (brings : Brings m may fetched) (deed : Deed) (outcome : Outcome) (new : Machine) (performs : Performs m fetched actor deed outcome new) where
   walks_to : WalksTo fetched deed → StandsInSpace new.store deed.next
   walks_to to =
       let store = nothing_done deed.op _ fetched new.store to.nothing performs.store in

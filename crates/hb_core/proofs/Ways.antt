@@ -1,22 +1,21 @@
 -- Each step does a deed of its actor, or leaves all but the disk as it was.
 use Rattle.std.proofs.Common.{◌≡◌, ◌⊎◌, inl, inr, ℕ, ◌++◌, Bool, cond, List, [], ◌∷◌, Option, Some, None, IsSome, refl, sym, ap, ◌∙◌, subst, ne_eqb, append-nil}
 use Rattle.hb_frag.specs.declared.pages.Page.{Page}
-use Rattle.hb_core.specs.Fetching.{Brings}
-use Rattle.hb_set.specs.Order.{Entry}
-use Rattle.hb_latch.specs.Tables.{LatchTable, mode_at}
 use Rattle.hb_activity.specs.declared.activities.Activity.{Activity}
-use Rattle.hb_store.specs.States.{StoreState, in_memory}
 use Rattle.hb_core.specs.declared.outcomes.Outcome.{Outcome}
 use Rattle.hb_core.specs.declared.outcomes.Outcome.TheVariants as outcomes
-use Rattle.hb_core.specs.Machines.{Machine, if_some}
-use Rattle.hb_core.specs.Deeds.{Deed}
-use Rattle.hb_core.specs.Performing.{Performs}
-use Rattle.hb_core.specs.Acting.{MeetsBadPage}
-use Rattle.hb_core.specs.Forcing.{ForcesFirst, StaysSo}
-use Rattle.hb_core.specs.Steps.{Works}
-use Rattle.hb_core.specs.Steps.{StepsTo}
+use Rattle.hb_activity.specs.Deeds.{Deed}
 use Rattle.hb_core.proofs.StepKinds.{each_kind}
+use Rattle.hb_core.specs.Acting.{MeetsBadPage}
+use Rattle.hb_core.specs.Fetching.{Brings}
+use Rattle.hb_core.specs.Forcing.{ForcesFirst, StaysSo}
 use Rattle.hb_core.specs.Laws.{OrderGrows, OthersStay}
+use Rattle.hb_core.specs.Machines.{Machine, if_some}
+use Rattle.hb_core.specs.Performing.{Performs}
+use Rattle.hb_core.specs.Steps.{Works, StepsTo}
+use Rattle.hb_latch.specs.Tables.{LatchTable, mode_at}
+use Rattle.hb_set.specs.Order.{Entry}
+use Rattle.hb_store.specs.States.{StoreState, in_memory}
 
 -- All but the disk is as it was, and what was in memory is there.
 pub record KeepsAllButDisk (m new : Machine) : Type 0 where
@@ -35,7 +34,7 @@ abbrev pub HasWay : Machine → ℕ → Outcome → Machine → Type 0
 HasWay m actor outcome new = KeepsAllButDisk m new ⊎ ((fetched : StoreState) × (deed : Deed) × Performs m fetched actor deed outcome new)
 
 module _ (m : Machine) (actor : ℕ) (outcome : Outcome) (new : Machine) where
-  brought : (may : ℕ → Type 0) (fetched : StoreState) → Brings m.files may m.store fetched → (id : ℕ) (page : Page) → in_memory m.store id ≡ Some page → in_memory fetched id ≡ Some page
+  brought : (may : ℕ → Type 0) (fetched : StoreState) → Brings m may fetched → (id : ℕ) (page : Page) → in_memory m.store id ≡ Some page → in_memory fetched id ≡ Some page
   brought may fetched brings id page there = brings.stays id (subst (λ (o : Option Page). IsSome o) (sym there) refl) ∙ there
 
   pub stays_so : (said : Outcome) → StaysSo m said outcome new → KeepsAllButDisk m new
@@ -43,7 +42,7 @@ module _ (m : Machine) (actor : ℕ) (outcome : Outcome) (new : Machine) where
 
   pub forces_so : (said : Outcome) → ForcesFirst m said outcome new → KeepsAllButDisk m new
   forces_so said (inl (says, is)) = keeps_by m _ new is (record { lines = refl; answered = refl; activity = refl; latches = refl; jobs = refl; order = refl; memory = λ id page there. there })
-  forces_so said (inr badly) = keeps_by m _ new badly.stops (record { lines = refl; answered = refl; activity = refl; latches = refl; jobs = refl; order = refl; memory = λ id page there. there })
+  forces_so said (inr badly) = keeps_by m _ new badly.1.stops (record { lines = refl; answered = refl; activity = refl; latches = refl; jobs = refl; order = refl; memory = λ id page there. there })
 
   pub meets_so : MeetsBadPage m actor outcome new → KeepsAllButDisk m new
   meets_so meets = keeps_by m _ new meets.stops (record { lines = refl; answered = refl; activity = refl; latches = refl; jobs = refl; order = refl; memory = λ id page there. brought _ meets.fetched meets.brings id page there })

@@ -2,14 +2,7 @@ pub mod Stages
 pub mod Machines
 pub mod Asking
 pub mod Fetching
-pub mod Deeds
 pub mod Performing
-pub mod SearchRows
-pub mod SplitRows
-pub mod SessionRows
-pub mod WorkerRows
-pub mod ConsolidatorRows
-pub mod MergeRows
 pub mod Rows
 pub mod Forcing
 pub mod GivingUp

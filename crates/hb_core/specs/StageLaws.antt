@@ -1,6 +1,5 @@
 -- What follows of what isn't built, as laws: while pages aren't merged, no job to merge comes.
 use Rattle.std.specs.Prelude.{◌≡◌, ◌≢◌, ℕ, List, [], All}
-use Rattle.hb_ops.specs.Files.{FileState}
 use Rattle.hb_activity.specs.declared.jobs.Job.{Job}
 use Rattle.hb_activity.specs.declared.jobs.JobKind.TheVariants.{Merge}
 use Rattle.hb_activity.specs.declared.activities.Activity.{Activity}
@@ -9,6 +8,7 @@ use Rattle.hb_core.specs.declared.outcomes.Outcome.{Outcome}
 use Rattle.hb_core.specs.Machines.{Machine}
 use Rattle.hb_core.specs.SteppingLaws.{IsBegun}
 use Rattle.hb_core.specs.Steps.{StepsInTurn, StepsTo}
+use Rattle.hb_ops.specs.Files.{FileState}
 
 abbrev pub IsNoMerge : Job → Type 0
 IsNoMerge job = job.kind ≢ Merge

@@ -1,19 +1,20 @@
 -- The machine that has taken no step, and what a list of steps does of itself, as laws.
 use Rattle.std.specs.Prelude.{◌≡◌, ℕ, ◌≤◌, List, [], ◌++◌, All, Some, None}
+use Rattle.hb_set.specs.declared.scripts.Answered.{Answered}
+use Rattle.hb_activity.specs.declared.activities.Activity.{Activity}
+use Rattle.hb_activity.specs.declared.activities.Activity.TheVariants as at
+use Rattle.hb_store.specs.declared.stops.StopWhy.{StopWhy}
+use Rattle.hb_core.specs.Keeps.{CoreKeeps, HasNobodyElse}
+use Rattle.hb_core.specs.KeptLines.{HasLineBody}
+use Rattle.hb_core.specs.Machines.{Machine}
+use Rattle.hb_core.specs.Steps.{StepsInTurn}
+use Rattle.hb_latch.specs.Tables.{mode_at}
 use Rattle.hb_layout.specs.Limits.{IsLayout}
 use Rattle.hb_ops.specs.Files.{FileState, contents_of}
 use Rattle.hb_ops.specs.Sound.{IsSound}
+use Rattle.hb_point.specs.SessionRows.{WantsBoxes}
 use Rattle.hb_set.specs.Order.{AreRising, Entry}
-use Rattle.hb_set.specs.declared.scripts.Answered.{Answered}
-use Rattle.hb_latch.specs.Tables.{mode_at}
-use Rattle.hb_activity.specs.declared.activities.Activity.{Activity}
-use Rattle.hb_activity.specs.declared.activities.Activity.TheVariants as at
 use Rattle.hb_store.specs.States.{in_memory}
-use Rattle.hb_store.specs.declared.stops.StopWhy.{StopWhy}
-use Rattle.hb_core.specs.Machines.{Machine}
-use Rattle.hb_core.specs.Keeps.{CoreKeeps, HasNobodyElse}
-use Rattle.hb_core.specs.KeptLines.{HasLineBody}
-use Rattle.hb_core.specs.Steps.{StepsInTurn, WantsBoxes}
 
 -- No line of the script is a search.
 abbrev pub HasNoSearches : Machine → Type 0

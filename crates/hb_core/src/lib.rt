@@ -23,4 +23,5 @@ mod outcomes;
 mod threads;
 pub mod waiting_laws;
 
-pub use outcomes::{DropWhy, Outcome};
+pub use hb_activity::DropWhy;
+pub use outcomes::Outcome;
