@@ -23,10 +23,10 @@ use Rattle.hb_activity.specs.Wanting.{child_of, in_mode, walk_next, wanted_of, w
 use Rattle.hb_consol.specs.ConsolidatorRows.{names_child}
 use Rattle.hb_core.proofs.AskedPages.{IsThere, begun_there, given_there, held_there, named_child_there, named_there, named_with_box, placed_sibling_there, root_there}
 use Rattle.hb_core.proofs.Backing.{live_there}
+use Rattle.hb_core.proofs.BroughtPages.{both_there, some_of_map, some_of_then}
 use Rattle.hb_core.proofs.OneOutcome.{outcome_is_one, state_is_one}
 use Rattle.hb_core.proofs.SoundFiles.{FilesHold, brought_shown, current_sound, files_hold}
-use Rattle.hb_core.proofs.StepKinds.{each_kind}
-use Rattle.hb_core.proofs.StillThere.{still_fetched}
+use Rattle.hb_core.proofs.StepKinds.{each_kind, FlushesMore, rest_kind}
 use Rattle.hb_core.specs.Acting.{IsBadWanted, MeetsBadPage, NeedsNumber}
 use Rattle.hb_core.specs.Asking.{AskedBox, HasAskedBox, IsNotAsked, asked_box, box_at, box_of_child, looked_live, wanted_by}
 use Rattle.hb_core.specs.DamageLaws.{IsRefusedOrFails, IsUndamaged, KeptStepIsOne, NoPageIsDamaged, StaysUndamaged}
@@ -132,6 +132,13 @@ module _ (m : Machine) (files : Files) (actor : ℕ) (may : MayLatch actor) (fit
   in_file : (id : ℕ) (page : LivePage) → live_here m.store id ≡ Some page → live_page (current_file files) id ≡ Some page
   in_file id page live = ap if_live (has.shown id (Live page) (live_there (in_memory m.store id) page live))
 
+  -- the page into which the step looks is there as it was
+  still_asked : (id : ℕ) (page : LivePage) → live_here m.store id ≡ Some page → (now : LivePage) × (live_here fetched id ≡ Some now) → live_here fetched id ≡ Some page
+  still_asked id page live (now, is) = both_there m needs fetched brings id page now live is
+
+  asked_then : {A B C : Type 0} (g : B → C) (f : A → Option B) (o : Option A) (asked : C) → option_map g (option_and_then f o) ≡ Some asked → (a : A) × (o ≡ Some a)
+  asked_then g f o asked is = let inner = some_of_map g (option_and_then f o) asked is in some_of_then f o inner.0 inner.1
+
   -- the page that a walk holds
   walk_page : (held : ℕ) → walk_held (m.activity actor) ≡ Some held → (page : LivePage) × (live_here m.store held ≡ Some page)
   walk_page held is = let one = fit.walking actor held may is in (one.0, ap if_live one.1)
@@ -145,14 +152,14 @@ module _ (m : Machine) (files : Files) (actor : ℕ) (may : MayLatch actor) (fit
   at_parent job parent wanted asked page live wants asks =
       named_there (current_file files) sound_now parent page (in_file parent page live) job.point wanted asked
       (subst (λ (o : Option LivePage). in_mode (λ level. Shared) (option_and_then (λ (page : LivePage). child_of page job.point) o) ≡ Some wanted) live wants)
-      (subst (λ (o : Option LivePage). box_at o (Some job.point) ≡ Some asked) (still_fetched m needs fetched brings parent page live) asks)
+      (subst (λ (o : Option LivePage). box_at o (Some job.point) ≡ Some asked) (still_asked parent page live (some_of_then _ (live_here fetched parent) asked asks)) asks)
 
   walk_on : (id : ℕ) (goal : Option (List ℕ)) (mode : ℕ → Mode) (wanted : Wanted) (asked : AskedBox) → walk_held (m.activity actor) ≡ Some id → in_mode mode (walk_next goal (Some id) m.store.meta (live_here m.store id)) ≡ Some wanted
       → box_at (live_here fetched id) goal ≡ Some asked → IsThere (current_file files) wanted asked
   walk_on id goal mode wanted asked is wants asks =
       let one = walk_page id is in
       held_there (current_file files) sound_now id one.0 (in_file id one.0 one.1) mode m.store.meta goal (live_here m.store id) (live_here fetched id) wanted asked one.1
-      (still_fetched m needs fetched brings id one.0 one.1) wants asks
+      (still_asked id one.0 one.1 (some_of_then _ (live_here fetched id) asked asks)) wants asks
 
   walk_begins : (goal : Option (List ℕ)) (mode : ℕ → Mode) (wanted : Wanted) (asked : AskedBox) → in_mode mode (walk_next goal None m.store.meta None) ≡ Some wanted
       → Some (record { area = whole_area fetched.meta.k; exact = true }) ≡ Some asked → IsThere (current_file files) wanted asked
@@ -163,7 +170,7 @@ module _ (m : Machine) (files : Files) (actor : ℕ) (may : MayLatch actor) (fit
       → box_of_child (live_here fetched parent) name ≡ Some asked → IsThere (current_file files) wanted asked
   by_child parent name mode None wanted asked is wants asks = cc
   by_child parent name mode (Some page) wanted asked is wants asks =
-      named_child_there (current_file files) sound_now parent page (in_file parent page is) name mode (live_here fetched parent) wanted asked (still_fetched m needs fetched brings parent page is)
+      named_child_there (current_file files) sound_now parent page (in_file parent page is) name mode (live_here fetched parent) wanted asked (still_asked parent page is (asked_then _ _ (live_here fetched parent) asked asks))
       (same_Some (wanted_page name (page.level - 1) mode) wanted wants) asks
 
   abbrev at_parent_of : Job → ℕ → ℕ → ℕ → Option ℕ → AtParent
@@ -189,7 +196,7 @@ module _ (m : Machine) (files : Files) (actor : ℕ) (may : MayLatch actor) (fit
   there (at.ConsolidatorScan job parent child) wanted asked is wants asks = by_child parent child Shared (live_here m.store parent) wanted asked refl wants asks
   there (at.ConsolidatorTry job parent keep gone leaf) wanted asked is wants asks =
       let one = at_pair job parent keep gone (Some leaf) (ap merging_at is) in
-      placed_sibling_there (current_file files) sound_now keep one.page (in_file keep one.page one.live) gone leaf Shared (live_here fetched keep) wanted asked (still_fetched m needs fetched brings keep one.page one.live) one.gave
+      placed_sibling_there (current_file files) sound_now keep one.page (in_file keep one.page one.live) gone leaf Shared (live_here fetched keep) wanted asked (still_asked keep one.page one.live (some_of_then _ (live_here fetched keep) asked asks)) one.gave
       (same_Some (wanted_page gone one.page.level Shared) wanted (sym (ap (λ (o : Option LivePage). option_map (λ (page : LivePage). wanted_page gone page.level Shared) o) one.live) ∙ wants)) asks
   there (at.ConsolidatorKeep job parent keep gone) wanted asked is wants asks = by_child parent keep Exclusive (live_here m.store parent) wanted asked refl wants asks
   there (at.ConsolidatorDecide job parent keep gone) wanted asked is wants asks =
@@ -200,7 +207,7 @@ module _ (m : Machine) (files : Files) (actor : ℕ) (may : MayLatch actor) (fit
       let kept = sound_now.children parent known.page keep above.0 (in_file parent known.page known.live) above.1 in
       let same : kept.0 ≡ pair.page = same_Some kept.0 pair.page (sym kept.1 ∙ in_file keep pair.page pair.live) in
       given_there (current_file files) sound_now keep pair.page (in_file keep pair.page pair.live) gone (known.page.level - 1) Exclusive (live_here fetched keep) wanted asked
-      (still_fetched m needs fetched brings keep pair.page pair.live) (let level : pair.page.level ≡ kept.0.level = ap (λ (p : LivePage). p.level) (sym same) in omega (arith, level, kept.2))
+      (still_asked keep pair.page pair.live (asked_then _ _ (live_here fetched keep) asked asks)) (let level : pair.page.level ≡ kept.0.level = ap (λ (p : LivePage). p.level) (sym same) in omega (arith, level, kept.2))
       (same_Some (wanted_page gone (known.page.level - 1) Exclusive) wanted (sym (ap (λ (o : Option LivePage). option_map (λ (page : LivePage). wanted_page gone (page.level - 1) Exclusive) o) known.live) ∙ wants)) asks
   there at.SessionIdle wanted asked is wants asks = cc
   there (at.SessionSplit line held) wanted asked is wants asks = cc
@@ -272,17 +279,21 @@ module _ (m : Machine) (files : Files) (actor : ℕ) (outcome : Outcome) (new : 
   performed : (fetched : StoreState) (deed : Deed) → Performs m fetched actor deed outcome new → IsUndamaged m → IsUndamaged new
   performed fetched deed performs = same_stop performs.stop
 
+  more : FlushesMore m outcome new → IsUndamaged m → IsUndamaged new
+  more (empty, left, inl (due, quiet, well)) = same_stop (ap (λ (x : Machine). x.stop) well.leaves)
+  more (empty, left, inr fails) = λ well. inr (ap (λ (x : Machine). x.stop) fails.stops)
+
   works : Works m actor outcome new → IsUndamaged m → IsUndamaged new
   works (inl (by, way, so)) = stays (outcomes.Blocked by) so
   works (inr (inl (free, unready, inl (waits, force)))) = forces outcomes.Helped force
-  works (inr (inl (free, unready, inr (nobody, performs)))) = performed m.store _ performs
+  works (inr (inl (free, unready, inr (empty, rest)))) = rest_kind m outcomes.Helped outcome new _ (IsUndamaged m → IsUndamaged new) empty (λ at. refl) more (performed m.store _) rest
   works (inr (inr (free, ready, inl row))) = performed row.fetched row.deed row.performs
   works (inr (inr (free, ready, inr (inl gives)))) = performed gives.fetched _ gives.performs
   works (inr (inr (free, ready, inr (inr bad)))) = absurd (none bad)
 
   undamaged_after : StepsTo m actor outcome new → IsUndamaged m → IsUndamaged new
   undamaged_after step =
-      each_kind m actor outcome new (IsUndamaged m → IsUndamaged new) (λ said quiet so. stays said so) (λ said quiet force. forces said force)
+      each_kind m actor outcome new (IsUndamaged m → IsUndamaged new) (λ said quiet so. stays said so) (λ said quiet force. forces said force) more
       (λ deed outright performs. performed m.store deed performs) works step
 
 pub stays_undamaged : StaysUndamaged

@@ -89,7 +89,7 @@ module _ (m : Machine) (actor : ℕ) (outcome other : Outcome) (new next : Machi
   both_get_ready (inl (waits, first)) (inl (again, second)) = both_force outcomes.Helped first second
   both_get_ready (inl (waits, first)) (inr (none, second)) = absurd (waits none)
   both_get_ready (inr (none, first)) (inl (waits, second)) = absurd (waits none)
-  both_get_ready (inr (none, first)) (inr (again, second)) = shows.deeds (runs_out (m.activity actor)) (runs_out (m.activity actor)) refl (nothing_run_out m (m.activity actor)).walk first second
+  both_get_ready (inr (none, first)) (inr (again, second)) = shows.deeds (runs_out (m.activity actor)) (runs_out (m.activity actor)) refl (nothing_run_out (m.activity actor)).walk first second
 
   both_act : DoesRow m actor outcome new ⊎ Abandons m actor outcome new ⊎ MeetsBadPage m actor outcome new → DoesRow m actor other next ⊎ Abandons m actor other next ⊎ MeetsBadPage m actor other next → G
   both_act (inr (inl gives)) second = shows.first_aside (inr (inr (inl gives)))
