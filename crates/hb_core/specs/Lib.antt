@@ -13,6 +13,9 @@ pub mod KeptTurns
 pub mod KeptOrder
 pub mod KeptMerges
 pub mod Keeps
+pub mod KeptFits
+pub mod KeptPlaces
+pub mod KeptMachine
 pub mod Laws
 pub mod FileLaws
 pub mod ContentsLaws
@@ -25,4 +28,6 @@ pub mod SteppingLaws
 pub mod KeepingLaws
 pub mod WaitingLaws
 pub mod StageLaws
+pub mod MachineLaws
+pub mod CauseLaws
 pub mod Examples
