@@ -23,16 +23,15 @@ use Rattle.hb_activity.specs.Wanting.{child_of, in_mode, walk_next, wanted_of, w
 use Rattle.hb_consol.specs.ConsolidatorRows.{names_child}
 use Rattle.hb_core.proofs.AskedPages.{IsThere, begun_there, given_there, held_there, named_child_there, named_there, named_with_box, placed_sibling_there, root_there}
 use Rattle.hb_core.proofs.Backing.{live_there}
-use Rattle.hb_core.proofs.OneFetch.{live_as_it_was}
+use Rattle.hb_core.proofs.BroughtPages.{both_there, some_of_map, some_of_then}
 use Rattle.hb_core.proofs.OneOutcome.{outcome_is_one, state_is_one}
 use Rattle.hb_core.proofs.SoundFiles.{FilesHold, brought_shown, current_sound, files_hold}
-use Rattle.hb_core.proofs.StepKinds.{each_kind}
+use Rattle.hb_core.proofs.StepKinds.{each_kind, FlushesMore, rest_kind}
 use Rattle.hb_core.specs.Acting.{IsBadWanted, MeetsBadPage, NeedsNumber}
-use Rattle.hb_core.specs.Asking.{AskedBox, HasAskedBox, IsNotAsked, asked_box, box_at, box_of_child, box_of_place, box_of_sibling, looked_live, wanted_by}
+use Rattle.hb_core.specs.Asking.{AskedBox, HasAskedBox, IsNotAsked, asked_box, box_at, box_of_child, looked_live, wanted_by}
 use Rattle.hb_core.specs.DamageLaws.{IsRefusedOrFails, IsUndamaged, KeptStepIsOne, NoPageIsDamaged, StaysUndamaged}
 use Rattle.hb_core.specs.Fetching.{Brings, IsBadHead, IsBadRead, IsDamaged}
-use Rattle.hb_core.specs.Forcing.{FailsToWrite, ForcesFirst, StaysSo}
-use Rattle.hb_core.specs.GivingUp.{runs_out}
+use Rattle.hb_core.specs.Forcing.{ForcesFirst, StaysSo}
 use Rattle.hb_core.specs.Keeps.{HasSoundFile, LatchesFit, WalksInSpace}
 use Rattle.hb_core.specs.KeptMerges.{AtParent, KeepsPair, NamesKnown, merging_at}
 use Rattle.hb_core.specs.Machines.{Files, Machine, current_file, live_here, with_disk}
@@ -133,18 +132,16 @@ module _ (m : Machine) (files : Files) (actor : ℕ) (may : MayLatch actor) (fit
   in_file : (id : ℕ) (page : LivePage) → live_here m.store id ≡ Some page → live_page (current_file files) id ≡ Some page
   in_file id page live = ap if_live (has.shown id (Live page) (live_there (in_memory m.store id) page live))
 
+  -- the page into which the step looks is there as it was
+  still_asked : (id : ℕ) (page : LivePage) → live_here m.store id ≡ Some page → (now : LivePage) × (live_here fetched id ≡ Some now) → live_here fetched id ≡ Some page
+  still_asked id page live (now, is) = both_there m needs fetched brings id page now live is
+
+  asked_then : {A B C : Type 0} (g : B → C) (f : A → Option B) (o : Option A) (asked : C) → option_map g (option_and_then f o) ≡ Some asked → (a : A) × (o ≡ Some a)
+  asked_then g f o asked is = let inner = some_of_map g (option_and_then f o) asked is in some_of_then f o inner.0 inner.1
+
   -- the page that a walk holds
   walk_page : (held : ℕ) → walk_held (m.activity actor) ≡ Some held → (page : LivePage) × (live_here m.store held ≡ Some page)
   walk_page held is = let one = fit.walking actor held may is in (one.0, ap if_live one.1)
-
-  -- what a step looks into, to tell what it asks for, is as it was: it is there
-  module _ (id : ℕ) (page : LivePage) (was : live_here m.store id ≡ Some page) (box_in : Option LivePage → Option AskedBox) (no_page : box_in None ≡ None) (asked : AskedBox) where
-    looked_into : (o : Option LivePage) → live_here fetched id ≡ o → box_in o ≡ Some asked → live_here fetched id ≡ Some page
-    looked_into None is asks = absurd (let never : None ≡ Some asked = sym no_page ∙ asks in cc)
-    looked_into (Some there) is asks = is ∙ ap (λ (q : LivePage). Some q) (live_as_it_was m needs fetched brings id page there was is)
-
-    still_here : box_in (live_here fetched id) ≡ Some asked → live_here fetched id ≡ Some page
-    still_here asks = looked_into (live_here fetched id) refl asks
 
   abbrev Asks : Activity → Wanted → AskedBox → Type 0
   Asks activity wanted asked = (wanted_of activity m.store.meta (looked_live m.store activity) ≡ Some wanted) × (asked_box activity fetched ≡ Some asked)
@@ -155,14 +152,14 @@ module _ (m : Machine) (files : Files) (actor : ℕ) (may : MayLatch actor) (fit
   at_parent job parent wanted asked page live wants asks =
       named_there (current_file files) sound_now parent page (in_file parent page live) job.point wanted asked
       (subst (λ (o : Option LivePage). in_mode (λ level. Shared) (option_and_then (λ (page : LivePage). child_of page job.point) o) ≡ Some wanted) live wants)
-      (subst (λ (o : Option LivePage). box_at o (Some job.point) ≡ Some asked) (still_here parent page live (λ o. box_at o (Some job.point)) refl asked asks) asks)
+      (subst (λ (o : Option LivePage). box_at o (Some job.point) ≡ Some asked) (still_asked parent page live (some_of_then _ (live_here fetched parent) asked asks)) asks)
 
   walk_on : (id : ℕ) (goal : Option (List ℕ)) (mode : ℕ → Mode) (wanted : Wanted) (asked : AskedBox) → walk_held (m.activity actor) ≡ Some id → in_mode mode (walk_next goal (Some id) m.store.meta (live_here m.store id)) ≡ Some wanted
       → box_at (live_here fetched id) goal ≡ Some asked → IsThere (current_file files) wanted asked
   walk_on id goal mode wanted asked is wants asks =
       let one = walk_page id is in
       held_there (current_file files) sound_now id one.0 (in_file id one.0 one.1) mode m.store.meta goal (live_here m.store id) (live_here fetched id) wanted asked one.1
-      (still_here id one.0 one.1 (λ o. box_at o goal) refl asked asks) wants asks
+      (still_asked id one.0 one.1 (some_of_then _ (live_here fetched id) asked asks)) wants asks
 
   walk_begins : (goal : Option (List ℕ)) (mode : ℕ → Mode) (wanted : Wanted) (asked : AskedBox) → in_mode mode (walk_next goal None m.store.meta None) ≡ Some wanted
       → Some (record { area = whole_area fetched.meta.k; exact = true }) ≡ Some asked → IsThere (current_file files) wanted asked
@@ -173,7 +170,7 @@ module _ (m : Machine) (files : Files) (actor : ℕ) (may : MayLatch actor) (fit
       → box_of_child (live_here fetched parent) name ≡ Some asked → IsThere (current_file files) wanted asked
   by_child parent name mode None wanted asked is wants asks = cc
   by_child parent name mode (Some page) wanted asked is wants asks =
-      named_child_there (current_file files) sound_now parent page (in_file parent page is) name mode (live_here fetched parent) wanted asked (still_here parent page is (λ o. box_of_child o name) refl asked asks)
+      named_child_there (current_file files) sound_now parent page (in_file parent page is) name mode (live_here fetched parent) wanted asked (still_asked parent page is (asked_then _ _ (live_here fetched parent) asked asks))
       (same_Some (wanted_page name (page.level - 1) mode) wanted wants) asks
 
   abbrev at_parent_of : Job → ℕ → ℕ → ℕ → Option ℕ → AtParent
@@ -199,7 +196,7 @@ module _ (m : Machine) (files : Files) (actor : ℕ) (may : MayLatch actor) (fit
   there (at.ConsolidatorScan job parent child) wanted asked is wants asks = by_child parent child Shared (live_here m.store parent) wanted asked refl wants asks
   there (at.ConsolidatorTry job parent keep gone leaf) wanted asked is wants asks =
       let one = at_pair job parent keep gone (Some leaf) (ap merging_at is) in
-      placed_sibling_there (current_file files) sound_now keep one.page (in_file keep one.page one.live) gone leaf Shared (live_here fetched keep) wanted asked (still_here keep one.page one.live (λ o. box_of_place o leaf) refl asked asks) one.gave
+      placed_sibling_there (current_file files) sound_now keep one.page (in_file keep one.page one.live) gone leaf Shared (live_here fetched keep) wanted asked (still_asked keep one.page one.live (some_of_then _ (live_here fetched keep) asked asks)) one.gave
       (same_Some (wanted_page gone one.page.level Shared) wanted (sym (ap (λ (o : Option LivePage). option_map (λ (page : LivePage). wanted_page gone page.level Shared) o) one.live) ∙ wants)) asks
   there (at.ConsolidatorKeep job parent keep gone) wanted asked is wants asks = by_child parent keep Exclusive (live_here m.store parent) wanted asked refl wants asks
   there (at.ConsolidatorDecide job parent keep gone) wanted asked is wants asks =
@@ -210,7 +207,7 @@ module _ (m : Machine) (files : Files) (actor : ℕ) (may : MayLatch actor) (fit
       let kept = sound_now.children parent known.page keep above.0 (in_file parent known.page known.live) above.1 in
       let same : kept.0 ≡ pair.page = same_Some kept.0 pair.page (sym kept.1 ∙ in_file keep pair.page pair.live) in
       given_there (current_file files) sound_now keep pair.page (in_file keep pair.page pair.live) gone (known.page.level - 1) Exclusive (live_here fetched keep) wanted asked
-      (still_here keep pair.page pair.live (λ o. box_of_sibling o gone) refl asked asks) (let level : pair.page.level ≡ kept.0.level = ap (λ (p : LivePage). p.level) (sym same) in omega (arith, level, kept.2))
+      (still_asked keep pair.page pair.live (asked_then _ _ (live_here fetched keep) asked asks)) (let level : pair.page.level ≡ kept.0.level = ap (λ (p : LivePage). p.level) (sym same) in omega (arith, level, kept.2))
       (same_Some (wanted_page gone (known.page.level - 1) Exclusive) wanted (sym (ap (λ (o : Option LivePage). option_map (λ (page : LivePage). wanted_page gone (page.level - 1) Exclusive) o) known.live) ∙ wants)) asks
   there at.SessionIdle wanted asked is wants asks = cc
   there (at.SessionSplit line held) wanted asked is wants asks = cc
@@ -275,29 +272,28 @@ module _ (m : Machine) (files : Files) (actor : ℕ) (outcome : Outcome) (new : 
   stays : (said : Outcome) → StaysSo m said outcome new → IsUndamaged m → IsUndamaged new
   stays said (says, is) = same_stop (ap (λ (x : Machine). x.stop) is)
 
-  fails_so : (most : ℕ) → FailsToWrite m most outcome new → IsUndamaged m → IsUndamaged new
-  fails_so most fails well = inr (ap (λ (x : Machine). x.stop) fails.stops)
-
   forces : (said : Outcome) → ForcesFirst m said outcome new → IsUndamaged m → IsUndamaged new
   forces said (inl (says, is)) = same_stop (ap (λ (x : Machine). x.stop) is)
-  forces said (inr (waits, fails)) = fails_so 4 fails
+  forces said (inr badly) = λ well. inr (ap (λ (x : Machine). x.stop) badly.1.stops)
 
   performed : (fetched : StoreState) (deed : Deed) → Performs m fetched actor deed outcome new → IsUndamaged m → IsUndamaged new
   performed fetched deed performs = same_stop performs.stop
 
+  more : FlushesMore m outcome new → IsUndamaged m → IsUndamaged new
+  more (empty, left, inl (due, quiet, well)) = same_stop (ap (λ (x : Machine). x.stop) well.leaves)
+  more (empty, left, inr fails) = λ well. inr (ap (λ (x : Machine). x.stop) fails.stops)
+
   works : Works m actor outcome new → IsUndamaged m → IsUndamaged new
   works (inl (by, way, so)) = stays (outcomes.Blocked by) so
   works (inr (inl (free, unready, inl (waits, force)))) = forces outcomes.Helped force
-  works (inr (inl (free, unready, inr (nobody, inl (more, well))))) = same_stop (ap (λ (x : Machine). x.stop) well.leaves)
-  works (inr (inl (free, unready, inr (nobody, inr (inl (more, fails)))))) = fails_so 9 fails
-  works (inr (inl (free, unready, inr (nobody, inr (inr (none_left, performs)))))) = performed m.store (runs_out (m.activity actor)) performs
+  works (inr (inl (free, unready, inr (empty, rest)))) = rest_kind m outcomes.Helped outcome new _ (IsUndamaged m → IsUndamaged new) empty (λ at. refl) more (performed m.store _) rest
   works (inr (inr (free, ready, inl row))) = performed row.fetched row.deed row.performs
   works (inr (inr (free, ready, inr (inl gives)))) = performed gives.fetched _ gives.performs
   works (inr (inr (free, ready, inr (inr bad)))) = absurd (none bad)
 
   undamaged_after : StepsTo m actor outcome new → IsUndamaged m → IsUndamaged new
   undamaged_after step =
-      each_kind m actor outcome new (IsUndamaged m → IsUndamaged new) (λ said quiet so. stays said so) (λ said quiet force. forces said force)
+      each_kind m actor outcome new (IsUndamaged m → IsUndamaged new) (λ said quiet so. stays said so) (λ said quiet force. forces said force) more
       (λ deed outright performs. performed m.store deed performs) works step
 
 pub stays_undamaged : StaysUndamaged

@@ -5,7 +5,6 @@ use Rattle.std.specs.Prelude.{MatchOption}
 use Rattle.hb_space.specs.declared.records.Record.{Record}
 use Rattle.hb_frag.specs.declared.pages.LivePage.{LivePage}
 use Rattle.hb_frag.specs.declared.pages.Page.{Page}
-use Rattle.hb_frag.specs.declared.pages.Page.TheVariants.{Live}
 use Rattle.hb_set.specs.declared.commands.Command.{Command}
 use Rattle.hb_set.specs.declared.commands.Command.TheVariants.{Insert, Delete, Lookup, Search}
 use Rattle.hb_set.specs.declared.scripts.Line.{Line}
@@ -18,7 +17,7 @@ use Rattle.hb_activity.specs.declared.activities.Activity.TheVariants as at
 use Rattle.hb_activity.specs.Deeds.{Deed, moves_to}
 use Rattle.hb_activity.specs.Passing.{PassesOn}
 use Rattle.hb_activity.specs.Walks.{goal_of, walk_held}
-use Rattle.hb_core.proofs.Backing.{live_there}
+use Rattle.hb_core.proofs.BroughtPages.{both_there, same_there}
 use Rattle.hb_core.proofs.MergerMoves.{StaysMerger, decided, ended, planned, promoted, scanned, took, tried}
 use Rattle.hb_core.specs.Fetching.{Brings}
 use Rattle.hb_core.specs.Keeps.{HoldsPagesOfFile}
@@ -135,21 +134,12 @@ module _ (n : Machine) where
 -- ---- two fetches from one machine agree, over a disk that tells
 
 module _ (m : Machine) (may : ℕ → Type 0) (fetched : StoreState) (brings : Brings m may fetched) where
-  same_or_gone : (id : ℕ) (page there : Page) → in_memory fetched id ≡ Some there → (in_memory fetched id ≡ Some page) ⊎ (in_memory fetched id ≡ None) → there ≡ page
-  same_or_gone id page there is (inl same) = same_Some there page (sym is ∙ same)
-  same_or_gone id page there is (inr gone) = absurd (let never : Some there ≡ None = sym is ∙ gone in cc)
-
   -- what was in memory and is there is what was there
-  pub is_as_it_was : (id : ℕ) (page there : Page) → in_memory m.store id ≡ Some page → in_memory fetched id ≡ Some there → there ≡ page
-  is_as_it_was id page there was is =
-      let some : IsSome (in_memory m.store id) = subst (λ (o : Option Page). IsSome o) (sym was) refl in
-      same_or_gone id page there is (subst (λ (o : Option Page). (in_memory fetched id ≡ o) ⊎ (in_memory fetched id ≡ None)) was (brings.others id some))
+  is_as_it_was : (id : ℕ) (page now : Page) → in_memory m.store id ≡ Some page → in_memory fetched id ≡ Some now → now ≡ page
+  is_as_it_was id page now was is = same_Some now page (sym is ∙ same_there m may fetched brings id page now was is ∙ was)
 
-  pub live_as_it_was : (id : ℕ) (page there : LivePage) → live_here m.store id ≡ Some page → live_here fetched id ≡ Some there → there ≡ page
-  live_as_it_was id page there was is = same_live there page (is_as_it_was id (Live page) (Live there) (live_there (in_memory m.store id) page was) (live_there (in_memory fetched id) there is))
-    where
-      same_live : (a b : LivePage) → Live a ≡ Live b → a ≡ b
-      same_live a b is = cc
+  pub live_as_it_was : (id : ℕ) (page now : LivePage) → live_here m.store id ≡ Some page → live_here fetched id ≡ Some now → now ≡ page
+  live_as_it_was id page now was is = same_Some now page (sym is ∙ both_there m may fetched brings id page now was is)
 
   good_by : (id : ℕ) (page : Page) (old : Option Page) → HoldsPagesOfFile m → in_memory m.store id ≡ old → in_memory fetched id ≡ Some page → (1 ≤ id) × IsGoodPage m.store.meta page
   good_by id page None inside none is = let good = brings.good id page none is in (good.0, good.2)

@@ -17,16 +17,16 @@ use Rattle.hb_activity.specs.declared.activities.Activity.TheVariants as at
 use Rattle.hb_store.specs.declared.stops.StopWhy.{StopWhy}
 use Rattle.hb_core.specs.declared.outcomes.Outcome.{Outcome}
 use Rattle.hb_core.specs.declared.outcomes.Outcome.TheVariants as outcomes
-use Rattle.hb_activity.specs.Classes.{Class, Consolidators, Empty, Flushers, Hand, HasJob, HasLine, Posters, Sessions, class_of, hand_of, idle_of}
 use Rattle.hb_activity.specs.Deeds.{Deed, answers_now}
 use Rattle.hb_activity.specs.Queue.{LeavesFirst}
 use Rattle.hb_activity.specs.Walks.{walk_held}
 use Rattle.hb_consol.specs.ConsolidatorRows.{IsMergingOf}
+use Rattle.hb_core.proofs.NextPlaces.{nothing_run_out}
 use Rattle.hb_core.proofs.OnePiece.{one_job, one_merging, taken}
 use Rattle.hb_core.specs.Acting.{Abandons, DoesRow, MeetsBadPage}
 use Rattle.hb_core.specs.Asking.{wanted_by}
 use Rattle.hb_core.specs.Forcing.{FailsToWrite, Flushes, FlushesOnce, FlushesRest, ForcesFirst, StaysSo}
-use Rattle.hb_core.specs.GivingUp.{runs_out, runs_out_hand}
+use Rattle.hb_core.specs.GivingUp.{runs_out}
 use Rattle.hb_core.specs.Machines.{Machine}
 use Rattle.hb_core.specs.OutcomeLaws.{IsTurnedAside}
 use Rattle.hb_core.specs.Performing.{ChangesQueue, Performs}
@@ -67,18 +67,6 @@ posting_holds_nothing job height next (inr (inr (below, is))) = ap walk_held is
 merging_holds_nothing : (job : Job) (height : ℕ) (next : Activity) → IsMergingOf job height next → walk_held next ≡ None
 merging_holds_nothing job height next (inl (above, is)) = ap walk_held is
 merging_holds_nothing job height next (inr (below, is)) = ap walk_held is
-
--- nor does who can't go on
-idle_walks_not : (kind : Class) → walk_held (idle_of kind) ≡ None
-idle_walks_not Sessions = refl
-idle_walks_not Posters = refl
-idle_walks_not Consolidators = refl
-idle_walks_not Flushers = refl
-
-rests_then : (kind : Class) (hand : Hand) → walk_held (runs_out_hand (idle_of kind) hand).next ≡ None
-rests_then kind Empty = idle_walks_not kind
-rests_then kind (HasLine line) = refl
-rests_then kind (HasJob job) = idle_walks_not kind
 
 -- a write that fails within four calls fails within nine
 pub in_nine : (m : Machine) (outcome : Outcome) (new : Machine) → FailsToWrite m 4 outcome new → FailsToWrite m 9 outcome new
@@ -122,7 +110,7 @@ module _ (m : Machine) (actor : ℕ) (outcome other : Outcome) (new next : Machi
   both_get_ready : GetsReady m actor outcome new → GetsReady m actor other next → G
   both_get_ready first second =
       both_flush_once outcomes.Helped (Performs m m.store actor (runs_out (m.activity actor)) outcome new) (Performs m m.store actor (runs_out (m.activity actor)) other next)
-      (λ a b. shows.deeds (runs_out (m.activity actor)) (runs_out (m.activity actor)) refl (rests_then (class_of (m.activity actor)) (hand_of (m.activity actor))) a b) first second
+      (λ a b. shows.deeds (runs_out (m.activity actor)) (runs_out (m.activity actor)) refl (nothing_run_out (m.activity actor)).walk a b) first second
 
   both_act : DoesRow m actor outcome new ⊎ Abandons m actor outcome new ⊎ MeetsBadPage m actor outcome new → DoesRow m actor other next ⊎ Abandons m actor other next ⊎ MeetsBadPage m actor other next → G
   both_act (inr (inl gives)) second = shows.first_aside (inr (inr (inl gives)))

@@ -21,7 +21,7 @@ use Rattle.hb_activity.specs.declared.activities.Activity.{Activity}
 use Rattle.hb_activity.specs.Deeds.{Deed, takes_job}
 use Rattle.hb_activity.specs.Queue.{AddsJob, AddsJobs, LeavesBy, LeavesFirst}
 use Rattle.hb_consol.specs.ConsolidatorRows.{IsMergingOf}
-use Rattle.hb_core.proofs.NextNumbers.{next_is}
+use Rattle.hb_core.proofs.NextNumbers.{is_next_number}
 use Rattle.hb_core.specs.Machines.{Machine, next_of}
 use Rattle.hb_core.specs.Performing.{ChangesQueue}
 use Rattle.hb_core.specs.Steps.{TakesJob, TakesMerging}
@@ -190,7 +190,7 @@ one_next f g fresh other after later meta agree first second = elim (cases_lt 0 
 
 pub one_number : (f g : StoreState) (fresh other after later : ℕ) → f.meta ≡ g.meta → ((id : ℕ) (a b : Page) → in_memory f id ≡ Some a → in_memory g id ≡ Some b → a ≡ b)
     → next_of f ≡ Some (fresh, after) → next_of g ≡ Some (other, later) → (fresh ≡ other) × (after ≡ later)
-one_number f g fresh other after later meta agree first second = one_next f g fresh other after later meta agree (next_is f fresh after first) (next_is g other later second)
+one_number f g fresh other after later meta agree first second = one_next f g fresh other after later meta agree (is_next_number f fresh after first) (is_next_number g other later second)
 
 -- ---- the part that leaves a page
 
