@@ -26,6 +26,7 @@ use Rattle.hb_activity.specs.Holding.{latch_on, walk_latch}
 use Rattle.hb_activity.specs.Passing.{PassesOn}
 use Rattle.hb_activity.specs.Walks.{goal_of, job_mode, session_mode, walk_held}
 use Rattle.hb_activity.specs.Wanting.{walk_next, wanted_of, wanted_page}
+use Rattle.hb_core.proofs.NextNumbers.{is_next_number}
 use Rattle.hb_core.proofs.OwnedOps.{in_its_mode, made_was_free}
 use Rattle.hb_core.specs.Asking.{HasWayFree, looked_live, wanted_by}
 use Rattle.hb_core.specs.Fetching.{Brings}
@@ -153,7 +154,7 @@ module _ (m : Machine) (actor : ℕ) (may : ℕ → Type 0) (fetched : StoreStat
   held_backed page mode none holds =
       let used = fit.used actor page mode holds in
       let there : IsSome (in_memory m.store page) = subst (λ (o : Option Page). IsSome o) (sym used.1) refl in
-      record { from = inl holds; live = used.0; there = ap (λ (st : StoreState). in_memory st page) none ∙ brings.stays page there ∙ used.1 }
+      record { from = inl holds; live = used.0; there = ap (λ (st : StoreState). in_memory st page) none ∙ brings.stays page (inl (actor, mode, holds)) there ∙ used.1 }
 
   pub own_mode : (activity : Activity) (page : ℕ) (mode : Mode) → m.activity actor ≡ activity → mode_among page (latches_held m.store activity) ≡ Some mode → mode_at m.latches actor page ≡ Some mode
   own_mode activity page mode is among = fit.exact actor page latches ∙ subst (λ (a : Activity). mode_among page (latches_held m.store a) ≡ Some mode) (sym is) among
@@ -292,7 +293,7 @@ module _ (m : Machine) (actor : ℕ) (may : ℕ → Type 0) (fetched : StoreStat
         let used = split_in_use held row.leaves.fresh (source_page row.leaves.fresh row.leaves.path row.leaves.cuts row.page row.leaves.part) (fresh_page row.leaves.cuts row.page row.leaves.part) (in_memory fetched) in
         backed_deed deed _ row.deed_is (stands m actor new _ refl (two_backed m actor new held row.leaves.fresh
         (record { from = inl (own_mode (at.SessionSplit line held) held Exclusive is (same_first held Exclusive)); live = used.0.0; there = pages_are held ∙ used.0.1 })
-        (record { from = inr (inr (made_was_free m may fetched row.leaves.fresh row.leaves.free_after inside brings row.leaves.next)); live = used.1.0; there = pages_are row.leaves.fresh ∙ used.1.1 })))
+        (record { from = inr (inr (made_was_free m may fetched row.leaves.fresh row.leaves.free_after inside brings (is_next_number fetched row.leaves.fresh row.leaves.free_after row.leaves.next))); live = used.1.0; there = pages_are row.leaves.fresh ∙ used.1.1 })))
 
   -- ---- every row
 

@@ -1,4 +1,6 @@
 pub mod NextNumbers
+pub mod BroughtPages
+pub mod GivenUp
 pub mod NoMerges
 pub mod OneMerge
 pub mod MergerMoves

@@ -25,6 +25,7 @@ use Rattle.hb_activity.specs.Passing.{PassesOn}
 use Rattle.hb_activity.specs.Walks.{goal_of, may_change, session_mode}
 use Rattle.hb_activity.specs.Wanting.{in_mode, walk_next, wanted_of, wanted_page}
 use Rattle.hb_core.proofs.MergerMoves.{merger_moves}
+use Rattle.hb_core.proofs.NextNumbers.{is_next_number}
 use Rattle.hb_core.proofs.Targets.{IsTarget}
 use Rattle.hb_core.specs.Asking.{HasWayFree, looked_live, wanted_by}
 use Rattle.hb_core.specs.Fetching.{Brings}
@@ -71,12 +72,17 @@ made_was_free m may fetched fresh free_after inside brings next = elim (cases_Bo
   | inr some ↦ λ page used.
       let head = next.from_chain (eqb-false fetched.meta.free 0 some) in
       let there : IsSome (in_memory m.store fresh) = subst (λ (o : Option Page). IsSome o) (sym used) refl in
-      let same : in_memory fetched fresh ≡ in_memory m.store fresh = brings.stays fresh there in
-      free_is_not_live free_after page (sym head.1 ∙ same ∙ used)
+      elim (brings.others fresh there) [
+        | inl same ↦ free_is_not_live free_after page (sym head.1 ∙ same ∙ used)
+        | inr gone ↦ free_is_not_none free_after (sym head.1 ∙ gone)
+      ]
 ]
   where
     free_is_not_live : (next : ℕ) (page : LivePage) → Some (Free next) ≡ Some (Live page) → ⊥
     free_is_not_live next page is = cc
+
+    free_is_not_none : (next : ℕ) → Some (Free next) ≡ None → ⊥
+    free_is_not_none next is = cc
 
 made_is_free : (m : Machine) (may : ℕ → Type 0) (fetched : StoreState) (actor fresh free_after : ℕ) → HoldsPagesOfFile m → Brings m may fetched → IsNext fetched fresh free_after → IsFreeFor m actor fresh
 made_is_free m may fetched actor fresh free_after inside brings next = inr (made_was_free m may fetched fresh free_after inside brings next)
@@ -149,7 +155,7 @@ module _ (m : Machine) (actor : ℕ) (may : ℕ → Type 0) (fetched : StoreStat
     where
       targets : (id : ℕ) → (id ≡ held) ⊎ (id ≡ row.leaves.fresh) → IsFreeFor m actor id
       targets id (inl same) = like m actor id held same (held_by m actor held (at.SessionSplit line held) latches fit is (first_mode held Exclusive None))
-      targets id (inr same) = like m actor id row.leaves.fresh same (made_is_free m may fetched actor row.leaves.fresh row.leaves.free_after inside brings row.leaves.next)
+      targets id (inr same) = like m actor id row.leaves.fresh same (made_is_free m may fetched actor row.leaves.fresh row.leaves.free_after inside brings (is_next_number fetched row.leaves.fresh row.leaves.free_after row.leaves.next))
 
   owned_put : (line : Line) (source fresh : ℕ) (deed : Deed) → m.activity actor ≡ at.SessionPut line source fresh → Puts (sight m') line source fresh deed → OwnsTargets m actor deed.op
   owned_put line source fresh deed is row = owned_deed m actor deed _ row.deed_is (λ id same. like m actor id row.half same (half row.either))
@@ -221,7 +227,7 @@ module _ (m : Machine) (actor : ℕ) (may : ℕ → Type 0) (fetched : StoreStat
     where
       targets : (id : ℕ) → (id ≡ parent) ⊎ (id ≡ row.leaves.fresh) → IsFreeFor m actor id
       targets id (inl same) = like m actor id parent same (held_by m actor parent (at.PosterAgain job parent) latches fit is (first_mode parent Exclusive None))
-      targets id (inr same) = like m actor id row.leaves.fresh same (made_is_free m may fetched actor row.leaves.fresh row.leaves.free_after inside brings row.leaves.next)
+      targets id (inr same) = like m actor id row.leaves.fresh same (made_is_free m may fetched actor row.leaves.fresh row.leaves.free_after inside brings (is_next_number fetched row.leaves.fresh row.leaves.free_after row.leaves.next))
 
   after_look_does_nothing : (job : Job) (parent : ℕ) (plan : PostPlan) → (after_look job parent plan).op ≡ None
   after_look_does_nothing job parent plans.Nothing = refl
@@ -235,7 +241,7 @@ module _ (m : Machine) (actor : ℕ) (may : ℕ → Type 0) (fetched : StoreStat
       → RowAt activity (sight m') wanted.page page deed → OwnsTargets m actor deed.op
   owned_at (at.SessionWalk line held rest found) wanted page deed is wants live level allowed row = owned_walk line held rest found wanted page deed (goal_of line.command rest) is wants live level allowed row
   owned_at (at.PosterGrow job) wanted page deed is wants live level allowed (inl row) =
-      owned_deed m actor deed _ row.deed_is (λ id same. like m actor id row.fresh same (made_is_free m may fetched actor row.fresh row.free_after inside brings row.next))
+      owned_deed m actor deed _ row.deed_is (λ id same. like m actor id row.fresh same (made_is_free m may fetched actor row.fresh row.free_after inside brings (is_next_number fetched row.fresh row.free_after row.next)))
   owned_at (at.PosterGrow job) wanted page deed is wants live level allowed (inr row) = owned_deed m actor deed _ row.deed_is tt
   owned_at (at.PosterWalk job held) wanted page deed is wants live level allowed (inl row) = owned_deed m actor deed _ row.deed_is tt
   owned_at (at.PosterWalk job held) wanted page deed is wants live level allowed (inr row) = owned_deed m actor deed _ row.passes.deed_is tt

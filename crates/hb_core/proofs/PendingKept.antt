@@ -13,7 +13,7 @@ use Rattle.hb_activity.specs.Deeds.{Deed, does}
 use Rattle.hb_core.proofs.AnswersInPlace.{answers_are_in_place}
 use Rattle.hb_core.proofs.Moments.{answers_are_timed}
 use Rattle.hb_core.proofs.SinglePlaces.{no_place, one_place, stands_longer}
-use Rattle.hb_core.proofs.StepKinds.{each_kind}
+use Rattle.hb_core.proofs.StepKinds.{each_kind, FlushesMore, rest_kind}
 use Rattle.hb_core.proofs.ToldStays.{still_told}
 use Rattle.hb_core.proofs.Ways.{order_grows}
 use Rattle.hb_core.specs.Acting.{MeetsBadPage}
@@ -175,10 +175,15 @@ module _ (n : RecordSet) (m : Machine) (files : Files) (new : Machine) (files' :
     performed : (fetched : StoreState) (deed : Deed) → fetched.log ≡ m.store.log → Performs m fetched actor deed outcome new → KeepsMarks n m new files'
     performed fetched deed log performs = done deed.op fetched (if_some deed.joins) log performs.order performs.files performs.store
 
+    flushed_more : FlushesMore m outcome new → KeepsMarks n m new files'
+    flushed_more (none, left, inl (due, quiet, well)) = same (ap (λ (x : Machine). x.order) well.leaves) (ap (λ (x : Machine). x.store.log.groups) well.leaves ∙ well.no_group ∙ sym none) (ap (λ (x : Machine). x.files) well.leaves)
+    flushed_more (none, left, inr fails) = same (ap (λ (x : Machine). x.order) fails.stops) (ap (λ (x : Machine). x.store.log.groups) fails.stops) (ap (λ (x : Machine). x.files) fails.stops)
+
     worked : Works m actor outcome new → KeepsMarks n m new files'
     worked (inl (by, way, so)) = stayed (outcomes.Blocked by) so
     worked (inr (inl (free, unready, inl (waits, force)))) = forced_first outcomes.Helped force
-    worked (inr (inl (free, unready, inr (none, performs)))) = performed m.store _ refl performs
+    worked (inr (inl (free, unready, inr (none, rest)))) =
+        rest_kind m outcomes.Helped outcome new _ (KeepsMarks n m new files') none (λ at. refl) flushed_more (performed m.store _ refl) rest
     worked (inr (inr (free, ready, inl acts))) = performed acts.fetched acts.deed acts.brings.rest.log acts.performs
     worked (inr (inr (free, ready, inr (inl gives)))) = performed gives.fetched _ gives.brings.rest.log gives.performs
     worked (inr (inr (free, ready, inr (inr meets)))) = met meets
@@ -188,6 +193,7 @@ module _ (n : RecordSet) (m : Machine) (files : Files) (new : Machine) (files' :
         each_kind m actor outcome new (KeepsMarks n m new files')
         (λ said quiet so. stayed said so)
         (λ said quiet force. forced_first said force)
+        flushed_more
         (λ deed outright performs. performed m.store deed refl performs)
         worked
         step

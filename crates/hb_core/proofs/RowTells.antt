@@ -27,7 +27,9 @@ use Rattle.hb_activity.specs.Passing.{PassesOn}
 use Rattle.hb_activity.specs.Walks.{goal_of}
 use Rattle.hb_activity.specs.Wanting.{in_mode, named_child, wanted_of, wanted_page}
 use Rattle.hb_core.proofs.Backing.{live_there}
+use Rattle.hb_core.proofs.BroughtPages.{both_there}
 use Rattle.hb_core.proofs.MergerMoves.{merger_moves}
+use Rattle.hb_core.proofs.NextNumbers.{is_next_number}
 use Rattle.hb_core.specs.Asking.{looked_live, wanted_by}
 use Rattle.hb_core.specs.Fetching.{Brings}
 use Rattle.hb_core.specs.KeptLines.{HasBody, HasLineBody}
@@ -97,10 +99,8 @@ module _ (m : Machine) (actor : ℕ) (may : ℕ → Type 0) (fetched : StoreStat
   Told deed = Tells fetched deed.op
 
   -- the page that the step looked into is the one that the row has
-  looked_page_stays : (id : ℕ) (page : LivePage) → if_live (in_memory m.store id) ≡ Some page → if_live (in_memory fetched id) ≡ Some page
-  looked_page_stays id page live =
-      let there = live_there (in_memory m.store id) page live in
-      ap if_live (brings.stays id (subst (λ (o : Option Page). IsSome o) (sym there) refl)) ∙ live
+  looked_page_stays : (id : ℕ) (page now : LivePage) → if_live (in_memory m.store id) ≡ Some page → if_live (in_memory fetched id) ≡ Some now → if_live (in_memory fetched id) ≡ Some page
+  looked_page_stays id page now live here = both_there m may fetched brings id page now live here
 
   -- a posting, by the child that was latched
   planned : (job : Job) (parent : ℕ) (wanted : Wanted) (child page : LivePage) (path : List Side) (inner : ℕ) (area : Area) → wanted_of (at.PosterAgain job parent) m.store.meta (if_live (in_memory m.store parent)) ≡ Some wanted
@@ -117,7 +117,7 @@ module _ (m : Machine) (actor : ℕ) (may : ℕ → Type 0) (fetched : StoreStat
       by None is none = absurd (nothing wanted none)
       by (Some old) is some =
           let named = wants_child job.point old.level (leaf_at old job.point) wanted some in
-          let same : old ≡ page = same_page old page (sym (looked_page_stays parent old is) ∙ live) in
+          let same : old ≡ page = same_page old page (sym (looked_page_stays parent old page is live) ∙ live) in
           record {
             page = page;
             live = live_there (in_memory fetched parent) page live;
@@ -135,7 +135,7 @@ module _ (m : Machine) (actor : ℕ) (may : ℕ → Type 0) (fetched : StoreStat
   tells_plan job parent wanted child page plans.Nothing deed wants child_live live plan is = tells_of fetched deed _ is tt
   tells_plan job parent wanted child page (plans.Post at inner area) deed wants child_live live plan is = tells_of fetched deed _ is (planned job parent wanted child page at inner area wants child_live live plan)
   tells_plan job parent wanted child page plans.SplitFirst deed wants child_live live plan (inl row) = tells_of fetched deed _ row.deed_is tt
-  tells_plan job parent wanted child page plans.SplitFirst deed wants child_live live plan (inr row) = tells_of fetched deed _ row.deed_is row.leaves.next
+  tells_plan job parent wanted child page plans.SplitFirst deed wants child_live live plan (inr row) = tells_of fetched deed _ row.deed_is (is_next_number fetched row.leaves.fresh row.leaves.free_after row.leaves.next)
 
   tells_search : (line : Line) (boxes : List Area) (found : List Record) (deed : Deed) → SearchGoesOn (sight m') line boxes found deed → Told deed
   tells_search line [] found deed (ordered, same, rising, is) = tells_of fetched deed _ is tt
@@ -162,7 +162,7 @@ module _ (m : Machine) (actor : ℕ) (may : ℕ → Type 0) (fetched : StoreStat
 
   tells_alone : (activity : Activity) (deed : Deed) → IfSome (line_in_hand activity) HasLineBody → RowAlone activity (sight m') deed → Told deed
   tells_alone (at.SessionSplit line held) deed body (inl row) = tells_of fetched deed _ row.deed_is tt
-  tells_alone (at.SessionSplit line held) deed body (inr row) = tells_of fetched deed _ row.deed_is row.leaves.next
+  tells_alone (at.SessionSplit line held) deed body (inr row) = tells_of fetched deed _ row.deed_is (is_next_number fetched row.leaves.fresh row.leaves.free_after row.leaves.next)
   tells_alone (at.SessionPut line source fresh) deed body row = tells_of fetched deed _ row.deed_is (put_body line.command row.rec row.command body)
   tells_alone at.SessionIdle deed body row = absurd row
   tells_alone (at.SessionWalk line held rest found) deed body row = absurd row
@@ -190,7 +190,7 @@ module _ (m : Machine) (actor : ℕ) (may : ℕ → Type 0) (fetched : StoreStat
   tells_at : (activity : Activity) (wanted : Wanted) (page : LivePage) (deed : Deed) → wanted_of activity m.store.meta (looked_live m.store activity) ≡ Some wanted → if_live (in_memory fetched wanted.page) ≡ Some page
       → IfSome (line_in_hand activity) HasLineBody → RowAt activity (sight m') wanted.page page deed → Told deed
   tells_at (at.SessionWalk line held rest found) wanted page deed wants live body row = tells_walk line rest found wanted.page page deed (goal_of line.command rest) body row
-  tells_at (at.PosterGrow job) wanted page deed wants live body (inl row) = tells_of fetched deed _ row.deed_is row.next
+  tells_at (at.PosterGrow job) wanted page deed wants live body (inl row) = tells_of fetched deed _ row.deed_is (is_next_number fetched row.fresh row.free_after row.next)
   tells_at (at.PosterGrow job) wanted page deed wants live body (inr row) = tells_of fetched deed _ row.deed_is tt
   tells_at (at.PosterWalk job held) wanted page deed wants live body (inl row) = tells_of fetched deed _ row.deed_is tt
   tells_at (at.PosterWalk job held) wanted page deed wants live body (inr row) = tells_of fetched deed _ row.passes.deed_is tt

@@ -23,6 +23,7 @@ use Rattle.hb_core.proofs.RowContents.{Becomes, JoinsWith, joins_row}
 use Rattle.hb_core.proofs.RowTells.{Tells, tells_row}
 use Rattle.hb_core.proofs.SoundFiles.{FilesHold, brought_shown, files_hold, keeps_marks, may_be_done, shows_file}
 use Rattle.hb_core.proofs.StepCases.{each_step}
+use Rattle.hb_core.proofs.StepKinds.{FlushesMore, rest_kind}
 use Rattle.hb_core.specs.Acting.{MeetsBadPage}
 use Rattle.hb_core.specs.Asking.{wanted_by}
 use Rattle.hb_core.specs.ContentsLaws.{ChangesAt, ContentsFollowOrder, ContentsStep, PointsStay, contents_now}
@@ -76,7 +77,7 @@ module _ (makes : MakesGoodPages) (parts : HaveFittingParts) (points : HeldArePo
   forces said (inr badly) = unmoved files (ap (λ (n : Machine). n.files) badly.1.stops ∙ told) (ap (λ (n : Machine). n.order) badly.1.stops) refl
 
   meets : MeetsBadPage m actor outcome new → Follows
-  meets bad = unmoved files (ap (λ (n : Machine). n.files) bad.1.stops ∙ told) (ap (λ (n : Machine). n.order) bad.1.stops) refl
+  meets bad = unmoved files (ap (λ (n : Machine). n.files) bad.stops ∙ told) (ap (λ (n : Machine). n.order) bad.stops) refl
 
   -- a deed that does nothing to the file, and whose line doesn't take effect
   quiet : (fetched : StoreState) (deed : Deed) → deed.op ≡ None → deed.joins ≡ None → Performs m fetched actor deed outcome new → Follows
@@ -102,10 +103,15 @@ module _ (makes : MakesGoodPages) (parts : HaveFittingParts) (points : HeldArePo
   joined after None order same = inl (order ∙ append-nil m.order, same)
   joined after (Some entry) order takes = inr (entry, order, takes)
 
+  flushed_more : FlushesMore m outcome new → Follows
+  flushed_more (none, left, inl (due, quiet, well)) = unmoved files (ap (λ (n : Machine). n.files) well.leaves ∙ told) (ap (λ (n : Machine). n.order) well.leaves) refl
+  flushed_more (none, left, inr fails) = unmoved files (ap (λ (n : Machine). n.files) fails.stops ∙ told) (ap (λ (n : Machine). n.order) fails.stops) refl
+
   worked : Works m actor outcome new → Follows
   worked (inl (by, way, so)) = stays (outcomes.Blocked by) so
   worked (inr (inl (free, unready, inl (waits, force)))) = forces outcomes.Helped force
-  worked (inr (inl (free, unready, inr (none, performs)))) = quiet m.store _ (runs_out_nothing m (m.activity actor)) (ran_out_joins_nothing m (m.activity actor)) performs
+  worked (inr (inl (free, unready, inr (none, rest)))) =
+      rest_kind m outcomes.Helped outcome new _ Follows none (λ at. refl) flushed_more (quiet m.store _ (runs_out_nothing (m.activity actor)) (ran_out_joins_nothing (m.activity actor))) rest
   worked (inr (inr (free, ready, inl acts))) =
       let here = brought m _ acts.fetched acts.brings keeps in
       let hold = brought_shown m files _ acts.fetched told acts.brings holds in
@@ -116,13 +122,14 @@ module _ (makes : MakesGoodPages) (parts : HaveFittingParts) (points : HeldArePo
         joined done.0 acts.deed.joins acts.performs.order
             (joins_row points standing lacking m acts.fetched (current_file files) here (shows_file acts.fetched files hold) (contents_now done.0) (m.activity actor) (wanted_by m actor) acts.deed done.2 acts.row),
       )
-  worked (inr (inr (free, ready, inr (inl gives)))) = quiet gives.fetched _ (gives_up_nothing m gives.why (m.activity actor)) (given_up_joins_nothing m gives.why (m.activity actor)) gives.performs
+  worked (inr (inr (free, ready, inr (inl gives)))) = quiet gives.fetched _ (gives_up_nothing gives.why (m.activity actor)) (given_up_joins_nothing gives.why (m.activity actor)) gives.performs
   worked (inr (inr (free, ready, inr (inr bad)))) = meets bad
 
   pub follows : StepsTo m actor outcome new → Follows
   follows step = each_step m actor outcome new Follows (record {
     stays = λ said so. stays said so;
     forces = λ said quiet force. forces said force;
+    more = flushed_more;
     takes = λ line idle next performs. quiet m.store _ refl refl performs;
     refuses = λ line idle next performs. quiet m.store _ refl refl performs;
     posts = λ deed idle takes performs. quiet m.store deed (ap (λ (d : Deed). d.op) takes.deed_is) (ap (λ (d : Deed). d.joins) takes.deed_is) performs;
