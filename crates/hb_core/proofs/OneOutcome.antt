@@ -135,8 +135,11 @@ module _ (m : Machine) (files : Files) (tells : m.files ≡ Some files) (may mig
   -- and so is the page at which a walk goes on
   same_here : (deed : Deed) (held : Option ℕ) → IfSome held (IsHereUnchanged m1 deed) → IfSome held (IsHereUnchanged m2 deed) → IfSome held (λ id. (deed.op ≡ None) × (live_here f id ≡ live_here g id))
   same_here deed None here there = tt
-  same_here deed (Some id) here there = (here.nothing, ap if_live (live_there (in_memory f id) here.page here.live ∙ ap Some (agree id (Live here.page) (Live there.page)
-      (live_there (in_memory f id) here.page here.live) (live_there (in_memory g id) there.page there.live)) ∙ sym (live_there (in_memory g id) there.page there.live)))
+  same_here deed (Some id) here there = (
+    here.nothing,
+    ap if_live (live_there (in_memory f id) here.page here.live ∙ ap Some (agree id (Live here.page) (Live there.page)
+        (live_there (in_memory f id) here.page here.live) (live_there (in_memory g id) there.page there.live)) ∙ sym (live_there (in_memory g id) there.page there.live)),
+  )
 
   one_by_row : (actor : ℕ) (deed : Deed) (outcome other : Outcome) (new next : Machine) → Row (m.activity actor) (wanted_by m actor) m1 deed → Row (m.activity actor) (wanted_by m actor) m2 deed
       → Performs m f actor deed outcome new → Performs m g actor deed other next → AreOneButMemory new next

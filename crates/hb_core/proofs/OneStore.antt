@@ -165,11 +165,11 @@ module _ (f g : StoreState) (alike : KeepsAllButPages f g) (agree : Agree f g) w
       let reads = reads_alike op first.allowed second.allowed in
       let change : change_here f op ≡ change_here g op = same_change op reads in
       let groups : new.log.groups ≡ next.log.groups =
-          first.group ∙ ap (λ (l : List Waiting). l ++ record { bytes = group_bytes (group_here f op); mark = mark } ∷ []) (ap (λ (l : LogState). l.groups) (sym alike.log))
-          ∙ ap (λ (x : Logged). g.log.groups ++ record { bytes = group_bytes x; mark = mark } ∷ []) (same_group op reads) ∙ sym second.group in
+      first.group ∙ ap (λ (l : List Waiting). l ++ record { bytes = group_bytes (group_here f op); mark = mark } ∷ []) (ap (λ (l : LogState). l.groups) (sym alike.log))
+      ∙ ap (λ (x : Logged). g.log.groups ++ record { bytes = group_bytes x; mark = mark } ∷ []) (same_group op reads) ∙ sym second.group in
       let imaged : (id : ℕ) → is_imaged new id ≡ is_imaged next id =
-          λ id. one.imaged id ∙ ap (λ (c : Change). (has_page id c.pages || (is_among id (reads_of op) || is_imaged f id))) change
-          ∙ ap (λ (b : Bool). (has_page id (change_here g op).pages || (is_among id (reads_of op) || b))) (same_imaged id) ∙ sym (two.imaged id) in
+      λ id. one.imaged id ∙ ap (λ (c : Change). (has_page id c.pages || (is_among id (reads_of op) || is_imaged f id))) change
+      ∙ ap (λ (b : Bool). (has_page id (change_here g op).pages || (is_among id (reads_of op) || b))) (same_imaged id) ∙ sym (two.imaged id) in
       record {
         rest = record {
           turn = two.turn ∙ alike.turn ∙ sym one.turn;
