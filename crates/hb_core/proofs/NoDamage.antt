@@ -35,7 +35,7 @@ use Rattle.hb_core.specs.Forcing.{ForcesFirst, StaysSo}
 use Rattle.hb_core.specs.Keeps.{HasSoundFile, LatchesFit, WalksInSpace}
 use Rattle.hb_core.specs.KeptMerges.{AtParent, KeepsPair, NamesKnown, merging_at}
 use Rattle.hb_core.specs.Machines.{Files, Machine, current_file, live_here, with_disk}
-use Rattle.hb_core.specs.OutcomeLaws.{ComesToSame, IsTurnedAside}
+use Rattle.hb_core.specs.OutcomeLaws.{AreOneButMemory, ComesToSame, IsTurnedAside}
 use Rattle.hb_core.specs.Performing.{Performs}
 use Rattle.hb_core.specs.Steps.{StepsTo, Works}
 use Rattle.hb_latch.specs.Tables.{MayLatch}
@@ -299,7 +299,7 @@ module _ (m : Machine) (files : Files) (actor : ℕ) (outcome : Outcome) (new : 
 pub stays_undamaged : StaysUndamaged
 stays_undamaged m files actor outcome new may told fit has walks step = undamaged_after m files actor outcome new (no_page_is_damaged m files actor outcome new may told fit has walks) step
 
--- ---- and of a machine that keeps all two steps lead to one
+-- ---- and of a machine that keeps all two steps lead to machines that are one but for the pages in memory
 
 pub kept_step_is_one : KeptStepIsOne
 kept_step_is_one n m files actor outcome other new next may keeps first second =
@@ -311,8 +311,8 @@ kept_step_is_one n m files actor outcome other new next may keeps first second =
     refused said after (inr (inr (inl gives))) = inr (inr gives)
     refused said after (inr (inr (inr bad))) = absurd (no_page_is_damaged m files actor said after may keeps.told keeps.latches_fit keeps.sound_file keeps.walk_in_space bad)
 
-    by : IsTurnedAside m actor outcome new ⊎ IsTurnedAside m actor other next ⊎ ComesToSame outcome other new next → IsTurnedAside m actor outcome new ⊎ IsTurnedAside m actor other next ⊎ (new ≡ next)
-        → IsRefusedOrFails m actor outcome new ⊎ IsRefusedOrFails m actor other next ⊎ ((outcome ≡ other) × (new ≡ next))
+    by : IsTurnedAside m actor outcome new ⊎ IsTurnedAside m actor other next ⊎ ComesToSame outcome other new next → IsTurnedAside m actor outcome new ⊎ IsTurnedAside m actor other next ⊎ AreOneButMemory new next
+        → IsRefusedOrFails m actor outcome new ⊎ IsRefusedOrFails m actor other next ⊎ ((outcome ≡ other) × AreOneButMemory new next)
     by (inl aside) said = inl (refused outcome new aside)
     by (inr (inl aside)) said = inr (inl (refused other next aside))
     by (inr (inr same)) (inl aside) = inl (refused outcome new aside)

@@ -29,7 +29,7 @@ use Rattle.hb_consol.specs.ConsolidatorRows.{ArrivesToMerge, ConsolidatorPasses,
 use Rattle.hb_core.proofs.Backing.{live_there}
 use Rattle.hb_core.proofs.OneMerge.{one_decision, one_keep, one_scan, one_try, same_scan}
 use Rattle.hb_core.proofs.OneOrder.{leaf_rises, not_lacking, one_of_point, one_order}
-use Rattle.hb_core.proofs.OnePiece.{one_choice, one_next, one_plan}
+use Rattle.hb_core.proofs.OnePiece.{one_choice, one_number, one_plan}
 use Rattle.hb_core.specs.Machines.{Machine, live_here, with_disk, sight}
 use Rattle.hb_core.specs.Rows.{DoesHere, Row, RowAlone, RowAt}
 use Rattle.hb_frag.specs.Leaves.{Placed, leaf_at, weight_of}
@@ -43,7 +43,7 @@ use Rattle.hb_point.specs.SplitRows.{Puts, Splits}
 use Rattle.hb_poster.specs.PosterRows.{Arrives, DoesPlan, GrowsFile, GrowsNot, LooksAgain, LooksAtChild, MayGrow, PosterPasses, after_look}
 use Rattle.hb_search.specs.SearchRows.{Gathers, SearchGoesOn}
 use Rattle.hb_space.specs.Boxes.{Area, common_area, holds, pieces_outside}
-use Rattle.hb_split.specs.Choosing.{AreChosen}
+use Rattle.hb_split.specs.Choosing.{AreChosen, IsChosen}
 use Rattle.hb_store.specs.States.{StoreState, in_memory}
 use Rattle.hb_terms.specs.Plans.{IsPlan}
 
@@ -172,10 +172,10 @@ module _ (m : Machine) (f g : StoreState) (meta : f.meta ≡ g.meta) (agree : (i
   abbrev leaving : (ℕ → Activity) → ℕ → (List ℕ → List Job) → ℕ → List Side → List LeafCut → ℕ → List ℕ → Deed
   leaving next source adds fresh path cuts after corner = does (next fresh) (ops.Extract source fresh path cuts after) (adds corner)
 
-  one_leaving : (next : ℕ → Activity) (source : ℕ) (adds : List ℕ → List Job) (page : LivePage) (a : PartLeavesTo f page) (b : PartLeavesTo g page)
+  one_leaving : (next : ℕ → Activity) (source : ℕ) (adds : List ℕ → List Job) (page : LivePage) (a : PartLeavesTo (sight m1) (IsChosen page) page) (b : PartLeavesTo (sight m2) (IsChosen page) page)
       → leaving next source adds a.fresh a.path a.cuts a.free_after (corner_of a) ≡ leaving next source adds b.fresh b.path b.cuts b.free_after (corner_of b)
   one_leaving next source adds page a b =
-      let numbers = one_next f g a.fresh b.fresh a.free_after b.free_after meta agree a.next b.next in
+      let numbers = one_number f g a.fresh b.fresh a.free_after b.free_after meta agree a.next b.next in
       let path : a.path ≡ b.path = a.chosen.way ∙ sym b.chosen.way in
       let part : a.part ≡ b.part = same_Some a.part b.part (sym a.there ∙ ap (λ (x : List Side). part_at x page.frag page.area) path ∙ b.there) in
       let by_a : a.chosen.part ≡ b.part = same_Some a.chosen.part b.part (sym a.chosen.found ∙ ap (λ (x : List Side). part_at x page.frag page.area) path ∙ b.there) in
@@ -197,7 +197,7 @@ module _ (m : Machine) (f g : StoreState) (meta : f.meta ≡ g.meta) (agree : (i
   full_too free none = omega (arith, none, free, ap (λ (x : Meta). x.live) meta, ap (λ (x : Meta). x.pages) meta)
 
   abbrev SplitTo : ℕ → (ℕ → Activity) → (List ℕ → List Job) → Deed → LivePage → Type 0
-  SplitTo source next adds d page = (leaves : PartLeavesTo f page) × (d ≡ leaving next source adds leaves.fresh leaves.path leaves.cuts leaves.free_after (corner_of leaves))
+  SplitTo source next adds d page = (leaves : PartLeavesTo (sight m1) (IsChosen page) page) × (d ≡ leaving next source adds leaves.fresh leaves.path leaves.cuts leaves.free_after (corner_of leaves))
 
   one_split : (line : Line) (held : ℕ) (d e : Deed) → Splits (sight m1) line held d → Splits (sight m2) line held e → d ≡ e
   one_split line held d e a b =
@@ -251,7 +251,7 @@ module _ (m : Machine) (f g : StoreState) (meta : f.meta ≡ g.meta) (agree : (i
 
   one_grow : (job : Job) (root : LivePage) (d e : Deed) → GrowsFile (sight m1) job root d ⊎ GrowsNot (sight m1) job root d → GrowsFile (sight m2) job root e ⊎ GrowsNot (sight m2) job root e → d ≡ e
   one_grow job root d e (inl a) (inl b) =
-      let numbers = one_next f g a.fresh b.fresh a.free_after b.free_after meta agree a.next b.next in
+      let numbers = one_number f g a.fresh b.fresh a.free_after b.free_after meta agree a.next b.next in
       a.deed_is ∙ ap (λ n. growing job n a.free_after) numbers.0 ∙ ap (λ n. growing job b.fresh n) numbers.1 ∙ sym b.deed_is
   one_grow job root d e (inl a) (inr b) = absurd (by b.why)
     where

@@ -13,8 +13,7 @@ use Rattle.hb_activity.specs.declared.jobs.Job.{Job}
 use Rattle.hb_activity.specs.declared.wanting.Wanted.{Wanted}
 use Rattle.hb_activity.specs.declared.activities.Activity.{Activity}
 use Rattle.hb_activity.specs.declared.activities.Activity.TheVariants as at
-use Rattle.hb_core.specs.declared.outcomes.Outcome.TheVariants as outcomes
-use Rattle.hb_activity.specs.Deeds.{Deed}
+use Rattle.hb_activity.specs.Deeds.{Deed, GoesOn}
 use Rattle.hb_activity.specs.Passing.{PassesOn}
 use Rattle.hb_activity.specs.Walks.{goal_of}
 use Rattle.hb_core.proofs.MergerMoves.{merger_moves}
@@ -27,7 +26,7 @@ use Rattle.hb_store.specs.States.{StoreState}
 
 -- it says that its actor moved on
 abbrev Moves : Deed → Type 0
-Moves deed = deed.says ≡ outcomes.Moved
+Moves deed = deed.says ≡ GoesOn
 
 moves_as : (deed other : Deed) → deed ≡ other → Moves other → Moves deed
 moves_as deed other is says = ap (λ (d : Deed). d.says) is ∙ says
