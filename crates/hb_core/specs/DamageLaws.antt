@@ -4,7 +4,8 @@ use Rattle.hb_store.specs.declared.stops.StopWhy.TheVariants.{WriteFault}
 use Rattle.hb_core.specs.declared.outcomes.Outcome.{Outcome}
 use Rattle.hb_core.specs.Acting.{Abandons, MeetsBadPage}
 use Rattle.hb_core.specs.Forcing.{FailsToWrite}
-use Rattle.hb_core.specs.Keeps.{CoreKeeps, HasSoundFile, LatchesFit, WalksInSpace}
+use Rattle.hb_core.specs.Keeps.{HasSoundFile, LatchesFit, WalksInSpace}
+use Rattle.hb_core.specs.KeptMachine.{CoreKeeps}
 use Rattle.hb_core.specs.Machines.{Files, Machine}
 use Rattle.hb_core.specs.OutcomeLaws.{RefusesSearch, AreOneButMemory}
 use Rattle.hb_core.specs.Steps.{StepsTo}

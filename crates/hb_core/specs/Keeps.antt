@@ -96,18 +96,3 @@ HasNobodyElse m = (actor : ℕ) → ¬ (MayLatch actor) → m.activity actor ≡
 -- And under no other number a latch is held.
 abbrev pub HasNoOtherLatches : Machine → Type 0
 HasNoOtherLatches m = (actor page : ℕ) → ¬ (MayLatch actor) → mode_at m.latches actor page ≡ None
-
--- All of them, from the set that was opened.
-pub record CoreKeeps (n : RecordSet) (m : Machine) (files : Files) : Type 0 where
-  pub told : m.files ≡ Some files
-  pub lines_fit : LinesFit m
-  pub lines_in_turn : LinesInTurn m
-  pub pages_of_file : HoldsPagesOfFile m
-  pub sound_file : HasSoundFile m files
-  pub latches_fit : LatchesFit m
-  pub nobody_else : HasNobodyElse m
-  pub no_other_latches : HasNoOtherLatches m
-  pub walk_in_space : WalksInSpace m
-  pub room_known : KnowsRoom m
-  pub order_legal : HasLegalOrder n m files
-  pub pending_prefix : HasPendingPrefix n m files

@@ -1,10 +1,13 @@
--- What every machine keeps over any disk, whether it tells its bytes or not.
-use Rattle.hb_core.specs.Keeps.{HasNoOtherLatches, HasNobodyElse, HoldsPagesOfFile, KnowsRoom, LatchesFit, WalksInSpace}
+-- What every machine keeps: over any disk, whether it tells its bytes or not, and besides over one that tells.
+use Rattle.std.specs.Prelude.{◌≡◌, Some}
+use Rattle.hb_set.specs.Machine.{RecordSet}
+use Rattle.hb_core.specs.KeptOrder.{HasLegalOrder, HasPendingPrefix}
+use Rattle.hb_core.specs.Keeps.{HasNoOtherLatches, HasNobodyElse, HasSoundFile, HoldsPagesOfFile, KnowsRoom, LatchesFit, WalksInSpace}
 use Rattle.hb_core.specs.KeptFits.{AttributesFit, HaveClasses, RunsWithStore, WorkersStand}
 use Rattle.hb_core.specs.KeptLines.{LinesFit, MarksInPlace}
 use Rattle.hb_core.specs.KeptPlaces.{AnswersAreSingle, MarksRise, OrderIsShort, RepliesStand}
 use Rattle.hb_core.specs.KeptTurns.{LinesInTurn}
-use Rattle.hb_core.specs.Machines.{Machine}
+use Rattle.hb_core.specs.Machines.{Files, Machine}
 
 pub record MachineKeeps (m : Machine) : Type 0 where
   -- what the file says of itself is within its limits
@@ -30,3 +33,12 @@ pub record MachineKeeps (m : Machine) : Type 0 where
   -- the groups that wait
   pub marks_rise : MarksRise m
   pub runs : RunsWithStore m
+
+-- Over a disk that tells, from the set that was opened: the files are sound, the order is legal, and each file has the set after a
+-- prefix of it.
+pub record CoreKeeps (n : RecordSet) (m : Machine) (files : Files) : Type 0 where
+  pub told : m.files ≡ Some files
+  pub kept : MachineKeeps m
+  pub sound_file : HasSoundFile m files
+  pub order_legal : HasLegalOrder n m files
+  pub pending_prefix : HasPendingPrefix n m files

@@ -30,4 +30,7 @@ pub mod WaitingLaws
 pub mod StageLaws
 pub mod MachineLaws
 pub mod CauseLaws
+pub mod Showing
+pub mod MomentLaws
+pub mod ProgressLaws
 pub mod Examples
