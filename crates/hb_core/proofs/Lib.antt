@@ -62,3 +62,8 @@ pub mod Volumes
 pub mod LaterWanted
 pub mod NoCircle
 pub mod SomebodyFree
+pub mod DeedKinds
+pub mod NextHands
+pub mod ClassesKept
+pub mod RunsKept
+pub mod MarksKept
