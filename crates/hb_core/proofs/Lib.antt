@@ -72,3 +72,5 @@ pub mod AddedJobs
 pub mod BoxesAhead
 pub mod MetaKept
 pub mod AttributesKept
+pub mod WalkingWorkers
+pub mod WorkersKept
