@@ -1,5 +1,5 @@
 -- A worker walks on from a page, or walks no more; and the page that its walk wants is of its job's level or above it.
-use Rattle.std.proofs.Common.{◌≡◌, ◌⊎◌, inl, inr, ℕ, ◌-◌, ◌<◌, ◌≤◌, ◌==◌, List, [], ◌∷◌, Option, Some, None, refl, sym, ap, ◌∙◌, subst, arith}
+use Rattle.std.proofs.Common.{◌≡◌, ◌⊎◌, inl, inr, ℕ, ◌-◌, ◌≤◌, ◌==◌, Option, Some, None, refl, sym, ap, ◌∙◌, subst, arith}
 use Rattle.std.specs.Option.{option_and_then}
 use Rattle.std.proofs.lemmas.Bool.{cases_Bool, eqb-true, eqb-false}
 use Rattle.hb_frag.specs.declared.leaves.Leaf.{Leaf}
@@ -26,7 +26,7 @@ use Rattle.hb_core.proofs.NextHands.{KeepsHand, hand_after}
 use Rattle.hb_core.specs.Asking.{looked_live, wanted_by}
 use Rattle.hb_core.specs.KeptFits.{GaveAwayAt, StandsAbove, walking_job}
 use Rattle.hb_core.specs.Machines.{Machine, live_here, sight}
-use Rattle.hb_core.specs.Rows.{IsAtHand, Row, RowAlone, RowAt}
+use Rattle.hb_core.specs.Rows.{Row, RowAlone, RowAt}
 use Rattle.hb_frag.specs.Leaves.{Placed, first_named, leaf_at, siblings_of}
 use Rattle.hb_poster.specs.PosterRows.{DoesPlan, after_look}
 use Rattle.hb_space.specs.Boxes.{Area}

@@ -8,13 +8,11 @@ use Rattle.hb_frag.specs.declared.pages.Page.TheVariants.{Live}
 use Rattle.hb_layout.specs.declared.meta.Meta.{Meta}
 use Rattle.hb_activity.specs.declared.jobs.Job.{Job}
 use Rattle.hb_activity.specs.declared.activities.Activity.{Activity}
-use Rattle.hb_activity.specs.declared.activities.Activity.TheVariants as at
 use Rattle.hb_core.specs.declared.outcomes.Outcome.{Outcome}
 use Rattle.hb_activity.specs.Deeds.{Deed}
 use Rattle.hb_activity.specs.Passing.{IsPointer, LeadsBelow}
 use Rattle.hb_activity.specs.Walks.{walk_held}
 use Rattle.hb_consol.specs.ConsolidatorRows.{IsMergingOf}
-use Rattle.hb_core.proofs.Backing.{live_there}
 use Rattle.hb_core.proofs.DeedKinds.{each_again, each_deed}
 use Rattle.hb_core.proofs.LatchesStay.{walk_latched}
 use Rattle.hb_core.proofs.MetaKept.{deed_keeps_meta}
@@ -32,7 +30,7 @@ use Rattle.hb_latch.specs.Tables.{MayLatch}
 use Rattle.hb_ops.specs.Files.{if_live}
 use Rattle.hb_poster.specs.PosterRows.{IsPostingOf}
 use Rattle.hb_space.specs.Boxes.{Area}
-use Rattle.hb_store.specs.States.{StoreState, in_memory}
+use Rattle.hb_store.specs.States.{StoreState}
 
 -- what one activity has of it
 abbrev pub StandsByJob : StoreState → Activity → Type 0
@@ -107,7 +105,7 @@ module _ (m : Machine) (actor : ℕ) (outcome : Outcome) (new : Machine) (may : 
   other_stands : (other : ℕ) → other ≢ actor → m.store.meta.height ≤ new.store.meta.height → StandsByJob new.store (m.activity other)
   other_stands other another grows = elim (may_or_not other) [
     | inl latches ↦ stands_again m.store new.store (walk_held (m.activity other)) (walking_job (m.activity other)) grows
-    (λ id page holds live. let both = other_walks m actor outcome new may kept.latches_fit kept.pages_of_file step other another latches id holds in both.1.before ∙ sym both.1.after ∙ live) (kept.workers_stand other)
+        (λ id page holds live. let both = other_walks m actor outcome new may kept.latches_fit kept.pages_of_file step other another latches id holds in both.1.before ∙ sym both.1.after ∙ live) (kept.workers_stand other)
     | inr none ↦ none_stands new.store (m.activity other) (ap walking_job (kept.nobody_else other none))
   ]
 
