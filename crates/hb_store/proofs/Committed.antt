@@ -244,7 +244,7 @@ module _ (st new : StoreState) (op : Op) (mark : ℕ) (well : MakesWell op st) (
       count = keeps.disk.count ∙ sym commits.written;
       images = λ c image. inl (StoreKeeps-by d st durable later keeps going c image);
       shows = keeps.disk.shows;
-      running = λ _. let run = keeps.disk.running going in record { places = run.places; logged = same_log d st.log new.log p.payloads commits.area commits.len commits.written run.logged };
+      running = λ _. let run = keeps.disk.running going in record { places = run.places; no_body = run.no_body; logged = same_log d st.log new.log p.payloads commits.area commits.len commits.written run.logged };
       kept = (keeps.disk.kept.0, subst (λ (m : ℕ). IsSynced d m new.log.written) (sym commits.area) (subst (λ (m : ℕ). IsSynced d st.log.area m) (sym commits.written) keeps.disk.kept.1));
     })
 

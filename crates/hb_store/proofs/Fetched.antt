@@ -87,6 +87,7 @@ keeps_read d e st durable later stays k = record {
     shows = λ c image. k.disk.shows c (stays.image c image);
     running = λ r. let run = k.disk.running r in record {
       places = synced_read d e 0 8192 stays run.places;
+      no_body = λ b told. run.no_body b (sym stays.told ∙ told);
       logged = record {
         synced = synced_read d e st.log.area st.log.len stays run.logged.synced;
         payloads_fit = run.logged.payloads_fit;

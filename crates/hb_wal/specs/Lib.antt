@@ -6,3 +6,4 @@ pub mod Reading
 pub mod Stops
 pub mod Loops
 pub mod FrameLaws
+pub mod CallLaws
