@@ -1,5 +1,5 @@
 -- What is in memory once pages may have left it.
-use Rattle.std.proofs.Common.{◌≡◌, inl, inr, ℕ, List, false, Some, None, IsTrue, sym, ◌∙◌}
+use Rattle.std.proofs.Common.{◌≡◌, inl, inr, ℕ, List, Some, None, sym, ◌∙◌}
 use Rattle.std.proofs.lemmas.Bool.{cases_Bool}
 use Rattle.hb_disk.specs.Model.{DiskModel, IsDisk}
 use Rattle.hb_frag.specs.declared.pages.Page.{Page}

@@ -1,5 +1,5 @@
 -- How many calls of the disk a force takes at most.
-use Rattle.std.proofs.Common.{ℕ, ◌≤◌, List, [], ◌∷◌, arith}
+use Rattle.std.proofs.Common.{◌≤◌, List, [], ◌∷◌, arith}
 use Rattle.hb_wal.specs.Log.{Waiting}
 use Rattle.hb_wal.specs.Forces.{calls_of_force}
 
