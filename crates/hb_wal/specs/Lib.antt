@@ -6,4 +6,3 @@ pub mod Reading
 pub mod Stops
 pub mod Loops
 pub mod FrameLaws
-pub mod CallLaws
