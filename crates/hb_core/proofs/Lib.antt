@@ -62,3 +62,8 @@ pub mod Volumes
 pub mod LaterWanted
 pub mod NoCircle
 pub mod SomebodyFree
+pub mod JoinedReplies
+pub mod StepLines
+pub mod RepliesKept
+pub mod ShortOrder
+pub mod SingleAnswers
