@@ -62,3 +62,7 @@ pub mod Volumes
 pub mod LaterWanted
 pub mod NoCircle
 pub mod SomebodyFree
+pub mod StepSays
+pub mod RowFates
+pub mod QueueMoves
+pub mod Causes

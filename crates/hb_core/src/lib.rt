@@ -14,6 +14,7 @@
 //! completed late, and Evangelidis, Lomet and Salzberg 1997.
 #![tactic(auto)]
 
+pub mod cause_laws;
 pub mod examples;
 pub mod file_laws;
 pub mod keeping_laws;
