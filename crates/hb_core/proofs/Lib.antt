@@ -66,3 +66,4 @@ pub mod StepSays
 pub mod RowFates
 pub mod QueueMoves
 pub mod Causes
+pub mod ImagePrefixes

@@ -21,6 +21,7 @@ pub mod keeping_laws;
 pub mod laws;
 pub mod outcome_laws;
 mod outcomes;
+pub mod progress_laws;
 mod threads;
 pub mod waiting_laws;
 

@@ -1,0 +1,16 @@
+//! What an image of the disk opens to at each moment, and that somebody may always go on. Each law is the
+//! contract of a function that does nothing: a caller learns it by the call.
+
+ghost use Rattle.hb_core.specs.MomentLaws.{ImagesHavePrefixes};
+
+use hb_sound::laws::{a_level_parts_the_space, a_walk_ends_at_the_responsible_page};
+
+/// Bytes that open to the durable file, or to the file after the first group that waits, open to a sound
+/// file that has the set after a prefix of the order, with each line answered by then; and each point has
+/// exactly one responsible page in it.
+pub fn images_have_prefixes()
+    ensures { ImagesHavePrefixes }
+{
+    a_walk_ends_at_the_responsible_page();
+    a_level_parts_the_space();
+}
