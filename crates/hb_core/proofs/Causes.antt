@@ -1,5 +1,5 @@
 -- Why a line is refused, why a job ends, and what a step says of lines and jobs.
-use Rattle.std.proofs.Common.{◌≡◌, ◌≢◌, ◌⊎◌, inl, inr, ℕ, ◌<◌, Bool, cond, List, [], ◌∷◌, Option, Some, None, IfSome, IsSomeAnd, refl, sym, ap, ◌∙◌, subst}
+use Rattle.std.proofs.Common.{◌≡◌, ◌⊎◌, inl, inr, ℕ, Bool, cond, List, Option, Some, None, IfSome, IsSomeAnd, refl, sym, ap, ◌∙◌, subst}
 use Rattle.std.specs.List.{Contains}
 use Rattle.std.proofs.lemmas.Bool.{eq-eqb}
 use Rattle.std.proofs.lemmas.Option.{same_Some}
@@ -12,23 +12,22 @@ use Rattle.hb_activity.specs.declared.jobs.Job.{Job}
 use Rattle.hb_activity.specs.declared.activities.Activity.{Activity}
 use Rattle.hb_activity.specs.declared.activities.Activity.TheVariants as at
 use Rattle.hb_activity.specs.Classes.{Empty, Hand, HasJob, HasLine, hand_of, job_in_work, job_of, line_in_hand, line_of}
-use Rattle.hb_activity.specs.Deeds.{Deed, GoesOn, Says, answers_now, takes_job}
+use Rattle.hb_activity.specs.Deeds.{Deed, GoesOn}
 use Rattle.hb_consol.specs.ConsolidatorRows.{IsMergingOf}
 use Rattle.hb_core.specs.declared.outcomes.Outcome.{Outcome}
 use Rattle.hb_core.specs.declared.outcomes.Outcome.TheVariants as outcomes
 use Rattle.hb_core.proofs.GivenUp.{given_up_is, run_out_is}
 use Rattle.hb_core.proofs.QueueMoves.{joins_or_full, left_or_taken, still_waits}
 use Rattle.hb_core.proofs.RowFates.{HasFate, JobFate, RowSaying, fate_of_job, saying_of}
-use Rattle.hb_core.proofs.StepSays.{IsPlain, RunsOut, ShowsSaid, each_saying}
-use Rattle.hb_core.specs.Acting.{Abandons, DoesRow, GivesUpFor}
+use Rattle.hb_core.proofs.StepSays.{each_saying}
+use Rattle.hb_core.specs.Acting.{DoesRow}
 use Rattle.hb_core.specs.Asking.{wanted_by}
 use Rattle.hb_core.specs.CauseLaws.{AnswersFirstLine, BeginsSearch, CannotBeReady, DropsByCause, EndsByRow, FindsNoPlace, FullByCause, GaveUpFor, HasNoRoom, JobsEndByCause, JobsLeaveToWorkers, NoMemoryByCause, ReadFaultByCause}
 use Rattle.hb_core.specs.GivingUp.{gives_up, reply_for, runs_out}
-use Rattle.hb_core.specs.Keeps.{LacksRoomFor}
 use Rattle.hb_core.specs.KeptMachine.{MachineKeeps}
 use Rattle.hb_core.specs.KeptOrder.{StandsOutside}
 use Rattle.hb_core.specs.KeptTurns.{awaited_number}
-use Rattle.hb_core.specs.Machines.{Machine, with_activity, with_disk}
+use Rattle.hb_core.specs.Machines.{Machine, with_disk}
 use Rattle.hb_core.specs.Performing.{Performs, outcome_of}
 use Rattle.hb_core.specs.Steps.{StepsTo, TakesJob, TakesMerging}
 use Rattle.hb_point.specs.SessionRows.{WantsBoxes, next_line}

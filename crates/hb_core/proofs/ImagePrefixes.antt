@@ -1,12 +1,11 @@
 -- An image of the disk opens to a file that has the set after a prefix of the order.
-use Rattle.std.proofs.Common.{◌≡◌, ◌⊎◌, inl, inr, ℕ, ◌≤◌, zero, List, [], ◌∷◌, All, refl, sym, ap, subst, arith}
+use Rattle.std.proofs.Common.{inl, inr, ℕ, zero, List, ◌∷◌, All, refl, arith, []}
 use Rattle.std.specs.List.{Contains}
 use Rattle.std.proofs.lemmas.List.Elements.{All-head}
 use Rattle.hb_core.proofs.Prefixes.{files_have_prefixes}
-use Rattle.hb_core.specs.KeepingLaws.{HasPrefixes, HasSetAfter, IsAfterLonger}
-use Rattle.hb_core.specs.KeptMachine.{CoreKeeps}
+use Rattle.hb_core.specs.KeepingLaws.{IsAfterLonger}
 use Rattle.hb_core.specs.Laws.{HasOnePage, PointsHaveOnePage}
-use Rattle.hb_core.specs.Machines.{Files, Machine, settled_count}
+use Rattle.hb_core.specs.Machines.{Machine, settled_count}
 use Rattle.hb_core.specs.MomentLaws.{ImagesHavePrefixes, OpensToPrefix}
 use Rattle.hb_ops.specs.Files.{FileState}
 use Rattle.hb_ops.specs.Sound.{IsSound}

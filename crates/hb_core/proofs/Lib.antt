@@ -67,3 +67,4 @@ pub mod RowFates
 pub mod QueueMoves
 pub mod Causes
 pub mod ImagePrefixes
+pub mod WhoGoesOn

@@ -1,6 +1,6 @@
 -- What becomes of the job that a worker has in work: it stays in work, the row puts it back, or the row ends it. And what a row says:
 -- it goes on, or the line of a split is `full`.
-use Rattle.std.proofs.Common.{◌≡◌, ◌≢◌, ◌⊎◌, inl, inr, ℕ, ◌+◌, zero, suc, List, [], ◌∷◌, Option, Some, None, refl, sym, ap, ◌∙◌, subst, arith}
+use Rattle.std.proofs.Common.{◌≡◌, ◌⊎◌, inl, inr, ℕ, ◌+◌, zero, suc, List, ◌∷◌, Option, Some, None, refl, sym, ap, ◌∙◌, subst, arith, []}
 use Rattle.std.specs.Prelude.{MatchOption}
 use Rattle.std.specs.List.{Contains}
 use Rattle.std.proofs.lemmas.Option.{same_Some}
@@ -19,14 +19,13 @@ use Rattle.hb_activity.specs.declared.wanting.Wanted.{Wanted}
 use Rattle.hb_activity.specs.declared.activities.Activity.{Activity}
 use Rattle.hb_activity.specs.declared.activities.Activity.TheVariants as at
 use Rattle.hb_activity.specs.Classes.{job_in_work}
-use Rattle.hb_activity.specs.Deeds.{Deed, GoesOn, Says, answers_now}
+use Rattle.hb_activity.specs.Deeds.{Deed, GoesOn, answers_now}
 use Rattle.hb_activity.specs.Passing.{PassesOn}
 use Rattle.hb_activity.specs.Walks.{goal_of}
-use Rattle.hb_consol.specs.ConsolidatorRows.{HasMergePlan, TriesPair, after_try, children_of, first_one, one_behind, pair_from, scans, tries}
+use Rattle.hb_consol.specs.ConsolidatorRows.{HasMergePlan, after_try, children_of, first_one, one_behind, pair_from, scans, tries}
 use Rattle.hb_consol.specs.MergeRows.{DoesMerge, after_keep}
 use Rattle.hb_core.proofs.MergerMoves.{MovesMerger, merger_moves}
-use Rattle.hb_core.specs.CauseLaws.{EndsAt, IsLastPair, MayNotMerge}
-use Rattle.hb_core.specs.KeptMerges.{IsMerging}
+use Rattle.hb_core.specs.CauseLaws.{EndsAt, IsLastPair}
 use Rattle.hb_core.specs.Machines.{Machine, live_here, sight}
 use Rattle.hb_core.specs.Rows.{DoesHere, Row, RowAlone, RowAt}
 use Rattle.hb_frag.specs.Leaves.{first_named, siblings_of}

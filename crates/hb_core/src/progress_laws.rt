@@ -2,6 +2,7 @@
 //! contract of a function that does nothing: a caller learns it by the call.
 
 ghost use Rattle.hb_core.specs.MomentLaws.{ImagesHavePrefixes};
+ghost use Rattle.hb_core.specs.ProgressLaws.{SomebodyGoesOnNow};
 
 use hb_sound::laws::{a_level_parts_the_space, a_walk_ends_at_the_responsible_page};
 
@@ -14,3 +15,10 @@ pub fn images_have_prefixes()
     a_walk_ends_at_the_responsible_page();
     a_level_parts_the_space();
 }
+
+/// In a machine that runs and has something left, a line without an answer, a job that waits or an actor at
+/// work, there is an actor of whom no step waits for another one or finds nothing to do.
+#[tactic(auto, using(crate::proofs::WhoGoesOn::somebody_goes_on_now))]
+pub fn somebody_goes_on_now()
+    ensures { SomebodyGoesOnNow }
+{}
