@@ -80,3 +80,9 @@ pub mod StepLines
 pub mod RepliesKept
 pub mod ShortOrder
 pub mod SingleAnswers
+pub mod StepSays
+pub mod RowFates
+pub mod QueueMoves
+pub mod Causes
+pub mod ImagePrefixes
+pub mod WhoGoesOn
