@@ -1,5 +1,5 @@
 -- Why a line is refused, why a job ends, and what a step says of lines and jobs.
-use Rattle.std.proofs.Common.{◌≡◌, ◌⊎◌, inl, inr, ℕ, Bool, cond, List, Option, Some, None, IfSome, IsSomeAnd, refl, sym, ap, ◌∙◌, subst}
+use Rattle.std.proofs.Common.{◌≡◌, ◌⊎◌, inl, inr, ℕ, Bool, cond, List, Option, Some, None, IfSome, IsSomeAnd, refl, sym, ap, ◌∙◌, subst, ◌≤◌, arith}
 use Rattle.std.specs.List.{Contains}
 use Rattle.std.proofs.lemmas.Bool.{eq-eqb}
 use Rattle.std.proofs.lemmas.Option.{same_Some}
@@ -11,18 +11,18 @@ use Rattle.hb_activity.specs.declared.dropping.DropWhy.TheVariants as drops
 use Rattle.hb_activity.specs.declared.jobs.Job.{Job}
 use Rattle.hb_activity.specs.declared.activities.Activity.{Activity}
 use Rattle.hb_activity.specs.declared.activities.Activity.TheVariants as at
+use Rattle.hb_core.specs.declared.outcomes.Outcome.{Outcome}
+use Rattle.hb_core.specs.declared.outcomes.Outcome.TheVariants as outcomes
 use Rattle.hb_activity.specs.Classes.{Empty, Hand, HasJob, HasLine, hand_of, job_in_work, job_of, line_in_hand, line_of}
 use Rattle.hb_activity.specs.Deeds.{Deed, GoesOn}
 use Rattle.hb_consol.specs.ConsolidatorRows.{IsMergingOf}
-use Rattle.hb_core.specs.declared.outcomes.Outcome.{Outcome}
-use Rattle.hb_core.specs.declared.outcomes.Outcome.TheVariants as outcomes
 use Rattle.hb_core.proofs.GivenUp.{given_up_is, run_out_is}
 use Rattle.hb_core.proofs.QueueMoves.{joins_or_full, left_or_taken, still_waits}
 use Rattle.hb_core.proofs.RowFates.{HasFate, JobFate, RowSaying, fate_of_job, saying_of}
 use Rattle.hb_core.proofs.StepSays.{each_saying}
 use Rattle.hb_core.specs.Acting.{DoesRow}
 use Rattle.hb_core.specs.Asking.{wanted_by}
-use Rattle.hb_core.specs.CauseLaws.{AnswersFirstLine, BeginsSearch, CannotBeReady, DropsByCause, EndsByRow, FindsNoPlace, FullByCause, GaveUpFor, HasNoRoom, JobsEndByCause, JobsLeaveToWorkers, NoMemoryByCause, ReadFaultByCause}
+use Rattle.hb_core.specs.CauseLaws.{AnswersFirstLine, BeginsSearch, CannotBeReady, DropsByCause, EndsByRow, FindsNoPlace, FullByCause, GaveUpFor, HasNoRoom, JobsEndByCause, JobsLeaveToWorkers, NoMemoryByCause, ReadFaultByCause, IsTakenFrom, IsWorkerOf}
 use Rattle.hb_core.specs.GivingUp.{gives_up, reply_for, runs_out}
 use Rattle.hb_core.specs.KeptMachine.{MachineKeeps}
 use Rattle.hb_core.specs.KeptOrder.{StandsOutside}
@@ -245,7 +245,7 @@ given_up_takes_nothing why activity = given_up_is (λ deed. deed.takes ≡ None)
 
 module _ (m : Machine) (actor : ℕ) (outcome : Outcome) (new : Machine) (job : Job) (waits : Contains m.jobs job) where
   abbrev Left : Type 0
-  Left = Contains new.jobs job ⊎ (((m.activity actor ≡ at.PosterIdle) ⊎ (m.activity actor ≡ at.ConsolidatorIdle)) × ((job_in_work (new.activity actor) ≡ Some job) ⊎ (new.activity actor ≡ m.activity actor)))
+  Left = Contains new.jobs job ⊎ (IsWorkerOf m actor job × IsTakenFrom m actor new job)
 
   left_by : (fetched : StoreState) (deed : Deed) → Performs m fetched actor deed outcome new → Contains new.jobs job ⊎ (deed.takes ≡ Some job)
   left_by fetched deed performs = by (left_or_taken deed.takes job m.jobs performs.jobs.left performs.jobs.takes waits)
@@ -263,36 +263,41 @@ module _ (m : Machine) (actor : ℕ) (outcome : Outcome) (new : Machine) (job : 
       by (inr taken) = let never : None ≡ Some job = sym none ∙ taken in cc
 
   -- a worker that takes one
-  posting : (taken : Job) (height : ℕ) (next : Activity) → IsPostingOf taken height next → m.activity actor ≡ at.PosterIdle → new.activity actor ≡ next → taken ≡ job → (job_in_work (new.activity actor) ≡ Some job) ⊎ (new.activity actor ≡ m.activity actor)
-  posting taken height next (inl (above, is)) idle stands same = inr (stands ∙ is ∙ sym idle)
-  posting taken height next (inr (inl (level, is))) idle stands same = inl (ap job_in_work (stands ∙ is) ∙ ap Some same)
-  posting taken height next (inr (inr (below, is))) idle stands same = inl (ap job_in_work (stands ∙ is) ∙ ap Some same)
+  low : (taken : Job) → taken ≡ job → m.store.meta.height ≤ taken.level → m.store.meta.height ≤ job.level
+  low taken same le = subst (λ (j : Job). m.store.meta.height ≤ j.level) same le
 
-  merging : (taken : Job) (height : ℕ) (next : Activity) → IsMergingOf taken height next → m.activity actor ≡ at.ConsolidatorIdle → new.activity actor ≡ next → taken ≡ job → (job_in_work (new.activity actor) ≡ Some job) ⊎ (new.activity actor ≡ m.activity actor)
-  merging taken height next (inl (above, is)) idle stands same = inr (stands ∙ is ∙ sym idle)
-  merging taken height next (inr (below, is)) idle stands same = inl (ap job_in_work (stands ∙ is) ∙ ap Some same)
+  posting : (taken : Job) (next : Activity) → IsPostingOf taken m.store.meta.height next → m.activity actor ≡ at.PosterIdle → new.activity actor ≡ next → taken ≡ job → IsTakenFrom m actor new job
+  posting taken next (inl (above, is)) idle stands same = inr (stands ∙ is ∙ sym idle, low taken same (omega (arith, above)))
+  posting taken next (inr (inl (level, is))) idle stands same = inl (ap job_in_work (stands ∙ is) ∙ ap Some same)
+  posting taken next (inr (inr (below, is))) idle stands same = inl (ap job_in_work (stands ∙ is) ∙ ap Some same)
+
+  merging : (taken : Job) (next : Activity) → IsMergingOf taken m.store.meta.height next → m.activity actor ≡ at.ConsolidatorIdle → new.activity actor ≡ next → taken ≡ job → IsTakenFrom m actor new job
+  merging taken next (inl (above, is)) idle stands same = inr (stands ∙ is ∙ sym idle, low taken same above)
+  merging taken next (inr (below, is)) idle stands same = inl (ap job_in_work (stands ∙ is) ∙ ap Some same)
 
   posts : (deed : Deed) → m.activity actor ≡ at.PosterIdle → TakesJob m deed → Performs m m.store actor deed outcome new → Left
   posts deed idle takes performs = by (left_by m.store deed performs)
     where
       by : Contains new.jobs job ⊎ (deed.takes ≡ Some job) → Left
       by (inl stays) = inl stays
-      by (inr taken) = inr (
-        inl idle,
-        posting takes.job m.store.meta.height takes.next takes.posting idle (own_place m m.store actor deed outcome new performs ∙ ap (λ (d : Deed). d.next) takes.deed_is)
-            (same_Some takes.job job (sym (ap (λ (d : Deed). d.takes) takes.deed_is) ∙ taken)),
-      )
+      by (inr taken) =
+          let same = same_Some takes.job job (sym (ap (λ (d : Deed). d.takes) takes.deed_is) ∙ taken) in
+          inr (
+            inl (idle, ap (λ (j : Job). j.kind) (sym same) ∙ takes.kind),
+            posting takes.job takes.next takes.posting idle (own_place m m.store actor deed outcome new performs ∙ ap (λ (d : Deed). d.next) takes.deed_is) same,
+          )
 
   merges : (deed : Deed) → m.activity actor ≡ at.ConsolidatorIdle → TakesMerging m deed → Performs m m.store actor deed outcome new → Left
   merges deed idle takes performs = by (left_by m.store deed performs)
     where
       by : Contains new.jobs job ⊎ (deed.takes ≡ Some job) → Left
       by (inl stays) = inl stays
-      by (inr taken) = inr (
-        inr idle,
-        merging takes.job m.store.meta.height takes.next takes.merging idle (own_place m m.store actor deed outcome new performs ∙ ap (λ (d : Deed). d.next) takes.deed_is)
-            (same_Some takes.job job (sym (ap (λ (d : Deed). d.takes) takes.deed_is) ∙ taken)),
-      )
+      by (inr taken) =
+          let same = same_Some takes.job job (sym (ap (λ (d : Deed). d.takes) takes.deed_is) ∙ taken) in
+          inr (
+            inr (idle, ap (λ (j : Job). j.kind) (sym same) ∙ takes.kind),
+            merging takes.job takes.next takes.merging idle (own_place m m.store actor deed outcome new performs ∙ ap (λ (d : Deed). d.next) takes.deed_is) same,
+          )
 
 pub jobs_leave_to_workers : JobsLeaveToWorkers
 jobs_leave_to_workers m actor outcome new job step waits = each_saying m actor outcome new (Left m actor outcome new job waits) (record {

@@ -11,6 +11,7 @@ use Rattle.hb_terms.specs.declared.plans.PostPlan.TheVariants.{Nothing, SplitFir
 use Rattle.hb_activity.specs.declared.dropping.DropWhy.{DropWhy}
 use Rattle.hb_activity.specs.declared.dropping.DropWhy.TheVariants as drops
 use Rattle.hb_activity.specs.declared.jobs.Job.{Job}
+use Rattle.hb_activity.specs.declared.jobs.JobKind.TheVariants.{Post, Merge}
 use Rattle.hb_activity.specs.declared.waiting_jobs.TheConstants.{JOBS}
 use Rattle.hb_activity.specs.declared.wanting.Wanted.{Wanted}
 use Rattle.hb_activity.specs.declared.activities.Activity.{Activity}
@@ -77,10 +78,17 @@ abbrev pub AnswersFirstLine : Type 0
 AnswersFirstLine = (m : Machine) (actor number : ℕ) (reply : Reply) (new : Machine) → MachineKeeps m → StepsTo m actor (outcomes.Answered number reply) new →
     IsSomeAnd (next_line actor m.answered m.lines) (λ line. line.number ≡ number)
 
--- A job leaves those that wait only by a step of an idle worker, which has it in work then, or has dropped it for its level.
+-- A job leaves those that wait only by a step of the idle worker of its kind, which has it in work then, or stays idle since the
+-- file isn't higher than the job's level.
+abbrev pub IsWorkerOf : Machine → ℕ → Job → Type 0
+IsWorkerOf m actor job = ((m.activity actor ≡ at.PosterIdle) × (job.kind ≡ Post)) ⊎ ((m.activity actor ≡ at.ConsolidatorIdle) × (job.kind ≡ Merge))
+
+abbrev pub IsTakenFrom : Machine → ℕ → Machine → Job → Type 0
+IsTakenFrom m actor new job = (job_in_work (new.activity actor) ≡ Some job) ⊎ ((new.activity actor ≡ m.activity actor) × (m.store.meta.height ≤ job.level))
+
 abbrev pub JobsLeaveToWorkers : Type 0
 JobsLeaveToWorkers = (m : Machine) (actor : ℕ) (outcome : Outcome) (new : Machine) (job : Job) → StepsTo m actor outcome new → Contains m.jobs job →
-    Contains new.jobs job ⊎ (((m.activity actor ≡ at.PosterIdle) ⊎ (m.activity actor ≡ at.ConsolidatorIdle)) × ((job_in_work (new.activity actor) ≡ Some job) ⊎ (new.activity actor ≡ m.activity actor)))
+    Contains new.jobs job ⊎ (IsWorkerOf m actor job × IsTakenFrom m actor new job)
 
 -- No pair is left to try at a page: this isn't one, and the parent names no child behind the page.
 abbrev pub IsLastPair : LivePage → ℕ → Option (ℕ × ℕ) → Type 0
