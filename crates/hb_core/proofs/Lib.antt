@@ -59,3 +59,6 @@ pub mod Volumes
 pub mod LaterWanted
 pub mod NoCircle
 pub mod SomebodyFree
+pub mod WrittenTables
+pub mod BuiltSteps
+pub mod ChainOfInsert

@@ -33,3 +33,5 @@ pub mod KeepingLaws
 pub mod WaitingLaws
 pub mod StageLaws
 pub mod Examples
+pub mod Scenes
+pub mod OneInsert

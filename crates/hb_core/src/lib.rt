@@ -22,5 +22,6 @@ pub mod outcome_laws;
 mod outcomes;
 mod threads;
 pub mod waiting_laws;
+pub mod written_chains;
 
 pub use outcomes::{DropWhy, Outcome};

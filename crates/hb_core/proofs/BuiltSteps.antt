@@ -1,0 +1,285 @@
+-- A step is built: the machine after a deed, and that the deed is done so.
+use Rattle.std.proofs.Common.{◌≡◌, ◌≢◌, ◌⊎◌, inl, inr, ℕ, ◌++◌, Bool, true, false, List, [], ◌∷◌, length, get_or, Option, Some, None, IfSome, IsSome, IsSomeAnd, IsTrue, refl, sym, ap, ◌∙◌, subst}
+use mathlib.Core.Path.{fun_ext}
+use Rattle.std.specs.Prelude.{◌||◌, ◌+◌, ◌*◌, ◌%◌}
+use Rattle.std.specs.FinMap as map
+use Rattle.hb_space.specs.declared.form.TheConstants.{PAGE}
+use Rattle.std.specs.Option.{option_and_then}
+use Rattle.hb_frag.specs.declared.pages.LivePage.{LivePage}
+use Rattle.hb_frag.specs.declared.pages.Page.{Page}
+use Rattle.hb_layout.specs.Offsets.{log_start}
+use Rattle.hb_layout.specs.declared.meta.Meta.{Meta}
+use Rattle.hb_ops.specs.declared.operations.Op.{Op}
+use Rattle.hb_ops.specs.Files.{FileState, if_live}
+use Rattle.hb_ops.specs.Operations.{Change, IsAllowedOn, change_of, reads_of}
+use Rattle.hb_log_codec.specs.Groups.{Logged, group_bytes}
+use Rattle.hb_wal.specs.Log.{Waiting, forced, left_waiting}
+use Rattle.hb_wal.specs.Frames.{frames}
+use Rattle.hb_latch.specs.declared.modes.Mode.{Mode}
+use Rattle.hb_latch.specs.Modes.{goes_beside}
+use Rattle.hb_latch.specs.Tables.{IsGrantable, IsLeastInTheWay}
+use Rattle.hb_activity.specs.declared.holding.Latch.{Latch}
+use Rattle.hb_activity.specs.declared.jobs.Job.{Job}
+use Rattle.hb_activity.specs.declared.wanting.Wanted.{Wanted}
+use Rattle.hb_activity.specs.declared.activities.Activity.{Activity}
+use Rattle.hb_activity.specs.Holding.{held_of}
+use Rattle.hb_activity.specs.Walks.{walk_held}
+use Rattle.hb_activity.specs.Wanting.{wanted_of}
+use Rattle.hb_store.specs.Calls.{change_here, durable_after, later_after, read_here, with_op}
+use Rattle.hb_store.specs.Images.{group_here, images_needed}
+use Rattle.hb_store.specs.Marks.{has_page, is_among}
+use Rattle.hb_store.specs.Replay.{set_pages}
+use Rattle.hb_store.specs.States.{StoreState, in_memory, is_imaged}
+use Rattle.hb_core.specs.declared.outcomes.Outcome.{Outcome}
+use Rattle.hb_core.specs.declared.outcomes.Outcome.TheVariants as outcomes
+use Rattle.hb_core.specs.Machines.{Files, Machine, if_some, live_here}
+use Rattle.hb_core.specs.Asking.{AskedBox, HasAskedBox, HasWayFree, IsInTheWay, asked_box, looked_page, wanted_by}
+use Rattle.hb_core.specs.Fetching.{Brings}
+use Rattle.hb_core.specs.Deeds.{Deed, AddsJobs}
+use Rattle.hb_core.specs.Performing.{DoesOp, MayDo, Performs, Relatches, files_after, given_by, latches_held}
+use Rattle.hb_core.specs.Rows.{IsAtHand, Row}
+use Rattle.hb_core.specs.Forcing.{ForcesFirst, calls_of_force}
+use Rattle.hb_core.specs.Scenes.{Scene, machine_of, standing, store_of}
+use Rattle.hb_core.specs.Steps.{IsUnready, Works}
+use Rattle.hb_core.proofs.WrittenTables.{add_numbers, add_pages, among_marked, entry_at, grants, hinders, is_another, is_clear, is_earlier, map_has, mode_in, pages_set, relatched, relatches, set_all, set_entry, set_has, standing_set}
+
+-- ---- what a scene's store answers
+
+pub memory_is : (s : Scene) (id : ℕ) → in_memory (store_of s) id ≡ entry_at id s.pages
+memory_is s id = map_has s.pages id
+
+pub imaged_is : (s : Scene) (id : ℕ) → is_imaged (store_of s) id ≡ is_among id s.imaged
+imaged_is s id = set_has s.imaged id
+
+abbrev pub live_in : Scene → ℕ → Option LivePage
+live_in s id = if_live (entry_at id s.pages)
+
+pub live_is : (s : Scene) (id : ℕ) → live_here (store_of s) id ≡ live_in s id
+live_is s id = ap if_live (memory_is s id)
+
+pub looks_is : (s : Scene) (o : Option ℕ) → option_and_then (live_here (store_of s)) o ≡ option_and_then (live_in s) o
+looks_is s o = ap (λ (f : ℕ → Option LivePage). option_and_then f o) (fun_ext (live_is s))
+
+-- ---- an operation
+
+abbrev pub read_in : Scene → Op → ℕ → Option LivePage
+read_in s op place = live_in s (get_or (reads_of op) place 0)
+
+abbrev pub change_in : Scene → Op → Change
+change_in s op = change_of op s.meta (read_in s op 0) (read_in s op 1) (read_in s op 2)
+
+abbrev pub group_in : Scene → Op → Logged
+group_in s op = record { images = images_needed (λ id. entry_at id s.pages) (λ id. is_among id s.imaged) (reads_of op); op = op }
+
+-- what an operation is allowed on, and that it leaves the log's place alone
+pub record AllowedIn (s : Scene) (op : Op) : Type 0 where
+  pub allowed : IsAllowedOn op s.meta (read_in s op 0) (read_in s op 1) (read_in s op 2)
+  pub log : (change_in s op).meta.log ≡ s.meta.log
+
+abbrev pub MayBeIn : Scene → Option Op → Type 0
+MayBeIn s None = Unit {0}
+MayBeIn s (Some op) = AllowedIn s op
+
+change_is : (s : Scene) (op : Op) → change_here (store_of s) op ≡ change_in s op
+change_is s op = λ i. change_of op s.meta (live_is s (get_or (reads_of op) 0 0) i) (live_is s (get_or (reads_of op) 1 0) i) (live_is s (get_or (reads_of op) 2 0) i)
+
+group_is : (s : Scene) (op : Op) → group_here (store_of s) op ≡ group_in s op
+group_is s op = λ i. record { images = images_needed (λ id. memory_is s id i) (λ id. imaged_is s id i) (reads_of op); op = op }
+
+-- the scene after an operation, but for who did it
+abbrev pub with_done : Op → Scene → Scene
+with_done op s = record {
+  lines = s.lines;
+  answered = s.answered;
+  at_work = s.at_work;
+  latched = s.latched;
+  jobs = s.jobs;
+  order = s.order;
+  meta = (change_in s op).meta;
+  written = s.written;
+  groups = s.groups ++ record { bytes = group_bytes (group_in s op); mark = length s.order } ∷ [];
+  pages = set_all (change_in s op).pages s.pages;
+  imaged = add_pages (change_in s op).pages (add_numbers (reads_of op) s.imaged);
+  durable = s.durable;
+  later = with_op s.durable s.later op;
+  clock = s.clock;
+}
+
+abbrev pub with_maybe_done : Option Op → Scene → Scene
+with_maybe_done None s = s
+with_maybe_done (Some op) s = with_done op s
+
+pub does_op : (s : Scene) (op : Op) → AllowedIn s op → DoesOp op (length s.order) (store_of s) (store_of (with_done op s))
+does_op s op may = record {
+  allowed = subst (λ (o : Option LivePage × Option LivePage × Option LivePage). IsAllowedOn op s.meta o.0 o.1 o.2)
+      (λ i. (sym (live_is s (get_or (reads_of op) 0 0)) i, sym (live_is s (get_or (reads_of op) 1 0)) i, sym (live_is s (get_or (reads_of op) 2 0)) i)) may.allowed;
+  commits = record {
+    turn = refl;
+    stopped = refl;
+    meta = ap (λ (c : Change). c.meta) (sym (change_is s op));
+    pages = λ id. memory_is (with_done op s) id ∙ pages_set (change_in s op).pages s.pages id
+        ∙ sym (λ i. set_pages (change_is s op i).pages (λ q. memory_is s q i) id);
+    imaged = λ id. imaged_is (with_done op s) id ∙ among_marked id (change_in s op).pages (reads_of op) s.imaged
+        ∙ sym (λ i. has_page id (change_is s op i).pages || (is_among id (reads_of op) || imaged_is s id i));
+    area = ap (λ (n : ℕ). 2 * PAGE + (1 % 2) * n) may.log;
+    len = may.log;
+    written = refl;
+    group = group_bytes (group_in s op);
+    groups = refl;
+  };
+  group = ap (λ (g : Logged). s.groups ++ record { bytes = group_bytes g; mark = length s.order } ∷ []) (sym (group_is s op));
+}
+
+-- ---- a deed
+
+abbrev pub held_in : Scene → Activity → List Latch
+held_in s next = held_of next (option_and_then (live_in s) (walk_held next))
+
+-- the scene after a deed of an actor, with the jobs that wait then
+abbrev pub after : ℕ → Deed → List Job → Scene → Scene
+after actor deed jobs s = let t = with_maybe_done deed.op s in record {
+  lines = s.lines;
+  answered = s.answered ++ given_by deed.says s.clock;
+  at_work = set_entry actor deed.next s.at_work;
+  latched = relatched actor (held_in t deed.next) s.latched;
+  jobs = jobs;
+  order = s.order ++ if_some deed.joins;
+  meta = t.meta;
+  written = s.written;
+  groups = t.groups;
+  pages = t.pages;
+  imaged = t.imaged;
+  durable = s.durable;
+  later = t.later;
+  clock = s.clock;
+}
+
+abbrev pub disk_after : Option Op → Scene → StoreState
+disk_after op s = let t = with_maybe_done op s in store_of (record {
+  lines = s.lines;
+  answered = s.answered;
+  at_work = s.at_work;
+  latched = s.latched;
+  jobs = s.jobs;
+  order = s.order;
+  meta = t.meta;
+  written = s.written;
+  groups = t.groups;
+  pages = t.pages;
+  imaged = t.imaged;
+  durable = s.durable;
+  later = t.later;
+  clock = s.clock;
+})
+
+may_do : (s : Scene) (op : Option Op) → MayBeIn s op → MayDo op (length s.order) (store_of s) (disk_after op s)
+may_do s None may = refl
+may_do s (Some op) may = does_op s op may
+
+files_are : (s : Scene) (op : Option Op) → ◌≡◌ {A = Option Files} (Some (record { durable = s.durable; later = (with_maybe_done op s).later })) (files_after op (Some (record { durable = s.durable; later = s.later })))
+files_are s None = refl
+files_are s (Some op) = refl
+
+pub performed : (s : Scene) (actor : ℕ) (deed : Deed) (jobs : List Job) → AddsJobs deed.adds deed.left jobs → MayBeIn s deed.op
+    → Performs (machine_of s) (store_of s) actor deed deed.says (machine_of (after actor deed jobs s))
+performed s actor deed jobs adds may = record {
+  says = refl;
+  lines = refl;
+  answered = refl;
+  activity = standing_set actor deed.next s.at_work;
+  latches = subst (λ (held : List Latch). Relatches actor held (map.from_entries s.latched) (map.from_entries (relatched actor (held_in (with_maybe_done deed.op s) deed.next) s.latched))) (sym (ap (held_of deed.next) (looks_is (after actor deed jobs s) (walk_held deed.next))))
+      (relatches actor (held_in (with_maybe_done deed.op s) deed.next) s.latched);
+  jobs = adds;
+  order = refl;
+  stop = refl;
+  store = may_do s deed.op may;
+  files = files_are s deed.op;
+  clock = refl;
+}
+
+-- ---- a step that works
+
+abbrev pub wanted_in : Scene → ℕ → Option Wanted
+wanted_in s actor = wanted_of (standing s.at_work actor) s.meta (option_and_then (live_in s) (looked_page (standing s.at_work actor)))
+
+wanted_is : (s : Scene) (actor : ℕ) → wanted_by (machine_of s) actor ≡ wanted_in s actor
+wanted_is s actor = ap (wanted_of (standing s.at_work actor) s.meta) (looks_is s (looked_page (standing s.at_work actor)))
+
+-- nobody is in the way
+abbrev pub IsClearIn : Scene → ℕ → Type 0
+IsClearIn s actor = IfSome (wanted_in s actor) (λ w. IsTrue (is_clear (is_another actor) w.page w.mode s.latched))
+
+granted : (s : Scene) (actor : ℕ) (o : Option Wanted) → IfSome o (λ w. IsTrue (is_clear (is_another actor) w.page w.mode s.latched)) → IfSome o (λ w. IsGrantable (map.from_entries s.latched) actor w.page w.mode)
+granted s actor None clear = tt
+granted s actor (Some w) clear = grants actor w.page w.mode s.latched clear
+
+way_free : (s : Scene) (actor : ℕ) → IsClearIn s actor → HasWayFree (machine_of s) actor
+way_free s actor clear = subst (λ (o : Option Wanted). IfSome o (λ w. IsGrantable (map.from_entries s.latched) actor w.page w.mode)) (sym (wanted_is s actor)) (granted s actor (wanted_in s actor) clear)
+
+is_none_not : IsSome {T = Page} None → ⊥
+is_none_not some = cc
+
+-- no page has to come
+nothing_comes : (files : Option Files) (may : ℕ → Type 0) (st : StoreState) → Brings files may st st
+nothing_comes files may st = record {
+  rest = record { turn = refl; meta = refl; log = refl; imaged = refl; stopped = refl };
+  stays = λ id there. refl;
+  only = λ id none there. absurd (is_none_not (subst (λ (o : Option Page). IsSome o) none there));
+  good = λ id page none there. absurd (let no : ⊥ = cc in no);
+  told = λ id page none there. absurd (let no : ⊥ = cc in no);
+}
+
+-- its row is done
+pub works : (s : Scene) (actor : ℕ) (deed : Deed) (jobs : List Job) → IsClearIn s actor → ¬ (IsUnready (machine_of s) actor)
+    → Row (standing s.at_work actor) (wanted_in s actor) (machine_of s) deed → AddsJobs deed.adds deed.left jobs → MayBeIn s deed.op
+    → Works (machine_of s) actor deed.says (machine_of (after actor deed jobs s))
+works s actor deed jobs clear ready row adds may = inr (inr (way_free s actor clear, ready, inl (record {
+  fetched = store_of s;
+  deed = deed;
+  brings = nothing_comes _ _ _;
+  row = subst (λ (o : Option Wanted). Row (standing s.at_work actor) o (machine_of s) deed) (sym (wanted_is s actor)) row;
+  performs = performed s actor deed jobs adds may;
+})))
+
+-- the page of a row
+pub at_hand : (s : Scene) (activity : Activity) (wanted : Wanted) (page : LivePage) (asked : Option AskedBox) → live_in s wanted.page ≡ Some page → page.level ≡ wanted.level
+    → asked_box activity (store_of s) ≡ asked → IfSome asked (λ a. HasAskedBox a page.area) → IsAtHand (machine_of s) activity wanted page
+at_hand s activity wanted page asked live level asks box = record {
+  live = live_is s wanted.page ∙ live;
+  level = level;
+  box = subst (λ (o : Option AskedBox). IfSome o (λ a. HasAskedBox a page.area)) (sym asks) box;
+}
+
+-- another actor is in the way
+hindered : (s : Scene) (actor by : ℕ) (held : Mode) (o : Option Wanted) (w : Wanted) → o ≡ Some w → by ≢ actor → mode_in by w.page s.latched ≡ Some held → goes_beside w.mode held ≡ false
+    → IsTrue (is_clear (is_earlier by actor) w.page w.mode s.latched) → IsSomeAnd o (λ wanted. IsLeastInTheWay (map.from_entries s.latched) actor wanted.page wanted.mode by)
+hindered s actor by held o w is another has conflict clear =
+    subst (λ (x : Option Wanted). IsSomeAnd x (λ wanted. IsLeastInTheWay (map.from_entries s.latched) actor wanted.page wanted.mode by)) (sym is)
+    (hinders actor w.page w.mode held by s.latched another has conflict clear)
+
+pub blocked : (s : Scene) (actor by : ℕ) (held : Mode) (w : Wanted) → wanted_in s actor ≡ Some w → by ≢ actor → mode_in by w.page s.latched ≡ Some held → goes_beside w.mode held ≡ false
+    → IsTrue (is_clear (is_earlier by actor) w.page w.mode s.latched) → Works (machine_of s) actor (outcomes.Blocked by) (machine_of s)
+blocked s actor by held w is another has conflict clear = inl (by, hindered s actor by held (wanted_by (machine_of s) actor) w (wanted_is s actor ∙ is) another has conflict clear, (refl, refl))
+
+-- ---- a force
+
+abbrev pub forced_scene : Scene → Scene
+forced_scene s = record {
+  lines = s.lines;
+  answered = s.answered;
+  at_work = s.at_work;
+  latched = s.latched;
+  jobs = s.jobs;
+  order = s.order;
+  meta = s.meta;
+  written = s.written + length (frames (forced s.groups));
+  groups = left_waiting s.groups;
+  pages = s.pages;
+  imaged = s.imaged;
+  durable = durable_after s.durable s.later;
+  later = later_after s.later;
+  clock = s.clock + calls_of_force s.groups;
+}
+
+pub forces : (s : Scene) (done : Outcome) → ForcesFirst (machine_of s) done done (machine_of (forced_scene s))
+forces s done = inl (refl, refl)

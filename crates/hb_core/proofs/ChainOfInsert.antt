@@ -1,0 +1,68 @@
+-- One session inserts a record: each step of the chain.
+use Rattle.std.proofs.Common.{◌≡◌, ◌≢◌, inl, inr, ℕ, ◌≤◌, List, [], ◌∷◌, Some, All, refl, arith}
+use Rattle.hb_space.specs.declared.records.Record.{Record}
+use Rattle.hb_frag.specs.Leaves.{leaves, leaves_of}
+use Rattle.hb_frag.specs.Rules.{BelongsAt, IsInOrder}
+use Rattle.hb_ops.specs.Recording.{FitsPut}
+use Rattle.hb_ops.specs.Sound.{FitsFile}
+use Rattle.hb_ops.specs.declared.operations.Op.{Op}
+use Rattle.hb_ops.specs.declared.operations.Op.TheVariants.{Put}
+use Rattle.hb_set.specs.declared.commands.Reply.TheVariants as replies
+use Rattle.hb_outside.specs.Numbers.{big_endian}
+use Rattle.hb_sound.proofs.ExampleParts.{each_at, in_order}
+use Rattle.hb_store.specs.Calls.{IsReady}
+use Rattle.hb_core.specs.declared.outcomes.Outcome.TheVariants.{Moved}
+use Rattle.hb_core.specs.Deeds.{Deed, answers_now, takes_effect}
+use Rattle.hb_core.specs.SessionRows.{taking}
+use Rattle.hb_core.specs.Rows.{Row}
+use Rattle.hb_core.specs.Scenes.{Scene, machine_of, standing, store_of}
+use Rattle.hb_core.specs.Steps.{IsUnready}
+use Rattle.hb_core.specs.OneInsert.{OneInsert, before_insert, flat_meta, inserts_a, letter_a, page_of_records}
+use Rattle.hb_core.proofs.BuiltSteps.{AllowedIn, after, at_hand, forced_scene, forces, performed, wanted_in, works}
+
+-- the empty page is well made
+empty_fits : FitsFile flat_meta (page_of_records [])
+empty_fits = record {
+  fits = record { level = omega arith; attributes = refl };
+  well_cut = tt;
+  filled = record { kinds = each_at (BelongsAt 0) (leaves (page_of_records []).frag) (refl, tt); light = omega arith; own = λ none. none };
+  in_order = each_at IsInOrder (leaves_of (page_of_records []).frag (page_of_records []).area) (in_order [] _ tt tt, tt);
+  normal = tt;
+}
+
+abbrev taken : Scene
+taken = after 1 (taking (machine_of before_insert) inserts_a) [] before_insert
+
+abbrev puts : Deed
+puts = takes_effect (machine_of taken) inserts_a replies.Done (Some (Put 1 letter_a)) []
+
+abbrev put : Scene
+put = after 1 puts [] taken
+
+abbrev is_forced : Scene
+is_forced = forced_scene put
+
+abbrev answered : Scene
+answered = after 1 (answers_now (machine_of is_forced) 1 replies.Done) [] is_forced
+
+ready : IsReady (store_of taken)
+ready = (omega arith, omega arith)
+
+put_fits : FitsPut flat_meta (page_of_records []) letter_a
+put_fits = record { made = empty_fits; level = refl; absent = record { records = []; area = _; leaf = refl; keeps = each_at (λ (r : Record). r.key ≢ letter_a.key) [] tt }; room = omega arith }
+
+put_row : Row (standing taken.at_work 1) (wanted_in taken 1) (machine_of taken) puts
+put_row = (page_of_records [], at_hand taken (standing taken.at_work 1) _ (page_of_records []) _ refl refl refl refl, inr (inr (inl (record {
+  absent = record { records = []; area = _; leaf = refl; lack = each_at (λ (r : Record). r.key ≢ letter_a.key) [] tt };
+  room = omega arith;
+  deed_is = refl;
+}))))
+
+pub one_insert : OneInsert
+unfolding big_endian
+one_insert =
+    (machine_of taken, inl (performed before_insert 1 (taking (machine_of before_insert) inserts_a) [] refl tt),
+    (machine_of put, works taken 1 puts [] refl (λ unready. unready.1 ready) put_row refl (record { allowed = put_fits; log = refl }),
+    (machine_of is_forced, inr (omega arith, forces put Moved),
+    (machine_of answered, inl (omega arith, performed is_forced 1 (answers_now (machine_of is_forced) 1 replies.Done) [] refl tt),
+    (machine_of answered, (refl, refl), refl)))))
