@@ -62,3 +62,5 @@ pub mod SomebodyFree
 pub mod WrittenTables
 pub mod BuiltSteps
 pub mod ChainOfInsert
+pub mod ChainOfTwoParts
+pub mod ChainOfTwo

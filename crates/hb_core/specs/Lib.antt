@@ -35,3 +35,4 @@ pub mod StageLaws
 pub mod Examples
 pub mod Scenes
 pub mod OneInsert
+pub mod ChainOfTwo

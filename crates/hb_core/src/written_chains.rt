@@ -1,10 +1,18 @@
 //! Chains of steps from a machine that is written down to another one. Each is the contract of a
 //! function that does nothing.
 
+ghost use Rattle.hb_core.specs.ChainOfTwo.{TwoOnOnePage};
 ghost use Rattle.hb_core.specs.OneInsert.{OneInsert};
 
 /// One session inserts a record, forces, and is answered.
 #[tactic(auto, using(crate::proofs::ChainOfInsert::one_insert))]
 pub fn one_session_inserts()
     ensures { OneInsert }
+{}
+
+/// One session splits a full page and puts its record into a half; another one is blocked until then,
+/// follows the leaf that names the other half, and finds its record there.
+#[tactic(auto, using(crate::proofs::ChainOfTwo::two_on_one_page))]
+pub fn two_sessions_on_one_page()
+    ensures { TwoOnOnePage }
 {}
