@@ -64,3 +64,4 @@ pub mod BuiltSteps
 pub mod ChainOfInsert
 pub mod ChainOfTwoParts
 pub mod ChainOfTwo
+pub mod ChainOfPosting

@@ -36,3 +36,4 @@ pub mod Examples
 pub mod Scenes
 pub mod OneInsert
 pub mod ChainOfTwo
+pub mod ChainOfPosting

@@ -1,6 +1,7 @@
 //! Chains of steps from a machine that is written down to another one. Each is the contract of a
 //! function that does nothing.
 
+ghost use Rattle.hb_core.specs.ChainOfPosting.{OnePosting};
 ghost use Rattle.hb_core.specs.ChainOfTwo.{TwoOnOnePage};
 ghost use Rattle.hb_core.specs.OneInsert.{OneInsert};
 
@@ -15,4 +16,11 @@ pub fn one_session_inserts()
 #[tactic(auto, using(crate::proofs::ChainOfTwo::two_on_one_page))]
 pub fn two_sessions_on_one_page()
     ensures { TwoOnOnePage }
+{}
+
+/// The poster gives the file a level, posts the page that was split off in the new root, and finds that
+/// nothing more is owed.
+#[tactic(auto, using(crate::proofs::ChainOfPosting::one_posting))]
+pub fn the_poster_posts()
+    ensures { OnePosting }
 {}
