@@ -1,16 +1,17 @@
 -- A step is built: the machine after a deed, and that the deed is done so.
-use Rattle.std.proofs.Common.{◌≡◌, ◌≢◌, ◌⊎◌, inl, inr, ℕ, ◌++◌, Bool, true, false, List, [], ◌∷◌, length, get_or, Option, Some, None, IfSome, IsSome, IsSomeAnd, IsTrue, refl, sym, ap, ◌∙◌, subst}
+use Rattle.std.proofs.Common.{◌≡◌, ◌≢◌, ◌⊎◌, inl, inr, ℕ, ◌≤◌, ◌++◌, Bool, true, false, List, [], ◌∷◌, length, get_or, Option, Some, None, IfSome, IsSome, IsSomeAnd, IsTrue, refl, sym, ap, ◌∙◌, subst}
 use mathlib.Core.Path.{fun_ext}
 use Rattle.std.specs.Prelude.{◌||◌, ◌+◌, ◌*◌, ◌%◌}
 use Rattle.std.specs.FinMap as map
 use Rattle.hb_space.specs.declared.form.TheConstants.{PAGE}
 use Rattle.std.specs.Option.{option_and_then}
+use Rattle.std.specs.List.{AllByRecursion}
 use Rattle.hb_frag.specs.declared.pages.LivePage.{LivePage}
 use Rattle.hb_frag.specs.declared.pages.Page.{Page}
 use Rattle.hb_layout.specs.Offsets.{log_start}
 use Rattle.hb_layout.specs.declared.meta.Meta.{Meta}
 use Rattle.hb_ops.specs.declared.operations.Op.{Op}
-use Rattle.hb_ops.specs.Files.{FileState, if_live}
+use Rattle.hb_ops.specs.Files.{FileState, if_live, page_of}
 use Rattle.hb_ops.specs.Operations.{Change, IsAllowedOn, change_of, reads_of}
 use Rattle.hb_log_codec.specs.Groups.{Logged, group_bytes}
 use Rattle.hb_wal.specs.Log.{Waiting, forced, left_waiting}
@@ -29,19 +30,20 @@ use Rattle.hb_store.specs.Calls.{change_here, durable_after, later_after, read_h
 use Rattle.hb_store.specs.Images.{group_here, images_needed}
 use Rattle.hb_store.specs.Marks.{has_page, is_among}
 use Rattle.hb_store.specs.Replay.{set_pages}
-use Rattle.hb_store.specs.States.{StoreState, in_memory, is_imaged}
+use Rattle.hb_store.specs.Keeps.{last_of}
+use Rattle.hb_store.specs.States.{IsGoodPage, StoreState, in_memory, is_imaged}
 use Rattle.hb_core.specs.declared.outcomes.Outcome.{Outcome}
 use Rattle.hb_core.specs.declared.outcomes.Outcome.TheVariants as outcomes
 use Rattle.hb_core.specs.Machines.{Files, Machine, if_some, live_here}
 use Rattle.hb_core.specs.Asking.{AskedBox, HasAskedBox, HasWayFree, IsInTheWay, asked_box, looked_page, wanted_by}
-use Rattle.hb_core.specs.Fetching.{Brings}
+use Rattle.hb_core.specs.Fetching.{Brings, IsWantedPage}
 use Rattle.hb_core.specs.Deeds.{Deed, AddsJobs}
 use Rattle.hb_core.specs.Performing.{DoesOp, MayDo, Performs, Relatches, files_after, given_by, latches_held}
 use Rattle.hb_core.specs.Rows.{IsAtHand, Row}
 use Rattle.hb_core.specs.Forcing.{ForcesFirst, calls_of_force}
 use Rattle.hb_core.specs.Scenes.{Scene, machine_of, standing, store_of}
 use Rattle.hb_core.specs.Steps.{IsUnready, Works}
-use Rattle.hb_core.proofs.WrittenTables.{add_numbers, add_pages, among_marked, entry_at, grants, hinders, is_another, is_clear, is_earlier, map_has, mode_in, pages_set, relatched, relatches, set_all, set_entry, set_has, standing_set}
+use Rattle.hb_core.proofs.WrittenTables.{add_numbers, add_pages, among_marked, entry_append, entry_at, entry_has, grants, hinders, is_another, is_clear, is_earlier, map_has, mode_in, or_else, or_stays, pages_set, relatched, relatches, set_all, set_entry, set_has, standing_set}
 
 -- ---- what a scene's store answers
 
@@ -260,6 +262,98 @@ hindered s actor by held o w is another has conflict clear =
 pub blocked : (s : Scene) (actor by : ℕ) (held : Mode) (w : Wanted) → wanted_in s actor ≡ Some w → by ≢ actor → mode_in by w.page s.latched ≡ Some held → goes_beside w.mode held ≡ false
     → IsTrue (is_clear (is_earlier by actor) w.page w.mode s.latched) → Works (machine_of s) actor (outcomes.Blocked by) (machine_of s)
 blocked s actor by held w is another has conflict clear = inl (by, hindered s actor by held (wanted_by (machine_of s) actor) w (wanted_is s actor ∙ is) another has conflict clear, (refl, refl))
+
+-- ---- pages that come into memory first
+
+abbrev pub bringing : List (ℕ × Page) → Scene → Scene
+bringing more s = record {
+  lines = s.lines;
+  answered = s.answered;
+  at_work = s.at_work;
+  latched = s.latched;
+  jobs = s.jobs;
+  order = s.order;
+  meta = s.meta;
+  written = s.written;
+  groups = s.groups;
+  pages = s.pages ++ more;
+  imaged = s.imaged;
+  durable = s.durable;
+  later = s.later;
+  clock = s.clock;
+}
+
+-- each of them is of the file, good, and one that the step may need
+pub record MayCome (s : Scene) (may : ℕ → Type 0) (one : ℕ × Page) : Type 0 where
+  pub needed : may one.0
+  pub from_1 : 1 ≤ one.0
+  pub to_high : one.0 ≤ s.meta.high
+  pub good : IsGoodPage s.meta one.1
+  pub told : page_of (last_of s.durable s.later) one.0 ≡ Some one.1
+
+module _ (s : Scene) (may : ℕ → Type 0) (more : List (ℕ × Page)) (each : AllByRecursion (MayCome s may) more) where
+  here : (id : ℕ) → in_memory (store_of (bringing more s)) id ≡ or_else (entry_at id s.pages) (entry_at id more)
+  here id = memory_is (bringing more s) id ∙ entry_append s.pages more id
+
+  lacks : (id : ℕ) → in_memory (store_of s) id ≡ None → in_memory (store_of (bringing more s)) id ≡ entry_at id more
+  lacks id none = here id ∙ ap (λ (o : Option Page). or_else o (entry_at id more)) (sym (memory_is s id) ∙ none)
+
+  came : (id : ℕ) (page : Page) → in_memory (store_of s) id ≡ None → in_memory (store_of (bringing more s)) id ≡ Some page → MayCome s may (id, page)
+  came id page none there = entry_has (MayCome s may) more each id page (sym (lacks id none) ∙ there)
+
+  only : (id : ℕ) (o : Option Page) → in_memory (store_of s) id ≡ None → in_memory (store_of (bringing more s)) id ≡ o → IsSome o → may id
+  only id None none is some = absurd (is_none_not some)
+  only id (Some page) none is some = (came id page none is).needed
+
+  pub come : Brings (Some (record { durable = s.durable; later = s.later })) may (store_of s) (store_of (bringing more s))
+  come = record {
+    rest = record { turn = refl; meta = refl; log = refl; imaged = refl; stopped = refl };
+    stays = λ id there. here id ∙ or_stays (entry_at id s.pages) (entry_at id more) (subst (λ (o : Option Page). IsSome o) (memory_is s id) there) ∙ sym (memory_is s id);
+    only = λ id none there. only id (in_memory (store_of (bringing more s)) id) none refl there;
+    good = λ id page none there. let one = came id page none there in (one.from_1, one.to_high, one.good);
+    told = λ id page none there. (came id page none there).told;
+  }
+
+-- its row is done once they came
+abbrev pub IsWantedIn : Scene → ℕ → ℕ → Type 0
+IsWantedIn s actor id = IsWantedPage (wanted_in s actor) id
+
+each_needed : (s : Scene) (actor : ℕ) (other : ℕ → Type 0) (more : List (ℕ × Page)) → AllByRecursion (MayCome s (IsWantedIn s actor)) more
+    → AllByRecursion (MayCome s (λ id. IsWantedPage (wanted_by (machine_of s) actor) id ⊎ other id)) more
+each_needed s actor other [] each = tt
+each_needed s actor other (one ∷ rest) each = (record {
+  needed = inl (subst (λ (o : Option Wanted). IsWantedPage o one.0) (sym (wanted_is s actor)) each.0.needed);
+  from_1 = each.0.from_1;
+  to_high = each.0.to_high;
+  good = each.0.good;
+  told = each.0.told;
+}, each_needed s actor other rest each.1)
+
+pub works_bringing : (more : List (ℕ × Page)) (s : Scene) (actor : ℕ) (deed : Deed) (jobs : List Job) → AllByRecursion (MayCome s (IsWantedIn s actor)) more
+    → IsClearIn s actor → ¬ (IsUnready (machine_of s) actor)
+    → Row (standing s.at_work actor) (wanted_in s actor) (machine_of (bringing more s)) deed → AddsJobs deed.adds deed.left jobs → MayBeIn (bringing more s) deed.op
+    → Works (machine_of s) actor deed.says (machine_of (after actor deed jobs (bringing more s)))
+works_bringing more s actor deed jobs each clear ready row adds may =
+    let done = performed (bringing more s) actor deed jobs adds may in
+    inr (inr (way_free s actor clear, ready, inl (record {
+      fetched = store_of (bringing more s);
+      deed = deed;
+      brings = come s _ more (each_needed s actor _ more each);
+      row = subst (λ (o : Option Wanted). Row (standing s.at_work actor) o (machine_of (bringing more s)) deed) (sym (wanted_is s actor)) row;
+      performs = record {
+        says = done.says;
+        lines = done.lines;
+        answered = done.answered;
+        activity = done.activity;
+        latches = done.latches;
+        jobs = done.jobs;
+        order = done.order;
+        stop = done.stop;
+        store = done.store;
+        files = done.files;
+        clock = done.clock;
+      };
+    })))
 
 -- ---- a force
 

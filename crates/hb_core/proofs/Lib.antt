@@ -65,3 +65,4 @@ pub mod ChainOfInsert
 pub mod ChainOfTwoParts
 pub mod ChainOfTwo
 pub mod ChainOfPosting
+pub mod SaidSteps

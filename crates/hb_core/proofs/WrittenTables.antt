@@ -1,9 +1,9 @@
 -- Tables that are written down as lists: what they answer, and what they are after a change.
-use Rattle.std.proofs.Common.{◌≡◌, ◌≢◌, inl, inr, ℕ, ◌<◌, ◌==◌, Bool, true, false, cond, not, List, [], ◌∷◌, Option, Some, None, IfSome, IsSomeAnd, IsTrue, refl, sym, ap, ◌∙◌, subst, arith, ne_eqb}
+use Rattle.std.proofs.Common.{◌≡◌, ◌≢◌, inl, inr, ℕ, ◌<◌, ◌==◌, Bool, true, false, cond, not, List, [], ◌∷◌, ◌++◌, Option, Some, None, IfSome, IsSome, IsSomeAnd, IsTrue, refl, sym, ap, ◌∙◌, subst, arith, ne_eqb}
 use mathlib.Core.Path.{fun_ext}
 use Rattle.std.specs.Prelude.{◌&&◌, ◌||◌, if◌then◌else◌, nat_lt}
 use Rattle.std.proofs.lemmas.Bool.{cases_Bool, eqb-true, eqb-false, eq-eqb, ltb-true, lt-ltb}
-use Rattle.std.specs.List.{list_any}
+use Rattle.std.specs.List.{AllByRecursion, list_any}
 use Rattle.std.specs.Ordering.{nat_cmp, eq_by_cmp, is_eq, ordering_then}
 use Rattle.std.specs.Cmp.{nat_cmp_total, unsigned_tied}
 use Rattle.std.specs.declared.cmp.Ordering.{Ordering}
@@ -80,6 +80,36 @@ entry_answers q (e ∷ es) = ap (cond (q == e.0) (Some e.1)) (entry_answers q es
 
 pub entry_set : {X : Type 0} (k : ℕ) (x : X) (es : List (ℕ × X)) (q : ℕ) → entry_at q (set_entry k x es) ≡ cond (q == k) (Some x) (entry_at q es)
 entry_set k x es q = sym (entry_answers q (set_entry k x es)) ∙ answers_set Some None k x es q ∙ ap (cond (q == k) (Some x)) (entry_answers q es)
+
+some_same : {X : Type 0} (x y : X) → Some x ≡ Some y → x ≡ y
+some_same x y e = cc
+
+-- a list behind another one
+abbrev pub or_else : {X : Type 0} → Option X → Option X → Option X
+or_else None other = other
+or_else (Some x) other = Some x
+
+or_cond : {X : Type 0} (b : Bool) (x : X) (o other : Option X) → cond b (Some x) (or_else o other) ≡ or_else (cond b (Some x) o) other
+or_cond true x o other = refl
+or_cond false x o other = refl
+
+pub entry_append : {X : Type 0} (es more : List (ℕ × X)) (q : ℕ) → entry_at q (es ++ more) ≡ or_else (entry_at q es) (entry_at q more)
+entry_append [] more q = refl
+entry_append (e ∷ es) more q = ap (cond (q == e.0) (Some e.1)) (entry_append es more q) ∙ or_cond (q == e.0) e.1 (entry_at q es) (entry_at q more)
+
+pub or_stays : {X : Type 0} (o other : Option X) → IsSome o → or_else o other ≡ o
+or_stays None other some = absurd (let no : ⊥ = cc in no)
+or_stays (Some x) other some = refl
+
+-- what holds of each entry holds of the one that is found
+pub entry_has : {X : Type 0} (P : ℕ × X → Type 0) (es : List (ℕ × X)) → AllByRecursion P es → (q : ℕ) (x : X) → entry_at q es ≡ Some x → P (q, x)
+entry_has P [] each q x is = absurd (let no : ⊥ = cc in no)
+entry_has P (e ∷ es) each q x is = elim (cases_Bool (q == e.0)) [
+  | inl here ↦
+      let same : Some e.1 ≡ Some x = sym (ap (λ (b : Bool). cond b (Some e.1) (entry_at q es)) here) ∙ is in
+      subst P (λ i. (sym (eqb-true q e.0 here) i, some_same e.1 x same i)) each.0
+  | inr off ↦ entry_has P es each.1 q x (sym (ap (λ (b : Bool). cond b (Some e.1) (entry_at q es)) off) ∙ is)
+]
 
 standing_answers : (q : ℕ) (es : List (ℕ × Activity)) → answers (λ (a : Activity). a) (at_rest q) q es ≡ standing es q
 standing_answers q [] = refl

@@ -29,7 +29,7 @@ letter_a = record { key = 5 ∷ 7 ∷ []; body = 97 ∷ [] }
 abbrev pub inserts_a : Line
 inserts_a = record { number = 1; session = 1; command = Insert letter_a }
 
--- Nothing was done yet, and the page is in memory.
+-- Nothing was done yet, and no page is in memory.
 abbrev pub before_insert : Scene
 before_insert = record {
   lines = inserts_a ∷ [];
@@ -41,7 +41,7 @@ before_insert = record {
   meta = flat_meta;
   written = 0;
   groups = [];
-  pages = (1, Live (page_of_records [])) ∷ [];
+  pages = [];
   imaged = [];
   durable = record { meta = flat_meta; pages = Live (page_of_records []) ∷ [] };
   later = [];
@@ -68,7 +68,7 @@ after_insert = record {
   clock = 4;
 }
 
--- It takes its line, puts the record, forces, and is answered. Then it has no line left.
+-- It takes its line, brings the page into memory and puts the record, forces, and is answered. Then it has no line left.
 abbrev pub steps_of_insert : List (ℕ × Outcome)
 steps_of_insert = (1, Moved) ∷ (1, Moved) ∷ (1, Moved) ∷ (1, Answered 1 replies.Done) ∷ (1, Idle) ∷ []
 

@@ -1,6 +1,6 @@
 -- Machines that are written down, and steps of theirs with what each comes to.
-use Rattle.std.specs.Prelude.{◌≡◌, ℕ, ◌==◌, nat_le, false, if◌then◌else◌, List, [], ◌∷◌, Option, Some, None}
-use Rattle.std.specs.FinMap as map
+use Rattle.std.specs.Prelude.{◌≡◌, ℕ, ◌==◌, nat_le, false, if◌then◌else◌, List, [], ◌∷◌, map, Option, Some, None}
+use Rattle.std.specs.FinMap as finite
 use Rattle.std.specs.FinSet as set
 use Rattle.hb_frag.specs.declared.pages.Page.{Page}
 use Rattle.hb_layout.specs.declared.meta.Meta.{Meta}
@@ -17,7 +17,7 @@ use Rattle.hb_activity.specs.declared.activities.Activity.TheVariants.{SessionId
 use Rattle.hb_store.specs.States.{StoreState}
 use Rattle.hb_core.specs.declared.outcomes.Outcome.{Outcome}
 use Rattle.hb_core.specs.Machines.{Machine}
-use Rattle.hb_core.specs.Steps.{StepsTo}
+use Rattle.hb_core.specs.Steps.{StepsInTurn, StepsTo}
 
 -- A machine as lists. Whoever isn't named among those at work is at rest.
 pub record Scene : Type 0 where
@@ -57,7 +57,7 @@ store_of s = record {
   turn = 1;
   meta = s.meta;
   log = record { area = log_start 1 s.meta; len = s.meta.log; written = s.written; groups = s.groups };
-  pages = map.from_entries s.pages;
+  pages = finite.from_entries s.pages;
   imaged = set.from_list s.imaged;
   stopped = false;
 }
@@ -68,7 +68,7 @@ machine_of s = record {
   lines = s.lines;
   answered = s.answered;
   activity = standing s.at_work;
-  latches = map.from_entries s.latched;
+  latches = finite.from_entries s.latched;
   jobs = s.jobs;
   order = s.order;
   stop = None;
@@ -81,3 +81,7 @@ machine_of s = record {
 abbrev pub StepsSaying : List (ℕ × Outcome) → Machine → Machine → Type 0
 StepsSaying [] m new = new ≡ m
 StepsSaying (step ∷ rest) m new = (next : Machine) × StepsTo m step.0 step.1 next × StepsSaying rest next new
+
+-- They are steps in turn of these actors, of which other laws speak.
+abbrev pub SayingIsStepping : Type 0
+SayingIsStepping = (steps : List (ℕ × Outcome)) (m new : Machine) → StepsSaying steps m new → StepsInTurn (map (λ step. step.0) steps) m new

@@ -4,6 +4,7 @@
 ghost use Rattle.hb_core.specs.ChainOfPosting.{OnePosting};
 ghost use Rattle.hb_core.specs.ChainOfTwo.{TwoOnOnePage};
 ghost use Rattle.hb_core.specs.OneInsert.{OneInsert};
+ghost use Rattle.hb_core.specs.Scenes.{SayingIsStepping};
 
 /// One session inserts a record, forces, and is answered.
 #[tactic(auto, using(crate::proofs::ChainOfInsert::one_insert))]
@@ -23,4 +24,11 @@ pub fn two_sessions_on_one_page()
 #[tactic(auto, using(crate::proofs::ChainOfPosting::one_posting))]
 pub fn the_poster_posts()
     ensures { OnePosting }
+{}
+
+/// A chain with what each step comes to is a list of steps in turn, so that the laws over such lists hold
+/// of it.
+#[tactic(auto, using(crate::proofs::SaidSteps::saying_is_stepping))]
+pub fn a_chain_is_steps_in_turn()
+    ensures { SayingIsStepping }
 {}
