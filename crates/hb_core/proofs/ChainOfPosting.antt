@@ -32,12 +32,12 @@ use Rattle.hb_core.specs.ChainOfPosting.{OnePosting, bare_root, posted_root, pos
 use Rattle.hb_core.specs.SplitRows.{HasNoPage}
 use Rattle.hb_core.proofs.BuiltSteps.{after, at_hand, live_is, performed, wanted_in, works}
 
-abbrev job : Job
+abbrev pub job : Job
 job = posts_at 10
 
 -- ---- the scenes, one after the other
 
-abbrev takes : Activity → Deed
+abbrev pub takes : Activity → Deed
 takes next = record { next = next; op = None; left = []; adds = []; joins = None; says = Moved }
 
 abbrev is_taken : Scene
@@ -93,7 +93,7 @@ is_ended = after 17 ends [] at_last
 
 -- ---- what the operations ask for
 
-bare_fits : FitsFile raised_meta bare_root
+pub bare_fits : FitsFile raised_meta bare_root
 bare_fits = record {
   fits = record { level = omega arith; attributes = refl };
   well_cut = tt;
@@ -105,16 +105,16 @@ bare_fits = record {
 grow_fits : FitsGrow is_taken.meta 3 0
 grow_fits = record { allocates = record { room = omega arith; from_chain = λ some. absurd (some refl); from_behind = λ none. (refl, omega arith, refl) }; height = omega arith }
 
-all_meets : Meets (interval 0 top) (interval 0 39)
+pub all_meets : Meets (interval 0 top) (interval 0 39)
 all_meets zero less = omega arith
 all_meets (suc i) less = absurd (omega (arith, less))
 
-post_fits : FitsPost raised_meta bare_root [] 2 (side_below (whole_area 1) 0 40)
+pub post_fits : FitsPost raised_meta bare_root [] 2 (side_below (whole_area 1) 0 40)
 post_fits = record { made = bare_fits; above = omega arith; outer = 1; box = whole_area 1; leaf = refl; other = λ e. absurd (omega (arith, e)); meets = all_meets; room = omega arith }
 
 -- ---- the rows
 
-leaves_first : LeavesFirst Post (job ∷ []) job []
+pub leaves_first : LeavesFirst Post (job ∷ []) job []
 leaves_first = record { front = []; behind = []; whole = refl; of_kind = refl; first = each_at (λ (other : Job). other.kind ≢ Post) [] tt; rest = refl }
 
 takes_to_grow : TakesJob (machine_of posting_before) (takes (at.PosterGrow job))
@@ -143,7 +143,7 @@ arrive_row : Row (standing taken_again.at_work 17) (wanted_in taken_again 17) (m
 arrive_row = (bare_root, at_hand taken_again (standing taken_again.at_work 17) _ bare_root _ refl refl refl refl, inl (record { level = refl; child = 1; area = _; leaf = refl; deed_is = refl }))
 
 -- the root owes page 2 a leaf
-owes_two : IsPlan bare_root split_page (10 ∷ []) 32 (plans.Post [] 2 (side_below (whole_area 1) 0 40))
+pub owes_two : IsPlan bare_root split_page (10 ∷ []) 32 (plans.Post [] 2 (side_below (whole_area 1) 0 40))
 owes_two = record { outer = 1; leaf = whole_area 1; owed = record { above = refl; below = refl; other = λ e. absurd (omega (arith, e)) }; way = refl; room = omega arith }
 
 look_row : Row (standing at_child.at_work 17) (wanted_in at_child 17) (machine_of at_child) looks
@@ -174,7 +174,7 @@ end_row = (lower_half, at_hand at_last (standing at_last.at_work 17) _ lower_hal
 
 -- ---- the log is ready
 
-none_waits : (one : Job) → ¬ (Contains [] one)
+pub none_waits : (one : Job) → ¬ (Contains [] one)
 none_waits one (k, less, is) = absurd (omega (arith, less))
 
 ready_to_grow : IsReady (store_of is_taken)

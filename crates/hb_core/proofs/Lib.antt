@@ -66,3 +66,4 @@ pub mod ChainOfTwoParts
 pub mod ChainOfTwo
 pub mod ChainOfPosting
 pub mod SaidSteps
+pub mod ChainBesidePoster

@@ -37,3 +37,4 @@ pub mod Scenes
 pub mod OneInsert
 pub mod ChainOfTwo
 pub mod ChainOfPosting
+pub mod ChainBesidePoster

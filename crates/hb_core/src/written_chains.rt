@@ -1,6 +1,7 @@
 //! Chains of steps from a machine that is written down to another one. Each is the contract of a
 //! function that does nothing.
 
+ghost use Rattle.hb_core.specs.ChainBesidePoster.{SessionsBesidePoster};
 ghost use Rattle.hb_core.specs.ChainOfPosting.{OnePosting};
 ghost use Rattle.hb_core.specs.ChainOfTwo.{TwoOnOnePage};
 ghost use Rattle.hb_core.specs.OneInsert.{OneInsert};
@@ -31,4 +32,11 @@ pub fn the_poster_posts()
 #[tactic(auto, using(crate::proofs::SaidSteps::saying_is_stepping))]
 pub fn a_chain_is_steps_in_turn()
     ensures { SayingIsStepping }
+{}
+
+/// The poster and two sessions at one root: a session shares it with the poster that holds it for update,
+/// and keeps the poster from having it alone; then the poster keeps the other session from it.
+#[tactic(auto, using(crate::proofs::ChainBesidePoster::sessions_beside_poster))]
+pub fn sessions_walk_beside_the_poster()
+    ensures { SessionsBesidePoster }
 {}
