@@ -41,6 +41,7 @@ use Rattle.hb_core.specs.Deeds.{Deed, AddsJobs}
 use Rattle.hb_core.specs.Performing.{DoesOp, MayDo, Performs, Relatches, files_after, given_by, latches_held}
 use Rattle.hb_core.specs.Rows.{IsAtHand, Row}
 use Rattle.hb_core.specs.Forcing.{ForcesFirst, calls_of_force}
+use Rattle.hb_core.specs.GivingUp.{runs_out}
 use Rattle.hb_core.specs.Scenes.{Scene, machine_of, standing, store_of}
 use Rattle.hb_core.specs.Steps.{IsUnready, Works}
 use Rattle.hb_core.proofs.WrittenTables.{add_numbers, add_pages, among_marked, entry_append, entry_at, entry_has, grants, hinders, is_another, is_clear, is_earlier, map_has, mode_in, or_else, or_stays, pages_set, relatched, relatches, set_all, set_entry, set_has, standing_set}
@@ -377,3 +378,16 @@ forced_scene s = record {
 
 pub forces : (s : Scene) (done : Outcome) → ForcesFirst (machine_of s) done done (machine_of (forced_scene s))
 forces s done = inl (refl, refl)
+
+-- ---- a log that isn't ready
+
+-- a group that waits is forced instead
+pub helps : (s : Scene) (actor : ℕ) → IsClearIn s actor → IsUnready (machine_of s) actor → s.groups ≢ [] → Works (machine_of s) actor outcomes.Helped (machine_of (forced_scene s))
+helps s actor clear unready waits = inr (inl (way_free s actor clear, unready, inl (waits, forces s outcomes.Helped)))
+
+-- none waits, so that no force makes room
+pub gives_out : (s : Scene) (actor : ℕ) (jobs : List Job) → IsClearIn s actor → IsUnready (machine_of s) actor → s.groups ≡ []
+    → AddsJobs (runs_out (machine_of s) (standing s.at_work actor)).adds (runs_out (machine_of s) (standing s.at_work actor)).left jobs
+    → MayBeIn s (runs_out (machine_of s) (standing s.at_work actor)).op
+    → Works (machine_of s) actor (runs_out (machine_of s) (standing s.at_work actor)).says (machine_of (after actor (runs_out (machine_of s) (standing s.at_work actor)) jobs s))
+gives_out s actor jobs clear unready none adds may = inr (inl (way_free s actor clear, unready, inr (none, performed s actor (runs_out (machine_of s) (standing s.at_work actor)) jobs adds may)))

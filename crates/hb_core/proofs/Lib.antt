@@ -67,3 +67,5 @@ pub mod ChainOfTwo
 pub mod ChainOfPosting
 pub mod SaidSteps
 pub mod ChainBesidePoster
+pub mod ChainOfFullLog
+pub mod ChainOfCommands

@@ -38,3 +38,5 @@ pub mod OneInsert
 pub mod ChainOfTwo
 pub mod ChainOfPosting
 pub mod ChainBesidePoster
+pub mod ChainOfFullLog
+pub mod ChainOfCommands

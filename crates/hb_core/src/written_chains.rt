@@ -2,6 +2,8 @@
 //! function that does nothing.
 
 ghost use Rattle.hb_core.specs.ChainBesidePoster.{SessionsBesidePoster};
+ghost use Rattle.hb_core.specs.ChainOfCommands.{CommandsOfOne};
+ghost use Rattle.hb_core.specs.ChainOfFullLog.{LogHasNoRoom};
 ghost use Rattle.hb_core.specs.ChainOfPosting.{OnePosting};
 ghost use Rattle.hb_core.specs.ChainOfTwo.{TwoOnOnePage};
 ghost use Rattle.hb_core.specs.OneInsert.{OneInsert};
@@ -39,4 +41,16 @@ pub fn a_chain_is_steps_in_turn()
 #[tactic(auto, using(crate::proofs::ChainBesidePoster::sessions_beside_poster))]
 pub fn sessions_walk_beside_the_poster()
     ensures { SessionsBesidePoster }
+{}
+
+/// An insert that finds its point taken, a delete that finds nothing, and a search over two pages.
+#[tactic(auto, using(crate::proofs::ChainOfCommands::commands_of_one))]
+pub fn one_session_changes_nothing()
+    ensures { CommandsOfOne }
+{}
+
+/// Where the log has no room, a session forces the group that waits, and once none does its line is `full`.
+#[tactic(auto, using(crate::proofs::ChainOfFullLog::log_has_no_room))]
+pub fn a_line_finds_the_log_full()
+    ensures { LogHasNoRoom }
 {}
