@@ -1,5 +1,5 @@
 -- A step is built: the machine after a deed, and that the deed is done so.
-use Rattle.std.proofs.Common.{◌≡◌, ◌≢◌, ◌⊎◌, inl, inr, ℕ, ◌≤◌, ◌++◌, Bool, true, false, List, [], ◌∷◌, length, get_or, Option, Some, None, IfSome, IsSome, IsSomeAnd, IsTrue, refl, sym, ap, ◌∙◌, subst}
+use Rattle.std.proofs.Common.{◌≡◌, ◌≢◌, ◌⊎◌, inl, inr, ℕ, ◌<◌, ◌≤◌, ◌++◌, Bool, true, false, List, [], ◌∷◌, Contains, length, get_or, Option, Some, None, IfSome, IsSome, IsSomeAnd, IsTrue, refl, sym, ap, ◌∙◌, subst, arith}
 use mathlib.Core.Path.{fun_ext}
 use Rattle.std.specs.Prelude.{◌||◌, ◌+◌, ◌*◌, ◌%◌}
 use Rattle.std.specs.FinMap as map
@@ -21,12 +21,13 @@ use Rattle.hb_latch.specs.Modes.{goes_beside}
 use Rattle.hb_latch.specs.Tables.{IsGrantable, IsLeastInTheWay}
 use Rattle.hb_activity.specs.declared.holding.Latch.{Latch}
 use Rattle.hb_activity.specs.declared.jobs.Job.{Job}
+use Rattle.hb_activity.specs.declared.waiting_jobs.TheConstants.{JOBS}
 use Rattle.hb_activity.specs.declared.wanting.Wanted.{Wanted}
 use Rattle.hb_activity.specs.declared.activities.Activity.{Activity}
 use Rattle.hb_activity.specs.Holding.{held_of}
 use Rattle.hb_activity.specs.Walks.{walk_held}
 use Rattle.hb_activity.specs.Wanting.{wanted_of}
-use Rattle.hb_store.specs.Calls.{change_here, durable_after, later_after, read_here, with_op}
+use Rattle.hb_store.specs.Calls.{IsReady, change_here, durable_after, later_after, read_here, with_op}
 use Rattle.hb_store.specs.Images.{group_here, images_needed}
 use Rattle.hb_store.specs.Marks.{has_page, is_among}
 use Rattle.hb_store.specs.Replay.{set_pages}
@@ -43,7 +44,7 @@ use Rattle.hb_core.specs.Rows.{IsAtHand, Row}
 use Rattle.hb_core.specs.Forcing.{ForcesFirst, calls_of_force}
 use Rattle.hb_core.specs.GivingUp.{runs_out}
 use Rattle.hb_core.specs.Scenes.{Scene, machine_of, standing, store_of}
-use Rattle.hb_core.specs.Steps.{IsUnready, Works}
+use Rattle.hb_core.specs.Steps.{IsUnready, Works, may_change_file}
 use Rattle.hb_core.proofs.WrittenTables.{add_numbers, add_pages, among_marked, entry_append, entry_at, entry_has, grants, hinders, is_another, is_clear, is_earlier, map_has, mode_in, or_else, or_stays, pages_set, relatched, relatches, set_all, set_entry, set_has, standing_set}
 
 -- ---- what a scene's store answers
@@ -263,6 +264,20 @@ hindered s actor by held o w is another has conflict clear =
 pub blocked : (s : Scene) (actor by : ℕ) (held : Mode) (w : Wanted) → wanted_in s actor ≡ Some w → by ≢ actor → mode_in by w.page s.latched ≡ Some held → goes_beside w.mode held ≡ false
     → IsTrue (is_clear (is_earlier by actor) w.page w.mode s.latched) → Works (machine_of s) actor (outcomes.Blocked by) (machine_of s)
 blocked s actor by held w is another has conflict clear = inl (by, hindered s actor by held (wanted_by (machine_of s) actor) w (wanted_is s actor ∙ is) another has conflict clear, (refl, refl))
+
+-- why the log is ready: the step doesn't change the file, or there is room
+pub only_looks : (s : Scene) (actor : ℕ) → may_change_file (machine_of s) actor ≡ false → ¬ (IsUnready (machine_of s) actor)
+only_looks s actor looks unready = let on = unready.0 in let none : ⊥ = cc in none
+
+pub has_room : (s : Scene) (actor : ℕ) → IsReady (store_of s) → ¬ (IsUnready (machine_of s) actor)
+has_room s actor ready unready = unready.1 ready
+
+-- a job joins the queue, which doesn't have it yet
+pub none_waits : (one : Job) → ¬ (Contains [] one)
+none_waits one (k, less, is) = absurd (omega (arith, less))
+
+pub one_joins : (job : Job) (old : List Job) → ¬ (Contains old job) → length old < JOBS → AddsJobs (job ∷ []) old (old ++ job ∷ [])
+one_joins job old new few = (old ++ job ∷ [], inr (inl (new, few, refl)), refl)
 
 -- ---- pages that come into memory first
 

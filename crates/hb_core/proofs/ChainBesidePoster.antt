@@ -28,8 +28,8 @@ use Rattle.hb_core.specs.Scenes.{Scene, machine_of, standing, store_of}
 use Rattle.hb_core.specs.ChainOfTwo.{lettered, lower_half, lower_three, posts_at}
 use Rattle.hb_core.specs.ChainOfPosting.{bare_root, posted_root, raised_meta, split_page}
 use Rattle.hb_core.specs.ChainBesidePoster.{SessionsBesidePoster, beside_before, deletes_twenty, lower_two, seeks_twenty}
-use Rattle.hb_core.proofs.BuiltSteps.{after, at_hand, blocked, forced_scene, forces, live_is, performed, wanted_in, works}
-use Rattle.hb_core.proofs.ChainOfPosting.{job, leaves_first, none_waits, owes_two, post_fits, takes}
+use Rattle.hb_core.proofs.BuiltSteps.{after, at_hand, blocked, forced_scene, forces, has_room, live_is, none_waits, one_joins, only_looks, performed, wanted_in, works}
+use Rattle.hb_core.proofs.ChainOfPosting.{job, leaves_first, owes_two, post_fits, takes}
 use Rattle.hb_core.proofs.ChainOfTwoParts.{differ}
 
 -- ---- the scenes, one after the other
@@ -195,19 +195,19 @@ pub sessions_beside_poster : SessionsBesidePoster
 unfolding big_endian
 sessions_beside_poster =
     (machine_of job_taken, inr (takes (at.PosterWalk job None), takes_to_walk, performed beside_before 17 (takes (at.PosterWalk job None)) [] refl tt),
-    (machine_of at_root, works job_taken 17 arrives [] refl (λ unready. let no : ⊥ = (let never = unready.0 in cc) in no) arrive_row refl tt,
+    (machine_of at_root, works job_taken 17 arrives [] refl (only_looks job_taken 17 refl) arrive_row refl tt,
     (machine_of line_taken, inl (performed at_root 1 (taking (machine_of at_root) seeks_twenty) [] refl tt),
-    (machine_of to_promote, works line_taken 17 looks [] refl (λ unready. let no : ⊥ = (let never = unready.0 in cc) in no) look_row refl tt,
-    (machine_of both_at_root, works to_promote 1 shares [] refl (λ unready. let no : ⊥ = (let never = unready.0 in cc) in no) share_row refl tt,
+    (machine_of to_promote, works line_taken 17 looks [] refl (only_looks line_taken 17 refl) look_row refl tt,
+    (machine_of both_at_root, works to_promote 1 shares [] refl (only_looks to_promote 1 refl) share_row refl tt,
     (machine_of both_at_root, blocked both_at_root 17 1 Shared _ refl (omega arith) refl refl refl,
-    (machine_of is_below, works both_at_root 1 steps_down (posts_at 20 ∷ []) refl (λ unready. let no : ⊥ = (let never = unready.0 in cc) in no) down_row (posts_at 20 ∷ [], inr (inl (none_waits (posts_at 20), omega arith, refl)), refl) tt,
-    (machine_of is_promoted, works is_below 17 promotes (posts_at 20 ∷ []) refl (λ unready. let no : ⊥ = (let never = unready.0 in cc) in no) promote_row refl tt,
+    (machine_of is_below, works both_at_root 1 steps_down (posts_at 20 ∷ []) refl (only_looks both_at_root 1 refl) down_row (one_joins (posts_at 20) [] (none_waits (posts_at 20)) (omega arith)) tt,
+    (machine_of is_promoted, works is_below 17 promotes (posts_at 20 ∷ []) refl (only_looks is_below 17 refl) promote_row refl tt,
     (machine_of other_taken, inl (performed is_promoted 2 (taking (machine_of is_promoted) deletes_twenty) (posts_at 20 ∷ []) refl tt),
     (machine_of other_taken, blocked other_taken 2 17 Exclusive _ refl (omega arith) refl refl refl,
-    (machine_of is_posted, works other_taken 17 posts two_jobs refl (λ unready. unready.1 ready_to_post) again_row (two_jobs, inr (inl (other_waits, omega arith, refl)), refl) (record { allowed = post_fits; log = refl }),
-    (machine_of root_passed, works is_posted 2 passes_root two_jobs refl (λ unready. unready.1 ready_to_walk) root_row refl tt,
-    (machine_of is_deleted, works root_passed 2 deletes two_jobs refl (λ unready. unready.1 ready_to_delete) delete_row refl (record { allowed = del_fits; log = refl }),
-    (machine_of is_missed, works is_deleted 1 misses two_jobs refl (λ unready. let no : ⊥ = (let never = unready.0 in cc) in no) miss_row refl tt,
+    (machine_of is_posted, works other_taken 17 posts two_jobs refl (has_room other_taken 17 ready_to_post) again_row (one_joins (posts_at 10) (posts_at 20 ∷ []) other_waits (omega arith)) (record { allowed = post_fits; log = refl }),
+    (machine_of root_passed, works is_posted 2 passes_root two_jobs refl (has_room is_posted 2 ready_to_walk) root_row refl tt,
+    (machine_of is_deleted, works root_passed 2 deletes two_jobs refl (has_room root_passed 2 ready_to_delete) delete_row refl (record { allowed = del_fits; log = refl }),
+    (machine_of is_missed, works is_deleted 1 misses two_jobs refl (only_looks is_deleted 1 refl) miss_row refl tt,
     (machine_of once_forced, inr (omega arith, forces is_missed Moved),
     (machine_of twice_forced, inr (omega arith, forces once_forced Moved),
     (machine_of one_answered, inl (omega arith, performed twice_forced 2 (answers_now (machine_of twice_forced) 2 replies.Done) two_jobs refl tt),

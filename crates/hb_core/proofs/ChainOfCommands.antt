@@ -19,8 +19,7 @@ use Rattle.hb_core.specs.Scenes.{Scene, machine_of, standing, store_of}
 use Rattle.hb_core.specs.ChainOfTwo.{lettered, lower_half, lower_three, posts_at, upper_three}
 use Rattle.hb_core.specs.ChainOfPosting.{split_page}
 use Rattle.hb_core.specs.ChainOfCommands.{CommandsOfOne, asked_area, commands_before, deletes_none, inserts_fifty, searches, three_found}
-use Rattle.hb_core.proofs.BuiltSteps.{after, at_hand, live_is, performed, wanted_in, works}
-use Rattle.hb_core.proofs.ChainOfPosting.{none_waits}
+use Rattle.hb_core.proofs.BuiltSteps.{after, at_hand, has_room, live_is, none_waits, one_joins, only_looks, performed, wanted_in, works}
 use Rattle.hb_core.proofs.ChainOfTwoParts.{differ}
 
 -- ---- the scenes, one after the other
@@ -122,15 +121,15 @@ ready_second = (omega arith, omega arith)
 pub commands_of_one : CommandsOfOne
 commands_of_one =
     (machine_of first_taken, inl (performed commands_before 1 (taking (machine_of commands_before) inserts_fifty) [] refl tt),
-    (machine_of first_done, works first_taken 1 finds_twin [] refl (λ unready. unready.1 ready_first) twin_row refl tt,
+    (machine_of first_done, works first_taken 1 finds_twin [] refl (has_room first_taken 1 ready_first) twin_row refl tt,
     (machine_of first_answered, inl (omega arith, performed first_done 1 (answers_now (machine_of first_done) 1 replies.Duplicate) [] refl tt),
     (machine_of second_taken, inl (performed first_answered 1 (taking (machine_of first_answered) deletes_none) [] refl tt),
-    (machine_of second_done, works second_taken 1 finds_nothing [] refl (λ unready. unready.1 ready_second) nothing_row refl tt,
+    (machine_of second_done, works second_taken 1 finds_nothing [] refl (has_room second_taken 1 ready_second) nothing_row refl tt,
     (machine_of second_answered, inl (omega arith, performed second_done 1 (answers_now (machine_of second_done) 2 replies.Absent) [] refl tt),
     (machine_of third_taken, inl (performed second_answered 1 (taking (machine_of second_answered) searches) [] refl tt),
-    (machine_of is_passed, works third_taken 1 passes (posts_at 25 ∷ []) refl (λ unready. let no : ⊥ = (let never = unready.0 in cc) in no) pass_row (posts_at 25 ∷ [], inr (inl (none_waits (posts_at 25), omega arith, refl)), refl) tt,
-    (machine_of half_gathered, works is_passed 1 gathers (posts_at 25 ∷ []) refl (λ unready. let no : ⊥ = (let never = unready.0 in cc) in no) gather_row refl tt,
-    (machine_of all_gathered, works half_gathered 1 gathers_all (posts_at 25 ∷ []) refl (λ unready. let no : ⊥ = (let never = unready.0 in cc) in no) gather_all_row refl tt,
+    (machine_of is_passed, works third_taken 1 passes (posts_at 25 ∷ []) refl (only_looks third_taken 1 refl) pass_row (one_joins (posts_at 25) [] (none_waits (posts_at 25)) (omega arith)) tt,
+    (machine_of half_gathered, works is_passed 1 gathers (posts_at 25 ∷ []) refl (only_looks is_passed 1 refl) gather_row refl tt,
+    (machine_of all_gathered, works half_gathered 1 gathers_all (posts_at 25 ∷ []) refl (only_looks half_gathered 1 refl) gather_all_row refl tt,
     (machine_of all_answered, inl (omega arith, performed all_gathered 1 (answers_now (machine_of all_gathered) 3 (replies.Within three_found)) (posts_at 25 ∷ []) refl tt),
     (machine_of all_answered, (refl, refl),
     refl))))))))))))

@@ -23,7 +23,7 @@ use Rattle.hb_core.specs.Rows.{Row}
 use Rattle.hb_core.specs.Scenes.{Scene, machine_of, standing, store_of}
 use Rattle.hb_core.specs.Steps.{IsUnready}
 use Rattle.hb_core.specs.OneInsert.{OneInsert, before_insert, flat_meta, inserts_a, letter_a, page_of_records}
-use Rattle.hb_core.proofs.BuiltSteps.{IsWantedIn, MayCome, after, at_hand, bringing, forced_scene, forces, performed, wanted_in, works_bringing}
+use Rattle.hb_core.proofs.BuiltSteps.{IsWantedIn, MayCome, after, at_hand, bringing, forced_scene, forces, has_room, none_waits, one_joins, only_looks, performed, wanted_in, works_bringing}
 
 -- the empty page is well made
 empty_fits : FitsFile flat_meta (page_of_records [])
@@ -93,7 +93,7 @@ pub one_insert : OneInsert
 unfolding big_endian
 one_insert =
     (machine_of taken, inl (performed before_insert 1 (taking (machine_of before_insert) inserts_a) [] refl tt),
-    (machine_of put, works_bringing page_1 taken 1 puts [] (page_comes, tt) refl (λ unready. unready.1 ready) put_row refl (record { allowed = put_fits; log = refl }),
+    (machine_of put, works_bringing page_1 taken 1 puts [] (page_comes, tt) refl (has_room taken 1 ready) put_row refl (record { allowed = put_fits; log = refl }),
     (machine_of is_forced, inr (omega arith, forces put Moved),
     (machine_of answered, inl (omega arith, performed is_forced 1 (answers_now (machine_of is_forced) 1 replies.Done) [] refl tt),
     (machine_of answered, (refl, refl), refl)))))

@@ -30,7 +30,7 @@ use Rattle.hb_core.specs.Scenes.{Scene, machine_of, standing, store_of}
 use Rattle.hb_core.specs.ChainOfTwo.{lower_half, posts_at}
 use Rattle.hb_core.specs.ChainOfPosting.{OnePosting, bare_root, posted_root, posting_before, raised_meta, split_page}
 use Rattle.hb_core.specs.SplitRows.{HasNoPage}
-use Rattle.hb_core.proofs.BuiltSteps.{after, at_hand, live_is, performed, wanted_in, works}
+use Rattle.hb_core.proofs.BuiltSteps.{after, at_hand, has_room, live_is, none_waits, one_joins, only_looks, performed, wanted_in, works}
 
 abbrev pub job : Job
 job = posts_at 10
@@ -174,9 +174,6 @@ end_row = (lower_half, at_hand at_last (standing at_last.at_work 17) _ lower_hal
 
 -- ---- the log is ready
 
-pub none_waits : (one : Job) → ¬ (Contains [] one)
-none_waits one (k, less, is) = absurd (omega (arith, less))
-
 ready_to_grow : IsReady (store_of is_taken)
 ready_to_grow = (omega arith, omega arith)
 
@@ -188,13 +185,13 @@ pub one_posting : OnePosting
 unfolding big_endian
 one_posting =
     (machine_of is_taken, inr (takes (at.PosterGrow job), takes_to_grow, performed posting_before 17 (takes (at.PosterGrow job)) [] refl tt),
-    (machine_of is_grown, works is_taken 17 grows (job ∷ []) refl (λ unready. unready.1 ready_to_grow) grow_row (job ∷ [], inr (inl (none_waits job, omega arith, refl)), refl) (record { allowed = grow_fits; log = refl }),
+    (machine_of is_grown, works is_taken 17 grows (job ∷ []) refl (has_room is_taken 17 ready_to_grow) grow_row (one_joins job [] (none_waits job) (omega arith)) (record { allowed = grow_fits; log = refl }),
     (machine_of taken_again, inr (takes (at.PosterWalk job None), takes_to_walk, performed is_grown 17 (takes (at.PosterWalk job None)) [] refl tt),
-    (machine_of at_child, works taken_again 17 arrives [] refl (λ unready. let no : ⊥ = (let never = unready.0 in cc) in no) arrive_row refl tt,
-    (machine_of to_promote, works at_child 17 looks [] refl (λ unready. let no : ⊥ = (let never = unready.0 in cc) in no) look_row refl tt,
-    (machine_of is_promoted, works to_promote 17 promotes [] refl (λ unready. let no : ⊥ = (let never = unready.0 in cc) in no) promote_row refl tt,
-    (machine_of is_posted, works is_promoted 17 posts (job ∷ []) refl (λ unready. unready.1 ready_to_post) again_row (job ∷ [], inr (inl (none_waits job, omega arith, refl)), refl) (record { allowed = post_fits; log = refl }),
+    (machine_of at_child, works taken_again 17 arrives [] refl (only_looks taken_again 17 refl) arrive_row refl tt,
+    (machine_of to_promote, works at_child 17 looks [] refl (only_looks at_child 17 refl) look_row refl tt,
+    (machine_of is_promoted, works to_promote 17 promotes [] refl (only_looks to_promote 17 refl) promote_row refl tt,
+    (machine_of is_posted, works is_promoted 17 posts (job ∷ []) refl (has_room is_promoted 17 ready_to_post) again_row (one_joins job [] (none_waits job) (omega arith)) (record { allowed = post_fits; log = refl }),
     (machine_of taken_last, inr (takes (at.PosterWalk job None), takes_to_walk_last, performed is_posted 17 (takes (at.PosterWalk job None)) [] refl tt),
-    (machine_of at_last, works taken_last 17 arrives_last [] refl (λ unready. let no : ⊥ = (let never = unready.0 in cc) in no) arrive_last_row refl tt,
-    (machine_of is_ended, works at_last 17 ends [] refl (λ unready. let no : ⊥ = (let never = unready.0 in cc) in no) end_row refl tt,
+    (machine_of at_last, works taken_last 17 arrives_last [] refl (only_looks taken_last 17 refl) arrive_last_row refl tt,
+    (machine_of is_ended, works at_last 17 ends [] refl (only_looks at_last 17 refl) end_row refl tt,
     (machine_of is_ended, inl (each_at (λ (one : Job). one.kind ≢ Post) [] tt, (refl, refl)), refl)))))))))))

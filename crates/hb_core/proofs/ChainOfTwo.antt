@@ -16,7 +16,7 @@ use Rattle.hb_core.specs.SessionRows.{taking}
 use Rattle.hb_core.specs.Rows.{Row}
 use Rattle.hb_core.specs.Scenes.{Scene, machine_of, standing, store_of}
 use Rattle.hb_core.specs.ChainOfTwo.{TwoOnOnePage, full_page, inserts_seventy, lettered, looks_twenty_up, lower_half, posts_at, two_before, upper_half, upper_three}
-use Rattle.hb_core.proofs.BuiltSteps.{after, at_hand, blocked, forced_scene, forces, live_is, performed, wanted_in, works}
+use Rattle.hb_core.proofs.BuiltSteps.{after, at_hand, blocked, forced_scene, forces, has_room, live_is, none_waits, one_joins, only_looks, performed, wanted_in, works}
 use Rattle.hb_core.proofs.ChainOfTwoParts.{chosen_at_forty, cut_at_forty, extract_fits, put_fits, seventy_absent, seventy_held, twenty_there}
 
 -- ---- the scenes, one after the other
@@ -109,9 +109,6 @@ find_row = (lower_half, at_hand on_its_way (standing on_its_way.at_work 2) _ low
 
 -- ---- the log is ready, and the jobs differ
 
-none_waits : (job : Job) → ¬ (Contains [] job)
-none_waits job (k, less, is) = absurd (omega (arith, less))
-
 other_waits : ¬ (Contains (posts_at 0 ∷ []) (posts_at 20))
 other_waits has = let same : 0 ≡ 20 = ap (λ (job : Job). slice_index job.point 0) (contains_one (posts_at 0) (posts_at 20) has) in omega (arith, same)
 
@@ -130,15 +127,15 @@ unfolding big_endian
 two_on_one_page =
     (machine_of first_taken, inl (performed two_before 1 (taking (machine_of two_before) inserts_seventy) [] refl tt),
     (machine_of both_taken, inl (performed first_taken 2 (taking (machine_of first_taken) looks_twenty_up) [] refl tt),
-    (machine_of to_split, works both_taken 1 finds_no_room [] refl (λ unready. unready.1 ready_first) no_room_row refl tt,
+    (machine_of to_split, works both_taken 1 finds_no_room [] refl (has_room both_taken 1 ready_first) no_room_row refl tt,
     (machine_of to_split, blocked to_split 2 1 Exclusive _ refl (omega arith) refl refl refl,
-    (machine_of is_split, works to_split 1 splits (posts_at 0 ∷ []) tt (λ unready. unready.1 ready_to_split) split_row
-        (posts_at 0 ∷ [], inr (inl (none_waits (posts_at 0), omega arith, refl)), refl) (record { allowed = extract_fits; log = refl }),
+    (machine_of is_split, works to_split 1 splits (posts_at 0 ∷ []) tt (has_room to_split 1 ready_to_split) split_row
+        (one_joins (posts_at 0) [] (none_waits (posts_at 0)) (omega arith)) (record { allowed = extract_fits; log = refl }),
     (machine_of is_split, blocked is_split 2 1 Exclusive _ refl (omega arith) refl refl refl,
-    (machine_of is_put, works is_split 1 puts (posts_at 0 ∷ []) tt (λ unready. unready.1 ready_to_put) put_row refl (record { allowed = put_fits; log = refl }),
-    (machine_of on_its_way, works is_put 2 passes (posts_at 0 ∷ posts_at 20 ∷ []) refl (λ unready. let no : ⊥ = (let never = unready.0 in cc) in no) pass_row
-        (posts_at 0 ∷ posts_at 20 ∷ [], inr (inl (other_waits, omega arith, refl)), refl) tt,
-    (machine_of is_found, works on_its_way 2 finds (posts_at 0 ∷ posts_at 20 ∷ []) refl (λ unready. let no : ⊥ = (let never = unready.0 in cc) in no) find_row refl tt,
+    (machine_of is_put, works is_split 1 puts (posts_at 0 ∷ []) tt (has_room is_split 1 ready_to_put) put_row refl (record { allowed = put_fits; log = refl }),
+    (machine_of on_its_way, works is_put 2 passes (posts_at 0 ∷ posts_at 20 ∷ []) refl (only_looks is_put 2 refl) pass_row
+        (one_joins (posts_at 20) (posts_at 0 ∷ []) other_waits (omega arith)) tt,
+    (machine_of is_found, works on_its_way 2 finds (posts_at 0 ∷ posts_at 20 ∷ []) refl (only_looks on_its_way 2 refl) find_row refl tt,
     (machine_of once_forced, inr (omega arith, forces is_found Moved),
     (machine_of twice_forced, inr (omega arith, forces once_forced Moved),
     (machine_of one_answered, inl (omega arith, performed twice_forced 1 (answers_now (machine_of twice_forced) 1 replies.Done) (posts_at 0 ∷ posts_at 20 ∷ []) refl tt),
