@@ -1,5 +1,5 @@
 -- A step is built: the machine after a deed, and that the deed is done so.
-use Rattle.std.proofs.Common.{◌≡◌, ◌≢◌, ◌⊎◌, inl, inr, ℕ, ◌<◌, ◌≤◌, ◌++◌, Bool, true, false, List, [], ◌∷◌, Contains, length, get_or, Option, Some, None, IfSome, IsSome, IsSomeAnd, IsTrue, refl, sym, ap, ◌∙◌, subst, arith}
+use Rattle.std.proofs.Common.{◌≡◌, ◌≢◌, ◌⊎◌, inl, inr, ℕ, ◌<◌, ◌≤◌, ◌++◌, false, List, [], ◌∷◌, Contains, length, get_or, Option, Some, None, IfSome, IsSome, IsSomeAnd, IsTrue, refl, sym, ap, ◌∙◌, subst, arith}
 use mathlib.Core.Path.{fun_ext}
 use Rattle.std.specs.Prelude.{◌||◌, ◌+◌, ◌*◌, ◌%◌}
 use Rattle.std.specs.FinMap as map
@@ -8,13 +8,11 @@ use Rattle.std.specs.Option.{option_and_then}
 use Rattle.std.specs.List.{AllByRecursion}
 use Rattle.hb_frag.specs.declared.pages.LivePage.{LivePage}
 use Rattle.hb_frag.specs.declared.pages.Page.{Page}
-use Rattle.hb_layout.specs.Offsets.{log_start}
-use Rattle.hb_layout.specs.declared.meta.Meta.{Meta}
 use Rattle.hb_ops.specs.declared.operations.Op.{Op}
-use Rattle.hb_ops.specs.Files.{FileState, if_live, page_of}
+use Rattle.hb_ops.specs.Files.{if_live, page_of}
 use Rattle.hb_ops.specs.Operations.{Change, IsAllowedOn, change_of, reads_of}
 use Rattle.hb_log_codec.specs.Groups.{Logged, group_bytes}
-use Rattle.hb_wal.specs.Log.{Waiting, forced, left_waiting}
+use Rattle.hb_wal.specs.Log.{forced, left_waiting}
 use Rattle.hb_wal.specs.Frames.{frames}
 use Rattle.hb_latch.specs.declared.modes.Mode.{Mode}
 use Rattle.hb_latch.specs.Modes.{goes_beside}
@@ -27,7 +25,7 @@ use Rattle.hb_activity.specs.declared.activities.Activity.{Activity}
 use Rattle.hb_activity.specs.Holding.{held_of}
 use Rattle.hb_activity.specs.Walks.{walk_held}
 use Rattle.hb_activity.specs.Wanting.{wanted_of}
-use Rattle.hb_store.specs.Calls.{IsReady, change_here, durable_after, later_after, read_here, with_op}
+use Rattle.hb_store.specs.Calls.{IsReady, change_here, durable_after, later_after, with_op}
 use Rattle.hb_store.specs.Images.{group_here, images_needed}
 use Rattle.hb_store.specs.Marks.{has_page, is_among}
 use Rattle.hb_store.specs.Replay.{set_pages}
@@ -35,11 +33,11 @@ use Rattle.hb_store.specs.Keeps.{last_of}
 use Rattle.hb_store.specs.States.{IsGoodPage, StoreState, in_memory, is_imaged}
 use Rattle.hb_core.specs.declared.outcomes.Outcome.{Outcome}
 use Rattle.hb_core.specs.declared.outcomes.Outcome.TheVariants as outcomes
-use Rattle.hb_core.specs.Machines.{Files, Machine, if_some, live_here}
-use Rattle.hb_core.specs.Asking.{AskedBox, HasAskedBox, HasWayFree, IsInTheWay, asked_box, looked_page, wanted_by}
+use Rattle.hb_core.specs.Machines.{Files, if_some, live_here}
+use Rattle.hb_core.specs.Asking.{AskedBox, HasAskedBox, HasWayFree, asked_box, looked_page, wanted_by}
 use Rattle.hb_core.specs.Fetching.{Brings, IsWantedPage}
 use Rattle.hb_core.specs.Deeds.{Deed, AddsJobs}
-use Rattle.hb_core.specs.Performing.{DoesOp, MayDo, Performs, Relatches, files_after, given_by, latches_held}
+use Rattle.hb_core.specs.Performing.{DoesOp, MayDo, Performs, Relatches, files_after, given_by}
 use Rattle.hb_core.specs.Rows.{IsAtHand, Row}
 use Rattle.hb_core.specs.Forcing.{ForcesFirst, calls_of_force}
 use Rattle.hb_core.specs.GivingUp.{runs_out}
@@ -237,13 +235,17 @@ nothing_comes files may st = record {
 pub works : (s : Scene) (actor : ℕ) (deed : Deed) (jobs : List Job) → IsClearIn s actor → ¬ (IsUnready (machine_of s) actor)
     → Row (standing s.at_work actor) (wanted_in s actor) (machine_of s) deed → AddsJobs deed.adds deed.left jobs → MayBeIn s deed.op
     → Works (machine_of s) actor deed.says (machine_of (after actor deed jobs s))
-works s actor deed jobs clear ready row adds may = inr (inr (way_free s actor clear, ready, inl (record {
-  fetched = store_of s;
-  deed = deed;
-  brings = nothing_comes _ _ _;
-  row = subst (λ (o : Option Wanted). Row (standing s.at_work actor) o (machine_of s) deed) (sym (wanted_is s actor)) row;
-  performs = performed s actor deed jobs adds may;
-})))
+works s actor deed jobs clear ready row adds may = inr (inr (
+  way_free s actor clear,
+  ready,
+  inl (record {
+    fetched = store_of s;
+    deed = deed;
+    brings = nothing_comes _ _ _;
+    row = subst (λ (o : Option Wanted). Row (standing s.at_work actor) o (machine_of s) deed) (sym (wanted_is s actor)) row;
+    performs = performed s actor deed jobs adds may;
+  }),
+))
 
 -- the page of a row
 pub at_hand : (s : Scene) (activity : Activity) (wanted : Wanted) (page : LivePage) (asked : Option AskedBox) → live_in s wanted.page ≡ Some page → page.level ≡ wanted.level
@@ -337,13 +339,16 @@ IsWantedIn s actor id = IsWantedPage (wanted_in s actor) id
 each_needed : (s : Scene) (actor : ℕ) (other : ℕ → Type 0) (more : List (ℕ × Page)) → AllByRecursion (MayCome s (IsWantedIn s actor)) more
     → AllByRecursion (MayCome s (λ id. IsWantedPage (wanted_by (machine_of s) actor) id ⊎ other id)) more
 each_needed s actor other [] each = tt
-each_needed s actor other (one ∷ rest) each = (record {
-  needed = inl (subst (λ (o : Option Wanted). IsWantedPage o one.0) (sym (wanted_is s actor)) each.0.needed);
-  from_1 = each.0.from_1;
-  to_high = each.0.to_high;
-  good = each.0.good;
-  told = each.0.told;
-}, each_needed s actor other rest each.1)
+each_needed s actor other (one ∷ rest) each = (
+  record {
+    needed = inl (subst (λ (o : Option Wanted). IsWantedPage o one.0) (sym (wanted_is s actor)) each.0.needed);
+    from_1 = each.0.from_1;
+    to_high = each.0.to_high;
+    good = each.0.good;
+    told = each.0.told;
+  },
+  each_needed s actor other rest each.1,
+)
 
 pub works_bringing : (more : List (ℕ × Page)) (s : Scene) (actor : ℕ) (deed : Deed) (jobs : List Job) → AllByRecursion (MayCome s (IsWantedIn s actor)) more
     → IsClearIn s actor → ¬ (IsUnready (machine_of s) actor)
@@ -351,25 +356,29 @@ pub works_bringing : (more : List (ℕ × Page)) (s : Scene) (actor : ℕ) (deed
     → Works (machine_of s) actor deed.says (machine_of (after actor deed jobs (bringing more s)))
 works_bringing more s actor deed jobs each clear ready row adds may =
     let done = performed (bringing more s) actor deed jobs adds may in
-    inr (inr (way_free s actor clear, ready, inl (record {
-      fetched = store_of (bringing more s);
-      deed = deed;
-      brings = come s _ more (each_needed s actor _ more each);
-      row = subst (λ (o : Option Wanted). Row (standing s.at_work actor) o (machine_of (bringing more s)) deed) (sym (wanted_is s actor)) row;
-      performs = record {
-        says = done.says;
-        lines = done.lines;
-        answered = done.answered;
-        activity = done.activity;
-        latches = done.latches;
-        jobs = done.jobs;
-        order = done.order;
-        stop = done.stop;
-        store = done.store;
-        files = done.files;
-        clock = done.clock;
-      };
-    })))
+    inr (inr (
+      way_free s actor clear,
+      ready,
+      inl (record {
+        fetched = store_of (bringing more s);
+        deed = deed;
+        brings = come s _ more (each_needed s actor _ more each);
+        row = subst (λ (o : Option Wanted). Row (standing s.at_work actor) o (machine_of (bringing more s)) deed) (sym (wanted_is s actor)) row;
+        performs = record {
+          says = done.says;
+          lines = done.lines;
+          answered = done.answered;
+          activity = done.activity;
+          latches = done.latches;
+          jobs = done.jobs;
+          order = done.order;
+          stop = done.stop;
+          store = done.store;
+          files = done.files;
+          clock = done.clock;
+        };
+      }),
+    ))
 
 -- ---- a force
 

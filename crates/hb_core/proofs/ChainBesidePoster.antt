@@ -1,5 +1,5 @@
 -- The poster and two sessions: each step of the chain.
-use Rattle.std.proofs.Common.{◌≡◌, ◌≢◌, inl, inr, ℕ, ◌<◌, ◌≤◌, List, [], ◌∷◌, slice_index, Contains, Option, Some, None, All, refl, ap, arith}
+use Rattle.std.proofs.Common.{◌≡◌, ◌≢◌, inl, inr, List, [], ◌∷◌, slice_index, Contains, Option, Some, None, refl, ap, arith}
 use Rattle.hb_outside.specs.Numbers.{big_endian}
 use Rattle.hb_space.specs.Boxes.{side_below, whole_area}
 use Rattle.hb_space.specs.declared.records.Record.{Record}
@@ -119,9 +119,12 @@ lower_fits = record {
   fits = record { level = omega arith; attributes = refl };
   well_cut = tt;
   filled = record { kinds = each_at (BelongsAt 0) (leaves lower_half.frag) (refl, tt); light = omega arith; own = λ none. none };
-  in_order = each_at IsInOrder (leaves_of lower_half.frag lower_half.area) (in_order lower_three (interval 0 39)
-      (held 0 10 39 (omega arith) (omega arith), (held 0 20 39 (omega arith) (omega arith), (held 0 30 39 (omega arith) (omega arith), tt)))
-      ((refl, (refl, tt)), ((refl, tt), (tt, tt))), tt);
+  in_order = each_at IsInOrder (leaves_of lower_half.frag lower_half.area) (
+    in_order lower_three (interval 0 39)
+        (held 0 10 39 (omega arith) (omega arith), (held 0 20 39 (omega arith) (omega arith), (held 0 30 39 (omega arith) (omega arith), tt)))
+        ((refl, (refl, tt)), ((refl, tt), (tt, tt))),
+    tt,
+  );
   normal = tt;
 }
 
@@ -145,33 +148,48 @@ arrive_row : Row (standing job_taken.at_work 17) (wanted_in job_taken 17) (machi
 arrive_row = (bare_root, at_hand job_taken (standing job_taken.at_work 17) _ bare_root _ refl refl refl refl, inl (record { level = refl; child = 1; area = _; leaf = refl; deed_is = refl }))
 
 look_row : Row (standing line_taken.at_work 17) (wanted_in line_taken 17) (machine_of line_taken) looks
-look_row = (split_page, at_hand line_taken (standing line_taken.at_work 17) _ split_page _ refl refl (ap (λ (o : Option LivePage). box_at o (Some (10 ∷ []))) (live_is line_taken 3)) (within 0 top 0 top (omega arith) (omega arith)),
-    record { page = bare_root; live = live_is line_taken 3; plan = plans.Post [] 2 (side_below (whole_area 1) 0 40); planned = owes_two; deed_is = refl })
+look_row = (
+  split_page,
+  at_hand line_taken (standing line_taken.at_work 17) _ split_page _ refl refl (ap (λ (o : Option LivePage). box_at o (Some (10 ∷ []))) (live_is line_taken 3)) (within 0 top 0 top (omega arith) (omega arith)),
+  record { page = bare_root; live = live_is line_taken 3; plan = plans.Post [] 2 (side_below (whole_area 1) 0 40); planned = owes_two; deed_is = refl },
+)
 
 share_row : Row (standing to_promote.at_work 1) (wanted_in to_promote 1) (machine_of to_promote) shares
 share_row = (bare_root, at_hand to_promote (standing to_promote.at_work 1) _ bare_root _ refl refl refl refl, inl (record { leaf = _; area = _; at_point = refl; names = tt; deed_is = refl }))
 
 down_row : Row (standing both_at_root.at_work 1) (wanted_in both_at_root 1) (machine_of both_at_root) steps_down
-down_row = (split_page, at_hand both_at_root (standing both_at_root.at_work 1) _ split_page _ refl refl (ap (λ (o : Option LivePage). box_at o (Some (20 ∷ []))) (live_is both_at_root 3)) (within 0 top 0 top (omega arith) (omega arith)),
-    inl (record { leaf = _; area = _; at_point = refl; names = tt; deed_is = refl }))
+down_row = (
+  split_page,
+  at_hand both_at_root (standing both_at_root.at_work 1) _ split_page _ refl refl (ap (λ (o : Option LivePage). box_at o (Some (20 ∷ []))) (live_is both_at_root 3)) (within 0 top 0 top (omega arith) (omega arith)),
+  inl (record { leaf = _; area = _; at_point = refl; names = tt; deed_is = refl }),
+)
 
 promote_row : Row (standing is_below.at_work 17) (wanted_in is_below 17) (machine_of is_below) promotes
 promote_row = (bare_root, at_hand is_below (standing is_below.at_work 17) _ bare_root _ refl refl refl tt, refl)
 
 again_row : Row (standing other_taken.at_work 17) (wanted_in other_taken 17) (machine_of other_taken) posts
-again_row = (split_page, at_hand other_taken (standing other_taken.at_work 17) _ split_page _ refl refl (ap (λ (o : Option LivePage). box_at o (Some (10 ∷ []))) (live_is other_taken 3)) (within 0 top 0 top (omega arith) (omega arith)),
-    record { page = bare_root; live = live_is other_taken 3; plan = plans.Post [] 2 (side_below (whole_area 1) 0 40); planned = owes_two; does_it = refl })
+again_row = (
+  split_page,
+  at_hand other_taken (standing other_taken.at_work 17) _ split_page _ refl refl (ap (λ (o : Option LivePage). box_at o (Some (10 ∷ []))) (live_is other_taken 3)) (within 0 top 0 top (omega arith) (omega arith)),
+  record { page = bare_root; live = live_is other_taken 3; plan = plans.Post [] 2 (side_below (whole_area 1) 0 40); planned = owes_two; does_it = refl },
+)
 
 root_row : Row (standing is_posted.at_work 2) (wanted_in is_posted 2) (machine_of is_posted) passes_root
 root_row = (posted_root, at_hand is_posted (standing is_posted.at_work 2) _ posted_root _ refl refl refl refl, inl (record { leaf = _; area = _; at_point = refl; names = tt; deed_is = refl }))
 
 delete_row : Row (standing root_passed.at_work 2) (wanted_in root_passed 2) (machine_of root_passed) deletes
-delete_row = (lower_half, at_hand root_passed (standing root_passed.at_work 2) _ lower_half _ refl refl (ap (λ (o : Option LivePage). box_at o (Some (20 ∷ []))) (live_is root_passed 3)) (within 0 39 0 39 (omega arith) (omega arith)),
-    inr (inl (record { found = lettered 20 98; there = record { records = lower_three; area = _; leaf = refl; place = 1; among = refl; key = refl }; deed_is = refl })))
+delete_row = (
+  lower_half,
+  at_hand root_passed (standing root_passed.at_work 2) _ lower_half _ refl refl (ap (λ (o : Option LivePage). box_at o (Some (20 ∷ []))) (live_is root_passed 3)) (within 0 39 0 39 (omega arith) (omega arith)),
+  inr (inl (record { found = lettered 20 98; there = record { records = lower_three; area = _; leaf = refl; place = 1; among = refl; key = refl }; deed_is = refl })),
+)
 
 miss_row : Row (standing is_deleted.at_work 1) (wanted_in is_deleted 1) (machine_of is_deleted) misses
-miss_row = (lower_two, at_hand is_deleted (standing is_deleted.at_work 1) _ lower_two _ refl refl (ap (λ (o : Option LivePage). box_at o (Some (20 ∷ []))) (live_is is_deleted 1)) refl,
-    inr (inr (record { absent = twenty_absent; deed_is = refl })))
+miss_row = (
+  lower_two,
+  at_hand is_deleted (standing is_deleted.at_work 1) _ lower_two _ refl refl (ap (λ (o : Option LivePage). box_at o (Some (20 ∷ []))) (live_is is_deleted 1)) refl,
+  inr (inr (record { absent = twenty_absent; deed_is = refl })),
+)
 
 -- ---- the log is ready, and the jobs differ
 
@@ -193,23 +211,76 @@ ready_to_delete = (omega arith, omega arith)
 
 pub sessions_beside_poster : SessionsBesidePoster
 unfolding big_endian
-sessions_beside_poster =
-    (machine_of job_taken, inr (takes (at.PosterWalk job None), takes_to_walk, performed beside_before 17 (takes (at.PosterWalk job None)) [] refl tt),
-    (machine_of at_root, works job_taken 17 arrives [] refl (only_looks job_taken 17 refl) arrive_row refl tt,
-    (machine_of line_taken, inl (performed at_root 1 (taking (machine_of at_root) seeks_twenty) [] refl tt),
-    (machine_of to_promote, works line_taken 17 looks [] refl (only_looks line_taken 17 refl) look_row refl tt,
-    (machine_of both_at_root, works to_promote 1 shares [] refl (only_looks to_promote 1 refl) share_row refl tt,
-    (machine_of both_at_root, blocked both_at_root 17 1 Shared _ refl (omega arith) refl refl refl,
-    (machine_of is_below, works both_at_root 1 steps_down (posts_at 20 ∷ []) refl (only_looks both_at_root 1 refl) down_row (one_joins (posts_at 20) [] (none_waits (posts_at 20)) (omega arith)) tt,
-    (machine_of is_promoted, works is_below 17 promotes (posts_at 20 ∷ []) refl (only_looks is_below 17 refl) promote_row refl tt,
-    (machine_of other_taken, inl (performed is_promoted 2 (taking (machine_of is_promoted) deletes_twenty) (posts_at 20 ∷ []) refl tt),
-    (machine_of other_taken, blocked other_taken 2 17 Exclusive _ refl (omega arith) refl refl refl,
-    (machine_of is_posted, works other_taken 17 posts two_jobs refl (has_room other_taken 17 ready_to_post) again_row (one_joins (posts_at 10) (posts_at 20 ∷ []) other_waits (omega arith)) (record { allowed = post_fits; log = refl }),
-    (machine_of root_passed, works is_posted 2 passes_root two_jobs refl (has_room is_posted 2 ready_to_walk) root_row refl tt,
-    (machine_of is_deleted, works root_passed 2 deletes two_jobs refl (has_room root_passed 2 ready_to_delete) delete_row refl (record { allowed = del_fits; log = refl }),
-    (machine_of is_missed, works is_deleted 1 misses two_jobs refl (only_looks is_deleted 1 refl) miss_row refl tt,
-    (machine_of once_forced, inr (omega arith, forces is_missed Moved),
-    (machine_of twice_forced, inr (omega arith, forces once_forced Moved),
-    (machine_of one_answered, inl (omega arith, performed twice_forced 2 (answers_now (machine_of twice_forced) 2 replies.Done) two_jobs refl tt),
-    (machine_of both_answered, inl (omega arith, performed one_answered 1 (answers_now (machine_of one_answered) 1 replies.Missing) two_jobs refl tt),
-    refl))))))))))))))))))
+sessions_beside_poster = (
+  machine_of job_taken,
+  inr (takes (at.PosterWalk job None), takes_to_walk, performed beside_before 17 (takes (at.PosterWalk job None)) [] refl tt),
+  (
+    machine_of at_root,
+    works job_taken 17 arrives [] refl (only_looks job_taken 17 refl) arrive_row refl tt,
+    (
+      machine_of line_taken,
+      inl (performed at_root 1 (taking (machine_of at_root) seeks_twenty) [] refl tt),
+      (
+        machine_of to_promote,
+        works line_taken 17 looks [] refl (only_looks line_taken 17 refl) look_row refl tt,
+        (
+          machine_of both_at_root,
+          works to_promote 1 shares [] refl (only_looks to_promote 1 refl) share_row refl tt,
+          (
+            machine_of both_at_root,
+            blocked both_at_root 17 1 Shared _ refl (omega arith) refl refl refl,
+            (
+              machine_of is_below,
+              works both_at_root 1 steps_down (posts_at 20 ∷ []) refl (only_looks both_at_root 1 refl) down_row (one_joins (posts_at 20) [] (none_waits (posts_at 20)) (omega arith)) tt,
+              (
+                machine_of is_promoted,
+                works is_below 17 promotes (posts_at 20 ∷ []) refl (only_looks is_below 17 refl) promote_row refl tt,
+                (
+                  machine_of other_taken,
+                  inl (performed is_promoted 2 (taking (machine_of is_promoted) deletes_twenty) (posts_at 20 ∷ []) refl tt),
+                  (
+                    machine_of other_taken,
+                    blocked other_taken 2 17 Exclusive _ refl (omega arith) refl refl refl,
+                    (
+                      machine_of is_posted,
+                      works other_taken 17 posts two_jobs refl (has_room other_taken 17 ready_to_post) again_row (one_joins (posts_at 10) (posts_at 20 ∷ []) other_waits (omega arith)) (record { allowed = post_fits; log = refl }),
+                      (
+                        machine_of root_passed,
+                        works is_posted 2 passes_root two_jobs refl (has_room is_posted 2 ready_to_walk) root_row refl tt,
+                        (
+                          machine_of is_deleted,
+                          works root_passed 2 deletes two_jobs refl (has_room root_passed 2 ready_to_delete) delete_row refl (record { allowed = del_fits; log = refl }),
+                          (
+                            machine_of is_missed,
+                            works is_deleted 1 misses two_jobs refl (only_looks is_deleted 1 refl) miss_row refl tt,
+                            (
+                              machine_of once_forced,
+                              inr (omega arith, forces is_missed Moved),
+                              (
+                                machine_of twice_forced,
+                                inr (omega arith, forces once_forced Moved),
+                                (
+                                  machine_of one_answered,
+                                  inl (omega arith, performed twice_forced 2 (answers_now (machine_of twice_forced) 2 replies.Done) two_jobs refl tt),
+                                  (
+                                    machine_of both_answered,
+                                    inl (omega arith, performed one_answered 1 (answers_now (machine_of one_answered) 1 replies.Missing) two_jobs refl tt),
+                                    refl,
+                                  ),
+                                ),
+                              ),
+                            ),
+                          ),
+                        ),
+                      ),
+                    ),
+                  ),
+                ),
+              ),
+            ),
+          ),
+        ),
+      ),
+    ),
+  ),
+)

@@ -1,5 +1,5 @@
 -- The log has no room: each step of the chain.
-use Rattle.std.proofs.Common.{◌≡◌, ◌≢◌, inl, inr, ℕ, ◌<◌, ◌≤◌, List, [], ◌∷◌, refl, arith}
+use Rattle.std.proofs.Common.{◌≢◌, inl, [], refl, arith}
 use Rattle.hb_outside.specs.Numbers.{big_endian}
 use Rattle.hb_set.specs.declared.commands.Reply.TheVariants as replies
 use Rattle.hb_store.specs.Calls.{IsReady}
@@ -34,9 +34,20 @@ some_wait e = let no : ⊥ = cc in no
 
 pub log_has_no_room : LogHasNoRoom
 unfolding big_endian
-log_has_no_room =
-    (machine_of is_taken, inl (performed log_before 1 (taking (machine_of log_before) inserts_forty) [] refl tt),
-    (machine_of is_forced, helps is_taken 1 refl (refl, not_ready) some_wait,
-    (machine_of one_full, gives_out is_forced 1 [] refl (refl, not_ready_still) refl refl tt,
-    (machine_of both_answered, inl (omega arith, performed one_full 2 (answers_now (machine_of one_full) 1 replies.Done) [] refl tt),
-    refl))))
+log_has_no_room = (
+  machine_of is_taken,
+  inl (performed log_before 1 (taking (machine_of log_before) inserts_forty) [] refl tt),
+  (
+    machine_of is_forced,
+    helps is_taken 1 refl (refl, not_ready) some_wait,
+    (
+      machine_of one_full,
+      gives_out is_forced 1 [] refl (refl, not_ready_still) refl refl tt,
+      (
+        machine_of both_answered,
+        inl (omega arith, performed one_full 2 (answers_now (machine_of one_full) 1 replies.Done) [] refl tt),
+        refl,
+      ),
+    ),
+  ),
+)

@@ -1,5 +1,5 @@
 -- One session inserts a record: each step of the chain.
-use Rattle.std.proofs.Common.{◌≡◌, ◌≢◌, inl, inr, ℕ, zero, suc, ◌-◌, ◌^◌, ◌<◌, ◌≤◌, List, [], ◌∷◌, slice_index, Some, All, refl, arith}
+use Rattle.std.proofs.Common.{◌≢◌, inl, inr, ℕ, zero, suc, ◌-◌, ◌^◌, ◌<◌, ◌≤◌, List, [], ◌∷◌, slice_index, Some, refl, arith}
 use Rattle.hb_space.specs.declared.records.Record.{Record}
 use Rattle.hb_space.specs.Boxes.{whole_area}
 use Rattle.hb_space.specs.Points.{IsPoint}
@@ -10,7 +10,6 @@ use Rattle.hb_frag.specs.Leaves.{leaves, leaves_of}
 use Rattle.hb_frag.specs.Rules.{BelongsAt, IsInOrder}
 use Rattle.hb_ops.specs.Recording.{FitsPut}
 use Rattle.hb_ops.specs.Sound.{FitsFile}
-use Rattle.hb_ops.specs.declared.operations.Op.{Op}
 use Rattle.hb_ops.specs.declared.operations.Op.TheVariants.{Put}
 use Rattle.hb_set.specs.declared.commands.Reply.TheVariants as replies
 use Rattle.hb_outside.specs.Numbers.{big_endian}
@@ -21,9 +20,8 @@ use Rattle.hb_core.specs.Deeds.{Deed, answers_now, takes_effect}
 use Rattle.hb_core.specs.SessionRows.{taking}
 use Rattle.hb_core.specs.Rows.{Row}
 use Rattle.hb_core.specs.Scenes.{Scene, machine_of, standing, store_of}
-use Rattle.hb_core.specs.Steps.{IsUnready}
 use Rattle.hb_core.specs.OneInsert.{OneInsert, before_insert, flat_meta, inserts_a, letter_a, page_of_records}
-use Rattle.hb_core.proofs.BuiltSteps.{IsWantedIn, MayCome, after, at_hand, bringing, forced_scene, forces, has_room, none_waits, one_joins, only_looks, performed, wanted_in, works_bringing}
+use Rattle.hb_core.proofs.BuiltSteps.{IsWantedIn, MayCome, after, at_hand, bringing, forced_scene, forces, has_room, performed, wanted_in, works_bringing}
 
 -- the empty page is well made
 empty_fits : FitsFile flat_meta (page_of_records [])
@@ -56,8 +54,11 @@ whole_ordered (suc (suc i)) less = absurd (omega (arith, less))
 page_spelled : HasSpelling (Live (page_of_records []))
 unfolding big_endian
 page_spelled = record {
-  fits = (omega arith, record { lo_point = two_fits 0 0 (omega arith) (omega arith); hi_point = two_fits (2 ^ 64 - 1) (2 ^ 64 - 1) (omega arith) (omega arith); same = refl; ordered = whole_ordered },
-      (omega arith, each_at (FitsRecord 2) [] tt));
+  fits = (
+    omega arith,
+    record { lo_point = two_fits 0 0 (omega arith) (omega arith); hi_point = two_fits (2 ^ 64 - 1) (2 ^ 64 - 1) (omega arith) (omega arith); same = refl; ordered = whole_ordered },
+    (omega arith, each_at (FitsRecord 2) [] tt),
+  );
   short = omega arith;
 }
 
@@ -83,17 +84,32 @@ put_fits : FitsPut flat_meta (page_of_records []) letter_a
 put_fits = record { made = empty_fits; level = refl; absent = record { records = []; area = _; leaf = refl; keeps = each_at (λ (r : Record). r.key ≢ letter_a.key) [] tt }; room = omega arith }
 
 put_row : Row (standing taken.at_work 1) (wanted_in taken 1) (machine_of with_page) puts
-put_row = (page_of_records [], at_hand with_page (standing taken.at_work 1) _ (page_of_records []) _ refl refl refl refl, inr (inr (inl (record {
-  absent = record { records = []; area = _; leaf = refl; lack = each_at (λ (r : Record). r.key ≢ letter_a.key) [] tt };
-  room = omega arith;
-  deed_is = refl;
-}))))
+put_row = (
+  page_of_records [],
+  at_hand with_page (standing taken.at_work 1) _ (page_of_records []) _ refl refl refl refl,
+  inr (inr (inl (record {
+    absent = record { records = []; area = _; leaf = refl; lack = each_at (λ (r : Record). r.key ≢ letter_a.key) [] tt };
+    room = omega arith;
+    deed_is = refl;
+  }))),
+)
 
 pub one_insert : OneInsert
 unfolding big_endian
-one_insert =
-    (machine_of taken, inl (performed before_insert 1 (taking (machine_of before_insert) inserts_a) [] refl tt),
-    (machine_of put, works_bringing page_1 taken 1 puts [] (page_comes, tt) refl (has_room taken 1 ready) put_row refl (record { allowed = put_fits; log = refl }),
-    (machine_of is_forced, inr (omega arith, forces put Moved),
-    (machine_of answered, inl (omega arith, performed is_forced 1 (answers_now (machine_of is_forced) 1 replies.Done) [] refl tt),
-    (machine_of answered, (refl, refl), refl)))))
+one_insert = (
+  machine_of taken,
+  inl (performed before_insert 1 (taking (machine_of before_insert) inserts_a) [] refl tt),
+  (
+    machine_of put,
+    works_bringing page_1 taken 1 puts [] (page_comes, tt) refl (has_room taken 1 ready) put_row refl (record { allowed = put_fits; log = refl }),
+    (
+      machine_of is_forced,
+      inr (omega arith, forces put Moved),
+      (
+        machine_of answered,
+        inl (omega arith, performed is_forced 1 (answers_now (machine_of is_forced) 1 replies.Done) [] refl tt),
+        (machine_of answered, (refl, refl), refl),
+      ),
+    ),
+  ),
+)

@@ -1,7 +1,7 @@
 -- The poster gives the file a level and posts: each step of the chain.
-use Rattle.std.proofs.Common.{◌≡◌, ◌≢◌, inl, inr, ℕ, zero, suc, ◌<◌, ◌≤◌, List, [], ◌∷◌, slice_index, Contains, Option, Some, None, IsSomeAnd, refl, sym, ap, subst, arith}
+use Rattle.std.proofs.Common.{◌≢◌, inl, inr, zero, suc, [], ◌∷◌, Option, Some, None, IsSomeAnd, refl, sym, ap, subst, arith}
 use Rattle.hb_outside.specs.Numbers.{big_endian}
-use Rattle.hb_space.specs.Boxes.{Area, Meets, side_below, whole_area}
+use Rattle.hb_space.specs.Boxes.{Meets, side_below, whole_area}
 use Rattle.hb_frag.specs.declared.pages.LivePage.{LivePage}
 use Rattle.hb_frag.specs.declared.leaves.Leaf.{Leaf}
 use Rattle.hb_frag.specs.declared.leaves.Leaf.TheVariants.{Records, Child, Sibling}
@@ -23,13 +23,11 @@ use Rattle.hb_store.specs.Calls.{IsReady}
 use Rattle.hb_core.specs.declared.outcomes.Outcome.TheVariants.{Moved}
 use Rattle.hb_core.specs.Asking.{box_at}
 use Rattle.hb_core.specs.Deeds.{Deed, does, moves_to}
-use Rattle.hb_core.specs.Machines.{Machine}
 use Rattle.hb_core.specs.WorkerRows.{TakesJob, ends_job}
 use Rattle.hb_core.specs.Rows.{Row}
 use Rattle.hb_core.specs.Scenes.{Scene, machine_of, standing, store_of}
 use Rattle.hb_core.specs.ChainOfTwo.{lower_half, posts_at}
 use Rattle.hb_core.specs.ChainOfPosting.{OnePosting, bare_root, posted_root, posting_before, raised_meta, split_page}
-use Rattle.hb_core.specs.SplitRows.{HasNoPage}
 use Rattle.hb_core.proofs.BuiltSteps.{after, at_hand, has_room, live_is, none_waits, one_joins, only_looks, performed, wanted_in, works}
 
 abbrev pub job : Job
@@ -130,14 +128,18 @@ gave_some : siblings_of split_page ≢ []
 gave_some e = let no : ⊥ = cc in no
 
 grow_row : Row (standing is_taken.at_work 17) (wanted_in is_taken 17) (machine_of is_taken) grows
-grow_row = (split_page, at_hand is_taken (standing is_taken.at_work 17) _ split_page _ refl refl refl refl, inl (record {
-  may = record { height = refl; below = omega arith; gave = gave_some };
-  fresh = 3;
-  free_after = 0;
-  free = omega arith;
-  next = record { from_chain = λ some. absurd (some refl); from_behind = λ none. (refl, omega arith, refl) };
-  deed_is = refl;
-}))
+grow_row = (
+  split_page,
+  at_hand is_taken (standing is_taken.at_work 17) _ split_page _ refl refl refl refl,
+  inl (record {
+    may = record { height = refl; below = omega arith; gave = gave_some };
+    fresh = 3;
+    free_after = 0;
+    free = omega arith;
+    next = record { from_chain = λ some. absurd (some refl); from_behind = λ none. (refl, omega arith, refl) };
+    deed_is = refl;
+  }),
+)
 
 arrive_row : Row (standing taken_again.at_work 17) (wanted_in taken_again 17) (machine_of taken_again) arrives
 arrive_row = (bare_root, at_hand taken_again (standing taken_again.at_work 17) _ bare_root _ refl refl refl refl, inl (record { level = refl; child = 1; area = _; leaf = refl; deed_is = refl }))
@@ -147,15 +149,21 @@ pub owes_two : IsPlan bare_root split_page (10 ∷ []) 32 (plans.Post [] 2 (side
 owes_two = record { outer = 1; leaf = whole_area 1; owed = record { above = refl; below = refl; other = λ e. absurd (omega (arith, e)) }; way = refl; room = omega arith }
 
 look_row : Row (standing at_child.at_work 17) (wanted_in at_child 17) (machine_of at_child) looks
-look_row = (split_page, at_hand at_child (standing at_child.at_work 17) _ split_page _ refl refl (ap (λ (o : Option LivePage). box_at o (Some (10 ∷ []))) (live_is at_child 3)) (within 0 top 0 top (omega arith) (omega arith)),
-    record { page = bare_root; live = live_is at_child 3; plan = plans.Post [] 2 (side_below (whole_area 1) 0 40); planned = owes_two; deed_is = refl })
+look_row = (
+  split_page,
+  at_hand at_child (standing at_child.at_work 17) _ split_page _ refl refl (ap (λ (o : Option LivePage). box_at o (Some (10 ∷ []))) (live_is at_child 3)) (within 0 top 0 top (omega arith) (omega arith)),
+  record { page = bare_root; live = live_is at_child 3; plan = plans.Post [] 2 (side_below (whole_area 1) 0 40); planned = owes_two; deed_is = refl },
+)
 
 promote_row : Row (standing to_promote.at_work 17) (wanted_in to_promote 17) (machine_of to_promote) promotes
 promote_row = (bare_root, at_hand to_promote (standing to_promote.at_work 17) _ bare_root _ refl refl refl tt, refl)
 
 again_row : Row (standing is_promoted.at_work 17) (wanted_in is_promoted 17) (machine_of is_promoted) posts
-again_row = (split_page, at_hand is_promoted (standing is_promoted.at_work 17) _ split_page _ refl refl (ap (λ (o : Option LivePage). box_at o (Some (10 ∷ []))) (live_is is_promoted 3)) (within 0 top 0 top (omega arith) (omega arith)),
-    record { page = bare_root; live = live_is is_promoted 3; plan = plans.Post [] 2 (side_below (whole_area 1) 0 40); planned = owes_two; does_it = refl })
+again_row = (
+  split_page,
+  at_hand is_promoted (standing is_promoted.at_work 17) _ split_page _ refl refl (ap (λ (o : Option LivePage). box_at o (Some (10 ∷ []))) (live_is is_promoted 3)) (within 0 top 0 top (omega arith) (omega arith)),
+  record { page = bare_root; live = live_is is_promoted 3; plan = plans.Post [] 2 (side_below (whole_area 1) 0 40); planned = owes_two; does_it = refl },
+)
 
 arrive_last_row : Row (standing taken_last.at_work 17) (wanted_in taken_last 17) (machine_of taken_last) arrives_last
 arrive_last_row = (posted_root, at_hand taken_last (standing taken_last.at_work 17) _ posted_root _ refl refl refl refl, inl (record { level = refl; child = 2; area = _; leaf = refl; deed_is = refl }))
@@ -169,8 +177,11 @@ owes_none : IsPlan posted_root lower_half (10 ∷ []) 32 plans.Nothing
 owes_none outer inner leaf area owed = subst (λ (o : Option Placed). IsSomeAnd o (λ placed. IsSiblingLeaf placed.leaf)) (sym owed.below) tt
 
 end_row : Row (standing at_last.at_work 17) (wanted_in at_last 17) (machine_of at_last) ends
-end_row = (lower_half, at_hand at_last (standing at_last.at_work 17) _ lower_half _ refl refl (ap (λ (o : Option LivePage). box_at o (Some (10 ∷ []))) (live_is at_last 3)) (within 0 39 0 39 (omega arith) (omega arith)),
-    record { page = posted_root; live = live_is at_last 3; plan = plans.Nothing; planned = owes_none; deed_is = refl })
+end_row = (
+  lower_half,
+  at_hand at_last (standing at_last.at_work 17) _ lower_half _ refl refl (ap (λ (o : Option LivePage). box_at o (Some (10 ∷ []))) (live_is at_last 3)) (within 0 39 0 39 (omega arith) (omega arith)),
+  record { page = posted_root; live = live_is at_last 3; plan = plans.Nothing; planned = owes_none; deed_is = refl },
+)
 
 -- ---- the log is ready
 
@@ -183,15 +194,44 @@ ready_to_post = (omega arith, omega arith)
 
 pub one_posting : OnePosting
 unfolding big_endian
-one_posting =
-    (machine_of is_taken, inr (takes (at.PosterGrow job), takes_to_grow, performed posting_before 17 (takes (at.PosterGrow job)) [] refl tt),
-    (machine_of is_grown, works is_taken 17 grows (job ∷ []) refl (has_room is_taken 17 ready_to_grow) grow_row (one_joins job [] (none_waits job) (omega arith)) (record { allowed = grow_fits; log = refl }),
-    (machine_of taken_again, inr (takes (at.PosterWalk job None), takes_to_walk, performed is_grown 17 (takes (at.PosterWalk job None)) [] refl tt),
-    (machine_of at_child, works taken_again 17 arrives [] refl (only_looks taken_again 17 refl) arrive_row refl tt,
-    (machine_of to_promote, works at_child 17 looks [] refl (only_looks at_child 17 refl) look_row refl tt,
-    (machine_of is_promoted, works to_promote 17 promotes [] refl (only_looks to_promote 17 refl) promote_row refl tt,
-    (machine_of is_posted, works is_promoted 17 posts (job ∷ []) refl (has_room is_promoted 17 ready_to_post) again_row (one_joins job [] (none_waits job) (omega arith)) (record { allowed = post_fits; log = refl }),
-    (machine_of taken_last, inr (takes (at.PosterWalk job None), takes_to_walk_last, performed is_posted 17 (takes (at.PosterWalk job None)) [] refl tt),
-    (machine_of at_last, works taken_last 17 arrives_last [] refl (only_looks taken_last 17 refl) arrive_last_row refl tt,
-    (machine_of is_ended, works at_last 17 ends [] refl (only_looks at_last 17 refl) end_row refl tt,
-    (machine_of is_ended, inl (each_at (λ (one : Job). one.kind ≢ Post) [] tt, (refl, refl)), refl)))))))))))
+one_posting = (
+  machine_of is_taken,
+  inr (takes (at.PosterGrow job), takes_to_grow, performed posting_before 17 (takes (at.PosterGrow job)) [] refl tt),
+  (
+    machine_of is_grown,
+    works is_taken 17 grows (job ∷ []) refl (has_room is_taken 17 ready_to_grow) grow_row (one_joins job [] (none_waits job) (omega arith)) (record { allowed = grow_fits; log = refl }),
+    (
+      machine_of taken_again,
+      inr (takes (at.PosterWalk job None), takes_to_walk, performed is_grown 17 (takes (at.PosterWalk job None)) [] refl tt),
+      (
+        machine_of at_child,
+        works taken_again 17 arrives [] refl (only_looks taken_again 17 refl) arrive_row refl tt,
+        (
+          machine_of to_promote,
+          works at_child 17 looks [] refl (only_looks at_child 17 refl) look_row refl tt,
+          (
+            machine_of is_promoted,
+            works to_promote 17 promotes [] refl (only_looks to_promote 17 refl) promote_row refl tt,
+            (
+              machine_of is_posted,
+              works is_promoted 17 posts (job ∷ []) refl (has_room is_promoted 17 ready_to_post) again_row (one_joins job [] (none_waits job) (omega arith)) (record { allowed = post_fits; log = refl }),
+              (
+                machine_of taken_last,
+                inr (takes (at.PosterWalk job None), takes_to_walk_last, performed is_posted 17 (takes (at.PosterWalk job None)) [] refl tt),
+                (
+                  machine_of at_last,
+                  works taken_last 17 arrives_last [] refl (only_looks taken_last 17 refl) arrive_last_row refl tt,
+                  (
+                    machine_of is_ended,
+                    works at_last 17 ends [] refl (only_looks at_last 17 refl) end_row refl tt,
+                    (machine_of is_ended, inl (each_at (λ (one : Job). one.kind ≢ Post) [] tt, (refl, refl)), refl),
+                  ),
+                ),
+              ),
+            ),
+          ),
+        ),
+      ),
+    ),
+  ),
+)

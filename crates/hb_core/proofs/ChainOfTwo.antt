@@ -1,5 +1,5 @@
 -- Two sessions on one page: each step of the chain.
-use Rattle.std.proofs.Common.{◌≡◌, ◌≢◌, inl, inr, ℕ, ◌<◌, ◌≤◌, List, [], ◌∷◌, slice_index, Contains, Option, Some, None, refl, ap, arith}
+use Rattle.std.proofs.Common.{◌≡◌, inl, inr, [], ◌∷◌, slice_index, Contains, Option, Some, None, refl, ap, arith}
 use Rattle.hb_outside.specs.Numbers.{big_endian}
 use Rattle.hb_frag.specs.declared.pages.LivePage.{LivePage}
 use Rattle.hb_frag.proofs.Stretches.{contains_one}
@@ -72,8 +72,11 @@ both_answered = after 2 (answers_now (machine_of one_answered) 2 (replies.Found 
 -- ---- the rows
 
 no_room_row : Row (standing both_taken.at_work 1) (wanted_in both_taken 1) (machine_of both_taken) finds_no_room
-no_room_row = (full_page, at_hand both_taken (standing both_taken.at_work 1) _ full_page _ refl refl refl refl,
-    inr (inr (inr (record { level = refl; absent = seventy_absent; full = omega arith; deed_is = refl }))))
+no_room_row = (
+  full_page,
+  at_hand both_taken (standing both_taken.at_work 1) _ full_page _ refl refl refl refl,
+  inr (inr (inr (record { level = refl; absent = seventy_absent; full = omega arith; deed_is = refl }))),
+)
 
 split_row : Row (standing to_split.at_work 1) (wanted_in to_split 1) (machine_of to_split) splits
 split_row = inr (record {
@@ -100,12 +103,18 @@ abbrev upper_four : LivePage
 upper_four = upper_half (lettered 40 100 ∷ lettered 50 101 ∷ lettered 60 102 ∷ lettered 70 103 ∷ [])
 
 pass_row : Row (standing is_put.at_work 2) (wanted_in is_put 2) (machine_of is_put) passes
-pass_row = (upper_four, at_hand is_put (standing is_put.at_work 2) _ upper_four _ refl refl refl refl,
-    inl (record { leaf = _; area = _; at_point = refl; names = tt; deed_is = refl }))
+pass_row = (
+  upper_four,
+  at_hand is_put (standing is_put.at_work 2) _ upper_four _ refl refl refl refl,
+  inl (record { leaf = _; area = _; at_point = refl; names = tt; deed_is = refl }),
+)
 
 find_row : Row (standing on_its_way.at_work 2) (wanted_in on_its_way 2) (machine_of on_its_way) finds
-find_row = (lower_half, at_hand on_its_way (standing on_its_way.at_work 2) _ lower_half _ refl refl (ap (λ (o : Option LivePage). box_at o (Some (20 ∷ []))) (live_is on_its_way 1)) refl,
-    inr (inl (record { found = lettered 20 98; there = twenty_there; deed_is = refl })))
+find_row = (
+  lower_half,
+  at_hand on_its_way (standing on_its_way.at_work 2) _ lower_half _ refl refl (ap (λ (o : Option LivePage). box_at o (Some (20 ∷ []))) (live_is on_its_way 1)) refl,
+  inr (inl (record { found = lettered 20 98; there = twenty_there; deed_is = refl })),
+)
 
 -- ---- the log is ready, and the jobs differ
 
@@ -124,20 +133,58 @@ ready_to_put = (omega arith, omega arith)
 
 pub two_on_one_page : TwoOnOnePage
 unfolding big_endian
-two_on_one_page =
-    (machine_of first_taken, inl (performed two_before 1 (taking (machine_of two_before) inserts_seventy) [] refl tt),
-    (machine_of both_taken, inl (performed first_taken 2 (taking (machine_of first_taken) looks_twenty_up) [] refl tt),
-    (machine_of to_split, works both_taken 1 finds_no_room [] refl (has_room both_taken 1 ready_first) no_room_row refl tt,
-    (machine_of to_split, blocked to_split 2 1 Exclusive _ refl (omega arith) refl refl refl,
-    (machine_of is_split, works to_split 1 splits (posts_at 0 ∷ []) tt (has_room to_split 1 ready_to_split) split_row
-        (one_joins (posts_at 0) [] (none_waits (posts_at 0)) (omega arith)) (record { allowed = extract_fits; log = refl }),
-    (machine_of is_split, blocked is_split 2 1 Exclusive _ refl (omega arith) refl refl refl,
-    (machine_of is_put, works is_split 1 puts (posts_at 0 ∷ []) tt (has_room is_split 1 ready_to_put) put_row refl (record { allowed = put_fits; log = refl }),
-    (machine_of on_its_way, works is_put 2 passes (posts_at 0 ∷ posts_at 20 ∷ []) refl (only_looks is_put 2 refl) pass_row
-        (one_joins (posts_at 20) (posts_at 0 ∷ []) other_waits (omega arith)) tt,
-    (machine_of is_found, works on_its_way 2 finds (posts_at 0 ∷ posts_at 20 ∷ []) refl (only_looks on_its_way 2 refl) find_row refl tt,
-    (machine_of once_forced, inr (omega arith, forces is_found Moved),
-    (machine_of twice_forced, inr (omega arith, forces once_forced Moved),
-    (machine_of one_answered, inl (omega arith, performed twice_forced 1 (answers_now (machine_of twice_forced) 1 replies.Done) (posts_at 0 ∷ posts_at 20 ∷ []) refl tt),
-    (machine_of both_answered, inl (omega arith, performed one_answered 2 (answers_now (machine_of one_answered) 2 (replies.Found (98 ∷ []))) (posts_at 0 ∷ posts_at 20 ∷ []) refl tt),
-    (machine_of both_answered, (refl, refl), refl))))))))))))))
+two_on_one_page = (
+  machine_of first_taken,
+  inl (performed two_before 1 (taking (machine_of two_before) inserts_seventy) [] refl tt),
+  (
+    machine_of both_taken,
+    inl (performed first_taken 2 (taking (machine_of first_taken) looks_twenty_up) [] refl tt),
+    (
+      machine_of to_split,
+      works both_taken 1 finds_no_room [] refl (has_room both_taken 1 ready_first) no_room_row refl tt,
+      (
+        machine_of to_split,
+        blocked to_split 2 1 Exclusive _ refl (omega arith) refl refl refl,
+        (
+          machine_of is_split,
+          works to_split 1 splits (posts_at 0 ∷ []) tt (has_room to_split 1 ready_to_split) split_row
+              (one_joins (posts_at 0) [] (none_waits (posts_at 0)) (omega arith)) (record { allowed = extract_fits; log = refl }),
+          (
+            machine_of is_split,
+            blocked is_split 2 1 Exclusive _ refl (omega arith) refl refl refl,
+            (
+              machine_of is_put,
+              works is_split 1 puts (posts_at 0 ∷ []) tt (has_room is_split 1 ready_to_put) put_row refl (record { allowed = put_fits; log = refl }),
+              (
+                machine_of on_its_way,
+                works is_put 2 passes (posts_at 0 ∷ posts_at 20 ∷ []) refl (only_looks is_put 2 refl) pass_row
+                    (one_joins (posts_at 20) (posts_at 0 ∷ []) other_waits (omega arith)) tt,
+                (
+                  machine_of is_found,
+                  works on_its_way 2 finds (posts_at 0 ∷ posts_at 20 ∷ []) refl (only_looks on_its_way 2 refl) find_row refl tt,
+                  (
+                    machine_of once_forced,
+                    inr (omega arith, forces is_found Moved),
+                    (
+                      machine_of twice_forced,
+                      inr (omega arith, forces once_forced Moved),
+                      (
+                        machine_of one_answered,
+                        inl (omega arith, performed twice_forced 1 (answers_now (machine_of twice_forced) 1 replies.Done) (posts_at 0 ∷ posts_at 20 ∷ []) refl tt),
+                        (
+                          machine_of both_answered,
+                          inl (omega arith, performed one_answered 2 (answers_now (machine_of one_answered) 2 (replies.Found (98 ∷ []))) (posts_at 0 ∷ posts_at 20 ∷ []) refl tt),
+                          (machine_of both_answered, (refl, refl), refl),
+                        ),
+                      ),
+                    ),
+                  ),
+                ),
+              ),
+            ),
+          ),
+        ),
+      ),
+    ),
+  ),
+)

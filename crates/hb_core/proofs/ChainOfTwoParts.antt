@@ -1,21 +1,18 @@
 -- The pages of the chain of two sessions, and what its operations ask for.
-use Rattle.std.proofs.Common.{◌≡◌, ◌≢◌, ◌⊎◌, inl, inr, ℕ, zero, suc, ◌-◌, ◌<◌, ◌≤◌, List, [], ◌∷◌, ◌++◌, length, slice_index, Contains, Some, All, refl, sym, ap, ◌∙◌, subst, arith}
-use Rattle.std.specs.Prelude.{Any, slice_index_or}
-use Rattle.hb_space.specs.Boxes.{Area, Holds, whole_area}
+use Rattle.std.proofs.Common.{◌≡◌, ◌≢◌, inl, inr, ℕ, zero, suc, List, [], ◌∷◌, ◌++◌, slice_index, refl, sym, ap, ◌∙◌, subst, arith}
+use Rattle.std.specs.Prelude.{Any}
+use Rattle.hb_space.specs.Boxes.{Area, Holds}
 use Rattle.hb_space.specs.declared.records.Record.{Record}
-use Rattle.hb_frag.specs.declared.leaves.Leaf.TheVariants.{Records}
-use Rattle.hb_frag.specs.declared.pages.LivePage.{LivePage}
 use Rattle.hb_frag.specs.declared.paths.Side.TheVariants.{Left}
 use Rattle.hb_frag.specs.Leaves.{DirectlyHolds, leaves, leaves_of, siblings_of}
 use Rattle.hb_frag.specs.Rules.{BelongsAt, IsInOrder}
-use Rattle.hb_frag.specs.Trees.{Tree, Tip}
 use Rattle.hb_ops.specs.Extracting.{FitsExtract}
 use Rattle.hb_ops.specs.Recording.{FitsPut}
 use Rattle.hb_ops.specs.Sound.{FitsFile}
 use Rattle.hb_ops.specs.Standing.{StandsNot, StandsThere}
 use Rattle.hb_ops.specs.declared.leaf_cuts.LeafCut.{LeafCut}
 use Rattle.hb_split.specs.Choosing.{IsBest, IsChosen, MayCut, NotBehind, heavier_count}
-use Rattle.hb_sound.proofs.ExampleParts.{above_all, below_all, cuts, each_at, held, in_order, interval, none_given, top}
+use Rattle.hb_sound.proofs.ExampleParts.{above_all, cuts, each_at, held, in_order, interval, none_given, top}
 use Rattle.hb_core.specs.ChainOfTwo.{full_page, lettered, line_meta, lower_half, lower_three, upper_half, upper_three}
 
 abbrev pub six : List Record
@@ -30,10 +27,20 @@ full_fits = record {
   fits = record { level = omega arith; attributes = refl };
   well_cut = tt;
   filled = record { kinds = each_at (BelongsAt 0) (leaves full_page.frag) (refl, tt); light = omega arith; own = λ none. none };
-  in_order = each_at IsInOrder (leaves_of full_page.frag full_page.area) (in_order six (interval 0 top)
-      (held 0 10 top (omega arith) (omega arith), (held 0 20 top (omega arith) (omega arith), (held 0 30 top (omega arith) (omega arith),
-      (held 0 40 top (omega arith) (omega arith), (held 0 50 top (omega arith) (omega arith), (held 0 60 top (omega arith) (omega arith), tt))))))
-      ((refl, (refl, (refl, (refl, (refl, tt))))), ((refl, (refl, (refl, (refl, tt)))), ((refl, (refl, (refl, tt))), ((refl, (refl, tt)), ((refl, tt), (tt, tt)))))), tt);
+  in_order = each_at IsInOrder (leaves_of full_page.frag full_page.area) (
+    in_order six (interval 0 top) (
+      held 0 10 top (omega arith) (omega arith),
+      (
+        held 0 20 top (omega arith) (omega arith),
+        (
+          held 0 30 top (omega arith) (omega arith),
+          (held 0 40 top (omega arith) (omega arith), (held 0 50 top (omega arith) (omega arith), (held 0 60 top (omega arith) (omega arith), tt))),
+        ),
+      ),
+    )
+        ((refl, (refl, (refl, (refl, (refl, tt))))), ((refl, (refl, (refl, (refl, tt)))), ((refl, (refl, (refl, tt))), ((refl, (refl, tt)), ((refl, tt), (tt, tt)))))),
+    tt,
+  );
   normal = tt;
 }
 
@@ -42,9 +49,15 @@ upper_fits = record {
   fits = record { level = omega arith; attributes = refl };
   well_cut = (cuts 0 top 40 (omega arith) (omega arith), tt, tt);
   filled = record { kinds = each_at (BelongsAt 0) (leaves (upper_half upper_three).frag) (tt, (refl, tt)); light = omega arith; own = λ none. none };
-  in_order = each_at IsInOrder (leaves_of (upper_half upper_three).frag (upper_half upper_three).area) (none_given 2 _, (in_order upper_three (interval 40 top)
-      (held 40 40 top (omega arith) (omega arith), (held 40 50 top (omega arith) (omega arith), (held 40 60 top (omega arith) (omega arith), tt)))
-      ((refl, (refl, tt)), ((refl, tt), (tt, tt))), tt));
+  in_order = each_at IsInOrder (leaves_of (upper_half upper_three).frag (upper_half upper_three).area) (
+    none_given 2 _,
+    (
+      in_order upper_three (interval 40 top)
+          (held 40 40 top (omega arith) (omega arith), (held 40 50 top (omega arith) (omega arith), (held 40 60 top (omega arith) (omega arith), tt)))
+          ((refl, (refl, tt)), ((refl, tt), (tt, tt))),
+      tt,
+    ),
+  );
   normal = (λ none. none, tt, tt);
 }
 

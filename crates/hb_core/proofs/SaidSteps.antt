@@ -1,7 +1,5 @@
 -- Steps with what each comes to are steps in turn.
-use Rattle.std.proofs.Common.{ℕ, List, [], ◌∷◌}
-use Rattle.hb_core.specs.declared.outcomes.Outcome.{Outcome}
-use Rattle.hb_core.specs.Machines.{Machine}
+use Rattle.std.proofs.Common.{[], ◌∷◌}
 use Rattle.hb_core.specs.Scenes.{SayingIsStepping}
 
 pub saying_is_stepping : SayingIsStepping

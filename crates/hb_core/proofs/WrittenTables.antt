@@ -1,8 +1,8 @@
 -- Tables that are written down as lists: what they answer, and what they are after a change.
-use Rattle.std.proofs.Common.{◌≡◌, ◌≢◌, inl, inr, ℕ, ◌<◌, ◌==◌, Bool, true, false, cond, not, List, [], ◌∷◌, ◌++◌, Option, Some, None, IfSome, IsSome, IsSomeAnd, IsTrue, refl, sym, ap, ◌∙◌, subst, arith, ne_eqb}
+use Rattle.std.proofs.Common.{◌≡◌, ◌≢◌, inl, inr, ℕ, ◌==◌, Bool, true, false, cond, not, List, [], ◌∷◌, ◌++◌, Option, Some, None, IfSome, IsSome, IsSomeAnd, IsTrue, refl, sym, ap, ◌∙◌, subst, ne_eqb}
 use mathlib.Core.Path.{fun_ext}
 use Rattle.std.specs.Prelude.{◌&&◌, ◌||◌, if◌then◌else◌, nat_lt}
-use Rattle.std.proofs.lemmas.Bool.{cases_Bool, eqb-true, eqb-false, eq-eqb, ltb-true, lt-ltb}
+use Rattle.std.proofs.lemmas.Bool.{cases_Bool, eqb-true, eqb-false, eq-eqb, lt-ltb}
 use Rattle.std.specs.List.{AllByRecursion, list_any}
 use Rattle.std.specs.Ordering.{nat_cmp, eq_by_cmp, is_eq, ordering_then}
 use Rattle.std.specs.Cmp.{nat_cmp_total, unsigned_tied}
@@ -13,7 +13,7 @@ use Rattle.std.specs.FinSet as set
 use Rattle.hb_frag.specs.declared.pages.Page.{Page}
 use Rattle.hb_latch.specs.declared.modes.Mode.{Mode}
 use Rattle.hb_latch.specs.Modes.{goes_beside}
-use Rattle.hb_latch.specs.Tables.{IsGrantable, IsLeastInTheWay, KeepsFrom, latch_cmp, mode_at}
+use Rattle.hb_latch.specs.Tables.{IsGrantable, IsLeastInTheWay, latch_cmp, mode_at}
 use Rattle.hb_latch.proofs.KeyOrder.{latch_order}
 use Rattle.hb_activity.specs.declared.holding.Latch.{Latch}
 use Rattle.hb_activity.specs.declared.activities.Activity.{Activity}
@@ -286,11 +286,11 @@ go_beside asked page mode (e ∷ es) clear other is =
     let later = go_beside asked page mode es (and_second (not (asked e.0.0) || (not (page == e.0.1) || goes_beside mode e.1)) (is_clear asked page mode es) clear) other is in
     elim (cases_Bool (other == e.0.0)) [
       | inl actor ↦ elim (cases_Bool (page == e.0.1)) [
-          | inl here ↦
-              subst (λ (b : Bool). IfSome (cond b (Some e.1) (mode_in other page es)) (λ held. IsTrue (goes_beside mode held))) (sym ((λ i. actor i && here i)))
-              (left_off (page == e.0.1) (goes_beside mode e.1) here (left_off (asked e.0.0) (not (page == e.0.1) || goes_beside mode e.1) (subst (λ (n : ℕ). asked n ≡ true) (eqb-true other e.0.0 actor) is) first))
-          | inr off ↦ subst (λ (b : Bool). IfSome (cond b (Some e.1) (mode_in other page es)) (λ held. IsTrue (goes_beside mode held))) (sym ((λ i. actor i && off i))) later
-        ]
+        | inl here ↦
+            subst (λ (b : Bool). IfSome (cond b (Some e.1) (mode_in other page es)) (λ held. IsTrue (goes_beside mode held))) (sym ((λ i. actor i && here i)))
+            (left_off (page == e.0.1) (goes_beside mode e.1) here (left_off (asked e.0.0) (not (page == e.0.1) || goes_beside mode e.1) (subst (λ (n : ℕ). asked n ≡ true) (eqb-true other e.0.0 actor) is) first))
+        | inr off ↦ subst (λ (b : Bool). IfSome (cond b (Some e.1) (mode_in other page es)) (λ held. IsTrue (goes_beside mode held))) (sym ((λ i. actor i && off i))) later
+      ]
       | inr off ↦ subst (λ (b : Bool). IfSome (cond (b && (page == e.0.1)) (Some e.1) (mode_in other page es)) (λ held. IsTrue (goes_beside mode held))) (sym off) later
     ]
 

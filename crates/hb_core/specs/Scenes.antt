@@ -1,5 +1,5 @@
 -- Machines that are written down, and steps of theirs with what each comes to.
-use Rattle.std.specs.Prelude.{◌≡◌, ℕ, ◌==◌, nat_le, false, if◌then◌else◌, List, [], ◌∷◌, map, Option, Some, None}
+use Rattle.std.specs.Prelude.{◌≡◌, ℕ, ◌==◌, nat_le, false, if◌then◌else◌, List, [], ◌∷◌, map, Some, None}
 use Rattle.std.specs.FinMap as finite
 use Rattle.std.specs.FinSet as set
 use Rattle.hb_frag.specs.declared.pages.Page.{Page}
