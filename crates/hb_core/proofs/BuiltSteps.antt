@@ -35,7 +35,8 @@ use Rattle.hb_core.specs.declared.outcomes.Outcome.{Outcome}
 use Rattle.hb_core.specs.declared.outcomes.Outcome.TheVariants as outcomes
 use Rattle.hb_core.specs.Machines.{Files, if_some, live_here}
 use Rattle.hb_core.specs.Asking.{AskedBox, HasAskedBox, HasWayFree, asked_box, looked_page, wanted_by}
-use Rattle.hb_core.specs.Fetching.{Brings, IsWantedPage}
+use Rattle.hb_core.specs.Acting.{takes_number}
+use Rattle.hb_core.specs.Fetching.{Brings, IsFreeHead, IsWantedPage}
 use Rattle.hb_core.specs.Deeds.{Deed, AddsJobs}
 use Rattle.hb_core.specs.Performing.{DoesOp, MayDo, Performs, Relatches, files_after, given_by}
 use Rattle.hb_core.specs.Rows.{IsAtHand, Row}
@@ -332,25 +333,17 @@ module _ (s : Scene) (may : ℕ → Type 0) (more : List (ℕ × Page)) (each : 
     told = λ id page none there. (came id page none there).told;
   }
 
+-- what a step may need that does an operation or none: the page that it wants, and the free head where it takes a number
+abbrev pub MayNeedIn : Scene → ℕ → Option Op → ℕ → Type 0
+MayNeedIn s actor op id = IsWantedPage (wanted_in s actor) id ⊎ (IsTrue (takes_number op) × IsFreeHead (store_of s) id)
+
+each_needed : (s : Scene) (actor : ℕ) (op : Option Op) (more : List (ℕ × Page)) → AllByRecursion (MayCome s (MayNeedIn s actor op)) more
+    → AllByRecursion (MayCome s (λ id. IsWantedPage (wanted_by (machine_of s) actor) id ⊎ (IsTrue (takes_number op) × IsFreeHead (store_of s) id))) more
+each_needed s actor op more each =
+    subst (λ (o : Option Wanted). AllByRecursion (MayCome s (λ id. IsWantedPage o id ⊎ (IsTrue (takes_number op) × IsFreeHead (store_of s) id))) more) (sym (wanted_is s actor)) each
+
 -- its row is done once they came
-abbrev pub IsWantedIn : Scene → ℕ → ℕ → Type 0
-IsWantedIn s actor id = IsWantedPage (wanted_in s actor) id
-
-each_needed : (s : Scene) (actor : ℕ) (other : ℕ → Type 0) (more : List (ℕ × Page)) → AllByRecursion (MayCome s (IsWantedIn s actor)) more
-    → AllByRecursion (MayCome s (λ id. IsWantedPage (wanted_by (machine_of s) actor) id ⊎ other id)) more
-each_needed s actor other [] each = tt
-each_needed s actor other (one ∷ rest) each = (
-  record {
-    needed = inl (subst (λ (o : Option Wanted). IsWantedPage o one.0) (sym (wanted_is s actor)) each.0.needed);
-    from_1 = each.0.from_1;
-    to_high = each.0.to_high;
-    good = each.0.good;
-    told = each.0.told;
-  },
-  each_needed s actor other rest each.1,
-)
-
-pub works_bringing : (more : List (ℕ × Page)) (s : Scene) (actor : ℕ) (deed : Deed) (jobs : List Job) → AllByRecursion (MayCome s (IsWantedIn s actor)) more
+pub works_bringing : (more : List (ℕ × Page)) (s : Scene) (actor : ℕ) (deed : Deed) (jobs : List Job) → AllByRecursion (MayCome s (MayNeedIn s actor deed.op)) more
     → IsClearIn s actor → ¬ (IsUnready (machine_of s) actor)
     → Row (standing s.at_work actor) (wanted_in s actor) (machine_of (bringing more s)) deed → AddsJobs deed.adds deed.left jobs → MayBeIn (bringing more s) deed.op
     → Works (machine_of s) actor deed.says (machine_of (after actor deed jobs (bringing more s)))
@@ -362,7 +355,7 @@ works_bringing more s actor deed jobs each clear ready row adds may =
       inl (record {
         fetched = store_of (bringing more s);
         deed = deed;
-        brings = come s _ more (each_needed s actor _ more each);
+        brings = come s _ more (each_needed s actor deed.op more each);
         row = subst (λ (o : Option Wanted). Row (standing s.at_work actor) o (machine_of (bringing more s)) deed) (sym (wanted_is s actor)) row;
         performs = record {
           says = done.says;

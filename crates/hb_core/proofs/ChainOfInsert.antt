@@ -21,7 +21,7 @@ use Rattle.hb_core.specs.SessionRows.{taking}
 use Rattle.hb_core.specs.Rows.{Row}
 use Rattle.hb_core.specs.Scenes.{Scene, machine_of, standing, store_of}
 use Rattle.hb_core.specs.OneInsert.{OneInsert, before_insert, flat_meta, inserts_a, letter_a, page_of_records}
-use Rattle.hb_core.proofs.BuiltSteps.{IsWantedIn, MayCome, after, at_hand, bringing, forced_scene, forces, has_room, performed, wanted_in, works_bringing}
+use Rattle.hb_core.proofs.BuiltSteps.{MayCome, MayNeedIn, after, at_hand, bringing, forced_scene, forces, has_room, performed, wanted_in, works_bringing}
 
 -- the empty page is well made
 empty_fits : FitsFile flat_meta (page_of_records [])
@@ -62,8 +62,8 @@ page_spelled = record {
   short = omega arith;
 }
 
-page_comes : MayCome taken (IsWantedIn taken 1) (1, Live (page_of_records []))
-page_comes = record { needed = refl; from_1 = omega arith; to_high = omega arith; good = (page_spelled, empty_fits); told = refl }
+page_comes : MayCome taken (MayNeedIn taken 1 (Some (Put 1 letter_a))) (1, Live (page_of_records []))
+page_comes = record { needed = inl refl; from_1 = omega arith; to_high = omega arith; good = (page_spelled, empty_fits); told = refl }
 
 abbrev puts : Deed
 puts = takes_effect (machine_of with_page) inserts_a replies.Done (Some (Put 1 letter_a)) []

@@ -22,7 +22,7 @@ six = lower_three ++ upper_three
 pub differ : (a b : ℕ) → a ≢ b → (a ∷ []) ≢ (b ∷ [])
 differ a b off e = off (ap (λ (p : List ℕ). slice_index p 0) e)
 
-full_fits : FitsFile (line_meta 1) full_page
+pub full_fits : FitsFile (line_meta 1) full_page
 full_fits = record {
   fits = record { level = omega arith; attributes = refl };
   well_cut = tt;

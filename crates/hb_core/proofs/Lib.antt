@@ -69,3 +69,4 @@ pub mod SaidSteps
 pub mod ChainBesidePoster
 pub mod ChainOfFullLog
 pub mod ChainOfCommands
+pub mod ChainOfFreePage

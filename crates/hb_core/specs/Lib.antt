@@ -40,3 +40,4 @@ pub mod ChainOfPosting
 pub mod ChainBesidePoster
 pub mod ChainOfFullLog
 pub mod ChainOfCommands
+pub mod ChainOfFreePage

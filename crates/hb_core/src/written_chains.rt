@@ -3,6 +3,7 @@
 
 ghost use Rattle.hb_core.specs.ChainBesidePoster.{SessionsBesidePoster};
 ghost use Rattle.hb_core.specs.ChainOfCommands.{CommandsOfOne};
+ghost use Rattle.hb_core.specs.ChainOfFreePage.{FreePageIsTaken, NoPageIsFree};
 ghost use Rattle.hb_core.specs.ChainOfFullLog.{LogHasNoRoom};
 ghost use Rattle.hb_core.specs.ChainOfPosting.{OnePosting};
 ghost use Rattle.hb_core.specs.ChainOfTwo.{TwoOnOnePage};
@@ -53,4 +54,12 @@ pub fn one_session_changes_nothing()
 #[tactic(auto, using(crate::proofs::ChainOfFullLog::log_has_no_room))]
 pub fn a_line_finds_the_log_full()
     ensures { LogHasNoRoom }
+{}
+
+/// A split takes the number of the page that is free, which comes into memory first; where none is free and
+/// the file may have no more, the line is `full`.
+#[tactic(auto, using(crate::proofs::ChainOfFreePage::free_page_is_taken, crate::proofs::ChainOfFreePage::no_page_is_free))]
+pub fn a_split_takes_a_free_page()
+    ensures taken { FreePageIsTaken }
+    ensures none { NoPageIsFree }
 {}
