@@ -6,3 +6,9 @@ pub mod BoxLocks
 pub mod Changing
 pub mod Waiting
 pub mod Laws
+pub mod Classes
+pub mod Deeds
+pub mod Sights
+pub mod Passing
+pub mod Stages
+pub mod Deciding

@@ -1,5 +1,5 @@
 -- The jobs that wait, in the order in which they came.
-use Rattle.std.specs.Prelude.{◌≡◌, ◌≢◌, ◌≤◌, List, ◌∷◌, ◌++◌, Bool, true, false, length, All, AllPairs}
+use Rattle.std.specs.Prelude.{◌≡◌, ◌≢◌, ◌⊎◌, ◌<◌, ◌≤◌, List, [], ◌∷◌, Contains, Option, Some, None, ◌++◌, Bool, true, false, length, All, AllPairs}
 use Rattle.hb_activity.specs.declared.waiting_jobs.TheConstants.{JOBS}
 use Rattle.hb_activity.specs.declared.jobs.JobKind.{JobKind}
 use Rattle.hb_activity.specs.declared.jobs.JobKind.TheVariants.{Post, Merge}
@@ -28,3 +28,19 @@ pub record LeavesFirst (kind : JobKind) (old : List Job) (job : Job) (new : List
   pub of_kind : job.kind ≡ kind
   pub first : All (λ other. other.kind ≢ kind) front
   pub rest : new ≡ front ++ behind
+
+-- the job that is taken leaves, where one is
+abbrev pub LeavesBy : Option Job → List Job → List Job → Type 0
+LeavesBy None old new = new ≡ old
+LeavesBy (Some job) old new = LeavesFirst job.kind old job new
+
+-- A job joins the queue behind the others, where it doesn't wait already and fewer than 256 do.
+abbrev pub AddsJob : Job → List Job → List Job → Type 0
+AddsJob job old new =
+    (Contains old job × (new ≡ old))
+    ⊎ ((¬ (Contains old job)) × (length old < JOBS) × (new ≡ old ++ job ∷ []))
+    ⊎ ((¬ (Contains old job)) × (JOBS ≤ length old) × (new ≡ old))
+
+abbrev pub AddsJobs : List Job → List Job → List Job → Type 0
+AddsJobs [] old new = new ≡ old
+AddsJobs (job ∷ rest) old new = (more : List Job) × AddsJob job old more × AddsJobs rest more new

@@ -13,6 +13,8 @@
 mod activities;
 mod box_locks;
 mod changing;
+mod deciding;
+mod dropping;
 mod holding;
 mod jobs;
 pub mod laws;
@@ -23,6 +25,8 @@ mod wanting;
 
 pub use activities::Activity;
 pub use box_locks::BoxLock;
+pub use deciding::{Fate, Next};
+pub use dropping::DropWhy;
 pub use holding::Latch;
 pub use jobs::{Job, JobKind};
 pub use waiting_jobs::{JOBS, Jobs};

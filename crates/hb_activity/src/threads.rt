@@ -2,7 +2,7 @@
 
 ghost use Rattle.std.specs.Thread.{IsSend, IsSync};
 
-use crate::{Activity, BoxLock, Job, JobKind, Jobs, Latch, Wanted};
+use crate::{Activity, BoxLock, DropWhy, Fate, Job, JobKind, Jobs, Latch, Next, Wanted};
 
 /// Each type of the crate does.
 fn types_cross_threads() {
@@ -13,6 +13,9 @@ fn types_cross_threads() {
     crosses::<Latch>();
     crosses::<Wanted>();
     crosses::<BoxLock>();
+    crosses::<DropWhy>();
+    crosses::<Fate>();
+    crosses::<Next>();
 }
 
 /// Values of the type may go to another thread, and be read by several.

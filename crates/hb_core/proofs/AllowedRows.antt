@@ -7,62 +7,65 @@ use Rattle.std.specs.declared.cmp.Ordering.{Ordering}
 use Rattle.std.specs.declared.cmp.Ordering.TheVariants.{Less, Equal, Greater}
 use Rattle.std.proofs.lemmas.Bool.{cases_lt}
 use Rattle.std.proofs.lemmas.List.Elements.{All-append, All-cons, All-contains, All-head, All-nil}
-use Rattle.hb_space.specs.Boxes.{Area, Holds, common_area, side_below, side_from}
-use Rattle.hb_space.specs.Points.{point_cmp}
 use Rattle.hb_space.specs.declared.records.Record.{Record}
 use Rattle.hb_frag.specs.declared.leaves.Leaf.TheVariants.{Records, Child}
 use Rattle.hb_frag.specs.declared.pages.LivePage.{LivePage}
 use Rattle.hb_frag.specs.declared.pages.Page.{Page}
 use Rattle.hb_frag.specs.declared.pages.Page.TheVariants.{Live, Free}
 use Rattle.hb_frag.specs.declared.paths.Side.{Side}
-use Rattle.hb_frag.specs.Trees.{Tree, Tip, Cut}
+use Rattle.hb_layout.specs.declared.meta.Meta.{Meta}
+use Rattle.hb_ops.specs.declared.operations.Op.{Op}
+use Rattle.hb_ops.specs.declared.operations.Op.TheVariants as ops
+use Rattle.hb_set.specs.declared.commands.Command.{Command}
+use Rattle.hb_set.specs.declared.commands.Command.TheVariants.{Insert, Delete, Lookup, Search}
+use Rattle.hb_set.specs.declared.scripts.Line.{Line}
+use Rattle.hb_terms.specs.declared.plans.PostPlan.{PostPlan}
+use Rattle.hb_terms.specs.declared.plans.PostPlan.TheVariants as plans
+use Rattle.hb_activity.specs.declared.jobs.Job.{Job}
+use Rattle.hb_activity.specs.declared.wanting.Wanted.{Wanted}
+use Rattle.hb_activity.specs.declared.activities.Activity.{Activity}
+use Rattle.hb_activity.specs.declared.activities.Activity.TheVariants as at
+use Rattle.hb_activity.specs.Deeds.{Deed}
+use Rattle.hb_activity.specs.Passing.{PassesOn, PartLeavesTo}
+use Rattle.hb_activity.specs.Sights.{Sight}
+use Rattle.hb_activity.specs.Walks.{goal_of}
+use Rattle.hb_core.proofs.Backing.{live_there}
+use Rattle.hb_core.proofs.BroughtPages.{both_there}
+use Rattle.hb_core.proofs.KeptPages.{KeepsPages, brought, keeps_pages}
+use Rattle.hb_core.proofs.MergerMoves.{merger_moves}
+use Rattle.hb_core.proofs.NextNumbers.{is_next_number}
+use Rattle.hb_core.specs.AllowedLaws.{AnyPage, HalfHasRoom, RowsAreAllowed}
+use Rattle.hb_core.specs.Asking.{wanted_by}
+use Rattle.hb_core.specs.Fetching.{Brings}
+use Rattle.hb_core.specs.Keeps.{KnowsRoom, LacksRoomFor}
+use Rattle.hb_core.specs.Machines.{Machine, with_disk, sight}
+use Rattle.hb_core.specs.Rows.{DoesHere, Row, RowAlone, RowAt}
+use Rattle.hb_frag.proofs.CarvedKinds.{carved_light}
+use Rattle.hb_frag.proofs.Tiles.{first_tells, found_where_held, tiles_attributes}
 use Rattle.hb_frag.specs.Leaves.{Placed, leaf_at, leaves, leaves_of, weight_of}
 use Rattle.hb_frag.specs.Paths.{part_at}
 use Rattle.hb_frag.specs.Rules.{BelongsAt}
-use Rattle.hb_frag.proofs.CarvedKinds.{carved_light}
-use Rattle.hb_frag.proofs.Tiles.{first_tells, found_where_held, tiles_attributes}
-use Rattle.hb_layout.specs.declared.meta.Meta.{Meta}
+use Rattle.hb_frag.specs.Trees.{Tree, Tip, Cut}
+use Rattle.hb_ops.proofs.Opened.{weight_changed}
 use Rattle.hb_ops.specs.Allocating.{Allocates}
 use Rattle.hb_ops.specs.Files.{if_live}
 use Rattle.hb_ops.specs.Operations.{IsAllowedOn}
 use Rattle.hb_ops.specs.Posting.{posted}
 use Rattle.hb_ops.specs.Recording.{joined, put_page}
 use Rattle.hb_ops.specs.Standing.{StandsNot, StandsThere}
-use Rattle.hb_ops.specs.declared.operations.Op.{Op}
-use Rattle.hb_ops.specs.declared.operations.Op.TheVariants as ops
-use Rattle.hb_ops.proofs.Opened.{weight_changed}
-use Rattle.hb_set.specs.declared.commands.Command.{Command}
-use Rattle.hb_set.specs.declared.commands.Command.TheVariants.{Insert, Delete, Lookup, Search}
-use Rattle.hb_set.specs.declared.scripts.Line.{Line}
+use Rattle.hb_poster.specs.PosterRows.{DoesPlan, after_look}
+use Rattle.hb_search.specs.SearchRows.{SearchGoesOn}
+use Rattle.hb_space.specs.Boxes.{Area, Holds, common_area, side_below, side_from}
+use Rattle.hb_space.specs.Points.{point_cmp}
 use Rattle.hb_split.proofs.Allowed.{is_allowed}
 use Rattle.hb_split.proofs.Ends.{is_thirds}
-use Rattle.hb_terms.specs.Plans.{IsPlan, LacksRoom}
-use Rattle.hb_terms.specs.declared.plans.PostPlan.{PostPlan}
-use Rattle.hb_terms.specs.declared.plans.PostPlan.TheVariants as plans
-use Rattle.hb_terms.proofs.Owing.{planned_may_be, room_told}
-use Rattle.hb_activity.specs.declared.jobs.Job.{Job}
-use Rattle.hb_activity.specs.declared.wanting.Wanted.{Wanted}
-use Rattle.hb_activity.specs.declared.activities.Activity.{Activity}
-use Rattle.hb_activity.specs.declared.activities.Activity.TheVariants as at
-use Rattle.hb_activity.specs.Walks.{goal_of}
+use Rattle.hb_split.specs.Choosing.{IsChosen}
+use Rattle.hb_store.proofs.MadeLeaves.{back_all, front_all}
 use Rattle.hb_store.specs.Calls.{IsAllowedHere}
 use Rattle.hb_store.specs.NextPage.{IsNext}
 use Rattle.hb_store.specs.States.{IsGoodPage, StoreState, in_memory}
-use Rattle.hb_core.specs.Machines.{Machine, with_disk}
-use Rattle.hb_core.specs.Asking.{wanted_by}
-use Rattle.hb_core.specs.Fetching.{Brings}
-use Rattle.hb_core.specs.Deeds.{Deed}
-use Rattle.hb_core.specs.Keeps.{KnowsRoom, LacksRoomFor}
-use Rattle.hb_core.specs.SearchRows.{SearchGoesOn}
-use Rattle.hb_core.specs.SessionRows.{DoesThere, PassesOn}
-use Rattle.hb_core.specs.SplitRows.{PartLeavesTo}
-use Rattle.hb_core.specs.WorkerRows.{DoesPlan, after_look}
-use Rattle.hb_core.specs.Rows.{Row, RowAlone, RowAt}
-use Rattle.hb_core.specs.AllowedLaws.{AnyPage, HalfHasRoom, RowsAreAllowed}
-use Rattle.hb_core.proofs.Backing.{live_there}
-use Rattle.hb_core.proofs.KeptPages.{KeepsPages, brought, keeps_pages}
-use Rattle.hb_store.proofs.MadeLeaves.{back_all, front_all}
-use Rattle.hb_core.proofs.MergerMoves.{merger_moves}
+use Rattle.hb_terms.proofs.Owing.{planned_may_be, room_told}
+use Rattle.hb_terms.specs.Plans.{IsPlan, LacksRoom}
 
 -- ---- leaves belong at the level of their page
 
@@ -156,8 +159,8 @@ module _ (st : StoreState) (keeps : KeepsPages st) where
   grow_allowed fresh free_after room next low = record { allocates = allocates fresh free_after room next; height = low }
 
   -- a part that is chosen may leave a page that weighs 6 or more
-  pub split_allowed : (id : ℕ) (page : LivePage) (leaves : PartLeavesTo st page) → if_live (in_memory st id) ≡ Some page → 6 ≤ weight_of page.frag → IsAllowedHere st (ops.Extract id leaves.fresh leaves.path leaves.cuts leaves.free_after)
-  split_allowed id page leaves live full =
+  pub split_allowed : (id : ℕ) (page : LivePage) (s : Sight) (leaves : PartLeavesTo s (IsChosen page) page) → s.meta ≡ st.meta → IsNext st leaves.fresh leaves.free_after → if_live (in_memory st id) ≡ Some page → 6 ≤ weight_of page.frag → IsAllowedHere st (ops.Extract id leaves.fresh leaves.path leaves.cuts leaves.free_after)
+  split_allowed id page s leaves meta next live full =
       let good = good_live id page live in
       let n = weight_of page.frag in
       let chosen = leaves.chosen in
@@ -165,7 +168,7 @@ module _ (st : StoreState) (keeps : KeepsPages st) where
       let thirds = is_thirds n page leaves.path leaves.cuts full refl chosen.way good.1.in_order parts in
       let may = is_allowed n page leaves.path leaves.cuts full refl chosen.way good.1.in_order parts thirds in
       by_read (ops.Extract id leaves.fresh leaves.path leaves.cuts leaves.free_after) id page _ _ live (record {
-        allocates = allocates leaves.fresh leaves.free_after leaves.free leaves.next;
+        allocates = allocates leaves.fresh leaves.free_after (subst (λ (x : Meta). x.live < x.pages) meta leaves.free) next;
         made = good.1;
         part = may.part;
         fits = record {
@@ -211,7 +214,7 @@ module _ (st : StoreState) (keeps : KeepsPages st) where
 
 -- ---- the rows
 
-module _ (m : Machine) (actor : ℕ) (may : ℕ → Type 0) (fetched : StoreState) (keeps : KeepsPages fetched) (room : KnowsRoom m) (brings : Brings m.files may m.store fetched) where
+module _ (m : Machine) (actor : ℕ) (may : ℕ → Type 0) (fetched : StoreState) (keeps : KeepsPages fetched) (room : KnowsRoom m) (brings : Brings m may fetched) where
   abbrev pub m' : Machine
   m' = with_disk fetched m.files m.clock m
 
@@ -231,10 +234,8 @@ module _ (m : Machine) (actor : ℕ) (may : ℕ → Type 0) (fetched : StoreStat
       same : (a b : Op) → Some a ≡ Some b → a ≡ b
       same a b is = cc
 
-  stays_live : (id : ℕ) (page : LivePage) → if_live (in_memory m.store id) ≡ Some page → if_live (in_memory fetched id) ≡ Some page
-  stays_live id page live =
-      let there = live_there (in_memory m.store id) page live in
-      ap if_live (brings.stays id (subst (λ (o : Option Page). IsSome o) (sym there) refl)) ∙ live
+  stays_live : (id : ℕ) (page now : LivePage) → if_live (in_memory m.store id) ≡ Some page → if_live (in_memory fetched id) ≡ Some now → if_live (in_memory fetched id) ≡ Some page
+  stays_live id page now live here = both_there m _ fetched brings id page now live here
 
   dcap_same : m.store.meta.dcap ≡ fetched.meta.dcap
   dcap_same = sym (ap (λ (m : Meta). m.dcap) brings.rest.meta)
@@ -243,7 +244,7 @@ module _ (m : Machine) (actor : ℕ) (may : ℕ → Type 0) (fetched : StoreStat
   lacking_weighs : (held : ℕ) (p body : List ℕ) (page : LivePage) → LacksRoomFor m held p body → if_live (in_memory fetched held) ≡ Some page → 6 ≤ weight_of page.frag
   lacking_weighs held p body page lacks live =
       let rec : Record = record { key = p; body = body } in
-      let now = stays_live held lacks.page lacks.live in
+      let now = stays_live held lacks.page page lacks.live live in
       let same : lacks.page ≡ page = same_page lacks.page page (sym now ∙ live) in
       let weighs = put_weighs fetched.meta lacks.page rec (good_live fetched keeps held lacks.page now) lacks.absent in
       let full : 6 ≤ weight_of lacks.page.frag = omega (arith, weighs, lacks.full, dcap_same, keeps.limits.layout.dcap_least) in
@@ -252,11 +253,11 @@ module _ (m : Machine) (actor : ℕ) (may : ℕ → Type 0) (fetched : StoreStat
       same_page : (a b : LivePage) → Some a ≡ Some b → a ≡ b
       same_page a b is = cc
 
-  shown_search : (line : Line) (boxes : List Area) (found : List Record) (deed : Deed) → SearchGoesOn m' line boxes found deed → Shown deed
+  shown_search : (line : Line) (boxes : List Area) (found : List Record) (deed : Deed) → SearchGoesOn (sight m') line boxes found deed → Shown deed
   shown_search line [] found deed (ordered, same, rising, is) = none_shown deed _ is refl
   shown_search line (area ∷ rest) found deed is = none_shown deed _ is refl
 
-  shown_there : (line : Line) (command : Command) (rest : List Area) (found : List Record) (id : ℕ) (page : LivePage) (p : List ℕ) (deed : Deed) → if_live (in_memory fetched id) ≡ Some page → DoesThere m' line command rest found id page p deed → Shown deed
+  shown_there : (line : Line) (command : Command) (rest : List Area) (found : List Record) (id : ℕ) (page : LivePage) (p : List ℕ) (deed : Deed) → if_live (in_memory fetched id) ≡ Some page → DoesHere (sight m') line command rest found id page p deed → Shown deed
   shown_there line (Insert rec) rest found id page p deed live (inl row) = none_shown deed _ row.deed_is refl
   shown_there line (Insert rec) rest found id page p deed live (inr (inl row)) = one_shown deed _ (ops.Put id rec) row.deed_is refl (put_allowed fetched keeps id rec page live row.absent row.room)
   shown_there line (Insert rec) rest found id page p deed live (inr (inr row)) = none_shown deed _ row.deed_is refl
@@ -267,24 +268,24 @@ module _ (m : Machine) (actor : ℕ) (may : ℕ → Type 0) (fetched : StoreStat
   shown_there line (Search area) rest found id page p deed live row = shown_search line _ _ deed row.goes
 
   shown_walk : (line : Line) (rest : List Area) (found : List Record) (id : ℕ) (page : LivePage) (deed : Deed) (goal : Option (List ℕ)) → if_live (in_memory fetched id) ≡ Some page
-      → MatchOption goal ⊥ (λ p. PassesOn page p m' (at.SessionWalk line (Some id) rest found) deed ⊎ DoesThere m' line line.command rest found id page p deed) → Shown deed
+      → MatchOption goal ⊥ (λ p. PassesOn page p (at.SessionWalk line (Some id) rest found) deed ⊎ DoesHere (sight m') line line.command rest found id page p deed) → Shown deed
   shown_walk line rest found id page deed None live never = absurd never
   shown_walk line rest found id page deed (Some p) live (inl row) = none_shown deed _ row.deed_is refl
   shown_walk line rest found id page deed (Some p) live (inr row) = shown_there line line.command rest found id page p deed live row
 
-  shown_put : (line : Line) (source fresh half : ℕ) (rec : Record) (deed other : Deed) → m.activity actor ≡ at.SessionPut line source fresh → deed ≡ other → other.op ≡ Some (ops.Put half rec) → Shown deed
-  shown_put line source fresh half rec deed other is deed_is put op said has =
+  shown_put : (line : Line) (source fresh half : ℕ) (rec : Record) (put_into : LivePage) (deed other : Deed) → if_live (in_memory fetched half) ≡ Some put_into → m.activity actor ≡ at.SessionPut line source fresh → deed ≡ other → other.op ≡ Some (ops.Put half rec) → Shown deed
+  shown_put line source fresh half rec put_into deed other put_live is deed_is put op said has =
       let both : Some (ops.Put half rec) ≡ Some op = sym put ∙ sym (ap (λ (d : Deed). d.op) deed_is) ∙ said in
       let same : ops.Put half rec ≡ op = cc in
       let here = has line source fresh half rec is (sym same) in
-      subst (IsAllowedHere fetched) same (put_allowed fetched keeps half rec here.page (stays_live half here.page here.live) here.absent (subst (λ (n : ℕ). weight_of (put_page rec here.page).frag ≤ n) dcap_same here.room))
+      subst (IsAllowedHere fetched) same (put_allowed fetched keeps half rec here.page (stays_live half here.page put_into here.live put_live) here.absent (subst (λ (n : ℕ). weight_of (put_page rec here.page).frag ≤ n) dcap_same here.room))
 
-  shown_alone : (activity : Activity) (deed : Deed) → m.activity actor ≡ activity → RowAlone activity m' deed → Shown deed
+  shown_alone : (activity : Activity) (deed : Deed) → m.activity actor ≡ activity → RowAlone activity (sight m') deed → Shown deed
   shown_alone (at.SessionSplit line held) deed is (inl row) = none_shown deed _ row.deed_is refl
   shown_alone (at.SessionSplit line held) deed is (inr row) =
       let lacks = room.splits actor held line is in
-      one_shown deed _ _ row.deed_is refl (split_allowed fetched keeps held row.page row.leaves row.live (lacking_weighs held lacks.0.key lacks.0.body row.page lacks.2 row.live))
-  shown_alone (at.SessionPut line source fresh) deed is row = shown_put line source fresh row.half row.rec deed _ is row.deed_is refl
+      one_shown deed _ _ row.deed_is refl (split_allowed fetched keeps held row.page (sight m') row.leaves refl (is_next_number fetched row.leaves.fresh row.leaves.free_after row.leaves.next) row.live (lacking_weighs held lacks.0.key lacks.0.body row.page lacks.2 row.live))
+  shown_alone (at.SessionPut line source fresh) deed is row = shown_put line source fresh row.half row.rec row.page deed _ row.live is row.deed_is refl
   shown_alone at.SessionIdle deed is row = absurd row
   shown_alone (at.SessionWalk line held rest found) deed is row = absurd row
   shown_alone (at.SessionAwait line reply place) deed is row = absurd row
@@ -303,20 +304,20 @@ module _ (m : Machine) (actor : ℕ) (may : ℕ → Type 0) (fetched : StoreStat
   shown_alone (at.ConsolidatorDecide job parent keep gone) deed is row = absurd row
   shown_alone at.Flusher deed is row = absurd row
 
-  shown_look : (job : Job) (parent : ℕ) (plan : PostPlan) (deed : Deed) → deed ≡ after_look m' job parent plan → Shown deed
+  shown_look : (job : Job) (parent : ℕ) (plan : PostPlan) (deed : Deed) → deed ≡ after_look job parent plan → Shown deed
   shown_look job parent plans.Nothing deed is = none_shown deed _ is refl
   shown_look job parent (plans.Post path inner area) deed is = none_shown deed _ is refl
   shown_look job parent plans.SplitFirst deed is = none_shown deed _ is refl
 
-  shown_plan : (job : Job) (parent other : ℕ) (page child : LivePage) (plan : PostPlan) (deed : Deed) → if_live (in_memory fetched parent) ≡ Some page → if_live (in_memory fetched other) ≡ Some child → IsPlan page child job.point fetched.meta.icap plan → DoesPlan m' job parent page plan deed → Shown deed
+  shown_plan : (job : Job) (parent other : ℕ) (page child : LivePage) (plan : PostPlan) (deed : Deed) → if_live (in_memory fetched parent) ≡ Some page → if_live (in_memory fetched other) ≡ Some child → IsPlan page child job.point fetched.meta.icap plan → DoesPlan (sight m') job parent page plan deed → Shown deed
   shown_plan job parent other page child plans.Nothing deed live child_live plan is = none_shown deed _ is refl
   shown_plan job parent other page child (plans.Post path inner area) deed live child_live plan is = one_shown deed _ _ is refl (post_allowed fetched keeps parent path inner area page child other job.point live child_live plan)
   shown_plan job parent other page child plans.SplitFirst deed live child_live plan (inl row) = none_shown deed _ row.deed_is refl
-  shown_plan job parent other page child plans.SplitFirst deed live child_live plan (inr row) = one_shown deed _ _ row.deed_is refl (split_allowed fetched keeps parent page row.leaves live (heavy_parent fetched keeps parent page child job.point live plan))
+  shown_plan job parent other page child plans.SplitFirst deed live child_live plan (inr row) = one_shown deed _ _ row.deed_is refl (split_allowed fetched keeps parent page (sight m') row.leaves refl (is_next_number fetched row.leaves.fresh row.leaves.free_after row.leaves.next) live (heavy_parent fetched keeps parent page child job.point live plan))
 
-  shown_at : (activity : Activity) (id : ℕ) (page : LivePage) (deed : Deed) → if_live (in_memory fetched id) ≡ Some page → RowAt activity m' id page deed → Shown deed
+  shown_at : (activity : Activity) (id : ℕ) (page : LivePage) (deed : Deed) → if_live (in_memory fetched id) ≡ Some page → RowAt activity (sight m') id page deed → Shown deed
   shown_at (at.SessionWalk line held rest found) id page deed live row = shown_walk line rest found id page deed (goal_of line.command rest) live row
-  shown_at (at.PosterGrow job) id page deed live (inl row) = one_shown deed _ _ row.deed_is refl (grow_allowed fetched keeps row.fresh row.free_after row.free row.next row.may.below)
+  shown_at (at.PosterGrow job) id page deed live (inl row) = one_shown deed _ _ row.deed_is refl (grow_allowed fetched keeps row.fresh row.free_after row.free (is_next_number fetched row.fresh row.free_after row.next) row.may.below)
   shown_at (at.PosterGrow job) id page deed live (inr row) = none_shown deed _ row.deed_is refl
   shown_at (at.PosterWalk job held) id page deed live (inl row) = none_shown deed _ row.deed_is refl
   shown_at (at.PosterWalk job held) id page deed live (inr row) = none_shown deed _ row.passes.deed_is refl

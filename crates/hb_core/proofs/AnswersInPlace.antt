@@ -1,7 +1,6 @@
 -- A line is answered once its place in the order is settled, or outside of the order.
 use Rattle.std.proofs.Common.{◌≡◌, ◌⊎◌, inl, inr, ℕ, Bool, true, false, List, [], ◌∷◌, Option, Some, None, refl, sym, subst}
 use Rattle.std.specs.Prelude.{MatchOption}
-use Rattle.hb_space.specs.Boxes.{Area}
 use Rattle.hb_space.specs.declared.records.Record.{Record}
 use Rattle.hb_frag.specs.declared.pages.LivePage.{LivePage}
 use Rattle.hb_set.specs.declared.commands.Command.{Command}
@@ -15,26 +14,30 @@ use Rattle.hb_activity.specs.declared.jobs.Job.{Job}
 use Rattle.hb_activity.specs.declared.wanting.Wanted.{Wanted}
 use Rattle.hb_activity.specs.declared.activities.Activity.{Activity}
 use Rattle.hb_activity.specs.declared.activities.Activity.TheVariants as at
-use Rattle.hb_activity.specs.Walks.{goal_of}
 use Rattle.hb_store.specs.declared.stops.StopWhy.{StopWhy}
-use Rattle.hb_core.specs.declared.outcomes.DropWhy.{DropWhy}
-use Rattle.hb_core.specs.declared.outcomes.DropWhy.TheVariants as drops
+use Rattle.hb_activity.specs.declared.dropping.DropWhy.{DropWhy}
+use Rattle.hb_activity.specs.declared.dropping.DropWhy.TheVariants as drops
 use Rattle.hb_core.specs.declared.outcomes.Outcome.{Outcome}
 use Rattle.hb_core.specs.declared.outcomes.Outcome.TheVariants as outcomes
-use Rattle.hb_core.specs.Machines.{Machine}
-use Rattle.hb_core.specs.Deeds.{Deed, answers_now}
-use Rattle.hb_core.specs.Performing.{Performs}
-use Rattle.hb_core.specs.Stages.{flusher_steps}
+use Rattle.hb_activity.specs.Deeds.{Deed, answers_now}
+use Rattle.hb_activity.specs.Passing.{PassesOn}
+use Rattle.hb_activity.specs.Sights.{Sight}
+use Rattle.hb_activity.specs.Walks.{goal_of}
+use Rattle.hb_core.proofs.GivenUp.{given_up_is, run_out_is}
+use Rattle.hb_core.proofs.MergerMoves.{merger_moves}
 use Rattle.hb_core.specs.Forcing.{Flushes, ForcesFirst, StaysSo}
 use Rattle.hb_core.specs.GivingUp.{gives_up, reply_for, runs_out}
-use Rattle.hb_core.specs.SearchRows.{SearchGoesOn}
-use Rattle.hb_core.specs.SessionRows.{DoesThere, PassesOn, next_line, taking}
-use Rattle.hb_core.specs.WorkerRows.{DoesPlan, after_look}
-use Rattle.hb_core.specs.Rows.{Row, RowAlone, RowAt}
-use Rattle.hb_core.specs.KeptOrder.{StandsOutside}
 use Rattle.hb_core.specs.KeepingLaws.{AnswersAreInPlace, IsAnsweredInPlace}
-use Rattle.hb_core.specs.Steps.{AwaitsPlace, StepsAs, TakesJobToMerge, TakesPosting, WantsBoxes, Works}
-use Rattle.hb_core.proofs.MergerMoves.{merger_moves}
+use Rattle.hb_core.specs.KeptOrder.{StandsOutside}
+use Rattle.hb_core.specs.Machines.{Machine, sight}
+use Rattle.hb_core.specs.Performing.{Performs, outcome_of}
+use Rattle.hb_core.specs.Rows.{DoesHere, Row, RowAlone, RowAt}
+use Rattle.hb_core.specs.Stages.{flusher_steps}
+use Rattle.hb_core.specs.Steps.{AwaitsPlace, StepsAs, TakesJobToMerge, TakesPosting, Works}
+use Rattle.hb_point.specs.SessionRows.{next_line, taking, WantsBoxes}
+use Rattle.hb_poster.specs.PosterRows.{DoesPlan, after_look}
+use Rattle.hb_search.specs.SearchRows.{SearchGoesOn}
+use Rattle.hb_space.specs.Boxes.{Area}
 
 -- what is given up is answered outside of the order
 reply_outside : (why : DropWhy) → StandsOutside (reply_for why)
@@ -45,15 +48,22 @@ module _ (m : Machine) (actor : ℕ) where
   abbrev InPlace : Outcome → Type 0
   InPlace outcome = IsAnsweredInPlace m actor outcome
 
-  by_deed : (deed other : Deed) → deed ≡ other → InPlace other.says → InPlace deed.says
-  by_deed deed other is says = subst (λ (d : Deed). InPlace d.says) (sym is) says
+  -- what a deed comes to says so
+  abbrev SaysInPlace : Deed → Type 0
+  SaysInPlace deed = InPlace (outcome_of deed.says)
 
-  module _ (now : Machine) where
-    searched : (line : Line) (boxes : List Area) (found : List Record) (deed : Deed) → SearchGoesOn now line boxes found deed → InPlace deed.says
+  by_deed : (deed other : Deed) → deed ≡ other → SaysInPlace other → SaysInPlace deed
+  by_deed deed other is says = subst (λ (d : Deed). SaysInPlace d) (sym is) says
+
+  module _ (n : Machine) where
+    abbrev now : Sight
+    now = sight n
+
+    searched : (line : Line) (boxes : List Area) (found : List Record) (deed : Deed) → SearchGoesOn now line boxes found deed → SaysInPlace deed
     searched line [] found deed (ordered, same, rising, is) = by_deed deed _ is tt
     searched line (area ∷ boxes) found deed is = by_deed deed _ is tt
 
-    commanded : (line : Line) (command : Command) (rest : List Area) (found : List Record) (id : ℕ) (page : LivePage) (p : List ℕ) (deed : Deed) → DoesThere now line command rest found id page p deed → InPlace deed.says
+    commanded : (line : Line) (command : Command) (rest : List Area) (found : List Record) (id : ℕ) (page : LivePage) (p : List ℕ) (deed : Deed) → DoesHere now line command rest found id page p deed → SaysInPlace deed
     commanded line (Insert rec) rest found id page p deed (inl row) = by_deed deed _ row.deed_is tt
     commanded line (Insert rec) rest found id page p deed (inr (inl row)) = by_deed deed _ row.deed_is tt
     commanded line (Insert rec) rest found id page p deed (inr (inr row)) = by_deed deed _ row.deed_is tt
@@ -63,23 +73,23 @@ module _ (m : Machine) (actor : ℕ) where
     commanded line (Lookup point) rest found id page p deed (inr row) = by_deed deed _ row.deed_is tt
     commanded line (Search area) rest found id page p deed row = searched line _ _ deed row.goes
 
-    walked : (line : Line) (rest : List Area) (found : List Record) (id : ℕ) (page : LivePage) (goal : Option (List ℕ)) (deed : Deed) → MatchOption goal ⊥ (λ p. PassesOn page p now (at.SessionWalk line (Some id) rest found) deed ⊎ DoesThere now line line.command rest found id page p deed) → InPlace deed.says
+    walked : (line : Line) (rest : List Area) (found : List Record) (id : ℕ) (page : LivePage) (goal : Option (List ℕ)) (deed : Deed) → MatchOption goal ⊥ (λ p. PassesOn page p (at.SessionWalk line (Some id) rest found) deed ⊎ DoesHere now line line.command rest found id page p deed) → SaysInPlace deed
     walked line rest found id page None deed row = absurd row
     walked line rest found id page (Some p) deed (inl row) = by_deed deed _ row.deed_is tt
     walked line rest found id page (Some p) deed (inr row) = commanded line line.command rest found id page p deed row
 
-    looked : (job : Job) (parent : ℕ) (plan : PostPlan) (deed : Deed) → deed ≡ after_look now job parent plan → InPlace deed.says
+    looked : (job : Job) (parent : ℕ) (plan : PostPlan) (deed : Deed) → deed ≡ after_look job parent plan → SaysInPlace deed
     looked job parent plans.Nothing deed is = by_deed deed _ is tt
     looked job parent (plans.Post way inner area) deed is = by_deed deed _ is tt
     looked job parent plans.SplitFirst deed is = by_deed deed _ is tt
 
-    planned : (job : Job) (parent : ℕ) (page : LivePage) (plan : PostPlan) (deed : Deed) → DoesPlan now job parent page plan deed → InPlace deed.says
+    planned : (job : Job) (parent : ℕ) (page : LivePage) (plan : PostPlan) (deed : Deed) → DoesPlan now job parent page plan deed → SaysInPlace deed
     planned job parent page plans.Nothing deed is = by_deed deed _ is tt
     planned job parent page (plans.Post way inner area) deed is = by_deed deed _ is tt
     planned job parent page plans.SplitFirst deed (inl row) = by_deed deed _ row.deed_is tt
     planned job parent page plans.SplitFirst deed (inr row) = by_deed deed _ row.deed_is tt
 
-    row_alone : (activity : Activity) (deed : Deed) → RowAlone activity now deed → InPlace deed.says
+    row_alone : (activity : Activity) (deed : Deed) → RowAlone activity now deed → SaysInPlace deed
     row_alone (at.SessionSplit line held) deed (inl row) = by_deed deed _ row.deed_is (inl tt)
     row_alone (at.SessionSplit line held) deed (inr row) = by_deed deed _ row.deed_is tt
     row_alone (at.SessionPut line source fresh) deed row = by_deed deed _ row.deed_is tt
@@ -101,7 +111,7 @@ module _ (m : Machine) (actor : ℕ) where
     row_alone (at.ConsolidatorDecide job parent keep gone) deed row = absurd row
     row_alone at.Flusher deed row = absurd row
 
-    row_at : (activity : Activity) (id : ℕ) (page : LivePage) (deed : Deed) → RowAt activity now id page deed → InPlace deed.says
+    row_at : (activity : Activity) (id : ℕ) (page : LivePage) (deed : Deed) → RowAt activity now id page deed → SaysInPlace deed
     row_at (at.SessionWalk line held rest found) id page deed row = walked line rest found id page (goal_of line.command rest) deed row
     row_at (at.PosterGrow job) id page deed (inl row) = by_deed deed _ row.deed_is tt
     row_at (at.PosterGrow job) id page deed (inr row) = by_deed deed _ row.deed_is tt
@@ -116,61 +126,25 @@ module _ (m : Machine) (actor : ℕ) where
     row_at (at.SessionAwait line reply place) id page deed row = absurd row
     row_at at.PosterIdle id page deed row = absurd row
     row_at at.ConsolidatorIdle id page deed row = absurd row
-    row_at (at.ConsolidatorWalk job held) id page deed row = by_deed deed _ (merger_moves now (at.ConsolidatorWalk job held) id page deed tt row).is tt
-    row_at (at.ConsolidatorScan job parent child) id page deed row = by_deed deed _ (merger_moves now (at.ConsolidatorScan job parent child) id page deed tt row).is tt
-    row_at (at.ConsolidatorTry job parent keep gone leaf) id page deed row = by_deed deed _ (merger_moves now (at.ConsolidatorTry job parent keep gone leaf) id page deed tt row).is tt
-    row_at (at.ConsolidatorPromote job parent keep gone) id page deed row = by_deed deed _ (merger_moves now (at.ConsolidatorPromote job parent keep gone) id page deed tt row).is tt
-    row_at (at.ConsolidatorKeep job parent keep gone) id page deed row = by_deed deed _ (merger_moves now (at.ConsolidatorKeep job parent keep gone) id page deed tt row).is tt
-    row_at (at.ConsolidatorDecide job parent keep gone) id page deed row = by_deed deed _ (merger_moves now (at.ConsolidatorDecide job parent keep gone) id page deed tt row).is tt
+    row_at (at.ConsolidatorWalk job held) id page deed row = by_deed deed _ (merger_moves n (at.ConsolidatorWalk job held) id page deed tt row).is tt
+    row_at (at.ConsolidatorScan job parent child) id page deed row = by_deed deed _ (merger_moves n (at.ConsolidatorScan job parent child) id page deed tt row).is tt
+    row_at (at.ConsolidatorTry job parent keep gone leaf) id page deed row = by_deed deed _ (merger_moves n (at.ConsolidatorTry job parent keep gone leaf) id page deed tt row).is tt
+    row_at (at.ConsolidatorPromote job parent keep gone) id page deed row = by_deed deed _ (merger_moves n (at.ConsolidatorPromote job parent keep gone) id page deed tt row).is tt
+    row_at (at.ConsolidatorKeep job parent keep gone) id page deed row = by_deed deed _ (merger_moves n (at.ConsolidatorKeep job parent keep gone) id page deed tt row).is tt
+    row_at (at.ConsolidatorDecide job parent keep gone) id page deed row = by_deed deed _ (merger_moves n (at.ConsolidatorDecide job parent keep gone) id page deed tt row).is tt
     row_at at.Flusher id page deed row = absurd row
 
-    row_says : (wanted : Option Wanted) (deed : Deed) → Row (m.activity actor) wanted now deed → InPlace deed.says
-    row_says None deed row = row_alone (m.activity actor) deed row
-    row_says (Some wanted) deed (page, hand, row) = row_at (m.activity actor) wanted.page page deed row
+  row_says : (n : Machine) (wanted : Option Wanted) (deed : Deed) → Row (m.activity actor) wanted n deed → SaysInPlace deed
+  row_says n None deed row = row_alone n (m.activity actor) deed row
+  row_says n (Some wanted) deed (page, hand, row) = row_at n (m.activity actor) wanted.page page deed row
 
   -- ---- what can't go on
 
-  given_up : (why : DropWhy) (activity : Activity) → InPlace (gives_up m why activity).says
-  given_up why at.SessionIdle = tt
-  given_up why (at.SessionWalk line held rest found) = inl (reply_outside why)
-  given_up why (at.SessionSplit line held) = inl (reply_outside why)
-  given_up why (at.SessionPut line source fresh) = inl (reply_outside why)
-  given_up why (at.SessionAwait line reply place) = tt
-  given_up why at.PosterIdle = tt
-  given_up why (at.PosterGrow job) = tt
-  given_up why (at.PosterWalk job held) = tt
-  given_up why (at.PosterChild job parent) = tt
-  given_up why (at.PosterPromote job parent) = tt
-  given_up why (at.PosterAgain job parent) = tt
-  given_up why at.ConsolidatorIdle = tt
-  given_up why (at.ConsolidatorWalk job held) = tt
-  given_up why (at.ConsolidatorScan job parent child) = tt
-  given_up why (at.ConsolidatorTry job parent keep gone leaf) = tt
-  given_up why (at.ConsolidatorPromote job parent keep gone) = tt
-  given_up why (at.ConsolidatorKeep job parent keep gone) = tt
-  given_up why (at.ConsolidatorDecide job parent keep gone) = tt
-  given_up why at.Flusher = tt
+  given_up : (why : DropWhy) (activity : Activity) → SaysInPlace (gives_up why activity)
+  given_up why activity = given_up_is SaysInPlace why activity (λ line is. inl (reply_outside why)) (λ job is. tt) (λ is. tt)
 
-  ran_out : (activity : Activity) → InPlace (runs_out m activity).says
-  ran_out at.SessionIdle = tt
-  ran_out (at.SessionWalk line held rest found) = inl tt
-  ran_out (at.SessionSplit line held) = inl tt
-  ran_out (at.SessionPut line source fresh) = inl tt
-  ran_out (at.SessionAwait line reply place) = tt
-  ran_out at.PosterIdle = tt
-  ran_out (at.PosterGrow job) = tt
-  ran_out (at.PosterWalk job held) = tt
-  ran_out (at.PosterChild job parent) = tt
-  ran_out (at.PosterPromote job parent) = tt
-  ran_out (at.PosterAgain job parent) = tt
-  ran_out at.ConsolidatorIdle = tt
-  ran_out (at.ConsolidatorWalk job held) = tt
-  ran_out (at.ConsolidatorScan job parent child) = tt
-  ran_out (at.ConsolidatorTry job parent keep gone leaf) = tt
-  ran_out (at.ConsolidatorPromote job parent keep gone) = tt
-  ran_out (at.ConsolidatorKeep job parent keep gone) = tt
-  ran_out (at.ConsolidatorDecide job parent keep gone) = tt
-  ran_out at.Flusher = tt
+  ran_out : (activity : Activity) → SaysInPlace (runs_out activity)
+  ran_out activity = run_out_is SaysInPlace activity (λ line is. inl tt) (λ job is. tt) (λ is. tt)
 
   -- ---- each step
 
@@ -183,33 +157,37 @@ module _ (m : Machine) (actor : ℕ) where
 
     forced : (said : Outcome) → InPlace said → ForcesFirst m said outcome new → InPlace outcome
     forced said in_place (inl well) = by_said said well.0 in_place
-    forced said in_place (inr badly) = by_said _ badly.says tt
+    forced said in_place (inr badly) = by_said _ badly.1.says tt
 
     worked : Works m actor outcome new → InPlace outcome
     worked (inl (by, way, so)) = stayed (outcomes.Blocked by) tt so
     worked (inr (inl (free, unready, inl (waits, force)))) = forced outcomes.Helped tt force
-    worked (inr (inl (free, unready, inr (none, performs)))) = by_said _ performs.says (ran_out (m.activity actor))
-    worked (inr (inr (free, ready, inl acts))) = by_said acts.deed.says acts.performs.says (row_says _ _ acts.deed acts.row)
+    worked (inr (inl (free, unready, inr (none, inl (more, well))))) = by_said _ well.says tt
+    worked (inr (inl (free, unready, inr (none, inr (inl (more, fails)))))) = by_said _ fails.says tt
+    worked (inr (inl (free, unready, inr (none, inr (inr (done, performs)))))) = by_said _ performs.says (ran_out (m.activity actor))
+    worked (inr (inr (free, ready, inl acts))) = by_said _ acts.performs.says (row_says _ _ acts.deed acts.row)
     worked (inr (inr (free, ready, inr (inl gives)))) = by_said _ gives.performs.says (given_up gives.why (m.activity actor))
     worked (inr (inr (free, ready, inr (inr meets)))) = by_said _ meets.says tt
 
-    took_line : (line : Option Line) → MatchOption line (StaysSo m outcomes.Idle outcome new) (λ line. Performs m m.store actor (taking m line) outcome new ⊎ (WantsBoxes line.command × Performs m m.store actor (answers_now m line.number replies.NoMemory) outcome new)) → InPlace outcome
+    took_line : (line : Option Line) → MatchOption line (StaysSo m outcomes.Idle outcome new) (λ line. Performs m m.store actor (taking line) outcome new ⊎ (WantsBoxes line.command × Performs m m.store actor (answers_now line.number replies.NoMemory) outcome new)) → InPlace outcome
     took_line None so = stayed outcomes.Idle tt so
     took_line (Some line) (inl performs) = by_said _ performs.says tt
     took_line (Some line) (inr (boxes, performs)) = by_said _ performs.says (inl tt)
 
     took_posting : TakesPosting m actor outcome new → InPlace outcome
     took_posting (inl (none, so)) = stayed outcomes.Idle tt so
-    took_posting (inr (deed, takes, performs)) = by_said deed.says performs.says (by_deed deed _ takes.deed_is tt)
+    took_posting (inr (deed, takes, performs)) = by_said _ performs.says (by_deed deed _ takes.deed_is tt)
 
     took_merging : TakesJobToMerge m actor outcome new → InPlace outcome
     took_merging (inl (none, so)) = stayed outcomes.Idle tt so
-    took_merging (inr (deed, takes, performs)) = by_said deed.says performs.says (by_deed deed _ takes.deed_is tt)
+    took_merging (inr (deed, takes, performs)) = by_said _ performs.says (by_deed deed _ takes.deed_is tt)
 
     flushed : (on : Bool) → Flushes on m outcome new → InPlace outcome
     flushed false so = stayed outcomes.Idle tt so
     flushed true (inl (waits, force)) = forced outcomes.Moved tt force
-    flushed true (inr (none, so)) = stayed outcomes.Idle tt so
+    flushed true (inr (none, inl (more, well))) = by_said _ well.says tt
+    flushed true (inr (none, inr (inl (more, fails)))) = by_said _ fails.says tt
+    flushed true (inr (none, inr (inr (done, so)))) = stayed outcomes.Idle tt so
 
     awaited : (number : ℕ) (reply : Reply) (place : ℕ) → m.activity actor ≡ at.SessionAwait number reply place → AwaitsPlace m actor number reply place outcome new → InPlace outcome
     awaited number reply place is (inl (settled, performs)) = by_said _ performs.says (inr (place, is, settled))

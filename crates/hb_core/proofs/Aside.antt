@@ -2,87 +2,132 @@
 use Rattle.std.proofs.Common.{◌≡◌, ◌⊎◌, inl, inr, ℕ, ◌++◌, List, [], length, Option, Some, None, IsSome, IsSomeAnd, refl, sym, ap, ◌∙◌, subst, append-nil}
 use Rattle.hb_frag.specs.declared.pages.Page.{Page}
 use Rattle.hb_ops.specs.declared.operations.Op.{Op}
-use Rattle.hb_set.specs.Order.{Entry}
 use Rattle.hb_set.specs.declared.commands.Reply.TheVariants as replies
 use Rattle.hb_set.specs.declared.scripts.Line.{Line}
 use Rattle.hb_activity.specs.declared.jobs.Job.{Job}
 use Rattle.hb_activity.specs.declared.activities.Activity.{Activity}
 use Rattle.hb_activity.specs.declared.activities.Activity.TheVariants as at
-use Rattle.hb_store.specs.States.{StoreState, in_memory}
-use Rattle.hb_core.specs.declared.outcomes.DropWhy.{DropWhy}
-use Rattle.hb_core.specs.declared.outcomes.DropWhy.TheVariants as drops
+use Rattle.hb_activity.specs.declared.dropping.DropWhy.{DropWhy}
+use Rattle.hb_activity.specs.declared.dropping.DropWhy.TheVariants as drops
 use Rattle.hb_core.specs.declared.outcomes.Outcome.{Outcome}
-use Rattle.hb_core.specs.Machines.{Machine, if_some}
-use Rattle.hb_core.specs.Deeds.{AddsJobs, Deed, answers_now}
-use Rattle.hb_core.specs.Fetching.{Brings}
-use Rattle.hb_core.specs.GivingUp.{drops_job, gives_up, job_in_work, reply_for}
-use Rattle.hb_core.specs.KeptLines.{line_in_hand}
-use Rattle.hb_core.specs.Performing.{MayDo, Performs, files_after}
-use Rattle.hb_core.specs.Acting.{Abandons, MayGiveUp, MeetsBadPage}
-use Rattle.hb_core.specs.Forcing.{ForcesBadly}
+use Rattle.hb_activity.specs.declared.wanting.Wanted.{Wanted}
+use Rattle.hb_activity.specs.Classes.{Empty, Hand, HasJob, HasLine, class_of, hand_of, idle_of, job_in_work, job_of, line_in_hand, line_of}
+use Rattle.hb_activity.specs.Deeds.{Deed, answers_now}
+use Rattle.hb_activity.specs.Queue.{AddsJobs, LeavesBy}
+use Rattle.hb_activity.specs.Wanting.{wanted_of}
+use Rattle.hb_core.specs.Acting.{Abandons, GivesUpFor, LacksNeeded, MeetsBadPage, NeedsNumber}
+use Rattle.hb_core.specs.Asking.{looked_live, wanted_by}
+use Rattle.hb_core.specs.Fetching.{Brings, IsWantedPage, MustStay}
+use Rattle.hb_core.specs.Forcing.{FailsToWrite}
+use Rattle.hb_core.specs.GivingUp.{drops_job, gives_up_hand, reply_for}
+use Rattle.hb_core.specs.Machines.{Machine, if_some, sight, with_disk}
 use Rattle.hb_core.specs.OutcomeLaws.{AsideChangesNoFile, ChangesNoFile, RefusesSearch, SaysAside}
+use Rattle.hb_core.specs.Performing.{ChangesQueue, MayDo, Performs, files_after, outcome_of}
+use Rattle.hb_core.specs.Rows.{Row, RowAlone}
+use Rattle.hb_set.specs.Order.{Entry}
+use Rattle.hb_store.specs.States.{StoreState, in_memory}
 
 -- A deed that does nothing to the file, the queue and the order.
 record IsAside (m : Machine) (actor : ℕ) (deed : Deed) : Type 0 where
   pub op : deed.op ≡ None
-  pub left : deed.left ≡ m.jobs
+  pub takes : deed.takes ≡ None
   pub adds : deed.adds ≡ []
   pub joins : deed.joins ≡ None
-  pub says : SaysAside m actor deed.says
+  pub says : SaysAside m actor (outcome_of deed.says)
 
 aside_reply : (why : DropWhy) → (reply_for why ≡ replies.NoMemory) ⊎ (reply_for why ≡ replies.ReadFault)
 aside_reply drops.NoMemory = inl refl
 aside_reply drops.ReadFault = inr refl
 
 module _ (m : Machine) (actor : ℕ) (why : DropWhy) where
-  line_aside : (line : Line) → line_in_hand (m.activity actor) ≡ Some line → IsAside m actor (answers_now m line.number (reply_for why))
+  line_aside : (line : Line) → line_in_hand (m.activity actor) ≡ Some line → IsAside m actor (answers_now line.number (reply_for why))
   line_aside line is = record {
     op = refl;
-    left = refl;
+    takes = refl;
     adds = refl;
     joins = refl;
     says = (inl (subst (λ (o : Option Line). IsSomeAnd o (λ l. l.number ≡ line.number)) (sym is) refl), aside_reply why);
   }
 
-  job_aside : (job : Job) (idle : Activity) → job_in_work (m.activity actor) ≡ Some job → IsAside m actor (drops_job m why idle)
-  job_aside job idle is = record { op = refl; left = refl; adds = refl; joins = refl; says = subst (λ (o : Option Job). IsSome o) (sym is) refl }
+  job_aside : (job : Job) (idle : Activity) → job_in_work (m.activity actor) ≡ Some job → IsAside m actor (drops_job why idle)
+  job_aside job idle is = record { op = refl; takes = refl; adds = refl; joins = refl; says = subst (λ (o : Option Job). IsSome o) (sym is) refl }
 
-  given_up_aside : (activity : Activity) → m.activity actor ≡ activity → MayGiveUp activity → IsAside m actor (gives_up m why activity)
-  given_up_aside (at.SessionWalk line held rest found) is may = line_aside line (ap line_in_hand is)
-  given_up_aside (at.SessionSplit line held) is may = line_aside line (ap line_in_hand is)
-  given_up_aside (at.SessionPut line source fresh) is may = line_aside line (ap line_in_hand is)
-  given_up_aside at.SessionIdle is may = absurd may
-  given_up_aside (at.SessionAwait number reply place) is may = absurd may
-  given_up_aside at.PosterIdle is may = absurd may
-  given_up_aside (at.PosterGrow job) is may = job_aside job at.PosterIdle (ap job_in_work is)
-  given_up_aside (at.PosterWalk job held) is may = job_aside job at.PosterIdle (ap job_in_work is)
-  given_up_aside (at.PosterChild job parent) is may = job_aside job at.PosterIdle (ap job_in_work is)
-  given_up_aside (at.PosterPromote job parent) is may = absurd may
-  given_up_aside (at.PosterAgain job parent) is may = job_aside job at.PosterIdle (ap job_in_work is)
-  given_up_aside at.ConsolidatorIdle is may = absurd may
-  given_up_aside (at.ConsolidatorWalk job held) is may = job_aside job at.ConsolidatorIdle (ap job_in_work is)
-  given_up_aside (at.ConsolidatorScan job parent child) is may = job_aside job at.ConsolidatorIdle (ap job_in_work is)
-  given_up_aside (at.ConsolidatorTry job parent keep gone leaf) is may = job_aside job at.ConsolidatorIdle (ap job_in_work is)
-  given_up_aside (at.ConsolidatorPromote job parent keep gone) is may = absurd may
-  given_up_aside (at.ConsolidatorKeep job parent keep gone) is may = job_aside job at.ConsolidatorIdle (ap job_in_work is)
-  given_up_aside (at.ConsolidatorDecide job parent keep gone) is may = job_aside job at.ConsolidatorIdle (ap job_in_work is)
-  given_up_aside at.Flusher is may = absurd may
+  given_up_aside : (idle : Activity) (hand : Hand) → hand_of (m.activity actor) ≡ hand → (hand ≡ Empty → ⊥) → IsAside m actor (gives_up_hand why idle hand)
+  given_up_aside idle Empty is some = absurd (some refl)
+  given_up_aside idle (HasLine line) is some = line_aside line (ap line_of is)
+  given_up_aside idle (HasJob job) is some = job_aside job idle (ap job_of is)
+
+-- ---- who gives something up has something in hand
+
+module _ (m : Machine) (actor : ℕ) (fetched : StoreState) where
+  abbrev now : Machine
+  now = with_disk fetched m.files m.clock m
+
+  -- who has nothing in hand wants no page, takes no number and has no row
+  record NeedsNothing (activity : Activity) : Type 0 where
+    pub wants : wanted_of activity m.store.meta (looked_live m.store activity) ≡ None
+    pub numbers : (wanted : Option Wanted) → NeedsNumber activity wanted now → ⊥
+    pub rows : (deed : Deed) → RowAlone activity (sight now) deed → ⊥
+
+  no_line : (line : Line) → HasLine line ≡ Empty → ⊥
+  no_line line is = cc
+
+  no_job : (job : Job) → HasJob job ≡ Empty → ⊥
+  no_job job is = cc
+
+  needs_nothing : (activity : Activity) → hand_of activity ≡ Empty → NeedsNothing activity
+  needs_nothing at.SessionIdle empty = record { wants = refl; numbers = λ wanted never. never; rows = λ deed never. never }
+  needs_nothing (at.SessionAwait number reply place) empty = record { wants = refl; numbers = λ wanted never. never; rows = λ deed never. never }
+  needs_nothing at.PosterIdle empty = record { wants = refl; numbers = λ wanted never. never; rows = λ deed never. never }
+  needs_nothing at.ConsolidatorIdle empty = record { wants = refl; numbers = λ wanted never. never; rows = λ deed never. never }
+  needs_nothing at.Flusher empty = record { wants = refl; numbers = λ wanted never. never; rows = λ deed never. never }
+  needs_nothing (at.SessionWalk line held rest found) empty = absurd (no_line line empty)
+  needs_nothing (at.SessionSplit line held) empty = absurd (no_line line empty)
+  needs_nothing (at.SessionPut line source fresh) empty = absurd (no_line line empty)
+  needs_nothing (at.PosterGrow job) empty = absurd (no_job job empty)
+  needs_nothing (at.PosterWalk job held) empty = absurd (no_job job empty)
+  needs_nothing (at.PosterChild job parent) empty = absurd (no_job job empty)
+  needs_nothing (at.PosterPromote job parent) empty = absurd (no_job job empty)
+  needs_nothing (at.PosterAgain job parent) empty = absurd (no_job job empty)
+  needs_nothing (at.ConsolidatorWalk job held) empty = absurd (no_job job empty)
+  needs_nothing (at.ConsolidatorScan job parent child) empty = absurd (no_job job empty)
+  needs_nothing (at.ConsolidatorTry job parent keep gone leaf) empty = absurd (no_job job empty)
+  needs_nothing (at.ConsolidatorPromote job parent keep gone) empty = absurd (no_job job empty)
+  needs_nothing (at.ConsolidatorKeep job parent keep gone) empty = absurd (no_job job empty)
+  needs_nothing (at.ConsolidatorDecide job parent keep gone) empty = absurd (no_job job empty)
+
+  -- so it lacks no page and has no row that takes memory
+  lacks_nothing : NeedsNothing (m.activity actor) → LacksNeeded m actor fetched → ⊥
+  lacks_nothing nothing (id, inl wanted, page, gone) = subst (λ (o : Option Wanted). IsWantedPage o id) nothing.wants wanted
+  lacks_nothing nothing (id, inr (needs, head), page, gone) = nothing.numbers (wanted_by m actor) needs
+
+  no_cause : (why : DropWhy) → NeedsNothing (m.activity actor) → GivesUpFor why m actor fetched → ⊥
+  no_cause drops.ReadFault nothing lacks = lacks_nothing nothing lacks
+  no_cause drops.NoMemory nothing (inl lacks) = lacks_nothing nothing lacks
+  no_cause drops.NoMemory nothing (inr (deed, row, takes)) = nothing.rows deed (subst (λ (o : Option Wanted). Row (m.activity actor) o now deed) nothing.wants row)
+
+  pub has_something : (why : DropWhy) → GivesUpFor why m actor fetched → hand_of (m.activity actor) ≡ Empty → ⊥
+  has_something why cause empty = no_cause why (needs_nothing (m.activity actor) empty) cause
 
 module _ (m : Machine) (actor : ℕ) (outcome : Outcome) (new : Machine) where
-  -- the pages that came change nothing that was there
+  -- the pages that came change nothing that must stay
   record KeepsStore (fetched : StoreState) : Type 0 where
     pub meta : fetched.meta ≡ m.store.meta
     pub log : fetched.log ≡ m.store.log
     pub imaged : fetched.imaged ≡ m.store.imaged
-    pub memory : (id : ℕ) (page : Page) → in_memory m.store id ≡ Some page → in_memory fetched id ≡ Some page
+    pub memory : (id : ℕ) (page : Page) → MustStay m id → in_memory m.store id ≡ Some page → in_memory fetched id ≡ Some page
 
-  brought : (may : ℕ → Type 0) (fetched : StoreState) → Brings m.files may m.store fetched → KeepsStore fetched
+  brought : (may : ℕ → Type 0) (fetched : StoreState) → Brings m may fetched → KeepsStore fetched
   brought may fetched brings = record {
     meta = brings.rest.meta;
     log = brings.rest.log;
     imaged = brings.rest.imaged;
-    memory = λ id page there. brings.stays id (subst (λ (o : Option Page). IsSome o) (sym there) refl) ∙ there;
+    memory = λ id page must there. brings.stays id must (subst (λ (o : Option Page). IsSome o) (sym there) refl) ∙ there;
   }
+
+  jobs_stay : (deed : Deed) → IsAside m actor deed → ChangesQueue deed m.jobs new.jobs → new.jobs ≡ m.jobs
+  jobs_stay deed aside changes =
+      subst (λ (adds : List Job). AddsJobs adds changes.left new.jobs) aside.adds changes.adds ∙ subst (λ (o : Option Job). LeavesBy o m.jobs changes.left) aside.takes changes.takes
 
   aside_by : (fetched : StoreState) (deed : Deed) → IsAside m actor deed → KeepsStore fetched → Performs m fetched actor deed outcome new → ChangesNoFile m actor outcome new
   aside_by fetched deed aside keeps performs =
@@ -90,28 +135,30 @@ module _ (m : Machine) (actor : ℕ) (outcome : Outcome) (new : Machine) where
       record {
         says = subst (SaysAside m actor) (sym performs.says) aside.says;
         lines = performs.lines;
-        jobs = subst (λ (adds : List Job). AddsJobs adds deed.left new.jobs) aside.adds performs.jobs ∙ aside.left;
+        jobs = jobs_stay deed aside performs.jobs;
         order = performs.order ∙ ap (λ (o : Option Entry). m.order ++ if_some o) aside.joins ∙ append-nil m.order;
         files = performs.files ∙ ap (λ (o : Option Op). files_after o m.files) aside.op;
         meta = ap (λ (st : StoreState). st.meta) store ∙ keeps.meta;
         log = ap (λ (st : StoreState). st.log) store ∙ keeps.log;
         imaged = ap (λ (st : StoreState). st.imaged) store ∙ keeps.imaged;
-        memory = λ id page there. ap (λ (st : StoreState). in_memory st id) store ∙ keeps.memory id page there;
+        memory = λ id page must there. ap (λ (st : StoreState). in_memory st id) store ∙ keeps.memory id page must there;
       }
 
   refused : RefusesSearch m actor outcome new → ChangesNoFile m actor outcome new
   refused one =
-      aside_by m.store _ (record { op = refl; left = refl; adds = refl; joins = refl; says = (inr (one.idle, subst (λ (o : Option Line). IsSomeAnd o (λ l. l.number ≡ one.line.number)) (sym one.next) refl), inl refl) })
-      (record { meta = refl; log = refl; imaged = refl; memory = λ id page there. there }) one.performs
+      aside_by m.store _ (record { op = refl; takes = refl; adds = refl; joins = refl; says = (inr (one.idle, subst (λ (o : Option Line). IsSomeAnd o (λ l. l.number ≡ one.line.number)) (sym one.next) refl), inl refl) })
+      (record { meta = refl; log = refl; imaged = refl; memory = λ id page must there. there }) one.performs
 
   abandoned : Abandons m actor outcome new → ChangesNoFile m actor outcome new
-  abandoned one = aside_by one.fetched _ (given_up_aside m actor one.why (m.activity actor) refl one.may) (brought _ one.fetched one.brings) one.performs
+  abandoned one =
+      aside_by one.fetched _ (given_up_aside m actor one.why (idle_of (class_of (m.activity actor))) (hand_of (m.activity actor)) refl (has_something m actor one.fetched one.why one.cause))
+      (brought _ one.fetched one.brings) one.performs
 
   carried : (other : Machine) (said : Outcome) → outcome ≡ said → new ≡ other → ChangesNoFile m actor said other → ChangesNoFile m actor outcome new
   carried other said says is keeps = subst (λ (n : Machine). ChangesNoFile m actor outcome n) (sym is) (subst (λ (o : Outcome). ChangesNoFile m actor o other) (sym says) keeps)
 
-  failed : ForcesBadly m outcome new → ChangesNoFile m actor outcome new
-  failed one = carried _ _ one.says one.stops (record { says = tt; lines = refl; jobs = refl; order = refl; files = refl; meta = refl; log = refl; imaged = refl; memory = λ id page there. there })
+  failed : FailsToWrite m 9 outcome new → ChangesNoFile m actor outcome new
+  failed one = carried _ _ one.says one.stops (record { says = tt; lines = refl; jobs = refl; order = refl; files = refl; meta = refl; log = refl; imaged = refl; memory = λ id page must there. there })
 
   damaged : MeetsBadPage m actor outcome new → ChangesNoFile m actor outcome new
   damaged one =

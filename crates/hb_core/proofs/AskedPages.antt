@@ -4,23 +4,23 @@ use Rattle.std.specs.List.{Contains, list_any, slice_get}
 use Rattle.std.specs.Option.{option_and_then, option_map}
 use Rattle.std.proofs.lemmas.Bool.{eqb-true}
 use Rattle.std.proofs.lemmas.List.Elements.{Contains-append_cases, Contains-append_left, Contains-append_right}
-use Rattle.hb_space.specs.Boxes.{Area, holds, side_below, side_from, whole_area}
 use Rattle.hb_frag.specs.declared.leaves.Leaf.{Leaf}
 use Rattle.hb_frag.specs.declared.leaves.Leaf.TheVariants.{Records, Child, Sibling}
 use Rattle.hb_frag.specs.declared.pages.LivePage.{LivePage}
-use Rattle.hb_frag.specs.Leaves.{Placed, child_names, first_at, first_named, leaf_at, leaves, leaves_of, siblings_of}
-use Rattle.hb_frag.specs.Trees.{Tree, Tip, Cut}
-use Rattle.hb_frag.proofs.Tiles.{leaves_placed}
 use Rattle.hb_layout.specs.declared.meta.Meta.{Meta}
 use Rattle.hb_latch.specs.declared.modes.Mode.{Mode}
 use Rattle.hb_latch.specs.declared.modes.Mode.TheVariants.{Shared}
+use Rattle.hb_activity.specs.declared.wanting.Wanted.{Wanted}
+use Rattle.hb_activity.specs.Wanting.{child_of, in_mode, named_child, named_page, walk_next, wanted_page}
+use Rattle.hb_consol.specs.ConsolidatorRows.{names_child}
+use Rattle.hb_core.specs.Asking.{AskedBox, HasAskedBox, box_at, box_by_leaf, box_of_child, box_of_place, box_of_sibling, first_child_box}
+use Rattle.hb_frag.proofs.Tiles.{leaves_placed}
+use Rattle.hb_frag.specs.Leaves.{Placed, child_names, first_at, first_named, leaf_at, leaves, leaves_of, siblings_of}
+use Rattle.hb_frag.specs.Trees.{Tree, Tip, Cut}
 use Rattle.hb_ops.specs.Files.{FileState, live_page}
 use Rattle.hb_ops.specs.PlacedLaws.{leaf_is_sibling, placed}
 use Rattle.hb_ops.specs.Sound.{IsSound}
-use Rattle.hb_activity.specs.declared.wanting.Wanted.{Wanted}
-use Rattle.hb_activity.specs.Wanting.{child_of, in_mode, named_child, named_page, walk_next, wanted_page}
-use Rattle.hb_core.specs.ConsolidatorRows.{names_child}
-use Rattle.hb_core.specs.Asking.{AskedBox, HasAskedBox, box_at, box_by_leaf, box_of_child, box_of_place, box_of_sibling, first_child_box}
+use Rattle.hb_space.specs.Boxes.{Area, holds, side_below, side_from, whole_area}
 
 pub record IsThere (s : FileState) (wanted : Wanted) (asked : AskedBox) : Type 0 where
   pub page : LivePage

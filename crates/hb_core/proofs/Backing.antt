@@ -1,17 +1,13 @@
 -- Where the latches of an activity come from: each was held before, or is the one that the step wanted, or is on a page that
 -- was in no use. And each is on a page in use.
+use Rattle.hb_core.proofs.CommitPages.{commit_pages}
 use Rattle.std.proofs.Common.{◌≡◌, ◌⊎◌, inl, inr, ℕ, ◌==◌, Bool, cond, List, [], ◌∷◌, length, Option, Some, None, IsSome, option_map, refl, sym, ap, ◌∙◌, subst}
 use Rattle.std.specs.Prelude.{MatchOption}
 use Rattle.std.proofs.lemmas.Bool.{cases_Bool, eq-eqb, eqb-true}
-use Rattle.hb_space.specs.Boxes.{Area}
 use Rattle.hb_space.specs.declared.records.Record.{Record}
 use Rattle.hb_frag.specs.declared.pages.LivePage.{LivePage}
 use Rattle.hb_frag.specs.declared.pages.Page.{Page}
 use Rattle.hb_frag.specs.declared.pages.Page.TheVariants.{Live, Free}
-use Rattle.hb_frag.specs.Trees.{Tree}
-use Rattle.hb_ops.specs.Extracting.{fresh_page, source_page, split_pages}
-use Rattle.hb_ops.specs.Files.{if_live}
-use Rattle.hb_ops.specs.Operations.{change_of}
 use Rattle.hb_ops.specs.declared.operations.Op.{Op}
 use Rattle.hb_ops.specs.declared.operations.Op.TheVariants as ops
 use Rattle.hb_set.specs.declared.commands.Command.{Command}
@@ -19,7 +15,6 @@ use Rattle.hb_set.specs.declared.commands.Command.TheVariants.{Insert, Delete, L
 use Rattle.hb_set.specs.declared.scripts.Line.{Line}
 use Rattle.hb_latch.specs.declared.modes.Mode.{Mode}
 use Rattle.hb_latch.specs.declared.modes.Mode.TheVariants.{Shared, Update, Exclusive}
-use Rattle.hb_latch.specs.Tables.{MayLatch, mode_at}
 use Rattle.hb_terms.specs.declared.plans.PostPlan.{PostPlan}
 use Rattle.hb_terms.specs.declared.plans.PostPlan.TheVariants as plans
 use Rattle.hb_activity.specs.declared.holding.Latch.{Latch}
@@ -27,26 +22,33 @@ use Rattle.hb_activity.specs.declared.jobs.Job.{Job}
 use Rattle.hb_activity.specs.declared.wanting.Wanted.{Wanted}
 use Rattle.hb_activity.specs.declared.activities.Activity.{Activity}
 use Rattle.hb_activity.specs.declared.activities.Activity.TheVariants as at
+use Rattle.hb_activity.specs.Deeds.{Deed}
 use Rattle.hb_activity.specs.Holding.{latch_on, walk_latch}
+use Rattle.hb_activity.specs.Passing.{PassesOn}
 use Rattle.hb_activity.specs.Walks.{goal_of, job_mode, session_mode, walk_held}
 use Rattle.hb_activity.specs.Wanting.{walk_next, wanted_of, wanted_page}
+use Rattle.hb_core.proofs.NextNumbers.{is_next_number}
+use Rattle.hb_core.proofs.OwnedOps.{in_its_mode, made_was_free}
+use Rattle.hb_core.specs.Asking.{HasWayFree, looked_live, wanted_by}
+use Rattle.hb_core.specs.Fetching.{Brings}
+use Rattle.hb_core.specs.Keeps.{HoldsPagesOfFile, LatchesFit}
+use Rattle.hb_core.specs.KeptMerges.{IsMerging}
+use Rattle.hb_core.specs.Laws.{IsInUse}
+use Rattle.hb_core.specs.Machines.{Machine, with_disk, sight}
+use Rattle.hb_core.specs.Performing.{DoesOp, MayDo, latches_held, mode_among}
+use Rattle.hb_core.specs.Rows.{DoesHere, Row, RowAlone, RowAt}
+use Rattle.hb_frag.specs.Trees.{Tree}
+use Rattle.hb_latch.specs.Tables.{MayLatch, mode_at}
+use Rattle.hb_ops.specs.Extracting.{fresh_page, source_page, split_pages}
+use Rattle.hb_ops.specs.Files.{if_live}
+use Rattle.hb_ops.specs.Operations.{change_of}
+use Rattle.hb_point.specs.SplitRows.{Splits}
+use Rattle.hb_poster.specs.PosterRows.{DoesPlan, after_look}
+use Rattle.hb_search.specs.SearchRows.{SearchGoesOn}
+use Rattle.hb_space.specs.Boxes.{Area}
 use Rattle.hb_store.specs.Calls.{change_here, read_here}
 use Rattle.hb_store.specs.Replay.{set_pages}
 use Rattle.hb_store.specs.States.{StoreState, in_memory}
-use Rattle.hb_core.specs.Machines.{Machine, with_disk}
-use Rattle.hb_core.specs.Asking.{HasWayFree, looked_live, wanted_by}
-use Rattle.hb_core.specs.Fetching.{Brings}
-use Rattle.hb_core.specs.Deeds.{Deed}
-use Rattle.hb_core.specs.Performing.{DoesOp, MayDo, latches_held, mode_among}
-use Rattle.hb_core.specs.SearchRows.{SearchGoesOn}
-use Rattle.hb_core.specs.SessionRows.{DoesThere, PassesOn}
-use Rattle.hb_core.specs.SplitRows.{Splits}
-use Rattle.hb_core.specs.WorkerRows.{DoesPlan, after_look}
-use Rattle.hb_core.specs.Rows.{Row, RowAlone, RowAt}
-use Rattle.hb_core.specs.KeptMerges.{IsMerging}
-use Rattle.hb_core.specs.Keeps.{HoldsPagesOfFile, LatchesFit}
-use Rattle.hb_core.specs.Laws.{IsInUse}
-use Rattle.hb_core.proofs.OwnedOps.{in_its_mode, made_was_free}
 
 -- the latch that a step wants, with nobody in the way
 pub record IsWantedFreely (m : Machine) (actor page : ℕ) (mode : Mode) : Type 0 where
@@ -138,7 +140,7 @@ split_in_use source fresh a b page_in = (first, (b, ap (λ (c : Bool). cond c (S
 
 -- ---- the rows
 
-module _ (m : Machine) (actor : ℕ) (may : ℕ → Type 0) (fetched : StoreState) (new : StoreState) (latches : MayLatch actor) (fit : LatchesFit m) (inside : HoldsPagesOfFile m) (free : HasWayFree m actor) (brings : Brings m.files may m.store fetched) where
+module _ (m : Machine) (actor : ℕ) (may : ℕ → Type 0) (fetched : StoreState) (new : StoreState) (latches : MayLatch actor) (fit : LatchesFit m) (inside : HoldsPagesOfFile m) (free : HasWayFree m actor) (brings : Brings m may fetched) where
   abbrev pub m' : Machine
   m' = with_disk fetched m.files m.clock m
 
@@ -153,7 +155,7 @@ module _ (m : Machine) (actor : ℕ) (may : ℕ → Type 0) (fetched : StoreStat
   held_backed page mode none holds =
       let used = fit.used actor page mode holds in
       let there : IsSome (in_memory m.store page) = subst (λ (o : Option Page). IsSome o) (sym used.1) refl in
-      record { from = inl holds; live = used.0; there = ap (λ (st : StoreState). in_memory st page) none ∙ brings.stays page there ∙ used.1 }
+      record { from = inl holds; live = used.0; there = ap (λ (st : StoreState). in_memory st page) none ∙ brings.stays page (inl (actor, mode, holds)) there ∙ used.1 }
 
   pub own_mode : (activity : Activity) (page : ℕ) (mode : Mode) → m.activity actor ≡ activity → mode_among page (latches_held m.store activity) ≡ Some mode → mode_at m.latches actor page ≡ Some mode
   own_mode activity page mode is among = fit.exact actor page latches ∙ subst (λ (a : Activity). mode_among page (latches_held m.store a) ≡ Some mode) (sym is) among
@@ -227,12 +229,12 @@ module _ (m : Machine) (actor : ℕ) (may : ℕ → Type 0) (fetched : StoreStat
 
   -- ---- a walk
 
-  backed_search : (line : Line) (boxes : List Area) (found : List Record) (deed : Deed) → SearchGoesOn m' line boxes found deed → Backed deed
+  backed_search : (line : Line) (boxes : List Area) (found : List Record) (deed : Deed) → SearchGoesOn (sight m') line boxes found deed → Backed deed
   backed_search line [] found deed (ordered, same, rising, is) = backed_deed deed _ is (rests m actor new _ refl refl)
   backed_search line (area ∷ boxes) found deed is = backed_deed deed _ is (rests m actor new _ refl refl)
 
   backed_there : (wanted : Wanted) (page : LivePage) (line : Line) (held : Option ℕ) (command : Command) (rest : List Area) (found : List Record) (p : List ℕ) (deed : Deed) → wanted_by m actor ≡ Some wanted → if_live (in_memory fetched wanted.page) ≡ Some page
-      → page.level ≡ wanted.level → m.activity actor ≡ at.SessionWalk line held rest found → line.command ≡ command → MayDo deed.op (length m.order) fetched new → DoesThere m' line command rest found wanted.page page p deed → Backed deed
+      → page.level ≡ wanted.level → m.activity actor ≡ at.SessionWalk line held rest found → line.command ≡ command → MayDo deed.op (length m.order) fetched new → DoesHere (sight m') line command rest found wanted.page page p deed → Backed deed
   backed_there wanted page line held (Insert rec) rest found p deed wants live level is command done (inl row) = backed_deed deed _ row.deed_is (rests m actor new _ refl refl)
   backed_there wanted page line held (Insert rec) rest found p deed wants live level is command done (inr (inl row)) = backed_deed deed _ row.deed_is (rests m actor new _ refl refl)
   backed_there wanted page line held (Insert rec) rest found p deed wants live level is command done (inr (inr row)) =
@@ -245,7 +247,7 @@ module _ (m : Machine) (actor : ℕ) (may : ℕ → Type 0) (fetched : StoreStat
 
   backed_walk : (wanted : Wanted) (page : LivePage) (line : Line) (held : Option ℕ) (rest : List Area) (found : List Record) (goal : Option (List ℕ)) (deed : Deed) → wanted_by m actor ≡ Some wanted → if_live (in_memory fetched wanted.page) ≡ Some page
       → page.level ≡ wanted.level → m.activity actor ≡ at.SessionWalk line held rest found → MayDo deed.op (length m.order) fetched new
-      → MatchOption goal ⊥ (λ p. PassesOn page p m' (at.SessionWalk line (Some wanted.page) rest found) deed ⊎ DoesThere m' line line.command rest found wanted.page page p deed) → Backed deed
+      → MatchOption goal ⊥ (λ p. PassesOn page p (at.SessionWalk line (Some wanted.page) rest found) deed ⊎ DoesHere (sight m') line line.command rest found wanted.page page p deed) → Backed deed
   backed_walk wanted page line held rest found None deed wants live level is done row = absurd row
   backed_walk wanted page line held rest found (Some p) deed wants live level is done (inl row) =
       backed_deed deed _ row.deed_is (session_goes_on wanted page wants live level (nothing_done deed _ row.deed_is refl done) line held rest rest found found is)
@@ -256,12 +258,12 @@ module _ (m : Machine) (actor : ℕ) (may : ℕ → Type 0) (fetched : StoreStat
   parent_stays : (job : Job) (parent : ℕ) → m.activity actor ≡ at.PosterChild job parent → new ≡ fetched → BackedIn m actor new (at.PosterPromote job parent)
   parent_stays job parent is none = stands m actor new (at.PosterPromote job parent) refl (one_backed m actor new parent Update (held_backed parent Update none (own_mode (at.PosterChild job parent) parent Update is (same_first parent Update))))
 
-  backed_look : (job : Job) (parent : ℕ) (plan : PostPlan) (deed : Deed) → m.activity actor ≡ at.PosterChild job parent → MayDo deed.op (length m.order) fetched new → deed ≡ after_look m' job parent plan → Backed deed
+  backed_look : (job : Job) (parent : ℕ) (plan : PostPlan) (deed : Deed) → m.activity actor ≡ at.PosterChild job parent → MayDo deed.op (length m.order) fetched new → deed ≡ after_look job parent plan → Backed deed
   backed_look job parent plans.Nothing deed is done row = backed_deed deed _ row (rests m actor new _ refl refl)
   backed_look job parent (plans.Post way inner area) deed is done row = backed_deed deed _ row (parent_stays job parent is (nothing_done deed _ row refl done))
   backed_look job parent plans.SplitFirst deed is done row = backed_deed deed _ row (parent_stays job parent is (nothing_done deed _ row refl done))
 
-  backed_again : (job : Job) (parent : ℕ) (page : LivePage) (plan : PostPlan) (deed : Deed) → DoesPlan m' job parent page plan deed → Backed deed
+  backed_again : (job : Job) (parent : ℕ) (page : LivePage) (plan : PostPlan) (deed : Deed) → DoesPlan (sight m') job parent page plan deed → Backed deed
   backed_again job parent page plans.Nothing deed row = backed_deed deed _ row (rests m actor new _ refl refl)
   backed_again job parent page (plans.Post way inner area) deed row = backed_deed deed _ row (rests m actor new _ refl refl)
   backed_again job parent page plans.SplitFirst deed (inl row) = backed_deed deed _ row.deed_is (rests m actor new _ refl refl)
@@ -269,7 +271,7 @@ module _ (m : Machine) (actor : ℕ) (may : ℕ → Type 0) (fetched : StoreStat
 
   -- ---- both halves of a split
 
-  module _ (line : Line) (held : ℕ) (deed : Deed) (is : m.activity actor ≡ at.SessionSplit line held) (row : Splits m' line held deed) (done : MayDo deed.op (length m.order) fetched new) where
+  module _ (line : Line) (held : ℕ) (deed : Deed) (is : m.activity actor ≡ at.SessionSplit line held) (row : Splits (sight m') line held deed) (done : MayDo deed.op (length m.order) fetched new) where
     abbrev split : Op
     split = ops.Extract held row.leaves.fresh row.leaves.path row.leaves.cuts row.leaves.free_after
 
@@ -285,18 +287,18 @@ module _ (m : Machine) (actor : ℕ) (may : ℕ → Type 0) (fetched : StoreStat
         ∙ ap (λ (o : Option (Tree × Area)). split_pages held row.leaves.fresh row.leaves.path row.leaves.cuts row.page o) row.leaves.there
 
     pages_are : (id : ℕ) → in_memory new id ≡ set_pages changed (in_memory fetched) id
-    pages_are id = does.commits.pages id ∙ ap (λ (pages : List (ℕ × Page)). set_pages pages (in_memory fetched) id) changed_are
+    pages_are id = commit_pages _ _ _ _ does.commits id ∙ ap (λ (pages : List (ℕ × Page)). set_pages pages (in_memory fetched) id) changed_are
 
     backed_split : Backed deed
     backed_split =
         let used = split_in_use held row.leaves.fresh (source_page row.leaves.fresh row.leaves.path row.leaves.cuts row.page row.leaves.part) (fresh_page row.leaves.cuts row.page row.leaves.part) (in_memory fetched) in
         backed_deed deed _ row.deed_is (stands m actor new _ refl (two_backed m actor new held row.leaves.fresh
         (record { from = inl (own_mode (at.SessionSplit line held) held Exclusive is (same_first held Exclusive)); live = used.0.0; there = pages_are held ∙ used.0.1 })
-        (record { from = inr (inr (made_was_free m may fetched row.leaves.fresh row.leaves.free_after inside brings row.leaves.next)); live = used.1.0; there = pages_are row.leaves.fresh ∙ used.1.1 })))
+        (record { from = inr (inr (made_was_free m may fetched row.leaves.fresh row.leaves.free_after inside brings (is_next_number fetched row.leaves.fresh row.leaves.free_after row.leaves.next))); live = used.1.0; there = pages_are row.leaves.fresh ∙ used.1.1 })))
 
   -- ---- every row
 
-  backed_alone : (activity : Activity) (deed : Deed) → m.activity actor ≡ activity → MayDo deed.op (length m.order) fetched new → RowAlone activity m' deed → Backed deed
+  backed_alone : (activity : Activity) (deed : Deed) → m.activity actor ≡ activity → MayDo deed.op (length m.order) fetched new → RowAlone activity (sight m') deed → Backed deed
   backed_alone (at.SessionSplit line held) deed is done (inl row) = backed_deed deed _ row.deed_is (rests m actor new _ refl refl)
   backed_alone (at.SessionSplit line held) deed is done (inr row) = backed_split line held deed is row done
   backed_alone (at.SessionPut line source fresh) deed is done row = backed_deed deed _ row.deed_is (rests m actor new _ refl refl)
@@ -320,10 +322,10 @@ module _ (m : Machine) (actor : ℕ) (may : ℕ → Type 0) (fetched : StoreStat
 
   -- the rows of a consolidator are given
   abbrev pub BacksMerger : Activity → Wanted → LivePage → Deed → Type 0
-  BacksMerger activity wanted page deed = IsMerging activity → m.activity actor ≡ activity → RowAt activity m' wanted.page page deed → Backed deed
+  BacksMerger activity wanted page deed = IsMerging activity → m.activity actor ≡ activity → RowAt activity (sight m') wanted.page page deed → Backed deed
 
   backed_at : (activity : Activity) (wanted : Wanted) (page : LivePage) (deed : Deed) → BacksMerger activity wanted page deed → m.activity actor ≡ activity → wanted_by m actor ≡ Some wanted → if_live (in_memory fetched wanted.page) ≡ Some page → page.level ≡ wanted.level → MayDo deed.op (length m.order) fetched new
-      → RowAt activity m' wanted.page page deed → Backed deed
+      → RowAt activity (sight m') wanted.page page deed → Backed deed
   backed_at (at.SessionWalk line held rest found) wanted page deed merges is wants live level done row = backed_walk wanted page line held rest found (goal_of line.command rest) deed wants live level is done row
   backed_at (at.PosterGrow job) wanted page deed merges is wants live level done (inl row) = backed_deed deed _ row.deed_is (rests m actor new _ refl refl)
   backed_at (at.PosterGrow job) wanted page deed merges is wants live level done (inr row) = backed_deed deed _ row.deed_is (rests m actor new _ refl refl)

@@ -1,20 +1,21 @@
 -- What a list of steps does, and what it keeps.
 use Rattle.std.proofs.Common.{◌≡◌, ◌≢◌, ◌⊎◌, inl, inr, ℕ, ◌+◌, ◌≤◌, List, [], ◌∷◌, ◌++◌, All, Option, Some, sym, ap, ◌∙◌, subst, arith, append-nil, append_assoc}
 use Rattle.std.proofs.lemmas.List.Elements.{All-append, All-cons, All-nil, All-weaker}
-use Rattle.hb_set.specs.Order.{Entry}
 use Rattle.hb_set.specs.declared.scripts.Answered.{Answered}
 use Rattle.hb_store.specs.declared.stops.StopWhy.{StopWhy}
 use Rattle.std.specs.Prelude.{MatchOption}
 use Rattle.hb_core.specs.declared.outcomes.Outcome.{Outcome}
 use Rattle.hb_core.specs.declared.outcomes.Outcome.TheVariants as outcomes
-use Rattle.hb_core.specs.Machines.{Machine}
-use Rattle.hb_core.specs.Performing.{given_by}
-use Rattle.hb_core.specs.Forcing.{StaysSo}
-use Rattle.hb_core.specs.Steps.{StepsAs, StepsTo}
-use Rattle.hb_core.specs.SteppingLaws.{HasGoneOn, IsBetween, StepsGoOn, StoppedStays}
 use Rattle.hb_core.proofs.Moments.{answers_are_timed, clock_moves}
 use Rattle.hb_core.proofs.PendingKept.{grown_by}
 use Rattle.hb_core.proofs.Ways.{order_grows}
+use Rattle.hb_core.specs.Forcing.{StaysSo}
+use Rattle.hb_core.specs.Machines.{Machine}
+use Rattle.hb_core.specs.Performing.{given_by}
+use Rattle.hb_core.specs.Stages.{HasMoreToFlush}
+use Rattle.hb_core.specs.SteppingLaws.{HasGoneOn, IsBetween, StepsGoOn, StoppedStays}
+use Rattle.hb_core.specs.Steps.{StepsAs, StepsTo}
+use Rattle.hb_set.specs.Order.{Entry}
 
 -- ---- the lines, the order, the answers and the clock
 
@@ -30,9 +31,10 @@ given_between outcomes.Moved first last le = All-nil (IsBetween first last)
 never_back : (m : Machine) (actor : ℕ) (outcome : Outcome) (new : Machine) → StepsTo m actor outcome new → m.clock ≤ new.clock
 never_back m actor outcome new step = by (clock_moves m actor outcome new step)
   where
-    by : (new.clock ≡ m.clock) ⊎ ((m.store.log.groups ≢ []) × (m.clock ≤ new.clock) × (new.clock ≤ m.clock + 4)) → m.clock ≤ new.clock
+    by : (new.clock ≡ m.clock) ⊎ ((m.store.log.groups ≢ []) × (m.clock ≤ new.clock) × (new.clock ≤ m.clock + 4)) ⊎ (HasMoreToFlush m.store × (m.clock ≤ new.clock) × (new.clock ≤ m.clock + 9)) → m.clock ≤ new.clock
     by (inl same) = omega (arith, same)
-    by (inr (waits, le, few)) = le
+    by (inr (inl (waits, le, few))) = le
+    by (inr (inr (left, le, few))) = le
 
 one_step : (m : Machine) (actor : ℕ) (outcome : Outcome) (new : Machine) → StepsTo m actor outcome new → HasGoneOn m new
 one_step m actor outcome new step =

@@ -7,29 +7,29 @@ use Rattle.hb_frag.specs.declared.pages.LivePage.{LivePage}
 use Rattle.hb_frag.specs.declared.pages.Page.{Page}
 use Rattle.hb_frag.specs.declared.pages.Page.TheVariants.{Live, Free}
 use Rattle.hb_frag.specs.declared.paths.Side.{Side}
-use Rattle.hb_frag.specs.Paths.{part_at}
-use Rattle.hb_frag.specs.Trees.{Tip}
-use Rattle.hb_frag.proofs.Tiles.{found_where_held}
 use Rattle.hb_layout.specs.declared.meta.Meta.{Meta}
-use Rattle.hb_space.specs.Boxes.{Area, Holds}
 use Rattle.hb_ops.specs.declared.operations.Op.{Op}
 use Rattle.hb_ops.specs.declared.operations.Op.TheVariants as ops
+use Rattle.hb_core.proofs.GoodChanges.{IsGoodChange}
+use Rattle.hb_core.proofs.KeptPages.{KeepsPages}
+use Rattle.hb_core.proofs.RowTells.{IsPlanned, TellsOp}
+use Rattle.hb_frag.proofs.Tiles.{found_where_held}
+use Rattle.hb_frag.specs.Paths.{part_at}
+use Rattle.hb_frag.specs.Trees.{Tip}
+use Rattle.hb_log_codec.specs.Groups.{FitsOp}
 use Rattle.hb_ops.specs.Files.{FileState, if_live, page_at, page_of}
 use Rattle.hb_ops.specs.Operations.{Change, IsAllowed, IsAllowedOn, IsLicensed, OpHas, change_of, effect_of, nth_read, reads_of, with_changed_pages}
+use Rattle.hb_ops.specs.PageNumberLaws.{page_at-zero}
 use Rattle.hb_ops.specs.Posting.{GaveAway}
 use Rattle.hb_ops.specs.Sound.{IsSound}
-use Rattle.hb_log_codec.specs.Groups.{FitsOp}
-use Rattle.hb_terms.proofs.Owing.{planned_may_be, way_ends_there}
+use Rattle.hb_space.specs.Boxes.{Area, Holds}
+use Rattle.hb_store.proofs.FilePages.{Reaches, pages_set}
+use Rattle.hb_store.proofs.MadeMeta.{op_has, reads_some}
 use Rattle.hb_store.specs.Calls.{IsAllowedHere, change_here, read_here}
 use Rattle.hb_store.specs.NextPage.{IsNext}
 use Rattle.hb_store.specs.Replay.{set_pages}
 use Rattle.hb_store.specs.States.{StoreState, in_memory}
-use Rattle.hb_ops.specs.PageNumberLaws.{page_at-zero}
-use Rattle.hb_store.proofs.FilePages.{Reaches, pages_set}
-use Rattle.hb_store.proofs.MadeMeta.{op_has, reads_some}
-use Rattle.hb_core.proofs.GoodChanges.{IsGoodChange}
-use Rattle.hb_core.proofs.KeptPages.{KeepsPages}
-use Rattle.hb_core.proofs.RowTells.{IsPlanned, TellsOp}
+use Rattle.hb_terms.proofs.Owing.{planned_may_be, way_ends_there}
 
 -- What a store has of a sound file: its words about itself, and its pages in frames.
 pub record ShowsFile (st : StoreState) (s : FileState) : Type 0 where

@@ -3,34 +3,34 @@ use Rattle.std.proofs.Common.{◌≡◌, inl, inr, ℕ, ◌<◌, ◌≤◌, ◌^
 use Rattle.std.specs.List.{Contains}
 use Rattle.std.proofs.lemmas.Bool.{cases_Bool, eqb-true, eqb-false}
 use Rattle.std.proofs.lemmas.List.Elements.{All-append, All-cons, All-contains, All-head, All-nil}
-use Rattle.hb_space.specs.Boxes.{Area, IsArea, Holds, side_below, side_from}
-use Rattle.hb_space.specs.Points.{IsPoint}
 use Rattle.hb_space.specs.declared.records.Record.{Record}
 use Rattle.hb_frag.specs.declared.leaves.Leaf.TheVariants.{Records, Sibling}
 use Rattle.hb_frag.specs.declared.pages.LivePage.{LivePage}
 use Rattle.hb_frag.specs.declared.pages.Page.{Page}
 use Rattle.hb_frag.specs.declared.pages.Page.TheVariants.{Live, Free}
 use Rattle.hb_frag.specs.declared.paths.Side.{Side}
-use Rattle.hb_frag.specs.Trees.{Tree, Tip, Cut}
-use Rattle.hb_frag.specs.Leaves.{Placed, leaf_at, leaves, leaves_of}
-use Rattle.hb_frag.proofs.Tiles.{first_tells, found_where_held}
 use Rattle.hb_layout.specs.declared.meta.Meta.{Meta}
 use Rattle.hb_ops.specs.declared.leaf_cuts.LeafCut.{LeafCut}
 use Rattle.hb_ops.specs.declared.operations.Op.{Op}
 use Rattle.hb_ops.specs.declared.operations.Op.TheVariants as ops
+use Rattle.hb_core.proofs.Backing.{live_there}
+use Rattle.hb_core.proofs.RowTells.{TellsOp}
+use Rattle.hb_frag.proofs.Tiles.{first_tells, found_where_held}
+use Rattle.hb_frag.specs.Leaves.{Placed, leaf_at, leaves, leaves_of}
+use Rattle.hb_frag.specs.Trees.{Tree, Tip, Cut}
+use Rattle.hb_log_codec.specs.Groups.{FitsOp}
 use Rattle.hb_ops.specs.Files.{if_live}
 use Rattle.hb_ops.specs.Operations.{IsAllowedOn}
-use Rattle.hb_log_codec.specs.Groups.{FitsOp}
-use Rattle.hb_terms.proofs.Owing.{planned_may_be}
+use Rattle.hb_space.specs.Boxes.{Area, IsArea, Holds, side_below, side_from}
+use Rattle.hb_space.specs.Points.{IsPoint}
+use Rattle.hb_store.proofs.Changed.{good_readable}
+use Rattle.hb_store.proofs.MadeLeaves.{AllFit, FitsIn, all_fit, back_all, front_all}
 use Rattle.hb_store.specs.Calls.{IsAllowedHere, read_here}
 use Rattle.hb_store.specs.Making.{HaveFittingParts, IsReadable}
 use Rattle.hb_store.specs.NextPage.{IsNext}
 use Rattle.hb_store.specs.Replaying.{HasLimits}
 use Rattle.hb_store.specs.States.{AreGood, IsGoodPage, StoreState, in_memory}
-use Rattle.hb_store.proofs.MadeLeaves.{AllFit, FitsIn, all_fit, back_all, front_all}
-use Rattle.hb_core.proofs.Backing.{live_there}
-use Rattle.hb_store.proofs.Changed.{good_readable}
-use Rattle.hb_core.proofs.RowTells.{TellsOp}
+use Rattle.hb_terms.proofs.Owing.{planned_may_be}
 
 abbrev pub HeldArePoints : Type 0
 HeldArePoints = (a : Area) (p : List ℕ) → IsArea a → Holds a p → IsPoint p

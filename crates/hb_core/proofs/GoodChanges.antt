@@ -6,17 +6,17 @@ use Rattle.hb_frag.specs.declared.pages.LivePage.{LivePage}
 use Rattle.hb_frag.specs.declared.pages.Page.{Page}
 use Rattle.hb_layout.specs.declared.meta.Meta.{Meta}
 use Rattle.hb_ops.specs.declared.operations.Op.{Op}
+use Rattle.hb_log_codec.specs.Groups.{FitsOp}
 use Rattle.hb_ops.specs.Files.{if_live}
 use Rattle.hb_ops.specs.Operations.{Change, IsAllowedOn, change_of, reads_of}
-use Rattle.hb_log_codec.specs.Groups.{FitsOp}
+use Rattle.hb_store.proofs.Changed.{good_readable, still_good}
+use Rattle.hb_store.proofs.Counting.{high_next}
+use Rattle.hb_store.proofs.MadeMeta.{comes_after, made_numbered, reads_some, some_page}
 use Rattle.hb_store.specs.Making.{MakesGoodPages}
 use Rattle.hb_store.specs.Replay.{set_pages}
 use Rattle.hb_store.specs.ReplayLists.{set_one-same}
 use Rattle.hb_store.specs.Replaying.{ComesAfter, HasLimits, IsPageOf}
 use Rattle.hb_store.specs.States.{AreGood, IsGoodPage}
-use Rattle.hb_store.proofs.Changed.{good_readable, still_good}
-use Rattle.hb_store.proofs.Counting.{high_next}
-use Rattle.hb_store.proofs.MadeMeta.{comes_after, made_numbered, reads_some, some_page}
 
 -- What a change makes: what the file says of itself comes after what it said, good pages stay good, and each changed page
 -- is one of the file then, and is good.

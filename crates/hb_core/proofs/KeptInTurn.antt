@@ -1,22 +1,8 @@
 -- A list of steps keeps all that a machine keeps.
 use Rattle.std.proofs.Common.{◌≡◌, ℕ, List, [], ◌∷◌, All, Contains, sym, ap, subst, arith}
 use Rattle.std.proofs.lemmas.List.Elements.{All-contains, All-head, All-tail, Contains-push}
-use Rattle.hb_ops.specs.Files.{contents_of}
-use Rattle.hb_set.specs.Machine.{RecordSet}
-use Rattle.hb_set.specs.Order.{Entry}
 use Rattle.hb_set.specs.declared.scripts.Line.{Line}
-use Rattle.hb_latch.specs.Tables.{MayLatch}
 use Rattle.hb_core.specs.declared.outcomes.Outcome.{Outcome}
-use Rattle.hb_core.specs.Machines.{Files, Machine, settled_count}
-use Rattle.hb_core.specs.Steps.{StepsInTurn, StepsTo, WantsBoxes}
-use Rattle.hb_core.specs.Keeps.{CoreKeeps}
-use Rattle.hb_core.specs.KeptTurns.{IsInTurn}
-use Rattle.hb_core.specs.FileLaws.{FilesStaySound, LinesStayFit, PagesStayOfFile}
-use Rattle.hb_core.specs.OrderLaws.{OrderStaysLegal, TurnsStay}
-use Rattle.hb_core.specs.SteppingLaws.{BeginningKeepsAll, HasNoSearches}
-use Rattle.hb_core.specs.DamageLaws.{IsUndamaged}
-use Rattle.hb_core.specs.KeepingLaws.{AnswersSearches, BegunKeepsAll, ChangesKeepAll, HasKeptAll, RoomStaysKnown, StepsKeepAll, StepsRightly}
-use Rattle.hb_core.specs.Laws.{LatchesStayFit}
 use Rattle.hb_core.proofs.NoDamage.{stays_undamaged}
 use Rattle.hb_core.proofs.PendingKept.{prefix_stays_pending, settled_stays_settled}
 use Rattle.hb_core.proofs.Prefixes.{files_have_prefixes}
@@ -24,6 +10,21 @@ use Rattle.hb_core.proofs.SoundFiles.{keeps_marks}
 use Rattle.hb_core.proofs.StillThere.{nobody_else_comes, nobody_else_latches}
 use Rattle.hb_core.proofs.WalksKept.{walks_stay_in_space}
 use Rattle.hb_core.proofs.Ways.{order_grows}
+use Rattle.hb_core.specs.DamageLaws.{IsUndamaged}
+use Rattle.hb_core.specs.FileLaws.{FilesStaySound, LinesStayFit, PagesStayOfFile}
+use Rattle.hb_core.specs.KeepingLaws.{AnswersSearches, BegunKeepsAll, ChangesKeepAll, HasKeptAll, RoomStaysKnown, StepsKeepAll, StepsRightly}
+use Rattle.hb_core.specs.Keeps.{CoreKeeps}
+use Rattle.hb_core.specs.KeptTurns.{IsInTurn}
+use Rattle.hb_core.specs.Laws.{LatchesStayFit}
+use Rattle.hb_core.specs.Machines.{Files, Machine, settled_count}
+use Rattle.hb_core.specs.OrderLaws.{OrderStaysLegal, TurnsStay}
+use Rattle.hb_core.specs.SteppingLaws.{BeginningKeepsAll, HasNoSearches}
+use Rattle.hb_core.specs.Steps.{StepsInTurn, StepsTo}
+use Rattle.hb_latch.specs.Tables.{MayLatch}
+use Rattle.hb_ops.specs.Files.{contents_of}
+use Rattle.hb_point.specs.SessionRows.{WantsBoxes}
+use Rattle.hb_set.specs.Machine.{RecordSet}
+use Rattle.hb_set.specs.Order.{Entry}
 
 -- the laws of one step that are contracts
 pub record StepLaws : Type 0 where

@@ -4,32 +4,34 @@ use Rattle.std.proofs.lemmas.Bool.{cases_Bool, eqb-true, eqb-false, eq-eqb, ne_e
 use Rattle.hb_frag.specs.declared.pages.LivePage.{LivePage}
 use Rattle.hb_frag.specs.declared.pages.Page.TheVariants.{Live}
 use Rattle.hb_latch.specs.declared.modes.Mode.{Mode}
-use Rattle.hb_latch.specs.Modes.{goes_beside}
-use Rattle.hb_latch.specs.Tables.{AreCompatible, IsGrantable, LatchTable, MayLatch, mode_at}
 use Rattle.hb_activity.specs.declared.holding.Latch.{Latch}
 use Rattle.hb_activity.specs.declared.wanting.Wanted.{Wanted}
 use Rattle.hb_activity.specs.declared.activities.Activity.{Activity}
 use Rattle.hb_activity.specs.declared.activities.Activity.TheVariants as at
-use Rattle.hb_activity.specs.Holding.{walk_latch}
-use Rattle.hb_activity.specs.Walks.{job_mode, session_mode, walk_held}
-use Rattle.hb_ops.specs.Files.{if_live}
-use Rattle.hb_store.specs.States.{StoreState, in_memory}
-use Rattle.hb_core.specs.declared.outcomes.DropWhy.{DropWhy}
+use Rattle.hb_activity.specs.declared.dropping.DropWhy.{DropWhy}
 use Rattle.hb_core.specs.declared.outcomes.Outcome.{Outcome}
 use Rattle.hb_core.specs.declared.outcomes.Outcome.TheVariants as outcomes
-use Rattle.hb_core.specs.Machines.{Machine, live_here, with_activity}
+use Rattle.hb_activity.specs.Classes.{class_of, idle_of}
+use Rattle.hb_activity.specs.Deeds.{Deed}
+use Rattle.hb_activity.specs.Holding.{walk_latch}
+use Rattle.hb_activity.specs.Walks.{job_mode, session_mode, walk_held}
+use Rattle.hb_core.proofs.Backing.{BackedIn, ComesFrom, rests}
+use Rattle.hb_core.proofs.GivenUp.{idle_latches, idle_walks, given_up_is, run_out_is}
+use Rattle.hb_core.proofs.MergerBacked.{every_row_backed}
+use Rattle.hb_core.proofs.OwnPages.{held_pages_stay}
+use Rattle.hb_core.proofs.StepKinds.{each_kind, rest_kind}
+use Rattle.hb_core.proofs.Ways.{KeepsAllButDisk, forces_so, meets_so, stays_so, more_so}
 use Rattle.hb_core.specs.Asking.{wanted_by}
-use Rattle.hb_core.specs.Deeds.{Deed}
-use Rattle.hb_core.specs.Performing.{Performs, latches_held, mode_among}
 use Rattle.hb_core.specs.GivingUp.{gives_up, runs_out}
-use Rattle.hb_core.specs.Steps.{StepsTo, Works}
 use Rattle.hb_core.specs.Keeps.{HoldsPagesOfFile, LatchesFit}
 use Rattle.hb_core.specs.Laws.{LatchesStayFit}
-use Rattle.hb_core.proofs.Backing.{BackedIn, ComesFrom, rests}
-use Rattle.hb_core.proofs.MergerBacked.{every_row_backed}
-use Rattle.hb_core.proofs.StepKinds.{each_kind}
-use Rattle.hb_core.proofs.Ways.{KeepsAllButDisk, forces_so, meets_so, stays_so}
-use Rattle.hb_core.proofs.OwnPages.{held_pages_stay}
+use Rattle.hb_core.specs.Machines.{Machine, live_here, with_activity}
+use Rattle.hb_core.specs.Performing.{Performs, latches_held, mode_among}
+use Rattle.hb_core.specs.Steps.{StepsTo, Works}
+use Rattle.hb_latch.specs.Modes.{goes_beside}
+use Rattle.hb_latch.specs.Tables.{AreCompatible, IsGrantable, LatchTable, MayLatch, mode_at}
+use Rattle.hb_ops.specs.Files.{if_live}
+use Rattle.hb_store.specs.States.{StoreState, in_memory}
 
 -- ---- what the latches of an activity are, in another memory that has its page
 
@@ -133,14 +135,17 @@ module _ (mutual_modes : (mode other : Mode) → goes_beside mode other ≡ goes
   disk_alone keeps = record {
     compatible = subst (λ (table : LatchTable). AreCompatible table) (sym keeps.latches) fit.compatible;
     exact = λ a page may.
-        let same = same_latches (m.activity a) m.store new.store (λ held walks. let old = fit.walking a held may walks in ap if_live (keeps.memory held (Live old.0) old.1) ∙ sym (ap if_live old.1)) in
+        let same = same_latches (m.activity a) m.store new.store (λ held walks. let old = fit.walking a held may walks in let latch = walks_latch a held old.0 may walks old.1 in ap if_live (keeps.memory held (Live old.0) (inl (a, latch.0, latch.1)) old.1) ∙ sym (ap if_live old.1)) in
         ap (λ (table : LatchTable). mode_at table a page) keeps.latches ∙ fit.exact a page may ∙ sym (ap (mode_among page) same) ∙ sym (ap (λ (all : ℕ → Activity). mode_among page (latches_held new.store (all a))) keeps.activity);
     used = λ a page mode holds.
-        let old = fit.used a page mode (sym (ap (λ (table : LatchTable). mode_at table a page) keeps.latches) ∙ holds) in
-        (old.0, keeps.memory page (Live old.0) old.1);
+        let held = sym (ap (λ (table : LatchTable). mode_at table a page) keeps.latches) ∙ holds in
+        let old = fit.used a page mode held in
+        (old.0, keeps.memory page (Live old.0) (inl (a, mode, held)) old.1);
     walking = λ a held may walks.
-        let old = fit.walking a held may (sym (ap (λ (all : ℕ → Activity). walk_held (all a)) keeps.activity) ∙ walks) in
-        (old.0, keeps.memory held (Live old.0) old.1);
+        let walked = sym (ap (λ (all : ℕ → Activity). walk_held (all a)) keeps.activity) ∙ walks in
+        let old = fit.walking a held may walked in
+        let latch = walks_latch a held old.0 may walked old.1 in
+        (old.0, keeps.memory held (Live old.0) (inl (a, latch.0, latch.1)) old.1);
   }
 
   -- a deed is done
@@ -213,47 +218,15 @@ module _ (mutual_modes : (mode other : Mode) → goes_beside mode other ≡ goes
 
 -- ---- what can't go on holds nothing
 
-given_up : (m : Machine) (actor : ℕ) (st : StoreState) (why : DropWhy) (activity : Activity) → BackedIn m actor st (gives_up m why activity).next
-given_up m actor st why at.SessionIdle = rests m actor st _ refl refl
-given_up m actor st why (at.SessionWalk line held rest found) = rests m actor st _ refl refl
-given_up m actor st why (at.SessionSplit line held) = rests m actor st _ refl refl
-given_up m actor st why (at.SessionPut line source fresh) = rests m actor st _ refl refl
-given_up m actor st why (at.SessionAwait line reply place) = rests m actor st _ refl refl
-given_up m actor st why at.PosterIdle = rests m actor st _ refl refl
-given_up m actor st why (at.PosterGrow job) = rests m actor st _ refl refl
-given_up m actor st why (at.PosterWalk job held) = rests m actor st _ refl refl
-given_up m actor st why (at.PosterChild job parent) = rests m actor st _ refl refl
-given_up m actor st why (at.PosterPromote job parent) = rests m actor st _ refl refl
-given_up m actor st why (at.PosterAgain job parent) = rests m actor st _ refl refl
-given_up m actor st why at.ConsolidatorIdle = rests m actor st _ refl refl
-given_up m actor st why (at.ConsolidatorWalk job held) = rests m actor st _ refl refl
-given_up m actor st why (at.ConsolidatorScan job parent child) = rests m actor st _ refl refl
-given_up m actor st why (at.ConsolidatorTry job parent keep gone leaf) = rests m actor st _ refl refl
-given_up m actor st why (at.ConsolidatorPromote job parent keep gone) = rests m actor st _ refl refl
-given_up m actor st why (at.ConsolidatorKeep job parent keep gone) = rests m actor st _ refl refl
-given_up m actor st why (at.ConsolidatorDecide job parent keep gone) = rests m actor st _ refl refl
-given_up m actor st why at.Flusher = rests m actor st _ refl refl
+given_up : (m : Machine) (actor : ℕ) (st : StoreState) (why : DropWhy) (activity : Activity) → BackedIn m actor st (gives_up why activity).next
+given_up m actor st why activity =
+    let idle : BackedIn m actor st (idle_of (class_of activity)) = rests m actor st _ (idle_walks (class_of activity)) (idle_latches (class_of activity) st) in
+    given_up_is (λ deed. BackedIn m actor st deed.next) why activity (λ line is. rests m actor st _ refl refl) (λ job is. idle) (λ is. idle)
 
-ran_out : (m : Machine) (actor : ℕ) (st : StoreState) (activity : Activity) → BackedIn m actor st (runs_out m activity).next
-ran_out m actor st at.SessionIdle = rests m actor st _ refl refl
-ran_out m actor st (at.SessionWalk line held rest found) = rests m actor st _ refl refl
-ran_out m actor st (at.SessionSplit line held) = rests m actor st _ refl refl
-ran_out m actor st (at.SessionPut line source fresh) = rests m actor st _ refl refl
-ran_out m actor st (at.SessionAwait line reply place) = rests m actor st _ refl refl
-ran_out m actor st at.PosterIdle = rests m actor st _ refl refl
-ran_out m actor st (at.PosterGrow job) = rests m actor st _ refl refl
-ran_out m actor st (at.PosterWalk job held) = rests m actor st _ refl refl
-ran_out m actor st (at.PosterChild job parent) = rests m actor st _ refl refl
-ran_out m actor st (at.PosterPromote job parent) = rests m actor st _ refl refl
-ran_out m actor st (at.PosterAgain job parent) = rests m actor st _ refl refl
-ran_out m actor st at.ConsolidatorIdle = rests m actor st _ refl refl
-ran_out m actor st (at.ConsolidatorWalk job held) = rests m actor st _ refl refl
-ran_out m actor st (at.ConsolidatorScan job parent child) = rests m actor st _ refl refl
-ran_out m actor st (at.ConsolidatorTry job parent keep gone leaf) = rests m actor st _ refl refl
-ran_out m actor st (at.ConsolidatorPromote job parent keep gone) = rests m actor st _ refl refl
-ran_out m actor st (at.ConsolidatorKeep job parent keep gone) = rests m actor st _ refl refl
-ran_out m actor st (at.ConsolidatorDecide job parent keep gone) = rests m actor st _ refl refl
-ran_out m actor st at.Flusher = rests m actor st _ refl refl
+ran_out : (m : Machine) (actor : ℕ) (st : StoreState) (activity : Activity) → BackedIn m actor st (runs_out activity).next
+ran_out m actor st activity =
+    let idle : BackedIn m actor st (idle_of (class_of activity)) = rests m actor st _ (idle_walks (class_of activity)) (idle_latches (class_of activity) st) in
+    run_out_is (λ deed. BackedIn m actor st deed.next) activity (λ line is. rests m actor st _ refl refl) (λ job is. idle) (λ is. idle)
 
 -- ---- each step
 
@@ -270,7 +243,8 @@ module _ (mutual_modes : (mode other : Mode) → goes_beside mode other ≡ goes
   worked : Works m actor outcome new → LatchesFit new
   worked (inl (by, way, so)) = kept (stays_so m actor outcome new (outcomes.Blocked by) so)
   worked (inr (inl (free, unready, inl (waits, force)))) = kept (forces_so m actor outcome new outcomes.Helped force)
-  worked (inr (inl (free, unready, inr (none, performs)))) = fits m.store _ performs (ran_out m actor new.store (m.activity actor))
+  worked (inr (inl (free, unready, inr (none, rest)))) =
+      rest_kind m outcomes.Helped outcome new _ (LatchesFit new) none (λ at. refl) (λ more. kept (more_so m actor outcome new more)) (λ performs. fits m.store _ performs (ran_out m actor new.store (m.activity actor))) rest
   worked (inr (inr (free, ready, inl acts))) =
       fits acts.fetched acts.deed acts.performs
       (every_row_backed m actor _ acts.fetched new.store latches fit inside free acts.brings (wanted_by m actor) acts.deed refl acts.performs.store acts.row)
@@ -282,6 +256,7 @@ latches_stay_fit mutual_modes m actor outcome new latches fit inside step =
     each_kind m actor outcome new (LatchesFit new)
     (λ said quiet so. kept mutual_modes m actor outcome new latches fit inside step (stays_so m actor outcome new said so))
     (λ said quiet force. kept mutual_modes m actor outcome new latches fit inside step (forces_so m actor outcome new said force))
+    (λ more. kept mutual_modes m actor outcome new latches fit inside step (more_so m actor outcome new more))
     (λ deed outright performs. rested mutual_modes m actor outcome new latches fit inside step m.store deed performs outright.walk (outright.latches new.store))
     (worked mutual_modes m actor outcome new latches fit inside step)
     step

@@ -2,29 +2,29 @@
 use Rattle.std.proofs.Common.{◌≡◌, inl, inr, ℕ, ◌-◌, List, [], ◌∷◌, All, Option, Some, None, refl, sym, ap, ◌∙◌, subst}
 use Rattle.std.specs.Option.{option_and_then}
 use Rattle.std.proofs.lemmas.List.Elements.{All-head, All-tail}
-use Rattle.hb_ops.specs.Sound.{IsSound}
-use Rattle.hb_store.specs.Keeps.{last_of}
-use Rattle.hb_store.specs.States.{in_memory}
 use Rattle.hb_frag.specs.declared.leaves.Leaf.{Leaf}
 use Rattle.hb_frag.specs.declared.leaves.Leaf.TheVariants.{Records, Child, Sibling}
 use Rattle.hb_frag.specs.declared.pages.LivePage.{LivePage}
 use Rattle.hb_frag.specs.declared.pages.Page.TheVariants.{Live}
-use Rattle.hb_frag.specs.Leaves.{Placed, leaf_at}
 use Rattle.hb_latch.specs.declared.modes.Mode.{Mode}
 use Rattle.hb_layout.specs.declared.meta.Meta.{Meta}
-use Rattle.hb_ops.specs.Files.{FileState, if_live, live_page}
-use Rattle.hb_sound.specs.Laws.{StepsLeadFurther}
-use Rattle.hb_sound.specs.PointWalks.{LeadsOn}
 use Rattle.hb_activity.specs.declared.wanting.Wanted.{Wanted}
 use Rattle.hb_activity.specs.declared.activities.Activity.{Activity}
 use Rattle.hb_activity.specs.declared.activities.Activity.TheVariants as at
 use Rattle.hb_activity.specs.Walks.{job_mode, session_mode, walk_held, walk_point}
 use Rattle.hb_activity.specs.Wanting.{in_mode, named_page, onward_at, walk_next, wanted_of, wanted_page}
-use Rattle.hb_core.specs.Machines.{Files, Machine, current_file, live_here}
+use Rattle.hb_core.proofs.Backing.{live_there}
 use Rattle.hb_core.specs.Asking.{looked_live}
 use Rattle.hb_core.specs.Keeps.{HasSoundFile}
 use Rattle.hb_core.specs.Laws.{WalksGoFurther}
-use Rattle.hb_core.proofs.Backing.{live_there}
+use Rattle.hb_core.specs.Machines.{Files, Machine, current_file, live_here}
+use Rattle.hb_frag.specs.Leaves.{Placed, leaf_at}
+use Rattle.hb_ops.specs.Files.{FileState, if_live, live_page}
+use Rattle.hb_ops.specs.Sound.{IsSound}
+use Rattle.hb_sound.specs.Laws.{StepsLeadFurther}
+use Rattle.hb_sound.specs.PointWalks.{LeadsOn}
+use Rattle.hb_store.specs.Keeps.{last_of}
+use Rattle.hb_store.specs.States.{in_memory}
 
 -- the last file is sound
 pub last_sound : (s : FileState) (later : List FileState) → IsSound s → All IsSound later → IsSound (last_of s later)

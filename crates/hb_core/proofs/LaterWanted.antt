@@ -4,39 +4,39 @@ use Rattle.std.proofs.lemmas.Bool.{eqb-true}
 use Rattle.std.specs.List.{All, Contains, slice_get}
 use Rattle.std.proofs.lemmas.List.Elements.{All-head, All-tail}
 use Rattle.std.specs.Option.{option_and_then, option_map}
-use Rattle.hb_space.specs.Boxes.{Area, volume}
 use Rattle.hb_frag.specs.declared.leaves.Leaf.{Leaf}
 use Rattle.hb_frag.specs.declared.leaves.Leaf.TheVariants.{Records, Child, Sibling}
 use Rattle.hb_frag.specs.declared.pages.LivePage.{LivePage}
 use Rattle.hb_frag.specs.declared.pages.Page.TheVariants.{Live}
-use Rattle.hb_frag.specs.Leaves.{Placed, first_named, leaf_at, leaves, leaves_of, siblings_of}
 use Rattle.hb_layout.specs.declared.meta.Meta.{Meta}
 use Rattle.hb_latch.specs.declared.modes.Mode.{Mode}
 use Rattle.hb_latch.specs.declared.modes.Mode.TheVariants.{Shared, Update, Exclusive}
-use Rattle.hb_latch.specs.Tables.{MayLatch}
-use Rattle.hb_ops.specs.Files.{FileState, if_live, live_page}
-use Rattle.hb_ops.specs.PlacedLaws.{leaf_is_sibling, placed}
-use Rattle.hb_ops.specs.Sound.{IsSound}
 use Rattle.hb_activity.specs.declared.jobs.Job.{Job}
 use Rattle.hb_activity.specs.declared.wanting.Wanted.{Wanted}
 use Rattle.hb_activity.specs.declared.activities.Activity.{Activity}
 use Rattle.hb_activity.specs.declared.activities.Activity.TheVariants as at
 use Rattle.hb_activity.specs.Holding.{latch_on, walk_latch}
-use Rattle.hb_activity.specs.Walks.{goal_of, job_mode, session_mode, walk_held}
 use Rattle.hb_activity.specs.Waiting.{IsLater}
+use Rattle.hb_activity.specs.Walks.{goal_of, job_mode, session_mode, walk_held}
 use Rattle.hb_activity.specs.Wanting.{child_of, in_mode, named_child, named_page, walk_next, wanted_of, wanted_page}
-use Rattle.hb_store.specs.States.{in_memory}
-use Rattle.hb_core.specs.Machines.{Files, Machine, current_file, live_here}
-use Rattle.hb_core.specs.Asking.{looked_live}
-use Rattle.hb_core.specs.Keeps.{HasSoundFile, LatchesFit, WalksInSpace}
-use Rattle.hb_core.specs.ConsolidatorRows.{names_child}
-use Rattle.hb_core.specs.KeptMerges.{AtParent, NamesKnown, PairHeld, merging_at}
-use Rattle.hb_core.specs.Performing.{latches_held, mode_among}
-use Rattle.hb_core.specs.WaitingLaws.{ComesLater, Promotes, WantedComesLater, WantsItsOwn}
+use Rattle.hb_consol.specs.ConsolidatorRows.{names_child}
 use Rattle.hb_core.proofs.AskedPages.{first_among, first_sibling_among, leaf_with_box, named_with_box, place_among}
 use Rattle.hb_core.proofs.Backing.{live_there}
 use Rattle.hb_core.proofs.SoundFiles.{current_sound, files_hold}
 use Rattle.hb_core.proofs.Volumes.{sibling_fewer}
+use Rattle.hb_core.specs.Asking.{looked_live}
+use Rattle.hb_core.specs.Keeps.{HasSoundFile, LatchesFit, WalksInSpace}
+use Rattle.hb_core.specs.KeptMerges.{AtParent, NamesKnown, PairHeld, merging_at}
+use Rattle.hb_core.specs.Machines.{Files, Machine, current_file, live_here}
+use Rattle.hb_core.specs.Performing.{latches_held, mode_among}
+use Rattle.hb_core.specs.WaitingLaws.{ComesLater, Promotes, WantedComesLater, WantsItsOwn}
+use Rattle.hb_frag.specs.Leaves.{Placed, first_named, leaf_at, leaves, leaves_of, siblings_of}
+use Rattle.hb_latch.specs.Tables.{MayLatch}
+use Rattle.hb_ops.specs.Files.{FileState, if_live, live_page}
+use Rattle.hb_ops.specs.PlacedLaws.{leaf_is_sibling, placed}
+use Rattle.hb_ops.specs.Sound.{IsSound}
+use Rattle.hb_space.specs.Boxes.{Area, volume}
+use Rattle.hb_store.specs.States.{in_memory}
 
 -- ---- in a sound file the pages that a page names come later
 

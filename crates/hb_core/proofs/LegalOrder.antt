@@ -3,23 +3,22 @@ use Rattle.std.proofs.Common.{◌≡◌, ◌≢◌, ◌⊎◌, inl, inr, ℕ, �
 use Rattle.std.specs.List.{AllByRecursion}
 use Rattle.std.proofs.lemmas.Bool.{cases_lt, false≢true}
 use Rattle.std.proofs.lemmas.List.Elements.{All-head, All-tail}
-use Rattle.hb_set.specs.Machine.{RecordSet, reply_of, set_after}
-use Rattle.hb_set.specs.Order.{AreReplies, Entry, IsLegalOrder, KeepsSessions, MayPrecede, result_of}
 use Rattle.hb_set.specs.declared.commands.Command.{Command}
 use Rattle.hb_set.specs.declared.commands.Command.TheVariants.{Insert, Delete, Lookup, Search}
 use Rattle.hb_set.specs.declared.scripts.Line.{Line}
 use Rattle.hb_activity.specs.declared.activities.Activity.{Activity}
 use Rattle.hb_activity.specs.declared.activities.Activity.TheVariants as at
-use Rattle.hb_core.specs.Machines.{Files, Machine, is_answered}
-use Rattle.hb_core.specs.SessionRows.{next_line}
-use Rattle.hb_core.specs.KeptLines.{line_in_hand}
-use Rattle.hb_core.specs.KeptOrder.{HasLegalOrder}
-use Rattle.hb_core.specs.KeptTurns.{IsInTurn, LinesInTurn, awaited_number}
-use Rattle.hb_core.specs.ContentsLaws.{ContentsFollowOrder, ContentsStep, contents_now}
-use Rattle.hb_core.specs.OrderLaws.{SearchIsRight, OrderStaysLegal}
-use Rattle.hb_core.specs.Steps.{WantsBoxes}
+use Rattle.hb_activity.specs.Classes.{line_in_hand}
 use Rattle.hb_core.proofs.NextLines.{next_is, same_line}
 use Rattle.hb_core.proofs.OrderPlaces.{replies_kept}
+use Rattle.hb_core.specs.ContentsLaws.{ContentsFollowOrder, ContentsStep, contents_now}
+use Rattle.hb_core.specs.KeptOrder.{HasLegalOrder}
+use Rattle.hb_core.specs.KeptTurns.{IsInTurn, LinesInTurn, awaited_number}
+use Rattle.hb_core.specs.Machines.{Files, Machine}
+use Rattle.hb_core.specs.OrderLaws.{SearchIsRight, OrderStaysLegal}
+use Rattle.hb_point.specs.SessionRows.{is_answered, next_line, WantsBoxes}
+use Rattle.hb_set.specs.Machine.{RecordSet, reply_of, set_after}
+use Rattle.hb_set.specs.Order.{AreReplies, Entry, IsLegalOrder, KeepsSessions, MayPrecede, result_of}
 
 -- ---- one entry more
 

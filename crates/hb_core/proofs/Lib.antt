@@ -1,3 +1,7 @@
+pub mod NextNumbers
+pub mod BroughtPages
+pub mod CommitPages
+pub mod GivenUp
 pub mod NoMerges
 pub mod OneMerge
 pub mod MergerMoves

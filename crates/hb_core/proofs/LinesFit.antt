@@ -1,25 +1,27 @@
 -- What the lines would store can be stored after a step, too.
-use Rattle.std.proofs.Common.{◌≡◌, inl, inr, ℕ, ◌==◌, ◌&&◌, not, true, false, Bool, cond, List, [], ◌∷◌, All, Option, Some, None, IfSome, sym, ap, ◌∙◌, subst}
+use Rattle.std.proofs.Common.{◌≡◌, inl, inr, ℕ, ◌==◌, ◌&&◌, not, true, false, Bool, cond, List, [], ◌∷◌, All, Option, Some, None, IfSome, sym, ap, ◌∙◌, subst, refl}
 use Rattle.std.proofs.lemmas.Bool.{cases_Bool}
 use Rattle.std.proofs.lemmas.List.Elements.{All-head, All-tail}
 use Rattle.hb_set.specs.declared.scripts.Answered.{Answered}
 use Rattle.hb_set.specs.declared.scripts.Line.{Line}
 use Rattle.hb_activity.specs.declared.activities.Activity.{Activity}
-use Rattle.hb_store.specs.States.{StoreState}
 use Rattle.hb_core.specs.declared.outcomes.Outcome.{Outcome}
 use Rattle.hb_core.specs.declared.outcomes.Outcome.TheVariants as outcomes
-use Rattle.hb_core.specs.Machines.{Machine, is_answered}
-use Rattle.hb_core.specs.Deeds.{Deed}
-use Rattle.hb_core.specs.Performing.{Performs}
-use Rattle.hb_core.specs.SessionRows.{next_line}
-use Rattle.hb_core.specs.WorkerRows.{IsPostingOf, TakesJob}
-use Rattle.hb_core.specs.ConsolidatorRows.{IsMergingOf, TakesMerging}
-use Rattle.hb_core.specs.Steps.{Works}
-use Rattle.hb_core.specs.KeptLines.{HasLineBody, LinesFit, line_in_hand}
-use Rattle.hb_core.specs.FileLaws.{LinesStayFit}
+use Rattle.hb_activity.specs.Classes.{line_in_hand}
+use Rattle.hb_activity.specs.Deeds.{Deed}
+use Rattle.hb_consol.specs.ConsolidatorRows.{IsMergingOf}
 use Rattle.hb_core.proofs.LineFates.{LineFate, fate_given_up, fate_ran_out, fate_row}
 use Rattle.hb_core.proofs.StepCases.{each_step}
-use Rattle.hb_core.proofs.Ways.{KeepsAllButDisk, forces_so, meets_so, stays_so}
+use Rattle.hb_core.proofs.StepKinds.{rest_kind}
+use Rattle.hb_core.proofs.Ways.{KeepsAllButDisk, forces_so, meets_so, stays_so, more_so}
+use Rattle.hb_core.specs.FileLaws.{LinesStayFit}
+use Rattle.hb_core.specs.KeptLines.{HasLineBody, LinesFit}
+use Rattle.hb_core.specs.Machines.{Machine}
+use Rattle.hb_core.specs.Performing.{Performs}
+use Rattle.hb_core.specs.Steps.{TakesJob, TakesMerging, Works}
+use Rattle.hb_point.specs.SessionRows.{is_answered, next_line}
+use Rattle.hb_poster.specs.PosterRows.{IsPostingOf}
+use Rattle.hb_store.specs.States.{StoreState}
 
 taken_or : (P : Line → Type 0) (first line : Line) (later : Option Line) (b : Bool) → P first → (later ≡ Some line → P line) → cond b (Some first) later ≡ Some line → P line
 taken_or P first line later true here there is = let same : first ≡ line = cc in subst P same here
@@ -59,7 +61,8 @@ module _ (m : Machine) (actor : ℕ) (outcome : Outcome) (new : Machine) (fit : 
   worked : Works m actor outcome new → LinesFit new
   worked (inl (by, way, so)) = stays (stays_so m actor outcome new (outcomes.Blocked by) so)
   worked (inr (inl (free, unready, inl (waits, force)))) = stays (forces_so m actor outcome new outcomes.Helped force)
-  worked (inr (inl (free, unready, inr (none, performs)))) = performed m.store _ performs (own_line _ (fate_ran_out m (m.activity actor)))
+  worked (inr (inl (free, unready, inr (none, rest)))) =
+      rest_kind m outcomes.Helped outcome new _ (LinesFit new) none (λ at. refl) (λ more. stays (more_so m actor outcome new more)) (λ performs. performed m.store _ performs (own_line _ (fate_ran_out m (m.activity actor)))) rest
   worked (inr (inr (free, ready, inl acts))) = performed acts.fetched acts.deed acts.performs (own_line acts.deed (fate_row m acts.fetched (m.activity actor) _ acts.deed acts.row))
   worked (inr (inr (free, ready, inr (inl gives)))) = performed gives.fetched _ gives.performs (own_line _ (fate_given_up m gives.why (m.activity actor)))
   worked (inr (inr (free, ready, inr (inr meets)))) = stays (meets_so m actor outcome new meets)
@@ -87,6 +90,7 @@ pub lines_stay_fit : LinesStayFit
 lines_stay_fit m actor outcome new fit step = each_step m actor outcome new (LinesFit new) (record {
   stays = λ said so. stays m actor outcome new fit (stays_so m actor outcome new said so);
   forces = λ said quiet force. stays m actor outcome new fit (forces_so m actor outcome new said force);
+  more = λ more. stays m actor outcome new fit (more_so m actor outcome new more);
   takes = λ line idle next performs. performed m actor outcome new fit m.store _ performs (line_taken HasLineBody actor m.answered m.lines fit.script line next);
   refuses = λ line idle next performs. performed m actor outcome new fit m.store _ performs tt;
   posts = λ deed idle takes performs. performed m actor outcome new fit m.store deed performs (no_line deed (took_job m deed takes));

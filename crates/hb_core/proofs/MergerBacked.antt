@@ -1,37 +1,37 @@
 -- Where the latches of a consolidator come from, after each of its rows: each was held before, or is the one that the step wanted.
 use Rattle.std.proofs.Common.{◌≡◌, inl, inr, ℕ, ◌==◌, Bool, cond, [], ◌∷◌, length, Option, Some, None, refl, sym, ap, ◌∙◌, subst}
 use Rattle.std.proofs.lemmas.Bool.{cases_Bool, eq-eqb, eqb-true}
-use Rattle.hb_space.specs.Boxes.{Area}
 use Rattle.hb_frag.specs.declared.pages.LivePage.{LivePage}
-use Rattle.hb_frag.specs.Leaves.{first_named, siblings_of}
-use Rattle.hb_ops.specs.Files.{if_live}
 use Rattle.hb_ops.specs.declared.operations.Op.{Op}
 use Rattle.hb_latch.specs.declared.modes.Mode.{Mode}
 use Rattle.hb_latch.specs.declared.modes.Mode.TheVariants.{Shared, Update, Exclusive}
-use Rattle.hb_latch.specs.Tables.{MayLatch}
 use Rattle.hb_terms.specs.declared.merging.MergePlan.{MergePlan}
 use Rattle.hb_terms.specs.declared.merging.MergePlan.TheVariants as plans
 use Rattle.hb_activity.specs.declared.jobs.Job.{Job}
 use Rattle.hb_activity.specs.declared.wanting.Wanted.{Wanted}
 use Rattle.hb_activity.specs.declared.activities.Activity.{Activity}
 use Rattle.hb_activity.specs.declared.activities.Activity.TheVariants as at
+use Rattle.hb_activity.specs.Deeds.{Deed}
 use Rattle.hb_activity.specs.Holding.{latch_on}
 use Rattle.hb_activity.specs.Walks.{job_mode}
 use Rattle.hb_activity.specs.Wanting.{walk_next, wanted_of}
-use Rattle.hb_store.specs.States.{StoreState, in_memory}
-use Rattle.hb_core.specs.Machines.{Machine, with_disk}
+use Rattle.hb_consol.specs.ConsolidatorRows.{after_try, children_of, one_behind, scans, tries}
+use Rattle.hb_consol.specs.MergeRows.{after_keep}
+use Rattle.hb_core.proofs.Backing.{AreBacked, BackedIn, IsBacked, at_hand, backed_row, goes, held_backed, live_now, one_backed, own_mode, rests, stands, there_now, walk_backed}
+use Rattle.hb_core.proofs.MergerMoves.{decided, merger_moves, of_page}
+use Rattle.hb_core.proofs.OwnedOps.{in_its_mode}
 use Rattle.hb_core.specs.Asking.{HasWayFree, looked_live, wanted_by}
 use Rattle.hb_core.specs.Fetching.{Brings}
-use Rattle.hb_core.specs.Deeds.{Deed}
-use Rattle.hb_core.specs.Performing.{MayDo, latches_held, mode_among}
-use Rattle.hb_core.specs.ConsolidatorRows.{after_try, children_of, one_behind, scans, tries}
-use Rattle.hb_core.specs.MergeRows.{after_keep}
-use Rattle.hb_core.specs.Rows.{Row, RowAt}
-use Rattle.hb_core.specs.KeptMerges.{IsMerging}
 use Rattle.hb_core.specs.Keeps.{HoldsPagesOfFile, LatchesFit}
-use Rattle.hb_core.proofs.OwnedOps.{in_its_mode}
-use Rattle.hb_core.proofs.MergerMoves.{decided, merger_moves, of_page}
-use Rattle.hb_core.proofs.Backing.{AreBacked, BackedIn, IsBacked, at_hand, backed_row, goes, held_backed, live_now, one_backed, own_mode, rests, stands, there_now, walk_backed}
+use Rattle.hb_core.specs.KeptMerges.{IsMerging}
+use Rattle.hb_core.specs.Machines.{Machine, with_disk, sight}
+use Rattle.hb_core.specs.Performing.{MayDo, latches_held, mode_among}
+use Rattle.hb_core.specs.Rows.{Row, RowAt}
+use Rattle.hb_frag.specs.Leaves.{first_named, siblings_of}
+use Rattle.hb_latch.specs.Tables.{MayLatch}
+use Rattle.hb_ops.specs.Files.{if_live}
+use Rattle.hb_space.specs.Boxes.{Area}
+use Rattle.hb_store.specs.States.{StoreState, in_memory}
 
 -- Two latches: the second one counts where it is on another page.
 both_backed : (m : Machine) (actor : ℕ) (st : StoreState) (first second : ℕ) (mode other : Mode) → IsBacked m actor st first mode → IsBacked m actor st second other → AreBacked m actor st (latch_on first mode ∷ latch_on second other ∷ [])
@@ -50,7 +50,7 @@ first_held first second mode other = ap (λ (b : Bool). cond b (Some mode) (mode
 one_held : (first : ℕ) (mode : Mode) → mode_among first (latch_on first mode ∷ []) ≡ Some mode
 one_held first mode = ap (λ (b : Bool). cond b (Some mode) None) (eq-eqb first first refl)
 
-module _ (m : Machine) (actor : ℕ) (may : ℕ → Type 0) (fetched : StoreState) (new : StoreState) (latches : MayLatch actor) (fit : LatchesFit m) (inside : HoldsPagesOfFile m) (free : HasWayFree m actor) (brings : Brings m.files may m.store fetched)
+module _ (m : Machine) (actor : ℕ) (may : ℕ → Type 0) (fetched : StoreState) (new : StoreState) (latches : MayLatch actor) (fit : LatchesFit m) (inside : HoldsPagesOfFile m) (free : HasWayFree m actor) (brings : Brings m may fetched)
     (wanted : Wanted) (page : LivePage) (wants : wanted_by m actor ≡ Some wanted) (live : if_live (in_memory fetched wanted.page) ≡ Some page) (level : page.level ≡ wanted.level) (none : new ≡ fetched) where
   abbrev pub m' : Machine
   m' = with_disk fetched m.files m.clock m
@@ -82,11 +82,11 @@ module _ (m : Machine) (actor : ℕ) (may : ℕ → Type 0) (fetched : StoreStat
 
   -- ---- the next child, and the next pair
 
-  scan_next : (job : Job) (parent : ℕ) (child : Option ℕ) → IsBacked m actor new parent Update → Backs (scans m' job parent child)
+  scan_next : (job : Job) (parent : ℕ) (child : Option ℕ) → IsBacked m actor new parent Update → Backs (scans job parent child)
   scan_next job parent None backed = rests m actor new _ refl refl
   scan_next job parent (Some child) backed = stands m actor new (at.ConsolidatorScan job parent child) refl (one_backed m actor new parent Update backed)
 
-  try_next : (job : Job) (parent keep : ℕ) (above : LivePage) (pair : Option (ℕ × ℕ)) → IsBacked m actor new parent Update → AreBacked m actor new (latch_on parent Update ∷ latch_on keep Shared ∷ []) → Backs (tries m' job parent above keep pair)
+  try_next : (job : Job) (parent keep : ℕ) (above : LivePage) (pair : Option (ℕ × ℕ)) → IsBacked m actor new parent Update → AreBacked m actor new (latch_on parent Update ∷ latch_on keep Shared ∷ []) → Backs (tries job parent above keep pair)
   try_next job parent keep above None backed both = scan_next job parent (one_behind keep (children_of above)) backed
   try_next job parent keep above (Some (gone, leaf)) backed both = stands m actor new (at.ConsolidatorTry job parent keep gone leaf) refl both
 
@@ -94,19 +94,19 @@ module _ (m : Machine) (actor : ℕ) (may : ℕ → Type 0) (fetched : StoreStat
   pair_stays : (job : Job) (parent keep gone leaf : ℕ) → m.activity actor ≡ at.ConsolidatorTry job parent keep gone leaf → AreBacked m actor new (latch_on parent Update ∷ latch_on keep Shared ∷ [])
   pair_stays job parent keep gone leaf is id mode among = held (at.ConsolidatorTry job parent keep gone leaf) id mode is among
 
-  plan_next : (job : Job) (parent keep gone leaf : ℕ) (above kept : LivePage) (plan : MergePlan) → m.activity actor ≡ at.ConsolidatorTry job parent keep gone leaf → Backs (after_try m' job parent keep gone leaf above kept plan)
+  plan_next : (job : Job) (parent keep gone leaf : ℕ) (above kept : LivePage) (plan : MergePlan) → m.activity actor ≡ at.ConsolidatorTry job parent keep gone leaf → Backs (after_try job parent keep gone leaf above kept plan)
   plan_next job parent keep gone leaf above kept plan is = by plan
     where
       parent_stays : IsBacked m actor new parent Update
       parent_stays = held (at.ConsolidatorTry job parent keep gone leaf) parent Update is (first_held parent keep Update Shared)
 
-      by : (plan : MergePlan) → Backs (after_try m' job parent keep gone leaf above kept plan)
+      by : (plan : MergePlan) → Backs (after_try job parent keep gone leaf above kept plan)
       by plans.Merge = stands m actor new (at.ConsolidatorPromote job parent keep gone) refl (one_backed m actor new parent Update parent_stays)
       by plans.NotContained = try_next job parent keep above _ parent_stays (pair_stays job parent keep gone leaf is)
       by plans.ManyParents = try_next job parent keep above _ parent_stays (pair_stays job parent keep gone leaf is)
       by plans.TooHeavy = try_next job parent keep above _ parent_stays (pair_stays job parent keep gone leaf is)
 
-  keep_next : (job : Job) (parent keep gone : ℕ) (area : Option Area) → m.activity actor ≡ at.ConsolidatorKeep job parent keep gone → Backs (after_keep m' job parent keep gone area)
+  keep_next : (job : Job) (parent keep gone : ℕ) (area : Option Area) → m.activity actor ≡ at.ConsolidatorKeep job parent keep gone → Backs (after_keep job parent keep gone area)
   keep_next job parent keep gone None is = rests m actor new _ refl refl
   keep_next job parent keep gone (Some area) is =
       let keeping : Activity = at.ConsolidatorKeep job parent keep gone in
@@ -123,7 +123,7 @@ module _ (m : Machine) (actor : ℕ) (may : ℕ → Type 0) (fetched : StoreStat
       goes m actor new (at.ConsolidatorWalk job (Some wanted.page)) wanted.page page refl (there_now m actor may fetched new latches fit inside free brings wanted page wants live level none)
       (walk_backed m actor new wanted.page page (job_mode job) (live_now m actor may fetched new latches fit inside free brings wanted page wants live level none) (latched (job_mode job page.level) (walk_mode job on is)))
 
-  pub merger_backed : (activity : Activity) (deed : Deed) → IsMerging activity → m.activity actor ≡ activity → RowAt activity m' wanted.page page deed → Backs deed
+  pub merger_backed : (activity : Activity) (deed : Deed) → IsMerging activity → m.activity actor ≡ activity → RowAt activity (sight m') wanted.page page deed → Backs deed
   merger_backed (at.ConsolidatorWalk job on) deed kind is (inl row) = backs deed _ row.deed_is (scan_next job wanted.page _ (arrives job on is row.level))
   merger_backed (at.ConsolidatorWalk job on) deed kind is (inr row) = backs deed _ row.passes.deed_is (goes_on job on is)
   merger_backed (at.ConsolidatorScan job parent child) deed kind is row =
@@ -152,7 +152,7 @@ module _ (m : Machine) (actor : ℕ) (may : ℕ → Type 0) (fetched : StoreStat
 
 -- ---- every row
 
-module _ (m : Machine) (actor : ℕ) (may : ℕ → Type 0) (fetched : StoreState) (new : StoreState) (latches : MayLatch actor) (fit : LatchesFit m) (inside : HoldsPagesOfFile m) (free : HasWayFree m actor) (brings : Brings m.files may m.store fetched) where
+module _ (m : Machine) (actor : ℕ) (may : ℕ → Type 0) (fetched : StoreState) (new : StoreState) (latches : MayLatch actor) (fit : LatchesFit m) (inside : HoldsPagesOfFile m) (free : HasWayFree m actor) (brings : Brings m may fetched) where
   abbrev now : Machine
   now = with_disk fetched m.files m.clock m
 

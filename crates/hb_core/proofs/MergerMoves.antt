@@ -1,24 +1,24 @@
 -- Each row of a consolidator moves it, and does nothing to the file.
 use Rattle.std.proofs.Common.{◌≡◌, inl, inr, ℕ, List, [], Option, Some, None, option_map, refl, sym, ap}
-use Rattle.hb_space.specs.Boxes.{Area}
 use Rattle.hb_frag.specs.declared.pages.LivePage.{LivePage}
-use Rattle.hb_frag.specs.Leaves.{first_named, siblings_of}
 use Rattle.hb_terms.specs.declared.merging.MergePlan.{MergePlan}
 use Rattle.hb_terms.specs.declared.merging.MergePlan.TheVariants as plans
 use Rattle.hb_activity.specs.declared.jobs.Job.{Job}
 use Rattle.hb_activity.specs.declared.activities.Activity.{Activity}
 use Rattle.hb_activity.specs.declared.activities.Activity.TheVariants as at
-use Rattle.hb_activity.specs.Walks.{walk_held}
 use Rattle.hb_activity.specs.declared.wanting.Wanted.{Wanted}
-use Rattle.hb_activity.specs.Wanting.{wanted_page}
 use Rattle.hb_latch.specs.declared.modes.Mode.{Mode}
-use Rattle.hb_core.specs.Machines.{Machine}
-use Rattle.hb_core.specs.Deeds.{Deed, moves_to}
-use Rattle.hb_core.specs.KeptLines.{line_in_hand}
-use Rattle.hb_core.specs.ConsolidatorRows.{after_try, children_of, ends_merging, one_behind, scans, tries}
-use Rattle.hb_core.specs.MergeRows.{DoesMerge, after_keep}
+use Rattle.hb_activity.specs.Classes.{line_in_hand}
+use Rattle.hb_activity.specs.Deeds.{Deed, moves_to}
+use Rattle.hb_activity.specs.Walks.{walk_held}
+use Rattle.hb_activity.specs.Wanting.{wanted_page}
+use Rattle.hb_consol.specs.ConsolidatorRows.{after_try, children_of, ends_merging, one_behind, scans, tries}
+use Rattle.hb_consol.specs.MergeRows.{DoesMerge, after_keep}
 use Rattle.hb_core.specs.KeptMerges.{IsMerging}
+use Rattle.hb_core.specs.Machines.{Machine, sight}
 use Rattle.hb_core.specs.Rows.{RowAt}
+use Rattle.hb_frag.specs.Leaves.{first_named, siblings_of}
+use Rattle.hb_space.specs.Boxes.{Area}
 
 -- what an actor waits for, where it does
 abbrev pub Waits : Activity → Type 0
@@ -35,7 +35,7 @@ of_page id level mode (Some page) wanted is =
 pub record MovesMerger (m : Machine) (deed : Deed) : Type 0 where
   pub next : Activity
   pub adds : List Job
-  pub is : deed ≡ moves_to m next adds
+  pub is : deed ≡ moves_to next adds
   pub hand : line_in_hand next ≡ None
   pub awaits : Waits next → ⊥
 
@@ -45,39 +45,39 @@ pub record StaysMerger (m : Machine) (deed : Deed) : Type 0 where
   pub walk : walk_held moves.next ≡ None
 
 module _ (m : Machine) where
-  pub ended : (deed : Deed) → deed ≡ ends_merging m → StaysMerger m deed
+  pub ended : (deed : Deed) → deed ≡ ends_merging → StaysMerger m deed
   ended deed is = record { moves = record { next = at.ConsolidatorIdle; adds = []; is = is; hand = refl; awaits = λ never. never }; walk = refl }
 
-  pub scanned : (job : Job) (parent : ℕ) (next : Option ℕ) (deed : Deed) → deed ≡ scans m job parent next → StaysMerger m deed
+  pub scanned : (job : Job) (parent : ℕ) (next : Option ℕ) (deed : Deed) → deed ≡ scans job parent next → StaysMerger m deed
   scanned job parent None deed is = ended deed is
   scanned job parent (Some child) deed is = record { moves = record { next = at.ConsolidatorScan job parent child; adds = []; is = is; hand = refl; awaits = λ never. never }; walk = refl }
 
-  pub tried : (job : Job) (parent keep : ℕ) (above : LivePage) (pair : Option (ℕ × ℕ)) (deed : Deed) → deed ≡ tries m job parent above keep pair → StaysMerger m deed
+  pub tried : (job : Job) (parent keep : ℕ) (above : LivePage) (pair : Option (ℕ × ℕ)) (deed : Deed) → deed ≡ tries job parent above keep pair → StaysMerger m deed
   tried job parent keep above None deed is = scanned job parent (one_behind keep (children_of above)) deed is
   tried job parent keep above (Some (gone, leaf)) deed is = record { moves = record { next = at.ConsolidatorTry job parent keep gone leaf; adds = []; is = is; hand = refl; awaits = λ never. never }; walk = refl }
 
-  pub promoted : (job : Job) (parent keep gone : ℕ) (deed : Deed) → deed ≡ moves_to m (at.ConsolidatorKeep job parent keep gone) [] → StaysMerger m deed
+  pub promoted : (job : Job) (parent keep gone : ℕ) (deed : Deed) → deed ≡ moves_to (at.ConsolidatorKeep job parent keep gone) [] → StaysMerger m deed
   promoted job parent keep gone deed is = record { moves = record { next = at.ConsolidatorKeep job parent keep gone; adds = []; is = is; hand = refl; awaits = λ never. never }; walk = refl }
 
-  pub planned : (job : Job) (parent keep gone leaf : ℕ) (above kept : LivePage) (plan : MergePlan) (deed : Deed) → deed ≡ after_try m job parent keep gone leaf above kept plan → StaysMerger m deed
+  pub planned : (job : Job) (parent keep gone leaf : ℕ) (above kept : LivePage) (plan : MergePlan) (deed : Deed) → deed ≡ after_try job parent keep gone leaf above kept plan → StaysMerger m deed
   planned job parent keep gone leaf above kept plans.Merge deed is = record { moves = record { next = at.ConsolidatorPromote job parent keep gone; adds = []; is = is; hand = refl; awaits = λ never. never }; walk = refl }
   planned job parent keep gone leaf above kept plans.NotContained deed is = tried job parent keep above _ deed is
   planned job parent keep gone leaf above kept plans.ManyParents deed is = tried job parent keep above _ deed is
   planned job parent keep gone leaf above kept plans.TooHeavy deed is = tried job parent keep above _ deed is
 
-  pub took : (job : Job) (parent keep gone : ℕ) (area : Option Area) (deed : Deed) → deed ≡ after_keep m job parent keep gone area → StaysMerger m deed
+  pub took : (job : Job) (parent keep gone : ℕ) (area : Option Area) (deed : Deed) → deed ≡ after_keep job parent keep gone area → StaysMerger m deed
   took job parent keep gone None deed is = ended deed is
   took job parent keep gone (Some area) deed is = record { moves = record { next = at.ConsolidatorDecide job parent keep gone; adds = []; is = is; hand = refl; awaits = λ never. never }; walk = refl }
 
   -- while no operation merges, the job is dropped
-  pub decided : (job : Job) (parent keep gone : ℕ) (above : LivePage) (plan : MergePlan) (deed : Deed) → DoesMerge m job parent keep gone above plan deed → deed ≡ ends_merging m
+  pub decided : (job : Job) (parent keep gone : ℕ) (above : LivePage) (plan : MergePlan) (deed : Deed) → DoesMerge (sight m) job parent keep gone above plan deed → deed ≡ ends_merging
   decided job parent keep gone above plans.Merge deed (inl row) = absurd row.merge
   decided job parent keep gone above plans.Merge deed (inr row) = row.deed_is
   decided job parent keep gone above plans.NotContained deed is = is
   decided job parent keep gone above plans.ManyParents deed is = is
   decided job parent keep gone above plans.TooHeavy deed is = is
 
-  pub merger_moves : (activity : Activity) (id : ℕ) (page : LivePage) (deed : Deed) → IsMerging activity → RowAt activity m id page deed → MovesMerger m deed
+  pub merger_moves : (activity : Activity) (id : ℕ) (page : LivePage) (deed : Deed) → IsMerging activity → RowAt activity (sight m) id page deed → MovesMerger m deed
   merger_moves (at.ConsolidatorWalk job held) id page deed kind (inl row) = (scanned job id _ deed row.deed_is).moves
   merger_moves (at.ConsolidatorWalk job held) id page deed kind (inr row) = record { next = at.ConsolidatorWalk job (Some id); adds = _; is = row.passes.deed_is; hand = refl; awaits = λ never. never }
   merger_moves (at.ConsolidatorScan job parent child) id page deed kind row = (tried job parent child row.above _ deed row.deed_is).moves

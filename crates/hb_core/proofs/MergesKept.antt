@@ -4,11 +4,9 @@ use Rattle.std.specs.List.{list_any}
 use Rattle.std.proofs.lemmas.Option.{same_Some}
 use Rattle.std.proofs.lemmas.Bool.{cases_Bool, eq-eqb}
 use Rattle.std.proofs.lemmas.List.Elements.{All-cons, All-head, All-nil}
-use Rattle.hb_space.specs.Boxes.{Area}
 use Rattle.hb_frag.specs.declared.leaves.Leaf.{Leaf}
 use Rattle.hb_frag.specs.declared.leaves.Leaf.TheVariants.{Records, Child, Sibling}
 use Rattle.hb_frag.specs.declared.pages.LivePage.{LivePage}
-use Rattle.hb_frag.specs.Leaves.{child_names, first_named, firsts, leaves, siblings_of}
 use Rattle.hb_latch.specs.declared.modes.Mode.{Mode}
 use Rattle.hb_latch.specs.declared.modes.Mode.TheVariants.{Shared, Update, Exclusive}
 use Rattle.hb_terms.specs.declared.merging.MergePlan.{MergePlan}
@@ -16,20 +14,22 @@ use Rattle.hb_terms.specs.declared.merging.MergePlan.TheVariants as plans
 use Rattle.hb_activity.specs.declared.jobs.Job.{Job}
 use Rattle.hb_activity.specs.declared.activities.Activity.{Activity}
 use Rattle.hb_activity.specs.declared.activities.Activity.TheVariants as at
+use Rattle.hb_activity.specs.Deeds.{Deed}
 use Rattle.hb_activity.specs.Holding.{latch_on}
 use Rattle.hb_activity.specs.Walks.{walk_held}
 use Rattle.hb_activity.specs.Wanting.{wanted_of, wanted_page}
-use Rattle.hb_store.specs.States.{StoreState}
-use Rattle.hb_core.specs.Machines.{Machine, live_here}
-use Rattle.hb_core.specs.Asking.{looked_live}
-use Rattle.hb_core.specs.Deeds.{Deed}
-use Rattle.hb_core.specs.Rows.{RowAt}
-use Rattle.hb_core.specs.Performing.{latches_held, mode_among}
-use Rattle.hb_core.specs.ConsolidatorRows.{after_try, children_of, first_one, names_child, one_behind, one_on, pair_among, pair_from, scans, tries}
-use Rattle.hb_core.specs.MergeRows.{after_keep}
-use Rattle.hb_core.specs.KeptMerges.{AtParent, IsMerging, KeepsPair, NamesKnown, PairHeld, knows, merging_at}
+use Rattle.hb_consol.specs.ConsolidatorRows.{after_try, children_of, first_one, names_child, one_behind, one_on, pair_among, pair_from, scans, tries}
+use Rattle.hb_consol.specs.MergeRows.{after_keep}
 use Rattle.hb_core.proofs.MergerMoves.{StaysMerger, decided, of_page}
 use Rattle.hb_core.proofs.NextPlaces.{AsksFor, HoldsNothing, MergesOn, now}
+use Rattle.hb_core.specs.Asking.{looked_live}
+use Rattle.hb_core.specs.KeptMerges.{AtParent, IsMerging, KeepsPair, NamesKnown, PairHeld, knows, merging_at}
+use Rattle.hb_core.specs.Machines.{Machine, live_here, sight}
+use Rattle.hb_core.specs.Performing.{latches_held, mode_among}
+use Rattle.hb_core.specs.Rows.{RowAt}
+use Rattle.hb_frag.specs.Leaves.{child_names, first_named, firsts, leaves, siblings_of}
+use Rattle.hb_space.specs.Boxes.{Area}
+use Rattle.hb_store.specs.States.{StoreState}
 
 -- ---- in a memory that has its pages
 
@@ -232,7 +232,7 @@ module _ (m : Machine) (actor : ℕ) (fetched : StoreState) (before : (place : A
   one_page : (above other : LivePage) (parent : ℕ) → live_here fetched parent ≡ Some above → live_here fetched parent ≡ Some other → above ≡ other
   one_page above other parent a b = same_Some above other (sym a ∙ b)
 
-  scan_lands : (job : Job) (parent : ℕ) (above : LivePage) (child : Option ℕ) → IsParent job parent above → ((id : ℕ) → child ≡ Some id → IsTrue (names_child above id)) → Lands (scans here job parent child).next
+  scan_lands : (job : Job) (parent : ℕ) (above : LivePage) (child : Option ℕ) → IsParent job parent above → ((id : ℕ) → child ≡ Some id → IsTrue (names_child above id)) → Lands (scans job parent child).next
   scan_lands job parent above None is named = idle
   scan_lands job parent above (Some child) (live, level) named = inr (record {
     place = _;
@@ -243,10 +243,10 @@ module _ (m : Machine) (actor : ℕ) (fetched : StoreState) (before : (place : A
   behind_named : (above : LivePage) (keep id : ℕ) → one_behind keep (children_of above) ≡ Some id → IsTrue (names_child above id)
   behind_named above keep id is = any_first id (child_names (leaves above.frag)) (behind_listed id keep (children_of above) is)
 
-  try_lands : (job : Job) (parent keep : ℕ) (above kept : LivePage) (from : ℕ) → IsParent job parent above → IsTrue (names_child above keep) → live_here fetched keep ≡ Some kept → Lands (tries here job parent above keep (pair_from above kept from)).next
+  try_lands : (job : Job) (parent keep : ℕ) (above kept : LivePage) (from : ℕ) → IsParent job parent above → IsTrue (names_child above keep) → live_here fetched keep ≡ Some kept → Lands (tries job parent above keep (pair_from above kept from)).next
   try_lands job parent keep above kept from (live, level) named kept_live = by (pair_from above kept from) (pair_found above from (leaves kept.frag))
     where
-      by : (pair : Option (ℕ × ℕ)) → ((gone leaf : ℕ) → pair ≡ Some (gone, leaf) → IsPair above (leaves kept.frag) gone leaf) → Lands (tries here job parent above keep pair).next
+      by : (pair : Option (ℕ × ℕ)) → ((gone leaf : ℕ) → pair ≡ Some (gone, leaf) → IsPair above (leaves kept.frag) gone leaf) → Lands (tries job parent above keep pair).next
       by None found = scan_lands job parent above (one_behind keep (children_of above)) (live, level) (behind_named above keep)
       by (Some (gone, leaf)) found =
           let pair = found gone leaf refl in
@@ -270,22 +270,22 @@ module _ (m : Machine) (actor : ℕ) (fetched : StoreState) (before : (place : A
       let same = one_page named.page above parent named.live live in
       ((live, ap (λ (q : LivePage). q.level) (sym same) ∙ named.level), subst (λ (q : LivePage). All (λ id. IsTrue (names_child q id)) known) same named.names)
 
-  plan_lands : (job : Job) (parent keep gone leaf : ℕ) (above kept : LivePage) (plan : MergePlan) → m.activity actor ≡ at.ConsolidatorTry job parent keep gone leaf → live_here fetched parent ≡ Some above → live_here fetched keep ≡ Some kept → Lands (after_try here job parent keep gone leaf above kept plan).next
+  plan_lands : (job : Job) (parent keep gone leaf : ℕ) (above kept : LivePage) (plan : MergePlan) → m.activity actor ≡ at.ConsolidatorTry job parent keep gone leaf → live_here fetched parent ≡ Some above → live_here fetched keep ≡ Some kept → Lands (after_try job parent keep gone leaf above kept plan).next
   plan_lands job parent keep gone leaf above kept plan is live kept_live = by plan
     where
       known : IsParent job parent above × All (λ id. IsTrue (names_child above id)) (keep ∷ gone ∷ [])
       known = known_as job parent (keep ∷ gone ∷ []) _ above (ap merging_at is) live
 
-      on : Lands (tries here job parent above keep (pair_from above kept (leaf + 1))).next
+      on : Lands (tries job parent above keep (pair_from above kept (leaf + 1))).next
       on = try_lands job parent keep above kept (leaf + 1) known.0 (All-head (λ id. IsTrue (names_child above id)) keep (gone ∷ []) known.1) kept_live
 
-      by : (plan : MergePlan) → Lands (after_try here job parent keep gone leaf above kept plan).next
+      by : (plan : MergePlan) → Lands (after_try job parent keep gone leaf above kept plan).next
       by plans.Merge = inr (record { place = _; is = refl; named = record { page = above; live = live; level = known.0.1; names = known.1; pair = tt } })
       by plans.NotContained = on
       by plans.ManyParents = on
       by plans.TooHeavy = on
 
-  keep_lands : (job : Job) (parent keep gone : ℕ) (page : LivePage) (area : Option Area) → first_named gone (siblings_of page) ≡ area → m.activity actor ≡ at.ConsolidatorKeep job parent keep gone → live_here fetched keep ≡ Some page → Lands (after_keep here job parent keep gone area).next
+  keep_lands : (job : Job) (parent keep gone : ℕ) (page : LivePage) (area : Option Area) → first_named gone (siblings_of page) ≡ area → m.activity actor ≡ at.ConsolidatorKeep job parent keep gone → live_here fetched keep ≡ Some page → Lands (after_keep job parent keep gone area).next
   keep_lands job parent keep gone page None found is live = idle
   keep_lands job parent keep gone page (Some area) found is live =
       let named = before _ (ap merging_at is) in
@@ -313,7 +313,7 @@ module _ (m : Machine) (actor : ℕ) (fetched : StoreState) (before : (place : A
       nothing : None ≡ Some id → ⊥
       nothing is = cc
 
-  lands : (activity : Activity) (id : ℕ) (page : LivePage) (deed : Deed) → m.activity actor ≡ activity → AsksFor m actor id → live_here fetched id ≡ Some page → IsMerging activity → RowAt activity here id page deed → StaysMerger here deed → Lands deed.next
+  lands : (activity : Activity) (id : ℕ) (page : LivePage) (deed : Deed) → m.activity actor ≡ activity → AsksFor m actor id → live_here fetched id ≡ Some page → IsMerging activity → RowAt activity (sight here) id page deed → StaysMerger here deed → Lands deed.next
   lands (at.ConsolidatorWalk job held) id page deed is asks live kind (inl row) stays =
       landed deed _ row.deed_is (scan_lands job id page (first_one (children_of page)) (live, row.level) (λ child first. any_first child (child_names (leaves page.frag)) (first_listed child (children_of page) first)))
   lands (at.ConsolidatorWalk job held) id page deed is asks live kind (inr row) stays = absurd (stays_none id deed stays (ap (λ (d : Deed). walk_held d.next) row.passes.deed_is))

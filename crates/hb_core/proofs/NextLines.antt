@@ -2,11 +2,10 @@
 use Rattle.std.proofs.Common.{◌≡◌, ◌≢◌, ◌⊎◌, inl, inr, ℕ, zero, suc, ◌<◌, ◌==◌, ◌&&◌, ◌||◌, not, Bool, true, false, cond, List, [], ◌∷◌, ◌++◌, Option, Some, None, refl, sym, ap, ◌∙◌, subst, arith, ne_eqb}
 use Rattle.std.specs.List.{Contains}
 use Rattle.std.proofs.lemmas.Bool.{eq-eqb, eqb-true, false≢true}
-use Rattle.hb_set.specs.Order.{AreRising, IsAbove}
 use Rattle.hb_set.specs.declared.scripts.Answered.{Answered}
 use Rattle.hb_set.specs.declared.scripts.Line.{Line}
-use Rattle.hb_core.specs.Machines.{is_answered}
-use Rattle.hb_core.specs.SessionRows.{next_line}
+use Rattle.hb_point.specs.SessionRows.{is_answered, next_line}
+use Rattle.hb_set.specs.Order.{AreRising, IsAbove}
 
 -- a line of the script, of the session, without an answer
 pub record IsNextOf (session : ℕ) (answered : List Answered) (lines : List Line) (line : Line) : Type 0 where

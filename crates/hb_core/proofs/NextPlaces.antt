@@ -1,10 +1,8 @@
 -- Where an actor stands after a step that may be done: it holds nothing, walks on, or takes its page or its job one step further.
 use Rattle.std.proofs.Common.{◌≡◌, ◌⊎◌, inl, inr, ℕ, List, [], ◌∷◌, Option, Some, None, refl, sym, ap, ◌∙◌, subst}
 use Rattle.std.specs.Prelude.{MatchOption}
-use Rattle.hb_space.specs.Boxes.{Area}
 use Rattle.hb_space.specs.declared.records.Record.{Record}
 use Rattle.hb_frag.specs.declared.pages.LivePage.{LivePage}
-use Rattle.hb_frag.specs.Leaves.{Placed, first_named, leaf_at, siblings_of}
 use Rattle.hb_set.specs.declared.commands.Command.{Command}
 use Rattle.hb_set.specs.declared.commands.Command.TheVariants.{Insert, Delete, Lookup, Search}
 use Rattle.hb_set.specs.declared.scripts.Line.{Line}
@@ -14,21 +12,26 @@ use Rattle.hb_activity.specs.declared.jobs.Job.{Job}
 use Rattle.hb_activity.specs.declared.wanting.Wanted.{Wanted}
 use Rattle.hb_activity.specs.declared.activities.Activity.{Activity}
 use Rattle.hb_activity.specs.declared.activities.Activity.TheVariants as at
+use Rattle.hb_activity.specs.declared.dropping.DropWhy.{DropWhy}
+use Rattle.hb_activity.specs.Classes.{Class, class_of, idle_of}
+use Rattle.hb_activity.specs.Deeds.{Deed}
+use Rattle.hb_activity.specs.Passing.{PassesOn}
 use Rattle.hb_activity.specs.Walks.{goal_of, walk_held, walk_point}
-use Rattle.hb_store.specs.States.{StoreState}
-use Rattle.hb_core.specs.declared.outcomes.DropWhy.{DropWhy}
-use Rattle.hb_core.specs.Machines.{Machine, live_here, with_disk}
-use Rattle.hb_core.specs.Asking.{wanted_by}
-use Rattle.hb_core.specs.Deeds.{Deed}
-use Rattle.hb_core.specs.GivingUp.{gives_up, runs_out}
-use Rattle.hb_core.specs.Performing.{latches_held}
-use Rattle.hb_core.specs.SearchRows.{SearchGoesOn}
-use Rattle.hb_core.specs.SessionRows.{DoesThere, FindsNoRoom, PassesOn}
-use Rattle.hb_core.specs.SplitRows.{Splits}
-use Rattle.hb_core.specs.WorkerRows.{Arrives, DoesPlan, after_look}
-use Rattle.hb_core.specs.KeptMerges.{IsMerging, merging_at}
-use Rattle.hb_core.specs.Rows.{Row, RowAlone, RowAt}
+use Rattle.hb_core.proofs.GivenUp.{given_up_is, idle_latches, idle_merging, idle_walks, run_out_is}
 use Rattle.hb_core.proofs.MergerMoves.{StaysMerger, decided, ended, planned, promoted, scanned, took, tried}
+use Rattle.hb_core.specs.Asking.{wanted_by}
+use Rattle.hb_core.specs.GivingUp.{gives_up, runs_out}
+use Rattle.hb_core.specs.KeptMerges.{IsMerging, merging_at}
+use Rattle.hb_core.specs.Machines.{Machine, live_here, with_disk, sight}
+use Rattle.hb_core.specs.Performing.{latches_held}
+use Rattle.hb_core.specs.Rows.{DoesHere, Row, RowAlone, RowAt}
+use Rattle.hb_frag.specs.Leaves.{Placed, first_named, leaf_at, siblings_of}
+use Rattle.hb_point.specs.SessionRows.{FindsNoRoom}
+use Rattle.hb_point.specs.SplitRows.{Splits}
+use Rattle.hb_poster.specs.PosterRows.{Arrives, DoesPlan, after_look}
+use Rattle.hb_search.specs.SearchRows.{SearchGoesOn}
+use Rattle.hb_space.specs.Boxes.{Area}
+use Rattle.hb_store.specs.States.{StoreState}
 
 -- it holds no page between two steps
 pub record HoldsNothing (next : Activity) : Type 0 where
@@ -57,7 +60,7 @@ pub record TakesFull (m : Machine) (deed : Deed) : Type 0 where
   pub id : ℕ
   pub page : LivePage
   pub live : live_here m.store id ≡ Some page
-  pub row : FindsNoRoom m line rec id page deed
+  pub row : FindsNoRoom (sight m) line rec id page deed
 
 -- a posting arrives at the parent
 pub record TakesParent (m : Machine) (deed : Deed) : Type 0 where
@@ -65,7 +68,7 @@ pub record TakesParent (m : Machine) (deed : Deed) : Type 0 where
   pub id : ℕ
   pub page : LivePage
   pub live : live_here m.store id ≡ Some page
-  pub row : Arrives m job id page deed
+  pub row : Arrives job id page deed
 
 -- or goes on there
 pub record KeepsParent (m : Machine) (actor : ℕ) (deed : Deed) : Type 0 where
@@ -80,7 +83,7 @@ pub record PartsFull (m : Machine) (actor : ℕ) (now : Machine) (deed : Deed) :
   pub line : Line
   pub held : ℕ
   pub before : m.activity actor ≡ at.SessionSplit line held
-  pub row : Splits now line held deed
+  pub row : Splits (sight now) line held deed
 
 -- the page that an actor's step wants
 pub record AsksFor (m : Machine) (actor id : ℕ) : Type 0 where
@@ -97,7 +100,7 @@ pub record MergesOn (m : Machine) (actor : ℕ) (now : Machine) (deed : Deed) : 
   pub asks : AsksFor m actor id
   pub page : LivePage
   pub live : live_here now.store id ≡ Some page
-  pub row : RowAt activity now id page deed
+  pub row : RowAt activity (sight now) id page deed
   pub stays : StaysMerger now deed
 
 abbrev pub HasPlace : Machine → ℕ → Machine → Deed → Type 0
@@ -114,7 +117,7 @@ module _ (m : Machine) (actor : ℕ) (fetched : StoreState) where
     merging = ap (λ (d : Deed). merging_at d.next) is ∙ merging;
   })
 
-  goes_on : (id : ℕ) (page : LivePage) (p : List ℕ) (next : Activity) (deed : Deed) → live_here fetched id ≡ Some page → walk_held next ≡ Some id → walk_point next ≡ Some p → merging_at next ≡ None → PassesOn page p now next deed → HasPlace m actor now deed
+  goes_on : (id : ℕ) (page : LivePage) (p : List ℕ) (next : Activity) (deed : Deed) → live_here fetched id ≡ Some page → walk_held next ≡ Some id → walk_point next ≡ Some p → merging_at next ≡ None → PassesOn page p next deed → HasPlace m actor now deed
   goes_on id page p next deed live held point merging row = inr (inl (record {
     id = id;
     page = page;
@@ -130,11 +133,11 @@ module _ (m : Machine) (actor : ℕ) (fetched : StoreState) where
 
   -- ---- a walk of a session
 
-  after_search : (line : Line) (boxes : List Area) (found : List Record) (deed : Deed) → SearchGoesOn now line boxes found deed → HasPlace m actor now deed
+  after_search : (line : Line) (boxes : List Area) (found : List Record) (deed : Deed) → SearchGoesOn (sight now) line boxes found deed → HasPlace m actor now deed
   after_search line [] found deed (ordered, same, rising, is) = rests deed _ is refl (λ st. refl) refl
   after_search line (area ∷ boxes) found deed is = rests deed _ is refl (λ st. refl) refl
 
-  after_command : (id : ℕ) (page : LivePage) (line : Line) (command : Command) (rest : List Area) (found : List Record) (p : List ℕ) (deed : Deed) → live_here fetched id ≡ Some page → line.command ≡ command → DoesThere now line command rest found id page p deed → HasPlace m actor now deed
+  after_command : (id : ℕ) (page : LivePage) (line : Line) (command : Command) (rest : List Area) (found : List Record) (p : List ℕ) (deed : Deed) → live_here fetched id ≡ Some page → line.command ≡ command → DoesHere (sight now) line command rest found id page p deed → HasPlace m actor now deed
   after_command id page line (Insert rec) rest found p deed live command (inl row) = rests deed _ row.deed_is refl (λ st. refl) refl
   after_command id page line (Insert rec) rest found p deed live command (inr (inl row)) = rests deed _ row.deed_is refl (λ st. refl) refl
   after_command id page line (Insert rec) rest found p deed live command (inr (inr row)) = inr (inr (inl (record { line = line; rec = rec; command = command; id = id; page = page; live = live; row = row })))
@@ -145,7 +148,7 @@ module _ (m : Machine) (actor : ℕ) (fetched : StoreState) where
   after_command id page line (Search area) rest found p deed live command row = after_search line _ _ deed row.goes
 
   after_walk : (id : ℕ) (page : LivePage) (line : Line) (rest : List Area) (found : List Record) (goal : Option (List ℕ)) (deed : Deed) → live_here fetched id ≡ Some page → goal_of line.command rest ≡ goal
-      → MatchOption goal ⊥ (λ p. PassesOn page p now (at.SessionWalk line (Some id) rest found) deed ⊎ DoesThere now line line.command rest found id page p deed) → HasPlace m actor now deed
+      → MatchOption goal ⊥ (λ p. PassesOn page p (at.SessionWalk line (Some id) rest found) deed ⊎ DoesHere (sight now) line line.command rest found id page p deed) → HasPlace m actor now deed
   after_walk id page line rest found None deed live goal row = absurd row
   after_walk id page line rest found (Some p) deed live goal (inl row) = goes_on id page p (at.SessionWalk line (Some id) rest found) deed live refl goal refl row
   after_walk id page line rest found (Some p) deed live goal (inr row) = after_command id page line line.command rest found p deed live refl row
@@ -162,12 +165,12 @@ module _ (m : Machine) (actor : ℕ) (fetched : StoreState) where
     nothing = ap (λ (d : Deed). d.op) is ∙ none;
   })))))
 
-  after_looking : (job : Job) (parent : ℕ) (plan : PostPlan) (deed : Deed) → m.activity actor ≡ at.PosterChild job parent → deed ≡ after_look now job parent plan → HasPlace m actor now deed
+  after_looking : (job : Job) (parent : ℕ) (plan : PostPlan) (deed : Deed) → m.activity actor ≡ at.PosterChild job parent → deed ≡ after_look job parent plan → HasPlace m actor now deed
   after_looking job parent plans.Nothing deed is row = rests deed _ row refl (λ st. refl) refl
   after_looking job parent (plans.Post way inner area) deed is row = keeps_parent job parent deed _ (inl is) (inl refl) refl row
   after_looking job parent plans.SplitFirst deed is row = keeps_parent job parent deed _ (inl is) (inl refl) refl row
 
-  after_plan : (job : Job) (parent : ℕ) (page : LivePage) (plan : PostPlan) (deed : Deed) → DoesPlan now job parent page plan deed → HasPlace m actor now deed
+  after_plan : (job : Job) (parent : ℕ) (page : LivePage) (plan : PostPlan) (deed : Deed) → DoesPlan (sight now) job parent page plan deed → HasPlace m actor now deed
   after_plan job parent page plans.Nothing deed row = rests deed _ row refl (λ st. refl) refl
   after_plan job parent page (plans.Post way inner area) deed row = rests deed _ row refl (λ st. refl) refl
   after_plan job parent page plans.SplitFirst deed (inl row) = rests deed _ row.deed_is refl (λ st. refl) refl
@@ -175,12 +178,12 @@ module _ (m : Machine) (actor : ℕ) (fetched : StoreState) where
 
   -- ---- the consolidator
 
-  merges_on : (activity : Activity) (id : ℕ) (page : LivePage) (deed : Deed) → m.activity actor ≡ activity → AsksFor m actor id → live_here fetched id ≡ Some page → IsMerging activity → RowAt activity now id page deed → StaysMerger now deed → HasPlace m actor now deed
+  merges_on : (activity : Activity) (id : ℕ) (page : LivePage) (deed : Deed) → m.activity actor ≡ activity → AsksFor m actor id → live_here fetched id ≡ Some page → IsMerging activity → RowAt activity (sight now) id page deed → StaysMerger now deed → HasPlace m actor now deed
   merges_on activity id page deed is asks live kind row stays = inr (inr (inr (inr (inr (inr (record { activity = activity; before = is; kind = kind; id = id; asks = asks; page = page; live = live; row = row; stays = stays }))))))
 
   -- ---- the rows
 
-  after_row_alone : (activity : Activity) (deed : Deed) → m.activity actor ≡ activity → RowAlone activity now deed → HasPlace m actor now deed
+  after_row_alone : (activity : Activity) (deed : Deed) → m.activity actor ≡ activity → RowAlone activity (sight now) deed → HasPlace m actor now deed
   after_row_alone (at.SessionSplit line held) deed is (inl row) = rests deed _ row.deed_is refl (λ st. refl) refl
   after_row_alone (at.SessionSplit line held) deed is (inr row) = inr (inr (inr (inr (inr (inl (record { line = line; held = held; before = is; row = row }))))))
   after_row_alone (at.SessionPut line source fresh) deed is row = rests deed _ row.deed_is refl (λ st. refl) refl
@@ -202,7 +205,7 @@ module _ (m : Machine) (actor : ℕ) (fetched : StoreState) where
   after_row_alone (at.ConsolidatorDecide job parent keep gone) deed is row = absurd row
   after_row_alone at.Flusher deed is row = absurd row
 
-  after_row_at : (activity : Activity) (id : ℕ) (page : LivePage) (deed : Deed) → m.activity actor ≡ activity → AsksFor m actor id → live_here fetched id ≡ Some page → RowAt activity now id page deed → HasPlace m actor now deed
+  after_row_at : (activity : Activity) (id : ℕ) (page : LivePage) (deed : Deed) → m.activity actor ≡ activity → AsksFor m actor id → live_here fetched id ≡ Some page → RowAt activity (sight now) id page deed → HasPlace m actor now deed
   after_row_at (at.SessionWalk line held rest found) id page deed is asks live row = after_walk id page line rest found (goal_of line.command rest) deed live refl row
   after_row_at (at.PosterGrow job) id page deed is asks live (inl row) = rests deed _ row.deed_is refl (λ st. refl) refl
   after_row_at (at.PosterGrow job) id page deed is asks live (inr row) = rests deed _ row.deed_is refl (λ st. refl) refl
@@ -234,44 +237,11 @@ module _ (m : Machine) (actor : ℕ) (fetched : StoreState) where
 
 -- ---- what can't go on holds nothing
 
-pub nothing_given_up : (m : Machine) (why : DropWhy) (activity : Activity) → HoldsNothing (gives_up m why activity).next
-nothing_given_up m why at.SessionIdle = record { walk = refl; latches = λ st. refl; merging = refl }
-nothing_given_up m why (at.SessionWalk line held rest found) = record { walk = refl; latches = λ st. refl; merging = refl }
-nothing_given_up m why (at.SessionSplit line held) = record { walk = refl; latches = λ st. refl; merging = refl }
-nothing_given_up m why (at.SessionPut line source fresh) = record { walk = refl; latches = λ st. refl; merging = refl }
-nothing_given_up m why (at.SessionAwait line reply place) = record { walk = refl; latches = λ st. refl; merging = refl }
-nothing_given_up m why at.PosterIdle = record { walk = refl; latches = λ st. refl; merging = refl }
-nothing_given_up m why (at.PosterGrow job) = record { walk = refl; latches = λ st. refl; merging = refl }
-nothing_given_up m why (at.PosterWalk job held) = record { walk = refl; latches = λ st. refl; merging = refl }
-nothing_given_up m why (at.PosterChild job parent) = record { walk = refl; latches = λ st. refl; merging = refl }
-nothing_given_up m why (at.PosterPromote job parent) = record { walk = refl; latches = λ st. refl; merging = refl }
-nothing_given_up m why (at.PosterAgain job parent) = record { walk = refl; latches = λ st. refl; merging = refl }
-nothing_given_up m why at.ConsolidatorIdle = record { walk = refl; latches = λ st. refl; merging = refl }
-nothing_given_up m why (at.ConsolidatorWalk job held) = record { walk = refl; latches = λ st. refl; merging = refl }
-nothing_given_up m why (at.ConsolidatorScan job parent child) = record { walk = refl; latches = λ st. refl; merging = refl }
-nothing_given_up m why (at.ConsolidatorTry job parent keep gone leaf) = record { walk = refl; latches = λ st. refl; merging = refl }
-nothing_given_up m why (at.ConsolidatorPromote job parent keep gone) = record { walk = refl; latches = λ st. refl; merging = refl }
-nothing_given_up m why (at.ConsolidatorKeep job parent keep gone) = record { walk = refl; latches = λ st. refl; merging = refl }
-nothing_given_up m why (at.ConsolidatorDecide job parent keep gone) = record { walk = refl; latches = λ st. refl; merging = refl }
-nothing_given_up m why at.Flusher = record { walk = refl; latches = λ st. refl; merging = refl }
+idle_holds : (kind : Class) → HoldsNothing (idle_of kind)
+idle_holds kind = record { walk = idle_walks kind; latches = idle_latches kind; merging = idle_merging kind }
 
-pub nothing_run_out : (m : Machine) (activity : Activity) → HoldsNothing (runs_out m activity).next
-nothing_run_out m at.SessionIdle = record { walk = refl; latches = λ st. refl; merging = refl }
-nothing_run_out m (at.SessionWalk line held rest found) = record { walk = refl; latches = λ st. refl; merging = refl }
-nothing_run_out m (at.SessionSplit line held) = record { walk = refl; latches = λ st. refl; merging = refl }
-nothing_run_out m (at.SessionPut line source fresh) = record { walk = refl; latches = λ st. refl; merging = refl }
-nothing_run_out m (at.SessionAwait line reply place) = record { walk = refl; latches = λ st. refl; merging = refl }
-nothing_run_out m at.PosterIdle = record { walk = refl; latches = λ st. refl; merging = refl }
-nothing_run_out m (at.PosterGrow job) = record { walk = refl; latches = λ st. refl; merging = refl }
-nothing_run_out m (at.PosterWalk job held) = record { walk = refl; latches = λ st. refl; merging = refl }
-nothing_run_out m (at.PosterChild job parent) = record { walk = refl; latches = λ st. refl; merging = refl }
-nothing_run_out m (at.PosterPromote job parent) = record { walk = refl; latches = λ st. refl; merging = refl }
-nothing_run_out m (at.PosterAgain job parent) = record { walk = refl; latches = λ st. refl; merging = refl }
-nothing_run_out m at.ConsolidatorIdle = record { walk = refl; latches = λ st. refl; merging = refl }
-nothing_run_out m (at.ConsolidatorWalk job held) = record { walk = refl; latches = λ st. refl; merging = refl }
-nothing_run_out m (at.ConsolidatorScan job parent child) = record { walk = refl; latches = λ st. refl; merging = refl }
-nothing_run_out m (at.ConsolidatorTry job parent keep gone leaf) = record { walk = refl; latches = λ st. refl; merging = refl }
-nothing_run_out m (at.ConsolidatorPromote job parent keep gone) = record { walk = refl; latches = λ st. refl; merging = refl }
-nothing_run_out m (at.ConsolidatorKeep job parent keep gone) = record { walk = refl; latches = λ st. refl; merging = refl }
-nothing_run_out m (at.ConsolidatorDecide job parent keep gone) = record { walk = refl; latches = λ st. refl; merging = refl }
-nothing_run_out m at.Flusher = record { walk = refl; latches = λ st. refl; merging = refl }
+pub nothing_given_up : (why : DropWhy) (activity : Activity) → HoldsNothing (gives_up why activity).next
+nothing_given_up why activity = given_up_is (λ deed. HoldsNothing deed.next) why activity (λ line is. record { walk = refl; latches = λ st. refl; merging = refl }) (λ job is. idle_holds (class_of activity)) (λ is. idle_holds (class_of activity))
+
+pub nothing_run_out : (activity : Activity) → HoldsNothing (runs_out activity).next
+nothing_run_out activity = run_out_is (λ deed. HoldsNothing deed.next) activity (λ line is. record { walk = refl; latches = λ st. refl; merging = refl }) (λ job is. idle_holds (class_of activity)) (λ is. idle_holds (class_of activity))

@@ -4,21 +4,21 @@ use Rattle.std.proofs.lemmas.Option.{same_Some}
 use Rattle.hb_frag.specs.declared.pages.LivePage.{LivePage}
 use Rattle.hb_latch.specs.declared.modes.Mode.{Mode}
 use Rattle.hb_latch.specs.declared.modes.Mode.TheVariants.{Update}
-use Rattle.hb_latch.specs.Modes.{goes_beside}
-use Rattle.hb_latch.specs.Tables.{MayLatch, mode_at}
-use Rattle.hb_ops.specs.Files.{FileState}
 use Rattle.hb_activity.specs.declared.wanting.Wanted.{Wanted}
 use Rattle.hb_activity.specs.declared.activities.Activity.{Activity}
 use Rattle.hb_activity.specs.declared.activities.Activity.TheVariants as at
+use Rattle.hb_activity.proofs.LaterPages.{never_itself, onward}
 use Rattle.hb_activity.specs.Waiting.{IsLater}
 use Rattle.hb_activity.specs.Wanting.{wanted_of}
-use Rattle.hb_activity.proofs.LaterPages.{never_itself, onward}
-use Rattle.hb_core.specs.Machines.{Files, Machine, current_file}
-use Rattle.hb_core.specs.Asking.{looked_live, wanted_by}
-use Rattle.hb_core.specs.Keeps.{HasNobodyElse, HasSoundFile, LatchesFit, WalksInSpace}
-use Rattle.hb_core.specs.WaitingLaws.{ComesLater, NobodyWaitsInACircle, WaitInTurn, AwaitsActor, WantsItsOwn}
 use Rattle.hb_core.proofs.LaterWanted.{wanted_comes_later}
 use Rattle.hb_core.proofs.StillThere.{may_or_not}
+use Rattle.hb_core.specs.Asking.{looked_live, wanted_by}
+use Rattle.hb_core.specs.Keeps.{HasNobodyElse, HasSoundFile, LatchesFit, WalksInSpace}
+use Rattle.hb_core.specs.Machines.{Files, Machine, current_file}
+use Rattle.hb_core.specs.WaitingLaws.{ComesLater, NobodyWaitsInACircle, WaitInTurn, AwaitsActor, WantsItsOwn}
+use Rattle.hb_latch.specs.Modes.{goes_beside}
+use Rattle.hb_latch.specs.Tables.{MayLatch, mode_at}
+use Rattle.hb_ops.specs.Files.{FileState}
 
 later_on : (s : FileState) (a b c : ℕ) → ComesLater s a b → ComesLater s b c → ComesLater s a c
 later_on s a b c first second =

@@ -3,49 +3,49 @@ use Rattle.std.proofs.Common.{◌≡◌, ◌≢◌, ◌⊎◌, inl, inr, ℕ, �
 use Rattle.std.proofs.lemmas.Option.{same_Some}
 use Rattle.std.specs.Option.{option_and_then, option_map}
 use Rattle.std.proofs.lemmas.List.Elements.{All-head}
-use Rattle.hb_core.specs.ConsolidatorRows.{names_child}
-use Rattle.hb_space.specs.Boxes.{whole_area}
 use Rattle.hb_frag.specs.declared.pages.LivePage.{LivePage}
 use Rattle.hb_frag.specs.declared.pages.Page.{Page}
 use Rattle.hb_frag.specs.declared.pages.Page.TheVariants.{Live, Free}
 use Rattle.hb_layout.specs.declared.meta.Meta.{Meta}
 use Rattle.hb_latch.specs.declared.modes.Mode.{Mode}
 use Rattle.hb_latch.specs.declared.modes.Mode.TheVariants.{Exclusive, Shared}
-use Rattle.hb_latch.specs.Tables.{MayLatch}
-use Rattle.hb_ops.specs.Files.{FileState, if_live, live_page, page_of}
-use Rattle.hb_ops.specs.Sound.{IsSound}
 use Rattle.hb_activity.specs.declared.jobs.Job.{Job}
 use Rattle.hb_activity.specs.declared.wanting.Wanted.{Wanted}
 use Rattle.hb_activity.specs.declared.activities.Activity.{Activity}
 use Rattle.hb_activity.specs.declared.activities.Activity.TheVariants as at
-use Rattle.hb_activity.specs.Walks.{goal_of, job_mode, session_mode, walk_held}
-use Rattle.hb_activity.specs.Wanting.{child_of, in_mode, walk_next, wanted_of, wanted_page}
-use Rattle.hb_store.specs.States.{StoreState, in_memory}
-use Rattle.hb_store.specs.Stops.{IsNoPage}
 use Rattle.hb_store.specs.declared.stops.Why.{Why}
 use Rattle.hb_store.specs.declared.stops.Why.TheVariants.{Rule, Level, Extent}
-use Rattle.hb_store.proofs.Counting.{page_in_range}
-use Rattle.hb_store.proofs.Heads.{sound_head, sound_room}
 use Rattle.hb_core.specs.declared.outcomes.Outcome.{Outcome}
 use Rattle.hb_core.specs.declared.outcomes.Outcome.TheVariants as outcomes
-use Rattle.hb_core.specs.Machines.{Files, Machine, current_file, live_here, with_disk}
+use Rattle.hb_activity.specs.Deeds.{Deed}
+use Rattle.hb_activity.specs.Walks.{goal_of, job_mode, session_mode, walk_held}
+use Rattle.hb_activity.specs.Wanting.{child_of, in_mode, walk_next, wanted_of, wanted_page}
+use Rattle.hb_consol.specs.ConsolidatorRows.{names_child}
+use Rattle.hb_core.proofs.AskedPages.{IsThere, begun_there, given_there, held_there, named_child_there, named_there, named_with_box, placed_sibling_there, root_there}
+use Rattle.hb_core.proofs.Backing.{live_there}
+use Rattle.hb_core.proofs.BroughtPages.{both_there, some_of_map, some_of_then}
+use Rattle.hb_core.proofs.OneOutcome.{outcome_is_one, state_is_one}
+use Rattle.hb_core.proofs.SoundFiles.{FilesHold, brought_shown, current_sound, files_hold}
+use Rattle.hb_core.proofs.StepKinds.{each_kind, FlushesMore, rest_kind}
 use Rattle.hb_core.specs.Acting.{IsBadWanted, MeetsBadPage, NeedsNumber}
 use Rattle.hb_core.specs.Asking.{AskedBox, HasAskedBox, IsNotAsked, asked_box, box_at, box_of_child, looked_live, wanted_by}
 use Rattle.hb_core.specs.DamageLaws.{IsRefusedOrFails, IsUndamaged, KeptStepIsOne, NoPageIsDamaged, StaysUndamaged}
-use Rattle.hb_core.specs.Deeds.{Deed}
 use Rattle.hb_core.specs.Fetching.{Brings, IsBadHead, IsBadRead, IsDamaged}
 use Rattle.hb_core.specs.Forcing.{ForcesFirst, StaysSo}
 use Rattle.hb_core.specs.Keeps.{HasSoundFile, LatchesFit, WalksInSpace}
 use Rattle.hb_core.specs.KeptMerges.{AtParent, KeepsPair, NamesKnown, merging_at}
-use Rattle.hb_core.specs.OutcomeLaws.{ComesToSame, IsTurnedAside}
+use Rattle.hb_core.specs.Machines.{Files, Machine, current_file, live_here, with_disk}
+use Rattle.hb_core.specs.OutcomeLaws.{AreOneButMemory, ComesToSame, IsTurnedAside}
 use Rattle.hb_core.specs.Performing.{Performs}
 use Rattle.hb_core.specs.Steps.{StepsTo, Works}
-use Rattle.hb_core.proofs.AskedPages.{IsThere, begun_there, given_there, held_there, named_child_there, named_there, named_with_box, placed_sibling_there, root_there}
-use Rattle.hb_core.proofs.Backing.{live_there}
-use Rattle.hb_core.proofs.OneOutcome.{outcome_is_one, state_is_one}
-use Rattle.hb_core.proofs.SoundFiles.{FilesHold, brought_shown, current_sound, files_hold}
-use Rattle.hb_core.proofs.StepKinds.{each_kind}
-use Rattle.hb_core.proofs.StillThere.{still_fetched}
+use Rattle.hb_latch.specs.Tables.{MayLatch}
+use Rattle.hb_ops.specs.Files.{FileState, if_live, live_page, page_of}
+use Rattle.hb_ops.specs.Sound.{IsSound}
+use Rattle.hb_space.specs.Boxes.{whole_area}
+use Rattle.hb_store.proofs.Counting.{page_in_range}
+use Rattle.hb_store.proofs.Heads.{sound_head, sound_room}
+use Rattle.hb_store.specs.States.{StoreState, in_memory}
+use Rattle.hb_store.specs.Stops.{IsNoPage}
 
 -- what a disk that tells reads is never damaged
 no_bad_read : (files : Files) (st : StoreState) (id : ℕ) (why : Why) → IsBadRead (Some files) st id why → ⊥
@@ -119,7 +119,7 @@ module _ (files : Files) (st : StoreState) (holds : FilesHold st files) where
           omega (arith, full, live, pages, room)
 
 module _ (m : Machine) (files : Files) (actor : ℕ) (may : MayLatch actor) (fit : LatchesFit m) (has : HasSoundFile m files) (walks : WalksInSpace m)
-    (needs : ℕ → Type 0) (fetched : StoreState) (brings : Brings m.files needs m.store fetched) where
+    (needs : ℕ → Type 0) (fetched : StoreState) (brings : Brings m needs fetched) where
   meta : (current_file files).meta ≡ m.store.meta
   meta = has.meta
 
@@ -131,6 +131,13 @@ module _ (m : Machine) (files : Files) (actor : ℕ) (may : MayLatch actor) (fit
 
   in_file : (id : ℕ) (page : LivePage) → live_here m.store id ≡ Some page → live_page (current_file files) id ≡ Some page
   in_file id page live = ap if_live (has.shown id (Live page) (live_there (in_memory m.store id) page live))
+
+  -- the page into which the step looks is there as it was
+  still_asked : (id : ℕ) (page : LivePage) → live_here m.store id ≡ Some page → (now : LivePage) × (live_here fetched id ≡ Some now) → live_here fetched id ≡ Some page
+  still_asked id page live (now, is) = both_there m needs fetched brings id page now live is
+
+  asked_then : {A B C : Type 0} (g : B → C) (f : A → Option B) (o : Option A) (asked : C) → option_map g (option_and_then f o) ≡ Some asked → (a : A) × (o ≡ Some a)
+  asked_then g f o asked is = let inner = some_of_map g (option_and_then f o) asked is in some_of_then f o inner.0 inner.1
 
   -- the page that a walk holds
   walk_page : (held : ℕ) → walk_held (m.activity actor) ≡ Some held → (page : LivePage) × (live_here m.store held ≡ Some page)
@@ -145,14 +152,14 @@ module _ (m : Machine) (files : Files) (actor : ℕ) (may : MayLatch actor) (fit
   at_parent job parent wanted asked page live wants asks =
       named_there (current_file files) sound_now parent page (in_file parent page live) job.point wanted asked
       (subst (λ (o : Option LivePage). in_mode (λ level. Shared) (option_and_then (λ (page : LivePage). child_of page job.point) o) ≡ Some wanted) live wants)
-      (subst (λ (o : Option LivePage). box_at o (Some job.point) ≡ Some asked) (still_fetched m needs fetched brings parent page live) asks)
+      (subst (λ (o : Option LivePage). box_at o (Some job.point) ≡ Some asked) (still_asked parent page live (some_of_then _ (live_here fetched parent) asked asks)) asks)
 
   walk_on : (id : ℕ) (goal : Option (List ℕ)) (mode : ℕ → Mode) (wanted : Wanted) (asked : AskedBox) → walk_held (m.activity actor) ≡ Some id → in_mode mode (walk_next goal (Some id) m.store.meta (live_here m.store id)) ≡ Some wanted
       → box_at (live_here fetched id) goal ≡ Some asked → IsThere (current_file files) wanted asked
   walk_on id goal mode wanted asked is wants asks =
       let one = walk_page id is in
       held_there (current_file files) sound_now id one.0 (in_file id one.0 one.1) mode m.store.meta goal (live_here m.store id) (live_here fetched id) wanted asked one.1
-      (still_fetched m needs fetched brings id one.0 one.1) wants asks
+      (still_asked id one.0 one.1 (some_of_then _ (live_here fetched id) asked asks)) wants asks
 
   walk_begins : (goal : Option (List ℕ)) (mode : ℕ → Mode) (wanted : Wanted) (asked : AskedBox) → in_mode mode (walk_next goal None m.store.meta None) ≡ Some wanted
       → Some (record { area = whole_area fetched.meta.k; exact = true }) ≡ Some asked → IsThere (current_file files) wanted asked
@@ -163,7 +170,7 @@ module _ (m : Machine) (files : Files) (actor : ℕ) (may : MayLatch actor) (fit
       → box_of_child (live_here fetched parent) name ≡ Some asked → IsThere (current_file files) wanted asked
   by_child parent name mode None wanted asked is wants asks = cc
   by_child parent name mode (Some page) wanted asked is wants asks =
-      named_child_there (current_file files) sound_now parent page (in_file parent page is) name mode (live_here fetched parent) wanted asked (still_fetched m needs fetched brings parent page is)
+      named_child_there (current_file files) sound_now parent page (in_file parent page is) name mode (live_here fetched parent) wanted asked (still_asked parent page is (asked_then _ _ (live_here fetched parent) asked asks))
       (same_Some (wanted_page name (page.level - 1) mode) wanted wants) asks
 
   abbrev at_parent_of : Job → ℕ → ℕ → ℕ → Option ℕ → AtParent
@@ -189,7 +196,7 @@ module _ (m : Machine) (files : Files) (actor : ℕ) (may : MayLatch actor) (fit
   there (at.ConsolidatorScan job parent child) wanted asked is wants asks = by_child parent child Shared (live_here m.store parent) wanted asked refl wants asks
   there (at.ConsolidatorTry job parent keep gone leaf) wanted asked is wants asks =
       let one = at_pair job parent keep gone (Some leaf) (ap merging_at is) in
-      placed_sibling_there (current_file files) sound_now keep one.page (in_file keep one.page one.live) gone leaf Shared (live_here fetched keep) wanted asked (still_fetched m needs fetched brings keep one.page one.live) one.gave
+      placed_sibling_there (current_file files) sound_now keep one.page (in_file keep one.page one.live) gone leaf Shared (live_here fetched keep) wanted asked (still_asked keep one.page one.live (some_of_then _ (live_here fetched keep) asked asks)) one.gave
       (same_Some (wanted_page gone one.page.level Shared) wanted (sym (ap (λ (o : Option LivePage). option_map (λ (page : LivePage). wanted_page gone page.level Shared) o) one.live) ∙ wants)) asks
   there (at.ConsolidatorKeep job parent keep gone) wanted asked is wants asks = by_child parent keep Exclusive (live_here m.store parent) wanted asked refl wants asks
   there (at.ConsolidatorDecide job parent keep gone) wanted asked is wants asks =
@@ -200,7 +207,7 @@ module _ (m : Machine) (files : Files) (actor : ℕ) (may : MayLatch actor) (fit
       let kept = sound_now.children parent known.page keep above.0 (in_file parent known.page known.live) above.1 in
       let same : kept.0 ≡ pair.page = same_Some kept.0 pair.page (sym kept.1 ∙ in_file keep pair.page pair.live) in
       given_there (current_file files) sound_now keep pair.page (in_file keep pair.page pair.live) gone (known.page.level - 1) Exclusive (live_here fetched keep) wanted asked
-      (still_fetched m needs fetched brings keep pair.page pair.live) (let level : pair.page.level ≡ kept.0.level = ap (λ (p : LivePage). p.level) (sym same) in omega (arith, level, kept.2))
+      (still_asked keep pair.page pair.live (asked_then _ _ (live_here fetched keep) asked asks)) (let level : pair.page.level ≡ kept.0.level = ap (λ (p : LivePage). p.level) (sym same) in omega (arith, level, kept.2))
       (same_Some (wanted_page gone (known.page.level - 1) Exclusive) wanted (sym (ap (λ (o : Option LivePage). option_map (λ (page : LivePage). wanted_page gone (page.level - 1) Exclusive) o) known.live) ∙ wants)) asks
   there at.SessionIdle wanted asked is wants asks = cc
   there (at.SessionSplit line held) wanted asked is wants asks = cc
@@ -267,28 +274,32 @@ module _ (m : Machine) (files : Files) (actor : ℕ) (outcome : Outcome) (new : 
 
   forces : (said : Outcome) → ForcesFirst m said outcome new → IsUndamaged m → IsUndamaged new
   forces said (inl (says, is)) = same_stop (ap (λ (x : Machine). x.stop) is)
-  forces said (inr badly) = λ well. inr (ap (λ (x : Machine). x.stop) badly.stops)
+  forces said (inr badly) = λ well. inr (ap (λ (x : Machine). x.stop) badly.1.stops)
 
   performed : (fetched : StoreState) (deed : Deed) → Performs m fetched actor deed outcome new → IsUndamaged m → IsUndamaged new
   performed fetched deed performs = same_stop performs.stop
 
+  more : FlushesMore m outcome new → IsUndamaged m → IsUndamaged new
+  more (empty, left, inl (due, quiet, well)) = same_stop (ap (λ (x : Machine). x.stop) well.leaves)
+  more (empty, left, inr fails) = λ well. inr (ap (λ (x : Machine). x.stop) fails.stops)
+
   works : Works m actor outcome new → IsUndamaged m → IsUndamaged new
   works (inl (by, way, so)) = stays (outcomes.Blocked by) so
   works (inr (inl (free, unready, inl (waits, force)))) = forces outcomes.Helped force
-  works (inr (inl (free, unready, inr (nobody, performs)))) = performed m.store _ performs
+  works (inr (inl (free, unready, inr (empty, rest)))) = rest_kind m outcomes.Helped outcome new _ (IsUndamaged m → IsUndamaged new) empty (λ at. refl) more (performed m.store _) rest
   works (inr (inr (free, ready, inl row))) = performed row.fetched row.deed row.performs
   works (inr (inr (free, ready, inr (inl gives)))) = performed gives.fetched _ gives.performs
   works (inr (inr (free, ready, inr (inr bad)))) = absurd (none bad)
 
   undamaged_after : StepsTo m actor outcome new → IsUndamaged m → IsUndamaged new
   undamaged_after step =
-      each_kind m actor outcome new (IsUndamaged m → IsUndamaged new) (λ said quiet so. stays said so) (λ said quiet force. forces said force)
+      each_kind m actor outcome new (IsUndamaged m → IsUndamaged new) (λ said quiet so. stays said so) (λ said quiet force. forces said force) more
       (λ deed outright performs. performed m.store deed performs) works step
 
 pub stays_undamaged : StaysUndamaged
 stays_undamaged m files actor outcome new may told fit has walks step = undamaged_after m files actor outcome new (no_page_is_damaged m files actor outcome new may told fit has walks) step
 
--- ---- and of a machine that keeps all two steps lead to one
+-- ---- and of a machine that keeps all two steps lead to machines that are one but for the pages in memory
 
 pub kept_step_is_one : KeptStepIsOne
 kept_step_is_one n m files actor outcome other new next may keeps first second =
@@ -300,8 +311,8 @@ kept_step_is_one n m files actor outcome other new next may keeps first second =
     refused said after (inr (inr (inl gives))) = inr (inr gives)
     refused said after (inr (inr (inr bad))) = absurd (no_page_is_damaged m files actor said after may keeps.told keeps.latches_fit keeps.sound_file keeps.walk_in_space bad)
 
-    by : IsTurnedAside m actor outcome new ⊎ IsTurnedAside m actor other next ⊎ ComesToSame outcome other new next → IsTurnedAside m actor outcome new ⊎ IsTurnedAside m actor other next ⊎ (new ≡ next)
-        → IsRefusedOrFails m actor outcome new ⊎ IsRefusedOrFails m actor other next ⊎ ((outcome ≡ other) × (new ≡ next))
+    by : IsTurnedAside m actor outcome new ⊎ IsTurnedAside m actor other next ⊎ ComesToSame outcome other new next → IsTurnedAside m actor outcome new ⊎ IsTurnedAside m actor other next ⊎ AreOneButMemory new next
+        → IsRefusedOrFails m actor outcome new ⊎ IsRefusedOrFails m actor other next ⊎ ((outcome ≡ other) × AreOneButMemory new next)
     by (inl aside) said = inl (refused outcome new aside)
     by (inr (inl aside)) said = inr (inl (refused other next aside))
     by (inr (inr same)) (inl aside) = inl (refused outcome new aside)

@@ -1,10 +1,9 @@
 -- While pages aren't merged no job to merge comes, and the consolidator stays idle.
-use Rattle.std.proofs.Common.{◌≡◌, ◌⊎◌, inl, inr, ℕ, ◌+◌, ◌==◌, ◌++◌, Bool, cond, List, [], ◌∷◌, All, Option, Some, None, refl, sym, ◌∙◌, subst, arith}
+use Rattle.std.proofs.Common.{◌≡◌, ◌⊎◌, inl, inr, ℕ, ◌+◌, ◌==◌, ◌++◌, Bool, cond, List, [], ◌∷◌, All, Option, Some, None, refl, sym, ◌∙◌, subst, arith, ap}
 use Rattle.std.specs.Prelude.{MatchOption}
 use Rattle.std.specs.List.{Contains}
 use Rattle.std.proofs.lemmas.Bool.{cases_Bool}
 use Rattle.std.proofs.lemmas.List.Elements.{All-append, All-cons, All-contains, All-head, All-nil, All-tail, Contains-append_right, Contains-get_or}
-use Rattle.hb_space.specs.Boxes.{Area}
 use Rattle.hb_space.specs.declared.records.Record.{Record}
 use Rattle.hb_frag.specs.declared.leaves.Leaf.{Leaf}
 use Rattle.hb_frag.specs.declared.leaves.Leaf.TheVariants.{Records, Child, Sibling}
@@ -19,31 +18,34 @@ use Rattle.hb_activity.specs.declared.jobs.JobKind.TheVariants.{Post, Merge}
 use Rattle.hb_activity.specs.declared.wanting.Wanted.{Wanted}
 use Rattle.hb_activity.specs.declared.activities.Activity.{Activity}
 use Rattle.hb_activity.specs.declared.activities.Activity.TheVariants as at
-use Rattle.hb_activity.specs.Walks.{goal_of}
-use Rattle.hb_store.specs.States.{StoreState}
-use Rattle.hb_core.specs.declared.outcomes.DropWhy.{DropWhy}
+use Rattle.hb_activity.specs.declared.dropping.DropWhy.{DropWhy}
 use Rattle.hb_core.specs.declared.outcomes.Outcome.{Outcome}
 use Rattle.hb_core.specs.declared.outcomes.Outcome.TheVariants as outcomes
-use Rattle.hb_core.specs.Machines.{Machine, with_disk}
-use Rattle.hb_core.specs.Deeds.{AddsJob, AddsJobs, Deed}
+use Rattle.hb_activity.specs.Classes.{class_of}
+use Rattle.hb_activity.specs.Deeds.{Deed}
+use Rattle.hb_activity.specs.Passing.{PassesOn, posts_owed, corner_of}
+use Rattle.hb_activity.specs.Queue.{AddsJob, AddsJobs, LeavesBy, LeavesFirst}
+use Rattle.hb_activity.specs.Walks.{goal_of}
+use Rattle.hb_core.proofs.GivenUp.{given_up_is, idle_off, run_out_is}
+use Rattle.hb_core.proofs.StepCases.{each_step}
+use Rattle.hb_core.proofs.StepKinds.{rest_kind}
+use Rattle.hb_core.proofs.Ways.{KeepsAllButDisk, forces_so, meets_so, stays_so, more_so}
 use Rattle.hb_core.specs.GivingUp.{gives_up, runs_out}
+use Rattle.hb_core.specs.Machines.{Machine, with_disk, sight}
 use Rattle.hb_core.specs.Performing.{Performs}
-use Rattle.hb_core.specs.SearchRows.{SearchGoesOn}
-use Rattle.hb_core.specs.SessionRows.{DoesThere, PassesOn, posts_owed}
-use Rattle.hb_core.specs.SplitRows.{corner_of}
-use Rattle.hb_core.specs.WorkerRows.{DoesPlan, IsPostingOf, TakesJob, after_look}
-use Rattle.hb_core.specs.ConsolidatorRows.{TakesMerging}
-use Rattle.hb_core.specs.Rows.{Row, RowAlone, RowAt}
+use Rattle.hb_core.specs.Rows.{DoesHere, Row, RowAlone, RowAt}
 use Rattle.hb_core.specs.StageLaws.{BegunHasNothingToMerge, HasNothingToMerge, IsNoMerge, MergesNothing, NothingComesToMerge, NothingIsMerged}
 use Rattle.hb_core.specs.SteppingLaws.{IsAtRest}
-use Rattle.hb_core.specs.Steps.{Works}
-use Rattle.hb_core.proofs.StepCases.{each_step}
-use Rattle.hb_core.proofs.Ways.{KeepsAllButDisk, forces_so, meets_so, stays_so}
+use Rattle.hb_core.specs.Steps.{TakesJob, TakesMerging, Works}
+use Rattle.hb_poster.specs.PosterRows.{DoesPlan, IsPostingOf, after_look}
+use Rattle.hb_search.specs.SearchRows.{SearchGoesOn}
+use Rattle.hb_space.specs.Boxes.{Area}
+use Rattle.hb_store.specs.States.{StoreState}
 
--- what a deed adds is no job to merge, what is left are the jobs that waited, and its actor merges nothing then
+-- what a deed adds is no job to merge, it takes none, and its actor merges nothing then
 pub record KeepsOff (m : Machine) (deed : Deed) : Type 0 where
   pub adds : All IsNoMerge deed.adds
-  pub left : deed.left ≡ m.jobs
+  pub takes : deed.takes ≡ None
   pub next : MergesNothing deed.next
 
 posting_is_none : (job : Job) → job.kind ≡ Post → IsNoMerge job
@@ -63,10 +65,10 @@ module _ (m : Machine) (fetched : StoreState) where
   now = with_disk fetched m.files m.clock m
 
   -- a deed that adds these jobs
-  off : (deed other : Deed) → deed ≡ other → All IsNoMerge other.adds → other.left ≡ m.jobs → MergesNothing other.next → KeepsOff m deed
-  off deed other is adds left next = subst (KeepsOff m) (sym is) (record { adds = adds; left = left; next = next })
+  off : (deed other : Deed) → deed ≡ other → All IsNoMerge other.adds → other.takes ≡ None → MergesNothing other.next → KeepsOff m deed
+  off deed other is adds left next = subst (KeepsOff m) (sym is) (record { adds = adds; takes = left; next = next })
 
-  adds_none : (deed other : Deed) → deed ≡ other → other.adds ≡ [] → other.left ≡ m.jobs → MergesNothing other.next → KeepsOff m deed
+  adds_none : (deed other : Deed) → deed ≡ other → other.adds ≡ [] → other.takes ≡ None → MergesNothing other.next → KeepsOff m deed
   adds_none deed other is none left next = off deed other is (subst (λ (l : List Job). All IsNoMerge l) (sym none) (All-nil IsNoMerge)) left next
 
   owed_none : (page : LivePage) (p : List ℕ) (leaf : Leaf) → All IsNoMerge (posts_owed page p leaf)
@@ -74,11 +76,11 @@ module _ (m : Machine) (fetched : StoreState) where
   owed_none page p (Child id) = All-nil IsNoMerge
   owed_none page p (Sibling id) = one_job (posting (page.level + 1) p) (posting_is_none (posting (page.level + 1) p) refl)
 
-  off_search : (line : Line) (boxes : List Area) (found : List Record) (deed : Deed) → SearchGoesOn now line boxes found deed → KeepsOff m deed
+  off_search : (line : Line) (boxes : List Area) (found : List Record) (deed : Deed) → SearchGoesOn (sight now) line boxes found deed → KeepsOff m deed
   off_search line [] found deed (ordered, same, rising, is) = adds_none deed _ is refl refl tt
   off_search line (area ∷ boxes) found deed is = adds_none deed _ is refl refl tt
 
-  off_there : (line : Line) (command : Command) (rest : List Area) (found : List Record) (id : ℕ) (page : LivePage) (p : List ℕ) (deed : Deed) → DoesThere now line command rest found id page p deed → KeepsOff m deed
+  off_there : (line : Line) (command : Command) (rest : List Area) (found : List Record) (id : ℕ) (page : LivePage) (p : List ℕ) (deed : Deed) → DoesHere (sight now) line command rest found id page p deed → KeepsOff m deed
   off_there line (Insert rec) rest found id page p deed (inl row) = adds_none deed _ row.deed_is refl refl tt
   off_there line (Insert rec) rest found id page p deed (inr (inl row)) = adds_none deed _ row.deed_is refl refl tt
   off_there line (Insert rec) rest found id page p deed (inr (inr row)) = adds_none deed _ row.deed_is refl refl tt
@@ -89,23 +91,23 @@ module _ (m : Machine) (fetched : StoreState) where
   off_there line (Search area) rest found id page p deed row = off_search line _ _ deed row.goes
 
   off_walk : (line : Line) (rest : List Area) (found : List Record) (id : ℕ) (page : LivePage) (deed : Deed) (goal : Option (List ℕ))
-      → MatchOption goal ⊥ (λ p. PassesOn page p now (at.SessionWalk line (Some id) rest found) deed ⊎ DoesThere now line line.command rest found id page p deed) → KeepsOff m deed
+      → MatchOption goal ⊥ (λ p. PassesOn page p (at.SessionWalk line (Some id) rest found) deed ⊎ DoesHere (sight now) line line.command rest found id page p deed) → KeepsOff m deed
   off_walk line rest found id page deed None never = absurd never
   off_walk line rest found id page deed (Some p) (inl row) = off deed _ row.deed_is (owed_none page p row.leaf) refl tt
   off_walk line rest found id page deed (Some p) (inr row) = off_there line line.command rest found id page p deed row
 
-  off_look : (job : Job) (parent : ℕ) (plan : PostPlan) (deed : Deed) → IsNoMerge job → deed ≡ after_look now job parent plan → KeepsOff m deed
+  off_look : (job : Job) (parent : ℕ) (plan : PostPlan) (deed : Deed) → IsNoMerge job → deed ≡ after_look job parent plan → KeepsOff m deed
   off_look job parent plans.Nothing deed none is = adds_none deed _ is refl refl tt
   off_look job parent (plans.Post way inner area) deed none is = adds_none deed _ is refl refl none
   off_look job parent plans.SplitFirst deed none is = adds_none deed _ is refl refl none
 
-  off_plan : (job : Job) (parent : ℕ) (page : LivePage) (plan : PostPlan) (deed : Deed) → IsNoMerge job → DoesPlan now job parent page plan deed → KeepsOff m deed
+  off_plan : (job : Job) (parent : ℕ) (page : LivePage) (plan : PostPlan) (deed : Deed) → IsNoMerge job → DoesPlan (sight now) job parent page plan deed → KeepsOff m deed
   off_plan job parent page plans.Nothing deed none is = adds_none deed _ is refl refl tt
   off_plan job parent page (plans.Post way inner area) deed none is = off deed _ is (one_job job none) refl tt
   off_plan job parent page plans.SplitFirst deed none (inl row) = adds_none deed _ row.deed_is refl refl tt
   off_plan job parent page plans.SplitFirst deed none (inr row) = off deed _ row.deed_is (All-cons IsNoMerge (posting (job.level + 1) (corner_of row.leaves)) (job ∷ []) (posting_is_none (posting (job.level + 1) (corner_of row.leaves)) refl) (one_job job none)) refl tt
 
-  off_alone : (activity : Activity) (deed : Deed) → RowAlone activity now deed → KeepsOff m deed
+  off_alone : (activity : Activity) (deed : Deed) → RowAlone activity (sight now) deed → KeepsOff m deed
   off_alone (at.SessionSplit line held) deed (inl row) = adds_none deed _ row.deed_is refl refl tt
   off_alone (at.SessionSplit line held) deed (inr row) = off deed _ row.deed_is (one_job (posting 1 (corner_of row.leaves)) (posting_is_none (posting 1 (corner_of row.leaves)) refl)) refl tt
   off_alone (at.SessionPut line source fresh) deed row = adds_none deed _ row.deed_is refl refl tt
@@ -127,7 +129,7 @@ module _ (m : Machine) (fetched : StoreState) where
   off_alone (at.ConsolidatorDecide job parent keep gone) deed row = absurd row
   off_alone at.Flusher deed row = absurd row
 
-  off_at : (activity : Activity) (id : ℕ) (page : LivePage) (deed : Deed) → MergesNothing activity → RowAt activity now id page deed → KeepsOff m deed
+  off_at : (activity : Activity) (id : ℕ) (page : LivePage) (deed : Deed) → MergesNothing activity → RowAt activity (sight now) id page deed → KeepsOff m deed
   off_at (at.SessionWalk line held rest found) id page deed none row = off_walk line rest found id page deed (goal_of line.command rest) row
   off_at (at.PosterGrow job) id page deed none (inl row) = off deed _ row.deed_is (one_job job none) refl tt
   off_at (at.PosterGrow job) id page deed none (inr row) = adds_none deed _ row.deed_is refl refl tt
@@ -157,50 +159,14 @@ module _ (m : Machine) (fetched : StoreState) where
 -- ---- what can't go on
 
 module _ (m : Machine) where
-  off_now : (deed : Deed) → deed.adds ≡ [] → deed.left ≡ m.jobs → MergesNothing deed.next → KeepsOff m deed
+  off_now : (deed : Deed) → deed.adds ≡ [] → deed.takes ≡ None → MergesNothing deed.next → KeepsOff m deed
   off_now deed none left next = adds_none m m.store deed deed refl none left next
 
-  off_given_up : (why : DropWhy) (activity : Activity) → KeepsOff m (gives_up m why activity)
-  off_given_up why at.SessionIdle = off_now (gives_up m why at.SessionIdle) refl refl tt
-  off_given_up why (at.SessionWalk line held rest found) = off_now (gives_up m why (at.SessionWalk line held rest found)) refl refl tt
-  off_given_up why (at.SessionSplit line held) = off_now (gives_up m why (at.SessionSplit line held)) refl refl tt
-  off_given_up why (at.SessionPut line source fresh) = off_now (gives_up m why (at.SessionPut line source fresh)) refl refl tt
-  off_given_up why (at.SessionAwait line reply place) = off_now (gives_up m why (at.SessionAwait line reply place)) refl refl tt
-  off_given_up why at.PosterIdle = off_now (gives_up m why at.PosterIdle) refl refl tt
-  off_given_up why (at.PosterGrow job) = off_now (gives_up m why (at.PosterGrow job)) refl refl tt
-  off_given_up why (at.PosterWalk job held) = off_now (gives_up m why (at.PosterWalk job held)) refl refl tt
-  off_given_up why (at.PosterChild job parent) = off_now (gives_up m why (at.PosterChild job parent)) refl refl tt
-  off_given_up why (at.PosterPromote job parent) = off_now (gives_up m why (at.PosterPromote job parent)) refl refl tt
-  off_given_up why (at.PosterAgain job parent) = off_now (gives_up m why (at.PosterAgain job parent)) refl refl tt
-  off_given_up why at.ConsolidatorIdle = off_now (gives_up m why at.ConsolidatorIdle) refl refl tt
-  off_given_up why (at.ConsolidatorWalk job held) = off_now (gives_up m why (at.ConsolidatorWalk job held)) refl refl tt
-  off_given_up why (at.ConsolidatorScan job parent child) = off_now (gives_up m why (at.ConsolidatorScan job parent child)) refl refl tt
-  off_given_up why (at.ConsolidatorTry job parent keep gone leaf) = off_now (gives_up m why (at.ConsolidatorTry job parent keep gone leaf)) refl refl tt
-  off_given_up why (at.ConsolidatorPromote job parent keep gone) = off_now (gives_up m why (at.ConsolidatorPromote job parent keep gone)) refl refl tt
-  off_given_up why (at.ConsolidatorKeep job parent keep gone) = off_now (gives_up m why (at.ConsolidatorKeep job parent keep gone)) refl refl tt
-  off_given_up why (at.ConsolidatorDecide job parent keep gone) = off_now (gives_up m why (at.ConsolidatorDecide job parent keep gone)) refl refl tt
-  off_given_up why at.Flusher = off_now (gives_up m why at.Flusher) refl refl tt
+  off_given_up : (why : DropWhy) (activity : Activity) → KeepsOff m (gives_up why activity)
+  off_given_up why activity = given_up_is (KeepsOff m) why activity (λ line is. off_now _ refl refl tt) (λ job is. off_now _ refl refl (idle_off (class_of activity))) (λ is. off_now _ refl refl (idle_off (class_of activity)))
 
-  off_run_out : (activity : Activity) → KeepsOff m (runs_out m activity)
-  off_run_out at.SessionIdle = off_now (runs_out m at.SessionIdle) refl refl tt
-  off_run_out (at.SessionWalk line held rest found) = off_now (runs_out m (at.SessionWalk line held rest found)) refl refl tt
-  off_run_out (at.SessionSplit line held) = off_now (runs_out m (at.SessionSplit line held)) refl refl tt
-  off_run_out (at.SessionPut line source fresh) = off_now (runs_out m (at.SessionPut line source fresh)) refl refl tt
-  off_run_out (at.SessionAwait line reply place) = off_now (runs_out m (at.SessionAwait line reply place)) refl refl tt
-  off_run_out at.PosterIdle = off_now (runs_out m at.PosterIdle) refl refl tt
-  off_run_out (at.PosterGrow job) = off_now (runs_out m (at.PosterGrow job)) refl refl tt
-  off_run_out (at.PosterWalk job held) = off_now (runs_out m (at.PosterWalk job held)) refl refl tt
-  off_run_out (at.PosterChild job parent) = off_now (runs_out m (at.PosterChild job parent)) refl refl tt
-  off_run_out (at.PosterPromote job parent) = off_now (runs_out m (at.PosterPromote job parent)) refl refl tt
-  off_run_out (at.PosterAgain job parent) = off_now (runs_out m (at.PosterAgain job parent)) refl refl tt
-  off_run_out at.ConsolidatorIdle = off_now (runs_out m at.ConsolidatorIdle) refl refl tt
-  off_run_out (at.ConsolidatorWalk job held) = off_now (runs_out m (at.ConsolidatorWalk job held)) refl refl tt
-  off_run_out (at.ConsolidatorScan job parent child) = off_now (runs_out m (at.ConsolidatorScan job parent child)) refl refl tt
-  off_run_out (at.ConsolidatorTry job parent keep gone leaf) = off_now (runs_out m (at.ConsolidatorTry job parent keep gone leaf)) refl refl tt
-  off_run_out (at.ConsolidatorPromote job parent keep gone) = off_now (runs_out m (at.ConsolidatorPromote job parent keep gone)) refl refl tt
-  off_run_out (at.ConsolidatorKeep job parent keep gone) = off_now (runs_out m (at.ConsolidatorKeep job parent keep gone)) refl refl tt
-  off_run_out (at.ConsolidatorDecide job parent keep gone) = off_now (runs_out m (at.ConsolidatorDecide job parent keep gone)) refl refl tt
-  off_run_out at.Flusher = off_now (runs_out m at.Flusher) refl refl tt
+  off_run_out : (activity : Activity) → KeepsOff m (runs_out activity)
+  off_run_out activity = run_out_is (KeepsOff m) activity (λ line is. off_now _ refl refl tt) (λ job is. off_now _ refl refl (idle_off (class_of activity))) (λ is. off_now _ refl refl (idle_off (class_of activity)))
 
 -- ---- the queue
 
@@ -220,9 +186,19 @@ module _ (m : Machine) (actor : ℕ) (outcome : Outcome) (new : Machine) (has : 
     hands = λ other. subst (λ (all : ℕ → Activity). MergesNothing (all other)) (sym keeps.activity) (has.hands other);
   }
 
-  did : (fetched : StoreState) (deed : Deed) → Performs m fetched actor deed outcome new → All IsNoMerge deed.adds → All IsNoMerge deed.left → MergesNothing deed.next → HasNothingToMerge new
-  did fetched deed performs adds left next = record {
-    waiting = no_merges_added deed.adds deed.left new.jobs adds left performs.jobs;
+  -- the jobs that are left, where one is taken
+  none_left : (takes : Option Job) (left : List Job) → LeavesBy takes m.jobs left → All IsNoMerge left
+  none_left None left is = subst (λ (l : List Job). All IsNoMerge l) (sym is) has.waiting
+  none_left (Some job) left oldest =
+      subst (λ (l : List Job). All IsNoMerge l) (sym oldest.rest) (without oldest.front job oldest.behind (subst (λ (l : List Job). All IsNoMerge l) oldest.whole has.waiting))
+    where
+      without : (front : List Job) (job : Job) (behind : List Job) → All IsNoMerge (front ++ job ∷ behind) → All IsNoMerge (front ++ behind)
+      without [] job behind all = All-tail IsNoMerge job behind all
+      without (first ∷ front) job behind all = All-cons IsNoMerge first (front ++ behind) (All-head IsNoMerge first (front ++ job ∷ behind) all) (without front job behind (All-tail IsNoMerge first (front ++ job ∷ behind) all))
+
+  did : (fetched : StoreState) (deed : Deed) → Performs m fetched actor deed outcome new → All IsNoMerge deed.adds → MergesNothing deed.next → HasNothingToMerge new
+  did fetched deed performs adds next = record {
+    waiting = no_merges_added deed.adds performs.jobs.left new.jobs adds (none_left deed.takes performs.jobs.left performs.jobs.takes) performs.jobs.adds;
     hands = λ other. subst MergesNothing (sym (performs.activity other)) (elim (cases_Bool (other == actor)) [
       | inl here ↦ subst (λ (b : Bool). MergesNothing (cond b deed.next (m.activity other))) (sym here) next
       | inr away ↦ subst (λ (b : Bool). MergesNothing (cond b deed.next (m.activity other))) (sym away) (has.hands other)
@@ -230,12 +206,13 @@ module _ (m : Machine) (actor : ℕ) (outcome : Outcome) (new : Machine) (has : 
   }
 
   kept_off : (fetched : StoreState) (deed : Deed) → Performs m fetched actor deed outcome new → KeepsOff m deed → HasNothingToMerge new
-  kept_off fetched deed performs keeps = did fetched deed performs keeps.adds (subst (λ (l : List Job). All IsNoMerge l) (sym keeps.left) has.waiting) keeps.next
+  kept_off fetched deed performs keeps = did fetched deed performs keeps.adds keeps.next
 
   worked : Works m actor outcome new → HasNothingToMerge new
   worked (inl (by, way, so)) = same_but_disk (stays_so m actor outcome new (outcomes.Blocked by) so)
   worked (inr (inl (free, unready, inl (waits, force)))) = same_but_disk (forces_so m actor outcome new outcomes.Helped force)
-  worked (inr (inl (free, unready, inr (none, performs)))) = kept_off m.store _ performs (off_run_out m (m.activity actor))
+  worked (inr (inl (free, unready, inr (none, rest)))) =
+      rest_kind m outcomes.Helped outcome new _ (HasNothingToMerge new) none (λ at. refl) (λ more. same_but_disk (more_so m actor outcome new more)) (λ performs. kept_off m.store _ performs (off_run_out m (m.activity actor))) rest
   worked (inr (inr (free, ready, inl acts))) = kept_off acts.fetched acts.deed acts.performs (off_row m acts.fetched (m.activity actor) _ acts.deed (has.hands actor) acts.row)
   worked (inr (inr (free, ready, inr (inl gives)))) = kept_off gives.fetched _ gives.performs (off_given_up m gives.why (m.activity actor))
   worked (inr (inr (free, ready, inr (inr meets)))) = same_but_disk (meets_so m actor outcome new meets)
@@ -253,31 +230,25 @@ module _ (m : Machine) (actor : ℕ) (outcome : Outcome) (new : Machine) (has : 
 
   took_posting : (deed : Deed) → TakesJob m deed → Performs m m.store actor deed outcome new → HasNothingToMerge new
   took_posting deed takes performs =
-      let oldest = takes.oldest in
-      let none = posting_is_none takes.job oldest.of_kind in
-      let waits = subst (λ (l : List Job). All IsNoMerge l) oldest.whole has.waiting in
-      let left : All IsNoMerge takes.left = subst (λ (l : List Job). All IsNoMerge l) (sym oldest.rest) (without oldest.front takes.job oldest.behind waits) in
       did m.store deed performs
       (subst (λ (d : Deed). All IsNoMerge d.adds) (sym takes.deed_is) (All-nil IsNoMerge))
-      (subst (λ (d : Deed). All IsNoMerge d.left) (sym takes.deed_is) left)
-      (subst (λ (d : Deed). MergesNothing d.next) (sym takes.deed_is) (posting_hands takes.job m.store.meta.height takes.next none takes.posting))
-    where
-      without : (front : List Job) (job : Job) (behind : List Job) → All IsNoMerge (front ++ job ∷ behind) → All IsNoMerge (front ++ behind)
-      without [] job behind all = All-tail IsNoMerge job behind all
-      without (first ∷ front) job behind all = All-cons IsNoMerge first (front ++ behind) (All-head IsNoMerge first (front ++ job ∷ behind) all) (without front job behind (All-tail IsNoMerge first (front ++ job ∷ behind) all))
+      (subst (λ (d : Deed). MergesNothing d.next) (sym takes.deed_is) (posting_hands takes.job m.store.meta.height takes.next (posting_is_none takes.job takes.kind) takes.posting))
 
   -- no job to merge waits
-  never_merges : (deed : Deed) → TakesMerging m deed → ⊥
-  never_merges deed takes = among_waiting takes.oldest.front takes.oldest.behind takes.job takes.oldest.whole takes.oldest.of_kind
+  never_merges : (deed : Deed) → TakesMerging m deed → Performs m m.store actor deed outcome new → ⊥
+  never_merges deed takes performs =
+      let oldest : LeavesFirst takes.job.kind m.jobs takes.job performs.jobs.left = subst (λ (o : Option Job). LeavesBy o m.jobs performs.jobs.left) (ap (λ (d : Deed). d.takes) takes.deed_is) performs.jobs.takes in
+      among_waiting oldest.front oldest.behind takes.job oldest.whole takes.kind
 
 pub nothing_comes_to_merge : NothingComesToMerge
 nothing_comes_to_merge m actor outcome new has step = each_step m actor outcome new (HasNothingToMerge new) (record {
   stays = λ said so. same_but_disk m actor outcome new has (stays_so m actor outcome new said so);
   forces = λ said silent force. same_but_disk m actor outcome new has (forces_so m actor outcome new said force);
+  more = λ more. same_but_disk m actor outcome new has (more_so m actor outcome new more);
   takes = λ line idle next performs. kept_off m actor outcome new has m.store _ performs (off_now m _ refl refl tt);
   refuses = λ line idle next performs. kept_off m actor outcome new has m.store _ performs (off_now m _ refl refl tt);
   posts = λ deed idle takes performs. took_posting m actor outcome new has deed takes performs;
-  merges = λ deed idle takes performs. absurd (never_merges m actor outcome new has deed takes);
+  merges = λ deed idle takes performs. absurd (never_merges m actor outcome new has deed takes performs);
   settles = λ number place reply is settled performs. kept_off m actor outcome new has m.store _ performs (off_now m _ refl refl tt);
   works = λ none works. worked m actor outcome new has works;
 }) step

@@ -7,13 +7,13 @@ use Rattle.std.specs.declared.cmp.Ordering.TheVariants.{Less, Equal, Greater}
 use Rattle.std.proofs.lemmas.Cmp.{nat_list_cmp_total, tied_itself}
 use Rattle.std.proofs.lemmas.List.Elements.{All-contains, All-head, All-tail, Contains-get_or}
 use Rattle.std.proofs.lemmas.List.Sorted.{Contains-permutation, IsPermutation-sym}
-use Rattle.hb_space.specs.Boxes.{holds}
-use Rattle.hb_space.specs.Points.{point_cmp}
 use Rattle.hb_space.specs.declared.records.Record.{Record}
 use Rattle.hb_frag.specs.declared.leaves.Leaf.TheVariants.{Records}
 use Rattle.hb_frag.specs.declared.pages.LivePage.{LivePage}
 use Rattle.hb_frag.specs.Leaves.{Placed, first_at, leaf_at, leaves_of}
 use Rattle.hb_frag.specs.Rules.{AreInOrder, IsInOrder, Precedes}
+use Rattle.hb_space.specs.Boxes.{holds}
+use Rattle.hb_space.specs.Points.{point_cmp}
 
 -- no record comes before itself, and no two before each other
 not_itself : (p q : List ℕ) → p ≡ q → point_cmp p q ≡ Less → ⊥

@@ -5,12 +5,11 @@ use Rattle.std.specs.List.{Contains}
 use Rattle.std.proofs.lemmas.Bool.{cases_lt}
 use Rattle.std.proofs.lemmas.List.Elements.{All-contains, Contains-append_right, Contains-get_or}
 use Rattle.hb_latch.specs.declared.modes.Mode.{Mode}
-use Rattle.hb_latch.specs.Modes.{goes_beside}
-use Rattle.hb_latch.specs.Tables.{IsGrantable, IsLeastInTheWay, LatchTable, mode_at}
 use Rattle.hb_set.specs.declared.commands.Reply.{Reply}
 use Rattle.hb_set.specs.declared.commands.Reply.TheVariants as replies
 use Rattle.hb_set.specs.declared.scripts.Line.{Line}
 use Rattle.hb_activity.specs.declared.jobs.Job.{Job}
+use Rattle.hb_activity.specs.declared.jobs.JobKind.{JobKind}
 use Rattle.hb_activity.specs.declared.jobs.JobKind.TheVariants.{Post, Merge}
 use Rattle.hb_activity.specs.declared.wanting.Wanted.{Wanted}
 use Rattle.hb_activity.specs.declared.activities.Activity.{Activity}
@@ -18,22 +17,25 @@ use Rattle.hb_activity.specs.declared.activities.Activity.TheVariants as at
 use Rattle.hb_store.specs.declared.stops.StopWhy.{StopWhy}
 use Rattle.hb_core.specs.declared.outcomes.Outcome.{Outcome}
 use Rattle.hb_core.specs.declared.outcomes.Outcome.TheVariants as outcomes
-use Rattle.hb_core.specs.Machines.{Machine}
+use Rattle.hb_activity.specs.Deeds.{Deed, answers_now}
+use Rattle.hb_activity.specs.Queue.{LeavesFirst}
+use Rattle.hb_activity.specs.Walks.{walk_held}
+use Rattle.hb_consol.specs.ConsolidatorRows.{IsMergingOf}
+use Rattle.hb_core.proofs.NextPlaces.{nothing_run_out}
+use Rattle.hb_core.proofs.OnePiece.{one_job, one_merging, taken}
 use Rattle.hb_core.specs.Acting.{Abandons, DoesRow, MeetsBadPage}
 use Rattle.hb_core.specs.Asking.{wanted_by}
-use Rattle.hb_core.specs.Deeds.{Deed, answers_now}
-use Rattle.hb_core.specs.Performing.{Performs}
-use Rattle.hb_core.specs.Stages.{flusher_steps}
-use Rattle.hb_core.specs.Forcing.{Flushes, ForcesFirst, StaysSo}
-use Rattle.hb_core.specs.SessionRows.{next_line, taking}
-use Rattle.hb_core.specs.WorkerRows.{IsPostingOf, TakesJob}
-use Rattle.hb_core.specs.ConsolidatorRows.{IsMergingOf, TakesMerging}
-use Rattle.hb_core.specs.OutcomeLaws.{IsTurnedAside}
-use Rattle.hb_core.specs.Steps.{AwaitsPlace, GetsReady, StepsAs, StepsTo, TakesJobToMerge, TakesPosting, WantsBoxes, Works}
-use Rattle.hb_activity.specs.Walks.{walk_held}
+use Rattle.hb_core.specs.Forcing.{FailsToWrite, Flushes, FlushesOnce, FlushesRest, ForcesFirst, StaysSo}
 use Rattle.hb_core.specs.GivingUp.{runs_out}
-use Rattle.hb_core.proofs.NextPlaces.{nothing_run_out}
-use Rattle.hb_core.proofs.OnePiece.{one_job, one_merging}
+use Rattle.hb_core.specs.Machines.{Machine}
+use Rattle.hb_core.specs.OutcomeLaws.{IsTurnedAside}
+use Rattle.hb_core.specs.Performing.{ChangesQueue, Performs}
+use Rattle.hb_core.specs.Stages.{flusher_steps}
+use Rattle.hb_core.specs.Steps.{TakesJob, TakesMerging, AwaitsPlace, GetsReady, StepsAs, StepsTo, TakesJobToMerge, TakesPosting, Works}
+use Rattle.hb_latch.specs.Modes.{goes_beside}
+use Rattle.hb_latch.specs.Tables.{IsGrantable, IsLeastInTheWay, LatchTable, mode_at}
+use Rattle.hb_point.specs.SessionRows.{next_line, taking, WantsBoxes}
+use Rattle.hb_poster.specs.PosterRows.{IsPostingOf}
 
 -- ---- the least actor in the way is one, and where one is the way isn't free
 
@@ -66,6 +68,10 @@ merging_holds_nothing : (job : Job) (height : ℕ) (next : Activity) → IsMergi
 merging_holds_nothing job height next (inl (above, is)) = ap walk_held is
 merging_holds_nothing job height next (inr (below, is)) = ap walk_held is
 
+-- a write that fails within four calls fails within nine
+pub in_nine : (m : Machine) (outcome : Outcome) (new : Machine) → FailsToWrite m 4 outcome new → FailsToWrite m 9 outcome new
+in_nine m outcome new fails = record { clock = fails.clock; from = fails.from; few = omega (arith, fails.few); says = fails.says; stops = fails.stops }
+
 -- What is to be shown of two steps.
 pub record ShowsBoth (m : Machine) (actor : ℕ) (outcome other : Outcome) (new next : Machine) (G : Type 0) : Type 0 where
   pub first_aside : IsTurnedAside m actor outcome new → G
@@ -79,17 +85,32 @@ module _ (m : Machine) (actor : ℕ) (outcome other : Outcome) (new next : Machi
   both_stay said (a, b) (c, d) = shows.same (a ∙ sym c) (b ∙ sym d)
 
   both_force : (said : Outcome) → ForcesFirst m said outcome new → ForcesFirst m said other next → G
-  both_force said (inr badly) second = shows.first_aside (inr (inl badly))
-  both_force said (inl well) (inr badly) = shows.second_aside (inr (inl badly))
+  both_force said (inr (waits, fails)) second = shows.first_aside (inr (inl (in_nine m outcome new fails)))
+  both_force said (inl well) (inr (waits, fails)) = shows.second_aside (inr (inl (in_nine m other next fails)))
   both_force said (inl (a, b)) (inl (c, d)) = shows.same (a ∙ sym c) (b ∙ sym d)
+
+  -- while nothing is flushed besides, no two steps flush well
+  both_rest : (due : Outcome) (first_does second_does : Type 0) → (first_does → second_does → G) → FlushesRest m due first_does outcome new → FlushesRest m due second_does other next → G
+  both_rest due A B both (inl (more, well)) (inl (again, also)) = absurd well.flushed
+  both_rest due A B both (inl (more, well)) (inr (inl (again, fails))) = shows.second_aside (inr (inl fails))
+  both_rest due A B both (inl (more, well)) (inr (inr (none, second))) = absurd (none more)
+  both_rest due A B both (inr (inl (more, fails))) second = shows.first_aside (inr (inl fails))
+  both_rest due A B both (inr (inr (none, first))) (inl (more, well)) = absurd (none more)
+  both_rest due A B both (inr (inr (none, first))) (inr (inl (more, fails))) = shows.second_aside (inr (inl fails))
+  both_rest due A B both (inr (inr (none, first))) (inr (inr (again, second))) = both first second
+
+  both_flush_once : (due : Outcome) (first_does second_does : Type 0) → (first_does → second_does → G) → FlushesOnce m due first_does outcome new → FlushesOnce m due second_does other next → G
+  both_flush_once due A B both (inl (waits, first)) (inl (again, second)) = both_force due first second
+  both_flush_once due A B both (inl (waits, first)) (inr (none, second)) = absurd (waits none)
+  both_flush_once due A B both (inr (none, first)) (inl (waits, second)) = absurd (waits none)
+  both_flush_once due A B both (inr (none, first)) (inr (again, second)) = both_rest due A B both first second
 
   -- ---- what works
 
   both_get_ready : GetsReady m actor outcome new → GetsReady m actor other next → G
-  both_get_ready (inl (waits, first)) (inl (again, second)) = both_force outcomes.Helped first second
-  both_get_ready (inl (waits, first)) (inr (none, second)) = absurd (waits none)
-  both_get_ready (inr (none, first)) (inl (waits, second)) = absurd (waits none)
-  both_get_ready (inr (none, first)) (inr (again, second)) = shows.deeds (runs_out m (m.activity actor)) (runs_out m (m.activity actor)) refl (nothing_run_out m (m.activity actor)).walk first second
+  both_get_ready first second =
+      both_flush_once outcomes.Helped (Performs m m.store actor (runs_out (m.activity actor)) outcome new) (Performs m m.store actor (runs_out (m.activity actor)) other next)
+      (λ a b. shows.deeds (runs_out (m.activity actor)) (runs_out (m.activity actor)) refl (nothing_run_out (m.activity actor)).walk a b) first second
 
   both_act : DoesRow m actor outcome new ⊎ Abandons m actor outcome new ⊎ MeetsBadPage m actor outcome new → DoesRow m actor other next ⊎ Abandons m actor other next ⊎ MeetsBadPage m actor other next → G
   both_act (inr (inl gives)) second = shows.first_aside (inr (inr (inl gives)))
@@ -114,47 +135,46 @@ module _ (m : Machine) (actor : ℕ) (outcome other : Outcome) (new next : Machi
   -- ---- what takes a line or a job, and what awaits its place
 
   abbrev TakesOr : (o : Outcome) (n : Machine) → Option Line → Type 0
-  TakesOr o n line = MatchOption line (StaysSo m outcomes.Idle o n) (λ line. Performs m m.store actor (taking m line) o n ⊎ (WantsBoxes line.command × Performs m m.store actor (answers_now m line.number replies.NoMemory) o n))
+  TakesOr o n line = MatchOption line (StaysSo m outcomes.Idle o n) (λ line. Performs m m.store actor (taking line) o n ⊎ (WantsBoxes line.command × Performs m m.store actor (answers_now line.number replies.NoMemory) o n))
 
   both_take : (line : Option Line) → m.activity actor ≡ at.SessionIdle → next_line actor m.answered m.lines ≡ line → TakesOr outcome new line → TakesOr other next line → G
   both_take None idle is first second = both_stay outcomes.Idle first second
   both_take (Some line) idle is (inr (boxes, performs)) second = shows.first_aside (inl (record { idle = idle; line = line; next = is; boxes = boxes; performs = performs }))
   both_take (Some line) idle is (inl first) (inr (boxes, performs)) = shows.second_aside (inl (record { idle = idle; line = line; next = is; boxes = boxes; performs = performs }))
-  both_take (Some line) idle is (inl first) (inl second) = shows.deeds (taking m line) (taking m line) refl refl first second
+  both_take (Some line) idle is (inl first) (inl second) = shows.deeds (taking line) (taking line) refl refl first second
 
-  no_posting : (deed : Deed) → All (λ (job : Job). job.kind ≢ Post) m.jobs → TakesJob m deed → ⊥
-  no_posting deed none takes =
-      let oldest = takes.oldest in
-      let among : Contains (oldest.front ++ takes.job ∷ oldest.behind) takes.job = Contains-append_right oldest.front (takes.job ∷ oldest.behind) takes.job (Contains-get_or (takes.job ∷ oldest.behind) 0 takes.job (omega arith)) in
-      All-contains (λ (job : Job). job.kind ≢ Post) m.jobs takes.job none (subst (λ (jobs : List Job). Contains jobs takes.job) (sym oldest.whole) among) oldest.of_kind
+  -- a job that is taken was among those that wait
+  was_waiting : (kind : JobKind) (job : Job) (old left : List Job) → LeavesFirst kind old job left → All (λ (job : Job). job.kind ≢ kind) old → ⊥
+  was_waiting kind job old left leaves none =
+      let among : Contains (leaves.front ++ job ∷ leaves.behind) job = Contains-append_right leaves.front (job ∷ leaves.behind) job (Contains-get_or (job ∷ leaves.behind) 0 job (omega arith)) in
+      All-contains (λ (job : Job). job.kind ≢ kind) old job none (subst (λ (jobs : List Job). Contains jobs job) (sym leaves.whole) among) leaves.of_kind
+
+  no_posting : (deed : Deed) (queue : List Job) → All (λ (job : Job). job.kind ≢ Post) m.jobs → TakesJob m deed → ChangesQueue deed m.jobs queue → ⊥
+  no_posting deed queue none takes changes = was_waiting Post takes.job m.jobs changes.left (taken Post deed takes.job takes.next m.jobs queue takes.kind takes.deed_is changes) none
 
   both_post : TakesPosting m actor outcome new → TakesPosting m actor other next → G
   both_post (inl (none, first)) (inl (none', second)) = both_stay outcomes.Idle first second
-  both_post (inl (none, first)) (inr (deed, takes, second)) = absurd (no_posting deed none takes)
-  both_post (inr (deed, takes, first)) (inl (none, second)) = absurd (no_posting deed none takes)
-  both_post (inr (d, takes, first)) (inr (e, again, second)) = shows.deeds d e (one_job m d e takes again) (ap (λ (x : Deed). walk_held x.next) takes.deed_is ∙ posting_holds_nothing takes.job m.store.meta.height takes.next takes.posting) first second
+  both_post (inl (none, first)) (inr (deed, takes, second)) = absurd (no_posting deed next.jobs none takes second.jobs)
+  both_post (inr (deed, takes, first)) (inl (none, second)) = absurd (no_posting deed new.jobs none takes first.jobs)
+  both_post (inr (d, takes, first)) (inr (e, again, second)) =
+      shows.deeds d e (one_job m d e new.jobs next.jobs first.jobs second.jobs takes again) (ap (λ (x : Deed). walk_held x.next) takes.deed_is ∙ posting_holds_nothing takes.job m.store.meta.height takes.next takes.posting) first second
 
-  no_merging : (deed : Deed) → All (λ (job : Job). job.kind ≢ Merge) m.jobs → TakesMerging m deed → ⊥
-  no_merging deed none takes =
-      let oldest = takes.oldest in
-      let among : Contains (oldest.front ++ takes.job ∷ oldest.behind) takes.job = Contains-append_right oldest.front (takes.job ∷ oldest.behind) takes.job (Contains-get_or (takes.job ∷ oldest.behind) 0 takes.job (omega arith)) in
-      All-contains (λ (job : Job). job.kind ≢ Merge) m.jobs takes.job none (subst (λ (jobs : List Job). Contains jobs takes.job) (sym oldest.whole) among) oldest.of_kind
+  no_merging : (deed : Deed) (queue : List Job) → All (λ (job : Job). job.kind ≢ Merge) m.jobs → TakesMerging m deed → ChangesQueue deed m.jobs queue → ⊥
+  no_merging deed queue none takes changes = was_waiting Merge takes.job m.jobs changes.left (taken Merge deed takes.job takes.next m.jobs queue takes.kind takes.deed_is changes) none
 
   both_merge : TakesJobToMerge m actor outcome new → TakesJobToMerge m actor other next → G
   both_merge (inl (none, first)) (inl (none', second)) = both_stay outcomes.Idle first second
-  both_merge (inl (none, first)) (inr (deed, takes, second)) = absurd (no_merging deed none takes)
-  both_merge (inr (deed, takes, first)) (inl (none, second)) = absurd (no_merging deed none takes)
-  both_merge (inr (d, takes, first)) (inr (e, again, second)) = shows.deeds d e (one_merging m d e takes again) (ap (λ (x : Deed). walk_held x.next) takes.deed_is ∙ merging_holds_nothing takes.job m.store.meta.height takes.next takes.merging) first second
+  both_merge (inl (none, first)) (inr (deed, takes, second)) = absurd (no_merging deed next.jobs none takes second.jobs)
+  both_merge (inr (deed, takes, first)) (inl (none, second)) = absurd (no_merging deed new.jobs none takes first.jobs)
+  both_merge (inr (d, takes, first)) (inr (e, again, second)) =
+      shows.deeds d e (one_merging m d e new.jobs next.jobs first.jobs second.jobs takes again) (ap (λ (x : Deed). walk_held x.next) takes.deed_is ∙ merging_holds_nothing takes.job m.store.meta.height takes.next takes.merging) first second
 
   both_flush : (on : Bool) → Flushes on m outcome new → Flushes on m other next → G
   both_flush false first second = both_stay outcomes.Idle first second
-  both_flush true (inl (waits, first)) (inl (again, second)) = both_force outcomes.Moved first second
-  both_flush true (inl (waits, first)) (inr (none, second)) = absurd (waits none)
-  both_flush true (inr (none, first)) (inl (waits, second)) = absurd (waits none)
-  both_flush true (inr (none, first)) (inr (again, second)) = both_stay outcomes.Idle first second
+  both_flush true first second = both_flush_once outcomes.Moved (StaysSo m outcomes.Idle outcome new) (StaysSo m outcomes.Idle other next) (λ a b. both_stay outcomes.Idle a b) first second
 
   both_await : (number : ℕ) (reply : Reply) (place : ℕ) → AwaitsPlace m actor number reply place outcome new → AwaitsPlace m actor number reply place other next → G
-  both_await number reply place (inl (lt, first)) (inl (lt', second)) = shows.deeds (answers_now m number reply) (answers_now m number reply) refl refl first second
+  both_await number reply place (inl (lt, first)) (inl (lt', second)) = shows.deeds (answers_now number reply) (answers_now number reply) refl refl first second
   both_await number reply place (inl (lt, first)) (inr (ge, second)) = absurd (omega (arith, lt, ge))
   both_await number reply place (inr (ge, first)) (inl (lt, second)) = absurd (omega (arith, lt, ge))
   both_await number reply place (inr (ge, first)) (inr (ge', second)) = both_force outcomes.Moved first second

@@ -1,9 +1,8 @@
 -- The pieces of a row that the table fixes: the oldest job, the plan, the next number, the part that leaves a page.
-use Rattle.std.proofs.Common.{◌≡◌, ◌≢◌, inl, inr, ℕ, ◌++◌, List, [], ◌∷◌, All, Some, None, refl, sym, ap, ◌∙◌, subst, arith}
+use Rattle.std.proofs.Common.{◌≡◌, ◌≢◌, inl, inr, ℕ, ◌++◌, List, [], ◌∷◌, All, Option, Some, None, refl, sym, ap, ◌∙◌, subst, arith}
 use Rattle.std.proofs.lemmas.Bool.{cases_lt}
 use Rattle.std.proofs.lemmas.List.Elements.{All-head, All-tail}
 use Rattle.std.proofs.lemmas.Option.{same_Some}
-use Rattle.hb_space.specs.Boxes.{Area}
 use Rattle.hb_space.specs.declared.records.Record.{Record}
 use Rattle.hb_layout.specs.declared.meta.Meta.{Meta}
 use Rattle.hb_frag.specs.declared.leaves.Leaf.TheVariants.{Records, Child, Sibling}
@@ -11,25 +10,30 @@ use Rattle.hb_frag.specs.declared.pages.LivePage.{LivePage}
 use Rattle.hb_frag.specs.declared.pages.Page.{Page}
 use Rattle.hb_frag.specs.declared.pages.Page.TheVariants.{Free}
 use Rattle.hb_frag.specs.declared.paths.Side.{Side}
-use Rattle.hb_frag.specs.Leaves.{Placed, weight_of}
-use Rattle.hb_frag.specs.Trees.{Tree, Tip}
-use Rattle.hb_ops.specs.Cutting.{going}
 use Rattle.hb_ops.specs.declared.leaf_cuts.LeafCut.{LeafCut}
-use Rattle.hb_split.specs.Choosing.{AreChosen, Chooses, IsBest, NotBehind, heavier_side, count_on}
 use Rattle.hb_frag.specs.declared.paths.Side.TheVariants.{Left, Right}
-use Rattle.hb_terms.specs.Plans.{IsOwed, IsPlan, posted_parent}
 use Rattle.hb_terms.specs.declared.plans.PostPlan.{PostPlan}
 use Rattle.hb_terms.specs.declared.plans.PostPlan.TheVariants as plans
 use Rattle.hb_activity.specs.declared.jobs.Job.{Job}
 use Rattle.hb_activity.specs.declared.jobs.JobKind.{JobKind}
+use Rattle.hb_activity.specs.declared.jobs.JobKind.TheVariants.{Post, Merge}
 use Rattle.hb_activity.specs.declared.activities.Activity.{Activity}
+use Rattle.hb_activity.specs.Deeds.{Deed, takes_job}
+use Rattle.hb_activity.specs.Queue.{AddsJob, AddsJobs, LeavesBy, LeavesFirst}
+use Rattle.hb_consol.specs.ConsolidatorRows.{IsMergingOf}
+use Rattle.hb_core.proofs.NextNumbers.{is_next_number}
+use Rattle.hb_core.specs.Machines.{Machine, next_of}
+use Rattle.hb_core.specs.Performing.{ChangesQueue}
+use Rattle.hb_core.specs.Steps.{TakesJob, TakesMerging}
+use Rattle.hb_frag.specs.Leaves.{Placed, weight_of}
+use Rattle.hb_frag.specs.Trees.{Tree, Tip}
+use Rattle.hb_ops.specs.Cutting.{going}
+use Rattle.hb_poster.specs.PosterRows.{IsPostingOf}
+use Rattle.hb_space.specs.Boxes.{Area}
+use Rattle.hb_split.specs.Choosing.{AreChosen, Chooses, IsBest, NotBehind, heavier_side, count_on}
 use Rattle.hb_store.specs.NextPage.{IsNext}
 use Rattle.hb_store.specs.States.{StoreState, in_memory}
-use Rattle.hb_core.specs.declared.outcomes.Outcome.TheVariants as outcomes
-use Rattle.hb_core.specs.Machines.{Machine}
-use Rattle.hb_core.specs.Deeds.{AddsJob, AddsJobs, Deed}
-use Rattle.hb_core.specs.WorkerRows.{IsPostingOf, TakesJob}
-use Rattle.hb_core.specs.ConsolidatorRows.{IsMergingOf, TakesMerging}
+use Rattle.hb_terms.specs.Plans.{IsOwed, IsPlan, posted_parent}
 
 -- ---- the oldest job of its kind, and what its poster does next
 
@@ -44,6 +48,17 @@ same_front kind (x ∷ xs) (y ∷ ys) behind rest job next is of_kind is_kind no
     let later = same_front kind xs ys behind rest job next tail of_kind is_kind (All-tail (λ (j : Job). j.kind ≢ kind) x xs none) (All-tail (λ (j : Job). j.kind ≢ kind) y ys lack) in
     (later.0, ap (λ (j : Job). j ∷ (xs ++ behind)) same ∙ ap (λ (l : List Job). y ∷ l) later.1)
 
+-- one job leaves as the first of its kind, and the others are as they were
+first_leaves : (kind : JobKind) (old left other : List Job) (job next : Job) → LeavesFirst kind old job left → LeavesFirst kind old next other → (job ≡ next) × (left ≡ other)
+first_leaves kind old left other job next a b =
+    let same = same_front kind a.front b.front a.behind b.behind job next (sym a.whole ∙ b.whole) a.of_kind b.of_kind a.first b.first in
+    (same.0, a.rest ∙ same.1 ∙ sym b.rest)
+
+-- the job that a deed takes has left as the first of its kind
+pub taken : (kind : JobKind) (deed : Deed) (job : Job) (next : Activity) (old new : List Job) → job.kind ≡ kind → deed ≡ takes_job next job → (changes : ChangesQueue deed old new) → LeavesFirst kind old job changes.left
+taken kind deed job next old new of_kind is changes =
+    subst (λ (k : JobKind). LeavesFirst k old job changes.left) of_kind (subst (λ (d : Deed). LeavesBy d.takes old changes.left) is changes.takes)
+
 one_posting : (job : Job) (height : ℕ) (next other : Activity) → IsPostingOf job height next → IsPostingOf job height other → next ≡ other
 one_posting job height next other (inl (a, is)) (inl (b, same)) = is ∙ sym same
 one_posting job height next other (inr (inl (a, is))) (inr (inl (b, same))) = is ∙ sym same
@@ -55,34 +70,30 @@ one_posting job height next other (inr (inl (a, is))) (inr (inr (b, same))) = ab
 one_posting job height next other (inr (inr (a, is))) (inl (b, same)) = absurd (omega (arith, a, b))
 one_posting job height next other (inr (inr (a, is))) (inr (inl (b, same))) = absurd (omega (arith, a, b))
 
-abbrev taking_with : Activity → List Job → Deed
-taking_with next left = record { next = next; op = None; left = left; adds = []; joins = None; says = outcomes.Moved }
-
-pub one_job : (m : Machine) (d e : Deed) → TakesJob m d → TakesJob m e → d ≡ e
-one_job m d e first second =
-    let a = first.oldest in
-    let b = second.oldest in
-    let same = same_front _ a.front b.front a.behind b.behind first.job second.job (sym a.whole ∙ b.whole) a.of_kind b.of_kind a.first b.first in
-    let next = one_posting second.job m.store.meta.height first.next second.next (subst (λ (j : Job). IsPostingOf j m.store.meta.height first.next) same.0 first.posting) second.posting in
-    let left : first.left ≡ second.left = a.rest ∙ same.1 ∙ sym b.rest in
-    first.deed_is ∙ ap (λ (n : Activity). taking_with n first.left) next ∙ ap (λ (l : List Job). taking_with second.next l) left ∙ sym second.deed_is
-
 one_merging_of : (job : Job) (height : ℕ) (next other : Activity) → IsMergingOf job height next → IsMergingOf job height other → next ≡ other
 one_merging_of job height next other (inl (a, is)) (inl (b, same)) = is ∙ sym same
 one_merging_of job height next other (inr (a, is)) (inr (b, same)) = is ∙ sym same
 one_merging_of job height next other (inl (a, is)) (inr (b, same)) = absurd (omega (arith, a, b))
 one_merging_of job height next other (inr (a, is)) (inl (b, same)) = absurd (omega (arith, a, b))
 
-pub one_merging : (m : Machine) (d e : Deed) → TakesMerging m d → TakesMerging m e → d ≡ e
-one_merging m d e first second =
-    let a = first.oldest in
-    let b = second.oldest in
-    let same = same_front _ a.front b.front a.behind b.behind first.job second.job (sym a.whole ∙ b.whole) a.of_kind b.of_kind a.first b.first in
-    let next = one_merging_of second.job m.store.meta.height first.next second.next (subst (λ (j : Job). IsMergingOf j m.store.meta.height first.next) same.0 first.merging) second.merging in
-    let left : first.left ≡ second.left = a.rest ∙ same.1 ∙ sym b.rest in
-    first.deed_is ∙ ap (λ (n : Activity). taking_with n first.left) next ∙ ap (λ (l : List Job). taking_with second.next l) left ∙ sym second.deed_is
+module _ (m : Machine) (d e : Deed) (new next : List Job) (changes : ChangesQueue d m.jobs new) (other : ChangesQueue e m.jobs next) where
+  pub one_job : TakesJob m d → TakesJob m e → d ≡ e
+  one_job first second =
+      let a = taken Post d first.job first.next m.jobs new first.kind first.deed_is changes in
+      let b = taken Post e second.job second.next m.jobs next second.kind second.deed_is other in
+      let same = (first_leaves Post m.jobs changes.left other.left first.job second.job a b).0 in
+      let goes = one_posting second.job m.store.meta.height first.next second.next (subst (λ (j : Job). IsPostingOf j m.store.meta.height first.next) same first.posting) second.posting in
+      first.deed_is ∙ ap (λ (n : Activity). takes_job n first.job) goes ∙ ap (λ (j : Job). takes_job second.next j) same ∙ sym second.deed_is
 
--- ---- what joins the queue
+  pub one_merging : TakesMerging m d → TakesMerging m e → d ≡ e
+  one_merging first second =
+      let a = taken Merge d first.job first.next m.jobs new first.kind first.deed_is changes in
+      let b = taken Merge e second.job second.next m.jobs next second.kind second.deed_is other in
+      let same = (first_leaves Merge m.jobs changes.left other.left first.job second.job a b).0 in
+      let goes = one_merging_of second.job m.store.meta.height first.next second.next (subst (λ (j : Job). IsMergingOf j m.store.meta.height first.next) same first.merging) second.merging in
+      first.deed_is ∙ ap (λ (n : Activity). takes_job n first.job) goes ∙ ap (λ (j : Job). takes_job second.next j) same ∙ sym second.deed_is
+
+-- ---- what becomes of the queue
 
 one_add : (job : Job) (old new other : List Job) → AddsJob job old new → AddsJob job old other → new ≡ other
 one_add job old new other (inl (has, is)) (inl (again, same)) = is ∙ sym same
@@ -95,10 +106,18 @@ one_add job old new other (inr (inl (none, few, is))) (inr (inr (lack, many, sam
 one_add job old new other (inr (inr (none, many, is))) (inr (inl (lack, few, same))) = absurd (omega (arith, few, many))
 one_add job old new other (inr (inr (none, many, is))) (inr (inr (lack, high, same))) = is ∙ sym same
 
-pub one_queue : (adds old new other : List Job) → AddsJobs adds old new → AddsJobs adds old other → new ≡ other
-one_queue [] old new other first second = first ∙ sym second
-one_queue (job ∷ rest) old new other (more, one, first) (more', two, second) =
-    one_queue rest more' new other (subst (λ (l : List Job). AddsJobs rest l new) (one_add job old more more' one two) first) second
+one_adding : (adds old new other : List Job) → AddsJobs adds old new → AddsJobs adds old other → new ≡ other
+one_adding [] old new other first second = first ∙ sym second
+one_adding (job ∷ rest) old new other (more, one, first) (more', two, second) =
+    one_adding rest more' new other (subst (λ (l : List Job). AddsJobs rest l new) (one_add job old more more' one two) first) second
+
+one_left : (takes : Option Job) (old left other : List Job) → LeavesBy takes old left → LeavesBy takes old other → left ≡ other
+one_left None old left other first second = first ∙ sym second
+one_left (Some job) old left other first second = (first_leaves job.kind old left other job job first second).1
+
+pub one_queue : (deed : Deed) (old new other : List Job) → ChangesQueue deed old new → ChangesQueue deed old other → new ≡ other
+one_queue deed old new other first second =
+    one_adding deed.adds second.left new other (subst (λ (l : List Job). AddsJobs deed.adds l new) (one_left deed.takes old first.left second.left first.takes second.takes) first.adds) second.adds
 
 -- ---- the plan of a posting
 
@@ -155,7 +174,7 @@ one_plan page child p icap plans.SplitFirst plans.SplitFirst first second = refl
 same_free : (a b : ℕ) → Free a ≡ Free b → a ≡ b
 same_free a b is = cc
 
-pub one_next : (f g : StoreState) (fresh other after later : ℕ) → f.meta ≡ g.meta → ((id : ℕ) (a b : Page) → in_memory f id ≡ Some a → in_memory g id ≡ Some b → a ≡ b)
+one_next : (f g : StoreState) (fresh other after later : ℕ) → f.meta ≡ g.meta → ((id : ℕ) (a b : Page) → in_memory f id ≡ Some a → in_memory g id ≡ Some b → a ≡ b)
     → IsNext f fresh after → IsNext g other later → (fresh ≡ other) × (after ≡ later)
 one_next f g fresh other after later meta agree first second = elim (cases_lt 0 f.meta.free) [
   | inl some ↦
@@ -168,6 +187,10 @@ one_next f g fresh other after later meta agree first second = elim (cases_lt 0 
       let two = second.from_behind (omega (arith, none, ap (λ (x : Meta). x.free) meta)) in
       (omega (arith, one.0, two.0, ap (λ (x : Meta). x.high) meta), omega (arith, one.2, two.2))
 ]
+
+pub one_number : (f g : StoreState) (fresh other after later : ℕ) → f.meta ≡ g.meta → ((id : ℕ) (a b : Page) → in_memory f id ≡ Some a → in_memory g id ≡ Some b → a ≡ b)
+    → next_of f ≡ Some (fresh, after) → next_of g ≡ Some (other, later) → (fresh ≡ other) × (after ≡ later)
+one_number f g fresh other after later meta agree first second = one_next f g fresh other after later meta agree (is_next_number f fresh after first) (is_next_number g other later second)
 
 -- ---- the part that leaves a page
 

@@ -1,9 +1,9 @@
 -- Each point has one responsible page in every file that a crash may leave.
 use Rattle.std.proofs.Common.{◌∷◌}
 use Rattle.std.proofs.lemmas.List.Elements.{All-cons, All-contains}
+use Rattle.hb_core.specs.Laws.{PointsHaveOnePage}
 use Rattle.hb_ops.specs.Sound.{IsSound}
 use Rattle.hb_sound.specs.Laws.{NoPointIsHeldTwice, RootHasWalks}
-use Rattle.hb_core.specs.Laws.{PointsHaveOnePage}
 
 pub one_page : RootHasWalks → NoPointIsHeldTwice → PointsHaveOnePage
 one_page walks alone m files s p keeps among point =

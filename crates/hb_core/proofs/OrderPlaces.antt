@@ -3,25 +3,27 @@ use Rattle.std.proofs.Common.{◌≡◌, ◌⊎◌, inl, inr, ℕ, zero, suc, �
 use Rattle.std.specs.List.{slice_get}
 use Rattle.std.proofs.lemmas.Bool.{cases_Bool}
 use Rattle.std.proofs.lemmas.List.Elements.{All-append, All-cons, All-nil}
-use Rattle.hb_set.specs.Order.{Entry}
 use Rattle.hb_set.specs.declared.commands.Reply.{Reply}
 use Rattle.hb_set.specs.declared.commands.Reply.TheVariants as replies
 use Rattle.hb_set.specs.declared.scripts.Answered.{Answered}
 use Rattle.hb_activity.specs.declared.activities.Activity.{Activity}
 use Rattle.hb_activity.specs.declared.activities.Activity.TheVariants as at
-use Rattle.hb_store.specs.States.{StoreState}
 use Rattle.hb_core.specs.declared.outcomes.Outcome.{Outcome}
 use Rattle.hb_core.specs.declared.outcomes.Outcome.TheVariants as outcomes
-use Rattle.hb_core.specs.Machines.{Machine, if_some}
-use Rattle.hb_core.specs.Deeds.{Deed}
-use Rattle.hb_core.specs.Performing.{Performs, given_by}
-use Rattle.hb_core.specs.KeptOrder.{StandsInOrder, StandsOutside}
-use Rattle.hb_core.specs.Steps.{StepsTo, Works}
-use Rattle.hb_core.specs.ConsolidatorRows.{IsMergingOf, TakesMerging}
-use Rattle.hb_core.specs.WorkerRows.{IsPostingOf, TakesJob}
-use Rattle.hb_core.proofs.LineFates.{LineFate, Waits, fate_given_up, fate_ran_out, fate_row}
+use Rattle.hb_activity.specs.Deeds.{Deed, Answers, Says}
+use Rattle.hb_consol.specs.ConsolidatorRows.{IsMergingOf}
+use Rattle.hb_core.proofs.LineFates.{LineFate, fate_given_up, fate_ran_out, fate_row}
+use Rattle.hb_core.proofs.MergerMoves.{Waits}
 use Rattle.hb_core.proofs.StepCases.{each_step}
-use Rattle.hb_core.proofs.Ways.{KeepsAllButDisk, forces_so, meets_so, stays_so}
+use Rattle.hb_core.proofs.StepKinds.{rest_kind}
+use Rattle.hb_core.proofs.Ways.{KeepsAllButDisk, forces_so, meets_so, stays_so, more_so}
+use Rattle.hb_core.specs.KeptOrder.{StandsInOrder, StandsOutside}
+use Rattle.hb_core.specs.Machines.{Machine, if_some}
+use Rattle.hb_core.specs.Performing.{Performs, given_by, outcome_of}
+use Rattle.hb_core.specs.Steps.{StepsTo, Works, TakesMerging, TakesJob}
+use Rattle.hb_poster.specs.PosterRows.{IsPostingOf}
+use Rattle.hb_set.specs.Order.{Entry}
+use Rattle.hb_store.specs.States.{StoreState}
 
 abbrev pub StandsSomewhere : Machine → Answered → Type 0
 StandsSomewhere m a = StandsOutside a.reply ⊎ ((place : ℕ) × StandsInOrder m a.line a.reply place)
@@ -65,7 +67,7 @@ module _ (m : Machine) (actor : ℕ) (outcome : Outcome) (new : Machine) (keeps 
         answers = subst (λ (l : List Answered). All (StandsSomewhere new) l) (sym all.answered) (λ i d lt. somewhere_more [] order (get_or m.answered i d) (keeps.answers i d lt));
       }
 
-  done : (fetched : StoreState) (deed : Deed) → Performs m fetched actor deed outcome new → All (StandsSomewhere new) (given_by deed.says m.clock)
+  done : (fetched : StoreState) (deed : Deed) → Performs m fetched actor deed outcome new → All (StandsSomewhere new) (given_by (outcome_of deed.says) m.clock)
       → ((number place : ℕ) (reply : Reply) → deed.next ≡ at.SessionAwait number reply place → StandsInOrder new number reply place) → KeepsReplies new
   done fetched deed performs given own = record {
     awaits = λ other number place reply is. elim (cases_Bool (other == actor)) [
@@ -73,15 +75,15 @@ module _ (m : Machine) (actor : ℕ) (outcome : Outcome) (new : Machine) (keeps 
       | inr off ↦ stands_more (if_some deed.joins) performs.order number place reply (keeps.awaits other number place reply (sym (performs.activity other ∙ ap (λ (b : Bool). cond b deed.next (m.activity other)) off) ∙ is))
     ];
     answers = subst (λ (l : List Answered). All (StandsSomewhere new) l) (sym performs.answered)
-        (All-append (StandsSomewhere new) m.answered (given_by deed.says m.clock) (λ i d lt. somewhere_more (if_some deed.joins) performs.order (get_or m.answered i d) (keeps.answers i d lt)) given);
+        (All-append (StandsSomewhere new) m.answered (given_by (outcome_of deed.says) m.clock) (λ i d lt. somewhere_more (if_some deed.joins) performs.order (get_or m.answered i d) (keeps.answers i d lt)) given);
   }
 
-  none_given : (deed : Deed) → given_by deed.says m.clock ≡ [] → All (StandsSomewhere new) (given_by deed.says m.clock)
+  none_given : (deed : Deed) → given_by (outcome_of deed.says) m.clock ≡ [] → All (StandsSomewhere new) (given_by (outcome_of deed.says) m.clock)
   none_given deed none = subst (λ (l : List Answered). All (StandsSomewhere new) l) (sym none) (All-nil (StandsSomewhere new))
 
-  one_given : (deed : Deed) (number : ℕ) (reply : Reply) → deed.says ≡ outcomes.Answered number reply → StandsSomewhere new (record { line = number; reply = reply; at = m.clock }) → All (StandsSomewhere new) (given_by deed.says m.clock)
+  one_given : (deed : Deed) (number : ℕ) (reply : Reply) → deed.says ≡ Answers number reply → StandsSomewhere new (record { line = number; reply = reply; at = m.clock }) → All (StandsSomewhere new) (given_by (outcome_of deed.says) m.clock)
   one_given deed number reply says stands =
-      subst (λ (o : Outcome). All (StandsSomewhere new) (given_by o m.clock)) (sym says) (All-cons (StandsSomewhere new) (record { line = number; reply = reply; at = m.clock }) [] stands (All-nil (StandsSomewhere new)))
+      subst (λ (o : Says). All (StandsSomewhere new) (given_by (outcome_of o) m.clock)) (sym says) (All-cons (StandsSomewhere new) (record { line = number; reply = reply; at = m.clock }) [] stands (All-nil (StandsSomewhere new)))
 
   never_waits : (deed : Deed) → (Waits deed.next → ⊥) → (number place : ℕ) (reply : Reply) → deed.next ≡ at.SessionAwait number reply place → StandsInOrder new number reply place
   never_waits deed none number place reply is = absurd (none (subst Waits (sym is) tt))
@@ -89,10 +91,10 @@ module _ (m : Machine) (actor : ℕ) (outcome : Outcome) (new : Machine) (keeps 
   idle_waits : (deed : Deed) → deed.next ≡ at.SessionIdle → Waits deed.next → ⊥
   idle_waits deed is waits = subst Waits is waits
 
-  quiet : (fetched : StoreState) (deed : Deed) → Performs m fetched actor deed outcome new → given_by deed.says m.clock ≡ [] → (Waits deed.next → ⊥) → KeepsReplies new
+  quiet : (fetched : StoreState) (deed : Deed) → Performs m fetched actor deed outcome new → given_by (outcome_of deed.says) m.clock ≡ [] → (Waits deed.next → ⊥) → KeepsReplies new
   quiet fetched deed performs says waits = done fetched deed performs (none_given deed says) (never_waits deed waits)
 
-  answered : (fetched : StoreState) (deed : Deed) (number : ℕ) (reply : Reply) → Performs m fetched actor deed outcome new → deed.says ≡ outcomes.Answered number reply → deed.next ≡ at.SessionIdle → StandsSomewhere new (record { line = number; reply = reply; at = m.clock }) → KeepsReplies new
+  answered : (fetched : StoreState) (deed : Deed) (number : ℕ) (reply : Reply) → Performs m fetched actor deed outcome new → deed.says ≡ Answers number reply → deed.next ≡ at.SessionIdle → StandsSomewhere new (record { line = number; reply = reply; at = m.clock }) → KeepsReplies new
   answered fetched deed number reply performs says next stands = done fetched deed performs (one_given deed number reply says stands) (never_waits deed (idle_waits deed next))
 
   awaits_same : (a b : Activity) (number other place elsewhere : ℕ) (reply said : Reply) → a ≡ at.SessionAwait number reply place → a ≡ at.SessionAwait other said elsewhere → (number ≡ other) × (place ≡ elsewhere) × (reply ≡ said)
@@ -121,7 +123,8 @@ module _ (m : Machine) (actor : ℕ) (outcome : Outcome) (new : Machine) (keeps 
   worked : Works m actor outcome new → KeepsReplies new
   worked (inl (by, way, so)) = stays (stays_so m actor outcome new (outcomes.Blocked by) so)
   worked (inr (inl (free, unready, inl (waits, force)))) = stays (forces_so m actor outcome new outcomes.Helped force)
-  worked (inr (inl (free, unready, inr (none, performs)))) = fated m.store _ (fate_ran_out m (m.activity actor)) performs
+  worked (inr (inl (free, unready, inr (none, rest)))) =
+      rest_kind m outcomes.Helped outcome new _ (KeepsReplies new) none (λ at. refl) (λ more. stays (more_so m actor outcome new more)) (fated m.store _ (fate_ran_out m (m.activity actor))) rest
   worked (inr (inr (free, ready, inl acts))) = fated acts.fetched acts.deed (fate_row m acts.fetched (m.activity actor) _ acts.deed acts.row) acts.performs
   worked (inr (inr (free, ready, inr (inl gives)))) = fated gives.fetched _ (fate_given_up m gives.why (m.activity actor)) gives.performs
   worked (inr (inr (free, ready, inr (inr meets)))) = stays (meets_so m actor outcome new meets)
@@ -145,10 +148,11 @@ module _ (m : Machine) (actor : ℕ) (outcome : Outcome) (new : Machine) (keeps 
   replies_kept step = each_step m actor outcome new (KeepsReplies new) (record {
     stays = λ said so. stays (stays_so m actor outcome new said so);
     forces = λ said silent force. stays (forces_so m actor outcome new said force);
+    more = λ more. stays (more_so m actor outcome new more);
     takes = λ line idle next performs. quiet m.store _ performs refl (λ never. never);
     refuses = λ line idle next performs. answered m.store _ line.number replies.NoMemory performs refl refl (inl tt);
-    posts = λ deed idle takes performs. quiet m.store deed performs (ap (λ (d : Deed). given_by d.says m.clock) takes.deed_is) (posts_wait_never deed takes);
-    merges = λ deed idle takes performs. quiet m.store deed performs (ap (λ (d : Deed). given_by d.says m.clock) takes.deed_is) (merges_wait_never deed takes);
+    posts = λ deed idle takes performs. quiet m.store deed performs (ap (λ (d : Deed). given_by (outcome_of d.says) m.clock) takes.deed_is) (posts_wait_never deed takes);
+    merges = λ deed idle takes performs. quiet m.store deed performs (ap (λ (d : Deed). given_by (outcome_of d.says) m.clock) takes.deed_is) (merges_wait_never deed takes);
     settles = λ number place reply is settled performs. answered m.store _ number reply performs refl refl (inr (place, stands_more [] performs.order number place reply (keeps.awaits actor number place reply is)));
     works = λ none works. worked works;
   }) step

@@ -5,44 +5,45 @@ use Rattle.std.proofs.lemmas.Bool.{cases_Bool, eq-eqb, eqb-true, eqb-false}
 use Rattle.hb_frag.specs.declared.pages.LivePage.{LivePage}
 use Rattle.hb_frag.specs.declared.pages.Page.{Page}
 use Rattle.hb_frag.specs.declared.pages.Page.TheVariants.{Live, Free}
-use Rattle.hb_space.specs.Boxes.{Area}
 use Rattle.hb_space.specs.declared.records.Record.{Record}
 use Rattle.hb_layout.specs.declared.meta.Meta.{Meta}
 use Rattle.hb_ops.specs.declared.operations.Op.{Op}
 use Rattle.hb_ops.specs.declared.operations.Op.TheVariants as ops
-use Rattle.hb_ops.specs.Files.{if_live}
-use Rattle.hb_ops.specs.Operations.{IsAllowedOn}
 use Rattle.hb_set.specs.declared.commands.Command.{Command}
 use Rattle.hb_set.specs.declared.commands.Command.TheVariants.{Insert, Delete, Lookup, Search}
 use Rattle.hb_set.specs.declared.scripts.Line.{Line}
 use Rattle.hb_latch.specs.declared.modes.Mode.{Mode}
 use Rattle.hb_latch.specs.declared.modes.Mode.TheVariants.{Shared, Exclusive}
-use Rattle.hb_latch.specs.Tables.{MayLatch}
 use Rattle.hb_terms.specs.declared.plans.PostPlan.{PostPlan}
 use Rattle.hb_terms.specs.declared.plans.PostPlan.TheVariants as plans
 use Rattle.hb_activity.specs.declared.jobs.Job.{Job}
 use Rattle.hb_activity.specs.declared.wanting.Wanted.{Wanted}
 use Rattle.hb_activity.specs.declared.activities.Activity.{Activity}
 use Rattle.hb_activity.specs.declared.activities.Activity.TheVariants as at
+use Rattle.hb_activity.specs.Deeds.{Deed}
+use Rattle.hb_activity.specs.Passing.{PassesOn}
 use Rattle.hb_activity.specs.Walks.{goal_of, may_change, session_mode}
 use Rattle.hb_activity.specs.Wanting.{in_mode, walk_next, wanted_of, wanted_page}
+use Rattle.hb_core.proofs.MergerMoves.{merger_moves}
+use Rattle.hb_core.proofs.NextNumbers.{is_next_number}
+use Rattle.hb_core.proofs.Targets.{IsTarget}
+use Rattle.hb_core.specs.Asking.{HasWayFree, looked_live, wanted_by}
+use Rattle.hb_core.specs.Fetching.{Brings}
+use Rattle.hb_core.specs.Keeps.{HoldsPagesOfFile, LatchesFit}
+use Rattle.hb_core.specs.Laws.{HasAlone, IsInUse}
+use Rattle.hb_core.specs.Machines.{Machine, with_disk, sight}
+use Rattle.hb_core.specs.Performing.{MayDo, latches_held, mode_among}
+use Rattle.hb_core.specs.Rows.{DoesHere, Row, RowAlone, RowAt}
+use Rattle.hb_latch.specs.Tables.{MayLatch}
+use Rattle.hb_ops.specs.Files.{if_live}
+use Rattle.hb_ops.specs.Operations.{IsAllowedOn}
+use Rattle.hb_point.specs.SplitRows.{Puts, Splits}
+use Rattle.hb_poster.specs.PosterRows.{DoesPlan, after_look}
+use Rattle.hb_search.specs.SearchRows.{SearchGoesOn}
+use Rattle.hb_space.specs.Boxes.{Area}
 use Rattle.hb_store.specs.Calls.{IsAllowedHere, read_here}
 use Rattle.hb_store.specs.NextPage.{IsNext}
 use Rattle.hb_store.specs.States.{StoreState, in_memory}
-use Rattle.hb_core.specs.Machines.{Machine, with_disk}
-use Rattle.hb_core.specs.Asking.{HasWayFree, looked_live, wanted_by}
-use Rattle.hb_core.specs.Fetching.{Brings}
-use Rattle.hb_core.specs.Deeds.{Deed}
-use Rattle.hb_core.specs.Performing.{MayDo, latches_held, mode_among}
-use Rattle.hb_core.specs.SearchRows.{SearchGoesOn}
-use Rattle.hb_core.specs.SessionRows.{DoesThere, PassesOn}
-use Rattle.hb_core.specs.SplitRows.{Puts, Splits}
-use Rattle.hb_core.specs.WorkerRows.{DoesPlan, after_look}
-use Rattle.hb_core.specs.Rows.{Row, RowAlone, RowAt}
-use Rattle.hb_core.specs.Keeps.{HoldsPagesOfFile, LatchesFit}
-use Rattle.hb_core.specs.Laws.{HasAlone, IsInUse}
-use Rattle.hb_core.proofs.MergerMoves.{merger_moves}
-use Rattle.hb_core.proofs.Targets.{IsTarget}
 
 -- Each page that an operation changes the actor has for itself, or it was in no use.
 abbrev pub IsFreeFor : Machine → ℕ → ℕ → Type 0
@@ -61,7 +62,7 @@ like : (m : Machine) (actor id other : ℕ) → id ≡ other → IsFreeFor m act
 like m actor id other is free = subst (IsFreeFor m actor) (sym is) free
 
 -- the page that is made was in no use
-pub made_was_free : (m : Machine) (may : ℕ → Type 0) (fetched : StoreState) (fresh free_after : ℕ) → HoldsPagesOfFile m → Brings m.files may m.store fetched → IsNext fetched fresh free_after → (page : LivePage) → IsInUse m fresh page → ⊥
+pub made_was_free : (m : Machine) (may : ℕ → Type 0) (fetched : StoreState) (fresh free_after : ℕ) → HoldsPagesOfFile m → Brings m may fetched → IsNext fetched fresh free_after → (page : LivePage) → IsInUse m fresh page → ⊥
 made_was_free m may fetched fresh free_after inside brings next = elim (cases_Bool (fetched.meta.free == 0)) [
   | inl none ↦ λ page used.
       let behind = next.from_behind (eqb-true fetched.meta.free 0 none) in
@@ -71,14 +72,19 @@ made_was_free m may fetched fresh free_after inside brings next = elim (cases_Bo
   | inr some ↦ λ page used.
       let head = next.from_chain (eqb-false fetched.meta.free 0 some) in
       let there : IsSome (in_memory m.store fresh) = subst (λ (o : Option Page). IsSome o) (sym used) refl in
-      let same : in_memory fetched fresh ≡ in_memory m.store fresh = brings.stays fresh there in
-      free_is_not_live free_after page (sym head.1 ∙ same ∙ used)
+      elim (brings.others fresh there) [
+        | inl same ↦ free_is_not_live free_after page (sym head.1 ∙ same ∙ used)
+        | inr gone ↦ free_is_not_none free_after (sym head.1 ∙ gone)
+      ]
 ]
   where
     free_is_not_live : (next : ℕ) (page : LivePage) → Some (Free next) ≡ Some (Live page) → ⊥
     free_is_not_live next page is = cc
 
-made_is_free : (m : Machine) (may : ℕ → Type 0) (fetched : StoreState) (actor fresh free_after : ℕ) → HoldsPagesOfFile m → Brings m.files may m.store fetched → IsNext fetched fresh free_after → IsFreeFor m actor fresh
+    free_is_not_none : (next : ℕ) → Some (Free next) ≡ None → ⊥
+    free_is_not_none next is = cc
+
+made_is_free : (m : Machine) (may : ℕ → Type 0) (fetched : StoreState) (actor fresh free_after : ℕ) → HoldsPagesOfFile m → Brings m may fetched → IsNext fetched fresh free_after → IsFreeFor m actor fresh
 made_is_free m may fetched actor fresh free_after inside brings next = inr (made_was_free m may fetched fresh free_after inside brings next)
 
 -- what an actor holds exclusively
@@ -139,19 +145,19 @@ allowed_by (Some op) mark old new done = done.allowed
 
 -- ---- the rows
 
-module _ (m : Machine) (actor : ℕ) (may : ℕ → Type 0) (fetched : StoreState) (latches : MayLatch actor) (fit : LatchesFit m) (inside : HoldsPagesOfFile m) (free : HasWayFree m actor) (brings : Brings m.files may m.store fetched) where
+module _ (m : Machine) (actor : ℕ) (may : ℕ → Type 0) (fetched : StoreState) (latches : MayLatch actor) (fit : LatchesFit m) (inside : HoldsPagesOfFile m) (free : HasWayFree m actor) (brings : Brings m may fetched) where
   -- the machine with the pages that came
   abbrev pub m' : Machine
   m' = with_disk fetched m.files m.clock m
 
-  owned_split : (line : Line) (held : ℕ) (deed : Deed) → m.activity actor ≡ at.SessionSplit line held → Splits m' line held deed → OwnsTargets m actor deed.op
+  owned_split : (line : Line) (held : ℕ) (deed : Deed) → m.activity actor ≡ at.SessionSplit line held → Splits (sight m') line held deed → OwnsTargets m actor deed.op
   owned_split line held deed is row = owned_deed m actor deed _ row.deed_is (λ id target. targets id target)
     where
       targets : (id : ℕ) → (id ≡ held) ⊎ (id ≡ row.leaves.fresh) → IsFreeFor m actor id
       targets id (inl same) = like m actor id held same (held_by m actor held (at.SessionSplit line held) latches fit is (first_mode held Exclusive None))
-      targets id (inr same) = like m actor id row.leaves.fresh same (made_is_free m may fetched actor row.leaves.fresh row.leaves.free_after inside brings row.leaves.next)
+      targets id (inr same) = like m actor id row.leaves.fresh same (made_is_free m may fetched actor row.leaves.fresh row.leaves.free_after inside brings (is_next_number fetched row.leaves.fresh row.leaves.free_after row.leaves.next))
 
-  owned_put : (line : Line) (source fresh : ℕ) (deed : Deed) → m.activity actor ≡ at.SessionPut line source fresh → Puts m' line source fresh deed → OwnsTargets m actor deed.op
+  owned_put : (line : Line) (source fresh : ℕ) (deed : Deed) → m.activity actor ≡ at.SessionPut line source fresh → Puts (sight m') line source fresh deed → OwnsTargets m actor deed.op
   owned_put line source fresh deed is row = owned_deed m actor deed _ row.deed_is (λ id same. like m actor id row.half same (half row.either))
     where
       put : Activity
@@ -161,7 +167,7 @@ module _ (m : Machine) (actor : ℕ) (may : ℕ → Type 0) (fetched : StoreStat
       half (inl first) = like m actor row.half source first (held_by m actor source put latches fit is (first_mode source Exclusive (cond (fresh == source) (Some Exclusive) None)))
       half (inr second) = like m actor row.half fresh second (held_by m actor fresh put latches fit is (second_mode source fresh))
 
-  owned_alone : (activity : Activity) (deed : Deed) → m.activity actor ≡ activity → RowAlone activity m' deed → OwnsTargets m actor deed.op
+  owned_alone : (activity : Activity) (deed : Deed) → m.activity actor ≡ activity → RowAlone activity (sight m') deed → OwnsTargets m actor deed.op
   owned_alone (at.SessionSplit line held) deed is (inl row) = owned_deed m actor deed _ row.deed_is tt
   owned_alone (at.SessionSplit line held) deed is (inr row) = owned_split line held deed is row
   owned_alone (at.SessionPut line source fresh) deed is row = owned_put line source fresh deed is row
@@ -184,12 +190,12 @@ module _ (m : Machine) (actor : ℕ) (may : ℕ → Type 0) (fetched : StoreStat
   owned_alone at.Flusher deed is row = absurd row
 
   -- a walk
-  owned_search : (line : Line) (boxes : List Area) (found : List Record) (deed : Deed) → SearchGoesOn m' line boxes found deed → OwnsTargets m actor deed.op
+  owned_search : (line : Line) (boxes : List Area) (found : List Record) (deed : Deed) → SearchGoesOn (sight m') line boxes found deed → OwnsTargets m actor deed.op
   owned_search line [] found deed (ordered, same, rising, is) = owned_deed m actor deed _ is tt
   owned_search line (area ∷ rest) found deed is = owned_deed m actor deed _ is tt
 
   owned_there : (line : Line) (command : Command) (rest : List Area) (found : List Record) (id : ℕ) (page : LivePage) (p : List ℕ) (deed : Deed) → if_live (in_memory fetched id) ≡ Some page → Allowed fetched deed.op
-      → (page.level ≡ 0 → may_change command ≡ true → IsFreeFor m actor id) → DoesThere m' line command rest found id page p deed → OwnsTargets m actor deed.op
+      → (page.level ≡ 0 → may_change command ≡ true → IsFreeFor m actor id) → DoesHere (sight m') line command rest found id page p deed → OwnsTargets m actor deed.op
   owned_there line (Insert rec) rest found id page p deed live allowed alone (inl row) = owned_deed m actor deed _ row.deed_is tt
   owned_there line (Insert rec) rest found id page p deed live allowed alone (inr (inl row)) =
       let level = put_level fetched id rec page live (subst (λ (d : Deed). Allowed fetched d.op) row.deed_is allowed) in
@@ -205,14 +211,14 @@ module _ (m : Machine) (actor : ℕ) (may : ℕ → Type 0) (fetched : StoreStat
 
   owned_walk : (line : Line) (held : Option ℕ) (rest : List Area) (found : List Record) (wanted : Wanted) (page : LivePage) (deed : Deed) (goal : Option (List ℕ)) → m.activity actor ≡ at.SessionWalk line held rest found
       → wanted_by m actor ≡ Some wanted → if_live (in_memory fetched wanted.page) ≡ Some page → page.level ≡ wanted.level → Allowed fetched deed.op
-      → MatchOption goal ⊥ (λ p. PassesOn page p m' (at.SessionWalk line (Some wanted.page) rest found) deed ⊎ DoesThere m' line line.command rest found wanted.page page p deed) → OwnsTargets m actor deed.op
+      → MatchOption goal ⊥ (λ p. PassesOn page p (at.SessionWalk line (Some wanted.page) rest found) deed ⊎ DoesHere (sight m') line line.command rest found wanted.page page p deed) → OwnsTargets m actor deed.op
   owned_walk line held rest found wanted page deed None is wants live level allowed row = absurd row
   owned_walk line held rest found wanted page deed (Some p) is wants live level allowed (inl row) = owned_deed m actor deed _ row.deed_is tt
   owned_walk line held rest found wanted page deed (Some p) is wants live level allowed (inr row) =
       owned_there line line.command rest found wanted.page page p deed live allowed (λ zero_level may. walk_takes_alone m actor line held rest found wanted is wants free (sym level ∙ zero_level) may) row
 
   -- the poster
-  owned_again : (job : Job) (parent : ℕ) (page : LivePage) (plan : PostPlan) (deed : Deed) → m.activity actor ≡ at.PosterAgain job parent → DoesPlan m' job parent page plan deed → OwnsTargets m actor deed.op
+  owned_again : (job : Job) (parent : ℕ) (page : LivePage) (plan : PostPlan) (deed : Deed) → m.activity actor ≡ at.PosterAgain job parent → DoesPlan (sight m') job parent page plan deed → OwnsTargets m actor deed.op
   owned_again job parent page plans.Nothing deed is row = owned_deed m actor deed _ row tt
   owned_again job parent page (plans.Post way inner area) deed is row =
       owned_deed m actor deed _ row (λ id same. like m actor id parent same (held_by m actor parent (at.PosterAgain job parent) latches fit is (first_mode parent Exclusive None)))
@@ -221,9 +227,9 @@ module _ (m : Machine) (actor : ℕ) (may : ℕ → Type 0) (fetched : StoreStat
     where
       targets : (id : ℕ) → (id ≡ parent) ⊎ (id ≡ row.leaves.fresh) → IsFreeFor m actor id
       targets id (inl same) = like m actor id parent same (held_by m actor parent (at.PosterAgain job parent) latches fit is (first_mode parent Exclusive None))
-      targets id (inr same) = like m actor id row.leaves.fresh same (made_is_free m may fetched actor row.leaves.fresh row.leaves.free_after inside brings row.leaves.next)
+      targets id (inr same) = like m actor id row.leaves.fresh same (made_is_free m may fetched actor row.leaves.fresh row.leaves.free_after inside brings (is_next_number fetched row.leaves.fresh row.leaves.free_after row.leaves.next))
 
-  after_look_does_nothing : (job : Job) (parent : ℕ) (plan : PostPlan) → (after_look m' job parent plan).op ≡ None
+  after_look_does_nothing : (job : Job) (parent : ℕ) (plan : PostPlan) → (after_look job parent plan).op ≡ None
   after_look_does_nothing job parent plans.Nothing = refl
   after_look_does_nothing job parent (plans.Post way inner area) = refl
   after_look_does_nothing job parent plans.SplitFirst = refl
@@ -232,10 +238,10 @@ module _ (m : Machine) (actor : ℕ) (may : ℕ → Type 0) (fetched : StoreStat
   owned_nothing deed is = subst (OwnsTargets m actor) (sym is) tt
 
   owned_at : (activity : Activity) (wanted : Wanted) (page : LivePage) (deed : Deed) → m.activity actor ≡ activity → wanted_by m actor ≡ Some wanted → if_live (in_memory fetched wanted.page) ≡ Some page → page.level ≡ wanted.level → Allowed fetched deed.op
-      → RowAt activity m' wanted.page page deed → OwnsTargets m actor deed.op
+      → RowAt activity (sight m') wanted.page page deed → OwnsTargets m actor deed.op
   owned_at (at.SessionWalk line held rest found) wanted page deed is wants live level allowed row = owned_walk line held rest found wanted page deed (goal_of line.command rest) is wants live level allowed row
   owned_at (at.PosterGrow job) wanted page deed is wants live level allowed (inl row) =
-      owned_deed m actor deed _ row.deed_is (λ id same. like m actor id row.fresh same (made_is_free m may fetched actor row.fresh row.free_after inside brings row.next))
+      owned_deed m actor deed _ row.deed_is (λ id same. like m actor id row.fresh same (made_is_free m may fetched actor row.fresh row.free_after inside brings (is_next_number fetched row.fresh row.free_after row.next)))
   owned_at (at.PosterGrow job) wanted page deed is wants live level allowed (inr row) = owned_deed m actor deed _ row.deed_is tt
   owned_at (at.PosterWalk job held) wanted page deed is wants live level allowed (inl row) = owned_deed m actor deed _ row.deed_is tt
   owned_at (at.PosterWalk job held) wanted page deed is wants live level allowed (inr row) = owned_deed m actor deed _ row.passes.deed_is tt

@@ -4,35 +4,35 @@ use Rattle.std.proofs.Common.{◌≡◌, ◌⊎◌, inl, inr, ℕ, suc, ◌<◌,
 use Rattle.std.proofs.lemmas.List.{length-append, take_all, take-append-le}
 use Rattle.std.proofs.lemmas.List.Elements.{All-append, All-cons, All-nil, All-push}
 use Rattle.std.proofs.lemmas.List.Kept.{AllPairs-cons}
-use Rattle.hb_wal.specs.Log.{LogState, Waiting, left_waiting, mark_of}
-use Rattle.hb_ops.specs.Files.{FileState, contents_of}
 use Rattle.hb_ops.specs.declared.operations.Op.{Op}
-use Rattle.hb_set.specs.Machine.{RecordSet}
-use Rattle.hb_set.specs.Order.{Entry, IsLegalOrder, result_of}
 use Rattle.hb_set.specs.declared.commands.Reply.{Reply}
 use Rattle.hb_set.specs.declared.scripts.Answered.{Answered}
+use Rattle.hb_core.specs.declared.outcomes.Outcome.{Outcome}
+use Rattle.hb_core.specs.declared.outcomes.Outcome.TheVariants as outcomes
+use Rattle.hb_activity.specs.Deeds.{Deed, does}
+use Rattle.hb_core.proofs.AnswersInPlace.{answers_are_in_place}
+use Rattle.hb_core.proofs.Moments.{answers_are_timed}
+use Rattle.hb_core.proofs.SinglePlaces.{no_place, one_place, stands_longer}
+use Rattle.hb_core.proofs.StepKinds.{each_kind, FlushesMore, rest_kind}
+use Rattle.hb_core.proofs.ToldStays.{still_told}
+use Rattle.hb_core.proofs.Ways.{order_grows}
+use Rattle.hb_core.specs.Acting.{MeetsBadPage}
+use Rattle.hb_core.specs.Forcing.{ForcesFirst, StaysSo, forced_files}
+use Rattle.hb_core.specs.KeepingLaws.{IsAnsweredInPlace, PrefixStaysPending, SettledStaysSettled}
+use Rattle.hb_core.specs.Keeps.{HasSoundFile}
+use Rattle.hb_core.specs.KeptOrder.{FollowMarks, HasLegalOrder, HasPendingPrefix, StandsInOrder, StandsOutside}
+use Rattle.hb_core.specs.Machines.{Files, Machine, current_file, if_some, settled_count}
+use Rattle.hb_core.specs.Performing.{MayDo, Performs, files_after, given_by, with_effect}
+use Rattle.hb_core.specs.Steps.{StepsTo, Works}
+use Rattle.hb_log_codec.specs.Groups.{group_bytes}
+use Rattle.hb_ops.specs.Files.{FileState, contents_of}
+use Rattle.hb_set.specs.Machine.{RecordSet}
+use Rattle.hb_set.specs.Order.{Entry, IsLegalOrder, result_of}
 use Rattle.hb_store.specs.Calls.{durable_after, later_after}
 use Rattle.hb_store.specs.Images.{group_here}
 use Rattle.hb_store.specs.Keeps.{last_of}
 use Rattle.hb_store.specs.States.{StoreState}
-use Rattle.hb_log_codec.specs.Groups.{group_bytes}
-use Rattle.hb_core.specs.declared.outcomes.Outcome.{Outcome}
-use Rattle.hb_core.specs.declared.outcomes.Outcome.TheVariants as outcomes
-use Rattle.hb_core.specs.Machines.{Files, Machine, current_file, if_some, settled_count}
-use Rattle.hb_core.specs.Acting.{MeetsBadPage}
-use Rattle.hb_core.specs.Deeds.{Deed}
-use Rattle.hb_core.specs.Performing.{MayDo, Performs, files_after, given_by, with_effect}
-use Rattle.hb_core.specs.Forcing.{ForcesFirst, StaysSo, forced_files}
-use Rattle.hb_core.specs.Steps.{StepsTo, Works}
-use Rattle.hb_core.specs.Keeps.{HasSoundFile}
-use Rattle.hb_core.specs.KeptOrder.{FollowMarks, HasLegalOrder, HasPendingPrefix, StandsInOrder, StandsOutside}
-use Rattle.hb_core.specs.KeepingLaws.{IsAnsweredInPlace, PrefixStaysPending, SettledStaysSettled}
-use Rattle.hb_core.proofs.AnswersInPlace.{answers_are_in_place}
-use Rattle.hb_core.proofs.Moments.{answers_are_timed}
-use Rattle.hb_core.proofs.SinglePlaces.{no_place, one_place, stands_longer}
-use Rattle.hb_core.proofs.StepKinds.{each_kind}
-use Rattle.hb_core.proofs.ToldStays.{still_told}
-use Rattle.hb_core.proofs.Ways.{order_grows}
+use Rattle.hb_wal.specs.Log.{LogState, Waiting, left_waiting, mark_of}
 
 -- ---- groups and the files before them
 
@@ -161,7 +161,7 @@ module _ (n : RecordSet) (m : Machine) (files : Files) (new : Machine) (files' :
 
     forced_first : (said : Outcome) → ForcesFirst m said outcome new → KeepsMarks n m new files'
     forced_first said (inl well) = forced (ap (λ (x : Machine). x.order) well.1) (ap (λ (x : Machine). x.store.log.groups) well.1) (ap (λ (x : Machine). x.files) well.1)
-    forced_first said (inr badly) = same (ap (λ (x : Machine). x.order) badly.stops) (ap (λ (x : Machine). x.store.log.groups) badly.stops) (ap (λ (x : Machine). x.files) badly.stops)
+    forced_first said (inr badly) = same (ap (λ (x : Machine). x.order) badly.1.stops) (ap (λ (x : Machine). x.store.log.groups) badly.1.stops) (ap (λ (x : Machine). x.files) badly.1.stops)
 
     met : MeetsBadPage m actor outcome new → KeepsMarks n m new files'
     met meets = same (ap (λ (x : Machine). x.order) meets.stops) (ap (λ (x : Machine). x.store.log.groups) meets.stops ∙ ap (λ (log : LogState). log.groups) meets.brings.rest.log) (ap (λ (x : Machine). x.files) meets.stops)
@@ -175,10 +175,15 @@ module _ (n : RecordSet) (m : Machine) (files : Files) (new : Machine) (files' :
     performed : (fetched : StoreState) (deed : Deed) → fetched.log ≡ m.store.log → Performs m fetched actor deed outcome new → KeepsMarks n m new files'
     performed fetched deed log performs = done deed.op fetched (if_some deed.joins) log performs.order performs.files performs.store
 
+    flushed_more : FlushesMore m outcome new → KeepsMarks n m new files'
+    flushed_more (none, left, inl (due, quiet, well)) = same (ap (λ (x : Machine). x.order) well.leaves) (ap (λ (x : Machine). x.store.log.groups) well.leaves ∙ well.no_group ∙ sym none) (ap (λ (x : Machine). x.files) well.leaves)
+    flushed_more (none, left, inr fails) = same (ap (λ (x : Machine). x.order) fails.stops) (ap (λ (x : Machine). x.store.log.groups) fails.stops) (ap (λ (x : Machine). x.files) fails.stops)
+
     worked : Works m actor outcome new → KeepsMarks n m new files'
     worked (inl (by, way, so)) = stayed (outcomes.Blocked by) so
     worked (inr (inl (free, unready, inl (waits, force)))) = forced_first outcomes.Helped force
-    worked (inr (inl (free, unready, inr (none, performs)))) = performed m.store _ refl performs
+    worked (inr (inl (free, unready, inr (none, rest)))) =
+        rest_kind m outcomes.Helped outcome new _ (KeepsMarks n m new files') none (λ at. refl) flushed_more (performed m.store _ refl) rest
     worked (inr (inr (free, ready, inl acts))) = performed acts.fetched acts.deed acts.brings.rest.log acts.performs
     worked (inr (inr (free, ready, inr (inl gives)))) = performed gives.fetched _ gives.brings.rest.log gives.performs
     worked (inr (inr (free, ready, inr (inr meets)))) = met meets
@@ -188,6 +193,7 @@ module _ (n : RecordSet) (m : Machine) (files : Files) (new : Machine) (files' :
         each_kind m actor outcome new (KeepsMarks n m new files')
         (λ said quiet so. stayed said so)
         (λ said quiet force. forced_first said force)
+        flushed_more
         (λ deed outright performs. performed m.store deed refl performs)
         worked
         step

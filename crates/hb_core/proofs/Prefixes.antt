@@ -2,16 +2,16 @@
 use Rattle.std.proofs.Common.{◌≡◌, ◌⊎◌, inl, inr, ℕ, ◌<◌, ◌≤◌, List, [], ◌∷◌, length, take, get_or, All, AllPairs, sym, ap, ◌∙◌, arith}
 use Rattle.std.proofs.lemmas.List.{take_all}
 use Rattle.std.proofs.lemmas.List.Elements.{All-cons, All-nil, All-weaker}
-use Rattle.hb_wal.specs.Log.{Waiting, mark_of}
+use Rattle.hb_set.specs.declared.scripts.Answered.{Answered}
+use Rattle.hb_core.proofs.PendingKept.{IsBelow, marks_inside, next_mark, rising_rest}
+use Rattle.hb_core.specs.KeepingLaws.{FilesHavePrefixes, IsAfterLonger, IsAmongFirst}
+use Rattle.hb_core.specs.KeptOrder.{FollowMarks, StandsInOrder, StandsOutside}
+use Rattle.hb_core.specs.Machines.{settled_count}
 use Rattle.hb_ops.specs.Files.{FileState, contents_of}
 use Rattle.hb_set.specs.Machine.{RecordSet}
 use Rattle.hb_set.specs.Order.{Entry, result_of}
-use Rattle.hb_set.specs.declared.scripts.Answered.{Answered}
 use Rattle.hb_store.specs.Keeps.{last_of}
-use Rattle.hb_core.specs.Machines.{settled_count}
-use Rattle.hb_core.specs.KeptOrder.{FollowMarks, StandsInOrder, StandsOutside}
-use Rattle.hb_core.specs.KeepingLaws.{FilesHavePrefixes, IsAfterLonger, IsAmongFirst}
-use Rattle.hb_core.proofs.PendingKept.{IsBelow, marks_inside, next_mark, rising_rest}
+use Rattle.hb_wal.specs.Log.{Waiting, mark_of}
 
 -- a file has the set after so many entries
 pub record HasFirst (n : RecordSet) (order : List Entry) (s : FileState) (low count : ℕ) : Type 0 where

@@ -3,24 +3,24 @@ use Rattle.std.proofs.Common.{◌≡◌, ◌⊎◌, inl, inr, ℕ, Some, sym, ap
 use Rattle.std.proofs.lemmas.Option.{same_Some}
 use Rattle.hb_space.specs.declared.records.Record.{Record}
 use Rattle.hb_frag.specs.declared.pages.LivePage.{LivePage}
-use Rattle.hb_frag.specs.Leaves.{DirectlyHolds}
 use Rattle.hb_ops.specs.declared.operations.Op.{Op}
 use Rattle.hb_ops.specs.declared.operations.Op.TheVariants.{Put}
 use Rattle.hb_set.specs.declared.commands.Command.TheVariants.{Insert}
 use Rattle.hb_set.specs.declared.scripts.Line.{Line}
 use Rattle.hb_activity.specs.declared.activities.Activity.{Activity}
+use Rattle.hb_activity.specs.Deeds.{Deed, does}
 use Rattle.hb_activity.specs.Wanting.{wanted_of}
-use Rattle.hb_store.specs.States.{StoreState}
-use Rattle.hb_core.specs.Machines.{Machine, live_here, with_disk}
+use Rattle.hb_core.proofs.BroughtPages.{both_there}
 use Rattle.hb_core.specs.AllowedLaws.{AnyPage, RowsAreAllowed}
 use Rattle.hb_core.specs.Asking.{looked_live}
 use Rattle.hb_core.specs.DoableLaws.{PutsFindRoom, RowsCanBeDone}
 use Rattle.hb_core.specs.Fetching.{Brings}
-use Rattle.hb_core.specs.Deeds.{Deed}
 use Rattle.hb_core.specs.Keeps.{HasRoomFor, OneHasRoom}
+use Rattle.hb_core.specs.Machines.{Machine, live_here, with_disk, sight}
 use Rattle.hb_core.specs.Rows.{Row}
-use Rattle.hb_core.specs.SplitRows.{Puts}
-use Rattle.hb_core.proofs.StillThere.{still_fetched}
+use Rattle.hb_frag.specs.Leaves.{DirectlyHolds}
+use Rattle.hb_point.specs.SplitRows.{Puts}
+use Rattle.hb_store.specs.States.{StoreState}
 
 -- the operation of a put tells its half and its record
 pub record IsPutOf (half other : ℕ) (rec same : Record) : Type 0 where
@@ -33,11 +33,11 @@ put_of half other rec same is = record { where_it_goes = cc; what_goes = cc }
 insert_of : (rec same : Record) → Insert rec ≡ Insert same → rec ≡ same
 insert_of rec same is = cc
 
-module _ (m : Machine) (fetched : StoreState) (brings : Brings m.files AnyPage m.store fetched) (line : Line) (source fresh : ℕ) (deed : Deed) (row : Puts (with_disk fetched m.files m.clock m) line source fresh deed) where
+module _ (m : Machine) (fetched : StoreState) (brings : Brings m AnyPage fetched) (line : Line) (source fresh : ℕ) (deed : Deed) (row : Puts (sight (with_disk fetched m.files m.clock m)) line source fresh deed) where
   -- the page that holds the point is the one that the machine knows
   the_half : (id : ℕ) (page : LivePage) → live_here m.store id ≡ Some page → row.half ≡ id → DirectlyHolds page row.rec.key
   the_half id page live is =
-      let same : row.page ≡ page = same_Some row.page page (sym row.live ∙ ap (live_here fetched) is ∙ still_fetched m AnyPage fetched brings id page live) in
+      let same : row.page ≡ page = same_Some row.page page (sym row.live ∙ ap (live_here fetched) is ∙ both_there m AnyPage fetched brings id page row.page live (ap (live_here fetched) (sym is) ∙ row.live)) in
       subst (λ (q : LivePage). DirectlyHolds q row.rec.key) same row.holds
 
   room_of : OneHasRoom m source fresh row.rec.key row.rec.body → HasRoomFor m row.half row.rec.key row.rec.body
@@ -67,7 +67,7 @@ pub puts_find_room : PutsFindRoom
 puts_find_room m actor fetched deed op knows brings row does line source fresh half rec is put =
     by (knows.puts actor source fresh line is)
   where
-    puts : Puts (with_disk fetched m.files m.clock m) line source fresh deed
+    puts : Puts (sight (with_disk fetched m.files m.clock m)) line source fresh deed
     puts = subst (λ (a : Activity). Row a (wanted_of a m.store.meta (looked_live m.store a)) (with_disk fetched m.files m.clock m) deed) is row
 
     by : (same : Record) × (line.command ≡ Insert same) × OneHasRoom m source fresh same.key same.body → HasRoomFor m half rec.key rec.body

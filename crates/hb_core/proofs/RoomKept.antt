@@ -1,5 +1,5 @@
 -- After a step a page that is to be split lacks room for its insert, and of the two halves of a split one has room.
-use Rattle.std.proofs.Common.{◌≡◌, ◌≢◌, ◌⊎◌, inl, inr, ℕ, ◌==◌, ◌<◌, ◌≤◌, Bool, cond, List, [], ◌∷◌, length, Option, Some, None, refl, sym, ap, ◌∙◌, subst}
+use Rattle.std.proofs.Common.{◌≡◌, ◌≢◌, ◌⊎◌, inl, inr, ℕ, ◌==◌, ◌<◌, ◌≤◌, Bool, cond, List, [], ◌∷◌, length, Option, Some, None, refl, sym, ap, ◌∙◌, subst, true, false}
 use Rattle.std.proofs.lemmas.Bool.{cases_Bool, eq-eqb, eqb-true, eqb-false, ne_eqb}
 use Rattle.std.proofs.lemmas.Option.{none-some}
 use Rattle.hb_space.specs.declared.records.Record.{Record}
@@ -7,44 +7,44 @@ use Rattle.hb_layout.specs.declared.limits.TheConstants.{DCAP_MIN}
 use Rattle.hb_layout.specs.declared.meta.Meta.{Meta}
 use Rattle.hb_frag.specs.declared.pages.LivePage.{LivePage}
 use Rattle.hb_frag.specs.declared.pages.Page.TheVariants.{Live}
-use Rattle.hb_frag.specs.Leaves.{weight_of}
 use Rattle.hb_ops.specs.declared.operations.Op.{Op}
 use Rattle.hb_ops.specs.declared.operations.Op.TheVariants as ops
-use Rattle.hb_ops.specs.Files.{if_live}
-use Rattle.hb_ops.specs.Operations.{change_of}
-use Rattle.hb_ops.specs.Recording.{put_page}
 use Rattle.hb_set.specs.declared.commands.Command.TheVariants.{Insert}
 use Rattle.hb_set.specs.declared.scripts.Line.{Line}
 use Rattle.hb_latch.specs.declared.modes.Mode.{Mode}
 use Rattle.hb_latch.specs.declared.modes.Mode.TheVariants.{Exclusive}
-use Rattle.hb_latch.specs.Tables.{MayLatch}
 use Rattle.hb_activity.specs.declared.jobs.Job.{Job}
 use Rattle.hb_activity.specs.declared.holding.Latch.{Latch}
 use Rattle.hb_activity.specs.declared.activities.Activity.{Activity}
 use Rattle.hb_activity.specs.declared.activities.Activity.TheVariants as at
-use Rattle.hb_activity.specs.Holding.{latch_on}
-use Rattle.hb_activity.specs.Walks.{walk_held}
-use Rattle.hb_store.specs.Calls.{read_here}
-use Rattle.hb_store.specs.States.{StoreState, in_memory}
 use Rattle.hb_core.specs.declared.outcomes.Outcome.{Outcome}
 use Rattle.hb_core.specs.declared.outcomes.Outcome.TheVariants as outcomes
-use Rattle.hb_core.specs.Machines.{Files, Machine, live_here}
-use Rattle.hb_core.specs.Acting.{MeetsBadPage}
-use Rattle.hb_core.specs.Deeds.{Deed}
-use Rattle.hb_core.specs.Forcing.{ForcesFirst, StaysSo}
-use Rattle.hb_core.specs.Fetching.{Brings}
-use Rattle.hb_core.specs.Performing.{MayDo, Performs, latches_held}
-use Rattle.hb_core.specs.Steps.{StepsTo, Works}
-use Rattle.hb_core.specs.KeptLines.{line_in_hand}
-use Rattle.hb_core.specs.Keeps.{HasNobodyElse, HasRoomFor, HasSoundFile, HoldsPagesOfFile, KnowsRoom, LacksRoomFor, LatchesFit, OneHasRoom}
-use Rattle.hb_core.specs.KeepingLaws.{RoomStaysKnown}
+use Rattle.hb_activity.specs.Classes.{line_in_hand}
+use Rattle.hb_activity.specs.Deeds.{Deed, does}
+use Rattle.hb_activity.specs.Holding.{latch_on}
+use Rattle.hb_activity.specs.Walks.{walk_held}
 use Rattle.hb_core.proofs.Backing.{live_there}
 use Rattle.hb_core.proofs.NextPlaces.{HasPlace, HoldsNothing, KeepsParent, PartsFull, TakesFull, nothing_given_up, nothing_run_out, now, place_after}
 use Rattle.hb_core.proofs.SplitHalves.{one_has_room, takes_full}
 use Rattle.hb_core.proofs.SplitHome.{RoomLaws}
-use Rattle.hb_core.proofs.StepKinds.{each_kind}
+use Rattle.hb_core.proofs.StepKinds.{each_kind, FlushesMore, rest_kind}
 use Rattle.hb_core.proofs.StillThere.{may_or_not, other_holds, own_next}
-use Rattle.hb_core.proofs.Ways.{KeepsAllButDisk, forces_so, meets_so, stays_so}
+use Rattle.hb_core.proofs.Ways.{KeepsAllButDisk, forces_so, meets_so, stays_so, more_so}
+use Rattle.hb_core.specs.Acting.{MeetsBadPage}
+use Rattle.hb_core.specs.Fetching.{Brings}
+use Rattle.hb_core.specs.Forcing.{ForcesFirst, StaysSo}
+use Rattle.hb_core.specs.KeepingLaws.{RoomStaysKnown}
+use Rattle.hb_core.specs.Keeps.{HasNobodyElse, HasRoomFor, HasSoundFile, HoldsPagesOfFile, KnowsRoom, LacksRoomFor, LatchesFit, OneHasRoom}
+use Rattle.hb_core.specs.Machines.{Files, Machine, live_here}
+use Rattle.hb_core.specs.Performing.{MayDo, Performs, latches_held, mode_among}
+use Rattle.hb_core.specs.Steps.{StepsTo, Works}
+use Rattle.hb_frag.specs.Leaves.{weight_of}
+use Rattle.hb_latch.specs.Tables.{MayLatch}
+use Rattle.hb_ops.specs.Files.{if_live}
+use Rattle.hb_ops.specs.Operations.{change_of}
+use Rattle.hb_ops.specs.Recording.{put_page}
+use Rattle.hb_store.specs.Calls.{read_here}
+use Rattle.hb_store.specs.States.{StoreState, in_memory}
 
 -- ---- the capacity stays
 
@@ -78,21 +78,25 @@ module _ (m : Machine) (actor : ℕ) (outcome : Outcome) (new : Machine) where
 
   by_force : (said : Outcome) → ForcesFirst m said outcome new → SameCapacity m new
   by_force said (inl well) = ap (λ (x : Machine). x.store.meta.dcap) well.1
-  by_force said (inr badly) = ap (λ (x : Machine). x.store.meta.dcap) badly.stops
+  by_force said (inr badly) = ap (λ (x : Machine). x.store.meta.dcap) badly.1.stops
 
   by_bad_page : MeetsBadPage m actor outcome new → SameCapacity m new
   by_bad_page meets = ap (λ (x : Machine). x.store.meta.dcap) meets.stops ∙ ap (λ (x : Meta). x.dcap) meets.brings.rest.meta
 
+  by_more : FlushesMore m outcome new → SameCapacity m new
+  by_more (none, left, inl (due, quiet, well)) = ap (λ (x : Machine). x.store.meta.dcap) well.leaves ∙ ap (λ (x : Meta). x.dcap) well.meta
+  by_more (none, left, inr fails) = ap (λ (x : Machine). x.store.meta.dcap) fails.stops
+
   by_work : Works m actor outcome new → SameCapacity m new
   by_work (inl (by, way, so)) = by_rest (outcomes.Blocked by) so
   by_work (inr (inl (free, unready, inl (waits, force)))) = by_force outcomes.Helped force
-  by_work (inr (inl (free, unready, inr (none, performs)))) = by_deed m.store _ refl performs
+  by_work (inr (inl (free, unready, inr (none, rest)))) = rest_kind m outcomes.Helped outcome new _ (SameCapacity m new) none (λ at. refl) by_more (by_deed m.store _ refl) rest
   by_work (inr (inr (free, ready, inl acts))) = by_deed acts.fetched acts.deed acts.brings.rest.meta acts.performs
   by_work (inr (inr (free, ready, inr (inl gives)))) = by_deed gives.fetched _ gives.brings.rest.meta gives.performs
   by_work (inr (inr (free, ready, inr (inr meets)))) = by_bad_page meets
 
   pub capacity_stays : StepsTo m actor outcome new → SameCapacity m new
-  capacity_stays step = each_kind m actor outcome new (SameCapacity m new) (λ said quiet so. by_rest said so) (λ said quiet force. by_force said force) (λ deed outright performs. by_deed m.store deed refl performs) by_work step
+  capacity_stays step = each_kind m actor outcome new (SameCapacity m new) (λ said quiet so. by_rest said so) (λ said quiet force. by_force said force) by_more (λ deed outright performs. by_deed m.store deed refl performs) by_work step
 
 -- ---- what one activity knows
 
@@ -188,6 +192,23 @@ again_knows m job parent = knows_none m (at.PosterAgain job parent) (λ held lin
 
 -- ---- one that does
 
+-- its pages are held exclusively
+split_latched : (st : StoreState) (activity : Activity) (line : Line) (held : ℕ) → activity ≡ at.SessionSplit line held → mode_among held (latches_held st activity) ≡ Some Exclusive
+split_latched st activity line held is = ap (λ (a : Activity). mode_among held (latches_held st a)) is ∙ ap (λ (b : Bool). cond b (Some Exclusive) None) (eq-eqb held held refl)
+
+put_latched : (st : StoreState) (activity : Activity) (line : Line) (source fresh : ℕ) → activity ≡ at.SessionPut line source fresh → (mode_among source (latches_held st activity) ≡ Some Exclusive) × (mode_among fresh (latches_held st activity) ≡ Some Exclusive)
+put_latched st activity line source fresh is = (
+  ap (λ (a : Activity). mode_among source (latches_held st a)) is ∙ ap (λ (b : Bool). cond b (Some Exclusive) (mode_among source (latch_on fresh Exclusive ∷ []))) (eq-eqb source source refl),
+  ap (λ (a : Activity). mode_among fresh (latches_held st a)) is ∙ either (source == fresh) ∙ refl,
+)
+  where
+    last : mode_among fresh (latch_on fresh Exclusive ∷ []) ≡ Some Exclusive
+    last = ap (λ (b : Bool). cond b (Some Exclusive) None) (eq-eqb fresh fresh refl)
+
+    either : (b : Bool) → cond b (Some Exclusive) (mode_among fresh (latch_on fresh Exclusive ∷ [])) ≡ Some Exclusive
+    either true = refl
+    either false = last
+
 split_knows : (m : Machine) (line : Line) (held : ℕ) → LacksRoom m line held → KnowsOf m (at.SessionSplit line held)
 split_knows m line held lacks = record { splits = λ other_held other is. moved other other_held (parts line other held other_held is); puts = λ source fresh other is. absurd (never source fresh other is) }
   where
@@ -224,7 +245,7 @@ knows_as m activity other is knows = subst (KnowsOf m) (sym is) knows
 -- ---- the actor that steps
 
 module _ (laws : RoomLaws) (least : DCAP_MIN ≡ 6) (m : Machine) (files : Files) (actor : ℕ) (may : ℕ → Type 0) (fetched : StoreState) (told : m.files ≡ Some files) (inside : HoldsPagesOfFile m) (sound : HasSoundFile m files) (knows : KnowsRoom m)
-    (brings : Brings m.files may m.store fetched) (deed : Deed) (new : Machine) (capacity : SameCapacity m new) (does : MayDo deed.op (length m.order) fetched new.store) where
+    (brings : Brings m may fetched) (deed : Deed) (new : Machine) (capacity : SameCapacity m new) (does : MayDo deed.op (length m.order) fetched new.store) where
   full_known : (full : TakesFull (now m actor fetched) deed) → LacksRoom new full.line full.id
   full_known full = (full.rec, full.command, takes_full m actor may fetched inside brings deed new does laws full)
 
@@ -292,13 +313,15 @@ module _ (laws : RoomLaws) (least : DCAP_MIN ≡ 6) (m : Machine) (files : Files
   same_but_disk : KeepsAllButDisk m new → KnowsRoom new
   same_but_disk keeps = with_own
       (knows_as new (new.activity actor) (m.activity actor) (ap (λ (all : ℕ → Activity). all actor) keeps.activity) (record {
-        splits = λ held line is. splits_again m new capacity line held (λ page live. still held page live) (knows.splits actor held line is);
-        puts = λ source fresh line is. puts_again m new capacity line source fresh (λ page live. still source page live) (λ page live. still fresh page live) (knows.puts actor source fresh line is);
+        splits = λ held line is. splits_again m new capacity line held (λ page live. still held page (split_latched m.store (m.activity actor) line held is) live) (knows.splits actor held line is);
+        puts = λ source fresh line is.
+            let both = put_latched m.store (m.activity actor) line source fresh is in
+            puts_again m new capacity line source fresh (λ page live. still source page both.0 live) (λ page live. still fresh page both.1 live) (knows.puts actor source fresh line is);
       }))
       (λ other another. ap (λ (all : ℕ → Activity). all other) keeps.activity)
     where
-      still : (id : ℕ) (page : LivePage) → live_here m.store id ≡ Some page → live_here new.store id ≡ Some page
-      still id page live = ap if_live (keeps.memory id (Live page) (live_there (in_memory m.store id) page live))
+      still : (id : ℕ) (page : LivePage) → mode_among id (latches_held m.store (m.activity actor)) ≡ Some Exclusive → live_here m.store id ≡ Some page → live_here new.store id ≡ Some page
+      still id page among live = ap if_live (keeps.memory id (Live page) (inl (actor, Exclusive, fit.exact actor id latches ∙ among)) (live_there (in_memory m.store id) page live))
 
   did : (fetched : StoreState) (deed : Deed) → Performs m fetched actor deed outcome new → KnowsOf new deed.next → KnowsRoom new
   did fetched deed performs own = with_own (knows_as new (new.activity actor) deed.next (own_next m actor fetched deed outcome new performs) own) (λ other another. stood other another)
@@ -312,11 +335,12 @@ module _ (laws : RoomLaws) (least : DCAP_MIN ≡ 6) (m : Machine) (files : Files
   worked : Works m actor outcome new → KnowsRoom new
   worked (inl (by, way, so)) = same_but_disk (stays_so m actor outcome new (outcomes.Blocked by) so)
   worked (inr (inl (free, unready, inl (waits, force)))) = same_but_disk (forces_so m actor outcome new outcomes.Helped force)
-  worked (inr (inl (free, unready, inr (none, performs)))) = freed m.store _ performs (nothing_run_out m (m.activity actor))
+  worked (inr (inl (free, unready, inr (none, rest)))) =
+      rest_kind m outcomes.Helped outcome new _ (KnowsRoom new) none (λ at. refl) (λ more. same_but_disk (more_so m actor outcome new more)) (λ performs. freed m.store _ performs (nothing_run_out (m.activity actor))) rest
   worked (inr (inr (free, ready, inl acts))) =
       did acts.fetched acts.deed acts.performs
       (knows_there laws least m files actor _ acts.fetched told inside sound knows acts.brings acts.deed new capacity acts.performs.store (place_after m actor acts.fetched _ acts.deed refl acts.row))
-  worked (inr (inr (free, ready, inr (inl gives)))) = freed gives.fetched _ gives.performs (nothing_given_up m gives.why (m.activity actor))
+  worked (inr (inr (free, ready, inr (inl gives)))) = freed gives.fetched _ gives.performs (nothing_given_up gives.why (m.activity actor))
   worked (inr (inr (free, ready, inr (inr meets)))) = same_but_disk (meets_so m actor outcome new meets)
 
 pub room_stays_known : RoomLaws → DCAP_MIN ≡ 6 → RoomStaysKnown
@@ -324,6 +348,7 @@ room_stays_known laws least m files actor outcome new latches told fit inside so
     each_kind m actor outcome new (KnowsRoom new)
     (λ said quiet so. same_but_disk laws least m files actor outcome new latches told fit inside sound nobody knows step (stays_so m actor outcome new said so))
     (λ said quiet force. same_but_disk laws least m files actor outcome new latches told fit inside sound nobody knows step (forces_so m actor outcome new said force))
+    (λ more. same_but_disk laws least m files actor outcome new latches told fit inside sound nobody knows step (more_so m actor outcome new more))
     (λ deed outright performs. freed laws least m files actor outcome new latches told fit inside sound nobody knows step m.store deed performs (record { walk = outright.walk; latches = outright.latches; merging = outright.merging }))
     (worked laws least m files actor outcome new latches told fit inside sound nobody knows step)
     step

@@ -2,47 +2,47 @@
 use Rattle.std.proofs.Common.{◌≡◌, ◌⊎◌, inl, inr, ℕ, List, [], ◌∷◌, Option, Some, None, refl, sym, ap, ◌∙◌, subst}
 use Rattle.std.specs.Prelude.{MatchOption}
 use Rattle.std.specs.FinMap as map
-use Rattle.hb_space.specs.Boxes.{Area}
 use Rattle.hb_space.specs.declared.records.Record.{Record}
 use Rattle.hb_frag.specs.declared.pages.LivePage.{LivePage}
 use Rattle.hb_frag.specs.declared.pages.Page.TheVariants.{Live}
-use Rattle.hb_frag.specs.Leaves.{Placed, leaf_at}
 use Rattle.hb_layout.specs.declared.meta.Meta.{Meta}
 use Rattle.hb_ops.specs.declared.operations.Op.{Op}
 use Rattle.hb_ops.specs.declared.operations.Op.TheVariants as ops
-use Rattle.hb_ops.specs.Files.{FileState, contents_of, if_live, live_page}
-use Rattle.hb_ops.specs.Standing.{StandsNot, StandsThere}
-use Rattle.hb_set.specs.Machine.{RecordSet, found_or_missing, if_there, reply_of, set_after}
-use Rattle.hb_set.specs.Order.{Entry}
 use Rattle.hb_set.specs.declared.commands.Command.{Command}
 use Rattle.hb_set.specs.declared.commands.Command.TheVariants.{Insert, Delete, Lookup, Search}
 use Rattle.hb_set.specs.declared.commands.Reply.{Reply}
 use Rattle.hb_set.specs.declared.commands.Reply.TheVariants as replies
 use Rattle.hb_set.specs.declared.scripts.Line.{Line}
-use Rattle.hb_sound.specs.Laws.{LackIsContents, StandingIsContents}
-use Rattle.hb_sound.specs.PointWalks.{IsPointOf}
 use Rattle.hb_terms.specs.declared.plans.PostPlan.{PostPlan}
 use Rattle.hb_terms.specs.declared.plans.PostPlan.TheVariants as plans
 use Rattle.hb_activity.specs.declared.jobs.Job.{Job}
 use Rattle.hb_activity.specs.declared.wanting.Wanted.{Wanted}
 use Rattle.hb_activity.specs.declared.activities.Activity.{Activity}
 use Rattle.hb_activity.specs.declared.activities.Activity.TheVariants as at
+use Rattle.hb_activity.specs.Classes.{line_in_hand}
+use Rattle.hb_activity.specs.Deeds.{Deed}
+use Rattle.hb_activity.specs.Passing.{PassesOn}
 use Rattle.hb_activity.specs.Walks.{goal_of}
-use Rattle.hb_store.specs.States.{StoreState, in_memory}
-use Rattle.hb_core.specs.Machines.{Machine, with_disk}
-use Rattle.hb_core.specs.Deeds.{Deed}
-use Rattle.hb_core.specs.KeptLines.{line_in_hand}
-use Rattle.hb_core.specs.ContentsLaws.{TakesEffectOn}
-use Rattle.hb_core.specs.SearchRows.{SearchGoesOn}
-use Rattle.hb_core.specs.SessionRows.{DoesThere, PassesOn}
-use Rattle.hb_core.specs.Steps.{WantsBoxes}
-use Rattle.hb_core.specs.WorkerRows.{DoesPlan, after_look}
-use Rattle.hb_core.specs.Rows.{Row, RowAlone, RowAt}
 use Rattle.hb_core.proofs.Backing.{live_there}
 use Rattle.hb_core.proofs.FileOps.{ShowsFile}
 use Rattle.hb_core.proofs.FitOps.{HeldArePoints, as_many, point_there}
 use Rattle.hb_core.proofs.KeptPages.{KeepsPages}
 use Rattle.hb_core.proofs.MergerMoves.{merger_moves}
+use Rattle.hb_core.specs.ContentsLaws.{TakesEffectOn}
+use Rattle.hb_core.specs.Machines.{Machine, with_disk, sight}
+use Rattle.hb_core.specs.Rows.{DoesHere, Row, RowAlone, RowAt}
+use Rattle.hb_frag.specs.Leaves.{Placed, leaf_at}
+use Rattle.hb_ops.specs.Files.{FileState, contents_of, if_live, live_page}
+use Rattle.hb_ops.specs.Standing.{StandsNot, StandsThere}
+use Rattle.hb_point.specs.SessionRows.{WantsBoxes}
+use Rattle.hb_poster.specs.PosterRows.{DoesPlan, after_look}
+use Rattle.hb_search.specs.SearchRows.{SearchGoesOn}
+use Rattle.hb_set.specs.Machine.{RecordSet, found_or_missing, if_there, reply_of, set_after}
+use Rattle.hb_set.specs.Order.{Entry}
+use Rattle.hb_sound.specs.Laws.{LackIsContents, StandingIsContents}
+use Rattle.hb_sound.specs.PointWalks.{IsPointOf}
+use Rattle.hb_space.specs.Boxes.{Area}
+use Rattle.hb_store.specs.States.{StoreState, in_memory}
 
 -- what an operation does to the contents
 abbrev pub Becomes : RecordSet → RecordSet → Option Op → Type 0
@@ -137,7 +137,7 @@ module _ (points : HeldArePoints) (standing : StandingIsContents) (lacking : Lac
   effect : (activity : Activity) (deed other : Deed) → deed ≡ other → Becomes (contents_of s) after deed.op → (Becomes (contents_of s) after other.op → Joins activity other) → Joins activity deed
   effect activity deed other is becomes joins = joins_of (contents_of s) after activity deed other is (joins (becomes_of (contents_of s) after activity deed other is becomes))
 
-  joins_search : (activity : Activity) (line : Line) (area : Area) (boxes : List Area) (found : List Record) (deed : Deed) → line.command ≡ Search area → line_in_hand activity ≡ Some line → Becomes (contents_of s) after deed.op → SearchGoesOn m' line boxes found deed → Joins activity deed
+  joins_search : (activity : Activity) (line : Line) (area : Area) (boxes : List Area) (found : List Record) (deed : Deed) → line.command ≡ Search area → line_in_hand activity ≡ Some line → Becomes (contents_of s) after deed.op → SearchGoesOn (sight m') line boxes found deed → Joins activity deed
   joins_search activity line area [] found deed is hand becomes (ordered, same, rising, deed_is) =
       effect activity deed _ deed_is becomes (λ stays. record {
         hand = hand;
@@ -147,7 +147,7 @@ module _ (points : HeldArePoints) (standing : StandingIsContents) (lacking : Lac
   joins_search activity line area (box ∷ rest) found deed is hand becomes deed_is = effect activity deed _ deed_is becomes (λ stays. stays)
 
   joins_there : (activity : Activity) (line : Line) (command : Command) (rest : List Area) (found : List Record) (id : ℕ) (page : LivePage) (p : List ℕ) (deed : Deed) → line.command ≡ command → line_in_hand activity ≡ Some line
-      → if_live (in_memory fetched id) ≡ Some page → Becomes (contents_of s) after deed.op → DoesThere m' line command rest found id page p deed → Joins activity deed
+      → if_live (in_memory fetched id) ≡ Some page → Becomes (contents_of s) after deed.op → DoesHere (sight m') line command rest found id page p deed → Joins activity deed
   joins_there activity line (Insert rec) rest found id page p deed is hand live becomes (inl row) = effect activity deed _ row.deed_is becomes (λ stays. twin_stays (contents_of s) after activity line rec row.twin.body is hand (stands id page rec.key row.twin live row.there) stays)
   joins_there activity line (Insert rec) rest found id page p deed is hand live becomes (inr (inl row)) = effect activity deed _ row.deed_is becomes (λ more. put_joins (contents_of s) after activity line rec is hand more.0 more.1)
   joins_there activity line (Insert rec) rest found id page p deed is hand live becomes (inr (inr row)) = effect activity deed _ row.deed_is becomes (λ stays. stays)
@@ -158,12 +158,12 @@ module _ (points : HeldArePoints) (standing : StandingIsContents) (lacking : Lac
   joins_there activity line (Search area) rest found id page p deed is hand live becomes row = joins_search activity line area _ _ deed is hand becomes row.goes
 
   joins_walk : (line : Line) (held : Option ℕ) (rest : List Area) (found : List Record) (id : ℕ) (page : LivePage) (deed : Deed) (goal : Option (List ℕ)) → if_live (in_memory fetched id) ≡ Some page → Becomes (contents_of s) after deed.op
-      → MatchOption goal ⊥ (λ p. PassesOn page p m' (at.SessionWalk line (Some id) rest found) deed ⊎ DoesThere m' line line.command rest found id page p deed) → Joins (at.SessionWalk line held rest found) deed
+      → MatchOption goal ⊥ (λ p. PassesOn page p (at.SessionWalk line (Some id) rest found) deed ⊎ DoesHere (sight m') line line.command rest found id page p deed) → Joins (at.SessionWalk line held rest found) deed
   joins_walk line held rest found id page deed None live becomes never = absurd never
   joins_walk line held rest found id page deed (Some p) live becomes (inl row) = effect _ deed _ row.deed_is becomes (λ stays. stays)
   joins_walk line held rest found id page deed (Some p) live becomes (inr row) = joins_there (at.SessionWalk line held rest found) line line.command rest found id page p deed refl refl live becomes row
 
-  joins_alone : (activity : Activity) (deed : Deed) → Becomes (contents_of s) after deed.op → RowAlone activity m' deed → Joins activity deed
+  joins_alone : (activity : Activity) (deed : Deed) → Becomes (contents_of s) after deed.op → RowAlone activity (sight m') deed → Joins activity deed
   joins_alone (at.SessionSplit line held) deed becomes (inl row) = effect _ deed _ row.deed_is becomes (λ stays. stays)
   joins_alone (at.SessionSplit line held) deed becomes (inr row) = effect _ deed _ row.deed_is becomes (λ stays. stays)
   joins_alone (at.SessionPut line source fresh) deed becomes row = effect _ deed _ row.deed_is becomes (λ more. put_joins (contents_of s) after (at.SessionPut line source fresh) line row.rec row.command refl more.0 more.1)
@@ -185,18 +185,18 @@ module _ (points : HeldArePoints) (standing : StandingIsContents) (lacking : Lac
   joins_alone (at.ConsolidatorDecide job parent keep gone) deed becomes row = absurd row
   joins_alone at.Flusher deed becomes row = absurd row
 
-  joins_look : (job : Job) (parent : ℕ) (plan : PostPlan) (deed : Deed) → Becomes (contents_of s) after deed.op → deed ≡ after_look m' job parent plan → Joins (at.PosterChild job parent) deed
+  joins_look : (job : Job) (parent : ℕ) (plan : PostPlan) (deed : Deed) → Becomes (contents_of s) after deed.op → deed ≡ after_look job parent plan → Joins (at.PosterChild job parent) deed
   joins_look job parent plans.Nothing deed becomes is = effect _ deed _ is becomes (λ stays. stays)
   joins_look job parent (plans.Post at inner area) deed becomes is = effect _ deed _ is becomes (λ stays. stays)
   joins_look job parent plans.SplitFirst deed becomes is = effect _ deed _ is becomes (λ stays. stays)
 
-  joins_plan : (job : Job) (parent : ℕ) (page : LivePage) (plan : PostPlan) (deed : Deed) → Becomes (contents_of s) after deed.op → DoesPlan m' job parent page plan deed → Joins (at.PosterAgain job parent) deed
+  joins_plan : (job : Job) (parent : ℕ) (page : LivePage) (plan : PostPlan) (deed : Deed) → Becomes (contents_of s) after deed.op → DoesPlan (sight m') job parent page plan deed → Joins (at.PosterAgain job parent) deed
   joins_plan job parent page plans.Nothing deed becomes is = effect _ deed _ is becomes (λ stays. stays)
   joins_plan job parent page (plans.Post at inner area) deed becomes is = effect _ deed _ is becomes (λ stays. stays)
   joins_plan job parent page plans.SplitFirst deed becomes (inl row) = effect _ deed _ row.deed_is becomes (λ stays. stays)
   joins_plan job parent page plans.SplitFirst deed becomes (inr row) = effect _ deed _ row.deed_is becomes (λ stays. stays)
 
-  joins_at : (activity : Activity) (id : ℕ) (page : LivePage) (deed : Deed) → if_live (in_memory fetched id) ≡ Some page → Becomes (contents_of s) after deed.op → RowAt activity m' id page deed → Joins activity deed
+  joins_at : (activity : Activity) (id : ℕ) (page : LivePage) (deed : Deed) → if_live (in_memory fetched id) ≡ Some page → Becomes (contents_of s) after deed.op → RowAt activity (sight m') id page deed → Joins activity deed
   joins_at (at.SessionWalk line held rest found) id page deed live becomes row = joins_walk line held rest found id page deed (goal_of line.command rest) live becomes row
   joins_at (at.PosterGrow job) id page deed live becomes (inl row) = effect _ deed _ row.deed_is becomes (λ stays. stays)
   joins_at (at.PosterGrow job) id page deed live becomes (inr row) = effect _ deed _ row.deed_is becomes (λ stays. stays)

@@ -2,14 +2,14 @@
 use Rattle.std.proofs.Common.{◌≡◌, ℕ, zero, suc, List, [], ◌∷◌, ◌++◌, slice_get, Option, Some, None, refl, sym, ap, ◌∙◌, subst}
 use Rattle.std.specs.List.{AllByRecursion}
 use Rattle.std.specs.FinMap as finite
-use Rattle.hb_set.specs.Machine.{RecordSet, found_or_missing, if_there, reply_of, set_after}
-use Rattle.hb_set.specs.Order.{AreReplies, Entry, IsLegalOrder, KeepsSessions, MayPrecede}
 use Rattle.hb_set.specs.declared.commands.Command.{Command}
 use Rattle.hb_set.specs.declared.commands.Command.TheVariants.{Insert, Delete, Lookup, Search}
 use Rattle.hb_set.specs.declared.commands.Reply.{Reply}
 use Rattle.hb_set.specs.declared.commands.Reply.TheVariants as replies
-use Rattle.hb_core.specs.Machines.{Machine}
 use Rattle.hb_core.specs.KeptOrder.{StandsInOrder, StandsOutside}
+use Rattle.hb_core.specs.Machines.{Machine}
+use Rattle.hb_set.specs.Machine.{RecordSet, found_or_missing, if_there, reply_of, set_after}
+use Rattle.hb_set.specs.Order.{AreReplies, Entry, IsLegalOrder, KeepsSessions, MayPrecede}
 
 -- what holds of each holds at a place
 at_place : {X : Type 0} (P : X → Type 0) (xs : List X) (i : ℕ) (x : X) → AllByRecursion P xs → slice_get xs i ≡ Some x → P x

@@ -1,23 +1,23 @@
 -- Not every actor at work is kept waiting: whom an actor waits for wants a page that comes later, and pages can't come later for ever.
 use Rattle.std.proofs.Common.{◌≡◌, ◌⊎◌, inl, inr, ℕ, zero, suc, ◌<◌, [], ◌∷◌, Option, Some, None, IsSomeAnd, refl, sym, ap, ◌∙◌, subst, arith}
 use Rattle.std.proofs.lemmas.Option.{same_Some}
-use Rattle.hb_space.specs.Boxes.{volume}
 use Rattle.hb_frag.specs.declared.pages.LivePage.{LivePage}
 use Rattle.hb_latch.specs.declared.modes.Mode.{Mode}
-use Rattle.hb_latch.specs.Tables.{IsLeastInTheWay, mode_at}
-use Rattle.hb_ops.specs.Files.{live_page}
 use Rattle.hb_activity.specs.declared.wanting.Wanted.{Wanted}
 use Rattle.hb_activity.specs.declared.activities.Activity.{Activity}
 use Rattle.hb_activity.specs.declared.activities.Activity.TheVariants as at
-use Rattle.hb_store.specs.States.{StoreState}
-use Rattle.hb_core.specs.Machines.{Files, Machine, current_file}
+use Rattle.hb_core.proofs.NoCircle.{held_there, in_turn}
+use Rattle.hb_core.proofs.StillThere.{may_or_not}
 use Rattle.hb_core.specs.Asking.{wanted_by}
 use Rattle.hb_core.specs.Keeps.{HasNoOtherLatches, HasNobodyElse, HasSoundFile, LatchesFit, WalksInSpace}
+use Rattle.hb_core.specs.Machines.{Files, Machine, current_file}
 use Rattle.hb_core.specs.Performing.{latches_held, mode_among}
 use Rattle.hb_core.specs.SteppingLaws.{IsAtRest}
 use Rattle.hb_core.specs.WaitingLaws.{ComesLater, IsAtWork, IsKeptWaiting, SomebodyGoesOn, AwaitsActor}
-use Rattle.hb_core.proofs.NoCircle.{held_there, in_turn}
-use Rattle.hb_core.proofs.StillThere.{may_or_not}
+use Rattle.hb_latch.specs.Tables.{IsLeastInTheWay, mode_at}
+use Rattle.hb_ops.specs.Files.{live_page}
+use Rattle.hb_space.specs.Boxes.{volume}
+use Rattle.hb_store.specs.States.{StoreState}
 
 -- who rests holds nothing
 rests_free : (st : StoreState) (activity : Activity) (page : ℕ) (mode : Mode) → IsAtRest activity → mode_among page (latches_held st activity) ≡ Some mode → ⊥

@@ -1,11 +1,32 @@
 -- The operation of a row is allowed and licensed in the file, and every file stays sound.
+use Rattle.hb_core.proofs.CommitPages.{commit_pages}
 use Rattle.std.proofs.Common.{◌≡◌, inl, inr, ℕ, ◌+◌, List, [], ◌∷◌, ◌++◌, length, All, Option, Some, None, IsSome, IfSome, option_map, refl, sym, ap, ◌∙◌, subst, arith, length-append}
 use Rattle.std.proofs.lemmas.List.Elements.{All-append, All-cons, All-head, All-nil, All-tail}
 use Rattle.hb_frag.specs.declared.pages.Page.{Page}
 use Rattle.hb_layout.specs.declared.meta.Meta.{Meta}
-use Rattle.hb_layout.specs.Limits.{IsLayout}
-use Rattle.hb_wal.specs.Log.{Waiting, left_waiting}
 use Rattle.hb_ops.specs.declared.operations.Op.{Op}
+use Rattle.hb_core.specs.declared.outcomes.Outcome.{Outcome}
+use Rattle.hb_core.specs.declared.outcomes.Outcome.TheVariants as outcomes
+use Rattle.hb_activity.specs.Deeds.{Deed, does}
+use Rattle.hb_core.proofs.BroughtPages.{same_there}
+use Rattle.hb_core.proofs.FileOps.{ShowsFile, allowed_in_file, has_in_file, licensed_in_file, meta_after, shown_after}
+use Rattle.hb_core.proofs.FitOps.{HeldArePoints, fits_op}
+use Rattle.hb_core.proofs.KeptPages.{KeepsPages, brought, change_is_well, keeps_pages}
+use Rattle.hb_core.proofs.LaterPages.{last_sound}
+use Rattle.hb_core.proofs.OwnPages.{gives_up_nothing, runs_out_nothing}
+use Rattle.hb_core.proofs.RowTells.{Tells, TellsOp, tells_row}
+use Rattle.hb_core.proofs.StepKinds.{each_kind, rest_kind, FlushesMore}
+use Rattle.hb_core.specs.Acting.{MeetsBadPage}
+use Rattle.hb_core.specs.Asking.{wanted_by}
+use Rattle.hb_core.specs.Fetching.{Brings}
+use Rattle.hb_core.specs.FileLaws.{FilesStaySound, MayBeDoneIn, RowsAreLicensed}
+use Rattle.hb_core.specs.Forcing.{ForcesFirst, StaysSo, forced_files, FailsToWrite}
+use Rattle.hb_core.specs.Keeps.{HasSoundFile}
+use Rattle.hb_core.specs.KeptLines.{LinesFit, MarksInPlace}
+use Rattle.hb_core.specs.Machines.{Files, Machine, current_file}
+use Rattle.hb_core.specs.Performing.{DoesOp, MayDo, Performs, files_after, with_effect}
+use Rattle.hb_core.specs.Steps.{Works}
+use Rattle.hb_layout.specs.Limits.{IsLayout}
 use Rattle.hb_ops.specs.Files.{FileState, page_of}
 use Rattle.hb_ops.specs.Operations.{effect_of}
 use Rattle.hb_ops.specs.Sound.{IsSound}
@@ -15,26 +36,7 @@ use Rattle.hb_store.specs.Keeps.{last_of}
 use Rattle.hb_store.specs.Making.{HaveFittingParts, MakesGoodPages}
 use Rattle.hb_store.specs.ReplayLaws.{last_of-append}
 use Rattle.hb_store.specs.States.{StoreState, in_memory}
-use Rattle.hb_core.specs.declared.outcomes.Outcome.{Outcome}
-use Rattle.hb_core.specs.declared.outcomes.Outcome.TheVariants as outcomes
-use Rattle.hb_core.specs.Machines.{Files, Machine, current_file}
-use Rattle.hb_core.specs.Asking.{wanted_by}
-use Rattle.hb_core.specs.Fetching.{Brings}
-use Rattle.hb_core.specs.Deeds.{Deed}
-use Rattle.hb_core.specs.Performing.{DoesOp, MayDo, Performs, files_after, with_effect}
-use Rattle.hb_core.specs.Acting.{MeetsBadPage}
-use Rattle.hb_core.specs.Forcing.{ForcesFirst, StaysSo, forced_files}
-use Rattle.hb_core.specs.Keeps.{HasSoundFile}
-use Rattle.hb_core.specs.KeptLines.{LinesFit, MarksInPlace}
-use Rattle.hb_core.specs.FileLaws.{FilesStaySound, MayBeDoneIn, RowsAreLicensed}
-use Rattle.hb_core.specs.Steps.{Works}
-use Rattle.hb_core.proofs.FileOps.{ShowsFile, allowed_in_file, has_in_file, licensed_in_file, meta_after, shown_after}
-use Rattle.hb_core.proofs.FitOps.{HeldArePoints, fits_op}
-use Rattle.hb_core.proofs.KeptPages.{KeepsPages, brought, change_is_well, keeps_pages}
-use Rattle.hb_core.proofs.LaterPages.{last_sound}
-use Rattle.hb_core.proofs.OwnPages.{gives_up_nothing, runs_out_nothing}
-use Rattle.hb_core.proofs.RowTells.{Tells, TellsOp, tells_row}
-use Rattle.hb_core.proofs.StepKinds.{each_kind}
+use Rattle.hb_wal.specs.Log.{Waiting, left_waiting}
 
 -- What a store and the files over its disk have in common.
 pub record FilesHold (st : StoreState) (files : Files) : Type 0 where
@@ -76,7 +78,7 @@ keeps_marks m files has =
     }
 
 -- what a fetch brings is of the file
-pub brought_shown : (m : Machine) (files : Files) (may : ℕ → Type 0) (fetched : StoreState) → m.files ≡ Some files → Brings m.files may m.store fetched → FilesHold m.store files → FilesHold fetched files
+pub brought_shown : (m : Machine) (files : Files) (may : ℕ → Type 0) (fetched : StoreState) → m.files ≡ Some files → Brings m may fetched → FilesHold m.store files → FilesHold fetched files
 brought_shown m files may fetched told brings holds = record {
   durable = holds.durable;
   later = holds.later;
@@ -88,7 +90,7 @@ brought_shown m files may fetched told brings holds = record {
   where
     by : (id : ℕ) (page : Page) → (in_memory fetched) id ≡ Some page → (o : Option Page) → (in_memory m.store) id ≡ o → page_of (current_file files) id ≡ Some page
     by id page there None none = subst (λ (o : Option Files). IfSome o (λ files. page_of (current_file files) id ≡ Some page)) told (brings.told id page none there)
-    by id page there (Some old) some = holds.shown id page (sym (brings.stays id (subst (λ (o : Option Page). IsSome o) (sym some) refl)) ∙ there)
+    by id page there (Some old) some = holds.shown id page (sym (same_there m may fetched brings id old page some there) ∙ there)
 
 module _ (makes : MakesGoodPages) (parts : HaveFittingParts) (points : HeldArePoints) where
   -- what is told of an operation makes it one that may be done in the file
@@ -137,7 +139,7 @@ module _ (makes : MakesGoodPages) (parts : HaveFittingParts) (points : HeldArePo
           each = omega (arith, groups, more, holds.each);
           layout = subst IsLayout (sym does.commits.meta) well.after.limits.layout;
           meta = ap (λ (f : FileState). f.meta) last ∙ meta;
-          shown = λ id page there. ap (λ (f : FileState). page_of f id) last ∙ shown_after st s keeps file op does.allowed well id page (sym (does.commits.pages id) ∙ there);
+          shown = λ id page there. ap (λ (f : FileState). page_of f id) last ∙ shown_after st s keeps file op does.allowed well id page (sym (commit_pages _ _ _ _ does.commits id) ∙ there);
         }
 
     -- What is to be shown of a step: there are files afterwards, and they hold.
@@ -172,6 +174,20 @@ module _ (makes : MakesGoodPages) (parts : HaveFittingParts) (points : HeldArePo
       force_holds durable (next ∷ later) [] sound all each = absurd (omega (arith, each))
       force_holds durable (next ∷ later) (group ∷ groups) sound all each = (All-head IsSound next later all, All-tail IsSound next later all, omega (arith, each), refl)
 
+      failed : {most : ℕ} → FailsToWrite m most outcome new → HoldAfter new
+      failed fails = (
+        files,
+        ap (λ (n : Machine). n.files) fails.stops ∙ told,
+        subst (λ (n : Machine). FilesHold n.store files) (sym fails.stops) (record {
+          durable = holds.durable;
+          later = holds.later;
+          each = holds.each;
+          layout = holds.layout;
+          meta = holds.meta;
+          shown = holds.shown;
+        }),
+      )
+
       forces : (said : Outcome) → ForcesFirst m said outcome new → HoldAfter new
       forces said (inl (says, is)) =
           let both = force_holds files.durable files.later m.store.log.groups holds.durable holds.later holds.each in (
@@ -186,28 +202,33 @@ module _ (makes : MakesGoodPages) (parts : HaveFittingParts) (points : HeldArePo
               shown = λ id page there. ap (λ (f : FileState). page_of f id) both.3 ∙ holds.shown id page there;
             }),
           )
-      forces said (inr badly) = (
+      forces said (inr badly) = failed badly.1
+
+      flushed_more : FlushesMore m outcome new → HoldAfter new
+      flushed_more (none, left, inl (due, quiet, well)) = (
         files,
-        ap (λ (n : Machine). n.files) badly.stops ∙ told,
-        subst (λ (n : Machine). FilesHold n.store files) (sym badly.stops) (record {
+        ap (λ (n : Machine). n.files) well.leaves ∙ told,
+        subst (λ (n : Machine). FilesHold n.store files) (sym well.leaves) (record {
           durable = holds.durable;
           later = holds.later;
-          each = holds.each;
-          layout = holds.layout;
-          meta = holds.meta;
-          shown = holds.shown;
+          each = holds.each ∙ ap (λ (l : List Waiting). length l) (none ∙ sym well.no_group);
+          layout = subst IsLayout (sym well.meta) holds.layout;
+          meta = holds.meta ∙ sym well.meta;
+          shown = λ id page there. holds.shown id page (sym (well.memory id) ∙ there);
         }),
       )
+      flushed_more (none, left, inr fails) = failed fails
 
       worked : Works m actor outcome new → HoldAfter new
       worked (inl (by, way, so)) = stays (outcomes.Blocked by) so
       worked (inr (inl (free, unready, inl (waits, force)))) = forces outcomes.Helped force
-      worked (inr (inl (free, unready, inr (none, performs)))) = performed m.store _ keeps holds (nothing_told m.store _ (runs_out_nothing m (m.activity actor))) performs
+      worked (inr (inl (free, unready, inr (none, rest)))) =
+          rest_kind m outcomes.Helped outcome new _ (HoldAfter new) none (λ at. refl) flushed_more (λ performs. performed m.store _ keeps holds (nothing_told m.store _ (runs_out_nothing (m.activity actor))) performs) rest
       worked (inr (inr (free, ready, inl acts))) =
           performed acts.fetched acts.deed (brought m _ acts.fetched acts.brings keeps) (brought_shown m files _ acts.fetched told acts.brings holds)
           (tells_row m actor _ acts.fetched acts.brings (wanted_by m actor) acts.deed refl (fit.in_hand actor) acts.row) acts.performs
       worked (inr (inr (free, ready, inr (inl gives)))) =
-          performed gives.fetched _ (brought m _ gives.fetched gives.brings keeps) (brought_shown m files _ gives.fetched told gives.brings holds) (nothing_told gives.fetched _ (gives_up_nothing m gives.why (m.activity actor))) gives.performs
+          performed gives.fetched _ (brought m _ gives.fetched gives.brings keeps) (brought_shown m files _ gives.fetched told gives.brings holds) (nothing_told gives.fetched _ (gives_up_nothing gives.why (m.activity actor))) gives.performs
       worked (inr (inr (free, ready, inr (inr bad)))) = meets bad
 
     pub files_stay_sound : FilesStaySound
@@ -217,6 +238,7 @@ module _ (makes : MakesGoodPages) (parts : HaveFittingParts) (points : HeldArePo
         let after = each_kind m actor outcome new (HoldAfter new)
         (λ said quiet so. stays m files actor outcome new told fit keeps holds said so)
         (λ said quiet force. forces m files actor outcome new told fit keeps holds said force)
+        (flushed_more m files actor outcome new told fit keeps holds)
         (λ deed rests performs. performed m files actor outcome new told fit keeps holds m.store deed keeps holds (nothing_told m files actor outcome new told fit keeps holds m.store deed.op rests.op) performs)
         (worked m files actor outcome new told fit keeps holds)
         step in

@@ -1,23 +1,39 @@
 -- A page that is to be split lacks room for its insert, and of its two halves one has room.
+use Rattle.hb_core.proofs.CommitPages.{commit_pages}
+use Rattle.hb_core.proofs.NextNumbers.{is_next_number}
 use Rattle.std.proofs.Common.{◌≡◌, ◌≢◌, ◌⊎◌, inl, inr, ℕ, ◌==◌, ◌*◌, ◌<◌, ◌≤◌, ◌+◌, Bool, cond, List, [], ◌∷◌, length, get_or, Option, Some, None, IsSome, IfSome, refl, sym, ap, ◌∙◌, subst, arith}
 use Rattle.std.proofs.lemmas.Bool.{eq-eqb, ne_eqb}
 use Rattle.std.proofs.lemmas.List.Elements.{Contains-get_or}
 use Rattle.std.proofs.lemmas.Option.{same_Some}
-use Rattle.hb_space.specs.Boxes.{Area, IsArea}
 use Rattle.hb_space.specs.declared.records.Record.{Record}
-use Rattle.hb_layout.specs.Limits.{IsLayout}
 use Rattle.hb_layout.specs.declared.limits.TheConstants.{DCAP_MIN}
 use Rattle.hb_layout.specs.declared.meta.Meta.{Meta}
 use Rattle.hb_frag.specs.declared.leaves.Leaf.TheVariants.{Records, Sibling}
 use Rattle.hb_frag.specs.declared.pages.LivePage.{LivePage}
 use Rattle.hb_frag.specs.declared.pages.Page.{Page}
 use Rattle.hb_frag.specs.declared.pages.Page.TheVariants.{Free, Live}
+use Rattle.hb_ops.specs.declared.operations.Op.{Op}
+use Rattle.hb_ops.specs.declared.operations.Op.TheVariants as ops
+use Rattle.hb_set.specs.declared.scripts.Line.{Line}
+use Rattle.hb_activity.specs.Deeds.{Deed}
+use Rattle.hb_core.proofs.Backing.{live_there}
+use Rattle.hb_core.proofs.BroughtPages.{both_there, same_there}
+use Rattle.hb_core.proofs.LaterPages.{last_sound}
+use Rattle.hb_core.proofs.NextPlaces.{TakesFull, now}
+use Rattle.hb_core.proofs.OwnedOps.{made_was_free}
+use Rattle.hb_core.proofs.SplitHome.{IsHome, RoomLaws, never_both, one_is_home, t, two}
+use Rattle.hb_core.proofs.SplitWeights.{both_have_room, parted_weighs, put_weighs}
+use Rattle.hb_core.proofs.StillThere.{fetched_good, nothing_done}
+use Rattle.hb_core.specs.Fetching.{Brings}
+use Rattle.hb_core.specs.Keeps.{HasRoomFor, HasSoundFile, HoldsPagesOfFile, LacksRoomFor, OneHasRoom}
+use Rattle.hb_core.specs.Machines.{Files, Machine, current_file, live_here, sight}
+use Rattle.hb_core.specs.Performing.{DoesOp, MayDo}
 use Rattle.hb_frag.specs.Leaves.{DirectlyHolds, Placed, leaves_of, siblings_of, weight_of}
 use Rattle.hb_frag.specs.Paths.{part_at}
 use Rattle.hb_frag.specs.Rules.{capacity_of}
 use Rattle.hb_frag.specs.Trees.{Tree, Tip}
-use Rattle.hb_ops.specs.declared.operations.Op.{Op}
-use Rattle.hb_ops.specs.declared.operations.Op.TheVariants as ops
+use Rattle.hb_layout.specs.Limits.{IsLayout}
+use Rattle.hb_ops.proofs.Tips.{first_held}
 use Rattle.hb_ops.specs.Cutting.{cut_through, reached}
 use Rattle.hb_ops.specs.Extracting.{FitsExtract, fresh_page, source_page, split_pages}
 use Rattle.hb_ops.specs.Files.{FileState, if_live, live_page, page_of}
@@ -26,27 +42,14 @@ use Rattle.hb_ops.specs.PlacedLaws.{placed, sibling_is_leaf}
 use Rattle.hb_ops.specs.Recording.{put_page}
 use Rattle.hb_ops.specs.Sound.{FitsFile, IsSound}
 use Rattle.hb_ops.specs.Standing.{StandsNot}
-use Rattle.hb_ops.proofs.Tips.{first_held}
-use Rattle.hb_split.specs.Laws.{IsThirds}
-use Rattle.hb_split.proofs.Ends.{is_thirds}
-use Rattle.hb_set.specs.declared.scripts.Line.{Line}
+use Rattle.hb_point.specs.SplitRows.{Splits}
 use Rattle.hb_sound.specs.LawsOfOperations.{ChangesTwo}
+use Rattle.hb_space.specs.Boxes.{Area, IsArea}
+use Rattle.hb_split.proofs.Ends.{is_thirds}
+use Rattle.hb_split.specs.Laws.{IsThirds}
 use Rattle.hb_store.specs.Calls.{change_here, read_here}
 use Rattle.hb_store.specs.Replay.{set_pages}
 use Rattle.hb_store.specs.States.{StoreState, in_memory}
-use Rattle.hb_core.specs.Machines.{Files, Machine, current_file, live_here}
-use Rattle.hb_core.specs.Fetching.{Brings}
-use Rattle.hb_core.specs.Deeds.{Deed}
-use Rattle.hb_core.specs.Performing.{DoesOp, MayDo}
-use Rattle.hb_core.specs.SplitRows.{Splits}
-use Rattle.hb_core.specs.Keeps.{HasRoomFor, HasSoundFile, HoldsPagesOfFile, LacksRoomFor, OneHasRoom}
-use Rattle.hb_core.proofs.Backing.{live_there}
-use Rattle.hb_core.proofs.LaterPages.{last_sound}
-use Rattle.hb_core.proofs.NextPlaces.{TakesFull, now}
-use Rattle.hb_core.proofs.OwnedOps.{made_was_free}
-use Rattle.hb_core.proofs.SplitHome.{IsHome, RoomLaws, never_both, one_is_home, t, two}
-use Rattle.hb_core.proofs.SplitWeights.{both_have_room, parted_weighs, put_weighs}
-use Rattle.hb_core.proofs.StillThere.{fetched_good, nothing_done, still_fetched}
 
 -- ---- the file as the steps see it
 
@@ -57,12 +60,10 @@ module _ (m : Machine) (files : Files) (told : m.files ≡ Some files) (sound : 
   pub sound_now : IsSound s
   sound_now = last_sound files.durable files.later sound.durable sound.later
 
-  module _ (may : ℕ → Type 0) (fetched : StoreState) (brings : Brings m.files may m.store fetched) where
+  module _ (may : ℕ → Type 0) (fetched : StoreState) (brings : Brings m may fetched) where
     by_frame : (id : ℕ) (page : Page) (o : Option Page) → (in_memory m.store) id ≡ o → (in_memory fetched) id ≡ Some page → page_of s id ≡ Some page
     by_frame id page None none there = subst (λ (o : Option Files). IfSome o (λ files. page_of (current_file files) id ≡ Some page)) told (brings.told id page none there)
-    by_frame id page (Some old) some there =
-        let is : IsSome (in_memory m.store id) = subst (λ (o : Option Page). IsSome o) (sym some) refl in
-        sound.shown id page (sym (brings.stays id is) ∙ there)
+    by_frame id page (Some old) some there = sound.shown id page (sym (same_there m may fetched brings id old page some there) ∙ there)
 
     -- what is in memory after a fetch is the file's
     pub fetched_in_file : (id : ℕ) (page : Page) → (in_memory fetched) id ≡ Some page → page_of s id ≡ Some page
@@ -94,7 +95,7 @@ light_page meta page made level =
     let capacity : capacity_of page.level meta.dcap meta.icap ≡ meta.dcap = ap (λ (b : Bool). cond b meta.dcap meta.icap) (eq-eqb page.level 0 level) in
     omega (arith, light, capacity)
 
-module _ (m : Machine) (actor : ℕ) (may : ℕ → Type 0) (fetched : StoreState) (inside : HoldsPagesOfFile m) (brings : Brings m.files may m.store fetched) (deed : Deed) (new : Machine) (does : MayDo deed.op (length m.order) fetched new.store) (laws : RoomLaws) where
+module _ (m : Machine) (actor : ℕ) (may : ℕ → Type 0) (fetched : StoreState) (inside : HoldsPagesOfFile m) (brings : Brings m may fetched) (deed : Deed) (new : Machine) (does : MayDo deed.op (length m.order) fetched new.store) (laws : RoomLaws) where
   pub takes_full : (full : TakesFull (now m actor fetched) deed) → LacksRoomFor new full.id full.rec.key full.rec.body
   takes_full full =
       let store = nothing_done deed.op _ fetched new.store (ap (λ (d : Deed). d.op) full.row.deed_is) does in
@@ -110,8 +111,8 @@ module _ (m : Machine) (actor : ℕ) (may : ℕ → Type 0) (fetched : StoreStat
 
 -- ---- a page that is split
 
-module _ (m : Machine) (files : Files) (actor : ℕ) (may : ℕ → Type 0) (fetched : StoreState) (told : m.files ≡ Some files) (inside : HoldsPagesOfFile m) (sound : HasSoundFile m files) (brings : Brings m.files may m.store fetched) (laws : RoomLaws) (least : DCAP_MIN ≡ 6)
-    (new : Machine) (capacity : new.store.meta.dcap ≡ m.store.meta.dcap) (line : Line) (held : ℕ) (deed : Deed) (row : Splits (now m actor fetched) line held deed) (done : MayDo deed.op (length m.order) fetched new.store) (rec : Record) (lacks : LacksRoomFor m held rec.key rec.body) where
+module _ (m : Machine) (files : Files) (actor : ℕ) (may : ℕ → Type 0) (fetched : StoreState) (told : m.files ≡ Some files) (inside : HoldsPagesOfFile m) (sound : HasSoundFile m files) (brings : Brings m may fetched) (laws : RoomLaws) (least : DCAP_MIN ≡ 6)
+    (new : Machine) (capacity : new.store.meta.dcap ≡ m.store.meta.dcap) (line : Line) (held : ℕ) (deed : Deed) (row : Splits (sight (now m actor fetched)) line held deed) (done : MayDo deed.op (length m.order) fetched new.store) (rec : Record) (lacks : LacksRoomFor m held rec.key rec.body) where
   abbrev split : Op
   split = ops.Extract held row.leaves.fresh row.leaves.path row.leaves.cuts row.leaves.free_after
 
@@ -123,7 +124,7 @@ module _ (m : Machine) (files : Files) (actor : ℕ) (may : ℕ → Type 0) (fet
 
   -- the page that lacked room
   same_page : lacks.page ≡ page
-  same_page = same_Some lacks.page page (sym (still_fetched m may fetched brings held lacks.page lacks.live) ∙ row.live)
+  same_page = same_Some lacks.page page (sym (both_there m may fetched brings held lacks.page page lacks.live row.live) ∙ row.live)
 
   abbrev p : List ℕ
   p = rec.key
@@ -163,7 +164,7 @@ module _ (m : Machine) (files : Files) (actor : ℕ) (may : ℕ → Type 0) (fet
 
   licensed : IsLicensed file split
   licensed some =
-      let chain = row.leaves.next.from_chain (λ none. some (sym (ap (λ (meta : Meta). meta.free) same_meta) ∙ none)) in
+      let chain = (is_next_number fetched row.leaves.fresh row.leaves.free_after row.leaves.next).from_chain (λ none. some (sym (ap (λ (meta : Meta). meta.free) same_meta) ∙ none)) in
       fetched_in_file m files told sound may fetched brings row.leaves.fresh (Free row.leaves.free_after) chain.1
 
   -- both pages in memory
@@ -182,10 +183,10 @@ module _ (m : Machine) (files : Files) (actor : ℕ) (may : ℕ → Type 0) (fet
       ∙ ap (λ (o : Option (Tree × Area)). split_pages held row.leaves.fresh row.leaves.path row.leaves.cuts page o) row.leaves.there
 
   frame_is : (id : ℕ) → (in_memory new.store) id ≡ set_pages changed (in_memory fetched) id
-  frame_is id = does.commits.pages id ∙ ap (λ (pages : List (ℕ × Page)). set_pages pages (in_memory fetched) id) changed_are
+  frame_is id = commit_pages _ _ _ _ does.commits id ∙ ap (λ (pages : List (ℕ × Page)). set_pages pages (in_memory fetched) id) changed_are
 
   apart : held ≢ row.leaves.fresh
-  apart same = made_was_free m may fetched row.leaves.fresh row.leaves.free_after inside brings row.leaves.next page (subst (λ (n : ℕ). (in_memory m.store) n ≡ Some (Live page)) same (live_there (in_memory m.store held) page live_before))
+  apart same = made_was_free m may fetched row.leaves.fresh row.leaves.free_after inside brings (is_next_number fetched row.leaves.fresh row.leaves.free_after row.leaves.next) page (subst (λ (n : ℕ). (in_memory m.store) n ≡ Some (Live page)) same (live_there (in_memory m.store held) page live_before))
 
   source_there : live_here new.store held ≡ Some source
   source_there =

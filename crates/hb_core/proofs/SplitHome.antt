@@ -3,31 +3,31 @@ use Rattle.std.proofs.Common.{◌≡◌, ◌⊎◌, inl, inr, ℕ, ◌+◌, ◌<
 use Rattle.std.specs.FinMap as finite
 use Rattle.std.proofs.lemmas.List.Elements.{All-contains}
 use Rattle.std.proofs.lemmas.Option.{none-some, same_Some, slice_get-get_or}
-use Rattle.hb_space.specs.Points.{IsPoint}
-use Rattle.hb_space.specs.Boxes.{Area, Holds, IsArea}
 use Rattle.hb_space.specs.declared.records.Record.{Record}
-use Rattle.hb_layout.specs.Limits.{IsLayout}
 use Rattle.hb_layout.specs.declared.meta.Meta.{Meta}
 use Rattle.hb_frag.specs.declared.leaves.Leaf.{Leaf}
 use Rattle.hb_frag.specs.declared.leaves.Leaf.TheVariants.{Records, Child, Sibling}
 use Rattle.hb_frag.specs.declared.pages.LivePage.{LivePage}
 use Rattle.hb_frag.specs.declared.paths.Side.{Side}
+use Rattle.hb_ops.specs.declared.leaf_cuts.LeafCut.{LeafCut}
+use Rattle.hb_ops.specs.declared.operations.Op.{Op}
+use Rattle.hb_ops.specs.declared.operations.Op.TheVariants as ops
 use Rattle.hb_frag.specs.Leaves.{DirectlyHolds, Placed, leaf_at, leaves, leaves_of, siblings_of, weight_of}
 use Rattle.hb_frag.specs.Paths.{part_at, with_part}
 use Rattle.hb_frag.specs.Rules.{BelongsAt}
 use Rattle.hb_frag.specs.Trees.{Tree}
-use Rattle.hb_ops.specs.declared.leaf_cuts.LeafCut.{LeafCut}
-use Rattle.hb_ops.specs.declared.operations.Op.{Op}
-use Rattle.hb_ops.specs.declared.operations.Op.TheVariants as ops
+use Rattle.hb_layout.specs.Limits.{IsLayout}
 use Rattle.hb_ops.specs.Files.{FileState, contents_of, live_page}
 use Rattle.hb_ops.specs.Operations.{IsAllowed, IsLicensed, change_of, effect_of, nth_read}
 use Rattle.hb_ops.specs.PlacedLaws.{leaf_is_sibling, placed, placed_is_leaf}
 use Rattle.hb_ops.specs.Sound.{FitsFile, IsSound}
 use Rattle.hb_ops.specs.Standing.{StandsNot, StandsThere}
+use Rattle.hb_sound.proofs.OneLevel.{TreeLaws}
 use Rattle.hb_sound.specs.Laws.{LackIsContents, PagesHaveBoxes, StandingIsContents}
 use Rattle.hb_sound.specs.LawsOfOperations.{ChangesTwo, HasDirectly, OperationsKeepLayout, SplitsChangeTwo, SplitsKeepContents, SplitsKeepSound, SplitsPartDirect}
 use Rattle.hb_sound.specs.PointWalks.{IsPointOf}
-use Rattle.hb_sound.proofs.OneLevel.{TreeLaws}
+use Rattle.hb_space.specs.Boxes.{Area, Holds, IsArea}
+use Rattle.hb_space.specs.Points.{IsPoint}
 
 -- what the laws of pages and files say
 pub record RoomLaws : Type 0 where

@@ -5,21 +5,21 @@ use Rattle.std.proofs.lemmas.List.{length-append}
 use Rattle.std.specs.Ordering.{is_lt, is_gt}
 use Rattle.std.specs.declared.cmp.Ordering.{Ordering}
 use Rattle.std.specs.declared.cmp.Ordering.TheVariants.{Less, Equal, Greater}
-use Rattle.hb_space.specs.Points.{point_cmp}
-use Rattle.hb_space.specs.Boxes.{Area}
 use Rattle.hb_space.specs.declared.records.Record.{Record}
 use Rattle.hb_frag.specs.declared.leaves.Leaf.TheVariants.{Records, Sibling}
 use Rattle.hb_frag.specs.declared.pages.LivePage.{LivePage}
 use Rattle.hb_frag.specs.declared.paths.Side.{Side}
 use Rattle.hb_frag.specs.declared.paths.Side.TheVariants.{Left, Right}
+use Rattle.hb_ops.specs.declared.leaf_cuts.LeafCut.{LeafCut}
+use Rattle.hb_frag.proofs.Parts.{weight_cut}
 use Rattle.hb_frag.specs.Leaves.{WellCut, leaf_at, weight_of}
 use Rattle.hb_frag.specs.Trees.{Tree, Tip}
-use Rattle.hb_frag.proofs.Parts.{weight_cut}
-use Rattle.hb_ops.specs.declared.leaf_cuts.LeafCut.{LeafCut}
+use Rattle.hb_ops.proofs.Opened.{weight_changed}
 use Rattle.hb_ops.specs.Cutting.{PartLeaves, PartsLeaf, cut_through, cut_with, going, half_area, reached, staying}
 use Rattle.hb_ops.specs.LeafHalfLaws.{both_halves}
 use Rattle.hb_ops.specs.Recording.{joined, put_page}
-use Rattle.hb_ops.proofs.Opened.{weight_changed}
+use Rattle.hb_space.specs.Boxes.{Area}
+use Rattle.hb_space.specs.Points.{point_cmp}
 
 -- ---- one record more
 

@@ -9,32 +9,31 @@ use Rattle.hb_activity.specs.declared.activities.Activity.TheVariants as at
 use Rattle.hb_store.specs.declared.stops.StopWhy.{StopWhy}
 use Rattle.hb_core.specs.declared.outcomes.Outcome.{Outcome}
 use Rattle.hb_core.specs.declared.outcomes.Outcome.TheVariants as outcomes
+use Rattle.hb_activity.specs.Deeds.{Deed, answers_now}
+use Rattle.hb_core.proofs.MergerMoves.{Waits}
+use Rattle.hb_core.proofs.StepKinds.{FlushesMore, IsQuiet, rest_kind}
+use Rattle.hb_core.specs.Forcing.{Flushes, ForcesFirst, StaysSo}
 use Rattle.hb_core.specs.Machines.{Machine, settled_count}
-use Rattle.hb_core.specs.Deeds.{Deed, answers_now}
 use Rattle.hb_core.specs.Performing.{Performs}
 use Rattle.hb_core.specs.Stages.{flusher_steps}
-use Rattle.hb_core.specs.Forcing.{Flushes, ForcesFirst, StaysSo}
-use Rattle.hb_core.specs.SessionRows.{next_line, taking}
-use Rattle.hb_core.specs.WorkerRows.{TakesJob}
-use Rattle.hb_core.specs.ConsolidatorRows.{TakesMerging}
-use Rattle.hb_core.specs.Steps.{AwaitsPlace, StepsAs, StepsTo, TakesJobToMerge, TakesPosting, WantsBoxes, Works}
-use Rattle.hb_core.proofs.LineFates.{Waits}
-use Rattle.hb_core.proofs.StepKinds.{IsQuiet}
+use Rattle.hb_core.specs.Steps.{TakesJob, TakesMerging, AwaitsPlace, StepsAs, StepsTo, TakesJobToMerge, TakesPosting, Works}
+use Rattle.hb_point.specs.SessionRows.{next_line, taking, WantsBoxes}
 
 -- What is to be shown of each case.
 pub record ShowsEach (m : Machine) (actor : ℕ) (outcome : Outcome) (new : Machine) (G : Type 0) : Type 0 where
   pub stays : (said : Outcome) → StaysSo m said outcome new → G
   pub forces : (said : Outcome) → IsQuiet said → ForcesFirst m said outcome new → G
-  pub takes : (line : Line) → m.activity actor ≡ at.SessionIdle → next_line actor m.answered m.lines ≡ Some line → Performs m m.store actor (taking m line) outcome new → G
-  pub refuses : (line : Line) → m.activity actor ≡ at.SessionIdle → next_line actor m.answered m.lines ≡ Some line → Performs m m.store actor (answers_now m line.number replies.NoMemory) outcome new → G
+  pub more : FlushesMore m outcome new → G
+  pub takes : (line : Line) → m.activity actor ≡ at.SessionIdle → next_line actor m.answered m.lines ≡ Some line → Performs m m.store actor (taking line) outcome new → G
+  pub refuses : (line : Line) → m.activity actor ≡ at.SessionIdle → next_line actor m.answered m.lines ≡ Some line → Performs m m.store actor (answers_now line.number replies.NoMemory) outcome new → G
   pub posts : (deed : Deed) → m.activity actor ≡ at.PosterIdle → TakesJob m deed → Performs m m.store actor deed outcome new → G
   pub merges : (deed : Deed) → m.activity actor ≡ at.ConsolidatorIdle → TakesMerging m deed → Performs m m.store actor deed outcome new → G
-  pub settles : (number place : ℕ) (reply : Reply) → m.activity actor ≡ at.SessionAwait number reply place → place < settled_count m → Performs m m.store actor (answers_now m number reply) outcome new → G
+  pub settles : (number place : ℕ) (reply : Reply) → m.activity actor ≡ at.SessionAwait number reply place → place < settled_count m → Performs m m.store actor (answers_now number reply) outcome new → G
   pub works : (Waits (m.activity actor) → ⊥) → Works m actor outcome new → G
 
 module _ (m : Machine) (actor : ℕ) (outcome : Outcome) (new : Machine) (G : Type 0) (shows : ShowsEach m actor outcome new G) where
   took_line : (line : Option Line) → m.activity actor ≡ at.SessionIdle → next_line actor m.answered m.lines ≡ line
-      → MatchOption line (StaysSo m outcomes.Idle outcome new) (λ line. Performs m m.store actor (taking m line) outcome new ⊎ (WantsBoxes line.command × Performs m m.store actor (answers_now m line.number replies.NoMemory) outcome new)) → G
+      → MatchOption line (StaysSo m outcomes.Idle outcome new) (λ line. Performs m m.store actor (taking line) outcome new ⊎ (WantsBoxes line.command × Performs m m.store actor (answers_now line.number replies.NoMemory) outcome new)) → G
   took_line None idle next so = shows.stays outcomes.Idle so
   took_line (Some line) idle next (inl performs) = shows.takes line idle next performs
   took_line (Some line) idle next (inr (boxes, performs)) = shows.refuses line idle next performs
@@ -50,7 +49,7 @@ module _ (m : Machine) (actor : ℕ) (outcome : Outcome) (new : Machine) (G : Ty
   flushed : (on : Bool) → Flushes on m outcome new → G
   flushed false so = shows.stays outcomes.Idle so
   flushed true (inl (waits, force)) = shows.forces outcomes.Moved (λ at. refl) force
-  flushed true (inr (none, so)) = shows.stays outcomes.Idle so
+  flushed true (inr (none, rest)) = rest_kind m outcomes.Moved outcome new (StaysSo m outcomes.Idle outcome new) G none (λ at. refl) shows.more (shows.stays outcomes.Idle) rest
 
   awaited : (number place : ℕ) (reply : Reply) → m.activity actor ≡ at.SessionAwait number reply place → AwaitsPlace m actor number reply place outcome new → G
   awaited number place reply is (inl (settled, performs)) = shows.settles number place reply is settled performs

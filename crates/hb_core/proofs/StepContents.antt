@@ -7,34 +7,14 @@ use Rattle.std.specs.declared.cmp.Ordering.{Ordering}
 use Rattle.std.specs.declared.cmp.Ordering.TheVariants.{Less, Equal, Greater}
 use Rattle.std.proofs.lemmas.Bool.{cases_Bool, false≢true}
 use Rattle.std.proofs.lemmas.Cmp.{nat_list_cmp_total}
-use Rattle.hb_space.specs.Points.{point_cmp}
-use Rattle.hb_layout.specs.Limits.{IsLayout}
 use Rattle.hb_ops.specs.declared.operations.Op.{Op}
 use Rattle.hb_ops.specs.declared.operations.Op.TheVariants as ops
-use Rattle.hb_ops.specs.Files.{FileState, contents_of}
-use Rattle.hb_ops.specs.Operations.{effect_of}
-use Rattle.hb_set.specs.Machine.{RecordSet, if_there, set_after}
-use Rattle.hb_set.specs.Order.{Entry}
 use Rattle.hb_set.specs.declared.commands.Command.{Command}
 use Rattle.hb_set.specs.declared.commands.Command.TheVariants.{Insert, Delete, Lookup, Search}
-use Rattle.hb_sound.specs.Laws.{LackIsContents, StandingIsContents}
-use Rattle.hb_sound.specs.LawsOfOperations.{ContentsBecome, OperationsKeepContents}
-use Rattle.hb_store.specs.Calls.{durable_after, later_after}
-use Rattle.hb_store.specs.Keeps.{last_of}
-use Rattle.hb_store.specs.Making.{HaveFittingParts, MakesGoodPages}
-use Rattle.hb_store.specs.ReplayLaws.{last_of-append}
-use Rattle.hb_store.specs.States.{StoreState}
 use Rattle.hb_core.specs.declared.outcomes.Outcome.{Outcome}
 use Rattle.hb_core.specs.declared.outcomes.Outcome.TheVariants as outcomes
-use Rattle.hb_core.specs.Machines.{Files, Machine, current_file, if_some}
-use Rattle.hb_core.specs.Asking.{wanted_by}
-use Rattle.hb_core.specs.Deeds.{Deed}
-use Rattle.hb_core.specs.Performing.{MayDo, Performs, files_after, with_effect}
-use Rattle.hb_core.specs.Acting.{MeetsBadPage}
-use Rattle.hb_core.specs.Forcing.{ForcesFirst, StaysSo, forced_files}
-use Rattle.hb_core.specs.KeptLines.{LinesFit, line_in_hand}
-use Rattle.hb_core.specs.ContentsLaws.{ChangesAt, ContentsFollowOrder, ContentsStep, PointsStay, contents_now}
-use Rattle.hb_core.specs.Steps.{StepsTo, Works}
+use Rattle.hb_activity.specs.Classes.{line_in_hand}
+use Rattle.hb_activity.specs.Deeds.{Deed, does}
 use Rattle.hb_core.proofs.FitOps.{HeldArePoints}
 use Rattle.hb_core.proofs.KeptPages.{KeepsPages, brought, keeps_pages}
 use Rattle.hb_core.proofs.LineFates.{given_up_joins_nothing, ran_out_joins_nothing}
@@ -43,6 +23,28 @@ use Rattle.hb_core.proofs.RowContents.{Becomes, JoinsWith, joins_row}
 use Rattle.hb_core.proofs.RowTells.{Tells, tells_row}
 use Rattle.hb_core.proofs.SoundFiles.{FilesHold, brought_shown, files_hold, keeps_marks, may_be_done, shows_file}
 use Rattle.hb_core.proofs.StepCases.{each_step}
+use Rattle.hb_core.proofs.StepKinds.{FlushesMore, rest_kind}
+use Rattle.hb_core.specs.Acting.{MeetsBadPage}
+use Rattle.hb_core.specs.Asking.{wanted_by}
+use Rattle.hb_core.specs.ContentsLaws.{ChangesAt, ContentsFollowOrder, ContentsStep, PointsStay, contents_now}
+use Rattle.hb_core.specs.Forcing.{ForcesFirst, StaysSo, forced_files}
+use Rattle.hb_core.specs.KeptLines.{LinesFit}
+use Rattle.hb_core.specs.Machines.{Files, Machine, current_file, if_some}
+use Rattle.hb_core.specs.Performing.{MayDo, Performs, files_after, with_effect}
+use Rattle.hb_core.specs.Steps.{StepsTo, Works}
+use Rattle.hb_layout.specs.Limits.{IsLayout}
+use Rattle.hb_ops.specs.Files.{FileState, contents_of}
+use Rattle.hb_ops.specs.Operations.{effect_of}
+use Rattle.hb_set.specs.Machine.{RecordSet, if_there, set_after}
+use Rattle.hb_set.specs.Order.{Entry}
+use Rattle.hb_sound.specs.Laws.{LackIsContents, StandingIsContents}
+use Rattle.hb_sound.specs.LawsOfOperations.{ContentsBecome, OperationsKeepContents}
+use Rattle.hb_space.specs.Points.{point_cmp}
+use Rattle.hb_store.specs.Calls.{durable_after, later_after}
+use Rattle.hb_store.specs.Keeps.{last_of}
+use Rattle.hb_store.specs.Making.{HaveFittingParts, MakesGoodPages}
+use Rattle.hb_store.specs.ReplayLaws.{last_of-append}
+use Rattle.hb_store.specs.States.{StoreState}
 
 -- ---- what an operation does
 
@@ -72,7 +74,7 @@ module _ (makes : MakesGoodPages) (parts : HaveFittingParts) (points : HeldArePo
 
   forces : (said : Outcome) → ForcesFirst m said outcome new → Follows
   forces said (inl (says, is)) = unmoved (forced_files files) (ap (λ (n : Machine). n.files) is ∙ ap (option_map forced_files) told) (ap (λ (n : Machine). n.order) is) (last_forced files.durable files.later)
-  forces said (inr badly) = unmoved files (ap (λ (n : Machine). n.files) badly.stops ∙ told) (ap (λ (n : Machine). n.order) badly.stops) refl
+  forces said (inr badly) = unmoved files (ap (λ (n : Machine). n.files) badly.1.stops ∙ told) (ap (λ (n : Machine). n.order) badly.1.stops) refl
 
   meets : MeetsBadPage m actor outcome new → Follows
   meets bad = unmoved files (ap (λ (n : Machine). n.files) bad.stops ∙ told) (ap (λ (n : Machine). n.order) bad.stops) refl
@@ -101,10 +103,15 @@ module _ (makes : MakesGoodPages) (parts : HaveFittingParts) (points : HeldArePo
   joined after None order same = inl (order ∙ append-nil m.order, same)
   joined after (Some entry) order takes = inr (entry, order, takes)
 
+  flushed_more : FlushesMore m outcome new → Follows
+  flushed_more (none, left, inl (due, quiet, well)) = unmoved files (ap (λ (n : Machine). n.files) well.leaves ∙ told) (ap (λ (n : Machine). n.order) well.leaves) refl
+  flushed_more (none, left, inr fails) = unmoved files (ap (λ (n : Machine). n.files) fails.stops ∙ told) (ap (λ (n : Machine). n.order) fails.stops) refl
+
   worked : Works m actor outcome new → Follows
   worked (inl (by, way, so)) = stays (outcomes.Blocked by) so
   worked (inr (inl (free, unready, inl (waits, force)))) = forces outcomes.Helped force
-  worked (inr (inl (free, unready, inr (none, performs)))) = quiet m.store _ (runs_out_nothing m (m.activity actor)) (ran_out_joins_nothing m (m.activity actor)) performs
+  worked (inr (inl (free, unready, inr (none, rest)))) =
+      rest_kind m outcomes.Helped outcome new _ Follows none (λ at. refl) flushed_more (quiet m.store _ (runs_out_nothing (m.activity actor)) (ran_out_joins_nothing (m.activity actor))) rest
   worked (inr (inr (free, ready, inl acts))) =
       let here = brought m _ acts.fetched acts.brings keeps in
       let hold = brought_shown m files _ acts.fetched told acts.brings holds in
@@ -115,13 +122,14 @@ module _ (makes : MakesGoodPages) (parts : HaveFittingParts) (points : HeldArePo
         joined done.0 acts.deed.joins acts.performs.order
             (joins_row points standing lacking m acts.fetched (current_file files) here (shows_file acts.fetched files hold) (contents_now done.0) (m.activity actor) (wanted_by m actor) acts.deed done.2 acts.row),
       )
-  worked (inr (inr (free, ready, inr (inl gives)))) = quiet gives.fetched _ (gives_up_nothing m gives.why (m.activity actor)) (given_up_joins_nothing m gives.why (m.activity actor)) gives.performs
+  worked (inr (inr (free, ready, inr (inl gives)))) = quiet gives.fetched _ (gives_up_nothing gives.why (m.activity actor)) (given_up_joins_nothing gives.why (m.activity actor)) gives.performs
   worked (inr (inr (free, ready, inr (inr bad)))) = meets bad
 
   pub follows : StepsTo m actor outcome new → Follows
   follows step = each_step m actor outcome new Follows (record {
     stays = λ said so. stays said so;
     forces = λ said quiet force. forces said force;
+    more = flushed_more;
     takes = λ line idle next performs. quiet m.store _ refl refl performs;
     refuses = λ line idle next performs. quiet m.store _ refl refl performs;
     posts = λ deed idle takes performs. quiet m.store deed (ap (λ (d : Deed). d.op) takes.deed_is) (ap (λ (d : Deed). d.joins) takes.deed_is) performs;

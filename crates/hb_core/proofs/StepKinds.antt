@@ -8,25 +8,35 @@ use Rattle.hb_set.specs.declared.scripts.Line.{Line}
 use Rattle.hb_activity.specs.declared.jobs.Job.{Job}
 use Rattle.hb_activity.specs.declared.activities.Activity.{Activity}
 use Rattle.hb_activity.specs.declared.activities.Activity.TheVariants as at
-use Rattle.hb_activity.specs.Walks.{walk_held}
-use Rattle.hb_store.specs.States.{StoreState}
 use Rattle.hb_store.specs.declared.stops.StopWhy.{StopWhy}
 use Rattle.hb_core.specs.declared.outcomes.Outcome.{Outcome}
 use Rattle.hb_core.specs.declared.outcomes.Outcome.TheVariants as outcomes
-use Rattle.hb_core.specs.Machines.{Machine}
-use Rattle.hb_core.specs.Deeds.{Deed, answers_now}
-use Rattle.hb_core.specs.Performing.{Performs, given_by, latches_held}
-use Rattle.hb_core.specs.Stages.{flusher_steps}
-use Rattle.hb_core.specs.Forcing.{Flushes, ForcesFirst, StaysSo}
-use Rattle.hb_core.specs.SessionRows.{next_line, taking}
-use Rattle.hb_core.specs.WorkerRows.{IsPostingOf}
-use Rattle.hb_core.specs.ConsolidatorRows.{IsMergingOf}
+use Rattle.hb_activity.specs.Deeds.{Deed, answers_now}
+use Rattle.hb_activity.specs.Walks.{walk_held}
+use Rattle.hb_consol.specs.ConsolidatorRows.{IsMergingOf}
+use Rattle.hb_core.specs.Forcing.{Flushes, ForcesFirst, StaysSo, FailsToWrite, FlushesRest, FlushesWell}
 use Rattle.hb_core.specs.KeptMerges.{merging_at}
-use Rattle.hb_core.specs.Steps.{AwaitsPlace, StepsAs, StepsTo, TakesJobToMerge, TakesPosting, WantsBoxes, Works}
+use Rattle.hb_core.specs.Machines.{Machine}
+use Rattle.hb_core.specs.Performing.{Performs, given_by, latches_held}
+use Rattle.hb_core.specs.Stages.{flusher_steps, HasMoreToFlush}
+use Rattle.hb_core.specs.Steps.{AwaitsPlace, StepsAs, StepsTo, TakesJobToMerge, TakesPosting, Works}
+use Rattle.hb_point.specs.SessionRows.{next_line, taking, WantsBoxes}
+use Rattle.hb_poster.specs.PosterRows.{IsPostingOf}
+use Rattle.hb_store.specs.States.{StoreState}
 
 -- an outcome that answers no line
 abbrev pub IsQuiet : Outcome → Type 0
 IsQuiet said = (at : ℕ) → given_by said at ≡ []
+
+-- Once no group waits, more is flushed, or a write fails.
+abbrev pub FlushesMore : Machine → Outcome → Machine → Type 0
+FlushesMore m outcome new = (m.store.log.groups ≡ []) × HasMoreToFlush m.store × (((due : Outcome) × IsQuiet due × FlushesWell m due outcome new) ⊎ FailsToWrite m 9 outcome new)
+
+-- So all that flushing comes to where no group waits.
+pub rest_kind : (m : Machine) (due outcome : Outcome) (new : Machine) (nothing G : Type 0) → m.store.log.groups ≡ [] → IsQuiet due → (FlushesMore m outcome new → G) → (nothing → G) → FlushesRest m due nothing outcome new → G
+rest_kind m due outcome new nothing G none quiet more done (inl (left, well)) = more (none, left, inl (due, quiet, well))
+rest_kind m due outcome new nothing G none quiet more done (inr (inl (left, fails))) = more (none, left, inr fails)
+rest_kind m due outcome new nothing G none quiet more done (inr (inr (nothing_left, so))) = done so
 
 -- A deed that is done outright: it does nothing to the file, and its actor holds nothing afterwards.
 pub record IsOutright (deed : Deed) : Type 0 where
@@ -54,8 +64,8 @@ merging_takes_nothing deed job height none (inl (above, is)) = rests deed none a
 merging_takes_nothing deed job height none (inr (below, is)) = rests deed none (at.ConsolidatorWalk job None) is refl (λ st. refl) refl
 
 module _ (m : Machine) (actor : ℕ) (outcome : Outcome) (new : Machine) (G : Type 0) (stays : (said : Outcome) → IsQuiet said → StaysSo m said outcome new → G) (forces : (said : Outcome) → IsQuiet said → ForcesFirst m said outcome new → G)
-    (outright : (deed : Deed) → IsOutright deed → Performs m m.store actor deed outcome new → G) (works : Works m actor outcome new → G) where
-  took_line : (line : Option Line) → MatchOption line (StaysSo m outcomes.Idle outcome new) (λ line. Performs m m.store actor (taking m line) outcome new ⊎ (WantsBoxes line.command × Performs m m.store actor (answers_now m line.number replies.NoMemory) outcome new)) → G
+    (more : FlushesMore m outcome new → G) (outright : (deed : Deed) → IsOutright deed → Performs m m.store actor deed outcome new → G) (works : Works m actor outcome new → G) where
+  took_line : (line : Option Line) → MatchOption line (StaysSo m outcomes.Idle outcome new) (λ line. Performs m m.store actor (taking line) outcome new ⊎ (WantsBoxes line.command × Performs m m.store actor (answers_now line.number replies.NoMemory) outcome new)) → G
   took_line None so = stays outcomes.Idle (λ at. refl) so
   took_line (Some line) (inl performs) = outright _ (record { op = refl; walk = refl; latches = λ st. refl; merging = refl }) performs
   took_line (Some line) (inr (boxes, performs)) = outright _ (record { op = refl; walk = refl; latches = λ st. refl; merging = refl }) performs
@@ -74,7 +84,7 @@ module _ (m : Machine) (actor : ℕ) (outcome : Outcome) (new : Machine) (G : Ty
   flushed : (on : Bool) → Flushes on m outcome new → G
   flushed false so = stays outcomes.Idle (λ at. refl) so
   flushed true (inl (waits, force)) = forces outcomes.Moved (λ at. refl) force
-  flushed true (inr (none, so)) = stays outcomes.Idle (λ at. refl) so
+  flushed true (inr (none, rest)) = rest_kind m outcomes.Moved outcome new (StaysSo m outcomes.Idle outcome new) G none (λ at. refl) more (stays outcomes.Idle (λ at. refl)) rest
 
   awaited : (number : ℕ) (reply : Reply) (place : ℕ) → AwaitsPlace m actor number reply place outcome new → G
   awaited number reply place (inl (settled, performs)) = outright _ (record { op = refl; walk = refl; latches = λ st. refl; merging = refl }) performs

@@ -5,24 +5,25 @@ use Rattle.hb_frag.specs.declared.pages.LivePage.{LivePage}
 use Rattle.hb_frag.specs.declared.pages.Page.{Page}
 use Rattle.hb_frag.specs.declared.pages.Page.TheVariants.{Live}
 use Rattle.hb_ops.specs.declared.operations.Op.{Op}
-use Rattle.hb_ops.specs.Files.{if_live}
 use Rattle.hb_latch.specs.declared.modes.Mode.{Mode}
-use Rattle.hb_latch.specs.Tables.{MayLatch, mode_at}
 use Rattle.hb_activity.specs.declared.activities.Activity.{Activity}
-use Rattle.hb_activity.specs.Walks.{walk_held}
-use Rattle.hb_store.specs.States.{IsGoodPage, StoreState, in_memory}
 use Rattle.hb_core.specs.declared.outcomes.Outcome.{Outcome}
-use Rattle.hb_core.specs.Machines.{Machine, live_here}
-use Rattle.hb_core.specs.Fetching.{Brings}
-use Rattle.hb_core.specs.Deeds.{Deed}
-use Rattle.hb_core.specs.Performing.{MayDo, Performs, latches_held, mode_among}
-use Rattle.hb_core.specs.Steps.{StepsTo}
-use Rattle.hb_core.specs.Keeps.{HoldsPagesOfFile, LatchesFit}
-use Rattle.hb_core.specs.KeepingLaws.{NobodyElseComes, NobodyElseLatches}
+use Rattle.hb_activity.specs.Deeds.{Deed}
+use Rattle.hb_activity.specs.Walks.{walk_held}
 use Rattle.hb_core.proofs.Backing.{live_there}
+use Rattle.hb_core.proofs.BroughtPages.{same_there}
 use Rattle.hb_core.proofs.LatchesStay.{walk_latched}
 use Rattle.hb_core.proofs.OwnPages.{held_pages_stay}
 use Rattle.hb_core.proofs.Ways.{others_stay}
+use Rattle.hb_core.specs.Fetching.{Brings}
+use Rattle.hb_core.specs.KeepingLaws.{NobodyElseComes, NobodyElseLatches}
+use Rattle.hb_core.specs.Keeps.{HoldsPagesOfFile, LatchesFit}
+use Rattle.hb_core.specs.Machines.{Machine, live_here}
+use Rattle.hb_core.specs.Performing.{MayDo, Performs, latches_held, mode_among}
+use Rattle.hb_core.specs.Steps.{StepsTo}
+use Rattle.hb_latch.specs.Tables.{MayLatch, mode_at}
+use Rattle.hb_ops.specs.Files.{if_live}
+use Rattle.hb_store.specs.States.{IsGoodPage, StoreState, in_memory}
 
 -- a page in use stands in both memories
 pub record StandsInBoth (old new : StoreState) (id : ℕ) (page : LivePage) : Type 0 where
@@ -53,19 +54,11 @@ nobody_else_latches m actor outcome new may nobody step other page none =
 pub nothing_done : (op : Option Op) (mark : ℕ) (fetched new : StoreState) → op ≡ None → MayDo op mark fetched new → new ≡ fetched
 nothing_done op mark fetched new none done = subst (λ (o : Option Op). MayDo o mark fetched new) none done
 
--- what was in memory in use is there after a fetch
-pub still_fetched : (m : Machine) (may : ℕ → Type 0) (fetched : StoreState) → Brings m.files may m.store fetched → (id : ℕ) (page : LivePage) → live_here m.store id ≡ Some page → live_here fetched id ≡ Some page
-still_fetched m may fetched brings id page live =
-    let there = live_there (in_memory m.store id) page live in
-    let some : IsSome (in_memory m.store id) = subst (λ (o : Option Page). IsSome o) (sym there) refl in
-    ap if_live (brings.stays id some) ∙ live
-
-module _ (m : Machine) (may : ℕ → Type 0) (fetched : StoreState) (inside : HoldsPagesOfFile m) (brings : Brings m.files may m.store fetched) where
+module _ (m : Machine) (may : ℕ → Type 0) (fetched : StoreState) (inside : HoldsPagesOfFile m) (brings : Brings m may fetched) where
   by_frame : (id : ℕ) (page : Page) (o : Option Page) → (in_memory m.store) id ≡ o → (in_memory fetched) id ≡ Some page → IsGoodPage m.store.meta page
   by_frame id page None none there = (brings.good id page none there).2
   by_frame id page (Some old) some there =
-      let is : IsSome (in_memory m.store id) = subst (λ (o : Option Page). IsSome o) (sym some) refl in
-      let same : (in_memory m.store) id ≡ Some page = sym (brings.stays id is) ∙ there in
+      let same : (in_memory m.store) id ≡ Some page = sym (same_there m may fetched brings id old page some there) ∙ there in
       (inside id page same).2
 
   -- what is in memory after a fetch keeps the rules that speak of a page alone

@@ -1,18 +1,18 @@
 -- The pages that an operation changes, and that no other does.
 use Rattle.std.proofs.Common.{◌≡◌, ◌⊎◌, inl, inr, ℕ, ◌==◌, Bool, cond, List, [], ◌∷◌, Option, Some, None, refl, ap, ◌∙◌}
 use Rattle.std.proofs.lemmas.Bool.{cases_Bool, eqb-true}
-use Rattle.hb_space.specs.Boxes.{Area}
 use Rattle.hb_frag.specs.declared.pages.LivePage.{LivePage}
 use Rattle.hb_frag.specs.declared.pages.Page.{Page}
 use Rattle.hb_frag.specs.declared.paths.Side.{Side}
-use Rattle.hb_frag.specs.Trees.{Tree}
-use Rattle.hb_frag.specs.Paths.{part_at}
 use Rattle.hb_layout.specs.declared.meta.Meta.{Meta}
 use Rattle.hb_ops.specs.declared.leaf_cuts.LeafCut.{LeafCut}
 use Rattle.hb_ops.specs.declared.operations.Op.{Op}
 use Rattle.hb_ops.specs.declared.operations.Op.TheVariants.{Put, Del, Extract, Post, Grow}
+use Rattle.hb_frag.specs.Paths.{part_at}
+use Rattle.hb_frag.specs.Trees.{Tree}
 use Rattle.hb_ops.specs.Extracting.{split_pages}
 use Rattle.hb_ops.specs.Operations.{change_of}
+use Rattle.hb_space.specs.Boxes.{Area}
 use Rattle.hb_store.specs.Replay.{set_pages}
 
 -- one of the changed pages has the number

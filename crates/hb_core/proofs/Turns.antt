@@ -4,30 +4,32 @@ use Rattle.std.specs.List.{Contains}
 use Rattle.std.specs.Option.{IsSomeAnd}
 use Rattle.std.proofs.lemmas.Bool.{cases_Bool, eq-eqb, eqb-true, eqb-false}
 use Rattle.std.proofs.lemmas.List.Elements.{All-append, All-cons, All-nil}
-use Rattle.hb_set.specs.Order.{AreRising, Entry}
 use Rattle.hb_set.specs.declared.commands.Reply.{Reply}
 use Rattle.hb_set.specs.declared.scripts.Answered.{Answered}
 use Rattle.hb_set.specs.declared.scripts.Line.{Line}
 use Rattle.hb_activity.specs.declared.activities.Activity.{Activity}
 use Rattle.hb_activity.specs.declared.activities.Activity.TheVariants as at
-use Rattle.hb_store.specs.States.{StoreState}
 use Rattle.hb_core.specs.declared.outcomes.Outcome.{Outcome}
 use Rattle.hb_core.specs.declared.outcomes.Outcome.TheVariants as outcomes
-use Rattle.hb_core.specs.Machines.{Machine, if_some, is_answered, with_activity}
-use Rattle.hb_core.specs.Deeds.{Deed}
-use Rattle.hb_core.specs.Performing.{Performs, given_by}
-use Rattle.hb_core.specs.SessionRows.{next_line}
-use Rattle.hb_core.specs.KeptLines.{line_in_hand}
-use Rattle.hb_core.specs.KeptTurns.{LinesInTurn, awaited_number}
-use Rattle.hb_core.specs.OrderLaws.{TurnsStay}
-use Rattle.hb_core.specs.ConsolidatorRows.{IsMergingOf, TakesMerging}
-use Rattle.hb_core.specs.WorkerRows.{IsPostingOf, TakesJob}
-use Rattle.hb_core.specs.Steps.{Works}
-use Rattle.hb_core.proofs.LineFates.{LineFate, Waits, fate_given_up, fate_ran_out, fate_row}
+use Rattle.hb_activity.specs.Classes.{line_in_hand}
+use Rattle.hb_activity.specs.Deeds.{Deed, Answers, Says}
+use Rattle.hb_consol.specs.ConsolidatorRows.{IsMergingOf}
+use Rattle.hb_core.proofs.LineFates.{LineFate, fate_given_up, fate_ran_out, fate_row}
 use Rattle.hb_core.proofs.LinesFit.{took_job, took_merging}
+use Rattle.hb_core.proofs.MergerMoves.{Waits}
 use Rattle.hb_core.proofs.NextLines.{IsNextOf, answered_before, earlier_answered, next_is, next_stays, now_answered, same_line, still_answered}
 use Rattle.hb_core.proofs.StepCases.{each_step}
-use Rattle.hb_core.proofs.Ways.{KeepsAllButDisk, forces_so, meets_so, stays_so}
+use Rattle.hb_core.proofs.StepKinds.{rest_kind}
+use Rattle.hb_core.proofs.Ways.{KeepsAllButDisk, forces_so, meets_so, stays_so, more_so}
+use Rattle.hb_core.specs.KeptTurns.{LinesInTurn, awaited_number}
+use Rattle.hb_core.specs.Machines.{Machine, if_some, with_activity}
+use Rattle.hb_core.specs.OrderLaws.{TurnsStay}
+use Rattle.hb_core.specs.Performing.{Performs, given_by, outcome_of}
+use Rattle.hb_core.specs.Steps.{TakesMerging, TakesJob, Works}
+use Rattle.hb_point.specs.SessionRows.{is_answered, next_line}
+use Rattle.hb_poster.specs.PosterRows.{IsPostingOf}
+use Rattle.hb_set.specs.Order.{AreRising, Entry}
+use Rattle.hb_store.specs.States.{StoreState}
 
 pub waits_none : (activity : Activity) → (Waits activity → ⊥) → awaited_number activity ≡ None
 waits_none at.SessionIdle none = refl
@@ -212,7 +214,7 @@ module _ (m : Machine) (actor : ℕ) (outcome : Outcome) (new : Machine) (turn :
       (subst (λ (f : ℕ → Activity). TurnsOf m.lines answered f new.order) (sym (λ i other. performs.activity other i))
       (subst (λ (l : List Entry). TurnsOf m.lines answered (with_activity actor deed.next m.activity) l) (sym order_is) after))))
 
-  same_answers : (fetched : StoreState) (deed : Deed) → Performs m fetched actor deed outcome new → given_by deed.says m.clock ≡ [] → new.answered ≡ m.answered
+  same_answers : (fetched : StoreState) (deed : Deed) → Performs m fetched actor deed outcome new → given_by (outcome_of deed.says) m.clock ≡ [] → new.answered ≡ m.answered
   same_answers fetched deed performs none = performs.answered ∙ ap (λ (l : List Answered). m.answered ++ l) none ∙ append-nil m.answered
 
   same_order : (fetched : StoreState) (deed : Deed) → Performs m fetched actor deed outcome new → deed.joins ≡ None → new.order ≡ m.order
@@ -224,16 +226,16 @@ module _ (m : Machine) (actor : ℕ) (outcome : Outcome) (new : Machine) (turn :
   no_await : (deed : Deed) → awaited_number deed.next ≡ None → AwaitIsNext actor m.answered m.lines deed.next
   no_await deed none = subst (λ (o : Option ℕ). IfSome o (λ number. IsSomeAnd (next_line actor m.answered m.lines) (λ line. line.number ≡ number))) (sym none) tt
 
-  quiet : (fetched : StoreState) (deed : Deed) → awaited_number (m.activity actor) ≡ None → given_by deed.says m.clock ≡ [] → deed.joins ≡ None → HandIsNext actor m.answered m.lines deed.next → awaited_number deed.next ≡ None → Performs m fetched actor deed outcome new → LinesInTurn new
+  quiet : (fetched : StoreState) (deed : Deed) → awaited_number (m.activity actor) ≡ None → given_by (outcome_of deed.says) m.clock ≡ [] → deed.joins ≡ None → HandIsNext actor m.answered m.lines deed.next → awaited_number deed.next ≡ None → Performs m fetched actor deed outcome new → LinesInTurn new
   quiet fetched deed idle says joins hand waits performs =
       done fetched deed m.answered m.order performs (same_answers fetched deed performs says) (same_order fetched deed performs joins) (goes_on m.lines m.answered m.activity m.order (turns_of m turn) actor deed.next idle hand (no_await deed waits))
 
   -- a line is answered, and its session is idle then
-  answers : (fetched : StoreState) (deed : Deed) (line : Line) (number : ℕ) (reply : Reply) → deed.says ≡ outcomes.Answered number reply → deed.joins ≡ None → deed.next ≡ at.SessionIdle → number ≡ line.number → next_line actor m.answered m.lines ≡ Some line
+  answers : (fetched : StoreState) (deed : Deed) (line : Line) (number : ℕ) (reply : Reply) → deed.says ≡ Answers number reply → deed.joins ≡ None → deed.next ≡ at.SessionIdle → number ≡ line.number → next_line actor m.answered m.lines ≡ Some line
       → awaited_number (m.activity actor) ≡ None ⊎ (awaited_number (m.activity actor) ≡ Some line.number) → Performs m fetched actor deed outcome new → LinesInTurn new
   answers fetched deed line number reply says joins next same is waits performs =
       let a : Answered = record { line = number; reply = reply; at = m.clock } in
-      done fetched deed (m.answered ++ a ∷ []) m.order performs (performs.answered ∙ ap (λ (o : Outcome). m.answered ++ given_by o m.clock) says) (same_order fetched deed performs joins)
+      done fetched deed (m.answered ++ a ∷ []) m.order performs (performs.answered ∙ ap (λ (o : Says). m.answered ++ given_by (outcome_of o) m.clock) says) (same_order fetched deed performs joins)
       (answers_next m.lines m.answered m.activity m.order (turns_of m turn) actor deed.next line a is same waits (ap line_in_hand next) (ap awaited_number next))
 
   fated : (fetched : StoreState) (deed : Deed) → awaited_number (m.activity actor) ≡ None → LineFate m (m.activity actor) deed → Performs m fetched actor deed outcome new → LinesInTurn new
@@ -250,7 +252,8 @@ module _ (m : Machine) (actor : ℕ) (outcome : Outcome) (new : Machine) (turn :
   worked : awaited_number (m.activity actor) ≡ None → Works m actor outcome new → LinesInTurn new
   worked idle (inl (by, way, so)) = stays (stays_so m actor outcome new (outcomes.Blocked by) so)
   worked idle (inr (inl (free, unready, inl (waits, force)))) = stays (forces_so m actor outcome new outcomes.Helped force)
-  worked idle (inr (inl (free, unready, inr (none, performs)))) = fated m.store _ idle (fate_ran_out m (m.activity actor)) performs
+  worked idle (inr (inl (free, unready, inr (none, rest)))) =
+      rest_kind m outcomes.Helped outcome new _ (LinesInTurn new) none (λ at. refl) (λ more. stays (more_so m actor outcome new more)) (fated m.store _ idle (fate_ran_out m (m.activity actor))) rest
   worked idle (inr (inr (free, ready, inl acts))) = fated acts.fetched acts.deed idle (fate_row m acts.fetched (m.activity actor) _ acts.deed acts.row) acts.performs
   worked idle (inr (inr (free, ready, inr (inl gives)))) = fated gives.fetched _ idle (fate_given_up m gives.why (m.activity actor)) gives.performs
   worked idle (inr (inr (free, ready, inr (inr meets)))) = stays (meets_so m actor outcome new meets)
@@ -274,13 +277,14 @@ pub turns_stay : TurnsStay
 turns_stay m actor outcome new turn step = each_step m actor outcome new (LinesInTurn new) (record {
   stays = λ said so. stays m actor outcome new turn (stays_so m actor outcome new said so);
   forces = λ said silent force. stays m actor outcome new turn (forces_so m actor outcome new said force);
+  more = λ more. stays m actor outcome new turn (more_so m actor outcome new more);
   takes = λ line idle next performs. quiet m actor outcome new turn m.store _ (ap awaited_number idle) refl refl next refl performs;
   refuses = λ line idle next performs. answers m actor outcome new turn m.store _ line line.number _ refl refl refl refl next (inl (ap awaited_number idle)) performs;
   posts = λ deed idle takes performs.
-      quiet m actor outcome new turn m.store deed (ap awaited_number idle) (ap (λ (d : Deed). given_by d.says m.clock) takes.deed_is) (ap (λ (d : Deed). d.joins) takes.deed_is)
+      quiet m actor outcome new turn m.store deed (ap awaited_number idle) (ap (λ (d : Deed). given_by (outcome_of d.says) m.clock) takes.deed_is) (ap (λ (d : Deed). d.joins) takes.deed_is)
       (no_hand m actor outcome new turn deed (took_job m deed takes)) (posts_await_none m actor outcome new turn deed takes) performs;
   merges = λ deed idle takes performs.
-      quiet m actor outcome new turn m.store deed (ap awaited_number idle) (ap (λ (d : Deed). given_by d.says m.clock) takes.deed_is) (ap (λ (d : Deed). d.joins) takes.deed_is)
+      quiet m actor outcome new turn m.store deed (ap awaited_number idle) (ap (λ (d : Deed). given_by (outcome_of d.says) m.clock) takes.deed_is) (ap (λ (d : Deed). d.joins) takes.deed_is)
       (no_hand m actor outcome new turn deed (took_merging m deed takes)) (merges_await_none m actor outcome new turn deed takes) performs;
   settles = λ number place reply is settled performs.
       let one = some_such (next_line actor m.answered m.lines) number (if_such (awaited_number (m.activity actor)) (λ number. IsSomeAnd (next_line actor m.answered m.lines) (λ line. line.number ≡ number)) number (ap awaited_number is) (turn.awaited actor)) in

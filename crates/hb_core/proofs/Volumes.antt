@@ -3,12 +3,12 @@ use Rattle.std.proofs.Common.{ℕ, zero, suc, ◌+◌, ◌-◌, ◌<◌, ◌≤�
 use Rattle.std.proofs.Math.Nat.{mul-lt-mul_of_pos_left, mul-lt-mul_of_pos_right, mul-pos}
 use Rattle.std.specs.List.{All, Contains}
 use Rattle.std.proofs.lemmas.List.Elements.{All-append, All-contains, All-cons, All-nil, Contains-append_cases}
-use Rattle.hb_space.specs.Boxes.{Area, Cuts, side_below, side_from, volume, volume_between}
 use Rattle.hb_frag.specs.declared.leaves.Leaf.TheVariants.{Records, Child, Sibling}
-use Rattle.hb_frag.specs.Trees.{Tree, Tip, Cut}
 use Rattle.hb_frag.specs.Leaves.{Placed, IsWellCut, leaves_of, siblings}
 use Rattle.hb_frag.specs.Rules.{IsSiblingTip}
+use Rattle.hb_frag.specs.Trees.{Tree, Tip, Cut}
 use Rattle.hb_ops.specs.PlacedLaws.{sibling_is_leaf}
+use Rattle.hb_space.specs.Boxes.{Area, Cuts, side_below, side_from, volume, volume_between}
 
 some_points : (lo hi : List ℕ) → 0 < volume_between lo hi
 some_points [] hi = omega arith

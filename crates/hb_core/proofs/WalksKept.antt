@@ -1,38 +1,40 @@
 -- After a step the page that a walk holds has the walk's point in its box, and the parent that a poster holds a child leaf there.
 use Rattle.std.proofs.Common.{◌≡◌, ◌≢◌, ◌⊎◌, inl, inr, ℕ, ◌==◌, Bool, cond, List, [], ◌∷◌, Option, Some, None, IfSome, refl, sym, ap, ◌∙◌, subst}
 use Rattle.std.proofs.lemmas.Bool.{cases_Bool, eqb-true, eqb-false, eq-eqb, ne_eqb}
-use Rattle.hb_space.specs.Boxes.{Holds}
 use Rattle.hb_frag.specs.declared.pages.LivePage.{LivePage}
 use Rattle.hb_frag.specs.declared.pages.Page.TheVariants.{Live}
-use Rattle.hb_ops.specs.Files.{if_live}
-use Rattle.hb_ops.proofs.Tips.{first_held}
 use Rattle.hb_set.specs.declared.scripts.Line.{Line}
 use Rattle.hb_latch.specs.declared.modes.Mode.{Mode}
 use Rattle.hb_latch.specs.declared.modes.Mode.TheVariants.{Update, Exclusive}
-use Rattle.hb_latch.specs.Tables.{MayLatch}
 use Rattle.hb_activity.specs.declared.jobs.Job.{Job}
 use Rattle.hb_activity.specs.declared.activities.Activity.{Activity}
 use Rattle.hb_activity.specs.declared.activities.Activity.TheVariants as at
-use Rattle.hb_activity.specs.Holding.{latch_on}
-use Rattle.hb_activity.specs.Walks.{walk_held, walk_point}
-use Rattle.hb_store.specs.States.{StoreState, in_memory}
 use Rattle.hb_core.specs.declared.outcomes.Outcome.{Outcome}
 use Rattle.hb_core.specs.declared.outcomes.Outcome.TheVariants as outcomes
-use Rattle.hb_core.specs.Machines.{Machine, live_here}
-use Rattle.hb_core.specs.Fetching.{Brings}
-use Rattle.hb_core.specs.Deeds.{Deed}
-use Rattle.hb_core.specs.Performing.{Performs, latches_held, mode_among}
-use Rattle.hb_core.specs.Steps.{StepsTo, Works}
-use Rattle.hb_core.specs.Keeps.{HasNobodyElse, HoldsPagesOfFile, LatchesFit, WalksInSpace}
-use Rattle.hb_core.specs.KeepingLaws.{WalksStayInSpace}
-use Rattle.hb_core.specs.WorkerRows.{LeadsBelow}
-use Rattle.hb_core.specs.KeptMerges.{AtParent, NamesKnown, merging_at}
+use Rattle.hb_activity.specs.Deeds.{Deed}
+use Rattle.hb_activity.specs.Holding.{latch_on}
+use Rattle.hb_activity.specs.Passing.{LeadsBelow}
+use Rattle.hb_activity.specs.Walks.{walk_held, walk_point}
 use Rattle.hb_core.proofs.Backing.{live_there}
+use Rattle.hb_core.proofs.BroughtPages.{still_held}
+use Rattle.hb_core.proofs.LatchesStay.{walk_latched}
 use Rattle.hb_core.proofs.MergesKept.{HasMergePlace, PlaceStays, merged_place, named_again, names_still, none_named, place_latched}
 use Rattle.hb_core.proofs.NextPlaces.{HasPlace, HoldsNothing, KeepsParent, MergesOn, TakesParent, WalksTo, nothing_given_up, nothing_run_out, now, place_after}
-use Rattle.hb_core.proofs.StepKinds.{each_kind}
-use Rattle.hb_core.proofs.StillThere.{fetched_good, may_or_not, nothing_done, other_holds, other_walks, own_next, still_fetched}
-use Rattle.hb_core.proofs.Ways.{KeepsAllButDisk, forces_so, meets_so, stays_so}
+use Rattle.hb_core.proofs.StepKinds.{each_kind, rest_kind}
+use Rattle.hb_core.proofs.StillThere.{fetched_good, may_or_not, nothing_done, other_holds, other_walks, own_next}
+use Rattle.hb_core.proofs.Ways.{KeepsAllButDisk, forces_so, meets_so, stays_so, more_so}
+use Rattle.hb_core.specs.Fetching.{Brings}
+use Rattle.hb_core.specs.KeepingLaws.{WalksStayInSpace}
+use Rattle.hb_core.specs.Keeps.{HasNobodyElse, HoldsPagesOfFile, LatchesFit, WalksInSpace}
+use Rattle.hb_core.specs.KeptMerges.{AtParent, NamesKnown, merging_at}
+use Rattle.hb_core.specs.Machines.{Machine, live_here}
+use Rattle.hb_core.specs.Performing.{Performs, latches_held, mode_among}
+use Rattle.hb_core.specs.Steps.{StepsTo, Works}
+use Rattle.hb_latch.specs.Tables.{MayLatch}
+use Rattle.hb_ops.proofs.Tips.{first_held}
+use Rattle.hb_ops.specs.Files.{if_live}
+use Rattle.hb_space.specs.Boxes.{Holds}
+use Rattle.hb_store.specs.States.{StoreState, in_memory}
 
 abbrev pub IsAtParent : Activity → Job → ℕ → Type 0
 IsAtParent activity job parent = (activity ≡ at.PosterChild job parent) ⊎ (activity ≡ at.PosterPromote job parent) ⊎ (activity ≡ at.PosterAgain job parent)
@@ -188,7 +190,22 @@ same_number o id other a b = by (sym a ∙ b)
     by : Some id ≡ Some other → id ≡ other
     by is = cc
 
-module _ (m : Machine) (actor : ℕ) (may : ℕ → Type 0) (fetched : StoreState) (inside : HoldsPagesOfFile m) (walks : WalksInSpace m) (brings : Brings m.files may m.store fetched) (deed : Deed) (outcome : Outcome) (new : Machine) (performs : Performs m fetched actor deed outcome new) where
+parent_latched : (st : StoreState) (activity : Activity) (job : Job) (parent : ℕ) → IsAtParent activity job parent → (mode : Mode) × (mode_among parent (latches_held st activity) ≡ Some mode)
+parent_latched st activity job parent is = by is
+  where
+    one : (mode : Mode) → mode_among parent (latch_on parent mode ∷ []) ≡ Some mode
+    one mode = ap (λ (b : Bool). cond b (Some mode) None) (eq-eqb parent parent refl)
+
+    by : IsAtParent activity job parent → (mode : Mode) × (mode_among parent (latches_held st activity) ≡ Some mode)
+    by (inl is) = (Update, ap (λ (a : Activity). mode_among parent (latches_held st a)) is ∙ one Update)
+    by (inr (inl is)) = (Update, ap (λ (a : Activity). mode_among parent (latches_held st a)) is ∙ one Update)
+    by (inr (inr is)) = (Exclusive, ap (λ (a : Activity). mode_among parent (latches_held st a)) is ∙ one Exclusive)
+
+module _ (m : Machine) (actor : ℕ) (may : ℕ → Type 0) (fetched : StoreState) (latches : MayLatch actor) (fit : LatchesFit m) (inside : HoldsPagesOfFile m) (walks : WalksInSpace m) (brings : Brings m may fetched) (deed : Deed) (outcome : Outcome) (new : Machine) (performs : Performs m fetched actor deed outcome new) where
+  -- a page that the actor holds stays
+  own_there : (id : ℕ) (mode : Mode) (page : LivePage) → mode_among id (latches_held m.store (m.activity actor)) ≡ Some mode → live_here m.store id ≡ Some page → live_here fetched id ≡ Some page
+  own_there id mode page among live = ap if_live (still_held m may fetched brings actor id mode (Live page) (fit.exact actor id latches ∙ among) (live_there (in_memory m.store id) page live))
+
   walks_to : WalksTo fetched deed → StandsInSpace new.store deed.next
   walks_to to =
       let store = nothing_done deed.op _ fetched new.store to.nothing performs.store in
@@ -205,11 +222,13 @@ module _ (m : Machine) (actor : ℕ) (may : ℕ → Type 0) (fetched : StoreStat
       }
 
   -- what was known is so in what was fetched
-  brought_named : (place : AtParent) → NamesKnown m.store place → NamesKnown fetched place
-  brought_named place named = names_still m.store fetched place named (record {
-    parent = λ page live. still_fetched m may fetched brings place.parent page live;
-    pair = λ pair is page live. still_fetched m may fetched brings pair.keep page live;
-  })
+  brought_named : (place : AtParent) → merging_at (m.activity actor) ≡ Some place → NamesKnown m.store place → NamesKnown fetched place
+  brought_named place at_place named =
+      let latched = place_latched m.store (m.activity actor) place at_place in
+      names_still m.store fetched place named (record {
+        parent = λ page live. own_there place.parent latched.parent.0 page latched.parent.1 live;
+        pair = λ pair is page live. let latch = latched.pair pair is in own_there pair.keep latch.0 page latch.1 live;
+      })
 
   takes_parent : TakesParent (now m actor fetched) deed → StandsInSpace new.store deed.next
   takes_parent takes =
@@ -228,13 +247,14 @@ module _ (m : Machine) (actor : ℕ) (may : ℕ → Type 0) (fetched : StoreStat
   keeps_parent : KeepsParent m actor deed → StandsInSpace new.store deed.next
   keeps_parent keeps =
       let store = nothing_done deed.op _ fetched new.store keeps.nothing performs.store in
+      let latch = parent_latched m.store (m.activity actor) keeps.job keeps.parent (at_parent_before keeps.job keeps.parent keeps.before) in
       same_parent deed.next keeps.job keeps.parent new.store (at_parent_after keeps.job keeps.parent keeps.after)
-      (moved_parent m.store new.store keeps.job keeps.parent (λ page live. ap (λ (st : StoreState). live_here st keeps.parent) store ∙ still_fetched m may fetched brings keeps.parent page live)
+      (moved_parent m.store new.store keeps.job keeps.parent (λ page live. ap (λ (st : StoreState). live_here st keeps.parent) store ∙ own_there keeps.parent latch.0 page latch.1 live)
       (walks.parents actor keeps.job keeps.parent (at_parent_before keeps.job keeps.parent keeps.before)))
 
   -- a consolidator knows what the parent names
   merged_in_space : MergesOn m actor (now m actor fetched) deed → StandsInSpace new.store deed.next
-  merged_in_space merges = by (merged_place m actor fetched (λ place is. brought_named place (subst (λ (o : Option AtParent). IfSome o (NamesKnown m.store)) is (walks.merging actor))) deed merges)
+  merged_in_space merges = by (merged_place m actor fetched (λ place is. brought_named place is (subst (λ (o : Option AtParent). IfSome o (NamesKnown m.store)) is (walks.merging actor))) deed merges)
     where
       store : new.store ≡ fetched
       store = nothing_done deed.op _ fetched new.store (ap (λ (d : Deed). d.op) merges.stays.moves.is) performs.store
@@ -256,17 +276,6 @@ module _ (m : Machine) (actor : ℕ) (may : ℕ → Type 0) (fetched : StoreStat
   placed_in_space (inr (inr (inr (inr (inr (inl parts)))))) = put_stands new.store deed.next parts.line parts.held parts.row.leaves.fresh (ap (λ (d : Deed). d.next) parts.row.deed_is)
 
 -- ---- each step
-
-parent_latched : (st : StoreState) (activity : Activity) (job : Job) (parent : ℕ) → IsAtParent activity job parent → (mode : Mode) × (mode_among parent (latches_held st activity) ≡ Some mode)
-parent_latched st activity job parent is = by is
-  where
-    one : (mode : Mode) → mode_among parent (latch_on parent mode ∷ []) ≡ Some mode
-    one mode = ap (λ (b : Bool). cond b (Some mode) None) (eq-eqb parent parent refl)
-
-    by : IsAtParent activity job parent → (mode : Mode) × (mode_among parent (latches_held st activity) ≡ Some mode)
-    by (inl is) = (Update, ap (λ (a : Activity). mode_among parent (latches_held st a)) is ∙ one Update)
-    by (inr (inl is)) = (Update, ap (λ (a : Activity). mode_among parent (latches_held st a)) is ∙ one Update)
-    by (inr (inr is)) = (Exclusive, ap (λ (a : Activity). mode_among parent (latches_held st a)) is ∙ one Exclusive)
 
 module _ (m : Machine) (actor : ℕ) (outcome : Outcome) (new : Machine) (latches : MayLatch actor) (fit : LatchesFit m) (inside : HoldsPagesOfFile m) (nobody : HasNobodyElse m) (walks : WalksInSpace m) (step : StepsTo m actor outcome new) where
   other_in_space : (other : ℕ) → other ≢ actor → MayLatch other → StandsInSpace new.store (m.activity other)
@@ -301,13 +310,19 @@ module _ (m : Machine) (actor : ℕ) (outcome : Outcome) (new : Machine) (latche
       (subst (StandsInSpace new.store) (sym (ap (λ (all : ℕ → Activity). all actor) keeps.activity)) (stands_again (m.activity actor) m.store new.store (each_stands m walks actor)
       (λ held page on live.
       let old = fit.walking actor held latches on in
-      ap if_live old.1 ∙ sym (ap if_live (keeps.memory held (Live old.0) old.1)) ∙ live)
-      (λ job parent page is live. still parent page live)
-      (λ place is. record { parent = λ page live. still place.parent page live; pair = λ pair held page live. still pair.keep page live })))
+      let latch = walk_latched (m.activity actor) m.store held old.0 on (ap if_live old.1) in
+      ap if_live old.1 ∙ sym (still held latch.0 old.0 latch.1 (ap if_live old.1)) ∙ live)
+      (λ job parent page is live. let latch = parent_latched m.store (m.activity actor) job parent is in still parent latch.0 page latch.1 live)
+      (λ place is.
+      let latched = place_latched m.store (m.activity actor) place is in
+      record {
+        parent = λ page live. still place.parent latched.parent.0 page latched.parent.1 live;
+        pair = λ pair held page live. let latch = latched.pair pair held in still pair.keep latch.0 page latch.1 live;
+      })))
       (λ other another. ap (λ (all : ℕ → Activity). all other) keeps.activity)
     where
-      still : (id : ℕ) (page : LivePage) → live_here m.store id ≡ Some page → live_here new.store id ≡ Some page
-      still id page live = ap if_live (keeps.memory id (Live page) (live_there (in_memory m.store id) page live))
+      still : (id : ℕ) (mode : Mode) (page : LivePage) → mode_among id (latches_held m.store (m.activity actor)) ≡ Some mode → live_here m.store id ≡ Some page → live_here new.store id ≡ Some page
+      still id mode page among live = ap if_live (keeps.memory id (Live page) (inl (actor, mode, fit.exact actor id latches ∙ among)) (live_there (in_memory m.store id) page live))
 
   -- a deed is done
   did : (fetched : StoreState) (deed : Deed) → Performs m fetched actor deed outcome new → StandsInSpace new.store deed.next → WalksInSpace new
@@ -322,11 +337,12 @@ module _ (m : Machine) (actor : ℕ) (outcome : Outcome) (new : Machine) (latche
   worked : Works m actor outcome new → WalksInSpace new
   worked (inl (by, way, so)) = same_but_disk (stays_so m actor outcome new (outcomes.Blocked by) so)
   worked (inr (inl (free, unready, inl (waits, force)))) = same_but_disk (forces_so m actor outcome new outcomes.Helped force)
-  worked (inr (inl (free, unready, inr (none, performs)))) = freed m.store _ performs (nothing_run_out m (m.activity actor))
+  worked (inr (inl (free, unready, inr (none, rest)))) =
+      rest_kind m outcomes.Helped outcome new _ (WalksInSpace new) none (λ at. refl) (λ more. same_but_disk (more_so m actor outcome new more)) (λ performs. freed m.store _ performs (nothing_run_out (m.activity actor))) rest
   worked (inr (inr (free, ready, inl acts))) =
       did acts.fetched acts.deed acts.performs
-      (placed_in_space m actor _ acts.fetched inside walks acts.brings acts.deed outcome new acts.performs (place_after m actor acts.fetched _ acts.deed refl acts.row))
-  worked (inr (inr (free, ready, inr (inl gives)))) = freed gives.fetched _ gives.performs (nothing_given_up m gives.why (m.activity actor))
+      (placed_in_space m actor _ acts.fetched latches fit inside walks acts.brings acts.deed outcome new acts.performs (place_after m actor acts.fetched _ acts.deed refl acts.row))
+  worked (inr (inr (free, ready, inr (inl gives)))) = freed gives.fetched _ gives.performs (nothing_given_up gives.why (m.activity actor))
   worked (inr (inr (free, ready, inr (inr meets)))) = same_but_disk (meets_so m actor outcome new meets)
 
 pub walks_stay_in_space : WalksStayInSpace
@@ -334,6 +350,7 @@ walks_stay_in_space m actor outcome new latches fit inside nobody walks step =
     each_kind m actor outcome new (WalksInSpace new)
     (λ said quiet so. same_but_disk m actor outcome new latches fit inside nobody walks step (stays_so m actor outcome new said so))
     (λ said quiet force. same_but_disk m actor outcome new latches fit inside nobody walks step (forces_so m actor outcome new said force))
+    (λ more. same_but_disk m actor outcome new latches fit inside nobody walks step (more_so m actor outcome new more))
     (λ deed outright performs. freed m actor outcome new latches fit inside nobody walks step m.store deed performs (record { walk = outright.walk; latches = outright.latches; merging = outright.merging }))
     (worked m actor outcome new latches fit inside nobody walks step)
     step

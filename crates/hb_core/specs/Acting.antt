@@ -1,30 +1,34 @@
 -- A step that may be done: it is done, given up, or meets a bad page.
-use Rattle.std.specs.Prelude.{◌≡◌, ◌⊎◌, ℕ, ◌<◌, true, false, Bool, IsTrue, Option, Some, None}
+use Rattle.std.specs.Prelude.{◌≡◌, ◌⊎◌, ℕ, ◌<◌, true, false, Bool, IsTrue, IsSome, Option, Some, None}
 use Rattle.hb_ops.specs.declared.operations.Op.{Op}
 use Rattle.hb_ops.specs.declared.operations.Op.TheVariants as ops
 use Rattle.hb_frag.specs.declared.pages.LivePage.{LivePage}
-use Rattle.hb_terms.specs.Plans.{IsPlan}
 use Rattle.hb_terms.specs.declared.plans.PostPlan.{PostPlan}
 use Rattle.hb_terms.specs.declared.plans.PostPlan.TheVariants.{SplitFirst}
 use Rattle.hb_activity.specs.declared.jobs.Job.{Job}
+use Rattle.hb_set.specs.declared.scripts.Line.{Line}
 use Rattle.hb_activity.specs.declared.wanting.Wanted.{Wanted}
 use Rattle.hb_activity.specs.declared.activities.Activity.{Activity}
 use Rattle.hb_activity.specs.declared.activities.Activity.TheVariants as at
-use Rattle.hb_store.specs.States.{StoreState, in_memory}
 use Rattle.hb_store.specs.declared.stops.StopWhy.TheVariants.{Damaged}
 use Rattle.hb_store.specs.declared.stops.Why.{Why}
-use Rattle.hb_core.specs.declared.outcomes.DropWhy.{DropWhy}
-use Rattle.hb_core.specs.declared.outcomes.DropWhy.TheVariants as drops
+use Rattle.hb_activity.specs.declared.dropping.DropWhy.{DropWhy}
+use Rattle.hb_activity.specs.declared.dropping.DropWhy.TheVariants as drops
 use Rattle.hb_core.specs.declared.outcomes.Outcome.{Outcome}
 use Rattle.hb_core.specs.declared.outcomes.Outcome.TheVariants as outcomes
-use Rattle.hb_core.specs.Machines.{Files, Machine, live_here, stopped_for, with_disk}
+use Rattle.hb_activity.specs.Deeds.{Deed}
+use Rattle.hb_activity.specs.Walks.{walk_held}
 use Rattle.hb_core.specs.Asking.{AskedBox, asked_box, wanted_by}
 use Rattle.hb_core.specs.Fetching.{Brings, IsBadHead, IsDamaged, IsFreeHead, IsWantedPage}
-use Rattle.hb_core.specs.Deeds.{Deed}
+use Rattle.hb_core.specs.GivingUp.{gives_up}
+use Rattle.hb_core.specs.Machines.{Files, Machine, live_here, stopped_for, with_disk, sight}
 use Rattle.hb_core.specs.Performing.{Performs}
 use Rattle.hb_core.specs.Rows.{IsAtHand, Row}
-use Rattle.hb_core.specs.WorkerRows.{MayGrow}
-use Rattle.hb_core.specs.GivingUp.{gives_up}
+use Rattle.hb_point.specs.SessionRows.{WantsBoxes}
+use Rattle.hb_poster.specs.PosterRows.{MayGrow}
+use Rattle.hb_store.specs.States.{StoreState, in_memory}
+use Rattle.hb_store.specs.Stops.{IsNoPage}
+use Rattle.hb_terms.specs.Plans.{IsPlan}
 
 -- an operation takes a number for the page that it makes
 abbrev pub takes_number : Option Op → Bool
@@ -36,7 +40,7 @@ takes_number other = false
 pub record DoesRow (m : Machine) (actor : ℕ) (outcome : Outcome) (new : Machine) : Type 0 where
   pub fetched : StoreState
   pub deed : Deed
-  pub brings : Brings m.files (λ id. IsWantedPage (wanted_by m actor) id ⊎ (IsTrue (takes_number deed.op) × IsFreeHead m.store id)) m.store fetched
+  pub brings : Brings m (λ id. IsWantedPage (wanted_by m actor) id ⊎ (IsTrue (takes_number deed.op) × IsFreeHead m.store id)) fetched
   pub row : Row (m.activity actor) (wanted_by m actor) (with_disk fetched m.files m.clock m) deed
   pub performs : Performs m fetched actor deed outcome new
 
@@ -47,7 +51,7 @@ HasPlanned m job parent child plan = (page : LivePage) × (live_here m.store par
 
 abbrev pub NeedsNumber : Activity → Option Wanted → Machine → Type 0
 NeedsNumber (at.SessionSplit line held) wanted m = m.store.meta.live < m.store.meta.pages
-NeedsNumber (at.PosterGrow job) (Some wanted) m = (m.store.meta.live < m.store.meta.pages) × (root : LivePage) × IsAtHand m (at.PosterGrow job) wanted root × MayGrow m job root
+NeedsNumber (at.PosterGrow job) (Some wanted) m = (m.store.meta.live < m.store.meta.pages) × (root : LivePage) × IsAtHand m (at.PosterGrow job) wanted root × MayGrow (sight m) job root
 NeedsNumber (at.PosterAgain job parent) (Some wanted) m = (m.store.meta.live < m.store.meta.pages) × (child : LivePage) × IsAtHand m (at.PosterAgain job parent) wanted child × HasPlanned m job parent child SplitFirst
 NeedsNumber other wanted m = ⊥
 
@@ -55,29 +59,40 @@ NeedsNumber other wanted m = ⊥
 abbrev pub MayNeed : Machine → ℕ → StoreState → ℕ → Type 0
 MayNeed m actor fetched id = IsWantedPage (wanted_by m actor) id ⊎ (NeedsNumber (m.activity actor) (wanted_by m actor) (with_disk fetched m.files m.clock m) × IsFreeHead m.store id)
 
--- one of them isn't in memory
+-- one of them isn't in memory, and is a page of the file
 abbrev pub LacksNeeded : Machine → ℕ → StoreState → Type 0
-LacksNeeded m actor fetched = (id : ℕ) × MayNeed m actor fetched id × (in_memory fetched id ≡ None)
+LacksNeeded m actor fetched = (id : ℕ) × MayNeed m actor fetched id × (¬ (IsNoPage m.store.meta id)) × (in_memory fetched id ≡ None)
 
--- Or a page couldn't be read, or memory was refused: the line or the job in hand is given up. Who has none in hand gives
--- nothing up, and a promotion wants neither.
-abbrev pub MayGiveUp : Activity → Type 0
-MayGiveUp at.SessionIdle = ⊥
-MayGiveUp (at.SessionAwait number reply place) = ⊥
-MayGiveUp at.PosterIdle = ⊥
-MayGiveUp (at.PosterPromote job parent) = ⊥
-MayGiveUp at.ConsolidatorIdle = ⊥
-MayGiveUp (at.ConsolidatorPromote job parent keep gone) = ⊥
-MayGiveUp at.Flusher = ⊥
-MayGiveUp other = Unit {0}
+-- A row takes memory: it does an operation; a search gathers records; a way to the leaf of a posting is made; or a consolidator
+-- lists the children of a parent.
+abbrev pub HasOp : Deed → Type 0
+HasOp deed = IsSome deed.op
+
+abbrev pub IsGathering : Line → Deed → Type 0
+IsGathering line deed = WantsBoxes line.command × (walk_held deed.next ≡ None)
+
+abbrev pub TakesMemory : Activity → Deed → Type 0
+TakesMemory (at.SessionWalk line held rest found) deed = HasOp deed ⊎ IsGathering line deed
+TakesMemory (at.PosterChild job parent) deed = deed.next ≡ at.PosterPromote job parent
+TakesMemory (at.ConsolidatorWalk job held) deed = walk_held deed.next ≡ None
+TakesMemory (at.ConsolidatorScan job parent child) deed = Unit {0}
+TakesMemory (at.ConsolidatorTry job parent keep gone leaf) deed = Unit {0}
+TakesMemory other deed = HasOp deed
+
+abbrev pub RowTakesMemory : Machine → ℕ → StoreState → Type 0
+RowTakesMemory m actor fetched = (deed : Deed) × Row (m.activity actor) (wanted_by m actor) (with_disk fetched m.files m.clock m) deed × TakesMemory (m.activity actor) deed
+
+-- Or it is given up: a page that it needs couldn't be read; or memory was refused, for such a page or for what the row takes.
+abbrev pub GivesUpFor : DropWhy → Machine → ℕ → StoreState → Type 0
+GivesUpFor drops.ReadFault m actor fetched = LacksNeeded m actor fetched
+GivesUpFor drops.NoMemory m actor fetched = LacksNeeded m actor fetched ⊎ RowTakesMemory m actor fetched
 
 pub record Abandons (m : Machine) (actor : ℕ) (outcome : Outcome) (new : Machine) : Type 0 where
-  pub may : MayGiveUp (m.activity actor)
   pub why : DropWhy
   pub fetched : StoreState
-  pub brings : Brings m.files (MayNeed m actor fetched) m.store fetched
-  pub unread : why ≡ drops.ReadFault → LacksNeeded m actor fetched
-  pub performs : Performs m fetched actor (gives_up m why (m.activity actor)) outcome new
+  pub brings : Brings m (MayNeed m actor fetched) fetched
+  pub cause : GivesUpFor why m actor fetched
+  pub performs : Performs m fetched actor (gives_up why (m.activity actor)) outcome new
 
 -- Or a page was damaged: the machine is stopped.
 abbrev pub IsBadWanted : Option Files → StoreState → Option Wanted → Option AskedBox → ℕ → Why → Type 0
@@ -87,7 +102,7 @@ IsBadWanted files st (Some wanted) (Some asked) page why = (page ≡ wanted.page
 
 pub record MeetsBadPage (m : Machine) (actor : ℕ) (outcome : Outcome) (new : Machine) : Type 0 where
   pub fetched : StoreState
-  pub brings : Brings m.files (MayNeed m actor fetched) m.store fetched
+  pub brings : Brings m (MayNeed m actor fetched) fetched
   pub page : ℕ
   pub why : Why
   pub bad : IsBadWanted m.files fetched (wanted_by m actor) (asked_box (m.activity actor) fetched) page why ⊎ (NeedsNumber (m.activity actor) (wanted_by m actor) (with_disk fetched m.files m.clock m) × IsBadHead m.files fetched page why)

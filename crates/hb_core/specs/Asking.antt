@@ -1,23 +1,23 @@
 -- Which page a step asks for, and what it tests of that page before it latches it.
 use Rattle.std.specs.Prelude.{◌≡◌, ◌≢◌, ℕ, ◌==◌, if◌then◌else◌, Bool, true, false, List, [], ◌∷◌, slice_get, Option, Some, None, IfSome, IsSomeAnd}
 use Rattle.std.specs.Option.{option_and_then, option_map}
-use Rattle.hb_space.specs.Boxes.{Area, Within, whole_area}
 use Rattle.hb_frag.specs.declared.leaves.Leaf.{Leaf}
 use Rattle.hb_frag.specs.declared.leaves.Leaf.TheVariants.{Records, Child, Sibling}
 use Rattle.hb_frag.specs.declared.pages.LivePage.{LivePage}
 use Rattle.hb_frag.specs.declared.pages.Page.{Page}
 use Rattle.hb_frag.specs.declared.pages.Page.TheVariants.{Live, Free}
-use Rattle.hb_frag.specs.Leaves.{Placed, leaf_at, leaves_of, siblings_of, first_named}
-use Rattle.hb_latch.specs.Tables.{IsGrantable, IsLeastInTheWay}
 use Rattle.hb_activity.specs.declared.wanting.Wanted.{Wanted}
 use Rattle.hb_activity.specs.declared.activities.Activity.{Activity}
 use Rattle.hb_activity.specs.declared.activities.Activity.TheVariants.{PosterChild, PosterPromote, PosterAgain, ConsolidatorScan, ConsolidatorTry, ConsolidatorPromote, ConsolidatorKeep, ConsolidatorDecide}
-use Rattle.hb_activity.specs.Walks.{walk_point, walk_held}
-use Rattle.hb_activity.specs.Wanting.{wanted_of}
-use Rattle.hb_store.specs.States.{StoreState}
 use Rattle.hb_store.specs.declared.stops.Why.{Why}
 use Rattle.hb_store.specs.declared.stops.Why.TheVariants.{Rule, Level, Extent}
+use Rattle.hb_activity.specs.Walks.{walk_point, walk_held}
+use Rattle.hb_activity.specs.Wanting.{wanted_of}
 use Rattle.hb_core.specs.Machines.{Machine, live_here}
+use Rattle.hb_frag.specs.Leaves.{Placed, leaf_at, leaves_of, siblings_of, first_named}
+use Rattle.hb_latch.specs.Tables.{IsGrantable, IsLeastInTheWay}
+use Rattle.hb_space.specs.Boxes.{Area, Within, whole_area}
+use Rattle.hb_store.specs.States.{StoreState}
 
 -- The page into which the next step of an activity looks to tell which latch it wants: the one that a walk holds, the
 -- page to keep where a merge is tried, or the parent.

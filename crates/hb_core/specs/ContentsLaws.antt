@@ -1,17 +1,19 @@
 -- What a step does to the contents of the file, as laws.
 use Rattle.std.specs.Prelude.{◌≡◌, ◌⊎◌, ℕ, List, [], ◌∷◌, ◌++◌, Some}
 use Rattle.std.specs.FinMap as map
-use Rattle.hb_ops.specs.Files.{contents_of}
-use Rattle.hb_set.specs.Machine.{RecordSet, reply_of, set_after}
-use Rattle.hb_set.specs.Order.{Entry}
 use Rattle.hb_set.specs.declared.commands.Command.{Command}
 use Rattle.hb_set.specs.declared.commands.Command.TheVariants.{Insert, Delete, Lookup, Search}
 use Rattle.hb_activity.specs.declared.activities.Activity.{Activity}
 use Rattle.hb_core.specs.declared.outcomes.Outcome.{Outcome}
-use Rattle.hb_core.specs.Machines.{Files, Machine, current_file}
+use Rattle.hb_activity.specs.Classes.{line_in_hand}
 use Rattle.hb_core.specs.Keeps.{HasSoundFile, HoldsPagesOfFile}
-use Rattle.hb_core.specs.KeptLines.{LinesFit, line_in_hand}
-use Rattle.hb_core.specs.Steps.{StepsTo, WantsBoxes}
+use Rattle.hb_core.specs.KeptLines.{LinesFit}
+use Rattle.hb_core.specs.Machines.{Files, Machine, current_file}
+use Rattle.hb_core.specs.Steps.{StepsTo}
+use Rattle.hb_ops.specs.Files.{contents_of}
+use Rattle.hb_point.specs.SessionRows.{WantsBoxes}
+use Rattle.hb_set.specs.Machine.{RecordSet, reply_of, set_after}
+use Rattle.hb_set.specs.Order.{Entry}
 
 -- the contents of the file as the steps see it
 abbrev pub contents_now : Files → RecordSet

@@ -1,15 +1,16 @@
 -- That no step meets a damaged page over a disk that tells, and what follows for two steps of one actor, as laws.
 use Rattle.std.specs.Prelude.{◌≡◌, ◌⊎◌, ℕ, Some, None}
-use Rattle.hb_set.specs.Machine.{RecordSet}
-use Rattle.hb_latch.specs.Tables.{MayLatch}
 use Rattle.hb_store.specs.declared.stops.StopWhy.TheVariants.{WriteFault}
 use Rattle.hb_core.specs.declared.outcomes.Outcome.{Outcome}
-use Rattle.hb_core.specs.Machines.{Files, Machine}
 use Rattle.hb_core.specs.Acting.{Abandons, MeetsBadPage}
-use Rattle.hb_core.specs.Forcing.{ForcesBadly}
-use Rattle.hb_core.specs.Keeps.{CoreKeeps, HasSoundFile, LatchesFit, WalksInSpace}
-use Rattle.hb_core.specs.OutcomeLaws.{RefusesSearch}
+use Rattle.hb_core.specs.Forcing.{FailsToWrite}
+use Rattle.hb_core.specs.Keeps.{HasSoundFile, LatchesFit, WalksInSpace}
+use Rattle.hb_core.specs.KeptMachine.{CoreKeeps}
+use Rattle.hb_core.specs.Machines.{Files, Machine}
+use Rattle.hb_core.specs.OutcomeLaws.{RefusesSearch, AreOneButMemory}
 use Rattle.hb_core.specs.Steps.{StepsTo}
+use Rattle.hb_latch.specs.Tables.{MayLatch}
+use Rattle.hb_set.specs.Machine.{RecordSet}
 
 -- Each page that a step asks for is one of the file, in use, of the level and the box that were asked for; and the first page
 -- of the free chain is free. So no step meets a damaged page.
@@ -27,9 +28,10 @@ StaysUndamaged = (m : Machine) (files : Files) (actor : ℕ) (outcome : Outcome)
 
 -- A step that want of memory or a fault of the device has turned aside.
 abbrev pub IsRefusedOrFails : Machine → ℕ → Outcome → Machine → Type 0
-IsRefusedOrFails m actor outcome new = RefusesSearch m actor outcome new ⊎ ForcesBadly m outcome new ⊎ Abandons m actor outcome new
+IsRefusedOrFails m actor outcome new = RefusesSearch m actor outcome new ⊎ FailsToWrite m 9 outcome new ⊎ Abandons m actor outcome new
 
--- Of a machine that keeps all that it should, two steps of one actor say the same and lead to one machine, but for these.
+-- Of a machine that keeps all that it should, two steps of one actor say the same and lead to machines that are one but for the
+-- pages in memory, unless one of them was turned aside so.
 abbrev pub KeptStepIsOne : Type 0
 KeptStepIsOne = (n : RecordSet) (m : Machine) (files : Files) (actor : ℕ) (outcome other : Outcome) (new next : Machine) → MayLatch actor → CoreKeeps n m files → StepsTo m actor outcome new → StepsTo m actor other next →
-    IsRefusedOrFails m actor outcome new ⊎ IsRefusedOrFails m actor other next ⊎ ((outcome ≡ other) × (new ≡ next))
+    IsRefusedOrFails m actor outcome new ⊎ IsRefusedOrFails m actor other next ⊎ ((outcome ≡ other) × AreOneButMemory new next)

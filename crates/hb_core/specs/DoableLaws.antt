@@ -1,23 +1,23 @@
 -- That what a row does can be done, as laws.
 use Rattle.std.specs.Prelude.{◌≡◌, ℕ, Some}
 use Rattle.hb_ops.specs.declared.operations.Op.{Op}
-use Rattle.hb_store.specs.Calls.{IsAllowedHere}
-use Rattle.hb_store.specs.States.{StoreState}
-use Rattle.hb_core.specs.Machines.{Machine, with_disk}
+use Rattle.hb_activity.specs.Deeds.{Deed}
+use Rattle.hb_core.specs.AllowedLaws.{AnyPage, HalfHasRoom}
 use Rattle.hb_core.specs.Asking.{wanted_by}
 use Rattle.hb_core.specs.Fetching.{Brings}
-use Rattle.hb_core.specs.Deeds.{Deed}
 use Rattle.hb_core.specs.Keeps.{HoldsPagesOfFile, KnowsRoom}
 use Rattle.hb_core.specs.KeptLines.{MarksInPlace}
-use Rattle.hb_core.specs.AllowedLaws.{AnyPage, HalfHasRoom}
+use Rattle.hb_core.specs.Machines.{Machine, with_disk}
 use Rattle.hb_core.specs.Rows.{Row}
+use Rattle.hb_store.specs.Calls.{IsAllowedHere}
+use Rattle.hb_store.specs.States.{StoreState}
 
 -- A session puts its record into the half of a split that has room: the one half that directly holds the point.
 abbrev pub PutsFindRoom : Type 0
-PutsFindRoom = (m : Machine) (actor : ℕ) (fetched : StoreState) (deed : Deed) (op : Op) → KnowsRoom m → Brings m.files AnyPage m.store fetched →
+PutsFindRoom = (m : Machine) (actor : ℕ) (fetched : StoreState) (deed : Deed) (op : Op) → KnowsRoom m → Brings m AnyPage fetched →
     Row (m.activity actor) (wanted_by m actor) (with_disk fetched m.files m.clock m) deed → deed.op ≡ Some op → HalfHasRoom m actor op
 
 -- So where a row has an operation, that is allowed, over every disk.
 abbrev pub RowsCanBeDone : Type 0
-RowsCanBeDone = (m : Machine) (actor : ℕ) (fetched : StoreState) (deed : Deed) (op : Op) → MarksInPlace m → HoldsPagesOfFile m → KnowsRoom m → Brings m.files AnyPage m.store fetched →
+RowsCanBeDone = (m : Machine) (actor : ℕ) (fetched : StoreState) (deed : Deed) (op : Op) → MarksInPlace m → HoldsPagesOfFile m → KnowsRoom m → Brings m AnyPage fetched →
     Row (m.activity actor) (wanted_by m actor) (with_disk fetched m.files m.clock m) deed → deed.op ≡ Some op → IsAllowedHere fetched op

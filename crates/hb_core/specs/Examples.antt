@@ -1,11 +1,8 @@
 -- Rows worked out by hand, where the table computes.
 use Rattle.std.specs.Prelude.{◌≡◌, ℕ, List, [], ◌∷◌, Some, None}
-use Rattle.hb_space.specs.Boxes.{whole_area}
 use Rattle.hb_frag.specs.declared.leaves.Leaf.{Leaf}
 use Rattle.hb_frag.specs.declared.leaves.Leaf.TheVariants.{Records, Child, Sibling}
-use Rattle.hb_frag.specs.Trees.{Cut, Tip}
 use Rattle.hb_frag.specs.declared.pages.LivePage.{LivePage}
-use Rattle.hb_wal.specs.Log.{Waiting}
 use Rattle.hb_latch.specs.declared.modes.Mode.TheVariants.{Update, Exclusive}
 use Rattle.hb_set.specs.declared.commands.Command.TheVariants.{Lookup}
 use Rattle.hb_set.specs.declared.commands.Reply.TheVariants.{Missing}
@@ -14,11 +11,15 @@ use Rattle.hb_set.specs.declared.scripts.Line.{Line}
 use Rattle.hb_activity.specs.declared.jobs.Job.{Job}
 use Rattle.hb_activity.specs.declared.jobs.JobKind.TheVariants.{Post}
 use Rattle.hb_activity.specs.declared.activities.Activity.TheVariants.{PosterChild, SessionIdle, SessionPut}
-use Rattle.hb_store.specs.States.{StoreState}
-use Rattle.hb_core.specs.ConsolidatorRows.{children_of, one_behind, pair_among}
-use Rattle.hb_core.specs.Forcing.{calls_of_force}
+use Rattle.hb_activity.specs.Passing.{posts_owed}
+use Rattle.hb_consol.specs.ConsolidatorRows.{children_of, one_behind, pair_among}
 use Rattle.hb_core.specs.Performing.{latches_held, mode_among}
-use Rattle.hb_core.specs.SessionRows.{next_line, posts_owed}
+use Rattle.hb_frag.specs.Trees.{Cut, Tip}
+use Rattle.hb_point.specs.SessionRows.{next_line}
+use Rattle.hb_space.specs.Boxes.{whole_area}
+use Rattle.hb_store.specs.States.{StoreState}
+use Rattle.hb_wal.specs.Forces.{calls_of_force}
+use Rattle.hb_wal.specs.Log.{Waiting}
 
 -- a line that asks for a point, and its answer
 abbrev pub asks : ℕ → ℕ → ℕ → Line

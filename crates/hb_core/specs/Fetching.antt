@@ -1,26 +1,37 @@
 -- What a step brings into memory, and why it doesn't.
-use Rattle.std.specs.Prelude.{◌≡◌, ◌≢◌, ◌⊎◌, ℕ, ◌≤◌, Option, Some, None, IsSome, IfSome}
+use Rattle.std.specs.Prelude.{◌≡◌, ◌≢◌, ◌⊎◌, ℕ, ◌≤◌, IsTrue, Option, Some, None, IsSome, IfSome}
 use Rattle.hb_frag.specs.declared.pages.LivePage.{LivePage}
 use Rattle.hb_frag.specs.declared.pages.Page.{Page}
 use Rattle.hb_frag.specs.declared.pages.Page.TheVariants.{Live}
-use Rattle.hb_ops.specs.Files.{page_of}
 use Rattle.hb_activity.specs.declared.wanting.Wanted.{Wanted}
-use Rattle.hb_store.specs.Calls.{KeepsAllButPages}
-use Rattle.hb_store.specs.States.{IsGoodPage, StoreState, in_memory}
-use Rattle.hb_store.specs.Stops.{IsNoPage}
+use Rattle.hb_latch.specs.declared.modes.Mode.{Mode}
 use Rattle.hb_store.specs.declared.stops.Why.{Why}
 use Rattle.hb_store.specs.declared.stops.Why.TheVariants.{Rule, Level, Extent}
-use Rattle.hb_core.specs.Machines.{Files, current_file}
 use Rattle.hb_core.specs.Asking.{AskedBox, IsNotAsked}
+use Rattle.hb_core.specs.Machines.{Files, Machine, current_file}
+use Rattle.hb_latch.specs.Tables.{mode_at}
+use Rattle.hb_ops.specs.Files.{page_of}
+use Rattle.hb_store.specs.Calls.{KeepsAllButPages}
+use Rattle.hb_store.specs.States.{IsGoodPage, StoreState, in_memory, is_imaged}
+use Rattle.hb_store.specs.Stops.{IsNoPage}
 
--- Pages came into memory, of these numbers at most: what was there stays, and what came is of the file and keeps the rules
--- that speak of a page alone; where the disk tells, it is what the file has there. Else nothing changed.
-pub record Brings (files : Option Files) (may : ℕ → Type 0) (old new : StoreState) : Type 0 where
-  pub rest : KeepsAllButPages old new
-  pub stays : (id : ℕ) → IsSome (in_memory old id) → in_memory new id ≡ in_memory old id
-  pub only : (id : ℕ) → in_memory old id ≡ None → IsSome (in_memory new id) → may id
-  pub good : (id : ℕ) (page : Page) → in_memory old id ≡ None → in_memory new id ≡ Some page → (1 ≤ id) × (id ≤ old.meta.high) × IsGoodPage old.meta page
-  pub told : (id : ℕ) (page : Page) → in_memory old id ≡ None → in_memory new id ≡ Some page → IfSome files (λ files. page_of (current_file files) id ≡ Some page)
+-- The pages that stay in memory whatever comes: those that somebody holds, and those that were imaged or made in this turn, which
+-- read otherwise in their places than the file has them.
+abbrev pub IsHeld : Machine → ℕ → Type 0
+IsHeld m id = (actor : ℕ) × (mode : Mode) × (mode_at m.latches actor id ≡ Some mode)
+
+abbrev pub MustStay : Machine → ℕ → Type 0
+MustStay m id = IsHeld m id ⊎ IsTrue (is_imaged m.store id)
+
+-- Pages came into memory, of these numbers at most, and pages left it that need not stay: else nothing changed. What came is of
+-- the file and keeps the rules that speak of a page alone; where the disk tells, it is what the file has there.
+pub record Brings (m : Machine) (may : ℕ → Type 0) (new : StoreState) : Type 0 where
+  pub rest : KeepsAllButPages m.store new
+  pub stays : (id : ℕ) → MustStay m id → IsSome (in_memory m.store id) → in_memory new id ≡ in_memory m.store id
+  pub others : (id : ℕ) → IsSome (in_memory m.store id) → (in_memory new id ≡ in_memory m.store id) ⊎ (in_memory new id ≡ None)
+  pub only : (id : ℕ) → in_memory m.store id ≡ None → IsSome (in_memory new id) → may id
+  pub good : (id : ℕ) (page : Page) → in_memory m.store id ≡ None → in_memory new id ≡ Some page → (1 ≤ id) × (id ≤ m.store.meta.high) × IsGoodPage m.store.meta page
+  pub told : (id : ℕ) (page : Page) → in_memory m.store id ≡ None → in_memory new id ≡ Some page → IfSome m.files (λ files. page_of (current_file files) id ≡ Some page)
 
 -- What a step may need: the page that it wants, and, where it takes a number for a page that it makes, the first page of
 -- the free chain.

@@ -1,13 +1,14 @@
 -- What a step does to the file, as laws.
 use Rattle.std.specs.Prelude.{◌≡◌, ℕ, Some}
 use Rattle.hb_ops.specs.declared.operations.Op.{Op}
-use Rattle.hb_ops.specs.Operations.{IsAllowed, IsLicensed, OpHas}
 use Rattle.hb_core.specs.declared.outcomes.Outcome.{Outcome}
-use Rattle.hb_core.specs.Machines.{Files, Machine, current_file}
+use Rattle.hb_activity.specs.Deeds.{does}
 use Rattle.hb_core.specs.Acting.{DoesRow}
 use Rattle.hb_core.specs.Keeps.{HasSoundFile, HoldsPagesOfFile}
 use Rattle.hb_core.specs.KeptLines.{LinesFit, MarksInPlace}
+use Rattle.hb_core.specs.Machines.{Files, Machine, current_file}
 use Rattle.hb_core.specs.Steps.{StepsTo}
+use Rattle.hb_ops.specs.Operations.{IsAllowed, IsLicensed, OpHas}
 
 -- What the lines would store can be stored after a step, too.
 abbrev pub LinesStayFit : Type 0

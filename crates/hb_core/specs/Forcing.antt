@@ -1,31 +1,32 @@
--- What a force makes of a machine, and the step of the flusher.
+-- What flushing makes of a machine: a force, what is flushed besides, and the step of the flusher.
 use Rattle.std.specs.Prelude.{◌≡◌, ◌≢◌, ◌⊎◌, ℕ, ◌+◌, ◌≤◌, Bool, true, false, List, [], ◌∷◌, option_map}
-use Rattle.hb_wal.specs.Log.{Waiting}
-use Rattle.hb_store.specs.Calls.{durable_after, forced_state, later_after, stopped_state}
 use Rattle.hb_store.specs.declared.stops.StopWhy.TheVariants.{WriteFault}
 use Rattle.hb_core.specs.declared.outcomes.Outcome.{Outcome}
 use Rattle.hb_core.specs.declared.outcomes.Outcome.TheVariants as outcomes
 use Rattle.hb_core.specs.Machines.{Files, Machine, stopped_for, with_disk}
+use Rattle.hb_core.specs.Stages.{HasMoreToFlush, IsFlushedTo}
+use Rattle.hb_store.specs.Calls.{durable_after, forced_state, later_after, stopped_state}
+use Rattle.hb_store.specs.States.{StoreState, in_memory}
+use Rattle.hb_wal.specs.Forces.{calls_of_force}
 
--- A force: the first group that waits is durable, or the write failed and the machine is stopped. Where a group waited, a
--- force that is done takes four device calls, and one that failed four at most; where none did, it takes none.
-abbrev pub calls_of_force : List Waiting → ℕ
-calls_of_force [] = 0
-calls_of_force (first ∷ rest) = 4
+-- A device call failed: the machine is stopped, behind so many calls at most.
+pub record FailsToWrite (m : Machine) (most : ℕ) (outcome : Outcome) (new : Machine) : Type 0 where
+  pub clock : ℕ
+  pub from : m.clock ≤ clock
+  pub few : clock ≤ m.clock + most
+  pub says : outcome ≡ outcomes.Stopped WriteFault
+  pub stops : new ≡ stopped_for WriteFault (with_disk (stopped_state m.store) m.files clock m)
 
+-- A force: the first group that waits is durable, or the write failed. Where a group waited, a force that is done takes four device
+-- calls; where none did, it takes none.
 abbrev pub forced_files : Files → Files
 forced_files files = record { durable = durable_after files.durable files.later; later = later_after files.later }
 
 abbrev pub ForcesWell : Machine → Outcome → Outcome → Machine → Type 0
 ForcesWell m done outcome new = (outcome ≡ done) × (new ≡ with_disk (forced_state m.store) (option_map forced_files m.files) (m.clock + calls_of_force m.store.log.groups) m)
 
-pub record ForcesBadly (m : Machine) (outcome : Outcome) (new : Machine) : Type 0 where
-  pub waits : m.store.log.groups ≢ []
-  pub clock : ℕ
-  pub from : m.clock ≤ clock
-  pub few : clock ≤ m.clock + 4
-  pub says : outcome ≡ outcomes.Stopped WriteFault
-  pub stops : new ≡ stopped_for WriteFault (with_disk (stopped_state m.store) m.files clock m)
+abbrev pub ForcesBadly : Machine → Outcome → Machine → Type 0
+ForcesBadly m outcome new = (m.store.log.groups ≢ []) × FailsToWrite m 4 outcome new
 
 abbrev pub ForcesFirst : Machine → Outcome → Outcome → Machine → Type 0
 ForcesFirst m done outcome new = ForcesWell m done outcome new ⊎ ForcesBadly m outcome new
@@ -34,12 +35,33 @@ ForcesFirst m done outcome new = ForcesWell m done outcome new ⊎ ForcesBadly m
 abbrev pub StaysSo : Machine → Outcome → Outcome → Machine → Type 0
 StaysSo m said outcome new = (outcome ≡ said) × (new ≡ m)
 
--- What the flusher does once no group waits. Pages that were changed are written to their places, and the log's area is
--- switched; neither is built, so there is nothing left to do.
-abbrev pub FlushesRest : Machine → Outcome → Machine → Type 0
-FlushesRest m outcome new = StaysSo m outcomes.Idle outcome new
+-- A page is written to its place, or the log begins again: in one call, or in nine. The file stays, no group waits, and what is in
+-- memory stays there.
+pub record FlushesWell (m : Machine) (due outcome : Outcome) (new : Machine) : Type 0 where
+  pub store : StoreState
+  pub calls : ℕ
+  pub flushed : IsFlushedTo m.store calls store
+  pub few : calls ≤ 9
+  pub says : outcome ≡ due
+  pub meta : store.meta ≡ m.store.meta
+  pub no_group : store.log.groups ≡ []
+  pub memory : (id : ℕ) → in_memory store id ≡ in_memory m.store id
+  pub stopped : store.stopped ≡ m.store.stopped
+  pub leaves : new ≡ with_disk store m.files (m.clock + calls) m
 
--- A step of the flusher, where it takes any: a group that waits is forced.
+-- What flushing comes to once no group waits: that, or a write that fails, where something is left to flush; else nothing was to
+-- be done, and this happens.
+abbrev pub FlushesRest : Machine → Outcome → Type 0 → Outcome → Machine → Type 0
+FlushesRest m due nothing outcome new =
+    (HasMoreToFlush m.store × FlushesWell m due outcome new)
+    ⊎ (HasMoreToFlush m.store × FailsToWrite m 9 outcome new)
+    ⊎ ((¬ (HasMoreToFlush m.store)) × nothing)
+
+-- A step flushes once, and says what is due then: a group that waits is forced; where none does, the rest is flushed.
+abbrev pub FlushesOnce : Machine → Outcome → Type 0 → Outcome → Machine → Type 0
+FlushesOnce m due nothing outcome new = ((m.store.log.groups ≢ []) × ForcesFirst m due outcome new) ⊎ ((m.store.log.groups ≡ []) × FlushesRest m due nothing outcome new)
+
+-- A step of the flusher, where it takes any.
 abbrev pub Flushes : Bool → Machine → Outcome → Machine → Type 0
 Flushes false m outcome new = StaysSo m outcomes.Idle outcome new
-Flushes true m outcome new = ((m.store.log.groups ≢ []) × ForcesFirst m outcomes.Moved outcome new) ⊎ ((m.store.log.groups ≡ []) × FlushesRest m outcome new)
+Flushes true m outcome new = FlushesOnce m outcomes.Moved (StaysSo m outcomes.Idle outcome new) outcome new

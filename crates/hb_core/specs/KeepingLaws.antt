@@ -1,20 +1,21 @@
 -- What each step keeps of the walks, the room and the groups that wait, and what follows for a list of steps, as laws.
 use Rattle.std.specs.Prelude.{◌≡◌, ◌⊎◌, ℕ, ◌<◌, ◌≤◌, List, [], ◌∷◌, length, take, All, Some}
-use Rattle.hb_ops.specs.Files.{FileState, contents_of}
-use Rattle.hb_set.specs.Machine.{RecordSet}
-use Rattle.hb_set.specs.Order.{IsLegalOrder, result_of}
 use Rattle.hb_set.specs.declared.scripts.Answered.{Answered}
-use Rattle.hb_latch.specs.Tables.{MayLatch}
 use Rattle.hb_activity.specs.declared.activities.Activity.TheVariants as at
 use Rattle.hb_core.specs.declared.outcomes.Outcome.{Outcome}
 use Rattle.hb_core.specs.declared.outcomes.Outcome.TheVariants as outcomes
-use Rattle.hb_core.specs.Machines.{Files, Machine, settled_count}
-use Rattle.hb_core.specs.Keeps.{CoreKeeps, HasNoOtherLatches, HasNobodyElse, HasSoundFile, HoldsPagesOfFile, KnowsRoom, LatchesFit, WalksInSpace}
 use Rattle.hb_core.specs.DamageLaws.{IsUndamaged}
+use Rattle.hb_core.specs.Keeps.{HasNoOtherLatches, HasNobodyElse, HasSoundFile, HoldsPagesOfFile, KnowsRoom, LatchesFit, WalksInSpace}
 use Rattle.hb_core.specs.KeptOrder.{HasLegalOrder, HasPendingPrefix, StandsInOrder, StandsOutside}
+use Rattle.hb_core.specs.KeptMachine.{CoreKeeps}
+use Rattle.hb_core.specs.Machines.{Files, Machine, settled_count}
 use Rattle.hb_core.specs.OrderLaws.{SearchIsRight}
+use Rattle.hb_core.specs.SteppingLaws.{HasNoSearches, IsBegunOver}
 use Rattle.hb_core.specs.Steps.{StepsInTurn, StepsTo}
-use Rattle.hb_core.specs.SteppingLaws.{HasNoSearches, IsBegun}
+use Rattle.hb_latch.specs.Tables.{MayLatch}
+use Rattle.hb_ops.specs.Files.{FileState, contents_of}
+use Rattle.hb_set.specs.Machine.{RecordSet}
+use Rattle.hb_set.specs.Order.{IsLegalOrder, result_of}
 
 -- Under no number but those of the 19 actors anybody comes to stand.
 abbrev pub NobodyElseComes : Type 0
@@ -102,4 +103,4 @@ abbrev pub ChangesKeepAll : Type 0
 ChangesKeepAll = (n : RecordSet) (actors : List ℕ) (m : Machine) (files : Files) (new : Machine) → All MayLatch actors → HasNoSearches m → CoreKeeps n m files → StepsInTurn actors m new → (files' : Files) × HasKeptAll n m new files'
 
 abbrev pub BegunKeepsAll : Type 0
-BegunKeepsAll = (s : FileState) (actors : List ℕ) (m new : Machine) → IsBegun m s → All MayLatch actors → HasNoSearches m → StepsInTurn actors m new → (files : Files) × HasKeptAll (contents_of s) m new files
+BegunKeepsAll = (s : FileState) (actors : List ℕ) (m new : Machine) → IsBegunOver m s → All MayLatch actors → HasNoSearches m → StepsInTurn actors m new → (files : Files) × HasKeptAll (contents_of s) m new files

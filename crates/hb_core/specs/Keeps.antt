@@ -1,30 +1,30 @@
 -- What every machine keeps over a disk that tells, a record for each part.
 use Rattle.std.specs.Prelude.{◌≡◌, ◌⊎◌, ℕ, ◌<◌, ◌≤◌, List, length, All, Some, None, IfSome}
-use Rattle.hb_space.specs.Boxes.{Holds}
 use Rattle.hb_frag.specs.declared.pages.LivePage.{LivePage}
 use Rattle.hb_frag.specs.declared.pages.Page.{Page}
+use Rattle.hb_set.specs.declared.commands.Command.TheVariants.{Insert}
+use Rattle.hb_frag.specs.declared.pages.Page.TheVariants.{Live}
+use Rattle.hb_latch.specs.declared.modes.Mode.{Mode}
+use Rattle.hb_activity.specs.declared.activities.Activity.TheVariants as at
+use Rattle.hb_activity.specs.declared.jobs.Job.{Job}
+use Rattle.hb_activity.specs.Passing.{LeadsBelow}
+use Rattle.hb_activity.specs.Walks.{walk_held, walk_point}
+use Rattle.hb_core.specs.KeptLines.{LinesFit}
+use Rattle.hb_core.specs.KeptMerges.{NamesKnown, merging_at}
+use Rattle.hb_core.specs.KeptOrder.{HasLegalOrder, HasPendingPrefix}
+use Rattle.hb_core.specs.KeptTurns.{LinesInTurn}
+use Rattle.hb_core.specs.Machines.{Files, Machine, current_file, live_here}
+use Rattle.hb_core.specs.Performing.{latches_held, mode_among}
 use Rattle.hb_frag.specs.Leaves.{DirectlyHolds, weight_of}
+use Rattle.hb_latch.specs.Tables.{AreCompatible, MayLatch, mode_at}
 use Rattle.hb_layout.specs.Limits.{IsLayout}
 use Rattle.hb_ops.specs.Files.{page_of}
 use Rattle.hb_ops.specs.Recording.{put_page}
 use Rattle.hb_ops.specs.Sound.{IsSound}
 use Rattle.hb_ops.specs.Standing.{StandsNot}
 use Rattle.hb_set.specs.Machine.{RecordSet}
-use Rattle.hb_set.specs.declared.commands.Command.TheVariants.{Insert}
-use Rattle.hb_frag.specs.declared.pages.Page.TheVariants.{Live}
-use Rattle.hb_latch.specs.declared.modes.Mode.{Mode}
-use Rattle.hb_latch.specs.Tables.{AreCompatible, MayLatch, mode_at}
-use Rattle.hb_activity.specs.declared.activities.Activity.TheVariants as at
-use Rattle.hb_activity.specs.declared.jobs.Job.{Job}
-use Rattle.hb_activity.specs.Walks.{walk_held, walk_point}
+use Rattle.hb_space.specs.Boxes.{Holds}
 use Rattle.hb_store.specs.States.{IsGoodPage, in_memory}
-use Rattle.hb_core.specs.Machines.{Files, Machine, current_file, live_here}
-use Rattle.hb_core.specs.Performing.{latches_held, mode_among}
-use Rattle.hb_core.specs.WorkerRows.{LeadsBelow}
-use Rattle.hb_core.specs.KeptLines.{LinesFit}
-use Rattle.hb_core.specs.KeptTurns.{LinesInTurn}
-use Rattle.hb_core.specs.KeptMerges.{NamesKnown, merging_at}
-use Rattle.hb_core.specs.KeptOrder.{HasLegalOrder, HasPendingPrefix}
 
 -- Every file is sound: the durable one, and that after each group that waits. What is in memory is the last one's.
 pub record HasSoundFile (m : Machine) (files : Files) : Type 0 where
@@ -96,18 +96,3 @@ HasNobodyElse m = (actor : ℕ) → ¬ (MayLatch actor) → m.activity actor ≡
 -- And under no other number a latch is held.
 abbrev pub HasNoOtherLatches : Machine → Type 0
 HasNoOtherLatches m = (actor page : ℕ) → ¬ (MayLatch actor) → mode_at m.latches actor page ≡ None
-
--- All of them, from the set that was opened.
-pub record CoreKeeps (n : RecordSet) (m : Machine) (files : Files) : Type 0 where
-  pub told : m.files ≡ Some files
-  pub lines_fit : LinesFit m
-  pub lines_in_turn : LinesInTurn m
-  pub pages_of_file : HoldsPagesOfFile m
-  pub sound_file : HasSoundFile m files
-  pub latches_fit : LatchesFit m
-  pub nobody_else : HasNobodyElse m
-  pub no_other_latches : HasNoOtherLatches m
-  pub walk_in_space : WalksInSpace m
-  pub room_known : KnowsRoom m
-  pub order_legal : HasLegalOrder n m files
-  pub pending_prefix : HasPendingPrefix n m files

@@ -1,20 +1,14 @@
 -- What every machine keeps of its script's lines, and of the marks of its file.
 use Rattle.std.specs.Prelude.{◌<◌, ◌≤◌, ◌^◌, ℕ, All, Option, Some, None, IfSome}
-use Rattle.hb_space.specs.Points.{IsBody}
-use Rattle.hb_layout.specs.Limits.{IsLayout}
 use Rattle.hb_set.specs.declared.commands.Command.{Command}
 use Rattle.hb_set.specs.declared.commands.Command.TheVariants.{Insert, Delete, Lookup, Search}
 use Rattle.hb_set.specs.declared.scripts.Line.{Line}
 use Rattle.hb_activity.specs.declared.activities.Activity.{Activity}
 use Rattle.hb_activity.specs.declared.activities.Activity.TheVariants as at
+use Rattle.hb_activity.specs.Classes.{line_in_hand}
 use Rattle.hb_core.specs.Machines.{Machine}
-
--- the line that a session has in hand: it was taken, and hasn't taken effect
-abbrev pub line_in_hand : Activity → Option Line
-line_in_hand (at.SessionWalk line held rest found) = Some line
-line_in_hand (at.SessionSplit line held) = Some line
-line_in_hand (at.SessionPut line source fresh) = Some line
-line_in_hand other = None
+use Rattle.hb_layout.specs.Limits.{IsLayout}
+use Rattle.hb_space.specs.Points.{IsBody}
 
 -- what a command would store can be stored
 abbrev pub HasBody : Command → Type 0

@@ -2,14 +2,14 @@
 use Rattle.std.specs.Prelude.{◌≡◌, ℕ, List, [], ◌∷◌, IsTrue, All, Option, Some, None, IfSome, slice_get}
 use Rattle.hb_frag.specs.declared.leaves.Leaf.TheVariants.{Sibling}
 use Rattle.hb_frag.specs.declared.pages.LivePage.{LivePage}
-use Rattle.hb_frag.specs.Leaves.{leaves}
-use Rattle.hb_terms.specs.Merging.{GaveTo}
 use Rattle.hb_activity.specs.declared.jobs.Job.{Job}
 use Rattle.hb_activity.specs.declared.activities.Activity.{Activity}
 use Rattle.hb_activity.specs.declared.activities.Activity.TheVariants as at
-use Rattle.hb_store.specs.States.{StoreState}
+use Rattle.hb_consol.specs.ConsolidatorRows.{names_child}
 use Rattle.hb_core.specs.Machines.{live_here}
-use Rattle.hb_core.specs.ConsolidatorRows.{names_child}
+use Rattle.hb_frag.specs.Leaves.{leaves}
+use Rattle.hb_store.specs.States.{StoreState}
+use Rattle.hb_terms.specs.Merging.{GaveTo}
 
 -- The page to keep, where a consolidator holds it, and the page to go. `leaf` is the place of the sibling leaf that names the
 -- latter, while the pair is tried.

@@ -1,15 +1,15 @@
 -- What every machine keeps of its order and of the groups that wait.
 use Rattle.std.specs.Prelude.{◌≡◌, ◌⊎◌, ℕ, ◌<◌, ◌≤◌, List, [], ◌∷◌, length, take, All, AllPairs, Some}
 use Rattle.std.specs.List.{slice_get}
-use Rattle.hb_wal.specs.Log.{Waiting}
-use Rattle.hb_ops.specs.Files.{FileState, contents_of}
-use Rattle.hb_set.specs.Machine.{RecordSet}
-use Rattle.hb_set.specs.Order.{Entry, IsLegalOrder, result_of}
 use Rattle.hb_set.specs.declared.commands.Reply.{Reply}
 use Rattle.hb_set.specs.declared.commands.Reply.TheVariants as replies
 use Rattle.hb_set.specs.declared.scripts.Answered.{Answered}
 use Rattle.hb_activity.specs.declared.activities.Activity.TheVariants as at
 use Rattle.hb_core.specs.Machines.{Files, Machine, current_file, settled_count}
+use Rattle.hb_ops.specs.Files.{FileState, contents_of}
+use Rattle.hb_set.specs.Machine.{RecordSet}
+use Rattle.hb_set.specs.Order.{Entry, IsLegalOrder, result_of}
+use Rattle.hb_wal.specs.Log.{Waiting}
 
 -- The order is legal from the set that was opened, with the replies that were given or are kept, and the file has its
 -- result. A line that awaits its place stands there, with the reply that is kept; and so does each answered line of the

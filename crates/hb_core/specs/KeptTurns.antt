@@ -1,12 +1,12 @@
 -- What every machine keeps of the order in which a session answers its lines.
 use Rattle.std.specs.Prelude.{◌≡◌, ◌⊎◌, ℕ, ◌<◌, IsTrue, All, Contains, Option, Some, None, IfSome, IsSomeAnd}
-use Rattle.hb_set.specs.Order.{AreRising, Entry}
 use Rattle.hb_set.specs.declared.scripts.Line.{Line}
 use Rattle.hb_activity.specs.declared.activities.Activity.{Activity}
 use Rattle.hb_activity.specs.declared.activities.Activity.TheVariants as at
-use Rattle.hb_core.specs.Machines.{Machine, is_answered}
-use Rattle.hb_core.specs.KeptLines.{line_in_hand}
-use Rattle.hb_core.specs.SessionRows.{next_line}
+use Rattle.hb_activity.specs.Classes.{line_in_hand}
+use Rattle.hb_core.specs.Machines.{Machine}
+use Rattle.hb_point.specs.SessionRows.{is_answered, next_line}
+use Rattle.hb_set.specs.Order.{AreRising, Entry}
 
 -- the number of the line for whose place a session waits
 abbrev pub awaited_number : Activity → Option ℕ

@@ -1,23 +1,25 @@
 -- What a step leaves alone, as laws.
-use Rattle.std.specs.Prelude.{◌≡◌, ◌≢◌, ◌⊎◌, ℕ, ◌+◌, ◌≤◌, List, [], ◌∷◌, ◌++◌, Some}
+use Rattle.std.specs.Prelude.{◌≡◌, ◌≢◌, ◌⊎◌, ℕ, ◌+◌, ◌≤◌, List, [], ◌∷◌, ◌++◌, Some, None}
 use Rattle.std.specs.List.{Contains}
 use Rattle.hb_frag.specs.declared.pages.LivePage.{LivePage}
 use Rattle.hb_frag.specs.declared.pages.Page.TheVariants.{Live}
-use Rattle.hb_ops.specs.Files.{FileState}
-use Rattle.hb_sound.specs.PointWalks.{HasWalk, IsPointOf, IsResponsible, LeadsFurther}
-use Rattle.hb_set.specs.Order.{Entry}
 use Rattle.hb_latch.specs.declared.modes.Mode.{Mode}
 use Rattle.hb_latch.specs.declared.modes.Mode.TheVariants.{Exclusive}
-use Rattle.hb_latch.specs.Tables.{MayLatch, mode_at}
 use Rattle.hb_activity.specs.declared.wanting.Wanted.{Wanted}
-use Rattle.hb_activity.specs.Walks.{walk_held, walk_point}
-use Rattle.hb_store.specs.States.{in_memory}
 use Rattle.hb_core.specs.declared.outcomes.Outcome.{Outcome}
-use Rattle.hb_core.specs.Machines.{Files, Machine, current_file, live_here}
+use Rattle.hb_activity.specs.Walks.{walk_held, walk_point}
 use Rattle.hb_core.specs.Asking.{HasWayFree, wanted_by}
-use Rattle.hb_core.specs.Performing.{given_by}
+use Rattle.hb_core.specs.Fetching.{MustStay}
 use Rattle.hb_core.specs.Keeps.{HasSoundFile, HoldsPagesOfFile, LatchesFit}
+use Rattle.hb_core.specs.Machines.{Files, Machine, current_file, live_here}
+use Rattle.hb_core.specs.Performing.{given_by}
+use Rattle.hb_core.specs.Stages.{HasMoreToFlush}
 use Rattle.hb_core.specs.Steps.{StepsTo}
+use Rattle.hb_latch.specs.Tables.{MayLatch, mode_at}
+use Rattle.hb_ops.specs.Files.{FileState}
+use Rattle.hb_set.specs.Order.{Entry}
+use Rattle.hb_sound.specs.PointWalks.{HasWalk, IsPointOf, IsResponsible, LeadsFurther}
+use Rattle.hb_store.specs.States.{in_memory}
 
 -- An actor has a page for itself: it holds it so; or its step wants it so, and nobody is in the way.
 pub record TakesAlone (m : Machine) (actor id : ℕ) : Type 0 where
@@ -34,10 +36,14 @@ HasAlone m actor id = (mode_at m.latches actor id ≡ Some Exclusive) ⊎ TakesA
 abbrev pub IsInUse : Machine → ℕ → LivePage → Type 0
 IsInUse m id page = in_memory m.store id ≡ Some (Live page)
 
+-- A page that need not stay has left memory.
+abbrev pub HasLeft : Machine → ℕ → Machine → Type 0
+HasLeft m id new = (¬ (MustStay m id)) × (in_memory new.store id ≡ None)
+
 -- A step changes no page in use but those that its actor has for itself. The page that it makes was in no use.
 abbrev pub OwnPagesChange : Type 0
 OwnPagesChange = (m : Machine) (actor : ℕ) (outcome : Outcome) (new : Machine) → MayLatch actor → LatchesFit m → HoldsPagesOfFile m → StepsTo m actor outcome new →
-    (id : ℕ) (page : LivePage) → IsInUse m id page → IsInUse new id page ⊎ HasAlone m actor id
+    (id : ℕ) (page : LivePage) → IsInUse m id page → IsInUse new id page ⊎ HasLeft m id new ⊎ HasAlone m actor id
 
 -- So what another actor holds, in whatever mode, stays as it was.
 abbrev pub HeldPagesStay : Type 0
@@ -74,11 +80,13 @@ WalksGoFurther = (m : Machine) (files : Files) (actor held : ℕ) (page : LivePa
     walk_held (m.activity actor) ≡ Some held → walk_point (m.activity actor) ≡ Some p → live_here m.store held ≡ Some page → wanted_by m actor ≡ Some wanted →
     LeadsFurther (current_file files) p page wanted.page
 
--- A step that makes no device call leaves the clock. One that does is a force, with a group that waits: it moves the clock by
--- four at most.
+-- A step that makes no device call leaves the clock. A force, which has a group that waits, moves it by four at most; what else is
+-- flushed by nine.
 abbrev pub ClockMoves : Type 0
 ClockMoves = (m : Machine) (actor : ℕ) (outcome : Outcome) (new : Machine) → StepsTo m actor outcome new →
-    (new.clock ≡ m.clock) ⊎ ((m.store.log.groups ≢ []) × (m.clock ≤ new.clock) × (new.clock ≤ m.clock + 4))
+    (new.clock ≡ m.clock)
+    ⊎ ((m.store.log.groups ≢ []) × (m.clock ≤ new.clock) × (new.clock ≤ m.clock + 4))
+    ⊎ (HasMoreToFlush m.store × (m.clock ≤ new.clock) × (new.clock ≤ m.clock + 9))
 
 -- A line is answered by the step whose outcome says so, with the clock after it, and by no other.
 abbrev pub AnswersAreTimed : Type 0

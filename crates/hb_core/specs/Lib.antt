@@ -2,14 +2,7 @@ pub mod Stages
 pub mod Machines
 pub mod Asking
 pub mod Fetching
-pub mod Deeds
 pub mod Performing
-pub mod SearchRows
-pub mod SplitRows
-pub mod SessionRows
-pub mod WorkerRows
-pub mod ConsolidatorRows
-pub mod MergeRows
 pub mod Rows
 pub mod Forcing
 pub mod GivingUp
@@ -20,6 +13,9 @@ pub mod KeptTurns
 pub mod KeptOrder
 pub mod KeptMerges
 pub mod Keeps
+pub mod KeptFits
+pub mod KeptPlaces
+pub mod KeptMachine
 pub mod Laws
 pub mod FileLaws
 pub mod ContentsLaws
@@ -32,6 +28,11 @@ pub mod SteppingLaws
 pub mod KeepingLaws
 pub mod WaitingLaws
 pub mod StageLaws
+pub mod MachineLaws
+pub mod CauseLaws
+pub mod Showing
+pub mod MomentLaws
+pub mod ProgressLaws
 pub mod Examples
 pub mod Scenes
 pub mod OneInsert

@@ -1,18 +1,21 @@
 -- The state of the step machine: all that a step looks at or changes, as data.
-use Rattle.std.specs.Prelude.{ℕ, ◌==◌, if◌then◌else◌, Bool, List, [], ◌∷◌, length, Option, Some, None}
+use Rattle.std.specs.Prelude.{ℕ, ◌==◌, ◌+◌, nat_lt, if◌then◌else◌, Bool, List, [], ◌∷◌, length, Option, Some, None}
 use Rattle.std.specs.List.{list_any}
 use Rattle.hb_frag.specs.declared.pages.LivePage.{LivePage}
-use Rattle.hb_wal.specs.Log.{mark_of}
-use Rattle.hb_ops.specs.Files.{FileState, if_live}
-use Rattle.hb_set.specs.Order.{Entry}
+use Rattle.hb_frag.specs.declared.pages.Page.{Page}
+use Rattle.hb_frag.specs.declared.pages.Page.TheVariants.{Live, Free}
 use Rattle.hb_set.specs.declared.scripts.Line.{Line}
 use Rattle.hb_set.specs.declared.scripts.Answered.{Answered}
-use Rattle.hb_latch.specs.Tables.{LatchTable}
 use Rattle.hb_activity.specs.declared.jobs.Job.{Job}
 use Rattle.hb_activity.specs.declared.activities.Activity.{Activity}
+use Rattle.hb_store.specs.declared.stops.StopWhy.{StopWhy}
+use Rattle.hb_activity.specs.Sights.{Sight}
+use Rattle.hb_latch.specs.Tables.{LatchTable}
+use Rattle.hb_ops.specs.Files.{FileState, if_live}
+use Rattle.hb_set.specs.Order.{Entry}
 use Rattle.hb_store.specs.Keeps.{last_of}
 use Rattle.hb_store.specs.States.{StoreState, in_memory}
-use Rattle.hb_store.specs.declared.stops.StopWhy.{StopWhy}
+use Rattle.hb_wal.specs.Log.{mark_of}
 
 -- The files over a disk that tells: the one that is durable, and those after each group that waits, in their order.
 pub record Files : Type 0 where
@@ -54,9 +57,20 @@ settled_count m = mark_of m.store.log.groups (length m.order)
 abbrev pub live_here : StoreState → ℕ → Option LivePage
 live_here st id = if_live (in_memory st id)
 
--- whether a line of this number was answered
-abbrev pub is_answered : ℕ → List Answered → Bool
-is_answered number answered = list_any (λ a. a.line == number) answered
+-- The number that a page takes that is made, and the head of the free chain afterwards: the chain's first page and the one that it
+-- names, where that is in memory; or, where the chain has none, the number behind the last page.
+abbrev pub next_of_chain : ℕ → Option Page → Option (ℕ × ℕ)
+next_of_chain head None = None
+next_of_chain head (Some (Live page)) = None
+next_of_chain head (Some (Free next)) = Some (head, next)
+
+abbrev pub next_of : StoreState → Option (ℕ × ℕ)
+next_of st = if st.meta.free == 0 then (if nat_lt st.meta.high st.meta.pages then Some (st.meta.high + 1, 0) else None)
+    else next_of_chain st.meta.free (in_memory st st.meta.free)
+
+-- what the rows of the table read
+abbrev pub sight : Machine → Sight
+sight m = record { meta = m.store.meta; page_at = live_here m.store; next = next_of m.store; place = length m.order }
 
 -- all activities with another one for an actor
 abbrev pub with_activity : ℕ → Activity → (ℕ → Activity) → ℕ → Activity

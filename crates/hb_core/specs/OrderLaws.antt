@@ -1,15 +1,16 @@
 -- What a step does to the order, as laws.
 use Rattle.std.specs.Prelude.{◌≡◌, ℕ, [], ◌∷◌, ◌++◌, Some}
-use Rattle.hb_set.specs.Machine.{RecordSet, reply_of}
-use Rattle.hb_set.specs.Order.{Entry}
 use Rattle.hb_core.specs.declared.outcomes.Outcome.{Outcome}
-use Rattle.hb_core.specs.Machines.{Files, Machine}
 use Rattle.hb_core.specs.ContentsLaws.{contents_now}
 use Rattle.hb_core.specs.Keeps.{HasSoundFile, HoldsPagesOfFile}
 use Rattle.hb_core.specs.KeptLines.{LinesFit}
 use Rattle.hb_core.specs.KeptOrder.{HasLegalOrder}
 use Rattle.hb_core.specs.KeptTurns.{LinesInTurn}
-use Rattle.hb_core.specs.Steps.{StepsTo, WantsBoxes}
+use Rattle.hb_core.specs.Machines.{Files, Machine}
+use Rattle.hb_core.specs.Steps.{StepsTo}
+use Rattle.hb_point.specs.SessionRows.{WantsBoxes}
+use Rattle.hb_set.specs.Machine.{RecordSet, reply_of}
+use Rattle.hb_set.specs.Order.{Entry}
 
 -- After a step each session still answers its lines in their order.
 abbrev pub TurnsStay : Type 0

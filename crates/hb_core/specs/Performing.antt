@@ -1,22 +1,24 @@
 -- How a deed is done: what becomes of the latches, the file, the queue, the order and the answers.
 use Rattle.std.specs.Prelude.{◌≡◌, ◌≢◌, ℕ, ◌==◌, if◌then◌else◌, List, [], ◌∷◌, ◌++◌, length, Option, Some, None, option_map}
 use Rattle.hb_ops.specs.declared.operations.Op.{Op}
-use Rattle.hb_log_codec.specs.Groups.{group_bytes}
 use Rattle.hb_set.specs.declared.scripts.Answered.{Answered}
 use Rattle.hb_latch.specs.declared.modes.Mode.{Mode}
-use Rattle.hb_latch.specs.Tables.{LatchTable, mode_at}
 use Rattle.hb_activity.specs.declared.holding.Latch.{Latch}
 use Rattle.hb_activity.specs.declared.activities.Activity.{Activity}
+use Rattle.hb_activity.specs.declared.jobs.Job.{Job}
+use Rattle.hb_core.specs.declared.outcomes.Outcome.{Outcome}
+use Rattle.hb_core.specs.declared.outcomes.Outcome.TheVariants as outcomes
+use Rattle.std.specs.Option.{option_and_then}
+use Rattle.hb_activity.specs.Deeds.{Deed, Answers, Drops, GoesOn, Says}
 use Rattle.hb_activity.specs.Holding.{held_of}
+use Rattle.hb_activity.specs.Queue.{AddsJobs, LeavesBy}
 use Rattle.hb_activity.specs.Walks.{walk_held}
+use Rattle.hb_core.specs.Machines.{Files, Machine, if_some, live_here, with_activity}
+use Rattle.hb_latch.specs.Tables.{LatchTable, mode_at}
+use Rattle.hb_log_codec.specs.Groups.{group_bytes}
 use Rattle.hb_store.specs.Calls.{Commits, IsAllowedHere, with_op}
 use Rattle.hb_store.specs.Images.{group_here}
 use Rattle.hb_store.specs.States.{StoreState}
-use Rattle.hb_core.specs.declared.outcomes.Outcome.{Outcome}
-use Rattle.hb_core.specs.declared.outcomes.Outcome.TheVariants as outcomes
-use Rattle.hb_core.specs.Machines.{Files, Machine, if_some, live_here, with_activity}
-use Rattle.std.specs.Option.{option_and_then}
-use Rattle.hb_core.specs.Deeds.{Deed, AddsJobs}
 
 -- the latches of an activity, where the page that a walk holds tells the mode; and the mode in which these hold a page
 abbrev pub latches_held : StoreState → Activity → List Latch
@@ -50,19 +52,36 @@ abbrev pub files_after : Option Op → Option Files → Option Files
 files_after None files = files
 files_after (Some op) files = option_map (with_effect op) files
 
+-- what a step says whose deed comes to this
+abbrev pub outcome_of : Says → Outcome
+outcome_of GoesOn = outcomes.Moved
+outcome_of (Answers number reply) = outcomes.Answered number reply
+outcome_of (Drops why) = outcomes.Dropped why
+
 -- the answer that a step gives, at a value of the clock
 abbrev pub given_by : Outcome → ℕ → List Answered
 given_by (outcomes.Answered number reply) at = record { line = number; reply = reply; at = at } ∷ []
-given_by other at = []
+given_by (outcomes.Stopped why) at = []
+given_by outcomes.Idle at = []
+given_by (outcomes.Blocked by) at = []
+given_by outcomes.Helped at = []
+given_by (outcomes.Dropped why) at = []
+given_by outcomes.Moved at = []
+
+-- The jobs that wait: the one that the actor takes leaves them, and others join behind.
+pub record ChangesQueue (deed : Deed) (old new : List Job) : Type 0 where
+  pub left : List Job
+  pub takes : LeavesBy deed.takes old left
+  pub adds : AddsJobs deed.adds left new
 
 -- A deed of an actor is done on a machine into whose memory the pages came that it needs.
 pub record Performs (m : Machine) (fetched : StoreState) (actor : ℕ) (deed : Deed) (outcome : Outcome) (new : Machine) : Type 0 where
-  pub says : outcome ≡ deed.says
+  pub says : outcome ≡ outcome_of deed.says
   pub lines : new.lines ≡ m.lines
-  pub answered : new.answered ≡ m.answered ++ given_by deed.says m.clock
+  pub answered : new.answered ≡ m.answered ++ given_by (outcome_of deed.says) m.clock
   pub activity : (other : ℕ) → new.activity other ≡ with_activity actor deed.next m.activity other
   pub latches : Relatches actor (latches_held new.store deed.next) m.latches new.latches
-  pub jobs : AddsJobs deed.adds deed.left new.jobs
+  pub jobs : ChangesQueue deed m.jobs new.jobs
   pub order : new.order ≡ m.order ++ if_some deed.joins
   pub stop : new.stop ≡ m.stop
   pub store : MayDo deed.op (length m.order) fetched new.store

@@ -1,6 +1,5 @@
 -- What follows of what isn't built, as laws: while pages aren't merged, no job to merge comes.
 use Rattle.std.specs.Prelude.{◌≡◌, ◌≢◌, ℕ, List, [], All}
-use Rattle.hb_ops.specs.Files.{FileState}
 use Rattle.hb_activity.specs.declared.jobs.Job.{Job}
 use Rattle.hb_activity.specs.declared.jobs.JobKind.TheVariants.{Merge}
 use Rattle.hb_activity.specs.declared.activities.Activity.{Activity}
@@ -33,9 +32,9 @@ pub record HasNothingToMerge (m : Machine) : Type 0 where
   pub waiting : All IsNoMerge m.jobs
   pub hands : (actor : ℕ) → MergesNothing (m.activity actor)
 
--- So it is at a beginning where no job waits, and stays so, over every disk. So no step comes to where a merge is decided.
+-- So it is at a beginning, and stays so, over every disk. So no step comes to where a merge is decided.
 abbrev pub BegunHasNothingToMerge : Type 0
-BegunHasNothingToMerge = (m : Machine) (s : FileState) → IsBegun m s → m.jobs ≡ [] → HasNothingToMerge m
+BegunHasNothingToMerge = (m : Machine) → IsBegun m → HasNothingToMerge m
 
 abbrev pub NothingComesToMerge : Type 0
 NothingComesToMerge = (m : Machine) (actor : ℕ) (outcome : Outcome) (new : Machine) → HasNothingToMerge m → StepsTo m actor outcome new → HasNothingToMerge new

@@ -1,17 +1,21 @@
--- What of the table isn't built yet. Its rows stand, and no step comes to them before these change.
+-- What of the machine isn't built yet. Its steps stand, and none comes to them before these change.
 use Rattle.std.specs.Prelude.{ℕ, Bool, false}
-use Rattle.hb_frag.specs.declared.pages.LivePage.{LivePage}
-use Rattle.hb_ops.specs.declared.operations.Op.{Op}
+use Rattle.hb_store.specs.States.{StoreState}
 
--- Pages are merged: a delete that leaves a page thin gives the consolidator a job.
-abbrev pub pages_are_merged : Bool
-pages_are_merged = false
-
--- The operation by which a page takes over what a sibling page has, with their parent before and after it. None is it. So where
--- a consolidator has decided to merge, no row is done; but no job ever leads there while pages aren't merged.
-abbrev pub IsMergeOf : Op → ℕ → ℕ → ℕ → LivePage → LivePage → Type 0
-IsMergeOf op parent keep gone before after = ⊥
-
--- The flusher takes steps: it forces the groups that wait.
+-- The flusher takes steps: it flushes.
 abbrev pub flusher_steps : Bool
 flusher_steps = false
+
+-- Once no group waits there is something left to flush: a page that reads otherwise in its place, or a log that has frames.
+abbrev pub HasMoreToFlush : StoreState → Type 0
+HasMoreToFlush st = ⊥
+
+-- What flushing then makes of a store, in so many device calls: a page is written to its place, or the log begins again in its
+-- other area. None is it before these are built.
+abbrev pub IsFlushedTo : StoreState → ℕ → StoreState → Type 0
+IsFlushedTo old calls new = ⊥
+
+-- There is no place in memory for one page more, since each place has a page that must stay. Before places are counted there
+-- always is one.
+abbrev pub HasNoPlace : StoreState → Type 0
+HasNoPlace st = ⊥

@@ -1,19 +1,25 @@
 -- The machine that has taken no step, and what a list of steps does of itself, as laws.
-use Rattle.std.specs.Prelude.{◌≡◌, ℕ, ◌≤◌, List, [], ◌++◌, All, Some, None}
-use Rattle.hb_layout.specs.Limits.{IsLayout}
-use Rattle.hb_ops.specs.Files.{FileState, contents_of}
-use Rattle.hb_ops.specs.Sound.{IsSound}
-use Rattle.hb_set.specs.Order.{AreRising, Entry}
+use Rattle.std.specs.Prelude.{◌≡◌, ℕ, ◌≤◌, false, List, [], ◌++◌, All, Some, None}
 use Rattle.hb_set.specs.declared.scripts.Answered.{Answered}
-use Rattle.hb_latch.specs.Tables.{mode_at}
 use Rattle.hb_activity.specs.declared.activities.Activity.{Activity}
 use Rattle.hb_activity.specs.declared.activities.Activity.TheVariants as at
-use Rattle.hb_store.specs.States.{in_memory}
 use Rattle.hb_store.specs.declared.stops.StopWhy.{StopWhy}
-use Rattle.hb_core.specs.Machines.{Machine}
-use Rattle.hb_core.specs.Keeps.{CoreKeeps, HasNobodyElse}
 use Rattle.hb_core.specs.KeptLines.{HasLineBody}
-use Rattle.hb_core.specs.Steps.{StepsInTurn, WantsBoxes}
+use Rattle.hb_core.specs.Machines.{Machine}
+use Rattle.hb_core.specs.Steps.{StepsInTurn}
+use Rattle.hb_latch.specs.Tables.{mode_at}
+use Rattle.hb_layout.specs.Limits.{IsLayout}
+use Rattle.hb_layout.specs.Offsets.{log_start}
+use Rattle.hb_frag.specs.declared.pages.Page.{Page}
+use Rattle.hb_set.specs.declared.scripts.Line.{Line}
+use Rattle.hb_activity.specs.Classes.{idle_of}
+use Rattle.hb_core.specs.KeptFits.{LineFits, class_for}
+use Rattle.hb_core.specs.KeptMachine.{CoreKeeps, MachineKeeps}
+use Rattle.hb_ops.specs.Files.{FileState, contents_of, page_of}
+use Rattle.hb_ops.specs.Sound.{IsSound}
+use Rattle.hb_point.specs.SessionRows.{WantsBoxes}
+use Rattle.hb_set.specs.Order.{AreRising, Entry}
+use Rattle.hb_store.specs.States.{AreGood, IsStanding, StoreState, in_memory, is_imaged}
 
 -- No line of the script is a search.
 abbrev pub HasNoSearches : Machine → Type 0
@@ -27,26 +33,54 @@ IsAtRest at.ConsolidatorIdle = Unit {0}
 IsAtRest at.Flusher = Unit {0}
 IsAtRest other = ⊥
 
--- A machine over a sound file that has taken no step: no line was answered, nobody holds or does anything, no page is in
--- memory, and no group waits.
-pub record IsBegun (m : Machine) (s : FileState) : Type 0 where
+-- A store as a new file or an opening leaves it, which runs: its log has no frame and no group, and nothing was imaged or made in
+-- this turn. Whatever pages are in memory are of the file.
+pub record IsBegunStore (st : StoreState) : Type 0 where
+  pub stands : IsStanding st.turn st.meta
+  pub log : st.log ≡ record { area = log_start st.turn st.meta; len = st.meta.log; written = 0; groups = [] }
+  pub none_imaged : (id : ℕ) → is_imaged st id ≡ false
+  pub runs : st.stopped ≡ false
+  pub pages : AreGood st.meta (in_memory st)
+
+-- A machine that has taken no step, over any disk: no line was answered, each actor stands as one of its kind with nothing in hand,
+-- nobody holds a latch, no job waits, nothing is in the order, and it runs.
+pub record IsBegun (m : Machine) : Type 0 where
   pub rising : AreRising m.lines
   pub bodies : All HasLineBody m.lines
+  pub lines_fit : All (LineFits m.store.meta.k) m.lines
   pub unanswered : m.answered ≡ []
-  pub resting : (actor : ℕ) → IsAtRest (m.activity actor)
-  pub nobody_else : HasNobodyElse m
+  pub idle : (actor : ℕ) → m.activity actor ≡ idle_of (class_for actor)
   pub unlatched : (actor page : ℕ) → mode_at m.latches actor page ≡ None
+  pub no_job : m.jobs ≡ []
   pub no_order : m.order ≡ []
-  pub no_page : (id : ℕ) → (in_memory m.store) id ≡ None
-  pub no_group : m.store.log.groups ≡ []
+  pub runs : m.stop ≡ None
+  pub store : IsBegunStore m.store
+
+-- So over a disk that tells, whose bytes open to this sound file.
+pub record IsBegunOver (m : Machine) (s : FileState) : Type 0 where
+  pub begun : IsBegun m
   pub told : m.files ≡ Some (record { durable = s; later = [] })
   pub meta : s.meta ≡ m.store.meta
-  pub layout : IsLayout s.meta
+  pub shown : (id : ℕ) (page : Page) → in_memory m.store id ≡ Some page → page_of s id ≡ Some page
   pub sound : IsSound s
 
--- It keeps all that a machine keeps, from the contents of the file.
+-- It keeps what every machine keeps, and over a disk that tells all of it, from the contents of the file.
+abbrev pub BeginningKeeps : Type 0
+BeginningKeeps = (m : Machine) → IsBegun m → MachineKeeps m
+
 abbrev pub BeginningKeepsAll : Type 0
-BeginningKeepsAll = (m : Machine) (s : FileState) → IsBegun m s → CoreKeeps (contents_of s) m (record { durable = s; later = [] })
+BeginningKeepsAll = (m : Machine) (s : FileState) → IsBegunOver m s → CoreKeeps (contents_of s) m (record { durable = s; later = [] })
+
+-- There is such a machine over each sound file, of each script that fits it.
+pub record IsBegunWith (s : FileState) (turn : ℕ) (lines : List Line) (clock : ℕ) (m : Machine) : Type 0 where
+  pub begun : IsBegunOver m s
+  pub turn_is : m.store.turn ≡ turn
+  pub lines_are : m.lines ≡ lines
+  pub clock_is : m.clock ≡ clock
+
+abbrev pub BeginningExists : Type 0
+BeginningExists = (s : FileState) (turn : ℕ) (lines : List Line) (clock : ℕ) → IsSound s → IsLayout s.meta → turn ≤ 3 → AreRising lines → All HasLineBody lines → All (LineFits s.meta.k) lines →
+    (m : Machine) × IsBegunWith s turn lines clock m
 
 -- What a list of steps does: the lines stay, the order and the answers only grow, at their ends, and the clock never falls.
 -- Each answer that came has a value of the clock between the first and the last one.

@@ -1,41 +1,44 @@
 -- One step of an actor, as one relation: the tests in their order, and then the row of its activity.
-use Rattle.std.specs.Prelude.{◌≡◌, ◌≢◌, ◌⊎◌, ℕ, ◌<◌, ◌≤◌, Bool, IsTrue, List, [], ◌∷◌, All, MatchOption}
+use Rattle.std.specs.Prelude.{◌≡◌, ◌≢◌, ◌⊎◌, ℕ, ◌<◌, ◌≤◌, Bool, IsTrue, List, [], ◌∷◌, All, MatchOption, Some, None, IsSomeAnd}
 use Rattle.hb_set.specs.declared.commands.Command.{Command}
 use Rattle.hb_set.specs.declared.commands.Command.TheVariants.{Search}
 use Rattle.hb_set.specs.declared.commands.Reply.{Reply}
 use Rattle.hb_set.specs.declared.commands.Reply.TheVariants as replies
 use Rattle.hb_activity.specs.declared.jobs.JobKind.TheVariants.{Post, Merge}
 use Rattle.hb_activity.specs.declared.activities.Activity.{Activity}
+use Rattle.hb_activity.specs.declared.jobs.Job.{Job}
 use Rattle.hb_activity.specs.declared.activities.Activity.TheVariants as at
-use Rattle.hb_activity.specs.Changing.{may_commit}
-use Rattle.hb_store.specs.Calls.{IsReady}
 use Rattle.hb_core.specs.declared.outcomes.Outcome.{Outcome}
 use Rattle.hb_core.specs.declared.outcomes.Outcome.TheVariants as outcomes
-use Rattle.hb_core.specs.Stages.{flusher_steps}
-use Rattle.hb_core.specs.Machines.{Machine, settled_count}
-use Rattle.hb_core.specs.Asking.{HasWayFree, IsInTheWay, looked_live}
-use Rattle.hb_core.specs.Deeds.{Deed, answers_now}
-use Rattle.hb_core.specs.SessionRows.{next_line, taking}
-use Rattle.hb_core.specs.WorkerRows.{TakesJob}
-use Rattle.hb_core.specs.ConsolidatorRows.{TakesMerging}
-use Rattle.hb_core.specs.Performing.{Performs}
-use Rattle.hb_core.specs.Forcing.{Flushes, ForcesFirst, StaysSo}
-use Rattle.hb_core.specs.GivingUp.{runs_out}
+use Rattle.hb_activity.specs.Changing.{may_commit}
+use Rattle.hb_activity.specs.Deeds.{Deed, answers_now, takes_job}
+use Rattle.hb_consol.specs.ConsolidatorRows.{IsMergingOf}
 use Rattle.hb_core.specs.Acting.{DoesRow, Abandons, MeetsBadPage}
+use Rattle.hb_core.specs.Asking.{HasWayFree, IsInTheWay, looked_live, wanted_by}
+use Rattle.hb_core.specs.Forcing.{Flushes, ForcesFirst, StaysSo, FlushesOnce}
+use Rattle.hb_core.specs.GivingUp.{runs_out}
+use Rattle.hb_core.specs.Machines.{Machine, settled_count}
+use Rattle.hb_core.specs.Performing.{Performs}
+use Rattle.hb_core.specs.Stages.{flusher_steps, HasNoPlace}
+use Rattle.hb_point.specs.SessionRows.{next_line, taking, WantsBoxes}
+use Rattle.hb_poster.specs.PosterRows.{IsPostingOf}
+use Rattle.hb_store.specs.Calls.{IsReady}
+use Rattle.hb_store.specs.States.{in_memory}
 
 -- the step may change the file
 abbrev pub may_change_file : Machine → ℕ → Bool
 may_change_file m actor = may_commit (m.activity actor) m.store.meta (looked_live m.store (m.activity actor))
 
--- The step may change the file, and the log isn't ready for that. A group that waits is forced instead. Where none does,
--- no force makes room.
+-- The step may change the file, and the log isn't ready for that; or it wants a page that isn't in memory, and there is no place
+-- for it. Then it flushes in place of its row. Where nothing is left to flush, no flushing makes room.
+abbrev pub IsCrowded : Machine → ℕ → Type 0
+IsCrowded m actor = HasNoPlace m.store × IsSomeAnd (wanted_by m actor) (λ wanted. in_memory m.store wanted.page ≡ None)
+
 abbrev pub IsUnready : Machine → ℕ → Type 0
-IsUnready m actor = IsTrue (may_change_file m actor) × (¬ (IsReady m.store))
+IsUnready m actor = (IsTrue (may_change_file m actor) × (¬ (IsReady m.store))) ⊎ IsCrowded m actor
 
 abbrev pub GetsReady : Machine → ℕ → Outcome → Machine → Type 0
-GetsReady m actor outcome new =
-    ((m.store.log.groups ≢ []) × ForcesFirst m outcomes.Helped outcome new)
-    ⊎ ((m.store.log.groups ≡ []) × Performs m m.store actor (runs_out m (m.activity actor)) outcome new)
+GetsReady m actor outcome new = FlushesOnce m outcomes.Helped (Performs m m.store actor (runs_out (m.activity actor)) outcome new) outcome new
 
 -- A step that wants a latch or changes the file: another actor is in the way; or the log isn't ready; or it may be done.
 abbrev pub Works : Machine → ℕ → Outcome → Machine → Type 0
@@ -45,21 +48,31 @@ Works m actor outcome new =
     ⊎ (HasWayFree m actor × (¬ (IsUnready m actor)) × (DoesRow m actor outcome new ⊎ Abandons m actor outcome new ⊎ MeetsBadPage m actor outcome new))
 
 -- An idle session takes its next line. For a search that takes memory.
-abbrev pub WantsBoxes : Command → Type 0
-WantsBoxes (Search area) = Unit {0}
-WantsBoxes other = ⊥
-
 abbrev pub TakesNextLine : Machine → ℕ → Outcome → Machine → Type 0
 TakesNextLine m actor outcome new = MatchOption (next_line actor m.answered m.lines) (StaysSo m outcomes.Idle outcome new)
-    (λ line. Performs m m.store actor (taking m line) outcome new ⊎ (WantsBoxes line.command × Performs m m.store actor (answers_now m line.number replies.NoMemory) outcome new))
+    (λ line. Performs m m.store actor (taking line) outcome new ⊎ (WantsBoxes line.command × Performs m m.store actor (answers_now line.number replies.NoMemory) outcome new))
 
 -- An idle poster takes its oldest job.
+pub record TakesJob (m : Machine) (deed : Deed) : Type 0 where
+  pub job : Job
+  pub kind : job.kind ≡ Post
+  pub next : Activity
+  pub posting : IsPostingOf job m.store.meta.height next
+  pub deed_is : deed ≡ takes_job next job
+
 abbrev pub TakesPosting : Machine → ℕ → Outcome → Machine → Type 0
 TakesPosting m actor outcome new =
     (All (λ job. job.kind ≢ Post) m.jobs × StaysSo m outcomes.Idle outcome new)
     ⊎ ((deed : Deed) × TakesJob m deed × Performs m m.store actor deed outcome new)
 
--- An idle consolidator takes its oldest job.
+-- So does an idle consolidator.
+pub record TakesMerging (m : Machine) (deed : Deed) : Type 0 where
+  pub job : Job
+  pub kind : job.kind ≡ Merge
+  pub next : Activity
+  pub merging : IsMergingOf job m.store.meta.height next
+  pub deed_is : deed ≡ takes_job next job
+
 abbrev pub TakesJobToMerge : Machine → ℕ → Outcome → Machine → Type 0
 TakesJobToMerge m actor outcome new =
     (All (λ job. job.kind ≢ Merge) m.jobs × StaysSo m outcomes.Idle outcome new)
@@ -68,17 +81,30 @@ TakesJobToMerge m actor outcome new =
 -- A line that awaits its place is answered once that is settled. Till then the step forces.
 abbrev pub AwaitsPlace : Machine → ℕ → ℕ → Reply → ℕ → Outcome → Machine → Type 0
 AwaitsPlace m actor number reply place outcome new =
-    ((place < settled_count m) × Performs m m.store actor (answers_now m number reply) outcome new)
+    ((place < settled_count m) × Performs m m.store actor (answers_now number reply) outcome new)
     ⊎ ((settled_count m ≤ place) × ForcesFirst m outcomes.Moved outcome new)
 
--- One step of an activity. The consolidator has no job and the flusher no step before `Stages` says so.
+-- One step of an activity. The consolidator has no job before jobs to merge come, and the flusher no step before it takes any.
 abbrev pub StepsAs : Activity → Machine → ℕ → Outcome → Machine → Type 0
 StepsAs at.SessionIdle m actor outcome new = TakesNextLine m actor outcome new
 StepsAs (at.SessionAwait number reply place) m actor outcome new = AwaitsPlace m actor number reply place outcome new
 StepsAs at.PosterIdle m actor outcome new = TakesPosting m actor outcome new
 StepsAs at.ConsolidatorIdle m actor outcome new = TakesJobToMerge m actor outcome new
 StepsAs at.Flusher m actor outcome new = Flushes flusher_steps m outcome new
-StepsAs other m actor outcome new = Works m actor outcome new
+StepsAs (at.SessionWalk line held rest found) m actor outcome new = Works m actor outcome new
+StepsAs (at.SessionSplit line held) m actor outcome new = Works m actor outcome new
+StepsAs (at.SessionPut line source fresh) m actor outcome new = Works m actor outcome new
+StepsAs (at.PosterGrow job) m actor outcome new = Works m actor outcome new
+StepsAs (at.PosterWalk job held) m actor outcome new = Works m actor outcome new
+StepsAs (at.PosterChild job parent) m actor outcome new = Works m actor outcome new
+StepsAs (at.PosterPromote job parent) m actor outcome new = Works m actor outcome new
+StepsAs (at.PosterAgain job parent) m actor outcome new = Works m actor outcome new
+StepsAs (at.ConsolidatorWalk job held) m actor outcome new = Works m actor outcome new
+StepsAs (at.ConsolidatorScan job parent child) m actor outcome new = Works m actor outcome new
+StepsAs (at.ConsolidatorTry job parent keep gone leaf) m actor outcome new = Works m actor outcome new
+StepsAs (at.ConsolidatorPromote job parent keep gone) m actor outcome new = Works m actor outcome new
+StepsAs (at.ConsolidatorKeep job parent keep gone) m actor outcome new = Works m actor outcome new
+StepsAs (at.ConsolidatorDecide job parent keep gone) m actor outcome new = Works m actor outcome new
 
 -- One step of an actor. A machine that is stopped stays so.
 abbrev pub StepsTo : Machine → ℕ → Outcome → Machine → Type 0

@@ -4,16 +4,16 @@ use Rattle.std.specs.Prelude.{◌≡◌, ◌⊎◌, ℕ, List, [], ◌∷◌, So
 use Rattle.hb_frag.specs.declared.pages.LivePage.{LivePage}
 use Rattle.hb_latch.specs.declared.modes.Mode.{Mode}
 use Rattle.hb_latch.specs.declared.modes.Mode.TheVariants.{Update}
-use Rattle.hb_latch.specs.Tables.{MayLatch, mode_at}
-use Rattle.hb_ops.specs.Files.{FileState, live_page}
 use Rattle.hb_activity.specs.declared.wanting.Wanted.{Wanted}
 use Rattle.hb_activity.specs.declared.activities.Activity.{Activity}
 use Rattle.hb_activity.specs.declared.activities.Activity.TheVariants.{PosterPromote, ConsolidatorPromote}
 use Rattle.hb_activity.specs.Waiting.{IsLater, WaitsFor}
-use Rattle.hb_core.specs.Machines.{Files, Machine, current_file}
 use Rattle.hb_core.specs.Asking.{IsInTheWay, wanted_by}
 use Rattle.hb_core.specs.Keeps.{HasNoOtherLatches, HasNobodyElse, HasSoundFile, LatchesFit, WalksInSpace}
+use Rattle.hb_core.specs.Machines.{Files, Machine, current_file}
 use Rattle.hb_core.specs.SteppingLaws.{IsAtRest}
+use Rattle.hb_latch.specs.Tables.{MayLatch, mode_at}
+use Rattle.hb_ops.specs.Files.{FileState, live_page}
 
 -- The second page comes later than the first one: its level is lower, or the level is the same and its box holds fewer points.
 pub record ComesLater (s : FileState) (id other : ℕ) : Type 0 where

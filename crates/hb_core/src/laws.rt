@@ -17,7 +17,6 @@ pub fn a_step_changes_its_own_pages()
 
 /// No other actor stands elsewhere after a step, or has other latches. The lines stay, and the order stays
 /// or has one entry more at its end.
-#[tactic(auto, using(crate::proofs::Ways::others_stay, crate::proofs::Ways::order_grows))]
 pub fn a_step_leaves_other_actors_alone()
     ensures others { OthersStay }
     ensures order { OrderGrows }

@@ -24,4 +24,5 @@ mod threads;
 pub mod waiting_laws;
 pub mod written_chains;
 
-pub use outcomes::{DropWhy, Outcome};
+pub use hb_activity::DropWhy;
+pub use outcomes::Outcome;

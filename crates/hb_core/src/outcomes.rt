@@ -1,17 +1,9 @@
 //! What a step came to.
 
+use hb_activity::DropWhy;
 use hb_set::Reply;
 use hb_space::Actor;
 use hb_store::StopWhy;
-
-/// Why a worker's job was dropped.
-#[derive(Clone, Copy, Debug, PartialEq, Eq)]
-pub enum DropWhy {
-    /// Memory was refused.
-    NoMemory,
-    /// A page could not be read.
-    ReadFault,
-}
 
 /// What a step came to.
 #[derive(Debug, Drop)]

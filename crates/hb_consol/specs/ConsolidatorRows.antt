@@ -4,37 +4,26 @@ use Rattle.std.specs.List.{list_any}
 use Rattle.hb_frag.specs.declared.leaves.Leaf.{Leaf}
 use Rattle.hb_frag.specs.declared.leaves.Leaf.TheVariants.{Records, Child, Sibling}
 use Rattle.hb_frag.specs.declared.pages.LivePage.{LivePage}
-use Rattle.hb_frag.specs.Leaves.{child_names, firsts, leaves}
-use Rattle.hb_frag.specs.Rules.{capacity_of}
-use Rattle.hb_terms.specs.Merging.{IsMergePlan}
 use Rattle.hb_terms.specs.declared.merging.MergePlan.{MergePlan}
 use Rattle.hb_terms.specs.declared.merging.MergePlan.TheVariants as plans
-use Rattle.hb_activity.specs.Queue.{LeavesFirst}
 use Rattle.hb_activity.specs.declared.jobs.Job.{Job}
 use Rattle.hb_activity.specs.declared.jobs.JobKind.TheVariants as kinds
 use Rattle.hb_activity.specs.declared.activities.Activity.{Activity}
 use Rattle.hb_activity.specs.declared.activities.Activity.TheVariants.{ConsolidatorIdle, ConsolidatorWalk, ConsolidatorScan, ConsolidatorTry, ConsolidatorPromote}
-use Rattle.hb_core.specs.declared.outcomes.Outcome.TheVariants as outcomes
-use Rattle.hb_core.specs.Machines.{Machine, live_here}
-use Rattle.hb_core.specs.Deeds.{Deed, moves_to}
-use Rattle.hb_core.specs.SessionRows.{PassesOn}
-use Rattle.hb_core.specs.WorkerRows.{LeadsBelow}
+use Rattle.hb_activity.specs.Deeds.{Deed, moves_to}
+use Rattle.hb_activity.specs.Passing.{PassesOn, LeadsBelow}
+use Rattle.hb_activity.specs.Sights.{Sight}
+use Rattle.hb_frag.specs.Leaves.{child_names, firsts, leaves}
+use Rattle.hb_frag.specs.Rules.{capacity_of}
+use Rattle.hb_terms.specs.Merging.{IsMergePlan}
 
 -- Idle: the consolidator takes the oldest job of its kind. One that isn't below the file's height is dropped.
 abbrev pub IsMergingOf : Job → ℕ → Activity → Type 0
 IsMergingOf job height next = ((height ≤ job.level) × (next ≡ ConsolidatorIdle)) ⊎ ((job.level < height) × (next ≡ ConsolidatorWalk job None))
 
-pub record TakesMerging (m : Machine) (deed : Deed) : Type 0 where
-  pub job : Job
-  pub left : List Job
-  pub oldest : LeavesFirst kinds.Merge m.jobs job left
-  pub next : Activity
-  pub merging : IsMergingOf job m.store.meta.height next
-  pub deed_is : deed ≡ record { next = next; op = None; left = left; adds = []; joins = None; says = outcomes.Moved }
-
 -- the job ends, or is dropped
-abbrev pub ends_merging : Machine → Deed
-ends_merging m = moves_to m ConsolidatorIdle []
+abbrev pub ends_merging : Deed
+ends_merging = moves_to ConsolidatorIdle []
 
 -- The pages that a parent names, each once and in their order; the first one, and the one behind another.
 abbrev pub children_of : LivePage → List ℕ
@@ -48,19 +37,19 @@ abbrev pub one_behind : ℕ → List ℕ → Option ℕ
 one_behind child [] = None
 one_behind child (first ∷ rest) = if first == child then first_one rest else one_behind child rest
 
-abbrev pub scans : Machine → Job → ℕ → Option ℕ → Deed
-scans m job parent None = ends_merging m
-scans m job parent (Some child) = moves_to m (ConsolidatorScan job parent child) []
+abbrev pub scans : Job → ℕ → Option ℕ → Deed
+scans job parent None = ends_merging
+scans job parent (Some child) = moves_to (ConsolidatorScan job parent child) []
 
 -- Walking: as the poster's. At its end the first of the parent's children is scanned.
-pub record ArrivesToMerge (m : Machine) (job : Job) (id : ℕ) (page : LivePage) (deed : Deed) : Type 0 where
+pub record ArrivesToMerge (job : Job) (id : ℕ) (page : LivePage) (deed : Deed) : Type 0 where
   pub level : page.level ≡ job.level
   pub leads : LeadsBelow page job
-  pub deed_is : deed ≡ scans m job id (first_one (children_of page))
+  pub deed_is : deed ≡ scans job id (first_one (children_of page))
 
-pub record ConsolidatorPasses (m : Machine) (job : Job) (id : ℕ) (page : LivePage) (deed : Deed) : Type 0 where
+pub record ConsolidatorPasses (job : Job) (id : ℕ) (page : LivePage) (deed : Deed) : Type 0 where
   pub farther : page.level ≡ job.level → ¬ (LeadsBelow page job)
-  pub passes : PassesOn page job.point m (ConsolidatorWalk job (Some id)) deed
+  pub passes : PassesOn page job.point (ConsolidatorWalk job (Some id)) deed
 
 -- a place one further on
 abbrev pub one_on : Option (ℕ × ℕ) → Option (ℕ × ℕ)
@@ -82,30 +71,30 @@ abbrev pub pair_from : LivePage → LivePage → ℕ → Option (ℕ × ℕ)
 pair_from parent keep from = pair_among parent from (leaves keep.frag)
 
 -- Such a pair is tried. Where there is none the next child is scanned, and after the last one the job ends.
-abbrev pub tries : Machine → Job → ℕ → LivePage → ℕ → Option (ℕ × ℕ) → Deed
-tries m job parent above keep None = scans m job parent (one_behind keep (children_of above))
-tries m job parent above keep (Some (gone, leaf)) = moves_to m (ConsolidatorTry job parent keep gone leaf) []
+abbrev pub tries : Job → ℕ → LivePage → ℕ → Option (ℕ × ℕ) → Deed
+tries job parent above keep None = scans job parent (one_behind keep (children_of above))
+tries job parent above keep (Some (gone, leaf)) = moves_to (ConsolidatorTry job parent keep gone leaf) []
 
 -- Scanning: all of the child's sibling leaves, from the left.
-pub record Scans (m : Machine) (job : Job) (parent child : ℕ) (page : LivePage) (deed : Deed) : Type 0 where
+pub record Scans (s : Sight) (job : Job) (parent child : ℕ) (page : LivePage) (deed : Deed) : Type 0 where
   pub above : LivePage
-  pub live : live_here m.store parent ≡ Some above
-  pub deed_is : deed ≡ tries m job parent above child (pair_from above page 0)
+  pub live : s.page_at parent ≡ Some above
+  pub deed_is : deed ≡ tries job parent above child (pair_from above page 0)
 
 -- Both pages beside the one that is to go, and what is planned.
-pub record HasMergePlan (m : Machine) (parent keep gone : ℕ) (page : LivePage) : Type 0 where
+pub record HasMergePlan (s : Sight) (parent keep gone : ℕ) (page : LivePage) : Type 0 where
   pub above : LivePage
-  pub above_live : live_here m.store parent ≡ Some above
+  pub above_live : s.page_at parent ≡ Some above
   pub kept : LivePage
-  pub kept_live : live_here m.store keep ≡ Some kept
+  pub kept_live : s.page_at keep ≡ Some kept
   pub plan : MergePlan
-  pub planned : IsMergePlan above kept gone page (capacity_of page.level m.store.meta.dcap m.store.meta.icap) plan
+  pub planned : IsMergePlan above kept gone page (capacity_of page.level s.meta.dcap s.meta.icap) plan
 
 -- Trying: where the two may become one, the parent is to be promoted. Else the sibling leaves behind this one are looked at.
-abbrev pub after_try : Machine → Job → ℕ → ℕ → ℕ → ℕ → LivePage → LivePage → MergePlan → Deed
-after_try m job parent keep gone leaf above kept plans.Merge = moves_to m (ConsolidatorPromote job parent keep gone) []
-after_try m job parent keep gone leaf above kept other = tries m job parent above keep (pair_from above kept (leaf + 1))
+abbrev pub after_try : Job → ℕ → ℕ → ℕ → ℕ → LivePage → LivePage → MergePlan → Deed
+after_try job parent keep gone leaf above kept plans.Merge = moves_to (ConsolidatorPromote job parent keep gone) []
+after_try job parent keep gone leaf above kept other = tries job parent above keep (pair_from above kept (leaf + 1))
 
-pub record TriesPair (m : Machine) (job : Job) (parent keep gone leaf : ℕ) (page : LivePage) (deed : Deed) : Type 0 where
-  pub has : HasMergePlan m parent keep gone page
-  pub deed_is : deed ≡ after_try m job parent keep gone leaf has.above has.kept has.plan
+pub record TriesPair (s : Sight) (job : Job) (parent keep gone leaf : ℕ) (page : LivePage) (deed : Deed) : Type 0 where
+  pub has : HasMergePlan s parent keep gone page
+  pub deed_is : deed ≡ after_try job parent keep gone leaf has.above has.kept has.plan

@@ -1,0 +1,2 @@
+pub mod ConsolidatorRows
+pub mod MergeRows

@@ -1,0 +1,44 @@
+-- What every machine keeps: over any disk, whether it tells its bytes or not, and besides over one that tells.
+use Rattle.std.specs.Prelude.{◌≡◌, Some}
+use Rattle.hb_set.specs.Machine.{RecordSet}
+use Rattle.hb_core.specs.KeptOrder.{HasLegalOrder, HasPendingPrefix}
+use Rattle.hb_core.specs.Keeps.{HasNoOtherLatches, HasNobodyElse, HasSoundFile, HoldsPagesOfFile, KnowsRoom, LatchesFit, WalksInSpace}
+use Rattle.hb_core.specs.KeptFits.{AttributesFit, HaveClasses, RunsWithStore, WorkersStand}
+use Rattle.hb_core.specs.KeptLines.{LinesFit, MarksInPlace}
+use Rattle.hb_core.specs.KeptPlaces.{AnswersAreSingle, MarksRise, OrderIsShort, RepliesStand}
+use Rattle.hb_core.specs.KeptTurns.{LinesInTurn}
+use Rattle.hb_core.specs.Machines.{Files, Machine}
+
+pub record MachineKeeps (m : Machine) : Type 0 where
+  -- what the file says of itself is within its limits
+  pub marks_in_place : MarksInPlace m
+  -- what the lines would store can be stored, and all points and boxes have the file's number of attributes
+  pub lines_fit : LinesFit m
+  pub attributes_fit : AttributesFit m
+  -- each session answers its lines in their order, once
+  pub lines_in_turn : LinesInTurn m
+  pub order_short : OrderIsShort m
+  pub replies_stand : RepliesStand m
+  pub answers_single : AnswersAreSingle m
+  -- pages in memory are of the file
+  pub pages_of_file : HoldsPagesOfFile m
+  -- who stands where, and holds what
+  pub classes : HaveClasses m
+  pub nobody_else : HasNobodyElse m
+  pub latches_fit : LatchesFit m
+  pub no_other_latches : HasNoOtherLatches m
+  pub walk_in_space : WalksInSpace m
+  pub workers_stand : WorkersStand m
+  pub room_known : KnowsRoom m
+  -- the groups that wait
+  pub marks_rise : MarksRise m
+  pub runs : RunsWithStore m
+
+-- Over a disk that tells, from the set that was opened: the files are sound, the order is legal, and each file has the set after a
+-- prefix of it.
+pub record CoreKeeps (n : RecordSet) (m : Machine) (files : Files) : Type 0 where
+  pub told : m.files ≡ Some files
+  pub kept : MachineKeeps m
+  pub sound_file : HasSoundFile m files
+  pub order_legal : HasLegalOrder n m files
+  pub pending_prefix : HasPendingPrefix n m files

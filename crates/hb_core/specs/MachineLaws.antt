@@ -1,0 +1,49 @@
+-- What each step keeps over any disk, and what a body may know of a machine there, as laws.
+use Rattle.std.specs.Prelude.{◌≡◌, ◌≢◌, ◌⊎◌, ℕ, List, [], ◌∷◌, All, Option, Some, None}
+use Rattle.hb_frag.specs.declared.pages.LivePage.{LivePage}
+use Rattle.hb_latch.specs.Tables.{MayLatch, mode_at}
+use Rattle.hb_ops.specs.declared.operations.Op.{Op}
+use Rattle.hb_ops.specs.Operations.{OpHas}
+use Rattle.hb_activity.specs.declared.wanting.Wanted.{Wanted}
+use Rattle.hb_activity.specs.Waiting.{IsLater}
+use Rattle.hb_activity.specs.Walks.{walk_held}
+use Rattle.hb_store.specs.Calls.{IsAllowedHere}
+use Rattle.hb_store.specs.States.{StoreState}
+use Rattle.hb_core.specs.declared.outcomes.Outcome.{Outcome}
+use Rattle.hb_core.specs.Acting.{DoesRow}
+use Rattle.hb_core.specs.AllowedLaws.{AnyPage}
+use Rattle.hb_core.specs.Asking.{wanted_by}
+use Rattle.hb_core.specs.Fetching.{Brings}
+use Rattle.hb_core.specs.KeptMachine.{MachineKeeps}
+use Rattle.hb_core.specs.Machines.{Machine, live_here, with_disk}
+use Rattle.hb_core.specs.Rows.{IsAtHand, Row}
+use Rattle.hb_core.specs.Steps.{StepsInTurn, StepsTo}
+use Rattle.hb_core.specs.WaitingLaws.{Promotes}
+use Rattle.hb_activity.specs.Deeds.{Deed}
+
+-- Every step keeps it, and so does a list of steps.
+abbrev pub MachineStaysKept : Type 0
+MachineStaysKept = (m : Machine) (actor : ℕ) (outcome : Outcome) (new : Machine) → MayLatch actor → MachineKeeps m → StepsTo m actor outcome new → MachineKeeps new
+
+abbrev pub MachinesStayKept : Type 0
+MachinesStayKept = (actors : List ℕ) (m new : Machine) → All MayLatch actors → MachineKeeps m → StepsInTurn actors m new → MachineKeeps new
+
+-- The operation of a row is allowed on the pages in memory, and its points and boxes have the file's number of attributes.
+pub record MayBeDoneHere (st : StoreState) (op : Op) : Type 0 where
+  pub allowed : IsAllowedHere st op
+  pub attributes : OpHas st.meta.k op
+
+abbrev pub RowsMayBeDone : Type 0
+RowsMayBeDone = (m : Machine) (actor : ℕ) (fetched : StoreState) (deed : Deed) (op : Op) → MayLatch actor → MachineKeeps m → Brings m AnyPage fetched →
+    Row (m.activity actor) (wanted_by m actor) (with_disk fetched m.files m.clock m) deed → deed.op ≡ Some op → MayBeDoneHere fetched op
+
+-- The page that a walk latches after one that it holds comes later: it is of a lower level, or of the same level with a smaller
+-- box. Any other page fails the test of level and box.
+abbrev pub WalksLeadOn : Type 0
+WalksLeadOn = (m : Machine) (actor : ℕ) (fetched : StoreState) (held : ℕ) (before : LivePage) (wanted : Wanted) (page : LivePage) → MayLatch actor → MachineKeeps m → Brings m AnyPage fetched →
+    walk_held (m.activity actor) ≡ Some held → live_here m.store held ≡ Some before → wanted_by m actor ≡ Some wanted → IsAtHand (with_disk fetched m.files m.clock m) (m.activity actor) wanted page → IsLater before page
+
+-- The page that a step latches is none that its actor holds, but for a promotion.
+abbrev pub NoPageIsLatchedTwice : Type 0
+NoPageIsLatchedTwice = (m : Machine) (actor : ℕ) (fetched : StoreState) (wanted : Wanted) (page : LivePage) → MayLatch actor → MachineKeeps m → Brings m AnyPage fetched → wanted_by m actor ≡ Some wanted →
+    IsAtHand (with_disk fetched m.files m.clock m) (m.activity actor) wanted page → (mode_at m.latches actor wanted.page ≡ None) ⊎ Promotes (m.activity actor) wanted.page

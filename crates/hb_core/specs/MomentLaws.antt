@@ -1,0 +1,29 @@
+-- What the images of a disk open to while steps are taken, as laws.
+use Rattle.std.specs.Prelude.{◌≡◌, ℕ, ◌≤◌, List, Some}
+use Rattle.hb_ops.specs.Files.{FileState}
+use Rattle.hb_ops.specs.Sound.{IsSound}
+use Rattle.hb_set.specs.Machine.{RecordSet}
+use Rattle.hb_sound.specs.PointWalks.{IsPointOf}
+use Rattle.hb_store.specs.Keeps.{OpensToFirst}
+use Rattle.hb_store.specs.Opening.{OpensTo}
+use Rattle.hb_core.specs.KeepingLaws.{HasSetAfter}
+use Rattle.hb_core.specs.Laws.{HasOnePage}
+use Rattle.hb_core.specs.KeptMachine.{CoreKeeps}
+use Rattle.hb_core.specs.Machines.{Files, Machine, settled_count}
+
+-- The bytes open to a sound file that has the set after a prefix of the order with each line answered by then; and in it each point
+-- has one responsible page, at which the walk from the root ends.
+pub record OpensToPrefix (n : RecordSet) (m : Machine) (bytes : List ℕ) : Type 0 where
+  pub s : FileState
+  pub opens : OpensTo bytes s
+  pub sound : IsSound s
+  pub pages : (p : List ℕ) → IsPointOf s p → HasOnePage s p
+  pub count : ℕ
+  pub enough : settled_count m ≤ count
+  pub after : HasSetAfter n m s count
+
+-- Bytes that open to the durable file of a machine, or to the file after its first group that waits, do. At each moment inside a
+-- step of that machine an image is one of these: a force's moments say so, and no other call of the store touches the disk but for
+-- reads.
+abbrev pub ImagesHavePrefixes : Type 0
+ImagesHavePrefixes = (n : RecordSet) (m : Machine) (files : Files) (bytes : List ℕ) → CoreKeeps n m files → OpensToFirst files.durable files.later bytes → OpensToPrefix n m bytes

@@ -1,0 +1,9 @@
+//! The rows of the step table for the poster: how it gives the file a level, walks to a parent, and makes
+//! the parent name a page to which its child gave a box.
+//!
+//! The one contract: a step of the poster does one of these rows, which are records over what a row reads
+//! (`specs/PosterRows.antt`). hb_core joins them with the rows of the other actors.
+//!
+//! Source of the idea: Lomet and Salzberg 1992, whose index terms are posted late, by an atomic action of
+//! their own.
+#![tactic(auto)]
