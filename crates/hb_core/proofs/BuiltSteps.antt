@@ -9,42 +9,45 @@ use Rattle.std.specs.List.{AllByRecursion}
 use Rattle.hb_frag.specs.declared.pages.LivePage.{LivePage}
 use Rattle.hb_frag.specs.declared.pages.Page.{Page}
 use Rattle.hb_ops.specs.declared.operations.Op.{Op}
-use Rattle.hb_ops.specs.Files.{if_live, page_of}
-use Rattle.hb_ops.specs.Operations.{Change, IsAllowedOn, change_of, reads_of}
-use Rattle.hb_log_codec.specs.Groups.{Logged, group_bytes}
-use Rattle.hb_wal.specs.Log.{forced, left_waiting}
-use Rattle.hb_wal.specs.Frames.{frames}
 use Rattle.hb_latch.specs.declared.modes.Mode.{Mode}
-use Rattle.hb_latch.specs.Modes.{goes_beside}
-use Rattle.hb_latch.specs.Tables.{IsGrantable, IsLeastInTheWay}
 use Rattle.hb_activity.specs.declared.holding.Latch.{Latch}
 use Rattle.hb_activity.specs.declared.jobs.Job.{Job}
 use Rattle.hb_activity.specs.declared.waiting_jobs.TheConstants.{JOBS}
 use Rattle.hb_activity.specs.declared.wanting.Wanted.{Wanted}
 use Rattle.hb_activity.specs.declared.activities.Activity.{Activity}
-use Rattle.hb_activity.specs.Holding.{held_of}
-use Rattle.hb_activity.specs.Walks.{walk_held}
-use Rattle.hb_activity.specs.Wanting.{wanted_of}
-use Rattle.hb_store.specs.Calls.{IsReady, change_here, durable_after, later_after, with_op}
-use Rattle.hb_store.specs.Images.{group_here, images_needed}
-use Rattle.hb_store.specs.Marks.{has_page, is_among}
-use Rattle.hb_store.specs.Replay.{set_pages}
-use Rattle.hb_store.specs.Keeps.{last_of}
-use Rattle.hb_store.specs.States.{IsGoodPage, StoreState, in_memory, is_imaged}
 use Rattle.hb_core.specs.declared.outcomes.Outcome.{Outcome}
 use Rattle.hb_core.specs.declared.outcomes.Outcome.TheVariants as outcomes
-use Rattle.hb_core.specs.Machines.{Files, if_some, live_here}
-use Rattle.hb_core.specs.Asking.{AskedBox, HasAskedBox, HasWayFree, asked_box, looked_page, wanted_by}
+use Rattle.hb_activity.specs.Deeds.{Deed}
+use Rattle.hb_activity.specs.Holding.{held_of}
+use Rattle.hb_activity.specs.Queue.{AddsJobs, LeavesBy}
+use Rattle.hb_activity.specs.Walks.{walk_held}
+use Rattle.hb_activity.specs.Wanting.{wanted_of}
+use Rattle.hb_core.proofs.WrittenTables.{add_numbers, add_pages, among_marked, entry_append, entry_at, entry_has, grants, hinders, is_another, is_clear, is_earlier, map_has, mode_in, or_else, or_stays, pages_set, relatched, relatches, set_all, set_entry, set_has, standing_set}
 use Rattle.hb_core.specs.Acting.{takes_number}
+use Rattle.hb_core.specs.Asking.{AskedBox, HasAskedBox, HasWayFree, asked_box, looked_page, wanted_by}
 use Rattle.hb_core.specs.Fetching.{Brings, IsFreeHead, IsWantedPage}
-use Rattle.hb_core.specs.Deeds.{Deed, AddsJobs}
-use Rattle.hb_core.specs.Performing.{DoesOp, MayDo, Performs, Relatches, files_after, given_by}
-use Rattle.hb_core.specs.Rows.{IsAtHand, Row}
-use Rattle.hb_core.specs.Forcing.{ForcesFirst, calls_of_force}
+use Rattle.hb_core.specs.Forcing.{ForcesFirst}
 use Rattle.hb_core.specs.GivingUp.{runs_out}
+use Rattle.hb_core.specs.Machines.{Files, if_some, live_here, Machine}
+use Rattle.hb_core.specs.Performing.{DoesOp, MayDo, Performs, Relatches, files_after, given_by, ChangesQueue, outcome_of}
+use Rattle.hb_core.specs.Rows.{IsAtHand, Row}
 use Rattle.hb_core.specs.Scenes.{Scene, machine_of, standing, store_of}
 use Rattle.hb_core.specs.Steps.{IsUnready, Works, may_change_file}
-use Rattle.hb_core.proofs.WrittenTables.{add_numbers, add_pages, among_marked, entry_append, entry_at, entry_has, grants, hinders, is_another, is_clear, is_earlier, map_has, mode_in, or_else, or_stays, pages_set, relatched, relatches, set_all, set_entry, set_has, standing_set}
+use Rattle.hb_latch.specs.Modes.{goes_beside}
+use Rattle.hb_latch.specs.Tables.{IsGrantable, IsLeastInTheWay}
+use Rattle.hb_log_codec.specs.Groups.{Logged, group_bytes}
+use Rattle.hb_ops.specs.Files.{if_live, page_of}
+use Rattle.hb_ops.specs.Operations.{Change, IsAllowedOn, change_of, reads_of}
+use Rattle.hb_store.specs.Calls.{IsReady, change_here, durable_after, later_after, with_op}
+use Rattle.hb_store.specs.Images.{group_here, images_needed}
+use Rattle.hb_store.specs.Keeps.{last_of}
+use Rattle.hb_store.specs.Marks.{has_page, is_among}
+use Rattle.hb_store.specs.Replay.{set_pages}
+use Rattle.hb_store.specs.ReplayLists.{set_not}
+use Rattle.hb_store.specs.States.{IsGoodPage, StoreState, in_memory, is_imaged}
+use Rattle.hb_wal.specs.Forces.{calls_of_force}
+use Rattle.hb_wal.specs.Frames.{frames}
+use Rattle.hb_wal.specs.Log.{forced, left_waiting}
 
 -- ---- what a scene's store answers
 
@@ -112,6 +115,12 @@ abbrev pub with_maybe_done : Option Op → Scene → Scene
 with_maybe_done None s = s
 with_maybe_done (Some op) s = with_done op s
 
+pages_are : (s : Scene) (op : Op) (id : ℕ) → in_memory (store_of (with_done op s)) id ≡ set_pages (change_here (store_of s) op).pages (in_memory (store_of s)) id
+pages_are s op id = memory_is (with_done op s) id ∙ pages_set (change_in s op).pages s.pages id ∙ sym (λ i. set_pages (change_is s op i).pages (λ q. memory_is s q i) id)
+
+pages_stay : (s : Scene) (op : Op) (id : ℕ) → has_page id (change_here (store_of s) op).pages ≡ false → in_memory (store_of (with_done op s)) id ≡ in_memory (store_of s) id
+pages_stay s op id off = pages_are s op id ∙ set_not (change_here (store_of s) op).pages (in_memory (store_of s)) id off
+
 pub does_op : (s : Scene) (op : Op) → AllowedIn s op → DoesOp op (length s.order) (store_of s) (store_of (with_done op s))
 does_op s op may = record {
   allowed = subst (λ (o : Option LivePage × Option LivePage × Option LivePage). IsAllowedOn op s.meta o.0 o.1 o.2)
@@ -120,8 +129,9 @@ does_op s op may = record {
     turn = refl;
     stopped = refl;
     meta = ap (λ (c : Change). c.meta) (sym (change_is s op));
-    pages = λ id. memory_is (with_done op s) id ∙ pages_set (change_in s op).pages s.pages id
-        ∙ sym (λ i. set_pages (change_is s op i).pages (λ q. memory_is s q i) id);
+    made = λ id made. pages_are s op id;
+    kept = λ id off stays. pages_stay s op id off;
+    others = λ id off. inl (pages_stay s op id off);
     imaged = λ id. imaged_is (with_done op s) id ∙ among_marked id (change_in s op).pages (reads_of op) s.imaged
         ∙ sym (λ i. has_page id (change_is s op i).pages || (is_among id (reads_of op) || imaged_is s id i));
     area = ap (λ (n : ℕ). 2 * PAGE + (1 % 2) * n) may.log;
@@ -142,7 +152,7 @@ held_in s next = held_of next (option_and_then (live_in s) (walk_held next))
 abbrev pub after : ℕ → Deed → List Job → Scene → Scene
 after actor deed jobs s = let t = with_maybe_done deed.op s in record {
   lines = s.lines;
-  answered = s.answered ++ given_by deed.says s.clock;
+  answered = s.answered ++ given_by (outcome_of deed.says) s.clock;
   at_work = set_entry actor deed.next s.at_work;
   latched = relatched actor (held_in t deed.next) s.latched;
   jobs = jobs;
@@ -183,16 +193,20 @@ files_are : (s : Scene) (op : Option Op) → ◌≡◌ {A = Option Files} (Some 
 files_are s None = refl
 files_are s (Some op) = refl
 
-pub performed : (s : Scene) (actor : ℕ) (deed : Deed) (jobs : List Job) → AddsJobs deed.adds deed.left jobs → MayBeIn s deed.op
-    → Performs (machine_of s) (store_of s) actor deed deed.says (machine_of (after actor deed jobs s))
-performed s actor deed jobs adds may = record {
+-- no job leaves the queue, and these join it
+pub queued : {deed : Deed} {old new : List Job} → LeavesBy deed.takes old old → AddsJobs deed.adds old new → ChangesQueue deed old new
+queued stays adds = record { left = _; takes = stays; adds = adds }
+
+pub performed : (s : Scene) (actor : ℕ) (deed : Deed) (jobs : List Job) → ChangesQueue deed s.jobs jobs → MayBeIn s deed.op
+    → Performs (machine_of s) (store_of s) actor deed (outcome_of deed.says) (machine_of (after actor deed jobs s))
+performed s actor deed jobs queue may = record {
   says = refl;
   lines = refl;
   answered = refl;
   activity = standing_set actor deed.next s.at_work;
   latches = subst (λ (held : List Latch). Relatches actor held (map.from_entries s.latched) (map.from_entries (relatched actor (held_in (with_maybe_done deed.op s) deed.next) s.latched))) (sym (ap (held_of deed.next) (looks_is (after actor deed jobs s) (walk_held deed.next))))
       (relatches actor (held_in (with_maybe_done deed.op s) deed.next) s.latched);
-  jobs = adds;
+  jobs = queue;
   order = refl;
   stop = refl;
   store = may_do s deed.op may;
@@ -223,10 +237,11 @@ is_none_not : IsSome {T = Page} None → ⊥
 is_none_not some = cc
 
 -- no page has to come
-nothing_comes : (files : Option Files) (may : ℕ → Type 0) (st : StoreState) → Brings files may st st
-nothing_comes files may st = record {
+nothing_comes : (m : Machine) (may : ℕ → Type 0) → Brings m may m.store
+nothing_comes m may = record {
   rest = record { turn = refl; meta = refl; log = refl; imaged = refl; stopped = refl };
-  stays = λ id there. refl;
+  stays = λ id must there. refl;
+  others = λ id there. inl refl;
   only = λ id none there. absurd (is_none_not (subst (λ (o : Option Page). IsSome o) none there));
   good = λ id page none there. absurd (let no : ⊥ = cc in no);
   told = λ id page none there. absurd (let no : ⊥ = cc in no);
@@ -234,17 +249,17 @@ nothing_comes files may st = record {
 
 -- its row is done
 pub works : (s : Scene) (actor : ℕ) (deed : Deed) (jobs : List Job) → IsClearIn s actor → ¬ (IsUnready (machine_of s) actor)
-    → Row (standing s.at_work actor) (wanted_in s actor) (machine_of s) deed → AddsJobs deed.adds deed.left jobs → MayBeIn s deed.op
-    → Works (machine_of s) actor deed.says (machine_of (after actor deed jobs s))
-works s actor deed jobs clear ready row adds may = inr (inr (
+    → Row (standing s.at_work actor) (wanted_in s actor) (machine_of s) deed → ChangesQueue deed s.jobs jobs → MayBeIn s deed.op
+    → Works (machine_of s) actor (outcome_of deed.says) (machine_of (after actor deed jobs s))
+works s actor deed jobs clear ready row queue may = inr (inr (
   way_free s actor clear,
   ready,
   inl (record {
     fetched = store_of s;
     deed = deed;
-    brings = nothing_comes _ _ _;
+    brings = nothing_comes _ _;
     row = subst (λ (o : Option Wanted). Row (standing s.at_work actor) o (machine_of s) deed) (sym (wanted_is s actor)) row;
-    performs = performed s actor deed jobs adds may;
+    performs = performed s actor deed jobs queue may;
   }),
 ))
 
@@ -270,10 +285,12 @@ blocked s actor by held w is another has conflict clear = inl (by, hindered s ac
 
 -- why the log is ready: the step doesn't change the file, or there is room
 pub only_looks : (s : Scene) (actor : ℕ) → may_change_file (machine_of s) actor ≡ false → ¬ (IsUnready (machine_of s) actor)
-only_looks s actor looks unready = let on = unready.0 in let none : ⊥ = cc in none
+only_looks s actor looks (inl unready) = let on = unready.0 in let none : ⊥ = cc in none
+only_looks s actor looks (inr crowded) = crowded.0
 
 pub has_room : (s : Scene) (actor : ℕ) → IsReady (store_of s) → ¬ (IsUnready (machine_of s) actor)
-has_room s actor ready unready = unready.1 ready
+has_room s actor ready (inl unready) = unready.1 ready
+has_room s actor ready (inr crowded) = crowded.0
 
 -- a job joins the queue, which doesn't have it yet
 pub none_waits : (one : Job) → ¬ (Contains [] one)
@@ -324,10 +341,14 @@ module _ (s : Scene) (may : ℕ → Type 0) (more : List (ℕ × Page)) (each : 
   only id None none is some = absurd (is_none_not some)
   only id (Some page) none is some = (came id page none is).needed
 
-  pub come : Brings (Some (record { durable = s.durable; later = s.later })) may (store_of s) (store_of (bringing more s))
+  stays_here : (id : ℕ) → IsSome (in_memory (store_of s) id) → in_memory (store_of (bringing more s)) id ≡ in_memory (store_of s) id
+  stays_here id there = here id ∙ or_stays (entry_at id s.pages) (entry_at id more) (subst (λ (o : Option Page). IsSome o) (memory_is s id) there) ∙ sym (memory_is s id)
+
+  pub come : Brings (machine_of s) may (store_of (bringing more s))
   come = record {
     rest = record { turn = refl; meta = refl; log = refl; imaged = refl; stopped = refl };
-    stays = λ id there. here id ∙ or_stays (entry_at id s.pages) (entry_at id more) (subst (λ (o : Option Page). IsSome o) (memory_is s id) there) ∙ sym (memory_is s id);
+    stays = λ id must there. stays_here id there;
+    others = λ id there. inl (stays_here id there);
     only = λ id none there. only id (in_memory (store_of (bringing more s)) id) none refl there;
     good = λ id page none there. let one = came id page none there in (one.from_1, one.to_high, one.good);
     told = λ id page none there. (came id page none there).told;
@@ -345,10 +366,10 @@ each_needed s actor op more each =
 -- its row is done once they came
 pub works_bringing : (more : List (ℕ × Page)) (s : Scene) (actor : ℕ) (deed : Deed) (jobs : List Job) → AllByRecursion (MayCome s (MayNeedIn s actor deed.op)) more
     → IsClearIn s actor → ¬ (IsUnready (machine_of s) actor)
-    → Row (standing s.at_work actor) (wanted_in s actor) (machine_of (bringing more s)) deed → AddsJobs deed.adds deed.left jobs → MayBeIn (bringing more s) deed.op
-    → Works (machine_of s) actor deed.says (machine_of (after actor deed jobs (bringing more s)))
-works_bringing more s actor deed jobs each clear ready row adds may =
-    let done = performed (bringing more s) actor deed jobs adds may in
+    → Row (standing s.at_work actor) (wanted_in s actor) (machine_of (bringing more s)) deed → ChangesQueue deed s.jobs jobs → MayBeIn (bringing more s) deed.op
+    → Works (machine_of s) actor (outcome_of deed.says) (machine_of (after actor deed jobs (bringing more s)))
+works_bringing more s actor deed jobs each clear ready row queue may =
+    let done = performed (bringing more s) actor deed jobs queue may in
     inr (inr (
       way_free s actor clear,
       ready,
@@ -402,9 +423,9 @@ forces s done = inl (refl, refl)
 pub helps : (s : Scene) (actor : ℕ) → IsClearIn s actor → IsUnready (machine_of s) actor → s.groups ≢ [] → Works (machine_of s) actor outcomes.Helped (machine_of (forced_scene s))
 helps s actor clear unready waits = inr (inl (way_free s actor clear, unready, inl (waits, forces s outcomes.Helped)))
 
--- none waits, so that no force makes room
+-- none waits, so that nothing makes room
 pub gives_out : (s : Scene) (actor : ℕ) (jobs : List Job) → IsClearIn s actor → IsUnready (machine_of s) actor → s.groups ≡ []
-    → AddsJobs (runs_out (machine_of s) (standing s.at_work actor)).adds (runs_out (machine_of s) (standing s.at_work actor)).left jobs
-    → MayBeIn s (runs_out (machine_of s) (standing s.at_work actor)).op
-    → Works (machine_of s) actor (runs_out (machine_of s) (standing s.at_work actor)).says (machine_of (after actor (runs_out (machine_of s) (standing s.at_work actor)) jobs s))
-gives_out s actor jobs clear unready none adds may = inr (inl (way_free s actor clear, unready, inr (none, performed s actor (runs_out (machine_of s) (standing s.at_work actor)) jobs adds may)))
+    → ChangesQueue (runs_out (standing s.at_work actor)) s.jobs jobs → MayBeIn s (runs_out (standing s.at_work actor)).op
+    → Works (machine_of s) actor (outcome_of (runs_out (standing s.at_work actor)).says) (machine_of (after actor (runs_out (standing s.at_work actor)) jobs s))
+gives_out s actor jobs clear unready none queue may =
+    inr (inl (way_free s actor clear, unready, inr (none, inr (inr (λ more. more, performed s actor (runs_out (standing s.at_work actor)) jobs queue may)))))

@@ -1,36 +1,36 @@
 -- The poster and two sessions: each step of the chain.
 use Rattle.std.proofs.Common.{◌≡◌, ◌≢◌, inl, inr, List, [], ◌∷◌, slice_index, Contains, Option, Some, None, refl, ap, arith}
-use Rattle.hb_outside.specs.Numbers.{big_endian}
-use Rattle.hb_space.specs.Boxes.{side_below, whole_area}
 use Rattle.hb_space.specs.declared.records.Record.{Record}
 use Rattle.hb_frag.specs.declared.pages.LivePage.{LivePage}
-use Rattle.hb_frag.specs.Leaves.{leaves, leaves_of}
-use Rattle.hb_frag.specs.Rules.{BelongsAt, IsInOrder}
-use Rattle.hb_frag.proofs.Stretches.{contains_one}
-use Rattle.hb_ops.specs.Recording.{FitsDel}
-use Rattle.hb_ops.specs.Sound.{FitsFile}
-use Rattle.hb_ops.specs.Standing.{StandsNot}
 use Rattle.hb_ops.specs.declared.operations.Op.TheVariants as ops
-use Rattle.hb_sound.proofs.ExampleParts.{each_at, held, in_order, interval, top, within}
 use Rattle.hb_terms.specs.declared.plans.PostPlan.TheVariants as plans
 use Rattle.hb_latch.specs.declared.modes.Mode.TheVariants.{Exclusive, Shared}
 use Rattle.hb_set.specs.declared.commands.Reply.TheVariants as replies
 use Rattle.hb_activity.specs.declared.jobs.Job.{Job}
 use Rattle.hb_activity.specs.declared.activities.Activity.TheVariants as at
-use Rattle.hb_store.specs.Calls.{IsReady}
 use Rattle.hb_core.specs.declared.outcomes.Outcome.TheVariants.{Moved}
+use Rattle.hb_activity.specs.Deeds.{Deed, answers_now, does, moves_to, takes_effect}
+use Rattle.hb_core.proofs.BuiltSteps.{after, at_hand, blocked, forced_scene, forces, has_room, live_is, none_waits, one_joins, only_looks, performed, wanted_in, works, queued}
+use Rattle.hb_core.proofs.ChainOfPosting.{job, owes_two, post_fits, takes, it_leaves}
+use Rattle.hb_core.proofs.ChainOfTwoParts.{differ}
 use Rattle.hb_core.specs.Asking.{box_at}
-use Rattle.hb_core.specs.Deeds.{Deed, answers_now, does, moves_to, takes_effect}
-use Rattle.hb_core.specs.SessionRows.{taking}
-use Rattle.hb_core.specs.WorkerRows.{TakesJob}
+use Rattle.hb_core.specs.ChainBesidePoster.{SessionsBesidePoster, beside_before, deletes_twenty, lower_two, seeks_twenty}
+use Rattle.hb_core.specs.ChainOfPosting.{bare_root, posted_root, raised_meta, split_page}
+use Rattle.hb_core.specs.ChainOfTwo.{lettered, lower_half, lower_three, posts_at}
 use Rattle.hb_core.specs.Rows.{Row}
 use Rattle.hb_core.specs.Scenes.{Scene, machine_of, standing, store_of}
-use Rattle.hb_core.specs.ChainOfTwo.{lettered, lower_half, lower_three, posts_at}
-use Rattle.hb_core.specs.ChainOfPosting.{bare_root, posted_root, raised_meta, split_page}
-use Rattle.hb_core.specs.ChainBesidePoster.{SessionsBesidePoster, beside_before, deletes_twenty, lower_two, seeks_twenty}
-use Rattle.hb_core.proofs.BuiltSteps.{after, at_hand, blocked, forced_scene, forces, has_room, live_is, none_waits, one_joins, only_looks, performed, wanted_in, works}
-use Rattle.hb_core.proofs.ChainOfPosting.{job, leaves_first, owes_two, post_fits, takes}
-use Rattle.hb_core.proofs.ChainOfTwoParts.{differ}
+use Rattle.hb_core.specs.Steps.{TakesJob}
+use Rattle.hb_frag.proofs.Stretches.{contains_one}
+use Rattle.hb_frag.specs.Leaves.{leaves, leaves_of}
+use Rattle.hb_frag.specs.Rules.{BelongsAt, IsInOrder}
+use Rattle.hb_ops.specs.Recording.{FitsDel}
+use Rattle.hb_ops.specs.Sound.{FitsFile}
+use Rattle.hb_ops.specs.Standing.{StandsNot}
+use Rattle.hb_outside.specs.Numbers.{big_endian}
+use Rattle.hb_point.specs.SessionRows.{taking}
+use Rattle.hb_sound.proofs.ExampleParts.{each_at, held, in_order, interval, top, within}
+use Rattle.hb_space.specs.Boxes.{side_below, whole_area}
+use Rattle.hb_store.specs.Calls.{IsReady}
 
 -- ---- the scenes, one after the other
 
@@ -38,43 +38,43 @@ abbrev job_taken : Scene
 job_taken = after 17 (takes (at.PosterWalk job None)) [] beside_before
 
 abbrev arrives : Deed
-arrives = moves_to (machine_of job_taken) (at.PosterChild job 3) []
+arrives = moves_to (at.PosterChild job 3) []
 
 abbrev at_root : Scene
 at_root = after 17 arrives [] job_taken
 
 abbrev line_taken : Scene
-line_taken = after 1 (taking (machine_of at_root) seeks_twenty) [] at_root
+line_taken = after 1 (taking seeks_twenty) [] at_root
 
 abbrev looks : Deed
-looks = moves_to (machine_of line_taken) (at.PosterPromote job 3) []
+looks = moves_to (at.PosterPromote job 3) []
 
 abbrev to_promote : Scene
 to_promote = after 17 looks [] line_taken
 
 abbrev shares : Deed
-shares = moves_to (machine_of to_promote) (at.SessionWalk seeks_twenty (Some 3) [] []) []
+shares = moves_to (at.SessionWalk seeks_twenty (Some 3) [] []) []
 
 abbrev both_at_root : Scene
 both_at_root = after 1 shares [] to_promote
 
 abbrev steps_down : Deed
-steps_down = moves_to (machine_of both_at_root) (at.SessionWalk seeks_twenty (Some 1) [] []) (posts_at 20 ∷ [])
+steps_down = moves_to (at.SessionWalk seeks_twenty (Some 1) [] []) (posts_at 20 ∷ [])
 
 abbrev is_below : Scene
 is_below = after 1 steps_down (posts_at 20 ∷ []) both_at_root
 
 abbrev promotes : Deed
-promotes = moves_to (machine_of is_below) (at.PosterAgain job 3) []
+promotes = moves_to (at.PosterAgain job 3) []
 
 abbrev is_promoted : Scene
 is_promoted = after 17 promotes (posts_at 20 ∷ []) is_below
 
 abbrev other_taken : Scene
-other_taken = after 2 (taking (machine_of is_promoted) deletes_twenty) (posts_at 20 ∷ []) is_promoted
+other_taken = after 2 (taking deletes_twenty) (posts_at 20 ∷ []) is_promoted
 
 abbrev posts : Deed
-posts = does (machine_of other_taken) at.PosterIdle (ops.Post 3 [] 2 (side_below (whole_area 1) 0 40)) (job ∷ [])
+posts = does at.PosterIdle (ops.Post 3 [] 2 (side_below (whole_area 1) 0 40)) (job ∷ [])
 
 abbrev two_jobs : List Job
 two_jobs = posts_at 20 ∷ posts_at 10 ∷ []
@@ -83,19 +83,19 @@ abbrev is_posted : Scene
 is_posted = after 17 posts two_jobs other_taken
 
 abbrev passes_root : Deed
-passes_root = moves_to (machine_of is_posted) (at.SessionWalk deletes_twenty (Some 3) [] []) []
+passes_root = moves_to (at.SessionWalk deletes_twenty (Some 3) [] []) []
 
 abbrev root_passed : Scene
 root_passed = after 2 passes_root two_jobs is_posted
 
 abbrev deletes : Deed
-deletes = takes_effect (machine_of root_passed) deletes_twenty replies.Done (Some (ops.Del 2 (20 ∷ []))) []
+deletes = takes_effect 0 deletes_twenty replies.Done (Some (ops.Del 2 (20 ∷ []))) []
 
 abbrev is_deleted : Scene
 is_deleted = after 2 deletes two_jobs root_passed
 
 abbrev misses : Deed
-misses = takes_effect (machine_of is_deleted) seeks_twenty replies.Missing None []
+misses = takes_effect 1 seeks_twenty replies.Missing None []
 
 abbrev is_missed : Scene
 is_missed = after 1 misses two_jobs is_deleted
@@ -107,10 +107,10 @@ abbrev twice_forced : Scene
 twice_forced = forced_scene once_forced
 
 abbrev one_answered : Scene
-one_answered = after 2 (answers_now (machine_of twice_forced) 2 replies.Done) two_jobs twice_forced
+one_answered = after 2 (answers_now 2 replies.Done) two_jobs twice_forced
 
 abbrev both_answered : Scene
-both_answered = after 1 (answers_now (machine_of one_answered) 1 replies.Missing) two_jobs one_answered
+both_answered = after 1 (answers_now 1 replies.Missing) two_jobs one_answered
 
 -- ---- what the delete asks for
 
@@ -142,7 +142,7 @@ twenty_absent = record {
 -- ---- the rows
 
 takes_to_walk : TakesJob (machine_of beside_before) (takes (at.PosterWalk job None))
-takes_to_walk = record { job = job; left = []; oldest = leaves_first; next = at.PosterWalk job None; posting = inr (inr (omega arith, refl)); deed_is = refl }
+takes_to_walk = record { job = job; kind = refl; next = at.PosterWalk job None; posting = inr (inr (omega arith, refl)); deed_is = refl }
 
 arrive_row : Row (standing job_taken.at_work 17) (wanted_in job_taken 17) (machine_of job_taken) arrives
 arrive_row = (bare_root, at_hand job_taken (standing job_taken.at_work 17) _ bare_root _ refl refl refl refl, inl (record { level = refl; child = 1; area = _; leaf = refl; deed_is = refl }))
@@ -213,46 +213,46 @@ pub sessions_beside_poster : SessionsBesidePoster
 unfolding big_endian
 sessions_beside_poster = (
   machine_of job_taken,
-  inr (takes (at.PosterWalk job None), takes_to_walk, performed beside_before 17 (takes (at.PosterWalk job None)) [] refl tt),
+  inr (takes (at.PosterWalk job None), takes_to_walk, performed beside_before 17 (takes (at.PosterWalk job None)) [] (it_leaves _) tt),
   (
     machine_of at_root,
-    works job_taken 17 arrives [] refl (only_looks job_taken 17 refl) arrive_row refl tt,
+    works job_taken 17 arrives [] refl (only_looks job_taken 17 refl) arrive_row (queued refl refl) tt,
     (
       machine_of line_taken,
-      inl (performed at_root 1 (taking (machine_of at_root) seeks_twenty) [] refl tt),
+      inl (performed at_root 1 (taking seeks_twenty) [] (queued refl refl) tt),
       (
         machine_of to_promote,
-        works line_taken 17 looks [] refl (only_looks line_taken 17 refl) look_row refl tt,
+        works line_taken 17 looks [] refl (only_looks line_taken 17 refl) look_row (queued refl refl) tt,
         (
           machine_of both_at_root,
-          works to_promote 1 shares [] refl (only_looks to_promote 1 refl) share_row refl tt,
+          works to_promote 1 shares [] refl (only_looks to_promote 1 refl) share_row (queued refl refl) tt,
           (
             machine_of both_at_root,
             blocked both_at_root 17 1 Shared _ refl (omega arith) refl refl refl,
             (
               machine_of is_below,
-              works both_at_root 1 steps_down (posts_at 20 ∷ []) refl (only_looks both_at_root 1 refl) down_row (one_joins (posts_at 20) [] (none_waits (posts_at 20)) (omega arith)) tt,
+              works both_at_root 1 steps_down (posts_at 20 ∷ []) refl (only_looks both_at_root 1 refl) down_row (queued refl (one_joins (posts_at 20) [] (none_waits (posts_at 20)) (omega arith))) tt,
               (
                 machine_of is_promoted,
-                works is_below 17 promotes (posts_at 20 ∷ []) refl (only_looks is_below 17 refl) promote_row refl tt,
+                works is_below 17 promotes (posts_at 20 ∷ []) refl (only_looks is_below 17 refl) promote_row (queued refl refl) tt,
                 (
                   machine_of other_taken,
-                  inl (performed is_promoted 2 (taking (machine_of is_promoted) deletes_twenty) (posts_at 20 ∷ []) refl tt),
+                  inl (performed is_promoted 2 (taking deletes_twenty) (posts_at 20 ∷ []) (queued refl refl) tt),
                   (
                     machine_of other_taken,
                     blocked other_taken 2 17 Exclusive _ refl (omega arith) refl refl refl,
                     (
                       machine_of is_posted,
-                      works other_taken 17 posts two_jobs refl (has_room other_taken 17 ready_to_post) again_row (one_joins (posts_at 10) (posts_at 20 ∷ []) other_waits (omega arith)) (record { allowed = post_fits; log = refl }),
+                      works other_taken 17 posts two_jobs refl (has_room other_taken 17 ready_to_post) again_row (queued refl (one_joins (posts_at 10) (posts_at 20 ∷ []) other_waits (omega arith))) (record { allowed = post_fits; log = refl }),
                       (
                         machine_of root_passed,
-                        works is_posted 2 passes_root two_jobs refl (has_room is_posted 2 ready_to_walk) root_row refl tt,
+                        works is_posted 2 passes_root two_jobs refl (has_room is_posted 2 ready_to_walk) root_row (queued refl refl) tt,
                         (
                           machine_of is_deleted,
-                          works root_passed 2 deletes two_jobs refl (has_room root_passed 2 ready_to_delete) delete_row refl (record { allowed = del_fits; log = refl }),
+                          works root_passed 2 deletes two_jobs refl (has_room root_passed 2 ready_to_delete) delete_row (queued refl refl) (record { allowed = del_fits; log = refl }),
                           (
                             machine_of is_missed,
-                            works is_deleted 1 misses two_jobs refl (only_looks is_deleted 1 refl) miss_row refl tt,
+                            works is_deleted 1 misses two_jobs refl (only_looks is_deleted 1 refl) miss_row (queued refl refl) tt,
                             (
                               machine_of once_forced,
                               inr (omega arith, forces is_missed Moved),
@@ -261,10 +261,10 @@ sessions_beside_poster = (
                                 inr (omega arith, forces once_forced Moved),
                                 (
                                   machine_of one_answered,
-                                  inl (omega arith, performed twice_forced 2 (answers_now (machine_of twice_forced) 2 replies.Done) two_jobs refl tt),
+                                  inl (omega arith, performed twice_forced 2 (answers_now 2 replies.Done) two_jobs (queued refl refl) tt),
                                   (
                                     machine_of both_answered,
-                                    inl (omega arith, performed one_answered 1 (answers_now (machine_of one_answered) 1 replies.Missing) two_jobs refl tt),
+                                    inl (omega arith, performed one_answered 1 (answers_now 1 replies.Missing) two_jobs (queued refl refl) tt),
                                     refl,
                                   ),
                                 ),

@@ -1,57 +1,57 @@
 -- Commands that change nothing: each step of the chain.
 use Rattle.std.proofs.Common.{◌≢◌, inl, inr, List, [], ◌∷◌, Option, Some, None, AllPairs, refl, ap, arith}
 use Rattle.std.proofs.lemmas.List.Sorted.{IsPermutation-refl}
-use Rattle.hb_space.specs.Boxes.{Area}
 use Rattle.hb_space.specs.declared.records.Record.{Record}
 use Rattle.hb_frag.specs.declared.pages.LivePage.{LivePage}
-use Rattle.hb_frag.specs.Rules.{Precedes}
-use Rattle.hb_ops.specs.Standing.{StandsNot}
-use Rattle.hb_sound.proofs.ExampleParts.{each_at, rising}
 use Rattle.hb_set.specs.declared.commands.Reply.TheVariants as replies
 use Rattle.hb_activity.specs.declared.activities.Activity.TheVariants.{SessionWalk}
-use Rattle.hb_store.specs.Calls.{IsReady}
+use Rattle.hb_activity.specs.Deeds.{Deed, answers_now, moves_to, takes_effect}
+use Rattle.hb_core.proofs.BuiltSteps.{after, at_hand, has_room, live_is, none_waits, one_joins, only_looks, performed, wanted_in, works, queued}
+use Rattle.hb_core.proofs.ChainOfTwoParts.{differ}
 use Rattle.hb_core.specs.Asking.{box_at}
-use Rattle.hb_core.specs.Deeds.{Deed, answers_now, moves_to, takes_effect}
-use Rattle.hb_core.specs.SessionRows.{taking}
+use Rattle.hb_core.specs.ChainOfCommands.{CommandsOfOne, asked_area, commands_before, deletes_none, inserts_fifty, searches, three_found}
+use Rattle.hb_core.specs.ChainOfPosting.{split_page}
+use Rattle.hb_core.specs.ChainOfTwo.{lettered, lower_half, lower_three, posts_at}
 use Rattle.hb_core.specs.Rows.{Row}
 use Rattle.hb_core.specs.Scenes.{Scene, machine_of, standing, store_of}
-use Rattle.hb_core.specs.ChainOfTwo.{lettered, lower_half, lower_three, posts_at}
-use Rattle.hb_core.specs.ChainOfPosting.{split_page}
-use Rattle.hb_core.specs.ChainOfCommands.{CommandsOfOne, asked_area, commands_before, deletes_none, inserts_fifty, searches, three_found}
-use Rattle.hb_core.proofs.BuiltSteps.{after, at_hand, has_room, live_is, none_waits, one_joins, only_looks, performed, wanted_in, works}
-use Rattle.hb_core.proofs.ChainOfTwoParts.{differ}
+use Rattle.hb_frag.specs.Rules.{Precedes}
+use Rattle.hb_ops.specs.Standing.{StandsNot}
+use Rattle.hb_point.specs.SessionRows.{taking}
+use Rattle.hb_sound.proofs.ExampleParts.{each_at, rising}
+use Rattle.hb_space.specs.Boxes.{Area}
+use Rattle.hb_store.specs.Calls.{IsReady}
 
 -- ---- the scenes, one after the other
 
 abbrev first_taken : Scene
-first_taken = after 1 (taking (machine_of commands_before) inserts_fifty) [] commands_before
+first_taken = after 1 (taking inserts_fifty) [] commands_before
 
 abbrev finds_twin : Deed
-finds_twin = takes_effect (machine_of first_taken) inserts_fifty replies.Duplicate None []
+finds_twin = takes_effect 0 inserts_fifty replies.Duplicate None []
 
 abbrev first_done : Scene
 first_done = after 1 finds_twin [] first_taken
 
 abbrev first_answered : Scene
-first_answered = after 1 (answers_now (machine_of first_done) 1 replies.Duplicate) [] first_done
+first_answered = after 1 (answers_now 1 replies.Duplicate) [] first_done
 
 abbrev second_taken : Scene
-second_taken = after 1 (taking (machine_of first_answered) deletes_none) [] first_answered
+second_taken = after 1 (taking deletes_none) [] first_answered
 
 abbrev finds_nothing : Deed
-finds_nothing = takes_effect (machine_of second_taken) deletes_none replies.Absent None []
+finds_nothing = takes_effect 1 deletes_none replies.Absent None []
 
 abbrev second_done : Scene
 second_done = after 1 finds_nothing [] second_taken
 
 abbrev second_answered : Scene
-second_answered = after 1 (answers_now (machine_of second_done) 2 replies.Absent) [] second_done
+second_answered = after 1 (answers_now 2 replies.Absent) [] second_done
 
 abbrev third_taken : Scene
-third_taken = after 1 (taking (machine_of second_answered) searches) [] second_answered
+third_taken = after 1 (taking searches) [] second_answered
 
 abbrev passes : Deed
-passes = moves_to (machine_of third_taken) (SessionWalk searches (Some 1) (asked_area ∷ []) []) (posts_at 25 ∷ [])
+passes = moves_to (SessionWalk searches (Some 1) (asked_area ∷ []) []) (posts_at 25 ∷ [])
 
 abbrev is_passed : Scene
 is_passed = after 1 passes (posts_at 25 ∷ []) third_taken
@@ -61,19 +61,19 @@ abbrev rest_area : Area
 rest_area = record { lo = 40 ∷ []; hi = 55 ∷ [] }
 
 abbrev gathers : Deed
-gathers = moves_to (machine_of is_passed) (SessionWalk searches None (rest_area ∷ []) (lettered 30 99 ∷ [])) []
+gathers = moves_to (SessionWalk searches None (rest_area ∷ []) (lettered 30 99 ∷ [])) []
 
 abbrev half_gathered : Scene
 half_gathered = after 1 gathers (posts_at 25 ∷ []) is_passed
 
 abbrev gathers_all : Deed
-gathers_all = takes_effect (machine_of half_gathered) searches (replies.Within three_found) None []
+gathers_all = takes_effect 2 searches (replies.Within three_found) None []
 
 abbrev all_gathered : Scene
 all_gathered = after 1 gathers_all (posts_at 25 ∷ []) half_gathered
 
 abbrev all_answered : Scene
-all_answered = after 1 (answers_now (machine_of all_gathered) 3 (replies.Within three_found)) (posts_at 25 ∷ []) all_gathered
+all_answered = after 1 (answers_now 3 (replies.Within three_found)) (posts_at 25 ∷ []) all_gathered
 
 -- ---- the rows
 
@@ -129,37 +129,37 @@ ready_second = (omega arith, omega arith)
 pub commands_of_one : CommandsOfOne
 commands_of_one = (
   machine_of first_taken,
-  inl (performed commands_before 1 (taking (machine_of commands_before) inserts_fifty) [] refl tt),
+  inl (performed commands_before 1 (taking inserts_fifty) [] (queued refl refl) tt),
   (
     machine_of first_done,
-    works first_taken 1 finds_twin [] refl (has_room first_taken 1 ready_first) twin_row refl tt,
+    works first_taken 1 finds_twin [] refl (has_room first_taken 1 ready_first) twin_row (queued refl refl) tt,
     (
       machine_of first_answered,
-      inl (omega arith, performed first_done 1 (answers_now (machine_of first_done) 1 replies.Duplicate) [] refl tt),
+      inl (omega arith, performed first_done 1 (answers_now 1 replies.Duplicate) [] (queued refl refl) tt),
       (
         machine_of second_taken,
-        inl (performed first_answered 1 (taking (machine_of first_answered) deletes_none) [] refl tt),
+        inl (performed first_answered 1 (taking deletes_none) [] (queued refl refl) tt),
         (
           machine_of second_done,
-          works second_taken 1 finds_nothing [] refl (has_room second_taken 1 ready_second) nothing_row refl tt,
+          works second_taken 1 finds_nothing [] refl (has_room second_taken 1 ready_second) nothing_row (queued refl refl) tt,
           (
             machine_of second_answered,
-            inl (omega arith, performed second_done 1 (answers_now (machine_of second_done) 2 replies.Absent) [] refl tt),
+            inl (omega arith, performed second_done 1 (answers_now 2 replies.Absent) [] (queued refl refl) tt),
             (
               machine_of third_taken,
-              inl (performed second_answered 1 (taking (machine_of second_answered) searches) [] refl tt),
+              inl (performed second_answered 1 (taking searches) [] (queued refl refl) tt),
               (
                 machine_of is_passed,
-                works third_taken 1 passes (posts_at 25 ∷ []) refl (only_looks third_taken 1 refl) pass_row (one_joins (posts_at 25) [] (none_waits (posts_at 25)) (omega arith)) tt,
+                works third_taken 1 passes (posts_at 25 ∷ []) refl (only_looks third_taken 1 refl) pass_row (queued refl (one_joins (posts_at 25) [] (none_waits (posts_at 25)) (omega arith))) tt,
                 (
                   machine_of half_gathered,
-                  works is_passed 1 gathers (posts_at 25 ∷ []) refl (only_looks is_passed 1 refl) gather_row refl tt,
+                  works is_passed 1 gathers (posts_at 25 ∷ []) refl (only_looks is_passed 1 refl) gather_row (queued refl refl) tt,
                   (
                     machine_of all_gathered,
-                    works half_gathered 1 gathers_all (posts_at 25 ∷ []) refl (only_looks half_gathered 1 refl) gather_all_row refl tt,
+                    works half_gathered 1 gathers_all (posts_at 25 ∷ []) refl (only_looks half_gathered 1 refl) gather_all_row (queued refl refl) tt,
                     (
                       machine_of all_answered,
-                      inl (omega arith, performed all_gathered 1 (answers_now (machine_of all_gathered) 3 (replies.Within three_found)) (posts_at 25 ∷ []) refl tt),
+                      inl (omega arith, performed all_gathered 1 (answers_now 3 (replies.Within three_found)) (posts_at 25 ∷ []) (queued refl refl) tt),
                       (
                         machine_of all_answered,
                         (refl, refl),

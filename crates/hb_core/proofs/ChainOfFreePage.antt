@@ -1,33 +1,34 @@
 -- A split that takes the number of a free page, and one for which none is left: each step of the chains.
-use Rattle.std.proofs.Common.{inl, inr, ℕ, List, [], ◌∷◌, Some, refl, arith}
-use Rattle.hb_outside.specs.Numbers.{big_endian}
-use Rattle.hb_frag.specs.Grammar.{HasSpelling}
+use Rattle.std.proofs.Common.{inl, inr, ℕ, List, [], ◌∷◌, Some, refl, ap, arith}
 use Rattle.hb_frag.specs.declared.pages.Page.{Page}
 use Rattle.hb_frag.specs.declared.pages.Page.TheVariants.{Free}
-use Rattle.hb_sound.proofs.ExampleParts.{cuts, top}
-use Rattle.hb_ops.specs.Extracting.{FitsExtract}
-use Rattle.hb_ops.specs.Recording.{FitsPut}
 use Rattle.hb_ops.specs.declared.operations.Op.TheVariants.{Put, Extract}
 use Rattle.hb_set.specs.declared.commands.Reply.TheVariants as replies
 use Rattle.hb_activity.specs.declared.activities.Activity.TheVariants.{SessionPut, SessionSplit}
-use Rattle.hb_store.specs.Calls.{IsReady}
 use Rattle.hb_core.specs.declared.outcomes.Outcome.TheVariants.{Moved}
-use Rattle.hb_core.specs.Deeds.{Deed, answers_now, does, moves_to, takes_effect}
-use Rattle.hb_core.specs.SessionRows.{taking}
+use Rattle.hb_activity.specs.Deeds.{Deed, answers_now, does, moves_to, takes_effect}
+use Rattle.hb_core.proofs.BuiltSteps.{MayCome, MayNeedIn, after, at_hand, bringing, forced_scene, forces, has_room, live_is, memory_is, none_waits, one_joins, performed, wanted_in, works, works_bringing, queued}
+use Rattle.hb_core.proofs.ChainOfTwoParts.{chosen_at_forty, cut_at_forty, full_fits, put_fits, seventy_absent, seventy_held, six}
+use Rattle.hb_core.specs.ChainOfFreePage.{FreePageIsTaken, NoPageIsFree, free_before, none_free_before, tight_meta}
+use Rattle.hb_core.specs.ChainOfTwo.{full_page, inserts_seventy, lettered, posts_at, upper_half, upper_three}
+use Rattle.hb_core.specs.Machines.{next_of_chain}
 use Rattle.hb_core.specs.Rows.{Row}
 use Rattle.hb_core.specs.Scenes.{Scene, machine_of, standing, store_of}
-use Rattle.hb_core.specs.ChainOfTwo.{full_page, inserts_seventy, lettered, posts_at, upper_half, upper_three}
-use Rattle.hb_core.specs.ChainOfFreePage.{FreePageIsTaken, NoPageIsFree, free_before, none_free_before, tight_meta}
-use Rattle.hb_core.proofs.BuiltSteps.{MayCome, MayNeedIn, after, at_hand, bringing, forced_scene, forces, has_room, live_is, memory_is, none_waits, one_joins, performed, wanted_in, works, works_bringing}
-use Rattle.hb_core.proofs.ChainOfTwoParts.{chosen_at_forty, cut_at_forty, full_fits, put_fits, seventy_absent, seventy_held, six}
+use Rattle.hb_frag.specs.Grammar.{HasSpelling}
+use Rattle.hb_ops.specs.Extracting.{FitsExtract}
+use Rattle.hb_ops.specs.Recording.{FitsPut}
+use Rattle.hb_outside.specs.Numbers.{big_endian}
+use Rattle.hb_point.specs.SessionRows.{taking}
+use Rattle.hb_sound.proofs.ExampleParts.{cuts, top}
+use Rattle.hb_store.specs.Calls.{IsReady}
 
 -- ---- the scenes, one after the other
 
 abbrev is_taken : Scene
-is_taken = after 1 (taking (machine_of free_before) inserts_seventy) [] free_before
+is_taken = after 1 (taking inserts_seventy) [] free_before
 
 abbrev finds_no_room : Deed
-finds_no_room = moves_to (machine_of is_taken) (SessionSplit inserts_seventy 1) []
+finds_no_room = moves_to (SessionSplit inserts_seventy 1) []
 
 abbrev to_split : Scene
 to_split = after 1 finds_no_room [] is_taken
@@ -40,13 +41,13 @@ abbrev with_free : Scene
 with_free = bringing page_2 to_split
 
 abbrev splits : Deed
-splits = does (machine_of with_free) (SessionPut inserts_seventy 1 2) (Extract 1 2 [] (cut_at_forty ∷ []) 0) (posts_at 0 ∷ [])
+splits = does (SessionPut inserts_seventy 1 2) (Extract 1 2 [] (cut_at_forty ∷ []) 0) (posts_at 0 ∷ [])
 
 abbrev is_split : Scene
 is_split = after 1 splits (posts_at 0 ∷ []) with_free
 
 abbrev puts : Deed
-puts = takes_effect (machine_of is_split) inserts_seventy replies.Done (Some (Put 1 (lettered 70 103))) []
+puts = takes_effect 0 inserts_seventy replies.Done (Some (Put 1 (lettered 70 103))) []
 
 abbrev is_put : Scene
 is_put = after 1 puts (posts_at 0 ∷ []) is_split
@@ -58,7 +59,7 @@ abbrev twice_forced : Scene
 twice_forced = forced_scene once_forced
 
 abbrev is_answered : Scene
-is_answered = after 1 (answers_now (machine_of twice_forced) 1 replies.Done) (posts_at 0 ∷ []) twice_forced
+is_answered = after 1 (answers_now 1 replies.Done) (posts_at 0 ∷ []) twice_forced
 
 -- ---- the rows
 
@@ -85,7 +86,7 @@ split_row = inr (record {
     fresh = 2;
     free_after = 0;
     free = omega arith;
-    next = record { from_chain = λ some. (refl, memory_is with_free 2); from_behind = λ none. absurd (omega (arith, none)) };
+    next = ap (next_of_chain 2) (memory_is with_free 2);
   };
   deed_is = refl;
 })
@@ -125,17 +126,17 @@ pub free_page_is_taken : FreePageIsTaken
 unfolding big_endian
 free_page_is_taken = (
   machine_of is_taken,
-  inl (performed free_before 1 (taking (machine_of free_before) inserts_seventy) [] refl tt),
+  inl (performed free_before 1 (taking inserts_seventy) [] (queued refl refl) tt),
   (
     machine_of to_split,
-    works is_taken 1 finds_no_room [] refl (has_room is_taken 1 ready_first) no_room_row refl tt,
+    works is_taken 1 finds_no_room [] refl (has_room is_taken 1 ready_first) no_room_row (queued refl refl) tt,
     (
       machine_of is_split,
       works_bringing page_2 to_split 1 splits (posts_at 0 ∷ []) (free_comes, tt) tt (has_room to_split 1 ready_to_split) split_row
-          (one_joins (posts_at 0) [] (none_waits (posts_at 0)) (omega arith)) (record { allowed = split_fits; log = refl }),
+          (queued refl (one_joins (posts_at 0) [] (none_waits (posts_at 0)) (omega arith))) (record { allowed = split_fits; log = refl }),
       (
         machine_of is_put,
-        works is_split 1 puts (posts_at 0 ∷ []) tt (has_room is_split 1 ready_to_put) put_row refl (record { allowed = put_fits_here; log = refl }),
+        works is_split 1 puts (posts_at 0 ∷ []) tt (has_room is_split 1 ready_to_put) put_row (queued refl refl) (record { allowed = put_fits_here; log = refl }),
         (
           machine_of once_forced,
           inr (omega arith, forces is_put Moved),
@@ -144,7 +145,7 @@ free_page_is_taken = (
             inr (omega arith, forces once_forced Moved),
             (
               machine_of is_answered,
-              inl (omega arith, performed twice_forced 1 (answers_now (machine_of twice_forced) 1 replies.Done) (posts_at 0 ∷ []) refl tt),
+              inl (omega arith, performed twice_forced 1 (answers_now 1 replies.Done) (posts_at 0 ∷ []) (queued refl refl) tt),
               refl,
             ),
           ),
@@ -157,16 +158,16 @@ free_page_is_taken = (
 -- ---- none is left
 
 abbrev none_taken : Scene
-none_taken = after 1 (taking (machine_of none_free_before) inserts_seventy) [] none_free_before
+none_taken = after 1 (taking inserts_seventy) [] none_free_before
 
 abbrev finds_full : Deed
-finds_full = moves_to (machine_of none_taken) (SessionSplit inserts_seventy 1) []
+finds_full = moves_to (SessionSplit inserts_seventy 1) []
 
 abbrev none_to_split : Scene
 none_to_split = after 1 finds_full [] none_taken
 
 abbrev gives_up : Deed
-gives_up = answers_now (machine_of none_to_split) 1 replies.Full
+gives_up = answers_now 1 replies.Full
 
 abbrev none_answered : Scene
 none_answered = after 1 gives_up [] none_to_split
@@ -186,13 +187,13 @@ ready_none = (omega arith, omega arith)
 pub no_page_is_free : NoPageIsFree
 no_page_is_free = (
   machine_of none_taken,
-  inl (performed none_free_before 1 (taking (machine_of none_free_before) inserts_seventy) [] refl tt),
+  inl (performed none_free_before 1 (taking inserts_seventy) [] (queued refl refl) tt),
   (
     machine_of none_to_split,
-    works none_taken 1 finds_full [] refl (has_room none_taken 1 ready_full) full_row refl tt,
+    works none_taken 1 finds_full [] refl (has_room none_taken 1 ready_full) full_row (queued refl refl) tt,
     (
       machine_of none_answered,
-      works none_to_split 1 gives_up [] tt (has_room none_to_split 1 ready_none) none_row refl tt,
+      works none_to_split 1 gives_up [] tt (has_room none_to_split 1 ready_none) none_row (queued refl refl) tt,
       refl,
     ),
   ),

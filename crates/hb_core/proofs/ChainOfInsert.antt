@@ -1,27 +1,27 @@
 -- One session inserts a record: each step of the chain.
 use Rattle.std.proofs.Common.{◌≢◌, inl, inr, ℕ, zero, suc, ◌-◌, ◌^◌, ◌<◌, ◌≤◌, List, [], ◌∷◌, slice_index, Some, refl, arith}
 use Rattle.hb_space.specs.declared.records.Record.{Record}
-use Rattle.hb_space.specs.Boxes.{whole_area}
-use Rattle.hb_space.specs.Points.{IsPoint}
 use Rattle.hb_frag.specs.declared.pages.Page.{Page}
 use Rattle.hb_frag.specs.declared.pages.Page.TheVariants.{Live}
+use Rattle.hb_ops.specs.declared.operations.Op.TheVariants.{Put}
+use Rattle.hb_set.specs.declared.commands.Reply.TheVariants as replies
+use Rattle.hb_core.specs.declared.outcomes.Outcome.TheVariants.{Moved}
+use Rattle.hb_activity.specs.Deeds.{Deed, answers_now, takes_effect}
+use Rattle.hb_core.proofs.BuiltSteps.{MayCome, MayNeedIn, after, at_hand, bringing, forced_scene, forces, has_room, performed, wanted_in, works_bringing, queued}
+use Rattle.hb_core.specs.OneInsert.{OneInsert, before_insert, flat_meta, inserts_a, letter_a, page_of_records}
+use Rattle.hb_core.specs.Rows.{Row}
+use Rattle.hb_core.specs.Scenes.{Scene, machine_of, standing, store_of}
 use Rattle.hb_frag.specs.Grammar.{FitsRecord, HasSpelling}
 use Rattle.hb_frag.specs.Leaves.{leaves, leaves_of}
 use Rattle.hb_frag.specs.Rules.{BelongsAt, IsInOrder}
 use Rattle.hb_ops.specs.Recording.{FitsPut}
 use Rattle.hb_ops.specs.Sound.{FitsFile}
-use Rattle.hb_ops.specs.declared.operations.Op.TheVariants.{Put}
-use Rattle.hb_set.specs.declared.commands.Reply.TheVariants as replies
 use Rattle.hb_outside.specs.Numbers.{big_endian}
+use Rattle.hb_point.specs.SessionRows.{taking}
 use Rattle.hb_sound.proofs.ExampleParts.{each_at, in_order}
+use Rattle.hb_space.specs.Boxes.{whole_area}
+use Rattle.hb_space.specs.Points.{IsPoint}
 use Rattle.hb_store.specs.Calls.{IsReady}
-use Rattle.hb_core.specs.declared.outcomes.Outcome.TheVariants.{Moved}
-use Rattle.hb_core.specs.Deeds.{Deed, answers_now, takes_effect}
-use Rattle.hb_core.specs.SessionRows.{taking}
-use Rattle.hb_core.specs.Rows.{Row}
-use Rattle.hb_core.specs.Scenes.{Scene, machine_of, standing, store_of}
-use Rattle.hb_core.specs.OneInsert.{OneInsert, before_insert, flat_meta, inserts_a, letter_a, page_of_records}
-use Rattle.hb_core.proofs.BuiltSteps.{MayCome, MayNeedIn, after, at_hand, bringing, forced_scene, forces, has_room, performed, wanted_in, works_bringing}
 
 -- the empty page is well made
 empty_fits : FitsFile flat_meta (page_of_records [])
@@ -34,7 +34,7 @@ empty_fits = record {
 }
 
 abbrev taken : Scene
-taken = after 1 (taking (machine_of before_insert) inserts_a) [] before_insert
+taken = after 1 (taking inserts_a) [] before_insert
 
 -- the page comes from the disk
 abbrev page_1 : List (ℕ × Page)
@@ -66,7 +66,7 @@ page_comes : MayCome taken (MayNeedIn taken 1 (Some (Put 1 letter_a))) (1, Live 
 page_comes = record { needed = inl refl; from_1 = omega arith; to_high = omega arith; good = (page_spelled, empty_fits); told = refl }
 
 abbrev puts : Deed
-puts = takes_effect (machine_of with_page) inserts_a replies.Done (Some (Put 1 letter_a)) []
+puts = takes_effect 0 inserts_a replies.Done (Some (Put 1 letter_a)) []
 
 abbrev put : Scene
 put = after 1 puts [] with_page
@@ -75,7 +75,7 @@ abbrev is_forced : Scene
 is_forced = forced_scene put
 
 abbrev answered : Scene
-answered = after 1 (answers_now (machine_of is_forced) 1 replies.Done) [] is_forced
+answered = after 1 (answers_now 1 replies.Done) [] is_forced
 
 ready : IsReady (store_of taken)
 ready = (omega arith, omega arith)
@@ -98,16 +98,16 @@ pub one_insert : OneInsert
 unfolding big_endian
 one_insert = (
   machine_of taken,
-  inl (performed before_insert 1 (taking (machine_of before_insert) inserts_a) [] refl tt),
+  inl (performed before_insert 1 (taking inserts_a) [] (queued refl refl) tt),
   (
     machine_of put,
-    works_bringing page_1 taken 1 puts [] (page_comes, tt) refl (has_room taken 1 ready) put_row refl (record { allowed = put_fits; log = refl }),
+    works_bringing page_1 taken 1 puts [] (page_comes, tt) refl (has_room taken 1 ready) put_row (queued refl refl) (record { allowed = put_fits; log = refl }),
     (
       machine_of is_forced,
       inr (omega arith, forces put Moved),
       (
         machine_of answered,
-        inl (omega arith, performed is_forced 1 (answers_now (machine_of is_forced) 1 replies.Done) [] refl tt),
+        inl (omega arith, performed is_forced 1 (answers_now 1 replies.Done) [] (queued refl refl) tt),
         (machine_of answered, (refl, refl), refl),
       ),
     ),

@@ -1,34 +1,36 @@
 -- The poster gives the file a level and posts: each step of the chain.
 use Rattle.std.proofs.Common.{◌≢◌, inl, inr, zero, suc, [], ◌∷◌, Option, Some, None, IsSomeAnd, refl, sym, ap, subst, arith}
-use Rattle.hb_outside.specs.Numbers.{big_endian}
-use Rattle.hb_space.specs.Boxes.{Meets, side_below, whole_area}
 use Rattle.hb_frag.specs.declared.pages.LivePage.{LivePage}
 use Rattle.hb_frag.specs.declared.leaves.Leaf.{Leaf}
 use Rattle.hb_frag.specs.declared.leaves.Leaf.TheVariants.{Records, Child, Sibling}
+use Rattle.hb_ops.specs.declared.operations.Op.TheVariants as ops
+use Rattle.hb_terms.specs.declared.plans.PostPlan.TheVariants as plans
+use Rattle.hb_activity.specs.declared.jobs.Job.{Job}
+use Rattle.hb_activity.specs.declared.jobs.JobKind.TheVariants.{Post}
+use Rattle.hb_activity.specs.declared.activities.Activity.{Activity}
+use Rattle.hb_activity.specs.declared.activities.Activity.TheVariants as at
+use Rattle.hb_core.specs.declared.outcomes.Outcome.TheVariants.{Moved}
+use Rattle.hb_activity.specs.Deeds.{Deed, does, moves_to, takes_job}
+use Rattle.hb_activity.specs.Queue.{LeavesFirst}
+use Rattle.hb_core.proofs.BuiltSteps.{after, at_hand, has_room, live_is, none_waits, one_joins, only_looks, performed, wanted_in, works, queued}
+use Rattle.hb_core.specs.Asking.{box_at}
+use Rattle.hb_core.specs.ChainOfPosting.{OnePosting, bare_root, posted_root, posting_before, raised_meta, split_page}
+use Rattle.hb_core.specs.ChainOfTwo.{lower_half, posts_at}
+use Rattle.hb_core.specs.Performing.{ChangesQueue}
+use Rattle.hb_core.specs.Rows.{Row}
+use Rattle.hb_core.specs.Scenes.{Scene, machine_of, standing, store_of}
+use Rattle.hb_core.specs.Steps.{TakesJob}
 use Rattle.hb_frag.specs.Leaves.{Placed, leaves, leaves_of, siblings_of}
 use Rattle.hb_frag.specs.Rules.{BelongsAt, IsInOrder}
 use Rattle.hb_ops.specs.Growing.{FitsGrow}
 use Rattle.hb_ops.specs.Posting.{FitsPost}
 use Rattle.hb_ops.specs.Sound.{FitsFile}
-use Rattle.hb_ops.specs.declared.operations.Op.TheVariants as ops
+use Rattle.hb_outside.specs.Numbers.{big_endian}
+use Rattle.hb_poster.specs.PosterRows.{ends_job}
 use Rattle.hb_sound.proofs.ExampleParts.{each_at, interval, no_records, top, within}
-use Rattle.hb_terms.specs.Plans.{IsPlan}
-use Rattle.hb_terms.specs.declared.plans.PostPlan.TheVariants as plans
-use Rattle.hb_activity.specs.Queue.{LeavesFirst}
-use Rattle.hb_activity.specs.declared.jobs.Job.{Job}
-use Rattle.hb_activity.specs.declared.jobs.JobKind.TheVariants.{Post}
-use Rattle.hb_activity.specs.declared.activities.Activity.{Activity}
-use Rattle.hb_activity.specs.declared.activities.Activity.TheVariants as at
+use Rattle.hb_space.specs.Boxes.{Meets, side_below, whole_area}
 use Rattle.hb_store.specs.Calls.{IsReady}
-use Rattle.hb_core.specs.declared.outcomes.Outcome.TheVariants.{Moved}
-use Rattle.hb_core.specs.Asking.{box_at}
-use Rattle.hb_core.specs.Deeds.{Deed, does, moves_to}
-use Rattle.hb_core.specs.WorkerRows.{TakesJob, ends_job}
-use Rattle.hb_core.specs.Rows.{Row}
-use Rattle.hb_core.specs.Scenes.{Scene, machine_of, standing, store_of}
-use Rattle.hb_core.specs.ChainOfTwo.{lower_half, posts_at}
-use Rattle.hb_core.specs.ChainOfPosting.{OnePosting, bare_root, posted_root, posting_before, raised_meta, split_page}
-use Rattle.hb_core.proofs.BuiltSteps.{after, at_hand, has_room, live_is, none_waits, one_joins, only_looks, performed, wanted_in, works}
+use Rattle.hb_terms.specs.Plans.{IsPlan}
 
 abbrev pub job : Job
 job = posts_at 10
@@ -36,13 +38,13 @@ job = posts_at 10
 -- ---- the scenes, one after the other
 
 abbrev pub takes : Activity → Deed
-takes next = record { next = next; op = None; left = []; adds = []; joins = None; says = Moved }
+takes next = takes_job next job
 
 abbrev is_taken : Scene
 is_taken = after 17 (takes (at.PosterGrow job)) [] posting_before
 
 abbrev grows : Deed
-grows = does (machine_of is_taken) at.PosterIdle (ops.Grow 3 0) (job ∷ [])
+grows = does at.PosterIdle (ops.Grow 3 0) (job ∷ [])
 
 abbrev is_grown : Scene
 is_grown = after 17 grows (job ∷ []) is_taken
@@ -51,25 +53,25 @@ abbrev taken_again : Scene
 taken_again = after 17 (takes (at.PosterWalk job None)) [] is_grown
 
 abbrev arrives : Deed
-arrives = moves_to (machine_of taken_again) (at.PosterChild job 3) []
+arrives = moves_to (at.PosterChild job 3) []
 
 abbrev at_child : Scene
 at_child = after 17 arrives [] taken_again
 
 abbrev looks : Deed
-looks = moves_to (machine_of at_child) (at.PosterPromote job 3) []
+looks = moves_to (at.PosterPromote job 3) []
 
 abbrev to_promote : Scene
 to_promote = after 17 looks [] at_child
 
 abbrev promotes : Deed
-promotes = moves_to (machine_of to_promote) (at.PosterAgain job 3) []
+promotes = moves_to (at.PosterAgain job 3) []
 
 abbrev is_promoted : Scene
 is_promoted = after 17 promotes [] to_promote
 
 abbrev posts : Deed
-posts = does (machine_of is_promoted) at.PosterIdle (ops.Post 3 [] 2 (side_below (whole_area 1) 0 40)) (job ∷ [])
+posts = does at.PosterIdle (ops.Post 3 [] 2 (side_below (whole_area 1) 0 40)) (job ∷ [])
 
 abbrev is_posted : Scene
 is_posted = after 17 posts (job ∷ []) is_promoted
@@ -78,13 +80,13 @@ abbrev taken_last : Scene
 taken_last = after 17 (takes (at.PosterWalk job None)) [] is_posted
 
 abbrev arrives_last : Deed
-arrives_last = moves_to (machine_of taken_last) (at.PosterChild job 3) []
+arrives_last = moves_to (at.PosterChild job 3) []
 
 abbrev at_last : Scene
 at_last = after 17 arrives_last [] taken_last
 
 abbrev ends : Deed
-ends = ends_job (machine_of at_last)
+ends = ends_job
 
 abbrev is_ended : Scene
 is_ended = after 17 ends [] at_last
@@ -115,14 +117,17 @@ post_fits = record { made = bare_fits; above = omega arith; outer = 1; box = who
 pub leaves_first : LeavesFirst Post (job ∷ []) job []
 leaves_first = record { front = []; behind = []; whole = refl; of_kind = refl; first = each_at (λ (other : Job). other.kind ≢ Post) [] tt; rest = refl }
 
+pub it_leaves : (next : Activity) → ChangesQueue (takes next) (job ∷ []) []
+it_leaves next = record { left = []; takes = leaves_first; adds = refl }
+
 takes_to_grow : TakesJob (machine_of posting_before) (takes (at.PosterGrow job))
-takes_to_grow = record { job = job; left = []; oldest = leaves_first; next = at.PosterGrow job; posting = inr (inl (refl, refl)); deed_is = refl }
+takes_to_grow = record { job = job; kind = refl; next = at.PosterGrow job; posting = inr (inl (refl, refl)); deed_is = refl }
 
 takes_to_walk : TakesJob (machine_of is_grown) (takes (at.PosterWalk job None))
-takes_to_walk = record { job = job; left = []; oldest = leaves_first; next = at.PosterWalk job None; posting = inr (inr (omega arith, refl)); deed_is = refl }
+takes_to_walk = record { job = job; kind = refl; next = at.PosterWalk job None; posting = inr (inr (omega arith, refl)); deed_is = refl }
 
 takes_to_walk_last : TakesJob (machine_of is_posted) (takes (at.PosterWalk job None))
-takes_to_walk_last = record { job = job; left = []; oldest = leaves_first; next = at.PosterWalk job None; posting = inr (inr (omega arith, refl)); deed_is = refl }
+takes_to_walk_last = record { job = job; kind = refl; next = at.PosterWalk job None; posting = inr (inr (omega arith, refl)); deed_is = refl }
 
 gave_some : siblings_of split_page ≢ []
 gave_some e = let no : ⊥ = cc in no
@@ -136,7 +141,7 @@ grow_row = (
     fresh = 3;
     free_after = 0;
     free = omega arith;
-    next = record { from_chain = λ some. absurd (some refl); from_behind = λ none. (refl, omega arith, refl) };
+    next = refl;
     deed_is = refl;
   }),
 )
@@ -196,34 +201,34 @@ pub one_posting : OnePosting
 unfolding big_endian
 one_posting = (
   machine_of is_taken,
-  inr (takes (at.PosterGrow job), takes_to_grow, performed posting_before 17 (takes (at.PosterGrow job)) [] refl tt),
+  inr (takes (at.PosterGrow job), takes_to_grow, performed posting_before 17 (takes (at.PosterGrow job)) [] (it_leaves _) tt),
   (
     machine_of is_grown,
-    works is_taken 17 grows (job ∷ []) refl (has_room is_taken 17 ready_to_grow) grow_row (one_joins job [] (none_waits job) (omega arith)) (record { allowed = grow_fits; log = refl }),
+    works is_taken 17 grows (job ∷ []) refl (has_room is_taken 17 ready_to_grow) grow_row (queued refl (one_joins job [] (none_waits job) (omega arith))) (record { allowed = grow_fits; log = refl }),
     (
       machine_of taken_again,
-      inr (takes (at.PosterWalk job None), takes_to_walk, performed is_grown 17 (takes (at.PosterWalk job None)) [] refl tt),
+      inr (takes (at.PosterWalk job None), takes_to_walk, performed is_grown 17 (takes (at.PosterWalk job None)) [] (it_leaves _) tt),
       (
         machine_of at_child,
-        works taken_again 17 arrives [] refl (only_looks taken_again 17 refl) arrive_row refl tt,
+        works taken_again 17 arrives [] refl (only_looks taken_again 17 refl) arrive_row (queued refl refl) tt,
         (
           machine_of to_promote,
-          works at_child 17 looks [] refl (only_looks at_child 17 refl) look_row refl tt,
+          works at_child 17 looks [] refl (only_looks at_child 17 refl) look_row (queued refl refl) tt,
           (
             machine_of is_promoted,
-            works to_promote 17 promotes [] refl (only_looks to_promote 17 refl) promote_row refl tt,
+            works to_promote 17 promotes [] refl (only_looks to_promote 17 refl) promote_row (queued refl refl) tt,
             (
               machine_of is_posted,
-              works is_promoted 17 posts (job ∷ []) refl (has_room is_promoted 17 ready_to_post) again_row (one_joins job [] (none_waits job) (omega arith)) (record { allowed = post_fits; log = refl }),
+              works is_promoted 17 posts (job ∷ []) refl (has_room is_promoted 17 ready_to_post) again_row (queued refl (one_joins job [] (none_waits job) (omega arith))) (record { allowed = post_fits; log = refl }),
               (
                 machine_of taken_last,
-                inr (takes (at.PosterWalk job None), takes_to_walk_last, performed is_posted 17 (takes (at.PosterWalk job None)) [] refl tt),
+                inr (takes (at.PosterWalk job None), takes_to_walk_last, performed is_posted 17 (takes (at.PosterWalk job None)) [] (it_leaves _) tt),
                 (
                   machine_of at_last,
-                  works taken_last 17 arrives_last [] refl (only_looks taken_last 17 refl) arrive_last_row refl tt,
+                  works taken_last 17 arrives_last [] refl (only_looks taken_last 17 refl) arrive_last_row (queued refl refl) tt,
                   (
                     machine_of is_ended,
-                    works at_last 17 ends [] refl (only_looks at_last 17 refl) end_row refl tt,
+                    works at_last 17 ends [] refl (only_looks at_last 17 refl) end_row (queued refl refl) tt,
                     (machine_of is_ended, inl (each_at (λ (one : Job). one.kind ≢ Post) [] tt, (refl, refl)), refl),
                   ),
                 ),

@@ -1,19 +1,19 @@
 -- The pages of the chain of two sessions, and what its operations ask for.
 use Rattle.std.proofs.Common.{◌≡◌, ◌≢◌, inl, inr, ℕ, zero, suc, List, [], ◌∷◌, ◌++◌, slice_index, refl, sym, ap, ◌∙◌, subst, arith}
 use Rattle.std.specs.Prelude.{Any}
-use Rattle.hb_space.specs.Boxes.{Area, Holds}
 use Rattle.hb_space.specs.declared.records.Record.{Record}
 use Rattle.hb_frag.specs.declared.paths.Side.TheVariants.{Left}
+use Rattle.hb_ops.specs.declared.leaf_cuts.LeafCut.{LeafCut}
+use Rattle.hb_core.specs.ChainOfTwo.{full_page, lettered, line_meta, lower_half, lower_three, upper_half, upper_three}
 use Rattle.hb_frag.specs.Leaves.{DirectlyHolds, leaves, leaves_of, siblings_of}
 use Rattle.hb_frag.specs.Rules.{BelongsAt, IsInOrder}
 use Rattle.hb_ops.specs.Extracting.{FitsExtract}
 use Rattle.hb_ops.specs.Recording.{FitsPut}
 use Rattle.hb_ops.specs.Sound.{FitsFile}
 use Rattle.hb_ops.specs.Standing.{StandsNot, StandsThere}
-use Rattle.hb_ops.specs.declared.leaf_cuts.LeafCut.{LeafCut}
-use Rattle.hb_split.specs.Choosing.{IsBest, IsChosen, MayCut, NotBehind, heavier_count}
 use Rattle.hb_sound.proofs.ExampleParts.{above_all, cuts, each_at, held, in_order, interval, none_given, top}
-use Rattle.hb_core.specs.ChainOfTwo.{full_page, lettered, line_meta, lower_half, lower_three, upper_half, upper_three}
+use Rattle.hb_space.specs.Boxes.{Area, Holds}
+use Rattle.hb_split.specs.Choosing.{IsBest, IsChosen, MayCut, NotBehind, heavier_count}
 
 abbrev pub six : List Record
 six = lower_three ++ upper_three

@@ -12,16 +12,16 @@ use Rattle.std.specs.FinMap as map
 use Rattle.std.specs.FinSet as set
 use Rattle.hb_frag.specs.declared.pages.Page.{Page}
 use Rattle.hb_latch.specs.declared.modes.Mode.{Mode}
-use Rattle.hb_latch.specs.Modes.{goes_beside}
-use Rattle.hb_latch.specs.Tables.{IsGrantable, IsLeastInTheWay, latch_cmp, mode_at}
-use Rattle.hb_latch.proofs.KeyOrder.{latch_order}
 use Rattle.hb_activity.specs.declared.holding.Latch.{Latch}
 use Rattle.hb_activity.specs.declared.activities.Activity.{Activity}
-use Rattle.hb_store.specs.Marks.{has_page, is_among}
-use Rattle.hb_store.specs.Replay.{set_pages}
 use Rattle.hb_core.specs.Machines.{with_activity}
 use Rattle.hb_core.specs.Performing.{Relatches, mode_among}
 use Rattle.hb_core.specs.Scenes.{at_rest, standing}
+use Rattle.hb_latch.proofs.KeyOrder.{latch_order}
+use Rattle.hb_latch.specs.Modes.{goes_beside}
+use Rattle.hb_latch.specs.Tables.{IsGrantable, IsLeastInTheWay, latch_cmp, mode_at}
+use Rattle.hb_store.specs.Marks.{has_page, is_among}
+use Rattle.hb_store.specs.Replay.{set_pages}
 
 -- ---- by numbers
 

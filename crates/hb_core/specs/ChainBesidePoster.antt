@@ -1,8 +1,6 @@
 -- A chain of the poster and two sessions: who waits for whom while the root is held for update, shared beside that, and exclusively.
 use Rattle.std.specs.Prelude.{ℕ, List, [], ◌∷◌}
-use Rattle.hb_space.specs.Boxes.{side_below, whole_area}
 use Rattle.hb_frag.specs.declared.leaves.Leaf.TheVariants.{Records}
-use Rattle.hb_frag.specs.Trees.{Tip}
 use Rattle.hb_frag.specs.declared.pages.LivePage.{LivePage}
 use Rattle.hb_frag.specs.declared.pages.Page.TheVariants.{Live}
 use Rattle.hb_set.specs.declared.commands.Command.TheVariants.{Delete, Lookup}
@@ -11,9 +9,11 @@ use Rattle.hb_set.specs.declared.scripts.Line.{Line}
 use Rattle.hb_activity.specs.declared.activities.Activity.TheVariants.{PosterIdle, SessionIdle}
 use Rattle.hb_core.specs.declared.outcomes.Outcome.{Outcome}
 use Rattle.hb_core.specs.declared.outcomes.Outcome.TheVariants.{Moved, Blocked, Answered}
-use Rattle.hb_core.specs.ChainOfTwo.{lettered, lower_half, posts_at}
 use Rattle.hb_core.specs.ChainOfPosting.{bare_root, posted_root, raised_meta, split_page}
+use Rattle.hb_core.specs.ChainOfTwo.{lettered, lower_half, posts_at}
 use Rattle.hb_core.specs.Scenes.{Scene, StepsSaying, machine_of}
+use Rattle.hb_frag.specs.Trees.{Tip}
+use Rattle.hb_space.specs.Boxes.{side_below, whole_area}
 
 -- session 1 looks 20 up, and session 2 deletes it
 abbrev pub seeks_twenty : Line

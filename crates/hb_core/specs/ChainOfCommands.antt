@@ -1,7 +1,6 @@
 -- A chain of one session whose commands change nothing: an insert of a point that is there, a delete of one that isn't, and a search
 -- over two pages.
 use Rattle.std.specs.Prelude.{ℕ, List, [], ◌∷◌}
-use Rattle.hb_space.specs.Boxes.{Area}
 use Rattle.hb_space.specs.declared.records.Record.{Record}
 use Rattle.hb_frag.specs.declared.pages.Page.TheVariants.{Live}
 use Rattle.hb_set.specs.declared.commands.Command.TheVariants.{Delete, Insert, Search}
@@ -10,9 +9,10 @@ use Rattle.hb_set.specs.declared.scripts.Line.{Line}
 use Rattle.hb_activity.specs.declared.activities.Activity.TheVariants.{SessionIdle}
 use Rattle.hb_core.specs.declared.outcomes.Outcome.{Outcome}
 use Rattle.hb_core.specs.declared.outcomes.Outcome.TheVariants.{Moved, Answered, Idle}
-use Rattle.hb_core.specs.ChainOfTwo.{lettered, line_meta, lower_half, posts_at}
 use Rattle.hb_core.specs.ChainOfPosting.{halves, split_page}
+use Rattle.hb_core.specs.ChainOfTwo.{lettered, line_meta, lower_half, posts_at}
 use Rattle.hb_core.specs.Scenes.{Scene, StepsSaying, machine_of}
+use Rattle.hb_space.specs.Boxes.{Area}
 
 -- 50 is there, 45 isn't, and the search is from 25 to 55
 abbrev pub inserts_fifty : Line

@@ -1,13 +1,10 @@
 -- A chain in which the log has no room: a session that would put a record forces the group that waits instead, and then its line is
 -- answered `full`.
 use Rattle.std.specs.Prelude.{ℕ, List, [], ◌∷◌}
-use Rattle.hb_space.specs.Boxes.{whole_area}
 use Rattle.hb_space.specs.declared.records.Record.{Record}
 use Rattle.hb_frag.specs.declared.leaves.Leaf.TheVariants.{Records}
-use Rattle.hb_frag.specs.Trees.{Tip}
 use Rattle.hb_frag.specs.declared.pages.LivePage.{LivePage}
 use Rattle.hb_frag.specs.declared.pages.Page.TheVariants.{Live}
-use Rattle.hb_log_codec.specs.Groups.{group_bytes}
 use Rattle.hb_ops.specs.declared.operations.Op.TheVariants.{Put}
 use Rattle.hb_set.specs.declared.commands.Command.TheVariants.{Insert}
 use Rattle.hb_set.specs.declared.commands.Reply.TheVariants as replies
@@ -17,6 +14,9 @@ use Rattle.hb_core.specs.declared.outcomes.Outcome.{Outcome}
 use Rattle.hb_core.specs.declared.outcomes.Outcome.TheVariants.{Moved, Helped, Answered}
 use Rattle.hb_core.specs.ChainOfTwo.{lettered, line_meta}
 use Rattle.hb_core.specs.Scenes.{Scene, StepsSaying, machine_of}
+use Rattle.hb_frag.specs.Trees.{Tip}
+use Rattle.hb_log_codec.specs.Groups.{group_bytes}
+use Rattle.hb_space.specs.Boxes.{whole_area}
 
 abbrev pub one_page : List Record → LivePage
 one_page records = record { level = 0; area = whole_area 1; frag = Tip (Records records) }

@@ -1,20 +1,20 @@
 -- A chain of the poster: a page was split at level 0, so that the file gets a level, and then the new root gets a leaf to the
 -- page that was split off.
 use Rattle.std.specs.Prelude.{ℕ, List, [], ◌∷◌, ◌++◌}
-use Rattle.hb_space.specs.Boxes.{side_below, whole_area}
 use Rattle.hb_frag.specs.declared.leaves.Leaf.TheVariants.{Child}
-use Rattle.hb_frag.specs.Trees.{Cut, Tip}
 use Rattle.hb_frag.specs.declared.pages.LivePage.{LivePage}
 use Rattle.hb_frag.specs.declared.pages.Page.{Page}
 use Rattle.hb_frag.specs.declared.pages.Page.TheVariants.{Live}
 use Rattle.hb_layout.specs.declared.meta.Meta.{Meta}
-use Rattle.hb_log_codec.specs.Groups.{group_bytes}
 use Rattle.hb_ops.specs.declared.operations.Op.TheVariants as ops
 use Rattle.hb_activity.specs.declared.activities.Activity.TheVariants.{PosterIdle}
 use Rattle.hb_core.specs.declared.outcomes.Outcome.{Outcome}
 use Rattle.hb_core.specs.declared.outcomes.Outcome.TheVariants.{Moved, Idle}
 use Rattle.hb_core.specs.ChainOfTwo.{lettered, line_meta, lower_half, posts_at, upper_half, upper_three}
 use Rattle.hb_core.specs.Scenes.{Scene, StepsSaying, machine_of}
+use Rattle.hb_frag.specs.Trees.{Cut, Tip}
+use Rattle.hb_log_codec.specs.Groups.{group_bytes}
+use Rattle.hb_space.specs.Boxes.{side_below, whole_area}
 
 -- the two halves of a page that was split at 40, and that the leaf of page 1 names page 2
 abbrev pub split_page : LivePage

@@ -1,10 +1,8 @@
 -- A chain of two sessions on one page: one splits it and puts its record, and the other one is blocked until then, follows
 -- the leaf that names the new page, and finds its record there.
 use Rattle.std.specs.Prelude.{ℕ, List, [], ◌∷◌, ◌++◌}
-use Rattle.hb_space.specs.Boxes.{side_below, whole_area}
 use Rattle.hb_space.specs.declared.records.Record.{Record}
 use Rattle.hb_frag.specs.declared.leaves.Leaf.TheVariants.{Records, Sibling}
-use Rattle.hb_frag.specs.Trees.{Cut, Tip}
 use Rattle.hb_frag.specs.declared.pages.LivePage.{LivePage}
 use Rattle.hb_frag.specs.declared.pages.Page.TheVariants.{Live}
 use Rattle.hb_layout.specs.declared.meta.Meta.{Meta}
@@ -17,6 +15,8 @@ use Rattle.hb_activity.specs.declared.activities.Activity.TheVariants.{SessionId
 use Rattle.hb_core.specs.declared.outcomes.Outcome.{Outcome}
 use Rattle.hb_core.specs.declared.outcomes.Outcome.TheVariants.{Moved, Blocked, Answered, Idle}
 use Rattle.hb_core.specs.Scenes.{Scene, StepsSaying, machine_of}
+use Rattle.hb_frag.specs.Trees.{Cut, Tip}
+use Rattle.hb_space.specs.Boxes.{side_below, whole_area}
 
 -- a small file of one attribute with so many pages, none of them free
 abbrev pub line_meta : ℕ → Meta

@@ -1,9 +1,7 @@
 -- The smallest chain: one session inserts a record into an empty page, and is answered.
 use Rattle.std.specs.Prelude.{ℕ, List, [], ◌∷◌}
-use Rattle.hb_space.specs.Boxes.{whole_area}
 use Rattle.hb_space.specs.declared.records.Record.{Record}
 use Rattle.hb_frag.specs.declared.leaves.Leaf.TheVariants.{Records}
-use Rattle.hb_frag.specs.Trees.{Tip}
 use Rattle.hb_frag.specs.declared.pages.LivePage.{LivePage}
 use Rattle.hb_frag.specs.declared.pages.Page.TheVariants.{Live}
 use Rattle.hb_layout.specs.declared.meta.Meta.{Meta}
@@ -14,6 +12,8 @@ use Rattle.hb_activity.specs.declared.activities.Activity.TheVariants.{SessionId
 use Rattle.hb_core.specs.declared.outcomes.Outcome.{Outcome}
 use Rattle.hb_core.specs.declared.outcomes.Outcome.TheVariants.{Moved, Answered, Idle}
 use Rattle.hb_core.specs.Scenes.{Scene, StepsSaying, machine_of}
+use Rattle.hb_frag.specs.Trees.{Tip}
+use Rattle.hb_space.specs.Boxes.{whole_area}
 
 -- a small file of two attributes and one page
 abbrev pub flat_meta : Meta

@@ -4,20 +4,20 @@ use Rattle.std.specs.FinMap as finite
 use Rattle.std.specs.FinSet as set
 use Rattle.hb_frag.specs.declared.pages.Page.{Page}
 use Rattle.hb_layout.specs.declared.meta.Meta.{Meta}
-use Rattle.hb_layout.specs.Offsets.{log_start}
-use Rattle.hb_ops.specs.Files.{FileState}
-use Rattle.hb_wal.specs.Log.{Waiting}
-use Rattle.hb_set.specs.Order.{Entry}
 use Rattle.hb_set.specs.declared.scripts.Answered.{Answered}
 use Rattle.hb_set.specs.declared.scripts.Line.{Line}
 use Rattle.hb_latch.specs.declared.modes.Mode.{Mode}
 use Rattle.hb_activity.specs.declared.jobs.Job.{Job}
 use Rattle.hb_activity.specs.declared.activities.Activity.{Activity}
 use Rattle.hb_activity.specs.declared.activities.Activity.TheVariants.{SessionIdle, PosterIdle, ConsolidatorIdle, Flusher}
-use Rattle.hb_store.specs.States.{StoreState}
 use Rattle.hb_core.specs.declared.outcomes.Outcome.{Outcome}
 use Rattle.hb_core.specs.Machines.{Machine}
 use Rattle.hb_core.specs.Steps.{StepsInTurn, StepsTo}
+use Rattle.hb_layout.specs.Offsets.{log_start}
+use Rattle.hb_ops.specs.Files.{FileState}
+use Rattle.hb_set.specs.Order.{Entry}
+use Rattle.hb_store.specs.States.{StoreState}
+use Rattle.hb_wal.specs.Log.{Waiting}
 
 -- A machine as lists. Whoever isn't named among those at work is at rest.
 pub record Scene : Type 0 where
