@@ -42,3 +42,4 @@ pub mod ChainBesidePoster
 pub mod ChainOfFullLog
 pub mod ChainOfCommands
 pub mod ChainOfFreePage
+pub mod ChainOfMerging

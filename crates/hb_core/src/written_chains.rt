@@ -5,6 +5,7 @@ ghost use Rattle.hb_core.specs.ChainBesidePoster.{SessionsBesidePoster};
 ghost use Rattle.hb_core.specs.ChainOfCommands.{CommandsOfOne};
 ghost use Rattle.hb_core.specs.ChainOfFreePage.{FreePageIsTaken, NoPageIsFree};
 ghost use Rattle.hb_core.specs.ChainOfFullLog.{LogHasNoRoom};
+ghost use Rattle.hb_core.specs.ChainOfMerging.{MergeComesToDecide, MergeIsGivenUp};
 ghost use Rattle.hb_core.specs.ChainOfPosting.{OnePosting};
 ghost use Rattle.hb_core.specs.ChainOfTwo.{TwoOnOnePage};
 ghost use Rattle.hb_core.specs.OneInsert.{OneInsert};
@@ -62,4 +63,12 @@ pub fn a_line_finds_the_log_full()
 pub fn a_split_takes_a_free_page()
     ensures taken { FreePageIsTaken }
     ensures none { NoPageIsFree }
+{}
+
+/// The consolidator scans the children of a parent and tries the pair that it finds. Where the two weigh
+/// too much the job ends; where they may become one, it gets the parent and the page to keep for itself.
+#[tactic(auto, using(crate::proofs::ChainOfMerging::merge_is_given_up, crate::proofs::ChainOfMerging::merge_comes_to_decide))]
+pub fn the_consolidator_tries_a_pair()
+    ensures given_up { MergeIsGivenUp }
+    ensures decides { MergeComesToDecide }
 {}
