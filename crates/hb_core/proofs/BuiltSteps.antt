@@ -219,7 +219,7 @@ performed s actor deed jobs queue may = record {
 abbrev pub wanted_in : Scene → ℕ → Option Wanted
 wanted_in s actor = wanted_of (standing s.at_work actor) s.meta (option_and_then (live_in s) (looked_page (standing s.at_work actor)))
 
-wanted_is : (s : Scene) (actor : ℕ) → wanted_by (machine_of s) actor ≡ wanted_in s actor
+pub wanted_is : (s : Scene) (actor : ℕ) → wanted_by (machine_of s) actor ≡ wanted_in s actor
 wanted_is s actor = ap (wanted_of (standing s.at_work actor) s.meta) (looks_is s (looked_page (standing s.at_work actor)))
 
 -- nobody is in the way
@@ -230,14 +230,14 @@ granted : (s : Scene) (actor : ℕ) (o : Option Wanted) → IfSome o (λ w. IsTr
 granted s actor None clear = tt
 granted s actor (Some w) clear = grants actor w.page w.mode s.latched clear
 
-way_free : (s : Scene) (actor : ℕ) → IsClearIn s actor → HasWayFree (machine_of s) actor
+pub way_free : (s : Scene) (actor : ℕ) → IsClearIn s actor → HasWayFree (machine_of s) actor
 way_free s actor clear = subst (λ (o : Option Wanted). IfSome o (λ w. IsGrantable (map.from_entries s.latched) actor w.page w.mode)) (sym (wanted_is s actor)) (granted s actor (wanted_in s actor) clear)
 
 is_none_not : IsSome {T = Page} None → ⊥
 is_none_not some = cc
 
 -- no page has to come
-nothing_comes : (m : Machine) (may : ℕ → Type 0) → Brings m may m.store
+pub nothing_comes : (m : Machine) (may : ℕ → Type 0) → Brings m may m.store
 nothing_comes m may = record {
   rest = record { turn = refl; meta = refl; log = refl; imaged = refl; stopped = refl };
   stays = λ id must there. refl;

@@ -75,3 +75,5 @@ pub mod ChainOfFullLog
 pub mod ChainOfCommands
 pub mod ChainOfFreePage
 pub mod ChainOfMerging
+pub mod UntoldSteps
+pub mod ChainOfReadFault

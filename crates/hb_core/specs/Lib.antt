@@ -43,3 +43,4 @@ pub mod ChainOfFullLog
 pub mod ChainOfCommands
 pub mod ChainOfFreePage
 pub mod ChainOfMerging
+pub mod ChainOfReadFault

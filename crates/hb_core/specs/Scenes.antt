@@ -11,7 +11,7 @@ use Rattle.hb_activity.specs.declared.jobs.Job.{Job}
 use Rattle.hb_activity.specs.declared.activities.Activity.{Activity}
 use Rattle.hb_activity.specs.declared.activities.Activity.TheVariants.{SessionIdle, PosterIdle, ConsolidatorIdle, Flusher}
 use Rattle.hb_core.specs.declared.outcomes.Outcome.{Outcome}
-use Rattle.hb_core.specs.Machines.{Machine}
+use Rattle.hb_core.specs.Machines.{Machine, with_disk}
 use Rattle.hb_core.specs.Steps.{StepsInTurn, StepsTo}
 use Rattle.hb_layout.specs.Offsets.{log_start}
 use Rattle.hb_ops.specs.Files.{FileState}
@@ -76,6 +76,10 @@ machine_of s = record {
   files = Some (record { durable = s.durable; later = s.later });
   clock = s.clock;
 }
+
+-- the same machine over a disk that doesn't tell its bytes, so that nothing is known of its files
+abbrev pub untold_of : Scene → Machine
+untold_of s = with_disk (store_of s) None s.clock (machine_of s)
 
 -- Steps in turn, each by its actor and with what it comes to.
 abbrev pub StepsSaying : List (ℕ × Outcome) → Machine → Machine → Type 0

@@ -7,6 +7,7 @@ ghost use Rattle.hb_core.specs.ChainOfFreePage.{FreePageIsTaken, NoPageIsFree};
 ghost use Rattle.hb_core.specs.ChainOfFullLog.{LogHasNoRoom};
 ghost use Rattle.hb_core.specs.ChainOfMerging.{MergeComesToDecide, MergeIsGivenUp};
 ghost use Rattle.hb_core.specs.ChainOfPosting.{OnePosting};
+ghost use Rattle.hb_core.specs.ChainOfReadFault.{RootIsNotRead};
 ghost use Rattle.hb_core.specs.ChainOfTwo.{TwoOnOnePage};
 ghost use Rattle.hb_core.specs.OneInsert.{OneInsert};
 ghost use Rattle.hb_core.specs.Scenes.{SayingIsStepping};
@@ -71,4 +72,11 @@ pub fn a_split_takes_a_free_page()
 pub fn the_consolidator_tries_a_pair()
     ensures given_up { MergeIsGivenUp }
     ensures decides { MergeComesToDecide }
+{}
+
+/// Over a disk that doesn't tell its bytes the root can't be read: a lookup is answered `read fault`, and
+/// the poster's job is dropped.
+#[tactic(auto, using(crate::proofs::ChainOfReadFault::root_is_not_read))]
+pub fn a_page_is_not_read()
+    ensures { RootIsNotRead }
 {}
