@@ -86,3 +86,17 @@ pub mod QueueMoves
 pub mod Causes
 pub mod ImagePrefixes
 pub mod WhoGoesOn
+pub mod WrittenTables
+pub mod BuiltSteps
+pub mod ChainOfInsert
+pub mod ChainOfTwoParts
+pub mod ChainOfTwo
+pub mod ChainOfPosting
+pub mod SaidSteps
+pub mod ChainBesidePoster
+pub mod ChainOfFullLog
+pub mod ChainOfCommands
+pub mod ChainOfFreePage
+pub mod ChainOfMerging
+pub mod UntoldSteps
+pub mod ChainOfReadFault

@@ -24,6 +24,7 @@ mod outcomes;
 pub mod progress_laws;
 mod threads;
 pub mod waiting_laws;
+pub mod written_chains;
 
 pub use hb_activity::DropWhy;
 pub use outcomes::Outcome;
