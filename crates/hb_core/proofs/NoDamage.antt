@@ -303,13 +303,13 @@ stays_undamaged m files actor outcome new may told fit has walks step = undamage
 
 pub kept_step_is_one : KeptStepIsOne
 kept_step_is_one n m files actor outcome other new next may keeps first second =
-    by (outcome_is_one m actor outcome other new next first second) (state_is_one m files actor outcome other new next keeps.told keeps.pages_of_file keeps.room_known first second)
+    by (outcome_is_one m actor outcome other new next first second) (state_is_one m files actor outcome other new next keeps.told keeps.kept.pages_of_file keeps.kept.room_known first second)
   where
     refused : (said : Outcome) (after : Machine) → IsTurnedAside m actor said after → IsRefusedOrFails m actor said after
     refused said after (inl search) = inl search
     refused said after (inr (inl force)) = inr (inl force)
     refused said after (inr (inr (inl gives))) = inr (inr gives)
-    refused said after (inr (inr (inr bad))) = absurd (no_page_is_damaged m files actor said after may keeps.told keeps.latches_fit keeps.sound_file keeps.walk_in_space bad)
+    refused said after (inr (inr (inr bad))) = absurd (no_page_is_damaged m files actor said after may keeps.told keeps.kept.latches_fit keeps.sound_file keeps.kept.walk_in_space bad)
 
     by : IsTurnedAside m actor outcome new ⊎ IsTurnedAside m actor other next ⊎ ComesToSame outcome other new next → IsTurnedAside m actor outcome new ⊎ IsTurnedAside m actor other next ⊎ AreOneButMemory new next
         → IsRefusedOrFails m actor outcome new ⊎ IsRefusedOrFails m actor other next ⊎ ((outcome ≡ other) × AreOneButMemory new next)
