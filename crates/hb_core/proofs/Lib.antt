@@ -63,3 +63,5 @@ pub mod LaterWanted
 pub mod NoCircle
 pub mod SomebodyFree
 pub mod Beginnings
+pub mod RowsDoable
+pub mod AtHand
