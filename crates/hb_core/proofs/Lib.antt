@@ -65,3 +65,8 @@ pub mod SomebodyFree
 pub mod Beginnings
 pub mod RowsDoable
 pub mod AtHand
+pub mod JoinedReplies
+pub mod StepLines
+pub mod RepliesKept
+pub mod ShortOrder
+pub mod SingleAnswers

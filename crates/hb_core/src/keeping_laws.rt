@@ -12,11 +12,6 @@ use crate::file_laws::{
 use crate::machine_laws::a_machine_stays_kept;
 use hb_frag::laws::{each_point_has_one_leaf, leaves_part_the_box, parts_are_stretches};
 use hb_layout::limits::limits_of_this_version;
-use hb_sound::laws::{
-    a_split_keeps_a_file_sound, each_page_has_a_box, operations_keep_a_file_sound,
-    what_stands_is_what_the_contents_have,
-};
-use hb_space::laws::held_is_a_point;
 
 /// Under no number but those of the 19 actors anybody comes to stand, or takes a latch.
 #[tactic(auto, using(crate::proofs::StillThere::nobody_else_comes, crate::proofs::StillThere::nobody_else_latches))]
@@ -34,18 +29,13 @@ pub fn walks_stay_in_space()
 
 /// After a step a page that is to be split directly holds the point of its insert, without a record there
 /// and without room, and one of the two halves of a split directly holds it, without a record there and
-/// with room.
+/// with room. So it is over every disk.
 pub fn room_stays_known()
     ensures { RoomStaysKnown }
 {
     leaves_part_the_box();
     each_point_has_one_leaf();
     parts_are_stretches();
-    held_is_a_point();
-    a_split_keeps_a_file_sound();
-    operations_keep_a_file_sound();
-    what_stands_is_what_the_contents_have();
-    each_page_has_a_box();
     limits_of_this_version();
 }
 
