@@ -70,3 +70,8 @@ pub mod StepLines
 pub mod RepliesKept
 pub mod ShortOrder
 pub mod SingleAnswers
+pub mod DeedKinds
+pub mod NextHands
+pub mod ClassesKept
+pub mod RunsKept
+pub mod MarksKept
