@@ -65,6 +65,7 @@ pub mod SomebodyFree
 pub mod Beginnings
 pub mod RowsDoable
 pub mod AtHand
+pub mod EachKept
 pub mod JoinedReplies
 pub mod StepLines
 pub mod RepliesKept

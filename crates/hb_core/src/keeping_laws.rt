@@ -9,7 +9,7 @@ ghost use Rattle.hb_core.specs.StageLaws.{BegunHasNothingToMerge, NothingComesTo
 use crate::file_laws::{
     a_beginning_keeps_all, files_stay_sound, rows_are_allowed, the_order_stays_legal,
 };
-use crate::machine_laws::a_machine_stays_kept;
+use crate::machine_laws::machines_stay_kept;
 use hb_frag::laws::{each_point_has_one_leaf, leaves_part_the_box, parts_are_stretches};
 use hb_layout::limits::limits_of_this_version;
 
@@ -85,7 +85,7 @@ pub fn steps_keep_all()
     ensures begun { BegunKeepsAll }
 {
     a_beginning_keeps_all();
-    a_machine_stays_kept();
+    machines_stay_kept();
     files_stay_sound();
     the_order_stays_legal();
 }

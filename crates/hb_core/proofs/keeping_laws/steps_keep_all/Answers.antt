@@ -4,7 +4,7 @@ use Rattle.hb_core.proofs.KeptInTurn.{begun_keeps_all, changes_keep_all, steps_k
 pub returns-clause-searches : goal.returns-clause-searches
 returns-clause-searches c =
     steps_keep_all (record {
-      kept = c.a_machine_stays_kept.ensures.step;
+      kept = c.machines_stay_kept.ensures.step;
       files = c.files_stay_sound.ensures;
       order = c.the_order_stays_legal.ensures;
     })
@@ -12,7 +12,7 @@ returns-clause-searches c =
 pub returns-clause-changes : goal.returns-clause-changes
 returns-clause-changes c =
     changes_keep_all (record {
-      kept = c.a_machine_stays_kept.ensures.step;
+      kept = c.machines_stay_kept.ensures.step;
       files = c.files_stay_sound.ensures;
       order = c.the_order_stays_legal.ensures;
     })
@@ -21,7 +21,7 @@ pub returns-clause-begun : goal.returns-clause-begun
 returns-clause-begun c =
     begun_keeps_all
     (record {
-      kept = c.a_machine_stays_kept.ensures.step;
+      kept = c.machines_stay_kept.ensures.step;
       files = c.files_stay_sound.ensures;
       order = c.the_order_stays_legal.ensures;
     })
