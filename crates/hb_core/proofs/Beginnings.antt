@@ -17,11 +17,11 @@ use Rattle.hb_activity.specs.Classes.{Class, Sessions, Posters, Consolidators, F
 use Rattle.hb_activity.specs.Walks.{walk_held}
 use Rattle.hb_core.specs.Keeps.{KnowsRoom, LatchesFit, WalksInSpace}
 use Rattle.hb_core.specs.KeptFits.{AttributesFit, IsBoxOf, JobFits, LineFits, StandsAbove, WorkersStand, boxes_left, class_for, walking_job}
-use Rattle.hb_core.specs.KeptLines.{HasLineBody, LinesFit, MarksInPlace}
-use Rattle.hb_core.specs.KeptMachine.{CoreKeeps, MachineKeeps}
+use Rattle.hb_core.specs.KeptLines.{HasLineBody, MarksInPlace}
+use Rattle.hb_core.specs.KeptMachine.{MachineKeeps}
 use Rattle.hb_core.specs.KeptMerges.{NamesKnown, merging_at}
 use Rattle.hb_core.specs.KeptOrder.{FollowMarks, HasLegalOrder, HasPendingPrefix, StandsInOrder, StandsOutside}
-use Rattle.hb_core.specs.KeptPlaces.{AnswersAreSingle, MarksRise, OrderIsShort, RepliesStand}
+use Rattle.hb_core.specs.KeptPlaces.{AnswersAreSingle, OrderIsShort, RepliesStand}
 use Rattle.hb_core.specs.KeptTurns.{IsInTurn, LinesInTurn, awaited_number}
 use Rattle.hb_core.specs.Machines.{Machine, settled_count}
 use Rattle.hb_core.specs.Performing.{latches_held, mode_among}

@@ -19,7 +19,7 @@ use Rattle.hb_core.specs.KeptMachine.{MachineKeeps}
 use Rattle.hb_core.specs.Laws.{LatchesStayFit}
 use Rattle.hb_core.specs.MachineLaws.{MachineStaysKept, MachinesStayKept}
 use Rattle.hb_core.specs.Machines.{Machine}
-use Rattle.hb_core.specs.Steps.{StepsInTurn, StepsTo}
+use Rattle.hb_core.specs.Steps.{StepsTo}
 use Rattle.hb_latch.specs.Tables.{MayLatch}
 
 -- after a step of a machine that keeps all, this part of it holds
