@@ -13,6 +13,7 @@
 mod activities;
 mod box_locks;
 mod changing;
+mod deciding;
 mod dropping;
 mod holding;
 mod jobs;
@@ -24,6 +25,7 @@ mod wanting;
 
 pub use activities::Activity;
 pub use box_locks::BoxLock;
+pub use deciding::{Fate, Next};
 pub use dropping::DropWhy;
 pub use holding::Latch;
 pub use jobs::{Job, JobKind};

@@ -2,7 +2,7 @@
 
 ghost use Rattle.std.specs.Thread.{IsSend, IsSync};
 
-use crate::{Activity, BoxLock, DropWhy, Job, JobKind, Jobs, Latch, Wanted};
+use crate::{Activity, BoxLock, DropWhy, Fate, Job, JobKind, Jobs, Latch, Next, Wanted};
 
 /// Each type of the crate does.
 fn types_cross_threads() {
@@ -14,6 +14,8 @@ fn types_cross_threads() {
     crosses::<Wanted>();
     crosses::<BoxLock>();
     crosses::<DropWhy>();
+    crosses::<Fate>();
+    crosses::<Next>();
 }
 
 /// Values of the type may go to another thread, and be read by several.

@@ -1,4 +1,5 @@
 -- After a step every page in memory is one of the file and good, and what the file says of itself is within its limits.
+use Rattle.hb_core.proofs.CommitPages.{commit_pages}
 use Rattle.std.proofs.Common.{◌≡◌, inl, inr, ℕ, ◌<◌, ◌≤◌, ◌^◌, Option, Some, None, IsSome, refl, sym, ap, ◌∙◌, subst, arith}
 use Rattle.hb_frag.specs.declared.pages.Page.{Page}
 use Rattle.hb_layout.specs.declared.meta.Meta.{Meta}
@@ -92,7 +93,7 @@ module _ (makes : MakesGoodPages) (parts : HaveFittingParts) (points : HeldArePo
             (each_set (λ n p. (1 ≤ n) × (n ≤ change.meta.high) × IsGoodPage change.meta p) change.pages (in_memory old)
             (λ k d lt. let c = well.pages k d lt in (c.0.0, c.0.1, c.1))
             (λ n p is. let was = keeps.framed n p is in (was.0, omega (arith, was.1, after.rises), well.others p was.2))
-            id page (sym (does.commits.pages id) ∙ there));
+            id page (sym (commit_pages _ _ _ _ does.commits id) ∙ there));
       }
 
   module _ (m : Machine) (actor : ℕ) (outcome : Outcome) (new : Machine) (fit : LinesFit m) (keeps : KeepsPages m.store) where

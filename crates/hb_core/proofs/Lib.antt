@@ -1,5 +1,6 @@
 pub mod NextNumbers
 pub mod BroughtPages
+pub mod CommitPages
 pub mod GivenUp
 pub mod NoMerges
 pub mod OneMerge

@@ -6,13 +6,14 @@ use Rattle.hb_core.specs.declared.outcomes.Outcome.TheVariants as outcomes
 use Rattle.hb_activity.specs.Deeds.{Deed}
 use Rattle.hb_core.proofs.StepKinds.{each_kind, FlushesMore, rest_kind}
 use Rattle.hb_core.specs.Acting.{MeetsBadPage}
-use Rattle.hb_core.specs.Forcing.{ForcesFirst, StaysSo, calls_of_force}
+use Rattle.hb_core.specs.Forcing.{ForcesFirst, StaysSo}
 use Rattle.hb_core.specs.Laws.{AnswersAreTimed, ClockMoves}
 use Rattle.hb_core.specs.Machines.{Machine}
 use Rattle.hb_core.specs.Performing.{Performs, given_by}
 use Rattle.hb_core.specs.Stages.{HasMoreToFlush}
 use Rattle.hb_core.specs.Steps.{StepsTo, Works}
 use Rattle.hb_store.specs.States.{StoreState}
+use Rattle.hb_wal.specs.Forces.{calls_of_force}
 use Rattle.hb_wal.specs.Log.{Waiting}
 
 -- what a step does to both

@@ -1,4 +1,5 @@
 -- A deed that is done over two fetches from one machine leads to machines that are one but for the pages in memory.
+use Rattle.hb_store.specs.StayingLaws.{Commits-there}
 use Rattle.std.proofs.Common.{◌≡◌, ◌⊎◌, inl, inr, ℕ, ◌==◌, Bool, true, false, cond, ◌||◌, ◌++◌, List, [], ◌∷◌, length, Option, Some, None, IfSome, refl, sym, ap, ◌∙◌, subst}
 use Rattle.std.proofs.lemmas.Bool.{cases_eq}
 use Rattle.std.proofs.lemmas.Cmp.{nat_cmp_total}
@@ -180,8 +181,8 @@ module _ (f g : StoreState) (alike : KeepsAllButPages f g) (agree : Agree f g) w
           stopped = two.stopped ∙ alike.stopped ∙ sym one.stopped;
         };
         pages = λ id a b x y.
-            agree_set (change_here f op).pages (in_memory f) (in_memory g) agree id a b (sym (one.pages id) ∙ x)
-            (ap (λ (c : Change). set_pages c.pages (in_memory g) id) change ∙ sym (two.pages id) ∙ y);
+            agree_set (change_here f op).pages (in_memory f) (in_memory g) agree id a b (Commits-there op mark f new one id a x)
+            (ap (λ (c : Change). set_pages c.pages (in_memory g) id) change ∙ Commits-there op mark g next two id b y);
       }
 
   one_done : (op : Option Op) (mark : ℕ) (new next : StoreState) → MayDo op mark f new → MayDo op mark g next → AreAlike new next

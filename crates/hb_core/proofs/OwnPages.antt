@@ -1,4 +1,5 @@
 -- A step changes no page in use but those that its actor has for itself.
+use Rattle.hb_core.proofs.CommitPages.{commit_pages}
 use Rattle.std.proofs.Common.{◌≡◌, ◌≢◌, ◌⊎◌, inl, inr, ℕ, true, Option, Some, None, IsSome, IfSome, IsTrue, refl, sym, ap, ◌∙◌, subst}
 use Rattle.std.proofs.lemmas.Bool.{false≢true}
 use Rattle.hb_frag.specs.declared.pages.LivePage.{LivePage}
@@ -66,7 +67,7 @@ module _ (m : Machine) (actor : ℕ) (latches : MayLatch actor) (fit : LatchesFi
   done (Some op) mark fetched there owned does = by (set_elsewhere (change_here fetched op).pages (in_memory fetched) id)
     where
       by : (set_pages (change_here fetched op).pages (in_memory fetched) id ≡ in_memory fetched id) ⊎ IsNumber id (change_here fetched op).pages → Goal
-      by (inl same) = carried fetched (does.commits.pages id ∙ same) there
+      by (inl same) = carried fetched (commit_pages _ _ _ _ does.commits id ∙ same) there
       by (inr number) = free (owned id (numbers_are_targets op fetched.meta (read_here fetched op 0) (read_here fetched op 1) (read_here fetched op 2) id number))
         where
           free : IsFreeFor m actor id → Goal

@@ -1,4 +1,5 @@
 -- The operation of a row is allowed and licensed in the file, and every file stays sound.
+use Rattle.hb_core.proofs.CommitPages.{commit_pages}
 use Rattle.std.proofs.Common.{◌≡◌, inl, inr, ℕ, ◌+◌, List, [], ◌∷◌, ◌++◌, length, All, Option, Some, None, IsSome, IfSome, option_map, refl, sym, ap, ◌∙◌, subst, arith, length-append}
 use Rattle.std.proofs.lemmas.List.Elements.{All-append, All-cons, All-head, All-nil, All-tail}
 use Rattle.hb_frag.specs.declared.pages.Page.{Page}
@@ -138,7 +139,7 @@ module _ (makes : MakesGoodPages) (parts : HaveFittingParts) (points : HeldArePo
           each = omega (arith, groups, more, holds.each);
           layout = subst IsLayout (sym does.commits.meta) well.after.limits.layout;
           meta = ap (λ (f : FileState). f.meta) last ∙ meta;
-          shown = λ id page there. ap (λ (f : FileState). page_of f id) last ∙ shown_after st s keeps file op does.allowed well id page (sym (does.commits.pages id) ∙ there);
+          shown = λ id page there. ap (λ (f : FileState). page_of f id) last ∙ shown_after st s keeps file op does.allowed well id page (sym (commit_pages _ _ _ _ does.commits id) ∙ there);
         }
 
     -- What is to be shown of a step: there are files afterwards, and they hold.

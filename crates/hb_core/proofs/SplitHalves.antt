@@ -1,4 +1,5 @@
 -- A page that is to be split lacks room for its insert, and of its two halves one has room.
+use Rattle.hb_core.proofs.CommitPages.{commit_pages}
 use Rattle.hb_core.proofs.NextNumbers.{is_next_number}
 use Rattle.std.proofs.Common.{◌≡◌, ◌≢◌, ◌⊎◌, inl, inr, ℕ, ◌==◌, ◌*◌, ◌<◌, ◌≤◌, ◌+◌, Bool, cond, List, [], ◌∷◌, length, Option, Some, refl, sym, ap, ◌∙◌, subst, arith}
 use Rattle.std.proofs.lemmas.Bool.{eq-eqb, ne_eqb}
@@ -138,7 +139,7 @@ module _ (m : Machine) (actor : ℕ) (may : ℕ → Type 0) (fetched : StoreStat
       ∙ ap (λ (o : Option (Tree × Area)). split_pages held row.leaves.fresh row.leaves.path row.leaves.cuts page o) row.leaves.there
 
   frame_is : (id : ℕ) → (in_memory new.store) id ≡ set_pages changed (in_memory fetched) id
-  frame_is id = does.commits.pages id ∙ ap (λ (pages : List (ℕ × Page)). set_pages pages (in_memory fetched) id) changed_are
+  frame_is id = commit_pages _ _ _ _ does.commits id ∙ ap (λ (pages : List (ℕ × Page)). set_pages pages (in_memory fetched) id) changed_are
 
   apart : held ≢ row.leaves.fresh
   apart same = made_was_free m may fetched row.leaves.fresh row.leaves.free_after inside brings (is_next_number fetched row.leaves.fresh row.leaves.free_after row.leaves.next) page (subst (λ (n : ℕ). (in_memory m.store) n ≡ Some (Live page)) same (live_there (in_memory m.store held) page live_before))

@@ -13,12 +13,12 @@ use Rattle.hb_activity.specs.declared.jobs.JobKind.TheVariants.{Post}
 use Rattle.hb_activity.specs.declared.activities.Activity.TheVariants.{PosterChild, SessionIdle, SessionPut}
 use Rattle.hb_activity.specs.Passing.{posts_owed}
 use Rattle.hb_consol.specs.ConsolidatorRows.{children_of, one_behind, pair_among}
-use Rattle.hb_core.specs.Forcing.{calls_of_force}
 use Rattle.hb_core.specs.Performing.{latches_held, mode_among}
 use Rattle.hb_frag.specs.Trees.{Cut, Tip}
 use Rattle.hb_point.specs.SessionRows.{next_line}
 use Rattle.hb_space.specs.Boxes.{whole_area}
 use Rattle.hb_store.specs.States.{StoreState}
+use Rattle.hb_wal.specs.Forces.{calls_of_force}
 use Rattle.hb_wal.specs.Log.{Waiting}
 
 -- a line that asks for a point, and its answer

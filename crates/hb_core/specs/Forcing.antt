@@ -7,7 +7,7 @@ use Rattle.hb_core.specs.Machines.{Files, Machine, stopped_for, with_disk}
 use Rattle.hb_core.specs.Stages.{HasMoreToFlush, IsFlushedTo}
 use Rattle.hb_store.specs.Calls.{durable_after, forced_state, later_after, stopped_state}
 use Rattle.hb_store.specs.States.{StoreState, in_memory}
-use Rattle.hb_wal.specs.Log.{Waiting}
+use Rattle.hb_wal.specs.Forces.{calls_of_force}
 
 -- A device call failed: the machine is stopped, behind so many calls at most.
 pub record FailsToWrite (m : Machine) (most : ℕ) (outcome : Outcome) (new : Machine) : Type 0 where
@@ -19,10 +19,6 @@ pub record FailsToWrite (m : Machine) (most : ℕ) (outcome : Outcome) (new : Ma
 
 -- A force: the first group that waits is durable, or the write failed. Where a group waited, a force that is done takes four device
 -- calls; where none did, it takes none.
-abbrev pub calls_of_force : List Waiting → ℕ
-calls_of_force [] = 0
-calls_of_force (first ∷ rest) = 4
-
 abbrev pub forced_files : Files → Files
 forced_files files = record { durable = durable_after files.durable files.later; later = later_after files.later }
 

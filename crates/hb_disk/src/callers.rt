@@ -1,4 +1,4 @@
-ghost use Rattle.std.specs.Prelude.{◌≡◌, ◌≢◌, ℕ, ◌+◌, ◌<◌, ◌≤◌, List, ◌∷◌, Some, length, get_or, IsSome, IfSome, OnOk};
+ghost use Rattle.std.specs.Prelude.{◌≡◌, ◌≢◌, ℕ, ◌+◌, ◌<◌, ◌≤◌, List, ◌∷◌, Some, length, get_or, IsSome, IfSome, OnOk, OnErr};
 ghost use Rattle.hb_disk.specs.Model.{overwritten, Torn};
 ghost use Rattle.hb_disk.specs.Calls.{Leaves, FrameOrNot, InOrder, WriteFaults, Becomes, Then, open_gate};
 
@@ -10,7 +10,8 @@ pub const OPEN: u8 = 0xA5;
 
 /// Writes the body behind a closed gate, syncs, opens the gate, and syncs.
 ///
-/// Each image of a moment inside has the frame whole, or a closed gate in its place.
+/// Each image of a moment inside has the frame whole, or a closed gate in its place. It takes four calls, and at most
+/// four where it fails.
 pub fn write_behind_gate<D: Device>(disk: &mut D, gate: u64, body: &[u8]) -> Result<(), Failed>
     requires inside { gate + 1 + length body.now ≤ (D.model disk.old).size }
     requires closed { IsSome (D.model disk.old).told →
@@ -22,7 +23,8 @@ pub fn write_behind_gate<D: Device>(disk: &mut D, gate: u64, body: &[u8]) -> Res
     ensures moments { IsSome (D.model disk.old).told → Leaves (D.model disk.old) (D.model disk.new)
         (λ c. (b : List ℕ) × (D.model disk.old).Image b × FrameOrNot gate body.now b c) }
     ensures place { Becomes (Torn gate (1 + length body.now)) (D.model disk.old) (D.model disk.new) }
-    ensures clock { IsSome (D.model disk.old).told → (D.model disk.new).clock ≤ (D.model disk.old).clock + 4 }
+    ensures clock { IsSome (D.model disk.old).told → OnOk result ((D.model disk.new).clock ≡ (D.model disk.old).clock + 4) }
+    ensures few { IsSome (D.model disk.old).told → OnErr result (((D.model disk.old).clock ≤ (D.model disk.new).clock) × ((D.model disk.new).clock ≤ (D.model disk.old).clock + 4)) }
     ensures faults { WriteFaults result (D.model disk.old) (D.model disk.new) }
 {
     disk.write(gate + 1, body)?;

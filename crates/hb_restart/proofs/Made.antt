@@ -6,7 +6,7 @@ use Rattle.hb_space.specs.declared.form.TheConstants.{PAGE}
 use Rattle.hb_outside.specs.Numbers.{big_endian}
 use Rattle.hb_disk.specs.Model.{DiskModel, IsDisk, overwritten}
 use Rattle.hb_disk.specs.Calls.{open_gate}
-use Rattle.hb_disk.specs.ValueLaws.{at_value, of_value, has_value}
+use Rattle.hb_disk.specs.ValueLaws.{at_value, of_value, has_value, some_same}
 use Rattle.hb_disk.specs.SyncedLaws.{IsSynced-durable}
 use Rattle.hb_disk.specs.TornLaws.{IsOutside}
 use Rattle.hb_disk.specs.OverwrittenLaws.{length-overwritten, overwritten-inside, overwritten-outside, overwritten-reads}
@@ -14,13 +14,15 @@ use Rattle.hb_frag.specs.declared.pages.Page.{Page}
 use Rattle.hb_frag.specs.Grammar.{SpellsPage}
 use Rattle.hb_wal.specs.Frames.{range}
 use Rattle.hb_super.specs.Superblocks.{IsNewest, body_bytes}
+use Rattle.hb_super.specs.Moments.{HasNoBody}
+use Rattle.hb_super.specs.BodyLaws.{HasNoBody-elsewhere, HasNoBody-same, HasNoBody-zero}
 use Rattle.hb_layout.specs.declared.meta.Meta.{Meta}
 use Rattle.hb_ops.specs.Files.{page_of}
 use Rattle.hb_layout.specs.Offsets.{file_size, log_start, page_offset}
 use Rattle.hb_store.specs.Opening.{log_bytes, place_bytes, OpensTo}
 use Rattle.hb_store.specs.Keeps.{IsFresh}
 use Rattle.hb_store.specs.ReplayLaws.{opens_fresh}
-use Rattle.hb_restart.specs.Creation.{IsLaidOut}
+use Rattle.hb_restart.specs.Creation.{HasEmptyPlaces, IsLaidOut}
 use Rattle.hb_restart.specs.NewFiles.{lone}
 use Rattle.hb_restart.specs.LoneLaws.{page_alone}
 
@@ -37,14 +39,21 @@ part_kept b at piece from m fits apart =
     get_or-take m (drop from after) i 0 here ∙ get_or-drop from after i 0 ∙ overwritten-outside b at piece fits (from + i) outside
     ∙ sym (get_or-drop from b i 0) ∙ sym (get_or-take m (drop from b) i 0 here))
 
--- both gates in a front that was zeroed
-pub zeroed_gates : (b : List ℕ) (n : ℕ) → 4096 < n → n ≤ length b → (get_or (overwritten b 0 (replicate n 0)) 0 0 ≡ 0) × (get_or (overwritten b 0 (replicate n 0)) 4096 0 ≡ 0)
-zeroed_gates b n some fits =
-    let long : length {A = ℕ} (replicate n 0) ≡ n = length-replicate n 0 in
-    let inside : 0 + length {A = ℕ} (replicate n 0) ≤ length b = omega (arith, long, fits) in (
-      overwritten-inside b 0 (replicate n 0) inside 0 (omega arith) (omega (arith, long, some)) ∙ get_or-replicate n 0 0 0 (omega (arith, some)),
-      overwritten-inside b 0 (replicate n 0) inside 4096 (omega arith) (omega (arith, long, some)) ∙ get_or-replicate n 4096 0 0 (omega (arith, some)),
-    )
+-- both places in a front that was zeroed
+pub zeroed_places : (b : List ℕ) (n : ℕ) → 4097 < n → n ≤ length b → HasEmptyPlaces (overwritten b 0 (replicate n 0))
+zeroed_places b n some fits = record {
+  first = zero_at 0 (omega (arith, some));
+  second = zero_at 4096 (omega (arith, some));
+  no_body = HasNoBody-zero (overwritten b 0 (replicate n 0)) 1 (zero_at 4097 some);
+}
+  where
+    long : length {A = ℕ} (replicate n 0) ≡ n
+    long = length-replicate n 0
+
+    zero_at : (i : ℕ) → i < n → get_or (overwritten b 0 (replicate n 0)) i 0 ≡ 0
+    zero_at i lt =
+        overwritten-inside b 0 (replicate n 0) (omega (arith, long, fits)) i (omega arith) (omega (arith, long, lt))
+        ∙ get_or-replicate n (i - 0) 0 0 (omega (arith, lt))
 
 pub frame_long : (meta : Meta) → length (open_gate ∷ body_bytes 0 meta) ≡ 41
 unfolding big_endian
@@ -94,10 +103,16 @@ module _ (b : List ℕ) (meta : Meta) (page : List ℕ) (some : 1 ≤ meta.pages
   page_is : take PAGE (drop at (overwritten first at page)) ≡ page
   page_is = ap (λ (n : ℕ). take n (drop at (overwritten first at page))) (sym long) ∙ overwritten-reads first at page second_fits
 
-  pub laid_out : get_or b 0 0 ≡ 0 → get_or b 4096 0 ≡ 0 → IsLaidOut (overwritten first at page) meta page
-  laid_out one two = record {
-    first = gate_kept 0 (omega arith) ∙ one;
-    second = gate_kept 4096 (omega arith) ∙ two;
+  front_kept : take 8192 (drop 0 (overwritten first at page)) ≡ take 8192 (drop 0 b)
+  front_kept = part_kept first at page 0 8192 second_fits (inl (omega arith)) ∙ part_kept b 8192 log 0 8192 first_fits (inl (omega arith))
+
+  pub laid_out : HasEmptyPlaces b → IsLaidOut (overwritten first at page) meta page
+  laid_out empty = record {
+    places = record {
+      first = gate_kept 0 (omega arith) ∙ empty.first;
+      second = gate_kept 4096 (omega arith) ∙ empty.second;
+      no_body = HasNoBody-elsewhere b (overwritten first at page) 1 front_kept empty.no_body;
+    };
     log = (let here : log_start 0 meta ≡ 8192 = omega arith in ap (λ (n : ℕ). take meta.log (drop n (overwritten first at page))) here) ∙ area_is;
     there = (let here : page_offset meta 1 ≡ at = omega arith in ap (λ (n : ℕ). take PAGE (drop n (overwritten first at page))) here) ∙ page_is;
   }
@@ -148,6 +163,10 @@ module _ (d : DiskModel) (is_disk : IsDisk d) (meta : Meta) (page c : List ℕ) 
       by = opens_fresh e 0 meta (lone meta p) is_newest (omega (arith, e_long, fits)) log_is refl (sym one) (spelled p spells);
     });
     places = IsSynced-durable d 0 8192 durable;
+    no_body = λ b is.
+        let same : e ≡ b = some_same e b (sym told ∙ is) in
+        let Q : List ℕ → Type 0 = λ l. HasNoBody l 1 in
+        subst Q same (HasNoBody-same c e 1 (part_kept c 0 frame 4097 40 frame_fits (inr (omega (arith, short)))) laid.places.no_body);
     logged = record {
       synced = IsSynced-durable d (log_start 0 meta) meta.log durable;
       payloads_fit = λ i x lt. absurd (omega (arith, lt));

@@ -9,7 +9,7 @@ use Rattle.hb_store.specs.Payloads.{SpellAll}
 use Rattle.hb_store.proofs.Spellings.{OneList, same_spelled}
 use Rattle.hb_store.specs.ImageLaws.{OpensToOne}
 use Rattle.hb_layout.specs.Offsets.{file_size}
-use Rattle.hb_store.specs.Opening.{HasBadGroup, OpensTo, Shows, log_bytes}
+use Rattle.hb_store.specs.Opening.{HasBadGroup, log_bytes}
 use Rattle.hb_store.specs.Replay.{untouched, replay}
 use Rattle.hb_sound.specs.Names.{NamesIn, OneIsNamed}
 use Rattle.hb_sound.specs.Walks.{IsLeast}

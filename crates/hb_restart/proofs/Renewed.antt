@@ -15,8 +15,9 @@ use Rattle.hb_frag.specs.Grammar.{SpellsPage}
 use Rattle.hb_wal.specs.Frames.{range}
 use Rattle.hb_layout.specs.Offsets.{slot_offset, file_size, log_start, page_offset}
 use Rattle.hb_super.specs.Superblocks.{IsNewest, next_turn}
-use Rattle.hb_super.specs.Moments.{WriteLeaves, IsUncovered, HidesNoOther}
+use Rattle.hb_super.specs.Moments.{WriteLeaves, IsUncovered, HasNoBody, HidesNoOther}
 use Rattle.hb_super.specs.Hidden.{ClearLeaves}
+use Rattle.hb_super.specs.BodyLaws.{HasNoBody-other}
 use Rattle.hb_layout.specs.declared.meta.Meta.{Meta}
 use Rattle.hb_ops.specs.Files.{FileState, page_of}
 use Rattle.hb_store.specs.Replay.{untouched, replay}
@@ -60,6 +61,13 @@ pub areas : (turn next : ℕ) (meta : Meta) → turn ≤ 3 → next ≡ next_tur
 areas turn next meta small is =
     let N : ℕ → Type 0 = λ n. Areas turn n meta in
     subst N (sym is) (areas_of turn (next_turn turn) meta (parities turn small))
+
+-- the body of a turn stands apart from the place of the next one
+old_apart : (turn next : ℕ) → turn ≤ 3 → next ≡ next_turn turn → Apart (slot_offset turn + 1) 40 (slot_offset next) 41
+old_apart turn next small is = elim (parities turn small) [
+  | inl even ↦ inl (omega (arith, is, even.0, even.1))
+  | inr odd ↦ inr (omega (arith, is, odd.0, odd.1))
+]
 
 pub still_to : (turn : ℕ) (said meta : Meta) (touched : ℕ → Option Page) (s : FileState) (c : List ℕ) → StillOpens turn said meta touched s c → OpensTo c s
 still_to turn said meta touched s c opens = record { turn = turn; said = said; payloads = opens.payloads; groups = opens.groups; by = opens.by }
@@ -179,6 +187,12 @@ module _ (turn next : ℕ) (said meta : Meta) (small : turn ≤ 3) (is : next �
           | inr (inr un) ↦ new_opens c torn (uncovered c un)
         ]
 
+    -- the place of the turn after the next has the old superblock still
+    old_there : (c : List ℕ) → Torn (slot_offset next) 41 b c → HasNoBody c (next_turn next)
+    old_there c torn =
+        HasNoBody-other c turn (next_turn next) said small (ap next_turn is)
+        (Torn-elsewhere (slot_offset next) 41 (slot_offset turn + 1) 40 b c (old_apart turn next small is) torn ∙ opens.by.newest.there.body)
+
     -- and once the superblock stands, the file is fresh
     pub written_fresh : (e : DiskModel) → IsDisk e → Becomes (Torn (slot_offset next) 41) d e → file_size meta ≤ e.size
         → IfSome e.told (λ b. (c : List ℕ) → e.Image c → c ≡ b) → IfSome e.told (λ c. IsNewest c next meta) → IsFresh e next meta s
@@ -189,6 +203,7 @@ module _ (turn next : ℕ) (said meta : Meta) (small : turn ≤ 3) (is : next �
         IsFresh-from e is_e (has_value e.told after.0 after.1) next meta s room opens.meta_is (count_of turn said meta touched s b opens)
         (λ c image. let N : List ℕ → Type 0 = λ l. IsNewest l next meta in subst N (sym (only c image)) newest_is)
         (IsSynced-durable e 0 8192 durable)
+        (λ c told. let B : List ℕ → Type 0 = λ l. HasNoBody l (next_turn next) in subst B (some_same after.0 c (sym after.1 ∙ told)) (old_there after.0 after.2))
         (record {
           synced = IsSynced-durable e (log_start next meta) meta.log durable;
           payloads_fit = λ i x lt. absurd (omega (arith, lt));

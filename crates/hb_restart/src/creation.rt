@@ -1,5 +1,5 @@
 //! Making a file.
-ghost use Rattle.std.specs.Prelude.{◌≡◌, ◌≢◌, ◌⊎◌, ℕ, ◌*◌, ◌+◌, ◌≤◌, ◌<◌, List, [], length, get_or, Some, None, OnOk, IfOk, IfErr, IfSome, IsSome, IsNone};
+ghost use Rattle.std.specs.Prelude.{◌≡◌, ◌≢◌, ◌⊎◌, ℕ, ◌*◌, ◌+◌, ◌≤◌, ◌<◌, List, [], length, Some, None, OnOk, IfOk, IfErr, IfSome, IsSome, IsNone};
 ghost use Rattle.hb_space.specs.declared.form.TheConstants.{PAGE};
 ghost use Rattle.hb_outside.specs.Streams.{Rose};
 ghost use Rattle.hb_disk.specs.Calls.{WriteFaults};
@@ -12,7 +12,7 @@ ghost use Rattle.hb_store.specs.States.{IsNew};
 ghost use Rattle.hb_store.specs.Keeps.{IsFresh, StoreKeeps};
 ghost use Rattle.hb_store.specs.Seen.{seen_as, disk_of};
 ghost use Rattle.hb_restart.specs.Beyond.{KeepsBeyond};
-ghost use Rattle.hb_restart.specs.Creation.{IsLaidOut};
+ghost use Rattle.hb_restart.specs.Creation.{HasEmptyPlaces, IsLaidOut};
 ghost use Rattle.hb_restart.specs.NewFiles.{lone, new_file, new_meta};
 ghost use Rattle.hb_restart.specs.Layouts.{RefusesLayout, layout_fault, layout_size};
 ghost use Rattle.hb_restart.specs.declared.faults.CreateFault.TheVariants.{DiskFault, NoMemory};
@@ -33,8 +33,7 @@ use std::alloc::Global;
 /// Zeroes both superblock places, and syncs. Two device calls.
 fn zero_places<D: Device>(disk: &mut D) -> Result<(), hb_disk::DiskFault>
     requires room { 2 * PAGE ≤ (D.model disk.old).size }
-    ensures closed { OnOk result (IfSome (D.model disk.old).told (λ b. (c : List ℕ) × ((D.model disk.new).told ≡ Some c)
-        × (get_or c 0 0 ≡ 0) × (get_or c PAGE 0 ≡ 0))) }
+    ensures closed { OnOk result (IfSome (D.model disk.old).told (λ b. (c : List ℕ) × ((D.model disk.new).told ≡ Some c) × HasEmptyPlaces c)) }
     ensures silent { (D.model disk.old).told ≡ None → (D.model disk.new).told ≡ None }
     ensures size { (D.model disk.new).size ≡ (D.model disk.old).size }
     ensures beyond { KeepsBeyond (2 * PAGE) (D.model disk.old) (D.model disk.new) }
@@ -47,7 +46,7 @@ fn zero_places<D: Device>(disk: &mut D) -> Result<(), hb_disk::DiskFault>
 fn write_parts<D: Device>(disk: &mut D, meta: &Meta, page: &[u8; PAGE]) -> Result<(), Failed>
     requires room { file_size meta.now ≤ (D.model disk.old).size }
     requires some { 1 ≤ meta.now.pages }
-    ensures laid { OnOk result (IfSome (D.model disk.old).told (λ b. get_or b 0 0 ≡ 0 → get_or b PAGE 0 ≡ 0 →
+    ensures laid { OnOk result (IfSome (D.model disk.old).told (λ b. HasEmptyPlaces b →
         (c : List ℕ) × ((D.model disk.new).told ≡ Some c) × IsLaidOut c meta.now page.now)) }
     ensures durable { OnOk result (IfSome (D.model disk.new).told (λ b. (c : List ℕ) → (D.model disk.new).Image c → c ≡ b)) }
     ensures silent { (D.model disk.old).told ≡ None → (D.model disk.new).told ≡ None }

@@ -15,6 +15,9 @@ use Rattle.hb_wal.specs.Frames.{frames, frame_bytes, range, HasFrames}
 use Rattle.hb_wal.specs.Log.{Waiting, LogState, forced, left_waiting, after_force}
 use Rattle.hb_wal.specs.Forces.{HasLog, ForceLeaves}
 use Rattle.hb_layout.specs.Offsets.{slot_offset, log_start}
+use Rattle.hb_super.specs.Superblocks.{next_turn}
+use Rattle.hb_super.specs.Moments.{HasNoBody}
+use Rattle.hb_super.specs.BodyLaws.{HasNoBody-elsewhere}
 use Rattle.hb_frag.specs.declared.pages.Page.{Page}
 use Rattle.hb_frag.specs.Grammar.{SpellsPage}
 use Rattle.hb_layout.specs.declared.meta.Meta.{Meta}
@@ -28,7 +31,7 @@ use Rattle.hb_store.specs.Keeps.{StoreKeeps, OpensToFirst, last_of}
 use Rattle.hb_store.specs.Calls.{stopped_state, forced_state, with_log, durable_after, later_after}
 use Rattle.hb_store.specs.ReplayLaws.{replay-append, zeros_end}
 use Rattle.hb_store.specs.StoreLaws.{OpensHere, OpensOn, opens_first, StoreKeeps-by}
-use Rattle.hb_store.proofs.AreaTorn.{spelled_kept, shows_kept, opens_same, opens_more}
+use Rattle.hb_store.proofs.AreaTorn.{places_kept, spelled_kept, shows_kept, opens_same, opens_more}
 
 -- The bytes open to the durable file, or to the next one where the first group's frame is there.
 inside_by : (turn : ℕ) (said : Meta) (b c : List ℕ) → Torn (log_start turn said) said.log b c → (payloads : List (List ℕ)) (written : List Logged) (durable : FileState)
@@ -143,6 +146,12 @@ module _ (d : DiskModel) (is_disk : IsDisk d) (st : StoreState) (is : IsMemory s
     places_synced : IsSynced new 0 8192
     places_synced = IsSynced-elsewhere d new 0 8192 st.log.area st.log.len (inl (omega (arith, area_is))) place (keeps.disk.running going).places
 
+    no_body : (e : List ℕ) → new.told ≡ Some e → HasNoBody e (next_turn st.turn)
+    no_body e tells =
+        let B : List ℕ → Type 0 = λ l. HasNoBody l (next_turn st.turn) in
+        subst B (some_same after.0 e (sym after.1 ∙ tells))
+        (HasNoBody-elsewhere b after.0 (next_turn st.turn) (places_kept st.turn p.said b after.0 (torn_there b after.0 after.2)) ((keeps.disk.running going).no_body b told))
+
     place_synced : IsSynced new (slot_offset st.turn) PAGE
     place_synced = IsSynced-part new 0 8192 (slot_offset st.turn) PAGE (omega arith) (omega arith) places_synced
 
@@ -216,7 +225,7 @@ module _ (d : DiskModel) (is_disk : IsDisk d) (st : StoreState) (is : IsMemory s
           count = has.count;
           images = λ c image. inl (opens c image);
           shows = λ c image. (opens c image).shows;
-          running = λ going. record { places = places_synced; logged = has };
+          running = λ going. record { places = places_synced; no_body = no_body; logged = has };
           kept = (
             place_synced,
             IsSynced-part new st.log.area st.log.len st.log.area n (omega arith) (let fits : n ≤ st.log.len = written_fits new moved payloads has after.0 after.1 in omega (arith, fits)) has.synced,

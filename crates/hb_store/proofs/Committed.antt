@@ -29,12 +29,14 @@ use Rattle.hb_store.specs.Calls.{Commits, IsAllowedHere, change_here, read_here,
 use Rattle.hb_store.specs.Images.{group_here}
 use Rattle.hb_store.specs.Making.{MakesWell}
 use Rattle.hb_store.specs.Marks.{has_page, is_among}
+use Rattle.hb_store.specs.ReplayLists.{or_none, set_not}
+use Rattle.hb_store.specs.StayingLaws.{Commits-there, reads_in_place}
 use Rattle.hb_store.proofs.Changed.{reads_numbered, same_size}
 use Rattle.hb_store.proofs.FilePages.{Reaches, pages_set}
 use Rattle.hb_store.proofs.MadeMeta.{reads_some}
 use Rattle.hb_store.proofs.Shown.{Shows-leads}
 use Rattle.hb_store.proofs.Grouped.{all_needed}
-use Rattle.hb_store.proofs.Setting.{all_set, among_all, has_all, none_set, or_either, or_none, set_both, set_not, set_some}
+use Rattle.hb_store.proofs.Setting.{all_set, among_all, has_all, none_set, or_either, set_both, set_some}
 use Rattle.hb_store.proofs.Imaging.{imaged_all, read_page}
 
 -- ---- operations on the same pages
@@ -70,7 +72,9 @@ commits_here op mark st new change bytes is turn stopped meta pages imaged log =
   turn = turn;
   stopped = stopped;
   meta = meta ∙ ap (λ (c : Change). c.meta) is;
-  pages = λ id. pages id ∙ ap (λ (c : Change). set_pages c.pages (in_memory st) id) is;
+  made = λ id made. set_all id;
+  kept = λ id off stays. set_all id ∙ set_not (change_here st op).pages (in_memory st) id off;
+  others = λ id off. inl (set_all id ∙ set_not (change_here st op).pages (in_memory st) id off);
   imaged = λ id. imaged id ∙ ap (λ (c : Change). has_page id c.pages || (is_among id (reads_of op) || is_imaged st id)) is;
   area = ap (λ (l : LogState). l.area) log;
   len = ap (λ (l : LogState). l.len) log;
@@ -78,6 +82,9 @@ commits_here op mark st new change bytes is turn stopped meta pages imaged log =
   group = bytes;
   groups = ap (λ (l : LogState). l.groups) log;
 }
+  where
+    set_all : (id : ℕ) → in_memory new id ≡ set_pages (change_here st op).pages (in_memory st) id
+    set_all id = pages id ∙ ap (λ (c : Change). set_pages c.pages (in_memory st) id) is
 
 module _ (st new : StoreState) (op : Op) (mark : ℕ) (well : MakesWell op st) (allowed : IsAllowedHere st op) (commits : Commits op mark st new) where
   abbrev change : Change
@@ -113,7 +120,7 @@ module _ (st new : StoreState) (op : Op) (mark : ℕ) (well : MakesWell op st) (
         (all_set P change.pages (in_memory st)
         (λ k d lt. let c = well.change.pages k d lt in (c.0.0, c.0.1, c.1))
         (λ n p is. let old = well.memory.good n p is in (old.0, omega (arith, old.1, well.change.high), well.change.others p old.2))
-        id page (sym (commits.pages id) ∙ e));
+        id page (Commits-there op mark st new commits id page e));
     marked = marked_after;
   }
 
@@ -244,7 +251,7 @@ module _ (st new : StoreState) (op : Op) (mark : ℕ) (well : MakesWell op st) (
       count = keeps.disk.count ∙ sym commits.written;
       images = λ c image. inl (StoreKeeps-by d st durable later keeps going c image);
       shows = keeps.disk.shows;
-      running = λ _. let run = keeps.disk.running going in record { places = run.places; logged = same_log d st.log new.log p.payloads commits.area commits.len commits.written run.logged };
+      running = λ _. let run = keeps.disk.running going in record { places = run.places; no_body = run.no_body; logged = same_log d st.log new.log p.payloads commits.area commits.len commits.written run.logged };
       kept = (keeps.disk.kept.0, subst (λ (m : ℕ). IsSynced d m new.log.written) (sym commits.area) (subst (λ (m : ℕ). IsSynced d st.log.area m) (sym commits.written) keeps.disk.kept.1));
     })
 
@@ -281,6 +288,13 @@ module _ (st new : StoreState) (op : Op) (mark : ℕ) (well : MakesWell op st) (
           keeps.imaged.synced id page (or_none (is_among id (reads_of op)) (is_imaged st id) off.1).1 (sym (set_not change.pages (page_of s) id off.0) ∙ sym (page_after id) ∙ e) c image;
     }
 
+    -- a page that isn't in memory then was none of those that were made
+    not_made : (id : ℕ) → in_memory new id ≡ None → has_page id change.pages ≡ false
+    not_made id none = elim (cases_Bool (has_page id change.pages)) [
+      | inl made ↦ (none_set change.pages (in_memory st) id (sym (commits.made id made) ∙ none)).1
+      | inr off ↦ off
+    ]
+
     in_memory_then : IsInMemory d new.meta (in_memory new) grown (last_of durable (with_op durable later op))
     in_memory_then = record {
       layout =
@@ -289,10 +303,10 @@ module _ (st new : StoreState) (op : Op) (mark : ℕ) (well : MakesWell op st) (
           subst (λ (m : Meta). IsSameLayout p.said m) (sym commits.meta)
           (record { k = is.k ∙ was.k; pages = is.pages ∙ was.pages; log = is.log ∙ was.log; dcap = is.dcap ∙ was.dcap; icap = is.icap ∙ was.icap });
       meta_is = ap (λ (f : FileState). f.meta) last ∙ ap (λ (c : Change). c.meta) (sym change_file) ∙ sym commits.meta;
-      cached = λ id page e. page_after id ∙ set_both change.pages (in_memory st) (page_of s) keeps.memory.cached id page (sym (commits.pages id) ∙ e);
+      cached = λ id page e. page_after id ∙ set_both change.pages (in_memory st) (page_of s) keeps.memory.cached id page (Commits-there op mark st new commits id page e);
       placed = λ id page b none e is_told.
-          let before = none_set change.pages (in_memory st) id (sym (commits.pages id) ∙ none) in
-          keeps.memory.placed id page b before.0 (sym (set_not change.pages (page_of s) id before.1) ∙ sym (page_after id) ∙ e) is_told;
+          let off = not_made id none in
+          reads_in_place d disk st new durable later keeps id (commits.others id off) none page (sym (set_not change.pages (page_of s) id off) ∙ sym (page_after id) ∙ e) b is_told;
     }
 
     pub keeps_after : StoreKeeps d new durable (with_op durable later op)

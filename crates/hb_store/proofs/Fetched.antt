@@ -3,7 +3,7 @@ use Rattle.std.proofs.Common.{◌≡◌, ◌≢◌, inl, inr, ℕ, ◌+◌, ◌-
 use Rattle.std.specs.Prelude.{replicate, IfOk, IfErr, IfSome, IsSome, MatchOption}
 use Rattle.std.specs.Option.{is_some}
 use denote.Bor.{Bor}
-use Rattle.std.proofs.lemmas.Bool.{eqb-true, eq-eqb, ne_eqb}
+use Rattle.std.proofs.lemmas.Bool.{cases_eq, eqb-true, eq-eqb, ne_eqb}
 use Rattle.hb_space.specs.declared.form.TheConstants.{PAGE}
 use Rattle.hb_disk.specs.Model.{DiskModel, IsDisk, Stays}
 use Rattle.hb_disk.specs.Calls.{IsSynced, Reads}
@@ -23,6 +23,7 @@ use Rattle.hb_store.specs.Opening.{place_bytes}
 use Rattle.hb_store.specs.States.{IsGoodPage, IsMemory, StoreState, in_memory}
 use Rattle.hb_store.specs.Keeps.{StoreKeeps, last_of}
 use Rattle.hb_store.specs.Calls.{Fetched}
+use Rattle.hb_store.specs.StayingLaws.{was_there, reads_in_place}
 use Rattle.hb_store.specs.Stops.{IsDamagedBy, IsNoPage}
 use Rattle.hb_store.specs.Fetching.{HoldsNot, with_held}
 use Rattle.hb_store.specs.declared.stops.FetchStop.{FetchStop}
@@ -87,6 +88,7 @@ keeps_read d e st durable later stays k = record {
     shows = λ c image. k.disk.shows c (stays.image c image);
     running = λ r. let run = k.disk.running r in record {
       places = synced_read d e 0 8192 stays run.places;
+      no_body = λ b told. run.no_body b (sym stays.told ∙ told);
       logged = record {
         synced = synced_read d e st.log.area st.log.len stays run.logged.synced;
         payloads_fit = run.logged.payloads_fit;
@@ -106,34 +108,45 @@ keeps_read d e st durable later stays k = record {
   };
 }
 
-some_is : {x y : Page} → Some x ≡ Some y → x ≡ y
-some_is h = cc
+some_none : (o : Option Page) → IsSome o → o ≡ None → ⊥
+some_none None some none = absurd cc
+some_none (Some page) some none = absurd cc
 
-no_none : {x : Page} → Some x ≡ None → ⊥
-no_none h = absurd cc
-
-pub keeps_with : (d : DiskModel) (st : StoreState) (durable : FileState) (later : List FileState) (id : ℕ) (page : Page) → page_of (last_of durable later) id ≡ Some page → StoreKeeps d st durable later
-    → StoreKeeps d (with_held id page st) durable later
-keeps_with d st durable later id page there k = record {
-  parts = k.parts;
-  disk = k.disk;
-  waits = k.waits;
-  imaged = k.imaged;
-  memory = record {
-    layout = k.memory.layout;
-    meta_is = k.memory.meta_is;
-    cached = λ q p e.
-        elim (eqb q id) as (λ b. eqb q id ≡ b → cond b (Some page) (in_memory st q) ≡ Some p → page_of (last_of durable later) q ≡ Some p) [
-          | true ↦ λ here found. ap (page_of (last_of durable later)) (eqb-true q id here) ∙ there ∙ found
-          | false ↦ λ _ found. k.memory.cached q p found
-        ] refl (sym (get_put id q page st.pages) ∙ e);
-    placed = λ q p b e found told.
-        elim (eqb q id) as (λ t. cond t (Some page) (in_memory st q) ≡ None → SpellsPage (place_bytes k.parts.said q b) p) [
-          | true ↦ λ here. absurd (no_none here)
-          | false ↦ λ none. k.memory.placed q p b none found told
-        ] (sym (get_put id q page st.pages) ∙ e);
-  };
-}
+pub keeps_fetched : (d : DiskModel) → IsDisk d → (old new : StoreState) (durable : FileState) (later : List FileState) (id : ℕ) → Fetched id old new
+    → ((page : Page) → in_memory new id ≡ Some page → page_of (last_of durable later) id ≡ Some page) → StoreKeeps d old durable later → StoreKeeps d new durable later
+keeps_fetched d disk old new durable later id fetched there k =
+    let K : StoreState → Type 0 = λ st. StoreKeeps d st durable later in
+    subst K same (record {
+      parts = k.parts;
+      disk = k.disk;
+      waits = k.waits;
+      imaged = k.imaged;
+      memory = record {
+        layout = k.memory.layout;
+        meta_is = k.memory.meta_is;
+        cached = λ q page is. elim (cases_eq q id) [
+          | inl here ↦
+              let I : ℕ → Type 0 = λ n. in_memory new n ≡ Some page in
+              ap (page_of (last_of durable later)) here ∙ there page (subst I here is)
+          | inr other ↦ k.memory.cached q page (was_there old new q (fetched.others q other) page is)
+        ];
+        placed = λ q page b none is told. elim (cases_eq q id) [
+          | inl here ↦ absurd (some_none (in_memory new id) fetched.there (ap (in_memory new) (sym here) ∙ none))
+          | inr other ↦ reads_in_place d disk old new durable later k q (fetched.others q other) none page is b told
+        ];
+      };
+    })
+  where
+    -- the old store with the new one's pages is the new one
+    same : ◌≡◌ {A = StoreState} (record { turn = old.turn; meta = old.meta; log = old.log; pages = new.pages; imaged = old.imaged; stopped = old.stopped }) new
+    same = λ i. record {
+      turn = sym fetched.rest.turn i;
+      meta = sym fetched.rest.meta i;
+      log = sym fetched.rest.log i;
+      pages = new.pages;
+      imaged = sym fetched.rest.imaged i;
+      stopped = sym fetched.rest.stopped i;
+    }
 
 -- the page in a place is the file's, where it isn't in memory
 file_page : (d : DiskModel) (st : StoreState) (durable : FileState) (later : List FileState) (id : ℕ) → IsDisk d → StoreKeeps d st durable later → 1 ≤ id → id ≤ st.meta.high → (p : Page) × (page_of (last_of durable later) id ≡ Some p)
@@ -158,21 +171,24 @@ is_the_page once d st durable later id page disk k some high none there =
     let spelled : SpellsPage (place_bytes st.meta id b.0) page = subst (λ (t : Option (List ℕ)). IfSome t (λ l. SpellsPage (place_bytes st.meta id l) page)) b.1 there in
     p.1 ∙ ap Some (once (place_bytes st.meta id b.0) p.0 page p.2 spelled)
 
+-- the page that was put under its number is there
+pub held_there : (st : StoreState) (id : ℕ) (page : Page) → in_memory (with_held id page st) id ≡ Some page
+held_there st id page = get_put id id page st.pages ∙ ap (λ b. cond b (Some page) (in_memory st id)) (eq-eqb id id refl)
+
 pub fetched_with : (st : StoreState) (id : ℕ) (page : Page) → in_memory st id ≡ None → Fetched id st (with_held id page st)
 fetched_with st id page none = record {
   rest = record { turn = refl; meta = refl; log = refl; imaged = refl; stopped = refl };
-  there = subst (λ (o : Option Page). IsSome o) (sym (get_put id id page st.pages ∙ ap (λ b. cond b (Some page) (in_memory st id)) (eq-eqb id id refl))) refl;
-  kept = λ q some. get_put id q page st.pages ∙
-      elim (eqb q id) as (λ b. eqb q id ≡ b → cond b (Some page) (in_memory st q) ≡ in_memory st q) [
-        | true ↦ λ here. absurd (not_none (in_memory st q) (ap (in_memory st) (eqb-true q id here) ∙ none) some)
-        | false ↦ λ _. refl
-      ] refl;
-  others = λ q other. get_put id q page st.pages ∙ ap (λ b. cond b (Some page) (in_memory st q)) (ne_eqb q id other);
+  there = subst (λ (o : Option Page). IsSome o) (sym (held_there st id page)) refl;
+  same = λ some. absurd (some_none (in_memory st id) some none);
+  kept = λ q some. elim (cases_eq q id) [
+    | inl here ↦ absurd (some_none (in_memory st q) some (ap (in_memory st) here ∙ none))
+    | inr other ↦ put_other q other
+  ];
+  others = λ q other. inl (put_other q other);
 }
   where
-    not_none : (o : Option Page) → o ≡ None → IsSome o → ⊥
-    not_none None e some = absurd cc
-    not_none (Some p) e some = no_none e
+    put_other : (q : ℕ) → q ≢ id → in_memory (with_held id page st) q ≡ in_memory st q
+    put_other q other = get_put id q page st.pages ∙ ap (λ b. cond b (Some page) (in_memory st q)) (ne_eqb q id other)
 
 -- ---- no page of a sound file is damaged
 

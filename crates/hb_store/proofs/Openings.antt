@@ -56,7 +56,7 @@ module _ (d : DiskModel) (is_disk : IsDisk d) (turn : ℕ) (meta : Meta) (s : Fi
       count = refl;
       images = λ c image. inl (fresh_image b told c image);
       shows = λ c image. (fresh_image b told c image).shows;
-      running = λ going. record { places = fresh.places; logged = fresh.logged };
+      running = λ going. record { places = fresh.places; no_body = fresh.no_body; logged = fresh.logged };
       kept = (
         IsSynced-part d 0 8192 _ _ (omega arith) (omega arith) fresh.places,
         IsSynced-part d (log_start turn meta) meta.log (log_start turn meta) 0 (omega arith) (omega arith) fresh.logged.synced,

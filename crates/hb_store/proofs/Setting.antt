@@ -8,7 +8,7 @@ use Rattle.std.proofs.lemmas.List.Elements.{All-head, All-tail}
 use Rattle.hb_frag.specs.declared.pages.Page.{Page}
 use Rattle.hb_store.specs.Marks.{has_page, is_among}
 use Rattle.hb_store.specs.Replay.{set_pages}
-use Rattle.hb_store.specs.ReplayLists.{set_one-same, set_one-other}
+use Rattle.hb_store.specs.ReplayLists.{or_none, set_not, set_one-same, set_one-other}
 
 pub or_true : (a : Bool) → (a || true) ≡ true
 or_true true = refl
@@ -53,10 +53,6 @@ set_some (one ∷ rest) f q =
 
 -- ---- numbers in lists
 
-pub or_none : (a b : Bool) → (a || b) ≡ false → (a ≡ false) × (b ≡ false)
-or_none true b e = cc e
-or_none false b e = (refl, e)
-
 pub or_either : (a b : Bool) → IsTrue (a || b) → IsTrue a ⊎ IsTrue b
 or_either true b e = inl refl
 or_either false b e = inr e
@@ -78,14 +74,7 @@ among_all Q (id ∷ rest) q all is = elim (or_either (q == id) (is_among q rest)
   | inr later ↦ among_all Q rest q (All-tail Q id rest all) later
 ]
 
--- a page that isn't one of those that were set is as before
-pub set_not : (pages : List (ℕ × Page)) (f : ℕ → Option Page) (q : ℕ) → has_page q pages ≡ false → set_pages pages f q ≡ f q
-set_not [] f q none = refl
-set_not (one ∷ rest) f q none =
-    let off = or_none (q == one.0) (has_page q rest) none in
-    set_not rest (λ r. cond (r == one.0) (Some one.1) (f r)) q off.1 ∙ ap (λ (b : Bool). cond b (Some one.1) (f q)) off.0
-
--- nor is one where none is then
+-- where no page is, none was set and none was before
 pub none_set : (pages : List (ℕ × Page)) (f : ℕ → Option Page) (q : ℕ) → set_pages pages f q ≡ None → (f q ≡ None) × (has_page q pages ≡ false)
 none_set pages f q none =
     let off = or_none (has_page q pages) (is_some (f q)) (sym (set_some pages f q) ∙ ap (λ (o : Option Page). is_some o) none) in

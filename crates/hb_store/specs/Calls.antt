@@ -1,5 +1,5 @@
 -- What the calls of a store do to what it is seen as.
-use Rattle.std.specs.Prelude.{◌≡◌, ◌≢◌, ℕ, ◌-◌, ◌≤◌, ◌||◌, true, List, [], ◌∷◌, ◌++◌, get_or, Option, IsSome}
+use Rattle.std.specs.Prelude.{◌≡◌, ◌≢◌, ℕ, ◌-◌, ◌≤◌, ◌||◌, true, false, IsTrue, List, [], ◌∷◌, ◌++◌, get_or, Option, IsSome}
 use Rattle.hb_space.specs.declared.form.TheConstants.{GROUP, PENDING}
 use Rattle.hb_frag.specs.declared.pages.LivePage.{LivePage}
 use Rattle.hb_ops.specs.declared.operations.Op.{Op}
@@ -8,6 +8,7 @@ use Rattle.hb_ops.specs.Operations.{Change, IsAllowedOn, change_of, effect_of, r
 use Rattle.hb_wal.specs.Log.{LogState, after_force, pending_bytes, room_of}
 use Rattle.hb_store.specs.Replay.{set_pages}
 use Rattle.hb_store.specs.States.{StoreState, in_memory, is_imaged}
+use Rattle.hb_store.specs.Staying.{StaysHere, NoneComes}
 use Rattle.hb_store.specs.Keeps.{last_of}
 use Rattle.hb_store.specs.Marks.{has_page, is_among}
 
@@ -35,16 +36,18 @@ pub record KeepsAllButPages (old new : StoreState) : Type 0 where
   -- it was stopped where it was before
   pub stopped : new.stopped ≡ old.stopped
 
--- A fetch: the page of the number is in memory now, and the other pages there are as before.
+-- A fetch: the page of the number is in memory now, and no other page came.
 pub record Fetched (id : ℕ) (old new : StoreState) : Type 0 where
   -- all but the pages in memory is as before
   pub rest : KeepsAllButPages old new
   -- the page is in memory
   pub there : IsSome (in_memory new id)
-  -- a page that was there is there as it was
-  pub kept : (q : ℕ) → IsSome (in_memory old q) → in_memory new q ≡ in_memory old q
+  -- where it was there before, it is the same
+  pub same : IsSome (in_memory old id) → in_memory new id ≡ in_memory old id
+  -- a page that stays is there as it was
+  pub kept : (q : ℕ) → StaysHere old q → in_memory new q ≡ in_memory old q
   -- no other page came
-  pub others : (q : ℕ) → q ≢ id → in_memory new q ≡ in_memory old q
+  pub others : (q : ℕ) → q ≢ id → NoneComes old new q
 
 -- A commit: the changed pages are in memory, they and those that were read are imaged or made in this turn, and one group
 -- more waits, with its mark.
@@ -55,8 +58,12 @@ pub record Commits (op : Op) (mark : ℕ) (old new : StoreState) : Type 0 where
   pub stopped : new.stopped ≡ old.stopped
   -- the file says what the operation makes of it
   pub meta : new.meta ≡ (change_here old op).meta
-  -- the pages that it makes are in memory
-  pub pages : (id : ℕ) → in_memory new id ≡ set_pages (change_here old op).pages (in_memory old) id
+  -- the pages that it makes are in memory, of each number the last one
+  pub made : (id : ℕ) → IsTrue (has_page id (change_here old op).pages) → in_memory new id ≡ set_pages (change_here old op).pages (in_memory old) id
+  -- a page that stays, and isn't one of these, is there as it was
+  pub kept : (id : ℕ) → has_page id (change_here old op).pages ≡ false → StaysHere old id → in_memory new id ≡ in_memory old id
+  -- no other page came
+  pub others : (id : ℕ) → has_page id (change_here old op).pages ≡ false → NoneComes old new id
   -- these and the pages that it reads are imaged or made in this turn
   pub imaged : (id : ℕ) → is_imaged new id ≡ (has_page id (change_here old op).pages || (is_among id (reads_of op) || is_imaged old id))
   -- the log lies where it did

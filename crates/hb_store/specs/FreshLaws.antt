@@ -8,7 +8,8 @@ use Rattle.hb_disk.specs.ValueLaws.{some_value, at_value}
 use Rattle.hb_wal.specs.Frames.{range}
 use Rattle.hb_wal.specs.Forces.{HasLog}
 use Rattle.hb_layout.specs.Offsets.{slot_offset, log_start, file_size}
-use Rattle.hb_super.specs.Superblocks.{HasSuper, IsNewest}
+use Rattle.hb_super.specs.Superblocks.{HasSuper, IsNewest, next_turn}
+use Rattle.hb_super.specs.Moments.{HasNoBody}
 use Rattle.hb_layout.specs.declared.meta.Meta.{Meta}
 use Rattle.hb_ops.specs.Files.{FileState, page_of}
 use Rattle.hb_frag.specs.declared.pages.Page.{Page}
@@ -40,14 +41,15 @@ IsNewest-elsewhere b c same turn meta newest = record {
 
 -- A store may start from a disk of such a size whose images all have this superblock, a log of zeros and these pages.
 pub IsFresh-from : (d : DiskModel) → IsDisk d → IsSome d.told → (turn : ℕ) (meta : Meta) (s : FileState) → file_size meta ≤ d.size → s.meta ≡ meta → length s.pages ≡ meta.high
-    → ((c : List ℕ) → d.Image c → IsNewest c turn meta) → IsSynced d 0 8192 → HasLog d (record { area = log_start turn meta; len = meta.log; written = 0; groups = [] }) []
+    → ((c : List ℕ) → d.Image c → IsNewest c turn meta) → IsSynced d 0 8192 → ((b : List ℕ) → d.told ≡ Some b → HasNoBody b (next_turn turn)) → HasLog d (record { area = log_start turn meta; len = meta.log; written = 0; groups = [] }) []
     → ((id : ℕ) (page : Page) → page_of s id ≡ Some page → (c : List ℕ) → d.Image c → SpellsPage (place_bytes meta id c) page) → IsFresh d turn meta s
-IsFresh-from d is_disk tells turn meta s room meta_is count newest places logged pages = record {
+IsFresh-from d is_disk tells turn meta s room meta_is count newest places no_body logged pages = record {
   told = tells;
   meta_is = meta_is;
   newest = newest;
   images = λ c image. record { turn = turn; said = meta; payloads = []; groups = []; by = fresh_image c image };
   places = places;
+  no_body = no_body;
   logged = logged;
   pages = pages;
 }

@@ -6,7 +6,8 @@ use Rattle.hb_disk.specs.Calls.{IsSynced}
 use Rattle.hb_wal.specs.Forces.{HasLog}
 use Rattle.hb_layout.specs.Offsets.{log_start}
 use Rattle.hb_layout.specs.declared.meta.Meta.{Meta}
-use Rattle.hb_super.specs.Superblocks.{IsNewest}
+use Rattle.hb_super.specs.Superblocks.{IsNewest, next_turn}
+use Rattle.hb_super.specs.Moments.{HasNoBody}
 use Rattle.hb_frag.specs.declared.pages.Page.{Page}
 use Rattle.hb_frag.specs.Grammar.{SpellsPage}
 use Rattle.hb_ops.specs.Files.{FileState, page_of}
@@ -34,7 +35,8 @@ pub record StoreKeeps (d : DiskModel) (st : StoreState) (durable : FileState) (l
   pub memory : IsInMemory d st.meta (in_memory st) parts (last_of durable later)
 
 -- A disk from which a store may start: every image opens to this file, both superblock places and the log area of this
--- turn are synced, the area reads as zeros, and every page stands synced in its place.
+-- turn are synced, the place of the next turn has no body of that turn, the area reads as zeros, and every page stands
+-- synced in its place.
 pub record IsFresh (d : DiskModel) (turn : ℕ) (meta : Meta) (s : FileState) : Type 0 where
   -- the disk tells its bytes
   pub told : IsSome d.told
@@ -46,6 +48,8 @@ pub record IsFresh (d : DiskModel) (turn : ℕ) (meta : Meta) (s : FileState) : 
   pub images : (c : List ℕ) → d.Image c → OpensTo c s
   -- the superblock places are synced
   pub places : IsSynced d 0 (2 * PAGE)
+  -- no write of the next turn's superblock was cut short there
+  pub no_body : (b : List ℕ) → d.told ≡ Some b → HasNoBody b (next_turn turn)
   -- the log has no frame
   pub logged : HasLog d (record { area = log_start turn meta; len = meta.log; written = 0; groups = [] }) []
   -- each page stands in its place in each image

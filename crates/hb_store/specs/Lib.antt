@@ -4,6 +4,7 @@ pub mod Opening
 pub mod States
 pub mod Codes
 pub mod Inside
+pub mod Staying
 pub mod Parts
 pub mod Keeps
 pub mod Seen
@@ -20,3 +21,4 @@ pub mod ImageLaws
 pub mod Replaying
 pub mod Making
 pub mod NextPage
+pub mod StayingLaws

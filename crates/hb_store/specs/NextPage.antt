@@ -1,5 +1,5 @@
 -- The page number that an allocation takes, and why none is given.
-use Rattle.std.specs.Prelude.{◌≡◌, ◌≢◌, ◌⊎◌, ℕ, ◌+◌, ◌<◌, Some}
+use Rattle.std.specs.Prelude.{◌≡◌, ◌≢◌, ◌⊎◌, ℕ, ◌+◌, ◌<◌, Some, IsSome}
 use Rattle.hb_disk.specs.Model.{DiskModel}
 use Rattle.hb_frag.specs.declared.pages.LivePage.{LivePage}
 use Rattle.hb_frag.specs.declared.pages.Page.TheVariants.{Live, Free}
@@ -8,7 +8,7 @@ use Rattle.hb_store.specs.Calls.{Fetched}
 use Rattle.hb_store.specs.States.{StoreState, in_memory}
 use Rattle.hb_store.specs.Stops.{FetchesNot}
 use Rattle.hb_store.specs.declared.stops.FetchStop.{FetchStop}
-use Rattle.hb_store.specs.declared.stops.FetchStop.TheVariants.{Damaged}
+use Rattle.hb_store.specs.declared.stops.FetchStop.TheVariants.{Damaged, ReadFault, NoMemory}
 use Rattle.hb_store.specs.declared.stops.Why.TheVariants.{Rule}
 
 -- a page was fetched, or nothing changed
@@ -20,6 +20,16 @@ MayFetch id old new = (new ≡ old) ⊎ Fetched id old new
 pub record IsNext (st : StoreState) (fresh free_after : ℕ) : Type 0 where
   pub from_chain : st.meta.free ≢ 0 → (fresh ≡ st.meta.free) × (in_memory st fresh ≡ Some (Free free_after))
   pub from_behind : st.meta.free ≡ 0 → (fresh ≡ st.meta.high + 1) × (st.meta.high < st.meta.pages) × (free_after ≡ 0)
+
+-- No page has to be read for a number: every page is in use, or the free chain has none, or its head is in memory.
+abbrev pub NeedsNoRead : StoreState → Type 0
+NeedsNoRead st = (st.meta.live ≡ st.meta.pages) ⊎ ((st.meta.free ≡ 0) ⊎ IsSome (in_memory st st.meta.free))
+
+-- the stop names a page that is damaged
+abbrev pub IsDamage : FetchStop → Type 0
+IsDamage (Damaged page why) = Unit {0}
+IsDamage ReadFault = ⊥
+IsDamage NoMemory = ⊥
 
 -- The head of the free chain is none that is free: it isn't fetched, or it is in use.
 abbrev pub IsNoHead : Meta → DiskModel → StoreState → ℕ → FetchStop → Type 0

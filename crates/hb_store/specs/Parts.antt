@@ -7,6 +7,8 @@ use Rattle.hb_wal.specs.Frames.{frames}
 use Rattle.hb_wal.specs.Log.{LogState, Waiting}
 use Rattle.hb_wal.specs.Forces.{HasLog}
 use Rattle.hb_layout.specs.Offsets.{slot_offset}
+use Rattle.hb_super.specs.Superblocks.{next_turn}
+use Rattle.hb_super.specs.Moments.{HasNoBody}
 use Rattle.hb_layout.specs.declared.meta.Meta.{Meta}
 use Rattle.hb_frag.specs.declared.pages.Page.{Page}
 use Rattle.hb_frag.specs.Grammar.{SpellsPage}
@@ -52,10 +54,13 @@ OpensNext c turn said payloads written [] later = ⊥
 OpensNext c turn said payloads written (g ∷ rest) [] = ⊥
 OpensNext c turn said payloads written (g ∷ rest) (next ∷ later) = OpensBy c turn said (payloads ++ group_bytes g ∷ []) (written ++ g ∷ []) next
 
--- both superblock places and the area are synced, and the area reads as the written frames and zeros
-pub record IsRunning (d : DiskModel) (log : LogState) (payloads : List (List ℕ)) : Type 0 where
+-- Both superblock places and the area are synced, and the area reads as the written frames and zeros. The place of the
+-- next turn has no body of that turn.
+pub record IsRunning (d : DiskModel) (turn : ℕ) (log : LogState) (payloads : List (List ℕ)) : Type 0 where
   -- a crash now leaves both superblock places as they read
   pub places : IsSynced d 0 (2 * PAGE)
+  -- so that a superblock of the next turn is written there over no other of that turn
+  pub no_body : (b : List ℕ) → d.told ≡ Some b → HasNoBody b (next_turn turn)
   -- and the log area, which reads as the written frames
   pub logged : HasLog d log payloads
 
@@ -71,7 +76,7 @@ pub record IsDurable (d : DiskModel) (turn : ℕ) (log : LogState) (stopped : Bo
   -- whatever stands behind the written frames, these groups and the places make it
   pub shows : (c : List ℕ) → d.Image c → Shows c p.said (written_pages p) durable
   -- in a store that was not stopped all is synced
-  pub running : stopped ≡ false → IsRunning d log p.payloads
+  pub running : stopped ≡ false → IsRunning d turn log p.payloads
   -- the place of the turn's superblock and the written frames are synced, also in a stopped store
   pub kept : IsSynced d (slot_offset turn) PAGE × IsSynced d log.area log.written
 

@@ -1,11 +1,13 @@
 -- Pages by their numbers: what setting one of them makes of touched pages.
-use Rattle.std.proofs.Common.{◌≡◌, ◌≢◌, inl, inr, ℕ, ◌==◌, Bool, true, cond, List, [], ◌∷◌, Option, Some, None, IsSome, refl, sym, ap, subst, ne_eqb}
+use Rattle.std.proofs.Common.{◌≡◌, ◌≢◌, inl, inr, ℕ, ◌==◌, Bool, true, false, cond, List, [], ◌∷◌, Option, Some, None, IsSome, refl, sym, ap, ◌∙◌, subst, ne_eqb}
+use Rattle.std.specs.Prelude.{◌||◌}
 use Rattle.std.proofs.Math.Dec.{eqb}
 use Rattle.std.proofs.lemmas.Bool.{cases_Bool, eqb-false}
 use Rattle.hb_frag.specs.declared.pages.LivePage.{LivePage}
 use Rattle.hb_frag.specs.declared.pages.Page.{Page}
 use Rattle.hb_frag.specs.declared.pages.Page.TheVariants.{Live, Free}
 use Rattle.hb_ops.specs.Files.{if_live}
+use Rattle.hb_store.specs.Marks.{has_page}
 use Rattle.hb_store.specs.Replay.{set_pages}
 
 -- a page that is there in use
@@ -38,3 +40,14 @@ set_one-some page id new q some = elim (cases_Bool (q == id)) [
 pub set_pages-some : (images : List (ℕ × Page)) (page : ℕ → Option Page) (q : ℕ) → IsSome (page q) → IsSome (set_pages images page q)
 set_pages-some [] page q some = some
 set_pages-some (one ∷ rest) page q some = set_pages-some rest (λ id. cond (id == one.0) (Some one.1) (page id)) q (set_one-some page one.0 one.1 q some)
+
+pub or_none : (a b : Bool) → (a || b) ≡ false → (a ≡ false) × (b ≡ false)
+or_none true b e = cc e
+or_none false b e = (refl, e)
+
+-- a page that isn't one of those that were set is as before
+pub set_not : (pages : List (ℕ × Page)) (f : ℕ → Option Page) (q : ℕ) → has_page q pages ≡ false → set_pages pages f q ≡ f q
+set_not [] f q none = refl
+set_not (one ∷ rest) f q none =
+    let off = or_none (q == one.0) (has_page q rest) none in
+    set_not rest (λ r. cond (r == one.0) (Some one.1) (f r)) q off.1 ∙ ap (λ (b : Bool). cond b (Some one.1) (f q)) off.0

@@ -8,7 +8,7 @@ ghost use Rattle.hb_ops.specs.Files.{FileState, page_of};
 ghost use Rattle.hb_ops.specs.Sound.{IsSound};
 ghost use Rattle.hb_store.specs.States.{IsMemory, in_memory};
 ghost use Rattle.hb_store.specs.Keeps.{StoreKeeps, last_of};
-ghost use Rattle.hb_store.specs.NextPage.{IsNext, IsNoHead, LacksNext, MayFetch};
+ghost use Rattle.hb_store.specs.NextPage.{IsDamage, IsNext, IsNoHead, LacksNext, MayFetch, NeedsNoRead};
 ghost use Rattle.hb_store.specs.Seen.{seen_as};
 ghost use Rattle.hb_store.specs.declared.stops.FetchStop.TheVariants.{ReadFault};
 
@@ -32,6 +32,9 @@ impl<D: Device> Store<D> {
         ensures names { (durable : FileState) (later : List FileState) → StoreKeeps (D.model self.old.disk) (seen_as self.old) durable later →
             IfOk result (λ page. IfSome page (λ p. NamesNext (last_of durable later) p.0 p.1)) }
         ensures fetches { MayFetch (seen_as self.old).meta.free (seen_as self.old) (seen_as self.new) }
+        // without a read nothing changes, and only damage stops it
+        ensures unread { NeedsNoRead (seen_as self.old) → (self.new.disk ≡ self.old.disk) × (seen_as self.new ≡ seen_as self.old) }
+        ensures damage { NeedsNoRead (seen_as self.old) → IfErr result IsDamage }
         ensures only_reads { OnlyReads (D.model self.old.disk) (D.model self.new.disk) }
         ensures why { IfErr result (LacksNext (seen_as self.old).meta (D.model self.old.disk) (seen_as self.new)) }
         ensures cause { IsErrOf result ReadFault → Rose (D.model self.old.disk).read_faults (D.model self.new.disk).read_faults }
@@ -61,6 +64,8 @@ impl<D: Device> Store<D> {
         ensures named { IfOk result (λ next. in_memory (seen_as self.new) head ≡ Some (Free next)) }
         ensures memory { OnOk result (IsMemory (seen_as self.new)) }
         ensures fetches { MayFetch head (seen_as self.old) (seen_as self.new) }
+        ensures unread { IsSome (in_memory (seen_as self.old) head) → (self.new.disk ≡ self.old.disk) × (seen_as self.new ≡ seen_as self.old) }
+        ensures damage { IsSome (in_memory (seen_as self.old) head) → IfErr result IsDamage }
         ensures only_reads { OnlyReads (D.model self.old.disk) (D.model self.new.disk) }
         ensures why { IfErr result (IsNoHead (seen_as self.old).meta (D.model self.old.disk) (seen_as self.new) head) }
         ensures cause { IsErrOf result ReadFault → Rose (D.model self.old.disk).read_faults (D.model self.new.disk).read_faults }

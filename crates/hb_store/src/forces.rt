@@ -1,6 +1,7 @@
 ghost use Rattle.std.specs.Prelude.{◌≡◌, ◌≢◌, ℕ, ◌+◌, ◌≤◌, false, List, [], IsOk, IsSome, OnOk, OnErr, IfOk, IsTrue, ◌↔◌};
 ghost use Rattle.hb_disk.specs.Model.{Stays, Torn};
 ghost use Rattle.hb_disk.specs.Calls.{Leaves, WriteFaults, Becomes};
+ghost use Rattle.hb_wal.specs.Forces.{calls_of_force};
 ghost use Rattle.hb_ops.specs.Files.{FileState};
 ghost use Rattle.hb_store.specs.Keeps.{StoreKeeps, OpensToFirst};
 ghost use Rattle.hb_store.specs.Seen.{seen_as};
@@ -11,8 +12,8 @@ use crate::store::Store;
 use hb_disk::Device;
 
 impl<D: Device> Store<D> {
-    /// Writes the oldest group that waits to the log. Four device calls, and none where no group waits. A fault stops
-    /// the store.
+    /// Writes the oldest group that waits to the log. Four device calls, at most four where it fails, and none where no
+    /// group waits. A fault stops the store.
     pub fn force(&mut self) -> Result<(), WriteFault>
         requires running { (seen_as self.old).stopped ≡ false }
         requires kept { IsSome (D.model self.old.disk).told → (durable : FileState) × (later : List FileState) × StoreKeeps (D.model self.old.disk) (seen_as self.old) durable later }
@@ -26,7 +27,8 @@ impl<D: Device> Store<D> {
         ensures moments { (durable : FileState) (later : List FileState) → StoreKeeps (D.model self.old.disk) (seen_as self.old) durable later →
             Leaves (D.model self.old.disk) (D.model self.new.disk) (OpensToFirst durable later) }
         ensures place { Becomes (Torn (seen_as self.old).log.area (seen_as self.old).log.len) (D.model self.old.disk) (D.model self.new.disk) }
-        ensures clock { IsSome (D.model self.old.disk).told → (D.model self.new.disk).clock ≤ (D.model self.old.disk).clock + 4 }
+        ensures clock { IsSome (D.model self.old.disk).told → OnOk result ((D.model self.new.disk).clock ≡ (D.model self.old.disk).clock + calls_of_force (seen_as self.old).log.groups) }
+        ensures few { IsSome (D.model self.old.disk).told → OnErr result (((D.model self.old.disk).clock ≤ (D.model self.new.disk).clock) × ((D.model self.new.disk).clock ≤ (D.model self.old.disk).clock + 4)) }
         ensures faults { WriteFaults result (D.model self.old.disk) (D.model self.new.disk) }
     {
         let memory = &mut self.memory;
@@ -54,7 +56,8 @@ impl<D: Device> Store<D> {
         ensures moments { (durable : FileState) (later : List FileState) → StoreKeeps (D.model self.old.disk) (seen_as self.old) durable later →
             Leaves (D.model self.old.disk) (D.model self.new.disk) (OpensToFirst durable later) }
         ensures place { Becomes (Torn (seen_as self.old).log.area (seen_as self.old).log.len) (D.model self.old.disk) (D.model self.new.disk) }
-        ensures clock { IsSome (D.model self.old.disk).told → (D.model self.new.disk).clock ≤ (D.model self.old.disk).clock + 4 }
+        ensures clock { IsSome (D.model self.old.disk).told → OnOk result ((D.model self.new.disk).clock ≡ (D.model self.old.disk).clock + calls_of_force (seen_as self.old).log.groups) }
+        ensures few { IsSome (D.model self.old.disk).told → OnErr result (((D.model self.old.disk).clock ≤ (D.model self.new.disk).clock) × ((D.model self.new.disk).clock ≤ (D.model self.old.disk).clock + 4)) }
         ensures faults { WriteFaults result (D.model self.old.disk) (D.model self.new.disk) }
     {
         if self.is_idle() {

@@ -3,3 +3,4 @@ pub mod Reading
 pub mod Moments
 pub mod Hidden
 pub mod SuperLaws
+pub mod BodyLaws

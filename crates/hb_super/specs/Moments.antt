@@ -25,6 +25,10 @@ pub record WriteLeaves (d : DiskModel) (before : List ℕ) (old : ℕ) (said : M
 abbrev pub NoOther : ℕ → Meta → ℕ → List ℕ → Type 0
 NoOther turn meta gate body = gate ≢ open_gate → (said : Meta) → IsLegal turn said → body ≡ body_bytes turn said → said ≡ meta
 
+-- The place of this turn has no body of the turn, whatever its gate is. So a gate that a crash tears open uncovers none.
+abbrev pub HasNoBody : List ℕ → ℕ → Type 0
+HasNoBody bytes turn = (said : Meta) → take 40 (drop (slot_offset turn + 1) bytes) ≢ body_bytes turn said
+
 -- Behind a closed gate the place of this turn has no other body of the turn than the one that says this.
 abbrev pub HidesNoOther : List ℕ → ℕ → Meta → Type 0
 HidesNoOther before turn meta = NoOther turn meta (get_or before (slot_offset turn) 0) (take 40 (drop (slot_offset turn + 1) before))

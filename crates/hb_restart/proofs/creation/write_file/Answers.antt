@@ -24,7 +24,7 @@ write_first_super-requires-clause-closed g c = λ tells x image opened.
     let before = some_value d.told (told_before d.told one.told c.lay_out.ensures.silent tells) in
     let laid = at_value d.told (λ b. (e : List ℕ) × (one.told ≡ Some e) × IsLaidOut e c.args.meta.now c.args.page.now) before.0 before.1 c.in_ok-lay_out.ensures.laid in
     let same : x ≡ laid.0 = at_value one.told (λ b. (e : List ℕ) → one.Image e → e ≡ b) laid.0 laid.1 c.in_ok-lay_out.ensures.durable x image in
-    let zero_is : get_or x 0 0 ≡ 0 = ap (λ (l : List ℕ). get_or l 0 0) same ∙ laid.2.first in
+    let zero_is : get_or x 0 0 ≡ 0 = ap (λ (l : List ℕ). get_or l 0 0) same ∙ laid.2.places.first in
     let open_is : get_or x 0 0 ≡ 165 = opened in
     absurd (omega (arith, zero_is, open_is))
 
@@ -54,7 +54,7 @@ returns-clause-fresh g c =
     let before = some_value d.told tells in
     let laid = at_value d.told (λ b. (e : List ℕ) × (one.told ≡ Some e) × IsLaidOut e meta page) before.0 before.1 c.in_ok-lay_out.ensures.laid in
     let fits : file_size meta ≤ length laid.0 = omega (arith, c.requires.room, c.lay_out.ensures.size, is_one.long laid.0 (is_one.as_read laid.0 laid.1)) in
-    let closed : get_or laid.0 4096 0 ≢ open_gate = λ opened. let zero_is : get_or laid.0 4096 0 ≡ 0 = laid.2.second in let open_is : get_or laid.0 4096 0 ≡ 165 = opened in absurd (omega (arith, zero_is, open_is)) in
+    let closed : get_or laid.0 4096 0 ≢ open_gate = λ opened. let zero_is : get_or laid.0 4096 0 ≡ 0 = laid.2.places.second in let open_is : get_or laid.0 4096 0 ≡ 165 = opened in absurd (omega (arith, zero_is, open_is)) in
     made_fresh new is_disk meta page laid.0 frame (frame_long meta) fits c.requires.one.1 laid.2
     (at_value one.told (λ b. new.told ≡ Some (overwritten b 0 (open_gate ∷ body_bytes 0 meta))) laid.0 laid.1 written)
     (at_value one.told (λ b. get_or b 4096 0 ≢ open_gate → IfSome new.told (λ e. IsNewest e 0 meta)) laid.0 laid.1 newest closed)

@@ -1,8 +1,8 @@
-use Rattle.std.proofs.Common.{◌≡◌, ℕ, ◌+◌, ◌*◌, ◌≤◌, ◌∙◌, List, replicate, get_or, Some, IfSome, length, subst, arith}
+use Rattle.std.proofs.Common.{◌≡◌, ℕ, ◌+◌, ◌*◌, ◌≤◌, ◌∙◌, List, replicate, Some, IfSome, length, subst, arith}
 use Rattle.std.proofs.lemmas.List.{length-replicate}
 use Rattle.hb_disk.specs.Model.{overwritten}
 use Rattle.hb_disk.specs.ValueLaws.{if_value, at_value, on_ok}
-use Rattle.hb_restart.specs.Creation.{IsLaidOut}
+use Rattle.hb_restart.specs.Creation.{HasEmptyPlaces, IsLaidOut}
 use Rattle.hb_layout.specs.Offsets.{file_size}
 use Rattle.hb_restart.proofs.Beyond.{beyond_sync, beyond_then, beyond_write}
 use Rattle.hb_restart.proofs.Made.{laid_out}
@@ -17,8 +17,8 @@ returns-clause-laid g c =
     let meta = c.args.meta.now in
     let page = c.args.page.now in
     let is_disk = g.met.D.Device.is_disk c.args.disk.now in
-    let P : List ℕ → Type 0 = λ b. get_or b 0 0 ≡ 0 → get_or b 4096 0 ≡ 0 → (x : List ℕ) × (new.told ≡ Some x) × IsLaidOut x meta page in
-    on_ok c.sync.result (IfSome d.told P) (if_value d.told P (λ b told first second.
+    let P : List ℕ → Type 0 = λ b. HasEmptyPlaces b → (x : List ℕ) × (new.told ≡ Some x) × IsLaidOut x meta page in
+    on_ok c.sync.result (IfSome d.told P) (if_value d.told P (λ b told empty.
     let area : c.log_start.result ≡ 8192 = omega (arith, c.log_start.ensures) in
     let place : c.page_offset.result ≡ 8192 + 2 * meta.log = omega (arith, c.page_offset.ensures) in
     let zeroed : IfSome d.told (λ x. one.told ≡ Some (overwritten x 8192 (replicate meta.log 0))) =
@@ -31,7 +31,7 @@ returns-clause-laid g c =
     let fits : 8192 + 2 * meta.log + 4096 * meta.pages ≤ length b = omega (arith, c.requires.room, is_disk.long b (is_disk.as_read b told)) in (
       overwritten (overwritten b 8192 (replicate meta.log 0)) (8192 + 2 * meta.log) page,
       c.sync.ensures.syncs.same ∙ both,
-      laid_out b meta page c.requires.some fits c.told-page first second,
+      laid_out b meta page c.requires.some fits c.told-page empty,
     )))
 
 pub returns-in_err-zero-clause-beyond : goal.returns-in_err-zero-clause-beyond

@@ -1,4 +1,4 @@
-use Rattle.std.proofs.Common.{◌≡◌, ℕ, List, [], ◌∷◌, Some, IfSome, subst}
+use Rattle.std.proofs.Common.{◌≡◌, ℕ, List, [], ◌∷◌, Some, IfSome, subst, arith}
 use Rattle.hb_disk.specs.Model.{overwritten}
 use Rattle.hb_disk.specs.Calls.{Leaves, Writes, open_gate}
 use Rattle.hb_disk.specs.ValueLaws.{if_value, of_value}
@@ -146,7 +146,7 @@ returns-in_err-write_behind_gate-clause-clock g c =
     let one = g.D.Device.model c.write.new.self in
     clock_behind d (g.met.D.Device.is_disk c.args.disk.now) c.requires.room c.args.turn c.args.meta.now c.requires.legal
     c.write.result one (g.met.D.Device.is_disk c.write.new.self) (subst (λ (at : ℕ). Writes at (0 ∷ []) c.write.result d one) c.slot_offset-place.ensures c.write.ensures.writes) c.write.ensures.ticks
-    c.sync.result (g.D.Device.model c.sync.new.self) c.sync.ensures.syncs c.sync.ensures.ticks (g.D.Device.model c.write_behind_gate.new.disk) c.write_behind_gate.ensures.clock
+    c.sync.result (g.D.Device.model c.sync.new.self) c.sync.ensures.syncs c.sync.ensures.ticks (g.D.Device.model c.write_behind_gate.new.disk) (λ tells. (c.in_err-write_behind_gate.ensures.few tells).1)
 
 pub returns-clause-clock : goal.returns-clause-clock
 returns-clause-clock g c =
@@ -154,4 +154,4 @@ returns-clause-clock g c =
     let one = g.D.Device.model c.write.new.self in
     clock_behind d (g.met.D.Device.is_disk c.args.disk.now) c.requires.room c.args.turn c.args.meta.now c.requires.legal
     c.write.result one (g.met.D.Device.is_disk c.write.new.self) (subst (λ (at : ℕ). Writes at (0 ∷ []) c.write.result d one) c.slot_offset-place.ensures c.write.ensures.writes) c.write.ensures.ticks
-    c.sync.result (g.D.Device.model c.sync.new.self) c.sync.ensures.syncs c.sync.ensures.ticks (g.D.Device.model c.write_behind_gate.new.disk) c.write_behind_gate.ensures.clock
+    c.sync.result (g.D.Device.model c.sync.new.self) c.sync.ensures.syncs c.sync.ensures.ticks (g.D.Device.model c.write_behind_gate.new.disk) (λ tells. let four = c.in_ok-write_behind_gate.ensures.clock tells in omega (arith, four))

@@ -7,7 +7,7 @@ use Rattle.hb_store.specs.States.{in_memory}
 use Rattle.hb_store.specs.Keeps.{StoreKeeps}
 use Rattle.hb_store.specs.Seen.{seen_as}
 use Rattle.hb_store.specs.Stops.{IsNoPage}
-use Rattle.hb_store.proofs.Fetched.{none_there, no_page_in, keeps_read, keeps_with, is_the_page, fetched_with, sound_stop}
+use Rattle.hb_store.proofs.Fetched.{none_there, no_page_in, keeps_read, keeps_fetched, held_there, is_the_page, fetched_with, sound_stop}
 use Rattle.hb_store.proofs.store.Store.fetch.Goals.{then-id-eq0-via-then-id-eq0, then-id-eq0-via-else-id-eq0+then-id-high}
 use Rattle.hb_store.proofs.store.Store.fetch.Goals as goal
 
@@ -49,7 +49,8 @@ returns-clause-keeps g c =
     let none : in_memory st c.args.id ≡ None = (no_page_in c.get.result (in_memory (seen_as c.args.self.now) c.args.id) c.get.ensures (sym c.if-is_some.ensures)) in
     λ durable later k.
     let there = is_the_page c.spelling_law.ensures.one_page d st durable later c.args.id page (g.met.D.Device.is_disk c.args.self.now.disk) k (omega (arith, c.if-id-eq0.false)) (omega (arith, c.if-id-high.false, ap (λ (m : Meta). m.high) c.meta.ensures.meta)) none c.in_ok-page.ensures.there in
-    subst (λ s. StoreKeeps e s durable later) (sym same) (keeps_with e st durable later c.args.id page there (keeps_read d e st durable later c.read_page.ensures.only_reads.stays k))
+    subst (λ s. StoreKeeps e s durable later) (sym same) (keeps_fetched e (g.met.D.Device.is_disk c.read_page.new.self.disk) st (with_held c.args.id page st) durable later c.args.id (fetched_with st c.args.id page none)
+    (λ other is. there ∙ sym (held_there st c.args.id page) ∙ is) (keeps_read d e st durable later c.read_page.ensures.only_reads.stays k))
 
 pub returns-then-id-eq0-clause-there : goal.returns-then-id-eq0-clause-there
 returns-then-id-eq0-clause-there g c =

@@ -1,0 +1,61 @@
+-- The deed that a decider's answer is.
+use Rattle.std.specs.Prelude.{◌≡◌, ℕ, ◌==◌, if◌then◌else◌, List, [], ◌∷◌, Option, Some, None}
+use Rattle.hb_frag.specs.declared.pages.LivePage.{LivePage}
+use Rattle.hb_layout.specs.declared.meta.Meta.{Meta}
+use Rattle.hb_set.specs.Order.{Entry}
+use Rattle.hb_set.specs.declared.commands.Reply.{Reply}
+use Rattle.hb_activity.specs.declared.activities.Activity.{Activity}
+use Rattle.hb_activity.specs.declared.activities.Activity.TheVariants as at
+use Rattle.hb_activity.specs.declared.deciding.Fate.{Fate}
+use Rattle.hb_activity.specs.declared.deciding.Fate.TheVariants as fates
+use Rattle.hb_activity.specs.declared.deciding.Next.{Next}
+use Rattle.hb_activity.specs.Classes.{Hand, Empty, HasLine, HasJob, hand_of}
+use Rattle.hb_activity.specs.Deeds.{Answers, Deed, GoesOn, Says}
+use Rattle.hb_activity.specs.Sights.{Sight}
+
+-- the reply that a session keeps which awaits its place
+abbrev pub kept_reply : Activity → Option Reply
+kept_reply (at.SessionAwait number reply place) = Some reply
+kept_reply other = None
+
+-- The line in hand joins the order with the reply that is kept, where it takes effect.
+abbrev pub joins_with : Hand → Option Reply → Option Entry
+joins_with (HasLine line) (Some reply) = Some (record { line = line; reply = reply })
+joins_with (HasLine line) None = None
+joins_with Empty reply = None
+joins_with (HasJob job) reply = None
+
+abbrev pub joined_by : Hand → Activity → Fate → Option Entry
+joined_by hand after fates.GoesOn = None
+joined_by hand after fates.TakesEffect = joins_with hand (kept_reply after)
+joined_by hand after (fates.Answers reply) = None
+
+-- and is answered with this one, where it is answered now
+abbrev pub says_with : Hand → Reply → Says
+says_with (HasLine line) reply = Answers line.number reply
+says_with Empty reply = GoesOn
+says_with (HasJob job) reply = GoesOn
+
+abbrev pub said_by : Hand → Fate → Says
+said_by hand fates.GoesOn = GoesOn
+said_by hand fates.TakesEffect = GoesOn
+said_by hand (fates.Answers reply) = says_with hand reply
+
+abbrev pub deed_of : Activity → Next → Deed
+deed_of activity next = record {
+  next = next.then;
+  op = next.op;
+  takes = None;
+  adds = next.jobs.items;
+  joins = joined_by (hand_of activity) next.then next.fate;
+  says = said_by (hand_of activity) next.fate;
+}
+
+-- What a decider is given: pages by their numbers, of which the first one of a number counts; the number that a made page takes;
+-- and what the file says of itself. The next place of the order is 0 for it.
+abbrev pub page_among : List (ℕ × LivePage) → ℕ → Option LivePage
+page_among [] id = None
+page_among ((number, page) ∷ rest) id = if number == id then Some page else page_among rest id
+
+abbrev pub given_sight : Meta → List (ℕ × LivePage) → Option (ℕ × ℕ) → Sight
+given_sight meta pages next = record { meta = meta; page_at = page_among pages; next = next; place = 0 }
