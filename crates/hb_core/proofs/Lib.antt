@@ -77,3 +77,8 @@ pub mod NextHands
 pub mod ClassesKept
 pub mod RunsKept
 pub mod MarksKept
+pub mod PieceBoxes
+pub mod AddedJobs
+pub mod BoxesAhead
+pub mod MetaKept
+pub mod AttributesKept
