@@ -63,6 +63,15 @@ pub mod Volumes
 pub mod LaterWanted
 pub mod NoCircle
 pub mod SomebodyFree
+pub mod Beginnings
+pub mod RowsDoable
+pub mod AtHand
+pub mod EachKept
+pub mod JoinedReplies
+pub mod StepLines
+pub mod RepliesKept
+pub mod ShortOrder
+pub mod SingleAnswers
 pub mod DeedKinds
 pub mod NextHands
 pub mod ClassesKept

@@ -7,10 +7,9 @@ ghost use Rattle.hb_core.specs.SteppingLaws.{StepsGoOn, StoppedStays};
 ghost use Rattle.hb_core.specs.StageLaws.{BegunHasNothingToMerge, NothingComesToMerge, NothingIsMerged};
 
 use crate::file_laws::{
-    a_beginning_keeps_all, files_stay_sound, lines_stay_fit, pages_stay_pages_of_the_file,
-    rows_are_allowed, the_order_stays_legal, turns_stay,
+    a_beginning_keeps_all, files_stay_sound, rows_are_allowed, the_order_stays_legal,
 };
-use crate::laws::latches_stay_fit;
+use crate::machine_laws::machines_stay_kept;
 use hb_frag::laws::{each_point_has_one_leaf, leaves_part_the_box, parts_are_stretches};
 use hb_layout::limits::limits_of_this_version;
 
@@ -86,11 +85,7 @@ pub fn steps_keep_all()
     ensures begun { BegunKeepsAll }
 {
     a_beginning_keeps_all();
-    latches_stay_fit();
-    room_stays_known();
-    lines_stay_fit();
-    turns_stay();
-    pages_stay_pages_of_the_file();
+    machines_stay_kept();
     files_stay_sound();
     the_order_stays_legal();
 }

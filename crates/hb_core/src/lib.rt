@@ -19,6 +19,7 @@ pub mod examples;
 pub mod file_laws;
 pub mod keeping_laws;
 pub mod laws;
+pub mod machine_laws;
 pub mod outcome_laws;
 mod outcomes;
 pub mod progress_laws;
