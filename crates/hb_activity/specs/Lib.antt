@@ -11,3 +11,4 @@ pub mod Deeds
 pub mod Sights
 pub mod Passing
 pub mod Stages
+pub mod OneDeed

@@ -1,2 +1,4 @@
 pub mod SessionRows
 pub mod SplitRows
+pub mod Laws
+pub mod Examples
