@@ -2,14 +2,13 @@
 use Rattle.std.specs.Prelude.{◌≡◌, ◌≢◌, ℕ, ◌+◌, ◌<◌, ◌≤◌, [], ◌∷◌, Some, None}
 use Rattle.hb_frag.specs.declared.pages.LivePage.{LivePage}
 use Rattle.hb_ops.specs.declared.operations.Op.{Op}
-use Rattle.hb_activity.specs.Deeds.{Deed}
 use Rattle.hb_activity.specs.Sights.{Sight}
 use Rattle.hb_ops.specs.Operations.{IsAllowedOn, reads_of}
 
--- this deed is one of the row, and no other is
-pub record IsOnly (row : Deed → Type 0) (deed : Deed) : Type 0 where
-  pub done : row deed
-  pub only : (other : Deed) → row other → other ≡ deed
+-- this deed is one of the row, and no other is; or this activity
+pub record IsOnly {X : Type 0} (row : X → Type 0) (one : X) : Type 0 where
+  pub done : row one
+  pub only : (other : X) → row other → other ≡ one
 
 -- The number that a page takes that is made is the one that the file gives: the head of the free chain, or where that has
 -- none the one behind the high mark.
