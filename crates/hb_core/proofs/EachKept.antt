@@ -2,6 +2,7 @@
 use Rattle.std.proofs.Common.{◌≡◌, ℕ, List, [], ◌∷◌, All, sym, subst}
 use Rattle.std.proofs.lemmas.List.Elements.{All-head, All-tail}
 use Rattle.hb_core.specs.declared.outcomes.Outcome.{Outcome}
+use Rattle.hb_core.proofs.AttributesKept.{attributes_fit_still}
 use Rattle.hb_core.proofs.ClassesKept.{classes_stay}
 use Rattle.hb_core.proofs.LinesFit.{lines_stay_fit}
 use Rattle.hb_core.proofs.MarksKept.{marks_rise_still}
@@ -14,7 +15,7 @@ use Rattle.hb_core.proofs.Turns.{turns_stay}
 use Rattle.hb_core.proofs.WalksKept.{walks_stay_in_space}
 use Rattle.hb_core.specs.FileLaws.{MarksStayInPlace, PagesStayOfFile}
 use Rattle.hb_core.specs.KeepingLaws.{RoomStaysKnown}
-use Rattle.hb_core.specs.KeptFits.{AttributesFit, WorkersStand}
+use Rattle.hb_core.specs.KeptFits.{WorkersStand}
 use Rattle.hb_core.specs.KeptMachine.{MachineKeeps}
 use Rattle.hb_core.specs.Laws.{LatchesStayFit}
 use Rattle.hb_core.specs.MachineLaws.{MachineStaysKept, MachinesStayKept}
@@ -32,14 +33,13 @@ pub record PartLaws : Type 0 where
   pub marks : MarksStayInPlace
   pub latches : LatchesStayFit
   pub room : RoomStaysKnown
-  pub attributes : StaysSo AttributesFit
   pub workers : StaysSo WorkersStand
 
 pub machine_stays_kept : PartLaws → MachineStaysKept
 machine_stays_kept laws m actor outcome new may keeps step = record {
   marks_in_place = laws.marks m actor outcome new keeps.lines_fit keeps.marks_in_place keeps.pages_of_file step;
   lines_fit = lines_stay_fit m actor outcome new keeps.lines_fit step;
-  attributes_fit = laws.attributes m actor outcome new may keeps step;
+  attributes_fit = attributes_fit_still m actor outcome new may keeps step;
   lines_in_turn = turns_stay m actor outcome new keeps.lines_in_turn step;
   order_short = order_stays_short m actor outcome new may keeps step;
   replies_stand = replies_stand m actor outcome new may keeps step;
