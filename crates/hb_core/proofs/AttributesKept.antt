@@ -1,5 +1,5 @@
 -- After a step the points and boxes of lines, jobs and boxes that remain have as many attributes as the file.
-use Rattle.std.proofs.Common.{◌≡◌, ◌≢◌, ◌⊎◌, inl, inr, ℕ, List, [], ◌∷◌, length, All, Option, Some, None, IfSome, refl, sym, ap, ◌∙◌, subst}
+use Rattle.std.proofs.Common.{◌≡◌, ◌≢◌, ◌⊎◌, inl, inr, ℕ, List, [], ◌∷◌, All, Option, Some, IfSome, refl, sym, ap, subst}
 use Rattle.std.proofs.lemmas.List.Elements.{All-cons, All-nil}
 use Rattle.hb_frag.specs.declared.pages.LivePage.{LivePage}
 use Rattle.hb_frag.specs.declared.pages.Page.TheVariants.{Live}
@@ -13,7 +13,7 @@ use Rattle.hb_activity.specs.declared.activities.Activity.TheVariants as at
 use Rattle.hb_core.specs.declared.outcomes.Outcome.{Outcome}
 use Rattle.hb_activity.specs.Classes.{Empty, Hand, HasLine, hand_of, job_in_work, job_of, line_in_hand, line_of}
 use Rattle.hb_activity.specs.Deeds.{Deed}
-use Rattle.hb_activity.specs.Queue.{LeavesBy, LeavesFirst}
+use Rattle.hb_activity.specs.Queue.{LeavesBy}
 use Rattle.hb_consol.specs.ConsolidatorRows.{IsMergingOf}
 use Rattle.hb_core.proofs.AddedJobs.{AddsFit, JobsFit, added_fit, first_fits, left_fit, row_adds}
 use Rattle.hb_core.proofs.BoxesAhead.{BoxesFit, HasBoxLeft, WalksAsSession, boxes_after, none_ahead}

@@ -5,7 +5,6 @@ use Rattle.std.specs.Option.{option_map}
 use Rattle.std.proofs.lemmas.List.{length-append}
 use Rattle.std.proofs.lemmas.List.Elements.{All-append, All-contains, All-nil}
 use Rattle.hb_space.specs.declared.records.Record.{Record}
-use Rattle.hb_frag.specs.declared.leaves.Leaf.TheVariants.{Records}
 use Rattle.hb_frag.specs.declared.pages.LivePage.{LivePage}
 use Rattle.hb_frag.specs.declared.pages.Page.TheVariants.{Live}
 use Rattle.hb_layout.specs.declared.meta.Meta.{Meta}
@@ -123,8 +122,7 @@ goal_at_hand area rest front last p is goal =
 -- the box of a leaf of a page of the file
 pub leaf_box : (meta : Meta) (page : LivePage) (p : List ℕ) (l : Placed) → IsGoodPage meta (Live page) → leaf_at page p ≡ Some l → IsBoxOf meta.k l.area × Holds l.area p
 leaf_box meta page p l good there =
-    let at_leaf = (first_tells page.frag page.area p l good.0.fits.1 good.1.well_cut).0 there in
-    (
+    let at_leaf = (first_tells page.frag page.area p l good.0.fits.1 good.1.well_cut).0 there in (
       (
         All-contains (λ (x : Placed). IsArea x.area) (leaves_of page.frag page.area) l (tiles_areas page.frag page.area good.0.fits.1 good.1.well_cut) at_leaf.0,
         All-contains (λ (x : Placed). length x.area.lo ≡ length page.area.lo) (leaves_of page.frag page.area) l (tiles_attributes page.frag page.area) at_leaf.0 ∙ good.1.fits.attributes,

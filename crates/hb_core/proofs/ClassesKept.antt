@@ -1,5 +1,5 @@
 -- After a step each actor is of the kind of its number.
-use Rattle.std.proofs.Common.{◌≡◌, inl, inr, ℕ, sym, ap, ◌∙◌, refl}
+use Rattle.std.proofs.Common.{◌≡◌, inl, inr, ℕ, sym, ap, ◌∙◌}
 use Rattle.hb_activity.specs.declared.activities.Activity.{Activity}
 use Rattle.hb_core.specs.declared.outcomes.Outcome.{Outcome}
 use Rattle.hb_activity.specs.Classes.{Consolidators, Posters, class_of}

@@ -1,19 +1,16 @@
 -- The deeds of steps: a step keeps all but the disk, takes a line or a job, does a row, or ends with nothing in hand.
-use Rattle.std.proofs.Common.{◌≡◌, ◌≢◌, inl, inr, ℕ, ◌==◌, true, false, Bool, cond, List, [], Option, Some, None, refl, sym, ap, ◌∙◌, subst}
+use Rattle.std.proofs.Common.{◌≡◌, ◌≢◌, inl, inr, ℕ, ◌==◌, Bool, cond, [], Some, None, refl, sym, ap, ◌∙◌, subst}
 use Rattle.std.proofs.lemmas.Bool.{cases_Bool, eqb-true, eqb-false}
-use Rattle.hb_layout.specs.declared.meta.Meta.{Meta}
 use Rattle.hb_set.specs.declared.commands.Reply.{Reply}
 use Rattle.hb_set.specs.declared.scripts.Line.{Line}
 use Rattle.hb_activity.specs.declared.dropping.DropWhy.{DropWhy}
-use Rattle.hb_activity.specs.declared.jobs.Job.{Job}
 use Rattle.hb_activity.specs.declared.activities.Activity.{Activity}
 use Rattle.hb_activity.specs.declared.activities.Activity.TheVariants as at
 use Rattle.hb_core.specs.declared.outcomes.Outcome.{Outcome}
 use Rattle.hb_core.specs.declared.outcomes.Outcome.TheVariants as outcomes
-use Rattle.hb_activity.specs.Classes.{Class, Sessions, Posters, Consolidators, Flushers, Hand, Empty, HasLine, HasJob, class_of, hand_of, idle_of}
+use Rattle.hb_activity.specs.Classes.{Class, Sessions, Posters, Consolidators, Flushers, Empty, HasLine, class_of, hand_of, idle_of}
 use Rattle.hb_activity.specs.Deeds.{Deed, answers_now}
 use Rattle.hb_core.proofs.GivenUp.{given_up_is, idle_hand, run_out_is}
-use Rattle.hb_core.proofs.MergerMoves.{Waits}
 use Rattle.hb_core.proofs.StepCases.{each_step}
 use Rattle.hb_core.proofs.StepKinds.{FlushesMore, rest_kind}
 use Rattle.hb_core.proofs.Ways.{KeepsAllButDisk, forces_so, meets_so, more_so, stays_so}

@@ -82,3 +82,5 @@ pub mod AddedJobs
 pub mod BoxesAhead
 pub mod MetaKept
 pub mod AttributesKept
+pub mod WalkingWorkers
+pub mod WorkersKept

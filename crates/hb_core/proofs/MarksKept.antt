@@ -1,11 +1,11 @@
 -- After a step the marks of the groups that wait don't fall, and none is behind the order's end.
-use Rattle.std.proofs.Common.{◌≡◌, inl, inr, ℕ, suc, ◌≤◌, List, [], ◌∷◌, ◌++◌, length, All, AllPairs, Option, Some, None, refl, sym, ap, ◌∙◌, subst, arith, append-nil}
+use Rattle.std.proofs.Common.{◌≡◌, inl, inr, ℕ, ◌≤◌, List, [], ◌∷◌, ◌++◌, length, All, AllPairs, Option, Some, None, refl, sym, ap, ◌∙◌, subst, arith}
 use Rattle.std.proofs.lemmas.List.{length-append}
 use Rattle.std.proofs.lemmas.List.Elements.{All-push, All-tail, All-weaker}
 use Rattle.hb_ops.specs.declared.operations.Op.{Op}
-use Rattle.hb_activity.specs.Deeds.{Deed}
 use Rattle.hb_core.specs.declared.outcomes.Outcome.{Outcome}
 use Rattle.hb_core.specs.declared.outcomes.Outcome.TheVariants as outcomes
+use Rattle.hb_activity.specs.Deeds.{Deed}
 use Rattle.hb_core.proofs.PendingKept.{IsBelow, rising_one_more, rising_rest}
 use Rattle.hb_core.proofs.StepKinds.{FlushesMore, each_kind, rest_kind}
 use Rattle.hb_core.specs.Forcing.{FailsToWrite, ForcesFirst, StaysSo}

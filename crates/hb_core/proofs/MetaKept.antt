@@ -1,12 +1,12 @@
 -- What an operation leaves of what the file says of itself: its number of attributes stays, and its height never falls.
-use Rattle.std.proofs.Common.{◌≡◌, ℕ, ◌+◌, ◌≤◌, Option, Some, None, refl, sym, ap, ◌∙◌, subst, arith}
+use Rattle.std.proofs.Common.{◌≡◌, ℕ, ◌≤◌, Option, Some, None, refl, sym, ap, ◌∙◌, subst, arith}
 use Rattle.hb_frag.specs.declared.pages.LivePage.{LivePage}
 use Rattle.hb_layout.specs.declared.meta.Meta.{Meta}
 use Rattle.hb_ops.specs.declared.operations.Op.{Op}
 use Rattle.hb_ops.specs.declared.operations.Op.TheVariants.{Put, Del, Extract, Post, Grow}
 use Rattle.hb_core.specs.Performing.{MayDo}
 use Rattle.hb_ops.specs.Operations.{change_of}
-use Rattle.hb_store.specs.Calls.{change_here, read_here}
+use Rattle.hb_store.specs.Calls.{read_here}
 use Rattle.hb_store.specs.States.{StoreState}
 
 pub record KeepsMeta (old new : Meta) : Type 0 where

@@ -14,12 +14,12 @@ use Rattle.hb_activity.specs.declared.jobs.Job.{Job}
 use Rattle.hb_activity.specs.declared.wanting.Wanted.{Wanted}
 use Rattle.hb_activity.specs.declared.activities.Activity.{Activity}
 use Rattle.hb_activity.specs.declared.activities.Activity.TheVariants as at
-use Rattle.hb_activity.specs.Classes.{Consolidators, Empty, HasJob, HasLine, Posters, Sessions, class_of, hand_of}
+use Rattle.hb_activity.specs.Classes.{Consolidators, Empty, HasJob, HasLine, Sessions, class_of, hand_of}
 use Rattle.hb_activity.specs.Deeds.{Deed}
 use Rattle.hb_activity.specs.Passing.{PassesOn}
 use Rattle.hb_activity.specs.Sights.{Sight}
 use Rattle.hb_activity.specs.Walks.{goal_of}
-use Rattle.hb_consol.specs.ConsolidatorRows.{after_try, children_of, one_behind, scans, tries, first_one, pair_from, ends_merging}
+use Rattle.hb_consol.specs.ConsolidatorRows.{after_try, children_of, one_behind, scans, tries}
 use Rattle.hb_consol.specs.MergeRows.{DoesMerge, after_keep}
 use Rattle.hb_core.specs.Machines.{Machine, sight}
 use Rattle.hb_core.specs.Rows.{DoesHere, Row, RowAlone, RowAt}

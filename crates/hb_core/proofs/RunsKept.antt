@@ -1,12 +1,11 @@
 -- After a step a machine that runs has a store that does: a failed write stops both, and neither begins again.
-use Rattle.std.proofs.Common.{◌≡◌, inl, inr, ℕ, Bool, false, Option, Some, None, refl, sym, ap, ◌∙◌}
+use Rattle.std.proofs.Common.{◌≡◌, inl, inr, ℕ, false, Option, Some, None, refl, sym, ap, ◌∙◌}
 use Rattle.hb_ops.specs.declared.operations.Op.{Op}
-use Rattle.hb_activity.specs.Deeds.{Deed}
 use Rattle.hb_store.specs.declared.stops.StopWhy.{StopWhy}
 use Rattle.hb_core.specs.declared.outcomes.Outcome.{Outcome}
 use Rattle.hb_core.specs.declared.outcomes.Outcome.TheVariants as outcomes
+use Rattle.hb_activity.specs.Deeds.{Deed}
 use Rattle.hb_core.proofs.StepKinds.{FlushesMore, each_kind, rest_kind}
-use Rattle.hb_core.specs.Acting.{MeetsBadPage}
 use Rattle.hb_core.specs.Forcing.{FailsToWrite, ForcesFirst, StaysSo}
 use Rattle.hb_core.specs.KeptFits.{RunsWithStore}
 use Rattle.hb_core.specs.KeptMachine.{MachineKeeps}
