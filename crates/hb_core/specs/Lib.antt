@@ -34,3 +34,13 @@ pub mod Showing
 pub mod MomentLaws
 pub mod ProgressLaws
 pub mod Examples
+pub mod Scenes
+pub mod OneInsert
+pub mod ChainOfTwo
+pub mod ChainOfPosting
+pub mod ChainBesidePoster
+pub mod ChainOfFullLog
+pub mod ChainOfCommands
+pub mod ChainOfFreePage
+pub mod ChainOfMerging
+pub mod ChainOfReadFault
