@@ -1,6 +1,5 @@
 -- The operation of a row is allowed on the pages in memory, and its points and boxes have the file's number of attributes.
-use Rattle.std.proofs.Common.{◌≡◌, Option, refl, subst}
-use Rattle.hb_ops.specs.declared.operations.Op.{Op}
+use Rattle.std.proofs.Common.{refl, subst}
 use Rattle.hb_core.proofs.FitOps.{HeldArePoints, fits_op}
 use Rattle.hb_core.proofs.KeptPages.{brought, keeps_pages}
 use Rattle.hb_core.proofs.PutHalves.{rows_can_be_done}
