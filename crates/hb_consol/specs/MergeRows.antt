@@ -4,12 +4,14 @@ use Rattle.hb_frag.specs.declared.pages.LivePage.{LivePage}
 use Rattle.hb_ops.specs.declared.operations.Op.{Op}
 use Rattle.hb_terms.specs.declared.merging.MergePlan.{MergePlan}
 use Rattle.hb_terms.specs.declared.merging.MergePlan.TheVariants as plans
+use Rattle.hb_activity.specs.declared.activities.Activity.{Activity}
+use Rattle.hb_activity.specs.declared.activities.Activity.TheVariants as at
 use Rattle.hb_activity.specs.declared.jobs.Job.{Job}
 use Rattle.hb_activity.specs.declared.jobs.JobKind.TheVariants as kinds
 use Rattle.hb_activity.specs.declared.activities.Activity.TheVariants.{ConsolidatorIdle, ConsolidatorDecide}
 use Rattle.hb_activity.specs.Deeds.{Deed, does, moves_to}
 use Rattle.hb_activity.specs.Sights.{Sight}
-use Rattle.hb_consol.specs.ConsolidatorRows.{HasMergePlan, ends_merging}
+use Rattle.hb_consol.specs.ConsolidatorRows.{HasMergePlan, ends_merging, ArrivesToMerge, ConsolidatorPasses, Scans, TriesPair}
 use Rattle.hb_frag.specs.Leaves.{first_named, siblings_of, weight_of}
 use Rattle.hb_space.specs.Boxes.{Area}
 
@@ -53,3 +55,13 @@ DoesMerge s job parent keep gone above other deed = deed ≡ ends_merging
 pub record Decides (s : Sight) (job : Job) (parent keep gone : ℕ) (page : LivePage) (deed : Deed) : Type 0 where
   pub has : HasMergePlan s parent keep gone page
   pub does_it : DoesMerge s job parent keep gone has.above has.plan deed
+
+-- the row of the consolidator, by where it stands, at the page that its step latched
+abbrev pub ConsolidatorRow : Activity → Sight → ℕ → LivePage → Deed → Type 0
+ConsolidatorRow (at.ConsolidatorWalk job held) s id page deed = ArrivesToMerge job id page deed ⊎ ConsolidatorPasses job id page deed
+ConsolidatorRow (at.ConsolidatorScan job parent child) s id page deed = Scans s job parent child page deed
+ConsolidatorRow (at.ConsolidatorTry job parent keep gone leaf) s id page deed = TriesPair s job parent keep gone leaf page deed
+ConsolidatorRow (at.ConsolidatorPromote job parent keep gone) s id page deed = deed ≡ moves_to (at.ConsolidatorKeep job parent keep gone) []
+ConsolidatorRow (at.ConsolidatorKeep job parent keep gone) s id page deed = deed ≡ takes_keep job parent keep gone page
+ConsolidatorRow (at.ConsolidatorDecide job parent keep gone) s id page deed = Decides s job parent keep gone page deed
+ConsolidatorRow other s id page deed = ⊥

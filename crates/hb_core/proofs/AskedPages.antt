@@ -162,7 +162,7 @@ place_among (y ∷ xs) zero x is = (0, omega arith, let one : y ≡ x = cc in on
 place_among (y ∷ xs) (suc place) x is = let more = place_among xs place x is in (suc more.0, omega (arith, more.1), more.2)
 
 -- a child that a page names has a leaf
-named_leaf : (name : ℕ) (ls : List Leaf) → IsTrue (list_any (λ x. x == name) (child_names ls)) → Contains ls (Child name)
+pub named_leaf : (name : ℕ) (ls : List Leaf) → IsTrue (list_any (λ x. x == name) (child_names ls)) → Contains ls (Child name)
 named_leaf name [] named = cc
 named_leaf name (Records records ∷ rest) named = let more = named_leaf name rest named in (suc more.0, omega (arith, more.1), more.2)
 named_leaf name (Sibling page ∷ rest) named = let more = named_leaf name rest named in (suc more.0, omega (arith, more.1), more.2)

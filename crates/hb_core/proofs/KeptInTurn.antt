@@ -6,18 +6,15 @@ use Rattle.hb_core.specs.declared.outcomes.Outcome.{Outcome}
 use Rattle.hb_core.proofs.NoDamage.{stays_undamaged}
 use Rattle.hb_core.proofs.PendingKept.{prefix_stays_pending, settled_stays_settled}
 use Rattle.hb_core.proofs.Prefixes.{files_have_prefixes}
-use Rattle.hb_core.proofs.SoundFiles.{keeps_marks}
-use Rattle.hb_core.proofs.StillThere.{nobody_else_comes, nobody_else_latches}
-use Rattle.hb_core.proofs.WalksKept.{walks_stay_in_space}
 use Rattle.hb_core.proofs.Ways.{order_grows}
 use Rattle.hb_core.specs.DamageLaws.{IsUndamaged}
-use Rattle.hb_core.specs.FileLaws.{FilesStaySound, LinesStayFit, PagesStayOfFile}
-use Rattle.hb_core.specs.KeepingLaws.{AnswersSearches, BegunKeepsAll, ChangesKeepAll, HasKeptAll, RoomStaysKnown, StepsKeepAll, StepsRightly}
-use Rattle.hb_core.specs.Keeps.{CoreKeeps}
+use Rattle.hb_core.specs.FileLaws.{FilesStaySound}
+use Rattle.hb_core.specs.KeepingLaws.{AnswersSearches, BegunKeepsAll, ChangesKeepAll, HasKeptAll, StepsKeepAll, StepsRightly}
+use Rattle.hb_core.specs.KeptMachine.{CoreKeeps}
 use Rattle.hb_core.specs.KeptTurns.{IsInTurn}
-use Rattle.hb_core.specs.Laws.{LatchesStayFit}
+use Rattle.hb_core.specs.MachineLaws.{MachineStaysKept}
 use Rattle.hb_core.specs.Machines.{Files, Machine, settled_count}
-use Rattle.hb_core.specs.OrderLaws.{OrderStaysLegal, TurnsStay}
+use Rattle.hb_core.specs.OrderLaws.{OrderStaysLegal}
 use Rattle.hb_core.specs.SteppingLaws.{BeginningKeepsAll, HasNoSearches}
 use Rattle.hb_core.specs.Steps.{StepsInTurn, StepsTo}
 use Rattle.hb_latch.specs.Tables.{MayLatch}
@@ -28,31 +25,20 @@ use Rattle.hb_set.specs.Order.{Entry}
 
 -- the laws of one step that are contracts
 pub record StepLaws : Type 0 where
-  pub latches : LatchesStayFit
-  pub room : RoomStaysKnown
-  pub lines : LinesStayFit
-  pub turns : TurnsStay
-  pub pages : PagesStayOfFile
+  pub kept : MachineStaysKept
   pub files : FilesStaySound
   pub order : OrderStaysLegal
 
 module _ (laws : StepLaws) (n : RecordSet) where
   kept_by_step : (m : Machine) (files : Files) (actor : ℕ) (outcome : Outcome) (new : Machine) → MayLatch actor → CoreKeeps n m files → StepsTo m actor outcome new → AnswersSearches m new → (files' : Files) × CoreKeeps n new files'
   kept_by_step m files actor outcome new may keeps step right =
-      let after = laws.files m files actor outcome new keeps.told keeps.lines_fit keeps.pages_of_file keeps.sound_file step in
-      let legal = laws.order n m files after.0 actor outcome new keeps.told keeps.lines_fit keeps.pages_of_file keeps.sound_file keeps.lines_in_turn keeps.order_legal (right files keeps.told) step after.1 in (
+      let after = laws.files m files actor outcome new keeps.told keeps.kept.lines_fit keeps.kept.pages_of_file keeps.sound_file step in
+      let legal = laws.order n m files after.0 actor outcome new keeps.told keeps.kept.lines_fit keeps.kept.pages_of_file keeps.sound_file keeps.kept.lines_in_turn keeps.order_legal (right files keeps.told) step after.1 in (
         after.0,
         record {
           told = after.1;
-          lines_fit = laws.lines m actor outcome new keeps.lines_fit step;
-          lines_in_turn = laws.turns m actor outcome new keeps.lines_in_turn step;
-          pages_of_file = laws.pages m actor outcome new keeps.lines_fit (keeps_marks m files keeps.sound_file) keeps.pages_of_file step;
+          kept = laws.kept m actor outcome new may keeps.kept step;
           sound_file = after.2;
-          latches_fit = laws.latches m actor outcome new may keeps.latches_fit keeps.pages_of_file step;
-          nobody_else = nobody_else_comes m actor outcome new may keeps.nobody_else step;
-          no_other_latches = nobody_else_latches m actor outcome new may keeps.no_other_latches step;
-          walk_in_space = walks_stay_in_space m actor outcome new may keeps.latches_fit keeps.pages_of_file keeps.nobody_else keeps.walk_in_space step;
-          room_known = laws.room m files actor outcome new may keeps.told keeps.latches_fit keeps.pages_of_file keeps.sound_file keeps.nobody_else keeps.room_known step;
           order_legal = legal;
           pending_prefix = prefix_stays_pending n m files actor outcome new after.0 keeps.told after.1 keeps.sound_file keeps.order_legal keeps.pending_prefix step legal.legal;
         },
@@ -72,7 +58,7 @@ module _ (laws : StepLaws) (n : RecordSet) where
         keeps = kept.keeps;
         prefixes = kept.prefixes;
         settled = omega (arith, rises, further);
-        undamaged = λ well. kept.undamaged (stays_undamaged m files actor outcome next may keeps.told keeps.latches_fit keeps.sound_file keeps.walk_in_space step well);
+        undamaged = λ well. kept.undamaged (stays_undamaged m files actor outcome next may keeps.told keeps.kept.latches_fit keeps.sound_file keeps.kept.walk_in_space step well);
       }
 
   kept_in_turn : (actors : List ℕ) (m : Machine) (files : Files) (new : Machine) → All MayLatch actors → CoreKeeps n m files → StepsRightly actors m new → (files' : Files) × HasKeptAll n m new files'
@@ -87,9 +73,9 @@ module _ (laws : StepLaws) (n : RecordSet) where
   no_search_now : (m : Machine) (actor : ℕ) (outcome : Outcome) (new : Machine) → HasNoSearches m → StepsTo m actor outcome new → HasNoSearches new
   no_search_now m actor outcome new none step = subst (λ (lines : List Line). All (λ (line : Line). ¬ (WantsBoxes line.command)) lines) (sym (order_grows m actor outcome new step).0) none
 
-  never_searches : (m : Machine) (files : Files) (actor : ℕ) (outcome : Outcome) (new : Machine) → HasNoSearches m → CoreKeeps n m files → StepsTo m actor outcome new → AnswersSearches m new
-  never_searches m files actor outcome new none keeps step before told entry is wants =
-      let turns = laws.turns m actor outcome new keeps.lines_in_turn step in
+  never_searches : (m : Machine) (files : Files) (actor : ℕ) (outcome : Outcome) (new : Machine) → MayLatch actor → HasNoSearches m → CoreKeeps n m files → StepsTo m actor outcome new → AnswersSearches m new
+  never_searches m files actor outcome new may none keeps step before told entry is wants =
+      let turns = (laws.kept m actor outcome new may keeps.kept step).lines_in_turn in
       let there : Contains new.order entry = subst (λ (es : List Entry). Contains es entry) (sym is) (Contains-push m.order entry) in
       let in_turn = All-contains (IsInTurn new) new.order entry turns.placed there in
       absurd (All-contains (λ (line : Line). ¬ (WantsBoxes line.command)) new.lines entry.line (no_search_now m actor outcome new none step) in_turn.among wants)
@@ -97,9 +83,10 @@ module _ (laws : StepLaws) (n : RecordSet) where
   kept_without : (actors : List ℕ) (m : Machine) (files : Files) (new : Machine) → All MayLatch actors → HasNoSearches m → CoreKeeps n m files → StepsInTurn actors m new → (files' : Files) × HasKeptAll n m new files'
   kept_without [] m files new may none keeps is = (files, nothing_done m files new keeps is)
   kept_without (actor ∷ rest) m files new may none keeps (outcome, next, step, steps) =
-      let after = kept_by_step m files actor outcome next (All-head MayLatch actor rest may) keeps step (never_searches m files actor outcome next none keeps step) in
+      let first = All-head MayLatch actor rest may in
+      let after = kept_by_step m files actor outcome next first keeps step (never_searches m files actor outcome next first none keeps step) in
       let kept = kept_without rest next after.0 new (All-tail MayLatch actor rest may) (no_search_now m actor outcome next none step) after.1 steps in
-      (kept.0, one_more m files actor outcome next new kept.0 (All-head MayLatch actor rest may) keeps step kept.1)
+      (kept.0, one_more m files actor outcome next new kept.0 first keeps step kept.1)
 
 pub steps_keep_all : StepLaws → StepsKeepAll
 steps_keep_all laws n actors m files new may keeps steps = kept_in_turn laws n actors m files new may keeps steps

@@ -1,12 +1,15 @@
 -- The parent at which a consolidator stands names the pages that it knows, after each of its rows, and while another one steps.
-use Rattle.std.proofs.Common.{◌≡◌, ◌⊎◌, inl, inr, ℕ, suc, ◌+◌, ◌-◌, ◌==◌, not, ◌&&◌, ◌||◌, Bool, true, false, cond, List, [], ◌∷◌, filter, slice_get, All, Option, Some, None, IsSome, IfSome, IsTrue, option_map, refl, sym, ap, ◌∙◌, subst, arith}
+use Rattle.std.proofs.Common.{◌≡◌, ◌⊎◌, inl, inr, ℕ, suc, ◌+◌, ◌-◌, ◌<◌, ◌==◌, not, ◌&&◌, ◌||◌, Bool, true, false, cond, List, [], ◌∷◌, filter, slice_get, All, Option, Some, None, IsSome, IfSome, IsTrue, option_map, refl, sym, ap, ◌∙◌, subst, arith}
 use Rattle.std.specs.List.{list_any}
 use Rattle.std.proofs.lemmas.Option.{same_Some}
 use Rattle.std.proofs.lemmas.Bool.{cases_Bool, eq-eqb}
-use Rattle.std.proofs.lemmas.List.Elements.{All-cons, All-head, All-nil}
+use Rattle.std.proofs.lemmas.List.Elements.{All-cons, All-contains, All-head, All-nil}
 use Rattle.hb_frag.specs.declared.leaves.Leaf.{Leaf}
 use Rattle.hb_frag.specs.declared.leaves.Leaf.TheVariants.{Records, Child, Sibling}
 use Rattle.hb_frag.specs.declared.pages.LivePage.{LivePage}
+use Rattle.hb_frag.specs.declared.pages.Page.TheVariants.{Live}
+use Rattle.hb_layout.specs.declared.meta.Meta.{Meta}
+use Rattle.hb_activity.specs.declared.wanting.Wanted.{Wanted}
 use Rattle.hb_latch.specs.declared.modes.Mode.{Mode}
 use Rattle.hb_latch.specs.declared.modes.Mode.TheVariants.{Shared, Update, Exclusive}
 use Rattle.hb_terms.specs.declared.merging.MergePlan.{MergePlan}
@@ -20,6 +23,7 @@ use Rattle.hb_activity.specs.Walks.{walk_held}
 use Rattle.hb_activity.specs.Wanting.{wanted_of, wanted_page}
 use Rattle.hb_consol.specs.ConsolidatorRows.{after_try, children_of, first_one, names_child, one_behind, one_on, pair_among, pair_from, scans, tries}
 use Rattle.hb_consol.specs.MergeRows.{after_keep}
+use Rattle.hb_core.proofs.AskedPages.{named_leaf}
 use Rattle.hb_core.proofs.MergerMoves.{StaysMerger, decided, of_page}
 use Rattle.hb_core.proofs.NextPlaces.{AsksFor, HoldsNothing, MergesOn, now}
 use Rattle.hb_core.specs.Asking.{looked_live}
@@ -28,8 +32,9 @@ use Rattle.hb_core.specs.Machines.{Machine, live_here, sight}
 use Rattle.hb_core.specs.Performing.{latches_held, mode_among}
 use Rattle.hb_core.specs.Rows.{RowAt}
 use Rattle.hb_frag.specs.Leaves.{child_names, first_named, firsts, leaves, siblings_of}
+use Rattle.hb_frag.specs.Rules.{BelongsAt}
 use Rattle.hb_space.specs.Boxes.{Area}
-use Rattle.hb_store.specs.States.{StoreState}
+use Rattle.hb_store.specs.States.{IsGoodPage, StoreState}
 
 -- ---- in a memory that has its pages
 
@@ -46,9 +51,9 @@ names_still old new place named stays = record {
   pair = by place.pair stays.pair named.pair;
 }
   where
-    by : (o : Option PairHeld) → ((pair : PairHeld) → o ≡ Some pair → (page : LivePage) → live_here old pair.keep ≡ Some page → live_here new pair.keep ≡ Some page) → IfSome o (KeepsPair old) → IfSome o (KeepsPair new)
+    by : (o : Option PairHeld) → ((pair : PairHeld) → o ≡ Some pair → (page : LivePage) → live_here old pair.keep ≡ Some page → live_here new pair.keep ≡ Some page) → IfSome o (KeepsPair old named.page) → IfSome o (KeepsPair new named.page)
     by None moves kept = tt
-    by (Some pair) moves kept = record { page = kept.page; live = moves pair refl kept.page kept.live; gave = kept.gave }
+    by (Some pair) moves kept = record { page = kept.page; live = moves pair refl kept.page kept.live; level = kept.level; gave = kept.gave }
 
 pub named_again : (old new : StoreState) (o : Option AtParent) → ((place : AtParent) → o ≡ Some place → PlaceStays old new place) → IfSome o (NamesKnown old) → IfSome o (NamesKnown new)
 named_again old new None stays named = tt
@@ -215,7 +220,16 @@ pub record HasMergePlace (st : StoreState) (next : Activity) : Type 0 where
   pub is : merging_at next ≡ Some place
   pub named : NamesKnown st place
 
-module _ (m : Machine) (actor : ℕ) (fetched : StoreState) (before : (place : AtParent) → merging_at (m.activity actor) ≡ Some place → NamesKnown fetched place) where
+-- a page that names a child is above the records
+pub above_records : (meta : Meta) (page : LivePage) (name : ℕ) → IsGoodPage meta (Live page) → IsTrue (names_child page name) → 0 < page.level
+above_records meta page name good named = All-contains (BelongsAt page.level) (leaves page.frag) (Child name) good.1.filled.kinds (named_leaf name (leaves page.frag) named)
+
+-- What is known of the place stands in the memory before the step, and what came into memory has the same pages there.
+module _ (m : Machine) (actor : ℕ) (fetched : StoreState) (good : (id : ℕ) (page : LivePage) → live_here fetched id ≡ Some page → IsGoodPage m.store.meta (Live page))
+    (known : (place : AtParent) → merging_at (m.activity actor) ≡ Some place → NamesKnown m.store place) (stays : (place : AtParent) → merging_at (m.activity actor) ≡ Some place → PlaceStays m.store fetched place) where
+  before : (place : AtParent) → merging_at (m.activity actor) ≡ Some place → NamesKnown fetched place
+  before place is = names_still m.store fetched place (known place is) (stays place is)
+
   abbrev here : Machine
   here = now m actor fetched
 
@@ -243,8 +257,8 @@ module _ (m : Machine) (actor : ℕ) (fetched : StoreState) (before : (place : A
   behind_named : (above : LivePage) (keep id : ℕ) → one_behind keep (children_of above) ≡ Some id → IsTrue (names_child above id)
   behind_named above keep id is = any_first id (child_names (leaves above.frag)) (behind_listed id keep (children_of above) is)
 
-  try_lands : (job : Job) (parent keep : ℕ) (above kept : LivePage) (from : ℕ) → IsParent job parent above → IsTrue (names_child above keep) → live_here fetched keep ≡ Some kept → Lands (tries job parent above keep (pair_from above kept from)).next
-  try_lands job parent keep above kept from (live, level) named kept_live = by (pair_from above kept from) (pair_found above from (leaves kept.frag))
+  try_lands : (job : Job) (parent keep : ℕ) (above kept : LivePage) (from : ℕ) → IsParent job parent above → IsTrue (names_child above keep) → live_here fetched keep ≡ Some kept → kept.level + 1 ≡ above.level → Lands (tries job parent above keep (pair_from above kept from)).next
+  try_lands job parent keep above kept from (live, level) named kept_live below = by (pair_from above kept from) (pair_found above from (leaves kept.frag))
     where
       by : (pair : Option (ℕ × ℕ)) → ((gone leaf : ℕ) → pair ≡ Some (gone, leaf) → IsPair above (leaves kept.frag) gone leaf) → Lands (tries job parent above keep pair).next
       by None found = scan_lands job parent above (one_behind keep (children_of above)) (live, level) (behind_named above keep)
@@ -258,48 +272,75 @@ module _ (m : Machine) (actor : ℕ) (fetched : StoreState) (before : (place : A
               live = live;
               level = level;
               names = All-cons (λ id. IsTrue (names_child above id)) keep (gone ∷ []) named (All-cons (λ id. IsTrue (names_child above id)) gone [] pair.named (All-nil _));
-              pair = record { page = kept; live = kept_live; gave = pair.at_place };
+              pair = record { page = kept; live = kept_live; level = below; gave = pair.at_place };
             };
           })
 
   -- what was known of the place, of the page that the row has
-  known_as : (job : Job) (parent : ℕ) (known : List ℕ) (pair : Option PairHeld) (above : LivePage) → merging_at (m.activity actor) ≡ knows job parent known pair → live_here fetched parent ≡ Some above
-      → IsParent job parent above × All (λ id. IsTrue (names_child above id)) known
-  known_as job parent known pair above is live =
+  known_as : (job : Job) (parent : ℕ) (names : List ℕ) (pair : Option PairHeld) (above : LivePage) → merging_at (m.activity actor) ≡ knows job parent names pair → live_here fetched parent ≡ Some above
+      → IsParent job parent above × All (λ id. IsTrue (names_child above id)) names
+  known_as job parent names pair above is live =
       let named = before _ is in
       let same = one_page named.page above parent named.live live in
-      ((live, ap (λ (q : LivePage). q.level) (sym same) ∙ named.level), subst (λ (q : LivePage). All (λ id. IsTrue (names_child q id)) known) same named.names)
+      ((live, ap (λ (q : LivePage). q.level) (sym same) ∙ named.level), subst (λ (q : LivePage). All (λ id. IsTrue (names_child q id)) names) same named.names)
 
   plan_lands : (job : Job) (parent keep gone leaf : ℕ) (above kept : LivePage) (plan : MergePlan) → m.activity actor ≡ at.ConsolidatorTry job parent keep gone leaf → live_here fetched parent ≡ Some above → live_here fetched keep ≡ Some kept → Lands (after_try job parent keep gone leaf above kept plan).next
   plan_lands job parent keep gone leaf above kept plan is live kept_live = by plan
     where
-      known : IsParent job parent above × All (λ id. IsTrue (names_child above id)) (keep ∷ gone ∷ [])
-      known = known_as job parent (keep ∷ gone ∷ []) _ above (ap merging_at is) live
+      about : IsParent job parent above × All (λ id. IsTrue (names_child above id)) (keep ∷ gone ∷ [])
+      about = known_as job parent (keep ∷ gone ∷ []) _ above (ap merging_at is) live
+
+      below : kept.level + 1 ≡ above.level
+      below =
+          let named : NamesKnown fetched (record { job = job; parent = parent; known = keep ∷ gone ∷ []; pair = Some (record { keep = keep; gone = gone; leaf = Some leaf }) }) = before _ (ap merging_at is) in
+          let over : named.page.level ≡ above.level = ap (λ (q : LivePage). q.level) (one_page named.page above parent named.live live) in
+          let same : named.pair.page.level ≡ kept.level = ap (λ (q : LivePage). q.level) (one_page named.pair.page kept keep named.pair.live kept_live) in
+          let one = named.pair.level in
+          omega (arith, over, same, one)
 
       on : Lands (tries job parent above keep (pair_from above kept (leaf + 1))).next
-      on = try_lands job parent keep above kept (leaf + 1) known.0 (All-head (λ id. IsTrue (names_child above id)) keep (gone ∷ []) known.1) kept_live
+      on = try_lands job parent keep above kept (leaf + 1) about.0 (All-head (λ id. IsTrue (names_child above id)) keep (gone ∷ []) about.1) kept_live below
 
       by : (plan : MergePlan) → Lands (after_try job parent keep gone leaf above kept plan).next
-      by plans.Merge = inr (record { place = _; is = refl; named = record { page = above; live = live; level = known.0.1; names = known.1; pair = tt } })
+      by plans.Merge = inr (record { place = _; is = refl; named = record { page = above; live = live; level = about.0.1; names = about.1; pair = tt } })
       by plans.NotContained = on
       by plans.ManyParents = on
       by plans.TooHeavy = on
 
-  keep_lands : (job : Job) (parent keep gone : ℕ) (page : LivePage) (area : Option Area) → first_named gone (siblings_of page) ≡ area → m.activity actor ≡ at.ConsolidatorKeep job parent keep gone → live_here fetched keep ≡ Some page → Lands (after_keep job parent keep gone area).next
-  keep_lands job parent keep gone page None found is live = idle
-  keep_lands job parent keep gone page (Some area) found is live =
+  -- it was so before the step
+  stood : (job : Job) (parent : ℕ) (names : List ℕ) (pair : Option PairHeld) (above : LivePage) → merging_at (m.activity actor) ≡ knows job parent names pair → live_here fetched parent ≡ Some above → live_here m.store parent ≡ Some above
+  stood job parent names pair above is live =
+      let named = known _ is in
+      named.live ∙ ap (λ (q : LivePage). Some q) (one_page named.page above parent ((stays _ is).parent named.page named.live) live)
+
+  -- a page that is at hand as a child of the parent is one level below it
+  one_below : (activity : Activity) (id named : ℕ) (mode : Mode) (page above : LivePage) → m.activity actor ≡ activity → AsksFor m actor id page
+      → ((o : Option LivePage) → wanted_of activity m.store.meta o ≡ option_map (λ (page : LivePage). wanted_page named (page.level - 1) mode) o) → looked_live m.store activity ≡ Some above → 0 < above.level → page.level + 1 ≡ above.level
+  one_below activity id named mode page above is asks by_name looked some =
+      let wants : wanted_of activity m.store.meta (looked_live m.store activity) ≡ Some asks.wanted = subst (λ (a : Activity). wanted_of a m.store.meta (looked_live m.store a) ≡ Some asks.wanted) is asks.wants in
+      let there : Some (wanted_page named (above.level - 1) mode) ≡ Some asks.wanted = ap (option_map (λ (page : LivePage). wanted_page named (page.level - 1) mode)) (sym looked) ∙ sym (by_name (looked_live m.store activity)) ∙ wants in
+      let level : above.level - 1 ≡ asks.wanted.level = ap (λ (w : Wanted). w.level) (same_Some (wanted_page named (above.level - 1) mode) asks.wanted there) in
+      let found = asks.level in
+      omega (arith, level, found, some)
+
+  keep_lands : (job : Job) (parent keep gone id : ℕ) (page : LivePage) (area : Option Area) → first_named gone (siblings_of page) ≡ area → m.activity actor ≡ at.ConsolidatorKeep job parent keep gone → AsksFor m actor id page → live_here fetched keep ≡ Some page → Lands (after_keep job parent keep gone area).next
+  keep_lands job parent keep gone id page None found is asks live = idle
+  keep_lands job parent keep gone id page (Some area) found is asks live =
+      let keeping : Activity = at.ConsolidatorKeep job parent keep gone in
       let named = before _ (ap merging_at is) in
+      let some = above_records m.store.meta named.page keep (good parent named.page named.live) (All-head (λ (name : ℕ). IsTrue (names_child named.page name)) keep (gone ∷ []) named.names) in
+      let below = one_below keeping id keep Exclusive page named.page is asks (λ o. refl) (stood job parent (keep ∷ gone ∷ []) None named.page (ap merging_at is) named.live) some in
       inr (record {
         place = _;
         is = refl;
-        named = record { page = named.page; live = named.live; level = named.level; names = named.names; pair = record { page = page; live = live; gave = subst (λ (o : Option Area). IsSome o) (sym found) refl } };
+        named = record { page = named.page; live = named.live; level = named.level; names = named.names; pair = record { page = page; live = live; level = below; gave = subst (λ (o : Option Area). IsSome o) (sym found) refl } };
       })
 
   landed : (deed other : Deed) → deed ≡ other → Lands other.next → Lands deed.next
   landed deed other is lands = subst (λ (d : Deed). Lands d.next) (sym is) lands
 
   -- the page at hand is the one that the activity names
-  at_named : (activity : Activity) (id named : ℕ) (level : LivePage → ℕ) (mode : Mode) (page : LivePage) → m.activity actor ≡ activity → AsksFor m actor id
+  at_named : (activity : Activity) (id named : ℕ) (level : LivePage → ℕ) (mode : Mode) (page : LivePage) → m.activity actor ≡ activity → AsksFor m actor id page
       → ((o : Option LivePage) → wanted_of activity m.store.meta o ≡ option_map (λ (page : LivePage). wanted_page named (level page) mode) o) → live_here fetched id ≡ Some page → live_here fetched named ≡ Some page
   at_named activity id named level mode page is asks by_name live =
       let wants : wanted_of activity m.store.meta (looked_live m.store activity) ≡ Some asks.wanted = subst (λ (a : Activity). wanted_of a m.store.meta (looked_live m.store a) ≡ Some asks.wanted) is asks.wants in
@@ -313,21 +354,23 @@ module _ (m : Machine) (actor : ℕ) (fetched : StoreState) (before : (place : A
       nothing : None ≡ Some id → ⊥
       nothing is = cc
 
-  lands : (activity : Activity) (id : ℕ) (page : LivePage) (deed : Deed) → m.activity actor ≡ activity → AsksFor m actor id → live_here fetched id ≡ Some page → IsMerging activity → RowAt activity (sight here) id page deed → StaysMerger here deed → Lands deed.next
+  lands : (activity : Activity) (id : ℕ) (page : LivePage) (deed : Deed) → m.activity actor ≡ activity → AsksFor m actor id page → live_here fetched id ≡ Some page → IsMerging activity → RowAt activity (sight here) id page deed → StaysMerger here deed → Lands deed.next
   lands (at.ConsolidatorWalk job held) id page deed is asks live kind (inl row) stays =
       landed deed _ row.deed_is (scan_lands job id page (first_one (children_of page)) (live, row.level) (λ child first. any_first child (child_names (leaves page.frag)) (first_listed child (children_of page) first)))
   lands (at.ConsolidatorWalk job held) id page deed is asks live kind (inr row) stays = absurd (stays_none id deed stays (ap (λ (d : Deed). walk_held d.next) row.passes.deed_is))
   lands (at.ConsolidatorScan job parent child) id page deed is asks live kind row stays =
       let scan : Activity = at.ConsolidatorScan job parent child in
-      let known = known_as job parent (child ∷ []) None row.above (ap merging_at is) row.live in
-      landed deed _ row.deed_is (try_lands job parent child row.above page 0 known.0 (All-head (λ id. IsTrue (names_child row.above id)) child [] known.1) (at_named scan id child _ Shared page is asks (λ o. refl) live))
+      let about = known_as job parent (child ∷ []) None row.above (ap merging_at is) row.live in
+      let named : IsTrue (names_child row.above child) = All-head (λ (name : ℕ). IsTrue (names_child row.above name)) child [] about.1 in
+      let below = one_below scan id child Shared page row.above is asks (λ o. refl) (stood job parent (child ∷ []) None row.above (ap merging_at is) row.live) (above_records m.store.meta row.above child (good parent row.above row.live) named) in
+      landed deed _ row.deed_is (try_lands job parent child row.above page 0 about.0 named (at_named scan id child _ Shared page is asks (λ o. refl) live) below)
   lands (at.ConsolidatorTry job parent keep gone leaf) id page deed is asks live kind row stays = landed deed _ row.deed_is (plan_lands job parent keep gone leaf row.has.above row.has.kept row.has.plan is row.has.above_live row.has.kept_live)
   lands (at.ConsolidatorPromote job parent keep gone) id page deed is asks live kind row stays =
       let named = before _ (ap merging_at is) in
       landed deed _ row (inr (record { place = _; is = refl; named = record { page = named.page; live = named.live; level = named.level; names = named.names; pair = tt } }))
   lands (at.ConsolidatorKeep job parent keep gone) id page deed is asks live kind row stays =
       let keeping : Activity = at.ConsolidatorKeep job parent keep gone in
-      landed deed _ row (keep_lands job parent keep gone page (first_named gone (siblings_of page)) refl is (at_named keeping id keep _ Exclusive page is asks (λ o. refl) live))
+      landed deed _ row (keep_lands job parent keep gone id page (first_named gone (siblings_of page)) refl is asks (at_named keeping id keep _ Exclusive page is asks (λ o. refl) live))
   lands (at.ConsolidatorDecide job parent keep gone) id page deed is asks live kind row stays = landed deed _ (decided here job parent keep gone row.has.above row.has.plan deed row.does_it) idle
   lands at.SessionIdle id page deed is asks live kind row stays = absurd kind
   lands (at.SessionWalk line held rest found) id page deed is asks live kind row stays = absurd kind

@@ -85,11 +85,12 @@ pub record PartsFull (m : Machine) (actor : ℕ) (now : Machine) (deed : Deed) :
   pub before : m.activity actor ≡ at.SessionSplit line held
   pub row : Splits (sight now) line held deed
 
--- the page that an actor's step wants
-pub record AsksFor (m : Machine) (actor id : ℕ) : Type 0 where
+-- the page that an actor's step wants, and finds of the level that it wants
+pub record AsksFor (m : Machine) (actor id : ℕ) (found : LivePage) : Type 0 where
   pub wanted : Wanted
   pub wants : wanted_by m actor ≡ Some wanted
   pub page : wanted.page ≡ id
+  pub level : found.level ≡ wanted.level
 
 -- a consolidator arrives at a parent or goes on there, or is idle then
 pub record MergesOn (m : Machine) (actor : ℕ) (now : Machine) (deed : Deed) : Type 0 where
@@ -97,8 +98,8 @@ pub record MergesOn (m : Machine) (actor : ℕ) (now : Machine) (deed : Deed) : 
   pub before : m.activity actor ≡ activity
   pub kind : IsMerging activity
   pub id : ℕ
-  pub asks : AsksFor m actor id
   pub page : LivePage
+  pub asks : AsksFor m actor id page
   pub live : live_here now.store id ≡ Some page
   pub row : RowAt activity (sight now) id page deed
   pub stays : StaysMerger now deed
@@ -178,7 +179,7 @@ module _ (m : Machine) (actor : ℕ) (fetched : StoreState) where
 
   -- ---- the consolidator
 
-  merges_on : (activity : Activity) (id : ℕ) (page : LivePage) (deed : Deed) → m.activity actor ≡ activity → AsksFor m actor id → live_here fetched id ≡ Some page → IsMerging activity → RowAt activity (sight now) id page deed → StaysMerger now deed → HasPlace m actor now deed
+  merges_on : (activity : Activity) (id : ℕ) (page : LivePage) (deed : Deed) → m.activity actor ≡ activity → AsksFor m actor id page → live_here fetched id ≡ Some page → IsMerging activity → RowAt activity (sight now) id page deed → StaysMerger now deed → HasPlace m actor now deed
   merges_on activity id page deed is asks live kind row stays = inr (inr (inr (inr (inr (inr (record { activity = activity; before = is; kind = kind; id = id; asks = asks; page = page; live = live; row = row; stays = stays }))))))
 
   -- ---- the rows
@@ -205,7 +206,7 @@ module _ (m : Machine) (actor : ℕ) (fetched : StoreState) where
   after_row_alone (at.ConsolidatorDecide job parent keep gone) deed is row = absurd row
   after_row_alone at.Flusher deed is row = absurd row
 
-  after_row_at : (activity : Activity) (id : ℕ) (page : LivePage) (deed : Deed) → m.activity actor ≡ activity → AsksFor m actor id → live_here fetched id ≡ Some page → RowAt activity (sight now) id page deed → HasPlace m actor now deed
+  after_row_at : (activity : Activity) (id : ℕ) (page : LivePage) (deed : Deed) → m.activity actor ≡ activity → AsksFor m actor id page → live_here fetched id ≡ Some page → RowAt activity (sight now) id page deed → HasPlace m actor now deed
   after_row_at (at.SessionWalk line held rest found) id page deed is asks live row = after_walk id page line rest found (goal_of line.command rest) deed live refl row
   after_row_at (at.PosterGrow job) id page deed is asks live (inl row) = rests deed _ row.deed_is refl (λ st. refl) refl
   after_row_at (at.PosterGrow job) id page deed is asks live (inr row) = rests deed _ row.deed_is refl (λ st. refl) refl
@@ -233,7 +234,7 @@ module _ (m : Machine) (actor : ℕ) (fetched : StoreState) where
 
   pub place_after : (wanted : Option Wanted) (deed : Deed) → wanted_by m actor ≡ wanted → Row (m.activity actor) wanted now deed → HasPlace m actor now deed
   place_after None deed wants row = after_row_alone (m.activity actor) deed refl row
-  place_after (Some wanted) deed wants (page, hand, row) = after_row_at (m.activity actor) wanted.page page deed refl (record { wanted = wanted; wants = wants; page = refl }) hand.live row
+  place_after (Some wanted) deed wants (page, hand, row) = after_row_at (m.activity actor) wanted.page page deed refl (record { wanted = wanted; wants = wants; page = refl; level = hand.level }) hand.live row
 
 -- ---- what can't go on holds nothing
 

@@ -176,8 +176,8 @@ module _ (m : Machine) (files : Files) (actor : ℕ) (may : MayLatch actor) (fit
   abbrev at_parent_of : Job → ℕ → ℕ → ℕ → Option ℕ → AtParent
   at_parent_of job parent keep gone leaf = record { job = job; parent = parent; known = keep ∷ gone ∷ []; pair = Some (record { keep = keep; gone = gone; leaf = leaf }) }
 
-  at_pair : (job : Job) (parent keep gone : ℕ) (leaf : Option ℕ) → merging_at (m.activity actor) ≡ Some (at_parent_of job parent keep gone leaf) → KeepsPair m.store (record { keep = keep; gone = gone; leaf = leaf })
-  at_pair job parent keep gone leaf is = (subst (λ (o : Option AtParent). IfSome o (NamesKnown m.store)) is (walks.merging actor)).pair
+  at_pair : (job : Job) (parent keep gone : ℕ) (leaf : Option ℕ) → merging_at (m.activity actor) ≡ Some (at_parent_of job parent keep gone leaf) → (above : LivePage) × KeepsPair m.store above (record { keep = keep; gone = gone; leaf = leaf })
+  at_pair job parent keep gone leaf is = let known : NamesKnown m.store (at_parent_of job parent keep gone leaf) = subst (λ (o : Option AtParent). IfSome o (NamesKnown m.store)) is (walks.merging actor) in (known.page, known.pair)
 
   there : (activity : Activity) (wanted : Wanted) (asked : AskedBox) → m.activity actor ≡ activity → wanted_of activity m.store.meta (looked_live m.store activity) ≡ Some wanted → asked_box activity fetched ≡ Some asked → IsThere (current_file files) wanted asked
   there (at.SessionWalk line None rest found) wanted asked is wants asks = walk_begins (goal_of line.command rest) (session_mode line.command) wanted asked wants asks
@@ -195,7 +195,7 @@ module _ (m : Machine) (files : Files) (actor : ℕ) (may : MayLatch actor) (fit
   there (at.ConsolidatorPromote job parent keep gone) wanted asked is wants asks = cc
   there (at.ConsolidatorScan job parent child) wanted asked is wants asks = by_child parent child Shared (live_here m.store parent) wanted asked refl wants asks
   there (at.ConsolidatorTry job parent keep gone leaf) wanted asked is wants asks =
-      let one = at_pair job parent keep gone (Some leaf) (ap merging_at is) in
+      let one = (at_pair job parent keep gone (Some leaf) (ap merging_at is)).1 in
       placed_sibling_there (current_file files) sound_now keep one.page (in_file keep one.page one.live) gone leaf Shared (live_here fetched keep) wanted asked (still_asked keep one.page one.live (some_of_then _ (live_here fetched keep) asked asks)) one.gave
       (same_Some (wanted_page gone one.page.level Shared) wanted (sym (ap (λ (o : Option LivePage). option_map (λ (page : LivePage). wanted_page gone page.level Shared) o) one.live) ∙ wants)) asks
   there (at.ConsolidatorKeep job parent keep gone) wanted asked is wants asks = by_child parent keep Exclusive (live_here m.store parent) wanted asked refl wants asks
@@ -303,13 +303,13 @@ stays_undamaged m files actor outcome new may told fit has walks step = undamage
 
 pub kept_step_is_one : KeptStepIsOne
 kept_step_is_one n m files actor outcome other new next may keeps first second =
-    by (outcome_is_one m actor outcome other new next first second) (state_is_one m files actor outcome other new next keeps.told keeps.pages_of_file keeps.room_known first second)
+    by (outcome_is_one m actor outcome other new next first second) (state_is_one m files actor outcome other new next keeps.told keeps.kept.pages_of_file keeps.kept.room_known first second)
   where
     refused : (said : Outcome) (after : Machine) → IsTurnedAside m actor said after → IsRefusedOrFails m actor said after
     refused said after (inl search) = inl search
     refused said after (inr (inl force)) = inr (inl force)
     refused said after (inr (inr (inl gives))) = inr (inr gives)
-    refused said after (inr (inr (inr bad))) = absurd (no_page_is_damaged m files actor said after may keeps.told keeps.latches_fit keeps.sound_file keeps.walk_in_space bad)
+    refused said after (inr (inr (inr bad))) = absurd (no_page_is_damaged m files actor said after may keeps.told keeps.kept.latches_fit keeps.sound_file keeps.kept.walk_in_space bad)
 
     by : IsTurnedAside m actor outcome new ⊎ IsTurnedAside m actor other next ⊎ ComesToSame outcome other new next → IsTurnedAside m actor outcome new ⊎ IsTurnedAside m actor other next ⊎ AreOneButMemory new next
         → IsRefusedOrFails m actor outcome new ⊎ IsRefusedOrFails m actor other next ⊎ ((outcome ≡ other) × AreOneButMemory new next)

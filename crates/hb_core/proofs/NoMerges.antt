@@ -31,11 +31,11 @@ use Rattle.hb_core.proofs.StepCases.{each_step}
 use Rattle.hb_core.proofs.StepKinds.{rest_kind}
 use Rattle.hb_core.proofs.Ways.{KeepsAllButDisk, forces_so, meets_so, stays_so, more_so}
 use Rattle.hb_core.specs.GivingUp.{gives_up, runs_out}
+use Rattle.hb_core.specs.KeptFits.{class_for}
 use Rattle.hb_core.specs.Machines.{Machine, with_disk, sight}
 use Rattle.hb_core.specs.Performing.{Performs}
 use Rattle.hb_core.specs.Rows.{DoesHere, Row, RowAlone, RowAt}
 use Rattle.hb_core.specs.StageLaws.{BegunHasNothingToMerge, HasNothingToMerge, IsNoMerge, MergesNothing, NothingComesToMerge, NothingIsMerged}
-use Rattle.hb_core.specs.SteppingLaws.{IsAtRest}
 use Rattle.hb_core.specs.Steps.{TakesJob, TakesMerging, Works}
 use Rattle.hb_poster.specs.PosterRows.{DoesPlan, IsPostingOf, after_look}
 use Rattle.hb_search.specs.SearchRows.{SearchGoesOn}
@@ -259,29 +259,8 @@ nothing_is_merged (actor ∷ rest) m new has (outcome, next, step, steps) = noth
 
 -- ---- a beginning
 
-rests_apart : (activity : Activity) → IsAtRest activity → MergesNothing activity
-rests_apart at.SessionIdle rest = tt
-rests_apart (at.SessionWalk line held boxes found) rest = absurd rest
-rests_apart (at.SessionSplit line held) rest = absurd rest
-rests_apart (at.SessionPut line source fresh) rest = absurd rest
-rests_apart (at.SessionAwait line reply place) rest = absurd rest
-rests_apart at.PosterIdle rest = tt
-rests_apart (at.PosterGrow job) rest = absurd rest
-rests_apart (at.PosterWalk job held) rest = absurd rest
-rests_apart (at.PosterChild job parent) rest = absurd rest
-rests_apart (at.PosterPromote job parent) rest = absurd rest
-rests_apart (at.PosterAgain job parent) rest = absurd rest
-rests_apart at.ConsolidatorIdle rest = tt
-rests_apart (at.ConsolidatorWalk job held) rest = absurd rest
-rests_apart (at.ConsolidatorScan job parent child) rest = absurd rest
-rests_apart (at.ConsolidatorTry job parent keep gone leaf) rest = absurd rest
-rests_apart (at.ConsolidatorPromote job parent keep gone) rest = absurd rest
-rests_apart (at.ConsolidatorKeep job parent keep gone) rest = absurd rest
-rests_apart (at.ConsolidatorDecide job parent keep gone) rest = absurd rest
-rests_apart at.Flusher rest = tt
-
 pub begun_has_nothing : BegunHasNothingToMerge
-begun_has_nothing m s begun none = record {
-  waiting = subst (λ (l : List Job). All IsNoMerge l) (sym none) (All-nil IsNoMerge);
-  hands = λ actor. rests_apart (m.activity actor) (begun.resting actor);
+begun_has_nothing m begun = record {
+  waiting = subst (λ (l : List Job). All IsNoMerge l) (sym begun.no_job) (All-nil IsNoMerge);
+  hands = λ actor. subst MergesNothing (sym (begun.idle actor)) (idle_off (class_for actor));
 }

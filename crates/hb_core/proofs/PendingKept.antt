@@ -75,7 +75,7 @@ pub rising_rest : (groups : List Waiting) → AllPairs IsBelow groups → AllPai
 rising_rest [] rising = rising
 rising_rest (first ∷ rest) rising = λ i j d less inside. rising (suc i) (suc j) d (omega (arith, less)) (omega (arith, inside))
 
-rising_one_more : (groups : List Waiting) (last : Waiting) → All (λ (g : Waiting). g.mark ≤ last.mark) groups → AllPairs IsBelow groups → AllPairs IsBelow (groups ++ last ∷ [])
+pub rising_one_more : (groups : List Waiting) (last : Waiting) → All (λ (g : Waiting). g.mark ≤ last.mark) groups → AllPairs IsBelow groups → AllPairs IsBelow (groups ++ last ∷ [])
 rising_one_more [] last low rising = AllPairs-cons IsBelow last [] (All-nil (IsBelow last)) rising
 rising_one_more (first ∷ rest) last low rising =
     let firsts : All (IsBelow first) rest = λ k d lt. rising 0 (suc k) d (omega arith) (omega (arith, lt)) in

@@ -1,160 +1,181 @@
--- Of a page of level 0 that is split: where a point that it directly held is at home afterwards.
-use Rattle.std.proofs.Common.{◌≡◌, ◌⊎◌, inl, inr, ℕ, ◌+◌, ◌<◌, List, get_or, Option, Some, None, IsSome, refl, sym, ap, ◌∙◌, arith}
-use Rattle.std.specs.FinMap as finite
-use Rattle.std.proofs.lemmas.List.Elements.{All-contains}
-use Rattle.std.proofs.lemmas.Option.{none-some, same_Some, slice_get-get_or}
+-- Of a page of level 0 that is split: where a point that it directly held is at home afterwards. No other page is spoken of.
+use Rattle.std.proofs.Common.{◌≡◌, ◌⊎◌, inl, inr, ℕ, ◌<◌, zero, List, [], ◌∷◌, ◌++◌, get_or, Option, Some, None, IsSome, refl, sym, ap, ◌∙◌, subst, arith}
+use Rattle.std.specs.List.{Contains}
+use Rattle.std.proofs.lemmas.List.Elements.{All-contains, Contains-append_left, Contains-append_right, Contains-get_or}
+use Rattle.std.proofs.lemmas.Option.{same_Some}
 use Rattle.hb_space.specs.declared.records.Record.{Record}
 use Rattle.hb_layout.specs.declared.meta.Meta.{Meta}
 use Rattle.hb_frag.specs.declared.leaves.Leaf.{Leaf}
 use Rattle.hb_frag.specs.declared.leaves.Leaf.TheVariants.{Records, Child, Sibling}
 use Rattle.hb_frag.specs.declared.pages.LivePage.{LivePage}
 use Rattle.hb_frag.specs.declared.paths.Side.{Side}
+use Rattle.hb_frag.specs.declared.paths.Side.TheVariants.{Left, Right}
 use Rattle.hb_ops.specs.declared.leaf_cuts.LeafCut.{LeafCut}
-use Rattle.hb_ops.specs.declared.operations.Op.{Op}
-use Rattle.hb_ops.specs.declared.operations.Op.TheVariants as ops
-use Rattle.hb_frag.specs.Leaves.{DirectlyHolds, Placed, leaf_at, leaves, leaves_of, siblings_of, weight_of}
-use Rattle.hb_frag.specs.Paths.{part_at, with_part}
-use Rattle.hb_frag.specs.Rules.{BelongsAt}
-use Rattle.hb_frag.specs.Trees.{Tree}
-use Rattle.hb_layout.specs.Limits.{IsLayout}
-use Rattle.hb_ops.specs.Files.{FileState, contents_of, live_page}
-use Rattle.hb_ops.specs.Operations.{IsAllowed, IsLicensed, change_of, effect_of, nth_read}
-use Rattle.hb_ops.specs.PlacedLaws.{leaf_is_sibling, placed, placed_is_leaf}
-use Rattle.hb_ops.specs.Sound.{FitsFile, IsSound}
-use Rattle.hb_ops.specs.Standing.{StandsNot, StandsThere}
+use Rattle.hb_frag.specs.Leaves.{DirectlyHolds, Placed, leaf_at, leaves, leaves_of, records_of, siblings_of}
+use Rattle.hb_frag.specs.Rules.{BelongsAt, IsInOrder}
+use Rattle.hb_frag.specs.Trees.{Tree, Tip}
+use Rattle.hb_ops.proofs.Tips.{first_held}
+use Rattle.hb_ops.specs.CutLeafLaws.{StemsFrom}
+use Rattle.hb_ops.specs.Cutting.{area_on, cut_through, cut_with, going, half_area, reached, staying}
+use Rattle.hb_ops.specs.Extracting.{FitsPart, fresh_page, source_page}
+use Rattle.hb_ops.specs.PartedPageLaws.{fresh_made, source_made}
+use Rattle.hb_ops.specs.PlacedLaws.{leaf_is_sibling, placed, placed_is_leaf, sibling_is_leaf}
+use Rattle.hb_ops.specs.Sound.{FitsFile}
+use Rattle.hb_ops.specs.Standing.{StandsNot}
+use Rattle.hb_ops.specs.StemLaws.{PartLaws, fresh_stems, source_stems, stretch}
 use Rattle.hb_sound.proofs.OneLevel.{TreeLaws}
-use Rattle.hb_sound.specs.Laws.{LackIsContents, PagesHaveBoxes, StandingIsContents}
-use Rattle.hb_sound.specs.LawsOfOperations.{ChangesTwo, HasDirectly, OperationsKeepLayout, SplitsChangeTwo, SplitsKeepContents, SplitsKeepSound, SplitsPartDirect}
-use Rattle.hb_sound.specs.PointWalks.{IsPointOf}
+use Rattle.hb_sound.proofs.PagesParted.{stems_sibling}
 use Rattle.hb_space.specs.Boxes.{Area, Holds, IsArea}
-use Rattle.hb_space.specs.Points.{IsPoint}
 
--- what the laws of pages and files say
+-- what the laws of pages say
 pub record RoomLaws : Type 0 where
   pub trees : TreeLaws
-  pub weight : (path : List Side) (t : Tree) (a : Area) (part : Tree × Area) (other : Tree) → part_at path t a ≡ Some part → weight_of (with_part path t other) + weight_of part.0 ≡ weight_of t + weight_of other
-  pub sound : SplitsKeepSound
-  pub contents : SplitsKeepContents
-  pub direct : SplitsPartDirect
-  pub pages : SplitsChangeTwo
-  pub layout : OperationsKeepLayout
-  pub lack : LackIsContents
-  pub stand : StandingIsContents
-  pub boxes : PagesHaveBoxes
-  pub points : (a : Area) (p : List ℕ) → IsArea a → Holds a p → IsPoint p
+  pub parts : PartLaws
 
--- a page of level 0 has records where it directly holds a point
+-- ---- a page and a point
+
+-- where records stand at a point, no leaf names a page there
+names_none : (records : List Record) (a : Area) (name : ℕ) (b : Area) → placed (Records records) a ≡ placed (Sibling name) b → ⊥
+names_none records a name b is = no (ap (λ (l : Placed). l.leaf) is)
+  where
+    no : Records records ≡ Sibling name → ⊥
+    no is = cc
+
+-- a page directly holds a point where its leaf there has records
+pub holds_directly : (trees : TreeLaws) (page : LivePage) (p : List ℕ) (meta : Meta) → IsArea page.area → FitsFile meta page → StandsNot page p → DirectlyHolds page p
+holds_directly trees page p meta box made absent = record {
+  inside = first_held p page.frag page.area (placed (Records absent.records) absent.area) made.well_cut absent.leaf;
+  not_given = λ k d lt there.
+      let x = get_or (siblings_of page) k d in
+      let is_leaf = sibling_is_leaf (leaves_of page.frag page.area) x.0 x.1 (Contains-get_or (siblings_of page) k d lt) in
+      let is = (trees.only page.frag page.area p (placed (Sibling x.0) x.1) box made.well_cut).1 (is_leaf, there) in
+      names_none absent.records absent.area x.0 x.1 (same_Some _ _ (sym absent.leaf ∙ is));
+}
+
+-- the leaf at a point of a page's box
 pub record HasLeaf (page : LivePage) (p : List ℕ) : Type 0 where
-  pub records : List Record
-  pub area : Area
-  pub leaf : leaf_at page p ≡ Some (placed (Records records) area)
+  pub leaf : Placed
+  pub is : leaf_at page p ≡ Some leaf
+  pub there : Contains (leaves_of page.frag page.area) leaf
+  pub held : Holds leaf.area p
 
-module _ (trees : TreeLaws) (meta : Meta) (page : LivePage) (p : List ℕ) (box : IsArea page.area) (made : FitsFile meta page) (level : page.level ≡ 0) (direct : DirectlyHolds page p) where
-  by_leaf : (leaf : Leaf) (area : Area) → leaf_at page p ≡ Some (placed leaf area) → HasLeaf page p
-  by_leaf (Records records) area is = record { records = records; area = area; leaf = is }
-  by_leaf (Child name) area is =
-      let there = (trees.only page.frag page.area p (placed (Child name) area) box made.well_cut).0 is in
-      let above : 0 < page.level = All-contains (BelongsAt page.level) (leaves page.frag) (Child name) made.filled.kinds (placed_is_leaf page.frag page.area (placed (Child name) area) there.0) in
-      absurd (omega (arith, above, level))
-  by_leaf (Sibling name) area is =
-      let there = (trees.only page.frag page.area p (placed (Sibling name) area) box made.well_cut).0 is in
-      absurd (All-contains (λ (x : ℕ × Area). ¬ (Holds x.1 p)) (siblings_of page) (name, area) direct.not_given (leaf_is_sibling (leaves_of page.frag page.area) name area there.0) there.1)
+has_leaf : (trees : TreeLaws) (meta : Meta) (page : LivePage) (p : List ℕ) → IsArea page.area → FitsFile meta page → Holds page.area p → HasLeaf page p
+has_leaf trees meta page p box made inside = by (leaf_at page p) refl ((trees.some page.frag page.area p box made.well_cut).1 inside)
+  where
+    by : (o : Option Placed) → leaf_at page p ≡ o → IsSome o → HasLeaf page p
+    by None is some = absurd (let no : ⊥ = cc in no)
+    by (Some l) is some = let both = (trees.only page.frag page.area p l box made.well_cut).0 is in record { leaf = l; is = is; there = both.0; held = both.1 }
 
-  by_some : (o : Option Placed) → leaf_at page p ≡ o → IsSome o → HasLeaf page p
-  by_some None is some = absurd (let no : ⊥ = cc in no)
-  by_some (Some l) is some = by_leaf l.leaf l.area is
-
-  pub has_leaf : HasLeaf page p
-  has_leaf = by_some (leaf_at page p) refl ((trees.some page.frag page.area p box made.well_cut).1 direct.inside)
-
--- no operation changes the number of attributes
-same_attributes : (source fresh : ℕ) (path : List Side) (cuts : List LeafCut) (free_after : ℕ) (meta : Meta) (first second third : Option LivePage) → (change_of (ops.Extract source fresh path cuts free_after) meta first second third).meta.k ≡ meta.k
-same_attributes source fresh path cuts free_after meta None second third = refl
-same_attributes source fresh path cuts free_after meta (Some page) second third = refl
-
--- a page of level 0 in use directly holds the point and has no record of it
-pub record IsHome (t : FileState) (id : ℕ) (p : List ℕ) : Type 0 where
-  pub page : LivePage
-  pub live : live_page t id ≡ Some page
+-- A page of level 0 directly holds the point and has no record of it.
+pub record IsHome (meta : Meta) (page : LivePage) (p : List ℕ) : Type 0 where
   pub level : page.level ≡ 0
-  pub made : FitsFile t.meta page
+  pub made : FitsFile meta page
   pub direct : DirectlyHolds page p
   pub absent : StandsNot page p
 
-module _ (laws : RoomLaws) (s : FileState) (held fresh : ℕ) (path : List Side) (cuts : List LeafCut) (free_after : ℕ) (page : LivePage) (p : List ℕ) (sound : IsSound s) (layout : IsLayout s.meta) (live : live_page s held ≡ Some page)
-    (allowed : IsAllowed s (ops.Extract held fresh path cuts free_after)) (licensed : IsLicensed s (ops.Extract held fresh path cuts free_after)) (level : page.level ≡ 0) (direct : DirectlyHolds page p) (absent : StandsNot page p) where
-  abbrev pub split : Op
-  split = ops.Extract held fresh path cuts free_after
+-- ---- a leaf of a half that comes from the leaves of the page
 
-  abbrev pub t : FileState
-  t = effect_of s split
+module _ (trees : TreeLaws) (meta : Meta) (page : LivePage) (p : List ℕ) (box : IsArea page.area) (made : FitsFile meta page) (absent : StandsNot page p) where
+  abbrev old : List Placed
+  old = leaves_of page.frag page.area
 
-  made : FitsFile s.meta page
-  made = sound.well_made held page live
+  abbrev here : Placed
+  here = placed (Records absent.records) absent.area
 
-  point : IsPointOf s p
-  point = record {
-    point = laws.points page.area p (laws.boxes s held page sound layout.some_attributes layout.few_attributes live) direct.inside;
-    attributes = direct.inside.same ∙ made.fits.attributes;
-  }
+  -- an old leaf whose box holds the point is the one that stood there
+  same_leaf : (y : Placed) → Contains old y → Holds y.area p → here ≡ y
+  same_leaf y there held = same_Some here y (sym absent.leaf ∙ (trees.only page.frag page.area p y box made.well_cut).1 (there, held))
 
-  sound_after : IsSound t
-  sound_after = laws.sound s held fresh path cuts free_after sound allowed licensed
+  -- so no record of an old leaf has the point
+  old_lacks : (y : Placed) (r : Record) → Contains old y → Contains (records_of y.leaf) r → r.key ≡ p → ⊥
+  old_lacks y r there among key =
+      let order : IsInOrder y = All-contains IsInOrder old y made.in_order there in
+      let held : Holds y.area p = subst (Holds y.area) key (All-contains (λ (r : Record). Holds y.area r.key) (records_of y.leaf) r order.inside among) in
+      let stood : Contains absent.records r = subst (λ (l : Placed). Contains (records_of l.leaf) r) (sym (same_leaf y there held)) among in
+      All-contains (λ (r : Record). r.key ≡ p → ⊥) absent.records r absent.lack stood key
 
-  point_after : IsPointOf t p
-  point_after = record { point = point.point; attributes = point.attributes ∙ sym (same_attributes held fresh path cuts free_after s.meta (nth_read s split 0) (nth_read s split 1) (nth_read s split 2)) }
+  stems_lack : (y : Placed) (r : Record) → StemsFrom old y → Contains (records_of y.leaf) r → r.key ≡ p → ⊥
+  stems_lack y r (inl has) among key = old_lacks y r has among key
+  stems_lack y r (inr w) among key = old_lacks (placed (Records w.all) w.area) r w.there (w.some r (subst (λ (l : Leaf). Contains (records_of l) r) w.leaf among)) key
 
-  layout_after : IsLayout t.meta
-  layout_after = laws.layout s split layout allowed
+  module _ (q : LivePage) (level : q.level ≡ 0) (q_made : FitsFile meta q) (q_box : IsArea q.area) where
+    home_by : (leaf : Leaf) (area : Area) → leaf_at q p ≡ Some (placed leaf area) → Contains (leaves_of q.frag q.area) (placed leaf area) → Holds area p → StemsFrom old (placed leaf area) → IsHome meta q p
+    home_by (Records records) area is there held stems =
+        let lacks : StandsNot q p = record { records = records; area = area; leaf = is; lack = λ k d lt. stems_lack (placed (Records records) area) (get_or records k d) stems (Contains-get_or records k d lt) } in
+        record { level = level; made = q_made; direct = holds_directly trees q p meta q_box q_made lacks; absent = lacks }
+    home_by (Child name) area is there held stems =
+        let above : 0 < q.level = All-contains (BelongsAt q.level) (leaves q.frag) (Child name) q_made.filled.kinds (placed_is_leaf q.frag q.area (placed (Child name) area) there) in
+        absurd (omega (arith, above, level))
+    home_by (Sibling name) area is there held stems = absurd (names_none absent.records absent.area name area (same_leaf (placed (Sibling name) area) (stems_sibling old name area stems) held))
 
-  nothing_there : finite.get (contents_of t) p ≡ None
-  nothing_there = ap (λ (c : _). finite.get c p) (laws.contents s held fresh path cuts free_after sound layout.few_attributes allowed licensed) ∙ laws.lack s p held page sound point live absent
+    -- a half whose leaf at the point comes from the page is its home
+    home_at : (has : HasLeaf q p) → StemsFrom old has.leaf → IsHome meta q p
+    home_at has stems = home_by has.leaf.leaf has.leaf.area has.is has.there has.held stems
 
-  pub two : ChangesTwo s t held fresh path cuts
-  two = laws.pages s held fresh path cuts free_after sound allowed licensed
+-- ---- the leaf that names the new page
 
-  same_then : two.page ≡ page
-  same_then = same_Some two.page page (sym two.live ∙ live)
+cut_has_on : (side : Side) (axis value : ℕ) (on off : Tree) (area : Area) (x : Placed) → Contains (leaves_of on (area_on side axis value area)) x → Contains (leaves_of (cut_with side axis value on off) area) x
+cut_has_on Left axis value on off area x has = Contains-append_left (leaves_of on (area_on Left axis value area)) (leaves_of off (area_on Right axis value area)) x has
+cut_has_on Right axis value on off area x has = Contains-append_right (leaves_of off (area_on Left axis value area)) (leaves_of on (area_on Right axis value area)) x has
 
-  home_at : (id : ℕ) (q : LivePage) → live_page t id ≡ Some q → q.level ≡ 0 → DirectlyHolds q p → IsHome t id p
-  home_at id q here zero_level holds =
-      let made_after = sound_after.well_made id q here in
-      let box = laws.boxes t id q sound_after layout_after.some_attributes layout_after.few_attributes here in
-      let has = has_leaf laws.trees t.meta q p box made_after zero_level holds in
-      record {
-        page = q;
-        live = here;
-        level = zero_level;
-        made = made_after;
-        direct = holds;
-        absent = record {
-          records = has.records;
-          area = has.area;
-          leaf = has.leaf;
-          lack = λ k d lt key_is.
-              let r = get_or has.records k d in
-              let stands : StandsThere q p r = record { records = has.records; area = has.area; leaf = has.leaf; place = k; among = slice_get-get_or has.records k d lt; key = key_is } in
-              none-some r.body (sym nothing_there ∙ laws.stand t p id q r sound_after point_after here stands);
-        };
-      }
+-- it stands where the cuts lead, with the box of the part that left
+names_new : (fresh : ℕ) (cuts : List LeafCut) (tree : Tree) (area : Area) → Contains (leaves_of (cut_through cuts tree (Tip (Sibling fresh))) area) (placed (Sibling fresh) (reached cuts tree area).1)
+names_new fresh [] tree area = (zero, omega arith, refl)
+names_new fresh (cut ∷ cuts) tree area =
+    cut_has_on cut.side cut.axis cut.value (cut_through cuts (going cut tree) (Tip (Sibling fresh))) (staying cut tree) area
+    (placed (Sibling fresh) (reached cuts (going cut tree) (half_area cut area)).1) (names_new fresh cuts (going cut tree) (half_area cut area))
 
-  source_home : HasDirectly t held p → IsHome t held p
-  source_home (q, here, holds) =
-      let is = same_Some _ q (sym two.source_now ∙ here) in
-      home_at held q here (ap (λ (x : LivePage). x.level) (sym is) ∙ ap (λ (x : LivePage). x.level) same_then ∙ level) holds
+-- ---- the two halves of a page
 
-  fresh_home : HasDirectly t fresh p → IsHome t fresh p
-  fresh_home (q, here, holds) =
-      let is = same_Some _ q (sym two.fresh_now ∙ here) in
-      home_at fresh q here (ap (λ (x : LivePage). x.level) (sym is) ∙ ap (λ (x : LivePage). x.level) same_then ∙ level) holds
+module _ (laws : RoomLaws) (meta : Meta) (fresh_id : ℕ) (path : List Side) (cuts : List LeafCut) (page : LivePage) (part : Tree × Area) (box : IsArea page.area) (made : FitsFile meta page) (fits : FitsPart path cuts page part) where
+  abbrev source : LivePage
+  source = source_page fresh_id path cuts page part
 
-  -- and never in both
-  pub never_both : HasDirectly t held p → HasDirectly t fresh p → ⊥
-  never_both = (laws.direct s held fresh path cuts free_after p sound point allowed licensed).not_both
+  abbrev fresh : LivePage
+  fresh = fresh_page cuts page part
 
-  pub one_is_home : IsHome t held p ⊎ IsHome t fresh p
-  one_is_home = by ((laws.direct s held fresh path cuts free_after p sound point allowed licensed).either.0 (page, live, direct))
-    where
-      by : HasDirectly t held p ⊎ HasDirectly t fresh p → IsHome t held p ⊎ IsHome t fresh p
-      by (inl has) = inl (source_home has)
-      by (inr has) = inr (fresh_home has)
+  abbrev opened : Tree
+  opened = cut_through cuts part.0 (Tip (Sibling fresh_id))
+
+  source_well : FitsFile meta source
+  source_well = source_made laws.parts meta fresh_id path cuts page part made fits
+
+  fresh_well : FitsFile meta fresh
+  fresh_well = fresh_made laws.parts meta fresh_id path cuts page part made fits
+
+  abbrev front : List Placed
+  front = (stretch laws.parts fresh_id path cuts page part fits).front
+
+  abbrev behind : List Placed
+  behind = (stretch laws.parts fresh_id path cuts page part fits).behind
+
+  named : Contains (leaves_of source.frag source.area) (placed (Sibling fresh_id) fresh.area)
+  named =
+      let leaf = placed (Sibling fresh_id) fresh.area in
+      subst (λ (ls : List Placed). Contains ls leaf) (sym ((stretch laws.parts fresh_id path cuts page part fits).other opened))
+      (Contains-append_left (front ++ leaves_of opened part.1) behind leaf (Contains-append_right front (leaves_of opened part.1) leaf (names_new fresh_id cuts part.0 part.1)))
+
+  fresh_box : IsArea fresh.area
+  fresh_box = All-contains (λ (l : Placed). IsArea l.area) (leaves_of source.frag source.area) (placed (Sibling fresh_id) fresh.area) (laws.trees.areas source.frag source.area box source_well.well_cut) named
+
+  module _ (p : List ℕ) where
+    -- not both directly hold the point
+    pub never_both : DirectlyHolds source p → DirectlyHolds fresh p → ⊥
+    never_both first second = All-contains (λ (x : ℕ × Area). ¬ (Holds x.1 p)) (siblings_of source) (fresh_id, fresh.area) first.not_given (leaf_is_sibling (leaves_of source.frag source.area) fresh_id fresh.area named) second.inside
+
+    module _ (level : page.level ≡ 0) (direct : DirectlyHolds page p) (absent : StandsNot page p) where
+      fresh_home : Holds fresh.area p → IsHome meta fresh p
+      fresh_home inside =
+          let has = has_leaf laws.trees meta fresh p fresh_box fresh_well inside in
+          home_at laws.trees meta page p box made absent fresh level fresh_well fresh_box has (fresh_stems laws.parts fresh_id path cuts page part fits has.leaf has.there)
+
+      -- one is its home
+      pub one_is_home : IsHome meta source p ⊎ IsHome meta fresh p
+      one_is_home = by (source_stems laws.parts fresh_id path cuts page part fits has.leaf has.there)
+        where
+          has : HasLeaf source p
+          has = has_leaf laws.trees meta source p box source_well direct.inside
+
+          by : (placed (Sibling fresh_id) fresh.area ≡ has.leaf) ⊎ StemsFrom (leaves_of page.frag page.area) has.leaf → IsHome meta source p ⊎ IsHome meta fresh p
+          by (inl is) = inr (fresh_home (subst (λ (l : Placed). Holds l.area p) (sym is) has.held))
+          by (inr stems) = inl (home_at laws.trees meta page p box made absent source level source_well box has stems)

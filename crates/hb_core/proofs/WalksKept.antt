@@ -18,7 +18,7 @@ use Rattle.hb_activity.specs.Walks.{walk_held, walk_point}
 use Rattle.hb_core.proofs.Backing.{live_there}
 use Rattle.hb_core.proofs.BroughtPages.{still_held}
 use Rattle.hb_core.proofs.LatchesStay.{walk_latched}
-use Rattle.hb_core.proofs.MergesKept.{HasMergePlace, PlaceStays, merged_place, named_again, names_still, none_named, place_latched}
+use Rattle.hb_core.proofs.MergesKept.{HasMergePlace, PlaceStays, merged_place, named_again, none_named, place_latched}
 use Rattle.hb_core.proofs.NextPlaces.{HasPlace, HoldsNothing, KeepsParent, MergesOn, TakesParent, WalksTo, nothing_given_up, nothing_run_out, now, place_after}
 use Rattle.hb_core.proofs.StepKinds.{each_kind, rest_kind}
 use Rattle.hb_core.proofs.StillThere.{fetched_good, may_or_not, nothing_done, other_holds, other_walks, own_next}
@@ -190,7 +190,7 @@ same_number o id other a b = by (sym a ∙ b)
     by : Some id ≡ Some other → id ≡ other
     by is = cc
 
-parent_latched : (st : StoreState) (activity : Activity) (job : Job) (parent : ℕ) → IsAtParent activity job parent → (mode : Mode) × (mode_among parent (latches_held st activity) ≡ Some mode)
+pub parent_latched : (st : StoreState) (activity : Activity) (job : Job) (parent : ℕ) → IsAtParent activity job parent → (mode : Mode) × (mode_among parent (latches_held st activity) ≡ Some mode)
 parent_latched st activity job parent is = by is
   where
     one : (mode : Mode) → mode_among parent (latch_on parent mode ∷ []) ≡ Some mode
@@ -221,14 +221,14 @@ module _ (m : Machine) (actor : ℕ) (may : ℕ → Type 0) (fetched : StoreStat
         merging = none_named new.store (merging_at deed.next) to.merging;
       }
 
-  -- what was known is so in what was fetched
-  brought_named : (place : AtParent) → merging_at (m.activity actor) ≡ Some place → NamesKnown m.store place → NamesKnown fetched place
-  brought_named place at_place named =
+  -- the pages of a consolidator's place stay
+  brought_place : (place : AtParent) → merging_at (m.activity actor) ≡ Some place → PlaceStays m.store fetched place
+  brought_place place at_place =
       let latched = place_latched m.store (m.activity actor) place at_place in
-      names_still m.store fetched place named (record {
+      record {
         parent = λ page live. own_there place.parent latched.parent.0 page latched.parent.1 live;
         pair = λ pair is page live. let latch = latched.pair pair is in own_there pair.keep latch.0 page latch.1 live;
-      })
+      }
 
   takes_parent : TakesParent (now m actor fetched) deed → StandsInSpace new.store deed.next
   takes_parent takes =
@@ -254,7 +254,8 @@ module _ (m : Machine) (actor : ℕ) (may : ℕ → Type 0) (fetched : StoreStat
 
   -- a consolidator knows what the parent names
   merged_in_space : MergesOn m actor (now m actor fetched) deed → StandsInSpace new.store deed.next
-  merged_in_space merges = by (merged_place m actor fetched (λ place is. brought_named place is (subst (λ (o : Option AtParent). IfSome o (NamesKnown m.store)) is (walks.merging actor))) deed merges)
+  merged_in_space merges = by (merged_place m actor fetched (fetched_good m may fetched inside brings)
+      (λ place is. subst (λ (o : Option AtParent). IfSome o (NamesKnown m.store)) is (walks.merging actor)) brought_place deed merges)
     where
       store : new.store ≡ fetched
       store = nothing_done deed.op _ fetched new.store (ap (λ (d : Deed). d.op) merges.stays.moves.is) performs.store

@@ -9,17 +9,16 @@ use Rattle.hb_set.specs.declared.scripts.Line.{Line}
 use Rattle.hb_activity.specs.declared.wanting.Wanted.{Wanted}
 use Rattle.hb_activity.specs.declared.activities.Activity.{Activity}
 use Rattle.hb_activity.specs.declared.activities.Activity.TheVariants as at
-use Rattle.hb_activity.specs.Deeds.{Deed, moves_to}
+use Rattle.hb_activity.specs.Deeds.{Deed}
 use Rattle.hb_activity.specs.Passing.{PassesOn}
 use Rattle.hb_activity.specs.Sights.{Sight}
 use Rattle.hb_activity.specs.Walks.{goal_of}
-use Rattle.hb_consol.specs.ConsolidatorRows.{ArrivesToMerge, ConsolidatorPasses, Scans, TriesPair}
-use Rattle.hb_consol.specs.MergeRows.{Decides, takes_keep}
+use Rattle.hb_consol.specs.MergeRows.{ConsolidatorRow}
 use Rattle.hb_core.specs.Asking.{HasAskedBox, asked_box}
 use Rattle.hb_core.specs.Machines.{Machine, live_here, sight}
 use Rattle.hb_point.specs.SessionRows.{DoesThere}
 use Rattle.hb_point.specs.SplitRows.{Puts, SplitsOrFull}
-use Rattle.hb_poster.specs.PosterRows.{Arrives, GrowsFile, GrowsNot, LooksAgain, LooksAtChild, PosterPasses}
+use Rattle.hb_poster.specs.PosterRows.{PosterRow}
 use Rattle.hb_search.specs.SearchRows.{Gathers}
 use Rattle.hb_space.specs.Boxes.{Area}
 
@@ -44,18 +43,24 @@ WalksAt s line rest found id page deed = MatchOption (goal_of line.command rest)
 -- The row of an activity at the page that it latched.
 abbrev pub RowAt : Activity → Sight → ℕ → LivePage → Deed → Type 0
 RowAt (at.SessionWalk line held rest found) s id page deed = WalksAt s line rest found id page deed
-RowAt (at.PosterGrow job) s id page deed = GrowsFile s job page deed ⊎ GrowsNot s job page deed
-RowAt (at.PosterWalk job held) s id page deed = Arrives job id page deed ⊎ PosterPasses job id page deed
-RowAt (at.PosterChild job parent) s id page deed = LooksAtChild s job parent page deed
-RowAt (at.PosterPromote job parent) s id page deed = deed ≡ moves_to (at.PosterAgain job parent) []
-RowAt (at.PosterAgain job parent) s id page deed = LooksAgain s job parent page deed
-RowAt (at.ConsolidatorWalk job held) s id page deed = ArrivesToMerge job id page deed ⊎ ConsolidatorPasses job id page deed
-RowAt (at.ConsolidatorScan job parent child) s id page deed = Scans s job parent child page deed
-RowAt (at.ConsolidatorTry job parent keep gone leaf) s id page deed = TriesPair s job parent keep gone leaf page deed
-RowAt (at.ConsolidatorPromote job parent keep gone) s id page deed = deed ≡ moves_to (at.ConsolidatorKeep job parent keep gone) []
-RowAt (at.ConsolidatorKeep job parent keep gone) s id page deed = deed ≡ takes_keep job parent keep gone page
-RowAt (at.ConsolidatorDecide job parent keep gone) s id page deed = Decides s job parent keep gone page deed
-RowAt other s id page deed = ⊥
+RowAt (at.PosterGrow job) s id page deed = PosterRow (at.PosterGrow job) s id page deed
+RowAt (at.PosterWalk job held) s id page deed = PosterRow (at.PosterWalk job held) s id page deed
+RowAt (at.PosterChild job parent) s id page deed = PosterRow (at.PosterChild job parent) s id page deed
+RowAt (at.PosterPromote job parent) s id page deed = PosterRow (at.PosterPromote job parent) s id page deed
+RowAt (at.PosterAgain job parent) s id page deed = PosterRow (at.PosterAgain job parent) s id page deed
+RowAt (at.ConsolidatorWalk job held) s id page deed = ConsolidatorRow (at.ConsolidatorWalk job held) s id page deed
+RowAt (at.ConsolidatorScan job parent child) s id page deed = ConsolidatorRow (at.ConsolidatorScan job parent child) s id page deed
+RowAt (at.ConsolidatorTry job parent keep gone leaf) s id page deed = ConsolidatorRow (at.ConsolidatorTry job parent keep gone leaf) s id page deed
+RowAt (at.ConsolidatorPromote job parent keep gone) s id page deed = ConsolidatorRow (at.ConsolidatorPromote job parent keep gone) s id page deed
+RowAt (at.ConsolidatorKeep job parent keep gone) s id page deed = ConsolidatorRow (at.ConsolidatorKeep job parent keep gone) s id page deed
+RowAt (at.ConsolidatorDecide job parent keep gone) s id page deed = ConsolidatorRow (at.ConsolidatorDecide job parent keep gone) s id page deed
+RowAt at.SessionIdle s id page deed = ⊥
+RowAt (at.SessionSplit line held) s id page deed = ⊥
+RowAt (at.SessionPut line source fresh) s id page deed = ⊥
+RowAt (at.SessionAwait line reply place) s id page deed = ⊥
+RowAt at.PosterIdle s id page deed = ⊥
+RowAt at.ConsolidatorIdle s id page deed = ⊥
+RowAt at.Flusher s id page deed = ⊥
 
 -- the wanted page is in memory and in use, and is the one that was asked for
 pub record IsAtHand (m : Machine) (activity : Activity) (wanted : Wanted) (page : LivePage) : Type 0 where

@@ -5,7 +5,7 @@ ghost use Rattle.hb_core.specs.AllowedLaws.{RowsAreAllowed};
 ghost use Rattle.hb_core.specs.ContentsLaws.{ContentsFollowOrder, PointsStay};
 ghost use Rattle.hb_core.specs.FileLaws.{FilesStaySound, LinesStayFit, MarksStayInPlace, PagesStayOfFile, RowsAreLicensed};
 ghost use Rattle.hb_core.specs.OrderLaws.{OrderStaysLegal, TurnsStay};
-ghost use Rattle.hb_core.specs.SteppingLaws.{BeginningKeepsAll};
+ghost use Rattle.hb_core.specs.SteppingLaws.{BeginningExists, BeginningKeeps, BeginningKeepsAll};
 
 use crate::laws::a_step_leaves_other_actors_alone;
 use hb_frag::laws::{leaves_part_the_box, parts_are_stretches};
@@ -98,8 +98,22 @@ pub fn rows_are_allowed()
     ensures { RowsAreAllowed }
 {}
 
-/// A machine over a sound file that has taken no step keeps all that a machine keeps, from the contents of
-/// the file.
+/// A machine that has taken no step keeps what every machine keeps, over any disk.
+#[tactic(auto, using(crate::proofs::Beginnings::beginning_keeps))]
+pub fn a_beginning_keeps_what_a_machine_keeps()
+    ensures { BeginningKeeps }
+{}
+
+/// A machine that has taken no step, over a disk that tells a sound file, keeps all that a machine keeps there,
+/// from the contents of the file.
+#[tactic(auto, using(crate::proofs::Beginnings::beginning_keeps_all))]
 pub fn a_beginning_keeps_all()
     ensures { BeginningKeepsAll }
+{}
+
+/// Over each sound file and for each script that fits it there is a machine that has taken no step. So what
+/// is said of such a machine is said of something.
+#[tactic(auto, using(crate::proofs::Beginnings::beginning_exists))]
+pub fn there_is_a_beginning()
+    ensures { BeginningExists }
 {}

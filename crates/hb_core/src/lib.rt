@@ -14,12 +14,15 @@
 //! completed late, and Evangelidis, Lomet and Salzberg 1997.
 #![tactic(auto)]
 
+pub mod cause_laws;
 pub mod examples;
 pub mod file_laws;
 pub mod keeping_laws;
 pub mod laws;
+pub mod machine_laws;
 pub mod outcome_laws;
 mod outcomes;
+pub mod progress_laws;
 mod threads;
 pub mod waiting_laws;
 pub mod written_chains;

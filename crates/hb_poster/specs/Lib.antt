@@ -1,1 +1,3 @@
 pub mod PosterRows
+pub mod Laws
+pub mod Examples

@@ -1,5 +1,5 @@
 -- The rows of the poster. The page of a row is the one that the step latches.
-use Rattle.std.specs.Prelude.{◌≡◌, ◌≢◌, ◌⊎◌, ℕ, ◌+◌, ◌<◌, List, [], ◌∷◌, Some, None}
+use Rattle.std.specs.Prelude.{◌≡◌, ◌≢◌, ◌⊎◌, ℕ, ◌+◌, ◌<◌, [], ◌∷◌, Some, None}
 use Rattle.hb_layout.specs.declared.limits.TheConstants.{HEIGHT_MAX}
 use Rattle.hb_frag.specs.declared.leaves.Leaf.TheVariants.{Child}
 use Rattle.hb_frag.specs.declared.pages.LivePage.{LivePage}
@@ -9,6 +9,7 @@ use Rattle.hb_terms.specs.declared.plans.PostPlan.TheVariants as plans
 use Rattle.hb_activity.specs.declared.jobs.Job.{Job}
 use Rattle.hb_activity.specs.declared.jobs.JobKind.TheVariants.{Post}
 use Rattle.hb_activity.specs.declared.activities.Activity.{Activity}
+use Rattle.hb_activity.specs.declared.activities.Activity.TheVariants as at
 use Rattle.hb_activity.specs.declared.activities.Activity.TheVariants.{PosterIdle, PosterGrow, PosterWalk, PosterChild, PosterPromote}
 use Rattle.hb_activity.specs.Deeds.{Deed, does, moves_to}
 use Rattle.hb_activity.specs.Passing.{HasNoPage, PartLeavesTo, corner_of, PassesOn, LeadsBelow}
@@ -91,3 +92,12 @@ pub record LooksAgain (s : Sight) (job : Job) (parent : ℕ) (child : LivePage) 
   pub plan : PostPlan
   pub planned : IsPlan page child job.point s.meta.icap plan
   pub does_it : DoesPlan s job parent page plan deed
+
+-- the row of the poster, by where it stands, at the page that its step latched
+abbrev pub PosterRow : Activity → Sight → ℕ → LivePage → Deed → Type 0
+PosterRow (at.PosterGrow job) s id page deed = GrowsFile s job page deed ⊎ GrowsNot s job page deed
+PosterRow (at.PosterWalk job held) s id page deed = Arrives job id page deed ⊎ PosterPasses job id page deed
+PosterRow (at.PosterChild job parent) s id page deed = LooksAtChild s job parent page deed
+PosterRow (at.PosterPromote job parent) s id page deed = deed ≡ moves_to (at.PosterAgain job parent) []
+PosterRow (at.PosterAgain job parent) s id page deed = LooksAgain s job parent page deed
+PosterRow other s id page deed = ⊥

@@ -7,3 +7,6 @@
 //! Source of the idea: Lomet and Salzberg 1992, whose index terms are posted late, by an atomic action of
 //! their own.
 #![tactic(auto)]
+
+pub mod examples;
+pub mod laws;

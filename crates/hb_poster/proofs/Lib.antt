@@ -1,0 +1,3 @@
+pub mod AllowedPostings
+pub mod WalkExamples
+pub mod PostExamples
