@@ -84,11 +84,6 @@ pub mod MetaKept
 pub mod AttributesKept
 pub mod WalkingWorkers
 pub mod WorkersKept
-pub mod JoinedReplies
-pub mod StepLines
-pub mod RepliesKept
-pub mod ShortOrder
-pub mod SingleAnswers
 pub mod StepSays
 pub mod RowFates
 pub mod QueueMoves
