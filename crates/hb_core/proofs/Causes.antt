@@ -22,7 +22,8 @@ use Rattle.hb_core.proofs.RowFates.{HasFate, JobFate, RowSaying, fate_of_job, sa
 use Rattle.hb_core.proofs.StepSays.{each_saying}
 use Rattle.hb_core.specs.Acting.{DoesRow}
 use Rattle.hb_core.specs.Asking.{wanted_by}
-use Rattle.hb_core.specs.CauseLaws.{AnswersFirstLine, BeginsSearch, CannotBeReady, DropsByCause, EndsByRow, FindsNoPlace, FullByCause, GaveUpFor, HasNoRoom, JobsEndByCause, JobsLeaveToWorkers, NoMemoryByCause, ReadFaultByCause, IsTakenFrom, IsWorkerOf}
+use Rattle.hb_core.specs.CauseLaws.{AnswersFirstLine, BeginsSearch, CannotBeReady, FullByCause, GaveUpFor, SplitFindsNoPage, NoMemoryByCause, ReadFaultByCause}
+use Rattle.hb_core.specs.JobLaws.{DropsByCause, EndsByRow, FindsNoPlace, JobsEndByCause, JobsLeaveToWorkers, IsTakenFrom, IsWorkerOf}
 use Rattle.hb_core.specs.GivingUp.{gives_up, reply_for, runs_out}
 use Rattle.hb_core.specs.KeptMachine.{MachineKeeps}
 use Rattle.hb_core.specs.KeptOrder.{StandsOutside}
@@ -177,7 +178,7 @@ no_memory_by_cause m actor number new keeps step = answering m actor number repl
 }) step
 
 pub full_by_cause : FullByCause
-full_by_cause m actor number new keeps step = answering m actor number replies.Full new (HasNoRoom m actor number ⊎ CannotBeReady m actor) (record {
+full_by_cause m actor number new keeps step = answering m actor number replies.Full new (SplitFindsNoPage m actor number ⊎ CannotBeReady m actor) (record {
   refuses = λ line idle next begins number_is reply_is. absurd (full_memory reply_is);
   settles = λ place is. absurd (kept_inside m actor number place replies.Full keeps tt is);
   runs = λ line hand number_is cause reply_is. inr cause;

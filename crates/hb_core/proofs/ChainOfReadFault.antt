@@ -9,7 +9,7 @@ use Rattle.hb_core.specs.ChainBesidePoster.{seeks_twenty}
 use Rattle.hb_core.specs.ChainOfPosting.{raised_meta}
 use Rattle.hb_core.specs.ChainOfReadFault.{RootIsNotRead, unread_before}
 use Rattle.hb_core.specs.GivingUp.{gives_up}
-use Rattle.hb_core.specs.Scenes.{Scene, standing, untold_of}
+use Rattle.hb_core.specs.Scenes.{Scene, standing, untold_scene}
 use Rattle.hb_core.specs.Steps.{TakesJob}
 use Rattle.hb_core.proofs.BuiltSteps.{after, only_looks, queued}
 use Rattle.hb_core.proofs.ChainOfPosting.{it_leaves, job, takes}
@@ -30,7 +30,7 @@ line_given_up = after 1 (gives_up drops.ReadFault (standing both_taken.at_work 1
 abbrev both_given_up : Scene
 both_given_up = after 17 (gives_up drops.ReadFault (standing line_given_up.at_work 17)) [] line_given_up
 
-takes_to_walk : TakesJob (untold_of line_taken) (takes (at.PosterWalk job None))
+takes_to_walk : TakesJob (untold_scene line_taken) (takes (at.PosterWalk job None))
 takes_to_walk = record { job = job; kind = refl; next = at.PosterWalk job None; posting = inr (inr (omega arith, refl)); deed_is = refl }
 
 -- the root is a page of the file
@@ -40,21 +40,21 @@ is_page (inr more) = absurd (omega (arith, more))
 
 pub root_is_not_read : RootIsNotRead
 root_is_not_read = (
-  untold_of line_taken,
+  untold_scene line_taken,
   inl (performed_untold unread_before 1 (taking seeks_twenty) (job ∷ []) (queued refl refl) tt),
   (
-    untold_of both_taken,
+    untold_scene both_taken,
     inr (takes (at.PosterWalk job None), takes_to_walk, performed_untold line_taken 17 (takes (at.PosterWalk job None)) [] (it_leaves _) tt),
     (
-      untold_of line_given_up,
+      untold_scene line_given_up,
       reads_not both_taken 1 3 [] refl (only_looks both_taken 1 refl) refl is_page refl (queued refl refl) tt,
       (
-        untold_of both_given_up,
+        untold_scene both_given_up,
         reads_not line_given_up 17 3 [] refl (only_looks line_given_up 17 refl) refl is_page refl (queued refl refl) tt,
         (
-          untold_of both_given_up,
+          untold_scene both_given_up,
           (refl, refl),
-          (untold_of both_given_up, inl (each_at (λ (one : Job). one.kind ≢ Post) [] tt, (refl, refl)), refl),
+          (untold_scene both_given_up, inl (each_at (λ (one : Job). one.kind ≢ Post) [] tt, (refl, refl)), refl),
         ),
       ),
     ),

@@ -6,7 +6,7 @@ use Rattle.hb_core.proofs.Prefixes.{files_have_prefixes}
 use Rattle.hb_core.specs.KeepingLaws.{IsAfterLonger}
 use Rattle.hb_core.specs.Laws.{HasOnePage, PointsHaveOnePage}
 use Rattle.hb_core.specs.Machines.{Machine, settled_count}
-use Rattle.hb_core.specs.MomentLaws.{ImagesHavePrefixes, OpensToPrefix}
+use Rattle.hb_core.specs.MomentLaws.{ImagesHavePrefixes, ImageHasPrefix}
 use Rattle.hb_ops.specs.Files.{FileState}
 use Rattle.hb_ops.specs.Sound.{IsSound}
 use Rattle.hb_set.specs.Machine.{RecordSet}
@@ -16,11 +16,11 @@ use Rattle.hb_store.specs.Opening.{OpensTo}
 
 module _ (n : RecordSet) (m : Machine) (bytes : List ℕ) where
   -- the bytes open to one of the files
-  opens_to : (s : FileState) → OpensTo bytes s → IsSound s → ((p : List ℕ) → IsPointOf s p → HasOnePage s p) → IsAfterLonger n m s → OpensToPrefix n m bytes
+  opens_to : (s : FileState) → OpensTo bytes s → IsSound s → ((p : List ℕ) → IsPointOf s p → HasOnePage s p) → IsAfterLonger n m s → ImageHasPrefix n m bytes
   opens_to s opens sound pages (count, enough, after) = record { s = s; opens = opens; sound = sound; pages = pages; count = count; enough = enough; after = after }
 
   opens_to_first : (durable : FileState) (later : List FileState) → ((s : FileState) → Contains (durable ∷ later) s → (p : List ℕ) → IsPointOf s p → HasOnePage s p) → IsSound durable → All IsSound later
-      → IsAfterLonger n m durable → All (IsAfterLonger n m) later → OpensToFirst durable later bytes → OpensToPrefix n m bytes
+      → IsAfterLonger n m durable → All (IsAfterLonger n m) later → OpensToFirst durable later bytes → ImageHasPrefix n m bytes
   opens_to_first durable [] pages sound sounds after afters opens = opens_to durable opens sound (pages durable (zero, omega arith, refl)) after
   opens_to_first durable (next ∷ later) pages sound sounds after afters (inl opens) = opens_to durable opens sound (pages durable (zero, omega arith, refl)) after
   opens_to_first durable (next ∷ later) pages sound sounds after afters (inr opens) =

@@ -25,7 +25,7 @@ use Rattle.hb_core.specs.Fetching.{Brings, MustStay}
 use Rattle.hb_core.specs.Forcing.{ForcesFirst, StaysSo, FailsToWrite, FlushesWell}
 use Rattle.hb_core.specs.GivingUp.{gives_up, runs_out}
 use Rattle.hb_core.specs.Keeps.{HoldsPagesOfFile, LatchesFit}
-use Rattle.hb_core.specs.Laws.{HasAlone, HeldPagesStay, IsInUse, OwnPagesChange, TakesAlone, HasLeft}
+use Rattle.hb_core.specs.Laws.{HasAlone, HeldPagesStay, IsInUse, OwnPagesChange, TakesAlone, MayHaveLeft}
 use Rattle.hb_core.specs.Machines.{Machine}
 use Rattle.hb_core.specs.Performing.{MayDo, Performs}
 use Rattle.hb_core.specs.Steps.{GetsReady, Works}
@@ -47,7 +47,7 @@ is_there o page is = subst (λ (o : Option Page). IsSome o) (sym is) refl
 
 module _ (m : Machine) (actor : ℕ) (latches : MayLatch actor) (fit : LatchesFit m) (inside : HoldsPagesOfFile m) (new : Machine) (id : ℕ) (page : LivePage) (used : IsInUse m id page) where
   abbrev pub Goal : Type 0
-  Goal = IsInUse new id page ⊎ HasLeft m id new ⊎ HasAlone m actor id
+  Goal = IsInUse new id page ⊎ MayHaveLeft m id new ⊎ HasAlone m actor id
 
   -- the page stays where the memory stays
   same_memory : new.store ≡ m.store → Goal
@@ -122,7 +122,7 @@ module _ (m : Machine) (actor : ℕ) (latches : MayLatch actor) (fit : LatchesFi
 
 pub own_pages_change : OwnPagesChange
 own_pages_change m actor outcome new latches fit inside step id page used =
-    each_kind m actor outcome new (IsInUse new id page ⊎ HasLeft m id new ⊎ HasAlone m actor id)
+    each_kind m actor outcome new (IsInUse new id page ⊎ MayHaveLeft m id new ⊎ HasAlone m actor id)
     (λ said quiet so. stays m actor latches fit inside new id page used said outcome so)
     (λ said quiet force. forced m actor latches fit inside new id page used said outcome force)
     (flushed_more m actor latches fit inside new id page used outcome)
@@ -158,7 +158,7 @@ module _ (m : Machine) (actor other id : ℕ) (fit : LatchesFit m) (another : ot
 pub held_pages_stay : HeldPagesStay
 held_pages_stay m actor outcome new latches fit inside step other id mode page another holds used = by (own_pages_change m actor outcome new latches fit inside step id page used)
   where
-    by : IsInUse new id page ⊎ HasLeft m id new ⊎ HasAlone m actor id → IsInUse new id page
+    by : IsInUse new id page ⊎ MayHaveLeft m id new ⊎ HasAlone m actor id → IsInUse new id page
     by (inl stays) = stays
     by (inr (inl left)) = absurd (left.0 (inl (other, mode, holds)))
     by (inr (inr alone)) = absurd (not_alone m actor other id fit another mode holds alone)

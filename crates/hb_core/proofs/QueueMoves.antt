@@ -5,7 +5,7 @@ use Rattle.std.proofs.lemmas.List.Elements.{Contains-append_cases, Contains-appe
 use Rattle.hb_activity.specs.declared.jobs.Job.{Job}
 use Rattle.hb_activity.specs.declared.waiting_jobs.TheConstants.{JOBS}
 use Rattle.hb_activity.specs.Queue.{AddsJob, AddsJobs, LeavesBy, LeavesFirst}
-use Rattle.hb_core.specs.CauseLaws.{FindsNoPlace}
+use Rattle.hb_core.specs.JobLaws.{FindsNoPlace}
 
 -- who waits goes on waiting as others join
 one_more : (job other : Job) (old new : List Job) → AddsJob other old new → Contains old job → Contains new job

@@ -25,7 +25,7 @@ use Rattle.hb_activity.specs.Walks.{goal_of}
 use Rattle.hb_consol.specs.ConsolidatorRows.{HasMergePlan, after_try, children_of, first_one, one_behind, pair_from, scans, tries}
 use Rattle.hb_consol.specs.MergeRows.{DoesMerge, after_keep}
 use Rattle.hb_core.proofs.MergerMoves.{MovesMerger, merger_moves}
-use Rattle.hb_core.specs.CauseLaws.{EndsAt, IsLastPair}
+use Rattle.hb_core.specs.JobLaws.{EndsAt, IsLastPair}
 use Rattle.hb_core.specs.Machines.{Machine, live_here, sight}
 use Rattle.hb_core.specs.Rows.{DoesHere, Row, RowAlone, RowAt}
 use Rattle.hb_frag.specs.Leaves.{first_named, siblings_of}

@@ -10,7 +10,7 @@ use Rattle.hb_core.specs.Fetching.{IsWantedPage}
 use Rattle.hb_core.specs.GivingUp.{gives_up}
 use Rattle.hb_core.specs.Machines.{Files}
 use Rattle.hb_core.specs.Performing.{ChangesQueue, Performs, files_after, outcome_of}
-use Rattle.hb_core.specs.Scenes.{Scene, machine_of, standing, store_of, untold_of}
+use Rattle.hb_core.specs.Scenes.{Scene, machine_of, standing, store_of, untold_scene}
 use Rattle.hb_core.specs.Steps.{IsUnready, Works}
 use Rattle.hb_core.proofs.BuiltSteps.{IsClearIn, MayBeIn, after, memory_is, nothing_comes, performed, wanted_in, wanted_is, way_free}
 use Rattle.hb_core.proofs.WrittenTables.{entry_at}
@@ -21,7 +21,7 @@ none_told None = refl
 none_told (Some op) = refl
 
 pub performed_untold : (s : Scene) (actor : ℕ) (deed : Deed) (jobs : List Job) → ChangesQueue deed s.jobs jobs → MayBeIn s deed.op
-    → Performs (untold_of s) (store_of s) actor deed (outcome_of deed.says) (untold_of (after actor deed jobs s))
+    → Performs (untold_scene s) (store_of s) actor deed (outcome_of deed.says) (untold_scene (after actor deed jobs s))
 performed_untold s actor deed jobs queue may =
     let done = performed s actor deed jobs queue may in
     record {
@@ -41,7 +41,7 @@ performed_untold s actor deed jobs queue may =
 -- the wanted page isn't in memory and can't be read
 pub reads_not : (s : Scene) (actor id : ℕ) (jobs : List Job) → IsClearIn s actor → ¬ (IsUnready (machine_of s) actor) → IsWantedPage (wanted_in s actor) id → ¬ (IsNoPage s.meta id)
     → entry_at id s.pages ≡ None → ChangesQueue (gives_up drops.ReadFault (standing s.at_work actor)) s.jobs jobs → MayBeIn s (gives_up drops.ReadFault (standing s.at_work actor)).op
-    → Works (untold_of s) actor (outcome_of (gives_up drops.ReadFault (standing s.at_work actor)).says) (untold_of (after actor (gives_up drops.ReadFault (standing s.at_work actor)) jobs s))
+    → Works (untold_scene s) actor (outcome_of (gives_up drops.ReadFault (standing s.at_work actor)).says) (untold_scene (after actor (gives_up drops.ReadFault (standing s.at_work actor)) jobs s))
 reads_not s actor id jobs clear ready wants page absent queue may = inr (inr (
   way_free s actor clear,
   ready,

@@ -9,7 +9,7 @@ use Rattle.hb_core.specs.declared.outcomes.Outcome.TheVariants.{Moved, Answered,
 use Rattle.hb_core.specs.ChainBesidePoster.{seeks_twenty}
 use Rattle.hb_core.specs.ChainOfPosting.{raised_meta}
 use Rattle.hb_core.specs.ChainOfTwo.{posts_at}
-use Rattle.hb_core.specs.Scenes.{Scene, StepsSaying, untold_of}
+use Rattle.hb_core.specs.Scenes.{Scene, StepsSaying, untold_scene}
 
 -- No page is in memory. A line and a job wait.
 abbrev pub unread_before : Scene
@@ -39,4 +39,4 @@ abbrev pub steps_unread : List (ℕ × Outcome)
 steps_unread = (1, Moved) ∷ (17, Moved) ∷ (1, Answered 1 replies.ReadFault) ∷ (17, Dropped drops.ReadFault) ∷ (1, Idle) ∷ (17, Idle) ∷ []
 
 abbrev pub RootIsNotRead : Type 0
-RootIsNotRead = StepsSaying steps_unread (untold_of unread_before) (untold_of unread_after)
+RootIsNotRead = StepsSaying steps_unread (untold_scene unread_before) (untold_scene unread_after)

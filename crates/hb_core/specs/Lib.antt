@@ -30,6 +30,7 @@ pub mod WaitingLaws
 pub mod StageLaws
 pub mod MachineLaws
 pub mod CauseLaws
+pub mod JobLaws
 pub mod Showing
 pub mod MomentLaws
 pub mod ProgressLaws

@@ -78,8 +78,8 @@ machine_of s = record {
 }
 
 -- the same machine over a disk that doesn't tell its bytes, so that nothing is known of its files
-abbrev pub untold_of : Scene → Machine
-untold_of s = with_disk (store_of s) None s.clock (machine_of s)
+abbrev pub untold_scene : Scene → Machine
+untold_scene s = with_disk (store_of s) None s.clock (machine_of s)
 
 -- Steps in turn, each by its actor and with what it comes to.
 abbrev pub StepsSaying : List (ℕ × Outcome) → Machine → Machine → Type 0

@@ -1,7 +1,8 @@
 //! Why a line is refused and why a job ends, and what a step says of lines and jobs. Each law is the
 //! contract of a function that does nothing: a caller learns it by the call.
 
-ghost use Rattle.hb_core.specs.CauseLaws.{AnswersFirstLine, DropsByCause, FullByCause, JobsEndByCause, JobsLeaveToWorkers, NoMemoryByCause, ReadFaultByCause};
+ghost use Rattle.hb_core.specs.CauseLaws.{AnswersFirstLine, FullByCause, NoMemoryByCause, ReadFaultByCause};
+ghost use Rattle.hb_core.specs.JobLaws.{DropsByCause, JobsEndByCause, JobsLeaveToWorkers};
 
 /// A line is answered by a step of its own session, and is that session's first line without an answer.
 #[tactic(auto, using(crate::proofs::Causes::answers_first_line))]
