@@ -104,3 +104,4 @@ pub mod ChainOfFreePage
 pub mod ChainOfMerging
 pub mod UntoldSteps
 pub mod ChainOfReadFault
+pub mod ChainOfThreePages

@@ -45,3 +45,4 @@ pub mod ChainOfCommands
 pub mod ChainOfFreePage
 pub mod ChainOfMerging
 pub mod ChainOfReadFault
+pub mod ChainOfThreePages

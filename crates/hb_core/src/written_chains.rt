@@ -8,6 +8,7 @@ ghost use Rattle.hb_core.specs.ChainOfFullLog.{LogHasNoRoom};
 ghost use Rattle.hb_core.specs.ChainOfMerging.{MergeComesToDecide, MergeIsGivenUp};
 ghost use Rattle.hb_core.specs.ChainOfPosting.{OnePosting};
 ghost use Rattle.hb_core.specs.ChainOfReadFault.{RootIsNotRead};
+ghost use Rattle.hb_core.specs.ChainOfThreePages.{FullGoesOn};
 ghost use Rattle.hb_core.specs.ChainOfTwo.{TwoOnOnePage};
 ghost use Rattle.hb_core.specs.OneInsert.{OneInsert};
 ghost use Rattle.hb_core.specs.Scenes.{SayingIsStepping};
@@ -79,4 +80,11 @@ pub fn the_consolidator_tries_a_pair()
 #[tactic(auto, using(crate::proofs::ChainOfReadFault::root_is_not_read))]
 pub fn a_page_is_not_read()
     ensures { RootIsNotRead }
+{}
+
+/// In a file whose three pages are in use an insert into a full page is answered `full`; the session's next
+/// line deletes a record of the page, and then the same insert is done.
+#[tactic(auto, using(crate::proofs::ChainOfThreePages::full_goes_on))]
+pub fn a_session_goes_on_after_full()
+    ensures { FullGoesOn }
 {}
