@@ -33,7 +33,7 @@ pub fn rows_may_be_done()
 
 /// The page that a walk latches after one that it holds is of a lower level, or of the same level with a box
 /// of fewer points. A page that isn't has failed the test of its level and its box, whatever the disk gave.
-#[tactic(auto, using(crate::proofs::AtHand::walks_lead_on))]
+#[tactic(auto, using(crate::proofs::Walks::AtHand::walks_lead_on))]
 pub fn walks_lead_on()
     ensures { WalksLeadOn }
 {}

@@ -1,5 +1,5 @@
 use Rattle.hb_core.proofs.machine_laws.machines_stay_kept.Goals as goal
-use Rattle.hb_core.proofs.EachKept.{machine_stays_kept, machines_stay_kept}
+use Rattle.hb_core.proofs.Machines.EachKept.{machine_stays_kept, machines_stay_kept}
 
 pub returns-clause-step : goal.returns-clause-step
 returns-clause-step c =
