@@ -1,6 +1,6 @@
 -- The consolidator at a parent of two pages: each step of the chains.
-use Rattle.std.proofs.Common.{◌≢◌, inl, inr, List, [], ◌∷◌, Option, Some, None, refl, ap, arith}
-use Rattle.hb_space.specs.Boxes.{Area, Meets}
+use Rattle.std.proofs.Common.{◌≢◌, inl, inr, List, [], ◌∷◌, Option, None, refl, ap, arith}
+use Rattle.hb_space.specs.Boxes.{Meets}
 use Rattle.hb_space.specs.declared.records.Record.{Record}
 use Rattle.hb_frag.specs.declared.pages.LivePage.{LivePage}
 use Rattle.hb_frag.specs.Leaves.{DirectlyCovers, siblings_of}

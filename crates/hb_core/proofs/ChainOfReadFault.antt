@@ -1,6 +1,5 @@
 -- The root can't be read: each step of the chain.
 use Rattle.std.proofs.Common.{◌≢◌, inl, inr, [], ◌∷◌, None, refl, arith}
-use Rattle.hb_activity.specs.Deeds.{takes_job}
 use Rattle.hb_activity.specs.declared.activities.Activity.TheVariants as at
 use Rattle.hb_activity.specs.declared.dropping.DropWhy.TheVariants as drops
 use Rattle.hb_activity.specs.declared.jobs.Job.{Job}

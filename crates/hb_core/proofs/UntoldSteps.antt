@@ -5,7 +5,6 @@ use Rattle.hb_activity.specs.Deeds.{Deed}
 use Rattle.hb_activity.specs.declared.dropping.DropWhy.TheVariants as drops
 use Rattle.hb_activity.specs.declared.jobs.Job.{Job}
 use Rattle.hb_activity.specs.declared.wanting.Wanted.{Wanted}
-use Rattle.hb_core.specs.Asking.{wanted_by}
 use Rattle.hb_core.specs.Fetching.{IsWantedPage}
 use Rattle.hb_core.specs.GivingUp.{gives_up}
 use Rattle.hb_core.specs.Machines.{Files}
