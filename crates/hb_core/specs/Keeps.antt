@@ -49,7 +49,7 @@ pub record LatchesFit (m : Machine) : Type 0 where
 
 -- The page that a walk holds has the walk's point in its box. The parent that a poster holds is of the job's level, and
 -- has a child leaf at the job's point. The parent that a consolidator holds is of the job's level, and names the pages that
--- the activity names; a page to keep that it holds has a sibling leaf to the page to go.
+-- the activity names; a page to keep that it holds is one level below it, and has a sibling leaf to the page to go.
 pub record WalksInSpace (m : Machine) : Type 0 where
   pub held : (actor held : ℕ) (page : LivePage) → walk_held (m.activity actor) ≡ Some held → live_here m.store held ≡ Some page →
       IfSome (walk_point (m.activity actor)) (Holds page.area)

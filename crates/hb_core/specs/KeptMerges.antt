@@ -41,7 +41,7 @@ abbrev pub HasLeafTo : LivePage → ℕ → Option ℕ → Type 0
 HasLeafTo page gone None = GaveTo page gone
 HasLeafTo page gone (Some leaf) = slice_get (leaves page.frag) leaf ≡ Some (Sibling gone)
 
--- It is one level below the parent.
+-- The page to keep is one level below the parent, and has such a leaf.
 pub record KeepsPair (st : StoreState) (above : LivePage) (pair : PairHeld) : Type 0 where
   pub page : LivePage
   pub live : live_here st pair.keep ≡ Some page

@@ -5,7 +5,7 @@ ghost use Rattle.hb_core.specs.CauseLaws.{AnswersFirstLine, FullByCause, NoMemor
 ghost use Rattle.hb_core.specs.JobLaws.{DropsByCause, JobsEndByCause, JobsLeaveToWorkers};
 
 /// A line is answered by a step of its own session, and is that session's first line without an answer.
-#[tactic(auto, using(crate::proofs::Causes::answers_first_line))]
+#[tactic(auto, using(crate::proofs::Table::Causes::answers_first_line))]
 pub fn sessions_answer_their_first_line()
     ensures { AnswersFirstLine }
 {}
@@ -34,7 +34,7 @@ pub fn jobs_leave_to_workers()
 
 /// A job in work stays in work of its worker, or waits again, or is dropped, or ends: by a row of the table
 /// and for a cause that this names, or since its step can't be made ready and nothing is left to flush.
-#[tactic(auto, using(crate::proofs::Causes::jobs_end_by_cause))]
+#[tactic(auto, using(crate::proofs::Table::Causes::jobs_end_by_cause))]
 pub fn jobs_end_by_cause()
     ensures { JobsEndByCause }
 {}

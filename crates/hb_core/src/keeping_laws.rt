@@ -14,7 +14,7 @@ use hb_frag::laws::{each_point_has_one_leaf, leaves_part_the_box, parts_are_stre
 use hb_layout::limits::limits_of_this_version;
 
 /// Under no number but those of the 19 actors anybody comes to stand, or takes a latch.
-#[tactic(auto, using(crate::proofs::StillThere::nobody_else_comes, crate::proofs::StillThere::nobody_else_latches))]
+#[tactic(auto, using(crate::proofs::Memory::StillThere::nobody_else_comes, crate::proofs::Memory::StillThere::nobody_else_latches))]
 pub fn nobody_else_comes()
     ensures stands { NobodyElseComes }
     ensures latches { NobodyElseLatches }
@@ -22,7 +22,7 @@ pub fn nobody_else_comes()
 
 /// After a step the page that a walk holds has the walk's point in its box, and the parent that a poster
 /// holds has a child leaf at the job's point.
-#[tactic(auto, using(crate::proofs::WalksKept::walks_stay_in_space))]
+#[tactic(auto, using(crate::proofs::Walks::WalksKept::walks_stay_in_space))]
 pub fn walks_stay_in_space()
     ensures { WalksStayInSpace }
 {}
@@ -49,7 +49,7 @@ pub fn rows_can_be_done()
 }
 
 /// A line is answered once its place in the order is settled, or outside of the order.
-#[tactic(auto, using(crate::proofs::AnswersInPlace::answers_are_in_place))]
+#[tactic(auto, using(crate::proofs::Orders::AnswersInPlace::answers_are_in_place))]
 pub fn answers_are_in_place()
     ensures { AnswersAreInPlace }
 {}
@@ -92,7 +92,7 @@ pub fn steps_keep_all()
 
 /// While pages aren't merged no job to merge waits, and the consolidator stays idle: so it is after a step
 /// and after any list of steps, over every disk, and at a beginning where no job waits.
-#[tactic(auto, using(crate::proofs::NoMerges::nothing_comes_to_merge, crate::proofs::NoMerges::nothing_is_merged, crate::proofs::NoMerges::begun_has_nothing))]
+#[tactic(auto, using(crate::proofs::Table::NoMerges::nothing_comes_to_merge, crate::proofs::Table::NoMerges::nothing_is_merged, crate::proofs::Table::NoMerges::begun_has_nothing))]
 pub fn nothing_is_merged()
     ensures begun { BegunHasNothingToMerge }
     ensures comes { NothingComesToMerge }

@@ -18,7 +18,7 @@ pub fn images_have_prefixes()
 
 /// In a machine that runs and has something left, a line without an answer, a job that waits or an actor at
 /// work, there is an actor of whom no step waits for another one or finds nothing to do.
-#[tactic(auto, using(crate::proofs::WhoGoesOn::somebody_goes_on_now))]
+#[tactic(auto, using(crate::proofs::Walks::WhoGoesOn::somebody_goes_on_now))]
 pub fn somebody_goes_on_now()
     ensures { SomebodyGoesOnNow }
 {}

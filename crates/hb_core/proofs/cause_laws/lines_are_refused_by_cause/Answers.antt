@@ -1,5 +1,5 @@
 use Rattle.hb_core.proofs.cause_laws.lines_are_refused_by_cause.Goals as goal
-use Rattle.hb_core.proofs.Causes.{full_by_cause, no_memory_by_cause, read_fault_by_cause}
+use Rattle.hb_core.proofs.Table.Causes.{full_by_cause, no_memory_by_cause, read_fault_by_cause}
 
 pub returns-clause-fault : goal.returns-clause-fault
 returns-clause-fault c = read_fault_by_cause

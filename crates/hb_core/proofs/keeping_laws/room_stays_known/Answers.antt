@@ -1,5 +1,5 @@
 use Rattle.hb_core.proofs.keeping_laws.room_stays_known.Goals as goal
-use Rattle.hb_core.proofs.RoomKept.{room_stays_known}
+use Rattle.hb_core.proofs.Room.RoomKept.{room_stays_known}
 
 pub returns : goal.returns
 returns c =

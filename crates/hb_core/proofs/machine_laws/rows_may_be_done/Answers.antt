@@ -1,5 +1,5 @@
 use Rattle.hb_core.proofs.machine_laws.rows_may_be_done.Goals as goal
-use Rattle.hb_core.proofs.RowsDoable.{rows_may_be_done}
+use Rattle.hb_core.proofs.Files.RowsDoable.{rows_may_be_done}
 use Rattle.hb_store.proofs.MadePages.{fitting_parts}
 
 pub returns : goal.returns
