@@ -12,3 +12,4 @@ pub mod Sights
 pub mod Passing
 pub mod Stages
 pub mod OneDeed
+pub mod Examples

@@ -14,6 +14,7 @@ mod activities;
 mod box_locks;
 mod changing;
 mod dropping;
+pub mod examples;
 mod holding;
 mod jobs;
 pub mod laws;

@@ -11,12 +11,12 @@ use Rattle.hb_activity.specs.OneDeed.{IsOnly}
 use Rattle.hb_activity.specs.Sights.{Sight}
 use Rattle.hb_frag.specs.Rules.{Precedes}
 use Rattle.hb_search.proofs.OneSearch.{searches_have_one_deed}
-use Rattle.hb_search.specs.Examples.{SearchesByHand, box_of, corner_page, rec_at}
+use Rattle.hb_search.specs.Examples.{SearchesByHand, box_of, corner_page, rec_of_two}
 use Rattle.hb_search.specs.SearchRows.{Gathers}
 use Rattle.hb_space.specs.Boxes.{Area}
 
 abbrev of_four : List Record
-of_four = rec_at 5 5 ∷ rec_at 25 12 ∷ rec_at 30 9 ∷ rec_at 40 20 ∷ []
+of_four = rec_of_two 5 5 ∷ rec_of_two 25 12 ∷ rec_of_two 30 9 ∷ rec_of_two 40 20 ∷ []
 
 abbrev leaf_area : Area
 leaf_area = box_of 0 49 0 30
@@ -44,6 +44,6 @@ searches_by_hand s line = record {
     records = of_four;
     area = leaf_area;
     leaf = refl;
-    goes = (rec_at 25 12 ∷ rec_at 40 20 ∷ rec_at 60 11 ∷ [], IsPermutation-append_comm (rec_at 60 11 ∷ []) (rec_at 25 12 ∷ rec_at 40 20 ∷ []), rising (rec_at 25 12 ∷ rec_at 40 20 ∷ rec_at 60 11 ∷ []) ((refl, (refl, tt)), ((refl, tt), (tt, tt))), refl);
+    goes = (rec_of_two 25 12 ∷ rec_of_two 40 20 ∷ rec_of_two 60 11 ∷ [], IsPermutation-append_comm (rec_of_two 60 11 ∷ []) (rec_of_two 25 12 ∷ rec_of_two 40 20 ∷ []), rising (rec_of_two 25 12 ∷ rec_of_two 40 20 ∷ rec_of_two 60 11 ∷ []) ((refl, (refl, tt)), ((refl, tt), (tt, tt))), refl);
   });
 }
