@@ -6,3 +6,9 @@
 //! (`Sight` of hb_activity), each with its condition and the deed that it is: `specs/SessionRows.antt`
 //! and `specs/SplitRows.antt`. hb_core joins them with the rows of the other actors.
 #![tactic(auto)]
+
+mod deciding;
+mod halving;
+mod walking;
+
+pub use deciding::next;
