@@ -124,8 +124,13 @@ pub(crate) fn put(line: Line, source: u32, fresh: u32, page: &LivePage) -> Next
     requires insert { InsertsInto line page.now }
     ensures { PutsBy line source fresh page.now result }
 {
-    match line.command {
-        Command::Insert(rec) => put_record(line.number, line.session, rec, source, fresh, page),
+    let Line {
+        number,
+        session,
+        command,
+    } = line;
+    match command {
+        Command::Insert(rec) => put_record(number, session, rec, source, fresh, page),
         _ => unreachable!(),
     }
 }

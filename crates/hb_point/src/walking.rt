@@ -80,10 +80,15 @@ fn does_there(line: Line, id: u32, page: &LivePage, meta: &Meta) -> Next
     requires records { MatchOption (goal_of line.command []) ⊥ (RecordsThere page.now) }
     ensures { DoesBy meta.now line id page.now result }
 {
-    match line.command {
-        Command::Insert(rec) => insert(line.number, line.session, rec, id, page, meta),
-        Command::Delete(point) => delete(line.number, point, id, page, meta),
-        Command::Lookup(point) => lookup(line.number, &point, page, meta),
+    let Line {
+        number,
+        session,
+        command,
+    } = line;
+    match command {
+        Command::Insert(rec) => insert(number, session, rec, id, page, meta),
+        Command::Delete(point) => delete(number, point, id, page, meta),
+        Command::Lookup(point) => lookup(number, &point, page, meta),
         Command::Search(_) => unreachable!(),
     }
 }
@@ -106,6 +111,7 @@ fn record_at<'a>(page: &'a LivePage, meta: &Meta, point: &Point) -> Option<&'a R
 
 /// An insert of a point that is there is a duplicate. Else its record is put where the page has
 /// room for it, and where it has none the page is to be split.
+#[tactic(auto, using(crate::proofs::RecordLeaves::no_room_left, crate::proofs::RecordLeaves::records_below))]
 fn insert(number: u32, session: u8, rec: Record, id: u32, page: &LivePage, meta: &Meta) -> Next
     requires layout { IsLayout meta.now }
     requires made { FitsFile meta.now page.now }
