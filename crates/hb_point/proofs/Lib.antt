@@ -1,1 +1,2 @@
 pub mod RecordLeaves
+pub mod AskedRows

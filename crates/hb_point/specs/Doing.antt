@@ -1,6 +1,6 @@
 -- What the parts of the decider say to each other.
-use Rattle.std.specs.Prelude.{◌≡◌, ℕ, List, [], ◌∷◌, length, Option, Some, None}
-use Rattle.hb_frag.specs.Leaves.{leaf_at}
+use Rattle.std.specs.Prelude.{◌≡◌, ◌⊎◌, ℕ, List, [], ◌∷◌, length, Option, Some, None}
+use Rattle.hb_frag.specs.Leaves.{DirectlyHolds, leaf_at}
 use Rattle.hb_frag.specs.declared.leaves.Leaf.TheVariants.{Records}
 use Rattle.hb_frag.specs.declared.pages.LivePage.{LivePage}
 use Rattle.hb_layout.specs.declared.meta.Meta.{Meta}
@@ -57,5 +57,9 @@ pub record InsertsInto (line : Line) (page : LivePage) : Type 0 where
 
 -- An answer is the row that puts, whatever is given as the other half.
 abbrev pub PutsBy : Line → ℕ → ℕ → LivePage → Next → Type 0
-PutsBy line source fresh page next = (meta : Meta) (first : Option LivePage) (free : Option (ℕ × ℕ)) → HasHalves meta line source fresh source page first →
-    Puts (given_sight meta (pages_given (at.SessionPut line source fresh) source page first) free) line source fresh (deed_for line next)
+PutsBy line source fresh page next = (meta : Meta) (id : ℕ) (first : Option LivePage) (free : Option (ℕ × ℕ)) → HasHalves meta line source fresh id page first →
+    Puts (given_sight meta (pages_given (at.SessionPut line source fresh) id page first) free) line source fresh (deed_for line next)
+
+-- The half is the page, where that directly holds the point, and else the other one.
+abbrev pub IsHalfFor : LivePage → List ℕ → ℕ → ℕ → ℕ → Type 0
+IsHalfFor page p source fresh half = ((half ≡ source) × DirectlyHolds page p) ⊎ ((half ≡ fresh) × (¬ (DirectlyHolds page p)))

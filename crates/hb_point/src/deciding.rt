@@ -26,6 +26,7 @@ use std::alloc::Global;
 /// # Errors
 ///
 /// Memory was refused. It is wanted only where a page is split.
+#[tactic(auto, using(crate::proofs::AskedRows::asked_walk, crate::proofs::AskedRows::asked_put))]
 pub fn next(
     alloc: Global,
     state: Activity,

@@ -10,7 +10,7 @@ ghost use Rattle.hb_ops.specs.Cutting.{half_area, reached};
 ghost use Rattle.hb_ops.specs.Sound.{FitsFile};
 ghost use Rattle.hb_ops.specs.Splits.{PlanesCut};
 ghost use Rattle.hb_point.specs.Asks.{MustSplit};
-ghost use Rattle.hb_point.specs.Doing.{InsertsInto, PutsBy, deed_for, line_with};
+ghost use Rattle.hb_point.specs.Doing.{InsertsInto, IsHalfFor, PutsBy, deed_for, line_with};
 ghost use Rattle.hb_point.specs.SplitRows.{SplitsOrFull};
 ghost use Rattle.hb_set.specs.declared.commands.Command.TheVariants as commands;
 ghost use Rattle.hb_space.specs.Boxes.{Area as Extent, Cuts as Parts};
@@ -47,6 +47,7 @@ pub(crate) fn split(
 }
 
 /// The chosen part leaves the page, and its box is a box that the parent owes a posting.
+#[tactic(auto, using(crate::proofs::RecordLeaves::full_page_weighs, crate::proofs::AskedRows::splits_off))]
 fn part_off(
     alloc: Global,
     line: Line,
@@ -83,6 +84,7 @@ fn part_off(
 }
 
 /// The lower corner of the box of the part that leaves.
+#[tactic(auto, using(crate::proofs::AskedRows::planes_of))]
 fn corner(page: &LivePage, path: &Path, cuts: &Cuts) -> Point
     requires well_cut { WellCut page.now }
     requires leaves { MayLeave page.now path.now cuts.now }
@@ -119,6 +121,7 @@ fn half_area(area: &Area, cut: LeafCut) -> Area
 }
 
 /// A put into the half that directly holds the record's point.
+#[tactic(auto, using(crate::proofs::AskedRows::puts_as))]
 pub(crate) fn put(line: Line, source: u32, fresh: u32, page: &LivePage) -> Next
     requires well_cut { WellCut page.now }
     requires insert { InsertsInto line page.now }
@@ -136,6 +139,7 @@ pub(crate) fn put(line: Line, source: u32, fresh: u32, page: &LivePage) -> Next
 }
 
 /// A put of this record into one of the halves.
+#[tactic(auto, using(crate::proofs::AskedRows::puts_half))]
 fn put_record(
     number: u32,
     session: u8,
@@ -148,12 +152,21 @@ fn put_record(
     requires attributes { length rec.key ≡ length page.now.area.lo }
     ensures { PutsBy (line_with number session (commands.Insert rec)) source fresh page.now result }
 {
-    let half = if directly_holds(page, &rec.key) {
+    let half = half_for(page, &rec.key, source, fresh);
+    Next::takes_effect(number, Reply::Done, Some(Op::Put { page: half, rec }))
+}
+
+/// The half that directly holds the point: this page, or else the other one.
+fn half_for(page: &LivePage, point: &Point, source: u32, fresh: u32) -> u32
+    requires well_cut { WellCut page.now }
+    requires attributes { length point.now ≡ length page.now.area.lo }
+    ensures { IsHalfFor page.now point.now source fresh result }
+{
+    if directly_holds(page, point) {
         source
     } else {
         fresh
-    };
-    Next::takes_effect(number, Reply::Done, Some(Op::Put { page: half, rec }))
+    }
 }
 
 /// Whether the page directly holds the point.

@@ -19,6 +19,7 @@ use hb_space::{Areas, Point, Record, Records};
 
 /// A step of a walk that latched this page. A leaf that names a page leads on, and a sibling leaf
 /// shows that the parent owes a posting.
+#[tactic(auto, using(crate::proofs::AskedRows::walk_does))]
 pub(crate) fn walk(
     line: Line,
     rest: Areas,
@@ -73,6 +74,7 @@ fn point_of<'a>(page: &LivePage, command: &'a Command) -> &'a Point
 }
 
 /// What the command does at a page whose leaf at its point has records.
+#[tactic(auto, using(crate::proofs::AskedRows::does_as))]
 fn does_there(line: Line, id: u32, page: &LivePage, meta: &Meta) -> Next
     requires layout { IsLayout meta.now }
     requires made { FitsFile meta.now page.now }
