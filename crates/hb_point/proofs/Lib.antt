@@ -1,2 +1,3 @@
 pub mod RecordLeaves
 pub mod AskedRows
+pub mod HeldPoints

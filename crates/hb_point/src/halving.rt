@@ -17,7 +17,6 @@ ghost use Rattle.hb_space.specs.Boxes.{Area as Extent, Cuts as Parts};
 ghost use Rattle.hb_split.specs.Laws.{MayLeave};
 
 use hb_activity::{Activity, Job, JobKind, Next};
-use hb_frag::laws::directly_held_is_by_points;
 use hb_frag::{LivePage, Path, Side};
 use hb_ops::{Cuts, LeafCut, Meta, Op};
 use hb_set::{Command, Line, Reply};
@@ -170,11 +169,11 @@ fn half_for(page: &LivePage, point: &Point, source: u32, fresh: u32) -> u32
 }
 
 /// Whether the page directly holds the point.
+#[tactic(auto, using(crate::proofs::HeldPoints::held_by_point))]
 fn directly_holds(page: &LivePage, point: &Point) -> bool
     requires well_cut { WellCut page.now }
     requires attributes { length point.now ≡ length page.now.area.lo }
     ensures { IsTrue result ↔ DirectlyHolds page.now point.now }
 {
-    directly_held_is_by_points();
     page.directly(&Area::of_point(point))
 }
