@@ -1,5 +1,5 @@
 -- The parts of the decider together are the row that was asked for.
-use Rattle.std.proofs.Common.{◌≡◌, ◌≢◌, ◌⊎◌, inl, inr, ℕ, ◌<◌, Bool, true, false, cond, List, [], ◌∷◌, length, Option, Some, None, refl, sym, ap, subst, ◌∙◌, arith, eq-eqb, ne_eqb}
+use Rattle.std.proofs.Common.{◌≡◌, ◌≢◌, ◌⊎◌, inl, inr, ℕ, ◌<◌, Bool, cond, List, [], ◌∷◌, Option, Some, refl, sym, ap, subst, ◌∙◌, eq-eqb, ne_eqb}
 use Rattle.std.specs.Prelude.{MatchOption}
 use Rattle.hb_activity.specs.Deciding.{deed_of, given_sight, page_among}
 use Rattle.hb_activity.specs.Passing.{PassesOn}
@@ -20,7 +20,7 @@ use Rattle.hb_ops.specs.Cutting.{reached}
 use Rattle.hb_ops.specs.Splits.{PlanesCut}
 use Rattle.hb_ops.specs.declared.leaf_cuts.LeafCut.{LeafCut}
 use Rattle.hb_ops.specs.declared.operations.Op.TheVariants.{Extract, Put}
-use Rattle.hb_point.specs.Asks.{HasHalves, MayAsk, pages_given}
+use Rattle.hb_point.specs.Asks.{MayAsk, pages_given}
 use Rattle.hb_point.specs.Doing.{DoesBy, IsHalfFor, PutsBy, WalksBy, deed_for, line_with}
 use Rattle.hb_point.specs.PointRows.{PointRow}
 use Rattle.hb_point.specs.SessionRows.{DoesThere}

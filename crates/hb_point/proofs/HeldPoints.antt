@@ -1,5 +1,5 @@
 -- A page directly holds the box of one point exactly where it directly holds the point.
-use Rattle.std.proofs.Common.{◌≡◌, ◌↔◌, ℕ, ◌<◌, ◌≤◌, List, length, get_or, max, min, sym, subst, ◌∙◌, arith}
+use Rattle.std.proofs.Common.{◌≡◌, ◌↔◌, ℕ, ◌<◌, List, length, get_or, sym, ◌∙◌, arith}
 use Rattle.std.proofs.lemmas.List.Elements.{All-contains, Contains-get_or}
 use Rattle.hb_frag.proofs.Tiles.{tiles_attributes}
 use Rattle.hb_frag.specs.Leaves.{DirectlyCovers, DirectlyHolds, Placed, leaves_of, siblings_of}

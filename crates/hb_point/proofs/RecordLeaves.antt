@@ -1,5 +1,5 @@
 -- A page whose leaf at a point has records: its level, whether it has room, and what it weighs with one more.
-use Rattle.std.proofs.Common.{◌≡◌, ◌≢◌, inl, inr, ℕ, zero, suc, ◌+◌, ◌<◌, ◌≤◌, ◌^◌, ◌==◌, max, Bool, true, false, cond, List, [], ◌∷◌, ◌++◌, length, All, Option, Some, None, sym, ap, subst, ◌∙◌, arith, eq-eqb}
+use Rattle.std.proofs.Common.{◌≡◌, inl, inr, ℕ, ◌+◌, ◌<◌, ◌≤◌, Bool, true, false, cond, List, [], ◌∷◌, length, All, Some, subst, arith}
 use Rattle.std.specs.List.{Contains, filter}
 use Rattle.std.specs.Ordering.{is_gt, is_lt}
 use Rattle.std.specs.declared.cmp.Ordering.{Ordering}
@@ -8,7 +8,7 @@ use Rattle.std.proofs.lemmas.Bool.{cases_lt}
 use Rattle.std.proofs.lemmas.List.{length-append}
 use Rattle.std.proofs.lemmas.List.Elements.{All-contains, All-contains_itself, All-head, All-tail}
 use Rattle.hb_frag.specs.Leaves.{Placed, first_at, leaf_at, leaves, leaves_of, weight_of}
-use Rattle.hb_frag.specs.Rules.{BelongsAt, capacity_of}
+use Rattle.hb_frag.specs.Rules.{BelongsAt}
 use Rattle.hb_frag.specs.declared.leaves.Leaf.TheVariants.{Records}
 use Rattle.hb_frag.specs.declared.pages.LivePage.{LivePage}
 use Rattle.hb_layout.specs.Limits.{IsLayout}
@@ -41,11 +41,11 @@ pub no_room_left : (meta : Meta) (page : LivePage) (rec : Record) → FitsFile m
 no_room_left meta page rec made absent unfit = elim (cases_lt meta.dcap (weight_of (put_page rec page).frag)) [
   | inl full ↦ full
   | inr room ↦ absurd (unfit (record {
-      made = made;
-      level = records_below meta page rec.key absent.records absent.area made absent.leaf;
-      absent = record { records = absent.records; area = absent.area; leaf = absent.leaf; keeps = absent.lack };
-      room = omega (arith, room);
-    }))
+    made = made;
+    level = records_below meta page rec.key absent.records absent.area made absent.leaf;
+    absent = record { records = absent.records; area = absent.area; leaf = absent.leaf; keeps = absent.lack };
+    room = omega (arith, room);
+  }))
 ]
 
 -- ---- one record more weighs one more at most
@@ -83,10 +83,3 @@ full_page_weighs meta page rec layout made absent full =
     let few = joined_few rec absent.records in
     let least = layout.dcap_least in
     omega (arith, changed, few, least, full)
-
--- a page of the file weighs little
-pub weighs_little : (meta : Meta) (page : LivePage) → IsLayout meta → FitsFile meta page → weight_of page.frag < 2 ^ 32
-weighs_little meta page layout made = elim (page.level == 0) as (λ b. weight_of page.frag ≤ cond b meta.dcap meta.icap → weight_of page.frag < 2 ^ 32) [
-  | true ↦ λ light. let most = layout.dcap_most in omega (arith, light, most)
-  | false ↦ λ light. let most = layout.icap_most in omega (arith, light, most)
-] made.filled.light

@@ -1,5 +1,5 @@
 -- What the parts of the decider say to each other.
-use Rattle.std.specs.Prelude.{◌≡◌, ◌⊎◌, ℕ, List, [], ◌∷◌, length, Option, Some, None}
+use Rattle.std.specs.Prelude.{◌≡◌, ◌⊎◌, ℕ, List, length, Option, Some, None}
 use Rattle.hb_frag.specs.Leaves.{DirectlyHolds, leaf_at}
 use Rattle.hb_frag.specs.declared.leaves.Leaf.TheVariants.{Records}
 use Rattle.hb_frag.specs.declared.pages.LivePage.{LivePage}
@@ -30,6 +30,7 @@ deed_for line next = record {
   says = said_by (HasLine line) next.fate;
 }
 
+-- the line of these parts
 abbrev pub line_with : ℕ → ℕ → Command → Line
 line_with number session command = record { number = number; session = session; command = command }
 

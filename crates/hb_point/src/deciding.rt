@@ -26,7 +26,7 @@ use std::alloc::Global;
 /// # Errors
 ///
 /// Memory was refused. It is wanted only where a page is split.
-#[tactic(auto, using(crate::proofs::AskedRows::asked_walk, crate::proofs::AskedRows::asked_put))]
+#[tactic(auto, using(crate::proofs::AskedRows::asked_put))]
 pub fn next(
     alloc: Global,
     state: Activity,
@@ -47,7 +47,10 @@ pub fn next(
 {
     match state {
         Activity::SessionWalk {
-            line, rest, found, ..
+            line,
+            rest,
+            found,
+            ..
         } => Ok(walk(line, rest, found, id, page, meta)),
         Activity::SessionSplit { line, held } => split(alloc, line, held, page, free, meta),
         Activity::SessionPut {

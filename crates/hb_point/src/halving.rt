@@ -46,7 +46,7 @@ pub(crate) fn split(
 }
 
 /// The chosen part leaves the page, and its box is a box that the parent owes a posting.
-#[tactic(auto, using(crate::proofs::RecordLeaves::full_page_weighs, crate::proofs::AskedRows::splits_off))]
+#[tactic(auto, using(crate::proofs::AskedRows::splits_off))]
 fn part_off(
     alloc: Global,
     line: Line,

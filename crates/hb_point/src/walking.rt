@@ -19,7 +19,6 @@ use hb_space::{Areas, Point, Record, Records};
 
 /// A step of a walk that latched this page. A leaf that names a page leads on, and a sibling leaf
 /// shows that the parent owes a posting.
-#[tactic(auto, using(crate::proofs::AskedRows::walk_does))]
 pub(crate) fn walk(
     line: Line,
     rest: Areas,
