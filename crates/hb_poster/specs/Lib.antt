@@ -1,1 +1,2 @@
 pub mod PosterRows
+pub mod Asks

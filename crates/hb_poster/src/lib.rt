@@ -7,3 +7,10 @@
 //! Source of the idea: Lomet and Salzberg 1992, whose index terms are posted late, by an atomic action of
 //! their own.
 #![tactic(auto)]
+
+mod deciding;
+mod growing;
+mod posting;
+mod walking;
+
+pub use deciding::{needs_number, next};

@@ -1,0 +1,3 @@
+pub mod SiblingLeaves
+pub mod LeavesAtPoints
+pub mod ParentWeights
