@@ -1,5 +1,5 @@
 -- What a parent weighs.
-use Rattle.std.proofs.Common.{◌≡◌, ◌≢◌, ℕ, ◌+◌, ◌*◌, ◌<◌, ◌≤◌, Bool, true, false, cond, List, [], ◌∷◌, length, Option, Some, None, refl, subst, ne_eqb, arith}
+use Rattle.std.proofs.Common.{◌≡◌, ℕ, ◌≤◌, Bool, true, false, cond, List, ◌∷◌, length, Some, refl, subst, ne_eqb, arith}
 use Rattle.std.specs.Prelude.{nat_lt, slice_index}
 use Rattle.hb_frag.proofs.CarvedKinds.{carved_light, some_weight}
 use Rattle.hb_frag.proofs.Parts.{part_weighs}

@@ -1,10 +1,10 @@
 //! The file gets a level.
 
-ghost use Rattle.std.specs.Prelude.{◌≡◌, ◌≢◌, ◌↔◌, [], ◌∷◌, None, IsTrue};
+ghost use Rattle.std.specs.Prelude.{◌≢◌, ◌↔◌, ℕ, List, [], None, IsTrue};
 ghost use Rattle.hb_space.specs.Boxes.{Area as Extent};
 ghost use Rattle.hb_frag.specs.Leaves.{leaves_of, siblings, siblings_of};
-ghost use Rattle.hb_activity.specs.Deciding.{deed_of, given_sight};
-ghost use Rattle.hb_poster.specs.Asks.{NumberFits};
+ghost use Rattle.hb_frag.specs.declared.pages.LivePage.{LivePage as OnePage};
+ghost use Rattle.hb_activity.specs.Deciding.{FitsFree, deed_of, given_sight};
 ghost use Rattle.hb_poster.specs.PosterRows.{MayGrow, PosterRow};
 
 use hb_activity::{Activity, Job, Next};
@@ -15,16 +15,10 @@ use hb_ops::Op;
 
 /// What growing comes to: where the file may get a level and a page is free, it does, and the job
 /// waits again. Else the job is dropped.
-pub(crate) fn grow(
-    job: Job,
-    id: u32,
-    root: &LivePage,
-    free: Option<(u32, u32)>,
-    meta: &Meta,
-) -> Next
-    requires { MayGrow (given_sight meta.now [] None) job root.now → NumberFits meta.now free }
-    ensures { PosterRow (Activity.PosterGrow job) (given_sight meta.now ((id, root.now) ∷ []) free) id root.now
-        (deed_of (Activity.PosterGrow job) result) }
+pub(crate) fn grow(job: Job, root: &LivePage, free: Option<(u32, u32)>, meta: &Meta) -> Next
+    requires { MayGrow (given_sight meta.now [] None) job root.now → FitsFree meta.now free }
+    ensures { (id : ℕ) (pages : List (ℕ × OnePage)) → PosterRow (Activity.PosterGrow job)
+        (given_sight meta.now pages free) id root.now (deed_of (Activity.PosterGrow job) result) }
 {
     if !may_grow(&job, root, meta) {
         return Next::moves(Activity::PosterIdle);

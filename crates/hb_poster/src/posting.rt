@@ -3,9 +3,11 @@
 ghost use Rattle.std.specs.Prelude.{◌≡◌, ◌<◌, ◌≤◌, ◌^◌, [], ◌∷◌, ℕ, Option, Some, IfOk, OnErr};
 ghost use Rattle.hb_frag.specs.Leaves.{weight_of, WellCut};
 ghost use Rattle.hb_frag.specs.Rules.{AreInOrder};
-ghost use Rattle.hb_activity.specs.Deciding.{deed_of, given_sight};
+ghost use Rattle.hb_layout.specs.Limits.{IsLayout};
+ghost use Rattle.hb_ops.specs.Sound.{FitsFile};
+ghost use Rattle.hb_activity.specs.Deciding.{FitsFree, deed_of, given_sight};
 ghost use Rattle.hb_activity.specs.Sights.{Sight};
-ghost use Rattle.hb_poster.specs.Asks.{AreParentAndChild, MayLookAgain, NumberFits, PlansPosting, TakesMemory};
+ghost use Rattle.hb_poster.specs.Asks.{AsksMemory, LooksAgainBelow, LooksBelow, PlansPosting};
 ghost use Rattle.hb_poster.specs.PosterRows.{PosterRow, SplitsParent};
 ghost use Rattle.hb_terms.specs.Plans.{IsPlan, LacksRoom};
 
@@ -25,12 +27,12 @@ pub(crate) fn look(
     job: Job,
     parent: u32,
     over: &LivePage,
-    id: u32,
     child: &LivePage,
     meta: &Meta,
 ) -> Result<Next, NoMemory>
-    requires { AreParentAndChild meta.now job over.now child.now }
-    ensures row { (free : Option (ℕ × ℕ)) → IfOk result (λ next. PosterRow (Activity.PosterChild job parent)
+    requires both { LooksBelow meta.now job over.now child.now }
+    requires child { FitsFile meta.now child.now }
+    ensures row { (id : ℕ) (free : Option (ℕ × ℕ)) → IfOk result (λ next. PosterRow (Activity.PosterChild job parent)
         (given_sight meta.now ((parent, over.now) ∷ (id, child.now) ∷ []) free) id child.now
         (deed_of (Activity.PosterChild job parent) next)) }
     ensures memory { OnErr result (PlansPosting meta.now job over.now child.now) }
@@ -49,17 +51,18 @@ pub(crate) fn look_again(
     job: Job,
     parent: u32,
     over: &LivePage,
-    id: u32,
     child: &LivePage,
     free: Option<(u32, u32)>,
     meta: &Meta,
 ) -> Result<Next, NoMemory>
-    requires may { MayLookAgain meta.now job over.now child.now }
-    requires free { LacksRoom over.now child.now job.point meta.now.icap → NumberFits meta.now free }
-    ensures row { IfOk result (λ next. PosterRow (Activity.PosterAgain job parent)
+    requires layout { IsLayout meta.now }
+    requires both { LooksAgainBelow meta.now job over.now child.now }
+    requires child { FitsFile meta.now child.now }
+    requires free { LacksRoom over.now child.now job.point meta.now.icap → FitsFree meta.now free }
+    ensures row { (id : ℕ) → IfOk result (λ next. PosterRow (Activity.PosterAgain job parent)
         (given_sight meta.now ((parent, over.now) ∷ (id, child.now) ∷ []) free) id child.now
         (deed_of (Activity.PosterAgain job parent) next)) }
-    ensures memory { OnErr result (TakesMemory (Activity.PosterAgain job parent) meta.now child.now (Some over.now) free) }
+    ensures memory { OnErr result (AsksMemory (Activity.PosterAgain job parent) meta.now child.now (Some over.now) free) }
 {
     match plan_for(alloc, &job, over, child, meta)? {
         PostPlan::Nothing => Ok(Next::moves(Activity::PosterIdle)),
@@ -87,7 +90,8 @@ pub(crate) fn plan_for(
     child: &LivePage,
     meta: &Meta,
 ) -> Result<PostPlan, NoMemory>
-    requires { AreParentAndChild meta.now job.now over.now child.now }
+    requires both { LooksBelow meta.now job.now over.now child.now }
+    requires child { FitsFile meta.now child.now }
     ensures plan { IfOk result (IsPlan over.now child.now job.now.point meta.now.icap) }
     ensures memory { OnErr result (PlansPosting meta.now job.now over.now child.now) }
 {

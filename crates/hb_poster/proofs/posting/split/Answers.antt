@@ -1,7 +1,6 @@
 use Rattle.std.proofs.Common.{List, [], ◌∷◌, ℕ, ◌+◌, None, ap, ◌∙◌}
 use Rattle.hb_activity.specs.Classes.{HasJob}
 use Rattle.hb_activity.specs.Deciding.{joined_by, said_by}
-use Rattle.hb_activity.specs.declared.jobs.Job.{Job}
 use Rattle.hb_activity.specs.declared.jobs.JobKind.TheVariants.{Post}
 use Rattle.hb_poster.proofs.posting.split.Goals as goal
 
