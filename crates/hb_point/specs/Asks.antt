@@ -10,6 +10,7 @@ use Rattle.hb_set.specs.declared.commands.Command.TheVariants.{Insert, Delete, L
 use Rattle.hb_set.specs.declared.scripts.Line.{Line}
 use Rattle.hb_activity.specs.declared.activities.Activity.{Activity}
 use Rattle.hb_activity.specs.declared.activities.Activity.TheVariants as at
+use Rattle.hb_activity.specs.Deciding.{FitsFree}
 use Rattle.hb_space.specs.Boxes.{Holds}
 use Rattle.hb_space.specs.declared.records.Record.{Record}
 
@@ -17,10 +18,6 @@ use Rattle.hb_space.specs.declared.records.Record.{Record}
 abbrev pub pages_given : Activity → ℕ → LivePage → Option LivePage → List (ℕ × LivePage)
 pages_given (at.SessionPut line source fresh) id page (Some other) = (id, page) ∷ (fresh, other) ∷ []
 pages_given activity id page first = (id, page) ∷ []
-
--- a number for a page that is made is given exactly where a page is free
-abbrev pub FitsFree : Meta → Option (ℕ × ℕ) → Type 0
-FitsFree meta free = MatchOption free (meta.live ≡ meta.pages) (λ next. meta.live < meta.pages)
 
 -- A walk is at a page whose box has the command's point. A search has no point.
 abbrev pub WalksInside : LivePage → Command → Type 0
