@@ -35,7 +35,7 @@ pub record MustSplit (meta : Meta) (free : Option (ℕ × ℕ)) (line : Line) (h
   pub full : meta.dcap < weight_of (put_page rec page).frag
   pub number : FitsFree meta free
 
--- Both halves are given, two pages, of which one directly holds the point of the insert. It has as many attributes as the file.
+-- Both halves are given, two pages, of which one directly holds the point of the insert. That point has the attributes of the file.
 pub record HasHalves (meta : Meta) (line : Line) (source fresh id : ℕ) (page : LivePage) (first : Option LivePage) : Type 0 where
   pub given : id ≡ source
   pub apart : source ≢ fresh
