@@ -15,9 +15,7 @@ use Rattle.hb_frag.specs.Trees.{Tree}
 use Rattle.hb_frag.specs.declared.pages.LivePage.{LivePage}
 use Rattle.hb_frag.specs.declared.paths.Side.{Side}
 use Rattle.hb_layout.specs.declared.meta.Meta.{Meta}
-use Rattle.hb_ops.proofs.CutTests.{planes_cut}
 use Rattle.hb_ops.specs.Cutting.{reached}
-use Rattle.hb_ops.specs.Splits.{PlanesCut}
 use Rattle.hb_ops.specs.declared.leaf_cuts.LeafCut.{LeafCut}
 use Rattle.hb_ops.specs.declared.operations.Op.TheVariants.{Extract, Put}
 use Rattle.hb_point.specs.Asks.{MayAsk, pages_given}
@@ -32,7 +30,6 @@ use Rattle.hb_set.specs.declared.scripts.Line.{Line}
 use Rattle.hb_space.specs.Boxes.{Area}
 use Rattle.hb_space.specs.declared.records.Record.{Record}
 use Rattle.hb_split.specs.Choosing.{IsChosen}
-use Rattle.hb_split.specs.Laws.{MayLeave}
 
 -- ---- a line that was taken apart
 
@@ -54,12 +51,6 @@ asked_walk state meta free id page first next line held rest found is walks =
     subst (λ (a : Activity). PointRow a (given_sight meta (pages_given a id page first) free) id page (deed_of a next)) (sym is) (walks held ((id, page) ∷ []) free)
 
 -- ---- a split
-
--- the planes of the cuts of a part that may leave
-pub planes_of : (page : LivePage) (path : List Side) (cuts : List LeafCut) (tree : Tree) (area : Area) → MayLeave page path cuts → part_at path page.frag page.area ≡ Some (tree, area) → PlanesCut cuts area
-planes_of page path cuts tree area leaves found =
-    let same : leaves.part ≡ (tree, area) = cc (sym leaves.found ∙ found) in
-    subst (λ (part : Tree × Area). PlanesCut cuts part.1) same (planes_cut cuts leaves.part.0 leaves.part.1 leaves.parts)
 
 -- a page that stands first is the one of its number
 first_given : (id : ℕ) (page : LivePage) (rest : List (ℕ × LivePage)) → page_among ((id, page) ∷ rest) id ≡ Some page

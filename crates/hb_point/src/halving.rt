@@ -16,7 +16,7 @@ ghost use Rattle.hb_set.specs.declared.commands.Command.TheVariants as commands;
 ghost use Rattle.hb_space.specs.Boxes.{Area as Extent, Cuts as Parts};
 ghost use Rattle.hb_split.specs.Laws.{MayLeave};
 
-use hb_activity::{Activity, Job, JobKind, Next};
+use hb_activity::{Activity, Job, JobKind, Next, corner_of};
 use hb_frag::{LivePage, Path, Side};
 use hb_ops::{Cuts, LeafCut, Meta, Op};
 use hb_set::{Command, Line, Reply};
@@ -65,7 +65,7 @@ fn part_off(
     let job = Job {
         kind: JobKind::Post,
         level: 1,
-        point: corner(page, &path, &cuts),
+        point: corner_of(page, &path, &cuts),
     };
     let then = Activity::SessionPut {
         line,
@@ -80,43 +80,6 @@ fn part_off(
         free_after,
     };
     Ok(Next::does(then, op, job))
-}
-
-/// The lower corner of the box of the part that leaves.
-#[tactic(auto, using(crate::proofs::AskedRows::planes_of))]
-fn corner(page: &LivePage, path: &Path, cuts: &Cuts) -> Point
-    requires well_cut { WellCut page.now }
-    requires leaves { MayLeave page.now path.now cuts.now }
-    ensures { (part : Tree × Extent) × (part_at path.now page.now.frag page.now.area ≡ Some part)
-        × (result ≡ (reached cuts.now part.0 part.1).1.lo) }
-{
-    match page.subtree(path) {
-        None => unreachable!(),
-        Some((_, area)) => reached_area(area, cuts.as_slice()).lo().copy(),
-    }
-}
-
-/// The box of what goes on at all cuts.
-fn reached_area(area: Area, cuts: &[LeafCut]) -> Area
-    requires { PlanesCut cuts.now area }
-    ensures { (tree : Tree) → result ≡ (reached cuts.now tree area).1 }
-{
-    match cuts {
-        [] => area,
-        [cut, rest @ ..] => reached_area(half_area(&area, *cut), rest),
-    }
-}
-
-/// The box of what goes on at the cut.
-fn half_area(area: &Area, cut: LeafCut) -> Area
-    requires { Parts area.now cut.axis cut.value }
-    ensures { result ≡ half_area cut area.now }
-{
-    let (below, from) = area.cut(cut.axis, cut.value);
-    match cut.side {
-        Side::Left => below,
-        Side::Right => from,
-    }
 }
 
 /// A put into the half that directly holds the record's point.
