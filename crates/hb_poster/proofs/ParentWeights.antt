@@ -19,7 +19,10 @@ use Rattle.hb_activity.specs.Passing.{LeadsBelow}
 use Rattle.hb_activity.specs.declared.jobs.Job.{Job}
 use Rattle.hb_poster.proofs.LeavesAtPoints.{kind_there, of_first}
 use Rattle.hb_space.specs.Boxes.{Area, common_area, side_below, side_from}
+use Rattle.hb_terms.proofs.Owing.{one_plan}
 use Rattle.hb_terms.specs.Plans.{LacksRoom}
+use Rattle.hb_terms.specs.declared.plans.PostPlan.TheVariants.{Post, SplitFirst}
+use Rattle.hb_poster.specs.Asks.{PlansPosting}
 
 -- It is an index page, and weighs at most what such a page may.
 pub light_parent : (meta : Meta) (job : Job) (over : LivePage) → FitsFile meta over → LeadsBelow over job → weight_of over.frag ≤ meta.icap
@@ -46,3 +49,10 @@ heavy_parent meta over child p layout made lacks =
     let some = some_weight ends.0.0 in
     let less = (says_the_same (with_part (way_to p over.frag) over.frag c)).weight in
     omega (arith, attributes, few, whole, some, less, lacks.heavy, made.fits.attributes, layout.few_attributes, layout.icap_least)
+
+-- one for which a posting is planned has room
+pub has_room : (meta : Meta) (job : Job) (over child : LivePage) → PlansPosting meta job over child → ¬ (LacksRoom over child job.point meta.icap)
+has_room meta job over child (at, inner, area, posts) lacks = other (one_plan over child job.point meta.icap (Post at inner area) SplitFirst posts lacks)
+  where
+    other : Post at inner area ≡ SplitFirst → ⊥
+    other same = cc

@@ -55,11 +55,6 @@ MayBeAsked other meta page first = ⊥
 abbrev pub PlansPosting : Meta → Job → LivePage → LivePage → Type 0
 PlansPosting meta job over child = (at : List Side) × (inner : ℕ) × (area : Area) × Posts over child job.point meta.icap at inner area
 
--- and made by this step
-abbrev pub PostsNow : Activity → Meta → LivePage → Option LivePage → Type 0
-PostsNow (at.PosterAgain job parent) meta page (Some over) = PlansPosting meta job over page
-PostsNow other meta page first = ⊥
-
 -- Memory is asked for where a posting is planned, and, looking again, where the parent is split.
 abbrev pub AsksMemory : Activity → Meta → LivePage → Option LivePage → Option (ℕ × ℕ) → Type 0
 AsksMemory (at.PosterChild job parent) meta page (Some over) free = PlansPosting meta job over page

@@ -3,17 +3,16 @@ ghost use Rattle.std.specs.Option.{option_copied};
 ghost use Rattle.hb_layout.specs.Limits.{IsLayout};
 ghost use Rattle.hb_ops.specs.Sound.{FitsFile};
 ghost use Rattle.hb_activity.specs.Deciding.{FitsFree, deed_of, given_sight};
-ghost use Rattle.hb_poster.specs.Asks.{AsksMemory, MakesPage, MayBeAsked, PostsNow, given_pages};
+ghost use Rattle.hb_poster.specs.Asks.{AsksMemory, MakesPage, MayBeAsked, given_pages};
 ghost use Rattle.hb_poster.specs.PosterRows.{PosterRow};
 
 use crate::growing::{grow, may_grow};
-use crate::posting::{look, look_again, plan_for};
+use crate::posting::{lacks_room, look, look_again};
 use crate::walking::walk;
 use hb_activity::{Activity, Next};
 use hb_frag::LivePage;
 use hb_layout::Meta;
 use hb_space::NoMemory;
-use hb_terms::PostPlan;
 use std::alloc::Global;
 
 /// What a step of the poster comes to. `page`, of number `id`, is the page that the step latched: the
@@ -64,35 +63,27 @@ pub fn next(
 
 /// Whether the step takes a number for a page that it makes. Where the poster looks again, what is
 /// to be posted is planned for that, and `next` plans it once more.
-///
-/// # Errors
-///
-/// Memory was refused. It is wanted only where a posting is planned that this step makes.
 pub fn needs_number(
     alloc: Global,
     state: &Activity,
     page: &LivePage,
     first: Option<&LivePage>,
     meta: &Meta,
-) -> Result<bool, NoMemory>
+) -> bool
     requires made { FitsFile meta.now page.now }
     requires asked { MayBeAsked state.now meta.now page.now (option_copied first) }
-    ensures exact { IfOk result (λ needs. IsTrue needs
-        ↔ ((meta.now.live < meta.now.pages) × MakesPage state.now meta.now page.now (option_copied first.entry))) }
-    ensures memory { OnErr result (PostsNow state.now meta.now page.now (option_copied first.entry)) }
+    ensures { IsTrue result
+        ↔ ((meta.now.live < meta.now.pages) × MakesPage state.now meta.now page.now (option_copied first.entry)) }
 {
     if meta.pages <= meta.live {
-        return Ok(false);
+        return false;
     }
     match state {
-        Activity::PosterGrow { job } => Ok(may_grow(job, page, meta)),
+        Activity::PosterGrow { job } => may_grow(job, page, meta),
         Activity::PosterAgain { job, .. } => match first {
-            Some(over) => {
-                let plan = plan_for(alloc, job, over, page, meta)?;
-                Ok(matches!(plan, PostPlan::SplitFirst))
-            }
+            Some(over) => lacks_room(alloc, job, over, page, meta),
             None => unreachable!(),
         },
-        _ => Ok(false),
+        _ => false,
     }
 }

@@ -1,6 +1,6 @@
 //! A posting that the parent owes is planned, and made.
 
-ghost use Rattle.std.specs.Prelude.{◌≡◌, ◌<◌, ◌≤◌, ◌^◌, [], ◌∷◌, ℕ, Option, Some, IfOk, OnErr};
+ghost use Rattle.std.specs.Prelude.{◌≡◌, ◌<◌, ◌≤◌, ◌^◌, ◌↔◌, [], ◌∷◌, ℕ, Option, Some, IfOk, IsTrue, OnErr};
 ghost use Rattle.hb_frag.specs.Leaves.{weight_of, WellCut};
 ghost use Rattle.hb_frag.specs.Rules.{AreInOrder};
 ghost use Rattle.hb_layout.specs.Limits.{IsLayout};
@@ -82,8 +82,28 @@ pub(crate) fn look_again(
     }
 }
 
-/// The plan for the parent and its child at the job's point.
-pub(crate) fn plan_for(
+/// Whether the parent has no room for what is to be posted. Memory is refused only where it has, and a
+/// posting is planned.
+#[tactic(auto, using(crate::proofs::ParentWeights::has_room))]
+pub(crate) fn lacks_room(
+    alloc: Global,
+    job: &Job,
+    over: &LivePage,
+    child: &LivePage,
+    meta: &Meta,
+) -> bool
+    requires both { LooksBelow meta.now job.now over.now child.now }
+    requires child { FitsFile meta.now child.now }
+    ensures { IsTrue result ↔ LacksRoom over.now child.now job.now.point meta.now.icap }
+{
+    match plan_for(alloc, job, over, child, meta) {
+        Ok(PostPlan::SplitFirst) => true,
+        Ok(PostPlan::Nothing | PostPlan::Post { .. }) | Err(_) => false,
+    }
+}
+
+// The plan for the parent and its child at the job's point.
+fn plan_for(
     alloc: Global,
     job: &Job,
     over: &LivePage,
