@@ -9,10 +9,7 @@ use Rattle.hb_activity.specs.declared.activities.Activity.TheVariants as at
 use Rattle.hb_activity.specs.declared.jobs.Job.{Job}
 use Rattle.hb_activity.specs.Passing.{LeadsBelow}
 use Rattle.hb_activity.specs.Walks.{walk_held, walk_point}
-use Rattle.hb_core.specs.KeptLines.{LinesFit}
 use Rattle.hb_core.specs.KeptMerges.{NamesKnown, merging_at}
-use Rattle.hb_core.specs.KeptOrder.{HasLegalOrder, HasPendingPrefix}
-use Rattle.hb_core.specs.KeptTurns.{LinesInTurn}
 use Rattle.hb_core.specs.Machines.{Files, Machine, current_file, live_here}
 use Rattle.hb_core.specs.Performing.{latches_held, mode_among}
 use Rattle.hb_frag.specs.Leaves.{DirectlyHolds, weight_of}
@@ -22,7 +19,6 @@ use Rattle.hb_ops.specs.Files.{page_of}
 use Rattle.hb_ops.specs.Recording.{put_page}
 use Rattle.hb_ops.specs.Sound.{IsSound}
 use Rattle.hb_ops.specs.Standing.{StandsNot}
-use Rattle.hb_set.specs.Machine.{RecordSet}
 use Rattle.hb_space.specs.Boxes.{Holds}
 use Rattle.hb_store.specs.States.{IsGoodPage, in_memory}
 

@@ -1,5 +1,5 @@
 -- What a step leaves of the pages that actors hold between two steps.
-use Rattle.std.proofs.Common.{◌≡◌, ◌≢◌, ◌⊎◌, inl, inr, ℕ, nat_le, Bool, cond, Option, Some, None, IsSome, refl, sym, ap, ◌∙◌, subst, leb-true, leb-false, arith}
+use Rattle.std.proofs.Common.{◌≡◌, ◌≢◌, ◌⊎◌, inl, inr, ℕ, nat_le, Bool, cond, Option, Some, None, refl, sym, ap, ◌∙◌, subst, leb-true, leb-false, arith}
 use Rattle.std.proofs.lemmas.Bool.{cases_Bool, eq-eqb}
 use Rattle.hb_frag.specs.declared.pages.LivePage.{LivePage}
 use Rattle.hb_frag.specs.declared.pages.Page.{Page}

@@ -16,7 +16,6 @@ use Rattle.hb_activity.specs.declared.activities.Activity.{Activity}
 use Rattle.hb_activity.specs.declared.activities.Activity.TheVariants as at
 use Rattle.hb_activity.specs.declared.dropping.DropWhy.{DropWhy}
 use Rattle.hb_activity.specs.declared.dropping.DropWhy.TheVariants as drops
-use Rattle.hb_core.specs.declared.outcomes.Outcome.TheVariants as outcomes
 use Rattle.hb_activity.specs.Classes.{line_in_hand, Class, Consolidators, Flushers, Posters, Sessions, class_of, idle_of, line_of}
 use Rattle.hb_activity.specs.Deeds.{Deed, answers_now, takes_effect, Answers}
 use Rattle.hb_activity.specs.Passing.{PassesOn}
