@@ -4,3 +4,4 @@ pub mod WaitingActors
 pub mod LaterPages
 pub mod AllowedDeeds
 pub mod OneLeaf
+pub mod KindExamples

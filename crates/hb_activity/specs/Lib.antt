@@ -13,3 +13,4 @@ pub mod Passing
 pub mod Stages
 pub mod Deciding
 pub mod OneDeed
+pub mod Examples

@@ -15,6 +15,7 @@ mod box_locks;
 mod changing;
 mod deciding;
 mod dropping;
+pub mod examples;
 mod holding;
 mod jobs;
 pub mod laws;

@@ -13,7 +13,7 @@ use Rattle.hb_activity.specs.OneDeed.{IsOnly}
 use Rattle.hb_activity.specs.Passing.{LeadsBelow, PassesOn}
 use Rattle.hb_activity.specs.Sights.{Sight}
 use Rattle.hb_consol.specs.ConsolidatorRows.{IsMergingOf, Scans, pair_from, tries}
-use Rattle.hb_consol.specs.Examples.{OnItsWay, ScansByHand, TakesByHand, WalksByHand, gave_some, names_three, page_four, page_one, page_two}
+use Rattle.hb_consol.specs.Examples.{OnItsWayToMerge, ScansByHand, TakesMergesByHand, WalksToMergeByHand, gave_the_end, names_three, page_four, gave_three, page_two}
 use Rattle.hb_frag.specs.Leaves.{Placed, leaf_at}
 
 -- ---- the job that is taken
@@ -27,7 +27,7 @@ one_merging job height next other (inr (a, is)) (inl (b, same)) = absurd (omega 
 only_taken : (job : Job) (height : ℕ) (next : Activity) → IsMergingOf job height next → IsOnly (IsMergingOf job height) next
 only_taken job height next done = record { done = done; only = λ other row. one_merging job height other next row done }
 
-pub takes_by_hand : (job : Job) → TakesByHand job
+pub takes_by_hand : (job : Job) → TakesMergesByHand job
 takes_by_hand job = record {
   above = λ level. only_taken job 1 ConsolidatorIdle (inl (omega (arith, level), refl));
   height = λ level. only_taken job 2 ConsolidatorIdle (inl (omega (arith, level), refl));
@@ -46,36 +46,36 @@ abbrev at_seven : Placed
 at_seven = record { leaf = Sibling 7; area = record { lo = 90 ∷ []; hi = 18446744073709551615 ∷ [] } }
 
 module _ (job : Job) where
-  over : job.level ≡ 1 → job.point ≡ 75 ∷ [] → IsOnly (OnItsWay job names_three) (moves_to (ConsolidatorScan job 3 1) [])
+  over : job.level ≡ 1 → job.point ≡ 75 ∷ [] → IsOnly (OnItsWayToMerge job names_three) (moves_to (ConsolidatorScan job 3 1) [])
   over level point = record { done = inl (record { level = sym level; leads = (1, at_one.area, there); deed_is = refl }); only = only }
     where
       there : leaf_at names_three job.point ≡ Some at_one
       there = ap (leaf_at names_three) point
 
-      only : (other : Deed) → OnItsWay job names_three other → other ≡ moves_to (ConsolidatorScan job 3 1) []
+      only : (other : Deed) → OnItsWayToMerge job names_three other → other ≡ moves_to (ConsolidatorScan job 3 1) []
       only other (inl row) = row.deed_is
       only other (inr row) = absurd (row.farther (sym level) (1, at_one.area, there))
 
   abbrev Farther : LivePage → Type 0
   Farther page = ¬ (LeadsBelow page job)
 
-  not_below : job.point ≡ 90 ∷ [] → Farther gave_some
-  not_below point below = child_or_sibling 7 below.0 (ap (λ (x : Placed). x.leaf) (same_Some at_seven (record { leaf = Child below.0; area = below.1 }) (sym (ap (leaf_at gave_some) point) ∙ below.2)))
+  not_below : job.point ≡ 90 ∷ [] → Farther gave_the_end
+  not_below point below = child_or_sibling 7 below.0 (ap (λ (x : Placed). x.leaf) (same_Some at_seven (record { leaf = Child below.0; area = below.1 }) (sym (ap (leaf_at gave_the_end) point) ∙ below.2)))
 
   abbrev beside_deed : Deed
   beside_deed = moves_to (ConsolidatorWalk job (Some 3)) (record { kind = Post; level = 2; point = 90 ∷ [] } ∷ [])
 
-  passes : job.point ≡ 90 ∷ [] → PassesOn gave_some job.point (ConsolidatorWalk job (Some 3)) beside_deed
-  passes point = record { leaf = Sibling 7; area = at_seven.area; at_point = ap (leaf_at gave_some) point; names = tt; deed_is = ap (λ (p : List ℕ). moves_to (ConsolidatorWalk job (Some 3)) (record { kind = Post; level = 2; point = p } ∷ [])) (sym point) }
+  passes : job.point ≡ 90 ∷ [] → PassesOn gave_the_end job.point (ConsolidatorWalk job (Some 3)) beside_deed
+  passes point = record { leaf = Sibling 7; area = at_seven.area; at_point = ap (leaf_at gave_the_end) point; names = tt; deed_is = ap (λ (p : List ℕ). moves_to (ConsolidatorWalk job (Some 3)) (record { kind = Post; level = 2; point = p } ∷ [])) (sym point) }
 
-  beside : job.level ≡ 1 → job.point ≡ 90 ∷ [] → IsOnly (OnItsWay job gave_some) beside_deed
+  beside : job.level ≡ 1 → job.point ≡ 90 ∷ [] → IsOnly (OnItsWayToMerge job gave_the_end) beside_deed
   beside level point = record { done = inr (record { farther = λ same. not_below point; passes = passes point }); only = only }
     where
-      only : (other : Deed) → OnItsWay job gave_some other → other ≡ beside_deed
+      only : (other : Deed) → OnItsWayToMerge job gave_the_end other → other ≡ beside_deed
       only other (inl row) = absurd (not_below point row.leads)
-      only other (inr row) = one_pass gave_some job.point (ConsolidatorWalk job (Some 3)) other beside_deed row.passes (passes point)
+      only other (inr row) = one_pass gave_the_end job.point (ConsolidatorWalk job (Some 3)) other beside_deed row.passes (passes point)
 
-pub walks_by_hand : (job : Job) → WalksByHand job
+pub walks_by_hand : (job : Job) → WalksToMergeByHand job
 walks_by_hand job = record { over = over job; beside = beside job }
 
 -- ---- scanning
@@ -88,7 +88,7 @@ scan s job child page deed live is = record { done = record { above = names_thre
 
 pub scans_by_hand : (s : Sight) (job : Job) → ScansByHand s job
 scans_by_hand s job = record {
-  pair = λ live. scan s job 1 page_one _ live refl;
+  pair = λ live. scan s job 1 gave_three _ live refl;
   next = λ live. scan s job 2 page_two _ live refl;
   last = λ live. scan s job 4 page_four _ live refl;
 }

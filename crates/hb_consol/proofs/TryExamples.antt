@@ -12,7 +12,7 @@ use Rattle.hb_activity.specs.Deeds.{Deed, moves_to}
 use Rattle.hb_activity.specs.OneDeed.{IsOnly}
 use Rattle.hb_activity.specs.Sights.{Sight}
 use Rattle.hb_consol.specs.ConsolidatorRows.{HasMergePlan, TriesPair, after_try}
-use Rattle.hb_consol.specs.Examples.{DecidesByHand, KeepsByHand, TriesByHand, names_three, page_four, page_one, page_two}
+use Rattle.hb_consol.specs.Examples.{DecidesByHand, KeepsByHand, TriesByHand, names_three, page_four, gave_three, page_two}
 use Rattle.hb_consol.specs.MergeRows.{Decides, DoesMerge}
 use Rattle.hb_frag.specs.Leaves.{DirectlyCovers, siblings_of}
 use Rattle.hb_frag.specs.Rules.{capacity_of}
@@ -41,43 +41,43 @@ two_covered = record { inside = within 40 69 (omega arith); not_given = each_at 
 four_covered : DirectlyCovers names_three page_four.area
 four_covered = record { inside = within 80 top (omega arith); not_given = each_at (λ (x : ℕ × Area). ¬ (Meets x.1 page_four.area)) (siblings_of names_three) tt }
 
-light_plan : (dcap icap : ℕ) → dcap ≡ 32 → IsMergePlan names_three page_one 2 page_two (capacity_of 0 dcap icap) plans.Merge
-light_plan dcap icap is = record { given = refl; whole = two_covered; light = let w : merged_weight page_one page_two ≡ 5 = refl in omega (arith, w, is) }
+light_plan : (dcap icap : ℕ) → dcap ≡ 32 → IsMergePlan names_three gave_three 2 page_two (capacity_of 0 dcap icap) plans.Merge
+light_plan dcap icap is = record { given = refl; whole = two_covered; light = let w : merged_weight gave_three page_two ≡ 5 = refl in omega (arith, w, is) }
 
-heavy_two : (dcap icap : ℕ) → dcap ≡ 6 → IsMergePlan names_three page_one 2 page_two (capacity_of 0 dcap icap) plans.TooHeavy
-heavy_two dcap icap is = record { given = refl; whole = two_covered; heavy = let w : merged_weight page_one page_two ≡ 5 = refl in omega (arith, w, is) }
+heavy_two : (dcap icap : ℕ) → dcap ≡ 6 → IsMergePlan names_three gave_three 2 page_two (capacity_of 0 dcap icap) plans.TooHeavy
+heavy_two dcap icap is = record { given = refl; whole = two_covered; heavy = let w : merged_weight gave_three page_two ≡ 5 = refl in omega (arith, w, is) }
 
-heavy_four : (dcap icap : ℕ) → dcap ≡ 6 → IsMergePlan names_three page_one 4 page_four (capacity_of 0 dcap icap) plans.TooHeavy
-heavy_four dcap icap is = record { given = refl; whole = four_covered; heavy = let w : merged_weight page_one page_four ≡ 5 = refl in omega (arith, w, is) }
+heavy_four : (dcap icap : ℕ) → dcap ≡ 6 → IsMergePlan names_three gave_three 4 page_four (capacity_of 0 dcap icap) plans.TooHeavy
+heavy_four dcap icap is = record { given = refl; whole = four_covered; heavy = let w : merged_weight gave_three page_four ≡ 5 = refl in omega (arith, w, is) }
 
 -- ---- one deed for a plan
 
-module _ (s : Sight) (job : Job) (gone : ℕ) (page : LivePage) (above : s.page_at 3 ≡ Some names_three) (kept : s.page_at 1 ≡ Some page_one) (plan : MergePlan)
-    (planned : IsMergePlan names_three page_one gone page (capacity_of page.level s.meta.dcap s.meta.icap) plan) where
+module _ (s : Sight) (job : Job) (gone : ℕ) (page : LivePage) (above : s.page_at 3 ≡ Some names_three) (kept : s.page_at 1 ≡ Some gave_three) (plan : MergePlan)
+    (planned : IsMergePlan names_three gave_three gone page (capacity_of page.level s.meta.dcap s.meta.icap) plan) where
   abbrev has_plan : HasMergePlan s 3 1 gone page
-  has_plan = record { above = names_three; above_live = above; kept = page_one; kept_live = kept; plan = plan; planned = planned }
+  has_plan = record { above = names_three; above_live = above; kept = gave_three; kept_live = kept; plan = plan; planned = planned }
 
   record IsThat (has : HasMergePlan s 3 1 gone page) : Type 0 where
     above_is : has.above ≡ names_three
-    kept_is : has.kept ≡ page_one
+    kept_is : has.kept ≡ gave_three
     plan_is : has.plan ≡ plan
 
   is_that : (has : HasMergePlan s 3 1 gone page) → IsThat has
   is_that has =
       let over = same_Some has.above names_three (sym has.above_live ∙ above) in
-      let keep = same_Some has.kept page_one (sym has.kept_live ∙ kept) in
+      let keep = same_Some has.kept gave_three (sym has.kept_live ∙ kept) in
       let cap = capacity_of page.level s.meta.dcap s.meta.icap in
       let same = subst (λ (q : LivePage). IsMergePlan names_three q gone page cap has.plan) keep (subst (λ (q : LivePage). IsMergePlan q has.kept gone page cap has.plan) over has.planned) in
-      record { above_is = over; kept_is = keep; plan_is = one_merge names_three page_one gone page cap has.plan plan same planned }
+      record { above_is = over; kept_is = keep; plan_is = one_merge names_three gave_three gone page cap has.plan plan same planned }
 
-  only_try : (leaf : ℕ) (deed : Deed) → after_try job 3 1 gone leaf names_three page_one plan ≡ deed → IsOnly (TriesPair s job 3 1 gone leaf page) deed
+  only_try : (leaf : ℕ) (deed : Deed) → after_try job 3 1 gone leaf names_three gave_three plan ≡ deed → IsOnly (TriesPair s job 3 1 gone leaf page) deed
   only_try leaf deed is = record { done = record { has = has_plan; deed_is = sym is }; only = only }
     where
       only : (other : Deed) → TriesPair s job 3 1 gone leaf page other → other ≡ deed
       only other row =
           let that = is_that row.has in
           row.deed_is ∙ ap (λ (q : LivePage). after_try job 3 1 gone leaf q row.has.kept row.has.plan) that.above_is ∙ ap (λ (q : LivePage). after_try job 3 1 gone leaf names_three q row.has.plan) that.kept_is
-          ∙ ap (after_try job 3 1 gone leaf names_three page_one) that.plan_is ∙ is
+          ∙ ap (after_try job 3 1 gone leaf names_three gave_three) that.plan_is ∙ is
 
   only_decision : (deed : Deed) → IsOnly (DoesMerge s job 3 1 gone names_three plan) deed → IsOnly (Decides s job 3 1 gone page) deed
   only_decision deed one = record { done = record { has = has_plan; does_it = one.done }; only = only }

@@ -2,11 +2,11 @@
 
 ghost use Rattle.hb_activity.specs.declared.jobs.Job.{Job as OneJob};
 ghost use Rattle.hb_activity.specs.Sights.{Sight};
-ghost use Rattle.hb_consol.specs.Examples.{DecidesByHand, KeepsByHand, ScansByHand, TakesByHand, TriesByHand, TriesPairsInOrder, WalksByHand};
+ghost use Rattle.hb_consol.specs.Examples.{DecidesByHand, KeepsByHand, ScansByHand, TakesMergesByHand, TriesByHand, TriesPairsInOrder, WalksToMergeByHand};
 
 /// Jobs at, above and below the height of the file.
 pub fn a_job_is_taken()
-    ensures { (job : OneJob) → TakesByHand job }
+    ensures { (job : OneJob) → TakesMergesByHand job }
 {}
 
 /// A consolidator tries the pairs of a page from the left, and scans each child of a parent once.
@@ -16,7 +16,7 @@ pub fn pairs_are_tried_from_the_left()
 
 /// A walk that is over, and one that goes on.
 pub fn a_walk_is_over_at_a_parent()
-    ensures { (job : OneJob) → WalksByHand job }
+    ensures { (job : OneJob) → WalksToMergeByHand job }
 {}
 
 /// The first pair of a child, the child behind one without pairs, and the end of the job.

@@ -21,7 +21,7 @@ use Rattle.hb_frag.specs.Leaves.{Placed, leaf_at, weight_of}
 use Rattle.hb_frag.specs.Paths.{part_at}
 use Rattle.hb_frag.specs.Trees.{Tree, Tip, Cut}
 use Rattle.hb_ops.specs.Cutting.{reached}
-use Rattle.hb_poster.specs.Examples.{LooksByHand, PostsByHand, ParentSplitsByHand, page_one, page_three, record_of_seven, six_children}
+use Rattle.hb_poster.specs.Examples.{LooksByHand, PostsByHand, SplitsParentsByHand, page_one, page_three, rec_of, six_children}
 use Rattle.hb_poster.specs.PosterRows.{DoesPlan, LooksAgain, LooksAtChild, after_look}
 use Rattle.hb_space.specs.Boxes.{Area}
 use Rattle.hb_split.specs.Choosing.{AreChosen, IsChosen}
@@ -52,12 +52,12 @@ records_or_sibling : (xs : List Record) (b : ℕ) → Records xs ≡ Sibling b �
 records_or_sibling xs b is = cc
 
 abbrev from_40 : Placed
-from_40 = record { leaf = Records (record_of_seven 40 ∷ record_of_seven 50 ∷ record_of_seven 60 ∷ record_of_seven 70 ∷ []); area = record { lo = 40 ∷ []; hi = 18446744073709551615 ∷ [] } }
+from_40 = record { leaf = Records (rec_of 40 ∷ rec_of 50 ∷ rec_of 60 ∷ rec_of 70 ∷ []); area = record { lo = 40 ∷ []; hi = 18446744073709551615 ∷ [] } }
 
 plan_of_fifty : (icap : ℕ) → IsPlan page_three page_one (50 ∷ []) icap plans.Nothing
 plan_of_fifty icap outer inner leaf area owed =
     let below : leaf_at page_one (50 ∷ []) ≡ Some from_40 = refl in
-    records_or_sibling (record_of_seven 40 ∷ record_of_seven 50 ∷ record_of_seven 60 ∷ record_of_seven 70 ∷ []) inner (ap (λ (x : Placed). x.leaf) (same_Some from_40 (record { leaf = Sibling inner; area = area }) (sym below ∙ owed.below)))
+    records_or_sibling (rec_of 40 ∷ rec_of 50 ∷ rec_of 60 ∷ rec_of 70 ∷ []) inner (ap (λ (x : Placed). x.leaf) (same_Some from_40 (record { leaf = Sibling inner; area = area }) (sym below ∙ owed.below)))
 
 abbrev to_79 : Area
 to_79 = record { lo = 0 ∷ []; hi = 79 ∷ [] }
@@ -173,7 +173,7 @@ module _ (s : Sight) (job : Job) where
       only other (inl row) = row.deed_is
       only other (inr row) = absurd (omega (arith, row.leaves.free, used, pages))
 
-pub splits_by_hand : (s : Sight) (job : Job) → ParentSplitsByHand s job
+pub splits_by_hand : (s : Sight) (job : Job) → SplitsParentsByHand s job
 splits_by_hand s job = record {
   free = λ live icap level point used pages next. again s job six_children live plans.SplitFirst (at_six s job icap point) _ (free_split s job level used pages next);
   none_free = λ live icap point used pages. again s job six_children live plans.SplitFirst (at_six s job icap point) _ (no_split s job used pages);

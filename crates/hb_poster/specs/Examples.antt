@@ -58,11 +58,11 @@ pub record WalksByHand (job : Job) : Type 0 where
 
 -- Page 1: below 40 its sibling 2 has the points, and from there on it has records of 40, 50, 60 and 70. Page 3 above it has one
 -- child leaf, to page 1.
-abbrev pub record_of_seven : ℕ → Record
-record_of_seven value = record { key = value ∷ []; body = 7 ∷ [] }
+abbrev pub rec_of : ℕ → Record
+rec_of value = record { key = value ∷ []; body = 7 ∷ [] }
 
 abbrev pub page_one : LivePage
-page_one = record { level = 0; area = whole_area 1; frag = Cut 0 40 (Tip (Sibling 2)) (Tip (Records (record_of_seven 40 ∷ record_of_seven 50 ∷ record_of_seven 60 ∷ record_of_seven 70 ∷ []))) }
+page_one = record { level = 0; area = whole_area 1; frag = Cut 0 40 (Tip (Sibling 2)) (Tip (Records (rec_of 40 ∷ rec_of 50 ∷ rec_of 60 ∷ rec_of 70 ∷ []))) }
 
 abbrev pub page_three : LivePage
 page_three = record { level = 1; area = whole_area 1; frag = Tip (Child 1) }
@@ -82,7 +82,7 @@ abbrev pub six_children : LivePage
 six_children = record { level = 1; area = whole_area 1; frag = Cut 0 100 (Cut 0 80 (Tip (Child 1)) (Tip (Child 4))) (Cut 0 200 (Cut 0 150 (Tip (Child 5)) (Tip (Child 6))) (Cut 0 300 (Tip (Child 7)) (Tip (Child 8)))) }
 
 -- Then the four leave it: that is owed a posting one level up, and the job waits again. Where no page is free the job is dropped.
-pub record ParentSplitsByHand (s : Sight) (job : Job) : Type 0 where
+pub record SplitsParentsByHand (s : Sight) (job : Job) : Type 0 where
   pub free : s.page_at 3 ≡ Some six_children → s.meta.icap ≡ 6 → job.level ≡ 1 → job.point ≡ 10 ∷ [] → s.meta.live ≡ 8 → s.meta.pages ≡ 9 → s.next ≡ Some (9, 0) →
       IsOnly (LooksAgain s job 3 page_one) (does PosterIdle (ops.Extract 3 9 (Right ∷ []) [] 0) (record { kind = Post; level = 2; point = 100 ∷ [] } ∷ job ∷ []))
   pub none_free : s.page_at 3 ≡ Some six_children → s.meta.icap ≡ 6 → job.point ≡ 10 ∷ [] → s.meta.live ≡ 9 → s.meta.pages ≡ 9 → IsOnly (LooksAgain s job 3 page_one) (moves_to PosterIdle [])

@@ -2,7 +2,7 @@
 
 ghost use Rattle.hb_activity.specs.declared.jobs.Job.{Job as OneJob};
 ghost use Rattle.hb_activity.specs.Sights.{Sight};
-ghost use Rattle.hb_poster.specs.Examples.{GrowsByHand, LooksByHand, PostsByHand, ParentSplitsByHand, TakesByHand, WalksByHand};
+ghost use Rattle.hb_poster.specs.Examples.{GrowsByHand, LooksByHand, PostsByHand, SplitsParentsByHand, TakesByHand, WalksByHand};
 
 /// Jobs above, at and below the height of the file.
 pub fn a_job_is_taken()
@@ -31,5 +31,5 @@ pub fn a_box_is_posted()
 
 /// A parent without room is split, where a page is free.
 pub fn a_parent_without_room_is_split()
-    ensures { (s : Sight) (job : OneJob) → ParentSplitsByHand s job }
+    ensures { (s : Sight) (job : OneJob) → SplitsParentsByHand s job }
 {}
