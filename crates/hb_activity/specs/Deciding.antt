@@ -1,5 +1,5 @@
 -- The deed that a decider's answer is.
-use Rattle.std.specs.Prelude.{ℕ, ◌==◌, if◌then◌else◌, List, [], ◌∷◌, Option, Some, None}
+use Rattle.std.specs.Prelude.{◌≡◌, ℕ, ◌<◌, ◌==◌, if◌then◌else◌, List, [], ◌∷◌, Option, Some, None, MatchOption}
 use Rattle.hb_frag.specs.declared.pages.LivePage.{LivePage}
 use Rattle.hb_layout.specs.declared.meta.Meta.{Meta}
 use Rattle.hb_set.specs.Order.{Entry}
@@ -59,3 +59,7 @@ page_among ((number, page) ∷ rest) id = if number == id then Some page else pa
 
 abbrev pub given_sight : Meta → List (ℕ × LivePage) → Option (ℕ × ℕ) → Sight
 given_sight meta pages next = record { meta = meta; page_at = page_among pages; next = next; place = 0 }
+
+-- a number for a page that is made is given exactly where a page is free
+abbrev pub FitsFree : Meta → Option (ℕ × ℕ) → Type 0
+FitsFree meta free = MatchOption free (meta.live ≡ meta.pages) (λ next. meta.live < meta.pages)

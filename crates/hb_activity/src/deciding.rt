@@ -73,6 +73,18 @@ impl Next {
         next
     }
 
+    /// The actor does an operation, and two jobs join those that wait, one after the other.
+    pub fn does_for_both(then: Activity, op: Op, first: Job, second: Job) -> Next
+        ensures then { result.then ≡ then }
+        ensures op { result.op ≡ Some op }
+        ensures jobs { result.jobs.items ≡ first ∷ second ∷ [] }
+        ensures fate { result.fate ≡ GoesOn }
+    {
+        let mut next = Next::does(then, op, first);
+        next.jobs.push(second);
+        next
+    }
+
     /// The line in hand takes effect with this reply, which is kept, and the operation is done, where
     /// there is one.
     pub fn takes_effect(line: u32, reply: Reply, op: Option<Op>) -> Next

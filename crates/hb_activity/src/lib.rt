@@ -13,6 +13,7 @@
 mod activities;
 mod box_locks;
 mod changing;
+mod corners;
 mod deciding;
 mod dropping;
 pub mod examples;
@@ -26,6 +27,7 @@ mod wanting;
 
 pub use activities::Activity;
 pub use box_locks::BoxLock;
+pub use corners::corner_of;
 pub use deciding::{Fate, Next};
 pub use dropping::DropWhy;
 pub use holding::Latch;

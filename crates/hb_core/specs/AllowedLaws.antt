@@ -1,8 +1,14 @@
 -- That the operation of a row is always allowed, as a law.
-use Rattle.std.specs.Prelude.{◌≡◌, ℕ, Some}
+use Rattle.std.specs.Prelude.{◌≡◌, ℕ, List, Some}
 use Rattle.hb_space.specs.declared.records.Record.{Record}
 use Rattle.hb_ops.specs.declared.operations.Op.{Op}
+use Rattle.hb_ops.specs.declared.operations.Op.TheVariants as ops
 use Rattle.hb_ops.specs.declared.operations.Op.TheVariants.{Put}
+use Rattle.hb_frag.specs.declared.leaves.Leaf.TheVariants.{Child}
+use Rattle.hb_frag.specs.declared.pages.LivePage.{LivePage}
+use Rattle.hb_frag.specs.declared.pages.Page.TheVariants.{Live}
+use Rattle.hb_frag.specs.declared.paths.Side.{Side}
+use Rattle.hb_frag.specs.Leaves.{leaf_at}
 use Rattle.hb_set.specs.declared.scripts.Line.{Line}
 use Rattle.hb_activity.specs.declared.activities.Activity.TheVariants.{SessionPut}
 use Rattle.hb_activity.specs.Deeds.{Deed}
@@ -12,8 +18,35 @@ use Rattle.hb_core.specs.Keeps.{HasRoomFor, HoldsPagesOfFile, KnowsRoom}
 use Rattle.hb_core.specs.KeptLines.{MarksInPlace}
 use Rattle.hb_core.specs.Machines.{Machine, with_disk}
 use Rattle.hb_core.specs.Rows.{Row}
+use Rattle.hb_space.specs.Boxes.{Area}
+use Rattle.hb_space.specs.Points.{IsBody}
 use Rattle.hb_store.specs.Calls.{IsAllowedHere}
-use Rattle.hb_store.specs.States.{StoreState}
+use Rattle.hb_store.specs.NextPage.{IsNext}
+use Rattle.hb_store.specs.States.{StoreState, in_memory}
+use Rattle.hb_terms.specs.Plans.{Posts}
+
+
+-- A posting by a plan: the parent and its child are in memory and in use, and at the job's point the parent's leaf names
+-- the child.
+pub record IsPlanned (st : StoreState) (parent : ℕ) (at : List Side) (inner : ℕ) (area : Area) : Type 0 where
+  pub page : LivePage
+  pub live : in_memory st parent ≡ Some (Live page)
+  pub child : LivePage
+  pub outer : ℕ
+  pub named : in_memory st outer ≡ Some (Live child)
+  pub p : List ℕ
+  pub box : Area
+  pub above : leaf_at page p ≡ Some (record { leaf = Child outer; area = box })
+  pub planned : Posts page child p st.meta.icap at inner area
+
+-- What a body knows of an operation beyond that it is allowed: a body that can be stored, the free head that the free page names,
+-- and a posting by a plan.
+abbrev pub IsLicensedHere : StoreState → Op → Type 0
+IsLicensedHere st (ops.Put id rec) = IsBody rec.body
+IsLicensedHere st (ops.Del id point) = Unit {0}
+IsLicensedHere st (ops.Extract source fresh path cuts free_after) = IsNext st fresh free_after
+IsLicensedHere st (ops.Post parent at inner area) = IsPlanned st parent at inner area
+IsLicensedHere st (ops.Grow fresh free_after) = IsNext st fresh free_after
 
 -- of the two halves of a split, the one into which a session puts its record has room for it
 abbrev pub HalfHasRoom : Machine → ℕ → Op → Type 0

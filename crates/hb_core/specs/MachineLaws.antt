@@ -10,7 +10,7 @@ use Rattle.hb_activity.specs.Walks.{walk_held}
 use Rattle.hb_store.specs.Calls.{IsAllowedHere}
 use Rattle.hb_store.specs.States.{StoreState}
 use Rattle.hb_core.specs.declared.outcomes.Outcome.{Outcome}
-use Rattle.hb_core.specs.AllowedLaws.{AnyPage}
+use Rattle.hb_core.specs.AllowedLaws.{AnyPage, IsLicensedHere}
 use Rattle.hb_core.specs.Asking.{wanted_by}
 use Rattle.hb_core.specs.Fetching.{Brings}
 use Rattle.hb_core.specs.KeptMachine.{MachineKeeps}
@@ -27,9 +27,11 @@ MachineStaysKept = (m : Machine) (actor : ℕ) (outcome : Outcome) (new : Machin
 abbrev pub MachinesStayKept : Type 0
 MachinesStayKept = (actors : List ℕ) (m new : Machine) → All MayLatch actors → MachineKeeps m → StepsInTurn actors m new → MachineKeeps new
 
--- The operation of a row is allowed on the pages in memory, and its points and boxes have the file's number of attributes.
+-- The operation of a row is allowed on the pages in memory and licensed by them, and its points and boxes have the file's number of
+-- attributes.
 pub record MayBeDoneHere (st : StoreState) (op : Op) : Type 0 where
   pub allowed : IsAllowedHere st op
+  pub licensed : IsLicensedHere st op
   pub attributes : OpHas st.meta.k op
 
 abbrev pub RowsMayBeDone : Type 0

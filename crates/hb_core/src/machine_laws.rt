@@ -20,7 +20,7 @@ pub fn machines_stay_kept()
     room_stays_known();
 }
 
-/// The operation of a row is allowed on the pages in memory, and its points and boxes have as many
+/// The operation of a row is allowed on the pages in memory and licensed by them, and its points and boxes have as many
 /// attributes as the file. So a body that works out a row may do what this says.
 pub fn rows_may_be_done()
     ensures { RowsMayBeDone }

@@ -3,3 +3,5 @@ pub mod SplitRows
 pub mod PointRows
 pub mod Laws
 pub mod Examples
+pub mod Asks
+pub mod Doing

@@ -8,5 +8,11 @@
 //! their own.
 #![tactic(auto)]
 
+mod deciding;
 pub mod examples;
+mod growing;
 pub mod laws;
+mod posting;
+mod walking;
+
+pub use deciding::{needs_number, next};

@@ -12,7 +12,7 @@ use Rattle.hb_ops.specs.declared.operations.Op.{Op}
 use Rattle.hb_ops.specs.declared.operations.Op.TheVariants as ops
 use Rattle.hb_core.proofs.Files.GoodChanges.{IsGoodChange}
 use Rattle.hb_core.proofs.Memory.KeptPages.{KeepsPages}
-use Rattle.hb_core.proofs.Files.RowTells.{IsPlanned, TellsOp}
+use Rattle.hb_core.specs.AllowedLaws.{IsPlanned, IsLicensedHere}
 use Rattle.hb_frag.proofs.Tiles.{found_where_held}
 use Rattle.hb_frag.specs.Paths.{part_at}
 use Rattle.hb_frag.specs.Trees.{Tip}
@@ -130,7 +130,7 @@ module _ (st : StoreState) (s : FileState) (keeps : KeepsPages st) (file : Shows
         gave = may.given;
       }
 
-  pub licensed_in_file : (op : Op) → TellsOp st op → IsLicensed s op
+  pub licensed_in_file : (op : Op) → IsLicensedHere st op → IsLicensed s op
   licensed_in_file (ops.Put id rec) tells = tt
   licensed_in_file (ops.Del id point) tells = tt
   licensed_in_file (ops.Extract source fresh path cuts free_after) tells = names_next fresh free_after tells

@@ -14,7 +14,7 @@ use Rattle.hb_ops.specs.declared.leaf_cuts.LeafCut.{LeafCut}
 use Rattle.hb_ops.specs.declared.operations.Op.{Op}
 use Rattle.hb_ops.specs.declared.operations.Op.TheVariants as ops
 use Rattle.hb_core.proofs.Latches.Backing.{live_there}
-use Rattle.hb_core.proofs.Files.RowTells.{TellsOp}
+use Rattle.hb_core.specs.AllowedLaws.{IsLicensedHere}
 use Rattle.hb_frag.proofs.Tiles.{first_tells, found_where_held}
 use Rattle.hb_frag.specs.Leaves.{Placed, leaf_at, leaves, leaves_of}
 use Rattle.hb_frag.specs.Trees.{Tree, Tip, Cut}
@@ -89,7 +89,7 @@ module _ (points : HeldArePoints) (parts : HaveFittingParts) (st : StoreState) (
         record { fresh_fits = page_fits fresh (Free free_after) head.1; free_fits = (framed fresh (Free free_after) head.1).2.fits }
   ]
 
-  fits_put : (id : ℕ) (rec : Record) (o : Option LivePage) → if_live (in_memory st id) ≡ o → (second third : Option LivePage) → TellsOp st (ops.Put id rec) → IsAllowedOn (ops.Put id rec) st.meta o second third → FitsOp st.meta.k (ops.Put id rec)
+  fits_put : (id : ℕ) (rec : Record) (o : Option LivePage) → if_live (in_memory st id) ≡ o → (second third : Option LivePage) → IsLicensedHere st (ops.Put id rec) → IsAllowedOn (ops.Put id rec) st.meta o second third → FitsOp st.meta.k (ops.Put id rec)
   fits_put id rec None is second third body allowed = absurd allowed
   fits_put id rec (Some page) is second third body allowed =
       let good = good_live id page is in
@@ -112,7 +112,7 @@ module _ (points : HeldArePoints) (parts : HaveFittingParts) (st : StoreState) (
       (page_fits id (Live page) (live_there (in_memory st id) page is), as_many points st.meta page good p l at.leaf, (point_there points st.meta page good p l at.leaf).fits)
 
   -- what a plan posts
-  fits_post : (parent : ℕ) (at : List Side) (inner : ℕ) (area : Area) → TellsOp st (ops.Post parent at inner area) → IsAllowedHere st (ops.Post parent at inner area) → FitsOp st.meta.k (ops.Post parent at inner area)
+  fits_post : (parent : ℕ) (at : List Side) (inner : ℕ) (area : Area) → IsLicensedHere st (ops.Post parent at inner area) → IsAllowedHere st (ops.Post parent at inner area) → FitsOp st.meta.k (ops.Post parent at inner area)
   fits_post parent at inner area tells allowed =
       let page = tells.page in
       let child = tells.child in
@@ -145,7 +145,7 @@ module _ (points : HeldArePoints) (parts : HaveFittingParts) (st : StoreState) (
         each = short.2;
       }
 
-  pub fits_op : (op : Op) → TellsOp st op → IsAllowedHere st op → FitsOp st.meta.k op
+  pub fits_op : (op : Op) → IsLicensedHere st op → IsAllowedHere st op → FitsOp st.meta.k op
   fits_op (ops.Put id rec) tells allowed = fits_put id rec (if_live (in_memory st id)) refl _ _ tells allowed
   fits_op (ops.Del id p) tells allowed = fits_del id p (if_live (in_memory st id)) refl _ _ allowed
   fits_op (ops.Extract source fresh path cuts free_after) tells allowed = fits_split source fresh path cuts free_after (if_live (in_memory st source)) refl _ _ tells allowed

@@ -29,6 +29,7 @@ use Rattle.hb_core.proofs.Latches.Backing.{live_there}
 use Rattle.hb_core.proofs.Memory.BroughtPages.{both_there}
 use Rattle.hb_core.proofs.Table.MergerMoves.{merger_moves}
 use Rattle.hb_core.proofs.Memory.NextNumbers.{is_next_number}
+use Rattle.hb_core.specs.AllowedLaws.{IsLicensedHere, IsPlanned}
 use Rattle.hb_core.specs.Asking.{looked_live, wanted_by}
 use Rattle.hb_core.specs.Fetching.{Brings}
 use Rattle.hb_core.specs.KeptLines.{HasBody, HasLineBody}
@@ -44,29 +45,9 @@ use Rattle.hb_store.specs.NextPage.{IsNext}
 use Rattle.hb_store.specs.States.{StoreState, in_memory}
 use Rattle.hb_terms.specs.Plans.{IsPlan, Posts}
 
--- A posting by a plan: the parent and its child are in memory and in use, and at the job's point the parent's leaf names
--- the child.
-pub record IsPlanned (st : StoreState) (parent : ℕ) (at : List Side) (inner : ℕ) (area : Area) : Type 0 where
-  pub page : LivePage
-  pub live : (in_memory st) parent ≡ Some (Live page)
-  pub child : LivePage
-  pub outer : ℕ
-  pub named : (in_memory st) outer ≡ Some (Live child)
-  pub p : List ℕ
-  pub box : Area
-  pub above : leaf_at page p ≡ Some (record { leaf = Child outer; area = box })
-  pub planned : Posts page child p st.meta.icap at inner area
-
-abbrev pub TellsOp : StoreState → Op → Type 0
-TellsOp st (ops.Put id rec) = IsBody rec.body
-TellsOp st (ops.Del id point) = Unit {0}
-TellsOp st (ops.Extract source fresh path cuts free_after) = IsNext st fresh free_after
-TellsOp st (ops.Post parent at inner area) = IsPlanned st parent at inner area
-TellsOp st (ops.Grow fresh free_after) = IsNext st fresh free_after
-
 abbrev pub Tells : StoreState → Option Op → Type 0
 Tells st None = Unit {0}
-Tells st (Some op) = TellsOp st op
+Tells st (Some op) = IsLicensedHere st op
 
 tells_of : (st : StoreState) (deed other : Deed) → deed ≡ other → Tells st other.op → Tells st deed.op
 tells_of st deed other is tells = subst (λ (d : Deed). Tells st d.op) (sym is) tells

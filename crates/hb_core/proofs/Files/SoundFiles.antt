@@ -14,7 +14,8 @@ use Rattle.hb_core.proofs.Files.FitOps.{HeldArePoints, fits_op}
 use Rattle.hb_core.proofs.Memory.KeptPages.{KeepsPages, brought, change_is_well, keeps_pages}
 use Rattle.hb_core.proofs.Walks.LaterPages.{last_sound}
 use Rattle.hb_core.proofs.Memory.OwnPages.{gives_up_nothing, runs_out_nothing}
-use Rattle.hb_core.proofs.Files.RowTells.{Tells, TellsOp, tells_row}
+use Rattle.hb_core.proofs.Files.RowTells.{Tells, tells_row}
+use Rattle.hb_core.specs.AllowedLaws.{IsLicensedHere}
 use Rattle.hb_core.proofs.Table.StepKinds.{each_kind, rest_kind, FlushesMore}
 use Rattle.hb_core.specs.Acting.{MeetsBadPage}
 use Rattle.hb_core.specs.Asking.{wanted_by}
@@ -94,7 +95,7 @@ brought_shown m files may fetched told brings holds = record {
 
 module _ (makes : MakesGoodPages) (parts : HaveFittingParts) (points : HeldArePoints) where
   -- what is told of an operation makes it one that may be done in the file
-  pub may_be_done : (st : StoreState) (files : Files) (op : Op) → KeepsPages st → FilesHold st files → TellsOp st op → IsAllowedHere st op → MayBeDoneIn files op
+  pub may_be_done : (st : StoreState) (files : Files) (op : Op) → KeepsPages st → FilesHold st files → IsLicensedHere st op → IsAllowedHere st op → MayBeDoneIn files op
   may_be_done st files op keeps holds tells allowed =
       let file = shows_file st files holds in
       record {
@@ -103,7 +104,7 @@ module _ (makes : MakesGoodPages) (parts : HaveFittingParts) (points : HeldArePo
         attributes = has_in_file st (current_file files) keeps file op (fits_op points parts st keeps.limits keeps.high keeps.framed op tells allowed);
       }
 
-  tells_some : (st : StoreState) (o : Option Op) (op : Op) → o ≡ Some op → Tells st o → TellsOp st op
+  tells_some : (st : StoreState) (o : Option Op) (op : Op) → o ≡ Some op → Tells st o → IsLicensedHere st op
   tells_some st o op is tells = subst (Tells st) is tells
 
   allowed_some : (o : Option Op) (op : Op) (mark : ℕ) (old new : StoreState) → o ≡ Some op → MayDo o mark old new → IsAllowedHere old op
@@ -120,7 +121,7 @@ module _ (makes : MakesGoodPages) (parts : HaveFittingParts) (points : HeldArePo
 
   module _ (keep_sound : OperationsKeepSound) where
     -- the files after an operation
-    one_more : (st new : StoreState) (files : Files) (op : Op) (mark : ℕ) → KeepsPages st → FilesHold st files → TellsOp st op → DoesOp op mark st new → FilesHold new (with_effect op files)
+    one_more : (st new : StoreState) (files : Files) (op : Op) (mark : ℕ) → KeepsPages st → FilesHold st files → IsLicensedHere st op → DoesOp op mark st new → FilesHold new (with_effect op files)
     one_more st new files op mark keeps holds tells does =
         let s = current_file files in
         let n = effect_of s op in

@@ -11,7 +11,8 @@ use Rattle.hb_core.proofs.Memory.BroughtPages.{same_there}
 use Rattle.hb_core.proofs.Files.FitOps.{HeldArePoints, fits_op}
 use Rattle.hb_core.proofs.Files.GoodChanges.{IsGoodChange, each_set, good_change}
 use Rattle.hb_core.proofs.Memory.OwnPages.{gives_up_nothing, runs_out_nothing}
-use Rattle.hb_core.proofs.Files.RowTells.{Tells, TellsOp, tells_row}
+use Rattle.hb_core.proofs.Files.RowTells.{Tells, tells_row}
+use Rattle.hb_core.specs.AllowedLaws.{IsLicensedHere}
 use Rattle.hb_core.proofs.Table.StepKinds.{each_kind, FlushesMore, rest_kind}
 use Rattle.hb_core.specs.Acting.{MeetsBadPage}
 use Rattle.hb_core.specs.Asking.{wanted_by}
@@ -73,7 +74,7 @@ same_pages old new meta memory keeps = record {
 
 -- so what an operation makes, where it may be done
 module _ (makes : MakesGoodPages) (parts : HaveFittingParts) (points : HeldArePoints) where
-  pub change_is_well : (st : StoreState) (op : Op) → KeepsPages st → TellsOp st op → IsAllowedHere st op → IsGoodChange st.meta (change_here st op)
+  pub change_is_well : (st : StoreState) (op : Op) → KeepsPages st → IsLicensedHere st op → IsAllowedHere st op → IsGoodChange st.meta (change_here st op)
   change_is_well st op keeps tells allowed =
       good_change makes st.meta keeps.limits (in_memory st) keeps.framed op (read_here st op 1) (read_here st op 2) (fits_op points parts st keeps.limits keeps.high keeps.framed op tells allowed) allowed
 

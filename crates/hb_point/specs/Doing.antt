@@ -1,0 +1,66 @@
+-- What the parts of the decider say to each other.
+use Rattle.std.specs.Prelude.{◌≡◌, ◌⊎◌, ℕ, List, length, Option, Some, None}
+use Rattle.hb_frag.specs.Leaves.{DirectlyHolds, leaf_at}
+use Rattle.hb_frag.specs.declared.leaves.Leaf.TheVariants.{Records}
+use Rattle.hb_frag.specs.declared.pages.LivePage.{LivePage}
+use Rattle.hb_layout.specs.declared.meta.Meta.{Meta}
+use Rattle.hb_set.specs.declared.commands.Command.{Command}
+use Rattle.hb_set.specs.declared.commands.Command.TheVariants.{Insert}
+use Rattle.hb_set.specs.declared.scripts.Line.{Line}
+use Rattle.hb_activity.specs.declared.activities.Activity.TheVariants as at
+use Rattle.hb_activity.specs.declared.deciding.Next.{Next}
+use Rattle.hb_activity.specs.Classes.{HasLine}
+use Rattle.hb_activity.specs.Deciding.{given_sight, joined_by, said_by}
+use Rattle.hb_activity.specs.Deeds.{Deed}
+use Rattle.hb_point.specs.Asks.{HasHalves, pages_given}
+use Rattle.hb_point.specs.SplitRows.{Puts}
+use Rattle.hb_point.specs.PointRows.{PointRow}
+use Rattle.hb_point.specs.SessionRows.{DoesThere}
+use Rattle.hb_space.specs.Boxes.{Area}
+use Rattle.hb_space.specs.declared.records.Record.{Record}
+
+-- the deed that an answer is for an actor with this line in hand
+abbrev pub deed_for : Line → Next → Deed
+deed_for line next = record {
+  next = next.then;
+  op = next.op;
+  takes = None;
+  adds = next.jobs.items;
+  joins = joined_by (HasLine line) next.then next.fate;
+  says = said_by (HasLine line) next.fate;
+}
+
+-- the line of these parts
+abbrev pub line_with : ℕ → ℕ → Command → Line
+line_with number session command = record { number = number; session = session; command = command }
+
+-- the page's leaf at the point has records
+pub record RecordsThere (page : LivePage) (p : List ℕ) : Type 0 where
+  pub records : List Record
+  pub area : Area
+  pub leaf : leaf_at page p ≡ Some (record { leaf = Records records; area = area })
+
+-- An answer is the row of a walk at this page, whatever page the walk held before and whatever else was seen.
+abbrev pub WalksBy : Meta → Line → List Area → List Record → ℕ → LivePage → Next → Type 0
+WalksBy meta line rest found id page next = (held : Option ℕ) (pages : List (ℕ × LivePage)) (free : Option (ℕ × ℕ)) →
+    PointRow (at.SessionWalk line held rest found) (given_sight meta pages free) id page (deed_for line next)
+
+-- It is a row at a leaf of records.
+abbrev pub DoesBy : Meta → Line → ℕ → LivePage → Next → Type 0
+DoesBy meta line id page next = (pages : List (ℕ × LivePage)) (free : Option (ℕ × ℕ)) →
+    DoesThere (given_sight meta pages free) line line.command id page (deed_for line next)
+
+-- The line inserts a record whose point has as many attributes as the page's box.
+pub record InsertsInto (line : Line) (page : LivePage) : Type 0 where
+  pub rec : Record
+  pub command : line.command ≡ Insert rec
+  pub attributes : length rec.key ≡ length page.area.lo
+
+-- An answer is the row that puts, whatever is given as the other half.
+abbrev pub PutsBy : Line → ℕ → ℕ → LivePage → Next → Type 0
+PutsBy line source fresh page next = (meta : Meta) (id : ℕ) (first : Option LivePage) (free : Option (ℕ × ℕ)) → HasHalves meta line source fresh id page first →
+    Puts (given_sight meta (pages_given (at.SessionPut line source fresh) id page first) free) line source fresh (deed_for line next)
+
+-- The half is the page, where that directly holds the point, and else the other one.
+abbrev pub IsHalfFor : LivePage → List ℕ → ℕ → ℕ → ℕ → Type 0
+IsHalfFor page p source fresh half = ((half ≡ source) × DirectlyHolds page p) ⊎ ((half ≡ fresh) × (¬ (DirectlyHolds page p)))

@@ -1,0 +1,63 @@
+//! What a session's step on a point comes to.
+
+ghost use Rattle.std.specs.Prelude.{IfOk, OnErr};
+ghost use Rattle.std.specs.Option.{option_copied};
+ghost use Rattle.hb_activity.specs.Deciding.{deed_of, given_sight};
+ghost use Rattle.hb_layout.specs.Limits.{IsLayout};
+ghost use Rattle.hb_ops.specs.Sound.{FitsFile};
+ghost use Rattle.hb_point.specs.Asks.{MayAsk, SplitsNow, pages_given};
+ghost use Rattle.hb_point.specs.PointRows.{PointRow};
+
+use crate::halving::{put, split};
+use crate::walking::walk;
+use hb_activity::{Activity, Next};
+use hb_frag::LivePage;
+use hb_ops::Meta;
+use hb_space::NoMemory;
+use std::alloc::Global;
+
+/// What the step of a session comes to that has an insert, a delete or a lookup in hand.
+///
+/// `page`, of the number `id`, is the page that the step latched on a walk, or the one that the
+/// session holds and splits, or the half that stays of it. `first` is the half that left, where the
+/// record is put. `free` is the number that a page takes which is made, with the head of the free
+/// chain afterwards: `None` exactly where no page is free.
+///
+/// # Errors
+///
+/// Memory was refused. It is wanted only where a page is split.
+#[tactic(auto, using(crate::proofs::AskedRows::asked_put))]
+pub fn next(
+    alloc: Global,
+    state: Activity,
+    id: u32,
+    page: &LivePage,
+    first: Option<&LivePage>,
+    second: Option<&LivePage>,
+    free: Option<(u32, u32)>,
+    meta: &Meta,
+) -> Result<Next, NoMemory>
+    requires layout { IsLayout meta.now }
+    requires made { FitsFile meta.now page.now }
+    requires asked { MayAsk state meta.now free id page.now (option_copied first) }
+    ensures row { IfOk result (λ next. PointRow state
+        (given_sight meta.now (pages_given state id page.now (option_copied first.entry)) free)
+        id page.now (deed_of state next)) }
+    ensures memory { OnErr result (SplitsNow state free) }
+{
+    match state {
+        Activity::SessionWalk {
+            line,
+            rest,
+            found,
+            ..
+        } => Ok(walk(line, rest, found, id, page, meta)),
+        Activity::SessionSplit { line, held } => split(alloc, line, held, page, free, meta),
+        Activity::SessionPut {
+            line,
+            source,
+            fresh,
+        } => Ok(put(line, source, fresh, page)),
+        _ => unreachable!(),
+    }
+}

@@ -1,0 +1,30 @@
+-- Some leaf of a part names a sibling exactly where one of one of its sides does.
+use Rattle.std.proofs.Common.{◌≡◌, ◌≢◌, ◌↔◌, IsTrue, ℕ, Bool, true, false, List, [], ◌∷◌, ◌++◌, refl, sym, subst}
+use Rattle.hb_frag.proofs.NamesListed.{siblings-append}
+use Rattle.hb_frag.specs.Leaves.{Placed, siblings}
+use Rattle.hb_space.specs.Boxes.{Area}
+
+front_some : (xs ys : List (ℕ × Area)) → xs ≢ [] → xs ++ ys ≢ []
+front_some [] ys some none = some refl
+front_some (x ∷ xs) ys some none = cc
+
+-- The left side has one.
+pub left_has : (xs ys : List Placed) (b : Bool) → (IsTrue b ↔ (siblings xs ≢ [])) → b ≡ true → IsTrue b ↔ (siblings (xs ++ ys) ≢ [])
+left_has xs ys b has there =
+    subst (λ (s : List (ℕ × Area)). IsTrue b ↔ (s ≢ [])) (sym (siblings-append xs ys))
+    (λ so. front_some (siblings xs) (siblings ys) (has.0 so), λ some. there)
+
+behind_none : (xs ys : List (ℕ × Area)) (b c : Bool) → (IsTrue b ↔ (xs ≢ [])) → b ≡ false → (IsTrue c ↔ (ys ≢ [])) → IsTrue c ↔ (xs ++ ys ≢ [])
+behind_none [] ys b c has none right = right
+behind_none (x ∷ xs) ys b c has none right = absurd (wrong b (has.1 (some x xs)) none)
+  where
+    some : (x : ℕ × Area) (xs : List (ℕ × Area)) → (x ∷ xs) ≢ []
+    some x xs is = cc
+
+    wrong : (b : Bool) → IsTrue b → b ≡ false → ⊥
+    wrong b so not = cc
+
+-- It has none.
+pub left_has_none : (xs ys : List Placed) (b c : Bool) → (IsTrue b ↔ (siblings xs ≢ [])) → b ≡ false → (IsTrue c ↔ (siblings ys ≢ [])) → IsTrue c ↔ (siblings (xs ++ ys) ≢ [])
+left_has_none xs ys b c has none right =
+    subst (λ (s : List (ℕ × Area)). IsTrue c ↔ (s ≢ [])) (sym (siblings-append xs ys)) (behind_none (siblings xs) (siblings ys) b c has none right)

@@ -1,0 +1,33 @@
+use Rattle.std.proofs.Common.{List, [], ◌∷◌, ℕ, ◌+◌, None, ap, ◌∙◌}
+use Rattle.hb_activity.specs.Classes.{HasJob}
+use Rattle.hb_activity.specs.Deciding.{joined_by, said_by}
+use Rattle.hb_activity.specs.declared.jobs.JobKind.TheVariants.{Post}
+use Rattle.hb_poster.proofs.posting.split.Goals as goal
+
+pub returns : goal.returns
+returns c s room number =
+    let may = c.in_ok-part.ensures.allowed in
+    let told = c.does_for_both.ensures in
+    let job = c.args.job in
+    let corner = c.corner_of.ensures may.part may.found in
+    let jobs = told.jobs ∙ ap (λ (p : List ℕ). record { kind = Post; level = job.level + 1; point = p } ∷ job ∷ []) corner in record {
+      leaves = record {
+        path = c.in_ok-part.part.path;
+        cuts = c.in_ok-part.part.cuts;
+        chosen = c.in_ok-part.ensures.exact;
+        part = may.part;
+        there = may.found;
+        fresh = c.args.fresh;
+        free_after = c.args.free_after;
+        free = room;
+        next = number;
+      };
+      deed_is = λ i. record {
+        next = told.then i;
+        op = told.op i;
+        takes = None;
+        adds = jobs i;
+        joins = joined_by (HasJob job) (told.then i) (told.fate i);
+        says = said_by (HasJob job) (told.fate i);
+      };
+    }

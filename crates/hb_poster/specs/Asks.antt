@@ -1,0 +1,63 @@
+-- What the decider of the poster may rely on, and where it asks for memory.
+use Rattle.std.specs.Prelude.{◌≡◌, ◌⊎◌, ℕ, ◌≤◌, List, [], ◌∷◌, Option, Some, None}
+use Rattle.hb_space.specs.Boxes.{Area, Holds}
+use Rattle.hb_layout.specs.declared.meta.Meta.{Meta}
+use Rattle.hb_frag.specs.declared.pages.LivePage.{LivePage}
+use Rattle.hb_frag.specs.declared.paths.Side.{Side}
+use Rattle.hb_ops.specs.Sound.{FitsFile}
+use Rattle.hb_terms.specs.Plans.{LacksRoom, Posts}
+use Rattle.hb_activity.specs.declared.jobs.Job.{Job}
+use Rattle.hb_activity.specs.declared.activities.Activity.{Activity}
+use Rattle.hb_activity.specs.declared.activities.Activity.TheVariants as at
+use Rattle.hb_activity.specs.Deciding.{given_sight}
+use Rattle.hb_activity.specs.Passing.{LeadsBelow}
+use Rattle.hb_poster.specs.PosterRows.{MayGrow}
+
+-- The pages that a step is given, by their numbers: the one that it latched, and in front of a child its parent.
+abbrev pub given_pages : Activity → ℕ → LivePage → Option LivePage → List (ℕ × LivePage)
+given_pages (at.PosterChild job parent) id page (Some over) = (parent, over) ∷ (id, page) ∷ []
+given_pages (at.PosterAgain job parent) id page (Some over) = (parent, over) ∷ (id, page) ∷ []
+given_pages other id page first = (id, page) ∷ []
+
+-- Where the step makes a page, if one is free: the file may get a level, or the parent has no room for what is to be posted.
+abbrev pub MakesPage : Activity → Meta → LivePage → Option LivePage → Type 0
+MakesPage (at.PosterGrow job) meta page first = MayGrow (given_sight meta [] None) job page
+MakesPage (at.PosterAgain job parent) meta page (Some over) = LacksRoom over page job.point meta.icap
+MakesPage other meta page first = ⊥
+
+-- The page of a walk is above the records, and its box has the job's point.
+pub record WalksAbove (job : Job) (page : LivePage) : Type 0 where
+  pub above : 1 ≤ page.level
+  pub held : Holds page.area job.point
+
+-- The parent keeps the rules of a page alone, and its leaf at the job's point is a child leaf. Its box and the child's have the point.
+pub record LooksBelow (meta : Meta) (job : Job) (over child : LivePage) : Type 0 where
+  pub made : FitsFile meta over
+  pub leads : LeadsBelow over job
+  pub held : Holds over.area job.point
+  pub below : Holds child.area job.point
+
+-- Looking again, the parent is of the job's level.
+pub record LooksAgainBelow (meta : Meta) (job : Job) (over child : LivePage) : Type 0 where
+  pub level : over.level ≡ job.level
+  pub both : LooksBelow meta job over child
+
+-- What the decider may be asked, by where the poster stands. Elsewhere it has no step at a page.
+abbrev pub MayBeAsked : Activity → Meta → LivePage → Option LivePage → Type 0
+MayBeAsked (at.PosterGrow job) meta page first = Unit {0}
+MayBeAsked (at.PosterWalk job held) meta page first = WalksAbove job page
+MayBeAsked (at.PosterChild job parent) meta page (Some over) = LooksBelow meta job over page
+MayBeAsked (at.PosterPromote job parent) meta page first = Unit {0}
+MayBeAsked (at.PosterAgain job parent) meta page (Some over) = LooksAgainBelow meta job over page
+MayBeAsked other meta page first = ⊥
+
+-- a posting is planned
+abbrev pub PlansPosting : Meta → Job → LivePage → LivePage → Type 0
+PlansPosting meta job over child = (at : List Side) × (inner : ℕ) × (area : Area) × Posts over child job.point meta.icap at inner area
+
+-- Memory is asked for where a posting is planned, and, looking again, where the parent is split.
+abbrev pub AsksMemory : Activity → Meta → LivePage → Option LivePage → Option (ℕ × ℕ) → Type 0
+AsksMemory (at.PosterChild job parent) meta page (Some over) free = PlansPosting meta job over page
+AsksMemory (at.PosterAgain job parent) meta page (Some over) None = PlansPosting meta job over page
+AsksMemory (at.PosterAgain job parent) meta page (Some over) (Some number) = PlansPosting meta job over page ⊎ LacksRoom over page job.point meta.icap
+AsksMemory other meta page first free = ⊥

@@ -1,0 +1,89 @@
+ghost use Rattle.std.specs.Prelude.{◌≡◌, ◌<◌, ◌↔◌, IsTrue, IfOk, OnErr};
+ghost use Rattle.std.specs.Option.{option_copied};
+ghost use Rattle.hb_layout.specs.Limits.{IsLayout};
+ghost use Rattle.hb_ops.specs.Sound.{FitsFile};
+ghost use Rattle.hb_activity.specs.Deciding.{FitsFree, deed_of, given_sight};
+ghost use Rattle.hb_poster.specs.Asks.{AsksMemory, MakesPage, MayBeAsked, given_pages};
+ghost use Rattle.hb_poster.specs.PosterRows.{PosterRow};
+
+use crate::growing::{grow, may_grow};
+use crate::posting::{lacks_room, look, look_again};
+use crate::walking::walk;
+use hb_activity::{Activity, Next};
+use hb_frag::LivePage;
+use hb_layout::Meta;
+use hb_space::NoMemory;
+use std::alloc::Global;
+
+/// What a step of the poster comes to. `page`, of number `id`, is the page that the step latched: the
+/// root, the page of the walk, the child, or the parent that is promoted. `first` is the parent, where
+/// the page is a child. `free` is the number that a made page takes, with the free head afterwards:
+/// `None` exactly where no page is free. It is read only where a page is to be made, which
+/// `needs_number` tells; elsewhere anything may be given.
+///
+/// # Errors
+///
+/// Memory was refused. It is wanted only where a posting or a split is planned.
+pub fn next(
+    alloc: Global,
+    state: Activity,
+    id: u32,
+    page: &LivePage,
+    first: Option<&LivePage>,
+    _second: Option<&LivePage>,
+    free: Option<(u32, u32)>,
+    meta: &Meta,
+) -> Result<Next, NoMemory>
+    requires layout { IsLayout meta.now }
+    requires made { FitsFile meta.now page.now }
+    requires asked { MayBeAsked state meta.now page.now (option_copied first) }
+    requires free { MakesPage state meta.now page.now (option_copied first) → FitsFree meta.now free }
+    ensures row { IfOk result (λ next. PosterRow state
+        (given_sight meta.now (given_pages state id page.now (option_copied first.entry)) free) id page.now
+        (deed_of state next)) }
+    ensures memory { OnErr result (AsksMemory state meta.now page.now (option_copied first.entry) free) }
+{
+    match state {
+        Activity::PosterGrow { job } => Ok(grow(job, page, free, meta)),
+        Activity::PosterWalk { job, .. } => Ok(walk(job, id, page)),
+        Activity::PosterPromote { job, parent } => {
+            Ok(Next::moves(Activity::PosterAgain { job, parent }))
+        }
+        Activity::PosterChild { job, parent } => match first {
+            Some(over) => look(alloc, job, parent, over, page, meta),
+            None => unreachable!(),
+        },
+        Activity::PosterAgain { job, parent } => match first {
+            Some(over) => look_again(alloc, job, parent, over, page, free, meta),
+            None => unreachable!(),
+        },
+        _ => unreachable!(),
+    }
+}
+
+/// Whether the step takes a number for a page that it makes. Where the poster looks again, what is
+/// to be posted is planned for that, and `next` plans it once more.
+pub fn needs_number(
+    alloc: Global,
+    state: &Activity,
+    page: &LivePage,
+    first: Option<&LivePage>,
+    meta: &Meta,
+) -> bool
+    requires made { FitsFile meta.now page.now }
+    requires asked { MayBeAsked state.now meta.now page.now (option_copied first) }
+    ensures { IsTrue result
+        ↔ ((meta.now.live < meta.now.pages) × MakesPage state.now meta.now page.now (option_copied first.entry)) }
+{
+    if meta.pages <= meta.live {
+        return false;
+    }
+    match state {
+        Activity::PosterGrow { job } => may_grow(job, page, meta),
+        Activity::PosterAgain { job, .. } => match first {
+            Some(over) => lacks_room(alloc, job, over, page, meta),
+            None => unreachable!(),
+        },
+        _ => false,
+    }
+}

@@ -1,0 +1,58 @@
+//! The file gets a level.
+
+ghost use Rattle.std.specs.Prelude.{◌≢◌, ◌↔◌, ℕ, List, [], None, IsTrue};
+ghost use Rattle.hb_space.specs.Boxes.{Area as Extent};
+ghost use Rattle.hb_frag.specs.Leaves.{leaves_of, siblings, siblings_of};
+ghost use Rattle.hb_frag.specs.declared.pages.LivePage.{LivePage as OnePage};
+ghost use Rattle.hb_activity.specs.Deciding.{FitsFree, deed_of, given_sight};
+ghost use Rattle.hb_poster.specs.PosterRows.{MayGrow, PosterRow};
+
+use hb_activity::{Activity, Job, Next};
+use hb_frag::{Frag, Leaf, LivePage, Node};
+use hb_layout::Meta;
+use hb_layout::limits::HEIGHT_MAX;
+use hb_ops::Op;
+
+/// What growing comes to: where the file may get a level and a page is free, it does, and the job
+/// waits again. Else the job is dropped.
+pub(crate) fn grow(job: Job, root: &LivePage, free: Option<(u32, u32)>, meta: &Meta) -> Next
+    requires { MayGrow (given_sight meta.now [] None) job root.now → FitsFree meta.now free }
+    ensures { (id : ℕ) (pages : List (ℕ × OnePage)) → PosterRow (Activity.PosterGrow job)
+        (given_sight meta.now pages free) id root.now (deed_of (Activity.PosterGrow job) result) }
+{
+    if !may_grow(&job, root, meta) {
+        return Next::moves(Activity::PosterIdle);
+    }
+    match free {
+        Some((fresh, free_after)) => {
+            Next::does(Activity::PosterIdle, Op::Grow { fresh, free_after }, job)
+        }
+        None => Next::moves(Activity::PosterIdle),
+    }
+}
+
+/// Whether the file may get a level for the job: it is as high as the job's level, and the root
+/// gave a part of its box away.
+pub(crate) fn may_grow(job: &Job, root: &LivePage, meta: &Meta) -> bool
+    ensures { IsTrue result ↔ MayGrow (given_sight meta.now [] None) job.now root.now }
+{
+    meta.height == job.level && meta.height < HEIGHT_MAX && gave_away(root)
+}
+
+// Whether the page gave a part of its box away.
+fn gave_away(page: &LivePage) -> bool
+    ensures { IsTrue result ↔ (siblings_of page.now ≢ []) }
+{
+    has_sibling(&page.frag)
+}
+
+// Whether some leaf of the part names a sibling.
+fn has_sibling(frag: &Frag) -> bool
+    ensures { (area : Extent) → IsTrue result ↔ (siblings (leaves_of frag.now area) ≢ []) }
+{
+    match &frag.node {
+        Node::Tip(Leaf::Sibling(_)) => true,
+        Node::Tip(Leaf::Records(_) | Leaf::Child(_)) => false,
+        Node::Cut { left, right, .. } => has_sibling(left) || has_sibling(right),
+    }
+}
