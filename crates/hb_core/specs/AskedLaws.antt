@@ -40,16 +40,18 @@ PointsMayBeAsked = (m : Machine) (actor : ℕ) (fetched : StoreState) (line : Li
     MayLatch actor → MachineKeeps m → Brings m AnyPage fetched → m.activity actor ≡ at.SessionWalk line held rest found → (WantsBoxes line.command → ⊥) → walk_point (m.activity actor) ≡ Some p → IsPoint p →
     wanted_by m actor ≡ Some wanted → IsAtHand (with_disk fetched m.files m.clock m) (m.activity actor) wanted page → MayAsk (m.activity actor) m.store.meta free wanted.page page None
 
--- A page that a session holds is still in memory: the one to be split, and both halves of one that was. With them it may ask.
+-- The page that is to be split is still in memory, and the decider may be asked with it.
 pub record AsksToSplit (m : Machine) (actor : ℕ) (fetched : StoreState) (free : Option (ℕ × ℕ)) (held : ℕ) : Type 0 where
   pub page : LivePage
   pub live : live_here fetched held ≡ Some page
   pub may : MayAsk (m.activity actor) m.store.meta free held page None
 
+-- So it is of each session that is to split a page, where a number is given exactly if a page is free.
 abbrev pub SplitsMayBeAsked : Type 0
 SplitsMayBeAsked = (m : Machine) (actor : ℕ) (fetched : StoreState) (line : Line) (held : ℕ) (free : Option (ℕ × ℕ)) → MayLatch actor → MachineKeeps m → Brings m AnyPage fetched →
     m.activity actor ≡ at.SessionSplit line held → FitsFree m.store.meta free → AsksToSplit m actor fetched free held
 
+-- Both halves of a page that was split are still in memory, and the decider may be asked with them.
 pub record AsksToPut (m : Machine) (actor : ℕ) (fetched : StoreState) (free : Option (ℕ × ℕ)) (source fresh : ℕ) : Type 0 where
   pub page : LivePage
   pub live : live_here fetched source ≡ Some page
@@ -57,6 +59,7 @@ pub record AsksToPut (m : Machine) (actor : ℕ) (fetched : StoreState) (free : 
   pub other_live : live_here fetched fresh ≡ Some other
   pub may : MayAsk (m.activity actor) m.store.meta free source page (Some other)
 
+-- So it is of each session that is to put its record into one of them.
 abbrev pub PutsMayBeAsked : Type 0
 PutsMayBeAsked = (m : Machine) (actor : ℕ) (fetched : StoreState) (line : Line) (source fresh : ℕ) (free : Option (ℕ × ℕ)) → MayLatch actor → MachineKeeps m → Brings m AnyPage fetched →
     m.activity actor ≡ at.SessionPut line source fresh → AsksToPut m actor fetched free source fresh
@@ -66,12 +69,13 @@ abbrev pub PosterWalksMayBeAsked : Type 0
 PosterWalksMayBeAsked = (m : Machine) (actor : ℕ) (fetched : StoreState) (job : Job) (held : Option ℕ) (wanted : Wanted) (page : LivePage) → MayLatch actor → MachineKeeps m → Brings m AnyPage fetched →
     m.activity actor ≡ at.PosterWalk job held → IsPoint job.point → wanted_by m actor ≡ Some wanted → IsAtHand (with_disk fetched m.files m.clock m) (m.activity actor) wanted page → MayBeAsked (m.activity actor) m.store.meta page None
 
--- At a child it may ask with the parent, which is still in memory.
+-- The parent is still in memory, and the decider may be asked with it at the child.
 pub record AsksWithParent (m : Machine) (actor : ℕ) (fetched : StoreState) (parent : ℕ) (page : LivePage) : Type 0 where
   pub over : LivePage
   pub live : live_here fetched parent ≡ Some over
   pub may : MayBeAsked (m.activity actor) m.store.meta page (Some over)
 
+-- So it is of the poster where it looks at a child, and where it looks again.
 abbrev pub ChildrenMayBeAsked : Type 0
 ChildrenMayBeAsked = (m : Machine) (actor : ℕ) (fetched : StoreState) (job : Job) (parent : ℕ) (wanted : Wanted) (page : LivePage) → MayLatch actor → MachineKeeps m → Brings m AnyPage fetched →
     (m.activity actor ≡ at.PosterChild job parent) ⊎ (m.activity actor ≡ at.PosterAgain job parent) → wanted_by m actor ≡ Some wanted → IsAtHand (with_disk fetched m.files m.clock m) (m.activity actor) wanted page →

@@ -1,8 +1,8 @@
 -- The deciders may be asked at the page that a kept machine's step has at hand.
-use Rattle.std.proofs.Common.{◌≡◌, ◌≢◌, ◌⊎◌, inl, inr, ℕ, ◌-◌, ◌<◌, ◌≤◌, ◌==◌, Bool, true, false, cond, List, [], ◌∷◌, length, Option, Some, None, IfSome, refl, sym, ap, ◌∙◌, subst, arith}
+use Rattle.std.proofs.Common.{◌≡◌, ◌≢◌, ◌⊎◌, inl, inr, ℕ, ◌-◌, ◌≤◌, ◌==◌, Bool, true, false, cond, List, [], ◌∷◌, length, Option, Some, None, IfSome, refl, sym, ap, ◌∙◌, subst, arith}
 use Rattle.std.specs.List.{All, slice_get}
 use Rattle.std.specs.Option.{option_and_then, option_map}
-use Rattle.std.proofs.lemmas.Bool.{cases_Bool, eqb-true, eq-eqb, ne_eqb}
+use Rattle.std.proofs.lemmas.Bool.{eq-eqb}
 use Rattle.std.proofs.lemmas.Option.{same_Some}
 use Rattle.std.proofs.lemmas.List.Elements.{All-contains}
 use Rattle.hb_space.specs.Boxes.{Area, Holds, whole_area}
@@ -14,7 +14,7 @@ use Rattle.hb_frag.specs.declared.leaves.Leaf.TheVariants.{Records, Child, Sibli
 use Rattle.hb_frag.specs.declared.pages.LivePage.{LivePage}
 use Rattle.hb_frag.specs.declared.pages.Page.TheVariants.{Live}
 use Rattle.hb_frag.proofs.Tiles.{first_tells}
-use Rattle.hb_frag.specs.Leaves.{DirectlyHolds, Placed, leaf_at, weight_of}
+use Rattle.hb_frag.specs.Leaves.{DirectlyHolds, Placed, leaf_at}
 use Rattle.hb_latch.specs.declared.modes.Mode.{Mode}
 use Rattle.hb_latch.specs.declared.modes.Mode.TheVariants.{Exclusive}
 use Rattle.hb_latch.specs.Tables.{MayLatch}
@@ -22,43 +22,38 @@ use Rattle.hb_ops.specs.Files.{if_live}
 use Rattle.hb_layout.specs.declared.meta.Meta.{Meta}
 use Rattle.hb_ops.proofs.Tips.{first_held}
 use Rattle.hb_ops.specs.PlacedLaws.{placed}
-use Rattle.hb_ops.specs.Recording.{put_page}
-use Rattle.hb_ops.specs.Sound.{FitsFile}
 use Rattle.hb_set.specs.declared.commands.Command.{Command}
 use Rattle.hb_set.specs.declared.commands.Command.TheVariants.{Insert, Delete, Lookup, Search}
-use Rattle.hb_set.specs.declared.scripts.Line.{Line}
 use Rattle.hb_activity.specs.declared.holding.Latch.{Latch}
 use Rattle.hb_activity.specs.declared.jobs.Job.{Job}
 use Rattle.hb_activity.specs.declared.wanting.Wanted.{Wanted}
 use Rattle.hb_activity.specs.declared.activities.Activity.{Activity}
 use Rattle.hb_activity.specs.declared.activities.Activity.TheVariants as at
 use Rattle.hb_activity.specs.Classes.{job_in_work, line_in_hand}
-use Rattle.hb_activity.specs.Deciding.{FitsFree}
 use Rattle.hb_activity.specs.Holding.{latch_on}
 use Rattle.hb_activity.specs.Passing.{LeadsBelow}
 use Rattle.hb_activity.specs.Walks.{goal_of, job_mode, session_mode, walk_held, walk_point}
-use Rattle.hb_activity.specs.Wanting.{in_mode, named_page, walk_next, wanted_of, wanted_page}
-use Rattle.hb_point.specs.Asks.{HasHalves, MayAsk, MustSplit, WalksInside}
+use Rattle.hb_activity.specs.Wanting.{in_mode, named_page, walk_next, wanted_of}
+use Rattle.hb_point.specs.Asks.{MayAsk, WalksInside}
 use Rattle.hb_point.specs.SessionRows.{WantsBoxes}
-use Rattle.hb_poster.specs.Asks.{LooksBelow, MayBeAsked, WalksAbove}
+use Rattle.hb_poster.specs.Asks.{LooksBelow, MayBeAsked}
 use Rattle.hb_sound.proofs.WalksDown.{holds_within}
-use Rattle.hb_store.specs.States.{IsGoodPage, StoreState, in_memory}
+use Rattle.hb_store.specs.States.{IsGoodPage, StoreState}
 use Rattle.hb_core.proofs.Files.AskedPages.{place_among}
-use Rattle.hb_core.proofs.Memory.BroughtPages.{both_there, some_of_map}
+use Rattle.hb_core.proofs.Memory.BroughtPages.{some_of_map}
 use Rattle.hb_core.proofs.Memory.StillThere.{fetched_good}
 use Rattle.hb_core.proofs.Walks.AtHand.{good_here, own_there, walked_there}
 use Rattle.hb_core.proofs.Walks.WalkingWorkers.{walk_wants_above}
 use Rattle.hb_core.proofs.Walks.WalksKept.{IsAtParent, parent_latched}
 use Rattle.hb_core.specs.AllowedLaws.{AnyPage}
 use Rattle.hb_core.specs.AskedLaws.{AsksToPut, AsksToSplit, AsksWithParent, ChildrenMayBeAsked, OthersMayBeAsked, PagesAtHandFit, PointsMayBeAsked, PosterWalksMayBeAsked, PutsMayBeAsked, SplitsMayBeAsked, WalksStayInside}
-use Rattle.hb_core.specs.Asking.{AskedBox, HasAskedBox, asked_box, box_at, box_by_leaf, looked_live, wanted_by}
+use Rattle.hb_core.specs.Asking.{AskedBox, HasAskedBox, asked_box, box_at, box_by_leaf, looked_live}
 use Rattle.hb_core.specs.Fetching.{Brings}
 use Rattle.hb_core.specs.Keeps.{LacksRoomFor, OneHasRoom}
 use Rattle.hb_core.specs.KeptFits.{CommandFits, IsBoxOf, JobFits, LineFits, StandsAbove, boxes_left, walking_job}
 use Rattle.hb_core.specs.KeptMachine.{MachineKeeps}
-use Rattle.hb_core.specs.Machines.{Machine, live_here, with_disk}
+use Rattle.hb_core.specs.Machines.{Machine, live_here}
 use Rattle.hb_core.specs.Performing.{latches_held, mode_among}
-use Rattle.hb_core.specs.Rows.{IsAtHand}
 
 pub pages_at_hand_fit : PagesAtHandFit
 pages_at_hand_fit m fetched id page keeps brings live = (keeps.marks_in_place.layout, (fetched_good m AnyPage fetched keeps.pages_of_file brings id page live).1)
@@ -124,8 +119,8 @@ module _ (meta : Meta) (page : LivePage) (good : IsGoodPage meta (Live page)) (p
     onward : (marks : Meta) (id : ℕ) (goal : Option (List ℕ)) (mode : ℕ → Mode) (wanted : Wanted) (now then : Option LivePage) → goal ≡ Some p → now ≡ Some before → then ≡ Some before
         → in_mode mode (walk_next goal (Some id) marks now) ≡ Some wanted → IsFound (box_at then goal) → Holds page.area p
     onward marks id goal mode wanted now then goal_is is was wants box =
-        let wants_at : in_mode mode (walk_next (Some p) (Some id) marks (Some before)) ≡ Some wanted =
-            subst (λ (o : Option LivePage). in_mode mode (walk_next (Some p) (Some id) marks o) ≡ Some wanted) is (subst (λ (g : Option (List ℕ)). in_mode mode (walk_next g (Some id) marks now) ≡ Some wanted) goal_is wants) in
+        let at_goal = subst (λ (g : Option (List ℕ)). in_mode mode (walk_next g (Some id) marks now) ≡ Some wanted) goal_is wants in
+        let wants_at = subst (λ (o : Option LivePage). in_mode mode (walk_next (Some p) (Some id) marks o) ≡ Some wanted) is at_goal in
         let box_there : IsFound (box_at (Some before) (Some p)) = subst (λ (o : Option LivePage). IsFound (box_at o (Some p))) was (subst (λ (g : Option (List ℕ)). IsFound (box_at then g)) goal_is box) in
         at_leaf (leaf_at before p) mode wanted refl wants_at box_there
 
