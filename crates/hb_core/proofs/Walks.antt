@@ -8,6 +8,7 @@ pub mod LaterWanted
 pub mod NoCircle
 pub mod SomebodyFree
 pub mod AtHand
+pub mod MayBeAsked
 pub mod WalkingWorkers
 pub mod WorkersKept
 pub mod WhoGoesOn

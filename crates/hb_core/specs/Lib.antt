@@ -29,6 +29,7 @@ pub mod KeepingLaws
 pub mod WaitingLaws
 pub mod StageLaws
 pub mod MachineLaws
+pub mod AskedLaws
 pub mod CauseLaws
 pub mod JobLaws
 pub mod Showing

@@ -14,6 +14,7 @@
 //! completed late, and Evangelidis, Lomet and Salzberg 1997.
 #![tactic(auto)]
 
+pub mod asked_laws;
 pub mod cause_laws;
 pub mod examples;
 pub mod file_laws;

@@ -137,14 +137,14 @@ off_one : (id : ℕ) (mode : Mode) (other : ℕ) (rest : List Latch) → id ≢ 
 off_one id mode other rest off = ap (λ (b : Bool). cond b (Some mode) (mode_among other rest)) (ne_eqb id other off)
 
 module _ (m : Machine) (actor : ℕ) (fetched : StoreState) (may : MayLatch actor) (keeps : MachineKeeps m) (brings : Brings m AnyPage fetched) where
-  good_here : (id : ℕ) (page : LivePage) → live_here m.store id ≡ Some page → IsGoodPage m.store.meta (Live page)
+  pub good_here : (id : ℕ) (page : LivePage) → live_here m.store id ≡ Some page → IsGoodPage m.store.meta (Live page)
   good_here id page live = (keeps.pages_of_file id (Live page) (live_page_there (in_memory m.store id) page live)).2
 
   -- a page that the actor holds stays
-  own_there : (id : ℕ) (mode : Mode) (page : LivePage) → mode_among id (latches_held m.store (m.activity actor)) ≡ Some mode → live_here m.store id ≡ Some page → live_here fetched id ≡ Some page
+  pub own_there : (id : ℕ) (mode : Mode) (page : LivePage) → mode_among id (latches_held m.store (m.activity actor)) ≡ Some mode → live_here m.store id ≡ Some page → live_here fetched id ≡ Some page
   own_there id mode page among live = ap if_live (still_held m AnyPage fetched brings actor id mode (Live page) (keeps.latches_fit.exact actor id may ∙ among) (live_page_there (in_memory m.store id) page live))
 
-  walked_there : (held : ℕ) (before : LivePage) → walk_held (m.activity actor) ≡ Some held → live_here m.store held ≡ Some before → live_here fetched held ≡ Some before
+  pub walked_there : (held : ℕ) (before : LivePage) → walk_held (m.activity actor) ≡ Some held → live_here m.store held ≡ Some before → live_here fetched held ≡ Some before
   walked_there held before walks live = let latch = walk_latched (m.activity actor) m.store held before walks live in own_there held latch.0 before latch.1 live
 
   -- ---- what a walk finds
