@@ -5,7 +5,6 @@ use Rattle.std.proofs.lemmas.Bool.{cases_Bool, eqb-false, eqb-true, false≢true
 use Rattle.hb_space.specs.declared.records.Record.{Record}
 use Rattle.hb_frag.specs.declared.pages.LivePage.{LivePage}
 use Rattle.hb_frag.specs.declared.pages.Page.{Page}
-use Rattle.hb_frag.specs.declared.pages.Page.TheVariants.{Live}
 use Rattle.hb_layout.specs.declared.meta.Meta.{Meta}
 use Rattle.hb_ops.specs.declared.operations.Op.{Op}
 use Rattle.hb_ops.specs.declared.operations.Op.TheVariants as ops
@@ -27,19 +26,17 @@ use Rattle.hb_core.proofs.Memory.CommitPages.{commit_pages}
 use Rattle.hb_core.proofs.Memory.NextNumbers.{is_next_number}
 use Rattle.hb_core.proofs.Memory.OwnPages.{gives_up_nothing, runs_out_nothing}
 use Rattle.hb_core.proofs.Table.MergerMoves.{merger_moves}
-use Rattle.hb_core.proofs.Table.StepKinds.{IsOutright, each_kind, FlushesMore, rest_kind}
+use Rattle.hb_core.proofs.Table.StepKinds.{each_kind, FlushesMore, rest_kind}
 use Rattle.hb_core.proofs.Table.Targets.{IsNumber, numbers_are_targets, set_elsewhere}
 use Rattle.hb_core.specs.Acting.{MayNeed, NeedsNumber, takes_number}
-use Rattle.hb_core.specs.Asking.{HasWayFree, wanted_by}
+use Rattle.hb_core.specs.Asking.{wanted_by}
 use Rattle.hb_core.specs.Fetching.{Brings, IsFreeHead, IsWantedPage}
-use Rattle.hb_core.specs.Forcing.{ForcesFirst, StaysSo, FailsToWrite, FlushesWell}
-use Rattle.hb_core.specs.GivingUp.{gives_up, runs_out}
+use Rattle.hb_core.specs.Forcing.{ForcesFirst, StaysSo, FailsToWrite}
 use Rattle.hb_core.specs.Machines.{Machine, sight, with_disk}
 use Rattle.hb_core.specs.NeedLaws.{IsNextNumber, IsToBeMade, MayMakePage, NeedsPage, PagesComeByNeed}
-use Rattle.hb_core.specs.Performing.{MayDo, Performs}
+use Rattle.hb_core.specs.Performing.{MayDo}
 use Rattle.hb_core.specs.Rows.{DoesHere, Row, RowAlone, RowAt}
-use Rattle.hb_core.specs.Steps.{GetsReady, IsUnready, Works}
-use Rattle.hb_frag.specs.Leaves.{siblings_of}
+use Rattle.hb_core.specs.Steps.{GetsReady, Works}
 use Rattle.hb_ops.specs.Files.{if_live}
 use Rattle.hb_ops.specs.Operations.{change_of}
 use Rattle.hb_poster.specs.PosterRows.{DoesPlan, after_look}
@@ -279,9 +276,9 @@ module _ (m : Machine) (actor : ℕ) (new : Machine) (id : ℕ) (was : in_memory
     -- what the file says is the same with the pages that came
     as_before : MayMakePage (m.activity actor) × (fetched.meta.live < fetched.meta.pages) × IsNextNumber fetched id → Needed
     as_before (makes, free, number) = inr (
-        makes,
-        subst (λ (meta : Meta). meta.live < meta.pages) brings.rest.meta free,
-        subst (λ (meta : Meta). ((id ≡ meta.free) × (id ≢ 0)) ⊎ ((meta.free ≡ 0) × (id ≡ meta.high + 1))) brings.rest.meta number
+      makes,
+      subst (λ (meta : Meta). meta.live < meta.pages) brings.rest.meta free,
+      subst (λ (meta : Meta). ((id ≡ meta.free) × (id ≢ 0)) ⊎ ((meta.free ≡ 0) × (id ≡ meta.high + 1))) brings.rest.meta number,
     )
 
     head_needed : MayMakePage (m.activity actor) × (fetched.meta.live < fetched.meta.pages) → IsFreeHead m.store id → Needed
