@@ -4,6 +4,7 @@ pub mod BroughtPages
 pub mod CommitPages
 pub mod OwnedOps
 pub mod OwnPages
+pub mod NeededPages
 pub mod Moments
 pub mod KeptPages
 pub mod StillThere

@@ -25,7 +25,6 @@ use Rattle.hb_store.specs.NextPage.{IsNext}
 use Rattle.hb_store.specs.States.{StoreState, in_memory}
 use Rattle.hb_terms.specs.Plans.{Posts}
 
-
 -- A posting by a plan: the parent and its child are in memory and in use, and at the job's point the parent's leaf names
 -- the child.
 pub record IsPlanned (st : StoreState) (parent : ℕ) (at : List Side) (inner : ℕ) (area : Area) : Type 0 where

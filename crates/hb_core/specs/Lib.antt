@@ -17,6 +17,7 @@ pub mod KeptFits
 pub mod KeptPlaces
 pub mod KeptMachine
 pub mod Laws
+pub mod NeedLaws
 pub mod FileLaws
 pub mod ContentsLaws
 pub mod OrderLaws

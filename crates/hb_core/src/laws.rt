@@ -2,6 +2,7 @@
 //! nothing: a caller learns it by the call.
 
 ghost use Rattle.hb_core.specs.Laws.{AnswersAreTimed, ClockMoves, HeldPagesStay, LatchesStayFit, OrderGrows, OthersStay, OwnPagesChange, PointsHaveOnePage, WalksGoFurther};
+ghost use Rattle.hb_core.specs.NeedLaws.{PagesComeByNeed};
 
 use hb_latch::laws::going_beside_is_mutual;
 use hb_sound::laws::{
@@ -13,6 +14,13 @@ use hb_sound::laws::{
 pub fn a_step_changes_its_own_pages()
     ensures own { OwnPagesChange }
     ensures held { HeldPagesStay }
+{}
+
+/// A step brings no page into memory but one that it needs: the page that it wants, or, where a page is made, the
+/// first of the free chain, or the one behind the high mark where that chain has none. A step that waits for
+/// another actor, or flushes, brings none.
+pub fn a_step_brings_what_it_needs()
+    ensures { PagesComeByNeed }
 {}
 
 /// No other actor stands elsewhere after a step, or has other latches. The lines stay, and the order stays

@@ -1,0 +1,376 @@
+-- A step brings no page into memory but the one that it wants, or the one of the number that a page takes that it makes.
+use Rattle.std.proofs.Common.{◌≡◌, ◌≢◌, ◌⊎◌, inl, inr, ℕ, ◌+◌, ◌<◌, ◌==◌, List, [], ◌∷◌, Option, Some, None, IsSome, IsTrue, refl, sym, ap, ◌∙◌, subst}
+use Rattle.std.specs.Prelude.{MatchOption}
+use Rattle.std.proofs.lemmas.Bool.{cases_Bool, eqb-false, eqb-true, false≢true}
+use Rattle.hb_space.specs.declared.records.Record.{Record}
+use Rattle.hb_frag.specs.declared.pages.LivePage.{LivePage}
+use Rattle.hb_frag.specs.declared.pages.Page.{Page}
+use Rattle.hb_layout.specs.declared.meta.Meta.{Meta}
+use Rattle.hb_ops.specs.declared.operations.Op.{Op}
+use Rattle.hb_ops.specs.declared.operations.Op.TheVariants as ops
+use Rattle.hb_set.specs.declared.commands.Command.{Command}
+use Rattle.hb_set.specs.declared.commands.Command.TheVariants.{Insert, Delete, Lookup, Search}
+use Rattle.hb_set.specs.declared.scripts.Line.{Line}
+use Rattle.hb_terms.specs.declared.plans.PostPlan.{PostPlan}
+use Rattle.hb_terms.specs.declared.plans.PostPlan.TheVariants as plans
+use Rattle.hb_activity.specs.declared.jobs.Job.{Job}
+use Rattle.hb_activity.specs.declared.wanting.Wanted.{Wanted}
+use Rattle.hb_activity.specs.declared.activities.Activity.{Activity}
+use Rattle.hb_activity.specs.declared.activities.Activity.TheVariants as at
+use Rattle.hb_core.specs.declared.outcomes.Outcome.{Outcome}
+use Rattle.hb_core.specs.declared.outcomes.Outcome.TheVariants as outcomes
+use Rattle.hb_activity.specs.Deeds.{Deed}
+use Rattle.hb_activity.specs.Passing.{PassesOn}
+use Rattle.hb_activity.specs.Walks.{goal_of}
+use Rattle.hb_core.proofs.Memory.CommitPages.{commit_pages}
+use Rattle.hb_core.proofs.Memory.NextNumbers.{is_next_number}
+use Rattle.hb_core.proofs.Memory.OwnPages.{gives_up_nothing, runs_out_nothing}
+use Rattle.hb_core.proofs.Table.MergerMoves.{merger_moves}
+use Rattle.hb_core.proofs.Table.StepKinds.{each_kind, FlushesMore, rest_kind}
+use Rattle.hb_core.proofs.Table.Targets.{IsNumber, numbers_are_targets, set_elsewhere}
+use Rattle.hb_core.specs.Acting.{MayNeed, NeedsNumber, takes_number}
+use Rattle.hb_core.specs.Asking.{wanted_by}
+use Rattle.hb_core.specs.Fetching.{Brings, IsFreeHead, IsWantedPage}
+use Rattle.hb_core.specs.Forcing.{ForcesFirst, StaysSo, FailsToWrite}
+use Rattle.hb_core.specs.Machines.{Machine, sight, with_disk}
+use Rattle.hb_core.specs.NeedLaws.{IsNextNumber, IsToBeMade, MayMakePage, NeedsPage, PagesComeByNeed}
+use Rattle.hb_core.specs.Performing.{MayDo}
+use Rattle.hb_core.specs.Rows.{DoesHere, Row, RowAlone, RowAt}
+use Rattle.hb_core.specs.Steps.{GetsReady, Works}
+use Rattle.hb_ops.specs.Files.{if_live}
+use Rattle.hb_ops.specs.Operations.{change_of}
+use Rattle.hb_poster.specs.PosterRows.{DoesPlan, after_look}
+use Rattle.hb_search.specs.SearchRows.{SearchGoesOn}
+use Rattle.hb_space.specs.Boxes.{Area}
+use Rattle.hb_store.specs.Calls.{change_here, read_here}
+use Rattle.hb_store.specs.NextPage.{IsNext}
+use Rattle.hb_store.specs.Replay.{set_pages}
+use Rattle.hb_store.specs.States.{StoreState, in_memory}
+
+-- What isn't there isn't some page.
+none_there : (o : Option Page) → o ≡ None → IsSome o → ⊥
+none_there None none there = cc
+none_there (Some page) none there = cc
+
+live_is_some : (o : Option Page) (page : LivePage) → if_live o ≡ Some page → IsSome o
+live_is_some None page live = cc
+live_is_some (Some page) other live = refl
+
+-- ---- the pages that an operation makes
+
+-- the page that an operation makes, which was in no use
+abbrev IsMade : Op → ℕ → Type 0
+IsMade (ops.Put page rec) id = ⊥
+IsMade (ops.Del page point) id = ⊥
+IsMade (ops.Extract source fresh path cuts free_after) id = id ≡ fresh
+IsMade (ops.Post parent path inner area) id = ⊥
+IsMade (ops.Grow fresh free_after) id = id ≡ fresh
+
+read_there : (st : StoreState) (id page : ℕ) (live : LivePage) → if_live (in_memory st page) ≡ Some live → id ≡ page → IsSome (in_memory st id)
+read_there st id page live is same = subst (λ (n : ℕ). IsSome (in_memory st n)) (sym same) (live_is_some (in_memory st page) live is)
+
+-- Each page that an operation changes is one that it makes, or one that it reads, which is in memory.
+made_or_read : (op : Op) (st : StoreState) (id : ℕ) → IsNumber id (change_here st op).pages → IsMade op id ⊎ IsSome (in_memory st id)
+made_or_read (ops.Put page rec) st id number = by (if_live (in_memory st page)) refl number
+  where
+    by : (o : Option LivePage) → if_live (in_memory st page) ≡ o → IsNumber id (change_of (ops.Put page rec) st.meta o (read_here st (ops.Put page rec) 1) (read_here st (ops.Put page rec) 2)).pages → ⊥ ⊎ IsSome (in_memory st id)
+    by None is never = absurd never
+    by (Some live) is (inl same) = inr (read_there st id page live is same)
+    by (Some live) is (inr never) = absurd never
+made_or_read (ops.Del page point) st id number = by (if_live (in_memory st page)) refl number
+  where
+    by : (o : Option LivePage) → if_live (in_memory st page) ≡ o → IsNumber id (change_of (ops.Del page point) st.meta o (read_here st (ops.Del page point) 1) (read_here st (ops.Del page point) 2)).pages → ⊥ ⊎ IsSome (in_memory st id)
+    by None is never = absurd never
+    by (Some live) is (inl same) = inr (read_there st id page live is same)
+    by (Some live) is (inr never) = absurd never
+made_or_read (ops.Extract source fresh path cuts free_after) st id number = by (if_live (in_memory st source)) refl number
+  where
+    op : Op
+    op = ops.Extract source fresh path cuts free_after
+
+    target : (live : LivePage) → if_live (in_memory st source) ≡ Some live → (id ≡ source) ⊎ (id ≡ fresh) → (id ≡ fresh) ⊎ IsSome (in_memory st id)
+    target live is (inl same) = inr (read_there st id source live is same)
+    target live is (inr made) = inl made
+
+    by : (o : Option LivePage) → if_live (in_memory st source) ≡ o → IsNumber id (change_of op st.meta o (read_here st op 1) (read_here st op 2)).pages → (id ≡ fresh) ⊎ IsSome (in_memory st id)
+    by None is never = absurd never
+    by (Some live) is some = target live is (numbers_are_targets op st.meta (Some live) (read_here st op 1) (read_here st op 2) id some)
+made_or_read (ops.Post parent path inner area) st id number = by (if_live (in_memory st parent)) refl number
+  where
+    op : Op
+    op = ops.Post parent path inner area
+
+    by : (o : Option LivePage) → if_live (in_memory st parent) ≡ o → IsNumber id (change_of op st.meta o (read_here st op 1) (read_here st op 2)).pages → ⊥ ⊎ IsSome (in_memory st id)
+    by None is never = absurd never
+    by (Some live) is (inl same) = inr (read_there st id parent live is same)
+    by (Some live) is (inr never) = absurd never
+made_or_read (ops.Grow fresh free_after) st id (inl is) = inl is
+made_or_read (ops.Grow fresh free_after) st id (inr never) = absurd never
+
+-- ---- the rows that make a page
+
+-- Where an operation makes a page, the activity is one that may, a page is free, and the number is the one that the store gives.
+abbrev IsWellMade : StoreState → Activity → ℕ → ℕ → Type 0
+IsWellMade st activity fresh free_after = MayMakePage activity × (st.meta.live < st.meta.pages) × IsNext st fresh free_after
+
+abbrev MakesWell : StoreState → Activity → Option Op → Type 0
+MakesWell st activity None = Unit {0}
+MakesWell st activity (Some (ops.Put page rec)) = Unit {0}
+MakesWell st activity (Some (ops.Del page point)) = Unit {0}
+MakesWell st activity (Some (ops.Extract source fresh path cuts free_after)) = IsWellMade st activity fresh free_after
+MakesWell st activity (Some (ops.Post parent path inner area)) = Unit {0}
+MakesWell st activity (Some (ops.Grow fresh free_after)) = IsWellMade st activity fresh free_after
+
+module _ (m : Machine) where
+  abbrev Told : Activity → Deed → Type 0
+  Told activity deed = MakesWell m.store activity deed.op
+
+  told_of : (activity : Activity) (deed other : Deed) → deed ≡ other → Told activity other → Told activity deed
+  told_of activity deed other is told = subst (Told activity) (sym is) told
+
+  makes_plan : (job : Job) (parent : ℕ) (page : LivePage) (plan : PostPlan) (deed : Deed) → DoesPlan (sight m) job parent page plan deed → Told (at.PosterAgain job parent) deed
+  makes_plan job parent page plans.Nothing deed is = told_of (at.PosterAgain job parent) deed _ is tt
+  makes_plan job parent page (plans.Post path inner area) deed is = told_of (at.PosterAgain job parent) deed _ is tt
+  makes_plan job parent page plans.SplitFirst deed (inl row) = told_of (at.PosterAgain job parent) deed _ row.deed_is tt
+  makes_plan job parent page plans.SplitFirst deed (inr row) = told_of (at.PosterAgain job parent) deed _ row.deed_is (tt, row.leaves.free, is_next_number m.store row.leaves.fresh row.leaves.free_after row.leaves.next)
+
+  module _ (walk : Activity) where
+    makes_search : (line : Line) (boxes : List Area) (found : List Record) (deed : Deed) → SearchGoesOn (sight m) line boxes found deed → Told walk deed
+    makes_search line [] found deed (ordered, same, rising, is) = told_of walk deed _ is tt
+    makes_search line (area ∷ rest) found deed is = told_of walk deed _ is tt
+
+    makes_there : (line : Line) (command : Command) (rest : List Area) (found : List Record) (id : ℕ) (page : LivePage) (p : List ℕ) (deed : Deed) → DoesHere (sight m) line command rest found id page p deed → Told walk deed
+    makes_there line (Insert rec) rest found id page p deed (inl row) = told_of walk deed _ row.deed_is tt
+    makes_there line (Insert rec) rest found id page p deed (inr (inl row)) = told_of walk deed _ row.deed_is tt
+    makes_there line (Insert rec) rest found id page p deed (inr (inr row)) = told_of walk deed _ row.deed_is tt
+    makes_there line (Delete point) rest found id page p deed (inl row) = told_of walk deed _ row.deed_is tt
+    makes_there line (Delete point) rest found id page p deed (inr row) = told_of walk deed _ row.deed_is tt
+    makes_there line (Lookup point) rest found id page p deed (inl row) = told_of walk deed _ row.deed_is tt
+    makes_there line (Lookup point) rest found id page p deed (inr row) = told_of walk deed _ row.deed_is tt
+    makes_there line (Search area) rest found id page p deed row = makes_search line _ _ deed row.goes
+
+    makes_walk : (line : Line) (rest : List Area) (found : List Record) (id : ℕ) (page : LivePage) (deed : Deed) (goal : Option (List ℕ))
+        → MatchOption goal ⊥ (λ p. PassesOn page p (at.SessionWalk line (Some id) rest found) deed ⊎ DoesHere (sight m) line line.command rest found id page p deed) → Told walk deed
+    makes_walk line rest found id page deed None never = absurd never
+    makes_walk line rest found id page deed (Some p) (inl row) = told_of walk deed _ row.deed_is tt
+    makes_walk line rest found id page deed (Some p) (inr row) = makes_there line line.command rest found id page p deed row
+
+    makes_look : (job : Job) (parent : ℕ) (plan : PostPlan) (deed : Deed) → deed ≡ after_look job parent plan → Told walk deed
+    makes_look job parent plans.Nothing deed is = told_of walk deed _ is tt
+    makes_look job parent (plans.Post path inner area) deed is = told_of walk deed _ is tt
+    makes_look job parent plans.SplitFirst deed is = told_of walk deed _ is tt
+
+  makes_alone : (activity : Activity) (deed : Deed) → RowAlone activity (sight m) deed → Told activity deed
+  makes_alone (at.SessionSplit line held) deed (inl row) = told_of (at.SessionSplit line held) deed _ row.deed_is tt
+  makes_alone (at.SessionSplit line held) deed (inr row) = told_of (at.SessionSplit line held) deed _ row.deed_is (tt, row.leaves.free, is_next_number m.store row.leaves.fresh row.leaves.free_after row.leaves.next)
+  makes_alone (at.SessionPut line source fresh) deed row = told_of (at.SessionPut line source fresh) deed _ row.deed_is tt
+  makes_alone at.SessionIdle deed row = absurd row
+  makes_alone (at.SessionWalk line held rest found) deed row = absurd row
+  makes_alone (at.SessionAwait line reply place) deed row = absurd row
+  makes_alone at.PosterIdle deed row = absurd row
+  makes_alone (at.PosterGrow job) deed row = absurd row
+  makes_alone (at.PosterWalk job held) deed row = absurd row
+  makes_alone (at.PosterChild job parent) deed row = absurd row
+  makes_alone (at.PosterPromote job parent) deed row = absurd row
+  makes_alone (at.PosterAgain job parent) deed row = absurd row
+  makes_alone at.ConsolidatorIdle deed row = absurd row
+  makes_alone (at.ConsolidatorWalk job held) deed row = absurd row
+  makes_alone (at.ConsolidatorScan job parent child) deed row = absurd row
+  makes_alone (at.ConsolidatorTry job parent keep gone leaf) deed row = absurd row
+  makes_alone (at.ConsolidatorPromote job parent keep gone) deed row = absurd row
+  makes_alone (at.ConsolidatorKeep job parent keep gone) deed row = absurd row
+  makes_alone (at.ConsolidatorDecide job parent keep gone) deed row = absurd row
+  makes_alone at.Flusher deed row = absurd row
+
+  makes_at : (activity : Activity) (id : ℕ) (page : LivePage) (deed : Deed) → RowAt activity (sight m) id page deed → Told activity deed
+  makes_at (at.SessionWalk line held rest found) id page deed row = makes_walk (at.SessionWalk line held rest found) line rest found id page deed (goal_of line.command rest) row
+  makes_at (at.PosterGrow job) id page deed (inl row) = told_of (at.PosterGrow job) deed _ row.deed_is (tt, row.free, is_next_number m.store row.fresh row.free_after row.next)
+  makes_at (at.PosterGrow job) id page deed (inr row) = told_of (at.PosterGrow job) deed _ row.deed_is tt
+  makes_at (at.PosterWalk job held) id page deed (inl row) = told_of (at.PosterWalk job held) deed _ row.deed_is tt
+  makes_at (at.PosterWalk job held) id page deed (inr row) = told_of (at.PosterWalk job held) deed _ row.passes.deed_is tt
+  makes_at (at.PosterChild job parent) id page deed row = makes_look (at.PosterChild job parent) job parent row.plan deed row.deed_is
+  makes_at (at.PosterPromote job parent) id page deed row = told_of (at.PosterPromote job parent) deed _ row tt
+  makes_at (at.PosterAgain job parent) id page deed row = makes_plan job parent row.page row.plan deed row.does_it
+  makes_at at.SessionIdle id page deed row = absurd row
+  makes_at (at.SessionSplit line held) id page deed row = absurd row
+  makes_at (at.SessionPut line source fresh) id page deed row = absurd row
+  makes_at (at.SessionAwait line reply place) id page deed row = absurd row
+  makes_at at.PosterIdle id page deed row = absurd row
+  makes_at at.ConsolidatorIdle id page deed row = absurd row
+  makes_at (at.ConsolidatorWalk job held) id page deed row = told_of (at.ConsolidatorWalk job held) deed _ (merger_moves m (at.ConsolidatorWalk job held) id page deed tt row).is tt
+  makes_at (at.ConsolidatorScan job parent child) id page deed row = told_of (at.ConsolidatorScan job parent child) deed _ (merger_moves m (at.ConsolidatorScan job parent child) id page deed tt row).is tt
+  makes_at (at.ConsolidatorTry job parent keep gone leaf) id page deed row = told_of (at.ConsolidatorTry job parent keep gone leaf) deed _ (merger_moves m (at.ConsolidatorTry job parent keep gone leaf) id page deed tt row).is tt
+  makes_at (at.ConsolidatorPromote job parent keep gone) id page deed row = told_of (at.ConsolidatorPromote job parent keep gone) deed _ (merger_moves m (at.ConsolidatorPromote job parent keep gone) id page deed tt row).is tt
+  makes_at (at.ConsolidatorKeep job parent keep gone) id page deed row = told_of (at.ConsolidatorKeep job parent keep gone) deed _ (merger_moves m (at.ConsolidatorKeep job parent keep gone) id page deed tt row).is tt
+  makes_at (at.ConsolidatorDecide job parent keep gone) id page deed row = told_of (at.ConsolidatorDecide job parent keep gone) deed _ (merger_moves m (at.ConsolidatorDecide job parent keep gone) id page deed tt row).is tt
+  makes_at at.Flusher id page deed row = absurd row
+
+  makes_row : (activity : Activity) (wanted : Option Wanted) (deed : Deed) → Row activity wanted m deed → Told activity deed
+  makes_row activity None deed row = makes_alone activity deed row
+  makes_row activity (Some wanted) deed (page, hand, row) = makes_at activity wanted.page page deed row
+
+  -- a row that needs a number is of an activity that makes a page, and a page is free
+  number_makes : (activity : Activity) (wanted : Option Wanted) → NeedsNumber activity wanted m → MayMakePage activity × (m.store.meta.live < m.store.meta.pages)
+  number_makes (at.SessionSplit line held) wanted free = (tt, free)
+  number_makes (at.PosterGrow job) None never = absurd never
+  number_makes (at.PosterGrow job) (Some wanted) needs = (tt, needs.0)
+  number_makes (at.PosterAgain job parent) None never = absurd never
+  number_makes (at.PosterAgain job parent) (Some wanted) needs = (tt, needs.0)
+  number_makes at.SessionIdle wanted never = absurd never
+  number_makes (at.SessionWalk line held rest found) wanted never = absurd never
+  number_makes (at.SessionPut line source fresh) wanted never = absurd never
+  number_makes (at.SessionAwait line reply place) wanted never = absurd never
+  number_makes at.PosterIdle wanted never = absurd never
+  number_makes (at.PosterWalk job held) wanted never = absurd never
+  number_makes (at.PosterChild job parent) wanted never = absurd never
+  number_makes (at.PosterPromote job parent) wanted never = absurd never
+  number_makes at.ConsolidatorIdle wanted never = absurd never
+  number_makes (at.ConsolidatorWalk job held) wanted never = absurd never
+  number_makes (at.ConsolidatorScan job parent child) wanted never = absurd never
+  number_makes (at.ConsolidatorTry job parent keep gone leaf) wanted never = absurd never
+  number_makes (at.ConsolidatorPromote job parent keep gone) wanted never = absurd never
+  number_makes (at.ConsolidatorKeep job parent keep gone) wanted never = absurd never
+  number_makes (at.ConsolidatorDecide job parent keep gone) wanted never = absurd never
+  number_makes at.Flusher wanted never = absurd never
+
+-- an operation that takes a number makes a page
+takes_makes : (st : StoreState) (activity : Activity) (op : Option Op) → MakesWell st activity op → IsTrue (takes_number op) → MayMakePage activity × (st.meta.live < st.meta.pages)
+takes_makes st activity None well takes = absurd (false≢true takes)
+takes_makes st activity (Some (ops.Put page rec)) well takes = absurd (false≢true takes)
+takes_makes st activity (Some (ops.Del page point)) well takes = absurd (false≢true takes)
+takes_makes st activity (Some (ops.Extract source fresh path cuts free_after)) well takes = (well.0, well.1)
+takes_makes st activity (Some (ops.Post parent path inner area)) well takes = absurd (false≢true takes)
+takes_makes st activity (Some (ops.Grow fresh free_after)) well takes = (well.0, well.1)
+
+-- and the page that it makes has the next number
+next_is_number : (st : StoreState) (fresh free_after : ℕ) → IsNext st fresh free_after → IsNextNumber st fresh
+next_is_number st fresh free_after next = elim (cases_Bool (st.meta.free == 0)) [
+  | inl none ↦ let empty = eqb-true st.meta.free 0 none in inr (empty, (next.from_behind empty).0)
+  | inr some ↦
+      let chained = eqb-false st.meta.free 0 some in
+      let head = (next.from_chain chained).0 in
+      inl (head, λ zero. chained (sym head ∙ zero))
+]
+
+well_made : (st : StoreState) (activity : Activity) (op : Op) (id : ℕ) → MakesWell st activity (Some op) → IsMade op id → MayMakePage activity × (st.meta.live < st.meta.pages) × IsNextNumber st id
+well_made st activity (ops.Put page rec) id well never = absurd never
+well_made st activity (ops.Del page point) id well never = absurd never
+well_made st activity (ops.Extract source fresh path cuts free_after) id well made = (well.0, well.1, subst (IsNextNumber st) (sym made) (next_is_number st fresh free_after well.2))
+well_made st activity (ops.Post parent path inner area) id well never = absurd never
+well_made st activity (ops.Grow fresh free_after) id well made = (well.0, well.1, subst (IsNextNumber st) (sym made) (next_is_number st fresh free_after well.2))
+
+-- ---- the steps
+
+module _ (m : Machine) (actor : ℕ) (new : Machine) (id : ℕ) (was : in_memory m.store id ≡ None) (comes : IsSome (in_memory new.store id)) where
+  -- nothing came where the memory is the same there
+  came_not : {A : Type 0} → in_memory new.store id ≡ in_memory m.store id → A
+  came_not same = absurd (none_there (in_memory new.store id) (same ∙ was) comes)
+
+  same_machine : {A : Type 0} → new ≡ m → A
+  same_machine is = came_not (ap (λ (n : Machine). in_memory n.store id) is)
+
+  abbrev Needed : Type 0
+  Needed = IsWantedPage (wanted_by m actor) id ⊎ IsToBeMade m actor id
+
+  module _ (may : ℕ → Type 0) (fetched : StoreState) (brings : Brings m may fetched) where
+    -- what the file says is the same with the pages that came
+    as_before : MayMakePage (m.activity actor) × (fetched.meta.live < fetched.meta.pages) × IsNextNumber fetched id → Needed
+    as_before (makes, free, number) = inr (
+      makes,
+      subst (λ (meta : Meta). meta.live < meta.pages) brings.rest.meta free,
+      subst (λ (meta : Meta). ((id ≡ meta.free) × (id ≢ 0)) ⊎ ((meta.free ≡ 0) × (id ≡ meta.high + 1))) brings.rest.meta number,
+    )
+
+    head_needed : MayMakePage (m.activity actor) × (fetched.meta.live < fetched.meta.pages) → IsFreeHead m.store id → Needed
+    head_needed (makes, free) head = inr (makes, subst (λ (meta : Meta). meta.live < meta.pages) brings.rest.meta free, inl head)
+
+    module _ (needs : may id → Needed) where
+      brought : IsSome (in_memory fetched id) → Needed
+      brought there = needs (brings.only id was there)
+
+      came_as : in_memory new.store id ≡ in_memory fetched id → IsSome (in_memory fetched id)
+      came_as same = subst (λ (o : Option Page). IsSome o) same comes
+
+      done : (op : Option Op) (mark : ℕ) → MakesWell fetched (m.activity actor) op → MayDo op mark fetched new.store → Needed
+      done None mark well does = brought (came_as (ap (λ (st : StoreState). in_memory st id) does))
+      done (Some op) mark well does = by (set_elsewhere (change_here fetched op).pages (in_memory fetched) id)
+        where
+          changed : IsMade op id ⊎ IsSome (in_memory fetched id) → Needed
+          changed (inl made) = as_before (well_made fetched (m.activity actor) op id well made)
+          changed (inr there) = brought there
+
+          by : (set_pages (change_here fetched op).pages (in_memory fetched) id ≡ in_memory fetched id) ⊎ IsNumber id (change_here fetched op).pages → Needed
+          by (inl same) = brought (came_as (commit_pages _ _ _ _ does.commits id ∙ same))
+          by (inr number) = changed (made_or_read op fetched id number)
+
+  -- what a row may bring, and what a step may that is given up or meets a bad page
+  row_needs : (fetched : StoreState) (op : Option Op) → (brings : Brings m (λ id. IsWantedPage (wanted_by m actor) id ⊎ (IsTrue (takes_number op) × IsFreeHead m.store id)) fetched) → MakesWell fetched (m.activity actor) op
+      → IsWantedPage (wanted_by m actor) id ⊎ (IsTrue (takes_number op) × IsFreeHead m.store id) → Needed
+  row_needs fetched op brings well (inl wanted) = inl wanted
+  row_needs fetched op brings well (inr (takes, head)) = head_needed _ fetched brings (takes_makes fetched (m.activity actor) op well takes) head
+
+  may_needs : (fetched : StoreState) → Brings m (MayNeed m actor fetched) fetched → MayNeed m actor fetched id → Needed
+  may_needs fetched brings (inl wanted) = inl wanted
+  may_needs fetched brings (inr (number, head)) = head_needed _ fetched brings (number_makes (with_disk fetched m.files m.clock m) (m.activity actor) (wanted_by m actor) number) head
+
+  -- with no operation
+  makes_nothing : (st : StoreState) (op : Option Op) → op ≡ None → MakesWell st (m.activity actor) op
+  makes_nothing st op is = subst (MakesWell st (m.activity actor)) (sym is) tt
+
+  nothing_done : {A : Type 0} (op : Option Op) (mark : ℕ) → op ≡ None → MayDo op mark m.store new.store → A
+  nothing_done op mark none does = came_not (ap (λ (st : StoreState). in_memory st id) (subst (λ (o : Option Op). MayDo o mark m.store new.store) none does))
+
+  failed : {A : Type 0} {most : ℕ} {outcome : Outcome} → FailsToWrite m most outcome new → A
+  failed fails = came_not (ap (λ (n : Machine). in_memory n.store id) fails.stops)
+
+  flushed_more : {A : Type 0} (outcome : Outcome) → FlushesMore m outcome new → A
+  flushed_more outcome (none, left, inl (due, quiet, well)) = came_not (ap (λ (n : Machine). in_memory n.store id) well.leaves ∙ well.memory id)
+  flushed_more outcome (none, left, inr fails) = failed fails
+
+  forced : {A : Type 0} (said outcome : Outcome) → ForcesFirst m said outcome new → A
+  forced said outcome (inl (says, is)) = came_not (ap (λ (n : Machine). in_memory n.store id) is)
+  forced said outcome (inr badly) = failed badly.1
+
+  stays : {A : Type 0} (said outcome : Outcome) → StaysSo m said outcome new → A
+  stays said outcome (says, is) = same_machine is
+
+  abbrev Goal : Type 0
+  Goal = NeedsPage m actor id
+
+  made_ready : (outcome : Outcome) → GetsReady m actor outcome new → Goal
+  made_ready outcome (inl (waits, force)) = forced outcomes.Helped outcome force
+  made_ready outcome (inr (none, rest)) =
+      rest_kind m outcomes.Helped outcome new _ Goal none (λ at. refl) (flushed_more outcome) (λ performs. nothing_done _ _ (runs_out_nothing (m.activity actor)) performs.store) rest
+
+  worked : (outcome : Outcome) → Works m actor outcome new → Goal
+  worked outcome (inl (by, way, so)) = stays (outcomes.Blocked by) outcome so
+  worked outcome (inr (inl (free, unready, ready))) = made_ready outcome ready
+  worked outcome (inr (inr (free, ready, inl acts))) =
+      let well = makes_row (with_disk acts.fetched m.files m.clock m) (m.activity actor) (wanted_by m actor) acts.deed acts.row in
+      record {
+        way_free = free;
+        ready = ready;
+        needed = done _ acts.fetched acts.brings (row_needs acts.fetched acts.deed.op acts.brings well) acts.deed.op _ well acts.performs.store;
+      }
+  worked outcome (inr (inr (free, ready, inr (inl gives)))) =
+      let none = gives_up_nothing gives.why (m.activity actor) in
+      record {
+        way_free = free;
+        ready = ready;
+        needed = done _ gives.fetched gives.brings (may_needs gives.fetched gives.brings) _ _ (makes_nothing gives.fetched _ none) gives.performs.store;
+      }
+  worked outcome (inr (inr (free, ready, inr (inr meets)))) = record {
+    way_free = free;
+    ready = ready;
+    needed = brought _ meets.fetched meets.brings (may_needs meets.fetched meets.brings) (subst (λ (n : Machine). IsSome (in_memory n.store id)) meets.stops comes);
+  }
+
+pub pages_come_by_need : PagesComeByNeed
+pages_come_by_need m actor outcome new id step was comes =
+    each_kind m actor outcome new (NeedsPage m actor id)
+    (λ said quiet so. stays m actor new id was comes said outcome so)
+    (λ said quiet force. forced m actor new id was comes said outcome force)
+    (flushed_more m actor new id was comes outcome)
+    (λ deed rests performs. nothing_done m actor new id was comes deed.op _ rests.op performs.store)
+    (worked m actor new id was comes outcome)
+    step
