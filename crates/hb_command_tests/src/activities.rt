@@ -145,7 +145,7 @@ fn page_of(alloc: Global, level: u8) -> Option<LivePage> {
     })
 }
 
-fn point(value: u32) -> Point
+pub(crate) fn point(value: u32) -> Point
     ensures { length result ≡ 1 }
 {
     Point::new(&[u64::from(value)])

@@ -13,7 +13,7 @@ pub(crate) fn job(kind: JobKind, level: u32, value: u32) -> Job {
 }
 
 // Adds jobs, as ` P1.50 M0.7`.
-fn show(text: &mut String, jobs: &[Job]) -> Option<()> {
+pub(crate) fn show(text: &mut String, jobs: &[Job]) -> Option<()> {
     for job in jobs {
         let letter = match job.kind {
             JobKind::Post => 'P',

@@ -1,11 +1,13 @@
-//! The tests of hb_set, hb_text, hb_latch and hb_activity: sets of records, texts and outputs, latches, activities
-//! and jobs by hand.
+//! The tests of hb_set, hb_text, hb_latch, hb_activity, hb_point and hb_poster: sets of records, texts and outputs,
+//! latches, activities, jobs and deciders by hand.
 //!
 //! They stand in a crate of their own, since a crate with tests is proved twice. No contract is here.
 #![tactic(auto)]
 
 #[cfg(test)]
 mod activities;
+#[cfg(test)]
+mod deciders;
 #[cfg(test)]
 mod jobs;
 #[cfg(test)]

@@ -1,0 +1,389 @@
+//! What steps of sessions and of the poster come to, with ample memory: a full page is split, a posting is made, a parent
+//! without room is split, and a lookup and an insert take effect.
+
+ghost use Rattle.std.specs.Prelude.{◌≡◌, ◌<◌, ◌≤◌, IfSome, IsTrue};
+ghost use Rattle.hb_activity.specs.Deciding.{FitsFree};
+ghost use Rattle.hb_frag.specs.Leaves.{leaf_weight, weight_of};
+ghost use Rattle.hb_layout.specs.Limits.{IsLayout};
+ghost use Rattle.hb_ops.specs.Recording.{put_page};
+ghost use Rattle.hb_ops.specs.Sound.{FitsFile};
+ghost use Rattle.hb_ops.specs.Standing.{StandsNot};
+ghost use Rattle.hb_point.specs.Asks.{WalksInside};
+ghost use Rattle.hb_poster.specs.Asks.{LooksAgainBelow};
+ghost use Rattle.hb_space.specs.Boxes.{Holds};
+
+use crate::activities::point;
+use crate::jobs::{job, show};
+use hb_activity::{Activity, Fate, Job, JobKind, Next};
+use hb_frag::{Frag, Leaf, LivePage, Node, Path, Side};
+use hb_ops::{Cuts, Meta, Op, Standing, has_room, local_rule, look_at};
+use hb_set::{Command, Line, Reply};
+use hb_space::{Area, Areas, Body, Point, Record, Records};
+use std::alloc::Global;
+
+/// A step, the page that it is at, how many pages of 64 are live, a value, and what the step comes to: the operation, the jobs,
+/// and what becomes of the line.
+///
+/// `split` is the step of a session that holds page 5, which is full, with an insert. `post` is the step of the poster that looks
+/// again at page 1, whose lower part page 2 has, from page 3, which is the page named. `insert` and `lookup` are steps of a walk
+/// at page 5.
+const ROWS: [(&str, &str, u32, u32, &str); 7] = [
+    ("split", "six", 40, 35, "extract 5 9 . 0L40 4; P1.0"),
+    ("split", "six", 64, 35, "; full"),
+    ("post", "one child", 40, 10, "post 3 . 2 0..39; P1.10"),
+    // of 32 children the last 21 leave, which is two thirds
+    (
+        "post",
+        "32 children",
+        40,
+        10,
+        "extract 3 9 .RRRRRRRRRRR 4; P2.1100 P1.10",
+    ),
+    ("post", "32 children", 64, 10, ";"),
+    ("lookup", "six", 40, 20, "; found"),
+    ("insert", "five", 40, 35, "put 5 35; done"),
+];
+
+// A file in which a page of records may weigh 6, and another one 32.
+fn meta(live: u32) -> Meta {
+    Meta {
+        k: 1,
+        pages: 64,
+        log: 65_536,
+        dcap: 6,
+        icap: 32,
+        root: 3,
+        height: 2,
+        high: 64,
+        live,
+        free: 9,
+    }
+}
+
+// Page 9 is the first of the free chain, and page 4 the one behind it.
+fn free_of(meta: &Meta) -> Option<(u32, u32)>
+    requires { meta.now.live ≤ meta.now.pages }
+    ensures { FitsFree meta.now result }
+{
+    if meta.live < meta.pages {
+        Some((9, 4))
+    } else {
+        None
+    }
+}
+
+fn record_at(value: u32) -> Record {
+    Record {
+        key: point(value),
+        body: Body::new(b"a"),
+    }
+}
+
+// A leaf with a record at each ten from the least one on, below the end.
+fn records(alloc: Global, least: u32, end: u32) -> Option<Frag> {
+    let mut records = Vec::new(alloc);
+    for ten in least..end {
+        records.push(record_at(ten.wrapping_mul(10))).ok()?;
+    }
+    Some(Frag::tip(Leaf::Records(Records::new(records))))
+}
+
+fn cut_at(alloc: Global, value: u64, left: Frag, right: Frag) -> Option<Frag> {
+    let left = Box::new(alloc, left).ok()?;
+    let right = Box::new(alloc, right).ok()?;
+    Some(Frag::cut(0, value, left, right))
+}
+
+// So many children, cut at each hundred.
+fn children(alloc: Global, count: u32) -> Option<Frag> {
+    let mut frag = Frag::tip(Leaf::Child(count));
+    for id in (1..count).rev() {
+        let first = Frag::tip(Leaf::Child(id));
+        frag = cut_at(alloc, u64::from(id) * 100, first, frag)?;
+    }
+    Some(frag)
+}
+
+// The page below page 3: below 40 its sibling 2 has the points.
+fn page_one(alloc: Global) -> Option<Frag> {
+    let right = records(alloc, 4, 8)?;
+    cut_at(alloc, 40, Frag::tip(Leaf::Sibling(2)), right)
+}
+
+// A page of the whole space.
+fn page_of(alloc: Global, name: &str) -> Option<LivePage> {
+    let (level, frag) = match name {
+        "five" => (0, records(alloc, 1, 6)?),
+        "six" => (0, records(alloc, 1, 7)?),
+        "one child" => (1, children(alloc, 1)?),
+        "32 children" => (1, children(alloc, 32)?),
+        _ => (0, page_one(alloc)?),
+    };
+    Some(LivePage {
+        level,
+        area: Area::whole(1),
+        frag,
+    })
+}
+
+fn leaf_weight(leaf: &Leaf) -> Option<u32>
+    ensures { IfSome result (λ w. w ≡ leaf_weight leaf.now) }
+{
+    match leaf {
+        Leaf::Records(records) => u32::try_from(records.as_slice().len().max(1)).ok(),
+        Leaf::Child(_) | Leaf::Sibling(_) => Some(1),
+    }
+}
+
+// What the leaves weigh together, where it is below 2^32.
+fn weight(frag: &Frag) -> Option<u32>
+    ensures { IfSome result (λ w. w ≡ weight_of frag.now) }
+{
+    match &frag.node {
+        Node::Tip(leaf) => leaf_weight(leaf),
+        Node::Cut { left, right, .. } => {
+            let left = weight(left)?;
+            let right = weight(right)?;
+            left.checked_add(right)
+        }
+    }
+}
+
+// Whether the page is one of the file.
+fn fits(page: &LivePage, meta: &Meta) -> bool
+    ensures { IsTrue result → FitsFile meta.now page.now }
+{
+    match weight(&page.frag) {
+        Some(_) => local_rule(page, meta).is_none(),
+        None => false,
+    }
+}
+
+fn is_inside(page: &LivePage, point: &Point) -> bool
+    ensures { IsTrue result → Holds page.now.area point.now }
+{
+    page.area.lo().attributes() == point.attributes() && page.area.holds(point)
+}
+
+// Whether the page has no record at the point of the record, and no room for it.
+#[tactic(auto, using(hb_point::proofs::RecordLeaves::no_room_left))]
+fn is_full(page: &LivePage, meta: &Meta, rec: &Record) -> bool
+    requires layout { IsLayout meta.now }
+    requires made { FitsFile meta.now page.now }
+    requires inside { Holds page.now.area rec.now.key }
+    ensures absent { IsTrue result → StandsNot page.now rec.now.key }
+    ensures full { IsTrue result → meta.now.dcap < weight_of (put_page rec.now page.now).frag }
+{
+    match look_at(page, meta, &rec.key) {
+        Standing::Absent => !has_room(page, meta, rec),
+        Standing::There(_) | Standing::Elsewhere(_) => false,
+    }
+}
+
+// The line of a session.
+fn line(command: Command) -> Line
+    ensures { result.command ≡ command }
+{
+    Line {
+        number: 3,
+        session: 1,
+        command,
+    }
+}
+
+fn split(alloc: Global, page: &LivePage, rec: Record, meta: &Meta) -> Option<Next>
+    requires layout { IsLayout meta.now }
+    requires made { FitsFile meta.now page.now }
+    requires live { meta.now.live ≤ meta.now.pages }
+{
+    if !is_inside(page, &rec.key) || !is_full(page, meta, &rec) {
+        return None;
+    }
+    let state = Activity::SessionSplit {
+        line: line(Command::Insert(rec)),
+        held: 5,
+    };
+    hb_point::next(alloc, state, 5, page, None, None, free_of(meta), meta).ok()
+}
+
+fn walk(alloc: Global, page: &LivePage, command: Command, meta: &Meta) -> Option<Next>
+    requires layout { IsLayout meta.now }
+    requires made { FitsFile meta.now page.now }
+    requires inside { WalksInside page.now command }
+{
+    let state = Activity::SessionWalk {
+        line: line(command),
+        held: Some(3),
+        rest: Areas::new(Vec::new(alloc)),
+        found: Records::new(Vec::new(alloc)),
+    };
+    hb_point::next(alloc, state, 5, page, None, None, None, meta).ok()
+}
+
+// Whether the page's leaf at the point names a child, and both pages have the point.
+fn may_look(meta: &Meta, job: &Job, over: &LivePage, child: &LivePage) -> bool
+    requires { FitsFile meta.now over.now }
+    ensures { IsTrue result → LooksAgainBelow meta.now job.now over.now child.now }
+{
+    if over.level != job.level || !is_inside(over, &job.point) || !is_inside(child, &job.point) {
+        return false;
+    }
+    match over.leaf_at(&job.point) {
+        (Leaf::Child(_), _) => true,
+        _ => false,
+    }
+}
+
+fn post(alloc: Global, over: &LivePage, child: &LivePage, job: Job, meta: &Meta) -> Option<Next>
+    requires layout { IsLayout meta.now }
+    requires over { FitsFile meta.now over.now }
+    requires child { FitsFile meta.now child.now }
+    requires live { meta.now.live ≤ meta.now.pages }
+{
+    if !may_look(meta, &job, over, child) {
+        return None;
+    }
+    let state = Activity::PosterAgain { job, parent: 3 };
+    hb_poster::next(
+        alloc,
+        state,
+        1,
+        child,
+        Some(over),
+        None,
+        free_of(meta),
+        meta,
+    )
+    .ok()
+}
+
+// The step of the poster at the page and the child below it.
+fn posted(alloc: Global, page: &LivePage, value: u32, meta: &Meta) -> Option<Next>
+    requires layout { IsLayout meta.now }
+    requires made { FitsFile meta.now page.now }
+    requires live { meta.now.live ≤ meta.now.pages }
+{
+    let child = page_of(alloc, "page one")?;
+    if !fits(&child, meta) {
+        return None;
+    }
+    post(alloc, page, &child, job(JobKind::Post, 1, value), meta)
+}
+
+// What the step comes to.
+fn next_of(alloc: Global, step: &str, page: &LivePage, value: u32, meta: &Meta) -> Option<Next> {
+    if !meta.is_layout() || meta.pages < meta.live || !fits(page, meta) {
+        return None;
+    }
+    if step == "post" {
+        return posted(alloc, page, value, meta);
+    }
+    let rec = record_at(value);
+    if !is_inside(page, &rec.key) {
+        return None;
+    }
+    match step {
+        "split" => split(alloc, page, rec, meta),
+        "lookup" => walk(alloc, page, Command::Lookup(rec.key), meta),
+        _ => walk(alloc, page, Command::Insert(rec), meta),
+    }
+}
+
+fn letter_of(side: Side) -> char {
+    match side {
+        Side::Left => 'L',
+        Side::Right => 'R',
+    }
+}
+
+fn show_path(text: &mut String, path: &Path) -> Option<()> {
+    text.push_str(" .").ok()?;
+    for side in path.as_slice() {
+        text.push(letter_of(*side)).ok()?;
+    }
+    Some(())
+}
+
+fn show_cuts(text: &mut String, cuts: &Cuts) -> Option<()> {
+    for cut in cuts.as_slice() {
+        write!(text, " {}{}{}", cut.axis, letter_of(cut.side), cut.value).ok()?;
+    }
+    Some(())
+}
+
+fn show_op(text: &mut String, op: &Op) -> Option<()> {
+    match op {
+        Op::Put { page, rec } => write!(text, "put {page} {}", rec.key.values()[0]).ok(),
+        Op::Extract {
+            source,
+            fresh,
+            path,
+            cuts,
+            free_after,
+        } => {
+            write!(text, "extract {source} {fresh}").ok()?;
+            show_path(text, path)?;
+            show_cuts(text, cuts)?;
+            write!(text, " {free_after}").ok()
+        }
+        Op::Post {
+            parent,
+            at,
+            inner,
+            area,
+        } => {
+            write!(text, "post {parent}").ok()?;
+            show_path(text, at)?;
+            let least = area.lo().values()[0];
+            write!(text, " {inner} {least}..{}", area.hi().values()[0]).ok()
+        }
+        Op::Del { .. } | Op::Grow { .. } => None,
+    }
+}
+
+// What becomes of the line.
+fn fate_of(next: &Next) -> &'static str {
+    match (&next.fate, &next.then) {
+        (Fate::Answers(Reply::Full), Activity::SessionIdle) => " full",
+        (Fate::TakesEffect, Activity::SessionAwait { reply, .. }) => match reply {
+            Reply::Found(_) => " found",
+            Reply::Done => " done",
+            _ => " other",
+        },
+        (Fate::GoesOn, Activity::SessionPut { .. } | Activity::PosterIdle) => "",
+        _ => " other",
+    }
+}
+
+fn shown(alloc: Global, next: &Next) -> Option<String> {
+    let mut text = String::new(alloc);
+    if let Some(op) = &next.op {
+        show_op(&mut text, op)?;
+    }
+    text.push(';').ok()?;
+    show(&mut text, next.jobs.as_slice())?;
+    text.push_str(fate_of(next)).ok()?;
+    Some(text)
+}
+
+// Whether the step comes to this.
+fn comes_to(alloc: Global, step: &str, name: &str, meta: &Meta, value: u32, want: &str) -> bool {
+    let Some(page) = page_of(alloc, name) else {
+        return false;
+    };
+    match next_of(alloc, step, &page, value, meta) {
+        Some(next) => match shown(alloc, &next) {
+            Some(text) => text.as_str() == want,
+            None => false,
+        },
+        None => false,
+    }
+}
+
+#[test]
+fn rows_of_deciders(rt: HostRuntime) {
+    for &(step, name, live, value, want) in &ROWS {
+        let right = comes_to(rt.alloc(), step, name, &meta(live), value, want);
+        assert!(rt; right, "{step} {name}: {want}");
+    }
+}
