@@ -12,3 +12,5 @@ pub mod Sights
 pub mod Passing
 pub mod Stages
 pub mod Deciding
+pub mod OneDeed
+pub mod Examples

@@ -16,6 +16,7 @@ mod changing;
 mod corners;
 mod deciding;
 mod dropping;
+pub mod examples;
 mod holding;
 mod jobs;
 pub mod laws;

@@ -7,7 +7,6 @@ use Rattle.hb_frag.specs.declared.pages.LivePage.{LivePage}
 use Rattle.hb_terms.specs.declared.merging.MergePlan.{MergePlan}
 use Rattle.hb_terms.specs.declared.merging.MergePlan.TheVariants as plans
 use Rattle.hb_activity.specs.declared.jobs.Job.{Job}
-use Rattle.hb_activity.specs.declared.jobs.JobKind.TheVariants as kinds
 use Rattle.hb_activity.specs.declared.activities.Activity.{Activity}
 use Rattle.hb_activity.specs.declared.activities.Activity.TheVariants.{ConsolidatorIdle, ConsolidatorWalk, ConsolidatorScan, ConsolidatorTry, ConsolidatorPromote}
 use Rattle.hb_activity.specs.Deeds.{Deed, moves_to}

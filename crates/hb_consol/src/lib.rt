@@ -7,3 +7,6 @@
 //!
 //! Source of the idea: Evangelidis, Lomet and Salzberg 1997.
 #![tactic(auto)]
+
+pub mod examples;
+pub mod laws;

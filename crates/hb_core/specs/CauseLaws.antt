@@ -1,36 +1,32 @@
--- Why a line is refused, and what a step says of lines and jobs, as laws.
-use Rattle.std.specs.Prelude.{◌≡◌, ◌≢◌, ◌⊎◌, ℕ, [], ◌∷◌, ◌++◌, All, Contains, Option, Some, None, IsSomeAnd}
-use Rattle.hb_latch.specs.Tables.{MayLatch}
-use Rattle.hb_set.specs.Order.{Entry}
+-- Why a line is refused, and which line a step answers, as laws.
+use Rattle.std.specs.Prelude.{◌≡◌, ◌⊎◌, ℕ, [], IsSomeAnd}
+use Rattle.hb_space.specs.declared.records.Record.{Record}
 use Rattle.hb_set.specs.declared.commands.Reply.{Reply}
 use Rattle.hb_set.specs.declared.commands.Reply.TheVariants as replies
 use Rattle.hb_set.specs.declared.commands.Command.TheVariants.{Insert}
 use Rattle.hb_set.specs.declared.scripts.Line.{Line}
+use Rattle.hb_activity.specs.declared.dropping.DropWhy.{DropWhy}
 use Rattle.hb_activity.specs.declared.dropping.DropWhy.TheVariants as drops
-use Rattle.hb_activity.specs.declared.jobs.Job.{Job}
 use Rattle.hb_activity.specs.declared.activities.Activity.TheVariants as at
-use Rattle.hb_activity.specs.Classes.{job_in_work}
 use Rattle.hb_point.specs.SessionRows.{WantsBoxes, next_line}
 use Rattle.hb_store.specs.States.{StoreState}
-use Rattle.hb_core.specs.declared.outcomes.Outcome.{Outcome}
 use Rattle.hb_core.specs.declared.outcomes.Outcome.TheVariants as outcomes
 use Rattle.hb_core.specs.Acting.{GivesUpFor, MayNeed}
 use Rattle.hb_core.specs.Fetching.{Brings}
 use Rattle.hb_core.specs.Keeps.{LacksRoomFor}
 use Rattle.hb_core.specs.KeptMachine.{MachineKeeps}
-use Rattle.hb_core.specs.KeptOrder.{StandsOutside}
 use Rattle.hb_core.specs.Machines.{Machine}
 use Rattle.hb_core.specs.Stages.{HasMoreToFlush}
 use Rattle.hb_core.specs.Steps.{IsUnready, StepsTo}
 
 -- A line is `full` where the page that is to be split lacks the point and room for its record, and no page is free; or where the
 -- step can't be made ready: no group waits, and nothing else is left to flush.
-pub record HasNoRoom (m : Machine) (actor number : ℕ) : Type 0 where
+pub record SplitFindsNoPage (m : Machine) (actor number : ℕ) : Type 0 where
   pub line : Line
   pub held : ℕ
   pub stands : m.activity actor ≡ at.SessionSplit line held
   pub number_is : line.number ≡ number
-  pub rec : _
+  pub rec : Record
   pub command : line.command ≡ Insert rec
   pub lacks : LacksRoomFor m held rec.key rec.body
   pub none_free : m.store.meta.live ≡ m.store.meta.pages
@@ -41,11 +37,11 @@ pub record CannotBeReady (m : Machine) (actor : ℕ) : Type 0 where
   pub nothing_left : ¬ (HasMoreToFlush m.store)
 
 abbrev pub FullByCause : Type 0
-FullByCause = (m : Machine) (actor number : ℕ) (new : Machine) → MachineKeeps m → StepsTo m actor (outcomes.Answered number replies.Full) new → HasNoRoom m actor number ⊎ CannotBeReady m actor
+FullByCause = (m : Machine) (actor number : ℕ) (new : Machine) → MachineKeeps m → StepsTo m actor (outcomes.Answered number replies.Full) new → SplitFindsNoPage m actor number ⊎ CannotBeReady m actor
 
 -- A line is `read fault` only where a page of the file that the step needs isn't in memory; `no memory` only for such a page, for
 -- what its row takes, or for the boxes of a search that begins.
-pub record GaveUpFor (why : _) (m : Machine) (actor : ℕ) : Type 0 where
+pub record GaveUpFor (why : DropWhy) (m : Machine) (actor : ℕ) : Type 0 where
   pub fetched : StoreState
   pub brings : Brings m (MayNeed m actor fetched) fetched
   pub cause : GivesUpFor why m actor fetched
@@ -59,16 +55,7 @@ ReadFaultByCause = (m : Machine) (actor number : ℕ) (new : Machine) → Machin
 abbrev pub NoMemoryByCause : Type 0
 NoMemoryByCause = (m : Machine) (actor number : ℕ) (new : Machine) → MachineKeeps m → StepsTo m actor (outcomes.Answered number replies.NoMemory) new → GaveUpFor drops.NoMemory m actor ⊎ BeginsSearch m actor
 
--- A job is dropped for the same causes.
-abbrev pub DropsByCause : Type 0
-DropsByCause = (m : Machine) (actor : ℕ) (why : _) (new : Machine) → StepsTo m actor (outcomes.Dropped why) new → GaveUpFor why m actor
-
 -- A line is answered by a step of its own session, and is that session's first line without an answer.
 abbrev pub AnswersFirstLine : Type 0
 AnswersFirstLine = (m : Machine) (actor number : ℕ) (reply : Reply) (new : Machine) → MachineKeeps m → StepsTo m actor (outcomes.Answered number reply) new →
     IsSomeAnd (next_line actor m.answered m.lines) (λ line. line.number ≡ number)
-
--- A job leaves those that wait only by a step of an idle worker, which has it in work then, or has dropped it for its level.
-abbrev pub JobsLeaveToWorkers : Type 0
-JobsLeaveToWorkers = (m : Machine) (actor : ℕ) (outcome : Outcome) (new : Machine) (job : Job) → StepsTo m actor outcome new → Contains m.jobs job →
-    Contains new.jobs job ⊎ (((m.activity actor ≡ at.PosterIdle) ⊎ (m.activity actor ≡ at.ConsolidatorIdle)) × ((job_in_work (new.activity actor) ≡ Some job) ⊎ (new.activity actor ≡ m.activity actor)))

@@ -2,7 +2,6 @@
 use Rattle.std.specs.Prelude.{◌≡◌, ℕ, Some}
 use Rattle.hb_ops.specs.declared.operations.Op.{Op}
 use Rattle.hb_core.specs.declared.outcomes.Outcome.{Outcome}
-use Rattle.hb_activity.specs.Deeds.{does}
 use Rattle.hb_core.specs.Acting.{DoesRow}
 use Rattle.hb_core.specs.Keeps.{HasSoundFile, HoldsPagesOfFile}
 use Rattle.hb_core.specs.KeptLines.{LinesFit, MarksInPlace}

@@ -1,5 +1,5 @@
 -- What becomes of a line or a job that can't go on: by what the actor has in hand, and of which kind it is.
-use Rattle.std.specs.Prelude.{[], Option, Some, None}
+use Rattle.std.specs.Prelude.{[], None}
 use Rattle.hb_set.specs.declared.commands.Reply.{Reply}
 use Rattle.hb_set.specs.declared.commands.Reply.TheVariants as replies
 use Rattle.hb_activity.specs.declared.dropping.DropWhy.{DropWhy}

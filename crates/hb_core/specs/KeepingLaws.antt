@@ -6,6 +6,7 @@ use Rattle.hb_core.specs.declared.outcomes.Outcome.{Outcome}
 use Rattle.hb_core.specs.declared.outcomes.Outcome.TheVariants as outcomes
 use Rattle.hb_core.specs.DamageLaws.{IsUndamaged}
 use Rattle.hb_core.specs.Keeps.{HasNoOtherLatches, HasNobodyElse, HasSoundFile, HoldsPagesOfFile, KnowsRoom, LatchesFit, WalksInSpace}
+use Rattle.hb_core.specs.KeptLines.{MarksInPlace}
 use Rattle.hb_core.specs.KeptOrder.{HasLegalOrder, HasPendingPrefix, StandsInOrder, StandsOutside}
 use Rattle.hb_core.specs.KeptMachine.{CoreKeeps}
 use Rattle.hb_core.specs.Machines.{Files, Machine, settled_count}
@@ -32,9 +33,9 @@ WalksStayInSpace = (m : Machine) (actor : ℕ) (outcome : Outcome) (new : Machin
     StepsTo m actor outcome new → WalksInSpace new
 
 -- After a step a page that is to be split directly holds the point of its insert, without a record there and without room, and
--- one of the two halves of a split directly holds it, without a record there and with room.
+-- one of the two halves of a split directly holds it, without a record there and with room. So it is over every disk.
 abbrev pub RoomStaysKnown : Type 0
-RoomStaysKnown = (m : Machine) (files : Files) (actor : ℕ) (outcome : Outcome) (new : Machine) → MayLatch actor → m.files ≡ Some files → LatchesFit m → HoldsPagesOfFile m → HasSoundFile m files → HasNobodyElse m → KnowsRoom m →
+RoomStaysKnown = (m : Machine) (actor : ℕ) (outcome : Outcome) (new : Machine) → MayLatch actor → LatchesFit m → HoldsPagesOfFile m → MarksInPlace m → HasNobodyElse m → KnowsRoom m →
     StepsTo m actor outcome new → KnowsRoom new
 
 -- A line is answered once its place in the order is settled, or outside of the order.

@@ -9,10 +9,7 @@ use Rattle.hb_activity.specs.declared.activities.Activity.TheVariants as at
 use Rattle.hb_activity.specs.declared.jobs.Job.{Job}
 use Rattle.hb_activity.specs.Passing.{LeadsBelow}
 use Rattle.hb_activity.specs.Walks.{walk_held, walk_point}
-use Rattle.hb_core.specs.KeptLines.{LinesFit}
 use Rattle.hb_core.specs.KeptMerges.{NamesKnown, merging_at}
-use Rattle.hb_core.specs.KeptOrder.{HasLegalOrder, HasPendingPrefix}
-use Rattle.hb_core.specs.KeptTurns.{LinesInTurn}
 use Rattle.hb_core.specs.Machines.{Files, Machine, current_file, live_here}
 use Rattle.hb_core.specs.Performing.{latches_held, mode_among}
 use Rattle.hb_frag.specs.Leaves.{DirectlyHolds, weight_of}
@@ -22,7 +19,6 @@ use Rattle.hb_ops.specs.Files.{page_of}
 use Rattle.hb_ops.specs.Recording.{put_page}
 use Rattle.hb_ops.specs.Sound.{IsSound}
 use Rattle.hb_ops.specs.Standing.{StandsNot}
-use Rattle.hb_set.specs.Machine.{RecordSet}
 use Rattle.hb_space.specs.Boxes.{Holds}
 use Rattle.hb_store.specs.States.{IsGoodPage, in_memory}
 
@@ -49,7 +45,7 @@ pub record LatchesFit (m : Machine) : Type 0 where
 
 -- The page that a walk holds has the walk's point in its box. The parent that a poster holds is of the job's level, and
 -- has a child leaf at the job's point. The parent that a consolidator holds is of the job's level, and names the pages that
--- the activity names; a page to keep that it holds has a sibling leaf to the page to go.
+-- the activity names; a page to keep that it holds is one level below it, and has a sibling leaf to the page to go.
 pub record WalksInSpace (m : Machine) : Type 0 where
   pub held : (actor held : ℕ) (page : LivePage) → walk_held (m.activity actor) ≡ Some held → live_here m.store held ≡ Some page →
       IfSome (walk_point (m.activity actor)) (Holds page.area)

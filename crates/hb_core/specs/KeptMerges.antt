@@ -1,5 +1,5 @@
 -- What every machine keeps of a consolidator at a parent.
-use Rattle.std.specs.Prelude.{◌≡◌, ℕ, List, [], ◌∷◌, IsTrue, All, Option, Some, None, IfSome, slice_get}
+use Rattle.std.specs.Prelude.{◌≡◌, ℕ, ◌+◌, List, [], ◌∷◌, IsTrue, All, Option, Some, None, IfSome, slice_get}
 use Rattle.hb_frag.specs.declared.leaves.Leaf.TheVariants.{Sibling}
 use Rattle.hb_frag.specs.declared.pages.LivePage.{LivePage}
 use Rattle.hb_activity.specs.declared.jobs.Job.{Job}
@@ -41,9 +41,11 @@ abbrev pub HasLeafTo : LivePage → ℕ → Option ℕ → Type 0
 HasLeafTo page gone None = GaveTo page gone
 HasLeafTo page gone (Some leaf) = slice_get (leaves page.frag) leaf ≡ Some (Sibling gone)
 
-pub record KeepsPair (st : StoreState) (pair : PairHeld) : Type 0 where
+-- The page to keep is one level below the parent, and has such a leaf.
+pub record KeepsPair (st : StoreState) (above : LivePage) (pair : PairHeld) : Type 0 where
   pub page : LivePage
   pub live : live_here st pair.keep ≡ Some page
+  pub level : page.level + 1 ≡ above.level
   pub gave : HasLeafTo page pair.gone pair.leaf
 
 -- The parent is of the job's level, and names the pages that the consolidator knows from it.
@@ -52,7 +54,7 @@ pub record NamesKnown (st : StoreState) (place : AtParent) : Type 0 where
   pub live : live_here st place.parent ≡ Some page
   pub level : page.level ≡ place.job.level
   pub names : All (λ id. IsTrue (names_child page id)) place.known
-  pub pair : IfSome place.pair (KeepsPair st)
+  pub pair : IfSome place.pair (KeepsPair st page)
 
 -- a consolidator at work
 abbrev pub IsMerging : Activity → Type 0

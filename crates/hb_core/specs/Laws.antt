@@ -37,13 +37,13 @@ abbrev pub IsInUse : Machine → ℕ → LivePage → Type 0
 IsInUse m id page = in_memory m.store id ≡ Some (Live page)
 
 -- A page that need not stay has left memory.
-abbrev pub HasLeft : Machine → ℕ → Machine → Type 0
-HasLeft m id new = (¬ (MustStay m id)) × (in_memory new.store id ≡ None)
+abbrev pub MayHaveLeft : Machine → ℕ → Machine → Type 0
+MayHaveLeft m id new = (¬ (MustStay m id)) × (in_memory new.store id ≡ None)
 
 -- A step changes no page in use but those that its actor has for itself. The page that it makes was in no use.
 abbrev pub OwnPagesChange : Type 0
 OwnPagesChange = (m : Machine) (actor : ℕ) (outcome : Outcome) (new : Machine) → MayLatch actor → LatchesFit m → HoldsPagesOfFile m → StepsTo m actor outcome new →
-    (id : ℕ) (page : LivePage) → IsInUse m id page → IsInUse new id page ⊎ HasLeft m id new ⊎ HasAlone m actor id
+    (id : ℕ) (page : LivePage) → IsInUse m id page → IsInUse new id page ⊎ MayHaveLeft m id new ⊎ HasAlone m actor id
 
 -- So what another actor holds, in whatever mode, stays as it was.
 abbrev pub HeldPagesStay : Type 0

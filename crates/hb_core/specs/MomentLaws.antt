@@ -1,5 +1,5 @@
 -- What the images of a disk open to while steps are taken, as laws.
-use Rattle.std.specs.Prelude.{◌≡◌, ℕ, ◌≤◌, List, Some}
+use Rattle.std.specs.Prelude.{ℕ, ◌≤◌, List}
 use Rattle.hb_ops.specs.Files.{FileState}
 use Rattle.hb_ops.specs.Sound.{IsSound}
 use Rattle.hb_set.specs.Machine.{RecordSet}
@@ -13,7 +13,7 @@ use Rattle.hb_core.specs.Machines.{Files, Machine, settled_count}
 
 -- The bytes open to a sound file that has the set after a prefix of the order with each line answered by then; and in it each point
 -- has one responsible page, at which the walk from the root ends.
-pub record OpensToPrefix (n : RecordSet) (m : Machine) (bytes : List ℕ) : Type 0 where
+pub record ImageHasPrefix (n : RecordSet) (m : Machine) (bytes : List ℕ) : Type 0 where
   pub s : FileState
   pub opens : OpensTo bytes s
   pub sound : IsSound s
@@ -26,4 +26,4 @@ pub record OpensToPrefix (n : RecordSet) (m : Machine) (bytes : List ℕ) : Type
 -- step of that machine an image is one of these: a force's moments say so, and no other call of the store touches the disk but for
 -- reads.
 abbrev pub ImagesHavePrefixes : Type 0
-ImagesHavePrefixes = (n : RecordSet) (m : Machine) (files : Files) (bytes : List ℕ) → CoreKeeps n m files → OpensToFirst files.durable files.later bytes → OpensToPrefix n m bytes
+ImagesHavePrefixes = (n : RecordSet) (m : Machine) (files : Files) (bytes : List ℕ) → CoreKeeps n m files → OpensToFirst files.durable files.later bytes → ImageHasPrefix n m bytes

@@ -16,7 +16,7 @@ use Rattle.hb_core.specs.Machines.{Files, Machine}
 use Rattle.hb_core.specs.Steps.{StepsInTurn}
 
 -- What a core holds. It has no replies of the order, no answers and no files: these are in the machines that it shows.
-pub record CoreState : Type 0 where
+pub record RunningCore : Type 0 where
   -- the script, and the numbers of its lines that have no answer, in their order
   pub lines : List Line
   pub unanswered : List ℕ
@@ -41,7 +41,7 @@ pub record ShowsFiles (d : DiskModel) (m : Machine) : Type 0 where
   pub clock : m.clock ≡ d.clock
 
 -- A core over a disk shows a machine: all that it holds is the machine's.
-pub record Shows (d : DiskModel) (c : CoreState) (m : Machine) : Type 0 where
+pub record ShowsMachine (d : DiskModel) (c : RunningCore) (m : Machine) : Type 0 where
   pub lines : m.lines ≡ c.lines
   pub unanswered : numbers_unanswered m ≡ c.unanswered
   pub all_actors : length c.activities ≡ 19

@@ -1,5 +1,5 @@
 -- What follows of what isn't built, as laws: while pages aren't merged, no job to merge comes.
-use Rattle.std.specs.Prelude.{◌≡◌, ◌≢◌, ℕ, List, [], All}
+use Rattle.std.specs.Prelude.{◌≢◌, ℕ, List, All}
 use Rattle.hb_activity.specs.declared.jobs.Job.{Job}
 use Rattle.hb_activity.specs.declared.jobs.JobKind.TheVariants.{Merge}
 use Rattle.hb_activity.specs.declared.activities.Activity.{Activity}

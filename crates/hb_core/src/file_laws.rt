@@ -5,7 +5,7 @@ ghost use Rattle.hb_core.specs.AllowedLaws.{RowsAreAllowed};
 ghost use Rattle.hb_core.specs.ContentsLaws.{ContentsFollowOrder, PointsStay};
 ghost use Rattle.hb_core.specs.FileLaws.{FilesStaySound, LinesStayFit, MarksStayInPlace, PagesStayOfFile, RowsAreLicensed};
 ghost use Rattle.hb_core.specs.OrderLaws.{OrderStaysLegal, TurnsStay};
-ghost use Rattle.hb_core.specs.SteppingLaws.{BeginningKeepsAll};
+ghost use Rattle.hb_core.specs.SteppingLaws.{BeginningExists, BeginningKeeps, BeginningKeepsAll};
 
 use crate::laws::a_step_leaves_other_actors_alone;
 use hb_frag::laws::{leaves_part_the_box, parts_are_stretches};
@@ -15,7 +15,7 @@ use hb_sound::laws::{operations_keep_a_file_sound, what_stands_is_what_the_conte
 use hb_space::laws::{held_is_a_point, whole_space_holds_every_point};
 
 /// What the lines of the script and those in hand would store can be stored, after a step, too.
-#[tactic(auto, using(crate::proofs::LinesFit::lines_stay_fit))]
+#[tactic(auto, using(crate::proofs::Orders::LinesFit::lines_stay_fit))]
 pub fn lines_stay_fit()
     ensures { LinesStayFit }
 {}
@@ -78,7 +78,7 @@ pub fn contents_follow_the_order()
 
 /// After a step each session still answers its lines in their order: the line that it has in hand, or for
 /// whose place it waits, is its first one without an answer.
-#[tactic(auto, using(crate::proofs::Turns::turns_stay))]
+#[tactic(auto, using(crate::proofs::Orders::Turns::turns_stay))]
 pub fn turns_stay()
     ensures { TurnsStay }
 {}
@@ -93,13 +93,27 @@ pub fn the_order_stays_legal()
 
 /// Where a row has an operation, that is allowed on the pages in memory: nothing but the row's own condition
 /// keeps it from being done.
-#[tactic(auto, using(crate::proofs::AllowedRows::rows_are_allowed))]
+#[tactic(auto, using(crate::proofs::Files::AllowedRows::rows_are_allowed))]
 pub fn rows_are_allowed()
     ensures { RowsAreAllowed }
 {}
 
-/// A machine over a sound file that has taken no step keeps all that a machine keeps, from the contents of
-/// the file.
+/// A machine that has taken no step keeps what every machine keeps, over any disk.
+#[tactic(auto, using(crate::proofs::Machines::Beginnings::beginning_keeps))]
+pub fn a_beginning_keeps_what_a_machine_keeps()
+    ensures { BeginningKeeps }
+{}
+
+/// A machine that has taken no step, over a disk that tells a sound file, keeps all that a machine keeps there,
+/// from the contents of the file.
+#[tactic(auto, using(crate::proofs::Machines::Beginnings::beginning_keeps_all))]
 pub fn a_beginning_keeps_all()
     ensures { BeginningKeepsAll }
+{}
+
+/// Over each sound file and for each script that fits it there is a machine that has taken no step. So what
+/// is said of such a machine is said of something.
+#[tactic(auto, using(crate::proofs::Machines::Beginnings::beginning_exists))]
+pub fn there_is_a_beginning()
+    ensures { BeginningExists }
 {}

@@ -7,20 +7,14 @@ ghost use Rattle.hb_core.specs.SteppingLaws.{StepsGoOn, StoppedStays};
 ghost use Rattle.hb_core.specs.StageLaws.{BegunHasNothingToMerge, NothingComesToMerge, NothingIsMerged};
 
 use crate::file_laws::{
-    a_beginning_keeps_all, files_stay_sound, lines_stay_fit, pages_stay_pages_of_the_file,
-    rows_are_allowed, the_order_stays_legal, turns_stay,
+    a_beginning_keeps_all, files_stay_sound, rows_are_allowed, the_order_stays_legal,
 };
-use crate::laws::latches_stay_fit;
+use crate::machine_laws::machines_stay_kept;
 use hb_frag::laws::{each_point_has_one_leaf, leaves_part_the_box, parts_are_stretches};
 use hb_layout::limits::limits_of_this_version;
-use hb_sound::laws::{
-    a_split_keeps_a_file_sound, each_page_has_a_box, operations_keep_a_file_sound,
-    what_stands_is_what_the_contents_have,
-};
-use hb_space::laws::held_is_a_point;
 
 /// Under no number but those of the 19 actors anybody comes to stand, or takes a latch.
-#[tactic(auto, using(crate::proofs::StillThere::nobody_else_comes, crate::proofs::StillThere::nobody_else_latches))]
+#[tactic(auto, using(crate::proofs::Memory::StillThere::nobody_else_comes, crate::proofs::Memory::StillThere::nobody_else_latches))]
 pub fn nobody_else_comes()
     ensures stands { NobodyElseComes }
     ensures latches { NobodyElseLatches }
@@ -28,25 +22,20 @@ pub fn nobody_else_comes()
 
 /// After a step the page that a walk holds has the walk's point in its box, and the parent that a poster
 /// holds has a child leaf at the job's point.
-#[tactic(auto, using(crate::proofs::WalksKept::walks_stay_in_space))]
+#[tactic(auto, using(crate::proofs::Walks::WalksKept::walks_stay_in_space))]
 pub fn walks_stay_in_space()
     ensures { WalksStayInSpace }
 {}
 
 /// After a step a page that is to be split directly holds the point of its insert, without a record there
 /// and without room, and one of the two halves of a split directly holds it, without a record there and
-/// with room.
+/// with room. So it is over every disk.
 pub fn room_stays_known()
     ensures { RoomStaysKnown }
 {
     leaves_part_the_box();
     each_point_has_one_leaf();
     parts_are_stretches();
-    held_is_a_point();
-    a_split_keeps_a_file_sound();
-    operations_keep_a_file_sound();
-    what_stands_is_what_the_contents_have();
-    each_page_has_a_box();
     limits_of_this_version();
 }
 
@@ -60,7 +49,7 @@ pub fn rows_can_be_done()
 }
 
 /// A line is answered once its place in the order is settled, or outside of the order.
-#[tactic(auto, using(crate::proofs::AnswersInPlace::answers_are_in_place))]
+#[tactic(auto, using(crate::proofs::Orders::AnswersInPlace::answers_are_in_place))]
 pub fn answers_are_in_place()
     ensures { AnswersAreInPlace }
 {}
@@ -96,18 +85,14 @@ pub fn steps_keep_all()
     ensures begun { BegunKeepsAll }
 {
     a_beginning_keeps_all();
-    latches_stay_fit();
-    room_stays_known();
-    lines_stay_fit();
-    turns_stay();
-    pages_stay_pages_of_the_file();
+    machines_stay_kept();
     files_stay_sound();
     the_order_stays_legal();
 }
 
 /// While pages aren't merged no job to merge waits, and the consolidator stays idle: so it is after a step
 /// and after any list of steps, over every disk, and at a beginning where no job waits.
-#[tactic(auto, using(crate::proofs::NoMerges::nothing_comes_to_merge, crate::proofs::NoMerges::nothing_is_merged, crate::proofs::NoMerges::begun_has_nothing))]
+#[tactic(auto, using(crate::proofs::Table::NoMerges::nothing_comes_to_merge, crate::proofs::Table::NoMerges::nothing_is_merged, crate::proofs::Table::NoMerges::begun_has_nothing))]
 pub fn nothing_is_merged()
     ensures begun { BegunHasNothingToMerge }
     ensures comes { NothingComesToMerge }

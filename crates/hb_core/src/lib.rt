@@ -4,24 +4,28 @@
 //!
 //! The one contract: a step is one of the table. The table is `StepsTo` of `specs/Steps.antt`, with a
 //! record for each row in the files of `specs/` whose names end in `Rows`. What follows of it is
-//! in `laws`, and what it does to the file, its contents and the order in `file_laws`. `docs/STEPS.md`
-//! tells every row in words.
+//! in `laws`, what it does to the file, its contents and the order in `file_laws`, and what it keeps over
+//! any disk in `machine_laws`. `docs/STEPS.md` tells every row in words.
 //!
-//! No type keeps an invariant. What every machine keeps is in `specs/Keeps.antt`, a record for each
-//! part.
+//! No type keeps an invariant. What every machine keeps is in `specs/KeptMachine.antt`, of parts in the
+//! files beside it, a record for each.
 //!
 //! Source of the idea: Lomet and Salzberg 1992, whose structure changes are atomic actions that are
 //! completed late, and Evangelidis, Lomet and Salzberg 1997.
 #![tactic(auto)]
 
+pub mod cause_laws;
 pub mod examples;
 pub mod file_laws;
 pub mod keeping_laws;
 pub mod laws;
+pub mod machine_laws;
 pub mod outcome_laws;
 mod outcomes;
+pub mod progress_laws;
 mod threads;
 pub mod waiting_laws;
+pub mod written_chains;
 
 pub use hb_activity::DropWhy;
 pub use outcomes::Outcome;

@@ -14,14 +14,14 @@ pub fn what_is_wanted_comes_later()
 {}
 
 /// No actor waits for itself, by others in between.
-#[tactic(auto, using(crate::proofs::NoCircle::nobody_waits_in_a_circle))]
+#[tactic(auto, using(crate::proofs::Walks::NoCircle::nobody_waits_in_a_circle))]
 pub fn nobody_waits_in_a_circle()
     ensures { NobodyWaitsInACircle }
 {}
 
 /// Where an actor is at work, not every actor at work is kept waiting. So a schedule that always takes one
 /// that isn't never comes to a stand.
-#[tactic(auto, using(crate::proofs::SomebodyFree::somebody_goes_on))]
+#[tactic(auto, using(crate::proofs::Walks::SomebodyFree::somebody_goes_on))]
 pub fn somebody_goes_on()
     ensures { SomebodyGoesOn }
 {}

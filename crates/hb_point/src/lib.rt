@@ -6,3 +6,6 @@
 //! (`Sight` of hb_activity), each with its condition and the deed that it is: `specs/SessionRows.antt`
 //! and `specs/SplitRows.antt`. hb_core joins them with the rows of the other actors.
 #![tactic(auto)]
+
+pub mod examples;
+pub mod laws;

@@ -1,3 +1,6 @@
 pub mod SiblingLeaves
-pub mod LeavesAtPoints
+pub mod NoRecords
 pub mod ParentWeights
+pub mod AllowedPostings
+pub mod WalkExamples
+pub mod PostExamples

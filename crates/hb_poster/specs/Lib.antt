@@ -1,2 +1,4 @@
 pub mod PosterRows
 pub mod Asks
+pub mod Laws
+pub mod Examples

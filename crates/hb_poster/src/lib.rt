@@ -9,7 +9,9 @@
 #![tactic(auto)]
 
 mod deciding;
+pub mod examples;
 mod growing;
+pub mod laws;
 mod posting;
 mod walking;
 

@@ -1,1 +1,3 @@
 pub mod SearchRows
+pub mod Laws
+pub mod Examples

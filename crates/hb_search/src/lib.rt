@@ -5,3 +5,6 @@
 //! outside the leaf in its place, and takes effect once no box is left, with its records in the order of
 //! their points (`specs/SearchRows.antt`).
 #![tactic(auto)]
+
+pub mod examples;
+pub mod laws;

@@ -59,7 +59,7 @@ OpensNext c turn said payloads written (g ∷ rest) (next ∷ later) = OpensBy c
 pub record IsRunning (d : DiskModel) (turn : ℕ) (log : LogState) (payloads : List (List ℕ)) : Type 0 where
   -- a crash now leaves both superblock places as they read
   pub places : IsSynced d 0 (2 * PAGE)
-  -- so that a superblock of the next turn is written there over no other of that turn
+  -- no write of the next turn's superblock was cut short there
   pub no_body : (b : List ℕ) → d.told ≡ Some b → HasNoBody b (next_turn turn)
   -- and the log area, which reads as the written frames
   pub logged : HasLog d log payloads

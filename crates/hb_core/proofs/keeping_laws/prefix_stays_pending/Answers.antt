@@ -1,5 +1,5 @@
 use Rattle.hb_core.proofs.keeping_laws.prefix_stays_pending.Goals as goal
-use Rattle.hb_core.proofs.PendingKept.{prefix_stays_pending, settled_stays_settled}
+use Rattle.hb_core.proofs.Orders.PendingKept.{prefix_stays_pending, settled_stays_settled}
 
 pub returns-clause-prefix : goal.returns-clause-prefix
 returns-clause-prefix c = prefix_stays_pending

@@ -1,14 +1,10 @@
 use Rattle.hb_core.proofs.keeping_laws.steps_keep_all.Goals as goal
-use Rattle.hb_core.proofs.KeptInTurn.{begun_keeps_all, changes_keep_all, steps_keep_all}
+use Rattle.hb_core.proofs.Machines.KeptInTurn.{begun_keeps_all, changes_keep_all, steps_keep_all}
 
 pub returns-clause-searches : goal.returns-clause-searches
 returns-clause-searches c =
     steps_keep_all (record {
-      latches = c.latches_stay_fit.ensures;
-      room = c.room_stays_known.ensures;
-      lines = c.lines_stay_fit.ensures;
-      turns = c.turns_stay.ensures;
-      pages = c.pages_stay_pages_of_the_file.ensures.pages;
+      kept = c.machines_stay_kept.ensures.step;
       files = c.files_stay_sound.ensures;
       order = c.the_order_stays_legal.ensures;
     })
@@ -16,11 +12,7 @@ returns-clause-searches c =
 pub returns-clause-changes : goal.returns-clause-changes
 returns-clause-changes c =
     changes_keep_all (record {
-      latches = c.latches_stay_fit.ensures;
-      room = c.room_stays_known.ensures;
-      lines = c.lines_stay_fit.ensures;
-      turns = c.turns_stay.ensures;
-      pages = c.pages_stay_pages_of_the_file.ensures.pages;
+      kept = c.machines_stay_kept.ensures.step;
       files = c.files_stay_sound.ensures;
       order = c.the_order_stays_legal.ensures;
     })
@@ -29,11 +21,7 @@ pub returns-clause-begun : goal.returns-clause-begun
 returns-clause-begun c =
     begun_keeps_all
     (record {
-      latches = c.latches_stay_fit.ensures;
-      room = c.room_stays_known.ensures;
-      lines = c.lines_stay_fit.ensures;
-      turns = c.turns_stay.ensures;
-      pages = c.pages_stay_pages_of_the_file.ensures.pages;
+      kept = c.machines_stay_kept.ensures.step;
       files = c.files_stay_sound.ensures;
       order = c.the_order_stays_legal.ensures;
     })

@@ -1,5 +1,5 @@
 use Rattle.hb_core.proofs.laws.a_step_is_timed.Goals as goal
-use Rattle.hb_core.proofs.Moments.{answers_are_timed, clock_moves}
+use Rattle.hb_core.proofs.Memory.Moments.{answers_are_timed, clock_moves}
 
 pub returns-clause-clock : goal.returns-clause-clock
 returns-clause-clock c = clock_moves

@@ -1,5 +1,5 @@
 use Rattle.hb_core.proofs.outcome_laws.a_step_has_one_outcome.Goals as goal
-use Rattle.hb_core.proofs.OneOutcome.{outcome_is_one, state_is_one}
+use Rattle.hb_core.proofs.TwoSteps.OneOutcome.{outcome_is_one, state_is_one}
 
 pub returns-clause-outcome : goal.returns-clause-outcome
 returns-clause-outcome c = outcome_is_one

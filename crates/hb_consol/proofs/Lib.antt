@@ -1,0 +1,3 @@
+pub mod NamedPairs
+pub mod ScanExamples
+pub mod TryExamples

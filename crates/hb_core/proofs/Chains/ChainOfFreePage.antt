@@ -1,0 +1,200 @@
+-- A split that takes the number of a free page, and one for which none is left: each step of the chains.
+use Rattle.std.proofs.Common.{inl, inr, ℕ, List, [], ◌∷◌, Some, refl, ap, arith}
+use Rattle.hb_frag.specs.declared.pages.Page.{Page}
+use Rattle.hb_frag.specs.declared.pages.Page.TheVariants.{Free}
+use Rattle.hb_ops.specs.declared.operations.Op.TheVariants.{Put, Extract}
+use Rattle.hb_set.specs.declared.commands.Reply.TheVariants as replies
+use Rattle.hb_activity.specs.declared.activities.Activity.TheVariants.{SessionPut, SessionSplit}
+use Rattle.hb_core.specs.declared.outcomes.Outcome.TheVariants.{Moved}
+use Rattle.hb_activity.specs.Deeds.{Deed, answers_now, does, moves_to, takes_effect}
+use Rattle.hb_core.proofs.Chains.BuiltSteps.{MayCome, MayNeedIn, after, at_hand, bringing, forced_scene, forces, has_room, live_is, memory_is, none_waits, one_joins, performed, wanted_in, works, works_bringing, queued}
+use Rattle.hb_core.proofs.Chains.ChainOfTwoParts.{chosen_at_forty, cut_at_forty, full_fits, put_fits, seventy_absent, seventy_held, six}
+use Rattle.hb_core.specs.ChainOfFreePage.{FreePageIsTaken, NoPageIsFree, free_before, none_free_before, tight_meta}
+use Rattle.hb_core.specs.ChainOfTwo.{full_page, inserts_seventy, lettered, posts_at, upper_half, upper_three}
+use Rattle.hb_core.specs.Machines.{next_of_chain}
+use Rattle.hb_core.specs.Rows.{Row}
+use Rattle.hb_core.specs.Scenes.{Scene, machine_of, standing, store_of}
+use Rattle.hb_frag.specs.Grammar.{HasSpelling}
+use Rattle.hb_ops.specs.Extracting.{FitsExtract}
+use Rattle.hb_ops.specs.Recording.{FitsPut}
+use Rattle.hb_outside.specs.Numbers.{big_endian}
+use Rattle.hb_point.specs.SessionRows.{taking}
+use Rattle.hb_sound.proofs.ExampleParts.{cuts, top}
+use Rattle.hb_store.specs.Calls.{IsReady}
+
+-- ---- the scenes, one after the other
+
+abbrev is_taken : Scene
+is_taken = after 1 (taking inserts_seventy) [] free_before
+
+abbrev finds_no_room : Deed
+finds_no_room = moves_to (SessionSplit inserts_seventy 1) []
+
+abbrev to_split : Scene
+to_split = after 1 finds_no_room [] is_taken
+
+-- the free page comes from the disk
+abbrev page_2 : List (ℕ × Page)
+page_2 = (2, Free 0) ∷ []
+
+abbrev with_free : Scene
+with_free = bringing page_2 to_split
+
+abbrev splits : Deed
+splits = does (SessionPut inserts_seventy 1 2) (Extract 1 2 [] (cut_at_forty ∷ []) 0) (posts_at 0 ∷ [])
+
+abbrev is_split : Scene
+is_split = after 1 splits (posts_at 0 ∷ []) with_free
+
+abbrev puts : Deed
+puts = takes_effect 0 inserts_seventy replies.Done (Some (Put 1 (lettered 70 103))) []
+
+abbrev is_put : Scene
+is_put = after 1 puts (posts_at 0 ∷ []) is_split
+
+abbrev once_forced : Scene
+once_forced = forced_scene is_put
+
+abbrev twice_forced : Scene
+twice_forced = forced_scene once_forced
+
+abbrev is_answered : Scene
+is_answered = after 1 (answers_now 1 replies.Done) (posts_at 0 ∷ []) twice_forced
+
+-- ---- the rows
+
+no_room_row : Row (standing is_taken.at_work 1) (wanted_in is_taken 1) (machine_of is_taken) finds_no_room
+no_room_row = (full_page, at_hand is_taken (standing is_taken.at_work 1) _ full_page _ refl refl refl refl, inr (inr (inr (record { level = refl; absent = seventy_absent; full = omega arith; deed_is = refl }))))
+
+free_spelled : HasSpelling (Free 0)
+unfolding big_endian
+free_spelled = record { fits = omega arith; short = omega arith }
+
+free_comes : MayCome to_split (MayNeedIn to_split 1 splits.op) (2, Free 0)
+free_comes = record { needed = inr (refl, (refl, λ e. absurd (omega (arith, e)))); from_1 = omega arith; to_high = omega arith; good = free_spelled; told = refl }
+
+split_row : Row (standing to_split.at_work 1) (wanted_in to_split 1) (machine_of with_free) splits
+split_row = inr (record {
+  page = full_page;
+  live = live_is with_free 1;
+  leaves = record {
+    path = [];
+    cuts = cut_at_forty ∷ [];
+    chosen = chosen_at_forty;
+    part = (full_page.frag, full_page.area);
+    there = refl;
+    fresh = 2;
+    free_after = 0;
+    free = omega arith;
+    next = ap (next_of_chain 2) (memory_is with_free 2);
+  };
+  deed_is = refl;
+})
+
+split_fits : FitsExtract (tight_meta 2 1 2) full_page 2 [] (cut_at_forty ∷ []) 0
+split_fits = record {
+  allocates = record { room = omega arith; from_chain = λ some. (refl, omega arith); from_behind = λ none. absurd (omega (arith, none)) };
+  made = full_fits;
+  part = (full_page.frag, full_page.area);
+  fits = record {
+    there = refl;
+    parted = (record { records = six; leaf = refl; plane = cuts 0 top 40 (omega arith) (omega arith); on = omega arith; off = omega arith }, tt);
+    less = λ e none. let never : ⊥ = cc in never;
+    own = λ none. none;
+  };
+}
+
+put_row : Row (standing is_split.at_work 1) (wanted_in is_split 1) (machine_of is_split) puts
+put_row = record { rec = lettered 70 103; command = refl; half = 1; either = inl refl; page = upper_half upper_three; live = live_is is_split 1; holds = seventy_held; deed_is = refl }
+
+put_fits_here : FitsPut (tight_meta 2 2 0) (upper_half upper_three) (lettered 70 103)
+put_fits_here = record { made = put_fits.made; level = refl; absent = put_fits.absent; room = put_fits.room }
+
+-- ---- the steps
+
+ready_first : IsReady (store_of is_taken)
+ready_first = (omega arith, omega arith)
+
+ready_to_split : IsReady (store_of to_split)
+ready_to_split = (omega arith, omega arith)
+
+ready_to_put : IsReady (store_of is_split)
+unfolding big_endian
+ready_to_put = (omega arith, omega arith)
+
+pub free_page_is_taken : FreePageIsTaken
+unfolding big_endian
+free_page_is_taken = (
+  machine_of is_taken,
+  inl (performed free_before 1 (taking inserts_seventy) [] (queued refl refl) tt),
+  (
+    machine_of to_split,
+    works is_taken 1 finds_no_room [] refl (has_room is_taken 1 ready_first) no_room_row (queued refl refl) tt,
+    (
+      machine_of is_split,
+      works_bringing page_2 to_split 1 splits (posts_at 0 ∷ []) (free_comes, tt) tt (has_room to_split 1 ready_to_split) split_row
+          (queued refl (one_joins (posts_at 0) [] (none_waits (posts_at 0)) (omega arith))) (record { allowed = split_fits; log = refl }),
+      (
+        machine_of is_put,
+        works is_split 1 puts (posts_at 0 ∷ []) tt (has_room is_split 1 ready_to_put) put_row (queued refl refl) (record { allowed = put_fits_here; log = refl }),
+        (
+          machine_of once_forced,
+          inr (omega arith, forces is_put Moved),
+          (
+            machine_of twice_forced,
+            inr (omega arith, forces once_forced Moved),
+            (
+              machine_of is_answered,
+              inl (omega arith, performed twice_forced 1 (answers_now 1 replies.Done) (posts_at 0 ∷ []) (queued refl refl) tt),
+              refl,
+            ),
+          ),
+        ),
+      ),
+    ),
+  ),
+)
+
+-- ---- none is left
+
+abbrev none_taken : Scene
+none_taken = after 1 (taking inserts_seventy) [] none_free_before
+
+abbrev finds_full : Deed
+finds_full = moves_to (SessionSplit inserts_seventy 1) []
+
+abbrev none_to_split : Scene
+none_to_split = after 1 finds_full [] none_taken
+
+abbrev gives_up : Deed
+gives_up = answers_now 1 replies.Full
+
+abbrev none_answered : Scene
+none_answered = after 1 gives_up [] none_to_split
+
+full_row : Row (standing none_taken.at_work 1) (wanted_in none_taken 1) (machine_of none_taken) finds_full
+full_row = (full_page, at_hand none_taken (standing none_taken.at_work 1) _ full_page _ refl refl refl refl, inr (inr (inr (record { level = refl; absent = seventy_absent; full = omega arith; deed_is = refl }))))
+
+none_row : Row (standing none_to_split.at_work 1) (wanted_in none_to_split 1) (machine_of none_to_split) gives_up
+none_row = inl (record { none_free = refl; deed_is = refl })
+
+ready_full : IsReady (store_of none_taken)
+ready_full = (omega arith, omega arith)
+
+ready_none : IsReady (store_of none_to_split)
+ready_none = (omega arith, omega arith)
+
+pub no_page_is_free : NoPageIsFree
+no_page_is_free = (
+  machine_of none_taken,
+  inl (performed none_free_before 1 (taking inserts_seventy) [] (queued refl refl) tt),
+  (
+    machine_of none_to_split,
+    works none_taken 1 finds_full [] refl (has_room none_taken 1 ready_full) full_row (queued refl refl) tt,
+    (
+      machine_of none_answered,
+      works none_to_split 1 gives_up [] tt (has_room none_to_split 1 ready_none) none_row (queued refl refl) tt,
+      refl,
+    ),
+  ),
+)

@@ -1,0 +1,115 @@
+-- One session inserts a record: each step of the chain.
+use Rattle.std.proofs.Common.{◌≢◌, inl, inr, ℕ, zero, suc, ◌-◌, ◌^◌, ◌<◌, ◌≤◌, List, [], ◌∷◌, slice_index, Some, refl, arith}
+use Rattle.hb_space.specs.declared.records.Record.{Record}
+use Rattle.hb_frag.specs.declared.pages.Page.{Page}
+use Rattle.hb_frag.specs.declared.pages.Page.TheVariants.{Live}
+use Rattle.hb_ops.specs.declared.operations.Op.TheVariants.{Put}
+use Rattle.hb_set.specs.declared.commands.Reply.TheVariants as replies
+use Rattle.hb_core.specs.declared.outcomes.Outcome.TheVariants.{Moved}
+use Rattle.hb_activity.specs.Deeds.{Deed, answers_now, takes_effect}
+use Rattle.hb_core.proofs.Chains.BuiltSteps.{MayCome, MayNeedIn, after, at_hand, bringing, forced_scene, forces, has_room, performed, wanted_in, works_bringing, queued}
+use Rattle.hb_core.specs.OneInsert.{OneInsert, before_insert, flat_meta, inserts_a, letter_a, page_of_records}
+use Rattle.hb_core.specs.Rows.{Row}
+use Rattle.hb_core.specs.Scenes.{Scene, machine_of, standing, store_of}
+use Rattle.hb_frag.specs.Grammar.{FitsRecord, HasSpelling}
+use Rattle.hb_frag.specs.Leaves.{leaves, leaves_of}
+use Rattle.hb_frag.specs.Rules.{BelongsAt, IsInOrder}
+use Rattle.hb_ops.specs.Recording.{FitsPut}
+use Rattle.hb_ops.specs.Sound.{FitsFile}
+use Rattle.hb_outside.specs.Numbers.{big_endian}
+use Rattle.hb_point.specs.SessionRows.{taking}
+use Rattle.hb_sound.proofs.ExampleParts.{each_at, in_order}
+use Rattle.hb_space.specs.Boxes.{whole_area}
+use Rattle.hb_space.specs.Points.{IsPoint}
+use Rattle.hb_store.specs.Calls.{IsReady}
+
+-- the empty page is well made
+empty_fits : FitsFile flat_meta (page_of_records [])
+empty_fits = record {
+  fits = record { level = omega arith; attributes = refl };
+  well_cut = tt;
+  filled = record { kinds = each_at (BelongsAt 0) (leaves (page_of_records []).frag) (refl, tt); light = omega arith; own = λ none. none };
+  in_order = each_at IsInOrder (leaves_of (page_of_records []).frag (page_of_records []).area) (in_order [] _ tt tt, tt);
+  normal = tt;
+}
+
+abbrev taken : Scene
+taken = after 1 (taking inserts_a) [] before_insert
+
+-- the page comes from the disk
+abbrev page_1 : List (ℕ × Page)
+page_1 = (1, Live (page_of_records [])) ∷ []
+
+abbrev with_page : Scene
+with_page = bringing page_1 taken
+
+two_fits : (v w : ℕ) → v < 2 ^ 64 → w < 2 ^ 64 → IsPoint (v ∷ w ∷ [])
+two_fits v w first second = record { some = omega arith; few = omega arith; fits = each_at (λ (x : ℕ). x < 2 ^ 64) (v ∷ w ∷ []) (first, (second, tt)) }
+
+whole_ordered : (i : ℕ) → i < 2 → slice_index (whole_area 2).lo i ≤ slice_index (whole_area 2).hi i
+whole_ordered zero less = omega arith
+whole_ordered (suc zero) less = omega arith
+whole_ordered (suc (suc i)) less = absurd (omega (arith, less))
+
+page_spelled : HasSpelling (Live (page_of_records []))
+unfolding big_endian
+page_spelled = record {
+  fits = (
+    omega arith,
+    record { lo_point = two_fits 0 0 (omega arith) (omega arith); hi_point = two_fits (2 ^ 64 - 1) (2 ^ 64 - 1) (omega arith) (omega arith); same = refl; ordered = whole_ordered },
+    (omega arith, each_at (FitsRecord 2) [] tt),
+  );
+  short = omega arith;
+}
+
+page_comes : MayCome taken (MayNeedIn taken 1 (Some (Put 1 letter_a))) (1, Live (page_of_records []))
+page_comes = record { needed = inl refl; from_1 = omega arith; to_high = omega arith; good = (page_spelled, empty_fits); told = refl }
+
+abbrev puts : Deed
+puts = takes_effect 0 inserts_a replies.Done (Some (Put 1 letter_a)) []
+
+abbrev put : Scene
+put = after 1 puts [] with_page
+
+abbrev is_forced : Scene
+is_forced = forced_scene put
+
+abbrev answered : Scene
+answered = after 1 (answers_now 1 replies.Done) [] is_forced
+
+ready : IsReady (store_of taken)
+ready = (omega arith, omega arith)
+
+put_fits : FitsPut flat_meta (page_of_records []) letter_a
+put_fits = record { made = empty_fits; level = refl; absent = record { records = []; area = _; leaf = refl; keeps = each_at (λ (r : Record). r.key ≢ letter_a.key) [] tt }; room = omega arith }
+
+put_row : Row (standing taken.at_work 1) (wanted_in taken 1) (machine_of with_page) puts
+put_row = (
+  page_of_records [],
+  at_hand with_page (standing taken.at_work 1) _ (page_of_records []) _ refl refl refl refl,
+  inr (inr (inl (record {
+    absent = record { records = []; area = _; leaf = refl; lack = each_at (λ (r : Record). r.key ≢ letter_a.key) [] tt };
+    room = omega arith;
+    deed_is = refl;
+  }))),
+)
+
+pub one_insert : OneInsert
+unfolding big_endian
+one_insert = (
+  machine_of taken,
+  inl (performed before_insert 1 (taking inserts_a) [] (queued refl refl) tt),
+  (
+    machine_of put,
+    works_bringing page_1 taken 1 puts [] (page_comes, tt) refl (has_room taken 1 ready) put_row (queued refl refl) (record { allowed = put_fits; log = refl }),
+    (
+      machine_of is_forced,
+      inr (omega arith, forces put Moved),
+      (
+        machine_of answered,
+        inl (omega arith, performed is_forced 1 (answers_now 1 replies.Done) [] (queued refl refl) tt),
+        (machine_of answered, (refl, refl), refl),
+      ),
+    ),
+  ),
+)

@@ -1,0 +1,201 @@
+-- The consolidator at a parent of two pages: each step of the chains.
+use Rattle.std.proofs.Common.{◌≢◌, inl, inr, List, [], ◌∷◌, Option, None, refl, ap, arith}
+use Rattle.hb_space.specs.Boxes.{Meets}
+use Rattle.hb_space.specs.declared.records.Record.{Record}
+use Rattle.hb_frag.specs.declared.pages.LivePage.{LivePage}
+use Rattle.hb_frag.specs.Leaves.{DirectlyCovers, siblings_of}
+use Rattle.hb_terms.specs.declared.merging.MergePlan.TheVariants as plans
+use Rattle.hb_terms.specs.Merging.{IsMergePlan}
+use Rattle.hb_activity.specs.Deeds.{Deed, moves_to, takes_job}
+use Rattle.hb_activity.specs.Queue.{LeavesFirst}
+use Rattle.hb_activity.specs.declared.jobs.Job.{Job}
+use Rattle.hb_activity.specs.declared.jobs.JobKind.TheVariants.{Merge}
+use Rattle.hb_activity.specs.declared.activities.Activity.TheVariants as at
+use Rattle.hb_consol.specs.ConsolidatorRows.{ends_merging}
+use Rattle.hb_core.specs.Asking.{box_of_child, box_of_place}
+use Rattle.hb_core.specs.ChainOfMerging.{MergeComesToDecide, MergeIsGivenUp, going_page, keeping_page, merges_at, merging_before, one_to_go, three_to_go, two_children}
+use Rattle.hb_core.specs.Performing.{ChangesQueue}
+use Rattle.hb_core.specs.Rows.{Row}
+use Rattle.hb_core.specs.Scenes.{Scene, machine_of, standing}
+use Rattle.hb_core.specs.Steps.{TakesMerging}
+use Rattle.hb_core.proofs.Chains.BuiltSteps.{after, at_hand, live_is, only_looks, performed, queued, wanted_in, works}
+use Rattle.hb_sound.proofs.ExampleParts.{each_at, interval, top, within}
+
+abbrev job : Job
+job = merges_at 45
+
+-- ---- up to the pair, whatever page 2 has
+
+abbrev takes : Deed
+takes = takes_job (at.ConsolidatorWalk job None) job
+
+abbrev is_taken : List Record → Scene
+is_taken records = after 18 takes [] (merging_before records)
+
+abbrev arrives : Deed
+arrives = moves_to (at.ConsolidatorScan job 3 1) []
+
+abbrev at_first : List Record → Scene
+at_first records = after 18 arrives [] (is_taken records)
+
+abbrev finds_pair : Deed
+finds_pair = moves_to (at.ConsolidatorTry job 3 1 2 1) []
+
+abbrev at_pair : List Record → Scene
+at_pair records = after 18 finds_pair [] (at_first records)
+
+-- ---- the pair is too heavy
+
+abbrev goes_on : Deed
+goes_on = moves_to (at.ConsolidatorScan job 3 2) []
+
+abbrev at_second : Scene
+at_second = after 18 goes_on [] (at_pair three_to_go)
+
+abbrev is_ended : Scene
+is_ended = after 18 ends_merging [] at_second
+
+-- ---- the two may become one
+
+abbrev may_merge : Deed
+may_merge = moves_to (at.ConsolidatorPromote job 3 1 2) []
+
+abbrev to_promote : Scene
+to_promote = after 18 may_merge [] (at_pair one_to_go)
+
+abbrev promotes : Deed
+promotes = moves_to (at.ConsolidatorKeep job 3 1 2) []
+
+abbrev is_promoted : Scene
+is_promoted = after 18 promotes [] to_promote
+
+abbrev keeps : Deed
+keeps = moves_to (at.ConsolidatorDecide job 3 1 2) []
+
+abbrev to_decide : Scene
+to_decide = after 18 keeps [] is_promoted
+
+-- ---- the rows
+
+leaves_first : LeavesFirst Merge (job ∷ []) job []
+leaves_first = record { front = []; behind = []; whole = refl; of_kind = refl; first = each_at (λ (other : Job). other.kind ≢ Merge) [] tt; rest = refl }
+
+it_leaves : ChangesQueue takes (job ∷ []) []
+it_leaves = record { left = []; takes = leaves_first; adds = refl }
+
+module _ (records : List Record) where
+  takes_to_walk : TakesMerging (machine_of (merging_before records)) takes
+  takes_to_walk = record { job = job; kind = refl; next = at.ConsolidatorWalk job None; merging = inr (omega arith, refl); deed_is = refl }
+
+  arrive_row : Row (standing (is_taken records).at_work 18) (wanted_in (is_taken records) 18) (machine_of (is_taken records)) arrives
+  arrive_row = (
+    two_children,
+    at_hand (is_taken records) (standing (is_taken records).at_work 18) _ two_children _ refl refl refl refl,
+    inl (record { level = refl; leads = (2, _, refl); deed_is = refl }),
+  )
+
+  scan_row : Row (standing (at_first records).at_work 18) (wanted_in (at_first records) 18) (machine_of (at_first records)) finds_pair
+  scan_row = (
+    keeping_page,
+    at_hand (at_first records) (standing (at_first records).at_work 18) _ keeping_page _ refl refl (ap (λ (o : Option LivePage). box_of_child o 1) (live_is (at_first records) 3)) (within 0 39 0 top (omega arith) (omega arith)),
+    record { above = two_children; live = live_is (at_first records) 3; deed_is = refl },
+  )
+
+-- the parent has all of page 2's box
+all_covered : (records : List Record) → DirectlyCovers two_children (going_page records).area
+all_covered records = record { inside = within 40 59 0 top (omega arith) (omega arith); not_given = each_at (λ s. ¬ (Meets s.1 (interval 40 59))) (siblings_of two_children) tt }
+
+too_heavy : IsMergePlan two_children keeping_page 2 (going_page three_to_go) 6 plans.TooHeavy
+too_heavy = record { given = refl; whole = all_covered three_to_go; heavy = omega arith }
+
+light_enough : IsMergePlan two_children keeping_page 2 (going_page one_to_go) 6 plans.Merge
+light_enough = record { given = refl; whole = all_covered one_to_go; light = omega arith }
+
+try_row : Row (standing (at_pair three_to_go).at_work 18) (wanted_in (at_pair three_to_go) 18) (machine_of (at_pair three_to_go)) goes_on
+try_row = (
+  going_page three_to_go,
+  at_hand (at_pair three_to_go) (standing (at_pair three_to_go).at_work 18) _ (going_page three_to_go) _ refl refl (ap (λ (o : Option LivePage). box_of_place o 1) (live_is (at_pair three_to_go) 1)) refl,
+  record {
+    has = record { above = two_children; above_live = live_is (at_pair three_to_go) 3; kept = keeping_page; kept_live = live_is (at_pair three_to_go) 1; plan = plans.TooHeavy; planned = too_heavy };
+    deed_is = refl;
+  },
+)
+
+end_row : Row (standing at_second.at_work 18) (wanted_in at_second 18) (machine_of at_second) ends_merging
+end_row = (
+  going_page three_to_go,
+  at_hand at_second (standing at_second.at_work 18) _ (going_page three_to_go) _ refl refl (ap (λ (o : Option LivePage). box_of_child o 2) (live_is at_second 3)) (within 40 59 40 59 (omega arith) (omega arith)),
+  record { above = two_children; live = live_is at_second 3; deed_is = refl },
+)
+
+light_row : Row (standing (at_pair one_to_go).at_work 18) (wanted_in (at_pair one_to_go) 18) (machine_of (at_pair one_to_go)) may_merge
+light_row = (
+  going_page one_to_go,
+  at_hand (at_pair one_to_go) (standing (at_pair one_to_go).at_work 18) _ (going_page one_to_go) _ refl refl (ap (λ (o : Option LivePage). box_of_place o 1) (live_is (at_pair one_to_go) 1)) refl,
+  record {
+    has = record { above = two_children; above_live = live_is (at_pair one_to_go) 3; kept = keeping_page; kept_live = live_is (at_pair one_to_go) 1; plan = plans.Merge; planned = light_enough };
+    deed_is = refl;
+  },
+)
+
+promote_row : Row (standing to_promote.at_work 18) (wanted_in to_promote 18) (machine_of to_promote) promotes
+promote_row = (two_children, at_hand to_promote (standing to_promote.at_work 18) _ two_children _ refl refl refl tt, refl)
+
+keep_row : Row (standing is_promoted.at_work 18) (wanted_in is_promoted 18) (machine_of is_promoted) keeps
+keep_row = (
+  keeping_page,
+  at_hand is_promoted (standing is_promoted.at_work 18) _ keeping_page _ refl refl (ap (λ (o : Option LivePage). box_of_child o 1) (live_is is_promoted 3)) (within 0 39 0 top (omega arith) (omega arith)),
+  refl,
+)
+
+-- ---- the steps
+
+pub merge_is_given_up : MergeIsGivenUp
+merge_is_given_up = (
+  machine_of (is_taken three_to_go),
+  inr (takes, takes_to_walk three_to_go, performed (merging_before three_to_go) 18 takes [] it_leaves tt),
+  (
+    machine_of (at_first three_to_go),
+    works (is_taken three_to_go) 18 arrives [] refl (only_looks (is_taken three_to_go) 18 refl) (arrive_row three_to_go) (queued refl refl) tt,
+    (
+      machine_of (at_pair three_to_go),
+      works (at_first three_to_go) 18 finds_pair [] refl (only_looks (at_first three_to_go) 18 refl) (scan_row three_to_go) (queued refl refl) tt,
+      (
+        machine_of at_second,
+        works (at_pair three_to_go) 18 goes_on [] refl (only_looks (at_pair three_to_go) 18 refl) try_row (queued refl refl) tt,
+        (
+          machine_of is_ended,
+          works at_second 18 ends_merging [] refl (only_looks at_second 18 refl) end_row (queued refl refl) tt,
+          (machine_of is_ended, inl (each_at (λ (one : Job). one.kind ≢ Merge) [] tt, (refl, refl)), refl),
+        ),
+      ),
+    ),
+  ),
+)
+
+pub merge_comes_to_decide : MergeComesToDecide
+merge_comes_to_decide = (
+  machine_of (is_taken one_to_go),
+  inr (takes, takes_to_walk one_to_go, performed (merging_before one_to_go) 18 takes [] it_leaves tt),
+  (
+    machine_of (at_first one_to_go),
+    works (is_taken one_to_go) 18 arrives [] refl (only_looks (is_taken one_to_go) 18 refl) (arrive_row one_to_go) (queued refl refl) tt,
+    (
+      machine_of (at_pair one_to_go),
+      works (at_first one_to_go) 18 finds_pair [] refl (only_looks (at_first one_to_go) 18 refl) (scan_row one_to_go) (queued refl refl) tt,
+      (
+        machine_of to_promote,
+        works (at_pair one_to_go) 18 may_merge [] refl (only_looks (at_pair one_to_go) 18 refl) light_row (queued refl refl) tt,
+        (
+          machine_of is_promoted,
+          works to_promote 18 promotes [] refl (only_looks to_promote 18 refl) promote_row (queued refl refl) tt,
+          (
+            machine_of to_decide,
+            works is_promoted 18 keeps [] refl (only_looks is_promoted 18 refl) keep_row (queued refl refl) tt,
+            refl,
+          ),
+        ),
+      ),
+    ),
+  ),
+)

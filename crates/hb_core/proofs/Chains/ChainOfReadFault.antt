@@ -1,0 +1,61 @@
+-- The root can't be read: each step of the chain.
+use Rattle.std.proofs.Common.{◌≢◌, inl, inr, [], ◌∷◌, None, refl, arith}
+use Rattle.hb_activity.specs.declared.activities.Activity.TheVariants as at
+use Rattle.hb_activity.specs.declared.dropping.DropWhy.TheVariants as drops
+use Rattle.hb_activity.specs.declared.jobs.Job.{Job}
+use Rattle.hb_activity.specs.declared.jobs.JobKind.TheVariants.{Post}
+use Rattle.hb_core.specs.ChainBesidePoster.{seeks_twenty}
+use Rattle.hb_core.specs.ChainOfPosting.{raised_meta}
+use Rattle.hb_core.specs.ChainOfReadFault.{RootIsNotRead, unread_before}
+use Rattle.hb_core.specs.GivingUp.{gives_up}
+use Rattle.hb_core.specs.Scenes.{Scene, standing, untold_scene}
+use Rattle.hb_core.specs.Steps.{TakesJob}
+use Rattle.hb_core.proofs.Chains.BuiltSteps.{after, only_looks, queued}
+use Rattle.hb_core.proofs.Chains.ChainOfPosting.{it_leaves, job, takes}
+use Rattle.hb_core.proofs.Chains.UntoldSteps.{performed_untold, reads_not}
+use Rattle.hb_point.specs.SessionRows.{taking}
+use Rattle.hb_sound.proofs.ExampleParts.{each_at}
+use Rattle.hb_store.specs.Stops.{IsNoPage}
+
+abbrev line_taken : Scene
+line_taken = after 1 (taking seeks_twenty) (job ∷ []) unread_before
+
+abbrev both_taken : Scene
+both_taken = after 17 (takes (at.PosterWalk job None)) [] line_taken
+
+abbrev line_given_up : Scene
+line_given_up = after 1 (gives_up drops.ReadFault (standing both_taken.at_work 1)) [] both_taken
+
+abbrev both_given_up : Scene
+both_given_up = after 17 (gives_up drops.ReadFault (standing line_given_up.at_work 17)) [] line_given_up
+
+takes_to_walk : TakesJob (untold_scene line_taken) (takes (at.PosterWalk job None))
+takes_to_walk = record { job = job; kind = refl; next = at.PosterWalk job None; posting = inr (inr (omega arith, refl)); deed_is = refl }
+
+-- the root is a page of the file
+is_page : ¬ (IsNoPage raised_meta 3)
+is_page (inl zero) = absurd (omega (arith, zero))
+is_page (inr more) = absurd (omega (arith, more))
+
+pub root_is_not_read : RootIsNotRead
+root_is_not_read = (
+  untold_scene line_taken,
+  inl (performed_untold unread_before 1 (taking seeks_twenty) (job ∷ []) (queued refl refl) tt),
+  (
+    untold_scene both_taken,
+    inr (takes (at.PosterWalk job None), takes_to_walk, performed_untold line_taken 17 (takes (at.PosterWalk job None)) [] (it_leaves _) tt),
+    (
+      untold_scene line_given_up,
+      reads_not both_taken 1 3 [] refl (only_looks both_taken 1 refl) refl is_page refl (queued refl refl) tt,
+      (
+        untold_scene both_given_up,
+        reads_not line_given_up 17 3 [] refl (only_looks line_given_up 17 refl) refl is_page refl (queued refl refl) tt,
+        (
+          untold_scene both_given_up,
+          (refl, refl),
+          (untold_scene both_given_up, inl (each_at (λ (one : Job). one.kind ≢ Post) [] tt, (refl, refl)), refl),
+        ),
+      ),
+    ),
+  ),
+)

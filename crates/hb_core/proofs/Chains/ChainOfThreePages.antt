@@ -1,0 +1,285 @@
+-- A line that is answered `full` and those behind it: each step of the chain.
+use Rattle.std.proofs.Common.{◌≢◌, inl, inr, ℕ, List, [], ◌∷◌, ◌++◌, slice_index, Contains, Option, Some, refl, ap, arith}
+use Rattle.std.specs.List.{AllByRecursion}
+use Rattle.hb_space.specs.declared.records.Record.{Record}
+use Rattle.hb_frag.specs.Leaves.{leaves, leaves_of}
+use Rattle.hb_frag.specs.Rules.{BelongsAt, IsInOrder}
+use Rattle.hb_frag.specs.declared.pages.LivePage.{LivePage}
+use Rattle.hb_ops.specs.Recording.{FitsDel, FitsPut}
+use Rattle.hb_ops.specs.Sound.{FitsFile}
+use Rattle.hb_ops.specs.Standing.{StandsNot}
+use Rattle.hb_ops.specs.declared.operations.Op.TheVariants.{Del, Put}
+use Rattle.hb_outside.specs.Numbers.{big_endian}
+use Rattle.hb_set.specs.declared.commands.Reply.TheVariants as replies
+use Rattle.hb_set.specs.declared.scripts.Line.{Line}
+use Rattle.hb_activity.specs.Deeds.{Deed, answers_now, moves_to, takes_effect}
+use Rattle.hb_activity.specs.Queue.{AddsJobs}
+use Rattle.hb_activity.specs.declared.activities.Activity.TheVariants.{SessionSplit, SessionWalk}
+use Rattle.hb_activity.specs.declared.jobs.Job.{Job}
+use Rattle.hb_core.specs.Asking.{box_at}
+use Rattle.hb_core.specs.ChainOfFreePage.{tight_meta}
+use Rattle.hb_core.specs.ChainOfMerging.{valued}
+use Rattle.hb_core.specs.ChainOfThreePages.{FullGoesOn, deletes_110, five_high, full_high, high_page, inserts_120, middle_page, postings_owed, three_before}
+use Rattle.hb_core.specs.ChainOfTwo.{posts_at}
+use Rattle.hb_core.specs.Rows.{Row}
+use Rattle.hb_core.specs.Scenes.{Scene, machine_of, standing, store_of}
+use Rattle.hb_core.specs.declared.outcomes.Outcome.TheVariants.{Moved}
+use Rattle.hb_core.proofs.Chains.BuiltSteps.{after, at_hand, forced_scene, forces, has_room, live_is, one_joins, performed, queued, wanted_in, works}
+use Rattle.hb_core.proofs.Chains.ChainOfTwoParts.{differ}
+use Rattle.hb_point.specs.SessionRows.{taking}
+use Rattle.hb_sound.proofs.ExampleParts.{each_at, each_has, held, in_order, interval, top}
+use Rattle.hb_store.specs.Calls.{IsReady}
+
+abbrev all_jobs : List Job
+all_jobs = postings_owed ++ posts_at 120 ∷ []
+
+-- ---- the scenes, one after the other
+
+abbrev first_taken : Scene
+first_taken = after 1 (taking (inserts_120 12)) postings_owed three_before
+
+abbrev passes : Line → ℕ → Deed
+passes line value = moves_to (SessionWalk line (Some 1) [] []) (posts_at value ∷ [])
+
+abbrev first_passed : Scene
+first_passed = after 1 (passes (inserts_120 12) 120) all_jobs first_taken
+
+abbrev finds_no_room : Deed
+finds_no_room = moves_to (SessionSplit (inserts_120 12) 3) []
+
+abbrev to_split : Scene
+to_split = after 1 finds_no_room all_jobs first_passed
+
+abbrev first_answered : Scene
+first_answered = after 1 (answers_now 12 replies.Full) all_jobs to_split
+
+abbrev second_taken : Scene
+second_taken = after 1 (taking deletes_110) all_jobs first_answered
+
+abbrev second_passed : Scene
+second_passed = after 1 (passes deletes_110 110) all_jobs second_taken
+
+abbrev deletes : Deed
+deletes = takes_effect 0 deletes_110 replies.Done (Some (Del 3 (110 ∷ []))) []
+
+abbrev is_deleted : Scene
+is_deleted = after 1 deletes all_jobs second_passed
+
+abbrev once_forced : Scene
+once_forced = forced_scene is_deleted
+
+abbrev second_answered : Scene
+second_answered = after 1 (answers_now 13 replies.Done) all_jobs once_forced
+
+abbrev third_taken : Scene
+third_taken = after 1 (taking (inserts_120 14)) all_jobs second_answered
+
+abbrev third_passed : Scene
+third_passed = after 1 (passes (inserts_120 14) 120) all_jobs third_taken
+
+abbrev puts : Deed
+puts = takes_effect 1 (inserts_120 14) replies.Done (Some (Put 3 (valued 120))) []
+
+abbrev is_put : Scene
+is_put = after 1 puts all_jobs third_passed
+
+abbrev twice_forced : Scene
+twice_forced = forced_scene is_put
+
+abbrev third_answered : Scene
+third_answered = after 1 (answers_now 14 replies.Done) all_jobs twice_forced
+
+-- ---- page 3
+
+five_fit : FitsFile (tight_meta 3 3 0) (high_page five_high)
+five_fit = record {
+  fits = record { level = omega arith; attributes = refl };
+  well_cut = tt;
+  filled = record { kinds = each_at (BelongsAt 0) (leaves (high_page five_high).frag) (refl, tt); light = omega arith; own = λ none. none };
+  in_order = each_at IsInOrder (leaves_of (high_page five_high).frag (high_page five_high).area) (
+    in_order five_high (interval 60 top) (
+      held 60 60 top (omega arith) (omega arith),
+      (
+        held 60 70 top (omega arith) (omega arith),
+        (held 60 80 top (omega arith) (omega arith), (held 60 90 top (omega arith) (omega arith), (held 60 100 top (omega arith) (omega arith), tt))),
+      ),
+    )
+        ((refl, (refl, (refl, (refl, tt)))), ((refl, (refl, (refl, tt))), ((refl, (refl, tt)), ((refl, tt), (tt, tt))))),
+    tt,
+  );
+  normal = tt;
+}
+
+full_fit : FitsFile (tight_meta 3 3 0) (high_page full_high)
+full_fit = record {
+  fits = record { level = omega arith; attributes = refl };
+  well_cut = tt;
+  filled = record { kinds = each_at (BelongsAt 0) (leaves (high_page full_high).frag) (refl, tt); light = omega arith; own = λ none. none };
+  in_order = each_at IsInOrder (leaves_of (high_page full_high).frag (high_page full_high).area) (
+    in_order full_high (interval 60 top) (
+      held 60 60 top (omega arith) (omega arith),
+      (
+        held 60 70 top (omega arith) (omega arith),
+        (
+          held 60 80 top (omega arith) (omega arith),
+          (held 60 90 top (omega arith) (omega arith), (held 60 100 top (omega arith) (omega arith), (held 60 110 top (omega arith) (omega arith), tt))),
+        ),
+      ),
+    )
+        ((refl, (refl, (refl, (refl, (refl, tt))))), ((refl, (refl, (refl, (refl, tt)))), ((refl, (refl, (refl, tt))), ((refl, (refl, tt)), ((refl, tt), (tt, tt)))))),
+    tt,
+  );
+  normal = tt;
+}
+
+-- none of the five is at 120
+not_in_five : AllByRecursion (λ (r : Record). r.key ≢ 120 ∷ []) five_high
+not_in_five = (differ 60 120 (omega arith), (differ 70 120 (omega arith), (differ 80 120 (omega arith), (differ 90 120 (omega arith), (differ 100 120 (omega arith), tt)))))
+
+full_lacks : StandsNot (high_page full_high) (120 ∷ [])
+full_lacks = record {
+  records = full_high;
+  area = _;
+  leaf = refl;
+  lack = each_at (λ (r : Record). r.key ≢ 120 ∷ []) full_high
+      (differ 60 120 (omega arith), (differ 70 120 (omega arith), (differ 80 120 (omega arith), (differ 90 120 (omega arith), (differ 100 120 (omega arith), (differ 110 120 (omega arith), tt))))));
+}
+
+five_lack : StandsNot (high_page five_high) (120 ∷ [])
+five_lack = record { records = five_high; area = _; leaf = refl; lack = each_at (λ (r : Record). r.key ≢ 120 ∷ []) five_high not_in_five }
+
+del_fits : FitsDel (tight_meta 3 3 0) (high_page full_high) (110 ∷ [])
+del_fits = record { made = full_fit; level = refl; there = record { records = full_high; area = _; leaf = refl; keeps = (5, valued 110, omega arith, refl, refl) } }
+
+put_fits : FitsPut (tight_meta 3 3 0) (high_page five_high) (valued 120)
+put_fits = record { made = five_fit; level = refl; absent = record { records = five_high; area = _; leaf = refl; keeps = each_at (λ (r : Record). r.key ≢ 120 ∷ []) five_high not_in_five }; room = omega arith }
+
+-- ---- the rows
+
+first_pass_row : Row (standing first_taken.at_work 1) (wanted_in first_taken 1) (machine_of first_taken) (passes (inserts_120 12) 120)
+first_pass_row = (middle_page, at_hand first_taken (standing first_taken.at_work 1) _ middle_page _ refl refl refl refl, inl (record { leaf = _; area = _; at_point = refl; names = tt; deed_is = refl }))
+
+no_room_row : Row (standing first_passed.at_work 1) (wanted_in first_passed 1) (machine_of first_passed) finds_no_room
+no_room_row = (
+  high_page full_high,
+  at_hand first_passed (standing first_passed.at_work 1) _ (high_page full_high) _ refl refl (ap (λ (o : Option LivePage). box_at o (Some (120 ∷ []))) (live_is first_passed 1)) refl,
+  inr (inr (inr (record { level = refl; absent = full_lacks; full = omega arith; deed_is = refl }))),
+)
+
+full_row : Row (standing to_split.at_work 1) (wanted_in to_split 1) (machine_of to_split) (answers_now 12 replies.Full)
+full_row = inl (record { none_free = refl; deed_is = refl })
+
+second_pass_row : Row (standing second_taken.at_work 1) (wanted_in second_taken 1) (machine_of second_taken) (passes deletes_110 110)
+second_pass_row = (middle_page, at_hand second_taken (standing second_taken.at_work 1) _ middle_page _ refl refl refl refl, inl (record { leaf = _; area = _; at_point = refl; names = tt; deed_is = refl }))
+
+delete_row : Row (standing second_passed.at_work 1) (wanted_in second_passed 1) (machine_of second_passed) deletes
+delete_row = (
+  high_page full_high,
+  at_hand second_passed (standing second_passed.at_work 1) _ (high_page full_high) _ refl refl (ap (λ (o : Option LivePage). box_at o (Some (110 ∷ []))) (live_is second_passed 1)) refl,
+  inr (inl (record { found = valued 110; there = record { records = full_high; area = _; leaf = refl; place = 5; among = refl; key = refl }; deed_is = refl })),
+)
+
+third_pass_row : Row (standing third_taken.at_work 1) (wanted_in third_taken 1) (machine_of third_taken) (passes (inserts_120 14) 120)
+third_pass_row = (middle_page, at_hand third_taken (standing third_taken.at_work 1) _ middle_page _ refl refl refl refl, inl (record { leaf = _; area = _; at_point = refl; names = tt; deed_is = refl }))
+
+put_row : Row (standing third_passed.at_work 1) (wanted_in third_passed 1) (machine_of third_passed) puts
+put_row = (
+  high_page five_high,
+  at_hand third_passed (standing third_passed.at_work 1) _ (high_page five_high) _ refl refl (ap (λ (o : Option LivePage). box_at o (Some (120 ∷ []))) (live_is third_passed 1)) refl,
+  inr (inr (inl (record { absent = five_lack; room = omega arith; deed_is = refl }))),
+)
+
+-- ---- the jobs
+
+none_at_120 : ¬ (Contains postings_owed (posts_at 120))
+none_at_120 has = each_has (λ (one : Job). slice_index one.point 0 ≢ 120) postings_owed (posts_at 120) (omega arith, (omega arith, (omega arith, (omega arith, tt)))) has refl
+
+waits_already : (one : Job) → Contains all_jobs one → AddsJobs (one ∷ []) all_jobs all_jobs
+waits_already one has = (all_jobs, inl (has, refl), refl)
+
+-- ---- the log is ready
+
+ready_1 : IsReady (store_of first_taken)
+ready_1 = (omega arith, omega arith)
+
+ready_2 : IsReady (store_of first_passed)
+ready_2 = (omega arith, omega arith)
+
+ready_3 : IsReady (store_of to_split)
+ready_3 = (omega arith, omega arith)
+
+ready_4 : IsReady (store_of second_taken)
+ready_4 = (omega arith, omega arith)
+
+ready_5 : IsReady (store_of second_passed)
+ready_5 = (omega arith, omega arith)
+
+ready_6 : IsReady (store_of third_taken)
+unfolding big_endian
+ready_6 = (omega arith, omega arith)
+
+ready_7 : IsReady (store_of third_passed)
+unfolding big_endian
+ready_7 = (omega arith, omega arith)
+
+-- ---- the steps
+
+pub full_goes_on : FullGoesOn
+unfolding big_endian
+full_goes_on = (
+  machine_of first_taken,
+  inl (performed three_before 1 (taking (inserts_120 12)) postings_owed (queued refl refl) tt),
+  (
+    machine_of first_passed,
+    works first_taken 1 (passes (inserts_120 12) 120) all_jobs refl (has_room first_taken 1 ready_1) first_pass_row (queued refl (one_joins (posts_at 120) postings_owed none_at_120 (omega arith))) tt,
+    (
+      machine_of to_split,
+      works first_passed 1 finds_no_room all_jobs refl (has_room first_passed 1 ready_2) no_room_row (queued refl refl) tt,
+      (
+        machine_of first_answered,
+        works to_split 1 (answers_now 12 replies.Full) all_jobs tt (has_room to_split 1 ready_3) full_row (queued refl refl) tt,
+        (
+          machine_of second_taken,
+          inl (performed first_answered 1 (taking deletes_110) all_jobs (queued refl refl) tt),
+          (
+            machine_of second_passed,
+            works second_taken 1 (passes deletes_110 110) all_jobs refl (has_room second_taken 1 ready_4) second_pass_row (queued refl (waits_already (posts_at 110) (3, omega arith, refl))) tt,
+            (
+              machine_of is_deleted,
+              works second_passed 1 deletes all_jobs refl (has_room second_passed 1 ready_5) delete_row (queued refl refl) (record { allowed = del_fits; log = refl }),
+              (
+                machine_of once_forced,
+                inr (omega arith, forces is_deleted Moved),
+                (
+                  machine_of second_answered,
+                  inl (omega arith, performed once_forced 1 (answers_now 13 replies.Done) all_jobs (queued refl refl) tt),
+                  (
+                    machine_of third_taken,
+                    inl (performed second_answered 1 (taking (inserts_120 14)) all_jobs (queued refl refl) tt),
+                    (
+                      machine_of third_passed,
+                      works third_taken 1 (passes (inserts_120 14) 120) all_jobs refl (has_room third_taken 1 ready_6) third_pass_row (queued refl (waits_already (posts_at 120) (4, omega arith, refl))) tt,
+                      (
+                        machine_of is_put,
+                        works third_passed 1 puts all_jobs refl (has_room third_passed 1 ready_7) put_row (queued refl refl) (record { allowed = put_fits; log = refl }),
+                        (
+                          machine_of twice_forced,
+                          inr (omega arith, forces is_put Moved),
+                          (
+                            machine_of third_answered,
+                            inl (omega arith, performed twice_forced 1 (answers_now 14 replies.Done) all_jobs (queued refl refl) tt),
+                            (machine_of third_answered, (refl, refl), refl),
+                          ),
+                        ),
+                      ),
+                    ),
+                  ),
+                ),
+              ),
+            ),
+          ),
+        ),
+      ),
+    ),
+  ),
+)

@@ -1,0 +1,54 @@
+-- Steps over a disk that doesn't tell its bytes: a deed that is done there, and a page that can't be read.
+use Rattle.std.proofs.Common.{◌≡◌, inr, inl, ℕ, List, Option, Some, None, refl, sym, ◌∙◌, subst}
+use Rattle.hb_ops.specs.declared.operations.Op.{Op}
+use Rattle.hb_activity.specs.Deeds.{Deed}
+use Rattle.hb_activity.specs.declared.dropping.DropWhy.TheVariants as drops
+use Rattle.hb_activity.specs.declared.jobs.Job.{Job}
+use Rattle.hb_activity.specs.declared.wanting.Wanted.{Wanted}
+use Rattle.hb_core.specs.Fetching.{IsWantedPage}
+use Rattle.hb_core.specs.GivingUp.{gives_up}
+use Rattle.hb_core.specs.Machines.{Files}
+use Rattle.hb_core.specs.Performing.{ChangesQueue, Performs, files_after, outcome_of}
+use Rattle.hb_core.specs.Scenes.{Scene, machine_of, standing, store_of, untold_scene}
+use Rattle.hb_core.specs.Steps.{IsUnready, Works}
+use Rattle.hb_core.proofs.Chains.BuiltSteps.{IsClearIn, MayBeIn, after, memory_is, nothing_comes, performed, wanted_in, wanted_is, way_free}
+use Rattle.hb_core.proofs.Chains.WrittenTables.{entry_at}
+use Rattle.hb_store.specs.Stops.{IsNoPage}
+
+none_told : (op : Option Op) → ◌≡◌ {A = Option Files} None (files_after op None)
+none_told None = refl
+none_told (Some op) = refl
+
+pub performed_untold : (s : Scene) (actor : ℕ) (deed : Deed) (jobs : List Job) → ChangesQueue deed s.jobs jobs → MayBeIn s deed.op
+    → Performs (untold_scene s) (store_of s) actor deed (outcome_of deed.says) (untold_scene (after actor deed jobs s))
+performed_untold s actor deed jobs queue may =
+    let done = performed s actor deed jobs queue may in
+    record {
+      says = refl;
+      lines = refl;
+      answered = refl;
+      activity = done.activity;
+      latches = done.latches;
+      jobs = queue;
+      order = refl;
+      stop = refl;
+      store = done.store;
+      files = none_told deed.op;
+      clock = refl;
+    }
+
+-- the wanted page isn't in memory and can't be read
+pub reads_not : (s : Scene) (actor id : ℕ) (jobs : List Job) → IsClearIn s actor → ¬ (IsUnready (machine_of s) actor) → IsWantedPage (wanted_in s actor) id → ¬ (IsNoPage s.meta id)
+    → entry_at id s.pages ≡ None → ChangesQueue (gives_up drops.ReadFault (standing s.at_work actor)) s.jobs jobs → MayBeIn s (gives_up drops.ReadFault (standing s.at_work actor)).op
+    → Works (untold_scene s) actor (outcome_of (gives_up drops.ReadFault (standing s.at_work actor)).says) (untold_scene (after actor (gives_up drops.ReadFault (standing s.at_work actor)) jobs s))
+reads_not s actor id jobs clear ready wants page absent queue may = inr (inr (
+  way_free s actor clear,
+  ready,
+  inr (inl (record {
+    why = drops.ReadFault;
+    fetched = store_of s;
+    brings = nothing_comes _ _;
+    cause = (id, inl (subst (λ (o : Option Wanted). IsWantedPage o id) (sym (wanted_is s actor)) wants), page, memory_is s id ∙ absent);
+    performs = performed_untold s actor (gives_up drops.ReadFault (standing s.at_work actor)) jobs queue may;
+  })),
+))

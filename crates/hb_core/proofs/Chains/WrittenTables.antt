@@ -1,0 +1,327 @@
+-- Tables that are written down as lists: what they answer, and what they are after a change.
+use Rattle.std.proofs.Common.{◌≡◌, ◌≢◌, inl, inr, ℕ, ◌==◌, Bool, true, false, cond, not, List, [], ◌∷◌, ◌++◌, Option, Some, None, IfSome, IsSome, IsSomeAnd, IsTrue, refl, sym, ap, ◌∙◌, subst, ne_eqb}
+use mathlib.Core.Path.{fun_ext}
+use Rattle.std.specs.Prelude.{◌&&◌, ◌||◌, if◌then◌else◌, nat_lt}
+use Rattle.std.proofs.lemmas.Bool.{cases_Bool, eqb-true, eqb-false, eq-eqb, lt-ltb}
+use Rattle.std.specs.List.{AllByRecursion, list_any}
+use Rattle.std.specs.Ordering.{nat_cmp, eq_by_cmp, is_eq, ordering_then}
+use Rattle.std.specs.Cmp.{nat_cmp_total, unsigned_tied}
+use Rattle.std.specs.declared.cmp.Ordering.{Ordering}
+use Rattle.std.specs.declared.cmp.Ordering.TheVariants.{Less, Equal, Greater}
+use Rattle.std.specs.FinMap as map
+use Rattle.std.specs.FinSet as set
+use Rattle.hb_frag.specs.declared.pages.Page.{Page}
+use Rattle.hb_latch.specs.declared.modes.Mode.{Mode}
+use Rattle.hb_activity.specs.declared.holding.Latch.{Latch}
+use Rattle.hb_activity.specs.declared.activities.Activity.{Activity}
+use Rattle.hb_core.specs.Machines.{with_activity}
+use Rattle.hb_core.specs.Performing.{Relatches, mode_among}
+use Rattle.hb_core.specs.Scenes.{at_rest, standing}
+use Rattle.hb_latch.proofs.KeyOrder.{latch_order}
+use Rattle.hb_latch.specs.Modes.{goes_beside}
+use Rattle.hb_latch.specs.Tables.{IsGrantable, IsLeastInTheWay, latch_cmp, mode_at}
+use Rattle.hb_store.specs.Marks.{has_page, is_among}
+use Rattle.hb_store.specs.Replay.{set_pages}
+
+-- ---- by numbers
+
+abbrev pub entry_at : {X : Type 0} → ℕ → List (ℕ × X) → Option X
+entry_at q [] = None
+entry_at q (one ∷ rest) = if q == one.0 then Some one.1 else entry_at q rest
+
+-- a list with another entry under a number, in the place of the one that is there
+abbrev pub set_entry : {X : Type 0} → ℕ → X → List (ℕ × X) → List (ℕ × X)
+set_entry k x [] = (k, x) ∷ []
+set_entry k x (one ∷ rest) = if one.0 == k then (k, x) ∷ rest else one ∷ set_entry k x rest
+
+found : {X : Type 0} (es : List (ℕ × X)) (q : ℕ) → map.find nat_cmp q es ≡ entry_at q es
+found [] q = refl
+found (e ∷ es) q = λ i. cond (unsigned_tied q e.0 i) (Some e.1) (found es q i)
+
+-- the map of a list
+pub map_has : {X : Type 0} (es : List (ℕ × X)) (q : ℕ) → map.get (map.from_entries {R = nat_cmp} es) q ≡ entry_at q es
+map_has es q = map.get-from_entries nat_cmp_total es q ∙ found es q
+
+shadowed : {A : Type 0} (b : Bool) (x y z : A) → cond b x z ≡ cond b x (cond b y z)
+shadowed true x y z = refl
+shadowed false x y z = refl
+
+swapped : {A : Type 0} (a b : Bool) (x y z : A) → (a ≡ true → b ≡ true → ⊥) → cond a x (cond b y z) ≡ cond b y (cond a x z)
+swapped true true x y z apart = absurd (apart refl refl)
+swapped true false x y z apart = refl
+swapped false true x y z apart = refl
+swapped false false x y z apart = refl
+
+-- two numbers that differ aren't both this one
+not_both : (q a b : ℕ) → (a == b) ≡ false → (q == a) ≡ true → (q == b) ≡ true → ⊥
+not_both q a b off one two = eqb-false a b off (sym (eqb-true q a one) ∙ eqb-true q b two)
+
+module _ {X Y : Type 0} (f : X → Y) (none : Y) where
+  -- what a list answers, by a function of its entries
+  abbrev pub answers : ℕ → List (ℕ × X) → Y
+  answers q [] = none
+  answers q (one ∷ rest) = if q == one.0 then f one.1 else answers q rest
+
+  pub answers_set : (k : ℕ) (x : X) (es : List (ℕ × X)) (q : ℕ) → answers q (set_entry k x es) ≡ cond (q == k) (f x) (answers q es)
+  answers_set k x [] q = refl
+  answers_set k x (e ∷ es) q = elim (cases_Bool (e.0 == k)) [
+    | inl here ↦
+        ap (λ (b : Bool). answers q (cond b ((k, x) ∷ es) (e ∷ set_entry k x es))) here
+        ∙ subst (λ (n : ℕ). cond (q == k) (f x) (answers q es) ≡ cond (q == k) (f x) (cond (q == n) (f e.1) (answers q es))) (sym (eqb-true e.0 k here)) (shadowed (q == k) (f x) (f e.1) (answers q es))
+    | inr off ↦
+        ap (λ (b : Bool). answers q (cond b ((k, x) ∷ es) (e ∷ set_entry k x es))) off
+        ∙ ap (cond (q == e.0) (f e.1)) (answers_set k x es q)
+        ∙ swapped (q == e.0) (q == k) (f e.1) (f x) (answers q es) (not_both q e.0 k off)
+  ]
+
+entry_answers : {X : Type 0} (q : ℕ) (es : List (ℕ × X)) → answers Some None q es ≡ entry_at q es
+entry_answers q [] = refl
+entry_answers q (e ∷ es) = ap (cond (q == e.0) (Some e.1)) (entry_answers q es)
+
+pub entry_set : {X : Type 0} (k : ℕ) (x : X) (es : List (ℕ × X)) (q : ℕ) → entry_at q (set_entry k x es) ≡ cond (q == k) (Some x) (entry_at q es)
+entry_set k x es q = sym (entry_answers q (set_entry k x es)) ∙ answers_set Some None k x es q ∙ ap (cond (q == k) (Some x)) (entry_answers q es)
+
+some_same : {X : Type 0} (x y : X) → Some x ≡ Some y → x ≡ y
+some_same x y e = cc
+
+-- a list behind another one
+abbrev pub or_else : {X : Type 0} → Option X → Option X → Option X
+or_else None other = other
+or_else (Some x) other = Some x
+
+or_cond : {X : Type 0} (b : Bool) (x : X) (o other : Option X) → cond b (Some x) (or_else o other) ≡ or_else (cond b (Some x) o) other
+or_cond true x o other = refl
+or_cond false x o other = refl
+
+pub entry_append : {X : Type 0} (es more : List (ℕ × X)) (q : ℕ) → entry_at q (es ++ more) ≡ or_else (entry_at q es) (entry_at q more)
+entry_append [] more q = refl
+entry_append (e ∷ es) more q = ap (cond (q == e.0) (Some e.1)) (entry_append es more q) ∙ or_cond (q == e.0) e.1 (entry_at q es) (entry_at q more)
+
+pub or_stays : {X : Type 0} (o other : Option X) → IsSome o → or_else o other ≡ o
+or_stays None other some = absurd (let no : ⊥ = cc in no)
+or_stays (Some x) other some = refl
+
+-- what holds of each entry holds of the one that is found
+pub entry_has : {X : Type 0} (P : ℕ × X → Type 0) (es : List (ℕ × X)) → AllByRecursion P es → (q : ℕ) (x : X) → entry_at q es ≡ Some x → P (q, x)
+entry_has P [] each q x is = absurd (let no : ⊥ = cc in no)
+entry_has P (e ∷ es) each q x is = elim (cases_Bool (q == e.0)) [
+  | inl here ↦
+      let same : Some e.1 ≡ Some x = sym (ap (λ (b : Bool). cond b (Some e.1) (entry_at q es)) here) ∙ is in
+      subst P (λ i. (sym (eqb-true q e.0 here) i, some_same e.1 x same i)) each.0
+  | inr off ↦ entry_has P es each.1 q x (sym (ap (λ (b : Bool). cond b (Some e.1) (entry_at q es)) off) ∙ is)
+]
+
+standing_answers : (q : ℕ) (es : List (ℕ × Activity)) → answers (λ (a : Activity). a) (at_rest q) q es ≡ standing es q
+standing_answers q [] = refl
+standing_answers q (e ∷ es) = ap (cond (q == e.0) e.1) (standing_answers q es)
+
+-- an actor stands elsewhere
+pub standing_set : (actor : ℕ) (next : Activity) (es : List (ℕ × Activity)) (q : ℕ) → standing (set_entry actor next es) q ≡ with_activity actor next (standing es) q
+standing_set actor next es q =
+    sym (standing_answers q (set_entry actor next es))
+    ∙ answers_set (λ (a : Activity). a) (at_rest q) actor next es q
+    ∙ ap (cond (q == actor) next) (standing_answers q es)
+
+-- ---- pages and numbers
+
+abbrev pub set_all : List (ℕ × Page) → List (ℕ × Page) → List (ℕ × Page)
+set_all [] pages = pages
+set_all (one ∷ rest) pages = set_all rest (set_entry one.0 one.1 pages)
+
+pub pages_set : (changed pages : List (ℕ × Page)) (id : ℕ) → entry_at id (set_all changed pages) ≡ set_pages changed (λ q. entry_at q pages) id
+pages_set [] pages id = refl
+pages_set (one ∷ rest) pages id =
+    pages_set rest (set_entry one.0 one.1 pages) id
+    ∙ ap (λ (f : ℕ → Option Page). set_pages rest f id) (fun_ext (entry_set one.0 one.1 pages))
+
+abbrev pub add_number : ℕ → List ℕ → List ℕ
+add_number n ns = if is_among n ns then ns else n ∷ ns
+
+abbrev pub add_numbers : List ℕ → List ℕ → List ℕ
+add_numbers [] ns = ns
+add_numbers (n ∷ rest) ns = add_number n (add_numbers rest ns)
+
+abbrev pub add_pages : List (ℕ × Page) → List ℕ → List ℕ
+add_pages [] ns = ns
+add_pages (one ∷ rest) ns = add_number one.0 (add_pages rest ns)
+
+any_among : (ks : List ℕ) (q : ℕ) → list_any (eq_by_cmp nat_cmp q) ks ≡ is_among q ks
+any_among [] q = refl
+any_among (k ∷ ks) q = λ i. unsigned_tied q k i || any_among ks q i
+
+-- the set of a list
+pub set_has : (ks : List ℕ) (q : ℕ) → set.contains (set.from_list {R = nat_cmp} ks) q ≡ is_among q ks
+set_has ks q = set.contains-from_list nat_cmp_total ks q ∙ any_among ks q
+
+or_same : (b c : Bool) → (b ≡ true → c ≡ true) → c ≡ (b || c)
+or_same true c so = so refl
+or_same false c so = refl
+
+or_assoc : (a b c : Bool) → (a || (b || c)) ≡ ((a || b) || c)
+or_assoc true b c = refl
+or_assoc false b c = refl
+
+among_added : (q n : ℕ) (ns : List ℕ) → is_among q (add_number n ns) ≡ ((q == n) || is_among q ns)
+among_added q n ns = elim (cases_Bool (is_among n ns)) [
+  | inl here ↦
+      ap (λ (b : Bool). is_among q (cond b ns (n ∷ ns))) here
+      ∙ or_same (q == n) (is_among q ns) (λ same. ap (λ (x : ℕ). is_among x ns) (eqb-true q n same) ∙ here)
+  | inr off ↦ ap (λ (b : Bool). is_among q (cond b ns (n ∷ ns))) off
+]
+
+among_numbers : (q : ℕ) (ns old : List ℕ) → is_among q (add_numbers ns old) ≡ (is_among q ns || is_among q old)
+among_numbers q [] old = refl
+among_numbers q (n ∷ ns) old = among_added q n (add_numbers ns old) ∙ ap (λ (b : Bool). (q == n) || b) (among_numbers q ns old) ∙ or_assoc (q == n) (is_among q ns) (is_among q old)
+
+among_pages : (q : ℕ) (changed : List (ℕ × Page)) (old : List ℕ) → is_among q (add_pages changed old) ≡ (has_page q changed || is_among q old)
+among_pages q [] old = refl
+among_pages q (one ∷ rest) old = among_added q one.0 (add_pages rest old) ∙ ap (λ (b : Bool). (q == one.0) || b) (among_pages q rest old) ∙ or_assoc (q == one.0) (has_page q rest) (is_among q old)
+
+pub among_marked : (q : ℕ) (changed : List (ℕ × Page)) (ns old : List ℕ) → is_among q (add_pages changed (add_numbers ns old)) ≡ (has_page q changed || (is_among q ns || is_among q old))
+among_marked q changed ns old = among_pages q changed (add_numbers ns old) ∙ ap (λ (b : Bool). has_page q changed || b) (among_numbers q ns old)
+
+-- ---- latches
+
+abbrev pub LatchList : Type 0
+LatchList = List ((ℕ × ℕ) × Mode)
+
+abbrev pub mode_in : ℕ → ℕ → LatchList → Option Mode
+mode_in actor page [] = None
+mode_in actor page (one ∷ rest) = if (actor == one.0.0) && (page == one.0.1) then Some one.1 else mode_in actor page rest
+
+-- the latches without those of an actor, and with others for it
+abbrev pub without_actor : ℕ → LatchList → LatchList
+without_actor actor [] = []
+without_actor actor (one ∷ rest) = if actor == one.0.0 then without_actor actor rest else one ∷ without_actor actor rest
+
+abbrev pub relatched : ℕ → List Latch → LatchList → LatchList
+relatched actor [] old = without_actor actor old
+relatched actor (latch ∷ rest) old = ((actor, latch.page), latch.mode) ∷ relatched actor rest old
+
+both_tie : (o r : Ordering) → is_eq (ordering_then o r) ≡ (is_eq o && is_eq r)
+both_tie Less r = refl
+both_tie Equal r = refl
+both_tie Greater r = refl
+
+latch_found : (es : LatchList) (actor page : ℕ) → map.find latch_cmp (actor, page) es ≡ mode_in actor page es
+latch_found [] actor page = refl
+latch_found (e ∷ es) actor page =
+    ap (λ (b : Bool). cond b (Some e.1) (map.find latch_cmp (actor, page) es)) (both_tie (nat_cmp actor e.0.0) (nat_cmp page e.0.1))
+    ∙ (λ i. cond (unsigned_tied actor e.0.0 i && unsigned_tied page e.0.1 i) (Some e.1) (latch_found es actor page i))
+
+pub table_has : (es : LatchList) (actor page : ℕ) → mode_at (map.from_entries es) actor page ≡ mode_in actor page es
+table_has es actor page = map.get-from_entries latch_order es (actor, page) ∙ latch_found es actor page
+
+-- the actor itself
+none_left : (actor page : ℕ) (es : LatchList) → mode_in actor page (without_actor actor es) ≡ None
+none_left actor page [] = refl
+none_left actor page (e ∷ es) = elim (cases_Bool (actor == e.0.0)) [
+  | inl here ↦ ap (λ (b : Bool). mode_in actor page (cond b (without_actor actor es) (e ∷ without_actor actor es))) here ∙ none_left actor page es
+  | inr off ↦
+      ap (λ (b : Bool). mode_in actor page (cond b (without_actor actor es) (e ∷ without_actor actor es))) off
+      ∙ ap (λ (b : Bool). cond (b && (page == e.0.1)) (Some e.1) (mode_in actor page (without_actor actor es))) off
+      ∙ none_left actor page es
+]
+
+turned : (a b : ℕ) → (a == b) ≡ (b == a)
+turned a b = elim (cases_Bool (a == b)) [
+  | inl same ↦ same ∙ sym (eq-eqb b a (sym (eqb-true a b same)))
+  | inr off ↦ off ∙ sym (ne_eqb b a (λ e. eqb-false a b off (sym e)))
+]
+
+own_found : (actor page : ℕ) (held : List Latch) (es : LatchList) → mode_in actor page (relatched actor held es) ≡ mode_among page held
+own_found actor page [] es = none_left actor page es
+own_found actor page (latch ∷ rest) es =
+    ap (λ (b : Bool). cond (b && (page == latch.page)) (Some latch.mode) (mode_in actor page (relatched actor rest es))) (eq-eqb actor actor refl)
+    ∙ (λ i. cond (turned page latch.page i) (Some latch.mode) (own_found actor page rest es i))
+
+-- every other one
+others_left : (actor other page : ℕ) → other ≢ actor → (es : LatchList) → mode_in other page (without_actor actor es) ≡ mode_in other page es
+others_left actor other page another [] = refl
+others_left actor other page another (e ∷ es) = elim (cases_Bool (actor == e.0.0)) [
+  | inl here ↦
+      ap (λ (b : Bool). mode_in other page (cond b (without_actor actor es) (e ∷ without_actor actor es))) here
+      ∙ others_left actor other page another es
+      ∙ sym (ap (λ (b : Bool). cond (b && (page == e.0.1)) (Some e.1) (mode_in other page es)) (ne_eqb other e.0.0 (λ same. another (same ∙ sym (eqb-true actor e.0.0 here)))))
+  | inr off ↦
+      ap (λ (b : Bool). mode_in other page (cond b (without_actor actor es) (e ∷ without_actor actor es))) off
+      ∙ ap (cond ((other == e.0.0) && (page == e.0.1)) (Some e.1)) (others_left actor other page another es)
+]
+
+others_found : (actor other page : ℕ) → other ≢ actor → (held : List Latch) (es : LatchList) → mode_in other page (relatched actor held es) ≡ mode_in other page es
+others_found actor other page another [] es = others_left actor other page another es
+others_found actor other page another (latch ∷ rest) es =
+    ap (λ (b : Bool). cond (b && (page == latch.page)) (Some latch.mode) (mode_in other page (relatched actor rest es))) (ne_eqb other actor another)
+    ∙ others_found actor other page another rest es
+
+pub relatches : (actor : ℕ) (held : List Latch) (es : LatchList) → Relatches actor held (map.from_entries es) (map.from_entries (relatched actor held es))
+relatches actor held es = record {
+  own = λ page. table_has (relatched actor held es) actor page ∙ own_found actor page held es;
+  others = λ other page another. table_has (relatched actor held es) other page ∙ others_found actor other page another held es ∙ sym (table_has es other page);
+}
+
+-- ---- who is in the way
+
+-- no latch on a page, of an actor about whom it is asked, conflicts with a mode
+abbrev pub is_clear : (ℕ → Bool) → ℕ → Mode → LatchList → Bool
+is_clear asked page mode [] = true
+is_clear asked page mode (one ∷ rest) = (not (asked one.0.0) || (not (page == one.0.1) || goes_beside mode one.1)) && is_clear asked page mode rest
+
+and_first : (a b : Bool) → IsTrue (a && b) → IsTrue a
+and_first true b e = refl
+and_first false b e = e
+
+and_second : (a b : Bool) → IsTrue (a && b) → IsTrue b
+and_second true b e = e
+and_second false b e = absurd (let no : ⊥ = cc in no)
+
+left_off : (a b : Bool) → a ≡ true → IsTrue (not a || b) → IsTrue b
+left_off true b is e = e
+left_off false b is e = absurd (let no : ⊥ = cc in no)
+
+go_beside : (asked : ℕ → Bool) (page : ℕ) (mode : Mode) (es : LatchList) → IsTrue (is_clear asked page mode es) → (other : ℕ) → asked other ≡ true → IfSome (mode_in other page es) (λ held. IsTrue (goes_beside mode held))
+go_beside asked page mode [] clear other is = tt
+go_beside asked page mode (e ∷ es) clear other is =
+    let first : IsTrue (not (asked e.0.0) || (not (page == e.0.1) || goes_beside mode e.1)) = and_first (not (asked e.0.0) || (not (page == e.0.1) || goes_beside mode e.1)) (is_clear asked page mode es) clear in
+    let later = go_beside asked page mode es (and_second (not (asked e.0.0) || (not (page == e.0.1) || goes_beside mode e.1)) (is_clear asked page mode es) clear) other is in
+    elim (cases_Bool (other == e.0.0)) [
+      | inl actor ↦ elim (cases_Bool (page == e.0.1)) [
+        | inl here ↦
+            subst (λ (b : Bool). IfSome (cond b (Some e.1) (mode_in other page es)) (λ held. IsTrue (goes_beside mode held))) (sym ((λ i. actor i && here i)))
+            (left_off (page == e.0.1) (goes_beside mode e.1) here (left_off (asked e.0.0) (not (page == e.0.1) || goes_beside mode e.1) (subst (λ (n : ℕ). asked n ≡ true) (eqb-true other e.0.0 actor) is) first))
+        | inr off ↦ subst (λ (b : Bool). IfSome (cond b (Some e.1) (mode_in other page es)) (λ held. IsTrue (goes_beside mode held))) (sym ((λ i. actor i && off i))) later
+      ]
+      | inr off ↦ subst (λ (b : Bool). IfSome (cond (b && (page == e.0.1)) (Some e.1) (mode_in other page es)) (λ held. IsTrue (goes_beside mode held))) (sym off) later
+    ]
+
+abbrev pub is_another : ℕ → ℕ → Bool
+is_another actor other = not (other == actor)
+
+abbrev pub is_earlier : ℕ → ℕ → ℕ → Bool
+is_earlier by actor other = nat_lt other by && not (other == actor)
+
+another_is : (actor other : ℕ) → other ≢ actor → is_another actor other ≡ true
+another_is actor other another = ap not (ne_eqb other actor another)
+
+-- nobody is
+pub grants : (actor page : ℕ) (mode : Mode) (es : LatchList) → IsTrue (is_clear (is_another actor) page mode es) → IsGrantable (map.from_entries es) actor page mode
+grants actor page mode es clear other another =
+    subst (λ (o : Option Mode). IfSome o (λ held. IsTrue (goes_beside mode held))) (sym (table_has es other page))
+    (go_beside (is_another actor) page mode es clear other (another_is actor other another))
+
+-- this one is, in a mode that conflicts, and none before it
+not_beside : (mode : Mode) (o : Option Mode) → IsSomeAnd o (λ held. ¬ (IsTrue (goes_beside mode held))) → IfSome o (λ held. IsTrue (goes_beside mode held)) → ⊥
+not_beside mode None some all = some
+not_beside mode (Some held) some all = some all
+
+pub hinders : (actor page : ℕ) (mode held : Mode) (by : ℕ) (es : LatchList) → by ≢ actor → mode_in by page es ≡ Some held → goes_beside mode held ≡ false
+    → IsTrue (is_clear (is_earlier by actor) page mode es) → IsLeastInTheWay (map.from_entries es) actor page mode by
+hinders actor page mode held by es another has conflict clear = record {
+  keeps = record {
+    another = another;
+    conflict = subst (λ (o : Option Mode). IsSomeAnd o (λ (h : Mode). ¬ (IsTrue (goes_beside mode h)))) (sym (table_has es by page ∙ has)) (λ on. let no : ⊥ = cc in no);
+  };
+  least = λ earlier less keeps. not_beside mode (mode_in earlier page es)
+      (subst (λ (o : Option Mode). IsSomeAnd o (λ (h : Mode). ¬ (IsTrue (goes_beside mode h)))) (table_has es earlier page) keeps.conflict)
+      (go_beside (is_earlier by actor) page mode es clear earlier (λ i. lt-ltb earlier by less i && another_is actor earlier keeps.another i));
+}

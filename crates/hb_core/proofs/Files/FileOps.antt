@@ -1,0 +1,141 @@
+-- What is done in memory is done in the file: an operation is allowed and licensed there, and makes the same of it.
+use Rattle.std.proofs.Common.{◌≡◌, ◌≢◌, inl, inr, ℕ, ◌≤◌, ◌==◌, true, false, cond, List, [], ◌∷◌, length, get_or, All, Option, Some, None, IsSome, refl, sym, ap, ◌∙◌, subst, arith}
+use Rattle.std.proofs.lemmas.Bool.{cases_lt}
+use Rattle.std.proofs.lemmas.List.{get_or_past}
+use Rattle.hb_frag.specs.declared.leaves.Leaf.TheVariants.{Child}
+use Rattle.hb_frag.specs.declared.pages.LivePage.{LivePage}
+use Rattle.hb_frag.specs.declared.pages.Page.{Page}
+use Rattle.hb_frag.specs.declared.pages.Page.TheVariants.{Live, Free}
+use Rattle.hb_frag.specs.declared.paths.Side.{Side}
+use Rattle.hb_layout.specs.declared.meta.Meta.{Meta}
+use Rattle.hb_ops.specs.declared.operations.Op.{Op}
+use Rattle.hb_ops.specs.declared.operations.Op.TheVariants as ops
+use Rattle.hb_core.proofs.Files.GoodChanges.{IsGoodChange}
+use Rattle.hb_core.proofs.Memory.KeptPages.{KeepsPages}
+use Rattle.hb_core.proofs.Files.RowTells.{IsPlanned, TellsOp}
+use Rattle.hb_frag.proofs.Tiles.{found_where_held}
+use Rattle.hb_frag.specs.Paths.{part_at}
+use Rattle.hb_frag.specs.Trees.{Tip}
+use Rattle.hb_log_codec.specs.Groups.{FitsOp}
+use Rattle.hb_ops.specs.Files.{FileState, if_live, page_at, page_of}
+use Rattle.hb_ops.specs.Operations.{Change, IsAllowed, IsAllowedOn, IsLicensed, OpHas, change_of, effect_of, nth_read, reads_of, with_changed_pages}
+use Rattle.hb_ops.specs.PageNumberLaws.{page_at-zero}
+use Rattle.hb_ops.specs.Posting.{GaveAway}
+use Rattle.hb_ops.specs.Sound.{IsSound}
+use Rattle.hb_space.specs.Boxes.{Area, Holds}
+use Rattle.hb_store.proofs.FilePages.{Reaches, pages_set}
+use Rattle.hb_store.proofs.MadeMeta.{op_has, reads_some}
+use Rattle.hb_store.specs.Calls.{IsAllowedHere, change_here, read_here}
+use Rattle.hb_store.specs.NextPage.{IsNext}
+use Rattle.hb_store.specs.Replay.{set_pages}
+use Rattle.hb_store.specs.States.{StoreState, in_memory}
+use Rattle.hb_terms.proofs.Owing.{planned_may_be, way_ends_there}
+
+-- What a store has of a sound file: its words about itself, and its pages in frames.
+pub record ShowsFile (st : StoreState) (s : FileState) : Type 0 where
+  pub sound : IsSound s
+  pub meta : s.meta ≡ st.meta
+  pub shown : (id : ℕ) (page : Page) → (in_memory st) id ≡ Some page → page_of s id ≡ Some page
+
+-- pages that others have too are so once the same were set in both
+pub set_both : (pages : List (ℕ × Page)) (f g : ℕ → Option Page) → ((q : ℕ) (page : Page) → f q ≡ Some page → g q ≡ Some page) → (q : ℕ) (page : Page) → set_pages pages f q ≡ Some page → set_pages pages g q ≡ Some page
+set_both [] f g h q page e = h q page e
+set_both (one ∷ rest) f g h q page e =
+    set_both rest (λ r. cond (r == one.0) (Some one.1) (f r)) (λ r. cond (r == one.0) (Some one.1) (g r))
+    (λ r page. elim (r == one.0) as (λ b. cond b (Some one.1) (f r) ≡ Some page → cond b (Some one.1) (g r) ≡ Some page) [ true ↦ λ e. e | false ↦ h r page ]) q page e
+
+same_change : (op : Op) (m n : Meta) (a a' b b' c c' : Option LivePage) → m ≡ n → a ≡ a' → b ≡ b' → c ≡ c' → change_of op m a b c ≡ change_of op n a' b' c'
+same_change op m n a a' b b' c c' em ea eb ec =
+    ap (λ (x : Meta). change_of op x a b c) em ∙ ap (λ (x : Option LivePage). change_of op n x b c) ea
+    ∙ ap (λ (x : Option LivePage). change_of op n a' x c) eb ∙ ap (λ (x : Option LivePage). change_of op n a' b' x) ec
+
+same_allowed : (op : Op) (m n : Meta) (a a' b b' c c' : Option LivePage) → m ≡ n → a ≡ a' → b ≡ b' → c ≡ c' → IsAllowedOn op m a b c → IsAllowedOn op n a' b' c'
+same_allowed op m n a a' b b' c c' em ea eb ec h =
+    subst (λ (x : Option LivePage). IsAllowedOn op n a' b' x) ec
+    (subst (λ (x : Option LivePage). IsAllowedOn op n a' x c) eb
+    (subst (λ (x : Option LivePage). IsAllowedOn op n x b c) ea
+    (subst (λ (x : Meta). IsAllowedOn op x a b c) em h)))
+
+module _ (st : StoreState) (s : FileState) (keeps : KeepsPages st) (file : ShowsFile st s) (op : Op) (allowed : IsAllowedHere st op) where
+  none_at_zero : (o : Option Page) → ((page : Page) → o ≡ Some page → 1 ≤ 0) → o ≡ None
+  none_at_zero None h = refl
+  none_at_zero (Some page) h = absurd (omega (arith, h page refl))
+
+  no_frame : (in_memory st) 0 ≡ None
+  no_frame = none_at_zero (in_memory st 0) (λ page e. (keeps.framed 0 page e).0)
+
+  in_file_at : (q : ℕ) (o : Option Page) → IsSome o → ((page : Page) → o ≡ Some page → page_of s q ≡ Some page) → o ≡ page_of s q
+  in_file_at q None h shown = cc h
+  in_file_at q (Some page) h shown = sym (shown page refl)
+
+  -- what the operation reads in memory is what it reads in the file
+  read_file : (place : ℕ) → read_here st op place ≡ nth_read s op place
+  read_file place = elim (cases_lt place (length (reads_of op))) [
+    | inl lt ↦
+        let there = reads_some op st.meta (in_memory st) (read_here st op 1) (read_here st op 2) allowed place 0 lt in
+        let q = get_or (reads_of op) place 0 in
+        ap if_live (in_file_at q (in_memory st q) there (file.shown q))
+    | inr le ↦
+        let past : get_or (reads_of op) place 0 ≡ 0 = get_or_past (reads_of op) place 0 le in
+        subst (λ (n : ℕ). if_live (in_memory st n) ≡ if_live (page_of s n)) (sym past) (ap if_live no_frame ∙ ap if_live (sym (page_at-zero s.pages)))
+  ]
+
+  pub allowed_in_file : IsAllowed s op
+  allowed_in_file = same_allowed op st.meta s.meta _ _ _ _ _ _ (sym file.meta) (read_file 0) (read_file 1) (read_file 2) allowed
+
+  change_in_file : change_here st op ≡ change_of op s.meta (nth_read s op 0) (nth_read s op 1) (nth_read s op 2)
+  change_in_file = same_change op st.meta s.meta _ _ _ _ _ _ (sym file.meta) (read_file 0) (read_file 1) (read_file 2)
+
+  module _ (well : IsGoodChange st.meta (change_here st op)) where
+    reach : All (Reaches (length s.pages)) (change_here st op).pages
+    reach k e lt =
+        let one = well.pages k e lt in
+        let high : length s.pages ≡ st.meta.high = file.sound.rooted.numbered ∙ ap (λ (m : Meta). m.high) file.meta in
+        (one.0.0, omega (arith, one.0.1, well.next, high))
+
+    page_after : (q : ℕ) → page_of (effect_of s op) q ≡ set_pages (change_here st op).pages (page_of s) q
+    page_after q = ap (λ (c : Change). page_at (with_changed_pages c.pages s.pages) q) (sym change_in_file) ∙ pages_set (change_here st op).pages s.pages reach q
+
+    pub meta_after : (effect_of s op).meta ≡ (change_here st op).meta
+    meta_after = ap (λ (c : Change). c.meta) (sym change_in_file)
+
+    -- a page in memory afterwards is one of the file afterwards
+    pub shown_after : (id : ℕ) (page : Page) → set_pages (change_here st op).pages (in_memory st) id ≡ Some page → page_of (effect_of s op) id ≡ Some page
+    shown_after id page there = page_after id ∙ set_both (change_here st op).pages (in_memory st) (page_of s) file.shown id page there
+
+-- ---- what its caller knows
+
+module _ (st : StoreState) (s : FileState) (keeps : KeepsPages st) (file : ShowsFile st s) where
+  free_meta : s.meta.free ≡ st.meta.free
+  free_meta = ap (λ (m : Meta). m.free) file.meta
+
+  names_next : (fresh free_after : ℕ) → IsNext st fresh free_after → s.meta.free ≢ 0 → page_of s fresh ≡ Some (Free free_after)
+  names_next fresh free_after next some = file.shown fresh (Free free_after) (next.from_chain (λ none. some (free_meta ∙ none))).1
+
+  gave_away : (parent : ℕ) (at : List Side) (inner : ℕ) (area : Area) → IsPlanned st parent at inner area → GaveAway s parent at inner area
+  gave_away parent at inner area plan =
+      let good = (keeps.framed parent (Live plan.page) plan.live).2 in
+      let good_child = (keeps.framed plan.outer (Live plan.child) plan.named).2 in
+      let may = planned_may_be plan.page plan.child plan.p st.meta.icap at inner area good.0.fits.1 good.1.well_cut good_child.0.fits.1 good_child.1.well_cut plan.planned in
+      let held : Holds plan.page.area plan.p = (found_where_held plan.page.frag plan.page.area plan.p good.0.fits.1 good.1.well_cut).0 (subst (λ (o : Option _). IsSome o) (sym plan.above) refl) in
+      let leaf = way_ends_there plan.page plan.p (Child plan.outer) plan.box good.0.fits.1 good.1.well_cut held plan.above in
+      record {
+        page = plan.page;
+        live = ap if_live (file.shown parent (Live plan.page) plan.live);
+        outer = plan.outer;
+        box = plan.box;
+        leaf = subst (λ (path : List Side). part_at path plan.page.frag plan.page.area ≡ Some (Tip (Child plan.outer), plan.box)) (sym plan.planned.way) leaf;
+        child = plan.child;
+        named = ap if_live (file.shown plan.outer (Live plan.child) plan.named);
+        gave = may.given;
+      }
+
+  pub licensed_in_file : (op : Op) → TellsOp st op → IsLicensed s op
+  licensed_in_file (ops.Put id rec) tells = tt
+  licensed_in_file (ops.Del id point) tells = tt
+  licensed_in_file (ops.Extract source fresh path cuts free_after) tells = names_next fresh free_after tells
+  licensed_in_file (ops.Post parent at inner area) tells = gave_away parent at inner area tells
+  licensed_in_file (ops.Grow fresh free_after) tells = names_next fresh free_after tells
+
+  pub has_in_file : (op : Op) → FitsOp st.meta.k op → OpHas s.meta.k op
+  has_in_file op fits = subst (λ (m : Meta). OpHas m.k op) (sym file.meta) (op_has st.meta.k op fits)

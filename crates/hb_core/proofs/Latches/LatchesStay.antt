@@ -1,0 +1,262 @@
+-- After a step each actor holds the latches of its activity, on pages in use, and latches on one page go beside each other.
+use Rattle.std.proofs.Common.{◌≡◌, ◌≢◌, inl, inr, ℕ, ◌==◌, Bool, cond, List, [], Option, Some, None, IfSome, IsTrue, refl, sym, ap, ◌∙◌, subst}
+use Rattle.std.proofs.lemmas.Bool.{cases_Bool, eqb-true, eqb-false, eq-eqb, ne_eqb}
+use Rattle.hb_frag.specs.declared.pages.LivePage.{LivePage}
+use Rattle.hb_frag.specs.declared.pages.Page.TheVariants.{Live}
+use Rattle.hb_latch.specs.declared.modes.Mode.{Mode}
+use Rattle.hb_activity.specs.declared.holding.Latch.{Latch}
+use Rattle.hb_activity.specs.declared.wanting.Wanted.{Wanted}
+use Rattle.hb_activity.specs.declared.activities.Activity.{Activity}
+use Rattle.hb_activity.specs.declared.activities.Activity.TheVariants as at
+use Rattle.hb_activity.specs.declared.dropping.DropWhy.{DropWhy}
+use Rattle.hb_core.specs.declared.outcomes.Outcome.{Outcome}
+use Rattle.hb_core.specs.declared.outcomes.Outcome.TheVariants as outcomes
+use Rattle.hb_activity.specs.Classes.{class_of, idle_of}
+use Rattle.hb_activity.specs.Deeds.{Deed}
+use Rattle.hb_activity.specs.Holding.{walk_latch}
+use Rattle.hb_activity.specs.Walks.{job_mode, session_mode, walk_held}
+use Rattle.hb_core.proofs.Latches.Backing.{BackedIn, ComesFrom, rests}
+use Rattle.hb_core.proofs.Table.GivenUp.{idle_latches, idle_walks, given_up_is, run_out_is}
+use Rattle.hb_core.proofs.Latches.MergerBacked.{every_row_backed}
+use Rattle.hb_core.proofs.Memory.OwnPages.{held_pages_stay}
+use Rattle.hb_core.proofs.Table.StepKinds.{each_kind, rest_kind}
+use Rattle.hb_core.proofs.Table.Ways.{KeepsAllButDisk, forces_so, meets_so, stays_so, more_so}
+use Rattle.hb_core.specs.Asking.{wanted_by}
+use Rattle.hb_core.specs.GivingUp.{gives_up, runs_out}
+use Rattle.hb_core.specs.Keeps.{HoldsPagesOfFile, LatchesFit}
+use Rattle.hb_core.specs.Laws.{LatchesStayFit}
+use Rattle.hb_core.specs.Machines.{Machine, live_here, with_activity}
+use Rattle.hb_core.specs.Performing.{Performs, latches_held, mode_among}
+use Rattle.hb_core.specs.Steps.{StepsTo, Works}
+use Rattle.hb_latch.specs.Modes.{goes_beside}
+use Rattle.hb_latch.specs.Tables.{AreCompatible, IsGrantable, LatchTable, MayLatch, mode_at}
+use Rattle.hb_ops.specs.Files.{if_live}
+use Rattle.hb_store.specs.States.{StoreState, in_memory}
+
+-- ---- what the latches of an activity are, in another memory that has its page
+
+same_latches : (activity : Activity) (old new : StoreState) → ((held : ℕ) → walk_held activity ≡ Some held → live_here new held ≡ live_here old held) → latches_held new activity ≡ latches_held old activity
+same_latches at.SessionIdle old new same = refl
+same_latches (at.SessionWalk line None rest found) old new same = refl
+same_latches (at.SessionWalk line (Some held) rest found) old new same = ap (λ (o : Option LivePage). walk_latch (Some held) o (session_mode line.command)) (same held refl)
+same_latches (at.SessionSplit line held) old new same = refl
+same_latches (at.SessionPut line source fresh) old new same = refl
+same_latches (at.SessionAwait line reply place) old new same = refl
+same_latches at.PosterIdle old new same = refl
+same_latches (at.PosterGrow job) old new same = refl
+same_latches (at.PosterWalk job None) old new same = refl
+same_latches (at.PosterWalk job (Some held)) old new same = ap (λ (o : Option LivePage). walk_latch (Some held) o (job_mode job)) (same held refl)
+same_latches (at.PosterChild job parent) old new same = refl
+same_latches (at.PosterPromote job parent) old new same = refl
+same_latches (at.PosterAgain job parent) old new same = refl
+same_latches at.ConsolidatorIdle old new same = refl
+same_latches (at.ConsolidatorWalk job None) old new same = refl
+same_latches (at.ConsolidatorWalk job (Some held)) old new same = ap (λ (o : Option LivePage). walk_latch (Some held) o (job_mode job)) (same held refl)
+same_latches (at.ConsolidatorScan job parent child) old new same = refl
+same_latches (at.ConsolidatorTry job parent keep gone leaf) old new same = refl
+same_latches (at.ConsolidatorPromote job parent keep gone) old new same = refl
+same_latches (at.ConsolidatorKeep job parent keep gone) old new same = refl
+same_latches (at.ConsolidatorDecide job parent keep gone) old new same = refl
+same_latches at.Flusher old new same = refl
+
+-- a walk that holds a page in use has a latch on it
+abbrev pub Latched : ℕ → List Latch → Type 0
+Latched page latches = (mode : Mode) × (mode_among page latches ≡ Some mode)
+
+one_latched : (held : ℕ) (o : Option LivePage) (mode : ℕ → Mode) (page : LivePage) → o ≡ Some page → Latched held (walk_latch (Some held) o mode)
+one_latched held o mode page is = subst (λ (o : Option LivePage). (one : Mode) × (mode_among held (walk_latch (Some held) o mode) ≡ Some one)) (sym is)
+    (mode page.level, ap (λ (b : Bool). cond b (Some (mode page.level)) None) (eq-eqb held held refl))
+
+pub walk_latched : (activity : Activity) (st : StoreState) (held : ℕ) (page : LivePage) → walk_held activity ≡ Some held → live_here st held ≡ Some page → Latched held (latches_held st activity)
+walk_latched (at.SessionWalk line None rest found) st held page is live = cc
+walk_latched (at.SessionWalk line (Some id) rest found) st held page is live =
+    let same : id ≡ held = cc in
+    subst (λ (n : ℕ). Latched held (walk_latch (Some n) (live_here st n) (session_mode line.command))) (sym same) (one_latched held (live_here st held) (session_mode line.command) page live)
+walk_latched (at.PosterWalk job None) st held page is live = cc
+walk_latched (at.PosterWalk job (Some id)) st held page is live =
+    let same : id ≡ held = cc in
+    subst (λ (n : ℕ). Latched held (walk_latch (Some n) (live_here st n) (job_mode job))) (sym same) (one_latched held (live_here st held) (job_mode job) page live)
+walk_latched (at.ConsolidatorWalk job None) st held page is live = cc
+walk_latched (at.ConsolidatorWalk job (Some id)) st held page is live =
+    let same : id ≡ held = cc in
+    subst (λ (n : ℕ). Latched held (walk_latch (Some n) (live_here st n) (job_mode job))) (sym same) (one_latched held (live_here st held) (job_mode job) page live)
+walk_latched at.SessionIdle st held page is live = cc
+walk_latched (at.SessionSplit line id) st held page is live = cc
+walk_latched (at.SessionPut line source fresh) st held page is live = cc
+walk_latched (at.SessionAwait line reply place) st held page is live = cc
+walk_latched at.PosterIdle st held page is live = cc
+walk_latched (at.PosterGrow job) st held page is live = cc
+walk_latched (at.PosterChild job parent) st held page is live = cc
+walk_latched (at.PosterPromote job parent) st held page is live = cc
+walk_latched (at.PosterAgain job parent) st held page is live = cc
+walk_latched at.ConsolidatorIdle st held page is live = cc
+walk_latched (at.ConsolidatorScan job parent child) st held page is live = cc
+walk_latched (at.ConsolidatorTry job parent keep gone leaf) st held page is live = cc
+walk_latched (at.ConsolidatorPromote job parent keep gone) st held page is live = cc
+walk_latched (at.ConsolidatorKeep job parent keep gone) st held page is live = cc
+walk_latched (at.ConsolidatorDecide job parent keep gone) st held page is live = cc
+walk_latched at.Flusher st held page is live = cc
+
+if_each : (o : Option Mode) (P : Mode → Type 0) → ((mode : Mode) → o ≡ Some mode → P mode) → IfSome o P
+if_each None P each = tt
+if_each (Some mode) P each = each mode refl
+
+if_that : (o : Option Mode) (P : Mode → Type 0) (mode : Mode) → IfSome o P → o ≡ Some mode → P mode
+if_that o P mode all is = subst (λ (o : Option Mode). IfSome o P) is all
+
+-- ---- a step
+
+module _ (mutual_modes : (mode other : Mode) → goes_beside mode other ≡ goes_beside other mode) (m : Machine) (actor : ℕ) (outcome : Outcome) (new : Machine) (latches : MayLatch actor) (fit : LatchesFit m) (inside : HoldsPagesOfFile m) (step : StepsTo m actor outcome new) where
+  -- another actor's page stays
+  others_page : (other page : ℕ) (mode : Mode) → other ≢ actor → mode_at m.latches other page ≡ Some mode → (live : LivePage) × (in_memory new.store page ≡ Some (Live live))
+  others_page other page mode another holds =
+      let used = fit.used other page mode holds in
+      (used.0, held_pages_stay m actor outcome new latches fit inside step other page mode used.0 another holds used.1)
+
+  -- and so what its activity says of its latches
+  walks_latch : (other held : ℕ) (live : LivePage) → MayLatch other → walk_held (m.activity other) ≡ Some held → in_memory m.store held ≡ Some (Live live) → (mode : Mode) × (mode_at m.latches other held ≡ Some mode)
+  walks_latch other held live may walks there =
+      let latched = walk_latched (m.activity other) m.store held live walks (ap if_live there) in
+      (latched.0, fit.exact other held may ∙ latched.1)
+
+  others_walk : (other held : ℕ) → other ≢ actor → MayLatch other → walk_held (m.activity other) ≡ Some held → (live : LivePage) × (in_memory m.store held ≡ Some (Live live)) × (in_memory new.store held ≡ Some (Live live))
+  others_walk other held another may walks =
+      let old = fit.walking other held may walks in
+      let latch = walks_latch other held old.0 may walks old.1 in
+      (old.0, old.1, held_pages_stay m actor outcome new latches fit inside step other held latch.0 old.0 another latch.1 old.1)
+
+  others_exact : (other page : ℕ) → other ≢ actor → MayLatch other → mode_at new.latches other page ≡ mode_at m.latches other page → new.activity other ≡ m.activity other → mode_at new.latches other page ≡ mode_among page (latches_held new.store (new.activity other))
+  others_exact other page another may table activity =
+      let same : latches_held new.store (m.activity other) ≡ latches_held m.store (m.activity other) = same_latches (m.activity other) m.store new.store (λ held walks. let both = others_walk other held another may walks in ap if_live both.2 ∙ sym (ap if_live both.1)) in
+      table ∙ fit.exact other page may ∙ sym (ap (mode_among page) same) ∙ sym (ap (λ (a : Activity). mode_among page (latches_held new.store a)) activity)
+
+  -- all but the disk stays
+  disk_alone : KeepsAllButDisk m new → LatchesFit new
+  disk_alone keeps = record {
+    compatible = subst (λ (table : LatchTable). AreCompatible table) (sym keeps.latches) fit.compatible;
+    exact = λ a page may.
+        let same = same_latches (m.activity a) m.store new.store (λ held walks. let old = fit.walking a held may walks in let latch = walks_latch a held old.0 may walks old.1 in ap if_live (keeps.memory held (Live old.0) (inl (a, latch.0, latch.1)) old.1) ∙ sym (ap if_live old.1)) in
+        ap (λ (table : LatchTable). mode_at table a page) keeps.latches ∙ fit.exact a page may ∙ sym (ap (mode_among page) same) ∙ sym (ap (λ (all : ℕ → Activity). mode_among page (latches_held new.store (all a))) keeps.activity);
+    used = λ a page mode holds.
+        let held = sym (ap (λ (table : LatchTable). mode_at table a page) keeps.latches) ∙ holds in
+        let old = fit.used a page mode held in
+        (old.0, keeps.memory page (Live old.0) (inl (a, mode, held)) old.1);
+    walking = λ a held may walks.
+        let walked = sym (ap (λ (all : ℕ → Activity). walk_held (all a)) keeps.activity) ∙ walks in
+        let old = fit.walking a held may walked in
+        let latch = walks_latch a held old.0 may walked old.1 in
+        (old.0, keeps.memory held (Live old.0) (inl (a, latch.0, latch.1)) old.1);
+  }
+
+  -- a deed is done
+  module _ (deed : Deed) (own : (page : ℕ) → mode_at new.latches actor page ≡ mode_among page (latches_held new.store deed.next)) (rest : (other page : ℕ) → other ≢ actor → mode_at new.latches other page ≡ mode_at m.latches other page)
+      (stood : (other : ℕ) → new.activity other ≡ with_activity actor deed.next m.activity other) (backed : BackedIn m actor new.store deed.next) where
+    own_activity : new.activity actor ≡ deed.next
+    own_activity = stood actor ∙ ap (λ (b : Bool). cond b deed.next (m.activity actor)) (eq-eqb actor actor refl)
+
+    others_activity : (other : ℕ) → other ≢ actor → new.activity other ≡ m.activity other
+    others_activity other another = stood other ∙ ap (λ (b : Bool). cond b deed.next (m.activity other)) (ne_eqb other actor another)
+
+    -- what the actor has goes beside what another one has
+    beside_from : (other page : ℕ) (mode held : Mode) → other ≢ actor → ComesFrom m actor page mode → mode_at m.latches other page ≡ Some held → IsTrue (goes_beside mode held)
+    beside_from other page mode held another (inl own_before) holds =
+        let both = fit.compatible actor other page (λ same. another (sym same)) in
+        if_that (mode_at m.latches other page) (λ held. IsTrue (goes_beside mode held)) held (if_that (mode_at m.latches actor page) (λ mode. IfSome (mode_at m.latches other page) (λ held. IsTrue (goes_beside mode held))) mode both own_before) holds
+    beside_from other page mode held another (inr (inl freely)) holds =
+        let grants : IsGrantable m.latches actor freely.wanted.page freely.wanted.mode = subst (λ (o : Option Wanted). IfSome o (λ wanted. IsGrantable m.latches actor wanted.page wanted.mode)) freely.wants freely.free in
+        let here : IfSome (mode_at m.latches other page) (λ held. IsTrue (goes_beside freely.wanted.mode held)) = subst (λ (n : ℕ). IfSome (mode_at m.latches other n) (λ held. IsTrue (goes_beside freely.wanted.mode held))) freely.page_is (grants other another) in
+        subst (λ (own : Mode). IsTrue (goes_beside own held)) freely.mode_is (if_that (mode_at m.latches other page) (λ held. IsTrue (goes_beside freely.wanted.mode held)) held here holds)
+    beside_from other page mode held another (inr (inr never)) holds = let used = fit.used other page held holds in absurd (never used.0 used.1)
+
+    beside : (other page : ℕ) (mode held : Mode) → other ≢ actor → mode_at new.latches actor page ≡ Some mode → mode_at new.latches other page ≡ Some held → IsTrue (goes_beside mode held)
+    beside other page mode held another mine holds =
+        beside_from other page mode held another (backed.latches page mode (sym (own page) ∙ mine)).from (sym (rest other page another) ∙ holds)
+
+    two_apart : (a b page : ℕ) (mode held : Mode) → a ≢ b → mode_at new.latches a page ≡ Some mode → mode_at new.latches b page ≡ Some held → IsTrue (goes_beside mode held)
+    two_apart a b page mode held differ first second = elim (cases_Bool (a == actor)) [
+      | inl a_is ↦
+          let is = eqb-true a actor a_is in
+          beside b page mode held (λ same. differ (is ∙ sym same)) (ap (λ (n : ℕ). mode_at new.latches n page) (sym is) ∙ first) second
+      | inr a_not ↦ elim (cases_Bool (b == actor)) [
+        | inl b_is ↦
+            let is = eqb-true b actor b_is in
+            mutual_modes mode held ∙ beside a page held mode (eqb-false a actor a_not) (ap (λ (n : ℕ). mode_at new.latches n page) (sym is) ∙ second) first
+        | inr b_not ↦
+            let both = fit.compatible a b page differ in
+            let mine = sym (rest a page (eqb-false a actor a_not)) ∙ first in
+            let other = sym (rest b page (eqb-false b actor b_not)) ∙ second in
+            if_that (mode_at m.latches b page) (λ held. IsTrue (goes_beside mode held)) held (if_that (mode_at m.latches a page) (λ mode. IfSome (mode_at m.latches b page) (λ held. IsTrue (goes_beside mode held))) mode both mine) other
+      ]
+    ]
+
+    deed_fits : LatchesFit new
+    deed_fits = record {
+      compatible = λ a b page differ. if_each (mode_at new.latches a page) _ (λ mode first. if_each (mode_at new.latches b page) _ (λ held second. two_apart a b page mode held differ first second));
+      exact = λ a page may. elim (cases_Bool (a == actor)) [
+        | inl a_is ↦
+            let is = eqb-true a actor a_is in
+            subst (λ (n : ℕ). mode_at new.latches n page ≡ mode_among page (latches_held new.store (new.activity n))) (sym is) (own page ∙ sym (ap (λ (next : Activity). mode_among page (latches_held new.store next)) own_activity))
+        | inr a_not ↦ let another = eqb-false a actor a_not in others_exact a page another may (rest a page another) (others_activity a another)
+      ];
+      used = λ a page mode holds. elim (cases_Bool (a == actor)) [
+        | inl a_is ↦
+            let is = eqb-true a actor a_is in
+            let backing = backed.latches page mode (sym (own page) ∙ ap (λ (n : ℕ). mode_at new.latches n page) (sym is) ∙ holds) in
+            (backing.live, backing.there)
+        | inr a_not ↦ let another = eqb-false a actor a_not in others_page a page mode another (sym (rest a page another) ∙ holds)
+      ];
+      walking = λ a held may walks. elim (cases_Bool (a == actor)) [
+        | inl a_is ↦
+            let is = eqb-true a actor a_is in
+            backed.walk held (ap walk_held (sym own_activity ∙ ap new.activity (sym is)) ∙ walks)
+        | inr a_not ↦
+            let another = eqb-false a actor a_not in
+            let both = others_walk a held another may (ap walk_held (sym (others_activity a another)) ∙ walks) in
+            (both.0, both.2)
+      ];
+    }
+
+-- ---- what can't go on holds nothing
+
+given_up : (m : Machine) (actor : ℕ) (st : StoreState) (why : DropWhy) (activity : Activity) → BackedIn m actor st (gives_up why activity).next
+given_up m actor st why activity =
+    let idle : BackedIn m actor st (idle_of (class_of activity)) = rests m actor st _ (idle_walks (class_of activity)) (idle_latches (class_of activity) st) in
+    given_up_is (λ deed. BackedIn m actor st deed.next) why activity (λ line is. rests m actor st _ refl refl) (λ job is. idle) (λ is. idle)
+
+ran_out : (m : Machine) (actor : ℕ) (st : StoreState) (activity : Activity) → BackedIn m actor st (runs_out activity).next
+ran_out m actor st activity =
+    let idle : BackedIn m actor st (idle_of (class_of activity)) = rests m actor st _ (idle_walks (class_of activity)) (idle_latches (class_of activity) st) in
+    run_out_is (λ deed. BackedIn m actor st deed.next) activity (λ line is. rests m actor st _ refl refl) (λ job is. idle) (λ is. idle)
+
+-- ---- each step
+
+module _ (mutual_modes : (mode other : Mode) → goes_beside mode other ≡ goes_beside other mode) (m : Machine) (actor : ℕ) (outcome : Outcome) (new : Machine) (latches : MayLatch actor) (fit : LatchesFit m) (inside : HoldsPagesOfFile m) (step : StepsTo m actor outcome new) where
+  fits : (fetched : StoreState) (deed : Deed) → Performs m fetched actor deed outcome new → BackedIn m actor new.store deed.next → LatchesFit new
+  fits fetched deed performs backed = deed_fits mutual_modes m actor outcome new latches fit inside step deed performs.latches.own performs.latches.others performs.activity backed
+
+  rested : (fetched : StoreState) (deed : Deed) → Performs m fetched actor deed outcome new → walk_held deed.next ≡ None → latches_held new.store deed.next ≡ [] → LatchesFit new
+  rested fetched deed performs none nothing = fits fetched deed performs (rests m actor new.store deed.next none nothing)
+
+  kept : KeepsAllButDisk m new → LatchesFit new
+  kept keeps = disk_alone mutual_modes m actor outcome new latches fit inside step keeps
+
+  worked : Works m actor outcome new → LatchesFit new
+  worked (inl (by, way, so)) = kept (stays_so m actor outcome new (outcomes.Blocked by) so)
+  worked (inr (inl (free, unready, inl (waits, force)))) = kept (forces_so m actor outcome new outcomes.Helped force)
+  worked (inr (inl (free, unready, inr (none, rest)))) =
+      rest_kind m outcomes.Helped outcome new _ (LatchesFit new) none (λ at. refl) (λ more. kept (more_so m actor outcome new more)) (λ performs. fits m.store _ performs (ran_out m actor new.store (m.activity actor))) rest
+  worked (inr (inr (free, ready, inl acts))) =
+      fits acts.fetched acts.deed acts.performs
+      (every_row_backed m actor _ acts.fetched new.store latches fit inside free acts.brings (wanted_by m actor) acts.deed refl acts.performs.store acts.row)
+  worked (inr (inr (free, ready, inr (inl gives)))) = fits gives.fetched _ gives.performs (given_up m actor new.store gives.why (m.activity actor))
+  worked (inr (inr (free, ready, inr (inr meets)))) = kept (meets_so m actor outcome new meets)
+
+pub latches_stay_fit : ((mode other : Mode) → goes_beside mode other ≡ goes_beside other mode) → LatchesStayFit
+latches_stay_fit mutual_modes m actor outcome new latches fit inside step =
+    each_kind m actor outcome new (LatchesFit new)
+    (λ said quiet so. kept mutual_modes m actor outcome new latches fit inside step (stays_so m actor outcome new said so))
+    (λ said quiet force. kept mutual_modes m actor outcome new latches fit inside step (forces_so m actor outcome new said force))
+    (λ more. kept mutual_modes m actor outcome new latches fit inside step (more_so m actor outcome new more))
+    (λ deed outright performs. rested mutual_modes m actor outcome new latches fit inside step m.store deed performs outright.walk (outright.latches new.store))
+    (worked mutual_modes m actor outcome new latches fit inside step)
+    step

@@ -1,0 +1,162 @@
+-- Where the latches of a consolidator come from, after each of its rows: each was held before, or is the one that the step wanted.
+use Rattle.std.proofs.Common.{◌≡◌, inl, inr, ℕ, ◌==◌, Bool, cond, [], ◌∷◌, length, Option, Some, None, refl, sym, ap, ◌∙◌, subst}
+use Rattle.std.proofs.lemmas.Bool.{cases_Bool, eq-eqb, eqb-true}
+use Rattle.hb_frag.specs.declared.pages.LivePage.{LivePage}
+use Rattle.hb_ops.specs.declared.operations.Op.{Op}
+use Rattle.hb_latch.specs.declared.modes.Mode.{Mode}
+use Rattle.hb_latch.specs.declared.modes.Mode.TheVariants.{Shared, Update, Exclusive}
+use Rattle.hb_terms.specs.declared.merging.MergePlan.{MergePlan}
+use Rattle.hb_terms.specs.declared.merging.MergePlan.TheVariants as plans
+use Rattle.hb_activity.specs.declared.jobs.Job.{Job}
+use Rattle.hb_activity.specs.declared.wanting.Wanted.{Wanted}
+use Rattle.hb_activity.specs.declared.activities.Activity.{Activity}
+use Rattle.hb_activity.specs.declared.activities.Activity.TheVariants as at
+use Rattle.hb_activity.specs.Deeds.{Deed}
+use Rattle.hb_activity.specs.Holding.{latch_on}
+use Rattle.hb_activity.specs.Walks.{job_mode}
+use Rattle.hb_activity.specs.Wanting.{walk_next, wanted_of}
+use Rattle.hb_consol.specs.ConsolidatorRows.{after_try, children_of, one_behind, scans, tries}
+use Rattle.hb_consol.specs.MergeRows.{after_keep}
+use Rattle.hb_core.proofs.Latches.Backing.{AreBacked, BackedIn, IsBacked, at_hand, backed_row, goes, held_backed, live_now, one_backed, own_mode, rests, stands, there_now, walk_backed}
+use Rattle.hb_core.proofs.Table.MergerMoves.{decided, merger_moves, of_page}
+use Rattle.hb_core.proofs.Memory.OwnedOps.{in_its_mode}
+use Rattle.hb_core.specs.Asking.{HasWayFree, looked_live, wanted_by}
+use Rattle.hb_core.specs.Fetching.{Brings}
+use Rattle.hb_core.specs.Keeps.{HoldsPagesOfFile, LatchesFit}
+use Rattle.hb_core.specs.KeptMerges.{IsMerging}
+use Rattle.hb_core.specs.Machines.{Machine, with_disk, sight}
+use Rattle.hb_core.specs.Performing.{MayDo, latches_held, mode_among}
+use Rattle.hb_core.specs.Rows.{Row, RowAt}
+use Rattle.hb_frag.specs.Leaves.{first_named, siblings_of}
+use Rattle.hb_latch.specs.Tables.{MayLatch}
+use Rattle.hb_ops.specs.Files.{if_live}
+use Rattle.hb_space.specs.Boxes.{Area}
+use Rattle.hb_store.specs.States.{StoreState, in_memory}
+
+-- Two latches: the second one counts where it is on another page.
+both_backed : (m : Machine) (actor : ℕ) (st : StoreState) (first second : ℕ) (mode other : Mode) → IsBacked m actor st first mode → IsBacked m actor st second other → AreBacked m actor st (latch_on first mode ∷ latch_on second other ∷ [])
+both_backed m actor st first second mode other a b page asked is = elim (cases_Bool (first == page)) [
+  | inl here ↦
+      let same : Some mode ≡ Some asked = sym (ap (λ (c : Bool). cond c (Some mode) (mode_among page (latch_on second other ∷ []))) here) ∙ is in
+      let mode_same : mode ≡ asked = cc in
+      subst (λ (n : ℕ). IsBacked m actor st n asked) (eqb-true first page here) (subst (IsBacked m actor st first) mode_same a)
+  | inr off ↦ one_backed m actor st second other b page asked (sym (ap (λ (c : Bool). cond c (Some mode) (mode_among page (latch_on second other ∷ []))) off) ∙ is)
+]
+
+-- the first of two latches is held
+first_held : (first second : ℕ) (mode other : Mode) → mode_among first (latch_on first mode ∷ latch_on second other ∷ []) ≡ Some mode
+first_held first second mode other = ap (λ (b : Bool). cond b (Some mode) (mode_among first (latch_on second other ∷ []))) (eq-eqb first first refl)
+
+one_held : (first : ℕ) (mode : Mode) → mode_among first (latch_on first mode ∷ []) ≡ Some mode
+one_held first mode = ap (λ (b : Bool). cond b (Some mode) None) (eq-eqb first first refl)
+
+module _ (m : Machine) (actor : ℕ) (may : ℕ → Type 0) (fetched : StoreState) (new : StoreState) (latches : MayLatch actor) (fit : LatchesFit m) (inside : HoldsPagesOfFile m) (free : HasWayFree m actor) (brings : Brings m may fetched)
+    (wanted : Wanted) (page : LivePage) (wants : wanted_by m actor ≡ Some wanted) (live : if_live (in_memory fetched wanted.page) ≡ Some page) (level : page.level ≡ wanted.level) (none : new ≡ fetched) where
+  abbrev pub m' : Machine
+  m' = with_disk fetched m.files m.clock m
+
+  abbrev Backs : Deed → Type 0
+  Backs deed = BackedIn m actor new deed.next
+
+  backs : (deed other : Deed) → deed ≡ other → Backs other → Backs deed
+  backs deed other is backed = subst (λ (d : Deed). BackedIn m actor new d.next) (sym is) backed
+
+  -- the latch at hand, and one that was held
+  latched : (mode : Mode) → wanted.mode ≡ mode → IsBacked m actor new wanted.page mode
+  latched mode is = at_hand m actor may fetched new latches fit inside free brings wanted page wants live level none mode is
+
+  latched_on : (id : ℕ) (mode : Mode) → (wanted.page ≡ id) × (wanted.mode ≡ mode) → IsBacked m actor new id mode
+  latched_on id mode is = subst (λ (n : ℕ). IsBacked m actor new n mode) is.0 (latched mode is.1)
+
+  held : (activity : Activity) (id : ℕ) (mode : Mode) → m.activity actor ≡ activity → mode_among id (latches_held m.store activity) ≡ Some mode → IsBacked m actor new id mode
+  held activity id mode is among = held_backed m actor may fetched new latches fit inside free brings id mode none (own_mode m actor may fetched new latches fit inside free brings activity id mode is among)
+
+  -- what the step wants, by the activity
+  wants_as : (activity : Activity) → m.activity actor ≡ activity → wanted_of activity m.store.meta (looked_live m.store activity) ≡ Some wanted
+  wants_as activity is = subst (λ (a : Activity). wanted_of a m.store.meta (looked_live m.store a) ≡ Some wanted) is wants
+
+  walk_mode : (job : Job) (on : Option ℕ) → m.activity actor ≡ at.ConsolidatorWalk job on → wanted.mode ≡ job_mode job page.level
+  walk_mode job on is =
+      let walk : Activity = at.ConsolidatorWalk job on in
+      in_its_mode (job_mode job) (walk_next (Some job.point) on m.store.meta (looked_live m.store walk)) wanted (wants_as walk is) ∙ ap (job_mode job) (sym level)
+
+  -- ---- the next child, and the next pair
+
+  scan_next : (job : Job) (parent : ℕ) (child : Option ℕ) → IsBacked m actor new parent Update → Backs (scans job parent child)
+  scan_next job parent None backed = rests m actor new _ refl refl
+  scan_next job parent (Some child) backed = stands m actor new (at.ConsolidatorScan job parent child) refl (one_backed m actor new parent Update backed)
+
+  try_next : (job : Job) (parent keep : ℕ) (above : LivePage) (pair : Option (ℕ × ℕ)) → IsBacked m actor new parent Update → AreBacked m actor new (latch_on parent Update ∷ latch_on keep Shared ∷ []) → Backs (tries job parent above keep pair)
+  try_next job parent keep above None backed both = scan_next job parent (one_behind keep (children_of above)) backed
+  try_next job parent keep above (Some (gone, leaf)) backed both = stands m actor new (at.ConsolidatorTry job parent keep gone leaf) refl both
+
+  -- both latches of a pair that is tried stay
+  pair_stays : (job : Job) (parent keep gone leaf : ℕ) → m.activity actor ≡ at.ConsolidatorTry job parent keep gone leaf → AreBacked m actor new (latch_on parent Update ∷ latch_on keep Shared ∷ [])
+  pair_stays job parent keep gone leaf is id mode among = held (at.ConsolidatorTry job parent keep gone leaf) id mode is among
+
+  plan_next : (job : Job) (parent keep gone leaf : ℕ) (above kept : LivePage) (plan : MergePlan) → m.activity actor ≡ at.ConsolidatorTry job parent keep gone leaf → Backs (after_try job parent keep gone leaf above kept plan)
+  plan_next job parent keep gone leaf above kept plan is = by plan
+    where
+      parent_stays : IsBacked m actor new parent Update
+      parent_stays = held (at.ConsolidatorTry job parent keep gone leaf) parent Update is (first_held parent keep Update Shared)
+
+      by : (plan : MergePlan) → Backs (after_try job parent keep gone leaf above kept plan)
+      by plans.Merge = stands m actor new (at.ConsolidatorPromote job parent keep gone) refl (one_backed m actor new parent Update parent_stays)
+      by plans.NotContained = try_next job parent keep above _ parent_stays (pair_stays job parent keep gone leaf is)
+      by plans.ManyParents = try_next job parent keep above _ parent_stays (pair_stays job parent keep gone leaf is)
+      by plans.TooHeavy = try_next job parent keep above _ parent_stays (pair_stays job parent keep gone leaf is)
+
+  keep_next : (job : Job) (parent keep gone : ℕ) (area : Option Area) → m.activity actor ≡ at.ConsolidatorKeep job parent keep gone → Backs (after_keep job parent keep gone area)
+  keep_next job parent keep gone None is = rests m actor new _ refl refl
+  keep_next job parent keep gone (Some area) is =
+      let keeping : Activity = at.ConsolidatorKeep job parent keep gone in
+      stands m actor new (at.ConsolidatorDecide job parent keep gone) refl (both_backed m actor new parent keep Exclusive Exclusive (held keeping parent Exclusive is (one_held parent Exclusive))
+      (latched_on keep Exclusive (of_page keep _ Exclusive (looked_live m.store keeping) wanted (wants_as keeping is))))
+
+  -- ---- the rows
+
+  arrives : (job : Job) (on : Option ℕ) → m.activity actor ≡ at.ConsolidatorWalk job on → page.level ≡ job.level → IsBacked m actor new wanted.page Update
+  arrives job on is same = latched Update (walk_mode job on is ∙ ap (λ (b : Bool). cond b Update Shared) (eq-eqb page.level job.level same))
+
+  goes_on : (job : Job) (on : Option ℕ) → m.activity actor ≡ at.ConsolidatorWalk job on → BackedIn m actor new (at.ConsolidatorWalk job (Some wanted.page))
+  goes_on job on is =
+      goes m actor new (at.ConsolidatorWalk job (Some wanted.page)) wanted.page page refl (there_now m actor may fetched new latches fit inside free brings wanted page wants live level none)
+      (walk_backed m actor new wanted.page page (job_mode job) (live_now m actor may fetched new latches fit inside free brings wanted page wants live level none) (latched (job_mode job page.level) (walk_mode job on is)))
+
+  pub merger_backed : (activity : Activity) (deed : Deed) → IsMerging activity → m.activity actor ≡ activity → RowAt activity (sight m') wanted.page page deed → Backs deed
+  merger_backed (at.ConsolidatorWalk job on) deed kind is (inl row) = backs deed _ row.deed_is (scan_next job wanted.page _ (arrives job on is row.level))
+  merger_backed (at.ConsolidatorWalk job on) deed kind is (inr row) = backs deed _ row.passes.deed_is (goes_on job on is)
+  merger_backed (at.ConsolidatorScan job parent child) deed kind is row =
+      let scan : Activity = at.ConsolidatorScan job parent child in
+      let parent_stays = held scan parent Update is (one_held parent Update) in
+      backs deed _ row.deed_is (try_next job parent child row.above _ parent_stays (both_backed m actor new parent child Update Shared parent_stays (latched_on child Shared (of_page child _ Shared (looked_live m.store scan) wanted (wants_as scan is)))))
+  merger_backed (at.ConsolidatorTry job parent keep gone leaf) deed kind is row = backs deed _ row.deed_is (plan_next job parent keep gone leaf row.has.above row.has.kept row.has.plan is)
+  merger_backed (at.ConsolidatorPromote job parent keep gone) deed kind is row =
+      let promote : Activity = at.ConsolidatorPromote job parent keep gone in
+      backs deed _ row (stands m actor new (at.ConsolidatorKeep job parent keep gone) refl (one_backed m actor new parent Exclusive (latched_on parent Exclusive (of_page parent _ Exclusive (looked_live m.store promote) wanted (wants_as promote is)))))
+  merger_backed (at.ConsolidatorKeep job parent keep gone) deed kind is row = backs deed _ row (keep_next job parent keep gone (first_named gone (siblings_of page)) is)
+  merger_backed (at.ConsolidatorDecide job parent keep gone) deed kind is row = backs deed _ (decided m' job parent keep gone row.has.above row.has.plan deed row.does_it) (rests m actor new _ refl refl)
+  merger_backed at.SessionIdle deed kind is row = absurd kind
+  merger_backed (at.SessionWalk line on rest found) deed kind is row = absurd kind
+  merger_backed (at.SessionSplit line on) deed kind is row = absurd kind
+  merger_backed (at.SessionPut line source fresh) deed kind is row = absurd kind
+  merger_backed (at.SessionAwait line reply place) deed kind is row = absurd kind
+  merger_backed at.PosterIdle deed kind is row = absurd kind
+  merger_backed (at.PosterGrow job) deed kind is row = absurd kind
+  merger_backed (at.PosterWalk job on) deed kind is row = absurd kind
+  merger_backed (at.PosterChild job parent) deed kind is row = absurd kind
+  merger_backed (at.PosterPromote job parent) deed kind is row = absurd kind
+  merger_backed (at.PosterAgain job parent) deed kind is row = absurd kind
+  merger_backed at.ConsolidatorIdle deed kind is row = absurd kind
+  merger_backed at.Flusher deed kind is row = absurd kind
+
+-- ---- every row
+
+module _ (m : Machine) (actor : ℕ) (may : ℕ → Type 0) (fetched : StoreState) (new : StoreState) (latches : MayLatch actor) (fit : LatchesFit m) (inside : HoldsPagesOfFile m) (free : HasWayFree m actor) (brings : Brings m may fetched) where
+  abbrev now : Machine
+  now = with_disk fetched m.files m.clock m
+
+  pub every_row_backed : (wanted : Option Wanted) (deed : Deed) → wanted_by m actor ≡ wanted → MayDo deed.op (length m.order) fetched new → Row (m.activity actor) wanted now deed → BackedIn m actor new deed.next
+  every_row_backed wanted deed wants done row = backed_row m actor may fetched new latches fit inside free brings wanted deed (λ at_hand page asks live level kind is row.
+      let none : new ≡ fetched = subst (λ (o : Option Op). MayDo o (length m.order) fetched new) (ap (λ (d : Deed). d.op) (merger_moves now (m.activity actor) at_hand.page page deed kind row).is) done in
+      merger_backed m actor may fetched new latches fit inside free brings at_hand page asks live level none (m.activity actor) deed kind is row) wants done row

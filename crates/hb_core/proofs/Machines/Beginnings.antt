@@ -1,0 +1,350 @@
+-- A machine that has taken no step keeps what every machine keeps; and there is one over each sound file.
+use Rattle.std.proofs.Common.{◌≡◌, ◌≢◌, ◌⊎◌, inl, inr, ℕ, ◌<◌, ◌≤◌, ◌==◌, Bool, false, cond, List, [], length, All, AllPairs, Option, Some, None, IfSome, IsTrue, refl, sym, ap, ◌∙◌, subst, arith}
+use Rattle.std.specs.Prelude.{IsSomeAnd}
+use Rattle.std.specs.FinMap as map
+use Rattle.std.specs.FinSet as set
+use Rattle.std.specs.Ordering.{nat_cmp}
+use Rattle.std.proofs.lemmas.Bool.{cases_Bool, eqb-true}
+use Rattle.std.proofs.lemmas.List.Elements.{All-nil}
+use Rattle.hb_frag.specs.declared.pages.Page.{Page}
+use Rattle.hb_latch.specs.declared.modes.Mode.{Mode}
+use Rattle.hb_set.specs.declared.scripts.Answered.{Answered}
+use Rattle.hb_set.specs.declared.scripts.Line.{Line}
+use Rattle.hb_activity.specs.declared.activities.Activity.{Activity}
+use Rattle.hb_activity.specs.declared.activities.Activity.TheVariants as at
+use Rattle.hb_activity.specs.declared.jobs.Job.{Job}
+use Rattle.hb_activity.specs.Classes.{Class, Sessions, Posters, Consolidators, Flushers, class_of, idle_of, job_in_work, line_in_hand}
+use Rattle.hb_activity.specs.Walks.{walk_held}
+use Rattle.hb_core.specs.Keeps.{KnowsRoom, LatchesFit, WalksInSpace}
+use Rattle.hb_core.specs.KeptFits.{AttributesFit, IsBoxOf, JobFits, LineFits, StandsAbove, WorkersStand, boxes_left, class_for, walking_job}
+use Rattle.hb_core.specs.KeptLines.{HasLineBody, MarksInPlace}
+use Rattle.hb_core.specs.KeptMachine.{MachineKeeps}
+use Rattle.hb_core.specs.KeptMerges.{NamesKnown, merging_at}
+use Rattle.hb_core.specs.KeptOrder.{FollowMarks, HasLegalOrder, HasPendingPrefix, StandsInOrder, StandsOutside}
+use Rattle.hb_core.specs.KeptPlaces.{AnswersAreSingle, OrderIsShort, RepliesStand}
+use Rattle.hb_core.specs.KeptTurns.{IsInTurn, LinesInTurn, awaited_number}
+use Rattle.hb_core.specs.Machines.{Machine, settled_count}
+use Rattle.hb_core.specs.Performing.{latches_held, mode_among}
+use Rattle.hb_core.specs.SteppingLaws.{BeginningExists, BeginningKeeps, BeginningKeepsAll, IsBegun}
+use Rattle.hb_latch.specs.Modes.{goes_beside}
+use Rattle.hb_latch.specs.Tables.{MayLatch, latch_cmp, mode_at}
+use Rattle.hb_layout.specs.Limits.{IsLayout}
+use Rattle.hb_ops.specs.Files.{FileState, contents_of}
+use Rattle.hb_ops.specs.Sound.{IsSound}
+use Rattle.hb_point.specs.SessionRows.{is_answered, next_line}
+use Rattle.hb_set.specs.Order.{Entry, IsLegalOrder, result_of}
+use Rattle.hb_store.specs.States.{IsStanding, new_state}
+use Rattle.hb_wal.specs.Log.{LogState, Waiting}
+
+no_pairs : {X : Type 0} (R : X → X → Type 0) → AllPairs R []
+no_pairs R i j d lt inside = absurd (omega (arith, inside))
+
+-- ---- an actor with nothing in hand
+
+-- What holds of an activity with nothing in hand, of whatever kind.
+record OfEachIdle (P : Activity → Type 0) : Type 0 where
+  session : P at.SessionIdle
+  poster : P at.PosterIdle
+  consolidator : P at.ConsolidatorIdle
+  flusher : P at.Flusher
+
+of_idle : (P : Activity → Type 0) → OfEachIdle P → (kind : Class) → P (idle_of kind)
+of_idle P each Sessions = each.session
+of_idle P each Posters = each.poster
+of_idle P each Consolidators = each.consolidator
+of_idle P each Flushers = each.flusher
+
+idle_kind : (kind : Class) → class_of (idle_of kind) ≡ kind
+idle_kind Sessions = refl
+idle_kind Posters = refl
+idle_kind Consolidators = refl
+idle_kind Flushers = refl
+
+-- it isn't one of these, which have something in hand, or walk
+walk_or_not : (line : Line) (held : Option ℕ) (rest found : _) → OfEachIdle (λ a. a ≢ at.SessionWalk line held rest found)
+walk_or_not line held rest found = record { session = λ is. cc; poster = λ is. cc; consolidator = λ is. cc; flusher = λ is. cc }
+
+split_or_not : (line : Line) (held : ℕ) → OfEachIdle (λ a. a ≢ at.SessionSplit line held)
+split_or_not line held = record { session = λ is. cc; poster = λ is. cc; consolidator = λ is. cc; flusher = λ is. cc }
+
+put_or_not : (line : Line) (source fresh : ℕ) → OfEachIdle (λ a. a ≢ at.SessionPut line source fresh)
+put_or_not line source fresh = record { session = λ is. cc; poster = λ is. cc; consolidator = λ is. cc; flusher = λ is. cc }
+
+await_or_not : (number : ℕ) (reply : _) (place : ℕ) → OfEachIdle (λ a. a ≢ at.SessionAwait number reply place)
+await_or_not number reply place = record { session = λ is. cc; poster = λ is. cc; consolidator = λ is. cc; flusher = λ is. cc }
+
+child_or_not : (job : Job) (parent : ℕ) → OfEachIdle (λ a. a ≢ at.PosterChild job parent)
+child_or_not job parent = record { session = λ is. cc; poster = λ is. cc; consolidator = λ is. cc; flusher = λ is. cc }
+
+promote_or_not : (job : Job) (parent : ℕ) → OfEachIdle (λ a. a ≢ at.PosterPromote job parent)
+promote_or_not job parent = record { session = λ is. cc; poster = λ is. cc; consolidator = λ is. cc; flusher = λ is. cc }
+
+again_or_not : (job : Job) (parent : ℕ) → OfEachIdle (λ a. a ≢ at.PosterAgain job parent)
+again_or_not job parent = record { session = λ is. cc; poster = λ is. cc; consolidator = λ is. cc; flusher = λ is. cc }
+
+holds_or_not : (held : ℕ) → OfEachIdle (λ a. walk_held a ≢ Some held)
+holds_or_not held = record { session = λ is. cc; poster = λ is. cc; consolidator = λ is. cc; flusher = λ is. cc }
+
+-- under a number that is none of an actor an idle session stands
+nobodys_kind : (actor : ℕ) → ¬ (MayLatch actor) → class_for actor ≡ Sessions
+nobodys_kind actor none = elim (cases_Bool (actor == 17)) [
+  | inl is ↦ absurd (none (one 17 (eqb-true actor 17 is) (omega arith) (omega arith)))
+  | inr off ↦ first off ∙ elim (cases_Bool (actor == 18)) [
+    | inl is ↦ absurd (none (one 18 (eqb-true actor 18 is) (omega arith) (omega arith)))
+    | inr other ↦ second other ∙ elim (cases_Bool (actor == 19)) [
+      | inl is ↦ absurd (none (one 19 (eqb-true actor 19 is) (omega arith) (omega arith)))
+      | inr last ↦ ap (λ (b : Bool). cond b Flushers Sessions) last
+    ]
+  ]
+]
+  where
+    one : (n : ℕ) → actor ≡ n → 1 ≤ n → n ≤ 19 → MayLatch actor
+    one n is low high = subst MayLatch (sym is) (record { from_1 = low; to_19 = high })
+
+    first : (actor == 17) ≡ false → class_for actor ≡ cond (actor == 18) Consolidators (cond (actor == 19) Flushers Sessions)
+    first off = ap (λ (b : Bool). cond b Posters (cond (actor == 18) Consolidators (cond (actor == 19) Flushers Sessions))) off
+
+    second : (actor == 18) ≡ false → cond (actor == 18) Consolidators (cond (actor == 19) Flushers Sessions) ≡ cond (actor == 19) Flushers Sessions
+    second off = ap (λ (b : Bool). cond b Consolidators (cond (actor == 19) Flushers Sessions)) off
+
+-- ---- what it keeps
+
+-- another line, another one's answer, and a mark that isn't behind another one
+abbrev OtherLine : Entry → Entry → Type 0
+OtherLine e f = e.line.number ≢ f.line.number
+
+abbrev OtherAnswer : Answered → Answered → Type 0
+OtherAnswer a b = a.line ≢ b.line
+
+abbrev NoLater : Waiting → Waiting → Type 0
+NoLater g h = g.mark ≤ h.mark
+
+module _ (m : Machine) (begun : IsBegun m) where
+  -- each actor has nothing in hand
+  of_each : (P : Activity → Type 0) → OfEachIdle P → (actor : ℕ) → P (m.activity actor)
+  of_each P each actor = subst P (sym (begun.idle actor)) (of_idle P each (class_for actor))
+
+  no_answer : (number : ℕ) → IsTrue (is_answered number m.answered) → ⊥
+  no_answer number has = cc (subst (λ (l : List Answered). IsTrue (is_answered number l)) begun.unanswered has)
+
+  no_mode : (actor page : ℕ) (mode : Mode) → mode_at m.latches actor page ≡ Some mode → ⊥
+  no_mode actor page mode some = let never : None ≡ Some mode = sym (begun.unlatched actor page) ∙ some in cc never
+
+  no_group : m.store.log.groups ≡ []
+  no_group = ap (λ (log : LogState). log.groups) begun.store.log
+
+  all_entries : (P : Entry → Type 0) → All P m.order
+  all_entries P = subst (λ (l : List Entry). All P l) (sym begun.no_order) (All-nil P)
+
+  all_answers : (P : Answered → Type 0) → All P m.answered
+  all_answers P = subst (λ (l : List Answered). All P l) (sym begun.unanswered) (All-nil P)
+
+  all_jobs : (P : Job → Type 0) → All P m.jobs
+  all_jobs P = subst (λ (l : List Job). All P l) (sym begun.no_job) (All-nil P)
+
+  all_groups : (P : Waiting → Type 0) → All P m.store.log.groups
+  all_groups P = subst (λ (l : List Waiting). All P l) (sym no_group) (All-nil P)
+
+  marks_begin : MarksInPlace m
+  marks_begin = let stands = begun.store.stands in record { layout = stands.layout; high = stands.high; live = stands.live; root = stands.root_fits; free = stands.free_fits }
+
+  attributes_begin : AttributesFit m
+  attributes_begin = record {
+    script = begun.lines_fit;
+    in_hand = of_each (λ a. IfSome (line_in_hand a) (LineFits m.store.meta.k)) (record { session = tt; poster = tt; consolidator = tt; flusher = tt });
+    boxes = of_each (λ a. All (IsBoxOf m.store.meta.k) (boxes_left a)) (record { session = none; poster = none; consolidator = none; flusher = none });
+    box_left = λ actor line held rest found is wants. absurd (of_each _ (walk_or_not line held rest found) actor is);
+    waiting = all_jobs (JobFits m.store.meta.k);
+    in_work = of_each (λ a. IfSome (job_in_work a) (JobFits m.store.meta.k)) (record { session = tt; poster = tt; consolidator = tt; flusher = tt });
+  }
+    where
+      none : All (IsBoxOf m.store.meta.k) []
+      none = All-nil (IsBoxOf m.store.meta.k)
+
+  turns_begin : LinesInTurn m
+  turns_begin = record {
+    rising = begun.rising;
+    in_hand = λ actor. of_each (λ a. IfSome (line_in_hand a) (λ line. next_line actor m.answered m.lines ≡ Some line)) (record { session = tt; poster = tt; consolidator = tt; flusher = tt }) actor;
+    awaited = λ actor. of_each (λ a. IfSome (awaited_number a) (λ number. IsSomeAnd (next_line actor m.answered m.lines) (λ line. line.number ≡ number))) (record { session = tt; poster = tt; consolidator = tt; flusher = tt }) actor;
+    placed = all_entries (IsInTurn m);
+    turns = λ first second among also same lower has. absurd (no_answer second.number has);
+  }
+
+  order_begins : OrderIsShort m
+  order_begins = record {
+    once = subst (λ (l : List Entry). AllPairs OtherLine l) (sym begun.no_order) (no_pairs OtherLine);
+    few = let none = ap length begun.no_order in omega (arith, none);
+  }
+
+  replies_begin : RepliesStand m
+  replies_begin = record {
+    awaits = λ actor number place reply is. absurd (of_each _ (await_or_not number reply place) actor is);
+    inside = λ actor number place reply is. absurd (of_each _ (await_or_not number reply place) actor is);
+    answers = all_answers (λ (a : Answered). StandsOutside a.reply ⊎ ((place : ℕ) × StandsInOrder m a.line a.reply place));
+  }
+
+  answers_begin : AnswersAreSingle m
+  answers_begin = record {
+    once = subst (λ (l : List Answered). AllPairs OtherAnswer l) (sym begun.unanswered) (no_pairs OtherAnswer);
+    outside = all_answers (λ (a : Answered). StandsOutside a.reply → All (λ (e : Entry). e.line.number ≢ a.line) m.order);
+  }
+
+  latches_begin : LatchesFit m
+  latches_begin = record {
+    compatible = λ actor other page apart. subst (λ (o : Option Mode). IfSome o (λ mode. IfSome (mode_at m.latches other page) (λ held. IsTrue (goes_beside mode held)))) (sym (begun.unlatched actor page)) tt;
+    exact = λ actor page may. begun.unlatched actor page ∙ of_each (λ a. None ≡ mode_among page (latches_held m.store a)) (record { session = refl; poster = refl; consolidator = refl; flusher = refl }) actor;
+    used = λ actor page mode holds. absurd (no_mode actor page mode holds);
+    walking = λ actor held may walks. absurd (of_each _ (holds_or_not held) actor walks);
+  }
+
+  walks_begin : WalksInSpace m
+  walks_begin = record {
+    held = λ actor held page walks live. absurd (of_each _ (holds_or_not held) actor walks);
+    parents = λ actor job parent stands. absurd (no_parent actor job parent stands);
+    merging = of_each (λ a. IfSome (merging_at a) (NamesKnown m.store)) (record { session = tt; poster = tt; consolidator = tt; flusher = tt });
+  }
+    where
+      no_parent : (actor : ℕ) (job : Job) (parent : ℕ) → (m.activity actor ≡ at.PosterChild job parent) ⊎ (m.activity actor ≡ at.PosterPromote job parent) ⊎ (m.activity actor ≡ at.PosterAgain job parent) → ⊥
+      no_parent actor job parent (inl is) = of_each _ (child_or_not job parent) actor is
+      no_parent actor job parent (inr (inl is)) = of_each _ (promote_or_not job parent) actor is
+      no_parent actor job parent (inr (inr is)) = of_each _ (again_or_not job parent) actor is
+
+  workers_begin : WorkersStand m
+  workers_begin actor = of_each (λ a. IfSome (walking_job a) (StandsAbove m.store (walk_held a))) (record { session = tt; poster = tt; consolidator = tt; flusher = tt }) actor
+
+  room_begins : KnowsRoom m
+  room_begins = record {
+    splits = λ actor held line is. absurd (of_each _ (split_or_not line held) actor is);
+    puts = λ actor source fresh line is. absurd (of_each _ (put_or_not line source fresh) actor is);
+  }
+
+  groups_rise : AllPairs NoLater m.store.log.groups
+  groups_rise = subst (λ (l : List Waiting). AllPairs NoLater l) (sym no_group) (no_pairs NoLater)
+
+  pub begins : MachineKeeps m
+  begins = record {
+    marks_in_place = marks_begin;
+    lines_fit = record { script = begun.bodies; in_hand = of_each (λ a. IfSome (line_in_hand a) HasLineBody) (record { session = tt; poster = tt; consolidator = tt; flusher = tt }) };
+    attributes_fit = attributes_begin;
+    lines_in_turn = turns_begin;
+    order_short = order_begins;
+    replies_stand = replies_begin;
+    answers_single = answers_begin;
+    pages_of_file = begun.store.pages;
+    classes = λ actor. ap class_of (begun.idle actor) ∙ idle_kind (class_for actor);
+    nobody_else = λ actor none. begun.idle actor ∙ ap idle_of (nobodys_kind actor none);
+    latches_fit = latches_begin;
+    no_other_latches = λ actor page none. begun.unlatched actor page;
+    walk_in_space = walks_begin;
+    workers_stand = workers_begin;
+    room_known = room_begins;
+    marks_rise = record { rising = groups_rise; inside = all_groups (λ (g : Waiting). g.mark ≤ length m.order) };
+    runs = λ runs. begun.store.runs;
+  }
+
+  -- ---- over a disk that tells
+
+  order_legal_then : (s : FileState) → HasLegalOrder (contents_of s) m (record { durable = s; later = [] })
+  order_legal_then s = record {
+    legal = subst (λ (l : List Entry). IsLegalOrder (contents_of s) l) (sym begun.no_order) (record { replies = tt; sessions = tt });
+    result = ap (result_of (contents_of s)) begun.no_order;
+    awaits = replies_begin.awaits;
+    answers = replies_begin.answers;
+  }
+
+  pending_then : (s : FileState) → HasPendingPrefix (contents_of s) m (record { durable = s; later = [] })
+  pending_then s = record {
+    marks = subst (λ (l : List Waiting). FollowMarks (contents_of s) m.order s l []) (sym no_group) tt;
+    rising = groups_rise;
+    settled = all_answers (λ (a : Answered). (place : ℕ) → StandsInOrder m a.line a.reply place → place < settled_count m);
+  }
+
+pub beginning_keeps : BeginningKeeps
+beginning_keeps m begun = begins m begun
+
+pub beginning_keeps_all : BeginningKeepsAll
+beginning_keeps_all m s over = record {
+  told = over.told;
+  kept = begins m over.begun;
+  sound_file = record {
+    durable = over.sound;
+    later = All-nil IsSound;
+    each = sym (ap length (no_group m over.begun));
+    layout = over.begun.store.stands.layout;
+    meta = over.meta;
+    shown = over.shown;
+  };
+  order_legal = order_legal_then m over.begun s;
+  pending_prefix = pending_then m over.begun s;
+}
+
+-- ---- there is one
+
+-- a machine that has taken no step, over this file
+abbrev fresh_machine : FileState → ℕ → List Line → ℕ → Machine
+fresh_machine s turn lines clock = record {
+  lines = lines;
+  answered = [];
+  activity = λ actor. idle_of (class_for actor);
+  latches = map.empty;
+  jobs = [];
+  order = [];
+  stop = None;
+  store = new_state turn s.meta;
+  files = Some (record { durable = s; later = [] });
+  clock = clock;
+}
+
+no_page : (id : ℕ) → map.get (map.empty {X = Page} {R = nat_cmp}) id ≡ None
+no_page id = map.get-empty nat_cmp id
+
+no_page_there : (id : ℕ) (page : Page) → map.get (map.empty {X = Page} {R = nat_cmp}) id ≡ Some page → ⊥
+no_page_there id page is = let never : None ≡ Some page = sym (no_page id) ∙ is in cc never
+
+-- a sound file stands within its limits
+stands_within : (s : FileState) (turn : ℕ) → IsSound s → IsLayout s.meta → turn ≤ 3 → IsStanding turn s.meta
+stands_within s turn sound layout few =
+    let marks = sound.rooted in
+    record {
+      turn_fits = few;
+      layout = layout;
+      some = marks.some;
+      high = marks.high;
+      live = omega (arith, marks.live, marks.high);
+      root_fits = omega (arith, marks.root, marks.high, layout.few_pages);
+      free_fits = omega (arith, marks.free, marks.high, layout.few_pages);
+    }
+
+pub beginning_exists : BeginningExists
+beginning_exists s turn lines clock sound layout few rising bodies fit = (
+  fresh_machine s turn lines clock,
+  record {
+    begun = record {
+      begun = record {
+        rising = rising;
+        bodies = bodies;
+        lines_fit = fit;
+        unanswered = refl;
+        idle = λ actor. refl;
+        unlatched = λ actor page. map.get-empty latch_cmp (actor, page);
+        no_job = refl;
+        no_order = refl;
+        runs = refl;
+        store = record {
+          stands = stands_within s turn sound layout few;
+          log = refl;
+          none_imaged = λ id. set.contains-empty nat_cmp id;
+          runs = refl;
+          pages = λ id page is. absurd (no_page_there id page is);
+        };
+      };
+      told = refl;
+      meta = refl;
+      shown = λ id page is. absurd (no_page_there id page is);
+      sound = sound;
+    };
+    turn_is = refl;
+    lines_are = refl;
+    clock_is = refl;
+  },
+)

@@ -1,0 +1,155 @@
+-- After a step every page in memory is one of the file and good, and what the file says of itself is within its limits.
+use Rattle.hb_core.proofs.Memory.CommitPages.{commit_pages}
+use Rattle.std.proofs.Common.{◌≡◌, inl, inr, ℕ, ◌<◌, ◌≤◌, ◌^◌, Option, Some, None, refl, sym, ap, ◌∙◌, subst, arith}
+use Rattle.hb_frag.specs.declared.pages.Page.{Page}
+use Rattle.hb_layout.specs.declared.meta.Meta.{Meta}
+use Rattle.hb_ops.specs.declared.operations.Op.{Op}
+use Rattle.hb_core.specs.declared.outcomes.Outcome.{Outcome}
+use Rattle.hb_core.specs.declared.outcomes.Outcome.TheVariants as outcomes
+use Rattle.hb_activity.specs.Deeds.{Deed, does}
+use Rattle.hb_core.proofs.Memory.BroughtPages.{same_there}
+use Rattle.hb_core.proofs.Files.FitOps.{HeldArePoints, fits_op}
+use Rattle.hb_core.proofs.Files.GoodChanges.{IsGoodChange, each_set, good_change}
+use Rattle.hb_core.proofs.Memory.OwnPages.{gives_up_nothing, runs_out_nothing}
+use Rattle.hb_core.proofs.Files.RowTells.{Tells, TellsOp, tells_row}
+use Rattle.hb_core.proofs.Table.StepKinds.{each_kind, FlushesMore, rest_kind}
+use Rattle.hb_core.specs.Acting.{MeetsBadPage}
+use Rattle.hb_core.specs.Asking.{wanted_by}
+use Rattle.hb_core.specs.Fetching.{Brings}
+use Rattle.hb_core.specs.FileLaws.{MarksStayInPlace, PagesStayOfFile}
+use Rattle.hb_core.specs.Forcing.{ForcesFirst, StaysSo, FailsToWrite, FlushesWell}
+use Rattle.hb_core.specs.Keeps.{HoldsPagesOfFile}
+use Rattle.hb_core.specs.KeptLines.{LinesFit, MarksInPlace}
+use Rattle.hb_core.specs.Machines.{Machine}
+use Rattle.hb_core.specs.Performing.{MayDo, Performs}
+use Rattle.hb_core.specs.Steps.{StepsTo, Works}
+use Rattle.hb_store.specs.Calls.{IsAllowedHere, change_here, read_here}
+use Rattle.hb_store.specs.Making.{HaveFittingParts, MakesGoodPages}
+use Rattle.hb_store.specs.Replaying.{HasLimits}
+use Rattle.hb_store.specs.States.{AreGood, IsGoodPage, StoreState, in_memory}
+
+-- What a store keeps of its pages and of what its file says of itself.
+pub record KeepsPages (st : StoreState) : Type 0 where
+  pub limits : HasLimits st.meta
+  pub high : st.meta.high ≤ st.meta.pages
+  pub live : st.meta.live ≤ st.meta.pages
+  pub free : st.meta.free < 2 ^ 32
+  pub framed : AreGood st.meta (in_memory st)
+
+pub keeps_pages : (m : Machine) → MarksInPlace m → HoldsPagesOfFile m → KeepsPages m.store
+keeps_pages m marks inside = record { limits = record { layout = marks.layout; root_fits = marks.root }; high = marks.high; live = marks.live; free = marks.free; framed = inside }
+
+pub pages_kept : (m : Machine) → KeepsPages m.store → HoldsPagesOfFile m
+pages_kept m keeps = keeps.framed
+
+pub marks_kept : (m : Machine) → KeepsPages m.store → MarksInPlace m
+marks_kept m keeps = record { layout = keeps.limits.layout; high = keeps.high; live = keeps.live; root = keeps.limits.root_fits; free = keeps.free }
+
+-- what a fetch brings keeps it
+pub brought : (m : Machine) (may : ℕ → Type 0) (fetched : StoreState) → Brings m may fetched → KeepsPages m.store → KeepsPages fetched
+brought m may fetched brings keeps =
+    let meta : m.store.meta ≡ fetched.meta = sym brings.rest.meta in
+    record {
+      limits = subst HasLimits meta keeps.limits;
+      high = subst (λ (meta : Meta). meta.high ≤ meta.pages) meta keeps.high;
+      live = subst (λ (meta : Meta). meta.live ≤ meta.pages) meta keeps.live;
+      free = subst (λ (meta : Meta). meta.free < 2 ^ 32) meta keeps.free;
+      framed = λ id page there. subst (λ (meta : Meta). (1 ≤ id) × (id ≤ meta.high) × IsGoodPage meta page) meta (by id page there (in_memory m.store id) refl);
+    }
+  where
+    by : (id : ℕ) (page : Page) → (in_memory fetched) id ≡ Some page → (o : Option Page) → (in_memory m.store) id ≡ o → (1 ≤ id) × (id ≤ m.store.meta.high) × IsGoodPage m.store.meta page
+    by id page there None none = brings.good id page none there
+    by id page there (Some old) some = keeps.framed id page (sym (same_there m may fetched brings id old page some there) ∙ there)
+
+-- and so does another store with the same file and the same pages in memory
+pub same_pages : (old new : StoreState) → new.meta ≡ old.meta → ((id : ℕ) → in_memory new id ≡ in_memory old id) → KeepsPages old → KeepsPages new
+same_pages old new meta memory keeps = record {
+  limits = subst HasLimits (sym meta) keeps.limits;
+  high = subst (λ (meta : Meta). meta.high ≤ meta.pages) (sym meta) keeps.high;
+  live = subst (λ (meta : Meta). meta.live ≤ meta.pages) (sym meta) keeps.live;
+  free = subst (λ (meta : Meta). meta.free < 2 ^ 32) (sym meta) keeps.free;
+  framed = λ id page there. subst (λ (meta : Meta). (1 ≤ id) × (id ≤ meta.high) × IsGoodPage meta page) (sym meta) (keeps.framed id page (sym (memory id) ∙ there));
+}
+
+-- so what an operation makes, where it may be done
+module _ (makes : MakesGoodPages) (parts : HaveFittingParts) (points : HeldArePoints) where
+  pub change_is_well : (st : StoreState) (op : Op) → KeepsPages st → TellsOp st op → IsAllowedHere st op → IsGoodChange st.meta (change_here st op)
+  change_is_well st op keeps tells allowed =
+      good_change makes st.meta keeps.limits (in_memory st) keeps.framed op (read_here st op 1) (read_here st op 2) (fits_op points parts st keeps.limits keeps.high keeps.framed op tells allowed) allowed
+
+  done : (op : Option Op) (mark : ℕ) (old new : StoreState) → KeepsPages old → Tells old op → MayDo op mark old new → KeepsPages new
+  done None mark old new keeps tells same = subst KeepsPages (sym same) keeps
+  done (Some op) mark old new keeps tells does =
+      let change = change_here old op in
+      let well = change_is_well old op keeps tells does.allowed in
+      let after = well.after in
+      let meta : change.meta ≡ new.meta = sym does.commits.meta in
+      record {
+        limits = subst HasLimits meta after.limits;
+        high = subst (λ (meta : Meta). meta.high ≤ meta.pages) meta (after.high keeps.high);
+        live = subst (λ (meta : Meta). meta.live ≤ meta.pages) meta (after.live keeps.live);
+        free = subst (λ (meta : Meta). meta.free < 2 ^ 32) meta (after.free keeps.free);
+        framed = λ id page there. subst (λ (meta : Meta). (1 ≤ id) × (id ≤ meta.high) × IsGoodPage meta page) meta
+            (each_set (λ n p. (1 ≤ n) × (n ≤ change.meta.high) × IsGoodPage change.meta p) change.pages (in_memory old)
+            (λ k d lt. let c = well.pages k d lt in (c.0.0, c.0.1, c.1))
+            (λ n p is. let was = keeps.framed n p is in (was.0, omega (arith, was.1, after.rises), well.others p was.2))
+            id page (sym (commit_pages _ _ _ _ does.commits id) ∙ there));
+      }
+
+  module _ (m : Machine) (actor : ℕ) (outcome : Outcome) (new : Machine) (fit : LinesFit m) (keeps : KeepsPages m.store) where
+    same_store : new.store ≡ m.store → KeepsPages new.store
+    same_store is = subst KeepsPages (sym is) keeps
+
+    stays : (said : Outcome) → StaysSo m said outcome new → KeepsPages new.store
+    stays said (says, is) = same_store (ap (λ (n : Machine). n.store) is)
+
+    -- so does what changes the log and the marks alone, and a write that fails
+    flushes : {due : Outcome} → FlushesWell m due outcome new → KeepsPages new.store
+    flushes well = subst (λ (n : Machine). KeepsPages n.store) (sym well.leaves) (same_pages m.store well.store well.meta well.memory keeps)
+
+    fails_so : {most : ℕ} → FailsToWrite m most outcome new → KeepsPages new.store
+    fails_so fails = subst (λ (n : Machine). KeepsPages n.store) (sym fails.stops) (record { limits = keeps.limits; high = keeps.high; live = keeps.live; free = keeps.free; framed = keeps.framed })
+
+    flushed_more : FlushesMore m outcome new → KeepsPages new.store
+    flushed_more (none, left, inl (due, quiet, well)) = flushes well
+    flushed_more (none, left, inr fails) = fails_so fails
+
+    -- a force changes the log alone
+    forces : (said : Outcome) → ForcesFirst m said outcome new → KeepsPages new.store
+    forces said (inl (says, is)) = subst (λ (n : Machine). KeepsPages n.store) (sym is) (record { limits = keeps.limits; high = keeps.high; live = keeps.live; free = keeps.free; framed = keeps.framed })
+    forces said (inr badly) = fails_so badly.1
+
+    meets : MeetsBadPage m actor outcome new → KeepsPages new.store
+    meets bad = subst (λ (n : Machine). KeepsPages n.store) (sym bad.stops) (brought m _ bad.fetched bad.brings keeps)
+
+    performed : (fetched : StoreState) (deed : Deed) → KeepsPages fetched → Tells fetched deed.op → Performs m fetched actor deed outcome new → KeepsPages new.store
+    performed fetched deed keeps tells performs = done deed.op _ fetched new.store keeps tells performs.store
+
+    nothing_told : (fetched : StoreState) (op : Option Op) → op ≡ None → Tells fetched op
+    nothing_told fetched op none = subst (Tells fetched) (sym none) tt
+
+    worked : Works m actor outcome new → KeepsPages new.store
+    worked (inl (by, way, so)) = stays (outcomes.Blocked by) so
+    worked (inr (inl (free, unready, inl (waits, force)))) = forces outcomes.Helped force
+    worked (inr (inl (free, unready, inr (none, rest)))) =
+        rest_kind m outcomes.Helped outcome new _ (KeepsPages new.store) none (λ at. refl) flushed_more (λ performs. performed m.store _ keeps (nothing_told m.store _ (runs_out_nothing (m.activity actor))) performs) rest
+    worked (inr (inr (free, ready, inl acts))) =
+        performed acts.fetched acts.deed (brought m _ acts.fetched acts.brings keeps) (tells_row m actor _ acts.fetched acts.brings (wanted_by m actor) acts.deed refl (fit.in_hand actor) acts.row) acts.performs
+    worked (inr (inr (free, ready, inr (inl gives)))) = performed gives.fetched _ (brought m _ gives.fetched gives.brings keeps) (nothing_told gives.fetched _ (gives_up_nothing gives.why (m.activity actor))) gives.performs
+    worked (inr (inr (free, ready, inr (inr bad)))) = meets bad
+
+  pub pages_stay : (m : Machine) (actor : ℕ) (outcome : Outcome) (new : Machine) → LinesFit m → KeepsPages m.store → StepsTo m actor outcome new → KeepsPages new.store
+  pages_stay m actor outcome new fit keeps step =
+      each_kind m actor outcome new (KeepsPages new.store)
+      (λ said quiet so. stays m actor outcome new fit keeps said so)
+      (λ said quiet force. forces m actor outcome new fit keeps said force)
+      (flushed_more m actor outcome new fit keeps)
+      (λ deed rests performs. performed m actor outcome new fit keeps m.store deed keeps (nothing_told m actor outcome new fit keeps m.store deed.op rests.op) performs)
+      (worked m actor outcome new fit keeps)
+      step
+
+  pub pages_stay_of_file : PagesStayOfFile
+  pages_stay_of_file m actor outcome new fit marks inside step = pages_kept new (pages_stay m actor outcome new fit (keeps_pages m marks inside) step)
+
+  pub marks_stay_in_place : MarksStayInPlace
+  marks_stay_in_place m actor outcome new fit marks inside step = marks_kept new (pages_stay m actor outcome new fit (keeps_pages m marks inside) step)

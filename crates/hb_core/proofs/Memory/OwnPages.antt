@@ -1,0 +1,163 @@
+-- A step changes no page in use but those that its actor has for itself.
+use Rattle.hb_core.proofs.Memory.CommitPages.{commit_pages}
+use Rattle.std.proofs.Common.{◌≡◌, ◌≢◌, ◌⊎◌, inl, inr, ℕ, true, Option, Some, None, IsSome, IfSome, IsTrue, refl, sym, ap, ◌∙◌, subst}
+use Rattle.std.proofs.lemmas.Bool.{false≢true}
+use Rattle.hb_frag.specs.declared.pages.LivePage.{LivePage}
+use Rattle.hb_frag.specs.declared.pages.Page.{Page}
+use Rattle.hb_frag.specs.declared.pages.Page.TheVariants.{Live}
+use Rattle.hb_ops.specs.declared.operations.Op.{Op}
+use Rattle.hb_latch.specs.declared.modes.Mode.{Mode}
+use Rattle.hb_latch.specs.declared.modes.Mode.TheVariants.{Shared, Update, Exclusive}
+use Rattle.hb_activity.specs.declared.wanting.Wanted.{Wanted}
+use Rattle.hb_activity.specs.declared.activities.Activity.{Activity}
+use Rattle.hb_activity.specs.declared.dropping.DropWhy.{DropWhy}
+use Rattle.hb_core.specs.declared.outcomes.Outcome.{Outcome}
+use Rattle.hb_core.specs.declared.outcomes.Outcome.TheVariants as outcomes
+use Rattle.hb_activity.specs.Deeds.{Deed, does}
+use Rattle.hb_core.proofs.Memory.BroughtPages.{stays_or_left}
+use Rattle.hb_core.proofs.Table.GivenUp.{given_up_is, run_out_is}
+use Rattle.hb_core.proofs.Memory.OwnedOps.{IsFreeFor, OwnsTargets, allowed_by, owned_row}
+use Rattle.hb_core.proofs.Table.StepKinds.{IsOutright, each_kind, FlushesMore, rest_kind}
+use Rattle.hb_core.proofs.Table.Targets.{IsNumber, numbers_are_targets, set_elsewhere}
+use Rattle.hb_core.specs.Asking.{wanted_by}
+use Rattle.hb_core.specs.Fetching.{Brings, MustStay}
+use Rattle.hb_core.specs.Forcing.{ForcesFirst, StaysSo, FailsToWrite, FlushesWell}
+use Rattle.hb_core.specs.GivingUp.{gives_up, runs_out}
+use Rattle.hb_core.specs.Keeps.{HoldsPagesOfFile, LatchesFit}
+use Rattle.hb_core.specs.Laws.{HasAlone, HeldPagesStay, IsInUse, OwnPagesChange, TakesAlone, MayHaveLeft}
+use Rattle.hb_core.specs.Machines.{Machine}
+use Rattle.hb_core.specs.Performing.{MayDo, Performs}
+use Rattle.hb_core.specs.Steps.{GetsReady, Works}
+use Rattle.hb_latch.specs.Modes.{goes_beside}
+use Rattle.hb_latch.specs.Tables.{IsGrantable, MayLatch, mode_at}
+use Rattle.hb_store.specs.Calls.{change_here, read_here}
+use Rattle.hb_store.specs.Replay.{set_pages}
+use Rattle.hb_store.specs.States.{StoreState, in_memory}
+
+-- what a line or a job that can't go on does to the file
+pub gives_up_nothing : (why : DropWhy) (activity : Activity) → (gives_up why activity).op ≡ None
+gives_up_nothing why activity = given_up_is (λ deed. deed.op ≡ None) why activity (λ line is. refl) (λ job is. refl) (λ is. refl)
+
+pub runs_out_nothing : (activity : Activity) → (runs_out activity).op ≡ None
+runs_out_nothing activity = run_out_is (λ deed. deed.op ≡ None) activity (λ line is. refl) (λ job is. refl) (λ is. refl)
+
+is_there : (o : Option Page) (page : Page) → o ≡ Some page → IsSome o
+is_there o page is = subst (λ (o : Option Page). IsSome o) (sym is) refl
+
+module _ (m : Machine) (actor : ℕ) (latches : MayLatch actor) (fit : LatchesFit m) (inside : HoldsPagesOfFile m) (new : Machine) (id : ℕ) (page : LivePage) (used : IsInUse m id page) where
+  abbrev pub Goal : Type 0
+  Goal = IsInUse new id page ⊎ MayHaveLeft m id new ⊎ HasAlone m actor id
+
+  -- the page stays where the memory stays
+  same_memory : new.store ≡ m.store → Goal
+  same_memory is = inl (ap (λ (st : StoreState). in_memory st id) is ∙ used)
+
+  -- what was fetched leaves it, or it has left
+  abbrev Remains : StoreState → Type 0
+  Remains fetched = (in_memory fetched id ≡ Some (Live page)) ⊎ ((¬ (MustStay m id)) × (in_memory fetched id ≡ None))
+
+  -- and so does what is done on other pages
+  carried : (st : StoreState) → in_memory new.store id ≡ in_memory st id → Remains st → Goal
+  carried st same (inl there) = inl (same ∙ there)
+  carried st same (inr (may, gone)) = inr (inl (may, same ∙ gone))
+
+  done : (op : Option Op) (mark : ℕ) (fetched : StoreState) → Remains fetched → OwnsTargets m actor op → MayDo op mark fetched new.store → Goal
+  done None mark fetched there owned does = carried fetched (ap (λ (st : StoreState). in_memory st id) does) there
+  done (Some op) mark fetched there owned does = by (set_elsewhere (change_here fetched op).pages (in_memory fetched) id)
+    where
+      by : (set_pages (change_here fetched op).pages (in_memory fetched) id ≡ in_memory fetched id) ⊎ IsNumber id (change_here fetched op).pages → Goal
+      by (inl same) = carried fetched (commit_pages _ _ _ _ does.commits id ∙ same) there
+      by (inr number) = free (owned id (numbers_are_targets op fetched.meta (read_here fetched op 0) (read_here fetched op 1) (read_here fetched op 2) id number))
+        where
+          free : IsFreeFor m actor id → Goal
+          free (inl alone) = inr (inr alone)
+          free (inr never) = absurd (never page used)
+
+  performed : (may : ℕ → Type 0) (fetched : StoreState) (deed : Deed) (outcome : Outcome) → Brings m may fetched → OwnsTargets m actor deed.op → Performs m fetched actor deed outcome new → Goal
+  performed may fetched deed outcome brings owned performs = done deed.op _ fetched (stays_or_left m may fetched brings id (Live page) used) owned performs.store
+
+  -- with no operation
+  owns_nothing : (op : Option Op) → op ≡ None → OwnsTargets m actor op
+  owns_nothing op is = subst (OwnsTargets m actor) (sym is) tt
+
+  only_moved : (deed : Deed) (outcome : Outcome) → deed.op ≡ None → Performs m m.store actor deed outcome new → Goal
+  only_moved deed outcome none performs = done deed.op _ m.store (inl used) (owns_nothing deed.op none) performs.store
+
+  failed : {most : ℕ} {outcome : Outcome} → FailsToWrite m most outcome new → Goal
+  failed fails = inl (ap (λ (n : Machine). in_memory n.store id) fails.stops ∙ used)
+
+  flushes : {due outcome : Outcome} → FlushesWell m due outcome new → Goal
+  flushes well = inl (ap (λ (n : Machine). in_memory n.store id) well.leaves ∙ well.memory id ∙ used)
+
+  flushed_more : (outcome : Outcome) → FlushesMore m outcome new → Goal
+  flushed_more outcome (none, left, inl (due, quiet, well)) = flushes well
+  flushed_more outcome (none, left, inr fails) = failed fails
+
+  forced : (said outcome : Outcome) → ForcesFirst m said outcome new → Goal
+  forced said outcome (inl (says, is)) = inl (ap (λ (n : Machine). in_memory n.store id) is ∙ used)
+  forced said outcome (inr badly) = failed badly.1
+
+  stays : (said outcome : Outcome) → StaysSo m said outcome new → Goal
+  stays said outcome (says, is) = inl (ap (λ (n : Machine). in_memory n.store id) is ∙ used)
+
+  made_ready : (outcome : Outcome) → GetsReady m actor outcome new → Goal
+  made_ready outcome (inl (waits, force)) = forced outcomes.Helped outcome force
+  made_ready outcome (inr (none, rest)) =
+      rest_kind m outcomes.Helped outcome new _ Goal none (λ at. refl) (flushed_more outcome) (only_moved (runs_out (m.activity actor)) outcome (runs_out_nothing (m.activity actor))) rest
+
+  worked : (outcome : Outcome) → Works m actor outcome new → Goal
+  worked outcome (inl (by, way, so)) = stays (outcomes.Blocked by) outcome so
+  worked outcome (inr (inl (free, unready, ready))) = made_ready outcome ready
+  worked outcome (inr (inr (free, ready, inl acts))) =
+      performed _ acts.fetched acts.deed outcome acts.brings
+      (owned_row m actor _ acts.fetched latches fit inside free acts.brings (wanted_by m actor) acts.deed refl (allowed_by acts.deed.op _ acts.fetched new.store acts.performs.store) acts.row)
+      acts.performs
+  worked outcome (inr (inr (free, ready, inr (inl gives)))) =
+      performed _ gives.fetched (gives_up gives.why (m.activity actor)) outcome gives.brings (owns_nothing _ (gives_up_nothing gives.why (m.activity actor))) gives.performs
+  worked outcome (inr (inr (free, ready, inr (inr meets)))) = carried meets.fetched (ap (λ (n : Machine). in_memory n.store id) meets.stops) (stays_or_left m _ meets.fetched meets.brings id (Live page) used)
+
+  moved : (outcome : Outcome) (deed : Deed) → IsOutright deed → Performs m m.store actor deed outcome new → Goal
+  moved outcome deed rests performs = only_moved deed outcome rests.op performs
+
+pub own_pages_change : OwnPagesChange
+own_pages_change m actor outcome new latches fit inside step id page used =
+    each_kind m actor outcome new (IsInUse new id page ⊎ MayHaveLeft m id new ⊎ HasAlone m actor id)
+    (λ said quiet so. stays m actor latches fit inside new id page used said outcome so)
+    (λ said quiet force. forced m actor latches fit inside new id page used said outcome force)
+    (flushed_more m actor latches fit inside new id page used outcome)
+    (moved m actor latches fit inside new id page used outcome)
+    (worked m actor latches fit inside new id page used outcome)
+    step
+
+-- ---- what another actor holds
+
+beside_none : (mode : Mode) → goes_beside Exclusive mode ≡ true → ⊥
+beside_none Shared is = false≢true is
+beside_none Update is = false≢true is
+beside_none Exclusive is = false≢true is
+
+module _ (m : Machine) (actor other id : ℕ) (fit : LatchesFit m) (another : other ≢ actor) (mode : Mode) (holds : mode_at m.latches other id ≡ Some mode) where
+  not_held : mode_at m.latches actor id ≡ Some Exclusive → ⊥
+  not_held own =
+      let both : IfSome (mode_at m.latches actor id) (λ mode. IfSome (mode_at m.latches other id) (λ held. IsTrue (goes_beside mode held))) = fit.compatible actor other id (λ same. another (sym same)) in
+      let mine = subst (λ (o : Option Mode). IfSome o (λ mode. IfSome (mode_at m.latches other id) (λ held. IsTrue (goes_beside mode held)))) own both in
+      beside_none mode (subst (λ (o : Option Mode). IfSome o (λ held. IsTrue (goes_beside Exclusive held))) holds mine)
+
+  not_taken : TakesAlone m actor id → ⊥
+  not_taken takes =
+      let grants : IsGrantable m.latches actor takes.wanted.page takes.wanted.mode = subst (λ (o : Option Wanted). IfSome o (λ wanted. IsGrantable m.latches actor wanted.page wanted.mode)) takes.wants takes.free in
+      let here : IfSome (mode_at m.latches other id) (λ held. IsTrue (goes_beside takes.wanted.mode held)) = subst (λ (n : ℕ). IfSome (mode_at m.latches other n) (λ held. IsTrue (goes_beside takes.wanted.mode held))) takes.page (grants other another) in
+      let mine = subst (λ (o : Option Mode). IfSome o (λ held. IsTrue (goes_beside takes.wanted.mode held))) holds here in
+      beside_none mode (subst (λ (own : Mode). IsTrue (goes_beside own mode)) takes.mode mine)
+
+  not_alone : HasAlone m actor id → ⊥
+  not_alone (inl own) = not_held own
+  not_alone (inr takes) = not_taken takes
+
+pub held_pages_stay : HeldPagesStay
+held_pages_stay m actor outcome new latches fit inside step other id mode page another holds used = by (own_pages_change m actor outcome new latches fit inside step id page used)
+  where
+    by : IsInUse new id page ⊎ MayHaveLeft m id new ⊎ HasAlone m actor id → IsInUse new id page
+    by (inl stays) = stays
+    by (inr (inl left)) = absurd (left.0 (inl (other, mode, holds)))
+    by (inr (inr alone)) = absurd (not_alone m actor other id fit another mode holds alone)

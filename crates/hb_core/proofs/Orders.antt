@@ -1,0 +1,17 @@
+-- Lines in their turn, places and replies, contents, and prefixes of the order.
+pub mod LinesFit
+pub mod RowContents
+pub mod StepContents
+pub mod NextLines
+pub mod Turns
+pub mod OrderPlaces
+pub mod LegalOrder
+pub mod AnswersInPlace
+pub mod PendingKept
+pub mod Prefixes
+pub mod JoinedReplies
+pub mod RepliesKept
+pub mod ShortOrder
+pub mod SingleAnswers
+pub mod MarksKept
+pub mod ImagePrefixes

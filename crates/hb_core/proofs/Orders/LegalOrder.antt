@@ -1,0 +1,126 @@
+-- After a step the order is legal, and the file has its result.
+use Rattle.std.proofs.Common.{◌≡◌, ◌≢◌, ◌⊎◌, inl, inr, ℕ, ◌<◌, ◌≤◌, true, List, [], ◌∷◌, ◌++◌, All, Option, Some, IfSome, refl, sym, ap, ◌∙◌, subst, arith}
+use Rattle.std.specs.List.{AllByRecursion}
+use Rattle.std.proofs.lemmas.Bool.{cases_lt, false≢true}
+use Rattle.std.proofs.lemmas.List.Elements.{All-head, All-tail}
+use Rattle.hb_set.specs.declared.commands.Command.{Command}
+use Rattle.hb_set.specs.declared.commands.Command.TheVariants.{Insert, Delete, Lookup, Search}
+use Rattle.hb_set.specs.declared.scripts.Line.{Line}
+use Rattle.hb_activity.specs.declared.activities.Activity.{Activity}
+use Rattle.hb_activity.specs.declared.activities.Activity.TheVariants as at
+use Rattle.hb_activity.specs.Classes.{line_in_hand}
+use Rattle.hb_core.proofs.Orders.NextLines.{next_is, same_line}
+use Rattle.hb_core.proofs.Orders.OrderPlaces.{replies_kept}
+use Rattle.hb_core.specs.ContentsLaws.{ContentsFollowOrder, ContentsStep, contents_now}
+use Rattle.hb_core.specs.KeptOrder.{HasLegalOrder}
+use Rattle.hb_core.specs.KeptTurns.{IsInTurn, LinesInTurn, awaited_number}
+use Rattle.hb_core.specs.Machines.{Files, Machine}
+use Rattle.hb_core.specs.OrderLaws.{SearchIsRight, OrderStaysLegal}
+use Rattle.hb_point.specs.SessionRows.{is_answered, next_line, WantsBoxes}
+use Rattle.hb_set.specs.Machine.{RecordSet, reply_of, set_after}
+use Rattle.hb_set.specs.Order.{AreReplies, Entry, IsLegalOrder, KeepsSessions, MayPrecede, result_of}
+
+-- ---- one entry more
+
+result_more : (n : RecordSet) (order : List Entry) (entry : Entry) → result_of n (order ++ entry ∷ []) ≡ set_after entry.line.command (result_of n order)
+result_more n [] entry = refl
+result_more n (first ∷ order) entry = result_more (set_after first.line.command n) order entry
+
+replies_more : (n : RecordSet) (order : List Entry) (entry : Entry) → AreReplies n order → entry.reply ≡ reply_of entry.line.command (result_of n order) → AreReplies n (order ++ entry ∷ [])
+replies_more n [] entry are is = (is, tt)
+replies_more n (first ∷ order) entry are is = (are.0, replies_more (set_after first.line.command n) order entry are.1 is)
+
+behind_more : (first entry : Entry) (order : List Entry) → AllByRecursion (MayPrecede first) order → MayPrecede first entry → AllByRecursion (MayPrecede first) (order ++ entry ∷ [])
+behind_more first entry [] all may = (may, tt)
+behind_more first entry (next ∷ order) all may = (all.0, behind_more first entry order all.1 may)
+
+sessions_more : (order : List Entry) (entry : Entry) → KeepsSessions order → All (λ e. MayPrecede e entry) order → KeepsSessions (order ++ entry ∷ [])
+sessions_more [] entry keeps may = (tt, tt)
+sessions_more (first ∷ order) entry keeps may =
+    (behind_more first entry order keeps.0 (All-head (λ e. MayPrecede e entry) first order may), sessions_more order entry keeps.1 (All-tail (λ e. MayPrecede e entry) first order may))
+
+-- ---- the line that joins comes after those of its session
+
+hand_waits_not : (activity : Activity) (line : Line) (number : ℕ) → line_in_hand activity ≡ Some line → awaited_number activity ≡ Some number → ⊥
+hand_waits_not at.SessionIdle line number hand waits = cc
+hand_waits_not (at.SessionWalk l held rest found) line number hand waits = cc
+hand_waits_not (at.SessionSplit l held) line number hand waits = cc
+hand_waits_not (at.SessionPut l source fresh) line number hand waits = cc
+hand_waits_not (at.SessionAwait wait reply place) line number hand waits = cc
+hand_waits_not at.PosterIdle line number hand waits = cc
+hand_waits_not (at.PosterGrow job) line number hand waits = cc
+hand_waits_not (at.PosterWalk job held) line number hand waits = cc
+hand_waits_not (at.PosterChild job parent) line number hand waits = cc
+hand_waits_not (at.PosterPromote job parent) line number hand waits = cc
+hand_waits_not (at.PosterAgain job parent) line number hand waits = cc
+hand_waits_not at.ConsolidatorIdle line number hand waits = cc
+hand_waits_not (at.ConsolidatorWalk job held) line number hand waits = cc
+hand_waits_not (at.ConsolidatorScan job parent child) line number hand waits = cc
+hand_waits_not (at.ConsolidatorTry job parent keep gone leaf) line number hand waits = cc
+hand_waits_not (at.ConsolidatorPromote job parent keep gone) line number hand waits = cc
+hand_waits_not (at.ConsolidatorKeep job parent keep gone) line number hand waits = cc
+hand_waits_not (at.ConsolidatorDecide job parent keep gone) line number hand waits = cc
+hand_waits_not at.Flusher line number hand waits = cc
+
+module _ (m : Machine) (turn : LinesInTurn m) (actor : ℕ) (entry : Entry) (hand : line_in_hand (m.activity actor) ≡ Some entry.line) where
+  next : next_line actor m.answered m.lines ≡ Some entry.line
+  next = subst (λ (o : Option Line). IfSome o (λ line. next_line actor m.answered m.lines ≡ Some line)) hand (turn.in_hand actor)
+
+  -- an entry of the order, of the actor's session, was answered
+  was_answered : (e : Entry) → IsInTurn m e → e.line.session ≡ actor → is_answered e.line.number m.answered ≡ true
+  was_answered e one own = by one.state
+    where
+      by : (is_answered e.line.number m.answered ≡ true) ⊎ (awaited_number (m.activity e.line.session) ≡ Some e.line.number) → is_answered e.line.number m.answered ≡ true
+      by (inl done) = done
+      by (inr waits) = absurd (hand_waits_not (m.activity actor) entry.line e.line.number hand (ap (λ (n : ℕ). awaited_number (m.activity n)) (sym own) ∙ waits))
+
+  not_same : (e : Entry) → IsInTurn m e → e.line.number ≢ entry.line.number
+  not_same e one same =
+      let own = next_is actor m.answered m.lines entry.line next in
+      let line : e.line ≡ entry.line = same_line m.lines e.line entry.line turn.rising one.among own.among same in
+      let done = was_answered e one (ap (λ (l : Line). l.session) line ∙ own.own) in
+      false≢true (sym own.open_yet ∙ ap (λ (n : ℕ). is_answered n m.answered) (sym same) ∙ done)
+
+  may_precede : (e : Entry) → IsInTurn m e → MayPrecede e entry
+  may_precede e one = record {
+    other_line = not_same e one;
+    session_order = λ same. elim (cases_lt e.line.number entry.line.number) [
+      | inl less ↦ less
+      | inr more ↦
+          let own = next_is actor m.answered m.lines entry.line next in
+          let above : entry.line.number < e.line.number = below entry.line.number e.line.number more (λ number. not_same e one (sym number)) in
+          let done = was_answered e one (same ∙ own.own) in
+          let early = turn.turns entry.line e.line own.among one.among (sym same) above done in
+          absurd (false≢true (sym own.open_yet ∙ early))
+    ];
+  }
+    where
+      below : (a b : ℕ) → a ≤ b → a ≢ b → a < b
+      below a b le ne = elim (cases_lt a b) [ inl lt ↦ lt | inr ge ↦ absurd (ne (omega (arith, le, ge))) ]
+
+-- ---- each step
+
+search_or_not : (command : Command) → WantsBoxes command ⊎ (WantsBoxes command → ⊥)
+search_or_not (Insert rec) = inr (λ never. never)
+search_or_not (Delete point) = inr (λ never. never)
+search_or_not (Lookup point) = inr (λ never. never)
+search_or_not (Search area) = inl tt
+
+module _ (n : RecordSet) (m : Machine) (files after : Files) (actor : ℕ) (new : Machine) (turn : LinesInTurn m) (legal : HasLegalOrder n m files) (right : SearchIsRight m new files) where
+  still_legal : ContentsStep m actor new (contents_now files) (contents_now after) → IsLegalOrder n new.order × (result_of n new.order ≡ contents_now after)
+  still_legal (inl (order, same)) = (subst (IsLegalOrder n) (sym order) legal.legal, ap (result_of n) order ∙ legal.result ∙ sym same)
+  still_legal (inr (entry, order, takes)) =
+      let machine : entry.reply ≡ reply_of entry.line.command (contents_now files) = elim (search_or_not entry.line.command) [ inl search ↦ right entry order search | inr other ↦ takes.reply other ] in
+      let reply : entry.reply ≡ reply_of entry.line.command (result_of n m.order) = machine ∙ ap (reply_of entry.line.command) (sym legal.result) in (
+        subst (IsLegalOrder n) (sym order) (record {
+          replies = replies_more n m.order entry legal.legal.replies reply;
+          sessions = sessions_more m.order entry legal.legal.sessions (λ i d lt. may_precede m turn actor entry takes.hand _ (turn.placed i d lt));
+        }),
+        ap (result_of n) order ∙ result_more n m.order entry ∙ ap (set_after entry.line.command) legal.result ∙ sym takes.leaves,
+      )
+
+pub order_stays_legal : ContentsFollowOrder → OrderStaysLegal
+order_stays_legal law n m files after actor outcome new told fit inside has turn legal right step is =
+    let both = still_legal n m files after actor new turn legal right (law m files after actor outcome new told fit inside has step is) in
+    let replies = replies_kept m actor outcome new (record { awaits = legal.awaits; answers = legal.answers }) step in
+    record { legal = both.0; result = both.1; awaits = replies.awaits; answers = replies.answers }

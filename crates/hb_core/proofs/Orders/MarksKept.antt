@@ -1,0 +1,99 @@
+-- After a step the marks of the groups that wait don't fall, and none is behind the order's end.
+use Rattle.std.proofs.Common.{◌≡◌, inl, inr, ℕ, ◌≤◌, List, [], ◌∷◌, ◌++◌, length, All, AllPairs, Option, Some, None, refl, sym, ap, ◌∙◌, subst, arith}
+use Rattle.std.proofs.lemmas.List.{length-append}
+use Rattle.std.proofs.lemmas.List.Elements.{All-push, All-tail, All-weaker}
+use Rattle.hb_ops.specs.declared.operations.Op.{Op}
+use Rattle.hb_core.specs.declared.outcomes.Outcome.{Outcome}
+use Rattle.hb_core.specs.declared.outcomes.Outcome.TheVariants as outcomes
+use Rattle.hb_activity.specs.Deeds.{Deed}
+use Rattle.hb_core.proofs.Orders.PendingKept.{IsBelow, rising_one_more, rising_rest}
+use Rattle.hb_core.proofs.Table.StepKinds.{FlushesMore, each_kind, rest_kind}
+use Rattle.hb_core.specs.Forcing.{FailsToWrite, ForcesFirst, StaysSo}
+use Rattle.hb_core.specs.KeptMachine.{MachineKeeps}
+use Rattle.hb_core.specs.KeptPlaces.{MarksRise}
+use Rattle.hb_core.specs.Machines.{Machine, if_some}
+use Rattle.hb_core.specs.Performing.{MayDo, Performs}
+use Rattle.hb_core.specs.Steps.{StepsTo, Works}
+use Rattle.hb_latch.specs.Tables.{MayLatch}
+use Rattle.hb_log_codec.specs.Groups.{group_bytes}
+use Rattle.hb_set.specs.Order.{Entry}
+use Rattle.hb_store.specs.Images.{group_here}
+use Rattle.hb_store.specs.States.{StoreState}
+use Rattle.hb_wal.specs.Log.{LogState, Waiting, left_waiting}
+
+abbrev pub IsInside : ℕ → Waiting → Type 0
+IsInside most g = g.mark ≤ most
+
+inside_rest : (most : ℕ) (groups : List Waiting) → All (IsInside most) groups → All (IsInside most) (left_waiting groups)
+inside_rest most [] inside = inside
+inside_rest most (first ∷ rest) inside = All-tail (IsInside most) first rest inside
+
+module _ (m : Machine) (actor : ℕ) (outcome : Outcome) (new : Machine) (marks : MarksRise m) where
+  -- no mark is behind the end of a longer order
+  inside_longer : (more : List Entry) → All (IsInside (length (m.order ++ more))) m.store.log.groups
+  inside_longer more =
+      let long = length-append {A = Entry} m.order more in
+      All-weaker (IsInside (length m.order)) (IsInside (length (m.order ++ more))) (λ g low. omega (arith, low, long)) m.store.log.groups marks.inside
+
+  rise_as : (order : List Entry) (groups : List Waiting) → new.order ≡ order → new.store.log.groups ≡ groups → AllPairs IsBelow groups → All (IsInside (length order)) groups → MarksRise new
+  rise_as order groups order_is groups_are rising inside = record {
+    rising = subst (λ (gs : List Waiting). AllPairs IsBelow gs) (sym groups_are) rising;
+    inside = subst (λ (gs : List Waiting). All (IsInside (length new.order)) gs) (sym groups_are) (subst (λ (es : List Entry). All (IsInside (length es)) groups) (sym order_is) inside);
+  }
+
+  -- the order grows
+  grown : (more : List Entry) → new.order ≡ m.order ++ more → new.store.log.groups ≡ m.store.log.groups → MarksRise new
+  grown more order_is groups_are = rise_as (m.order ++ more) m.store.log.groups order_is groups_are marks.rising (inside_longer more)
+
+  same : new.order ≡ m.order → new.store.log.groups ≡ m.store.log.groups → MarksRise new
+  same order_is groups_are = rise_as m.order m.store.log.groups order_is groups_are marks.rising marks.inside
+
+  -- a group joins those that wait
+  joined : (more : List Entry) (group : Waiting) → group.mark ≡ length m.order → new.order ≡ m.order ++ more → new.store.log.groups ≡ m.store.log.groups ++ group ∷ [] → MarksRise new
+  joined more group mark order_is groups_are =
+      let long = length-append {A = Entry} m.order more in
+      rise_as (m.order ++ more) (m.store.log.groups ++ group ∷ []) order_is groups_are
+      (rising_one_more m.store.log.groups group (subst (λ (k : ℕ). All (IsInside k) m.store.log.groups) (sym mark) marks.inside) marks.rising)
+      (All-push (IsInside (length (m.order ++ more))) m.store.log.groups group (inside_longer more) (omega (arith, mark, long)))
+
+  stays : (said : Outcome) → StaysSo m said outcome new → MarksRise new
+  stays said so = same (ap (λ (n : Machine). n.order) so.1) (ap (λ (n : Machine). n.store.log.groups) so.1)
+
+  fails : {most : ℕ} → FailsToWrite m most outcome new → MarksRise new
+  fails failed = same (ap (λ (n : Machine). n.order) failed.stops) (ap (λ (n : Machine). n.store.log.groups) failed.stops)
+
+  forces : (said : Outcome) → ForcesFirst m said outcome new → MarksRise new
+  forces said (inl (says, is)) =
+      rise_as m.order (left_waiting m.store.log.groups) (ap (λ (n : Machine). n.order) is) (ap (λ (n : Machine). n.store.log.groups) is) (rising_rest m.store.log.groups marks.rising) (inside_rest (length m.order) m.store.log.groups marks.inside)
+  forces said (inr badly) = fails badly.1
+
+  more_flushed : FlushesMore m outcome new → MarksRise new
+  more_flushed (none, left, inl (due, quiet, well)) = same (ap (λ (n : Machine). n.order) well.leaves) (ap (λ (n : Machine). n.store.log.groups) well.leaves ∙ well.no_group ∙ sym none)
+  more_flushed (none, left, inr failed) = fails failed
+
+  done : (op : Option Op) (fetched : StoreState) (more : List Entry) → fetched.log ≡ m.store.log → new.order ≡ m.order ++ more → MayDo op (length m.order) fetched new.store → MarksRise new
+  done None fetched more log order_is does = grown more order_is (ap (λ (st : StoreState). st.log.groups) does ∙ ap (λ (log : LogState). log.groups) log)
+  done (Some op) fetched more log order_is does =
+      let group : Waiting = record { bytes = group_bytes (group_here fetched op); mark = length m.order } in
+      joined more group refl order_is (does.group ∙ ap (λ (l : LogState). l.groups ++ group ∷ []) log)
+
+  performed : (fetched : StoreState) (deed : Deed) → fetched.log ≡ m.store.log → Performs m fetched actor deed outcome new → MarksRise new
+  performed fetched deed log performs = done deed.op fetched (if_some deed.joins) log performs.order performs.store
+
+  worked : Works m actor outcome new → MarksRise new
+  worked (inl (by, way, so)) = stays (outcomes.Blocked by) so
+  worked (inr (inl (free, unready, inl (waits, force)))) = forces outcomes.Helped force
+  worked (inr (inl (free, unready, inr (none, rest)))) = rest_kind m outcomes.Helped outcome new _ (MarksRise new) none (λ at. refl) more_flushed (performed m.store _ refl) rest
+  worked (inr (inr (free, ready, inl acts))) = performed acts.fetched acts.deed acts.brings.rest.log acts.performs
+  worked (inr (inr (free, ready, inr (inl gives)))) = performed gives.fetched _ gives.brings.rest.log gives.performs
+  worked (inr (inr (free, ready, inr (inr meets)))) = same (ap (λ (n : Machine). n.order) meets.stops) (ap (λ (n : Machine). n.store.log.groups) meets.stops ∙ ap (λ (log : LogState). log.groups) meets.brings.rest.log)
+
+pub marks_rise_still : (m : Machine) (actor : ℕ) (outcome : Outcome) (new : Machine) → MayLatch actor → MachineKeeps m → StepsTo m actor outcome new → MarksRise new
+marks_rise_still m actor outcome new may kept step =
+    each_kind m actor outcome new (MarksRise new)
+    (λ said quiet so. stays m actor outcome new kept.marks_rise said so)
+    (λ said quiet force. forces m actor outcome new kept.marks_rise said force)
+    (more_flushed m actor outcome new kept.marks_rise)
+    (λ deed outright performs. performed m actor outcome new kept.marks_rise m.store deed refl performs)
+    (worked m actor outcome new kept.marks_rise)
+    step

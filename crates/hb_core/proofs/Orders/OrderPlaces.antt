@@ -1,0 +1,158 @@
+-- After a step each line that awaits its place, and each answered line of the order, stands there with its reply.
+use Rattle.std.proofs.Common.{◌≡◌, ◌⊎◌, inl, inr, ℕ, zero, suc, ◌==◌, Bool, cond, List, [], ◌∷◌, ◌++◌, length, get_or, All, Option, Some, None, refl, sym, ap, ◌∙◌, subst, append-nil}
+use Rattle.std.specs.List.{slice_get}
+use Rattle.std.proofs.lemmas.Bool.{cases_Bool}
+use Rattle.std.proofs.lemmas.List.Elements.{All-append, All-cons, All-nil}
+use Rattle.hb_set.specs.declared.commands.Reply.{Reply}
+use Rattle.hb_set.specs.declared.commands.Reply.TheVariants as replies
+use Rattle.hb_set.specs.declared.scripts.Answered.{Answered}
+use Rattle.hb_activity.specs.declared.activities.Activity.{Activity}
+use Rattle.hb_activity.specs.declared.activities.Activity.TheVariants as at
+use Rattle.hb_core.specs.declared.outcomes.Outcome.{Outcome}
+use Rattle.hb_core.specs.declared.outcomes.Outcome.TheVariants as outcomes
+use Rattle.hb_activity.specs.Deeds.{Deed, Answers, Says}
+use Rattle.hb_consol.specs.ConsolidatorRows.{IsMergingOf}
+use Rattle.hb_core.proofs.Table.LineFates.{LineFate, fate_given_up, fate_ran_out, fate_row}
+use Rattle.hb_core.proofs.Table.MergerMoves.{Waits}
+use Rattle.hb_core.proofs.Table.StepCases.{each_step}
+use Rattle.hb_core.proofs.Table.StepKinds.{rest_kind}
+use Rattle.hb_core.proofs.Table.Ways.{KeepsAllButDisk, forces_so, meets_so, stays_so, more_so}
+use Rattle.hb_core.specs.KeptOrder.{StandsInOrder, StandsOutside}
+use Rattle.hb_core.specs.Machines.{Machine, if_some}
+use Rattle.hb_core.specs.Performing.{Performs, given_by, outcome_of}
+use Rattle.hb_core.specs.Steps.{StepsTo, Works, TakesMerging, TakesJob}
+use Rattle.hb_poster.specs.PosterRows.{IsPostingOf}
+use Rattle.hb_set.specs.Order.{Entry}
+use Rattle.hb_store.specs.States.{StoreState}
+
+abbrev pub StandsSomewhere : Machine → Answered → Type 0
+StandsSomewhere m a = StandsOutside a.reply ⊎ ((place : ℕ) × StandsInOrder m a.line a.reply place)
+
+-- what is kept of the replies: those that are awaited, and those that were given
+pub record KeepsReplies (m : Machine) : Type 0 where
+  pub awaits : (actor number place : ℕ) (reply : Reply) → m.activity actor ≡ at.SessionAwait number reply place → StandsInOrder m number reply place
+  pub answers : All (StandsSomewhere m) m.answered
+
+-- what stands in an order stands in a longer one
+stands_in_front : (order more : List Entry) (place : ℕ) (entry : Entry) → slice_get order place ≡ Some entry → slice_get (order ++ more) place ≡ Some entry
+stands_in_front [] more place entry is = absurd (nothing entry is)
+  where
+    nothing : (entry : Entry) → None ≡ Some entry → ⊥
+    nothing entry is = cc
+stands_in_front (first ∷ order) more zero entry is = is
+stands_in_front (first ∷ order) more (suc place) entry is = stands_in_front order more place entry is
+
+pub stands_last : (order : List Entry) (entry : Entry) → slice_get (order ++ entry ∷ []) (length order) ≡ Some entry
+stands_last [] entry = refl
+stands_last (first ∷ order) entry = stands_last order entry
+
+module _ (m : Machine) (actor : ℕ) (outcome : Outcome) (new : Machine) (keeps : KeepsReplies m) where
+  stands_more : (more : List Entry) → new.order ≡ m.order ++ more → (number place : ℕ) (reply : Reply) → StandsInOrder m number reply place → StandsInOrder new number reply place
+  stands_more more is number place reply stands = record {
+    entry = stands.entry;
+    there = ap (λ (l : List Entry). slice_get l place) is ∙ stands_in_front m.order more place stands.entry stands.there;
+    number_is = stands.number_is;
+    reply_is = stands.reply_is;
+  }
+
+  somewhere_more : (more : List Entry) → new.order ≡ m.order ++ more → (a : Answered) → StandsSomewhere m a → StandsSomewhere new a
+  somewhere_more more is a (inl outside) = inl outside
+  somewhere_more more is a (inr (place, stands)) = inr (place, stands_more more is a.line place a.reply stands)
+
+  stays : KeepsAllButDisk m new → KeepsReplies new
+  stays all =
+      let order : new.order ≡ m.order ++ [] = all.order ∙ sym (append-nil m.order) in
+      record {
+        awaits = λ other number place reply is. stands_more [] order number place reply (keeps.awaits other number place reply (sym (ap (λ (f : ℕ → Activity). f other) all.activity) ∙ is));
+        answers = subst (λ (l : List Answered). All (StandsSomewhere new) l) (sym all.answered) (λ i d lt. somewhere_more [] order (get_or m.answered i d) (keeps.answers i d lt));
+      }
+
+  done : (fetched : StoreState) (deed : Deed) → Performs m fetched actor deed outcome new → All (StandsSomewhere new) (given_by (outcome_of deed.says) m.clock)
+      → ((number place : ℕ) (reply : Reply) → deed.next ≡ at.SessionAwait number reply place → StandsInOrder new number reply place) → KeepsReplies new
+  done fetched deed performs given own = record {
+    awaits = λ other number place reply is. elim (cases_Bool (other == actor)) [
+      | inl here ↦ own number place reply (sym (performs.activity other ∙ ap (λ (b : Bool). cond b deed.next (m.activity other)) here) ∙ is)
+      | inr off ↦ stands_more (if_some deed.joins) performs.order number place reply (keeps.awaits other number place reply (sym (performs.activity other ∙ ap (λ (b : Bool). cond b deed.next (m.activity other)) off) ∙ is))
+    ];
+    answers = subst (λ (l : List Answered). All (StandsSomewhere new) l) (sym performs.answered)
+        (All-append (StandsSomewhere new) m.answered (given_by (outcome_of deed.says) m.clock) (λ i d lt. somewhere_more (if_some deed.joins) performs.order (get_or m.answered i d) (keeps.answers i d lt)) given);
+  }
+
+  none_given : (deed : Deed) → given_by (outcome_of deed.says) m.clock ≡ [] → All (StandsSomewhere new) (given_by (outcome_of deed.says) m.clock)
+  none_given deed none = subst (λ (l : List Answered). All (StandsSomewhere new) l) (sym none) (All-nil (StandsSomewhere new))
+
+  one_given : (deed : Deed) (number : ℕ) (reply : Reply) → deed.says ≡ Answers number reply → StandsSomewhere new (record { line = number; reply = reply; at = m.clock }) → All (StandsSomewhere new) (given_by (outcome_of deed.says) m.clock)
+  one_given deed number reply says stands =
+      subst (λ (o : Says). All (StandsSomewhere new) (given_by (outcome_of o) m.clock)) (sym says) (All-cons (StandsSomewhere new) (record { line = number; reply = reply; at = m.clock }) [] stands (All-nil (StandsSomewhere new)))
+
+  never_waits : (deed : Deed) → (Waits deed.next → ⊥) → (number place : ℕ) (reply : Reply) → deed.next ≡ at.SessionAwait number reply place → StandsInOrder new number reply place
+  never_waits deed none number place reply is = absurd (none (subst Waits (sym is) tt))
+
+  idle_waits : (deed : Deed) → deed.next ≡ at.SessionIdle → Waits deed.next → ⊥
+  idle_waits deed is waits = subst Waits is waits
+
+  quiet : (fetched : StoreState) (deed : Deed) → Performs m fetched actor deed outcome new → given_by (outcome_of deed.says) m.clock ≡ [] → (Waits deed.next → ⊥) → KeepsReplies new
+  quiet fetched deed performs says waits = done fetched deed performs (none_given deed says) (never_waits deed waits)
+
+  answered : (fetched : StoreState) (deed : Deed) (number : ℕ) (reply : Reply) → Performs m fetched actor deed outcome new → deed.says ≡ Answers number reply → deed.next ≡ at.SessionIdle → StandsSomewhere new (record { line = number; reply = reply; at = m.clock }) → KeepsReplies new
+  answered fetched deed number reply performs says next stands = done fetched deed performs (one_given deed number reply says stands) (never_waits deed (idle_waits deed next))
+
+  awaits_same : (a b : Activity) (number other place elsewhere : ℕ) (reply said : Reply) → a ≡ at.SessionAwait number reply place → a ≡ at.SessionAwait other said elsewhere → (number ≡ other) × (place ≡ elsewhere) × (reply ≡ said)
+  awaits_same a b number other place elsewhere reply said first second =
+      let both : at.SessionAwait number reply place ≡ at.SessionAwait other said elsewhere = sym first ∙ second in
+      let one : number ≡ other = cc in
+      let two : place ≡ elsewhere = cc in
+      let three : reply ≡ said = cc in
+      (one, two, three)
+
+  fated : (fetched : StoreState) (deed : Deed) → LineFate m (m.activity actor) deed → Performs m fetched actor deed outcome new → KeepsReplies new
+  fated fetched deed (inl goes) performs = quiet fetched deed performs (goes.quiet m.clock) goes.awaits
+  fated fetched deed (inr (inl takes)) performs =
+      let entry : Entry = record { line = takes.line; reply = takes.reply } in
+      let order : new.order ≡ m.order ++ entry ∷ [] = performs.order ∙ ap (λ (o : Option Entry). m.order ++ if_some o) takes.joins in
+      done fetched deed performs (none_given deed (takes.quiet m.clock)) (λ number place reply is.
+      let same = awaits_same deed.next deed.next takes.line.number number (length m.order) place takes.reply reply takes.next is in
+      record {
+        entry = entry;
+        there = ap (λ (l : List Entry). slice_get l place) order ∙ ap (λ (n : ℕ). slice_get (m.order ++ entry ∷ []) n) (sym same.1) ∙ stands_last m.order entry;
+        number_is = same.0;
+        reply_is = same.2;
+      })
+  fated fetched deed (inr (inr gives)) performs = answered fetched deed gives.line.number gives.reply performs gives.says gives.next (inl gives.outside)
+
+  worked : Works m actor outcome new → KeepsReplies new
+  worked (inl (by, way, so)) = stays (stays_so m actor outcome new (outcomes.Blocked by) so)
+  worked (inr (inl (free, unready, inl (waits, force)))) = stays (forces_so m actor outcome new outcomes.Helped force)
+  worked (inr (inl (free, unready, inr (none, rest)))) =
+      rest_kind m outcomes.Helped outcome new _ (KeepsReplies new) none (λ at. refl) (λ more. stays (more_so m actor outcome new more)) (fated m.store _ (fate_ran_out m (m.activity actor))) rest
+  worked (inr (inr (free, ready, inl acts))) = fated acts.fetched acts.deed (fate_row m acts.fetched (m.activity actor) _ acts.deed acts.row) acts.performs
+  worked (inr (inr (free, ready, inr (inl gives)))) = fated gives.fetched _ (fate_given_up m gives.why (m.activity actor)) gives.performs
+  worked (inr (inr (free, ready, inr (inr meets)))) = stays (meets_so m actor outcome new meets)
+
+  posts_wait_never : (deed : Deed) → TakesJob m deed → Waits deed.next → ⊥
+  posts_wait_never deed takes waits = by takes.next takes.posting (subst (λ (d : Deed). Waits d.next) takes.deed_is waits)
+    where
+      by : (next : Activity) → IsPostingOf takes.job m.store.meta.height next → Waits next → ⊥
+      by next (inl (above, is)) waits = subst Waits is waits
+      by next (inr (inl (same, is))) waits = subst Waits is waits
+      by next (inr (inr (below, is))) waits = subst Waits is waits
+
+  merges_wait_never : (deed : Deed) → TakesMerging m deed → Waits deed.next → ⊥
+  merges_wait_never deed takes waits = by takes.next takes.merging (subst (λ (d : Deed). Waits d.next) takes.deed_is waits)
+    where
+      by : (next : Activity) → IsMergingOf takes.job m.store.meta.height next → Waits next → ⊥
+      by next (inl (above, is)) waits = subst Waits is waits
+      by next (inr (below, is)) waits = subst Waits is waits
+
+  pub replies_kept : StepsTo m actor outcome new → KeepsReplies new
+  replies_kept step = each_step m actor outcome new (KeepsReplies new) (record {
+    stays = λ said so. stays (stays_so m actor outcome new said so);
+    forces = λ said silent force. stays (forces_so m actor outcome new said force);
+    more = λ more. stays (more_so m actor outcome new more);
+    takes = λ line idle next performs. quiet m.store _ performs refl (λ never. never);
+    refuses = λ line idle next performs. answered m.store _ line.number replies.NoMemory performs refl refl (inl tt);
+    posts = λ deed idle takes performs. quiet m.store deed performs (ap (λ (d : Deed). given_by (outcome_of d.says) m.clock) takes.deed_is) (posts_wait_never deed takes);
+    merges = λ deed idle takes performs. quiet m.store deed performs (ap (λ (d : Deed). given_by (outcome_of d.says) m.clock) takes.deed_is) (merges_wait_never deed takes);
+    settles = λ number place reply is settled performs. answered m.store _ number reply performs refl refl (inr (place, stands_more [] performs.order number place reply (keeps.awaits actor number place reply is)));
+    works = λ none works. worked works;
+  }) step

@@ -1,0 +1,355 @@
+-- After a step a page that is to be split lacks room for its insert, and of the two halves of a split one has room.
+use Rattle.std.proofs.Common.{◌≡◌, ◌≢◌, ◌⊎◌, inl, inr, ℕ, ◌==◌, ◌<◌, ◌≤◌, Bool, cond, List, [], ◌∷◌, length, Option, Some, None, refl, sym, ap, ◌∙◌, subst, true, false}
+use Rattle.std.proofs.lemmas.Bool.{cases_Bool, eq-eqb, eqb-true, eqb-false, ne_eqb}
+use Rattle.std.proofs.lemmas.Option.{none-some}
+use Rattle.hb_space.specs.declared.records.Record.{Record}
+use Rattle.hb_layout.specs.declared.limits.TheConstants.{DCAP_MIN}
+use Rattle.hb_layout.specs.declared.meta.Meta.{Meta}
+use Rattle.hb_frag.specs.declared.pages.LivePage.{LivePage}
+use Rattle.hb_frag.specs.declared.pages.Page.TheVariants.{Live}
+use Rattle.hb_ops.specs.declared.operations.Op.{Op}
+use Rattle.hb_ops.specs.declared.operations.Op.TheVariants as ops
+use Rattle.hb_set.specs.declared.commands.Command.TheVariants.{Insert}
+use Rattle.hb_set.specs.declared.scripts.Line.{Line}
+use Rattle.hb_latch.specs.declared.modes.Mode.{Mode}
+use Rattle.hb_latch.specs.declared.modes.Mode.TheVariants.{Exclusive}
+use Rattle.hb_activity.specs.declared.jobs.Job.{Job}
+use Rattle.hb_activity.specs.declared.holding.Latch.{Latch}
+use Rattle.hb_activity.specs.declared.activities.Activity.{Activity}
+use Rattle.hb_activity.specs.declared.activities.Activity.TheVariants as at
+use Rattle.hb_core.specs.declared.outcomes.Outcome.{Outcome}
+use Rattle.hb_core.specs.declared.outcomes.Outcome.TheVariants as outcomes
+use Rattle.hb_activity.specs.Classes.{line_in_hand}
+use Rattle.hb_activity.specs.Deeds.{Deed, does}
+use Rattle.hb_activity.specs.Holding.{latch_on}
+use Rattle.hb_activity.specs.Walks.{walk_held}
+use Rattle.hb_core.proofs.Latches.Backing.{live_there}
+use Rattle.hb_core.proofs.Table.NextPlaces.{HasPlace, HoldsNothing, KeepsParent, PartsFull, TakesFull, nothing_given_up, nothing_run_out, now, place_after}
+use Rattle.hb_core.proofs.Room.SplitHalves.{one_has_room, takes_full}
+use Rattle.hb_core.proofs.Room.SplitHome.{RoomLaws}
+use Rattle.hb_core.proofs.Table.StepKinds.{each_kind, FlushesMore, rest_kind}
+use Rattle.hb_core.proofs.Memory.StillThere.{may_or_not, other_holds, own_next}
+use Rattle.hb_core.proofs.Table.Ways.{KeepsAllButDisk, forces_so, meets_so, stays_so, more_so}
+use Rattle.hb_core.specs.Acting.{MeetsBadPage}
+use Rattle.hb_core.specs.Fetching.{Brings}
+use Rattle.hb_core.specs.Forcing.{ForcesFirst, StaysSo}
+use Rattle.hb_core.specs.KeepingLaws.{RoomStaysKnown}
+use Rattle.hb_core.specs.KeptLines.{MarksInPlace}
+use Rattle.hb_core.specs.Keeps.{HasNobodyElse, HasRoomFor, HoldsPagesOfFile, KnowsRoom, LacksRoomFor, LatchesFit, OneHasRoom}
+use Rattle.hb_core.specs.Machines.{Machine, live_here}
+use Rattle.hb_core.specs.Performing.{MayDo, Performs, latches_held, mode_among}
+use Rattle.hb_core.specs.Steps.{StepsTo, Works}
+use Rattle.hb_frag.specs.Leaves.{weight_of}
+use Rattle.hb_latch.specs.Tables.{MayLatch}
+use Rattle.hb_ops.specs.Files.{if_live}
+use Rattle.hb_ops.specs.Operations.{change_of}
+use Rattle.hb_ops.specs.Recording.{put_page}
+use Rattle.hb_store.specs.Calls.{read_here}
+use Rattle.hb_store.specs.States.{StoreState, in_memory}
+
+-- ---- the capacity stays
+
+capacity_of_change : (op : Op) (meta : Meta) (first second third : Option LivePage) → (change_of op meta first second third).meta.dcap ≡ meta.dcap
+capacity_of_change (ops.Put id rec) meta None second third = refl
+capacity_of_change (ops.Put id rec) meta (Some page) second third = refl
+capacity_of_change (ops.Del id point) meta None second third = refl
+capacity_of_change (ops.Del id point) meta (Some page) second third = refl
+capacity_of_change (ops.Extract source fresh path cuts free_after) meta None second third = refl
+capacity_of_change (ops.Extract source fresh path cuts free_after) meta (Some page) second third = refl
+capacity_of_change (ops.Post parent way inner area) meta None second third = refl
+capacity_of_change (ops.Post parent way inner area) meta (Some page) second third = refl
+capacity_of_change (ops.Grow fresh free_after) meta first second third = refl
+
+abbrev pub SameCapacity : Machine → Machine → Type 0
+SameCapacity m new = new.store.meta.dcap ≡ m.store.meta.dcap
+
+module _ (m : Machine) (actor : ℕ) (outcome : Outcome) (new : Machine) where
+  by_op : (op : Option Op) (mark : ℕ) (fetched : StoreState) → fetched.meta ≡ m.store.meta → MayDo op mark fetched new.store → SameCapacity m new
+  by_op None mark fetched meta does = ap (λ (st : StoreState). st.meta.dcap) does ∙ ap (λ (x : Meta). x.dcap) meta
+  by_op (Some op) mark fetched meta does =
+      ap (λ (x : Meta). x.dcap) does.commits.meta
+      ∙ capacity_of_change op fetched.meta (read_here fetched op 0) (read_here fetched op 1) (read_here fetched op 2)
+      ∙ ap (λ (x : Meta). x.dcap) meta
+
+  pub by_deed : (fetched : StoreState) (deed : Deed) → fetched.meta ≡ m.store.meta → Performs m fetched actor deed outcome new → SameCapacity m new
+  by_deed fetched deed meta performs = by_op deed.op _ fetched meta performs.store
+
+  by_rest : (said : Outcome) → StaysSo m said outcome new → SameCapacity m new
+  by_rest said so = ap (λ (x : Machine). x.store.meta.dcap) so.1
+
+  by_force : (said : Outcome) → ForcesFirst m said outcome new → SameCapacity m new
+  by_force said (inl well) = ap (λ (x : Machine). x.store.meta.dcap) well.1
+  by_force said (inr badly) = ap (λ (x : Machine). x.store.meta.dcap) badly.1.stops
+
+  by_bad_page : MeetsBadPage m actor outcome new → SameCapacity m new
+  by_bad_page meets = ap (λ (x : Machine). x.store.meta.dcap) meets.stops ∙ ap (λ (x : Meta). x.dcap) meets.brings.rest.meta
+
+  by_more : FlushesMore m outcome new → SameCapacity m new
+  by_more (none, left, inl (due, quiet, well)) = ap (λ (x : Machine). x.store.meta.dcap) well.leaves ∙ ap (λ (x : Meta). x.dcap) well.meta
+  by_more (none, left, inr fails) = ap (λ (x : Machine). x.store.meta.dcap) fails.stops
+
+  by_work : Works m actor outcome new → SameCapacity m new
+  by_work (inl (by, way, so)) = by_rest (outcomes.Blocked by) so
+  by_work (inr (inl (free, unready, inl (waits, force)))) = by_force outcomes.Helped force
+  by_work (inr (inl (free, unready, inr (none, rest)))) = rest_kind m outcomes.Helped outcome new _ (SameCapacity m new) none (λ at. refl) by_more (by_deed m.store _ refl) rest
+  by_work (inr (inr (free, ready, inl acts))) = by_deed acts.fetched acts.deed acts.brings.rest.meta acts.performs
+  by_work (inr (inr (free, ready, inr (inl gives)))) = by_deed gives.fetched _ gives.brings.rest.meta gives.performs
+  by_work (inr (inr (free, ready, inr (inr meets)))) = by_bad_page meets
+
+  pub capacity_stays : StepsTo m actor outcome new → SameCapacity m new
+  capacity_stays step = each_kind m actor outcome new (SameCapacity m new) (λ said quiet so. by_rest said so) (λ said quiet force. by_force said force) by_more (λ deed outright performs. by_deed m.store deed refl performs) by_work step
+
+-- ---- what one activity knows
+
+abbrev pub LacksRoom : Machine → Line → ℕ → Type 0
+LacksRoom m line held = (rec : Record) × (line.command ≡ Insert rec) × LacksRoomFor m held rec.key rec.body
+
+abbrev pub HasRoom : Machine → Line → ℕ → ℕ → Type 0
+HasRoom m line source fresh = (rec : Record) × (line.command ≡ Insert rec) × OneHasRoom m source fresh rec.key rec.body
+
+pub record KnowsOf (m : Machine) (activity : Activity) : Type 0 where
+  pub splits : (held : ℕ) (line : Line) → activity ≡ at.SessionSplit line held → LacksRoom m line held
+  pub puts : (source fresh : ℕ) (line : Line) → activity ≡ at.SessionPut line source fresh → HasRoom m line source fresh
+
+each_knows : (m : Machine) → KnowsRoom m → (actor : ℕ) → KnowsOf m (m.activity actor)
+each_knows m knows actor = record { splits = knows.splits actor; puts = knows.puts actor }
+
+all_know : (m : Machine) → ((actor : ℕ) → KnowsOf m (m.activity actor)) → KnowsRoom m
+all_know m each = record { splits = λ actor. (each actor).splits; puts = λ actor. (each actor).puts }
+
+-- the same in a memory that has the page
+module _ (m new : Machine) (capacity : SameCapacity m new) where
+  lacks_again : (held : ℕ) (p body : List ℕ) → ((page : LivePage) → live_here m.store held ≡ Some page → live_here new.store held ≡ Some page) → LacksRoomFor m held p body → LacksRoomFor new held p body
+  lacks_again held p body there lacks = record {
+    page = lacks.page;
+    live = there lacks.page lacks.live;
+    level = lacks.level;
+    direct = lacks.direct;
+    absent = lacks.absent;
+    full = subst (λ (n : ℕ). n < weight_of (put_page (record { key = p; body = body }) lacks.page).frag) (sym capacity) lacks.full;
+  }
+
+  has_again : (half : ℕ) (p body : List ℕ) → ((page : LivePage) → live_here m.store half ≡ Some page → live_here new.store half ≡ Some page) → HasRoomFor m half p body → HasRoomFor new half p body
+  has_again half p body there has = record {
+    page = has.page;
+    live = there has.page has.live;
+    level = has.level;
+    direct = has.direct;
+    absent = has.absent;
+    room = subst (λ (n : ℕ). weight_of (put_page (record { key = p; body = body }) has.page).frag ≤ n) (sym capacity) has.room;
+  }
+
+  splits_again : (line : Line) (held : ℕ) → ((page : LivePage) → live_here m.store held ≡ Some page → live_here new.store held ≡ Some page) → LacksRoom m line held → LacksRoom new line held
+  splits_again line held there (rec, command, lacks) = (rec, command, lacks_again held rec.key rec.body there lacks)
+
+  one_again : (source fresh : ℕ) (p body : List ℕ) → ((page : LivePage) → live_here m.store source ≡ Some page → live_here new.store source ≡ Some page) → ((page : LivePage) → live_here m.store fresh ≡ Some page → live_here new.store fresh ≡ Some page)
+      → OneHasRoom m source fresh p body → OneHasRoom new source fresh p body
+  one_again source fresh p body first second one = record {
+    first = one.first;
+    second = one.second;
+    first_live = first one.first one.first_live;
+    second_live = second one.second one.second_live;
+    not_both = one.not_both;
+    room = by one.room;
+  }
+    where
+      by : HasRoomFor m source p body ⊎ HasRoomFor m fresh p body → HasRoomFor new source p body ⊎ HasRoomFor new fresh p body
+      by (inl has) = inl (has_again source p body first has)
+      by (inr has) = inr (has_again fresh p body second has)
+
+  puts_again : (line : Line) (source fresh : ℕ) → ((page : LivePage) → live_here m.store source ≡ Some page → live_here new.store source ≡ Some page) → ((page : LivePage) → live_here m.store fresh ≡ Some page → live_here new.store fresh ≡ Some page)
+      → HasRoom m line source fresh → HasRoom new line source fresh
+  puts_again line source fresh first second (rec, command, one) = (rec, command, one_again source fresh rec.key rec.body first second one)
+
+-- ---- an activity that neither splits nor has split
+
+knows_none : (m : Machine) (activity : Activity) → ((held : ℕ) (line : Line) → activity ≡ at.SessionSplit line held → ⊥) → ((source fresh : ℕ) (line : Line) → activity ≡ at.SessionPut line source fresh → ⊥) → KnowsOf m activity
+knows_none m activity split put = record { splits = λ held line is. absurd (split held line is); puts = λ source fresh line is. absurd (put source fresh line is) }
+
+free_knows : (m : Machine) (activity : Activity) → HoldsNothing activity → KnowsOf m activity
+free_knows m activity free = knows_none m activity (λ held line is. some held [] (sym (ap (latches_held m.store) is) ∙ free.latches m.store)) (λ source fresh line is. some source (latch_on fresh Exclusive ∷ []) (sym (ap (latches_held m.store) is) ∙ free.latches m.store))
+  where
+    some : (id : ℕ) (rest : List Latch) → latch_on id Exclusive ∷ rest ≡ [] → ⊥
+    some id rest is = cc
+
+-- an actor that has no line in hand splits nothing
+handless_knows : (m : Machine) (activity : Activity) → line_in_hand activity ≡ None → KnowsOf m activity
+handless_knows m activity none = knows_none m activity (λ held line is. some line (sym none ∙ ap line_in_hand is)) (λ source fresh line is. some line (sym none ∙ ap line_in_hand is))
+  where
+    some : (line : Line) → None ≡ Some line → ⊥
+    some line is = cc
+
+walk_knows : (m : Machine) (activity : Activity) (id : ℕ) → walk_held activity ≡ Some id → KnowsOf m activity
+walk_knows m activity id walks = knows_none m activity (λ held line is. none-some id (sym (ap walk_held is) ∙ walks)) (λ source fresh line is. none-some id (sym (ap walk_held is) ∙ walks))
+
+child_knows : (m : Machine) (job : Job) (parent : ℕ) → KnowsOf m (at.PosterChild job parent)
+child_knows m job parent = knows_none m (at.PosterChild job parent) (λ held line is. cc) (λ source fresh line is. cc)
+
+promote_knows : (m : Machine) (job : Job) (parent : ℕ) → KnowsOf m (at.PosterPromote job parent)
+promote_knows m job parent = knows_none m (at.PosterPromote job parent) (λ held line is. cc) (λ source fresh line is. cc)
+
+again_knows : (m : Machine) (job : Job) (parent : ℕ) → KnowsOf m (at.PosterAgain job parent)
+again_knows m job parent = knows_none m (at.PosterAgain job parent) (λ held line is. cc) (λ source fresh line is. cc)
+
+-- ---- one that does
+
+-- its pages are held exclusively
+split_latched : (st : StoreState) (activity : Activity) (line : Line) (held : ℕ) → activity ≡ at.SessionSplit line held → mode_among held (latches_held st activity) ≡ Some Exclusive
+split_latched st activity line held is = ap (λ (a : Activity). mode_among held (latches_held st a)) is ∙ ap (λ (b : Bool). cond b (Some Exclusive) None) (eq-eqb held held refl)
+
+put_latched : (st : StoreState) (activity : Activity) (line : Line) (source fresh : ℕ) → activity ≡ at.SessionPut line source fresh → (mode_among source (latches_held st activity) ≡ Some Exclusive) × (mode_among fresh (latches_held st activity) ≡ Some Exclusive)
+put_latched st activity line source fresh is = (
+  ap (λ (a : Activity). mode_among source (latches_held st a)) is ∙ ap (λ (b : Bool). cond b (Some Exclusive) (mode_among source (latch_on fresh Exclusive ∷ []))) (eq-eqb source source refl),
+  ap (λ (a : Activity). mode_among fresh (latches_held st a)) is ∙ either (source == fresh) ∙ refl,
+)
+  where
+    last : mode_among fresh (latch_on fresh Exclusive ∷ []) ≡ Some Exclusive
+    last = ap (λ (b : Bool). cond b (Some Exclusive) None) (eq-eqb fresh fresh refl)
+
+    either : (b : Bool) → cond b (Some Exclusive) (mode_among fresh (latch_on fresh Exclusive ∷ [])) ≡ Some Exclusive
+    either true = refl
+    either false = last
+
+split_knows : (m : Machine) (line : Line) (held : ℕ) → LacksRoom m line held → KnowsOf m (at.SessionSplit line held)
+split_knows m line held lacks = record { splits = λ other_held other is. moved other other_held (parts line other held other_held is); puts = λ source fresh other is. absurd (never source fresh other is) }
+  where
+    parts : (a b : Line) (p q : ℕ) → at.SessionSplit a p ≡ at.SessionSplit b q → (a ≡ b) × (p ≡ q)
+    parts a b p q is = (cc, cc)
+
+    moved : (other : Line) (id : ℕ) → (line ≡ other) × (held ≡ id) → LacksRoom m other id
+    moved other id same = subst (λ (l : Line). LacksRoom m l id) same.0 (subst (LacksRoom m line) same.1 lacks)
+
+    never : (source fresh : ℕ) (other : Line) → at.SessionSplit line held ≡ at.SessionPut other source fresh → ⊥
+    never source fresh other is = cc
+
+-- three things are the same
+pub record SamePlaces (a b : Line) (p q r t : ℕ) : Type 0 where
+  pub line : a ≡ b
+  pub first : p ≡ q
+  pub second : r ≡ t
+
+put_knows : (m : Machine) (line : Line) (source fresh : ℕ) → HasRoom m line source fresh → KnowsOf m (at.SessionPut line source fresh)
+put_knows m line source fresh has = record { splits = λ held other is. absurd (never held other is); puts = λ a b other is. moved other a b (parts line other source a fresh b is) }
+  where
+    parts : (a b : Line) (p q r t : ℕ) → at.SessionPut a p r ≡ at.SessionPut b q t → SamePlaces a b p q r t
+    parts a b p q r t is = record { line = cc; first = cc; second = cc }
+
+    moved : (other : Line) (a b : ℕ) → SamePlaces line other source a fresh b → HasRoom m other a b
+    moved other a b same = subst (λ (l : Line). HasRoom m l a b) same.line (subst (λ (n : ℕ). HasRoom m line n b) same.first (subst (HasRoom m line source) same.second has))
+
+    never : (held : ℕ) (other : Line) → at.SessionPut line source fresh ≡ at.SessionSplit other held → ⊥
+    never held other is = cc
+
+knows_as : (m : Machine) (activity other : Activity) → activity ≡ other → KnowsOf m other → KnowsOf m activity
+knows_as m activity other is knows = subst (KnowsOf m) (sym is) knows
+
+-- ---- the actor that steps
+
+module _ (laws : RoomLaws) (least : DCAP_MIN ≡ 6) (m : Machine) (actor : ℕ) (may : ℕ → Type 0) (fetched : StoreState) (inside : HoldsPagesOfFile m) (marks : MarksInPlace m) (knows : KnowsRoom m)
+    (brings : Brings m may fetched) (deed : Deed) (new : Machine) (capacity : SameCapacity m new) (does : MayDo deed.op (length m.order) fetched new.store) where
+  full_known : (full : TakesFull (now m actor fetched) deed) → LacksRoom new full.line full.id
+  full_known full = (full.rec, full.command, takes_full m actor may fetched inside brings deed new does laws full)
+
+  parted_known : (parts : PartsFull m actor (now m actor fetched) deed) → LacksRoom m parts.line parts.held → HasRoom new parts.line parts.held parts.row.leaves.fresh
+  parted_known parts (rec, command, lacks) = (rec, command, one_has_room m actor may fetched inside marks brings laws least new capacity parts.line parts.held deed parts.row does rec lacks)
+
+  kept_parent_knows : KeepsParent m actor deed → KnowsOf new deed.next
+  kept_parent_knows keeps = by keeps.after
+    where
+      by : (deed.next ≡ at.PosterPromote keeps.job keeps.parent) ⊎ (deed.next ≡ at.PosterAgain keeps.job keeps.parent) → KnowsOf new deed.next
+      by (inl is) = knows_as new deed.next _ is (promote_knows new keeps.job keeps.parent)
+      by (inr is) = knows_as new deed.next _ is (again_knows new keeps.job keeps.parent)
+
+  knows_there : HasPlace m actor (now m actor fetched) deed → KnowsOf new deed.next
+  knows_there (inl free) = free_knows new deed.next free
+  knows_there (inr (inl to)) = walk_knows new deed.next to.id to.held
+  knows_there (inr (inr (inl full))) = knows_as new deed.next _ (ap (λ (d : Deed). d.next) full.row.deed_is) (split_knows new full.line full.id (full_known full))
+  knows_there (inr (inr (inr (inl takes)))) = knows_as new deed.next _ (ap (λ (d : Deed). d.next) takes.row.deed_is) (child_knows new takes.job takes.id)
+  knows_there (inr (inr (inr (inr (inl keeps))))) = kept_parent_knows keeps
+  knows_there (inr (inr (inr (inr (inr (inr merges)))))) = handless_knows new deed.next (ap (λ (d : Deed). line_in_hand d.next) merges.stays.moves.is ∙ merges.stays.moves.hand)
+  knows_there (inr (inr (inr (inr (inr (inl parts)))))) =
+      knows_as new deed.next _ (ap (λ (d : Deed). d.next) parts.row.deed_is) (put_knows new parts.line parts.held parts.row.leaves.fresh (parted_known parts (knows.splits actor parts.held parts.line parts.before)))
+
+-- ---- each step
+
+first_mode : (id : ℕ) (rest : Option Mode) → cond (id == id) (Some Exclusive) rest ≡ Some Exclusive
+first_mode id rest = ap (λ (b : Bool). cond b (Some Exclusive) rest) (eq-eqb id id refl)
+
+second_mode : (first id : ℕ) → cond (first == id) (Some Exclusive) (cond (id == id) (Some Exclusive) None) ≡ Some Exclusive
+second_mode first id = elim (cases_Bool (first == id)) [
+  | inl here ↦ ap (λ (b : Bool). cond b (Some Exclusive) (cond (id == id) (Some Exclusive) None)) here
+  | inr off ↦ ap (λ (b : Bool). cond b (Some Exclusive) (cond (id == id) (Some Exclusive) None)) off ∙ first_mode id None
+]
+
+module _ (laws : RoomLaws) (least : DCAP_MIN ≡ 6) (m : Machine) (actor : ℕ) (outcome : Outcome) (new : Machine) (latches : MayLatch actor) (fit : LatchesFit m) (inside : HoldsPagesOfFile m) (marks : MarksInPlace m) (nobody : HasNobodyElse m)
+    (knows : KnowsRoom m) (step : StepsTo m actor outcome new) where
+  capacity : SameCapacity m new
+  capacity = capacity_stays m actor outcome new step
+
+  other_knows : (other : ℕ) → other ≢ actor → MayLatch other → KnowsOf new (m.activity other)
+  other_knows other another may = record {
+    splits = λ held line is.
+        splits_again m new capacity line held
+        (λ page live. other_holds m actor outcome new latches fit inside step other another may (at.SessionSplit line held) held Exclusive page is (first_mode held None) live)
+        (knows.splits other held line is);
+    puts = λ source fresh line is.
+        puts_again m new capacity line source fresh
+        (λ page live. other_holds m actor outcome new latches fit inside step other another may (at.SessionPut line source fresh) source Exclusive page is (first_mode source (cond (fresh == source) (Some Exclusive) None)) live)
+        (λ page live. other_holds m actor outcome new latches fit inside step other another may (at.SessionPut line source fresh) fresh Exclusive page is (second_mode source fresh) live)
+        (knows.puts other source fresh line is);
+  }
+
+  others_know : (other : ℕ) → other ≢ actor → new.activity other ≡ m.activity other → KnowsOf new (new.activity other)
+  others_know other another same = knows_as new (new.activity other) (m.activity other) same (elim (may_or_not other) [
+    | inl may ↦ other_knows other another may
+    | inr none ↦ knows_as new (m.activity other) at.SessionIdle (nobody other none) (free_knows new at.SessionIdle (record { walk = refl; latches = λ st. refl; merging = refl }))
+  ])
+
+  with_own : KnowsOf new (new.activity actor) → ((other : ℕ) → other ≢ actor → new.activity other ≡ m.activity other) → KnowsRoom new
+  with_own own others = all_know new (λ a. elim (cases_Bool (a == actor)) [
+    | inl here ↦ subst (λ (n : ℕ). KnowsOf new (new.activity n)) (sym (eqb-true a actor here)) own
+    | inr off ↦ let another = eqb-false a actor off in others_know a another (others a another)
+  ])
+
+  same_but_disk : KeepsAllButDisk m new → KnowsRoom new
+  same_but_disk keeps = with_own
+      (knows_as new (new.activity actor) (m.activity actor) (ap (λ (all : ℕ → Activity). all actor) keeps.activity) (record {
+        splits = λ held line is. splits_again m new capacity line held (λ page live. still held page (split_latched m.store (m.activity actor) line held is) live) (knows.splits actor held line is);
+        puts = λ source fresh line is.
+            let both = put_latched m.store (m.activity actor) line source fresh is in
+            puts_again m new capacity line source fresh (λ page live. still source page both.0 live) (λ page live. still fresh page both.1 live) (knows.puts actor source fresh line is);
+      }))
+      (λ other another. ap (λ (all : ℕ → Activity). all other) keeps.activity)
+    where
+      still : (id : ℕ) (page : LivePage) → mode_among id (latches_held m.store (m.activity actor)) ≡ Some Exclusive → live_here m.store id ≡ Some page → live_here new.store id ≡ Some page
+      still id page among live = ap if_live (keeps.memory id (Live page) (inl (actor, Exclusive, fit.exact actor id latches ∙ among)) (live_there (in_memory m.store id) page live))
+
+  did : (fetched : StoreState) (deed : Deed) → Performs m fetched actor deed outcome new → KnowsOf new deed.next → KnowsRoom new
+  did fetched deed performs own = with_own (knows_as new (new.activity actor) deed.next (own_next m actor fetched deed outcome new performs) own) (λ other another. stood other another)
+    where
+      stood : (other : ℕ) → other ≢ actor → new.activity other ≡ m.activity other
+      stood other another = performs.activity other ∙ ap (λ (b : Bool). cond b deed.next (m.activity other)) (ne_eqb other actor another)
+
+  freed : (fetched : StoreState) (deed : Deed) → Performs m fetched actor deed outcome new → HoldsNothing deed.next → KnowsRoom new
+  freed fetched deed performs free = did fetched deed performs (free_knows new deed.next free)
+
+  worked : Works m actor outcome new → KnowsRoom new
+  worked (inl (by, way, so)) = same_but_disk (stays_so m actor outcome new (outcomes.Blocked by) so)
+  worked (inr (inl (free, unready, inl (waits, force)))) = same_but_disk (forces_so m actor outcome new outcomes.Helped force)
+  worked (inr (inl (free, unready, inr (none, rest)))) =
+      rest_kind m outcomes.Helped outcome new _ (KnowsRoom new) none (λ at. refl) (λ more. same_but_disk (more_so m actor outcome new more)) (λ performs. freed m.store _ performs (nothing_run_out (m.activity actor))) rest
+  worked (inr (inr (free, ready, inl acts))) =
+      did acts.fetched acts.deed acts.performs
+      (knows_there laws least m actor _ acts.fetched inside marks knows acts.brings acts.deed new capacity acts.performs.store (place_after m actor acts.fetched _ acts.deed refl acts.row))
+  worked (inr (inr (free, ready, inr (inl gives)))) = freed gives.fetched _ gives.performs (nothing_given_up gives.why (m.activity actor))
+  worked (inr (inr (free, ready, inr (inr meets)))) = same_but_disk (meets_so m actor outcome new meets)
+
+pub room_stays_known : RoomLaws → DCAP_MIN ≡ 6 → RoomStaysKnown
+room_stays_known laws least m actor outcome new latches fit inside marks nobody knows step =
+    each_kind m actor outcome new (KnowsRoom new)
+    (λ said quiet so. same_but_disk laws least m actor outcome new latches fit inside marks nobody knows step (stays_so m actor outcome new said so))
+    (λ said quiet force. same_but_disk laws least m actor outcome new latches fit inside marks nobody knows step (forces_so m actor outcome new said force))
+    (λ more. same_but_disk laws least m actor outcome new latches fit inside marks nobody knows step (more_so m actor outcome new more))
+    (λ deed outright performs. freed laws least m actor outcome new latches fit inside marks nobody knows step m.store deed performs (record { walk = outright.walk; latches = outright.latches; merging = outright.merging }))
+    (worked laws least m actor outcome new latches fit inside marks nobody knows step)
+    step

@@ -1,0 +1,177 @@
+-- Two steps of one actor from one machine come to the same.
+use Rattle.std.proofs.Common.{◌≡◌, ◌⊎◌, inl, inr, ℕ, ◌++◌, [], length, Option, Some, None, IfSome, refl, sym, ap, ◌∙◌, subst}
+use Rattle.hb_space.specs.declared.records.Record.{Record}
+use Rattle.hb_frag.specs.declared.pages.LivePage.{LivePage}
+use Rattle.hb_frag.specs.declared.pages.Page.TheVariants.{Live}
+use Rattle.std.proofs.lemmas.Option.{same_Some}
+use Rattle.hb_ops.specs.declared.operations.Op.TheVariants.{Put}
+use Rattle.hb_set.specs.declared.commands.Command.TheVariants.{Insert}
+use Rattle.hb_set.specs.declared.commands.Reply.TheVariants as replies
+use Rattle.hb_set.specs.declared.scripts.Line.{Line}
+use Rattle.hb_core.specs.declared.outcomes.Outcome.{Outcome}
+use Rattle.hb_activity.specs.Deeds.{Deed, Says, takes_effect}
+use Rattle.hb_activity.specs.Walks.{walk_held}
+use Rattle.hb_core.proofs.Latches.Backing.{live_there}
+use Rattle.hb_core.proofs.TwoSteps.OneFetch.{Agree, IsHereUnchanged, fetches_agree, good_there, live_as_it_was, walks_here}
+use Rattle.hb_core.proofs.TwoSteps.OnePair.{both_steps}
+use Rattle.hb_core.proofs.TwoSteps.OneRow.{one_row}
+use Rattle.hb_core.proofs.TwoSteps.OneStore.{one_of_same, one_performed}
+use Rattle.hb_core.proofs.TwoSteps.RowSays.{rows_say_the_same}
+use Rattle.hb_core.specs.Acting.{DoesRow}
+use Rattle.hb_core.specs.Asking.{wanted_by}
+use Rattle.hb_core.specs.Fetching.{Brings}
+use Rattle.hb_core.specs.Keeps.{HoldsPagesOfFile, KnowsRoom, OneHasRoom}
+use Rattle.hb_core.specs.Machines.{Files, Machine, live_here, sight, with_disk}
+use Rattle.hb_core.specs.OutcomeLaws.{AreOneButMemory, ComesToSame, IsTurnedAside, OutcomeIsOne, StateIsOne}
+use Rattle.hb_core.specs.Performing.{Performs, given_by, outcome_of}
+use Rattle.hb_core.specs.Rows.{Row}
+use Rattle.hb_frag.specs.Leaves.{DirectlyHolds}
+use Rattle.hb_frag.specs.Rules.{AreInOrder}
+use Rattle.hb_ops.specs.Files.{if_live}
+use Rattle.hb_point.specs.SplitRows.{Puts}
+use Rattle.hb_store.specs.Calls.{KeepsAllButPages}
+use Rattle.hb_store.specs.States.{StoreState, in_memory}
+
+-- ---- they say the same
+
+module _ (m : Machine) (actor : ℕ) (outcome other : Outcome) (new next : Machine) where
+  said_so : outcome ≡ other → new ≡ next → ComesToSame outcome other new next
+  said_so says same = record {
+    says = says;
+    lines = ap (λ (x : Machine). x.lines) same;
+    answered = ap (λ (x : Machine). x.answered) same;
+    stop = ap (λ (x : Machine). x.stop) same;
+    clock = ap (λ (x : Machine). x.clock) same;
+  }
+
+  said_both : (f g : StoreState) (d e : Deed) → d.says ≡ e.says → Performs m f actor d outcome new → Performs m g actor e other next → ComesToSame outcome other new next
+  said_both f g d e same first second = record {
+    says = first.says ∙ ap outcome_of same ∙ sym second.says;
+    lines = first.lines ∙ sym second.lines;
+    answered = first.answered ∙ ap (λ (s : Says). m.answered ++ given_by (outcome_of s) m.clock) same ∙ sym second.answered;
+    stop = first.stop ∙ sym second.stop;
+    clock = first.clock ∙ sym second.clock;
+  }
+
+  said_rows : DoesRow m actor outcome new → DoesRow m actor other next → ComesToSame outcome other new next
+  said_rows row again =
+      said_both row.fetched again.fetched row.deed again.deed
+      (rows_say_the_same m row.fetched again.fetched row.brings.rest.meta again.brings.rest.meta (m.activity actor) (wanted_by m actor) row.deed again.deed row.row again.row)
+      row.performs again.performs
+
+pub outcome_is_one : OutcomeIsOne
+outcome_is_one m actor outcome other new next first second =
+    both_steps m actor outcome other new next (IsTurnedAside m actor outcome new ⊎ IsTurnedAside m actor other next ⊎ ComesToSame outcome other new next) (record {
+      first_aside = λ aside. inl aside;
+      second_aside = λ aside. inr (inl aside);
+      same = λ says is. inr (inr (said_so m actor outcome other new next says is));
+      deeds = λ d e is walk a b. inr (inr (said_both m actor outcome other new next m.store m.store d e (ap (λ (d : Deed). d.says) is) a b));
+      rows = λ a b. inr (inr (said_rows m actor outcome other new next a b));
+    }) first second
+
+-- ---- over a disk that tells they leave the same
+
+insert_of : (rec same : Record) → Insert rec ≡ Insert same → rec ≡ same
+insert_of rec same is = cc
+
+module _ (m : Machine) (files : Files) (tells : m.files ≡ Some files) (may might : ℕ → Type 0) (f g : StoreState) (first : Brings m may f) (second : Brings m might g) where
+  abbrev m1 : Machine
+  m1 = with_disk f m.files m.clock m
+
+  abbrev m2 : Machine
+  m2 = with_disk g m.files m.clock m
+
+  agree : Agree f g
+  agree = fetches_agree m files tells may might f g first second
+
+  in_order : HoldsPagesOfFile m → (id : ℕ) (page : LivePage) → live_here f id ≡ Some page → AreInOrder page
+  in_order inside id page live = (good_there m may f first id (Live page) inside (live_there (in_memory f id) page live)).1.1.in_order
+
+  -- a record goes into one of the halves
+  module _ (line : Line) (source fresh : ℕ) (d e : Deed) (a : Puts (sight m1) line source fresh d) (b : Puts (sight m2) line source fresh e) (rec : Record) (command : line.command ≡ Insert rec) (one : OneHasRoom m source fresh rec.key rec.body) where
+    rec_a : a.rec ≡ rec
+    rec_a = insert_of a.rec rec (sym a.command ∙ command)
+
+    rec_b : b.rec ≡ rec
+    rec_b = insert_of b.rec rec (sym b.command ∙ command)
+
+    at_a : (id : ℕ) (page : LivePage) → live_here m.store id ≡ Some page → a.half ≡ id → DirectlyHolds page rec.key
+    at_a id page live is =
+        let same : a.page ≡ page = live_as_it_was m may f first id page a.page live (ap (live_here f) (sym is) ∙ a.live) in
+        subst (λ (r : Record). DirectlyHolds page r.key) rec_a (subst (λ (q : LivePage). DirectlyHolds q a.rec.key) same a.holds)
+
+    at_b : (id : ℕ) (page : LivePage) → live_here m.store id ≡ Some page → b.half ≡ id → DirectlyHolds page rec.key
+    at_b id page live is =
+        let same : b.page ≡ page = live_as_it_was m might g second id page b.page live (ap (live_here g) (sym is) ∙ b.live) in
+        subst (λ (r : Record). DirectlyHolds page r.key) rec_b (subst (λ (q : LivePage). DirectlyHolds q b.rec.key) same b.holds)
+
+    one_half : (a.half ≡ source) ⊎ (a.half ≡ fresh) → (b.half ≡ source) ⊎ (b.half ≡ fresh) → a.half ≡ b.half
+    one_half (inl x) (inl y) = x ∙ sym y
+    one_half (inr x) (inr y) = x ∙ sym y
+    one_half (inl x) (inr y) = absurd (one.not_both (at_a source one.first one.first_live x) (at_b fresh one.second one.second_live y))
+    one_half (inr x) (inl y) = absurd (one.not_both (at_b source one.first one.first_live y) (at_a fresh one.second one.second_live x))
+
+    one_put : d ≡ e
+    one_put =
+        a.deed_is ∙ ap (λ (r : Record). takes_effect (length m.order) line replies.Done (Some (Put a.half r)) []) (rec_a ∙ sym rec_b)
+        ∙ ap (λ n. takes_effect (length m.order) line replies.Done (Some (Put n b.rec)) []) (one_half a.either b.either) ∙ sym b.deed_is
+
+  one_deed : (actor : ℕ) (d e : Deed) → HoldsPagesOfFile m → KnowsRoom m → Row (m.activity actor) (wanted_by m actor) m1 d → Row (m.activity actor) (wanted_by m actor) m2 e → d ≡ e
+  one_deed actor d e inside knows row again =
+      one_row m f g (first.rest.meta ∙ sym second.rest.meta) agree (in_order inside) (m.activity actor) (wanted_by m actor) d e
+      (λ line source fresh d e is a b. let has = knows.puts actor source fresh line is in one_put line source fresh d e a b has.0 has.1 has.2)
+      row again
+
+  -- what both left is the same
+  alike : KeepsAllButPages f g
+  alike = record {
+    turn = second.rest.turn ∙ sym first.rest.turn;
+    meta = second.rest.meta ∙ sym first.rest.meta;
+    log = second.rest.log ∙ sym first.rest.log;
+    imaged = second.rest.imaged ∙ sym first.rest.imaged;
+    stopped = second.rest.stopped ∙ sym first.rest.stopped;
+  }
+
+  -- and so is the page at which a walk goes on
+  same_here : (deed : Deed) (held : Option ℕ) → IfSome held (IsHereUnchanged m1 deed) → IfSome held (IsHereUnchanged m2 deed) → IfSome held (λ id. (deed.op ≡ None) × (live_here f id ≡ live_here g id))
+  same_here deed None here there = tt
+  same_here deed (Some id) here there = (
+    here.nothing,
+    ap if_live (live_there (in_memory f id) here.page here.live ∙ ap Some (agree id (Live here.page) (Live there.page)
+        (live_there (in_memory f id) here.page here.live) (live_there (in_memory g id) there.page there.live)) ∙ sym (live_there (in_memory g id) there.page there.live)),
+  )
+
+  one_by_row : (actor : ℕ) (deed : Deed) (outcome other : Outcome) (new next : Machine) → Row (m.activity actor) (wanted_by m actor) m1 deed → Row (m.activity actor) (wanted_by m actor) m2 deed
+      → Performs m f actor deed outcome new → Performs m g actor deed other next → AreOneButMemory new next
+  one_by_row actor deed outcome other new next row again one two =
+      one_performed f g alike agree m actor deed outcome other new next
+      (same_here deed (walk_held deed.next) (walks_here m1 (m.activity actor) (wanted_by m actor) deed row) (walks_here m2 (m.activity actor) (wanted_by m actor) deed again)) one two
+
+-- ---- they lead to machines that are one but for the pages in memory
+
+module _ (m : Machine) (actor : ℕ) (outcome other : Outcome) (new next : Machine) where
+  nowhere : (deed : Deed) (held : Option ℕ) → held ≡ None → IfSome held (λ id. (deed.op ≡ None) × (live_here m.store id ≡ live_here m.store id))
+  nowhere deed None none = tt
+  nowhere deed (Some id) none = absurd (let never : Some id ≡ None = none in cc)
+
+  one_by_deed : (d e : Deed) → d ≡ e → walk_held d.next ≡ None → Performs m m.store actor d outcome new → Performs m m.store actor e other next → AreOneButMemory new next
+  one_by_deed d e same walk first second =
+      one_performed m.store m.store (record { turn = refl; meta = refl; log = refl; imaged = refl; stopped = refl }) (λ id a b one two. same_Some a b (sym one ∙ two)) m actor d outcome other new next
+      (nowhere d (walk_held d.next) walk) first (subst (λ (x : Deed). Performs m m.store actor x other next) (sym same) second)
+
+  one_by_rows : (files : Files) → m.files ≡ Some files → HoldsPagesOfFile m → KnowsRoom m → DoesRow m actor outcome new → DoesRow m actor other next → AreOneButMemory new next
+  one_by_rows files tells inside knows a b =
+      let same = one_deed m files tells _ _ a.fetched b.fetched a.brings b.brings actor a.deed b.deed inside knows a.row b.row in
+      one_by_row m files tells _ _ a.fetched b.fetched a.brings b.brings actor a.deed outcome other new next a.row
+      (subst (Row (m.activity actor) (wanted_by m actor) (with_disk b.fetched m.files m.clock m)) (sym same) b.row) a.performs
+      (subst (λ (d : Deed). Performs m b.fetched actor d other next) (sym same) b.performs)
+
+pub state_is_one : StateIsOne
+state_is_one m files actor outcome other new next tells inside knows first second =
+    both_steps m actor outcome other new next (IsTurnedAside m actor outcome new ⊎ IsTurnedAside m actor other next ⊎ AreOneButMemory new next) (record {
+      first_aside = λ aside. inl aside;
+      second_aside = λ aside. inr (inl aside);
+      same = λ says is. inr (inr (one_of_same new next is));
+      deeds = λ d e is walk a b. inr (inr (one_by_deed m actor outcome other new next d e is walk a b));
+      rows = λ a b. inr (inr (one_by_rows m actor outcome other new next files tells inside knows a b));
+    }) first second

@@ -1,0 +1,210 @@
+-- Two steps of one actor from one machine go the same way, unless one was turned aside.
+use Rattle.std.proofs.Common.{ap, ◌≡◌, ◌≢◌, ◌⊎◌, inl, inr, ℕ, ◌++◌, Bool, true, false, List, ◌∷◌, All, Option, Some, None, IfSome, IsSomeAnd, IsTrue, refl, sym, ◌∙◌, subst, arith}
+use Rattle.std.specs.Prelude.{MatchOption}
+use Rattle.std.specs.List.{Contains}
+use Rattle.std.proofs.lemmas.Bool.{cases_lt}
+use Rattle.std.proofs.lemmas.List.Elements.{All-contains, Contains-append_right, Contains-get_or}
+use Rattle.hb_latch.specs.declared.modes.Mode.{Mode}
+use Rattle.hb_set.specs.declared.commands.Reply.{Reply}
+use Rattle.hb_set.specs.declared.commands.Reply.TheVariants as replies
+use Rattle.hb_set.specs.declared.scripts.Line.{Line}
+use Rattle.hb_activity.specs.declared.jobs.Job.{Job}
+use Rattle.hb_activity.specs.declared.jobs.JobKind.{JobKind}
+use Rattle.hb_activity.specs.declared.jobs.JobKind.TheVariants.{Post, Merge}
+use Rattle.hb_activity.specs.declared.wanting.Wanted.{Wanted}
+use Rattle.hb_activity.specs.declared.activities.Activity.{Activity}
+use Rattle.hb_activity.specs.declared.activities.Activity.TheVariants as at
+use Rattle.hb_store.specs.declared.stops.StopWhy.{StopWhy}
+use Rattle.hb_core.specs.declared.outcomes.Outcome.{Outcome}
+use Rattle.hb_core.specs.declared.outcomes.Outcome.TheVariants as outcomes
+use Rattle.hb_activity.specs.Deeds.{Deed, answers_now}
+use Rattle.hb_activity.specs.Queue.{LeavesFirst}
+use Rattle.hb_activity.specs.Walks.{walk_held}
+use Rattle.hb_consol.specs.ConsolidatorRows.{IsMergingOf}
+use Rattle.hb_core.proofs.Table.NextPlaces.{nothing_run_out}
+use Rattle.hb_core.proofs.TwoSteps.OnePiece.{one_job, one_merging, taken}
+use Rattle.hb_core.specs.Acting.{Abandons, DoesRow, MeetsBadPage}
+use Rattle.hb_core.specs.Asking.{wanted_by}
+use Rattle.hb_core.specs.Forcing.{FailsToWrite, Flushes, FlushesOnce, FlushesRest, ForcesFirst, StaysSo}
+use Rattle.hb_core.specs.GivingUp.{runs_out}
+use Rattle.hb_core.specs.Machines.{Machine}
+use Rattle.hb_core.specs.OutcomeLaws.{IsTurnedAside}
+use Rattle.hb_core.specs.Performing.{ChangesQueue, Performs}
+use Rattle.hb_core.specs.Stages.{flusher_steps}
+use Rattle.hb_core.specs.Steps.{TakesJob, TakesMerging, AwaitsPlace, GetsReady, StepsAs, StepsTo, TakesJobToMerge, TakesPosting, Works}
+use Rattle.hb_latch.specs.Modes.{goes_beside}
+use Rattle.hb_latch.specs.Tables.{IsGrantable, IsLeastInTheWay, LatchTable, mode_at}
+use Rattle.hb_point.specs.SessionRows.{next_line, taking, WantsBoxes}
+use Rattle.hb_poster.specs.PosterRows.{IsPostingOf}
+
+-- ---- the least actor in the way is one, and where one is the way isn't free
+
+module _ (table : LatchTable) (actor : ℕ) where
+  one_least : (wanted : Option Wanted) (by other : ℕ) → IsSomeAnd wanted (λ w. IsLeastInTheWay table actor w.page w.mode by) → IsSomeAnd wanted (λ w. IsLeastInTheWay table actor w.page w.mode other) → by ≡ other
+  one_least None by other none least = absurd none
+  one_least (Some w) by other first second = elim (cases_lt by other) [
+    | inl lt ↦ absurd (second.least by lt first.keeps)
+    | inr ge ↦ elim (cases_lt other by) [
+      | inl lt ↦ absurd (first.least other lt second.keeps)
+      | inr le ↦ omega (arith, ge, le)
+    ]
+  ]
+
+  clash_at : (mode : Mode) (held : Option Mode) → IsSomeAnd held (λ h. ¬ (IsTrue (goes_beside mode h))) → IfSome held (λ h. IsTrue (goes_beside mode h)) → ⊥
+  clash_at mode None conflict beside = conflict
+  clash_at mode (Some h) conflict beside = conflict beside
+
+  not_free : (wanted : Option Wanted) (by : ℕ) → IsSomeAnd wanted (λ w. IsLeastInTheWay table actor w.page w.mode by) → IfSome wanted (λ w. IsGrantable table actor w.page w.mode) → ⊥
+  not_free None by none free = none
+  not_free (Some w) by least free = clash_at w.mode (mode_at table by w.page) least.keeps.conflict (free by least.keeps.another)
+
+-- who takes a job holds no page of a walk yet
+posting_holds_nothing : (job : Job) (height : ℕ) (next : Activity) → IsPostingOf job height next → walk_held next ≡ None
+posting_holds_nothing job height next (inl (above, is)) = ap walk_held is
+posting_holds_nothing job height next (inr (inl (same, is))) = ap walk_held is
+posting_holds_nothing job height next (inr (inr (below, is))) = ap walk_held is
+
+merging_holds_nothing : (job : Job) (height : ℕ) (next : Activity) → IsMergingOf job height next → walk_held next ≡ None
+merging_holds_nothing job height next (inl (above, is)) = ap walk_held is
+merging_holds_nothing job height next (inr (below, is)) = ap walk_held is
+
+-- a write that fails within four calls fails within nine
+pub in_nine : (m : Machine) (outcome : Outcome) (new : Machine) → FailsToWrite m 4 outcome new → FailsToWrite m 9 outcome new
+in_nine m outcome new fails = record { clock = fails.clock; from = fails.from; few = omega (arith, fails.few); says = fails.says; stops = fails.stops }
+
+-- What is to be shown of two steps.
+pub record ShowsBoth (m : Machine) (actor : ℕ) (outcome other : Outcome) (new next : Machine) (G : Type 0) : Type 0 where
+  pub first_aside : IsTurnedAside m actor outcome new → G
+  pub second_aside : IsTurnedAside m actor other next → G
+  pub same : outcome ≡ other → new ≡ next → G
+  pub deeds : (d e : Deed) → d ≡ e → walk_held d.next ≡ None → Performs m m.store actor d outcome new → Performs m m.store actor e other next → G
+  pub rows : DoesRow m actor outcome new → DoesRow m actor other next → G
+
+module _ (m : Machine) (actor : ℕ) (outcome other : Outcome) (new next : Machine) (G : Type 0) (shows : ShowsBoth m actor outcome other new next G) where
+  both_stay : (said : Outcome) → StaysSo m said outcome new → StaysSo m said other next → G
+  both_stay said (a, b) (c, d) = shows.same (a ∙ sym c) (b ∙ sym d)
+
+  both_force : (said : Outcome) → ForcesFirst m said outcome new → ForcesFirst m said other next → G
+  both_force said (inr (waits, fails)) second = shows.first_aside (inr (inl (in_nine m outcome new fails)))
+  both_force said (inl well) (inr (waits, fails)) = shows.second_aside (inr (inl (in_nine m other next fails)))
+  both_force said (inl (a, b)) (inl (c, d)) = shows.same (a ∙ sym c) (b ∙ sym d)
+
+  -- while nothing is flushed besides, no two steps flush well
+  both_rest : (due : Outcome) (first_does second_does : Type 0) → (first_does → second_does → G) → FlushesRest m due first_does outcome new → FlushesRest m due second_does other next → G
+  both_rest due A B both (inl (more, well)) (inl (again, also)) = absurd well.flushed
+  both_rest due A B both (inl (more, well)) (inr (inl (again, fails))) = shows.second_aside (inr (inl fails))
+  both_rest due A B both (inl (more, well)) (inr (inr (none, second))) = absurd (none more)
+  both_rest due A B both (inr (inl (more, fails))) second = shows.first_aside (inr (inl fails))
+  both_rest due A B both (inr (inr (none, first))) (inl (more, well)) = absurd (none more)
+  both_rest due A B both (inr (inr (none, first))) (inr (inl (more, fails))) = shows.second_aside (inr (inl fails))
+  both_rest due A B both (inr (inr (none, first))) (inr (inr (again, second))) = both first second
+
+  both_flush_once : (due : Outcome) (first_does second_does : Type 0) → (first_does → second_does → G) → FlushesOnce m due first_does outcome new → FlushesOnce m due second_does other next → G
+  both_flush_once due A B both (inl (waits, first)) (inl (again, second)) = both_force due first second
+  both_flush_once due A B both (inl (waits, first)) (inr (none, second)) = absurd (waits none)
+  both_flush_once due A B both (inr (none, first)) (inl (waits, second)) = absurd (waits none)
+  both_flush_once due A B both (inr (none, first)) (inr (again, second)) = both_rest due A B both first second
+
+  -- ---- what works
+
+  both_get_ready : GetsReady m actor outcome new → GetsReady m actor other next → G
+  both_get_ready first second =
+      both_flush_once outcomes.Helped (Performs m m.store actor (runs_out (m.activity actor)) outcome new) (Performs m m.store actor (runs_out (m.activity actor)) other next)
+      (λ a b. shows.deeds (runs_out (m.activity actor)) (runs_out (m.activity actor)) refl (nothing_run_out (m.activity actor)).walk a b) first second
+
+  both_act : DoesRow m actor outcome new ⊎ Abandons m actor outcome new ⊎ MeetsBadPage m actor outcome new → DoesRow m actor other next ⊎ Abandons m actor other next ⊎ MeetsBadPage m actor other next → G
+  both_act (inr (inl gives)) second = shows.first_aside (inr (inr (inl gives)))
+  both_act (inr (inr meets)) second = shows.first_aside (inr (inr (inr meets)))
+  both_act (inl row) (inr (inl gives)) = shows.second_aside (inr (inr (inl gives)))
+  both_act (inl row) (inr (inr meets)) = shows.second_aside (inr (inr (inr meets)))
+  both_act (inl row) (inl again) = shows.rows row again
+
+  both_work : Works m actor outcome new → Works m actor other next → G
+  both_work (inl (by, way, first)) (inl (by', way', second)) =
+      let same = one_least m.latches actor (wanted_by m actor) by by' way way' in
+      both_stay (outcomes.Blocked by) first (subst (λ (n : ℕ). StaysSo m (outcomes.Blocked n) other next) (sym same) second)
+  both_work (inl (by, way, first)) (inr (inl (free, ready, rest))) = absurd (not_free m.latches actor (wanted_by m actor) by way free)
+  both_work (inl (by, way, first)) (inr (inr (free, ready, rest))) = absurd (not_free m.latches actor (wanted_by m actor) by way free)
+  both_work (inr (inl (free, ready, rest))) (inl (by, way, second)) = absurd (not_free m.latches actor (wanted_by m actor) by way free)
+  both_work (inr (inr (free, ready, rest))) (inl (by, way, second)) = absurd (not_free m.latches actor (wanted_by m actor) by way free)
+  both_work (inr (inl (free, unready, first))) (inr (inl (free', unready', second))) = both_get_ready first second
+  both_work (inr (inl (free, unready, first))) (inr (inr (free', ready, second))) = absurd (ready unready)
+  both_work (inr (inr (free, ready, first))) (inr (inl (free', unready, second))) = absurd (ready unready)
+  both_work (inr (inr (free, ready, first))) (inr (inr (free', ready', second))) = both_act first second
+
+  -- ---- what takes a line or a job, and what awaits its place
+
+  abbrev TakesOr : (o : Outcome) (n : Machine) → Option Line → Type 0
+  TakesOr o n line = MatchOption line (StaysSo m outcomes.Idle o n) (λ line. Performs m m.store actor (taking line) o n ⊎ (WantsBoxes line.command × Performs m m.store actor (answers_now line.number replies.NoMemory) o n))
+
+  both_take : (line : Option Line) → m.activity actor ≡ at.SessionIdle → next_line actor m.answered m.lines ≡ line → TakesOr outcome new line → TakesOr other next line → G
+  both_take None idle is first second = both_stay outcomes.Idle first second
+  both_take (Some line) idle is (inr (boxes, performs)) second = shows.first_aside (inl (record { idle = idle; line = line; next = is; boxes = boxes; performs = performs }))
+  both_take (Some line) idle is (inl first) (inr (boxes, performs)) = shows.second_aside (inl (record { idle = idle; line = line; next = is; boxes = boxes; performs = performs }))
+  both_take (Some line) idle is (inl first) (inl second) = shows.deeds (taking line) (taking line) refl refl first second
+
+  -- a job that is taken was among those that wait
+  was_waiting : (kind : JobKind) (job : Job) (old left : List Job) → LeavesFirst kind old job left → All (λ (job : Job). job.kind ≢ kind) old → ⊥
+  was_waiting kind job old left leaves none =
+      let among : Contains (leaves.front ++ job ∷ leaves.behind) job = Contains-append_right leaves.front (job ∷ leaves.behind) job (Contains-get_or (job ∷ leaves.behind) 0 job (omega arith)) in
+      All-contains (λ (job : Job). job.kind ≢ kind) old job none (subst (λ (jobs : List Job). Contains jobs job) (sym leaves.whole) among) leaves.of_kind
+
+  no_posting : (deed : Deed) (queue : List Job) → All (λ (job : Job). job.kind ≢ Post) m.jobs → TakesJob m deed → ChangesQueue deed m.jobs queue → ⊥
+  no_posting deed queue none takes changes = was_waiting Post takes.job m.jobs changes.left (taken Post deed takes.job takes.next m.jobs queue takes.kind takes.deed_is changes) none
+
+  both_post : TakesPosting m actor outcome new → TakesPosting m actor other next → G
+  both_post (inl (none, first)) (inl (none', second)) = both_stay outcomes.Idle first second
+  both_post (inl (none, first)) (inr (deed, takes, second)) = absurd (no_posting deed next.jobs none takes second.jobs)
+  both_post (inr (deed, takes, first)) (inl (none, second)) = absurd (no_posting deed new.jobs none takes first.jobs)
+  both_post (inr (d, takes, first)) (inr (e, again, second)) =
+      shows.deeds d e (one_job m d e new.jobs next.jobs first.jobs second.jobs takes again) (ap (λ (x : Deed). walk_held x.next) takes.deed_is ∙ posting_holds_nothing takes.job m.store.meta.height takes.next takes.posting) first second
+
+  no_merging : (deed : Deed) (queue : List Job) → All (λ (job : Job). job.kind ≢ Merge) m.jobs → TakesMerging m deed → ChangesQueue deed m.jobs queue → ⊥
+  no_merging deed queue none takes changes = was_waiting Merge takes.job m.jobs changes.left (taken Merge deed takes.job takes.next m.jobs queue takes.kind takes.deed_is changes) none
+
+  both_merge : TakesJobToMerge m actor outcome new → TakesJobToMerge m actor other next → G
+  both_merge (inl (none, first)) (inl (none', second)) = both_stay outcomes.Idle first second
+  both_merge (inl (none, first)) (inr (deed, takes, second)) = absurd (no_merging deed next.jobs none takes second.jobs)
+  both_merge (inr (deed, takes, first)) (inl (none, second)) = absurd (no_merging deed new.jobs none takes first.jobs)
+  both_merge (inr (d, takes, first)) (inr (e, again, second)) =
+      shows.deeds d e (one_merging m d e new.jobs next.jobs first.jobs second.jobs takes again) (ap (λ (x : Deed). walk_held x.next) takes.deed_is ∙ merging_holds_nothing takes.job m.store.meta.height takes.next takes.merging) first second
+
+  both_flush : (on : Bool) → Flushes on m outcome new → Flushes on m other next → G
+  both_flush false first second = both_stay outcomes.Idle first second
+  both_flush true first second = both_flush_once outcomes.Moved (StaysSo m outcomes.Idle outcome new) (StaysSo m outcomes.Idle other next) (λ a b. both_stay outcomes.Idle a b) first second
+
+  both_await : (number : ℕ) (reply : Reply) (place : ℕ) → AwaitsPlace m actor number reply place outcome new → AwaitsPlace m actor number reply place other next → G
+  both_await number reply place (inl (lt, first)) (inl (lt', second)) = shows.deeds (answers_now number reply) (answers_now number reply) refl refl first second
+  both_await number reply place (inl (lt, first)) (inr (ge, second)) = absurd (omega (arith, lt, ge))
+  both_await number reply place (inr (ge, first)) (inl (lt, second)) = absurd (omega (arith, lt, ge))
+  both_await number reply place (inr (ge, first)) (inr (ge', second)) = both_force outcomes.Moved first second
+
+  both_step : (activity : Activity) → m.activity actor ≡ activity → StepsAs activity m actor outcome new → StepsAs activity m actor other next → G
+  both_step at.SessionIdle is first second = both_take (next_line actor m.answered m.lines) is refl first second
+  both_step (at.SessionAwait number reply place) is first second = both_await number reply place first second
+  both_step at.PosterIdle is first second = both_post first second
+  both_step at.ConsolidatorIdle is first second = both_merge first second
+  both_step at.Flusher is first second = both_flush flusher_steps first second
+  both_step (at.SessionWalk line held rest found) is first second = both_work first second
+  both_step (at.SessionSplit line held) is first second = both_work first second
+  both_step (at.SessionPut line source fresh) is first second = both_work first second
+  both_step (at.PosterGrow job) is first second = both_work first second
+  both_step (at.PosterWalk job held) is first second = both_work first second
+  both_step (at.PosterChild job parent) is first second = both_work first second
+  both_step (at.PosterPromote job parent) is first second = both_work first second
+  both_step (at.PosterAgain job parent) is first second = both_work first second
+  both_step (at.ConsolidatorWalk job held) is first second = both_work first second
+  both_step (at.ConsolidatorScan job parent child) is first second = both_work first second
+  both_step (at.ConsolidatorTry job parent keep gone leaf) is first second = both_work first second
+  both_step (at.ConsolidatorPromote job parent keep gone) is first second = both_work first second
+  both_step (at.ConsolidatorKeep job parent keep gone) is first second = both_work first second
+  both_step (at.ConsolidatorDecide job parent keep gone) is first second = both_work first second
+
+  both_run : (stop : Option StopWhy)
+      → MatchOption stop (StepsAs (m.activity actor) m actor outcome new) (λ why. StaysSo m (outcomes.Stopped why) outcome new)
+      → MatchOption stop (StepsAs (m.activity actor) m actor other next) (λ why. StaysSo m (outcomes.Stopped why) other next) → G
+  both_run None first second = both_step (m.activity actor) refl first second
+  both_run (Some why) first second = both_stay (outcomes.Stopped why) first second
+
+  pub both_steps : StepsTo m actor outcome new → StepsTo m actor other next → G
+  both_steps first second = both_run m.stop first second

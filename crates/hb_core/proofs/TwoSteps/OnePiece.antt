@@ -1,0 +1,229 @@
+-- The pieces of a row that the table fixes: the oldest job, the plan, the next number, the part that leaves a page.
+use Rattle.std.proofs.Common.{◌≡◌, ◌≢◌, inl, inr, ℕ, ◌++◌, List, [], ◌∷◌, All, Option, Some, None, refl, sym, ap, ◌∙◌, subst, arith}
+use Rattle.std.proofs.lemmas.Bool.{cases_lt}
+use Rattle.std.proofs.lemmas.List.Elements.{All-head, All-tail}
+use Rattle.std.proofs.lemmas.Option.{same_Some}
+use Rattle.hb_space.specs.declared.records.Record.{Record}
+use Rattle.hb_layout.specs.declared.meta.Meta.{Meta}
+use Rattle.hb_frag.specs.declared.leaves.Leaf.TheVariants.{Records, Child, Sibling}
+use Rattle.hb_frag.specs.declared.pages.LivePage.{LivePage}
+use Rattle.hb_frag.specs.declared.pages.Page.{Page}
+use Rattle.hb_frag.specs.declared.pages.Page.TheVariants.{Free}
+use Rattle.hb_frag.specs.declared.paths.Side.{Side}
+use Rattle.hb_ops.specs.declared.leaf_cuts.LeafCut.{LeafCut}
+use Rattle.hb_frag.specs.declared.paths.Side.TheVariants.{Left, Right}
+use Rattle.hb_terms.specs.declared.plans.PostPlan.{PostPlan}
+use Rattle.hb_terms.specs.declared.plans.PostPlan.TheVariants as plans
+use Rattle.hb_activity.specs.declared.jobs.Job.{Job}
+use Rattle.hb_activity.specs.declared.jobs.JobKind.{JobKind}
+use Rattle.hb_activity.specs.declared.jobs.JobKind.TheVariants.{Post, Merge}
+use Rattle.hb_activity.specs.declared.activities.Activity.{Activity}
+use Rattle.hb_activity.specs.Deeds.{Deed, takes_job}
+use Rattle.hb_activity.specs.Queue.{AddsJob, AddsJobs, LeavesBy, LeavesFirst}
+use Rattle.hb_consol.specs.ConsolidatorRows.{IsMergingOf}
+use Rattle.hb_core.proofs.Memory.NextNumbers.{is_next_number}
+use Rattle.hb_core.specs.Machines.{Machine, next_of}
+use Rattle.hb_core.specs.Performing.{ChangesQueue}
+use Rattle.hb_core.specs.Steps.{TakesJob, TakesMerging}
+use Rattle.hb_frag.specs.Leaves.{Placed, weight_of}
+use Rattle.hb_frag.specs.Trees.{Tree, Tip}
+use Rattle.hb_ops.specs.Cutting.{going}
+use Rattle.hb_poster.specs.PosterRows.{IsPostingOf}
+use Rattle.hb_space.specs.Boxes.{Area}
+use Rattle.hb_split.specs.Choosing.{AreChosen, Chooses, IsBest, NotBehind, heavier_side, count_on}
+use Rattle.hb_store.specs.NextPage.{IsNext}
+use Rattle.hb_store.specs.States.{StoreState, in_memory}
+use Rattle.hb_terms.specs.Plans.{IsOwed, IsPlan, posted_parent}
+
+-- ---- the oldest job of its kind, and what its poster does next
+
+same_front : (kind : JobKind) (front other behind rest : List Job) (job next : Job) → front ++ job ∷ behind ≡ other ++ next ∷ rest → job.kind ≡ kind → next.kind ≡ kind
+    → All (λ (j : Job). j.kind ≢ kind) front → All (λ (j : Job). j.kind ≢ kind) other → (job ≡ next) × (front ++ behind ≡ other ++ rest)
+same_front kind [] [] behind rest job next is of_kind is_kind none lack = let whole : job ∷ behind ≡ next ∷ rest = is in (cc, let tail : behind ≡ rest = cc in tail)
+same_front kind [] (y ∷ ys) behind rest job next is of_kind is_kind none lack = let same : job ≡ y = cc in absurd (All-head (λ (j : Job). j.kind ≢ kind) y ys lack (ap (λ (j : Job). j.kind) (sym same) ∙ of_kind))
+same_front kind (x ∷ xs) [] behind rest job next is of_kind is_kind none lack = let same : x ≡ next = cc in absurd (All-head (λ (j : Job). j.kind ≢ kind) x xs none (ap (λ (j : Job). j.kind) same ∙ is_kind))
+same_front kind (x ∷ xs) (y ∷ ys) behind rest job next is of_kind is_kind none lack =
+    let same : x ≡ y = cc in
+    let tail : xs ++ job ∷ behind ≡ ys ++ next ∷ rest = cc in
+    let later = same_front kind xs ys behind rest job next tail of_kind is_kind (All-tail (λ (j : Job). j.kind ≢ kind) x xs none) (All-tail (λ (j : Job). j.kind ≢ kind) y ys lack) in
+    (later.0, ap (λ (j : Job). j ∷ (xs ++ behind)) same ∙ ap (λ (l : List Job). y ∷ l) later.1)
+
+-- one job leaves as the first of its kind, and the others are as they were
+first_leaves : (kind : JobKind) (old left other : List Job) (job next : Job) → LeavesFirst kind old job left → LeavesFirst kind old next other → (job ≡ next) × (left ≡ other)
+first_leaves kind old left other job next a b =
+    let same = same_front kind a.front b.front a.behind b.behind job next (sym a.whole ∙ b.whole) a.of_kind b.of_kind a.first b.first in
+    (same.0, a.rest ∙ same.1 ∙ sym b.rest)
+
+-- the job that a deed takes has left as the first of its kind
+pub taken : (kind : JobKind) (deed : Deed) (job : Job) (next : Activity) (old new : List Job) → job.kind ≡ kind → deed ≡ takes_job next job → (changes : ChangesQueue deed old new) → LeavesFirst kind old job changes.left
+taken kind deed job next old new of_kind is changes =
+    subst (λ (k : JobKind). LeavesFirst k old job changes.left) of_kind (subst (λ (d : Deed). LeavesBy d.takes old changes.left) is changes.takes)
+
+one_posting : (job : Job) (height : ℕ) (next other : Activity) → IsPostingOf job height next → IsPostingOf job height other → next ≡ other
+one_posting job height next other (inl (a, is)) (inl (b, same)) = is ∙ sym same
+one_posting job height next other (inr (inl (a, is))) (inr (inl (b, same))) = is ∙ sym same
+one_posting job height next other (inr (inr (a, is))) (inr (inr (b, same))) = is ∙ sym same
+one_posting job height next other (inl (a, is)) (inr (inl (b, same))) = absurd (omega (arith, a, b))
+one_posting job height next other (inl (a, is)) (inr (inr (b, same))) = absurd (omega (arith, a, b))
+one_posting job height next other (inr (inl (a, is))) (inl (b, same)) = absurd (omega (arith, a, b))
+one_posting job height next other (inr (inl (a, is))) (inr (inr (b, same))) = absurd (omega (arith, a, b))
+one_posting job height next other (inr (inr (a, is))) (inl (b, same)) = absurd (omega (arith, a, b))
+one_posting job height next other (inr (inr (a, is))) (inr (inl (b, same))) = absurd (omega (arith, a, b))
+
+one_merging_of : (job : Job) (height : ℕ) (next other : Activity) → IsMergingOf job height next → IsMergingOf job height other → next ≡ other
+one_merging_of job height next other (inl (a, is)) (inl (b, same)) = is ∙ sym same
+one_merging_of job height next other (inr (a, is)) (inr (b, same)) = is ∙ sym same
+one_merging_of job height next other (inl (a, is)) (inr (b, same)) = absurd (omega (arith, a, b))
+one_merging_of job height next other (inr (a, is)) (inl (b, same)) = absurd (omega (arith, a, b))
+
+module _ (m : Machine) (d e : Deed) (new next : List Job) (changes : ChangesQueue d m.jobs new) (other : ChangesQueue e m.jobs next) where
+  pub one_job : TakesJob m d → TakesJob m e → d ≡ e
+  one_job first second =
+      let a = taken Post d first.job first.next m.jobs new first.kind first.deed_is changes in
+      let b = taken Post e second.job second.next m.jobs next second.kind second.deed_is other in
+      let same = (first_leaves Post m.jobs changes.left other.left first.job second.job a b).0 in
+      let goes = one_posting second.job m.store.meta.height first.next second.next (subst (λ (j : Job). IsPostingOf j m.store.meta.height first.next) same first.posting) second.posting in
+      first.deed_is ∙ ap (λ (n : Activity). takes_job n first.job) goes ∙ ap (λ (j : Job). takes_job second.next j) same ∙ sym second.deed_is
+
+  pub one_merging : TakesMerging m d → TakesMerging m e → d ≡ e
+  one_merging first second =
+      let a = taken Merge d first.job first.next m.jobs new first.kind first.deed_is changes in
+      let b = taken Merge e second.job second.next m.jobs next second.kind second.deed_is other in
+      let same = (first_leaves Merge m.jobs changes.left other.left first.job second.job a b).0 in
+      let goes = one_merging_of second.job m.store.meta.height first.next second.next (subst (λ (j : Job). IsMergingOf j m.store.meta.height first.next) same first.merging) second.merging in
+      first.deed_is ∙ ap (λ (n : Activity). takes_job n first.job) goes ∙ ap (λ (j : Job). takes_job second.next j) same ∙ sym second.deed_is
+
+-- ---- what becomes of the queue
+
+one_add : (job : Job) (old new other : List Job) → AddsJob job old new → AddsJob job old other → new ≡ other
+one_add job old new other (inl (has, is)) (inl (again, same)) = is ∙ sym same
+one_add job old new other (inl (has, is)) (inr (inl (none, few, same))) = absurd (none has)
+one_add job old new other (inl (has, is)) (inr (inr (none, many, same))) = absurd (none has)
+one_add job old new other (inr (inl (none, few, is))) (inl (has, same)) = absurd (none has)
+one_add job old new other (inr (inr (none, many, is))) (inl (has, same)) = absurd (none has)
+one_add job old new other (inr (inl (none, few, is))) (inr (inl (lack, low, same))) = is ∙ sym same
+one_add job old new other (inr (inl (none, few, is))) (inr (inr (lack, many, same))) = absurd (omega (arith, few, many))
+one_add job old new other (inr (inr (none, many, is))) (inr (inl (lack, few, same))) = absurd (omega (arith, few, many))
+one_add job old new other (inr (inr (none, many, is))) (inr (inr (lack, high, same))) = is ∙ sym same
+
+one_adding : (adds old new other : List Job) → AddsJobs adds old new → AddsJobs adds old other → new ≡ other
+one_adding [] old new other first second = first ∙ sym second
+one_adding (job ∷ rest) old new other (more, one, first) (more', two, second) =
+    one_adding rest more' new other (subst (λ (l : List Job). AddsJobs rest l new) (one_add job old more more' one two) first) second
+
+one_left : (takes : Option Job) (old left other : List Job) → LeavesBy takes old left → LeavesBy takes old other → left ≡ other
+one_left None old left other first second = first ∙ sym second
+one_left (Some job) old left other first second = (first_leaves job.kind old left other job job first second).1
+
+pub one_queue : (deed : Deed) (old new other : List Job) → ChangesQueue deed old new → ChangesQueue deed old other → new ≡ other
+one_queue deed old new other first second =
+    one_adding deed.adds second.left new other (subst (λ (l : List Job). AddsJobs deed.adds l new) (one_left deed.takes old first.left second.left first.takes second.takes) first.adds) second.adds
+
+-- ---- the plan of a posting
+
+pub record SamePosting (outer inner other next : ℕ) (leaf area box found : Area) : Type 0 where
+  pub outer_is : outer ≡ other
+  pub inner_is : inner ≡ next
+  pub leaf_is : leaf ≡ box
+  pub area_is : area ≡ found
+
+same_child : (a b : ℕ) → Child a ≡ Child b → a ≡ b
+same_child a b is = cc
+
+same_sibling : (a b : ℕ) → Sibling a ≡ Sibling b → a ≡ b
+same_sibling a b is = cc
+
+one_owed : (page child : LivePage) (p : List ℕ) (outer inner other next : ℕ) (leaf area box found : Area) → IsOwed page child p outer inner leaf area → IsOwed page child p other next box found → SamePosting outer inner other next leaf area box found
+one_owed page child p outer inner other next leaf area box found first second =
+    let above = same_Some _ _ (sym first.above ∙ second.above) in
+    let below = same_Some _ _ (sym first.below ∙ second.below) in
+    record {
+      outer_is = same_child outer other (ap (λ (x : Placed). x.leaf) above);
+      inner_is = same_sibling inner next (ap (λ (x : Placed). x.leaf) below);
+      leaf_is = ap (λ (x : Placed). x.area) above;
+      area_is = ap (λ (x : Placed). x.area) below;
+    }
+
+same_weight : (page : LivePage) (p : List ℕ) (outer inner other next : ℕ) (leaf area box found : Area) → SamePosting outer inner other next leaf area box found
+    → weight_of (posted_parent page p outer inner leaf area) ≡ weight_of (posted_parent page p other next box found)
+same_weight page p outer inner other next leaf area box found same =
+    ap (λ n. weight_of (posted_parent page p n inner leaf area)) same.outer_is
+    ∙ ap (λ n. weight_of (posted_parent page p other n leaf area)) same.inner_is
+    ∙ ap (λ a. weight_of (posted_parent page p other next a area)) same.leaf_is
+    ∙ ap (λ a. weight_of (posted_parent page p other next box a)) same.area_is
+
+pub one_plan : (page child : LivePage) (p : List ℕ) (icap : ℕ) (plan other : PostPlan) → IsPlan page child p icap plan → IsPlan page child p icap other → plan ≡ other
+one_plan page child p icap plans.Nothing plans.Nothing first second = refl
+one_plan page child p icap plans.Nothing (plans.Post at inner area) first second = absurd (first second.outer inner second.leaf area second.owed)
+one_plan page child p icap plans.Nothing plans.SplitFirst first second = absurd (first second.outer second.inner second.leaf second.area second.owed)
+one_plan page child p icap (plans.Post at inner area) plans.Nothing first second = absurd (second first.outer inner first.leaf area first.owed)
+one_plan page child p icap plans.SplitFirst plans.Nothing first second = absurd (second first.outer first.inner first.leaf first.area first.owed)
+one_plan page child p icap (plans.Post at inner area) (plans.Post to next found) first second =
+    let same = one_owed page child p first.outer inner second.outer next first.leaf area second.leaf found first.owed second.owed in
+    ap (λ w. plans.Post w inner area) (first.way ∙ sym second.way) ∙ ap (λ n. plans.Post to n area) same.inner_is ∙ ap (λ a. plans.Post to next a) same.area_is
+one_plan page child p icap (plans.Post at inner area) plans.SplitFirst first second =
+    let same = one_owed page child p first.outer inner second.outer second.inner first.leaf area second.leaf second.area first.owed second.owed in
+    absurd (omega (arith, first.room, second.heavy, same_weight page p first.outer inner second.outer second.inner first.leaf area second.leaf second.area same))
+one_plan page child p icap plans.SplitFirst (plans.Post at inner area) first second =
+    let same = one_owed page child p second.outer inner first.outer first.inner second.leaf area first.leaf first.area second.owed first.owed in
+    absurd (omega (arith, second.room, first.heavy, same_weight page p second.outer inner first.outer first.inner second.leaf area first.leaf first.area same))
+one_plan page child p icap plans.SplitFirst plans.SplitFirst first second = refl
+
+-- ---- the next number
+
+same_free : (a b : ℕ) → Free a ≡ Free b → a ≡ b
+same_free a b is = cc
+
+one_next : (f g : StoreState) (fresh other after later : ℕ) → f.meta ≡ g.meta → ((id : ℕ) (a b : Page) → in_memory f id ≡ Some a → in_memory g id ≡ Some b → a ≡ b)
+    → IsNext f fresh after → IsNext g other later → (fresh ≡ other) × (after ≡ later)
+one_next f g fresh other after later meta agree first second = elim (cases_lt 0 f.meta.free) [
+  | inl some ↦
+      let one = first.from_chain (λ none. omega (arith, none, some)) in
+      let two = second.from_chain (λ none. omega (arith, none, some, ap (λ (x : Meta). x.free) meta)) in
+      let same : fresh ≡ other = one.0 ∙ ap (λ (x : Meta). x.free) meta ∙ sym two.0 in
+      (same, same_free after later (agree fresh (Free after) (Free later) one.1 (ap (in_memory g) same ∙ two.1)))
+  | inr none ↦
+      let one = first.from_behind (omega (arith, none)) in
+      let two = second.from_behind (omega (arith, none, ap (λ (x : Meta). x.free) meta)) in
+      (omega (arith, one.0, two.0, ap (λ (x : Meta). x.high) meta), omega (arith, one.2, two.2))
+]
+
+pub one_number : (f g : StoreState) (fresh other after later : ℕ) → f.meta ≡ g.meta → ((id : ℕ) (a b : Page) → in_memory f id ≡ Some a → in_memory g id ≡ Some b → a ≡ b)
+    → next_of f ≡ Some (fresh, after) → next_of g ≡ Some (other, later) → (fresh ≡ other) × (after ≡ later)
+one_number f g fresh other after later meta agree first second = one_next f g fresh other after later meta agree (is_next_number f fresh after first) (is_next_number g other later second)
+
+-- ---- the part that leaves a page
+
+same_plane : (count axis value count' axis' value' : ℕ) → NotBehind count axis value count' axis' value' → NotBehind count' axis' value' count axis value → (axis ≡ axis') × (value ≡ value')
+same_plane c a v c' a' v' (inl x) (inl y) = absurd (omega (arith, x, y))
+same_plane c a v c' a' v' (inl x) (inr (y, rest)) = absurd (omega (arith, x, y))
+same_plane c a v c' a' v' (inr (x, rest)) (inl y) = absurd (omega (arith, x, y))
+same_plane c a v c' a' v' (inr (x, inl p)) (inr (y, inl q)) = absurd (omega (arith, p, q))
+same_plane c a v c' a' v' (inr (x, inl p)) (inr (y, inr (q, r))) = absurd (omega (arith, p, q))
+same_plane c a v c' a' v' (inr (x, inr (p, s))) (inr (y, inl q)) = absurd (omega (arith, p, q))
+same_plane c a v c' a' v' (inr (x, inr (p, s))) (inr (y, inr (q, r))) = (p, omega (arith, s, r))
+
+same_records : (xs ys : List Record) → Tip (Records xs) ≡ Tip (Records ys) → xs ≡ ys
+same_records xs ys is = cc
+
+abbrev cut_of : ℕ → ℕ → Side → LeafCut
+cut_of axis value side = record { axis = axis; value = value; side = side }
+
+one_cut : (n k : ℕ) (cut other : LeafCut) (tree : Tree) → Chooses n k cut tree → Chooses n k other tree → cut ≡ other
+one_cut n k cut other tree first second =
+    let same : second.records ≡ first.records = same_records second.records first.records (sym second.leaf ∙ first.leaf) in
+    let best : IsBest k other.axis other.value first.records = subst (IsBest k other.axis other.value) same second.best in
+    let plane = same_plane _ cut.axis cut.value _ other.axis other.value (first.best.first other.axis other.value best.may) (best.first cut.axis cut.value first.best.may) in
+    let side : other.side ≡ heavier_side (count_on Left other.axis other.value first.records) (count_on Right other.axis other.value first.records) = subst (λ rs. other.side ≡ heavier_side (count_on Left other.axis other.value rs) (count_on Right other.axis other.value rs)) same second.side in
+    let sides : cut.side ≡ other.side = first.side ∙ ap (λ a. heavier_side (count_on Left a cut.value first.records) (count_on Right a cut.value first.records)) plane.0
+    ∙ ap (λ v. heavier_side (count_on Left other.axis v first.records) (count_on Right other.axis v first.records)) plane.1 ∙ sym side in
+    ap (λ a. cut_of a cut.value cut.side) plane.0 ∙ ap (λ v. cut_of other.axis v cut.side) plane.1 ∙ ap (λ s. cut_of other.axis other.value s) sides
+
+pub one_choice : (n k : ℕ) (cuts others : List LeafCut) (tree : Tree) → AreChosen n k cuts tree → AreChosen n k others tree → cuts ≡ others
+one_choice n k [] [] tree first second = refl
+one_choice n k [] (cut ∷ cuts) tree first second = absurd (omega (arith, first, second.0.heavy))
+one_choice n k (cut ∷ cuts) [] tree first second = absurd (omega (arith, second, first.0.heavy))
+one_choice n k (cut ∷ cuts) (other ∷ others) tree first second =
+    let same = one_cut n k cut other tree first.0 second.0 in
+    let rest = one_choice n k cuts others (going other tree) (subst (λ c. AreChosen n k cuts (going c tree)) same first.1) second.1 in
+    ap (λ c. c ∷ cuts) same ∙ ap (λ l. other ∷ l) rest

@@ -1,0 +1,229 @@
+-- A deed that is done over two fetches from one machine leads to machines that are one but for the pages in memory.
+use Rattle.hb_store.specs.StayingLaws.{Commits-there}
+use Rattle.std.proofs.Common.{◌≡◌, ◌⊎◌, inl, inr, ℕ, ◌==◌, Bool, true, false, cond, ◌||◌, ◌++◌, List, [], ◌∷◌, length, Option, Some, None, IfSome, refl, sym, ap, ◌∙◌, subst}
+use Rattle.std.proofs.lemmas.Bool.{cases_eq}
+use Rattle.std.proofs.lemmas.Cmp.{nat_cmp_total}
+use Rattle.std.proofs.lemmas.Option.{same_Some}
+use Rattle.std.specs.Option.{option_and_then}
+use Rattle.std.specs.Ordering.{nat_cmp}
+use Rattle.std.specs.FinSet as set
+use Rattle.hb_frag.specs.declared.pages.LivePage.{LivePage}
+use Rattle.hb_frag.specs.declared.pages.Page.{Page}
+use Rattle.hb_frag.specs.declared.pages.Page.TheVariants.{Live}
+use Rattle.hb_layout.specs.declared.meta.Meta.{Meta}
+use Rattle.hb_ops.specs.declared.operations.Op.{Op}
+use Rattle.hb_ops.specs.declared.operations.Op.TheVariants.{Put, Del, Extract, Post, Grow}
+use Rattle.hb_activity.specs.declared.holding.Latch.{Latch}
+use Rattle.hb_core.specs.declared.outcomes.Outcome.{Outcome}
+use Rattle.hb_activity.specs.Deeds.{Deed}
+use Rattle.hb_activity.specs.Holding.{held_of}
+use Rattle.hb_activity.specs.Walks.{walk_held}
+use Rattle.hb_core.proofs.Latches.Backing.{live_there}
+use Rattle.hb_core.proofs.TwoSteps.OneFetch.{Agree}
+use Rattle.hb_core.proofs.TwoSteps.OnePiece.{one_queue}
+use Rattle.hb_core.specs.Machines.{Machine, live_here}
+use Rattle.hb_core.specs.OutcomeLaws.{AreOneButMemory}
+use Rattle.hb_core.specs.Performing.{DoesOp, MayDo, Performs, latches_held, mode_among}
+use Rattle.hb_latch.specs.Tables.{mode_at}
+use Rattle.hb_log_codec.specs.Groups.{Logged, group_bytes}
+use Rattle.hb_ops.specs.Files.{if_live}
+use Rattle.hb_ops.specs.Operations.{Change, IsAllowedOn, change_of, reads_of}
+use Rattle.hb_store.specs.Calls.{IsAllowedHere, KeepsAllButPages, change_here, read_here}
+use Rattle.hb_store.specs.Images.{group_here, image_needed, images_needed}
+use Rattle.hb_store.specs.Marks.{has_page, is_among}
+use Rattle.hb_store.specs.Replay.{set_pages}
+use Rattle.hb_store.specs.States.{StoreState, in_memory, is_imaged}
+use Rattle.hb_wal.specs.Log.{LogState, Waiting}
+
+-- ---- machines that are the same
+
+pub one_of_same : (new next : Machine) → new ≡ next → AreOneButMemory new next
+one_of_same new next is = subst (AreOneButMemory new) is (record {
+  lines = refl;
+  answered = refl;
+  activity = λ actor. refl;
+  latches = λ actor page. refl;
+  jobs = refl;
+  order = refl;
+  stop = refl;
+  files = refl;
+  clock = refl;
+  store = record { turn = refl; meta = refl; log = refl; imaged = refl; stopped = refl };
+  pages = λ id a b one two. same_Some a b (sym one ∙ two);
+})
+
+-- ---- an operation over two stores that agree
+
+-- an operation that reads a page finds it in use
+page_read : (op : Op) (meta : Meta) (o second third : Option LivePage) → IsAllowedOn op meta o second third → (reads_of op ≡ []) ⊎ ((page : LivePage) × (o ≡ Some page))
+page_read (Put id rec) meta (Some page) second third fits = inr (page, refl)
+page_read (Put id rec) meta None second third never = absurd never
+page_read (Del id point) meta (Some page) second third fits = inr (page, refl)
+page_read (Del id point) meta None second third never = absurd never
+page_read (Extract source fresh path cuts free_after) meta (Some page) second third fits = inr (page, refl)
+page_read (Extract source fresh path cuts free_after) meta None second third never = absurd never
+page_read (Post parent at inner area) meta (Some page) second third fits = inr (page, refl)
+page_read (Post parent at inner area) meta None second third never = absurd never
+page_read (Grow fresh free_after) meta o second third fits = inl refl
+
+-- and makes the same of that, whatever else is there
+one_change : (op : Op) (meta : Meta) (o second third other last : Option LivePage) → change_of op meta o second third ≡ change_of op meta o other last
+one_change (Put id rec) meta (Some page) second third other last = refl
+one_change (Put id rec) meta None second third other last = refl
+one_change (Del id point) meta (Some page) second third other last = refl
+one_change (Del id point) meta None second third other last = refl
+one_change (Extract source fresh path cuts free_after) meta (Some page) second third other last = refl
+one_change (Extract source fresh path cuts free_after) meta None second third other last = refl
+one_change (Post parent at inner area) meta (Some page) second third other last = refl
+one_change (Post parent at inner area) meta None second third other last = refl
+one_change (Grow fresh free_after) meta o second third other last = refl
+
+abbrev AgreeIn : (ℕ → Option Page) → (ℕ → Option Page) → Type 0
+AgreeIn F G = (id : ℕ) (a b : Page) → F id ≡ Some a → G id ≡ Some b → a ≡ b
+
+agree_set : (pages : List (ℕ × Page)) (F G : ℕ → Option Page) → AgreeIn F G → AgreeIn (set_pages pages F) (set_pages pages G)
+agree_set [] F G agree = agree
+agree_set (one ∷ rest) F G agree = agree_set rest _ _ (λ id a b x y. by (id == one.0) id a b x y)
+  where
+    by : (same : Bool) (id : ℕ) (a b : Page) → cond same (Some one.1) (F id) ≡ Some a → cond same (Some one.1) (G id) ≡ Some b → a ≡ b
+    by true id a b x y = same_Some a b (sym x ∙ y)
+    by false id a b x y = agree id a b x y
+
+same_log : (a b : LogState) → a.area ≡ b.area → a.len ≡ b.len → a.written ≡ b.written → a.groups ≡ b.groups → a ≡ b
+same_log a b area len written groups = λ i. record { area = area i; len = len i; written = written i; groups = groups i }
+
+-- stores that are one but for the pages in memory
+record AreAlike (new next : StoreState) : Type 0 where
+  pub rest : KeepsAllButPages new next
+  pub pages : Agree new next
+
+module _ (f g : StoreState) (alike : KeepsAllButPages f g) (agree : Agree f g) where
+  same_meta : f.meta ≡ g.meta
+  same_meta = sym alike.meta
+
+  same_imaged : (id : ℕ) → is_imaged f id ≡ is_imaged g id
+  same_imaged id = ap (λ (s : set.FinSet nat_cmp). set.contains s id) (sym alike.imaged)
+
+  -- a page that both have in use is the same
+  same_there : (id : ℕ) (a b : LivePage) → live_here f id ≡ Some a → live_here g id ≡ Some b → in_memory f id ≡ in_memory g id
+  same_there id a b one two =
+      let here = live_there (in_memory f id) a one in
+      let there = live_there (in_memory g id) b two in
+      here ∙ ap Some (agree id (Live a) (Live b) here there) ∙ sym there
+
+  -- pages that both have, and the same
+  abbrev Alike : List ℕ → Type 0
+  Alike [] = Unit {0}
+  Alike (id ∷ rest) = (in_memory f id ≡ in_memory g id) × Alike rest
+
+  one_read : (id : ℕ) (ids : List ℕ) → ids ≡ id ∷ [] → (ids ≡ []) ⊎ ((page : LivePage) × (live_here f id ≡ Some page)) → (ids ≡ []) ⊎ ((page : LivePage) × (live_here g id ≡ Some page)) → in_memory f id ≡ in_memory g id
+  one_read id ids is (inr (a, one)) (inr (b, two)) = same_there id a b one two
+  one_read id ids is (inl none) other = absurd (let never : id ∷ [] ≡ [] = sym is ∙ none in cc)
+  one_read id ids is (inr one) (inl none) = absurd (let never : id ∷ [] ≡ [] = sym is ∙ none in cc)
+
+  reads_alike : (op : Op) → IsAllowedHere f op → IsAllowedHere g op → Alike (reads_of op)
+  reads_alike (Put id rec) one two = (one_read id (id ∷ []) refl (page_read (Put id rec) f.meta _ _ _ one) (page_read (Put id rec) g.meta _ _ _ two), tt)
+  reads_alike (Del id point) one two = (one_read id (id ∷ []) refl (page_read (Del id point) f.meta _ _ _ one) (page_read (Del id point) g.meta _ _ _ two), tt)
+  reads_alike (Extract source fresh path cuts after) one two =
+      (one_read source (source ∷ []) refl (page_read (Extract source fresh path cuts after) f.meta _ _ _ one) (page_read (Extract source fresh path cuts after) g.meta _ _ _ two), tt)
+  reads_alike (Post parent at inner area) one two = (one_read parent (parent ∷ []) refl (page_read (Post parent at inner area) f.meta _ _ _ one) (page_read (Post parent at inner area) g.meta _ _ _ two), tt)
+  reads_alike (Grow fresh after) one two = tt
+
+  -- so they need the same images
+  same_images : (ids : List ℕ) → Alike ids → images_needed (in_memory f) (is_imaged f) ids ≡ images_needed (in_memory g) (is_imaged g) ids
+  same_images [] none = refl
+  same_images (id ∷ rest) (same, more) =
+      ap (λ (o : Option Page). image_needed id o (is_imaged f id) ++ images_needed (in_memory f) (is_imaged f) rest) same
+      ∙ ap (λ (b : Bool). image_needed id (in_memory g id) b ++ images_needed (in_memory f) (is_imaged f) rest) (same_imaged id)
+      ∙ ap (λ (l : List (ℕ × Page)). image_needed id (in_memory g id) (is_imaged g id) ++ l) (same_images rest more)
+
+  abbrev group_with : Op → List (ℕ × Page) → Logged
+  group_with op images = record { images = images; op = op }
+
+  same_group : (op : Op) → Alike (reads_of op) → group_here f op ≡ group_here g op
+  same_group op reads = ap (group_with op) (same_images (reads_of op) reads)
+
+  -- and the same change is made
+  change_by : (op : Op) (id : ℕ) → (in_memory f id ≡ in_memory g id) → change_of op f.meta (live_here f id) (read_here f op 1) (read_here f op 2) ≡ change_of op g.meta (live_here g id) (read_here g op 1) (read_here g op 2)
+  change_by op id same =
+      one_change op f.meta (live_here f id) (read_here f op 1) (read_here f op 2) (read_here g op 1) (read_here g op 2)
+      ∙ ap (λ (o : Option Page). change_of op f.meta (if_live o) (read_here g op 1) (read_here g op 2)) same
+      ∙ ap (λ (x : Meta). change_of op x (live_here g id) (read_here g op 1) (read_here g op 2)) same_meta
+
+  same_change : (op : Op) → Alike (reads_of op) → change_here f op ≡ change_here g op
+  same_change (Put id rec) (same, rest) = change_by (Put id rec) id same
+  same_change (Del id point) (same, rest) = change_by (Del id point) id same
+  same_change (Extract source fresh path cuts after) (same, rest) = change_by (Extract source fresh path cuts after) source same
+  same_change (Post parent at inner area) (same, rest) = change_by (Post parent at inner area) parent same
+  same_change (Grow fresh after) reads = ap (λ (x : Meta). change_of (Grow fresh after) x None None None) same_meta
+
+  -- ---- the stores afterwards
+
+  one_commit : (op : Op) (mark : ℕ) (new next : StoreState) → DoesOp op mark f new → DoesOp op mark g next → AreAlike new next
+  one_commit op mark new next first second =
+      let one = first.commits in
+      let two = second.commits in
+      let reads = reads_alike op first.allowed second.allowed in
+      let change : change_here f op ≡ change_here g op = same_change op reads in
+      let groups : new.log.groups ≡ next.log.groups =
+      first.group ∙ ap (λ (l : List Waiting). l ++ record { bytes = group_bytes (group_here f op); mark = mark } ∷ []) (ap (λ (l : LogState). l.groups) (sym alike.log))
+      ∙ ap (λ (x : Logged). g.log.groups ++ record { bytes = group_bytes x; mark = mark } ∷ []) (same_group op reads) ∙ sym second.group in
+      let imaged : (id : ℕ) → is_imaged new id ≡ is_imaged next id =
+      λ id. one.imaged id ∙ ap (λ (c : Change). (has_page id c.pages || (is_among id (reads_of op) || is_imaged f id))) change
+      ∙ ap (λ (b : Bool). (has_page id (change_here g op).pages || (is_among id (reads_of op) || b))) (same_imaged id) ∙ sym (two.imaged id) in
+      record {
+        rest = record {
+          turn = two.turn ∙ alike.turn ∙ sym one.turn;
+          meta = two.meta ∙ ap (λ (c : Change). c.meta) (sym change) ∙ sym one.meta;
+          log = sym (same_log new.log next.log (one.area ∙ ap (λ (l : LogState). l.area) (sym alike.log) ∙ sym two.area) (one.len ∙ ap (λ (l : LogState). l.len) (sym alike.log) ∙ sym two.len)
+              (one.written ∙ ap (λ (l : LogState). l.written) (sym alike.log) ∙ sym two.written) groups);
+          imaged = sym (set.same_set nat_cmp_total set.nat_cmp-IsAntisymmetric new.imaged next.imaged imaged);
+          stopped = two.stopped ∙ alike.stopped ∙ sym one.stopped;
+        };
+        pages = λ id a b x y.
+            agree_set (change_here f op).pages (in_memory f) (in_memory g) agree id a b (Commits-there op mark f new one id a x)
+            (ap (λ (c : Change). set_pages c.pages (in_memory g) id) change ∙ Commits-there op mark g next two id b y);
+      }
+
+  one_done : (op : Option Op) (mark : ℕ) (new next : StoreState) → MayDo op mark f new → MayDo op mark g next → AreAlike new next
+  one_done None mark new next first second = subst (λ (st : StoreState). AreAlike st next) (sym first) (subst (AreAlike f) (sym second) (record { rest = alike; pages = agree }))
+  one_done (Some op) mark new next first second = one_commit op mark new next first second
+
+  -- ---- the latches afterwards, where a walk that goes on holds the same page
+
+  abbrev pub SameHere : Deed → Type 0
+  SameHere deed = IfSome (walk_held deed.next) (λ id. (deed.op ≡ None) × (live_here f id ≡ live_here g id))
+
+  same_latches : (deed : Deed) (mark : ℕ) (new next : StoreState) → SameHere deed → MayDo deed.op mark f new → MayDo deed.op mark g next → latches_held new deed.next ≡ latches_held next deed.next
+  same_latches deed mark new next same first second = ap (held_of deed.next) (looked (walk_held deed.next) same)
+    where
+      left : (old now : StoreState) → deed.op ≡ None → MayDo deed.op mark old now → now ≡ old
+      left old now none done = subst (λ (o : Option Op). MayDo o mark old now) none done
+
+      looked : (held : Option ℕ) → IfSome held (λ id. (deed.op ≡ None) × (live_here f id ≡ live_here g id)) → option_and_then (live_here new) held ≡ option_and_then (live_here next) held
+      looked None nothing = refl
+      looked (Some id) (none, here) =
+          ap (λ (st : StoreState). live_here st id) (left f new none first) ∙ here ∙ sym (ap (λ (st : StoreState). live_here st id) (left g next none second))
+
+  -- A deed that is done on a machine over two such stores makes machines of it that are one but for the pages in memory.
+  pub one_performed : (m : Machine) (actor : ℕ) (deed : Deed) (outcome other : Outcome) (new next : Machine) → SameHere deed → Performs m f actor deed outcome new → Performs m g actor deed other next → AreOneButMemory new next
+  one_performed m actor deed outcome other new next same first second =
+      let stores = one_done deed.op (length m.order) new.store next.store first.store second.store in
+      let latches = same_latches deed (length m.order) new.store next.store same first.store second.store in
+      record {
+        lines = first.lines ∙ sym second.lines;
+        answered = first.answered ∙ sym second.answered;
+        activity = λ who. first.activity who ∙ sym (second.activity who);
+        latches = λ who page. elim (cases_eq who actor) [
+          | inl is ↦ subst (λ (w : ℕ). mode_at new.latches w page ≡ mode_at next.latches w page) (sym is)
+              (first.latches.own page ∙ ap (λ (l : List Latch). mode_among page l) latches ∙ sym (second.latches.own page))
+          | inr another ↦ first.latches.others who page another ∙ sym (second.latches.others who page another)
+        ];
+        jobs = one_queue deed m.jobs new.jobs next.jobs first.jobs second.jobs;
+        order = first.order ∙ sym second.order;
+        stop = first.stop ∙ sym second.stop;
+        files = first.files ∙ sym second.files;
+        clock = first.clock ∙ sym second.clock;
+        store = stores.rest;
+        pages = stores.pages;
+      }

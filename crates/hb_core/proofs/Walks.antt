@@ -1,0 +1,13 @@
+-- Where walks and parents stand, that what is wanted comes later, and that nobody waits in a circle.
+pub mod MergesKept
+pub mod OnePlace
+pub mod LaterPages
+pub mod WalksKept
+pub mod Volumes
+pub mod LaterWanted
+pub mod NoCircle
+pub mod SomebodyFree
+pub mod AtHand
+pub mod WalkingWorkers
+pub mod WorkersKept
+pub mod WhoGoesOn

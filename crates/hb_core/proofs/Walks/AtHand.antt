@@ -1,0 +1,306 @@
+-- The page that a step latches comes later than those that its actor holds, over every disk. So it is none of them.
+use Rattle.std.proofs.Common.{◌≡◌, ◌≢◌, ◌⊎◌, inl, inr, ℕ, zero, suc, ◌-◌, ◌<◌, Bool, true, cond, List, [], ◌∷◌, map, Option, Some, None, IfSome, IsSome, IsTrue, refl, sym, ap, ◌∙◌, subst, arith}
+use Rattle.std.specs.List.{Contains, slice_get}
+use Rattle.std.specs.Option.{option_and_then, option_map}
+use Rattle.std.proofs.lemmas.Bool.{ne_eqb}
+use Rattle.std.proofs.lemmas.Option.{same_Some}
+use Rattle.std.proofs.lemmas.List.Elements.{All-contains, All-head, All-tail}
+use Rattle.hb_frag.specs.declared.leaves.Leaf.{Leaf}
+use Rattle.hb_frag.specs.declared.leaves.Leaf.TheVariants.{Records, Child, Sibling}
+use Rattle.hb_frag.specs.declared.pages.LivePage.{LivePage}
+use Rattle.hb_frag.specs.declared.pages.Page.TheVariants.{Live}
+use Rattle.hb_layout.specs.declared.meta.Meta.{Meta}
+use Rattle.hb_latch.specs.declared.modes.Mode.{Mode}
+use Rattle.hb_latch.specs.declared.modes.Mode.TheVariants.{Shared, Update, Exclusive}
+use Rattle.hb_activity.specs.declared.holding.Latch.{Latch}
+use Rattle.hb_activity.specs.declared.jobs.Job.{Job}
+use Rattle.hb_activity.specs.declared.wanting.Wanted.{Wanted}
+use Rattle.hb_activity.specs.declared.activities.Activity.{Activity}
+use Rattle.hb_activity.specs.declared.activities.Activity.TheVariants as at
+use Rattle.hb_activity.specs.Holding.{latch_on, walk_latch}
+use Rattle.hb_activity.specs.Waiting.{IsLater}
+use Rattle.hb_activity.specs.Walks.{goal_of, job_mode, session_mode, walk_held}
+use Rattle.hb_activity.specs.Wanting.{child_of, in_mode, named_child, named_page, walk_next, wanted_of, wanted_page}
+use Rattle.hb_consol.specs.ConsolidatorRows.{names_child}
+use Rattle.hb_core.proofs.Files.AskedPages.{first_among, first_sibling_among, leaf_of_place, place_among}
+use Rattle.hb_core.proofs.Memory.BroughtPages.{live_page_there, still_held}
+use Rattle.hb_core.proofs.Latches.LatchesStay.{walk_latched}
+use Rattle.hb_core.proofs.Table.MergerMoves.{of_page}
+use Rattle.hb_core.proofs.Walks.MergesKept.{above_records, place_latched}
+use Rattle.hb_core.proofs.Walks.Volumes.{sibling_fewer}
+use Rattle.hb_core.proofs.Walks.WalksKept.{IsAtParent, parent_latched}
+use Rattle.hb_core.specs.AllowedLaws.{AnyPage}
+use Rattle.hb_core.specs.Asking.{AskedBox, HasAskedBox, asked_box, box_at, box_by_leaf, box_of_place, box_of_sibling, looked_live, wanted_by}
+use Rattle.hb_core.specs.Fetching.{Brings}
+use Rattle.hb_core.specs.KeptMachine.{MachineKeeps}
+use Rattle.hb_core.specs.KeptMerges.{AtParent, NamesKnown, PairHeld, merging_at}
+use Rattle.hb_core.specs.MachineLaws.{NoPageIsLatchedTwice, WalksLeadOn}
+use Rattle.hb_core.specs.Machines.{Machine, live_here, with_disk}
+use Rattle.hb_core.specs.Performing.{latches_held, mode_among}
+use Rattle.hb_core.specs.Rows.{IsAtHand}
+use Rattle.hb_core.specs.WaitingLaws.{Promotes}
+use Rattle.hb_frag.proofs.Tiles.{leaves_placed}
+use Rattle.hb_frag.specs.Leaves.{Placed, first_named, leaf_at, leaves, leaves_of, siblings_of}
+use Rattle.hb_frag.specs.Rules.{BelongsAt}
+use Rattle.hb_latch.specs.Tables.{MayLatch}
+use Rattle.hb_ops.specs.Files.{if_live}
+use Rattle.hb_ops.specs.PlacedLaws.{leaf_is_sibling, placed, placed_is_leaf}
+use Rattle.hb_space.specs.Boxes.{Area, volume}
+use Rattle.hb_store.specs.States.{IsGoodPage, StoreState, in_memory}
+
+-- ---- a page that is found of the level and the box by which another one names it
+
+-- a leaf's place has its box
+placed_at : (xs : List Placed) (place : ℕ) (leaf : Leaf) → slice_get (map (λ (x : Placed). x.leaf) xs) place ≡ Some leaf → (l : Placed) × (slice_get xs place ≡ Some l)
+placed_at [] place leaf is = cc
+placed_at (x ∷ xs) zero leaf is = (x, refl)
+placed_at (x ∷ xs) (suc place) leaf is = placed_at xs place leaf is
+
+module _ (meta : Meta) (held : LivePage) (good : IsGoodPage meta (Live held)) (page : LivePage) where
+  abbrev HasBox : Option AskedBox → Type 0
+  HasBox asked = IfSome asked (λ asked. HasAskedBox asked page.area)
+
+  child_found : (name : ℕ) (area : Area) → Contains (leaves_of held.frag held.area) (placed (Child name) area) → page.level ≡ held.level - 1 → page.level < held.level
+  child_found name area among on =
+      let above : 0 < held.level = All-contains (BelongsAt held.level) (leaves held.frag) (Child name) good.1.filled.kinds (placed_is_leaf held.frag held.area (placed (Child name) area) among) in
+      omega (arith, above, on)
+
+  sibling_found : (name : ℕ) (area : Area) → Contains (siblings_of held) (name, area) → page.level ≡ held.level → page.area ≡ area → IsLater held page
+  sibling_found name area has on box = inr (on, subst (λ (a : Area). volume a < volume held.area) (sym box) (sibling_fewer held.frag held.area name area good.1.well_cut good.1.filled.own has))
+
+  leaf_found : (mode : ℕ → Mode) (leaf : Leaf) (area : Area) (wanted : Wanted) → Contains (leaves_of held.frag held.area) (placed leaf area) → in_mode mode (named_page held.level leaf) ≡ Some wanted → page.level ≡ wanted.level
+      → HasBox (box_by_leaf (placed leaf area)) → IsLater held page
+  leaf_found mode (Records records) area wanted among wants on box = cc
+  leaf_found mode (Child name) area wanted among wants on box =
+      inl (child_found name area among (let same : wanted_page name (held.level - 1) (mode (held.level - 1)) ≡ wanted = cc in on ∙ ap (λ (w : Wanted). w.level) (sym same)))
+  leaf_found mode (Sibling name) area wanted among wants on box =
+      sibling_found name area (leaf_is_sibling (leaves_of held.frag held.area) name area among) (let same : wanted_page name held.level (mode held.level) ≡ wanted = cc in on ∙ ap (λ (w : Wanted). w.level) (sym same)) box
+
+  at_leaf : (mode : ℕ → Mode) (p : List ℕ) (wanted : Wanted) (o : Option Placed) → leaf_at held p ≡ o → in_mode mode (option_and_then (λ (l : Placed). named_page held.level l.leaf) o) ≡ Some wanted → page.level ≡ wanted.level
+      → HasBox (option_and_then box_by_leaf o) → IsLater held page
+  at_leaf mode p wanted None is wants on box = cc
+  at_leaf mode p wanted (Some l) is wants on box = leaf_found mode l.leaf l.area wanted (first_among p (leaves_of held.frag held.area) l is) wants on box
+
+  -- the next page of a walk
+  walk_found : (mode : ℕ → Mode) (marks : Meta) (id : ℕ) (goal : Option (List ℕ)) (now then : Option LivePage) (wanted : Wanted) → now ≡ Some held → then ≡ Some held → in_mode mode (walk_next goal (Some id) marks now) ≡ Some wanted
+      → page.level ≡ wanted.level → HasBox (box_at then goal) → IsLater held page
+  walk_found mode marks id None now then wanted is was wants on box = cc
+  walk_found mode marks id (Some p) now then wanted is was wants on box =
+      at_leaf mode p wanted (leaf_at held p) refl (subst (λ (o : Option LivePage). in_mode mode (walk_next (Some p) (Some id) marks o) ≡ Some wanted) is wants) on
+      (subst (λ (o : Option LivePage). HasBox (box_at o (Some p))) was box)
+
+  -- the child of a poster's parent
+  only_child : (leaf : Leaf) (area : Area) (wanted : Wanted) → Contains (leaves_of held.frag held.area) (placed leaf area) → in_mode (λ level. Shared) (named_child held.level leaf) ≡ Some wanted → page.level ≡ wanted.level → page.level < held.level
+  only_child (Records records) area wanted among wants on = cc
+  only_child (Child name) area wanted among wants on = child_found name area among (let same : wanted_page name (held.level - 1) Shared ≡ wanted = cc in on ∙ ap (λ (w : Wanted). w.level) (sym same))
+  only_child (Sibling name) area wanted among wants on = cc
+
+  child_at : (p : List ℕ) (wanted : Wanted) (o : Option Placed) → leaf_at held p ≡ o → in_mode (λ level. Shared) (option_and_then (λ (l : Placed). named_child held.level l.leaf) o) ≡ Some wanted → page.level ≡ wanted.level → page.level < held.level
+  child_at p wanted None is wants on = cc
+  child_at p wanted (Some l) is wants on = only_child l.leaf l.area wanted (first_among p (leaves_of held.frag held.area) l is) wants on
+
+  below_found : (p : List ℕ) (now : Option LivePage) (wanted : Wanted) → now ≡ Some held → in_mode (λ level. Shared) (option_and_then (λ (page : LivePage). child_of page p) now) ≡ Some wanted → page.level ≡ wanted.level → page.level < held.level
+  below_found p now wanted is wants on = child_at p wanted (leaf_at held p) refl (subst (λ (o : Option LivePage). in_mode (λ level. Shared) (option_and_then (λ (page : LivePage). child_of page p) o) ≡ Some wanted) is wants) on
+
+  -- a child that a consolidator's parent names
+  named_found : (name : ℕ) (mode : Mode) (now : Option LivePage) (wanted : Wanted) → now ≡ Some held → IsTrue (names_child held name) → option_map (λ (page : LivePage). wanted_page name (page.level - 1) mode) now ≡ Some wanted → page.level ≡ wanted.level → page.level < held.level
+  named_found name mode now wanted is named wants on =
+      let some = above_records meta held name good named in
+      let same = same_Some (wanted_page name (held.level - 1) mode) wanted (ap (option_map (λ (page : LivePage). wanted_page name (page.level - 1) mode)) (sym is) ∙ wants) in
+      let level : held.level - 1 ≡ wanted.level = ap (λ (w : Wanted). w.level) same in
+      omega (arith, some, level, on)
+
+  -- the page to go, by the leaf that is tried, and by the first leaf to it
+  tried_found : (name place : ℕ) (then : Option LivePage) → then ≡ Some held → slice_get (leaves held.frag) place ≡ Some (Sibling name) → page.level ≡ held.level → HasBox (box_of_place then place) → IsLater held page
+  tried_found name place then is there on box =
+      let at_place = placed_at (leaves_of held.frag held.area) place (Sibling name) (ap (λ (ls : List Leaf). slice_get ls place) (leaves_placed held.frag held.area) ∙ there) in
+      let leaf : Sibling name ≡ at_place.0.leaf = leaf_of_place held.frag held.area place (Sibling name) at_place.0 there at_place.1 in
+      let among : Contains (leaves_of held.frag held.area) (placed (Sibling name) at_place.0.area) = subst (λ (x : Leaf). Contains (leaves_of held.frag held.area) (placed x at_place.0.area)) (sym leaf) (place_among (leaves_of held.frag held.area) place at_place.0 at_place.1) in
+      let found : HasBox (option_and_then box_by_leaf (Some at_place.0)) = subst (λ (o : Option Placed). HasBox (option_and_then box_by_leaf o)) at_place.1 (subst (λ (o : Option LivePage). HasBox (box_of_place o place)) is box) in
+      let exact : HasBox (box_by_leaf (placed (Sibling name) at_place.0.area)) = subst (λ (x : Leaf). HasBox (box_by_leaf (placed x at_place.0.area))) (sym leaf) found in
+      sibling_found name at_place.0.area (leaf_is_sibling (leaves_of held.frag held.area) name at_place.0.area among) on exact
+
+  given_found : (name : ℕ) (then : Option LivePage) → then ≡ Some held → IsSome (first_named name (siblings_of held)) → page.level ≡ held.level → HasBox (box_of_sibling then name) → IsLater held page
+  given_found name then is gave on box = by (first_named name (siblings_of held)) refl gave (subst (λ (o : Option LivePage). HasBox (box_of_sibling o name)) is box)
+    where
+      by : (o : Option Area) → first_named name (siblings_of held) ≡ o → IsSome o → HasBox (option_map (λ (area : Area). record { area = area; exact = true }) o) → IsLater held page
+      by None found some box = cc
+      by (Some area) found some box = sibling_found name area (first_sibling_among name (siblings_of held) area found) on box
+
+-- ---- the latches of an actor
+
+never_later : (a b : LivePage) → a ≡ b → IsLater a b → ⊥
+never_later a b same (inl lower) = let level = ap (λ (p : LivePage). p.level) same in omega (arith, level, lower)
+never_later a b same (inr (on, fewer)) = let points = ap (λ (p : LivePage). volume p.area) same in omega (arith, points, fewer)
+
+off_one : (id : ℕ) (mode : Mode) (other : ℕ) (rest : List Latch) → id ≢ other → mode_among other (latch_on id mode ∷ rest) ≡ mode_among other rest
+off_one id mode other rest off = ap (λ (b : Bool). cond b (Some mode) (mode_among other rest)) (ne_eqb id other off)
+
+module _ (m : Machine) (actor : ℕ) (fetched : StoreState) (may : MayLatch actor) (keeps : MachineKeeps m) (brings : Brings m AnyPage fetched) where
+  good_here : (id : ℕ) (page : LivePage) → live_here m.store id ≡ Some page → IsGoodPage m.store.meta (Live page)
+  good_here id page live = (keeps.pages_of_file id (Live page) (live_page_there (in_memory m.store id) page live)).2
+
+  -- a page that the actor holds stays
+  own_there : (id : ℕ) (mode : Mode) (page : LivePage) → mode_among id (latches_held m.store (m.activity actor)) ≡ Some mode → live_here m.store id ≡ Some page → live_here fetched id ≡ Some page
+  own_there id mode page among live = ap if_live (still_held m AnyPage fetched brings actor id mode (Live page) (keeps.latches_fit.exact actor id may ∙ among) (live_page_there (in_memory m.store id) page live))
+
+  walked_there : (held : ℕ) (before : LivePage) → walk_held (m.activity actor) ≡ Some held → live_here m.store held ≡ Some before → live_here fetched held ≡ Some before
+  walked_there held before walks live = let latch = walk_latched (m.activity actor) m.store held before walks live in own_there held latch.0 before latch.1 live
+
+  -- ---- what a walk finds
+
+  module _ (held : ℕ) (before : LivePage) (wanted : Wanted) (page : LivePage) (live : live_here m.store held ≡ Some before) (there : live_here fetched held ≡ Some before) (on : page.level ≡ wanted.level) where
+    goes_on : (id : ℕ) (goal : Option (List ℕ)) (mode : ℕ → Mode) → id ≡ held → in_mode mode (walk_next goal (Some id) m.store.meta (live_here m.store id)) ≡ Some wanted
+        → IfSome (box_at (live_here fetched id) goal) (λ asked. HasAskedBox asked page.area) → IsLater before page
+    goes_on id goal mode same wants box =
+        walk_found m.store.meta before (good_here held before live) page mode m.store.meta id goal (live_here m.store id) (live_here fetched id) wanted (ap (live_here m.store) same ∙ live) (ap (live_here fetched) same ∙ there) wants on box
+
+    leads : (activity : Activity) → walk_held activity ≡ Some held → wanted_of activity m.store.meta (looked_live m.store activity) ≡ Some wanted → IfSome (asked_box activity fetched) (λ asked. HasAskedBox asked page.area) → IsLater before page
+    leads (at.SessionWalk line None rest found) holds wants box = cc
+    leads (at.SessionWalk line (Some id) rest found) holds wants box = goes_on id (goal_of line.command rest) (session_mode line.command) (same_Some id held holds) wants box
+    leads (at.PosterWalk job None) holds wants box = cc
+    leads (at.PosterWalk job (Some id)) holds wants box = goes_on id (Some job.point) (job_mode job) (same_Some id held holds) wants box
+    leads (at.ConsolidatorWalk job None) holds wants box = cc
+    leads (at.ConsolidatorWalk job (Some id)) holds wants box = goes_on id (Some job.point) (job_mode job) (same_Some id held holds) wants box
+    leads at.SessionIdle holds wants box = cc
+    leads (at.SessionSplit line id) holds wants box = cc
+    leads (at.SessionPut line source fresh) holds wants box = cc
+    leads (at.SessionAwait line reply place) holds wants box = cc
+    leads at.PosterIdle holds wants box = cc
+    leads (at.PosterGrow job) holds wants box = cc
+    leads (at.PosterChild job parent) holds wants box = cc
+    leads (at.PosterPromote job parent) holds wants box = cc
+    leads (at.PosterAgain job parent) holds wants box = cc
+    leads at.ConsolidatorIdle holds wants box = cc
+    leads (at.ConsolidatorScan job parent child) holds wants box = cc
+    leads (at.ConsolidatorTry job parent keep gone leaf) holds wants box = cc
+    leads (at.ConsolidatorPromote job parent keep gone) holds wants box = cc
+    leads (at.ConsolidatorKeep job parent keep gone) holds wants box = cc
+    leads (at.ConsolidatorDecide job parent keep gone) holds wants box = cc
+    leads at.Flusher holds wants box = cc
+
+  -- ---- the page at hand is none that the actor holds
+
+  module _ (wanted : Wanted) (page : LivePage) (wants_it : wanted_by m actor ≡ Some wanted) (hand : IsAtHand (with_disk fetched m.files m.clock m) (m.activity actor) wanted page) where
+    abbrev Wants : Activity → Type 0
+    Wants activity = wanted_of activity m.store.meta (looked_live m.store activity) ≡ Some wanted
+
+    abbrev Found : Activity → Type 0
+    Found activity = IfSome (asked_box activity fetched) (λ asked. HasAskedBox asked page.area)
+
+    apart : (id : ℕ) (mode : Mode) (before : LivePage) → mode_among id (latches_held m.store (m.activity actor)) ≡ Some mode → live_here m.store id ≡ Some before → IsLater before page → id ≢ wanted.page
+    apart id mode before among live later same =
+        never_later before page (same_Some before page (sym (own_there id mode before among live) ∙ ap (live_here fetched) same ∙ hand.live)) later
+
+    -- an actor that walks
+    of_walk : (held : ℕ) (its : ℕ → Mode) → walk_held (m.activity actor) ≡ Some held → mode_among wanted.page (walk_latch (Some held) (live_here m.store held) its) ≡ None
+    of_walk held its walks =
+        let one = keeps.latches_fit.walking actor held may walks in
+        let live : live_here m.store held ≡ Some one.0 = ap if_live one.1 in
+        let latch = walk_latched (m.activity actor) m.store held one.0 walks live in
+        let later = leads held one.0 wanted page live (walked_there held one.0 walks live) hand.level (m.activity actor) walks wants_it hand.box in
+        subst (λ (o : Option LivePage). mode_among wanted.page (walk_latch (Some held) o its) ≡ None) (sym live) (off_one held (its one.0.level) wanted.page [] (apart held latch.0 one.0 latch.1 live later))
+
+    -- a poster at a parent
+    of_parent : (job : Job) (parent : ℕ) (its : Mode) → IsAtParent (m.activity actor) job parent → in_mode (λ level. Shared) (option_and_then (λ (page : LivePage). child_of page job.point) (live_here m.store parent)) ≡ Some wanted
+        → mode_among wanted.page (latch_on parent its ∷ []) ≡ None
+    of_parent job parent its stands wants =
+        let one = keeps.walk_in_space.parents actor job parent stands in
+        let latch = parent_latched m.store (m.activity actor) job parent stands in
+        let lower = below_found m.store.meta one.0 (good_here parent one.0 one.1) page job.point (live_here m.store parent) wanted one.1 wants hand.level in
+        off_one parent its wanted.page [] (apart parent latch.0 one.0 latch.1 one.1 (inl lower))
+
+    -- a consolidator at a parent
+    known_at : (place : AtParent) → merging_at (m.activity actor) ≡ Some place → NamesKnown m.store place
+    known_at place is = subst (λ (o : Option AtParent). IfSome o (NamesKnown m.store)) is (keeps.walk_in_space.merging actor)
+
+    above_it : (place : AtParent) → (is : merging_at (m.activity actor) ≡ Some place) → page.level < (known_at place is).page.level → place.parent ≢ wanted.page
+    above_it place is lower =
+        let known = known_at place is in
+        let latch = (place_latched m.store (m.activity actor) place is).parent in
+        apart place.parent latch.0 known.page latch.1 known.live (inl lower)
+
+    beside_it : (place : AtParent) (pair : PairHeld) (kept : LivePage) → merging_at (m.activity actor) ≡ Some place → place.pair ≡ Some pair → live_here m.store pair.keep ≡ Some kept → IsLater kept page → pair.keep ≢ wanted.page
+    beside_it place pair kept is has live later =
+        let latch = (place_latched m.store (m.activity actor) place is).pair pair has in
+        apart pair.keep latch.0 kept latch.1 live later
+
+    kept_there : (place : AtParent) (pair : PairHeld) (kept : LivePage) → merging_at (m.activity actor) ≡ Some place → place.pair ≡ Some pair → live_here m.store pair.keep ≡ Some kept → live_here fetched pair.keep ≡ Some kept
+    kept_there place pair kept is has live =
+        let latch = (place_latched m.store (m.activity actor) place is).pair pair has in
+        own_there pair.keep latch.0 kept latch.1 live
+
+    off_both : (parent keep : ℕ) (its other : Mode) → parent ≢ wanted.page → keep ≢ wanted.page → mode_among wanted.page (latch_on parent its ∷ latch_on keep other ∷ []) ≡ None
+    off_both parent keep its other above beside = off_one parent its wanted.page (latch_on keep other ∷ []) above ∙ off_one keep other wanted.page [] beside
+
+    abbrev at_place : Job → ℕ → List ℕ → Option PairHeld → AtParent
+    at_place job parent known pair = record { job = job; parent = parent; known = known; pair = pair }
+
+    abbrev Alone : Activity → Type 0
+    Alone activity = (mode_among wanted.page (latches_held m.store activity) ≡ None) ⊎ Promotes activity wanted.page
+
+    alone : (activity : Activity) → m.activity actor ≡ activity → Wants activity → Found activity → Alone activity
+    alone (at.SessionWalk line None rest found) is wants box = inl refl
+    alone (at.SessionWalk line (Some held) rest found) is wants box = inl (of_walk held (session_mode line.command) (ap walk_held is))
+    alone (at.PosterWalk job None) is wants box = inl refl
+    alone (at.PosterWalk job (Some held)) is wants box = inl (of_walk held (job_mode job) (ap walk_held is))
+    alone (at.ConsolidatorWalk job None) is wants box = inl refl
+    alone (at.ConsolidatorWalk job (Some held)) is wants box = inl (of_walk held (job_mode job) (ap walk_held is))
+    alone (at.PosterGrow job) is wants box = inl refl
+    alone (at.PosterChild job parent) is wants box = inl (of_parent job parent Update (inl is) wants)
+    alone (at.PosterAgain job parent) is wants box = inl (of_parent job parent Exclusive (inr (inr is)) wants)
+    alone (at.PosterPromote job parent) is wants box = inr (of_page parent (λ page. page.level) Exclusive (live_here m.store parent) wanted wants).0
+    alone (at.ConsolidatorPromote job parent keep gone) is wants box = inr (of_page parent (λ page. page.level) Exclusive (live_here m.store parent) wanted wants).0
+    alone (at.ConsolidatorScan job parent child) is wants box =
+        let place = at_place job parent (child ∷ []) None in
+        let known = known_at place (ap merging_at is) in
+        let named : IsTrue (names_child known.page child) = All-head (λ (id : ℕ). IsTrue (names_child known.page id)) child [] known.names in
+        let lower = named_found m.store.meta known.page (good_here parent known.page known.live) page child Shared (live_here m.store parent) wanted known.live named wants hand.level in
+        inl (off_one parent Update wanted.page [] (above_it place (ap merging_at is) lower))
+    alone (at.ConsolidatorTry job parent keep gone leaf) is wants box =
+        let pair : PairHeld = record { keep = keep; gone = gone; leaf = Some leaf } in
+        let place = at_place job parent (keep ∷ gone ∷ []) (Some pair) in
+        let known = known_at place (ap merging_at is) in
+        let kept = known.pair.page in
+        let same = same_Some (wanted_page gone kept.level Shared) wanted (ap (option_map (λ (page : LivePage). wanted_page gone page.level Shared)) (sym known.pair.live) ∙ wants) in
+        let on : page.level ≡ kept.level = hand.level ∙ ap (λ (w : Wanted). w.level) (sym same) in
+        let below = known.pair.level in
+        let lower : page.level < known.page.level = omega (arith, on, below) in
+        let later = tried_found m.store.meta kept (good_here keep kept known.pair.live) page gone leaf (live_here fetched keep) (kept_there place pair kept (ap merging_at is) refl known.pair.live) known.pair.gave on box in
+        inl (off_both parent keep Update Shared (above_it place (ap merging_at is) lower) (beside_it place pair kept (ap merging_at is) refl known.pair.live later))
+    alone (at.ConsolidatorKeep job parent keep gone) is wants box =
+        let place = at_place job parent (keep ∷ gone ∷ []) None in
+        let known = known_at place (ap merging_at is) in
+        let named : IsTrue (names_child known.page keep) = All-head (λ (id : ℕ). IsTrue (names_child known.page id)) keep (gone ∷ []) known.names in
+        let lower = named_found m.store.meta known.page (good_here parent known.page known.live) page keep Exclusive (live_here m.store parent) wanted known.live named wants hand.level in
+        inl (off_one parent Exclusive wanted.page [] (above_it place (ap merging_at is) lower))
+    alone (at.ConsolidatorDecide job parent keep gone) is wants box =
+        let pair : PairHeld = record { keep = keep; gone = gone; leaf = None } in
+        let place = at_place job parent (keep ∷ gone ∷ []) (Some pair) in
+        let known = known_at place (ap merging_at is) in
+        let kept = known.pair.page in
+        let named : IsTrue (names_child known.page gone) = All-head (λ (id : ℕ). IsTrue (names_child known.page id)) gone [] (All-tail (λ (id : ℕ). IsTrue (names_child known.page id)) keep (gone ∷ []) known.names) in
+        let lower = named_found m.store.meta known.page (good_here parent known.page known.live) page gone Exclusive (live_here m.store parent) wanted known.live named wants hand.level in
+        let same = same_Some (wanted_page gone (known.page.level - 1) Exclusive) wanted (ap (option_map (λ (page : LivePage). wanted_page gone (page.level - 1) Exclusive)) (sym known.live) ∙ wants) in
+        let level : page.level ≡ known.page.level - 1 = hand.level ∙ ap (λ (w : Wanted). w.level) (sym same) in
+        let below = known.pair.level in
+        let on : page.level ≡ kept.level = omega (arith, level, below) in
+        let later = given_found m.store.meta kept (good_here keep kept known.pair.live) page gone (live_here fetched keep) (kept_there place pair kept (ap merging_at is) refl known.pair.live) known.pair.gave on box in
+        inl (off_both parent keep Exclusive Exclusive (above_it place (ap merging_at is) lower) (beside_it place pair kept (ap merging_at is) refl known.pair.live later))
+    alone at.SessionIdle is wants box = cc
+    alone (at.SessionSplit line held) is wants box = cc
+    alone (at.SessionPut line source fresh) is wants box = cc
+    alone (at.SessionAwait line reply place) is wants box = cc
+    alone at.PosterIdle is wants box = cc
+    alone at.ConsolidatorIdle is wants box = cc
+    alone at.Flusher is wants box = cc
+
+pub walks_lead_on : WalksLeadOn
+walks_lead_on m actor fetched held before wanted page may keeps brings walks live wants hand =
+    leads m actor fetched may keeps brings held before wanted page live (walked_there m actor fetched may keeps brings held before walks live) hand.level (m.activity actor) walks wants hand.box
+
+pub no_page_is_latched_twice : NoPageIsLatchedTwice
+no_page_is_latched_twice m actor fetched wanted page may keeps brings wants hand = elim (alone m actor fetched may keeps brings wanted page wants hand (m.activity actor) refl wants hand.box) [
+  | inl none ↦ inl (keeps.latches_fit.exact actor wanted.page may ∙ none)
+  | inr promotes ↦ inr promotes
+]

@@ -1,0 +1,226 @@
+-- The page that a step wants comes later than each one that its actor holds.
+use Rattle.std.proofs.Common.{◌≡◌, ◌⊎◌, inl, inr, ℕ, ◌==◌, ◌-◌, ◌<◌, true, false, cond, List, [], ◌∷◌, Option, Some, None, IfSome, IsSome, IsTrue, refl, sym, ap, ◌∙◌, subst, arith}
+use Rattle.std.proofs.lemmas.Bool.{eqb-true}
+use Rattle.std.specs.List.{All, Contains, slice_get}
+use Rattle.std.proofs.lemmas.List.Elements.{All-head, All-tail}
+use Rattle.std.specs.Option.{option_and_then, option_map}
+use Rattle.hb_frag.specs.declared.leaves.Leaf.{Leaf}
+use Rattle.hb_frag.specs.declared.leaves.Leaf.TheVariants.{Records, Child, Sibling}
+use Rattle.hb_frag.specs.declared.pages.LivePage.{LivePage}
+use Rattle.hb_frag.specs.declared.pages.Page.TheVariants.{Live}
+use Rattle.hb_layout.specs.declared.meta.Meta.{Meta}
+use Rattle.hb_latch.specs.declared.modes.Mode.{Mode}
+use Rattle.hb_latch.specs.declared.modes.Mode.TheVariants.{Shared, Update, Exclusive}
+use Rattle.hb_activity.specs.declared.jobs.Job.{Job}
+use Rattle.hb_activity.specs.declared.wanting.Wanted.{Wanted}
+use Rattle.hb_activity.specs.declared.activities.Activity.{Activity}
+use Rattle.hb_activity.specs.declared.activities.Activity.TheVariants as at
+use Rattle.hb_activity.specs.Holding.{latch_on, walk_latch}
+use Rattle.hb_activity.specs.Waiting.{IsLater}
+use Rattle.hb_activity.specs.Walks.{goal_of, job_mode, session_mode, walk_held}
+use Rattle.hb_activity.specs.Wanting.{child_of, in_mode, named_child, named_page, walk_next, wanted_of, wanted_page}
+use Rattle.hb_consol.specs.ConsolidatorRows.{names_child}
+use Rattle.hb_core.proofs.Files.AskedPages.{first_among, first_sibling_among, leaf_with_box, named_with_box, place_among}
+use Rattle.hb_core.proofs.Latches.Backing.{live_there}
+use Rattle.hb_core.proofs.Files.SoundFiles.{current_sound, files_hold}
+use Rattle.hb_core.proofs.Walks.Volumes.{sibling_fewer}
+use Rattle.hb_core.specs.Asking.{looked_live}
+use Rattle.hb_core.specs.Keeps.{HasSoundFile, LatchesFit, WalksInSpace}
+use Rattle.hb_core.specs.KeptMerges.{AtParent, NamesKnown, PairHeld, merging_at}
+use Rattle.hb_core.specs.Machines.{Files, Machine, current_file, live_here}
+use Rattle.hb_core.specs.Performing.{latches_held, mode_among}
+use Rattle.hb_core.specs.WaitingLaws.{ComesLater, Promotes, WantedComesLater, WantsItsOwn}
+use Rattle.hb_frag.specs.Leaves.{Placed, first_named, leaf_at, leaves, leaves_of, siblings_of}
+use Rattle.hb_latch.specs.Tables.{MayLatch}
+use Rattle.hb_ops.specs.Files.{FileState, if_live, live_page}
+use Rattle.hb_ops.specs.PlacedLaws.{leaf_is_sibling, placed}
+use Rattle.hb_ops.specs.Sound.{IsSound}
+use Rattle.hb_space.specs.Boxes.{Area, volume}
+use Rattle.hb_store.specs.States.{in_memory}
+
+-- ---- in a sound file the pages that a page names come later
+
+module _ (s : FileState) (sound : IsSound s) (id : ℕ) (page : LivePage) (live : live_page s id ≡ Some page) where
+  after : (name other : ℕ) (named : LivePage) → name ≡ other → live_page s name ≡ Some named → IsLater page named → ComesLater s id other
+  after name other named is there later = subst (ComesLater s id) is (record { page = page; named = named; live = live; live_named = there; later = later })
+
+  pub child_later : (name other : ℕ) (area : Area) → Contains (leaves_of page.frag page.area) (placed (Child name) area) → name ≡ other → ComesLater s id other
+  child_later name other area among is =
+      let named = sound.children id page name area live among in
+      after name other named.0 is named.1 (inl (omega (arith, named.2)))
+
+  sibling_after : (name other : ℕ) (area : Area) → Contains (siblings_of page) (name, area) → name ≡ other → ComesLater s id other
+  sibling_after name other area has is =
+      let named = sound.siblings id page name area live has in
+      let made = sound.well_made id page live in
+      let fewer = sibling_fewer page.frag page.area name area made.well_cut made.filled.own has in
+      after name other named.0 is named.1 (inr (named.2, subst (λ (a : Area). volume a < volume page.area) (sym named.3) fewer))
+
+  pub sibling_later : (name other : ℕ) (area : Area) → Contains (leaves_of page.frag page.area) (placed (Sibling name) area) → name ≡ other → ComesLater s id other
+  sibling_later name other area among is = sibling_after name other area (leaf_is_sibling (leaves_of page.frag page.area) name area among) is
+
+  leaf_later : (mode : ℕ → Mode) (leaf : Leaf) (area : Area) (wanted : Wanted) → Contains (leaves_of page.frag page.area) (placed leaf area) → in_mode mode (named_page page.level leaf) ≡ Some wanted → ComesLater s id wanted.page
+  leaf_later mode (Records records) area wanted among wants = cc
+  leaf_later mode (Child name) area wanted among wants = child_later name wanted.page area among (let same : wanted_page name (page.level - 1) (mode (page.level - 1)) ≡ wanted = cc in ap (λ (w : Wanted). w.page) same)
+  leaf_later mode (Sibling name) area wanted among wants = sibling_later name wanted.page area among (let same : wanted_page name page.level (mode page.level) ≡ wanted = cc in ap (λ (w : Wanted). w.page) same)
+
+  at_leaf : (mode : ℕ → Mode) (p : List ℕ) (wanted : Wanted) (o : Option Placed) → leaf_at page p ≡ o → in_mode mode (option_and_then (λ (l : Placed). named_page page.level l.leaf) o) ≡ Some wanted → ComesLater s id wanted.page
+  at_leaf mode p wanted None is wants = cc
+  at_leaf mode p wanted (Some l) is wants = leaf_later mode l.leaf l.area wanted (first_among p (leaves_of page.frag page.area) l is) wants
+
+  only_child : (leaf : Leaf) (area : Area) (wanted : Wanted) → Contains (leaves_of page.frag page.area) (placed leaf area) → in_mode (λ level. Shared) (named_child page.level leaf) ≡ Some wanted → ComesLater s id wanted.page
+  only_child (Records records) area wanted among wants = cc
+  only_child (Child name) area wanted among wants = child_later name wanted.page area among (let same : wanted_page name (page.level - 1) Shared ≡ wanted = cc in ap (λ (w : Wanted). w.page) same)
+  only_child (Sibling name) area wanted among wants = cc
+
+  at_child : (p : List ℕ) (wanted : Wanted) (o : Option Placed) → leaf_at page p ≡ o → in_mode (λ level. Shared) (option_and_then (λ (l : Placed). named_child page.level l.leaf) o) ≡ Some wanted → ComesLater s id wanted.page
+  at_child p wanted None is wants = cc
+  at_child p wanted (Some l) is wants = only_child l.leaf l.area wanted (first_among p (leaves_of page.frag page.area) l is) wants
+
+  -- what a walk that holds the page wants, and a poster whose parent it is
+  pub walk_later : (mode : ℕ → Mode) (meta : Meta) (goal : Option (List ℕ)) (now : Option LivePage) (wanted : Wanted) → now ≡ Some page → in_mode mode (walk_next goal (Some id) meta now) ≡ Some wanted → ComesLater s id wanted.page
+  walk_later mode meta None now wanted is wants = cc
+  walk_later mode meta (Some p) now wanted is wants = at_leaf mode p wanted (leaf_at page p) refl (subst (λ (o : Option LivePage). in_mode mode (walk_next (Some p) (Some id) meta o) ≡ Some wanted) is wants)
+
+  pub below_later : (p : List ℕ) (now : Option LivePage) (wanted : Wanted) → now ≡ Some page → in_mode (λ level. Shared) (option_and_then (λ (page : LivePage). child_of page p) now) ≡ Some wanted → ComesLater s id wanted.page
+  below_later p now wanted is wants = at_child p wanted (leaf_at page p) refl (subst (λ (o : Option LivePage). in_mode (λ level. Shared) (option_and_then (λ (page : LivePage). child_of page p) o) ≡ Some wanted) is wants)
+
+  -- what a consolidator tries, and what it decides on
+  pub tried_later : (name other place : ℕ) → slice_get (leaves page.frag) place ≡ Some (Sibling name) → name ≡ other → ComesLater s id other
+  tried_later name other place there is =
+      let one = leaf_with_box page.frag page.area (Sibling name) (place_among (leaves page.frag) place (Sibling name) there) in
+      sibling_later name other one.0 one.1 is
+
+  pub given_later : (name other : ℕ) → IsSome (first_named name (siblings_of page)) → name ≡ other → ComesLater s id other
+  given_later name other gave is = by (first_named name (siblings_of page)) refl gave
+    where
+      by : (o : Option Area) → first_named name (siblings_of page) ≡ o → IsSome o → ComesLater s id other
+      by None none some = cc
+      by (Some area) there some = sibling_after name other area (first_sibling_among name (siblings_of page) area there) is
+
+-- ---- of the latches of an activity
+
+-- a page names a child
+abbrev IsNamed : LivePage → ℕ → Type 0
+IsNamed page name = IsTrue (names_child page name)
+
+second_named : (page : LivePage) (first second : ℕ) → All (IsNamed page) (first ∷ second ∷ []) → IsNamed page second
+second_named page first second all = All-head (IsNamed page) second [] (All-tail (IsNamed page) first (second ∷ []) all)
+
+none_among : (id : ℕ) (mode : Mode) → mode_among id [] ≡ Some mode → ⊥
+none_among id mode is = cc
+
+one_among : (page : ℕ) (its : Mode) (id : ℕ) (mode : Mode) → mode_among id (latch_on page its ∷ []) ≡ Some mode → (page ≡ id) × (its ≡ mode)
+one_among page its id mode is =
+    elim (page == id) as (λ b. (page == id) ≡ b → cond b (Some its) None ≡ Some mode → (page ≡ id) × (its ≡ mode)) [
+      | true ↦ λ same e. (eqb-true page id same, cc)
+      | false ↦ λ other e. cc
+    ] refl is
+
+walk_among : (held : ℕ) (page : Option LivePage) (its : ℕ → Mode) (id : ℕ) (mode : Mode) → mode_among id (walk_latch (Some held) page its) ≡ Some mode → held ≡ id
+walk_among held None its id mode is = absurd (none_among id mode is)
+walk_among held (Some page) its id mode is = (one_among held (its page.level) id mode is).0
+
+module _ (m : Machine) (files : Files) (actor id : ℕ) (mode : Mode) (wanted : Wanted) (may : MayLatch actor) (fit : LatchesFit m) (has : HasSoundFile m files) (walks : WalksInSpace m) where
+  sound_now : IsSound (current_file files)
+  sound_now = current_sound m.store files (files_hold m files has)
+
+  in_file : (q : ℕ) (page : LivePage) → live_here m.store q ≡ Some page → live_page (current_file files) q ≡ Some page
+  in_file q page live = ap if_live (has.shown q (Live page) (live_there (in_memory m.store q) page live))
+
+  abbrev Comes : Type 0
+  Comes = ComesLater (current_file files) id wanted.page ⊎ WantsItsOwn m actor id mode wanted
+
+  of_walk : (held : ℕ) (goal : Option (List ℕ)) (its : ℕ → Mode) (page : Option LivePage) → walk_held (m.activity actor) ≡ Some held → in_mode its (walk_next goal (Some held) m.store.meta (live_here m.store held)) ≡ Some wanted
+      → mode_among id (walk_latch (Some held) page its) ≡ Some mode → Comes
+  of_walk held goal its page walking wants holds =
+      let one = fit.walking actor held may walking in
+      inl (subst (λ (q : ℕ). ComesLater (current_file files) q wanted.page) (walk_among held page its id mode holds)
+      (walk_later (current_file files) sound_now held one.0 (in_file held one.0 (ap if_live one.1)) its m.store.meta goal (live_here m.store held) wanted (ap if_live one.1) wants))
+
+  of_parent : (job : Job) (parent : ℕ) (its : Mode) (page : LivePage) → live_here m.store parent ≡ Some page → in_mode (λ level. Shared) (option_and_then (λ (page : LivePage). child_of page job.point) (live_here m.store parent)) ≡ Some wanted
+      → mode_among id (latch_on parent its ∷ []) ≡ Some mode → Comes
+  of_parent job parent its page live wants holds =
+      inl (subst (λ (q : ℕ). ComesLater (current_file files) q wanted.page) (one_among parent its id mode holds).0
+      (below_later (current_file files) sound_now parent page (in_file parent page live) job.point (live_here m.store parent) wanted live wants))
+
+  promoted : (parent : ℕ) (page : Option LivePage) → option_map (λ (page : LivePage). wanted_page parent page.level Exclusive) page ≡ Some wanted → parent ≡ wanted.page
+  promoted parent None wants = cc
+  promoted parent (Some page) wants = let same : wanted_page parent page.level Exclusive ≡ wanted = cc in ap (λ (w : Wanted). w.page) same
+
+  of_promotion : (parent : ℕ) (page : Option LivePage) → Promotes (m.activity actor) parent → option_map (λ (page : LivePage). wanted_page parent page.level Exclusive) page ≡ Some wanted → mode_among id (latch_on parent Update ∷ []) ≡ Some mode → Comes
+  of_promotion parent page promotes wants holds =
+      let one = one_among parent Update id mode holds in
+      inr (record {
+        promotes = subst (Promotes (m.activity actor)) one.0 promotes;
+        same = sym (promoted parent page wants) ∙ one.0;
+        update = sym one.1;
+      })
+
+  -- a page that a consolidator's parent names
+  abbrev at_names : Job → ℕ → List ℕ → Option PairHeld → AtParent
+  at_names job parent known pair = record { job = job; parent = parent; known = known; pair = pair }
+
+  known_at : {place : AtParent} → merging_at (m.activity actor) ≡ Some place → NamesKnown m.store place
+  known_at is = subst (λ (o : Option AtParent). IfSome o (NamesKnown m.store)) is (walks.merging actor)
+
+  wanted_is : (name : ℕ) (level : LivePage → ℕ) (its : Mode) (o : Option LivePage) → option_map (λ (page : LivePage). wanted_page name (level page) its) o ≡ Some wanted → name ≡ wanted.page
+  wanted_is name level its None wants = cc
+  wanted_is name level its (Some page) wants = let same : wanted_page name (level page) its ≡ wanted = cc in ap (λ (w : Wanted). w.page) same
+
+  of_names : (job : Job) (parent : ℕ) (names : List ℕ) (pair : Option PairHeld) (its : Mode) (known : NamesKnown m.store (at_names job parent names pair)) (name : ℕ) → IsNamed known.page name → name ≡ wanted.page
+      → mode_among id (latch_on parent its ∷ []) ≡ Some mode → Comes
+  of_names job parent names pair its known name named is holds =
+      let one = named_with_box known.page name named in
+      inl (subst (λ (q : ℕ). ComesLater (current_file files) q wanted.page) (one_among parent its id mode holds).0
+      (child_later (current_file files) sound_now parent known.page (in_file parent known.page known.live) name wanted.page one.0 one.1 is))
+
+  of_both : (parent keep : ℕ) (its other : Mode) → (mode_among id (latch_on parent its ∷ []) ≡ Some mode → Comes) → (mode_among id (latch_on keep other ∷ []) ≡ Some mode → Comes)
+      → mode_among id (latch_on parent its ∷ latch_on keep other ∷ []) ≡ Some mode → Comes
+  of_both parent keep its other first second holds =
+      elim (parent == id) as (λ b. (cond b (Some its) None ≡ Some mode → Comes) → cond b (Some its) (mode_among id (latch_on keep other ∷ [])) ≡ Some mode → Comes) [
+        | true ↦ λ first e. first e
+        | false ↦ λ first e. second e
+      ] first holds
+
+  comes : (activity : Activity) → m.activity actor ≡ activity → wanted_of activity m.store.meta (looked_live m.store activity) ≡ Some wanted → mode_among id (latches_held m.store activity) ≡ Some mode → Comes
+  comes (at.SessionWalk line None rest found) is wants holds = absurd (none_among id mode holds)
+  comes (at.SessionWalk line (Some held) rest found) is wants holds = of_walk held (goal_of line.command rest) (session_mode line.command) (live_here m.store held) (ap walk_held is) wants holds
+  comes (at.PosterWalk job None) is wants holds = absurd (none_among id mode holds)
+  comes (at.PosterWalk job (Some held)) is wants holds = of_walk held (Some job.point) (job_mode job) (live_here m.store held) (ap walk_held is) wants holds
+  comes (at.ConsolidatorWalk job None) is wants holds = absurd (none_among id mode holds)
+  comes (at.ConsolidatorWalk job (Some held)) is wants holds = of_walk held (Some job.point) (job_mode job) (live_here m.store held) (ap walk_held is) wants holds
+  comes (at.PosterGrow job) is wants holds = absurd (none_among id mode holds)
+  comes (at.PosterChild job parent) is wants holds = let one = walks.parents actor job parent (inl is) in of_parent job parent Update one.0 one.1 wants holds
+  comes (at.PosterAgain job parent) is wants holds = let one = walks.parents actor job parent (inr (inr is)) in of_parent job parent Exclusive one.0 one.1 wants holds
+  comes (at.PosterPromote job parent) is wants holds = of_promotion parent (live_here m.store parent) (subst (λ (a : Activity). Promotes a parent) (sym is) refl) wants holds
+  comes (at.ConsolidatorPromote job parent keep gone) is wants holds = of_promotion parent (live_here m.store parent) (subst (λ (a : Activity). Promotes a parent) (sym is) refl) wants holds
+  comes (at.ConsolidatorScan job parent child) is wants holds =
+      let known : NamesKnown m.store (at_names job parent (child ∷ []) None) = known_at (ap merging_at is) in
+      of_names job parent (child ∷ []) None Update known child (All-head (IsNamed known.page) child [] known.names) (wanted_is child (λ page. page.level - 1) Shared (live_here m.store parent) wants) holds
+  comes (at.ConsolidatorTry job parent keep gone leaf) is wants holds =
+      let known : NamesKnown m.store (at_names job parent (keep ∷ gone ∷ []) (Some (record { keep = keep; gone = gone; leaf = Some leaf }))) = known_at (ap merging_at is) in
+      let goes : gone ≡ wanted.page = wanted_is gone (λ page. page.level) Shared (live_here m.store keep) wants in
+      of_both parent keep Update Shared (λ one. of_names job parent (keep ∷ gone ∷ []) _ Update known gone (second_named known.page keep gone known.names) goes one)
+      (λ one. inl (subst (λ (q : ℕ). ComesLater (current_file files) q wanted.page) (one_among keep Shared id mode one).0
+      (tried_later (current_file files) sound_now keep known.pair.page (in_file keep known.pair.page known.pair.live) gone wanted.page leaf known.pair.gave goes))) holds
+  comes (at.ConsolidatorKeep job parent keep gone) is wants holds =
+      let known : NamesKnown m.store (at_names job parent (keep ∷ gone ∷ []) None) = known_at (ap merging_at is) in
+      of_names job parent (keep ∷ gone ∷ []) None Exclusive known keep (All-head (IsNamed known.page) keep (gone ∷ []) known.names) (wanted_is keep (λ page. page.level - 1) Exclusive (live_here m.store parent) wants) holds
+  comes (at.ConsolidatorDecide job parent keep gone) is wants holds =
+      let known : NamesKnown m.store (at_names job parent (keep ∷ gone ∷ []) (Some (record { keep = keep; gone = gone; leaf = None }))) = known_at (ap merging_at is) in
+      let goes : gone ≡ wanted.page = wanted_is gone (λ page. page.level - 1) Exclusive (live_here m.store parent) wants in
+      of_both parent keep Exclusive Exclusive (λ one. of_names job parent (keep ∷ gone ∷ []) _ Exclusive known gone (second_named known.page keep gone known.names) goes one)
+      (λ one. inl (subst (λ (q : ℕ). ComesLater (current_file files) q wanted.page) (one_among keep Exclusive id mode one).0
+      (given_later (current_file files) sound_now keep known.pair.page (in_file keep known.pair.page known.pair.live) gone wanted.page known.pair.gave goes))) holds
+  comes at.SessionIdle is wants holds = cc
+  comes (at.SessionSplit line held) is wants holds = cc
+  comes (at.SessionPut line source fresh) is wants holds = cc
+  comes (at.SessionAwait line reply place) is wants holds = cc
+  comes at.PosterIdle is wants holds = cc
+  comes at.ConsolidatorIdle is wants holds = cc
+  comes at.Flusher is wants holds = cc
+
+pub wanted_comes_later : WantedComesLater
+wanted_comes_later m files actor id mode wanted may fit has walks wants holds =
+    comes m files actor id mode wanted may fit has walks (m.activity actor) refl wants (sym (fit.exact actor id may) ∙ holds)

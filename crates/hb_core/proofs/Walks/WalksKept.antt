@@ -1,0 +1,357 @@
+-- After a step the page that a walk holds has the walk's point in its box, and the parent that a poster holds a child leaf there.
+use Rattle.std.proofs.Common.{◌≡◌, ◌≢◌, ◌⊎◌, inl, inr, ℕ, ◌==◌, Bool, cond, List, [], ◌∷◌, Option, Some, None, IfSome, refl, sym, ap, ◌∙◌, subst}
+use Rattle.std.proofs.lemmas.Bool.{cases_Bool, eqb-true, eqb-false, eq-eqb, ne_eqb}
+use Rattle.hb_frag.specs.declared.pages.LivePage.{LivePage}
+use Rattle.hb_frag.specs.declared.pages.Page.TheVariants.{Live}
+use Rattle.hb_set.specs.declared.scripts.Line.{Line}
+use Rattle.hb_latch.specs.declared.modes.Mode.{Mode}
+use Rattle.hb_latch.specs.declared.modes.Mode.TheVariants.{Update, Exclusive}
+use Rattle.hb_activity.specs.declared.jobs.Job.{Job}
+use Rattle.hb_activity.specs.declared.activities.Activity.{Activity}
+use Rattle.hb_activity.specs.declared.activities.Activity.TheVariants as at
+use Rattle.hb_core.specs.declared.outcomes.Outcome.{Outcome}
+use Rattle.hb_core.specs.declared.outcomes.Outcome.TheVariants as outcomes
+use Rattle.hb_activity.specs.Deeds.{Deed}
+use Rattle.hb_activity.specs.Holding.{latch_on}
+use Rattle.hb_activity.specs.Passing.{LeadsBelow}
+use Rattle.hb_activity.specs.Walks.{walk_held, walk_point}
+use Rattle.hb_core.proofs.Latches.Backing.{live_there}
+use Rattle.hb_core.proofs.Memory.BroughtPages.{still_held}
+use Rattle.hb_core.proofs.Latches.LatchesStay.{walk_latched}
+use Rattle.hb_core.proofs.Walks.MergesKept.{HasMergePlace, PlaceStays, merged_place, named_again, none_named, place_latched}
+use Rattle.hb_core.proofs.Table.NextPlaces.{HasPlace, HoldsNothing, KeepsParent, MergesOn, TakesParent, WalksTo, nothing_given_up, nothing_run_out, now, place_after}
+use Rattle.hb_core.proofs.Table.StepKinds.{each_kind, rest_kind}
+use Rattle.hb_core.proofs.Memory.StillThere.{fetched_good, may_or_not, nothing_done, other_holds, other_walks, own_next}
+use Rattle.hb_core.proofs.Table.Ways.{KeepsAllButDisk, forces_so, meets_so, stays_so, more_so}
+use Rattle.hb_core.specs.Fetching.{Brings}
+use Rattle.hb_core.specs.KeepingLaws.{WalksStayInSpace}
+use Rattle.hb_core.specs.Keeps.{HasNobodyElse, HoldsPagesOfFile, LatchesFit, WalksInSpace}
+use Rattle.hb_core.specs.KeptMerges.{AtParent, NamesKnown, merging_at}
+use Rattle.hb_core.specs.Machines.{Machine, live_here}
+use Rattle.hb_core.specs.Performing.{Performs, latches_held, mode_among}
+use Rattle.hb_core.specs.Steps.{StepsTo, Works}
+use Rattle.hb_latch.specs.Tables.{MayLatch}
+use Rattle.hb_ops.proofs.Tips.{first_held}
+use Rattle.hb_ops.specs.Files.{if_live}
+use Rattle.hb_space.specs.Boxes.{Holds}
+use Rattle.hb_store.specs.States.{StoreState, in_memory}
+
+abbrev pub IsAtParent : Activity → Job → ℕ → Type 0
+IsAtParent activity job parent = (activity ≡ at.PosterChild job parent) ⊎ (activity ≡ at.PosterPromote job parent) ⊎ (activity ≡ at.PosterAgain job parent)
+
+abbrev pub HasParentOf : StoreState → Job → ℕ → Type 0
+HasParentOf st job parent = (page : LivePage) × (live_here st parent ≡ Some page) × (page.level ≡ job.level) × LeadsBelow page job
+
+-- what one activity has of it
+pub record StandsInSpace (st : StoreState) (activity : Activity) : Type 0 where
+  pub held : (held : ℕ) (page : LivePage) → walk_held activity ≡ Some held → live_here st held ≡ Some page → IfSome (walk_point activity) (Holds page.area)
+  pub parents : (job : Job) (parent : ℕ) → IsAtParent activity job parent → HasParentOf st job parent
+  pub merging : IfSome (merging_at activity) (NamesKnown st)
+
+each_stands : (m : Machine) → WalksInSpace m → (actor : ℕ) → StandsInSpace m.store (m.activity actor)
+each_stands m walks actor = record { held = walks.held actor; parents = walks.parents actor; merging = walks.merging actor }
+
+all_stand : (m : Machine) → ((actor : ℕ) → StandsInSpace m.store (m.activity actor)) → WalksInSpace m
+all_stand m each = record { held = λ actor. (each actor).held; parents = λ actor. (each actor).parents; merging = λ actor. (each actor).merging }
+
+moved_parent : (old new : StoreState) (job : Job) (parent : ℕ) → ((page : LivePage) → live_here old parent ≡ Some page → live_here new parent ≡ Some page) → HasParentOf old job parent → HasParentOf new job parent
+moved_parent old new job parent moves (page, live, level, leads) = (page, moves page live, level, leads)
+
+-- the same activity, in a memory that has its pages
+stands_again : (activity : Activity) (old new : StoreState) → StandsInSpace old activity → ((held : ℕ) (page : LivePage) → walk_held activity ≡ Some held → live_here new held ≡ Some page → live_here old held ≡ Some page)
+    → ((job : Job) (parent : ℕ) (page : LivePage) → IsAtParent activity job parent → live_here old parent ≡ Some page → live_here new parent ≡ Some page)
+    → ((place : AtParent) → merging_at activity ≡ Some place → PlaceStays old new place) → StandsInSpace new activity
+stands_again activity old new stands walk parent merges = record {
+  held = λ held page walks live. stands.held held page walks (walk held page walks live);
+  parents = λ job at_id is. moved_parent old new job at_id (λ page live. parent job at_id page is live) (stands.parents job at_id is);
+  merging = named_again old new (merging_at activity) merges stands.merging;
+}
+
+-- ---- an activity that holds no page of a walk, and no parent
+
+no_walk : (activity : Activity) (held : ℕ) → walk_held activity ≡ None → walk_held activity ≡ Some held → ⊥
+no_walk activity held none some = nowhere (sym none ∙ some)
+  where
+    nowhere : None ≡ Some held → ⊥
+    nowhere is = cc
+
+no_parent : (st : StoreState) (activity : Activity) (job : Job) (parent : ℕ) → latches_held st activity ≡ [] → IsAtParent activity job parent → ⊥
+no_parent st activity job parent none (inl is) = some (sym (ap (latches_held st) is) ∙ none)
+  where
+    some : latch_on parent Update ∷ [] ≡ [] → ⊥
+    some is = cc
+no_parent st activity job parent none (inr (inl is)) = some (sym (ap (latches_held st) is) ∙ none)
+  where
+    some : latch_on parent Update ∷ [] ≡ [] → ⊥
+    some is = cc
+no_parent st activity job parent none (inr (inr is)) = some (sym (ap (latches_held st) is) ∙ none)
+  where
+    some : latch_on parent Exclusive ∷ [] ≡ [] → ⊥
+    some is = cc
+
+free_stands : (st : StoreState) (activity : Activity) → HoldsNothing activity → StandsInSpace st activity
+free_stands st activity free = record {
+  held = λ held page walks live. absurd (no_walk activity held free.walk walks);
+  parents = λ job parent is. absurd (no_parent st activity job parent (free.latches st) is);
+  merging = none_named st (merging_at activity) free.merging;
+}
+
+-- a walk has no parent
+walks_have_none : (activity : Activity) (id : ℕ) (job : Job) (parent : ℕ) → walk_held activity ≡ Some id → IsAtParent activity job parent → ⊥
+walks_have_none activity id job parent walks (inl is) = no_walk activity id (ap walk_held is) walks
+walks_have_none activity id job parent walks (inr (inl is)) = no_walk activity id (ap walk_held is) walks
+walks_have_none activity id job parent walks (inr (inr is)) = no_walk activity id (ap walk_held is) walks
+
+-- a poster at a parent merges nothing
+poster_merges_not : (activity : Activity) (job : Job) (parent : ℕ) → IsAtParent activity job parent → merging_at activity ≡ None
+poster_merges_not activity job parent (inl is) = ap merging_at is
+poster_merges_not activity job parent (inr (inl is)) = ap merging_at is
+poster_merges_not activity job parent (inr (inr is)) = ap merging_at is
+
+-- a consolidator at a parent walks no more, and is no poster
+merges_in_space : (st : StoreState) (activity : Activity) (place : AtParent) → walk_held activity ≡ None → merging_at activity ≡ Some place → NamesKnown st place → StandsInSpace st activity
+merges_in_space st activity place still is named = record {
+  held = λ held page walks live. absurd (no_walk activity held still walks);
+  parents = λ job parent at_parent. absurd (nowhere (sym (poster_merges_not activity job parent at_parent) ∙ is));
+  merging = subst (λ (o : Option AtParent). IfSome o (NamesKnown st)) (sym is) named;
+}
+  where
+    nowhere : None ≡ Some place → ⊥
+    nowhere is = cc
+
+-- a session that splits a page, or has split it, has none either
+split_stands : (st : StoreState) (activity : Activity) (line : Line) (held : ℕ) → activity ≡ at.SessionSplit line held → StandsInSpace st activity
+split_stands st activity line held is = subst (StandsInSpace st) (sym is) (record {
+  held = λ id page walks live. absurd (no_walk (at.SessionSplit line held) id refl walks);
+  parents = λ job parent at_parent. absurd (never job parent at_parent);
+  merging = tt;
+})
+  where
+    never : (job : Job) (parent : ℕ) → IsAtParent (at.SessionSplit line held) job parent → ⊥
+    never job parent (inl is) = cc
+    never job parent (inr (inl is)) = cc
+    never job parent (inr (inr is)) = cc
+
+put_stands : (st : StoreState) (activity : Activity) (line : Line) (source fresh : ℕ) → activity ≡ at.SessionPut line source fresh → StandsInSpace st activity
+put_stands st activity line source fresh is = subst (StandsInSpace st) (sym is) (record {
+  held = λ id page walks live. absurd (no_walk (at.SessionPut line source fresh) id refl walks);
+  parents = λ job parent at_parent. absurd (never job parent at_parent);
+  merging = tt;
+})
+  where
+    never : (job : Job) (parent : ℕ) → IsAtParent (at.SessionPut line source fresh) job parent → ⊥
+    never job parent (inl is) = cc
+    never job parent (inr (inl is)) = cc
+    never job parent (inr (inr is)) = cc
+
+-- ---- a poster at a parent
+
+same_parent : (activity : Activity) (job : Job) (parent : ℕ) (st : StoreState) → IsAtParent activity job parent → HasParentOf st job parent → StandsInSpace st activity
+same_parent activity job parent st is has = record {
+  held = λ held page walks live. absurd (walks_have_none activity held job parent walks is);
+  parents = λ other at_id at_other. by other at_id is at_other;
+  merging = none_named st (merging_at activity) (poster_merges_not activity job parent is);
+}
+  where
+    moved : (other : Job) (at_id : ℕ) → (job ≡ other) × (parent ≡ at_id) → HasParentOf st other at_id
+    moved other at_id same = subst (λ (j : Job). HasParentOf st j at_id) same.0 (subst (λ (q : ℕ). HasParentOf st job q) same.1 has)
+
+    child : (a b : Job) (p q : ℕ) → at.PosterChild a p ≡ at.PosterChild b q → (a ≡ b) × (p ≡ q)
+    child a b p q is = (cc, cc)
+
+    promote : (a b : Job) (p q : ℕ) → at.PosterPromote a p ≡ at.PosterPromote b q → (a ≡ b) × (p ≡ q)
+    promote a b p q is = (cc, cc)
+
+    again : (a b : Job) (p q : ℕ) → at.PosterAgain a p ≡ at.PosterAgain b q → (a ≡ b) × (p ≡ q)
+    again a b p q is = (cc, cc)
+
+    by : (other : Job) (at_id : ℕ) → IsAtParent activity job parent → IsAtParent activity other at_id → HasParentOf st other at_id
+    by other at_id (inl a) (inl b) = moved other at_id (child job other parent at_id (sym a ∙ b))
+    by other at_id (inl a) (inr (inl b)) = let no : at.PosterChild job parent ≡ at.PosterPromote other at_id = sym a ∙ b in cc
+    by other at_id (inl a) (inr (inr b)) = let no : at.PosterChild job parent ≡ at.PosterAgain other at_id = sym a ∙ b in cc
+    by other at_id (inr (inl a)) (inl b) = let no : at.PosterPromote job parent ≡ at.PosterChild other at_id = sym a ∙ b in cc
+    by other at_id (inr (inl a)) (inr (inl b)) = moved other at_id (promote job other parent at_id (sym a ∙ b))
+    by other at_id (inr (inl a)) (inr (inr b)) = let no : at.PosterPromote job parent ≡ at.PosterAgain other at_id = sym a ∙ b in cc
+    by other at_id (inr (inr a)) (inl b) = let no : at.PosterAgain job parent ≡ at.PosterChild other at_id = sym a ∙ b in cc
+    by other at_id (inr (inr a)) (inr (inl b)) = let no : at.PosterAgain job parent ≡ at.PosterPromote other at_id = sym a ∙ b in cc
+    by other at_id (inr (inr a)) (inr (inr b)) = moved other at_id (again job other parent at_id (sym a ∙ b))
+
+-- ---- the actor that steps
+
+same_page : (o : Option LivePage) (page other : LivePage) → o ≡ Some page → o ≡ Some other → page ≡ other
+same_page o page other a b = by (sym a ∙ b)
+  where
+    by : Some page ≡ Some other → page ≡ other
+    by is = cc
+
+same_number : (o : Option ℕ) (id other : ℕ) → o ≡ Some id → o ≡ Some other → id ≡ other
+same_number o id other a b = by (sym a ∙ b)
+  where
+    by : Some id ≡ Some other → id ≡ other
+    by is = cc
+
+pub parent_latched : (st : StoreState) (activity : Activity) (job : Job) (parent : ℕ) → IsAtParent activity job parent → (mode : Mode) × (mode_among parent (latches_held st activity) ≡ Some mode)
+parent_latched st activity job parent is = by is
+  where
+    one : (mode : Mode) → mode_among parent (latch_on parent mode ∷ []) ≡ Some mode
+    one mode = ap (λ (b : Bool). cond b (Some mode) None) (eq-eqb parent parent refl)
+
+    by : IsAtParent activity job parent → (mode : Mode) × (mode_among parent (latches_held st activity) ≡ Some mode)
+    by (inl is) = (Update, ap (λ (a : Activity). mode_among parent (latches_held st a)) is ∙ one Update)
+    by (inr (inl is)) = (Update, ap (λ (a : Activity). mode_among parent (latches_held st a)) is ∙ one Update)
+    by (inr (inr is)) = (Exclusive, ap (λ (a : Activity). mode_among parent (latches_held st a)) is ∙ one Exclusive)
+
+module _ (m : Machine) (actor : ℕ) (may : ℕ → Type 0) (fetched : StoreState) (latches : MayLatch actor) (fit : LatchesFit m) (inside : HoldsPagesOfFile m) (walks : WalksInSpace m) (brings : Brings m may fetched) (deed : Deed) (outcome : Outcome) (new : Machine) (performs : Performs m fetched actor deed outcome new) where
+  -- a page that the actor holds stays
+  own_there : (id : ℕ) (mode : Mode) (page : LivePage) → mode_among id (latches_held m.store (m.activity actor)) ≡ Some mode → live_here m.store id ≡ Some page → live_here fetched id ≡ Some page
+  own_there id mode page among live = ap if_live (still_held m may fetched brings actor id mode (Live page) (fit.exact actor id latches ∙ among) (live_there (in_memory m.store id) page live))
+
+  walks_to : WalksTo fetched deed → StandsInSpace new.store deed.next
+  walks_to to =
+      let store = nothing_done deed.op _ fetched new.store to.nothing performs.store in
+      let good = fetched_good m may fetched inside brings to.id to.page to.live in
+      let has : Holds to.page.area to.p = first_held to.p to.page.frag to.page.area to.placed good.1.well_cut to.leaf in
+      record {
+        held = λ held page on live.
+            let id = same_number (walk_held deed.next) to.id held to.held on in
+            let live_then : live_here fetched held ≡ Some page = sym (ap (λ (st : StoreState). live_here st held) store) ∙ live in
+            let is = same_page (live_here fetched held) to.page page (ap (live_here fetched) (sym id) ∙ to.live) live_then in
+            subst (λ (o : Option (List ℕ)). IfSome o (Holds page.area)) (sym to.point) (subst (λ (q : LivePage). Holds q.area to.p) is has);
+        parents = λ job parent is. absurd (walks_have_none deed.next to.id job parent to.held is);
+        merging = none_named new.store (merging_at deed.next) to.merging;
+      }
+
+  -- the pages of a consolidator's place stay
+  brought_place : (place : AtParent) → merging_at (m.activity actor) ≡ Some place → PlaceStays m.store fetched place
+  brought_place place at_place =
+      let latched = place_latched m.store (m.activity actor) place at_place in
+      record {
+        parent = λ page live. own_there place.parent latched.parent.0 page latched.parent.1 live;
+        pair = λ pair is page live. let latch = latched.pair pair is in own_there pair.keep latch.0 page latch.1 live;
+      }
+
+  takes_parent : TakesParent (now m actor fetched) deed → StandsInSpace new.store deed.next
+  takes_parent takes =
+      let store = nothing_done deed.op _ fetched new.store (ap (λ (d : Deed). d.op) takes.row.deed_is) performs.store in
+      same_parent deed.next takes.job takes.id new.store (inl (ap (λ (d : Deed). d.next) takes.row.deed_is))
+      (takes.page, ap (λ (st : StoreState). live_here st takes.id) store ∙ takes.live, takes.row.level, (takes.row.child, takes.row.area, takes.row.leaf))
+
+  at_parent_before : (job : Job) (parent : ℕ) → (m.activity actor ≡ at.PosterChild job parent) ⊎ (m.activity actor ≡ at.PosterPromote job parent) → IsAtParent (m.activity actor) job parent
+  at_parent_before job parent (inl is) = inl is
+  at_parent_before job parent (inr is) = inr (inl is)
+
+  at_parent_after : (job : Job) (parent : ℕ) → (deed.next ≡ at.PosterPromote job parent) ⊎ (deed.next ≡ at.PosterAgain job parent) → IsAtParent deed.next job parent
+  at_parent_after job parent (inl is) = inr (inl is)
+  at_parent_after job parent (inr is) = inr (inr is)
+
+  keeps_parent : KeepsParent m actor deed → StandsInSpace new.store deed.next
+  keeps_parent keeps =
+      let store = nothing_done deed.op _ fetched new.store keeps.nothing performs.store in
+      let latch = parent_latched m.store (m.activity actor) keeps.job keeps.parent (at_parent_before keeps.job keeps.parent keeps.before) in
+      same_parent deed.next keeps.job keeps.parent new.store (at_parent_after keeps.job keeps.parent keeps.after)
+      (moved_parent m.store new.store keeps.job keeps.parent (λ page live. ap (λ (st : StoreState). live_here st keeps.parent) store ∙ own_there keeps.parent latch.0 page latch.1 live)
+      (walks.parents actor keeps.job keeps.parent (at_parent_before keeps.job keeps.parent keeps.before)))
+
+  -- a consolidator knows what the parent names
+  merged_in_space : MergesOn m actor (now m actor fetched) deed → StandsInSpace new.store deed.next
+  merged_in_space merges = by (merged_place m actor fetched (fetched_good m may fetched inside brings)
+      (λ place is. subst (λ (o : Option AtParent). IfSome o (NamesKnown m.store)) is (walks.merging actor)) brought_place deed merges)
+    where
+      store : new.store ≡ fetched
+      store = nothing_done deed.op _ fetched new.store (ap (λ (d : Deed). d.op) merges.stays.moves.is) performs.store
+
+      still : walk_held deed.next ≡ None
+      still = ap (λ (d : Deed). walk_held d.next) merges.stays.moves.is ∙ merges.stays.walk
+
+      by : HoldsNothing deed.next ⊎ HasMergePlace fetched deed.next → StandsInSpace new.store deed.next
+      by (inl free) = free_stands new.store deed.next free
+      by (inr at_merge) = merges_in_space new.store deed.next at_merge.place still at_merge.is (subst (λ (st : StoreState). NamesKnown st at_merge.place) (sym store) at_merge.named)
+
+  placed_in_space : HasPlace m actor (now m actor fetched) deed → StandsInSpace new.store deed.next
+  placed_in_space (inl free) = free_stands new.store deed.next free
+  placed_in_space (inr (inl to)) = walks_to to
+  placed_in_space (inr (inr (inl full))) = split_stands new.store deed.next full.line full.id (ap (λ (d : Deed). d.next) full.row.deed_is)
+  placed_in_space (inr (inr (inr (inl takes)))) = takes_parent takes
+  placed_in_space (inr (inr (inr (inr (inl keeps))))) = keeps_parent keeps
+  placed_in_space (inr (inr (inr (inr (inr (inr merges)))))) = merged_in_space merges
+  placed_in_space (inr (inr (inr (inr (inr (inl parts)))))) = put_stands new.store deed.next parts.line parts.held parts.row.leaves.fresh (ap (λ (d : Deed). d.next) parts.row.deed_is)
+
+-- ---- each step
+
+module _ (m : Machine) (actor : ℕ) (outcome : Outcome) (new : Machine) (latches : MayLatch actor) (fit : LatchesFit m) (inside : HoldsPagesOfFile m) (nobody : HasNobodyElse m) (walks : WalksInSpace m) (step : StepsTo m actor outcome new) where
+  other_in_space : (other : ℕ) → other ≢ actor → MayLatch other → StandsInSpace new.store (m.activity other)
+  other_in_space other another may = stands_again (m.activity other) m.store new.store (each_stands m walks other)
+      (λ held page on live. let both = other_walks m actor outcome new latches fit inside step other another may held on in both.1.before ∙ sym both.1.after ∙ live)
+      (λ job parent page is live. let latch = parent_latched m.store (m.activity other) job parent is in other_holds m actor outcome new latches fit inside step other another may (m.activity other) parent latch.0 page refl latch.1 live)
+      (λ place is.
+      let latched = place_latched m.store (m.activity other) place is in
+      record {
+        parent = λ page live. other_holds m actor outcome new latches fit inside step other another may (m.activity other) place.parent latched.parent.0 page refl latched.parent.1 live;
+        pair = λ pair held page live. let latch = latched.pair pair held in other_holds m actor outcome new latches fit inside step other another may (m.activity other) pair.keep latch.0 page refl latch.1 live;
+      })
+
+  idle_in_space : (st : StoreState) (activity : Activity) → activity ≡ at.SessionIdle → StandsInSpace st activity
+  idle_in_space st activity is = subst (StandsInSpace st) (sym is) (free_stands st at.SessionIdle (record { walk = refl; latches = λ st. refl; merging = refl }))
+
+  others_in_space : (other : ℕ) → other ≢ actor → new.activity other ≡ m.activity other → StandsInSpace new.store (new.activity other)
+  others_in_space other another same = subst (StandsInSpace new.store) (sym same) (elim (may_or_not other) [
+    | inl may ↦ other_in_space other another may
+    | inr none ↦ idle_in_space new.store (m.activity other) (nobody other none)
+  ])
+
+  with_own : StandsInSpace new.store (new.activity actor) → ((other : ℕ) → other ≢ actor → new.activity other ≡ m.activity other) → WalksInSpace new
+  with_own own others = all_stand new (λ a. elim (cases_Bool (a == actor)) [
+    | inl here ↦ subst (λ (n : ℕ). StandsInSpace new.store (new.activity n)) (sym (eqb-true a actor here)) own
+    | inr off ↦ let another = eqb-false a actor off in others_in_space a another (others a another)
+  ])
+
+  -- all but the disk stays
+  same_but_disk : KeepsAllButDisk m new → WalksInSpace new
+  same_but_disk keeps = with_own
+      (subst (StandsInSpace new.store) (sym (ap (λ (all : ℕ → Activity). all actor) keeps.activity)) (stands_again (m.activity actor) m.store new.store (each_stands m walks actor)
+      (λ held page on live.
+      let old = fit.walking actor held latches on in
+      let latch = walk_latched (m.activity actor) m.store held old.0 on (ap if_live old.1) in
+      ap if_live old.1 ∙ sym (still held latch.0 old.0 latch.1 (ap if_live old.1)) ∙ live)
+      (λ job parent page is live. let latch = parent_latched m.store (m.activity actor) job parent is in still parent latch.0 page latch.1 live)
+      (λ place is.
+      let latched = place_latched m.store (m.activity actor) place is in
+      record {
+        parent = λ page live. still place.parent latched.parent.0 page latched.parent.1 live;
+        pair = λ pair held page live. let latch = latched.pair pair held in still pair.keep latch.0 page latch.1 live;
+      })))
+      (λ other another. ap (λ (all : ℕ → Activity). all other) keeps.activity)
+    where
+      still : (id : ℕ) (mode : Mode) (page : LivePage) → mode_among id (latches_held m.store (m.activity actor)) ≡ Some mode → live_here m.store id ≡ Some page → live_here new.store id ≡ Some page
+      still id mode page among live = ap if_live (keeps.memory id (Live page) (inl (actor, mode, fit.exact actor id latches ∙ among)) (live_there (in_memory m.store id) page live))
+
+  -- a deed is done
+  did : (fetched : StoreState) (deed : Deed) → Performs m fetched actor deed outcome new → StandsInSpace new.store deed.next → WalksInSpace new
+  did fetched deed performs own = with_own (subst (StandsInSpace new.store) (sym (own_next m actor fetched deed outcome new performs)) own) (λ other another. other_stood other another)
+    where
+      other_stood : (other : ℕ) → other ≢ actor → new.activity other ≡ m.activity other
+      other_stood other another = performs.activity other ∙ ap (λ (b : Bool). cond b deed.next (m.activity other)) (ne_eqb other actor another)
+
+  freed : (fetched : StoreState) (deed : Deed) → Performs m fetched actor deed outcome new → HoldsNothing deed.next → WalksInSpace new
+  freed fetched deed performs free = did fetched deed performs (free_stands new.store deed.next free)
+
+  worked : Works m actor outcome new → WalksInSpace new
+  worked (inl (by, way, so)) = same_but_disk (stays_so m actor outcome new (outcomes.Blocked by) so)
+  worked (inr (inl (free, unready, inl (waits, force)))) = same_but_disk (forces_so m actor outcome new outcomes.Helped force)
+  worked (inr (inl (free, unready, inr (none, rest)))) =
+      rest_kind m outcomes.Helped outcome new _ (WalksInSpace new) none (λ at. refl) (λ more. same_but_disk (more_so m actor outcome new more)) (λ performs. freed m.store _ performs (nothing_run_out (m.activity actor))) rest
+  worked (inr (inr (free, ready, inl acts))) =
+      did acts.fetched acts.deed acts.performs
+      (placed_in_space m actor _ acts.fetched latches fit inside walks acts.brings acts.deed outcome new acts.performs (place_after m actor acts.fetched _ acts.deed refl acts.row))
+  worked (inr (inr (free, ready, inr (inl gives)))) = freed gives.fetched _ gives.performs (nothing_given_up gives.why (m.activity actor))
+  worked (inr (inr (free, ready, inr (inr meets)))) = same_but_disk (meets_so m actor outcome new meets)
+
+pub walks_stay_in_space : WalksStayInSpace
+walks_stay_in_space m actor outcome new latches fit inside nobody walks step =
+    each_kind m actor outcome new (WalksInSpace new)
+    (λ said quiet so. same_but_disk m actor outcome new latches fit inside nobody walks step (stays_so m actor outcome new said so))
+    (λ said quiet force. same_but_disk m actor outcome new latches fit inside nobody walks step (forces_so m actor outcome new said force))
+    (λ more. same_but_disk m actor outcome new latches fit inside nobody walks step (more_so m actor outcome new more))
+    (λ deed outright performs. freed m actor outcome new latches fit inside nobody walks step m.store deed performs (record { walk = outright.walk; latches = outright.latches; merging = outright.merging }))
+    (worked m actor outcome new latches fit inside nobody walks step)
+    step

@@ -1,0 +1,173 @@
+-- After a step a walking worker's job is below the file's height, and its page of the job's level or above it.
+use Rattle.std.proofs.Common.{◌≡◌, ◌≢◌, ◌⊎◌, inl, inr, ℕ, ◌<◌, ◌≤◌, ◌==◌, Option, Some, None, IfSome, refl, sym, ap, ◌∙◌, subst, arith}
+use Rattle.std.proofs.lemmas.Bool.{cases_Bool, eqb-true, eqb-false}
+use Rattle.hb_frag.specs.declared.leaves.Leaf.{Leaf}
+use Rattle.hb_frag.specs.declared.leaves.Leaf.TheVariants.{Records, Child, Sibling}
+use Rattle.hb_frag.specs.declared.pages.LivePage.{LivePage}
+use Rattle.hb_frag.specs.declared.pages.Page.TheVariants.{Live}
+use Rattle.hb_layout.specs.declared.meta.Meta.{Meta}
+use Rattle.hb_activity.specs.declared.jobs.Job.{Job}
+use Rattle.hb_activity.specs.declared.activities.Activity.{Activity}
+use Rattle.hb_core.specs.declared.outcomes.Outcome.{Outcome}
+use Rattle.hb_activity.specs.Deeds.{Deed}
+use Rattle.hb_activity.specs.Passing.{IsPointer, LeadsBelow}
+use Rattle.hb_activity.specs.Walks.{walk_held}
+use Rattle.hb_consol.specs.ConsolidatorRows.{IsMergingOf}
+use Rattle.hb_core.proofs.Table.DeedKinds.{each_again, each_deed}
+use Rattle.hb_core.proofs.Latches.LatchesStay.{walk_latched}
+use Rattle.hb_core.proofs.Memory.MetaKept.{deed_keeps_meta}
+use Rattle.hb_core.proofs.Memory.StillThere.{may_or_not, nothing_done, other_walks}
+use Rattle.hb_core.proofs.Walks.WalkingWorkers.{WalksAsWorker, WalksOn, empty_has_none, walk_after, walk_wants_above}
+use Rattle.hb_core.proofs.Table.Ways.{KeepsAllButDisk}
+use Rattle.hb_core.specs.Acting.{DoesRow}
+use Rattle.hb_core.specs.KeptFits.{GaveAwayAt, StandsAbove, WorkersStand, walking_job}
+use Rattle.hb_core.specs.KeptMachine.{MachineKeeps}
+use Rattle.hb_core.specs.Machines.{Machine, live_here, with_disk}
+use Rattle.hb_core.specs.Performing.{Performs}
+use Rattle.hb_core.specs.Steps.{StepsTo, TakesJob, TakesMerging}
+use Rattle.hb_frag.specs.Leaves.{leaf_at}
+use Rattle.hb_latch.specs.Tables.{MayLatch}
+use Rattle.hb_ops.specs.Files.{if_live}
+use Rattle.hb_poster.specs.PosterRows.{IsPostingOf}
+use Rattle.hb_space.specs.Boxes.{Area}
+use Rattle.hb_store.specs.States.{StoreState}
+
+-- what one activity has of it
+abbrev pub StandsByJob : StoreState → Activity → Type 0
+StandsByJob st activity = IfSome (walking_job activity) (StandsAbove st (walk_held activity))
+
+none_stands : (st : StoreState) (activity : Activity) → walking_job activity ≡ None → StandsByJob st activity
+none_stands st activity none = subst (λ (o : Option Job). IfSome o (StandsAbove st (walk_held activity))) (sym none) tt
+
+-- the same activity in a memory that has its page, under a height that didn't fall
+stands_again : (old new : StoreState) (held : Option ℕ) (o : Option Job) → old.meta.height ≤ new.meta.height → ((id : ℕ) (page : LivePage) → held ≡ Some id → live_here new id ≡ Some page → live_here old id ≡ Some page) → IfSome o (StandsAbove old held) → IfSome o (StandsAbove new held)
+stands_again old new held None grows back stands = tt
+stands_again old new held (Some job) grows back stands = record {
+  below_height = omega (arith, stands.below_height, grows);
+  level = λ id page holds live. stands.level id page holds (back id page holds live);
+  gave = λ id page holds live same. stands.gave id page holds (back id page holds live) same;
+}
+
+-- a walk that begins
+begins : (st : StoreState) (job : Job) → job.level < st.meta.height → StandsAbove st None job
+begins st job below = record {
+  below_height = below;
+  level = λ id page none live. absurd (nothing id none);
+  gave = λ id page none live same. absurd (nothing id none);
+}
+  where
+    nothing : (id : ℕ) → None ≡ Some id → ⊥
+    nothing id is = cc
+
+-- and one that goes on
+leads_on : (page : LivePage) (job : Job) (leaf : Leaf) (area : Area) → leaf_at page job.point ≡ Some (record { leaf = leaf; area = area }) → IsPointer leaf → ¬ (LeadsBelow page job) → GaveAwayAt page job.point
+leads_on page job (Records records) area there names farther = absurd names
+leads_on page job (Child name) area there names farther = absurd (farther (name, area, there))
+leads_on page job (Sibling name) area there names farther = (name, area, there)
+
+goes_on : (st : StoreState) (job : Job) (id : ℕ) (page : LivePage) → live_here st id ≡ Some page → job.level < st.meta.height → job.level ≤ page.level → (page.level ≡ job.level → GaveAwayAt page job.point) → StandsAbove st (Some id) job
+goes_on st job id page live below above gave = record {
+  below_height = below;
+  level = λ other now holds there. subst (λ (q : LivePage). job.level ≤ q.level) (same other now holds there) above;
+  gave = λ other now holds there. subst (λ (q : LivePage). q.level ≡ job.level → GaveAwayAt q job.point) (same other now holds there) gave;
+}
+  where
+    same_number : (other : ℕ) → Some id ≡ Some other → id ≡ other
+    same_number other is = cc
+
+    same_page : (now : LivePage) → Some page ≡ Some now → page ≡ now
+    same_page now is = cc
+
+    same : (other : ℕ) (now : LivePage) → Some id ≡ Some other → live_here st other ≡ Some now → page ≡ now
+    same other now holds there = same_page now (sym live ∙ ap (live_here st) (same_number other holds) ∙ there)
+
+walker_stands : (st : StoreState) (activity : Activity) (job : Job) (held : Option ℕ) → WalksAsWorker activity job held → StandsAbove st held job → StandsByJob st activity
+walker_stands st activity job held (inl is) stands = subst (StandsByJob st) (sym is) stands
+walker_stands st activity job held (inr is) stands = subst (StandsByJob st) (sym is) stands
+
+walker_stood : (st : StoreState) (activity : Activity) (job : Job) (held : Option ℕ) → WalksAsWorker activity job held → StandsByJob st activity → StandsAbove st held job
+walker_stood st activity job held (inl is) stands = subst (StandsByJob st) is stands
+walker_stood st activity job held (inr is) stands = subst (StandsByJob st) is stands
+
+-- a job that is taken
+posting_stands : (st : StoreState) (job : Job) (height : ℕ) (next : Activity) → height ≤ st.meta.height → IsPostingOf job height next → StandsByJob st next
+posting_stands st job height next grows (inl (above, is)) = subst (StandsByJob st) (sym is) tt
+posting_stands st job height next grows (inr (inl (same, is))) = subst (StandsByJob st) (sym is) tt
+posting_stands st job height next grows (inr (inr (below, is))) = subst (StandsByJob st) (sym is) (begins st job (omega (arith, below, grows)))
+
+merging_stands : (st : StoreState) (job : Job) (height : ℕ) (next : Activity) → height ≤ st.meta.height → IsMergingOf job height next → StandsByJob st next
+merging_stands st job height next grows (inl (above, is)) = subst (StandsByJob st) (sym is) tt
+merging_stands st job height next grows (inr (below, is)) = subst (StandsByJob st) (sym is) (begins st job (omega (arith, below, grows)))
+
+-- ---- each step
+
+module _ (m : Machine) (actor : ℕ) (outcome : Outcome) (new : Machine) (may : MayLatch actor) (kept : MachineKeeps m) (step : StepsTo m actor outcome new) where
+  other_stands : (other : ℕ) → other ≢ actor → m.store.meta.height ≤ new.store.meta.height → StandsByJob new.store (m.activity other)
+  other_stands other another grows = elim (may_or_not other) [
+    | inl latches ↦ stands_again m.store new.store (walk_held (m.activity other)) (walking_job (m.activity other)) grows
+        (λ id page holds live. let both = other_walks m actor outcome new may kept.latches_fit kept.pages_of_file step other another latches id holds in both.1.before ∙ sym both.1.after ∙ live) (kept.workers_stand other)
+    | inr none ↦ none_stands new.store (m.activity other) (ap walking_job (kept.nobody_else other none))
+  ]
+
+  grown : (fetched : StoreState) (deed : Deed) → fetched.meta ≡ m.store.meta → Performs m fetched actor deed outcome new → m.store.meta.height ≤ new.store.meta.height
+  grown fetched deed same performs = (deed_keeps_meta deed.op _ m.store.meta fetched new.store same performs.store).height
+
+  performed : (fetched : StoreState) (deed : Deed) → fetched.meta ≡ m.store.meta → Performs m fetched actor deed outcome new → StandsByJob new.store deed.next → WorkersStand new
+  performed fetched deed same performs own =
+      each_again (λ (other : ℕ) (activity : Activity). StandsByJob new.store activity) m.activity new.activity actor deed.next performs.activity own (λ other another. other_stands other another (grown fetched deed same performs))
+
+  -- all but the disk stays, and so does the page that the actor holds
+  keeps : KeepsAllButDisk m new → new.store.meta ≡ m.store.meta → WorkersStand new
+  keeps stays meta other = subst (λ (all : ℕ → Activity). StandsByJob new.store (all other)) (sym stays.activity) (elim (cases_Bool (other == actor)) [
+    | inl here ↦ subst (λ (n : ℕ). StandsByJob new.store (m.activity n)) (sym (eqb-true other actor here)) own
+    | inr off ↦ other_stands other (eqb-false other actor off) same_height
+  ])
+    where
+      same_height : m.store.meta.height ≤ new.store.meta.height
+      same_height = omega (arith, ap (λ (x : Meta). x.height) meta)
+
+      still : (id : ℕ) (page : LivePage) → walk_held (m.activity actor) ≡ Some id → live_here new.store id ≡ Some page → live_here m.store id ≡ Some page
+      still id page holds live =
+          let old = kept.latches_fit.walking actor id may holds in
+          let latch = walk_latched (m.activity actor) m.store id old.0 holds (ap if_live old.1) in
+          ap if_live old.1 ∙ sym (ap if_live (stays.memory id (Live old.0) (inl (actor, latch.0, kept.latches_fit.exact actor id may ∙ latch.1)) old.1)) ∙ live
+
+      own : StandsByJob new.store (m.activity actor)
+      own = stands_again m.store new.store (walk_held (m.activity actor)) (walking_job (m.activity actor)) same_height still (kept.workers_stand actor)
+
+  posts : (deed : Deed) → TakesJob m deed → Performs m m.store actor deed outcome new → WorkersStand new
+  posts deed takes performs = performed m.store deed refl performs
+      (subst (StandsByJob new.store) (sym (ap (λ (d : Deed). d.next) takes.deed_is)) (posting_stands new.store takes.job m.store.meta.height takes.next (grown m.store deed refl performs) takes.posting))
+
+  merges : (deed : Deed) → TakesMerging m deed → Performs m m.store actor deed outcome new → WorkersStand new
+  merges deed takes performs = performed m.store deed refl performs
+      (subst (StandsByJob new.store) (sym (ap (λ (d : Deed). d.next) takes.deed_is)) (merging_stands new.store takes.job m.store.meta.height takes.next (grown m.store deed refl performs) takes.merging))
+
+  -- a walk that goes on
+  walked : (fetched : StoreState) (deed : Deed) → fetched.meta ≡ m.store.meta → Performs m fetched actor deed outcome new → WalksOn m actor (with_disk fetched m.files m.clock m) deed → StandsByJob new.store deed.next
+  walked fetched deed same performs walks =
+      let goes = walks.goes in
+      let stood = walker_stood m.store (m.activity actor) goes.job goes.held goes.before (kept.workers_stand actor) in
+      let above = walk_wants_above m actor goes.job goes.held walks.wanted goes.before stood walks.wants in
+      let store = nothing_done deed.op _ fetched new.store goes.nothing performs.store in
+      let live : live_here new.store walks.wanted.page ≡ Some walks.page = ap (λ (st : StoreState). live_here st walks.wanted.page) store ∙ walks.live in
+      walker_stands new.store deed.next goes.job (Some walks.wanted.page) goes.after
+      (goes_on new.store goes.job walks.wanted.page walks.page live (omega (arith, stood.below_height, grown fetched deed same performs)) (omega (arith, above, walks.level))
+      (λ level. leads_on walks.page goes.job goes.leaf goes.area goes.at_point goes.names (goes.farther level)))
+
+  acts : DoesRow m actor outcome new → WorkersStand new
+  acts does = performed does.fetched does.deed does.brings.rest.meta does.performs (by (walk_after m actor (with_disk does.fetched m.files m.clock m) _ does.deed refl does.row))
+    where
+      by : (walking_job does.deed.next ≡ None) ⊎ WalksOn m actor (with_disk does.fetched m.files m.clock m) does.deed → StandsByJob new.store does.deed.next
+      by (inl none) = none_stands new.store does.deed.next none
+      by (inr walks) = walked does.fetched does.deed does.brings.rest.meta does.performs walks
+
+pub workers_stand_still : (m : Machine) (actor : ℕ) (outcome : Outcome) (new : Machine) → MayLatch actor → MachineKeeps m → StepsTo m actor outcome new → WorkersStand new
+workers_stand_still m actor outcome new may kept step = each_deed m actor outcome new (WorkersStand new) (record {
+  keeps = keeps m actor outcome new may kept step;
+  takes = λ line idle next performs. performed m actor outcome new may kept step m.store _ refl performs tt;
+  posts = λ deed idle takes performs. posts m actor outcome new may kept step deed takes performs;
+  merges = λ deed idle takes performs. merges m actor outcome new may kept step deed takes performs;
+  acts = acts m actor outcome new may kept step;
+  ends = λ fetched deed same ended performs. performed m actor outcome new may kept step fetched deed same performs (none_stands new.store deed.next (empty_has_none deed.next ended.hand));
+}) step

@@ -1,0 +1,87 @@
+-- Chains of the consolidator at a parent of two pages: the pair that it tries weighs too much, so that the job ends; or the two may
+-- become one, and it gets the parent and the page to keep for itself.
+use Rattle.std.specs.Prelude.{ℕ, List, [], ◌∷◌}
+use Rattle.hb_space.specs.Boxes.{whole_area}
+use Rattle.hb_space.specs.declared.records.Record.{Record}
+use Rattle.hb_frag.specs.declared.leaves.Leaf.TheVariants.{Records, Child, Sibling}
+use Rattle.hb_frag.specs.Trees.{Cut, Tip}
+use Rattle.hb_frag.specs.declared.pages.LivePage.{LivePage}
+use Rattle.hb_frag.specs.declared.pages.Page.{Page}
+use Rattle.hb_frag.specs.declared.pages.Page.TheVariants.{Live}
+use Rattle.hb_latch.specs.declared.modes.Mode.TheVariants.{Exclusive}
+use Rattle.hb_activity.specs.declared.jobs.Job.{Job}
+use Rattle.hb_activity.specs.declared.jobs.JobKind.TheVariants.{Merge}
+use Rattle.hb_activity.specs.declared.activities.Activity.TheVariants.{ConsolidatorDecide, ConsolidatorIdle}
+use Rattle.hb_core.specs.declared.outcomes.Outcome.{Outcome}
+use Rattle.hb_core.specs.declared.outcomes.Outcome.TheVariants.{Moved, Idle}
+use Rattle.hb_core.specs.ChainOfPosting.{raised_meta}
+use Rattle.hb_core.specs.Scenes.{Scene, StepsSaying, machine_of}
+
+-- a record of one value, without a body
+abbrev pub valued : ℕ → Record
+valued value = record { key = value ∷ []; body = [] }
+
+-- page 1 of the whole space, which gave 40 to 59 to page 2; page 2 with these records; and page 3, their parent
+abbrev pub keeping_page : LivePage
+keeping_page = record { level = 0; area = whole_area 1; frag = Cut 0 40 (Tip (Records (valued 10 ∷ []))) (Cut 0 60 (Tip (Sibling 2)) (Tip (Records (valued 70 ∷ [])))) }
+
+abbrev pub going_page : List Record → LivePage
+going_page records = record { level = 0; area = record { lo = 40 ∷ []; hi = 59 ∷ [] }; frag = Tip (Records records) }
+
+abbrev pub two_children : LivePage
+two_children = record { level = 1; area = whole_area 1; frag = Cut 0 40 (Tip (Child 1)) (Cut 0 60 (Tip (Child 2)) (Tip (Child 1))) }
+
+abbrev pub merging_pages : List Record → List Page
+merging_pages records = Live keeping_page ∷ Live (going_page records) ∷ Live two_children ∷ []
+
+abbrev pub merges_at : ℕ → Job
+merges_at value = record { kind = Merge; level = 1; point = value ∷ [] }
+
+-- A job waits, to merge at 45.
+abbrev pub merging_before : List Record → Scene
+merging_before records = record {
+  lines = [];
+  answered = [];
+  at_work = [];
+  latched = [];
+  jobs = merges_at 45 ∷ [];
+  order = [];
+  meta = raised_meta;
+  written = 0;
+  groups = [];
+  pages = (1, Live keeping_page) ∷ (2, Live (going_page records)) ∷ (3, Live two_children) ∷ [];
+  imaged = [];
+  durable = record { meta = raised_meta; pages = merging_pages records };
+  later = [];
+  clock = 0;
+}
+
+-- With three records page 2 weighs 3, as page 1 does. Together they would weigh 5, more than three quarters of the 6 that a page may.
+abbrev pub three_to_go : List Record
+three_to_go = valued 45 ∷ valued 46 ∷ valued 47 ∷ []
+
+-- The job is gone, and nothing else changed.
+abbrev pub heavy_after : Scene
+heavy_after = record (merging_before three_to_go) { at_work = (18, ConsolidatorIdle) ∷ []; jobs = [] }
+
+-- It takes the job, finds the parent, scans page 1 and tries the pair, scans page 2, and has no job left.
+abbrev pub steps_too_heavy : List (ℕ × Outcome)
+steps_too_heavy = (18, Moved) ∷ (18, Moved) ∷ (18, Moved) ∷ (18, Moved) ∷ (18, Moved) ∷ (18, Idle) ∷ []
+
+abbrev pub MergeIsGivenUp : Type 0
+MergeIsGivenUp = StepsSaying steps_too_heavy (machine_of (merging_before three_to_go)) (machine_of heavy_after)
+
+-- With one record they would weigh 3.
+abbrev pub one_to_go : List Record
+one_to_go = valued 45 ∷ []
+
+-- It has the parent and page 1 for itself, and is to decide about page 2.
+abbrev pub light_after : Scene
+light_after = record (merging_before one_to_go) { at_work = (18, ConsolidatorDecide (merges_at 45) 3 1 2) ∷ []; latched = ((18, 3), Exclusive) ∷ ((18, 1), Exclusive) ∷ []; jobs = [] }
+
+-- It takes the job, finds the parent, scans page 1 and tries the pair, promotes the parent, and takes page 1.
+abbrev pub steps_to_decide : List (ℕ × Outcome)
+steps_to_decide = (18, Moved) ∷ (18, Moved) ∷ (18, Moved) ∷ (18, Moved) ∷ (18, Moved) ∷ (18, Moved) ∷ []
+
+abbrev pub MergeComesToDecide : Type 0
+MergeComesToDecide = StepsSaying steps_to_decide (machine_of (merging_before one_to_go)) (machine_of light_after)

@@ -1,0 +1,42 @@
+-- A chain over a disk that doesn't tell its bytes: the root can't be read, so that a session's line is answered `read fault`, and the
+-- poster's job is dropped.
+use Rattle.std.specs.Prelude.{ℕ, List, [], ◌∷◌}
+use Rattle.hb_set.specs.declared.commands.Reply.TheVariants as replies
+use Rattle.hb_activity.specs.declared.activities.Activity.TheVariants.{PosterIdle, SessionIdle}
+use Rattle.hb_activity.specs.declared.dropping.DropWhy.TheVariants as drops
+use Rattle.hb_core.specs.declared.outcomes.Outcome.{Outcome}
+use Rattle.hb_core.specs.declared.outcomes.Outcome.TheVariants.{Moved, Answered, Dropped, Idle}
+use Rattle.hb_core.specs.ChainBesidePoster.{seeks_twenty}
+use Rattle.hb_core.specs.ChainOfPosting.{raised_meta}
+use Rattle.hb_core.specs.ChainOfTwo.{posts_at}
+use Rattle.hb_core.specs.Scenes.{Scene, StepsSaying, untold_scene}
+
+-- No page is in memory. A line and a job wait.
+abbrev pub unread_before : Scene
+unread_before = record {
+  lines = seeks_twenty ∷ [];
+  answered = [];
+  at_work = [];
+  latched = [];
+  jobs = posts_at 10 ∷ [];
+  order = [];
+  meta = raised_meta;
+  written = 0;
+  groups = [];
+  pages = [];
+  imaged = [];
+  durable = record { meta = raised_meta; pages = [] };
+  later = [];
+  clock = 0;
+}
+
+-- The line was answered outside of the order, and the job is gone.
+abbrev pub unread_after : Scene
+unread_after = record unread_before { answered = record { line = 1; reply = replies.ReadFault; at = 0 } ∷ []; at_work = (1, SessionIdle) ∷ (17, PosterIdle) ∷ []; jobs = [] }
+
+-- Both take what waits, and give it up at the root. Then neither has anything to do.
+abbrev pub steps_unread : List (ℕ × Outcome)
+steps_unread = (1, Moved) ∷ (17, Moved) ∷ (1, Answered 1 replies.ReadFault) ∷ (17, Dropped drops.ReadFault) ∷ (1, Idle) ∷ (17, Idle) ∷ []
+
+abbrev pub RootIsNotRead : Type 0
+RootIsNotRead = StepsSaying steps_unread (untold_scene unread_before) (untold_scene unread_after)

@@ -1,0 +1,91 @@
+-- Machines that are written down, and steps of theirs with what each comes to.
+use Rattle.std.specs.Prelude.{◌≡◌, ℕ, ◌==◌, nat_le, false, if◌then◌else◌, List, [], ◌∷◌, map, Some, None}
+use Rattle.std.specs.FinMap as finite
+use Rattle.std.specs.FinSet as set
+use Rattle.hb_frag.specs.declared.pages.Page.{Page}
+use Rattle.hb_layout.specs.declared.meta.Meta.{Meta}
+use Rattle.hb_set.specs.declared.scripts.Answered.{Answered}
+use Rattle.hb_set.specs.declared.scripts.Line.{Line}
+use Rattle.hb_latch.specs.declared.modes.Mode.{Mode}
+use Rattle.hb_activity.specs.declared.jobs.Job.{Job}
+use Rattle.hb_activity.specs.declared.activities.Activity.{Activity}
+use Rattle.hb_activity.specs.declared.activities.Activity.TheVariants.{SessionIdle, PosterIdle, ConsolidatorIdle, Flusher}
+use Rattle.hb_core.specs.declared.outcomes.Outcome.{Outcome}
+use Rattle.hb_core.specs.Machines.{Machine, with_disk}
+use Rattle.hb_core.specs.Steps.{StepsInTurn, StepsTo}
+use Rattle.hb_layout.specs.Offsets.{log_start}
+use Rattle.hb_ops.specs.Files.{FileState}
+use Rattle.hb_set.specs.Order.{Entry}
+use Rattle.hb_store.specs.States.{StoreState}
+use Rattle.hb_wal.specs.Log.{Waiting}
+
+-- A machine as lists. Whoever isn't named among those at work is at rest.
+pub record Scene : Type 0 where
+  pub lines : List Line
+  pub answered : List Answered
+  -- who is at work, and at what
+  pub at_work : List (ℕ × Activity)
+  -- each latch, by its actor and its page
+  pub latched : List ((ℕ × ℕ) × Mode)
+  pub jobs : List Job
+  pub order : List Entry
+  -- what the file says of itself
+  pub meta : Meta
+  -- how much of the log is written, and the groups that wait
+  pub written : ℕ
+  pub groups : List Waiting
+  -- the pages in memory, and those that were imaged or made in this turn
+  pub pages : List (ℕ × Page)
+  pub imaged : List ℕ
+  -- the file that is durable, and those after each group that waits
+  pub durable : FileState
+  pub later : List FileState
+  pub clock : ℕ
+
+-- what an actor does that has nothing in hand
+abbrev pub at_rest : ℕ → Activity
+at_rest actor = if nat_le actor 16 then SessionIdle else if actor == 17 then PosterIdle else if actor == 18 then ConsolidatorIdle else Flusher
+
+-- where an actor stands
+abbrev pub standing : List (ℕ × Activity) → ℕ → Activity
+standing [] actor = at_rest actor
+standing (one ∷ rest) actor = if actor == one.0 then one.1 else standing rest actor
+
+-- the store of a scene: a disk of the second turn
+abbrev pub store_of : Scene → StoreState
+store_of s = record {
+  turn = 1;
+  meta = s.meta;
+  log = record { area = log_start 1 s.meta; len = s.meta.log; written = s.written; groups = s.groups };
+  pages = finite.from_entries s.pages;
+  imaged = set.from_list s.imaged;
+  stopped = false;
+}
+
+-- the machine of a scene
+abbrev pub machine_of : Scene → Machine
+machine_of s = record {
+  lines = s.lines;
+  answered = s.answered;
+  activity = standing s.at_work;
+  latches = finite.from_entries s.latched;
+  jobs = s.jobs;
+  order = s.order;
+  stop = None;
+  store = store_of s;
+  files = Some (record { durable = s.durable; later = s.later });
+  clock = s.clock;
+}
+
+-- the same machine over a disk that doesn't tell its bytes, so that nothing is known of its files
+abbrev pub untold_scene : Scene → Machine
+untold_scene s = with_disk (store_of s) None s.clock (machine_of s)
+
+-- Steps in turn, each by its actor and with what it comes to.
+abbrev pub StepsSaying : List (ℕ × Outcome) → Machine → Machine → Type 0
+StepsSaying [] m new = new ≡ m
+StepsSaying (step ∷ rest) m new = (next : Machine) × StepsTo m step.0 step.1 next × StepsSaying rest next new
+
+-- They are steps in turn of these actors, of which other laws speak.
+abbrev pub SayingIsStepping : Type 0
+SayingIsStepping = (steps : List (ℕ × Outcome)) (m new : Machine) → StepsSaying steps m new → StepsInTurn (map (λ step. step.0) steps) m new

@@ -1,0 +1,140 @@
+-- The operation that a row says is allowed on the page that the row is given.
+use Rattle.std.proofs.Common.{◌≡◌, inl, inr, ℕ, zero, suc, ◌+◌, ◌≤◌, Bool, true, false, cond, List, [], ◌∷◌, length, Any, Some, None, refl, arith, length-append}
+use Rattle.std.specs.List.{filter, slice_get}
+use Rattle.std.specs.Ordering.{is_gt, is_lt}
+use Rattle.std.specs.declared.cmp.Ordering.{Ordering}
+use Rattle.std.specs.declared.cmp.Ordering.TheVariants.{Less, Equal, Greater}
+use Rattle.hb_space.specs.declared.records.Record.{Record}
+use Rattle.hb_frag.specs.declared.leaves.Leaf.TheVariants.{Records}
+use Rattle.hb_frag.specs.declared.pages.LivePage.{LivePage}
+use Rattle.hb_ops.specs.declared.operations.Op.TheVariants as ops
+use Rattle.hb_set.specs.declared.commands.Command.{Command}
+use Rattle.hb_set.specs.declared.commands.Command.TheVariants.{Insert, Delete, Lookup, Search}
+use Rattle.hb_set.specs.declared.scripts.Line.{Line}
+use Rattle.hb_activity.proofs.AllowedDeeds.{Shows, allocates, kind_at, none_shown, one_shown}
+use Rattle.hb_activity.specs.Deeds.{Deed}
+use Rattle.hb_activity.specs.OneDeed.{IsAllowedAlone, NumbersAreGiven}
+use Rattle.hb_activity.specs.Passing.{PartLeavesTo}
+use Rattle.hb_activity.specs.Sights.{Sight}
+use Rattle.hb_frag.specs.Leaves.{weight_of}
+use Rattle.hb_frag.specs.Paths.{part_at}
+use Rattle.hb_frag.specs.Trees.{Tree}
+use Rattle.hb_ops.proofs.Opened.{weight_changed}
+use Rattle.hb_ops.specs.Recording.{joined, put_page}
+use Rattle.hb_ops.specs.Sound.{FitsFile}
+use Rattle.hb_ops.specs.Standing.{StandsNot, StandsThere}
+use Rattle.hb_point.specs.Laws.{CommandsAreAllowed, FullPagesAreHeavy, PutsAreAllowed, SplitsAreAllowed}
+use Rattle.hb_point.specs.SessionRows.{DoesThere}
+use Rattle.hb_space.specs.Boxes.{Area}
+use Rattle.hb_space.specs.Points.{point_cmp}
+use Rattle.hb_split.proofs.Allowed.{is_allowed}
+use Rattle.hb_split.proofs.Ends.{is_thirds}
+use Rattle.hb_split.specs.Choosing.{IsChosen}
+
+-- ---- one record more weighs one more at most
+
+not_both : (o : Ordering) → cond (is_lt o) 1 0 + cond (is_gt o) 1 0 ≤ 1
+not_both Less = omega arith
+not_both Equal = omega arith
+not_both Greater = omega arith
+
+length_cond : (b : Bool) (r : Record) (rs : List Record) → length (cond b (r ∷ rs) rs) ≡ cond b 1 0 + length rs
+length_cond true r rs = omega arith
+length_cond false r rs = omega arith
+
+few_sides : (rec : Record) (records : List Record) → length (filter (λ r. is_lt (point_cmp r.key rec.key)) records) + length (filter (λ r. is_gt (point_cmp r.key rec.key)) records) ≤ length records
+few_sides rec [] = omega arith
+few_sides rec (r ∷ records) =
+    let lesser = filter (λ (r : Record). is_lt (point_cmp r.key rec.key)) records in
+    let greater = filter (λ (r : Record). is_gt (point_cmp r.key rec.key)) records in
+    let one = length_cond (is_lt (point_cmp r.key rec.key)) r lesser in
+    let two = length_cond (is_gt (point_cmp r.key rec.key)) r greater in
+    let rest = few_sides rec records in
+    let both = not_both (point_cmp r.key rec.key) in
+    omega (arith, one, two, rest, both)
+
+joined_few : (rec : Record) (records : List Record) → length (joined rec records) ≤ length records + 1
+joined_few rec records =
+    let sides = few_sides rec records in
+    let whole = length-append (filter (λ (r : Record). is_lt (point_cmp r.key rec.key)) records) (rec ∷ filter (λ (r : Record). is_gt (point_cmp r.key rec.key)) records) in
+    omega (arith, sides, whole)
+
+put_weighs : (s : Sight) (page : LivePage) (rec : Record) → FitsFile s.meta page → StandsNot page rec.key → weight_of (put_page rec page).frag ≤ weight_of page.frag + 1
+put_weighs s page rec made absent =
+    let changed = weight_changed page rec.key absent.records absent.area (joined rec) made.well_cut absent.leaf in
+    let few = joined_few rec absent.records in
+    omega (arith, changed, few)
+
+pub full_pages_are_heavy : FullPagesAreHeavy
+full_pages_are_heavy s line rec id page deed made least row = let weighs = put_weighs s page rec made row.absent in omega (arith, weighs, row.full, least)
+
+-- ---- each operation
+
+module _ (s : Sight) (id : ℕ) (page : LivePage) (made : FitsFile s.meta page) where
+  put_allowed : (rec : Record) → StandsNot page rec.key → weight_of (put_page rec page).frag ≤ s.meta.dcap → IsAllowedAlone s id page (ops.Put id rec)
+  put_allowed rec absent room = record {
+    reads = refl;
+    allowed = record {
+      made = made;
+      level = kind_at s.meta page rec.key (record { leaf = Records absent.records; area = absent.area }) made absent.leaf;
+      absent = record { records = absent.records; area = absent.area; leaf = absent.leaf; keeps = absent.lack };
+      room = room;
+    };
+  }
+
+  any_at : (records : List Record) (place : ℕ) (r : Record) (p : List ℕ) → slice_get records place ≡ Some r → r.key ≡ p → Any (λ (r : Record). r.key ≡ p) records
+  any_at [] place r p is key = absurd (nothing r is)
+    where
+      nothing : (r : Record) → None ≡ Some r → ⊥
+      nothing r is = cc
+  any_at (x ∷ records) zero r p is key = let same : x ≡ r = cc in (0, r, omega arith, same, key)
+  any_at (x ∷ records) (suc place) r p is key = let rest = any_at records place r p is key in (suc rest.0, rest.1, omega (arith, rest.2), rest.3, rest.4)
+
+  del_allowed : (p : List ℕ) (r : Record) → StandsThere page p r → IsAllowedAlone s id page (ops.Del id p)
+  del_allowed p r there = record {
+    reads = refl;
+    allowed = record {
+      made = made;
+      level = kind_at s.meta page p (record { leaf = Records there.records; area = there.area }) made there.leaf;
+      there = record { records = there.records; area = there.area; leaf = there.leaf; keeps = any_at there.records there.place r p there.among there.key };
+    };
+  }
+
+  -- a part that is chosen may leave a page that weighs 6 or more
+  pub split_allowed : (leaves : PartLeavesTo s (IsChosen page) page) → NumbersAreGiven s → 6 ≤ weight_of page.frag → IsAllowedAlone s id page (ops.Extract id leaves.fresh leaves.path leaves.cuts leaves.free_after)
+  split_allowed leaves given full =
+      let n = weight_of page.frag in
+      let chosen = leaves.chosen in
+      let parts : (q : Tree × Area) × (part_at leaves.path page.frag page.area ≡ Some q) × _ = (chosen.part, chosen.found, chosen.chosen) in
+      let thirds = is_thirds n page leaves.path leaves.cuts full refl chosen.way made.in_order parts in
+      let may = is_allowed n page leaves.path leaves.cuts full refl chosen.way made.in_order parts thirds in
+      record {
+        reads = refl;
+        allowed = record {
+          allocates = allocates s leaves.fresh leaves.free_after given leaves.free leaves.next;
+          made = made;
+          part = may.part;
+          fits = record { there = may.found; parted = may.parts; less = λ none bare. may.some (none, bare); own = may.own };
+        };
+      }
+
+  shown_there : (line : Line) (command : Command) (deed : Deed) → DoesThere s line command id page deed → Shows (IsAllowedAlone s id page) deed
+  shown_there line (Insert rec) deed (inl row) = none_shown (IsAllowedAlone s id page) deed _ row.deed_is refl
+  shown_there line (Insert rec) deed (inr (inl row)) = one_shown (IsAllowedAlone s id page) deed _ (ops.Put id rec) row.deed_is refl (put_allowed rec row.absent row.room)
+  shown_there line (Insert rec) deed (inr (inr row)) = none_shown (IsAllowedAlone s id page) deed _ row.deed_is refl
+  shown_there line (Delete point) deed (inl row) = one_shown (IsAllowedAlone s id page) deed _ (ops.Del id point) row.deed_is refl (del_allowed point row.found row.there)
+  shown_there line (Delete point) deed (inr row) = none_shown (IsAllowedAlone s id page) deed _ row.deed_is refl
+  shown_there line (Lookup point) deed (inl row) = none_shown (IsAllowedAlone s id page) deed _ row.deed_is refl
+  shown_there line (Lookup point) deed (inr row) = none_shown (IsAllowedAlone s id page) deed _ row.deed_is refl
+  shown_there line (Search area) deed row = absurd row
+
+-- ---- the laws
+
+pub commands_are_allowed : CommandsAreAllowed
+commands_are_allowed s line command id page deed op made row is = shown_there s id page made line command deed row op is
+
+pub splits_are_allowed : SplitsAreAllowed
+splits_are_allowed s line held deed op row given made full is = one_shown (IsAllowedAlone s held row.page) deed _ _ row.deed_is refl (split_allowed s held row.page made row.leaves given full) op is
+
+pub puts_are_allowed : PutsAreAllowed
+puts_are_allowed s line source fresh deed op row made absent room is = one_shown (IsAllowedAlone s row.half row.page) deed _ _ row.deed_is refl (put_allowed s row.half row.page made row.rec absent room) op is

@@ -1,0 +1,4 @@
+pub mod OneCommand
+pub mod PointExamples
+pub mod AllowedCommands
+pub mod SplitExamples

@@ -1,0 +1,141 @@
+-- A command on a point has one deed at a page: its rows exclude each other, and one record of a page is of a point.
+use Rattle.std.proofs.Common.{◌≡◌, ◌⊎◌, inl, inr, ℕ, zero, suc, ◌<◌, ◌≤◌, List, [], ◌∷◌, All, AllPairs, Some, None, refl, sym, ap, ◌∙◌, subst, arith}
+use Rattle.std.specs.List.{Contains, slice_get}
+use Rattle.std.specs.declared.cmp.Ordering.TheVariants.{Less, Equal}
+use Rattle.std.proofs.lemmas.Cmp.{nat_list_cmp_total, tied_itself}
+use Rattle.std.proofs.lemmas.List.Elements.{All-contains}
+use Rattle.hb_space.specs.declared.records.Record.{Record}
+use Rattle.hb_frag.specs.declared.leaves.Leaf.TheVariants.{Records}
+use Rattle.hb_frag.specs.declared.pages.LivePage.{LivePage}
+use Rattle.hb_ops.specs.declared.operations.Op.TheVariants.{Put, Del}
+use Rattle.hb_set.specs.declared.commands.Command.{Command}
+use Rattle.hb_set.specs.declared.commands.Command.TheVariants.{Insert, Delete, Lookup, Search}
+use Rattle.hb_set.specs.declared.commands.Reply.TheVariants as replies
+use Rattle.hb_set.specs.declared.scripts.Line.{Line}
+use Rattle.hb_activity.specs.declared.activities.Activity.TheVariants.{SessionSplit}
+use Rattle.hb_activity.proofs.AllowedDeeds.{first_has}
+use Rattle.hb_activity.proofs.OneLeaf.{never_both, records_of_leaf, same_leaf, stands_among}
+use Rattle.hb_activity.specs.Deeds.{Deed, moves_to, takes_effect}
+use Rattle.hb_activity.specs.OneDeed.{IsOnly}
+use Rattle.hb_activity.specs.Sights.{Sight}
+use Rattle.hb_frag.specs.Leaves.{Placed, leaves_of, weight_of}
+use Rattle.hb_frag.specs.Rules.{AreInOrder, IsInOrder, Precedes}
+use Rattle.hb_ops.specs.Recording.{put_page}
+use Rattle.hb_ops.specs.Standing.{StandsNot, StandsThere}
+use Rattle.hb_point.specs.Laws.{CommandsHaveOneDeed}
+use Rattle.hb_point.specs.SessionRows.{DoesThere, merges_due}
+use Rattle.hb_space.specs.Points.{point_cmp}
+
+-- ---- one record of a point
+
+not_itself : (p q : List ℕ) → p ≡ q → point_cmp p q ≡ Less → ⊥
+not_itself p q same less =
+    let tied : point_cmp p p ≡ Equal = tied_itself nat_list_cmp_total p in
+    let again : point_cmp p p ≡ Less = subst (λ (x : List ℕ). point_cmp p x ≡ Less) (sym same) less in
+    cc
+
+abbrev Rises : List Record → Type 0
+Rises [] = Unit {0}
+Rises (r ∷ rest) = All (Precedes r) rest × Rises rest
+
+rises : (records : List Record) → AllPairs Precedes records → Rises records
+rises [] pairs = tt
+rises (r ∷ rest) pairs = (λ k d lt. pairs zero (suc k) d (omega arith) (omega (arith, lt)), rises rest (λ i j d low high. pairs (suc i) (suc j) d (omega (arith, low)) (omega (arith, high))))
+
+among_first : (x : Record) (xs : List Record) (y : Record) → Contains (x ∷ xs) y → (x ≡ y) ⊎ Contains xs y
+among_first x xs y (zero, lt, is) = inl is
+among_first x xs y (suc k, lt, is) = inr (k, omega (arith, lt), is)
+
+no_more : (y : Record) → Contains [] y → ⊥
+no_more y (k, lt, is) = omega (arith, lt)
+
+one_among : (xs : List Record) (r s : Record) → Rises xs → Contains xs r → Contains xs s → r.key ≡ s.key → r ≡ s
+one_among [] r s up here there same = absurd (no_more r here)
+one_among (x ∷ xs) r s up here there same = elim (among_first x xs r here) [
+  | inl first ↦ elim (among_first x xs s there) [
+    | inl second ↦ sym first ∙ second
+    | inr later ↦ absurd (not_itself x.key s.key (ap (λ (r : Record). r.key) first ∙ same) (All-contains (Precedes x) xs s up.0 later))
+  ]
+  | inr behind ↦ elim (among_first x xs s there) [
+    | inl second ↦ absurd (not_itself x.key r.key (ap (λ (r : Record). r.key) second ∙ sym same) (All-contains (Precedes x) xs r up.0 behind))
+    | inr later ↦ one_among xs r s up.1 behind later same
+  ]
+]
+
+one_stands : (page : LivePage) (p : List ℕ) (r s : Record) → AreInOrder page → StandsThere page p r → StandsThere page p s → r ≡ s
+one_stands page p r s order a b =
+    let same = same_leaf page p (record { leaf = Records a.records; area = a.area }) (record { leaf = Records b.records; area = b.area }) a.leaf b.leaf in
+    let records = records_of_leaf a.records b.records (ap (λ (x : Placed). x.leaf) same) in
+    let up = (first_has IsInOrder p (leaves_of page.frag page.area) (record { leaf = Records b.records; area = b.area }) b.leaf order).rising in
+    one_among b.records r s (rises b.records up) (stands_among b.records a.place r (ap (λ (l : List Record). slice_get l a.place) (sym records) ∙ a.among)) (stands_among b.records b.place s b.among) (a.key ∙ sym b.key)
+
+-- ---- each row, and no other
+
+module _ (s : Sight) (line : Line) (id : ℕ) (page : LivePage) where
+  pub only_twin : (rec twin : Record) → StandsThere page rec.key twin → IsOnly (DoesThere s line (Insert rec) id page) (takes_effect s.place line replies.Duplicate None [])
+  only_twin rec twin there = record { done = inl (record { twin = twin; there = there; deed_is = refl }); only = only }
+    where
+      only : (other : Deed) → DoesThere s line (Insert rec) id page other → other ≡ takes_effect s.place line replies.Duplicate None []
+      only other (inl row) = row.deed_is
+      only other (inr (inl row)) = absurd (never_both page rec.key twin there row.absent)
+      only other (inr (inr row)) = absurd (never_both page rec.key twin there row.absent)
+
+  pub only_inserts : (rec : Record) → StandsNot page rec.key → weight_of (put_page rec page).frag ≤ s.meta.dcap → IsOnly (DoesThere s line (Insert rec) id page) (takes_effect s.place line replies.Done (Some (Put id rec)) [])
+  only_inserts rec absent room = record { done = inr (inl (record { absent = absent; room = room; deed_is = refl })); only = only }
+    where
+      only : (other : Deed) → DoesThere s line (Insert rec) id page other → other ≡ takes_effect s.place line replies.Done (Some (Put id rec)) []
+      only other (inl row) = absurd (never_both page rec.key row.twin row.there absent)
+      only other (inr (inl row)) = row.deed_is
+      only other (inr (inr row)) = absurd (omega (arith, room, row.full))
+
+  pub only_splits : (rec : Record) → page.level ≡ 0 → StandsNot page rec.key → s.meta.dcap < weight_of (put_page rec page).frag → IsOnly (DoesThere s line (Insert rec) id page) (moves_to (SessionSplit line id) [])
+  only_splits rec level absent full = record { done = inr (inr (record { level = level; absent = absent; full = full; deed_is = refl })); only = only }
+    where
+      only : (other : Deed) → DoesThere s line (Insert rec) id page other → other ≡ moves_to (SessionSplit line id) []
+      only other (inl row) = absurd (never_both page rec.key row.twin row.there absent)
+      only other (inr (inl row)) = absurd (omega (arith, row.room, full))
+      only other (inr (inr row)) = row.deed_is
+
+  pub only_deletes : (p : List ℕ) (found : Record) → StandsThere page p found → IsOnly (DoesThere s line (Delete p) id page) (takes_effect s.place line replies.Done (Some (Del id p)) (merges_due page p s.meta.dcap))
+  only_deletes p found there = record { done = inl (record { found = found; there = there; deed_is = refl }); only = only }
+    where
+      only : (other : Deed) → DoesThere s line (Delete p) id page other → other ≡ takes_effect s.place line replies.Done (Some (Del id p)) (merges_due page p s.meta.dcap)
+      only other (inl row) = row.deed_is
+      only other (inr row) = absurd (never_both page p found there row.absent)
+
+  pub only_nothing : (p : List ℕ) → StandsNot page p → IsOnly (DoesThere s line (Delete p) id page) (takes_effect s.place line replies.Absent None [])
+  only_nothing p absent = record { done = inr (record { absent = absent; deed_is = refl }); only = only }
+    where
+      only : (other : Deed) → DoesThere s line (Delete p) id page other → other ≡ takes_effect s.place line replies.Absent None []
+      only other (inl row) = absurd (never_both page p row.found row.there absent)
+      only other (inr row) = row.deed_is
+
+  pub only_found : (p : List ℕ) (found : Record) → StandsThere page p found → ((other : Record) → StandsThere page p other → other ≡ found) → IsOnly (DoesThere s line (Lookup p) id page) (takes_effect s.place line (replies.Found found.body) None [])
+  only_found p found there one = record { done = inl (record { found = found; there = there; deed_is = refl }); only = only }
+    where
+      only : (other : Deed) → DoesThere s line (Lookup p) id page other → other ≡ takes_effect s.place line (replies.Found found.body) None []
+      only other (inl row) = row.deed_is ∙ ap (λ (r : Record). takes_effect s.place line (replies.Found r.body) None []) (one row.found row.there)
+      only other (inr row) = absurd (never_both page p found there row.absent)
+
+  pub only_misses : (p : List ℕ) → StandsNot page p → IsOnly (DoesThere s line (Lookup p) id page) (takes_effect s.place line replies.Missing None [])
+  only_misses p absent = record { done = inr (record { absent = absent; deed_is = refl }); only = only }
+    where
+      only : (other : Deed) → DoesThere s line (Lookup p) id page other → other ≡ takes_effect s.place line replies.Missing None []
+      only other (inl row) = absurd (never_both page p row.found row.there absent)
+      only other (inr row) = row.deed_is
+
+  both : (row : Deed → Type 0) (wanted deed other : Deed) → IsOnly row wanted → row deed → row other → deed ≡ other
+  both row wanted deed other one a b = one.only deed a ∙ sym (one.only other b)
+
+  pub one_command : (command : Command) (deed other : Deed) → AreInOrder page → DoesThere s line command id page deed → DoesThere s line command id page other → deed ≡ other
+  one_command (Insert rec) deed other order (inl a) b = both (DoesThere s line (Insert rec) id page) _ deed other (only_twin rec a.twin a.there) (inl a) b
+  one_command (Insert rec) deed other order (inr (inl a)) b = both (DoesThere s line (Insert rec) id page) _ deed other (only_inserts rec a.absent a.room) (inr (inl a)) b
+  one_command (Insert rec) deed other order (inr (inr a)) b = both (DoesThere s line (Insert rec) id page) _ deed other (only_splits rec a.level a.absent a.full) (inr (inr a)) b
+  one_command (Delete p) deed other order (inl a) b = both (DoesThere s line (Delete p) id page) _ deed other (only_deletes p a.found a.there) (inl a) b
+  one_command (Delete p) deed other order (inr a) b = both (DoesThere s line (Delete p) id page) _ deed other (only_nothing p a.absent) (inr a) b
+  one_command (Lookup p) deed other order (inl a) b = both (DoesThere s line (Lookup p) id page) _ deed other (only_found p a.found a.there (λ found there. one_stands page p found a.found order there a.there)) (inl a) b
+  one_command (Lookup p) deed other order (inr a) b = both (DoesThere s line (Lookup p) id page) _ deed other (only_misses p a.absent) (inr a) b
+  one_command (Search area) deed other order a b = absurd a
+
+pub commands_have_one_deed : CommandsHaveOneDeed
+commands_have_one_deed s line command id page deed other made a b = one_command s line id page command deed other made.in_order a b

@@ -1,0 +1,5 @@
+use Rattle.hb_poster.proofs.WalkExamples.{takes_by_hand}
+use Rattle.hb_poster.proofs.examples.a_job_is_taken.Goals as goal
+
+pub returns : goal.returns
+returns c = takes_by_hand

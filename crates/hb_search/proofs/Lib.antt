@@ -1,0 +1,3 @@
+pub mod OneOrder
+pub mod OneSearch
+pub mod SearchExamples
