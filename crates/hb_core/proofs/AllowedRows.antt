@@ -194,7 +194,7 @@ module _ (st : StoreState) (keeps : KeepsPages st) where
       })
 
   -- a parent that has no room weighs enough to be split
-  heavy_parent : (parent : ℕ) (page child : LivePage) (p : List ℕ) → if_live (in_memory st parent) ≡ Some page → LacksRoom page child p st.meta.icap → 6 ≤ weight_of page.frag
+  pub heavy_parent : (parent : ℕ) (page child : LivePage) (p : List ℕ) → if_live (in_memory st parent) ≡ Some page → LacksRoom page child p st.meta.icap → 6 ≤ weight_of page.frag
   heavy_parent parent page child p live lacks =
       let good = good_live parent page live in
       let above = kind_at st.meta page p (record { leaf = Child lacks.outer; area = lacks.leaf }) good lacks.owed.above in

@@ -59,3 +59,11 @@ pub mod Volumes
 pub mod LaterWanted
 pub mod NoCircle
 pub mod SomebodyFree
+pub mod TrialRelBacked
+pub mod TrialFunBacked
+pub mod TrialRelOne
+pub mod TrialFunOne
+pub mod TrialRelAllowed
+pub mod TrialFunAllowed
+pub mod TrialMidOne
+pub mod TrialBridge

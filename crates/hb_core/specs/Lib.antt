@@ -33,3 +33,5 @@ pub mod KeepingLaws
 pub mod WaitingLaws
 pub mod StageLaws
 pub mod Examples
+pub mod PosterFunction
+pub mod PosterMid
