@@ -67,3 +67,4 @@ pub mod TrialRelAllowed
 pub mod TrialFunAllowed
 pub mod TrialMidOne
 pub mod TrialBridge
+pub mod TrialEmpty
