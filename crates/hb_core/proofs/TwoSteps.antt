@@ -2,7 +2,7 @@
 pub mod OneMerge
 pub mod SinglePlaces
 pub mod Aside
-pub mod OneOrder
+pub mod OneOfPoint
 pub mod OnePiece
 pub mod OneRow
 pub mod RowSays

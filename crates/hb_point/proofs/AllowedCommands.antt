@@ -1,9 +1,6 @@
 -- The operation that a row says is allowed on the page that the row is given.
-use Rattle.std.proofs.Common.{◌≡◌, inl, inr, ℕ, zero, suc, ◌+◌, ◌≤◌, Bool, true, false, cond, List, [], ◌∷◌, length, Any, Some, None, refl, arith, length-append}
-use Rattle.std.specs.List.{filter, slice_get}
-use Rattle.std.specs.Ordering.{is_gt, is_lt}
-use Rattle.std.specs.declared.cmp.Ordering.{Ordering}
-use Rattle.std.specs.declared.cmp.Ordering.TheVariants.{Less, Equal, Greater}
+use Rattle.std.proofs.Common.{◌≡◌, inl, inr, ℕ, zero, suc, ◌≤◌, List, [], ◌∷◌, Any, Some, None, refl, arith}
+use Rattle.std.specs.List.{slice_get}
 use Rattle.hb_space.specs.declared.records.Record.{Record}
 use Rattle.hb_frag.specs.declared.leaves.Leaf.TheVariants.{Records}
 use Rattle.hb_frag.specs.declared.pages.LivePage.{LivePage}
@@ -19,54 +16,19 @@ use Rattle.hb_activity.specs.Sights.{Sight}
 use Rattle.hb_frag.specs.Leaves.{weight_of}
 use Rattle.hb_frag.specs.Paths.{part_at}
 use Rattle.hb_frag.specs.Trees.{Tree}
-use Rattle.hb_ops.proofs.Opened.{weight_changed}
-use Rattle.hb_ops.specs.Recording.{joined, put_page}
+use Rattle.hb_ops.specs.Recording.{put_page}
 use Rattle.hb_ops.specs.Sound.{FitsFile}
 use Rattle.hb_ops.specs.Standing.{StandsNot, StandsThere}
+use Rattle.hb_point.proofs.RecordLeaves.{put_weighs}
 use Rattle.hb_point.specs.Laws.{CommandsAreAllowed, FullPagesAreHeavy, PutsAreAllowed, SplitsAreAllowed}
 use Rattle.hb_point.specs.SessionRows.{DoesThere}
 use Rattle.hb_space.specs.Boxes.{Area}
-use Rattle.hb_space.specs.Points.{point_cmp}
 use Rattle.hb_split.proofs.Allowed.{is_allowed}
 use Rattle.hb_split.proofs.Ends.{is_thirds}
 use Rattle.hb_split.specs.Choosing.{IsChosen}
 
--- ---- one record more weighs one more at most
-
-not_both : (o : Ordering) → cond (is_lt o) 1 0 + cond (is_gt o) 1 0 ≤ 1
-not_both Less = omega arith
-not_both Equal = omega arith
-not_both Greater = omega arith
-
-length_cond : (b : Bool) (r : Record) (rs : List Record) → length (cond b (r ∷ rs) rs) ≡ cond b 1 0 + length rs
-length_cond true r rs = omega arith
-length_cond false r rs = omega arith
-
-few_sides : (rec : Record) (records : List Record) → length (filter (λ r. is_lt (point_cmp r.key rec.key)) records) + length (filter (λ r. is_gt (point_cmp r.key rec.key)) records) ≤ length records
-few_sides rec [] = omega arith
-few_sides rec (r ∷ records) =
-    let lesser = filter (λ (r : Record). is_lt (point_cmp r.key rec.key)) records in
-    let greater = filter (λ (r : Record). is_gt (point_cmp r.key rec.key)) records in
-    let one = length_cond (is_lt (point_cmp r.key rec.key)) r lesser in
-    let two = length_cond (is_gt (point_cmp r.key rec.key)) r greater in
-    let rest = few_sides rec records in
-    let both = not_both (point_cmp r.key rec.key) in
-    omega (arith, one, two, rest, both)
-
-joined_few : (rec : Record) (records : List Record) → length (joined rec records) ≤ length records + 1
-joined_few rec records =
-    let sides = few_sides rec records in
-    let whole = length-append (filter (λ (r : Record). is_lt (point_cmp r.key rec.key)) records) (rec ∷ filter (λ (r : Record). is_gt (point_cmp r.key rec.key)) records) in
-    omega (arith, sides, whole)
-
-put_weighs : (s : Sight) (page : LivePage) (rec : Record) → FitsFile s.meta page → StandsNot page rec.key → weight_of (put_page rec page).frag ≤ weight_of page.frag + 1
-put_weighs s page rec made absent =
-    let changed = weight_changed page rec.key absent.records absent.area (joined rec) made.well_cut absent.leaf in
-    let few = joined_few rec absent.records in
-    omega (arith, changed, few)
-
 pub full_pages_are_heavy : FullPagesAreHeavy
-full_pages_are_heavy s line rec id page deed made least row = let weighs = put_weighs s page rec made row.absent in omega (arith, weighs, row.full, least)
+full_pages_are_heavy s line rec id page deed made least row = let weighs = put_weighs page rec row.absent.records row.absent.area made.well_cut row.absent.leaf in omega (arith, weighs, row.full, least)
 
 -- ---- each operation
 

@@ -5,3 +5,4 @@ pub mod SplitExamples
 pub mod RecordLeaves
 pub mod AskedRows
 pub mod HeldPoints
+pub mod ChosenCuts

@@ -1,13 +1,14 @@
 -- A page whose leaf at a point has records: its level, whether it has room, and what it weighs with one more.
-use Rattle.std.proofs.Common.{◌≡◌, inl, inr, ℕ, ◌+◌, ◌<◌, ◌≤◌, Bool, true, false, cond, List, [], ◌∷◌, length, All, Some, subst, arith}
+use Rattle.std.proofs.Common.{◌≡◌, inl, inr, ℕ, ◌+◌, ◌<◌, ◌≤◌, Bool, true, false, cond, List, [], ◌∷◌, length, Some, arith}
 use Rattle.std.specs.List.{Contains, filter}
 use Rattle.std.specs.Ordering.{is_gt, is_lt}
 use Rattle.std.specs.declared.cmp.Ordering.{Ordering}
 use Rattle.std.specs.declared.cmp.Ordering.TheVariants.{Less, Equal, Greater}
 use Rattle.std.proofs.lemmas.Bool.{cases_lt}
 use Rattle.std.proofs.lemmas.List.{length-append}
-use Rattle.std.proofs.lemmas.List.Elements.{All-contains, All-contains_itself, All-head, All-tail}
-use Rattle.hb_frag.specs.Leaves.{Placed, first_at, leaf_at, leaves, leaves_of, weight_of}
+use Rattle.std.proofs.lemmas.List.Elements.{All-contains, All-contains_itself}
+use Rattle.hb_activity.proofs.AllowedDeeds.{first_has}
+use Rattle.hb_frag.specs.Leaves.{WellCut, leaf_at, leaves, leaves_of, weight_of}
 use Rattle.hb_frag.specs.Rules.{BelongsAt}
 use Rattle.hb_frag.specs.declared.leaves.Leaf.TheVariants.{Records}
 use Rattle.hb_frag.specs.declared.pages.LivePage.{LivePage}
@@ -18,17 +19,9 @@ use Rattle.hb_ops.specs.PlacedLaws.{placed, placed_is_leaf}
 use Rattle.hb_ops.specs.Recording.{FitsPut, joined, put_page}
 use Rattle.hb_ops.specs.Sound.{FitsFile}
 use Rattle.hb_ops.specs.Standing.{StandsNot}
-use Rattle.hb_space.specs.Boxes.{Area, holds}
+use Rattle.hb_space.specs.Boxes.{Area}
 use Rattle.hb_space.specs.Points.{point_cmp}
 use Rattle.hb_space.specs.declared.records.Record.{Record}
-
--- what is true of each leaf is true of the first one at a point
-first_has : (P : Placed → Type 0) (p : List ℕ) (xs : List Placed) (l : Placed) → first_at p xs ≡ Some l → All P xs → P l
-first_has P p [] l e all = absurd (let no : ⊥ = cc in no)
-first_has P p (x ∷ xs) l e all = elim (holds x.area p) as (λ b. cond b (Some x) (first_at p xs) ≡ Some l → P l) [
-  | true ↦ λ e. let same : x ≡ l = cc in subst P same (All-head P x xs all)
-  | false ↦ λ e. first_has P p xs l e (All-tail P x xs all)
-] e
 
 -- records stand at level 0 alone
 pub records_below : (meta : Meta) (page : LivePage) (p : List ℕ) (records : List Record) (area : Area) → FitsFile meta page → leaf_at page p ≡ Some (record { leaf = Records records; area = area }) → page.level ≡ 0
@@ -76,10 +69,15 @@ joined_few rec records =
     let whole = length-append (filter (λ (r : Record). is_lt (point_cmp r.key rec.key)) records) (rec ∷ filter (λ (r : Record). is_gt (point_cmp r.key rec.key)) records) in
     omega (arith, sides, whole)
 
+pub put_weighs : (page : LivePage) (rec : Record) (records : List Record) (area : Area) → WellCut page → leaf_at page rec.key ≡ Some (record { leaf = Records records; area = area }) → weight_of (put_page rec page).frag ≤ weight_of page.frag + 1
+put_weighs page rec records area cut leaf =
+    let changed = weight_changed page rec.key records area (joined rec) cut leaf in
+    let few = joined_few rec records in
+    omega (arith, changed, few)
+
 -- so a page without room weighs 6 at least
 pub full_page_weighs : (meta : Meta) (page : LivePage) (rec : Record) → IsLayout meta → FitsFile meta page → StandsNot page rec.key → meta.dcap < weight_of (put_page rec page).frag → 6 ≤ weight_of page.frag
 full_page_weighs meta page rec layout made absent full =
-    let changed = weight_changed page rec.key absent.records absent.area (joined rec) made.well_cut absent.leaf in
-    let few = joined_few rec absent.records in
+    let more = put_weighs page rec absent.records absent.area made.well_cut absent.leaf in
     let least = layout.dcap_least in
-    omega (arith, changed, few, least, full)
+    omega (arith, more, least, full)

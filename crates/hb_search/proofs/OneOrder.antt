@@ -12,7 +12,7 @@ use Rattle.hb_frag.specs.Rules.{Precedes}
 use Rattle.hb_space.specs.Points.{point_cmp}
 
 -- no record comes before itself, and no two before each other
-not_itself : (p q : List ℕ) → p ≡ q → point_cmp p q ≡ Less → ⊥
+pub not_itself : (p q : List ℕ) → p ≡ q → point_cmp p q ≡ Less → ⊥
 not_itself p q same less =
     let tied : point_cmp p p ≡ Equal = tied_itself nat_list_cmp_total p in
     let again : point_cmp p p ≡ Less = subst (λ (x : List ℕ). point_cmp p x ≡ Less) (sym same) less in
@@ -24,7 +24,7 @@ not_both p q one two =
     let no : Less ≡ Greater = back in
     cc
 
-abbrev Rises : List Record → Type 0
+abbrev pub Rises : List Record → Type 0
 Rises [] = Unit {0}
 Rises (r ∷ rest) = All (Precedes r) rest × Rises rest
 
@@ -32,7 +32,7 @@ pub rises : (records : List Record) → AllPairs Precedes records → Rises reco
 rises [] pairs = tt
 rises (r ∷ rest) pairs = (λ k d lt. pairs zero (suc k) d (omega arith) (omega (arith, lt)), rises rest (λ i j d low high. pairs (suc i) (suc j) d (omega (arith, low)) (omega (arith, high))))
 
-among_first : {X : Type 0} (x : X) (xs : List X) (y : X) → Contains (x ∷ xs) y → (x ≡ y) ⊎ Contains xs y
+pub among_first : {X : Type 0} (x : X) (xs : List X) (y : X) → Contains (x ∷ xs) y → (x ≡ y) ⊎ Contains xs y
 among_first x xs y (zero, lt, is) = inl is
 among_first x xs y (suc k, lt, is) = inr (k, omega (arith, lt), is)
 
@@ -54,7 +54,7 @@ module _ (x y : Record) (xs ys : List Record) (up : Rises (x ∷ xs)) (rising : 
         | inr later ↦ later
       ]
 
-no_more : {X : Type 0} (y : X) → Contains [] y → ⊥
+pub no_more : {X : Type 0} (y : X) → Contains [] y → ⊥
 no_more y (k, lt, is) = omega (arith, lt)
 
 same_rising : (xs ys : List Record) → Rises xs → Rises ys → All (Contains ys) xs → All (Contains xs) ys → xs ≡ ys

@@ -1,10 +1,7 @@
 -- The operation that a row says is allowed on the pages in memory.
-use Rattle.std.proofs.Common.{◌≡◌, ◌⊎◌, inl, inr, ℕ, zero, suc, ◌+◌, ◌<◌, ◌≤◌, Bool, true, false, cond, List, [], ◌∷◌, length, All, Any, Option, Some, None, IsSome, refl, sym, ap, ◌∙◌, subst, arith, ne_eqb, length-append}
+use Rattle.std.proofs.Common.{◌≡◌, ◌⊎◌, inl, inr, ℕ, zero, suc, ◌<◌, ◌≤◌, Bool, cond, List, [], ◌∷◌, length, All, Any, Option, Some, None, IsSome, refl, sym, ap, ◌∙◌, subst, arith, ne_eqb}
 use Rattle.std.specs.Prelude.{MatchOption}
-use Rattle.std.specs.List.{filter, slice_get}
-use Rattle.std.specs.Ordering.{is_gt, is_lt}
-use Rattle.std.specs.declared.cmp.Ordering.{Ordering}
-use Rattle.std.specs.declared.cmp.Ordering.TheVariants.{Less, Equal, Greater}
+use Rattle.std.specs.List.{slice_get}
 use Rattle.std.proofs.lemmas.Bool.{cases_lt}
 use Rattle.std.proofs.lemmas.List.Elements.{All-append, All-cons, All-contains, All-head, All-nil}
 use Rattle.hb_space.specs.declared.records.Record.{Record}
@@ -33,6 +30,7 @@ use Rattle.hb_core.proofs.Memory.BroughtPages.{both_there}
 use Rattle.hb_core.proofs.Memory.KeptPages.{KeepsPages, brought, keeps_pages}
 use Rattle.hb_core.proofs.Table.MergerMoves.{merger_moves}
 use Rattle.hb_core.proofs.Memory.NextNumbers.{is_next_number}
+use Rattle.hb_point.proofs.RecordLeaves.{put_weighs}
 use Rattle.hb_core.specs.AllowedLaws.{AnyPage, HalfHasRoom, RowsAreAllowed}
 use Rattle.hb_core.specs.Asking.{wanted_by}
 use Rattle.hb_core.specs.Fetching.{Brings}
@@ -45,17 +43,15 @@ use Rattle.hb_frag.specs.Leaves.{Placed, leaf_at, leaves, leaves_of, weight_of}
 use Rattle.hb_frag.specs.Paths.{part_at}
 use Rattle.hb_frag.specs.Rules.{BelongsAt}
 use Rattle.hb_frag.specs.Trees.{Tree, Tip, Cut}
-use Rattle.hb_ops.proofs.Opened.{weight_changed}
 use Rattle.hb_ops.specs.Allocating.{Allocates}
 use Rattle.hb_ops.specs.Files.{if_live}
 use Rattle.hb_ops.specs.Operations.{IsAllowedOn}
 use Rattle.hb_ops.specs.Posting.{posted}
-use Rattle.hb_ops.specs.Recording.{joined, put_page}
+use Rattle.hb_ops.specs.Recording.{put_page}
 use Rattle.hb_ops.specs.Standing.{StandsNot, StandsThere}
 use Rattle.hb_poster.specs.PosterRows.{DoesPlan, after_look}
 use Rattle.hb_search.specs.SearchRows.{SearchGoesOn}
 use Rattle.hb_space.specs.Boxes.{Area, Holds, common_area, side_below, side_from}
-use Rattle.hb_space.specs.Points.{point_cmp}
 use Rattle.hb_split.proofs.Allowed.{is_allowed}
 use Rattle.hb_split.proofs.Ends.{is_thirds}
 use Rattle.hb_split.specs.Choosing.{IsChosen}
@@ -78,40 +74,6 @@ placed_kinds level (Cut axis value left right) area kinds =
 kind_at : (meta : Meta) (page : LivePage) (p : List ℕ) (l : Placed) → IsGoodPage meta (Live page) → leaf_at page p ≡ Some l → BelongsAt page.level l.leaf
 kind_at meta page p l good there =
     All-contains (λ (l : Placed). BelongsAt page.level l.leaf) (leaves_of page.frag page.area) l (placed_kinds page.level page.frag page.area good.1.filled.kinds) ((first_tells page.frag page.area p l good.0.fits.1 good.1.well_cut).0 there).0
-
--- ---- one record more weighs one more at most
-
-not_both : (o : Ordering) (a b : ℕ) → cond (is_lt o) 1 0 + cond (is_gt o) 1 0 ≤ 1
-not_both Less a b = omega arith
-not_both Equal a b = omega arith
-not_both Greater a b = omega arith
-
-length_cond : (b : Bool) (r : Record) (rs : List Record) → length (cond b (r ∷ rs) rs) ≡ cond b 1 0 + length rs
-length_cond true r rs = omega arith
-length_cond false r rs = omega arith
-
-few_sides : (rec : Record) (records : List Record) → length (filter (λ r. is_lt (point_cmp r.key rec.key)) records) + length (filter (λ r. is_gt (point_cmp r.key rec.key)) records) ≤ length records
-few_sides rec [] = omega arith
-few_sides rec (r ∷ records) =
-    let lesser = filter (λ (r : Record). is_lt (point_cmp r.key rec.key)) records in
-    let greater = filter (λ (r : Record). is_gt (point_cmp r.key rec.key)) records in
-    let one = length_cond (is_lt (point_cmp r.key rec.key)) r lesser in
-    let two = length_cond (is_gt (point_cmp r.key rec.key)) r greater in
-    let rest = few_sides rec records in
-    let both = not_both (point_cmp r.key rec.key) 0 0 in
-    omega (arith, one, two, rest, both)
-
-joined_few : (rec : Record) (records : List Record) → length (joined rec records) ≤ length records + 1
-joined_few rec records =
-    let sides = few_sides rec records in
-    let whole = length-append (filter (λ (r : Record). is_lt (point_cmp r.key rec.key)) records) (rec ∷ filter (λ (r : Record). is_gt (point_cmp r.key rec.key)) records) in
-    omega (arith, sides, whole)
-
-put_weighs : (meta : Meta) (page : LivePage) (rec : Record) → IsGoodPage meta (Live page) → StandsNot page rec.key → weight_of (put_page rec page).frag ≤ weight_of page.frag + 1
-put_weighs meta page rec good absent =
-    let changed = weight_changed page rec.key absent.records absent.area (joined rec) good.1.well_cut absent.leaf in
-    let few = joined_few rec absent.records in
-    omega (arith, changed, few)
 
 -- ---- each operation
 
@@ -245,7 +207,7 @@ module _ (m : Machine) (actor : ℕ) (may : ℕ → Type 0) (fetched : StoreStat
       let rec : Record = record { key = p; body = body } in
       let now = stays_live held lacks.page page lacks.live live in
       let same : lacks.page ≡ page = same_page lacks.page page (sym now ∙ live) in
-      let weighs = put_weighs fetched.meta lacks.page rec (good_live fetched keeps held lacks.page now) lacks.absent in
+      let weighs = put_weighs lacks.page rec lacks.absent.records lacks.absent.area (good_live fetched keeps held lacks.page now).1.well_cut lacks.absent.leaf in
       let full : 6 ≤ weight_of lacks.page.frag = omega (arith, weighs, lacks.full, dcap_same, keeps.limits.layout.dcap_least) in
       subst (λ (q : LivePage). 6 ≤ weight_of q.frag) same full
     where

@@ -20,7 +20,8 @@ use Rattle.hb_core.proofs.Memory.BroughtPages.{both_there}
 use Rattle.hb_core.proofs.Table.NextPlaces.{TakesFull, now}
 use Rattle.hb_core.proofs.Memory.OwnedOps.{made_was_free}
 use Rattle.hb_core.proofs.Room.SplitHome.{IsHome, RoomLaws, holds_directly, never_both, one_is_home}
-use Rattle.hb_core.proofs.Room.SplitWeights.{both_have_room, parted_weighs, put_weighs}
+use Rattle.hb_core.proofs.Room.SplitWeights.{both_have_room, parted_weighs}
+use Rattle.hb_point.proofs.RecordLeaves.{put_weighs}
 use Rattle.hb_core.proofs.Memory.StillThere.{fetched_good, nothing_done}
 use Rattle.hb_core.specs.Fetching.{Brings}
 use Rattle.hb_core.specs.KeptLines.{MarksInPlace}

@@ -3,15 +3,11 @@ use Rattle.std.proofs.Common.{◌≡◌, ◌≢◌, inl, inr, ℕ, ◌++◌, Lis
 use Rattle.std.proofs.lemmas.Bool.{cases_lt}
 use Rattle.std.proofs.lemmas.List.Elements.{All-head, All-tail}
 use Rattle.std.proofs.lemmas.Option.{same_Some}
-use Rattle.hb_space.specs.declared.records.Record.{Record}
 use Rattle.hb_layout.specs.declared.meta.Meta.{Meta}
-use Rattle.hb_frag.specs.declared.leaves.Leaf.TheVariants.{Records, Child, Sibling}
+use Rattle.hb_frag.specs.declared.leaves.Leaf.TheVariants.{Child, Sibling}
 use Rattle.hb_frag.specs.declared.pages.LivePage.{LivePage}
 use Rattle.hb_frag.specs.declared.pages.Page.{Page}
 use Rattle.hb_frag.specs.declared.pages.Page.TheVariants.{Free}
-use Rattle.hb_frag.specs.declared.paths.Side.{Side}
-use Rattle.hb_ops.specs.declared.leaf_cuts.LeafCut.{LeafCut}
-use Rattle.hb_frag.specs.declared.paths.Side.TheVariants.{Left, Right}
 use Rattle.hb_terms.specs.declared.plans.PostPlan.{PostPlan}
 use Rattle.hb_terms.specs.declared.plans.PostPlan.TheVariants as plans
 use Rattle.hb_activity.specs.declared.jobs.Job.{Job}
@@ -26,11 +22,8 @@ use Rattle.hb_core.specs.Machines.{Machine, next_of}
 use Rattle.hb_core.specs.Performing.{ChangesQueue}
 use Rattle.hb_core.specs.Steps.{TakesJob, TakesMerging}
 use Rattle.hb_frag.specs.Leaves.{Placed, weight_of}
-use Rattle.hb_frag.specs.Trees.{Tree, Tip}
-use Rattle.hb_ops.specs.Cutting.{going}
 use Rattle.hb_poster.specs.PosterRows.{IsPostingOf}
 use Rattle.hb_space.specs.Boxes.{Area}
-use Rattle.hb_split.specs.Choosing.{AreChosen, Chooses, IsBest, NotBehind, heavier_side, count_on}
 use Rattle.hb_store.specs.NextPage.{IsNext}
 use Rattle.hb_store.specs.States.{StoreState, in_memory}
 use Rattle.hb_terms.specs.Plans.{IsOwed, IsPlan, posted_parent}
@@ -191,39 +184,3 @@ one_next f g fresh other after later meta agree first second = elim (cases_lt 0 
 pub one_number : (f g : StoreState) (fresh other after later : ℕ) → f.meta ≡ g.meta → ((id : ℕ) (a b : Page) → in_memory f id ≡ Some a → in_memory g id ≡ Some b → a ≡ b)
     → next_of f ≡ Some (fresh, after) → next_of g ≡ Some (other, later) → (fresh ≡ other) × (after ≡ later)
 one_number f g fresh other after later meta agree first second = one_next f g fresh other after later meta agree (is_next_number f fresh after first) (is_next_number g other later second)
-
--- ---- the part that leaves a page
-
-same_plane : (count axis value count' axis' value' : ℕ) → NotBehind count axis value count' axis' value' → NotBehind count' axis' value' count axis value → (axis ≡ axis') × (value ≡ value')
-same_plane c a v c' a' v' (inl x) (inl y) = absurd (omega (arith, x, y))
-same_plane c a v c' a' v' (inl x) (inr (y, rest)) = absurd (omega (arith, x, y))
-same_plane c a v c' a' v' (inr (x, rest)) (inl y) = absurd (omega (arith, x, y))
-same_plane c a v c' a' v' (inr (x, inl p)) (inr (y, inl q)) = absurd (omega (arith, p, q))
-same_plane c a v c' a' v' (inr (x, inl p)) (inr (y, inr (q, r))) = absurd (omega (arith, p, q))
-same_plane c a v c' a' v' (inr (x, inr (p, s))) (inr (y, inl q)) = absurd (omega (arith, p, q))
-same_plane c a v c' a' v' (inr (x, inr (p, s))) (inr (y, inr (q, r))) = (p, omega (arith, s, r))
-
-same_records : (xs ys : List Record) → Tip (Records xs) ≡ Tip (Records ys) → xs ≡ ys
-same_records xs ys is = cc
-
-abbrev cut_of : ℕ → ℕ → Side → LeafCut
-cut_of axis value side = record { axis = axis; value = value; side = side }
-
-one_cut : (n k : ℕ) (cut other : LeafCut) (tree : Tree) → Chooses n k cut tree → Chooses n k other tree → cut ≡ other
-one_cut n k cut other tree first second =
-    let same : second.records ≡ first.records = same_records second.records first.records (sym second.leaf ∙ first.leaf) in
-    let best : IsBest k other.axis other.value first.records = subst (IsBest k other.axis other.value) same second.best in
-    let plane = same_plane _ cut.axis cut.value _ other.axis other.value (first.best.first other.axis other.value best.may) (best.first cut.axis cut.value first.best.may) in
-    let side : other.side ≡ heavier_side (count_on Left other.axis other.value first.records) (count_on Right other.axis other.value first.records) = subst (λ rs. other.side ≡ heavier_side (count_on Left other.axis other.value rs) (count_on Right other.axis other.value rs)) same second.side in
-    let sides : cut.side ≡ other.side = first.side ∙ ap (λ a. heavier_side (count_on Left a cut.value first.records) (count_on Right a cut.value first.records)) plane.0
-    ∙ ap (λ v. heavier_side (count_on Left other.axis v first.records) (count_on Right other.axis v first.records)) plane.1 ∙ sym side in
-    ap (λ a. cut_of a cut.value cut.side) plane.0 ∙ ap (λ v. cut_of other.axis v cut.side) plane.1 ∙ ap (λ s. cut_of other.axis other.value s) sides
-
-pub one_choice : (n k : ℕ) (cuts others : List LeafCut) (tree : Tree) → AreChosen n k cuts tree → AreChosen n k others tree → cuts ≡ others
-one_choice n k [] [] tree first second = refl
-one_choice n k [] (cut ∷ cuts) tree first second = absurd (omega (arith, first, second.0.heavy))
-one_choice n k (cut ∷ cuts) [] tree first second = absurd (omega (arith, second, first.0.heavy))
-one_choice n k (cut ∷ cuts) (other ∷ others) tree first second =
-    let same = one_cut n k cut other tree first.0 second.0 in
-    let rest = one_choice n k cuts others (going other tree) (subst (λ c. AreChosen n k cuts (going c tree)) same first.1) second.1 in
-    ap (λ c. c ∷ cuts) same ∙ ap (λ l. other ∷ l) rest

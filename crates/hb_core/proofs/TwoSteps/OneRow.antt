@@ -28,8 +28,10 @@ use Rattle.hb_activity.specs.Walks.{goal_of}
 use Rattle.hb_consol.specs.ConsolidatorRows.{ArrivesToMerge, ConsolidatorPasses, children_of, first_one}
 use Rattle.hb_core.proofs.Latches.Backing.{live_there}
 use Rattle.hb_core.proofs.TwoSteps.OneMerge.{one_decision, one_keep, one_scan, one_try, same_scan}
-use Rattle.hb_core.proofs.TwoSteps.OneOrder.{leaf_rises, not_lacking, one_of_point, one_order}
-use Rattle.hb_core.proofs.TwoSteps.OnePiece.{one_choice, one_number, one_plan}
+use Rattle.hb_core.proofs.TwoSteps.OneOfPoint.{leaf_rises, not_lacking, one_of_point}
+use Rattle.hb_search.proofs.OneOrder.{one_order}
+use Rattle.hb_core.proofs.TwoSteps.OnePiece.{one_number, one_plan}
+use Rattle.hb_point.proofs.ChosenCuts.{one_choice}
 use Rattle.hb_core.specs.Machines.{Machine, live_here, with_disk, sight}
 use Rattle.hb_core.specs.Rows.{DoesHere, Row, RowAlone, RowAt}
 use Rattle.hb_frag.specs.Leaves.{Placed, leaf_at, weight_of}
