@@ -22,8 +22,7 @@ pub record ImageHasPrefix (n : RecordSet) (m : Machine) (bytes : List ℕ) : Typ
   pub enough : settled_count m ≤ count
   pub after : HasSetAfter n m s count
 
--- Bytes that open to the durable file of a machine, or to the file after its first group that waits, do. At each moment inside a
--- step of that machine an image is one of these: a force's moments say so, and no other call of the store touches the disk but for
--- reads.
+-- Bytes that open to the durable file of a machine, or to the file after its first group that waits, do. What the store says of a
+-- force is that at each of its moments every image is one of these.
 abbrev pub ImagesHavePrefixes : Type 0
 ImagesHavePrefixes = (n : RecordSet) (m : Machine) (files : Files) (bytes : List ℕ) → CoreKeeps n m files → OpensToFirst files.durable files.later bytes → ImageHasPrefix n m bytes
