@@ -2,12 +2,12 @@
 use Rattle.std.proofs.Common.{◌≡◌, ◌≢◌, inl, inr, ℕ, ◌+◌, ◌<◌, ◌≤◌, List, [], ◌∷◌, length, get_or, Some, Result, Ok, refl, sym, ap, ◌∙◌, subst, arith}
 use Rattle.hb_disk.specs.Model.{DiskModel, IsDisk, overwritten, Torn}
 use Rattle.hb_disk.specs.Calls.{Ticks, Writes, Syncs, Leaves, Becomes, FrameOrNot, open_gate}
-use Rattle.hb_disk.specs.TornLaws.{Torn-from, Torn-same, Torn-wider}
-use Rattle.hb_disk.specs.OverwrittenLaws.{length-overwritten, overwritten-outside, overwritten-from}
-use Rattle.hb_disk.specs.TwoPieceLaws.{overwritten-joined}
-use Rattle.hb_disk.specs.RunLaws.{Leaves-start, Leaves-call}
-use Rattle.hb_disk.specs.BecomesLaws.{told_written, Becomes-torn, Becomes-torn_write, Becomes-torn_sync}
-use Rattle.hb_disk.specs.SyncedLaws.{only_told}
+use Rattle.hb_disk.proofs.Facts.TornLaws.{Torn-from, Torn-same, Torn-wider}
+use Rattle.hb_disk.proofs.Facts.OverwrittenLaws.{length-overwritten, overwritten-outside, overwritten-from}
+use Rattle.hb_disk.proofs.Facts.TwoPieceLaws.{overwritten-joined}
+use Rattle.hb_disk.proofs.Facts.RunLaws.{Leaves-start, Leaves-call}
+use Rattle.hb_disk.proofs.Facts.BecomesLaws.{told_written, Becomes-torn, Becomes-torn_write, Becomes-torn_sync}
+use Rattle.hb_disk.proofs.Facts.SyncedLaws.{only_told}
 
 module _ (old : DiskModel) (gate : ℕ) (body : List ℕ) where
   -- an image of before, with the frame whole or a closed gate in its place

@@ -6,8 +6,8 @@ use Rattle.std.proofs.lemmas.List.Elements.{All-take, All-drop}
 use Rattle.hb_outside.specs.Memory.{next_count}
 use Rattle.hb_disk.specs.Model.{overwritten, last_value, Torn, Elapses}
 use Rattle.hb_disk.specs.Calls.{Ticks, Writes, Syncs}
-use Rattle.hb_disk.specs.TornLaws.{IsOutside, cases_range, Torn-from, Torn-same, Torn-itself}
-use Rattle.hb_disk.specs.OverwrittenLaws.{length-overwritten, overwritten-inside, overwritten-outside, All-overwritten}
+use Rattle.hb_disk.proofs.Facts.TornLaws.{IsOutside, cases_range, Torn-from, Torn-same, Torn-itself}
+use Rattle.hb_disk.proofs.Facts.OverwrittenLaws.{length-overwritten, overwritten-inside, overwritten-outside, All-overwritten}
 use Rattle.hb_disk.specs.Events.{IsOpen, IsImage, IsImageSince, undone, range_of, disk_after}
 use Rattle.hb_disk.specs.NotedCalls.{Notes, IsOver, LeavesTry}
 use Rattle.hb_disk.specs.declared.event.Change.{Change}

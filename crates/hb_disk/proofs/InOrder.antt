@@ -3,10 +3,10 @@ use Rattle.std.proofs.Common.{◌≡◌, inl, inr, ℕ, ◌+◌, ◌≤◌, List
 use Rattle.hb_disk.specs.Model.{DiskModel, IsDisk, overwritten, Torn}
 use Rattle.hb_disk.specs.Calls.{Ticks, Writes, Syncs, Leaves, Becomes, Then}
 use Rattle.hb_disk.specs.Calls as calls
-use Rattle.hb_disk.specs.TornLaws.{Torn-itself}
-use Rattle.hb_disk.specs.RunLaws.{Leaves-start, Leaves-call}
-use Rattle.hb_disk.specs.BecomesLaws.{told_written, Becomes-write, Becomes-then, Becomes-weaker, Becomes-torn, Becomes-torn_sync}
-use Rattle.hb_disk.specs.SyncedLaws.{only_told}
+use Rattle.hb_disk.proofs.Facts.TornLaws.{Torn-itself}
+use Rattle.hb_disk.proofs.Facts.RunLaws.{Leaves-start, Leaves-call}
+use Rattle.hb_disk.proofs.Facts.BecomesLaws.{told_written, Becomes-write, Becomes-then, Becomes-weaker, Becomes-torn, Becomes-torn_sync}
+use Rattle.hb_disk.proofs.Facts.SyncedLaws.{only_told}
 
 module _ (old : DiskModel) (first : ℕ) (a : List ℕ) (second : ℕ) (b : List ℕ) where
   -- an image of before, after some of the two pieces

@@ -1,3 +1,4 @@
+pub mod Facts
 pub mod Gate
 pub mod InOrder
 pub mod Histories

@@ -7,7 +7,7 @@ use Rattle.std.proofs.lemmas.List.Elements.{All-same}
 use Rattle.hb_disk.specs.declared.history.History.{History}
 use Rattle.hb_disk.specs.Model.{overwritten, last_value}
 use Rattle.hb_disk.specs.Events.{AreKept}
-use Rattle.hb_disk.specs.OverwrittenLaws.{All-overwritten, length-overwritten}
+use Rattle.hb_disk.proofs.Facts.OverwrittenLaws.{All-overwritten, length-overwritten}
 
 module _ (old : History) (slice new : List ℕ) (at : ℕ) (piece : List ℕ) (fits : at + length piece ≤ length old.bytes.items)
     (value : slice ≡ old.bytes.items) (made : new ≡ overwritten slice at piece) where

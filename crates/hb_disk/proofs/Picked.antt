@@ -7,8 +7,8 @@ use Rattle.std.proofs.lemmas.Bool.Decides.{nat_tests}
 use Rattle.std.proofs.lemmas.List.{reverse-append, get_or-replicate, length-replicate}
 use Rattle.std.proofs.lemmas.List.Elements.{All-head, All-tail}
 use Rattle.hb_disk.specs.Model.{overwritten}
-use Rattle.hb_disk.specs.TornLaws.{IsOutside, cases_range}
-use Rattle.hb_disk.specs.OverwrittenLaws.{length-overwritten, overwritten-inside, overwritten-outside}
+use Rattle.hb_disk.proofs.Facts.TornLaws.{IsOutside, cases_range}
+use Rattle.hb_disk.proofs.Facts.OverwrittenLaws.{length-overwritten, overwritten-inside, overwritten-outside}
 use Rattle.hb_disk.specs.ValueLaws.{at_value}
 use Rattle.hb_disk.specs.Events.{IsOpen, IsImage, IsImageSince, IsNoise, IsPicked, AllLieWithin, LiesWithin, rewound, as_synced, undone, range_of}
 use Rattle.hb_disk.specs.declared.event.Change.{Change}

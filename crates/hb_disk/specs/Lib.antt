@@ -1,12 +1,6 @@
 pub mod Model
 pub mod Calls
-pub mod TornLaws
-pub mod OverwrittenLaws
-pub mod TwoPieceLaws
-pub mod RunLaws
 pub mod ValueLaws
-pub mod SyncedLaws
-pub mod BecomesLaws
 pub mod Events
 pub mod NotedCalls
 pub mod EventLaws

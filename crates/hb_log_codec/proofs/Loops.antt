@@ -4,7 +4,7 @@ use Rattle.hb_page_codec.specs.Reading.{many_at}
 use Rattle.hb_log_codec.specs.Reading.{StopsFor}
 use Rattle.hb_log_codec.specs.declared.reading.GroupStop.{GroupStop}
 use Rattle.hb_log_codec.specs.declared.reading.GroupStop.TheVariants.{Bad, NoMemory}
-use Rattle.hb_page_codec.specs.LoopLaws.{with_front, stops}
+use Rattle.hb_page_codec.proofs.Facts.LoopLaws.{with_front, stops}
 
 -- where one thing isn't read, all are not; want of memory says nothing
 pub stops_for : {A : Type 0} (read : List ℕ → Option (A × List ℕ)) (front : List A) (count i : ℕ) (bytes : List ℕ) (total : Option (List A × List ℕ)) (stop : GroupStop) → i < count → StopsFor (read bytes ≡ None) stop

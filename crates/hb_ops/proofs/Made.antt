@@ -21,8 +21,8 @@ use Rattle.hb_ops.specs.LawsOfContents.{ChangesMakeWell, IsWellIn}
 use Rattle.hb_ops.specs.Posting.{post_page}
 use Rattle.hb_ops.specs.Recording.{del_page, put_page}
 use Rattle.hb_ops.specs.Sound.{FitsFile}
-use Rattle.hb_ops.specs.StemLaws.{PartLaws}
-use Rattle.hb_ops.specs.PartedPageLaws.{fresh_made, source_made}
+use Rattle.hb_ops.proofs.Facts.StemLaws.{PartLaws}
+use Rattle.hb_ops.proofs.Facts.PartedPageLaws.{fresh_made, source_made}
 use Rattle.hb_ops.proofs.PostMade.{JoinLaws, post_made}
 use Rattle.hb_ops.proofs.Remade.{put_made, del_made}
 

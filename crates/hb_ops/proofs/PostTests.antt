@@ -14,7 +14,7 @@ use Rattle.hb_ops.specs.Posting.{FitsPost, IsChildAt, post_page, posted}
 use Rattle.hb_ops.specs.Posts.{PostsAt}
 use Rattle.hb_ops.specs.Sound.{FitsFile}
 use Rattle.hb_ops.proofs.CutTests.{stays_inside}
-use Rattle.hb_ops.specs.PathLaws.{part_has}
+use Rattle.hb_ops.proofs.Facts.PathLaws.{part_has}
 
 -- there is one part at a path
 abbrev name_in : Option (Tree × Area) → ℕ

@@ -20,11 +20,11 @@ use Rattle.hb_layout.specs.declared.meta.Meta.{Meta}
 use Rattle.hb_ops.specs.Sound.{FitsFile}
 use Rattle.hb_ops.specs.Recording.{FitsDel, FitsPut, del_page, joined, on_records, page_with, put_page, without}
 use Rattle.hb_ops.proofs.Boxes.{held}
-use Rattle.hb_ops.specs.ListLaws.{All-parts}
+use Rattle.hb_ops.proofs.Facts.ListLaws.{All-parts}
 use Rattle.hb_ops.proofs.Opened.{weight_changed}
 use Rattle.hb_ops.proofs.Orders.{less_so}
 use Rattle.hb_ops.proofs.Tips.{parted}
-use Rattle.hb_ops.specs.PlacedLaws.{placed}
+use Rattle.hb_ops.proofs.Facts.PlacedLaws.{placed}
 
 module _ (p : List ℕ) (change : List Record → List Record) where
   -- the tree with the change

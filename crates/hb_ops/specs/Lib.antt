@@ -15,13 +15,3 @@ pub mod Standing
 pub mod Looked
 pub mod Splits
 pub mod Posts
-pub mod ListLaws
-pub mod PlacedLaws
-pub mod PageNumberLaws
-pub mod LeafBoxLaws
-pub mod LeafHalfLaws
-pub mod CutLeafLaws
-pub mod CutShapeLaws
-pub mod PathLaws
-pub mod StemLaws
-pub mod PartedPageLaws

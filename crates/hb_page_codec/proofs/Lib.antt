@@ -1,3 +1,4 @@
+pub mod Facts
 pub mod Spelled
 pub mod Ordered
 pub mod Refusals

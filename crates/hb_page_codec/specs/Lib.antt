@@ -5,4 +5,3 @@ pub mod Exact
 pub mod Memory
 pub mod Writing
 pub mod Weight
-pub mod LoopLaws

@@ -5,7 +5,7 @@ use Rattle.hb_frag.proofs.Tiles.{tiles_attributes}
 use Rattle.hb_frag.specs.Leaves.{DirectlyCovers, DirectlyHolds, Placed, leaves_of, siblings_of}
 use Rattle.hb_frag.specs.declared.leaves.Leaf.TheVariants.{Sibling}
 use Rattle.hb_frag.specs.declared.pages.LivePage.{LivePage}
-use Rattle.hb_ops.specs.PlacedLaws.{placed, sibling_is_leaf}
+use Rattle.hb_ops.proofs.Facts.PlacedLaws.{placed, sibling_is_leaf}
 use Rattle.hb_space.specs.Boxes.{Area, Holds, Meets, point_area}
 
 -- a box that holds a point meets the box of it, and the other way round

@@ -15,7 +15,7 @@ use Rattle.hb_frag.specs.declared.pages.LivePage.{LivePage}
 use Rattle.hb_layout.specs.Limits.{IsLayout}
 use Rattle.hb_layout.specs.declared.meta.Meta.{Meta}
 use Rattle.hb_ops.proofs.Opened.{weight_changed}
-use Rattle.hb_ops.specs.PlacedLaws.{placed, placed_is_leaf}
+use Rattle.hb_ops.proofs.Facts.PlacedLaws.{placed, placed_is_leaf}
 use Rattle.hb_ops.specs.Recording.{FitsPut, joined, put_page}
 use Rattle.hb_ops.specs.Sound.{FitsFile}
 use Rattle.hb_ops.specs.Standing.{StandsNot}

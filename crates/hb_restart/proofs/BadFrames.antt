@@ -10,7 +10,7 @@ use Rattle.hb_log_codec.specs.Groups.{Logged, SpellsGroups}
 use Rattle.hb_store.specs.Payloads.{SpellAll}
 use Rattle.hb_store.proofs.Spellings.{OneList, length_number, same_fronts, same_number}
 use Rattle.hb_store.specs.Replay.{Replayed, MayReplay, after_group, replay, untouched}
-use Rattle.hb_store.specs.ReplayLaws.{MayReplay-front, replay-append}
+use Rattle.hb_store.proofs.Facts.ReplayLaws.{MayReplay-front, replay-append}
 use Rattle.hb_store.specs.Opening.{HasBadGroup, IsBadPayload}
 use Rattle.hb_restart.specs.Refusals.{LogSays}
 

@@ -2,10 +2,10 @@
 use Rattle.std.proofs.Common.{◌≡◌, ℕ, zero, suc, ◌+◌, ◌*◌, ◌-◌, ◌%◌, ◌≤◌, List, length, Option, Some, IfSome, Result, sym, subst, arith}
 use Rattle.hb_disk.specs.Model.{DiskModel, IsDisk, Torn}
 use Rattle.hb_disk.specs.Calls.{Becomes, OnlyReads, Syncs, Ticks, Writes}
-use Rattle.hb_disk.specs.RunLaws.{OnlyReads-none}
+use Rattle.hb_disk.proofs.Facts.RunLaws.{OnlyReads-none}
 use Rattle.hb_disk.specs.ValueLaws.{at_value}
-use Rattle.hb_disk.specs.BecomesLaws.{Becomes-read, Becomes-torn, Becomes-torn_sync, Becomes-torn_write, Becomes-weaker}
-use Rattle.hb_disk.specs.TornLaws.{Torn-itself, Torn-wider}
+use Rattle.hb_disk.proofs.Facts.BecomesLaws.{Becomes-read, Becomes-torn, Becomes-torn_sync, Becomes-torn_write, Becomes-weaker}
+use Rattle.hb_disk.proofs.Facts.TornLaws.{Torn-itself, Torn-wider}
 use Rattle.hb_frag.specs.declared.pages.Page.{Page}
 use Rattle.hb_layout.specs.Offsets.{slot_offset, file_size, log_start, page_offset}
 use Rattle.hb_super.specs.Superblocks.{IsNewest}

@@ -5,8 +5,8 @@ use Rattle.std.proofs.Math.Nat.{eq-or-lt_of_le}
 use Rattle.hb_space.specs.declared.form.TheConstants.{PAGE}
 use Rattle.hb_disk.specs.Model.{DiskModel, IsDisk, Torn}
 use Rattle.hb_disk.specs.Calls.{Ticks, Becomes}
-use Rattle.hb_disk.specs.RunLaws.{one_tick}
-use Rattle.hb_disk.specs.TornLaws.{Torn-elsewhere}
+use Rattle.hb_disk.proofs.Facts.RunLaws.{one_tick}
+use Rattle.hb_disk.proofs.Facts.TornLaws.{Torn-elsewhere}
 use Rattle.hb_disk.specs.ValueLaws.{at_value, has_value, some_value, some_same}
 use Rattle.hb_frag.specs.declared.pages.Page.{Page}
 use Rattle.hb_frag.specs.Grammar.{SpellsPage}

@@ -7,24 +7,24 @@ use Rattle.hb_outside.specs.Numbers.{big_endian}
 use Rattle.hb_disk.specs.Model.{DiskModel, IsDisk, overwritten}
 use Rattle.hb_disk.specs.Calls.{open_gate}
 use Rattle.hb_disk.specs.ValueLaws.{at_value, of_value, has_value, some_same}
-use Rattle.hb_disk.specs.SyncedLaws.{IsSynced-durable}
-use Rattle.hb_disk.specs.TornLaws.{IsOutside}
-use Rattle.hb_disk.specs.OverwrittenLaws.{length-overwritten, overwritten-inside, overwritten-outside, overwritten-reads}
+use Rattle.hb_disk.proofs.Facts.SyncedLaws.{IsSynced-durable}
+use Rattle.hb_disk.proofs.Facts.TornLaws.{IsOutside}
+use Rattle.hb_disk.proofs.Facts.OverwrittenLaws.{length-overwritten, overwritten-inside, overwritten-outside, overwritten-reads}
 use Rattle.hb_frag.specs.declared.pages.Page.{Page}
 use Rattle.hb_frag.specs.Grammar.{SpellsPage}
 use Rattle.hb_wal.specs.Frames.{range}
 use Rattle.hb_super.specs.Superblocks.{IsNewest, body_bytes}
 use Rattle.hb_super.specs.Moments.{HasNoBody}
-use Rattle.hb_super.specs.BodyLaws.{HasNoBody-elsewhere, HasNoBody-same, HasNoBody-zero}
+use Rattle.hb_super.proofs.Facts.BodyLaws.{HasNoBody-elsewhere, HasNoBody-same, HasNoBody-zero}
 use Rattle.hb_layout.specs.declared.meta.Meta.{Meta}
 use Rattle.hb_ops.specs.Files.{page_of}
 use Rattle.hb_layout.specs.Offsets.{file_size, log_start, page_offset}
 use Rattle.hb_store.specs.Opening.{log_bytes, place_bytes, OpensTo}
 use Rattle.hb_store.specs.Keeps.{IsFresh}
-use Rattle.hb_store.specs.ReplayLaws.{opens_fresh}
+use Rattle.hb_store.proofs.Facts.ReplayLaws.{opens_fresh}
 use Rattle.hb_restart.specs.Creation.{HasEmptyPlaces, IsLaidOut}
 use Rattle.hb_restart.specs.NewFiles.{lone}
-use Rattle.hb_restart.specs.LoneLaws.{page_alone}
+use Rattle.hb_restart.proofs.Facts.LoneLaws.{page_alone}
 
 -- a part of the bytes that isn't overwritten
 pub part_kept : (b : List ℕ) (at : ℕ) (piece : List ℕ) (from m : ℕ) → at + length piece ≤ length b → (from + m ≤ at) ⊎ (at + length piece ≤ from)

@@ -24,7 +24,7 @@ use Rattle.hb_restart.specs.declared.faults.BadField.{BadField}
 use Rattle.hb_restart.specs.declared.faults.Field.{Field}
 use Rattle.hb_restart.specs.declared.layout.Layout.{Layout}
 use Rattle.hb_restart.proofs.NoChild.{no_child}
-use Rattle.hb_restart.specs.LoneLaws.{live_alone, live_is, to_rooted, to_counted}
+use Rattle.hb_restart.proofs.Facts.LoneLaws.{live_alone, live_is, to_rooted, to_counted}
 
 replicate_point : (k x : ℕ) → 0 < k → k ≤ KMAX → x < 2 ^ 64 → IsPoint (replicate k x)
 replicate_point k x some few fits = record {

@@ -4,7 +4,7 @@ use Rattle.hb_space.specs.declared.form.TheConstants.{PAGE}
 use Rattle.hb_disk.specs.Model.{DiskModel, IsDisk, overwritten, Torn}
 use Rattle.hb_disk.specs.Calls.{Becomes}
 use Rattle.hb_disk.specs.ValueLaws.{at_value, some_value, has_value, some_same}
-use Rattle.hb_disk.specs.OverwrittenLaws.{overwritten-reads}
+use Rattle.hb_disk.proofs.Facts.OverwrittenLaws.{overwritten-reads}
 use Rattle.hb_frag.specs.declared.pages.Page.{Page}
 use Rattle.hb_frag.specs.Grammar.{SpellsPage}
 use Rattle.hb_layout.specs.declared.meta.Meta.{Meta}

@@ -5,11 +5,11 @@ use Rattle.std.proofs.lemmas.List.{length-replicate}
 use Rattle.hb_space.specs.declared.form.TheConstants.{PAGE}
 use Rattle.hb_disk.specs.Model.{DiskModel, IsDisk, overwritten, Torn}
 use Rattle.hb_disk.specs.Calls.{Ticks, Syncs, Leaves, Becomes, Apart, IsSynced, OnlyReads}
-use Rattle.hb_disk.specs.RunLaws.{Leaves-start, Leaves-call, Leaves-then, Leaves-weaker}
+use Rattle.hb_disk.proofs.Facts.RunLaws.{Leaves-start, Leaves-call, Leaves-then, Leaves-weaker}
 use Rattle.hb_disk.specs.ValueLaws.{at_value, of_value, has_value, some_value, some_same}
-use Rattle.hb_disk.specs.SyncedLaws.{IsSynced-durable, IsSynced-elsewhere}
-use Rattle.hb_disk.specs.TornLaws.{Torn-elsewhere}
-use Rattle.hb_disk.specs.OverwrittenLaws.{overwritten-reads}
+use Rattle.hb_disk.proofs.Facts.SyncedLaws.{IsSynced-durable, IsSynced-elsewhere}
+use Rattle.hb_disk.proofs.Facts.TornLaws.{Torn-elsewhere}
+use Rattle.hb_disk.proofs.Facts.OverwrittenLaws.{overwritten-reads}
 use Rattle.hb_frag.specs.declared.pages.Page.{Page}
 use Rattle.hb_frag.specs.Grammar.{SpellsPage}
 use Rattle.hb_wal.specs.Frames.{range}
@@ -17,14 +17,14 @@ use Rattle.hb_layout.specs.Offsets.{slot_offset, file_size, log_start, page_offs
 use Rattle.hb_super.specs.Superblocks.{IsNewest, next_turn}
 use Rattle.hb_super.specs.Moments.{WriteLeaves, IsUncovered, HasNoBody, HidesNoOther}
 use Rattle.hb_super.specs.Hidden.{ClearLeaves}
-use Rattle.hb_super.specs.BodyLaws.{HasNoBody-other}
+use Rattle.hb_super.proofs.Facts.BodyLaws.{HasNoBody-other}
 use Rattle.hb_layout.specs.declared.meta.Meta.{Meta}
 use Rattle.hb_ops.specs.Files.{FileState, page_of}
 use Rattle.hb_store.specs.Replay.{untouched, replay}
 use Rattle.hb_store.specs.Opening.{OpensTo, IsPageIn, log_bytes, place_bytes}
 use Rattle.hb_store.specs.Keeps.{IsFresh}
-use Rattle.hb_store.specs.ReplayLaws.{opens_elsewhere, opens_fresh}
-use Rattle.hb_store.specs.FreshLaws.{IsNewest-elsewhere, IsFresh-from}
+use Rattle.hb_store.proofs.Facts.ReplayLaws.{opens_elsewhere, opens_fresh}
+use Rattle.hb_store.proofs.Facts.FreshLaws.{IsNewest-elsewhere, IsFresh-from}
 use Rattle.hb_restart.specs.Renewing.{StillOpens, IsHere, IsPlaced, IsPlacedTo, IsReadyFor}
 use Rattle.hb_restart.proofs.Numbered.{last_number, some_number}
 use Rattle.hb_restart.proofs.RunSteps.{now_has, told_on}

@@ -6,5 +6,4 @@ pub mod Renewing
 pub mod Found
 pub mod Source
 pub mod Beyond
-pub mod LoneLaws
 pub mod WritingBack

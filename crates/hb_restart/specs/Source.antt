@@ -6,7 +6,7 @@ use Rattle.std.specs.Ordering.{nat_cmp}
 use Rattle.std.specs.BTreeMap.{BTreeMap, get}
 use Rattle.hb_disk.specs.Model.{DiskModel}
 use Rattle.hb_disk.specs.Calls.{OnlyReads}
-use Rattle.hb_disk.specs.RunLaws.{OnlyReads-none, OnlyReads-then}
+use Rattle.hb_disk.proofs.Facts.RunLaws.{OnlyReads-none, OnlyReads-then}
 use Rattle.hb_frag.specs.declared.pages.Page.{Page}
 use Rattle.hb_frag.specs.declared.pages.Page.TheVariants.{Live, Free}
 use Rattle.hb_frag.specs.Leaves.{weight_of}

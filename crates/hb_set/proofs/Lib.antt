@@ -1,3 +1,4 @@
+pub mod Facts
 mod Places
 mod Views
 mod Windows

@@ -13,7 +13,7 @@ use Rattle.std.proofs.lemmas.Bool.{and_parts, false≢true}
 use Rattle.std.proofs.lemmas.List.Sorted.{searchable_from_sorted}
 use Rattle.hb_space.specs.Points.{point_cmp}
 use Rattle.hb_space.specs.declared.records.Record.{Record}
-use Rattle.hb_set.specs.MachineLaws.{exact_points, entries_without}
+use Rattle.hb_set.proofs.Facts.MachineLaws.{exact_points, entries_without}
 use Rattle.hb_set.specs.Kept.{entries_behind, PointsRise, IsHandleAt, IsHandleGapFor}
 
 pub less_so : (o : Ordering) → is_lt o ≡ true → o ≡ Less

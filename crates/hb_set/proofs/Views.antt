@@ -16,7 +16,7 @@ use Rattle.hb_space.specs.Boxes.{Area, holds}
 use Rattle.hb_set.specs.declared.commands.Command.TheVariants.{Insert, Delete, Lookup, Search}
 use Rattle.hb_set.specs.declared.commands.Reply.TheVariants.{Done, Duplicate, Absent, Found, Missing, Within}
 use Rattle.hb_set.specs.Machine.{RecordSet, record_of, set_records, HasAttributes, Answers, if_there, found_or_missing, reply_of}
-use Rattle.hb_set.specs.MachineLaws.{entries_without, entries-remove}
+use Rattle.hb_set.proofs.Facts.MachineLaws.{entries_without, entries-remove}
 use Rattle.hb_set.specs.Kept.{records_behind, entries_behind, PointsRise, KeysHave, IsHandleAt, IsHandleGapFor}
 use Rattle.hb_set.proofs.Places.{find_at, find_gap, put_gap, without_at}
 

@@ -1,10 +1,7 @@
 pub use Rattle.hb_space.specs.Points
 pub use Rattle.hb_space.specs.Boxes
 pub mod Machine
-pub mod MachineLaws
 pub mod Order
-pub mod OrderLaws
-pub mod TextOrderLaws
 pub mod Laws
 pub mod Scripts
 pub mod Kept

@@ -10,7 +10,7 @@ use Rattle.hb_frag.specs.Leaves.{Placed, leaves_of, siblings}
 use Rattle.hb_ops.specs.Sound.{count_name}
 use Rattle.hb_ops.specs.declared.leaf_cuts.LeafCut.{LeafCut}
 use Rattle.hb_ops.specs.Cutting.{PartLeaves, area_on, cut_through, cut_with, going, half_area, other_side, reached, staying}
-use Rattle.hb_ops.specs.PlacedLaws.{placed}
+use Rattle.hb_ops.proofs.Facts.PlacedLaws.{placed}
 
 -- how often sibling leaves of a list name a page
 abbrev pub named : ℕ → List Placed → ℕ

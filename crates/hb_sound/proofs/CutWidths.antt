@@ -9,7 +9,7 @@ use Rattle.hb_frag.specs.Trees.{Tree, Tip, Cut}
 use Rattle.hb_frag.specs.Leaves.{IsWellCut}
 use Rattle.hb_ops.specs.declared.leaf_cuts.LeafCut.{LeafCut}
 use Rattle.hb_frag.specs.Paths.{part_at}
-use Rattle.hb_ops.specs.PathLaws.{the_root}
+use Rattle.hb_ops.proofs.Facts.PathLaws.{the_root}
 
 -- the side of a box is less wide
 pub side_narrower : (side : Side) (axis value : ℕ) (a : Area) → Cuts a axis value → width (area_on side axis value a) < width a

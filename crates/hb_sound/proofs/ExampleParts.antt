@@ -16,7 +16,7 @@ use Rattle.hb_layout.specs.declared.meta.Meta.{Meta}
 use Rattle.hb_ops.specs.Files.{FileState, live_page, page_of}
 use Rattle.hb_ops.specs.Sound.{ChildrenMatch, IsCovered, IsCounted, SiblingsMatch, count_live, times_named}
 use Rattle.hb_sound.proofs.PagePlaces.{place_of}
-use Rattle.hb_ops.specs.PageNumberLaws.{page_at-suc, page_at-zero}
+use Rattle.hb_ops.proofs.Facts.PageNumberLaws.{page_at-suc, page_at-zero}
 
 -- a file whose pages are all in use
 abbrev pub all_live : Meta → List LivePage → FileState

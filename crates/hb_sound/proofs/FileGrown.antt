@@ -15,7 +15,7 @@ use Rattle.hb_ops.specs.Growing.{new_root, raised}
 use Rattle.hb_sound.proofs.Extractions.{Extraction}
 use Rattle.hb_ops.specs.Allocating.{allocated}
 use Rattle.hb_sound.proofs.FileParted.{IsParted, is_parted}
-use Rattle.hb_ops.specs.PageNumberLaws.{in_range, live_so, place_of, with_page-there}
+use Rattle.hb_ops.proofs.Facts.PageNumberLaws.{in_range, live_so, place_of, with_page-there}
 use Rattle.hb_sound.proofs.SplitChains.{counted_again, high_fits, same_Some}
 
 -- a page put where it stands already changes nothing

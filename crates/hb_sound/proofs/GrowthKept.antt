@@ -14,7 +14,7 @@ use Rattle.hb_frag.specs.declared.pages.Page.TheVariants.{Live, Free}
 use Rattle.hb_ops.specs.Files.{FileState, file_records, if_live, page_records}
 use Rattle.hb_ops.specs.Operations.{with_page}
 use Rattle.hb_ops.specs.Sound.{IsSound}
-use Rattle.hb_ops.specs.PageNumberLaws.{in_range, place_of, with_page-behind, with_page-there}
+use Rattle.hb_ops.proofs.Facts.PageNumberLaws.{in_range, place_of, with_page-behind, with_page-there}
 use Rattle.hb_sound.proofs.Growths.{Growth, LicensesGrowth, MayGrow, growth, grown}
 use Rattle.hb_sound.specs.LawsOfOperations.{GrowthKeepsContents, GrowthKeepsDirect}
 use Rattle.hb_ops.specs.Growing.{new_root}

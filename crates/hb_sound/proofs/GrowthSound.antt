@@ -16,7 +16,7 @@ use Rattle.hb_ops.specs.Growing.{new_root}
 use Rattle.hb_sound.proofs.ExampleParts.{each_at, no_records}
 use Rattle.hb_sound.proofs.FileGrown.{IsGrown, comes_from, is_grown, stays_live}
 use Rattle.hb_sound.proofs.PageLists.{live_few}
-use Rattle.hb_ops.specs.PlacedLaws.{placed}
+use Rattle.hb_ops.proofs.Facts.PlacedLaws.{placed}
 use Rattle.hb_sound.proofs.SplitChains.{head_there}
 use Rattle.hb_sound.proofs.SplitSound.{named_none}
 

@@ -15,8 +15,8 @@ use Rattle.hb_sound.specs.TowerFile.{tower_ground}
 use Rattle.hb_sound.proofs.ExampleParts.{each_at, held, in_order, interval, top}
 use Rattle.hb_sound.proofs.GrowthSound.{growth_keeps_sound}
 use Rattle.hb_sound.proofs.PagePlaces.{place_of}
-use Rattle.hb_ops.specs.PageNumberLaws.{page_at-suc, page_at-zero}
-use Rattle.hb_ops.specs.PlacedLaws.{placed}
+use Rattle.hb_ops.proofs.Facts.PageNumberLaws.{page_at-suc, page_at-zero}
+use Rattle.hb_ops.proofs.Facts.PlacedLaws.{placed}
 
 -- what a growth makes of a file that may grow so
 record Grows (s : FileState) (x : Growth) (t : FileState) : Type 0 where

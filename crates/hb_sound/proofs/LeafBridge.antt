@@ -28,10 +28,10 @@ use Rattle.hb_sound.specs.Told.{item_at}
 use Rattle.hb_sound.specs.Walks.{IsLeast}
 use Rattle.hb_sound.proofs.Bridge.{live_seen, seen_live}
 use Rattle.hb_sound.proofs.Firsts.{item_within}
-use Rattle.hb_ops.specs.ListLaws.{only_one}
+use Rattle.hb_ops.proofs.Facts.ListLaws.{only_one}
 use Rattle.hb_sound.proofs.Levels.{seen_fact}
 use Rattle.hb_sound.proofs.LocalBridge.{fits}
-use Rattle.hb_ops.specs.PlacedLaws.{placed, leaf_is_sibling, sibling_is_leaf}
+use Rattle.hb_ops.proofs.Facts.PlacedLaws.{placed, leaf_is_sibling, sibling_is_leaf}
 
 contains_head : {X : Type 0} (x : X) (xs : List X) → Contains (x ∷ xs) x
 contains_head x xs = (0, omega arith, refl)

@@ -11,8 +11,8 @@ use Rattle.hb_ops.specs.Files.{FileState, if_live, live_page, page_of}
 use Rattle.hb_ops.specs.Operations.{with_page}
 use Rattle.hb_ops.specs.Sound.{ChildrenMatch, FitsFile, IsChain, IsCounted, IsCovered, IsRooted, IsSound, SiblingsMatch, count_name, times_named}
 use Rattle.hb_sound.proofs.PageLists.{HasInstead, put_instead}
-use Rattle.hb_ops.specs.PageNumberLaws.{live_so}
-use Rattle.hb_ops.specs.PlacedLaws.{placed}
+use Rattle.hb_ops.proofs.Facts.PageNumberLaws.{live_so}
+use Rattle.hb_ops.proofs.Facts.PlacedLaws.{placed}
 use Rattle.hb_sound.proofs.SplitChains.{same_Some}
 
 -- a page in use one level down, whose box has this one within it

@@ -12,7 +12,7 @@ use Rattle.hb_ops.specs.Files.{FileState, live_page}
 use Rattle.hb_ops.specs.Sound.{AreWellMade, IsCovered, SiblingsMatch}
 use Rattle.hb_sound.proofs.PagePlaces.{areas_same, live_there, page_no_wider, total}
 use Rattle.hb_sound.proofs.SiblingLeaves.{named_among}
-use Rattle.hb_ops.specs.PlacedLaws.{placed, sibling_is_leaf}
+use Rattle.hb_ops.proofs.Facts.PlacedLaws.{placed, sibling_is_leaf}
 use Rattle.hb_sound.proofs.Widths.{sibling_narrower, width}
 
 -- what the laws of trees say

@@ -11,7 +11,7 @@ use Rattle.hb_sound.proofs.HeldSomewhere.{holds_directly}
 use Rattle.hb_sound.proofs.OneLevel.{TreeLaws, holds_where_leaf, page_area, same_page}
 use Rattle.hb_sound.proofs.Partition.{SpaceLaws, no_point_is_held_twice}
 use Rattle.hb_sound.proofs.SettledWalks.{meet_at}
-use Rattle.hb_ops.specs.PlacedLaws.{placed}
+use Rattle.hb_ops.proofs.Facts.PlacedLaws.{placed}
 use Rattle.hb_sound.proofs.WalksDown.{holds_within}
 
 least_held : (a : Area) → IsArea a → Holds a a.lo

@@ -7,7 +7,7 @@ use Rattle.hb_frag.specs.declared.pages.Page.{Page}
 use Rattle.hb_frag.specs.declared.pages.Page.TheVariants.{Live, Free}
 use Rattle.hb_ops.specs.Files.{FileState, if_live, live_page, page_at}
 use Rattle.hb_sound.proofs.Widths.{width}
-use Rattle.hb_ops.specs.PageNumberLaws.{live_so, page_at-suc, page_at-zero}
+use Rattle.hb_ops.proofs.Facts.PageNumberLaws.{live_so, page_at-suc, page_at-zero}
 
 -- a page in use has a place, and what stands there is in use
 pub live_there : (s : FileState) (n : ℕ) (page : LivePage) → slice_get s.pages n ≡ Some (Live page) → live_page s (suc n) ≡ Some page

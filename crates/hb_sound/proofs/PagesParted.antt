@@ -12,12 +12,12 @@ use Rattle.hb_frag.specs.Paths.{part_at}
 use Rattle.hb_sound.proofs.Extractions.{Extraction, FitsPart, fresh_page, source_page}
 use Rattle.hb_ops.specs.Cutting.{cut_through}
 use Rattle.hb_sound.proofs.CutWidths.{reached_narrower, reached_no_wider, part_narrower}
-use Rattle.hb_ops.specs.CutLeafLaws.{StemsFrom}
+use Rattle.hb_ops.proofs.Facts.CutLeafLaws.{StemsFrom}
 use Rattle.hb_sound.proofs.CutNames.{named, named-append, once, through_names}
-use Rattle.hb_ops.specs.PlacedLaws.{placed}
-use Rattle.hb_ops.specs.PathLaws.{the_root}
+use Rattle.hb_ops.proofs.Facts.PlacedLaws.{placed}
+use Rattle.hb_ops.proofs.Facts.PathLaws.{the_root}
 use Rattle.hb_sound.proofs.Widths.{width}
-use Rattle.hb_ops.specs.StemLaws.{PartLaws}
+use Rattle.hb_ops.proofs.Facts.StemLaws.{PartLaws}
 
 -- a leaf that names a page and comes from old ones is one of them
 pub stems_child : (old : List Placed) (name : ℕ) (area : Area) → StemsFrom old (placed (Child name) area) → Contains old (placed (Child name) area)

@@ -21,7 +21,7 @@ use Rattle.hb_sound.proofs.HeldOnce.{held_once}
 use Rattle.hb_sound.proofs.RecordsAtHome.{others_lack}
 use Rattle.hb_sound.proofs.WalksDown.{responsible_for, walks_down}
 use Rattle.hb_sound.proofs.WalkSteps.{step_leads}
-use Rattle.hb_ops.specs.PlacedLaws.{placed}
+use Rattle.hb_ops.proofs.Facts.PlacedLaws.{placed}
 use Rattle.hb_sound.proofs.HeldSomewhere.{found}
 use Rattle.hb_sound.proofs.OneLevel.{TreeLaws, page_area, same_page}
 use Rattle.hb_sound.proofs.Widths.{width}

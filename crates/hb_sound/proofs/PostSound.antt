@@ -22,10 +22,10 @@ use Rattle.hb_sound.specs.PointWalks.{HasOn}
 use Rattle.hb_sound.proofs.GrowthKept.{contents_from, records-set}
 use Rattle.hb_sound.proofs.OneChanged.{IsBelow, IsLike, after as changed, new_live, others_stay, pair_of_new, pair_of_old, sound_again}
 use Rattle.hb_sound.proofs.OneLevel.{TreeLaws, same_page}
-use Rattle.hb_ops.specs.PageNumberLaws.{in_range, live_so, place_of, with_page-there}
+use Rattle.hb_ops.proofs.Facts.PageNumberLaws.{in_range, live_so, place_of, with_page-there}
 use Rattle.hb_sound.proofs.Partition.{SpaceLaws, pages_have_boxes}
 use Rattle.hb_sound.proofs.PostedPage.{PostLaws, SaysAsBefore, keeps, leaf_there, names_at, new as posted_page, new_cut, new_made, origin, posted_so, siblings_stay}
-use Rattle.hb_ops.specs.PlacedLaws.{placed}
+use Rattle.hb_ops.proofs.Facts.PlacedLaws.{placed}
 use Rattle.hb_sound.proofs.SplitChains.{same_Some}
 use Rattle.hb_sound.proofs.WalksDown.{holds_within}
 

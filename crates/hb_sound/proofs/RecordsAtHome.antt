@@ -20,7 +20,7 @@ use Rattle.hb_ops.specs.Sound.{AreWellMade, IsCovered, SiblingsMatch}
 use Rattle.hb_sound.specs.PointWalks.{HasOn}
 use Rattle.hb_sound.proofs.HeldSomewhere.{holds_directly}
 use Rattle.hb_sound.proofs.OneLevel.{TreeLaws, holds_where_leaf, page_area}
-use Rattle.hb_ops.specs.PlacedLaws.{placed}
+use Rattle.hb_ops.proofs.Facts.PlacedLaws.{placed}
 
 -- what holds of each record of each leaf holds of each record of the tree
 all_records : (P : Record → Type 0) (t : Tree) (area : Area) → ((x : Placed) → Contains (leaves_of t area) x → All P (records_of x.leaf)) → All P (flat_map records_of (leaves t))

@@ -17,10 +17,10 @@ use Rattle.hb_ops.specs.Sound.{FitsFile}
 use Rattle.hb_sound.proofs.Extractions.{Extraction, FitsPart, fresh_page, source_page}
 use Rattle.hb_ops.specs.declared.leaf_cuts.LeafCut.{LeafCut}
 use Rattle.hb_ops.specs.Cutting.{PartLeaves, PartsLeaf, area_on, cut_through, cut_with, going, half_area, half_on, is_on, other_side, reached, records_in, staying}
-use Rattle.hb_ops.specs.ListLaws.{only_one}
-use Rattle.hb_ops.specs.CutLeafLaws.{StemsFrom}
-use Rattle.hb_ops.specs.StemLaws.{fresh_stems, source_stems, PartLaws}
-use Rattle.hb_ops.specs.PlacedLaws.{placed}
+use Rattle.hb_ops.proofs.Facts.ListLaws.{only_one}
+use Rattle.hb_ops.proofs.Facts.CutLeafLaws.{StemsFrom}
+use Rattle.hb_ops.proofs.Facts.StemLaws.{fresh_stems, source_stems, PartLaws}
+use Rattle.hb_ops.proofs.Facts.PlacedLaws.{placed}
 
 -- what passes stays among what a filter keeps
 filter_keeps : {X : Type 0} (p : X → Bool) (xs : List X) (x : X) → Contains xs x → p x ≡ true → Contains (filter p xs) x

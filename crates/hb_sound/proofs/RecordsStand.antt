@@ -27,7 +27,7 @@ use Rattle.hb_ops.specs.Standing.{StandsThere}
 use Rattle.hb_sound.specs.PointWalks.{IsPointOf}
 use Rattle.hb_sound.proofs.OneLevel.{TreeLaws}
 use Rattle.hb_sound.proofs.PagePlaces.{live_there}
-use Rattle.hb_ops.specs.PlacedLaws.{placed}
+use Rattle.hb_ops.proofs.Facts.PlacedLaws.{placed}
 
 -- a leaf of a page of level 0 has the record
 pub record HasRecord (s : FileState) (r : Record) : Type 0 where

@@ -11,7 +11,7 @@ use Rattle.hb_sound.proofs.Extractions.{Extraction, LicensesExtraction}
 use Rattle.hb_ops.specs.Allocating.{Allocates, allocated}
 use Rattle.hb_sound.proofs.FileParted.{ArePartsOf, IsParted}
 use Rattle.hb_sound.proofs.PageLists.{live_few}
-use Rattle.hb_ops.specs.PageNumberLaws.{in_range, live_so, place_of}
+use Rattle.hb_ops.proofs.Facts.PageNumberLaws.{in_range, live_so, place_of}
 
 -- a chain is told by its head
 same_length : (s : FileState) (head : ℕ) (chain other : List ℕ) → IsChain s head chain → IsChain s head other → length chain ≡ length other

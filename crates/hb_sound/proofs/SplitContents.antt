@@ -19,7 +19,7 @@ use Rattle.hb_sound.specs.LawsOfOperations.{SplitsKeepContents}
 use Rattle.hb_ops.specs.Allocating.{Allocates, allocated}
 use Rattle.hb_sound.proofs.FileParted.{ArePartsOf, IsParted, after as parted_file, is_parted, parts_of}
 use Rattle.hb_sound.proofs.OneLevel.{TreeLaws}
-use Rattle.hb_ops.specs.StemLaws.{PartLaws}
+use Rattle.hb_ops.proofs.Facts.StemLaws.{PartLaws}
 use Rattle.hb_sound.proofs.Partition.{SpaceLaws, pages_have_boxes, standing_is_contents}
 use Rattle.hb_sound.proofs.RecordsParted.{AmongLeaves, ShareRecords, share_records}
 use Rattle.hb_sound.proofs.RecordsStand.{HasRecord, contents_stand, exact_points, stands_at}

@@ -17,9 +17,9 @@ use Rattle.hb_sound.proofs.CutNames.{once}
 use Rattle.hb_sound.proofs.FileParted.{ArePartsOf, IsParted, after as parted_file, is_parted, parts_of}
 use Rattle.hb_sound.proofs.OneLevel.{TreeLaws, spread}
 use Rattle.hb_sound.proofs.PagePlaces.{live_there}
-use Rattle.hb_ops.specs.StemLaws.{PartLaws}
+use Rattle.hb_ops.proofs.Facts.StemLaws.{PartLaws}
 use Rattle.hb_sound.proofs.SiblingLeaves.{named_among}
-use Rattle.hb_ops.specs.PlacedLaws.{placed}
+use Rattle.hb_ops.proofs.Facts.PlacedLaws.{placed}
 use Rattle.hb_sound.proofs.SplitChains.{counted_again, not_fresh, rooted_again, same_Some, stays_live}
 use Rattle.hb_sound.proofs.Widths.{width}
 

@@ -13,7 +13,7 @@ use Rattle.hb_ops.specs.Sound.{AreWellMade, ChildrenMatch, IsCovered, SiblingsMa
 use Rattle.hb_sound.specs.PointWalks.{IsResponsible, IsWalk, LeadsOn, Sees}
 use Rattle.hb_sound.proofs.HeldSomewhere.{WalksOn, found, holds_directly, leaf_there, some_leaf}
 use Rattle.hb_sound.proofs.OneLevel.{TreeLaws, holds_where_leaf}
-use Rattle.hb_ops.specs.PlacedLaws.{leaf_is_sibling, placed, placed_is_leaf}
+use Rattle.hb_ops.proofs.Facts.PlacedLaws.{leaf_is_sibling, placed, placed_is_leaf}
 use Rattle.hb_sound.proofs.Widths.{width}
 
 -- a walk from the page down to the one that is responsible for the point

@@ -7,7 +7,7 @@ use Rattle.hb_frag.specs.declared.leaves.Leaf.TheVariants.{Records, Child, Sibli
 use Rattle.hb_frag.specs.Trees.{Tree, Tip, Cut}
 use Rattle.hb_frag.specs.Leaves.{Placed, IsWellCut, leaves_of, siblings}
 use Rattle.hb_frag.specs.Rules.{IsSiblingTip}
-use Rattle.hb_ops.specs.PlacedLaws.{sibling_is_leaf}
+use Rattle.hb_ops.proofs.Facts.PlacedLaws.{sibling_is_leaf}
 
 abbrev pub width_between : List ℕ → List ℕ → ℕ
 width_between [] hs = 0

@@ -19,7 +19,7 @@ use Rattle.hb_split.specs.Choosing.{way_down, MayCut, AreChosen}
 use Rattle.hb_split.specs.Laws.{IsThirds, MayLeave}
 use Rattle.hb_split.proofs.Ends.{at_end, of_page, records_held}
 use Rattle.hb_split.proofs.Nexts.{parts}
-use Rattle.hb_ops.specs.LeafHalfLaws.{holds_on}
+use Rattle.hb_ops.proofs.Facts.LeafHalfLaws.{holds_on}
 
 -- the plane of a chosen cut cuts the box that its records lie in
 plane_cuts : (k axis value : ℕ) (records : List Record) (a : Area) → length a.lo ≡ k → All (λ r. Holds a r.key) records → MayCut k axis value records → Cuts a axis value

@@ -8,16 +8,16 @@ use Rattle.std.proofs.lemmas.List.Elements.{All-head, All-tail}
 use Rattle.hb_space.specs.declared.form.TheConstants.{PAGE}
 use Rattle.hb_disk.specs.Model.{DiskModel, IsDisk, Torn}
 use Rattle.hb_disk.specs.Calls.{Leaves, Becomes, IsSynced}
-use Rattle.hb_disk.specs.RunLaws.{Leaves-weaker}
+use Rattle.hb_disk.proofs.Facts.RunLaws.{Leaves-weaker}
 use Rattle.hb_disk.specs.ValueLaws.{at_value, has_value, some_same}
-use Rattle.hb_disk.specs.SyncedLaws.{IsSynced-part, IsSynced-elsewhere}
+use Rattle.hb_disk.proofs.Facts.SyncedLaws.{IsSynced-part, IsSynced-elsewhere}
 use Rattle.hb_wal.specs.Frames.{frames, frame_bytes, range, HasFrames}
 use Rattle.hb_wal.specs.Log.{Waiting, LogState, forced, left_waiting, after_force}
 use Rattle.hb_wal.specs.Forces.{HasLog, ForceLeaves}
 use Rattle.hb_layout.specs.Offsets.{slot_offset, log_start}
 use Rattle.hb_super.specs.Superblocks.{next_turn}
 use Rattle.hb_super.specs.Moments.{HasNoBody}
-use Rattle.hb_super.specs.BodyLaws.{HasNoBody-elsewhere}
+use Rattle.hb_super.proofs.Facts.BodyLaws.{HasNoBody-elsewhere}
 use Rattle.hb_frag.specs.declared.pages.Page.{Page}
 use Rattle.hb_frag.specs.Grammar.{SpellsPage}
 use Rattle.hb_layout.specs.declared.meta.Meta.{Meta}
@@ -29,8 +29,8 @@ use Rattle.hb_store.specs.States.{IsMemory, StoreState}
 use Rattle.hb_store.specs.Parts.{Parts, Leads, OpensNext, written_pages}
 use Rattle.hb_store.specs.Keeps.{StoreKeeps, OpensToFirst, last_of}
 use Rattle.hb_store.specs.Calls.{stopped_state, forced_state, with_log, durable_after, later_after}
-use Rattle.hb_store.specs.ReplayLaws.{replay-append, zeros_end}
-use Rattle.hb_store.specs.StoreLaws.{OpensHere, OpensOn, opens_first, StoreKeeps-by}
+use Rattle.hb_store.proofs.Facts.ReplayLaws.{replay-append, zeros_end}
+use Rattle.hb_store.proofs.Facts.StoreLaws.{OpensHere, OpensOn, opens_first, StoreKeeps-by}
 use Rattle.hb_store.proofs.AreaTorn.{places_kept, spelled_kept, shows_kept, opens_same, opens_more}
 
 -- The bytes open to the durable file, or to the next one where the first group's frame is there.

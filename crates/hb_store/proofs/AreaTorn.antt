@@ -5,7 +5,7 @@ use Rattle.std.proofs.lemmas.List.{append-nil}
 use Rattle.std.proofs.lemmas.List.Elements.{All-cons, All-nil}
 use Rattle.hb_space.specs.declared.form.TheConstants.{PAGE}
 use Rattle.hb_disk.specs.Model.{Torn}
-use Rattle.hb_disk.specs.TornLaws.{Torn-elsewhere}
+use Rattle.hb_disk.proofs.Facts.TornLaws.{Torn-elsewhere}
 use Rattle.hb_wal.specs.Frames.{HasFrames}
 use Rattle.hb_frag.specs.declared.pages.Page.{Page}
 use Rattle.hb_frag.specs.Grammar.{SpellsPage}
@@ -18,9 +18,9 @@ use Rattle.hb_store.specs.Replay.{Replayed, untouched, replay, MayFollow}
 use Rattle.hb_layout.specs.Offsets.{log_start, page_offset}
 use Rattle.hb_store.specs.Opening.{OpensBy, Shows, IsPageIn, log_bytes, place_bytes}
 use Rattle.hb_store.specs.Parts.{AreImagesOf}
-use Rattle.hb_store.specs.ReplayLaws.{replay-append, MayReplay-append, SpellAll-append}
+use Rattle.hb_store.proofs.Facts.ReplayLaws.{replay-append, MayReplay-append, SpellAll-append}
 use Rattle.hb_store.proofs.Shown.{Shows-after}
-use Rattle.hb_store.specs.FreshLaws.{IsNewest-elsewhere}
+use Rattle.hb_store.proofs.Facts.FreshLaws.{IsNewest-elsewhere}
 
 -- the area of a turn ends in front of the pages
 pub area_end : (turn : ℕ) (said : Meta) → log_start turn said + said.log ≤ 8192 + 2 * said.log

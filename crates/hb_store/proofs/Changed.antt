@@ -20,7 +20,7 @@ use Rattle.hb_log_codec.specs.Groups.{FitsOp}
 use Rattle.hb_store.specs.States.{AreGood, IsGoodPage, IsMemory, IsSameLayout, IsStanding, StoreState, in_memory}
 use Rattle.hb_store.specs.Calls.{IsAllowedHere, change_here, read_here}
 use Rattle.hb_store.specs.Making.{ChangesWell, IsReadable, MakesGoodPages}
-use Rattle.hb_store.specs.ReplayLists.{live_so}
+use Rattle.hb_store.proofs.Facts.ReplayLists.{live_so}
 use Rattle.hb_store.specs.Replaying.{ComesAfter, HasLimits, IsPageOf}
 use Rattle.hb_store.proofs.Counting.{high_next}
 use Rattle.hb_store.proofs.Grouped.{good_spelled}

@@ -19,18 +19,18 @@ use Rattle.hb_ops.specs.Files.{FileState, if_live, page_at, page_of}
 use Rattle.hb_ops.specs.Operations.{Change, IsAllowed, IsAllowedOn, IsLicensed, change_of, effect_of, nth_read, reads_of, with_changed_pages}
 use Rattle.hb_log_codec.specs.Groups.{FitsGroup, Logged, group_bytes}
 use Rattle.hb_store.specs.Replay.{MayFollow, Replayed, after_group, change_in, replay, set_pages, touched_read, untouched, with_images}
-use Rattle.hb_store.specs.ReplayLaws.{Leads-append, last_of-append, replay-append}
+use Rattle.hb_store.proofs.Facts.ReplayLaws.{Leads-append, last_of-append, replay-append}
 use Rattle.hb_store.specs.Opening.{IsPageIn, Shows}
 use Rattle.hb_store.specs.States.{IsGoodPage, IsMemory, IsSameLayout, IsStanding, StoreState, in_memory, is_imaged}
 use Rattle.hb_store.specs.Parts.{AreImagesOf, IsDurable, IsImaged, IsInMemory, IsWaiting, Parts, all_pages, written_pages}
 use Rattle.hb_store.specs.Keeps.{StoreKeeps, last_of}
-use Rattle.hb_store.specs.StoreLaws.{StoreKeeps-by}
+use Rattle.hb_store.proofs.Facts.StoreLaws.{StoreKeeps-by}
 use Rattle.hb_store.specs.Calls.{Commits, IsAllowedHere, change_here, read_here, with_op}
 use Rattle.hb_store.specs.Images.{group_here}
 use Rattle.hb_store.specs.Making.{MakesWell}
 use Rattle.hb_store.specs.Marks.{has_page, is_among}
-use Rattle.hb_store.specs.ReplayLists.{or_none, set_not}
-use Rattle.hb_store.specs.StayingLaws.{Commits-there, reads_in_place}
+use Rattle.hb_store.proofs.Facts.ReplayLists.{or_none, set_not}
+use Rattle.hb_store.proofs.Facts.StayingLaws.{Commits-there, reads_in_place}
 use Rattle.hb_store.proofs.Changed.{reads_numbered, same_size}
 use Rattle.hb_store.proofs.FilePages.{Reaches, pages_set}
 use Rattle.hb_store.proofs.MadeMeta.{reads_some}

@@ -23,7 +23,7 @@ use Rattle.hb_store.specs.Opening.{place_bytes}
 use Rattle.hb_store.specs.States.{IsGoodPage, IsMemory, StoreState, in_memory}
 use Rattle.hb_store.specs.Keeps.{StoreKeeps, last_of}
 use Rattle.hb_store.specs.Calls.{Fetched}
-use Rattle.hb_store.specs.StayingLaws.{was_there, reads_in_place}
+use Rattle.hb_store.proofs.Facts.StayingLaws.{was_there, reads_in_place}
 use Rattle.hb_store.specs.Stops.{IsDamagedBy, IsNoPage}
 use Rattle.hb_store.specs.Fetching.{HoldsNot, with_held}
 use Rattle.hb_store.specs.declared.stops.FetchStop.{FetchStop}

@@ -6,9 +6,9 @@ use Rattle.std.proofs.lemmas.List.Elements.{All-head, All-tail}
 use Rattle.hb_frag.specs.declared.pages.Page.{Page}
 use Rattle.hb_ops.specs.Files.{page_at}
 use Rattle.hb_ops.specs.Operations.{with_page, with_changed_pages}
-use Rattle.hb_ops.specs.PageNumberLaws.{get-set_other, get-set_same, page_at-suc, page_at-zero, with_page-behind, with_page-there}
+use Rattle.hb_ops.proofs.Facts.PageNumberLaws.{get-set_other, get-set_same, page_at-suc, page_at-zero, with_page-behind, with_page-there}
 use Rattle.hb_store.specs.Replay.{set_pages}
-use Rattle.hb_store.specs.ReplayLists.{set_one-same, set_one-other}
+use Rattle.hb_store.proofs.Facts.ReplayLists.{set_one-same, set_one-other}
 use Rattle.hb_store.proofs.Setting.{set_pages-same}
 
 -- a page more

@@ -1,3 +1,4 @@
+pub mod Facts
 mod Openings
 pub mod Spellings
 pub mod MadeLeaves

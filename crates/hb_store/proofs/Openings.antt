@@ -6,7 +6,7 @@ use Rattle.std.specs.FinSet as set
 use Rattle.std.proofs.lemmas.List.Elements.{All-nil}
 use Rattle.hb_disk.specs.Model.{DiskModel, IsDisk}
 use Rattle.hb_disk.specs.ValueLaws.{at_value}
-use Rattle.hb_disk.specs.SyncedLaws.{IsSynced-part}
+use Rattle.hb_disk.proofs.Facts.SyncedLaws.{IsSynced-part}
 use Rattle.hb_wal.specs.Frames.{range}
 use Rattle.hb_frag.specs.declared.pages.Page.{Page}
 use Rattle.hb_layout.specs.declared.meta.Meta.{Meta}
@@ -16,7 +16,7 @@ use Rattle.hb_layout.specs.Offsets.{log_start, file_size}
 use Rattle.hb_store.specs.Opening.{OpensBy}
 use Rattle.hb_store.specs.States.{IsMemory, IsNew, IsStanding, new_state}
 use Rattle.hb_store.specs.Keeps.{StoreKeeps, IsFresh}
-use Rattle.hb_store.specs.ReplayLaws.{opens_fresh}
+use Rattle.hb_store.proofs.Facts.ReplayLaws.{opens_fresh}
 
 -- no page is in memory, and none is imaged
 no_page : (id : ℕ) → map.get (map.empty {X = Page} {R = nat_cmp}) id ≡ None

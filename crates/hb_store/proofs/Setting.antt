@@ -8,7 +8,7 @@ use Rattle.std.proofs.lemmas.List.Elements.{All-head, All-tail}
 use Rattle.hb_frag.specs.declared.pages.Page.{Page}
 use Rattle.hb_store.specs.Marks.{has_page, is_among}
 use Rattle.hb_store.specs.Replay.{set_pages}
-use Rattle.hb_store.specs.ReplayLists.{or_none, set_not, set_one-same, set_one-other}
+use Rattle.hb_store.proofs.Facts.ReplayLists.{or_none, set_not, set_one-same, set_one-other}
 
 pub or_true : (a : Bool) → (a || true) ≡ true
 or_true true = refl

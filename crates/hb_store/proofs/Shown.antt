@@ -11,7 +11,7 @@ use Rattle.hb_ops.specs.Files.{FileState, if_live, page_of}
 use Rattle.hb_ops.specs.Operations.{Change, IsAllowed, change_of, effect_of, nth_read, reads_of}
 use Rattle.hb_log_codec.specs.Groups.{Logged}
 use Rattle.hb_store.specs.Replay.{IsAllowedIn, MayFollow, Replayed, after_group, after_op, change_in, replay, set_pages, touched_read, with_images}
-use Rattle.hb_store.specs.ReplayLists.{set_one-same, set_one-other}
+use Rattle.hb_store.proofs.Facts.ReplayLists.{set_one-same, set_one-other}
 use Rattle.hb_store.specs.Opening.{IsPageIn, Shows}
 use Rattle.hb_store.specs.Parts.{AreImagesOf, Leads}
 use Rattle.hb_store.specs.Keeps.{last_of}

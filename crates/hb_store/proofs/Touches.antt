@@ -16,7 +16,7 @@ use Rattle.hb_ops.specs.declared.operations.Op.TheVariants.{Put, Del, Extract, P
 use Rattle.hb_ops.specs.Operations.{IsAllowedOn, change_of, reads_of}
 use Rattle.hb_log_codec.specs.Groups.{Logged, FitsGroup, FitsOp}
 use Rattle.hb_store.specs.Replay.{Replayed, with_images, IsAllowedIn, MayFollow, after_group, after_op, change_in, touched_read}
-use Rattle.hb_store.specs.ReplayLists.{live_so}
+use Rattle.hb_store.proofs.Facts.ReplayLists.{live_so}
 use Rattle.hb_store.specs.Replaying.{AreItsPages, ComesAfter, HasLimits, IsPageOf, with_pages}
 use Rattle.hb_store.specs.Making.{IsReadable, MakesGoodPages}
 use Rattle.hb_store.proofs.Grouped.{good_spelled}

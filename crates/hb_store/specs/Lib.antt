@@ -12,13 +12,8 @@ pub mod Calls
 pub mod Stops
 pub mod Images
 pub mod Marks
-pub mod ReplayLists
-pub mod ReplayLaws
-pub mod StoreLaws
-pub mod FreshLaws
 pub mod Fetching
 pub mod ImageLaws
 pub mod Replaying
 pub mod Making
 pub mod NextPage
-pub mod StayingLaws

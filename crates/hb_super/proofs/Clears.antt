@@ -3,12 +3,12 @@ use Rattle.std.proofs.Common.{◌≡◌, ◌≢◌, ◌⊎◌, inl, inr, ℕ, �
 use Rattle.hb_space.specs.declared.form.TheConstants.{PAGE}
 use Rattle.hb_disk.specs.Model.{DiskModel, IsDisk, overwritten, Torn}
 use Rattle.hb_disk.specs.Calls.{Writes, Syncs, Ticks, Leaves, Becomes, IsSynced, Apart, OnlyReads, open_gate}
-use Rattle.hb_disk.specs.TornLaws.{Torn-same, Torn-itself, Torn-elsewhere}
-use Rattle.hb_disk.specs.OverwrittenLaws.{overwritten-reads}
-use Rattle.hb_disk.specs.RunLaws.{one_tick, Leaves-start, Leaves-call, Leaves-read, Leaves-then, Leaves-weaker}
+use Rattle.hb_disk.proofs.Facts.TornLaws.{Torn-same, Torn-itself, Torn-elsewhere}
+use Rattle.hb_disk.proofs.Facts.OverwrittenLaws.{overwritten-reads}
+use Rattle.hb_disk.proofs.Facts.RunLaws.{one_tick, Leaves-start, Leaves-call, Leaves-read, Leaves-then, Leaves-weaker}
 use Rattle.hb_disk.specs.ValueLaws.{some_same, some_value, at_value, of_value, if_value}
-use Rattle.hb_disk.specs.BecomesLaws.{told_written, Becomes-read, Becomes-write, Becomes-torn, Becomes-torn_sync}
-use Rattle.hb_disk.specs.SyncedLaws.{part_of}
+use Rattle.hb_disk.proofs.Facts.BecomesLaws.{told_written, Becomes-read, Becomes-write, Becomes-torn, Becomes-torn_sync}
+use Rattle.hb_disk.proofs.Facts.SyncedLaws.{part_of}
 use Rattle.hb_layout.specs.declared.meta.Meta.{Meta}
 use Rattle.hb_layout.specs.Offsets.{slot_offset}
 use Rattle.hb_super.specs.Superblocks.{IsLegal, IsNewest, body_bytes, next_turn}

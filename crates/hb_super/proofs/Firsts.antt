@@ -2,7 +2,7 @@
 use Rattle.std.proofs.Common.{◌≡◌, ◌≢◌, inr, ℕ, ◌≤◌, List, ◌∷◌, length, get_or, sym, ap, ◌∙◌, subst, arith}
 use Rattle.hb_disk.specs.Model.{overwritten}
 use Rattle.hb_disk.specs.Calls.{open_gate}
-use Rattle.hb_disk.specs.OverwrittenLaws.{overwritten-outside}
+use Rattle.hb_disk.proofs.Facts.OverwrittenLaws.{overwritten-outside}
 use Rattle.hb_layout.specs.declared.meta.Meta.{Meta}
 use Rattle.hb_layout.specs.Offsets.{slot_offset}
 use Rattle.hb_super.specs.Superblocks.{IsLegal, IsNewest, body_bytes}

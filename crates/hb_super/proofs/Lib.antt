@@ -1,3 +1,4 @@
+pub mod Facts
 mod Bodies
 mod Supers
 mod Writes

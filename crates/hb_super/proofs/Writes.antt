@@ -6,12 +6,12 @@ use Rattle.std.proofs.lemmas.List.{ext_get_or}
 use Rattle.hb_outside.specs.Numbers.{big_endian}
 use Rattle.hb_disk.specs.Model.{DiskModel, IsDisk, overwritten, Torn}
 use Rattle.hb_disk.specs.Calls.{Ticks, Writes, Syncs, Leaves, Becomes, IsSynced, FrameOrNot, Apart, open_gate}
-use Rattle.hb_disk.specs.TornLaws.{cases_range, Torn-itself, Torn-wider, Torn-twice, Torn-elsewhere}
-use Rattle.hb_disk.specs.OverwrittenLaws.{length-overwritten, overwritten-inside, overwritten-outside, overwritten-reads}
-use Rattle.hb_disk.specs.RunLaws.{one_tick, Leaves-start, Leaves-call, Leaves-weaker, Leaves-then}
+use Rattle.hb_disk.proofs.Facts.TornLaws.{cases_range, Torn-itself, Torn-wider, Torn-twice, Torn-elsewhere}
+use Rattle.hb_disk.proofs.Facts.OverwrittenLaws.{length-overwritten, overwritten-inside, overwritten-outside, overwritten-reads}
+use Rattle.hb_disk.proofs.Facts.RunLaws.{one_tick, Leaves-start, Leaves-call, Leaves-weaker, Leaves-then}
 use Rattle.hb_disk.specs.ValueLaws.{some_same, some_value, at_value, has_value}
-use Rattle.hb_disk.specs.BecomesLaws.{told_written, Becomes-torn, Becomes-torn_write, Becomes-torn_sync}
-use Rattle.hb_disk.specs.SyncedLaws.{only_told, part_of}
+use Rattle.hb_disk.proofs.Facts.BecomesLaws.{told_written, Becomes-torn, Becomes-torn_write, Becomes-torn_sync}
+use Rattle.hb_disk.proofs.Facts.SyncedLaws.{only_told, part_of}
 use Rattle.hb_layout.specs.declared.meta.Meta.{Meta}
 use Rattle.hb_layout.specs.Offsets.{slot_offset}
 use Rattle.hb_super.specs.Superblocks.{IsLegal, HasSuper, IsNewest, body_bytes, next_turn}

@@ -3,4 +3,3 @@ pub mod Reading
 pub mod Moments
 pub mod Hidden
 pub mod SuperLaws
-pub mod BodyLaws

@@ -1,3 +1,4 @@
+pub mod Facts
 pub mod NumberWords
 pub mod WordCuts
 pub mod StepWords

@@ -6,7 +6,8 @@ use Rattle.std.proofs.lemmas.List.{take-append-drop, flat_map_more}
 use Rattle.std.proofs.lemmas.Grind.{flat_map-append, take_at_read}
 use Rattle.hb_outside.specs.Streams.{AppendsFront}
 use Rattle.hb_text.specs.Output.{numbers_text, order_text}
-use Rattle.hb_text.specs.OutputLaws.{Waits, Waits-more, Waits-then, Waits-front, AppendsFront-longer}
+use Rattle.hb_text.specs.OutputLaws.{Waits}
+use Rattle.hb_text.proofs.Facts.OutputLaws.{Waits-more, Waits-then, Waits-front, AppendsFront-longer}
 
 -- numbers that end early are a front of all
 pub numbers_end_early : (a c : Option (List ℕ)) (before ns : List ℕ) (i : ℕ) → AppendsFront a c (before ++ numbers_text (take i ns)) → AppendsFront a c (before ++ numbers_text ns)

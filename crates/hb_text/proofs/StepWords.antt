@@ -10,7 +10,7 @@ use Rattle.hb_text.specs.declared.rules.TextRule.TheVariants.{BadStep}
 use Rattle.hb_text.specs.Numbers.{is_number, number_read}
 use Rattle.hb_text.specs.StepWords.{actor_of, count_number, repeated, steps_of_parts, word_steps, joined_steps, steps_of, within_schedule, steps_read}
 use Rattle.hb_text.specs.Steps.{left_after, then_left, steps_left}
-use Rattle.hb_text.specs.ReadingLaws.{chosen}
+use Rattle.hb_text.proofs.Facts.ReadingLaws.{chosen}
 use Rattle.hb_text.proofs.WordCuts.{cut_at, cut_nowhere, made}
 
 abbrev parts : List ℕ → List (List ℕ)

@@ -12,16 +12,5 @@ pub mod Operands
 pub mod Steps
 pub mod Output
 pub mod Reading
-pub mod ScriptLaws
-pub mod ReadingLaws
-pub mod CommandLaws
-pub mod LineLaws
-pub mod StepLaws
-pub mod ActorLaws
-pub mod TextLength
-pub mod TextFront
-pub mod FirstLineFeed
 pub mod OutputLaws
 pub mod TextLaws
-pub mod NumberLaws
-pub mod WordLaws

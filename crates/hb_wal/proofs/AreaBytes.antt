@@ -4,8 +4,8 @@ use Rattle.std.proofs.Common.{◌≡◌, inl, inr, ℕ, zero, suc, ◌+◌, ◌-
 use Rattle.std.proofs.lemmas.List.{take_at, ext_get_or, get_or-take, get_or-drop, append-nil, drop-replicate}
 use Rattle.std.proofs.Math.Seq.{drop-append-add}
 use Rattle.hb_disk.specs.Model.{overwritten}
-use Rattle.hb_disk.specs.TornLaws.{cases_range}
-use Rattle.hb_disk.specs.OverwrittenLaws.{length-overwritten, overwritten-inside, overwritten-outside}
+use Rattle.hb_disk.proofs.Facts.TornLaws.{cases_range}
+use Rattle.hb_disk.proofs.Facts.OverwrittenLaws.{length-overwritten, overwritten-inside, overwritten-outside}
 use Rattle.hb_wal.specs.Frames.{frames, frame_bytes, IsEnd, range}
 
 -- a byte of a range

@@ -3,12 +3,12 @@ use Rattle.std.proofs.Common.{◌≡◌, ◌+◌, ◌-◌, ◌≤◌, ℕ, List,
 use Rattle.std.proofs.lemmas.List.{length-replicate}
 use Rattle.hb_disk.specs.Model.{DiskModel, IsDisk, Torn, overwritten}
 use Rattle.hb_disk.specs.Calls.{Becomes, Leaves, Syncs, Ticks, Writes}
-use Rattle.hb_disk.specs.TornLaws.{Torn-itself}
-use Rattle.hb_disk.specs.RunLaws.{Leaves-start, Leaves-call}
-use Rattle.hb_disk.specs.SyncedLaws.{IsSynced-sync}
+use Rattle.hb_disk.proofs.Facts.TornLaws.{Torn-itself}
+use Rattle.hb_disk.proofs.Facts.RunLaws.{Leaves-start, Leaves-call}
+use Rattle.hb_disk.proofs.Facts.SyncedLaws.{IsSynced-sync}
 use Rattle.hb_disk.specs.ValueLaws.{if_value, some_same}
-use Rattle.hb_disk.specs.BecomesLaws.{Becomes-torn, Becomes-torn_sync, Becomes-torn_write, told_written}
-use Rattle.hb_disk.specs.OverwrittenLaws.{overwritten-reads}
+use Rattle.hb_disk.proofs.Facts.BecomesLaws.{Becomes-torn, Becomes-torn_sync, Becomes-torn_write, told_written}
+use Rattle.hb_disk.proofs.Facts.OverwrittenLaws.{overwritten-reads}
 use Rattle.hb_wal.specs.Frames.{range}
 use Rattle.hb_wal.specs.Forces.{HasLog}
 

@@ -7,10 +7,10 @@ use Rattle.std.proofs.lemmas.List.{take_at, take-take, take-append-drop, drop_mo
 use Rattle.std.proofs.lemmas.List.Elements.{All-head, All-append, All-cons, All-nil}
 use Rattle.hb_disk.specs.Model.{DiskModel, IsDisk, overwritten, Torn}
 use Rattle.hb_disk.specs.Calls.{Leaves, FrameOrNot, Becomes, open_gate}
-use Rattle.hb_disk.specs.TornLaws.{Torn-itself, Torn-wider, Torn-elsewhere}
-use Rattle.hb_disk.specs.RunLaws.{Leaves-start, Leaves-weaker}
+use Rattle.hb_disk.proofs.Facts.TornLaws.{Torn-itself, Torn-wider, Torn-elsewhere}
+use Rattle.hb_disk.proofs.Facts.RunLaws.{Leaves-start, Leaves-weaker}
 use Rattle.hb_disk.specs.ValueLaws.{at_value, of_value, if_value}
-use Rattle.hb_disk.specs.BecomesLaws.{Becomes-weaker}
+use Rattle.hb_disk.proofs.Facts.BecomesLaws.{Becomes-weaker}
 use Rattle.hb_wal.specs.Frames.{frames, frame_bytes, frame_body, IsPayload, IsEnd, HasFrames, range}
 use Rattle.hb_wal.specs.Log.{Waiting, LogState, IsLog, BeginsWith, forced, after_force, framed_bytes, pending_bytes}
 use Rattle.hb_wal.specs.Forces.{HasLog, ForceLeaves}

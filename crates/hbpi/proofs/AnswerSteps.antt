@@ -3,7 +3,7 @@
 use Rattle.std.proofs.Common.{◌≡◌, inl, inr, ℕ, ◌+◌, ◌<◌, List, [], ◌∷◌, ◌++◌, length, Option, Some, None, IsSome, refl, sym, ap, subst, arith, length-append}
 use Rattle.std.specs.Prelude.{MatchOption}
 use Rattle.hb_disk.specs.Model.{DiskModel, IsDisk}
-use Rattle.hb_disk.specs.RunLaws.{OnlyReads-none}
+use Rattle.hb_disk.proofs.Facts.RunLaws.{OnlyReads-none}
 use Rattle.hb_wal.specs.Log.{Waiting, mark_of}
 use Rattle.hb_set.specs.declared.scripts.Line.{Line}
 use Rattle.hb_set.specs.declared.commands.Reply.{Reply}

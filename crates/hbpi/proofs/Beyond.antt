@@ -2,10 +2,10 @@
 use Rattle.std.proofs.Common.{◌≡◌, ℕ, zero, suc, ◌+◌, ◌*◌, ◌%◌, ◌≤◌, IfSome, sym, subst, arith}
 use Rattle.hb_disk.specs.Model.{DiskModel, IsDisk, Torn}
 use Rattle.hb_disk.specs.Calls.{Becomes, OnlyReads}
-use Rattle.hb_disk.specs.RunLaws.{OnlyReads-none}
+use Rattle.hb_disk.proofs.Facts.RunLaws.{OnlyReads-none}
 use Rattle.hb_disk.specs.ValueLaws.{at_value}
-use Rattle.hb_disk.specs.BecomesLaws.{Becomes-read, Becomes-torn, Becomes-weaker}
-use Rattle.hb_disk.specs.TornLaws.{Torn-itself, Torn-wider}
+use Rattle.hb_disk.proofs.Facts.BecomesLaws.{Becomes-read, Becomes-torn, Becomes-weaker}
+use Rattle.hb_disk.proofs.Facts.TornLaws.{Torn-itself, Torn-wider}
 use Rattle.hb_super.specs.Superblocks.{IsNewest}
 use Rattle.hb_layout.specs.declared.meta.Meta.{Meta}
 use Rattle.hb_layout.specs.Offsets.{file_size, log_start}

@@ -22,7 +22,7 @@ use Rattle.hb_set.specs.Machine.{RecordSet, reply_of, set_after}
 use Rattle.hb_store.specs.States.{StoreState}
 use Rattle.hb_store.specs.Keeps.{StoreKeeps, last_of}
 use Rattle.hb_store.specs.Calls.{Commits, IsReady, with_op}
-use Rattle.hb_store.specs.ReplayLaws.{last_of-append}
+use Rattle.hb_store.proofs.Facts.ReplayLaws.{last_of-append}
 use Rattle.hbpi.specs.declared.engine.session.Session.TheVariants as sessions
 use Rattle.hbpi.specs.declared.engine.session.Outcome.{Outcome}
 use Rattle.hbpi.specs.declared.engine.session.Outcome.TheVariants as outcomes

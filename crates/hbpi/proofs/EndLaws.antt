@@ -2,10 +2,10 @@
 use Rattle.std.proofs.Common.{◌≡◌, ℕ, ◌⊎◌, inl, inr, Bool, false, List, length, take, Option, Some, None, Result, Ok, Err, refl, sym, ap, subst, ◌∙◌, arith, drop, ◌<◌, ◌≤◌, length-take, take-append-drop}
 use Rattle.std.proofs.lemmas.List.{take_all}
 use Rattle.std.proofs.lemmas.Bool.{cases_lt}
-use Rattle.hb_text.specs.TextFront.{front_is_all}
+use Rattle.hb_text.proofs.Facts.TextFront.{front_is_all}
 use Rattle.hb_text.specs.declared.rules.BadLine.{BadLine}
 use Rattle.hb_text.specs.Grammar.{Reading, text_read}
-use Rattle.hb_text.specs.TextLength.{text_is_short}
+use Rattle.hb_text.proofs.Facts.TextLength.{text_is_short}
 use Rattle.hbpi.specs.declared.forms.Form.{Form}
 use Rattle.hbpi.specs.declared.forms.Form.TheVariants.{Create, Dry}
 use Rattle.hbpi.specs.declared.statuses.Status.{Status}

@@ -2,9 +2,9 @@
 use Rattle.std.proofs.Common.{◌≡◌, inl, inr, ℕ, [], refl, sym, ap, subst, ◌∙◌}
 use Rattle.hb_disk.specs.Model.{DiskModel, IsDisk, Torn}
 use Rattle.hb_disk.specs.Calls.{Becomes, OnlyReads}
-use Rattle.hb_disk.specs.RunLaws.{OnlyReads-none}
-use Rattle.hb_disk.specs.BecomesLaws.{Becomes-read, Becomes-torn}
-use Rattle.hb_disk.specs.TornLaws.{Torn-itself}
+use Rattle.hb_disk.proofs.Facts.RunLaws.{OnlyReads-none}
+use Rattle.hb_disk.proofs.Facts.BecomesLaws.{Becomes-read, Becomes-torn}
+use Rattle.hb_disk.proofs.Facts.TornLaws.{Torn-itself}
 use Rattle.hb_wal.specs.Log.{LogState}
 use Rattle.hb_store.specs.Calls.{Fetched}
 use Rattle.hb_store.specs.States.{IsNew, StoreState}

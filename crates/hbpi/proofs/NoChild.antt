@@ -7,7 +7,7 @@ use Rattle.hb_frag.specs.declared.leaves.Leaf.TheVariants.{Child}
 use Rattle.hb_frag.specs.Leaves.{leaves, leaves_of}
 use Rattle.hb_frag.specs.Rules.{BelongsAt}
 use Rattle.hb_frag.specs.Trees.{Tree}
-use Rattle.hb_ops.specs.PlacedLaws.{placed, placed_is_leaf}
+use Rattle.hb_ops.proofs.Facts.PlacedLaws.{placed, placed_is_leaf}
 
 pub no_child : (tree : Tree) (area : Area) (name : ℕ) (a : Area) → All (BelongsAt 0) (leaves tree) → Contains (leaves_of tree area) (placed (Child name) a) → ⊥
 no_child tree area name a all h =

@@ -30,9 +30,9 @@ use Rattle.hbpi.specs.Plans.{DeletesBy, InsertsBy, LooksBy, PlansOn}
 use Rattle.hbpi.specs.declared.engine.plans.Plan.{Plan}
 use Rattle.hbpi.specs.declared.engine.plans.Plan.TheVariants as plans
 use Rattle.hbpi.proofs.Lone.{own_or}
-use Rattle.hb_ops.specs.PageNumberLaws.{live_so}
+use Rattle.hb_ops.proofs.Facts.PageNumberLaws.{live_so}
 use Rattle.hbpi.proofs.NoChild.{no_child}
-use Rattle.hb_ops.specs.PlacedLaws.{placed}
+use Rattle.hb_ops.proofs.Facts.PlacedLaws.{placed}
 
 none_or_some : {X : Type 0} (o : Option X) (x : X) → o ≡ None → o ≡ Some x → ⊥
 none_or_some o x a b = let never : None ≡ Some x = sym a ∙ b in cc

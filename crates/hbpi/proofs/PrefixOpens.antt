@@ -3,14 +3,14 @@ use Rattle.std.proofs.Common.{◌≡◌, inl, inr, ℕ, ◌≤◌, List, [], ◌
 use Rattle.std.proofs.lemmas.List.{take_all, length-map}
 use Rattle.hb_disk.specs.Model.{DiskModel, IsDisk}
 use Rattle.hb_disk.specs.Calls.{Leaves, OnlyReads}
-use Rattle.hb_disk.specs.RunLaws.{Leaves-start, Leaves-read, Leaves-weaker}
+use Rattle.hb_disk.proofs.Facts.RunLaws.{Leaves-start, Leaves-read, Leaves-weaker}
 use Rattle.hb_wal.specs.Log.{Waiting, mark_of}
 use Rattle.hb_ops.specs.Files.{FileState}
 use Rattle.hb_set.specs.declared.scripts.Line.{Line}
 use Rattle.hb_set.specs.Machine.{RecordSet}
 use Rattle.hb_store.specs.Opening.{OpensTo}
 use Rattle.hb_store.specs.Keeps.{OpensToFirst, last_of}
-use Rattle.hb_store.specs.StoreLaws.{StoreKeeps-opens, StoreKeeps-one, StoreKeeps-alone}
+use Rattle.hb_store.proofs.Facts.StoreLaws.{StoreKeeps-opens, StoreKeeps-one, StoreKeeps-alone}
 use Rattle.hbpi.specs.Core.{CoreState, settled_of}
 use Rattle.hbpi.specs.Keeping.{AwaitsOne, EngineKeeps, Grows, OpensToPrefix, set_of}
 use Rattle.hbpi.proofs.LinesDone.{grown_long, grown_take}

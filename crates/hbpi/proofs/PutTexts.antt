@@ -5,7 +5,7 @@ use Rattle.std.proofs.lemmas.Grind.{flat_map-append}
 use Rattle.hb_outside.specs.Streams.{Rose, Appends, AppendsFront}
 use Rattle.hb_set.specs.declared.scripts.Answered.{Answered}
 use Rattle.hb_text.specs.Output.{answer_text, order_text, output_text}
-use Rattle.hb_text.specs.OutputLaws.{Appends-both, Appends-front, AppendsFront-longer, Appends-none, Rose-later}
+use Rattle.hb_text.proofs.Facts.OutputLaws.{Appends-both, Appends-front, AppendsFront-longer, Appends-none, Rose-later}
 use Rattle.hbpi.specs.DryParts.{HasPutText, PutsMore, EndsBySink, EndsRun}
 use Rattle.hbpi.specs.Outcome.{IsDryRun}
 use Rattle.hb_set.specs.declared.scripts.Line.{Line}

@@ -6,7 +6,7 @@ use Rattle.std.proofs.lemmas.Grind.{flat_map-append}
 use Rattle.std.specs.List.{AllByRecursion, flat_map, list_any}
 use Rattle.hb_outside.specs.Streams.{Appends}
 use Rattle.hb_text.specs.Output.{answer_text, left_text, order_text}
-use Rattle.hb_text.specs.OutputLaws.{Appends-none}
+use Rattle.hb_text.proofs.Facts.OutputLaws.{Appends-none}
 use Rattle.hb_set.specs.Order.{AreRising}
 use Rattle.hb_set.specs.declared.scripts.Line.{Line}
 use Rattle.hb_set.specs.declared.scripts.Answered.{Answered}

@@ -8,7 +8,7 @@ use Rattle.hb_set.specs.declared.commands.Reply.{Reply}
 use Rattle.hb_set.specs.declared.commands.Reply.TheVariants.{NoMemory}
 use Rattle.hb_set.specs.Machine.{RecordSet, Answers, MayWantMemory}
 use Rattle.hb_set.specs.Order.{Ran, entries_of, with_entry, order_of}
-use Rattle.hb_set.specs.TextOrderLaws.{ran_grown, entries_of-push, ran_legal}
+use Rattle.hb_set.proofs.Facts.TextOrderLaws.{ran_grown, entries_of-push, ran_legal}
 use Rattle.hb_set.specs.Scripts.{IsScriptFor}
 use Rattle.hbpi.specs.Outcome.{IsDryRun}
 

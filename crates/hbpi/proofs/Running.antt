@@ -6,7 +6,7 @@ use Rattle.std.proofs.lemmas.Option.{slice_get_within}
 use Rattle.std.specs.List.{All, AllByRecursion, slice_get}
 use Rattle.hb_disk.specs.Model.{DiskModel, IsDisk}
 use Rattle.hb_disk.specs.Calls.{Leaves}
-use Rattle.hb_disk.specs.RunLaws.{Leaves-start, Leaves-then, Leaves-weaker}
+use Rattle.hb_disk.proofs.Facts.RunLaws.{Leaves-start, Leaves-then, Leaves-weaker}
 use Rattle.hb_ops.specs.Files.{FileState}
 use Rattle.hb_set.specs.Machine.{RecordSet, reply_of}
 use Rattle.hb_set.specs.Order.{AreRising}

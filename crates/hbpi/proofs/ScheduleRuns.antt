@@ -3,7 +3,7 @@ use Rattle.std.proofs.Common.{◌≡◌, ◌≢◌, inl, inr, ℕ, zero, suc, �
 use Rattle.hb_disk.specs.Model.{DiskModel, IsDisk}
 use Rattle.hb_layout.specs.declared.meta.Meta.{Meta}
 use Rattle.hb_disk.specs.Calls.{Leaves}
-use Rattle.hb_disk.specs.RunLaws.{Leaves-start}
+use Rattle.hb_disk.proofs.Facts.RunLaws.{Leaves-start}
 use Rattle.hb_disk.specs.ValueLaws.{at_value, if_value, has_value}
 use Rattle.hb_outside.specs.Streams.{Rose, Appends, AppendsFront}
 use Rattle.hb_ops.specs.Files.{FileState, contents_of}
@@ -16,7 +16,7 @@ use Rattle.hb_store.specs.Opening.{OpensTo, IsEven}
 use Rattle.hb_store.specs.declared.stops.StopWhy.{StopWhy}
 use Rattle.hb_store.specs.declared.stops.StopWhy.TheVariants as stops
 use Rattle.hb_store.specs.declared.stops.Why.{Why}
-use Rattle.hb_text.specs.OutputLaws.{Appends-both, Appends-front, Rose-later}
+use Rattle.hb_text.proofs.Facts.OutputLaws.{Appends-both, Appends-front, Rose-later}
 use Rattle.hbpi.specs.Core.{CoreState, settled_of}
 use Rattle.hbpi.specs.Keeping.{EngineKeeps, OpensToPrefix, set_of}
 use Rattle.hbpi.specs.StepTable.{StepsOn}

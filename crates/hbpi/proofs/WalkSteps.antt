@@ -28,8 +28,8 @@ use Rattle.hbpi.specs.Steps.{KeepsAt, with_store}
 use Rattle.hbpi.specs.declared.engine.plans.Plan.{Plan}
 use Rattle.hbpi.specs.declared.engine.plans.Plan.TheVariants as plans
 use Rattle.hbpi.proofs.LinesDone.{by_recursion_at}
-use Rattle.hb_restart.specs.LoneLaws.{live_is}
-use Rattle.hb_ops.specs.PageNumberLaws.{live_so}
+use Rattle.hb_restart.proofs.Facts.LoneLaws.{live_is}
+use Rattle.hb_ops.proofs.Facts.PageNumberLaws.{live_so}
 use Rattle.hbpi.proofs.RootPages.{no_damage}
 use Rattle.hbpi.proofs.PlansHold.{PlanHolds, plan_holds}
 use Rattle.hbpi.proofs.RefusedSteps.{FramesOnly, refused_keeps}

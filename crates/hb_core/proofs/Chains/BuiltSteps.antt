@@ -43,7 +43,7 @@ use Rattle.hb_store.specs.Images.{group_here, images_needed}
 use Rattle.hb_store.specs.Keeps.{last_of}
 use Rattle.hb_store.specs.Marks.{has_page, is_among}
 use Rattle.hb_store.specs.Replay.{set_pages}
-use Rattle.hb_store.specs.ReplayLists.{set_not}
+use Rattle.hb_store.proofs.Facts.ReplayLists.{set_not}
 use Rattle.hb_store.specs.States.{IsGoodPage, StoreState, in_memory, is_imaged}
 use Rattle.hb_wal.specs.Forces.{calls_of_force}
 use Rattle.hb_wal.specs.Frames.{frames}

@@ -18,7 +18,7 @@ use Rattle.hb_frag.proofs.Tiles.{leaves_placed}
 use Rattle.hb_frag.specs.Leaves.{Placed, child_names, first_at, first_named, leaf_at, leaves, leaves_of, siblings_of}
 use Rattle.hb_frag.specs.Trees.{Tree, Tip, Cut}
 use Rattle.hb_ops.specs.Files.{FileState, live_page}
-use Rattle.hb_ops.specs.PlacedLaws.{leaf_is_sibling, placed}
+use Rattle.hb_ops.proofs.Facts.PlacedLaws.{leaf_is_sibling, placed}
 use Rattle.hb_ops.specs.Sound.{IsSound}
 use Rattle.hb_space.specs.Boxes.{Area, holds, side_below, side_from, whole_area}
 

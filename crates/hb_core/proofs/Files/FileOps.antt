@@ -19,7 +19,7 @@ use Rattle.hb_frag.specs.Trees.{Tip}
 use Rattle.hb_log_codec.specs.Groups.{FitsOp}
 use Rattle.hb_ops.specs.Files.{FileState, if_live, page_at, page_of}
 use Rattle.hb_ops.specs.Operations.{Change, IsAllowed, IsAllowedOn, IsLicensed, OpHas, change_of, effect_of, nth_read, reads_of, with_changed_pages}
-use Rattle.hb_ops.specs.PageNumberLaws.{page_at-zero}
+use Rattle.hb_ops.proofs.Facts.PageNumberLaws.{page_at-zero}
 use Rattle.hb_ops.specs.Posting.{GaveAway}
 use Rattle.hb_ops.specs.Sound.{IsSound}
 use Rattle.hb_space.specs.Boxes.{Area, Holds}

@@ -14,7 +14,7 @@ use Rattle.hb_store.proofs.Counting.{high_next}
 use Rattle.hb_store.proofs.MadeMeta.{comes_after, made_numbered, reads_some, some_page}
 use Rattle.hb_store.specs.Making.{MakesGoodPages}
 use Rattle.hb_store.specs.Replay.{set_pages}
-use Rattle.hb_store.specs.ReplayLists.{set_one-same}
+use Rattle.hb_store.proofs.Facts.ReplayLists.{set_one-same}
 use Rattle.hb_store.specs.Replaying.{ComesAfter, HasLimits, IsPageOf}
 use Rattle.hb_store.specs.States.{AreGood, IsGoodPage}
 

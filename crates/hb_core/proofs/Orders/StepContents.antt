@@ -43,7 +43,7 @@ use Rattle.hb_space.specs.Points.{point_cmp}
 use Rattle.hb_store.specs.Calls.{durable_after, later_after}
 use Rattle.hb_store.specs.Keeps.{last_of}
 use Rattle.hb_store.specs.Making.{HaveFittingParts, MakesGoodPages}
-use Rattle.hb_store.specs.ReplayLaws.{last_of-append}
+use Rattle.hb_store.proofs.Facts.ReplayLaws.{last_of-append}
 use Rattle.hb_store.specs.States.{StoreState}
 
 -- ---- what an operation does

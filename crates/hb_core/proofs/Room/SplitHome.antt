@@ -15,14 +15,14 @@ use Rattle.hb_frag.specs.Leaves.{DirectlyHolds, Placed, leaf_at, leaves, leaves_
 use Rattle.hb_frag.specs.Rules.{BelongsAt, IsInOrder}
 use Rattle.hb_frag.specs.Trees.{Tree, Tip}
 use Rattle.hb_ops.proofs.Tips.{first_held}
-use Rattle.hb_ops.specs.CutLeafLaws.{StemsFrom}
+use Rattle.hb_ops.proofs.Facts.CutLeafLaws.{StemsFrom}
 use Rattle.hb_ops.specs.Cutting.{area_on, cut_through, cut_with, going, half_area, reached, staying}
 use Rattle.hb_ops.specs.Extracting.{FitsPart, fresh_page, source_page}
-use Rattle.hb_ops.specs.PartedPageLaws.{fresh_made, source_made}
-use Rattle.hb_ops.specs.PlacedLaws.{leaf_is_sibling, placed, placed_is_leaf, sibling_is_leaf}
+use Rattle.hb_ops.proofs.Facts.PartedPageLaws.{fresh_made, source_made}
+use Rattle.hb_ops.proofs.Facts.PlacedLaws.{leaf_is_sibling, placed, placed_is_leaf, sibling_is_leaf}
 use Rattle.hb_ops.specs.Sound.{FitsFile}
 use Rattle.hb_ops.specs.Standing.{StandsNot}
-use Rattle.hb_ops.specs.StemLaws.{PartLaws, fresh_stems, source_stems, stretch}
+use Rattle.hb_ops.proofs.Facts.StemLaws.{PartLaws, fresh_stems, source_stems, stretch}
 use Rattle.hb_sound.proofs.OneLevel.{TreeLaws}
 use Rattle.hb_sound.proofs.PagesParted.{stems_sibling}
 use Rattle.hb_space.specs.Boxes.{Area, Holds, IsArea}

@@ -8,7 +8,7 @@ use Rattle.hb_frag.proofs.Parts.{weight_cut}
 use Rattle.hb_frag.specs.Leaves.{weight_of}
 use Rattle.hb_frag.specs.Trees.{Tree, Tip}
 use Rattle.hb_ops.specs.Cutting.{PartLeaves, PartsLeaf, cut_through, cut_with, going, half_area, reached, staying}
-use Rattle.hb_ops.specs.LeafHalfLaws.{both_halves}
+use Rattle.hb_ops.proofs.Facts.LeafHalfLaws.{both_halves}
 use Rattle.hb_space.specs.Boxes.{Area}
 
 -- ---- what stays, and what leaves

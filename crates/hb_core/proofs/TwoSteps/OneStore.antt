@@ -1,5 +1,5 @@
 -- A deed that is done over two fetches from one machine leads to machines that are one but for the pages in memory.
-use Rattle.hb_store.specs.StayingLaws.{Commits-there}
+use Rattle.hb_store.proofs.Facts.StayingLaws.{Commits-there}
 use Rattle.std.proofs.Common.{◌≡◌, ◌⊎◌, inl, inr, ℕ, ◌==◌, Bool, true, false, cond, ◌||◌, ◌++◌, List, [], ◌∷◌, length, Option, Some, None, IfSome, refl, sym, ap, ◌∙◌, subst}
 use Rattle.std.proofs.lemmas.Bool.{cases_eq}
 use Rattle.std.proofs.lemmas.Cmp.{nat_cmp_total}

@@ -44,7 +44,7 @@ use Rattle.hb_frag.specs.Leaves.{Placed, first_named, leaf_at, leaves, leaves_of
 use Rattle.hb_frag.specs.Rules.{BelongsAt}
 use Rattle.hb_latch.specs.Tables.{MayLatch}
 use Rattle.hb_ops.specs.Files.{if_live}
-use Rattle.hb_ops.specs.PlacedLaws.{leaf_is_sibling, placed, placed_is_leaf}
+use Rattle.hb_ops.proofs.Facts.PlacedLaws.{leaf_is_sibling, placed, placed_is_leaf}
 use Rattle.hb_space.specs.Boxes.{Area, volume}
 use Rattle.hb_store.specs.States.{IsGoodPage, StoreState, in_memory}
 

@@ -33,7 +33,7 @@ use Rattle.hb_core.specs.WaitingLaws.{ComesLater, Promotes, WantedComesLater, Wa
 use Rattle.hb_frag.specs.Leaves.{Placed, first_named, leaf_at, leaves, leaves_of, siblings_of}
 use Rattle.hb_latch.specs.Tables.{MayLatch}
 use Rattle.hb_ops.specs.Files.{FileState, if_live, live_page}
-use Rattle.hb_ops.specs.PlacedLaws.{leaf_is_sibling, placed}
+use Rattle.hb_ops.proofs.Facts.PlacedLaws.{leaf_is_sibling, placed}
 use Rattle.hb_ops.specs.Sound.{IsSound}
 use Rattle.hb_space.specs.Boxes.{Area, volume}
 use Rattle.hb_store.specs.States.{in_memory}

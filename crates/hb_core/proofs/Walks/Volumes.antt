@@ -7,7 +7,7 @@ use Rattle.hb_frag.specs.declared.leaves.Leaf.TheVariants.{Records, Child, Sibli
 use Rattle.hb_frag.specs.Leaves.{Placed, IsWellCut, leaves_of, siblings}
 use Rattle.hb_frag.specs.Rules.{IsSiblingTip}
 use Rattle.hb_frag.specs.Trees.{Tree, Tip, Cut}
-use Rattle.hb_ops.specs.PlacedLaws.{sibling_is_leaf}
+use Rattle.hb_ops.proofs.Facts.PlacedLaws.{sibling_is_leaf}
 use Rattle.hb_space.specs.Boxes.{Area, Cuts, side_below, side_from, volume, volume_between}
 
 some_points : (lo hi : List ℕ) → 0 < volume_between lo hi

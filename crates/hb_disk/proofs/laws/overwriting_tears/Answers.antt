@@ -1,4 +1,4 @@
-use Rattle.hb_disk.specs.OverwrittenLaws.{Torn-overwritten, overwritten-reads}
+use Rattle.hb_disk.proofs.Facts.OverwrittenLaws.{Torn-overwritten, overwritten-reads}
 use Rattle.hb_disk.proofs.laws.overwriting_tears.Goals as goal
 
 pub returns-clause-torn : goal.returns-clause-torn

@@ -1,4 +1,4 @@
-use Rattle.hb_disk.specs.TornLaws.{Torn-twice, Torn-wider, Torn-none, Torn-elsewhere}
+use Rattle.hb_disk.proofs.Facts.TornLaws.{Torn-twice, Torn-wider, Torn-none, Torn-elsewhere}
 use Rattle.hb_disk.proofs.laws.tearing_adds_up.Goals as goal
 
 pub returns-clause-twice : goal.returns-clause-twice

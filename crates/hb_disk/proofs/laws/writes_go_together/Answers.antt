@@ -1,4 +1,4 @@
-use Rattle.hb_disk.specs.TwoPieceLaws.{overwritten-apart, overwritten-joined}
+use Rattle.hb_disk.proofs.Facts.TwoPieceLaws.{overwritten-apart, overwritten-joined}
 use Rattle.hb_disk.proofs.laws.writes_go_together.Goals as goal
 
 pub returns-clause-apart : goal.returns-clause-apart

@@ -3,7 +3,7 @@ use Rattle.std.proofs.lemmas.Result.{err_from_is_err_and}
 use Rattle.hb_page_codec.specs.Reading.{many_at}
 use Rattle.hb_log_codec.specs.Fields.{side_at}
 use Rattle.hb_log_codec.proofs.Loops.{stops_for}
-use Rattle.hb_page_codec.specs.LoopLaws.{goes_on, is_done, starts}
+use Rattle.hb_page_codec.proofs.Facts.LoopLaws.{goes_on, is_done, starts}
 use Rattle.hb_log_codec.proofs.fields.steps_of.Goals as goal
 
 pub loop-init : goal.loop-init

@@ -1,7 +1,7 @@
 use Rattle.std.proofs.Common.{◌≡◌, ◌-◌}
 use Rattle.hb_page_codec.specs.Reading.{many_at}
 use Rattle.hb_log_codec.specs.Fields.{side_at}
-use Rattle.hb_page_codec.specs.LoopLaws.{with_front}
+use Rattle.hb_page_codec.proofs.Facts.LoopLaws.{with_front}
 use Rattle.hb_log_codec.proofs.fields.steps_of.Given as goal
 
 -- what was read so far, and what is still read, is all

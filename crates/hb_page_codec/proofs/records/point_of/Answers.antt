@@ -1,7 +1,7 @@
 use Rattle.std.proofs.Common.{◌∷◌, [], List, ℕ, Some, length, length-append, sym, ap, ◌∙◌, arith}
 use Rattle.hb_page_codec.specs.Reading.{number_at}
 use Rattle.hb_page_codec.specs.ReadingFields.{point_at}
-use Rattle.hb_page_codec.specs.LoopLaws.{goes_on, stops, is_done}
+use Rattle.hb_page_codec.proofs.Facts.LoopLaws.{goes_on, stops, is_done}
 use Rattle.hb_page_codec.proofs.records.point_of.Goals as goal
 
 pub returns-in_err-value-clause-reads : goal.returns-in_err-value-clause-reads

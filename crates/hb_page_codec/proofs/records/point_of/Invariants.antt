@@ -1,7 +1,7 @@
 use Rattle.std.proofs.Common.{◌≡◌, ◌-◌, length}
 use Rattle.hb_page_codec.specs.Reading.{number_at, many_at}
 use Rattle.hb_page_codec.specs.ReadingFields.{point_at}
-use Rattle.hb_page_codec.specs.LoopLaws.{with_front}
+use Rattle.hb_page_codec.proofs.Facts.LoopLaws.{with_front}
 use Rattle.hb_page_codec.proofs.records.point_of.Given as goal
 
 -- the values so far, and those that are still read, are all

@@ -1,6 +1,6 @@
 use Rattle.std.proofs.Common.{◌≡◌, ◌⊎◌, ℕ, List, IfSome, Option, arith}
 use Rattle.hb_disk.specs.Calls.{IsSynced, OnlyReads}
-use Rattle.hb_disk.specs.RunLaws.{Leaves-then}
+use Rattle.hb_disk.proofs.Facts.RunLaws.{Leaves-then}
 use Rattle.hb_super.specs.Moments.{HidesNoOther}
 use Rattle.hb_frag.specs.declared.pages.Page.{Page}
 use Rattle.hb_layout.specs.declared.meta.Meta.{Meta}

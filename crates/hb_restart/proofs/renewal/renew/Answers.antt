@@ -12,7 +12,7 @@ use Rattle.hb_restart.specs.Renewing.{IsHere}
 use Rattle.hb_restart.proofs.SyncedRuns.{synced_counted, synced_even, synced_late, synced_renewed}
 use Rattle.hb_layout.specs.Offsets.{file_size}
 use Rattle.hb_restart.proofs.Beyond.{beyond_sync, beyond_then}
-use Rattle.hb_disk.specs.RunLaws.{one_tick}
+use Rattle.hb_disk.proofs.Facts.RunLaws.{one_tick}
 use Rattle.hb_restart.specs.WritingBack.{WritesAll, WritesEachOnce}
 use Rattle.hb_restart.proofs.EachOnce.{none_written}
 use Rattle.hb_restart.proofs.renewal.renew.Goals as goal

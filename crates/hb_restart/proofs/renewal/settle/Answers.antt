@@ -1,7 +1,7 @@
 use Rattle.std.proofs.Common.{◌≡◌, ◌∙◌, ℕ, refl, subst, arith}
 use Rattle.std.specs.Ordering.{nat_cmp}
 use Rattle.std.specs.BTreeMap.{get}
-use Rattle.hb_disk.specs.RunLaws.{Leaves-start, Leaves-then}
+use Rattle.hb_disk.proofs.Facts.RunLaws.{Leaves-start, Leaves-then}
 use Rattle.hb_layout.specs.Offsets.{file_size}
 use Rattle.hb_super.specs.Superblocks.{next_turn}
 use Rattle.hb_restart.specs.Renewing.{IsPlacedTo, StillOpens}

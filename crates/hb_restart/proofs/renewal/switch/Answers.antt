@@ -1,5 +1,5 @@
 use Rattle.std.proofs.Common.{◌≡◌, ℕ, List, IfSome, Option}
-use Rattle.hb_disk.specs.RunLaws.{Leaves-weaker, Leaves-then}
+use Rattle.hb_disk.proofs.Facts.RunLaws.{Leaves-weaker, Leaves-then}
 use Rattle.hb_super.specs.Superblocks.{IsNewest, next_turn}
 use Rattle.hb_frag.specs.declared.pages.Page.{Page}
 use Rattle.hb_layout.specs.declared.meta.Meta.{Meta}

@@ -1,4 +1,4 @@
-use Rattle.hb_set.specs.MachineLaws.{attributes-empty, attributes_answered}
+use Rattle.hb_set.proofs.Facts.MachineLaws.{attributes-empty, attributes_answered}
 use Rattle.hb_set.proofs.laws.attributes_stay.Goals as goal
 
 pub returns-clause-empty : goal.returns-clause-empty

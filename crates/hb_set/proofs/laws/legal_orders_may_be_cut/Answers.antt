@@ -1,4 +1,4 @@
-use Rattle.hb_set.specs.OrderLaws.{legal_cut, result_of-append, replies_joined}
+use Rattle.hb_set.proofs.Facts.OrderLaws.{legal_cut, result_of-append, replies_joined}
 use Rattle.hb_set.proofs.laws.legal_orders_may_be_cut.Goals as goal
 
 pub returns-clause-legal : goal.returns-clause-legal

@@ -1,4 +1,4 @@
-use Rattle.hb_set.specs.OrderLaws.{replies_grown, result_grown}
+use Rattle.hb_set.proofs.Facts.OrderLaws.{replies_grown, result_grown}
 use Rattle.hb_set.proofs.laws.orders_grow_at_the_end.Goals as goal
 
 pub returns-clause-replies : goal.returns-clause-replies

@@ -1,4 +1,4 @@
-use Rattle.hb_set.specs.TextOrderLaws.{ran_grown, ran_replies, ran_legal, ran_each}
+use Rattle.hb_set.proofs.Facts.TextOrderLaws.{ran_grown, ran_replies, ran_legal, ran_each}
 use Rattle.hb_set.proofs.laws.runs_are_legal_orders.Goals as goal
 
 pub returns-clause-grown : goal.returns-clause-grown

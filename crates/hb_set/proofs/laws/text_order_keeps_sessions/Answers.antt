@@ -1,4 +1,4 @@
-use Rattle.hb_set.specs.TextOrderLaws.{sessions_of_text, entries_of-push}
+use Rattle.hb_set.proofs.Facts.TextOrderLaws.{sessions_of_text, entries_of-push}
 use Rattle.hb_set.proofs.laws.text_order_keeps_sessions.Goals as goal
 
 pub returns-clause-sessions : goal.returns-clause-sessions

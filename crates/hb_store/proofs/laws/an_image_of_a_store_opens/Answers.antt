@@ -1,5 +1,5 @@
 use Rattle.hb_store.specs.Seen.{seen_as}
-use Rattle.hb_store.specs.StoreLaws.{StoreKeeps-opens, StoreKeeps-running, StoreKeeps-one}
+use Rattle.hb_store.proofs.Facts.StoreLaws.{StoreKeeps-opens, StoreKeeps-running, StoreKeeps-one}
 use Rattle.hb_store.proofs.laws.an_image_of_a_store_opens.Goals as goal
 
 pub returns-clause-first : goal.returns-clause-first

@@ -1,6 +1,6 @@
 use Rattle.std.proofs.Common.{◌+◌, inr}
-use Rattle.hb_disk.specs.BecomesLaws.{Becomes-torn}
-use Rattle.hb_disk.specs.SyncedLaws.{IsSynced-durable}
+use Rattle.hb_disk.proofs.Facts.BecomesLaws.{Becomes-torn}
+use Rattle.hb_disk.proofs.Facts.SyncedLaws.{IsSynced-durable}
 use Rattle.hb_disk.specs.ValueLaws.{if_value, at_value}
 use Rattle.hb_layout.specs.declared.meta.Meta.{Meta}
 use Rattle.hb_layout.specs.Offsets.{slot_offset}

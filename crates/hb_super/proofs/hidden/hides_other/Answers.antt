@@ -1,5 +1,5 @@
 use Rattle.std.proofs.Common.{◌≡◌, ℕ, length, take, drop, ap, ◌∙◌}
-use Rattle.hb_disk.specs.RunLaws.{OnlyReads-read}
+use Rattle.hb_disk.proofs.Facts.RunLaws.{OnlyReads-read}
 use Rattle.hb_disk.specs.ValueLaws.{if_value, at_value}
 use Rattle.hb_super.specs.Hidden.{HidesIs}
 use Rattle.hb_super.proofs.Clears.{hides_read}

@@ -7,7 +7,7 @@ use Rattle.hb_space.specs.declared.records.Record.{Record}
 use Rattle.hb_set.specs.declared.commands.Reply.TheVariants.{Within}
 use Rattle.hb_outside.specs.Streams.{AppendsFront}
 use Rattle.hb_text.specs.Output.{record_text, reply_text}
-use Rattle.hb_text.specs.OutputLaws.{Appends-front, AppendsFront-longer, OnErr-from}
+use Rattle.hb_text.proofs.Facts.OutputLaws.{Appends-front, AppendsFront-longer, OnErr-from}
 use Rattle.hb_text.proofs.output.put_box.Goals as goal
 
 -- the reply is the line with the count, and a line for each record

@@ -1,5 +1,5 @@
 use Rattle.std.proofs.Common.{◌∙◌, rules, arith}
-use Rattle.hb_text.specs.OutputLaws.{Waits-then, Waits-front, OnErr-from}
+use Rattle.hb_text.proofs.Facts.OutputLaws.{Waits-then, Waits-front, OnErr-from}
 use Rattle.hb_text.proofs.OutputText.{numbers_end_early, number_added}
 use Rattle.hb_text.proofs.output.put_numbers.Goals as goal
 

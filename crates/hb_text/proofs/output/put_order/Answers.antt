@@ -2,7 +2,7 @@ use Rattle.std.proofs.Common.{◌≡◌, ℕ, ◌+◌, ◌≤◌, List, ◌++◌
 use Rattle.std.proofs.Math.Nat.{le_trans}
 use Rattle.std.specs.Prelude.{codes}
 use Rattle.std.proofs.lemmas.Result.{on_ok_weaker, on_err_weaker}
-use Rattle.hb_text.specs.OutputLaws.{Waits-done, Waits-front, OnErr-from, Rose-later}
+use Rattle.hb_text.proofs.Facts.OutputLaws.{Waits-done, Waits-front, OnErr-from, Rose-later}
 use Rattle.hb_text.proofs.OutputText.{order_ends_settled, order_ends_later, order_waits}
 use Rattle.hb_text.proofs.output.put_order.Goals as goal
 

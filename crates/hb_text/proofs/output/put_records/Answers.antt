@@ -1,5 +1,5 @@
 use Rattle.hb_text.specs.Output.{record_text}
-use Rattle.hb_text.specs.OutputLaws.{AppendsFront-in_turn, OnErr-from}
+use Rattle.hb_text.proofs.Facts.OutputLaws.{AppendsFront-in_turn, OnErr-from}
 use Rattle.hb_text.proofs.output.put_records.Goals as goal
 
 -- the lines of the records before, and a front of this one's

@@ -5,7 +5,7 @@ use Rattle.hb_text.specs.declared.lines.Meaning.TheVariants.{Steps}
 use Rattle.hb_text.specs.Grammar.{SaysLine, line_read}
 use Rattle.hb_text.specs.StepWords.{steps_of}
 use Rattle.hb_text.specs.Words.{words_of}
-use Rattle.hb_text.specs.StepLaws.{line_few}
+use Rattle.hb_text.proofs.Facts.StepLaws.{line_few}
 use Rattle.hb_text.proofs.reading.add_line.Goals as goal
 
 -- the steps of the line, which fit the schedule

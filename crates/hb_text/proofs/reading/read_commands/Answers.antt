@@ -2,9 +2,9 @@ use Rattle.std.proofs.Common.{◌≡◌, ℕ, List, Ok, ◌∙◌, sym, arith, l
 use Rattle.std.proofs.lemmas.Result.{err_from_is_err_and}
 use Rattle.std.proofs.lemmas.Bool.Decides.{nat_tests}
 use Rattle.hb_set.specs.declared.scripts.Line.{Line}
-use Rattle.hb_text.specs.ScriptLaws.{text_is_script}
-use Rattle.hb_text.specs.StepLaws.{text_has_no_steps, text_actors, text_few_steps}
-use Rattle.hb_text.specs.TextLength.{text_is_short}
+use Rattle.hb_text.proofs.Facts.ScriptLaws.{text_is_script}
+use Rattle.hb_text.proofs.Facts.StepLaws.{text_has_no_steps, text_actors, text_few_steps}
+use Rattle.hb_text.proofs.Facts.TextLength.{text_is_short}
 use Rattle.hb_text.proofs.TextLines.{both_same, lines_begin, text_err, line_ok, text_done}
 use Rattle.hb_text.proofs.TextMemory.{behind_start, behind_next, text_starved}
 use Rattle.hb_text.proofs.reading.read_commands.Goals as goal

@@ -1,4 +1,4 @@
-use Rattle.hb_set.specs.MachineLaws.{attributes_answered}
+use Rattle.hb_set.proofs.Facts.MachineLaws.{attributes_answered}
 use Rattle.hb_set.specs.declared.commands.Command.TheVariants.{Insert, Delete}
 use Rattle.hb_set.proofs.set.Set.answer.Goals as goal
 

@@ -1,6 +1,6 @@
 use Rattle.std.proofs.Common.{subst, sym}
 use Rattle.hb_set.specs.Machine.{RecordSet, HasAttributes}
-use Rattle.hb_set.specs.MachineLaws.{attributes-empty}
+use Rattle.hb_set.proofs.Facts.MachineLaws.{attributes-empty}
 use Rattle.hb_set.proofs.Views.{empty_is}
 use Rattle.hb_set.proofs.set.Set.new.Goals as goal
 

@@ -1,10 +1,10 @@
 use Rattle.std.proofs.Common.{rules, ◌≡◌, List, [], sym, subst}
-use Rattle.hb_disk.specs.RunLaws.{Leaves-start}
+use Rattle.hb_disk.proofs.Facts.RunLaws.{Leaves-start}
 use Rattle.hb_ops.specs.Files.{FileState}
 use Rattle.hb_store.specs.Keeps.{StoreKeeps, OpensToFirst}
 use Rattle.hb_store.specs.Seen.{seen_as}
 use Rattle.hb_store.specs.Calls.{durable_after, later_after}
-use Rattle.hb_store.specs.StoreLaws.{StoreKeeps-opens, StoreKeeps-alone}
+use Rattle.hb_store.proofs.Facts.StoreLaws.{StoreKeeps-opens, StoreKeeps-alone}
 use Rattle.hb_store.proofs.store.Store.flush_step.Goals as goal
 
 pub returns-then-is_idle-clause-keeps_forced : goal.returns-then-is_idle-clause-keeps_forced

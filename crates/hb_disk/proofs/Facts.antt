@@ -1,0 +1,6 @@
+pub mod TornLaws
+pub mod BecomesLaws
+pub mod OverwrittenLaws
+pub mod RunLaws
+pub mod SyncedLaws
+pub mod TwoPieceLaws

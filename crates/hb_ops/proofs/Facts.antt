@@ -1,0 +1,10 @@
+pub mod CutLeafLaws
+pub mod CutShapeLaws
+pub mod LeafBoxLaws
+pub mod LeafHalfLaws
+pub mod ListLaws
+pub mod PageNumberLaws
+pub mod PartedPageLaws
+pub mod PathLaws
+pub mod PlacedLaws
+pub mod StemLaws

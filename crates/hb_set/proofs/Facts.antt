@@ -1,0 +1,3 @@
+pub mod MachineLaws
+pub mod OrderLaws
+pub mod TextOrderLaws

@@ -1,0 +1,63 @@
+-- From what bytes a store may start.
+use Rattle.std.proofs.Common.{◌≡◌, ℕ, ◌+◌, ◌-◌, ◌≤◌, List, [], length, get_or, take, drop, replicate, Some, IsSome, sym, ap, ◌∙◌, arith}
+use Rattle.std.proofs.lemmas.List.{get_or-take, get_or-drop}
+use Rattle.hb_disk.specs.Model.{DiskModel, IsDisk}
+use Rattle.hb_disk.specs.Calls.{IsSynced}
+use Rattle.hb_disk.proofs.Facts.SyncedLaws.{part_of}
+use Rattle.hb_disk.specs.ValueLaws.{some_value, at_value}
+use Rattle.hb_wal.specs.Frames.{range}
+use Rattle.hb_wal.specs.Forces.{HasLog}
+use Rattle.hb_layout.specs.Offsets.{slot_offset, log_start, file_size}
+use Rattle.hb_super.specs.Superblocks.{HasSuper, IsNewest, next_turn}
+use Rattle.hb_super.specs.Moments.{HasNoBody}
+use Rattle.hb_layout.specs.declared.meta.Meta.{Meta}
+use Rattle.hb_ops.specs.Files.{FileState, page_of}
+use Rattle.hb_frag.specs.declared.pages.Page.{Page}
+use Rattle.hb_frag.specs.Grammar.{SpellsPage}
+use Rattle.hb_store.specs.Opening.{OpensBy, place_bytes}
+use Rattle.hb_store.specs.Keeps.{IsFresh}
+use Rattle.hb_store.proofs.Facts.ReplayLaws.{opens_fresh}
+
+-- Bytes that are the same in both superblock places have the same newest superblock.
+module _ (b c : List ℕ) (same : take 8192 (drop 0 c) ≡ take 8192 (drop 0 b)) where
+  gate_same : (turn : ℕ) → get_or c (slot_offset turn) 0 ≡ get_or b (slot_offset turn) 0
+  gate_same turn =
+      let at : (l : List ℕ) → get_or (take 1 (drop (slot_offset turn) l)) 0 0 ≡ get_or l (slot_offset turn) 0
+      = λ l. get_or-take 1 (drop (slot_offset turn) l) 0 0 (omega arith) ∙ get_or-drop (slot_offset turn) l 0 0
+      ∙ ap (λ (k : ℕ). get_or l k 0) (let e : slot_offset turn + 0 ≡ slot_offset turn = omega arith in e) in
+      sym (at c) ∙ ap (λ (l : List ℕ). get_or l 0 0) (part_of 0 8192 (slot_offset turn) 1 c b (omega arith) (omega arith) same) ∙ at b
+
+  body_same : (turn : ℕ) → take 40 (drop (slot_offset turn + 1) c) ≡ take 40 (drop (slot_offset turn + 1) b)
+  body_same turn = part_of 0 8192 (slot_offset turn + 1) 40 c b (omega arith) (omega arith) same
+
+  pub HasSuper-elsewhere : (turn : ℕ) (meta : Meta) → HasSuper b turn meta → HasSuper c turn meta
+  HasSuper-elsewhere turn meta has = record { legal = has.legal; gate = gate_same turn ∙ has.gate; body = body_same turn ∙ has.body }
+
+pub IsNewest-elsewhere : (b c : List ℕ) → take 8192 (drop 0 c) ≡ take 8192 (drop 0 b) → (turn : ℕ) (meta : Meta) → IsNewest b turn meta → IsNewest c turn meta
+IsNewest-elsewhere b c same turn meta newest = record {
+  there = HasSuper-elsewhere b c same turn meta newest.there;
+  newer = λ other said has apart. newest.newer other said (HasSuper-elsewhere c b (sym same) other said has) apart;
+}
+
+-- A store may start from a disk of such a size whose images all have this superblock, a log of zeros and these pages.
+pub IsFresh-from : (d : DiskModel) → IsDisk d → IsSome d.told → (turn : ℕ) (meta : Meta) (s : FileState) → file_size meta ≤ d.size → s.meta ≡ meta → length s.pages ≡ meta.high
+    → ((c : List ℕ) → d.Image c → IsNewest c turn meta) → IsSynced d 0 8192 → ((b : List ℕ) → d.told ≡ Some b → HasNoBody b (next_turn turn)) → HasLog d (record { area = log_start turn meta; len = meta.log; written = 0; groups = [] }) []
+    → ((id : ℕ) (page : Page) → page_of s id ≡ Some page → (c : List ℕ) → d.Image c → SpellsPage (place_bytes meta id c) page) → IsFresh d turn meta s
+IsFresh-from d is_disk tells turn meta s room meta_is count newest places no_body logged pages = record {
+  told = tells;
+  meta_is = meta_is;
+  newest = newest;
+  images = λ c image. record { turn = turn; said = meta; payloads = []; groups = []; by = fresh_image c image };
+  places = places;
+  no_body = no_body;
+  logged = logged;
+  pages = pages;
+}
+  where
+    fresh_image : (c : List ℕ) → d.Image c → OpensBy c turn meta [] [] s
+    fresh_image c image =
+        let told = some_value d.told tells in
+        opens_fresh c turn meta s (newest c image) (omega (arith, is_disk.long c image, room))
+        (logged.synced.each told.0 c told.1 image ∙ at_value d.told (λ b. range (log_start turn meta) meta.log b ≡ replicate (meta.log - 0) 0) told.0 told.1 logged.reads
+        ∙ ap (λ (k : ℕ). replicate k 0) (let e : meta.log - 0 ≡ meta.log = omega arith in e))
+        meta_is count (λ id page is. pages id page is c image)

@@ -1,0 +1,13 @@
+pub mod ActorLaws
+pub mod CommandLaws
+pub mod FirstLineFeed
+pub mod TextFront
+pub mod LineLaws
+pub mod NumberLaws
+pub mod OutputLaws
+pub mod ReadingLaws
+pub mod ScriptLaws
+pub mod StepLaws
+pub mod TextLaws
+pub mod TextLength
+pub mod WordLaws
