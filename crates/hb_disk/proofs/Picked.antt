@@ -9,7 +9,7 @@ use Rattle.std.proofs.lemmas.List.Elements.{All-head, All-tail}
 use Rattle.hb_disk.specs.Model.{overwritten}
 use Rattle.hb_disk.proofs.Facts.TornLaws.{IsOutside, cases_range}
 use Rattle.hb_disk.proofs.Facts.OverwrittenLaws.{length-overwritten, overwritten-inside, overwritten-outside}
-use Rattle.hb_disk.specs.ValueLaws.{at_value}
+use Rattle.hb_lemmas.proofs.Options.{at_value}
 use Rattle.hb_disk.specs.Events.{IsOpen, IsImage, IsImageSince, IsNoise, IsPicked, AllLieWithin, LiesWithin, rewound, as_synced, undone, range_of}
 use Rattle.hb_disk.specs.declared.event.Change.{Change}
 use Rattle.hb_disk.specs.declared.event.Change.TheVariants.{Wrote, Tried, Synced}

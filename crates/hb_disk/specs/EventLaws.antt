@@ -3,7 +3,7 @@ use Rattle.std.proofs.Common.{inl, inr, ℕ, ◌^◌, ◌<◌, ◌≤◌, List, 
 use Rattle.std.specs.List.{All}
 use Rattle.std.proofs.lemmas.List.Elements.{All-head}
 use Rattle.hb_disk.specs.Model.{IsDisk, last_value}
-use Rattle.hb_disk.specs.ValueLaws.{some_same}
+use Rattle.std.proofs.lemmas.Option.{same_Some}
 use Rattle.hb_disk.specs.Events.{IsImage, IsImageSince, LiesWithin, AreKept, disk_after}
 use Rattle.hb_disk.specs.declared.event.Event.{Event}
 
@@ -27,7 +27,7 @@ only_since clock size bytes (e ∷ es) c kept (inr past) =
 pub history_is_disk : (bytes : List ℕ) (events : List Event) (clock reads writes : ℕ) → All (λ x. x < 2 ^ 8) bytes → length bytes ≤ last_value → clock ≤ last_value
     → AreKept clock (length bytes) events → IsDisk (disk_after bytes events clock reads writes)
 history_is_disk bytes events clock reads writes fit size_fits clock_fits kept = record {
-  as_read = λ b told. subst (λ (l : List ℕ). IsImage bytes events l) (some_same bytes b told) (own_image bytes events fit);
+  as_read = λ b told. subst (λ (l : List ℕ). IsImage bytes events l) (same_Some bytes b told) (own_image bytes events fit);
   long = λ b image. image.long;
   bytes = λ b image. image.fit;
   counts_now = λ t b le image. since_now t bytes events b image;

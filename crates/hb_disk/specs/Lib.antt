@@ -1,6 +1,5 @@
 pub mod Model
 pub mod Calls
-pub mod ValueLaws
 pub mod Events
 pub mod NotedCalls
 pub mod EventLaws

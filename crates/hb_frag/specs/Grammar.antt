@@ -4,7 +4,7 @@ use Rattle.hb_space.specs.Points.{IsBody}
 use Rattle.hb_space.specs.Boxes.{IsArea}
 use Rattle.hb_space.specs.declared.form.TheConstants.{PAGE}
 use Rattle.hb_space.specs.declared.records.Record.{Record}
-use Rattle.hb_outside.specs.Numbers.{big_endian}
+use Rattle.hb_lemmas.specs.Numbers.{big_endian}
 use Rattle.hb_frag.specs.declared.leaves.Leaf.{Leaf}
 use Rattle.hb_frag.specs.declared.leaves.Leaf.TheVariants.{Records, Child, Sibling}
 use Rattle.hb_frag.specs.declared.pages.Page.{Page}

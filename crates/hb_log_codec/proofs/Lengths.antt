@@ -6,7 +6,7 @@ use Rattle.std.proofs.lemmas.List.{length-map}
 use Rattle.std.proofs.lemmas.List.Concat.{flat_map-cons}
 use Rattle.std.proofs.lemmas.List.Elements.{All-head, All-tail}
 use Rattle.byteorder.specs.Numbers.{length-bytes_high_first}
-use Rattle.hb_outside.specs.Numbers.{big_endian}
+use Rattle.hb_lemmas.specs.Numbers.{big_endian}
 use Rattle.hb_space.specs.declared.form.TheConstants.{GROUP, KMAX}
 use Rattle.hb_frag.specs.Grammar.{point_bytes, record_bytes}
 use Rattle.hb_frag.specs.declared.pages.Page.{Page}

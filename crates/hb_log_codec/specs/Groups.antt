@@ -1,7 +1,7 @@
 -- A group of the log: images of pages, and one operation. How groups are spelled.
 use Rattle.std.specs.Prelude.{◌≡◌, ◌≢◌, ℕ, ◌-◌, ◌<◌, ◌≤◌, ◌^◌, List, [], ◌∷◌, ◌++◌, length, flat_map, map, replicate, All, AllPairs}
 use Rattle.hb_space.specs.declared.form.TheConstants.{PAGE}
-use Rattle.hb_outside.specs.Numbers.{big_endian}
+use Rattle.hb_lemmas.specs.Numbers.{big_endian}
 use Rattle.hb_frag.specs.declared.pages.Page.{Page}
 use Rattle.hb_frag.specs.Grammar.{FitsRecord, HasSpelling, page_fields, point_bytes, record_bytes}
 use Rattle.hb_space.specs.Boxes.{Area, IsArea}

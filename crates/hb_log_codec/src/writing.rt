@@ -1,6 +1,6 @@
 //! Groups of the log to bytes.
 ghost use Rattle.std.specs.Prelude.{◌≡◌, ◌<◌, ◌^◌, ◌++◌, ◌∷◌, All, flat_map, length, map, OnOk};
-ghost use Rattle.hb_outside.specs.Numbers.{big_endian};
+ghost use Rattle.hb_lemmas.specs.Numbers.{big_endian};
 ghost use Rattle.hb_frag.specs.Grammar.{HasSpelling, point_bytes, record_bytes};
 ghost use Rattle.hb_log_codec.specs.Groups.{FitsGroup, FitsImage, HasShortPaths, cuts_bytes, group_bytes, image_bytes, leaf_cut_bytes, op_bytes, page_bytes, path_bytes, side_byte};
 ghost use Rattle.hb_log_codec.specs.Reading.{logged};

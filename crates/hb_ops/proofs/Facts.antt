@@ -2,7 +2,6 @@ pub mod CutLeafLaws
 pub mod CutShapeLaws
 pub mod LeafBoxLaws
 pub mod LeafHalfLaws
-pub mod ListLaws
 pub mod PageNumberLaws
 pub mod PartedPageLaws
 pub mod PathLaws

@@ -4,7 +4,7 @@ use Rattle.std.specs.List.{AllByRecursion}
 use Rattle.hb_space.specs.declared.records.Record.{Record}
 use Rattle.hb_frag.specs.declared.pages.Page.{Page}
 use Rattle.hb_ops.specs.Files.{page_records}
-use Rattle.hb_ops.proofs.Facts.ListLaws.{whole}
+use Rattle.hb_lemmas.proofs.Lists.{whole}
 
 -- no record of these pages has the point
 abbrev pub Lack : List ℕ → List Record → Type 0

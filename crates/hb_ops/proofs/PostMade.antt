@@ -18,7 +18,7 @@ use Rattle.hb_layout.specs.declared.meta.Meta.{Meta}
 use Rattle.hb_ops.specs.Posting.{FitsPost, post_page}
 use Rattle.hb_ops.specs.Sound.{FitsFile}
 use Rattle.hb_ops.proofs.CarvedCuts.{carved_below, carved_own, carved_well_cut}
-use Rattle.hb_ops.proofs.Facts.ListLaws.{All-parts}
+use Rattle.hb_lemmas.proofs.Lists.{All-parts}
 use Rattle.hb_ops.proofs.Facts.PathLaws.{not_lone_again, well_cut_again}
 use Rattle.hb_ops.proofs.PostTests.{leaf_attributes, page_named, the_tree}
 use Rattle.hb_ops.proofs.Facts.PlacedLaws.{placed}

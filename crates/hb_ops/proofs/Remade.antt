@@ -20,7 +20,7 @@ use Rattle.hb_layout.specs.declared.meta.Meta.{Meta}
 use Rattle.hb_ops.specs.Sound.{FitsFile}
 use Rattle.hb_ops.specs.Recording.{FitsDel, FitsPut, del_page, joined, on_records, page_with, put_page, without}
 use Rattle.hb_ops.proofs.Boxes.{held}
-use Rattle.hb_ops.proofs.Facts.ListLaws.{All-parts}
+use Rattle.hb_lemmas.proofs.Lists.{All-parts}
 use Rattle.hb_ops.proofs.Opened.{weight_changed}
 use Rattle.hb_ops.proofs.Orders.{less_so}
 use Rattle.hb_ops.proofs.Tips.{parted}

@@ -9,7 +9,7 @@ use Rattle.hb_frag.specs.Trees.{Tree, Tip, Cut}
 use Rattle.hb_frag.specs.Leaves.{Placed, IsWellCut, first_at, leaves, leaves_of, records_of, with_leaf_at}
 use Rattle.hb_frag.specs.Rules.{IsInOrder}
 use Rattle.hb_ops.proofs.Boxes.{apart, held, in_below, in_from, not_held}
-use Rattle.hb_ops.proofs.Facts.ListLaws.{parts, whole}
+use Rattle.hb_lemmas.proofs.Lists.{parts, whole}
 
 -- no record of the leaf has the point
 abbrev pub LeafLacks : List ℕ → Leaf → Type 0

@@ -1,6 +1,6 @@
 //! Numbers as bytes, the highest first.
 ghost use Rattle.std.specs.Prelude.{◌≡◌, ℕ, List, ◌+◌, ◌^◌, ◌<◌, ◌≤◌, ◌↔◌, ◌++◌, All, Some, length, take, drop, IsSome, IfSome, slice_get, slice_range};
-ghost use Rattle.hb_outside.specs.Numbers.{big_endian};
+ghost use Rattle.hb_lemmas.specs.Numbers.{big_endian};
 
 use byteorder::{BigEndian, ByteOrder};
 

@@ -4,7 +4,7 @@ use Rattle.hb_space.specs.Boxes.{Area, IsArea}
 use Rattle.hb_space.specs.declared.form.TheConstants.{KMAX}
 use Rattle.hb_frag.specs.declared.pages.Page.{Page}
 use Rattle.hb_frag.specs.Grammar.{FitsRecord, SpellsPage, point_bytes, record_bytes}
-use Rattle.hb_outside.specs.Numbers.{big_endian}
+use Rattle.hb_lemmas.specs.Numbers.{big_endian}
 use Rattle.hb_page_codec.specs.Reading.{byte_at, number_at}
 use Rattle.hb_page_codec.specs.ReadingFields.{area_at, point_at, record_at}
 use Rattle.hb_page_codec.specs.ReadingPages.{page_of_bytes}

@@ -1,6 +1,6 @@
 //! Pages to bytes.
 ghost use Rattle.std.specs.Prelude.{◌≡◌, ◌+◌, ◌-◌, ◌<◌, ◌≤◌, ◌^◌, ◌++◌, ◌∷◌, [], length, take, replicate, flat_map};
-ghost use Rattle.hb_outside.specs.Numbers.{big_endian};
+ghost use Rattle.hb_lemmas.specs.Numbers.{big_endian};
 ghost use Rattle.hb_frag.specs.Grammar.{point_bytes, record_bytes, leaf_bytes, tree_bytes, page_fields, FitsPage, HasSpelling, SpellsPage};
 ghost use Rattle.hb_frag.specs.Nodes.{tree_of};
 ghost use Rattle.hb_page_codec.specs.Writing.{Wrote, IsCountable, AreCountable};

@@ -1,7 +1,7 @@
 -- Where the log of some bytes has a bad group it is the first one, and the log has no list of groups then.
 use Rattle.std.proofs.Common.{◌≡◌, ◌⊎◌, inl, inr, ℕ, ◌<◌, ◌^◌, List, [], ◌∷◌, ◌++◌, length, get_or, drop, All, sym, ap, subst, refl, ◌∙◌, append_assoc, length-append, arith}
 use Rattle.std.proofs.lemmas.List.Elements.{All-head, All-tail}
-use Rattle.hb_outside.specs.Numbers.{big_endian}
+use Rattle.hb_lemmas.specs.Numbers.{big_endian}
 use Rattle.hb_disk.specs.Calls.{open_gate}
 use Rattle.hb_layout.specs.declared.meta.Meta.{Meta}
 use Rattle.hb_wal.specs.Frames.{frames, frame_bytes, IsPayload, IsEnd, IsBadFrame}

@@ -7,7 +7,8 @@ use Rattle.hb_disk.specs.Model.{DiskModel, IsDisk, Torn}
 use Rattle.hb_disk.specs.Calls.{Ticks, Becomes}
 use Rattle.hb_disk.proofs.Facts.RunLaws.{one_tick}
 use Rattle.hb_disk.proofs.Facts.TornLaws.{Torn-elsewhere}
-use Rattle.hb_disk.specs.ValueLaws.{at_value, has_value, some_value, some_same}
+use Rattle.hb_lemmas.proofs.Options.{at_value, has_value, some_value}
+use Rattle.std.proofs.lemmas.Option.{same_Some}
 use Rattle.hb_frag.specs.declared.pages.Page.{Page}
 use Rattle.hb_frag.specs.Grammar.{SpellsPage}
 use Rattle.hb_layout.specs.declared.meta.Meta.{Meta}
@@ -54,7 +55,7 @@ module _ (from : ℕ) (bytes : List ℕ) (meta : Meta) (touched : ℕ → Option
   }
     where
       as_read : (id : ℕ) (c : List ℕ) → d.told ≡ Some c → place_bytes meta id c ≡ place_bytes meta id bytes
-      as_read id c here = ap (λ (l : List ℕ). place_bytes meta id l) (some_same c bytes (sym here ∙ told))
+      as_read id c here = ap (λ (l : List ℕ). place_bytes meta id l) (same_Some c bytes (sym here ∙ told))
 
   -- Between two calls each page has been written or has not.
   pub between : (last : ℕ) (d : DiskModel) → IsWrittenTo last from bytes meta touched d → WritesEachOnce from bytes meta touched d
@@ -107,7 +108,7 @@ module _ (from : ℕ) (bytes : List ℕ) (meta : Meta) (touched : ℕ → Option
     -- the place of another page is as it was
     elsewhere : (id : ℕ) → 1 ≤ id → (id ≡ at → ⊥) → (c : List ℕ) → new.told ≡ Some c → place_bytes meta id c ≡ place_bytes meta id was.0
     elsewhere id some other c told =
-        ap (λ (l : List ℕ). place_bytes meta id l) (some_same c after.0 (sym told ∙ after.1))
+        ap (λ (l : List ℕ). place_bytes meta id l) (same_Some c after.0 (sym told ∙ after.1))
         ∙ Torn-elsewhere (page_offset meta at) PAGE (page_offset meta id) PAGE was.0 after.0 (other_place meta id at some (omega (arith, is_at)) other) after.2
 
     elsewhere_spelled : (id : ℕ) (page : Page) → 1 ≤ id → (id ≡ at → ⊥) → SpellsPage (place_bytes meta id was.0) page → (c : List ℕ) → new.told ≡ Some c → SpellsPage (place_bytes meta id c) page
@@ -152,7 +153,7 @@ module _ (from : ℕ) (bytes : List ℕ) (meta : Meta) (touched : ℕ → Option
       written = λ id page some most is c told. elim (cases_eq id at) [
         | inl same ↦
             let Q : ℕ → Type 0 = λ n. touched n ≡ Some page in
-            let page_is : q ≡ page = some_same q page (sym is_q ∙ subst Q same is) in
+            let page_is : q ≡ page = same_Some q page (sym is_q ∙ subst Q same is) in
             let S : Page → Type 0 = λ x. SpellsPage (place_bytes meta at c) x in
             let N : ℕ → Type 0 = λ n. SpellsPage (place_bytes meta n c) page in
             subst N (sym same) (subst S page_is (there c told))
@@ -172,7 +173,7 @@ module _ (from : ℕ) (bytes : List ℕ) (meta : Meta) (touched : ℕ → Option
 
     page_kept : (id : ℕ) (c : List ℕ) → new.told ≡ Some c → place_bytes meta id c ≡ place_bytes meta id old_bytes.0
     page_kept id c told =
-        ap (λ (l : List ℕ). place_bytes meta id l) (some_same c new_bytes.0 (sym told ∙ new_bytes.1))
+        ap (λ (l : List ℕ). place_bytes meta id l) (same_Some c new_bytes.0 (sym told ∙ new_bytes.1))
         ∙ Torn-elsewhere 0 (page_offset meta 1) (page_offset meta id) PAGE old_bytes.0 new_bytes.0 (inr (omega arith)) new_bytes.2
 
     pub behind_all : WritesEachOnce from bytes meta touched new
@@ -199,7 +200,7 @@ module _ (from : ℕ) (bytes : List ℕ) (meta : Meta) (touched : ℕ → Option
   }
     where
       as_read : (id : ℕ) (c : List ℕ) → d.told ≡ Some c → place_bytes meta id c ≡ place_bytes meta id bytes
-      as_read id c here = ap (λ (l : List ℕ). place_bytes meta id l) (some_same c bytes (sym here ∙ told))
+      as_read id c here = ap (λ (l : List ℕ). place_bytes meta id l) (same_Some c bytes (sym here ∙ told))
 
   -- the same of pages that are touched in the same way
   module _ (other : ℕ → Option Page) (same : (id : ℕ) → touched id ≡ other id) (d : DiskModel) where

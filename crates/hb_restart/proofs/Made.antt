@@ -3,10 +3,11 @@ use Rattle.std.specs.Result.{is_err}
 use Rattle.std.proofs.Common.{true, false, ◌≡◌, ◌⊎◌, inl, inr, ℕ, ◌+◌, ◌*◌, ◌-◌, ◌<◌, ◌≤◌, List, [], ◌∷◌, ◌++◌, length, take, drop, replicate, get_or, Option, Some, None, IsSome, IfSome, Result, Ok, Err, OnOk, refl, sym, ap, ◌∙◌, subst, arith, length-take, length-drop}
 use Rattle.std.proofs.lemmas.List.{get_or-take, get_or-drop, ext_get_or, length-replicate, get_or-replicate}
 use Rattle.hb_space.specs.declared.form.TheConstants.{PAGE}
-use Rattle.hb_outside.specs.Numbers.{big_endian}
+use Rattle.hb_lemmas.specs.Numbers.{big_endian}
 use Rattle.hb_disk.specs.Model.{DiskModel, IsDisk, overwritten}
 use Rattle.hb_disk.specs.Calls.{open_gate}
-use Rattle.hb_disk.specs.ValueLaws.{at_value, of_value, has_value, some_same}
+use Rattle.hb_lemmas.proofs.Options.{at_value, of_value, has_value}
+use Rattle.std.proofs.lemmas.Option.{same_Some}
 use Rattle.hb_disk.proofs.Facts.SyncedLaws.{IsSynced-durable}
 use Rattle.hb_disk.proofs.Facts.TornLaws.{IsOutside}
 use Rattle.hb_disk.proofs.Facts.OverwrittenLaws.{length-overwritten, overwritten-inside, overwritten-outside, overwritten-reads}
@@ -164,7 +165,7 @@ module _ (d : DiskModel) (is_disk : IsDisk d) (meta : Meta) (page c : List ℕ) 
     });
     places = IsSynced-durable d 0 8192 durable;
     no_body = λ b is.
-        let same : e ≡ b = some_same e b (sym told ∙ is) in
+        let same : e ≡ b = same_Some e b (sym told ∙ is) in
         let Q : List ℕ → Type 0 = λ l. HasNoBody l 1 in
         subst Q same (HasNoBody-same c e 1 (part_kept c 0 frame 4097 40 frame_fits (inr (omega (arith, short)))) laid.places.no_body);
     logged = record {

@@ -5,7 +5,7 @@ use Rattle.std.proofs.lemmas.List.Elements.{All-replicate, All-nil, All-cons}
 use Rattle.hb_space.specs.Boxes.{IsArea, whole_area, Holds}
 use Rattle.hb_space.specs.Points.{IsPoint}
 use Rattle.hb_space.specs.declared.form.TheConstants.{KMAX, ICAP_MIN}
-use Rattle.hb_outside.specs.Numbers.{big_endian}
+use Rattle.hb_lemmas.specs.Numbers.{big_endian}
 use Rattle.hb_frag.specs.declared.leaves.Leaf.TheVariants.{Records, Child}
 use Rattle.hb_frag.specs.declared.pages.Page.TheVariants.{Live}
 use Rattle.hb_frag.specs.Leaves.{leaves_of, siblings_of}

@@ -5,7 +5,7 @@ use Rattle.hb_space.specs.declared.records.Record.{Record}
 use Rattle.hb_frag.specs.declared.leaves.Leaf.TheVariants.{Records, Child}
 use Rattle.hb_frag.specs.Leaves.{Placed, leaves_of}
 use Rattle.hb_frag.specs.Trees.{Tip}
-use Rattle.hb_ops.proofs.Facts.ListLaws.{only_one}
+use Rattle.hb_lemmas.proofs.Lists.{only_one}
 
 -- a leaf with records names no child
 pub no_child : (records : List Record) (box : Area) (name : ℕ) (area : Area) → Contains (leaves_of (Tip (Records records)) box) (record { leaf = Child name; area = area }) → ⊥

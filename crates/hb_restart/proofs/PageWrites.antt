@@ -3,7 +3,8 @@ use Rattle.std.proofs.Common.{◌≡◌, ℕ, ◌+◌, ◌≤◌, List, length, 
 use Rattle.hb_space.specs.declared.form.TheConstants.{PAGE}
 use Rattle.hb_disk.specs.Model.{DiskModel, IsDisk, overwritten, Torn}
 use Rattle.hb_disk.specs.Calls.{Becomes}
-use Rattle.hb_disk.specs.ValueLaws.{at_value, some_value, has_value, some_same}
+use Rattle.hb_lemmas.proofs.Options.{at_value, some_value, has_value}
+use Rattle.std.proofs.lemmas.Option.{same_Some}
 use Rattle.hb_disk.proofs.Facts.OverwrittenLaws.{overwritten-reads}
 use Rattle.hb_frag.specs.declared.pages.Page.{Page}
 use Rattle.hb_frag.specs.Grammar.{SpellsPage}
@@ -18,7 +19,7 @@ pub page_written : (old new : DiskModel) → IsDisk old → (at : ℕ) (bytes : 
 page_written old new is_old at bytes meta id page here spells room some most silent written b told =
     let before = some_value old.told (told_before old.told new.told silent (has_value new.told b told)) in
     let after = overwritten before.0 at bytes in
-    let same : after ≡ b = some_same after b (sym (at_value old.told (λ x. new.told ≡ Some (overwritten x at bytes)) before.0 before.1 written) ∙ told) in
+    let same : after ≡ b = same_Some after b (sym (at_value old.told (λ x. new.told ≡ Some (overwritten x at bytes)) before.0 before.1 written) ∙ told) in
     let fits : at + length bytes ≤ length before.0 = omega (arith, here, spells.long, room, some, most, is_old.long before.0 (is_old.as_read before.0 before.1)) in
     let reads : place_bytes meta id b ≡ bytes =
     ap (λ (l : List ℕ). take PAGE (drop (page_offset meta id) l)) (sym same) ∙ ap (λ (n : ℕ). take PAGE (drop n after)) (sym here)

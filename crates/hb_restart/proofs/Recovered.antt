@@ -3,7 +3,7 @@ use Rattle.std.proofs.Common.{◌≡◌, ℕ, ◌+◌, ◌≤◌, List, length, 
 use Rattle.hb_disk.specs.Model.{DiskModel, IsDisk}
 use Rattle.hb_disk.specs.Calls.{Leaves, OnlyReads}
 use Rattle.hb_disk.proofs.Facts.RunLaws.{Leaves-start, Leaves-read, Leaves-then}
-use Rattle.hb_disk.specs.ValueLaws.{some_value, at_value, if_value, has_value}
+use Rattle.hb_lemmas.proofs.Options.{some_value, at_value, if_value, has_value}
 use Rattle.hb_super.specs.Superblocks.{next_turn}
 use Rattle.hb_frag.specs.declared.pages.Page.{Page}
 use Rattle.hb_layout.specs.declared.meta.Meta.{Meta}

@@ -6,7 +6,8 @@ use Rattle.hb_space.specs.declared.form.TheConstants.{PAGE}
 use Rattle.hb_disk.specs.Model.{DiskModel, IsDisk, overwritten, Torn}
 use Rattle.hb_disk.specs.Calls.{Ticks, Syncs, Leaves, Becomes, Apart, IsSynced, OnlyReads}
 use Rattle.hb_disk.proofs.Facts.RunLaws.{Leaves-start, Leaves-call, Leaves-then, Leaves-weaker}
-use Rattle.hb_disk.specs.ValueLaws.{at_value, of_value, has_value, some_value, some_same}
+use Rattle.hb_lemmas.proofs.Options.{at_value, of_value, has_value, some_value}
+use Rattle.std.proofs.lemmas.Option.{same_Some}
 use Rattle.hb_disk.proofs.Facts.SyncedLaws.{IsSynced-durable, IsSynced-elsewhere}
 use Rattle.hb_disk.proofs.Facts.TornLaws.{Torn-elsewhere}
 use Rattle.hb_disk.proofs.Facts.OverwrittenLaws.{overwritten-reads}
@@ -203,7 +204,7 @@ module _ (turn next : ℕ) (said meta : Meta) (small : turn ≤ 3) (is : next �
         IsFresh-from e is_e (has_value e.told after.0 after.1) next meta s room opens.meta_is (count_of turn said meta touched s b opens)
         (λ c image. let N : List ℕ → Type 0 = λ l. IsNewest l next meta in subst N (sym (only c image)) newest_is)
         (IsSynced-durable e 0 8192 durable)
-        (λ c told. let B : List ℕ → Type 0 = λ l. HasNoBody l (next_turn next) in subst B (some_same after.0 c (sym after.1 ∙ told)) (old_there after.0 after.2))
+        (λ c told. let B : List ℕ → Type 0 = λ l. HasNoBody l (next_turn next) in subst B (same_Some after.0 c (sym after.1 ∙ told)) (old_there after.0 after.2))
         (record {
           synced = IsSynced-durable e (log_start next meta) meta.log durable;
           payloads_fit = λ i x lt. absurd (omega (arith, lt));
@@ -258,7 +259,7 @@ module _ (turn next : ℕ) (said meta : Meta) (small : turn ≤ 3) (is : next �
         | inr other ↦ λ b told.
             let S : List ℕ → Type 0 = λ l. SpellsPage l page in
             let B : List ℕ → Type 0 = λ l. SpellsPage (place_bytes meta id l) page in
-            let same : after.0 ≡ b = some_same after.0 b (sym after.1 ∙ told) in
+            let same : after.0 ≡ b = same_Some after.0 b (sym after.1 ∙ told) in
             subst B same (subst S (sym (Torn-elsewhere (page_offset meta at) PAGE (page_offset meta id) PAGE was.0 after.0 (other_place meta id at (some_number s.pages id page is) first other) after.2))
             (placed.there id page (omega (arith, most, other, is_at)) is was.0 was.1))
       ];
@@ -317,7 +318,7 @@ module _ (turn next : ℕ) (said meta : Meta) (small : turn ≤ 3) (is : next �
           places = IsSynced-durable new 0 8192 durable;
         };
         there = λ id page most is b told.
-            let same : after.0 ≡ b = some_same after.0 b (sym after.1 ∙ told) in
+            let same : after.0 ≡ b = same_Some after.0 b (sym after.1 ∙ told) in
             let S : List ℕ → Type 0 = λ l. SpellsPage l page in
             let B : List ℕ → Type 0 = λ l. SpellsPage (place_bytes meta id l) page in
             let h = lies.next_high in
@@ -326,7 +327,7 @@ module _ (turn next : ℕ) (said meta : Meta) (small : turn ≤ 3) (is : next �
       };
       alone = λ b c told image. at_value new.told (λ b. (c : List ℕ) → new.Image c → c ≡ b) b told durable c image;
       zeroed = λ b told.
-          let is_b : overwritten before.0 area (replicate meta.log 0) ≡ b = some_same (overwritten before.0 area (replicate meta.log 0)) b (sym (at_value mid.told (λ b. new.told ≡ Some (overwritten b area (replicate meta.log 0))) before.0 before.1 zeroed) ∙ told) in
+          let is_b : overwritten before.0 area (replicate meta.log 0) ≡ b = same_Some (overwritten before.0 area (replicate meta.log 0)) b (sym (at_value mid.told (λ b. new.told ≡ Some (overwritten b area (replicate meta.log 0))) before.0 before.1 zeroed) ∙ told) in
           let n : length {A = ℕ} (replicate meta.log 0) ≡ meta.log = length-replicate meta.log 0 in
           let h = lies.next_high in
           let as_long : length b ≡ new.size = is_new.long b (is_new.as_read b told) in
@@ -360,7 +361,7 @@ module _ (turn next : ℕ) (said meta : Meta) (small : turn ≤ 3) (is : next �
     same_part : (b : List ℕ) → new.told ≡ Some b → (from m : ℕ) → 8192 ≤ from → take m (drop from b) ≡ take m (drop from cleared_before.0)
     same_part b told from m low =
         let h = lies.place in
-        ap (λ (l : List ℕ). take m (drop from l)) (some_same b cleared_after.0 (sym told ∙ cleared_after.1))
+        ap (λ (l : List ℕ). take m (drop from l)) (same_Some b cleared_after.0 (sym told ∙ cleared_after.1))
         ∙ Torn-elsewhere (slot_offset next + 1) 40 from m cleared_before.0 cleared_after.0 (inr (omega (arith, h, low))) cleared_after.2
 
     cleared_alone : OnlyReads old new ⊎ IfSome new.told (λ b. (c : List ℕ) → new.Image c → c ≡ b) → (b c : List ℕ) → new.told ≡ Some b → new.Image c → c ≡ b

@@ -3,7 +3,7 @@ use Rattle.std.proofs.Common.{◌≡◌, inl, inr, ℕ, ◌+◌, ◌≤◌, List
 use Rattle.std.proofs.Math.Nat.{eq-or-lt_of_le}
 use Rattle.hb_disk.specs.Model.{DiskModel, IsDisk}
 use Rattle.hb_disk.specs.Calls.{Ticks, Becomes, Leaves}
-use Rattle.hb_disk.specs.ValueLaws.{some_value, at_value, has_value}
+use Rattle.hb_lemmas.proofs.Options.{some_value, at_value, has_value}
 use Rattle.hb_restart.specs.Renewing.{Runs}
 
 -- a disk that tells still does

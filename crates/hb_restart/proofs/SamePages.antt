@@ -2,7 +2,7 @@
 use Rattle.std.proofs.Common.{◌≡◌, ℕ, ◌+◌, List, Option, IfSome, sym, ap, ◌∙◌, subst, arith}
 use Rattle.hb_disk.specs.Model.{DiskModel}
 use Rattle.hb_disk.specs.Calls.{OnlyReads}
-use Rattle.hb_disk.specs.ValueLaws.{at_value, if_value}
+use Rattle.hb_lemmas.proofs.Options.{at_value, if_value}
 use Rattle.hb_frag.specs.declared.pages.Page.{Page}
 use Rattle.hb_layout.specs.declared.meta.Meta.{Meta}
 use Rattle.hb_log_codec.specs.Groups.{Logged}

@@ -3,7 +3,7 @@ use Rattle.std.proofs.Common.{◌≡◌, ℕ, ◌+◌, ◌≤◌, List, Option, 
 use Rattle.hb_disk.specs.Model.{DiskModel, IsDisk}
 use Rattle.hb_disk.specs.Calls.{Ticks, Syncs, Leaves}
 use Rattle.hb_disk.proofs.Facts.RunLaws.{Leaves-start, Leaves-call, Leaves-then}
-use Rattle.hb_disk.specs.ValueLaws.{if_value, has_value}
+use Rattle.hb_lemmas.proofs.Options.{if_value, has_value}
 use Rattle.hb_disk.proofs.Facts.SyncedLaws.{only_told, IsSynced-sync}
 use Rattle.hb_super.specs.Superblocks.{next_turn}
 use Rattle.hb_frag.specs.declared.pages.Page.{Page}

@@ -28,7 +28,7 @@ use Rattle.hb_sound.specs.Told.{item_at}
 use Rattle.hb_sound.specs.Walks.{IsLeast}
 use Rattle.hb_sound.proofs.Bridge.{live_seen, seen_live}
 use Rattle.hb_sound.proofs.Firsts.{item_within}
-use Rattle.hb_ops.proofs.Facts.ListLaws.{only_one}
+use Rattle.hb_lemmas.proofs.Lists.{only_one}
 use Rattle.hb_sound.proofs.Levels.{seen_fact}
 use Rattle.hb_sound.proofs.LocalBridge.{fits}
 use Rattle.hb_ops.proofs.Facts.PlacedLaws.{placed, leaf_is_sibling, sibling_is_leaf}

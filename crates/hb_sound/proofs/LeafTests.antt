@@ -3,7 +3,7 @@ use Rattle.std.proofs.Common.{◌≡◌, ◌↔◌, ℕ, ◌-◌, Bool, IsTrue, 
 use Rattle.hb_space.specs.Boxes.{Area}
 use Rattle.hb_frag.specs.Leaves.{IsWellCut, Placed, leaves_of}
 use Rattle.hb_frag.specs.Trees.{Tree, Cut}
-use Rattle.hb_ops.proofs.Facts.ListLaws.{All-parts}
+use Rattle.hb_lemmas.proofs.Lists.{All-parts}
 
 -- the tests of both sides of a cut are that of the whole
 pub both_match : (P : Placed → Type 0) (lo hi low high : List ℕ) (axis at value : ℕ) (left right : Tree) (r s t : Bool) → at ≡ axis → low ≡ lo → high ≡ hi

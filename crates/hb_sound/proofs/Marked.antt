@@ -6,7 +6,7 @@ use Rattle.hb_sound.specs.Chains.{IsChained}
 use Rattle.hb_sound.specs.Told.{item_at}
 use Rattle.hb_sound.specs.Walks.{IsOnce, LeadsAlong}
 use Rattle.hb_sound.proofs.Counts.{get_set_other, get_set_same}
-use Rattle.hb_ops.proofs.Facts.ListLaws.{only_one}
+use Rattle.hb_lemmas.proofs.Lists.{only_one}
 
 -- how many marks aren't set
 abbrev pub unmarked : List Bool → ℕ

@@ -23,7 +23,7 @@ use Rattle.hb_sound.specs.LawsOfPostings.{NamesAt}
 use Rattle.hb_sound.proofs.ExampleParts.{no_records}
 use Rattle.hb_sound.proofs.OneLevel.{TreeLaws}
 use Rattle.hb_ops.proofs.Facts.PlacedLaws.{each_leaf, placed, placed_is_leaf}
-use Rattle.hb_ops.proofs.Facts.ListLaws.{each_member}
+use Rattle.hb_lemmas.proofs.Lists.{each_member}
 use Rattle.hb_ops.proofs.Facts.PathLaws.{well_cut_again}
 use Rattle.hb_sound.proofs.WalksDown.{holds_within}
 

@@ -17,7 +17,7 @@ use Rattle.hb_ops.specs.Sound.{FitsFile}
 use Rattle.hb_sound.proofs.Extractions.{Extraction, FitsPart, fresh_page, source_page}
 use Rattle.hb_ops.specs.declared.leaf_cuts.LeafCut.{LeafCut}
 use Rattle.hb_ops.specs.Cutting.{PartLeaves, PartsLeaf, area_on, cut_through, cut_with, going, half_area, half_on, is_on, other_side, reached, records_in, staying}
-use Rattle.hb_ops.proofs.Facts.ListLaws.{only_one}
+use Rattle.hb_lemmas.proofs.Lists.{only_one}
 use Rattle.hb_ops.proofs.Facts.CutLeafLaws.{StemsFrom}
 use Rattle.hb_ops.proofs.Facts.StemLaws.{fresh_stems, source_stems, PartLaws}
 use Rattle.hb_ops.proofs.Facts.PlacedLaws.{placed}

@@ -12,7 +12,7 @@ use Rattle.hb_frag.specs.declared.pages.Page.{Page}
 use Rattle.hb_frag.specs.declared.pages.Page.TheVariants as pages
 use Rattle.hb_frag.specs.Trees.{Tree, Cut}
 use Rattle.hb_frag.specs.Leaves.{Placed, leaves, leaves_of, siblings}
-use Rattle.hb_ops.proofs.Facts.ListLaws.{each_member, only_one}
+use Rattle.hb_lemmas.proofs.Lists.{each_member, only_one}
 use Rattle.hb_ops.proofs.Facts.PlacedLaws.{leaf_is_sibling, placed, sibling_is_leaf}
 use Rattle.hb_ops.specs.Sound.{count_name}
 use Rattle.hb_sound.specs.declared.facts.Seen.{Seen}

@@ -1,17 +1,10 @@
 //! The types of this crate may go to another thread, and be read by several.
 
-ghost use Rattle.std.specs.Thread.{IsSend, IsSync};
-
 use crate::{AuditStop, PageStop};
+use hb_lemmas::crosses;
 
 /// Each type of the crate does.
 fn types_cross_threads() {
     crosses::<AuditStop>();
     crosses::<PageStop>();
 }
-
-/// Values of the type may go to another thread, and be read by several.
-fn crosses<T: Send + Sync>()
-    ensures sent { IsSend T.row }
-    ensures read_by_several { IsSync T.row }
-{}

@@ -9,7 +9,8 @@ use Rattle.hb_space.specs.declared.form.TheConstants.{PAGE}
 use Rattle.hb_disk.specs.Model.{DiskModel, IsDisk, Torn}
 use Rattle.hb_disk.specs.Calls.{Leaves, Becomes, IsSynced}
 use Rattle.hb_disk.proofs.Facts.RunLaws.{Leaves-weaker}
-use Rattle.hb_disk.specs.ValueLaws.{at_value, has_value, some_same}
+use Rattle.hb_lemmas.proofs.Options.{at_value, has_value}
+use Rattle.std.proofs.lemmas.Option.{same_Some}
 use Rattle.hb_disk.proofs.Facts.SyncedLaws.{IsSynced-part, IsSynced-elsewhere}
 use Rattle.hb_wal.specs.Frames.{frames, frame_bytes, range, HasFrames}
 use Rattle.hb_wal.specs.Log.{Waiting, LogState, forced, left_waiting, after_force}
@@ -149,7 +150,7 @@ module _ (d : DiskModel) (is_disk : IsDisk d) (st : StoreState) (is : IsMemory s
     no_body : (e : List ℕ) → new.told ≡ Some e → HasNoBody e (next_turn st.turn)
     no_body e tells =
         let B : List ℕ → Type 0 = λ l. HasNoBody l (next_turn st.turn) in
-        subst B (some_same after.0 e (sym after.1 ∙ tells))
+        subst B (same_Some after.0 e (sym after.1 ∙ tells))
         (HasNoBody-elsewhere b after.0 (next_turn st.turn) (places_kept st.turn p.said b after.0 (torn_there b after.0 after.2)) ((keeps.disk.running going).no_body b told))
 
     place_synced : IsSynced new (slot_offset st.turn) PAGE
@@ -162,7 +163,7 @@ module _ (d : DiskModel) (is_disk : IsDisk d) (st : StoreState) (is : IsMemory s
 
     page_reads : (id : ℕ) (page : Page) → ((b : List ℕ) → d.told ≡ Some b → SpellsPage (place_bytes p.said id b) page) → (e : List ℕ) → new.told ≡ Some e → SpellsPage (place_bytes p.said id e) page
     page_reads id page was e tells =
-        let same : after.0 ≡ e = some_same after.0 e (sym after.1 ∙ tells) in
+        let same : after.0 ≡ e = same_Some after.0 e (sym after.1 ∙ tells) in
         let Q : List ℕ → Type 0 = λ l. SpellsPage (place_bytes p.said id l) page in
         subst Q same (spelled_kept st.turn p.said b after.0 (torn_there b after.0 after.2) id page (was b told))
 

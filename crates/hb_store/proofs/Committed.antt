@@ -7,7 +7,7 @@ use Rattle.std.proofs.lemmas.List.{get_or_past, map-append}
 use Rattle.std.proofs.lemmas.List.Elements.{All-append, All-cons, All-nil}
 use Rattle.hb_disk.specs.Model.{DiskModel, IsDisk}
 use Rattle.hb_disk.specs.Calls.{IsSynced}
-use Rattle.hb_disk.specs.ValueLaws.{some_value}
+use Rattle.hb_lemmas.proofs.Options.{some_value}
 use Rattle.hb_wal.specs.Log.{LogState, Waiting}
 use Rattle.hb_wal.specs.Forces.{HasLog}
 use Rattle.hb_frag.specs.declared.pages.LivePage.{LivePage}

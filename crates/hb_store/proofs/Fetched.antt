@@ -7,7 +7,7 @@ use Rattle.std.proofs.lemmas.Bool.{cases_eq, eqb-true, eq-eqb, ne_eqb}
 use Rattle.hb_space.specs.declared.form.TheConstants.{PAGE}
 use Rattle.hb_disk.specs.Model.{DiskModel, IsDisk, Stays}
 use Rattle.hb_disk.specs.Calls.{IsSynced, Reads}
-use Rattle.hb_disk.specs.ValueLaws.{some_value}
+use Rattle.hb_lemmas.proofs.Options.{some_value}
 use Rattle.hb_frag.specs.declared.pages.LivePage.{LivePage}
 use Rattle.hb_frag.specs.declared.pages.Page.{Page}
 use Rattle.hb_frag.specs.declared.pages.Page.TheVariants.{Live}

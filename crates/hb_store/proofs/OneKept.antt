@@ -3,7 +3,7 @@ use Rattle.std.proofs.Common.{◌≡◌, ◌⊎◌, inl, inr, ℕ, IsTrue, Some,
 use Rattle.std.proofs.lemmas.Grind.{flat_map-append}
 use Rattle.std.proofs.lemmas.List.Elements.{All-head, All-tail}
 use Rattle.hb_disk.specs.Model.{DiskModel, IsDisk}
-use Rattle.hb_disk.specs.ValueLaws.{some_value}
+use Rattle.hb_lemmas.proofs.Options.{some_value}
 use Rattle.hb_super.specs.Superblocks.{IsNewest}
 use Rattle.hb_wal.specs.Frames.{frames, frame_bytes}
 use Rattle.hb_wal.specs.FrameLaws.{ReadsOneWay}

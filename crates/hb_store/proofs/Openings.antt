@@ -5,7 +5,7 @@ use Rattle.std.specs.FinMap as map
 use Rattle.std.specs.FinSet as set
 use Rattle.std.proofs.lemmas.List.Elements.{All-nil}
 use Rattle.hb_disk.specs.Model.{DiskModel, IsDisk}
-use Rattle.hb_disk.specs.ValueLaws.{at_value}
+use Rattle.hb_lemmas.proofs.Options.{at_value}
 use Rattle.hb_disk.proofs.Facts.SyncedLaws.{IsSynced-part}
 use Rattle.hb_wal.specs.Frames.{range}
 use Rattle.hb_frag.specs.declared.pages.Page.{Page}

@@ -1,9 +1,8 @@
 //! The types of this crate may go to another thread, and be read by several.
 
-ghost use Rattle.std.specs.Thread.{IsSend, IsSync};
-
 use crate::{FetchStop, Flushed, LogStop, StopWhy, Store, Touched, Why, WriteFault};
 use hb_disk::Device;
+use hb_lemmas::crosses;
 
 /// A store may go to another thread where its disk may.
 fn a_store_goes_where_its_disk_goes<D: Device + Send>() {
@@ -21,14 +20,3 @@ fn types_cross_threads<D: Device + Send + Sync>() {
     crosses::<WriteFault>();
     crosses::<Flushed>();
 }
-
-/// Values of the type may go to another thread.
-fn goes<T: Send>()
-    ensures sent { IsSend T.row }
-{}
-
-/// Values of the type may go to another thread, and be read by several.
-fn crosses<T: Send + Sync>()
-    ensures sent { IsSend T.row }
-    ensures read_by_several { IsSync T.row }
-{}

@@ -6,7 +6,8 @@ use Rattle.hb_disk.specs.Calls.{Writes, Syncs, Ticks, Leaves, Becomes, IsSynced,
 use Rattle.hb_disk.proofs.Facts.TornLaws.{Torn-same, Torn-itself, Torn-elsewhere}
 use Rattle.hb_disk.proofs.Facts.OverwrittenLaws.{overwritten-reads}
 use Rattle.hb_disk.proofs.Facts.RunLaws.{one_tick, Leaves-start, Leaves-call, Leaves-read, Leaves-then, Leaves-weaker}
-use Rattle.hb_disk.specs.ValueLaws.{some_same, some_value, at_value, of_value, if_value}
+use Rattle.hb_lemmas.proofs.Options.{some_value, at_value, of_value, if_value}
+use Rattle.std.proofs.lemmas.Option.{same_Some}
 use Rattle.hb_disk.proofs.Facts.BecomesLaws.{told_written, Becomes-read, Becomes-write, Becomes-torn, Becomes-torn_sync}
 use Rattle.hb_disk.proofs.Facts.SyncedLaws.{part_of}
 use Rattle.hb_layout.specs.declared.meta.Meta.{Meta}
@@ -42,7 +43,7 @@ zeroed_hides r v d one is_disk room turn ok writes e told meta = by_cases d.told
     by_cases (Some b) was =
         let zeroed = overwritten b (slot_offset turn + 1) (replicate 40 0) in
         let written : one.told ≡ Some zeroed = told_written r v (slot_offset turn + 1) (replicate 40 0) d one b ok was writes in
-        subst (λ (l : List ℕ). HidesNoOther l turn meta) (some_same zeroed e (sym written ∙ told))
+        subst (λ (l : List ℕ). HidesNoOther l turn meta) (same_Some zeroed e (sym written ∙ told))
         (zeros_none b turn meta (omega (arith, is_disk.long b (is_disk.as_read b was), room)))
 
 -- what the zeroing of a body, and the sync after it, touched and left

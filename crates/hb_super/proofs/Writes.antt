@@ -3,13 +3,14 @@ use Rattle.std.proofs.Common.{◌≡◌, ◌≢◌, inl, inr, ℕ, ◌+◌, ◌-
 use Rattle.std.proofs.Math.Dec.{eqb}
 use Rattle.std.proofs.lemmas.Bool.{cases_Bool, eqb-true, eqb-false}
 use Rattle.std.proofs.lemmas.List.{ext_get_or}
-use Rattle.hb_outside.specs.Numbers.{big_endian}
+use Rattle.hb_lemmas.specs.Numbers.{big_endian}
 use Rattle.hb_disk.specs.Model.{DiskModel, IsDisk, overwritten, Torn}
 use Rattle.hb_disk.specs.Calls.{Ticks, Writes, Syncs, Leaves, Becomes, IsSynced, FrameOrNot, Apart, open_gate}
 use Rattle.hb_disk.proofs.Facts.TornLaws.{cases_range, Torn-itself, Torn-wider, Torn-twice, Torn-elsewhere}
 use Rattle.hb_disk.proofs.Facts.OverwrittenLaws.{length-overwritten, overwritten-inside, overwritten-outside, overwritten-reads}
 use Rattle.hb_disk.proofs.Facts.RunLaws.{one_tick, Leaves-start, Leaves-call, Leaves-weaker, Leaves-then}
-use Rattle.hb_disk.specs.ValueLaws.{some_same, some_value, at_value, has_value}
+use Rattle.hb_lemmas.proofs.Options.{some_value, at_value, has_value}
+use Rattle.std.proofs.lemmas.Option.{same_Some}
 use Rattle.hb_disk.proofs.Facts.BecomesLaws.{told_written, Becomes-torn, Becomes-torn_write, Becomes-torn_sync}
 use Rattle.hb_disk.proofs.Facts.SyncedLaws.{only_told, part_of}
 use Rattle.hb_layout.specs.declared.meta.Meta.{Meta}
@@ -280,7 +281,7 @@ module _ (d : DiskModel) (is_disk : IsDisk d) (room : 8192 ≤ d.size) (turn : �
   newest_written old said next b told newest new run new_told =
       let c = overwritten b place (open_gate ∷ body) in
       let after = at_value d.told (λ b. (c : List ℕ) × (new.told ≡ Some c) × Torn place 41 b c) b told run.told in
-      let same : after.0 ≡ c = some_same after.0 c (sym after.1 ∙ new_told) in
+      let same : after.0 ≡ c = same_Some after.0 c (sym after.1 ∙ new_told) in
       let torn : Torn place 41 b c = subst (λ (l : List ℕ). Torn place 41 b l) same after.2 in
       after_other c turn old meta said
       (framed_super b turn meta legal (long b (is_disk.as_read b told)))

@@ -5,7 +5,7 @@ use Rattle.std.proofs.lemmas.List.Elements.{All-push}
 use Rattle.hb_disk.specs.Model.{DiskModel}
 use Rattle.hb_disk.specs.Calls.{OnlyReads}
 use Rattle.hb_disk.proofs.Facts.RunLaws.{OnlyReads-then}
-use Rattle.hb_disk.specs.ValueLaws.{if_value, at_value}
+use Rattle.hb_lemmas.proofs.Options.{if_value, at_value}
 use Rattle.hb_wal.specs.Frames.{frames, frame_bytes, IsPayload, range}
 use Rattle.hb_wal.specs.Reading.{FrameIs}
 use Rattle.hb_wal.specs.Loops.{HasRead}

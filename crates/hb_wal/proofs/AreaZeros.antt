@@ -6,7 +6,8 @@ use Rattle.hb_disk.specs.Calls.{Becomes, Leaves, Syncs, Ticks, Writes}
 use Rattle.hb_disk.proofs.Facts.TornLaws.{Torn-itself}
 use Rattle.hb_disk.proofs.Facts.RunLaws.{Leaves-start, Leaves-call}
 use Rattle.hb_disk.proofs.Facts.SyncedLaws.{IsSynced-sync}
-use Rattle.hb_disk.specs.ValueLaws.{if_value, some_same}
+use Rattle.hb_lemmas.proofs.Options.{if_value}
+use Rattle.std.proofs.lemmas.Option.{same_Some}
 use Rattle.hb_disk.proofs.Facts.BecomesLaws.{Becomes-torn, Becomes-torn_sync, Becomes-torn_write, told_written}
 use Rattle.hb_disk.proofs.Facts.OverwrittenLaws.{overwritten-reads}
 use Rattle.hb_wal.specs.Frames.{range}
@@ -26,7 +27,7 @@ module _ (old mid new : DiskModel) (area len : ℕ) (is_old : IsDisk old) (insid
   zeros_told None none b told = cc (writes.silent none, syncs.same)
   zeros_told (Some a) is b told =
       let after : mid.told ≡ Some (overwritten a area (replicate len 0)) = told_written zeroed v area (replicate len 0) old mid a zero_ok is writes in
-      let same : b ≡ overwritten a area (replicate len 0) = some_same b (overwritten a area (replicate len 0)) (sym told ∙ syncs.same ∙ after) in
+      let same : b ≡ overwritten a area (replicate len 0) = same_Some b (overwritten a area (replicate len 0)) (sym told ∙ syncs.same ∙ after) in
       let long : length a ≡ old.size = is_old.long a (is_old.as_read a is) in
       ap (λ (l : List ℕ). range area len l) same ∙ zeros_read a area len (omega (arith, long, inside)) ∙ ap (λ (n : ℕ). replicate n 0) (omega arith)
 

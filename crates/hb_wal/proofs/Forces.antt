@@ -9,7 +9,7 @@ use Rattle.hb_disk.specs.Model.{DiskModel, IsDisk, overwritten, Torn}
 use Rattle.hb_disk.specs.Calls.{Leaves, FrameOrNot, Becomes, open_gate}
 use Rattle.hb_disk.proofs.Facts.TornLaws.{Torn-itself, Torn-wider, Torn-elsewhere}
 use Rattle.hb_disk.proofs.Facts.RunLaws.{Leaves-start, Leaves-weaker}
-use Rattle.hb_disk.specs.ValueLaws.{at_value, of_value, if_value}
+use Rattle.hb_lemmas.proofs.Options.{at_value, of_value, if_value}
 use Rattle.hb_disk.proofs.Facts.BecomesLaws.{Becomes-weaker}
 use Rattle.hb_wal.specs.Frames.{frames, frame_bytes, frame_body, IsPayload, IsEnd, HasFrames, range}
 use Rattle.hb_wal.specs.Log.{Waiting, LogState, IsLog, BeginsWith, forced, after_force, framed_bytes, pending_bytes}

@@ -1,7 +1,7 @@
 -- What five bytes at a place tell of the frame that begins there.
 use Rattle.std.proofs.Common.{◌≡◌, ◌≢◌, ◌⊎◌, inl, inr, ℕ, ◌+◌, ◌-◌, ◌^◌, ◌<◌, ◌≤◌, List, [], ◌∷◌, ◌++◌, length, get_or, take, drop, sym, ap, ◌∙◌, subst, arith, append_assoc, length-take, length-drop}
 use Rattle.std.proofs.lemmas.List.{take-take, drop-take, drop-drop, take-append-drop, drop_more, get_or-take}
-use Rattle.hb_outside.specs.Numbers.{big_endian}
+use Rattle.hb_lemmas.specs.Numbers.{big_endian}
 use Rattle.hb_disk.specs.Calls.{open_gate}
 use Rattle.hb_wal.specs.Frames.{IsEnd, IsBadFrame, range}
 use Rattle.hb_wal.specs.Reading.{BeginsFrame}

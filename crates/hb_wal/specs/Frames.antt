@@ -1,6 +1,6 @@
 -- The log as frames that stand one after the other in an area.
 use Rattle.std.specs.Prelude.{◌≡◌, ◌≢◌, ◌⊎◌, ℕ, ◌<◌, ◌^◌, List, [], ◌∷◌, ◌++◌, length, take, drop, flat_map, All}
-use Rattle.hb_outside.specs.Numbers.{big_endian}
+use Rattle.hb_lemmas.specs.Numbers.{big_endian}
 use Rattle.hb_disk.specs.Calls.{open_gate}
 
 -- a frame: an open gate, the length of the payload in 4 bytes, the payload

@@ -1,6 +1,6 @@
 -- What reading an area's frames tells.
 use Rattle.std.specs.Prelude.{◌≡◌, ◌≢◌, ℕ, ◌<◌, ◌^◌, List, ◌∷◌, ◌++◌, get_or, Option, Some, None}
-use Rattle.hb_outside.specs.Numbers.{big_endian}
+use Rattle.hb_lemmas.specs.Numbers.{big_endian}
 use Rattle.hb_disk.specs.Calls.{open_gate}
 use Rattle.hb_wal.specs.Frames.{frame_bytes, IsPayload, IsEnd}
 

@@ -1,6 +1,6 @@
 ghost use Rattle.std.specs.Prelude.{◌≡◌, ◌↔◌, ◌<◌, ◌≤◌, ◌+◌, ◌*◌, ◌^◌, [], ◌∷◌, ◌++◌, List, length, take, drop, if◌then◌else◌, All, IfOk, IsNone, IfSome, vec_capacity};
 ghost use Rattle.hb_wal.specs.declared.groups.Group.{Group};
-ghost use Rattle.hb_outside.specs.Numbers.{big_endian};
+ghost use Rattle.hb_lemmas.specs.Numbers.{big_endian};
 ghost use Rattle.hb_space.specs.declared.form.TheConstants.{PENDING};
 ghost use Rattle.hb_wal.specs.Log.{LogState, IsLog, BeginsWith, after_force, room_of, pending_bytes, mark_of};
 

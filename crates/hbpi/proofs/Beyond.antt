@@ -3,7 +3,7 @@ use Rattle.std.proofs.Common.{◌≡◌, ℕ, zero, suc, ◌+◌, ◌*◌, ◌%�
 use Rattle.hb_disk.specs.Model.{DiskModel, IsDisk, Torn}
 use Rattle.hb_disk.specs.Calls.{Becomes, OnlyReads}
 use Rattle.hb_disk.proofs.Facts.RunLaws.{OnlyReads-none}
-use Rattle.hb_disk.specs.ValueLaws.{at_value}
+use Rattle.hb_lemmas.proofs.Options.{at_value}
 use Rattle.hb_disk.proofs.Facts.BecomesLaws.{Becomes-read, Becomes-torn, Becomes-weaker}
 use Rattle.hb_disk.proofs.Facts.TornLaws.{Torn-itself, Torn-wider}
 use Rattle.hb_super.specs.Superblocks.{IsNewest}

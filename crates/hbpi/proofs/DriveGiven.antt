@@ -1,7 +1,7 @@
 -- What `drive` answers where nothing failed.
 use Rattle.std.proofs.Common.{◌≡◌, ◌⊎◌, inl, inr, ℕ, true, List, Option, Some, Result, Ok, Err, refl, sym, ap, subst, ◌∙◌}
 use Rattle.hb_disk.specs.Model.{DiskModel}
-use Rattle.hb_disk.specs.ValueLaws.{at_value}
+use Rattle.hb_lemmas.proofs.Options.{at_value}
 use Rattle.hb_outside.specs.Streams.{Rose}
 use Rattle.hb_layout.specs.declared.meta.Meta.{Meta}
 use Rattle.hb_ops.specs.Files.{FileState}

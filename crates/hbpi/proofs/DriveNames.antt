@@ -1,7 +1,7 @@
 -- The bad line that `drive` names.
 use Rattle.std.proofs.Common.{◌≡◌, inl, inr, ℕ, true, List, Option, Some, Err, sym, ap, subst, ◌∙◌}
 use Rattle.hb_disk.specs.Model.{DiskModel}
-use Rattle.hb_disk.specs.ValueLaws.{at_value}
+use Rattle.hb_lemmas.proofs.Options.{at_value}
 use Rattle.hb_ops.specs.Files.{FileState}
 use Rattle.hb_store.specs.ImageLaws.{OpensToOne}
 use Rattle.hb_store.specs.Opening.{OpensTo}

@@ -11,7 +11,7 @@ use Rattle.hb_frag.specs.Trees.{Tree, Tip, Cut}
 use Rattle.hb_layout.specs.declared.meta.Meta.{Meta}
 use Rattle.hb_ops.specs.Sound.{SiblingsMatch}
 use Rattle.hb_restart.specs.NewFiles.{lone}
-use Rattle.hb_ops.proofs.Facts.ListLaws.{only_one}
+use Rattle.hb_lemmas.proofs.Lists.{only_one}
 use Rattle.hb_ops.proofs.Facts.LeafBoxLaws.{leaf_is_smaller}
 use Rattle.hb_ops.proofs.Facts.PlacedLaws.{placed, leaf_is_sibling}
 use Rattle.hb_restart.proofs.Facts.LoneLaws.{alone}

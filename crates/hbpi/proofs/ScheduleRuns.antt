@@ -4,7 +4,7 @@ use Rattle.hb_disk.specs.Model.{DiskModel, IsDisk}
 use Rattle.hb_layout.specs.declared.meta.Meta.{Meta}
 use Rattle.hb_disk.specs.Calls.{Leaves}
 use Rattle.hb_disk.proofs.Facts.RunLaws.{Leaves-start}
-use Rattle.hb_disk.specs.ValueLaws.{at_value, if_value, has_value}
+use Rattle.hb_lemmas.proofs.Options.{at_value, if_value, has_value}
 use Rattle.hb_outside.specs.Streams.{Rose, Appends, AppendsFront}
 use Rattle.hb_ops.specs.Files.{FileState, contents_of}
 use Rattle.hb_ops.specs.Sound.{IsSound}

@@ -5,7 +5,7 @@ use Rattle.hb_activity.specs.Deeds.{answers_now}
 use Rattle.hb_core.proofs.Chains.BuiltSteps.{after, forced_scene, gives_out, helps, performed, queued}
 use Rattle.hb_core.specs.ChainOfFullLog.{LogHasNoRoom, inserts_forty, log_before}
 use Rattle.hb_core.specs.Scenes.{Scene, machine_of, store_of}
-use Rattle.hb_outside.specs.Numbers.{big_endian}
+use Rattle.hb_lemmas.specs.Numbers.{big_endian}
 use Rattle.hb_point.specs.SessionRows.{taking}
 use Rattle.hb_store.specs.Calls.{IsReady}
 

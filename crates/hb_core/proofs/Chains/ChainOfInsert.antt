@@ -16,7 +16,7 @@ use Rattle.hb_frag.specs.Leaves.{leaves, leaves_of}
 use Rattle.hb_frag.specs.Rules.{BelongsAt, IsInOrder}
 use Rattle.hb_ops.specs.Recording.{FitsPut}
 use Rattle.hb_ops.specs.Sound.{FitsFile}
-use Rattle.hb_outside.specs.Numbers.{big_endian}
+use Rattle.hb_lemmas.specs.Numbers.{big_endian}
 use Rattle.hb_point.specs.SessionRows.{taking}
 use Rattle.hb_sound.proofs.ExampleParts.{each_at, in_order}
 use Rattle.hb_space.specs.Boxes.{whole_area}

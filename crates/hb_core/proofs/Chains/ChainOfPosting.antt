@@ -24,7 +24,7 @@ use Rattle.hb_frag.specs.Rules.{BelongsAt, IsInOrder}
 use Rattle.hb_ops.specs.Growing.{FitsGrow}
 use Rattle.hb_ops.specs.Posting.{FitsPost}
 use Rattle.hb_ops.specs.Sound.{FitsFile}
-use Rattle.hb_outside.specs.Numbers.{big_endian}
+use Rattle.hb_lemmas.specs.Numbers.{big_endian}
 use Rattle.hb_poster.specs.PosterRows.{ends_job}
 use Rattle.hb_sound.proofs.ExampleParts.{each_at, interval, no_records, top, within}
 use Rattle.hb_space.specs.Boxes.{Meets, side_below, whole_area}

@@ -15,7 +15,7 @@ use Rattle.hb_core.specs.ChainOfTwo.{TwoOnOnePage, full_page, inserts_seventy, l
 use Rattle.hb_core.specs.Rows.{Row}
 use Rattle.hb_core.specs.Scenes.{Scene, machine_of, standing, store_of}
 use Rattle.hb_frag.proofs.Stretches.{contains_one}
-use Rattle.hb_outside.specs.Numbers.{big_endian}
+use Rattle.hb_lemmas.specs.Numbers.{big_endian}
 use Rattle.hb_point.specs.SessionRows.{taking}
 use Rattle.hb_store.specs.Calls.{IsReady}
 

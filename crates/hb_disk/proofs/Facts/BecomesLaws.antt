@@ -5,7 +5,7 @@ use Rattle.hb_disk.specs.Model.{DiskModel, IsDisk, overwritten, Torn, Stays}
 use Rattle.hb_disk.specs.Calls.{Ticks, Writes, Syncs, Becomes, Then}
 use Rattle.hb_disk.proofs.Facts.TornLaws.{Torn-from, Torn-itself, Torn-wider, Torn-twice}
 use Rattle.hb_disk.proofs.Facts.OverwrittenLaws.{length-overwritten, overwritten-outside}
-use Rattle.hb_disk.specs.ValueLaws.{at_value, if_value}
+use Rattle.hb_lemmas.proofs.Options.{at_value, if_value}
 
 -- The told bytes after a write of a piece that fits are those before it, torn in the range.
 pub told_torn : {T E : Type 0} (r : Result T E) (at : ℕ) (piece : List ℕ) (old new : DiskModel) (b : List ℕ) → IsDisk new

@@ -4,7 +4,8 @@ use Rattle.std.proofs.lemmas.List.{drop-take, take-take, drop-drop}
 use Rattle.hb_disk.specs.Model.{DiskModel, Torn}
 use Rattle.hb_disk.specs.Calls.{Syncs, Apart, IsSynced, Becomes}
 use Rattle.hb_disk.proofs.Facts.TornLaws.{Torn-elsewhere}
-use Rattle.hb_disk.specs.ValueLaws.{at_value, some_same}
+use Rattle.hb_lemmas.proofs.Options.{at_value}
+use Rattle.std.proofs.lemmas.Option.{same_Some}
 
 part_cut : (at n from m : ℕ) (l : List ℕ) → at ≤ from → from + m ≤ at + n → take m (drop (from - at) (take n (drop at l))) ≡ take m (drop from l)
 part_cut at n from m l low high =
@@ -52,7 +53,7 @@ IsSynced-kept R old new at n alone run was = record {
     by_cases None none d c told_new image = cc (run.silent none)
     by_cases (Some b) told d c told_new image =
         let after = at_value old.told (λ b. (c : List ℕ) × (new.told ≡ Some c) × R b c) b told run.told in
-        let same : after.0 ≡ d = some_same after.0 d (sym after.1 ∙ told_new) in
+        let same : after.0 ≡ d = same_Some after.0 d (sym after.1 ∙ told_new) in
         let before = run.crash c image in
         alone before.0 c before.2 ∙ was.each b before.0 told before.1 ∙ sym (alone b after.0 after.2) ∙ ap (λ (l : List ℕ). take n (drop at l)) same
 
@@ -66,7 +67,7 @@ pub told_elsewhere : (old new : DiskModel) (b c : List ℕ) (at n from m : ℕ) 
     → Becomes (Torn from m) old new → take n (drop at c) ≡ take n (drop at b)
 told_elsewhere old new b c at n from m told told_new apart run =
     let after = at_value old.told (λ b. (c : List ℕ) × (new.told ≡ Some c) × Torn from m b c) b told run.told in
-    ap (λ (l : List ℕ). take n (drop at l)) (some_same c after.0 (sym told_new ∙ after.1)) ∙ Torn-elsewhere from m at n b after.0 apart after.2
+    ap (λ (l : List ℕ). take n (drop at l)) (same_Some c after.0 (sym told_new ∙ after.1)) ∙ Torn-elsewhere from m at n b after.0 apart after.2
 
 -- a part of a range that is synced
 pub IsSynced-part : (d : DiskModel) (at n from m : ℕ) → at ≤ from → from + m ≤ at + n → IsSynced d at n → IsSynced d from m

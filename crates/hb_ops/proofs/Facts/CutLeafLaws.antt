@@ -14,7 +14,7 @@ use Rattle.hb_ops.specs.declared.leaf_cuts.LeafCut.{LeafCut}
 use Rattle.hb_ops.specs.Cutting.{PartLeaves, PartsLeaf, area_on, cut_through, cut_with, going, half_area, half_on, is_on, other_side, reached, staying}
 use Rattle.hb_ops.proofs.Facts.LeafHalfLaws.{half_in_order, side_attributes}
 use Rattle.hb_ops.proofs.Facts.PlacedLaws.{placed}
-use Rattle.hb_ops.proofs.Facts.ListLaws.{only_one}
+use Rattle.hb_lemmas.proofs.Lists.{only_one}
 
 -- what a filter keeps was there
 filter_has : {X : Type 0} (p : X → Bool) (xs : List X) (x : X) → Contains (filter p xs) x → Contains xs x

@@ -7,7 +7,7 @@ use Rattle.hb_space.specs.Boxes.{Area, Cuts, side_below, side_from}
 use Rattle.hb_frag.specs.declared.leaves.Leaf.{Leaf}
 use Rattle.hb_frag.specs.Leaves.{Placed, IsWellCut, leaves_of}
 use Rattle.hb_frag.specs.Trees.{Tree, Tip, Cut}
-use Rattle.hb_ops.proofs.Facts.ListLaws.{only_one}
+use Rattle.hb_lemmas.proofs.Lists.{only_one}
 
 -- in each attribute one box lies in another
 record Lies (a b : Area) : Type 0 where

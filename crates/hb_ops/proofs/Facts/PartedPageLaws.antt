@@ -17,7 +17,7 @@ use Rattle.hb_ops.specs.Cutting.{cut_through}
 use Rattle.hb_ops.proofs.Facts.CutLeafLaws.{reached_attributes, reached_well_cut, through_well_cut}
 use Rattle.hb_ops.proofs.Facts.CutShapeLaws.{not_lone_end, reached_normal, reached_weighs, through_like_none, through_normal, through_weighs, weighs_some}
 use Rattle.hb_ops.proofs.Facts.PathLaws.{not_lone_again, normal_again, part_has, well_cut_again}
-use Rattle.hb_ops.proofs.Facts.ListLaws.{each_member}
+use Rattle.hb_lemmas.proofs.Lists.{each_member}
 use Rattle.hb_ops.proofs.Facts.PlacedLaws.{each_leaf}
 use Rattle.hb_ops.proofs.Facts.StemLaws.{PartLaws, fresh_stems, sibling_in_order, source_stems, stems_belong, stems_in_order}
 

@@ -4,7 +4,7 @@ use Rattle.std.proofs.lemmas.List.{get_or-take, get_or-drop}
 use Rattle.hb_disk.specs.Model.{DiskModel, IsDisk}
 use Rattle.hb_disk.specs.Calls.{IsSynced}
 use Rattle.hb_disk.proofs.Facts.SyncedLaws.{part_of}
-use Rattle.hb_disk.specs.ValueLaws.{some_value, at_value}
+use Rattle.hb_lemmas.proofs.Options.{some_value, at_value}
 use Rattle.hb_wal.specs.Frames.{range}
 use Rattle.hb_wal.specs.Forces.{HasLog}
 use Rattle.hb_layout.specs.Offsets.{slot_offset, log_start, file_size}

@@ -1,7 +1,7 @@
 use Rattle.std.proofs.Common.{◌≡◌, ◌≤◌, ◌+◌, ℕ, List, ◌∷◌, Some, IfSome, length, arith}
 use Rattle.hb_disk.specs.Model.{overwritten}
 use Rattle.hb_disk.specs.Calls.{open_gate}
-use Rattle.hb_disk.specs.ValueLaws.{some_value, if_value, has_value, on_ok}
+use Rattle.hb_lemmas.proofs.Options.{some_value, if_value, has_value, on_ok}
 use Rattle.hb_disk.proofs.Facts.BecomesLaws.{Becomes-torn_write}
 use Rattle.hb_disk.proofs.Gate.{run_one, run_two, run_three, run_four, new_told, place_two, place_three, place_four}
 use Rattle.hb_disk.proofs.callers.write_behind_gate.Goals as goal

@@ -1,6 +1,6 @@
 use Rattle.std.proofs.Common.{◌≡◌, List, ℕ, Some, IfSome}
 use Rattle.hb_disk.specs.Model.{overwritten}
-use Rattle.hb_disk.specs.ValueLaws.{some_value, if_value, on_ok}
+use Rattle.hb_lemmas.proofs.Options.{some_value, if_value, on_ok}
 use Rattle.hb_disk.proofs.InOrder.{run_one, run_two, run_three, run_four, new_told, place_one, place_two, place_three, place_four}
 use Rattle.hb_disk.proofs.callers.write_in_order.Goals as goal
 

@@ -1,6 +1,6 @@
 use Rattle.std.proofs.Common.{◌≡◌, ◌++◌, take}
 use Rattle.std.specs.List.{flat_map}
-use Rattle.hb_outside.specs.Numbers.{big_endian}
+use Rattle.hb_lemmas.specs.Numbers.{big_endian}
 use Rattle.hb_log_codec.proofs.writing.append_point.Given as goal
 
 -- the values so far were added

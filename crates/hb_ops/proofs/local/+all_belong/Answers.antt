@@ -1,5 +1,5 @@
 use Rattle.hb_frag.specs.Rules.{BelongsAt}
-use Rattle.hb_ops.proofs.Facts.ListLaws.{first_tells, second_tells}
+use Rattle.hb_lemmas.proofs.Lists.{first_tells, second_tells}
 use Rattle.hb_ops.proofs.local.+all_belong.Goals as goal
 
 pub returns-then-all_belong : goal.returns-then-all_belong

@@ -1,5 +1,5 @@
 use Rattle.hb_frag.specs.Rules.{IsInOrder}
-use Rattle.hb_ops.proofs.Facts.ListLaws.{first_tells, one_tells, second_tells}
+use Rattle.hb_lemmas.proofs.Lists.{first_tells, one_tells, second_tells}
 use Rattle.hb_ops.proofs.local.+are_in_order.Goals as goal
 
 pub returns-in-Tip : goal.returns-in-Tip

@@ -1,4 +1,4 @@
-use Rattle.hb_outside.proofs.Spelling.{length-big_endian, big_endian-small, big_endian-injective}
+use Rattle.hb_lemmas.proofs.Numbers.{length-big_endian, big_endian-small, big_endian-injective}
 use Rattle.hb_outside.proofs.numbers.big_endian_law.Goals as goal
 
 pub returns-clause-count : goal.returns-clause-count

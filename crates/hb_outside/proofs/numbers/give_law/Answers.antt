@@ -1,4 +1,4 @@
-use Rattle.hb_outside.proofs.Spelling.{slice_range-given, slice_range-given_before, slice_range-given_behind}
+use Rattle.hb_lemmas.proofs.Numbers.{slice_range-given, slice_range-given_before, slice_range-given_behind}
 use Rattle.hb_outside.proofs.numbers.give_law.Goals as goal
 
 pub returns-clause-given : goal.returns-clause-given

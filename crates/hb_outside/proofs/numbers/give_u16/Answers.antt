@@ -1,4 +1,4 @@
-use Rattle.hb_outside.proofs.Spelling.{given}
+use Rattle.hb_lemmas.proofs.Numbers.{given}
 use Rattle.hb_outside.proofs.numbers.give_u16.Goals as goal
 
 pub returns : goal.returns

@@ -1,5 +1,5 @@
 use Rattle.std.proofs.Common.{sym, ◌∙◌, arith}
-use Rattle.hb_outside.proofs.Spelling.{spelled_2, big_number-spelled}
+use Rattle.hb_lemmas.proofs.Numbers.{spelled_2, big_number-spelled}
 use Rattle.hb_outside.proofs.numbers.u16_of.Goals as goal
 
 pub returns : goal.returns

@@ -1,5 +1,5 @@
 use Rattle.std.proofs.Common.{sym, ◌∙◌, arith}
-use Rattle.hb_outside.proofs.Spelling.{spelled_4, big_number-spelled}
+use Rattle.hb_lemmas.proofs.Numbers.{spelled_4, big_number-spelled}
 use Rattle.hb_outside.proofs.numbers.u32_of.Goals as goal
 
 pub returns : goal.returns

@@ -1,6 +1,6 @@
 use Rattle.std.proofs.Common.{◌∷◌, length, length-append, arith}
 use Rattle.std.specs.List.{flat_map}
-use Rattle.hb_outside.specs.Numbers.{big_endian}
+use Rattle.hb_lemmas.specs.Numbers.{big_endian}
 use Rattle.hb_frag.specs.Grammar.{record_bytes}
 use Rattle.hb_page_codec.proofs.Fields.{length_number}
 use Rattle.hb_page_codec.proofs.encoding.put_leaf.Goals as goal

@@ -1,6 +1,6 @@
 use Rattle.std.proofs.Common.{◌≡◌, List, ℕ, length, ap, subst, slice_index_or, arith}
 use Rattle.std.specs.List.{flat_map}
-use Rattle.hb_outside.specs.Numbers.{big_endian}
+use Rattle.hb_lemmas.specs.Numbers.{big_endian}
 use Rattle.hb_page_codec.specs.Writing.{Wrote}
 use Rattle.hb_page_codec.proofs.Fields.{length_number}
 use Rattle.hb_page_codec.proofs.Writes.{room_for, Wrote-next, Wrote-nothing, wrote_all}

@@ -1,6 +1,6 @@
 use Rattle.std.proofs.Common.{take}
 use Rattle.std.specs.List.{flat_map}
-use Rattle.hb_outside.specs.Numbers.{big_endian}
+use Rattle.hb_lemmas.specs.Numbers.{big_endian}
 use Rattle.hb_page_codec.specs.Writing.{Wrote}
 use Rattle.hb_page_codec.proofs.encoding.put_point.Given as goal
 

@@ -1,7 +1,7 @@
 use Rattle.std.proofs.Common.{◌≡◌, ◌≢◌, ℕ, ◌≤◌, ◌∙◌, ◌∷◌, List, get_or, Some, IfSome, IsSome, length, ap, arith}
 use Rattle.hb_disk.specs.Model.{overwritten}
 use Rattle.hb_disk.specs.Calls.{open_gate}
-use Rattle.hb_disk.specs.ValueLaws.{at_value, some_value}
+use Rattle.hb_lemmas.proofs.Options.{at_value, some_value}
 use Rattle.hb_frag.specs.declared.pages.Page.{Page}
 use Rattle.hb_frag.specs.Grammar.{SpellsPage}
 use Rattle.hb_super.specs.Superblocks.{IsNewest, body_bytes}

@@ -1,7 +1,7 @@
 use Rattle.std.proofs.Common.{◌≡◌, ℕ, ◌+◌, ◌*◌, ◌≤◌, ◌∙◌, List, replicate, Some, IfSome, length, subst, arith}
 use Rattle.std.proofs.lemmas.List.{length-replicate}
 use Rattle.hb_disk.specs.Model.{overwritten}
-use Rattle.hb_disk.specs.ValueLaws.{if_value, at_value, on_ok}
+use Rattle.hb_lemmas.proofs.Options.{if_value, at_value, on_ok}
 use Rattle.hb_restart.specs.Creation.{HasEmptyPlaces, IsLaidOut}
 use Rattle.hb_layout.specs.Offsets.{file_size}
 use Rattle.hb_restart.proofs.Beyond.{beyond_sync, beyond_then, beyond_write}

@@ -13,7 +13,7 @@ use Rattle.hb_restart.proofs.Made.{no_error}
 use Rattle.hb_restart.proofs.Recovered.{recovered_even, recovered_fresh, recovered_opened, recovered_meta, recovered_late, recovered_time}
 use Rattle.hb_restart.specs.Beyond.{KeepsBeyondFile}
 use Rattle.hb_layout.specs.declared.meta.Meta.{Meta}
-use Rattle.hb_disk.specs.ValueLaws.{if_value}
+use Rattle.hb_lemmas.proofs.Options.{if_value}
 use Rattle.hb_restart.proofs.Beyond.{beyond_found, found_said}
 use Rattle.hb_frag.specs.declared.pages.Page.{Page}
 use Rattle.hb_restart.specs.Renewing.{StillOpens}

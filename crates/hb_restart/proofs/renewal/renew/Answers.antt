@@ -1,7 +1,7 @@
 use Rattle.std.proofs.Common.{◌≡◌, ℕ, ◌+◌, List, Some, IfSome, ◌∙◌}
 use Rattle.std.specs.Ordering.{nat_cmp}
 use Rattle.std.specs.BTreeMap.{get}
-use Rattle.hb_disk.specs.ValueLaws.{has_value, if_value, on_ok_weaker}
+use Rattle.hb_lemmas.proofs.Options.{has_value, if_value, on_ok_weaker}
 use Rattle.hb_super.specs.Superblocks.{next_turn}
 use Rattle.hb_layout.specs.declared.meta.Meta.{Meta}
 use Rattle.hb_ops.specs.Files.{FileState}

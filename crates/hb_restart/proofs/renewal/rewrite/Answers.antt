@@ -2,7 +2,7 @@ use Rattle.std.proofs.Common.{◌≡◌, ℕ, List, Option, Some}
 use Rattle.std.specs.Ordering.{nat_cmp}
 use Rattle.std.specs.BTreeMap.{get}
 use Rattle.hb_disk.proofs.Facts.RunLaws.{Leaves-weaker, Leaves-then}
-use Rattle.hb_disk.specs.ValueLaws.{on_ok, on_ok_weaker}
+use Rattle.hb_lemmas.proofs.Options.{on_ok, on_ok_weaker}
 use Rattle.hb_super.specs.Superblocks.{next_turn}
 use Rattle.hb_frag.specs.declared.pages.Page.{Page}
 use Rattle.hb_layout.specs.declared.meta.Meta.{Meta}

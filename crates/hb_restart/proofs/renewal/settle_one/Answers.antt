@@ -1,7 +1,7 @@
 use Rattle.std.proofs.Common.{◌≡◌, ◌+◌, ℕ, List, Some, refl, sym, arith}
 use Rattle.std.specs.Ordering.{nat_cmp}
 use Rattle.std.specs.BTreeMap.{get}
-use Rattle.hb_disk.specs.ValueLaws.{on_ok_weaker}
+use Rattle.hb_lemmas.proofs.Options.{on_ok_weaker}
 use Rattle.hb_super.specs.Superblocks.{next_turn}
 use Rattle.hb_layout.specs.declared.meta.Meta.{Meta}
 use Rattle.hb_layout.specs.Offsets.{file_size}

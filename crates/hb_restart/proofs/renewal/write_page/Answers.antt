@@ -1,6 +1,6 @@
 use Rattle.std.proofs.Common.{◌≡◌, ℕ, List, Some, IfSome, length, arith}
 use Rattle.hb_disk.specs.Model.{overwritten}
-use Rattle.hb_disk.specs.ValueLaws.{on_ok_weaker}
+use Rattle.hb_lemmas.proofs.Options.{on_ok_weaker}
 use Rattle.hb_disk.proofs.Facts.BecomesLaws.{Becomes-write}
 use Rattle.hb_frag.specs.Grammar.{SpellsPage}
 use Rattle.hb_store.specs.Opening.{place_bytes}

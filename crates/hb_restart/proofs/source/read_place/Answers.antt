@@ -1,5 +1,5 @@
 use Rattle.std.proofs.Common.{◌≡◌, length, take, drop, IfSome, arith}
-use Rattle.hb_disk.specs.ValueLaws.{on_ok_weaker}
+use Rattle.hb_lemmas.proofs.Options.{on_ok_weaker}
 use Rattle.hb_store.specs.Opening.{place_bytes}
 use Rattle.hb_restart.proofs.PlaceReads.{place_read}
 use Rattle.hb_restart.proofs.source.read_place.Goals as goal

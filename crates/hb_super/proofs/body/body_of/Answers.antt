@@ -1,5 +1,5 @@
 use Rattle.std.proofs.Common.{◌≡◌, ℕ, ◌+◌, List, ◌∷◌, ◌++◌, take, drop, replicate, refl, ap, ◌∙◌}
-use Rattle.hb_outside.specs.Numbers.{big_endian}
+use Rattle.hb_lemmas.specs.Numbers.{big_endian}
 use Rattle.hb_space.specs.declared.form.TheConstants.{VERSION}
 use Rattle.hb_super.specs.Superblocks.{magic}
 use Rattle.hb_super.proofs.body.body_of.Goals as goal

@@ -1,5 +1,5 @@
 use Rattle.std.proofs.Common.{◌≡◌, ℕ, List, get_or, slice_range, ap, arith}
-use Rattle.hb_outside.specs.Numbers.{big_endian}
+use Rattle.hb_lemmas.specs.Numbers.{big_endian}
 use Rattle.hb_super.specs.Superblocks.{body_bytes}
 use Rattle.hb_super.proofs.body.fields_of.Goals as goal
 

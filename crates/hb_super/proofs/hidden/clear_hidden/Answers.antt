@@ -1,7 +1,7 @@
 use Rattle.std.proofs.Common.{◌+◌, inr}
 use Rattle.hb_disk.proofs.Facts.BecomesLaws.{Becomes-torn}
 use Rattle.hb_disk.proofs.Facts.SyncedLaws.{IsSynced-durable}
-use Rattle.hb_disk.specs.ValueLaws.{if_value, at_value}
+use Rattle.hb_lemmas.proofs.Options.{if_value, at_value}
 use Rattle.hb_layout.specs.declared.meta.Meta.{Meta}
 use Rattle.hb_layout.specs.Offsets.{slot_offset}
 use Rattle.hb_super.specs.Moments.{HidesNoOther}

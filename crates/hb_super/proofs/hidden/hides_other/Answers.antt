@@ -1,6 +1,6 @@
 use Rattle.std.proofs.Common.{◌≡◌, ℕ, length, take, drop, ap, ◌∙◌}
 use Rattle.hb_disk.proofs.Facts.RunLaws.{OnlyReads-read}
-use Rattle.hb_disk.specs.ValueLaws.{if_value, at_value}
+use Rattle.hb_lemmas.proofs.Options.{if_value, at_value}
 use Rattle.hb_super.specs.Hidden.{HidesIs}
 use Rattle.hb_super.proofs.Clears.{hides_read}
 use Rattle.hb_super.proofs.hidden.hides_other.Goals as goal

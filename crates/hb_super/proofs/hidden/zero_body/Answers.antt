@@ -1,6 +1,6 @@
 use Rattle.std.proofs.Common.{ℕ, ◌+◌, List, IfSome, replicate, sym, ◌∙◌, subst}
 use Rattle.hb_disk.specs.Calls.{Writes}
-use Rattle.hb_disk.specs.ValueLaws.{if_value, on_ok}
+use Rattle.hb_lemmas.proofs.Options.{if_value, on_ok}
 use Rattle.hb_layout.specs.declared.meta.Meta.{Meta}
 use Rattle.hb_super.specs.Moments.{HidesNoOther}
 use Rattle.hb_super.proofs.Clears.{zero_moments, zero_place, zero_clock, sync_moments, sync_place, sync_durable, sync_clock, zeroed_hides}

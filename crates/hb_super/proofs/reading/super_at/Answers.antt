@@ -1,5 +1,5 @@
 use Rattle.std.proofs.Common.{◌≡◌, ℕ, List, length, take, drop, arith, ap, ◌∙◌, subst}
-use Rattle.hb_disk.specs.ValueLaws.{if_value, at_value}
+use Rattle.hb_lemmas.proofs.Options.{if_value, at_value}
 use Rattle.hb_layout.specs.Offsets.{slot_offset}
 use Rattle.hb_super.specs.Reading.{IsOf, StandsInPlace}
 use Rattle.hb_super.proofs.Supers.{stands}

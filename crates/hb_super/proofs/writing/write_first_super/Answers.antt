@@ -1,7 +1,7 @@
 use Rattle.std.proofs.Common.{◌≡◌, ◌≢◌, ℕ, ◌+◌, ◌≤◌, List, ◌∷◌, Some, IsSome, IfSome, get_or, length, subst, sym, arith}
 use Rattle.hb_disk.specs.Model.{overwritten, Torn}
 use Rattle.hb_disk.specs.Calls.{Leaves, Becomes, FrameOrNot, open_gate}
-use Rattle.hb_disk.specs.ValueLaws.{if_value, at_value, of_value}
+use Rattle.hb_lemmas.proofs.Options.{if_value, at_value, of_value}
 use Rattle.hb_super.specs.Superblocks.{IsNewest, body_bytes}
 use Rattle.hb_super.proofs.Writes.{one_more}
 use Rattle.hb_super.proofs.Firsts.{first_newest, of_first}

@@ -1,7 +1,7 @@
 use Rattle.std.proofs.Common.{◌≡◌, ℕ, List, [], ◌∷◌, Some, IfSome, subst, arith}
 use Rattle.hb_disk.specs.Model.{overwritten}
 use Rattle.hb_disk.specs.Calls.{Leaves, Writes, open_gate}
-use Rattle.hb_disk.specs.ValueLaws.{if_value, of_value}
+use Rattle.hb_lemmas.proofs.Options.{if_value, of_value}
 use Rattle.hb_layout.specs.Offsets.{slot_offset}
 use Rattle.hb_super.specs.Superblocks.{IsNewest, body_bytes}
 use Rattle.hb_super.specs.Moments.{WriteLeaves}

@@ -2,7 +2,7 @@ use Rattle.std.proofs.Common.{◌≡◌, ℕ, List, Some, replicate, subst, ◌�
 use Rattle.hb_disk.specs.Model.{overwritten}
 use Rattle.hb_disk.specs.Calls.{Writes}
 use Rattle.hb_disk.proofs.Facts.BecomesLaws.{told_written}
-use Rattle.hb_disk.specs.ValueLaws.{if_value}
+use Rattle.hb_lemmas.proofs.Options.{if_value}
 use Rattle.hb_wal.proofs.AreaZeros.{zero_moments, zero_place, sync_moments, sync_place, zeroed_log}
 use Rattle.hb_wal.proofs.areas.zero_area.Goals as goal
 

@@ -1,6 +1,6 @@
 use Rattle.std.proofs.Common.{◌≡◌, ◌≢◌, ◌⊎◌, inl, inr, ℕ, ◌+◌, ◌-◌, ◌<◌, ◌≤◌, List, length, take, drop, Option, Some, None, IfSome, arith, ap, sym, ◌∙◌, subst}
 use Rattle.hb_disk.specs.Model.{DiskModel, IsDisk}
-use Rattle.hb_disk.specs.ValueLaws.{if_value, at_value}
+use Rattle.hb_lemmas.proofs.Options.{if_value, at_value}
 use Rattle.hb_wal.specs.Frames.{IsEnd, IsBadFrame, range}
 use Rattle.hb_wal.specs.Reading.{HeadIs, BeginsFrame}
 use Rattle.hb_wal.proofs.HeadBytes.{short_end, closed_gate_end, bad_frame, good_frame}

@@ -1,9 +1,9 @@
 use Rattle.std.proofs.Common.{◌≡◌, ◌++◌, List, ℕ, Some, None, length, take, drop, ap, ◌∙◌}
 use Rattle.std.specs.List.{slice_get}
 use Rattle.std.proofs.lemmas.List.{take_at, drop_at}
-use Rattle.hb_outside.specs.Numbers.{big_endian}
-use Rattle.hb_outside.proofs.Spelling.{length-big_endian}
-use Rattle.hb_disk.specs.ValueLaws.{some_same}
+use Rattle.hb_lemmas.specs.Numbers.{big_endian}
+use Rattle.hb_lemmas.proofs.Numbers.{length-big_endian}
+use Rattle.std.proofs.lemmas.Option.{same_Some}
 use Rattle.hb_wal.specs.declared.groups.Group.{Group}
 use Rattle.hb_wal.proofs.log.set_next_length.Goals as goal
 
@@ -23,7 +23,7 @@ module _ (c : goal.After-bytes-1) where
 
 pub returns-in-Some-clause-front : goal.returns-in-Some-clause-front
 returns-in-Some-clause-front c = λ g rest e.
-    front c ∙ ap (λ (h : Group). big_endian 4 h.len) (some_same c.in-Some.next.now g (c.in-Some.ensures.value ∙ ap (λ (l : List Group). slice_get l 0) e))
+    front c ∙ ap (λ (h : Group). big_endian 4 h.len) (same_Some c.in-Some.next.now g (c.in-Some.ensures.value ∙ ap (λ (l : List Group). slice_get l 0) e))
 
 pub returns-in-Some-clause-rest : goal.returns-in-Some-clause-rest
 returns-in-Some-clause-rest c =

@@ -1,5 +1,5 @@
 use Rattle.std.proofs.Common.{◌≡◌, ℕ, ◌+◌, ◌-◌, ◌≤◌, Err, length, ap, ◌∙◌, arith}
-use Rattle.hb_disk.specs.ValueLaws.{at_value}
+use Rattle.hb_lemmas.proofs.Options.{at_value}
 use Rattle.hb_wal.specs.Frames.{IsPayload}
 use Rattle.hb_wal.specs.Stops.{stop_after}
 use Rattle.hb_wal.specs.declared.heads.FrameStop.{FrameStop}

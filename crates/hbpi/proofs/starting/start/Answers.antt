@@ -9,7 +9,7 @@ use Rattle.hb_store.specs.Seen.{seen_as, disk_of}
 use Rattle.hbpi.specs.Starting.{IsOnePage}
 use Rattle.std.specs.Prelude.{IfSome}
 use Rattle.hbpi.proofs.Started.{larger_of, left_of}
-use Rattle.hb_disk.specs.ValueLaws.{at_value, if_value}
+use Rattle.hb_lemmas.proofs.Options.{at_value, if_value}
 use Rattle.hb_restart.specs.declared.faults.OpenFault.{OpenFault}
 use Rattle.hbpi.specs.declared.starting.StartFault.TheVariants as starts
 use Rattle.hbpi.proofs.starting.start.Goals as goal

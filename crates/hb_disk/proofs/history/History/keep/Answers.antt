@@ -1,5 +1,5 @@
 use Rattle.std.proofs.Common.{◌≡◌, take, drop, rules}
-use Rattle.hb_disk.specs.ValueLaws.{on_ok_weaker}
+use Rattle.hb_lemmas.proofs.Options.{on_ok_weaker}
 use Rattle.hb_disk.specs.NotedCalls.{Notes, IsOver}
 use Rattle.hb_disk.specs.declared.event.Change.TheVariants.{Wrote}
 use Rattle.hb_disk.proofs.Histories.{Notes-weaker}

@@ -1,5 +1,5 @@
 use Rattle.std.proofs.Common.{◌≡◌, ◌++◌, List, false, sym, subst, ap, ◌∙◌}
-use Rattle.hb_disk.specs.ValueLaws.{some_value}
+use Rattle.hb_lemmas.proofs.Options.{some_value}
 use Rattle.hb_disk.specs.Calls.{Leaves}
 use Rattle.hb_ops.specs.Files.{FileState}
 use Rattle.hb_wal.specs.Log.{LogState, forced}

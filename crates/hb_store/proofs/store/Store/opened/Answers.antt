@@ -1,5 +1,5 @@
 use Rattle.std.proofs.Common.{[], sym, subst}
-use Rattle.hb_disk.specs.ValueLaws.{some_value}
+use Rattle.hb_lemmas.proofs.Options.{some_value}
 use Rattle.hb_store.specs.States.{IsNew, StoreState}
 use Rattle.hb_store.specs.Keeps.{StoreKeeps}
 use Rattle.hb_store.proofs.Openings.{fresh_keeps, is_new}

@@ -1,6 +1,6 @@
 use Rattle.std.proofs.Common.{◌≡◌, ◌+◌, [], ◌∷◌, ◌++◌, List, ℕ, length, take, drop, arith, sym, ap, ◌∙◌, is_ok, refl, cond, true, false}
 use Rattle.std.proofs.lemmas.Bool.{cond-true}
-use Rattle.hb_outside.specs.Numbers.{big_endian}
+use Rattle.hb_lemmas.specs.Numbers.{big_endian}
 use Rattle.hb_wal.specs.declared.groups.Group.{Group}
 use Rattle.hb_wal.specs.Log.{LogState, pending_bytes}
 use Rattle.hb_wal.specs.Kept.{log_seen, total_of}

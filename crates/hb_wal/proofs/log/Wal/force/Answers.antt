@@ -1,5 +1,5 @@
 use Rattle.std.proofs.Common.{refl}
-use Rattle.hb_disk.specs.ValueLaws.{some_value}
+use Rattle.hb_lemmas.proofs.Options.{some_value}
 use Rattle.hb_wal.proofs.Forces.{body_inside, at_closed, place_within, moments_within, log_anyway, nothing_left}
 use Rattle.hb_wal.proofs.log.Wal.force.Goals as goal
 

@@ -2,14 +2,15 @@
 use Rattle.std.proofs.Common.{◌≡◌, ℕ, zero, suc, ◌+◌, ◌-◌, ◌^◌, ◌<◌, ◌≤◌, List, [], ◌++◌, All, length, get_or, take, drop, append_assoc, refl, sym, ap, ◌∙◌, arith, slice_range}
 use Rattle.std.proofs.lemmas.List.{append-nil}
 use Rattle.std.proofs.lemmas.Nat.{be_bytes_2, be_bytes_4, be_bytes_8}
-use Rattle.byteorder.specs.Endian.{big_number, big_bytes}
+use Rattle.byteorder.specs.Endian.{big_number, big_bytes, big_from}
 use Rattle.byteorder.specs.Numbers.{length-bytes_high_first, big_number-reads_back}
 use Rattle.std.specs.Int.{byte_at, bytes_high_first}
 use Rattle.std.proofs.lemmas.Slice.{between_is, between-put_mid, take-put_mid_below, drop-put_mid}
 use borrow.Rule.Slice.PartMut.{put_mid, Post-is}
 use Rattle.std.proofs.lemmas.List.{length-take}
 use Rattle.std.proofs.Math.ListN.{drop_of_length-le}
-use Rattle.hb_outside.specs.Numbers.{big_endian}
+use Rattle.hb_lemmas.specs.Numbers.{big_endian}
+use Rattle.hb_lemmas.proofs.Lists.{same_fronts}
 
 -- there are as many bytes as the width says
 pub length-big_endian : (width n : ℕ) → length (big_endian width n) ≡ width
@@ -97,3 +98,11 @@ slice_range-given_behind width n at old i j above within =
     let count : length (big_endian width n) ≡ at + width - at = length-big_endian width n ∙ omega arith in
     ap (λ (bytes : List ℕ). slice_range bytes i j) (joined at width old (big_endian width n))
     ∙ ap (λ (bytes : List ℕ). take (j - i) bytes) (drop-put_mid at (at + width - at) old (big_endian width n) i (omega arith) within count)
+
+-- a number in front of bytes, and the bytes behind it
+pub same_number : (m n : ℕ) (r s : List ℕ) → m < 2 ^ 32 → n < 2 ^ 32 → big_endian 4 m ++ r ≡ big_endian 4 n ++ s → (m ≡ n) × (r ≡ s)
+unfolding big_endian
+same_number m n r s m_fits n_fits e = (
+  sym (big_number-reads_back 4 m r m_fits) ∙ ap (λ (l : List ℕ). big_from 0 4 l) e ∙ big_number-reads_back 4 n s n_fits,
+  (same_fronts (big_endian 4 m) (big_endian 4 n) r s (length-big_endian 4 m ∙ sym (length-big_endian 4 n)) e).1,
+)

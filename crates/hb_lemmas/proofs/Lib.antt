@@ -1,0 +1,5 @@
+pub mod Booleans
+pub mod Options
+pub mod Lists
+pub mod Maps
+pub mod Numbers

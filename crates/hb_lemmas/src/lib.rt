@@ -1,0 +1,14 @@
+//! What no crate of the project owns: lemmas on lists, options, maps, tests and numbers as bytes.
+//!
+//! The one contract: nothing here speaks of points, pages or disks. `proofs/` has a file for each kind
+//! of thing, and a lemma stands there in its most general form; what the library has already, as
+//! `and_parts`, `or_parts`, `cond-true`, `same_Some`, `All-append`, is cited from there. `specs/` has
+//! the two words that each crate uses: a number's bytes, and that a type crosses threads.
+#![tactic(auto)]
+
+ghost use Rattle.hb_lemmas.specs.Threads.{CrossesThreads};
+
+/// Values of the type may go to another thread, and be read by several.
+pub fn crosses<T: Send + Sync>()
+    ensures shared { CrossesThreads T.row }
+{}
