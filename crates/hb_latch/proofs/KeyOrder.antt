@@ -1,5 +1,5 @@
 -- The order of keys is total, and keys that compare alike are one.
-use Rattle.std.proofs.Common.{◌≡◌, ℕ, Bool, true, false, cond, not, List, None, T, refl, sym, ap, ◌∙◌}
+use Rattle.std.proofs.Common.{◌≡◌, ℕ, cond, not, List, None, T, refl, sym, ap, ◌∙◌}
 use Rattle.std.specs.Ordering.{nat_cmp, ordering_then, is_eq, eq_by_cmp}
 use Rattle.std.specs.Cmp.{IsTotalOrder, on_total, then_total, alike_right, eq_by_cmp_equiv}
 use Rattle.std.proofs.lemmas.Cmp.{nat_cmp_total}
@@ -7,6 +7,7 @@ use Rattle.std.specs.declared.cmp.Ordering.TheVariants.{Less, Equal, Greater}
 use Rattle.std.specs.FinMap as map
 use Rattle.std.specs.FinMap.{IsAntisymmetric, nat_cmp-IsAntisymmetric}
 use Rattle.std.specs.FinMap.Entries.{where_key, is_sorted-where_key, find-where_key}
+use Rattle.hb_lemmas.proofs.Booleans.{cond-not}
 use Rattle.hb_latch.specs.declared.modes.Mode.{Mode}
 use Rattle.hb_latch.specs.Tables.{LatchTable, latch_cmp}
 
@@ -20,10 +21,6 @@ exact_keys x y tied =
       | Equal ↦ λ is e. λ i. (nat_cmp-IsAntisymmetric x.0 y.0 is i, nat_cmp-IsAntisymmetric x.1 y.1 e i)
       | Greater ↦ λ is e. cc
     ] refl tied
-
-turned : {A : Type 0} (b : Bool) (x y : A) → cond (not b) x y ≡ cond b y x
-turned true x y = refl
-turned false x y = refl
 
 -- the entries without that of a key
 abbrev pub without : ℕ × ℕ → List ((ℕ × ℕ) × Mode) → List ((ℕ × ℕ) × Mode)
@@ -40,6 +37,6 @@ entries-remove m key =
     ∙ ap (cond (eq_by_cmp latch_cmp q key) None) (map.get-entries m q)
     ∙ sym (map.get-from_sorted latch_cmp (without key (map.entries m)) q (sorted_without m key)
     ∙ find-where_key latch_cmp (λ x. not (eq_by_cmp latch_cmp key x)) q (λ x t. ap (λ o. not (is_eq o)) (sym (alike_right latch_order q x key t))) (map.entries m)
-    ∙ turned (eq_by_cmp latch_cmp key q) _ _
+    ∙ cond-not (eq_by_cmp latch_cmp key q) _ _
     ∙ ap (λ b. cond b None (map.find latch_cmp q (map.entries m))) ((eq_by_cmp_equiv latch_order).symm key q))) in
     ap map.entries same ∙ map.entries-from_sorted latch_cmp (without key (map.entries m)) (sorted_without m key)

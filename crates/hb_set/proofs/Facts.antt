@@ -1,3 +1,4 @@
 pub mod MachineLaws
 pub mod OrderLaws
 pub mod TextOrderLaws
+pub mod ScriptLaws

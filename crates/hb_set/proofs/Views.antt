@@ -17,7 +17,7 @@ use Rattle.hb_set.specs.declared.commands.Command.TheVariants.{Insert, Delete, L
 use Rattle.hb_set.specs.declared.commands.Reply.TheVariants.{Done, Duplicate, Absent, Found, Missing, Within}
 use Rattle.hb_set.specs.Machine.{RecordSet, record_of, set_records, HasAttributes, Answers, if_there, found_or_missing, reply_of}
 use Rattle.hb_set.proofs.Facts.MachineLaws.{entries_without, entries-remove}
-use Rattle.hb_set.specs.Kept.{records_behind, entries_behind, PointsRise, KeysHave, IsHandleAt, IsHandleGapFor}
+use Rattle.hb_set.specs.Kept.{records_behind, entries_behind, PointsRise, IsHandleAt, IsHandleGapFor}
 use Rattle.hb_set.proofs.Places.{find_at, find_gap, put_gap, without_at}
 
 -- the set of the records behind the handles
@@ -79,7 +79,7 @@ len_is hs r = map.len-entries (set_behind hs) ∙ ap length (entries_are hs r) �
 pub empty_is : (hs : List (Box Record Global)) → hs ≡ [] → set_behind hs ≡ map.empty
 empty_is hs none = ap set_behind none ∙ map.empty_of_len (set_behind []) (len_is [] refl)
 
-pub keys_have : (k : ℕ) (hs : List (Box Record Global)) → PointsRise hs → HasAttributes k (set_behind hs) → KeysHave k hs
+pub keys_have : (k : ℕ) (hs : List (Box Record Global)) → PointsRise hs → HasAttributes k (set_behind hs) → All (λ h. length h.value.key ≡ k) hs
 keys_have k hs r all i d lt =
     let each = subst (All (λ (r : Record). length r.key ≡ k)) (records_are hs r) all in
     subst (λ (r : Record). length r.key ≡ k) (get_or-map (λ (h : Box Record Global). h.value) hs i d) (each i d.value (simp length-map lt))

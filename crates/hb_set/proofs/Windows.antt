@@ -14,7 +14,7 @@ use Rattle.std.proofs.lemmas.List.Elements.{filter-append, All-take, All-drop}
 use Rattle.hb_space.specs.Points.{point_cmp}
 use Rattle.hb_space.specs.Boxes.{Area, is_between, holds}
 use Rattle.hb_space.specs.declared.records.Record.{Record}
-use Rattle.hb_set.specs.Kept.{records_behind, entries_behind, PointsRise, KeysHave}
+use Rattle.hb_set.specs.Kept.{records_behind, entries_behind, PointsRise, AreSearchable}
 use Rattle.hb_set.proofs.Places.{rise_at, below_at, less_so}
 
 -- a point below the lower corner is not held
@@ -176,22 +176,20 @@ filter_limit a p limit hs m n near le skips behind below = filter_rest (λ r. ho
     let under : is_lt (point_cmp (get_or (take m hs) k d).value.key limit) ≡ true = below k d (omega arith) within in
     rw get_or-take (skips (get_or hs k d).value.key (behind k d (omega arith)) (less_so _ (rw get_or-take at under))))
 
--- what holds of records holds of the first and of those behind it
-pub rise_tail : (hs later : List (Box Record Global)) (h : Box Record Global) → hs ≡ h ∷ later → PointsRise hs → PointsRise later
-rise_tail hs later h is r = (and_parts _ _ (subst PointsRise is r)).1
+-- what may be searched may be searched behind its first record, up to a place and from one on
+pub searchable_tail : (k : ℕ) (hs later : List (Box Record Global)) (h : Box Record Global) → hs ≡ h ∷ later → AreSearchable k hs → AreSearchable k later
+searchable_tail k hs later h is are =
+    let all : AreSearchable k (h ∷ later) = subst (AreSearchable k) is are in
+    record { rise = (and_parts _ _ all.rise).1; attributes = λ i d lt. all.attributes (suc i) d (omega arith) }
 
-pub keys_tail : (k : ℕ) (hs later : List (Box Record Global)) (h : Box Record Global) → hs ≡ h ∷ later → KeysHave k hs → KeysHave k later
-keys_tail k hs later h is all i d lt = subst (KeysHave k) is all (suc i) d (omega arith)
+pub first_has : (k : ℕ) (hs later : List (Box Record Global)) (h : Box Record Global) → hs ≡ h ∷ later → AreSearchable k hs → length h.value.key ≡ k
+first_has k hs later h is are = (subst (AreSearchable k) is are).attributes zero h (omega arith)
 
-pub keys_first : (k : ℕ) (hs later : List (Box Record Global)) (h : Box Record Global) → hs ≡ h ∷ later → KeysHave k hs → length h.value.key ≡ k
-keys_first k hs later h is all = subst (KeysHave k) is all zero h (omega arith)
+pub searchable_take : (k : ℕ) (hs : List (Box Record Global)) (n : ℕ) → AreSearchable k hs → AreSearchable k (take n hs)
+searchable_take k hs n are = record { rise = rise_take hs n are.rise; attributes = All-take (λ h. length h.value.key ≡ k) n hs are.attributes }
 
--- and of those of a part
-pub keys_take : (k : ℕ) (hs : List (Box Record Global)) (n : ℕ) → KeysHave k hs → KeysHave k (take n hs)
-keys_take k hs n all = All-take (λ h. length h.value.key ≡ k) n hs all
-
-pub keys_drop : (k : ℕ) (hs : List (Box Record Global)) (n : ℕ) → KeysHave k hs → KeysHave k (drop n hs)
-keys_drop k hs n all = All-drop (λ h. length h.value.key ≡ k) n hs all
+pub searchable_drop : (k : ℕ) (hs : List (Box Record Global)) (n : ℕ) → AreSearchable k hs → AreSearchable k (drop n hs)
+searchable_drop k hs n are = record { rise = rise_drop hs n are.rise; attributes = All-drop (λ h. length h.value.key ≡ k) n hs are.attributes }
 
 -- and the first point is below the others
 pub first_below : (hs later : List (Box Record Global)) (h : Box Record Global) → hs ≡ h ∷ later → PointsRise hs → All (λ x. point_cmp h.value.key x.value.key ≡ Less) later

@@ -19,9 +19,12 @@ entries_behind handles = map (λ h. (h.value.key, h.value.body)) handles
 abbrev pub PointsRise : List (Box Record Global) → Type 0
 PointsRise handles = IsTrue (is_sorted point_cmp (entries_behind handles))
 
--- their points have k attributes
-abbrev pub KeysHave : ℕ → List (Box Record Global) → Type 0
-KeysHave k handles = All (λ h. length h.value.key ≡ k) handles
+-- what a search over k attributes goes through
+pub record AreSearchable (k : ℕ) (handles : List (Box Record Global)) : Type 0 where
+  -- their points rise strictly
+  pub rise : PointsRise handles
+  -- and have k attributes
+  pub attributes : All (λ h. length h.value.key ≡ k) handles
 
 -- the record at the place has the point
 pub record IsHandleAt (handles : List (Box Record Global)) (p : List ℕ) (place : ℕ) : Type 0 where

@@ -1,10 +1,8 @@
 -- The laws of the machine, of legal orders and of runs, as statements.
 use Rattle.std.specs.Prelude.{◌≡◌, List, [], ◌∷◌, ◌++◌, length}
-use Rattle.hb_set.specs.declared.commands.Command.{Command}
-use Rattle.hb_set.specs.declared.commands.Reply.{Reply}
 use Rattle.hb_set.specs.declared.scripts.Line.{Line}
 use Rattle.hb_set.specs.declared.scripts.Answered.{Answered}
-use Rattle.hb_set.specs.Machine.{RecordSet, reply_of, set_after, Answers, attributes, HasAttributes}
+use Rattle.hb_set.specs.Machine.{RecordSet, reply_of, set_after}
 use Rattle.hb_set.specs.Order.{Entry, AreReplies, result_of, order_lines, KeepsSessions, IsLegalOrder, with_entry, entries_of, AreRising, IsAnswerTo, Ran}
 
 -- lists of the same lines that both have the machine's replies are one, with one result
@@ -52,7 +50,3 @@ RunsAreLegal = (m : RecordSet) (lines : List Line) (answered : List Answered) (n
 -- a run has an answer for each line
 abbrev pub RunsAnswerEach : Type 0
 RunsAnswerEach = (m : RecordSet) (lines : List Line) (answered : List Answered) (n : RecordSet) → Ran m lines answered n → length lines ≡ length answered
-
--- whatever a command is answered, the records have as many attributes as before
-abbrev pub AttributesStay : Type 0
-AttributesStay = (m : RecordSet) (c : Command) (r : Reply) (n : RecordSet) → Answers m c r n → HasAttributes (attributes c) m → HasAttributes (attributes c) n

@@ -2,7 +2,7 @@
 use Rattle.std.specs.Prelude.{◌≡◌, ℕ, List, length, map, filter, All, Option, Some, None}
 use Rattle.std.specs.FinMap as map
 use Rattle.hb_space.specs.Points.{point_cmp}
-use Rattle.hb_space.specs.Boxes.{Area, holds}
+use Rattle.hb_space.specs.Boxes.{holds}
 use Rattle.hb_space.specs.declared.records.Record.{Record}
 use Rattle.hb_set.specs.declared.commands.Command.{Command}
 use Rattle.hb_set.specs.declared.commands.Command.TheVariants.{Insert, Delete, Lookup, Search}
@@ -21,10 +21,6 @@ record_of e = record { key = e.0; body = e.1 }
 abbrev pub set_records : RecordSet → List Record
 set_records m = map record_of (map.entries m)
 
--- the records that the box holds, in the order of their points
-abbrev pub records_within : Area → RecordSet → List Record
-records_within a m = filter (λ r. holds a r.key) (set_records m)
-
 abbrev pub found_or_missing : Option (List ℕ) → Reply
 found_or_missing None = Missing
 found_or_missing (Some body) = Found body
@@ -38,7 +34,7 @@ abbrev pub reply_of : Command → RecordSet → Reply
 reply_of (Insert r) m = if_there (map.get m r.key) Duplicate Done
 reply_of (Delete p) m = if_there (map.get m p) Done Absent
 reply_of (Lookup p) m = found_or_missing (map.get m p)
-reply_of (Search a) m = Within (records_within a m)
+reply_of (Search a) m = Within (filter (λ r. holds a r.key) (set_records m))
 
 -- and what it leaves
 abbrev pub set_after : Command → RecordSet → RecordSet

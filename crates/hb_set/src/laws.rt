@@ -1,10 +1,12 @@
 //! Laws of the machine, of legal orders and of runs. Each is a function with nothing to do: its
-//! contract is the law, and `specs/OrderLaws.antt` and `specs/MachineLaws.antt` have the proofs.
+//! contract is the law, and `proofs/Facts/` has the proofs.
 
 ghost use Rattle.std.specs.Prelude.{ℕ};
 ghost use Rattle.std.specs.FinMap as map;
-ghost use Rattle.hb_set.specs.Machine.{HasAttributes};
-ghost use Rattle.hb_set.specs.Laws.{OneAnswer, PartsAreLegal, ResultIsByParts, RepliesAreByParts, RepliesGrow, ResultGrows, TextKeepsSessions, EntriesGrow, RunsGrow, RunsReply, RunsAreLegal, RunsAnswerEach, AttributesStay};
+ghost use Rattle.hb_set.specs.declared.commands.Command.{Command};
+ghost use Rattle.hb_set.specs.declared.commands.Reply.{Reply};
+ghost use Rattle.hb_set.specs.Machine.{Answers, HasAttributes, RecordSet, attributes};
+ghost use Rattle.hb_set.specs.Laws.{OneAnswer, PartsAreLegal, ResultIsByParts, RepliesAreByParts, RepliesGrow, ResultGrows, TextKeepsSessions, EntriesGrow, RunsGrow, RunsReply, RunsAreLegal, RunsAnswerEach};
 
 /// One machine, one answer: the lines determine the replies, and the replies the result.
 pub fn one_machine_one_answer()
@@ -41,5 +43,6 @@ pub fn runs_are_legal_orders()
 /// The records of a set keep their number of attributes.
 pub fn attributes_stay()
     ensures empty { (k : ℕ) → HasAttributes k map.empty }
-    ensures answered { AttributesStay }
+    ensures answered { (m : RecordSet) (c : Command) (r : Reply) (n : RecordSet) →
+        Answers m c r n → HasAttributes (attributes c) m → HasAttributes (attributes c) n }
 {}

@@ -3,7 +3,7 @@ ghost use Rattle.std.specs.Prelude.{◌≡◌, ℕ, ◌+◌, ◌≤◌, List, �
 ghost use Rattle.std.specs.declared.cmp.Ordering.TheVariants.{Less};
 ghost use Rattle.hb_space.specs.Points.{point_cmp};
 ghost use Rattle.hb_space.specs.Boxes.{holds};
-ghost use Rattle.hb_set.specs.Kept.{records_behind, PointsRise, KeysHave};
+ghost use Rattle.hb_set.specs.Kept.{records_behind, AreSearchable};
 
 use arrayvec::ArrayVec;
 use hb_space::form::KMAX;
@@ -16,8 +16,7 @@ pub(crate) fn held_by(
     records: &[Box<Record>],
     area: &Area,
 ) -> Result<Vec<Record>, NoMemory>
-    requires rise { PointsRise records.now }
-    requires attributes { KeysHave (length area.now.lo) records.now }
+    requires { AreSearchable (length area.now.lo) records.now }
     ensures { IfOk result (λ held. held.items ≡ filter (λ r. holds area.now r.key) (records_behind records.now)) }
 {
     let mut held = Vec::new(alloc);
@@ -36,11 +35,9 @@ pub(crate) fn held_by(
 // The records among which those of the box stand: from the first whose point is not below the
 // lower corner, up to the last whose first value is not above the greatest one.
 fn window<'a>(records: &'a [Box<Record>], area: &Area) -> &'a [Box<Record>]
-    requires rise { PointsRise records.now }
-    requires attributes { KeysHave (length area.now.lo) records.now }
+    requires { AreSearchable (length area.now.lo) records.now }
     ensures held { filter (λ r. holds area.now r.key) (records_behind result.now) ≡ filter (λ r. holds area.now r.key) (records_behind records.now) }
-    ensures attributes { KeysHave (length area.now.lo) result.now }
-    ensures rise { PointsRise result.now }
+    ensures searchable { AreSearchable (length area.now.lo) result.now }
 {
     let start = records.partition_point(|handle| handle.key.cmp(area.lo()).is_lt());
     let rest = &records[start..];
@@ -51,13 +48,11 @@ fn window<'a>(records: &'a [Box<Record>], area: &Area) -> &'a [Box<Record>]
 
 // The records behind one outside the box, without those up to a limit that are outside as well.
 fn past_outside<'a>(outside: &Point, later: &'a [Box<Record>], area: &Area) -> &'a [Box<Record>]
-    requires rise { PointsRise later.now }
-    requires attributes { KeysHave (length area.now.lo) later.now }
+    requires later { AreSearchable (length area.now.lo) later.now }
     requires behind { All (λ h. point_cmp outside.now h.value.key ≡ Less) later.now }
     requires same { length outside.now ≡ length area.now.lo }
     ensures held { filter (λ r. holds area.now r.key) (records_behind result.now) ≡ filter (λ r. holds area.now r.key) (records_behind later.now) }
-    ensures attributes { KeysHave (length area.now.lo) result.now }
-    ensures rise { PointsRise result.now }
+    ensures searchable { AreSearchable (length area.now.lo) result.now }
     ensures fewer { length result.now ≤ length later.now }
 {
     let Some(next) = later.first() else {

@@ -9,6 +9,7 @@ use Rattle.std.specs.FinMap.Entries.{where_key, put, by_order, is_sorted-where_k
 use Rattle.std.proofs.lemmas.Cmp.{nat_list_cmp_total, alike_right, eq_by_cmp_equiv}
 use Rattle.std.proofs.lemmas.List.{length-map}
 use Rattle.std.proofs.lemmas.List.Elements.{All-from_recursion, recursion_from_All}
+use Rattle.hb_lemmas.proofs.Booleans.{cond-not}
 use Rattle.hb_space.specs.Points.{point_cmp}
 use Rattle.hb_space.specs.declared.records.Record.{Record}
 use Rattle.hb_set.specs.declared.commands.Command.{Command}
@@ -34,10 +35,6 @@ replied (Delete p) m = elim (map.get m p) as (λ o. is_replied (if_there o Done 
 replied (Lookup p) m = elim (map.get m p) as (λ o. is_replied (found_or_missing o) ≡ true) [ None ↦ refl | Some body ↦ refl ]
 replied (Search a) m = refl
 
-turned : {A : Type 0} (b : Bool) (x y : A) → cond (not b) x y ≡ cond b y x
-turned true x y = refl
-turned false x y = refl
-
 -- the entries without those of a point
 abbrev pub entries_without : List ℕ → List (List ℕ × List ℕ) → List (List ℕ × List ℕ)
 entries_without p es = where_key point_cmp (λ x. not (eq_by_cmp point_cmp p x)) es
@@ -53,7 +50,7 @@ entries-remove m p =
     ∙ ap (cond (eq_by_cmp point_cmp q p) None) (map.get-entries m q)
     ∙ sym (map.get-from_sorted point_cmp (entries_without p (map.entries m)) q (sorted_without m p)
     ∙ find-where_key point_cmp (λ x. not (eq_by_cmp point_cmp p x)) q (λ x t. ap (λ o. not (is_eq o)) (sym (alike_right nat_list_cmp_total q x p t))) (map.entries m)
-    ∙ turned (eq_by_cmp point_cmp p q) _ _
+    ∙ cond-not (eq_by_cmp point_cmp p q) _ _
     ∙ ap (λ b. cond b None (map.find point_cmp q (map.entries m))) ((eq_by_cmp_equiv nat_list_cmp_total).symm p q))) in
     ap map.entries same ∙ map.entries-from_sorted point_cmp (entries_without p (map.entries m)) (sorted_without m p)
 

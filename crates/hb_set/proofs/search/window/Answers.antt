@@ -3,7 +3,7 @@ use Rattle.std.specs.Ordering.{is_lt}
 use Rattle.std.proofs.lemmas.Fn.{always_returns_same}
 use Rattle.hb_space.specs.Points.{point_cmp}
 use Rattle.hb_set.specs.Kept.{PointsRise}
-use Rattle.hb_set.proofs.Windows.{filter_window, rest_is, below_parts, reach_parts, rise_drop, rise_take, keys_take, keys_drop}
+use Rattle.hb_set.proofs.Windows.{filter_window, rest_is, below_parts, reach_parts, rise_drop, searchable_take, searchable_drop}
 use Rattle.hb_set.proofs.search.window.Goals as goal
 
 -- the two closures compare a record's point, and its first value
@@ -15,8 +15,5 @@ returns-clause-held c =
     (c.partition_point-start.ensures.partitioned (λ h. is_lt (point_cmp h.value.key c.args.area.now.lo)) (always_returns_same _ _ _ (λ a r g called. search rules)) (below_parts _ _ c.requires.rise))
     (c.partition_point-count.ensures.partitioned (λ h. leb (get_or h.value.key 0 0) (get_or c.args.area.now.hi 0 0)) (always_returns_same _ _ _ (λ a r g called. search rules)) (reach_parts _ _ rise))
 
-pub returns-clause-rise : goal.returns-clause-rise
-returns-clause-rise c = rise_take _ c.partition_point-count.result (subst PointsRise (sym (rest_is c.args.records.now c.partition_point-start.result)) (rise_drop _ c.partition_point-start.result c.requires.rise))
-
-pub returns-clause-attributes : goal.returns-clause-attributes
-returns-clause-attributes c = keys_take _ _ c.partition_point-count.result (keys_take _ _ _ (keys_drop _ _ c.partition_point-start.result c.requires.attributes))
+pub returns-clause-searchable : goal.returns-clause-searchable
+returns-clause-searchable c = searchable_take _ _ c.partition_point-count.result (searchable_take _ _ _ (searchable_drop _ _ c.partition_point-start.result c.requires))

@@ -1,6 +1,6 @@
 use Rattle.std.proofs.Common.{List, [], length, refl, sym, ap, ◌∙◌, subst, arith}
 use Rattle.hb_set.specs.Order.{AreRising}
-use Rattle.hb_set.specs.Scripts.{script_is_short}
+use Rattle.hb_set.proofs.Facts.ScriptLaws.{script_is_short}
 use Rattle.hb_set.specs.declared.scripts.Line.{Line}
 use Rattle.hb_set.specs.declared.scripts.Answered.{Answered}
 use Rattle.hbpi.specs.CoreSeen.{core_seen, core_disk}

@@ -2,8 +2,8 @@ use Rattle.std.proofs.Common.{◌∙◌}
 use Rattle.hb_set.proofs.Views.{keys_have, search_done}
 use Rattle.hb_set.proofs.set.Set.search.Goals as goal
 
-pub held_by-requires-clause-attributes : goal.held_by-requires-clause-attributes
-held_by-requires-clause-attributes c = rw c.deref.ensures.value (keys_have _ c.self.inside.records.items c.self.invariant (rw (← c.self.view_is) at c.requires))
+pub held_by-requires : goal.held_by-requires
+held_by-requires c = rw c.deref.ensures.value (record { rise = c.self.invariant; attributes = keys_have _ c.self.inside.records.items c.self.invariant (rw (← c.self.view_is) at c.requires) })
 
 pub returns-in-Ok : goal.returns-in-Ok
 returns-in-Ok c =

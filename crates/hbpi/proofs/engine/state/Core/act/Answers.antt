@@ -1,5 +1,5 @@
 use Rattle.std.proofs.Common.{length, arith}
-use Rattle.hb_set.specs.Scripts.{script_is_short}
+use Rattle.hb_set.proofs.Facts.ScriptLaws.{script_is_short}
 use Rattle.hb_store.specs.Calls.{IsReady}
 use Rattle.hbpi.specs.CoreSeen.{core_seen, core_disk}
 use Rattle.hbpi.specs.declared.engine.plans.Plan.TheVariants.{Answer, Change, Full, Damaged}

@@ -1,6 +1,6 @@
 use Rattle.std.proofs.Common.{◌≡◌, ◌∙◌, length, ap, arith, refl, sym, subst}
 use Rattle.hb_wal.specs.Log.{mark_of}
-use Rattle.hb_set.specs.Scripts.{script_is_short}
+use Rattle.hb_set.proofs.Facts.ScriptLaws.{script_is_short}
 use Rattle.hbpi.specs.CoreSeen.{core_seen, core_disk}
 use Rattle.hbpi.specs.Core.{settled_of}
 use Rattle.hbpi.specs.Steps.{KeepsAt}
