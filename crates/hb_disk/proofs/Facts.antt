@@ -4,3 +4,5 @@ pub mod OverwrittenLaws
 pub mod RunLaws
 pub mod SyncedLaws
 pub mod TwoPieceLaws
+pub mod FaultLaws
+pub mod RewriteLaws

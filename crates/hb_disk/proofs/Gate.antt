@@ -1,12 +1,14 @@
 -- What a crash leaves in each step of a write behind a gate.
 use Rattle.std.proofs.Common.{◌≡◌, ◌≢◌, inl, inr, ℕ, ◌+◌, ◌<◌, ◌≤◌, List, [], ◌∷◌, length, get_or, Some, Result, Ok, refl, sym, ap, ◌∙◌, subst, arith}
 use Rattle.hb_disk.specs.Model.{DiskModel, IsDisk, overwritten, Torn}
-use Rattle.hb_disk.specs.Calls.{Ticks, Writes, Syncs, Leaves, Becomes, FrameOrNot, open_gate}
+use Rattle.hb_disk.specs.Calls.{Writes, Syncs, Leaves, FrameOrNot, open_gate}
+use Rattle.hb_disk.specs.Runs.{Rewrites}
 use Rattle.hb_disk.proofs.Facts.TornLaws.{Torn-from, Torn-same, Torn-wider}
 use Rattle.hb_disk.proofs.Facts.OverwrittenLaws.{length-overwritten, overwritten-outside, overwritten-from}
 use Rattle.hb_disk.proofs.Facts.TwoPieceLaws.{overwritten-joined}
 use Rattle.hb_disk.proofs.Facts.RunLaws.{Leaves-start, Leaves-call}
-use Rattle.hb_disk.proofs.Facts.BecomesLaws.{told_written, Becomes-torn, Becomes-torn_write, Becomes-torn_sync}
+use Rattle.hb_disk.proofs.Facts.BecomesLaws.{told_written}
+use Rattle.hb_disk.proofs.Facts.RewriteLaws.{Rewrites-write, Rewrites-sync, Rewrites-torn}
 use Rattle.hb_disk.proofs.Facts.SyncedLaws.{only_told}
 
 module _ (old : DiskModel) (gate : ℕ) (body : List ℕ) where
@@ -69,17 +71,17 @@ module _ (old : DiskModel) (gate : ℕ) (body : List ℕ) where
       },
     )
 
-    module _ {T E : Type 0} (first : Result T E) (one : DiskModel) (body_written : Writes (gate + 1) body first old one) (body_ticks : Ticks first old one) where
+    module _ {T E : Type 0} (first : Result T E) (one : DiskModel) (body_written : Writes (gate + 1) body first old one) where
       pub run_one : Leaves old one Framed
-      run_one = Leaves-call first old old one Framed (Leaves-start old Framed disk same_framed) body_ticks
+      run_one = Leaves-call first old old one Framed (Leaves-start old Framed disk same_framed) body_written.ticks
           (λ c image. let from = body_written.crash c image in body_framed from.0 c from.1 from.2)
 
-      module _ (second : Result T E) (two : DiskModel) (body_synced : Syncs second one two) (sync_ticks : Ticks second one two) where
+      module _ (second : Result T E) (two : DiskModel) (body_synced : Syncs second one two) where
         pub run_two : Leaves old two Framed
-        run_two = Leaves-call second old one two Framed run_one sync_ticks
+        run_two = Leaves-call second old one two Framed run_one body_synced.ticks
             (λ c image. let from = body_written.crash c (body_synced.crash c image) in body_framed from.0 c from.1 from.2)
 
-        module _ (v w : T) (first_ok : first ≡ Ok v) (second_ok : second ≡ Ok w) (third : Result T E) (three : DiskModel) (gate_written : Writes gate (open_gate ∷ []) third two three) (gate_ticks : Ticks third two three) where
+        module _ (v w : T) (first_ok : first ≡ Ok v) (second_ok : second ≡ Ok w) (third : Result T E) (three : DiskModel) (gate_written : Writes gate (open_gate ∷ []) third two three) where
           staged_told : two.told ≡ Some staged
           staged_told = body_synced.same ∙ told_written first v (gate + 1) body old one b first_ok told body_written
 
@@ -90,32 +92,36 @@ module _ (old : DiskModel) (gate : ℕ) (body : List ℕ) where
               gate_framed c (subst (λ (l : List ℕ). Torn gate 1 l c) is from.2)
 
           pub run_three : Leaves old three Framed
-          run_three = Leaves-call third old two three Framed run_two gate_ticks three_framed
+          run_three = Leaves-call third old two three Framed run_two gate_written.ticks three_framed
 
-          module _ (last : Result T E) (new : DiskModel) (gate_synced : Syncs last three new) (last_ticks : Ticks last three new) where
-            pub run_four : Leaves old new Framed
-            run_four = Leaves-call last old three new Framed run_three last_ticks (λ c image. three_framed c (gate_synced.crash c image))
+          pub run_four : (last : Result T E) (new : DiskModel) → Syncs last three new → Leaves old new Framed
+          run_four last new gate_synced = Leaves-call last old three new Framed run_three gate_synced.ticks (λ c image. three_framed c (gate_synced.crash c image))
 
-            pub new_told : (u : T) → third ≡ Ok u → new.told ≡ Some (overwritten b gate (open_gate ∷ body))
-            new_told u third_ok =
-                gate_synced.same ∙ told_written third u gate (open_gate ∷ []) two three staged third_ok staged_told gate_written
-                ∙ ap Some (overwritten-joined b gate (open_gate ∷ []) body fits)
+          -- what a read gives once the gate is open
+          pub three_told : (u : T) → third ≡ Ok u → three.told ≡ Some (overwritten b gate (open_gate ∷ body))
+          three_told u third_ok =
+              told_written third u gate (open_gate ∷ []) two three staged third_ok staged_told gate_written
+              ∙ ap Some (overwritten-joined b gate (open_gate ∷ []) body fits)
 
   -- the calls touched the frame's range alone
+  abbrev pub InFrame : List ℕ → List ℕ → Type 0
+  InFrame = Torn gate (1 + length body)
+
   module _ (disk : IsDisk old) (inside : gate + 1 + length body ≤ old.size) (one : DiskModel) (is_one : IsDisk one) {T E : Type 0}
-      (first : Result T E) (body_written : Writes (gate + 1) body first old one) (body_ticks : Ticks first old one)
-      (second : Result T E) (two : DiskModel) (body_synced : Syncs second one two) (sync_ticks : Ticks second one two) where
-    pub place_two : Becomes (Torn gate (1 + length body)) old two
-    place_two = Becomes-torn gate (1 + length body) old one two
-        (Becomes-torn_write first (gate + 1) body gate (1 + length body) old one disk is_one inside (omega arith) (omega arith) body_written body_ticks)
-        (Becomes-torn_sync second gate (1 + length body) one two is_one body_synced sync_ticks)
+      (first : Result T E) (body_written : Writes (gate + 1) body first old one) where
+    pub wrote_one : Rewrites InFrame 1 first old one
+    wrote_one = Rewrites-write first (gate + 1) body gate (1 + length body) old one disk is_one inside (omega arith) (omega arith) body_written
 
-    module _ (is_two : IsDisk two) (third : Result T E) (three : DiskModel) (is_three : IsDisk three)
-        (gate_written : Writes gate (open_gate ∷ []) third two three) (gate_ticks : Ticks third two three) where
-      pub place_three : Becomes (Torn gate (1 + length body)) old three
-      place_three = Becomes-torn gate (1 + length body) old two three place_two
-          (Becomes-torn_write third gate (open_gate ∷ []) gate (1 + length body) two three is_two is_three (omega (arith, sync_ticks.size, body_ticks.size, inside)) (omega arith) (omega arith) gate_written gate_ticks)
+    module _ (v : T) (first_ok : first ≡ Ok v) (second : Result T E) (two : DiskModel) (body_synced : Syncs second one two) where
+      pub wrote_two : Rewrites InFrame 2 second old two
+      wrote_two = Rewrites-torn first second gate (1 + length body) 1 1 old one two v first_ok wrote_one (Rewrites-sync second gate (1 + length body) one two is_one body_synced)
 
-      pub place_four : (last : Result T E) (new : DiskModel) → Syncs last three new → Ticks last three new → Becomes (Torn gate (1 + length body)) old new
-      place_four last new syncs ticks = Becomes-torn gate (1 + length body) old three new place_three
-          (Becomes-torn_sync last gate (1 + length body) three new is_three syncs ticks)
+      module _ (w : T) (second_ok : second ≡ Ok w) (is_two : IsDisk two) (third : Result T E) (three : DiskModel) (is_three : IsDisk three)
+          (gate_written : Writes gate (open_gate ∷ []) third two three) where
+        pub wrote_three : Rewrites InFrame 3 third old three
+        wrote_three = Rewrites-torn second third gate (1 + length body) 2 1 old two three w second_ok wrote_two
+            (Rewrites-write third gate (open_gate ∷ []) gate (1 + length body) two three is_two is_three (omega (arith, body_synced.ticks.size, body_written.ticks.size, inside)) (omega arith) (omega arith) gate_written)
+
+        pub wrote_four : (x : T) → third ≡ Ok x → (last : Result T E) (new : DiskModel) → Syncs last three new → Rewrites InFrame 4 last old new
+        wrote_four x third_ok last new gate_synced =
+            Rewrites-torn third last gate (1 + length body) 3 1 old three new x third_ok wrote_three (Rewrites-sync last gate (1 + length body) three new is_three gate_synced)

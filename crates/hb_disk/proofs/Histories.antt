@@ -4,7 +4,8 @@ use Rattle.std.specs.List.{All}
 use Rattle.std.proofs.lemmas.List.{reverse-append, get_or-take, get_or-drop, ext_get_or}
 use Rattle.std.proofs.lemmas.List.Elements.{All-take, All-drop}
 use Rattle.hb_outside.specs.Memory.{next_count}
-use Rattle.hb_disk.specs.Model.{overwritten, last_value, Torn, Elapses}
+use Rattle.hb_outside.specs.Calls.{Counts}
+use Rattle.hb_disk.specs.Model.{DiskModel, overwritten, last_value, Torn, Elapses}
 use Rattle.hb_disk.specs.Calls.{Ticks, Writes, Syncs}
 use Rattle.hb_disk.proofs.Facts.TornLaws.{IsOutside, cases_range, Torn-from, Torn-same, Torn-itself}
 use Rattle.hb_disk.proofs.Facts.OverwrittenLaws.{length-overwritten, overwritten-inside, overwritten-outside, All-overwritten}
@@ -129,10 +130,18 @@ elapses_same bytes es clock next f g h k = record { nothing_else = λ t c le lef
 pub next_clock : (clock : ℕ) → clock < last_value → next_count clock ≡ clock + 1
 next_clock clock before = omega arith
 
--- The three kinds of ends of a call. `reads` and `writes` are any counts of faults.
-module _ (bytes : List ℕ) (es : List Event) (clock : ℕ) (fit : All (λ x. x < 2 ^ 8) bytes) (clock_fits : clock ≤ last_value) (f g h k : ℕ) where
+-- The three kinds of ends of a call. `reads` is any count of reads that failed, and `faults` and `now_faults` are any of the other calls.
+module _ (bytes : List ℕ) (es : List Event) (clock : ℕ) (fit : All (λ x. x < 2 ^ 8) bytes) (clock_fits : clock ≤ last_value) (reads faults now_faults : ℕ) where
+  -- the disk before
+  abbrev was : DiskModel
+  was = disk_after bytes es clock reads faults
+
+  -- and after, by what stands on record then
+  abbrev is_now : List ℕ → List Event → DiskModel
+  is_now now es_now = disk_after now es_now (next_count clock) reads now_faults
+
   -- one that left nothing on record, and failed
-  pub ticks_missed : {T E : Type 0} (err : E) → Ticks {T = T} (Err err) (disk_after bytes es clock f g) (disk_after bytes es (next_count clock) h k)
+  ticks_missed : {T E : Type 0} (err : E) → Ticks {T = T} (Err err) was (is_now bytes es)
   ticks_missed err = record {
     tick = λ tells before. next_clock clock before;
     later = omega arith;
@@ -148,38 +157,47 @@ module _ (bytes : List ℕ) (es : List Event) (clock : ℕ) (fit : All (λ x. x 
         since_kept = λ t c left. left;
       },
     );
-    time = elapses_same bytes es clock (next_count clock) f g h k;
+    time = elapses_same bytes es clock (next_count clock) reads faults reads now_faults;
     size = refl;
   }
 
-  pub writes_missed : {T E : Type 0} (err : E) (at : ℕ) (piece : List ℕ) (next : ℕ) → Writes {T = T} at piece (Err err) (disk_after bytes es clock f g) (disk_after bytes es next h k)
-  writes_missed err at piece next = record {
+  pub writes_missed : {T E : Type 0} (err : E) (at : ℕ) (piece : List ℕ) → Counts (IsErr {T = T} (Err err)) faults now_faults → Writes {T = T} at piece (Err err) was (is_now bytes es)
+  writes_missed err at piece counts = record {
     written = tt;
     tried = (bytes, refl, Torn-itself at (length piece) bytes fit);
     silent = λ none. cc;
     crash = λ c image. (c, image, Torn-itself at (length piece) c image.fit);
     opened = tt;
     opened_or_not = inr (record { told = refl; image = λ c image. image; image_kept = λ c image. image });
+    ticks = ticks_missed err;
+    faults = record { writes = counts; reads = refl };
   }
 
-  pub syncs_missed : {T E : Type 0} (err : E) (next : ℕ) → Syncs {T = T} (Err err) (disk_after bytes es clock f g) (disk_after bytes es next h k)
-  syncs_missed err next = record { same = refl; durable = tt; crash = λ c image. image; left_open = λ c image. image }
+  pub syncs_missed : {T E : Type 0} (err : E) → Counts (IsErr {T = T} (Err err)) faults now_faults → Syncs {T = T} (Err err) was (is_now bytes es)
+  syncs_missed err counts = record {
+    same = refl;
+    durable = tt;
+    crash = λ c image. image;
+    left_open = λ c image. image;
+    ticks = ticks_missed err;
+    faults = record { writes = counts; reads = refl };
+  }
 
   -- one that left an event on record
-  pub ticks_noted : {T E : Type 0} (r : Result T E) (now : List ℕ) (es_now : List Event) (e : Event) → es_now ≡ e ∷ es → undone e.change now ≡ bytes → e.clock ≡ clock → clock < last_value
-      → length now ≡ length bytes → Ticks r (disk_after bytes es clock f g) (disk_after now es_now (next_count clock) h k)
+  ticks_noted : {T E : Type 0} (r : Result T E) (now : List ℕ) (es_now : List Event) (e : Event) → es_now ≡ e ∷ es → undone e.change now ≡ bytes → e.clock ≡ clock → clock < last_value
+      → length now ≡ length bytes → Ticks r was (is_now now es_now)
   ticks_noted r now es_now e first undoes at_clock before long = record {
     tick = λ tells not_last. next_clock clock not_last;
     later = omega arith;
     ended = λ tells at_end. absurd (omega (arith, at_end, before));
-    time = elapses_noted bytes now es es_now e first undoes clock (next_count clock) f g h k at_clock;
+    time = elapses_noted bytes now es es_now e first undoes clock (next_count clock) reads faults reads now_faults at_clock;
     size = long;
   }
 
   -- a write that was done
-  pub writes_done : {T E : Type 0} (v : T) (at : ℕ) (piece : List ℕ) (es_now : List Event) (e : Event) (next : ℕ) → es_now ≡ e ∷ es → IsOver at (length piece) bytes e.change → at + length piece ≤ length bytes
-      → Writes {E = E} at piece (Ok v) (disk_after bytes es clock f g) (disk_after (overwritten bytes at piece) es_now next h k)
-  writes_done v at piece es_now e next first over fits = record {
+  pub writes_done : {T E : Type 0} (v : T) (at : ℕ) (piece : List ℕ) (es_now : List Event) (e : Event) → es_now ≡ e ∷ es → IsOver at (length piece) bytes e.change → e.clock ≡ clock → clock < last_value
+      → at + length piece ≤ length bytes → Counts (IsErr {E = E} (Ok v)) faults now_faults → Writes {E = E} at piece (Ok v) was (is_now (overwritten bytes at piece) es_now)
+  writes_done {T = T} {E = E} v at piece es_now e first over at_clock before fits counts = record {
     written = refl;
     tried = tt;
     silent = λ none. cc;
@@ -194,12 +212,16 @@ module _ (bytes : List ℕ) (es : List Event) (clock : ℕ) (fit : All (λ x. x 
         subst (λ (l : List Event). IsImage (overwritten bytes at piece) l c) (sym first)
         (torn_image bytes (overwritten bytes at piece) es e at (length piece) ranges fits fit (length-overwritten bytes at piece fits) (overwritten-outside bytes at piece fits) b c image torn);
     opened_or_not = tt;
+    ticks =
+        let undoes : undone e.change (overwritten bytes at piece) ≡ bytes = ap (λ d. undone d (overwritten bytes at piece)) over.1 ∙ put_back bytes at piece over.0.items fits over.2 in
+        let r : Result T E = Ok v in ticks_noted r (overwritten bytes at piece) es_now e first undoes at_clock before (length-overwritten bytes at piece fits);
+    faults = record { writes = counts; reads = refl };
   }
 
   -- a write that was tried
-  pub writes_tried : {T E : Type 0} (err : E) (at : ℕ) (piece : List ℕ) (es_now : List Event) (e : Event) (next : ℕ) → es_now ≡ e ∷ es → e.change ≡ Tried at (length piece) → at + length piece ≤ length bytes
-      → Writes {T = T} at piece (Err err) (disk_after bytes es clock f g) (disk_after bytes es_now next h k)
-  writes_tried err at piece es_now e next first is fits = record {
+  pub writes_tried : {T E : Type 0} (err : E) (at : ℕ) (piece : List ℕ) (es_now : List Event) (e : Event) → es_now ≡ e ∷ es → e.change ≡ Tried at (length piece) → e.clock ≡ clock → clock < last_value
+      → at + length piece ≤ length bytes → Counts (IsErr {T = T} (Err err)) faults now_faults → Writes {T = T} at piece (Err err) was (is_now bytes es_now)
+  writes_tried {T = T} {E = E} err at piece es_now e first is at_clock before fits counts = record {
     written = tt;
     tried = (bytes, refl, Torn-itself at (length piece) bytes fit);
     silent = λ none. cc;
@@ -208,18 +230,22 @@ module _ (bytes : List ℕ) (es : List Event) (clock : ℕ) (fit : All (λ x. x 
     opened = tt;
     opened_or_not = inl (λ b c image torn. subst (λ (l : List Event). IsImage bytes l c) (sym first)
         (torn_image bytes bytes es e at (length piece) (ap range_of is) fits fit refl (λ i outside. refl) b c image torn));
+    ticks = let r : Result T E = Err err in ticks_noted r bytes es_now e first (ap (λ d. undone d bytes) is) at_clock before refl;
+    faults = record { writes = counts; reads = refl };
   }
 
   -- a sync that was done
-  pub syncs_done : {T E : Type 0} (v : T) (es_now : List Event) (e : Event) (next : ℕ) → es_now ≡ e ∷ es → e.change ≡ Synced
-      → Syncs {E = E} (Ok v) (disk_after bytes es clock f g) (disk_after bytes es_now next h k)
-  syncs_done v es_now e next first is = record {
+  pub syncs_done : {T E : Type 0} (v : T) (es_now : List Event) (e : Event) → es_now ≡ e ∷ es → e.change ≡ Synced → e.clock ≡ clock → clock < last_value
+      → Counts (IsErr {E = E} (Ok v)) faults now_faults → Syncs {E = E} (Ok v) was (is_now bytes es_now)
+  syncs_done {T = T} {E = E} v es_now e first is at_clock before counts = record {
     same = refl;
     durable = λ c image. all_same c (subst (λ (l : List Event). IsImage bytes l c) first image);
     crash = λ c image.
         let here = all_same c (subst (λ (l : List Event). IsImage bytes l c) first image) in
         subst (λ (l : List ℕ). IsImage bytes es l) (sym here) (record { long = refl; fit = fit; kept = λ i shut. refl });
     left_open = tt;
+    ticks = let r : Result T E = Ok v in ticks_noted r bytes es_now e first (ap (λ d. undone d bytes) is) at_clock before refl;
+    faults = record { writes = counts; reads = refl };
   }
     where
       all_same : (c : List ℕ) → IsImage bytes (e ∷ es) c → c ≡ bytes
@@ -233,48 +259,39 @@ left_by Mark Same Listed left = inr left
 left_by Mark Same Over left = inl left
 left_by Mark Same NoMemory left = inl left
 
-both_same : (Q : List ℕ → List Event → Type 0) (bytes now : List ℕ) (events after : List Event) → now ≡ bytes → after ≡ events → Q bytes events → Q now after
-both_same Q bytes now events after same none h = subst (λ (es : List Event). Q now es) (sym none) (subst (λ (l : List ℕ). Q l events) (sym same) h)
+carried : (Q : List ℕ → List Event → ℕ → Type 0) (bytes now : List ℕ) (events after : List Event) (clock next : ℕ) → now ≡ bytes → after ≡ events → next ≡ clock → Q bytes events clock → Q now after next
+carried Q bytes now events after clock next same none ticked h =
+    subst (λ t. Q now after t) (sym ticked) (subst (λ (es : List Event). Q now es clock) (sym none) (subst (λ (l : List ℕ). Q l events clock) (sym same) h))
 
 -- the same, of the calls of a history
-module _ (bytes : List ℕ) (events : List Event) (clock : ℕ) (fit : All (λ x. x < 2 ^ 8) bytes) (clock_fits : clock ≤ last_value) (call : ℕ) where
-  pub sync_noted : {T E : Type 0} (r : Result T E) (now : List ℕ) (after : List Event) (next : ℕ) → now ≡ bytes
-      → OnOk r (Notes (λ d. d ≡ Synced) clock call events after) → OnErr r (after ≡ events)
-      → (f g h k : ℕ) → Syncs r (disk_after bytes (reverse events) clock f g) (disk_after now (reverse after) next h k)
-  sync_noted {T = T} {E = E} (Ok v) now after next same done refused f g h k =
-      let Q : List ℕ → Type 0 = λ l. Syncs {T = T} {E = E} (Ok v) (disk_after bytes (reverse events) clock f g) (disk_after l (reverse after) next h k) in
-      subst Q (sym same) (syncs_done bytes (reverse events) clock fit clock_fits f g h k v (reverse after) done.event next (newest (λ d. d ≡ Synced) clock call events after done) done.change)
-  sync_noted {T = T} {E = E} (Err e) now after next same done refused f g h k =
-      let Q : List ℕ → List Event → Type 0 = λ l es. Syncs {T = T} {E = E} (Err e) (disk_after bytes (reverse events) clock f g) (disk_after l (reverse es) next h k) in
-      both_same Q bytes now events after same refused (syncs_missed bytes (reverse events) clock fit clock_fits f g h k e next)
+module _ (bytes : List ℕ) (events : List Event) (clock : ℕ) (fit : All (λ x. x < 2 ^ 8) bytes) (clock_fits : clock ≤ last_value) (call : ℕ)
+    (now : List ℕ) (after : List Event) (next : ℕ) (ticked : next ≡ next_count clock) where
+  pub sync_noted : {T E : Type 0} (r : Result T E) → now ≡ bytes → OnOk r (Notes (λ d. d ≡ Synced) clock call events after) → OnErr r (after ≡ events)
+      → (reads f g : ℕ) → Counts (IsErr r) f g → Syncs r (disk_after bytes (reverse events) clock reads f) (disk_after now (reverse after) next reads g)
+  sync_noted {T = T} {E = E} (Ok v) same done refused reads f g counts =
+      let Q : List ℕ → List Event → ℕ → Type 0 = λ l es t. Syncs {T = T} {E = E} (Ok v) (disk_after bytes (reverse events) clock reads f) (disk_after l (reverse es) t reads g) in
+      carried Q bytes now after after (next_count clock) next same refl ticked
+      (syncs_done bytes (reverse events) clock fit clock_fits reads f g v (reverse after) done.event (newest (λ d. d ≡ Synced) clock call events after done) done.change done.at_clock done.time_left counts)
+  sync_noted {T = T} {E = E} (Err e) same done refused reads f g counts =
+      let Q : List ℕ → List Event → ℕ → Type 0 = λ l es t. Syncs {T = T} {E = E} (Err e) (disk_after bytes (reverse events) clock reads f) (disk_after l (reverse es) t reads g) in
+      carried Q bytes now events after (next_count clock) next same refused ticked (syncs_missed bytes (reverse events) clock fit clock_fits reads f g e counts)
 
-  pub write_refused : {T E : Type 0} (r : Result T E) (at : ℕ) (piece : List ℕ) (now : List ℕ) (after : List Event) (next : ℕ) → IsErr r → at + length piece ≤ length bytes → now ≡ bytes
+  pub write_refused : {T E : Type 0} (r : Result T E) (at : ℕ) (piece : List ℕ) → IsErr r → at + length piece ≤ length bytes → now ≡ bytes
       → (after ≡ events) ⊎ Notes (λ d. d ≡ Tried at (length piece)) clock call events after
-      → (f g h k : ℕ) → Writes at piece r (disk_after bytes (reverse events) clock f g) (disk_after now (reverse after) next h k)
-  write_refused (Ok v) at piece now after next failed fits same how f g h k = cc
-  write_refused {T = T} {E = E} (Err e) at piece now after next failed fits same (inl none) f g h k =
-      let Q : List ℕ → List Event → Type 0 = λ l es. Writes {T = T} {E = E} at piece (Err e) (disk_after bytes (reverse events) clock f g) (disk_after l (reverse es) next h k) in
-      both_same Q bytes now events after same none (writes_missed bytes (reverse events) clock fit clock_fits f g h k e at piece next)
-  write_refused {T = T} {E = E} (Err e) at piece now after next failed fits same (inr tried) f g h k =
-      let Q : List ℕ → Type 0 = λ l. Writes {T = T} {E = E} at piece (Err e) (disk_after bytes (reverse events) clock f g) (disk_after l (reverse after) next h k) in
-      subst Q (sym same) (writes_tried bytes (reverse events) clock fit clock_fits f g h k e at piece (reverse after) tried.event next
-      (newest (λ d. d ≡ Tried at (length piece)) clock call events after tried) tried.change fits)
+      → (reads f g : ℕ) → Counts (IsErr r) f g → Writes at piece r (disk_after bytes (reverse events) clock reads f) (disk_after now (reverse after) next reads g)
+  write_refused (Ok v) at piece failed fits same how reads f g counts = cc
+  write_refused {T = T} {E = E} (Err e) at piece failed fits same (inl none) reads f g counts =
+      let Q : List ℕ → List Event → ℕ → Type 0 = λ l es t. Writes {T = T} {E = E} at piece (Err e) (disk_after bytes (reverse events) clock reads f) (disk_after l (reverse es) t reads g) in
+      carried Q bytes now events after (next_count clock) next same none ticked (writes_missed bytes (reverse events) clock fit clock_fits reads f g e at piece counts)
+  write_refused {T = T} {E = E} (Err e) at piece failed fits same (inr tried) reads f g counts =
+      let Q : List ℕ → List Event → ℕ → Type 0 = λ l es t. Writes {T = T} {E = E} at piece (Err e) (disk_after bytes (reverse events) clock reads f) (disk_after l (reverse es) t reads g) in
+      carried Q bytes now after after (next_count clock) next same refl ticked (writes_tried bytes (reverse events) clock fit clock_fits reads f g e at piece (reverse after) tried.event
+      (newest (λ d. d ≡ Tried at (length piece)) clock call events after tried) tried.change tried.at_clock tried.time_left fits counts)
 
-  pub write_kept : {T E : Type 0} (v : T) (at : ℕ) (piece : List ℕ) (now : List ℕ) (after : List Event) (next : ℕ) → at + length piece ≤ length bytes → now ≡ overwritten bytes at piece
+  pub write_kept : {T E : Type 0} (v : T) (at : ℕ) (piece : List ℕ) → at + length piece ≤ length bytes → now ≡ overwritten bytes at piece
       → Notes (IsOver at (length piece) bytes) clock call events after
-      → (f g h k : ℕ) → Writes {E = E} at piece (Ok v) (disk_after bytes (reverse events) clock f g) (disk_after now (reverse after) next h k)
-  write_kept {T = T} {E = E} v at piece now after next fits same noted f g h k =
-      let Q : List ℕ → Type 0 = λ l. Writes {T = T} {E = E} at piece (Ok v) (disk_after bytes (reverse events) clock f g) (disk_after l (reverse after) next h k) in
-      subst Q (sym same) (writes_done bytes (reverse events) clock fit clock_fits f g h k v at piece (reverse after) noted.event next
-      (newest (IsOver at (length piece) bytes) clock call events after noted) noted.change fits)
-
-  pub ticks_kept : {T E : Type 0} (r : Result T E) (at : ℕ) (piece : List ℕ) (now : List ℕ) (after : List Event) (next : ℕ) → at + length piece ≤ length bytes → now ≡ overwritten bytes at piece
-      → next ≡ next_count clock → Notes (IsOver at (length piece) bytes) clock call events after
-      → (f g h k : ℕ) → Ticks r (disk_after bytes (reverse events) clock f g) (disk_after now (reverse after) next h k)
-  ticks_kept {T = T} {E = E} r at piece now after next fits same ticked noted f g h k =
-      let Q : List ℕ → ℕ → Type 0 = λ l t. Ticks r (disk_after bytes (reverse events) clock f g) (disk_after l (reverse after) t h k) in
-      let over = noted.change in
-      let undoes : undone noted.event.change (overwritten bytes at piece) ≡ bytes = ap (λ d. undone d (overwritten bytes at piece)) over.1 ∙ put_back bytes at piece over.0.items fits over.2 in
-      subst (λ t. Q now t) (sym ticked) (subst (λ (l : List ℕ). Q l (next_count clock)) (sym same)
-      (ticks_noted bytes (reverse events) clock fit clock_fits f g h k r (overwritten bytes at piece) (reverse after) noted.event
-      (newest (IsOver at (length piece) bytes) clock call events after noted) undoes noted.at_clock noted.time_left (length-overwritten bytes at piece fits)))
+      → (reads f g : ℕ) → Counts (IsErr {E = E} (Ok v)) f g → Writes {E = E} at piece (Ok v) (disk_after bytes (reverse events) clock reads f) (disk_after now (reverse after) next reads g)
+  write_kept {T = T} {E = E} v at piece fits same noted reads f g counts =
+      let Q : List ℕ → List Event → ℕ → Type 0 = λ l es t. Writes {T = T} {E = E} at piece (Ok v) (disk_after bytes (reverse events) clock reads f) (disk_after l (reverse es) t reads g) in
+      carried Q (overwritten bytes at piece) now after after (next_count clock) next same refl ticked (writes_done bytes (reverse events) clock fit clock_fits reads f g v at piece (reverse after) noted.event
+      (newest (IsOver at (length piece) bytes) clock call events after noted) noted.change noted.at_clock noted.time_left fits counts)

@@ -1,11 +1,13 @@
 -- What a crash leaves in each step of two writes in order.
 use Rattle.std.proofs.Common.{◌≡◌, inl, inr, ℕ, ◌+◌, ◌≤◌, List, length, Some, Result, Ok, ◌∙◌, subst, arith}
 use Rattle.hb_disk.specs.Model.{DiskModel, IsDisk, overwritten, Torn}
-use Rattle.hb_disk.specs.Calls.{Ticks, Writes, Syncs, Leaves, Becomes, Then}
+use Rattle.hb_disk.specs.Calls.{Writes, Syncs, Leaves, Then}
 use Rattle.hb_disk.specs.Calls as calls
+use Rattle.hb_disk.specs.Runs.{Rewrites}
 use Rattle.hb_disk.proofs.Facts.TornLaws.{Torn-itself}
 use Rattle.hb_disk.proofs.Facts.RunLaws.{Leaves-start, Leaves-call}
-use Rattle.hb_disk.proofs.Facts.BecomesLaws.{told_written, Becomes-write, Becomes-then, Becomes-weaker, Becomes-torn, Becomes-torn_sync}
+use Rattle.hb_disk.proofs.Facts.BecomesLaws.{told_written}
+use Rattle.hb_disk.proofs.Facts.RewriteLaws.{Rewrites-write, Rewrites-sync, Rewrites-then, Rewrites-torn, Rewrites-weaker}
 use Rattle.hb_disk.proofs.Facts.SyncedLaws.{only_told}
 
 module _ (old : DiskModel) (first : ℕ) (a : List ℕ) (second : ℕ) (b : List ℕ) where
@@ -14,18 +16,18 @@ module _ (old : DiskModel) (first : ℕ) (a : List ℕ) (second : ℕ) (b : List
   Ordered c = (t : List ℕ) × old.Image t × calls.InOrder first a second b t c
 
   module _ (t : List ℕ) (told : old.told ≡ Some t) (disk : IsDisk old) {T E : Type 0}
-      (r : Result T E) (one : DiskModel) (written : Writes first a r old one) (ticks : Ticks r old one) where
+      (r : Result T E) (one : DiskModel) (written : Writes first a r old one) where
     one_ordered : (c : List ℕ) → one.Image c → Ordered c
     one_ordered c image = let from = written.crash c image in (from.0, from.1, inl from.2)
 
     pub run_one : Leaves old one Ordered
-    run_one = Leaves-call r old old one Ordered (Leaves-start old Ordered disk (λ c image. (c, image, inl (Torn-itself first (length a) c (disk.bytes c image))))) ticks one_ordered
+    run_one = Leaves-call r old old one Ordered (Leaves-start old Ordered disk (λ c image. (c, image, inl (Torn-itself first (length a) c (disk.bytes c image))))) written.ticks one_ordered
 
-    module _ (s : Result T E) (two : DiskModel) (synced : Syncs s one two) (sync_ticks : Ticks s one two) where
+    module _ (s : Result T E) (two : DiskModel) (synced : Syncs s one two) where
       pub run_two : Leaves old two Ordered
-      run_two = Leaves-call s old one two Ordered run_one sync_ticks (λ c image. one_ordered c (synced.crash c image))
+      run_two = Leaves-call s old one two Ordered run_one synced.ticks (λ c image. one_ordered c (synced.crash c image))
 
-      module _ (v w : T) (r_ok : r ≡ Ok v) (s_ok : s ≡ Ok w) (q : Result T E) (three : DiskModel) (written_2 : Writes second b q two three) (ticks_2 : Ticks q two three) where
+      module _ (v w : T) (r_ok : r ≡ Ok v) (s_ok : s ≡ Ok w) (q : Result T E) (three : DiskModel) (written_2 : Writes second b q two three) where
         one_told : one.told ≡ Some (overwritten t first a)
         one_told = told_written r v first a old one t r_ok told written
 
@@ -36,15 +38,14 @@ module _ (old : DiskModel) (first : ℕ) (a : List ℕ) (second : ℕ) (b : List
             (t, disk.as_read t told, inr (subst (λ (l : List ℕ). Torn second (length b) l c) is from.2))
 
         pub run_three : Leaves old three Ordered
-        run_three = Leaves-call q old two three Ordered run_two ticks_2 three_ordered
+        run_three = Leaves-call q old two three Ordered run_two written_2.ticks three_ordered
 
-        module _ (u : Result T E) (new : DiskModel) (syncs : Syncs u three new) where
-          pub run_four : Ticks u three new → Leaves old new Ordered
-          run_four last_ticks = Leaves-call u old three new Ordered run_three last_ticks (λ c image. three_ordered c (syncs.crash c image))
+        pub run_four : (u : Result T E) (new : DiskModel) → Syncs u three new → Leaves old new Ordered
+        run_four u new syncs = Leaves-call u old three new Ordered run_three syncs.ticks (λ c image. three_ordered c (syncs.crash c image))
 
-          -- what a read gives once both pieces are written
-          pub new_told : (x : T) → q ≡ Ok x → new.told ≡ Some (overwritten (overwritten t first a) second b)
-          new_told x q_ok = syncs.same ∙ told_written q x second b two three (overwritten t first a) q_ok (synced.same ∙ one_told) written_2
+        -- what a read gives once both pieces are written
+        pub three_told : (x : T) → q ≡ Ok x → three.told ≡ Some (overwritten (overwritten t first a) second b)
+        three_told x q_ok = told_written q x second b two three (overwritten t first a) q_ok (synced.same ∙ one_told) written_2
 
   -- the calls touched the two ranges alone
   abbrev pub InTwo : List ℕ → List ℕ → Type 0
@@ -55,29 +56,29 @@ module _ (old : DiskModel) (first : ℕ) (a : List ℕ) (second : ℕ) (b : List
   before_second x c torn = (c, torn, Torn-itself second (length b) c torn.bytes)
 
   module _ (disk : IsDisk old) (first_inside : first + length a ≤ old.size) (one : DiskModel) (is_one : IsDisk one) {T E : Type 0}
-      (r : Result T E) (written : Writes first a r old one) (ticks : Ticks r old one) where
-    torn_one : Becomes (Torn first (length a)) old one
-    torn_one = Becomes-write r first a old one disk is_one first_inside written ticks
+      (r : Result T E) (written : Writes first a r old one) where
+    torn_one : Rewrites (Torn first (length a)) 1 r old one
+    torn_one = Rewrites-write r first a first (length a) old one disk is_one first_inside (omega arith) (omega arith) written
 
-    pub place_one : Becomes InTwo old one
-    place_one = Becomes-weaker (Torn first (length a)) InTwo old one before_second torn_one
+    pub wrote_one : Rewrites InTwo 1 r old one
+    wrote_one = Rewrites-weaker r (Torn first (length a)) InTwo 1 old one before_second torn_one
 
-    module _ (s : Result T E) (two : DiskModel) (synced : Syncs s one two) (sync_ticks : Ticks s one two) where
-      torn_two : Becomes (Torn first (length a)) old two
-      torn_two = Becomes-torn first (length a) old one two torn_one (Becomes-torn_sync s first (length a) one two is_one synced sync_ticks)
+    module _ (v : T) (r_ok : r ≡ Ok v) (s : Result T E) (two : DiskModel) (synced : Syncs s one two) where
+      torn_two : Rewrites (Torn first (length a)) 2 s old two
+      torn_two = Rewrites-torn r s first (length a) 1 1 old one two v r_ok torn_one (Rewrites-sync s first (length a) one two is_one synced)
 
-      pub place_two : Becomes InTwo old two
-      place_two = Becomes-weaker (Torn first (length a)) InTwo old two before_second torn_two
+      pub wrote_two : Rewrites InTwo 2 s old two
+      wrote_two = Rewrites-weaker s (Torn first (length a)) InTwo 2 old two before_second torn_two
 
-      module _ (second_inside : second + length b ≤ old.size) (is_two : IsDisk two) (q : Result T E) (three : DiskModel) (is_three : IsDisk three)
-          (written_2 : Writes second b q two three) (ticks_2 : Ticks q two three) where
-        torn_three : Becomes (Torn second (length b)) two three
-        torn_three = Becomes-write q second b two three is_two is_three (omega (arith, second_inside, sync_ticks.size, ticks.size)) written_2 ticks_2
+      module _ (w : T) (s_ok : s ≡ Ok w) (second_inside : second + length b ≤ old.size) (is_two : IsDisk two) (q : Result T E) (three : DiskModel) (is_three : IsDisk three)
+          (written_2 : Writes second b q two three) where
+        torn_three : Rewrites (Torn second (length b)) 1 q two three
+        torn_three = Rewrites-write q second b second (length b) two three is_two is_three (omega (arith, second_inside, synced.ticks.size, written.ticks.size)) (omega arith) (omega arith) written_2
 
-        pub place_three : Becomes InTwo old three
-        place_three = Becomes-then (Torn first (length a)) (Torn second (length b)) old two three torn_two torn_three
+        pub wrote_three : Rewrites InTwo 3 q old three
+        wrote_three = Rewrites-then s q (Torn first (length a)) (Torn second (length b)) 2 1 old two three w s_ok torn_two torn_three
 
-        pub place_four : (u : Result T E) (new : DiskModel) → Syncs u three new → Ticks u three new → Becomes InTwo old new
-        place_four u new syncs last_ticks =
-            Becomes-then (Torn first (length a)) (Torn second (length b)) old two new torn_two
-            (Becomes-torn second (length b) two three new torn_three (Becomes-torn_sync u second (length b) three new is_three syncs last_ticks))
+        pub wrote_four : (x : T) → q ≡ Ok x → (u : Result T E) (new : DiskModel) → Syncs u three new → Rewrites InTwo 4 u old new
+        wrote_four x q_ok u new syncs =
+            Rewrites-then s u (Torn first (length a)) (Torn second (length b)) 2 2 old two new w s_ok torn_two
+            (Rewrites-torn q u second (length b) 1 1 two three new x q_ok torn_three (Rewrites-sync u second (length b) three new is_three syncs))

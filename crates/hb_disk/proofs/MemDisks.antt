@@ -2,9 +2,11 @@
 use Rattle.std.proofs.Common.{◌≡◌, ◌↔◌, inl, inr, ℕ, ◌≤◌, Bool, List, Result, Ok, Err, IsTrue, IsErr, IfErr, OnOk, OnErr, refl, sym, subst, arith}
 use Rattle.std.proofs.lemmas.Bool.{cases_lt}
 use Rattle.hb_outside.specs.Streams.{Rose}
+use Rattle.hb_outside.specs.Calls.{Counts}
 use Rattle.hb_outside.specs.Memory.{next_count}
 use Rattle.hb_disk.specs.Model.{DiskModel, last_value}
-use Rattle.hb_disk.specs.Calls.{Ticks, Writes, Syncs, WriteFaults}
+use Rattle.hb_disk.specs.Calls.{Ticks, Writes, Syncs}
+use Rattle.hb_disk.proofs.Facts.FaultLaws.{WriteFaults-as}
 use Rattle.hb_disk.specs.NotedCalls.{Alike, Explains, LeavesTry, faults_after, starved_after}
 use Rattle.hb_disk.specs.MemDisk.{bytes_of, IsListed, CalledExactly, FailsFor, HasSameRecord}
 use Rattle.hb_disk.specs.declared.event.Refused.{Refused}
@@ -12,25 +14,13 @@ use Rattle.hb_disk.specs.declared.event.Refused.TheVariants.{Listed, Over, NoMem
 use Rattle.hb_disk.specs.declared.mem_disk.MemDisk.{MemDisk}
 
 -- What is said of one result holds of another that is alike.
-pub told_writes : {T E F : Type 0} (done : Result T E) (r : Result T F) (at : ℕ) (piece : List ℕ) (old new : DiskModel) → Alike done r → Writes at piece done old new → Writes at piece r old new
-told_writes (Ok v) (Ok w) at piece old new alike writes = record { written = writes.written; tried = tt; silent = writes.silent; crash = writes.crash; opened = writes.opened; opened_or_not = tt }
-told_writes (Ok v) (Err f) at piece old new alike writes = absurd alike
-told_writes (Err e) (Ok w) at piece old new alike writes = absurd alike
-told_writes (Err e) (Err f) at piece old new alike writes = record { written = tt; tried = writes.tried; silent = writes.silent; crash = writes.crash; opened = tt; opened_or_not = writes.opened_or_not }
-
-pub told_syncs : {T E F : Type 0} (done : Result T E) (r : Result T F) (old new : DiskModel) → Alike done r → Syncs done old new → Syncs r old new
-told_syncs (Ok v) (Ok w) old new alike syncs = record { same = syncs.same; durable = syncs.durable; crash = syncs.crash; left_open = tt }
-told_syncs (Ok v) (Err f) old new alike syncs = absurd alike
-told_syncs (Err e) (Ok w) old new alike syncs = absurd alike
-told_syncs (Err e) (Err f) old new alike syncs = record { same = syncs.same; durable = tt; crash = syncs.crash; left_open = syncs.left_open }
-
 told_err : {T E F : Type 0} (done : Result T E) (r : Result T F) → Alike done r → IsErr done → IsErr r
 told_err (Ok v) (Ok w) alike err = cc
 told_err (Ok v) (Err f) alike err = refl
 told_err (Err e) (Ok w) alike err = absurd alike
 told_err (Err e) (Err f) alike err = refl
 
-pub told_ticks : {T E F : Type 0} (done : Result T E) (r : Result T F) (old new : DiskModel) → Alike done r → Ticks done old new → Ticks r old new
+told_ticks : {T E F : Type 0} (done : Result T E) (r : Result T F) (old new : DiskModel) → Alike done r → Ticks done old new → Ticks r old new
 told_ticks done r old new alike ticks = record {
   tick = ticks.tick;
   later = ticks.later;
@@ -39,16 +29,25 @@ told_ticks done r old new alike ticks = record {
   size = ticks.size;
 }
 
+pub told_writes : {T E F : Type 0} (done : Result T E) (r : Result T F) (at : ℕ) (piece : List ℕ) (old new : DiskModel) → Alike done r → Writes at piece done old new → Writes at piece r old new
+told_writes (Ok v) (Ok w) at piece old new alike writes = record { written = writes.written; tried = tt; silent = writes.silent; crash = writes.crash; opened = writes.opened; opened_or_not = tt; ticks = told_ticks (Ok v) (Ok w) old new alike writes.ticks; faults = WriteFaults-as old new (λ e. cc) (λ e. cc) writes.faults }
+told_writes (Ok v) (Err f) at piece old new alike writes = absurd alike
+told_writes (Err e) (Ok w) at piece old new alike writes = absurd alike
+told_writes (Err e) (Err f) at piece old new alike writes = record { written = tt; tried = writes.tried; silent = writes.silent; crash = writes.crash; opened = tt; opened_or_not = writes.opened_or_not; ticks = told_ticks (Err e) (Err f) old new alike writes.ticks; faults = WriteFaults-as old new (λ e. refl) (λ e. refl) writes.faults }
+
+pub told_syncs : {T E F : Type 0} (done : Result T E) (r : Result T F) (old new : DiskModel) → Alike done r → Syncs done old new → Syncs r old new
+told_syncs (Ok v) (Ok w) old new alike syncs = record { same = syncs.same; durable = syncs.durable; crash = syncs.crash; left_open = tt; ticks = told_ticks (Ok v) (Ok w) old new alike syncs.ticks; faults = WriteFaults-as old new (λ e. cc) (λ e. cc) syncs.faults }
+told_syncs (Ok v) (Err f) old new alike syncs = absurd alike
+told_syncs (Err e) (Ok w) old new alike syncs = absurd alike
+told_syncs (Err e) (Err f) old new alike syncs = record { same = syncs.same; durable = tt; crash = syncs.crash; left_open = syncs.left_open; ticks = told_ticks (Err e) (Err f) old new alike syncs.ticks; faults = WriteFaults-as old new (λ e. refl) (λ e. refl) syncs.faults }
+
 rose_next : (count : ℕ) → Rose count (next_count count)
 rose_next count = elim (cases_lt count last_value) [ inl before ↦ inl (omega arith) | inr at_end ↦ inr (omega arith) ]
 
-pub told_faults : {T F : Type 0} (done : Result T Refused) (r : Result T F) (old new : DiskModel) → Alike done r → new.write_faults ≡ faults_after done old.write_faults
-    → old.write_faults ≤ new.write_faults → new.read_faults ≡ old.read_faults → WriteFaults r old new
-told_faults (Ok v) (Ok w) old new alike is later reads = record { cause = tt; no_fault = is; later = later; reads = reads }
-told_faults (Ok v) (Err f) old new alike is later reads = absurd alike
-told_faults (Err e) (Ok w) old new alike is later reads = absurd alike
-told_faults (Err e) (Err f) old new alike is later reads =
-    record { cause = subst (λ n. Rose old.write_faults n) (sym is) (rose_next old.write_faults); no_fault = tt; later = later; reads = reads }
+-- the count of faults after a call, by its history's answer
+pub counts_after : {T : Type 0} (done : Result T Refused) (before after : ℕ) → after ≡ faults_after done before → before ≤ after → Counts (IsErr done) before after
+counts_after (Ok v) before after is later = record { cause = λ failed. cc; no_fault = λ good. is; later = later }
+counts_after (Err e) before after is later = record { cause = λ failed. subst (λ n. Rose before n) (sym is) (rose_next before); no_fault = λ good. absurd (good refl); later = later }
 
 -- the count of calls that found no memory doesn't go by the type of a success
 starved_alike : (T U : Type 0) (e : Refused) (n count : ℕ) → n ≡ starved_after {T = T} (Err e) count → n ≡ starved_after {T = U} (Err e) count

@@ -1,6 +1,6 @@
 -- What each call does to a disk, by the disk model.
 use Rattle.std.specs.Prelude.{◌≡◌, ◌⊎◌, ℕ, ◌+◌, ◌<◌, ◌≤◌, List, ◌∷◌, length, take, drop, get_or, Some, None, IfSome, IsSome, Result, IsErr, OnOk, OnErr}
-use Rattle.hb_outside.specs.Streams.{Rose}
+use Rattle.hb_outside.specs.Calls.{Counts}
 use Rattle.hb_disk.specs.Model.{DiskModel, last_value, overwritten, Torn, Elapses, Stays}
 
 -- A write, zero or sync is one tick of the clock, whether it fails or not. Where the clock stands at its last value
@@ -12,11 +12,9 @@ pub record Ticks {T E : Type 0} (result : Result T E) (old new : DiskModel) : Ty
   pub time : Elapses old new
   pub size : new.size ≡ old.size
 
--- The fault of a write, zero or sync: no count falls, and the count of failed writes rises exactly where it fails.
-pub record WriteFaults {T E : Type 0} (result : Result T E) (old new : DiskModel) : Type 0 where
-  pub cause : OnErr result (Rose old.write_faults new.write_faults)
-  pub no_fault : OnOk result (new.write_faults ≡ old.write_faults)
-  pub later : old.write_faults ≤ new.write_faults
+-- The counts of faults over calls that write: a write, zero or sync failed where they failed so, and no read did.
+pub record WriteFaults (failed : Type 0) (old new : DiskModel) : Type 0 where
+  pub writes : Counts failed old.write_faults new.write_faults
   pub reads : new.read_faults ≡ old.read_faults
 
 -- A range is open: what a crash might have left before, with any bytes in the range, it may leave now.
@@ -38,6 +36,8 @@ pub record Writes {T E : Type 0} (at : ℕ) (piece : List ℕ) (result : Result 
   pub crash : (c : List ℕ) → new.Image c → (b : List ℕ) × old.Image b × Torn at (length piece) b c
   pub opened : OnOk result (LeavesOpen at (length piece) old new)
   pub opened_or_not : OnErr result (LeavesOpen at (length piece) old new ⊎ IsUndone old new)
+  pub ticks : Ticks result old new
+  pub faults : WriteFaults (IsErr result) old new
 
 -- A sync. After it a crash leaves what a read gives, and nothing else. One that fails closes no range.
 pub record Syncs {T E : Type 0} (result : Result T E) (old new : DiskModel) : Type 0 where
@@ -45,19 +45,21 @@ pub record Syncs {T E : Type 0} (result : Result T E) (old new : DiskModel) : Ty
   pub durable : OnOk result (IfSome old.told (λ b. (c : List ℕ) → new.Image c → c ≡ b))
   pub crash : (c : List ℕ) → new.Image c → old.Image c
   pub left_open : OnErr result ((c : List ℕ) → old.Image c → new.Image c)
+  pub ticks : Ticks result old new
+  pub faults : WriteFaults (IsErr result) old new
 
--- A read gives the told bytes of the range.
-abbrev pub Reads : ℕ → List ℕ → DiskModel → Type 0
-Reads at into old = IfSome old.told (λ b. into ≡ take (length into) (drop at b))
-
--- The fault of a read: no count falls, and the count of failed reads rises exactly where it fails.
-pub record ReadFaults {T E : Type 0} (result : Result T E) (old new : DiskModel) : Type 0 where
-  pub cause : OnErr result (Rose old.read_faults new.read_faults)
-  pub no_fault : OnOk result (new.read_faults ≡ old.read_faults)
-  pub later : old.read_faults ≤ new.read_faults
+-- What calls that only read did: the disk is as it was, but for its count of reads that failed.
+pub record ReadsOnly (failed : Type 0) (old new : DiskModel) : Type 0 where
+  pub stays : Stays old new
+  pub reads : Counts failed old.read_faults new.read_faults
   pub writes : new.write_faults ≡ old.write_faults
 
--- Reads leave the disk as it was, and no count falls.
+-- A read gives the told bytes of the range.
+pub record ReadsAt {T E : Type 0} (at : ℕ) (into : List ℕ) (result : Result T E) (old new : DiskModel) : Type 0 where
+  pub bytes : OnOk result (IfSome old.told (λ b. into ≡ take (length into) (drop at b)))
+  pub only : ReadsOnly (IsErr result) old new
+
+-- Reads leave the disk as it was, and no count falls. Nothing is said of which failed.
 pub record OnlyReads (old new : DiskModel) : Type 0 where
   pub stays : Stays old new
   pub later : old.read_faults ≤ new.read_faults

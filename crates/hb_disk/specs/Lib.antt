@@ -1,5 +1,6 @@
 pub mod Model
 pub mod Calls
+pub mod Runs
 pub mod Events
 pub mod NotedCalls
 pub mod EventLaws

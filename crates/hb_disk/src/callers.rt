@@ -1,6 +1,7 @@
 ghost use Rattle.std.specs.Prelude.{◌≡◌, ◌≢◌, ℕ, ◌+◌, ◌<◌, ◌≤◌, List, ◌∷◌, Some, length, get_or, IsSome, IfSome, OnOk, OnErr};
 ghost use Rattle.hb_disk.specs.Model.{overwritten, Torn};
-ghost use Rattle.hb_disk.specs.Calls.{Leaves, FrameOrNot, InOrder, WriteFaults, Becomes, Then, open_gate};
+ghost use Rattle.hb_disk.specs.Calls.{Leaves, FrameOrNot, InOrder, Then, open_gate};
+ghost use Rattle.hb_disk.specs.Runs.{WritesThrough};
 
 use crate::Device;
 use hb_outside::Failed;
@@ -16,16 +17,11 @@ pub fn write_behind_gate<D: Device>(disk: &mut D, gate: u64, body: &[u8]) -> Res
     requires inside { gate + 1 + length body.now ≤ (D.model disk.old).size }
     requires closed { IsSome (D.model disk.old).told →
         (c : List ℕ) → (D.model disk.old).Image c → get_or c gate 0 ≢ open_gate }
-    ensures written { OnOk result (IfSome (D.model disk.old).told
-        (λ b. (D.model disk.new).told ≡ Some (overwritten b gate (open_gate ∷ body.now)))) }
-    ensures durable { OnOk result (IfSome (D.model disk.new).told
-        (λ b. (c : List ℕ) → (D.model disk.new).Image c → c ≡ b)) }
+    ensures wrote { WritesThrough (λ b. overwritten b gate (open_gate ∷ body.now)) (Torn gate (1 + length body.now)) 4
+        result (D.model disk.old) (D.model disk.new) }
     ensures moments { IsSome (D.model disk.old).told → Leaves (D.model disk.old) (D.model disk.new)
         (λ c. (b : List ℕ) × (D.model disk.old).Image b × FrameOrNot gate body.now b c) }
-    ensures place { Becomes (Torn gate (1 + length body.now)) (D.model disk.old) (D.model disk.new) }
     ensures clock { IsSome (D.model disk.old).told → OnOk result ((D.model disk.new).clock ≡ (D.model disk.old).clock + 4) }
-    ensures few { IsSome (D.model disk.old).told → OnErr result (((D.model disk.old).clock ≤ (D.model disk.new).clock) × ((D.model disk.new).clock ≤ (D.model disk.old).clock + 4)) }
-    ensures faults { WriteFaults result (D.model disk.old) (D.model disk.new) }
 {
     disk.write(gate + 1, body)?;
     disk.sync()?;
@@ -45,16 +41,11 @@ pub fn write_in_order<D: Device>(
 ) -> Result<(), Failed>
     requires first_inside { first + length a.now ≤ (D.model disk.old).size }
     requires second_inside { second + length b.now ≤ (D.model disk.old).size }
-    ensures written { OnOk result (IfSome (D.model disk.old).told (λ t.
-        (D.model disk.new).told ≡ Some (overwritten (overwritten t first a.now) second b.now))) }
-    ensures durable { OnOk result (IfSome (D.model disk.new).told
-        (λ t. (c : List ℕ) → (D.model disk.new).Image c → c ≡ t)) }
+    ensures wrote { WritesThrough (λ t. overwritten (overwritten t first a.now) second b.now)
+        (Then (Torn first (length a.now)) (Torn second (length b.now))) 4
+        result (D.model disk.old) (D.model disk.new) }
     ensures moments { IsSome (D.model disk.old).told → Leaves (D.model disk.old) (D.model disk.new)
         (λ c. (t : List ℕ) × (D.model disk.old).Image t × InOrder first a.now second b.now t c) }
-    ensures place { Becomes (Then (Torn first (length a.now)) (Torn second (length b.now)))
-        (D.model disk.old) (D.model disk.new) }
-    ensures clock { IsSome (D.model disk.old).told → (D.model disk.new).clock ≤ (D.model disk.old).clock + 4 }
-    ensures faults { WriteFaults result (D.model disk.old) (D.model disk.new) }
 {
     disk.write(first, a)?;
     disk.sync()?;

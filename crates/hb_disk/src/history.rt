@@ -1,9 +1,10 @@
 //! Bytes in memory with the record of all that changed them.
 ghost use Rattle.std.specs.Prelude.{◌≡◌, ◌⊎◌, ℕ, ◌+◌, ◌^◌, ◌<◌, ◌≤◌, ◌↔◌, List, [], length, reverse, replicate, All, IsTrue, true, false, IsErr, IfOk, IfErr, OnOk, OnErr, Ok, Err};
 ghost use Rattle.std.proofs.Props.{props};
+ghost use Rattle.hb_outside.specs.Calls.{Counts};
 ghost use Rattle.hb_outside.specs.Memory.{next_count};
 ghost use Rattle.hb_disk.specs.Model.{last_value, overwritten};
-ghost use Rattle.hb_disk.specs.Calls.{Ticks, Writes, Syncs};
+ghost use Rattle.hb_disk.specs.Calls.{Writes, Syncs};
 ghost use Rattle.hb_disk.specs.Events.{LiesWithin, AreKept, IsImage, IsImageSince, IsPicked, rewound, disk_after};
 ghost use Rattle.hb_disk.specs.NotedCalls.{Notes, IsOver, IsTry, IsSync, Explains, NotNoted, LeavesTry};
 
@@ -169,12 +170,9 @@ impl History {
         piece: &[u8],
     ) -> Result<(), Refused>
         requires { at + length piece.now ≤ length self.old.bytes.items }
-        ensures writes { (f g h k : ℕ) → Writes at piece.now result
-            (disk_after self.old.bytes.items (reverse self.old.events.items) self.old.clock f g)
-            (disk_after self.new.bytes.items (reverse self.new.events.items) self.new.clock h k) }
-        ensures ticks { (f g h k : ℕ) → Ticks result
-            (disk_after self.old.bytes.items (reverse self.old.events.items) self.old.clock f g)
-            (disk_after self.new.bytes.items (reverse self.new.events.items) self.new.clock h k) }
+        ensures writes { (reads before after : ℕ) → Counts (IsErr result) before after → Writes at piece.now result
+            (disk_after self.old.bytes.items (reverse self.old.events.items) self.old.clock reads before)
+            (disk_after self.new.bytes.items (reverse self.new.events.items) self.new.clock reads after) }
         ensures done { OnOk result (Notes (IsOver at (length piece.now) self.old.bytes.items) self.old.clock call
             self.old.events.items self.new.events.items) }
         ensures refused { IfErr result (LeavesTry
@@ -199,12 +197,9 @@ impl History {
         len: usize,
     ) -> Result<(), Refused>
         requires { at + len ≤ length self.old.bytes.items }
-        ensures writes { (f g h k : ℕ) → Writes at (replicate len 0) result
-            (disk_after self.old.bytes.items (reverse self.old.events.items) self.old.clock f g)
-            (disk_after self.new.bytes.items (reverse self.new.events.items) self.new.clock h k) }
-        ensures ticks { (f g h k : ℕ) → Ticks result
-            (disk_after self.old.bytes.items (reverse self.old.events.items) self.old.clock f g)
-            (disk_after self.new.bytes.items (reverse self.new.events.items) self.new.clock h k) }
+        ensures writes { (reads before after : ℕ) → Counts (IsErr result) before after → Writes at (replicate len 0) result
+            (disk_after self.old.bytes.items (reverse self.old.events.items) self.old.clock reads before)
+            (disk_after self.new.bytes.items (reverse self.new.events.items) self.new.clock reads after) }
         ensures done { OnOk result (Notes (IsOver at len self.old.bytes.items) self.old.clock call
             self.old.events.items self.new.events.items) }
         ensures refused { IfErr result (LeavesTry
@@ -221,12 +216,9 @@ impl History {
 
     /// Makes all that was written last.
     pub(crate) fn sync(&mut self, call: u64, listed: bool) -> Result<(), Refused>
-        ensures syncs { (f g h k : ℕ) → Syncs result
-            (disk_after self.old.bytes.items (reverse self.old.events.items) self.old.clock f g)
-            (disk_after self.new.bytes.items (reverse self.new.events.items) self.new.clock h k) }
-        ensures ticks { (f g h k : ℕ) → Ticks result
-            (disk_after self.old.bytes.items (reverse self.old.events.items) self.old.clock f g)
-            (disk_after self.new.bytes.items (reverse self.new.events.items) self.new.clock h k) }
+        ensures syncs { (reads before after : ℕ) → Counts (IsErr result) before after → Syncs result
+            (disk_after self.old.bytes.items (reverse self.old.events.items) self.old.clock reads before)
+            (disk_after self.new.bytes.items (reverse self.new.events.items) self.new.clock reads after) }
         ensures done { OnOk result (Notes IsSync self.old.clock call self.old.events.items self.new.events.items) }
         ensures refused { IfErr result (LeavesTry (self.new.events.items ≡ self.old.events.items)
             (self.new.events.items ≡ self.old.events.items)) }

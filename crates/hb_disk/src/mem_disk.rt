@@ -2,8 +2,8 @@
 ghost use Rattle.std.specs.Prelude.{◌≡◌, ◌⊎◌, ℕ, ◌+◌, ◌<◌, ◌≤◌, ◌↔◌, [], length, reverse, replicate, Contains, IsTrue, IsSome, IsErr, IfOk, IfSome, IfErr, OnOk, OnErr, Err};
 ghost use Rattle.hb_outside.specs.Streams.{Rose};
 ghost use Rattle.hb_outside.specs.Memory.{next_count};
-ghost use Rattle.hb_disk.specs.Model.{Stays, last_value};
-ghost use Rattle.hb_disk.specs.Calls.{Ticks, WriteFaults, Writes, Syncs, Reads, ReadFaults};
+ghost use Rattle.hb_disk.specs.Model.{last_value};
+ghost use Rattle.hb_disk.specs.Calls.{Writes, Syncs, ReadsAt};
 ghost use Rattle.hb_disk.specs.Events.{rewound, IsPicked, IsImage, disk_after};
 ghost use Rattle.hb_disk.specs.NotedCalls.{Alike, faults_after, starved_after};
 ghost use Rattle.hb_disk.specs.EventLaws.{history_is_disk};
@@ -132,9 +132,7 @@ impl Device for MemDisk {
 
     fn read(&mut self, at: u64, into: &mut [u8]) -> Result<(), Failed>
         requires { at + length into.old ≤ (mem_disk_seen self.old).size }
-        ensures bytes { OnOk result (Reads at into.new (mem_disk_seen self.old)) }
-        ensures stays { Stays (mem_disk_seen self.old) (mem_disk_seen self.new) }
-        ensures faults { ReadFaults result (mem_disk_seen self.old) (mem_disk_seen self.new) }
+        ensures reads { ReadsAt at into.new result (mem_disk_seen self.old) (mem_disk_seen self.new) }
         ensures exact { ReadExactly result self.old self.new }
     {
         let listed = is_listed(&self.failing, self.calls);
@@ -151,8 +149,6 @@ impl Device for MemDisk {
     fn write(&mut self, at: u64, from: &[u8]) -> Result<(), Failed>
         requires { at + length from.now ≤ (mem_disk_seen self.old).size }
         ensures writes { Writes at from.now result (mem_disk_seen self.old) (mem_disk_seen self.new) }
-        ensures ticks { Ticks result (mem_disk_seen self.old) (mem_disk_seen self.new) }
-        ensures faults { WriteFaults result (mem_disk_seen self.old) (mem_disk_seen self.new) }
         ensures exact { CalledExactly (Records (IsTry at (length from.now)) self.old self.new) result self.old self.new }
         ensures recorded { OnOk result (Records (IsOver at (length from.now) (bytes_of self.old)) self.old self.new) }
     {
@@ -167,8 +163,6 @@ impl Device for MemDisk {
     fn zero(&mut self, at: u64, len: u64) -> Result<(), Failed>
         requires { at + len ≤ (mem_disk_seen self.old).size }
         ensures writes { Writes at (replicate len 0) result (mem_disk_seen self.old) (mem_disk_seen self.new) }
-        ensures ticks { Ticks result (mem_disk_seen self.old) (mem_disk_seen self.new) }
-        ensures faults { WriteFaults result (mem_disk_seen self.old) (mem_disk_seen self.new) }
         ensures exact { CalledExactly (Records (IsTry at len) self.old self.new) result self.old self.new }
         ensures recorded { OnOk result (Records (IsOver at len (bytes_of self.old)) self.old self.new) }
     {
@@ -182,8 +176,6 @@ impl Device for MemDisk {
 
     fn sync(&mut self) -> Result<(), Failed>
         ensures syncs { Syncs result (mem_disk_seen self.old) (mem_disk_seen self.new) }
-        ensures ticks { Ticks result (mem_disk_seen self.old) (mem_disk_seen self.new) }
-        ensures faults { WriteFaults result (mem_disk_seen self.old) (mem_disk_seen self.new) }
         ensures exact { CalledExactly (HasSameRecord self.old self.new) result self.old self.new }
         ensures recorded { OnOk result (Records IsSync self.old self.new) }
     {

@@ -1,7 +1,7 @@
 //! A disk that tells nothing, and in which one byte goes bad.
 ghost use Rattle.std.specs.Prelude.{◌≡◌, ℕ, ◌+◌, ◌<◌, ◌≤◌, [], ◌∷◌, length, replicate, OnOk, OnErr, IsErr};
-ghost use Rattle.hb_disk.specs.Model.{Stays, overwritten};
-ghost use Rattle.hb_disk.specs.Calls.{Ticks, WriteFaults, Writes, Syncs, Reads, ReadFaults};
+ghost use Rattle.hb_disk.specs.Model.{overwritten};
+ghost use Rattle.hb_disk.specs.Calls.{Writes, Syncs, ReadsAt};
 ghost use Rattle.hb_disk.specs.MemDisk.{SetsByte, mem_disk_seen, ReadExactly, CalledExactly};
 ghost use Rattle.hb_disk.specs.Untold.{untold_of, untold_is_disk};
 
@@ -40,11 +40,9 @@ impl Device for RotDisk {
 
     fn read(&mut self, at: u64, into: &mut [u8]) -> Result<(), Failed>
         requires { at + length into.old ≤ (hidden self.old).size }
-        ensures bytes { OnOk result (Reads at into.new (hidden self.old)) }
-        ensures stays { Stays (hidden self.old) (hidden self.new) }
-        ensures faults { ReadFaults result (hidden self.old) (hidden self.new) }
+        ensures reads { ReadsAt at into.new result (hidden self.old) (hidden self.new) }
         ensures exact { AfterRot self.old (λ found. ReadExactly result found self.new.inner
-            × OnOk result (Reads at into.new (mem_disk_seen found))) }
+            × ReadsAt at into.new result (mem_disk_seen found) (mem_disk_seen self.new.inner)) }
     {
         rot(&mut self.inner, self.before, self.at, self.byte);
         self.inner.read(at, into)
@@ -53,8 +51,6 @@ impl Device for RotDisk {
     fn write(&mut self, at: u64, from: &[u8]) -> Result<(), Failed>
         requires { at + length from.now ≤ (hidden self.old).size }
         ensures writes { Writes at from.now result (hidden self.old) (hidden self.new) }
-        ensures ticks { Ticks result (hidden self.old) (hidden self.new) }
-        ensures faults { WriteFaults result (hidden self.old) (hidden self.new) }
         ensures exact { AfterRot self.old (λ found.
             CalledExactly (Records (IsTry at (length from.now)) found self.new.inner) result found self.new.inner
             × OnOk result (Records (IsOver at (length from.now) (bytes_of found)) found self.new.inner)
@@ -67,8 +63,6 @@ impl Device for RotDisk {
     fn zero(&mut self, at: u64, len: u64) -> Result<(), Failed>
         requires { at + len ≤ (hidden self.old).size }
         ensures writes { Writes at (replicate len 0) result (hidden self.old) (hidden self.new) }
-        ensures ticks { Ticks result (hidden self.old) (hidden self.new) }
-        ensures faults { WriteFaults result (hidden self.old) (hidden self.new) }
         ensures exact { AfterRot self.old (λ found.
             CalledExactly (Records (IsTry at len) found self.new.inner) result found self.new.inner
             × OnOk result (Records (IsOver at len (bytes_of found)) found self.new.inner)
@@ -80,8 +74,6 @@ impl Device for RotDisk {
 
     fn sync(&mut self) -> Result<(), Failed>
         ensures syncs { Syncs result (hidden self.old) (hidden self.new) }
-        ensures ticks { Ticks result (hidden self.old) (hidden self.new) }
-        ensures faults { WriteFaults result (hidden self.old) (hidden self.new) }
         ensures exact { AfterRot self.old (λ found.
             CalledExactly (HasSameRecord found self.new.inner) result found self.new.inner
             × OnOk result (Records IsSync found self.new.inner)

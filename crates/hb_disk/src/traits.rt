@@ -1,6 +1,6 @@
-ghost use Rattle.std.specs.Prelude.{◌≡◌, ℕ, ◌+◌, ◌<◌, ◌≤◌, List, replicate, length, IsSome, OnOk};
-ghost use Rattle.hb_disk.specs.Model.{DiskModel, IsDisk, Stays};
-ghost use Rattle.hb_disk.specs.Calls.{Ticks, WriteFaults, Writes, Syncs, Reads, ReadFaults};
+ghost use Rattle.std.specs.Prelude.{◌≡◌, ℕ, ◌+◌, ◌<◌, ◌≤◌, List, replicate, length, IsSome};
+ghost use Rattle.hb_disk.specs.Model.{DiskModel, IsDisk};
+ghost use Rattle.hb_disk.specs.Calls.{Writes, Syncs, ReadsAt};
 
 use hb_outside::Failed;
 
@@ -19,29 +19,21 @@ pub trait Device {
     /// Fills `into` with the bytes from the place on. After `Failed` it holds any bytes.
     fn read(&mut self, at: u64, into: &mut [u8]) -> Result<(), Failed>
         requires { at + length into.old ≤ (model self.old).size }
-        ensures bytes { OnOk result (Reads at into.new (model self.old)) }
-        ensures stays { Stays (model self.old) (model self.new) }
-        ensures faults { ReadFaults result (model self.old) (model self.new) };
+        ensures { ReadsAt at into.new result (model self.old) (model self.new) };
 
     /// Puts the bytes at the place.
     fn write(&mut self, at: u64, from: &[u8]) -> Result<(), Failed>
         requires { at + length from.now ≤ (model self.old).size }
-        ensures writes { Writes at from.now result (model self.old) (model self.new) }
-        ensures ticks { Ticks result (model self.old) (model self.new) }
-        ensures faults { WriteFaults result (model self.old) (model self.new) };
+        ensures { Writes at from.now result (model self.old) (model self.new) };
 
     /// Puts `len` zero bytes at the place, as one range.
     fn zero(&mut self, at: u64, len: u64) -> Result<(), Failed>
         requires { at + len ≤ (model self.old).size }
-        ensures writes { Writes at (replicate len 0) result (model self.old) (model self.new) }
-        ensures ticks { Ticks result (model self.old) (model self.new) }
-        ensures faults { WriteFaults result (model self.old) (model self.new) };
+        ensures { Writes at (replicate len 0) result (model self.old) (model self.new) };
 
     /// Makes all that was written last: after it a crash leaves what a read gives.
     fn sync(&mut self) -> Result<(), Failed>
-        ensures syncs { Syncs result (model self.old) (model self.new) }
-        ensures ticks { Ticks result (model self.old) (model self.new) }
-        ensures faults { WriteFaults result (model self.old) (model self.new) };
+        ensures { Syncs result (model self.old) (model self.new) };
 
     /// What holds of the disk at all times.
     ghost is_disk: { (disk : Self) → IsDisk (model disk) };

@@ -2,7 +2,7 @@
 use Rattle.std.proofs.Common.{◌≡◌, ℕ, ◌+◌, ◌^◌, ◌<◌, ◌≤◌, List, length, Some, Result, Ok, Err, ◌∙◌, subst, arith}
 use Rattle.std.specs.List.{All}
 use Rattle.hb_disk.specs.Model.{DiskModel, IsDisk, overwritten, Torn, Stays}
-use Rattle.hb_disk.specs.Calls.{Ticks, Writes, Syncs, Becomes, Then}
+use Rattle.hb_disk.specs.Calls.{Writes, Syncs, Becomes, Then}
 use Rattle.hb_disk.proofs.Facts.TornLaws.{Torn-from, Torn-itself, Torn-wider, Torn-twice}
 use Rattle.hb_disk.proofs.Facts.OverwrittenLaws.{length-overwritten, overwritten-outside}
 use Rattle.hb_lemmas.proofs.Options.{at_value, if_value}
@@ -27,9 +27,9 @@ told_written {T = T} {E = E} r v at piece old new b ok told writes =
 
 -- A write makes the disk torn in its range, whether it fails or not.
 pub Becomes-write : {T E : Type 0} (r : Result T E) (at : ℕ) (piece : List ℕ) (old new : DiskModel) → IsDisk old → IsDisk new → at + length piece ≤ old.size
-    → Writes at piece r old new → Ticks r old new → Becomes (Torn at (length piece)) old new
-Becomes-write r at piece old new is_old is_new fits writes ticks = record {
-  size = ticks.size;
+    → Writes at piece r old new → Becomes (Torn at (length piece)) old new
+Becomes-write r at piece old new is_old is_new fits writes = record {
+  size = writes.ticks.size;
   silent = writes.silent;
   told = if_value old.told (λ b. (c : List ℕ) × (new.told ≡ Some c) × Torn at (length piece) b c) (λ b told.
       told_torn r at piece old new b is_new told (omega (arith, fits, is_old.long b (is_old.as_read b told))) writes);
@@ -38,9 +38,9 @@ Becomes-write r at piece old new is_old is_new fits writes ticks = record {
 
 -- A sync makes nothing other: by each relation that allows a list of bytes to stay.
 pub Becomes-sync : {T E : Type 0} (r : Result T E) (R : List ℕ → List ℕ → Type 0) (old new : DiskModel) → IsDisk old
-    → ((b : List ℕ) → All (λ x. x < 2 ^ 8) b → R b b) → Syncs r old new → Ticks r old new → Becomes R old new
-Becomes-sync r R old new is_old stay syncs ticks = record {
-  size = ticks.size;
+    → ((b : List ℕ) → All (λ x. x < 2 ^ 8) b → R b b) → Syncs r old new → Becomes R old new
+Becomes-sync r R old new is_old stay syncs = record {
+  size = syncs.ticks.size;
   silent = λ none. syncs.same ∙ none;
   told = if_value old.told (λ b. (c : List ℕ) × (new.told ≡ Some c) × R b c) (λ b told.
       (b, syncs.same ∙ told, stay b (is_old.bytes b (is_old.as_read b told))));
@@ -91,10 +91,10 @@ Becomes-torn at n old mid new first second =
 
 -- A write within a wider range, and a sync, after what was torn in it.
 pub Becomes-torn_write : {T E : Type 0} (r : Result T E) (from : ℕ) (piece : List ℕ) (at n : ℕ) (old new : DiskModel) → IsDisk old → IsDisk new → from + length piece ≤ old.size
-    → at ≤ from → from + length piece ≤ at + n → Writes from piece r old new → Ticks r old new → Becomes (Torn at n) old new
-Becomes-torn_write r from piece at n old new is_old is_new fits low high writes ticks =
+    → at ≤ from → from + length piece ≤ at + n → Writes from piece r old new → Becomes (Torn at n) old new
+Becomes-torn_write r from piece at n old new is_old is_new fits low high writes =
     Becomes-weaker (Torn from (length piece)) (Torn at n) old new (λ b c torn. Torn-wider from (length piece) at n b c low high torn)
-    (Becomes-write r from piece old new is_old is_new fits writes ticks)
+    (Becomes-write r from piece old new is_old is_new fits writes)
 
-pub Becomes-torn_sync : {T E : Type 0} (r : Result T E) (at n : ℕ) (old new : DiskModel) → IsDisk old → Syncs r old new → Ticks r old new → Becomes (Torn at n) old new
-Becomes-torn_sync r at n old new is_old syncs ticks = Becomes-sync r (Torn at n) old new is_old (λ b fit. Torn-itself at n b fit) syncs ticks
+pub Becomes-torn_sync : {T E : Type 0} (r : Result T E) (at n : ℕ) (old new : DiskModel) → IsDisk old → Syncs r old new → Becomes (Torn at n) old new
+Becomes-torn_sync r at n old new is_old syncs = Becomes-sync r (Torn at n) old new is_old (λ b fit. Torn-itself at n b fit) syncs

@@ -2,7 +2,8 @@
 use Rattle.std.proofs.Common.{inl, inr, ⊎_elim, ℕ, ◌+◌, ◌≤◌, List, IsSome, Result, refl, ◌∙◌, arith}
 use Rattle.std.proofs.Math.Nat.{eq-or-lt_of_le}
 use Rattle.hb_disk.specs.Model.{DiskModel, IsDisk, Stays}
-use Rattle.hb_disk.specs.Calls.{Ticks, Leaves, ReadFaults, OnlyReads}
+use Rattle.hb_disk.specs.Calls.{Ticks, Leaves, ReadsOnly, OnlyReads}
+use Rattle.hb_disk.proofs.Facts.FaultLaws.{Stays-same, Stays-then}
 
 -- before the first call
 pub Leaves-start : (d : DiskModel) (P : List ℕ → Type 0) → IsDisk d → ((c : List ℕ) → d.Image c → P c) → Leaves d d P
@@ -54,36 +55,16 @@ one_tick r old new is_old ticks tells = elim (eq-or-lt_of_le is_old.clock_fits) 
 
 -- no read
 pub OnlyReads-none : (d : DiskModel) → OnlyReads d d
-OnlyReads-none d = record {
-  stays = record {
-    told = refl;
-    size = refl;
-    clock = refl;
-    image = λ c h. h;
-    image_kept = λ c h. h;
-    since = λ t c h. h;
-    since_kept = λ t c h. h;
-  };
-  later = omega arith;
-  writes = refl;
-}
+OnlyReads-none d = record { stays = Stays-same d; later = omega arith; writes = refl }
 
--- one read
-pub OnlyReads-read : {T E : Type 0} (r : Result T E) (old new : DiskModel) → Stays old new → ReadFaults r old new → OnlyReads old new
-OnlyReads-read r old new stays faults = record { stays = stays; later = faults.later; writes = faults.writes }
+-- reads, whichever failed
+pub OnlyReads-read : (failed : Type 0) (old new : DiskModel) → ReadsOnly failed old new → OnlyReads old new
+OnlyReads-read failed old new only = record { stays = only.stays; later = only.reads.later; writes = only.writes }
 
 -- reads after reads
 pub OnlyReads-then : (old mid new : DiskModel) → OnlyReads old mid → OnlyReads mid new → OnlyReads old new
 OnlyReads-then old mid new first second = record {
-  stays = record {
-    told = second.stays.told ∙ first.stays.told;
-    size = second.stays.size ∙ first.stays.size;
-    clock = second.stays.clock ∙ first.stays.clock;
-    image = λ c h. first.stays.image c (second.stays.image c h);
-    image_kept = λ c h. second.stays.image_kept c (first.stays.image_kept c h);
-    since = λ t c h. first.stays.since t c (second.stays.since t c h);
-    since_kept = λ t c h. second.stays.since_kept t c (first.stays.since_kept t c h);
-  };
+  stays = Stays-then old mid new first.stays second.stays;
   later = omega (arith, first.later, second.later);
   writes = second.writes ∙ first.writes;
 }

@@ -1,9 +1,10 @@
 use Rattle.std.proofs.Common.{◌↔◌, length, ℕ, List, IsTrue, subst, refl}
 use Rattle.std.specs.List.{Contains}
+use Rattle.hb_disk.specs.Calls.{Writes}
 use Rattle.hb_disk.specs.NotedCalls.{Notes, IsOver, IsTry}
 use Rattle.hb_disk.specs.MemDisk.{mem_disk_seen, Records}
 use Rattle.hb_disk.specs.declared.mem_disk.MemDisk.{MemDisk}
-use Rattle.hb_disk.proofs.MemDisks.{told_writes, told_ticks, told_faults, told_on_ok, called_exactly}
+use Rattle.hb_disk.proofs.MemDisks.{told_writes, counts_after, told_on_ok, called_exactly}
 use Rattle.hb_disk.proofs.mem_disk.MemDiskDevice.write.Goals as goal
 
 -- the disk as the call leaves it
@@ -18,24 +19,18 @@ new_of c = record {
   starved = c.answer.new.starved;
 }
 
+-- by its history's answer
+by_history : (c : goal.After-answer) → Writes c.args.at c.args.from.now c.write-done.result (mem_disk_seen c.args.self.now) (mem_disk_seen (new_of c))
+by_history c = c.write-done.ensures.writes c.args.self.now.read_faults c.args.self.now.write_faults c.answer.new.faults
+    (counts_after c.write-done.result c.args.self.now.write_faults c.answer.new.faults c.answer.ensures.faults c.answer.ensures.later)
+
 pub returns-clause-writes : goal.returns-clause-writes
-returns-clause-writes c =
-    told_writes c.write-done.result c.answer.result c.args.at c.args.from.now (mem_disk_seen c.args.self.now) (mem_disk_seen (new_of c)) c.answer.ensures.alike
-    (c.write-done.ensures.writes c.args.self.now.read_faults c.args.self.now.write_faults c.args.self.now.read_faults c.answer.new.faults)
-
-pub returns-clause-ticks : goal.returns-clause-ticks
-returns-clause-ticks c =
-    told_ticks c.write-done.result c.answer.result (mem_disk_seen c.args.self.now) (mem_disk_seen (new_of c)) c.answer.ensures.alike
-    (c.write-done.ensures.ticks c.args.self.now.read_faults c.args.self.now.write_faults c.args.self.now.read_faults c.answer.new.faults)
-
-pub returns-clause-faults : goal.returns-clause-faults
-returns-clause-faults c =
-    told_faults c.write-done.result c.answer.result (mem_disk_seen c.args.self.now) (mem_disk_seen (new_of c)) c.answer.ensures.alike c.answer.ensures.faults c.answer.ensures.later refl
+returns-clause-writes c = told_writes c.write-done.result c.answer.result c.args.at c.args.from.now (mem_disk_seen c.args.self.now) (mem_disk_seen (new_of c)) c.answer.ensures.alike (by_history c)
 
 pub returns-clause-exact : goal.returns-clause-exact
 returns-clause-exact c =
     called_exactly c.args.self.now (new_of c) c.is_listed-listed.result (subst (λ (l : List ℕ). IsTrue c.is_listed-listed.result ↔ Contains l c.args.self.now.calls) c.deref.ensures.value c.is_listed-listed.ensures) c.saturating_add-self.ensures refl refl (Records (IsTry c.args.at (length c.args.from.now)) c.args.self.now (new_of c))
-    c.write-done.result c.answer.result c.answer.ensures.alike c.write-done.ensures.listed (λ at_end. ((c.write-done.ensures.ticks 0 0 0 0).ended refl at_end).0)
+    c.write-done.result c.answer.result c.answer.ensures.alike c.write-done.ensures.listed (λ at_end. ((by_history c).ticks.ended refl at_end).0)
     c.write-done.ensures.why c.write-done.ensures.refused c.write-done.ensures.same c.answer.ensures.faults c.answer.ensures.starved
 
 pub returns-clause-recorded : goal.returns-clause-recorded
