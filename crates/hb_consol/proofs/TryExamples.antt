@@ -17,7 +17,7 @@ use Rattle.hb_consol.specs.MergeRows.{Decides, DoesMerge}
 use Rattle.hb_frag.specs.Leaves.{DirectlyCovers, siblings_of}
 use Rattle.hb_frag.specs.Rules.{capacity_of}
 use Rattle.hb_space.specs.Boxes.{Area, Meets, Within}
-use Rattle.hb_terms.proofs.OneMerge.{one_merge}
+use Rattle.hb_terms.proofs.Facts.OneMerge.{one_merge}
 use Rattle.hb_terms.specs.Merging.{IsMergePlan, merged_weight}
 
 -- ---- the plans

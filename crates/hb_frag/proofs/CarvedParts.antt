@@ -6,18 +6,18 @@ use Rattle.std.proofs.lemmas.Bool.{cases_lt}
 use Rattle.std.proofs.lemmas.List.{ext_get_or}
 use Rattle.std.proofs.lemmas.List.Elements.{All-append, All-cons, All-contains, Contains-append_left, Contains-append_right}
 use Rattle.hb_space.specs.Boxes.{Area, IsArea, Holds, Meets, Within, Cuts, common_area, holds, side_below, side_from}
-use Rattle.hb_space.proofs.Boxes.{IsArea-common_area, Holds-common_area, Within-common_area, Holds-side_below, Holds-side_from, same_corners}
-use Rattle.hb_space.proofs.Lists.{length-zip_by, set_cases}
+use Rattle.hb_space.proofs.Facts.Boxes.{IsArea-common_area, Holds-common_area, Within-common_area, Holds-side_below, Holds-side_from, same_corners}
+use Rattle.hb_space.proofs.Facts.Lists.{length-zip_by, set_cases}
 use Rattle.hb_frag.specs.declared.leaves.Leaf.TheVariants.{Child}
 use Rattle.hb_frag.specs.Trees.{Tree, Tip, Cut}
 use Rattle.hb_frag.specs.Leaves.{Placed, IsWellCut, first_at, leaves_of, weight_of}
 use Rattle.hb_frag.specs.Carving.{carve_below, carve_above, carve_from, carved}
 use Rattle.hb_frag.specs.CarvingLaws.{IsCarvedLeaf, Carves}
-use Rattle.hb_frag.proofs.Sides.{held_test, failed_test, IsArea-side_below, IsArea-side_from, same-side_from, is_below, isnt_below}
-use Rattle.hb_frag.proofs.Points.{way_ends}
-use Rattle.hb_frag.proofs.Tiles.{first_tells}
-use Rattle.hb_frag.proofs.Stretches.{contains_one, all_of_one}
-use Rattle.hb_frag.proofs.CarvedKinds.{alone_or_cut, cuts_weigh_two}
+use Rattle.hb_frag.proofs.Facts.Sides.{held_test, failed_test, IsArea-side_below, IsArea-side_from, same-side_from, is_below, isnt_below}
+use Rattle.hb_frag.proofs.Facts.Points.{way_ends}
+use Rattle.hb_frag.proofs.Facts.Tiles.{first_tells}
+use Rattle.hb_frag.proofs.Facts.CarvedKinds.{alone_or_cut, cuts_weigh_two}
+use Rattle.hb_lemmas.proofs.Lists.{only_one, All-alone}
 
 -- a value that was put in its place, and those that stay
 at_set : (xs : List ℕ) (i v : ℕ) → i < length xs → get_or (set xs i v) i 0 ≡ v
@@ -94,7 +94,7 @@ module _ (leaf area : Area) (outer inner : ℕ) (h : IsArea leaf) (k : IsArea ar
       absurd (omega arith)) in
       record {
         cuts = (cuts, s.cuts, tt);
-        leaves = All-append (IsCarvedLeaf leaf area outer inner) (leaves_of t (side_below rest axis value)) (old ∷ []) s.leaves (all_of_one (IsCarvedLeaf leaf area outer inner) old none);
+        leaves = All-append (IsCarvedLeaf leaf area outer inner) (leaves_of t (side_below rest axis value)) (old ∷ []) s.leaves (All-alone (IsCarvedLeaf leaf area outer inner) old none);
         new_child = Contains-append_left (leaves_of t (side_below rest axis value)) (old ∷ []) new_leaf s.new_child;
       }
 
@@ -184,7 +184,7 @@ module _ (leaf area : Area) (outer inner : ℕ) (h : IsArea leaf) (k : IsArea ar
       let lows : rest.lo ≡ c.lo = ext_get_or 0 rest.lo c.lo (omega arith) (λ i l. (r.done i (omega arith)).0) in
       let highs : rest.hi ≡ c.hi = ext_get_or 0 rest.hi c.hi (omega arith) (λ i l. (r.done i (omega arith)).1) in
       let P : Area → Type 0 = CarvesRest (Tip (Child inner)) in
-      subst P (sym (same_corners rest c lows highs)) (record { cuts = tt; leaves = all_of_one (IsCarvedLeaf leaf area outer inner) new_leaf (inl refl); new_child = (zero, omega arith, refl) })
+      subst P (sym (same_corners rest c lows highs)) (record { cuts = tt; leaves = All-alone (IsCarvedLeaf leaf area outer inner) new_leaf (inl refl); new_child = (zero, omega arith, refl) })
   rest_carves (suc n) axis rest e r =
       let l : axis < length leaf.lo = omega arith in
       let t = carve_from n (axis + 1) leaf c outer inner in
@@ -219,7 +219,7 @@ module _ (leaf area : Area) (outer inner : ℕ) (h : IsArea leaf) (k : IsArea ar
   alone_within one = elim (alone_or_cut leaf c outer inner (length leaf.lo) 0) [
     | inl e ↦
         let P : Tree → Type 0 = λ t. Contains (leaves_of t leaf) new_leaf in
-        let only : record { leaf = Child inner; area = leaf } ≡ new_leaf = contains_one _ _ (subst P e whole_carves.new_child) in
+        let only : record { leaf = Child inner; area = leaf } ≡ new_leaf = only_one _ _ (subst P e whole_carves.new_child) in
         let Q : Area → Type 0 = λ a. Within a area in
         (e, subst Q (sym (ap (λ l. l.area) only)) (Within-common_area leaf area h k (sym same) meets).1)
     | inr cuts ↦ absurd (let heavy = cuts_weigh_two (carved leaf area outer inner) cuts in omega arith)

@@ -5,7 +5,7 @@ use Rattle.hb_frag.specs.declared.leaves.Leaf.TheVariants.{Child}
 use Rattle.hb_frag.specs.Trees.{Tree, Tip, Cut}
 use Rattle.hb_frag.specs.Leaves.{weight_of}
 use Rattle.hb_frag.specs.Carving.{carve_below, carve_above, carve_from}
-use Rattle.hb_frag.proofs.Parts.{weight_cut}
+use Rattle.hb_frag.proofs.Facts.Parts.{weight_cut}
 
 -- either no attribute is left, or this one and those behind it
 pub carve_ends : (axis : ℕ) (r c : Area) (outer inner : ℕ) → length r.lo ≤ axis → carve_from (length r.lo - axis) axis r c outer inner ≡ Tip (Child inner)

@@ -4,7 +4,7 @@ use Rattle.std.specs.List.{All}
 use Rattle.std.proofs.lemmas.List.Elements.{All-append}
 use Rattle.hb_space.specs.Boxes.{Area, Meets}
 use Rattle.hb_frag.specs.Leaves.{Placed, siblings}
-use Rattle.hb_frag.proofs.NamesListed.{siblings-append}
+use Rattle.hb_frag.proofs.Facts.NamesListed.{siblings-append}
 
 -- none of these boxes meets the box
 abbrev pub AllClear : Area → List (ℕ × Area) → Type 0

@@ -11,12 +11,12 @@ use Rattle.std.proofs.lemmas.List.Sorted.{All-permutation}
 use Rattle.hb_space.specs.Points.{point_cmp}
 use Rattle.hb_space.specs.Boxes.{Area, IsArea, Holds, Cuts, side_below, side_from}
 use Rattle.hb_space.specs.declared.records.Record.{Record}
-use Rattle.hb_space.proofs.Boxes.{Holds-side_below, Holds-side_from}
+use Rattle.hb_space.proofs.Facts.Boxes.{Holds-side_below, Holds-side_from}
 use Rattle.hb_frag.specs.declared.leaves.Leaf.TheVariants.{Records}
 use Rattle.hb_frag.specs.Rules.{Precedes, IsInOrder}
 use Rattle.hb_frag.specs.Normal.{with_record_in_order, in_point_order}
-use Rattle.hb_frag.proofs.Stretches.{all_of_one}
-use Rattle.hb_frag.proofs.PointOrder.{order_permutes}
+use Rattle.hb_frag.proofs.Facts.PointOrder.{order_permutes}
+use Rattle.hb_lemmas.proofs.Lists.{All-alone}
 
 -- the order of two points, told by the test
 less_from_test : (p q : List ℕ) → is_gt (point_cmp q p) ≡ true → point_cmp p q ≡ Less
@@ -148,7 +148,7 @@ order_of_both axis value xs ys a h cuts k =
     let below = λ (p : List ℕ) (held : Holds (side_below a axis value) p). (Holds-side_below a axis value p h cuts).0 held in
     let from = λ (p : List ℕ) (held : Holds (side_from a axis value) p). (Holds-side_from a axis value p cuts).0 held in
     let apart = both_apart axis value xs ys (apart_pairs xs left.rising) (apart_pairs ys right.rising) (λ i d l. (below (get_or xs i d).key (left.inside i d l)).1) (λ i d l. (from (get_or ys i d).key (right.inside i d l)).1) in
-    all_of_one IsInOrder (record { leaf = Records zs; area = a }) (record {
+    All-alone IsInOrder (record { leaf = Records zs; area = a }) (record {
       inside = All-permutation (λ r. Holds a r.key) (xs ++ ys) zs (order_permutes (xs ++ ys))
           (All-append (λ r. Holds a r.key) xs ys (λ i d l. (below (get_or xs i d).key (left.inside i d l)).0) (λ i d l. (from (get_or ys i d).key (right.inside i d l)).0));
       rising = pairs_rise zs (rises_order (xs ++ ys) apart);

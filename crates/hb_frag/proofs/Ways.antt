@@ -10,9 +10,9 @@ use Rattle.hb_frag.specs.declared.paths.Side.TheVariants.{Left, Right}
 use Rattle.hb_frag.specs.Trees.{Tree, Tip, Cut}
 use Rattle.hb_frag.specs.Leaves.{Placed, IsWellCut, first_at, leaves_of, siblings, first_named}
 use Rattle.hb_frag.specs.Paths.{part_at, way_to, StaysInside}
-use Rattle.hb_frag.proofs.NamesListed.{siblings-append, named_in_front, named_behind}
-use Rattle.hb_frag.proofs.Sides.{held_test, is_below, isnt_below}
-use Rattle.hb_frag.proofs.Points.{going_left, going_right}
+use Rattle.hb_frag.proofs.Facts.NamesListed.{siblings-append, named_in_front, named_behind}
+use Rattle.hb_frag.proofs.Facts.Sides.{held_test, is_below, isnt_below}
+use Rattle.hb_frag.proofs.Facts.Points.{going_left, going_right}
 
 take_whole : (xs : List Side) → take (length xs) xs ≡ xs
 take_whole [] = refl

@@ -98,7 +98,7 @@ impl Frag {
     }
 
     /// The leaf whose box holds the point, and that box, in a part with this box.
-    #[tactic(auto, using(crate::proofs::Points::going_left, crate::proofs::Points::going_right, crate::proofs::Sides::held_test))]
+    #[tactic(auto, using(crate::proofs::Facts::Points::going_left, crate::proofs::Facts::Points::going_right, crate::proofs::Facts::Sides::held_test))]
     pub(crate) fn leaf_at(&self, area: Area, p: &Point) -> (&Leaf, Area)
         requires well_cut { IsWellCut self.now area }
         requires held { Holds area p.now }
@@ -172,7 +172,7 @@ impl Frag {
     }
 
     /// Adds the pages that child leaves name to the list, each that isn't in it yet.
-    #[tactic(auto, using(crate::proofs::NamesListed::listing))]
+    #[tactic(auto, using(crate::proofs::Facts::NamesListed::listing))]
     pub(crate) fn list_children(&self, pages: &mut Pages) -> Result<(), NoMemory>
         ensures { OnOk result (pages.new ≡ with_names pages.old (child_names (leaves self.now))) }
     {
@@ -187,7 +187,7 @@ impl Frag {
 
     /// The box of the first sibling leaf from the left that names the page, in a part with this
     /// box.
-    #[tactic(auto, using(crate::proofs::NamesListed::finding))]
+    #[tactic(auto, using(crate::proofs::Facts::NamesListed::finding))]
     pub(crate) fn sibling_area(&self, area: Area, id: u32) -> Option<Area>
         requires { IsWellCut self.now area }
         ensures { result ≡ first_named id (siblings (leaves_of self.now area)) }

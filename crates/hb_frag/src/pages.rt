@@ -91,7 +91,7 @@ impl LivePage {
     }
 
     /// The pages that child leaves name, each once, where it stands first from the left.
-    #[tactic(auto, using(crate::proofs::NamesListed::all_firsts))]
+    #[tactic(auto, using(crate::proofs::Facts::NamesListed::all_firsts))]
     pub fn children(&self, alloc: Global) -> Result<Pages, NoMemory>
         ensures { IfOk result (λ pages. pages ≡ firsts (child_names (leaves self.now.frag))) }
     {

@@ -3,3 +3,4 @@ pub mod Options
 pub mod Lists
 pub mod Maps
 pub mod Numbers
+pub mod Orderings

@@ -13,9 +13,9 @@ use Rattle.hb_lemmas.specs.Numbers.{big_endian}
 use Rattle.hb_lemmas.proofs.Lists.{same_fronts}
 
 -- there are as many bytes as the width says
-pub length-big_endian : (width n : ℕ) → length (big_endian width n) ≡ width
+pub length_big_endian : (width n : ℕ) → length (big_endian width n) ≡ width
 unfolding big_endian
-length-big_endian width n = length-bytes_high_first width n
+length_big_endian width n = length-bytes_high_first width n
 
 -- the number that is read where a number's bytes stand alone
 pub big_number-spelled : (width n : ℕ) (bytes : List ℕ) → n < 256 ^ width → bytes ≡ big_endian width n → big_number width bytes ≡ n
@@ -78,7 +78,7 @@ given at k n old new room e =
 pub slice_range-given : (width n at : ℕ) (old : List ℕ) → at ≤ length old
     → slice_range (take at old ++ big_endian width n ++ drop (at + width) old) at (at + width) ≡ big_endian width n
 slice_range-given width n at old within =
-    let count : length (big_endian width n) ≡ at + width - at = length-big_endian width n ∙ omega arith in
+    let count : length (big_endian width n) ≡ at + width - at = length_big_endian width n ∙ omega arith in
     ap (λ (bytes : List ℕ). slice_range bytes at (at + width)) (joined at width old (big_endian width n))
     ∙ between-put_mid at (at + width - at) old (big_endian width n) (at + width) within count
 
@@ -95,7 +95,7 @@ slice_range-given_before width n at old i j below within =
 pub slice_range-given_behind : (width n at : ℕ) (old : List ℕ) (i j : ℕ) → at + width ≤ i → at ≤ length old
     → slice_range (take at old ++ big_endian width n ++ drop (at + width) old) i j ≡ slice_range old i j
 slice_range-given_behind width n at old i j above within =
-    let count : length (big_endian width n) ≡ at + width - at = length-big_endian width n ∙ omega arith in
+    let count : length (big_endian width n) ≡ at + width - at = length_big_endian width n ∙ omega arith in
     ap (λ (bytes : List ℕ). slice_range bytes i j) (joined at width old (big_endian width n))
     ∙ ap (λ (bytes : List ℕ). take (j - i) bytes) (drop-put_mid at (at + width - at) old (big_endian width n) i (omega arith) within count)
 
@@ -104,5 +104,5 @@ pub same_number : (m n : ℕ) (r s : List ℕ) → m < 2 ^ 32 → n < 2 ^ 32 →
 unfolding big_endian
 same_number m n r s m_fits n_fits e = (
   sym (big_number-reads_back 4 m r m_fits) ∙ ap (λ (l : List ℕ). big_from 0 4 l) e ∙ big_number-reads_back 4 n s n_fits,
-  (same_fronts (big_endian 4 m) (big_endian 4 n) r s (length-big_endian 4 m ∙ sym (length-big_endian 4 n)) e).1,
+  (same_fronts (big_endian 4 m) (big_endian 4 n) r s (length_big_endian 4 m ∙ sym (length_big_endian 4 n)) e).1,
 )

@@ -13,12 +13,10 @@ use Rattle.hb_log_codec.specs.Groups.{Logged, FitsGroup, FitsImage, FitsOp, Spel
 use Rattle.hb_log_codec.specs.Fields.{op_at}
 use Rattle.hb_log_codec.specs.Reading.{images_bytes}
 use Rattle.hb_log_codec.specs.ExactFields.{ExactFields}
-use Rattle.hb_log_codec.proofs.FieldLaws.{some_is}
 use Rattle.hb_log_codec.proofs.OpLaws.{op_again, same_number}
-
--- bytes spell at most one page
-abbrev pub SpelledOnce : Type 0
-SpelledOnce = (bytes : List ℕ) (p q : Page) → SpellsPage bytes p → SpellsPage bytes q → p ≡ q
+use Rattle.std.proofs.lemmas.Option.{same_Some}
+use Rattle.hb_page_codec.proofs.Facts.PageLaws.{zeros_left, SpelledOnce}
+use Rattle.hb_lemmas.proofs.Lists.{same_fronts}
 
 -- The bytes of a page are its one spelling.
 pub spells_page_bytes : (page : Page) → HasSpelling page → SpellsPage (page_bytes page) page
@@ -27,9 +25,6 @@ spells_page_bytes page h = record {
   long = length-append (page_fields page) (replicate (PAGE - length (page_fields page)) 0) ∙ ap (λ (n : ℕ). length (page_fields page) + n) (length-replicate (PAGE - length (page_fields page)) 0) ∙ omega (arith, h.short);
   spelled = (PAGE - length (page_fields page), refl);
 }
-
-zeros_left : (bytes : List ℕ) (page : Page) (s : SpellsPage bytes page) → length (page_fields page) + s.spelled.0 ≡ PAGE
-zeros_left bytes page s = sym (ap length s.spelled.1 ∙ length-append (page_fields page) (replicate s.spelled.0 0) ∙ ap (λ (n : ℕ). length (page_fields page) + n) (length-replicate s.spelled.0 0)) ∙ s.long
 
 pub page_bytes_spell : (bytes : List ℕ) (page : Page) → SpellsPage bytes page → (bytes ≡ page_bytes page) × HasSpelling page
 page_bytes_spell bytes page s =
@@ -41,17 +36,10 @@ page_bytes_spell bytes page s =
 pub length_page : (page : Page) → HasSpelling page → length (page_bytes page) ≡ PAGE
 length_page page h = (spells_page_bytes page h).long
 
--- two lists that begin with as many bytes of a front have the same front and the same rest
-pub same_fronts : (a b r s : List ℕ) → length a ≡ length b → a ++ r ≡ b ++ s → (a ≡ b) × (r ≡ s)
-same_fronts a b r s long e = (
-  sym (take_at a r (length a) refl) ∙ ap (λ (l : List ℕ). take (length a) l) e ∙ take_at b s (length a) (sym long),
-  sym (drop_at a r (length a) refl) ∙ ap (λ (l : List ℕ). drop (length a) l) e ∙ drop_at b s (length a) (sym long),
-)
-
 -- no operation's spelling begins another's
 pub same_op : ExactFields → (k : ℕ) (x y : Op) (r s : List ℕ) → FitsOp k x → FitsOp k y → op_bytes x ++ r ≡ op_bytes y ++ s → (x ≡ y) × (r ≡ s)
 same_op f k x y r s x_fits y_fits e =
-    let both : (x, r) ≡ (y, s) = some_is (x, r) (y, s) (sym (op_again f k x r x_fits) ∙ ap (op_at k) e ∙ op_again f k y s y_fits) in
+    let both : (x, r) ≡ (y, s) = same_Some (x, r) (y, s) (sym (op_again f k x r x_fits) ∙ ap (op_at k) e ∙ op_again f k y s y_fits) in
     (ap (λ (p : Op × List ℕ). p.0) both, ap (λ (p : Op × List ℕ). p.1) both)
 
 module _ (f : ExactFields) (once : SpelledOnce) where

@@ -16,17 +16,17 @@ use Rattle.hb_page_codec.specs.Reading.{ReadsAs, number_at}
 use Rattle.hb_log_codec.specs.Groups.{Logged, FitsGroup, FitsImage, FitsOp, group_bytes, image_bytes, op_bytes, page_bytes}
 use Rattle.hb_log_codec.specs.Fields.{op_at}
 use Rattle.hb_log_codec.specs.Reading.{Begins, BeginsNone, Finds, GivesOrStops, StopsFor, FitImages, GroupsEnd, images_bytes, logged, stop_of, stop_at}
-use Rattle.hb_log_codec.proofs.GroupLaws.{SpelledOnce, spells_page_bytes, page_bytes_spell, length_page, same_fronts, same_images, same_group}
+use Rattle.hb_log_codec.proofs.GroupLaws.{spells_page_bytes, page_bytes_spell, length_page, same_images, same_group}
 use Rattle.hb_page_codec.specs.Exact.{AreBytes}
 use Rattle.hb_log_codec.specs.ExactFields.{ExactFields}
-use Rattle.hb_log_codec.proofs.FieldLaws.{some_is}
 use Rattle.hb_log_codec.proofs.OpLaws.{op_again, op_exact}
 use Rattle.hb_log_codec.specs.declared.groups.Group.{Group}
 use Rattle.hb_log_codec.specs.declared.reading.GroupStop.{GroupStop}
 use Rattle.hb_log_codec.specs.declared.reading.GroupStop.TheVariants as stops
-
-pub read_some : {X Y : Type 0} (view : X → Y) (found : Option X) (x : X) (read : Option Y) → found ≡ Some x → ReadsAs view found read → read ≡ Some (view x)
-read_some view found x read e h = subst (λ o. ReadsAs view o read) e h
+use Rattle.std.proofs.lemmas.Option.{same_Some}
+use Rattle.hb_lemmas.proofs.Lists.{same_fronts}
+use Rattle.hb_page_codec.proofs.Facts.PageLaws.{SpelledOnce}
+use Rattle.hb_page_codec.proofs.Facts.Refusals.{read_some}
 
 pub halves : (n : ℕ) (bytes front back : List ℕ) → front ≡ take n bytes → back ≡ drop n bytes → bytes ≡ front ++ back
 halves n bytes front back f b = sym (take-append-drop n bytes) ∙ (λ i. sym f i ++ sym b i)
@@ -47,7 +47,7 @@ op_found f view k some few bytes (Err stops.Bad) fits e = λ x rest b. none_some
 
 image_rest : ExactFields → (bytes : List ℕ) (n : ℕ) (behind : List ℕ) (x : ℕ × Page) (rest : List ℕ) → number_at 4 bytes ≡ Some (n, behind) → Begins FitsImage image_bytes bytes x rest → behind ≡ page_bytes x.1 ++ rest
 image_rest f bytes n behind x rest e b =
-    let same : (n, behind) ≡ (x.0, page_bytes x.1 ++ rest) = some_is _ _
+    let same : (n, behind) ≡ (x.0, page_bytes x.1 ++ rest) = same_Some _ _
     (sym e ∙ ap (number_at 4) (b.parts ∙ append_assoc (big_endian 4 x.0) (page_bytes x.1) rest) ∙ f.number_4.again x.0 (page_bytes x.1 ++ rest) b.fits.number) in
     ap (λ (p : ℕ × List ℕ). p.1) same
 

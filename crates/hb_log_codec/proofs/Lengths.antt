@@ -15,17 +15,11 @@ use Rattle.hb_ops.specs.declared.operations.Op.{Op}
 use Rattle.hb_ops.specs.declared.operations.Op.TheVariants.{Put, Del, Extract, Post, Grow}
 use Rattle.hb_log_codec.specs.Groups.{FitsGroup, FitsImage, FitsOp, Logged, cuts_bytes, group_bytes, image_bytes, leaf_cut_bytes, op_bytes, page_bytes, path_bytes, side_byte}
 use Rattle.hb_log_codec.proofs.GroupLaws.{length_page}
-
-length_number : (width n : ℕ) → length (big_endian width n) ≡ width
-unfolding big_endian
-length_number width n = length-bytes_high_first width n
-
-length_point : (point : List ℕ) → length (point_bytes point) ≡ 8 * length point
-length_point [] = refl
-length_point (x ∷ xs) = omega (arith, length-append (big_endian 8 x) (point_bytes xs), length_number 8 x, length_point xs)
+use Rattle.hb_lemmas.proofs.Numbers.{length_big_endian}
+use Rattle.hb_page_codec.proofs.Facts.Fields.{length_point}
 
 length_image : (image : ℕ × Page) → FitsImage image → length (image_bytes image) ≡ 4100
-length_image image h = omega (arith, length-append (big_endian 4 image.0) (page_bytes image.1), length_number 4 image.0, length_page image.1 h.page)
+length_image image h = omega (arith, length-append (big_endian 4 image.0) (page_bytes image.1), length_big_endian 4 image.0, length_page image.1 h.page)
 
 length_images : (images : List (ℕ × Page)) → All FitsImage images → length (flat_map image_bytes images) ≡ 4100 * length images
 length_images [] h = refl
@@ -33,7 +27,7 @@ length_images (i ∷ rest) h =
     omega (arith, length-append (image_bytes i) (flat_map image_bytes rest), length_image i (All-head FitsImage i rest h), length_images rest (All-tail FitsImage i rest h))
 
 length_cut : (cut : LeafCut) → length (leaf_cut_bytes cut) ≡ 10
-length_cut cut = omega (arith, length-append (big_endian 8 cut.value) (side_byte cut.side ∷ []), length_number 8 cut.value)
+length_cut cut = omega (arith, length-append (big_endian 8 cut.value) (side_byte cut.side ∷ []), length_big_endian 8 cut.value)
 
 length_cuts : (cuts : List LeafCut) → length (flat_map leaf_cut_bytes cuts) ≡ 10 * length cuts
 length_cuts [] = refl
@@ -42,9 +36,9 @@ length_cuts (cut ∷ rest) = omega (arith, length-append (leaf_cut_bytes cut) (f
 length_op : (k : ℕ) (op : Op) → k ≤ KMAX → FitsOp k op → length (op_bytes op) ≤ 2820
 length_op k (Put page rec) small h =
     let few = h.1.body.few in
-    omega (arith, small, h.1.attributes, few, length-append (big_endian 4 page) (record_bytes rec), length_number 4 page, length-append (point_bytes rec.key) (length rec.body ∷ rec.body), length_point rec.key)
+    omega (arith, small, h.1.attributes, few, length-append (big_endian 4 page) (record_bytes rec), length_big_endian 4 page, length-append (point_bytes rec.key) (length rec.body ∷ rec.body), length_point rec.key)
 length_op k (Del page point) small h =
-    omega (arith, small, h.1, length-append (big_endian 4 page) (point_bytes point), length_number 4 page, length_point point)
+    omega (arith, small, h.1, length-append (big_endian 4 page) (point_bytes point), length_big_endian 4 page, length_point point)
 length_op k (Extract source fresh path cuts free_after) small h =
     let S : List ℕ = big_endian 4 source in
     let F : List ℕ = big_endian 4 fresh in
@@ -53,8 +47,8 @@ length_op k (Extract source fresh path cuts free_after) small h =
     let C : List ℕ = cuts_bytes cuts in
     let p : length P ≡ 1 + length path = omega (arith, length-map path side_byte) in
     let c : length C ≡ 1 + 10 * length cuts = omega (arith, length_cuts cuts) in
-    let two : length (S ++ F) ≡ 8 = omega (arith, length-append S F, length_number 4 source, length_number 4 fresh) in
-    let three : length (S ++ F ++ A) ≡ 12 = omega (arith, length-append (S ++ F) A, two, length_number 4 free_after) in
+    let two : length (S ++ F) ≡ 8 = omega (arith, length-append S F, length_big_endian 4 source, length_big_endian 4 fresh) in
+    let three : length (S ++ F ++ A) ≡ 12 = omega (arith, length-append (S ++ F) A, two, length_big_endian 4 free_after) in
     let four : length (S ++ F ++ A ++ P) ≡ 13 + length path = omega (arith, length-append (S ++ F ++ A) P, three, p) in
     omega (arith, length-append (S ++ F ++ A ++ P) C, four, c, h.steps, h.few)
 length_op k (Post parent at inner area) small h =
@@ -64,12 +58,12 @@ length_op k (Post parent at inner area) small h =
     let L : List ℕ = point_bytes area.lo in
     let H : List ℕ = point_bytes area.hi in
     let p : length P ≡ 1 + length at = omega (arith, length-map at side_byte) in
-    let two : length (N ++ P) ≡ 5 + length at = omega (arith, length-append N P, length_number 4 parent, p) in
-    let three : length (N ++ P ++ I) ≡ 9 + length at = omega (arith, length-append (N ++ P) I, two, length_number 4 inner) in
+    let two : length (N ++ P) ≡ 5 + length at = omega (arith, length-append N P, length_big_endian 4 parent, p) in
+    let three : length (N ++ P ++ I) ≡ 9 + length at = omega (arith, length-append (N ++ P) I, two, length_big_endian 4 inner) in
     let four : length (N ++ P ++ I ++ L) ≡ 9 + length at + 8 * length area.lo = omega (arith, length-append (N ++ P ++ I) L, three, length_point area.lo) in
     omega (arith, length-append (N ++ P ++ I ++ L) H, four, length_point area.hi, h.is_area.same, h.attributes, h.steps, small)
 length_op k (Grow fresh free_after) small h =
-    omega (arith, length-append (big_endian 4 fresh) (big_endian 4 free_after), length_number 4 fresh, length_number 4 free_after)
+    omega (arith, length-append (big_endian 4 fresh) (big_endian 4 free_after), length_big_endian 4 fresh, length_big_endian 4 free_after)
 
 pub group_short : (k : ℕ) (g : Logged) → k ≤ KMAX → FitsGroup k g → length (group_bytes g) ≤ GROUP
 group_short k g small h =

@@ -15,13 +15,15 @@ use Rattle.hb_page_codec.specs.ReadingFields.{area_at, point_at, record_at}
 use Rattle.hb_log_codec.specs.Groups.{FitsOp, cuts_bytes, op_bytes, path_bytes}
 use Rattle.hb_log_codec.specs.Fields.{cuts_at, del_at, extract_at, grow_at, op_at, path_at, post_at, put_at}
 use Rattle.hb_log_codec.specs.ExactFields.{ExactFields}
-use Rattle.hb_log_codec.proofs.FieldLaws.{Takes, Takes-byte, Takes-then, bind_some, bytes_rest, some_is, taken}
+use Rattle.hb_log_codec.proofs.FieldLaws.{taken}
 use Rattle.hb_log_codec.proofs.PathLaws.{FewCuts, cuts_exact, path_exact}
+use Rattle.hb_page_codec.proofs.Facts.Fields.{bind_some, Takes, Takes-then, Takes-byte, AreBytes-rest}
+use Rattle.std.proofs.lemmas.Option.{same_Some}
 
 -- two numbers at the front
 pub same_number : ExactFields → (m n : ℕ) (r s : List ℕ) → m < 2 ^ 32 → n < 2 ^ 32 → big_endian 4 m ++ r ≡ big_endian 4 n ++ s → (m ≡ n) × (r ≡ s)
 same_number f m n r s m_fits n_fits e =
-    let both : (m, r) ≡ (n, s) = some_is (m, r) (n, s) (sym (f.number_4.again m r m_fits) ∙ ap (number_at 4) e ∙ f.number_4.again n s n_fits) in
+    let both : (m, r) ≡ (n, s) = same_Some (m, r) (n, s) (sym (f.number_4.again m r m_fits) ∙ ap (number_at 4) e ∙ f.number_4.again n s n_fits) in
     (ap (λ (p : ℕ × List ℕ). p.0) both, ap (λ (p : ℕ × List ℕ). p.1) both)
 
 module _ (f : ExactFields) where
@@ -44,7 +46,7 @@ module _ (f : ExactFields) where
       let rec = taken (record_at k) record_bytes (FitsRecord k) (f.record_of k) a.0.1 b.0 page.0.rest_fits b.1 in
       let made : Op × List ℕ = (Put a.0.0 b.0.0, b.0.1) in
       let both = Takes-byte 1 rest _ b.0.1 (Takes-then rest (big_endian 4 a.0.0) a.0.1 (record_bytes b.0.0) b.0.1 page.0 rec.0) in
-      subst (TakesOp k 1 rest) (some_is made x b.2) (both.parts, (page.1, rec.1))
+      subst (TakesOp k 1 rest) (same_Some made x b.2) (both.parts, (page.1, rec.1))
 
   del_takes : (k : ℕ) (rest : List ℕ) (x : Op × List ℕ) → AreBytes rest → del_at k rest ≡ Some x → TakesOp k 2 rest x
   unfolding del_at
@@ -55,7 +57,7 @@ module _ (f : ExactFields) where
       let point = taken (point_at k) point_bytes (λ p. (length p ≡ k) × All (λ x. x < 2 ^ 64) p) (f.point k) a.0.1 b.0 page.0.rest_fits b.1 in
       let made : Op × List ℕ = (Del a.0.0 b.0.0, b.0.1) in
       let both = Takes-byte 2 rest _ b.0.1 (Takes-then rest (big_endian 4 a.0.0) a.0.1 (point_bytes b.0.0) b.0.1 page.0 point.0) in
-      subst (TakesOp k 2 rest) (some_is made x b.2) (both.parts, (page.1, point.1.0, point.1.1))
+      subst (TakesOp k 2 rest) (same_Some made x b.2) (both.parts, (page.1, point.1.0, point.1.1))
 
   extract_takes : (k : ℕ) (rest : List ℕ) (x : Op × List ℕ) → AreBytes rest → extract_at rest ≡ Some x → TakesOp k 3 rest x
   unfolding extract_at
@@ -75,7 +77,7 @@ module _ (f : ExactFields) where
       let four = Takes-then rest _ c.0.1 (path_bytes d.0.0) d.0.1 three path.0 in
       let five = Takes-byte 3 rest _ g.0.1 (Takes-then rest _ d.0.1 (cuts_bytes g.0.0) g.0.1 four cuts.0) in
       let made : Op × List ℕ = (Extract a.0.0 b.0.0 d.0.0 g.0.0 c.0.0, g.0.1) in
-      subst (TakesOp k 3 rest) (some_is made x g.2) (five.parts, record { source_fits = source.1; fresh_fits = fresh.1; free_fits = free.1; steps = path.1; few = cuts.1.0; each = cuts.1.1 })
+      subst (TakesOp k 3 rest) (same_Some made x g.2) (five.parts, record { source_fits = source.1; fresh_fits = fresh.1; free_fits = free.1; steps = path.1; few = cuts.1.0; each = cuts.1.1 })
 
   post_takes : (k : ℕ) (rest : List ℕ) (x : Op × List ℕ) → 0 < k → k ≤ KMAX → AreBytes rest → post_at k rest ≡ Some x → TakesOp k 4 rest x
   unfolding post_at
@@ -94,7 +96,7 @@ module _ (f : ExactFields) where
       let grouped : 4 ∷ (big_endian 4 a.0.0 ++ path_bytes b.0.0 ++ big_endian 4 c.0.0 ++ (point_bytes d.0.0.lo ++ point_bytes d.0.0.hi)) ≡ op_bytes (Post a.0.0 b.0.0 c.0.0 d.0.0) =
       ap (λ (t : List ℕ). 4 ∷ t) (sym (append_assoc (big_endian 4 a.0.0 ++ path_bytes b.0.0 ++ big_endian 4 c.0.0) (point_bytes d.0.0.lo) (point_bytes d.0.0.hi))) in
       let made : Op × List ℕ = (Post a.0.0 b.0.0 c.0.0 d.0.0, d.0.1) in
-      subst (TakesOp k 4 rest) (some_is made x d.2) (
+      subst (TakesOp k 4 rest) (same_Some made x d.2) (
         four.parts ∙ ap (λ (t : List ℕ). t ++ d.0.1) grouped,
         record { parent_fits = parent.1; inner_fits = inner.1; steps = path.1; is_area = area.1.0; attributes = area.1.1 },
       )
@@ -108,17 +110,17 @@ module _ (f : ExactFields) where
       let free = number a.0.1 b.0 fresh.0.rest_fits b.1 in
       let made : Op × List ℕ = (Grow a.0.0 b.0.0, b.0.1) in
       let both = Takes-byte 6 rest _ b.0.1 (Takes-then rest (big_endian 4 a.0.0) a.0.1 (big_endian 4 b.0.0) b.0.1 fresh.0 free.0) in
-      subst (TakesOp k 6 rest) (some_is made x b.2) (both.parts, (fresh.1, free.1))
+      subst (TakesOp k 6 rest) (same_Some made x b.2) (both.parts, (fresh.1, free.1))
 
   op_takes : (k : ℕ) → 0 < k → k ≤ KMAX → (bytes : List ℕ) (x : Op × List ℕ) → AreBytes bytes → op_at k bytes ≡ Some x → (bytes ≡ op_bytes x.0 ++ x.1) × FitsOp k x.0
   op_takes k some few [] x fits e = absurd cc
   op_takes k some few (zero ∷ rest) x fits e = absurd cc
-  op_takes k some few (suc zero ∷ rest) x fits e = put_takes k rest x (bytes_rest 1 rest fits) e
-  op_takes k some few (suc (suc zero) ∷ rest) x fits e = del_takes k rest x (bytes_rest 2 rest fits) e
-  op_takes k some few (suc (suc (suc zero)) ∷ rest) x fits e = extract_takes k rest x (bytes_rest 3 rest fits) e
-  op_takes k some few (suc (suc (suc (suc zero))) ∷ rest) x fits e = post_takes k rest x some few (bytes_rest 4 rest fits) e
+  op_takes k some few (suc zero ∷ rest) x fits e = put_takes k rest x (AreBytes-rest 1 rest fits) e
+  op_takes k some few (suc (suc zero) ∷ rest) x fits e = del_takes k rest x (AreBytes-rest 2 rest fits) e
+  op_takes k some few (suc (suc (suc zero)) ∷ rest) x fits e = extract_takes k rest x (AreBytes-rest 3 rest fits) e
+  op_takes k some few (suc (suc (suc (suc zero))) ∷ rest) x fits e = post_takes k rest x some few (AreBytes-rest 4 rest fits) e
   op_takes k some few (suc (suc (suc (suc (suc zero)))) ∷ rest) x fits e = absurd cc
-  op_takes k some few (suc (suc (suc (suc (suc (suc zero))))) ∷ rest) x fits e = grow_takes k rest x (bytes_rest 6 rest fits) e
+  op_takes k some few (suc (suc (suc (suc (suc (suc zero))))) ∷ rest) x fits e = grow_takes k rest x (AreBytes-rest 6 rest fits) e
   op_takes k some few (suc (suc (suc (suc (suc (suc (suc b)))))) ∷ rest) x fits e = absurd cc
 
   -- the numbers, paths and cuts in a row, each in front of what follows

@@ -11,7 +11,9 @@ use Rattle.hb_page_codec.specs.Reading.{◌>>=◌, byte_at, many_at, number_at}
 use Rattle.hb_log_codec.specs.Groups.{FitsLeafCut, cuts_bytes, leaf_cut_bytes, path_bytes, side_byte}
 use Rattle.hb_log_codec.specs.Fields.{cuts_at, leaf_cut_at, path_at, side_at}
 use Rattle.hb_log_codec.specs.ExactFields.{ExactFields}
-use Rattle.hb_log_codec.proofs.FieldLaws.{Takes, Takes-then, bind_some, many_again, many_taken, some_is, taken}
+use Rattle.hb_log_codec.proofs.FieldLaws.{taken}
+use Rattle.hb_page_codec.proofs.Facts.Fields.{bind_some, Takes, Takes-then, many_take, many_again}
+use Rattle.std.proofs.lemmas.Option.{same_Some}
 
 -- a side's byte, as a list
 abbrev pub one_side : Side → List ℕ
@@ -22,8 +24,8 @@ AnySide side = Unit {0}
 
 side_takes : (bytes : List ℕ) (x : Side × List ℕ) → side_at bytes ≡ Some x → bytes ≡ one_side x.0 ++ x.1
 side_takes [] x e = absurd cc
-side_takes (zero ∷ rest) x e = subst (λ (y : Side × List ℕ). zero ∷ rest ≡ one_side y.0 ++ y.1) (some_is (Left, rest) x e) refl
-side_takes (suc zero ∷ rest) x e = subst (λ (y : Side × List ℕ). suc zero ∷ rest ≡ one_side y.0 ++ y.1) (some_is (Right, rest) x e) refl
+side_takes (zero ∷ rest) x e = subst (λ (y : Side × List ℕ). zero ∷ rest ≡ one_side y.0 ++ y.1) (same_Some (Left, rest) x e) refl
+side_takes (suc zero ∷ rest) x e = subst (λ (y : Side × List ℕ). suc zero ∷ rest ≡ one_side y.0 ++ y.1) (same_Some (Right, rest) x e) refl
 side_takes (suc (suc b) ∷ rest) x e = absurd cc
 
 side_again : (side : Side) (rest : List ℕ) → side_at (one_side side ++ rest) ≡ Some (side, rest)
@@ -51,14 +53,14 @@ module _ (f : ExactFields) where
   path_takes bytes x fits e =
       let a = bind_some (byte_at bytes) (λ count. many_at side_at count.0 count.1) x e in
       let count = taken byte_at (λ b. b ∷ []) (λ b. b < 2 ^ 8) f.byte bytes a.0 fits a.1 in
-      let steps = many_taken side_at one_side AnySide side_exact a.0.0 a.0.1 x count.0.rest_fits a.2 in
+      let steps = many_take side_at one_side AnySide (taken side_at one_side AnySide side_exact) a.0.0 a.0.1 x count.0.rest_fits a.2 in
       let both = Takes-then bytes (a.0.0 ∷ []) a.0.1 (flat_map one_side x.0) x.1 count.0 steps.0 in
       let spelled : (a.0.0 ∷ []) ++ flat_map one_side x.0 ≡ path_bytes x.0 = (λ i. sym steps.1 i ∷ sides_flat x.0 i) in
       (both.parts ∙ ap (λ (t : List ℕ). t ++ x.1) spelled, subst (λ (n : ℕ). n < 2 ^ 8) (sym steps.1) count.1)
 
   path_again : (path : List Side) (rest : List ℕ) → path_at (path_bytes path ++ rest) ≡ Some (path, rest)
   unfolding path_at
-  path_again path rest = ap (λ (t : List ℕ). many_at side_at (length path) (t ++ rest)) (sym (sides_flat path)) ∙ many_again side_at one_side AnySide side_exact path rest (any_sides path)
+  path_again path rest = ap (λ (t : List ℕ). many_at side_at (length path) (t ++ rest)) (sym (sides_flat path)) ∙ many_again side_at one_side AnySide side_exact.again path rest (any_sides path)
 
   pub path_exact : IsExact path_at path_bytes (λ path. length path < 2 ^ 8)
   path_exact = record { takes = path_takes; again = λ path rest fits. path_again path rest }
@@ -75,7 +77,7 @@ module _ (f : ExactFields) where
       let made : LeafCut × List ℕ = (record { axis = a.0.0; value = b.0.0; side = c.0.0 }, c.0.1) in
       let behind = Takes-then a.0.1 (big_endian 8 b.0.0) b.0.1 (one_side c.0.0) c.0.1 value.0 side.0 in
       let whole = Takes-then bytes (a.0.0 ∷ []) a.0.1 (big_endian 8 b.0.0 ++ one_side c.0.0) c.0.1 axis.0 behind in
-      subst (λ (y : LeafCut × List ℕ). (bytes ≡ leaf_cut_bytes y.0 ++ y.1) × FitsLeafCut y.0) (some_is made x c.2) (whole.parts, record { axis = axis.1; value = value.1 })
+      subst (λ (y : LeafCut × List ℕ). (bytes ≡ leaf_cut_bytes y.0 ++ y.1) × FitsLeafCut y.0) (same_Some made x c.2) (whole.parts, record { axis = axis.1; value = value.1 })
 
   cut_again : (cut : LeafCut) (rest : List ℕ) → FitsLeafCut cut → leaf_cut_at (leaf_cut_bytes cut ++ rest) ≡ Some (cut, rest)
   unfolding leaf_cut_at
@@ -95,14 +97,14 @@ module _ (f : ExactFields) where
   cuts_takes bytes x fits e =
       let a = bind_some (byte_at bytes) (λ count. many_at leaf_cut_at count.0 count.1) x e in
       let count = taken byte_at (λ b. b ∷ []) (λ b. b < 2 ^ 8) f.byte bytes a.0 fits a.1 in
-      let cuts = many_taken leaf_cut_at leaf_cut_bytes FitsLeafCut leaf_cut_exact a.0.0 a.0.1 x count.0.rest_fits a.2 in
+      let cuts = many_take leaf_cut_at leaf_cut_bytes FitsLeafCut (taken leaf_cut_at leaf_cut_bytes FitsLeafCut leaf_cut_exact) a.0.0 a.0.1 x count.0.rest_fits a.2 in
       let both = Takes-then bytes (a.0.0 ∷ []) a.0.1 (flat_map leaf_cut_bytes x.0) x.1 count.0 cuts.0 in
       let spelled : (a.0.0 ∷ []) ++ flat_map leaf_cut_bytes x.0 ≡ cuts_bytes x.0 = ap (λ (n : ℕ). n ∷ flat_map leaf_cut_bytes x.0) (sym cuts.1) in
       (both.parts ∙ ap (λ (t : List ℕ). t ++ x.1) spelled, (subst (λ (n : ℕ). n < 2 ^ 8) (sym cuts.1) count.1, All-from_recursion FitsLeafCut x.0 cuts.2))
 
   cuts_again : (cuts : List LeafCut) (rest : List ℕ) → All FitsLeafCut cuts → cuts_at (cuts_bytes cuts ++ rest) ≡ Some (cuts, rest)
   unfolding cuts_at
-  cuts_again cuts rest fits = many_again leaf_cut_at leaf_cut_bytes FitsLeafCut leaf_cut_exact cuts rest (recursion_from_All FitsLeafCut cuts fits)
+  cuts_again cuts rest fits = many_again leaf_cut_at leaf_cut_bytes FitsLeafCut leaf_cut_exact.again cuts rest (recursion_from_All FitsLeafCut cuts fits)
 
   pub cuts_exact : IsExact cuts_at cuts_bytes FewCuts
   cuts_exact = record { takes = cuts_takes; again = λ cuts rest fits. cuts_again cuts rest fits.1 }

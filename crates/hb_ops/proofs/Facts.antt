@@ -7,3 +7,9 @@ pub mod PartedPageLaws
 pub mod PathLaws
 pub mod PlacedLaws
 pub mod StemLaws
+pub mod Opened
+pub mod Tips
+pub mod Finds
+pub mod Corners
+pub mod Contents
+pub mod Places

@@ -1,13 +1,7 @@
 pub mod Facts
 pub mod Orders
 pub mod Boxes
-pub mod Corners
-pub mod Tips
-pub mod Finds
 pub mod Pages
-pub mod Contents
-pub mod Places
-pub mod Opened
 pub mod Remade
 pub mod Sound
 pub mod Looks

@@ -9,9 +9,10 @@ use Rattle.std.proofs.lemmas.List.Elements.{recursion_from_All}
 use Rattle.hb_space.specs.Points.{point_cmp}
 use Rattle.hb_space.specs.declared.records.Record.{Record}
 use Rattle.hb_ops.specs.Standing.{AbsenceIsContents, RecordsAreContents}
-use Rattle.hb_ops.proofs.Contents.{around}
-use Rattle.hb_ops.proofs.Finds.{absent, body_at, body-append, body-lacking, contents, get-contents, other_point}
-use Rattle.hb_ops.proofs.Opened.{rising_at}
+use Rattle.hb_ops.proofs.Facts.Contents.{around}
+use Rattle.hb_ops.proofs.Facts.Finds.{absent, body_at, body-append, body-lacking, contents, get-contents}
+use Rattle.hb_ops.proofs.Facts.Opened.{rising_at}
+use Rattle.hb_space.proofs.Facts.PointOrder.{other_point}
 
 -- a point equals itself
 own : (p : List ℕ) → eq_by_cmp point_cmp p p ≡ true

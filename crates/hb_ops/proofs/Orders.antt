@@ -9,18 +9,11 @@ use Rattle.std.proofs.lemmas.Cmp.{nat_list_cmp_total}
 use Rattle.hb_space.specs.Points.{point_cmp}
 use Rattle.hb_space.specs.declared.records.Record.{Record}
 use Rattle.hb_frag.specs.Rules.{Precedes}
-
-pub less_so : (o : Ordering) → is_lt o ≡ true → o ≡ Less
-less_so Less h = refl
-less_so Equal h = absurd (false≢true h)
-less_so Greater h = absurd (false≢true h)
-
--- whether the point of a record is below another's
-abbrev pub is_before : Record → Record → Bool
-is_before r s = is_lt (point_cmp r.key s.key)
+use Rattle.hb_lemmas.proofs.Orderings.{less_so}
+use Rattle.hb_frag.proofs.Facts.PointOrder.{comes_before}
 
 -- records of which each precedes the next precede all later ones
-pub far : (records : List Record) → AllAdjacentBelow (λ x y. true ≡ is_before x y) records (length records) → (i j : ℕ) (d : Record) → i < j → j < length records → Precedes (get_or records i d) (get_or records j d)
+pub far : (records : List Record) → AllAdjacentBelow (λ x y. true ≡ comes_before x y) records (length records) → (i j : ℕ) (d : Record) → i < j → j < length records → Precedes (get_or records i d) (get_or records j d)
 far records near i zero d lt in_range = absurd (omega arith)
 far records near i (suc j) d lt in_range =
     let here : Precedes (get_or records j d) (get_or records (j + 1) d) = less_so _ (sym (near j d (omega arith))) in
@@ -30,7 +23,7 @@ far records near i (suc j) d lt in_range =
       | inr n ↦ nat_list_cmp_total.trans (get_or records i d).key (get_or records j d).key (get_or records (suc j) d).key (far records near i j d (omega arith) (omega arith)) here'
     ]
 
-pub rising_tells : (records : List Record) (r : Bool) → IsAllAdjacentAnswer (λ x y b. b ≡ is_before x y) records r → IsTrue r ↔ AllPairs Precedes records
+pub rising_tells : (records : List Record) (r : Bool) → IsAllAdjacentAnswer (λ x y b. b ≡ comes_before x y) records r → IsTrue r ↔ AllPairs Precedes records
 rising_tells records true near = (λ _. far records near, λ _. refl)
 rising_tells records false broken = (
   λ t. absurd (false≢true t),

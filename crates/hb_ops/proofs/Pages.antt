@@ -5,6 +5,7 @@ use Rattle.hb_space.specs.declared.records.Record.{Record}
 use Rattle.hb_frag.specs.declared.pages.Page.{Page}
 use Rattle.hb_ops.specs.Files.{page_records}
 use Rattle.hb_lemmas.proofs.Lists.{whole}
+use Rattle.std.proofs.lemmas.Option.{same_Some}
 
 -- no record of these pages has the point
 abbrev pub Lack : List ℕ → List Record → Type 0
@@ -22,9 +23,6 @@ pub record StandsAmong (pages : List Page) (n : ℕ) (page : Page) : Type 0 wher
   pub changed : (new : Page) → flat_map page_records (set pages n new) ≡ before ++ (page_records new ++ after)
   pub lack_before : (p : List ℕ) → ((m : ℕ) (q : Page) → m ≢ n → slice_get pages m ≡ Some q → Lack p (page_records q)) → Lack p before
   pub lack_after : (p : List ℕ) → ((m : ℕ) (q : Page) → m ≢ n → slice_get pages m ≡ Some q → Lack p (page_records q)) → Lack p after
-
-same_Some : {A : Type 0} (x y : A) → Some x ≡ Some y → x ≡ y
-same_Some x y e = cc
 
 pub stands_among : (pages : List Page) (n : ℕ) (page : Page) → slice_get pages n ≡ Some page → StandsAmong pages n page
 stands_among [] n page e = cc

@@ -21,10 +21,10 @@ use Rattle.hb_ops.specs.Sound.{FitsFile}
 use Rattle.hb_ops.specs.Recording.{FitsDel, FitsPut, del_page, joined, on_records, page_with, put_page, without}
 use Rattle.hb_ops.proofs.Boxes.{held}
 use Rattle.hb_lemmas.proofs.Lists.{All-parts}
-use Rattle.hb_ops.proofs.Opened.{weight_changed}
-use Rattle.hb_ops.proofs.Orders.{less_so}
-use Rattle.hb_ops.proofs.Tips.{parted}
+use Rattle.hb_ops.proofs.Facts.Opened.{weight_changed}
+use Rattle.hb_ops.proofs.Facts.Tips.{parted}
 use Rattle.hb_ops.proofs.Facts.PlacedLaws.{placed}
+use Rattle.hb_lemmas.proofs.Orderings.{less_so}
 
 module _ (p : List ℕ) (change : List Record → List Record) where
   -- the tree with the change

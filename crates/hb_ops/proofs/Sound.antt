@@ -16,7 +16,7 @@ use Rattle.hb_ops.specs.Recording.{joined, page_with, without}
 use Rattle.hb_ops.specs.Operations.{change_of, nth_read, with_page, with_changed_pages}
 use Rattle.hb_ops.specs.LawsOfContents.{PutStaysSound, DelStaysSound}
 use Rattle.hb_ops.specs.Sound.{ChildrenMatch, FitsFile, IsChain, IsCounted, IsCovered, IsRooted, IsSound, SiblingsMatch, count_live, count_name, times_named}
-use Rattle.hb_ops.proofs.Contents.{del_on, put_on}
+use Rattle.hb_ops.proofs.Facts.Contents.{del_on, put_on}
 use Rattle.hb_ops.proofs.Facts.PageNumberLaws.{get-set_other, get-set_same, in_range, live_so, page_at-suc, page_at-zero, place_of, with_page-there}
 use Rattle.hb_ops.proofs.Remade.{children_again, del_made, put_made, siblings_again}
 use Rattle.hb_ops.proofs.Facts.PlacedLaws.{placed}

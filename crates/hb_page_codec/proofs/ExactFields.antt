@@ -10,8 +10,8 @@ use Rattle.hb_frag.specs.Grammar.{FitsRecord, point_bytes, record_bytes}
 use Rattle.hb_page_codec.specs.Exact.{BytesAreExact, NumbersAreExact, PointsAreExact, BoxesAreExact, RecordsAreExact, PagesAreExact}
 use Rattle.hb_page_codec.specs.Reading.{byte_at, number_at}
 use Rattle.hb_page_codec.specs.ReadingFields.{area_at, point_at, record_at}
-use Rattle.hb_page_codec.proofs.PageLaws.{page_takes, page_again}
-use Rattle.hb_page_codec.proofs.Fields.{IsWide, wide_4, wide_8, byte_takes, number_takes, number_again, point_takes, point_again, area_takes, area_again, record_takes, record_again}
+use Rattle.hb_page_codec.proofs.Facts.PageLaws.{page_takes, page_again}
+use Rattle.hb_page_codec.proofs.Facts.Fields.{IsWide, wide_4, wide_8, byte_takes, number_takes, number_again, point_takes, point_again, area_takes, area_again, record_takes, record_again}
 
 pub bytes_exact : BytesAreExact
 bytes_exact = record {

@@ -1,1 +1,5 @@
 pub mod LoopLaws
+pub mod Fields
+pub mod PageLaws
+pub mod Refusals
+pub mod Weights

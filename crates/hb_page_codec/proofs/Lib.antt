@@ -1,13 +1,9 @@
 pub mod Facts
 pub mod Spelled
 pub mod Ordered
-pub mod Refusals
 pub mod Depth
-pub mod Fields
 pub mod TreeLaws
-pub mod PageLaws
 pub mod Writes
-pub mod Weights
 pub mod Decoded
 pub mod ExactFields
 pub mod Zeros

@@ -10,15 +10,17 @@ use Rattle.hb_frag.specs.Grammar.{record_bytes, tree_bytes, FitsRecord, FitsTree
 use Rattle.hb_page_codec.specs.Reading.{◌>>=◌, number_at}
 use Rattle.hb_page_codec.specs.ReadingFields.{records_at, record_at, count_at, axis_at}
 use Rattle.hb_page_codec.specs.ReadingPages.{cut_at, records_tip_at, node_at, tree_within, tree_at}
-use Rattle.hb_page_codec.proofs.Fields.{IsBytes, IsBytes-rest, Takes, Takes-then, Takes-byte, bind_some, some_is, wide_4, wide_8, number_takes, number_again, many_take, many_again, record_takes, record_again, records_room, count_takes, count_again, axis_takes, axis_again}
+use Rattle.hb_page_codec.proofs.Facts.Fields.{AreBytes-rest, Takes, Takes-then, Takes-byte, bind_some, wide_4, wide_8, number_takes, number_again, many_take, many_again, record_takes, record_again, records_room, count_takes, count_again, axis_takes, axis_again}
+use Rattle.std.proofs.lemmas.Option.{same_Some}
+use Rattle.hb_page_codec.specs.Exact.{AreBytes}
 
 -- what a reader of trees reads is spelled so
 abbrev pub TakesTrees : ℕ → (List ℕ → Option (Tree × List ℕ)) → Type 0
-TakesTrees k read = (bytes : List ℕ) (x : Tree × List ℕ) → IsBytes bytes → read bytes ≡ Some x → Takes bytes (tree_bytes x.0) x.1 × FitsTree k x.0
+TakesTrees k read = (bytes : List ℕ) (x : Tree × List ℕ) → AreBytes bytes → read bytes ≡ Some x → Takes bytes (tree_bytes x.0) x.1 × FitsTree k x.0
 
 -- the same behind a tag
 abbrev TakesBehind : ℕ → ℕ → (List ℕ → Option (Tree × List ℕ)) → Type 0
-TakesBehind tag k read = (bytes : List ℕ) (x : Tree × List ℕ) → IsBytes bytes → read bytes ≡ Some x → Takes (tag ∷ bytes) (tree_bytes x.0) x.1 × FitsTree k x.0
+TakesBehind tag k read = (bytes : List ℕ) (x : Tree × List ℕ) → AreBytes bytes → read bytes ≡ Some x → Takes (tag ∷ bytes) (tree_bytes x.0) x.1 × FitsTree k x.0
 
 cut_takes : (read : List ℕ → Option (Tree × List ℕ)) (k : ℕ) → TakesTrees k read → TakesBehind 0 k (cut_at read k)
 unfolding cut_at
@@ -35,7 +37,7 @@ cut_takes read k side bytes x fits e =
     let three = Takes-then bytes (a.0.0 ∷ big_endian 8 v.0.0) v.0.1 (tree_bytes l.0.0) l.0.1 two left.0 in
     let four = Takes-then bytes (a.0.0 ∷ big_endian 8 v.0.0 ++ tree_bytes l.0.0) l.0.1 (tree_bytes r.0.0) r.0.1 three right.0 in
     let made : Tree × List ℕ = (Cut a.0.0 v.0.0 l.0.0 r.0.0, r.0.1) in
-    subst (λ (y : Tree × List ℕ). Takes (0 ∷ bytes) (tree_bytes y.0) y.1 × FitsTree k y.0) (some_is made x r.2)
+    subst (λ (y : Tree × List ℕ). Takes (0 ∷ bytes) (tree_bytes y.0) y.1 × FitsTree k y.0) (same_Some made x r.2)
     (Takes-byte 0 bytes _ r.0.1 four, (axis.1, value.1, left.1, right.1))
 
 records_tip_takes : (k : ℕ) → TakesBehind 1 k (records_tip_at k)
@@ -48,24 +50,24 @@ records_tip_takes k bytes x fits e =
     let both = Takes-then bytes (big_endian 2 a.0.0) a.0.1 (flat_map record_bytes b.0.0) b.0.1 count.0 records.0 in
     let counted : Takes bytes (big_endian 2 (length b.0.0) ++ flat_map record_bytes b.0.0) b.0.1 = subst (λ (n : ℕ). Takes bytes (big_endian 2 n ++ flat_map record_bytes b.0.0) b.0.1) (sym records.1) both in
     let made : Tree × List ℕ = (Tip (Records b.0.0), b.0.1) in
-    subst (λ (y : Tree × List ℕ). Takes (1 ∷ bytes) (tree_bytes y.0) y.1 × FitsTree k y.0) (some_is made x b.2)
+    subst (λ (y : Tree × List ℕ). Takes (1 ∷ bytes) (tree_bytes y.0) y.1 × FitsTree k y.0) (same_Some made x b.2)
     (Takes-byte 1 bytes _ b.0.1 counted, (omega (arith, records.1, count.1), All-from_recursion (FitsRecord k) b.0.0 records.2))
 
 node_takes : (read : List ℕ → Option (Tree × List ℕ)) (k : ℕ) → TakesTrees k read → TakesTrees k (node_at read k)
 unfolding node_at
 node_takes read k side [] x fits e = absurd cc
-node_takes read k side (zero ∷ rest) x fits e = cut_takes read k side rest x (IsBytes-rest 0 rest fits) e
-node_takes read k side (suc zero ∷ rest) x fits e = records_tip_takes k rest x (IsBytes-rest 1 rest fits) e
+node_takes read k side (zero ∷ rest) x fits e = cut_takes read k side rest x (AreBytes-rest 0 rest fits) e
+node_takes read k side (suc zero ∷ rest) x fits e = records_tip_takes k rest x (AreBytes-rest 1 rest fits) e
 node_takes read k side (suc (suc zero) ∷ rest) x fits e =
     let a = bind_some (number_at 4 rest) (λ page. Some (Tip (Child page.0), page.1)) x e in
-    let page = number_takes 4 (2 ^ 32) wide_4 rest a.0 (IsBytes-rest 2 rest fits) a.1 in
+    let page = number_takes 4 (2 ^ 32) wide_4 rest a.0 (AreBytes-rest 2 rest fits) a.1 in
     let made : Tree × List ℕ = (Tip (Child a.0.0), a.0.1) in
-    subst (λ (y : Tree × List ℕ). Takes (2 ∷ rest) (tree_bytes y.0) y.1 × FitsTree k y.0) (some_is made x a.2) (Takes-byte 2 rest _ a.0.1 page.0, page.1)
+    subst (λ (y : Tree × List ℕ). Takes (2 ∷ rest) (tree_bytes y.0) y.1 × FitsTree k y.0) (same_Some made x a.2) (Takes-byte 2 rest _ a.0.1 page.0, page.1)
 node_takes read k side (suc (suc (suc zero)) ∷ rest) x fits e =
     let a = bind_some (number_at 4 rest) (λ page. Some (Tip (Sibling page.0), page.1)) x e in
-    let page = number_takes 4 (2 ^ 32) wide_4 rest a.0 (IsBytes-rest 3 rest fits) a.1 in
+    let page = number_takes 4 (2 ^ 32) wide_4 rest a.0 (AreBytes-rest 3 rest fits) a.1 in
     let made : Tree × List ℕ = (Tip (Sibling a.0.0), a.0.1) in
-    subst (λ (y : Tree × List ℕ). Takes (3 ∷ rest) (tree_bytes y.0) y.1 × FitsTree k y.0) (some_is made x a.2) (Takes-byte 3 rest _ a.0.1 page.0, page.1)
+    subst (λ (y : Tree × List ℕ). Takes (3 ∷ rest) (tree_bytes y.0) y.1 × FitsTree k y.0) (same_Some made x a.2) (Takes-byte 3 rest _ a.0.1 page.0, page.1)
 node_takes read k side (suc (suc (suc (suc b))) ∷ rest) x fits e = absurd cc
 
 within_takes : (depth k : ℕ) → TakesTrees k (tree_within depth k)

@@ -8,7 +8,7 @@ use Rattle.hb_frag.specs.declared.leaves.Leaf.TheVariants.{Records, Child, Sibli
 use Rattle.hb_frag.specs.Trees.{Tree, Tip, Cut}
 use Rattle.hb_frag.specs.Grammar.{tree_bytes, FitsTree}
 use Rattle.hb_page_codec.specs.Writing.{Wrote, AreCountable}
-use Rattle.hb_page_codec.proofs.Fields.{length_number}
+pub use Rattle.hb_lemmas.proofs.Numbers.{length_big_endian}
 
 -- one thing and then another
 pub Wrote-then : (old : List ℕ) (at : ℕ) (front : List ℕ) (mid : List ℕ) (place : ℕ) (back : List ℕ) (new : List ℕ) (end : ℕ)
@@ -52,7 +52,7 @@ Wrote-next f xs i d old at mid place new end lt a b =
 pub length-cut : (axis value : ℕ) (left right : Tree) → length (tree_bytes (Cut axis value left right)) ≡ 10 + length (tree_bytes left) + length (tree_bytes right)
 length-cut axis value left right =
     length-append (0 ∷ axis ∷ big_endian 8 value ++ tree_bytes left) (tree_bytes right)
-    ∙ omega (arith, length-append (0 ∷ axis ∷ big_endian 8 value) (tree_bytes left), length_number 8 value)
+    ∙ omega (arith, length-append (0 ∷ axis ∷ big_endian 8 value) (tree_bytes left), length_big_endian 8 value)
 
 -- all of a list
 pub wrote_all : {A : Type 0} (f : A → List ℕ) (xs : List A) (i : ℕ) (old : List ℕ) (at : ℕ) (new : List ℕ) (end : ℕ) → length xs ≤ i

@@ -69,7 +69,7 @@ fn put_point(into: &mut [u8], at: usize, point: &Point) -> usize
 }
 
 /// Writes a record at a place, and gives the place behind it.
-#[tactic(auto, using(crate::proofs::Fields::length_number))]
+#[tactic(auto, using(crate::proofs::Writes::length_big_endian))]
 fn put_record(into: &mut [u8], at: usize, entry: &Record) -> usize
     requires { at + length (record_bytes entry.now) ≤ length into.old }
     ensures { Wrote into.old at (record_bytes entry.now) into.new result }
@@ -93,7 +93,7 @@ fn put_records(into: &mut [u8], at: usize, records: &[Record]) -> usize
 }
 
 /// Writes a leaf at a place, and gives the place behind it.
-#[tactic(auto, using(crate::proofs::Fields::length_number))]
+#[tactic(auto, using(crate::proofs::Writes::length_big_endian))]
 fn put_leaf(into: &mut [u8], at: usize, leaf: &Leaf) -> usize
     requires count { IsCountable leaf.now }
     requires room { at + length (leaf_bytes leaf.now) ≤ length into.old }
@@ -119,7 +119,7 @@ fn put_leaf(into: &mut [u8], at: usize, leaf: &Leaf) -> usize
 
 /// Writes a root, with what lies below it, at a place, and gives the place behind it.
 #[cycle(put)]
-#[tactic(auto, using(crate::proofs::Fields::length_number))]
+#[tactic(auto, using(crate::proofs::Writes::length_big_endian))]
 fn put_node(into: &mut [u8], at: usize, node: &Node) -> usize
     requires count { AreCountable (tree_of node.now) }
     requires room { at + length (tree_bytes (tree_of node.now)) ≤ length into.old }
@@ -153,7 +153,7 @@ fn put_fragment(into: &mut [u8], at: usize, frag: &Frag) -> usize
 }
 
 /// Writes the fields of a page from the first byte on, and gives the place behind them.
-#[tactic(auto, using(crate::proofs::Fields::length_number))]
+#[tactic(auto, using(crate::proofs::Writes::length_big_endian))]
 fn put_fields(into: &mut [u8], page: &Page) -> usize
     requires fits { FitsPage page.now }
     requires room { length (page_fields page.now) ≤ length into.old }

@@ -23,8 +23,8 @@ use Rattle.hb_point.proofs.RecordLeaves.{put_weighs}
 use Rattle.hb_point.specs.Laws.{CommandsAreAllowed, FullPagesAreHeavy, PutsAreAllowed, SplitsAreAllowed}
 use Rattle.hb_point.specs.SessionRows.{DoesThere}
 use Rattle.hb_space.specs.Boxes.{Area}
-use Rattle.hb_split.proofs.Allowed.{is_allowed}
-use Rattle.hb_split.proofs.Ends.{is_thirds}
+use Rattle.hb_split.proofs.Facts.Allowed.{is_allowed}
+use Rattle.hb_split.proofs.Facts.Ends.{is_thirds}
 use Rattle.hb_split.specs.Choosing.{IsChosen}
 
 pub full_pages_are_heavy : FullPagesAreHeavy

@@ -1,7 +1,7 @@
 -- A page directly holds the box of one point exactly where it directly holds the point.
 use Rattle.std.proofs.Common.{◌≡◌, ◌↔◌, ℕ, ◌<◌, List, length, get_or, sym, ◌∙◌, arith}
 use Rattle.std.proofs.lemmas.List.Elements.{All-contains, Contains-get_or}
-use Rattle.hb_frag.proofs.Tiles.{tiles_attributes}
+use Rattle.hb_frag.proofs.Facts.Tiles.{tiles_attributes}
 use Rattle.hb_frag.specs.Leaves.{DirectlyCovers, DirectlyHolds, Placed, leaves_of, siblings_of}
 use Rattle.hb_frag.specs.declared.leaves.Leaf.TheVariants.{Sibling}
 use Rattle.hb_frag.specs.declared.pages.LivePage.{LivePage}

@@ -14,7 +14,7 @@ use Rattle.hb_frag.specs.declared.leaves.Leaf.TheVariants.{Records}
 use Rattle.hb_frag.specs.declared.pages.LivePage.{LivePage}
 use Rattle.hb_layout.specs.Limits.{IsLayout}
 use Rattle.hb_layout.specs.declared.meta.Meta.{Meta}
-use Rattle.hb_ops.proofs.Opened.{weight_changed}
+use Rattle.hb_ops.proofs.Facts.Opened.{weight_changed}
 use Rattle.hb_ops.proofs.Facts.PlacedLaws.{placed, placed_is_leaf}
 use Rattle.hb_ops.specs.Recording.{FitsPut, joined, put_page}
 use Rattle.hb_ops.specs.Sound.{FitsFile}

@@ -15,8 +15,8 @@ use Rattle.hb_activity.specs.Deeds.{Deed}
 use Rattle.hb_activity.specs.OneDeed.{IsAllowedAlone, NumbersAreGiven}
 use Rattle.hb_activity.specs.Passing.{PartLeavesTo}
 use Rattle.hb_activity.specs.Sights.{Sight}
-use Rattle.hb_frag.proofs.CarvedKinds.{carved_light}
-use Rattle.hb_frag.proofs.Tiles.{first_tells, found_where_held, tiles_attributes}
+use Rattle.hb_frag.proofs.Facts.CarvedKinds.{carved_light}
+use Rattle.hb_frag.proofs.Facts.Tiles.{first_tells, found_where_held, tiles_attributes}
 use Rattle.hb_frag.specs.Leaves.{Placed, leaves_of, weight_of}
 use Rattle.hb_frag.specs.Paths.{part_at}
 use Rattle.hb_frag.specs.Trees.{Tree}
@@ -25,10 +25,10 @@ use Rattle.hb_ops.specs.Posting.{posted}
 use Rattle.hb_poster.specs.Laws.{ArePagesAtHand, GrowthIsAllowed, IsOfChild, PostingsAreAllowed, PostingsAreOfTheChild}
 use Rattle.hb_poster.specs.PosterRows.{DoesPlan}
 use Rattle.hb_space.specs.Boxes.{Area, Holds, common_area}
-use Rattle.hb_split.proofs.Allowed.{is_allowed}
-use Rattle.hb_split.proofs.Ends.{is_thirds}
+use Rattle.hb_split.proofs.Facts.Allowed.{is_allowed}
+use Rattle.hb_split.proofs.Facts.Ends.{is_thirds}
 use Rattle.hb_split.specs.Choosing.{IsChosen}
-use Rattle.hb_terms.proofs.Owing.{planned_may_be, room_told}
+use Rattle.hb_terms.proofs.Facts.Owing.{planned_may_be, room_told}
 use Rattle.hb_terms.specs.Plans.{IsPlan, LacksRoom}
 
 pub growth_is_allowed : GrowthIsAllowed

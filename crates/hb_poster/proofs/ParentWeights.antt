@@ -1,10 +1,10 @@
 -- What a parent weighs.
 use Rattle.std.proofs.Common.{◌≡◌, ℕ, ◌≤◌, Bool, true, false, cond, List, ◌∷◌, length, Some, refl, subst, ne_eqb, arith}
 use Rattle.std.specs.Prelude.{nat_lt, slice_index}
-use Rattle.hb_frag.proofs.CarvedKinds.{carved_light, some_weight}
-use Rattle.hb_frag.proofs.Parts.{part_weighs}
-use Rattle.hb_frag.proofs.SayingTheSame.{says_the_same}
-use Rattle.hb_frag.proofs.Tiles.{tiles_attributes}
+use Rattle.hb_frag.proofs.Facts.CarvedKinds.{carved_light, some_weight}
+use Rattle.hb_frag.proofs.Facts.Parts.{part_weighs}
+use Rattle.hb_frag.proofs.Facts.SayingTheSame.{says_the_same}
+use Rattle.hb_frag.proofs.Facts.Tiles.{tiles_attributes}
 use Rattle.hb_frag.specs.Carving.{carved}
 use Rattle.hb_frag.specs.Leaves.{Placed, leaves_of, weight_of}
 use Rattle.hb_frag.specs.Paths.{part_at, way_to, with_part}
@@ -19,7 +19,7 @@ use Rattle.hb_activity.specs.Passing.{LeadsBelow}
 use Rattle.hb_activity.specs.declared.jobs.Job.{Job}
 use Rattle.hb_poster.proofs.LeavesAtPoints.{kind_there, of_first}
 use Rattle.hb_space.specs.Boxes.{Area, common_area, side_below, side_from}
-use Rattle.hb_terms.proofs.Owing.{one_plan}
+use Rattle.hb_terms.proofs.Facts.Owing.{one_plan}
 use Rattle.hb_terms.specs.Plans.{LacksRoom}
 use Rattle.hb_terms.specs.declared.plans.PostPlan.TheVariants.{Post, SplitFirst}
 use Rattle.hb_poster.specs.Asks.{PlansPosting}

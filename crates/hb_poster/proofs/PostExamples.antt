@@ -25,7 +25,7 @@ use Rattle.hb_poster.specs.Examples.{LooksByHand, PostsByHand, SplitsParentsByHa
 use Rattle.hb_poster.specs.PosterRows.{DoesPlan, LooksAgain, LooksAtChild, after_look}
 use Rattle.hb_space.specs.Boxes.{Area}
 use Rattle.hb_split.specs.Choosing.{AreChosen, IsChosen}
-use Rattle.hb_terms.proofs.Owing.{one_plan}
+use Rattle.hb_terms.proofs.Facts.Owing.{one_plan}
 use Rattle.hb_terms.specs.Plans.{IsPlan, posted_parent}
 
 -- ---- the plans

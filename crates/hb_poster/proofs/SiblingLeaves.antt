@@ -1,6 +1,6 @@
 -- Some leaf of a part names a sibling exactly where one of one of its sides does.
 use Rattle.std.proofs.Common.{◌≡◌, ◌≢◌, ◌↔◌, IsTrue, ℕ, Bool, true, false, List, [], ◌∷◌, ◌++◌, refl, sym, subst}
-use Rattle.hb_frag.proofs.NamesListed.{siblings-append}
+use Rattle.hb_frag.proofs.Facts.NamesListed.{siblings-append}
 use Rattle.hb_frag.specs.Leaves.{Placed, siblings}
 use Rattle.hb_space.specs.Boxes.{Area}
 

@@ -15,9 +15,9 @@ use Rattle.hb_sound.proofs.CutWidths.{reached_narrower, reached_no_wider, part_n
 use Rattle.hb_ops.proofs.Facts.CutLeafLaws.{StemsFrom}
 use Rattle.hb_sound.proofs.CutNames.{named, named-append, once, through_names}
 use Rattle.hb_ops.proofs.Facts.PlacedLaws.{placed}
-use Rattle.hb_ops.proofs.Facts.PathLaws.{the_root}
 use Rattle.hb_sound.proofs.Widths.{width}
 use Rattle.hb_ops.proofs.Facts.StemLaws.{PartLaws}
+use Rattle.std.proofs.lemmas.Option.{same_Some}
 
 -- a leaf that names a page and comes from old ones is one of them
 pub stems_child : (old : List Placed) (name : ℕ) (area : Area) → StemsFrom old (placed (Child name) area) → Contains old (placed (Child name) area)
@@ -61,7 +61,7 @@ module _ (laws : PartLaws) (x : Extraction) (page : LivePage) (part : Tree × Ar
     where
       by_path : (path : List Side) → x.path ≡ path → width fresh.area < width page.area
       by_path [] is =
-          let root : (page.frag, page.area) ≡ part = the_root page.frag page.area part (ap (λ (p : List Side). part_at p page.frag page.area) (sym is) ∙ fits.there) in
+          let root : (page.frag, page.area) ≡ part = same_Some page.frag page.area part (ap (λ (p : List Side). part_at p page.frag page.area) (sym is) ∙ fits.there) in
           let same = ap (λ (w : Tree × Area). width w.1) root in
           let less = reached_narrower x.cuts part.0 part.1 (fits.less is) fits.parted in
           omega (arith, same, less)

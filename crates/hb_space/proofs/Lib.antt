@@ -1,3 +1,1 @@
-pub mod Lists
-pub mod Boxes
-pub mod Outside
+pub mod Facts

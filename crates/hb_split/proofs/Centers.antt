@@ -2,7 +2,7 @@
 -- are distinct, so there are few records then.
 use Rattle.std.proofs.Common.{◌≡◌, ℕ, zero, suc, ◌+◌, ◌*◌, ◌<◌, ◌≤◌, ◌==◌, ◌⊎◌, inl, inr, Bool, true, false, cond, not, ◌||◌, nat_lt, List, [], ◌∷◌, length, filter, get_or, max, refl, sym, ap, ◌∙◌, arith, subst}
 use Rattle.std.specs.Prelude.{Any, slice_index, AllPairs}
-use Rattle.std.proofs.lemmas.Bool.{cases_lt, cases_Bool, lt-ltb, le-ltb, eqb-true, eqb-false}
+use Rattle.std.proofs.lemmas.Bool.{cases_lt, cases_Bool, lt-ltb, le-ltb, eqb-true, eqb-false, or_parts}
 use Rattle.std.proofs.lemmas.List.Filters.{length-filter_both}
 use Rattle.std.proofs.lemmas.List.Kept.{AllPairs-filter}
 use Rattle.std.proofs.lemmas.List.Elements.{All-filter}
@@ -13,6 +13,7 @@ use Rattle.hb_split.specs.Choosing.{MayCut, count_on}
 use Rattle.hb_split.specs.Steps.{AreOf}
 use Rattle.hb_split.proofs.Nexts.{differs}
 use Rattle.hb_split.proofs.Thirds.{both}
+use Rattle.hb_lemmas.proofs.Booleans.{if_below, if_same}
 
 -- the last place up to a bound at which a count is still small
 last_small : (f : ℕ → ℕ) (l bound : ℕ) → f 0 ≤ l → (v : ℕ) × (f v ≤ l) × ((v ≡ bound) ⊎ (l < f (v + 1)))
@@ -37,33 +38,20 @@ is_off axis v r = not (slice_index r.key axis == v)
 abbrev off : ℕ → ℕ → List Record → ℕ
 off axis v records = length (filter (is_off axis v) records)
 
--- a test, and its two values
-if_lt : (a b : ℕ) (P : Bool → Type 0) → (a < b → P true) → (b ≤ a → P false) → P (nat_lt a b)
-if_lt a b P yes_ no_ = elim (cases_lt a b) [
-  | inl lt ↦ subst P (sym (lt-ltb a b lt)) (yes_ lt)
-  | inr le ↦ subst P (sym (le-ltb a b le)) (no_ le)
-]
-
-if_eq : (a b : ℕ) (P : Bool → Type 0) → (a ≡ b → P true) → ((a ≡ b → ⊥) → P false) → P (a == b)
-if_eq a b P yes_ no_ = elim (cases_Bool (a == b)) [
-  | inl t ↦ subst P (sym t) (yes_ (eqb-true a b t))
-  | inr f ↦ subst P (sym f) (no_ (eqb-false a b f))
-]
-
 none_below : (axis : ℕ) (records : List Record) → below axis 0 records ≤ 0
 none_below axis [] = omega arith
 none_below axis (r ∷ rest) =
     let h = none_below axis rest in
-    if_lt (slice_index r.key axis) 0 (λ b. length (cond b (r ∷ filter (λ s. nat_lt (slice_index s.key axis) 0) rest) (filter (λ s. nat_lt (slice_index s.key axis) 0) rest)) ≤ 0) (λ lt. absurd (omega (arith, lt))) (λ le. h)
+    if_below (slice_index r.key axis) 0 (λ b. length (cond b (r ∷ filter (λ s. nat_lt (slice_index s.key axis) 0) rest) (filter (λ s. nat_lt (slice_index s.key axis) 0) rest)) ≤ 0) (λ lt. absurd (omega (arith, lt))) (λ le. h)
 
 rises : (axis v w : ℕ) (records : List Record) → v ≤ w → below axis v records ≤ below axis w records
 rises axis v w [] le = omega arith
 rises axis v w (r ∷ rest) le =
     let h = rises axis v w rest le in
     let F = λ (n : ℕ). filter (λ s. nat_lt (slice_index s.key axis) n) rest in
-    if_lt (slice_index r.key axis) v (λ b. length (cond b (r ∷ F v) (F v)) ≤ below axis w (r ∷ rest))
-    (λ lt. if_lt (slice_index r.key axis) w (λ b. suc (length (F v)) ≤ length (cond b (r ∷ F w) (F w))) (λ less. omega (arith, h)) (λ more. absurd (omega (arith, lt, more, le))))
-    (λ ge. if_lt (slice_index r.key axis) w (λ b. length (F v) ≤ length (cond b (r ∷ F w) (F w))) (λ less. omega (arith, h)) (λ more. h))
+    if_below (slice_index r.key axis) v (λ b. length (cond b (r ∷ F v) (F v)) ≤ below axis w (r ∷ rest))
+    (λ lt. if_below (slice_index r.key axis) w (λ b. suc (length (F v)) ≤ length (cond b (r ∷ F w) (F w))) (λ less. omega (arith, h)) (λ more. absurd (omega (arith, lt, more, le))))
+    (λ ge. if_below (slice_index r.key axis) w (λ b. length (F v) ≤ length (cond b (r ∷ F w) (F w))) (λ less. omega (arith, h)) (λ more. h))
 
 -- above some bound no record has its value
 bound_of : (axis : ℕ) (records : List Record) → (b : ℕ) × (length records ≤ below axis b records)
@@ -74,7 +62,7 @@ bound_of axis (r ∷ rest) =
     let up = rises axis h.0 b rest (omega arith) in
     let more = h.1 in
     let F = filter (λ s. nat_lt (slice_index s.key axis) b) rest in
-    (b, if_lt (slice_index r.key axis) b (λ t. suc (length rest) ≤ length (cond t (r ∷ F) F)) (λ lt. omega (arith, up, more)) (λ le. absurd (omega (arith, le))))
+    (b, if_below (slice_index r.key axis) b (λ t. suc (length rest) ≤ length (cond t (r ∷ F) F)) (λ lt. omega (arith, up, more)) (λ le. absurd (omega (arith, le))))
 
 -- where a count rises, a record has the value
 met_at : (axis v : ℕ) (records : List Record) → below axis v records < below axis (v + 1) records → Any (λ r. slice_index r.key axis ≡ v) records
@@ -84,15 +72,15 @@ met_at axis v (r ∷ rest) lt =
     let x = slice_index r.key axis in
     let later : below axis v rest < below axis (v + 1) rest → Any (λ s. slice_index s.key axis ≡ v) (r ∷ rest) = λ less. let m = met_at axis v rest less in let n = m.2 in (suc m.0, m.1, omega (arith, n), m.3, m.4) in
     let G : Bool → Bool → Type 0 = λ a b. length (cond a (r ∷ F v) (F v)) < length (cond b (r ∷ F (v + 1)) (F (v + 1))) → Any (λ s. slice_index s.key axis ≡ v) (r ∷ rest) in
-    if_lt x v (λ a. G a (nat_lt x (v + 1)))
-    (λ low. if_lt x (v + 1) (λ b. G true b) (λ l h. later (omega (arith, h))) (λ g. absurd (omega (arith, low, g))))
-    (λ high. if_lt x (v + 1) (λ b. G false b) (λ l h. (0, r, omega arith, refl, omega (arith, high, l))) (λ g h. later h)) lt
+    if_below x v (λ a. G a (nat_lt x (v + 1)))
+    (λ low. if_below x (v + 1) (λ b. G true b) (λ l h. later (omega (arith, h))) (λ g. absurd (omega (arith, low, g))))
+    (λ high. if_below x (v + 1) (λ b. G false b) (λ l h. (0, r, omega arith, refl, omega (arith, high, l))) (λ g h. later h)) lt
 
 some_below : (axis v : ℕ) (records : List Record) → 0 < below axis v records → Any (λ r. slice_index r.key axis < v) records
 some_below axis v [] lt = absurd (omega (arith, lt))
 some_below axis v (r ∷ rest) lt =
     let F = filter (λ s. nat_lt (slice_index s.key axis) v) rest in
-    if_lt (slice_index r.key axis) v (λ b. 0 < length (cond b (r ∷ F) F) → Any (λ s. slice_index s.key axis < v) (r ∷ rest))
+    if_below (slice_index r.key axis) v (λ b. 0 < length (cond b (r ∷ F) F) → Any (λ s. slice_index s.key axis < v) (r ∷ rest))
     (λ less h. (0, r, omega arith, refl, less))
     (λ ge h. let m = some_below axis v rest h in let n = m.2 in (suc m.0, m.1, omega (arith, n), m.3, m.4)) lt
 
@@ -105,11 +93,11 @@ off_is axis v (r ∷ rest) =
     let O = filter (is_off axis v) rest in
     let F = λ (n : ℕ). filter (λ s. nat_lt (slice_index s.key axis) n) rest in
     let G : Bool → Bool → Bool → Type 0 = λ e a b. length (cond (not e) (r ∷ O) O) + length (cond b (r ∷ F (v + 1)) (F (v + 1))) ≡ length (cond a (r ∷ F v) (F v)) + suc (length rest) in
-    if_eq x v (λ e. G e (nat_lt x v) (nat_lt x (v + 1)))
-    (λ same. if_lt x v (λ a. G true a (nat_lt x (v + 1))) (λ l. absurd (omega (arith, same, l))) (λ g. if_lt x (v + 1) (λ b. G true false b) (λ l. omega (arith, h)) (λ g2. absurd (omega (arith, same, g2)))))
-    (λ other. if_lt x v (λ a. G false a (nat_lt x (v + 1)))
-    (λ l. if_lt x (v + 1) (λ b. G false true b) (λ l2. omega (arith, h)) (λ g. absurd (omega (arith, l, g))))
-    (λ g. if_lt x (v + 1) (λ b. G false false b) (λ l. absurd (other (omega (arith, g, l)))) (λ g2. omega (arith, h))))
+    if_same x v (λ e. G e (nat_lt x v) (nat_lt x (v + 1)))
+    (λ same. if_below x v (λ a. G true a (nat_lt x (v + 1))) (λ l. absurd (omega (arith, same, l))) (λ g. if_below x (v + 1) (λ b. G true false b) (λ l. omega (arith, h)) (λ g2. absurd (omega (arith, same, g2)))))
+    (λ other. if_below x v (λ a. G false a (nat_lt x (v + 1)))
+    (λ l. if_below x (v + 1) (λ b. G false true b) (λ l2. omega (arith, h)) (λ g. absurd (omega (arith, l, g))))
+    (λ g. if_below x (v + 1) (λ b. G false false b) (λ l. absurd (other (omega (arith, g, l)))) (λ g2. omega (arith, h))))
 
 -- a plane that may cut leaves at most so many records on one of its sides
 abbrev pub LeavesFew : ℕ → ℕ → List Record → Type 0
@@ -198,19 +186,14 @@ centers k l (suc j) records le few =
     let b = before.stray in
     record { values = one.0 ∷ before.values; many = ap suc before.many; stray = omega (arith, here, either, b) }
 
--- records that stray nowhere have the same values
-either_false : (a b : Bool) → (a || b) ≡ false → (a ≡ false) × (b ≡ false)
-either_false true b e = absurd cc
-either_false false b e = (refl, e)
-
 at_home : (x v : ℕ) → not (x == v) ≡ false → x ≡ v
-at_home x v e = if_eq x v (λ b. not b ≡ false → x ≡ v) (λ same h. same) (λ other h. absurd cc) e
+at_home x v e = if_same x v (λ b. not b ≡ false → x ≡ v) (λ same h. same) (λ other h. absurd cc) e
 
 same_values : (vs : List ℕ) (r s : Record) → strays vs r ≡ false → strays vs s ≡ false → (i : ℕ) → i < length vs → slice_index r.key i ≡ slice_index s.key i
 same_values [] r s er es i lt = absurd (omega (arith, lt))
 same_values (v ∷ vs) r s er es i lt =
-    let a = either_false (strays vs r) (is_off (length vs) v r) er in
-    let b = either_false (strays vs s) (is_off (length vs) v s) es in
+    let a = or_parts (strays vs r) (is_off (length vs) v r) er in
+    let b = or_parts (strays vs s) (is_off (length vs) v s) es in
     elim (cases_lt i (length vs)) [
       | inl below_ ↦ same_values vs r s a.0 b.0 i below_
       | inr ge ↦

@@ -18,9 +18,9 @@ use Rattle.hb_frag.specs.Rules.{AreInOrder, Precedes}
 use Rattle.hb_split.specs.Choosing.{AreChosen, way_down, Chooses, IsBest, NotBehind, count_on, heavier_count, heavier_side}
 use Rattle.hb_split.specs.Steps.{AreOf}
 use Rattle.hb_split.proofs.Centers.{LeavesFew, few_records, times}
-use Rattle.hb_split.proofs.Ends.{at_end, of_page, records_at}
+use Rattle.hb_split.proofs.Facts.Ends.{at_end, of_page, records_at}
 use Rattle.hb_split.proofs.Thirds.{both}
-use Rattle.hb_split.proofs.WaysDown.{tested}
+use Rattle.hb_lemmas.proofs.Booleans.{if_below}
 
 at_least : (h axis value h' axis' value' : ℕ) → NotBehind h axis value h' axis' value' → h ≤ h'
 at_least h axis value h' axis' value' n = elim n [ inl lt ↦ omega (arith, lt) | inr same ↦ let e = same.0 in omega (arith, e) ]
@@ -32,7 +32,7 @@ heavier_is axis value records side e =
     let left = count_on Left axis value records in
     let right = count_on Right axis value records in
     subst (λ (s : Side). count_on s axis value records ≡ heavier_count axis value records) (sym e)
-    (tested left right (λ t. count_on (if t then Right else Left) axis value records ≡ max left right) (λ lt. omega (arith, lt)) (λ le. omega (arith, le)))
+    (if_below left right (λ t. count_on (if t then Right else Left) axis value records ≡ max left right) (λ lt. omega (arith, lt)) (λ le. omega (arith, le)))
 
 at_most_four : (k m : ℕ) → k ≤ 4 → times k m ≤ 4 * m
 at_most_four zero m le = omega arith

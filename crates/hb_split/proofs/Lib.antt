@@ -1,9 +1,8 @@
+pub mod Facts
 pub mod WaysDown
 pub mod Thirds
-pub mod Ends
 pub mod Better
 pub mod Values
 pub mod Nexts
-pub mod Allowed
 pub mod Centers
 pub mod FewCuts

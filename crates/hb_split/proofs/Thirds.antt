@@ -11,7 +11,7 @@ use Rattle.hb_frag.specs.Leaves.{weight_of}
 use Rattle.hb_ops.specs.declared.leaf_cuts.LeafCut.{LeafCut}
 use Rattle.hb_ops.specs.Cutting.{going, is_on, half_area, reached}
 use Rattle.hb_split.specs.Choosing.{heavier_side, count_on, AreChosen, Chooses}
-use Rattle.hb_split.proofs.WaysDown.{tested}
+use Rattle.hb_lemmas.proofs.Booleans.{if_below}
 
 -- both sides have all records
 pub both : (axis value : ℕ) (records : List Record) → count_on Left axis value records + count_on Right axis value records ≡ length records
@@ -25,7 +25,7 @@ half axis value side records e =
     let left = count_on Left axis value records in
     let right = count_on Right axis value records in
     subst (λ (s : Side). length records ≤ 2 * count_on s axis value records) (sym e)
-    (tested left right (λ t. length records ≤ 2 * count_on (if t then Right else Left) axis value records) (λ lt. omega (arith, all, lt)) (λ le. omega (arith, all, le)))
+    (if_below left right (λ t. length records ≤ 2 * count_on (if t then Right else Left) axis value records) (λ lt. omega (arith, all, lt)) (λ le. omega (arith, all, le)))
 
 -- what goes on has at least half of the weight of a leaf with more than one record
 pub goes_half : (n k : ℕ) (cut : LeafCut) (tree : Tree) → 6 ≤ n → Chooses n k cut tree → weight_of tree ≤ 2 * weight_of (going cut tree)

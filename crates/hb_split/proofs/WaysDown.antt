@@ -9,27 +9,15 @@ use Rattle.hb_frag.specs.Trees.{Tree, Tip, Cut}
 use Rattle.hb_frag.specs.Leaves.{leaf_weight, leaves, weight_of}
 use Rattle.hb_split.specs.Choosing.{heavier_side, is_heavy, way_down}
 use Rattle.hb_split.specs.Steps.{own_step}
-
-pub weight_cut : (axis value : ℕ) (l r : Tree) → weight_of (Cut axis value l r) ≡ weight_of l + weight_of r
-weight_cut axis value l r =
-    let both = sum-map leaf_weight (leaves l ++ leaves r) in
-    let apart = sum_by-append leaf_weight (leaves l) (leaves r) in
-    let left = sum-map leaf_weight (leaves l) in
-    let right = sum-map leaf_weight (leaves r) in
-    omega (arith, both, apart, left, right)
-
-pub tested : (a b : ℕ) (P : Bool → Type 0) → (a < b → P true) → (b ≤ a → P false) → P (nat_lt a b)
-tested a b P below from = elim (nat_lt a b) as (λ (t : Bool). nat_lt a b ≡ t → P t) [
-  | true ↦ λ e. below (ltb-true a b e)
-  | false ↦ λ e. from (ltb-false a b e)
-] refl
+use Rattle.hb_frag.proofs.Facts.Parts.{weight_cut}
+use Rattle.hb_lemmas.proofs.Booleans.{if_below}
 
 pub light : (n : ℕ) (t : Tree) → 3 * weight_of t ≤ 2 * n → way_down n t ≡ []
 light n (Tip leaf) h = refl
 light n (Cut axis value l r) h =
     let on : List Side = if nat_lt (weight_of l) (weight_of r) then Right ∷ way_down n r else Left ∷ way_down n l in
     let e = weight_cut axis value l r in
-    tested (2 * n) (3 * (weight_of l + weight_of r)) (λ t. (if t then on else []) ≡ []) (λ lt. absurd (omega (arith, lt, e, h))) (λ le. refl)
+    if_below (2 * n) (3 * (weight_of l + weight_of r)) (λ t. (if t then on else []) ≡ []) (λ lt. absurd (omega (arith, lt, e, h))) (λ le. refl)
 
 one_more : (steps t : List Side) (x : Side) → (steps ++ reverse t) ++ x ∷ [] ≡ steps ++ reverse (x ∷ t)
 one_more steps t x = append_assoc steps (reverse t) (x ∷ []) ∙ ap (λ (z : List Side). steps ++ z) (sym (reverse-append (x ∷ []) t))
@@ -44,8 +32,8 @@ right_none steps s t e = ap (λ (z : List Side). (steps ++ reverse s) ++ reverse
 joined : (n a b : ℕ) (s t steps : List Side) → (3 * a ≤ 2 * n → s ≡ []) → (3 * b ≤ 2 * n → t ≡ []) → a + b ≤ n
     → ((steps ++ reverse s) ++ reverse t) ++ own_step n a b ≡ steps ++ reverse (if is_heavy n (a + b) then (if nat_lt a b then Right ∷ t else Left ∷ s) else [])
 joined n a b s t steps no_s no_t few =
-    tested (2 * n) (3 * (a + b)) (λ h. ((steps ++ reverse s) ++ reverse t) ++ (if h then heavier_side a b ∷ [] else []) ≡ steps ++ reverse (if h then (if nat_lt a b then Right ∷ t else Left ∷ s) else []))
-    (λ lt. tested a b (λ right. ((steps ++ reverse s) ++ reverse t) ++ ((if right then Right else Left) ∷ []) ≡ steps ++ reverse (if right then Right ∷ t else Left ∷ s))
+    if_below (2 * n) (3 * (a + b)) (λ h. ((steps ++ reverse s) ++ reverse t) ++ (if h then heavier_side a b ∷ [] else []) ≡ steps ++ reverse (if h then (if nat_lt a b then Right ∷ t else Left ∷ s) else []))
+    (λ lt. if_below a b (λ right. ((steps ++ reverse s) ++ reverse t) ++ ((if right then Right else Left) ∷ []) ≡ steps ++ reverse (if right then Right ∷ t else Left ∷ s))
     (λ r. let e = no_s (omega (arith, r, few)) in ap (λ (z : List Side). z ++ Right ∷ []) (left_none steps s t e) ∙ one_more steps t Right)
     (λ l. let e = no_t (omega (arith, l, few)) in ap (λ (z : List Side). z ++ Left ∷ []) (right_none steps s t e) ∙ one_more steps s Left))
     (λ le. let e = no_s (omega (arith, le)) in let f = no_t (omega (arith, le)) in append-nil ((steps ++ reverse s) ++ reverse t) ∙ right_none steps s t f ∙ ap (λ (z : List Side). steps ++ reverse z) e)

@@ -40,7 +40,7 @@ pub(crate) fn way_down(alloc: Global, frag: &Frag, total: u32) -> Result<Path, N
 
 /// The part's weight. Adds the steps of its way down, the last of them first. Of two sides at most
 /// one has more than two thirds, so the other one adds none.
-#[tactic(auto, using(crate::proofs::WaysDown::weight_cut))]
+#[tactic(auto, using(hb_frag::proofs::Facts::Parts::weight_cut))]
 fn climb(frag: &Frag, total: u32, steps: &mut SmallVec<Side, 32>) -> Result<u32, NoMemory>
     requires { weight_of frag.now ≤ total }
     ensures weight { IfOk result (λ weight. weight ≡ weight_of frag.now) }

@@ -1,2 +1,1 @@
-pub mod Owing
-pub mod OneMerge
+pub mod Facts

@@ -29,7 +29,7 @@ pub fn a_planned_posting_may_be_made()
 {}
 
 /// A parent, two of its children and a capacity have one plan of a merge at most.
-#[tactic(auto, using(crate::proofs::OneMerge::one_merge))]
+#[tactic(auto, using(crate::proofs::Facts::OneMerge::one_merge))]
 pub fn plans_of_a_merge_exclude_each_other()
     ensures { (parent keep : LivePage) (gone_id : ℕ) (gone : LivePage) (cap : ℕ) (plan other : OneMerge) →
         IsMergePlan parent keep gone_id gone cap plan → IsMergePlan parent keep gone_id gone cap other → plan ≡ other }

@@ -19,7 +19,7 @@ pub enum MergePlan {
 
 /// The plan for a parent, the page to keep, and the page to go with its number, where a page of
 /// their level may weigh at most `cap`. That the parent names both pages isn't tested.
-#[tactic(auto, using(hb_frag::proofs::CarvedKinds::some_weight))]
+#[tactic(auto, using(hb_frag::proofs::Facts::CarvedKinds::some_weight))]
 pub fn merge_plan(
     parent: &LivePage,
     keep: &LivePage,

@@ -20,7 +20,6 @@ use Rattle.hb_core.specs.ChainOfTwo.{lettered, lower_half, lower_three, posts_at
 use Rattle.hb_core.specs.Rows.{Row}
 use Rattle.hb_core.specs.Scenes.{Scene, machine_of, standing, store_of}
 use Rattle.hb_core.specs.Steps.{TakesJob}
-use Rattle.hb_frag.proofs.Stretches.{contains_one}
 use Rattle.hb_frag.specs.Leaves.{leaves, leaves_of}
 use Rattle.hb_frag.specs.Rules.{BelongsAt, IsInOrder}
 use Rattle.hb_ops.specs.Recording.{FitsDel}
@@ -31,6 +30,7 @@ use Rattle.hb_point.specs.SessionRows.{taking}
 use Rattle.hb_sound.proofs.ExampleParts.{each_at, held, in_order, interval, top, within}
 use Rattle.hb_space.specs.Boxes.{side_below, whole_area}
 use Rattle.hb_store.specs.Calls.{IsReady}
+use Rattle.hb_lemmas.proofs.Lists.{only_one}
 
 -- ---- the scenes, one after the other
 
@@ -194,7 +194,7 @@ miss_row = (
 -- ---- the log is ready, and the jobs differ
 
 other_waits : ¬ (Contains (posts_at 20 ∷ []) (posts_at 10))
-other_waits has = let same : 20 ≡ 10 = ap (λ (one : Job). slice_index one.point 0) (contains_one (posts_at 20) (posts_at 10) has) in omega (arith, same)
+other_waits has = let same : 20 ≡ 10 = ap (λ (one : Job). slice_index one.point 0) (only_one (posts_at 20) (posts_at 10) has) in omega (arith, same)
 
 ready_to_post : IsReady (store_of other_taken)
 ready_to_post = (omega arith, omega arith)

@@ -14,10 +14,10 @@ use Rattle.hb_core.specs.Asking.{box_at}
 use Rattle.hb_core.specs.ChainOfTwo.{TwoOnOnePage, full_page, inserts_seventy, lettered, looks_twenty_up, lower_half, posts_at, two_before, upper_half, upper_three}
 use Rattle.hb_core.specs.Rows.{Row}
 use Rattle.hb_core.specs.Scenes.{Scene, machine_of, standing, store_of}
-use Rattle.hb_frag.proofs.Stretches.{contains_one}
 use Rattle.hb_lemmas.specs.Numbers.{big_endian}
 use Rattle.hb_point.specs.SessionRows.{taking}
 use Rattle.hb_store.specs.Calls.{IsReady}
+use Rattle.hb_lemmas.proofs.Lists.{only_one}
 
 -- ---- the scenes, one after the other
 
@@ -119,7 +119,7 @@ find_row = (
 -- ---- the log is ready, and the jobs differ
 
 other_waits : ¬ (Contains (posts_at 0 ∷ []) (posts_at 20))
-other_waits has = let same : 0 ≡ 20 = ap (λ (job : Job). slice_index job.point 0) (contains_one (posts_at 0) (posts_at 20) has) in omega (arith, same)
+other_waits has = let same : 0 ≡ 20 = ap (λ (job : Job). slice_index job.point 0) (only_one (posts_at 0) (posts_at 20) has) in omega (arith, same)
 
 ready_first : IsReady (store_of both_taken)
 ready_first = (omega arith, omega arith)

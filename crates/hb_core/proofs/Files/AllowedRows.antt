@@ -37,8 +37,8 @@ use Rattle.hb_core.specs.Fetching.{Brings}
 use Rattle.hb_core.specs.Keeps.{KnowsRoom, LacksRoomFor}
 use Rattle.hb_core.specs.Machines.{Machine, with_disk, sight}
 use Rattle.hb_core.specs.Rows.{DoesHere, Row, RowAlone, RowAt}
-use Rattle.hb_frag.proofs.CarvedKinds.{carved_light}
-use Rattle.hb_frag.proofs.Tiles.{first_tells, found_where_held, tiles_attributes}
+use Rattle.hb_frag.proofs.Facts.CarvedKinds.{carved_light}
+use Rattle.hb_frag.proofs.Facts.Tiles.{first_tells, found_where_held, tiles_attributes}
 use Rattle.hb_frag.specs.Leaves.{Placed, leaf_at, leaves, leaves_of, weight_of}
 use Rattle.hb_frag.specs.Paths.{part_at}
 use Rattle.hb_frag.specs.Rules.{BelongsAt}
@@ -52,14 +52,14 @@ use Rattle.hb_ops.specs.Standing.{StandsNot, StandsThere}
 use Rattle.hb_poster.specs.PosterRows.{DoesPlan, after_look}
 use Rattle.hb_search.specs.SearchRows.{SearchGoesOn}
 use Rattle.hb_space.specs.Boxes.{Area, Holds, common_area, side_below, side_from}
-use Rattle.hb_split.proofs.Allowed.{is_allowed}
-use Rattle.hb_split.proofs.Ends.{is_thirds}
+use Rattle.hb_split.proofs.Facts.Allowed.{is_allowed}
+use Rattle.hb_split.proofs.Facts.Ends.{is_thirds}
 use Rattle.hb_split.specs.Choosing.{IsChosen}
 use Rattle.hb_store.proofs.MadeLeaves.{back_all, front_all}
 use Rattle.hb_store.specs.Calls.{IsAllowedHere}
 use Rattle.hb_store.specs.NextPage.{IsNext}
 use Rattle.hb_store.specs.States.{IsGoodPage, StoreState, in_memory}
-use Rattle.hb_terms.proofs.Owing.{planned_may_be, room_told}
+use Rattle.hb_terms.proofs.Facts.Owing.{planned_may_be, room_told}
 use Rattle.hb_terms.specs.Plans.{IsPlan, LacksRoom}
 
 -- ---- leaves belong at the level of their page

@@ -14,7 +14,7 @@ use Rattle.hb_activity.specs.declared.wanting.Wanted.{Wanted}
 use Rattle.hb_activity.specs.Wanting.{child_of, in_mode, named_child, named_page, walk_next, wanted_page}
 use Rattle.hb_consol.specs.ConsolidatorRows.{names_child}
 use Rattle.hb_core.specs.Asking.{AskedBox, HasAskedBox, box_at, box_by_leaf, box_of_child, box_of_place, box_of_sibling, first_child_box}
-use Rattle.hb_frag.proofs.Tiles.{leaves_placed}
+use Rattle.hb_frag.proofs.Facts.Tiles.{leaves_placed}
 use Rattle.hb_frag.specs.Leaves.{Placed, child_names, first_at, first_named, leaf_at, leaves, leaves_of, siblings_of}
 use Rattle.hb_frag.specs.Trees.{Tree, Tip, Cut}
 use Rattle.hb_ops.specs.Files.{FileState, live_page}

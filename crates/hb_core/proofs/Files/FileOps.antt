@@ -13,7 +13,7 @@ use Rattle.hb_ops.specs.declared.operations.Op.TheVariants as ops
 use Rattle.hb_core.proofs.Files.GoodChanges.{IsGoodChange}
 use Rattle.hb_core.proofs.Memory.KeptPages.{KeepsPages}
 use Rattle.hb_core.specs.AllowedLaws.{IsPlanned, IsLicensedHere}
-use Rattle.hb_frag.proofs.Tiles.{found_where_held}
+use Rattle.hb_frag.proofs.Facts.Tiles.{found_where_held}
 use Rattle.hb_frag.specs.Paths.{part_at}
 use Rattle.hb_frag.specs.Trees.{Tip}
 use Rattle.hb_log_codec.specs.Groups.{FitsOp}
@@ -29,7 +29,7 @@ use Rattle.hb_store.specs.Calls.{IsAllowedHere, change_here, read_here}
 use Rattle.hb_store.specs.NextPage.{IsNext}
 use Rattle.hb_store.specs.Replay.{set_pages}
 use Rattle.hb_store.specs.States.{StoreState, in_memory}
-use Rattle.hb_terms.proofs.Owing.{planned_may_be, way_ends_there}
+use Rattle.hb_terms.proofs.Facts.Owing.{planned_may_be, way_ends_there}
 
 -- What a store has of a sound file: its words about itself, and its pages in frames.
 pub record ShowsFile (st : StoreState) (s : FileState) : Type 0 where

@@ -15,7 +15,7 @@ use Rattle.hb_ops.specs.declared.operations.Op.{Op}
 use Rattle.hb_ops.specs.declared.operations.Op.TheVariants as ops
 use Rattle.hb_core.proofs.Latches.Backing.{live_there}
 use Rattle.hb_core.specs.AllowedLaws.{IsLicensedHere}
-use Rattle.hb_frag.proofs.Tiles.{first_tells, found_where_held}
+use Rattle.hb_frag.proofs.Facts.Tiles.{first_tells, found_where_held}
 use Rattle.hb_frag.specs.Leaves.{Placed, leaf_at, leaves, leaves_of}
 use Rattle.hb_frag.specs.Trees.{Tree, Tip, Cut}
 use Rattle.hb_log_codec.specs.Groups.{FitsOp}
@@ -30,7 +30,7 @@ use Rattle.hb_store.specs.Making.{HaveFittingParts, IsReadable}
 use Rattle.hb_store.specs.NextPage.{IsNext}
 use Rattle.hb_store.specs.Replaying.{HasLimits}
 use Rattle.hb_store.specs.States.{AreGood, IsGoodPage, StoreState, in_memory}
-use Rattle.hb_terms.proofs.Owing.{planned_may_be}
+use Rattle.hb_terms.proofs.Facts.Owing.{planned_may_be}
 
 abbrev pub HeldArePoints : Type 0
 HeldArePoints = (a : Area) (p : List ℕ) → IsArea a → Holds a p → IsPoint p

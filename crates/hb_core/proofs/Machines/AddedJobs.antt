@@ -33,7 +33,7 @@ use Rattle.hb_consol.specs.MergeRows.{DoesMerge, after_keep}
 use Rattle.hb_core.specs.KeptFits.{CommandFits, IsBoxOf, JobFits, LineFits, boxes_left}
 use Rattle.hb_core.specs.Machines.{Machine, sight}
 use Rattle.hb_core.specs.Rows.{DoesHere, Row, RowAlone, RowAt}
-use Rattle.hb_frag.proofs.Sides.{same-side_from}
+use Rattle.hb_frag.proofs.Facts.Sides.{same-side_from}
 use Rattle.hb_frag.specs.Leaves.{first_named, siblings_of}
 use Rattle.hb_frag.specs.Paths.{part_at}
 use Rattle.hb_frag.specs.Trees.{Tree, Tip, Cut}

@@ -25,11 +25,11 @@ use Rattle.hb_core.proofs.Machines.PieceBoxes.{pieces_are_boxes}
 use Rattle.hb_core.specs.KeptFits.{IsBoxOf, boxes_left}
 use Rattle.hb_core.specs.Machines.{Machine, sight}
 use Rattle.hb_core.specs.Rows.{DoesHere, Row, RowAlone, RowAt}
-use Rattle.hb_frag.proofs.Tiles.{first_tells, tiles_areas, tiles_attributes}
+use Rattle.hb_frag.proofs.Facts.Tiles.{first_tells, tiles_areas, tiles_attributes}
 use Rattle.hb_frag.specs.Leaves.{Placed, leaf_at, leaves_of}
 use Rattle.hb_point.specs.SessionRows.{WantsBoxes}
 use Rattle.hb_search.specs.SearchRows.{Gathers, SearchGoesOn}
-use Rattle.hb_space.proofs.Boxes.{lo_held}
+use Rattle.hb_space.proofs.Facts.Boxes.{lo_held}
 use Rattle.hb_space.specs.Boxes.{Area, Holds, IsArea, common_area, pieces_outside}
 use Rattle.hb_store.specs.States.{IsGoodPage}
 

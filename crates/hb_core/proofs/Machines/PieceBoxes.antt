@@ -4,10 +4,10 @@ use Rattle.std.proofs.lemmas.Bool.{ltb-true}
 use Rattle.std.proofs.lemmas.List.{length-set}
 use Rattle.std.proofs.lemmas.List.Elements.{All-append, All-cons, All-nil}
 use Rattle.hb_core.specs.KeptFits.{IsBoxOf}
-use Rattle.hb_frag.proofs.Sides.{IsArea-side_below, IsArea-side_from, same-side_from}
-use Rattle.hb_space.proofs.Boxes.{IsArea-common_area, Meets-from_point, Within-common_area}
-use Rattle.hb_space.proofs.Lists.{length-zip_by}
-use Rattle.hb_space.proofs.Outside.{Inner, Inner-rest_between, above_cuts, below_cuts}
+use Rattle.hb_frag.proofs.Facts.Sides.{IsArea-side_below, IsArea-side_from, same-side_from}
+use Rattle.hb_space.proofs.Facts.Boxes.{IsArea-common_area, Meets-from_point, Within-common_area}
+use Rattle.hb_space.proofs.Facts.Lists.{length-zip_by}
+use Rattle.hb_space.proofs.Facts.Outside.{Inner, Inner-rest_between, above_cuts, below_cuts}
 use Rattle.hb_space.specs.Boxes.{Area, Holds, IsArea, Within, common_area, pieces_above, pieces_below, pieces_from, pieces_outside, rest_between, side_below, side_from}
 
 -- a piece, where there is one

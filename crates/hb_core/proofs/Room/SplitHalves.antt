@@ -40,7 +40,7 @@ use Rattle.hb_ops.specs.Sound.{FitsFile}
 use Rattle.hb_ops.specs.Standing.{StandsNot}
 use Rattle.hb_point.specs.SplitRows.{Splits}
 use Rattle.hb_space.specs.Boxes.{Area, IsArea}
-use Rattle.hb_split.proofs.Ends.{is_thirds}
+use Rattle.hb_split.proofs.Facts.Ends.{is_thirds}
 use Rattle.hb_split.specs.Laws.{IsThirds}
 use Rattle.hb_store.specs.Calls.{change_here, read_here}
 use Rattle.hb_store.specs.Replay.{set_pages}

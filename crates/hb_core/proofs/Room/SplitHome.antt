@@ -14,7 +14,7 @@ use Rattle.hb_ops.specs.declared.leaf_cuts.LeafCut.{LeafCut}
 use Rattle.hb_frag.specs.Leaves.{DirectlyHolds, Placed, leaf_at, leaves, leaves_of, records_of, siblings_of}
 use Rattle.hb_frag.specs.Rules.{BelongsAt, IsInOrder}
 use Rattle.hb_frag.specs.Trees.{Tree, Tip}
-use Rattle.hb_ops.proofs.Tips.{first_held}
+use Rattle.hb_ops.proofs.Facts.Tips.{first_held}
 use Rattle.hb_ops.proofs.Facts.CutLeafLaws.{StemsFrom}
 use Rattle.hb_ops.specs.Cutting.{area_on, cut_through, cut_with, going, half_area, reached, staying}
 use Rattle.hb_ops.specs.Extracting.{FitsPart, fresh_page, source_page}

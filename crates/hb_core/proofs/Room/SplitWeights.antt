@@ -4,7 +4,7 @@ use Rattle.hb_frag.specs.declared.leaves.Leaf.TheVariants.{Sibling}
 use Rattle.hb_frag.specs.declared.paths.Side.{Side}
 use Rattle.hb_frag.specs.declared.paths.Side.TheVariants.{Left, Right}
 use Rattle.hb_ops.specs.declared.leaf_cuts.LeafCut.{LeafCut}
-use Rattle.hb_frag.proofs.Parts.{weight_cut}
+use Rattle.hb_frag.proofs.Facts.Parts.{weight_cut}
 use Rattle.hb_frag.specs.Leaves.{weight_of}
 use Rattle.hb_frag.specs.Trees.{Tree, Tip}
 use Rattle.hb_ops.specs.Cutting.{PartLeaves, PartsLeaf, cut_through, cut_with, going, half_area, reached, staying}

@@ -14,7 +14,7 @@ use Rattle.hb_frag.specs.Leaves.{first_named, siblings_of}
 use Rattle.hb_frag.specs.Rules.{capacity_of}
 use Rattle.hb_space.specs.Boxes.{Area}
 use Rattle.hb_store.specs.States.{StoreState}
-use Rattle.hb_terms.proofs.OneMerge.{one_merge}
+use Rattle.hb_terms.proofs.Facts.OneMerge.{one_merge}
 use Rattle.hb_terms.specs.Merging.{IsMergePlan}
 
 module _ (m : Machine) (f g : StoreState) where

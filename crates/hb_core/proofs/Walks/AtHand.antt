@@ -39,7 +39,7 @@ use Rattle.hb_core.specs.Machines.{Machine, live_here, with_disk}
 use Rattle.hb_core.specs.Performing.{latches_held, mode_among}
 use Rattle.hb_core.specs.Rows.{IsAtHand}
 use Rattle.hb_core.specs.WaitingLaws.{Promotes}
-use Rattle.hb_frag.proofs.Tiles.{leaves_placed}
+use Rattle.hb_frag.proofs.Facts.Tiles.{leaves_placed}
 use Rattle.hb_frag.specs.Leaves.{Placed, first_named, leaf_at, leaves, leaves_of, siblings_of}
 use Rattle.hb_frag.specs.Rules.{BelongsAt}
 use Rattle.hb_latch.specs.Tables.{MayLatch}

@@ -8,19 +8,19 @@ use Rattle.std.proofs.lemmas.List.Elements.{All-contains}
 use Rattle.hb_space.specs.Boxes.{Area, Holds, whole_area}
 use Rattle.hb_space.specs.Points.{IsPoint}
 use Rattle.hb_space.specs.declared.records.Record.{Record}
-use Rattle.hb_space.proofs.Boxes.{Holds-whole_area}
+use Rattle.hb_space.proofs.Facts.Boxes.{Holds-whole_area}
 use Rattle.hb_frag.specs.declared.leaves.Leaf.{Leaf}
 use Rattle.hb_frag.specs.declared.leaves.Leaf.TheVariants.{Records, Child, Sibling}
 use Rattle.hb_frag.specs.declared.pages.LivePage.{LivePage}
 use Rattle.hb_frag.specs.declared.pages.Page.TheVariants.{Live}
-use Rattle.hb_frag.proofs.Tiles.{first_tells}
+use Rattle.hb_frag.proofs.Facts.Tiles.{first_tells}
 use Rattle.hb_frag.specs.Leaves.{DirectlyHolds, Placed, leaf_at}
 use Rattle.hb_latch.specs.declared.modes.Mode.{Mode}
 use Rattle.hb_latch.specs.declared.modes.Mode.TheVariants.{Exclusive}
 use Rattle.hb_latch.specs.Tables.{MayLatch}
 use Rattle.hb_ops.specs.Files.{if_live}
 use Rattle.hb_layout.specs.declared.meta.Meta.{Meta}
-use Rattle.hb_ops.proofs.Tips.{first_held}
+use Rattle.hb_ops.proofs.Facts.Tips.{first_held}
 use Rattle.hb_ops.proofs.Facts.PlacedLaws.{placed}
 use Rattle.hb_set.specs.declared.commands.Command.{Command}
 use Rattle.hb_set.specs.declared.commands.Command.TheVariants.{Insert, Delete, Lookup, Search}

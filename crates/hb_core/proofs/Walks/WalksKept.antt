@@ -31,7 +31,7 @@ use Rattle.hb_core.specs.Machines.{Machine, live_here}
 use Rattle.hb_core.specs.Performing.{Performs, latches_held, mode_among}
 use Rattle.hb_core.specs.Steps.{StepsTo, Works}
 use Rattle.hb_latch.specs.Tables.{MayLatch}
-use Rattle.hb_ops.proofs.Tips.{first_held}
+use Rattle.hb_ops.proofs.Facts.Tips.{first_held}
 use Rattle.hb_ops.specs.Files.{if_live}
 use Rattle.hb_space.specs.Boxes.{Holds}
 use Rattle.hb_store.specs.States.{StoreState, in_memory}

@@ -14,15 +14,7 @@ use Rattle.hb_ops.specs.declared.leaf_cuts.LeafCut.{LeafCut}
 use Rattle.hb_ops.specs.Cutting.{PartLeaves, PartsLeaf, area_on, cut_through, cut_with, going, half_area, half_on, is_on, other_side, reached, staying}
 use Rattle.hb_ops.proofs.Facts.LeafHalfLaws.{half_in_order, side_attributes}
 use Rattle.hb_ops.proofs.Facts.PlacedLaws.{placed}
-use Rattle.hb_lemmas.proofs.Lists.{only_one}
-
--- what a filter keeps was there
-filter_has : {X : Type 0} (p : X → Bool) (xs : List X) (x : X) → Contains (filter p xs) x → Contains xs x
-filter_has p [] x (k, lt, e) = absurd (omega arith)
-filter_has p (y ∷ ys) x has = elim (p y) as (λ b. Contains (cond b (y ∷ filter p ys) (filter p ys)) x → Contains (y ∷ ys) x) [
-  | true ↦ λ h. elim (Contains-append_cases (y ∷ []) (filter p ys) x h) [ inl l ↦ (zero, omega arith, only_one y x l) | inr r ↦ Contains-append_right (y ∷ []) ys x (filter_has p ys x r) ]
-  | false ↦ λ h. Contains-append_right (y ∷ []) ys x (filter_has p ys x h)
-] has
+use Rattle.hb_lemmas.proofs.Lists.{only_one, filter_has}
 
 -- the leaf has some of the records of one of the old leaves, and is in order where that one is
 pub record IsShareOf (old : List Placed) (x : Placed) : Type 0 where

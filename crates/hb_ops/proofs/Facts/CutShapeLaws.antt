@@ -11,6 +11,7 @@ use Rattle.hb_frag.specs.Rules.{AreAlike, IsNormal, IsSiblingTip}
 use Rattle.hb_ops.specs.declared.leaf_cuts.LeafCut.{LeafCut}
 use Rattle.hb_ops.specs.Cutting.{PartLeaves, PartsLeaf, cut_through, cut_with, going, half_area, reached, staying}
 use Rattle.hb_ops.proofs.Facts.LeafHalfLaws.{both_halves}
+use Rattle.hb_frag.proofs.Facts.Parts.{weight_cut}
 
 -- a tree that is like none beside it
 abbrev pub LikeNone : Tree → Type 0
@@ -73,10 +74,6 @@ through_normal fresh (cut ∷ cuts) tree = normal_with cut.side cut.axis cut.val
 pub reached_normal : (cuts : List LeafCut) (tree : Tree) (area : Area) → IsNormal tree → IsNormal (reached cuts tree area).0
 reached_normal [] tree area h = h
 reached_normal (cut ∷ cuts) tree area h = reached_normal cuts (going cut tree) (half_area cut area) tt
-
--- a cut weighs what its sides weigh together
-weight_cut : (axis value : ℕ) (left right : Tree) → weight_of (Cut axis value left right) ≡ weight_of left + weight_of right
-weight_cut axis value left right = grind (arith, common_steps)
 
 weight_with : (side : Side) (axis value : ℕ) (on off : Tree) → weight_of (cut_with side axis value on off) ≡ weight_of on + weight_of off
 weight_with Left axis value on off = weight_cut axis value on off

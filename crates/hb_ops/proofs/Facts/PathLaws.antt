@@ -9,6 +9,7 @@ use Rattle.hb_frag.specs.Rules.{IsNormal, IsSiblingTip}
 use Rattle.hb_frag.specs.Paths.{part_at, with_part}
 use Rattle.hb_ops.proofs.Facts.CutShapeLaws.{LikeNone, cut_like_none}
 use Rattle.hb_ops.proofs.Facts.LeafHalfLaws.{side_attributes}
+use Rattle.std.proofs.lemmas.Option.{same_Some}
 
 -- what a part has from its tree
 pub record HasFrom (t : Tree) (area : Area) (w : Tree × Area) : Type 0 where
@@ -16,14 +17,10 @@ pub record HasFrom (t : Tree) (area : Area) (w : Tree × Area) : Type 0 where
   pub well_cut : IsWellCut w.0 w.1
   pub normal : IsNormal w.0
 
--- the empty path leads to the root
-pub the_root : (t : Tree) (area : Area) (w : Tree × Area) → Some (t, area) ≡ Some w → (t, area) ≡ w
-the_root t area w e = cc
-
 -- a part that a path leads to has it
 pub part_has : (path : List Side) (t : Tree) (area : Area) (w : Tree × Area) → part_at path t area ≡ Some w → IsWellCut t area → IsNormal t → HasFrom t area w
 part_has [] t area w e cut normal =
-    subst (λ (w : Tree × Area). HasFrom t area w) (the_root t area w e) (record { attributes = refl; well_cut = cut; normal = normal })
+    subst (λ (w : Tree × Area). HasFrom t area w) (same_Some (t, area) w e) (record { attributes = refl; well_cut = cut; normal = normal })
 part_has (Left ∷ path) (Tip leaf) area w e cut normal = absurd (cc)
 part_has (Right ∷ path) (Tip leaf) area w e cut normal = absurd (cc)
 part_has (Left ∷ path) (Cut axis value left right) area w e cut normal =
@@ -35,7 +32,7 @@ part_has (Right ∷ path) (Cut axis value left right) area w e cut normal =
 
 -- the tree with another part in its place is as well cut as that one
 pub well_cut_again : (path : List Side) (t : Tree) (area : Area) (w : Tree × Area) (other : Tree) → part_at path t area ≡ Some w → IsWellCut t area → IsWellCut other w.1 → IsWellCut (with_part path t other) area
-well_cut_again [] t area w other e cut well = subst (λ (w : Tree × Area). IsWellCut other w.1) (sym (the_root t area w e)) well
+well_cut_again [] t area w other e cut well = subst (λ (w : Tree × Area). IsWellCut other w.1) (sym (same_Some (t, area) w e)) well
 well_cut_again (Left ∷ path) (Tip leaf) area w other e cut well = absurd (cc)
 well_cut_again (Right ∷ path) (Tip leaf) area w other e cut well = absurd (cc)
 well_cut_again (Left ∷ path) (Cut axis value left right) area w other e cut well = (cut.0, well_cut_again path left (side_below area axis value) w other e cut.1 well, cut.2)

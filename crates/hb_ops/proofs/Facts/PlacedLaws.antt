@@ -7,6 +7,7 @@ use Rattle.hb_frag.specs.declared.leaves.Leaf.{Leaf}
 use Rattle.hb_frag.specs.Trees.{Tree, Tip, Cut}
 use Rattle.hb_frag.specs.Leaves.{Placed, leaves, leaves_of, siblings}
 use Rattle.hb_frag.specs.declared.leaves.Leaf.TheVariants.{Records, Child, Sibling}
+use Rattle.hb_lemmas.proofs.Lists.{later_member}
 
 -- a leaf with its box
 abbrev pub placed : Leaf → Area → Placed
@@ -31,31 +32,23 @@ each_leaf P (Cut axis value left right) area h =
     (each_leaf P left (side_below area axis value) (λ x has. h x (Contains-append_left below from x has)))
     (each_leaf P right (side_from area axis value) (λ x has. h x (Contains-append_right below from x has)))
 
--- what is in a list is in one that has another before it
-later : (x : Placed) (xs : List Placed) (y : Placed) → Contains xs y → Contains (x ∷ xs) y
-later x xs y h = (suc h.0, omega (arith, h.1), h.2)
-
 -- what a page names as a sibling is a sibling leaf of it, with its box
 is_leaf : (leaf : Leaf) (area : Area) (xs : List Placed) (name : ℕ) (a : Area) → (Contains (siblings xs) (name, a) → Contains xs (placed (Sibling name) a)) → Contains (siblings (placed leaf area ∷ xs)) (name, a) → Contains (placed leaf area ∷ xs) (placed (Sibling name) a)
-is_leaf (Records records) area xs name a rest h = later (placed (Records records) area) xs (placed (Sibling name) a) (rest h)
-is_leaf (Child page) area xs name a rest h = later (placed (Child page) area) xs (placed (Sibling name) a) (rest h)
+is_leaf (Records records) area xs name a rest h = later_member (placed (Records records) area) xs (placed (Sibling name) a) (rest h)
+is_leaf (Child page) area xs name a rest h = later_member (placed (Child page) area) xs (placed (Sibling name) a) (rest h)
 is_leaf (Sibling page) area xs name a rest (zero, lt, e) = (zero, omega arith, ap (λ (s : ℕ × Area). placed (Sibling s.0) s.1) e)
-is_leaf (Sibling page) area xs name a rest (suc k, lt, e) = later (placed (Sibling page) area) xs (placed (Sibling name) a) (rest (k, omega arith, e))
+is_leaf (Sibling page) area xs name a rest (suc k, lt, e) = later_member (placed (Sibling page) area) xs (placed (Sibling name) a) (rest (k, omega arith, e))
 
 -- so it is among all leaves
 pub sibling_is_leaf : (xs : List Placed) (name : ℕ) (a : Area) → Contains (siblings xs) (name, a) → Contains xs (placed (Sibling name) a)
 sibling_is_leaf [] name a (k, lt, e) = absurd (omega arith)
 sibling_is_leaf (x ∷ xs) name a h = is_leaf x.leaf x.area xs name a (sibling_is_leaf xs name a) h
 
--- the same of names with their boxes
-further : (s : ℕ × Area) (xs : List (ℕ × Area)) (y : ℕ × Area) → Contains xs y → Contains (s ∷ xs) y
-further s xs y h = (suc h.0, omega (arith, h.1), h.2)
-
 -- a sibling leaf behind another leaf
 is_sibling : (leaf : Leaf) (area : Area) (xs : List Placed) (name : ℕ) (a : Area) → Contains (siblings xs) (name, a) → Contains (siblings (placed leaf area ∷ xs)) (name, a)
 is_sibling (Records records) area xs name a h = h
 is_sibling (Child page) area xs name a h = h
-is_sibling (Sibling page) area xs name a h = further (page, area) (siblings xs) (name, a) h
+is_sibling (Sibling page) area xs name a h = later_member (page, area) (siblings xs) (name, a) h
 
 -- and one in front
 first_is : (leaf : Leaf) (area : Area) (xs : List Placed) (name : ℕ) (a : Area) → leaf ≡ Sibling name → area ≡ a → Contains (siblings (placed leaf area ∷ xs)) (name, a)

@@ -1,7 +1,7 @@
 -- A stable sort by the points.
 use Rattle.std.proofs.Common.{rules}
 use Rattle.std.proofs.lemmas.Result.{on_ok_weaker}
-use Rattle.hb_frag.proofs.PointOrder.{sorted_by_points}
+use Rattle.hb_frag.proofs.Facts.PointOrder.{sorted_by_points}
 use Rattle.hb_frag.proofs.joining.put_in_order.Goals as goal
 
 pub returns : goal.returns

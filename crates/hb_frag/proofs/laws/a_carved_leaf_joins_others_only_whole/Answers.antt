@@ -1,4 +1,4 @@
-use Rattle.hb_frag.proofs.CarvedPages.{carved_stays, carved_whole, carved_room}
+use Rattle.hb_frag.proofs.Facts.CarvedPages.{carved_stays, carved_whole, carved_room}
 use Rattle.hb_frag.proofs.laws.a_carved_leaf_joins_others_only_whole.Goals as goal
 
 pub returns-clause-stays : goal.returns-clause-stays

@@ -1,4 +1,4 @@
-use Rattle.hb_frag.proofs.Tiles.{leaves_changed, cuts_kept}
+use Rattle.hb_frag.proofs.Facts.Tiles.{leaves_changed, cuts_kept}
 use Rattle.hb_frag.proofs.laws.a_change_stays_at_its_leaf.Goals as goal
 
 pub returns-clause-leaves : goal.returns-clause-leaves

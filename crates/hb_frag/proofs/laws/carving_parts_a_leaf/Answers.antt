@@ -1,6 +1,6 @@
 use Rattle.std.proofs.Common.{length}
 use Rattle.hb_space.specs.Boxes.{common_area}
-use Rattle.hb_frag.proofs.CarvedKinds.{no_siblings, carved_normal, carved_light}
+use Rattle.hb_frag.proofs.Facts.CarvedKinds.{no_siblings, carved_normal, carved_light}
 use Rattle.hb_frag.proofs.CarvedParts.{carving_parts}
 use Rattle.hb_frag.proofs.laws.carving_parts_a_leaf.Goals as goal
 

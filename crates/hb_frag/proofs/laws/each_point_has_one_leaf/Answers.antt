@@ -1,4 +1,4 @@
-use Rattle.hb_frag.proofs.Tiles.{found_where_held, first_tells}
+use Rattle.hb_frag.proofs.Facts.Tiles.{found_where_held, first_tells}
 use Rattle.hb_frag.proofs.laws.each_point_has_one_leaf.Goals as goal
 
 pub returns-clause-some : goal.returns-clause-some

@@ -1,4 +1,4 @@
-use Rattle.hb_frag.proofs.Tiles.{tiles_areas, tiles_attributes, tiles_within, tiles_disjoint, tiles_cover}
+use Rattle.hb_frag.proofs.Facts.Tiles.{tiles_areas, tiles_attributes, tiles_within, tiles_disjoint, tiles_cover}
 use Rattle.hb_frag.proofs.laws.leaves_part_the_box.Goals as goal
 
 pub returns-clause-areas : goal.returns-clause-areas

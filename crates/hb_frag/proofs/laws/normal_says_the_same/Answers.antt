@@ -1,5 +1,5 @@
 use Rattle.hb_frag.proofs.Normals.{normal_is, normal_stays}
-use Rattle.hb_frag.proofs.SayingTheSame.{says_the_same}
+use Rattle.hb_frag.proofs.Facts.SayingTheSame.{says_the_same}
 use Rattle.hb_frag.proofs.laws.normal_says_the_same.Goals as goal
 
 pub returns-clause-normal : goal.returns-clause-normal

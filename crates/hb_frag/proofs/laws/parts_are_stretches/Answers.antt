@@ -1,4 +1,4 @@
-use Rattle.hb_frag.proofs.Parts.{part_stretch, part_fits, part_weighs}
+use Rattle.hb_frag.proofs.Facts.Parts.{part_stretch, part_fits, part_weighs}
 use Rattle.hb_frag.proofs.laws.parts_are_stretches.Goals as goal
 
 pub returns-clause-leaves : goal.returns-clause-leaves

@@ -1,4 +1,4 @@
-use Rattle.hb_frag.proofs.PointOrder.{order_permutes, order_sorted, ties_order}
+use Rattle.hb_frag.proofs.Facts.PointOrder.{order_permutes, order_sorted, ties_order}
 use Rattle.hb_frag.proofs.laws.point_order_is_a_stable_order.Goals as goal
 
 pub returns-clause-same : goal.returns-clause-same

@@ -1,4 +1,4 @@
-use Rattle.hb_frag.proofs.Points.{way_ends}
+use Rattle.hb_frag.proofs.Facts.Points.{way_ends}
 use Rattle.hb_frag.proofs.laws.ways_lead_to_leaves.Goals as goal
 
 pub returns : goal.returns

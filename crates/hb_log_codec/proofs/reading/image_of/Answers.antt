@@ -2,8 +2,9 @@ use Rattle.std.proofs.Common.{◌≡◌, ◌++◌, arith}
 use Rattle.std.proofs.lemmas.Result.{err_from_is_err_and}
 use Rattle.hb_space.specs.declared.form.TheConstants.{PAGE}
 use Rattle.hb_page_codec.specs.Reading.{number_at}
-use Rattle.hb_log_codec.proofs.GroupReads.{halves, read_some, image_short, image_refused, image_begins}
+use Rattle.hb_log_codec.proofs.GroupReads.{image_short, image_refused, image_begins, halves}
 use Rattle.hb_log_codec.proofs.reading.image_of.Goals as goal
+use Rattle.hb_page_codec.proofs.Facts.Refusals.{read_some}
 
 pub returns-then-rest-lt-PAGE : goal.returns-then-rest-lt-PAGE
 returns-then-rest-lt-PAGE c =

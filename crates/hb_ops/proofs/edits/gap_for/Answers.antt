@@ -1,5 +1,5 @@
 use Rattle.std.proofs.Common.{arith}
-use Rattle.hb_ops.proofs.Opened.{gap_found, no_room, open_by_put, rising_at, taken, weighs_little}
+use Rattle.hb_ops.proofs.Facts.Opened.{gap_found, no_room, open_by_put, rising_at, taken, weighs_little}
 use Rattle.hb_ops.proofs.edits.gap_for.Goals as goal
 
 pub place_of-requires : goal.place_of-requires

@@ -1,4 +1,4 @@
-use Rattle.hb_ops.proofs.Opened.{missing, open_by_del, place_found, rising_at}
+use Rattle.hb_ops.proofs.Facts.Opened.{missing, open_by_del, place_found, rising_at}
 use Rattle.hb_ops.proofs.edits.place_in.Goals as goal
 
 pub place_of-requires : goal.place_of-requires

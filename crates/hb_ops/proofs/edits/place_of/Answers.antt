@@ -1,7 +1,7 @@
 use Rattle.std.proofs.Common.{rules}
 use Rattle.std.proofs.lemmas.Fn.{always_returns_same}
 use Rattle.hb_space.specs.Points.{point_cmp}
-use Rattle.hb_ops.proofs.Places.{found_at, gap_at}
+use Rattle.hb_ops.proofs.Facts.Places.{found_at, gap_at}
 use Rattle.hb_ops.proofs.edits.place_of.Goals as goal
 
 -- the closure compares a record's point

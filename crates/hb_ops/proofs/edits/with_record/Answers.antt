@@ -2,8 +2,8 @@ use Rattle.std.proofs.Common.{◌≡◌, IfOk, sym, subst, ◌∙◌}
 use Rattle.hb_space.specs.declared.records.Record.{Record}
 use Rattle.hb_frag.specs.declared.pages.LivePage.{LivePage}
 use Rattle.hb_ops.specs.Recording.{joined}
-use Rattle.hb_ops.proofs.Opened.{page_made}
-use Rattle.hb_ops.proofs.Places.{joined_at}
+use Rattle.hb_ops.proofs.Facts.Opened.{page_made}
+use Rattle.hb_ops.proofs.Facts.Places.{joined_at}
 use Rattle.hb_ops.proofs.edits.with_record.Goals as goal
 
 pub returns : goal.returns

@@ -1,4 +1,4 @@
-use Rattle.hb_ops.proofs.Opened.{way_stays}
+use Rattle.hb_ops.proofs.Facts.Opened.{way_stays}
 use Rattle.hb_ops.proofs.edits.with_records.Goals as goal
 
 pub copy_with-requires : goal.copy_with-requires

@@ -1,8 +1,8 @@
 use Rattle.std.proofs.Common.{◌≡◌, IfOk, sym, subst, ◌∙◌}
 use Rattle.hb_frag.specs.declared.pages.LivePage.{LivePage}
 use Rattle.hb_ops.specs.Recording.{without}
-use Rattle.hb_ops.proofs.Opened.{page_made, rising_at}
-use Rattle.hb_ops.proofs.Places.{without_at}
+use Rattle.hb_ops.proofs.Facts.Opened.{page_made, rising_at}
+use Rattle.hb_ops.proofs.Facts.Places.{without_at}
 use Rattle.hb_ops.proofs.edits.without_record.Goals as goal
 
 pub returns : goal.returns

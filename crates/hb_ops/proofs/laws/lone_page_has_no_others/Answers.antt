@@ -1,4 +1,4 @@
-use Rattle.hb_ops.proofs.Contents.{lone_page}
+use Rattle.hb_ops.proofs.Facts.Contents.{lone_page}
 use Rattle.hb_ops.proofs.laws.lone_page_has_no_others.Goals as goal
 
 pub returns : goal.returns

@@ -1,4 +1,4 @@
-use Rattle.hb_ops.proofs.Contents.{put_adds_one}
+use Rattle.hb_ops.proofs.Facts.Contents.{put_adds_one}
 use Rattle.hb_ops.proofs.laws.put_adds_one_record.Goals as goal
 
 pub returns : goal.returns

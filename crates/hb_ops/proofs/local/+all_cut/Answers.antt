@@ -1,7 +1,8 @@
 use Rattle.std.proofs.Common.{ℕ, ◌-◌, ◌<◌, List, length, sym, subst, ◌∙◌}
 use Rattle.std.proofs.lemmas.Bool.{false≢true}
-use Rattle.hb_ops.proofs.Corners.{both_cut, in_changed, in_hi, in_lo, left_uncut, put_back}
+use Rattle.hb_ops.proofs.Facts.Corners.{both_cut, in_changed, in_hi, in_lo, left_uncut}
 use Rattle.hb_ops.proofs.local.+all_cut.Goals as goal
+use Rattle.hb_lemmas.proofs.Lists.{put_back}
 
 pub returns-then-below-clause-cut : goal.returns-then-below-clause-cut
 returns-then-below-clause-cut t c =

@@ -1,6 +1,7 @@
 use Rattle.std.proofs.Common.{List, sym, ap, length, ℕ, ◌∙◌}
-use Rattle.hb_ops.proofs.Corners.{few_values, front, front_fits, front_length, room_length, same_box}
+use Rattle.hb_ops.proofs.Facts.Corners.{few_values, front_fits, front_length, room_length, same_box}
 use Rattle.hb_ops.proofs.local.is_cut.Goals as goal
+use Rattle.hb_lemmas.proofs.Lists.{front_copied}
 
 pub slice_bounds-lo-end : goal.slice_bounds-lo-end
 slice_bounds-lo-end c = few_values _ _ c.values-count.ensures.value c.values-count.ensures.point
@@ -59,4 +60,4 @@ returns c =
     let count = ap (λ (l : List ℕ). length l) (c.values-count.ensures.value ∙ c.lo.ensures.value) in
     let area = c.lo.ensures.area in
     same_box c.args.page.now.frag c.args.page.now.area _ _ c.all_cut.result
-    (front _ _ c.args.page.now.area.lo _ count lo) (front _ _ c.args.page.now.area.hi _ (count ∙ area.same) hi) c.all_cut.ensures.cut
+    (front_copied _ _ c.args.page.now.area.lo _ count lo) (front_copied _ _ c.args.page.now.area.hi _ (count ∙ area.same) hi) c.all_cut.ensures.cut

@@ -1,4 +1,4 @@
-use Rattle.hb_ops.proofs.Places.{gap_lacks}
+use Rattle.hb_ops.proofs.Facts.Places.{gap_lacks}
 use Rattle.hb_ops.proofs.looking.among.Goals as goal
 
 pub returns-in-Err : goal.returns-in-Err

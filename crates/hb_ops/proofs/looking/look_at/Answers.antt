@@ -1,6 +1,6 @@
 use Rattle.std.proofs.Common.{◌∙◌, ap, Some, inl, inr}
 use Rattle.hb_frag.specs.declared.leaves.Leaf.{Leaf}
-use Rattle.hb_ops.proofs.Opened.{rising_at}
+use Rattle.hb_ops.proofs.Facts.Opened.{rising_at}
 use Rattle.hb_ops.proofs.looking.look_at.Goals as goal
 
 pub among-requires : goal.among-requires

@@ -3,7 +3,7 @@ use Rattle.std.proofs.lemmas.Result.{err_from_is_err_and}
 use Rattle.hb_page_codec.specs.Memory.{IsCutOrRecords, BeginsWithMany}
 use Rattle.hb_page_codec.specs.ReadingPages.{head_at}
 use Rattle.hb_page_codec.specs.ReadingFields.{area_at}
-use Rattle.hb_page_codec.proofs.Refusals.{read_some}
+use Rattle.hb_page_codec.proofs.Facts.Refusals.{read_some}
 use Rattle.hb_page_codec.proofs.Decoded.{wants_then, begins}
 use Rattle.hb_page_codec.proofs.decoding.live_of.Goals as goal
 

@@ -2,9 +2,9 @@ use Rattle.std.proofs.Common.{◌≡◌, List, ℕ, length, ap, subst, slice_ind
 use Rattle.std.specs.List.{flat_map}
 use Rattle.hb_lemmas.specs.Numbers.{big_endian}
 use Rattle.hb_page_codec.specs.Writing.{Wrote}
-use Rattle.hb_page_codec.proofs.Fields.{length_number}
 use Rattle.hb_page_codec.proofs.Writes.{room_for, Wrote-next, Wrote-nothing, wrote_all}
 use Rattle.hb_page_codec.proofs.encoding.put_point.Goals as goal
+use Rattle.hb_lemmas.proofs.Numbers.{length_big_endian}
 
 pub put_u64-end-requires : goal.put_u64-end-requires
 put_u64-end-requires c =
@@ -12,7 +12,7 @@ put_u64-end-requires c =
     let i = c.loop-value.value-index in
     let room = room_for (big_endian 8) xs i 0 c.loop-value-test.true in
     let all : length (flat_map (big_endian 8) xs) ≡ length (flat_map (big_endian 8) c.args.point.now) = ap (λ (p : List ℕ). length (flat_map (big_endian 8) p)) c.values-value-items.ensures.value in
-    omega (arith, room, all, length_number 8 (slice_index_or xs i 0), c.requires, c.loop-value.invariant.behind, c.loop-value.auto.into)
+    omega (arith, room, all, length_big_endian 8 (slice_index_or xs i 0), c.requires, c.loop-value.invariant.behind, c.loop-value.auto.into)
 
 pub loop-value-preserved : goal.loop-value-preserved
 loop-value-preserved c =

@@ -3,7 +3,7 @@ use Rattle.std.proofs.lemmas.Result.{err_from_is_err_and}
 use Rattle.hb_space.specs.declared.records.Record.{Record}
 use Rattle.hb_page_codec.specs.ReadingFields.{record_at, records_at}
 use Rattle.hb_page_codec.proofs.Facts.LoopLaws.{goes_on, stops, is_done}
-use Rattle.hb_page_codec.proofs.Refusals.{fails, read_some, read_none}
+use Rattle.hb_page_codec.proofs.Facts.Refusals.{fails, read_some, read_none}
 use Rattle.hb_page_codec.proofs.fragments.records_of.Goals as goal
 
 pub returns-in_err-record-clause-gives : goal.returns-in_err-record-clause-gives

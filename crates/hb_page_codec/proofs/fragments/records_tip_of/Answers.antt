@@ -2,7 +2,7 @@ use Rattle.std.proofs.Common.{◌<◌}
 use Rattle.std.proofs.lemmas.Result.{err_from_is_err_and}
 use Rattle.hb_page_codec.specs.Memory.{IsSomeCount}
 use Rattle.hb_page_codec.specs.ReadingFields.{count_at}
-use Rattle.hb_page_codec.proofs.Refusals.{read_some}
+use Rattle.hb_page_codec.proofs.Facts.Refusals.{read_some}
 use Rattle.hb_page_codec.proofs.Decoded.{wants_then, some_count}
 use Rattle.hb_page_codec.proofs.fragments.records_tip_of.Goals as goal
 

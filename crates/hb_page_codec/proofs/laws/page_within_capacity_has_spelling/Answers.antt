@@ -1,4 +1,4 @@
-use Rattle.hb_page_codec.proofs.Weights.{filled_page_short, free_page_short}
+use Rattle.hb_page_codec.proofs.Facts.Weights.{filled_page_short, free_page_short}
 use Rattle.hb_page_codec.proofs.laws.page_within_capacity_has_spelling.Goals as goal
 
 pub returns-clause-live : goal.returns-clause-live

@@ -1,5 +1,5 @@
-use Rattle.hb_page_codec.proofs.PageLaws.{has_spelling, one_spelling, one_page}
-use Rattle.hb_page_codec.proofs.Weights.{is_light}
+use Rattle.hb_page_codec.proofs.Facts.PageLaws.{has_spelling, one_spelling, one_page}
+use Rattle.hb_page_codec.proofs.Facts.Weights.{is_light}
 use Rattle.hb_page_codec.proofs.laws.spelling_law.Goals as goal
 
 pub returns-clause-exists : goal.returns-clause-exists

@@ -1,4 +1,4 @@
-use Rattle.hb_space.proofs.Boxes.{disjoint_by_meeting}
+use Rattle.hb_space.proofs.Facts.Boxes.{disjoint_by_meeting}
 use Rattle.hb_space.proofs.laws.apart_is_disjoint.Goals as goal
 
 pub returns : goal.returns

@@ -1,4 +1,4 @@
-use Rattle.hb_space.proofs.Boxes.{IsArea-common_area, Holds-common_area, Within-common_area}
+use Rattle.hb_space.proofs.Facts.Boxes.{IsArea-common_area, Holds-common_area, Within-common_area}
 use Rattle.hb_space.proofs.laws.common_box_is_a_box.Goals as goal
 
 pub returns-clause-area : goal.returns-clause-area

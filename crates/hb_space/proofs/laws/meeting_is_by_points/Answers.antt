@@ -1,4 +1,4 @@
-use Rattle.hb_space.proofs.Boxes.{meets_by_points}
+use Rattle.hb_space.proofs.Facts.Boxes.{meets_by_points}
 use Rattle.hb_space.proofs.laws.meeting_is_by_points.Goals as goal
 
 pub returns : goal.returns

@@ -1,4 +1,4 @@
-use Rattle.hb_space.proofs.Boxes.{same_from_points}
+use Rattle.hb_space.proofs.Facts.Boxes.{same_from_points}
 use Rattle.hb_space.proofs.laws.points_tell_a_box.Goals as goal
 
 pub returns : goal.returns

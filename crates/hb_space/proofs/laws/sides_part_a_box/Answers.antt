@@ -1,4 +1,4 @@
-use Rattle.hb_space.proofs.Boxes.{side_cover}
+use Rattle.hb_space.proofs.Facts.Boxes.{side_cover}
 use Rattle.hb_space.proofs.laws.sides_part_a_box.Goals as goal
 
 pub returns-clause-cover : goal.returns-clause-cover

@@ -1,4 +1,4 @@
-use Rattle.hb_space.proofs.Boxes.{Holds-from_test, test-from_Holds}
+use Rattle.hb_space.proofs.Facts.Boxes.{Holds-from_test, test-from_Holds}
 use Rattle.hb_space.proofs.laws.test_tells_the_points.Goals as goal
 
 pub returns : goal.returns

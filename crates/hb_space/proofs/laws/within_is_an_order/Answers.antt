@@ -1,4 +1,4 @@
-use Rattle.hb_space.proofs.Boxes.{same_from_within}
+use Rattle.hb_space.proofs.Facts.Boxes.{same_from_within}
 use Rattle.hb_space.proofs.laws.within_is_an_order.Goals as goal
 
 pub returns-clause-antisymmetric : goal.returns-clause-antisymmetric

@@ -1,6 +1,6 @@
 use Rattle.std.proofs.Common.{◌≤◌, arith}
-use Rattle.hb_split.proofs.Allowed.{is_allowed}
-use Rattle.hb_split.proofs.Ends.{is_thirds}
+use Rattle.hb_split.proofs.Facts.Allowed.{is_allowed}
+use Rattle.hb_split.proofs.Facts.Ends.{is_thirds}
 use Rattle.hb_split.proofs.FewCuts.{is_few}
 use Rattle.hb_split.proofs.choices.choose.Goals as goal
 

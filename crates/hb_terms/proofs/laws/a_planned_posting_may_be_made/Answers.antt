@@ -1,4 +1,4 @@
-use Rattle.hb_terms.proofs.Owing.{planned_may_be}
+use Rattle.hb_terms.proofs.Facts.Owing.{planned_may_be}
 use Rattle.hb_terms.proofs.laws.a_planned_posting_may_be_made.Goals as goal
 
 pub returns : goal.returns

@@ -1,7 +1,7 @@
 -- The plan where a page is owed a leaf of the parent.
 use Rattle.std.proofs.Common.{refl}
 use Rattle.hb_frag.specs.Paths.{way_to}
-use Rattle.hb_terms.proofs.Owing.{owed_there, on_err_anyway, plan_posts, plan_splits}
+use Rattle.hb_terms.proofs.Facts.Owing.{owed_there, on_err_anyway, plan_posts, plan_splits}
 use Rattle.hb_terms.proofs.plans.post_plan.Goals as goal
 
 pub returns-in_err-at-in-Some-clause-memory : goal.returns-in_err-at-in-Some-clause-memory

@@ -2,7 +2,7 @@ use Rattle.std.proofs.Common.{◌≡◌, ◌++◌, List, ℕ, Some, None, length
 use Rattle.std.specs.List.{slice_get}
 use Rattle.std.proofs.lemmas.List.{take_at, drop_at}
 use Rattle.hb_lemmas.specs.Numbers.{big_endian}
-use Rattle.hb_lemmas.proofs.Numbers.{length-big_endian}
+use Rattle.hb_lemmas.proofs.Numbers.{length_big_endian}
 use Rattle.std.proofs.lemmas.Option.{same_Some}
 use Rattle.hb_wal.specs.declared.groups.Group.{Group}
 use Rattle.hb_wal.proofs.log.set_next_length.Goals as goal
@@ -13,7 +13,7 @@ module _ (c : goal.After-bytes-1) where
   given = big_endian 4 c.in-Some.next.now.len
 
   long : length given ≡ 4
-  long = length-big_endian 4 c.in-Some.next.now.len
+  long = length_big_endian 4 c.in-Some.next.now.len
 
   whole : take c.args.bytes.now.len (c.give_u32.new.into ++ drop (length c.give_u32.new.into) c.args.bytes.now.items) ≡ c.give_u32.new.into
   whole = take_at c.give_u32.new.into (drop (length c.give_u32.new.into) c.args.bytes.now.items) c.args.bytes.now.len (c.give_u32.auto.into ∙ c.deref_mut.ensures.len)

@@ -5,7 +5,7 @@ use Rattle.hb_frag.specs.Nodes.{tree_of}
 use Rattle.hb_frag.specs.Trees.{Cut}
 use Rattle.hb_frag.specs.Leaves.{leaves}
 use Rattle.hb_frag.proofs.Cuts.{at_cut}
-use Rattle.hb_frag.proofs.NamesListed.{in_second}
+use Rattle.hb_frag.proofs.Facts.NamesListed.{in_second}
 use Rattle.hb_frag.proofs.fragments.Frag.+names.Goals as goal
 
 pub returns-else-names : goal.returns-else-names

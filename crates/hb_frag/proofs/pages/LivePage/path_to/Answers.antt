@@ -1,6 +1,6 @@
 use Rattle.std.proofs.Common.{◌≡◌}
 use Rattle.hb_frag.specs.Paths.{way_to}
-use Rattle.hb_frag.proofs.Points.{way_leads, way_changes}
+use Rattle.hb_frag.proofs.Facts.Points.{way_leads, way_changes}
 use Rattle.hb_frag.proofs.pages.LivePage.path_to.Goals as goal
 
 pub returns-clause-leaf : goal.returns-clause-leaf

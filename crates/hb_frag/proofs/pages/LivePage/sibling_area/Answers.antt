@@ -2,7 +2,7 @@ use Rattle.std.proofs.Common.{◌≡◌, ◌↔◌, Option, IsSome, sym, ap, sub
 use Rattle.std.specs.List.{Any}
 use Rattle.hb_space.specs.Boxes.{Area}
 use Rattle.hb_frag.specs.Leaves.{first_named, siblings, siblings_of, leaves_of}
-use Rattle.hb_frag.proofs.NamesListed.{named_found}
+use Rattle.hb_frag.proofs.Facts.NamesListed.{named_found}
 use Rattle.hb_frag.proofs.pages.LivePage.sibling_area.Goals as goal
 
 pub returns-clause-found : goal.returns-clause-found

@@ -1,6 +1,6 @@
 use Rattle.std.proofs.Common.{◌<◌, ap, arith, length, ◌≡◌, ◌+◌, [], ◌∷◌, ◌++◌, cond, ltb, get_or, set, ◌∙◌, rules}
 use Rattle.hb_space.specs.Boxes.{side_from, pieces_below}
-use Rattle.hb_space.proofs.Outside.{peeled_none, peeled_all, peeled_more, rest_between-from_steps, pieces-from_steps}
+use Rattle.hb_space.proofs.Facts.Outside.{peeled_none, peeled_all, peeled_more, rest_between-from_steps, pieces-from_steps}
 use Rattle.hb_space.proofs.areas.Area.around.Goals as goal
 
 pub loop-axis-preserved : goal.loop-axis-preserved

@@ -1,4 +1,4 @@
-use Rattle.hb_space.proofs.Outside.{IsPeeled}
+use Rattle.hb_space.proofs.Facts.Outside.{IsPeeled}
 use Rattle.hb_space.proofs.areas.Area.around.Given as goal
 
 abbrev pub invariant-loop-axis : goal.invariant-loop-axis

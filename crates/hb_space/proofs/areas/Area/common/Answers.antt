@@ -1,6 +1,6 @@
 use Rattle.std.proofs.Common.{◌≡◌, subst, rules}
 use Rattle.hb_space.specs.Boxes.{IsArea, Meets, common_area}
-use Rattle.hb_space.proofs.Boxes.{IsArea-common_area, Holds-common_area, Within-common_area}
+use Rattle.hb_space.proofs.Facts.Boxes.{IsArea-common_area, Holds-common_area, Within-common_area}
 use Rattle.hb_space.proofs.areas.Area.common.Goals as goal
 
 pub of_corners-requires : goal.of_corners-requires

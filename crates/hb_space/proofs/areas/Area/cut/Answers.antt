@@ -1,4 +1,4 @@
-use Rattle.hb_space.proofs.Boxes.{Holds-side_below, Holds-side_from}
+use Rattle.hb_space.proofs.Facts.Boxes.{Holds-side_below, Holds-side_from}
 use Rattle.hb_space.proofs.areas.Area.cut.Goals as goal
 
 pub returns-clause-left : goal.returns-clause-left

@@ -1,6 +1,6 @@
 use Rattle.std.proofs.Common.{◌↔◌, IsTrue, rules, subst}
 use Rattle.hb_space.specs.Boxes.{Holds, IsArea}
-use Rattle.hb_space.proofs.Boxes.{test_is_holds}
+use Rattle.hb_space.proofs.Facts.Boxes.{test_is_holds}
 use Rattle.hb_space.proofs.areas.Area.holds.Goals as goal
 
 pub returns-then-is_at_most-clause-value : goal.returns-then-is_at_most-clause-value

@@ -1,6 +1,6 @@
 use Rattle.std.proofs.Common.{◌↔◌, IsTrue, rules}
 use Rattle.hb_space.specs.Boxes.{Meets}
-use Rattle.hb_space.proofs.Boxes.{point_from_meeting, Meets-from_point}
+use Rattle.hb_space.proofs.Facts.Boxes.{point_from_meeting, Meets-from_point}
 use Rattle.hb_space.proofs.areas.Area.meets.Goals as goal
 
 pub returns-then-is_at_most-clause-points : goal.returns-then-is_at_most-clause-points

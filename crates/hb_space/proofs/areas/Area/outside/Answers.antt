@@ -1,6 +1,6 @@
 use Rattle.std.proofs.Common.{rules, ◌≡◌, [], ◌∷◌, length}
 use Rattle.hb_space.specs.Boxes.{Meets, pieces_outside}
-use Rattle.hb_space.proofs.Outside.{cover_where_apart, cover_from_pieces, disjoint_from_pieces, count_from_pieces}
+use Rattle.hb_space.proofs.Facts.Outside.{cover_where_apart, cover_from_pieces, disjoint_from_pieces, count_from_pieces}
 use Rattle.hb_space.proofs.areas.Area.outside.Goals as goal
 
 pub returns-in_ok-around-in-Some-clause-count : goal.returns-in_ok-around-in-Some-clause-count

@@ -1,7 +1,7 @@
 use Rattle.std.proofs.Common.{◌∙◌, sym, subst}
 use Rattle.hb_space.specs.Boxes.{Holds}
-use Rattle.hb_space.proofs.Lists.{first_of_four}
-use Rattle.hb_space.proofs.Boxes.{same_corners, Holds-whole_area}
+use Rattle.hb_space.proofs.Facts.Lists.{first_of_four}
+use Rattle.hb_space.proofs.Facts.Boxes.{same_corners, Holds-whole_area}
 use Rattle.hb_space.proofs.areas.Area.whole.Goals as goal
 
 pub returns-clause-value : goal.returns-clause-value

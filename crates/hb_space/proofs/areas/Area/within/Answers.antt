@@ -1,6 +1,6 @@
 use Rattle.std.proofs.Common.{◌↔◌, IsTrue, rules}
 use Rattle.hb_space.specs.Boxes.{Within}
-use Rattle.hb_space.proofs.Boxes.{within_by_points}
+use Rattle.hb_space.proofs.Facts.Boxes.{within_by_points}
 use Rattle.hb_space.proofs.areas.Area.within.Goals as goal
 
 pub returns-then-is_at_most-clause-points : goal.returns-then-is_at_most-clause-points

@@ -2,7 +2,7 @@ use Rattle.std.proofs.Common.{◌≡◌, List, [], ◌∷◌, ◌++◌, get_or, 
 use Rattle.std.proofs.lemmas.List.{set-get_or}
 use Rattle.std.proofs.lemmas.Bool.{cond_below}
 use Rattle.hb_space.specs.Boxes.{Area}
-use Rattle.hb_space.proofs.Boxes.{same_corners}
+use Rattle.hb_space.proofs.Facts.Boxes.{same_corners}
 use Rattle.hb_space.proofs.areas.Area.without_above.Goals as goal
 
 pub returns-in_ok-push-clause-rest : goal.returns-in_ok-push-clause-rest

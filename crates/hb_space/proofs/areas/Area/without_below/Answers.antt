@@ -1,7 +1,7 @@
 use Rattle.std.proofs.Common.{◌≡◌, get_or, set, refl, ap, sym, inl, inr, ◌∙◌, arith}
 use Rattle.std.proofs.lemmas.List.{set-get_or}
 use Rattle.std.proofs.lemmas.Bool.{cases_lt, false≢true}
-use Rattle.hb_space.proofs.Boxes.{same_corners}
+use Rattle.hb_space.proofs.Facts.Boxes.{same_corners}
 use Rattle.hb_space.proofs.areas.Area.without_below.Goals as goal
 
 pub returns-else-cuts-clause-rest : goal.returns-else-cuts-clause-rest

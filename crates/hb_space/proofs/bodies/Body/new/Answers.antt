@@ -1,7 +1,7 @@
 use Rattle.std.proofs.Common.{◌<◌, ◌^◌, List, ℕ, ◌++◌, length, ap, sym, subst, ◌∙◌, arith}
 use Rattle.std.proofs.lemmas.List.Elements.{All-from_get_or}
 use Rattle.hb_space.specs.Points.{IsBody}
-use Rattle.hb_space.proofs.Lists.{on_ok}
+use Rattle.hb_space.proofs.Facts.Lists.{on_ok}
 use Rattle.hb_space.proofs.bodies.Body.new.Goals as goal
 
 pub returns : goal.returns

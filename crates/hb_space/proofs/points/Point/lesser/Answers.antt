@@ -1,6 +1,6 @@
 use Rattle.std.proofs.Common.{◌≡◌, length, min, arith, ap, sym, ◌∙◌}
 use Rattle.hb_space.specs.Boxes.{zip_by}
-use Rattle.hb_space.proofs.Lists.{zip_by_more, zip_by_all, IsPoint-zip_by, min_chooses}
+use Rattle.hb_space.proofs.Facts.Lists.{zip_by_more, zip_by_all, IsPoint-zip_by, min_chooses}
 use Rattle.hb_space.proofs.points.Point.lesser.Goals as goal
 
 pub loop-axis-preserved : goal.loop-axis-preserved

@@ -1,6 +1,6 @@
 use Rattle.std.proofs.Common.{ℕ, List, set, ap, sym, subst, ◌∙◌}
 use Rattle.hb_space.specs.Points.{IsPoint}
-use Rattle.hb_space.proofs.Lists.{IsPoint-set, set_written}
+use Rattle.hb_space.proofs.Facts.Lists.{IsPoint-set, set_written}
 use Rattle.hb_space.proofs.points.Point.with.Goals as goal
 
 pub returns : goal.returns

@@ -19,11 +19,11 @@ use Rattle.hb_ops.specs.Files.{FileState, file_records, live_page, page_of, page
 use Rattle.hb_ops.specs.Recording.{FitsDel, FitsPut, joined, on_records, page_with, put_page, del_page, without}
 use Rattle.hb_ops.specs.Operations.{IsAllowedOn, change_of, effect_of, nth_read, with_page, with_changed_pages}
 use Rattle.hb_ops.specs.LawsOfContents.{DelTakesOne, LonePage, OthersLack, PutAddsOne}
-use Rattle.hb_ops.proofs.Finds.{absent, contents, del_done, put_done, there}
+use Rattle.hb_ops.proofs.Facts.Finds.{absent, contents, del_done, put_done, there}
 use Rattle.hb_lemmas.proofs.Lists.{whole}
 use Rattle.hb_ops.proofs.Pages.{Lack, stands_among}
 use Rattle.hb_ops.proofs.Facts.PageNumberLaws.{in_range, live_so, page_at-suc, place_of, with_page-there}
-use Rattle.hb_ops.proofs.Tips.{LeafLacks, parted}
+use Rattle.hb_ops.proofs.Facts.Tips.{LeafLacks, parted}
 
 -- the records of leaves that lack the point
 flat_lack : (p : List ℕ) (ls : List Leaf) → AllByRecursion (LeafLacks p) ls → Lack p (flat_map records_of ls)

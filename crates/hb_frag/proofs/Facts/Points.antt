@@ -2,14 +2,14 @@
 use Rattle.std.proofs.Common.{◌≡◌, ℕ, ◌≤◌, inl, inr, List, [], ◌∷◌, ◌++◌, length, get_or, Some, None, refl, sym, ◌∙◌, arith}
 use Rattle.std.proofs.lemmas.Bool.{cases_lt}
 use Rattle.hb_space.specs.Boxes.{Area, IsArea, Holds, side_below, side_from}
-use Rattle.hb_space.proofs.Boxes.{Holds-side_below, Holds-side_from}
+use Rattle.hb_space.proofs.Facts.Boxes.{Holds-side_below, Holds-side_from}
 use Rattle.hb_frag.specs.declared.leaves.Leaf.{Leaf}
 use Rattle.hb_frag.specs.declared.paths.Side.{Side}
 use Rattle.hb_frag.specs.Trees.{Tree, Tip, Cut}
 use Rattle.hb_frag.specs.Leaves.{Placed, IsWellCut, first_at, leaves_of, with_leaf_at}
 use Rattle.hb_frag.specs.Paths.{part_at, with_part, way_to}
 use Rattle.hb_frag.specs.Laws.{LeadsTo}
-use Rattle.hb_frag.proofs.Sides.{held_test, failed_test, IsArea-side_below, IsArea-side_from, same-side_from, not_from, not_below, outside_below, outside_from, is_below, isnt_below}
+use Rattle.hb_frag.proofs.Facts.Sides.{held_test, failed_test, IsArea-side_below, IsArea-side_from, same-side_from, not_from, not_below, outside_below, outside_from, is_below, isnt_below}
 
 -- the first of two lists' leaves at a point
 pub first_in_front : (p : List ℕ) (xs ys : List Placed) (w : Placed) → first_at p xs ≡ Some w → first_at p (xs ++ ys) ≡ Some w

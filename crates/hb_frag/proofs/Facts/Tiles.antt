@@ -5,12 +5,13 @@ use Rattle.std.proofs.lemmas.Bool.{and_parts}
 use Rattle.std.proofs.lemmas.List.{map-append}
 use Rattle.std.proofs.lemmas.List.Elements.{All-append}
 use Rattle.hb_space.specs.Boxes.{Area, IsArea, Holds, Within, Disjoint, holds, is_between, side_below, side_from}
-use Rattle.hb_space.proofs.Boxes.{Holds-side_below, Holds-side_from, side_cover, Holds-from_test, Within-from_points}
+use Rattle.hb_space.proofs.Facts.Boxes.{Holds-side_below, Holds-side_from, side_cover, Holds-from_test, Within-from_points}
 use Rattle.hb_frag.specs.declared.leaves.Leaf.{Leaf}
 use Rattle.hb_frag.specs.Trees.{Tree, Tip, Cut}
 use Rattle.hb_frag.specs.Leaves.{Placed, IsWellCut, first_at, leaves_of, leaves, with_leaf_at}
 use Rattle.hb_frag.specs.Laws.{changed_at}
-use Rattle.hb_frag.proofs.Sides.{held_test, IsArea-side_below, IsArea-side_from, same-side_from}
+use Rattle.hb_frag.proofs.Facts.Sides.{held_test, IsArea-side_below, IsArea-side_from, same-side_from}
+use Rattle.hb_lemmas.proofs.Lists.{All-alone}
 
 -- some leaf's box holds the point
 abbrev pub SomeLeaf : List ℕ → List Placed → Type 0
@@ -102,20 +103,16 @@ tiles_cover t area p h cut = (
   λ held. any_some p (leaves_of t area) (some_tile t area p h cut held),
 )
 
-all_of_one : (P : Placed → Type 0) (l : Placed) → P l → All P (l ∷ [])
-all_of_one P l h zero d lt = h
-all_of_one P l h (suc k) d lt = absurd (omega arith)
-
 -- each leaf's box is a box of as many attributes
 pub tiles_areas : (t : Tree) (area : Area) → IsArea area → IsWellCut t area → All (λ l. IsArea l.area) (leaves_of t area)
-tiles_areas (Tip leaf) area h cut = all_of_one (λ l. IsArea l.area) (record { leaf = leaf; area = area }) h
+tiles_areas (Tip leaf) area h cut = All-alone (λ l. IsArea l.area) (record { leaf = leaf; area = area }) h
 tiles_areas (Cut axis value left right) area h cut =
     All-append (λ l. IsArea l.area) (leaves_of left (side_below area axis value)) (leaves_of right (side_from area axis value))
     (tiles_areas left (side_below area axis value) (IsArea-side_below area axis value h cut.0) cut.1)
     (tiles_areas right (side_from area axis value) (IsArea-side_from area axis value h cut.0) cut.2)
 
 pub tiles_attributes : (t : Tree) (area : Area) → All (λ l. length l.area.lo ≡ length area.lo) (leaves_of t area)
-tiles_attributes (Tip leaf) area = all_of_one (λ l. length l.area.lo ≡ length area.lo) (record { leaf = leaf; area = area }) refl
+tiles_attributes (Tip leaf) area = All-alone (λ l. length l.area.lo ≡ length area.lo) (record { leaf = leaf; area = area }) refl
 tiles_attributes (Cut axis value left right) area =
     let below = tiles_attributes left (side_below area axis value) in
     let from = tiles_attributes right (side_from area axis value) in

@@ -9,7 +9,7 @@ use Rattle.std.proofs.lemmas.List.Elements.{All-append, All-contains, Contains-a
 use Rattle.std.proofs.lemmas.List.Sorted.{IsPermutation-refl, IsPermutation-trans, IsPermutation-append, Contains-permutation, length_permutation}
 use Rattle.hb_space.specs.Boxes.{Area, IsArea, Holds, side_below, side_from}
 use Rattle.hb_space.specs.declared.records.Record.{Record}
-use Rattle.hb_space.proofs.Boxes.{Holds-side_below, Holds-side_from}
+use Rattle.hb_space.proofs.Facts.Boxes.{Holds-side_below, Holds-side_from}
 use Rattle.hb_frag.specs.declared.leaves.Leaf.{Leaf}
 use Rattle.hb_frag.specs.declared.leaves.Leaf.TheVariants.{Records, Child, Sibling}
 use Rattle.hb_frag.specs.Trees.{Tree, Tip, Cut}
@@ -17,14 +17,14 @@ use Rattle.hb_frag.specs.Leaves.{Placed, IsWellCut, first_at, leaves_of, leaves,
 use Rattle.hb_frag.specs.Rules.{BelongsAt, IsInOrder}
 use Rattle.hb_frag.specs.Normal.{in_point_order, one_leaf_or_cut, normal}
 use Rattle.hb_frag.specs.NormalLaws.{KeepsLeaf, KeepsPoint, NamesAPage, SaysTheSame}
-use Rattle.hb_frag.proofs.NamesListed.{siblings-append}
-use Rattle.hb_frag.proofs.Parts.{weight_cut}
-use Rattle.hb_frag.proofs.Points.{going_left, going_right, way_ends}
-use Rattle.hb_frag.proofs.PointOrder.{order_permutes}
-use Rattle.hb_frag.proofs.Sides.{held_test, IsArea-side_below, IsArea-side_from}
+use Rattle.hb_frag.proofs.Facts.NamesListed.{siblings-append}
+use Rattle.hb_frag.proofs.Facts.Parts.{weight_cut}
+use Rattle.hb_frag.proofs.Facts.Points.{going_left, going_right, way_ends}
+use Rattle.hb_frag.proofs.Facts.PointOrder.{order_permutes}
+use Rattle.hb_frag.proofs.Facts.Sides.{held_test, IsArea-side_below, IsArea-side_from}
 use Rattle.hb_frag.proofs.Normals.{joined_by_cases}
-use Rattle.hb_frag.proofs.Stretches.{contains_one, all_of_one, all_front, all_behind}
 use Rattle.hb_frag.proofs.OrderedLeaves.{order_of_both}
+use Rattle.hb_lemmas.proofs.Lists.{only_one, All-alone, All-front, All-behind}
 
 -- a leaf says what itself does, and what one says that says what another does
 keeps_itself : (leaf : Leaf) → KeepsLeaf leaf leaf
@@ -137,13 +137,13 @@ module _ (axis value : ℕ) (l r l' r' : Tree) (f : SaysTheSame l l') (g : SaysT
     records = cut_records;
     names = cut_names;
     weight = let x = f.weight in let y = g.weight in omega (arith, weight_cut axis value l r, weight_cut axis value l' r');
-    kinds = λ level h. All-append (BelongsAt level) (leaves l') (leaves r') (f.kinds level (all_front (BelongsAt level) (leaves l) (leaves r) h)) (g.kinds level (all_behind (BelongsAt level) (leaves l) (leaves r) h));
+    kinds = λ level h. All-append (BelongsAt level) (leaves l') (leaves r') (f.kinds level (All-front (BelongsAt level) (leaves l) (leaves r) h)) (g.kinds level (All-behind (BelongsAt level) (leaves l) (leaves r) h));
     order = λ a h cut k.
         let below = side_below a axis value in
         let from = side_from a axis value in
         All-append IsInOrder (leaves_of l' below) (leaves_of r' from)
-        (f.order below (IsArea-side_below a axis value h cut.0) cut.1 (all_front IsInOrder (leaves_of l below) (leaves_of r from) k))
-        (g.order from (IsArea-side_from a axis value h cut.0) cut.2 (all_behind IsInOrder (leaves_of l below) (leaves_of r from) k));
+        (f.order below (IsArea-side_below a axis value h cut.0) cut.1 (All-front IsInOrder (leaves_of l below) (leaves_of r from) k))
+        (g.order from (IsArea-side_from a axis value h cut.0) cut.2 (All-behind IsInOrder (leaves_of l below) (leaves_of r from) k));
   }
 
 -- one leaf over the whole box says what the two sides do
@@ -164,7 +164,7 @@ module _ (axis value : ℕ) (x y z : Leaf) (left : KeepsLeaf x z) (right : Keeps
       ]
 
 no_name : (leaf : Leaf) (xs : List Record) → NamesAPage leaf → Contains (Records xs ∷ []) leaf → ⊥
-no_name leaf xs n w = let P : Leaf → Type 0 = NamesAPage in subst P (sym (contains_one (Records xs) leaf w)) n
+no_name leaf xs n w = let P : Leaf → Type 0 = NamesAPage in subst P (sym (only_one (Records xs) leaf w)) n
 
 says_records : (axis value : ℕ) (xs ys : List Record) → SaysTheSame (Cut axis value (Tip (Records xs)) (Tip (Records ys))) (Tip (Records (in_point_order (xs ++ ys))))
 says_records axis value xs ys =
@@ -185,7 +185,7 @@ says_records axis value xs ys =
         λ w. elim (Contains-append_cases (Records xs ∷ []) (Records ys ∷ []) leaf w) [ inl u ↦ absurd (no_name leaf xs n u) | inr u ↦ absurd (no_name leaf ys n u) ],
       );
       weight = let n : length zs ≡ length (xs ++ ys) = length_permutation (xs ++ ys) zs moved in omega (arith, length-append xs ys);
-      kinds = λ level h. all_of_one (BelongsAt level) (Records zs) (h zero (Records xs) (omega arith));
+      kinds = λ level h. All-alone (BelongsAt level) (Records zs) (h zero (Records xs) (omega arith));
       order = λ a h cut k. order_of_both axis value xs ys a h cut.0 k;
     }
 
@@ -200,10 +200,10 @@ says_children axis value page = record {
     λ w. elim (Contains-append_cases (Child page ∷ []) (Child page ∷ []) leaf w) [ inl u ↦ u | inr u ↦ u ],
   );
   weight = omega arith;
-  kinds = λ level h. all_front (BelongsAt level) (Child page ∷ []) (Child page ∷ []) h;
+  kinds = λ level h. All-front (BelongsAt level) (Child page ∷ []) (Child page ∷ []) h;
   order = λ a h cut k.
       let side : Placed = record { leaf = Child page; area = side_below a axis value } in
-      all_of_one IsInOrder (record { leaf = Child page; area = a }) (record { inside = λ i d l. absurd (omega arith); rising = (k zero side (omega arith)).rising });
+      All-alone IsInOrder (record { leaf = Child page; area = a }) (record { inside = λ i d l. absurd (omega arith); rising = (k zero side (omega arith)).rising });
 }
 
 says_joined : (axis value : ℕ) (l r : Tree) → SaysTheSame (Cut axis value l r) (one_leaf_or_cut axis value l r)

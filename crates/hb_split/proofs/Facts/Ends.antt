@@ -19,15 +19,9 @@ use Rattle.hb_split.specs.Choosing.{way_down, AreChosen}
 use Rattle.hb_split.specs.Steps.{AreOf, AddsCuts}
 use Rattle.hb_split.specs.Laws.{IsThirds}
 use Rattle.hb_split.proofs.Thirds.{thirds}
-use Rattle.hb_split.proofs.WaysDown.{tested, weight_cut}
-
-all_left : (xs ys : List Placed) → All IsInOrder (xs ++ ys) → All IsInOrder xs
-all_left [] ys h = All-nil IsInOrder
-all_left (x ∷ xs) ys h = All-cons IsInOrder x xs (All-head IsInOrder x (xs ++ ys) h) (all_left xs ys (All-tail IsInOrder x (xs ++ ys) h))
-
-all_right : (xs ys : List Placed) → All IsInOrder (xs ++ ys) → All IsInOrder ys
-all_right [] ys h = h
-all_right (x ∷ xs) ys h = all_right xs ys (All-tail IsInOrder x (xs ++ ys) h)
+use Rattle.hb_frag.proofs.Facts.Parts.{weight_cut}
+use Rattle.hb_lemmas.proofs.Booleans.{if_below}
+use Rattle.hb_lemmas.proofs.Lists.{All-front, All-behind}
 
 abbrev IsCut : Tree → Type 0
 IsCut (Tip leaf) = ⊥
@@ -54,10 +48,10 @@ pub goes_down : (n k : ℕ) (tree : Tree) (area : Area) → n < 3 * weight_of tr
 goes_down n k (Tip leaf) area more whole ordered same = record { ends = record { more = more; whole = whole; done = inr (leaf, refl); ordered = ordered; attributes = same }; inside = tt }
 goes_down n k (Cut axis value l r) area more whole ordered same =
     let e = weight_cut axis value l r in
-    tested (2 * n) (3 * (weight_of l + weight_of r)) (λ t. GoesDown n k (if t then (if nat_lt (weight_of l) (weight_of r) then Right ∷ way_down n r else Left ∷ way_down n l) else []) (Cut axis value l r) area)
-    (λ heavy. tested (weight_of l) (weight_of r) (λ t. GoesDown n k (if t then Right ∷ way_down n r else Left ∷ way_down n l) (Cut axis value l r) area)
-    (λ lt. let rest = goes_down n k r (side_from area axis value) (omega (arith, heavy, lt)) (omega (arith, e, whole)) (all_right (leaves_of l (side_below area axis value)) (leaves_of r (side_from area axis value)) ordered) (length-set area.lo axis value ∙ same) in record { ends = rest.ends; inside = rest.inside })
-    (λ le. let rest = goes_down n k l (side_below area axis value) (omega (arith, heavy, le)) (omega (arith, e, whole)) (all_left (leaves_of l (side_below area axis value)) (leaves_of r (side_from area axis value)) ordered) same in record { ends = rest.ends; inside = rest.inside }))
+    if_below (2 * n) (3 * (weight_of l + weight_of r)) (λ t. GoesDown n k (if t then (if nat_lt (weight_of l) (weight_of r) then Right ∷ way_down n r else Left ∷ way_down n l) else []) (Cut axis value l r) area)
+    (λ heavy. if_below (weight_of l) (weight_of r) (λ t. GoesDown n k (if t then Right ∷ way_down n r else Left ∷ way_down n l) (Cut axis value l r) area)
+    (λ lt. let rest = goes_down n k r (side_from area axis value) (omega (arith, heavy, lt)) (omega (arith, e, whole)) (All-behind IsInOrder (leaves_of l (side_below area axis value)) (leaves_of r (side_from area axis value)) ordered) (length-set area.lo axis value ∙ same) in record { ends = rest.ends; inside = rest.inside })
+    (λ le. let rest = goes_down n k l (side_below area axis value) (omega (arith, heavy, le)) (omega (arith, e, whole)) (All-front IsInOrder (leaves_of l (side_below area axis value)) (leaves_of r (side_from area axis value)) ordered) same in record { ends = rest.ends; inside = rest.inside }))
     (λ light. record { ends = record { more = more; whole = whole; done = inl (omega (arith, e, light)); ordered = ordered; attributes = same }; inside = tt })
 
 pub of_page : (n : ℕ) (page : LivePage) (path : List Side) → 6 ≤ n → n ≡ weight_of page.frag → path ≡ way_down n page.frag → AreInOrder page → GoesDown n (length page.area.lo) path page.frag page.area

@@ -5,8 +5,8 @@ use Rattle.std.proofs.lemmas.List.{length-set, length-append, append-nil, append
 use Rattle.std.proofs.lemmas.Bool.{cases_lt, cases_eq}
 use Rattle.std.proofs.lemmas.Bool.Decides.{nat_tests}
 use Rattle.hb_space.specs.Boxes.{Area, IsArea, Holds, Meets, Within, Cuts, Disjoint, side_below, side_from, pieces_below, pieces_above, rest_between, pieces_from, pieces_outside}
-use Rattle.hb_space.proofs.Lists.{set_cases, IsPoint-set}
-use Rattle.hb_space.proofs.Boxes.{Holds-side_below, Holds-side_from, Meets-from_point}
+use Rattle.hb_space.proofs.Facts.Lists.{set_cases, IsPoint-set}
+use Rattle.hb_space.proofs.Facts.Boxes.{Holds-side_below, Holds-side_from, Meets-from_point}
 
 -- some box of the list holds the point
 abbrev pub SomeHolds : List Area → List ℕ → Type 0

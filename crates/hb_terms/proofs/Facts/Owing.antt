@@ -5,7 +5,7 @@ use Rattle.std.specs.Result.{OnErr}
 use Rattle.std.proofs.lemmas.Bool.{cases_lt}
 use Rattle.std.proofs.lemmas.List.Elements.{All-contains, Contains-append_right}
 use Rattle.hb_space.specs.Boxes.{Area, IsArea, Holds}
-use Rattle.hb_space.proofs.Boxes.{Meets-from_point}
+use Rattle.hb_space.proofs.Facts.Boxes.{Meets-from_point}
 use Rattle.hb_frag.specs.declared.leaves.Leaf.{Leaf}
 use Rattle.hb_frag.specs.declared.leaves.Leaf.TheVariants.{Records, Child, Sibling}
 use Rattle.hb_frag.specs.declared.pages.LivePage.{LivePage}
@@ -16,9 +16,9 @@ use Rattle.hb_frag.specs.Paths.{part_at, with_part, way_to}
 use Rattle.hb_frag.specs.Carving.{carved}
 use Rattle.hb_frag.specs.Normal.{normal}
 use Rattle.hb_frag.specs.Rules.{IsNormal}
-use Rattle.hb_frag.proofs.Points.{way_ends}
-use Rattle.hb_frag.proofs.Tiles.{first_tells, found_where_held, tiles_areas}
-use Rattle.hb_frag.proofs.CarvedPages.{carved_room}
+use Rattle.hb_frag.proofs.Facts.Points.{way_ends}
+use Rattle.hb_frag.proofs.Facts.Tiles.{first_tells, found_where_held, tiles_areas}
+use Rattle.hb_frag.proofs.Facts.CarvedPages.{carved_room}
 use Rattle.hb_terms.specs.Plans.{IsOwed, OwesNothing, posted_parent, Posts, LacksRoom, IsPlan}
 use Rattle.hb_terms.specs.Laws.{MayPost}
 use Rattle.hb_terms.specs.declared.plans.PostPlan.{PostPlan}

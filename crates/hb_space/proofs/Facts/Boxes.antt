@@ -6,7 +6,7 @@ use Rattle.std.proofs.lemmas.Bool.{cases_lt}
 use Rattle.std.proofs.lemmas.Bool.Decides.{nat_tests}
 use Rattle.hb_space.specs.Points.{IsPoint}
 use Rattle.hb_space.specs.Boxes.{Area, IsArea, Holds, Meets, Within, Cuts, Disjoint, holds, is_between, whole_area, side_below, side_from, common_area}
-use Rattle.hb_space.proofs.Lists.{length-zip_by, get_or-zip_by, set_cases, IsPoint-zip_by, max_chooses, min_chooses}
+use Rattle.hb_space.proofs.Facts.Lists.{length-zip_by, get_or-zip_by, set_cases, IsPoint-zip_by, max_chooses, min_chooses}
 
 -- the least corner and the greatest corner lie in the box
 pub lo_held : (a : Area) → IsArea a → Holds a a.lo
@@ -215,3 +215,12 @@ side_cover a axis value p h cuts =
 -- the whole space holds every point of as many attributes
 pub Holds-whole_area : (k : ℕ) (p : List ℕ) → IsPoint p → length p ≡ k → Holds (whole_area k) p
 Holds-whole_area k p point same = grind (arith, common_steps)
+
+-- what one box holds, a box around it holds
+pub Holds-within : (a b : Area) (p : List ℕ) → length a.lo ≡ length b.lo → Within a b → Holds a p → Holds b p
+Holds-within a b p e w h = record {
+  same = h.same ∙ e;
+  between = λ i l.
+      let l' : i < length a.lo = omega (arith, h.same) in
+      (omega (arith, (w i l').0, (h.between i l).0), omega (arith, (w i l').1, (h.between i l).1));
+}

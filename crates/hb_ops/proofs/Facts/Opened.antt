@@ -17,8 +17,8 @@ use Rattle.hb_layout.specs.declared.meta.Meta.{Meta}
 use Rattle.hb_ops.specs.Edits.{HasGap, HasPlace, IsAt, IsGapFor, IsOpenAt}
 use Rattle.hb_ops.specs.Recording.{FitsDel, FitsPut, joined, on_records, page_with, put_page}
 use Rattle.hb_ops.proofs.Boxes.{apart}
-use Rattle.hb_ops.proofs.Places.{gap_lacks, joined_at, place_has}
-use Rattle.hb_ops.proofs.Tips.{first_append, first_held, parted, tip_at, unchanged}
+use Rattle.hb_ops.proofs.Facts.Places.{gap_lacks, joined_at, place_has}
+use Rattle.hb_ops.proofs.Facts.Tips.{first_append, first_held, parted, tip_at, unchanged}
 
 -- what is true of each leaf is true of the first one at a point
 first_has : (P : Placed → Type 0) (p : List ℕ) (xs : List Placed) (placed : Placed) → first_at p xs ≡ Some placed → All P xs → P placed

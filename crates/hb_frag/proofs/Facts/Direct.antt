@@ -3,12 +3,12 @@ use Rattle.std.proofs.Common.{◌≡◌, ℕ, zero, suc, ◌<◌, ◌↔◌, Lis
 use Rattle.std.specs.List.{All}
 use Rattle.std.proofs.lemmas.List.Elements.{All-cons}
 use Rattle.hb_space.specs.Boxes.{Area, IsArea, Holds, Within}
-use Rattle.hb_space.proofs.Boxes.{Meets-from_point, point_from_meeting, Within-from_points}
+use Rattle.hb_space.proofs.Facts.Boxes.{Meets-from_point, point_from_meeting, Within-from_points, Holds-within}
 use Rattle.hb_frag.specs.declared.leaves.Leaf.{Leaf}
 use Rattle.hb_frag.specs.declared.leaves.Leaf.TheVariants.{Records, Child, Sibling}
 use Rattle.hb_frag.specs.declared.pages.LivePage.{LivePage}
 use Rattle.hb_frag.specs.Leaves.{Placed, leaves_of, siblings, siblings_of, DirectlyHolds, DirectlyCovers, WellCut}
-use Rattle.hb_frag.proofs.Tiles.{tiles_areas, tiles_attributes}
+use Rattle.hb_frag.proofs.Facts.Tiles.{tiles_areas, tiles_attributes}
 
 -- what holds of each leaf's box holds of each sibling leaf's
 siblings_step : (Q : Area → Type 0) (leaf : Leaf) (area : Area) (xs : List Placed) → Q area → All (λ s. Q s.1) (siblings xs) → All (λ s. Q s.1) (siblings (record { leaf = leaf; area = area } ∷ xs))
@@ -22,14 +22,6 @@ none_of Q k d lt = absurd (omega arith)
 siblings_all : (Q : Area → Type 0) (xs : List Placed) → All (λ l. Q l.area) xs → All (λ s. Q s.1) (siblings xs)
 siblings_all Q [] h = none_of Q
 siblings_all Q (x ∷ xs) h = siblings_step Q x.leaf x.area xs (h zero x (omega arith)) (siblings_all Q xs (λ j d l. h (suc j) d (omega arith)))
-
-pub Holds-within : (a b : Area) (p : List ℕ) → length a.lo ≡ length b.lo → Within a b → Holds a p → Holds b p
-Holds-within a b p e w h = record {
-  same = h.same ∙ e;
-  between = λ i l.
-      let l' : i < length a.lo = omega (arith, h.same) in
-      (omega (arith, (w i l').0, (h.between i l).0), omega (arith, (w i l').1, (h.between i l).1));
-}
 
 pub direct_by_points : (page : LivePage) (a : Area) → IsArea page.area → WellCut page → IsArea a → length a.lo ≡ length page.area.lo → DirectlyCovers page a ↔ ((p : List ℕ) → Holds a p → DirectlyHolds page p)
 direct_by_points page a h cut ha e =

@@ -5,7 +5,7 @@ use Rattle.std.proofs.lemmas.Bool.{cases_lt, ltb-false, le-ltb, lt-ltb, ltb-true
 use Rattle.std.proofs.lemmas.List.{take_at, drop_at, take-append-drop, length-append, length-take, get_or-drop, get_or-take, get_or_past}
 use Rattle.std.proofs.lemmas.List.Concat.{flat_map-cons}
 use Rattle.std.proofs.lemmas.List.Elements.{All-from_recursion, recursion_from_All, All-from_get_or}
-use Rattle.std.proofs.lemmas.Option.{some_pair_parts}
+use Rattle.std.proofs.lemmas.Option.{some_pair_parts, same_Some}
 use Rattle.std.proofs.lemmas.Nat.{be_bytes_2, be_bytes_4, be_bytes_8}
 use Rattle.byteorder.specs.Endian.{big_number}
 use Rattle.byteorder.specs.Numbers.{length-bytes_high_first}
@@ -19,44 +19,32 @@ use Rattle.hb_page_codec.specs.Reading.{◌>>=◌, byte_at, number_at, many_at}
 use Rattle.hb_page_codec.specs.ReadingFields.{point_at, are_ordered, area_between, area_at, body_at, record_at, count_at, axis_at}
 use Rattle.hb_page_codec.proofs.Spelled.{big_number-spelled}
 use Rattle.hb_page_codec.proofs.Ordered.{ordered, ordered_test}
+use Rattle.hb_lemmas.proofs.Booleans.{unless_some, when_some}
+use Rattle.hb_lemmas.proofs.Numbers.{length_big_endian}
+use Rattle.hb_page_codec.specs.Exact.{AreBytes}
 
-abbrev pub IsBytes : List ℕ → Type 0
-IsBytes bytes = (i : ℕ) → get_or bytes i 0 < 256
+AreBytes-drop : (n : ℕ) (bytes : List ℕ) → AreBytes bytes → AreBytes (drop n bytes)
+AreBytes-drop n bytes h i = rw get_or-drop (h (n + i))
 
-IsBytes-drop : (n : ℕ) (bytes : List ℕ) → IsBytes bytes → IsBytes (drop n bytes)
-IsBytes-drop n bytes h i = rw get_or-drop (h (n + i))
-
-IsBytes-take : (n : ℕ) (bytes : List ℕ) → IsBytes bytes → IsBytes (take n bytes)
-IsBytes-take n bytes h i =
+AreBytes-take : (n : ℕ) (bytes : List ℕ) → AreBytes bytes → AreBytes (take n bytes)
+AreBytes-take n bytes h i =
     elim (cases_lt i n) [
       | inl lt ↦ rw (get_or-take n bytes i 0 lt) (h i)
       | inr le ↦ rw (get_or_past (take n bytes) i 0 (omega (arith, length-take n bytes))) (omega arith)
     ]
 
-pub IsBytes-rest : (b : ℕ) (bytes : List ℕ) → IsBytes (b ∷ bytes) → IsBytes bytes
-IsBytes-rest b bytes h i = h (suc i)
+pub AreBytes-rest : (b : ℕ) (bytes : List ℕ) → AreBytes (b ∷ bytes) → AreBytes bytes
+AreBytes-rest b bytes h i = h (suc i)
 
 -- the value of a step that gave something
 pub bind_some : {A B : Type 0} (r : Option A) (f : A → Option B) (y : B) → (r >>= f) ≡ Some y → (x : A) × (r ≡ Some x) × (f x ≡ Some y)
 bind_some (Some x) f y e = (x, refl, e)
 bind_some None f y e = absurd cc
 
-pub some_is : {A : Type 0} (x y : A) → Some x ≡ Some y → x ≡ y
-some_is x y e = cc
-
--- tests that gave something
-pub unless_some : {A : Type 0} (b : Bool) (r : Option A) (y : A) → cond b None r ≡ Some y → (b ≡ false) × (r ≡ Some y)
-unless_some true r y e = absurd cc
-unless_some false r y e = (refl, e)
-
-pub when_some : {A : Type 0} (b : Bool) (r : Option A) (y : A) → cond b r None ≡ Some y → (b ≡ true) × (r ≡ Some y)
-when_some true r y e = (refl, e)
-when_some false r y e = absurd cc
-
 -- what was read from the front
 pub record Takes (bytes text rest : List ℕ) : Type 0 where
   pub parts : bytes ≡ text ++ rest
-  pub rest_fits : IsBytes rest
+  pub rest_fits : AreBytes rest
 
 pub Takes-then : (a x b y c : List ℕ) → Takes a x b → Takes b y c → Takes a (x ++ y) c
 Takes-then a x b y c p q = record { parts = p.parts ∙ ap (λ (t : List ℕ). x ++ t) q.parts ∙ sym (append_assoc x y c); rest_fits = q.rest_fits }
@@ -66,17 +54,17 @@ Takes-byte b bytes text rest t = record { parts = ap (λ (xs : List ℕ). b ∷ 
 
 -- ---- a byte
 
-pub byte_takes : (bytes : List ℕ) (x : ℕ × List ℕ) → IsBytes bytes → byte_at bytes ≡ Some x → Takes bytes (x.0 ∷ []) x.1 × (x.0 < 256)
+pub byte_takes : (bytes : List ℕ) (x : ℕ × List ℕ) → AreBytes bytes → byte_at bytes ≡ Some x → Takes bytes (x.0 ∷ []) x.1 × (x.0 < 256)
 byte_takes [] x fits e = absurd cc
 byte_takes (b ∷ rest) x fits e =
-    subst (λ (y : ℕ × List ℕ). Takes (b ∷ rest) (y.0 ∷ []) y.1 × (y.0 < 256)) (some_is (b, rest) x e) (record { parts = refl; rest_fits = IsBytes-rest b rest fits }, fits 0)
+    subst (λ (y : ℕ × List ℕ). Takes (b ∷ rest) (y.0 ∷ []) y.1 × (y.0 < 256)) (same_Some (b, rest) x e) (record { parts = refl; rest_fits = AreBytes-rest b rest fits }, fits 0)
 
 -- ---- numbers
 
 pub record IsWide (width limit : ℕ) : Type 0 where
   pub whole : 256 ^ width ≡ limit
-  pub back : (bytes : List ℕ) → length bytes ≡ width → IsBytes bytes → big_endian width (big_number width bytes) ≡ bytes
-  pub below : (bytes : List ℕ) → IsBytes bytes → big_number width bytes < limit
+  pub back : (bytes : List ℕ) → length bytes ≡ width → AreBytes bytes → big_endian width (big_number width bytes) ≡ bytes
+  pub below : (bytes : List ℕ) → AreBytes bytes → big_number width bytes < limit
 
 pub wide_2 : IsWide 2 (2 ^ 16)
 unfolding big_endian
@@ -102,45 +90,41 @@ wide_8 = record {
   below = λ bytes fits. omega (arith, fits 0, fits 1, fits 2, fits 3, fits 4, fits 5, fits 6, fits 7);
 }
 
-pub length_number : (width n : ℕ) → length (big_endian width n) ≡ width
-unfolding big_endian
-length_number width n = length-bytes_high_first width n
-
 split_off : (width : ℕ) (bytes : List ℕ) → width ≤ length bytes → length (take width bytes) ≡ width
 split_off width bytes le = omega (arith, length-take width bytes)
 
 -- a number reads no byte behind it
-front_alone : (width limit : ℕ) → IsWide width limit → (bytes : List ℕ) → width ≤ length bytes → IsBytes bytes → big_number width bytes ≡ big_number width (take width bytes)
+front_alone : (width limit : ℕ) → IsWide width limit → (bytes : List ℕ) → width ≤ length bytes → AreBytes bytes → big_number width bytes ≡ big_number width (take width bytes)
 front_alone width limit wide bytes le fits =
     let front = take width bytes in
     let n = big_number width front in
-    let back = wide.back front (split_off width bytes le) (IsBytes-take width bytes fits) in
-    let small : n < 256 ^ width = rw wide.whole (wide.below front (IsBytes-take width bytes fits)) in
+    let back = wide.back front (split_off width bytes le) (AreBytes-take width bytes fits) in
+    let small : n < 256 ^ width = rw wide.whole (wide.below front (AreBytes-take width bytes fits)) in
     ap (big_number width) (sym (take-append-drop width bytes) ∙ ap (λ (x : List ℕ). x ++ drop width bytes) (sym back)) ∙ big_number-spelled width n (drop width bytes) small
 
-pub number_takes : (width limit : ℕ) → IsWide width limit → (bytes : List ℕ) (x : ℕ × List ℕ) → IsBytes bytes → number_at width bytes ≡ Some x → Takes bytes (big_endian width x.0) x.1 × (x.0 < limit)
+pub number_takes : (width limit : ℕ) → IsWide width limit → (bytes : List ℕ) (x : ℕ × List ℕ) → AreBytes bytes → number_at width bytes ≡ Some x → Takes bytes (big_endian width x.0) x.1 × (x.0 < limit)
 number_takes width limit wide bytes x fits e =
     let g = unless_some (ltb (length bytes) width) (Some (big_number width bytes, drop width bytes)) x e in
     let le : width ≤ length bytes = ltb-false _ _ g.0 in
     let alone = front_alone width limit wide bytes le fits in
-    let spelled : big_endian width (big_number width bytes) ≡ take width bytes = ap (big_endian width) alone ∙ wide.back (take width bytes) (split_off width bytes le) (IsBytes-take width bytes fits) in
+    let spelled : big_endian width (big_number width bytes) ≡ take width bytes = ap (big_endian width) alone ∙ wide.back (take width bytes) (split_off width bytes le) (AreBytes-take width bytes fits) in
     let parts : bytes ≡ big_endian width (big_number width bytes) ++ drop width bytes = sym (take-append-drop width bytes) ∙ ap (λ (t : List ℕ). t ++ drop width bytes) (sym spelled) in
-    subst (λ (y : ℕ × List ℕ). Takes bytes (big_endian width y.0) y.1 × (y.0 < limit)) (some_is (big_number width bytes, drop width bytes) x g.1) (record { parts = parts; rest_fits = IsBytes-drop width bytes fits }, wide.below bytes fits)
+    subst (λ (y : ℕ × List ℕ). Takes bytes (big_endian width y.0) y.1 × (y.0 < limit)) (same_Some (big_number width bytes, drop width bytes) x g.1) (record { parts = parts; rest_fits = AreBytes-drop width bytes fits }, wide.below bytes fits)
 
 pub number_again : (width limit : ℕ) → IsWide width limit → (n : ℕ) (rest : List ℕ) → n < limit → number_at width (big_endian width n ++ rest) ≡ Some (n, rest)
 number_again width limit wide n rest lt =
     let small : n < 256 ^ width = rw wide.whole lt in
-    let long : ltb (length (big_endian width n ++ rest)) width ≡ false = le-ltb _ _ (omega (arith, length-append (big_endian width n) rest, length_number width n)) in
-    rw (long, big_number-spelled width n rest small, drop_at (big_endian width n) rest width (length_number width n)) refl
+    let long : ltb (length (big_endian width n ++ rest)) width ≡ false = le-ltb _ _ (omega (arith, length-append (big_endian width n) rest, length_big_endian width n)) in
+    rw (long, big_number-spelled width n rest small, drop_at (big_endian width n) rest width (length_big_endian width n)) refl
 
 -- ---- one thing after the other
 
 pub many_take : {A : Type 0} (read : List ℕ → Option (A × List ℕ)) (spell : A → List ℕ) (fit : A → Type 0)
-    → ((bytes : List ℕ) (x : A × List ℕ) → IsBytes bytes → read bytes ≡ Some x → Takes bytes (spell x.0) x.1 × fit x.0)
-    → (n : ℕ) (bytes : List ℕ) (x : List A × List ℕ) → IsBytes bytes → many_at read n bytes ≡ Some x → Takes bytes (flat_map spell x.0) x.1 × (length x.0 ≡ n) × AllByRecursion fit x.0
+    → ((bytes : List ℕ) (x : A × List ℕ) → AreBytes bytes → read bytes ≡ Some x → Takes bytes (spell x.0) x.1 × fit x.0)
+    → (n : ℕ) (bytes : List ℕ) (x : List A × List ℕ) → AreBytes bytes → many_at read n bytes ≡ Some x → Takes bytes (flat_map spell x.0) x.1 × (length x.0 ≡ n) × AllByRecursion fit x.0
 unfolding many_at
 many_take {A = A} read spell fit each zero bytes x fits e =
-    subst (λ (y : List A × List ℕ). Takes bytes (flat_map spell y.0) y.1 × (length y.0 ≡ 0) × AllByRecursion fit y.0) (some_is ([], bytes) x e) (record { parts = refl; rest_fits = fits }, refl, tt)
+    subst (λ (y : List A × List ℕ). Takes bytes (flat_map spell y.0) y.1 × (length y.0 ≡ 0) × AllByRecursion fit y.0) (same_Some ([], bytes) x e) (record { parts = refl; rest_fits = fits }, refl, tt)
 many_take {A = A} read spell fit each (suc n) bytes x fits e =
     let a = bind_some (read bytes) (λ first. many_at read n first.1 >>= λ others. Some (first.0 ∷ others.0, others.1)) x e in
     let b = bind_some (many_at read n a.0.1) (λ others. Some (a.0.0 ∷ others.0, others.1)) x a.2 in
@@ -148,7 +132,7 @@ many_take {A = A} read spell fit each (suc n) bytes x fits e =
     let second = many_take read spell fit each n a.0.1 b.0 first.0.rest_fits b.1 in
     let both = Takes-then bytes (spell a.0.0) a.0.1 (flat_map spell b.0.0) b.0.1 first.0 second.0 in
     let made : List A × List ℕ = (a.0.0 ∷ b.0.0, b.0.1) in
-    subst (λ (y : List A × List ℕ). Takes bytes (flat_map spell y.0) y.1 × (length y.0 ≡ suc n) × AllByRecursion fit y.0) (some_is made x b.2) (rw flat_map-cons both, ap suc second.1, (first.1, second.2))
+    subst (λ (y : List A × List ℕ). Takes bytes (flat_map spell y.0) y.1 × (length y.0 ≡ suc n) × AllByRecursion fit y.0) (same_Some made x b.2) (rw flat_map-cons both, ap suc second.1, (first.1, second.2))
 
 pub many_again : {A : Type 0} (read : List ℕ → Option (A × List ℕ)) (spell : A → List ℕ) (fit : A → Type 0)
     → ((x : A) (rest : List ℕ) → fit x → read (spell x ++ rest) ≡ Some (x, rest))
@@ -164,7 +148,7 @@ many_again read spell fit each (x ∷ xs) rest fits =
 abbrev IsValue : ℕ → Type 0
 IsValue x = x < 2 ^ 64
 
-pub point_takes : (k : ℕ) (bytes : List ℕ) (x : List ℕ × List ℕ) → IsBytes bytes → point_at k bytes ≡ Some x → Takes bytes (point_bytes x.0) x.1 × (length x.0 ≡ k) × All IsValue x.0
+pub point_takes : (k : ℕ) (bytes : List ℕ) (x : List ℕ × List ℕ) → AreBytes bytes → point_at k bytes ≡ Some x → Takes bytes (point_bytes x.0) x.1 × (length x.0 ≡ k) × All IsValue x.0
 point_takes k bytes x fits e =
     let h = many_take (number_at 8) (big_endian 8) IsValue (λ bs y f r. number_takes 8 (2 ^ 64) wide_8 bs y f r) k bytes x fits e in
     (h.0, h.1, All-from_recursion IsValue x.0 h.2)
@@ -174,7 +158,7 @@ point_again point rest fits = many_again (number_at 8) (big_endian 8) IsValue (�
 
 -- ---- boxes
 
-pub area_takes : (k : ℕ) (bytes : List ℕ) (x : Area × List ℕ) → 0 < k → k ≤ KMAX → IsBytes bytes → area_at k bytes ≡ Some x → Takes bytes (point_bytes x.0.lo ++ point_bytes x.0.hi) x.1 × (length x.0.lo ≡ k) × IsArea x.0
+pub area_takes : (k : ℕ) (bytes : List ℕ) (x : Area × List ℕ) → 0 < k → k ≤ KMAX → AreBytes bytes → area_at k bytes ≡ Some x → Takes bytes (point_bytes x.0.lo ++ point_bytes x.0.hi) x.1 × (length x.0.lo ≡ k) × IsArea x.0
 unfolding area_at
 area_takes k bytes x some few fits e =
     let a = bind_some (point_at k bytes) (λ lo. point_at k lo.1 >>= λ hi. area_between lo.0 hi.0 >>= λ area. Some (area, hi.1)) x e in
@@ -192,7 +176,7 @@ area_takes k bytes x some few fits e =
       ordered = ordered a.0.0 b.0.0 same g.0;
     } in
     let parts = some_pair_parts c.0 x.0 b.0.1 x.1 c.2 in
-    let whole : made ≡ x.0 = subst (λ (z : Area). made ≡ z) parts.0 (some_is made c.0 g.1) in
+    let whole : made ≡ x.0 = subst (λ (z : Area). made ≡ z) parts.0 (same_Some made c.0 g.1) in
     let rest : b.0.1 ≡ x.1 = parts.1 in
     let all : (y : Area) (r : List ℕ) → made ≡ y → b.0.1 ≡ r → Takes bytes (point_bytes y.lo ++ point_bytes y.hi) r × (length y.lo ≡ k) × IsArea y = λ y r p q.
     subst (λ (z : Area). Takes bytes (point_bytes z.lo ++ point_bytes z.hi) r × (length z.lo ≡ k) × IsArea z) p
@@ -209,7 +193,7 @@ area_again area rest fits =
 
 -- ---- bodies and records
 
-pub body_takes : (bytes : List ℕ) (x : List ℕ × List ℕ) → IsBytes bytes → body_at bytes ≡ Some x → Takes bytes (length x.0 ∷ x.0) x.1 × IsBody x.0
+pub body_takes : (bytes : List ℕ) (x : List ℕ × List ℕ) → AreBytes bytes → body_at bytes ≡ Some x → Takes bytes (length x.0 ∷ x.0) x.1 × IsBody x.0
 unfolding body_at
 body_takes bytes x fits e =
     let a = bind_some (byte_at bytes) (λ count. cond (ltb BMAX count.0) None (cond (ltb (length count.1) count.0) None (Some (take count.0 count.1, drop count.0 count.1)))) x e in
@@ -221,12 +205,12 @@ body_takes bytes x fits e =
     let few : n ≤ BMAX = ltb-false _ _ g.0 in
     let room : n ≤ length rest = ltb-false _ _ h.0 in
     let len : length (take n rest) ≡ n = split_off n rest room in
-    let body_fits = IsBytes-take n rest count.0.rest_fits in
-    let second : Takes rest (take n rest) (drop n rest) = record { parts = sym (take-append-drop n rest); rest_fits = IsBytes-drop n rest count.0.rest_fits } in
+    let body_fits = AreBytes-take n rest count.0.rest_fits in
+    let second : Takes rest (take n rest) (drop n rest) = record { parts = sym (take-append-drop n rest); rest_fits = AreBytes-drop n rest count.0.rest_fits } in
     let both = Takes-then bytes (n ∷ []) rest (take n rest) (drop n rest) count.0 second in
     let whole : Takes bytes (length (take n rest) ∷ take n rest) (drop n rest) = rw len both in
     let is_body : IsBody (take n rest) = record { few = omega (arith, len, few); fits = All-from_get_or (λ b. b < 2 ^ 8) (take n rest) 0 (λ i lt. body_fits i) } in
-    subst (λ (y : List ℕ × List ℕ). Takes bytes (length y.0 ∷ y.0) y.1 × IsBody y.0) (some_is (take n rest, drop n rest) x h.1) (whole, is_body)
+    subst (λ (y : List ℕ × List ℕ). Takes bytes (length y.0 ∷ y.0) y.1 × IsBody y.0) (same_Some (take n rest, drop n rest) x h.1) (whole, is_body)
 
 pub body_again : (body rest : List ℕ) → IsBody body → body_at (length body ∷ body ++ rest) ≡ Some (body, rest)
 unfolding body_at
@@ -235,7 +219,7 @@ body_again body rest fits =
     let room : ltb (length (body ++ rest)) (length body) ≡ false = le-ltb _ _ (omega (arith, length-append body rest)) in
     rw (few, room, take_at body rest (length body) refl, drop_at body rest (length body) refl) refl
 
-pub record_takes : (k : ℕ) (bytes : List ℕ) (x : Record × List ℕ) → IsBytes bytes → record_at k bytes ≡ Some x → Takes bytes (record_bytes x.0) x.1 × FitsRecord k x.0
+pub record_takes : (k : ℕ) (bytes : List ℕ) (x : Record × List ℕ) → AreBytes bytes → record_at k bytes ≡ Some x → Takes bytes (record_bytes x.0) x.1 × FitsRecord k x.0
 unfolding record_at
 record_takes k bytes x fits e =
     let a = bind_some (point_at k bytes) (λ key. body_at key.1 >>= λ body. Some (record { key = key.0; body = body.0 }, body.1)) x e in
@@ -244,7 +228,7 @@ record_takes k bytes x fits e =
     let body = body_takes a.0.1 b.0 key.0.rest_fits b.1 in
     let made : Record × List ℕ = (record { key = a.0.0; body = b.0.0 }, b.0.1) in
     let both = Takes-then bytes (point_bytes a.0.0) a.0.1 (length b.0.0 ∷ b.0.0) b.0.1 key.0 body.0 in
-    subst (λ (y : Record × List ℕ). Takes bytes (record_bytes y.0) y.1 × FitsRecord k y.0) (some_is made x b.2) (both, record { attributes = key.1; values = key.2; body = body.1 })
+    subst (λ (y : Record × List ℕ). Takes bytes (record_bytes y.0) y.1 × FitsRecord k y.0) (same_Some made x b.2) (both, record { attributes = key.1; values = key.2; body = body.1 })
 
 pub record_again : (k : ℕ) (r : Record) (rest : List ℕ) → FitsRecord k r → record_at k (record_bytes r ++ rest) ≡ Some (r, rest)
 unfolding record_at
@@ -255,16 +239,16 @@ record_again k r rest fits =
 
 -- ---- the count of records, and the attribute of a cut
 
-pub count_takes : (k : ℕ) (bytes : List ℕ) (x : ℕ × List ℕ) → IsBytes bytes → count_at k bytes ≡ Some x → Takes bytes (big_endian 2 x.0) x.1 × (x.0 < 2 ^ 16)
+pub count_takes : (k : ℕ) (bytes : List ℕ) (x : ℕ × List ℕ) → AreBytes bytes → count_at k bytes ≡ Some x → Takes bytes (big_endian 2 x.0) x.1 × (x.0 < 2 ^ 16)
 unfolding count_at
 count_takes k bytes x fits e =
     let a = bind_some (number_at 2 bytes) (λ count. cond (ltb (length count.1) (count.0 * (8 * k + 1))) None (Some count)) x e in
     let g = unless_some (ltb (length a.0.1) (a.0.0 * (8 * k + 1))) (Some a.0) x a.2 in
-    subst (λ (y : ℕ × List ℕ). Takes bytes (big_endian 2 y.0) y.1 × (y.0 < 2 ^ 16)) (some_is a.0 x g.1) (number_takes 2 (2 ^ 16) wide_2 bytes a.0 fits a.1)
+    subst (λ (y : ℕ × List ℕ). Takes bytes (big_endian 2 y.0) y.1 × (y.0 < 2 ^ 16)) (same_Some a.0 x g.1) (number_takes 2 (2 ^ 16) wide_2 bytes a.0 fits a.1)
 
 pub length_point : (point : List ℕ) → length (point_bytes point) ≡ 8 * length point
 length_point [] = refl
-length_point (x ∷ xs) = ap length (flat_map-cons (big_endian 8) x xs) ∙ length-append (big_endian 8 x) (point_bytes xs) ∙ omega (arith, length_number 8 x, length_point xs)
+length_point (x ∷ xs) = ap length (flat_map-cons (big_endian 8) x xs) ∙ length-append (big_endian 8 x) (point_bytes xs) ∙ omega (arith, length_big_endian 8 x, length_point xs)
 
 pub length_record : (k : ℕ) (r : Record) → FitsRecord k r → length (record_bytes r) ≡ 8 * k + 1 + length r.body
 length_record k r fits = length-append (point_bytes r.key) (length r.body ∷ r.body) ∙ omega (arith, length_point r.key, fits.attributes)
@@ -282,12 +266,12 @@ pub count_again : (k : ℕ) (n : ℕ) (rest : List ℕ) → n < 2 ^ 16 → n * (
 unfolding count_at
 count_again k n rest lt room = rw (number_again 2 (2 ^ 16) wide_2 n rest lt, le-ltb (length rest) (n * (8 * k + 1)) room) refl
 
-pub axis_takes : (k : ℕ) (bytes : List ℕ) (x : ℕ × List ℕ) → IsBytes bytes → axis_at k bytes ≡ Some x → Takes bytes (x.0 ∷ []) x.1 × (x.0 < k)
+pub axis_takes : (k : ℕ) (bytes : List ℕ) (x : ℕ × List ℕ) → AreBytes bytes → axis_at k bytes ≡ Some x → Takes bytes (x.0 ∷ []) x.1 × (x.0 < k)
 unfolding axis_at
 axis_takes k bytes x fits e =
     let a = bind_some (byte_at bytes) (λ axis. cond (ltb axis.0 k) (Some axis) None) x e in
     let g = when_some (ltb a.0.0 k) (Some a.0) x a.2 in
-    subst (λ (y : ℕ × List ℕ). Takes bytes (y.0 ∷ []) y.1 × (y.0 < k)) (some_is a.0 x g.1) ((byte_takes bytes a.0 fits a.1).0, ltb-true _ _ g.0)
+    subst (λ (y : ℕ × List ℕ). Takes bytes (y.0 ∷ []) y.1 × (y.0 < k)) (same_Some a.0 x g.1) ((byte_takes bytes a.0 fits a.1).0, ltb-true _ _ g.0)
 
 pub axis_again : (k axis : ℕ) (rest : List ℕ) → axis < k → axis_at k (axis ∷ rest) ≡ Some (axis, rest)
 unfolding axis_at

@@ -8,10 +8,7 @@ use Rattle.hb_space.specs.Boxes.{Area, Cuts}
 use Rattle.hb_space.specs.Points.{IsPoint}
 use Rattle.hb_frag.specs.Leaves.{IsWellCut}
 use Rattle.hb_frag.specs.Trees.{Tree, Cut}
-
--- a value that was changed and put back
-pub put_back : (xs changed : List ℕ) (at value d : ℕ) → changed ≡ slice_set xs at value → slice_set changed at (get_or xs at d) ≡ xs
-put_back xs changed at value d is = ap (λ (l : List ℕ). slice_set l at (get_or xs at d)) is ∙ set-set xs at value (get_or xs at d) ∙ set-get_or xs at d
+use Rattle.hb_lemmas.proofs.Lists.{put_back, front_copied}
 
 -- where the plane cuts the box, both corners have a value there
 pub in_hi : (lo hi : List ℕ) (axis at value : ℕ) → at ≡ axis → length lo ≡ length hi → Cuts (record { lo = lo; hi = hi }) axis value → at < length hi
@@ -42,14 +39,9 @@ pub left_uncut : (lo hi : List ℕ) (axis at value : ℕ) (left right : Tree) (r
 left_uncut lo hi axis at value left right r same off tells =
     (λ t. absurd (false≢true (sym off ∙ t)), λ whole. tells.1 (subst (λ (n : ℕ). IsWellCut left (record { lo = lo; hi = slice_set hi n (value - 1) })) (sym same) whole.1))
 
--- the values that were copied into a longer list
-pub front : (copied behind values : List ℕ) (n : ℕ) → n ≡ length values → copied ≡ values → take n (copied ++ behind) ≡ values
-front copied behind values n count same =
-    ap (λ (l : List ℕ). take n (l ++ behind)) same ∙ ap (λ (m : ℕ). take m (values ++ behind)) count ∙ take-append_seam values behind
-
 -- they are as many as were copied
 pub front_length : (copied behind values : List ℕ) (n : ℕ) → n ≡ length values → copied ≡ values → n ≡ length (take n (copied ++ behind))
-front_length copied behind values n count same = count ∙ sym (ap (λ (l : List ℕ). length l) (front copied behind values n count same))
+front_length copied behind values n count same = count ∙ sym (ap (λ (l : List ℕ). length l) (front_copied copied behind values n count same))
 
 -- and the longer list has as many
 pub front_fits : (copied behind values : List ℕ) (n : ℕ) → n ≡ length values → copied ≡ values → n ≤ length (copied ++ behind)
@@ -59,7 +51,7 @@ front_fits copied behind values n count same = omega (arith, length-append copie
 pub few_values : (values point : List ℕ) → values ≡ point → IsPoint point → length values ≤ 4
 few_values values point is said = subst (λ (l : List ℕ). length l ≤ 4) (sym is) said.few
 
--- and its front is as long as they are
+-- and its front_copied is as long as they are
 pub room_length : (values point : List ℕ) → values ≡ point → IsPoint point → length {A = ℕ} (take (length values) (0 ∷ 0 ∷ 0 ∷ 0 ∷ [])) ≡ length values
 room_length values point is said = length-take-le {A = ℕ} (length values) (0 ∷ 0 ∷ 0 ∷ 0 ∷ []) (few_values values point is said)
 

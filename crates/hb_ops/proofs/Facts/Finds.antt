@@ -13,21 +13,8 @@ use Rattle.std.proofs.lemmas.Cmp.{nat_list_cmp_total, tied_itself}
 use Rattle.hb_space.specs.Points.{point_cmp}
 use Rattle.hb_space.specs.declared.records.Record.{Record}
 use Rattle.hb_ops.specs.Recording.{joined, without}
-
--- points that compare alike are one
-pub exact_points : IsAntisymmetric point_cmp
-exact_points = slice_cmp-IsAntisymmetric nat_cmp-IsAntisymmetric
-
-equal_so : (o : Ordering) → is_eq o ≡ true → o ≡ Equal
-equal_so Less h = absurd (false≢true h)
-equal_so Equal h = refl
-equal_so Greater h = absurd (false≢true h)
-
-pub same_point : (p q : List ℕ) → eq_by_cmp point_cmp p q ≡ true → p ≡ q
-same_point p q h = exact_points p q (equal_so _ h)
-
-pub other_point : (p q : List ℕ) → p ≢ q → eq_by_cmp point_cmp p q ≡ false
-other_point p q n = elim (eq_by_cmp point_cmp p q) as (λ b. eq_by_cmp point_cmp p q ≡ b → eq_by_cmp point_cmp p q ≡ false) [ true ↦ λ t. absurd (n (same_point p q t)) | false ↦ λ f. f ] refl
+use Rattle.hb_lemmas.proofs.Orderings.{equal_so}
+use Rattle.hb_space.proofs.Facts.PointOrder.{exact_points, same_point, other_point}
 
 -- a record as an entry, and the first body under a point
 abbrev pub entry_of : Record → List ℕ × List ℕ

@@ -3,8 +3,8 @@ use Rattle.std.proofs.Common.{◌≡◌, ℕ, ◌<◌, ◌≤◌, ◌-◌, true,
 use Rattle.std.proofs.lemmas.List.{length-set}
 use Rattle.std.proofs.lemmas.Bool.Decides.{nat_tests}
 use Rattle.hb_space.specs.Boxes.{Area, IsArea, Holds, Cuts, holds, side_below, side_from}
-use Rattle.hb_space.proofs.Lists.{set_cases, IsPoint-set}
-use Rattle.hb_space.proofs.Boxes.{test-from_Holds, Holds-from_test, Holds-side_below, Holds-side_from}
+use Rattle.hb_space.proofs.Facts.Lists.{set_cases, IsPoint-set}
+use Rattle.hb_space.proofs.Facts.Boxes.{test-from_Holds, Holds-from_test, Holds-side_below, Holds-side_from}
 
 -- a box that holds the point passes its test, and one that doesn't fails it
 pub held_test : (a : Area) (p : List ℕ) → IsArea a → Holds a p → holds a p ≡ true

@@ -10,10 +10,10 @@ use Rattle.hb_frag.specs.Paths.{part_at, with_part}
 use Rattle.hb_frag.specs.Rules.{AreAlike, IsNormal}
 use Rattle.hb_frag.specs.Carving.{carved}
 use Rattle.hb_frag.specs.Normal.{normal}
-use Rattle.hb_frag.proofs.Parts.{part_weighs}
+use Rattle.hb_frag.proofs.Facts.Parts.{part_weighs}
 use Rattle.hb_frag.proofs.Normals.{normal_stays}
-use Rattle.hb_frag.proofs.SayingTheSame.{says_the_same}
-use Rattle.hb_frag.proofs.CarvedKinds.{HasCuts, alone_or_cut, carved_normal}
+use Rattle.hb_frag.proofs.Facts.SayingTheSame.{says_the_same}
+use Rattle.hb_frag.proofs.Facts.CarvedKinds.{HasCuts, alone_or_cut, carved_normal}
 
 -- a side with cuts is like no other side
 left_differs : (l r : Tree) → HasCuts l → ¬ (AreAlike l r)

@@ -11,13 +11,20 @@ use Rattle.hb_frag.specs.Grammar.{point_bytes, tree_bytes, page_fields, FitsTree
 use Rattle.hb_page_codec.specs.Reading.{◌>>=◌, number_at}
 use Rattle.hb_page_codec.specs.ReadingFields.{area_at}
 use Rattle.hb_page_codec.specs.ReadingPages.{tree_at, head_at, live_at, fields_at, page_of_bytes}
-use Rattle.hb_page_codec.proofs.Fields.{IsBytes, IsBytes-rest, Takes, Takes-then, Takes-byte, bind_some, some_is, unless_some, when_some, wide_4, number_takes, number_again, area_takes, area_again}
+use Rattle.hb_page_codec.proofs.Facts.Fields.{AreBytes-rest, Takes, Takes-then, Takes-byte, bind_some, wide_4, number_takes, number_again, area_takes, area_again}
 use Rattle.hb_page_codec.proofs.TreeLaws.{tree_takes, tree_again}
+use Rattle.hb_lemmas.proofs.Booleans.{unless_some, when_some}
+use Rattle.std.proofs.lemmas.Option.{same_Some}
+use Rattle.hb_page_codec.specs.Exact.{AreBytes}
+
+-- bytes spell at most one page
+abbrev pub SpelledOnce : Type 0
+SpelledOnce = (bytes : List ℕ) (p q : Page) → SpellsPage bytes p → SpellsPage bytes q → p ≡ q
 
 -- the level and the number of attributes
 pub record TakesHead (bytes : List ℕ) (x : ℕ × ℕ × List ℕ) : Type 0 where
   pub parts : bytes ≡ x.0 ∷ x.1 ∷ 0 ∷ x.2
-  pub rest_fits : IsBytes x.2
+  pub rest_fits : AreBytes x.2
   pub level : x.0 < 2 ^ 8
   pub some : 0 < x.1
   pub few : x.1 ≤ KMAX
@@ -26,7 +33,7 @@ zero_or_more : (k : ℕ) → eqb k 0 ≡ false → 0 < k
 zero_or_more zero e = absurd cc
 zero_or_more (suc k) e = omega arith
 
-pub head_takes : (bytes : List ℕ) (x : ℕ × ℕ × List ℕ) → IsBytes bytes → head_at bytes ≡ Some x → TakesHead bytes x
+pub head_takes : (bytes : List ℕ) (x : ℕ × ℕ × List ℕ) → AreBytes bytes → head_at bytes ≡ Some x → TakesHead bytes x
 unfolding head_at
 head_takes [] x fits e = absurd cc
 head_takes (level ∷ []) x fits e = absurd cc
@@ -35,7 +42,7 @@ head_takes (level ∷ k ∷ suc b ∷ rest) x fits e = absurd cc
 head_takes (level ∷ k ∷ zero ∷ rest) x fits e =
     let g = unless_some (eqb k 0) (cond (ltb KMAX k) None (Some (level, k, rest))) x e in
     let h = unless_some (ltb KMAX k) (Some (level, k, rest)) x g.1 in
-    subst (TakesHead (level ∷ k ∷ zero ∷ rest)) (some_is (level, k, rest) x h.1) (record {
+    subst (TakesHead (level ∷ k ∷ zero ∷ rest)) (same_Some (level, k, rest) x h.1) (record {
       parts = refl;
       rest_fits = λ i. fits (suc (suc (suc i)));
       level = fits 0;
@@ -43,7 +50,7 @@ head_takes (level ∷ k ∷ zero ∷ rest) x fits e =
       few = ltb-false KMAX k h.0;
     })
 
-live_takes : (bytes : List ℕ) (x : Page × List ℕ) → IsBytes bytes → live_at bytes ≡ Some x → Takes (1 ∷ bytes) (page_fields x.0) x.1 × FitsPage x.0
+live_takes : (bytes : List ℕ) (x : Page × List ℕ) → AreBytes bytes → live_at bytes ≡ Some x → Takes (1 ∷ bytes) (page_fields x.0) x.1 × FitsPage x.0
 unfolding live_at
 live_takes bytes x fits e =
     let h = bind_some (head_at bytes) (λ head. area_at head.1 head.2 >>= λ area. tree_at head.1 area.1 >>= λ tree. Some (Live (record { level = head.0; area = area.0; frag = tree.0 }), tree.1)) x e in
@@ -59,19 +66,19 @@ live_takes bytes x fits e =
     let all : 1 ∷ bytes ≡ page_fields (Live (record { level = level; area = a.0.0; frag = t.0.0 })) ++ t.0.1 = front ∙ ap (λ (xs : List ℕ). 1 ∷ level ∷ length a.0.0.lo ∷ 0 ∷ xs) behind.parts in
     let made : Page × List ℕ = (Live (record { level = level; area = a.0.0; frag = t.0.0 }), t.0.1) in
     let tree_fits : FitsTree (length a.0.0.lo) t.0.0 = subst (λ (n : ℕ). FitsTree n t.0.0) (sym area.1) tree.1 in
-    subst (λ (y : Page × List ℕ). Takes (1 ∷ bytes) (page_fields y.0) y.1 × FitsPage y.0) (some_is made x t.2)
+    subst (λ (y : Page × List ℕ). Takes (1 ∷ bytes) (page_fields y.0) y.1 × FitsPage y.0) (same_Some made x t.2)
     (record { parts = all; rest_fits = behind.rest_fits }, (head.level, area.2, tree_fits))
 
-fields_take : (bytes : List ℕ) (x : Page × List ℕ) → IsBytes bytes → fields_at bytes ≡ Some x → Takes bytes (page_fields x.0) x.1 × FitsPage x.0
+fields_take : (bytes : List ℕ) (x : Page × List ℕ) → AreBytes bytes → fields_at bytes ≡ Some x → Takes bytes (page_fields x.0) x.1 × FitsPage x.0
 unfolding fields_at
 fields_take [] x fits e = absurd cc
 fields_take (zero ∷ rest) x fits e = absurd cc
-fields_take (suc zero ∷ rest) x fits e = live_takes rest x (IsBytes-rest 1 rest fits) e
+fields_take (suc zero ∷ rest) x fits e = live_takes rest x (AreBytes-rest 1 rest fits) e
 fields_take (suc (suc zero) ∷ rest) x fits e =
     let a = bind_some (number_at 4 rest) (λ next. Some (Free next.0, next.1)) x e in
-    let next = number_takes 4 (2 ^ 32) wide_4 rest a.0 (IsBytes-rest 2 rest fits) a.1 in
+    let next = number_takes 4 (2 ^ 32) wide_4 rest a.0 (AreBytes-rest 2 rest fits) a.1 in
     let made : Page × List ℕ = (Free a.0.0, a.0.1) in
-    subst (λ (y : Page × List ℕ). Takes (2 ∷ rest) (page_fields y.0) y.1 × FitsPage y.0) (some_is made x a.2) (Takes-byte 2 rest _ a.0.1 next.0, next.1)
+    subst (λ (y : Page × List ℕ). Takes (2 ∷ rest) (page_fields y.0) y.1 × FitsPage y.0) (same_Some made x a.2) (Takes-byte 2 rest _ a.0.1 next.0, next.1)
 fields_take (suc (suc (suc b)) ∷ rest) x fits e = absurd cc
 
 are_zeros : (bytes : List ℕ) → list_all (λ b. eqb b 0) bytes ≡ true → bytes ≡ replicate (length bytes) 0
@@ -82,14 +89,14 @@ zeros_are : (n : ℕ) → list_all (λ b. eqb b 0) (replicate n 0) ≡ true
 zeros_are zero = refl
 zeros_are (suc n) = zeros_are n
 
-pub page_takes : (bytes : List ℕ) (page : Page) → IsBytes bytes → page_of_bytes bytes ≡ Some page → SpellsPage bytes page
+pub page_takes : (bytes : List ℕ) (page : Page) → AreBytes bytes → page_of_bytes bytes ≡ Some page → SpellsPage bytes page
 unfolding page_of_bytes
 page_takes bytes page fits e =
     let g = when_some (eqb (length bytes) PAGE) (fields_at bytes >>= λ x. cond (list_all (λ b. eqb b 0) x.1) (Some x.0) None) page e in
     let a = bind_some (fields_at bytes) (λ x. cond (list_all (λ b. eqb b 0) x.1) (Some x.0) None) page g.1 in
     let h = when_some (list_all (λ b. eqb b 0) a.0.1) (Some a.0.0) page a.2 in
     let fields = fields_take bytes a.0 fits a.1 in
-    subst (SpellsPage bytes) (some_is a.0.0 page h.1) (record {
+    subst (SpellsPage bytes) (same_Some a.0.0 page h.1) (record {
       fits = fields.1;
       long = eqb-true _ _ g.0;
       spelled = (length a.0.1, fields.0.parts ∙ ap (λ (rest : List ℕ). page_fields a.0.0 ++ rest) (are_zeros a.0.1 h.0));
@@ -124,7 +131,7 @@ page_again bytes page s =
 
 -- bytes spell at most one page
 pub one_page : (bytes : List ℕ) (p q : Page) → SpellsPage bytes p → SpellsPage bytes q → p ≡ q
-one_page bytes p q s t = some_is p q (sym (page_again bytes p s) ∙ page_again bytes q t)
+one_page bytes p q s t = same_Some p q (sym (page_again bytes p s) ∙ page_again bytes q t)
 
 -- how many zeros there are
 pub zeros_left : (bytes : List ℕ) (page : Page) (s : SpellsPage bytes page) → length (page_fields page) + s.spelled.0 ≡ PAGE

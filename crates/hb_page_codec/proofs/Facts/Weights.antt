@@ -16,15 +16,12 @@ use Rattle.hb_frag.specs.Leaves.{leaves, leaf_weight, weight_of}
 use Rattle.hb_frag.specs.Rules.{BelongsAt, IsFilledRight, capacity_of}
 use Rattle.hb_frag.specs.Grammar.{point_bytes, record_bytes, tree_bytes, page_fields, FitsRecord, FitsTree, FitsPage, HasSpelling, SpellsPage}
 use Rattle.hb_page_codec.specs.Weight.{IsLight}
-use Rattle.hb_page_codec.proofs.Fields.{length_number, length_point, length_record}
+use Rattle.hb_page_codec.proofs.Facts.Fields.{length_point, length_record}
 use Rattle.hb_page_codec.proofs.Writes.{length-cut}
-use Rattle.hb_page_codec.proofs.PageLaws.{zeros_left}
-
-weight-cut : (axis value : ℕ) (left right : Tree) → weight_of (Cut axis value left right) ≡ weight_of left + weight_of right
-weight-cut axis value left right =
-    sum-map leaf_weight (leaves left ++ leaves right) ∙ sum_by-append leaf_weight (leaves left) (leaves right)
-    ∙ ap (λ (n : ℕ). n + sum_by leaf_weight (leaves right)) (sym (sum-map leaf_weight (leaves left)))
-    ∙ ap (λ (n : ℕ). weight_of left + n) (sym (sum-map leaf_weight (leaves right)))
+use Rattle.hb_page_codec.proofs.Facts.PageLaws.{zeros_left}
+use Rattle.hb_frag.proofs.Facts.Parts.{weight_cut}
+use Rattle.hb_lemmas.proofs.Numbers.{length_big_endian}
+use Rattle.hb_lemmas.proofs.Lists.{parts}
 
 -- each record has a byte at least
 records_long : (rs : List Record) → length rs ≤ length (flat_map record_bytes rs)
@@ -38,7 +35,7 @@ weight_short : (t : Tree) → weight_of t ≤ length (tree_bytes t)
 weight_short (Tip (Records rs)) = omega (arith, records_long rs, length-append (1 ∷ big_endian 2 (length rs)) (flat_map record_bytes rs))
 weight_short (Tip (Child page)) = omega arith
 weight_short (Tip (Sibling page)) = omega arith
-weight_short (Cut axis value left right) = omega (arith, weight-cut axis value left right, length-cut axis value left right, weight_short left, weight_short right)
+weight_short (Cut axis value left right) = omega (arith, weight_cut axis value left right, length-cut axis value left right, weight_short left, weight_short right)
 
 page_length : (page : LivePage) → length (page_fields (Live page)) ≡ 4 + 8 * length page.area.lo + 8 * length page.area.hi + length (tree_bytes page.frag)
 page_length page =
@@ -60,28 +57,19 @@ records_short k (r ∷ rs) few fits =
 -- a tree has at most 78 bytes for each unit of its weight, and a cut less than leaves
 data_short : (k : ℕ) (t : Tree) → k ≤ KMAX → FitsTree k t → length (tree_bytes t) + 10 ≤ 78 * weight_of t
 data_short k (Tip (Records rs)) few fits =
-    omega (arith, records_short k rs few (recursion_from_All (FitsRecord k) rs fits.1), length-append (1 ∷ big_endian 2 (length rs)) (flat_map record_bytes rs), length_number 2 (length rs))
-data_short k (Tip (Child page)) few fits = omega (arith, length_number 4 page)
-data_short k (Tip (Sibling page)) few fits = omega (arith, length_number 4 page)
+    omega (arith, records_short k rs few (recursion_from_All (FitsRecord k) rs fits.1), length-append (1 ∷ big_endian 2 (length rs)) (flat_map record_bytes rs), length_big_endian 2 (length rs))
+data_short k (Tip (Child page)) few fits = omega (arith, length_big_endian 4 page)
+data_short k (Tip (Sibling page)) few fits = omega (arith, length_big_endian 4 page)
 data_short k (Cut axis value left right) few fits =
-    omega (arith, weight-cut axis value left right, length-cut axis value left right, data_short k left few fits.2, data_short k right few fits.3)
-
--- what holds of both parts of a list
-front_all : {A : Type 0} (P : A → Type 0) (xs ys : List A) → AllByRecursion P (xs ++ ys) → AllByRecursion P xs
-front_all P [] ys h = tt
-front_all P (x ∷ xs) ys h = (h.0, front_all P xs ys h.1)
-
-back_all : {A : Type 0} (P : A → Type 0) (xs ys : List A) → AllByRecursion P (xs ++ ys) → AllByRecursion P ys
-back_all P [] ys h = h
-back_all P (x ∷ xs) ys h = back_all P xs ys h.1
+    omega (arith, weight_cut axis value left right, length-cut axis value left right, data_short k left few fits.2, data_short k right few fits.3)
 
 -- above level 0 at most 15
 index_short : (level : ℕ) (t : Tree) → 0 < level → AllByRecursion (BelongsAt level) (leaves t) → length (tree_bytes t) + 10 ≤ 15 * weight_of t
 index_short level (Tip (Records rs)) above kinds = let ground : level ≡ 0 = kinds.0 in absurd (omega (arith, ground))
-index_short level (Tip (Child page)) above kinds = omega (arith, length_number 4 page)
-index_short level (Tip (Sibling page)) above kinds = omega (arith, length_number 4 page)
+index_short level (Tip (Child page)) above kinds = omega (arith, length_big_endian 4 page)
+index_short level (Tip (Sibling page)) above kinds = omega (arith, length_big_endian 4 page)
 index_short level (Cut axis value left right) above kinds =
-    omega (arith, weight-cut axis value left right, length-cut axis value left right, index_short level left above (front_all (BelongsAt level) (leaves left) (leaves right) kinds), index_short level right above (back_all (BelongsAt level) (leaves left) (leaves right) kinds))
+    omega (arith, weight_cut axis value left right, length-cut axis value left right, index_short level left above (parts (BelongsAt level) (leaves left) (leaves right) kinds).0, index_short level right above (parts (BelongsAt level) (leaves left) (leaves right) kinds).1)
 
 tree_short : (level k : ℕ) (t : Tree) (dcap icap : ℕ) → k ≤ KMAX → FitsTree k t → AllByRecursion (BelongsAt level) (leaves t) → weight_of t ≤ capacity_of level dcap icap → dcap ≤ 48 → icap ≤ 256 → length (tree_bytes t) ≤ 3840
 tree_short zero k t dcap icap few fits kinds light small large = omega (arith, data_short k t few fits)
@@ -95,4 +83,4 @@ filled_page_short page dcap icap fits filled small large =
     record { fits = fits; short = omega (arith, tree, page_length page, fits.1.lo_point.few, fits.1.hi_point.few) }
 
 pub free_page_short : (next : ℕ) → next < 2 ^ 32 → HasSpelling (Free next)
-free_page_short next fits = record { fits = fits; short = omega (arith, length_number 4 next) }
+free_page_short next fits = record { fits = fits; short = omega (arith, length_big_endian 4 next) }

@@ -13,11 +13,7 @@ use Rattle.hb_space.specs.declared.records.Record.{Record}
 use Rattle.hb_frag.specs.Rules.{Precedes}
 use Rattle.hb_ops.specs.Edits.{IsAt, IsGapFor}
 use Rattle.hb_ops.specs.Recording.{joined, without}
-use Rattle.hb_ops.proofs.Finds.{exact_points}
-
--- of two points the lesser one is first
-turned : (p q : List ℕ) (o : Ordering) → point_cmp p q ≡ o → point_cmp q p ≡ ordering_reverse o
-turned p q o h = nat_list_cmp_total.antisymm q p ∙ ap ordering_reverse h
+use Rattle.hb_space.proofs.Facts.PointOrder.{exact_points, turned}
 
 -- the comparisons with a point rise, as a binary search asks
 pub comparisons_rise : (records : List Record) (p : List ℕ) → AllPairs Precedes records → IsNonDecreasingBy (λ r. ordering_index (point_cmp r.key p)) records

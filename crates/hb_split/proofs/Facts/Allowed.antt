@@ -17,9 +17,9 @@ use Rattle.hb_ops.specs.Cutting.{area_on, going, half_area, is_on, other_side, r
 use Rattle.hb_ops.specs.declared.leaf_cuts.LeafCut.{LeafCut}
 use Rattle.hb_split.specs.Choosing.{way_down, MayCut, AreChosen}
 use Rattle.hb_split.specs.Laws.{IsThirds, MayLeave}
-use Rattle.hb_split.proofs.Ends.{at_end, of_page, records_held}
+use Rattle.hb_split.proofs.Facts.Ends.{at_end, of_page, records_held}
 use Rattle.hb_split.proofs.Nexts.{parts}
-use Rattle.hb_ops.proofs.Facts.LeafHalfLaws.{holds_on}
+use Rattle.hb_ops.proofs.Facts.LeafHalfLaws.{holds_on, side_attributes}
 
 -- the plane of a chosen cut cuts the box that its records lie in
 plane_cuts : (k axis value : ℕ) (records : List Record) (a : Area) → length a.lo ≡ k → All (λ r. Holds a r.key) records → MayCut k axis value records → Cuts a axis value
@@ -32,10 +32,6 @@ plane_cuts k axis value records a same held m =
     let h = high.between axis (omega (arith, at, same, high.same)) in
     let l = low.between axis (omega (arith, at, same, low.same)) in
     record { attribute = omega (arith, at, same); above_least = omega (arith, l.0, less); up_to_greatest = omega (arith, h.1, e) }
-
-as_long : (side : Side) (axis value : ℕ) (a : Area) → length (area_on side axis value a).lo ≡ length a.lo
-as_long Left axis value a = refl
-as_long Right axis value a = length-set a.lo axis value
 
 pub part_leaves : (n k : ℕ) (cuts : List LeafCut) (tree : Tree) (a : Area) → length a.lo ≡ k → All (λ r. Holds a r.key) (records_in tree) → AreChosen n k cuts tree → PartLeaves cuts tree a
 part_leaves n k [] tree a same held c = tt
@@ -50,7 +46,7 @@ part_leaves n k (cut ∷ cuts) tree a same held c =
         on = parts k cut.axis cut.value c.0.records c.0.best.may cut.side;
         off = parts k cut.axis cut.value c.0.records c.0.best.may (other_side cut.side);
       },
-      part_leaves n k cuts (going cut tree) (half_area cut a) (as_long cut.side cut.axis cut.value a ∙ same)
+      part_leaves n k cuts (going cut tree) (half_area cut a) (side_attributes cut.side cut.axis cut.value a ∙ same)
           (λ i d lt. holds_on cut.side cut.axis cut.value a (get_or (filter on (records_in tree)) i d) plane (All-filter on (λ (r : Record). Holds a r.key) (records_in tree) held i d lt) (filter_passes on (records_in tree) i d lt)) c.1,
     )
 

@@ -3,14 +3,15 @@ use Rattle.std.proofs.Common.{◌≡◌, ℕ, ◌+◌, ◌↔◌, List, [], ◌�
 use Rattle.std.proofs.lemmas.List.{append_assoc, append-nil}
 use Rattle.std.proofs.lemmas.Grind.{common_steps}
 use Rattle.hb_space.specs.Boxes.{Area, IsArea, side_below, side_from}
-use Rattle.hb_space.proofs.Boxes.{Holds-side_below, Holds-side_from}
+use Rattle.hb_space.proofs.Facts.Boxes.{Holds-side_below, Holds-side_from}
 use Rattle.hb_frag.specs.declared.paths.Side.{Side}
 use Rattle.hb_frag.specs.declared.paths.Side.TheVariants.{Left, Right}
 use Rattle.hb_frag.specs.Trees.{Tree, Tip, Cut}
 use Rattle.hb_frag.specs.Leaves.{IsWellCut, leaves_of, weight_of}
 use Rattle.hb_frag.specs.Paths.{part_at, with_part, StaysInside}
 use Rattle.hb_frag.specs.Laws.{IsStretch, IsPart}
-use Rattle.hb_frag.proofs.Sides.{IsArea-side_below, IsArea-side_from}
+use Rattle.hb_frag.proofs.Facts.Sides.{IsArea-side_below, IsArea-side_from}
+use Rattle.std.proofs.lemmas.Option.{same_Some}
 
 pub stays_where_some : (path : List Side) (t : Tree) (area : Area) → StaysInside path t ↔ IsSome (part_at path t area)
 stays_where_some [] t area = (λ h. refl, λ h. tt)
@@ -19,14 +20,11 @@ stays_where_some (Right ∷ path) (Tip leaf) area = (λ h. absurd h, λ h. absur
 stays_where_some (Left ∷ path) (Cut axis value left right) area = stays_where_some path left (side_below area axis value)
 stays_where_some (Right ∷ path) (Cut axis value left right) area = stays_where_some path right (side_from area axis value)
 
-the_root : (t : Tree) (area : Area) (w : Tree × Area) → Some (t, area) ≡ Some w → (t, area) ≡ w
-the_root t area w e = cc
-
 -- a part's leaves are a stretch of the tree's
 pub part_stretch : (path : List Side) (t : Tree) (area : Area) (w : Tree × Area) → part_at path t area ≡ Some w → IsStretch path t area w
 part_stretch [] t area w e =
     let P : Tree × Area → Type 0 = IsStretch [] t area in
-    subst P (the_root t area w e) (record { front = []; behind = []; whole = sym (append-nil _); other = λ other. sym (append-nil _) })
+    subst P (same_Some (t, area) w e) (record { front = []; behind = []; whole = sym (append-nil _); other = λ other. sym (append-nil _) })
 part_stretch (Left ∷ path) (Tip leaf) area w e = absurd (cc)
 part_stretch (Right ∷ path) (Tip leaf) area w e = absurd (cc)
 part_stretch (Left ∷ path) (Cut axis value left right) area w e =
@@ -52,7 +50,7 @@ part_stretch (Right ∷ path) (Cut axis value left right) area w e =
 pub part_fits : (path : List Side) (t : Tree) (area : Area) (w : Tree × Area) → part_at path t area ≡ Some w → IsArea area → IsWellCut t area → IsPart path t area w
 part_fits [] t area w e h cut =
     let P : Tree × Area → Type 0 = IsPart [] t area in
-    subst P (the_root t area w e) (record { is_area = h; well_cut = cut; inside = λ p held. held; again = λ other. refl; cuts = λ other. (λ k. k, λ k. k) })
+    subst P (same_Some (t, area) w e) (record { is_area = h; well_cut = cut; inside = λ p held. held; again = λ other. refl; cuts = λ other. (λ k. k, λ k. k) })
 part_fits (Left ∷ path) (Tip leaf) area w e h cut = absurd (cc)
 part_fits (Right ∷ path) (Tip leaf) area w e h cut = absurd (cc)
 part_fits (Left ∷ path) (Cut axis value left right) area w e h cut =
@@ -81,7 +79,7 @@ weight_cut axis value left right = grind (arith, common_steps)
 pub part_weighs : (path : List Side) (t : Tree) (area : Area) (w : Tree × Area) (other : Tree) → part_at path t area ≡ Some w → weight_of (with_part path t other) + weight_of w.0 ≡ weight_of t + weight_of other
 part_weighs [] t area w other e =
     let P : Tree × Area → Type 0 = λ w. weight_of other + weight_of w.0 ≡ weight_of t + weight_of other in
-    subst P (the_root t area w e) (omega arith)
+    subst P (same_Some (t, area) w e) (omega arith)
 part_weighs (Left ∷ path) (Tip leaf) area w other e = absurd (cc)
 part_weighs (Right ∷ path) (Tip leaf) area w other e = absurd (cc)
 part_weighs (Left ∷ path) (Cut axis value left right) area w other e =

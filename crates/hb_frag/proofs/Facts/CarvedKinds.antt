@@ -6,8 +6,8 @@ use Rattle.hb_frag.specs.Trees.{Tree, Tip, Cut}
 use Rattle.hb_frag.specs.Leaves.{leaves_of, siblings, weight_of}
 use Rattle.hb_frag.specs.Rules.{AreAlike, IsNormal}
 use Rattle.hb_frag.specs.Carving.{carve_above, carve_from}
-use Rattle.hb_frag.proofs.Parts.{weight_cut}
-use Rattle.hb_frag.proofs.NamesListed.{siblings-append}
+use Rattle.hb_frag.proofs.Facts.Parts.{weight_cut}
+use Rattle.hb_frag.proofs.Facts.NamesListed.{siblings-append}
 use Rattle.hb_frag.proofs.Carves.{weight_step}
 
 -- what holds of the new child alone, and of each cut with what it holds within, holds of the whole

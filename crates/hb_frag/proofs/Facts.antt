@@ -1,0 +1,10 @@
+pub mod CarvedKinds
+pub mod CarvedPages
+pub mod NamesListed
+pub mod Parts
+pub mod Points
+pub mod SayingTheSame
+pub mod Sides
+pub mod Tiles
+pub mod Direct
+pub mod PointOrder

@@ -1,0 +1,4 @@
+pub mod Boxes
+pub mod Lists
+pub mod Outside
+pub mod PointOrder

@@ -1,0 +1,2 @@
+pub mod OneMerge
+pub mod Owing
