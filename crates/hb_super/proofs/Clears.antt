@@ -1,14 +1,16 @@
 -- What the clearing of a hidden body leaves.
-use Rattle.std.proofs.Common.{◌≡◌, ◌≢◌, ◌⊎◌, inl, inr, ℕ, ◌+◌, ◌*◌, ◌%◌, ◌≤◌, List, length, take, drop, get_or, replicate, Option, Some, None, IsSome, IfSome, Result, Ok, OnOk, Bool, true, false, sym, ap, ◌∙◌, subst, refl, arith}
+use Rattle.std.proofs.Common.{◌≡◌, ◌≢◌, ◌⊎◌, inl, inr, ℕ, ◌+◌, ◌*◌, ◌%◌, ◌≤◌, List, length, take, drop, get_or, replicate, Option, Some, None, IfSome, Result, Ok, Bool, true, false, sym, ap, ◌∙◌, subst, refl, arith}
 use Rattle.hb_space.specs.declared.form.TheConstants.{PAGE}
 use Rattle.hb_disk.specs.Model.{DiskModel, IsDisk, overwritten, Torn}
-use Rattle.hb_disk.specs.Calls.{Writes, Syncs, Ticks, Leaves, Becomes, IsSynced, Apart, OnlyReads, open_gate}
+use Rattle.hb_disk.specs.Calls.{Writes, Syncs, Leaves, Becomes, IsSynced, Apart, OnlyReads, open_gate}
+use Rattle.hb_disk.specs.Runs.{Rewrites, WritesThrough}
 use Rattle.hb_disk.proofs.Facts.TornLaws.{Torn-same, Torn-itself, Torn-elsewhere}
 use Rattle.hb_disk.proofs.Facts.OverwrittenLaws.{overwritten-reads}
-use Rattle.hb_disk.proofs.Facts.RunLaws.{one_tick, Leaves-start, Leaves-call, Leaves-read, Leaves-then, Leaves-weaker}
-use Rattle.hb_lemmas.proofs.Options.{some_value, at_value, of_value, if_value}
+use Rattle.hb_disk.proofs.Facts.RunLaws.{Leaves-start, Leaves-call, Leaves-read, Leaves-then, Leaves-weaker}
+use Rattle.hb_lemmas.proofs.Options.{at_value, of_value, if_value}
 use Rattle.std.proofs.lemmas.Option.{same_Some}
-use Rattle.hb_disk.proofs.Facts.BecomesLaws.{told_written, Becomes-read, Becomes-write, Becomes-torn, Becomes-torn_sync}
+use Rattle.hb_disk.proofs.Facts.BecomesLaws.{told_written}
+use Rattle.hb_disk.proofs.Facts.RewriteLaws.{Rewrites-write, Rewrites-sync, Rewrites-torn, WritesThrough-synced}
 use Rattle.hb_disk.proofs.Facts.SyncedLaws.{part_of}
 use Rattle.hb_layout.specs.declared.meta.Meta.{Meta}
 use Rattle.hb_layout.specs.Offsets.{slot_offset}
@@ -17,7 +19,7 @@ use Rattle.hb_super.specs.Moments.{HidesNoOther}
 use Rattle.hb_super.specs.Hidden.{DifferIs, OtherIs, HidesIs, ClearLeaves}
 use Rattle.hb_super.proofs.Supers.{gate_at, body_at, same_place, other_parity}
 use Rattle.hb_super.proofs.Bodies.{one_body}
-use Rattle.hb_super.proofs.Writes.{place_fits, places_apart, next_apart, still_tells}
+use Rattle.hb_super.proofs.Writes.{place_fits, places_apart, next_apart}
 
 -- whether it is another body, where it says this
 pub other_from : (differs : Bool) (turn : ℕ) (said meta : Meta) (gate : ℕ) (body : List ℕ) → DifferIs differs said meta → gate ≢ open_gate → IsLegal turn said → body ≡ body_bytes turn said
@@ -48,7 +50,7 @@ zeroed_hides r v d one is_disk room turn ok writes e told meta = by_cases d.told
 
 -- what the zeroing of a body, and the sync after it, touched and left
 module _ (d one : DiskModel) (is_disk : IsDisk d) (is_one : IsDisk one) (room : 8192 ≤ d.size) (turn : ℕ) {T E : Type 0} (zeroed : Result T E)
-    (at : ℕ) (is : at ≡ slot_offset turn) (found : Writes (at + 1) (replicate 40 0) zeroed d one) (ticks : Ticks zeroed d one) where
+    (at : ℕ) (is : at ≡ slot_offset turn) (found : Writes (at + 1) (replicate 40 0) zeroed d one) where
   writes : Writes (slot_offset turn + 1) (replicate 40 0) zeroed d one
   writes = subst (λ (place : ℕ). Writes (place + 1) (replicate 40 0) zeroed d one) is found
 
@@ -57,29 +59,20 @@ module _ (d one : DiskModel) (is_disk : IsDisk d) (is_one : IsDisk one) (room : 
   InBody c = (a : List ℕ) × d.Image a × Torn (slot_offset turn + 1) 40 a c
 
   pub zero_moments : Leaves d one InBody
-  zero_moments = Leaves-call zeroed d d one InBody (Leaves-start d InBody is_disk (λ c image. (c, image, Torn-itself (slot_offset turn + 1) 40 c (is_disk.bytes c image)))) ticks writes.crash
+  zero_moments = Leaves-call zeroed d d one InBody (Leaves-start d InBody is_disk (λ c image. (c, image, Torn-itself (slot_offset turn + 1) 40 c (is_disk.bytes c image)))) writes.ticks writes.crash
 
-  pub zero_place : Becomes (Torn (slot_offset turn + 1) 40) d one
-  zero_place = Becomes-write zeroed (slot_offset turn + 1) (replicate 40 0) d one is_disk is_one (omega (arith, place_fits turn, room)) writes ticks
+  pub sync_moments : {F G : Type 0} (synced : Result F G) (new : DiskModel) → Syncs synced one new → Leaves d new InBody
+  sync_moments synced new syncs = Leaves-call synced d one new InBody zero_moments syncs.ticks (λ c image. writes.crash c (syncs.crash c image))
 
-  pub zero_clock : IsSome d.told → one.clock ≤ d.clock + 2
-  zero_clock tells = omega (arith, one_tick zeroed d one is_disk ticks tells)
+  pub zero_wrote : Rewrites (Torn (slot_offset turn + 1) 40) 1 zeroed d one
+  zero_wrote = Rewrites-write zeroed (slot_offset turn + 1) (replicate 40 0) (slot_offset turn + 1) 40 d one is_disk is_one (omega (arith, place_fits turn, room)) (omega arith) (omega arith) writes
 
-  module _ {F G : Type 0} (synced : Result F G) (new : DiskModel) (syncs : Syncs synced one new) (sync_ticks : Ticks synced one new) where
-    pub sync_moments : Leaves d new InBody
-    sync_moments = Leaves-call synced d one new InBody zero_moments sync_ticks (λ c image. writes.crash c (syncs.crash c image))
-
-    pub sync_place : Becomes (Torn (slot_offset turn + 1) 40) d new
-    sync_place = Becomes-torn (slot_offset turn + 1) 40 d one new zero_place (Becomes-torn_sync synced (slot_offset turn + 1) 40 one new is_one syncs sync_ticks)
-
-    pub sync_durable : OnOk synced (IfSome new.told (λ b. (c : List ℕ) → new.Image c → c ≡ b))
-    sync_durable = subst (λ (o : Option (List ℕ)). OnOk synced (IfSome o (λ b. (c : List ℕ) → new.Image c → c ≡ b))) (sym syncs.same) syncs.durable
-
-    pub sync_clock : IsSome d.told → new.clock ≤ d.clock + 2
-    sync_clock tells =
-        let b = some_value d.told tells in
-        let first = one_tick zeroed d one is_disk ticks tells in
-        omega (arith, first, one_tick synced one new is_one sync_ticks (still_tells (slot_offset turn + 1) 40 d one b.0 b.1 zero_place))
+  pub sync_wrote : (v : T) → zeroed ≡ Ok v → {F G : Type 0} (synced : Result F G) (new : DiskModel) → Syncs synced one new
+      → WritesThrough (λ b. overwritten b (slot_offset turn + 1) (replicate 40 0)) (Torn (slot_offset turn + 1) 40) 2 synced d new
+  sync_wrote v ok synced new syncs =
+      WritesThrough-synced synced (λ b. overwritten b (slot_offset turn + 1) (replicate 40 0)) (Torn (slot_offset turn + 1) 40) 2 d one new syncs
+      (λ b told. told_written zeroed v (slot_offset turn + 1) (replicate 40 0) d one b ok told writes)
+      (Rewrites-torn zeroed synced (slot_offset turn + 1) 40 1 1 d one new v ok zero_wrote (Rewrites-sync synced (slot_offset turn + 1) 40 one new is_one syncs))
 
 -- the same place of lists that have the same in the first two pages
 place_part : (xs ys : List ℕ) → take 8192 (drop 0 xs) ≡ take 8192 (drop 0 ys) → (turn : ℕ) → take 41 (drop (slot_offset turn) xs) ≡ take 41 (drop (slot_offset turn) ys)
@@ -140,9 +133,6 @@ module _ (d one : DiskModel) (is_disk : IsDisk d) (reads : OnlyReads d one) (old
 
 -- what reads alone keep
 module _ (d one : DiskModel) (is_disk : IsDisk d) (reads : OnlyReads d one) (turn : ℕ) where
-  pub reads_place : Becomes (Torn (slot_offset turn + 1) 40) d one
-  reads_place = Becomes-read (Torn (slot_offset turn + 1) 40) d one is_disk (Torn-itself (slot_offset turn + 1) 40) reads.stays
-
   pub reads_nothing : (meta : Meta) → IfSome d.told (λ b. HidesNoOther b turn meta → OnlyReads d one)
   reads_nothing meta = if_value d.told (λ b. HidesNoOther b turn meta → OnlyReads d one) (λ _ _ _. reads)
 
@@ -194,9 +184,3 @@ module _ (d one new : DiskModel) (is_disk : IsDisk d) (reads : OnlyReads d one) 
   cleared_moments run old said next synced = if_value d.told (λ b. IsNewest b old said → Leaves d new (ClearLeaves d old said turn)) (λ b told newest.
       let here = other b told in
       clear_left d one is_disk reads old said turn next synced b told newest new here.closed run)
-
--- reads keep a range synced
-pub IsSynced-reads : (old new : DiskModel) (at n : ℕ) → OnlyReads old new → IsSynced old at n → IsSynced new at n
-IsSynced-reads old new at n reads was = record {
-  each = λ b c told image. was.each b c (sym reads.stays.told ∙ told) (reads.stays.image c image);
-}

@@ -1,17 +1,19 @@
 -- What a crash leaves in each step of the writing of a superblock.
-use Rattle.std.proofs.Common.{◌≡◌, ◌≢◌, inl, inr, ℕ, ◌+◌, ◌-◌, ◌%◌, ◌≤◌, List, [], ◌∷◌, length, take, drop, get_or, Option, Some, None, IfSome, IsSome, Result, Ok, refl, sym, ap, ◌∙◌, subst, arith}
+use Rattle.std.proofs.Common.{◌≡◌, ◌≢◌, inl, inr, ℕ, ◌+◌, ◌-◌, ◌%◌, ◌≤◌, List, [], ◌∷◌, length, take, drop, get_or, Option, Some, None, IsSome, Result, Ok, refl, sym, ap, ◌∙◌, subst, arith}
 use Rattle.std.proofs.Math.Dec.{eqb}
 use Rattle.std.proofs.lemmas.Bool.{cases_Bool, eqb-true, eqb-false}
 use Rattle.std.proofs.lemmas.List.{ext_get_or}
 use Rattle.hb_lemmas.specs.Numbers.{big_endian}
 use Rattle.hb_disk.specs.Model.{DiskModel, IsDisk, overwritten, Torn}
-use Rattle.hb_disk.specs.Calls.{Ticks, Writes, Syncs, Leaves, Becomes, IsSynced, FrameOrNot, Apart, open_gate}
+use Rattle.hb_disk.specs.Calls.{Writes, Syncs, Leaves, Becomes, IsSynced, FrameOrNot, Apart, open_gate}
+use Rattle.hb_disk.specs.Runs.{Rewrites, WritesThrough}
 use Rattle.hb_disk.proofs.Facts.TornLaws.{cases_range, Torn-itself, Torn-wider, Torn-twice, Torn-elsewhere}
 use Rattle.hb_disk.proofs.Facts.OverwrittenLaws.{length-overwritten, overwritten-inside, overwritten-outside, overwritten-reads}
-use Rattle.hb_disk.proofs.Facts.RunLaws.{one_tick, Leaves-start, Leaves-call, Leaves-weaker, Leaves-then}
-use Rattle.hb_lemmas.proofs.Options.{some_value, at_value, has_value}
+use Rattle.hb_disk.proofs.Facts.RunLaws.{Leaves-start, Leaves-call, Leaves-weaker, Leaves-then}
+use Rattle.hb_lemmas.proofs.Options.{some_value, at_value}
 use Rattle.std.proofs.lemmas.Option.{same_Some}
-use Rattle.hb_disk.proofs.Facts.BecomesLaws.{told_written, Becomes-torn, Becomes-torn_write, Becomes-torn_sync}
+use Rattle.hb_disk.proofs.Facts.BecomesLaws.{told_written}
+use Rattle.hb_disk.proofs.Facts.RewriteLaws.{Rewrites-write, Rewrites-sync, Rewrites-torn, WritesThrough-after}
 use Rattle.hb_disk.proofs.Facts.SyncedLaws.{only_told, part_of}
 use Rattle.hb_layout.specs.declared.meta.Meta.{Meta}
 use Rattle.hb_layout.specs.Offsets.{slot_offset}
@@ -97,11 +99,14 @@ module _ (bytes : List ℕ) (turn : ℕ) (meta : Meta) (legal : IsLegal turn met
       none_left : (i : ℕ) → i - i ≡ 0
       none_left i = omega arith
 
--- a disk that tells still does
-pub still_tells : (at n : ℕ) (d new : DiskModel) (b : List ℕ) → d.told ≡ Some b → Becomes (Torn at n) d new → IsSome new.told
-still_tells at n d new b told run =
-    let after = at_value d.told (λ b. (c : List ℕ) × (new.told ≡ Some c) × Torn at n b c) b told run.told in
-    has_value new.told after.0 after.1
+-- a frame that was written at this place, with these bytes, is that of this turn
+pub framed_wrote : {T E : Type 0} (r : Result T E) (d new : DiskModel) (turn : ℕ) (meta : Meta) (at : ℕ) (bytes : List ℕ) → at ≡ slot_offset turn → bytes ≡ body_bytes turn meta
+    → WritesThrough (λ b. overwritten b at (open_gate ∷ bytes)) (Torn at (1 + length bytes)) 4 r d new
+    → WritesThrough (λ b. overwritten b (slot_offset turn) (open_gate ∷ body_bytes turn meta)) (Torn (slot_offset turn) 41) 4 r d new
+framed_wrote r d new turn meta at bytes at_is bytes_are wrote =
+    subst (λ (n : ℕ). WritesThrough (λ b. overwritten b (slot_offset turn) (open_gate ∷ body_bytes turn meta)) (Torn (slot_offset turn) n) 4 r d new) (one_more turn meta)
+    (subst (λ (place : ℕ). WritesThrough (λ b. overwritten b place (open_gate ∷ body_bytes turn meta)) (Torn place (1 + length (body_bytes turn meta))) 4 r d new) at_is
+    (subst (λ (body : List ℕ). WritesThrough (λ b. overwritten b at (open_gate ∷ body)) (Torn at (1 + length body)) 4 r d new) bytes_are wrote))
 
 module _ (d : DiskModel) (is_disk : IsDisk d) (room : 8192 ≤ d.size) (turn : ℕ) (meta : Meta) (legal : IsLegal turn meta) where
   abbrev place : ℕ
@@ -196,14 +201,14 @@ module _ (d : DiskModel) (is_disk : IsDisk d) (room : 8192 ≤ d.size) (turn : �
           | inr closed ↦ closed_left a c image wide (eqb-false (get_or c place 0) open_gate closed)
         ]
 
-    module _ {T E : Type 0} (first : Result T E) (one : DiskModel) (gate_written : Writes place (0 ∷ []) first d one) (gate_ticks : Ticks first d one) where
+    module _ {T E : Type 0} (first : Result T E) (one : DiskModel) (gate_written : Writes place (0 ∷ []) first d one) where
       pub run_one : Leaves d one Left
-      run_one = Leaves-call first d d one Left (Leaves-start d Left is_disk start_left) gate_ticks
+      run_one = Leaves-call first d d one Left (Leaves-start d Left is_disk start_left) gate_written.ticks
           (λ c image. let from = gate_written.crash c image in gate_left from.0 c from.1 from.2)
 
-      module _ (second : Result T E) (two : DiskModel) (gate_synced : Syncs second one two) (sync_ticks : Ticks second one two) where
+      module _ (second : Result T E) (two : DiskModel) (gate_synced : Syncs second one two) where
         pub run_two : Leaves d two Left
-        run_two = Leaves-call second d one two Left run_one sync_ticks
+        run_two = Leaves-call second d one two Left run_one gate_synced.ticks
             (λ c image. let from = gate_written.crash c (gate_synced.crash c image) in gate_left from.0 c from.1 from.2)
 
         pub run_all : (new : DiskModel) → Leaves two new (λ c. (e : List ℕ) × two.Image e × FrameOrNot place body e c) → Leaves d new Left
@@ -237,43 +242,23 @@ module _ (d : DiskModel) (is_disk : IsDisk d) (room : 8192 ≤ d.size) (turn : �
             let only : c ≡ overwritten b place (0 ∷ []) = only_told second w one two (overwritten b place (0 ∷ [])) second_ok (closed_told b told) gate_synced c image in
             λ is_open. cc (sym (ap (λ (l : List ℕ). get_or l place 0) only ∙ closed_gate b turn meta legal (long b (is_disk.as_read b told))) ∙ is_open)
 
-    pub new_told : (b : List ℕ) → d.told ≡ Some b → (new : DiskModel) → IfSome two.told (λ e. new.told ≡ Some (overwritten e place (open_gate ∷ body)))
-        → new.told ≡ Some (overwritten b place (open_gate ∷ body))
-    new_told b told new written =
-        at_value two.told (λ e. new.told ≡ Some (overwritten e place (open_gate ∷ body))) (overwritten b place (0 ∷ [])) (gate_synced.same ∙ closed_told b told) written
-        ∙ ap Some (overwritten_again b turn meta legal (long b (is_disk.as_read b told)))
-
   -- the place alone was touched
-  module _ {T E : Type 0} (first : Result T E) (one : DiskModel) (is_one : IsDisk one) (gate_written : Writes place (0 ∷ []) first d one) (gate_ticks : Ticks first d one) where
-    pub place_one : Becomes (Torn place 41) d one
-    place_one = Becomes-torn_write first place (0 ∷ []) place 41 d one is_disk is_one (omega (arith, room, place_fits turn)) (omega arith) (omega arith) gate_written gate_ticks
+  module _ {T E : Type 0} (first : Result T E) (one : DiskModel) (is_one : IsDisk one) (gate_written : Writes place (0 ∷ []) first d one) where
+    pub wrote_one : Rewrites (Torn place 41) 1 first d one
+    wrote_one = Rewrites-write first place (0 ∷ []) place 41 d one is_disk is_one (omega (arith, room, place_fits turn)) (omega arith) (omega arith) gate_written
 
-    pub clock_one : IsSome d.told → one.clock ≤ d.clock + 6
-    clock_one tells = omega (arith, one_tick first d one is_disk gate_ticks tells)
+    module _ (v : T) (first_ok : first ≡ Ok v) (second : Result T E) (two : DiskModel) (gate_synced : Syncs second one two) where
+      pub wrote_two : Rewrites (Torn place 41) 2 second d two
+      wrote_two = Rewrites-torn first second place 41 1 1 d one two v first_ok wrote_one (Rewrites-sync second place 41 one two is_one gate_synced)
 
-    module _ (second : Result T E) (two : DiskModel) (gate_synced : Syncs second one two) (sync_ticks : Ticks second one two) where
-      pub place_two : Becomes (Torn place 41) d two
-      place_two = Becomes-torn place 41 d one two place_one (Becomes-torn_sync second place 41 one two is_one gate_synced sync_ticks)
-
-      tells_one : IsSome d.told → IsSome one.told
-      tells_one tells = let b = some_value d.told tells in still_tells place 41 d one b.0 b.1 place_one
-
-      pub clock_two : IsSome d.told → two.clock ≤ d.clock + 6
-      clock_two tells = omega (arith, one_tick first d one is_disk gate_ticks tells, one_tick second one two is_one sync_ticks (tells_one tells))
-
-      pub clock_behind : (new : DiskModel) → (IsSome two.told → new.clock ≤ two.clock + 4) → IsSome d.told → new.clock ≤ d.clock + 6
-      clock_behind new run tells =
-          let b = some_value d.told tells in
-          let last = run (still_tells place 41 d two b.0 b.1 place_two) in
-          omega (arith, one_tick first d one is_disk gate_ticks tells, one_tick second one two is_one sync_ticks (tells_one tells), last)
-
-      pub place_all : (new : DiskModel) → Becomes (Torn place (1 + length body)) two new → Becomes (Torn place 41) d new
-      place_all new run = Becomes-torn place 41 d two new place_two (subst (λ (n : ℕ). Becomes (Torn place n) two new) (one_more turn meta) run)
-
-      pub place_behind : (new : DiskModel) (at : ℕ) (bytes : List ℕ) → at ≡ place → bytes ≡ body → Becomes (Torn at (1 + length bytes)) two new → Becomes (Torn place 41) d new
-      place_behind new at bytes at_is bytes_are run =
-          place_all new (subst (λ (n : ℕ). Becomes (Torn n (1 + length body)) two new) at_is
-          (subst (λ (l : List ℕ). Becomes (Torn at (1 + length l)) two new) bytes_are run))
+      pub wrote_behind : (w : T) → second ≡ Ok w → {F G : Type 0} (last : Result F G) (new : DiskModel) (at : ℕ) (bytes : List ℕ) → at ≡ place → bytes ≡ body
+          → WritesThrough (λ b. overwritten b at (open_gate ∷ bytes)) (Torn at (1 + length bytes)) 4 last two new
+          → WritesThrough (λ b. overwritten b place (open_gate ∷ body)) (Torn place 41) 6 last d new
+      wrote_behind w second_ok last new at bytes at_is bytes_are wrote =
+          WritesThrough-after second w last (λ b. overwritten b place (0 ∷ [])) (λ b. overwritten b place (open_gate ∷ body)) (λ b. overwritten b place (open_gate ∷ body)) place 41 2 4 d two new second_ok wrote_two
+          (λ b told. gate_synced.same ∙ closed_told first v first_ok one gate_written second w second_ok two gate_synced b told)
+          (λ b told. overwritten_again b turn meta legal (long b (is_disk.as_read b told)))
+          (framed_wrote last two new turn meta at bytes at_is bytes_are wrote)
 
   -- the new one is the newest
   pub newest_written : (old : ℕ) (said : Meta) → turn ≡ next_turn old → (b : List ℕ) → d.told ≡ Some b → IsNewest b old said → (new : DiskModel) → Becomes (Torn place 41) d new

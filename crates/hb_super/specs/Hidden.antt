@@ -1,7 +1,8 @@
 -- What stands behind the closed gate of a place.
-use Rattle.std.specs.Prelude.{◌≡◌, ◌≢◌, ℕ, ◌+◌, List, take, drop, get_or, Bool, true, false, Option, Some, None}
-use Rattle.hb_disk.specs.Model.{DiskModel, Torn}
-use Rattle.hb_disk.specs.Calls.{open_gate}
+use Rattle.std.specs.Prelude.{◌≡◌, ◌≢◌, ◌⊎◌, ℕ, ◌+◌, List, take, drop, get_or, replicate, Bool, true, false, Option, Some, None, Result, IsErr}
+use Rattle.hb_disk.specs.Model.{DiskModel, Torn, overwritten}
+use Rattle.hb_disk.specs.Calls.{ReadsOnly, open_gate}
+use Rattle.hb_disk.specs.Runs.{WritesThrough}
 use Rattle.hb_layout.specs.declared.meta.Meta.{Meta}
 use Rattle.hb_layout.specs.Offsets.{slot_offset}
 use Rattle.hb_super.specs.Superblocks.{IsLegal, IsNewest, body_bytes}
@@ -33,6 +34,12 @@ OtherIs false = NoOther
 -- whether the place of this turn hides another body of the turn
 abbrev pub HidesIs : Bool → List ℕ → ℕ → Meta → Type 0
 HidesIs hides bytes turn meta = OtherIs hides turn meta (get_or bytes (slot_offset turn) 0) (take 40 (drop (slot_offset turn + 1) bytes))
+
+-- What the clearing of a place did: it only read; or it read, and then zeroed the body of this turn's place.
+abbrev pub Clears : {T E : Type 0} → ℕ → Result T E → DiskModel → DiskModel → Type 0
+Clears turn result old new =
+    ReadsOnly (IsErr result) old new
+    ⊎ WritesThrough (λ b. overwritten b (slot_offset turn + 1) (replicate 40 0)) (Torn (slot_offset turn + 1) 40) 2 result old new
 
 -- Bytes that a crash could leave before, but for the body of this turn's place; and the old superblock is the newest.
 pub record ClearLeaves (d : DiskModel) (old : ℕ) (said : Meta) (turn : ℕ) (c : List ℕ) : Type 0 where

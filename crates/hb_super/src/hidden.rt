@@ -1,14 +1,14 @@
 //! What stands behind a closed gate.
-ghost use Rattle.std.specs.Prelude.{◌≡◌, ◌≢◌, ◌⊎◌, ℕ, ◌+◌, ◌*◌, ◌≤◌, List, length, drop, get_or, IsTrue, IsSome, IfSome, IfOk, OnOk, OnErr};
+ghost use Rattle.std.specs.Prelude.{◌≡◌, ◌≢◌, ◌⊎◌, ℕ, ◌+◌, ◌*◌, ◌≤◌, List, length, drop, get_or, replicate, IsTrue, IsErr, IsSome, IfSome, IfOk, OnOk, OnErr};
 ghost use Rattle.hb_space.specs.declared.form.TheConstants.{PAGE};
-ghost use Rattle.hb_outside.specs.Streams.{Rose};
-ghost use Rattle.hb_disk.specs.Model.{Torn, Stays};
-ghost use Rattle.hb_disk.specs.Calls.{Leaves, WriteFaults, Becomes, IsSynced, OnlyReads, open_gate};
+ghost use Rattle.hb_disk.specs.Model.{Torn, overwritten};
+ghost use Rattle.hb_disk.specs.Calls.{Leaves, IsSynced, ReadsOnly, OnlyReads, open_gate};
+ghost use Rattle.hb_disk.specs.Runs.{WritesThrough};
 ghost use Rattle.hb_layout.specs.declared.meta.Meta.{Meta as Said};
 ghost use Rattle.hb_layout.specs.Offsets.{slot_offset};
 ghost use Rattle.hb_super.specs.Superblocks.{IsLegal, IsNewest, next_turn};
 ghost use Rattle.hb_super.specs.Moments.{HidesNoOther};
-ghost use Rattle.hb_super.specs.Hidden.{SaysOf, DifferIs, OtherIs, HidesIs, ClearLeaves};
+ghost use Rattle.hb_super.specs.Hidden.{SaysOf, DifferIs, OtherIs, HidesIs, Clears, ClearLeaves};
 
 use crate::body::{BODY, body_of, fields_of};
 use hb_disk::{Device, DiskFault, OPEN};
@@ -53,9 +53,7 @@ fn hides_other<D: Device>(disk: &mut D, turn: u8, meta: &Meta) -> Result<bool, F
     requires room { 2 * PAGE ≤ (D.model disk.old).size }
     requires turn { turn ≤ 3 }
     ensures hides { IfOk result (λ hides. IfSome (D.model disk.old).told (λ b. HidesIs hides b turn meta.now)) }
-    ensures cause { OnErr result (Rose (D.model disk.old).read_faults (D.model disk.new).read_faults) }
-    ensures no_fault { OnOk result ((D.model disk.new).read_faults ≡ (D.model disk.old).read_faults) }
-    ensures only_reads { OnlyReads (D.model disk.old) (D.model disk.new) }
+    ensures only { ReadsOnly (IsErr result) (D.model disk.old) (D.model disk.new) }
 {
     let mut bytes = [0; 1 + BODY];
     disk.read(slot_offset(turn), &mut bytes)?;
@@ -66,13 +64,10 @@ fn hides_other<D: Device>(disk: &mut D, turn: u8, meta: &Meta) -> Result<bool, F
 fn zero_body<D: Device>(disk: &mut D, turn: u8) -> Result<(), Failed>
     requires room { 2 * PAGE ≤ (D.model disk.old).size }
     ensures hidden { OnOk result (IfSome (D.model disk.new).told (λ b. (meta : Said) → HidesNoOther b turn meta)) }
-    ensures durable { OnOk result (IfSome (D.model disk.new).told
-        (λ b. (c : List ℕ) → (D.model disk.new).Image c → c ≡ b)) }
+    ensures wrote { WritesThrough (λ b. overwritten b (slot_offset turn + 1) (replicate 40 0))
+        (Torn (slot_offset turn + 1) 40) 2 result (D.model disk.old) (D.model disk.new) }
     ensures moments { Leaves (D.model disk.old) (D.model disk.new)
         (λ c. (a : List ℕ) × (D.model disk.old).Image a × Torn (slot_offset turn + 1) 40 a c) }
-    ensures place { Becomes (Torn (slot_offset turn + 1) 40) (D.model disk.old) (D.model disk.new) }
-    ensures clock { IsSome (D.model disk.old).told → (D.model disk.new).clock ≤ (D.model disk.old).clock + 2 }
-    ensures faults { WriteFaults result (D.model disk.old) (D.model disk.new) }
 {
     disk.zero(slot_offset(turn) + 1, BODY as u64)?;
     disk.sync()
@@ -86,27 +81,17 @@ fn zero_body<D: Device>(disk: &mut D, turn: u8) -> Result<(), Failed>
 pub fn clear_hidden<D: Device>(disk: &mut D, turn: u8, meta: &Meta) -> Result<(), DiskFault>
     requires room { 2 * PAGE ≤ (D.model disk.old).size }
     requires legal { IsLegal turn meta.now }
+    ensures did { Clears turn result (D.model disk.old) (D.model disk.new) }
     ensures hidden { OnOk result (IfSome (D.model disk.new).told (λ b. HidesNoOther b turn meta.now)) }
     ensures nothing { IfSome (D.model disk.old).told (λ b.
         HidesNoOther b turn meta.now → OnlyReads (D.model disk.old) (D.model disk.new)) }
     ensures closed { IfSome (D.model disk.old).told (λ b.
         (get_or b (slot_offset turn) 0 ≢ open_gate) ⊎ OnlyReads (D.model disk.old) (D.model disk.new)) }
-    ensures place { Becomes (Torn (slot_offset turn + 1) 40) (D.model disk.old) (D.model disk.new) }
     ensures moments { (old : ℕ) (said : Said) → turn ≡ next_turn old → IsSynced (D.model disk.old) 0 (2 * PAGE) →
         IfSome (D.model disk.old).told (λ b. IsNewest b old said →
         Leaves (D.model disk.old) (D.model disk.new) (ClearLeaves (D.model disk.old) old said turn)) }
     ensures newest { (old : ℕ) (said : Said) → turn ≡ next_turn old → IfSome (D.model disk.old).told (λ b.
         IsNewest b old said → IfSome (D.model disk.new).told (λ c. IsNewest c old said)) }
-    ensures synced { IsSynced (D.model disk.old) 0 (2 * PAGE) → OnOk result (IsSynced (D.model disk.new) 0 (2 * PAGE)) }
-    ensures durable { OnOk result (OnlyReads (D.model disk.old) (D.model disk.new)
-        ⊎ IfSome (D.model disk.new).told (λ b. (c : List ℕ) → (D.model disk.new).Image c → c ≡ b)) }
-    ensures clock { IsSome (D.model disk.old).told → (D.model disk.new).clock ≤ (D.model disk.old).clock + 2 }
-    ensures cause { OnErr result (Rose (D.model disk.old).read_faults (D.model disk.new).read_faults
-        ⊎ Rose (D.model disk.old).write_faults (D.model disk.new).write_faults) }
-    ensures no_fault { OnOk result (((D.model disk.new).read_faults ≡ (D.model disk.old).read_faults)
-        × ((D.model disk.new).write_faults ≡ (D.model disk.old).write_faults)) }
-    ensures reads_later { (D.model disk.old).read_faults ≤ (D.model disk.new).read_faults }
-    ensures writes_later { (D.model disk.old).write_faults ≤ (D.model disk.new).write_faults }
 {
     if !hides_other(disk, turn, meta)? {
         return Ok(());

@@ -1,7 +1,6 @@
-ghost use Rattle.std.specs.Prelude.{◌≡◌, ℕ, ◌+◌, ◌*◌, ◌%◌, ◌<◌, ◌≤◌, List, length, Some, IsTrue, IfOk, IfSome, IsErrOf, OnOk, OnErr};
+ghost use Rattle.std.specs.Prelude.{◌≡◌, ℕ, ◌+◌, ◌*◌, ◌%◌, ◌<◌, ◌≤◌, List, length, Some, IsTrue, IfOk, IfSome, IsErr, IsErrOf, OnOk, OnErr};
 ghost use Rattle.hb_space.specs.declared.form.TheConstants.{PAGE};
-ghost use Rattle.hb_outside.specs.Streams.{Rose};
-ghost use Rattle.hb_disk.specs.Calls.{OnlyReads};
+ghost use Rattle.hb_disk.specs.Calls.{ReadsOnly};
 ghost use Rattle.hb_layout.specs.declared.meta.Meta.{Meta as Said};
 ghost use Rattle.hb_super.specs.declared.reading.SuperStop.TheVariants.{NoSuper, DiskFault};
 ghost use Rattle.hb_layout.specs.Limits.{IsLayout};
@@ -63,9 +62,7 @@ fn super_at<D: Device>(disk: &mut D, place: u8) -> Result<Option<(u8, Meta)>, Fa
     requires place { place < 2 }
     ensures stands { IfOk result (λ said. IfSome (D.model disk.old).told (λ b. StandsInPlace place said b)) }
     ensures legal { IfOk result (λ said. MayBeLegal said) }
-    ensures cause { OnErr result (Rose (D.model disk.old).read_faults (D.model disk.new).read_faults) }
-    ensures no_fault { OnOk result ((D.model disk.new).read_faults ≡ (D.model disk.old).read_faults) }
-    ensures only_reads { OnlyReads (D.model disk.old) (D.model disk.new) }
+    ensures only { ReadsOnly (IsErr result) (D.model disk.old) (D.model disk.new) }
 {
     let mut bytes = [0; 1 + BODY];
     disk.read(slot_offset(place), &mut bytes)?;
@@ -107,9 +104,7 @@ pub fn read_super<D: Device>(disk: &mut D) -> Result<(u8, Meta), SuperStop>
     ensures newest { IfOk result (λ said. IfSome (D.model disk.old).told (λ b. IsNewest b said.0 said.1)) }
     ensures legal { IfOk result (λ said. IsLegal said.0 said.1) }
     ensures none { IsErrOf result NoSuper → IfSome (D.model disk.old).told HasNone }
-    ensures cause { IsErrOf result DiskFault → Rose (D.model disk.old).read_faults (D.model disk.new).read_faults }
-    ensures no_fault { (IsErrOf result DiskFault → ⊥) → (D.model disk.new).read_faults ≡ (D.model disk.old).read_faults }
-    ensures only_reads { OnlyReads (D.model disk.old) (D.model disk.new) }
+    ensures only { ReadsOnly (IsErrOf result DiskFault) (D.model disk.old) (D.model disk.new) }
 {
     let first = super_at(disk, 0)?;
     let second = super_at(disk, 1)?;

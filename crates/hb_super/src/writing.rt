@@ -1,7 +1,8 @@
 ghost use Rattle.std.specs.Prelude.{◌≢◌, get_or, ◌≡◌, ℕ, ◌+◌, ◌*◌, ◌≤◌, ◌∷◌, List, Some, IsSome, IfSome, OnOk, ◌⊎◌};
 ghost use Rattle.hb_space.specs.declared.form.TheConstants.{PAGE};
 ghost use Rattle.hb_disk.specs.Model.{overwritten, Torn};
-ghost use Rattle.hb_disk.specs.Calls.{Leaves, FrameOrNot, WriteFaults, Becomes, IsSynced, open_gate};
+ghost use Rattle.hb_disk.specs.Calls.{Leaves, FrameOrNot, IsSynced, open_gate};
+ghost use Rattle.hb_disk.specs.Runs.{WritesThrough};
 ghost use Rattle.hb_layout.specs.declared.meta.Meta.{Meta as Said};
 ghost use Rattle.hb_layout.specs.Offsets.{slot_offset};
 ghost use Rattle.hb_super.specs.Superblocks.{IsLegal, IsNewest, body_bytes, next_turn};
@@ -23,18 +24,13 @@ const CLOSED: u8 = 0;
 pub fn write_super<D: Device>(disk: &mut D, turn: u8, meta: &Meta) -> Result<(), DiskFault>
     requires room { 2 * PAGE ≤ (D.model disk.old).size }
     requires legal { IsLegal turn meta.now }
-    ensures written { OnOk result (IfSome (D.model disk.old).told (λ b. (D.model disk.new).told
-        ≡ Some (overwritten b (slot_offset turn) (open_gate ∷ body_bytes turn meta.now)))) }
-    ensures durable { OnOk result (IfSome (D.model disk.new).told
-        (λ b. (c : List ℕ) → (D.model disk.new).Image c → c ≡ b)) }
+    ensures wrote { WritesThrough (λ b. overwritten b (slot_offset turn) (open_gate ∷ body_bytes turn meta.now))
+        (Torn (slot_offset turn) 41) 6 result (D.model disk.old) (D.model disk.new) }
     ensures newest { (old : ℕ) (said : Said) → turn ≡ next_turn old → OnOk result (IfSome (D.model disk.old).told (λ b.
         IsNewest b old said → IfSome (D.model disk.new).told (λ c. IsNewest c turn meta.now))) }
     ensures moments { (old : ℕ) (said : Said) → turn ≡ next_turn old → IsSynced (D.model disk.old) 0 (2 * PAGE) →
         IfSome (D.model disk.old).told (λ b. IsNewest b old said →
         Leaves (D.model disk.old) (D.model disk.new) (WriteLeaves (D.model disk.old) b old said turn meta.now)) }
-    ensures place { Becomes (Torn (slot_offset turn) 41) (D.model disk.old) (D.model disk.new) }
-    ensures clock { IsSome (D.model disk.old).told → (D.model disk.new).clock ≤ (D.model disk.old).clock + 6 }
-    ensures faults { WriteFaults result (D.model disk.old) (D.model disk.new) }
 {
     let place = slot_offset(turn);
     let body = body_of(turn, meta);
@@ -50,17 +46,12 @@ pub fn write_first_super<D: Device>(disk: &mut D, meta: &Meta) -> Result<(), Dis
     requires legal { IsLegal 0 meta.now }
     requires closed { IsSome (D.model disk.old).told →
         (c : List ℕ) → (D.model disk.old).Image c → get_or c 0 0 ≢ open_gate }
-    ensures written { OnOk result (IfSome (D.model disk.old).told (λ b. (D.model disk.new).told
-        ≡ Some (overwritten b 0 (open_gate ∷ body_bytes 0 meta.now)))) }
-    ensures durable { OnOk result (IfSome (D.model disk.new).told
-        (λ b. (c : List ℕ) → (D.model disk.new).Image c → c ≡ b)) }
+    ensures wrote { WritesThrough (λ b. overwritten b 0 (open_gate ∷ body_bytes 0 meta.now))
+        (Torn 0 41) 4 result (D.model disk.old) (D.model disk.new) }
     ensures newest { OnOk result (IfSome (D.model disk.old).told (λ b. get_or b PAGE 0 ≢ open_gate →
         IfSome (D.model disk.new).told (λ c. IsNewest c 0 meta.now))) }
     ensures moments { IsSome (D.model disk.old).told → Leaves (D.model disk.old) (D.model disk.new)
         (λ c. (b : List ℕ) × (D.model disk.old).Image b × FrameOrNot 0 (body_bytes 0 meta.now) b c) }
-    ensures place { Becomes (Torn 0 41) (D.model disk.old) (D.model disk.new) }
-    ensures clock { IsSome (D.model disk.old).told → (D.model disk.new).clock ≤ (D.model disk.old).clock + 4 }
-    ensures faults { WriteFaults result (D.model disk.old) (D.model disk.new) }
 {
     let body = body_of(0, meta);
     Ok(write_behind_gate(disk, slot_offset(0), &body)?)

@@ -3,8 +3,8 @@ use Rattle.std.proofs.Common.{◌≡◌, ℕ, ◌+◌, ◌-◌, ◌≤◌, List,
 use Rattle.std.proofs.lemmas.List.{drop_at, drop-take, drop-drop}
 use Rattle.std.proofs.lemmas.List.Elements.{All-push}
 use Rattle.hb_disk.specs.Model.{DiskModel}
-use Rattle.hb_disk.specs.Calls.{OnlyReads}
-use Rattle.hb_disk.proofs.Facts.RunLaws.{OnlyReads-then}
+use Rattle.hb_disk.specs.Calls.{ReadsOnly}
+use Rattle.hb_disk.proofs.Facts.FaultLaws.{ReadsOnly-then, ReadsOnly-neither}
 use Rattle.hb_lemmas.proofs.Options.{if_value, at_value}
 use Rattle.hb_wal.specs.Frames.{frames, frame_bytes, IsPayload, range}
 use Rattle.hb_wal.specs.Reading.{FrameIs}
@@ -39,15 +39,14 @@ module _ (area len left : ℕ) (b payload behind : List ℕ) (payloads : List (L
       ∙ sym (append_assoc (frames payloads) (frame_bytes payload) (range (area + (len - after)) after b))
       ∙ ap (λ (l : List ℕ). l ++ range (area + (len - after)) after b) (sym (frames-push payloads payload))
 
-pub HasRead-more : (old now new : DiskModel) (area len left : ℕ) (payloads : List (List ℕ)) (payload : List ℕ) → HasRead old now area len left payloads → OnlyReads now new → new.read_faults ≡ now.read_faults
+pub HasRead-more : {F : Type 0} (old now new : DiskModel) (area len left : ℕ) (payloads : List (List ℕ)) (payload : List ℕ) → HasRead old now area len left payloads → (F → ⊥) → ReadsOnly F now new
     → IsPayload payload → 5 + length payload ≤ left → IfSome now.told (λ b. FrameIs (Some payload) (range (area + (len - left)) left b))
     → HasRead old new area len (left - (5 + length payload)) (payloads ++ payload ∷ [])
-HasRead-more old now new area len left payloads payload so_far reads calm is_payload fits frame = record {
-  only_reads = OnlyReads-then old now new so_far.only_reads reads;
-  no_fault = calm ∙ so_far.no_fault;
+HasRead-more old now new area len left payloads payload so_far calm reads is_payload fits frame = record {
+  only = ReadsOnly-then old now new (λ failed. failed) so_far.only (ReadsOnly-neither now new calm (λ failed. failed) reads);
   fits = All-push IsPayload payloads payload so_far.fits is_payload;
   count = omega (arith, ap (λ (l : List ℕ). length l) (frames-push payloads payload), length-append (frames payloads) (frame_bytes payload), length-append (frame_bytes payload) [], length-frame payload, so_far.count, fits);
   read = if_value old.told (λ b. range area len b ≡ frames (payloads ++ payload ∷ []) ++ range (area + (len - (left - (5 + length payload)))) (left - (5 + length payload)) b) (λ b told.
-      let here = at_value now.told (λ b. FrameIs (Some payload) (range (area + (len - left)) left b)) b (so_far.only_reads.stays.told ∙ told) frame in
+      let here = at_value now.told (λ b. FrameIs (Some payload) (range (area + (len - left)) left b)) b (so_far.only.stays.told ∙ told) frame in
       read_more area len left b payload here.behind payloads fits (omega (arith, so_far.count)) here.bytes (at_value old.told (λ b. range area len b ≡ frames payloads ++ range (area + (len - left)) left b) b told so_far.read));
 }

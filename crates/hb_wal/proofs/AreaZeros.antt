@@ -2,13 +2,15 @@
 use Rattle.std.proofs.Common.{◌≡◌, ◌+◌, ◌-◌, ◌≤◌, ℕ, List, [], Option, Some, None, Result, Ok, length, replicate, take, drop, refl, sym, ap, ◌∙◌, subst, arith}
 use Rattle.std.proofs.lemmas.List.{length-replicate}
 use Rattle.hb_disk.specs.Model.{DiskModel, IsDisk, Torn, overwritten}
-use Rattle.hb_disk.specs.Calls.{Becomes, Leaves, Syncs, Ticks, Writes}
+use Rattle.hb_disk.specs.Calls.{Leaves, Syncs, Writes}
+use Rattle.hb_disk.specs.Runs.{Rewrites, WritesThrough}
 use Rattle.hb_disk.proofs.Facts.TornLaws.{Torn-itself}
 use Rattle.hb_disk.proofs.Facts.RunLaws.{Leaves-start, Leaves-call}
 use Rattle.hb_disk.proofs.Facts.SyncedLaws.{IsSynced-sync}
 use Rattle.hb_lemmas.proofs.Options.{if_value}
 use Rattle.std.proofs.lemmas.Option.{same_Some}
-use Rattle.hb_disk.proofs.Facts.BecomesLaws.{Becomes-torn, Becomes-torn_sync, Becomes-torn_write, told_written}
+use Rattle.hb_disk.proofs.Facts.BecomesLaws.{told_written}
+use Rattle.hb_disk.proofs.Facts.RewriteLaws.{Rewrites-write, Rewrites-sync, Rewrites-torn, WritesThrough-synced}
 use Rattle.hb_disk.proofs.Facts.OverwrittenLaws.{overwritten-reads}
 use Rattle.hb_wal.specs.Frames.{range}
 use Rattle.hb_wal.specs.Forces.{HasLog}
@@ -40,7 +42,7 @@ module _ (old mid new : DiskModel) (area len : ℕ) (is_old : IsDisk old) (insid
   }
 
 -- what two calls, the zeroing and the sync, touched and left
-module _ (old mid : DiskModel) (area len : ℕ) (is_old : IsDisk old) {T E : Type 0} (zeroed : Result T E) (writes : Writes area (replicate len 0) zeroed old mid) (ticks : Ticks zeroed old mid) where
+module _ (old mid : DiskModel) (area len : ℕ) (is_old : IsDisk old) {T E : Type 0} (zeroed : Result T E) (writes : Writes area (replicate len 0) zeroed old mid) where
   -- an image of before, torn in the area
   abbrev pub InArea : List ℕ → Type 0
   InArea c = (b : List ℕ) × old.Image b × Torn area len b c
@@ -52,14 +54,19 @@ module _ (old mid : DiskModel) (area len : ℕ) (is_old : IsDisk old) {T E : Typ
   torn_image c image = let from = writes.crash c image in (from.0, from.1, subst (λ (n : ℕ). Torn area n from.0 c) zeros from.2)
 
   pub zero_moments : Leaves old mid InArea
-  zero_moments = Leaves-call zeroed old old mid InArea (Leaves-start old InArea is_old (λ c image. (c, image, Torn-itself area len c (is_old.bytes c image)))) ticks torn_image
+  zero_moments = Leaves-call zeroed old old mid InArea (Leaves-start old InArea is_old (λ c image. (c, image, Torn-itself area len c (is_old.bytes c image)))) writes.ticks torn_image
 
-  pub zero_place : IsDisk mid → area + len ≤ old.size → Becomes (Torn area len) old mid
-  zero_place is_mid inside = Becomes-torn_write zeroed area (replicate len 0) area len old mid is_old is_mid (omega (arith, zeros, inside)) (omega arith) (omega (arith, zeros)) writes ticks
+  pub sync_moments : {F G : Type 0} (synced : Result F G) (new : DiskModel) → Syncs synced mid new → Leaves old new InArea
+  sync_moments synced new syncs = Leaves-call synced old mid new InArea zero_moments syncs.ticks (λ c image. torn_image c (syncs.crash c image))
 
-  module _ {F G : Type 0} (synced : Result F G) (new : DiskModel) (syncs : Syncs synced mid new) (sync_ticks : Ticks synced mid new) where
-    pub sync_moments : Leaves old new InArea
-    sync_moments = Leaves-call synced old mid new InArea zero_moments sync_ticks (λ c image. torn_image c (syncs.crash c image))
+  module _ (is_mid : IsDisk mid) (inside : area + len ≤ old.size) where
+    pub zero_wrote : Rewrites (Torn area len) 1 zeroed old mid
+    zero_wrote = Rewrites-write zeroed area (replicate len 0) area len old mid is_old is_mid (omega (arith, zeros, inside)) (omega arith) (omega (arith, zeros)) writes
 
-    pub sync_place : IsDisk mid → area + len ≤ old.size → Becomes (Torn area len) old new
-    sync_place is_mid inside = Becomes-torn area len old mid new (zero_place is_mid inside) (Becomes-torn_sync synced area len mid new is_mid syncs sync_ticks)
+    module _ (v : T) (zero_ok : zeroed ≡ Ok v) {F G : Type 0} (synced : Result F G) (new : DiskModel) (syncs : Syncs synced mid new) where
+      pub sync_wrote : Rewrites (Torn area len) 2 synced old new
+      sync_wrote = Rewrites-torn zeroed synced area len 1 1 old mid new v zero_ok zero_wrote (Rewrites-sync synced area len mid new is_mid syncs)
+
+      pub sync_done : WritesThrough (λ b. overwritten b area (replicate len 0)) (Torn area len) 2 synced old new
+      sync_done = WritesThrough-synced synced (λ b. overwritten b area (replicate len 0)) (Torn area len) 2 old mid new syncs
+          (λ b told. told_written zeroed v area (replicate len 0) old mid b zero_ok told writes) sync_wrote

@@ -1,5 +1,5 @@
 -- What a crash leaves inside a force, and what stands after it.
-use Rattle.std.proofs.Common.{◌≡◌, ◌≢◌, inl, inr, ℕ, ◌+◌, ◌-◌, ◌<◌, ◌≤◌, false, List, [], ◌∷◌, ◌++◌, length, get_or, take, drop, replicate, Option, Some, None, IfSome, refl, sym, ap, ◌∙◌, subst, arith, length-append}
+use Rattle.std.proofs.Common.{◌≡◌, ◌≢◌, inl, inr, ℕ, ◌+◌, ◌-◌, ◌<◌, ◌≤◌, false, List, [], ◌∷◌, ◌++◌, length, get_or, take, drop, replicate, Option, Some, None, IfSome, Result, refl, sym, ap, ◌∙◌, subst, arith, length-append}
 use Rattle.std.specs.List.{All}
 use Rattle.std.proofs.Math.Dec.{eqb}
 use Rattle.std.proofs.lemmas.Bool.{cases_Bool, eqb-true, eqb-false}
@@ -7,10 +7,11 @@ use Rattle.std.proofs.lemmas.List.{take_at, take-take, take-append-drop, drop_mo
 use Rattle.std.proofs.lemmas.List.Elements.{All-head, All-append, All-cons, All-nil}
 use Rattle.hb_disk.specs.Model.{DiskModel, IsDisk, overwritten, Torn}
 use Rattle.hb_disk.specs.Calls.{Leaves, FrameOrNot, Becomes, open_gate}
+use Rattle.hb_disk.specs.Runs.{Lasts, Rewrites}
 use Rattle.hb_disk.proofs.Facts.TornLaws.{Torn-itself, Torn-wider, Torn-elsewhere}
 use Rattle.hb_disk.proofs.Facts.RunLaws.{Leaves-start, Leaves-weaker}
 use Rattle.hb_lemmas.proofs.Options.{at_value, of_value, if_value}
-use Rattle.hb_disk.proofs.Facts.BecomesLaws.{Becomes-weaker}
+use Rattle.hb_disk.proofs.Facts.RewriteLaws.{Rewrites-weaker}
 use Rattle.hb_wal.specs.Frames.{frames, frame_bytes, frame_body, IsPayload, IsEnd, HasFrames, range}
 use Rattle.hb_wal.specs.Log.{Waiting, LogState, IsLog, BeginsWith, forced, after_force, framed_bytes, pending_bytes}
 use Rattle.hb_wal.specs.Forces.{HasLog, ForceLeaves}
@@ -163,8 +164,8 @@ module _ (log : LogState) (is_log : IsLog log) (body : List ℕ) (begins : Begin
   pub body_inside : at + 1 + length body ≤ d.size
   body_inside = omega (arith, at_is, inside, body_count, frame_fits log is_log first split.1 split.2)
 
-  pub place_within : (new : DiskModel) → Becomes (Torn at (1 + length body)) d new → Becomes (Torn log.area log.len) d new
-  place_within new run = Becomes-weaker (Torn at (1 + length body)) (Torn log.area log.len) d new
+  pub wrote_within : {T E : Type 0} (r : Result T E) (new : DiskModel) → Rewrites (Torn at (1 + length body)) 4 r d new → Rewrites (Torn log.area log.len) 4 r d new
+  wrote_within r new run = Rewrites-weaker r (Torn at (1 + length body)) (Torn log.area log.len) 4 d new
       (λ a c torn. Torn-wider at (1 + length body) log.area log.len a c (omega (arith, at_is)) (omega (arith, at_is, body_count, frame_fits log is_log first split.1 split.2)) torn) run
 
   module _ (payloads : List (List ℕ)) (has : HasLog d log payloads) (b : List ℕ) (told : d.told ≡ Some b) where
@@ -177,7 +178,7 @@ module _ (log : LogState) (is_log : IsLog log) (body : List ℕ) (begins : Begin
         let here : Leaves d new Framed = rw at_is at (rw split.3 at run) in
         Leaves-weaker d new Framed (ForceLeaves d log payloads) (framed log is_log first split.1 split.2 d is_disk payloads has b told inside) here
 
-    pub log_within : (new : DiskModel) → IfSome d.told (λ b. new.told ≡ Some (overwritten b at (open_gate ∷ body))) → IfSome new.told (λ b. (c : List ℕ) → new.Image c → c ≡ b)
+    pub log_within : (new : DiskModel) → IfSome d.told (λ b. new.told ≡ Some (overwritten b at (open_gate ∷ body))) → Lasts new
         → HasLog new (after_force log) (payloads ++ forced log.groups)
     log_within new written durable =
         let now : new.told ≡ Some (overwritten b at (open_gate ∷ body)) = at_value d.told (λ b. new.told ≡ Some (overwritten b at (open_gate ∷ body))) b told written in
@@ -186,7 +187,7 @@ module _ (log : LogState) (is_log : IsLog log) (body : List ℕ) (begins : Begin
 
   -- the same over every disk
   pub log_anyway : (payloads : List (List ℕ)) → HasLog d log payloads → (new : DiskModel) → Becomes (Torn at (1 + length body)) d new
-      → IfSome d.told (λ b. new.told ≡ Some (overwritten b at (open_gate ∷ body))) → IfSome new.told (λ b. (c : List ℕ) → new.Image c → c ≡ b)
+      → IfSome d.told (λ b. new.told ≡ Some (overwritten b at (open_gate ∷ body))) → Lasts new
       → HasLog new (after_force log) (payloads ++ forced log.groups)
   log_anyway payloads has new run written durable = by_cases d.told refl
     where

@@ -1,6 +1,7 @@
 ghost use Rattle.std.specs.Prelude.{◌≡◌, ℕ, ◌<◌, ◌≤◌, ◌+◌, List, [], ◌++◌, length, replicate, Some, IsSome, IfSome, OnOk};
 ghost use Rattle.hb_disk.specs.Model.{overwritten, Torn};
-ghost use Rattle.hb_disk.specs.Calls.{Leaves, WriteFaults, Becomes};
+ghost use Rattle.hb_disk.specs.Calls.{Leaves};
+ghost use Rattle.hb_disk.specs.Runs.{WritesThrough};
 ghost use Rattle.hb_wal.specs.Forces.{HasLog};
 
 use hb_disk::{Device, DiskFault};
@@ -8,17 +9,12 @@ use hb_disk::{Device, DiskFault};
 /// Zeroes an area for a log, and syncs. Two device calls. A log that is moved there has no frame.
 pub fn zero_area<D: Device>(disk: &mut D, area: u64, len: u32) -> Result<(), DiskFault>
     requires inside { area + len ≤ (D.model disk.old).size }
-    ensures zeroed { OnOk result (IfSome (D.model disk.old).told (λ b.
-        (D.model disk.new).told ≡ Some (overwritten b area (replicate len 0)))) }
-    ensures durable { OnOk result (IfSome (D.model disk.new).told
-        (λ b. (c : List ℕ) → (D.model disk.new).Image c → c ≡ b)) }
+    ensures wrote { WritesThrough (λ b. overwritten b area (replicate len 0)) (Torn area len) 2
+        result (D.model disk.old) (D.model disk.new) }
     ensures log { OnOk result (HasLog (D.model disk.new)
         (record { area = area; len = len; written = 0; groups = [] }) []) }
     ensures moments { IsSome (D.model disk.old).told → Leaves (D.model disk.old) (D.model disk.new)
         (λ c. (b : List ℕ) × (D.model disk.old).Image b × Torn area len b c) }
-    ensures place { Becomes (Torn area len) (D.model disk.old) (D.model disk.new) }
-    ensures clock { IsSome (D.model disk.old).told → (D.model disk.new).clock ≤ (D.model disk.old).clock + 2 }
-    ensures faults { WriteFaults result (D.model disk.old) (D.model disk.new) }
 {
     disk.zero(area, u64::from(len))?;
     Ok(disk.sync()?)

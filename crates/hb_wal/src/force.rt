@@ -1,9 +1,10 @@
 ghost use Rattle.std.specs.Prelude.{◌≡◌, ℕ, ◌<◌, ◌≤◌, ◌+◌, List, [], ◌++◌, length, IsSome, IfSome, IsOk, OnOk, OnErr};
 ghost use Rattle.hb_disk.specs.Model.{overwritten, Torn, Stays};
-ghost use Rattle.hb_disk.specs.Calls.{Leaves, WriteFaults, Becomes};
+ghost use Rattle.hb_disk.specs.Calls.{Leaves};
+ghost use Rattle.hb_disk.specs.Runs.{Rewrites};
 ghost use Rattle.hb_wal.specs.Frames.{frames};
 ghost use Rattle.hb_wal.specs.Log.{forced, after_force};
-ghost use Rattle.hb_wal.specs.Forces.{HasLog, ForceLeaves, calls_of_force};
+ghost use Rattle.hb_wal.specs.Forces.{HasLog, MayForce, ForceLeaves, calls_of_force};
 
 use crate::Wal;
 use hb_disk::{Device, DiskFault, write_behind_gate};
@@ -12,9 +13,7 @@ impl Wal {
     /// Writes the oldest group that waits as a frame behind the others. Four device calls, and none where no group
     /// waits; at most four where it fails. After a fault the group still waits, and the disk may have the frame or not.
     pub fn force<D: Device>(&mut self, disk: &mut D) -> Result<(), DiskFault>
-        requires inside { self.old.area + self.old.len ≤ (D.model disk.old).size }
-        requires log { IsSome (D.model disk.old).told →
-            (payloads : List (List ℕ)) × HasLog (D.model disk.old) self.old payloads }
+        requires { MayForce (D.model disk.old) self.old }
         ensures nothing { self.old.groups ≡ [] → IsOk result × Stays (D.model disk.old) (D.model disk.new) }
         ensures forced { OnOk result (self.new ≡ after_force self.old) }
         ensures kept { OnErr result (self.new ≡ self.old) }
@@ -24,10 +23,8 @@ impl Wal {
             OnOk result (HasLog (D.model disk.new) self.new (payloads ++ forced self.old.groups)) }
         ensures moments { IsSome (D.model disk.old).told → (payloads : List (List ℕ)) → HasLog (D.model disk.old) self.old payloads →
             Leaves (D.model disk.old) (D.model disk.new) (ForceLeaves (D.model disk.old) self.old payloads) }
-        ensures place { Becomes (Torn self.old.area self.old.len) (D.model disk.old) (D.model disk.new) }
         ensures clock { IsSome (D.model disk.old).told → OnOk result ((D.model disk.new).clock ≡ (D.model disk.old).clock + calls_of_force self.old.groups) }
-        ensures few { IsSome (D.model disk.old).told → OnErr result (((D.model disk.old).clock ≤ (D.model disk.new).clock) × ((D.model disk.new).clock ≤ (D.model disk.old).clock + 4)) }
-        ensures faults { WriteFaults result (D.model disk.old) (D.model disk.new) }
+        ensures wrote { Rewrites (Torn self.old.area self.old.len) 4 result (D.model disk.old) (D.model disk.new) }
     {
         let gate = self.frame_gate();
         let Some(body) = self.oldest_body() else {

@@ -1,6 +1,5 @@
-ghost use Rattle.std.specs.Prelude.{◌≡◌, ◌⊎◌, ℕ, ◌<◌, ◌≤◌, ◌+◌, ◌-◌, ◌^◌, List, length, take, drop, IfSome, IsErrOf, IfOk, IfErr, OnOk, OnErr, option_map};
-ghost use Rattle.hb_outside.specs.Streams.{Rose};
-ghost use Rattle.hb_disk.specs.Calls.{OnlyReads};
+ghost use Rattle.std.specs.Prelude.{◌≡◌, ◌⊎◌, ℕ, ◌<◌, ◌≤◌, ◌+◌, ◌-◌, ◌^◌, List, length, take, drop, IfSome, IsErr, IsErrOf, IfOk, IfErr, OnOk, OnErr, option_map};
+ghost use Rattle.hb_disk.specs.Calls.{ReadsOnly};
 ghost use Rattle.hb_wal.specs.declared.heads.FrameStop.TheVariants.{BadLength, NoMemory, DiskFault};
 ghost use Rattle.hb_wal.specs.Frames.{IsPayload, IsBadFrame, range};
 ghost use Rattle.hb_wal.specs.Reading.{HeadIs, FrameIs, BeginsFrame};
@@ -46,9 +45,7 @@ impl From<Failed> for FrameStop {
 fn read_head<D: Device>(disk: &mut D, at: u64) -> Result<Option<u32>, Failed>
     requires inside { at + 5 ≤ (D.model disk.old).size }
     ensures head { IfOk result (λ len. IfSome (D.model disk.old).told (λ b. HeadIs len (take 5 (drop at b)))) }
-    ensures cause { OnErr result (Rose (D.model disk.old).read_faults (D.model disk.new).read_faults) }
-    ensures no_fault { OnOk result ((D.model disk.new).read_faults ≡ (D.model disk.old).read_faults) }
-    ensures only_reads { OnlyReads (D.model disk.old) (D.model disk.new) }
+    ensures only { ReadsOnly (IsErr result) (D.model disk.old) (D.model disk.new) }
 {
     let mut head = [0; 5];
     disk.read(at, &mut head)?;
@@ -82,11 +79,7 @@ pub(crate) fn read_frame<D: Device>(
     ensures bad { IsErrOf result BadLength → IfSome (D.model disk.old).told (λ b. IsBadFrame (range at left b)) }
     ensures memory { IsErrOf result NoMemory → IfSome (D.model disk.old).told (λ b.
         (payload : List ℕ) × BeginsFrame (range at left b) payload) }
-    ensures cause { IsErrOf result DiskFault →
-        Rose (D.model disk.old).read_faults (D.model disk.new).read_faults }
-    ensures no_fault { (IsErrOf result DiskFault → ⊥) →
-        (D.model disk.new).read_faults ≡ (D.model disk.old).read_faults }
-    ensures only_reads { OnlyReads (D.model disk.old) (D.model disk.new) }
+    ensures only { ReadsOnly (IsErrOf result DiskFault) (D.model disk.old) (D.model disk.new) }
 {
     if left < FRAME {
         return Ok(None);
@@ -111,11 +104,7 @@ fn read_payload<D: Device>(
     ensures bytes { IfOk result (λ v. IfSome (D.model disk.old).told (λ b. v.items ≡ range at len b)) }
     ensures long { IfOk result (λ v. length v.items ≡ len) }
     ensures stop { IfErr result (λ e. (e ≡ NoMemory) ⊎ (e ≡ DiskFault)) }
-    ensures cause { IsErrOf result DiskFault →
-        Rose (D.model disk.old).read_faults (D.model disk.new).read_faults }
-    ensures no_fault { (IsErrOf result DiskFault → ⊥) →
-        (D.model disk.new).read_faults ≡ (D.model disk.old).read_faults }
-    ensures only_reads { OnlyReads (D.model disk.old) (D.model disk.new) }
+    ensures only { ReadsOnly (IsErrOf result DiskFault) (D.model disk.old) (D.model disk.new) }
 {
     let mut payload = vec![in alloc; 0; len as usize]?;
     disk.read(at, &mut payload)?;

@@ -1,6 +1,5 @@
 ghost use Rattle.std.specs.Prelude.{◌≡◌, ℕ, ◌<◌, ◌≤◌, ◌+◌, ◌^◌, List, ◌++◌, length, All, IfSome, IsErrOf, IfOk, IfErr};
-ghost use Rattle.hb_outside.specs.Streams.{Rose};
-ghost use Rattle.hb_disk.specs.Calls.{OnlyReads};
+ghost use Rattle.hb_disk.specs.Calls.{ReadsOnly};
 ghost use Rattle.hb_wal.specs.declared.reading.ReadStop.TheVariants.{NoMemory, DiskFault};
 ghost use Rattle.hb_wal.specs.Frames.{frames, IsPayload, HasFrames, range};
 ghost use Rattle.hb_wal.specs.Stops.{StopsAt, stop_after};
@@ -62,9 +61,7 @@ pub fn read_area<D: Device>(
     ensures read { IfOk result (λ payloads. IfSome (D.model disk.old).told (λ b. HasFrames (range area len b) payloads)) }
     ensures stopped { IfErr result (λ stop. IfSome (D.model disk.old).told (λ b. StopsAt stop (range area len b))) }
     ensures fits { IfOk result (λ payloads. All IsPayload payloads × (length (frames payloads) ≤ len)) }
-    ensures cause { IsErrOf result DiskFault → Rose (D.model disk.old).read_faults (D.model disk.new).read_faults }
-    ensures no_fault { (IsErrOf result DiskFault → ⊥) → (D.model disk.new).read_faults ≡ (D.model disk.old).read_faults }
-    ensures only_reads { OnlyReads (D.model disk.old) (D.model disk.new) }
+    ensures only { ReadsOnly (IsErrOf result DiskFault) (D.model disk.old) (D.model disk.new) }
 {
     let mut payloads = Payloads::new(Vec::new(alloc));
     let mut left = len;

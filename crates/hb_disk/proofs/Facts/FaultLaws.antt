@@ -45,8 +45,15 @@ Stays-then old mid new first second = record {
 pub ReadsOnly-none : {F : Type 0} (d : DiskModel) → (F → ⊥) → ReadsOnly F d d
 ReadsOnly-none d good = record { stays = Stays-same d; reads = Counts-none d.read_faults good; writes = refl }
 
+-- the same in other words of what failed; where both hold, and where neither does
 pub ReadsOnly-as : {F G : Type 0} (old new : DiskModel) → (F → G) → (G → F) → ReadsOnly F old new → ReadsOnly G old new
 ReadsOnly-as old new to from only = record { stays = only.stays; reads = Counts-as old.read_faults new.read_faults to from only.reads; writes = only.writes }
+
+pub ReadsOnly-both : {F G : Type 0} (old new : DiskModel) → F → G → ReadsOnly F old new → ReadsOnly G old new
+ReadsOnly-both old new f g only = ReadsOnly-as old new (λ _. g) (λ _. f) only
+
+pub ReadsOnly-neither : {F G : Type 0} (old new : DiskModel) → (F → ⊥) → (G → ⊥) → ReadsOnly F old new → ReadsOnly G old new
+ReadsOnly-neither old new f g only = ReadsOnly-as old new (λ failed. absurd (f failed)) (λ failed. absurd (g failed)) only
 
 -- reads after reads that didn't fail
 pub ReadsOnly-then : {F G : Type 0} (old mid new : DiskModel) → (F → ⊥) → ReadsOnly F old mid → ReadsOnly G mid new → ReadsOnly G old new
@@ -55,6 +62,10 @@ ReadsOnly-then old mid new good first second = record {
   reads = Counts-then old.read_faults mid.read_faults new.read_faults good first.reads second.reads;
   writes = second.writes ∙ first.writes;
 }
+
+-- no call, and none failed
+pub WriteFaults-none : {F : Type 0} (d : DiskModel) → (F → ⊥) → WriteFaults F d d
+WriteFaults-none d good = record { writes = Counts-none d.write_faults good; reads = refl }
 
 pub WriteFaults-as : {F G : Type 0} (old new : DiskModel) → (F → G) → (G → F) → WriteFaults F old new → WriteFaults G old new
 WriteFaults-as old new to from faults = record { writes = Counts-as old.write_faults new.write_faults to from faults.writes; reads = faults.reads }

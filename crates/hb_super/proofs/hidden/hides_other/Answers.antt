@@ -1,5 +1,4 @@
 use Rattle.std.proofs.Common.{◌≡◌, ℕ, length, take, drop, ap, ◌∙◌}
-use Rattle.hb_disk.proofs.Facts.RunLaws.{OnlyReads-read}
 use Rattle.hb_lemmas.proofs.Options.{if_value, at_value}
 use Rattle.hb_super.specs.Hidden.{HidesIs}
 use Rattle.hb_super.proofs.Clears.{hides_read}
@@ -14,9 +13,3 @@ returns-clause-hides g c =
     let long : length into ≡ 41 = c.read.auto.into in
     hides_read c.is_other.result c.args.turn c.args.meta.now b into
     (read ∙ ap (λ (n : ℕ). take n (drop c.slot_offset.result b)) long ∙ ap (λ (n : ℕ). take 41 (drop n b)) c.slot_offset.ensures) c.is_other.ensures)
-
-pub returns-clause-only_reads : goal.returns-clause-only_reads
-returns-clause-only_reads g c = OnlyReads-read c.read.result (g.D.Device.model c.args.disk.now) (g.D.Device.model c.read.new.self) c.read.ensures.stays c.read.ensures.faults
-
-pub returns-in_err-read-clause-only_reads : goal.returns-in_err-read-clause-only_reads
-returns-in_err-read-clause-only_reads g c = OnlyReads-read c.read.result (g.D.Device.model c.args.disk.now) (g.D.Device.model c.read.new.self) c.read.ensures.stays c.read.ensures.faults

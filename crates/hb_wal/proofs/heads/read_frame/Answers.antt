@@ -73,6 +73,6 @@ returns-clause-frame g c =
     if_value d.told (λ b. BeginsFrame (range c.args.at c.args.left b) v.items) (λ b told.
     let good = told_good d (g.met.D.Device.is_disk c.args.disk.now) c.args.at c.args.left c.requires.inside b told (omega (arith, c.if-left-lt-FRAME.false))
     c.in_ok-len.field-0 c.in_ok-len.ensures.head c.in-Some.len c.in-Some.is c.if-len-eq0.false (omega (arith, c.if-left-len.false)) in
-    let from : v.items ≡ range (c.args.at + c.from.result) c.in-Some.len b = at_value one.told (λ b. v.items ≡ range (c.args.at + c.from.result) c.in-Some.len b) b (c.read_head.ensures.only_reads.stays.told ∙ told) c.in_ok-read_payload.ensures.bytes in
+    let from : v.items ≡ range (c.args.at + c.from.result) c.in-Some.len b = at_value one.told (λ b. v.items ≡ range (c.args.at + c.from.result) c.in-Some.len b) b (c.read_head.ensures.only.stays.told ∙ told) c.in_ok-read_payload.ensures.bytes in
     let read : v.items ≡ range (c.args.at + 5) c.in-Some.len b = from ∙ ap (λ (n : ℕ). range (c.args.at + n) c.in-Some.len b) c.from.ensures in
     subst (λ (l : List ℕ). BeginsFrame (range c.args.at c.args.left b) l) (sym read) good)
