@@ -75,7 +75,7 @@ pub reached_normal : (cuts : List LeafCut) (tree : Tree) (area : Area) → IsNor
 reached_normal [] tree area h = h
 reached_normal (cut ∷ cuts) tree area h = reached_normal cuts (going cut tree) (half_area cut area) tt
 
-weight_with : (side : Side) (axis value : ℕ) (on off : Tree) → weight_of (cut_with side axis value on off) ≡ weight_of on + weight_of off
+pub weight_with : (side : Side) (axis value : ℕ) (on off : Tree) → weight_of (cut_with side axis value on off) ≡ weight_of on + weight_of off
 weight_with Left axis value on off = weight_cut axis value on off
 weight_with Right axis value on off = let w = weight_cut axis value off on in omega (arith, w)
 
@@ -87,7 +87,7 @@ weighs_some (Tip (Sibling page)) = omega arith
 weighs_some (Cut axis value left right) = let l = weighs_some left in let w = weight_cut axis value left right in omega (arith, l, w)
 
 -- both halves together weigh what the leaf weighs
-halves_weigh : (cut : LeafCut) (tree : Tree) (area : Area) → PartsLeaf cut tree area → weight_of (going cut tree) + weight_of (staying cut tree) ≡ weight_of tree
+pub halves_weigh : (cut : LeafCut) (tree : Tree) (area : Area) → PartsLeaf cut tree area → weight_of (going cut tree) + weight_of (staying cut tree) ≡ weight_of tree
 halves_weigh cut tree area h =
     let both = both_halves cut.side cut.axis cut.value h.records in
     let whole = ap weight_of h.leaf in

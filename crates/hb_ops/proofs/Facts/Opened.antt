@@ -21,7 +21,7 @@ use Rattle.hb_ops.proofs.Facts.Places.{gap_lacks, joined_at, place_has}
 use Rattle.hb_ops.proofs.Facts.Tips.{first_append, first_held, parted, tip_at, unchanged}
 
 -- what is true of each leaf is true of the first one at a point
-first_has : (P : Placed → Type 0) (p : List ℕ) (xs : List Placed) (placed : Placed) → first_at p xs ≡ Some placed → All P xs → P placed
+pub first_has : (P : Placed → Type 0) (p : List ℕ) (xs : List Placed) (placed : Placed) → first_at p xs ≡ Some placed → All P xs → P placed
 first_has P p [] placed e all = absurd (let no : ⊥ = cc in no)
 first_has P p (x ∷ xs) placed e all = elim (holds x.area p) as (λ b. cond b (Some x) (first_at p xs) ≡ Some placed → P placed) [
   | true ↦ λ e. let same : x ≡ placed = cc in subst P same (All-head P x xs all)
