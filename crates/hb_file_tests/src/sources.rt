@@ -17,9 +17,7 @@ struct StoppingPages {
 }
 
 impl Pages for StoppingPages {
-    ghost told = { λ _. None };
-
-    ghost faults = { λ s. s.faults };
+    ghost model = { λ s. record { told = None; faults = s.faults } };
 
     ghost asked = { λ _ _. Unit {0} };
 
@@ -80,9 +78,7 @@ struct ChangingPages {
 }
 
 impl Pages for ChangingPages {
-    ghost told = { λ _. None };
-
-    ghost faults = { λ _. 0 };
+    ghost model = { λ _. record { told = None; faults = 0 } };
 
     ghost asked = { λ _ _. Unit {0} };
 

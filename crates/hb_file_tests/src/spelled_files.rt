@@ -228,9 +228,7 @@ impl KeptPages {
 }
 
 impl Pages for KeptPages {
-    ghost told = { λ _. None };
-
-    ghost faults = { λ _. 0 };
+    ghost model = { λ _. record { told = None; faults = 0 } };
 
     ghost asked = { λ _ _. Unit {0} };
 

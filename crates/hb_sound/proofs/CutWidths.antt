@@ -33,7 +33,7 @@ reached_narrower (cut ∷ cuts) tree area some h =
 
 -- a part of a page by its path is no wider than the page
 part_no_wider : (path : List Side) (t : Tree) (area : Area) (w : Tree × Area) → part_at path t area ≡ Some w → IsWellCut t area → width w.1 ≤ width area
-part_no_wider [] t area w e cut = subst (λ (w : Tree × Area). width w.1 ≤ width area) (same_Some t area w e) (omega arith)
+part_no_wider [] t area w e cut = subst (λ (w : Tree × Area). width w.1 ≤ width area) (same_Some (t, area) w e) (omega arith)
 part_no_wider (Left ∷ path) (Tip leaf) area w e cut = absurd (cc)
 part_no_wider (Right ∷ path) (Tip leaf) area w e cut = absurd (cc)
 part_no_wider (Left ∷ path) (Cut axis value left right) area w e cut =

@@ -22,7 +22,8 @@ use Rattle.hb_sound.proofs.GrowthKept.{growth_keeps_contents}
 use Rattle.hb_sound.proofs.GrowthSound.{growth_keeps_sound}
 use Rattle.hb_sound.proofs.OneLevel.{TreeLaws}
 use Rattle.hb_ops.proofs.Facts.StemLaws.{PartLaws}
-use Rattle.hb_sound.proofs.Partition.{SpaceLaws, del_on, dels_take_one, pages_have_boxes, put_on, puts_add_one}
+use Rattle.hb_sound.proofs.Partition.{SpaceLaws, dels_take_one, pages_have_boxes, puts_add_one}
+use Rattle.hb_ops.proofs.Facts.Contents.{del_on, put_on}
 use Rattle.hb_sound.proofs.PostedPage.{PostLaws}
 use Rattle.hb_sound.proofs.PostSound.{postings_keep_contents, postings_keep_sound}
 use Rattle.hb_ops.proofs.Facts.PlacedLaws.{placed}

@@ -1,5 +1,5 @@
 -- What the examples have in common: a file whose pages are all in use, and boxes of one attribute.
-use Rattle.std.proofs.Common.{◌≡◌, ◌≢◌, ◌⊎◌, inl, inr, ℕ, zero, suc, ◌+◌, ◌<◌, ◌-◌, ◌≤◌, ◌^◌, List, [], ◌∷◌, map, slice_get, slice_index, All, AllPairs, Contains, Some, refl, sym, ap, subst, ◌∙◌, arith}
+use Rattle.std.proofs.Common.{◌≡◌, ◌≢◌, ◌⊎◌, inl, inr, ℕ, zero, suc, ◌+◌, ◌<◌, ◌-◌, ◌≤◌, ◌^◌, List, [], ◌∷◌, map, slice_get, slice_index, AllPairs, Contains, Some, refl, sym, ap, subst, ◌∙◌, arith}
 use Rattle.std.specs.List.{AllByRecursion}
 use Rattle.std.proofs.lemmas.List.Elements.{All-contains}
 use Rattle.std.proofs.lemmas.List.Kept.{AllPairs-cons}
@@ -17,19 +17,14 @@ use Rattle.hb_ops.specs.Files.{FileState, live_page, page_of}
 use Rattle.hb_ops.specs.Sound.{ChildrenMatch, IsCovered, IsCounted, SiblingsMatch, count_live, times_named}
 use Rattle.hb_sound.proofs.PagePlaces.{place_of}
 use Rattle.hb_ops.proofs.Facts.PageNumberLaws.{page_at-suc, page_at-zero}
+use Rattle.std.proofs.lemmas.List.Elements.{All-from_recursion}
 
 -- a file whose pages are all in use
 abbrev pub all_live : Meta → List LivePage → FileState
 all_live meta pages = record { meta = meta; pages = map Live pages }
 
--- what holds of each element of a written list
-pub each_at : {X : Type 0} (P : X → Type 0) (xs : List X) → AllByRecursion P xs → All P xs
-each_at P [] each k d lt = absurd (omega (arith, lt))
-each_at P (x ∷ rest) each zero d lt = each.0
-each_at P (x ∷ rest) each (suc k) d lt = each_at P rest each.1 k d (omega (arith, lt))
-
 pub each_has : {X : Type 0} (P : X → Type 0) (xs : List X) (y : X) → AllByRecursion P xs → Contains xs y → P y
-each_has P xs y each has = All-contains P xs y (each_at P xs each) has
+each_has P xs y each has = All-contains P xs y (All-from_recursion P xs each) has
 
 -- what holds of the pages of a list, the first of which has the number n
 abbrev pub AllNumbered : (ℕ → LivePage → Type 0) → ℕ → List LivePage → Type 0
@@ -151,7 +146,7 @@ Rise (r ∷ rest) = AllByRecursion (Precedes r) rest × Rise rest
 
 pub rising : (records : List Record) → Rise records → AllPairs Precedes records
 rising [] each = λ i j d less lt. absurd (omega (arith, lt))
-rising (r ∷ rest) each = AllPairs-cons Precedes r rest (each_at (Precedes r) rest each.0) (rising rest each.1)
+rising (r ∷ rest) each = AllPairs-cons Precedes r rest (All-from_recursion (Precedes r) rest each.0) (rising rest each.1)
 
 -- a leaf without records, and one with them
 pub no_records : (name : ℕ) (area : Area) → IsInOrder (record { leaf = Child name; area = area })
@@ -161,7 +156,7 @@ pub none_given : (name : ℕ) (area : Area) → IsInOrder (record { leaf = Sibli
 none_given name area = record { inside = λ k d lt. absurd (omega (arith, lt)); rising = λ i j d less lt. absurd (omega (arith, lt)) }
 
 pub in_order : (records : List Record) (area : Area) → AllByRecursion (λ (r : Record). Holds area r.key) records → Rise records → IsInOrder (record { leaf = Records records; area = area })
-in_order records area each rise = record { inside = each_at (λ (r : Record). Holds area r.key) records each; rising = rising records rise }
+in_order records area each rise = record { inside = All-from_recursion (λ (r : Record). Holds area r.key) records each; rising = rising records rise }
 
 -- boxes of one attribute
 abbrev pub interval : ℕ → ℕ → Area

@@ -18,7 +18,7 @@ use Rattle.hb_ops.proofs.Facts.PageNumberLaws.{in_range, place_of, with_page-beh
 use Rattle.hb_sound.proofs.Growths.{Growth, LicensesGrowth, MayGrow, growth, grown}
 use Rattle.hb_sound.specs.LawsOfOperations.{GrowthKeepsContents, GrowthKeepsDirect}
 use Rattle.hb_ops.specs.Growing.{new_root}
-use Rattle.hb_sound.proofs.ExampleParts.{each_at}
+use Rattle.std.proofs.lemmas.List.Elements.{All-from_recursion}
 use Rattle.hb_sound.proofs.FileGrown.{comes_from, is_grown, stays_live}
 use Rattle.hb_sound.proofs.Partition.{SpaceLaws}
 use Rattle.hb_sound.proofs.SplitChains.{same_Some}
@@ -77,6 +77,6 @@ growth_keeps_direct space s fresh free_after p sound point may licensed =
         page = new_root s.meta;
         live = ap if_live grew.there;
         on = refl;
-        direct = record { inside = space.points s.meta.k p point.point point.attributes; not_given = each_at (λ s. ¬ (Holds s.1 p)) [] tt };
+        direct = record { inside = space.points s.meta.k p point.point point.attributes; not_given = All-from_recursion (λ s. ¬ (Holds s.1 p)) [] tt };
       };
     }

@@ -13,7 +13,8 @@ use Rattle.hb_ops.specs.Sound.{AreWellMade, ChildrenMatch, FitsFile, IsCovered, 
 use Rattle.hb_sound.proofs.Growths.{Growth, growth, grown}
 use Rattle.hb_sound.specs.LawsOfOperations.{GrowthKeepsSound}
 use Rattle.hb_ops.specs.Growing.{new_root}
-use Rattle.hb_sound.proofs.ExampleParts.{each_at, no_records}
+use Rattle.hb_sound.proofs.ExampleParts.{no_records}
+use Rattle.std.proofs.lemmas.List.Elements.{All-from_recursion}
 use Rattle.hb_sound.proofs.FileGrown.{IsGrown, comes_from, is_grown, stays_live}
 use Rattle.hb_sound.proofs.PageLists.{live_few}
 use Rattle.hb_ops.proofs.Facts.PlacedLaws.{placed}
@@ -70,11 +71,11 @@ module _ (s : FileState) (x : Growth) (grew : IsGrown s x) where
     fits = record { level = omega arith; attributes = length-replicate s.meta.k 0 };
     well_cut = tt;
     filled = record {
-      kinds = each_at (BelongsAt s.meta.height) (Child s.meta.root ∷ []) (some_levels h, tt);
+      kinds = All-from_recursion (BelongsAt s.meta.height) (Child s.meta.root ∷ []) (some_levels h, tt);
       light = light s.meta.height s.meta.dcap s.meta.icap (some_levels h) room;
       own = λ none. none;
     };
-    in_order = each_at IsInOrder (placed (Child s.meta.root) (whole_area s.meta.k) ∷ []) (no_records s.meta.root (whole_area s.meta.k), tt);
+    in_order = All-from_recursion IsInOrder (placed (Child s.meta.root) (whole_area s.meta.k) ∷ []) (no_records s.meta.root (whole_area s.meta.k), tt);
     normal = tt;
   }
 

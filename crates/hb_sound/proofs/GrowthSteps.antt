@@ -12,7 +12,8 @@ use Rattle.hb_ops.specs.Files.{FileState, live_page, page_of}
 use Rattle.hb_ops.specs.Sound.{ChildrenMatch, FitsFile, IsCounted, IsCovered, IsSound, SiblingsMatch, times_named}
 use Rattle.hb_sound.proofs.Growths.{Growth, LicensesGrowth, MayGrow, grown}
 use Rattle.hb_sound.specs.TowerFile.{tower_ground}
-use Rattle.hb_sound.proofs.ExampleParts.{each_at, held, in_order, interval, top}
+use Rattle.hb_sound.proofs.ExampleParts.{held, in_order, interval, top}
+use Rattle.std.proofs.lemmas.List.Elements.{All-from_recursion}
 use Rattle.hb_sound.proofs.GrowthSound.{growth_keeps_sound}
 use Rattle.hb_sound.proofs.PagePlaces.{place_of}
 use Rattle.hb_ops.proofs.Facts.PageNumberLaws.{page_at-suc, page_at-zero}
@@ -118,8 +119,8 @@ ground_fits : FitsFile low.meta tower_ground
 ground_fits = record {
   fits = record { level = omega arith; attributes = refl };
   well_cut = tt;
-  filled = record { kinds = each_at (BelongsAt 0) (leaves tower_ground.frag) (refl, tt); light = omega arith; own = λ none. none };
-  in_order = each_at IsInOrder (leaves_of tower_ground.frag tower_ground.area) (in_order _ (interval 0 top) (held 0 7 top (omega arith) (omega arith), tt) (tt, tt), tt);
+  filled = record { kinds = All-from_recursion (BelongsAt 0) (leaves tower_ground.frag) (refl, tt); light = omega arith; own = λ none. none };
+  in_order = All-from_recursion IsInOrder (leaves_of tower_ground.frag tower_ground.area) (in_order _ (interval 0 top) (held 0 7 top (omega arith) (omega arith), tt) (tt, tt), tt);
   normal = tt;
 }
 

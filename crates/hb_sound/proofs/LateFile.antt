@@ -5,7 +5,8 @@ use Rattle.hb_frag.specs.Leaves.{leaves, leaves_of}
 use Rattle.hb_frag.specs.Rules.{BelongsAt, IsInOrder}
 use Rattle.hb_ops.specs.Sound.{AreWellMade, ChildrenMatch, FitsFile, IsCovered, IsSound, SiblingsMatch}
 use Rattle.hb_sound.specs.LateFile.{late_aside, late_beside, late_file, late_highest, late_inner, late_lowest, late_meta, late_middle, late_root, late_shared}
-use Rattle.hb_sound.proofs.ExampleParts.{HasChildren, children_match, counted, cuts, each_at, each_page, first, held, in_order, interval, is_covered, later, no_records, none_given, not_whole, siblings_match, top, within}
+use Rattle.hb_sound.proofs.ExampleParts.{HasChildren, children_match, counted, cuts, each_page, first, held, in_order, interval, is_covered, later, no_records, none_given, not_whole, siblings_match, top, within}
+use Rattle.std.proofs.lemmas.List.Elements.{All-from_recursion}
 
 abbrev all_pages : List LivePage
 all_pages = late_root ∷ late_beside ∷ late_middle ∷ late_aside ∷ late_lowest ∷ late_shared ∷ late_highest ∷ late_inner ∷ []
@@ -15,8 +16,8 @@ root_fits : FitsFile late_meta late_root
 root_fits = record {
   fits = record { level = omega arith; attributes = refl };
   well_cut = (cuts 0 top 500 (omega arith) (omega arith), tt, tt);
-  filled = record { kinds = each_at (BelongsAt 2) (leaves late_root.frag) (omega arith, (tt, tt)); light = omega arith; own = λ none. none };
-  in_order = each_at IsInOrder (leaves_of late_root.frag late_root.area) (no_records 3 _, (none_given 2 _, tt));
+  filled = record { kinds = All-from_recursion (BelongsAt 2) (leaves late_root.frag) (omega arith, (tt, tt)); light = omega arith; own = λ none. none };
+  in_order = All-from_recursion IsInOrder (leaves_of late_root.frag late_root.area) (no_records 3 _, (none_given 2 _, tt));
   normal = (λ none. none, tt, tt);
 }
 
@@ -24,8 +25,8 @@ beside_fits : FitsFile late_meta late_beside
 beside_fits = record {
   fits = record { level = omega arith; attributes = refl };
   well_cut = tt;
-  filled = record { kinds = each_at (BelongsAt 2) (leaves late_beside.frag) (omega arith, tt); light = omega arith; own = λ none. none };
-  in_order = each_at IsInOrder (leaves_of late_beside.frag late_beside.area) (no_records 3 _, tt);
+  filled = record { kinds = All-from_recursion (BelongsAt 2) (leaves late_beside.frag) (omega arith, tt); light = omega arith; own = λ none. none };
+  in_order = All-from_recursion IsInOrder (leaves_of late_beside.frag late_beside.area) (no_records 3 _, tt);
   normal = tt;
 }
 
@@ -33,8 +34,8 @@ middle_fits : FitsFile late_meta late_middle
 middle_fits = record {
   fits = record { level = omega arith; attributes = refl };
   well_cut = (cuts 0 top 100 (omega arith) (omega arith), tt, (cuts 100 top 300 (omega arith) (omega arith), tt, tt));
-  filled = record { kinds = each_at (BelongsAt 1) (leaves late_middle.frag) (omega arith, (omega arith, (tt, tt))); light = omega arith; own = λ none. none };
-  in_order = each_at IsInOrder (leaves_of late_middle.frag late_middle.area) (no_records 5 _, (no_records 6 _, (none_given 4 _, tt)));
+  filled = record { kinds = All-from_recursion (BelongsAt 1) (leaves late_middle.frag) (omega arith, (omega arith, (tt, tt))); light = omega arith; own = λ none. none };
+  in_order = All-from_recursion IsInOrder (leaves_of late_middle.frag late_middle.area) (no_records 5 _, (no_records 6 _, (none_given 4 _, tt)));
   normal = (λ none. none, tt, (λ none. none, tt, tt));
 }
 
@@ -42,8 +43,8 @@ aside_fits : FitsFile late_meta late_aside
 aside_fits = record {
   fits = record { level = omega arith; attributes = refl };
   well_cut = (cuts 300 top 400 (omega arith) (omega arith), tt, tt);
-  filled = record { kinds = each_at (BelongsAt 1) (leaves late_aside.frag) (omega arith, (omega arith, tt)); light = omega arith; own = λ none. none };
-  in_order = each_at IsInOrder (leaves_of late_aside.frag late_aside.area) (no_records 6 _, (no_records 7 _, tt));
+  filled = record { kinds = All-from_recursion (BelongsAt 1) (leaves late_aside.frag) (omega arith, (omega arith, tt)); light = omega arith; own = λ none. none };
+  in_order = All-from_recursion IsInOrder (leaves_of late_aside.frag late_aside.area) (no_records 6 _, (no_records 7 _, tt));
   normal = (λ e. let no : ⊥ = cc in no, tt, tt);
 }
 
@@ -51,8 +52,8 @@ lowest_fits : FitsFile late_meta late_lowest
 lowest_fits = record {
   fits = record { level = omega arith; attributes = refl };
   well_cut = (cuts 0 top 100 (omega arith) (omega arith), tt, (cuts 100 top 400 (omega arith) (omega arith), tt, tt));
-  filled = record { kinds = each_at (BelongsAt 0) (leaves late_lowest.frag) (refl, (tt, (tt, tt))); light = omega arith; own = λ none. none };
-  in_order = each_at IsInOrder (leaves_of late_lowest.frag late_lowest.area) (in_order _ (interval 0 99) (held 0 7 99 (omega arith) (omega arith), (held 0 99 99 (omega arith) (omega arith), tt)) ((refl, tt), (tt, tt)), (none_given 6 _, (none_given 7 _, tt)));
+  filled = record { kinds = All-from_recursion (BelongsAt 0) (leaves late_lowest.frag) (refl, (tt, (tt, tt))); light = omega arith; own = λ none. none };
+  in_order = All-from_recursion IsInOrder (leaves_of late_lowest.frag late_lowest.area) (in_order _ (interval 0 99) (held 0 7 99 (omega arith) (omega arith), (held 0 99 99 (omega arith) (omega arith), tt)) ((refl, tt), (tt, tt)), (none_given 6 _, (none_given 7 _, tt)));
   normal = (λ none. none, tt, (λ none. none, tt, tt));
 }
 
@@ -60,8 +61,8 @@ shared_fits : FitsFile late_meta late_shared
 shared_fits = record {
   fits = record { level = omega arith; attributes = refl };
   well_cut = tt;
-  filled = record { kinds = each_at (BelongsAt 0) (leaves late_shared.frag) (refl, tt); light = omega arith; own = λ none. none };
-  in_order = each_at IsInOrder (leaves_of late_shared.frag late_shared.area) (in_order _ (interval 100 399) (held 100 100 399 (omega arith) (omega arith), (held 100 299 399 (omega arith) (omega arith), (held 100 300 399 (omega arith) (omega arith), (held 100 399 399 (omega arith) (omega arith), tt)))) ((refl, (refl, (refl, tt))), ((refl, (refl, tt)), ((refl, tt), (tt, tt)))), tt);
+  filled = record { kinds = All-from_recursion (BelongsAt 0) (leaves late_shared.frag) (refl, tt); light = omega arith; own = λ none. none };
+  in_order = All-from_recursion IsInOrder (leaves_of late_shared.frag late_shared.area) (in_order _ (interval 100 399) (held 100 100 399 (omega arith) (omega arith), (held 100 299 399 (omega arith) (omega arith), (held 100 300 399 (omega arith) (omega arith), (held 100 399 399 (omega arith) (omega arith), tt)))) ((refl, (refl, (refl, tt))), ((refl, (refl, tt)), ((refl, tt), (tt, tt)))), tt);
   normal = tt;
 }
 
@@ -69,8 +70,8 @@ highest_fits : FitsFile late_meta late_highest
 highest_fits = record {
   fits = record { level = omega arith; attributes = refl };
   well_cut = (cuts 400 top 600 (omega arith) (omega arith), tt, (cuts 600 top 800 (omega arith) (omega arith), tt, tt));
-  filled = record { kinds = each_at (BelongsAt 0) (leaves late_highest.frag) (refl, (tt, (refl, tt))); light = omega arith; own = λ none. none };
-  in_order = each_at IsInOrder (leaves_of late_highest.frag late_highest.area) (in_order _ (interval 400 599) (held 400 450 599 (omega arith) (omega arith), tt) (tt, tt), (none_given 8 _, (in_order _ (interval 800 top) (held 800 top top (omega arith) (omega arith), tt) (tt, tt), tt)));
+  filled = record { kinds = All-from_recursion (BelongsAt 0) (leaves late_highest.frag) (refl, (tt, (refl, tt))); light = omega arith; own = λ none. none };
+  in_order = All-from_recursion IsInOrder (leaves_of late_highest.frag late_highest.area) (in_order _ (interval 400 599) (held 400 450 599 (omega arith) (omega arith), tt) (tt, tt), (none_given 8 _, (in_order _ (interval 800 top) (held 800 top top (omega arith) (omega arith), tt) (tt, tt), tt)));
   normal = (λ none. none, tt, (λ none. none, tt, tt));
 }
 
@@ -78,8 +79,8 @@ inner_fits : FitsFile late_meta late_inner
 inner_fits = record {
   fits = record { level = omega arith; attributes = refl };
   well_cut = tt;
-  filled = record { kinds = each_at (BelongsAt 0) (leaves late_inner.frag) (refl, tt); light = omega arith; own = λ none. none };
-  in_order = each_at IsInOrder (leaves_of late_inner.frag late_inner.area) (in_order _ (interval 600 799) (held 600 600 799 (omega arith) (omega arith), (held 600 799 799 (omega arith) (omega arith), tt)) ((refl, tt), (tt, tt)), tt);
+  filled = record { kinds = All-from_recursion (BelongsAt 0) (leaves late_inner.frag) (refl, tt); light = omega arith; own = λ none. none };
+  in_order = All-from_recursion IsInOrder (leaves_of late_inner.frag late_inner.area) (in_order _ (interval 600 799) (held 600 600 799 (omega arith) (omega arith), (held 600 799 799 (omega arith) (omega arith), tt)) ((refl, tt), (tt, tt)), tt);
   normal = tt;
 }
 

@@ -7,13 +7,14 @@ use Rattle.hb_ops.specs.Posting.{FitsPost, GaveAway}
 use Rattle.hb_sound.specs.LateFile.{late_aside, late_aside_posted, late_file, late_highest, late_meta, late_posting}
 use Rattle.hb_sound.specs.LawsOfPostings.{MayBeDone}
 use Rattle.hb_frag.specs.declared.paths.Side.TheVariants.{Right}
-use Rattle.hb_sound.proofs.ExampleParts.{each_at, interval, top}
+use Rattle.hb_sound.proofs.ExampleParts.{interval, top}
+use Rattle.std.proofs.lemmas.List.Elements.{All-from_recursion}
 use Rattle.hb_sound.proofs.LateFile.{late_is_sound}
 
 given_box : IsArea (interval 600 799)
 given_box = record {
-  lo_point = record { some = omega arith; few = omega arith; fits = each_at (λ (x : ℕ). x < 2 ^ 64) (600 ∷ []) (omega arith, tt) };
-  hi_point = record { some = omega arith; few = omega arith; fits = each_at (λ (x : ℕ). x < 2 ^ 64) (799 ∷ []) (omega arith, tt) };
+  lo_point = record { some = omega arith; few = omega arith; fits = All-from_recursion (λ (x : ℕ). x < 2 ^ 64) (600 ∷ []) (omega arith, tt) };
+  hi_point = record { some = omega arith; few = omega arith; fits = All-from_recursion (λ (x : ℕ). x < 2 ^ 64) (799 ∷ []) (omega arith, tt) };
   same = refl;
   ordered = rises;
 }

@@ -1,3 +1,5 @@
+pub mod LeastLaws
+pub mod Asking
 pub mod SiblingLeaves
 pub mod Widths
 pub mod PagePlaces

@@ -2,12 +2,11 @@
 use Rattle.std.proofs.Common.{◌≡◌, inl, inr, ℕ, ◌+◌, ◌<◌, List, [], ◌∷◌, ◌++◌, length, take, Option, Some, None, option_map, IfSome, slice_get, refl, sym, ap, ◌∙◌, subst, arith}
 use Rattle.std.proofs.lemmas.Bool.{cases_lt}
 use Rattle.hb_space.specs.Boxes.{Area, side_below, side_from}
-use Rattle.hb_frag.specs.declared.leaves.Leaf.{Leaf}
 use Rattle.hb_frag.specs.declared.leaves.Leaf.TheVariants.{Records, Child, Sibling}
 use Rattle.hb_frag.specs.declared.pages.LivePage.{LivePage}
 use Rattle.hb_frag.specs.declared.pages.Page.{Page}
 use Rattle.hb_frag.specs.declared.pages.Page.TheVariants as pages
-use Rattle.hb_frag.specs.Leaves.{Placed, leaves, leaves_of, siblings, siblings_of}
+use Rattle.hb_frag.specs.Leaves.{leaves, leaves_of, siblings, siblings_of}
 use Rattle.hb_frag.specs.Trees.{Tree, Tip, Cut}
 use Rattle.hb_ops.specs.Files.{if_live, page_at}
 use Rattle.hb_ops.specs.Sound.{count_name, times_named}
@@ -23,10 +22,11 @@ use Rattle.hb_sound.specs.Told.{item_at}
 use Rattle.hb_sound.specs.declared.pages.AuditStop.{AuditStop}
 use Rattle.hb_sound.specs.declared.pages.AuditStop.TheVariants as stops
 use Rattle.hb_sound.proofs.Bridge.{page_item}
-use Rattle.hb_sound.proofs.Counts.{more_more}
+use Rattle.hb_sound.proofs.Counts.{more_more, names_append}
 use Rattle.hb_sound.proofs.Firsts.{item_behind}
 use Rattle.hb_sound.proofs.ReadUp.{take_more}
 use Rattle.hb_sound.proofs.ToldPages.{slice_get_inside}
+use Rattle.hb_frag.proofs.Facts.NamesListed.{siblings-append}
 
 -- the first bad one after one more
 pub next_first : (p : ℕ → Type 0) (good : Type 0) (n : ℕ) (first after : Option ℕ) → IsFirstUpTo p n first → IsNextBad good (n + 1) first after
@@ -60,22 +60,6 @@ count_append : (id : ℕ) (xs ys : List (ℕ × Area)) → count_name id (xs ++ 
 count_append id [] ys = omega arith
 count_append id (s ∷ xs) ys = let rest = count_append id xs ys in omega (arith, rest)
 
-pub sibling_append : (xs ys : List Placed) → siblings (xs ++ ys) ≡ siblings xs ++ siblings ys
-sibling_append [] ys = refl
-sibling_append (first ∷ xs) ys = by_leaf (sibling_append xs ys) first.leaf first.area
-  where
-    by_leaf : siblings (xs ++ ys) ≡ siblings xs ++ siblings ys → (leaf : Leaf) (area : Area)
-        → siblings (record { leaf = leaf; area = area } ∷ (xs ++ ys)) ≡ siblings (record { leaf = leaf; area = area } ∷ xs) ++ siblings ys
-    by_leaf again (Records records) area = again
-    by_leaf again (Child page) area = again
-    by_leaf again (Sibling page) area = ap (λ (l : List (ℕ × Area)). (page, area) ∷ l) again
-
-names_more : (id : ℕ) (xs ys : List Leaf) → names_in id (xs ++ ys) ≡ names_in id xs + names_in id ys
-names_more id [] ys = omega arith
-names_more id (Records records ∷ xs) ys = names_more id xs ys
-names_more id (Child page ∷ xs) ys = names_more id xs ys
-names_more id (Sibling page ∷ xs) ys = let rest = names_more id xs ys in omega (arith, rest)
-
 -- the names among the leaves are those of the sibling leaves
 pub names_are : (id : ℕ) (tree : Tree) (area : Area) → names_in id (leaves tree) ≡ count_name id (siblings (leaves_of tree area))
 names_are id (Tip (Records records)) area = refl
@@ -86,8 +70,8 @@ names_are id (Cut axis value left right) area =
     let from = leaves_of right (side_from area axis value) in
     let a = names_are id left (side_below area axis value) in
     let b = names_are id right (side_from area axis value) in
-    let parts = names_more id (leaves left) (leaves right) in
-    let whole = ap (λ (l : List (ℕ × Area)). count_name id l) (sibling_append below from) ∙ count_append id (siblings below) (siblings from) in
+    let parts = names_append id (leaves left) (leaves right) in
+    let whole = ap (λ (l : List (ℕ × Area)). count_name id l) (siblings-append below from) ∙ count_append id (siblings below) (siblings from) in
     omega (arith, a, b, parts, whole)
 
 pub times_more : (id : ℕ) (xs ys : List Page) → times_named id (xs ++ ys) ≡ times_named id xs + times_named id ys

@@ -7,7 +7,8 @@ use Rattle.hb_frag.specs.Rules.{BelongsAt, IsInOrder}
 use Rattle.hb_ops.specs.Sound.{FitsFile, IsSound, SiblingsMatch, ChildrenMatch, IsCovered}
 use Rattle.hb_sound.specs.LostFile.{lost_file, lost_first, lost_last, lost_meta, lost_root, lost_second, lost_third}
 use Rattle.hb_sound.specs.PointWalks.{IsResponsible, IsWholeWalk}
-use Rattle.hb_sound.proofs.ExampleParts.{children_match, counted, cuts, each_at, each_page, first, held, in_order, interval, is_covered, later, no_records, none_given, not_whole, siblings_match, top, within}
+use Rattle.hb_sound.proofs.ExampleParts.{children_match, counted, cuts, each_page, first, held, in_order, interval, is_covered, later, no_records, none_given, not_whole, siblings_match, top, within}
+use Rattle.std.proofs.lemmas.List.Elements.{All-from_recursion}
 
 abbrev all_pages : List LivePage
 all_pages = lost_root ∷ lost_first ∷ lost_second ∷ lost_third ∷ lost_last ∷ []
@@ -16,8 +17,8 @@ root_fits : FitsFile lost_meta lost_root
 root_fits = record {
   fits = record { level = omega arith; attributes = refl };
   well_cut = tt;
-  filled = record { kinds = each_at (BelongsAt 1) (leaves lost_root.frag) (omega arith, tt); light = omega arith; own = λ none. none };
-  in_order = each_at IsInOrder (leaves_of lost_root.frag lost_root.area) (no_records 2 _, tt);
+  filled = record { kinds = All-from_recursion (BelongsAt 1) (leaves lost_root.frag) (omega arith, tt); light = omega arith; own = λ none. none };
+  in_order = All-from_recursion IsInOrder (leaves_of lost_root.frag lost_root.area) (no_records 2 _, tt);
   normal = tt;
 }
 
@@ -25,8 +26,8 @@ first_fits : FitsFile lost_meta lost_first
 first_fits = record {
   fits = record { level = omega arith; attributes = refl };
   well_cut = (cuts 0 top 100 (omega arith) (omega arith), tt, tt);
-  filled = record { kinds = each_at (BelongsAt 0) (leaves lost_first.frag) (refl, (tt, tt)); light = omega arith; own = λ none. none };
-  in_order = each_at IsInOrder (leaves_of lost_first.frag lost_first.area) (in_order _ (interval 0 99) (held 0 7 99 (omega arith) (omega arith), tt) (tt, tt), (none_given 3 _, tt));
+  filled = record { kinds = All-from_recursion (BelongsAt 0) (leaves lost_first.frag) (refl, (tt, tt)); light = omega arith; own = λ none. none };
+  in_order = All-from_recursion IsInOrder (leaves_of lost_first.frag lost_first.area) (in_order _ (interval 0 99) (held 0 7 99 (omega arith) (omega arith), tt) (tt, tt), (none_given 3 _, tt));
   normal = (λ none. none, tt, tt);
 }
 
@@ -34,8 +35,8 @@ second_fits : FitsFile lost_meta lost_second
 second_fits = record {
   fits = record { level = omega arith; attributes = refl };
   well_cut = (cuts 100 top 200 (omega arith) (omega arith), tt, tt);
-  filled = record { kinds = each_at (BelongsAt 0) (leaves lost_second.frag) (refl, (tt, tt)); light = omega arith; own = λ none. none };
-  in_order = each_at IsInOrder (leaves_of lost_second.frag lost_second.area) (in_order _ (interval 100 199) (held 100 100 199 (omega arith) (omega arith), tt) (tt, tt), (none_given 4 _, tt));
+  filled = record { kinds = All-from_recursion (BelongsAt 0) (leaves lost_second.frag) (refl, (tt, tt)); light = omega arith; own = λ none. none };
+  in_order = All-from_recursion IsInOrder (leaves_of lost_second.frag lost_second.area) (in_order _ (interval 100 199) (held 100 100 199 (omega arith) (omega arith), tt) (tt, tt), (none_given 4 _, tt));
   normal = (λ none. none, tt, tt);
 }
 
@@ -43,8 +44,8 @@ third_fits : FitsFile lost_meta lost_third
 third_fits = record {
   fits = record { level = omega arith; attributes = refl };
   well_cut = (cuts 200 top 300 (omega arith) (omega arith), tt, tt);
-  filled = record { kinds = each_at (BelongsAt 0) (leaves lost_third.frag) (refl, (tt, tt)); light = omega arith; own = λ none. none };
-  in_order = each_at IsInOrder (leaves_of lost_third.frag lost_third.area) (in_order [] (interval 200 299) tt tt, (none_given 5 _, tt));
+  filled = record { kinds = All-from_recursion (BelongsAt 0) (leaves lost_third.frag) (refl, (tt, tt)); light = omega arith; own = λ none. none };
+  in_order = All-from_recursion IsInOrder (leaves_of lost_third.frag lost_third.area) (in_order [] (interval 200 299) tt tt, (none_given 5 _, tt));
   normal = (λ none. none, tt, tt);
 }
 
@@ -52,8 +53,8 @@ last_fits : FitsFile lost_meta lost_last
 last_fits = record {
   fits = record { level = omega arith; attributes = refl };
   well_cut = tt;
-  filled = record { kinds = each_at (BelongsAt 0) (leaves lost_last.frag) (refl, tt); light = omega arith; own = λ none. none };
-  in_order = each_at IsInOrder (leaves_of lost_last.frag lost_last.area) (in_order _ (interval 300 top) (held 300 300 top (omega arith) (omega arith), tt) (tt, tt), tt);
+  filled = record { kinds = All-from_recursion (BelongsAt 0) (leaves lost_last.frag) (refl, tt); light = omega arith; own = λ none. none };
+  in_order = All-from_recursion IsInOrder (leaves_of lost_last.frag lost_last.area) (in_order _ (interval 300 top) (held 300 300 top (omega arith) (omega arith), tt) (tt, tt), tt);
   normal = tt;
 }
 
@@ -101,5 +102,5 @@ last_is_responsible = record {
   page = lost_last;
   live = refl;
   on = refl;
-  direct = record { inside = held 300 300 top (omega arith) (omega arith); not_given = each_at (λ (x : ℕ × Area). ¬ (Holds x.1 (300 ∷ []))) [] tt };
+  direct = record { inside = held 300 300 top (omega arith) (omega arith); not_given = All-from_recursion (λ (x : ℕ × Area). ¬ (Holds x.1 (300 ∷ []))) [] tt };
 }

@@ -6,14 +6,13 @@ use Rattle.hb_frag.specs.declared.pages.LivePage.{LivePage}
 use Rattle.hb_layout.specs.declared.meta.Meta.{Meta}
 use Rattle.hb_ops.specs.Files.{FileState}
 use Rattle.hb_ops.specs.LocalRule.{BreaksFirst}
-use Rattle.hb_ops.specs.Sound.{FitsFile, SiblingsMatch, ChildrenMatch}
+use Rattle.hb_ops.specs.Sound.{SiblingsMatch, ChildrenMatch}
 use Rattle.hb_sound.specs.Broken.{BreaksRule, MissesSibling, MissesChild, IsLoose}
 use Rattle.hb_sound.specs.Names.{KeepsLocally, NamesFree, NamesIn, NamesLocal, NamesLoose}
 use Rattle.hb_sound.specs.Walks.{IsLeast, IsLeftOut, IsOnce, LeadsAlong, next_free}
 use Rattle.hb_sound.proofs.ChainBridge.{contains_cases}
-
-pub least_one : (p : ℕ → Type 0) (m n : ℕ) → IsLeast p m → IsLeast p n → m ≡ n
-least_one p m n a b = let x = a.least n b.here in let y = b.least m a.here in omega (arith, x, y)
+use Rattle.hb_sound.proofs.NoneBroken.{not_broken}
+use Rattle.hb_sound.proofs.LeastLaws.{least_one}
 
 -- a number behind the first of a list
 later : (x : ℕ) (xs : List ℕ) (n : ℕ) → Contains xs n → Contains (x ∷ xs) n
@@ -88,13 +87,6 @@ breaks_same r t page meta (inr (inr (inr (inr a)))) (inr (inl b)) = absurd (b.2 
 breaks_same r t page meta (inr (inr (inr (inr a)))) (inr (inr (inl b))) = absurd (b.3 a.3)
 breaks_same r t page meta (inr (inr (inr (inr a)))) (inr (inr (inr (inl b)))) = absurd (b.4 a.4)
 breaks_same r t page meta (inr (inr (inr (inr a)))) (inr (inr (inr (inr b)))) = a.0 ∙ sym b.0
-
-not_broken : (rule : ℕ) (page : LivePage) (meta : Meta) → BreaksFirst rule page meta → FitsFile meta page → ⊥
-not_broken rule page meta (inl three) fits = three.1 fits.fits
-not_broken rule page meta (inr (inl four)) fits = four.2 fits.well_cut
-not_broken rule page meta (inr (inr (inl five))) fits = five.3 fits.filled
-not_broken rule page meta (inr (inr (inr (inl six)))) fits = six.4 fits.in_order
-not_broken rule page meta (inr (inr (inr (inr ten)))) fits = ten.5 fits.normal
 
 module _ (s : FileState) where
   -- of two rules that are named, neither is less

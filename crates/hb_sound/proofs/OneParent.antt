@@ -10,9 +10,9 @@ use Rattle.hb_sound.specs.Settled.{NoOtherParent}
 use Rattle.hb_sound.proofs.HeldSomewhere.{holds_directly}
 use Rattle.hb_sound.proofs.OneLevel.{TreeLaws, holds_where_leaf, page_area, same_page}
 use Rattle.hb_sound.proofs.Partition.{SpaceLaws, no_point_is_held_twice}
-use Rattle.hb_sound.proofs.SettledWalks.{meet_at}
+use Rattle.hb_space.proofs.Facts.Boxes.{Meets-from_point}
 use Rattle.hb_ops.proofs.Facts.PlacedLaws.{placed}
-use Rattle.hb_sound.proofs.WalksDown.{holds_within}
+use Rattle.hb_space.proofs.Facts.Boxes.{Holds-within}
 
 least_held : (a : Area) → IsArea a → Holds a a.lo
 least_held a h = record { same = refl; between = λ i lt. (omega arith, h.ordered i lt) }
@@ -20,8 +20,8 @@ least_held a h = record { same = refl; between = λ i lt. (omega arith, h.ordere
 -- a page that directly holds a box directly holds each point of it
 directly_at : (page : LivePage) (a : Area) (p : List ℕ) → length a.lo ≡ length page.area.lo → DirectlyCovers page a → Holds a p → DirectlyHolds page p
 directly_at page a p same covers held = record {
-  inside = holds_within a page.area p same covers.inside held;
-  not_given = λ k d lt there. covers.not_given k d lt (meet_at (slice_index_or (siblings_of page) k d).1 a p there held);
+  inside = Holds-within a page.area p same covers.inside held;
+  not_given = λ k d lt there. covers.not_given k d lt (Meets-from_point (slice_index_or (siblings_of page) k d).1 a p there held);
 }
 
 pub no_other_parent : TreeLaws → SpaceLaws → NoOtherParent
@@ -42,7 +42,7 @@ no_other_parent trees space s id parent other page above holder area sound some 
     let named = same_page s id m.0 page m.1 live in
     let within : Within area page.area = subst (λ (q : LivePage). Within area q.area) named m.3 in
     let fits = (sound.well_made id page live).fits.attributes in
-    let of_page = holds_within area page.area p (as_many ∙ well.fits.attributes ∙ sym fits) within held in
+    let of_page = Holds-within area page.area p (as_many ∙ well.fits.attributes ∙ sym fits) within held in
     let above_fits = (sound.well_made parent above live_parent).fits.attributes in
     let directly = directly_at above page.area p (fits ∙ sym above_fits) covers of_page in
     let below = m.2 in

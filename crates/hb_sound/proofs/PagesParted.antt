@@ -61,7 +61,7 @@ module _ (laws : PartLaws) (x : Extraction) (page : LivePage) (part : Tree × Ar
     where
       by_path : (path : List Side) → x.path ≡ path → width fresh.area < width page.area
       by_path [] is =
-          let root : (page.frag, page.area) ≡ part = same_Some page.frag page.area part (ap (λ (p : List Side). part_at p page.frag page.area) (sym is) ∙ fits.there) in
+          let root : (page.frag, page.area) ≡ part = same_Some (page.frag, page.area) part (ap (λ (p : List Side). part_at p page.frag page.area) (sym is) ∙ fits.there) in
           let same = ap (λ (w : Tree × Area). width w.1) root in
           let less = reached_narrower x.cuts part.0 part.1 (fits.less is) fits.parted in
           omega (arith, same, less)

@@ -1,5 +1,5 @@
 -- The laws of a sound file, from those of trees and of the space.
-use Rattle.std.proofs.Common.{◌≡◌, ℕ, ◌+◌, ◌<◌, ◌≤◌, List, length, Option, Some, None, refl, sym, ap, subst, ◌∙◌, arith}
+use Rattle.std.proofs.Common.{◌≡◌, ℕ, ◌+◌, ◌<◌, ◌≤◌, List, length, Some, refl, sym, ap, subst, ◌∙◌, arith}
 use Rattle.hb_space.specs.Boxes.{Area, IsArea, Holds, whole_area}
 use Rattle.hb_space.specs.Points.{IsPoint}
 use Rattle.hb_space.specs.declared.form.TheConstants.{KMAX}
@@ -9,11 +9,9 @@ use Rattle.hb_frag.specs.declared.pages.LivePage.{LivePage}
 use Rattle.hb_frag.specs.Leaves.{leaf_at}
 use Rattle.hb_ops.specs.Files.{FileState, live_page}
 use Rattle.hb_ops.specs.Sound.{IsSound}
-use Rattle.hb_layout.specs.declared.meta.Meta.{Meta}
 use Rattle.hb_ops.specs.declared.operations.Op.TheVariants.{Put, Del}
 use Rattle.hb_ops.specs.LawsOfContents.{DelTakesOne, PutAddsOne}
-use Rattle.hb_ops.specs.Recording.{FitsDel, FitsPut}
-use Rattle.hb_ops.specs.Operations.{IsAllowedOn, nth_read}
+use Rattle.hb_ops.specs.Operations.{nth_read}
 use Rattle.hb_ops.specs.Standing.{AbsenceIsContents, RecordsAreContents}
 use Rattle.hb_sound.specs.Laws.{DelsTakeOne, EachPageHasWalks, EachPointIsHeld, LackIsContents, NoPointIsHeldTwice, PagesHaveBoxes, PutsAddOne, RecordsAreAtHome, RootHasWalks, StandingIsContents, StepsLeadFurther}
 use Rattle.hb_sound.specs.PointWalks.{IsPointOf, IsResponsible}
@@ -25,20 +23,12 @@ use Rattle.hb_ops.proofs.Facts.PlacedLaws.{placed}
 use Rattle.hb_sound.proofs.HeldSomewhere.{found}
 use Rattle.hb_sound.proofs.OneLevel.{TreeLaws, page_area, same_page}
 use Rattle.hb_sound.proofs.Widths.{width}
+use Rattle.hb_ops.proofs.Facts.Contents.{del_on, put_on}
 
 -- what the laws of the space say
 pub record SpaceLaws : Type 0 where
   pub area : (k : ℕ) → 1 ≤ k → k ≤ KMAX → IsArea (whole_area k)
   pub points : (k : ℕ) (p : List ℕ) → IsPoint p → length p ≡ k → Holds (whole_area k) p
-
--- an operation that is allowed has its page in use
-pub put_on : (id : ℕ) (rec : Record) (meta : Meta) (o second third : Option LivePage) → IsAllowedOn (Put id rec) meta o second third → (page : LivePage) × (o ≡ Some page) × FitsPut meta page rec
-put_on id rec meta None second third h = absurd h
-put_on id rec meta (Some page) second third h = (page, refl, h)
-
-pub del_on : (id : ℕ) (point : List ℕ) (meta : Meta) (o second third : Option LivePage) → IsAllowedOn (Del id point) meta o second third → (page : LivePage) × (o ≡ Some page) × FitsDel meta page point
-del_on id point meta None second third h = absurd h
-del_on id point meta (Some page) second third h = (page, refl, h)
 
 module _ (trees : TreeLaws) (space : SpaceLaws) where
   pub whole_is_area : (s : FileState) (p : List ℕ) → IsPointOf s p → IsArea (whole_area s.meta.k)

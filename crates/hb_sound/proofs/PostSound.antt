@@ -27,7 +27,7 @@ use Rattle.hb_sound.proofs.Partition.{SpaceLaws, pages_have_boxes}
 use Rattle.hb_sound.proofs.PostedPage.{PostLaws, SaysAsBefore, keeps, leaf_there, names_at, new as posted_page, new_cut, new_made, origin, posted_so, siblings_stay}
 use Rattle.hb_ops.proofs.Facts.PlacedLaws.{placed}
 use Rattle.hb_sound.proofs.SplitChains.{same_Some}
-use Rattle.hb_sound.proofs.WalksDown.{holds_within}
+use Rattle.hb_space.proofs.Facts.Boxes.{Holds-within}
 
 -- the same box and sibling leaves directly hold the same points
 direct_again : (was now : LivePage) (p : List ℕ) → now.area ≡ was.area → siblings_of now ≡ siblings_of was → DirectlyHolds was p → DirectlyHolds now p
@@ -113,7 +113,7 @@ module _ (trees : TreeLaws) (space : SpaceLaws) (laws : PostLaws) (s : FileState
         named = m.0;
         there = m.1;
         level = m.2;
-        inside = holds_within w.was.area m.0.area p (long ∙ fits.made.fits.attributes ∙ sym (may.sound.well_made name m.0 m.1).fits.attributes) m.3 w.here;
+        inside = Holds-within w.was.area m.0.area p (long ∙ fits.made.fits.attributes ∙ sym (may.sound.well_made name m.0 m.1).fits.attributes) m.3 w.here;
       }
 
   cut : IsWellCut new.frag new.area

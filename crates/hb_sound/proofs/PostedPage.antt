@@ -25,7 +25,8 @@ use Rattle.hb_sound.proofs.OneLevel.{TreeLaws}
 use Rattle.hb_ops.proofs.Facts.PlacedLaws.{each_leaf, placed, placed_is_leaf}
 use Rattle.hb_lemmas.proofs.Lists.{each_member}
 use Rattle.hb_ops.proofs.Facts.PathLaws.{well_cut_again}
-use Rattle.hb_sound.proofs.WalksDown.{holds_within}
+use Rattle.hb_space.proofs.Facts.Boxes.{Holds-within}
+use Rattle.hb_frag.proofs.Facts.NamesListed.{siblings-append}
 
 -- what the laws of parts, of carving and of joined leaves say
 pub record PostLaws : Type 0 where
@@ -52,16 +53,6 @@ some_of (Some x) is = (x, refl)
 
 same_first : (o : Option Placed) (x y : Placed) → o ≡ Some x → o ≡ Some y → x ≡ y
 same_first o x y e f = cc
-
--- the sibling leaves of two lists
-siblings-more : (leaf : Leaf) (area : Area) (xs ys : List Placed) → siblings (xs ++ ys) ≡ siblings xs ++ siblings ys → siblings (placed leaf area ∷ (xs ++ ys)) ≡ siblings (placed leaf area ∷ xs) ++ siblings ys
-siblings-more (Records records) area xs ys e = e
-siblings-more (Child page) area xs ys e = e
-siblings-more (Sibling page) area xs ys e = ap (λ (ss : List (ℕ × Area)). (page, area) ∷ ss) e
-
-siblings-append : (xs ys : List Placed) → siblings (xs ++ ys) ≡ siblings xs ++ siblings ys
-siblings-append [] ys = refl
-siblings-append (x ∷ xs) ys = siblings-more x.leaf x.area xs ys (siblings-append xs ys)
 
 siblings-between : (front middle other behind : List Placed) → siblings middle ≡ siblings other → siblings ((front ++ middle) ++ behind) ≡ siblings ((front ++ other) ++ behind)
 siblings-between front middle other behind e =
@@ -228,7 +219,7 @@ module _ (trees : TreeLaws) (laws : PostLaws) (meta : Meta) (page : LivePage) (a
         subst (Contains middle) (same_first (first_at p between) w.0 mid first keeps.old_leaf) has.0
 
     in_box : Contains middle mid → Holds box p
-    in_box m = holds_within mid.area box p
+    in_box m = Holds-within mid.area box p
         (All-contains (λ (l : Placed). length l.area.lo ≡ length box.lo) middle mid (trees.attributes carving box) m)
         (All-contains (λ (l : Placed). Within l.area box) middle mid (trees.within carving box box_box carves.cuts) m)
         mid_there.1

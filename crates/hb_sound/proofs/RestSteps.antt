@@ -27,7 +27,8 @@ use Rattle.hb_sound.specs.Rests.{IsRestOf, Knows, KnowsTold}
 use Rattle.hb_sound.specs.Told.{item_at}
 use Rattle.hb_sound.proofs.Counts.{none_more}
 use Rattle.hb_sound.proofs.Levels.{seen_fact}
-use Rattle.hb_sound.proofs.LinkSteps.{names_are, sibling_append}
+use Rattle.hb_sound.proofs.LinkSteps.{names_are}
+use Rattle.hb_frag.proofs.Facts.NamesListed.{siblings-append}
 use Rattle.hb_sound.proofs.ToldPages.{slice_get_inside}
 
 module _ (facts : List Fact) (level : ℕ) (before : List Placed) where
@@ -35,7 +36,7 @@ module _ (facts : List Fact) (level : ℕ) (before : List Placed) where
   pub sibling_more : (name : ℕ) (area : Area) → IsRestOf facts level before Nothing
       → IsRestOf facts level (before ++ placed (Sibling name) area ∷ []) (Lone name area)
   sibling_more name area is = (
-    sibling_append before (placed (Sibling name) area ∷ []) ∙ ap (λ (l : List (ℕ × Area)). l ++ (name, area) ∷ []) is.0,
+    siblings-append before (placed (Sibling name) area ∷ []) ∙ ap (λ (l : List (ℕ × Area)). l ++ (name, area) ∷ []) is.0,
     All-append (FindsBelow facts level) before (placed (Sibling name) area ∷ []) is.1
         (All-cons (FindsBelow facts level) (placed (Sibling name) area) [] (record { below = tt }) (All-nil (FindsBelow facts level))),
   )
@@ -46,7 +47,7 @@ module _ (facts : List Fact) (level : ℕ) (before : List Placed) where
   other_more x rest none finds is = by_rest rest is
     where
       same : siblings (before ++ x ∷ []) ≡ siblings before
-      same = sibling_append before (x ∷ []) ∙ ap (λ (l : List (ℕ × Area)). siblings before ++ l) none ∙ append-nil (siblings before)
+      same = siblings-append before (x ∷ []) ∙ ap (λ (l : List (ℕ × Area)). siblings before ++ l) none ∙ append-nil (siblings before)
 
       all : All (FindsBelow facts level) before → All (FindsBelow facts level) (before ++ x ∷ [])
       all h = All-append (FindsBelow facts level) before (x ∷ []) h (All-cons (FindsBelow facts level) x [] finds (All-nil (FindsBelow facts level)))

@@ -1,6 +1,6 @@
 -- In a settled file no walk from the root meets a sibling leaf, so each of its steps leads one level down.
-use Rattle.std.proofs.Common.{◌≡◌, ℕ, suc, ◌<◌, inl, inr, List, [], ◌∷◌, All, length, slice_index_or, Some, sym, ap, subst, arith}
-use Rattle.hb_space.specs.Boxes.{Area, IsArea, Holds, Meets, whole_area}
+use Rattle.std.proofs.Common.{◌≡◌, ℕ, suc, inl, inr, List, [], ◌∷◌, All, length, slice_index_or, Some, sym, ap, subst, arith}
+use Rattle.hb_space.specs.Boxes.{Area, IsArea, Holds, whole_area}
 use Rattle.hb_space.specs.declared.records.Record.{Record}
 use Rattle.hb_frag.specs.declared.leaves.Leaf.TheVariants.{Records, Child}
 use Rattle.hb_frag.specs.declared.pages.LivePage.{LivePage}
@@ -13,14 +13,7 @@ use Rattle.hb_sound.proofs.HeldSomewhere.{leaf_there}
 use Rattle.hb_sound.proofs.OneLevel.{TreeLaws, same_page}
 use Rattle.hb_sound.proofs.Partition.{SpaceLaws, whole_holds, whole_is_area}
 use Rattle.hb_sound.proofs.WalksDown.{belongs, child_below, no_sibling}
-
--- two boxes that hold a point meet
-pub meet_at : (a b : Area) (p : List ℕ) → Holds a p → Holds b p → Meets a b
-meet_at a b p one two i lt =
-    let at : i < length p = omega (arith, one.same, lt) in
-    let first = one.between i at in
-    let second = two.between i at in
-    omega (arith, first.0, first.1, second.0, second.1)
+use Rattle.hb_space.proofs.Facts.Boxes.{Meets-from_point}
 
 module _ (laws : TreeLaws) (s : FileState) (made : AreWellMade s) (match : SiblingsMatch s) (children : ChildrenMatch s) (covered : IsCovered s) (area : IsArea (whole_area s.meta.k)) (p : List ℕ) (posted : AllPosted s) (last : ℕ) (records : List Record) (ends : Sees s p last (Records records)) where
   abbrev Falls : List ℕ → Type 0
@@ -42,7 +35,7 @@ module _ (laws : TreeLaws) (s : FileState) (made : AreWellMade s) (match : Sibli
       let apart = posted id next sees.page child.named sees.area sees.live there.0 child.live in
       let below : DirectlyHolds child.named p = record {
         inside = child.inside;
-        not_given = λ k d lt held. apart k d lt (meet_at sees.area (slice_index_or (siblings_of child.named) k d).1 p there.1 held);
+        not_given = λ k d lt held. apart k d lt (Meets-from_point sees.area (slice_index_or (siblings_of child.named) k d).1 p there.1 held);
       } in
       let behind = again next child.named child.live below walk in
       let down = child.below in

@@ -8,10 +8,7 @@ use Rattle.hb_frag.specs.declared.pages.Page.{Page}
 use Rattle.hb_frag.specs.declared.pages.Page.TheVariants.{Live, Free}
 use Rattle.hb_frag.specs.Leaves.{siblings_of}
 use Rattle.hb_ops.specs.Sound.{count_name, times_named}
-
--- and the other way round
-further : (s : ℕ × Area) (xs : List (ℕ × Area)) (y : ℕ × Area) → Contains xs y → Contains (s ∷ xs) y
-further s xs y h = (suc h.0, omega (arith, h.1), h.2)
+use Rattle.std.proofs.lemmas.List.Elements.{Contains-append_right}
 
 -- what is named is named by some leaf
 counted : (id : ℕ) (ss : List (ℕ × Area)) → 0 < count_name id ss → (area : Area) × Contains ss (id, area)
@@ -21,7 +18,7 @@ counted id (s ∷ rest) h = elim (cases_eq s.0 id) [
   | inr ne ↦
       let left : 0 < 0 + count_name id rest = subst (λ (b : Bool). 0 < cond b 1 0 + count_name id rest) (ne_eqb s.0 id ne) h in
       let w = counted id rest (omega (arith, left)) in
-      (w.0, further s rest (id, w.0) w.1)
+      (w.0, Contains-append_right (s ∷ []) rest (id, w.0) w.1)
 ]
 
 -- and of some page

@@ -9,7 +9,8 @@ use Rattle.hb_frag.specs.Rules.{BelongsAt, IsInOrder}
 use Rattle.hb_ops.specs.Sound.{AreWellMade, ChildrenMatch, FitsFile, IsCovered, IsSound, SiblingsMatch}
 use Rattle.hb_sound.specs.Examples.{small_file, small_left, small_meta, small_right, small_root}
 use Rattle.hb_sound.specs.PointWalks.{IsResponsible, IsWholeWalk, Sees}
-use Rattle.hb_sound.proofs.ExampleParts.{HasChildren, below_all, children_match, counted, cuts, each_at, each_page, first, held, in_order, interval, is_covered, later, no_records, none_given, not_whole, siblings_match, top, within}
+use Rattle.hb_sound.proofs.ExampleParts.{HasChildren, below_all, children_match, counted, cuts, each_page, first, held, in_order, interval, is_covered, later, no_records, none_given, not_whole, siblings_match, top, within}
+use Rattle.std.proofs.lemmas.List.Elements.{All-from_recursion}
 
 abbrev all_pages : List LivePage
 all_pages = small_root ∷ small_left ∷ small_right ∷ []
@@ -22,8 +23,8 @@ root_fits : FitsFile small_meta small_root
 root_fits = record {
   fits = record { level = omega arith; attributes = refl };
   well_cut = (cuts 0 top 100 (omega arith) (omega arith), tt, tt);
-  filled = record { kinds = each_at (BelongsAt 1) (leaves small_root.frag) (omega arith, (omega arith, tt)); light = omega arith; own = λ none. none };
-  in_order = each_at IsInOrder (leaves_of small_root.frag small_root.area) (no_records 2 _, (no_records 3 _, tt));
+  filled = record { kinds = All-from_recursion (BelongsAt 1) (leaves small_root.frag) (omega arith, (omega arith, tt)); light = omega arith; own = λ none. none };
+  in_order = All-from_recursion IsInOrder (leaves_of small_root.frag small_root.area) (no_records 2 _, (no_records 3 _, tt));
   normal = (λ e. let no : ⊥ = cc in no, tt, tt);
 }
 
@@ -31,8 +32,8 @@ left_fits : FitsFile small_meta small_left
 left_fits = record {
   fits = record { level = omega arith; attributes = refl };
   well_cut = (cuts 0 top 100 (omega arith) (omega arith), tt, tt);
-  filled = record { kinds = each_at (BelongsAt 0) (leaves small_left.frag) (refl, (tt, tt)); light = omega arith; own = λ none. none };
-  in_order = each_at IsInOrder (leaves_of small_left.frag small_left.area) (in_order _ (interval 0 99) (held 0 7 99 (omega arith) (omega arith), tt) (tt, tt), (none_given 3 _, tt));
+  filled = record { kinds = All-from_recursion (BelongsAt 0) (leaves small_left.frag) (refl, (tt, tt)); light = omega arith; own = λ none. none };
+  in_order = All-from_recursion IsInOrder (leaves_of small_left.frag small_left.area) (in_order _ (interval 0 99) (held 0 7 99 (omega arith) (omega arith), tt) (tt, tt), (none_given 3 _, tt));
   normal = (λ none. none, tt, tt);
 }
 
@@ -40,8 +41,8 @@ right_fits : FitsFile small_meta small_right
 right_fits = record {
   fits = record { level = omega arith; attributes = refl };
   well_cut = tt;
-  filled = record { kinds = each_at (BelongsAt 0) (leaves small_right.frag) (refl, tt); light = omega arith; own = λ none. none };
-  in_order = each_at IsInOrder (leaves_of small_right.frag small_right.area) (in_order _ (interval 100 top) (held 100 100 top (omega arith) (omega arith), tt) (tt, tt), tt);
+  filled = record { kinds = All-from_recursion (BelongsAt 0) (leaves small_right.frag) (refl, tt); light = omega arith; own = λ none. none };
+  in_order = All-from_recursion IsInOrder (leaves_of small_right.frag small_right.area) (in_order _ (interval 100 top) (held 100 100 top (omega arith) (omega arith), tt) (tt, tt), tt);
   normal = tt;
 }
 
@@ -82,7 +83,7 @@ seven_left = record {
   on = refl;
   direct = record {
     inside = held 0 7 top (omega arith) (omega arith);
-    not_given = each_at (λ (x : ℕ × Area). ¬ (Holds x.1 (7 ∷ []))) (siblings_of small_left) (below_all 100 7 top (omega arith), tt);
+    not_given = All-from_recursion (λ (x : ℕ × Area). ¬ (Holds x.1 (7 ∷ []))) (siblings_of small_left) (below_all 100 7 top (omega arith), tt);
   };
 }
 
@@ -91,7 +92,7 @@ hundred_right = record {
   page = small_right;
   live = refl;
   on = refl;
-  direct = record { inside = held 100 100 top (omega arith) (omega arith); not_given = each_at (λ (x : ℕ × Area). ¬ (Holds x.1 (100 ∷ []))) [] tt };
+  direct = record { inside = held 100 100 top (omega arith) (omega arith); not_given = All-from_recursion (λ (x : ℕ × Area). ¬ (Holds x.1 (100 ∷ []))) [] tt };
 }
 
 ends_right : Sees small_file (100 ∷ []) 3 (Records (at_hundred ∷ []))

@@ -8,7 +8,8 @@ use Rattle.hb_ops.specs.Files.{live_page}
 use Rattle.hb_ops.specs.Sound.{FitsFile, IsSound, ChildrenMatch, IsCovered}
 use Rattle.hb_sound.specs.TowerFile.{passing, tower_file, tower_ground, tower_meta}
 use Rattle.hb_sound.specs.PointWalks.{IsResponsible, IsWholeWalk, LeadsOn}
-use Rattle.hb_sound.proofs.ExampleParts.{AllNumbered, HasChildren, HasFirst, HasSiblings, children_match, counted, each_at, each_page, first, held, in_order, interval, is_covered, no_records, siblings_match, top, within}
+use Rattle.hb_sound.proofs.ExampleParts.{AllNumbered, HasChildren, HasFirst, HasSiblings, children_match, counted, each_page, first, held, in_order, interval, is_covered, no_records, siblings_match, top, within}
+use Rattle.std.proofs.lemmas.List.Elements.{All-from_recursion}
 
 -- the pages from a level down, the first of which has the number
 abbrev pages_from : ℕ → ℕ → List LivePage
@@ -28,8 +29,8 @@ passing_fits zero child above below = absurd (omega (arith, above))
 passing_fits (suc level) child above below = record {
   fits = record { level = below; attributes = refl };
   well_cut = tt;
-  filled = record { kinds = each_at (BelongsAt (suc level)) (leaves (passing (suc level) child).frag) (above, tt); light = light (suc level); own = λ none. none };
-  in_order = each_at IsInOrder (leaves_of (passing (suc level) child).frag (whole_area 1)) (no_records child _, tt);
+  filled = record { kinds = All-from_recursion (BelongsAt (suc level)) (leaves (passing (suc level) child).frag) (above, tt); light = light (suc level); own = λ none. none };
+  in_order = All-from_recursion IsInOrder (leaves_of (passing (suc level) child).frag (whole_area 1)) (no_records child _, tt);
   normal = tt;
 }
 
@@ -37,8 +38,8 @@ ground_fits : FitsFile tower_meta tower_ground
 ground_fits = record {
   fits = record { level = omega arith; attributes = refl };
   well_cut = tt;
-  filled = record { kinds = each_at (BelongsAt 0) (leaves tower_ground.frag) (refl, tt); light = omega arith; own = λ none. none };
-  in_order = each_at IsInOrder (leaves_of tower_ground.frag tower_ground.area) (in_order _ (interval 0 top) (held 0 7 top (omega arith) (omega arith), tt) (tt, tt), tt);
+  filled = record { kinds = All-from_recursion (BelongsAt 0) (leaves tower_ground.frag) (refl, tt); light = omega arith; own = λ none. none };
+  in_order = All-from_recursion IsInOrder (leaves_of tower_ground.frag tower_ground.area) (in_order _ (interval 0 top) (held 0 7 top (omega arith) (omega arith), tt) (tt, tt), tt);
   normal = tt;
 }
 
@@ -93,5 +94,5 @@ ground_is_responsible = record {
   page = tower_ground;
   live = refl;
   on = refl;
-  direct = record { inside = held 0 7 top (omega arith) (omega arith); not_given = each_at (λ (x : ℕ × Area). ¬ (Holds x.1 (7 ∷ []))) [] tt };
+  direct = record { inside = held 0 7 top (omega arith) (omega arith); not_given = All-from_recursion (λ (x : ℕ × Area). ¬ (Holds x.1 (7 ∷ []))) [] tt };
 }

@@ -1,7 +1,7 @@
 -- The walk from the root: on each level to the page that directly holds the point, and then one level down.
 use Rattle.std.proofs.Common.{◌≡◌, ℕ, zero, suc, ◌+◌, ◌<◌, inl, List, [], ◌∷◌, ◌++◌, length, Some, sym, subst, ◌∙◌, arith}
 use Rattle.std.proofs.lemmas.List.Elements.{All-contains}
-use Rattle.hb_space.specs.Boxes.{Area, IsArea, Holds, Within, whole_area}
+use Rattle.hb_space.specs.Boxes.{Area, IsArea, Holds, whole_area}
 use Rattle.hb_space.specs.declared.records.Record.{Record}
 use Rattle.hb_frag.specs.declared.leaves.Leaf.{Leaf}
 use Rattle.hb_frag.specs.declared.leaves.Leaf.TheVariants.{Records, Child, Sibling}
@@ -15,6 +15,7 @@ use Rattle.hb_sound.proofs.HeldSomewhere.{WalksOn, found, holds_directly, leaf_t
 use Rattle.hb_sound.proofs.OneLevel.{TreeLaws, holds_where_leaf}
 use Rattle.hb_ops.proofs.Facts.PlacedLaws.{leaf_is_sibling, placed, placed_is_leaf}
 use Rattle.hb_sound.proofs.Widths.{width}
+use Rattle.hb_space.proofs.Facts.Boxes.{Holds-within}
 
 -- a walk from the page down to the one that is responsible for the point
 pub record WalksDown (s : FileState) (p : List ℕ) (id : ℕ) : Type 0 where
@@ -29,14 +30,6 @@ pub record WalksDown (s : FileState) (p : List ℕ) (id : ℕ) : Type 0 where
 joined_walk : (s : FileState) (p : List ℕ) (id middle next last : ℕ) (rest others : List ℕ) → IsWalk s p id rest middle → LeadsOn s p middle next → IsWalk s p next others last → IsWalk s p id (rest ++ (next ∷ others)) last
 joined_walk s p id middle next last [] others walk leads behind = (subst (λ (n : ℕ). LeadsOn s p n next) (sym walk) leads, behind)
 joined_walk s p id middle next last (x ∷ rest) others walk leads behind = (walk.0, joined_walk s p x middle next last rest others walk.1 leads behind)
-
-pub holds_within : (a b : Area) (p : List ℕ) → length a.lo ≡ length b.lo → Within a b → Holds a p → Holds b p
-holds_within a b p e w h = record {
-  same = h.same ∙ e;
-  between = λ i l.
-      let l' : i < length a.lo = omega (arith, h.same) in
-      (omega (arith, (w i l').0, (h.between i l).0), omega (arith, (w i l').1, (h.between i l).1));
-}
 
 module _ (laws : TreeLaws) (s : FileState) (made : AreWellMade s) (match : SiblingsMatch s) (children : ChildrenMatch s) (covered : IsCovered s) (area : IsArea (whole_area s.meta.k)) (p : List ℕ) where
   -- the leaf at a point is one that its page may have
@@ -70,7 +63,7 @@ module _ (laws : TreeLaws) (s : FileState) (made : AreWellMade s) (match : Sibli
       let m = children id page name b live there.0 in
       let as_many : length b.lo ≡ length page.area.lo = All-contains (λ (l : Placed). length l.area.lo ≡ length page.area.lo) (leaves_of page.frag page.area) (placed (Child name) b) (laws.attributes page.frag page.area) there.0 in
       let same : length b.lo ≡ length m.0.area.lo = as_many ∙ (made id page live).fits.attributes ∙ sym (made name m.0 m.1).fits.attributes in
-      record { named = m.0; live = m.1; below = m.2; inside = holds_within b m.0.area p same m.3 there.1 }
+      record { named = m.0; live = m.1; below = m.2; inside = Holds-within b m.0.area p same m.3 there.1 }
 
   abbrev Below : ℕ → Type 0
   Below level = (id : ℕ) (page : LivePage) → live_page s id ≡ Some page → page.level ≡ level → Holds page.area p → WalksDown s p id

@@ -1,7 +1,7 @@
 -- The width of a box, which falls where the box is cut: the sum over all attributes of what the greatest value exceeds the least one by.
 use Rattle.std.proofs.Common.{ℕ, zero, suc, ◌+◌, ◌-◌, ◌<◌, ◌≤◌, List, [], ◌∷◌, length, get_or, set, arith, inl, inr}
 use Rattle.std.specs.List.{All, Contains}
-use Rattle.std.proofs.lemmas.List.Elements.{All-append, All-contains, Contains-append_cases}
+use Rattle.std.proofs.lemmas.List.Elements.{All-append, All-cons, All-contains, All-nil, Contains-append_cases}
 use Rattle.hb_space.specs.Boxes.{Area, Cuts, side_below, side_from}
 use Rattle.hb_frag.specs.declared.leaves.Leaf.TheVariants.{Records, Child, Sibling}
 use Rattle.hb_frag.specs.Trees.{Tree, Tip, Cut}
@@ -36,16 +36,12 @@ below_narrower a axis value cuts = less_below a.lo a.hi axis value cuts.attribut
 pub from_narrower : (a : Area) (axis value : ℕ) → Cuts a axis value → width (side_from a axis value) < width a
 from_narrower a axis value cuts = less_from a.lo a.hi axis value cuts.attribute cuts.above_least cuts.up_to_greatest
 
-all_of_one : (P : Placed → Type 0) (l : Placed) → P l → All P (l ∷ [])
-all_of_one P l h zero d lt = h
-all_of_one P l h (suc k) d lt = absurd (omega arith)
-
 -- so no leaf's box is wider than the tree's
 abbrev NoWider : ℕ → Placed → Type 0
 NoWider n l = width l.area ≤ n
 
 leaves_no_wider : (t : Tree) (a : Area) (n : ℕ) → IsWellCut t a → width a ≤ n → All (NoWider n) (leaves_of t a)
-leaves_no_wider (Tip leaf) a n cut le = all_of_one (NoWider n) (record { leaf = leaf; area = a }) le
+leaves_no_wider (Tip leaf) a n cut le = All-cons (NoWider n) (record { leaf = leaf; area = a }) [] le (All-nil (NoWider n))
 leaves_no_wider (Cut axis value left right) a n cut le =
     let below = below_narrower a axis value cut.0 in
     let from = from_narrower a axis value cut.0 in

@@ -1,5 +1,5 @@
 -- The few facts that the audit keeps of each page, and what they say together.
-use Rattle.std.specs.Prelude.{◌≡◌, ◌⊎◌, ℕ, zero, suc, ◌+◌, ◌^◌, ◌<◌, ◌==◌, if◌then◌else◌, List, [], ◌∷◌, length, Option, Some, None}
+use Rattle.std.specs.Prelude.{◌≡◌, ◌⊎◌, ℕ, zero, suc, ◌+◌, ◌^◌, ◌<◌, ◌≤◌, ◌==◌, if◌then◌else◌, List, [], ◌∷◌, length, Option, Some, None}
 use Rattle.hb_space.specs.Boxes.{Area, Within}
 use Rattle.hb_frag.specs.declared.leaves.Leaf.{Leaf}
 use Rattle.hb_frag.specs.declared.leaves.Leaf.TheVariants.{Records, Child, Sibling}
@@ -7,6 +7,7 @@ use Rattle.hb_frag.specs.declared.pages.LivePage.{LivePage}
 use Rattle.hb_frag.specs.declared.pages.Page.{Page}
 use Rattle.hb_frag.specs.declared.pages.Page.TheVariants as pages
 use Rattle.hb_frag.specs.Leaves.{Placed}
+use Rattle.hb_layout.specs.Limits.{IsLayout}
 use Rattle.hb_layout.specs.declared.meta.Meta.{Meta}
 use Rattle.hb_ops.specs.Files.{page_records}
 use Rattle.hb_ops.specs.LocalRule.{BreaksFirst}
@@ -101,6 +102,12 @@ once_more Often = Often
 abbrev pub more : ℕ → Times → Times
 more zero times = times
 more (suc n) times = once_more (more n times)
+
+-- a legal layout, and a fact of each page up to the high mark
+pub record HasFacts (meta : Meta) (facts : List Fact) : Type 0 where
+  pub layout : IsLayout meta
+  pub count : length facts ≡ meta.high
+  pub within : meta.high ≤ meta.pages
 
 -- how many records the page has, fewer than 2^32
 abbrev pub records_seen : Fact → ℕ

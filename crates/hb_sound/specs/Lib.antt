@@ -1,3 +1,4 @@
+pub mod Asking
 pub mod PointWalks
 pub mod Laws
 pub mod Examples

@@ -1,5 +1,6 @@
 -- What the first reading of the pages finds out of their leaves, and what it leaves to the second one.
-use Rattle.std.specs.Prelude.{◌≡◌, ◌∷◌, [], ℕ, List, All, Option, Some}
+use Rattle.std.specs.Prelude.{◌≡◌, ◌<◌, ◌≤◌, ◌∷◌, [], ℕ, List, All, length, Option, Some}
+use Rattle.hb_space.specs.declared.form.TheConstants.{KMAX}
 use Rattle.hb_frag.specs.declared.pages.Page.{Page}
 use Rattle.hb_frag.specs.declared.pages.Page.TheVariants as pages
 use Rattle.hb_frag.specs.Leaves.{Placed, leaves_of, siblings}
@@ -9,6 +10,12 @@ use Rattle.hb_sound.specs.declared.rests.Rest.{Rest}
 use Rattle.hb_sound.specs.declared.rests.Rest.TheVariants.{Nothing, Lone, More}
 use Rattle.hb_sound.specs.Facts.{FindsBelow}
 use Rattle.hb_sound.specs.Told.{item_at}
+
+-- the corners of a box
+pub record AreCorners (lo hi : List ℕ) : Type 0 where
+  pub some : 0 < length lo
+  pub few : length lo ≤ KMAX
+  pub same : length lo ≡ length hi
 
 -- where not more is left, each child leaf among these keeps rule 8 by the facts, and these are the sibling leaves
 abbrev pub IsRestOf : List Fact → ℕ → List Placed → Rest → Type 0

@@ -2,12 +2,12 @@
 ghost use Rattle.std.specs.Prelude.{◌≡◌, ◌+◌, ◌<◌, ◌≤◌, ◌^◌, ◌↔◌, ℕ, List, Some, None, All, length, vec_len, IfErr, IfOk, IfSome, IsErrOf, IsTrue, MatchOption, OnOk};
 ghost use Rattle.hb_space.specs.Boxes.{whole_area};
 ghost use Rattle.hb_frag.specs.declared.pages.Page.{Page as Content};
-ghost use Rattle.hb_outside.specs.Streams.{Rose};
+ghost use Rattle.hb_sound.specs.Asking.{Asks};
 ghost use Rattle.hb_layout.specs.Limits.{IsLayout};
 ghost use Rattle.hb_sound.specs.Covers.{HasRule, IsLeastRule, SeesRule, SeesTop};
 ghost use Rattle.hb_sound.specs.Marks.{HasMarks};
 ghost use Rattle.hb_ops.specs.Sound.{IsSound};
-ghost use Rattle.hb_sound.specs.Facts.{AreFactsOf, IsLightFact, all_records, records_seen};
+ghost use Rattle.hb_sound.specs.Facts.{AreFactsOf, HasFacts, IsLightFact, all_records, records_seen};
 ghost use Rattle.hb_sound.specs.Links.{AreLinks};
 ghost use Rattle.hb_sound.specs.Names.{IsSoundWith, KeepsSix, Names, NamesIn, OneIsNamed, SoundBreaksNone};
 ghost use Rattle.hb_sound.specs.Tests.{file_with};
@@ -46,9 +46,7 @@ fn is_top(meta: &Meta, facts: &[Fact]) -> bool
 
 /// Rule 1, where a page is there up to the high mark.
 fn is_rooted(meta: &Meta, facts: &[Fact]) -> bool
-    requires layout { IsLayout meta.now }
-    requires count { length facts.now ≡ meta.now.high }
-    requires few { meta.now.high ≤ meta.now.pages }
+    requires facts { HasFacts meta.now facts.now }
     ensures marks { IsTrue result → HasMarks meta.now }
     ensures rooted { IsTrue result ↔ (HasMarks meta.now × SeesTop meta.now facts.now) }
 {
@@ -109,9 +107,7 @@ fn test_alone(facts: &[Fact]) -> Result<(), AuditStop>
 
 /// The rules 1 to 6.
 fn test_pages(alloc: Global, meta: &Meta, facts: &[Fact]) -> Result<(), AuditStop>
-    requires layout { IsLayout meta.now }
-    requires count { length facts.now ≡ meta.now.high }
-    requires few { meta.now.high ≤ meta.now.pages }
+    requires facts { HasFacts meta.now facts.now }
     ensures keeps { OnOk result ((list : List Content) → AreFactsOf meta.now facts.now list → KeepsSix (file_with meta.now list)) }
     ensures names { IfErr result (OnBroken (λ page rule. (list : List Content) → AreFactsOf meta.now facts.now list → NamesIn (file_with meta.now list) page rule)) }
     ensures marks { OnOk result (HasMarks meta.now) }
@@ -126,9 +122,7 @@ fn test_pages(alloc: Global, meta: &Meta, facts: &[Fact]) -> Result<(), AuditSto
 
 /// The rules 7 to 10.
 fn test_links(alloc: Global, meta: &Meta, facts: &[Fact], links: &Links) -> Result<(), AuditStop>
-    requires layout { IsLayout meta.now }
-    requires count { length facts.now ≡ meta.now.high }
-    requires few { meta.now.high ≤ meta.now.pages }
+    requires facts { HasFacts meta.now facts.now }
     requires same { vec_len links.now.named ≡ length facts.now }
     ensures sound { OnOk result ((list : List Content) → AreFactsOf meta.now facts.now list → KeepsSix (file_with meta.now list)
         → AreLinks facts.now list (length facts.now) links.now → IsSound (file_with meta.now list)) }
@@ -172,17 +166,13 @@ fn count_records(facts: &[Fact]) -> u64
 /// for at most twice.
 pub fn audit<P: Pages>(alloc: Global, meta: &Meta, pages: &mut P) -> Result<u64, AuditStop>
     requires layout { IsLayout meta.now }
-    requires covered { IfSome (P.told pages.old) (CoversFile meta.now) }
+    requires covered { IfSome (P.model pages.old).told (CoversFile meta.now) }
     // where the source tells, what the answer says of the file
-    ensures sound { IfOk result (λ n. IfSome (P.told pages.old) (λ told. IsSoundWith meta.now told n)) }
-    ensures names { IfErr result (OnBroken (λ page rule. IfSome (P.told pages.old) (λ told. Names meta.now told page rule))) }
+    ensures sound { IfOk result (λ n. IfSome (P.model pages.old).told (λ told. IsSoundWith meta.now told n)) }
+    ensures names { IfErr result (OnBroken (λ page rule. IfSome (P.model pages.old).told (λ told. Names meta.now told page rule))) }
     // what it says over every source
     ensures marks { IfOk result (λ _. HasMarks meta.now) }
-    ensures stays { P.told pages.new ≡ P.told pages.old }
-    ensures asked { P.asked pages.old pages.new }
-    ensures cause { IsErrOf result Failed → Rose (P.faults pages.old) (P.faults pages.new) }
-    ensures no_fault { (IsErrOf result Failed → ⊥) → P.faults pages.new ≡ P.faults pages.old }
-    ensures later { P.faults pages.old ≤ P.faults pages.new }
+    ensures asks { Asks P.model P.asked (IsErrOf result Failed) pages.old pages.new }
 {
     let facts = read_facts(alloc, meta, pages)?;
     test_pages(alloc, meta, &facts)?;

@@ -3,7 +3,7 @@ ghost use Rattle.std.specs.Prelude.{◌≡◌, ◌<◌, ◌≤◌, ◌^◌, ◌�
 ghost use Rattle.hb_frag.specs.Leaves.{WellCut, leaf_weight, leaves, leaves_of, records_of, weight_of};
 ghost use Rattle.hb_frag.specs.declared.pages.Page.{Page as Content};
 ghost use Rattle.hb_frag.specs.declared.pages.Page.TheVariants as content;
-ghost use Rattle.hb_outside.specs.Streams.{Rose};
+ghost use Rattle.hb_sound.specs.Asking.{Asks};
 ghost use Rattle.hb_page_codec.specs.Weight.{IsLight};
 ghost use Rattle.hb_ops.specs.Files.{page_records};
 ghost use Rattle.hb_sound.specs.Facts.{AreFactsOf, IsFactOf, IsLightFact, IsOwnRule, IsSeenOf, next_at, seen_at};
@@ -143,17 +143,13 @@ fn read_fact<P: Pages>(
     id: u32,
 ) -> Result<Fact, AuditStop>
     requires some { 1 ≤ id }
-    ensures knows { IfOk result (λ fact. IfSome (P.told pages.old) (λ told. (page : Content) → item_at told id ≡ Some (Some page) → Knows facts.now fact page)) }
-    ensures fact { IfOk result (λ fact. IfSome (P.told pages.old) (λ told. (page : Content) → item_at told id ≡ Some (Some page) → IsFactOf meta.now fact page)) }
+    ensures knows { IfOk result (λ fact. IfSome (P.model pages.old).told (λ told. (page : Content) → item_at told id ≡ Some (Some page) → Knows facts.now fact page)) }
+    ensures fact { IfOk result (λ fact. IfSome (P.model pages.old).told (λ told. (page : Content) → item_at told id ≡ Some (Some page) → IsFactOf meta.now fact page)) }
     ensures light { IfOk result IsLightFact }
-    ensures there { IfOk result (λ fact. (id ≤ meta.now.pages) × IfSome (P.told pages.old) (λ told. item_at told id ≡ Some None → ⊥)) }
+    ensures there { IfOk result (λ fact. (id ≤ meta.now.pages) × IfSome (P.model pages.old).told (λ told. item_at told id ≡ Some None → ⊥)) }
     ensures hole { IfErr result (OnBroken (λ page rule. (page ≡ id) × (rule ≡ 0)
-        × IfSome (P.told pages.old) (λ told. (meta.now.pages < id) ⊎ (id ≤ length told → item_at told id ≡ Some None)))) }
-    ensures stays { P.told pages.new ≡ P.told pages.old }
-    ensures asked { P.asked pages.old pages.new }
-    ensures cause { IsErrOf result Failed → Rose (P.faults pages.old) (P.faults pages.new) }
-    ensures no_fault { (IsErrOf result Failed → ⊥) → P.faults pages.new ≡ P.faults pages.old }
-    ensures later { P.faults pages.old ≤ P.faults pages.new }
+        × IfSome (P.model pages.old).told (λ told. (meta.now.pages < id) ⊎ (id ≤ length told → item_at told id ≡ Some None)))) }
+    ensures asks { Asks P.model P.asked (IsErrOf result Failed) pages.old pages.new }
 {
     if id > meta.pages {
         return Err(AuditStop::Broken { page: id, rule: 0 });
@@ -185,16 +181,12 @@ pub(crate) fn read_facts<P: Pages>(
     meta: &Meta,
     pages: &mut P,
 ) -> Result<Vec<Fact>, AuditStop>
-    requires covered { IfSome (P.told pages.old) (CoversFile meta.now) }
-    ensures facts { IfOk result (λ facts. IfSome (P.told pages.old) (λ told. IsWholeFile meta.now told × AreFactsOf meta.now facts.items (file_of meta.now told).pages × KnowsTold facts.items told)) }
+    requires covered { IfSome (P.model pages.old).told (CoversFile meta.now) }
+    ensures facts { IfOk result (λ facts. IfSome (P.model pages.old).told (λ told. IsWholeFile meta.now told × AreFactsOf meta.now facts.items (file_of meta.now told).pages × KnowsTold facts.items told)) }
     ensures light { IfOk result (λ facts. All IsLightFact facts.items) }
     ensures count { IfOk result (λ facts. (vec_len facts ≡ meta.now.high) × (meta.now.high ≤ meta.now.pages)) }
-    ensures hole { IfErr result (OnBroken (λ page rule. IfSome (P.told pages.old) (λ told. (rule ≡ 0) × IsLeast (IsHole meta.now told) page))) }
-    ensures stays { P.told pages.new ≡ P.told pages.old }
-    ensures asked { P.asked pages.old pages.new }
-    ensures cause { IsErrOf result Failed → Rose (P.faults pages.old) (P.faults pages.new) }
-    ensures no_fault { (IsErrOf result Failed → ⊥) → P.faults pages.new ≡ P.faults pages.old }
-    ensures later { P.faults pages.old ≤ P.faults pages.new }
+    ensures hole { IfErr result (OnBroken (λ page rule. IfSome (P.model pages.old).told (λ told. (rule ≡ 0) × IsLeast (IsHole meta.now told) page))) }
+    ensures asks { Asks P.model P.asked (IsErrOf result Failed) pages.old pages.new }
 {
     let mut facts = room_for(alloc, meta)?;
     for place in 0..meta.high {

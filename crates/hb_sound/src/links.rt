@@ -4,7 +4,7 @@ ghost use Rattle.hb_space.specs.Boxes.{Within};
 ghost use Rattle.hb_frag.specs.Leaves.{IsWellCut, WellCut, leaves_of};
 ghost use Rattle.hb_frag.specs.declared.pages.LivePage.{LivePage as Live};
 ghost use Rattle.hb_frag.specs.declared.pages.Page.{Page as Content};
-ghost use Rattle.hb_outside.specs.Streams.{Rose};
+ghost use Rattle.hb_sound.specs.Asking.{Asks};
 ghost use Rattle.hb_sound.specs.Facts.{FindsBelow, FindsSame, SeesBelow, SeesSame};
 ghost use Rattle.hb_sound.specs.Links.{Adds, AddsPage, FindsChildren, FindsSiblings, AreLinks, AreRead, IsCut, or_else};
 ghost use Rattle.hb_sound.specs.Rests.{IsRestOf, Knows, KnowsTold};
@@ -203,14 +203,10 @@ impl Links {
         pages: &mut P,
         id: u32,
     ) -> Result<(), AuditStop>
-        ensures adds { OnOk result (IfSome (P.told pages.old) (λ told. (page : Content) → item_at told id ≡ Some (Some page) → AddsPage facts.now id page self.old self.new)) }
-        ensures never { IfErr result (OnBroken (λ _ _. IfSome (P.told pages.old) (λ told. (page : Content) → item_at told id ≡ Some (Some page) → IsCut page → ⊥))) }
+        ensures adds { OnOk result (IfSome (P.model pages.old).told (λ told. (page : Content) → item_at told id ≡ Some (Some page) → AddsPage facts.now id page self.old self.new)) }
+        ensures never { IfErr result (OnBroken (λ _ _. IfSome (P.model pages.old).told (λ told. (page : Content) → item_at told id ≡ Some (Some page) → IsCut page → ⊥))) }
         ensures same { vec_len self.new.named ≡ vec_len self.old.named }
-        ensures stays { P.told pages.new ≡ P.told pages.old }
-        ensures asked { P.asked pages.old pages.new }
-        ensures cause { IsErrOf result Failed → Rose (P.faults pages.old) (P.faults pages.new) }
-        ensures no_fault { (IsErrOf result Failed → ⊥) → P.faults pages.new ≡ P.faults pages.old }
-        ensures later { P.faults pages.old ≤ P.faults pages.new }
+        ensures asks { Asks P.model P.asked (IsErrOf result Failed) pages.old pages.new }
     {
         match pages.page(id)? {
             Some(Page::Live(page)) => {
@@ -245,15 +241,11 @@ impl Links {
         pages: &mut P,
         id: u32,
     ) -> Result<(), AuditStop>
-        ensures adds { OnOk result (IfSome (P.told pages.old) (λ told. (page : Content) → item_at told id ≡ Some (Some page) → Knows facts.now (SeenLive seen.now) page
+        ensures adds { OnOk result (IfSome (P.model pages.old).told (λ told. (page : Content) → item_at told id ≡ Some (Some page) → Knows facts.now (SeenLive seen.now) page
             → AddsPage facts.now id page self.old self.new)) }
-        ensures never { IfErr result (OnBroken (λ _ _. IfSome (P.told pages.old) (λ told. (page : Content) → item_at told id ≡ Some (Some page) → IsCut page → ⊥))) }
+        ensures never { IfErr result (OnBroken (λ _ _. IfSome (P.model pages.old).told (λ told. (page : Content) → item_at told id ≡ Some (Some page) → IsCut page → ⊥))) }
         ensures same { vec_len self.new.named ≡ vec_len self.old.named }
-        ensures stays { P.told pages.new ≡ P.told pages.old }
-        ensures asked { P.asked pages.old pages.new }
-        ensures cause { IsErrOf result Failed → Rose (P.faults pages.old) (P.faults pages.new) }
-        ensures no_fault { (IsErrOf result Failed → ⊥) → P.faults pages.new ≡ P.faults pages.old }
-        ensures later { P.faults pages.old ≤ P.faults pages.new }
+        ensures asks { Asks P.model P.asked (IsErrOf result Failed) pages.old pages.new }
     {
         match &seen.rest {
             Rest::Nothing => Ok(()),
@@ -269,15 +261,11 @@ impl Links {
     fn read<P: Pages>(&mut self, facts: &[Fact], pages: &mut P, id: u32) -> Result<(), AuditStop>
         requires some { 1 ≤ id }
         requires within { id ≤ length facts.now }
-        ensures adds { OnOk result (IfSome (P.told pages.old) (λ told. (page : Content) → item_at told id ≡ Some (Some page) → KnowsTold facts.now told
+        ensures adds { OnOk result (IfSome (P.model pages.old).told (λ told. (page : Content) → item_at told id ≡ Some (Some page) → KnowsTold facts.now told
             → AddsPage facts.now id page self.old self.new)) }
-        ensures never { IfErr result (OnBroken (λ _ _. IfSome (P.told pages.old) (λ told. (page : Content) → item_at told id ≡ Some (Some page) → IsCut page → ⊥))) }
+        ensures never { IfErr result (OnBroken (λ _ _. IfSome (P.model pages.old).told (λ told. (page : Content) → item_at told id ≡ Some (Some page) → IsCut page → ⊥))) }
         ensures same { vec_len self.new.named ≡ vec_len self.old.named }
-        ensures stays { P.told pages.new ≡ P.told pages.old }
-        ensures asked { P.asked pages.old pages.new }
-        ensures cause { IsErrOf result Failed → Rose (P.faults pages.old) (P.faults pages.new) }
-        ensures no_fault { (IsErrOf result Failed → ⊥) → P.faults pages.new ≡ P.faults pages.old }
-        ensures later { P.faults pages.old ≤ P.faults pages.new }
+        ensures asks { Asks P.model P.asked (IsErrOf result Failed) pages.old pages.new }
     {
         match seen_in(facts, id) {
             Some(seen) => self.read_seen(facts, seen, pages, id),
@@ -293,14 +281,10 @@ pub(crate) fn read_links<P: Pages>(
     pages: &mut P,
 ) -> Result<Links, AuditStop>
     requires { length facts.now < 2 ^ 32 }
-    ensures links { IfOk result (λ links. IfSome (P.told pages.old) (λ told. (list : List Content) → AreRead told facts.now list → AreLinks facts.now list (length facts.now) links)) }
-    ensures never { IfErr result (OnBroken (λ _ _. IfSome (P.told pages.old) (λ told. (list : List Content) → AreRead told facts.now list → ⊥))) }
+    ensures links { IfOk result (λ links. IfSome (P.model pages.old).told (λ told. (list : List Content) → AreRead told facts.now list → AreLinks facts.now list (length facts.now) links)) }
+    ensures never { IfErr result (OnBroken (λ _ _. IfSome (P.model pages.old).told (λ told. (list : List Content) → AreRead told facts.now list → ⊥))) }
     ensures same { IfOk result (λ links. vec_len links.named ≡ length facts.now) }
-    ensures stays { P.told pages.new ≡ P.told pages.old }
-    ensures asked { P.asked pages.old pages.new }
-    ensures cause { IsErrOf result Failed → Rose (P.faults pages.old) (P.faults pages.new) }
-    ensures no_fault { (IsErrOf result Failed → ⊥) → P.faults pages.new ≡ P.faults pages.old }
-    ensures later { P.faults pages.old ≤ P.faults pages.new }
+    ensures asks { Asks P.model P.asked (IsErrOf result Failed) pages.old pages.new }
 {
     let mut links = Links::new(alloc, facts.len())?;
     for place in 0..facts.len() as u32 {

@@ -1,8 +1,7 @@
 //! Where the pages of a file come from, and why an audit stops.
-ghost use Rattle.std.specs.Prelude.{◌≡◌, ◌≤◌, ℕ, List, Option, IfOk, IfSome, IsErrOf};
-ghost use Rattle.hb_frag.specs.declared.pages.Page.{Page as Content};
-ghost use Rattle.hb_outside.specs.Streams.{Rose};
+ghost use Rattle.std.specs.Prelude.{IfOk, IfSome, IsErrOf};
 ghost use Rattle.hb_page_codec.specs.Weight.{IsLight};
+ghost use Rattle.hb_sound.specs.Asking.{Asks, PagesModel};
 ghost use Rattle.hb_sound.specs.Told.{GivesPage};
 ghost use Rattle.hb_sound.specs.declared.pages.PageStop.TheVariants.{Failed};
 
@@ -23,11 +22,8 @@ pub enum PageStop {
 /// The count of faults rises exactly in the calls that fail. What asking for pages may do to the source is the source's
 /// to say: asking for none leaves it as it is, and asking on is asking.
 pub trait Pages {
-    /// A page for each number from 1 on, or none where the bytes in its place are no page: where the source tells.
-    ghost told: { Self → Option (List (Option Content)) };
-
-    /// How often the source has failed.
-    ghost faults: { Self → ℕ };
+    /// What it tells of its pages, and how often it has failed.
+    ghost model: { Self → PagesModel };
 
     /// What it may be after some of its pages were asked for, from what it was before.
     ghost asked: { Self → Self → Type 0 };
@@ -38,13 +34,9 @@ pub trait Pages {
 
     /// The page of this number. `None` says that the bytes in its place are no page.
     fn page(&mut self, id: u32) -> Result<Option<Page>, PageStop>
-        ensures gives { IfOk result (λ page. GivesPage (told self.old) id page) }
+        ensures gives { IfOk result (λ page. GivesPage (model self.old).told id page) }
         ensures light { IfOk result (λ page. IfSome page IsLight) }
-        ensures stays { told self.new ≡ told self.old }
-        ensures asked { asked self.old self.new }
-        ensures cause { IsErrOf result Failed → Rose (faults self.old) (faults self.new) }
-        ensures no_fault { (IsErrOf result Failed → ⊥) → faults self.new ≡ faults self.old }
-        ensures later { faults self.old ≤ faults self.new };
+        ensures asks { Asks model asked (IsErrOf result Failed) self.old self.new };
 }
 
 /// Why an audit gave no answer that the file is sound.

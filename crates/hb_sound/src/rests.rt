@@ -1,11 +1,10 @@
 //! What the second reading is to find out of a page.
-ghost use Rattle.std.specs.Prelude.{◌≡◌, ◌<◌, ◌≤◌, ◌↔◌, ◌⊎◌, ◌++◌, ℕ, List, [], ◌∷◌, length, IsTrue};
-ghost use Rattle.hb_space.specs.declared.form.TheConstants.{KMAX};
+ghost use Rattle.std.specs.Prelude.{◌≡◌, ◌↔◌, ◌⊎◌, ◌++◌, ℕ, List, [], ◌∷◌, length, IsTrue};
 ghost use Rattle.hb_frag.specs.Leaves.{IsWellCut, Placed, WellCut, leaves_of};
 ghost use Rattle.hb_frag.specs.declared.leaves.Leaf.TheVariants.{Child, Sibling};
 ghost use Rattle.hb_sound.specs.declared.facts.Fact.{Fact as FactSeen};
 ghost use Rattle.hb_sound.specs.declared.rests.Rest.TheVariants.{Nothing, Lone, More};
-ghost use Rattle.hb_sound.specs.Rests.{IsRestOf};
+ghost use Rattle.hb_sound.specs.Rests.{AreCorners, IsRestOf};
 
 use crate::facts::Fact;
 use crate::links::sees_below;
@@ -33,9 +32,7 @@ fn is_nothing(rest: &Rest) -> bool
 
 /// This sibling leaf with the box of these corners.
 fn lone(name: u32, lo: &[u64], hi: &[u64]) -> Rest
-    requires some { 0 < length lo.now }
-    requires few { length lo.now ≤ KMAX }
-    requires same { length lo.now ≡ length hi.now }
+    requires corners { AreCorners lo.now hi.now }
     ensures { (result ≡ More) ⊎ (result ≡ Lone name (record { lo = lo.now; hi = hi.now })) }
 {
     match Area::between(Point::new(lo), Point::new(hi)) {
@@ -46,9 +43,7 @@ fn lone(name: u32, lo: &[u64], hi: &[u64]) -> Rest
 
 /// Adds a sibling leaf with the box of these corners.
 fn add_sibling(rest: &mut Rest, name: u32, lo: &[u64], hi: &[u64])
-    requires some { 0 < length lo.now }
-    requires few { length lo.now ≤ KMAX }
-    requires same { length lo.now ≡ length hi.now }
+    requires corners { AreCorners lo.now hi.now }
     ensures { (facts : List FactSeen) (level : ℕ) (before : List Placed) → IsRestOf facts level before rest.old
         → IsRestOf facts level (before ++ record { leaf = Sibling name; area = record { lo = lo.now; hi = hi.now } } ∷ []) rest.new }
 {
@@ -72,9 +67,7 @@ fn add_child(rest: &mut Rest, facts: &[Fact], level: u8, name: u32, lo: &[u64], 
 
 /// Adds a leaf with the box of these corners.
 fn add_leaf(rest: &mut Rest, facts: &[Fact], level: u8, leaf: &Leaf, lo: &[u64], hi: &[u64])
-    requires some { 0 < length lo.now }
-    requires few { length lo.now ≤ KMAX }
-    requires same { length lo.now ≡ length hi.now }
+    requires corners { AreCorners lo.now hi.now }
     ensures { (before : List Placed) → IsRestOf facts.now level before rest.old
         → IsRestOf facts.now level (before ++ record { leaf = leaf.now; area = record { lo = lo.now; hi = hi.now } } ∷ []) rest.new }
 {
@@ -95,9 +88,7 @@ fn add_leaves(
     hi: &mut [u64],
 )
     requires cut { IsWellCut frag.now (record { lo = lo.old; hi = hi.old }) }
-    requires some { 0 < length lo.old }
-    requires few { length lo.old ≤ KMAX }
-    requires same { length lo.old ≡ length hi.old }
+    requires corners { AreCorners lo.old hi.old }
     ensures rest { (before : List Placed) → IsRestOf facts.now level before rest.old
         → IsRestOf facts.now level (before ++ leaves_of frag.now (record { lo = lo.old; hi = hi.old })) rest.new }
     ensures lo { lo.new ≡ lo.old }

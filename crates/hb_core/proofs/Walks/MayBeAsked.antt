@@ -37,7 +37,7 @@ use Rattle.hb_activity.specs.Wanting.{in_mode, named_page, walk_next, wanted_of}
 use Rattle.hb_point.specs.Asks.{MayAsk, WalksInside}
 use Rattle.hb_point.specs.SessionRows.{WantsBoxes}
 use Rattle.hb_poster.specs.Asks.{LooksBelow, MayBeAsked}
-use Rattle.hb_sound.proofs.WalksDown.{holds_within}
+use Rattle.hb_space.proofs.Facts.Boxes.{Holds-within as holds_within}
 use Rattle.hb_store.specs.States.{IsGoodPage, StoreState}
 use Rattle.hb_core.proofs.Files.AskedPages.{place_among}
 use Rattle.hb_core.proofs.Memory.BroughtPages.{some_of_map}

@@ -1,4 +1,5 @@
 use Rattle.std.proofs.Common.{◌≡◌, ◌⊎◌, ◌≤◌, All, IfSome, vec_len}
+use Rattle.hb_sound.specs.Asking.{Asks}
 use Rattle.hb_sound.specs.Facts.{IsLightFact}
 use Rattle.hb_sound.proofs.ReadUp.{IsReadTo}
 use Rattle.hb_sound.proofs.facts.read_facts.Given as goal
@@ -6,11 +7,9 @@ use Rattle.hb_sound.proofs.facts.read_facts.Given as goal
 -- the pages so far were read, and no call failed
 abbrev pub invariant-loop-place : goal.invariant-loop-place
 invariant-loop-place g l = record {
-  told : g.P.Pages.told l.pages ≡ g.P.Pages.told l.fn.pages;
-  faults : g.P.Pages.faults l.pages ≡ g.P.Pages.faults l.fn.pages;
-  asked : g.P.Pages.asked l.fn.pages l.pages;
+  asks : Asks g.P.Pages.model g.P.Pages.asked ⊥ l.fn.pages l.pages;
   count : vec_len l.facts ≡ l.place;
   light : All IsLightFact l.facts.items;
   most : (l.place ≡ 0) ⊎ (l.place ≤ l.meta.pages);
-  read : IfSome (g.P.Pages.told l.fn.pages) (λ told. IsReadTo l.meta told l.place l.facts.items);
+  read : IfSome (g.P.Pages.model l.fn.pages).told (λ told. IsReadTo l.meta told l.place l.facts.items);
 }
