@@ -1,4 +1,4 @@
-ghost use Rattle.std.specs.Prelude.{◌≡◌, ◌<◌, ◌^◌, ◌↔◌, ◌++◌, Some, None, length, All, IfOk, IsSome, IsTrue, MatchOption, OnOk};
+ghost use Rattle.std.specs.Prelude.{◌≡◌, ◌<◌, ◌^◌, ◌↔◌, ◌++◌, Some, None, length, All, IfOk, IsSome, IsTrue, MatchOption, OnOk, ◌-◌, min};
 ghost use Rattle.std.specs.List.{Contains};
 ghost use Rattle.hb_space.specs.Boxes.{Holds, Meets};
 ghost use Rattle.hb_frag.specs.Trees.{Tip, Cut};
@@ -158,6 +158,19 @@ impl Frag {
         match &self.node {
             Node::Tip(leaf) => leaf.weight(),
             Node::Cut { left, right, .. } => left.weight() + right.weight(),
+        }
+    }
+
+    /// The same, or the greatest number of the type where that is less.
+    #[tactic(auto, using(crate::proofs::Facts::Parts::most_of_cut))]
+    pub(crate) fn weight_or_most(&self) -> u32
+        ensures { result ≡ min (weight_of self.now) (2 ^ 32 - 1) }
+    {
+        match &self.node {
+            Node::Tip(leaf) => leaf.weight_or_most(),
+            Node::Cut { left, right, .. } => left
+                .weight_or_most()
+                .saturating_add(right.weight_or_most()),
         }
     }
 

@@ -1,4 +1,4 @@
-ghost use Rattle.std.specs.Prelude.{◌≡◌, ◌<◌, ◌^◌, ◌↔◌, [], ◌∷◌, length, All, IfOk, IsTrue, OnOk};
+ghost use Rattle.std.specs.Prelude.{◌≡◌, ◌-◌, ◌<◌, ◌^◌, min, ◌↔◌, [], ◌∷◌, length, All, IfOk, IsTrue, OnOk};
 ghost use Rattle.hb_space.specs.Boxes.{Meets};
 ghost use Rattle.hb_frag.specs.Leaves.{leaf_weight, child_names, with_names, first_named, siblings};
 
@@ -26,6 +26,23 @@ impl Leaf {
     {
         match self {
             Leaf::Records(records) => (records.as_slice().len() as u32).max(1),
+            Leaf::Child(_) | Leaf::Sibling(_) => 1,
+        }
+    }
+
+    /// What the leaf weighs, or the greatest number of the type where that is less.
+    pub(crate) fn weight_or_most(&self) -> u32
+        ensures { result ≡ min (leaf_weight self.now) (2 ^ 32 - 1) }
+    {
+        match self {
+            Leaf::Records(records) => {
+                let count = records.as_slice().len();
+                if count < 4_294_967_295 {
+                    (count as u32).max(1)
+                } else {
+                    u32::MAX
+                }
+            }
             Leaf::Child(_) | Leaf::Sibling(_) => 1,
         }
     }

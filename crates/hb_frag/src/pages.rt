@@ -1,4 +1,4 @@
-ghost use Rattle.std.specs.Prelude.{◌≡◌, ◌<◌, ◌^◌, ◌↔◌, ℕ, Some, None, length, Any, IfOk, IsSome, IsTrue, MatchOption};
+ghost use Rattle.std.specs.Prelude.{◌≡◌, ◌<◌, ◌^◌, ◌↔◌, ℕ, Some, None, length, Any, IfOk, IsSome, IsTrue, MatchOption, ◌≤◌};
 ghost use Rattle.std.specs.List.{Contains};
 ghost use Rattle.hb_space.specs.Boxes.{IsArea, Holds};
 ghost use Rattle.hb_frag.specs.Trees.{Tip};
@@ -81,6 +81,13 @@ impl LivePage {
         ensures { result ≡ weight_of self.now.frag }
     {
         self.frag.weight()
+    }
+
+    /// Whether the leaves weigh at most so much together.
+    pub fn weighs_at_most(&self, capacity: u16) -> bool
+        ensures { IsTrue result ↔ (weight_of self.now.frag ≤ capacity) }
+    {
+        self.frag.weight_or_most() <= u32::from(capacity)
     }
 
     /// Whether a child leaf names the page.

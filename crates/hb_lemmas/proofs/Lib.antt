@@ -4,3 +4,4 @@ pub mod Lists
 pub mod Maps
 pub mod Numbers
 pub mod Orderings
+pub mod ZeroBytes

@@ -1,5 +1,6 @@
 //! Groups from bytes.
 ghost use Rattle.std.specs.Prelude.{◌≡◌, ◌≢◌, ◌<◌, ◌≤◌, ◌↔◌, ◌∷◌, length, map, AllPairs, IfOk, IfErr, IsTrue};
+ghost use Rattle.hb_space.specs.Points.{IsAttributeCount};
 ghost use Rattle.hb_space.specs.declared.form.TheConstants.{PAGE as PageBytes};
 ghost use Rattle.hb_log_codec.specs.Groups.{FitsImage, FitsOp, FitsGroup, SpellsGroups, image_bytes, op_bytes, group_bytes};
 ghost use Rattle.hb_log_codec.specs.Reading.{FitImages, Finds, GroupsEnd, images_bytes, logged, stop_at};
@@ -130,8 +131,7 @@ fn are_distinct(images: &[(u32, Page)]) -> bool
 
 /// An operation over `k` attributes.
 fn operation_of(alloc: Global, k: u8, bytes: &[u8]) -> Result<(Op, &[u8]), GroupStop>
-    requires some { 0 < k }
-    requires few { k ≤ KMAX }
+    requires { IsAttributeCount k }
     ensures { Finds (FitsOp k) op_bytes bytes.now (λ x. (x.0, x.1.now)) result }
 {
     fields_are_exact();
@@ -140,8 +140,7 @@ fn operation_of(alloc: Global, k: u8, bytes: &[u8]) -> Result<(Op, &[u8]), Group
 
 /// A group over `k` attributes, behind the count of its images.
 fn group_behind(alloc: Global, k: u8, count: u8, bytes: &[u8]) -> Result<(Group, &[u8]), GroupStop>
-    requires some { 0 < k }
-    requires few { k ≤ KMAX }
+    requires attributes { IsAttributeCount k }
     requires images { count ≤ 3 }
     ensures { Finds (FitsGroup k) group_bytes (count ∷ bytes.now) (λ x. (logged x.0, x.1.now)) result }
 {
@@ -157,8 +156,7 @@ fn group_behind(alloc: Global, k: u8, count: u8, bytes: &[u8]) -> Result<(Group,
 
 /// A group over `k` attributes.
 fn group_of(alloc: Global, k: u8, bytes: &[u8]) -> Result<(Group, &[u8]), GroupStop>
-    requires some { 0 < k }
-    requires few { k ≤ KMAX }
+    requires { IsAttributeCount k }
     ensures { Finds (FitsGroup k) group_bytes bytes.now (λ x. (logged x.0, x.1.now)) result }
 {
     match bytes {

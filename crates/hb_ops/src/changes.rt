@@ -1,5 +1,4 @@
-ghost use Rattle.std.specs.Prelude.{◌≡◌, ◌<◌, ◌≤◌, ◌^◌, [], ◌∷◌, None, Ok, Err, IfSome, IfOk, IfErr, IsErrOf};
-ghost use Rattle.hb_frag.specs.Leaves.{weight_of};
+ghost use Rattle.std.specs.Prelude.{◌≡◌, ◌<◌, ◌≤◌, [], ◌∷◌, None, Ok, Err, IfOk, IfErr, IsErrOf};
 ghost use Rattle.hb_ops.specs.Allocating.{Allocates, allocated};
 ghost use Rattle.hb_ops.specs.Growing.{FitsGrow};
 ghost use Rattle.hb_ops.specs.declared.operations.Op.TheVariants as kinds;
@@ -53,7 +52,6 @@ pub fn change(
     requires some { 1 ≤ meta.now.k }
     requires few { meta.now.k ≤ KMAX }
     requires points { OpHas meta.now.k op.now }
-    requires light { IfSome first (λ p. weight_of p.now.frag < 2 ^ 32) }
     ensures allowed { IfOk result (λ c. IsAllowedOn op.now meta.now (given first.entry) (given second.entry) (given third.entry)) }
     ensures effect { IfOk result (λ c. record { meta = c.meta; pages = c.pages.items } ≡ change_of op.now meta.now (given first.entry) (given second.entry) (given third.entry)) }
     ensures unfit { IsErrOf result Unfit → ¬ (IsAllowedOn op.now meta.now (given first.entry) (given second.entry) (given third.entry)) }

@@ -23,8 +23,6 @@ pub(crate) fn put(
     meta: &Meta,
     rec: &Record,
 ) -> Result<LivePage, ChangeError>
-    requires points { length rec.now.key ≡ meta.now.k }
-    requires light { weight_of page.now.frag < 2 ^ 32 }
     ensures allowed { IfOk result (λ made. FitsPut meta.now page.now rec.now) }
     ensures effect { IfOk result (λ made. made ≡ put_page rec.now page.now) }
     ensures unfit { IsErrOf result Unfit → ¬ (FitsPut meta.now page.now rec.now) }
@@ -46,8 +44,6 @@ pub(crate) fn delete(
     meta: &Meta,
     point: &Point,
 ) -> Result<LivePage, ChangeError>
-    requires points { length point.now ≡ meta.now.k }
-    requires light { weight_of page.now.frag < 2 ^ 32 }
     ensures allowed { IfOk result (λ made. FitsDel meta.now page.now point.now) }
     ensures effect { IfOk result (λ made. made ≡ del_page point.now page.now) }
     ensures unfit { IsErrOf result Unfit → ¬ (FitsDel meta.now page.now point.now) }
@@ -69,8 +65,6 @@ pub(crate) fn gap_for<'a>(
     meta: &Meta,
     rec: &Record,
 ) -> Option<(&'a Records, usize)>
-    requires points { length rec.now.key ≡ meta.now.k }
-    requires light { weight_of page.now.frag < 2 ^ 32 }
     ensures { MatchOption result
         (¬ (FitsPut meta.now page.now rec.now))
         (λ gap. HasGap meta.now page.now rec.now gap.0.now gap.1) }
@@ -94,8 +88,6 @@ pub(crate) fn gap_for<'a>(
 // The records of the leaf at the point, and its place among them. `None` where a delete of it
 // isn't allowed.
 fn place_in<'a>(page: &'a LivePage, meta: &Meta, point: &Point) -> Option<(&'a Records, usize)>
-    requires points { length point.now ≡ meta.now.k }
-    requires light { weight_of page.now.frag < 2 ^ 32 }
     ensures { MatchOption result
         (¬ (FitsDel meta.now page.now point.now))
         (λ found. HasPlace meta.now page.now point.now found.0.now found.1) }
@@ -112,8 +104,6 @@ fn place_in<'a>(page: &'a LivePage, meta: &Meta, point: &Point) -> Option<(&'a R
 // The records of the leaf at the point. `None` where the page isn't one of level 0 that keeps its
 // own rules, and where that leaf has no records.
 fn open_at<'a>(page: &'a LivePage, meta: &Meta, point: &Point) -> Option<&'a Records>
-    requires points { length point.now ≡ meta.now.k }
-    requires light { weight_of page.now.frag < 2 ^ 32 }
     ensures { MatchOption result
         ((records : List Entry) → ¬ (IsOpenAt meta.now page.now point.now records))
         (λ records. IsOpenAt meta.now page.now point.now records.now) }
@@ -122,6 +112,9 @@ fn open_at<'a>(page: &'a LivePage, meta: &Meta, point: &Point) -> Option<&'a Rec
         return None;
     }
     if page.level != 0 {
+        return None;
+    }
+    if point.attributes() != meta.k {
         return None;
     }
     if !page.area.holds(point) {

@@ -30,7 +30,6 @@ pub(crate) fn extract(
     cuts: &Cuts,
     free_after: u32,
 ) -> Result<(LivePage, LivePage), ChangeError>
-    requires light { weight_of page.now.frag < 2 ^ 32 }
     ensures allowed { IfOk result (λ pages. FitsExtract meta.now page.now fresh path.now cuts.now free_after) }
     ensures effect { IfOk result (λ pages. (part : Tree × Extent)
         × (part_at path.now page.now.frag page.now.area ≡ Some part)
@@ -59,7 +58,6 @@ fn part_for<'a>(
     path: &Path,
     cuts: &Cuts,
 ) -> Option<(&'a Frag, Area)>
-    requires light { weight_of page.now.frag < 2 ^ 32 }
     ensures { MatchOption result
         ((part : Tree × Extent) → FitsFile meta.now page.now → ¬ (FitsPart path.now cuts.now page.now part))
         (λ part. FitsFile meta.now page.now × FitsPart path.now cuts.now page.now (part.0.now, part.1)) }

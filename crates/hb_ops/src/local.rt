@@ -16,7 +16,6 @@ use hb_space::{Area, Record};
 /// The least of the rules 3, 4, 5, 6 and 10 that the page breaks by itself in a file that says
 /// this of itself. `None` where it keeps them all.
 pub fn local_rule(page: &LivePage, meta: &Meta) -> Option<u8>
-    requires { weight_of page.now.frag < 2 ^ 32 }
     ensures none { IsNone result ↔ FitsFile meta.now page.now }
     ensures first { IfSome result (λ r. BreaksFirst r page.now meta.now) }
 {
@@ -100,11 +99,10 @@ fn all_cut(frag: &Frag, lo: &mut [u64], hi: &mut [u64]) -> bool
 
 // Rule 5: leaves of the right kinds, a weight that the page may have, and no lone sibling leaf.
 fn is_filled_right(page: &LivePage, meta: &Meta) -> bool
-    requires { weight_of page.now.frag < 2 ^ 32 }
     ensures { IsTrue result ↔ IsFilledRight page.now meta.now.dcap meta.now.icap }
 {
     all_belong(&page.frag, page.level)
-        && page.weight() <= u32::from(capacity(page.level, meta))
+        && page.weighs_at_most(capacity(page.level, meta))
         && !is_sibling_tip(&page.frag)
 }
 

@@ -50,8 +50,6 @@ pub fn look_at<'a>(page: &'a LivePage, meta: &Meta, point: &Point) -> Standing<'
 
 /// Whether the record may be put into the page: its leaf there has records and not its point, and the page has room.
 pub fn has_room(page: &LivePage, meta: &Meta, rec: &Record) -> bool
-    requires points { length rec.now.key ≡ meta.now.k }
-    requires light { weight_of page.now.frag < 2 ^ 32 }
     ensures { IsTrue result ↔ FitsPut meta.now page.now rec.now }
 {
     gap_for(page, meta, rec).is_some()

@@ -27,7 +27,6 @@ pub(crate) fn post(
     inner: u32,
     area: &Area,
 ) -> Result<LivePage, ChangeError>
-    requires light { weight_of page.now.frag < 2 ^ 32 }
     requires attributes { length area.now.lo ≡ meta.now.k }
     ensures allowed { IfOk result (λ made. FitsPost meta.now page.now at.now inner area.now) }
     ensures effect { IfOk result (λ made. made ≡ post_page at.now inner area.now page.now) }
@@ -47,7 +46,6 @@ pub(crate) fn post(
 // `inner` may not be named there.
 #[tactic(auto, using(crate::proofs::PostTests::posts_at, crate::proofs::PostTests::no_child))]
 fn leaf_for(page: &LivePage, meta: &Meta, at: &Path, inner: u32, area: &Area) -> Option<(u32, Area)>
-    requires light { weight_of page.now.frag < 2 ^ 32 }
     requires attributes { length area.now.lo ≡ meta.now.k }
     ensures { MatchOption result
         (¬ (FitsPost meta.now page.now at.now inner area.now))
@@ -110,7 +108,6 @@ fn may_name(
     inner: u32,
     area: &Area,
 ) -> bool
-    requires light { weight_of page.now.frag < 2 ^ 32 }
     requires made { FitsFile meta.now page.now }
     requires above { 0 < page.now.level }
     requires leaf { IsChildAt at.now page.now outer leaf.now }
@@ -129,7 +126,7 @@ fn may_name(
 
 // Whether the page has room for the leaf once it is carved.
 fn has_room(page: &LivePage, meta: &Meta, leaf: &Area, area: &Area) -> bool
-    requires light { weight_of page.now.frag < 2 ^ 32 }
+    requires light { weight_of page.now.frag ≤ meta.now.icap }
     requires meets { Meets leaf.now area.now }
     requires attributes { length area.now.lo ≡ length leaf.now.lo }
     ensures { (outer inner : ℕ) → IsTrue result ↔

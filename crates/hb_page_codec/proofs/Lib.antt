@@ -6,4 +6,3 @@ pub mod TreeLaws
 pub mod Writes
 pub mod Decoded
 pub mod ExactFields
-pub mod Zeros

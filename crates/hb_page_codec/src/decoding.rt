@@ -1,6 +1,6 @@
 //! Pages from bytes.
-ghost use Rattle.std.specs.Prelude.{◌≡◌, ◌<◌, ◌≤◌, ◌⊎◌, ◌==◌, ◌∷◌, length, IfSome, IfOk, Ok, Err};
-ghost use Rattle.std.specs.List.{list_all};
+ghost use Rattle.std.specs.Prelude.{◌≡◌, ◌<◌, ◌≤◌, ◌⊎◌, ◌∷◌, length, IfSome, IfOk, Ok, Err};
+ghost use Rattle.hb_space.specs.Points.{IsAttributeCount};
 ghost use Rattle.hb_frag.specs.declared.pages.Page.{Page as Content};
 ghost use Rattle.hb_frag.specs.Grammar.{HasSpelling, SpellsPage};
 ghost use Rattle.hb_page_codec.specs.Memory.{WantsOnly, BeginsWithMany, PageMayWantMemory};
@@ -14,6 +14,7 @@ use crate::fragments::fragment_of;
 use crate::numbers::u32_of;
 use crate::records::area_of;
 use hb_frag::{LivePage, Page};
+use hb_lemmas::is_zero;
 use hb_space::form::{KMAX, PAGE};
 use std::alloc::Global;
 
@@ -21,7 +22,7 @@ use std::alloc::Global;
 #[tactic(auto, unfolding(crate::specs::ReadingPages::head_at))]
 fn head_of(bytes: &[u8]) -> Option<(u8, u8, &[u8])>
     ensures reads { ReadsAs (λ x. (x.0, x.1, x.2.now)) result (head_at bytes.now) }
-    ensures attributes { IfSome result (λ x. (0 < x.1) × (x.1 ≤ KMAX)) }
+    ensures attributes { IfSome result (λ x. IsAttributeCount x.1) }
 {
     match bytes {
         [level, k, 0, rest @ ..] => {
@@ -60,18 +61,6 @@ fn fields_of(alloc: Global, bytes: &[u8]) -> Result<(Page, &[u8]), PageError>
         }
         _ => Err(PageError::BadPage),
     }
-}
-
-/// Whether each byte is 0. It looks at each of them, so that the compiler takes many at once: most bytes of a page are zeros
-/// behind its fields.
-fn is_zero(bytes: &[u8]) -> bool
-    ensures { result ≡ list_all (λ b. b == 0) bytes.now }
-{
-    let mut any = 0;
-    for byte in bytes {
-        any |= *byte;
-    }
-    any == 0
 }
 
 /// The page that all of the bytes spell.

@@ -1,5 +1,6 @@
 //! A page's inside, from the front of bytes.
 ghost use Rattle.std.specs.Prelude.{◌≡◌, ◌<◌, ◌≤◌, length};
+ghost use Rattle.hb_space.specs.Points.{IsAttributeCount};
 ghost use Rattle.hb_page_codec.specs.Memory.{WantsOnly, IsSomeCount, IsCutOrRecords};
 ghost use Rattle.hb_page_codec.specs.Reading.{ReadsAs, Gives};
 ghost use Rattle.hb_page_codec.specs.ReadingFields.{count_at, records_at, axis_at};
@@ -30,8 +31,7 @@ fn count_of(k: u8, bytes: &[u8]) -> Option<(u16, &[u8])>
 
 /// So many records.
 fn records_of(alloc: Global, k: u8, count: u16, bytes: &[u8]) -> Result<(Records, &[u8]), PageError>
-    requires some { 0 < k }
-    requires few { k ≤ KMAX }
+    requires { IsAttributeCount k }
     ensures gives { Gives (λ x. (x.0, x.1.now)) result (records_at k count bytes.now) }
     ensures memory { WantsOnly result (0 < count) }
 {
@@ -48,8 +48,7 @@ fn records_of(alloc: Global, k: u8, count: u16, bytes: &[u8]) -> Result<(Records
 /// A leaf of records, behind its tag.
 #[tactic(auto, unfolding(crate::specs::ReadingPages::records_tip_at))]
 fn records_tip_of(alloc: Global, k: u8, bytes: &[u8]) -> Result<(Node, &[u8]), PageError>
-    requires some { 0 < k }
-    requires few { k ≤ KMAX }
+    requires { IsAttributeCount k }
     ensures gives { Gives (λ x. (tree_of x.0, x.1.now)) result (records_tip_at k bytes.now) }
     ensures memory { WantsOnly result (IsSomeCount bytes.now) }
 {
@@ -71,8 +70,7 @@ fn axis_of(k: u8, bytes: &[u8]) -> Option<(u8, &[u8])>
 #[cycle(fragments)]
 #[tactic(auto, unfolding(crate::specs::ReadingPages::cut_at))]
 fn cut_of(alloc: Global, k: u8, bytes: &[u8]) -> Result<(Node, &[u8]), PageError>
-    requires some { 0 < k }
-    requires few { k ≤ KMAX }
+    requires { IsAttributeCount k }
     ensures { Gives (λ x. (tree_of x.0, x.1.now)) result (cut_at (tree_at k) k bytes.now) }
 {
     let (axis, rest) = axis_of(k, bytes).ok_or(PageError::BadPage)?;
@@ -94,8 +92,7 @@ fn cut_of(alloc: Global, k: u8, bytes: &[u8]) -> Result<(Node, &[u8]), PageError
 #[cycle(fragments)]
 #[tactic(auto, unfolding(crate::specs::ReadingPages::node_at))]
 fn node_of(alloc: Global, k: u8, bytes: &[u8]) -> Result<(Node, &[u8]), PageError>
-    requires some { 0 < k }
-    requires few { k ≤ KMAX }
+    requires { IsAttributeCount k }
     ensures gives { Gives (λ x. (tree_of x.0, x.1.now)) result (node_at (tree_at k) k bytes.now) }
     ensures memory { WantsOnly result (IsCutOrRecords bytes.now) }
 {
@@ -117,8 +114,7 @@ fn node_of(alloc: Global, k: u8, bytes: &[u8]) -> Result<(Node, &[u8]), PageErro
 /// A fragment for pages of `k` attributes.
 #[cycle(fragments)]
 pub(crate) fn fragment_of(alloc: Global, k: u8, bytes: &[u8]) -> Result<(Frag, &[u8]), PageError>
-    requires some { 0 < k }
-    requires few { k ≤ KMAX }
+    requires { IsAttributeCount k }
     ensures gives { Gives (λ x. (x.0, x.1.now)) result (tree_at k bytes.now) }
     ensures memory { WantsOnly result (IsCutOrRecords bytes.now) }
 {

@@ -1,5 +1,6 @@
 //! Points, boxes and records, from the front of bytes.
 ghost use Rattle.std.specs.Prelude.{◌≡◌, ◌<◌, ◌≤◌, length, IfSome};
+ghost use Rattle.hb_space.specs.Points.{IsAttributeCount};
 ghost use Rattle.hb_page_codec.specs.Reading.{ReadsAs};
 ghost use Rattle.hb_page_codec.specs.ReadingFields.{point_at, area_between, area_at, body_at, record_at};
 
@@ -10,8 +11,7 @@ use hb_space::{Area, Body, Point, Record};
 
 /// A point of `k` values.
 pub fn point_of(k: u8, bytes: &[u8]) -> Option<(Point, &[u8])>
-    requires some { 0 < k }
-    requires few { k ≤ KMAX }
+    requires { IsAttributeCount k }
     ensures reads { ReadsAs (λ x. (x.0, x.1.now)) result (point_at k bytes.now) }
     ensures count { IfSome result (λ x. length x.0 ≡ k) }
 {
@@ -36,8 +36,7 @@ fn area_of_corners(lo: Point, hi: Point) -> Option<Area>
 /// A box of `k` attributes.
 #[tactic(auto, unfolding(crate::specs::ReadingFields::area_at))]
 pub fn area_of(k: u8, bytes: &[u8]) -> Option<(Area, &[u8])>
-    requires some { 0 < k }
-    requires few { k ≤ KMAX }
+    requires { IsAttributeCount k }
     ensures { ReadsAs (λ x. (x.0, x.1.now)) result (area_at k bytes.now) }
 {
     let (lo, rest) = point_of(k, bytes)?;
@@ -63,8 +62,7 @@ fn body_of(bytes: &[u8]) -> Option<(Body, &[u8])>
 /// A record whose point has `k` values.
 #[tactic(auto, unfolding(crate::specs::ReadingFields::record_at))]
 pub fn record_of(k: u8, bytes: &[u8]) -> Option<(Record, &[u8])>
-    requires some { 0 < k }
-    requires few { k ≤ KMAX }
+    requires { IsAttributeCount k }
     ensures { ReadsAs (λ x. (x.0, x.1.now)) result (record_at k bytes.now) }
 {
     let (key, rest) = point_of(k, bytes)?;

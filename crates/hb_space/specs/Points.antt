@@ -11,6 +11,11 @@ pub record IsPoint (p : List ℕ) : Type 0 where
   pub few : length p ≤ KMAX
   pub fits : All (λ x. x < 2 ^ 64) p
 
+-- so many attributes a point may have
+pub record IsAttributeCount (k : ℕ) : Type 0 where
+  pub some : 0 < k
+  pub few : k ≤ KMAX
+
 -- a body is a short list of bytes
 pub record IsBody (b : List ℕ) : Type 0 where
   pub few : length b ≤ BMAX

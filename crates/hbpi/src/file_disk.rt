@@ -6,6 +6,7 @@ ghost use Rattle.hb_outside.specs.Streams.{Rose};
 ghost use Rattle.hb_disk.specs.Untold.{untold_of, untold_is_disk};
 
 use hb_disk::{Device, Disk};
+use hb_lemmas::is_zero;
 use hb_outside::Failed;
 use std::fs::File;
 use std::os::unix::fs::FileExt;
@@ -61,15 +62,6 @@ fn write_at(file: &File, at: u64, from: &[u8]) -> Result<(), Failed> {
 /// Bytes that are made zero at once. An opening zeroes a whole log area, and most of the time that takes is that of the
 /// calls of the system.
 const PIECE: usize = 65_536;
-
-/// Whether all bytes are zero.
-fn is_zero(bytes: &[u8]) -> bool {
-    let mut all = 0;
-    for byte in bytes {
-        all |= *byte;
-    }
-    all == 0
-}
 
 /// Makes the bytes from a place of the file on zero, by way of as many in memory.
 ///

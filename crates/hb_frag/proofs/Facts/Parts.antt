@@ -1,5 +1,5 @@
 -- Parts of a tree, and another part in the place of one.
-use Rattle.std.proofs.Common.{◌≡◌, ℕ, ◌+◌, ◌↔◌, List, [], ◌∷◌, ◌++◌, Some, IsSome, refl, sym, ap, subst, ◌∙◌, arith}
+use Rattle.std.proofs.Common.{◌≡◌, ℕ, ◌+◌, min, ◌↔◌, List, [], ◌∷◌, ◌++◌, Some, IsSome, refl, sym, ap, subst, ◌∙◌, arith}
 use Rattle.std.proofs.lemmas.List.{append_assoc, append-nil}
 use Rattle.std.proofs.lemmas.Grind.{common_steps}
 use Rattle.hb_space.specs.Boxes.{Area, IsArea, side_below, side_from}
@@ -75,6 +75,10 @@ part_fits (Right ∷ path) (Cut axis value left right) area w e h cut =
 -- what a tree weighs, side by side
 pub weight_cut : (axis value : ℕ) (left right : Tree) → weight_of (Cut axis value left right) ≡ weight_of left + weight_of right
 weight_cut axis value left right = grind (arith, common_steps)
+
+-- the same of weights that are bounded
+pub most_of_cut : (axis value : ℕ) (left right : Tree) (most : ℕ) → min (min (weight_of left) most + min (weight_of right) most) most ≡ min (weight_of (Cut axis value left right)) most
+most_of_cut axis value left right most = omega (arith, weight_cut axis value left right)
 
 pub part_weighs : (path : List Side) (t : Tree) (area : Area) (w : Tree × Area) (other : Tree) → part_at path t area ≡ Some w → weight_of (with_part path t other) + weight_of w.0 ≡ weight_of t + weight_of other
 part_weighs [] t area w other e =

@@ -29,12 +29,6 @@ module _ (laws : PartLaws) (meta : Meta) (fresh_id : ℕ) (path : List Side) (cu
   abbrev pub fresh : LivePage
   fresh = fresh_page cuts page part
 
-  abbrev pub source : LivePage
-  source = source_page fresh_id path cuts page part
-
-  abbrev pub opened : Tree
-  opened = cut_through cuts part.0 (Tip (Sibling fresh_id))
-
   -- a part is no heavier than the page
   part_light : weight_of part.0 ≤ weight_of page.frag
   part_light =
@@ -61,39 +55,39 @@ module _ (laws : PartLaws) (meta : Meta) (fresh_id : ℕ) (path : List Side) (cu
       }
 
   -- what stays isn't a lone sibling leaf
-  not_lone : IsSiblingTip source.frag → ⊥
+  not_lone : IsSiblingTip (source_page fresh_id path cuts page part).frag → ⊥
   not_lone = by_path path refl
     where
-      by_path : (steps : List Side) → path ≡ steps → IsSiblingTip source.frag → ⊥
-      by_path [] is lone = not_lone_end fresh_id cuts part.0 (fits.less is) (subst (λ (p : List Side). IsSiblingTip (with_part p page.frag opened)) is lone)
-      by_path (side ∷ rest) is lone = not_lone_again side rest page.frag page.area part opened (ap (λ (p : List Side). part_at p page.frag page.area) (sym is) ∙ fits.there) (subst (λ (p : List Side). IsSiblingTip (with_part p page.frag opened)) is lone)
+      by_path : (steps : List Side) → path ≡ steps → IsSiblingTip (source_page fresh_id path cuts page part).frag → ⊥
+      by_path [] is lone = not_lone_end fresh_id cuts part.0 (fits.less is) (subst (λ (p : List Side). IsSiblingTip (with_part p page.frag (cut_through cuts part.0 (Tip (Sibling fresh_id))))) is lone)
+      by_path (side ∷ rest) is lone = not_lone_again side rest page.frag page.area part (cut_through cuts part.0 (Tip (Sibling fresh_id))) (ap (λ (p : List Side). part_at p page.frag page.area) (sym is) ∙ fits.there) (subst (λ (p : List Side). IsSiblingTip (with_part p page.frag (cut_through cuts part.0 (Tip (Sibling fresh_id))))) is lone)
 
-  source_belongs : (y : Placed) → Contains (leaves_of source.frag source.area) y → BelongsAt page.level y.leaf
+  source_belongs : (y : Placed) → Contains (leaves_of (source_page fresh_id path cuts page part).frag (source_page fresh_id path cuts page part).area) y → BelongsAt page.level y.leaf
   source_belongs y there = elim (source_stems laws fresh_id path cuts page part fits y there) [
     | inl is ↦ subst (λ (l : Placed). BelongsAt page.level l.leaf) is tt
     | inr stems ↦ stems_belong page.level page.frag page.area made.filled.kinds y stems
   ]
 
-  source_in_order : (y : Placed) → Contains (leaves_of source.frag source.area) y → IsInOrder y
+  source_in_order : (y : Placed) → Contains (leaves_of (source_page fresh_id path cuts page part).frag (source_page fresh_id path cuts page part).area) y → IsInOrder y
   source_in_order y there = elim (source_stems laws fresh_id path cuts page part fits y there) [
     | inl is ↦ subst IsInOrder is (sibling_in_order fresh_id fresh.area)
     | inr stems ↦ stems_in_order old made.in_order y stems
   ]
 
   -- the page that stays is well made
-  pub source_made : FitsFile meta source
+  pub source_made : FitsFile meta (source_page fresh_id path cuts page part)
   source_made =
       let has = part_has path page.frag page.area part fits.there made.well_cut made.normal in
       let weighs = through_weighs fresh_id cuts part.0 part.1 fits.parted in
-      let w = laws.weight path page.frag page.area part opened fits.there in
+      let w = laws.weight path page.frag page.area part (cut_through cuts part.0 (Tip (Sibling fresh_id))) fits.there in
       record {
         fits = record { level = made.fits.level; attributes = made.fits.attributes };
-        well_cut = well_cut_again path page.frag page.area part opened fits.there made.well_cut (through_well_cut fresh_id cuts part.0 part.1 fits.parted);
+        well_cut = well_cut_again path page.frag page.area part (cut_through cuts part.0 (Tip (Sibling fresh_id))) fits.there made.well_cut (through_well_cut fresh_id cuts part.0 part.1 fits.parted);
         filled = record {
-          kinds = each_leaf (BelongsAt page.level) source.frag source.area source_belongs;
+          kinds = each_leaf (BelongsAt page.level) (source_page fresh_id path cuts page part).frag (source_page fresh_id path cuts page part).area source_belongs;
           light = omega (arith, weighs, w, made.filled.light);
           own = not_lone;
         };
-        in_order = each_member IsInOrder (leaves_of source.frag source.area) source_in_order;
-        normal = normal_again path page.frag page.area part opened fits.there made.normal (through_like_none fresh_id cuts part.0) (through_normal fresh_id cuts part.0);
+        in_order = each_member IsInOrder (leaves_of (source_page fresh_id path cuts page part).frag (source_page fresh_id path cuts page part).area) source_in_order;
+        normal = normal_again path page.frag page.area part (cut_through cuts part.0 (Tip (Sibling fresh_id))) fits.there made.normal (through_like_none fresh_id cuts part.0) (through_normal fresh_id cuts part.0);
       }

@@ -12,3 +12,6 @@ loop-rest-preserved c =
 pub returns-in-Err-clause-end : goal.returns-in-Err-clause-end
 returns-in-Err-clause-end c =
     rw c.at.ensures (groups_end c.fields_are_exact.ensures c.spelling_law.ensures.one_page c.args.k c.args.bytes.now (map logged c.loop-rest.groups.items) c.loop-rest.rest.now (length c.args.bytes.now - length c.loop-rest.rest.now) c.in-Err.stop c.loop-rest.invariant.fits c.loop-rest.invariant.parts (search rules) refl c.in-Err.ensures)
+
+pub group_of-requires : goal.group_of-requires
+group_of-requires c = record { some = c.requires.some; few = c.requires.few }

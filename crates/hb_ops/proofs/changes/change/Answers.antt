@@ -7,26 +7,8 @@ use Rattle.hb_ops.specs.declared.operations.Op.TheVariants.{Put, Del, Extract, P
 use Rattle.hb_ops.proofs.Does.{carried, refused, failed, one_tried}
 use Rattle.hb_ops.proofs.changes.change.Goals as goal
 
-pub put-requires-clause-points : goal.put-requires-clause-points
-put-requires-clause-points c = rw c.in-Put.is at c.requires.points
-
-pub put-requires-clause-light : goal.put-requires-clause-light
-put-requires-clause-light c = rw c.in-Some.is at c.requires.light
-
-pub delete-requires-clause-points : goal.delete-requires-clause-points
-delete-requires-clause-points c = rw c.in-Del.is at c.requires.points
-
-pub delete-requires-clause-light : goal.delete-requires-clause-light
-delete-requires-clause-light c = rw c.in-Some-first.is at c.requires.light
-
-pub extract-requires : goal.extract-requires
-extract-requires c = record { light = rw c.in-Some-first-2.is at c.requires.light }
-
-pub post-requires-clause-light : goal.post-requires-clause-light
-post-requires-clause-light c = rw c.in-Some-first-3.is at c.requires.light
-
-pub post-requires-clause-attributes : goal.post-requires-clause-attributes
-post-requires-clause-attributes c = (rw c.in-Post.is at c.requires.points).1
+pub post-requires : goal.post-requires
+post-requires c = record { attributes = (rw c.in-Post.is at c.requires.points).1 }
 
 pub returns-in-Grow : goal.returns-in-Grow
 returns-in-Grow c =

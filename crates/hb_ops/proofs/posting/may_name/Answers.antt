@@ -32,3 +32,6 @@ has_room-requires-clause-meets c = c.meets.ensures.overlap.0 c.if-not-meets.fals
 pub has_room-requires-clause-attributes : goal.has_room-requires-clause-attributes
 has_room-requires-clause-attributes c =
     c.requires.attributes ∙ sym (leaf_attributes c.args.meta.now c.args.page.now c.args.at.now c.args.inner c.args.area.now c.args.outer c.args.leaf.now c.requires.leaf c.requires.made)
+
+pub has_room-requires-clause-light : goal.has_room-requires-clause-light
+has_room-requires-clause-light c = light_above c.args.meta.now c.args.page.now c.requires.made c.requires.above

@@ -13,7 +13,7 @@ cut_of-fragment_of-requires t c =
     let value = read_some _ c.u64_of.result (c.in_ok-value.value, c.in_ok-value.rest) (number_at 8 c.in_ok-axis.rest.now) c.in_ok-value.ensures.ok_part c.u64_of.ensures in
     let la = left_by _ _ _ (axis_shortens k c.args.bytes.now) axis in
     let lv = left_by _ _ _ (number_shortens 8 c.in_ok-axis.rest.now) value in
-    (omega (arith, la, lv, c.decreases), (c.requires.some, c.requires.few))
+    (omega (arith, la, lv, c.decreases), c.requires)
 
 pub cut_of-fragment_of-requires-2 : goal.cut_of-fragment_of-requires-2
 cut_of-fragment_of-requires-2 t c =
@@ -23,7 +23,7 @@ cut_of-fragment_of-requires-2 t c =
     let la = left_by _ _ _ (axis_shortens k c.args.bytes.now) axis in
     let lv = left_by _ _ _ (number_shortens 8 c.in_ok-axis.rest.now) value in
     let ll = left_by _ _ _ (tree_shortens k c.in_ok-value.rest.now) c.in_ok-left.ensures.gives in
-    (omega (arith, la, lv, ll, c.decreases), (c.requires.some, c.requires.few))
+    (omega (arith, la, lv, ll, c.decreases), c.requires)
 
 pub fragment_of-returns-in_err-node-clause-gives : goal.fragment_of-returns-in_err-node-clause-gives
 fragment_of-returns-in_err-node-clause-gives t c =

@@ -1,7 +1,7 @@
 use Rattle.std.proofs.Common.{◌≡◌, take}
 use Rattle.std.specs.Prelude.{◌==◌}
 use Rattle.std.specs.List.{list_all}
-use Rattle.hb_page_codec.proofs.decoding.is_zero.Given as goal
+use Rattle.hb_lemmas.proofs.is_zero.Given as goal
 
 -- whether the bytes so far are all 0
 abbrev pub invariant-loop-byte : goal.invariant-loop-byte
