@@ -1,7 +1,4 @@
+pub mod Facts
 pub mod QueueParts
-pub mod HeldLatches
 pub mod WaitingActors
-pub mod LaterPages
-pub mod AllowedDeeds
-pub mod OneLeaf
 pub mod KindExamples

@@ -2,8 +2,10 @@
 use Rattle.std.specs.Prelude.{◌≡◌, ℕ, ◌<◌, ◌==◌, if◌then◌else◌, List, [], ◌∷◌, Option, Some, None, MatchOption}
 use Rattle.hb_frag.specs.declared.pages.LivePage.{LivePage}
 use Rattle.hb_layout.specs.declared.meta.Meta.{Meta}
+use Rattle.hb_ops.specs.declared.operations.Op.{Op}
 use Rattle.hb_set.specs.Order.{Entry}
 use Rattle.hb_set.specs.declared.commands.Reply.{Reply}
+use Rattle.hb_activity.specs.declared.jobs.Job.{Job}
 use Rattle.hb_activity.specs.declared.activities.Activity.{Activity}
 use Rattle.hb_activity.specs.declared.activities.Activity.TheVariants as at
 use Rattle.hb_activity.specs.declared.deciding.Fate.{Fate}
@@ -12,6 +14,16 @@ use Rattle.hb_activity.specs.declared.deciding.Next.{Next}
 use Rattle.hb_activity.specs.Classes.{Hand, Empty, HasLine, HasJob, hand_of}
 use Rattle.hb_activity.specs.Deeds.{Answers, Deed, GoesOn, Says}
 use Rattle.hb_activity.specs.Sights.{Sight}
+
+-- what a decider's answer says
+pub record NextIs (next : Next) (after : Activity) (does : Option Op) (adds : List Job) (becomes : Fate) : Type 0 where
+  -- where the actor stands then, and the operation that it does
+  pub stands : next.then ≡ after
+  pub op : next.op ≡ does
+  -- the jobs that join those that wait
+  pub jobs : next.jobs.items ≡ adds
+  -- what becomes of the line in hand
+  pub fate : next.fate ≡ becomes
 
 -- the reply that a session keeps which awaits its place
 abbrev pub kept_reply : Activity → Option Reply
@@ -59,6 +71,14 @@ page_among ((number, page) ∷ rest) id = if number == id then Some page else pa
 
 abbrev pub given_sight : Meta → List (ℕ × LivePage) → Option (ℕ × ℕ) → Sight
 given_sight meta pages next = record { meta = meta; page_at = page_among pages; next = next; place = 0 }
+
+-- The pages that a step is given, by their numbers: the one that the row speaks of; where a record is put the other half behind it;
+-- and in front of a child its parent.
+abbrev pub given_pages : Activity → ℕ → LivePage → Option LivePage → List (ℕ × LivePage)
+given_pages (at.SessionPut line source fresh) id page (Some other) = (id, page) ∷ (fresh, other) ∷ []
+given_pages (at.PosterChild job parent) id page (Some over) = (parent, over) ∷ (id, page) ∷ []
+given_pages (at.PosterAgain job parent) id page (Some over) = (parent, over) ∷ (id, page) ∷ []
+given_pages other id page first = (id, page) ∷ []
 
 -- a number for a page that is made is given exactly where a page is free
 abbrev pub FitsFree : Meta → Option (ℕ × ℕ) → Type 0

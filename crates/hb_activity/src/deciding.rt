@@ -33,13 +33,11 @@ pub struct Next {
 
 impl Next {
     ghost use Rattle.hb_activity.specs.declared.deciding.Fate.TheVariants.{GoesOn, TakesEffect, Answers};
+    ghost use Rattle.hb_activity.specs.Deciding.{NextIs};
 
     /// The actor stands elsewhere, and does nothing else.
     pub fn moves(then: Activity) -> Next
-        ensures then { result.then ≡ then }
-        ensures op { result.op ≡ None }
-        ensures jobs { result.jobs.items ≡ [] }
-        ensures fate { result.fate ≡ GoesOn }
+        ensures { NextIs result then None [] GoesOn }
     {
         Next {
             then,
@@ -51,10 +49,7 @@ impl Next {
 
     /// The actor stands elsewhere, and a job joins those that wait.
     pub fn adds(then: Activity, job: Job) -> Next
-        ensures then { result.then ≡ then }
-        ensures op { result.op ≡ None }
-        ensures jobs { result.jobs.items ≡ job ∷ [] }
-        ensures fate { result.fate ≡ GoesOn }
+        ensures { NextIs result then None (job ∷ []) GoesOn }
     {
         let mut next = Next::moves(then);
         next.jobs.push(job);
@@ -63,10 +58,7 @@ impl Next {
 
     /// The actor does an operation, and a job joins those that wait.
     pub fn does(then: Activity, op: Op, job: Job) -> Next
-        ensures then { result.then ≡ then }
-        ensures op { result.op ≡ Some op }
-        ensures jobs { result.jobs.items ≡ job ∷ [] }
-        ensures fate { result.fate ≡ GoesOn }
+        ensures { NextIs result then (Some op) (job ∷ []) GoesOn }
     {
         let mut next = Next::adds(then, job);
         next.op = Some(op);
@@ -75,10 +67,7 @@ impl Next {
 
     /// The actor does an operation, and two jobs join those that wait, one after the other.
     pub fn does_for_both(then: Activity, op: Op, first: Job, second: Job) -> Next
-        ensures then { result.then ≡ then }
-        ensures op { result.op ≡ Some op }
-        ensures jobs { result.jobs.items ≡ first ∷ second ∷ [] }
-        ensures fate { result.fate ≡ GoesOn }
+        ensures { NextIs result then (Some op) (first ∷ second ∷ []) GoesOn }
     {
         let mut next = Next::does(then, op, first);
         next.jobs.push(second);
@@ -88,10 +77,7 @@ impl Next {
     /// The line in hand takes effect with this reply, which is kept, and the operation is done, where
     /// there is one.
     pub fn takes_effect(line: u32, reply: Reply, op: Option<Op>) -> Next
-        ensures then { result.then ≡ Activity.SessionAwait line reply 0 }
-        ensures op { result.op ≡ op }
-        ensures jobs { result.jobs.items ≡ [] }
-        ensures fate { result.fate ≡ TakesEffect }
+        ensures { NextIs result (Activity.SessionAwait line reply 0) op [] TakesEffect }
     {
         Next {
             then: Activity::SessionAwait {
@@ -107,10 +93,7 @@ impl Next {
 
     /// The line in hand is answered now.
     pub fn answers(reply: Reply) -> Next
-        ensures then { result.then ≡ Activity.SessionIdle }
-        ensures op { result.op ≡ None }
-        ensures jobs { result.jobs.items ≡ [] }
-        ensures fate { result.fate ≡ Answers reply }
+        ensures { NextIs result Activity.SessionIdle None [] (Answers reply) }
     {
         Next {
             then: Activity::SessionIdle,

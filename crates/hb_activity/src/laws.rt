@@ -12,20 +12,20 @@ ghost use Rattle.hb_activity.specs.Laws.{SessionsGoOn, WorkersGoOn, ChangersAreA
 
 /// An activity holds two latches at most. An actor may hold three, so there is always room for the
 /// one that its next step wants.
-#[tactic(auto, using(crate::proofs::HeldLatches::two_at_most))]
+#[tactic(auto, using(crate::proofs::Facts::HeldLatches::two_at_most))]
 pub fn two_latches_are_held_at_most()
     ensures { (activity : Standing) (page : Option OnePage) → length (held_of activity page) ≤ 2 }
 {}
 
 /// A walk that goes on holds what it wanted, as it wanted it.
-#[tactic(auto, using(crate::proofs::HeldLatches::sessions_go_on, crate::proofs::HeldLatches::workers_go_on))]
+#[tactic(auto, using(crate::proofs::Facts::HeldLatches::sessions_go_on, crate::proofs::Facts::HeldLatches::workers_go_on))]
 pub fn walks_hold_what_they_wanted()
     ensures sessions { SessionsGoOn }
     ensures workers { WorkersGoOn }
 {}
 
 /// Where the next step may change the file, the activity holds a page alone, or wants one so.
-#[tactic(auto, using(crate::proofs::HeldLatches::changers_are_alone))]
+#[tactic(auto, using(crate::proofs::Facts::HeldLatches::changers_are_alone))]
 pub fn who_may_change_is_alone()
     ensures { ChangersAreAlone }
 {}
@@ -42,7 +42,7 @@ pub fn refusals_are_waits()
 {}
 
 /// Coming later is a strict order.
-#[tactic(auto, using(crate::proofs::LaterPages::never_itself, crate::proofs::LaterPages::onward))]
+#[tactic(auto, using(crate::proofs::Facts::LaterPages::never_itself, crate::proofs::Facts::LaterPages::onward))]
 pub fn coming_later_is_an_order()
     ensures irreflexive { (a : OnePage) → ¬ (IsLater a a) }
     ensures transitive { (a b c : OnePage) → IsLater a b → IsLater b c → IsLater a c }

@@ -166,7 +166,7 @@ fn is_inside(page: &LivePage, point: &Point) -> bool
 }
 
 // Whether the page has no record at the point of the record, and no room for it.
-#[tactic(auto, using(hb_point::proofs::RecordLeaves::no_room_left))]
+#[tactic(auto, using(hb_point::proofs::Facts::RecordLeaves::no_room_left))]
 fn is_full(page: &LivePage, meta: &Meta, rec: &Record) -> bool
     requires layout { IsLayout meta.now }
     requires made { FitsFile meta.now page.now }

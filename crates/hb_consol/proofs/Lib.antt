@@ -1,3 +1,4 @@
+pub mod Facts
 pub mod NamedPairs
 pub mod ScanExamples
 pub mod TryExamples

@@ -7,7 +7,7 @@ use Rattle.hb_activity.specs.declared.jobs.Job.{Job}
 use Rattle.hb_activity.specs.declared.jobs.JobKind.TheVariants.{Post}
 use Rattle.hb_activity.specs.declared.activities.Activity.{Activity}
 use Rattle.hb_activity.specs.declared.activities.Activity.TheVariants.{ConsolidatorIdle, ConsolidatorWalk, ConsolidatorScan}
-use Rattle.hb_activity.proofs.OneLeaf.{one_pass}
+use Rattle.hb_activity.proofs.Facts.OneLeaf.{one_pass}
 use Rattle.hb_activity.specs.Deeds.{Deed, moves_to}
 use Rattle.hb_activity.specs.OneDeed.{IsOnly}
 use Rattle.hb_activity.specs.Passing.{LeadsBelow, PassesOn}
@@ -15,14 +15,9 @@ use Rattle.hb_activity.specs.Sights.{Sight}
 use Rattle.hb_consol.specs.ConsolidatorRows.{IsMergingOf, Scans, pair_from, tries}
 use Rattle.hb_consol.specs.Examples.{OnItsWayToMerge, ScansByHand, TakesMergesByHand, WalksToMergeByHand, gave_the_end, names_three, page_four, gave_three, page_two}
 use Rattle.hb_frag.specs.Leaves.{Placed, leaf_at}
+use Rattle.hb_consol.proofs.Facts.OneMerging.{one_merging}
 
 -- ---- the job that is taken
-
-one_merging : (job : Job) (height : ℕ) (next other : Activity) → IsMergingOf job height next → IsMergingOf job height other → next ≡ other
-one_merging job height next other (inl (a, is)) (inl (b, same)) = is ∙ sym same
-one_merging job height next other (inr (a, is)) (inr (b, same)) = is ∙ sym same
-one_merging job height next other (inl (a, is)) (inr (b, same)) = absurd (omega (arith, a, b))
-one_merging job height next other (inr (a, is)) (inl (b, same)) = absurd (omega (arith, a, b))
 
 only_taken : (job : Job) (height : ℕ) (next : Activity) → IsMergingOf job height next → IsOnly (IsMergingOf job height) next
 only_taken job height next done = record { done = done; only = λ other row. one_merging job height other next row done }

@@ -7,7 +7,6 @@ use Rattle.hb_terms.specs.declared.merging.MergePlan.TheVariants as plans
 use Rattle.hb_activity.specs.declared.jobs.Job.{Job}
 use Rattle.hb_activity.specs.declared.jobs.JobKind.TheVariants.{Merge}
 use Rattle.hb_activity.specs.declared.activities.Activity.TheVariants.{ConsolidatorIdle}
-use Rattle.hb_activity.proofs.OneLeaf.{each_at}
 use Rattle.hb_activity.specs.Deeds.{Deed, moves_to}
 use Rattle.hb_activity.specs.OneDeed.{IsOnly}
 use Rattle.hb_activity.specs.Sights.{Sight}
@@ -19,6 +18,8 @@ use Rattle.hb_frag.specs.Rules.{capacity_of}
 use Rattle.hb_space.specs.Boxes.{Area, Meets, Within}
 use Rattle.hb_terms.proofs.Facts.OneMerge.{one_merge}
 use Rattle.hb_terms.specs.Merging.{IsMergePlan, merged_weight}
+use Rattle.std.proofs.lemmas.List.Elements.{All-from_recursion}
+use Rattle.hb_activity.proofs.Facts.OneLeaf.{exactly}
 
 -- ---- the plans
 
@@ -36,10 +37,10 @@ within low high below = inside
     inside (suc i) lt = absurd (omega (arith, lt))
 
 two_covered : DirectlyCovers names_three page_two.area
-two_covered = record { inside = within 40 69 (omega arith); not_given = each_at (λ (x : ℕ × Area). ¬ (Meets x.1 page_two.area)) (siblings_of names_three) tt }
+two_covered = record { inside = within 40 69 (omega arith); not_given = All-from_recursion (λ (x : ℕ × Area). ¬ (Meets x.1 page_two.area)) (siblings_of names_three) tt }
 
 four_covered : DirectlyCovers names_three page_four.area
-four_covered = record { inside = within 80 top (omega arith); not_given = each_at (λ (x : ℕ × Area). ¬ (Meets x.1 page_four.area)) (siblings_of names_three) tt }
+four_covered = record { inside = within 80 top (omega arith); not_given = All-from_recursion (λ (x : ℕ × Area). ¬ (Meets x.1 page_four.area)) (siblings_of names_three) tt }
 
 light_plan : (dcap icap : ℕ) → dcap ≡ 32 → IsMergePlan names_three gave_three 2 page_two (capacity_of 0 dcap icap) plans.Merge
 light_plan dcap icap is = record { given = refl; whole = two_covered; light = let w : merged_weight gave_three page_two ≡ 5 = refl in omega (arith, w, is) }
@@ -96,9 +97,6 @@ tries_by_hand s job = record {
 
 pub keeps_by_hand : (job : Job) → KeepsByHand job
 keeps_by_hand job = record { gave = refl; gave_none = refl }
-
-exactly : (deed : Deed) → IsOnly (λ (other : Deed). other ≡ deed) deed
-exactly deed = record { done = refl; only = λ other is. is }
 
 no_live : (s : Sight) (job : Job) → s.meta.live ≡ 0 → IsOnly (DoesMerge s job 3 1 2 names_three plans.Merge) (moves_to ConsolidatorIdle [])
 no_live s job none = record { done = inr (record { none_live = none; deed_is = refl }); only = only }

@@ -1,6 +1,5 @@
 -- The operation that a row says is allowed on the page that the row is given.
-use Rattle.std.proofs.Common.{◌≡◌, inl, inr, ℕ, zero, suc, ◌≤◌, List, [], ◌∷◌, Any, Some, None, refl, arith}
-use Rattle.std.specs.List.{slice_get}
+use Rattle.std.proofs.Common.{◌≡◌, inl, inr, ℕ, ◌≤◌, List, Some, refl, arith}
 use Rattle.hb_space.specs.declared.records.Record.{Record}
 use Rattle.hb_frag.specs.declared.leaves.Leaf.TheVariants.{Records}
 use Rattle.hb_frag.specs.declared.pages.LivePage.{LivePage}
@@ -8,7 +7,7 @@ use Rattle.hb_ops.specs.declared.operations.Op.TheVariants as ops
 use Rattle.hb_set.specs.declared.commands.Command.{Command}
 use Rattle.hb_set.specs.declared.commands.Command.TheVariants.{Insert, Delete, Lookup, Search}
 use Rattle.hb_set.specs.declared.scripts.Line.{Line}
-use Rattle.hb_activity.proofs.AllowedDeeds.{Shows, allocates, kind_at, none_shown, one_shown}
+use Rattle.hb_activity.proofs.Facts.AllowedDeeds.{Shows, allocates, kind_at, none_shown, one_shown}
 use Rattle.hb_activity.specs.Deeds.{Deed}
 use Rattle.hb_activity.specs.OneDeed.{IsAllowedAlone, NumbersAreGiven}
 use Rattle.hb_activity.specs.Passing.{PartLeavesTo}
@@ -19,7 +18,7 @@ use Rattle.hb_frag.specs.Trees.{Tree}
 use Rattle.hb_ops.specs.Recording.{put_page}
 use Rattle.hb_ops.specs.Sound.{FitsFile}
 use Rattle.hb_ops.specs.Standing.{StandsNot, StandsThere}
-use Rattle.hb_point.proofs.RecordLeaves.{put_weighs}
+use Rattle.hb_point.proofs.Facts.RecordLeaves.{put_weighs, any_at}
 use Rattle.hb_point.specs.Laws.{CommandsAreAllowed, FullPagesAreHeavy, PutsAreAllowed, SplitsAreAllowed}
 use Rattle.hb_point.specs.SessionRows.{DoesThere}
 use Rattle.hb_space.specs.Boxes.{Area}
@@ -43,14 +42,6 @@ module _ (s : Sight) (id : ℕ) (page : LivePage) (made : FitsFile s.meta page) 
       room = room;
     };
   }
-
-  any_at : (records : List Record) (place : ℕ) (r : Record) (p : List ℕ) → slice_get records place ≡ Some r → r.key ≡ p → Any (λ (r : Record). r.key ≡ p) records
-  any_at [] place r p is key = absurd (nothing r is)
-    where
-      nothing : (r : Record) → None ≡ Some r → ⊥
-      nothing r is = cc
-  any_at (x ∷ records) zero r p is key = let same : x ≡ r = cc in (0, r, omega arith, same, key)
-  any_at (x ∷ records) (suc place) r p is key = let rest = any_at records place r p is key in (suc rest.0, rest.1, omega (arith, rest.2), rest.3, rest.4)
 
   del_allowed : (p : List ℕ) (r : Record) → StandsThere page p r → IsAllowedAlone s id page (ops.Del id p)
   del_allowed p r there = record {

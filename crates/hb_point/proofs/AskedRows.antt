@@ -1,7 +1,7 @@
 -- The parts of the decider together are the row that was asked for.
 use Rattle.std.proofs.Common.{◌≡◌, ◌≢◌, ◌⊎◌, inl, inr, ℕ, ◌<◌, Bool, cond, List, [], ◌∷◌, Option, Some, refl, sym, ap, subst, ◌∙◌, eq-eqb, ne_eqb}
 use Rattle.std.specs.Prelude.{MatchOption}
-use Rattle.hb_activity.specs.Deciding.{deed_of, given_sight, page_among}
+use Rattle.hb_activity.specs.Deciding.{deed_of, given_pages, given_sight, page_among}
 use Rattle.hb_activity.specs.Passing.{PassesOn}
 use Rattle.hb_activity.specs.Walks.{goal_of}
 use Rattle.hb_activity.specs.declared.activities.Activity.{Activity}
@@ -18,7 +18,7 @@ use Rattle.hb_layout.specs.declared.meta.Meta.{Meta}
 use Rattle.hb_ops.specs.Cutting.{reached}
 use Rattle.hb_ops.specs.declared.leaf_cuts.LeafCut.{LeafCut}
 use Rattle.hb_ops.specs.declared.operations.Op.TheVariants.{Extract, Put}
-use Rattle.hb_point.specs.Asks.{MayAsk, pages_given}
+use Rattle.hb_point.specs.Asks.{MayAsk}
 use Rattle.hb_point.specs.Doing.{DoesBy, IsHalfFor, PutsBy, WalksBy, deed_for, line_with}
 use Rattle.hb_point.specs.PointRows.{PointRow}
 use Rattle.hb_point.specs.SessionRows.{DoesThere}
@@ -46,9 +46,9 @@ walk_does meta line rest found id page next p goal does = λ held pages free.
     subst (λ (o : Option (List ℕ)). MatchOption o ⊥ (λ q. PassesOn page q (at.SessionWalk line (Some id) rest found) (deed_for line next) ⊎ DoesThere (given_sight meta pages free) line line.command id page (deed_for line next))) (sym goal) (inr (does pages free))
 
 pub asked_walk : (state : Activity) (meta : Meta) (free : Option (ℕ × ℕ)) (id : ℕ) (page : LivePage) (first : Option LivePage) (next : Next) (line : Line) (held : Option ℕ) (rest : List Area) (found : List Record) → state ≡ at.SessionWalk line held rest found → WalksBy meta line rest found id page next →
-    PointRow state (given_sight meta (pages_given state id page first) free) id page (deed_of state next)
+    PointRow state (given_sight meta (given_pages state id page first) free) id page (deed_of state next)
 asked_walk state meta free id page first next line held rest found is walks =
-    subst (λ (a : Activity). PointRow a (given_sight meta (pages_given a id page first) free) id page (deed_of a next)) (sym is) (walks held ((id, page) ∷ []) free)
+    subst (λ (a : Activity). PointRow a (given_sight meta (given_pages a id page first) free) id page (deed_of a next)) (sym is) (walks held ((id, page) ∷ []) free)
 
 -- ---- a split
 
@@ -79,8 +79,8 @@ pub puts_half : (line : Line) (rec : Record) (source fresh half : ℕ) (page : L
     PutsBy line source fresh page next
 puts_half line rec source fresh half page next command chosen then_is op_is jobs_is fate_is = λ meta id first free halves.
     let same : halves.rec ≡ rec = cc (sym halves.command ∙ command) in
-    let among = subst (λ (o : Option LivePage). page_among (pages_given (at.SessionPut line source fresh) id page o) half ≡ page_among ((id, page) ∷ (fresh, halves.other) ∷ []) half) (sym halves.half) refl in
-    let puts : (there : LivePage) → (half ≡ source) ⊎ (half ≡ fresh) → page_among ((id, page) ∷ (fresh, halves.other) ∷ []) half ≡ Some there → DirectlyHolds there rec.key → Puts (given_sight meta (pages_given (at.SessionPut line source fresh) id page first) free) line source fresh (deed_for line next) = λ there either live holds. record {
+    let among = subst (λ (o : Option LivePage). page_among (given_pages (at.SessionPut line source fresh) id page o) half ≡ page_among ((id, page) ∷ (fresh, halves.other) ∷ []) half) (sym halves.half) refl in
+    let puts : (there : LivePage) → (half ≡ source) ⊎ (half ≡ fresh) → page_among ((id, page) ∷ (fresh, halves.other) ∷ []) half ≡ Some there → DirectlyHolds there rec.key → Puts (given_sight meta (given_pages (at.SessionPut line source fresh) id page first) free) line source fresh (deed_for line next) = λ there either live holds. record {
       rec = rec;
       command = command;
       half = half;
@@ -101,7 +101,7 @@ puts_half line rec source fresh half page next command chosen then_is op_is jobs
     ]
 
 pub asked_put : (state : Activity) (meta : Meta) (free : Option (ℕ × ℕ)) (id : ℕ) (page : LivePage) (first : Option LivePage) (next : Next) (line : Line) (source fresh : ℕ) → state ≡ at.SessionPut line source fresh → MayAsk state meta free id page first → PutsBy line source fresh page next →
-    PointRow state (given_sight meta (pages_given state id page first) free) id page (deed_of state next)
+    PointRow state (given_sight meta (given_pages state id page first) free) id page (deed_of state next)
 asked_put state meta free id page first next line source fresh is asked puts =
-    subst (λ (a : Activity). PointRow a (given_sight meta (pages_given a id page first) free) id page (deed_of a next)) (sym is)
+    subst (λ (a : Activity). PointRow a (given_sight meta (given_pages a id page first) free) id page (deed_of a next)) (sym is)
     (puts meta id first free (subst (λ (a : Activity). MayAsk a meta free id page first) is asked))

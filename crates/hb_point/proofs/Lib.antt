@@ -1,8 +1,6 @@
-pub mod OneCommand
+pub mod Facts
 pub mod PointExamples
 pub mod AllowedCommands
 pub mod SplitExamples
-pub mod RecordLeaves
 pub mod AskedRows
 pub mod HeldPoints
-pub mod ChosenCuts

@@ -12,13 +12,14 @@ use Rattle.hb_activity.specs.declared.jobs.Job.{Job}
 use Rattle.hb_activity.specs.Deeds.{takes_effect}
 use Rattle.hb_activity.specs.OneDeed.{IsOnly}
 use Rattle.hb_point.specs.SessionRows.{DoesThere, merges_due}
-use Rattle.hb_activity.proofs.OneLeaf.{each_at, records_of_leaf, same_leaf}
+use Rattle.hb_activity.proofs.Facts.OneLeaf.{records_of_leaf, same_leaf}
 use Rattle.hb_activity.specs.Sights.{Sight}
 use Rattle.hb_frag.specs.Leaves.{Placed, weight_of}
 use Rattle.hb_ops.specs.Recording.{put_page}
 use Rattle.hb_ops.specs.Standing.{StandsNot, StandsThere}
-use Rattle.hb_point.proofs.OneCommand.{only_deletes, only_found, only_inserts, only_misses, only_nothing, only_splits, only_twin}
+use Rattle.hb_point.proofs.Facts.OneCommand.{only_deletes, only_found, only_inserts, only_misses, only_nothing, only_splits, only_twin}
 use Rattle.hb_point.specs.Examples.{DeletesByHand, InsertsByHand, LookupsByHand, five_records, rec_at, six_records, thin_page, two_records}
+use Rattle.std.proofs.lemmas.List.Elements.{All-from_recursion}
 
 -- points that differ in a value
 other_first : (a b : ℕ) (p q : List ℕ) → a < b → a ∷ p ≡ b ∷ q → ⊥
@@ -40,7 +41,7 @@ twenty_there : StandsThere two_records (20 ∷ 5 ∷ []) (rec_at (20 ∷ 5 ∷ [
 twenty_there = record { records = of_two; area = _; leaf = refl; place = 1; among = refl; key = refl }
 
 twenty_six_absent : StandsNot two_records (20 ∷ 6 ∷ [])
-twenty_six_absent = record { records = of_two; area = _; leaf = refl; lack = each_at (Lacks (20 ∷ 6 ∷ [])) of_two (other_first 10 20 _ _ (omega arith), (other_second 20 5 20 6 (omega arith), tt)) }
+twenty_six_absent = record { records = of_two; area = _; leaf = refl; lack = All-from_recursion (Lacks (20 ∷ 6 ∷ [])) of_two (other_first 10 20 _ _ (omega arith), (other_second 20 5 20 6 (omega arith), tt)) }
 
 abbrev of_five : List Record
 of_five = rec_at (10 ∷ []) 1 ∷ rec_at (20 ∷ []) 2 ∷ rec_at (30 ∷ []) 3 ∷ rec_at (40 ∷ []) 4 ∷ rec_at (50 ∷ []) 5 ∷ []
@@ -49,10 +50,10 @@ abbrev of_six : List Record
 of_six = rec_at (10 ∷ []) 1 ∷ rec_at (20 ∷ []) 2 ∷ rec_at (30 ∷ []) 3 ∷ rec_at (40 ∷ []) 4 ∷ rec_at (50 ∷ []) 5 ∷ rec_at (60 ∷ []) 6 ∷ []
 
 absent_of_five : StandsNot five_records (35 ∷ [])
-absent_of_five = record { records = of_five; area = _; leaf = refl; lack = each_at (Lacks (35 ∷ [])) of_five (other_first 10 35 _ _ (omega arith), (other_first 20 35 _ _ (omega arith), (other_first 30 35 _ _ (omega arith), (more_first 40 35 _ _ (omega arith), (more_first 50 35 _ _ (omega arith), tt))))) }
+absent_of_five = record { records = of_five; area = _; leaf = refl; lack = All-from_recursion (Lacks (35 ∷ [])) of_five (other_first 10 35 _ _ (omega arith), (other_first 20 35 _ _ (omega arith), (other_first 30 35 _ _ (omega arith), (more_first 40 35 _ _ (omega arith), (more_first 50 35 _ _ (omega arith), tt))))) }
 
 absent_of_six : StandsNot six_records (35 ∷ [])
-absent_of_six = record { records = of_six; area = _; leaf = refl; lack = each_at (Lacks (35 ∷ [])) of_six (other_first 10 35 _ _ (omega arith), (other_first 20 35 _ _ (omega arith), (other_first 30 35 _ _ (omega arith), (more_first 40 35 _ _ (omega arith), (more_first 50 35 _ _ (omega arith), (more_first 60 35 _ _ (omega arith), tt)))))) }
+absent_of_six = record { records = of_six; area = _; leaf = refl; lack = All-from_recursion (Lacks (35 ∷ [])) of_six (other_first 10 35 _ _ (omega arith), (other_first 20 35 _ _ (omega arith), (other_first 30 35 _ _ (omega arith), (more_first 40 35 _ _ (omega arith), (more_first 50 35 _ _ (omega arith), (more_first 60 35 _ _ (omega arith), tt)))))) }
 
 thin_there : StandsThere thin_page (20 ∷ []) (rec_at (20 ∷ []) 2)
 thin_there = record { records = rec_at (10 ∷ []) 1 ∷ rec_at (20 ∷ []) 2 ∷ []; area = _; leaf = refl; place = 1; among = refl; key = refl }

@@ -1,6 +1,6 @@
 -- The rows of splits that were worked out by hand.
 use Rattle.std.proofs.Common.{◌≡◌, ◌⊎◌, inl, inr, ℕ, zero, suc, ◌<◌, ◌≤◌, ◌^◌, ◌-◌, List, [], ◌∷◌, slice_index, Any, Some, refl, sym, ap, ◌∙◌, subst, arith}
-use Rattle.std.proofs.lemmas.List.Elements.{All-head}
+use Rattle.std.proofs.lemmas.List.Elements.{All-head, All-from_recursion}
 use Rattle.std.proofs.lemmas.Option.{same_Some}
 use Rattle.hb_space.specs.declared.records.Record.{Record}
 use Rattle.hb_frag.specs.declared.pages.LivePage.{LivePage}
@@ -12,7 +12,6 @@ use Rattle.hb_set.specs.declared.commands.Reply.TheVariants as replies
 use Rattle.hb_set.specs.declared.scripts.Line.{Line}
 use Rattle.hb_activity.specs.declared.jobs.JobKind.TheVariants.{Post}
 use Rattle.hb_activity.specs.declared.activities.Activity.TheVariants.{SessionPut}
-use Rattle.hb_activity.proofs.OneLeaf.{each_at}
 use Rattle.hb_activity.specs.Deeds.{Deed, answers_now, does, takes_effect}
 use Rattle.hb_activity.specs.OneDeed.{IsOnly}
 use Rattle.hb_activity.specs.Passing.{PartLeavesTo, corner_of}
@@ -21,7 +20,7 @@ use Rattle.hb_frag.specs.Leaves.{DirectlyHolds, siblings_of}
 use Rattle.hb_frag.specs.Paths.{part_at}
 use Rattle.hb_frag.specs.Trees.{Tree}
 use Rattle.hb_ops.specs.Cutting.{reached}
-use Rattle.hb_point.proofs.ChosenCuts.{one_choice}
+use Rattle.hb_point.proofs.Facts.ChosenCuts.{one_choice}
 use Rattle.hb_point.specs.Examples.{PutsByHand, SplitsByHand, at_forty, given_half, kept_half, rec_at, six_records}
 use Rattle.hb_point.specs.SplitRows.{Puts, SplitsOrFull}
 use Rattle.hb_space.specs.Boxes.{Area, Holds}
@@ -146,10 +145,10 @@ abbrev NotGiven : ℕ → ℕ × Area → Type 0
 NotGiven value x = Holds x.1 (value ∷ []) → ⊥
 
 below_held : DirectlyHolds kept_half (39 ∷ [])
-below_held = record { inside = held 0 39 top (omega arith) (omega arith); not_given = each_at (NotGiven 39) (siblings_of kept_half) (too_low 40 39 top (omega arith), tt) }
+below_held = record { inside = held 0 39 top (omega arith) (omega arith); not_given = All-from_recursion (NotGiven 39) (siblings_of kept_half) (too_low 40 39 top (omega arith), tt) }
 
 from_held : DirectlyHolds given_half (40 ∷ [])
-from_held = record { inside = held 40 40 top (omega arith) (omega arith); not_given = each_at (NotGiven 40) (siblings_of given_half) tt }
+from_held = record { inside = held 40 40 top (omega arith) (omega arith); not_given = All-from_recursion (NotGiven 40) (siblings_of given_half) tt }
 
 below_not_given : DirectlyHolds given_half (39 ∷ []) → ⊥
 below_not_given h = too_low 40 39 top (omega arith) h.inside

@@ -1,5 +1,5 @@
 -- What the decider of a session's step on a point is given, and what it may rely on.
-use Rattle.std.specs.Prelude.{◌≡◌, ◌≢◌, ◌⊎◌, ℕ, ◌<◌, List, [], ◌∷◌, length, Option, Some}
+use Rattle.std.specs.Prelude.{◌≡◌, ◌≢◌, ◌⊎◌, ℕ, ◌<◌, length, Option, Some}
 use Rattle.hb_frag.specs.Leaves.{DirectlyHolds, weight_of}
 use Rattle.hb_frag.specs.declared.pages.LivePage.{LivePage}
 use Rattle.hb_layout.specs.declared.meta.Meta.{Meta}
@@ -13,11 +13,6 @@ use Rattle.hb_activity.specs.declared.activities.Activity.TheVariants as at
 use Rattle.hb_activity.specs.Deciding.{FitsFree}
 use Rattle.hb_space.specs.Boxes.{Holds}
 use Rattle.hb_space.specs.declared.records.Record.{Record}
-
--- The pages that are given, by their numbers: the one that the row speaks of, and where a record is put the other half.
-abbrev pub pages_given : Activity → ℕ → LivePage → Option LivePage → List (ℕ × LivePage)
-pages_given (at.SessionPut line source fresh) id page (Some other) = (id, page) ∷ (fresh, other) ∷ []
-pages_given activity id page first = (id, page) ∷ []
 
 -- A walk is at a page whose box has the command's point. A search has no point.
 abbrev pub WalksInside : LivePage → Command → Type 0

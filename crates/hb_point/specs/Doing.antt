@@ -1,6 +1,6 @@
 -- What the parts of the decider say to each other.
 use Rattle.std.specs.Prelude.{◌≡◌, ◌⊎◌, ℕ, List, length, Option, Some, None}
-use Rattle.hb_frag.specs.Leaves.{DirectlyHolds, leaf_at}
+use Rattle.hb_frag.specs.Leaves.{DirectlyHolds, WellCut, leaf_at}
 use Rattle.hb_frag.specs.declared.leaves.Leaf.TheVariants.{Records}
 use Rattle.hb_frag.specs.declared.pages.LivePage.{LivePage}
 use Rattle.hb_layout.specs.declared.meta.Meta.{Meta}
@@ -10,13 +10,15 @@ use Rattle.hb_set.specs.declared.scripts.Line.{Line}
 use Rattle.hb_activity.specs.declared.activities.Activity.TheVariants as at
 use Rattle.hb_activity.specs.declared.deciding.Next.{Next}
 use Rattle.hb_activity.specs.Classes.{HasLine}
-use Rattle.hb_activity.specs.Deciding.{given_sight, joined_by, said_by}
+use Rattle.hb_activity.specs.Deciding.{given_pages, given_sight, joined_by, said_by}
 use Rattle.hb_activity.specs.Deeds.{Deed}
-use Rattle.hb_point.specs.Asks.{HasHalves, pages_given}
+use Rattle.hb_point.specs.Asks.{HasHalves, MustSplit}
 use Rattle.hb_point.specs.SplitRows.{Puts}
 use Rattle.hb_point.specs.PointRows.{PointRow}
 use Rattle.hb_point.specs.SessionRows.{DoesThere}
-use Rattle.hb_space.specs.Boxes.{Area}
+use Rattle.hb_layout.specs.Limits.{IsLayout}
+use Rattle.hb_ops.specs.Sound.{FitsFile}
+use Rattle.hb_space.specs.Boxes.{Area, Holds}
 use Rattle.hb_space.specs.declared.records.Record.{Record}
 
 -- the deed that an answer is for an actor with this line in hand
@@ -50,16 +52,33 @@ abbrev pub DoesBy : Meta → Line → ℕ → LivePage → Next → Type 0
 DoesBy meta line id page next = (pages : List (ℕ × LivePage)) (free : Option (ℕ × ℕ)) →
     DoesThere (given_sight meta pages free) line line.command id page (deed_for line next)
 
--- The line inserts a record whose point has as many attributes as the page's box.
+-- a page that can be looked into at the point, which has the attributes of its box
+pub record CanHold (page : LivePage) (p : List ℕ) : Type 0 where
+  pub well_cut : WellCut page
+  pub attributes : length p ≡ length page.area.lo
+
+-- the line inserts a record that the page can hold
 pub record InsertsInto (line : Line) (page : LivePage) : Type 0 where
   pub rec : Record
   pub command : line.command ≡ Insert rec
-  pub attributes : length rec.key ≡ length page.area.lo
+  pub can : CanHold page rec.key
+
+-- the page keeps the rules of a page alone, and its leaf at the point, which its box has, has records
+pub record HasRecordsAt (meta : Meta) (page : LivePage) (p : List ℕ) : Type 0 where
+  pub made : FitsFile meta page
+  pub inside : Holds page.area p
+  pub records : RecordsThere page p
+
+-- a page to be split, over a file within its limits
+pub record PartsPage (meta : Meta) (free : Option (ℕ × ℕ)) (line : Line) (held : ℕ) (page : LivePage) : Type 0 where
+  pub layout : IsLayout meta
+  pub made : FitsFile meta page
+  pub must : MustSplit meta free line held held page
 
 -- An answer is the row that puts, whatever is given as the other half.
 abbrev pub PutsBy : Line → ℕ → ℕ → LivePage → Next → Type 0
 PutsBy line source fresh page next = (meta : Meta) (id : ℕ) (first : Option LivePage) (free : Option (ℕ × ℕ)) → HasHalves meta line source fresh id page first →
-    Puts (given_sight meta (pages_given (at.SessionPut line source fresh) id page first) free) line source fresh (deed_for line next)
+    Puts (given_sight meta (given_pages (at.SessionPut line source fresh) id page first) free) line source fresh (deed_for line next)
 
 -- The half is the page, where that directly holds the point, and else the other one.
 abbrev pub IsHalfFor : LivePage → List ℕ → ℕ → ℕ → ℕ → Type 0

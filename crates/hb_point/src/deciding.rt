@@ -2,10 +2,10 @@
 
 ghost use Rattle.std.specs.Prelude.{IfOk, OnErr};
 ghost use Rattle.std.specs.Option.{option_copied};
-ghost use Rattle.hb_activity.specs.Deciding.{deed_of, given_sight};
+ghost use Rattle.hb_activity.specs.Deciding.{deed_of, given_pages, given_sight};
 ghost use Rattle.hb_layout.specs.Limits.{IsLayout};
 ghost use Rattle.hb_ops.specs.Sound.{FitsFile};
-ghost use Rattle.hb_point.specs.Asks.{MayAsk, SplitsNow, pages_given};
+ghost use Rattle.hb_point.specs.Asks.{MayAsk, SplitsNow};
 ghost use Rattle.hb_point.specs.PointRows.{PointRow};
 
 use crate::halving::{put, split};
@@ -41,7 +41,7 @@ pub fn next(
     requires made { FitsFile meta.now page.now }
     requires asked { MayAsk state meta.now free id page.now (option_copied first) }
     ensures row { IfOk result (λ next. PointRow state
-        (given_sight meta.now (pages_given state id page.now (option_copied first.entry)) free)
+        (given_sight meta.now (given_pages state id page.now (option_copied first.entry)) free)
         id page.now (deed_of state next)) }
     ensures memory { OnErr result (SplitsNow state free) }
 {

@@ -9,8 +9,7 @@ ghost use Rattle.hb_layout.specs.Limits.{IsLayout};
 ghost use Rattle.hb_ops.specs.Cutting.{half_area, reached};
 ghost use Rattle.hb_ops.specs.Sound.{FitsFile};
 ghost use Rattle.hb_ops.specs.Splits.{PlanesCut};
-ghost use Rattle.hb_point.specs.Asks.{MustSplit};
-ghost use Rattle.hb_point.specs.Doing.{InsertsInto, IsHalfFor, PutsBy, deed_for, line_with};
+ghost use Rattle.hb_point.specs.Doing.{CanHold, InsertsInto, IsHalfFor, PartsPage, PutsBy, deed_for, line_with};
 ghost use Rattle.hb_point.specs.SplitRows.{SplitsOrFull};
 ghost use Rattle.hb_set.specs.declared.commands.Command.TheVariants as commands;
 ghost use Rattle.hb_space.specs.Boxes.{Area as Extent, Cuts as Parts};
@@ -33,9 +32,7 @@ pub(crate) fn split(
     free: Option<(u32, u32)>,
     meta: &Meta,
 ) -> Result<Next, NoMemory>
-    requires layout { IsLayout meta.now }
-    requires made { FitsFile meta.now page.now }
-    requires must { MustSplit meta.now free line held held page.now }
+    requires { PartsPage meta.now free line held page.now }
     ensures row { IfOk result (λ next. SplitsOrFull (given_sight meta.now ((held, page.now) ∷ []) free) line held (deed_for line next)) }
     ensures memory { OnErr result (IsSome free) }
 {
@@ -56,9 +53,7 @@ fn part_off(
     free_after: u32,
     meta: &Meta,
 ) -> Result<Next, NoMemory>
-    requires layout { IsLayout meta.now }
-    requires made { FitsFile meta.now page.now }
-    requires must { MustSplit meta.now (Some (fresh, free_after)) line held held page.now }
+    requires { PartsPage meta.now (Some (fresh, free_after)) line held page.now }
     ensures { IfOk result (λ next. SplitsOrFull (given_sight meta.now ((held, page.now) ∷ []) (Some (fresh, free_after))) line held (deed_for line next)) }
 {
     let Extraction { path, cuts } = choose(alloc, page)?;
@@ -85,8 +80,7 @@ fn part_off(
 /// A put into the half that directly holds the record's point.
 #[tactic(auto, using(crate::proofs::AskedRows::puts_as))]
 pub(crate) fn put(line: Line, source: u32, fresh: u32, page: &LivePage) -> Next
-    requires well_cut { WellCut page.now }
-    requires insert { InsertsInto line page.now }
+    requires { InsertsInto line page.now }
     ensures { PutsBy line source fresh page.now result }
 {
     let Line {
@@ -110,8 +104,7 @@ fn put_record(
     fresh: u32,
     page: &LivePage,
 ) -> Next
-    requires well_cut { WellCut page.now }
-    requires attributes { length rec.key ≡ length page.now.area.lo }
+    requires { CanHold page.now rec.key }
     ensures { PutsBy (line_with number session (commands.Insert rec)) source fresh page.now result }
 {
     let half = half_for(page, &rec.key, source, fresh);
@@ -120,8 +113,7 @@ fn put_record(
 
 /// The half that directly holds the point: this page, or else the other one.
 fn half_for(page: &LivePage, point: &Point, source: u32, fresh: u32) -> u32
-    requires well_cut { WellCut page.now }
-    requires attributes { length point.now ≡ length page.now.area.lo }
+    requires { CanHold page.now point.now }
     ensures { IsHalfFor page.now point.now source fresh result }
 {
     if directly_holds(page, point) {
@@ -134,8 +126,7 @@ fn half_for(page: &LivePage, point: &Point, source: u32, fresh: u32) -> u32
 /// Whether the page directly holds the point.
 #[tactic(auto, using(crate::proofs::HeldPoints::held_by_point))]
 fn directly_holds(page: &LivePage, point: &Point) -> bool
-    requires well_cut { WellCut page.now }
-    requires attributes { length point.now ≡ length page.now.area.lo }
+    requires { CanHold page.now point.now }
     ensures { IsTrue result ↔ DirectlyHolds page.now point.now }
 {
     page.directly(&Area::of_point(point))

@@ -10,7 +10,7 @@ use Rattle.hb_ops.specs.declared.operations.Op.TheVariants as ops
 use Rattle.hb_terms.specs.declared.plans.PostPlan.{PostPlan}
 use Rattle.hb_terms.specs.declared.plans.PostPlan.TheVariants as plans
 use Rattle.hb_activity.specs.declared.jobs.Job.{Job}
-use Rattle.hb_activity.proofs.AllowedDeeds.{Shows, allocates, kind_at, none_shown, one_shown}
+use Rattle.hb_activity.proofs.Facts.AllowedDeeds.{Shows, allocates, kind_at, none_shown, one_shown}
 use Rattle.hb_activity.specs.Deeds.{Deed}
 use Rattle.hb_activity.specs.OneDeed.{IsAllowedAlone, NumbersAreGiven}
 use Rattle.hb_activity.specs.Passing.{PartLeavesTo}

@@ -1,3 +1,4 @@
+pub mod Facts
 pub mod AllowedPostings
 pub mod WalkExamples
 pub mod PostExamples

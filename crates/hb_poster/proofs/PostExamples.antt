@@ -27,6 +27,7 @@ use Rattle.hb_space.specs.Boxes.{Area}
 use Rattle.hb_split.specs.Choosing.{AreChosen, IsChosen}
 use Rattle.hb_terms.proofs.Facts.Owing.{one_plan}
 use Rattle.hb_terms.specs.Plans.{IsPlan, posted_parent}
+use Rattle.hb_activity.proofs.Facts.OneLeaf.{exactly}
 
 -- ---- the plans
 
@@ -109,9 +110,6 @@ looks_by_hand s job = record {
   owes = λ live icap point. only_look s job page_three live posting (at_ten s job icap point);
   owes_none = λ live point. only_look s job page_three live plans.Nothing (at_fifty s job point);
 }
-
-exactly : (deed : Deed) → IsOnly (λ (other : Deed). other ≡ deed) deed
-exactly deed = record { done = refl; only = λ other is. is }
 
 pub posts_by_hand : (s : Sight) (job : Job) → PostsByHand s job
 posts_by_hand s job = record {

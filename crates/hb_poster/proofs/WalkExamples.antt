@@ -8,7 +8,7 @@ use Rattle.hb_activity.specs.declared.jobs.Job.{Job}
 use Rattle.hb_activity.specs.declared.jobs.JobKind.TheVariants.{Post}
 use Rattle.hb_activity.specs.declared.activities.Activity.{Activity}
 use Rattle.hb_activity.specs.declared.activities.Activity.TheVariants.{PosterIdle, PosterGrow, PosterWalk, PosterChild}
-use Rattle.hb_activity.proofs.OneLeaf.{one_pass}
+use Rattle.hb_activity.proofs.Facts.OneLeaf.{one_pass}
 use Rattle.hb_activity.specs.Deeds.{Deed, does, moves_to}
 use Rattle.hb_activity.specs.OneDeed.{IsOnly}
 use Rattle.hb_activity.specs.Passing.{LeadsBelow, PassesOn}
@@ -17,19 +17,9 @@ use Rattle.hb_frag.specs.Leaves.{Placed, leaf_at}
 use Rattle.hb_poster.specs.Examples.{AtRoot, GrowsByHand, OnItsWay, TakesByHand, WalksByHand, gave_none, gave_some}
 use Rattle.hb_poster.specs.PosterRows.{IsPostingOf, MayGrow}
 use Rattle.hb_space.specs.Boxes.{Area}
+use Rattle.hb_poster.proofs.Facts.OnePosting.{one_posting}
 
 -- ---- the job that is taken
-
-one_posting : (job : Job) (height : ℕ) (next other : Activity) → IsPostingOf job height next → IsPostingOf job height other → next ≡ other
-one_posting job height next other (inl (a, is)) (inl (b, same)) = is ∙ sym same
-one_posting job height next other (inr (inl (a, is))) (inr (inl (b, same))) = is ∙ sym same
-one_posting job height next other (inr (inr (a, is))) (inr (inr (b, same))) = is ∙ sym same
-one_posting job height next other (inl (a, is)) (inr (inl (b, same))) = absurd (omega (arith, a, b))
-one_posting job height next other (inl (a, is)) (inr (inr (b, same))) = absurd (omega (arith, a, b))
-one_posting job height next other (inr (inl (a, is))) (inl (b, same)) = absurd (omega (arith, a, b))
-one_posting job height next other (inr (inl (a, is))) (inr (inr (b, same))) = absurd (omega (arith, a, b))
-one_posting job height next other (inr (inr (a, is))) (inl (b, same)) = absurd (omega (arith, a, b))
-one_posting job height next other (inr (inr (a, is))) (inr (inl (b, same))) = absurd (omega (arith, a, b))
 
 only_taken : (job : Job) (height : ℕ) (next : Activity) → IsPostingOf job height next → IsOnly (IsPostingOf job height) next
 only_taken job height next done = record { done = done; only = λ other row. one_posting job height other next row done }

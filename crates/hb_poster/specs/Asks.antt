@@ -1,5 +1,5 @@
 -- What the decider of the poster may rely on, and where it asks for memory.
-use Rattle.std.specs.Prelude.{◌≡◌, ◌⊎◌, ℕ, ◌≤◌, List, [], ◌∷◌, Option, Some, None}
+use Rattle.std.specs.Prelude.{◌≡◌, ◌⊎◌, ℕ, ◌≤◌, List, [], Option, Some, None}
 use Rattle.hb_space.specs.Boxes.{Area, Holds}
 use Rattle.hb_layout.specs.declared.meta.Meta.{Meta}
 use Rattle.hb_frag.specs.declared.pages.LivePage.{LivePage}
@@ -12,12 +12,6 @@ use Rattle.hb_activity.specs.declared.activities.Activity.TheVariants as at
 use Rattle.hb_activity.specs.Deciding.{given_sight}
 use Rattle.hb_activity.specs.Passing.{LeadsBelow}
 use Rattle.hb_poster.specs.PosterRows.{MayGrow}
-
--- The pages that a step is given, by their numbers: the one that it latched, and in front of a child its parent.
-abbrev pub given_pages : Activity → ℕ → LivePage → Option LivePage → List (ℕ × LivePage)
-given_pages (at.PosterChild job parent) id page (Some over) = (parent, over) ∷ (id, page) ∷ []
-given_pages (at.PosterAgain job parent) id page (Some over) = (parent, over) ∷ (id, page) ∷ []
-given_pages other id page first = (id, page) ∷ []
 
 -- Where the step makes a page, if one is free: the file may get a level, or the parent has no room for what is to be posted.
 abbrev pub MakesPage : Activity → Meta → LivePage → Option LivePage → Type 0

@@ -2,8 +2,8 @@ ghost use Rattle.std.specs.Prelude.{◌≡◌, ◌<◌, ◌↔◌, IsTrue, IfOk,
 ghost use Rattle.std.specs.Option.{option_copied};
 ghost use Rattle.hb_layout.specs.Limits.{IsLayout};
 ghost use Rattle.hb_ops.specs.Sound.{FitsFile};
-ghost use Rattle.hb_activity.specs.Deciding.{FitsFree, deed_of, given_sight};
-ghost use Rattle.hb_poster.specs.Asks.{AsksMemory, MakesPage, MayBeAsked, given_pages};
+ghost use Rattle.hb_activity.specs.Deciding.{FitsFree, deed_of, given_pages, given_sight};
+ghost use Rattle.hb_poster.specs.Asks.{AsksMemory, MakesPage, MayBeAsked};
 ghost use Rattle.hb_poster.specs.PosterRows.{PosterRow};
 
 use crate::growing::{grow, may_grow};

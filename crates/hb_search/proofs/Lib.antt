@@ -1,3 +1,2 @@
-pub mod OneOrder
-pub mod OneSearch
+pub mod Facts
 pub mod SearchExamples

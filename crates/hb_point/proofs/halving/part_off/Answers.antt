@@ -1,4 +1,4 @@
-use Rattle.hb_point.proofs.RecordLeaves.{full_page_weighs}
+use Rattle.hb_point.proofs.Facts.RecordLeaves.{full_page_weighs}
 use Rattle.hb_point.proofs.halving.part_off.Goals as goal
 
 pub choose-requires-clause-full : goal.choose-requires-clause-full

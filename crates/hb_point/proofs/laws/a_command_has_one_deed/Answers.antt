@@ -1,4 +1,4 @@
-use Rattle.hb_point.proofs.OneCommand.{commands_have_one_deed}
+use Rattle.hb_point.proofs.Facts.OneCommand.{commands_have_one_deed}
 use Rattle.hb_point.proofs.laws.a_command_has_one_deed.Goals as goal
 
 pub returns : goal.returns

@@ -23,11 +23,11 @@ returns c s room number =
         next = number;
       };
       deed_is = λ i. record {
-        next = told.then i;
+        next = told.stands i;
         op = told.op i;
         takes = None;
         adds = jobs i;
-        joins = joined_by (HasJob job) (told.then i) (told.fate i);
+        joins = joined_by (HasJob job) (told.stands i) (told.fate i);
         says = said_by (HasJob job) (told.fate i);
       };
     }

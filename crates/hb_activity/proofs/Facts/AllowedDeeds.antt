@@ -1,9 +1,9 @@
 -- That a row's operation is allowed: the parts that rows have in common.
-use Rattle.std.proofs.Common.{◌≡◌, ℕ, ◌<◌, ◌++◌, true, false, cond, List, [], ◌∷◌, All, Some, None, sym, ap, ◌∙◌, subst, arith}
-use Rattle.std.proofs.lemmas.List.Elements.{All-append, All-cons, All-head, All-nil, All-tail}
+use Rattle.std.proofs.Common.{◌≡◌, ℕ, ◌<◌, List, [], All, Some, None, sym, ap, ◌∙◌, subst, arith}
+use Rattle.std.proofs.lemmas.List.Elements.{All-append, All-cons, All-head, All-nil}
 use Rattle.hb_frag.specs.declared.pages.LivePage.{LivePage}
 use Rattle.hb_layout.specs.declared.meta.Meta.{Meta}
-use Rattle.hb_frag.specs.Leaves.{Placed, first_at, leaf_at, leaves, leaves_of}
+use Rattle.hb_frag.specs.Leaves.{Placed, leaf_at, leaves, leaves_of}
 use Rattle.hb_frag.specs.Rules.{BelongsAt}
 use Rattle.hb_frag.specs.Trees.{Tree, Tip, Cut}
 use Rattle.hb_ops.specs.declared.operations.Op.{Op}
@@ -12,31 +12,18 @@ use Rattle.hb_activity.specs.OneDeed.{NumbersAreGiven}
 use Rattle.hb_activity.specs.Sights.{Sight}
 use Rattle.hb_ops.specs.Allocating.{Allocates}
 use Rattle.hb_ops.specs.Sound.{FitsFile}
-use Rattle.hb_space.specs.Boxes.{Area, holds, side_below, side_from}
+use Rattle.hb_space.specs.Boxes.{Area, side_below, side_from}
+use Rattle.hb_lemmas.proofs.Lists.{All-behind, All-front}
+use Rattle.hb_ops.proofs.Facts.Opened.{first_has}
 
 -- ---- the leaf at a point belongs at the level of its page
-
-front_all : {A : Type 0} (P : A → Type 0) (xs ys : List A) → All P (xs ++ ys) → All P xs
-front_all P [] ys h = All-nil P
-front_all P (x ∷ xs) ys h = All-cons P x xs (All-head P x (xs ++ ys) h) (front_all P xs ys (All-tail P x (xs ++ ys) h))
-
-back_all : {A : Type 0} (P : A → Type 0) (xs ys : List A) → All P (xs ++ ys) → All P ys
-back_all P [] ys h = h
-back_all P (x ∷ xs) ys h = back_all P xs ys (All-tail P x (xs ++ ys) h)
 
 placed_kinds : (level : ℕ) (t : Tree) (area : Area) → All (BelongsAt level) (leaves t) → All (λ (l : Placed). BelongsAt level l.leaf) (leaves_of t area)
 placed_kinds level (Tip leaf) area kinds = All-cons (λ (l : Placed). BelongsAt level l.leaf) (record { leaf = leaf; area = area }) [] (All-head (BelongsAt level) leaf [] kinds) (All-nil (λ (l : Placed). BelongsAt level l.leaf))
 placed_kinds level (Cut axis value left right) area kinds =
     All-append (λ (l : Placed). BelongsAt level l.leaf) (leaves_of left (side_below area axis value)) (leaves_of right (side_from area axis value))
-    (placed_kinds level left (side_below area axis value) (front_all (BelongsAt level) (leaves left) (leaves right) kinds))
-    (placed_kinds level right (side_from area axis value) (back_all (BelongsAt level) (leaves left) (leaves right) kinds))
-
-pub first_has : (P : Placed → Type 0) (p : List ℕ) (xs : List Placed) (placed : Placed) → first_at p xs ≡ Some placed → All P xs → P placed
-first_has P p [] placed e all = absurd (let no : ⊥ = cc in no)
-first_has P p (x ∷ xs) placed e all = elim (holds x.area p) as (λ b. cond b (Some x) (first_at p xs) ≡ Some placed → P placed) [
-  | true ↦ λ e. let same : x ≡ placed = cc in subst P same (All-head P x xs all)
-  | false ↦ λ e. first_has P p xs placed e (All-tail P x xs all)
-] e
+    (placed_kinds level left (side_below area axis value) (All-front (BelongsAt level) (leaves left) (leaves right) kinds))
+    (placed_kinds level right (side_from area axis value) (All-behind (BelongsAt level) (leaves left) (leaves right) kinds))
 
 pub kind_at : (meta : Meta) (page : LivePage) (p : List ℕ) (l : Placed) → FitsFile meta page → leaf_at page p ≡ Some l → BelongsAt page.level l.leaf
 kind_at meta page p l made there = first_has (λ (l : Placed). BelongsAt page.level l.leaf) p (leaves_of page.frag page.area) l there (placed_kinds page.level page.frag page.area made.filled.kinds)

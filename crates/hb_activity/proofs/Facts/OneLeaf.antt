@@ -1,6 +1,6 @@
 -- A page has one leaf at a point, so rows that read it agree.
-use Rattle.std.proofs.Common.{◌≡◌, ℕ, zero, suc, List, [], ◌∷◌, All, Some, sym, ap, ◌∙◌, arith}
-use Rattle.std.specs.List.{AllByRecursion, Contains, slice_get}
+use Rattle.std.proofs.Common.{◌≡◌, ℕ, List, All, Some, refl, sym, ap, ◌∙◌}
+use Rattle.std.specs.List.{slice_get}
 use Rattle.std.proofs.lemmas.List.Elements.{All-contains}
 use Rattle.std.proofs.lemmas.Option.{same_Some}
 use Rattle.hb_space.specs.declared.records.Record.{Record}
@@ -11,6 +11,8 @@ use Rattle.hb_activity.specs.Deeds.{Deed, moves_to}
 use Rattle.hb_activity.specs.Passing.{PassesOn, posts_owed}
 use Rattle.hb_frag.specs.Leaves.{Placed, leaf_at}
 use Rattle.hb_ops.specs.Standing.{StandsNot, StandsThere}
+use Rattle.hb_activity.specs.OneDeed.{IsOnly}
+use Rattle.hb_lemmas.proofs.Lists.{place_member}
 
 pub same_leaf : (page : LivePage) (p : List ℕ) (one two : Placed) → leaf_at page p ≡ Some one → leaf_at page p ≡ Some two → one ≡ two
 same_leaf page p one two a b = same_Some one two (sym a ∙ b)
@@ -18,14 +20,8 @@ same_leaf page p one two a b = same_Some one two (sym a ∙ b)
 pub records_of_leaf : (xs ys : List Record) → Records xs ≡ Records ys → xs ≡ ys
 records_of_leaf xs ys is = cc
 
--- what is at a place isn't lacking
-pub stands_among : (xs : List Record) (i : ℕ) (r : Record) → slice_get xs i ≡ Some r → Contains xs r
-stands_among [] i r is = cc
-stands_among (x ∷ xs) zero r is = (0, omega arith, let same : x ≡ r = cc in same)
-stands_among (x ∷ xs) (suc i) r is = let later = stands_among xs i r is in (suc later.0, omega (arith, later.1), later.2)
-
 not_lacking : (xs : List Record) (i : ℕ) (r : Record) (p : List ℕ) → slice_get xs i ≡ Some r → r.key ≡ p → All (λ r. r.key ≡ p → ⊥) xs → ⊥
-not_lacking xs i r p is key lack = All-contains (λ r. r.key ≡ p → ⊥) xs r lack (stands_among xs i r is) key
+not_lacking xs i r p is key lack = All-contains (λ r. r.key ≡ p → ⊥) xs r lack (place_member xs i r is) key
 
 -- a point doesn't both stand in a page and not
 pub never_both : (page : LivePage) (p : List ℕ) (r : Record) → StandsThere page p r → StandsNot page p → ⊥
@@ -40,8 +36,6 @@ one_pass page p next d e first second =
     let same = same_leaf page p (record { leaf = first.leaf; area = first.area }) (record { leaf = second.leaf; area = second.area }) first.at_point second.at_point in
     first.deed_is ∙ ap (λ (x : Placed). moves_to next (posts_owed page p x.leaf)) same ∙ sym second.deed_is
 
--- what holds of each element of a written list
-pub each_at : {X : Type 0} (P : X → Type 0) (xs : List X) → AllByRecursion P xs → All P xs
-each_at P [] each k d lt = absurd (omega (arith, lt))
-each_at P (x ∷ rest) each zero d lt = each.0
-each_at P (x ∷ rest) each (suc k) d lt = each_at P rest each.1 k d (omega (arith, lt))
+-- a deed by itself
+pub exactly : (deed : Deed) → IsOnly (λ (other : Deed). other ≡ deed) deed
+exactly deed = record { done = refl; only = λ other is. is }

@@ -1,20 +1,19 @@
 -- A page whose leaf at a point has records: its level, whether it has room, and what it weighs with one more.
-use Rattle.std.proofs.Common.{◌≡◌, inl, inr, ℕ, ◌+◌, ◌<◌, ◌≤◌, Bool, true, false, cond, List, [], ◌∷◌, length, Some, arith}
-use Rattle.std.specs.List.{Contains, filter}
+use Rattle.std.proofs.Common.{◌≡◌, inl, inr, ℕ, ◌+◌, ◌<◌, ◌≤◌, Bool, true, false, cond, List, [], ◌∷◌, length, Some, arith, zero, suc, Any, None}
+use Rattle.std.specs.List.{Contains, filter, slice_get}
 use Rattle.std.specs.Ordering.{is_gt, is_lt}
 use Rattle.std.specs.declared.cmp.Ordering.{Ordering}
 use Rattle.std.specs.declared.cmp.Ordering.TheVariants.{Less, Equal, Greater}
 use Rattle.std.proofs.lemmas.Bool.{cases_lt}
 use Rattle.std.proofs.lemmas.List.{length-append}
 use Rattle.std.proofs.lemmas.List.Elements.{All-contains, All-contains_itself}
-use Rattle.hb_activity.proofs.AllowedDeeds.{first_has}
+use Rattle.hb_ops.proofs.Facts.Opened.{first_has, weight_changed}
 use Rattle.hb_frag.specs.Leaves.{WellCut, leaf_at, leaves, leaves_of, weight_of}
 use Rattle.hb_frag.specs.Rules.{BelongsAt}
 use Rattle.hb_frag.specs.declared.leaves.Leaf.TheVariants.{Records}
 use Rattle.hb_frag.specs.declared.pages.LivePage.{LivePage}
 use Rattle.hb_layout.specs.Limits.{IsLayout}
 use Rattle.hb_layout.specs.declared.meta.Meta.{Meta}
-use Rattle.hb_ops.proofs.Facts.Opened.{weight_changed}
 use Rattle.hb_ops.proofs.Facts.PlacedLaws.{placed, placed_is_leaf}
 use Rattle.hb_ops.specs.Recording.{FitsPut, joined, put_page}
 use Rattle.hb_ops.specs.Sound.{FitsFile}
@@ -81,3 +80,12 @@ full_page_weighs meta page rec layout made absent full =
     let more = put_weighs page rec absent.records absent.area made.well_cut absent.leaf in
     let least = layout.dcap_least in
     omega (arith, more, least, full)
+
+-- the record at a place is one of the point
+pub any_at : (records : List Record) (place : ℕ) (r : Record) (p : List ℕ) → slice_get records place ≡ Some r → r.key ≡ p → Any (λ (r : Record). r.key ≡ p) records
+any_at [] place r p is key = absurd (nothing r is)
+  where
+    nothing : (r : Record) → None ≡ Some r → ⊥
+    nothing r is = cc
+any_at (x ∷ records) zero r p is key = let same : x ≡ r = cc in (0, r, omega arith, same, key)
+any_at (x ∷ records) (suc place) r p is key = let rest = any_at records place r p is key in (suc rest.0, rest.1, omega (arith, rest.2), rest.3, rest.4)

@@ -1,11 +1,6 @@
 -- A command on a point has one deed at a page: its rows exclude each other, and one record of a page is of a point.
-use Rattle.std.proofs.Common.{◌≡◌, ◌⊎◌, inl, inr, ℕ, zero, suc, ◌<◌, ◌≤◌, List, [], ◌∷◌, All, AllPairs, Some, None, refl, sym, ap, ◌∙◌, subst, arith}
-use Rattle.std.specs.List.{Contains, slice_get}
-use Rattle.std.specs.declared.cmp.Ordering.TheVariants.{Less, Equal}
-use Rattle.std.proofs.lemmas.Cmp.{nat_list_cmp_total, tied_itself}
-use Rattle.std.proofs.lemmas.List.Elements.{All-contains}
+use Rattle.std.proofs.Common.{◌≡◌, inl, inr, ℕ, ◌<◌, ◌≤◌, List, [], Some, None, refl, sym, ap, ◌∙◌, arith}
 use Rattle.hb_space.specs.declared.records.Record.{Record}
-use Rattle.hb_frag.specs.declared.leaves.Leaf.TheVariants.{Records}
 use Rattle.hb_frag.specs.declared.pages.LivePage.{LivePage}
 use Rattle.hb_ops.specs.declared.operations.Op.TheVariants.{Put, Del}
 use Rattle.hb_set.specs.declared.commands.Command.{Command}
@@ -13,61 +8,17 @@ use Rattle.hb_set.specs.declared.commands.Command.TheVariants.{Insert, Delete, L
 use Rattle.hb_set.specs.declared.commands.Reply.TheVariants as replies
 use Rattle.hb_set.specs.declared.scripts.Line.{Line}
 use Rattle.hb_activity.specs.declared.activities.Activity.TheVariants.{SessionSplit}
-use Rattle.hb_activity.proofs.AllowedDeeds.{first_has}
-use Rattle.hb_activity.proofs.OneLeaf.{never_both, records_of_leaf, same_leaf, stands_among}
+use Rattle.hb_activity.proofs.Facts.OneLeaf.{never_both}
 use Rattle.hb_activity.specs.Deeds.{Deed, moves_to, takes_effect}
 use Rattle.hb_activity.specs.OneDeed.{IsOnly}
 use Rattle.hb_activity.specs.Sights.{Sight}
-use Rattle.hb_frag.specs.Leaves.{Placed, leaves_of, weight_of}
-use Rattle.hb_frag.specs.Rules.{AreInOrder, IsInOrder, Precedes}
+use Rattle.hb_frag.specs.Leaves.{weight_of}
+use Rattle.hb_frag.specs.Rules.{AreInOrder}
 use Rattle.hb_ops.specs.Recording.{put_page}
 use Rattle.hb_ops.specs.Standing.{StandsNot, StandsThere}
 use Rattle.hb_point.specs.Laws.{CommandsHaveOneDeed}
 use Rattle.hb_point.specs.SessionRows.{DoesThere, merges_due}
-use Rattle.hb_space.specs.Points.{point_cmp}
-
--- ---- one record of a point
-
-not_itself : (p q : List ℕ) → p ≡ q → point_cmp p q ≡ Less → ⊥
-not_itself p q same less =
-    let tied : point_cmp p p ≡ Equal = tied_itself nat_list_cmp_total p in
-    let again : point_cmp p p ≡ Less = subst (λ (x : List ℕ). point_cmp p x ≡ Less) (sym same) less in
-    cc
-
-abbrev Rises : List Record → Type 0
-Rises [] = Unit {0}
-Rises (r ∷ rest) = All (Precedes r) rest × Rises rest
-
-rises : (records : List Record) → AllPairs Precedes records → Rises records
-rises [] pairs = tt
-rises (r ∷ rest) pairs = (λ k d lt. pairs zero (suc k) d (omega arith) (omega (arith, lt)), rises rest (λ i j d low high. pairs (suc i) (suc j) d (omega (arith, low)) (omega (arith, high))))
-
-among_first : (x : Record) (xs : List Record) (y : Record) → Contains (x ∷ xs) y → (x ≡ y) ⊎ Contains xs y
-among_first x xs y (zero, lt, is) = inl is
-among_first x xs y (suc k, lt, is) = inr (k, omega (arith, lt), is)
-
-no_more : (y : Record) → Contains [] y → ⊥
-no_more y (k, lt, is) = omega (arith, lt)
-
-one_among : (xs : List Record) (r s : Record) → Rises xs → Contains xs r → Contains xs s → r.key ≡ s.key → r ≡ s
-one_among [] r s up here there same = absurd (no_more r here)
-one_among (x ∷ xs) r s up here there same = elim (among_first x xs r here) [
-  | inl first ↦ elim (among_first x xs s there) [
-    | inl second ↦ sym first ∙ second
-    | inr later ↦ absurd (not_itself x.key s.key (ap (λ (r : Record). r.key) first ∙ same) (All-contains (Precedes x) xs s up.0 later))
-  ]
-  | inr behind ↦ elim (among_first x xs s there) [
-    | inl second ↦ absurd (not_itself x.key r.key (ap (λ (r : Record). r.key) second ∙ sym same) (All-contains (Precedes x) xs r up.0 behind))
-    | inr later ↦ one_among xs r s up.1 behind later same
-  ]
-]
-
-one_stands : (page : LivePage) (p : List ℕ) (r s : Record) → AreInOrder page → StandsThere page p r → StandsThere page p s → r ≡ s
-one_stands page p r s order a b =
-    let same = same_leaf page p (record { leaf = Records a.records; area = a.area }) (record { leaf = Records b.records; area = b.area }) a.leaf b.leaf in
-    let records = records_of_leaf a.records b.records (ap (λ (x : Placed). x.leaf) same) in
-    let up = (first_has IsInOrder p (leaves_of page.frag page.area) (record { leaf = Records b.records; area = b.area }) b.leaf order).rising in
-    one_among b.records r s (rises b.records up) (stands_among b.records a.place r (ap (λ (l : List Record). slice_get l a.place) (sym records) ∙ a.among)) (stands_among b.records b.place s b.among) (a.key ∙ sym b.key)
+use Rattle.hb_activity.proofs.Facts.OneRecord.{one_stands}
 
 -- ---- each row, and no other
 

@@ -42,7 +42,7 @@ two_at_most (ConsolidatorDecide job parent keep gone) page = omega arith
 two_at_most Flusher page = omega arith
 
 -- the mode of what is wanted is that of its level
-in_its_mode : (mode : ℕ → Mode) (next : Option (ℕ × ℕ)) (wanted : Wanted) → in_mode mode next ≡ Some wanted → wanted.mode ≡ mode wanted.level
+pub in_its_mode : (mode : ℕ → Mode) (next : Option (ℕ × ℕ)) (wanted : Wanted) → in_mode mode next ≡ Some wanted → wanted.mode ≡ mode wanted.level
 in_its_mode mode None wanted is = cc
 in_its_mode mode (Some (page, level)) wanted is =
     let same : wanted_page page level (mode level) ≡ wanted = cc in

@@ -1,22 +1,17 @@
 -- Records in the order of their points: one list of them has this order.
-use Rattle.std.proofs.Common.{◌≡◌, ◌⊎◌, inl, inr, ℕ, zero, suc, List, [], ◌∷◌, get_or, All, AllPairs, refl, sym, ap, ◌∙◌, subst, arith}
+use Rattle.std.proofs.Common.{◌≡◌, inl, inr, ℕ, List, [], ◌∷◌, get_or, All, AllPairs, refl, sym, ap, ◌∙◌}
 use Rattle.std.specs.List.{Contains}
 use Rattle.std.specs.List.Sorted.{IsPermutation}
 use Rattle.std.specs.Ordering.{ordering_reverse}
-use Rattle.std.specs.declared.cmp.Ordering.TheVariants.{Less, Equal, Greater}
-use Rattle.std.proofs.lemmas.Cmp.{nat_list_cmp_total, tied_itself}
+use Rattle.std.specs.declared.cmp.Ordering.TheVariants.{Less, Greater}
+use Rattle.std.proofs.lemmas.Cmp.{nat_list_cmp_total}
 use Rattle.std.proofs.lemmas.List.Elements.{All-contains, All-head, All-tail, Contains-get_or}
 use Rattle.std.proofs.lemmas.List.Sorted.{Contains-permutation, IsPermutation-sym}
 use Rattle.hb_space.specs.declared.records.Record.{Record}
 use Rattle.hb_frag.specs.Rules.{Precedes}
 use Rattle.hb_space.specs.Points.{point_cmp}
-
--- no record comes before itself, and no two before each other
-pub not_itself : (p q : List ℕ) → p ≡ q → point_cmp p q ≡ Less → ⊥
-not_itself p q same less =
-    let tied : point_cmp p p ≡ Equal = tied_itself nat_list_cmp_total p in
-    let again : point_cmp p p ≡ Less = subst (λ (x : List ℕ). point_cmp p x ≡ Less) (sym same) less in
-    cc
+use Rattle.hb_lemmas.proofs.Lists.{member_cases, no_member}
+use Rattle.hb_activity.proofs.Facts.OneRecord.{Rises, not_itself, rises}
 
 not_both : (p q : List ℕ) → point_cmp p q ≡ Less → point_cmp q p ≡ Less → ⊥
 not_both p q one two =
@@ -24,23 +19,11 @@ not_both p q one two =
     let no : Less ≡ Greater = back in
     cc
 
-abbrev pub Rises : List Record → Type 0
-Rises [] = Unit {0}
-Rises (r ∷ rest) = All (Precedes r) rest × Rises rest
-
-pub rises : (records : List Record) → AllPairs Precedes records → Rises records
-rises [] pairs = tt
-rises (r ∷ rest) pairs = (λ k d lt. pairs zero (suc k) d (omega arith) (omega (arith, lt)), rises rest (λ i j d low high. pairs (suc i) (suc j) d (omega (arith, low)) (omega (arith, high))))
-
-pub among_first : {X : Type 0} (x : X) (xs : List X) (y : X) → Contains (x ∷ xs) y → (x ≡ y) ⊎ Contains xs y
-among_first x xs y (zero, lt, is) = inl is
-among_first x xs y (suc k, lt, is) = inr (k, omega (arith, lt), is)
-
 module _ (x y : Record) (xs ys : List Record) (up : Rises (x ∷ xs)) (rising : Rises (y ∷ ys)) where
   same_head : Contains (y ∷ ys) x → Contains (x ∷ xs) y → y ≡ x
-  same_head here there = elim (among_first y ys x here) [
+  same_head here there = elim (member_cases y ys x here) [
     | inl same ↦ same
-    | inr later ↦ elim (among_first x xs y there) [
+    | inr later ↦ elim (member_cases x xs y there) [
       | inl same ↦ sym same
       | inr behind ↦ absurd (not_both y.key x.key (All-contains (Precedes y) ys x rising.0 later) (All-contains (Precedes x) xs y up.0 behind))
     ]
@@ -49,18 +32,15 @@ module _ (x y : Record) (xs ys : List Record) (up : Rises (x ∷ xs)) (rising : 
   rest_among : y ≡ x → All (Contains (y ∷ ys)) (x ∷ xs) → All (Contains ys) xs
   rest_among same all k d lt =
       let z = get_or xs k d in
-      elim (among_first y ys z (All-tail (Contains (y ∷ ys)) x xs all k d lt)) [
+      elim (member_cases y ys z (All-tail (Contains (y ∷ ys)) x xs all k d lt)) [
         | inl is ↦ absurd (not_itself x.key z.key (ap (λ (r : Record). r.key) (sym same ∙ is)) (All-contains (Precedes x) xs z up.0 (Contains-get_or xs k d lt)))
         | inr later ↦ later
       ]
 
-pub no_more : {X : Type 0} (y : X) → Contains [] y → ⊥
-no_more y (k, lt, is) = omega (arith, lt)
-
 same_rising : (xs ys : List Record) → Rises xs → Rises ys → All (Contains ys) xs → All (Contains xs) ys → xs ≡ ys
 same_rising [] [] up rising here there = refl
-same_rising [] (y ∷ ys) up rising here there = absurd (no_more y (All-head (Contains []) y ys there))
-same_rising (x ∷ xs) [] up rising here there = absurd (no_more x (All-head (Contains []) x xs here))
+same_rising [] (y ∷ ys) up rising here there = absurd (no_member y (All-head (Contains []) y ys there))
+same_rising (x ∷ xs) [] up rising here there = absurd (no_member x (All-head (Contains []) x xs here))
 same_rising (x ∷ xs) (y ∷ ys) up rising here there =
     let same = same_head x y xs ys up rising (All-head (Contains (y ∷ ys)) x xs here) (All-head (Contains (x ∷ xs)) y ys there) in
     let rest = same_rising xs ys up.1 rising.1 (rest_among x y xs ys up rising same here) (rest_among y x ys xs rising up (sym same) there) in

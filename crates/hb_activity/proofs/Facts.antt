@@ -1,0 +1,6 @@
+-- Lemmas on what this crate defines, which the crates above cite.
+pub mod AllowedDeeds
+pub mod HeldLatches
+pub mod LaterPages
+pub mod OneLeaf
+pub mod OneRecord

@@ -1,0 +1,4 @@
+-- Lemmas on what this crate defines, which the crates above cite.
+pub mod RecordLeaves
+pub mod ChosenCuts
+pub mod OneCommand

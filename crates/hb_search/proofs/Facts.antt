@@ -1,0 +1,3 @@
+-- Lemmas on what this crate defines, which the crates above cite.
+pub mod OneOrder
+pub mod OneSearch
