@@ -9,7 +9,6 @@ pub mod LegalOrder
 pub mod AnswersInPlace
 pub mod PendingKept
 pub mod Prefixes
-pub mod JoinedReplies
 pub mod RepliesKept
 pub mod ShortOrder
 pub mod SingleAnswers

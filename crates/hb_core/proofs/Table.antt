@@ -2,11 +2,11 @@
 pub mod GivenUp
 pub mod NoMerges
 pub mod MergerMoves
+pub mod EachRow
 pub mod Targets
 pub mod StepKinds
 pub mod Ways
 pub mod LineFates
-pub mod StepCases
 pub mod NextPlaces
 pub mod StepLines
 pub mod DeedKinds

@@ -2,7 +2,6 @@
 pub mod OneMerge
 pub mod SinglePlaces
 pub mod Aside
-pub mod OneOfPoint
 pub mod OnePiece
 pub mod OneRow
 pub mod RowSays

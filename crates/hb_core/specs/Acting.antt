@@ -6,7 +6,6 @@ use Rattle.hb_frag.specs.declared.pages.LivePage.{LivePage}
 use Rattle.hb_terms.specs.declared.plans.PostPlan.{PostPlan}
 use Rattle.hb_terms.specs.declared.plans.PostPlan.TheVariants.{SplitFirst}
 use Rattle.hb_activity.specs.declared.jobs.Job.{Job}
-use Rattle.hb_set.specs.declared.scripts.Line.{Line}
 use Rattle.hb_activity.specs.declared.wanting.Wanted.{Wanted}
 use Rattle.hb_activity.specs.declared.activities.Activity.{Activity}
 use Rattle.hb_activity.specs.declared.activities.Activity.TheVariants as at
@@ -68,24 +67,19 @@ LacksNeeded m actor fetched = (id : ℕ) × MayNeed m actor fetched id × (¬ (I
 abbrev pub HasOp : Deed → Type 0
 HasOp deed = IsSome deed.op
 
-abbrev pub IsGathering : Line → Deed → Type 0
-IsGathering line deed = WantsBoxes line.command × (walk_held deed.next ≡ None)
-
 abbrev pub TakesMemory : Activity → Deed → Type 0
-TakesMemory (at.SessionWalk line held rest found) deed = HasOp deed ⊎ IsGathering line deed
+TakesMemory (at.SessionWalk line held rest found) deed = HasOp deed ⊎ (WantsBoxes line.command × (walk_held deed.next ≡ None))
 TakesMemory (at.PosterChild job parent) deed = deed.next ≡ at.PosterPromote job parent
 TakesMemory (at.ConsolidatorWalk job held) deed = walk_held deed.next ≡ None
 TakesMemory (at.ConsolidatorScan job parent child) deed = Unit {0}
 TakesMemory (at.ConsolidatorTry job parent keep gone leaf) deed = Unit {0}
 TakesMemory other deed = HasOp deed
 
-abbrev pub RowTakesMemory : Machine → ℕ → StoreState → Type 0
-RowTakesMemory m actor fetched = (deed : Deed) × Row (m.activity actor) (wanted_by m actor) (with_disk fetched m.files m.clock m) deed × TakesMemory (m.activity actor) deed
-
 -- Or it is given up: a page that it needs couldn't be read; or memory was refused, for such a page or for what the row takes.
 abbrev pub GivesUpFor : DropWhy → Machine → ℕ → StoreState → Type 0
 GivesUpFor drops.ReadFault m actor fetched = LacksNeeded m actor fetched
-GivesUpFor drops.NoMemory m actor fetched = LacksNeeded m actor fetched ⊎ RowTakesMemory m actor fetched
+GivesUpFor drops.NoMemory m actor fetched =
+    LacksNeeded m actor fetched ⊎ ((deed : Deed) × Row (m.activity actor) (wanted_by m actor) (with_disk fetched m.files m.clock m) deed × TakesMemory (m.activity actor) deed)
 
 pub record Abandons (m : Machine) (actor : ℕ) (outcome : Outcome) (new : Machine) : Type 0 where
   pub why : DropWhy

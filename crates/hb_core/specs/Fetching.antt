@@ -17,11 +17,8 @@ use Rattle.hb_store.specs.Stops.{IsNoPage}
 
 -- The pages that stay in memory whatever comes: those that somebody holds, and those that were imaged or made in this turn, which
 -- read otherwise in their places than the file has them.
-abbrev pub IsHeld : Machine → ℕ → Type 0
-IsHeld m id = (actor : ℕ) × (mode : Mode) × (mode_at m.latches actor id ≡ Some mode)
-
 abbrev pub MustStay : Machine → ℕ → Type 0
-MustStay m id = IsHeld m id ⊎ IsTrue (is_imaged m.store id)
+MustStay m id = ((actor : ℕ) × (mode : Mode) × (mode_at m.latches actor id ≡ Some mode)) ⊎ IsTrue (is_imaged m.store id)
 
 -- Pages came into memory, of these numbers at most, and pages left it that need not stay: else nothing changed. What came is of
 -- the file and keeps the rules that speak of a page alone; where the disk tells, it is what the file has there.

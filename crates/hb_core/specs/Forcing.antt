@@ -22,14 +22,10 @@ pub record FailsToWrite (m : Machine) (most : ℕ) (outcome : Outcome) (new : Ma
 abbrev pub forced_files : Files → Files
 forced_files files = record { durable = durable_after files.durable files.later; later = later_after files.later }
 
-abbrev pub ForcesWell : Machine → Outcome → Outcome → Machine → Type 0
-ForcesWell m done outcome new = (outcome ≡ done) × (new ≡ with_disk (forced_state m.store) (option_map forced_files m.files) (m.clock + calls_of_force m.store.log.groups) m)
-
-abbrev pub ForcesBadly : Machine → Outcome → Machine → Type 0
-ForcesBadly m outcome new = (m.store.log.groups ≢ []) × FailsToWrite m 4 outcome new
-
 abbrev pub ForcesFirst : Machine → Outcome → Outcome → Machine → Type 0
-ForcesFirst m done outcome new = ForcesWell m done outcome new ⊎ ForcesBadly m outcome new
+ForcesFirst m done outcome new =
+    ((outcome ≡ done) × (new ≡ with_disk (forced_state m.store) (option_map forced_files m.files) (m.clock + calls_of_force m.store.log.groups) m))
+    ⊎ ((m.store.log.groups ≢ []) × FailsToWrite m 4 outcome new)
 
 -- nothing happens
 abbrev pub StaysSo : Machine → Outcome → Outcome → Machine → Type 0

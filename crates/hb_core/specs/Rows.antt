@@ -34,14 +34,10 @@ DoesHere s line (Delete point) rest found id page p deed = DoesThere s line (Del
 DoesHere s line (Lookup point) rest found id page p deed = DoesThere s line (Lookup point) id page deed
 DoesHere s line (Search area) rest found id page p deed = Gathers s line rest found page p deed
 
--- A session at the page that it latched.
-abbrev pub WalksAt : Sight → Line → List Area → List Record → ℕ → LivePage → Deed → Type 0
-WalksAt s line rest found id page deed = MatchOption (goal_of line.command rest) ⊥
-    (λ p. PassesOn page p (at.SessionWalk line (Some id) rest found) deed ⊎ DoesHere s line line.command rest found id page p deed)
-
 -- The row of an activity at the page that it latched.
 abbrev pub RowAt : Activity → Sight → ℕ → LivePage → Deed → Type 0
-RowAt (at.SessionWalk line held rest found) s id page deed = WalksAt s line rest found id page deed
+RowAt (at.SessionWalk line held rest found) s id page deed = MatchOption (goal_of line.command rest) ⊥
+    (λ p. PassesOn page p (at.SessionWalk line (Some id) rest found) deed ⊎ DoesHere s line line.command rest found id page p deed)
 RowAt (at.PosterGrow job) s id page deed = PosterRow (at.PosterGrow job) s id page deed
 RowAt (at.PosterWalk job held) s id page deed = PosterRow (at.PosterWalk job held) s id page deed
 RowAt (at.PosterChild job parent) s id page deed = PosterRow (at.PosterChild job parent) s id page deed

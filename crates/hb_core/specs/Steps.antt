@@ -45,11 +45,6 @@ Works m actor outcome new =
     ⊎ (HasWayFree m actor × IsUnready m actor × GetsReady m actor outcome new)
     ⊎ (HasWayFree m actor × (¬ (IsUnready m actor)) × (DoesRow m actor outcome new ⊎ Abandons m actor outcome new ⊎ MeetsBadPage m actor outcome new))
 
--- An idle session takes its next line. For a search that takes memory.
-abbrev pub TakesNextLine : Machine → ℕ → Outcome → Machine → Type 0
-TakesNextLine m actor outcome new = MatchOption (next_line actor m.answered m.lines) (StaysSo m outcomes.Idle outcome new)
-    (λ line. Performs m m.store actor (taking line) outcome new ⊎ (WantsBoxes line.command × Performs m m.store actor (answers_now line.number replies.NoMemory) outcome new))
-
 -- An idle poster takes its oldest job.
 pub record TakesJob (m : Machine) (deed : Deed) : Type 0 where
   pub job : Job
@@ -82,9 +77,10 @@ AwaitsPlace m actor number reply place outcome new =
     ((place < settled_count m) × Performs m m.store actor (answers_now number reply) outcome new)
     ⊎ ((settled_count m ≤ place) × ForcesFirst m outcomes.Moved outcome new)
 
--- One step of an activity. The consolidator has no job before jobs to merge come, and the flusher no step before it takes any.
+-- One step of an activity. An idle session takes its next line; for a search that takes memory. The consolidator has no job before jobs to merge come, and the flusher no step before it takes any.
 abbrev pub StepsAs : Activity → Machine → ℕ → Outcome → Machine → Type 0
-StepsAs at.SessionIdle m actor outcome new = TakesNextLine m actor outcome new
+StepsAs at.SessionIdle m actor outcome new = MatchOption (next_line actor m.answered m.lines) (StaysSo m outcomes.Idle outcome new)
+    (λ line. Performs m m.store actor (taking line) outcome new ⊎ (WantsBoxes line.command × Performs m m.store actor (answers_now line.number replies.NoMemory) outcome new))
 StepsAs (at.SessionAwait number reply place) m actor outcome new = AwaitsPlace m actor number reply place outcome new
 StepsAs at.PosterIdle m actor outcome new = TakesPosting m actor outcome new
 StepsAs at.ConsolidatorIdle m actor outcome new = TakesJobToMerge m actor outcome new

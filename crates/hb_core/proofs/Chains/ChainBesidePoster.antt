@@ -28,9 +28,9 @@ use Rattle.hb_ops.specs.Standing.{StandsNot}
 use Rattle.hb_lemmas.specs.Numbers.{big_endian}
 use Rattle.hb_point.specs.SessionRows.{taking}
 use Rattle.hb_sound.proofs.ExampleParts.{held, in_order, interval, top, within}
-use Rattle.std.proofs.lemmas.List.Elements.{All-from_recursion as each_at}
 use Rattle.hb_space.specs.Boxes.{side_below, whole_area}
 use Rattle.hb_store.specs.Calls.{IsReady}
+use Rattle.std.proofs.lemmas.List.Elements.{All-from_recursion}
 use Rattle.hb_lemmas.proofs.Lists.{only_one}
 
 -- ---- the scenes, one after the other
@@ -119,8 +119,8 @@ lower_fits : FitsFile raised_meta lower_half
 lower_fits = record {
   fits = record { level = omega arith; attributes = refl };
   well_cut = tt;
-  filled = record { kinds = each_at (BelongsAt 0) (leaves lower_half.frag) (refl, tt); light = omega arith; own = λ none. none };
-  in_order = each_at IsInOrder (leaves_of lower_half.frag lower_half.area) (
+  filled = record { kinds = All-from_recursion (BelongsAt 0) (leaves lower_half.frag) (refl, tt); light = omega arith; own = λ none. none };
+  in_order = All-from_recursion IsInOrder (leaves_of lower_half.frag lower_half.area) (
     in_order lower_three (interval 0 39)
         (held 0 10 39 (omega arith) (omega arith), (held 0 20 39 (omega arith) (omega arith), (held 0 30 39 (omega arith) (omega arith), tt)))
         ((refl, (refl, tt)), ((refl, tt), (tt, tt))),
@@ -137,7 +137,7 @@ twenty_absent = record {
   records = lettered 10 97 ∷ lettered 30 99 ∷ [];
   area = _;
   leaf = refl;
-  lack = each_at (λ (r : Record). r.key ≢ 20 ∷ []) (lettered 10 97 ∷ lettered 30 99 ∷ []) (differ 10 20 (omega arith), (differ 30 20 (omega arith), tt));
+  lack = All-from_recursion (λ (r : Record). r.key ≢ 20 ∷ []) (lettered 10 97 ∷ lettered 30 99 ∷ []) (differ 10 20 (omega arith), (differ 30 20 (omega arith), tt));
 }
 
 -- ---- the rows

@@ -18,9 +18,9 @@ use Rattle.hb_frag.specs.Rules.{Precedes}
 use Rattle.hb_ops.specs.Standing.{StandsNot}
 use Rattle.hb_point.specs.SessionRows.{taking}
 use Rattle.hb_sound.proofs.ExampleParts.{rising}
-use Rattle.std.proofs.lemmas.List.Elements.{All-from_recursion as each_at}
 use Rattle.hb_space.specs.Boxes.{Area}
 use Rattle.hb_store.specs.Calls.{IsReady}
+use Rattle.std.proofs.lemmas.List.Elements.{All-from_recursion}
 
 -- ---- the scenes, one after the other
 
@@ -93,7 +93,7 @@ none_at_forty_five = record {
   records = upper_four;
   area = _;
   leaf = refl;
-  lack = each_at (λ (r : Record). r.key ≢ 45 ∷ []) upper_four (differ 40 45 (omega arith), (differ 50 45 (omega arith), (differ 60 45 (omega arith), (differ 70 45 (omega arith), tt))));
+  lack = All-from_recursion (λ (r : Record). r.key ≢ 45 ∷ []) upper_four (differ 40 45 (omega arith), (differ 50 45 (omega arith), (differ 60 45 (omega arith), (differ 70 45 (omega arith), tt))));
 }
 
 nothing_row : Row (standing second_taken.at_work 1) (wanted_in second_taken 1) (machine_of second_taken) finds_nothing

@@ -1,12 +1,10 @@
 -- A split that takes the number of a free page, and one for which none is left: each step of the chains.
-use Rattle.std.proofs.Common.{inl, inr, ℕ, List, [], ◌∷◌, Some, refl, ap, arith}
+use Rattle.std.proofs.Common.{inl, inr, ℕ, List, [], ◌∷◌, refl, ap, arith}
 use Rattle.hb_frag.specs.declared.pages.Page.{Page}
 use Rattle.hb_frag.specs.declared.pages.Page.TheVariants.{Free}
-use Rattle.hb_ops.specs.declared.operations.Op.TheVariants.{Put, Extract}
 use Rattle.hb_set.specs.declared.commands.Reply.TheVariants as replies
-use Rattle.hb_activity.specs.declared.activities.Activity.TheVariants.{SessionPut, SessionSplit}
 use Rattle.hb_core.specs.declared.outcomes.Outcome.TheVariants.{Moved}
-use Rattle.hb_activity.specs.Deeds.{Deed, answers_now, does, moves_to, takes_effect}
+use Rattle.hb_activity.specs.Deeds.{Deed, answers_now}
 use Rattle.hb_core.proofs.Chains.BuiltSteps.{MayCome, MayNeedIn, after, at_hand, bringing, forced_scene, forces, has_room, live_is, memory_is, none_waits, one_joins, performed, wanted_in, works, works_bringing, queued}
 use Rattle.hb_core.proofs.Chains.ChainOfTwoParts.{chosen_at_forty, cut_at_forty, full_fits, put_fits, seventy_absent, seventy_held, six}
 use Rattle.hb_core.specs.ChainOfFreePage.{FreePageIsTaken, NoPageIsFree, free_before, none_free_before, tight_meta}
@@ -21,14 +19,12 @@ use Rattle.hb_lemmas.specs.Numbers.{big_endian}
 use Rattle.hb_point.specs.SessionRows.{taking}
 use Rattle.hb_sound.proofs.ExampleParts.{cuts, top}
 use Rattle.hb_store.specs.Calls.{IsReady}
+use Rattle.hb_core.proofs.Chains.ChainOfTwo.{finds_no_room, puts, splits}
 
 -- ---- the scenes, one after the other
 
 abbrev is_taken : Scene
 is_taken = after 1 (taking inserts_seventy) [] free_before
-
-abbrev finds_no_room : Deed
-finds_no_room = moves_to (SessionSplit inserts_seventy 1) []
 
 abbrev to_split : Scene
 to_split = after 1 finds_no_room [] is_taken
@@ -40,14 +36,8 @@ page_2 = (2, Free 0) ∷ []
 abbrev with_free : Scene
 with_free = bringing page_2 to_split
 
-abbrev splits : Deed
-splits = does (SessionPut inserts_seventy 1 2) (Extract 1 2 [] (cut_at_forty ∷ []) 0) (posts_at 0 ∷ [])
-
 abbrev is_split : Scene
 is_split = after 1 splits (posts_at 0 ∷ []) with_free
-
-abbrev puts : Deed
-puts = takes_effect 0 inserts_seventy replies.Done (Some (Put 1 (lettered 70 103))) []
 
 abbrev is_put : Scene
 is_put = after 1 puts (posts_at 0 ∷ []) is_split
@@ -160,11 +150,8 @@ free_page_is_taken = (
 abbrev none_taken : Scene
 none_taken = after 1 (taking inserts_seventy) [] none_free_before
 
-abbrev finds_full : Deed
-finds_full = moves_to (SessionSplit inserts_seventy 1) []
-
 abbrev none_to_split : Scene
-none_to_split = after 1 finds_full [] none_taken
+none_to_split = after 1 finds_no_room [] none_taken
 
 abbrev gives_up : Deed
 gives_up = answers_now 1 replies.Full
@@ -172,7 +159,7 @@ gives_up = answers_now 1 replies.Full
 abbrev none_answered : Scene
 none_answered = after 1 gives_up [] none_to_split
 
-full_row : Row (standing none_taken.at_work 1) (wanted_in none_taken 1) (machine_of none_taken) finds_full
+full_row : Row (standing none_taken.at_work 1) (wanted_in none_taken 1) (machine_of none_taken) finds_no_room
 full_row = (full_page, at_hand none_taken (standing none_taken.at_work 1) _ full_page _ refl refl refl refl, inr (inr (inr (record { level = refl; absent = seventy_absent; full = omega arith; deed_is = refl }))))
 
 none_row : Row (standing none_to_split.at_work 1) (wanted_in none_to_split 1) (machine_of none_to_split) gives_up
@@ -190,7 +177,7 @@ no_page_is_free = (
   inl (performed none_free_before 1 (taking inserts_seventy) [] (queued refl refl) tt),
   (
     machine_of none_to_split,
-    works none_taken 1 finds_full [] refl (has_room none_taken 1 ready_full) full_row (queued refl refl) tt,
+    works none_taken 1 finds_no_room [] refl (has_room none_taken 1 ready_full) full_row (queued refl refl) tt,
     (
       machine_of none_answered,
       works none_to_split 1 gives_up [] tt (has_room none_to_split 1 ready_none) none_row (queued refl refl) tt,

@@ -19,18 +19,18 @@ use Rattle.hb_ops.specs.Sound.{FitsFile}
 use Rattle.hb_lemmas.specs.Numbers.{big_endian}
 use Rattle.hb_point.specs.SessionRows.{taking}
 use Rattle.hb_sound.proofs.ExampleParts.{in_order}
-use Rattle.std.proofs.lemmas.List.Elements.{All-from_recursion as each_at}
 use Rattle.hb_space.specs.Boxes.{whole_area}
 use Rattle.hb_space.specs.Points.{IsPoint}
 use Rattle.hb_store.specs.Calls.{IsReady}
+use Rattle.std.proofs.lemmas.List.Elements.{All-from_recursion}
 
 -- the empty page is well made
 empty_fits : FitsFile flat_meta (page_of_records [])
 empty_fits = record {
   fits = record { level = omega arith; attributes = refl };
   well_cut = tt;
-  filled = record { kinds = each_at (BelongsAt 0) (leaves (page_of_records []).frag) (refl, tt); light = omega arith; own = λ none. none };
-  in_order = each_at IsInOrder (leaves_of (page_of_records []).frag (page_of_records []).area) (in_order [] _ tt tt, tt);
+  filled = record { kinds = All-from_recursion (BelongsAt 0) (leaves (page_of_records []).frag) (refl, tt); light = omega arith; own = λ none. none };
+  in_order = All-from_recursion IsInOrder (leaves_of (page_of_records []).frag (page_of_records []).area) (in_order [] _ tt tt, tt);
   normal = tt;
 }
 
@@ -45,7 +45,7 @@ abbrev with_page : Scene
 with_page = bringing page_1 taken
 
 two_fits : (v w : ℕ) → v < 2 ^ 64 → w < 2 ^ 64 → IsPoint (v ∷ w ∷ [])
-two_fits v w first second = record { some = omega arith; few = omega arith; fits = each_at (λ (x : ℕ). x < 2 ^ 64) (v ∷ w ∷ []) (first, (second, tt)) }
+two_fits v w first second = record { some = omega arith; few = omega arith; fits = All-from_recursion (λ (x : ℕ). x < 2 ^ 64) (v ∷ w ∷ []) (first, (second, tt)) }
 
 whole_ordered : (i : ℕ) → i < 2 → slice_index (whole_area 2).lo i ≤ slice_index (whole_area 2).hi i
 whole_ordered zero less = omega arith
@@ -58,7 +58,7 @@ page_spelled = record {
   fits = (
     omega arith,
     record { lo_point = two_fits 0 0 (omega arith) (omega arith); hi_point = two_fits (2 ^ 64 - 1) (2 ^ 64 - 1) (omega arith) (omega arith); same = refl; ordered = whole_ordered },
-    (omega arith, each_at (FitsRecord 2) [] tt),
+    (omega arith, All-from_recursion (FitsRecord 2) [] tt),
   );
   short = omega arith;
 }
@@ -82,14 +82,14 @@ ready : IsReady (store_of taken)
 ready = (omega arith, omega arith)
 
 put_fits : FitsPut flat_meta (page_of_records []) letter_a
-put_fits = record { made = empty_fits; level = refl; absent = record { records = []; area = _; leaf = refl; keeps = each_at (λ (r : Record). r.key ≢ letter_a.key) [] tt }; room = omega arith }
+put_fits = record { made = empty_fits; level = refl; absent = record { records = []; area = _; leaf = refl; keeps = All-from_recursion (λ (r : Record). r.key ≢ letter_a.key) [] tt }; room = omega arith }
 
 put_row : Row (standing taken.at_work 1) (wanted_in taken 1) (machine_of with_page) puts
 put_row = (
   page_of_records [],
   at_hand with_page (standing taken.at_work 1) _ (page_of_records []) _ refl refl refl refl,
   inr (inr (inl (record {
-    absent = record { records = []; area = _; leaf = refl; lack = each_at (λ (r : Record). r.key ≢ letter_a.key) [] tt };
+    absent = record { records = []; area = _; leaf = refl; lack = All-from_recursion (λ (r : Record). r.key ≢ letter_a.key) [] tt };
     room = omega arith;
     deed_is = refl;
   }))),

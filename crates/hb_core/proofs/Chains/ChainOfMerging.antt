@@ -20,7 +20,7 @@ use Rattle.hb_core.specs.Scenes.{Scene, machine_of, standing}
 use Rattle.hb_core.specs.Steps.{TakesMerging}
 use Rattle.hb_core.proofs.Chains.BuiltSteps.{after, at_hand, live_is, only_looks, performed, queued, wanted_in, works}
 use Rattle.hb_sound.proofs.ExampleParts.{interval, top, within}
-use Rattle.std.proofs.lemmas.List.Elements.{All-from_recursion as each_at}
+use Rattle.std.proofs.lemmas.List.Elements.{All-from_recursion}
 
 abbrev job : Job
 job = merges_at 45
@@ -79,7 +79,7 @@ to_decide = after 18 keeps [] is_promoted
 -- ---- the rows
 
 leaves_first : LeavesFirst Merge (job ∷ []) job []
-leaves_first = record { front = []; behind = []; whole = refl; of_kind = refl; first = each_at (λ (other : Job). other.kind ≢ Merge) [] tt; rest = refl }
+leaves_first = record { front = []; behind = []; whole = refl; of_kind = refl; first = All-from_recursion (λ (other : Job). other.kind ≢ Merge) [] tt; rest = refl }
 
 it_leaves : ChangesQueue takes (job ∷ []) []
 it_leaves = record { left = []; takes = leaves_first; adds = refl }
@@ -104,7 +104,7 @@ module _ (records : List Record) where
 
 -- the parent has all of page 2's box
 all_covered : (records : List Record) → DirectlyCovers two_children (going_page records).area
-all_covered records = record { inside = within 40 59 0 top (omega arith) (omega arith); not_given = each_at (λ s. ¬ (Meets s.1 (interval 40 59))) (siblings_of two_children) tt }
+all_covered records = record { inside = within 40 59 0 top (omega arith) (omega arith); not_given = All-from_recursion (λ s. ¬ (Meets s.1 (interval 40 59))) (siblings_of two_children) tt }
 
 too_heavy : IsMergePlan two_children keeping_page 2 (going_page three_to_go) 6 plans.TooHeavy
 too_heavy = record { given = refl; whole = all_covered three_to_go; heavy = omega arith }
@@ -167,7 +167,7 @@ merge_is_given_up = (
         (
           machine_of is_ended,
           works at_second 18 ends_merging [] refl (only_looks at_second 18 refl) end_row (queued refl refl) tt,
-          (machine_of is_ended, inl (each_at (λ (one : Job). one.kind ≢ Merge) [] tt, (refl, refl)), refl),
+          (machine_of is_ended, inl (All-from_recursion (λ (one : Job). one.kind ≢ Merge) [] tt, (refl, refl)), refl),
         ),
       ),
     ),

@@ -27,10 +27,10 @@ use Rattle.hb_ops.specs.Sound.{FitsFile}
 use Rattle.hb_lemmas.specs.Numbers.{big_endian}
 use Rattle.hb_poster.specs.PosterRows.{ends_job}
 use Rattle.hb_sound.proofs.ExampleParts.{interval, no_records, top, within}
-use Rattle.std.proofs.lemmas.List.Elements.{All-from_recursion as each_at}
 use Rattle.hb_space.specs.Boxes.{Meets, side_below, whole_area}
 use Rattle.hb_store.specs.Calls.{IsReady}
 use Rattle.hb_terms.specs.Plans.{IsPlan}
+use Rattle.std.proofs.lemmas.List.Elements.{All-from_recursion}
 
 abbrev pub job : Job
 job = posts_at 10
@@ -97,8 +97,8 @@ pub bare_fits : FitsFile raised_meta bare_root
 bare_fits = record {
   fits = record { level = omega arith; attributes = refl };
   well_cut = tt;
-  filled = record { kinds = each_at (BelongsAt 1) (leaves bare_root.frag) (omega arith, tt); light = omega arith; own = λ none. none };
-  in_order = each_at IsInOrder (leaves_of bare_root.frag bare_root.area) (no_records 1 _, tt);
+  filled = record { kinds = All-from_recursion (BelongsAt 1) (leaves bare_root.frag) (omega arith, tt); light = omega arith; own = λ none. none };
+  in_order = All-from_recursion IsInOrder (leaves_of bare_root.frag bare_root.area) (no_records 1 _, tt);
   normal = tt;
 }
 
@@ -115,7 +115,7 @@ post_fits = record { made = bare_fits; above = omega arith; outer = 1; box = who
 -- ---- the rows
 
 pub leaves_first : LeavesFirst Post (job ∷ []) job []
-leaves_first = record { front = []; behind = []; whole = refl; of_kind = refl; first = each_at (λ (other : Job). other.kind ≢ Post) [] tt; rest = refl }
+leaves_first = record { front = []; behind = []; whole = refl; of_kind = refl; first = All-from_recursion (λ (other : Job). other.kind ≢ Post) [] tt; rest = refl }
 
 pub it_leaves : (next : Activity) → ChangesQueue (takes next) (job ∷ []) []
 it_leaves next = record { left = []; takes = leaves_first; adds = refl }
@@ -229,7 +229,7 @@ one_posting = (
                   (
                     machine_of is_ended,
                     works at_last 17 ends [] refl (only_looks at_last 17 refl) end_row (queued refl refl) tt,
-                    (machine_of is_ended, inl (each_at (λ (one : Job). one.kind ≢ Post) [] tt, (refl, refl)), refl),
+                    (machine_of is_ended, inl (All-from_recursion (λ (one : Job). one.kind ≢ Post) [] tt, (refl, refl)), refl),
                   ),
                 ),
               ),

@@ -14,8 +14,8 @@ use Rattle.hb_core.proofs.Chains.BuiltSteps.{after, only_looks, queued}
 use Rattle.hb_core.proofs.Chains.ChainOfPosting.{it_leaves, job, takes}
 use Rattle.hb_core.proofs.Chains.UntoldSteps.{performed_untold, reads_not}
 use Rattle.hb_point.specs.SessionRows.{taking}
-use Rattle.std.proofs.lemmas.List.Elements.{All-from_recursion as each_at}
 use Rattle.hb_store.specs.Stops.{IsNoPage}
+use Rattle.std.proofs.lemmas.List.Elements.{All-from_recursion}
 
 abbrev line_taken : Scene
 line_taken = after 1 (taking seeks_twenty) (job ∷ []) unread_before
@@ -53,7 +53,7 @@ root_is_not_read = (
         (
           untold_scene both_given_up,
           (refl, refl),
-          (untold_scene both_given_up, inl (each_at (λ (one : Job). one.kind ≢ Post) [] tt, (refl, refl)), refl),
+          (untold_scene both_given_up, inl (All-from_recursion (λ (one : Job). one.kind ≢ Post) [] tt, (refl, refl)), refl),
         ),
       ),
     ),

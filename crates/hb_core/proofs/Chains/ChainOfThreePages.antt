@@ -28,8 +28,8 @@ use Rattle.hb_core.proofs.Chains.BuiltSteps.{after, at_hand, forced_scene, force
 use Rattle.hb_core.proofs.Chains.ChainOfTwoParts.{differ}
 use Rattle.hb_point.specs.SessionRows.{taking}
 use Rattle.hb_sound.proofs.ExampleParts.{each_has, held, in_order, interval, top}
-use Rattle.std.proofs.lemmas.List.Elements.{All-from_recursion as each_at}
 use Rattle.hb_store.specs.Calls.{IsReady}
+use Rattle.std.proofs.lemmas.List.Elements.{All-from_recursion}
 
 abbrev all_jobs : List Job
 all_jobs = postings_owed ++ posts_at 120 ∷ []
@@ -96,8 +96,8 @@ five_fit : FitsFile (tight_meta 3 3 0) (high_page five_high)
 five_fit = record {
   fits = record { level = omega arith; attributes = refl };
   well_cut = tt;
-  filled = record { kinds = each_at (BelongsAt 0) (leaves (high_page five_high).frag) (refl, tt); light = omega arith; own = λ none. none };
-  in_order = each_at IsInOrder (leaves_of (high_page five_high).frag (high_page five_high).area) (
+  filled = record { kinds = All-from_recursion (BelongsAt 0) (leaves (high_page five_high).frag) (refl, tt); light = omega arith; own = λ none. none };
+  in_order = All-from_recursion IsInOrder (leaves_of (high_page five_high).frag (high_page five_high).area) (
     in_order five_high (interval 60 top) (
       held 60 60 top (omega arith) (omega arith),
       (
@@ -115,8 +115,8 @@ full_fit : FitsFile (tight_meta 3 3 0) (high_page full_high)
 full_fit = record {
   fits = record { level = omega arith; attributes = refl };
   well_cut = tt;
-  filled = record { kinds = each_at (BelongsAt 0) (leaves (high_page full_high).frag) (refl, tt); light = omega arith; own = λ none. none };
-  in_order = each_at IsInOrder (leaves_of (high_page full_high).frag (high_page full_high).area) (
+  filled = record { kinds = All-from_recursion (BelongsAt 0) (leaves (high_page full_high).frag) (refl, tt); light = omega arith; own = λ none. none };
+  in_order = All-from_recursion IsInOrder (leaves_of (high_page full_high).frag (high_page full_high).area) (
     in_order full_high (interval 60 top) (
       held 60 60 top (omega arith) (omega arith),
       (
@@ -142,18 +142,18 @@ full_lacks = record {
   records = full_high;
   area = _;
   leaf = refl;
-  lack = each_at (λ (r : Record). r.key ≢ 120 ∷ []) full_high
+  lack = All-from_recursion (λ (r : Record). r.key ≢ 120 ∷ []) full_high
       (differ 60 120 (omega arith), (differ 70 120 (omega arith), (differ 80 120 (omega arith), (differ 90 120 (omega arith), (differ 100 120 (omega arith), (differ 110 120 (omega arith), tt))))));
 }
 
 five_lack : StandsNot (high_page five_high) (120 ∷ [])
-five_lack = record { records = five_high; area = _; leaf = refl; lack = each_at (λ (r : Record). r.key ≢ 120 ∷ []) five_high not_in_five }
+five_lack = record { records = five_high; area = _; leaf = refl; lack = All-from_recursion (λ (r : Record). r.key ≢ 120 ∷ []) five_high not_in_five }
 
 del_fits : FitsDel (tight_meta 3 3 0) (high_page full_high) (110 ∷ [])
 del_fits = record { made = full_fit; level = refl; there = record { records = full_high; area = _; leaf = refl; keeps = (5, valued 110, omega arith, refl, refl) } }
 
 put_fits : FitsPut (tight_meta 3 3 0) (high_page five_high) (valued 120)
-put_fits = record { made = five_fit; level = refl; absent = record { records = five_high; area = _; leaf = refl; keeps = each_at (λ (r : Record). r.key ≢ 120 ∷ []) five_high not_in_five }; room = omega arith }
+put_fits = record { made = five_fit; level = refl; absent = record { records = five_high; area = _; leaf = refl; keeps = All-from_recursion (λ (r : Record). r.key ≢ 120 ∷ []) five_high not_in_five }; room = omega arith }
 
 -- ---- the rows
 

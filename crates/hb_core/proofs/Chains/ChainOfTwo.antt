@@ -27,19 +27,19 @@ first_taken = after 1 (taking inserts_seventy) [] two_before
 abbrev both_taken : Scene
 both_taken = after 2 (taking looks_twenty_up) [] first_taken
 
-abbrev finds_no_room : Deed
+abbrev pub finds_no_room : Deed
 finds_no_room = moves_to (SessionSplit inserts_seventy 1) []
 
 abbrev to_split : Scene
 to_split = after 1 finds_no_room [] both_taken
 
-abbrev splits : Deed
+abbrev pub splits : Deed
 splits = does (SessionPut inserts_seventy 1 2) (Extract 1 2 [] (cut_at_forty ∷ []) 0) (posts_at 0 ∷ [])
 
 abbrev is_split : Scene
 is_split = after 1 splits (posts_at 0 ∷ []) to_split
 
-abbrev puts : Deed
+abbrev pub puts : Deed
 puts = takes_effect 0 inserts_seventy replies.Done (Some (Put 1 (lettered 70 103))) []
 
 abbrev is_put : Scene

@@ -12,9 +12,9 @@ use Rattle.hb_ops.specs.Recording.{FitsPut}
 use Rattle.hb_ops.specs.Sound.{FitsFile}
 use Rattle.hb_ops.specs.Standing.{StandsNot, StandsThere}
 use Rattle.hb_sound.proofs.ExampleParts.{above_all, cuts, held, in_order, interval, none_given, top}
-use Rattle.std.proofs.lemmas.List.Elements.{All-from_recursion as each_at}
 use Rattle.hb_space.specs.Boxes.{Area, Holds}
 use Rattle.hb_split.specs.Choosing.{IsBest, IsChosen, MayCut, NotBehind, heavier_count}
+use Rattle.std.proofs.lemmas.List.Elements.{All-from_recursion}
 
 abbrev pub six : List Record
 six = lower_three ++ upper_three
@@ -27,8 +27,8 @@ pub full_fits : FitsFile (line_meta 1) full_page
 full_fits = record {
   fits = record { level = omega arith; attributes = refl };
   well_cut = tt;
-  filled = record { kinds = each_at (BelongsAt 0) (leaves full_page.frag) (refl, tt); light = omega arith; own = λ none. none };
-  in_order = each_at IsInOrder (leaves_of full_page.frag full_page.area) (
+  filled = record { kinds = All-from_recursion (BelongsAt 0) (leaves full_page.frag) (refl, tt); light = omega arith; own = λ none. none };
+  in_order = All-from_recursion IsInOrder (leaves_of full_page.frag full_page.area) (
     in_order six (interval 0 top) (
       held 0 10 top (omega arith) (omega arith),
       (
@@ -49,8 +49,8 @@ upper_fits : FitsFile (line_meta 2) (upper_half upper_three)
 upper_fits = record {
   fits = record { level = omega arith; attributes = refl };
   well_cut = (cuts 0 top 40 (omega arith) (omega arith), tt, tt);
-  filled = record { kinds = each_at (BelongsAt 0) (leaves (upper_half upper_three).frag) (tt, (refl, tt)); light = omega arith; own = λ none. none };
-  in_order = each_at IsInOrder (leaves_of (upper_half upper_three).frag (upper_half upper_three).area) (
+  filled = record { kinds = All-from_recursion (BelongsAt 0) (leaves (upper_half upper_three).frag) (tt, (refl, tt)); light = omega arith; own = λ none. none };
+  in_order = All-from_recursion IsInOrder (leaves_of (upper_half upper_three).frag (upper_half upper_three).area) (
     none_given 2 _,
     (
       in_order upper_three (interval 40 top)
@@ -120,7 +120,7 @@ seventy_absent = record {
   records = six;
   area = _;
   leaf = refl;
-  lack = each_at (λ (r : Record). r.key ≢ 70 ∷ []) six
+  lack = All-from_recursion (λ (r : Record). r.key ≢ 70 ∷ []) six
       (differ 10 70 (omega arith), (differ 20 70 (omega arith), (differ 30 70 (omega arith), (differ 40 70 (omega arith), (differ 50 70 (omega arith), (differ 60 70 (omega arith), tt))))));
 }
 
@@ -132,7 +132,7 @@ put_fits = record {
     records = upper_three;
     area = _;
     leaf = refl;
-    keeps = each_at (λ (r : Record). r.key ≢ 70 ∷ []) upper_three (differ 40 70 (omega arith), (differ 50 70 (omega arith), (differ 60 70 (omega arith), tt)));
+    keeps = All-from_recursion (λ (r : Record). r.key ≢ 70 ∷ []) upper_three (differ 40 70 (omega arith), (differ 50 70 (omega arith), (differ 60 70 (omega arith), tt)));
   };
   room = omega arith;
 }
@@ -140,7 +140,7 @@ put_fits = record {
 pub seventy_held : DirectlyHolds (upper_half upper_three) (70 ∷ [])
 seventy_held = record {
   inside = held 0 70 top (omega arith) (omega arith);
-  not_given = each_at (λ (x : ℕ × Area). ¬ (Holds x.1 (70 ∷ []))) (siblings_of (upper_half upper_three)) (above_all 0 70 39 (omega arith), tt);
+  not_given = All-from_recursion (λ (x : ℕ × Area). ¬ (Holds x.1 (70 ∷ []))) (siblings_of (upper_half upper_three)) (above_all 0 70 39 (omega arith), tt);
 }
 
 pub twenty_there : StandsThere lower_half (20 ∷ []) (lettered 20 98)

@@ -22,6 +22,7 @@ use Rattle.hb_latch.specs.Modes.{goes_beside}
 use Rattle.hb_latch.specs.Tables.{IsGrantable, IsLeastInTheWay, latch_cmp, mode_at}
 use Rattle.hb_store.specs.Marks.{has_page, is_among}
 use Rattle.hb_store.specs.Replay.{set_pages}
+use Rattle.hb_core.proofs.Orders.NextLines.{or_assoc}
 
 -- ---- by numbers
 
@@ -156,10 +157,6 @@ set_has ks q = set.contains-from_list nat_cmp_total ks q ∙ any_among ks q
 or_same : (b c : Bool) → (b ≡ true → c ≡ true) → c ≡ (b || c)
 or_same true c so = so refl
 or_same false c so = refl
-
-or_assoc : (a b c : Bool) → (a || (b || c)) ≡ ((a || b) || c)
-or_assoc true b c = refl
-or_assoc false b c = refl
 
 among_added : (q n : ℕ) (ns : List ℕ) → is_among q (add_number n ns) ≡ ((q == n) || is_among q ns)
 among_added q n ns = elim (cases_Bool (is_among n ns)) [

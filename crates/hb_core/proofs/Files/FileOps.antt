@@ -30,6 +30,7 @@ use Rattle.hb_store.specs.NextPage.{IsNext}
 use Rattle.hb_store.specs.Replay.{set_pages}
 use Rattle.hb_store.specs.States.{StoreState, in_memory}
 use Rattle.hb_terms.proofs.Facts.Owing.{planned_may_be, way_ends_there}
+use Rattle.hb_lemmas.proofs.Options.{some_value}
 
 -- What a store has of a sound file: its words about itself, and its pages in frames.
 pub record ShowsFile (st : StoreState) (s : FileState) : Type 0 where
@@ -44,18 +45,6 @@ set_both (one ∷ rest) f g h q page e =
     set_both rest (λ r. cond (r == one.0) (Some one.1) (f r)) (λ r. cond (r == one.0) (Some one.1) (g r))
     (λ r page. elim (r == one.0) as (λ b. cond b (Some one.1) (f r) ≡ Some page → cond b (Some one.1) (g r) ≡ Some page) [ true ↦ λ e. e | false ↦ h r page ]) q page e
 
-same_change : (op : Op) (m n : Meta) (a a' b b' c c' : Option LivePage) → m ≡ n → a ≡ a' → b ≡ b' → c ≡ c' → change_of op m a b c ≡ change_of op n a' b' c'
-same_change op m n a a' b b' c c' em ea eb ec =
-    ap (λ (x : Meta). change_of op x a b c) em ∙ ap (λ (x : Option LivePage). change_of op n x b c) ea
-    ∙ ap (λ (x : Option LivePage). change_of op n a' x c) eb ∙ ap (λ (x : Option LivePage). change_of op n a' b' x) ec
-
-same_allowed : (op : Op) (m n : Meta) (a a' b b' c c' : Option LivePage) → m ≡ n → a ≡ a' → b ≡ b' → c ≡ c' → IsAllowedOn op m a b c → IsAllowedOn op n a' b' c'
-same_allowed op m n a a' b b' c c' em ea eb ec h =
-    subst (λ (x : Option LivePage). IsAllowedOn op n a' b' x) ec
-    (subst (λ (x : Option LivePage). IsAllowedOn op n a' x c) eb
-    (subst (λ (x : Option LivePage). IsAllowedOn op n x b c) ea
-    (subst (λ (x : Meta). IsAllowedOn op x a b c) em h)))
-
 module _ (st : StoreState) (s : FileState) (keeps : KeepsPages st) (file : ShowsFile st s) (op : Op) (allowed : IsAllowedHere st op) where
   none_at_zero : (o : Option Page) → ((page : Page) → o ≡ Some page → 1 ≤ 0) → o ≡ None
   none_at_zero None h = refl
@@ -64,27 +53,28 @@ module _ (st : StoreState) (s : FileState) (keeps : KeepsPages st) (file : Shows
   no_frame : (in_memory st) 0 ≡ None
   no_frame = none_at_zero (in_memory st 0) (λ page e. (keeps.framed 0 page e).0)
 
-  in_file_at : (q : ℕ) (o : Option Page) → IsSome o → ((page : Page) → o ≡ Some page → page_of s q ≡ Some page) → o ≡ page_of s q
-  in_file_at q None h shown = cc h
-  in_file_at q (Some page) h shown = sym (shown page refl)
-
   -- what the operation reads in memory is what it reads in the file
   read_file : (place : ℕ) → read_here st op place ≡ nth_read s op place
   read_file place = elim (cases_lt place (length (reads_of op))) [
     | inl lt ↦
         let there = reads_some op st.meta (in_memory st) (read_here st op 1) (read_here st op 2) allowed place 0 lt in
         let q = get_or (reads_of op) place 0 in
-        ap if_live (in_file_at q (in_memory st q) there (file.shown q))
+        let found = some_value (in_memory st q) there in
+        ap if_live (found.1 ∙ sym (file.shown q found.0 found.1))
     | inr le ↦
         let past : get_or (reads_of op) place 0 ≡ 0 = get_or_past (reads_of op) place 0 le in
         subst (λ (n : ℕ). if_live (in_memory st n) ≡ if_live (page_of s n)) (sym past) (ap if_live no_frame ∙ ap if_live (sym (page_at-zero s.pages)))
   ]
 
   pub allowed_in_file : IsAllowed s op
-  allowed_in_file = same_allowed op st.meta s.meta _ _ _ _ _ _ (sym file.meta) (read_file 0) (read_file 1) (read_file 2) allowed
+  allowed_in_file =
+      subst (λ (x : Option LivePage). IsAllowedOn op s.meta (nth_read s op 0) (nth_read s op 1) x) (read_file 2)
+      (subst (λ (x : Option LivePage). IsAllowedOn op s.meta (nth_read s op 0) x (read_here st op 2)) (read_file 1)
+      (subst (λ (x : Option LivePage). IsAllowedOn op s.meta x (read_here st op 1) (read_here st op 2)) (read_file 0)
+      (subst (λ (x : Meta). IsAllowedOn op x (read_here st op 0) (read_here st op 1) (read_here st op 2)) (sym file.meta) allowed)))
 
   change_in_file : change_here st op ≡ change_of op s.meta (nth_read s op 0) (nth_read s op 1) (nth_read s op 2)
-  change_in_file = same_change op st.meta s.meta _ _ _ _ _ _ (sym file.meta) (read_file 0) (read_file 1) (read_file 2)
+  change_in_file = λ i. change_of op (sym file.meta i) (read_file 0 i) (read_file 1 i) (read_file 2 i)
 
   module _ (well : IsGoodChange st.meta (change_here st op)) where
     reach : All (Reaches (length s.pages)) (change_here st op).pages

@@ -13,7 +13,6 @@ use Rattle.hb_layout.specs.declared.meta.Meta.{Meta}
 use Rattle.hb_ops.specs.declared.leaf_cuts.LeafCut.{LeafCut}
 use Rattle.hb_ops.specs.declared.operations.Op.{Op}
 use Rattle.hb_ops.specs.declared.operations.Op.TheVariants as ops
-use Rattle.hb_core.proofs.Latches.Backing.{live_there}
 use Rattle.hb_core.specs.AllowedLaws.{IsLicensedHere}
 use Rattle.hb_frag.proofs.Facts.Tiles.{first_tells, found_where_held}
 use Rattle.hb_frag.specs.Leaves.{Placed, leaf_at, leaves, leaves_of}
@@ -24,13 +23,15 @@ use Rattle.hb_ops.specs.Operations.{IsAllowedOn}
 use Rattle.hb_space.specs.Boxes.{Area, IsArea, Holds, side_below, side_from}
 use Rattle.hb_space.specs.Points.{IsPoint}
 use Rattle.hb_store.proofs.Changed.{good_readable}
-use Rattle.hb_store.proofs.MadeLeaves.{AllFit, FitsIn, all_fit, back_all, front_all}
+use Rattle.hb_store.proofs.MadeLeaves.{AllFit, FitsIn, all_fit}
 use Rattle.hb_store.specs.Calls.{IsAllowedHere, read_here}
 use Rattle.hb_store.specs.Making.{HaveFittingParts, IsReadable}
 use Rattle.hb_store.specs.NextPage.{IsNext}
 use Rattle.hb_store.specs.Replaying.{HasLimits}
 use Rattle.hb_store.specs.States.{AreGood, IsGoodPage, StoreState, in_memory}
 use Rattle.hb_terms.proofs.Facts.Owing.{planned_may_be}
+use Rattle.hb_ops.proofs.Facts.PageNumberLaws.{live_so}
+use Rattle.hb_lemmas.proofs.Lists.{All-front, All-behind}
 
 abbrev pub HeldArePoints : Type 0
 HeldArePoints = (a : Area) (p : List ℕ) → IsArea a → Holds a p → IsPoint p
@@ -40,8 +41,8 @@ placed_fit : (k : ℕ) (t : Tree) (area : Area) → AllFit k t → All (λ (l : 
 placed_fit k (Tip leaf) area fit = All-cons (λ (l : Placed). FitsIn k l.leaf) (record { leaf = leaf; area = area }) [] (All-head (FitsIn k) leaf [] fit) (All-nil (λ (l : Placed). FitsIn k l.leaf))
 placed_fit k (Cut axis value left right) area fit =
     All-append (λ (l : Placed). FitsIn k l.leaf) (leaves_of left (side_below area axis value)) (leaves_of right (side_from area axis value))
-    (placed_fit k left (side_below area axis value) (front_all (FitsIn k) (leaves left) (leaves right) fit))
-    (placed_fit k right (side_from area axis value) (back_all (FitsIn k) (leaves left) (leaves right) fit))
+    (placed_fit k left (side_below area axis value) (All-front (FitsIn k) (leaves left) (leaves right) fit))
+    (placed_fit k right (side_from area axis value) (All-behind (FitsIn k) (leaves left) (leaves right) fit))
 
 -- A page that is in memory and good, at a point that has a leaf there.
 module _ (points : HeldArePoints) (meta : Meta) (page : LivePage) (good : IsGoodPage meta (Live page)) (p : List ℕ) (l : Placed) (there : leaf_at page p ≡ Some l) where
@@ -72,7 +73,7 @@ module _ (points : HeldArePoints) (parts : HaveFittingParts) (st : StoreState) (
   page_fits id page there = number_fits id (let at = framed id page there in omega (arith, at.1, high))
 
   good_live : (id : ℕ) (page : LivePage) → if_live (in_memory st id) ≡ Some page → IsGoodPage st.meta (Live page)
-  good_live id page live = (framed id (Live page) (live_there (in_memory st id) page live)).2
+  good_live id page live = (framed id (Live page) (live_so (in_memory st id) page live)).2
 
   -- the number that is taken, and the free head after it
   record TakesNumber (fresh free_after : ℕ) : Type 0 where
@@ -95,7 +96,7 @@ module _ (points : HeldArePoints) (parts : HaveFittingParts) (st : StoreState) (
       let good = good_live id page is in
       let at = allowed.absent in
       let l : Placed = record { leaf = Records at.records; area = at.area } in (
-        page_fits id (Live page) (live_there (in_memory st id) page is),
+        page_fits id (Live page) (live_so (in_memory st id) page is),
         record {
           attributes = as_many points st.meta page good rec.key l at.leaf;
           values = (point_there points st.meta page good rec.key l at.leaf).fits;
@@ -109,7 +110,7 @@ module _ (points : HeldArePoints) (parts : HaveFittingParts) (st : StoreState) (
       let good = good_live id page is in
       let at = allowed.there in
       let l : Placed = record { leaf = Records at.records; area = at.area } in
-      (page_fits id (Live page) (live_there (in_memory st id) page is), as_many points st.meta page good p l at.leaf, (point_there points st.meta page good p l at.leaf).fits)
+      (page_fits id (Live page) (live_so (in_memory st id) page is), as_many points st.meta page good p l at.leaf, (point_there points st.meta page good p l at.leaf).fits)
 
   -- what a plan posts
   fits_post : (parent : ℕ) (at : List Side) (inner : ℕ) (area : Area) → IsLicensedHere st (ops.Post parent at inner area) → IsAllowedHere st (ops.Post parent at inner area) → FitsOp st.meta.k (ops.Post parent at inner area)
@@ -137,7 +138,7 @@ module _ (points : HeldArePoints) (parts : HaveFittingParts) (st : StoreState) (
       let number = takes_number fresh free_after next in
       let short = parts op st.meta (Some page) second third limits allowed (subst (λ (o : Option LivePage). IsReadable o) is (good_readable st.meta (in_memory st) framed source)) in
       record {
-        source_fits = page_fits source (Live page) (live_there (in_memory st source) page is);
+        source_fits = page_fits source (Live page) (live_so (in_memory st source) page is);
         fresh_fits = number.fresh_fits;
         free_fits = number.free_fits;
         steps = short.0;

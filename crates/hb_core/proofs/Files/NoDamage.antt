@@ -22,8 +22,7 @@ use Rattle.hb_activity.specs.Walks.{goal_of, job_mode, session_mode, walk_held}
 use Rattle.hb_activity.specs.Wanting.{child_of, in_mode, walk_next, wanted_of, wanted_page}
 use Rattle.hb_consol.specs.ConsolidatorRows.{names_child}
 use Rattle.hb_core.proofs.Files.AskedPages.{IsThere, begun_there, given_there, held_there, named_child_there, named_there, named_with_box, placed_sibling_there, root_there}
-use Rattle.hb_core.proofs.Latches.Backing.{live_there}
-use Rattle.hb_core.proofs.Memory.BroughtPages.{both_there, some_of_map, some_of_then}
+use Rattle.hb_core.proofs.Memory.BroughtPages.{both_there}
 use Rattle.hb_core.proofs.TwoSteps.OneOutcome.{outcome_is_one, state_is_one}
 use Rattle.hb_core.proofs.Files.SoundFiles.{FilesHold, brought_shown, current_sound, files_hold}
 use Rattle.hb_core.proofs.Table.StepKinds.{each_kind, FlushesMore, rest_kind}
@@ -46,6 +45,8 @@ use Rattle.hb_store.proofs.Counting.{page_in_range}
 use Rattle.hb_store.proofs.Heads.{sound_head, sound_room}
 use Rattle.hb_store.specs.States.{StoreState, in_memory}
 use Rattle.hb_store.specs.Stops.{IsNoPage}
+use Rattle.hb_ops.proofs.Facts.PageNumberLaws.{live_so}
+use Rattle.hb_lemmas.proofs.Options.{some_of_map, some_of_then}
 
 -- what a disk that tells reads is never damaged
 no_bad_read : (files : Files) (st : StoreState) (id : ℕ) (why : Why) → IsBadRead (Some files) st id why → ⊥
@@ -72,11 +73,6 @@ module _ (files : Files) (st : StoreState) (holds : FilesHold st files) where
         | inr above ↦ absurd (omega (arith, range.1, numbered, high, above))
       ]
 
-  live_in_file : (o : Option Page) (page : LivePage) → if_live o ≡ Some page → o ≡ Some (Live page)
-  live_in_file None page is = cc
-  live_in_file (Some (Live other)) page is = ap (λ (p : LivePage). Some (Live p)) (same_Some other page is)
-  live_in_file (Some (Free next)) page is = cc
-
   -- who asks for a page that is there isn't told that it is another one
   not_other : (wanted : Wanted) (asked : AskedBox) (page : LivePage) (why : Why) → page.level ≡ wanted.level → HasAskedBox asked page.area → IsNotAsked wanted asked (Live page) why → ⊥
   not_other wanted asked page (Rule rule) level box never = never
@@ -84,10 +80,10 @@ module _ (files : Files) (st : StoreState) (holds : FilesHold st files) where
   not_other wanted asked page (Extent area found) on box (level, other, a, b) = other box
 
   pub not_damaged : (wanted : Wanted) (asked : AskedBox) (why : Why) → IsThere (current_file files) wanted asked → IsDamaged (Some files) st wanted asked why → ⊥
-  not_damaged wanted asked why there (inl (lacks, is)) = no_lack wanted.page (Live there.page, live_in_file (page_of (current_file files) wanted.page) there.page there.live) lacks
+  not_damaged wanted asked why there (inl (lacks, is)) = no_lack wanted.page (Live there.page, live_so (page_of (current_file files) wanted.page) there.page there.live) lacks
   not_damaged wanted asked why there (inr (inl (some, bad))) = no_bad_read files st wanted.page why bad
   not_damaged wanted asked why there (inr (inr (some, page, read, other))) =
-      let same : page ≡ Live there.page = same_Some page (Live there.page) (sym (holds.shown wanted.page page read) ∙ live_in_file (page_of (current_file files) wanted.page) there.page there.live) in
+      let same : page ≡ Live there.page = same_Some page (Live there.page) (sym (holds.shown wanted.page page read) ∙ live_so (page_of (current_file files) wanted.page) there.page there.live) in
       not_other wanted asked there.page why there.level there.box (subst (λ (p : Page). IsNotAsked wanted asked p why) same other)
 
   -- the first page of the free chain is free, and where the chain has none there is a number left
@@ -130,7 +126,7 @@ module _ (m : Machine) (files : Files) (actor : ℕ) (may : MayLatch actor) (fit
   sound_now = current_sound m.store files (files_hold m files has)
 
   in_file : (id : ℕ) (page : LivePage) → live_here m.store id ≡ Some page → live_page (current_file files) id ≡ Some page
-  in_file id page live = ap if_live (has.shown id (Live page) (live_there (in_memory m.store id) page live))
+  in_file id page live = ap if_live (has.shown id (Live page) (live_so (in_memory m.store id) page live))
 
   -- the page into which the step looks is there as it was
   still_asked : (id : ℕ) (page : LivePage) → live_here m.store id ≡ Some page → (now : LivePage) × (live_here fetched id ≡ Some now) → live_here fetched id ≡ Some page
@@ -191,8 +187,6 @@ module _ (m : Machine) (files : Files) (actor : ℕ) (may : MayLatch actor) (fit
       (same_Some (wanted_page m.store.meta.root (m.store.meta.height - 1) Exclusive) wanted wants) (same_Some (record { area = whole_area fetched.meta.k; exact = true }) asked asks)
   there (at.PosterChild job parent) wanted asked is wants asks = let one = walks.parents actor job parent (inl is) in at_parent job parent wanted asked one.0 one.1 wants asks
   there (at.PosterAgain job parent) wanted asked is wants asks = let one = walks.parents actor job parent (inr (inr is)) in at_parent job parent wanted asked one.0 one.1 wants asks
-  there (at.PosterPromote job parent) wanted asked is wants asks = cc
-  there (at.ConsolidatorPromote job parent keep gone) wanted asked is wants asks = cc
   there (at.ConsolidatorScan job parent child) wanted asked is wants asks = by_child parent child Shared (live_here m.store parent) wanted asked refl wants asks
   there (at.ConsolidatorTry job parent keep gone leaf) wanted asked is wants asks =
       let one = (at_pair job parent keep gone (Some leaf) (ap merging_at is)).1 in
@@ -209,13 +203,7 @@ module _ (m : Machine) (files : Files) (actor : ℕ) (may : MayLatch actor) (fit
       given_there (current_file files) sound_now keep pair.page (in_file keep pair.page pair.live) gone (known.page.level - 1) Exclusive (live_here fetched keep) wanted asked
       (still_asked keep pair.page pair.live (asked_then _ _ (live_here fetched keep) asked asks)) (let level : pair.page.level ≡ kept.0.level = ap (λ (p : LivePage). p.level) (sym same) in omega (arith, level, kept.2))
       (same_Some (wanted_page gone (known.page.level - 1) Exclusive) wanted (sym (ap (λ (o : Option LivePage). option_map (λ (page : LivePage). wanted_page gone (page.level - 1) Exclusive) o) known.live) ∙ wants)) asks
-  there at.SessionIdle wanted asked is wants asks = cc
-  there (at.SessionSplit line held) wanted asked is wants asks = cc
-  there (at.SessionPut line source fresh) wanted asked is wants asks = cc
-  there (at.SessionAwait line reply place) wanted asked is wants asks = cc
-  there at.PosterIdle wanted asked is wants asks = cc
-  there at.ConsolidatorIdle wanted asked is wants asks = cc
-  there at.Flusher wanted asked is wants asks = cc
+  there activity wanted asked is wants asks = cc
 
 -- a step that takes a number for a page finds a page free
 has_room : (activity : Activity) (wanted : Option Wanted) (n : Machine) → NeedsNumber activity wanted n → n.store.meta.live < n.store.meta.pages
@@ -224,22 +212,7 @@ has_room (at.PosterGrow job) None n needs = absurd needs
 has_room (at.PosterGrow job) (Some wanted) n needs = needs.0
 has_room (at.PosterAgain job parent) None n needs = absurd needs
 has_room (at.PosterAgain job parent) (Some wanted) n needs = needs.0
-has_room at.SessionIdle wanted n needs = absurd needs
-has_room (at.SessionWalk line held rest found) wanted n needs = absurd needs
-has_room (at.SessionPut line source fresh) wanted n needs = absurd needs
-has_room (at.SessionAwait line reply place) wanted n needs = absurd needs
-has_room at.PosterIdle wanted n needs = absurd needs
-has_room (at.PosterWalk job held) wanted n needs = absurd needs
-has_room (at.PosterChild job parent) wanted n needs = absurd needs
-has_room (at.PosterPromote job parent) wanted n needs = absurd needs
-has_room at.ConsolidatorIdle wanted n needs = absurd needs
-has_room (at.ConsolidatorWalk job held) wanted n needs = absurd needs
-has_room (at.ConsolidatorScan job parent child) wanted n needs = absurd needs
-has_room (at.ConsolidatorTry job parent keep gone leaf) wanted n needs = absurd needs
-has_room (at.ConsolidatorPromote job parent keep gone) wanted n needs = absurd needs
-has_room (at.ConsolidatorKeep job parent keep gone) wanted n needs = absurd needs
-has_room (at.ConsolidatorDecide job parent keep gone) wanted n needs = absurd needs
-has_room at.Flusher wanted n needs = absurd needs
+has_room activity wanted n needs = absurd needs
 
 pub no_page_is_damaged : NoPageIsDamaged
 no_page_is_damaged m files actor outcome new may told fit has walks bad = by bad.bad
@@ -286,7 +259,7 @@ module _ (m : Machine) (files : Files) (actor : ℕ) (outcome : Outcome) (new : 
   works : Works m actor outcome new → IsUndamaged m → IsUndamaged new
   works (inl (by, way, so)) = stays (outcomes.Blocked by) so
   works (inr (inl (free, unready, inl (waits, force)))) = forces outcomes.Helped force
-  works (inr (inl (free, unready, inr (empty, rest)))) = rest_kind m outcomes.Helped outcome new _ (IsUndamaged m → IsUndamaged new) empty (λ at. refl) more (performed m.store _) rest
+  works (inr (inl (free, unready, inr (empty, rest)))) = rest_kind m outcomes.Helped outcome new _ (IsUndamaged m → IsUndamaged new) empty tt more (performed m.store _) rest
   works (inr (inr (free, ready, inl row))) = performed row.fetched row.deed row.performs
   works (inr (inr (free, ready, inr (inl gives)))) = performed gives.fetched _ gives.performs
   works (inr (inr (free, ready, inr (inr bad)))) = absurd (none bad)

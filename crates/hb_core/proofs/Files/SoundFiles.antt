@@ -14,7 +14,7 @@ use Rattle.hb_core.proofs.Files.FitOps.{HeldArePoints, fits_op}
 use Rattle.hb_core.proofs.Memory.KeptPages.{KeepsPages, brought, change_is_well, keeps_pages}
 use Rattle.hb_core.proofs.Walks.LaterPages.{last_sound}
 use Rattle.hb_core.proofs.Memory.OwnPages.{gives_up_nothing, runs_out_nothing}
-use Rattle.hb_core.proofs.Files.RowTells.{Tells, tells_row}
+use Rattle.hb_core.proofs.Files.RowTells.{Tells, tells_row, tells_none}
 use Rattle.hb_core.specs.AllowedLaws.{IsLicensedHere}
 use Rattle.hb_core.proofs.Table.StepKinds.{each_kind, rest_kind, FlushesMore}
 use Rattle.hb_core.specs.Acting.{MeetsBadPage}
@@ -164,9 +164,6 @@ module _ (makes : MakesGoodPages) (parts : HaveFittingParts) (points : HeldArePo
       performed : (fetched : StoreState) (deed : Deed) → KeepsPages fetched → FilesHold fetched files → Tells fetched deed.op → Performs m fetched actor deed outcome new → HoldAfter new
       performed fetched deed keeps holds tells performs = done deed.op _ fetched keeps holds tells performs.store performs.files
 
-      nothing_told : (fetched : StoreState) (op : Option Op) → op ≡ None → Tells fetched op
-      nothing_told fetched op none = subst (Tells fetched) (sym none) tt
-
       -- a force makes the first of the later files durable
       force_holds : (durable : FileState) (later : List FileState) (groups : List Waiting) → IsSound durable → All IsSound later → length later ≡ length groups
           → IsSound (durable_after durable later) × All IsSound (later_after later) × (length (later_after later) ≡ length (left_waiting groups)) × (last_of (durable_after durable later) (later_after later) ≡ last_of durable later)
@@ -224,12 +221,12 @@ module _ (makes : MakesGoodPages) (parts : HaveFittingParts) (points : HeldArePo
       worked (inl (by, way, so)) = stays (outcomes.Blocked by) so
       worked (inr (inl (free, unready, inl (waits, force)))) = forces outcomes.Helped force
       worked (inr (inl (free, unready, inr (none, rest)))) =
-          rest_kind m outcomes.Helped outcome new _ (HoldAfter new) none (λ at. refl) flushed_more (λ performs. performed m.store _ keeps holds (nothing_told m.store _ (runs_out_nothing (m.activity actor))) performs) rest
+          rest_kind m outcomes.Helped outcome new _ (HoldAfter new) none tt flushed_more (λ performs. performed m.store _ keeps holds (tells_none m.store _ (runs_out_nothing (m.activity actor))) performs) rest
       worked (inr (inr (free, ready, inl acts))) =
           performed acts.fetched acts.deed (brought m _ acts.fetched acts.brings keeps) (brought_shown m files _ acts.fetched told acts.brings holds)
           (tells_row m actor _ acts.fetched acts.brings (wanted_by m actor) acts.deed refl (fit.in_hand actor) acts.row) acts.performs
       worked (inr (inr (free, ready, inr (inl gives)))) =
-          performed gives.fetched _ (brought m _ gives.fetched gives.brings keeps) (brought_shown m files _ gives.fetched told gives.brings holds) (nothing_told gives.fetched _ (gives_up_nothing gives.why (m.activity actor))) gives.performs
+          performed gives.fetched _ (brought m _ gives.fetched gives.brings keeps) (brought_shown m files _ gives.fetched told gives.brings holds) (tells_none gives.fetched _ (gives_up_nothing gives.why (m.activity actor))) gives.performs
       worked (inr (inr (free, ready, inr (inr bad)))) = meets bad
 
     pub files_stay_sound : FilesStaySound
@@ -240,7 +237,7 @@ module _ (makes : MakesGoodPages) (parts : HaveFittingParts) (points : HeldArePo
         (λ said quiet so. stays m files actor outcome new told fit keeps holds said so)
         (λ said quiet force. forces m files actor outcome new told fit keeps holds said force)
         (flushed_more m files actor outcome new told fit keeps holds)
-        (λ deed rests performs. performed m files actor outcome new told fit keeps holds m.store deed keeps holds (nothing_told m files actor outcome new told fit keeps holds m.store deed.op rests.op) performs)
+        (λ deed rests performs. performed m files actor outcome new told fit keeps holds m.store deed keeps holds (tells_none m.store deed.op rests.op) performs)
         (worked m files actor outcome new told fit keeps holds)
         step in
         (after.0, after.1, has_sound_file new after.0 after.2)

@@ -1,22 +1,19 @@
 -- Where the latches of an activity come from: each was held before, or is the one that the step wanted, or is on a page that
 -- was in no use. And each is on a page in use.
 use Rattle.hb_core.proofs.Memory.CommitPages.{commit_pages}
-use Rattle.std.proofs.Common.{◌≡◌, ◌⊎◌, inl, inr, ℕ, ◌==◌, Bool, cond, List, [], ◌∷◌, length, Option, Some, None, IsSome, option_map, refl, sym, ap, ◌∙◌, subst}
-use Rattle.std.specs.Prelude.{MatchOption}
+use Rattle.std.proofs.Common.{◌≡◌, ◌⊎◌, inl, inr, ℕ, ◌==◌, Bool, cond, List, [], ◌∷◌, length, Option, Some, None, IsSome, refl, sym, ap, ◌∙◌, subst}
 use Rattle.std.proofs.lemmas.Bool.{cases_Bool, eq-eqb, eqb-true}
 use Rattle.hb_space.specs.declared.records.Record.{Record}
 use Rattle.hb_frag.specs.declared.pages.LivePage.{LivePage}
 use Rattle.hb_frag.specs.declared.pages.Page.{Page}
-use Rattle.hb_frag.specs.declared.pages.Page.TheVariants.{Live, Free}
+use Rattle.hb_frag.specs.declared.pages.Page.TheVariants.{Live}
 use Rattle.hb_ops.specs.declared.operations.Op.{Op}
 use Rattle.hb_ops.specs.declared.operations.Op.TheVariants as ops
 use Rattle.hb_set.specs.declared.commands.Command.{Command}
-use Rattle.hb_set.specs.declared.commands.Command.TheVariants.{Insert, Delete, Lookup, Search}
+use Rattle.hb_set.specs.declared.commands.Command.TheVariants.{Insert}
 use Rattle.hb_set.specs.declared.scripts.Line.{Line}
 use Rattle.hb_latch.specs.declared.modes.Mode.{Mode}
 use Rattle.hb_latch.specs.declared.modes.Mode.TheVariants.{Shared, Update, Exclusive}
-use Rattle.hb_terms.specs.declared.plans.PostPlan.{PostPlan}
-use Rattle.hb_terms.specs.declared.plans.PostPlan.TheVariants as plans
 use Rattle.hb_activity.specs.declared.holding.Latch.{Latch}
 use Rattle.hb_activity.specs.declared.jobs.Job.{Job}
 use Rattle.hb_activity.specs.declared.wanting.Wanted.{Wanted}
@@ -24,11 +21,11 @@ use Rattle.hb_activity.specs.declared.activities.Activity.{Activity}
 use Rattle.hb_activity.specs.declared.activities.Activity.TheVariants as at
 use Rattle.hb_activity.specs.Deeds.{Deed}
 use Rattle.hb_activity.specs.Holding.{latch_on, walk_latch}
-use Rattle.hb_activity.specs.Passing.{PassesOn}
 use Rattle.hb_activity.specs.Walks.{goal_of, job_mode, session_mode, walk_held}
-use Rattle.hb_activity.specs.Wanting.{walk_next, wanted_of, wanted_page}
+use Rattle.hb_activity.specs.Wanting.{walk_next, wanted_of}
 use Rattle.hb_core.proofs.Memory.NextNumbers.{is_next_number}
-use Rattle.hb_core.proofs.Memory.OwnedOps.{in_its_mode, made_was_free}
+use Rattle.hb_activity.proofs.Facts.HeldLatches.{in_its_mode}
+use Rattle.hb_core.proofs.Memory.OwnedOps.{made_was_free}
 use Rattle.hb_core.specs.Asking.{HasWayFree, looked_live, wanted_by}
 use Rattle.hb_core.specs.Fetching.{Brings}
 use Rattle.hb_core.specs.Keeps.{HoldsPagesOfFile, LatchesFit}
@@ -36,19 +33,20 @@ use Rattle.hb_core.specs.KeptMerges.{IsMerging}
 use Rattle.hb_core.specs.Laws.{IsInUse}
 use Rattle.hb_core.specs.Machines.{Machine, with_disk, sight}
 use Rattle.hb_core.specs.Performing.{DoesOp, MayDo, latches_held, mode_among}
-use Rattle.hb_core.specs.Rows.{DoesHere, Row, RowAlone, RowAt}
+use Rattle.hb_core.specs.Rows.{Row, RowAt}
 use Rattle.hb_frag.specs.Trees.{Tree}
 use Rattle.hb_latch.specs.Tables.{MayLatch, mode_at}
 use Rattle.hb_ops.specs.Extracting.{fresh_page, source_page, split_pages}
 use Rattle.hb_ops.specs.Files.{if_live}
 use Rattle.hb_ops.specs.Operations.{change_of}
 use Rattle.hb_point.specs.SplitRows.{Splits}
-use Rattle.hb_poster.specs.PosterRows.{DoesPlan, after_look}
-use Rattle.hb_search.specs.SearchRows.{SearchGoesOn}
 use Rattle.hb_space.specs.Boxes.{Area}
 use Rattle.hb_store.specs.Calls.{change_here, read_here}
 use Rattle.hb_store.specs.Replay.{set_pages}
 use Rattle.hb_store.specs.States.{StoreState, in_memory}
+use Rattle.hb_core.proofs.Table.MergerMoves.{of_page}
+use Rattle.hb_core.proofs.Table.EachRow.{each_row}
+use Rattle.hb_ops.proofs.Facts.PageNumberLaws.{live_so}
 
 -- the latch that a step wants, with nobody in the way
 pub record IsWantedFreely (m : Machine) (actor page : ℕ) (mode : Mode) : Type 0 where
@@ -93,11 +91,6 @@ two_backed m actor st first second a b page asked is = elim (cases_Bool (first =
       subst (λ (n : ℕ). IsBacked m actor st n asked) (eqb-true first page here) (subst (IsBacked m actor st first) mode_same a)
   | inr off ↦ one_backed m actor st second Exclusive b page asked (sym (ap (λ (c : Bool). cond c (Some Exclusive) (mode_among page (latch_on second Exclusive ∷ []))) off) ∙ is)
 ]
-
-pub live_there : (o : Option Page) (page : LivePage) → if_live o ≡ Some page → o ≡ Some (Live page)
-live_there None page is = cc
-live_there (Some (Live q)) page is = cc
-live_there (Some (Free next)) page is = cc
 
 pub walk_backed : (m : Machine) (actor : ℕ) (st : StoreState) (id : ℕ) (page : LivePage) (mode : ℕ → Mode) → if_live (in_memory st id) ≡ Some page → IsBacked m actor st id (mode page.level) → AreBacked m actor st (walk_latch (Some id) (if_live (in_memory st id)) mode)
 walk_backed m actor st id page mode live backed = subst (λ (o : Option LivePage). AreBacked m actor st (walk_latch (Some id) o mode)) (sym live) (one_backed m actor st id (mode page.level) backed)
@@ -169,7 +162,7 @@ module _ (m : Machine) (actor : ℕ) (may : ℕ → Type 0) (fetched : StoreStat
     live_now = ap (λ (st : StoreState). if_live (in_memory st wanted.page)) none ∙ live
 
     pub there_now : in_memory new wanted.page ≡ Some (Live page)
-    there_now = live_there (in_memory new wanted.page) page live_now
+    there_now = live_so (in_memory new wanted.page) page live_now
 
     pub at_hand : (mode : Mode) → wanted.mode ≡ mode → IsBacked m actor new wanted.page mode
     at_hand mode is = record {
@@ -211,14 +204,8 @@ module _ (m : Machine) (actor : ℕ) (may : ℕ → Type 0) (fetched : StoreStat
     promoted job parent is =
         let promote : Activity = at.PosterPromote job parent in
         let so : wanted_of promote m.store.meta (looked_live m.store promote) ≡ Some wanted = subst (λ (a : Activity). wanted_of a m.store.meta (looked_live m.store a) ≡ Some wanted) is wants in
-        let both = parent_alone parent (looked_live m.store promote) wanted so in
+        let both = of_page parent (λ page. page.level) Exclusive (looked_live m.store promote) wanted so in
         stands m actor new (at.PosterAgain job parent) refl (subst (λ (n : ℕ). AreBacked m actor new (latch_on n Exclusive ∷ [])) both.0 (one_backed m actor new wanted.page Exclusive (at_hand Exclusive both.1)))
-      where
-        parent_alone : (parent : ℕ) (o : Option LivePage) (wanted : Wanted) → option_map (λ (page : LivePage). wanted_page parent page.level Exclusive) o ≡ Some wanted → (wanted.page ≡ parent) × (wanted.mode ≡ Exclusive)
-        parent_alone parent None wanted is = cc
-        parent_alone parent (Some page) wanted is =
-            let same : wanted_page parent page.level Exclusive ≡ wanted = cc in
-            (ap (λ (w : Wanted). w.page) (sym same), ap (λ (w : Wanted). w.mode) (sym same))
 
   -- where nothing is done, the memory is what was fetched
   nothing_done : (deed other : Deed) → deed ≡ other → other.op ≡ None → MayDo deed.op (length m.order) fetched new → new ≡ fetched
@@ -227,47 +214,10 @@ module _ (m : Machine) (actor : ℕ) (may : ℕ → Type 0) (fetched : StoreStat
       by : deed.op ≡ None → new ≡ fetched
       by so = subst (λ (o : Option Op). MayDo o (length m.order) fetched new) so done
 
-  -- ---- a walk
-
-  backed_search : (line : Line) (boxes : List Area) (found : List Record) (deed : Deed) → SearchGoesOn (sight m') line boxes found deed → Backed deed
-  backed_search line [] found deed (ordered, same, rising, is) = backed_deed deed _ is (rests m actor new _ refl refl)
-  backed_search line (area ∷ boxes) found deed is = backed_deed deed _ is (rests m actor new _ refl refl)
-
-  backed_there : (wanted : Wanted) (page : LivePage) (line : Line) (held : Option ℕ) (command : Command) (rest : List Area) (found : List Record) (p : List ℕ) (deed : Deed) → wanted_by m actor ≡ Some wanted → if_live (in_memory fetched wanted.page) ≡ Some page
-      → page.level ≡ wanted.level → m.activity actor ≡ at.SessionWalk line held rest found → line.command ≡ command → MayDo deed.op (length m.order) fetched new → DoesHere (sight m') line command rest found wanted.page page p deed → Backed deed
-  backed_there wanted page line held (Insert rec) rest found p deed wants live level is command done (inl row) = backed_deed deed _ row.deed_is (rests m actor new _ refl refl)
-  backed_there wanted page line held (Insert rec) rest found p deed wants live level is command done (inr (inl row)) = backed_deed deed _ row.deed_is (rests m actor new _ refl refl)
-  backed_there wanted page line held (Insert rec) rest found p deed wants live level is command done (inr (inr row)) =
-      backed_deed deed _ row.deed_is (insert_waits wanted page wants live level (nothing_done deed _ row.deed_is refl done) line rec held rest found is command row.level)
-  backed_there wanted page line held (Delete point) rest found p deed wants live level is command done (inl row) = backed_deed deed _ row.deed_is (rests m actor new _ refl refl)
-  backed_there wanted page line held (Delete point) rest found p deed wants live level is command done (inr row) = backed_deed deed _ row.deed_is (rests m actor new _ refl refl)
-  backed_there wanted page line held (Lookup point) rest found p deed wants live level is command done (inl row) = backed_deed deed _ row.deed_is (rests m actor new _ refl refl)
-  backed_there wanted page line held (Lookup point) rest found p deed wants live level is command done (inr row) = backed_deed deed _ row.deed_is (rests m actor new _ refl refl)
-  backed_there wanted page line held (Search area) rest found p deed wants live level is command done row = backed_search line _ _ deed row.goes
-
-  backed_walk : (wanted : Wanted) (page : LivePage) (line : Line) (held : Option ℕ) (rest : List Area) (found : List Record) (goal : Option (List ℕ)) (deed : Deed) → wanted_by m actor ≡ Some wanted → if_live (in_memory fetched wanted.page) ≡ Some page
-      → page.level ≡ wanted.level → m.activity actor ≡ at.SessionWalk line held rest found → MayDo deed.op (length m.order) fetched new
-      → MatchOption goal ⊥ (λ p. PassesOn page p (at.SessionWalk line (Some wanted.page) rest found) deed ⊎ DoesHere (sight m') line line.command rest found wanted.page page p deed) → Backed deed
-  backed_walk wanted page line held rest found None deed wants live level is done row = absurd row
-  backed_walk wanted page line held rest found (Some p) deed wants live level is done (inl row) =
-      backed_deed deed _ row.deed_is (session_goes_on wanted page wants live level (nothing_done deed _ row.deed_is refl done) line held rest rest found found is)
-  backed_walk wanted page line held rest found (Some p) deed wants live level is done (inr row) = backed_there wanted page line held line.command rest found p deed wants live level is refl done row
-
   -- ---- the poster
 
   parent_stays : (job : Job) (parent : ℕ) → m.activity actor ≡ at.PosterChild job parent → new ≡ fetched → BackedIn m actor new (at.PosterPromote job parent)
   parent_stays job parent is none = stands m actor new (at.PosterPromote job parent) refl (one_backed m actor new parent Update (held_backed parent Update none (own_mode (at.PosterChild job parent) parent Update is (same_first parent Update))))
-
-  backed_look : (job : Job) (parent : ℕ) (plan : PostPlan) (deed : Deed) → m.activity actor ≡ at.PosterChild job parent → MayDo deed.op (length m.order) fetched new → deed ≡ after_look job parent plan → Backed deed
-  backed_look job parent plans.Nothing deed is done row = backed_deed deed _ row (rests m actor new _ refl refl)
-  backed_look job parent (plans.Post way inner area) deed is done row = backed_deed deed _ row (parent_stays job parent is (nothing_done deed _ row refl done))
-  backed_look job parent plans.SplitFirst deed is done row = backed_deed deed _ row (parent_stays job parent is (nothing_done deed _ row refl done))
-
-  backed_again : (job : Job) (parent : ℕ) (page : LivePage) (plan : PostPlan) (deed : Deed) → DoesPlan (sight m') job parent page plan deed → Backed deed
-  backed_again job parent page plans.Nothing deed row = backed_deed deed _ row (rests m actor new _ refl refl)
-  backed_again job parent page (plans.Post way inner area) deed row = backed_deed deed _ row (rests m actor new _ refl refl)
-  backed_again job parent page plans.SplitFirst deed (inl row) = backed_deed deed _ row.deed_is (rests m actor new _ refl refl)
-  backed_again job parent page plans.SplitFirst deed (inr row) = backed_deed deed _ row.deed_is (rests m actor new _ refl refl)
 
   -- ---- both halves of a split
 
@@ -298,59 +248,38 @@ module _ (m : Machine) (actor : ℕ) (may : ℕ → Type 0) (fetched : StoreStat
 
   -- ---- every row
 
-  backed_alone : (activity : Activity) (deed : Deed) → m.activity actor ≡ activity → MayDo deed.op (length m.order) fetched new → RowAlone activity (sight m') deed → Backed deed
-  backed_alone (at.SessionSplit line held) deed is done (inl row) = backed_deed deed _ row.deed_is (rests m actor new _ refl refl)
-  backed_alone (at.SessionSplit line held) deed is done (inr row) = backed_split line held deed is row done
-  backed_alone (at.SessionPut line source fresh) deed is done row = backed_deed deed _ row.deed_is (rests m actor new _ refl refl)
-  backed_alone at.SessionIdle deed is done row = absurd row
-  backed_alone (at.SessionWalk line held rest found) deed is done row = absurd row
-  backed_alone (at.SessionAwait line reply place) deed is done row = absurd row
-  backed_alone at.PosterIdle deed is done row = absurd row
-  backed_alone (at.PosterGrow job) deed is done row = absurd row
-  backed_alone (at.PosterWalk job held) deed is done row = absurd row
-  backed_alone (at.PosterChild job parent) deed is done row = absurd row
-  backed_alone (at.PosterPromote job parent) deed is done row = absurd row
-  backed_alone (at.PosterAgain job parent) deed is done row = absurd row
-  backed_alone at.ConsolidatorIdle deed is done row = absurd row
-  backed_alone (at.ConsolidatorWalk job held) deed is done row = absurd row
-  backed_alone (at.ConsolidatorScan job parent child) deed is done row = absurd row
-  backed_alone (at.ConsolidatorTry job parent keep gone leaf) deed is done row = absurd row
-  backed_alone (at.ConsolidatorPromote job parent keep gone) deed is done row = absurd row
-  backed_alone (at.ConsolidatorKeep job parent keep gone) deed is done row = absurd row
-  backed_alone (at.ConsolidatorDecide job parent keep gone) deed is done row = absurd row
-  backed_alone at.Flusher deed is done row = absurd row
+  -- what is to be shown of a row
+  abbrev BackedBy : Activity → Deed → Type 0
+  BackedBy activity deed = m.activity actor ≡ activity → MayDo deed.op (length m.order) fetched new → Backed deed
 
   -- the rows of a consolidator are given
-  abbrev pub BacksMerger : Activity → Wanted → LivePage → Deed → Type 0
-  BacksMerger activity wanted page deed = IsMerging activity → m.activity actor ≡ activity → RowAt activity (sight m') wanted.page page deed → Backed deed
+  abbrev pub BacksMergers : Wanted → LivePage → Type 0
+  BacksMergers wanted page = (activity : Activity) (deed : Deed) → new ≡ fetched → IsMerging activity → m.activity actor ≡ activity → RowAt activity (sight m') wanted.page page deed → Backed deed
 
-  backed_at : (activity : Activity) (wanted : Wanted) (page : LivePage) (deed : Deed) → BacksMerger activity wanted page deed → m.activity actor ≡ activity → wanted_by m actor ≡ Some wanted → if_live (in_memory fetched wanted.page) ≡ Some page → page.level ≡ wanted.level → MayDo deed.op (length m.order) fetched new
-      → RowAt activity (sight m') wanted.page page deed → Backed deed
-  backed_at (at.SessionWalk line held rest found) wanted page deed merges is wants live level done row = backed_walk wanted page line held rest found (goal_of line.command rest) deed wants live level is done row
-  backed_at (at.PosterGrow job) wanted page deed merges is wants live level done (inl row) = backed_deed deed _ row.deed_is (rests m actor new _ refl refl)
-  backed_at (at.PosterGrow job) wanted page deed merges is wants live level done (inr row) = backed_deed deed _ row.deed_is (rests m actor new _ refl refl)
-  backed_at (at.PosterWalk job held) wanted page deed merges is wants live level done (inl row) =
-      backed_deed deed _ row.deed_is (poster_arrives wanted page wants live level (nothing_done deed _ row.deed_is refl done) job held is row.level)
-  backed_at (at.PosterWalk job held) wanted page deed merges is wants live level done (inr row) =
-      backed_deed deed _ row.passes.deed_is (poster_goes_on wanted page wants live level (nothing_done deed _ row.passes.deed_is refl done) job held is)
-  backed_at (at.PosterChild job parent) wanted page deed merges is wants live level done row = backed_look job parent row.plan deed is done row.deed_is
-  backed_at (at.PosterPromote job parent) wanted page deed merges is wants live level done row = backed_deed deed _ row (promoted wanted page wants live level (nothing_done deed _ row refl done) job parent is)
-  backed_at (at.PosterAgain job parent) wanted page deed merges is wants live level done row = backed_again job parent row.page row.plan deed row.does_it
-  backed_at at.SessionIdle wanted page deed merges is wants live level done row = absurd row
-  backed_at (at.SessionSplit line held) wanted page deed merges is wants live level done row = absurd row
-  backed_at (at.SessionPut line source fresh) wanted page deed merges is wants live level done row = absurd row
-  backed_at (at.SessionAwait line reply place) wanted page deed merges is wants live level done row = absurd row
-  backed_at at.PosterIdle wanted page deed merges is wants live level done row = absurd row
-  backed_at at.ConsolidatorIdle wanted page deed merges is wants live level done row = absurd row
-  backed_at (at.ConsolidatorWalk job held) wanted page deed merges is wants live level done row = merges tt is row
-  backed_at (at.ConsolidatorScan job parent child) wanted page deed merges is wants live level done row = merges tt is row
-  backed_at (at.ConsolidatorTry job parent keep gone leaf) wanted page deed merges is wants live level done row = merges tt is row
-  backed_at (at.ConsolidatorPromote job parent keep gone) wanted page deed merges is wants live level done row = merges tt is row
-  backed_at (at.ConsolidatorKeep job parent keep gone) wanted page deed merges is wants live level done row = merges tt is row
-  backed_at (at.ConsolidatorDecide job parent keep gone) wanted page deed merges is wants live level done row = merges tt is row
-  backed_at at.Flusher wanted page deed merges is wants live level done row = absurd row
-
-  pub backed_row : (wanted : Option Wanted) (deed : Deed) → ((wanted : Wanted) (page : LivePage) → wanted_by m actor ≡ Some wanted → if_live (in_memory fetched wanted.page) ≡ Some page → page.level ≡ wanted.level → BacksMerger (m.activity actor) wanted page deed)
+  pub backed_row : (wanted : Option Wanted) (deed : Deed) → ((its : Wanted) (page : LivePage) → wanted_by m actor ≡ Some its → if_live (in_memory fetched its.page) ≡ Some page → page.level ≡ its.level → BacksMergers its page)
       → wanted_by m actor ≡ wanted → MayDo deed.op (length m.order) fetched new → Row (m.activity actor) wanted m' deed → Backed deed
-  backed_row None deed merges wants done row = backed_alone (m.activity actor) deed refl done row
-  backed_row (Some wanted) deed merges wants done (page, hand, row) = backed_at (m.activity actor) wanted page deed (merges wanted page wants hand.live hand.level) refl wants hand.live hand.level done row
+  backed_row wanted deed merges wants done row = each_row m' BackedBy (m.activity actor) wanted deed
+      (record {
+        full = λ line held none is done. rests m actor new _ refl refl;
+        splits = λ line held page live leaves is done. backed_split line held _ is (record { page = page; live = live; leaves = leaves; deed_is = refl }) done;
+        puts = λ line source fresh rec command half either page live is done. rests m actor new _ refl refl;
+      })
+      (λ its page at_hand hand. record {
+        passes = λ line held rest found p goal leaf row is done. session_goes_on its page (wants ∙ at_hand) hand.live hand.level done line held rest rest found found is;
+        settles = λ line held rest found reply settles is done. rests m actor new _ refl refl;
+        inserts = λ line held rest found rec command absent room is done. rests m actor new _ refl refl;
+        lacks_room = λ line held rest found rec command level absent full is done. insert_waits its page (wants ∙ at_hand) hand.live hand.level done line rec held rest found is command level;
+        deletes = λ line held rest found p there command stands is done. rests m actor new _ refl refl;
+        searches = λ line held rest found area others more row is done. rests m actor new _ refl refl;
+        grows = λ job fresh free_after may free next is done. rests m actor new _ refl refl;
+        ends = λ activity job kind hand is done. rests m actor new _ refl refl;
+        arrives = λ job held child area level leaf is done. poster_arrives its page (wants ∙ at_hand) hand.live hand.level done job held is level;
+        walks = λ job held leaf farther row is done. poster_goes_on its page (wants ∙ at_hand) hand.live hand.level done job held is;
+        looks = λ job parent is done. parent_stays job parent is done;
+        promotes = λ job parent is done. promoted its page (wants ∙ at_hand) hand.live hand.level done job parent is;
+        posts = λ job parent above path inner area live plan is done. rests m actor new _ refl refl;
+        parts = λ job parent above live plan leaves is done. rests m actor new _ refl refl;
+        walks_to_merge = λ job held leaf farther row is done. merges its page (wants ∙ at_hand) hand.live hand.level (at.ConsolidatorWalk job held) _ done tt is
+            (inr (record { farther = farther; passes = record { leaf = leaf; area = row.area; at_point = row.at_point; names = row.names; deed_is = refl } }));
+        merges = λ activity deed kind row stays is done. merges its page (wants ∙ at_hand) hand.live hand.level activity deed (nothing_done deed _ stays.is refl done) kind is row;
+      }) row refl done

@@ -36,28 +36,10 @@ use Rattle.hb_store.specs.States.{StoreState, in_memory}
 -- ---- what the latches of an activity are, in another memory that has its page
 
 same_latches : (activity : Activity) (old new : StoreState) → ((held : ℕ) → walk_held activity ≡ Some held → live_here new held ≡ live_here old held) → latches_held new activity ≡ latches_held old activity
-same_latches at.SessionIdle old new same = refl
-same_latches (at.SessionWalk line None rest found) old new same = refl
 same_latches (at.SessionWalk line (Some held) rest found) old new same = ap (λ (o : Option LivePage). walk_latch (Some held) o (session_mode line.command)) (same held refl)
-same_latches (at.SessionSplit line held) old new same = refl
-same_latches (at.SessionPut line source fresh) old new same = refl
-same_latches (at.SessionAwait line reply place) old new same = refl
-same_latches at.PosterIdle old new same = refl
-same_latches (at.PosterGrow job) old new same = refl
-same_latches (at.PosterWalk job None) old new same = refl
 same_latches (at.PosterWalk job (Some held)) old new same = ap (λ (o : Option LivePage). walk_latch (Some held) o (job_mode job)) (same held refl)
-same_latches (at.PosterChild job parent) old new same = refl
-same_latches (at.PosterPromote job parent) old new same = refl
-same_latches (at.PosterAgain job parent) old new same = refl
-same_latches at.ConsolidatorIdle old new same = refl
-same_latches (at.ConsolidatorWalk job None) old new same = refl
 same_latches (at.ConsolidatorWalk job (Some held)) old new same = ap (λ (o : Option LivePage). walk_latch (Some held) o (job_mode job)) (same held refl)
-same_latches (at.ConsolidatorScan job parent child) old new same = refl
-same_latches (at.ConsolidatorTry job parent keep gone leaf) old new same = refl
-same_latches (at.ConsolidatorPromote job parent keep gone) old new same = refl
-same_latches (at.ConsolidatorKeep job parent keep gone) old new same = refl
-same_latches (at.ConsolidatorDecide job parent keep gone) old new same = refl
-same_latches at.Flusher old new same = refl
+same_latches activity old new same = refl
 
 -- a walk that holds a page in use has a latch on it
 abbrev pub Latched : ℕ → List Latch → Type 0
@@ -68,34 +50,16 @@ one_latched held o mode page is = subst (λ (o : Option LivePage). (one : Mode) 
     (mode page.level, ap (λ (b : Bool). cond b (Some (mode page.level)) None) (eq-eqb held held refl))
 
 pub walk_latched : (activity : Activity) (st : StoreState) (held : ℕ) (page : LivePage) → walk_held activity ≡ Some held → live_here st held ≡ Some page → Latched held (latches_held st activity)
-walk_latched (at.SessionWalk line None rest found) st held page is live = cc
 walk_latched (at.SessionWalk line (Some id) rest found) st held page is live =
     let same : id ≡ held = cc in
     subst (λ (n : ℕ). Latched held (walk_latch (Some n) (live_here st n) (session_mode line.command))) (sym same) (one_latched held (live_here st held) (session_mode line.command) page live)
-walk_latched (at.PosterWalk job None) st held page is live = cc
 walk_latched (at.PosterWalk job (Some id)) st held page is live =
     let same : id ≡ held = cc in
     subst (λ (n : ℕ). Latched held (walk_latch (Some n) (live_here st n) (job_mode job))) (sym same) (one_latched held (live_here st held) (job_mode job) page live)
-walk_latched (at.ConsolidatorWalk job None) st held page is live = cc
 walk_latched (at.ConsolidatorWalk job (Some id)) st held page is live =
     let same : id ≡ held = cc in
     subst (λ (n : ℕ). Latched held (walk_latch (Some n) (live_here st n) (job_mode job))) (sym same) (one_latched held (live_here st held) (job_mode job) page live)
-walk_latched at.SessionIdle st held page is live = cc
-walk_latched (at.SessionSplit line id) st held page is live = cc
-walk_latched (at.SessionPut line source fresh) st held page is live = cc
-walk_latched (at.SessionAwait line reply place) st held page is live = cc
-walk_latched at.PosterIdle st held page is live = cc
-walk_latched (at.PosterGrow job) st held page is live = cc
-walk_latched (at.PosterChild job parent) st held page is live = cc
-walk_latched (at.PosterPromote job parent) st held page is live = cc
-walk_latched (at.PosterAgain job parent) st held page is live = cc
-walk_latched at.ConsolidatorIdle st held page is live = cc
-walk_latched (at.ConsolidatorScan job parent child) st held page is live = cc
-walk_latched (at.ConsolidatorTry job parent keep gone leaf) st held page is live = cc
-walk_latched (at.ConsolidatorPromote job parent keep gone) st held page is live = cc
-walk_latched (at.ConsolidatorKeep job parent keep gone) st held page is live = cc
-walk_latched (at.ConsolidatorDecide job parent keep gone) st held page is live = cc
-walk_latched at.Flusher st held page is live = cc
+walk_latched activity st held page is live = cc
 
 if_each : (o : Option Mode) (P : Mode → Type 0) → ((mode : Mode) → o ≡ Some mode → P mode) → IfSome o P
 if_each None P each = tt
@@ -244,7 +208,7 @@ module _ (mutual_modes : (mode other : Mode) → goes_beside mode other ≡ goes
   worked (inl (by, way, so)) = kept (stays_so m actor outcome new (outcomes.Blocked by) so)
   worked (inr (inl (free, unready, inl (waits, force)))) = kept (forces_so m actor outcome new outcomes.Helped force)
   worked (inr (inl (free, unready, inr (none, rest)))) =
-      rest_kind m outcomes.Helped outcome new _ (LatchesFit new) none (λ at. refl) (λ more. kept (more_so m actor outcome new more)) (λ performs. fits m.store _ performs (ran_out m actor new.store (m.activity actor))) rest
+      rest_kind m outcomes.Helped outcome new _ (LatchesFit new) none tt (λ more. kept (more_so m actor outcome new more)) (λ performs. fits m.store _ performs (ran_out m actor new.store (m.activity actor))) rest
   worked (inr (inr (free, ready, inl acts))) =
       fits acts.fetched acts.deed acts.performs
       (every_row_backed m actor _ acts.fetched new.store latches fit inside free acts.brings (wanted_by m actor) acts.deed refl acts.performs.store acts.row)

@@ -2,7 +2,6 @@
 use Rattle.std.proofs.Common.{◌≡◌, inl, inr, ℕ, ◌==◌, Bool, cond, [], ◌∷◌, length, Option, Some, None, refl, sym, ap, ◌∙◌, subst}
 use Rattle.std.proofs.lemmas.Bool.{cases_Bool, eq-eqb, eqb-true}
 use Rattle.hb_frag.specs.declared.pages.LivePage.{LivePage}
-use Rattle.hb_ops.specs.declared.operations.Op.{Op}
 use Rattle.hb_latch.specs.declared.modes.Mode.{Mode}
 use Rattle.hb_latch.specs.declared.modes.Mode.TheVariants.{Shared, Update, Exclusive}
 use Rattle.hb_terms.specs.declared.merging.MergePlan.{MergePlan}
@@ -18,8 +17,8 @@ use Rattle.hb_activity.specs.Wanting.{walk_next, wanted_of}
 use Rattle.hb_consol.specs.ConsolidatorRows.{after_try, children_of, one_behind, scans, tries}
 use Rattle.hb_consol.specs.MergeRows.{after_keep}
 use Rattle.hb_core.proofs.Latches.Backing.{AreBacked, BackedIn, IsBacked, at_hand, backed_row, goes, held_backed, live_now, one_backed, own_mode, rests, stands, there_now, walk_backed}
-use Rattle.hb_core.proofs.Table.MergerMoves.{decided, merger_moves, of_page}
-use Rattle.hb_core.proofs.Memory.OwnedOps.{in_its_mode}
+use Rattle.hb_core.proofs.Table.MergerMoves.{decided, of_page}
+use Rattle.hb_activity.proofs.Facts.HeldLatches.{in_its_mode}
 use Rattle.hb_core.specs.Asking.{HasWayFree, looked_live, wanted_by}
 use Rattle.hb_core.specs.Fetching.{Brings}
 use Rattle.hb_core.specs.Keeps.{HoldsPagesOfFile, LatchesFit}
@@ -135,20 +134,8 @@ module _ (m : Machine) (actor : ℕ) (may : ℕ → Type 0) (fetched : StoreStat
       let promote : Activity = at.ConsolidatorPromote job parent keep gone in
       backs deed _ row (stands m actor new (at.ConsolidatorKeep job parent keep gone) refl (one_backed m actor new parent Exclusive (latched_on parent Exclusive (of_page parent _ Exclusive (looked_live m.store promote) wanted (wants_as promote is)))))
   merger_backed (at.ConsolidatorKeep job parent keep gone) deed kind is row = backs deed _ row (keep_next job parent keep gone (first_named gone (siblings_of page)) is)
-  merger_backed (at.ConsolidatorDecide job parent keep gone) deed kind is row = backs deed _ (decided m' job parent keep gone row.has.above row.has.plan deed row.does_it) (rests m actor new _ refl refl)
-  merger_backed at.SessionIdle deed kind is row = absurd kind
-  merger_backed (at.SessionWalk line on rest found) deed kind is row = absurd kind
-  merger_backed (at.SessionSplit line on) deed kind is row = absurd kind
-  merger_backed (at.SessionPut line source fresh) deed kind is row = absurd kind
-  merger_backed (at.SessionAwait line reply place) deed kind is row = absurd kind
-  merger_backed at.PosterIdle deed kind is row = absurd kind
-  merger_backed (at.PosterGrow job) deed kind is row = absurd kind
-  merger_backed (at.PosterWalk job on) deed kind is row = absurd kind
-  merger_backed (at.PosterChild job parent) deed kind is row = absurd kind
-  merger_backed (at.PosterPromote job parent) deed kind is row = absurd kind
-  merger_backed (at.PosterAgain job parent) deed kind is row = absurd kind
-  merger_backed at.ConsolidatorIdle deed kind is row = absurd kind
-  merger_backed at.Flusher deed kind is row = absurd kind
+  merger_backed (at.ConsolidatorDecide job parent keep gone) deed kind is row = backs deed _ (decided (sight m') job parent keep gone row.has.above row.has.plan deed row.does_it) (rests m actor new _ refl refl)
+  merger_backed activity deed kind is row = absurd kind
 
 -- ---- every row
 
@@ -157,6 +144,5 @@ module _ (m : Machine) (actor : ℕ) (may : ℕ → Type 0) (fetched : StoreStat
   now = with_disk fetched m.files m.clock m
 
   pub every_row_backed : (wanted : Option Wanted) (deed : Deed) → wanted_by m actor ≡ wanted → MayDo deed.op (length m.order) fetched new → Row (m.activity actor) wanted now deed → BackedIn m actor new deed.next
-  every_row_backed wanted deed wants done row = backed_row m actor may fetched new latches fit inside free brings wanted deed (λ at_hand page asks live level kind is row.
-      let none : new ≡ fetched = subst (λ (o : Option Op). MayDo o (length m.order) fetched new) (ap (λ (d : Deed). d.op) (merger_moves now (m.activity actor) at_hand.page page deed kind row).is) done in
-      merger_backed m actor may fetched new latches fit inside free brings at_hand page asks live level none (m.activity actor) deed kind is row) wants done row
+  every_row_backed wanted deed wants done row = backed_row m actor may fetched new latches fit inside free brings wanted deed
+      (λ its page asks live level activity deed none kind is row. merger_backed m actor may fetched new latches fit inside free brings its page asks live level none activity deed kind is row) wants done row

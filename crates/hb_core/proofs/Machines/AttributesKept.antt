@@ -59,24 +59,7 @@ all_fit m fit = record {
   where
     left_by : (activity : Activity) → ((line : Line) (held : Option ℕ) (rest : List _) (found : _) → activity ≡ at.SessionWalk line held rest found → WantsBoxes line.command → rest ≢ []) → HasBoxLeft activity
     left_by (at.SessionWalk line held rest found) by = by line held rest found refl
-    left_by at.SessionIdle by = tt
-    left_by (at.SessionSplit line held) by = tt
-    left_by (at.SessionPut line source fresh) by = tt
-    left_by (at.SessionAwait number reply place) by = tt
-    left_by at.PosterIdle by = tt
-    left_by (at.PosterGrow job) by = tt
-    left_by (at.PosterWalk job held) by = tt
-    left_by (at.PosterChild job parent) by = tt
-    left_by (at.PosterPromote job parent) by = tt
-    left_by (at.PosterAgain job parent) by = tt
-    left_by at.ConsolidatorIdle by = tt
-    left_by (at.ConsolidatorWalk job held) by = tt
-    left_by (at.ConsolidatorScan job parent child) by = tt
-    left_by (at.ConsolidatorTry job parent keep gone leaf) by = tt
-    left_by (at.ConsolidatorPromote job parent keep gone) by = tt
-    left_by (at.ConsolidatorKeep job parent keep gone) by = tt
-    left_by (at.ConsolidatorDecide job parent keep gone) by = tt
-    left_by at.Flusher by = tt
+    left_by activity by = tt
 
 fit_again : (k : ℕ) (m : Machine) → m.store.meta.k ≡ k → FitsAll k m → AttributesFit m
 fit_again k m same all = by (subst (λ (n : ℕ). FitsAll n m) (sym same) all)

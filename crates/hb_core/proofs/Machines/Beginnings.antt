@@ -35,6 +35,9 @@ use Rattle.hb_point.specs.SessionRows.{is_answered, next_line}
 use Rattle.hb_set.specs.Order.{Entry, IsLegalOrder, result_of}
 use Rattle.hb_store.specs.States.{IsStanding, new_state}
 use Rattle.hb_wal.specs.Log.{LogState, Waiting}
+use Rattle.hb_core.proofs.Table.DeedKinds.{idle_kind}
+use Rattle.hb_core.proofs.Orders.ShortOrder.{AreOfTwo}
+use Rattle.hb_core.proofs.Orders.SingleAnswers.{AreToTwo}
 
 no_pairs : {X : Type 0} (R : X → X → Type 0) → AllPairs R []
 no_pairs R i j d lt inside = absurd (omega (arith, inside))
@@ -53,12 +56,6 @@ of_idle P each Sessions = each.session
 of_idle P each Posters = each.poster
 of_idle P each Consolidators = each.consolidator
 of_idle P each Flushers = each.flusher
-
-idle_kind : (kind : Class) → class_of (idle_of kind) ≡ kind
-idle_kind Sessions = refl
-idle_kind Posters = refl
-idle_kind Consolidators = refl
-idle_kind Flushers = refl
 
 -- it isn't one of these, which have something in hand, or walk
 walk_or_not : (line : Line) (held : Option ℕ) (rest found : _) → OfEachIdle (λ a. a ≢ at.SessionWalk line held rest found)
@@ -108,13 +105,6 @@ nobodys_kind actor none = elim (cases_Bool (actor == 17)) [
     second off = ap (λ (b : Bool). cond b Consolidators (cond (actor == 19) Flushers Sessions)) off
 
 -- ---- what it keeps
-
--- another line, another one's answer, and a mark that isn't behind another one
-abbrev OtherLine : Entry → Entry → Type 0
-OtherLine e f = e.line.number ≢ f.line.number
-
-abbrev OtherAnswer : Answered → Answered → Type 0
-OtherAnswer a b = a.line ≢ b.line
 
 abbrev NoLater : Waiting → Waiting → Type 0
 NoLater g h = g.mark ≤ h.mark
@@ -172,7 +162,7 @@ module _ (m : Machine) (begun : IsBegun m) where
 
   order_begins : OrderIsShort m
   order_begins = record {
-    once = subst (λ (l : List Entry). AllPairs OtherLine l) (sym begun.no_order) (no_pairs OtherLine);
+    once = subst (λ (l : List Entry). AllPairs AreOfTwo l) (sym begun.no_order) (no_pairs AreOfTwo);
     few = let none = ap length begun.no_order in omega (arith, none);
   }
 
@@ -185,7 +175,7 @@ module _ (m : Machine) (begun : IsBegun m) where
 
   answers_begin : AnswersAreSingle m
   answers_begin = record {
-    once = subst (λ (l : List Answered). AllPairs OtherAnswer l) (sym begun.unanswered) (no_pairs OtherAnswer);
+    once = subst (λ (l : List Answered). AllPairs AreToTwo l) (sym begun.unanswered) (no_pairs AreToTwo);
     outside = all_answers (λ (a : Answered). StandsOutside a.reply → All (λ (e : Entry). e.line.number ≢ a.line) m.order);
   }
 
@@ -295,11 +285,8 @@ fresh_machine s turn lines clock = record {
   clock = clock;
 }
 
-no_page : (id : ℕ) → map.get (map.empty {X = Page} {R = nat_cmp}) id ≡ None
-no_page id = map.get-empty nat_cmp id
-
 no_page_there : (id : ℕ) (page : Page) → map.get (map.empty {X = Page} {R = nat_cmp}) id ≡ Some page → ⊥
-no_page_there id page is = let never : None ≡ Some page = sym (no_page id) ∙ is in cc never
+no_page_there id page is = let never : None ≡ Some page = sym (map.get-empty nat_cmp id) ∙ is in cc never
 
 -- a sound file stands within its limits
 stands_within : (s : FileState) (turn : ℕ) → IsSound s → IsLayout s.meta → turn ≤ 3 → IsStanding turn s.meta

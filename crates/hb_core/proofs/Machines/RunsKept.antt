@@ -52,7 +52,7 @@ module _ (m : Machine) (actor : ℕ) (outcome : Outcome) (new : Machine) (runs :
   worked : Works m actor outcome new → RunsWithStore new
   worked (inl (by, way, so)) = stays (outcomes.Blocked by) so
   worked (inr (inl (free, unready, inl (waits, force)))) = forces outcomes.Helped force
-  worked (inr (inl (free, unready, inr (none, rest)))) = rest_kind m outcomes.Helped outcome new _ (RunsWithStore new) none (λ at. refl) more (performed m.store _ refl) rest
+  worked (inr (inl (free, unready, inr (none, rest)))) = rest_kind m outcomes.Helped outcome new _ (RunsWithStore new) none tt more (performed m.store _ refl) rest
   worked (inr (inr (free, ready, inl acts))) = performed acts.fetched acts.deed acts.brings.rest.stopped acts.performs
   worked (inr (inr (free, ready, inr (inl gives)))) = performed gives.fetched _ gives.brings.rest.stopped gives.performs
   worked (inr (inr (free, ready, inr (inr meets)))) = ended _ (ap (λ (n : Machine). n.stop) meets.stops)

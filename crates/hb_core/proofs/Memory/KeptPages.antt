@@ -9,9 +9,9 @@ use Rattle.hb_core.specs.declared.outcomes.Outcome.TheVariants as outcomes
 use Rattle.hb_activity.specs.Deeds.{Deed, does}
 use Rattle.hb_core.proofs.Memory.BroughtPages.{same_there}
 use Rattle.hb_core.proofs.Files.FitOps.{HeldArePoints, fits_op}
-use Rattle.hb_core.proofs.Files.GoodChanges.{IsGoodChange, each_set, good_change}
+use Rattle.hb_core.proofs.Files.GoodChanges.{IsGoodChange, good_change, each_set}
 use Rattle.hb_core.proofs.Memory.OwnPages.{gives_up_nothing, runs_out_nothing}
-use Rattle.hb_core.proofs.Files.RowTells.{Tells, tells_row}
+use Rattle.hb_core.proofs.Files.RowTells.{Tells, tells_row, tells_none}
 use Rattle.hb_core.specs.AllowedLaws.{IsLicensedHere}
 use Rattle.hb_core.proofs.Table.StepKinds.{each_kind, FlushesMore, rest_kind}
 use Rattle.hb_core.specs.Acting.{MeetsBadPage}
@@ -126,17 +126,14 @@ module _ (makes : MakesGoodPages) (parts : HaveFittingParts) (points : HeldArePo
     performed : (fetched : StoreState) (deed : Deed) → KeepsPages fetched → Tells fetched deed.op → Performs m fetched actor deed outcome new → KeepsPages new.store
     performed fetched deed keeps tells performs = done deed.op _ fetched new.store keeps tells performs.store
 
-    nothing_told : (fetched : StoreState) (op : Option Op) → op ≡ None → Tells fetched op
-    nothing_told fetched op none = subst (Tells fetched) (sym none) tt
-
     worked : Works m actor outcome new → KeepsPages new.store
     worked (inl (by, way, so)) = stays (outcomes.Blocked by) so
     worked (inr (inl (free, unready, inl (waits, force)))) = forces outcomes.Helped force
     worked (inr (inl (free, unready, inr (none, rest)))) =
-        rest_kind m outcomes.Helped outcome new _ (KeepsPages new.store) none (λ at. refl) flushed_more (λ performs. performed m.store _ keeps (nothing_told m.store _ (runs_out_nothing (m.activity actor))) performs) rest
+        rest_kind m outcomes.Helped outcome new _ (KeepsPages new.store) none tt flushed_more (λ performs. performed m.store _ keeps (tells_none m.store _ (runs_out_nothing (m.activity actor))) performs) rest
     worked (inr (inr (free, ready, inl acts))) =
         performed acts.fetched acts.deed (brought m _ acts.fetched acts.brings keeps) (tells_row m actor _ acts.fetched acts.brings (wanted_by m actor) acts.deed refl (fit.in_hand actor) acts.row) acts.performs
-    worked (inr (inr (free, ready, inr (inl gives)))) = performed gives.fetched _ (brought m _ gives.fetched gives.brings keeps) (nothing_told gives.fetched _ (gives_up_nothing gives.why (m.activity actor))) gives.performs
+    worked (inr (inr (free, ready, inr (inl gives)))) = performed gives.fetched _ (brought m _ gives.fetched gives.brings keeps) (tells_none gives.fetched _ (gives_up_nothing gives.why (m.activity actor))) gives.performs
     worked (inr (inr (free, ready, inr (inr bad)))) = meets bad
 
   pub pages_stay : (m : Machine) (actor : ℕ) (outcome : Outcome) (new : Machine) → LinesFit m → KeepsPages m.store → StepsTo m actor outcome new → KeepsPages new.store
@@ -145,7 +142,7 @@ module _ (makes : MakesGoodPages) (parts : HaveFittingParts) (points : HeldArePo
       (λ said quiet so. stays m actor outcome new fit keeps said so)
       (λ said quiet force. forces m actor outcome new fit keeps said force)
       (flushed_more m actor outcome new fit keeps)
-      (λ deed rests performs. performed m actor outcome new fit keeps m.store deed keeps (nothing_told m actor outcome new fit keeps m.store deed.op rests.op) performs)
+      (λ deed rests performs. performed m actor outcome new fit keeps m.store deed keeps (tells_none m.store deed.op rests.op) performs)
       (worked m actor outcome new fit keeps)
       step
 

@@ -4,7 +4,7 @@ use Rattle.hb_set.specs.declared.scripts.Answered.{Answered}
 use Rattle.hb_core.specs.declared.outcomes.Outcome.{Outcome}
 use Rattle.hb_core.specs.declared.outcomes.Outcome.TheVariants as outcomes
 use Rattle.hb_activity.specs.Deeds.{Deed}
-use Rattle.hb_core.proofs.Table.StepKinds.{each_kind, FlushesMore, rest_kind}
+use Rattle.hb_core.proofs.Table.StepKinds.{each_kind, FlushesMore, rest_kind, plain_is_quiet}
 use Rattle.hb_core.specs.Acting.{MeetsBadPage}
 use Rattle.hb_core.specs.Forcing.{ForcesFirst, StaysSo}
 use Rattle.hb_core.specs.Laws.{AnswersAreTimed, ClockMoves}
@@ -62,7 +62,7 @@ module _ (m : Machine) (actor : ℕ) (outcome : Outcome) (new : Machine) where
       let clock : new.clock ≡ m.clock + well.calls = ap (λ (n : Machine). n.clock) well.leaves in
       record {
         clock = inr (inr (left, omega (arith, clock), omega (arith, clock, well.few)));
-        answered = nothing_given m new outcome due well.says (quiet new.clock) (ap (λ (n : Machine). n.answered) well.leaves);
+        answered = nothing_given m new outcome due well.says (plain_is_quiet due quiet new.clock) (ap (λ (n : Machine). n.answered) well.leaves);
       }
   more_times (none, left, inr fails) =
       let clock : new.clock ≡ fails.clock = ap (λ (n : Machine). n.clock) fails.stops in
@@ -77,7 +77,7 @@ module _ (m : Machine) (actor : ℕ) (outcome : Outcome) (new : Machine) where
   worked : Works m actor outcome new → Times m outcome new
   worked (inl (by, way, so)) = same (outcomes.Blocked by) refl so
   worked (inr (inl (free, unready, inl (waits, force)))) = forced outcomes.Helped refl force
-  worked (inr (inl (free, unready, inr (none, rest)))) = rest_kind m outcomes.Helped outcome new _ (Times m outcome new) none (λ at. refl) more_times (performed m.store _) rest
+  worked (inr (inl (free, unready, inr (none, rest)))) = rest_kind m outcomes.Helped outcome new _ (Times m outcome new) none tt more_times (performed m.store _) rest
   worked (inr (inr (free, ready, inl acts))) = performed acts.fetched acts.deed acts.performs
   worked (inr (inr (free, ready, inr (inl gives)))) = performed gives.fetched _ gives.performs
   worked (inr (inr (free, ready, inr (inr meets)))) = met meets

@@ -1,31 +1,20 @@
 -- A step brings no page into memory but the one that it wants, or the one of the number that a page takes that it makes.
-use Rattle.std.proofs.Common.{◌≡◌, ◌≢◌, ◌⊎◌, inl, inr, ℕ, ◌+◌, ◌<◌, ◌==◌, List, [], ◌∷◌, Option, Some, None, IsSome, IsTrue, refl, sym, ap, ◌∙◌, subst}
-use Rattle.std.specs.Prelude.{MatchOption}
+use Rattle.std.proofs.Common.{◌≡◌, ◌≢◌, ◌⊎◌, inl, inr, ℕ, ◌+◌, ◌<◌, ◌==◌, Option, Some, None, IsSome, IsTrue, refl, sym, ap, ◌∙◌, subst}
 use Rattle.std.proofs.lemmas.Bool.{cases_Bool, eqb-false, eqb-true, false≢true}
-use Rattle.hb_space.specs.declared.records.Record.{Record}
 use Rattle.hb_frag.specs.declared.pages.LivePage.{LivePage}
 use Rattle.hb_frag.specs.declared.pages.Page.{Page}
 use Rattle.hb_layout.specs.declared.meta.Meta.{Meta}
 use Rattle.hb_ops.specs.declared.operations.Op.{Op}
 use Rattle.hb_ops.specs.declared.operations.Op.TheVariants as ops
-use Rattle.hb_set.specs.declared.commands.Command.{Command}
-use Rattle.hb_set.specs.declared.commands.Command.TheVariants.{Insert, Delete, Lookup, Search}
-use Rattle.hb_set.specs.declared.scripts.Line.{Line}
-use Rattle.hb_terms.specs.declared.plans.PostPlan.{PostPlan}
-use Rattle.hb_terms.specs.declared.plans.PostPlan.TheVariants as plans
-use Rattle.hb_activity.specs.declared.jobs.Job.{Job}
 use Rattle.hb_activity.specs.declared.wanting.Wanted.{Wanted}
 use Rattle.hb_activity.specs.declared.activities.Activity.{Activity}
 use Rattle.hb_activity.specs.declared.activities.Activity.TheVariants as at
 use Rattle.hb_core.specs.declared.outcomes.Outcome.{Outcome}
 use Rattle.hb_core.specs.declared.outcomes.Outcome.TheVariants as outcomes
 use Rattle.hb_activity.specs.Deeds.{Deed}
-use Rattle.hb_activity.specs.Passing.{PassesOn}
-use Rattle.hb_activity.specs.Walks.{goal_of}
 use Rattle.hb_core.proofs.Memory.CommitPages.{commit_pages}
 use Rattle.hb_core.proofs.Memory.NextNumbers.{is_next_number}
 use Rattle.hb_core.proofs.Memory.OwnPages.{gives_up_nothing, runs_out_nothing}
-use Rattle.hb_core.proofs.Table.MergerMoves.{merger_moves}
 use Rattle.hb_core.proofs.Table.StepKinds.{each_kind, FlushesMore, rest_kind}
 use Rattle.hb_core.proofs.Table.Targets.{IsNumber, numbers_are_targets, set_elsewhere}
 use Rattle.hb_core.specs.Acting.{MayNeed, NeedsNumber, takes_number}
@@ -35,17 +24,15 @@ use Rattle.hb_core.specs.Forcing.{ForcesFirst, StaysSo, FailsToWrite}
 use Rattle.hb_core.specs.Machines.{Machine, sight, with_disk}
 use Rattle.hb_core.specs.NeedLaws.{IsNextNumber, IsToBeMade, MayMakePage, NeedsPage, PagesComeByNeed}
 use Rattle.hb_core.specs.Performing.{MayDo}
-use Rattle.hb_core.specs.Rows.{DoesHere, Row, RowAlone, RowAt}
+use Rattle.hb_core.specs.Rows.{Row}
 use Rattle.hb_core.specs.Steps.{GetsReady, Works}
 use Rattle.hb_ops.specs.Files.{if_live}
 use Rattle.hb_ops.specs.Operations.{change_of}
-use Rattle.hb_poster.specs.PosterRows.{DoesPlan, after_look}
-use Rattle.hb_search.specs.SearchRows.{SearchGoesOn}
-use Rattle.hb_space.specs.Boxes.{Area}
 use Rattle.hb_store.specs.Calls.{change_here, read_here}
 use Rattle.hb_store.specs.NextPage.{IsNext}
 use Rattle.hb_store.specs.Replay.{set_pages}
 use Rattle.hb_store.specs.States.{StoreState, in_memory}
+use Rattle.hb_core.proofs.Table.EachRow.{each_op, each_row}
 
 -- What isn't there isn't some page.
 none_there : (o : Option Page) → o ≡ None → IsSome o → ⊥
@@ -122,92 +109,22 @@ MakesWell st activity (Some (ops.Post parent path inner area)) = Unit {0}
 MakesWell st activity (Some (ops.Grow fresh free_after)) = IsWellMade st activity fresh free_after
 
 module _ (m : Machine) where
-  abbrev Told : Activity → Deed → Type 0
-  Told activity deed = MakesWell m.store activity deed.op
-
-  told_of : (activity : Activity) (deed other : Deed) → deed ≡ other → Told activity other → Told activity deed
-  told_of activity deed other is told = subst (Told activity) (sym is) told
-
-  makes_plan : (job : Job) (parent : ℕ) (page : LivePage) (plan : PostPlan) (deed : Deed) → DoesPlan (sight m) job parent page plan deed → Told (at.PosterAgain job parent) deed
-  makes_plan job parent page plans.Nothing deed is = told_of (at.PosterAgain job parent) deed _ is tt
-  makes_plan job parent page (plans.Post path inner area) deed is = told_of (at.PosterAgain job parent) deed _ is tt
-  makes_plan job parent page plans.SplitFirst deed (inl row) = told_of (at.PosterAgain job parent) deed _ row.deed_is tt
-  makes_plan job parent page plans.SplitFirst deed (inr row) = told_of (at.PosterAgain job parent) deed _ row.deed_is (tt, row.leaves.free, is_next_number m.store row.leaves.fresh row.leaves.free_after row.leaves.next)
-
-  module _ (walk : Activity) where
-    makes_search : (line : Line) (boxes : List Area) (found : List Record) (deed : Deed) → SearchGoesOn (sight m) line boxes found deed → Told walk deed
-    makes_search line [] found deed (ordered, same, rising, is) = told_of walk deed _ is tt
-    makes_search line (area ∷ rest) found deed is = told_of walk deed _ is tt
-
-    makes_there : (line : Line) (command : Command) (rest : List Area) (found : List Record) (id : ℕ) (page : LivePage) (p : List ℕ) (deed : Deed) → DoesHere (sight m) line command rest found id page p deed → Told walk deed
-    makes_there line (Insert rec) rest found id page p deed (inl row) = told_of walk deed _ row.deed_is tt
-    makes_there line (Insert rec) rest found id page p deed (inr (inl row)) = told_of walk deed _ row.deed_is tt
-    makes_there line (Insert rec) rest found id page p deed (inr (inr row)) = told_of walk deed _ row.deed_is tt
-    makes_there line (Delete point) rest found id page p deed (inl row) = told_of walk deed _ row.deed_is tt
-    makes_there line (Delete point) rest found id page p deed (inr row) = told_of walk deed _ row.deed_is tt
-    makes_there line (Lookup point) rest found id page p deed (inl row) = told_of walk deed _ row.deed_is tt
-    makes_there line (Lookup point) rest found id page p deed (inr row) = told_of walk deed _ row.deed_is tt
-    makes_there line (Search area) rest found id page p deed row = makes_search line _ _ deed row.goes
-
-    makes_walk : (line : Line) (rest : List Area) (found : List Record) (id : ℕ) (page : LivePage) (deed : Deed) (goal : Option (List ℕ))
-        → MatchOption goal ⊥ (λ p. PassesOn page p (at.SessionWalk line (Some id) rest found) deed ⊎ DoesHere (sight m) line line.command rest found id page p deed) → Told walk deed
-    makes_walk line rest found id page deed None never = absurd never
-    makes_walk line rest found id page deed (Some p) (inl row) = told_of walk deed _ row.deed_is tt
-    makes_walk line rest found id page deed (Some p) (inr row) = makes_there line line.command rest found id page p deed row
-
-    makes_look : (job : Job) (parent : ℕ) (plan : PostPlan) (deed : Deed) → deed ≡ after_look job parent plan → Told walk deed
-    makes_look job parent plans.Nothing deed is = told_of walk deed _ is tt
-    makes_look job parent (plans.Post path inner area) deed is = told_of walk deed _ is tt
-    makes_look job parent plans.SplitFirst deed is = told_of walk deed _ is tt
-
-  makes_alone : (activity : Activity) (deed : Deed) → RowAlone activity (sight m) deed → Told activity deed
-  makes_alone (at.SessionSplit line held) deed (inl row) = told_of (at.SessionSplit line held) deed _ row.deed_is tt
-  makes_alone (at.SessionSplit line held) deed (inr row) = told_of (at.SessionSplit line held) deed _ row.deed_is (tt, row.leaves.free, is_next_number m.store row.leaves.fresh row.leaves.free_after row.leaves.next)
-  makes_alone (at.SessionPut line source fresh) deed row = told_of (at.SessionPut line source fresh) deed _ row.deed_is tt
-  makes_alone at.SessionIdle deed row = absurd row
-  makes_alone (at.SessionWalk line held rest found) deed row = absurd row
-  makes_alone (at.SessionAwait line reply place) deed row = absurd row
-  makes_alone at.PosterIdle deed row = absurd row
-  makes_alone (at.PosterGrow job) deed row = absurd row
-  makes_alone (at.PosterWalk job held) deed row = absurd row
-  makes_alone (at.PosterChild job parent) deed row = absurd row
-  makes_alone (at.PosterPromote job parent) deed row = absurd row
-  makes_alone (at.PosterAgain job parent) deed row = absurd row
-  makes_alone at.ConsolidatorIdle deed row = absurd row
-  makes_alone (at.ConsolidatorWalk job held) deed row = absurd row
-  makes_alone (at.ConsolidatorScan job parent child) deed row = absurd row
-  makes_alone (at.ConsolidatorTry job parent keep gone leaf) deed row = absurd row
-  makes_alone (at.ConsolidatorPromote job parent keep gone) deed row = absurd row
-  makes_alone (at.ConsolidatorKeep job parent keep gone) deed row = absurd row
-  makes_alone (at.ConsolidatorDecide job parent keep gone) deed row = absurd row
-  makes_alone at.Flusher deed row = absurd row
-
-  makes_at : (activity : Activity) (id : ℕ) (page : LivePage) (deed : Deed) → RowAt activity (sight m) id page deed → Told activity deed
-  makes_at (at.SessionWalk line held rest found) id page deed row = makes_walk (at.SessionWalk line held rest found) line rest found id page deed (goal_of line.command rest) row
-  makes_at (at.PosterGrow job) id page deed (inl row) = told_of (at.PosterGrow job) deed _ row.deed_is (tt, row.free, is_next_number m.store row.fresh row.free_after row.next)
-  makes_at (at.PosterGrow job) id page deed (inr row) = told_of (at.PosterGrow job) deed _ row.deed_is tt
-  makes_at (at.PosterWalk job held) id page deed (inl row) = told_of (at.PosterWalk job held) deed _ row.deed_is tt
-  makes_at (at.PosterWalk job held) id page deed (inr row) = told_of (at.PosterWalk job held) deed _ row.passes.deed_is tt
-  makes_at (at.PosterChild job parent) id page deed row = makes_look (at.PosterChild job parent) job parent row.plan deed row.deed_is
-  makes_at (at.PosterPromote job parent) id page deed row = told_of (at.PosterPromote job parent) deed _ row tt
-  makes_at (at.PosterAgain job parent) id page deed row = makes_plan job parent row.page row.plan deed row.does_it
-  makes_at at.SessionIdle id page deed row = absurd row
-  makes_at (at.SessionSplit line held) id page deed row = absurd row
-  makes_at (at.SessionPut line source fresh) id page deed row = absurd row
-  makes_at (at.SessionAwait line reply place) id page deed row = absurd row
-  makes_at at.PosterIdle id page deed row = absurd row
-  makes_at at.ConsolidatorIdle id page deed row = absurd row
-  makes_at (at.ConsolidatorWalk job held) id page deed row = told_of (at.ConsolidatorWalk job held) deed _ (merger_moves m (at.ConsolidatorWalk job held) id page deed tt row).is tt
-  makes_at (at.ConsolidatorScan job parent child) id page deed row = told_of (at.ConsolidatorScan job parent child) deed _ (merger_moves m (at.ConsolidatorScan job parent child) id page deed tt row).is tt
-  makes_at (at.ConsolidatorTry job parent keep gone leaf) id page deed row = told_of (at.ConsolidatorTry job parent keep gone leaf) deed _ (merger_moves m (at.ConsolidatorTry job parent keep gone leaf) id page deed tt row).is tt
-  makes_at (at.ConsolidatorPromote job parent keep gone) id page deed row = told_of (at.ConsolidatorPromote job parent keep gone) deed _ (merger_moves m (at.ConsolidatorPromote job parent keep gone) id page deed tt row).is tt
-  makes_at (at.ConsolidatorKeep job parent keep gone) id page deed row = told_of (at.ConsolidatorKeep job parent keep gone) deed _ (merger_moves m (at.ConsolidatorKeep job parent keep gone) id page deed tt row).is tt
-  makes_at (at.ConsolidatorDecide job parent keep gone) id page deed row = told_of (at.ConsolidatorDecide job parent keep gone) deed _ (merger_moves m (at.ConsolidatorDecide job parent keep gone) id page deed tt row).is tt
-  makes_at at.Flusher id page deed row = absurd row
-
-  makes_row : (activity : Activity) (wanted : Option Wanted) (deed : Deed) → Row activity wanted m deed → Told activity deed
-  makes_row activity None deed row = makes_alone activity deed row
-  makes_row activity (Some wanted) deed (page, hand, row) = makes_at activity wanted.page page deed row
+  makes_row : (activity : Activity) (wanted : Option Wanted) (deed : Deed) → Row activity wanted m deed → MakesWell m.store activity deed.op
+  makes_row activity wanted deed row = each_row m (λ activity deed. MakesWell m.store activity deed.op) activity wanted deed
+      (record {
+        full = λ line held none. tt;
+        splits = λ line held page live leaves. (tt, leaves.free, is_next_number m.store leaves.fresh leaves.free_after leaves.next);
+        puts = λ line source fresh rec command half either page live. tt;
+      })
+      (λ its page wants hand. each_op (sight m) its.page page (MakesWell m.store) (record {
+        none = λ activity. tt;
+        inserts = λ line held rest found rec command absent room. tt;
+        deletes = λ line held rest found p there command stands. tt;
+        grows = λ job fresh free_after may free next. (tt, free, is_next_number m.store fresh free_after next);
+        posts = λ job parent above path inner area live plan. tt;
+        parts = λ job parent above live plan leaves. (tt, leaves.free, is_next_number m.store leaves.fresh leaves.free_after leaves.next);
+      }))
+      row
 
   -- a row that needs a number is of an activity that makes a page, and a page is free
   number_makes : (activity : Activity) (wanted : Option Wanted) → NeedsNumber activity wanted m → MayMakePage activity × (m.store.meta.live < m.store.meta.pages)
@@ -216,22 +133,7 @@ module _ (m : Machine) where
   number_makes (at.PosterGrow job) (Some wanted) needs = (tt, needs.0)
   number_makes (at.PosterAgain job parent) None never = absurd never
   number_makes (at.PosterAgain job parent) (Some wanted) needs = (tt, needs.0)
-  number_makes at.SessionIdle wanted never = absurd never
-  number_makes (at.SessionWalk line held rest found) wanted never = absurd never
-  number_makes (at.SessionPut line source fresh) wanted never = absurd never
-  number_makes (at.SessionAwait line reply place) wanted never = absurd never
-  number_makes at.PosterIdle wanted never = absurd never
-  number_makes (at.PosterWalk job held) wanted never = absurd never
-  number_makes (at.PosterChild job parent) wanted never = absurd never
-  number_makes (at.PosterPromote job parent) wanted never = absurd never
-  number_makes at.ConsolidatorIdle wanted never = absurd never
-  number_makes (at.ConsolidatorWalk job held) wanted never = absurd never
-  number_makes (at.ConsolidatorScan job parent child) wanted never = absurd never
-  number_makes (at.ConsolidatorTry job parent keep gone leaf) wanted never = absurd never
-  number_makes (at.ConsolidatorPromote job parent keep gone) wanted never = absurd never
-  number_makes (at.ConsolidatorKeep job parent keep gone) wanted never = absurd never
-  number_makes (at.ConsolidatorDecide job parent keep gone) wanted never = absurd never
-  number_makes at.Flusher wanted never = absurd never
+  number_makes activity wanted never = absurd never
 
 -- an operation that takes a number makes a page
 takes_makes : (st : StoreState) (activity : Activity) (op : Option Op) → MakesWell st activity op → IsTrue (takes_number op) → MayMakePage activity × (st.meta.live < st.meta.pages)
@@ -334,15 +236,12 @@ module _ (m : Machine) (actor : ℕ) (new : Machine) (id : ℕ) (was : in_memory
   stays : {A : Type 0} (said outcome : Outcome) → StaysSo m said outcome new → A
   stays said outcome (says, is) = same_machine is
 
-  abbrev Goal : Type 0
-  Goal = NeedsPage m actor id
-
-  made_ready : (outcome : Outcome) → GetsReady m actor outcome new → Goal
+  made_ready : (outcome : Outcome) → GetsReady m actor outcome new → NeedsPage m actor id
   made_ready outcome (inl (waits, force)) = forced outcomes.Helped outcome force
   made_ready outcome (inr (none, rest)) =
-      rest_kind m outcomes.Helped outcome new _ Goal none (λ at. refl) (flushed_more outcome) (λ performs. nothing_done _ _ (runs_out_nothing (m.activity actor)) performs.store) rest
+      rest_kind m outcomes.Helped outcome new _ (NeedsPage m actor id) none tt (flushed_more outcome) (λ performs. nothing_done _ _ (runs_out_nothing (m.activity actor)) performs.store) rest
 
-  worked : (outcome : Outcome) → Works m actor outcome new → Goal
+  worked : (outcome : Outcome) → Works m actor outcome new → NeedsPage m actor id
   worked outcome (inl (by, way, so)) = stays (outcomes.Blocked by) outcome so
   worked outcome (inr (inl (free, unready, ready))) = made_ready outcome ready
   worked outcome (inr (inr (free, ready, inl acts))) =

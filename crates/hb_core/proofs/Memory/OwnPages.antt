@@ -1,9 +1,8 @@
 -- A step changes no page in use but those that its actor has for itself.
 use Rattle.hb_core.proofs.Memory.CommitPages.{commit_pages}
-use Rattle.std.proofs.Common.{◌≡◌, ◌≢◌, ◌⊎◌, inl, inr, ℕ, true, Option, Some, None, IsSome, IfSome, IsTrue, refl, sym, ap, ◌∙◌, subst}
+use Rattle.std.proofs.Common.{◌≡◌, ◌≢◌, ◌⊎◌, inl, inr, ℕ, true, Option, Some, None, IfSome, IsTrue, refl, sym, ap, ◌∙◌, subst}
 use Rattle.std.proofs.lemmas.Bool.{false≢true}
 use Rattle.hb_frag.specs.declared.pages.LivePage.{LivePage}
-use Rattle.hb_frag.specs.declared.pages.Page.{Page}
 use Rattle.hb_frag.specs.declared.pages.Page.TheVariants.{Live}
 use Rattle.hb_ops.specs.declared.operations.Op.{Op}
 use Rattle.hb_latch.specs.declared.modes.Mode.{Mode}
@@ -40,9 +39,6 @@ gives_up_nothing why activity = given_up_is (λ deed. deed.op ≡ None) why acti
 
 pub runs_out_nothing : (activity : Activity) → (runs_out activity).op ≡ None
 runs_out_nothing activity = run_out_is (λ deed. deed.op ≡ None) activity (λ line is. refl) (λ job is. refl) (λ is. refl)
-
-is_there : (o : Option Page) (page : Page) → o ≡ Some page → IsSome o
-is_there o page is = subst (λ (o : Option Page). IsSome o) (sym is) refl
 
 module _ (m : Machine) (actor : ℕ) (latches : MayLatch actor) (fit : LatchesFit m) (inside : HoldsPagesOfFile m) (new : Machine) (id : ℕ) (page : LivePage) (used : IsInUse m id page) where
   abbrev pub Goal : Type 0
@@ -103,7 +99,7 @@ module _ (m : Machine) (actor : ℕ) (latches : MayLatch actor) (fit : LatchesFi
   made_ready : (outcome : Outcome) → GetsReady m actor outcome new → Goal
   made_ready outcome (inl (waits, force)) = forced outcomes.Helped outcome force
   made_ready outcome (inr (none, rest)) =
-      rest_kind m outcomes.Helped outcome new _ Goal none (λ at. refl) (flushed_more outcome) (only_moved (runs_out (m.activity actor)) outcome (runs_out_nothing (m.activity actor))) rest
+      rest_kind m outcomes.Helped outcome new _ Goal none tt (flushed_more outcome) (only_moved (runs_out (m.activity actor)) outcome (runs_out_nothing (m.activity actor))) rest
 
   worked : (outcome : Outcome) → Works m actor outcome new → Goal
   worked outcome (inl (by, way, so)) = stays (outcomes.Blocked by) outcome so

@@ -10,7 +10,6 @@ use Rattle.hb_activity.specs.declared.activities.Activity.{Activity}
 use Rattle.hb_core.specs.declared.outcomes.Outcome.{Outcome}
 use Rattle.hb_activity.specs.Deeds.{Deed}
 use Rattle.hb_activity.specs.Walks.{walk_held}
-use Rattle.hb_core.proofs.Latches.Backing.{live_there}
 use Rattle.hb_core.proofs.Memory.BroughtPages.{same_there}
 use Rattle.hb_core.proofs.Latches.LatchesStay.{walk_latched}
 use Rattle.hb_core.proofs.Memory.OwnPages.{held_pages_stay}
@@ -24,6 +23,7 @@ use Rattle.hb_core.specs.Steps.{StepsTo}
 use Rattle.hb_latch.specs.Tables.{MayLatch, mode_at}
 use Rattle.hb_ops.specs.Files.{if_live}
 use Rattle.hb_store.specs.States.{IsGoodPage, StoreState, in_memory}
+use Rattle.hb_ops.proofs.Facts.PageNumberLaws.{live_so}
 
 -- a page in use stands in both memories
 pub record StandsInBoth (old new : StoreState) (id : ℕ) (page : LivePage) : Type 0 where
@@ -63,7 +63,7 @@ module _ (m : Machine) (may : ℕ → Type 0) (fetched : StoreState) (inside : H
 
   -- what is in memory after a fetch keeps the rules that speak of a page alone
   pub fetched_good : (id : ℕ) (page : LivePage) → live_here fetched id ≡ Some page → IsGoodPage m.store.meta (Live page)
-  fetched_good id page live = by_frame id (Live page) (in_memory m.store id) refl (live_there (in_memory fetched id) page live)
+  fetched_good id page live = by_frame id (Live page) (in_memory m.store id) refl (live_so (in_memory fetched id) page live)
 
 module _ (m : Machine) (actor : ℕ) (fetched : StoreState) (deed : Deed) (outcome : Outcome) (new : Machine) (performs : Performs m fetched actor deed outcome new) where
   pub own_next : new.activity actor ≡ deed.next
@@ -75,7 +75,7 @@ module _ (m : Machine) (actor : ℕ) (outcome : Outcome) (new : Machine) (latche
   other_stands = (others_stay m actor outcome new step other another).0
 
   latched_stays : (id : ℕ) (mode : Mode) (page : LivePage) → mode_at m.latches other id ≡ Some mode → live_here m.store id ≡ Some page → live_here new.store id ≡ Some page
-  latched_stays id mode page holds live = ap if_live (held_pages_stay m actor outcome new latches fit inside step other id mode page another holds (live_there (in_memory m.store id) page live))
+  latched_stays id mode page holds live = ap if_live (held_pages_stay m actor outcome new latches fit inside step other id mode page another holds (live_so (in_memory m.store id) page live))
 
   -- what it has latched stays
   pub other_holds : (activity : Activity) (id : ℕ) (mode : Mode) (page : LivePage) → m.activity other ≡ activity → mode_among id (latches_held m.store activity) ≡ Some mode → live_here m.store id ≡ Some page → live_here new.store id ≡ Some page

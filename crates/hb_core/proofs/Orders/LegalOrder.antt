@@ -42,25 +42,8 @@ sessions_more (first ∷ order) entry keeps may =
 -- ---- the line that joins comes after those of its session
 
 hand_waits_not : (activity : Activity) (line : Line) (number : ℕ) → line_in_hand activity ≡ Some line → awaited_number activity ≡ Some number → ⊥
-hand_waits_not at.SessionIdle line number hand waits = cc
-hand_waits_not (at.SessionWalk l held rest found) line number hand waits = cc
-hand_waits_not (at.SessionSplit l held) line number hand waits = cc
-hand_waits_not (at.SessionPut l source fresh) line number hand waits = cc
 hand_waits_not (at.SessionAwait wait reply place) line number hand waits = cc
-hand_waits_not at.PosterIdle line number hand waits = cc
-hand_waits_not (at.PosterGrow job) line number hand waits = cc
-hand_waits_not (at.PosterWalk job held) line number hand waits = cc
-hand_waits_not (at.PosterChild job parent) line number hand waits = cc
-hand_waits_not (at.PosterPromote job parent) line number hand waits = cc
-hand_waits_not (at.PosterAgain job parent) line number hand waits = cc
-hand_waits_not at.ConsolidatorIdle line number hand waits = cc
-hand_waits_not (at.ConsolidatorWalk job held) line number hand waits = cc
-hand_waits_not (at.ConsolidatorScan job parent child) line number hand waits = cc
-hand_waits_not (at.ConsolidatorTry job parent keep gone leaf) line number hand waits = cc
-hand_waits_not (at.ConsolidatorPromote job parent keep gone) line number hand waits = cc
-hand_waits_not (at.ConsolidatorKeep job parent keep gone) line number hand waits = cc
-hand_waits_not (at.ConsolidatorDecide job parent keep gone) line number hand waits = cc
-hand_waits_not at.Flusher line number hand waits = cc
+hand_waits_not activity line number hand waits = cc
 
 module _ (m : Machine) (turn : LinesInTurn m) (actor : ℕ) (entry : Entry) (hand : line_in_hand (m.activity actor) ≡ Some entry.line) where
   next : next_line actor m.answered m.lines ≡ Some entry.line

@@ -1,5 +1,5 @@
 -- What the lines would store can be stored after a step, too.
-use Rattle.std.proofs.Common.{◌≡◌, inl, inr, ℕ, ◌==◌, ◌&&◌, not, true, false, Bool, cond, List, [], ◌∷◌, All, Option, Some, None, IfSome, sym, ap, ◌∙◌, subst, refl}
+use Rattle.std.proofs.Common.{◌≡◌, inl, inr, ℕ, ◌==◌, ◌&&◌, not, true, false, Bool, cond, List, [], ◌∷◌, All, Option, Some, None, IfSome, sym, ap, ◌∙◌, subst}
 use Rattle.std.proofs.lemmas.Bool.{cases_Bool}
 use Rattle.std.proofs.lemmas.List.Elements.{All-head, All-tail}
 use Rattle.hb_set.specs.declared.scripts.Answered.{Answered}
@@ -11,8 +11,7 @@ use Rattle.hb_activity.specs.Classes.{line_in_hand}
 use Rattle.hb_activity.specs.Deeds.{Deed}
 use Rattle.hb_consol.specs.ConsolidatorRows.{IsMergingOf}
 use Rattle.hb_core.proofs.Table.LineFates.{LineFate, fate_given_up, fate_ran_out, fate_row}
-use Rattle.hb_core.proofs.Table.StepCases.{each_step}
-use Rattle.hb_core.proofs.Table.StepKinds.{rest_kind}
+use Rattle.hb_core.proofs.Table.StepKinds.{each_step, rest_kind}
 use Rattle.hb_core.proofs.Table.Ways.{KeepsAllButDisk, forces_so, meets_so, stays_so, more_so}
 use Rattle.hb_core.specs.FileLaws.{LinesStayFit}
 use Rattle.hb_core.specs.KeptLines.{HasLineBody, LinesFit}
@@ -62,7 +61,7 @@ module _ (m : Machine) (actor : ℕ) (outcome : Outcome) (new : Machine) (fit : 
   worked (inl (by, way, so)) = stays (stays_so m actor outcome new (outcomes.Blocked by) so)
   worked (inr (inl (free, unready, inl (waits, force)))) = stays (forces_so m actor outcome new outcomes.Helped force)
   worked (inr (inl (free, unready, inr (none, rest)))) =
-      rest_kind m outcomes.Helped outcome new _ (LinesFit new) none (λ at. refl) (λ more. stays (more_so m actor outcome new more)) (λ performs. performed m.store _ performs (own_line _ (fate_ran_out m (m.activity actor)))) rest
+      rest_kind m outcomes.Helped outcome new _ (LinesFit new) none tt (λ more. stays (more_so m actor outcome new more)) (λ performs. performed m.store _ performs (own_line _ (fate_ran_out m (m.activity actor)))) rest
   worked (inr (inr (free, ready, inl acts))) = performed acts.fetched acts.deed acts.performs (own_line acts.deed (fate_row m acts.fetched (m.activity actor) _ acts.deed acts.row))
   worked (inr (inr (free, ready, inr (inl gives)))) = performed gives.fetched _ gives.performs (own_line _ (fate_given_up m gives.why (m.activity actor)))
   worked (inr (inr (free, ready, inr (inr meets)))) = stays (meets_so m actor outcome new meets)
@@ -88,11 +87,11 @@ took_merging m deed takes = ap (λ (d : Deed). line_in_hand d.next) takes.deed_i
 
 pub lines_stay_fit : LinesStayFit
 lines_stay_fit m actor outcome new fit step = each_step m actor outcome new (LinesFit new) (record {
-  stays = λ said so. stays m actor outcome new fit (stays_so m actor outcome new said so);
+  stays = λ said plain so. stays m actor outcome new fit (stays_so m actor outcome new said so);
   forces = λ said quiet force. stays m actor outcome new fit (forces_so m actor outcome new said force);
   more = λ more. stays m actor outcome new fit (more_so m actor outcome new more);
   takes = λ line idle next performs. performed m actor outcome new fit m.store _ performs (line_taken HasLineBody actor m.answered m.lines fit.script line next);
-  refuses = λ line idle next performs. performed m actor outcome new fit m.store _ performs tt;
+  refuses = λ line idle next boxes performs. performed m actor outcome new fit m.store _ performs tt;
   posts = λ deed idle takes performs. performed m actor outcome new fit m.store deed performs (no_line deed (took_job m deed takes));
   merges = λ deed idle takes performs. performed m actor outcome new fit m.store deed performs (no_line deed (took_merging m deed takes));
   settles = λ number place reply is settled performs. performed m actor outcome new fit m.store _ performs tt;

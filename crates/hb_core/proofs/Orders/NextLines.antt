@@ -1,7 +1,7 @@
 -- The line that a session takes next, where others are answered.
 use Rattle.std.proofs.Common.{◌≡◌, ◌≢◌, ◌⊎◌, inl, inr, ℕ, zero, suc, ◌<◌, ◌==◌, ◌&&◌, ◌||◌, not, Bool, true, false, cond, List, [], ◌∷◌, ◌++◌, Option, Some, None, refl, sym, ap, ◌∙◌, subst, arith, ne_eqb}
 use Rattle.std.specs.List.{Contains}
-use Rattle.std.proofs.lemmas.Bool.{eq-eqb, eqb-true, false≢true}
+use Rattle.std.proofs.lemmas.Bool.{eq-eqb, eqb-true, false≢true, and_parts}
 use Rattle.hb_set.specs.declared.scripts.Answered.{Answered}
 use Rattle.hb_set.specs.declared.scripts.Line.{Line}
 use Rattle.hb_point.specs.SessionRows.{is_answered, next_line}
@@ -12,11 +12,6 @@ pub record IsNextOf (session : ℕ) (answered : List Answered) (lines : List Lin
   pub among : Contains lines line
   pub own : line.session ≡ session
   pub open_yet : is_answered line.number answered ≡ false
-
-both_true : (a b : Bool) → (a && b) ≡ true → (a ≡ true) × (b ≡ true)
-both_true true true h = (refl, refl)
-both_true true false h = absurd (false≢true h)
-both_true false b h = absurd (false≢true h)
 
 not_true : (b : Bool) → not b ≡ true → b ≡ false
 not_true true h = absurd (false≢true h)
@@ -29,7 +24,7 @@ taken : (session : ℕ) (answered : List Answered) (first line : Line) (rest : L
     → (next_line session answered rest ≡ Some line → IsNextOf session answered rest line) → cond b (Some first) (next_line session answered rest) ≡ Some line → IsNextOf session answered (first ∷ rest) line
 taken session answered first line rest true test later is =
     let same : first ≡ line = cc in
-    let parts = both_true (first.session == session) (not (is_answered first.number answered)) test in
+    let parts = and_parts (first.session == session) (not (is_answered first.number answered)) test in
     subst (IsNextOf session answered (first ∷ rest)) same (record { among = (zero, omega arith, refl); own = eqb-true first.session session parts.0; open_yet = not_true (is_answered first.number answered) parts.1 })
 taken session answered first line rest false test later is =
     let next = later is in
@@ -103,7 +98,7 @@ or_false : (b : Bool) → (b || false) ≡ b
 or_false true = refl
 or_false false = refl
 
-or_assoc : (a b c : Bool) → (a || (b || c)) ≡ ((a || b) || c)
+pub or_assoc : (a b c : Bool) → (a || (b || c)) ≡ ((a || b) || c)
 or_assoc true b c = refl
 or_assoc false b c = refl
 

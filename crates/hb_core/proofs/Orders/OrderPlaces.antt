@@ -11,17 +11,14 @@ use Rattle.hb_activity.specs.declared.activities.Activity.TheVariants as at
 use Rattle.hb_core.specs.declared.outcomes.Outcome.{Outcome}
 use Rattle.hb_core.specs.declared.outcomes.Outcome.TheVariants as outcomes
 use Rattle.hb_activity.specs.Deeds.{Deed, Answers, Says}
-use Rattle.hb_consol.specs.ConsolidatorRows.{IsMergingOf}
-use Rattle.hb_core.proofs.Table.LineFates.{LineFate, fate_given_up, fate_ran_out, fate_row}
+use Rattle.hb_core.proofs.Table.LineFates.{LineFate, fate_given_up, fate_ran_out, fate_row, idle_never, merge_waits_never, post_waits_never}
 use Rattle.hb_core.proofs.Table.MergerMoves.{Waits}
-use Rattle.hb_core.proofs.Table.StepCases.{each_step}
-use Rattle.hb_core.proofs.Table.StepKinds.{rest_kind}
+use Rattle.hb_core.proofs.Table.StepKinds.{each_step, rest_kind}
 use Rattle.hb_core.proofs.Table.Ways.{KeepsAllButDisk, forces_so, meets_so, stays_so, more_so}
 use Rattle.hb_core.specs.KeptOrder.{StandsInOrder, StandsOutside}
 use Rattle.hb_core.specs.Machines.{Machine, if_some}
 use Rattle.hb_core.specs.Performing.{Performs, given_by, outcome_of}
-use Rattle.hb_core.specs.Steps.{StepsTo, Works, TakesMerging, TakesJob}
-use Rattle.hb_poster.specs.PosterRows.{IsPostingOf}
+use Rattle.hb_core.specs.Steps.{StepsTo, Works}
 use Rattle.hb_set.specs.Order.{Entry}
 use Rattle.hb_store.specs.States.{StoreState}
 
@@ -88,14 +85,11 @@ module _ (m : Machine) (actor : ℕ) (outcome : Outcome) (new : Machine) (keeps 
   never_waits : (deed : Deed) → (Waits deed.next → ⊥) → (number place : ℕ) (reply : Reply) → deed.next ≡ at.SessionAwait number reply place → StandsInOrder new number reply place
   never_waits deed none number place reply is = absurd (none (subst Waits (sym is) tt))
 
-  idle_waits : (deed : Deed) → deed.next ≡ at.SessionIdle → Waits deed.next → ⊥
-  idle_waits deed is waits = subst Waits is waits
-
   quiet : (fetched : StoreState) (deed : Deed) → Performs m fetched actor deed outcome new → given_by (outcome_of deed.says) m.clock ≡ [] → (Waits deed.next → ⊥) → KeepsReplies new
   quiet fetched deed performs says waits = done fetched deed performs (none_given deed says) (never_waits deed waits)
 
   answered : (fetched : StoreState) (deed : Deed) (number : ℕ) (reply : Reply) → Performs m fetched actor deed outcome new → deed.says ≡ Answers number reply → deed.next ≡ at.SessionIdle → StandsSomewhere new (record { line = number; reply = reply; at = m.clock }) → KeepsReplies new
-  answered fetched deed number reply performs says next stands = done fetched deed performs (one_given deed number reply says stands) (never_waits deed (idle_waits deed next))
+  answered fetched deed number reply performs says next stands = done fetched deed performs (one_given deed number reply says stands) (never_waits deed (idle_never deed next))
 
   awaits_same : (a b : Activity) (number other place elsewhere : ℕ) (reply said : Reply) → a ≡ at.SessionAwait number reply place → a ≡ at.SessionAwait other said elsewhere → (number ≡ other) × (place ≡ elsewhere) × (reply ≡ said)
   awaits_same a b number other place elsewhere reply said first second =
@@ -124,35 +118,20 @@ module _ (m : Machine) (actor : ℕ) (outcome : Outcome) (new : Machine) (keeps 
   worked (inl (by, way, so)) = stays (stays_so m actor outcome new (outcomes.Blocked by) so)
   worked (inr (inl (free, unready, inl (waits, force)))) = stays (forces_so m actor outcome new outcomes.Helped force)
   worked (inr (inl (free, unready, inr (none, rest)))) =
-      rest_kind m outcomes.Helped outcome new _ (KeepsReplies new) none (λ at. refl) (λ more. stays (more_so m actor outcome new more)) (fated m.store _ (fate_ran_out m (m.activity actor))) rest
+      rest_kind m outcomes.Helped outcome new _ (KeepsReplies new) none tt (λ more. stays (more_so m actor outcome new more)) (fated m.store _ (fate_ran_out m (m.activity actor))) rest
   worked (inr (inr (free, ready, inl acts))) = fated acts.fetched acts.deed (fate_row m acts.fetched (m.activity actor) _ acts.deed acts.row) acts.performs
   worked (inr (inr (free, ready, inr (inl gives)))) = fated gives.fetched _ (fate_given_up m gives.why (m.activity actor)) gives.performs
   worked (inr (inr (free, ready, inr (inr meets)))) = stays (meets_so m actor outcome new meets)
 
-  posts_wait_never : (deed : Deed) → TakesJob m deed → Waits deed.next → ⊥
-  posts_wait_never deed takes waits = by takes.next takes.posting (subst (λ (d : Deed). Waits d.next) takes.deed_is waits)
-    where
-      by : (next : Activity) → IsPostingOf takes.job m.store.meta.height next → Waits next → ⊥
-      by next (inl (above, is)) waits = subst Waits is waits
-      by next (inr (inl (same, is))) waits = subst Waits is waits
-      by next (inr (inr (below, is))) waits = subst Waits is waits
-
-  merges_wait_never : (deed : Deed) → TakesMerging m deed → Waits deed.next → ⊥
-  merges_wait_never deed takes waits = by takes.next takes.merging (subst (λ (d : Deed). Waits d.next) takes.deed_is waits)
-    where
-      by : (next : Activity) → IsMergingOf takes.job m.store.meta.height next → Waits next → ⊥
-      by next (inl (above, is)) waits = subst Waits is waits
-      by next (inr (below, is)) waits = subst Waits is waits
-
   pub replies_kept : StepsTo m actor outcome new → KeepsReplies new
   replies_kept step = each_step m actor outcome new (KeepsReplies new) (record {
-    stays = λ said so. stays (stays_so m actor outcome new said so);
+    stays = λ said plain so. stays (stays_so m actor outcome new said so);
     forces = λ said silent force. stays (forces_so m actor outcome new said force);
     more = λ more. stays (more_so m actor outcome new more);
     takes = λ line idle next performs. quiet m.store _ performs refl (λ never. never);
-    refuses = λ line idle next performs. answered m.store _ line.number replies.NoMemory performs refl refl (inl tt);
-    posts = λ deed idle takes performs. quiet m.store deed performs (ap (λ (d : Deed). given_by (outcome_of d.says) m.clock) takes.deed_is) (posts_wait_never deed takes);
-    merges = λ deed idle takes performs. quiet m.store deed performs (ap (λ (d : Deed). given_by (outcome_of d.says) m.clock) takes.deed_is) (merges_wait_never deed takes);
+    refuses = λ line idle next boxes performs. answered m.store _ line.number replies.NoMemory performs refl refl (inl tt);
+    posts = λ deed idle takes performs. quiet m.store deed performs (ap (λ (d : Deed). given_by (outcome_of d.says) m.clock) takes.deed_is) (post_waits_never m deed takes);
+    merges = λ deed idle takes performs. quiet m.store deed performs (ap (λ (d : Deed). given_by (outcome_of d.says) m.clock) takes.deed_is) (merge_waits_never m deed takes);
     settles = λ number place reply is settled performs. answered m.store _ number reply performs refl refl (inr (place, stands_more [] performs.order number place reply (keeps.awaits actor number place reply is)));
     works = λ none works. worked works;
   }) step

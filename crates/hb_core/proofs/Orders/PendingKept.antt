@@ -183,7 +183,7 @@ module _ (n : RecordSet) (m : Machine) (files : Files) (new : Machine) (files' :
     worked (inl (by, way, so)) = stayed (outcomes.Blocked by) so
     worked (inr (inl (free, unready, inl (waits, force)))) = forced_first outcomes.Helped force
     worked (inr (inl (free, unready, inr (none, rest)))) =
-        rest_kind m outcomes.Helped outcome new _ (KeepsMarks n m new files') none (λ at. refl) flushed_more (performed m.store _ refl) rest
+        rest_kind m outcomes.Helped outcome new _ (KeepsMarks n m new files') none tt flushed_more (performed m.store _ refl) rest
     worked (inr (inr (free, ready, inl acts))) = performed acts.fetched acts.deed acts.brings.rest.log acts.performs
     worked (inr (inr (free, ready, inr (inl gives)))) = performed gives.fetched _ gives.brings.rest.log gives.performs
     worked (inr (inr (free, ready, inr (inr meets)))) = met meets

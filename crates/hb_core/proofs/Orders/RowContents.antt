@@ -1,6 +1,5 @@
 -- What a row does to the contents: its line takes effect, or they stay.
-use Rattle.std.proofs.Common.{◌≡◌, ◌⊎◌, inl, inr, ℕ, List, [], ◌∷◌, Option, Some, None, refl, sym, ap, ◌∙◌, subst}
-use Rattle.std.specs.Prelude.{MatchOption}
+use Rattle.std.proofs.Common.{◌≡◌, inl, inr, ℕ, List, Option, Some, None, refl, sym, ap, ◌∙◌, subst}
 use Rattle.std.specs.FinMap as map
 use Rattle.hb_space.specs.declared.records.Record.{Record}
 use Rattle.hb_frag.specs.declared.pages.LivePage.{LivePage}
@@ -13,36 +12,28 @@ use Rattle.hb_set.specs.declared.commands.Command.TheVariants.{Insert, Delete, L
 use Rattle.hb_set.specs.declared.commands.Reply.{Reply}
 use Rattle.hb_set.specs.declared.commands.Reply.TheVariants as replies
 use Rattle.hb_set.specs.declared.scripts.Line.{Line}
-use Rattle.hb_terms.specs.declared.plans.PostPlan.{PostPlan}
-use Rattle.hb_terms.specs.declared.plans.PostPlan.TheVariants as plans
-use Rattle.hb_activity.specs.declared.jobs.Job.{Job}
 use Rattle.hb_activity.specs.declared.wanting.Wanted.{Wanted}
 use Rattle.hb_activity.specs.declared.activities.Activity.{Activity}
 use Rattle.hb_activity.specs.declared.activities.Activity.TheVariants as at
 use Rattle.hb_activity.specs.Classes.{line_in_hand}
 use Rattle.hb_activity.specs.Deeds.{Deed}
-use Rattle.hb_activity.specs.Passing.{PassesOn}
-use Rattle.hb_activity.specs.Walks.{goal_of}
-use Rattle.hb_core.proofs.Latches.Backing.{live_there}
 use Rattle.hb_core.proofs.Files.FileOps.{ShowsFile}
 use Rattle.hb_core.proofs.Files.FitOps.{HeldArePoints, as_many, point_there}
 use Rattle.hb_core.proofs.Memory.KeptPages.{KeepsPages}
-use Rattle.hb_core.proofs.Table.MergerMoves.{merger_moves}
 use Rattle.hb_core.specs.ContentsLaws.{TakesEffectOn}
-use Rattle.hb_core.specs.Machines.{Machine, with_disk, sight}
-use Rattle.hb_core.specs.Rows.{DoesHere, Row, RowAlone, RowAt}
+use Rattle.hb_core.specs.Machines.{Machine, with_disk}
+use Rattle.hb_core.specs.Rows.{Row}
 use Rattle.hb_frag.specs.Leaves.{Placed, leaf_at}
 use Rattle.hb_ops.specs.Files.{FileState, contents_of, if_live, live_page}
 use Rattle.hb_ops.specs.Standing.{StandsNot, StandsThere}
 use Rattle.hb_point.specs.SessionRows.{WantsBoxes}
-use Rattle.hb_poster.specs.PosterRows.{DoesPlan, after_look}
-use Rattle.hb_search.specs.SearchRows.{SearchGoesOn}
 use Rattle.hb_set.specs.Machine.{RecordSet, found_or_missing, if_there, reply_of, set_after}
 use Rattle.hb_set.specs.Order.{Entry}
 use Rattle.hb_sound.specs.Laws.{LackIsContents, StandingIsContents}
 use Rattle.hb_sound.specs.PointWalks.{IsPointOf}
-use Rattle.hb_space.specs.Boxes.{Area}
 use Rattle.hb_store.specs.States.{StoreState, in_memory}
+use Rattle.hb_core.proofs.Table.EachRow.{Settles, each_row}
+use Rattle.hb_ops.proofs.Facts.PageNumberLaws.{live_so}
 
 -- what an operation does to the contents
 abbrev pub Becomes : RecordSet → RecordSet → Option Op → Type 0
@@ -115,14 +106,14 @@ module _ (points : HeldArePoints) (standing : StandingIsContents) (lacking : Lac
 
   point_of : (id : ℕ) (page : LivePage) (p : List ℕ) (l : Placed) → if_live (in_memory fetched id) ≡ Some page → leaf_at page p ≡ Some l → IsPointOf s p
   point_of id page p l live there =
-      let good = (keeps.framed id (Live page) (live_there (in_memory fetched id) page live)).2 in
+      let good = (keeps.framed id (Live page) (live_so (in_memory fetched id) page live)).2 in
       record {
         point = point_there points fetched.meta page good p l there;
         attributes = as_many points fetched.meta page good p l there ∙ sym (ap (λ (m : Meta). m.k) file.meta);
       }
 
   in_file : (id : ℕ) (page : LivePage) → if_live (in_memory fetched id) ≡ Some page → live_page s id ≡ Some page
-  in_file id page live = ap if_live (file.shown id (Live page) (live_there (in_memory fetched id) page live))
+  in_file id page live = ap if_live (file.shown id (Live page) (live_so (in_memory fetched id) page live))
 
   stands : (id : ℕ) (page : LivePage) (p : List ℕ) (r : Record) → if_live (in_memory fetched id) ≡ Some page → StandsThere page p r → map.get (contents_of s) p ≡ Some r.body
   stands id page p r live there = standing s p id page r file.sound (point_of id page p _ live there.leaf) (in_file id page live) there
@@ -133,92 +124,48 @@ module _ (points : HeldArePoints) (standing : StandingIsContents) (lacking : Lac
   abbrev pub Joins : Activity → Deed → Type 0
   Joins activity deed = JoinsWith (contents_of s) after activity deed.joins
 
-  -- a deed of a line that takes effect, and one of none
-  effect : (activity : Activity) (deed other : Deed) → deed ≡ other → Becomes (contents_of s) after deed.op → (Becomes (contents_of s) after other.op → Joins activity other) → Joins activity deed
-  effect activity deed other is becomes joins = joins_of (contents_of s) after activity deed other is (joins (becomes_of (contents_of s) after activity deed other is becomes))
+  -- a line that takes effect and changes nothing
+  settled : (activity : Activity) (line : Line) (command : Command) (id : ℕ) (page : LivePage) (reply : Reply) → line.command ≡ command → line_in_hand activity ≡ Some line → if_live (in_memory fetched id) ≡ Some page → Settles command page reply → after ≡ contents_of s
+      → TakesEffectOn (contents_of s) after activity (entry_of line reply)
+  settled activity line (Insert rec) id page reply is hand live (twin, there, said) same =
+      subst (λ (r : Reply). TakesEffectOn (contents_of s) after activity (entry_of line r)) (sym said) (twin_stays (contents_of s) after activity line rec twin.body is hand (stands id page rec.key twin live there) same)
+  settled activity line (Delete point) id page reply is hand live (absent, said) same = subst (λ (r : Reply). TakesEffectOn (contents_of s) after activity (entry_of line r)) (sym said) (none_joins (contents_of s) after activity line point is hand (lacks id page point live absent) same)
+  settled activity line (Lookup point) id page reply is hand live (inl (found, there, said)) same =
+      subst (λ (r : Reply). TakesEffectOn (contents_of s) after activity (entry_of line r)) (sym said) (finds_joins (contents_of s) after activity line point (Some found.body) is hand (stands id page point found live there) same)
+  settled activity line (Lookup point) id page reply is hand live (inr (absent, said)) same =
+      subst (λ (r : Reply). TakesEffectOn (contents_of s) after activity (entry_of line r)) (sym said) (finds_joins (contents_of s) after activity line point None is hand (lacks id page point live absent) same)
+  settled activity line (Search area) id page reply is hand live (ordered, said) same = record {
+    hand = hand;
+    leaves = same ∙ sym (ap (λ (c : Command). set_after c (contents_of s)) is);
+    reply = λ other. absurd (other (subst WantsBoxes (sym is) tt));
+  }
 
-  joins_search : (activity : Activity) (line : Line) (area : Area) (boxes : List Area) (found : List Record) (deed : Deed) → line.command ≡ Search area → line_in_hand activity ≡ Some line → Becomes (contents_of s) after deed.op → SearchGoesOn (sight m') line boxes found deed → Joins activity deed
-  joins_search activity line area [] found deed is hand becomes (ordered, same, rising, deed_is) =
-      effect activity deed _ deed_is becomes (λ stays. record {
-        hand = hand;
-        leaves = stays ∙ sym (ap (λ (c : Command). set_after c (contents_of s)) is);
-        reply = λ other. absurd (other (subst WantsBoxes (sym is) tt));
-      })
-  joins_search activity line area (box ∷ rest) found deed is hand becomes deed_is = effect activity deed _ deed_is becomes (λ stays. stays)
-
-  joins_there : (activity : Activity) (line : Line) (command : Command) (rest : List Area) (found : List Record) (id : ℕ) (page : LivePage) (p : List ℕ) (deed : Deed) → line.command ≡ command → line_in_hand activity ≡ Some line
-      → if_live (in_memory fetched id) ≡ Some page → Becomes (contents_of s) after deed.op → DoesHere (sight m') line command rest found id page p deed → Joins activity deed
-  joins_there activity line (Insert rec) rest found id page p deed is hand live becomes (inl row) = effect activity deed _ row.deed_is becomes (λ stays. twin_stays (contents_of s) after activity line rec row.twin.body is hand (stands id page rec.key row.twin live row.there) stays)
-  joins_there activity line (Insert rec) rest found id page p deed is hand live becomes (inr (inl row)) = effect activity deed _ row.deed_is becomes (λ more. put_joins (contents_of s) after activity line rec is hand more.0 more.1)
-  joins_there activity line (Insert rec) rest found id page p deed is hand live becomes (inr (inr row)) = effect activity deed _ row.deed_is becomes (λ stays. stays)
-  joins_there activity line (Delete point) rest found id page p deed is hand live becomes (inl row) = effect activity deed _ row.deed_is becomes (λ less. del_joins (contents_of s) after activity line point less.0.0 is hand less.0.1 less.1)
-  joins_there activity line (Delete point) rest found id page p deed is hand live becomes (inr row) = effect activity deed _ row.deed_is becomes (λ stays. none_joins (contents_of s) after activity line point is hand (lacks id page point live row.absent) stays)
-  joins_there activity line (Lookup point) rest found id page p deed is hand live becomes (inl row) = effect activity deed _ row.deed_is becomes (λ stays. finds_joins (contents_of s) after activity line point (Some row.found.body) is hand (stands id page point row.found live row.there) stays)
-  joins_there activity line (Lookup point) rest found id page p deed is hand live becomes (inr row) = effect activity deed _ row.deed_is becomes (λ stays. finds_joins (contents_of s) after activity line point None is hand (lacks id page point live row.absent) stays)
-  joins_there activity line (Search area) rest found id page p deed is hand live becomes row = joins_search activity line area _ _ deed is hand becomes row.goes
-
-  joins_walk : (line : Line) (held : Option ℕ) (rest : List Area) (found : List Record) (id : ℕ) (page : LivePage) (deed : Deed) (goal : Option (List ℕ)) → if_live (in_memory fetched id) ≡ Some page → Becomes (contents_of s) after deed.op
-      → MatchOption goal ⊥ (λ p. PassesOn page p (at.SessionWalk line (Some id) rest found) deed ⊎ DoesHere (sight m') line line.command rest found id page p deed) → Joins (at.SessionWalk line held rest found) deed
-  joins_walk line held rest found id page deed None live becomes never = absurd never
-  joins_walk line held rest found id page deed (Some p) live becomes (inl row) = effect _ deed _ row.deed_is becomes (λ stays. stays)
-  joins_walk line held rest found id page deed (Some p) live becomes (inr row) = joins_there (at.SessionWalk line held rest found) line line.command rest found id page p deed refl refl live becomes row
-
-  joins_alone : (activity : Activity) (deed : Deed) → Becomes (contents_of s) after deed.op → RowAlone activity (sight m') deed → Joins activity deed
-  joins_alone (at.SessionSplit line held) deed becomes (inl row) = effect _ deed _ row.deed_is becomes (λ stays. stays)
-  joins_alone (at.SessionSplit line held) deed becomes (inr row) = effect _ deed _ row.deed_is becomes (λ stays. stays)
-  joins_alone (at.SessionPut line source fresh) deed becomes row = effect _ deed _ row.deed_is becomes (λ more. put_joins (contents_of s) after (at.SessionPut line source fresh) line row.rec row.command refl more.0 more.1)
-  joins_alone at.SessionIdle deed becomes row = absurd row
-  joins_alone (at.SessionWalk line held rest found) deed becomes row = absurd row
-  joins_alone (at.SessionAwait line reply place) deed becomes row = absurd row
-  joins_alone at.PosterIdle deed becomes row = absurd row
-  joins_alone (at.PosterGrow job) deed becomes row = absurd row
-  joins_alone (at.PosterWalk job held) deed becomes row = absurd row
-  joins_alone (at.PosterChild job parent) deed becomes row = absurd row
-  joins_alone (at.PosterPromote job parent) deed becomes row = absurd row
-  joins_alone (at.PosterAgain job parent) deed becomes row = absurd row
-  joins_alone at.ConsolidatorIdle deed becomes row = absurd row
-  joins_alone (at.ConsolidatorWalk job held) deed becomes row = absurd row
-  joins_alone (at.ConsolidatorScan job parent child) deed becomes row = absurd row
-  joins_alone (at.ConsolidatorTry job parent keep gone leaf) deed becomes row = absurd row
-  joins_alone (at.ConsolidatorPromote job parent keep gone) deed becomes row = absurd row
-  joins_alone (at.ConsolidatorKeep job parent keep gone) deed becomes row = absurd row
-  joins_alone (at.ConsolidatorDecide job parent keep gone) deed becomes row = absurd row
-  joins_alone at.Flusher deed becomes row = absurd row
-
-  joins_look : (job : Job) (parent : ℕ) (plan : PostPlan) (deed : Deed) → Becomes (contents_of s) after deed.op → deed ≡ after_look job parent plan → Joins (at.PosterChild job parent) deed
-  joins_look job parent plans.Nothing deed becomes is = effect _ deed _ is becomes (λ stays. stays)
-  joins_look job parent (plans.Post at inner area) deed becomes is = effect _ deed _ is becomes (λ stays. stays)
-  joins_look job parent plans.SplitFirst deed becomes is = effect _ deed _ is becomes (λ stays. stays)
-
-  joins_plan : (job : Job) (parent : ℕ) (page : LivePage) (plan : PostPlan) (deed : Deed) → Becomes (contents_of s) after deed.op → DoesPlan (sight m') job parent page plan deed → Joins (at.PosterAgain job parent) deed
-  joins_plan job parent page plans.Nothing deed becomes is = effect _ deed _ is becomes (λ stays. stays)
-  joins_plan job parent page (plans.Post at inner area) deed becomes is = effect _ deed _ is becomes (λ stays. stays)
-  joins_plan job parent page plans.SplitFirst deed becomes (inl row) = effect _ deed _ row.deed_is becomes (λ stays. stays)
-  joins_plan job parent page plans.SplitFirst deed becomes (inr row) = effect _ deed _ row.deed_is becomes (λ stays. stays)
-
-  joins_at : (activity : Activity) (id : ℕ) (page : LivePage) (deed : Deed) → if_live (in_memory fetched id) ≡ Some page → Becomes (contents_of s) after deed.op → RowAt activity (sight m') id page deed → Joins activity deed
-  joins_at (at.SessionWalk line held rest found) id page deed live becomes row = joins_walk line held rest found id page deed (goal_of line.command rest) live becomes row
-  joins_at (at.PosterGrow job) id page deed live becomes (inl row) = effect _ deed _ row.deed_is becomes (λ stays. stays)
-  joins_at (at.PosterGrow job) id page deed live becomes (inr row) = effect _ deed _ row.deed_is becomes (λ stays. stays)
-  joins_at (at.PosterWalk job held) id page deed live becomes (inl row) = effect _ deed _ row.deed_is becomes (λ stays. stays)
-  joins_at (at.PosterWalk job held) id page deed live becomes (inr row) = effect _ deed _ row.passes.deed_is becomes (λ stays. stays)
-  joins_at (at.PosterChild job parent) id page deed live becomes row = joins_look job parent row.plan deed becomes row.deed_is
-  joins_at (at.PosterPromote job parent) id page deed live becomes row = effect _ deed _ row becomes (λ stays. stays)
-  joins_at (at.PosterAgain job parent) id page deed live becomes row = joins_plan job parent row.page row.plan deed becomes row.does_it
-  joins_at at.SessionIdle id page deed live becomes row = absurd row
-  joins_at (at.SessionSplit line held) id page deed live becomes row = absurd row
-  joins_at (at.SessionPut line source fresh) id page deed live becomes row = absurd row
-  joins_at (at.SessionAwait line reply place) id page deed live becomes row = absurd row
-  joins_at at.PosterIdle id page deed live becomes row = absurd row
-  joins_at at.ConsolidatorIdle id page deed live becomes row = absurd row
-  joins_at (at.ConsolidatorWalk job held) id page deed live becomes row = effect _ deed _ (merger_moves m' (at.ConsolidatorWalk job held) id page deed tt row).is becomes (λ stays. stays)
-  joins_at (at.ConsolidatorScan job parent child) id page deed live becomes row = effect _ deed _ (merger_moves m' (at.ConsolidatorScan job parent child) id page deed tt row).is becomes (λ stays. stays)
-  joins_at (at.ConsolidatorTry job parent keep gone leaf) id page deed live becomes row = effect _ deed _ (merger_moves m' (at.ConsolidatorTry job parent keep gone leaf) id page deed tt row).is becomes (λ stays. stays)
-  joins_at (at.ConsolidatorPromote job parent keep gone) id page deed live becomes row = effect _ deed _ (merger_moves m' (at.ConsolidatorPromote job parent keep gone) id page deed tt row).is becomes (λ stays. stays)
-  joins_at (at.ConsolidatorKeep job parent keep gone) id page deed live becomes row = effect _ deed _ (merger_moves m' (at.ConsolidatorKeep job parent keep gone) id page deed tt row).is becomes (λ stays. stays)
-  joins_at (at.ConsolidatorDecide job parent keep gone) id page deed live becomes row = effect _ deed _ (merger_moves m' (at.ConsolidatorDecide job parent keep gone) id page deed tt row).is becomes (λ stays. stays)
-  joins_at at.Flusher id page deed live becomes row = absurd row
+  -- what is to be shown of a row
+  abbrev Follows : Activity → Deed → Type 0
+  Follows activity deed = Becomes (contents_of s) after deed.op → Joins activity deed
 
   pub joins_row : (activity : Activity) (wanted : Option Wanted) (deed : Deed) → Becomes (contents_of s) after deed.op → Row activity wanted m' deed → Joins activity deed
-  joins_row activity None deed becomes row = joins_alone activity deed becomes row
-  joins_row activity (Some wanted) deed becomes (page, hand, row) = joins_at activity wanted.page page deed hand.live becomes row
+  joins_row activity wanted deed becomes row = each_row m' Follows activity wanted deed
+      (record {
+        full = λ line held none stays. stays;
+        splits = λ line held page live leaves stays. stays;
+        puts = λ line source fresh rec command half either page live more. put_joins (contents_of s) after (at.SessionPut line source fresh) line rec command refl more.0 more.1;
+      })
+      (λ its page wants hand. record {
+        passes = λ line held rest found p goal leaf row stays. stays;
+        settles = λ line held rest found reply settles stays. settled (at.SessionWalk line held rest found) line line.command its.page page reply refl refl hand.live settles stays;
+        inserts = λ line held rest found rec command absent room more. put_joins (contents_of s) after (at.SessionWalk line held rest found) line rec command refl more.0 more.1;
+        lacks_room = λ line held rest found rec command level absent full stays. stays;
+        deletes = λ line held rest found p there command stands less. del_joins (contents_of s) after (at.SessionWalk line held rest found) line p less.0.0 command refl less.0.1 less.1;
+        searches = λ line held rest found area others more row stays. stays;
+        grows = λ job fresh free_after may free next stays. stays;
+        ends = λ activity job kind hand stays. stays;
+        arrives = λ job held child area level leaf stays. stays;
+        walks = λ job held leaf farther row stays. stays;
+        looks = λ job parent stays. stays;
+        promotes = λ job parent stays. stays;
+        posts = λ job parent above path inner area live plan stays. stays;
+        parts = λ job parent above live plan leaves stays. stays;
+        walks_to_merge = λ job held leaf farther row stays. stays;
+        merges = λ activity deed kind row moves becomes. joins_of (contents_of s) after activity deed _ moves.is (becomes_of (contents_of s) after activity deed _ moves.is becomes);
+      }) row becomes

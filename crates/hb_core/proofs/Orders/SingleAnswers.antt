@@ -21,7 +21,7 @@ use Rattle.hb_point.specs.SessionRows.{is_answered, next_line}
 use Rattle.hb_set.specs.Order.{Entry}
 
 -- two answers are to different lines
-abbrev AreToTwo : Answered → Answered → Type 0
+abbrev pub AreToTwo : Answered → Answered → Type 0
 AreToTwo a b = a.line ≢ b.line
 
 -- an answer outside of the order is to a line that doesn't stand there

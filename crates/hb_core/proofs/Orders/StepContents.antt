@@ -1,11 +1,8 @@
 -- What a step does to the contents of the file: they stay, or the line that joins the order takes effect on them.
-use Rattle.std.proofs.Common.{◌≡◌, ◌⊎◌, inl, inr, ℕ, Bool, true, cond, List, [], ◌∷◌, ◌++◌, Option, Some, None, option_map, refl, sym, ap, ◌∙◌, subst, append-nil}
+use Rattle.std.proofs.Common.{◌≡◌, ◌⊎◌, inl, inr, ℕ, Bool, cond, List, [], ◌∷◌, ◌++◌, Option, Some, None, option_map, refl, sym, ap, ◌∙◌, subst, append-nil}
 use Rattle.std.specs.FinMap as map
-use Rattle.std.specs.FinMap.{nat_cmp-IsAntisymmetric, slice_cmp-IsAntisymmetric}
-use Rattle.std.specs.Ordering.{eq_by_cmp, is_eq}
-use Rattle.std.specs.declared.cmp.Ordering.{Ordering}
-use Rattle.std.specs.declared.cmp.Ordering.TheVariants.{Less, Equal, Greater}
-use Rattle.std.proofs.lemmas.Bool.{cases_Bool, false≢true}
+use Rattle.std.specs.Ordering.{eq_by_cmp}
+use Rattle.std.proofs.lemmas.Bool.{cases_Bool}
 use Rattle.std.proofs.lemmas.Cmp.{nat_list_cmp_total}
 use Rattle.hb_ops.specs.declared.operations.Op.{Op}
 use Rattle.hb_ops.specs.declared.operations.Op.TheVariants as ops
@@ -22,8 +19,7 @@ use Rattle.hb_core.proofs.Memory.OwnPages.{gives_up_nothing, runs_out_nothing}
 use Rattle.hb_core.proofs.Orders.RowContents.{Becomes, JoinsWith, joins_row}
 use Rattle.hb_core.proofs.Files.RowTells.{Tells, tells_row}
 use Rattle.hb_core.proofs.Files.SoundFiles.{FilesHold, brought_shown, files_hold, keeps_marks, may_be_done, shows_file}
-use Rattle.hb_core.proofs.Table.StepCases.{each_step}
-use Rattle.hb_core.proofs.Table.StepKinds.{FlushesMore, rest_kind}
+use Rattle.hb_core.proofs.Table.StepKinds.{each_step, FlushesMore, rest_kind}
 use Rattle.hb_core.specs.Acting.{MeetsBadPage}
 use Rattle.hb_core.specs.Asking.{wanted_by}
 use Rattle.hb_core.specs.ContentsLaws.{ChangesAt, ContentsFollowOrder, ContentsStep, PointsStay, contents_now}
@@ -45,6 +41,7 @@ use Rattle.hb_store.specs.Keeps.{last_of}
 use Rattle.hb_store.specs.Making.{HaveFittingParts, MakesGoodPages}
 use Rattle.hb_store.proofs.Facts.ReplayLaws.{last_of-append}
 use Rattle.hb_store.specs.States.{StoreState}
+use Rattle.hb_space.proofs.Facts.PointOrder.{same_point}
 
 -- ---- what an operation does
 
@@ -111,7 +108,7 @@ module _ (makes : MakesGoodPages) (parts : HaveFittingParts) (points : HeldArePo
   worked (inl (by, way, so)) = stays (outcomes.Blocked by) so
   worked (inr (inl (free, unready, inl (waits, force)))) = forces outcomes.Helped force
   worked (inr (inl (free, unready, inr (none, rest)))) =
-      rest_kind m outcomes.Helped outcome new _ Follows none (λ at. refl) flushed_more (quiet m.store _ (runs_out_nothing (m.activity actor)) (ran_out_joins_nothing (m.activity actor))) rest
+      rest_kind m outcomes.Helped outcome new _ Follows none tt flushed_more (quiet m.store _ (runs_out_nothing (m.activity actor)) (ran_out_joins_nothing (m.activity actor))) rest
   worked (inr (inr (free, ready, inl acts))) =
       let here = brought m _ acts.fetched acts.brings keeps in
       let hold = brought_shown m files _ acts.fetched told acts.brings holds in
@@ -127,11 +124,11 @@ module _ (makes : MakesGoodPages) (parts : HaveFittingParts) (points : HeldArePo
 
   pub follows : StepsTo m actor outcome new → Follows
   follows step = each_step m actor outcome new Follows (record {
-    stays = λ said so. stays said so;
+    stays = λ said plain so. stays said so;
     forces = λ said quiet force. forces said force;
     more = flushed_more;
     takes = λ line idle next performs. quiet m.store _ refl refl performs;
-    refuses = λ line idle next performs. quiet m.store _ refl refl performs;
+    refuses = λ line idle next boxes performs. quiet m.store _ refl refl performs;
     posts = λ deed idle takes performs. quiet m.store deed (ap (λ (d : Deed). d.op) takes.deed_is) (ap (λ (d : Deed). d.joins) takes.deed_is) performs;
     merges = λ deed idle takes performs. quiet m.store deed (ap (λ (d : Deed). d.op) takes.deed_is) (ap (λ (d : Deed). d.joins) takes.deed_is) performs;
     settles = λ number place reply is settled performs. quiet m.store _ refl refl performs;
@@ -150,14 +147,6 @@ module _ (makes : MakesGoodPages) (parts : HaveFittingParts) (points : HeldArePo
       subst (λ (f : Files). ContentsStep m actor new (contents_now files) (contents_now f)) (same_files new.files goes.0 after goes.1 is) goes.2
 
 -- ---- what it does under one point
-
-equal_so : (o : Ordering) → is_eq o ≡ true → o ≡ Equal
-equal_so Less h = absurd (false≢true h)
-equal_so Equal h = refl
-equal_so Greater h = absurd (false≢true h)
-
-same_point : (p q : List ℕ) → eq_by_cmp point_cmp p q ≡ true → p ≡ q
-same_point p q is = slice_cmp-IsAntisymmetric nat_cmp-IsAntisymmetric p q (equal_so (point_cmp p q) is)
 
 abbrev pub StaysAt : RecordSet → RecordSet → List ℕ → Type 0
 StaysAt before after p = map.get after p ≡ map.get before p

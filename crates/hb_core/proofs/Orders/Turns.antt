@@ -1,5 +1,5 @@
 -- After a step each session still answers its lines in their order.
-use Rattle.std.proofs.Common.{◌≡◌, ◌≢◌, ◌⊎◌, inl, inr, ℕ, ◌<◌, ◌==◌, Bool, true, cond, List, [], ◌∷◌, ◌++◌, All, Option, Some, None, IfSome, refl, sym, ap, ◌∙◌, subst, append-nil, ne_eqb}
+use Rattle.std.proofs.Common.{◌≡◌, ◌≢◌, ◌⊎◌, inl, inr, ℕ, ◌<◌, ◌==◌, Bool, true, cond, List, [], ◌∷◌, ◌++◌, All, Option, Some, None, IfSome, refl, sym, ap, ◌∙◌, subst, ne_eqb}
 use Rattle.std.specs.List.{Contains}
 use Rattle.std.specs.Option.{IsSomeAnd}
 use Rattle.std.proofs.lemmas.Bool.{cases_Bool, eq-eqb, eqb-true, eqb-false}
@@ -18,9 +18,8 @@ use Rattle.hb_core.proofs.Table.LineFates.{LineFate, fate_given_up, fate_ran_out
 use Rattle.hb_core.proofs.Orders.LinesFit.{took_job, took_merging}
 use Rattle.hb_core.proofs.Table.MergerMoves.{Waits}
 use Rattle.hb_core.proofs.Orders.NextLines.{IsNextOf, answered_before, earlier_answered, next_is, next_stays, now_answered, same_line, still_answered}
-use Rattle.hb_core.proofs.Table.StepCases.{each_step}
-use Rattle.hb_core.proofs.Table.StepKinds.{rest_kind}
-use Rattle.hb_core.proofs.Table.Ways.{KeepsAllButDisk, forces_so, meets_so, stays_so, more_so}
+use Rattle.hb_core.proofs.Table.StepKinds.{each_step, rest_kind}
+use Rattle.hb_core.proofs.Table.Ways.{KeepsAllButDisk, same_answers, same_order, forces_so, meets_so, stays_so, more_so}
 use Rattle.hb_core.specs.KeptTurns.{LinesInTurn, awaited_number}
 use Rattle.hb_core.specs.Machines.{Machine, if_some, with_activity}
 use Rattle.hb_core.specs.OrderLaws.{TurnsStay}
@@ -30,27 +29,11 @@ use Rattle.hb_point.specs.SessionRows.{is_answered, next_line}
 use Rattle.hb_poster.specs.PosterRows.{IsPostingOf}
 use Rattle.hb_set.specs.Order.{AreRising, Entry}
 use Rattle.hb_store.specs.States.{StoreState}
+use Rattle.hb_lemmas.proofs.Options.{at_value}
 
 pub waits_none : (activity : Activity) → (Waits activity → ⊥) → awaited_number activity ≡ None
-waits_none at.SessionIdle none = refl
-waits_none (at.SessionWalk line held rest found) none = refl
-waits_none (at.SessionSplit line held) none = refl
-waits_none (at.SessionPut line source fresh) none = refl
 waits_none (at.SessionAwait number reply place) none = absurd (none tt)
-waits_none at.PosterIdle none = refl
-waits_none (at.PosterGrow job) none = refl
-waits_none (at.PosterWalk job held) none = refl
-waits_none (at.PosterChild job parent) none = refl
-waits_none (at.PosterPromote job parent) none = refl
-waits_none (at.PosterAgain job parent) none = refl
-waits_none at.ConsolidatorIdle none = refl
-waits_none (at.ConsolidatorWalk job held) none = refl
-waits_none (at.ConsolidatorScan job parent child) none = refl
-waits_none (at.ConsolidatorTry job parent keep gone leaf) none = refl
-waits_none (at.ConsolidatorPromote job parent keep gone) none = refl
-waits_none (at.ConsolidatorKeep job parent keep gone) none = refl
-waits_none (at.ConsolidatorDecide job parent keep gone) none = refl
-waits_none at.Flusher none = refl
+waits_none activity none = refl
 
 -- The same of lines, answers, activities and an order by themselves.
 pub record IsTurnOf (lines : List Line) (answered : List Answered) (activity : ℕ → Activity) (entry : Entry) : Type 0 where
@@ -191,9 +174,6 @@ module _ (lines : List Line) (answered : List Answered) (activity : ℕ → Acti
 
 -- ---- steps
 
-if_such : {A : Type 0} (o : Option A) (P : A → Type 0) (x : A) → o ≡ Some x → IfSome o P → P x
-if_such o P x is holds = subst (λ (o : Option _). IfSome o P) is holds
-
 some_such : (o : Option Line) (number : ℕ) → IsSomeAnd o (λ line. line.number ≡ number) → (line : Line) × (o ≡ Some line) × (line.number ≡ number)
 some_such None number never = absurd never
 some_such (Some line) number is = (line, refl, is)
@@ -214,12 +194,6 @@ module _ (m : Machine) (actor : ℕ) (outcome : Outcome) (new : Machine) (turn :
       (subst (λ (f : ℕ → Activity). TurnsOf m.lines answered f new.order) (sym (λ i other. performs.activity other i))
       (subst (λ (l : List Entry). TurnsOf m.lines answered (with_activity actor deed.next m.activity) l) (sym order_is) after))))
 
-  same_answers : (fetched : StoreState) (deed : Deed) → Performs m fetched actor deed outcome new → given_by (outcome_of deed.says) m.clock ≡ [] → new.answered ≡ m.answered
-  same_answers fetched deed performs none = performs.answered ∙ ap (λ (l : List Answered). m.answered ++ l) none ∙ append-nil m.answered
-
-  same_order : (fetched : StoreState) (deed : Deed) → Performs m fetched actor deed outcome new → deed.joins ≡ None → new.order ≡ m.order
-  same_order fetched deed performs none = performs.order ∙ ap (λ (o : Option Entry). m.order ++ if_some o) none ∙ append-nil m.order
-
   no_hand : (deed : Deed) → line_in_hand deed.next ≡ None → HandIsNext actor m.answered m.lines deed.next
   no_hand deed none = subst (λ (o : Option Line). IfSome o (λ line. next_line actor m.answered m.lines ≡ Some line)) (sym none) tt
 
@@ -228,32 +202,32 @@ module _ (m : Machine) (actor : ℕ) (outcome : Outcome) (new : Machine) (turn :
 
   quiet : (fetched : StoreState) (deed : Deed) → awaited_number (m.activity actor) ≡ None → given_by (outcome_of deed.says) m.clock ≡ [] → deed.joins ≡ None → HandIsNext actor m.answered m.lines deed.next → awaited_number deed.next ≡ None → Performs m fetched actor deed outcome new → LinesInTurn new
   quiet fetched deed idle says joins hand waits performs =
-      done fetched deed m.answered m.order performs (same_answers fetched deed performs says) (same_order fetched deed performs joins) (goes_on m.lines m.answered m.activity m.order (turns_of m turn) actor deed.next idle hand (no_await deed waits))
+      done fetched deed m.answered m.order performs (same_answers m actor outcome new fetched deed performs says) (same_order m actor outcome new fetched deed performs joins) (goes_on m.lines m.answered m.activity m.order (turns_of m turn) actor deed.next idle hand (no_await deed waits))
 
   -- a line is answered, and its session is idle then
   answers : (fetched : StoreState) (deed : Deed) (line : Line) (number : ℕ) (reply : Reply) → deed.says ≡ Answers number reply → deed.joins ≡ None → deed.next ≡ at.SessionIdle → number ≡ line.number → next_line actor m.answered m.lines ≡ Some line
       → awaited_number (m.activity actor) ≡ None ⊎ (awaited_number (m.activity actor) ≡ Some line.number) → Performs m fetched actor deed outcome new → LinesInTurn new
   answers fetched deed line number reply says joins next same is waits performs =
       let a : Answered = record { line = number; reply = reply; at = m.clock } in
-      done fetched deed (m.answered ++ a ∷ []) m.order performs (performs.answered ∙ ap (λ (o : Says). m.answered ++ given_by (outcome_of o) m.clock) says) (same_order fetched deed performs joins)
+      done fetched deed (m.answered ++ a ∷ []) m.order performs (performs.answered ∙ ap (λ (o : Says). m.answered ++ given_by (outcome_of o) m.clock) says) (same_order m actor outcome new fetched deed performs joins)
       (answers_next m.lines m.answered m.activity m.order (turns_of m turn) actor deed.next line a is same waits (ap line_in_hand next) (ap awaited_number next))
 
   fated : (fetched : StoreState) (deed : Deed) → awaited_number (m.activity actor) ≡ None → LineFate m (m.activity actor) deed → Performs m fetched actor deed outcome new → LinesInTurn new
   fated fetched deed idle (inl goes) performs =
       quiet fetched deed idle (goes.quiet m.clock) goes.joins (subst (λ (o : Option Line). IfSome o (λ line. next_line actor m.answered m.lines ≡ Some line)) (sym goes.hand) (turn.in_hand actor)) (waits_none deed.next goes.awaits) performs
   fated fetched deed idle (inr (inl takes)) performs =
-      let is : next_line actor m.answered m.lines ≡ Some takes.line = if_such (line_in_hand (m.activity actor)) (λ line. next_line actor m.answered m.lines ≡ Some line) takes.line takes.hand (turn.in_hand actor) in
-      done fetched deed m.answered (m.order ++ record { line = takes.line; reply = takes.reply } ∷ []) performs (same_answers fetched deed performs (takes.quiet m.clock)) (performs.order ∙ ap (λ (o : Option Entry). m.order ++ if_some o) takes.joins)
+      let is : next_line actor m.answered m.lines ≡ Some takes.line = at_value (line_in_hand (m.activity actor)) (λ line. next_line actor m.answered m.lines ≡ Some line) takes.line takes.hand (turn.in_hand actor) in
+      done fetched deed m.answered (m.order ++ record { line = takes.line; reply = takes.reply } ∷ []) performs (same_answers m actor outcome new fetched deed performs (takes.quiet m.clock)) (performs.order ∙ ap (λ (o : Option Entry). m.order ++ if_some o) takes.joins)
       (takes_place m.lines m.answered m.activity m.order (turns_of m turn) actor deed.next takes.line takes.reply idle is (ap line_in_hand takes.next) (ap awaited_number takes.next))
   fated fetched deed idle (inr (inr gives)) performs =
-      let is : next_line actor m.answered m.lines ≡ Some gives.line = if_such (line_in_hand (m.activity actor)) (λ line. next_line actor m.answered m.lines ≡ Some line) gives.line gives.hand (turn.in_hand actor) in
+      let is : next_line actor m.answered m.lines ≡ Some gives.line = at_value (line_in_hand (m.activity actor)) (λ line. next_line actor m.answered m.lines ≡ Some line) gives.line gives.hand (turn.in_hand actor) in
       answers fetched deed gives.line gives.line.number gives.reply gives.says gives.joins gives.next refl is (inl idle) performs
 
   worked : awaited_number (m.activity actor) ≡ None → Works m actor outcome new → LinesInTurn new
   worked idle (inl (by, way, so)) = stays (stays_so m actor outcome new (outcomes.Blocked by) so)
   worked idle (inr (inl (free, unready, inl (waits, force)))) = stays (forces_so m actor outcome new outcomes.Helped force)
   worked idle (inr (inl (free, unready, inr (none, rest)))) =
-      rest_kind m outcomes.Helped outcome new _ (LinesInTurn new) none (λ at. refl) (λ more. stays (more_so m actor outcome new more)) (fated m.store _ idle (fate_ran_out m (m.activity actor))) rest
+      rest_kind m outcomes.Helped outcome new _ (LinesInTurn new) none tt (λ more. stays (more_so m actor outcome new more)) (fated m.store _ idle (fate_ran_out m (m.activity actor))) rest
   worked idle (inr (inr (free, ready, inl acts))) = fated acts.fetched acts.deed idle (fate_row m acts.fetched (m.activity actor) _ acts.deed acts.row) acts.performs
   worked idle (inr (inr (free, ready, inr (inl gives)))) = fated gives.fetched _ idle (fate_given_up m gives.why (m.activity actor)) gives.performs
   worked idle (inr (inr (free, ready, inr (inr meets)))) = stays (meets_so m actor outcome new meets)
@@ -275,11 +249,11 @@ module _ (m : Machine) (actor : ℕ) (outcome : Outcome) (new : Machine) (turn :
 
 pub turns_stay : TurnsStay
 turns_stay m actor outcome new turn step = each_step m actor outcome new (LinesInTurn new) (record {
-  stays = λ said so. stays m actor outcome new turn (stays_so m actor outcome new said so);
+  stays = λ said plain so. stays m actor outcome new turn (stays_so m actor outcome new said so);
   forces = λ said silent force. stays m actor outcome new turn (forces_so m actor outcome new said force);
   more = λ more. stays m actor outcome new turn (more_so m actor outcome new more);
   takes = λ line idle next performs. quiet m actor outcome new turn m.store _ (ap awaited_number idle) refl refl next refl performs;
-  refuses = λ line idle next performs. answers m actor outcome new turn m.store _ line line.number _ refl refl refl refl next (inl (ap awaited_number idle)) performs;
+  refuses = λ line idle next boxes performs. answers m actor outcome new turn m.store _ line line.number _ refl refl refl refl next (inl (ap awaited_number idle)) performs;
   posts = λ deed idle takes performs.
       quiet m actor outcome new turn m.store deed (ap awaited_number idle) (ap (λ (d : Deed). given_by (outcome_of d.says) m.clock) takes.deed_is) (ap (λ (d : Deed). d.joins) takes.deed_is)
       (no_hand m actor outcome new turn deed (took_job m deed takes)) (posts_await_none m actor outcome new turn deed takes) performs;
@@ -287,7 +261,7 @@ turns_stay m actor outcome new turn step = each_step m actor outcome new (LinesI
       quiet m actor outcome new turn m.store deed (ap awaited_number idle) (ap (λ (d : Deed). given_by (outcome_of d.says) m.clock) takes.deed_is) (ap (λ (d : Deed). d.joins) takes.deed_is)
       (no_hand m actor outcome new turn deed (took_merging m deed takes)) (merges_await_none m actor outcome new turn deed takes) performs;
   settles = λ number place reply is settled performs.
-      let one = some_such (next_line actor m.answered m.lines) number (if_such (awaited_number (m.activity actor)) (λ number. IsSomeAnd (next_line actor m.answered m.lines) (λ line. line.number ≡ number)) number (ap awaited_number is) (turn.awaited actor)) in
+      let one = some_such (next_line actor m.answered m.lines) number (at_value (awaited_number (m.activity actor)) (λ number. IsSomeAnd (next_line actor m.answered m.lines) (λ line. line.number ≡ number)) number (ap awaited_number is) (turn.awaited actor)) in
       answers m actor outcome new turn m.store _ one.0 number reply refl refl refl (sym one.2) one.1 (inr (ap awaited_number is ∙ ap (λ (n : ℕ). Some n) (sym one.2))) performs;
   works = λ none works. worked m actor outcome new turn (waits_none (m.activity actor) none) works;
 }) step

@@ -30,7 +30,7 @@ pub record IsPutOf (half other : ℕ) (rec same : Record) : Type 0 where
 put_of : (half other : ℕ) (rec same : Record) → Put half rec ≡ Put other same → IsPutOf half other rec same
 put_of half other rec same is = record { where_it_goes = cc; what_goes = cc }
 
-insert_of : (rec same : Record) → Insert rec ≡ Insert same → rec ≡ same
+pub insert_of : (rec same : Record) → Insert rec ≡ Insert same → rec ≡ same
 insert_of rec same is = cc
 
 module _ (m : Machine) (fetched : StoreState) (brings : Brings m AnyPage fetched) (line : Line) (source fresh : ℕ) (deed : Deed) (row : Puts (sight (with_disk fetched m.files m.clock m)) line source fresh deed) where

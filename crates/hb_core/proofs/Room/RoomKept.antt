@@ -11,7 +11,6 @@ use Rattle.hb_ops.specs.declared.operations.Op.{Op}
 use Rattle.hb_ops.specs.declared.operations.Op.TheVariants as ops
 use Rattle.hb_set.specs.declared.commands.Command.TheVariants.{Insert}
 use Rattle.hb_set.specs.declared.scripts.Line.{Line}
-use Rattle.hb_latch.specs.declared.modes.Mode.{Mode}
 use Rattle.hb_latch.specs.declared.modes.Mode.TheVariants.{Exclusive}
 use Rattle.hb_activity.specs.declared.jobs.Job.{Job}
 use Rattle.hb_activity.specs.declared.holding.Latch.{Latch}
@@ -23,7 +22,6 @@ use Rattle.hb_activity.specs.Classes.{line_in_hand}
 use Rattle.hb_activity.specs.Deeds.{Deed, does}
 use Rattle.hb_activity.specs.Holding.{latch_on}
 use Rattle.hb_activity.specs.Walks.{walk_held}
-use Rattle.hb_core.proofs.Latches.Backing.{live_there}
 use Rattle.hb_core.proofs.Table.NextPlaces.{HasPlace, HoldsNothing, KeepsParent, PartsFull, TakesFull, nothing_given_up, nothing_run_out, now, place_after}
 use Rattle.hb_core.proofs.Room.SplitHalves.{one_has_room, takes_full}
 use Rattle.hb_core.proofs.Room.SplitHome.{RoomLaws}
@@ -46,6 +44,10 @@ use Rattle.hb_ops.specs.Operations.{change_of}
 use Rattle.hb_ops.specs.Recording.{put_page}
 use Rattle.hb_store.specs.Calls.{read_here}
 use Rattle.hb_store.specs.States.{StoreState, in_memory}
+use Rattle.hb_core.proofs.Table.MergerMoves.{no_line}
+use Rattle.hb_ops.proofs.Facts.PageNumberLaws.{live_so}
+use Rattle.hb_lemmas.proofs.Booleans.{at_itself}
+use Rattle.hb_core.proofs.Memory.OwnedOps.{second_mode}
 
 -- ---- the capacity stays
 
@@ -91,7 +93,7 @@ module _ (m : Machine) (actor : ℕ) (outcome : Outcome) (new : Machine) where
   by_work : Works m actor outcome new → SameCapacity m new
   by_work (inl (by, way, so)) = by_rest (outcomes.Blocked by) so
   by_work (inr (inl (free, unready, inl (waits, force)))) = by_force outcomes.Helped force
-  by_work (inr (inl (free, unready, inr (none, rest)))) = rest_kind m outcomes.Helped outcome new _ (SameCapacity m new) none (λ at. refl) by_more (by_deed m.store _ refl) rest
+  by_work (inr (inl (free, unready, inr (none, rest)))) = rest_kind m outcomes.Helped outcome new _ (SameCapacity m new) none tt by_more (by_deed m.store _ refl) rest
   by_work (inr (inr (free, ready, inl acts))) = by_deed acts.fetched acts.deed acts.brings.rest.meta acts.performs
   by_work (inr (inr (free, ready, inr (inl gives)))) = by_deed gives.fetched _ gives.brings.rest.meta gives.performs
   by_work (inr (inr (free, ready, inr (inr meets)))) = by_bad_page meets
@@ -266,20 +268,11 @@ module _ (laws : RoomLaws) (least : DCAP_MIN ≡ 6) (m : Machine) (actor : ℕ) 
   knows_there (inr (inr (inl full))) = knows_as new deed.next _ (ap (λ (d : Deed). d.next) full.row.deed_is) (split_knows new full.line full.id (full_known full))
   knows_there (inr (inr (inr (inl takes)))) = knows_as new deed.next _ (ap (λ (d : Deed). d.next) takes.row.deed_is) (child_knows new takes.job takes.id)
   knows_there (inr (inr (inr (inr (inl keeps))))) = kept_parent_knows keeps
-  knows_there (inr (inr (inr (inr (inr (inr merges)))))) = handless_knows new deed.next (ap (λ (d : Deed). line_in_hand d.next) merges.stays.moves.is ∙ merges.stays.moves.hand)
+  knows_there (inr (inr (inr (inr (inr (inr merges)))))) = handless_knows new deed.next (ap (λ (d : Deed). line_in_hand d.next) merges.stays.is ∙ no_line merges.stays.next merges.stays.job merges.stays.after)
   knows_there (inr (inr (inr (inr (inr (inl parts)))))) =
       knows_as new deed.next _ (ap (λ (d : Deed). d.next) parts.row.deed_is) (put_knows new parts.line parts.held parts.row.leaves.fresh (parted_known parts (knows.splits actor parts.held parts.line parts.before)))
 
 -- ---- each step
-
-first_mode : (id : ℕ) (rest : Option Mode) → cond (id == id) (Some Exclusive) rest ≡ Some Exclusive
-first_mode id rest = ap (λ (b : Bool). cond b (Some Exclusive) rest) (eq-eqb id id refl)
-
-second_mode : (first id : ℕ) → cond (first == id) (Some Exclusive) (cond (id == id) (Some Exclusive) None) ≡ Some Exclusive
-second_mode first id = elim (cases_Bool (first == id)) [
-  | inl here ↦ ap (λ (b : Bool). cond b (Some Exclusive) (cond (id == id) (Some Exclusive) None)) here
-  | inr off ↦ ap (λ (b : Bool). cond b (Some Exclusive) (cond (id == id) (Some Exclusive) None)) off ∙ first_mode id None
-]
 
 module _ (laws : RoomLaws) (least : DCAP_MIN ≡ 6) (m : Machine) (actor : ℕ) (outcome : Outcome) (new : Machine) (latches : MayLatch actor) (fit : LatchesFit m) (inside : HoldsPagesOfFile m) (marks : MarksInPlace m) (nobody : HasNobodyElse m)
     (knows : KnowsRoom m) (step : StepsTo m actor outcome new) where
@@ -290,11 +283,11 @@ module _ (laws : RoomLaws) (least : DCAP_MIN ≡ 6) (m : Machine) (actor : ℕ) 
   other_knows other another may = record {
     splits = λ held line is.
         splits_again m new capacity line held
-        (λ page live. other_holds m actor outcome new latches fit inside step other another may (at.SessionSplit line held) held Exclusive page is (first_mode held None) live)
+        (λ page live. other_holds m actor outcome new latches fit inside step other another may (at.SessionSplit line held) held Exclusive page is (at_itself held (Some Exclusive) None) live)
         (knows.splits other held line is);
     puts = λ source fresh line is.
         puts_again m new capacity line source fresh
-        (λ page live. other_holds m actor outcome new latches fit inside step other another may (at.SessionPut line source fresh) source Exclusive page is (first_mode source (cond (fresh == source) (Some Exclusive) None)) live)
+        (λ page live. other_holds m actor outcome new latches fit inside step other another may (at.SessionPut line source fresh) source Exclusive page is (at_itself source (Some Exclusive) (cond (fresh == source) (Some Exclusive) None)) live)
         (λ page live. other_holds m actor outcome new latches fit inside step other another may (at.SessionPut line source fresh) fresh Exclusive page is (second_mode source fresh) live)
         (knows.puts other source fresh line is);
   }
@@ -322,7 +315,7 @@ module _ (laws : RoomLaws) (least : DCAP_MIN ≡ 6) (m : Machine) (actor : ℕ) 
       (λ other another. ap (λ (all : ℕ → Activity). all other) keeps.activity)
     where
       still : (id : ℕ) (page : LivePage) → mode_among id (latches_held m.store (m.activity actor)) ≡ Some Exclusive → live_here m.store id ≡ Some page → live_here new.store id ≡ Some page
-      still id page among live = ap if_live (keeps.memory id (Live page) (inl (actor, Exclusive, fit.exact actor id latches ∙ among)) (live_there (in_memory m.store id) page live))
+      still id page among live = ap if_live (keeps.memory id (Live page) (inl (actor, Exclusive, fit.exact actor id latches ∙ among)) (live_so (in_memory m.store id) page live))
 
   did : (fetched : StoreState) (deed : Deed) → Performs m fetched actor deed outcome new → KnowsOf new deed.next → KnowsRoom new
   did fetched deed performs own = with_own (knows_as new (new.activity actor) deed.next (own_next m actor fetched deed outcome new performs) own) (λ other another. stood other another)
@@ -337,7 +330,7 @@ module _ (laws : RoomLaws) (least : DCAP_MIN ≡ 6) (m : Machine) (actor : ℕ) 
   worked (inl (by, way, so)) = same_but_disk (stays_so m actor outcome new (outcomes.Blocked by) so)
   worked (inr (inl (free, unready, inl (waits, force)))) = same_but_disk (forces_so m actor outcome new outcomes.Helped force)
   worked (inr (inl (free, unready, inr (none, rest)))) =
-      rest_kind m outcomes.Helped outcome new _ (KnowsRoom new) none (λ at. refl) (λ more. same_but_disk (more_so m actor outcome new more)) (λ performs. freed m.store _ performs (nothing_run_out (m.activity actor))) rest
+      rest_kind m outcomes.Helped outcome new _ (KnowsRoom new) none tt (λ more. same_but_disk (more_so m actor outcome new more)) (λ performs. freed m.store _ performs (nothing_run_out (m.activity actor))) rest
   worked (inr (inr (free, ready, inl acts))) =
       did acts.fetched acts.deed acts.performs
       (knows_there laws least m actor _ acts.fetched inside marks knows acts.brings acts.deed new capacity acts.performs.store (place_after m actor acts.fetched _ acts.deed refl acts.row))

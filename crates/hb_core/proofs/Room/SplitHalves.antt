@@ -15,13 +15,12 @@ use Rattle.hb_ops.specs.declared.operations.Op.{Op}
 use Rattle.hb_ops.specs.declared.operations.Op.TheVariants as ops
 use Rattle.hb_set.specs.declared.scripts.Line.{Line}
 use Rattle.hb_activity.specs.Deeds.{Deed}
-use Rattle.hb_core.proofs.Latches.Backing.{live_there}
 use Rattle.hb_core.proofs.Memory.BroughtPages.{both_there}
 use Rattle.hb_core.proofs.Table.NextPlaces.{TakesFull, now}
 use Rattle.hb_core.proofs.Memory.OwnedOps.{made_was_free}
 use Rattle.hb_core.proofs.Room.SplitHome.{IsHome, RoomLaws, holds_directly, never_both, one_is_home}
 use Rattle.hb_core.proofs.Room.SplitWeights.{both_have_room, parted_weighs}
-use Rattle.hb_point.proofs.RecordLeaves.{put_weighs}
+use Rattle.hb_point.proofs.Facts.RecordLeaves.{put_weighs}
 use Rattle.hb_core.proofs.Memory.StillThere.{fetched_good, nothing_done}
 use Rattle.hb_core.specs.Fetching.{Brings}
 use Rattle.hb_core.specs.KeptLines.{MarksInPlace}
@@ -45,6 +44,7 @@ use Rattle.hb_split.specs.Laws.{IsThirds}
 use Rattle.hb_store.specs.Calls.{change_here, read_here}
 use Rattle.hb_store.specs.Replay.{set_pages}
 use Rattle.hb_store.specs.States.{IsGoodPage, StoreState, in_memory}
+use Rattle.hb_ops.proofs.Facts.PageNumberLaws.{live_so}
 
 -- ---- a page that lacks room
 
@@ -143,7 +143,7 @@ module _ (m : Machine) (actor : ℕ) (may : ℕ → Type 0) (fetched : StoreStat
   frame_is id = commit_pages _ _ _ _ does.commits id ∙ ap (λ (pages : List (ℕ × Page)). set_pages pages (in_memory fetched) id) changed_are
 
   apart : held ≢ row.leaves.fresh
-  apart same = made_was_free m may fetched row.leaves.fresh row.leaves.free_after inside brings (is_next_number fetched row.leaves.fresh row.leaves.free_after row.leaves.next) page (subst (λ (n : ℕ). (in_memory m.store) n ≡ Some (Live page)) same (live_there (in_memory m.store held) page live_before))
+  apart same = made_was_free m may fetched row.leaves.fresh row.leaves.free_after inside brings (is_next_number fetched row.leaves.fresh row.leaves.free_after row.leaves.next) page (subst (λ (n : ℕ). (in_memory m.store) n ≡ Some (Live page)) same (live_so (in_memory m.store held) page live_before))
 
   source_there : live_here new.store held ≡ Some source
   source_there =

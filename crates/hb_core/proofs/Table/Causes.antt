@@ -1,5 +1,5 @@
 -- Why a line is refused, why a job ends, and what a step says of lines and jobs.
-use Rattle.std.proofs.Common.{◌≡◌, ◌⊎◌, inl, inr, ℕ, Bool, cond, List, Option, Some, None, IfSome, IsSomeAnd, refl, sym, ap, ◌∙◌, subst, ◌≤◌, arith}
+use Rattle.std.proofs.Common.{◌≡◌, ◌⊎◌, inl, inr, ℕ, Bool, cond, List, Option, Some, None, IsSomeAnd, refl, sym, ap, ◌∙◌, subst, ◌≤◌, arith}
 use Rattle.std.specs.List.{Contains}
 use Rattle.std.proofs.lemmas.Bool.{eq-eqb}
 use Rattle.std.proofs.lemmas.Option.{same_Some}
@@ -34,6 +34,7 @@ use Rattle.hb_core.specs.Steps.{StepsTo, TakesJob, TakesMerging}
 use Rattle.hb_point.specs.SessionRows.{WantsBoxes, next_line}
 use Rattle.hb_poster.specs.PosterRows.{IsPostingOf}
 use Rattle.hb_store.specs.States.{StoreState}
+use Rattle.hb_lemmas.proofs.Options.{at_value}
 
 -- what an outcome answers, and what it drops
 answered_with : (number other : ℕ) (reply given : Reply) → outcomes.Answered number reply ≡ outcomes.Answered other given → (number ≡ other) × (reply ≡ given)
@@ -107,17 +108,13 @@ module _ (m : Machine) (actor number : ℕ) (reply : Reply) (new : Machine) (G :
     gives = λ gives. gave_up gives.why (record { fetched = gives.fetched; brings = gives.brings; cause = gives.cause }) gives.performs.says;
   }) step
 
--- the line of an answer is its session's first one
-if_such : {A : Type 0} (o : Option A) (P : A → Type 0) (x : A) → o ≡ Some x → IfSome o P → P x
-if_such o P x is holds = subst (λ (o : Option _). IfSome o P) is holds
-
 abbrev IsFirst : Machine → ℕ → ℕ → Type 0
 IsFirst m actor number = IsSomeAnd (next_line actor m.answered m.lines) (λ line. line.number ≡ number)
 
 pub answers_first_line : AnswersFirstLine
 answers_first_line m actor number reply new keeps step = answering m actor number reply new (IsFirst m actor number) (record {
   refuses = λ line idle next begins number_is reply_is. first line next number_is;
-  settles = λ place is. if_such (awaited_number (m.activity actor)) (λ number. IsSomeAnd (next_line actor m.answered m.lines) (λ line. line.number ≡ number)) number (ap awaited_number is) (keeps.lines_in_turn.awaited actor);
+  settles = λ place is. at_value (awaited_number (m.activity actor)) (λ number. IsSomeAnd (next_line actor m.answered m.lines) (λ line. line.number ≡ number)) number (ap awaited_number is) (keeps.lines_in_turn.awaited actor);
   runs = λ line hand number_is cause reply_is. in_hand line hand number_is;
   full = λ line held is number_is none_free reply_is. in_hand line (ap line_in_hand is) number_is;
   gives = λ line why hand number_is cause reply_is. in_hand line hand number_is;
@@ -127,7 +124,7 @@ answers_first_line m actor number reply new keeps step = answering m actor numbe
     first line next number_is = subst (λ (o : Option Line). IsSomeAnd o (λ line. line.number ≡ number)) (sym next) (sym number_is)
 
     in_hand : (line : Line) → line_in_hand (m.activity actor) ≡ Some line → number ≡ line.number → IsFirst m actor number
-    in_hand line hand number_is = first line (if_such (line_in_hand (m.activity actor)) (λ line. next_line actor m.answered m.lines ≡ Some line) line hand (keeps.lines_in_turn.in_hand actor)) number_is
+    in_hand line hand number_is = first line (at_value (line_in_hand (m.activity actor)) (λ line. next_line actor m.answered m.lines ≡ Some line) line hand (keeps.lines_in_turn.in_hand actor)) number_is
 
 -- ---- why it is refused
 

@@ -11,8 +11,7 @@ use Rattle.hb_core.specs.declared.outcomes.Outcome.TheVariants as outcomes
 use Rattle.hb_activity.specs.Classes.{Class, Sessions, Posters, Consolidators, Flushers, Empty, HasLine, class_of, hand_of, idle_of}
 use Rattle.hb_activity.specs.Deeds.{Deed, answers_now}
 use Rattle.hb_core.proofs.Table.GivenUp.{given_up_is, idle_hand, run_out_is}
-use Rattle.hb_core.proofs.Table.StepCases.{each_step}
-use Rattle.hb_core.proofs.Table.StepKinds.{FlushesMore, rest_kind}
+use Rattle.hb_core.proofs.Table.StepKinds.{each_step, FlushesMore, rest_kind}
 use Rattle.hb_core.proofs.Table.Ways.{KeepsAllButDisk, forces_so, meets_so, more_so, stays_so}
 use Rattle.hb_core.specs.Acting.{DoesRow}
 use Rattle.hb_core.specs.Forcing.{ForcesFirst, StaysSo}
@@ -38,22 +37,9 @@ line_is_sessions (at.SessionWalk own held rest found) line is = refl
 line_is_sessions (at.SessionSplit own held) line is = refl
 line_is_sessions (at.SessionPut own source fresh) line is = refl
 line_is_sessions (at.SessionAwait number reply place) line is = refl
-line_is_sessions at.PosterIdle line is = cc
-line_is_sessions (at.PosterGrow job) line is = cc
-line_is_sessions (at.PosterWalk job held) line is = cc
-line_is_sessions (at.PosterChild job parent) line is = cc
-line_is_sessions (at.PosterPromote job parent) line is = cc
-line_is_sessions (at.PosterAgain job parent) line is = cc
-line_is_sessions at.ConsolidatorIdle line is = cc
-line_is_sessions (at.ConsolidatorWalk job held) line is = cc
-line_is_sessions (at.ConsolidatorScan job parent child) line is = cc
-line_is_sessions (at.ConsolidatorTry job parent keep gone leaf) line is = cc
-line_is_sessions (at.ConsolidatorPromote job parent keep gone) line is = cc
-line_is_sessions (at.ConsolidatorKeep job parent keep gone) line is = cc
-line_is_sessions (at.ConsolidatorDecide job parent keep gone) line is = cc
-line_is_sessions at.Flusher line is = cc
+line_is_sessions activity line is = cc
 
-idle_kind : (kind : Class) → class_of (idle_of kind) ≡ kind
+pub idle_kind : (kind : Class) → class_of (idle_of kind) ≡ kind
 idle_kind Sessions = refl
 idle_kind Posters = refl
 idle_kind Consolidators = refl
@@ -104,18 +90,18 @@ module _ (m : Machine) (actor : ℕ) (outcome : Outcome) (new : Machine) (G : Ty
   worked : Works m actor outcome new → G
   worked (inl (by, way, so)) = stays (outcomes.Blocked by) so
   worked (inr (inl (free, unready, inl (waits, force)))) = forces outcomes.Helped force
-  worked (inr (inl (free, unready, inr (none, rest)))) = rest_kind m outcomes.Helped outcome new _ G none (λ at. refl) more (shows.ends m.store _ refl (runs (m.activity actor))) rest
+  worked (inr (inl (free, unready, inr (none, rest)))) = rest_kind m outcomes.Helped outcome new _ G none tt more (shows.ends m.store _ refl (runs (m.activity actor))) rest
   worked (inr (inr (free, ready, inl acts))) = shows.acts acts
   worked (inr (inr (free, ready, inr (inl abandons)))) = shows.ends abandons.fetched _ abandons.brings.rest.meta (gives abandons.why (m.activity actor)) abandons.performs
   worked (inr (inr (free, ready, inr (inr meets)))) = shows.keeps (meets_so m actor outcome new meets) (ap (λ (n : Machine). n.store.meta) meets.stops ∙ meets.brings.rest.meta)
 
   pub each_deed : StepsTo m actor outcome new → G
   each_deed step = each_step m actor outcome new G (record {
-    stays = stays;
+    stays = λ said plain so. stays said so;
     forces = λ said quiet force. forces said force;
     more = more;
     takes = shows.takes;
-    refuses = λ line idle next performs. shows.ends m.store _ refl (answers (m.activity actor) line.number _ (ap class_of idle)) performs;
+    refuses = λ line idle next boxes performs. shows.ends m.store _ refl (answers (m.activity actor) line.number _ (ap class_of idle)) performs;
     posts = shows.posts;
     merges = shows.merges;
     settles = λ number place reply is settled performs. shows.ends m.store _ refl (answers (m.activity actor) number reply (ap class_of is)) performs;

@@ -1,38 +1,32 @@
 -- What becomes of the line that an actor has in hand: it stays in hand, takes effect, or is answered outside the order.
-use Rattle.std.proofs.Common.{◌≡◌, ◌⊎◌, inl, inr, ℕ, List, [], ◌∷◌, length, Option, Some, None, refl, ◌∙◌, sym, subst, ap}
-use Rattle.std.specs.Prelude.{MatchOption}
-use Rattle.hb_space.specs.declared.records.Record.{Record}
+use Rattle.std.proofs.Common.{◌≡◌, ◌⊎◌, inl, inr, length, Option, Some, None, refl, ◌∙◌, sym, subst, ap}
 use Rattle.hb_frag.specs.declared.pages.LivePage.{LivePage}
 use Rattle.hb_set.specs.declared.commands.Command.{Command}
 use Rattle.hb_set.specs.declared.commands.Command.TheVariants.{Insert, Delete, Lookup, Search}
 use Rattle.hb_set.specs.declared.commands.Reply.{Reply}
 use Rattle.hb_set.specs.declared.commands.Reply.TheVariants as replies
 use Rattle.hb_set.specs.declared.scripts.Line.{Line}
-use Rattle.hb_terms.specs.declared.plans.PostPlan.{PostPlan}
-use Rattle.hb_terms.specs.declared.plans.PostPlan.TheVariants as plans
-use Rattle.hb_activity.specs.declared.jobs.Job.{Job}
 use Rattle.hb_activity.specs.declared.wanting.Wanted.{Wanted}
 use Rattle.hb_activity.specs.declared.activities.Activity.{Activity}
 use Rattle.hb_activity.specs.declared.activities.Activity.TheVariants as at
 use Rattle.hb_activity.specs.declared.dropping.DropWhy.{DropWhy}
 use Rattle.hb_activity.specs.declared.dropping.DropWhy.TheVariants as drops
 use Rattle.hb_activity.specs.Classes.{line_in_hand, Class, Consolidators, Flushers, Posters, Sessions, class_of, idle_of, line_of}
-use Rattle.hb_activity.specs.Deeds.{Deed, answers_now, takes_effect, Answers}
-use Rattle.hb_activity.specs.Passing.{PassesOn}
-use Rattle.hb_activity.specs.Walks.{goal_of}
+use Rattle.hb_activity.specs.Deeds.{Deed, answers_now, Answers}
 use Rattle.hb_core.proofs.Table.GivenUp.{idle_hand, given_up_is, run_out_is}
-use Rattle.hb_core.proofs.Table.MergerMoves.{MovesMerger, merger_moves}
 use Rattle.hb_core.proofs.Table.StepKinds.{IsQuiet}
 use Rattle.hb_core.specs.GivingUp.{gives_up, reply_for, runs_out}
 use Rattle.hb_core.specs.KeptOrder.{StandsOutside}
-use Rattle.hb_core.specs.Machines.{Machine, with_disk, sight}
+use Rattle.hb_core.specs.Machines.{Machine, with_disk}
 use Rattle.hb_core.specs.Performing.{outcome_of}
-use Rattle.hb_core.specs.Rows.{DoesHere, Row, RowAlone, RowAt}
-use Rattle.hb_poster.specs.PosterRows.{DoesPlan, after_look}
-use Rattle.hb_search.specs.SearchRows.{SearchGoesOn}
-use Rattle.hb_space.specs.Boxes.{Area}
+use Rattle.hb_core.specs.Rows.{Row}
 use Rattle.hb_store.specs.States.{StoreState}
 pub use Rattle.hb_core.proofs.Table.MergerMoves.{Waits}
+use Rattle.hb_consol.specs.ConsolidatorRows.{IsMergingOf}
+use Rattle.hb_poster.specs.PosterRows.{IsPostingOf}
+use Rattle.hb_core.specs.Steps.{TakesJob, TakesMerging}
+use Rattle.hb_core.proofs.Table.MergerMoves.{StaysMerger, no_line}
+use Rattle.hb_core.proofs.Table.EachRow.{Settles, each_row}
 
 -- The line stays in hand, and nothing joins the order or is answered.
 pub record GoesOn (activity : Activity) (deed : Deed) : Type 0 where
@@ -48,6 +42,8 @@ pub record TakesEffect (m : Machine) (activity : Activity) (deed : Deed) : Type 
   pub hand : line_in_hand activity ≡ Some line
   pub joins : deed.joins ≡ Some (record { line = line; reply = reply })
   pub next : deed.next ≡ at.SessionAwait line.number reply (length m.order)
+  -- a reply of the order
+  pub inside : ¬ (StandsOutside reply)
   pub quiet : IsQuiet (outcome_of deed.says)
 
 -- It is answered outside the order.
@@ -70,8 +66,8 @@ module _ (m : Machine) where
   goes : (activity : Activity) (deed : Deed) → deed.joins ≡ None → IsQuiet (outcome_of deed.says) → line_in_hand deed.next ≡ line_in_hand activity → (Waits deed.next → ⊥) → LineFate m activity deed
   goes activity deed joins quiet hand awaits = inl (record { joins = joins; quiet = quiet; hand = hand; awaits = awaits })
 
-  effect : (activity : Activity) (line : Line) (reply : Reply) (deed : Deed) → line_in_hand activity ≡ Some line → deed.joins ≡ Some (record { line = line; reply = reply }) → deed.next ≡ at.SessionAwait line.number reply (length m.order) → IsQuiet (outcome_of deed.says) → LineFate m activity deed
-  effect activity line reply deed hand joins next quiet = inr (inl (record { line = line; reply = reply; hand = hand; joins = joins; next = next; quiet = quiet }))
+  effect : (activity : Activity) (line : Line) (reply : Reply) (deed : Deed) → line_in_hand activity ≡ Some line → deed.joins ≡ Some (record { line = line; reply = reply }) → deed.next ≡ at.SessionAwait line.number reply (length m.order) → IsQuiet (outcome_of deed.says) → ¬ (StandsOutside reply) → LineFate m activity deed
+  effect activity line reply deed hand joins next quiet inside = inr (inl (record { line = line; reply = reply; hand = hand; joins = joins; next = next; inside = inside; quiet = quiet }))
 
   given : (activity : Activity) (line : Line) (reply : Reply) → line_in_hand activity ≡ Some line → StandsOutside reply → LineFate m activity (answers_now line.number reply)
   given activity line reply hand outside = inr (inr (record { line = line; reply = reply; hand = hand; outside = outside; joins = refl; next = refl; says = refl }))
@@ -87,7 +83,7 @@ idle_awaits Posters never = never
 idle_awaits Consolidators never = never
 idle_awaits Flushers never = never
 
-outside_for : (why : DropWhy) → StandsOutside (reply_for why)
+pub outside_for : (why : DropWhy) → StandsOutside (reply_for why)
 outside_for drops.NoMemory = tt
 outside_for drops.ReadFault = tt
 
@@ -114,94 +110,61 @@ ran_out_joins_nothing activity = run_out_is (λ deed. deed.joins ≡ None) activ
 
 -- ---- the rows
 
+-- what settles a command is a reply of the order
+settles_inside : (command : Command) (page : LivePage) (reply : Reply) → Settles command page reply → ¬ (StandsOutside reply)
+settles_inside (Insert rec) page reply (twin, there, is) outside = subst StandsOutside is outside
+settles_inside (Delete p) page reply (absent, is) outside = subst StandsOutside is outside
+settles_inside (Lookup p) page reply (inl (found, there, is)) outside = subst StandsOutside is outside
+settles_inside (Lookup p) page reply (inr (absent, is)) outside = subst StandsOutside is outside
+settles_inside (Search area) page reply (ordered, is) outside = subst StandsOutside is outside
+
 module _ (m : Machine) (fetched : StoreState) where
-  abbrev pub m' : Machine
-  m' = with_disk fetched m.files m.clock m
+  stays_in_hand : (activity : Activity) (deed : Deed) → StaysMerger activity deed → LineFate m activity deed
+  stays_in_hand activity deed stays =
+      fate_of m activity deed _ stays.is (goes m activity _ refl (λ at. refl) (no_line stays.next stays.job stays.after ∙ sym (ap line_of stays.before.hand)) stays.after.awaits)
 
-  -- a deed whose line takes effect, of an actor that has this line in hand
-  joins_as : (activity : Activity) (line : Line) (reply : Reply) (deed : Deed) (op : Option _) (adds : List Job) → line_in_hand activity ≡ Some line → deed ≡ takes_effect (length m'.order) line reply op adds → LineFate m activity deed
-  joins_as activity line reply deed op adds hand is = fate_of m activity deed _ is (effect m activity line reply _ hand refl refl (λ at. refl))
+  pub fate_row : (activity : Activity) (wanted : Option Wanted) (deed : Deed) → Row activity wanted (with_disk fetched m.files m.clock m) deed → LineFate m activity deed
+  fate_row activity wanted deed row = each_row (with_disk fetched m.files m.clock m) (LineFate m) activity wanted deed
+      (record {
+        full = λ line held none. given m _ line replies.Full refl tt;
+        splits = λ line held page live leaves. goes m _ _ refl (λ at. refl) refl (λ never. never);
+        puts = λ line source fresh rec command half either page live. effect m _ line replies.Done _ refl refl refl (λ at. refl) (λ never. never);
+      })
+      (λ its page wants hand. record {
+        passes = λ line held rest found p goal leaf row. goes m _ _ refl (λ at. refl) refl (λ never. never);
+        settles = λ line held rest found reply settles. effect m _ line reply _ refl refl refl (λ at. refl) (settles_inside line.command page reply settles);
+        inserts = λ line held rest found rec command absent room. effect m _ line replies.Done _ refl refl refl (λ at. refl) (λ never. never);
+        lacks_room = λ line held rest found rec command level absent full. goes m _ _ refl (λ at. refl) refl (λ never. never);
+        deletes = λ line held rest found p there command stands. effect m _ line replies.Done _ refl refl refl (λ at. refl) (λ never. never);
+        searches = λ line held rest found area others more row. goes m _ _ refl (λ at. refl) refl (λ never. never);
+        grows = λ job fresh free_after may free next. goes m _ _ refl (λ at. refl) refl (λ never. never);
+        ends = λ activity job kind hand. goes m activity _ refl (λ at. refl) (sym (ap line_of hand)) (λ never. never);
+        arrives = λ job held child area level leaf. goes m _ _ refl (λ at. refl) refl (λ never. never);
+        walks = λ job held leaf farther row. goes m _ _ refl (λ at. refl) refl (λ never. never);
+        looks = λ job parent. goes m _ _ refl (λ at. refl) refl (λ never. never);
+        promotes = λ job parent. goes m _ _ refl (λ at. refl) refl (λ never. never);
+        posts = λ job parent above path inner area live plan. goes m _ _ refl (λ at. refl) refl (λ never. never);
+        parts = λ job parent above live plan leaves. goes m _ _ refl (λ at. refl) refl (λ never. never);
+        walks_to_merge = λ job held leaf farther row. goes m _ _ refl (λ at. refl) refl (λ never. never);
+        merges = λ activity deed kind row stays. stays_in_hand activity deed stays;
+      }) row
 
-  fate_search : (activity : Activity) (line : Line) (boxes : List Area) (found : List Record) (deed : Deed) → line_in_hand activity ≡ Some line → SearchGoesOn (sight m') line boxes found deed → LineFate m activity deed
-  fate_search activity line [] found deed hand (ordered, same, rising, is) = joins_as activity line _ deed _ _ hand is
-  fate_search activity line (area ∷ rest) found deed hand is = fate_of m activity deed _ is (goes m activity _ refl (λ at. refl) (sym hand) (λ never. never))
+-- ---- who waits for no place afterwards
 
-  fate_there : (activity : Activity) (line : Line) (command : Command) (rest : List Area) (found : List Record) (id : ℕ) (page : LivePage) (p : List ℕ) (deed : Deed) → line_in_hand activity ≡ Some line → DoesHere (sight m') line command rest found id page p deed → LineFate m activity deed
-  fate_there activity line (Insert rec) rest found id page p deed hand (inl row) = joins_as activity line _ deed _ _ hand row.deed_is
-  fate_there activity line (Insert rec) rest found id page p deed hand (inr (inl row)) = joins_as activity line _ deed _ _ hand row.deed_is
-  fate_there activity line (Insert rec) rest found id page p deed hand (inr (inr row)) = fate_of m activity deed _ row.deed_is (goes m activity _ refl (λ at. refl) (sym hand) (λ never. never))
-  fate_there activity line (Delete point) rest found id page p deed hand (inl row) = joins_as activity line _ deed _ _ hand row.deed_is
-  fate_there activity line (Delete point) rest found id page p deed hand (inr row) = joins_as activity line _ deed _ _ hand row.deed_is
-  fate_there activity line (Lookup point) rest found id page p deed hand (inl row) = joins_as activity line _ deed _ _ hand row.deed_is
-  fate_there activity line (Lookup point) rest found id page p deed hand (inr row) = joins_as activity line _ deed _ _ hand row.deed_is
-  fate_there activity line (Search area) rest found id page p deed hand row = fate_search activity line _ _ deed hand row.goes
+pub idle_never : (deed : Deed) → deed.next ≡ at.SessionIdle → Waits deed.next → ⊥
+idle_never deed is waits = subst Waits is waits
 
-  fate_walk : (line : Line) (held : Option ℕ) (rest : List Area) (found : List Record) (id : ℕ) (page : LivePage) (deed : Deed) (goal : Option (List ℕ))
-      → MatchOption goal ⊥ (λ p. PassesOn page p (at.SessionWalk line (Some id) rest found) deed ⊎ DoesHere (sight m') line line.command rest found id page p deed) → LineFate m (at.SessionWalk line held rest found) deed
-  fate_walk line held rest found id page deed None never = absurd never
-  fate_walk line held rest found id page deed (Some p) (inl row) = fate_of m (at.SessionWalk line held rest found) deed _ row.deed_is (goes m _ _ refl (λ at. refl) refl (λ never. never))
-  fate_walk line held rest found id page deed (Some p) (inr row) = fate_there (at.SessionWalk line held rest found) line line.command rest found id page p deed refl row
+pub post_waits_never : (m : Machine) (deed : Deed) → TakesJob m deed → Waits deed.next → ⊥
+post_waits_never m deed takes waits = by takes.next takes.posting (subst (λ (d : Deed). Waits d.next) takes.deed_is waits)
+  where
+    by : (next : Activity) → IsPostingOf takes.job m.store.meta.height next → Waits next → ⊥
+    by next (inl (above, is)) waits = subst Waits is waits
+    by next (inr (inl (same, is))) waits = subst Waits is waits
+    by next (inr (inr (below, is))) waits = subst Waits is waits
 
-  fate_alone : (activity : Activity) (deed : Deed) → RowAlone activity (sight m') deed → LineFate m activity deed
-  fate_alone (at.SessionSplit line held) deed (inl row) = fate_of m _ deed _ row.deed_is (given m (at.SessionSplit line held) line replies.Full refl tt)
-  fate_alone (at.SessionSplit line held) deed (inr row) = fate_of m _ deed _ row.deed_is (goes m _ _ refl (λ at. refl) refl (λ never. never))
-  fate_alone (at.SessionPut line source fresh) deed row = joins_as (at.SessionPut line source fresh) line _ deed _ _ refl row.deed_is
-  fate_alone at.SessionIdle deed row = absurd row
-  fate_alone (at.SessionWalk line held rest found) deed row = absurd row
-  fate_alone (at.SessionAwait line reply place) deed row = absurd row
-  fate_alone at.PosterIdle deed row = absurd row
-  fate_alone (at.PosterGrow job) deed row = absurd row
-  fate_alone (at.PosterWalk job held) deed row = absurd row
-  fate_alone (at.PosterChild job parent) deed row = absurd row
-  fate_alone (at.PosterPromote job parent) deed row = absurd row
-  fate_alone (at.PosterAgain job parent) deed row = absurd row
-  fate_alone at.ConsolidatorIdle deed row = absurd row
-  fate_alone (at.ConsolidatorWalk job held) deed row = absurd row
-  fate_alone (at.ConsolidatorScan job parent child) deed row = absurd row
-  fate_alone (at.ConsolidatorTry job parent keep gone leaf) deed row = absurd row
-  fate_alone (at.ConsolidatorPromote job parent keep gone) deed row = absurd row
-  fate_alone (at.ConsolidatorKeep job parent keep gone) deed row = absurd row
-  fate_alone (at.ConsolidatorDecide job parent keep gone) deed row = absurd row
-  fate_alone at.Flusher deed row = absurd row
-
-  fate_look : (job : Job) (parent : ℕ) (plan : PostPlan) (deed : Deed) → deed ≡ after_look job parent plan → LineFate m (at.PosterChild job parent) deed
-  fate_look job parent plans.Nothing deed is = fate_of m _ deed _ is (goes m _ _ refl (λ at. refl) refl (λ never. never))
-  fate_look job parent (plans.Post at inner area) deed is = fate_of m _ deed _ is (goes m _ _ refl (λ at. refl) refl (λ never. never))
-  fate_look job parent plans.SplitFirst deed is = fate_of m _ deed _ is (goes m _ _ refl (λ at. refl) refl (λ never. never))
-
-  fate_plan : (job : Job) (parent : ℕ) (page : LivePage) (plan : PostPlan) (deed : Deed) → DoesPlan (sight m') job parent page plan deed → LineFate m (at.PosterAgain job parent) deed
-  fate_plan job parent page plans.Nothing deed is = fate_of m _ deed _ is (goes m _ _ refl (λ at. refl) refl (λ never. never))
-  fate_plan job parent page (plans.Post at inner area) deed is = fate_of m _ deed _ is (goes m _ _ refl (λ at. refl) refl (λ never. never))
-  fate_plan job parent page plans.SplitFirst deed (inl row) = fate_of m _ deed _ row.deed_is (goes m _ _ refl (λ at. refl) refl (λ never. never))
-  fate_plan job parent page plans.SplitFirst deed (inr row) = fate_of m _ deed _ row.deed_is (goes m _ _ refl (λ at. refl) refl (λ never. never))
-
-  -- a consolidator has no line
-  fate_moved : (activity : Activity) (deed : Deed) → line_in_hand activity ≡ None → MovesMerger m' deed → LineFate m activity deed
-  fate_moved activity deed none moves = fate_of m activity deed _ moves.is (goes m activity _ refl (λ at. refl) (moves.hand ∙ sym none) moves.awaits)
-
-  fate_at : (activity : Activity) (id : ℕ) (page : LivePage) (deed : Deed) → RowAt activity (sight m') id page deed → LineFate m activity deed
-  fate_at (at.SessionWalk line held rest found) id page deed row = fate_walk line held rest found id page deed (goal_of line.command rest) row
-  fate_at (at.PosterGrow job) id page deed (inl row) = fate_of m _ deed _ row.deed_is (goes m _ _ refl (λ at. refl) refl (λ never. never))
-  fate_at (at.PosterGrow job) id page deed (inr row) = fate_of m _ deed _ row.deed_is (goes m _ _ refl (λ at. refl) refl (λ never. never))
-  fate_at (at.PosterWalk job held) id page deed (inl row) = fate_of m _ deed _ row.deed_is (goes m _ _ refl (λ at. refl) refl (λ never. never))
-  fate_at (at.PosterWalk job held) id page deed (inr row) = fate_of m _ deed _ row.passes.deed_is (goes m _ _ refl (λ at. refl) refl (λ never. never))
-  fate_at (at.PosterChild job parent) id page deed row = fate_look job parent row.plan deed row.deed_is
-  fate_at (at.PosterPromote job parent) id page deed row = fate_of m _ deed _ row (goes m _ _ refl (λ at. refl) refl (λ never. never))
-  fate_at (at.PosterAgain job parent) id page deed row = fate_plan job parent row.page row.plan deed row.does_it
-  fate_at at.SessionIdle id page deed row = absurd row
-  fate_at (at.SessionSplit line held) id page deed row = absurd row
-  fate_at (at.SessionPut line source fresh) id page deed row = absurd row
-  fate_at (at.SessionAwait line reply place) id page deed row = absurd row
-  fate_at at.PosterIdle id page deed row = absurd row
-  fate_at at.ConsolidatorIdle id page deed row = absurd row
-  fate_at (at.ConsolidatorWalk job held) id page deed row = fate_moved (at.ConsolidatorWalk job held) deed refl (merger_moves m' (at.ConsolidatorWalk job held) id page deed tt row)
-  fate_at (at.ConsolidatorScan job parent child) id page deed row = fate_moved (at.ConsolidatorScan job parent child) deed refl (merger_moves m' (at.ConsolidatorScan job parent child) id page deed tt row)
-  fate_at (at.ConsolidatorTry job parent keep gone leaf) id page deed row = fate_moved (at.ConsolidatorTry job parent keep gone leaf) deed refl (merger_moves m' (at.ConsolidatorTry job parent keep gone leaf) id page deed tt row)
-  fate_at (at.ConsolidatorPromote job parent keep gone) id page deed row = fate_moved (at.ConsolidatorPromote job parent keep gone) deed refl (merger_moves m' (at.ConsolidatorPromote job parent keep gone) id page deed tt row)
-  fate_at (at.ConsolidatorKeep job parent keep gone) id page deed row = fate_moved (at.ConsolidatorKeep job parent keep gone) deed refl (merger_moves m' (at.ConsolidatorKeep job parent keep gone) id page deed tt row)
-  fate_at (at.ConsolidatorDecide job parent keep gone) id page deed row = fate_moved (at.ConsolidatorDecide job parent keep gone) deed refl (merger_moves m' (at.ConsolidatorDecide job parent keep gone) id page deed tt row)
-  fate_at at.Flusher id page deed row = absurd row
-
-  pub fate_row : (activity : Activity) (wanted : Option Wanted) (deed : Deed) → Row activity wanted m' deed → LineFate m activity deed
-  fate_row activity None deed row = fate_alone activity deed row
-  fate_row activity (Some wanted) deed (page, hand, row) = fate_at activity wanted.page page deed row
+pub merge_waits_never : (m : Machine) (deed : Deed) → TakesMerging m deed → Waits deed.next → ⊥
+merge_waits_never m deed takes waits = by takes.next takes.merging (subst (λ (d : Deed). Waits d.next) takes.deed_is waits)
+  where
+    by : (next : Activity) → IsMergingOf takes.job m.store.meta.height next → Waits next → ⊥
+    by next (inl (above, is)) waits = subst Waits is waits
+    by next (inr (below, is)) waits = subst Waits is waits

@@ -1,5 +1,5 @@
--- Each row of a consolidator moves it, and does nothing to the file.
-use Rattle.std.proofs.Common.{◌≡◌, inl, inr, ℕ, List, [], Option, Some, None, option_map, refl, sym, ap}
+-- Each row of a consolidator that doesn't walk on moves it to its next page or its end, and does nothing to the file.
+use Rattle.std.proofs.Common.{◌≡◌, ◌⊎◌, inl, inr, ℕ, [], Option, Some, None, option_map, refl, sym, ap}
 use Rattle.hb_frag.specs.declared.pages.LivePage.{LivePage}
 use Rattle.hb_terms.specs.declared.merging.MergePlan.{MergePlan}
 use Rattle.hb_terms.specs.declared.merging.MergePlan.TheVariants as plans
@@ -8,16 +8,14 @@ use Rattle.hb_activity.specs.declared.activities.Activity.{Activity}
 use Rattle.hb_activity.specs.declared.activities.Activity.TheVariants as at
 use Rattle.hb_activity.specs.declared.wanting.Wanted.{Wanted}
 use Rattle.hb_latch.specs.declared.modes.Mode.{Mode}
-use Rattle.hb_activity.specs.Classes.{line_in_hand}
+use Rattle.hb_activity.specs.Classes.{Consolidators, Empty, HasJob, class_of, hand_of, line_in_hand, line_of}
 use Rattle.hb_activity.specs.Deeds.{Deed, moves_to}
+use Rattle.hb_activity.specs.Sights.{Sight}
 use Rattle.hb_activity.specs.Walks.{walk_held}
 use Rattle.hb_activity.specs.Wanting.{wanted_page}
 use Rattle.hb_consol.specs.ConsolidatorRows.{after_try, children_of, ends_merging, one_behind, scans, tries}
 use Rattle.hb_consol.specs.MergeRows.{DoesMerge, after_keep}
-use Rattle.hb_core.specs.KeptMerges.{IsMerging}
-use Rattle.hb_core.specs.Machines.{Machine, sight}
-use Rattle.hb_core.specs.Rows.{RowAt}
-use Rattle.hb_frag.specs.Leaves.{first_named, siblings_of}
+use Rattle.hb_core.specs.KeptFits.{walking_job}
 use Rattle.hb_space.specs.Boxes.{Area}
 
 -- what an actor waits for, where it does
@@ -32,69 +30,63 @@ of_page id level mode (Some page) wanted is =
     let same : wanted_page id (level page) mode ≡ wanted = cc in
     (ap (λ (w : Wanted). w.page) (sym same), ap (λ (w : Wanted). w.mode) (sym same))
 
-pub record MovesMerger (m : Machine) (deed : Deed) : Type 0 where
-  pub next : Activity
-  pub adds : List Job
-  pub is : deed ≡ moves_to next adds
-  pub hand : line_in_hand next ≡ None
+-- a consolidator with the job
+pub record IsMergingFor (activity : Activity) (job : Job) : Type 0 where
+  pub kind : class_of activity ≡ Consolidators
+  pub hand : hand_of activity ≡ HasJob job
+
+-- where it stands next: it doesn't walk, and has the job or none
+pub record StandsNext (next : Activity) (job : Job) : Type 0 where
+  pub kind : class_of next ≡ Consolidators
+  pub hand : (hand_of next ≡ Empty) ⊎ (hand_of next ≡ HasJob job)
+  pub walk : walk_held next ≡ None
+  pub goal : walking_job next ≡ None
   pub awaits : Waits next → ⊥
 
--- and it holds no page of a walk then
-pub record StaysMerger (m : Machine) (deed : Deed) : Type 0 where
-  pub moves : MovesMerger m deed
-  pub walk : walk_held moves.next ≡ None
+-- so it has no line
+pub no_line : (next : Activity) (job : Job) → StandsNext next job → line_in_hand next ≡ None
+no_line next job stands = by stands.hand
+  where
+    by : (hand_of next ≡ Empty) ⊎ (hand_of next ≡ HasJob job) → line_in_hand next ≡ None
+    by (inl empty) = ap line_of empty
+    by (inr works) = ap line_of works
 
-module _ (m : Machine) where
-  pub ended : (deed : Deed) → deed ≡ ends_merging → StaysMerger m deed
-  ended deed is = record { moves = record { next = at.ConsolidatorIdle; adds = []; is = is; hand = refl; awaits = λ never. never }; walk = refl }
+pub record StaysMerger (activity : Activity) (deed : Deed) : Type 0 where
+  pub job : Job
+  pub before : IsMergingFor activity job
+  pub next : Activity
+  pub after : StandsNext next job
+  pub is : deed ≡ moves_to next []
 
-  pub scanned : (job : Job) (parent : ℕ) (next : Option ℕ) (deed : Deed) → deed ≡ scans job parent next → StaysMerger m deed
-  scanned job parent None deed is = ended deed is
-  scanned job parent (Some child) deed is = record { moves = record { next = at.ConsolidatorScan job parent child; adds = []; is = is; hand = refl; awaits = λ never. never }; walk = refl }
+module _ (activity : Activity) (job : Job) (before : IsMergingFor activity job) where
+  pub ended : (deed : Deed) → deed ≡ ends_merging → StaysMerger activity deed
+  ended deed is = record { job = job; before = before; next = at.ConsolidatorIdle; is = is; after = record { kind = refl; hand = inl refl; walk = refl; goal = refl; awaits = λ never. never } }
 
-  pub tried : (job : Job) (parent keep : ℕ) (above : LivePage) (pair : Option (ℕ × ℕ)) (deed : Deed) → deed ≡ tries job parent above keep pair → StaysMerger m deed
-  tried job parent keep above None deed is = scanned job parent (one_behind keep (children_of above)) deed is
-  tried job parent keep above (Some (gone, leaf)) deed is = record { moves = record { next = at.ConsolidatorTry job parent keep gone leaf; adds = []; is = is; hand = refl; awaits = λ never. never }; walk = refl }
+  pub scanned : (parent : ℕ) (child : Option ℕ) (deed : Deed) → deed ≡ scans job parent child → StaysMerger activity deed
+  scanned parent None deed is = ended deed is
+  scanned parent (Some child) deed is = record { job = job; before = before; next = at.ConsolidatorScan job parent child; is = is; after = record { kind = refl; hand = inr refl; walk = refl; goal = refl; awaits = λ never. never } }
 
-  pub promoted : (job : Job) (parent keep gone : ℕ) (deed : Deed) → deed ≡ moves_to (at.ConsolidatorKeep job parent keep gone) [] → StaysMerger m deed
-  promoted job parent keep gone deed is = record { moves = record { next = at.ConsolidatorKeep job parent keep gone; adds = []; is = is; hand = refl; awaits = λ never. never }; walk = refl }
+  pub tried : (parent keep : ℕ) (above : LivePage) (pair : Option (ℕ × ℕ)) (deed : Deed) → deed ≡ tries job parent above keep pair → StaysMerger activity deed
+  tried parent keep above None deed is = scanned parent (one_behind keep (children_of above)) deed is
+  tried parent keep above (Some (gone, leaf)) deed is = record { job = job; before = before; next = at.ConsolidatorTry job parent keep gone leaf; is = is; after = record { kind = refl; hand = inr refl; walk = refl; goal = refl; awaits = λ never. never } }
 
-  pub planned : (job : Job) (parent keep gone leaf : ℕ) (above kept : LivePage) (plan : MergePlan) (deed : Deed) → deed ≡ after_try job parent keep gone leaf above kept plan → StaysMerger m deed
-  planned job parent keep gone leaf above kept plans.Merge deed is = record { moves = record { next = at.ConsolidatorPromote job parent keep gone; adds = []; is = is; hand = refl; awaits = λ never. never }; walk = refl }
-  planned job parent keep gone leaf above kept plans.NotContained deed is = tried job parent keep above _ deed is
-  planned job parent keep gone leaf above kept plans.ManyParents deed is = tried job parent keep above _ deed is
-  planned job parent keep gone leaf above kept plans.TooHeavy deed is = tried job parent keep above _ deed is
+  pub promoted : (parent keep gone : ℕ) (deed : Deed) → deed ≡ moves_to (at.ConsolidatorKeep job parent keep gone) [] → StaysMerger activity deed
+  promoted parent keep gone deed is = record { job = job; before = before; next = at.ConsolidatorKeep job parent keep gone; is = is; after = record { kind = refl; hand = inr refl; walk = refl; goal = refl; awaits = λ never. never } }
 
-  pub took : (job : Job) (parent keep gone : ℕ) (area : Option Area) (deed : Deed) → deed ≡ after_keep job parent keep gone area → StaysMerger m deed
-  took job parent keep gone None deed is = ended deed is
-  took job parent keep gone (Some area) deed is = record { moves = record { next = at.ConsolidatorDecide job parent keep gone; adds = []; is = is; hand = refl; awaits = λ never. never }; walk = refl }
+  pub planned : (parent keep gone leaf : ℕ) (above kept : LivePage) (plan : MergePlan) (deed : Deed) → deed ≡ after_try job parent keep gone leaf above kept plan → StaysMerger activity deed
+  planned parent keep gone leaf above kept plans.Merge deed is = record { job = job; before = before; next = at.ConsolidatorPromote job parent keep gone; is = is; after = record { kind = refl; hand = inr refl; walk = refl; goal = refl; awaits = λ never. never } }
+  planned parent keep gone leaf above kept plans.NotContained deed is = tried parent keep above _ deed is
+  planned parent keep gone leaf above kept plans.ManyParents deed is = tried parent keep above _ deed is
+  planned parent keep gone leaf above kept plans.TooHeavy deed is = tried parent keep above _ deed is
 
-  -- while no operation merges, the job is dropped
-  pub decided : (job : Job) (parent keep gone : ℕ) (above : LivePage) (plan : MergePlan) (deed : Deed) → DoesMerge (sight m) job parent keep gone above plan deed → deed ≡ ends_merging
-  decided job parent keep gone above plans.Merge deed (inl row) = absurd row.merge
-  decided job parent keep gone above plans.Merge deed (inr row) = row.deed_is
-  decided job parent keep gone above plans.NotContained deed is = is
-  decided job parent keep gone above plans.ManyParents deed is = is
-  decided job parent keep gone above plans.TooHeavy deed is = is
+  pub took : (parent keep gone : ℕ) (area : Option Area) (deed : Deed) → deed ≡ after_keep job parent keep gone area → StaysMerger activity deed
+  took parent keep gone None deed is = ended deed is
+  took parent keep gone (Some area) deed is = record { job = job; before = before; next = at.ConsolidatorDecide job parent keep gone; is = is; after = record { kind = refl; hand = inr refl; walk = refl; goal = refl; awaits = λ never. never } }
 
-  pub merger_moves : (activity : Activity) (id : ℕ) (page : LivePage) (deed : Deed) → IsMerging activity → RowAt activity (sight m) id page deed → MovesMerger m deed
-  merger_moves (at.ConsolidatorWalk job held) id page deed kind (inl row) = (scanned job id _ deed row.deed_is).moves
-  merger_moves (at.ConsolidatorWalk job held) id page deed kind (inr row) = record { next = at.ConsolidatorWalk job (Some id); adds = _; is = row.passes.deed_is; hand = refl; awaits = λ never. never }
-  merger_moves (at.ConsolidatorScan job parent child) id page deed kind row = (tried job parent child row.above _ deed row.deed_is).moves
-  merger_moves (at.ConsolidatorTry job parent keep gone leaf) id page deed kind row = (planned job parent keep gone leaf row.has.above row.has.kept row.has.plan deed row.deed_is).moves
-  merger_moves (at.ConsolidatorPromote job parent keep gone) id page deed kind row = (promoted job parent keep gone deed row).moves
-  merger_moves (at.ConsolidatorKeep job parent keep gone) id page deed kind row = (took job parent keep gone (first_named gone (siblings_of page)) deed row).moves
-  merger_moves (at.ConsolidatorDecide job parent keep gone) id page deed kind row = (ended deed (decided job parent keep gone row.has.above row.has.plan deed row.does_it)).moves
-  merger_moves at.SessionIdle id page deed kind row = absurd kind
-  merger_moves (at.SessionWalk line held rest found) id page deed kind row = absurd kind
-  merger_moves (at.SessionSplit line held) id page deed kind row = absurd kind
-  merger_moves (at.SessionPut line source fresh) id page deed kind row = absurd kind
-  merger_moves (at.SessionAwait line reply place) id page deed kind row = absurd kind
-  merger_moves at.PosterIdle id page deed kind row = absurd kind
-  merger_moves (at.PosterGrow job) id page deed kind row = absurd kind
-  merger_moves (at.PosterWalk job held) id page deed kind row = absurd kind
-  merger_moves (at.PosterChild job parent) id page deed kind row = absurd kind
-  merger_moves (at.PosterPromote job parent) id page deed kind row = absurd kind
-  merger_moves (at.PosterAgain job parent) id page deed kind row = absurd kind
-  merger_moves at.ConsolidatorIdle id page deed kind row = absurd kind
-  merger_moves at.Flusher id page deed kind row = absurd kind
+-- while no operation merges, the job is dropped
+pub decided : (s : Sight) (job : Job) (parent keep gone : ℕ) (above : LivePage) (plan : MergePlan) (deed : Deed) → DoesMerge s job parent keep gone above plan deed → deed ≡ ends_merging
+decided s job parent keep gone above plans.Merge deed (inl row) = absurd row.merge
+decided s job parent keep gone above plans.Merge deed (inr row) = row.deed_is
+decided s job parent keep gone above plans.NotContained deed is = is
+decided s job parent keep gone above plans.ManyParents deed is = is
+decided s job parent keep gone above plans.TooHeavy deed is = is

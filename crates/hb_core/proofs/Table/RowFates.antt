@@ -1,13 +1,9 @@
 -- What becomes of the job that a worker has in work: it stays in work, the row puts it back, or the row ends it. And what a row says:
 -- it goes on, or the line of a split is `full`.
 use Rattle.std.proofs.Common.{◌≡◌, ◌⊎◌, inl, inr, ℕ, ◌+◌, zero, suc, List, ◌∷◌, Option, Some, None, refl, sym, ap, ◌∙◌, subst, arith, []}
-use Rattle.std.specs.Prelude.{MatchOption}
 use Rattle.std.specs.List.{Contains}
 use Rattle.std.proofs.lemmas.Option.{same_Some}
-use Rattle.hb_space.specs.declared.records.Record.{Record}
 use Rattle.hb_frag.specs.declared.pages.LivePage.{LivePage}
-use Rattle.hb_set.specs.declared.commands.Command.{Command}
-use Rattle.hb_set.specs.declared.commands.Command.TheVariants.{Insert, Delete, Lookup, Search}
 use Rattle.hb_set.specs.declared.commands.Reply.TheVariants as replies
 use Rattle.hb_set.specs.declared.scripts.Line.{Line}
 use Rattle.hb_terms.specs.declared.merging.MergePlan.{MergePlan}
@@ -20,19 +16,16 @@ use Rattle.hb_activity.specs.declared.activities.Activity.{Activity}
 use Rattle.hb_activity.specs.declared.activities.Activity.TheVariants as at
 use Rattle.hb_activity.specs.Classes.{job_in_work}
 use Rattle.hb_activity.specs.Deeds.{Deed, GoesOn, answers_now}
-use Rattle.hb_activity.specs.Passing.{PassesOn}
-use Rattle.hb_activity.specs.Walks.{goal_of}
 use Rattle.hb_consol.specs.ConsolidatorRows.{HasMergePlan, after_try, children_of, first_one, one_behind, pair_from, scans, tries}
 use Rattle.hb_consol.specs.MergeRows.{DoesMerge, after_keep}
-use Rattle.hb_core.proofs.Table.MergerMoves.{MovesMerger, merger_moves}
 use Rattle.hb_core.specs.JobLaws.{EndsAt, IsLastPair}
 use Rattle.hb_core.specs.Machines.{Machine, live_here, sight}
-use Rattle.hb_core.specs.Rows.{DoesHere, Row, RowAlone, RowAt}
+use Rattle.hb_core.specs.Rows.{Row, RowAlone, RowAt}
 use Rattle.hb_frag.specs.Leaves.{first_named, siblings_of}
 use Rattle.hb_poster.specs.PosterRows.{DoesPlan, after_look}
-use Rattle.hb_search.specs.SearchRows.{SearchGoesOn}
 use Rattle.hb_space.specs.Boxes.{Area}
 use Rattle.hb_terms.specs.Plans.{IsPlan}
+use Rattle.hb_core.proofs.Table.EachRow.{each_row}
 
 -- ---- what a row says, and what it takes from the queue
 
@@ -51,93 +44,31 @@ pub record IsFullRow (m : Machine) (activity : Activity) (deed : Deed) : Type 0 
 abbrev pub RowSaying : Machine → Activity → Deed → Type 0
 RowSaying m activity deed = IsQuietRow deed ⊎ IsFullRow m activity deed
 
-module _ (m : Machine) (activity : Activity) where
-  quiet : (deed other : Deed) → deed ≡ other → other.says ≡ GoesOn → other.takes ≡ None → RowSaying m activity deed
-  quiet deed other is says takes = inl (record { says = ap (λ (d : Deed). d.says) is ∙ says; takes = ap (λ (d : Deed). d.takes) is ∙ takes })
-
-  says_search : (line : Line) (boxes : List Area) (found : List Record) (deed : Deed) → SearchGoesOn (sight m) line boxes found deed → RowSaying m activity deed
-  says_search line [] found deed (ordered, same, rising, is) = quiet deed _ is refl refl
-  says_search line (area ∷ rest) found deed is = quiet deed _ is refl refl
-
-  says_there : (line : Line) (command : Command) (rest : List Area) (found : List Record) (id : ℕ) (page : LivePage) (p : List ℕ) (deed : Deed) → DoesHere (sight m) line command rest found id page p deed → RowSaying m activity deed
-  says_there line (Insert rec) rest found id page p deed (inl row) = quiet deed _ row.deed_is refl refl
-  says_there line (Insert rec) rest found id page p deed (inr (inl row)) = quiet deed _ row.deed_is refl refl
-  says_there line (Insert rec) rest found id page p deed (inr (inr row)) = quiet deed _ row.deed_is refl refl
-  says_there line (Delete point) rest found id page p deed (inl row) = quiet deed _ row.deed_is refl refl
-  says_there line (Delete point) rest found id page p deed (inr row) = quiet deed _ row.deed_is refl refl
-  says_there line (Lookup point) rest found id page p deed (inl row) = quiet deed _ row.deed_is refl refl
-  says_there line (Lookup point) rest found id page p deed (inr row) = quiet deed _ row.deed_is refl refl
-  says_there line (Search area) rest found id page p deed row = says_search line _ _ deed row.goes
-
-  says_walk : (line : Line) (rest : List Area) (found : List Record) (id : ℕ) (page : LivePage) (deed : Deed) (goal : Option (List ℕ))
-      → MatchOption goal ⊥ (λ p. PassesOn page p (at.SessionWalk line (Some id) rest found) deed ⊎ DoesHere (sight m) line line.command rest found id page p deed) → RowSaying m activity deed
-  says_walk line rest found id page deed None never = absurd never
-  says_walk line rest found id page deed (Some p) (inl row) = quiet deed _ row.deed_is refl refl
-  says_walk line rest found id page deed (Some p) (inr row) = says_there line line.command rest found id page p deed row
-
-  says_look : (job : Job) (parent : ℕ) (plan : PostPlan) (deed : Deed) → deed ≡ after_look job parent plan → RowSaying m activity deed
-  says_look job parent plans.Nothing deed is = quiet deed _ is refl refl
-  says_look job parent (plans.Post way inner area) deed is = quiet deed _ is refl refl
-  says_look job parent plans.SplitFirst deed is = quiet deed _ is refl refl
-
-  says_plan : (job : Job) (parent : ℕ) (page : LivePage) (plan : PostPlan) (deed : Deed) → DoesPlan (sight m) job parent page plan deed → RowSaying m activity deed
-  says_plan job parent page plans.Nothing deed is = quiet deed _ is refl refl
-  says_plan job parent page (plans.Post way inner area) deed is = quiet deed _ is refl refl
-  says_plan job parent page plans.SplitFirst deed (inl row) = quiet deed _ row.deed_is refl refl
-  says_plan job parent page plans.SplitFirst deed (inr row) = quiet deed _ row.deed_is refl refl
-
-  says_moved : (deed : Deed) → MovesMerger m deed → RowSaying m activity deed
-  says_moved deed moves = quiet deed _ moves.is refl refl
-
-module _ (m : Machine) where
-  says_alone : (activity : Activity) (deed : Deed) → RowAlone activity (sight m) deed → RowSaying m activity deed
-  says_alone (at.SessionSplit line held) deed (inl row) = inr (record { line = line; held = held; stands = refl; none_free = row.none_free; deed_is = row.deed_is })
-  says_alone (at.SessionSplit line held) deed (inr row) = quiet m (at.SessionSplit line held) deed _ row.deed_is refl refl
-  says_alone (at.SessionPut line source fresh) deed row = quiet m (at.SessionPut line source fresh) deed _ row.deed_is refl refl
-  says_alone at.SessionIdle deed row = absurd row
-  says_alone (at.SessionWalk line held rest found) deed row = absurd row
-  says_alone (at.SessionAwait line reply place) deed row = absurd row
-  says_alone at.PosterIdle deed row = absurd row
-  says_alone (at.PosterGrow job) deed row = absurd row
-  says_alone (at.PosterWalk job held) deed row = absurd row
-  says_alone (at.PosterChild job parent) deed row = absurd row
-  says_alone (at.PosterPromote job parent) deed row = absurd row
-  says_alone (at.PosterAgain job parent) deed row = absurd row
-  says_alone at.ConsolidatorIdle deed row = absurd row
-  says_alone (at.ConsolidatorWalk job held) deed row = absurd row
-  says_alone (at.ConsolidatorScan job parent child) deed row = absurd row
-  says_alone (at.ConsolidatorTry job parent keep gone leaf) deed row = absurd row
-  says_alone (at.ConsolidatorPromote job parent keep gone) deed row = absurd row
-  says_alone (at.ConsolidatorKeep job parent keep gone) deed row = absurd row
-  says_alone (at.ConsolidatorDecide job parent keep gone) deed row = absurd row
-  says_alone at.Flusher deed row = absurd row
-
-  says_at : (activity : Activity) (id : ℕ) (page : LivePage) (deed : Deed) → RowAt activity (sight m) id page deed → RowSaying m activity deed
-  says_at (at.SessionWalk line held rest found) id page deed row = says_walk m (at.SessionWalk line held rest found) line rest found id page deed (goal_of line.command rest) row
-  says_at (at.PosterGrow job) id page deed (inl row) = quiet m (at.PosterGrow job) deed _ row.deed_is refl refl
-  says_at (at.PosterGrow job) id page deed (inr row) = quiet m (at.PosterGrow job) deed _ row.deed_is refl refl
-  says_at (at.PosterWalk job held) id page deed (inl row) = quiet m (at.PosterWalk job held) deed _ row.deed_is refl refl
-  says_at (at.PosterWalk job held) id page deed (inr row) = quiet m (at.PosterWalk job held) deed _ row.passes.deed_is refl refl
-  says_at (at.PosterChild job parent) id page deed row = says_look m (at.PosterChild job parent) job parent row.plan deed row.deed_is
-  says_at (at.PosterPromote job parent) id page deed row = quiet m (at.PosterPromote job parent) deed _ row refl refl
-  says_at (at.PosterAgain job parent) id page deed row = says_plan m (at.PosterAgain job parent) job parent row.page row.plan deed row.does_it
-  says_at (at.ConsolidatorWalk job held) id page deed row = says_moved m (at.ConsolidatorWalk job held) deed (merger_moves m (at.ConsolidatorWalk job held) id page deed tt row)
-  says_at (at.ConsolidatorScan job parent child) id page deed row = says_moved m (at.ConsolidatorScan job parent child) deed (merger_moves m (at.ConsolidatorScan job parent child) id page deed tt row)
-  says_at (at.ConsolidatorTry job parent keep gone leaf) id page deed row = says_moved m (at.ConsolidatorTry job parent keep gone leaf) deed (merger_moves m (at.ConsolidatorTry job parent keep gone leaf) id page deed tt row)
-  says_at (at.ConsolidatorPromote job parent keep gone) id page deed row = says_moved m (at.ConsolidatorPromote job parent keep gone) deed (merger_moves m (at.ConsolidatorPromote job parent keep gone) id page deed tt row)
-  says_at (at.ConsolidatorKeep job parent keep gone) id page deed row = says_moved m (at.ConsolidatorKeep job parent keep gone) deed (merger_moves m (at.ConsolidatorKeep job parent keep gone) id page deed tt row)
-  says_at (at.ConsolidatorDecide job parent keep gone) id page deed row = says_moved m (at.ConsolidatorDecide job parent keep gone) deed (merger_moves m (at.ConsolidatorDecide job parent keep gone) id page deed tt row)
-  says_at at.SessionIdle id page deed row = absurd row
-  says_at (at.SessionSplit line held) id page deed row = absurd row
-  says_at (at.SessionPut line source fresh) id page deed row = absurd row
-  says_at (at.SessionAwait line reply place) id page deed row = absurd row
-  says_at at.PosterIdle id page deed row = absurd row
-  says_at at.ConsolidatorIdle id page deed row = absurd row
-  says_at at.Flusher id page deed row = absurd row
-
-  pub saying_of : (activity : Activity) (wanted : Option Wanted) (deed : Deed) → Row activity wanted m deed → RowSaying m activity deed
-  saying_of activity None deed row = says_alone activity deed row
-  saying_of activity (Some wanted) deed (page, hand, row) = says_at activity wanted.page page deed row
+pub saying_of : (m : Machine) (activity : Activity) (wanted : Option Wanted) (deed : Deed) → Row activity wanted m deed → RowSaying m activity deed
+saying_of m activity wanted deed row = each_row m (RowSaying m) activity wanted deed
+    (record {
+      full = λ line held none. inr (record { line = line; held = held; stands = refl; none_free = none; deed_is = refl });
+      splits = λ line held page live leaves. inl (record { says = refl; takes = refl });
+      puts = λ line source fresh rec command half either page live. inl (record { says = refl; takes = refl });
+    })
+    (λ its page wants hand. record {
+      passes = λ line held rest found p goal leaf row. inl (record { says = refl; takes = refl });
+      settles = λ line held rest found reply settles. inl (record { says = refl; takes = refl });
+      inserts = λ line held rest found rec command absent room. inl (record { says = refl; takes = refl });
+      lacks_room = λ line held rest found rec command level absent full. inl (record { says = refl; takes = refl });
+      deletes = λ line held rest found p there command stands. inl (record { says = refl; takes = refl });
+      searches = λ line held rest found area others more row. inl (record { says = refl; takes = refl });
+      grows = λ job fresh free_after may free next. inl (record { says = refl; takes = refl });
+      ends = λ activity job kind hand. inl (record { says = refl; takes = refl });
+      arrives = λ job held child area level leaf. inl (record { says = refl; takes = refl });
+      walks = λ job held leaf farther row. inl (record { says = refl; takes = refl });
+      looks = λ job parent. inl (record { says = refl; takes = refl });
+      promotes = λ job parent. inl (record { says = refl; takes = refl });
+      posts = λ job parent above path inner area live plan. inl (record { says = refl; takes = refl });
+      parts = λ job parent above live plan leaves. inl (record { says = refl; takes = refl });
+      walks_to_merge = λ job held leaf farther row. inl (record { says = refl; takes = refl });
+      merges = λ activity deed kind row stays. inl (record { says = ap (λ (d : Deed). d.says) stays.is; takes = ap (λ (d : Deed). d.takes) stays.is });
+    }) row
 
 -- ---- what becomes of the job in work
 
@@ -230,13 +161,7 @@ module _ (m : Machine) (page : LivePage) where
   fate_at (at.ConsolidatorDecide own parent keep gone) job id deed work row =
       own_job (at.ConsolidatorDecide own parent keep gone) own job deed work (fate_decided own parent keep gone row.has row.has.plan refl deed row.does_it)
   fate_at (at.SessionWalk line held rest found) job id deed work row = let never : None ≡ Some job = work in cc
-  fate_at at.SessionIdle job id deed work row = absurd row
-  fate_at (at.SessionSplit line held) job id deed work row = absurd row
-  fate_at (at.SessionPut line source fresh) job id deed work row = absurd row
-  fate_at (at.SessionAwait line reply place) job id deed work row = absurd row
-  fate_at at.PosterIdle job id deed work row = absurd row
-  fate_at at.ConsolidatorIdle job id deed work row = absurd row
-  fate_at at.Flusher job id deed work row = absurd row
+  fate_at activity job id deed work row = absurd row
 
 -- The same at the page that the step wants.
 pub record HasFate (m : Machine) (activity : Activity) (wanted : Option Wanted) (job : Job) (deed : Deed) : Type 0 where
@@ -250,23 +175,7 @@ pub record HasFate (m : Machine) (activity : Activity) (wanted : Option Wanted) 
 no_row : (m : Machine) (activity : Activity) (job : Job) (deed : Deed) → job_in_work activity ≡ Some job → RowAlone activity (sight m) deed → ⊥
 no_row m (at.SessionSplit line held) job deed work row = let never : None ≡ Some job = work in cc
 no_row m (at.SessionPut line source fresh) job deed work row = let never : None ≡ Some job = work in cc
-no_row m at.SessionIdle job deed work row = row
-no_row m (at.SessionWalk line held rest found) job deed work row = row
-no_row m (at.SessionAwait line reply place) job deed work row = row
-no_row m at.PosterIdle job deed work row = row
-no_row m (at.PosterGrow own) job deed work row = row
-no_row m (at.PosterWalk own held) job deed work row = row
-no_row m (at.PosterChild own parent) job deed work row = row
-no_row m (at.PosterPromote own parent) job deed work row = row
-no_row m (at.PosterAgain own parent) job deed work row = row
-no_row m at.ConsolidatorIdle job deed work row = row
-no_row m (at.ConsolidatorWalk own held) job deed work row = row
-no_row m (at.ConsolidatorScan own parent child) job deed work row = row
-no_row m (at.ConsolidatorTry own parent keep gone leaf) job deed work row = row
-no_row m (at.ConsolidatorPromote own parent keep gone) job deed work row = row
-no_row m (at.ConsolidatorKeep own parent keep gone) job deed work row = row
-no_row m (at.ConsolidatorDecide own parent keep gone) job deed work row = row
-no_row m at.Flusher job deed work row = row
+no_row m activity job deed work row = row
 
 pub fate_of_job : (m : Machine) (activity : Activity) (wanted : Option Wanted) (job : Job) (deed : Deed) → job_in_work activity ≡ Some job → Row activity wanted m deed → HasFate m activity wanted job deed
 fate_of_job m activity None job deed work row = absurd (no_row m activity job deed work row)

@@ -1,6 +1,6 @@
 -- The kinds of steps: nothing happens, a group is forced, a deed is done outright, or the step works. What holds of each kind
 -- holds of each step.
-use Rattle.std.proofs.Common.{◌≡◌, ◌⊎◌, inl, inr, ℕ, Bool, true, false, [], Option, Some, None, refl, sym, ap, ◌∙◌, subst}
+use Rattle.std.proofs.Common.{◌≡◌, ◌⊎◌, inl, inr, ℕ, Bool, true, false, [], Option, Some, None, refl, sym, ap, ◌∙◌, subst, ◌<◌}
 use Rattle.std.specs.Prelude.{MatchOption}
 use Rattle.hb_set.specs.declared.commands.Reply.{Reply}
 use Rattle.hb_set.specs.declared.commands.Reply.TheVariants as replies
@@ -16,27 +16,47 @@ use Rattle.hb_activity.specs.Walks.{walk_held}
 use Rattle.hb_consol.specs.ConsolidatorRows.{IsMergingOf}
 use Rattle.hb_core.specs.Forcing.{Flushes, ForcesFirst, StaysSo, FailsToWrite, FlushesRest, FlushesWell}
 use Rattle.hb_core.specs.KeptMerges.{merging_at}
-use Rattle.hb_core.specs.Machines.{Machine}
+use Rattle.hb_core.specs.Machines.{Machine, settled_count}
 use Rattle.hb_core.specs.Performing.{Performs, given_by, latches_held}
 use Rattle.hb_core.specs.Stages.{flusher_steps, HasMoreToFlush}
-use Rattle.hb_core.specs.Steps.{AwaitsPlace, StepsAs, StepsTo, TakesJobToMerge, TakesPosting, Works}
+use Rattle.hb_core.specs.Steps.{AwaitsPlace, StepsAs, StepsTo, TakesJobToMerge, TakesPosting, Works, TakesJob, TakesMerging}
 use Rattle.hb_point.specs.SessionRows.{next_line, taking, WantsBoxes}
 use Rattle.hb_poster.specs.PosterRows.{IsPostingOf}
 use Rattle.hb_store.specs.States.{StoreState}
+use Rattle.hb_core.proofs.Table.MergerMoves.{Waits}
 
--- an outcome that answers no line
+-- an outcome that answers no line and drops no job
+abbrev pub IsPlain : Outcome → Type 0
+IsPlain (outcomes.Stopped why) = Unit {0}
+IsPlain outcomes.Idle = Unit {0}
+IsPlain (outcomes.Blocked by) = Unit {0}
+IsPlain outcomes.Helped = Unit {0}
+IsPlain (outcomes.Answered number reply) = ⊥
+IsPlain (outcomes.Dropped why) = ⊥
+IsPlain outcomes.Moved = Unit {0}
+
+-- one that answers no line
 abbrev pub IsQuiet : Outcome → Type 0
 IsQuiet said = (at : ℕ) → given_by said at ≡ []
 
+pub plain_is_quiet : (said : Outcome) → IsPlain said → IsQuiet said
+plain_is_quiet (outcomes.Stopped why) plain at = refl
+plain_is_quiet outcomes.Idle plain at = refl
+plain_is_quiet (outcomes.Blocked by) plain at = refl
+plain_is_quiet outcomes.Helped plain at = refl
+plain_is_quiet (outcomes.Answered number reply) plain at = absurd plain
+plain_is_quiet (outcomes.Dropped why) plain at = absurd plain
+plain_is_quiet outcomes.Moved plain at = refl
+
 -- Once no group waits, more is flushed, or a write fails.
 abbrev pub FlushesMore : Machine → Outcome → Machine → Type 0
-FlushesMore m outcome new = (m.store.log.groups ≡ []) × HasMoreToFlush m.store × (((due : Outcome) × IsQuiet due × FlushesWell m due outcome new) ⊎ FailsToWrite m 9 outcome new)
+FlushesMore m outcome new = (m.store.log.groups ≡ []) × HasMoreToFlush m.store × (((due : Outcome) × IsPlain due × FlushesWell m due outcome new) ⊎ FailsToWrite m 9 outcome new)
 
 -- So all that flushing comes to where no group waits.
-pub rest_kind : (m : Machine) (due outcome : Outcome) (new : Machine) (nothing G : Type 0) → m.store.log.groups ≡ [] → IsQuiet due → (FlushesMore m outcome new → G) → (nothing → G) → FlushesRest m due nothing outcome new → G
-rest_kind m due outcome new nothing G none quiet more done (inl (left, well)) = more (none, left, inl (due, quiet, well))
-rest_kind m due outcome new nothing G none quiet more done (inr (inl (left, fails))) = more (none, left, inr fails)
-rest_kind m due outcome new nothing G none quiet more done (inr (inr (nothing_left, so))) = done so
+pub rest_kind : (m : Machine) (due outcome : Outcome) (new : Machine) (nothing G : Type 0) → m.store.log.groups ≡ [] → IsPlain due → (FlushesMore m outcome new → G) → (nothing → G) → FlushesRest m due nothing outcome new → G
+rest_kind m due outcome new nothing G none plain more done (inl (left, well)) = more (none, left, inl (due, plain, well))
+rest_kind m due outcome new nothing G none plain more done (inr (inl (left, fails))) = more (none, left, inr fails)
+rest_kind m due outcome new nothing G none plain more done (inr (inr (nothing_left, so))) = done so
 
 -- A deed that is done outright: it does nothing to the file, and its actor holds nothing afterwards.
 pub record IsOutright (deed : Deed) : Type 0 where
@@ -63,57 +83,74 @@ merging_takes_nothing : (deed : Deed) (job : Job) (height : ℕ) → deed.op ≡
 merging_takes_nothing deed job height none (inl (above, is)) = rests deed none at.ConsolidatorIdle is refl (λ st. refl) refl
 merging_takes_nothing deed job height none (inr (below, is)) = rests deed none (at.ConsolidatorWalk job None) is refl (λ st. refl) refl
 
-module _ (m : Machine) (actor : ℕ) (outcome : Outcome) (new : Machine) (G : Type 0) (stays : (said : Outcome) → IsQuiet said → StaysSo m said outcome new → G) (forces : (said : Outcome) → IsQuiet said → ForcesFirst m said outcome new → G)
-    (more : FlushesMore m outcome new → G) (outright : (deed : Deed) → IsOutright deed → Performs m m.store actor deed outcome new → G) (works : Works m actor outcome new → G) where
-  took_line : (line : Option Line) → MatchOption line (StaysSo m outcomes.Idle outcome new) (λ line. Performs m m.store actor (taking line) outcome new ⊎ (WantsBoxes line.command × Performs m m.store actor (answers_now line.number replies.NoMemory) outcome new)) → G
-  took_line None so = stays outcomes.Idle (λ at. refl) so
-  took_line (Some line) (inl performs) = outright _ (record { op = refl; walk = refl; latches = λ st. refl; merging = refl }) performs
-  took_line (Some line) (inr (boxes, performs)) = outright _ (record { op = refl; walk = refl; latches = λ st. refl; merging = refl }) performs
+-- What is to be shown of each case of a step, with the activity of its actor and what it took.
+pub record ShowsEach (m : Machine) (actor : ℕ) (outcome : Outcome) (new : Machine) (G : Type 0) : Type 0 where
+  pub stays : (said : Outcome) → IsPlain said → StaysSo m said outcome new → G
+  pub forces : (said : Outcome) → IsPlain said → ForcesFirst m said outcome new → G
+  pub more : FlushesMore m outcome new → G
+  pub takes : (line : Line) → m.activity actor ≡ at.SessionIdle → next_line actor m.answered m.lines ≡ Some line → Performs m m.store actor (taking line) outcome new → G
+  pub refuses : (line : Line) → m.activity actor ≡ at.SessionIdle → next_line actor m.answered m.lines ≡ Some line → WantsBoxes line.command → Performs m m.store actor (answers_now line.number replies.NoMemory) outcome new → G
+  pub posts : (deed : Deed) → m.activity actor ≡ at.PosterIdle → TakesJob m deed → Performs m m.store actor deed outcome new → G
+  pub merges : (deed : Deed) → m.activity actor ≡ at.ConsolidatorIdle → TakesMerging m deed → Performs m m.store actor deed outcome new → G
+  pub settles : (number place : ℕ) (reply : Reply) → m.activity actor ≡ at.SessionAwait number reply place → place < settled_count m → Performs m m.store actor (answers_now number reply) outcome new → G
+  pub works : (Waits (m.activity actor) → ⊥) → Works m actor outcome new → G
 
-  took_posting : TakesPosting m actor outcome new → G
-  took_posting (inl (none, so)) = stays outcomes.Idle (λ at. refl) so
-  took_posting (inr (deed, takes, performs)) =
-      outright deed (takes_nothing deed takes.job m.store.meta.height (ap (λ (d : Deed). d.op) takes.deed_is) (subst (IsPostingOf takes.job m.store.meta.height) (sym (ap (λ (d : Deed). d.next) takes.deed_is)) takes.posting)) performs
+module _ (m : Machine) (actor : ℕ) (outcome : Outcome) (new : Machine) (G : Type 0) (shows : ShowsEach m actor outcome new G) where
+  took_line : (line : Option Line) → m.activity actor ≡ at.SessionIdle → next_line actor m.answered m.lines ≡ line
+      → MatchOption line (StaysSo m outcomes.Idle outcome new) (λ line. Performs m m.store actor (taking line) outcome new ⊎ (WantsBoxes line.command × Performs m m.store actor (answers_now line.number replies.NoMemory) outcome new)) → G
+  took_line None idle next so = shows.stays outcomes.Idle tt so
+  took_line (Some line) idle next (inl performs) = shows.takes line idle next performs
+  took_line (Some line) idle next (inr (boxes, performs)) = shows.refuses line idle next boxes performs
 
-  took_merging : TakesJobToMerge m actor outcome new → G
-  took_merging (inl (none, so)) = stays outcomes.Idle (λ at. refl) so
-  took_merging (inr (deed, takes, performs)) =
-      outright deed (merging_takes_nothing deed takes.job m.store.meta.height (ap (λ (d : Deed). d.op) takes.deed_is) (subst (IsMergingOf takes.job m.store.meta.height) (sym (ap (λ (d : Deed). d.next) takes.deed_is)) takes.merging)) performs
+  took_posting : m.activity actor ≡ at.PosterIdle → TakesPosting m actor outcome new → G
+  took_posting idle (inl (none, so)) = shows.stays outcomes.Idle tt so
+  took_posting idle (inr (deed, takes, performs)) = shows.posts deed idle takes performs
 
-  -- whether the flusher takes steps or not
+  took_merging : m.activity actor ≡ at.ConsolidatorIdle → TakesJobToMerge m actor outcome new → G
+  took_merging idle (inl (none, so)) = shows.stays outcomes.Idle tt so
+  took_merging idle (inr (deed, takes, performs)) = shows.merges deed idle takes performs
+
   flushed : (on : Bool) → Flushes on m outcome new → G
-  flushed false so = stays outcomes.Idle (λ at. refl) so
-  flushed true (inl (waits, force)) = forces outcomes.Moved (λ at. refl) force
-  flushed true (inr (none, rest)) = rest_kind m outcomes.Moved outcome new (StaysSo m outcomes.Idle outcome new) G none (λ at. refl) more (stays outcomes.Idle (λ at. refl)) rest
+  flushed false so = shows.stays outcomes.Idle tt so
+  flushed true (inl (waits, force)) = shows.forces outcomes.Moved tt force
+  flushed true (inr (none, rest)) = rest_kind m outcomes.Moved outcome new (StaysSo m outcomes.Idle outcome new) G none tt shows.more (shows.stays outcomes.Idle tt) rest
 
-  awaited : (number : ℕ) (reply : Reply) (place : ℕ) → AwaitsPlace m actor number reply place outcome new → G
-  awaited number reply place (inl (settled, performs)) = outright _ (record { op = refl; walk = refl; latches = λ st. refl; merging = refl }) performs
-  awaited number reply place (inr (waits, force)) = forces outcomes.Moved (λ at. refl) force
+  awaited : (number place : ℕ) (reply : Reply) → m.activity actor ≡ at.SessionAwait number reply place → AwaitsPlace m actor number reply place outcome new → G
+  awaited number place reply is (inl (settled, performs)) = shows.settles number place reply is settled performs
+  awaited number place reply is (inr (waits, force)) = shows.forces outcomes.Moved tt force
 
-  stepped : (activity : Activity) → StepsAs activity m actor outcome new → G
-  stepped at.SessionIdle one = took_line (next_line actor m.answered m.lines) one
-  stepped (at.SessionAwait number reply place) one = awaited number reply place one
-  stepped at.PosterIdle one = took_posting one
-  stepped at.ConsolidatorIdle one = took_merging one
-  stepped at.Flusher one = flushed flusher_steps one
-  stepped (at.SessionWalk line held rest found) one = works one
-  stepped (at.SessionSplit line held) one = works one
-  stepped (at.SessionPut line source fresh) one = works one
-  stepped (at.PosterGrow job) one = works one
-  stepped (at.PosterWalk job held) one = works one
-  stepped (at.PosterChild job parent) one = works one
-  stepped (at.PosterPromote job parent) one = works one
-  stepped (at.PosterAgain job parent) one = works one
-  stepped (at.ConsolidatorWalk job held) one = works one
-  stepped (at.ConsolidatorScan job parent child) one = works one
-  stepped (at.ConsolidatorTry job parent keep gone leaf) one = works one
-  stepped (at.ConsolidatorPromote job parent keep gone) one = works one
-  stepped (at.ConsolidatorKeep job parent keep gone) one = works one
-  stepped (at.ConsolidatorDecide job parent keep gone) one = works one
+  works_as : (activity : Activity) → m.activity actor ≡ activity → (Waits activity → ⊥) → Works m actor outcome new → G
+  works_as activity is none one = shows.works (subst (λ (a : Activity). Waits a → ⊥) (sym is) none) one
+
+  stepped : (activity : Activity) → m.activity actor ≡ activity → StepsAs activity m actor outcome new → G
+  stepped at.SessionIdle is one = took_line (next_line actor m.answered m.lines) is refl one
+  stepped (at.SessionAwait number reply place) is one = awaited number place reply is one
+  stepped at.PosterIdle is one = took_posting is one
+  stepped at.ConsolidatorIdle is one = took_merging is one
+  stepped at.Flusher is one = flushed flusher_steps one
+  stepped activity is one = works_as _ is (λ never. never) one
 
   ran : (stop : Option StopWhy) → MatchOption stop (StepsAs (m.activity actor) m actor outcome new) (λ why. StaysSo m (outcomes.Stopped why) outcome new) → G
-  ran None one = stepped (m.activity actor) one
-  ran (Some why) so = stays (outcomes.Stopped why) (λ at. refl) so
+  ran None one = stepped (m.activity actor) refl one
+  ran (Some why) so = shows.stays (outcomes.Stopped why) tt so
 
+  pub each_step : StepsTo m actor outcome new → G
+  each_step step = ran m.stop step
+
+-- The same by kinds: nothing happens, a group is forced, a deed is done outright, or the step works.
+module _ (m : Machine) (actor : ℕ) (outcome : Outcome) (new : Machine) (G : Type 0) (stays : (said : Outcome) → IsQuiet said → StaysSo m said outcome new → G) (forces : (said : Outcome) → IsQuiet said → ForcesFirst m said outcome new → G)
+    (more : FlushesMore m outcome new → G) (outright : (deed : Deed) → IsOutright deed → Performs m m.store actor deed outcome new → G) (works : Works m actor outcome new → G) where
   pub each_kind : StepsTo m actor outcome new → G
-  each_kind step = ran m.stop step
+  each_kind step = each_step m actor outcome new G (record {
+    stays = λ said plain so. stays said (plain_is_quiet said plain) so;
+    forces = λ said plain force. forces said (plain_is_quiet said plain) force;
+    more = more;
+    takes = λ line idle next performs. outright _ (record { op = refl; walk = refl; latches = λ st. refl; merging = refl }) performs;
+    refuses = λ line idle next boxes performs. outright _ (record { op = refl; walk = refl; latches = λ st. refl; merging = refl }) performs;
+    posts = λ deed idle takes performs. outright deed
+        (takes_nothing deed takes.job m.store.meta.height (ap (λ (d : Deed). d.op) takes.deed_is) (subst (IsPostingOf takes.job m.store.meta.height) (sym (ap (λ (d : Deed). d.next) takes.deed_is)) takes.posting)) performs;
+    merges = λ deed idle takes performs. outright deed
+        (merging_takes_nothing deed takes.job m.store.meta.height (ap (λ (d : Deed). d.op) takes.deed_is) (subst (IsMergingOf takes.job m.store.meta.height) (sym (ap (λ (d : Deed). d.next) takes.deed_is)) takes.merging)) performs;
+    settles = λ number place reply is settled performs. outright _ (record { op = refl; walk = refl; latches = λ st. refl; merging = refl }) performs;
+    works = λ none one. works one;
+  }) step

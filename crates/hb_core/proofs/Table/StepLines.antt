@@ -1,10 +1,9 @@
 -- What a step makes of the lines, of the order and of the answers: nothing; a line joins the order; one is answered outside of the
 -- order; or one is answered whose place is settled.
-use Rattle.std.proofs.Common.{◌≡◌, ◌⊎◌, inl, inr, ℕ, ◌==◌, Bool, cond, List, [], ◌∷◌, ◌++◌, length, Option, Some, None, IfSome, refl, sym, ap, ◌∙◌, subst, append-nil}
+use Rattle.std.proofs.Common.{◌≡◌, ◌⊎◌, inl, inr, ℕ, ◌==◌, Bool, cond, [], ◌∷◌, ◌++◌, length, Option, Some, None, IfSome, refl, sym, ap, ◌∙◌, subst}
 use Rattle.std.proofs.lemmas.Bool.{cases_Bool}
 use Rattle.hb_set.specs.declared.commands.Reply.{Reply}
 use Rattle.hb_set.specs.declared.commands.Reply.TheVariants as replies
-use Rattle.hb_set.specs.declared.scripts.Answered.{Answered}
 use Rattle.hb_set.specs.declared.scripts.Line.{Line}
 use Rattle.hb_activity.specs.declared.activities.Activity.{Activity}
 use Rattle.hb_activity.specs.declared.activities.Activity.TheVariants as at
@@ -12,22 +11,17 @@ use Rattle.hb_core.specs.declared.outcomes.Outcome.{Outcome}
 use Rattle.hb_core.specs.declared.outcomes.Outcome.TheVariants as outcomes
 use Rattle.hb_activity.specs.Classes.{line_in_hand}
 use Rattle.hb_activity.specs.Deeds.{Answers, Deed, Says}
-use Rattle.hb_consol.specs.ConsolidatorRows.{IsMergingOf}
-use Rattle.hb_core.proofs.Orders.JoinedReplies.{JoinsInside, row_joins_inside}
-use Rattle.hb_core.proofs.Table.LineFates.{LineFate, fate_given_up, fate_ran_out, fate_row, given_up_joins_nothing, ran_out_joins_nothing}
+use Rattle.hb_core.proofs.Table.LineFates.{LineFate, fate_given_up, fate_ran_out, fate_row, idle_never, merge_waits_never, post_waits_never}
 use Rattle.hb_core.proofs.Table.MergerMoves.{Waits}
-use Rattle.hb_core.proofs.Table.StepCases.{each_step}
-use Rattle.hb_core.proofs.Table.StepKinds.{rest_kind}
+use Rattle.hb_core.proofs.Table.StepKinds.{each_step, rest_kind}
 use Rattle.hb_core.proofs.Orders.Turns.{waits_none}
-use Rattle.hb_core.proofs.Table.Ways.{KeepsAllButDisk, forces_so, meets_so, more_so, stays_so}
-use Rattle.hb_core.specs.GivingUp.{gives_up, runs_out}
+use Rattle.hb_core.proofs.Table.Ways.{KeepsAllButDisk, same_answers, same_order, forces_so, meets_so, more_so, stays_so}
 use Rattle.hb_core.specs.KeptOrder.{StandsOutside}
 use Rattle.hb_core.specs.KeptTurns.{LinesInTurn, awaited_number}
 use Rattle.hb_core.specs.Machines.{Machine, if_some}
 use Rattle.hb_core.specs.Performing.{Performs, given_by, outcome_of}
-use Rattle.hb_core.specs.Steps.{StepsTo, TakesJob, TakesMerging, Works}
+use Rattle.hb_core.specs.Steps.{StepsTo, Works}
 use Rattle.hb_point.specs.SessionRows.{next_line}
-use Rattle.hb_poster.specs.PosterRows.{IsPostingOf}
 use Rattle.hb_set.specs.Order.{Entry}
 use Rattle.hb_store.specs.States.{StoreState}
 
@@ -92,23 +86,14 @@ module _ (m : Machine) (actor : ℕ) (outcome : Outcome) (new : Machine) (turn :
     | inr now ↦ absurd (none (subst Waits (sym now) tt))
   ]
 
-  same_order : (fetched : StoreState) (deed : Deed) → Performs m fetched actor deed outcome new → deed.joins ≡ None → new.order ≡ m.order
-  same_order fetched deed performs none = performs.order ∙ ap (λ (o : Option Entry). m.order ++ if_some o) none ∙ append-nil m.order
-
-  same_answers : (fetched : StoreState) (deed : Deed) → Performs m fetched actor deed outcome new → given_by (outcome_of deed.says) m.clock ≡ [] → new.answered ≡ m.answered
-  same_answers fetched deed performs none = performs.answered ∙ ap (λ (l : List Answered). m.answered ++ l) none ∙ append-nil m.answered
-
   one_answer : (fetched : StoreState) (deed : Deed) (number : ℕ) (reply : Reply) → Performs m fetched actor deed outcome new → deed.says ≡ Answers number reply → new.answered ≡ m.answered ++ record { line = number; reply = reply; at = m.clock } ∷ []
   one_answer fetched deed number reply performs says = performs.answered ∙ ap (λ (o : Says). m.answered ++ given_by (outcome_of o) m.clock) says
 
   quiet : (fetched : StoreState) (deed : Deed) → given_by (outcome_of deed.says) m.clock ≡ [] → deed.joins ≡ None → (Waits deed.next → ⊥) → Performs m fetched actor deed outcome new → LinesAfter m actor new
-  quiet fetched deed says joins none performs = inl (record { order = same_order fetched deed performs joins; answered = same_answers fetched deed performs says; awaits = as_before fetched deed performs none })
+  quiet fetched deed says joins none performs = inl (record { order = same_order m actor outcome new fetched deed performs joins; answered = same_answers m actor outcome new fetched deed performs says; awaits = as_before fetched deed performs none })
 
   hand_is_next : (line : Line) → line_in_hand (m.activity actor) ≡ Some line → next_line actor m.answered m.lines ≡ Some line
   hand_is_next line is = subst (λ (o : Option Line). IfSome o (λ (l : Line). next_line actor m.answered m.lines ≡ Some l)) is (turn.in_hand actor)
-
-  idle_never : (deed : Deed) → deed.next ≡ at.SessionIdle → Waits deed.next → ⊥
-  idle_never deed is waits = subst Waits is waits
 
   joins_or : (fetched : StoreState) (deed : Deed) (line : Line) (said : Reply) (place : ℕ) → Performs m fetched actor deed outcome new → deed.next ≡ at.SessionAwait line.number said place
       → (other number elsewhere : ℕ) (reply : Reply) → new.activity other ≡ at.SessionAwait number reply elsewhere → (m.activity other ≡ at.SessionAwait number reply elsewhere) ⊎ (said ≡ reply)
@@ -120,80 +105,62 @@ module _ (m : Machine) (actor : ℕ) (outcome : Outcome) (new : Machine) (turn :
       same_reply : (a b p q : ℕ) (r s : Reply) → at.SessionAwait a r p ≡ at.SessionAwait b s q → r ≡ s
       same_reply a b p q r s is = cc
 
-  fated : (fetched : StoreState) (deed : Deed) → awaited_number (m.activity actor) ≡ None → JoinsInside deed → LineFate m (m.activity actor) deed → Performs m fetched actor deed outcome new → LinesAfter m actor new
-  fated fetched deed none inside (inl goes) performs = quiet fetched deed (goes.quiet m.clock) goes.joins goes.awaits performs
-  fated fetched deed none inside (inr (inl takes)) performs = inr (inl (record {
+  fated : (fetched : StoreState) (deed : Deed) → awaited_number (m.activity actor) ≡ None → LineFate m (m.activity actor) deed → Performs m fetched actor deed outcome new → LinesAfter m actor new
+  fated fetched deed none (inl goes) performs = quiet fetched deed (goes.quiet m.clock) goes.joins goes.awaits performs
+  fated fetched deed none (inr (inl takes)) performs = inr (inl (record {
     line = takes.line;
     reply = takes.reply;
     next = hand_is_next takes.line takes.hand;
     none_awaited = none;
-    inside = subst (λ (o : Option Entry). IfSome o (λ (e : Entry). ¬ (StandsOutside e.reply))) takes.joins inside;
+    inside = takes.inside;
     order = performs.order ∙ ap (λ (o : Option Entry). m.order ++ if_some o) takes.joins;
-    answered = same_answers fetched deed performs (takes.quiet m.clock);
+    answered = same_answers m actor outcome new fetched deed performs (takes.quiet m.clock);
     awaits = joins_or fetched deed takes.line takes.reply (length m.order) performs takes.next;
   }))
-  fated fetched deed none inside (inr (inr gives)) performs = inr (inr (inl (record {
+  fated fetched deed none (inr (inr gives)) performs = inr (inr (inl (record {
     line = gives.line;
     reply = gives.reply;
     next = hand_is_next gives.line gives.hand;
     none_awaited = none;
     outside = gives.outside;
-    order = same_order fetched deed performs gives.joins;
+    order = same_order m actor outcome new fetched deed performs gives.joins;
     answered = one_answer fetched deed gives.line.number gives.reply performs gives.says;
     awaits = as_before fetched deed performs (idle_never deed gives.next);
   })))
-
-  joins_nothing : (deed : Deed) → deed.joins ≡ None → JoinsInside deed
-  joins_nothing deed none = subst (λ (o : Option Entry). IfSome o (λ (e : Entry). ¬ (StandsOutside e.reply))) (sym none) tt
 
   worked : awaited_number (m.activity actor) ≡ None → Works m actor outcome new → LinesAfter m actor new
   worked none (inl (by, way, so)) = stays (stays_so m actor outcome new (outcomes.Blocked by) so)
   worked none (inr (inl (free, unready, inl (waits, force)))) = stays (forces_so m actor outcome new outcomes.Helped force)
   worked none (inr (inl (free, unready, inr (no_group, rest)))) =
-      rest_kind m outcomes.Helped outcome new _ (LinesAfter m actor new) no_group (λ at. refl) (λ more. stays (more_so m actor outcome new more)) (fated m.store _ none (joins_nothing (runs_out (m.activity actor)) (ran_out_joins_nothing (m.activity actor))) (fate_ran_out m (m.activity actor))) rest
-  worked none (inr (inr (free, ready, inl acts))) = fated acts.fetched acts.deed none (row_joins_inside _ (m.activity actor) _ acts.deed acts.row) (fate_row m acts.fetched (m.activity actor) _ acts.deed acts.row) acts.performs
-  worked none (inr (inr (free, ready, inr (inl gives)))) = fated gives.fetched _ none (joins_nothing (gives_up gives.why (m.activity actor)) (given_up_joins_nothing gives.why (m.activity actor))) (fate_given_up m gives.why (m.activity actor)) gives.performs
+      rest_kind m outcomes.Helped outcome new _ (LinesAfter m actor new) no_group tt (λ more. stays (more_so m actor outcome new more)) (fated m.store _ none (fate_ran_out m (m.activity actor))) rest
+  worked none (inr (inr (free, ready, inl acts))) = fated acts.fetched acts.deed none (fate_row m acts.fetched (m.activity actor) _ acts.deed acts.row) acts.performs
+  worked none (inr (inr (free, ready, inr (inl gives)))) = fated gives.fetched _ none (fate_given_up m gives.why (m.activity actor)) gives.performs
   worked none (inr (inr (free, ready, inr (inr meets)))) = stays (meets_so m actor outcome new meets)
-
-  post_waits_never : (deed : Deed) → TakesJob m deed → Waits deed.next → ⊥
-  post_waits_never deed takes waits = by takes.next takes.posting (subst (λ (d : Deed). Waits d.next) takes.deed_is waits)
-    where
-      by : (next : Activity) → IsPostingOf takes.job m.store.meta.height next → Waits next → ⊥
-      by next (inl (above, is)) waits = subst Waits is waits
-      by next (inr (inl (same, is))) waits = subst Waits is waits
-      by next (inr (inr (below, is))) waits = subst Waits is waits
-
-  merge_waits_never : (deed : Deed) → TakesMerging m deed → Waits deed.next → ⊥
-  merge_waits_never deed takes waits = by takes.next takes.merging (subst (λ (d : Deed). Waits d.next) takes.deed_is waits)
-    where
-      by : (next : Activity) → IsMergingOf takes.job m.store.meta.height next → Waits next → ⊥
-      by next (inl (above, is)) waits = subst Waits is waits
-      by next (inr (below, is)) waits = subst Waits is waits
 
   pub lines_after : StepsTo m actor outcome new → LinesAfter m actor new
   lines_after step = each_step m actor outcome new (LinesAfter m actor new) (record {
-    stays = λ said so. stays (stays_so m actor outcome new said so);
+    stays = λ said plain so. stays (stays_so m actor outcome new said so);
     forces = λ said silent force. stays (forces_so m actor outcome new said force);
     more = λ more. stays (more_so m actor outcome new more);
     takes = λ line idle next performs. quiet m.store _ refl refl (λ never. never) performs;
-    refuses = λ line idle next performs. inr (inr (inl (record {
+    refuses = λ line idle next boxes performs. inr (inr (inl (record {
       line = line;
       reply = replies.NoMemory;
       next = next;
       none_awaited = ap awaited_number idle;
       outside = tt;
-      order = same_order m.store _ performs refl;
+      order = same_order m actor outcome new m.store _ performs refl;
       answered = one_answer m.store _ line.number replies.NoMemory performs refl;
       awaits = as_before m.store _ performs (λ never. never);
     })));
-    posts = λ deed idle takes performs. quiet m.store deed (ap (λ (d : Deed). given_by (outcome_of d.says) m.clock) takes.deed_is) (ap (λ (d : Deed). d.joins) takes.deed_is) (post_waits_never deed takes) performs;
-    merges = λ deed idle takes performs. quiet m.store deed (ap (λ (d : Deed). given_by (outcome_of d.says) m.clock) takes.deed_is) (ap (λ (d : Deed). d.joins) takes.deed_is) (merge_waits_never deed takes) performs;
+    posts = λ deed idle takes performs. quiet m.store deed (ap (λ (d : Deed). given_by (outcome_of d.says) m.clock) takes.deed_is) (ap (λ (d : Deed). d.joins) takes.deed_is) (post_waits_never m deed takes) performs;
+    merges = λ deed idle takes performs. quiet m.store deed (ap (λ (d : Deed). given_by (outcome_of d.says) m.clock) takes.deed_is) (ap (λ (d : Deed). d.joins) takes.deed_is) (merge_waits_never m deed takes) performs;
     settles = λ number place reply is settled performs. inr (inr (inr (record {
       number = number;
       reply = reply;
       place = place;
       waited = is;
-      order = same_order m.store _ performs refl;
+      order = same_order m actor outcome new m.store _ performs refl;
       answered = one_answer m.store _ number reply performs refl;
       awaits = as_before m.store _ performs (λ never. never);
     })));

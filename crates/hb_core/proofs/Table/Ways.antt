@@ -11,11 +11,12 @@ use Rattle.hb_core.specs.Fetching.{MustStay}
 use Rattle.hb_core.specs.Forcing.{ForcesFirst, StaysSo, FailsToWrite, FlushesWell}
 use Rattle.hb_core.specs.Laws.{OrderGrows, OthersStay}
 use Rattle.hb_core.specs.Machines.{Machine, if_some}
-use Rattle.hb_core.specs.Performing.{Performs}
+use Rattle.hb_core.specs.Performing.{Performs, given_by, outcome_of}
 use Rattle.hb_core.specs.Steps.{Works, StepsTo}
 use Rattle.hb_latch.specs.Tables.{LatchTable, mode_at}
 use Rattle.hb_set.specs.Order.{Entry}
 use Rattle.hb_store.specs.States.{StoreState, in_memory}
+use Rattle.hb_set.specs.declared.scripts.Answered.{Answered}
 
 -- All but the disk is as it was, and what has to stay in memory is there.
 pub record KeepsAllButDisk (m new : Machine) : Type 0 where
@@ -34,6 +35,13 @@ abbrev pub HasWay : Machine → ℕ → Outcome → Machine → Type 0
 HasWay m actor outcome new = KeepsAllButDisk m new ⊎ ((fetched : StoreState) × (deed : Deed) × Performs m fetched actor deed outcome new)
 
 module _ (m : Machine) (actor : ℕ) (outcome : Outcome) (new : Machine) where
+  -- a deed by which no line joins the order, and one that answers none
+  pub same_order : (fetched : StoreState) (deed : Deed) → Performs m fetched actor deed outcome new → deed.joins ≡ None → new.order ≡ m.order
+  same_order fetched deed performs none = performs.order ∙ ap (λ (o : Option Entry). m.order ++ if_some o) none ∙ append-nil m.order
+
+  pub same_answers : (fetched : StoreState) (deed : Deed) → Performs m fetched actor deed outcome new → given_by (outcome_of deed.says) m.clock ≡ [] → new.answered ≡ m.answered
+  same_answers fetched deed performs none = performs.answered ∙ ap (λ (l : List Answered). m.answered ++ l) none ∙ append-nil m.answered
+
   pub stays_so : (said : Outcome) → StaysSo m said outcome new → KeepsAllButDisk m new
   stays_so said (says, is) = keeps_by m m new is (record { lines = refl; answered = refl; activity = refl; latches = refl; jobs = refl; order = refl; memory = λ id page must there. there })
 
@@ -63,7 +71,7 @@ module _ (m : Machine) (actor : ℕ) (outcome : Outcome) (new : Machine) where
   worked : Works m actor outcome new → HasWay m actor outcome new
   worked (inl (by, way, so)) = same (outcomes.Blocked by) so
   worked (inr (inl (free, unready, inl (waits, force)))) = forced outcomes.Helped force
-  worked (inr (inl (free, unready, inr (none, rest)))) = rest_kind m outcomes.Helped outcome new _ (HasWay m actor outcome new) none (λ at. refl) (λ more. inl (more_so more)) (λ performs. inr (m.store, _, performs)) rest
+  worked (inr (inl (free, unready, inr (none, rest)))) = rest_kind m outcomes.Helped outcome new _ (HasWay m actor outcome new) none tt (λ more. inl (more_so more)) (λ performs. inr (m.store, _, performs)) rest
   worked (inr (inr (free, ready, inl acts))) = inr (acts.fetched, acts.deed, acts.performs)
   worked (inr (inr (free, ready, inr (inl gives)))) = inr (gives.fetched, _, gives.performs)
   worked (inr (inr (free, ready, inr (inr meets)))) = inl (meets_so meets)

@@ -76,11 +76,6 @@ module _ (m : Machine) (actor : ℕ) (fetched : StoreState) where
   no_job job is = cc
 
   needs_nothing : (activity : Activity) → hand_of activity ≡ Empty → NeedsNothing activity
-  needs_nothing at.SessionIdle empty = record { wants = refl; numbers = λ wanted never. never; rows = λ deed never. never }
-  needs_nothing (at.SessionAwait number reply place) empty = record { wants = refl; numbers = λ wanted never. never; rows = λ deed never. never }
-  needs_nothing at.PosterIdle empty = record { wants = refl; numbers = λ wanted never. never; rows = λ deed never. never }
-  needs_nothing at.ConsolidatorIdle empty = record { wants = refl; numbers = λ wanted never. never; rows = λ deed never. never }
-  needs_nothing at.Flusher empty = record { wants = refl; numbers = λ wanted never. never; rows = λ deed never. never }
   needs_nothing (at.SessionWalk line held rest found) empty = absurd (no_line line empty)
   needs_nothing (at.SessionSplit line held) empty = absurd (no_line line empty)
   needs_nothing (at.SessionPut line source fresh) empty = absurd (no_line line empty)
@@ -95,6 +90,7 @@ module _ (m : Machine) (actor : ℕ) (fetched : StoreState) where
   needs_nothing (at.ConsolidatorPromote job parent keep gone) empty = absurd (no_job job empty)
   needs_nothing (at.ConsolidatorKeep job parent keep gone) empty = absurd (no_job job empty)
   needs_nothing (at.ConsolidatorDecide job parent keep gone) empty = absurd (no_job job empty)
+  needs_nothing activity empty = record { wants = refl; numbers = λ wanted never. never; rows = λ deed never. never }
 
   -- so it lacks no page and has no row that takes memory
   lacks_nothing : NeedsNothing (m.activity actor) → LacksNeeded m actor fetched → ⊥

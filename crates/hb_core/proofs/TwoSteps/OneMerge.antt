@@ -66,4 +66,4 @@ module _ (m : Machine) (f g : StoreState) where
 
     -- while no operation merges, the job is dropped by each
     pub one_decision : (job : Job) (parent keep gone : ℕ) (page : LivePage) (d e : Deed) → Decides (sight m1) job parent keep gone page d → Decides (sight m2) job parent keep gone page e → d ≡ e
-    one_decision job parent keep gone page d e a b = decided m1 job parent keep gone a.has.above a.has.plan d a.does_it ∙ sym (decided m2 job parent keep gone b.has.above b.has.plan e b.does_it)
+    one_decision job parent keep gone page d e a b = decided (sight m1) job parent keep gone a.has.above a.has.plan d a.does_it ∙ sym (decided (sight m2) job parent keep gone b.has.above b.has.plan e b.does_it)

@@ -11,7 +11,6 @@ use Rattle.hb_set.specs.declared.scripts.Line.{Line}
 use Rattle.hb_core.specs.declared.outcomes.Outcome.{Outcome}
 use Rattle.hb_activity.specs.Deeds.{Deed, Says, takes_effect}
 use Rattle.hb_activity.specs.Walks.{walk_held}
-use Rattle.hb_core.proofs.Latches.Backing.{live_there}
 use Rattle.hb_core.proofs.TwoSteps.OneFetch.{Agree, IsHereUnchanged, fetches_agree, good_there, live_as_it_was, walks_here}
 use Rattle.hb_core.proofs.TwoSteps.OnePair.{both_steps}
 use Rattle.hb_core.proofs.TwoSteps.OneRow.{one_row}
@@ -31,6 +30,9 @@ use Rattle.hb_ops.specs.Files.{if_live}
 use Rattle.hb_point.specs.SplitRows.{Puts}
 use Rattle.hb_store.specs.Calls.{KeepsAllButPages}
 use Rattle.hb_store.specs.States.{StoreState, in_memory}
+use Rattle.hb_core.proofs.Table.NextPlaces.{place_after}
+use Rattle.hb_ops.proofs.Facts.PageNumberLaws.{live_so}
+use Rattle.hb_core.proofs.Room.PutHalves.{insert_of}
 
 -- ---- they say the same
 
@@ -71,9 +73,6 @@ outcome_is_one m actor outcome other new next first second =
 
 -- ---- over a disk that tells they leave the same
 
-insert_of : (rec same : Record) → Insert rec ≡ Insert same → rec ≡ same
-insert_of rec same is = cc
-
 module _ (m : Machine) (files : Files) (tells : m.files ≡ Some files) (may might : ℕ → Type 0) (f g : StoreState) (first : Brings m may f) (second : Brings m might g) where
   abbrev m1 : Machine
   m1 = with_disk f m.files m.clock m
@@ -85,7 +84,7 @@ module _ (m : Machine) (files : Files) (tells : m.files ≡ Some files) (may mig
   agree = fetches_agree m files tells may might f g first second
 
   in_order : HoldsPagesOfFile m → (id : ℕ) (page : LivePage) → live_here f id ≡ Some page → AreInOrder page
-  in_order inside id page live = (good_there m may f first id (Live page) inside (live_there (in_memory f id) page live)).1.1.in_order
+  in_order inside id page live = (good_there m may f first id (Live page) inside (live_so (in_memory f id) page live)).1.1.in_order
 
   -- a record goes into one of the halves
   module _ (line : Line) (source fresh : ℕ) (d e : Deed) (a : Puts (sight m1) line source fresh d) (b : Puts (sight m2) line source fresh e) (rec : Record) (command : line.command ≡ Insert rec) (one : OneHasRoom m source fresh rec.key rec.body) where
@@ -137,15 +136,15 @@ module _ (m : Machine) (files : Files) (tells : m.files ≡ Some files) (may mig
   same_here deed None here there = tt
   same_here deed (Some id) here there = (
     here.nothing,
-    ap if_live (live_there (in_memory f id) here.page here.live ∙ ap Some (agree id (Live here.page) (Live there.page)
-        (live_there (in_memory f id) here.page here.live) (live_there (in_memory g id) there.page there.live)) ∙ sym (live_there (in_memory g id) there.page there.live)),
+    ap if_live (live_so (in_memory f id) here.page here.live ∙ ap Some (agree id (Live here.page) (Live there.page)
+        (live_so (in_memory f id) here.page here.live) (live_so (in_memory g id) there.page there.live)) ∙ sym (live_so (in_memory g id) there.page there.live)),
   )
 
   one_by_row : (actor : ℕ) (deed : Deed) (outcome other : Outcome) (new next : Machine) → Row (m.activity actor) (wanted_by m actor) m1 deed → Row (m.activity actor) (wanted_by m actor) m2 deed
       → Performs m f actor deed outcome new → Performs m g actor deed other next → AreOneButMemory new next
   one_by_row actor deed outcome other new next row again one two =
       one_performed f g alike agree m actor deed outcome other new next
-      (same_here deed (walk_held deed.next) (walks_here m1 (m.activity actor) (wanted_by m actor) deed row) (walks_here m2 (m.activity actor) (wanted_by m actor) deed again)) one two
+      (same_here deed (walk_held deed.next) (walks_here m actor f deed (place_after m actor f (wanted_by m actor) deed refl row)) (walks_here m actor g deed (place_after m actor g (wanted_by m actor) deed refl again))) one two
 
 -- ---- they lead to machines that are one but for the pages in memory
 

@@ -185,20 +185,7 @@ module _ (m : Machine) (actor : ℕ) (outcome other : Outcome) (new next : Machi
   both_step at.PosterIdle is first second = both_post first second
   both_step at.ConsolidatorIdle is first second = both_merge first second
   both_step at.Flusher is first second = both_flush flusher_steps first second
-  both_step (at.SessionWalk line held rest found) is first second = both_work first second
-  both_step (at.SessionSplit line held) is first second = both_work first second
-  both_step (at.SessionPut line source fresh) is first second = both_work first second
-  both_step (at.PosterGrow job) is first second = both_work first second
-  both_step (at.PosterWalk job held) is first second = both_work first second
-  both_step (at.PosterChild job parent) is first second = both_work first second
-  both_step (at.PosterPromote job parent) is first second = both_work first second
-  both_step (at.PosterAgain job parent) is first second = both_work first second
-  both_step (at.ConsolidatorWalk job held) is first second = both_work first second
-  both_step (at.ConsolidatorScan job parent child) is first second = both_work first second
-  both_step (at.ConsolidatorTry job parent keep gone leaf) is first second = both_work first second
-  both_step (at.ConsolidatorPromote job parent keep gone) is first second = both_work first second
-  both_step (at.ConsolidatorKeep job parent keep gone) is first second = both_work first second
-  both_step (at.ConsolidatorDecide job parent keep gone) is first second = both_work first second
+  both_step activity is first second = both_work first second
 
   both_run : (stop : Option StopWhy)
       → MatchOption stop (StepsAs (m.activity actor) m actor outcome new) (λ why. StaysSo m (outcomes.Stopped why) outcome new)

@@ -27,6 +27,8 @@ use Rattle.hb_space.specs.Boxes.{Area}
 use Rattle.hb_store.specs.NextPage.{IsNext}
 use Rattle.hb_store.specs.States.{StoreState, in_memory}
 use Rattle.hb_terms.specs.Plans.{IsOwed, IsPlan, posted_parent}
+use Rattle.hb_poster.proofs.Facts.OnePosting.{one_posting}
+use Rattle.hb_consol.proofs.Facts.OneMerging.{one_merging as one_way}
 
 -- ---- the oldest job of its kind, and what its poster does next
 
@@ -52,23 +54,6 @@ pub taken : (kind : JobKind) (deed : Deed) (job : Job) (next : Activity) (old ne
 taken kind deed job next old new of_kind is changes =
     subst (λ (k : JobKind). LeavesFirst k old job changes.left) of_kind (subst (λ (d : Deed). LeavesBy d.takes old changes.left) is changes.takes)
 
-one_posting : (job : Job) (height : ℕ) (next other : Activity) → IsPostingOf job height next → IsPostingOf job height other → next ≡ other
-one_posting job height next other (inl (a, is)) (inl (b, same)) = is ∙ sym same
-one_posting job height next other (inr (inl (a, is))) (inr (inl (b, same))) = is ∙ sym same
-one_posting job height next other (inr (inr (a, is))) (inr (inr (b, same))) = is ∙ sym same
-one_posting job height next other (inl (a, is)) (inr (inl (b, same))) = absurd (omega (arith, a, b))
-one_posting job height next other (inl (a, is)) (inr (inr (b, same))) = absurd (omega (arith, a, b))
-one_posting job height next other (inr (inl (a, is))) (inl (b, same)) = absurd (omega (arith, a, b))
-one_posting job height next other (inr (inl (a, is))) (inr (inr (b, same))) = absurd (omega (arith, a, b))
-one_posting job height next other (inr (inr (a, is))) (inl (b, same)) = absurd (omega (arith, a, b))
-one_posting job height next other (inr (inr (a, is))) (inr (inl (b, same))) = absurd (omega (arith, a, b))
-
-one_merging_of : (job : Job) (height : ℕ) (next other : Activity) → IsMergingOf job height next → IsMergingOf job height other → next ≡ other
-one_merging_of job height next other (inl (a, is)) (inl (b, same)) = is ∙ sym same
-one_merging_of job height next other (inr (a, is)) (inr (b, same)) = is ∙ sym same
-one_merging_of job height next other (inl (a, is)) (inr (b, same)) = absurd (omega (arith, a, b))
-one_merging_of job height next other (inr (a, is)) (inl (b, same)) = absurd (omega (arith, a, b))
-
 module _ (m : Machine) (d e : Deed) (new next : List Job) (changes : ChangesQueue d m.jobs new) (other : ChangesQueue e m.jobs next) where
   pub one_job : TakesJob m d → TakesJob m e → d ≡ e
   one_job first second =
@@ -83,7 +68,7 @@ module _ (m : Machine) (d e : Deed) (new next : List Job) (changes : ChangesQueu
       let a = taken Merge d first.job first.next m.jobs new first.kind first.deed_is changes in
       let b = taken Merge e second.job second.next m.jobs next second.kind second.deed_is other in
       let same = (first_leaves Merge m.jobs changes.left other.left first.job second.job a b).0 in
-      let goes = one_merging_of second.job m.store.meta.height first.next second.next (subst (λ (j : Job). IsMergingOf j m.store.meta.height first.next) same first.merging) second.merging in
+      let goes = one_way second.job m.store.meta.height first.next second.next (subst (λ (j : Job). IsMergingOf j m.store.meta.height first.next) same first.merging) second.merging in
       first.deed_is ∙ ap (λ (n : Activity). takes_job n first.job) goes ∙ ap (λ (j : Job). takes_job second.next j) same ∙ sym second.deed_is
 
 -- ---- what becomes of the queue

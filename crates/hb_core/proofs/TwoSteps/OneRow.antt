@@ -1,5 +1,5 @@
 -- Two rows of one activity, over memories that have the same pages, are one deed.
-use Rattle.std.proofs.Common.{◌≡◌, ◌⊎◌, inl, inr, ℕ, ◌+◌, ◌<◌, ◌++◌, List, [], ◌∷◌, length, Option, Some, None, refl, sym, ap, ◌∙◌, subst, arith, filter, slice_get}
+use Rattle.std.proofs.Common.{◌≡◌, ◌⊎◌, inl, inr, ℕ, ◌+◌, ◌<◌, List, [], ◌∷◌, length, Option, Some, None, refl, sym, ap, ◌∙◌, subst, arith, ◌≤◌}
 use Rattle.std.specs.Prelude.{MatchOption}
 use Rattle.std.proofs.lemmas.Option.{same_Some}
 use Rattle.hb_space.specs.declared.records.Record.{Record}
@@ -22,16 +22,13 @@ use Rattle.hb_activity.specs.declared.jobs.JobKind.TheVariants.{Post}
 use Rattle.hb_activity.specs.declared.wanting.Wanted.{Wanted}
 use Rattle.hb_activity.specs.declared.activities.Activity.{Activity}
 use Rattle.hb_activity.specs.declared.activities.Activity.TheVariants as at
-use Rattle.hb_activity.specs.Deeds.{Deed, does, moves_to, takes_effect}
-use Rattle.hb_activity.specs.Passing.{IsPointer, PassesOn, posts_owed, PartLeavesTo, corner_of}
+use Rattle.hb_activity.specs.Deeds.{Deed, does, takes_effect}
+use Rattle.hb_activity.specs.Passing.{IsPointer, PassesOn, PartLeavesTo, corner_of}
 use Rattle.hb_activity.specs.Walks.{goal_of}
 use Rattle.hb_consol.specs.ConsolidatorRows.{ArrivesToMerge, ConsolidatorPasses, children_of, first_one}
-use Rattle.hb_core.proofs.Latches.Backing.{live_there}
 use Rattle.hb_core.proofs.TwoSteps.OneMerge.{one_decision, one_keep, one_scan, one_try, same_scan}
-use Rattle.hb_core.proofs.TwoSteps.OneOfPoint.{leaf_rises, not_lacking, one_of_point}
-use Rattle.hb_search.proofs.OneOrder.{one_order}
 use Rattle.hb_core.proofs.TwoSteps.OnePiece.{one_number, one_plan}
-use Rattle.hb_point.proofs.ChosenCuts.{one_choice}
+use Rattle.hb_point.proofs.Facts.ChosenCuts.{one_choice}
 use Rattle.hb_core.specs.Machines.{Machine, live_here, with_disk, sight}
 use Rattle.hb_core.specs.Rows.{DoesHere, Row, RowAlone, RowAt}
 use Rattle.hb_frag.specs.Leaves.{Placed, leaf_at, weight_of}
@@ -39,23 +36,21 @@ use Rattle.hb_frag.specs.Paths.{part_at}
 use Rattle.hb_frag.specs.Rules.{AreInOrder}
 use Rattle.hb_frag.specs.Trees.{Tree}
 use Rattle.hb_ops.specs.Cutting.{reached}
-use Rattle.hb_ops.specs.Standing.{StandsNot, StandsThere}
-use Rattle.hb_point.specs.SessionRows.{merges_due}
+use Rattle.hb_point.specs.SessionRows.{merges_due, DoesThere}
 use Rattle.hb_point.specs.SplitRows.{Puts, Splits}
 use Rattle.hb_poster.specs.PosterRows.{Arrives, DoesPlan, GrowsFile, GrowsNot, LooksAgain, LooksAtChild, MayGrow, PosterPasses, after_look}
 use Rattle.hb_search.specs.SearchRows.{Gathers, SearchGoesOn}
-use Rattle.hb_space.specs.Boxes.{Area, common_area, holds, pieces_outside}
+use Rattle.hb_space.specs.Boxes.{Area, holds}
 use Rattle.hb_split.specs.Choosing.{AreChosen, IsChosen}
 use Rattle.hb_store.specs.States.{StoreState, in_memory}
 use Rattle.hb_terms.specs.Plans.{IsPlan}
+use Rattle.hb_ops.proofs.Facts.PageNumberLaws.{live_so}
+use Rattle.hb_activity.proofs.Facts.OneLeaf.{one_pass, same_leaf}
+use Rattle.hb_point.proofs.Facts.OneCommand.{one_command}
+use Rattle.hb_search.proofs.Facts.OneSearch.{searches_have_one_deed}
+use Rattle.hb_ops.specs.Recording.{put_page}
 
 -- ---- the leaf at a point
-
-same_leaf : (page : LivePage) (p : List ℕ) (one two : Placed) → leaf_at page p ≡ Some one → leaf_at page p ≡ Some two → one ≡ two
-same_leaf page p one two a b = same_Some one two (sym a ∙ b)
-
-records_of_leaf : (xs ys : List Record) → Records xs ≡ Records ys → xs ≡ ys
-records_of_leaf xs ys is = cc
 
 abbrev HasRecords : LivePage → List ℕ → Type 0
 HasRecords page p = (records : List Record) × (area : Area) × (leaf_at page p ≡ Some (record { leaf = Records records; area = area }))
@@ -64,18 +59,6 @@ no_pointer : (page : LivePage) (p : List ℕ) (n : Machine) (next : Activity) (d
 no_pointer page p n next d (records, area, leaf) row =
     let same = same_leaf page p (record { leaf = row.leaf; area = row.area }) (record { leaf = Records records; area = area }) row.at_point leaf in
     subst IsPointer (ap (λ (x : Placed). x.leaf) same) row.names
-
-never_both : (page : LivePage) (p : List ℕ) (r : Record) → StandsThere page p r → StandsNot page p → ⊥
-never_both page p r there absent =
-    let same = same_leaf page p (record { leaf = Records there.records; area = there.area }) (record { leaf = Records absent.records; area = absent.area }) there.leaf absent.leaf in
-    let records = records_of_leaf there.records absent.records (ap (λ (x : Placed). x.leaf) same) in
-    not_lacking absent.records there.place r p (ap (λ (l : List Record). slice_get l there.place) (sym records) ∙ there.among) there.key absent.lack
-
-one_stands : (page : LivePage) (p : List ℕ) (r s : Record) → AreInOrder page → StandsThere page p r → StandsThere page p s → r ≡ s
-one_stands page p r s order a b =
-    let same = same_leaf page p (record { leaf = Records a.records; area = a.area }) (record { leaf = Records b.records; area = b.area }) a.leaf b.leaf in
-    let records = records_of_leaf a.records b.records (ap (λ (x : Placed). x.leaf) same) in
-    one_of_point b.records a.place b.place r s (leaf_rises page p b.records b.area order b.leaf) (ap (λ (l : List Record). slice_get l a.place) (sym records) ∙ a.among) b.among (a.key ∙ sym b.key)
 
 there_records : (n : Machine) (line : Line) (command : Command) (rest : List Area) (found : List Record) (id : ℕ) (page : LivePage) (p : List ℕ) (d : Deed) → goal_of command rest ≡ Some p → DoesHere (sight n) line command rest found id page p d → HasRecords page p
 there_records n line (Insert rec) rest found id page p d goal (inl row) = subst (HasRecords page) (same_Some rec.key p goal) (row.there.records, row.there.area, row.there.leaf)
@@ -90,18 +73,6 @@ there_records n line (Search area) rest found id page p d goal row = (row.record
 same_live : (a b : LivePage) → Live a ≡ Live b → a ≡ b
 same_live a b is = cc
 
-last_of_both : (front other : List Area) (x y : Area) → front ++ x ∷ [] ≡ other ++ y ∷ [] → (front ≡ other) × (x ≡ y)
-last_of_both [] [] x y is = let whole : x ∷ [] ≡ y ∷ [] = is in (refl, let same : x ≡ y = cc in same)
-last_of_both [] (b ∷ []) x y is = absurd (let whole : x ∷ [] ≡ b ∷ y ∷ [] = is in cc)
-last_of_both [] (b ∷ c ∷ other) x y is = absurd (let whole : x ∷ [] ≡ b ∷ c ∷ (other ++ y ∷ []) = is in cc)
-last_of_both (a ∷ []) [] x y is = absurd (let whole : a ∷ x ∷ [] ≡ y ∷ [] = is in cc)
-last_of_both (a ∷ c ∷ front) [] x y is = absurd (let whole : a ∷ c ∷ (front ++ x ∷ []) ≡ y ∷ [] = is in cc)
-last_of_both (a ∷ front) (b ∷ other) x y is =
-    let same : a ≡ b = cc in
-    let tail : front ++ x ∷ [] ≡ other ++ y ∷ [] = cc in
-    let rest = last_of_both front other x y tail in
-    (ap (λ z. z ∷ front) same ∙ ap (λ l. b ∷ l) rest.0, rest.1)
-
 -- ---- the rows of sessions
 
 module _ (m : Machine) (f g : StoreState) (meta : f.meta ≡ g.meta) (agree : (id : ℕ) (a b : Page) → in_memory f id ≡ Some a → in_memory g id ≡ Some b → a ≡ b)
@@ -113,50 +84,37 @@ module _ (m : Machine) (f g : StoreState) (meta : f.meta ≡ g.meta) (agree : (i
   m2 = with_disk g m.files m.clock m
 
   agree_live : (id : ℕ) (a b : LivePage) → live_here f id ≡ Some a → live_here g id ≡ Some b → a ≡ b
-  agree_live id a b one two = same_live a b (agree id (Live a) (Live b) (live_there (in_memory f id) a one) (live_there (in_memory g id) b two))
+  agree_live id a b one two = same_live a b (agree id (Live a) (Live b) (live_so (in_memory f id) a one) (live_so (in_memory g id) b two))
 
-  one_pass : (page : LivePage) (p : List ℕ) (next : Activity) (d e : Deed) → PassesOn page p next d → PassesOn page p next e → d ≡ e
-  one_pass page p next d e first second =
-      let same = same_leaf page p (record { leaf = first.leaf; area = first.area }) (record { leaf = second.leaf; area = second.area }) first.at_point second.at_point in
-      first.deed_is ∙ ap (λ (x : Placed). moves_to next (posts_owed page p x.leaf)) same ∙ sym second.deed_is
+  -- a row of a session over the one memory is one over the other
+  search_over : (line : Line) (boxes : List Area) (found : List Record) (d : Deed) → SearchGoesOn (sight m1) line boxes found d → SearchGoesOn (sight m2) line boxes found d
+  search_over line [] found d goes = goes
+  search_over line (area ∷ rest) found d goes = goes
 
-  search_on : (line : Line) (boxes : List Area) (found : List Record) (d e : Deed) → SearchGoesOn (sight m1) line boxes found d → SearchGoesOn (sight m2) line boxes found e → d ≡ e
-  search_on line [] found d e (xs, one, up, is) (ys, two, rising, same) =
-      is ∙ ap (λ (l : List Record). takes_effect (length m.order) line (replies.Within l) None []) (one_order found xs ys one two up rising) ∙ sym same
-  search_on line (area ∷ rest) found d e is same = is ∙ sym same
+  gathers_over : (line : Line) (rest : List Area) (found : List Record) (page : LivePage) (p : List ℕ) (d : Deed) → Gathers (sight m1) line rest found page p d → Gathers (sight m2) line rest found page p d
+  gathers_over line rest found page p d row = record { front = row.front; at_hand = row.at_hand; boxes = row.boxes; records = row.records; area = row.area; leaf = row.leaf; goes = search_over line _ _ d row.goes }
 
-  one_gather : (line : Line) (rest : List Area) (found : List Record) (page : LivePage) (p : List ℕ) (d e : Deed) → Gathers (sight m1) line rest found page p d → Gathers (sight m2) line rest found page p e → d ≡ e
-  one_gather line rest found page p d e first second =
-      let boxes = last_of_both second.front first.front second.at_hand first.at_hand (sym second.boxes ∙ first.boxes) in
-      let same = same_leaf page p (record { leaf = Records second.records; area = second.area }) (record { leaf = Records first.records; area = first.area }) second.leaf first.leaf in
-      let records = records_of_leaf second.records first.records (ap (λ (x : Placed). x.leaf) same) in
-      let a1 = subst (λ (l : List Area). SearchGoesOn (sight m2) line (l ++ pieces_outside second.at_hand (common_area second.at_hand second.area)) (found ++ filter (λ r. holds second.at_hand r.key) second.records) e) boxes.0 second.goes in
-      let a2 = subst (λ (b : Area). SearchGoesOn (sight m2) line (first.front ++ pieces_outside b (common_area b second.area)) (found ++ filter (λ r. holds b r.key) second.records) e) boxes.1 a1 in
-      let a3 = subst (λ (b : Area). SearchGoesOn (sight m2) line (first.front ++ pieces_outside first.at_hand (common_area first.at_hand b)) (found ++ filter (λ r. holds first.at_hand r.key) second.records) e) (ap (λ (x : Placed). x.area) same) a2 in
-      let a4 = subst (λ (l : List Record). SearchGoesOn (sight m2) line (first.front ++ pieces_outside first.at_hand (common_area first.at_hand first.area)) (found ++ filter (λ r. holds first.at_hand r.key) l) e) records a3 in
-      search_on line _ _ d e first.goes a4
+  there_over : (line : Line) (command : Command) (id : ℕ) (page : LivePage) (d : Deed) → DoesThere (sight m1) line command id page d → DoesThere (sight m2) line command id page d
+  there_over line (Insert rec) id page d (inl row) = inl (record { twin = row.twin; there = row.there; deed_is = row.deed_is })
+  there_over line (Insert rec) id page d (inr (inl row)) = inr (inl (record { absent = row.absent; room = subst (λ (x : Meta). weight_of (put_page rec page).frag ≤ x.dcap) meta row.room; deed_is = row.deed_is }))
+  there_over line (Insert rec) id page d (inr (inr row)) = inr (inr (record { level = row.level; absent = row.absent; full = subst (λ (x : Meta). x.dcap < weight_of (put_page rec page).frag) meta row.full; deed_is = row.deed_is }))
+  there_over line (Delete point) id page d (inl row) = inl (record {
+    found = row.found;
+    there = row.there;
+    deed_is = row.deed_is ∙ ap (λ (x : Meta). takes_effect (length m.order) line replies.Done (Some (ops.Del id point)) (merges_due page point x.dcap)) meta;
+  })
+  there_over line (Delete point) id page d (inr row) = inr (record { absent = row.absent; deed_is = row.deed_is })
+  there_over line (Lookup point) id page d (inl row) = inl (record { found = row.found; there = row.there; deed_is = row.deed_is })
+  there_over line (Lookup point) id page d (inr row) = inr (record { absent = row.absent; deed_is = row.deed_is })
+  there_over line (Search area) id page d never = never
 
+  -- so the laws of the step crates, over one memory, say it of two
   one_there : (line : Line) (command : Command) (rest : List Area) (found : List Record) (id : ℕ) (page : LivePage) (p : List ℕ) (d e : Deed) → AreInOrder page
       → DoesHere (sight m1) line command rest found id page p d → DoesHere (sight m2) line command rest found id page p e → d ≡ e
-  one_there line (Insert rec) rest found id page p d e order (inl a) (inl b) = a.deed_is ∙ sym b.deed_is
-  one_there line (Insert rec) rest found id page p d e order (inl a) (inr (inl b)) = absurd (never_both page rec.key a.twin a.there b.absent)
-  one_there line (Insert rec) rest found id page p d e order (inl a) (inr (inr b)) = absurd (never_both page rec.key a.twin a.there b.absent)
-  one_there line (Insert rec) rest found id page p d e order (inr (inl a)) (inl b) = absurd (never_both page rec.key b.twin b.there a.absent)
-  one_there line (Insert rec) rest found id page p d e order (inr (inr a)) (inl b) = absurd (never_both page rec.key b.twin b.there a.absent)
-  one_there line (Insert rec) rest found id page p d e order (inr (inl a)) (inr (inl b)) = a.deed_is ∙ sym b.deed_is
-  one_there line (Insert rec) rest found id page p d e order (inr (inl a)) (inr (inr b)) = absurd (omega (arith, a.room, b.full, ap (λ (x : Meta). x.dcap) meta))
-  one_there line (Insert rec) rest found id page p d e order (inr (inr a)) (inr (inl b)) = absurd (omega (arith, a.full, b.room, ap (λ (x : Meta). x.dcap) meta))
-  one_there line (Insert rec) rest found id page p d e order (inr (inr a)) (inr (inr b)) = a.deed_is ∙ sym b.deed_is
-  one_there line (Delete point) rest found id page p d e order (inl a) (inl b) = a.deed_is ∙ ap (λ (x : Meta). takes_effect (length m.order) line replies.Done (Some (ops.Del id point)) (merges_due page point x.dcap)) meta ∙ sym b.deed_is
-  one_there line (Delete point) rest found id page p d e order (inl a) (inr b) = absurd (never_both page point a.found a.there b.absent)
-  one_there line (Delete point) rest found id page p d e order (inr a) (inl b) = absurd (never_both page point b.found b.there a.absent)
-  one_there line (Delete point) rest found id page p d e order (inr a) (inr b) = a.deed_is ∙ sym b.deed_is
-  one_there line (Lookup point) rest found id page p d e order (inl a) (inl b) =
-      a.deed_is ∙ ap (λ (r : Record). takes_effect (length m.order) line (replies.Found r.body) None []) (one_stands page point a.found b.found order a.there b.there) ∙ sym b.deed_is
-  one_there line (Lookup point) rest found id page p d e order (inl a) (inr b) = absurd (never_both page point a.found a.there b.absent)
-  one_there line (Lookup point) rest found id page p d e order (inr a) (inl b) = absurd (never_both page point b.found b.there a.absent)
-  one_there line (Lookup point) rest found id page p d e order (inr a) (inr b) = a.deed_is ∙ sym b.deed_is
-  one_there line (Search area) rest found id page p d e order a b = one_gather line rest found page p d e a b
+  one_there line (Insert rec) rest found id page p d e order a b = one_command (sight m2) line id page (Insert rec) d e order (there_over line (Insert rec) id page d a) b
+  one_there line (Delete point) rest found id page p d e order a b = one_command (sight m2) line id page (Delete point) d e order (there_over line (Delete point) id page d a) b
+  one_there line (Lookup point) rest found id page p d e order a b = one_command (sight m2) line id page (Lookup point) d e order (there_over line (Lookup point) id page d a) b
+  one_there line (Search area) rest found id page p d e order a b = searches_have_one_deed (sight m2) line rest found page p d e (gathers_over line rest found page p d a) b
 
   abbrev WalksOr : Machine → Line → List Area → List Record → ℕ → LivePage → Deed → Option (List ℕ) → Type 0
   WalksOr n line rest found id page d goal = MatchOption goal ⊥ (λ p. PassesOn page p (at.SessionWalk line (Some id) rest found) d ⊎ DoesHere (sight n) line line.command rest found id page p d)
@@ -290,19 +248,13 @@ module _ (m : Machine) (f g : StoreState) (meta : f.meta ≡ g.meta) (agree : (i
   one_at (at.PosterChild job parent) id page d e order a b = one_look job parent page d e a b
   one_at (at.PosterPromote job parent) id page d e order a b = a ∙ sym b
   one_at (at.PosterAgain job parent) id page d e order a b = one_again job parent page d e a b
-  one_at at.SessionIdle id page d e order a b = absurd a
-  one_at (at.SessionSplit line held) id page d e order a b = absurd a
-  one_at (at.SessionPut line source fresh) id page d e order a b = absurd a
-  one_at (at.SessionAwait line reply place) id page d e order a b = absurd a
-  one_at at.PosterIdle id page d e order a b = absurd a
-  one_at at.ConsolidatorIdle id page d e order a b = absurd a
   one_at (at.ConsolidatorWalk job held) id page d e order a b = one_arrival job id page d e a b
   one_at (at.ConsolidatorScan job parent child) id page d e order a b = one_scan m f g meta agree_live job parent child page d e a b
   one_at (at.ConsolidatorTry job parent keep gone leaf) id page d e order a b = one_try m f g meta agree_live job parent keep gone leaf page d e a b
   one_at (at.ConsolidatorPromote job parent keep gone) id page d e order a b = a ∙ sym b
   one_at (at.ConsolidatorKeep job parent keep gone) id page d e order a b = one_keep m f g meta agree_live job parent keep gone page d e a b
   one_at (at.ConsolidatorDecide job parent keep gone) id page d e order a b = one_decision m f g meta agree_live job parent keep gone page d e a b
-  one_at at.Flusher id page d e order a b = absurd a
+  one_at activity id page d e order a b = absurd a
 
   abbrev PutsAgree : Activity → Type 0
   PutsAgree activity = (line : Line) (source fresh : ℕ) (d e : Deed) → activity ≡ at.SessionPut line source fresh → Puts (sight m1) line source fresh d → Puts (sight m2) line source fresh e → d ≡ e
@@ -313,23 +265,7 @@ module _ (m : Machine) (f g : StoreState) (meta : f.meta ≡ g.meta) (agree : (i
   one_alone (at.SessionSplit line held) d e puts (inr a) (inl b) = absurd (full_too a.leaves.free b.none_free)
   one_alone (at.SessionSplit line held) d e puts (inr a) (inr b) = one_split line held d e a b
   one_alone (at.SessionPut line source fresh) d e puts a b = puts line source fresh d e refl a b
-  one_alone at.SessionIdle d e puts a b = absurd a
-  one_alone (at.SessionWalk line held rest found) d e puts a b = absurd a
-  one_alone (at.SessionAwait line reply place) d e puts a b = absurd a
-  one_alone at.PosterIdle d e puts a b = absurd a
-  one_alone (at.PosterGrow job) d e puts a b = absurd a
-  one_alone (at.PosterWalk job held) d e puts a b = absurd a
-  one_alone (at.PosterChild job parent) d e puts a b = absurd a
-  one_alone (at.PosterPromote job parent) d e puts a b = absurd a
-  one_alone (at.PosterAgain job parent) d e puts a b = absurd a
-  one_alone at.ConsolidatorIdle d e puts a b = absurd a
-  one_alone (at.ConsolidatorWalk job held) d e puts a b = absurd a
-  one_alone (at.ConsolidatorScan job parent child) d e puts a b = absurd a
-  one_alone (at.ConsolidatorTry job parent keep gone leaf) d e puts a b = absurd a
-  one_alone (at.ConsolidatorPromote job parent keep gone) d e puts a b = absurd a
-  one_alone (at.ConsolidatorKeep job parent keep gone) d e puts a b = absurd a
-  one_alone (at.ConsolidatorDecide job parent keep gone) d e puts a b = absurd a
-  one_alone at.Flusher d e puts a b = absurd a
+  one_alone activity d e puts a b = absurd a
 
   pub one_row : (activity : Activity) (wanted : Option Wanted) (d e : Deed) → PutsAgree activity → Row activity wanted m1 d → Row activity wanted m2 e → d ≡ e
   one_row activity None d e puts a b = one_alone activity d e puts a b

@@ -18,7 +18,6 @@ use Rattle.hb_core.specs.declared.outcomes.Outcome.{Outcome}
 use Rattle.hb_activity.specs.Deeds.{Deed}
 use Rattle.hb_activity.specs.Holding.{held_of}
 use Rattle.hb_activity.specs.Walks.{walk_held}
-use Rattle.hb_core.proofs.Latches.Backing.{live_there}
 use Rattle.hb_core.proofs.TwoSteps.OneFetch.{Agree}
 use Rattle.hb_core.proofs.TwoSteps.OnePiece.{one_queue}
 use Rattle.hb_core.specs.Machines.{Machine, live_here}
@@ -34,6 +33,7 @@ use Rattle.hb_store.specs.Marks.{has_page, is_among}
 use Rattle.hb_store.specs.Replay.{set_pages}
 use Rattle.hb_store.specs.States.{StoreState, in_memory, is_imaged}
 use Rattle.hb_wal.specs.Log.{LogState, Waiting}
+use Rattle.hb_ops.proofs.Facts.PageNumberLaws.{live_so}
 
 -- ---- machines that are the same
 
@@ -107,8 +107,8 @@ module _ (f g : StoreState) (alike : KeepsAllButPages f g) (agree : Agree f g) w
   -- a page that both have in use is the same
   same_there : (id : ℕ) (a b : LivePage) → live_here f id ≡ Some a → live_here g id ≡ Some b → in_memory f id ≡ in_memory g id
   same_there id a b one two =
-      let here = live_there (in_memory f id) a one in
-      let there = live_there (in_memory g id) b two in
+      let here = live_so (in_memory f id) a one in
+      let there = live_so (in_memory g id) b two in
       here ∙ ap Some (agree id (Live a) (Live b) here there) ∙ sym there
 
   -- pages that both have, and the same

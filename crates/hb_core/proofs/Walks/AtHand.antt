@@ -23,7 +23,7 @@ use Rattle.hb_activity.specs.Walks.{goal_of, job_mode, session_mode, walk_held}
 use Rattle.hb_activity.specs.Wanting.{child_of, in_mode, named_child, named_page, walk_next, wanted_of, wanted_page}
 use Rattle.hb_consol.specs.ConsolidatorRows.{names_child}
 use Rattle.hb_core.proofs.Files.AskedPages.{first_among, first_sibling_among, leaf_of_place, place_among}
-use Rattle.hb_core.proofs.Memory.BroughtPages.{live_page_there, still_held}
+use Rattle.hb_core.proofs.Memory.BroughtPages.{still_held}
 use Rattle.hb_core.proofs.Latches.LatchesStay.{walk_latched}
 use Rattle.hb_core.proofs.Table.MergerMoves.{of_page}
 use Rattle.hb_core.proofs.Walks.MergesKept.{above_records, place_latched}
@@ -47,6 +47,7 @@ use Rattle.hb_ops.specs.Files.{if_live}
 use Rattle.hb_ops.proofs.Facts.PlacedLaws.{leaf_is_sibling, placed, placed_is_leaf}
 use Rattle.hb_space.specs.Boxes.{Area, volume}
 use Rattle.hb_store.specs.States.{IsGoodPage, StoreState, in_memory}
+use Rattle.hb_ops.proofs.Facts.PageNumberLaws.{live_so}
 
 -- ---- a page that is found of the level and the box by which another one names it
 
@@ -138,11 +139,11 @@ off_one id mode other rest off = ap (λ (b : Bool). cond b (Some mode) (mode_amo
 
 module _ (m : Machine) (actor : ℕ) (fetched : StoreState) (may : MayLatch actor) (keeps : MachineKeeps m) (brings : Brings m AnyPage fetched) where
   pub good_here : (id : ℕ) (page : LivePage) → live_here m.store id ≡ Some page → IsGoodPage m.store.meta (Live page)
-  good_here id page live = (keeps.pages_of_file id (Live page) (live_page_there (in_memory m.store id) page live)).2
+  good_here id page live = (keeps.pages_of_file id (Live page) (live_so (in_memory m.store id) page live)).2
 
   -- a page that the actor holds stays
   pub own_there : (id : ℕ) (mode : Mode) (page : LivePage) → mode_among id (latches_held m.store (m.activity actor)) ≡ Some mode → live_here m.store id ≡ Some page → live_here fetched id ≡ Some page
-  own_there id mode page among live = ap if_live (still_held m AnyPage fetched brings actor id mode (Live page) (keeps.latches_fit.exact actor id may ∙ among) (live_page_there (in_memory m.store id) page live))
+  own_there id mode page among live = ap if_live (still_held m AnyPage fetched brings actor id mode (Live page) (keeps.latches_fit.exact actor id may ∙ among) (live_so (in_memory m.store id) page live))
 
   pub walked_there : (held : ℕ) (before : LivePage) → walk_held (m.activity actor) ≡ Some held → live_here m.store held ≡ Some before → live_here fetched held ≡ Some before
   walked_there held before walks live = let latch = walk_latched (m.activity actor) m.store held before walks live in own_there held latch.0 before latch.1 live
@@ -156,28 +157,10 @@ module _ (m : Machine) (actor : ℕ) (fetched : StoreState) (may : MayLatch acto
         walk_found m.store.meta before (good_here held before live) page mode m.store.meta id goal (live_here m.store id) (live_here fetched id) wanted (ap (live_here m.store) same ∙ live) (ap (live_here fetched) same ∙ there) wants on box
 
     leads : (activity : Activity) → walk_held activity ≡ Some held → wanted_of activity m.store.meta (looked_live m.store activity) ≡ Some wanted → IfSome (asked_box activity fetched) (λ asked. HasAskedBox asked page.area) → IsLater before page
-    leads (at.SessionWalk line None rest found) holds wants box = cc
     leads (at.SessionWalk line (Some id) rest found) holds wants box = goes_on id (goal_of line.command rest) (session_mode line.command) (same_Some id held holds) wants box
-    leads (at.PosterWalk job None) holds wants box = cc
     leads (at.PosterWalk job (Some id)) holds wants box = goes_on id (Some job.point) (job_mode job) (same_Some id held holds) wants box
-    leads (at.ConsolidatorWalk job None) holds wants box = cc
     leads (at.ConsolidatorWalk job (Some id)) holds wants box = goes_on id (Some job.point) (job_mode job) (same_Some id held holds) wants box
-    leads at.SessionIdle holds wants box = cc
-    leads (at.SessionSplit line id) holds wants box = cc
-    leads (at.SessionPut line source fresh) holds wants box = cc
-    leads (at.SessionAwait line reply place) holds wants box = cc
-    leads at.PosterIdle holds wants box = cc
-    leads (at.PosterGrow job) holds wants box = cc
-    leads (at.PosterChild job parent) holds wants box = cc
-    leads (at.PosterPromote job parent) holds wants box = cc
-    leads (at.PosterAgain job parent) holds wants box = cc
-    leads at.ConsolidatorIdle holds wants box = cc
-    leads (at.ConsolidatorScan job parent child) holds wants box = cc
-    leads (at.ConsolidatorTry job parent keep gone leaf) holds wants box = cc
-    leads (at.ConsolidatorPromote job parent keep gone) holds wants box = cc
-    leads (at.ConsolidatorKeep job parent keep gone) holds wants box = cc
-    leads (at.ConsolidatorDecide job parent keep gone) holds wants box = cc
-    leads at.Flusher holds wants box = cc
+    leads activity holds wants box = cc
 
   -- ---- the page at hand is none that the actor holds
 
@@ -287,13 +270,7 @@ module _ (m : Machine) (actor : ℕ) (fetched : StoreState) (may : MayLatch acto
         let on : page.level ≡ kept.level = omega (arith, level, below) in
         let later = given_found m.store.meta kept (good_here keep kept known.pair.live) page gone (live_here fetched keep) (kept_there place pair kept (ap merging_at is) refl known.pair.live) known.pair.gave on box in
         inl (off_both parent keep Exclusive Exclusive (above_it place (ap merging_at is) lower) (beside_it place pair kept (ap merging_at is) refl known.pair.live later))
-    alone at.SessionIdle is wants box = cc
-    alone (at.SessionSplit line held) is wants box = cc
-    alone (at.SessionPut line source fresh) is wants box = cc
-    alone (at.SessionAwait line reply place) is wants box = cc
-    alone at.PosterIdle is wants box = cc
-    alone at.ConsolidatorIdle is wants box = cc
-    alone at.Flusher is wants box = cc
+    alone activity is wants box = cc
 
 pub walks_lead_on : WalksLeadOn
 walks_lead_on m actor fetched held before wanted page may keeps brings walks live wants hand =

@@ -13,7 +13,6 @@ use Rattle.hb_activity.specs.declared.activities.Activity.{Activity}
 use Rattle.hb_activity.specs.declared.activities.Activity.TheVariants as at
 use Rattle.hb_activity.specs.Walks.{job_mode, session_mode, walk_held, walk_point}
 use Rattle.hb_activity.specs.Wanting.{in_mode, named_page, onward_at, walk_next, wanted_of, wanted_page}
-use Rattle.hb_core.proofs.Latches.Backing.{live_there}
 use Rattle.hb_core.specs.Asking.{looked_live}
 use Rattle.hb_core.specs.Keeps.{HasSoundFile}
 use Rattle.hb_core.specs.Laws.{WalksGoFurther}
@@ -25,6 +24,7 @@ use Rattle.hb_sound.specs.Laws.{StepsLeadFurther}
 use Rattle.hb_sound.specs.PointWalks.{LeadsOn}
 use Rattle.hb_store.specs.Keeps.{last_of}
 use Rattle.hb_store.specs.States.{in_memory}
+use Rattle.hb_ops.proofs.Facts.PageNumberLaws.{live_so}
 
 -- the last file is sound
 pub last_sound : (s : FileState) (later : List FileState) → IsSound s → All IsSound later → IsSound (last_of s later)
@@ -63,43 +63,25 @@ walk_leads s p held page meta mode wanted looked is live wants =
 
 module _ (further : StepsLeadFurther) (m : Machine) (files : Files) (held : ℕ) (page : LivePage) (p : List ℕ) (wanted : Wanted) (keeps : HasSoundFile m files) (live : live_here m.store held ≡ Some page) where
   in_file : live_page (current_file files) held ≡ Some page
-  in_file = ap if_live (keeps.shown held (Live page) (live_there (in_memory m.store held) page live))
+  in_file = ap if_live (keeps.shown held (Live page) (live_so (in_memory m.store held) page live))
 
   leads : (activity : Activity) → walk_held activity ≡ Some held → walk_point activity ≡ Some p → wanted_of activity m.store.meta (looked_live m.store activity) ≡ Some wanted → LeadsOn (current_file files) p held wanted.page
-  leads (at.SessionWalk line None rest found) holds goal wants = cc
   leads (at.SessionWalk line (Some id) rest found) holds goal wants =
       let same : id ≡ held = cc in
       walk_leads (current_file files) p held page m.store.meta (session_mode line.command) wanted (live_here m.store held) live in_file
       (subst (λ (n : ℕ). in_mode (session_mode line.command) (walk_next (Some p) (Some n) m.store.meta (live_here m.store n)) ≡ Some wanted) same
       (subst (λ (o : Option (List ℕ)). in_mode (session_mode line.command) (walk_next o (Some id) m.store.meta (live_here m.store id)) ≡ Some wanted) goal wants))
-  leads (at.PosterWalk job None) holds goal wants = cc
   leads (at.PosterWalk job (Some id)) holds goal wants =
       let same : id ≡ held = cc in
       walk_leads (current_file files) p held page m.store.meta (job_mode job) wanted (live_here m.store held) live in_file
       (subst (λ (n : ℕ). in_mode (job_mode job) (walk_next (Some p) (Some n) m.store.meta (live_here m.store n)) ≡ Some wanted) same
       (subst (λ (o : Option (List ℕ)). in_mode (job_mode job) (walk_next o (Some id) m.store.meta (live_here m.store id)) ≡ Some wanted) goal wants))
-  leads (at.ConsolidatorWalk job None) holds goal wants = cc
   leads (at.ConsolidatorWalk job (Some id)) holds goal wants =
       let same : id ≡ held = cc in
       walk_leads (current_file files) p held page m.store.meta (job_mode job) wanted (live_here m.store held) live in_file
       (subst (λ (n : ℕ). in_mode (job_mode job) (walk_next (Some p) (Some n) m.store.meta (live_here m.store n)) ≡ Some wanted) same
       (subst (λ (o : Option (List ℕ)). in_mode (job_mode job) (walk_next o (Some id) m.store.meta (live_here m.store id)) ≡ Some wanted) goal wants))
-  leads at.SessionIdle holds goal wants = cc
-  leads (at.SessionSplit line id) holds goal wants = cc
-  leads (at.SessionPut line source fresh) holds goal wants = cc
-  leads (at.SessionAwait line reply place) holds goal wants = cc
-  leads at.PosterIdle holds goal wants = cc
-  leads (at.PosterGrow job) holds goal wants = cc
-  leads (at.PosterChild job parent) holds goal wants = cc
-  leads (at.PosterPromote job parent) holds goal wants = cc
-  leads (at.PosterAgain job parent) holds goal wants = cc
-  leads at.ConsolidatorIdle holds goal wants = cc
-  leads (at.ConsolidatorScan job parent child) holds goal wants = cc
-  leads (at.ConsolidatorTry job parent keep gone leaf) holds goal wants = cc
-  leads (at.ConsolidatorPromote job parent keep gone) holds goal wants = cc
-  leads (at.ConsolidatorKeep job parent keep gone) holds goal wants = cc
-  leads (at.ConsolidatorDecide job parent keep gone) holds goal wants = cc
-  leads at.Flusher holds goal wants = cc
+  leads activity holds goal wants = cc
 
 pub walks_go_further : StepsLeadFurther → WalksGoFurther
 walks_go_further further m files actor held page p wanted keeps point holds goal live wants =

@@ -21,7 +21,6 @@ use Rattle.hb_activity.specs.Walks.{goal_of, job_mode, session_mode, walk_held}
 use Rattle.hb_activity.specs.Wanting.{child_of, in_mode, named_child, named_page, walk_next, wanted_of, wanted_page}
 use Rattle.hb_consol.specs.ConsolidatorRows.{names_child}
 use Rattle.hb_core.proofs.Files.AskedPages.{first_among, first_sibling_among, leaf_with_box, named_with_box, place_among}
-use Rattle.hb_core.proofs.Latches.Backing.{live_there}
 use Rattle.hb_core.proofs.Files.SoundFiles.{current_sound, files_hold}
 use Rattle.hb_core.proofs.Walks.Volumes.{sibling_fewer}
 use Rattle.hb_core.specs.Asking.{looked_live}
@@ -37,6 +36,7 @@ use Rattle.hb_ops.proofs.Facts.PlacedLaws.{leaf_is_sibling, placed}
 use Rattle.hb_ops.specs.Sound.{IsSound}
 use Rattle.hb_space.specs.Boxes.{Area, volume}
 use Rattle.hb_store.specs.States.{in_memory}
+use Rattle.hb_ops.proofs.Facts.PageNumberLaws.{live_so}
 
 -- ---- in a sound file the pages that a page names come later
 
@@ -126,7 +126,7 @@ module _ (m : Machine) (files : Files) (actor id : ℕ) (mode : Mode) (wanted : 
   sound_now = current_sound m.store files (files_hold m files has)
 
   in_file : (q : ℕ) (page : LivePage) → live_here m.store q ≡ Some page → live_page (current_file files) q ≡ Some page
-  in_file q page live = ap if_live (has.shown q (Live page) (live_there (in_memory m.store q) page live))
+  in_file q page live = ap if_live (has.shown q (Live page) (live_so (in_memory m.store q) page live))
 
   abbrev Comes : Type 0
   Comes = ComesLater (current_file files) id wanted.page ⊎ WantsItsOwn m actor id mode wanted
@@ -213,13 +213,7 @@ module _ (m : Machine) (files : Files) (actor id : ℕ) (mode : Mode) (wanted : 
       of_both parent keep Exclusive Exclusive (λ one. of_names job parent (keep ∷ gone ∷ []) _ Exclusive known gone (second_named known.page keep gone known.names) goes one)
       (λ one. inl (subst (λ (q : ℕ). ComesLater (current_file files) q wanted.page) (one_among keep Exclusive id mode one).0
       (given_later (current_file files) sound_now keep known.pair.page (in_file keep known.pair.page known.pair.live) gone wanted.page known.pair.gave goes))) holds
-  comes at.SessionIdle is wants holds = cc
-  comes (at.SessionSplit line held) is wants holds = cc
-  comes (at.SessionPut line source fresh) is wants holds = cc
-  comes (at.SessionAwait line reply place) is wants holds = cc
-  comes at.PosterIdle is wants holds = cc
-  comes at.ConsolidatorIdle is wants holds = cc
-  comes at.Flusher is wants holds = cc
+  comes activity is wants holds = cc
 
 pub wanted_comes_later : WantedComesLater
 wanted_comes_later m files actor id mode wanted may fit has walks wants holds =

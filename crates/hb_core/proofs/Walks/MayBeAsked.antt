@@ -1,5 +1,5 @@
 -- The deciders may be asked at the page that a kept machine's step has at hand.
-use Rattle.std.proofs.Common.{◌≡◌, ◌≢◌, ◌⊎◌, inl, inr, ℕ, ◌-◌, ◌≤◌, ◌==◌, Bool, true, false, cond, List, [], ◌∷◌, length, Option, Some, None, IfSome, refl, sym, ap, ◌∙◌, subst, arith}
+use Rattle.std.proofs.Common.{◌≡◌, ◌≢◌, ◌⊎◌, inl, inr, ℕ, ◌≤◌, ◌==◌, Bool, true, false, cond, List, [], ◌∷◌, length, Option, Some, None, IfSome, refl, sym, ap, ◌∙◌, subst, arith}
 use Rattle.std.specs.List.{All, slice_get}
 use Rattle.std.specs.Option.{option_and_then, option_map}
 use Rattle.std.proofs.lemmas.Bool.{eq-eqb}
@@ -40,7 +40,6 @@ use Rattle.hb_poster.specs.Asks.{LooksBelow, MayBeAsked}
 use Rattle.hb_space.proofs.Facts.Boxes.{Holds-within as holds_within}
 use Rattle.hb_store.specs.States.{IsGoodPage, StoreState}
 use Rattle.hb_core.proofs.Files.AskedPages.{place_among}
-use Rattle.hb_core.proofs.Memory.BroughtPages.{some_of_map}
 use Rattle.hb_core.proofs.Memory.StillThere.{fetched_good}
 use Rattle.hb_core.proofs.Walks.AtHand.{good_here, own_there, walked_there}
 use Rattle.hb_core.proofs.Walks.WalkingWorkers.{walk_wants_above}
@@ -54,6 +53,8 @@ use Rattle.hb_core.specs.KeptFits.{CommandFits, IsBoxOf, JobFits, LineFits, Stan
 use Rattle.hb_core.specs.KeptMachine.{MachineKeeps}
 use Rattle.hb_core.specs.Machines.{Machine, live_here}
 use Rattle.hb_core.specs.Performing.{latches_held, mode_among}
+use Rattle.hb_lemmas.proofs.Options.{some_of_map}
+use Rattle.hb_core.proofs.Machines.AddedJobs.{goal_fits}
 
 pub pages_at_hand_fit : PagesAtHandFit
 pages_at_hand_fit m fetched id page keeps brings live = (keeps.marks_in_place.layout, (fetched_good m AnyPage fetched keeps.pages_of_file brings id page live).1)
@@ -67,32 +68,11 @@ box_of_goal k rest place p boxes is =
     let fits : IsBoxOf k one.0 = All-contains (IsBoxOf k) rest one.0 boxes (place_among rest place one.0 one.1) in
     sym (ap (λ (q : List ℕ). length q) same) ∙ fits.1
 
-goal_has : (k : ℕ) (command : Command) (rest : List Area) (p : List ℕ) → CommandFits k command → All (IsBoxOf k) rest → goal_of command rest ≡ Some p → length p ≡ k
-goal_has k (Insert rec) rest p fits boxes is = sym (ap (λ (q : List ℕ). length q) (same_Some rec.key p is)) ∙ fits
-goal_has k (Delete point) rest p fits boxes is = sym (ap (λ (q : List ℕ). length q) (same_Some point p is)) ∙ fits
-goal_has k (Lookup point) rest p fits boxes is = sym (ap (λ (q : List ℕ). length q) (same_Some point p is)) ∙ fits
-goal_has k (Search area) rest p fits boxes is = box_of_goal k rest (length rest - 1) p boxes is
-
 point_has : (k : ℕ) (activity : Activity) (p : List ℕ) → IfSome (line_in_hand activity) (LineFits k) → IfSome (job_in_work activity) (JobFits k) → All (IsBoxOf k) (boxes_left activity) → walk_point activity ≡ Some p → length p ≡ k
-point_has k (at.SessionWalk line held rest found) p in_hand in_work boxes is = goal_has k line.command rest p in_hand.command boxes is
+point_has k (at.SessionWalk line held rest found) p in_hand in_work boxes is = goal_fits k line.command rest p in_hand.command boxes is
 point_has k (at.PosterWalk job held) p in_hand in_work boxes is = sym (ap (λ (q : List ℕ). length q) (same_Some job.point p is)) ∙ in_work.point
 point_has k (at.ConsolidatorWalk job held) p in_hand in_work boxes is = sym (ap (λ (q : List ℕ). length q) (same_Some job.point p is)) ∙ in_work.point
-point_has k at.SessionIdle p in_hand in_work boxes is = cc
-point_has k (at.SessionSplit line held) p in_hand in_work boxes is = cc
-point_has k (at.SessionPut line source fresh) p in_hand in_work boxes is = cc
-point_has k (at.SessionAwait line reply place) p in_hand in_work boxes is = cc
-point_has k at.PosterIdle p in_hand in_work boxes is = cc
-point_has k (at.PosterGrow job) p in_hand in_work boxes is = cc
-point_has k (at.PosterChild job parent) p in_hand in_work boxes is = cc
-point_has k (at.PosterPromote job parent) p in_hand in_work boxes is = cc
-point_has k (at.PosterAgain job parent) p in_hand in_work boxes is = cc
-point_has k at.ConsolidatorIdle p in_hand in_work boxes is = cc
-point_has k (at.ConsolidatorScan job parent child) p in_hand in_work boxes is = cc
-point_has k (at.ConsolidatorTry job parent keep gone leaf) p in_hand in_work boxes is = cc
-point_has k (at.ConsolidatorPromote job parent keep gone) p in_hand in_work boxes is = cc
-point_has k (at.ConsolidatorKeep job parent keep gone) p in_hand in_work boxes is = cc
-point_has k (at.ConsolidatorDecide job parent keep gone) p in_hand in_work boxes is = cc
-point_has k at.Flusher p in_hand in_work boxes is = cc
+point_has k activity p in_hand in_work boxes is = cc
 
 -- ---- a page of the file that has the box by which another one names it
 
@@ -171,22 +151,7 @@ module _ (m : Machine) (actor : ℕ) (fetched : StoreState) (may : MayLatch acto
     inside (at.PosterWalk job (Some id)) stays is wants box = goes_on id (Some job.point) (job_mode job) (stays id refl) is wants box
     inside (at.ConsolidatorWalk job None) stays is wants box = at_root box
     inside (at.ConsolidatorWalk job (Some id)) stays is wants box = goes_on id (Some job.point) (job_mode job) (stays id refl) is wants box
-    inside at.SessionIdle stays is wants box = cc
-    inside (at.SessionSplit line held) stays is wants box = cc
-    inside (at.SessionPut line source fresh) stays is wants box = cc
-    inside (at.SessionAwait line reply place) stays is wants box = cc
-    inside at.PosterIdle stays is wants box = cc
-    inside (at.PosterGrow job) stays is wants box = cc
-    inside (at.PosterChild job parent) stays is wants box = cc
-    inside (at.PosterPromote job parent) stays is wants box = cc
-    inside (at.PosterAgain job parent) stays is wants box = cc
-    inside at.ConsolidatorIdle stays is wants box = cc
-    inside (at.ConsolidatorScan job parent child) stays is wants box = cc
-    inside (at.ConsolidatorTry job parent keep gone leaf) stays is wants box = cc
-    inside (at.ConsolidatorPromote job parent keep gone) stays is wants box = cc
-    inside (at.ConsolidatorKeep job parent keep gone) stays is wants box = cc
-    inside (at.ConsolidatorDecide job parent keep gone) stays is wants box = cc
-    inside at.Flusher stays is wants box = cc
+    inside activity stays is wants box = cc
 
 pub walks_stay_inside : WalksStayInside
 walks_stay_inside m actor fetched wanted page p may keeps brings is point wants hand =

@@ -35,6 +35,7 @@ use Rattle.hb_frag.specs.Leaves.{child_names, first_named, firsts, leaves, sibli
 use Rattle.hb_frag.specs.Rules.{BelongsAt}
 use Rattle.hb_space.specs.Boxes.{Area}
 use Rattle.hb_store.specs.States.{IsGoodPage, StoreState}
+use Rattle.hb_lemmas.proofs.Booleans.{at_itself}
 
 -- ---- in a memory that has its pages
 
@@ -80,14 +81,11 @@ no_pair Goal held is = absurd (nothing is)
     nothing : None ≡ Some held → ⊥
     nothing is = cc
 
-one_mode : (id : ℕ) (mode : Mode) (other : Option Mode) → cond (id == id) (Some mode) other ≡ Some mode
-one_mode id mode other = ap (λ (b : Bool). cond b (Some mode) other) (eq-eqb id id refl)
-
 -- one of two latches is on the second page
 second_mode : (first id : ℕ) (mode other : Mode) → (found : Mode) × (mode_among id (latch_on first mode ∷ latch_on id other ∷ []) ≡ Some found)
 second_mode first id mode other = elim (cases_Bool (first == id)) [
   | inl here ↦ (mode, ap (λ (b : Bool). cond b (Some mode) (cond (id == id) (Some other) None)) here)
-  | inr off ↦ (other, ap (λ (b : Bool). cond b (Some mode) (cond (id == id) (Some other) None)) off ∙ one_mode id other None)
+  | inr off ↦ (other, ap (λ (b : Bool). cond b (Some mode) (cond (id == id) (Some other) None)) off ∙ at_itself id (Some other) None)
 ]
 
 pair_latched : (st : StoreState) (activity : Activity) (pair held : PairHeld) → (mode : Mode) × (mode_among pair.keep (latches_held st activity) ≡ Some mode) → Some pair ≡ Some held → (mode : Mode) × (mode_among held.keep (latches_held st activity) ≡ Some mode)
@@ -102,15 +100,15 @@ nowhere st activity place is = absurd (nothing is)
     nothing is = cc
 
 pub place_latched : (st : StoreState) (activity : Activity) (place : AtParent) → merging_at activity ≡ Some place → PlaceLatched st activity place
-place_latched st (at.ConsolidatorScan job parent child) place is = latched_as st (at.ConsolidatorScan job parent child) job parent _ _ place is (Update, one_mode parent Update None) (no_pair _)
+place_latched st (at.ConsolidatorScan job parent child) place is = latched_as st (at.ConsolidatorScan job parent child) job parent _ _ place is (Update, at_itself parent (Some Update) None) (no_pair _)
 place_latched st (at.ConsolidatorTry job parent keep gone leaf) place is =
     let trying : Activity = at.ConsolidatorTry job parent keep gone leaf in
-    latched_as st trying job parent _ _ place is (Update, one_mode parent Update (cond (keep == parent) (Some Shared) None)) (λ held same. pair_latched st trying (record { keep = keep; gone = gone; leaf = Some leaf }) held (second_mode parent keep Update Shared) same)
-place_latched st (at.ConsolidatorPromote job parent keep gone) place is = latched_as st (at.ConsolidatorPromote job parent keep gone) job parent _ _ place is (Update, one_mode parent Update None) (no_pair _)
-place_latched st (at.ConsolidatorKeep job parent keep gone) place is = latched_as st (at.ConsolidatorKeep job parent keep gone) job parent _ _ place is (Exclusive, one_mode parent Exclusive None) (no_pair _)
+    latched_as st trying job parent _ _ place is (Update, at_itself parent (Some Update) (cond (keep == parent) (Some Shared) None)) (λ held same. pair_latched st trying (record { keep = keep; gone = gone; leaf = Some leaf }) held (second_mode parent keep Update Shared) same)
+place_latched st (at.ConsolidatorPromote job parent keep gone) place is = latched_as st (at.ConsolidatorPromote job parent keep gone) job parent _ _ place is (Update, at_itself parent (Some Update) None) (no_pair _)
+place_latched st (at.ConsolidatorKeep job parent keep gone) place is = latched_as st (at.ConsolidatorKeep job parent keep gone) job parent _ _ place is (Exclusive, at_itself parent (Some Exclusive) None) (no_pair _)
 place_latched st (at.ConsolidatorDecide job parent keep gone) place is =
     let deciding : Activity = at.ConsolidatorDecide job parent keep gone in
-    latched_as st deciding job parent _ _ place is (Exclusive, one_mode parent Exclusive (cond (keep == parent) (Some Exclusive) None)) (λ held same. pair_latched st deciding (record { keep = keep; gone = gone; leaf = None }) held (second_mode parent keep Exclusive Exclusive) same)
+    latched_as st deciding job parent _ _ place is (Exclusive, at_itself parent (Some Exclusive) (cond (keep == parent) (Some Exclusive) None)) (λ held same. pair_latched st deciding (record { keep = keep; gone = gone; leaf = None }) held (second_mode parent keep Exclusive Exclusive) same)
 place_latched st at.SessionIdle place is = nowhere st at.SessionIdle place is
 place_latched st (at.SessionWalk line held rest found) place is = nowhere st (at.SessionWalk line held rest found) place is
 place_latched st (at.SessionSplit line held) place is = nowhere st (at.SessionSplit line held) place is
@@ -348,16 +346,16 @@ module _ (m : Machine) (actor : ℕ) (fetched : StoreState) (good : (id : ℕ) (
       ap (live_here fetched) (sym same.0 ∙ asks.page) ∙ live
 
   -- a walk that goes on holds a page, and so doesn't arrive
-  stays_none : (id : ℕ) (deed : Deed) → StaysMerger here deed → walk_held deed.next ≡ Some id → ⊥
-  stays_none id deed stays walks = nothing (sym (ap (λ (d : Deed). walk_held d.next) stays.moves.is ∙ stays.walk) ∙ walks)
+  stays_none : (id : ℕ) (activity : Activity) (deed : Deed) → StaysMerger activity deed → walk_held deed.next ≡ Some id → ⊥
+  stays_none id activity deed stays walks = nothing (sym (ap (λ (d : Deed). walk_held d.next) stays.is ∙ stays.after.walk) ∙ walks)
     where
       nothing : None ≡ Some id → ⊥
       nothing is = cc
 
-  lands : (activity : Activity) (id : ℕ) (page : LivePage) (deed : Deed) → m.activity actor ≡ activity → AsksFor m actor id page → live_here fetched id ≡ Some page → IsMerging activity → RowAt activity (sight here) id page deed → StaysMerger here deed → Lands deed.next
+  lands : (activity : Activity) (id : ℕ) (page : LivePage) (deed : Deed) → m.activity actor ≡ activity → AsksFor m actor id page → live_here fetched id ≡ Some page → IsMerging activity → RowAt activity (sight here) id page deed → StaysMerger activity deed → Lands deed.next
   lands (at.ConsolidatorWalk job held) id page deed is asks live kind (inl row) stays =
       landed deed _ row.deed_is (scan_lands job id page (first_one (children_of page)) (live, row.level) (λ child first. any_first child (child_names (leaves page.frag)) (first_listed child (children_of page) first)))
-  lands (at.ConsolidatorWalk job held) id page deed is asks live kind (inr row) stays = absurd (stays_none id deed stays (ap (λ (d : Deed). walk_held d.next) row.passes.deed_is))
+  lands (at.ConsolidatorWalk job held) id page deed is asks live kind (inr row) stays = absurd (stays_none id _ deed stays (ap (λ (d : Deed). walk_held d.next) row.passes.deed_is))
   lands (at.ConsolidatorScan job parent child) id page deed is asks live kind row stays =
       let scan : Activity = at.ConsolidatorScan job parent child in
       let about = known_as job parent (child ∷ []) None row.above (ap merging_at is) row.live in
@@ -371,20 +369,8 @@ module _ (m : Machine) (actor : ℕ) (fetched : StoreState) (good : (id : ℕ) (
   lands (at.ConsolidatorKeep job parent keep gone) id page deed is asks live kind row stays =
       let keeping : Activity = at.ConsolidatorKeep job parent keep gone in
       landed deed _ row (keep_lands job parent keep gone id page (first_named gone (siblings_of page)) refl is asks (at_named keeping id keep _ Exclusive page is asks (λ o. refl) live))
-  lands (at.ConsolidatorDecide job parent keep gone) id page deed is asks live kind row stays = landed deed _ (decided here job parent keep gone row.has.above row.has.plan deed row.does_it) idle
-  lands at.SessionIdle id page deed is asks live kind row stays = absurd kind
-  lands (at.SessionWalk line held rest found) id page deed is asks live kind row stays = absurd kind
-  lands (at.SessionSplit line held) id page deed is asks live kind row stays = absurd kind
-  lands (at.SessionPut line source fresh) id page deed is asks live kind row stays = absurd kind
-  lands (at.SessionAwait line reply place) id page deed is asks live kind row stays = absurd kind
-  lands at.PosterIdle id page deed is asks live kind row stays = absurd kind
-  lands (at.PosterGrow job) id page deed is asks live kind row stays = absurd kind
-  lands (at.PosterWalk job held) id page deed is asks live kind row stays = absurd kind
-  lands (at.PosterChild job parent) id page deed is asks live kind row stays = absurd kind
-  lands (at.PosterPromote job parent) id page deed is asks live kind row stays = absurd kind
-  lands (at.PosterAgain job parent) id page deed is asks live kind row stays = absurd kind
-  lands at.ConsolidatorIdle id page deed is asks live kind row stays = absurd kind
-  lands at.Flusher id page deed is asks live kind row stays = absurd kind
+  lands (at.ConsolidatorDecide job parent keep gone) id page deed is asks live kind row stays = landed deed _ (decided (sight here) job parent keep gone row.has.above row.has.plan deed row.does_it) idle
+  lands activity id page deed is asks live kind row stays = absurd kind
 
   pub merged_place : (deed : Deed) → MergesOn m actor here deed → Lands deed.next
   merged_place deed on = lands on.activity on.id on.page deed on.before on.asks on.live on.kind on.row on.stays

@@ -7,7 +7,7 @@ use Rattle.hb_latch.specs.declared.modes.Mode.TheVariants.{Update}
 use Rattle.hb_activity.specs.declared.wanting.Wanted.{Wanted}
 use Rattle.hb_activity.specs.declared.activities.Activity.{Activity}
 use Rattle.hb_activity.specs.declared.activities.Activity.TheVariants as at
-use Rattle.hb_activity.proofs.LaterPages.{never_itself, onward}
+use Rattle.hb_activity.proofs.Facts.LaterPages.{never_itself, onward}
 use Rattle.hb_activity.specs.Waiting.{IsLater}
 use Rattle.hb_activity.specs.Wanting.{wanted_of}
 use Rattle.hb_core.proofs.Walks.LaterWanted.{wanted_comes_later}

@@ -25,21 +25,7 @@ rests_free st at.SessionIdle page mode rests holds = cc
 rests_free st at.PosterIdle page mode rests holds = cc
 rests_free st at.ConsolidatorIdle page mode rests holds = cc
 rests_free st at.Flusher page mode rests holds = cc
-rests_free st (at.SessionWalk line held rest found) page mode rests holds = absurd rests
-rests_free st (at.SessionSplit line held) page mode rests holds = absurd rests
-rests_free st (at.SessionPut line source fresh) page mode rests holds = absurd rests
-rests_free st (at.SessionAwait line reply place) page mode rests holds = absurd rests
-rests_free st (at.PosterGrow job) page mode rests holds = absurd rests
-rests_free st (at.PosterWalk job held) page mode rests holds = absurd rests
-rests_free st (at.PosterChild job parent) page mode rests holds = absurd rests
-rests_free st (at.PosterPromote job parent) page mode rests holds = absurd rests
-rests_free st (at.PosterAgain job parent) page mode rests holds = absurd rests
-rests_free st (at.ConsolidatorWalk job held) page mode rests holds = absurd rests
-rests_free st (at.ConsolidatorScan job parent child) page mode rests holds = absurd rests
-rests_free st (at.ConsolidatorTry job parent keep gone leaf) page mode rests holds = absurd rests
-rests_free st (at.ConsolidatorPromote job parent keep gone) page mode rests holds = absurd rests
-rests_free st (at.ConsolidatorKeep job parent keep gone) page mode rests holds = absurd rests
-rests_free st (at.ConsolidatorDecide job parent keep gone) page mode rests holds = absurd rests
+rests_free st activity page mode rests holds = absurd rests
 
 module _ (m : Machine) (files : Files) (fit : LatchesFit m) (has : HasSoundFile m files) (nobody : HasNobodyElse m) (none_else : HasNoOtherLatches m) (walks : WalksInSpace m)
     (kept : (other : ℕ) → IsAtWork m other → IsKeptWaiting m other) where

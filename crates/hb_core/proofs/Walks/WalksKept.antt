@@ -15,7 +15,6 @@ use Rattle.hb_activity.specs.Deeds.{Deed}
 use Rattle.hb_activity.specs.Holding.{latch_on}
 use Rattle.hb_activity.specs.Passing.{LeadsBelow}
 use Rattle.hb_activity.specs.Walks.{walk_held, walk_point}
-use Rattle.hb_core.proofs.Latches.Backing.{live_there}
 use Rattle.hb_core.proofs.Memory.BroughtPages.{still_held}
 use Rattle.hb_core.proofs.Latches.LatchesStay.{walk_latched}
 use Rattle.hb_core.proofs.Walks.MergesKept.{HasMergePlace, PlaceStays, merged_place, named_again, none_named, place_latched}
@@ -35,6 +34,7 @@ use Rattle.hb_ops.proofs.Facts.Tips.{first_held}
 use Rattle.hb_ops.specs.Files.{if_live}
 use Rattle.hb_space.specs.Boxes.{Holds}
 use Rattle.hb_store.specs.States.{StoreState, in_memory}
+use Rattle.hb_ops.proofs.Facts.PageNumberLaws.{live_so}
 
 abbrev pub IsAtParent : Activity → Job → ℕ → Type 0
 IsAtParent activity job parent = (activity ≡ at.PosterChild job parent) ⊎ (activity ≡ at.PosterPromote job parent) ⊎ (activity ≡ at.PosterAgain job parent)
@@ -204,7 +204,7 @@ parent_latched st activity job parent is = by is
 module _ (m : Machine) (actor : ℕ) (may : ℕ → Type 0) (fetched : StoreState) (latches : MayLatch actor) (fit : LatchesFit m) (inside : HoldsPagesOfFile m) (walks : WalksInSpace m) (brings : Brings m may fetched) (deed : Deed) (outcome : Outcome) (new : Machine) (performs : Performs m fetched actor deed outcome new) where
   -- a page that the actor holds stays
   own_there : (id : ℕ) (mode : Mode) (page : LivePage) → mode_among id (latches_held m.store (m.activity actor)) ≡ Some mode → live_here m.store id ≡ Some page → live_here fetched id ≡ Some page
-  own_there id mode page among live = ap if_live (still_held m may fetched brings actor id mode (Live page) (fit.exact actor id latches ∙ among) (live_there (in_memory m.store id) page live))
+  own_there id mode page among live = ap if_live (still_held m may fetched brings actor id mode (Live page) (fit.exact actor id latches ∙ among) (live_so (in_memory m.store id) page live))
 
   walks_to : WalksTo fetched deed → StandsInSpace new.store deed.next
   walks_to to =
@@ -258,10 +258,10 @@ module _ (m : Machine) (actor : ℕ) (may : ℕ → Type 0) (fetched : StoreStat
       (λ place is. subst (λ (o : Option AtParent). IfSome o (NamesKnown m.store)) is (walks.merging actor)) brought_place deed merges)
     where
       store : new.store ≡ fetched
-      store = nothing_done deed.op _ fetched new.store (ap (λ (d : Deed). d.op) merges.stays.moves.is) performs.store
+      store = nothing_done deed.op _ fetched new.store (ap (λ (d : Deed). d.op) merges.stays.is) performs.store
 
       still : walk_held deed.next ≡ None
-      still = ap (λ (d : Deed). walk_held d.next) merges.stays.moves.is ∙ merges.stays.walk
+      still = ap (λ (d : Deed). walk_held d.next) merges.stays.is ∙ merges.stays.after.walk
 
       by : HoldsNothing deed.next ⊎ HasMergePlace fetched deed.next → StandsInSpace new.store deed.next
       by (inl free) = free_stands new.store deed.next free
@@ -323,7 +323,7 @@ module _ (m : Machine) (actor : ℕ) (outcome : Outcome) (new : Machine) (latche
       (λ other another. ap (λ (all : ℕ → Activity). all other) keeps.activity)
     where
       still : (id : ℕ) (mode : Mode) (page : LivePage) → mode_among id (latches_held m.store (m.activity actor)) ≡ Some mode → live_here m.store id ≡ Some page → live_here new.store id ≡ Some page
-      still id mode page among live = ap if_live (keeps.memory id (Live page) (inl (actor, mode, fit.exact actor id latches ∙ among)) (live_there (in_memory m.store id) page live))
+      still id mode page among live = ap if_live (keeps.memory id (Live page) (inl (actor, mode, fit.exact actor id latches ∙ among)) (live_so (in_memory m.store id) page live))
 
   -- a deed is done
   did : (fetched : StoreState) (deed : Deed) → Performs m fetched actor deed outcome new → StandsInSpace new.store deed.next → WalksInSpace new
@@ -339,7 +339,7 @@ module _ (m : Machine) (actor : ℕ) (outcome : Outcome) (new : Machine) (latche
   worked (inl (by, way, so)) = same_but_disk (stays_so m actor outcome new (outcomes.Blocked by) so)
   worked (inr (inl (free, unready, inl (waits, force)))) = same_but_disk (forces_so m actor outcome new outcomes.Helped force)
   worked (inr (inl (free, unready, inr (none, rest)))) =
-      rest_kind m outcomes.Helped outcome new _ (WalksInSpace new) none (λ at. refl) (λ more. same_but_disk (more_so m actor outcome new more)) (λ performs. freed m.store _ performs (nothing_run_out (m.activity actor))) rest
+      rest_kind m outcomes.Helped outcome new _ (WalksInSpace new) none tt (λ more. same_but_disk (more_so m actor outcome new more)) (λ performs. freed m.store _ performs (nothing_run_out (m.activity actor))) rest
   worked (inr (inr (free, ready, inl acts))) =
       did acts.fetched acts.deed acts.performs
       (placed_in_space m actor _ acts.fetched latches fit inside walks acts.brings acts.deed outcome new acts.performs (place_after m actor acts.fetched _ acts.deed refl acts.row))

@@ -49,21 +49,7 @@ rests_or_not at.SessionIdle = inl tt
 rests_or_not at.PosterIdle = inl tt
 rests_or_not at.ConsolidatorIdle = inl tt
 rests_or_not at.Flusher = inl tt
-rests_or_not (at.SessionWalk line held rest found) = inr (λ never. never)
-rests_or_not (at.SessionSplit line held) = inr (λ never. never)
-rests_or_not (at.SessionPut line source fresh) = inr (λ never. never)
-rests_or_not (at.SessionAwait number reply place) = inr (λ never. never)
-rests_or_not (at.PosterGrow job) = inr (λ never. never)
-rests_or_not (at.PosterWalk job held) = inr (λ never. never)
-rests_or_not (at.PosterChild job parent) = inr (λ never. never)
-rests_or_not (at.PosterPromote job parent) = inr (λ never. never)
-rests_or_not (at.PosterAgain job parent) = inr (λ never. never)
-rests_or_not (at.ConsolidatorWalk job held) = inr (λ never. never)
-rests_or_not (at.ConsolidatorScan job parent child) = inr (λ never. never)
-rests_or_not (at.ConsolidatorTry job parent keep gone leaf) = inr (λ never. never)
-rests_or_not (at.ConsolidatorPromote job parent keep gone) = inr (λ never. never)
-rests_or_not (at.ConsolidatorKeep job parent keep gone) = inr (λ never. never)
-rests_or_not (at.ConsolidatorDecide job parent keep gone) = inr (λ never. never)
+rests_or_not activity = inr (λ never. never)
 
 -- below a number one further on: below it, or it
 below_or_at : (a n : ℕ) → a < suc n → (a < n) ⊎ (a ≡ n)
@@ -204,20 +190,7 @@ module _ (m : Machine) (actor : ℕ) (outcome : Outcome) (new : Machine) where
   stepped at.ConsolidatorIdle works free one = absurd (works tt)
   stepped at.Flusher works free one = absurd (works tt)
   stepped (at.SessionAwait number reply place) works free one = awaited number place reply one
-  stepped (at.SessionWalk line held rest found) works free one = worked free one
-  stepped (at.SessionSplit line held) works free one = worked free one
-  stepped (at.SessionPut line source fresh) works free one = worked free one
-  stepped (at.PosterGrow job) works free one = worked free one
-  stepped (at.PosterWalk job held) works free one = worked free one
-  stepped (at.PosterChild job parent) works free one = worked free one
-  stepped (at.PosterPromote job parent) works free one = worked free one
-  stepped (at.PosterAgain job parent) works free one = worked free one
-  stepped (at.ConsolidatorWalk job held) works free one = worked free one
-  stepped (at.ConsolidatorScan job parent child) works free one = worked free one
-  stepped (at.ConsolidatorTry job parent keep gone leaf) works free one = worked free one
-  stepped (at.ConsolidatorPromote job parent keep gone) works free one = worked free one
-  stepped (at.ConsolidatorKeep job parent keep gone) works free one = worked free one
-  stepped (at.ConsolidatorDecide job parent keep gone) works free one = worked free one
+  stepped activity works free one = worked free one
 
   -- an idle actor with something to do
   next_forward : (line : Option Line) → IsSome line
@@ -257,21 +230,7 @@ idle_so at.SessionIdle rests = refl
 idle_so at.PosterIdle rests = refl
 idle_so at.ConsolidatorIdle rests = refl
 idle_so at.Flusher rests = refl
-idle_so (at.SessionWalk line held rest found) rests = absurd rests
-idle_so (at.SessionSplit line held) rests = absurd rests
-idle_so (at.SessionPut line source fresh) rests = absurd rests
-idle_so (at.SessionAwait number reply place) rests = absurd rests
-idle_so (at.PosterGrow job) rests = absurd rests
-idle_so (at.PosterWalk job held) rests = absurd rests
-idle_so (at.PosterChild job parent) rests = absurd rests
-idle_so (at.PosterPromote job parent) rests = absurd rests
-idle_so (at.PosterAgain job parent) rests = absurd rests
-idle_so (at.ConsolidatorWalk job held) rests = absurd rests
-idle_so (at.ConsolidatorScan job parent child) rests = absurd rests
-idle_so (at.ConsolidatorTry job parent keep gone leaf) rests = absurd rests
-idle_so (at.ConsolidatorPromote job parent keep gone) rests = absurd rests
-idle_so (at.ConsolidatorKeep job parent keep gone) rests = absurd rests
-idle_so (at.ConsolidatorDecide job parent keep gone) rests = absurd rests
+idle_so activity rests = absurd rests
 
 session_class : (actor : ℕ) → actor ≤ 16 → class_for actor ≡ Sessions
 session_class actor le =
