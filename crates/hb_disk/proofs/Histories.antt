@@ -1,5 +1,5 @@
 -- What a record of calls keeps of the disk model.
-use Rattle.std.proofs.Common.{◌≡◌, ◌⊎◌, inl, inr, ⊎_elim, ℕ, ◌+◌, ◌-◌, ◌^◌, ◌<◌, ◌≤◌, List, [], ◌∷◌, length, take, drop, get_or, reverse, Option, Some, Result, Ok, Err, OnOk, OnErr, IsErr, MatchOption, refl, sym, ap, ◌∙◌, subst, arith, length-take, length-drop}
+use Rattle.std.proofs.Common.{◌≡◌, ◌⊎◌, inl, inr, ⊎_elim, ℕ, ◌+◌, ◌-◌, ◌^◌, ◌<◌, ◌≤◌, Bool, false, List, [], ◌∷◌, length, take, drop, get_or, reverse, Option, Some, Result, Ok, Err, IfErr, OnOk, OnErr, IsErr, MatchOption, true≢false, refl, sym, ap, ◌∙◌, subst, arith, length-take, length-drop}
 use Rattle.std.specs.List.{All}
 use Rattle.std.proofs.lemmas.List.{reverse-append, get_or-take, get_or-drop, ext_get_or}
 use Rattle.std.proofs.lemmas.List.Elements.{All-take, All-drop}
@@ -10,11 +10,12 @@ use Rattle.hb_disk.specs.Calls.{Ticks, Writes, Syncs}
 use Rattle.hb_disk.proofs.Facts.TornLaws.{IsOutside, cases_range, Torn-from, Torn-same, Torn-itself}
 use Rattle.hb_disk.proofs.Facts.OverwrittenLaws.{length-overwritten, overwritten-inside, overwritten-outside, All-overwritten}
 use Rattle.hb_disk.specs.Events.{IsOpen, IsImage, IsImageSince, undone, range_of, disk_after}
-use Rattle.hb_disk.specs.NotedCalls.{Notes, IsOver, LeavesTry}
+use Rattle.hb_disk.specs.NotedCalls.{Notes, IsOver, Explains, LeavesTry, Passes}
 use Rattle.hb_disk.specs.declared.event.Change.{Change}
 use Rattle.hb_disk.specs.declared.event.Change.TheVariants.{Tried, Synced}
 use Rattle.hb_disk.specs.declared.event.Event.{Event}
 use Rattle.hb_disk.specs.declared.event.Refused.{Refused}
+use Rattle.hb_disk.specs.declared.history.History.{History}
 use Rattle.hb_disk.specs.declared.event.Refused.TheVariants.{Listed, Over, NoMemory}
 
 pub Notes-weaker : (P Q : Change → Type 0) (clock call : ℕ) (old new : List Event) → ((d : Change) → P d → Q d) → Notes P clock call old new → Notes Q clock call old new
@@ -25,6 +26,58 @@ Notes-weaker P Q clock call old new weaker noted = record {
   at_call = noted.at_call;
   change = weaker noted.event.change noted.change;
   time_left = noted.time_left;
+}
+
+-- what a refused call left, and why, where it wasn't a listed one
+marked : (Mark Same : Type 0) (e : Refused) → LeavesTry ⊥ Same e → LeavesTry Mark Same e
+marked Mark Same Listed left = absurd left
+marked Mark Same Over left = left
+marked Mark Same NoMemory left = left
+
+explained : (listed : Bool) (clock : ℕ) (e : Refused) → Explains false clock e → Explains listed clock e
+explained listed clock Listed why = cc (why.0)
+explained listed clock Over why = why
+explained listed clock NoMemory why = why
+
+pub unmarked : {T : Type 0} (r : Result T Refused) (Same : Type 0) → IfErr r (LeavesTry ⊥ Same) → OnErr r Same
+unmarked (Ok v) Same left = tt
+unmarked (Err Listed) Same left = absurd left
+unmarked (Err Over) Same left = left
+unmarked (Err NoMemory) Same left = left
+
+-- a call that wasn't listed, whose change is noted
+pub Passes-noted : (P Q : Change → Type 0) (Mark : Type 0) (bytes : List ℕ) (call : ℕ) (listed : Bool) (r : Result (Unit {0}) Refused) (old new : History) → ((d : Change) → P d → Q d)
+    → listed ≡ false → Passes P ⊥ bytes call false r old new → Passes Q Mark bytes call listed r old new
+Passes-noted P Q Mark bytes call listed (Ok v) old new weaker not passes = record {
+  noted = Notes-weaker P Q old.clock call old.events.items new.events.items weaker passes.noted;
+  made = passes.made;
+  refused = tt;
+  same = tt;
+  why = tt;
+  fails = λ l. absurd (true≢false (sym l ∙ not));
+  clock = passes.clock;
+}
+Passes-noted P Q Mark bytes call listed (Err e) old new weaker not passes = record {
+  noted = tt;
+  made = tt;
+  refused = marked Mark (new.events.items ≡ old.events.items) e passes.refused;
+  same = passes.same;
+  why = explained listed old.clock e passes.why;
+  fails = λ l. refl;
+  clock = passes.clock;
+}
+
+-- bytes are put after a call that is done
+pub Passes-put : (P : Change → Type 0) (Before After : Type 0) (bytes now : List ℕ) (call : ℕ) (listed : Bool) (v : Unit {0}) (old mid new : History) → Passes P Before bytes call listed (Ok v) old mid
+    → new.events ≡ mid.events → new.clock ≡ mid.clock → new.bytes.items ≡ now → Passes P After now call listed (Ok v) old new
+Passes-put P Before After bytes now call listed v old mid new passes events clock put = record {
+  noted = subst (λ es. Notes P old.clock call old.events.items es) (sym (ap (λ v. v.items) events)) passes.noted;
+  made = put;
+  refused = tt;
+  same = tt;
+  why = tt;
+  fails = passes.fails;
+  clock = clock ∙ passes.clock;
 }
 
 -- with the newest first the new event is the first
@@ -266,13 +319,13 @@ carried Q bytes now events after clock next same none ticked h =
 -- the same, of the calls of a history
 module _ (bytes : List ℕ) (events : List Event) (clock : ℕ) (fit : All (λ x. x < 2 ^ 8) bytes) (clock_fits : clock ≤ last_value) (call : ℕ)
     (now : List ℕ) (after : List Event) (next : ℕ) (ticked : next ≡ next_count clock) where
-  pub sync_noted : {T E : Type 0} (r : Result T E) → now ≡ bytes → OnOk r (Notes (λ d. d ≡ Synced) clock call events after) → OnErr r (after ≡ events)
+  pub sync_noted : {T E : Type 0} (r : Result T E) → OnOk r (now ≡ bytes) → OnErr r (now ≡ bytes) → OnOk r (Notes (λ d. d ≡ Synced) clock call events after) → OnErr r (after ≡ events)
       → (reads f g : ℕ) → Counts (IsErr r) f g → Syncs r (disk_after bytes (reverse events) clock reads f) (disk_after now (reverse after) next reads g)
-  sync_noted {T = T} {E = E} (Ok v) same done refused reads f g counts =
+  sync_noted {T = T} {E = E} (Ok v) same as_before done refused reads f g counts =
       let Q : List ℕ → List Event → ℕ → Type 0 = λ l es t. Syncs {T = T} {E = E} (Ok v) (disk_after bytes (reverse events) clock reads f) (disk_after l (reverse es) t reads g) in
       carried Q bytes now after after (next_count clock) next same refl ticked
       (syncs_done bytes (reverse events) clock fit clock_fits reads f g v (reverse after) done.event (newest (λ d. d ≡ Synced) clock call events after done) done.change done.at_clock done.time_left counts)
-  sync_noted {T = T} {E = E} (Err e) same done refused reads f g counts =
+  sync_noted {T = T} {E = E} (Err e) as_made same done refused reads f g counts =
       let Q : List ℕ → List Event → ℕ → Type 0 = λ l es t. Syncs {T = T} {E = E} (Err e) (disk_after bytes (reverse events) clock reads f) (disk_after l (reverse es) t reads g) in
       carried Q bytes now events after (next_count clock) next same refused ticked (syncs_missed bytes (reverse events) clock fit clock_fits reads f g e counts)
 

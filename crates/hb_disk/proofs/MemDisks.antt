@@ -93,11 +93,6 @@ module _ (old new : MemDisk) (listed : Bool) (listing : IsTrue listed ↔ IsList
     read_faults = reads;
   }
 
--- what holds anyway holds on failure
-pub on_err : {T E : Type 0} (r : Result T E) (P : Type 0) → P → OnErr r P
-on_err (Ok v) P h = tt
-on_err (Err e) P h = h
-
 -- what a success, or a failure, says of one holds of the other
 pub told_on_ok : {T E F : Type 0} (done : Result T E) (r : Result T F) (P : Type 0) → Alike done r → OnOk done P → OnOk r P
 told_on_ok (Ok v) (Ok w) P alike h = h

@@ -3,7 +3,7 @@ use Rattle.std.specs.Prelude.{◌≡◌, ◌⊎◌, ◌↔◌, ℕ, ◌<◌, ◌
 use Rattle.hb_outside.specs.Memory.{next_count}
 use Rattle.hb_disk.specs.Model.{DiskModel, overwritten, last_value}
 use Rattle.hb_disk.specs.Events.{disk_after}
-use Rattle.hb_disk.specs.NotedCalls.{Notes}
+use Rattle.hb_disk.specs.NotedCalls.{IsNoted}
 use Rattle.hb_disk.specs.declared.event.Change.{Change}
 use Rattle.hb_disk.specs.declared.event.Event.{Event}
 use Rattle.hb_disk.specs.declared.mem_disk.MemDisk.{MemDisk}
@@ -51,7 +51,7 @@ abbrev pub HasSameRecord : MemDisk → MemDisk → Type 0
 HasSameRecord old new = new.history.events.items ≡ old.history.events.items
 
 abbrev pub Records : (Change → Type 0) → MemDisk → MemDisk → Type 0
-Records P old new = Notes P old.history.clock old.calls old.history.events.items new.history.events.items
+Records P old new = IsNoted P old.calls old.history new.history
 
 -- Why a write, zero or sync failed, and what it left on record: a listed call that it was tried; one that came at the
 -- clock's last value, or found no memory, nothing. The last is counted.

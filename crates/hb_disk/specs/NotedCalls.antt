@@ -1,11 +1,12 @@
 -- What a call of a disk in memory leaves on record, why it was refused, and what it counts.
-use Rattle.std.specs.Prelude.{Bool, true, ◌≡◌, ℕ, ◌<◌, List, [], ◌∷◌, ◌++◌, take, drop, Vec, Result, Ok, Err, ⊤}
+use Rattle.std.specs.Prelude.{Bool, true, ◌≡◌, ℕ, ◌<◌, List, [], ◌∷◌, ◌++◌, take, drop, Vec, Result, Ok, Err, IsErr, IfErr, OnOk, OnErr, ⊤}
 use Rattle.std.specs.declared.alloc.Global.{Global}
 use Rattle.hb_outside.specs.Memory.{next_count}
 use Rattle.hb_disk.specs.Model.{last_value}
 use Rattle.hb_disk.specs.declared.event.Change.{Change}
-use Rattle.hb_disk.specs.declared.event.Change.TheVariants.{Wrote, Tried, Synced}
+use Rattle.hb_disk.specs.declared.event.Change.TheVariants.{Wrote}
 use Rattle.hb_disk.specs.declared.event.Event.{Event}
+use Rattle.hb_disk.specs.declared.history.History.{History}
 use Rattle.hb_disk.specs.declared.event.Refused.{Refused}
 use Rattle.hb_disk.specs.declared.event.Refused.TheVariants.{Listed, Over, NoMemory}
 
@@ -18,17 +19,13 @@ pub record Notes (P : Change → Type 0) (clock call : ℕ) (old new : List Even
   pub change : P event.change
   pub time_left : clock < last_value
 
+-- the same of a history, at the call of this number
+abbrev pub IsNoted : (Change → Type 0) → ℕ → History → History → Type 0
+IsNoted P call old new = Notes P old.clock call old.events.items new.events.items
+
 -- the change is a write over these bytes, of so many from a place on
 abbrev pub IsOver : ℕ → ℕ → List ℕ → Change → Type 0
 IsOver at len bytes change = (before : Vec ℕ Global) × (change ≡ Wrote at before) × (before.items ≡ take len (drop at bytes))
-
--- the change is a try at a range that failed
-abbrev pub IsTry : ℕ → ℕ → Change → Type 0
-IsTry at len change = change ≡ Tried at len
-
--- the change is a sync
-abbrev pub IsSync : Change → Type 0
-IsSync change = change ≡ Synced
 
 -- Why a call was refused: the clock was at its last value; or else it is a listed one, or memory was wanting.
 abbrev pub Explains : Bool → ℕ → Refused → Type 0
@@ -36,17 +33,22 @@ Explains listed clock Listed = (listed ≡ true) × (clock < last_value)
 Explains listed clock Over = clock ≡ last_value
 Explains listed clock NoMemory = clock < last_value
 
--- why a change has no place on record
-abbrev pub NotNoted : ℕ → Refused → Type 0
-NotNoted clock Listed = ⊥
-NotNoted clock Over = clock ≡ last_value
-NotNoted clock NoMemory = clock < last_value
-
 -- What a call that was refused leaves on record: a listed one that it was tried, and the others nothing.
 abbrev pub LeavesTry : Type 0 → Type 0 → Refused → Type 0
 LeavesTry Mark Same Listed = Mark
 LeavesTry Mark Same Over = Same
 LeavesTry Mark Same NoMemory = Same
+
+-- A call of a history passed. Done, it stands on record, and the bytes are these. Refused, there is a cause, and the bytes are
+-- as they were; `Mark` is what a listed call leaves on record. The clock goes on.
+pub record Passes (done : Change → Type 0) (Mark : Type 0) (bytes : List ℕ) (call : ℕ) (listed : Bool) (result : Result (Unit {0}) Refused) (old new : History) : Type 0 where
+  pub noted : OnOk result (IsNoted done call old new)
+  pub made : OnOk result (new.bytes.items ≡ bytes)
+  pub refused : IfErr result (LeavesTry Mark (new.events.items ≡ old.events.items))
+  pub same : OnErr result (new.bytes.items ≡ old.bytes.items)
+  pub why : IfErr result (Explains listed old.clock)
+  pub fails : listed ≡ true → IsErr result
+  pub clock : new.clock ≡ next_count old.clock
 
 -- two results are both a success, or both a failure
 abbrev pub Alike : {T E F : Type 0} → Result T E → Result T F → Type 0

@@ -6,7 +6,6 @@ ghost use Rattle.hb_outside.specs.Memory.{next_count};
 ghost use Rattle.hb_disk.specs.Model.{last_value, overwritten};
 ghost use Rattle.hb_disk.specs.Calls.{Writes, Syncs};
 ghost use Rattle.hb_disk.specs.Events.{LiesWithin, AreKept, IsImage, IsImageSince, IsPicked, rewound, disk_after};
-ghost use Rattle.hb_disk.specs.NotedCalls.{Notes, IsOver, IsTry, IsSync, Explains, NotNoted, LeavesTry};
 
 use crate::event::{Change, Event, Pick, Refused, fill_at, put_at};
 use crate::images::choose_before;
@@ -26,6 +25,9 @@ pub(crate) struct History {
 }
 
 impl History {
+    ghost use Rattle.hb_disk.specs.NotedCalls.{IsOver, IsNoted, Passes};
+    ghost use Rattle.hb_disk.specs.declared.event.Change.TheVariants.{Tried, Synced};
+
     /// These bytes, before any event.
     pub(crate) fn new(alloc: Global, bytes: Vec<u8>) -> History
         ensures bytes { result.bytes ≡ bytes }
@@ -71,12 +73,7 @@ impl History {
     /// A call passes that leaves this change on record.
     fn note(&mut self, call: u64, change: Change) -> Result<(), Refused>
         requires { LiesWithin change (length self.old.bytes.items) }
-        ensures done { OnOk result (Notes (λ c. c ≡ change) self.old.clock call
-            self.old.events.items self.new.events.items) }
-        ensures refused { OnErr result (self.new.events.items ≡ self.old.events.items) }
-        ensures bytes { self.new.bytes ≡ self.old.bytes }
-        ensures clock { self.new.clock ≡ next_count self.old.clock }
-        ensures why { IfErr result (NotNoted self.old.clock) }
+        ensures { Passes (λ d. d ≡ change) ⊥ self.old.bytes.items call false result self.old self.new }
     {
         let clock = self.clock;
         if clock == u64::MAX {
@@ -95,18 +92,14 @@ impl History {
     }
 
     /// A listed call passes, which leaves on record that it tried the range.
-    fn try_range(&mut self, call: u64, at: usize, len: usize) -> Refused
+    fn try_range(&mut self, call: u64, at: usize, len: usize) -> Result<(), Refused>
         requires { at + len ≤ length self.old.bytes.items }
-        ensures refused { LeavesTry
-            (Notes (IsTry at len) self.old.clock call self.old.events.items self.new.events.items)
-            (self.new.events.items ≡ self.old.events.items) result }
-        ensures bytes { self.new.bytes ≡ self.old.bytes }
-        ensures clock { self.new.clock ≡ next_count self.old.clock }
-        ensures why { Explains true self.old.clock result }
+        ensures { Passes (λ d. ⊥) (IsNoted (λ d. d ≡ Tried at len) call self.old self.new)
+            self.old.bytes.items call true result self.old self.new }
     {
         match self.note(call, Change::Tried { at, len }) {
-            Ok(()) => Refused::Listed,
-            Err(refused) => refused,
+            Ok(()) => Err(Refused::Listed),
+            Err(refused) => Err(refused),
         }
     }
 
@@ -121,18 +114,11 @@ impl History {
         len: usize,
     ) -> Result<(), Refused>
         requires { at + len ≤ length self.old.bytes.items }
-        ensures done { OnOk result (Notes (IsOver at len self.old.bytes.items) self.old.clock call
-            self.old.events.items self.new.events.items) }
-        ensures refused { IfErr result (LeavesTry
-            (Notes (IsTry at len) self.old.clock call self.old.events.items self.new.events.items)
-            (self.new.events.items ≡ self.old.events.items)) }
-        ensures bytes { self.new.bytes ≡ self.old.bytes }
-        ensures clock { self.new.clock ≡ next_count self.old.clock }
-        ensures why { IfErr result (Explains listed self.old.clock) }
-        ensures listed { IsTrue listed → IsErr result }
+        ensures { Passes (IsOver at len self.old.bytes.items) (IsNoted (λ d. d ≡ Tried at len) call self.old self.new)
+            self.old.bytes.items call listed result self.old self.new }
     {
         if listed {
-            return Err(self.try_range(call, at, len));
+            return self.try_range(call, at, len);
         }
         match self.bytes[at..at + len].to_vec(alloc) {
             Ok(before) => self.note(call, Change::Wrote { at, before }),
@@ -173,14 +159,9 @@ impl History {
         ensures writes { (reads before after : ℕ) → Counts (IsErr result) before after → Writes at piece.now result
             (disk_after self.old.bytes.items (reverse self.old.events.items) self.old.clock reads before)
             (disk_after self.new.bytes.items (reverse self.new.events.items) self.new.clock reads after) }
-        ensures done { OnOk result (Notes (IsOver at (length piece.now) self.old.bytes.items) self.old.clock call
-            self.old.events.items self.new.events.items) }
-        ensures refused { IfErr result (LeavesTry
-            (Notes (IsTry at (length piece.now)) self.old.clock call self.old.events.items self.new.events.items)
-            (self.new.events.items ≡ self.old.events.items)) }
-        ensures same { OnErr result (self.new.bytes.items ≡ self.old.bytes.items) }
-        ensures why { IfErr result (Explains listed self.old.clock) }
-        ensures listed { IsTrue listed → IsErr result }
+        ensures passes { Passes (IsOver at (length piece.now) self.old.bytes.items)
+            (IsNoted (λ d. d ≡ Tried at (length piece.now)) call self.old self.new)
+            (overwritten self.old.bytes.items at piece.now) call listed result self.old self.new }
     {
         self.keep(alloc, call, listed, at, piece.len())?;
         self.put(at, piece);
@@ -200,14 +181,9 @@ impl History {
         ensures writes { (reads before after : ℕ) → Counts (IsErr result) before after → Writes at (replicate len 0) result
             (disk_after self.old.bytes.items (reverse self.old.events.items) self.old.clock reads before)
             (disk_after self.new.bytes.items (reverse self.new.events.items) self.new.clock reads after) }
-        ensures done { OnOk result (Notes (IsOver at len self.old.bytes.items) self.old.clock call
-            self.old.events.items self.new.events.items) }
-        ensures refused { IfErr result (LeavesTry
-            (Notes (IsTry at len) self.old.clock call self.old.events.items self.new.events.items)
-            (self.new.events.items ≡ self.old.events.items)) }
-        ensures same { OnErr result (self.new.bytes.items ≡ self.old.bytes.items) }
-        ensures why { IfErr result (Explains listed self.old.clock) }
-        ensures listed { IsTrue listed → IsErr result }
+        ensures passes { Passes (IsOver at len self.old.bytes.items)
+            (IsNoted (λ d. d ≡ Tried at len) call self.old self.new)
+            (overwritten self.old.bytes.items at (replicate len 0)) call listed result self.old self.new }
     {
         self.keep(alloc, call, listed, at, len)?;
         self.clear(at, len);
@@ -219,12 +195,8 @@ impl History {
         ensures syncs { (reads before after : ℕ) → Counts (IsErr result) before after → Syncs result
             (disk_after self.old.bytes.items (reverse self.old.events.items) self.old.clock reads before)
             (disk_after self.new.bytes.items (reverse self.new.events.items) self.new.clock reads after) }
-        ensures done { OnOk result (Notes IsSync self.old.clock call self.old.events.items self.new.events.items) }
-        ensures refused { IfErr result (LeavesTry (self.new.events.items ≡ self.old.events.items)
-            (self.new.events.items ≡ self.old.events.items)) }
-        ensures same { self.new.bytes.items ≡ self.old.bytes.items }
-        ensures why { IfErr result (Explains listed self.old.clock) }
-        ensures listed { IsTrue listed → IsErr result }
+        ensures passes { Passes (λ d. d ≡ Synced) (self.new.events.items ≡ self.old.events.items)
+            self.old.bytes.items call listed result self.old self.new }
     {
         if listed {
             return Err(self.miss(Refused::Listed));

@@ -121,7 +121,8 @@ fn answer(done: Result<(), Refused>, faults: &mut u64, starved: &mut u64) -> Res
 
 impl Device for MemDisk {
     ghost use Rattle.hb_disk.specs.MemDisk.{bytes_of, mem_disk_seen, ReadExactly, CalledExactly, HasSameRecord, Records};
-    ghost use Rattle.hb_disk.specs.NotedCalls.{IsOver, IsTry, IsSync};
+    ghost use Rattle.hb_disk.specs.NotedCalls.{IsOver};
+    ghost use Rattle.hb_disk.specs.declared.event.Change.TheVariants.{Tried, Synced};
 
     ghost model = { λ d. disk_after d.history.bytes.items (reverse d.history.events.items) d.history.clock
         d.read_faults d.write_faults };
@@ -149,7 +150,7 @@ impl Device for MemDisk {
     fn write(&mut self, at: u64, from: &[u8]) -> Result<(), Failed>
         requires { at + length from.now ≤ (mem_disk_seen self.old).size }
         ensures writes { Writes at from.now result (mem_disk_seen self.old) (mem_disk_seen self.new) }
-        ensures exact { CalledExactly (Records (IsTry at (length from.now)) self.old self.new) result self.old self.new }
+        ensures exact { CalledExactly (Records (λ d. d ≡ Tried at (length from.now)) self.old self.new) result self.old self.new }
         ensures recorded { OnOk result (Records (IsOver at (length from.now) (bytes_of self.old)) self.old self.new) }
     {
         let listed = is_listed(&self.failing, self.calls);
@@ -163,7 +164,7 @@ impl Device for MemDisk {
     fn zero(&mut self, at: u64, len: u64) -> Result<(), Failed>
         requires { at + len ≤ (mem_disk_seen self.old).size }
         ensures writes { Writes at (replicate len 0) result (mem_disk_seen self.old) (mem_disk_seen self.new) }
-        ensures exact { CalledExactly (Records (IsTry at len) self.old self.new) result self.old self.new }
+        ensures exact { CalledExactly (Records (λ d. d ≡ Tried at len) self.old self.new) result self.old self.new }
         ensures recorded { OnOk result (Records (IsOver at len (bytes_of self.old)) self.old self.new) }
     {
         let listed = is_listed(&self.failing, self.calls);
@@ -177,7 +178,7 @@ impl Device for MemDisk {
     fn sync(&mut self) -> Result<(), Failed>
         ensures syncs { Syncs result (mem_disk_seen self.old) (mem_disk_seen self.new) }
         ensures exact { CalledExactly (HasSameRecord self.old self.new) result self.old self.new }
-        ensures recorded { OnOk result (Records IsSync self.old self.new) }
+        ensures recorded { OnOk result (Records (λ d. d ≡ Synced) self.old self.new) }
     {
         let listed = is_listed(&self.failing, self.calls);
         let done = self.history.sync(self.calls, listed);

@@ -30,7 +30,8 @@ fn rot(inner: &mut MemDisk, before: u64, at: u64, byte: u8)
 impl Device for RotDisk {
     ghost use Rattle.hb_disk.specs.RotDisk.{hidden, AfterRot};
     ghost use Rattle.hb_disk.specs.MemDisk.{bytes_of, HasSameRecord, Records};
-    ghost use Rattle.hb_disk.specs.NotedCalls.{IsOver, IsTry, IsSync};
+    ghost use Rattle.hb_disk.specs.NotedCalls.{IsOver};
+    ghost use Rattle.hb_disk.specs.declared.event.Change.TheVariants.{Tried, Synced};
 
     ghost model = { λ d. untold_of (length d.inner.history.bytes.items) d.inner.read_faults d.inner.write_faults };
 
@@ -52,7 +53,7 @@ impl Device for RotDisk {
         requires { at + length from.now ≤ (hidden self.old).size }
         ensures writes { Writes at from.now result (hidden self.old) (hidden self.new) }
         ensures exact { AfterRot self.old (λ found.
-            CalledExactly (Records (IsTry at (length from.now)) found self.new.inner) result found self.new.inner
+            CalledExactly (Records (λ d. d ≡ Tried at (length from.now)) found self.new.inner) result found self.new.inner
             × OnOk result (Records (IsOver at (length from.now) (bytes_of found)) found self.new.inner)
             × Writes at from.now result (mem_disk_seen found) (mem_disk_seen self.new.inner)) }
     {
@@ -64,7 +65,7 @@ impl Device for RotDisk {
         requires { at + len ≤ (hidden self.old).size }
         ensures writes { Writes at (replicate len 0) result (hidden self.old) (hidden self.new) }
         ensures exact { AfterRot self.old (λ found.
-            CalledExactly (Records (IsTry at len) found self.new.inner) result found self.new.inner
+            CalledExactly (Records (λ d. d ≡ Tried at len) found self.new.inner) result found self.new.inner
             × OnOk result (Records (IsOver at len (bytes_of found)) found self.new.inner)
             × Writes at (replicate len 0) result (mem_disk_seen found) (mem_disk_seen self.new.inner)) }
     {
@@ -76,7 +77,7 @@ impl Device for RotDisk {
         ensures syncs { Syncs result (hidden self.old) (hidden self.new) }
         ensures exact { AfterRot self.old (λ found.
             CalledExactly (HasSameRecord found self.new.inner) result found self.new.inner
-            × OnOk result (Records IsSync found self.new.inner)
+            × OnOk result (Records (λ d. d ≡ Synced) found self.new.inner)
             × Syncs result (mem_disk_seen found) (mem_disk_seen self.new.inner)) }
     {
         rot(&mut self.inner, self.before, self.at, self.byte);

@@ -1,5 +1,5 @@
 -- What the clearing of a hidden body leaves.
-use Rattle.std.proofs.Common.{◌≡◌, ◌≢◌, ◌⊎◌, inl, inr, ℕ, ◌+◌, ◌*◌, ◌%◌, ◌≤◌, List, length, take, drop, get_or, replicate, Option, Some, None, IfSome, Result, Ok, Bool, true, false, sym, ap, ◌∙◌, subst, refl, arith}
+use Rattle.std.proofs.Common.{◌≡◌, ◌≢◌, ◌⊎◌, inl, inr, ℕ, ◌+◌, ◌*◌, ◌%◌, ◌≤◌, List, length, take, drop, get_or, replicate, Option, Some, None, IfSome, Result, Ok, sym, ap, ◌∙◌, subst, refl, arith}
 use Rattle.hb_space.specs.declared.form.TheConstants.{PAGE}
 use Rattle.hb_disk.specs.Model.{DiskModel, IsDisk, overwritten, Torn}
 use Rattle.hb_disk.specs.Calls.{Writes, Syncs, Leaves, Becomes, IsSynced, Apart, OnlyReads, open_gate}
@@ -15,17 +15,19 @@ use Rattle.hb_disk.proofs.Facts.SyncedLaws.{part_of}
 use Rattle.hb_layout.specs.declared.meta.Meta.{Meta}
 use Rattle.hb_layout.specs.Offsets.{slot_offset}
 use Rattle.hb_super.specs.Superblocks.{IsLegal, IsNewest, body_bytes, next_turn}
-use Rattle.hb_super.specs.Moments.{HidesNoOther}
-use Rattle.hb_super.specs.Hidden.{DifferIs, OtherIs, HidesIs, ClearLeaves}
+use Rattle.hb_super.specs.Moments.{NoOther, HidesNoOther}
+use Rattle.hb_super.specs.Hidden.{IsOther, HidesOther, ClearLeaves}
 use Rattle.hb_super.proofs.Supers.{gate_at, body_at, same_place, other_parity}
 use Rattle.hb_super.proofs.Bodies.{one_body}
 use Rattle.hb_super.proofs.Writes.{place_fits, places_apart, next_apart}
 
--- whether it is another body, where it says this
-pub other_from : (differs : Bool) (turn : ℕ) (said meta : Meta) (gate : ℕ) (body : List ℕ) → DifferIs differs said meta → gate ≢ open_gate → IsLegal turn said → body ≡ body_bytes turn said
-    → OtherIs differs turn meta gate body
-other_from true turn said meta gate body differ closed legal is = record { said = said; closed = closed; legal = legal; body_is = is; other = differ }
-other_from false turn said meta gate body same closed legal is = λ _ m m_legal m_is. one_body turn m said m_legal legal (sym m_is ∙ is) ∙ same
+-- where a body says this, and this is another or the same
+module _ (turn : ℕ) (said meta : Meta) (gate : ℕ) (body : List ℕ) (legal : IsLegal turn said) (is : body ≡ body_bytes turn said) where
+  pub other_from : gate ≢ open_gate → said ≢ meta → IsOther turn meta gate body
+  other_from closed differ = record { said = said; closed = closed; legal = legal; body_is = is; other = differ }
+
+  pub same_from : said ≡ meta → NoOther turn meta gate body
+  same_from same = λ _ m m_legal m_is. one_body turn m said m_legal legal (sym m_is ∙ is) ∙ same
 
 -- zeros are no body
 pub zeros_none : (bytes : List ℕ) (turn : ℕ) (meta : Meta) → 8192 ≤ length bytes → HidesNoOther (overwritten bytes (slot_offset turn + 1) (replicate 40 0)) turn meta
@@ -143,15 +145,16 @@ module _ (d one : DiskModel) (is_disk : IsDisk d) (reads : OnlyReads d one) (tur
   reads_newest old said = if_value d.told (λ b. IsNewest b old said → IfSome one.told (λ c. IsNewest c old said)) (λ b told newest.
       of_value one.told (λ c. IsNewest c old said) b (reads.stays.told ∙ told) newest)
 
-  pub reads_hidden : (meta : Meta) (hides : Bool) → hides ≡ false → IfSome d.told (λ b. HidesIs hides b turn meta) → IfSome one.told (λ b. HidesNoOther b turn meta)
-  reads_hidden meta hides none is = if_value one.told (λ b. HidesNoOther b turn meta) (λ b told.
-      subst (λ (h : Bool). HidesIs h b turn meta) none (at_value d.told (λ b. HidesIs hides b turn meta) b (sym reads.stays.told ∙ told) is))
+  pub reads_hidden : (meta : Meta) → IfSome d.told (λ b. HidesNoOther b turn meta) → IfSome one.told (λ b. HidesNoOther b turn meta)
+  reads_hidden meta is = if_value one.told (λ b. HidesNoOther b turn meta) (λ b told.
+      at_value d.told (λ b. HidesNoOther b turn meta) b (sym reads.stays.told ∙ told) is)
 
--- what a place hides is what the bytes that were read of it do
-pub hides_read : (hides : Bool) (turn : ℕ) (meta : Meta) (b into : List ℕ) → into ≡ take 41 (drop (slot_offset turn) b) → OtherIs hides turn meta (get_or into 0 0) (drop 1 into) → HidesIs hides b turn meta
-hides_read hides turn meta b into read is =
-    subst (λ (gate : ℕ). OtherIs hides turn meta gate (take 40 (drop (slot_offset turn + 1) b))) (ap (λ (l : List ℕ). get_or l 0 0) read ∙ gate_at b (slot_offset turn))
-    (subst (λ (body : List ℕ). OtherIs hides turn meta (get_or into 0 0) body) (ap (λ (l : List ℕ). drop 1 l) read ∙ body_at b (slot_offset turn)) is)
+-- what is said of a place's gate and body is what the bytes that were read of it say
+pub place_read : (P : ℕ → List ℕ → Type 0) (turn : ℕ) (b into : List ℕ) → into ≡ take 41 (drop (slot_offset turn) b) → P (get_or into 0 0) (drop 1 into)
+    → P (get_or b (slot_offset turn) 0) (take 40 (drop (slot_offset turn + 1) b))
+place_read P turn b into read is =
+    subst (λ (gate : ℕ). P gate (take 40 (drop (slot_offset turn + 1) b))) (ap (λ (l : List ℕ). get_or l 0 0) read ∙ gate_at b (slot_offset turn))
+    (subst (λ (body : List ℕ). P (get_or into 0 0) body) (ap (λ (l : List ℕ). drop 1 l) read ∙ body_at b (slot_offset turn)) is)
 
 -- where nothing was found
 pub read_moments : (d one : DiskModel) → IsDisk d → OnlyReads d one → (turn old : ℕ) (said : Meta) → turn ≡ next_turn old → IsSynced d 0 8192
@@ -160,10 +163,9 @@ read_moments d one is_disk reads turn old said next synced = if_value d.told (λ
     read_left d one is_disk reads old said turn next synced b told newest)
 
 -- where another body was found, and zeroed
-module _ (d one new : DiskModel) (is_disk : IsDisk d) (reads : OnlyReads d one) (turn : ℕ) (meta : Meta) (hides : Bool) (found : hides ≡ true)
-    (is : IfSome d.told (λ b. HidesIs hides b turn meta)) where
-  other : (b : List ℕ) → d.told ≡ Some b → HidesIs true b turn meta
-  other b told = subst (λ (h : Bool). HidesIs h b turn meta) found (at_value d.told (λ b. HidesIs hides b turn meta) b told is)
+module _ (d one new : DiskModel) (is_disk : IsDisk d) (reads : OnlyReads d one) (turn : ℕ) (meta : Meta) (is : IfSome d.told (λ b. HidesOther b turn meta)) where
+  other : (b : List ℕ) → d.told ≡ Some b → HidesOther b turn meta
+  other b told = at_value d.told (λ b. HidesOther b turn meta) b told is
 
   pub cleared_nothing : IfSome d.told (λ b. HidesNoOther b turn meta → OnlyReads d new)
   cleared_nothing = if_value d.told (λ b. HidesNoOther b turn meta → OnlyReads d new) (λ b told none.

@@ -7,6 +7,10 @@ use Rattle.hb_layout.specs.Offsets.{slot_offset}
 use Rattle.hb_super.specs.Superblocks.{HasSuper, IsNewest, next_turn}
 use Rattle.hb_super.specs.Reading.{IsOf, StandsInPlace, NewestIs}
 
+-- what was read of a place are its first 41 bytes
+pub place_bytes : (turn at : ℕ) (b into : List ℕ) → at ≡ slot_offset turn → length into ≡ 41 → into ≡ take (length into) (drop at b) → into ≡ take 41 (drop (slot_offset turn) b)
+place_bytes turn at b into at_is long read = read ∙ ap (λ (n : ℕ). take n (drop at b)) long ∙ ap (λ (n : ℕ). take 41 (drop n b)) at_is
+
 -- the turn stands in the body
 pub turn_of : (bytes : List ℕ) (turn : ℕ) (meta : Meta) → HasSuper bytes turn meta → get_or (take 40 (drop (slot_offset turn + 1) bytes)) 9 0 ≡ turn
 turn_of bytes turn meta has = ap (λ (l : List ℕ). get_or l 9 0) has.body

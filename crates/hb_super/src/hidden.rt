@@ -1,5 +1,5 @@
 //! What stands behind a closed gate.
-ghost use Rattle.std.specs.Prelude.{◌≡◌, ◌≢◌, ◌⊎◌, ℕ, ◌+◌, ◌*◌, ◌≤◌, List, length, drop, get_or, replicate, IsTrue, IsErr, IsSome, IfSome, IfOk, OnOk, OnErr};
+ghost use Rattle.std.specs.Prelude.{◌≡◌, ◌≢◌, ◌⊎◌, ℕ, ◌+◌, ◌*◌, ◌≤◌, List, length, drop, get_or, replicate, false, IsTrue, IsErr, IsSome, IfSome, IfOk, OnOk, OnErr};
 ghost use Rattle.hb_space.specs.declared.form.TheConstants.{PAGE};
 ghost use Rattle.hb_disk.specs.Model.{Torn, overwritten};
 ghost use Rattle.hb_disk.specs.Calls.{Leaves, IsSynced, ReadsOnly, OnlyReads, open_gate};
@@ -7,8 +7,8 @@ ghost use Rattle.hb_disk.specs.Runs.{WritesThrough};
 ghost use Rattle.hb_layout.specs.declared.meta.Meta.{Meta as Said};
 ghost use Rattle.hb_layout.specs.Offsets.{slot_offset};
 ghost use Rattle.hb_super.specs.Superblocks.{IsLegal, IsNewest, next_turn};
-ghost use Rattle.hb_super.specs.Moments.{HidesNoOther};
-ghost use Rattle.hb_super.specs.Hidden.{SaysOf, DifferIs, OtherIs, HidesIs, Clears, ClearLeaves};
+ghost use Rattle.hb_super.specs.Moments.{NoOther, HidesNoOther};
+ghost use Rattle.hb_super.specs.Hidden.{SaysOf, IsOther, HidesOther, Clears, ClearLeaves};
 
 use crate::body::{BODY, body_of, fields_of};
 use hb_disk::{Device, DiskFault, OPEN};
@@ -31,7 +31,8 @@ fn said_in(body: &[u8], turn: u8) -> Option<Meta>
 
 /// Whether two say something else.
 fn differ(one: &Meta, other: &Meta) -> bool
-    ensures { DifferIs result one.now other.now }
+    ensures other { IsTrue result → one.now ≢ other.now }
+    ensures same { result ≡ false → one.now ≡ other.now }
 {
     *one != *other
 }
@@ -40,7 +41,8 @@ fn differ(one: &Meta, other: &Meta) -> bool
 fn is_other(bytes: &[u8], turn: u8, meta: &Meta) -> bool
     requires long { length bytes.now ≡ 41 }
     requires turn { turn ≤ 3 }
-    ensures { OtherIs result turn meta.now (get_or bytes.now 0 0) (drop 1 bytes.now) }
+    ensures other { IsTrue result → IsOther turn meta.now (get_or bytes.now 0 0) (drop 1 bytes.now) }
+    ensures none { result ≡ false → NoOther turn meta.now (get_or bytes.now 0 0) (drop 1 bytes.now) }
 {
     match said_in(&bytes[1..], turn) {
         Some(said) => bytes[0] != OPEN && differ(&said, meta),
@@ -52,7 +54,10 @@ fn is_other(bytes: &[u8], turn: u8, meta: &Meta) -> bool
 fn hides_other<D: Device>(disk: &mut D, turn: u8, meta: &Meta) -> Result<bool, Failed>
     requires room { 2 * PAGE ≤ (D.model disk.old).size }
     requires turn { turn ≤ 3 }
-    ensures hides { IfOk result (λ hides. IfSome (D.model disk.old).told (λ b. HidesIs hides b turn meta.now)) }
+    ensures other { IfOk result (λ hides. IsTrue hides →
+        IfSome (D.model disk.old).told (λ b. HidesOther b turn meta.now)) }
+    ensures none { IfOk result (λ hides. hides ≡ false →
+        IfSome (D.model disk.old).told (λ b. HidesNoOther b turn meta.now)) }
     ensures only { ReadsOnly (IsErr result) (D.model disk.old) (D.model disk.new) }
 {
     let mut bytes = [0; 1 + BODY];

@@ -26,8 +26,8 @@ Rewrites-none r at n k d is_disk good = record {
 }
 
 -- a write within the range, and a sync
-pub Rewrites-write : {T E : Type 0} (r : Result T E) (from : ℕ) (piece : List ℕ) (at n : ℕ) (old new : DiskModel) → IsDisk old → IsDisk new → from + length piece ≤ old.size
-    → at ≤ from → from + length piece ≤ at + n → Writes from piece r old new → Rewrites (Torn at n) 1 r old new
+pub Rewrites-write : {T E : Type 0} (r : Result T E) (from : ℕ) (piece : List ℕ) (at n : ℕ) (old new : DiskModel) → IsDisk old → IsDisk new
+    → from + length piece ≤ old.size → at ≤ from → from + length piece ≤ at + n → Writes from piece r old new → Rewrites (Torn at n) 1 r old new
 Rewrites-write r from piece at n old new is_old is_new fits low high writes = record {
   became = Becomes-torn_write r from piece at n old new is_old is_new fits low high writes;
   later = writes.ticks.later;

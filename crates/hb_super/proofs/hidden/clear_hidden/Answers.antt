@@ -23,56 +23,56 @@ returns-in_err-zero_body-clause-nothing g c =
     let d = g.D.Device.model c.args.disk.now in
     let one = g.D.Device.model c.hides_other.new.disk in
     let new = g.D.Device.model c.zero_body.new.disk in
-    cleared_nothing d one new (g.met.D.Device.is_disk c.args.disk.now) (OnlyReads-read _ (g.D.Device.model c.args.disk.now) (g.D.Device.model c.hides_other.new.disk) c.hides_other.ensures.only) c.args.turn c.args.meta.now c.in_ok-hides_other.field-0 c.if-not-branch.false c.in_ok-hides_other.ensures.hides
+    cleared_nothing d one new (g.met.D.Device.is_disk c.args.disk.now) (OnlyReads-read _ (g.D.Device.model c.args.disk.now) (g.D.Device.model c.hides_other.new.disk) c.hides_other.ensures.only) c.args.turn c.args.meta.now (c.in_ok-hides_other.ensures.other c.if-not-branch.false)
 
 pub returns-in_err-zero_body-clause-closed : goal.returns-in_err-zero_body-clause-closed
 returns-in_err-zero_body-clause-closed g c =
     let d = g.D.Device.model c.args.disk.now in
     let one = g.D.Device.model c.hides_other.new.disk in
     let new = g.D.Device.model c.zero_body.new.disk in
-    cleared_closed d one new (g.met.D.Device.is_disk c.args.disk.now) (OnlyReads-read _ (g.D.Device.model c.args.disk.now) (g.D.Device.model c.hides_other.new.disk) c.hides_other.ensures.only) c.args.turn c.args.meta.now c.in_ok-hides_other.field-0 c.if-not-branch.false c.in_ok-hides_other.ensures.hides
+    cleared_closed d one new (g.met.D.Device.is_disk c.args.disk.now) (OnlyReads-read _ (g.D.Device.model c.args.disk.now) (g.D.Device.model c.hides_other.new.disk) c.hides_other.ensures.only) c.args.turn c.args.meta.now (c.in_ok-hides_other.ensures.other c.if-not-branch.false)
 
 pub returns-in_err-zero_body-clause-moments : goal.returns-in_err-zero_body-clause-moments
 returns-in_err-zero_body-clause-moments g c =
     let d = g.D.Device.model c.args.disk.now in
     let one = g.D.Device.model c.hides_other.new.disk in
     let new = g.D.Device.model c.zero_body.new.disk in
-    cleared_moments d one new (g.met.D.Device.is_disk c.args.disk.now) (OnlyReads-read _ (g.D.Device.model c.args.disk.now) (g.D.Device.model c.hides_other.new.disk) c.hides_other.ensures.only) c.args.turn c.args.meta.now c.in_ok-hides_other.field-0 c.if-not-branch.false c.in_ok-hides_other.ensures.hides c.zero_body.ensures.moments
+    cleared_moments d one new (g.met.D.Device.is_disk c.args.disk.now) (OnlyReads-read _ (g.D.Device.model c.args.disk.now) (g.D.Device.model c.hides_other.new.disk) c.hides_other.ensures.only) c.args.turn c.args.meta.now (c.in_ok-hides_other.ensures.other c.if-not-branch.false) c.zero_body.ensures.moments
 
 pub returns-in_err-zero_body-clause-newest : goal.returns-in_err-zero_body-clause-newest
 returns-in_err-zero_body-clause-newest g c =
     let d = g.D.Device.model c.args.disk.now in
     let one = g.D.Device.model c.hides_other.new.disk in
     let new = g.D.Device.model c.zero_body.new.disk in
-    cleared_newest d one new (g.met.D.Device.is_disk c.args.disk.now) (OnlyReads-read _ (g.D.Device.model c.args.disk.now) (g.D.Device.model c.hides_other.new.disk) c.hides_other.ensures.only) c.args.turn c.args.meta.now c.in_ok-hides_other.field-0 c.if-not-branch.false c.in_ok-hides_other.ensures.hides c.zero_body.ensures.wrote.run.became
+    cleared_newest d one new (g.met.D.Device.is_disk c.args.disk.now) (OnlyReads-read _ (g.D.Device.model c.args.disk.now) (g.D.Device.model c.hides_other.new.disk) c.hides_other.ensures.only) c.args.turn c.args.meta.now (c.in_ok-hides_other.ensures.other c.if-not-branch.false) c.zero_body.ensures.wrote.run.became
 
 pub returns-clause-nothing : goal.returns-clause-nothing
 returns-clause-nothing g c =
     let d = g.D.Device.model c.args.disk.now in
     let one = g.D.Device.model c.hides_other.new.disk in
     let new = g.D.Device.model c.zero_body.new.disk in
-    cleared_nothing d one new (g.met.D.Device.is_disk c.args.disk.now) (OnlyReads-read _ (g.D.Device.model c.args.disk.now) (g.D.Device.model c.hides_other.new.disk) c.hides_other.ensures.only) c.args.turn c.args.meta.now c.in_ok-hides_other.field-0 c.if-not-branch.false c.in_ok-hides_other.ensures.hides
+    cleared_nothing d one new (g.met.D.Device.is_disk c.args.disk.now) (OnlyReads-read _ (g.D.Device.model c.args.disk.now) (g.D.Device.model c.hides_other.new.disk) c.hides_other.ensures.only) c.args.turn c.args.meta.now (c.in_ok-hides_other.ensures.other c.if-not-branch.false)
 
 pub returns-clause-closed : goal.returns-clause-closed
 returns-clause-closed g c =
     let d = g.D.Device.model c.args.disk.now in
     let one = g.D.Device.model c.hides_other.new.disk in
     let new = g.D.Device.model c.zero_body.new.disk in
-    cleared_closed d one new (g.met.D.Device.is_disk c.args.disk.now) (OnlyReads-read _ (g.D.Device.model c.args.disk.now) (g.D.Device.model c.hides_other.new.disk) c.hides_other.ensures.only) c.args.turn c.args.meta.now c.in_ok-hides_other.field-0 c.if-not-branch.false c.in_ok-hides_other.ensures.hides
+    cleared_closed d one new (g.met.D.Device.is_disk c.args.disk.now) (OnlyReads-read _ (g.D.Device.model c.args.disk.now) (g.D.Device.model c.hides_other.new.disk) c.hides_other.ensures.only) c.args.turn c.args.meta.now (c.in_ok-hides_other.ensures.other c.if-not-branch.false)
 
 pub returns-clause-moments : goal.returns-clause-moments
 returns-clause-moments g c =
     let d = g.D.Device.model c.args.disk.now in
     let one = g.D.Device.model c.hides_other.new.disk in
     let new = g.D.Device.model c.zero_body.new.disk in
-    cleared_moments d one new (g.met.D.Device.is_disk c.args.disk.now) (OnlyReads-read _ (g.D.Device.model c.args.disk.now) (g.D.Device.model c.hides_other.new.disk) c.hides_other.ensures.only) c.args.turn c.args.meta.now c.in_ok-hides_other.field-0 c.if-not-branch.false c.in_ok-hides_other.ensures.hides c.zero_body.ensures.moments
+    cleared_moments d one new (g.met.D.Device.is_disk c.args.disk.now) (OnlyReads-read _ (g.D.Device.model c.args.disk.now) (g.D.Device.model c.hides_other.new.disk) c.hides_other.ensures.only) c.args.turn c.args.meta.now (c.in_ok-hides_other.ensures.other c.if-not-branch.false) c.zero_body.ensures.moments
 
 pub returns-clause-newest : goal.returns-clause-newest
 returns-clause-newest g c =
     let d = g.D.Device.model c.args.disk.now in
     let one = g.D.Device.model c.hides_other.new.disk in
     let new = g.D.Device.model c.zero_body.new.disk in
-    cleared_newest d one new (g.met.D.Device.is_disk c.args.disk.now) (OnlyReads-read _ (g.D.Device.model c.args.disk.now) (g.D.Device.model c.hides_other.new.disk) c.hides_other.ensures.only) c.args.turn c.args.meta.now c.in_ok-hides_other.field-0 c.if-not-branch.false c.in_ok-hides_other.ensures.hides c.zero_body.ensures.wrote.run.became
+    cleared_newest d one new (g.met.D.Device.is_disk c.args.disk.now) (OnlyReads-read _ (g.D.Device.model c.args.disk.now) (g.D.Device.model c.hides_other.new.disk) c.hides_other.ensures.only) c.args.turn c.args.meta.now (c.in_ok-hides_other.ensures.other c.if-not-branch.false) c.zero_body.ensures.wrote.run.became
 
 pub returns-clause-hidden : goal.returns-clause-hidden
 returns-clause-hidden g c =
@@ -100,7 +100,7 @@ returns-then-not-branch-clause-newest g c = λ old said next. reads_newest (g.D.
 
 pub returns-then-not-branch-clause-hidden : goal.returns-then-not-branch-clause-hidden
 returns-then-not-branch-clause-hidden g c =
-    reads_hidden (g.D.Device.model c.args.disk.now) (g.D.Device.model c.hides_other.new.disk) (g.met.D.Device.is_disk c.args.disk.now) (OnlyReads-read _ (g.D.Device.model c.args.disk.now) (g.D.Device.model c.hides_other.new.disk) c.hides_other.ensures.only) c.args.turn c.args.meta.now c.in_ok-hides_other.field-0 c.if-not-branch.true c.in_ok-hides_other.ensures.hides
+    reads_hidden (g.D.Device.model c.args.disk.now) (g.D.Device.model c.hides_other.new.disk) (g.met.D.Device.is_disk c.args.disk.now) (OnlyReads-read _ (g.D.Device.model c.args.disk.now) (g.D.Device.model c.hides_other.new.disk) c.hides_other.ensures.only) c.args.turn c.args.meta.now (c.in_ok-hides_other.ensures.none c.if-not-branch.true)
 
 pub returns-in_err-hides_other-clause-did : goal.returns-in_err-hides_other-clause-did
 returns-in_err-hides_other-clause-did g c =

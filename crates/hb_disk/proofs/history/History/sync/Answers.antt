@@ -1,5 +1,6 @@
-use Rattle.std.proofs.Common.{ap}
-use Rattle.hb_disk.proofs.Histories.{sync_noted}
+use Rattle.std.proofs.Common.{◌≡◌}
+use Rattle.hb_disk.specs.declared.event.Change.TheVariants.{Synced}
+use Rattle.hb_disk.proofs.Histories.{sync_noted, unmarked, Passes-noted}
 use Rattle.hb_disk.proofs.history.History.sync.Goals as goal
 
 pub returns-clause-syncs : goal.returns-clause-syncs
@@ -7,4 +8,10 @@ returns-clause-syncs c =
     let old = c.args.self.now in
     let new = c.note.new.self in
     sync_noted old.bytes.items old.events.items old.clock old.bytes_fit old.clock_fits c.args.call new.bytes.items new.events.items new.clock c.note.ensures.clock c.note.result
-    (ap (λ v. v.items) c.note.ensures.bytes) c.note.ensures.done c.note.ensures.refused
+    c.note.ensures.made c.note.ensures.same c.note.ensures.noted (unmarked c.note.result (new.events.items ≡ old.events.items) c.note.ensures.refused)
+
+pub returns-clause-passes : goal.returns-clause-passes
+returns-clause-passes c =
+    let old = c.args.self.now in
+    let new = c.note.new.self in
+    Passes-noted (λ d. d ≡ Synced) (λ d. d ≡ Synced) (new.events.items ≡ old.events.items) old.bytes.items c.args.call c.args.listed c.note.result old new (λ d is. is) c.if-listed.false c.note.ensures

@@ -1,10 +1,11 @@
-use Rattle.std.proofs.Common.{◌↔◌, ℕ, List, IsTrue, subst, refl}
+use Rattle.std.proofs.Common.{◌≡◌, ◌↔◌, ℕ, List, IsTrue, subst, refl}
 use Rattle.std.specs.List.{Contains}
 use Rattle.hb_disk.specs.Calls.{Syncs}
-use Rattle.hb_disk.specs.NotedCalls.{Notes, IsSync}
+use Rattle.hb_disk.specs.NotedCalls.{Notes}
 use Rattle.hb_disk.specs.MemDisk.{mem_disk_seen, HasSameRecord}
+use Rattle.hb_disk.specs.declared.event.Change.TheVariants.{Synced}
 use Rattle.hb_disk.specs.declared.mem_disk.MemDisk.{MemDisk}
-use Rattle.hb_disk.proofs.MemDisks.{told_syncs, counts_after, told_on_ok, called_exactly, on_err}
+use Rattle.hb_disk.proofs.MemDisks.{told_syncs, counts_after, told_on_ok, called_exactly}
 use Rattle.hb_disk.proofs.mem_disk.MemDiskDevice.sync.Goals as goal
 
 -- the disk as the call leaves it
@@ -30,12 +31,12 @@ returns-clause-syncs c = told_syncs c.sync-done.result c.answer.result (mem_disk
 pub returns-clause-exact : goal.returns-clause-exact
 returns-clause-exact c =
     called_exactly c.args.self.now (new_of c) c.is_listed-listed.result (subst (λ (l : List ℕ). IsTrue c.is_listed-listed.result ↔ Contains l c.args.self.now.calls) c.deref.ensures.value c.is_listed-listed.ensures) c.saturating_add-self.ensures refl refl (HasSameRecord c.args.self.now (new_of c))
-    c.sync-done.result c.answer.result c.answer.ensures.alike c.sync-done.ensures.listed (λ at_end. ((by_history c).ticks.ended refl at_end).0)
-    c.sync-done.ensures.why c.sync-done.ensures.refused (on_err c.sync-done.result _ c.sync-done.ensures.same) c.answer.ensures.faults c.answer.ensures.starved
+    c.sync-done.result c.answer.result c.answer.ensures.alike c.sync-done.ensures.passes.fails (λ at_end. ((by_history c).ticks.ended refl at_end).0)
+    c.sync-done.ensures.passes.why c.sync-done.ensures.passes.refused c.sync-done.ensures.passes.same c.answer.ensures.faults c.answer.ensures.starved
 
 pub returns-clause-recorded : goal.returns-clause-recorded
 returns-clause-recorded c =
     let old = c.args.self.now in
     let new = c.sync-done.new.self in
-    told_on_ok c.sync-done.result c.answer.result (Notes IsSync old.history.clock old.calls old.history.events.items new.events.items)
-    c.answer.ensures.alike c.sync-done.ensures.done
+    told_on_ok c.sync-done.result c.answer.result (Notes (λ d. d ≡ Synced) old.history.clock old.calls old.history.events.items new.events.items)
+    c.answer.ensures.alike c.sync-done.ensures.passes.noted
