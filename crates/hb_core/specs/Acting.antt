@@ -26,7 +26,7 @@ use Rattle.hb_core.specs.Rows.{IsAtHand, Row}
 use Rattle.hb_point.specs.SessionRows.{WantsBoxes}
 use Rattle.hb_poster.specs.PosterRows.{MayGrow}
 use Rattle.hb_store.specs.States.{StoreState, in_memory}
-use Rattle.hb_store.specs.Stops.{IsNoPage}
+use Rattle.hb_store.specs.Fetching.{IsNoPage}
 use Rattle.hb_terms.specs.Plans.{IsPlan}
 
 -- an operation takes a number for the page that it makes

@@ -13,7 +13,7 @@ use Rattle.hb_latch.specs.Tables.{mode_at}
 use Rattle.hb_ops.specs.Files.{page_of}
 use Rattle.hb_store.specs.Calls.{KeepsAllButPages}
 use Rattle.hb_store.specs.States.{IsGoodPage, StoreState, in_memory, is_imaged}
-use Rattle.hb_store.specs.Stops.{IsNoPage}
+use Rattle.hb_store.specs.Fetching.{IsNoPage}
 
 -- The pages that stay in memory whatever comes: those that somebody holds, and those that were imaged or made in this turn, which
 -- read otherwise in their places than the file has them.

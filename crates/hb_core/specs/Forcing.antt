@@ -5,7 +5,7 @@ use Rattle.hb_core.specs.declared.outcomes.Outcome.{Outcome}
 use Rattle.hb_core.specs.declared.outcomes.Outcome.TheVariants as outcomes
 use Rattle.hb_core.specs.Machines.{Files, Machine, stopped_for, with_disk}
 use Rattle.hb_core.specs.Stages.{HasMoreToFlush, IsFlushedTo}
-use Rattle.hb_store.specs.Calls.{durable_after, forced_state, later_after, stopped_state}
+use Rattle.hb_store.specs.Forced.{durable_after, forced_state, later_after, stopped_state}
 use Rattle.hb_store.specs.States.{StoreState, in_memory}
 use Rattle.hb_wal.specs.Forces.{calls_of_force}
 

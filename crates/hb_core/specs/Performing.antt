@@ -17,7 +17,7 @@ use Rattle.hb_core.specs.Machines.{Files, Machine, if_some, live_here, with_acti
 use Rattle.hb_latch.specs.Tables.{LatchTable, mode_at}
 use Rattle.hb_log_codec.specs.Groups.{group_bytes}
 use Rattle.hb_store.specs.Calls.{Commits, IsAllowedHere, with_op}
-use Rattle.hb_store.specs.Images.{group_here}
+use Rattle.hb_store.specs.Making.{group_here}
 use Rattle.hb_store.specs.States.{StoreState}
 
 -- the latches of an activity, where the page that a walk holds tells the mode; and the mode in which these hold a page

@@ -6,10 +6,11 @@ use Rattle.hb_wal.specs.Log.{LogState, Waiting, left_waiting}
 use Rattle.hb_ops.specs.declared.operations.Op.{Op}
 use Rattle.hb_ops.specs.Files.{FileState}
 use Rattle.hb_ops.specs.Operations.{IsLicensed}
-use Rattle.hb_store.specs.Calls.{Fetched, forced_state}
+use Rattle.hb_store.specs.Calls.{Fetched}
 use Rattle.hb_store.specs.States.{StoreState}
 use Rattle.hb_store.specs.Keeps.{StoreKeeps, last_of}
 use Rattle.hb_store.specs.NextPage.{MayFetch}
+use Rattle.hb_store.specs.Forced.{forced_state}
 
 pub licensed : (size reads writes : ℕ) (st : StoreState) (op : Op) (durable : FileState) (later : List FileState) → StoreKeeps (untold_of size reads writes) st durable later → IsLicensed (last_of durable later) op
 licensed size reads writes st op durable later keeps = let told : false ≡ true = keeps.disk.told in absurd cc

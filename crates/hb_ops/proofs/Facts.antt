@@ -13,3 +13,5 @@ pub mod Finds
 pub mod Corners
 pub mod Contents
 pub mod Places
+pub mod AllowedOps
+pub mod FilePages

@@ -7,16 +7,13 @@ use Rattle.hb_layout.specs.declared.meta.Meta.{Meta}
 use Rattle.hb_wal.specs.Frames.{frames, frame_bytes, IsPayload, IsEnd, IsBadFrame}
 use Rattle.hb_wal.specs.Reading.{BeginsFrame}
 use Rattle.hb_log_codec.specs.Groups.{Logged, SpellsGroups}
-use Rattle.hb_store.specs.Payloads.{SpellAll}
-use Rattle.hb_store.proofs.Spellings.{OneList, length_number, same_fronts, same_number}
+use Rattle.hb_store.proofs.Facts.Spellings.{OneList}
 use Rattle.hb_store.specs.Replay.{Replayed, MayReplay, after_group, replay, untouched}
-use Rattle.hb_store.proofs.Facts.ReplayLaws.{MayReplay-front, replay-append}
-use Rattle.hb_store.specs.Opening.{HasBadGroup, IsBadPayload}
+use Rattle.hb_store.proofs.Facts.ReplayLaws.{MayReplay-front, replay-append, MayReplay-back}
+use Rattle.hb_store.specs.Opening.{HasBadGroup, IsBadPayload, SpellAll}
 use Rattle.hb_restart.specs.Refusals.{LogSays}
-
-may_back : (t : Replayed) (xs ys : List Logged) → MayReplay t (xs ++ ys) → MayReplay (replay t xs) ys
-may_back t [] ys may = may
-may_back t (x ∷ xs) ys may = may_back (after_group t x) xs ys may.1
+use Rattle.hb_lemmas.proofs.Numbers.{length_big_endian, same_number}
+use Rattle.hb_lemmas.proofs.Lists.{same_fronts}
 
 -- ---- where a frame begins
 
@@ -36,7 +33,7 @@ same_frame p q xs ys p_short q_short e =
 -- nothing begins at an end
 no_head_at_end : (n : ℕ) (xs rest : List ℕ) → IsEnd rest → rest ≡ open_gate ∷ big_endian 4 n ++ xs → ⊥
 no_head_at_end n xs [] end e = absurd (omega (arith, ap (λ (l : List ℕ). length l) e))
-no_head_at_end n xs (gate ∷ rest) (inl few) e = absurd (omega (arith, few, ap (λ (l : List ℕ). length l) e, length-append (big_endian 4 n) xs, length_number 4 n))
+no_head_at_end n xs (gate ∷ rest) (inl few) e = absurd (omega (arith, few, ap (λ (l : List ℕ). length l) e, length-append (big_endian 4 n) xs, length_big_endian 4 n))
 no_head_at_end n xs (gate ∷ rest) (inr closed) e = closed (ap (λ (l : List ℕ). get_or l 0 0) e)
 
 -- a whole frame isn't a bad one
@@ -83,7 +80,7 @@ module _ (once : OneList) (k : ℕ) where
 
   -- what is left to replay, from where the same groups lead
   may_rest : (t : Replayed) (front other behind groups : List Logged) → front ≡ other → groups ≡ front ++ behind → MayReplay t groups → MayReplay (replay t other) behind
-  may_rest t front other behind groups same parts may = subst (λ g. MayReplay (replay t g) behind) same (may_back t front behind (subst (MayReplay t) parts may))
+  may_rest t front other behind groups same parts may = subst (λ g. MayReplay (replay t g) behind) same (MayReplay-back t front behind (subst (MayReplay t) parts may))
 
   bad_rest : (t : Replayed) (front other behind groups : List Logged) (rest : List ℕ) → front ≡ other → groups ≡ front ++ behind → IsBadAt k (replay t groups) rest → IsBadAt k (replay (replay t other) behind) rest
   bad_rest t front other behind groups rest same parts bad =

@@ -11,11 +11,9 @@ use Rattle.hb_ops.specs.Files.{FileState}
 use Rattle.hb_ops.specs.Operations.{change_of}
 use Rattle.hb_ops.specs.Sound.{IsSound}
 use Rattle.hb_log_codec.specs.Groups.{Logged}
-use Rattle.hb_store.specs.Payloads.{SpellAll}
-use Rattle.hb_store.proofs.Spellings.{OneList, same_spelled}
-use Rattle.hb_store.specs.ImageLaws.{OpensToOne, OpensWhole}
+use Rattle.hb_store.proofs.Facts.Spellings.{OneList, same_spelled}
 use Rattle.hb_layout.specs.Offsets.{file_size}
-use Rattle.hb_store.specs.Opening.{OpensBy, OpensTo, IsPageIn, Shows, log_bytes}
+use Rattle.hb_store.specs.Opening.{OpensBy, OpensTo, IsPageIn, Shows, log_bytes, SpellAll, OpensToOne, OpensWhole}
 use Rattle.hb_store.specs.Replay.{Replayed, untouched, replay, after_group}
 use Rattle.hb_sound.specs.Names.{SoundBreaksNone}
 use Rattle.hb_restart.specs.Refusals.{IsUnsound, GoodIsNotRefused, HasLayout, LogSays, LacksPage}

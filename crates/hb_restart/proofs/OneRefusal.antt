@@ -5,11 +5,9 @@ use Rattle.hb_super.specs.Superblocks.{IsNewest, HasNone}
 use Rattle.hb_layout.specs.declared.meta.Meta.{Meta}
 use Rattle.hb_ops.specs.Files.{FileState}
 use Rattle.hb_log_codec.specs.Groups.{Logged}
-use Rattle.hb_store.specs.Payloads.{SpellAll}
-use Rattle.hb_store.proofs.Spellings.{OneList, same_spelled}
-use Rattle.hb_store.specs.ImageLaws.{OpensToOne}
+use Rattle.hb_store.proofs.Facts.Spellings.{OneList, same_spelled}
 use Rattle.hb_layout.specs.Offsets.{file_size}
-use Rattle.hb_store.specs.Opening.{HasBadGroup, log_bytes}
+use Rattle.hb_store.specs.Opening.{HasBadGroup, log_bytes, SpellAll, OpensToOne}
 use Rattle.hb_store.specs.Replay.{untouched, replay}
 use Rattle.hb_sound.specs.Names.{NamesIn, OneIsNamed}
 use Rattle.hb_sound.specs.Walks.{IsLeast}

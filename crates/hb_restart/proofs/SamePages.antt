@@ -10,9 +10,8 @@ use Rattle.hb_ops.specs.Files.{FileState}
 use Rattle.hb_super.specs.Superblocks.{IsNewest}
 use Rattle.hb_wal.specs.FrameLaws.{ReadsOneWay}
 use Rattle.hb_wal.specs.Frames.{HasFrames}
-use Rattle.hb_store.proofs.Spellings.{OneList, same_spelled}
-use Rattle.hb_store.specs.Opening.{log_bytes}
-use Rattle.hb_store.specs.Payloads.{SpellAll}
+use Rattle.hb_store.proofs.Facts.Spellings.{OneList, same_spelled}
+use Rattle.hb_store.specs.Opening.{log_bytes, SpellAll}
 use Rattle.hb_store.specs.Replay.{Replayed, untouched, replay}
 use Rattle.hb_restart.specs.Found.{IsFoundIn}
 use Rattle.hb_restart.specs.Renewing.{StillOpens}

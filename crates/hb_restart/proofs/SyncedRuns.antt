@@ -9,8 +9,7 @@ use Rattle.hb_super.specs.Superblocks.{next_turn}
 use Rattle.hb_frag.specs.declared.pages.Page.{Page}
 use Rattle.hb_layout.specs.declared.meta.Meta.{Meta}
 use Rattle.hb_ops.specs.Files.{FileState}
-use Rattle.hb_store.specs.Opening.{OpensTo, IsEven}
-use Rattle.hb_store.specs.ImageLaws.{OpensToOne}
+use Rattle.hb_store.specs.Opening.{OpensTo, IsEven, OpensToOne}
 use Rattle.hb_store.specs.Keeps.{IsFresh}
 use Rattle.hb_restart.specs.Found.{IsFoundIn}
 use Rattle.hb_restart.specs.Renewing.{StillOpens, IsHere}

@@ -13,7 +13,7 @@ use Rattle.hb_sound.specs.Marks.{HasMarks}
 use Rattle.hb_sound.specs.declared.pages.AuditStop.{AuditStop}
 use Rattle.hb_sound.specs.declared.pages.AuditStop.TheVariants as stops
 use Rattle.hb_store.specs.Opening.{HasBadGroup}
-use Rattle.hb_store.specs.Stops.{ReadsLog, IsTouched}
+use Rattle.hb_store.specs.LogReading.{ReadsLog, IsTouched}
 use Rattle.hb_store.specs.declared.touched.Touched.{Touched}
 use Rattle.hb_restart.specs.Refusals.{HasLayout}
 use Rattle.hb_restart.specs.Renewing.{StillOpens}

@@ -12,8 +12,7 @@ use Rattle.hb_ops.specs.Files.{FileState}
 use Rattle.hb_ops.specs.Sound.{IsSound}
 use Rattle.hb_sound.specs.Names.{NamesIn}
 use Rattle.hb_sound.specs.Walks.{IsLeast}
-use Rattle.hb_store.specs.Opening.{HasBadGroup, OpensTo, Shows, log_bytes, place_bytes}
-use Rattle.hb_store.specs.Payloads.{SpellAll}
+use Rattle.hb_store.specs.Opening.{HasBadGroup, OpensTo, Shows, log_bytes, place_bytes, SpellAll}
 use Rattle.hb_store.specs.Replay.{Replayed, untouched, replay, MayReplay}
 use Rattle.hb_restart.specs.declared.faults.OpenFault.{OpenFault}
 use Rattle.hb_restart.specs.declared.faults.OpenFault.TheVariants as faults

@@ -5,7 +5,7 @@ ghost use Rattle.hb_outside.specs.Streams.{Rose};
 ghost use Rattle.hb_disk.specs.Calls.{OnlyReads};
 ghost use Rattle.hb_super.specs.Superblocks.{IsLegal, IsNewest};
 ghost use Rattle.hb_layout.specs.Offsets.{file_size as bytes_of};
-ghost use Rattle.hb_store.specs.Stops.{ReadsLog, IsTouched};
+ghost use Rattle.hb_store.specs.LogReading.{ReadsLog, IsTouched};
 ghost use Rattle.hb_restart.specs.Found.{IsReadIn, IsWholeRead, FindsNone, LogRefuses, NamesNoSize};
 ghost use Rattle.hb_restart.specs.Refusals.{Refuses, IsShut};
 ghost use Rattle.hb_restart.specs.declared.faults.OpenFault.TheVariants.{DiskFault};

@@ -2,28 +2,20 @@
 use Rattle.std.proofs.Common.{◌≡◌, ℕ, zero, suc, ◌+◌, ◌<◌, Bool, true, false, cond, not, List, [], ◌∷◌, length, get_or, Some, None, Box, Result, Ok, Err, IfOk, IfErr, refl, sym, ap, subst, ◌∙◌, arith}
 use Rattle.std.specs.List.{insert, remove}
 use Rattle.std.specs.List.Sorted.{IsNonDecreasingBy, IsBinarySearchResult, IsSearchInRange}
-use Rattle.std.specs.Ordering.{ordering_index, ordering_reverse, is_lt, is_eq, eq_by_cmp}
+use Rattle.std.specs.Ordering.{ordering_index, is_lt, is_eq, eq_by_cmp}
 use Rattle.std.specs.declared.alloc.Global.{Global}
-use Rattle.std.specs.declared.cmp.Ordering.{Ordering}
-use Rattle.std.specs.declared.cmp.Ordering.TheVariants.{Less, Equal, Greater}
+use Rattle.std.specs.declared.cmp.Ordering.TheVariants.{Less, Greater}
 use Rattle.std.specs.FinMap.{find, put}
 use Rattle.std.specs.FinMap.Entries.{below_all, by_order}
 use Rattle.std.proofs.lemmas.Cmp.{nat_list_cmp_total, tied_itself}
-use Rattle.std.proofs.lemmas.Bool.{and_parts, false≢true}
+use Rattle.std.proofs.lemmas.Bool.{and_parts}
 use Rattle.std.proofs.lemmas.List.Sorted.{searchable_from_sorted}
 use Rattle.hb_space.specs.Points.{point_cmp}
 use Rattle.hb_space.specs.declared.records.Record.{Record}
-use Rattle.hb_set.proofs.Facts.MachineLaws.{exact_points, entries_without}
+use Rattle.hb_space.proofs.Facts.PointOrder.{turned, exact_points}
+use Rattle.hb_lemmas.proofs.Orderings.{less_so}
+use Rattle.hb_set.proofs.Facts.MachineLaws.{entries_without}
 use Rattle.hb_set.specs.Kept.{entries_behind, PointsRise, IsHandleAt, IsHandleGapFor}
-
-pub less_so : (o : Ordering) → is_lt o ≡ true → o ≡ Less
-less_so Less h = refl
-less_so Equal h = absurd (false≢true h)
-less_so Greater h = absurd (false≢true h)
-
--- of two points the lesser one is first
-turned : (p q : List ℕ) (o : Ordering) → point_cmp p q ≡ o → point_cmp q p ≡ ordering_reverse o
-turned p q o h = nat_list_cmp_total.antisymm q p ∙ ap ordering_reverse h
 
 -- a point below all others is below each of them
 pub below_at : (p : List ℕ) (hs : List (Box Record Global)) (i : ℕ) (d : Box Record Global) → below_all point_cmp p (entries_behind hs) ≡ true → i < length hs → point_cmp p (get_or hs i d).value.key ≡ Less

@@ -15,7 +15,8 @@ use Rattle.hb_space.specs.Points.{point_cmp}
 use Rattle.hb_space.specs.Boxes.{Area, is_between, holds}
 use Rattle.hb_space.specs.declared.records.Record.{Record}
 use Rattle.hb_set.specs.Kept.{records_behind, entries_behind, PointsRise, AreSearchable}
-use Rattle.hb_set.proofs.Places.{rise_at, below_at, less_so}
+use Rattle.hb_set.proofs.Places.{rise_at, below_at}
+use Rattle.hb_lemmas.proofs.Orderings.{less_so}
 
 -- a point below the lower corner is not held
 pub outside_below : (lo hi p : List ℕ) → point_cmp p lo ≡ Less → is_between lo hi p ≡ false

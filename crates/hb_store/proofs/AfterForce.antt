@@ -29,7 +29,7 @@ use Rattle.hb_store.specs.Opening.{OpensBy, log_bytes, place_bytes}
 use Rattle.hb_store.specs.States.{IsMemory, StoreState}
 use Rattle.hb_store.specs.Parts.{Parts, Leads, OpensNext, written_pages}
 use Rattle.hb_store.specs.Keeps.{StoreKeeps, OpensToFirst, last_of}
-use Rattle.hb_store.specs.Calls.{stopped_state, forced_state, with_log, durable_after, later_after}
+use Rattle.hb_store.specs.Forced.{stopped_state, forced_state, with_log, durable_after, later_after}
 use Rattle.hb_store.proofs.Facts.ReplayLaws.{replay-append, zeros_end}
 use Rattle.hb_store.proofs.Facts.StoreLaws.{OpensHere, OpensOn, opens_first, StoreKeeps-by}
 use Rattle.hb_store.proofs.AreaTorn.{places_kept, spelled_kept, shows_kept, opens_same, opens_more}

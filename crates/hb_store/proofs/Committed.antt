@@ -2,7 +2,7 @@
 use Rattle.std.proofs.Common.{◌≡◌, inl, inr, ℕ, ◌+◌, ◌*◌, ◌%◌, ◌≤◌, Bool, false, List, [], ◌∷◌, ◌++◌, length, get_or, map, All, Option, Some, None, IsSome, IsTrue, Result, Ok, Err, refl, sym, ap, ◌∙◌, subst, arith}
 use Rattle.std.specs.Prelude.{◌||◌, OnErr, OnOk}
 use Rattle.std.specs.Option.{is_some}
-use Rattle.std.proofs.lemmas.Bool.{cases_Bool, cases_lt}
+use Rattle.std.proofs.lemmas.Bool.{or_parts, cases_Bool, cases_lt}
 use Rattle.std.proofs.lemmas.List.{get_or_past, map-append}
 use Rattle.std.proofs.lemmas.List.Elements.{All-append, All-cons, All-nil}
 use Rattle.hb_disk.specs.Model.{DiskModel, IsDisk}
@@ -10,15 +10,14 @@ use Rattle.hb_disk.specs.Calls.{IsSynced}
 use Rattle.hb_lemmas.proofs.Options.{some_value}
 use Rattle.hb_wal.specs.Log.{LogState, Waiting}
 use Rattle.hb_wal.specs.Forces.{HasLog}
-use Rattle.hb_frag.specs.declared.pages.LivePage.{LivePage}
 use Rattle.hb_frag.specs.declared.pages.Page.{Page}
 use Rattle.hb_layout.specs.declared.meta.Meta.{Meta}
 use Rattle.hb_layout.specs.Offsets.{file_size}
 use Rattle.hb_ops.specs.declared.operations.Op.{Op}
 use Rattle.hb_ops.specs.Files.{FileState, if_live, page_at, page_of}
-use Rattle.hb_ops.specs.Operations.{Change, IsAllowed, IsAllowedOn, IsLicensed, change_of, effect_of, nth_read, reads_of, with_changed_pages}
+use Rattle.hb_ops.specs.Operations.{Change, IsAllowed, IsLicensed, change_of, effect_of, nth_read, reads_of, with_changed_pages}
 use Rattle.hb_log_codec.specs.Groups.{FitsGroup, Logged, group_bytes}
-use Rattle.hb_store.specs.Replay.{MayFollow, Replayed, after_group, change_in, replay, set_pages, touched_read, untouched, with_images}
+use Rattle.hb_store.specs.Replay.{MayFollow, Replayed, after_group, change_in, replay, set_pages, touched_read, untouched, with_images, has_page, is_among}
 use Rattle.hb_store.proofs.Facts.ReplayLaws.{Leads-append, last_of-append, replay-append}
 use Rattle.hb_store.specs.Opening.{IsPageIn, Shows}
 use Rattle.hb_store.specs.States.{IsGoodPage, IsMemory, IsSameLayout, IsStanding, StoreState, in_memory, is_imaged}
@@ -26,30 +25,18 @@ use Rattle.hb_store.specs.Parts.{AreImagesOf, IsDurable, IsImaged, IsInMemory, I
 use Rattle.hb_store.specs.Keeps.{StoreKeeps, last_of}
 use Rattle.hb_store.proofs.Facts.StoreLaws.{StoreKeeps-by}
 use Rattle.hb_store.specs.Calls.{Commits, IsAllowedHere, change_here, read_here, with_op}
-use Rattle.hb_store.specs.Images.{group_here}
-use Rattle.hb_store.specs.Making.{MakesWell}
-use Rattle.hb_store.specs.Marks.{has_page, is_among}
-use Rattle.hb_store.proofs.Facts.ReplayLists.{or_none, set_not}
+use Rattle.hb_store.specs.Making.{MakesWell, group_here}
+use Rattle.hb_store.proofs.Facts.ReplayLists.{set_not, all_set, set_both}
 use Rattle.hb_store.proofs.Facts.StayingLaws.{Commits-there, reads_in_place}
-use Rattle.hb_store.proofs.Changed.{reads_numbered, same_size}
-use Rattle.hb_store.proofs.FilePages.{Reaches, pages_set}
-use Rattle.hb_store.proofs.MadeMeta.{reads_some}
+use Rattle.hb_store.proofs.Facts.Changed.{reads_numbered, same_size}
+use Rattle.hb_store.proofs.Facts.FilePages.{Reaches, pages_set}
+use Rattle.hb_ops.proofs.Facts.AllowedOps.{reads_some, same_change, same_allowed}
 use Rattle.hb_store.proofs.Shown.{Shows-leads}
 use Rattle.hb_store.proofs.Grouped.{all_needed}
-use Rattle.hb_store.proofs.Setting.{all_set, among_all, has_all, none_set, or_either, set_both, set_some}
+use Rattle.hb_store.proofs.Setting.{among_all, has_all, none_set, or_either, set_some}
 use Rattle.hb_store.proofs.Imaging.{imaged_all, read_page}
-
--- ---- operations on the same pages
-
-same_change : (op : Op) (m n : Meta) (a a' b b' c c' : Option LivePage) → m ≡ n → a ≡ a' → b ≡ b' → c ≡ c' → change_of op m a b c ≡ change_of op n a' b' c'
-same_change op m n a a' b b' c c' em ea eb ec = λ i. change_of op (em i) (ea i) (eb i) (ec i)
-
-same_allowed : (op : Op) (m n : Meta) (a a' b b' c c' : Option LivePage) → m ≡ n → a ≡ a' → b ≡ b' → c ≡ c' → IsAllowedOn op m a b c → IsAllowedOn op n a' b' c'
-same_allowed op m n a a' b b' c c' em ea eb ec h =
-    subst (λ (x : Option LivePage). IsAllowedOn op n a' b' x) ec
-    (subst (λ (x : Option LivePage). IsAllowedOn op n a' x c) eb
-    (subst (λ (x : Option LivePage). IsAllowedOn op n x b c) ea
-    (subst (λ (x : Meta). IsAllowedOn op x a b c) em h)))
+use Rattle.hb_ops.proofs.Facts.FilePages.{in_file_at}
+use Rattle.hb_ops.proofs.Facts.PageNumberLaws.{page_at-zero}
 
 -- a log that lies and is written as another has the same on the disk
 same_log : (d : DiskModel) (old new : LogState) (payloads : List (List ℕ)) → new.area ≡ old.area → new.len ≡ old.len → new.written ≡ old.written → HasLog d old payloads → HasLog d new payloads
@@ -182,21 +169,13 @@ module _ (st new : StoreState) (op : Op) (mark : ℕ) (well : MakesWell op st) (
     read_touched : (place : ℕ) → read_here st op place ≡ touched_read (with_images t logged) op place
     read_touched place = ap if_live (sym (read_page (in_memory st) (is_imaged st) (reads_of op) place t.page no_page untouched_zero agree reads))
 
-    in_file_at : (q : ℕ) (o : Option Page) → IsSome o → ((page : Page) → o ≡ Some page → page_of s q ≡ Some page) → o ≡ page_of s q
-    in_file_at q None h cached = cc h
-    in_file_at q (Some page) h cached = sym (cached page refl)
-
     read_file : (place : ℕ) → read_here st op place ≡ nth_read s op place
     read_file place = elim (cases_lt place (length (reads_of op))) [
-      | inl lt ↦ let q = get_or (reads_of op) place 0 in ap if_live (in_file_at q (in_memory st q) (reads place 0 lt) (keeps.memory.cached q))
+      | inl lt ↦ let q = get_or (reads_of op) place 0 in ap if_live (in_file_at s q (in_memory st q) (reads place 0 lt) (keeps.memory.cached q))
       | inr le ↦
           let past : get_or (reads_of op) place 0 ≡ 0 = get_or_past (reads_of op) place 0 le in
           subst (λ (n : ℕ). if_live (in_memory st n) ≡ if_live (page_of s n)) (sym past) (ap if_live no_page ∙ ap if_live (sym (page_at-zero s.pages)))
     ]
-      where
-        page_at-zero : (pages : List Page) → page_at pages 0 ≡ None
-        page_at-zero [] = refl
-        page_at-zero (page ∷ rest) = refl
 
     meta_file : st.meta ≡ s.meta
     meta_file = sym keeps.memory.meta_is
@@ -284,8 +263,8 @@ module _ (st new : StoreState) (op : Op) (mark : ℕ) (well : MakesWell op st) (
     imaged_more = record {
       touched = touched_after;
       synced = λ id page no e c image.
-          let off = or_none (has_page id change.pages) (is_among id (reads_of op) || is_imaged st id) (sym (commits.imaged id) ∙ no) in
-          keeps.imaged.synced id page (or_none (is_among id (reads_of op)) (is_imaged st id) off.1).1 (sym (set_not change.pages (page_of s) id off.0) ∙ sym (page_after id) ∙ e) c image;
+          let off = or_parts (has_page id change.pages) (is_among id (reads_of op) || is_imaged st id) (sym (commits.imaged id) ∙ no) in
+          keeps.imaged.synced id page (or_parts (is_among id (reads_of op)) (is_imaged st id) off.1).1 (sym (set_not change.pages (page_of s) id off.0) ∙ sym (page_after id) ∙ e) c image;
     }
 
     -- a page that isn't in memory then was none of those that were made

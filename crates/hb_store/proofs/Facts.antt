@@ -3,3 +3,10 @@ pub mod ReplayLaws
 pub mod ReplayLists
 pub mod StayingLaws
 pub mod StoreLaws
+pub mod Spellings
+pub mod FilePages
+pub mod MadeLeaves
+pub mod MadeMeta
+pub mod MadePages
+pub mod Changed
+pub mod LookLaws

@@ -6,7 +6,7 @@ use denote.Bor.{Bor}
 use Rattle.std.proofs.lemmas.Bool.{cases_eq, eqb-true, eq-eqb, ne_eqb}
 use Rattle.hb_space.specs.declared.form.TheConstants.{PAGE}
 use Rattle.hb_disk.specs.Model.{DiskModel, IsDisk, Stays}
-use Rattle.hb_disk.specs.Calls.{IsSynced, Reads}
+use Rattle.hb_disk.specs.Calls.{IsSynced}
 use Rattle.hb_lemmas.proofs.Options.{some_value}
 use Rattle.hb_frag.specs.declared.pages.LivePage.{LivePage}
 use Rattle.hb_frag.specs.declared.pages.Page.{Page}
@@ -17,25 +17,24 @@ use Rattle.hb_ops.specs.Files.{FileState, if_live, page_of}
 use Rattle.hb_ops.specs.LocalRule.{BreaksFirst}
 use Rattle.hb_ops.specs.Sound.{FitsFile, IsSound}
 use Rattle.hb_wal.specs.Frames.{frames, range}
-use Rattle.hb_store.proofs.Spellings.{SpelledOnce}
+use Rattle.hb_store.proofs.Facts.Spellings.{SpelledOnce}
 use Rattle.hb_layout.specs.Offsets.{page_offset}
 use Rattle.hb_store.specs.Opening.{place_bytes}
 use Rattle.hb_store.specs.States.{IsGoodPage, IsMemory, StoreState, in_memory}
 use Rattle.hb_store.specs.Keeps.{StoreKeeps, last_of}
 use Rattle.hb_store.specs.Calls.{Fetched}
 use Rattle.hb_store.proofs.Facts.StayingLaws.{was_there, reads_in_place}
-use Rattle.hb_store.specs.Stops.{IsDamagedBy, IsNoPage}
-use Rattle.hb_store.specs.Fetching.{HoldsNot, with_held}
+use Rattle.hb_store.specs.Fetching.{HoldsNot, with_held, IsDamagedBy, IsNoPage}
 use Rattle.hb_store.specs.declared.stops.FetchStop.{FetchStop}
 use Rattle.hb_store.specs.declared.stops.FetchStop.TheVariants as fetches
 use Rattle.hb_store.specs.declared.stops.Why.TheVariants.{Rule, Level, Extent}
 use Rattle.hb_store.proofs.Counted.{store_count}
-use Rattle.hb_store.proofs.Counting.{page_there}
-use Rattle.hb_store.proofs.Held.{get_put}
+use Rattle.hb_ops.proofs.Facts.FilePages.{page_there}
+use Rattle.hb_lemmas.proofs.Maps.{get-put}
 
 -- ---- what was read
 
-pub placed_read : (d : DiskModel) (at : ℕ) (into : List ℕ) (meta : Meta) (id : ℕ) → Reads at into d → length into ≡ PAGE → at ≡ page_offset meta id → IfSome d.told (λ b. into ≡ place_bytes meta id b)
+pub placed_read : (d : DiskModel) (at : ℕ) (into : List ℕ) (meta : Meta) (id : ℕ) → IfSome d.told (λ b. into ≡ take (length into) (drop at b)) → length into ≡ PAGE → at ≡ page_offset meta id → IfSome d.told (λ b. into ≡ place_bytes meta id b)
 placed_read d at into meta id reads long place =
     subst (λ n. IfSome d.told (λ b. into ≡ take n (drop (page_offset meta id) b))) long (subst (λ p. IfSome d.told (λ b. into ≡ take (length into) (drop p b))) place reads)
 
@@ -66,7 +65,7 @@ memory_with st id page is some high good = record {
       elim (eqb q id) as (λ b. eqb q id ≡ b → cond b (Some page) (in_memory st q) ≡ Some p → (1 ≤ q) × (q ≤ st.meta.high) × IsGoodPage st.meta p) [
         | true ↦ λ here found. subst (λ n. (1 ≤ n) × (n ≤ st.meta.high) × IsGoodPage st.meta p) (sym (eqb-true q id here)) (some, high, subst (IsGoodPage st.meta) (some_is found) good)
         | false ↦ λ _ found. is.good q p found
-      ] refl (sym (get_put id q page st.pages) ∙ e);
+      ] refl (sym (get-put id q page st.pages) ∙ e);
   marked = is.marked;
 }
   where
@@ -173,7 +172,7 @@ is_the_page once d st durable later id page disk k some high none there =
 
 -- the page that was put under its number is there
 pub held_there : (st : StoreState) (id : ℕ) (page : Page) → in_memory (with_held id page st) id ≡ Some page
-held_there st id page = get_put id id page st.pages ∙ ap (λ b. cond b (Some page) (in_memory st id)) (eq-eqb id id refl)
+held_there st id page = get-put id id page st.pages ∙ ap (λ b. cond b (Some page) (in_memory st id)) (eq-eqb id id refl)
 
 pub fetched_with : (st : StoreState) (id : ℕ) (page : Page) → in_memory st id ≡ None → Fetched id st (with_held id page st)
 fetched_with st id page none = record {
@@ -188,7 +187,7 @@ fetched_with st id page none = record {
 }
   where
     put_other : (q : ℕ) → q ≢ id → in_memory (with_held id page st) q ≡ in_memory st q
-    put_other q other = get_put id q page st.pages ∙ ap (λ b. cond b (Some page) (in_memory st q)) (ne_eqb q id other)
+    put_other q other = get-put id q page st.pages ∙ ap (λ b. cond b (Some page) (in_memory st q)) (ne_eqb q id other)
 
 -- ---- no page of a sound file is damaged
 

@@ -14,7 +14,7 @@ use Rattle.hb_ops.specs.declared.operations.Op.TheVariants.{Put, Del, Extract, P
 use Rattle.hb_ops.specs.Operations.{reads_of}
 use Rattle.hb_log_codec.specs.Groups.{FitsGroup, FitsImage, FitsOp}
 use Rattle.hb_store.specs.States.{AreGood, IsGoodPage, IsStanding}
-use Rattle.hb_store.specs.Images.{image_needed, images_needed}
+use Rattle.hb_store.specs.Making.{image_needed, images_needed}
 
 pub good_spelled : (meta : Meta) (page : Page) → IsGoodPage meta page → HasSpelling page
 good_spelled meta (Live page) h = h.0

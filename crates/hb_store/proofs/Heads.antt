@@ -1,44 +1,17 @@
 -- What a sound file's free chain, and its count of pages in use, say of the page number that is taken next.
-use Rattle.std.proofs.Common.{◌≡◌, ◌≢◌, inl, inr, ℕ, ◌+◌, List, [], ◌∷◌, length, Contains, Some, refl, sym, ap, subst, ◌∙◌, arith}
-use Rattle.hb_frag.specs.declared.pages.Page.{Page}
-use Rattle.hb_frag.specs.declared.pages.Page.TheVariants.{Live, Free}
-use Rattle.hb_ops.specs.Files.{FileState, page_at, page_of}
-use Rattle.hb_ops.specs.Sound.{IsChain, IsSound, count_live}
+use Rattle.std.proofs.Common.{◌≡◌, ◌≢◌, inl, inr, ℕ, List, length, Some, sym, ap, subst, ◌∙◌, arith}
+use Rattle.hb_frag.specs.declared.pages.Page.TheVariants.{Free}
+use Rattle.hb_ops.specs.Files.{FileState, page_of}
+use Rattle.hb_ops.specs.Sound.{IsSound}
 use Rattle.hb_disk.specs.Model.{DiskModel, IsDisk}
 use Rattle.hb_layout.specs.declared.meta.Meta.{Meta}
 use Rattle.hb_ops.specs.Allocating.{Allocates}
 use Rattle.hb_store.specs.States.{IsMemory, StoreState, in_memory}
 use Rattle.hb_store.specs.Keeps.{StoreKeeps, last_of}
 use Rattle.hb_store.specs.NextPage.{MayFetch}
-use Rattle.hb_store.specs.Stops.{IsNoPage}
+use Rattle.hb_store.specs.Fetching.{IsNoPage}
 use Rattle.hb_store.proofs.Counted.{store_count}
-use Rattle.hb_store.proofs.Counting.{page_behind, page_in_range}
-
--- the head is a free page
-pub sound_head : (s : FileState) → IsSound s → s.meta.free ≢ 0 → (next : ℕ) × (page_of s s.meta.free ≡ Some (Free next))
-sound_head s sound some = by_chain sound.counted.chain sound.counted.chained
-  where
-    by_chain : (chain : List ℕ) → IsChain s s.meta.free chain → (next : ℕ) × (page_of s s.meta.free ≡ Some (Free next))
-    by_chain [] none = absurd (some none)
-    by_chain (id ∷ rest) is = (is.2, subst (λ (n : ℕ). page_of s n ≡ Some (Free is.2)) (sym is.0) is.3)
-
--- where no page is free, all are in use
-all_live : (pages : List Page) → ((id next : ℕ) → page_at pages id ≡ Some (Free next) → ⊥) → count_live pages ≡ length pages
-all_live [] none = refl
-all_live (Free next ∷ rest) none = absurd (none 1 next refl)
-all_live (Live page ∷ rest) none =
-    let more = all_live rest (λ id next is. none (id + 1) next (page_behind (Live page) rest id (page_in_range rest id (Free next) is).0 ∙ is)) in
-    omega (arith, more)
-
--- without a free page there is room only behind the high mark
-pub sound_room : (s : FileState) → IsSound s → s.meta.free ≡ 0 → s.meta.high ≡ s.meta.pages → s.meta.live ≡ s.meta.pages
-sound_room s sound none high = by_chain sound.counted.chain sound.counted.chained sound.counted.all
-  where
-    by_chain : (chain : List ℕ) → IsChain s s.meta.free chain → ((id next : ℕ) → page_of s id ≡ Some (Free next) → Contains chain id) → s.meta.live ≡ s.meta.pages
-    by_chain [] ends all =
-        let live = all_live s.pages (λ id next is. let never : Contains [] id = all id next is in absurd (omega (arith, never.1))) in
-        sound.counted.live ∙ live ∙ sound.rooted.numbered ∙ high
-    by_chain (id ∷ rest) is all = absurd (is.1 none)
+use Rattle.hb_ops.proofs.Facts.FilePages.{page_in_range, sound_head, sound_room}
 
 -- ---- in a store
 

@@ -3,7 +3,6 @@ use Rattle.std.proofs.Common.{◌≡◌, ℕ, Bool, cond, List, [], ◌∷◌, O
 use Rattle.std.specs.Prelude.{nat_eq, ◌||◌, MatchOption}
 use Rattle.std.specs.Option.{option_copied}
 use Rattle.std.specs.List.{list_any}
-use Rattle.std.specs.Map.{lookup}
 use Rattle.std.specs.Ordering.{nat_cmp, eq_by_cmp}
 use Rattle.std.specs.Cmp.{nat_cmp_total, nat_eq_equiv, unsigned_tied}
 use Rattle.std.specs.FinMap as map
@@ -11,6 +10,7 @@ use Rattle.std.specs.FinSet as set
 use Rattle.std.specs.HashMap as hash
 use Rattle.std.specs.HashSet as bag
 use denote.Bor.{Bor}
+use Rattle.hb_lemmas.proofs.Maps.{get-from_list}
 use Rattle.hb_frag.specs.declared.pages.Page.{Page}
 use Rattle.hb_layout.specs.declared.meta.Meta.{Meta}
 use Rattle.hb_ops.specs.declared.operations.Op.{Op}
@@ -18,12 +18,8 @@ use Rattle.hb_ops.specs.Operations.{reads_of}
 use Rattle.hb_wal.specs.Log.{LogState}
 use Rattle.hb_log_codec.specs.Groups.{Logged}
 use Rattle.hb_store.specs.Fetching.{with_held}
-use Rattle.hb_store.specs.Images.{group_here, images_needed}
+use Rattle.hb_store.specs.Making.{group_here, images_needed}
 use Rattle.hb_store.specs.States.{StoreState, new_state}
-
-found : {X : Type 0} (es : List (ℕ × X)) (q : ℕ) → map.find nat_cmp q es ≡ lookup (nat_eq q) es
-found [] q = refl
-found (e ∷ es) q = λ i. cond (unsigned_tied q e.0 i) (Some e.1) (found es q i)
 
 any_same : (ks : List ℕ) (q : ℕ) → list_any (eq_by_cmp nat_cmp q) ks ≡ list_any (nat_eq q) ks
 any_same [] q = refl
@@ -34,7 +30,7 @@ module _ {X S : Type 0} where
   map_of m = map.from_entries m.entries
 
   pub map_seen : (m : hash.HashMap ℕ X S) (q : ℕ) → map.get (map_of m) q ≡ hash.get nat_eq m q
-  map_seen m q = map.get-from_entries nat_cmp_total m.entries q ∙ found m.entries q
+  map_seen m q = get-from_list m.entries q
 
   -- maps that answer alike are seen alike
   pub map_same : (m n : hash.HashMap ℕ X S) → ((q : ℕ) → hash.get nat_eq n q ≡ hash.get nat_eq m q) → map_of n ≡ map_of m
@@ -91,7 +87,3 @@ module _ {S T : Type 0} where
 pub lent_page : (r : Option (Bor Page)) (o : Option Page) → option_copied r ≡ o → MatchOption r (o ≡ None) (λ page. o ≡ Some page.now)
 lent_page None o e = sym e
 lent_page (Some page) o e = sym e
-
--- a page put into a map under its number, as the number is asked for
-pub get_put : {X : Type 0} (id q : ℕ) (x : X) (m : map.FinMap nat_cmp X) → map.get (map.insert m id x) q ≡ cond (nat_eq q id) (Some x) (map.get m q)
-get_put id q x m = map.get-insert nat_cmp_total m id x q ∙ ap (λ (b : Bool). cond b (Some x) (map.get m q)) (unsigned_tied q id)

@@ -7,11 +7,10 @@ use Rattle.std.proofs.lemmas.Bool.{cases_Bool, cases_lt, eq-eqb, eqb-false, eqb-
 use Rattle.std.proofs.lemmas.List.{get_or_past}
 use Rattle.std.proofs.lemmas.List.Elements.{All-head, All-tail}
 use Rattle.hb_frag.specs.declared.pages.Page.{Page}
-use Rattle.hb_store.specs.Images.{image_needed, images_needed}
-use Rattle.hb_store.specs.Marks.{has_page, is_among}
-use Rattle.hb_store.specs.Replay.{set_pages}
+use Rattle.hb_store.specs.Making.{image_needed, images_needed}
+use Rattle.hb_store.specs.Replay.{set_pages, has_page, is_among}
 use Rattle.hb_store.proofs.Facts.ReplayLists.{set_one-same, set_one-other}
-use Rattle.hb_store.proofs.MadeMeta.{some_page}
+use Rattle.hb_lemmas.proofs.Options.{some_value}
 use Rattle.hb_store.proofs.Setting.{or_true, set_some}
 
 among_at : (ids : List ℕ) (place : ℕ) → place < length ids → is_among (get_or ids place 0) ids ≡ true
@@ -102,7 +101,7 @@ module _ (P : ℕ → Option Page) (I : ℕ → Bool) where
   read_page ids place T none untouched agrees some = elim (cases_lt place (length ids)) [
     | inl lt ↦
         let q = get_or ids place 0 in
-        let there = some_page (P q) (some place 0 lt) in
+        let there = some_value (P q) (some place 0 lt) in
         let why : IsRead q there.0 (is_among q ids) T = elim (cases_Bool (I q)) [
           | inl on ↦ inl (agrees q there.0 there.1 on)
           | inr off ↦ inr (off, among_at ids place lt)

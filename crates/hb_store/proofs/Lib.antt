@@ -1,19 +1,14 @@
 pub mod Facts
 mod Openings
-pub mod Spellings
-pub mod MadeLeaves
 pub mod MadeParts
-pub mod MadePages
-pub mod MadeMeta
 mod AreaTorn
 mod AfterForce
+mod Written
 mod Setting
 mod Held
 mod Grouped
-pub mod Changed
 mod Imaging
 mod Committed
-pub mod FilePages
 pub mod Counting
 pub mod Counted
 pub mod Heads

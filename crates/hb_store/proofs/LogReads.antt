@@ -10,8 +10,8 @@ use Rattle.hb_wal.specs.Frames.{frames, frame_bytes, IsPayload, HasFrames, HasBa
 use Rattle.hb_store.specs.Replay.{Replayed, untouched}
 use Rattle.hb_layout.specs.Offsets.{log_start}
 use Rattle.hb_store.specs.Opening.{IsBadPayload, HasBadGroup, log_bytes}
-use Rattle.hb_store.specs.Replaying.{AreItsPages, ComesAfter, HasReplayed, IsFirstBad, NamesBad, NamesBadOr, log_stop, replayed_of}
-use Rattle.hb_store.specs.Stops.{IsTouched, ReadsNoLog}
+use Rattle.hb_store.specs.Replaying.{AreItsPages, ReplaysOn, replayed_of}
+use Rattle.hb_store.specs.LogReading.{HasReplayed, IsFirstBad, NamesBad, NamesBadOr, log_stop, IsTouched, ReadsNoLog}
 use Rattle.hb_store.specs.declared.touched.Touched.{Touched}
 use Rattle.hb_store.specs.declared.touched.LogStop.{LogStop}
 use Rattle.hb_store.specs.declared.touched.LogStop.TheVariants as logs
@@ -26,10 +26,10 @@ pub parted : (all came : List (Vec ℕ Global)) (next : Vec ℕ Global) (behind 
     → map (λ v. v.items) all ≡ map (λ v. v.items) came ++ next.items ∷ map (λ v. v.items) behind
 parted all came next behind split = ap (map (λ v. v.items)) split ∙ map-append (λ v. v.items) came (next ∷ behind)
 
-pub touched_is : (said : Meta) (t : Touched) → ComesAfter said t.meta → AreItsPages (replayed_of t) → IsTouched said t
-touched_is said t after its = record {
-  meta = after;
-  pages = λ id page e. let good = its id page e in (good.0.0, good.0.1, good.1);
+pub touched_is : (said : Meta) (t : Touched) → ReplaysOn (untouched said) (replayed_of t) → IsTouched said t
+touched_is said t on = record {
+  meta = on.meta;
+  pages = λ id page e. let good = on.pages id page e in (good.0.0, good.0.1, good.1);
 }
 
 pub first_bad : (said : Meta) (payloads before behind : List (List ℕ)) (payload : List ℕ) (t : Replayed) (stop : ReplayStop) → payloads ≡ before ++ payload ∷ behind

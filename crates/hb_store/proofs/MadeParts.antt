@@ -1,10 +1,9 @@
 -- Boxes, paths and cuts inside a page: a well-cut tree of leaves in their places has its place, and what leads into a
 -- light page is short.
-use Rattle.std.proofs.Common.{◌≡◌, ℕ, ◌+◌, ◌<◌, ◌≤◌, ◌^◌, max, not, Bool, true, false, cond, List, [], ◌∷◌, ◌++◌, length, All, Some, refl, sym, ap, subst, ◌∙◌, arith}
+use Rattle.std.proofs.Common.{◌≡◌, ℕ, ◌+◌, ◌<◌, ◌≤◌, ◌^◌, max, not, Bool, true, false, cond, List, [], ◌∷◌, length, All, Some, refl, sym, ap, subst, ◌∙◌, arith}
 use Rattle.std.specs.Prelude.{slice_index}
-use Rattle.std.specs.List.{filter, sum_by}
+use Rattle.std.specs.List.{filter}
 use Rattle.std.proofs.lemmas.List.{length-set}
-use Rattle.std.proofs.lemmas.List.Sums.{sum-map, sum_by-append}
 use Rattle.std.proofs.lemmas.List.Elements.{All-cons, All-head, All-nil, All-tail}
 use Rattle.hb_space.specs.Boxes.{Area, Cuts, IsArea, side_below, side_from}
 use Rattle.hb_space.specs.declared.records.Record.{Record}
@@ -12,14 +11,15 @@ use Rattle.hb_frag.specs.declared.leaves.Leaf.TheVariants.{Records, Child, Sibli
 use Rattle.hb_frag.specs.declared.paths.Side.{Side}
 use Rattle.hb_frag.specs.declared.paths.Side.TheVariants.{Left, Right}
 use Rattle.hb_frag.specs.Trees.{Tree, Tip, Cut}
-use Rattle.hb_frag.specs.Leaves.{IsWellCut, Placed, leaf_weight, leaves, leaves_of, weight_of}
+use Rattle.hb_frag.specs.Leaves.{IsWellCut, Placed, leaves, leaves_of, weight_of}
 use Rattle.hb_frag.specs.Paths.{part_at}
 use Rattle.hb_frag.specs.Laws.{IsPart}
 use Rattle.hb_frag.specs.Grammar.{FitsLeaf, FitsTree}
+use Rattle.hb_frag.proofs.Facts.Parts.{weight_cut}
 use Rattle.hb_ops.specs.declared.leaf_cuts.LeafCut.{LeafCut}
 use Rattle.hb_ops.specs.Cutting.{PartLeaves, area_on, going, half_area, is_on, other_side, reached, records_in}
 use Rattle.hb_log_codec.specs.Groups.{FitsLeafCut}
-use Rattle.hb_store.proofs.MadeLeaves.{back_all, front_all}
+use Rattle.hb_lemmas.proofs.Lists.{All-behind, All-front}
 
 -- what hb_frag's laws say of the boxes of leaves, and of parts
 abbrev pub BoxesOfLeaves : Type 0
@@ -50,8 +50,8 @@ module _ (boxes : BoxesOfLeaves) where
       let both = side_boxes a axis value is cut.0 in (
         omega (arith, cut.0.attribute, long),
         greatest a axis value is cut.0,
-        fits_tree k left (side_below a axis value) both.0 cut.1 long (front_all (FitsLeaf k) (leaves left) (leaves right) fit),
-        fits_tree k right (side_from a axis value) both.1 cut.2 (length-set a.lo axis value ∙ long) (back_all (FitsLeaf k) (leaves left) (leaves right) fit),
+        fits_tree k left (side_below a axis value) both.0 cut.1 long (All-front (FitsLeaf k) (leaves left) (leaves right) fit),
+        fits_tree k right (side_from a axis value) both.1 cut.2 (length-set a.lo axis value ∙ long) (All-behind (FitsLeaf k) (leaves left) (leaves right) fit),
       )
 
   half_box : (side : Side) (axis value : ℕ) (a : Area) → IsArea a → Cuts a axis value → IsArea (area_on side axis value a)
@@ -73,17 +73,11 @@ module _ (boxes : BoxesOfLeaves) where
 
 -- ---- how many steps a path has
 
-weight-cut : (axis value : ℕ) (left right : Tree) → weight_of (Cut axis value left right) ≡ weight_of left + weight_of right
-weight-cut axis value left right =
-    sum-map leaf_weight (leaves left ++ leaves right) ∙ sum_by-append leaf_weight (leaves left) (leaves right)
-    ∙ ap (λ (n : ℕ). n + sum_by leaf_weight (leaves right)) (sym (sum-map leaf_weight (leaves left)))
-    ∙ ap (λ (n : ℕ). weight_of left + n) (sym (sum-map leaf_weight (leaves right)))
-
 pub weight_some : (t : Tree) → 1 ≤ weight_of t
 weight_some (Tip (Records records)) = omega arith
 weight_some (Tip (Child page)) = omega arith
 weight_some (Tip (Sibling page)) = omega arith
-weight_some (Cut axis value left right) = omega (arith, weight-cut axis value left right, weight_some left)
+weight_some (Cut axis value left right) = omega (arith, weight_cut axis value left right, weight_some left)
 
 pub steps_few : (path : List Side) (t : Tree) (a : Area) (part : Tree × Area) → part_at path t a ≡ Some part → length path + weight_of part.0 ≤ weight_of t
 steps_few [] t a part there =
@@ -94,9 +88,9 @@ steps_few [] t a part there =
     first_is : (x y : Tree × Area) → Some x ≡ Some y → x.0 ≡ y.0
     first_is x y e = let same : x ≡ y = cc in ap (λ (z : Tree × Area). z.0) same
 steps_few (Left ∷ path) (Cut axis value left right) a part there =
-    omega (arith, weight-cut axis value left right, weight_some right, steps_few path left (side_below a axis value) part there)
+    omega (arith, weight_cut axis value left right, weight_some right, steps_few path left (side_below a axis value) part there)
 steps_few (Right ∷ path) (Cut axis value left right) a part there =
-    omega (arith, weight-cut axis value left right, weight_some left, steps_few path right (side_from a axis value) part there)
+    omega (arith, weight_cut axis value left right, weight_some left, steps_few path right (side_from a axis value) part there)
 steps_few (Left ∷ path) (Tip leaf) a part there = absurd cc
 steps_few (Right ∷ path) (Tip leaf) a part there = absurd cc
 

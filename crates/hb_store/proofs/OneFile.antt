@@ -11,14 +11,14 @@ use Rattle.hb_wal.specs.Frames.{frames, frame_bytes, IsPayload, IsEnd, IsBadFram
 use Rattle.hb_wal.specs.FrameLaws.{ReadsOneWay}
 use Rattle.hb_wal.specs.Reading.{BeginsFrame}
 use Rattle.hb_log_codec.specs.Groups.{Logged, SpellsGroups}
-use Rattle.hb_store.specs.Payloads.{SpellAll}
-use Rattle.hb_store.proofs.Spellings.{OneList, SpelledOnce, length_number, same_fronts, same_number, same_spelled}
+use Rattle.hb_store.proofs.Facts.Spellings.{OneList, SpelledOnce, same_spelled}
 use Rattle.hb_store.specs.Replay.{Replayed, MayReplay, replay, untouched}
 use Rattle.hb_layout.specs.Offsets.{log_start}
-use Rattle.hb_store.specs.Opening.{IsBadPayload, IsPageIn, OpensBy, OpensTo, Shows, log_bytes}
-use Rattle.hb_store.specs.ImageLaws.{OpensToOne, OpensWhole}
-use Rattle.hb_store.proofs.Counting.{page_behind, page_in_range}
-use Rattle.hb_store.proofs.Replays.{may_front, may_back, replay-append}
+use Rattle.hb_store.specs.Opening.{IsBadPayload, IsPageIn, OpensBy, OpensTo, Shows, log_bytes, SpellAll, OpensToOne, OpensWhole}
+use Rattle.hb_ops.proofs.Facts.FilePages.{page_behind, page_in_range}
+use Rattle.hb_store.proofs.Facts.ReplayLaws.{MayReplay-front, MayReplay-back, replay-append}
+use Rattle.hb_lemmas.proofs.Numbers.{length_big_endian, same_number}
+use Rattle.hb_lemmas.proofs.Lists.{same_fronts}
 
 abbrev pub OneTurn : Type 0
 OneTurn = (bytes : List ℕ) (t s : ℕ) (m n : Meta) → IsNewest bytes t m → IsNewest bytes s n → t ≡ s
@@ -71,7 +71,7 @@ module _ (once : SpelledOnce) (one : OneList) where
   no_frame_at_end : (p xs rest : List ℕ) → IsEnd rest → rest ≡ frame_bytes p ++ xs → ⊥
   no_frame_at_end p xs [] end e = absurd (omega (arith, ap (λ (l : List ℕ). length l) e, length-append (frame_bytes p) xs))
   no_frame_at_end p xs (gate ∷ rest) (inl few) e =
-      absurd (omega (arith, few, ap (λ (l : List ℕ). length l) e, length-append (frame_bytes p) xs, length-append (big_endian 4 (length p)) p, length_number 4 (length p)))
+      absurd (omega (arith, few, ap (λ (l : List ℕ). length l) e, length-append (frame_bytes p) xs, length-append (big_endian 4 (length p)) p, length_big_endian 4 (length p)))
   no_frame_at_end p xs (gate ∷ rest) (inr closed) e = closed (ap (λ (l : List ℕ). get_or l 0 0) e)
 
   -- a frame tells its payload and what is behind it
@@ -99,7 +99,7 @@ module _ (once : SpelledOnce) (one : OneList) where
   bad_here way k t [] end rest groups e fit at_end spelled may (inr bad) = no_frame_at_end bad.0 bad.1.behind end at_end (e ∙ bad.1.bytes)
   bad_here way k t (p ∷ ps) end rest groups e fit at_end spelled may (inr bad) =
       let same = same_frame p bad.0 (frames ps ++ end) bad.1.behind (All-head IsPayload p ps fit).short bad.1.fits.short (sym (append_assoc (frame_bytes p) (frames ps) end) ∙ e ∙ bad.1.bytes) in
-      bad.2 spelled.0 (subst (λ q. SpellsGroups k q spelled.0) same.0 spelled.3) (may_front t spelled.0 spelled.1 (subst (MayReplay t) spelled.2 may))
+      bad.2 spelled.0 (subst (λ q. SpellsGroups k q spelled.0) same.0 spelled.3) (MayReplay-front t spelled.0 spelled.1 (subst (MayReplay t) spelled.2 may))
 
   none_bad : ReadsOneWay → (k : ℕ) (before payloads : List (List ℕ)) (t : Replayed) (end rest : List ℕ) (groups others : List Logged) → frames payloads ++ end ≡ frames before ++ rest → length (frames before ++ rest) < 2 ^ 32
       → All IsPayload payloads → IsEnd end → SpellAll k payloads groups → MayReplay t groups → SpellAll k before others → IsBadAt k (replay t others) rest → ⊥
@@ -111,7 +111,7 @@ module _ (once : SpelledOnce) (one : OneList) where
       let same = same_frame p b (frames ps ++ end) (frames bs ++ rest) (All-head IsPayload p ps fit).short short.0 (sym (append_assoc (frame_bytes p) (frames ps) end) ∙ e ∙ append_assoc (frame_bytes b) (frames bs) rest) in
       let groups_same : spelled.0 ≡ front.0 = one k b spelled.0 front.0 (subst (λ q. SpellsGroups k q spelled.0) same.0 spelled.3) front.3 in
       none_bad way k bs ps (replay t front.0) end rest spelled.1 front.1 same.1 short.1 (All-tail IsPayload p ps fit) at_end spelled.4
-      (subst (λ g. MayReplay (replay t g) spelled.1) groups_same (may_back t spelled.0 spelled.1 (subst (MayReplay t) spelled.2 may))) front.4
+      (subst (λ g. MayReplay (replay t g) spelled.1) groups_same (MayReplay-back t spelled.0 spelled.1 (subst (MayReplay t) spelled.2 may))) front.4
       (subst (λ r. IsBadAt k r rest) (ap (replay t) front.2 ∙ replay-append t front.0 front.1) bad)
 
   pub no_bad_frame : OneTurn → OneMeta → ReadsOneWay → OpensWhole

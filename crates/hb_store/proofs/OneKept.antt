@@ -11,10 +11,9 @@ use Rattle.hb_wal.specs.Log.{Waiting}
 use Rattle.hb_layout.specs.declared.meta.Meta.{Meta}
 use Rattle.hb_ops.specs.Files.{FileState}
 use Rattle.hb_log_codec.specs.Groups.{Logged, FitsGroup, group_bytes}
-use Rattle.hb_store.specs.Payloads.{SpellAll}
-use Rattle.hb_store.proofs.Spellings.{OneGroup, OneList, SpelledOnce, same_spelled}
+use Rattle.hb_store.proofs.Facts.Spellings.{OneGroup, OneList, SpelledOnce, same_spelled}
 use Rattle.hb_store.specs.Replay.{Replayed, untouched, replay, after_group}
-use Rattle.hb_store.specs.Opening.{OpensBy, Shows, log_bytes}
+use Rattle.hb_store.specs.Opening.{OpensBy, Shows, log_bytes, SpellAll}
 use Rattle.hb_store.specs.States.{StoreState}
 use Rattle.hb_store.specs.Parts.{Leads, OpensNext}
 use Rattle.hb_store.specs.Keeps.{StoreKeeps}

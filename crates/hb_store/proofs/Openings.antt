@@ -8,7 +8,6 @@ use Rattle.hb_disk.specs.Model.{DiskModel, IsDisk}
 use Rattle.hb_lemmas.proofs.Options.{at_value}
 use Rattle.hb_disk.proofs.Facts.SyncedLaws.{IsSynced-part}
 use Rattle.hb_wal.specs.Frames.{range}
-use Rattle.hb_frag.specs.declared.pages.Page.{Page}
 use Rattle.hb_layout.specs.declared.meta.Meta.{Meta}
 use Rattle.hb_ops.specs.Files.{FileState}
 use Rattle.hb_log_codec.specs.Groups.{FitsGroup}
@@ -19,21 +18,18 @@ use Rattle.hb_store.specs.Keeps.{StoreKeeps, IsFresh}
 use Rattle.hb_store.proofs.Facts.ReplayLaws.{opens_fresh}
 
 -- no page is in memory, and none is imaged
-no_page : (id : ℕ) → map.get (map.empty {X = Page} {R = nat_cmp}) id ≡ None
-no_page id = map.get-empty nat_cmp id
-
 none_imaged : (id : ℕ) → set.contains (set.empty {R = nat_cmp}) id ≡ false
 none_imaged id = set.contains-empty nat_cmp id
 
 pub is_new : (turn : ℕ) (meta : Meta) → IsNew turn meta (new_state turn meta)
-is_new turn meta = record { turn_is = refl; meta_is = refl; log_is = refl; no_page = no_page; none_imaged = none_imaged; running = refl }
+is_new turn meta = record { turn_is = refl; meta_is = refl; log_is = refl; no_page = λ id. map.get-empty nat_cmp id; none_imaged = none_imaged; running = refl }
 
 pub new_memory : (turn : ℕ) (meta : Meta) → IsStanding turn meta → IsMemory (new_state turn meta)
 new_memory turn meta stands = record {
   stands = stands;
   area = refl;
   len = refl;
-  good = λ id page is. let never : None ≡ Some page = sym (no_page id) ∙ is in cc never;
+  good = λ id page is. let never : None ≡ Some page = sym (map.get-empty nat_cmp id) ∙ is in cc never;
   marked = λ id on. let never : false ≡ true = sym (none_imaged id) ∙ on in cc never;
 }
 
@@ -44,7 +40,7 @@ module _ (d : DiskModel) (is_disk : IsDisk d) (turn : ℕ) (meta : Meta) (s : Fi
       let opens = fresh.images c image in
       let counted : length s.pages ≡ meta.high = opens.by.shows.count ∙ ap (λ (m : Meta). m.high) (sym opens.by.shows.meta ∙ fresh.meta_is) in
       opens_fresh c turn meta s (fresh.newest c image) (omega (arith, is_disk.long c image, room))
-      (fresh.logged.synced.each b c told image ∙ at_value d.told (λ b. range (log_start turn meta) meta.log b ≡ replicate (meta.log - 0) 0) b told fresh.logged.reads
+      (fresh.running.logged.synced.each b c told image ∙ at_value d.told (λ b. range (log_start turn meta) meta.log b ≡ replicate (meta.log - 0) 0) b told fresh.running.logged.reads
       ∙ ap (λ (k : ℕ). replicate k 0) (let e : meta.log - 0 ≡ meta.log = omega arith in e))
       fresh.meta_is counted (λ id page is. fresh.pages id page is c image)
 
@@ -56,10 +52,10 @@ module _ (d : DiskModel) (is_disk : IsDisk d) (turn : ℕ) (meta : Meta) (s : Fi
       count = refl;
       images = λ c image. inl (fresh_image b told c image);
       shows = λ c image. (fresh_image b told c image).shows;
-      running = λ going. record { places = fresh.places; no_body = fresh.no_body; logged = fresh.logged };
+      running = λ going. fresh.running;
       kept = (
-        IsSynced-part d 0 8192 _ _ (omega arith) (omega arith) fresh.places,
-        IsSynced-part d (log_start turn meta) meta.log (log_start turn meta) 0 (omega arith) (omega arith) fresh.logged.synced,
+        IsSynced-part d 0 8192 _ _ (omega arith) (omega arith) fresh.running.places,
+        IsSynced-part d (log_start turn meta) meta.log (log_start turn meta) 0 (omega arith) (omega arith) fresh.running.logged.synced,
       );
     };
     waits = record { spelled = refl; fits = All-nil (FitsGroup meta.k); leads = refl };
@@ -67,7 +63,7 @@ module _ (d : DiskModel) (is_disk : IsDisk d) (turn : ℕ) (meta : Meta) (s : Fi
     memory = record {
       layout = record { k = refl; pages = refl; log = refl; dcap = refl; icap = refl };
       meta_is = fresh.meta_is;
-      cached = λ id page is. let never : None ≡ Some page = sym (no_page id) ∙ is in cc never;
+      cached = λ id page is. let never : None ≡ Some page = sym (map.get-empty nat_cmp id) ∙ is in cc never;
       placed = λ id page e none is tells. fresh.pages id page is e (is_disk.as_read e tells);
     };
   }

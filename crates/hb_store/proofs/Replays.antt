@@ -1,32 +1,17 @@
 -- Replaying groups one after the other.
-use Rattle.std.proofs.Common.{◌≡◌, ℕ, ◌+◌, ◌<◌, List, [], ◌∷◌, ◌++◌, length, get_or, map, take, drop, All, refl, sym, ap, subst, ◌∙◌, append_assoc}
+use Rattle.std.proofs.Common.{◌≡◌, ℕ, ◌+◌, ◌<◌, List, [], ◌∷◌, ◌++◌, length, get_or, map, take, drop, All, refl, sym, ap, subst, ◌∙◌}
 use Rattle.std.proofs.lemmas.List.{append-nil, drop_more, map-append, take-append-drop}
 use Rattle.std.proofs.lemmas.List.Elements.{All-head, All-tail}
 use Rattle.hb_layout.specs.declared.meta.Meta.{Meta}
 use Rattle.hb_log_codec.specs.declared.groups.Group.{Group}
-use Rattle.hb_log_codec.specs.Groups.{Logged, FitsGroup, SpellsGroups}
-use Rattle.hb_store.specs.Payloads.{SpellAll}
+use Rattle.hb_log_codec.specs.Groups.{FitsGroup, SpellsGroups}
 use Rattle.hb_log_codec.specs.Reading.{logged}
-use Rattle.hb_store.proofs.Spellings.{OneList}
+use Rattle.hb_store.proofs.Facts.Spellings.{OneList}
 use Rattle.hb_store.specs.Replay.{Replayed, MayFollow, MayReplay, after_group, replay, untouched}
 use Rattle.hb_store.specs.Opening.{IsBadPayload}
-use Rattle.hb_store.specs.Replaying.{Follows, HasReplayed}
-
-pub may_append : (t : Replayed) (xs ys : List Logged) → MayReplay t xs → MayReplay (replay t xs) ys → MayReplay t (xs ++ ys)
-may_append t [] ys one two = two
-may_append t (x ∷ xs) ys one two = (one.0, may_append (after_group t x) xs ys one.1 two)
-
-pub may_front : (t : Replayed) (xs ys : List Logged) → MayReplay t (xs ++ ys) → MayReplay t xs
-may_front t [] ys may = tt
-may_front t (x ∷ xs) ys may = (may.0, may_front (after_group t x) xs ys may.1)
-
-pub may_back : (t : Replayed) (xs ys : List Logged) → MayReplay t (xs ++ ys) → MayReplay (replay t xs) ys
-may_back t [] ys may = may
-may_back t (x ∷ xs) ys may = may_back (after_group t x) xs ys may.1
-
-pub replay-append : (t : Replayed) (xs ys : List Logged) → replay t (xs ++ ys) ≡ replay (replay t xs) ys
-replay-append t [] ys = refl
-replay-append t (x ∷ xs) ys = replay-append (after_group t x) xs ys
+use Rattle.hb_store.specs.Replaying.{Follows}
+use Rattle.hb_store.proofs.Facts.ReplayLaws.{MayReplay-append, MayReplay-back, SpellAll-append, replay-append}
+use Rattle.hb_store.specs.LogReading.{HasReplayed}
 
 -- ---- the groups of a payload, one after the other
 
@@ -48,7 +33,7 @@ next_fits k all xs x behind split fits = in_middle xs (subst (λ l. All (FitsGro
 
 -- one more group
 pub may_more : (t : Replayed) (xs : List Group) (x : Group) → MayReplay t (map logged xs) → MayFollow (replay t (map logged xs)) (logged x) → MayReplay t (map logged (xs ++ x ∷ []))
-may_more t xs x may next = subst (MayReplay t) (sym (map-append logged xs (x ∷ []))) (may_append t (map logged xs) (logged x ∷ []) may (next, tt))
+may_more t xs x may next = subst (MayReplay t) (sym (map-append logged xs (x ∷ []))) (MayReplay-append t (map logged xs) (logged x ∷ []) may (next, tt))
 
 pub replay_more : (t u v : Replayed) (xs : List Group) (x : Group) → u ≡ replay t (map logged xs) → v ≡ after_group u (logged x) → v ≡ replay t (map logged (xs ++ x ∷ []))
 replay_more t u v xs x so_far next =
@@ -59,20 +44,10 @@ pub bad_here : OneList → (k : ℕ) (t u : Replayed) (payload : List ℕ) (all 
     → u ≡ replay t (map logged xs) → (MayFollow u (logged x) → ⊥) → IsBadPayload k t payload
 bad_here one k t u payload all xs x behind spelled split so_far bad groups other may =
     let same : groups ≡ map logged xs ++ map logged (x ∷ behind) = one k payload groups (map logged all) other spelled ∙ ap (map logged) split ∙ map-append logged xs (x ∷ behind) in
-    let here = may_back t (map logged xs) (map logged (x ∷ behind)) (subst (MayReplay t) same may) in
+    let here = MayReplay-back t (map logged xs) (map logged (x ∷ behind)) (subst (MayReplay t) same may) in
     bad (subst (λ r. MayFollow r (logged x)) (sym so_far) here.0)
 
 -- ---- payloads
-
-pub spelled_more : (k : ℕ) (payloads : List (List ℕ)) (groups : List Logged) (payload : List ℕ) (more : List Logged) → SpellAll k payloads groups → SpellsGroups k payload more → SpellAll k (payloads ++ payload ∷ []) (groups ++ more)
-spelled_more k [] groups payload more spelled next = (more, [], ap (λ (l : List Logged). l ++ more) spelled ∙ sym (append-nil more), next, refl)
-spelled_more k (first ∷ rest) groups payload more spelled next = (
-  spelled.0,
-  spelled.1 ++ more,
-  ap (λ (l : List Logged). l ++ more) spelled.2 ∙ append_assoc spelled.0 spelled.1 more,
-  spelled.3,
-  spelled_more k rest spelled.1 payload more spelled.4 next,
-)
 
 pub replayed_none : (said : Meta) → HasReplayed said [] (untouched said)
 replayed_none said = record { groups = []; spelled = refl; may = tt; leads = refl }
@@ -80,7 +55,7 @@ replayed_none said = record { groups = []; spelled = refl; may = tt; leads = ref
 pub replayed_more : (said : Meta) (payloads : List (List ℕ)) (t u : Replayed) (payload : List ℕ) → HasReplayed said payloads t → Follows said.k t payload u → HasReplayed said (payloads ++ payload ∷ []) u
 replayed_more said payloads t u payload so_far next = record {
   groups = so_far.groups ++ next.groups;
-  spelled = spelled_more said.k payloads so_far.groups payload next.groups so_far.spelled next.spelled;
-  may = may_append (untouched said) so_far.groups next.groups so_far.may (subst (λ r. MayReplay r next.groups) so_far.leads next.may);
+  spelled = SpellAll-append said.k payloads (payload ∷ []) so_far.groups next.groups so_far.spelled (next.groups, [], sym (append-nil next.groups), next.spelled, refl);
+  may = MayReplay-append (untouched said) so_far.groups next.groups so_far.may (subst (λ r. MayReplay r next.groups) so_far.leads next.may);
   leads = next.leads ∙ ap (λ r. replay r next.groups) so_far.leads ∙ sym (replay-append (untouched said) so_far.groups next.groups);
 }

@@ -3,12 +3,11 @@ use Rattle.std.proofs.Common.{◌≡◌, ◌⊎◌, inl, inr, ℕ, suc, ◌<◌,
 use Rattle.std.specs.Prelude.{◌||◌, nat_eq}
 use Rattle.std.specs.Option.{is_some}
 use Rattle.std.specs.List.{remove}
-use Rattle.std.proofs.lemmas.Bool.{cases_Bool, eqb-true, eqb-false}
+use Rattle.std.proofs.lemmas.Bool.{or_parts, eqb-true}
 use Rattle.std.proofs.lemmas.List.Elements.{All-head, All-tail}
 use Rattle.hb_frag.specs.declared.pages.Page.{Page}
-use Rattle.hb_store.specs.Marks.{has_page, is_among}
-use Rattle.hb_store.specs.Replay.{set_pages}
-use Rattle.hb_store.proofs.Facts.ReplayLists.{or_none, set_not, set_one-same, set_one-other}
+use Rattle.hb_store.specs.Replay.{set_pages, has_page, is_among}
+use Rattle.hb_store.proofs.Facts.ReplayLists.{set_not, set_pages-same}
 
 pub or_true : (a : Bool) → (a || true) ≡ true
 or_true true = refl
@@ -22,27 +21,6 @@ or_swap false b c = refl
 pub or_assoc : (a b c : Bool) → ((a || b) || c) ≡ (a || (b || c))
 or_assoc true b c = refl
 or_assoc false b c = refl
-
-pub set_pages-same : (pages : List (ℕ × Page)) (f g : ℕ → Option Page) → ((q : ℕ) → f q ≡ g q) → (q : ℕ) → set_pages pages f q ≡ set_pages pages g q
-set_pages-same [] f g e q = e q
-set_pages-same (one ∷ rest) f g e q =
-    set_pages-same rest (λ r. cond (r == one.0) (Some one.1) (f r)) (λ r. cond (r == one.0) (Some one.1) (g r)) (λ r. ap (λ (o : Option Page). cond (r == one.0) (Some one.1) o) (e r)) q
-
--- what holds of the pages set and of the others holds of each that is there then
-pub all_set : (P : ℕ → Page → Type 0) (pages : List (ℕ × Page)) (f : ℕ → Option Page) → All (λ c. P c.0 c.1) pages → ((q : ℕ) (page : Page) → f q ≡ Some page → P q page)
-    → (q : ℕ) (page : Page) → set_pages pages f q ≡ Some page → P q page
-all_set P [] f set others q page e = others q page e
-all_set P (one ∷ rest) f set others q page e =
-    let C = λ (c : ℕ × Page). P c.0 c.1 in
-    all_set P rest (λ r. cond (r == one.0) (Some one.1) (f r)) (All-tail C one rest set)
-    (λ r other is. elim (cases_Bool (r == one.0)) [
-      | inl here ↦
-          let same : r ≡ one.0 = eqb-true r one.0 here in
-          let page_is : Some one.1 ≡ Some other = sym (set_one-same f one.0 one.1 r same) ∙ is in
-          let page_same : one.1 ≡ other = cc in
-          subst (λ (n : ℕ). P n other) (sym same) (subst (λ (p : Page). P one.0 p) page_same (All-head C one rest set))
-      | inr off ↦ others r other (sym (set_one-other f one.0 one.1 r (eqb-false r one.0 off)) ∙ is)
-    ]) q page e
 
 -- a page is there once others were set exactly where it was, or is one of them
 pub set_some : (pages : List (ℕ × Page)) (f : ℕ → Option Page) (q : ℕ) → is_some (set_pages pages f q) ≡ (has_page q pages || is_some (f q))
@@ -77,15 +55,8 @@ among_all Q (id ∷ rest) q all is = elim (or_either (q == id) (is_among q rest)
 -- where no page is, none was set and none was before
 pub none_set : (pages : List (ℕ × Page)) (f : ℕ → Option Page) (q : ℕ) → set_pages pages f q ≡ None → (f q ≡ None) × (has_page q pages ≡ false)
 none_set pages f q none =
-    let off = or_none (has_page q pages) (is_some (f q)) (sym (set_some pages f q) ∙ ap (λ (o : Option Page). is_some o) none) in
+    let off = or_parts (has_page q pages) (is_some (f q)) (sym (set_some pages f q) ∙ ap (λ (o : Option Page). is_some o) none) in
     (sym (set_not pages f q off.0) ∙ none, off.0)
-
--- pages that others have too are so once the same were set in both
-pub set_both : (pages : List (ℕ × Page)) (f g : ℕ → Option Page) → ((q : ℕ) (page : Page) → f q ≡ Some page → g q ≡ Some page) → (q : ℕ) (page : Page) → set_pages pages f q ≡ Some page → set_pages pages g q ≡ Some page
-set_both [] f g h q page e = h q page e
-set_both (one ∷ rest) f g h q page e =
-    set_both rest (λ r. cond (r == one.0) (Some one.1) (f r)) (λ r. cond (r == one.0) (Some one.1) (g r))
-    (λ r page. elim (r == one.0) as (λ b. cond b (Some one.1) (f r) ≡ Some page → cond b (Some one.1) (g r) ≡ Some page) [ true ↦ λ e. e | false ↦ h r page ]) q page e
 
 pub or_cond : (a b : Bool) → cond a true b ≡ (a || b)
 or_cond true b = refl

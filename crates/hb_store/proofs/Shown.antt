@@ -16,9 +16,10 @@ use Rattle.hb_store.specs.Opening.{IsPageIn, Shows}
 use Rattle.hb_store.specs.Parts.{AreImagesOf, Leads}
 use Rattle.hb_store.specs.Keeps.{last_of}
 use Rattle.hb_store.proofs.Counting.{HasCount, effect_count, effect_reaches}
-use Rattle.hb_store.proofs.FilePages.{pages_set}
-use Rattle.hb_store.proofs.MadeMeta.{reads_some, some_page}
+use Rattle.hb_store.proofs.Facts.FilePages.{pages_set}
+use Rattle.hb_ops.proofs.Facts.AllowedOps.{reads_some}
 use Rattle.hb_store.proofs.Touches.{change_by_first}
+use Rattle.hb_lemmas.proofs.Options.{some_value}
 
 module _ (bytes : List ℕ) (said : Meta) where
   -- pages set among the touched ones are those of a file in which they were set
@@ -64,8 +65,8 @@ module _ (bytes : List ℕ) (said : Meta) where
     -- reads the same page in both
     same_page : (id : ℕ) → IsSome (t.page id) → IsSome (page_of s id) → t.page id ≡ page_of s id
     same_page id some there =
-        let touched = some_page (t.page id) some in
-        let page = some_page (page_of s id) there in
+        let touched = some_value (t.page id) some in
+        let page = some_value (page_of s id) there in
         let Q : Option Page → Type 0 = λ o. IsPageIn bytes said id o page.0 in
         let same : touched.0 ≡ page.0 = subst Q touched.1 (shows.each id page.0 page.1) in
         touched.1 ∙ ap (λ (p : Page). Some p) same ∙ sym page.1

@@ -16,12 +16,14 @@ use Rattle.hb_ops.specs.declared.operations.Op.TheVariants.{Put, Del, Extract, P
 use Rattle.hb_ops.specs.Operations.{IsAllowedOn, change_of, reads_of}
 use Rattle.hb_log_codec.specs.Groups.{Logged, FitsGroup, FitsOp}
 use Rattle.hb_store.specs.Replay.{Replayed, with_images, IsAllowedIn, MayFollow, after_group, after_op, change_in, touched_read}
-use Rattle.hb_store.proofs.Facts.ReplayLists.{live_so}
-use Rattle.hb_store.specs.Replaying.{AreItsPages, ComesAfter, HasLimits, IsPageOf, with_pages}
+use Rattle.hb_ops.proofs.Facts.PageNumberLaws.{live_so}
+use Rattle.hb_store.specs.Replaying.{AreItsPages, HasLimits, IsPageOf, IsReplayable, ReplaysOn, with_pages}
 use Rattle.hb_store.specs.Making.{IsReadable, MakesGoodPages}
 use Rattle.hb_store.proofs.Grouped.{good_spelled}
-use Rattle.hb_store.proofs.MadeMeta.{comes_after, made_numbered, reads_some, some_page}
-use Rattle.hb_store.proofs.Setting.{all_set}
+use Rattle.hb_store.proofs.Facts.MadeMeta.{comes_after, made_numbered}
+use Rattle.hb_ops.proofs.Facts.AllowedOps.{reads_some}
+use Rattle.hb_store.proofs.Facts.ReplayLists.{all_set}
+use Rattle.hb_lemmas.proofs.Options.{some_value}
 
 -- a page of the file that can be written
 abbrev pub IsGood : Meta → ℕ × Page → Type 0
@@ -79,20 +81,20 @@ module _ (makes : MakesGoodPages) where
       let readable : IsReadable (touched_read t op 0) = λ page is. (its (get_or (reads_of op) 0 0) (Live page) (live_so (t.page (get_or (reads_of op) 0 0)) page is)).1 in
       let good = makes op t.meta (touched_read t op 0) (touched_read t op 1) (touched_read t op 2) limits fits allowed readable in
       let there = reads_some op t.meta t.page (touched_read t op 1) (touched_read t op 2) allowed in
-      let reads : All (IsPageOf t.meta) (reads_of op) = λ i d lt. let page = some_page (t.page (get_or (reads_of op) i d)) (there i d lt) in (its (get_or (reads_of op) i d) page.0 page.1).0 in
+      let reads : All (IsPageOf t.meta) (reads_of op) = λ i d lt. let page = some_value (t.page (get_or (reads_of op) i d)) (there i d lt) in (its (get_or (reads_of op) i d) page.0 page.1).0 in
       let numbered = made_numbered op t.meta (touched_read t op 0) (touched_read t op 1) (touched_read t op 2) allowed reads in
       all_set (λ q page. IsPageOf change.meta q × HasSpelling page) change.pages t.page
       (λ i d lt. (numbered i d lt, good_spelled change.meta (get_or change.pages i d).1 (good i d lt)))
       (λ q page is. let old = its q page is in ((old.0.0, omega (arith, old.0.1, after.rises)), old.1))
 
-  pub group_its : (t : Replayed) (g : Logged) → AreItsPages t → HasLimits t.meta → FitsGroup t.meta.k g → MayFollow t g → AreItsPages (after_group t g)
-  group_its t g its limits fits may = op_its (with_images t g) g.op (images_its t g t.meta.k its fits may.images) limits fits.op may.allowed
-
--- what the file says of itself then
-pub group_after : (t : Replayed) (g : Logged) → HasLimits t.meta → FitsGroup t.meta.k g → MayFollow t g → ComesAfter t.meta (after_group t g).meta
-group_after t g limits fits may =
-    let u = with_images t g in
-    comes_after g.op t.meta (touched_read u g.op 0) (touched_read u g.op 1) (touched_read u g.op 2) limits fits.op may.allowed
+  -- what a group leads to
+  pub group_leads : (t : Replayed) (g : Logged) → IsReplayable t → FitsGroup t.meta.k g → MayFollow t g → ReplaysOn t (after_group t g)
+  group_leads t g goes_on fits may =
+      let u = with_images t g in
+      record {
+        meta = comes_after g.op t.meta (touched_read u g.op 0) (touched_read u g.op 1) (touched_read u g.op 2) goes_on.limits fits.op may.allowed;
+        pages = op_its u g.op (images_its t g t.meta.k goes_on.pages fits may.images) goes_on.limits fits.op may.allowed;
+      }
 
 -- ---- setting one page after the other
 

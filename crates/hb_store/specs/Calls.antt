@@ -1,16 +1,14 @@
--- What the calls of a store do to what it is seen as.
-use Rattle.std.specs.Prelude.{◌≡◌, ◌≢◌, ℕ, ◌-◌, ◌≤◌, ◌||◌, true, false, IsTrue, List, [], ◌∷◌, ◌++◌, get_or, Option, IsSome}
+-- What a fetch and a commit do to what a store is seen as.
+use Rattle.std.specs.Prelude.{◌≡◌, ◌≢◌, ℕ, ◌-◌, ◌≤◌, ◌||◌, false, IsTrue, List, [], ◌∷◌, ◌++◌, get_or, Option, IsSome, ◌⊎◌, None}
 use Rattle.hb_space.specs.declared.form.TheConstants.{GROUP, PENDING}
 use Rattle.hb_frag.specs.declared.pages.LivePage.{LivePage}
 use Rattle.hb_ops.specs.declared.operations.Op.{Op}
 use Rattle.hb_ops.specs.Files.{FileState, if_live}
 use Rattle.hb_ops.specs.Operations.{Change, IsAllowedOn, change_of, effect_of, reads_of}
-use Rattle.hb_wal.specs.Log.{LogState, after_force, pending_bytes, room_of}
-use Rattle.hb_store.specs.Replay.{set_pages}
+use Rattle.hb_wal.specs.Log.{pending_bytes, room_of}
+use Rattle.hb_store.specs.Replay.{set_pages, has_page, is_among}
 use Rattle.hb_store.specs.States.{StoreState, in_memory, is_imaged}
-use Rattle.hb_store.specs.Staying.{StaysHere, NoneComes}
 use Rattle.hb_store.specs.Keeps.{last_of}
-use Rattle.hb_store.specs.Marks.{has_page, is_among}
 
 -- the page in use that an operation reads at a place of its list, among those in memory
 abbrev pub read_here : StoreState → Op → ℕ → Option LivePage
@@ -22,6 +20,16 @@ IsAllowedHere st op = IsAllowedOn op st.meta (read_here st op 0) (read_here st o
 
 abbrev pub change_here : StoreState → Op → Change
 change_here st op = change_of op st.meta (read_here st op 0) (read_here st op 1) (read_here st op 2)
+
+-- The page of this number stays in memory. Today each page does that is there. With a bounded memory it will be those that
+-- somebody holds, and those that read otherwise in their places than the file has them.
+abbrev pub StaysHere : StoreState → ℕ → Type 0
+StaysHere st id = IsSome (in_memory st id)
+
+-- No page comes under this number: what was there is there as it was, or it left. Then it didn't have to stay, and the log
+-- of this turn has no image of it and didn't make it: so it reads in its place as the file has it.
+abbrev pub NoneComes : StoreState → StoreState → ℕ → Type 0
+NoneComes old new id = (in_memory new id ≡ in_memory old id) ⊎ ((in_memory new id ≡ None) × (¬ (StaysHere old id)) × (is_imaged old id ≡ false))
 
 -- all but the pages in memory is the same
 pub record KeepsAllButPages (old new : StoreState) : Type 0 where
@@ -76,26 +84,6 @@ pub record Commits (op : Op) (mark : ℕ) (old new : StoreState) : Type 0 where
   pub group : List ℕ
   -- it waits behind the others, with its mark
   pub groups : new.log.groups ≡ old.log.groups ++ record { bytes = group; mark = mark } ∷ []
-
--- a store after a force: the first group that waited doesn't any more
-abbrev pub with_log : LogState → StoreState → StoreState
-with_log log st = record { turn = st.turn; meta = st.meta; log = log; pages = st.pages; imaged = st.imaged; stopped = st.stopped }
-
-abbrev pub forced_state : StoreState → StoreState
-forced_state st = with_log (after_force st.log) st
-
--- a store that a fault has stopped
-abbrev pub stopped_state : StoreState → StoreState
-stopped_state st = record { turn = st.turn; meta = st.meta; log = st.log; pages = st.pages; imaged = st.imaged; stopped = true }
-
--- The files after a force: the next one is durable, where a group waited.
-abbrev pub durable_after : FileState → List FileState → FileState
-durable_after durable [] = durable
-durable_after durable (next ∷ later) = next
-
-abbrev pub later_after : List FileState → List FileState
-later_after [] = []
-later_after (next ∷ later) = later
 
 -- The store may take an operation: room for the longest group, few pending bytes.
 abbrev pub IsReady : StoreState → Type 0

@@ -1,20 +1,55 @@
--- What a fetch reads, and what it makes of a store.
-use Rattle.std.specs.Prelude.{◌≡◌, ◌≢◌, ℕ, List}
-use Rattle.std.specs.FinMap as map
-use Rattle.hb_frag.specs.declared.pages.LivePage.{LivePage}
+-- What a fetch reads and makes of a store, and why it brings no page.
+use Rattle.std.specs.Prelude.{◌≡◌, ◌≢◌, ◌⊎◌, ℕ, ◌<◌, List, IfSome}
+use Rattle.hb_disk.specs.Model.{DiskModel}
 use Rattle.hb_frag.specs.declared.pages.Page.{Page}
 use Rattle.hb_frag.specs.declared.pages.Page.TheVariants.{Live}
+use Rattle.hb_frag.specs.declared.pages.LivePage.{LivePage}
+use Rattle.hb_frag.specs.Grammar.{SpellsPage}
 use Rattle.hb_layout.specs.declared.meta.Meta.{Meta}
 use Rattle.hb_ops.specs.LocalRule.{BreaksFirst}
-use Rattle.hb_store.specs.States.{StoreState}
-use Rattle.hb_store.specs.Stops.{IsDamagedBy}
+use Rattle.hb_store.specs.Opening.{place_bytes}
+use Rattle.hb_store.specs.declared.stops.Why.TheVariants.{Rule, Level, Extent}
 use Rattle.hb_store.specs.declared.stops.FetchStop.{FetchStop}
 use Rattle.hb_store.specs.declared.stops.FetchStop.TheVariants as fetches
-use Rattle.hb_store.specs.declared.stops.Why.TheVariants.{Rule, Level, Extent}
+use Rattle.std.specs.FinMap as map
+use Rattle.hb_store.specs.States.{StoreState}
+use Rattle.hb_disk.specs.Calls.{ReadsOnly}
+use Rattle.hb_ops.specs.Files.{FileState}
+use Rattle.hb_store.specs.Keeps.{StoreKeeps}
+
+-- the number is of no page of the file
+abbrev pub IsNoPage : Meta → ℕ → Type 0
+IsNoPage meta id = (id ≡ 0) ⊎ (meta.high < id)
+
+-- What the place of a page holds where the page breaks this rule: no page for 0, else a page whose first broken rule it is.
+abbrev pub IsDamagedBy : Meta → List ℕ → ℕ → Type 0
+IsDamagedBy meta bytes rule =
+    ((rule ≡ 0) × ((page : Page) → SpellsPage bytes page → ⊥))
+    ⊎ ((rule ≢ 0) × (page : LivePage) × SpellsPage bytes (Live page) × BreaksFirst rule page meta)
 
 -- a store with a page in memory, under its number
 abbrev pub with_held : ℕ → Page → StoreState → StoreState
 with_held id page st = record { turn = st.turn; meta = st.meta; log = st.log; pages = map.insert st.pages id page; imaged = st.imaged; stopped = st.stopped }
+
+-- What a call that may read a page did to a disk and its store, where `failed` says that a fault of the disk ended it.
+pub record LooksUp (failed : Type 0) (d e : DiskModel) (old new : StoreState) : Type 0 where
+  -- the disk was only read, and its count of faults rose where one ended the call
+  pub only : ReadsOnly failed d e
+  -- what the store kept of the disk it keeps
+  pub keeps : (durable : FileState) (later : List FileState) → StoreKeeps d old durable later → StoreKeeps e new durable later
+
+-- Which rule a page breaks that isn't fetched, from what the disk read as, where it tells. 1 is the rule of a number
+-- that is no page's; then nothing was read.
+abbrev pub Breaks : Meta → DiskModel → ℕ → ℕ → Type 0
+Breaks meta d id rule = ((rule ≡ 1) × IsNoPage meta id) ⊎ ((rule ≢ 1) × (¬ (IsNoPage meta id)) × IfSome d.told (λ b. IsDamagedBy meta (place_bytes meta id b) rule))
+
+-- Why a page of this number was not fetched.
+abbrev pub FetchesNot : Meta → DiskModel → ℕ → FetchStop → Type 0
+FetchesNot meta d id (fetches.Damaged page (Rule rule)) = (page ≡ id) × Breaks meta d id rule
+FetchesNot meta d id (fetches.Damaged page (Level asked found)) = ⊥
+FetchesNot meta d id (fetches.Damaged page (Extent asked found)) = ⊥
+FetchesNot meta d id fetches.ReadFault = ¬ (IsNoPage meta id)
+FetchesNot meta d id fetches.NoMemory = ¬ (IsNoPage meta id)
 
 -- The page breaks a rule that speaks of it alone, and the stop names it.
 abbrev pub BreaksHere : Meta → ℕ → Page → FetchStop → Type 0

@@ -1,19 +1,15 @@
 -- What a store keeps of the disk: four records with a name each, joined; and a disk from which it may start.
-use Rattle.std.specs.Prelude.{◌≡◌, ◌⊎◌, ℕ, ◌*◌, List, [], ◌∷◌, Some, IsSome}
-use Rattle.hb_space.specs.declared.form.TheConstants.{PAGE}
+use Rattle.std.specs.Prelude.{◌≡◌, ◌⊎◌, ℕ, List, [], ◌∷◌, Some, IsSome}
 use Rattle.hb_disk.specs.Model.{DiskModel}
-use Rattle.hb_disk.specs.Calls.{IsSynced}
-use Rattle.hb_wal.specs.Forces.{HasLog}
 use Rattle.hb_layout.specs.Offsets.{log_start}
 use Rattle.hb_layout.specs.declared.meta.Meta.{Meta}
-use Rattle.hb_super.specs.Superblocks.{IsNewest, next_turn}
-use Rattle.hb_super.specs.Moments.{HasNoBody}
+use Rattle.hb_super.specs.Superblocks.{IsNewest}
 use Rattle.hb_frag.specs.declared.pages.Page.{Page}
 use Rattle.hb_frag.specs.Grammar.{SpellsPage}
 use Rattle.hb_ops.specs.Files.{FileState, page_of}
 use Rattle.hb_store.specs.Opening.{OpensTo, place_bytes}
 use Rattle.hb_store.specs.States.{StoreState, in_memory, is_imaged}
-use Rattle.hb_store.specs.Parts.{Parts, IsDurable, IsWaiting, IsImaged, IsInMemory}
+use Rattle.hb_store.specs.Parts.{Parts, IsRunning, IsDurable, IsWaiting, IsImaged, IsInMemory}
 
 -- the last of the files behind the first one
 abbrev pub last_of : FileState → List FileState → FileState
@@ -46,12 +42,8 @@ pub record IsFresh (d : DiskModel) (turn : ℕ) (meta : Meta) (s : FileState) : 
   pub newest : (c : List ℕ) → d.Image c → IsNewest c turn meta
   -- each image opens to the file
   pub images : (c : List ℕ) → d.Image c → OpensTo c s
-  -- the superblock places are synced
-  pub places : IsSynced d 0 (2 * PAGE)
-  -- no write of the next turn's superblock was cut short there
-  pub no_body : (b : List ℕ) → d.told ≡ Some b → HasNoBody b (next_turn turn)
-  -- the log has no frame
-  pub logged : HasLog d (record { area = log_start turn meta; len = meta.log; written = 0; groups = [] }) []
+  -- all is as in a running store, and the log has no frame
+  pub running : IsRunning d turn (record { area = log_start turn meta; len = meta.log; written = 0; groups = [] }) []
   -- each page stands in its place in each image
   pub pages : (id : ℕ) (page : Page) → page_of s id ≡ Some page → (c : List ℕ) → d.Image c → SpellsPage (place_bytes meta id c) page
 

@@ -1,5 +1,5 @@
--- What an allowed operation makes can be written, and has its place in the log.
-use Rattle.std.specs.Prelude.{◌≡◌, ℕ, ◌+◌, ◌<◌, ◌≤◌, ◌^◌, length, All, Option, Some}
+-- The group of an operation; and that what an allowed operation makes can be written, and has its place in the log.
+use Rattle.std.specs.Prelude.{◌≡◌, ℕ, ◌+◌, ◌<◌, ◌≤◌, ◌^◌, length, All, Option, Some, Bool, if◌then◌else◌, List, [], ◌∷◌, flat_map, None}
 use Rattle.hb_frag.specs.declared.pages.LivePage.{LivePage}
 use Rattle.hb_frag.specs.declared.pages.Page.{Page}
 use Rattle.hb_frag.specs.declared.pages.Page.TheVariants.{Live}
@@ -7,12 +7,24 @@ use Rattle.hb_frag.specs.Grammar.{HasSpelling}
 use Rattle.hb_layout.specs.declared.meta.Meta.{Meta}
 use Rattle.hb_ops.specs.declared.operations.Op.{Op}
 use Rattle.hb_ops.specs.declared.operations.Op.TheVariants.{Put, Del, Extract, Post, Grow}
-use Rattle.hb_ops.specs.Operations.{Change, IsAllowedOn, change_of}
-use Rattle.hb_log_codec.specs.Groups.{FitsGroup, FitsLeafCut, FitsOp}
-use Rattle.hb_store.specs.States.{IsGoodPage, IsMemory, IsSameLayout, IsStanding, StoreState}
-use Rattle.hb_store.specs.Calls.{change_here}
-use Rattle.hb_store.specs.Images.{group_here}
+use Rattle.hb_ops.specs.Operations.{Change, IsAllowedOn, OpHas, change_of, reads_of}
+use Rattle.hb_log_codec.specs.Groups.{FitsGroup, FitsLeafCut, FitsOp, Logged}
+use Rattle.hb_store.specs.States.{IsGoodPage, IsMemory, IsSameLayout, IsStanding, StoreState, in_memory, is_imaged}
+use Rattle.hb_store.specs.Calls.{IsAllowedHere, change_here}
 use Rattle.hb_store.specs.Replaying.{HasLimits, IsPageOf}
+
+-- the image of a page, unless it was imaged or made in this turn
+abbrev pub image_needed : ℕ → Option Page → Bool → List (ℕ × Page)
+image_needed id None imaged = []
+image_needed id (Some page) imaged = if imaged then [] else (id, page) ∷ []
+
+-- the images that pages of these numbers need, in their order
+abbrev pub images_needed : (ℕ → Option Page) → (ℕ → Bool) → List ℕ → List (ℕ × Page)
+images_needed page_in imaged ids = flat_map (λ id. image_needed id (page_in id) (imaged id)) ids
+
+-- the group of an operation: the images that its reads need, and the operation
+abbrev pub group_here : StoreState → Op → Logged
+group_here st op = record { images = images_needed (in_memory st) (is_imaged st) (reads_of op); op = op }
 
 -- the page that an operation reads can be written
 abbrev pub IsReadable : Option LivePage → Type 0
@@ -50,6 +62,11 @@ pub record ChangesWell (turn : ℕ) (meta : Meta) (change : Change) : Type 0 whe
   pub others : (page : Page) → IsGoodPage meta page → IsGoodPage change.meta page
   -- each changed page is of the file, and good
   pub pages : All (λ c. IsPageOf change.meta c.0 × IsGoodPage change.meta c.1) change.pages
+
+-- an operation that a store can do: its points have as many attributes as the file says, and it is allowed on the pages in memory
+pub record IsDoableHere (op : Op) (st : StoreState) : Type 0 where
+  pub points : OpHas st.meta.k op
+  pub allowed : IsAllowedHere st op
 
 -- What an operation makes of a store is well made, and its group fits the log.
 pub record MakesWell (op : Op) (st : StoreState) : Type 0 where

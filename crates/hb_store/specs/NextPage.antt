@@ -6,7 +6,7 @@ use Rattle.hb_frag.specs.declared.pages.Page.TheVariants.{Live, Free}
 use Rattle.hb_layout.specs.declared.meta.Meta.{Meta}
 use Rattle.hb_store.specs.Calls.{Fetched}
 use Rattle.hb_store.specs.States.{StoreState, in_memory}
-use Rattle.hb_store.specs.Stops.{FetchesNot}
+use Rattle.hb_store.specs.Fetching.{FetchesNot}
 use Rattle.hb_store.specs.declared.stops.FetchStop.{FetchStop}
 use Rattle.hb_store.specs.declared.stops.FetchStop.TheVariants.{Damaged, ReadFault, NoMemory}
 use Rattle.hb_store.specs.declared.stops.Why.TheVariants.{Rule}
@@ -34,8 +34,3 @@ IsDamage NoMemory = ⊥
 -- The head of the free chain is none that is free: it isn't fetched, or it is in use.
 abbrev pub IsNoHead : Meta → DiskModel → StoreState → ℕ → FetchStop → Type 0
 IsNoHead meta d new head stop = FetchesNot meta d head stop ⊎ ((page : LivePage) × (in_memory new head ≡ Some (Live page)) × (stop ≡ Damaged head (Rule 2)))
-
--- Why no number is given although there is room: the head of the chain is none, or the chain has none and no number is
--- left behind the high mark.
-abbrev pub LacksNext : Meta → DiskModel → StoreState → FetchStop → Type 0
-LacksNext meta d new stop = ((meta.free ≢ 0) × IsNoHead meta d new meta.free stop) ⊎ ((meta.free ≡ 0) × (meta.high ≡ meta.pages) × (stop ≡ Damaged 0 (Rule 2)))

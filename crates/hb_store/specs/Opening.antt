@@ -1,5 +1,5 @@
 -- What a list of bytes opens to: the newest superblock, the replay of its log, and the pages in their places.
-use Rattle.std.specs.Prelude.{◌≡◌, ◌⊎◌, ℕ, ◌≤◌, List, ◌++◌, length, All, Option, Some, None, IsSome}
+use Rattle.std.specs.Prelude.{◌≡◌, ◌⊎◌, ℕ, ◌≤◌, List, ◌++◌, length, All, Option, Some, None, IsSome, [], ◌∷◌}
 use Rattle.hb_space.specs.declared.form.TheConstants.{PAGE}
 use Rattle.hb_disk.specs.Model.{DiskModel}
 use Rattle.hb_wal.specs.Frames.{frames, range, HasFrames, IsBadFrame, IsPayload}
@@ -11,7 +11,6 @@ use Rattle.hb_layout.specs.declared.meta.Meta.{Meta}
 use Rattle.hb_layout.specs.Offsets.{file_size, log_start, page_offset}
 use Rattle.hb_ops.specs.Files.{FileState, page_of}
 use Rattle.hb_log_codec.specs.Groups.{Logged, SpellsGroups}
-use Rattle.hb_store.specs.Payloads.{SpellAll}
 use Rattle.hb_store.specs.Replay.{Replayed, untouched, replay, MayReplay}
 
 -- the bytes of a turn's log area, and those in the place of a page
@@ -20,6 +19,11 @@ log_bytes turn meta bytes = range (log_start turn meta) meta.log bytes
 
 abbrev pub place_bytes : Meta → ℕ → List ℕ → List ℕ
 place_bytes meta id bytes = range (page_offset meta id) PAGE bytes
+
+-- These payloads, each by itself, spell these groups, in order.
+abbrev pub SpellAll : ℕ → List (List ℕ) → List Logged → Type 0
+SpellAll k [] groups = groups ≡ []
+SpellAll k (payload ∷ rest) groups = (front : List Logged) × (behind : List Logged) × (groups ≡ front ++ behind) × SpellsGroups k payload front × SpellAll k rest behind
 
 -- A page of the file is the touched one, or where it wasn't touched the one that its place spells.
 abbrev pub IsPageIn : List ℕ → Meta → ℕ → Option Page → Page → Type 0
@@ -68,3 +72,10 @@ pub record HasBadGroup (bytes : List ℕ) (turn : ℕ) (said : Meta) (frame : �
 pub record IsEven (d : DiskModel) (s : FileState) : Type 0 where
   pub told : IsSome d.told
   pub images : (c : List ℕ) → d.Image c → OpensTo c s
+
+-- Bytes open to one file at most, and where they do no frame of their log is bad.
+abbrev pub OpensToOne : Type 0
+OpensToOne = (bytes : List ℕ) (s t : FileState) → OpensTo bytes s → OpensTo bytes t → s ≡ t
+
+abbrev pub OpensWhole : Type 0
+OpensWhole = (bytes : List ℕ) (s : FileState) (turn : ℕ) (said : Meta) (frame : ℕ) → OpensTo bytes s → IsNewest bytes turn said → HasBadGroup bytes turn said frame → ⊥

@@ -1,5 +1,5 @@
 -- What the groups of a log make of the pages that they touch.
-use Rattle.std.specs.Prelude.{ℕ, ◌≤◌, ◌==◌, if◌then◌else◌, List, [], ◌∷◌, get_or, All, Option, Some, None}
+use Rattle.std.specs.Prelude.{ℕ, ◌≤◌, ◌==◌, if◌then◌else◌, List, [], ◌∷◌, get_or, All, Option, Some, None, Bool, false, ◌||◌}
 use Rattle.hb_frag.specs.declared.pages.LivePage.{LivePage}
 use Rattle.hb_frag.specs.declared.pages.Page.{Page}
 use Rattle.hb_layout.specs.declared.meta.Meta.{Meta}
@@ -16,6 +16,16 @@ pub record Replayed : Type 0 where
 -- no page was touched
 abbrev pub untouched : Meta → Replayed
 untouched meta = record { meta = meta; page = λ id. None }
+
+-- whether a number is one of these
+abbrev pub is_among : ℕ → List ℕ → Bool
+is_among q [] = false
+is_among q (id ∷ rest) = (q == id) || is_among q rest
+
+-- whether it is that of one of these pages
+abbrev pub has_page : ℕ → List (ℕ × Page) → Bool
+has_page q [] = false
+has_page q (one ∷ rest) = (q == one.0) || has_page q rest
 
 -- pages with others set under their numbers, one after the other
 abbrev pub set_pages : List (ℕ × Page) → (ℕ → Option Page) → ℕ → Option Page

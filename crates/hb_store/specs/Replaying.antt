@@ -1,5 +1,5 @@
--- What the replay of groups over touched pages gives.
-use Rattle.std.specs.Prelude.{◌≡◌, ◌⊎◌, ℕ, ◌<◌, ◌≤◌, ◌^◌, List, ◌++◌, ◌∷◌, length, Some}
+-- Touched pages that groups are replayed on, and what such a replay gives.
+use Rattle.std.specs.Prelude.{◌≡◌, ℕ, ◌<◌, ◌≤◌, ◌^◌, List, Some}
 use Rattle.std.specs.Ordering.{nat_cmp}
 use Rattle.std.specs.BTreeMap.{get}
 use Rattle.hb_layout.specs.Limits.{IsLayout}
@@ -9,12 +9,8 @@ use Rattle.hb_layout.specs.declared.meta.Meta.{Meta}
 use Rattle.hb_ops.specs.declared.changes.ChangeError.{ChangeError}
 use Rattle.hb_ops.specs.declared.changes.ChangeError.TheVariants as changes
 use Rattle.hb_log_codec.specs.Groups.{Logged, SpellsGroups}
-use Rattle.hb_store.specs.Payloads.{SpellAll}
-use Rattle.hb_store.specs.Replay.{Replayed, untouched, set_pages, replay, MayReplay}
-use Rattle.hb_store.specs.Opening.{IsBadPayload}
+use Rattle.hb_store.specs.Replay.{Replayed, set_pages, replay, MayReplay}
 use Rattle.hb_store.specs.States.{IsSameLayout}
-use Rattle.hb_store.specs.declared.touched.LogStop.{LogStop}
-use Rattle.hb_store.specs.declared.touched.LogStop.TheVariants as logs
 use Rattle.hb_store.specs.declared.touched.Touched.{Touched}
 use Rattle.hb_store.specs.declared.touched.ReplayStop.{ReplayStop}
 use Rattle.hb_store.specs.declared.touched.ReplayStop.TheVariants as replays
@@ -52,6 +48,16 @@ pub record ComesAfter (old new : Meta) : Type 0 where
   pub live : old.live ≤ old.pages → new.live ≤ new.pages
   pub free : old.free < 2 ^ 32 → new.free < 2 ^ 32
 
+-- what a replay goes on from: a file within its limits, and touched pages of it that can be written
+pub record IsReplayable (t : Replayed) : Type 0 where
+  pub limits : HasLimits t.meta
+  pub pages : AreItsPages t
+
+-- what groups that were replayed lead to
+pub record ReplaysOn (old new : Replayed) : Type 0 where
+  pub meta : ComesAfter old.meta new.meta
+  pub pages : AreItsPages new
+
 -- the stop of a replay, by that of a change and that of reading groups
 abbrev pub change_stop : ChangeError → ReplayStop
 change_stop changes.Unfit = replays.Unfit
@@ -67,38 +73,3 @@ pub record Follows (k : ℕ) (old : Replayed) (payload : List ℕ) (new : Replay
   pub spelled : SpellsGroups k payload groups
   pub may : MayReplay old groups
   pub leads : new ≡ replay old groups
-
--- Payloads were replayed from an untouched file, and led here.
-pub record HasReplayed (said : Meta) (payloads : List (List ℕ)) (t : Replayed) : Type 0 where
-  pub groups : List Logged
-  pub spelled : SpellAll said.k payloads groups
-  pub may : MayReplay (untouched said) groups
-  pub leads : t ≡ replay (untouched said) groups
-
--- The payload of this number, counted from 0, is the first that isn't a list of groups that may be replayed there.
-pub record IsFirstBad (said : Meta) (payloads : List (List ℕ)) (frame : ℕ) : Type 0 where
-  pub before : List (List ℕ)
-  pub payload : List ℕ
-  pub behind : List (List ℕ)
-  pub parts : payloads ≡ before ++ payload ∷ behind
-  pub counted : frame ≡ length before
-  pub reached : Replayed
-  pub replayed : HasReplayed said before reached
-  pub bad : IsBadPayload said.k reached payload
-
--- the stop of reading a log, where a replay stops at the frame of this number
-abbrev pub log_stop : ℕ → ReplayStop → LogStop
-log_stop frame replays.Unfit = logs.BadGroup frame
-log_stop frame replays.NoMemory = logs.NoMemory
-
--- Why payloads weren't replayed: the first bad one. Want of memory says nothing of them.
-abbrev pub NamesBad : Meta → List (List ℕ) → LogStop → Type 0
-NamesBad said payloads (logs.BadGroup frame) = IsFirstBad said payloads frame
-NamesBad said payloads logs.NoMemory = Unit {0}
-NamesBad said payloads logs.DiskFault = ⊥
-
--- The same where a bad frame is behind the payloads: it is the first bad one where all of them were replayed.
-abbrev pub NamesBadOr : Meta → List (List ℕ) → LogStop → Type 0
-NamesBadOr said payloads (logs.BadGroup frame) = IsFirstBad said payloads frame ⊎ ((frame ≡ length payloads) × (reached : Replayed) × HasReplayed said payloads reached)
-NamesBadOr said payloads logs.NoMemory = Unit {0}
-NamesBadOr said payloads logs.DiskFault = ⊥

@@ -45,13 +45,6 @@ pub record IsStanding (turn : ℕ) (meta : Meta) : Type 0 where
   pub root_fits : meta.root < 2 ^ 32
   pub free_fits : meta.free < 2 ^ 32
 
--- what a disk of this size may hold of a turn and a file, whatever its bytes are
-pub record MayHold (size turn : ℕ) (meta : Meta) : Type 0 where
-  -- turn and file are within their limits
-  pub stands : IsStanding turn meta
-  -- the file fits the disk
-  pub room : file_size meta ≤ size
-
 -- a page in memory has a spelling, and where it is in use keeps the rules that speak of it alone
 abbrev pub IsGoodPage : Meta → Page → Type 0
 IsGoodPage meta (Live page) = HasSpelling (Live page) × FitsFile meta page

@@ -1,16 +1,16 @@
 //! The page number that an allocation takes.
-ghost use Rattle.std.specs.Prelude.{◌≡◌, ◌≢◌, ℕ, List, Some, None, IfOk, IfErr, IfSome, IsErrOf, IsOk, IsSome, OnErr, OnOk};
-ghost use Rattle.hb_outside.specs.Streams.{Rose};
-ghost use Rattle.hb_disk.specs.Calls.{OnlyReads};
+ghost use Rattle.std.specs.Prelude.{◌≡◌, ◌≢◌, ◌⊎◌, ℕ, List, Some, None, IfOk, IfErr, IfSome, IsErrOf, IsOk, IsSome, OnOk};
 ghost use Rattle.hb_frag.specs.declared.pages.Page.TheVariants.{Free};
 ghost use Rattle.hb_ops.specs.Allocating.{Allocates, NamesNext};
 ghost use Rattle.hb_ops.specs.Files.{FileState, page_of};
 ghost use Rattle.hb_ops.specs.Sound.{IsSound};
 ghost use Rattle.hb_store.specs.States.{IsMemory, in_memory};
+ghost use Rattle.hb_store.specs.Fetching.{LooksUp};
 ghost use Rattle.hb_store.specs.Keeps.{StoreKeeps, last_of};
-ghost use Rattle.hb_store.specs.NextPage.{IsDamage, IsNext, IsNoHead, LacksNext, MayFetch, NeedsNoRead};
+ghost use Rattle.hb_store.specs.NextPage.{IsDamage, IsNext, IsNoHead, MayFetch, NeedsNoRead};
 ghost use Rattle.hb_store.specs.Seen.{seen_as};
-ghost use Rattle.hb_store.specs.declared.stops.FetchStop.TheVariants.{ReadFault};
+ghost use Rattle.hb_store.specs.declared.stops.FetchStop.TheVariants.{Damaged, ReadFault};
+ghost use Rattle.hb_store.specs.declared.stops.Why.TheVariants.{Rule};
 
 use crate::fetches::damaged;
 use crate::stops::FetchStop;
@@ -35,12 +35,10 @@ impl<D: Device> Store<D> {
         // without a read nothing changes, and only damage stops it
         ensures unread { NeedsNoRead (seen_as self.old) → (self.new.disk ≡ self.old.disk) × (seen_as self.new ≡ seen_as self.old) }
         ensures damage { NeedsNoRead (seen_as self.old) → IfErr result IsDamage }
-        ensures only_reads { OnlyReads (D.model self.old.disk) (D.model self.new.disk) }
-        ensures why { IfErr result (LacksNext (seen_as self.old).meta (D.model self.old.disk) (seen_as self.new)) }
-        ensures cause { IsErrOf result ReadFault → Rose (D.model self.old.disk).read_faults (D.model self.new.disk).read_faults }
-        ensures no_fault { (IsErrOf result ReadFault → ⊥) → (D.model self.new.disk).read_faults ≡ (D.model self.old.disk).read_faults }
-        ensures keeps { (durable : FileState) (later : List FileState) → StoreKeeps (D.model self.old.disk) (seen_as self.old) durable later →
-            StoreKeeps (D.model self.new.disk) (seen_as self.new) durable later }
+        ensures looks { LooksUp (IsErrOf result ReadFault) (D.model self.old.disk) (D.model self.new.disk) (seen_as self.old) (seen_as self.new) }
+        // the head of the chain is none that is free, or the chain has none and no number is left behind the high mark
+        ensures why { IfErr result (λ stop. (((seen_as self.old).meta.free ≢ 0) × IsNoHead (seen_as self.old).meta (D.model self.old.disk) (seen_as self.new) (seen_as self.old).meta.free stop)
+            ⊎ (((seen_as self.old).meta.free ≡ 0) × ((seen_as self.old).meta.high ≡ (seen_as self.old).meta.pages) × (stop ≡ Damaged 0 (Rule 2)))) }
         // in a sound file nothing is damaged
         ensures sound { (durable : FileState) (later : List FileState) → StoreKeeps (D.model self.old.disk) (seen_as self.old) durable later →
             IsSound (last_of durable later) → IfErr result (λ stop. (stop ≢ FetchStop.ReadFault) → (stop ≢ FetchStop.NoMemory) → ⊥) }
@@ -66,12 +64,8 @@ impl<D: Device> Store<D> {
         ensures fetches { MayFetch head (seen_as self.old) (seen_as self.new) }
         ensures unread { IsSome (in_memory (seen_as self.old) head) → (self.new.disk ≡ self.old.disk) × (seen_as self.new ≡ seen_as self.old) }
         ensures damage { IsSome (in_memory (seen_as self.old) head) → IfErr result IsDamage }
-        ensures only_reads { OnlyReads (D.model self.old.disk) (D.model self.new.disk) }
+        ensures looks { LooksUp (IsErrOf result ReadFault) (D.model self.old.disk) (D.model self.new.disk) (seen_as self.old) (seen_as self.new) }
         ensures why { IfErr result (IsNoHead (seen_as self.old).meta (D.model self.old.disk) (seen_as self.new) head) }
-        ensures cause { IsErrOf result ReadFault → Rose (D.model self.old.disk).read_faults (D.model self.new.disk).read_faults }
-        ensures no_fault { (IsErrOf result ReadFault → ⊥) → (D.model self.new.disk).read_faults ≡ (D.model self.old.disk).read_faults }
-        ensures keeps { (durable : FileState) (later : List FileState) → StoreKeeps (D.model self.old.disk) (seen_as self.old) durable later →
-            StoreKeeps (D.model self.new.disk) (seen_as self.new) durable later }
         // a page that is free in a sound file isn't damaged
         ensures sound { (durable : FileState) (later : List FileState) → StoreKeeps (D.model self.old.disk) (seen_as self.old) durable later →
             IsSound (last_of durable later) → (next : ℕ) → page_of (last_of durable later) head ≡ Some (Free next) →

@@ -6,9 +6,8 @@ ghost use Rattle.hb_ops.specs.Given.{given as live_given};
 ghost use Rattle.hb_ops.specs.Files.{FileState, if_live};
 ghost use Rattle.hb_ops.specs.Operations.{IsLicensed, OpHas, reads_of};
 ghost use Rattle.hb_log_codec.specs.Groups.{FitsGroup, group_bytes};
-ghost use Rattle.hb_store.specs.Images.{group_here};
 ghost use Rattle.hb_store.specs.Keeps.{StoreKeeps, last_of};
-ghost use Rattle.hb_store.specs.Making.{MakesWell};
+ghost use Rattle.hb_store.specs.Making.{IsDoableHere, MakesWell, group_here};
 ghost use Rattle.hb_store.specs.Seen.{seen_as};
 ghost use Rattle.hb_store.specs.Calls.{Commits, IsAllowedHere, IsReady, change_here, read_here, with_op};
 
@@ -71,8 +70,7 @@ impl Memory {
 
     /// What an operation makes of the pages in memory.
     fn changed(&self, alloc: Global, op: &Op) -> Result<Changed, NoMemory>
-        requires points { OpHas self.now.meta.k op.now }
-        requires allowed { IsAllowedHere self.now op.now }
+        requires { IsDoableHere op.now self.now }
         ensures effect { IfOk result (λ c. record { meta = c.meta; pages = c.pages.items } ≡ change_here self.now op.now) }
         ensures few { IfOk result (λ c. length c.pages.items ≤ 3) }
     {
@@ -100,8 +98,7 @@ impl Memory {
 
     /// The bytes of an operation's group. It fits the log wherever the store is ready.
     fn group(&self, alloc: Global, op: &Op) -> Result<Vec<u8>, NoMemory>
-        requires points { OpHas self.now.meta.k op.now }
-        requires allowed { IsAllowedHere self.now op.now }
+        requires { IsDoableHere op.now self.now }
         ensures bytes { IfOk result (λ group. group.items ≡ group_bytes (group_here self.now op.now)) }
         ensures fits { OnOk result (FitsGroup self.now.meta.k (group_here self.now op.now)) }
         ensures some { IfOk result (λ group. 0 < length group.items) }

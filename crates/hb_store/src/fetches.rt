@@ -1,6 +1,4 @@
-ghost use Rattle.std.specs.Prelude.{◌≡◌, ◌≢◌, ℕ, ◌≤◌, List, None, IfOk, IfErr, IfSome, IsErrOf, IsOk, OnOk, OnErr, IsSome};
-ghost use Rattle.hb_outside.specs.Streams.{Rose};
-ghost use Rattle.hb_disk.specs.Calls.{OnlyReads};
+ghost use Rattle.std.specs.Prelude.{◌≡◌, ◌≢◌, List, None, IfOk, IfErr, IfSome, IsErrOf, IsOk, OnOk, OnErr, IsSome};
 ghost use Rattle.hb_ops.specs.Files.{FileState};
 ghost use Rattle.hb_ops.specs.Sound.{IsSound};
 ghost use Rattle.hb_frag.specs.Grammar.{HasSpelling, SpellsPage};
@@ -8,10 +6,10 @@ ghost use Rattle.hb_page_codec.specs.Weight.{IsLight};
 ghost use Rattle.hb_store.specs.States.{IsGoodPage, in_memory};
 ghost use Rattle.hb_store.specs.Keeps.{StoreKeeps, last_of};
 ghost use Rattle.hb_store.specs.Opening.{place_bytes};
-ghost use Rattle.hb_store.specs.Fetching.{BreaksHere, HoldsNot, IsFetchStop};
+ghost use Rattle.hb_store.specs.Replaying.{IsPageOf};
+ghost use Rattle.hb_store.specs.Fetching.{LooksUp, BreaksHere, HoldsNot, IsFetchStop, FetchesNot, IsNoPage};
 ghost use Rattle.hb_store.specs.Seen.{seen_as};
 ghost use Rattle.hb_store.specs.Calls.{Fetched};
-ghost use Rattle.hb_store.specs.Stops.{FetchesNot, IsNoPage};
 ghost use Rattle.hb_store.specs.declared.stops.FetchStop.TheVariants.{ReadFault};
 
 use crate::stops::{FetchStop, Why};
@@ -33,15 +31,10 @@ impl<D: Device> Store<D> {
     pub fn fetch(&mut self, id: u32) -> Result<(), FetchStop>
         ensures fetched { OnOk result (Fetched id (seen_as self.old) (seen_as self.new)) }
         ensures kept { OnErr result (seen_as self.new ≡ seen_as self.old) }
-        ensures only_reads { OnlyReads (D.model self.old.disk) (D.model self.new.disk) }
+        ensures looks { LooksUp (IsErrOf result ReadFault) (D.model self.old.disk) (D.model self.new.disk) (seen_as self.old) (seen_as self.new) }
         ensures why { IfErr result (FetchesNot (seen_as self.old).meta (D.model self.old.disk) id) }
-        ensures cause { IsErrOf result ReadFault → Rose (D.model self.old.disk).read_faults (D.model self.new.disk).read_faults }
-        ensures no_fault { (IsErrOf result ReadFault → ⊥) → (D.model self.new.disk).read_faults ≡ (D.model self.old.disk).read_faults }
-        ensures cached { IsSome (in_memory (seen_as self.old) id) → OnOk result (seen_as self.new ≡ seen_as self.old) }
-        ensures there { IsSome (in_memory (seen_as self.old) id) → IsOk result × (self.new.disk ≡ self.old.disk) }
+        ensures there { IsSome (in_memory (seen_as self.old) id) → IsOk result × (self.new.disk ≡ self.old.disk) × (seen_as self.new ≡ seen_as self.old) }
         ensures unread { IsNoPage (seen_as self.old).meta id → self.new.disk ≡ self.old.disk }
-        ensures keeps { (durable : FileState) (later : List FileState) → StoreKeeps (D.model self.old.disk) (seen_as self.old) durable later →
-            StoreKeeps (D.model self.new.disk) (seen_as self.new) durable later }
         // in a sound file no page is damaged
         ensures sound { (durable : FileState) (later : List FileState) → StoreKeeps (D.model self.old.disk) (seen_as self.old) durable later →
             IsSound (last_of durable later) → IfErr result (λ stop. (stop ≢ FetchStop.ReadFault) → (stop ≢ FetchStop.NoMemory) → IsNoPage (seen_as self.old).meta id) }
@@ -61,16 +54,13 @@ impl<D: Device> Store<D> {
 
     /// The page of a number, from its place. One read.
     fn read_page(&mut self, id: u32) -> Result<Page, FetchStop>
-        requires some { 1 ≤ id }
-        requires high { id ≤ (seen_as self.old).meta.high }
+        requires { IsPageOf (seen_as self.old).meta id }
         ensures there { IfOk result (λ page. IfSome (D.model self.old.disk).told (λ b. SpellsPage (place_bytes (seen_as self.old).meta id b) page)) }
         ensures good { IfOk result (λ page. IsGoodPage (seen_as self.old).meta page) }
         ensures why { IfErr result (λ stop. IfSome (D.model self.old.disk).told (λ b. HoldsNot (seen_as self.old).meta (place_bytes (seen_as self.old).meta id b) id stop)) }
         ensures kinds { IfErr result (IsFetchStop id) }
         ensures kept { seen_as self.new ≡ seen_as self.old }
-        ensures only_reads { OnlyReads (D.model self.old.disk) (D.model self.new.disk) }
-        ensures cause { IsErrOf result ReadFault → Rose (D.model self.old.disk).read_faults (D.model self.new.disk).read_faults }
-        ensures no_fault { (IsErrOf result ReadFault → ⊥) → (D.model self.new.disk).read_faults ≡ (D.model self.old.disk).read_faults }
+        ensures looks { LooksUp (IsErrOf result ReadFault) (D.model self.old.disk) (D.model self.new.disk) (seen_as self.old) (seen_as self.new) }
     {
         let mut bytes = [0; PAGE];
         let place = page_offset(self.memory.meta(), id);

@@ -1,12 +1,11 @@
 //! Groups of the log to bytes.
-ghost use Rattle.std.specs.Prelude.{◌≡◌, ℕ, ◌≤◌, ◌++◌, ◌∷◌, [], length, flat_map, option_map, IfOk, IfSome, OnOk, nat_eq};
+ghost use Rattle.std.specs.Prelude.{◌≡◌, ℕ, ◌≤◌, ◌++◌, length, flat_map, option_map, IfOk, IfSome, OnOk, nat_eq};
 ghost use Rattle.std.specs.HashMap.{get};
 ghost use Rattle.std.specs.HashSet.{contains};
 ghost use Rattle.hb_frag.specs.Grammar.{HasSpelling};
 ghost use Rattle.hb_ops.specs.Operations.{OpHas, reads_of};
 ghost use Rattle.hb_log_codec.specs.Groups.{FitsOp, group_bytes, image_bytes};
-ghost use Rattle.hb_store.specs.Making.{HasFittingParts};
-ghost use Rattle.hb_store.specs.Images.{image_needed, images_needed};
+ghost use Rattle.hb_store.specs.Making.{HasFittingParts, image_needed, images_needed};
 
 use hb_frag::Page;
 use hb_log_codec::{encode_image, encode_op};

@@ -1,5 +1,5 @@
 //! What an image opens to.
-ghost use Rattle.hb_store.specs.ImageLaws.{OpensToOne, OpensWhole};
+ghost use Rattle.hb_store.specs.Opening.{OpensToOne, OpensWhole};
 
 use hb_log_codec::laws::groups_are_read_in_one_way;
 use hb_page_codec::laws::spelling_law;

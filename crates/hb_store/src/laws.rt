@@ -1,4 +1,4 @@
-ghost use Rattle.std.specs.Prelude.{◌≡◌, ℕ, false, List, [], length};
+ghost use Rattle.std.specs.Prelude.{◌≡◌, ℕ, false, List, length};
 ghost use Rattle.hb_ops.specs.Files.{FileState};
 ghost use Rattle.hb_store.specs.Opening.{OpensTo};
 ghost use Rattle.hb_store.specs.Keeps.{StoreKeeps, OpensToFirst};

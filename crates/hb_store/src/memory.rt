@@ -1,8 +1,9 @@
 //! What a store has in memory. No disk is spoken of.
-ghost use Rattle.std.specs.Prelude.{◌≡◌, ◌-◌, ◌≤◌, ◌↔◌, [], None, Some, IsTrue, IfOk, MatchOption, OnOk, OnErr};
+ghost use Rattle.std.specs.Prelude.{◌≡◌, ◌-◌, ◌↔◌, [], None, Some, IsTrue, IfOk, MatchOption, OnOk, OnErr};
 ghost use Rattle.hb_wal.specs.Log.{IsLog, room_of, pending_bytes, mark_of};
 ghost use Rattle.hb_store.specs.States.{IsGoodPage, IsMemory, IsStanding, in_memory, new_state};
 ghost use Rattle.hb_store.specs.Fetching.{with_held};
+ghost use Rattle.hb_store.specs.Replaying.{IsPageOf};
 ghost use Rattle.hb_store.specs.Calls.{IsReady};
 
 use hb_frag::Page;
@@ -32,12 +33,21 @@ pub(crate) struct Memory {
 }
 
 impl Model for Memory {
+    ghost use Rattle.std.specs.Prelude.{refl};
+    ghost use Rattle.std.specs.Coded.{code_by, coded×, coded_ℕ, coded_bool};
+    ghost use Rattle.std.specs.FinMap as map;
+    ghost use Rattle.std.specs.FinSet as set;
+    ghost use Rattle.hb_frag.specs.contracts.pages.Page as page;
+    ghost use Rattle.hb_layout.specs.contracts.meta.Meta as said;
+    ghost use Rattle.hb_wal.specs.contracts.log.Wal as area;
     ghost use Rattle.hb_store.specs.States.{StoreState, IsMemory};
-    ghost use Rattle.hb_store.specs.Codes.{state_code};
 
     ghost Value = { StoreState };
 
-    ghost coded = { state_code };
+    ghost coded = { code_by _ (coded× (coded× coded_ℕ said.the_row.coded) (coded× area.the_row.coded (coded× (map.code coded_ℕ page.the_row.coded) (coded× (set.code coded_ℕ) coded_bool))))
+        (λ s. ((s.turn, s.meta), (s.log, (s.pages, (s.imaged, s.stopped)))))
+        (λ p. record { turn = p.0.0; meta = p.0.1; log = p.1.0; pages = p.1.1.0; imaged = p.1.1.1.0; stopped = p.1.1.1.1 })
+        (λ _. refl) };
 
     ghost use Rattle.hb_store.specs.Inside.{memory_seen};
 
@@ -80,8 +90,7 @@ impl Memory {
 
     /// Holds a page that isn't in memory, under its number. It isn't imaged in this turn.
     pub(crate) fn hold(&mut self, id: u32, page: Page) -> Result<(), NoMemory>
-        requires some { 1 ≤ id }
-        requires high { id ≤ self.old.meta.high }
+        requires page { IsPageOf self.old.meta id }
         requires good { IsGoodPage self.old.meta page }
         ensures held { OnOk result (self.new ≡ with_held id page self.old) }
         ensures kept { OnErr result (self.new ≡ self.old) }

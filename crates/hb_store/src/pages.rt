@@ -2,8 +2,7 @@
 ghost use Rattle.std.specs.Prelude.{◌≡◌, ℕ, ◌+◌, ◌<◌, ◌≤◌, ◌∷◌, ◌||◌, [], length, OnOk, nat_eq};
 ghost use Rattle.std.specs.HashMap.{get, spare};
 ghost use Rattle.std.specs.HashSet.{contains, spare as spare_of};
-ghost use Rattle.hb_store.specs.Marks.{has_page, is_among};
-ghost use Rattle.hb_store.specs.Replay.{set_pages};
+ghost use Rattle.hb_store.specs.Replay.{set_pages, has_page, is_among};
 
 use arrayvec::ArrayVec;
 use hb_frag::Page;

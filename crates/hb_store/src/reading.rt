@@ -1,10 +1,9 @@
-ghost use Rattle.std.specs.Prelude.{◌≡◌, ◌<◌, ◌≤◌, ◌^◌, length, IfOk, IfErr, IfSome, IsErrOf, IsOk};
-ghost use Rattle.hb_outside.specs.Streams.{Rose};
-ghost use Rattle.hb_disk.specs.Calls.{OnlyReads};
+ghost use Rattle.std.specs.Prelude.{◌≡◌, ◌<◌, ◌≤◌, ◌^◌, length, IfOk, IfErr, IfSome, IsErrOf};
+ghost use Rattle.hb_disk.specs.Calls.{ReadsOnly};
 ghost use Rattle.hb_super.specs.Superblocks.{IsLegal};
 ghost use Rattle.hb_layout.specs.Offsets.{file_size};
-ghost use Rattle.hb_store.specs.Replaying.{HasLimits, HasReplayed, NamesBad, NamesBadOr, log_stop, replayed_of};
-ghost use Rattle.hb_store.specs.Stops.{ReadsLog, ReadsNoLog, IsTouched};
+ghost use Rattle.hb_store.specs.Replaying.{HasLimits, replayed_of};
+ghost use Rattle.hb_store.specs.LogReading.{HasReplayed, NamesBad, NamesBadOr, log_stop, ReadsLog, ReadsNoLog, IsTouched};
 ghost use Rattle.hb_store.specs.declared.touched.LogStop.TheVariants.{DiskFault};
 
 use crate::touched::{LogStop, ReplayStop, Touched};
@@ -73,9 +72,7 @@ pub fn read_log<D: Device>(
     ensures read { IfOk result (λ t. IfSome (D.model disk.old).told (λ b. ReadsLog b turn meta.now t)) }
     ensures touched { IfOk result (λ t. IsTouched meta.now t) }
     ensures stopped { IfErr result (λ stop. IfSome (D.model disk.old).told (λ b. ReadsNoLog b turn meta.now stop)) }
-    ensures cause { IsErrOf result DiskFault → Rose (D.model disk.old).read_faults (D.model disk.new).read_faults }
-    ensures no_fault { (IsErrOf result DiskFault → ⊥) → (D.model disk.new).read_faults ≡ (D.model disk.old).read_faults }
-    ensures only_reads { OnlyReads (D.model disk.old) (D.model disk.new) }
+    ensures only { ReadsOnly (IsErrOf result DiskFault) (D.model disk.old) (D.model disk.new) }
 {
     match read_area(alloc, disk, log_start(turn, meta), meta.log) {
         Ok(payloads) => replayed(alloc, meta, payloads),

@@ -1,5 +1,7 @@
 //! The types of this crate may go to another thread, and be read by several.
 
+ghost use Rattle.std.specs.Thread.{IsSend};
+
 use crate::{FetchStop, Flushed, LogStop, StopWhy, Store, Touched, Why, WriteFault};
 use hb_disk::Device;
 use hb_lemmas::crosses;
@@ -20,3 +22,8 @@ fn types_cross_threads<D: Device + Send + Sync>() {
     crosses::<WriteFault>();
     crosses::<Flushed>();
 }
+
+/// Values of the type may go to another thread.
+fn goes<T: Send>()
+    ensures { IsSend T.row }
+{}

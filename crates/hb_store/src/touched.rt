@@ -7,7 +7,7 @@ ghost use Rattle.hb_log_codec.specs.Groups.{FitsGroup, FitsOp};
 ghost use Rattle.hb_log_codec.specs.Reading.{logged};
 ghost use Rattle.hb_store.specs.Opening.{IsBadPayload};
 ghost use Rattle.hb_store.specs.Replay.{MayFollow, IsAllowedIn, after_group, after_op, change_in, untouched};
-ghost use Rattle.hb_store.specs.Replaying.{AreItsPages, ComesAfter, Follows, HasLimits, IsPageOf, replayed_of, with_pages};
+ghost use Rattle.hb_store.specs.Replaying.{AreItsPages, Follows, IsPageOf, IsReplayable, ReplaysOn, replayed_of, with_pages};
 ghost use Rattle.hb_store.specs.declared.touched.ReplayStop.TheVariants.{Unfit};
 
 use crate::making::what_is_made_can_be_written;
@@ -147,8 +147,7 @@ impl Touched {
     ///
     /// `Unfit` exactly where it isn't allowed on them.
     fn changed(&self, alloc: Global, op: &Op) -> Result<Changed, ReplayStop>
-        requires limits { HasLimits self.now.meta }
-        requires pages { AreItsPages (replayed_of self.now) }
+        requires goes_on { IsReplayable (replayed_of self.now) }
         requires fits { FitsOp self.now.meta.k op.now }
         ensures allowed { OnOk result (IsAllowedIn (replayed_of self.now) op.now) }
         ensures effect { IfOk result (λ c. record { meta = c.meta; pages = c.pages.items } ≡ change_in (replayed_of self.now) op.now) }
@@ -162,8 +161,7 @@ impl Touched {
     ///
     /// `Unfit` exactly where it isn't allowed on them.
     fn apply(&mut self, alloc: Global, op: &Op) -> Result<(), ReplayStop>
-        requires limits { HasLimits self.old.meta }
-        requires pages { AreItsPages (replayed_of self.old) }
+        requires goes_on { IsReplayable (replayed_of self.old) }
         requires fits { FitsOp self.old.meta.k op.now }
         ensures allowed { OnOk result (IsAllowedIn (replayed_of self.old) op.now) }
         ensures effect { OnOk result (replayed_of self.new ≡ after_op (replayed_of self.old) op.now) }
@@ -179,14 +177,12 @@ impl Touched {
     ///
     /// `Unfit` exactly where it may not be replayed here. After an error some of it may be done.
     fn follow(&mut self, alloc: Global, group: Group) -> Result<(), ReplayStop>
-        requires limits { HasLimits self.old.meta }
-        requires pages { AreItsPages (replayed_of self.old) }
+        requires goes_on { IsReplayable (replayed_of self.old) }
         requires fits { FitsGroup self.old.meta.k (logged group) }
         ensures allowed { OnOk result (MayFollow (replayed_of self.old) (logged group)) }
         ensures effect { OnOk result (replayed_of self.new ≡ after_group (replayed_of self.old) (logged group)) }
         ensures unfit { IsErrOf result Unfit → ¬ (MayFollow (replayed_of self.old) (logged group)) }
-        ensures pages { OnOk result (AreItsPages (replayed_of self.new)) }
-        ensures meta { OnOk result (ComesAfter self.old.meta self.new.meta) }
+        ensures leads { OnOk result (ReplaysOn (replayed_of self.old) (replayed_of self.new)) }
     {
         what_is_made_can_be_written();
         if !self.has_all(group.images.as_slice()) {
@@ -201,12 +197,10 @@ impl Touched {
     /// `Unfit` exactly where it isn't a list of groups that may be replayed here. After an error some of them may be
     /// done.
     pub(crate) fn follow_all(&mut self, alloc: Global, payload: &[u8]) -> Result<(), ReplayStop>
-        requires limits { HasLimits self.old.meta }
-        requires pages { AreItsPages (replayed_of self.old) }
+        requires { IsReplayable (replayed_of self.old) }
         ensures followed { OnOk result (Follows self.old.meta.k (replayed_of self.old) payload.now (replayed_of self.new)) }
         ensures unfit { IsErrOf result Unfit → IsBadPayload self.old.meta.k (replayed_of self.old) payload.now }
-        ensures pages { OnOk result (AreItsPages (replayed_of self.new)) }
-        ensures meta { OnOk result (ComesAfter self.old.meta self.new.meta) }
+        ensures leads { OnOk result (ReplaysOn (replayed_of self.old) (replayed_of self.new)) }
     {
         groups_are_read_in_one_way();
         let groups = decode_all(alloc, payload, self.meta.k)?;

@@ -6,7 +6,7 @@ use Rattle.hb_outside.specs.Streams.{Rose}
 use Rattle.hb_layout.specs.declared.meta.Meta.{Meta}
 use Rattle.hb_ops.specs.Files.{FileState}
 use Rattle.hb_set.specs.declared.scripts.Line.{Line}
-use Rattle.hb_store.specs.ImageLaws.{OpensToOne}
+use Rattle.hb_store.specs.Opening.{OpensToOne}
 use Rattle.hb_text.specs.declared.rules.BadLine.{BadLine}
 use Rattle.hb_text.specs.Grammar.{Reading, text_read}
 use Rattle.hbpi.specs.Codes.{start_status, status_of}

@@ -3,8 +3,7 @@ use Rattle.std.proofs.Common.{◌≡◌, inl, inr, ℕ, true, List, Option, Some
 use Rattle.hb_disk.specs.Model.{DiskModel}
 use Rattle.hb_lemmas.proofs.Options.{at_value}
 use Rattle.hb_ops.specs.Files.{FileState}
-use Rattle.hb_store.specs.ImageLaws.{OpensToOne}
-use Rattle.hb_store.specs.Opening.{OpensTo}
+use Rattle.hb_store.specs.Opening.{OpensTo, OpensToOne}
 use Rattle.hb_text.specs.declared.rules.BadLine.{BadLine}
 use Rattle.hb_text.specs.Grammar.{text_read}
 use Rattle.hbpi.specs.Codes.{start_status}

@@ -13,7 +13,7 @@ use Rattle.hb_set.specs.declared.commands.Reply.{Reply}
 use Rattle.hb_set.specs.declared.commands.Reply.TheVariants.{ReadFault}
 use Rattle.hb_set.specs.Machine.{RecordSet}
 use Rattle.hb_store.specs.Keeps.{StoreKeeps, last_of}
-use Rattle.hb_store.specs.Calls.{forced_state, stopped_state, durable_after, later_after}
+use Rattle.hb_store.specs.Forced.{forced_state, stopped_state, durable_after, later_after}
 use Rattle.hb_store.proofs.Facts.StoreLaws.{StoreKeeps-one}
 use Rattle.hb_store.specs.declared.stops.StopWhy.TheVariants.{WriteFault, Damaged}
 use Rattle.hbpi.specs.declared.engine.session.Session.{Session}

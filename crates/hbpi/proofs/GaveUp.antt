@@ -6,7 +6,7 @@ use Rattle.hb_disk.specs.Calls.{OnlyReads}
 use Rattle.hb_set.specs.declared.commands.Reply.{Reply}
 use Rattle.hb_set.specs.declared.commands.Reply.TheVariants as replies
 use Rattle.hb_store.specs.States.{in_memory}
-use Rattle.hb_store.specs.Stops.{Breaks, FetchesNot}
+use Rattle.hb_store.specs.Fetching.{Breaks, FetchesNot}
 use Rattle.hb_store.specs.declared.stops.FetchStop.{FetchStop}
 use Rattle.hb_store.specs.declared.stops.FetchStop.TheVariants as fetches
 use Rattle.hb_store.specs.declared.stops.StopWhy.TheVariants as stops

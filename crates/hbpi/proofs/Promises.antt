@@ -11,8 +11,7 @@ use Rattle.hb_ops.specs.Files.{FileState, contents_of}
 use Rattle.hb_ops.specs.Sound.{IsSound}
 use Rattle.hb_set.specs.declared.scripts.Line.{Line}
 use Rattle.hb_set.specs.declared.scripts.Answered.{Answered}
-use Rattle.hb_store.specs.ImageLaws.{OpensToOne}
-use Rattle.hb_store.specs.Opening.{OpensTo, IsEven}
+use Rattle.hb_store.specs.Opening.{OpensTo, IsEven, OpensToOne}
 use Rattle.hbpi.specs.Codes.{start_status}
 use Rattle.hbpi.specs.Core.{CoreState, settled_of}
 use Rattle.hbpi.specs.Keeping.{OpensToPrefix, AreAmong}

@@ -10,7 +10,7 @@ use Rattle.hb_set.specs.Machine.{RecordSet}
 use Rattle.hb_set.specs.declared.commands.Reply.{Reply}
 use Rattle.hb_set.specs.declared.scripts.Line.{Line}
 use Rattle.hb_store.specs.States.{StoreState}
-use Rattle.hb_store.specs.Calls.{forced_state, stopped_state}
+use Rattle.hb_store.specs.Forced.{forced_state, stopped_state}
 use Rattle.hb_set.specs.declared.commands.Reply.TheVariants.{Full}
 use Rattle.hb_store.specs.declared.stops.StopWhy.{StopWhy}
 use Rattle.hb_store.specs.declared.stops.StopWhy.TheVariants.{WriteFault}

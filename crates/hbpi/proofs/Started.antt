@@ -8,10 +8,9 @@ use Rattle.hb_ops.specs.Files.{FileState, file_records, if_live, page_at}
 use Rattle.hb_ops.specs.Sound.{IsSound}
 use Rattle.hb_restart.specs.Refusals.{GoodIsNotRefused, IsNoRefusal, IsRefusedOnce, IsUnwritten}
 use Rattle.hb_restart.specs.declared.faults.OpenFault.{OpenFault}
-use Rattle.hb_store.specs.ImageLaws.{OpensToOne}
 use Rattle.hb_store.specs.States.{StoreState}
 use Rattle.hb_store.specs.Keeps.{StoreKeeps}
-use Rattle.hb_store.specs.Opening.{IsEven, OpensTo}
+use Rattle.hb_store.specs.Opening.{IsEven, OpensTo, OpensToOne}
 use Rattle.hbpi.specs.Starting.{GoodIsServed, IsOnePage, IsRefusedInOneWay, RefusesStart}
 use Rattle.hbpi.specs.declared.starting.StartFault.TheVariants as starts
 use Rattle.hbpi.proofs.ScheduleRuns.{even_store}

@@ -6,7 +6,7 @@ use Rattle.hb_set.specs.Machine.{reply_of}
 use Rattle.hb_set.specs.declared.commands.Reply.{Reply}
 use Rattle.hb_set.specs.declared.commands.Reply.TheVariants.{Full}
 use Rattle.hb_set.specs.declared.scripts.Line.{Line}
-use Rattle.hb_store.specs.Calls.{IsReady, forced_state, stopped_state}
+use Rattle.hb_store.specs.Calls.{IsReady}
 use Rattle.hb_store.specs.declared.stops.StopWhy.TheVariants.{WriteFault}
 use Rattle.hbpi.specs.declared.engine.session.Session.{Session}
 use Rattle.hbpi.specs.declared.engine.session.Session.TheVariants as sessions
@@ -14,6 +14,7 @@ use Rattle.hbpi.specs.declared.engine.session.Outcome.{Outcome}
 use Rattle.hbpi.specs.declared.engine.session.Outcome.TheVariants as outcomes
 use Rattle.hbpi.specs.Core.{CoreState, settled_of, IsCurrent}
 use Rattle.hbpi.specs.Commands.{MayCommit, op_of, HasNoRoom, MayFail}
+use Rattle.hb_store.specs.Forced.{forced_state, stopped_state}
 
 -- A step that answers the line at once, outside the order: the session is idle again, and the file as it was.
 pub record RefusesLine (line : Line) (reply : Reply) (old : CoreState) (s : FileState) (outcome : Outcome) (new : CoreState) (t : FileState) : Type 0 where

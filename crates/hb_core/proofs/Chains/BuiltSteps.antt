@@ -38,11 +38,11 @@ use Rattle.hb_latch.specs.Tables.{IsGrantable, IsLeastInTheWay}
 use Rattle.hb_log_codec.specs.Groups.{Logged, group_bytes}
 use Rattle.hb_ops.specs.Files.{if_live, page_of}
 use Rattle.hb_ops.specs.Operations.{Change, IsAllowedOn, change_of, reads_of}
-use Rattle.hb_store.specs.Calls.{IsReady, change_here, durable_after, later_after, with_op}
-use Rattle.hb_store.specs.Images.{group_here, images_needed}
+use Rattle.hb_store.specs.Calls.{IsReady, change_here, with_op}
+use Rattle.hb_store.specs.Forced.{durable_after, later_after}
 use Rattle.hb_store.specs.Keeps.{last_of}
-use Rattle.hb_store.specs.Marks.{has_page, is_among}
-use Rattle.hb_store.specs.Replay.{set_pages}
+use Rattle.hb_store.specs.Making.{group_here, images_needed}
+use Rattle.hb_store.specs.Replay.{set_pages, has_page, is_among}
 use Rattle.hb_store.proofs.Facts.ReplayLists.{set_not}
 use Rattle.hb_store.specs.States.{IsGoodPage, StoreState, in_memory, is_imaged}
 use Rattle.hb_wal.specs.Forces.{calls_of_force}

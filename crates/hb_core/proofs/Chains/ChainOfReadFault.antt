@@ -14,7 +14,7 @@ use Rattle.hb_core.proofs.Chains.BuiltSteps.{after, only_looks, queued}
 use Rattle.hb_core.proofs.Chains.ChainOfPosting.{it_leaves, job, takes}
 use Rattle.hb_core.proofs.Chains.UntoldSteps.{performed_untold, reads_not}
 use Rattle.hb_point.specs.SessionRows.{taking}
-use Rattle.hb_store.specs.Stops.{IsNoPage}
+use Rattle.hb_store.specs.Fetching.{IsNoPage}
 use Rattle.std.proofs.lemmas.List.Elements.{All-from_recursion}
 
 abbrev line_taken : Scene

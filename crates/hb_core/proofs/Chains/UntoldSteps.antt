@@ -13,7 +13,7 @@ use Rattle.hb_core.specs.Scenes.{Scene, machine_of, standing, store_of, untold_s
 use Rattle.hb_core.specs.Steps.{IsUnready, Works}
 use Rattle.hb_core.proofs.Chains.BuiltSteps.{IsClearIn, MayBeIn, after, memory_is, nothing_comes, performed, wanted_in, wanted_is, way_free}
 use Rattle.hb_core.proofs.Chains.WrittenTables.{entry_at}
-use Rattle.hb_store.specs.Stops.{IsNoPage}
+use Rattle.hb_store.specs.Fetching.{IsNoPage}
 
 none_told : (op : Option Op) → ◌≡◌ {A = Option Files} None (files_after op None)
 none_told None = refl

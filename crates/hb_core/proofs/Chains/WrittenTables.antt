@@ -20,8 +20,7 @@ use Rattle.hb_core.specs.Scenes.{at_rest, standing}
 use Rattle.hb_latch.proofs.KeyOrder.{latch_order}
 use Rattle.hb_latch.specs.Modes.{goes_beside}
 use Rattle.hb_latch.specs.Tables.{IsGrantable, IsLeastInTheWay, latch_cmp, mode_at}
-use Rattle.hb_store.specs.Marks.{has_page, is_among}
-use Rattle.hb_store.specs.Replay.{set_pages}
+use Rattle.hb_store.specs.Replay.{set_pages, has_page, is_among}
 use Rattle.hb_core.proofs.Orders.NextLines.{or_assoc}
 
 -- ---- by numbers

@@ -23,14 +23,15 @@ use Rattle.hb_ops.proofs.Facts.PageNumberLaws.{page_at-zero}
 use Rattle.hb_ops.specs.Posting.{GaveAway}
 use Rattle.hb_ops.specs.Sound.{IsSound}
 use Rattle.hb_space.specs.Boxes.{Area, Holds}
-use Rattle.hb_store.proofs.FilePages.{Reaches, pages_set}
-use Rattle.hb_store.proofs.MadeMeta.{op_has, reads_some}
+use Rattle.hb_store.proofs.Facts.FilePages.{Reaches, pages_set}
+use Rattle.hb_store.proofs.Facts.MadeMeta.{op_has}
 use Rattle.hb_store.specs.Calls.{IsAllowedHere, change_here, read_here}
 use Rattle.hb_store.specs.NextPage.{IsNext}
 use Rattle.hb_store.specs.Replay.{set_pages}
 use Rattle.hb_store.specs.States.{StoreState, in_memory}
 use Rattle.hb_terms.proofs.Facts.Owing.{planned_may_be, way_ends_there}
 use Rattle.hb_lemmas.proofs.Options.{some_value}
+use Rattle.hb_ops.proofs.Facts.AllowedOps.{reads_some}
 
 -- What a store has of a sound file: its words about itself, and its pages in frames.
 pub record ShowsFile (st : StoreState) (s : FileState) : Type 0 where

@@ -22,8 +22,8 @@ use Rattle.hb_ops.specs.Files.{if_live}
 use Rattle.hb_ops.specs.Operations.{IsAllowedOn}
 use Rattle.hb_space.specs.Boxes.{Area, IsArea, Holds, side_below, side_from}
 use Rattle.hb_space.specs.Points.{IsPoint}
-use Rattle.hb_store.proofs.Changed.{good_readable}
-use Rattle.hb_store.proofs.MadeLeaves.{AllFit, FitsIn, all_fit}
+use Rattle.hb_store.proofs.Facts.Changed.{good_readable}
+use Rattle.hb_store.proofs.Facts.MadeLeaves.{AllFit, FitsIn, all_fit}
 use Rattle.hb_store.specs.Calls.{IsAllowedHere, read_here}
 use Rattle.hb_store.specs.Making.{HaveFittingParts, IsReadable}
 use Rattle.hb_store.specs.NextPage.{IsNext}

@@ -9,14 +9,15 @@ use Rattle.hb_ops.specs.declared.operations.Op.{Op}
 use Rattle.hb_log_codec.specs.Groups.{FitsOp}
 use Rattle.hb_ops.specs.Files.{if_live}
 use Rattle.hb_ops.specs.Operations.{Change, IsAllowedOn, change_of, reads_of}
-use Rattle.hb_store.proofs.Changed.{good_readable, still_good}
-use Rattle.hb_store.proofs.Counting.{high_next}
-use Rattle.hb_store.proofs.MadeMeta.{comes_after, made_numbered, reads_some, some_page}
+use Rattle.hb_store.proofs.Facts.Changed.{good_readable, still_good}
+use Rattle.hb_ops.proofs.Facts.AllowedOps.{high_next, reads_some}
+use Rattle.hb_store.proofs.Facts.MadeMeta.{comes_after, made_numbered}
 use Rattle.hb_store.specs.Making.{MakesGoodPages}
 use Rattle.hb_store.specs.Replay.{set_pages}
 use Rattle.hb_store.proofs.Facts.ReplayLists.{set_one-same}
 use Rattle.hb_store.specs.Replaying.{ComesAfter, HasLimits, IsPageOf}
 use Rattle.hb_store.specs.States.{AreGood, IsGoodPage}
+use Rattle.hb_lemmas.proofs.Options.{some_value}
 
 -- What a change makes: what the file says of itself comes after what it said, good pages stay good, and each changed page
 -- is one of the file then, and is good.
@@ -35,7 +36,7 @@ module _ (makes : MakesGoodPages) (meta : Meta) (limits : HasLimits meta) (frame
       let after = comes_after op meta first second third limits fits allowed in
       let there = reads_some op meta frame second third allowed in
       let reads : All (IsPageOf meta) (reads_of op) = λ i d lt.
-      let page = some_page (frame (get_or (reads_of op) i d)) (there i d lt) in
+      let page = some_value (frame (get_or (reads_of op) i d)) (there i d lt) in
       let at = framed (get_or (reads_of op) i d) page.0 page.1 in
       (at.0, at.1) in
       let numbered = made_numbered op meta first second third allowed reads in

@@ -41,10 +41,9 @@ use Rattle.hb_latch.specs.Tables.{MayLatch}
 use Rattle.hb_ops.specs.Files.{FileState, if_live, live_page, page_of}
 use Rattle.hb_ops.specs.Sound.{IsSound}
 use Rattle.hb_space.specs.Boxes.{whole_area}
-use Rattle.hb_store.proofs.Counting.{page_in_range}
-use Rattle.hb_store.proofs.Heads.{sound_head, sound_room}
+use Rattle.hb_ops.proofs.Facts.FilePages.{page_in_range, sound_head, sound_room}
+use Rattle.hb_store.specs.Fetching.{IsNoPage}
 use Rattle.hb_store.specs.States.{StoreState, in_memory}
-use Rattle.hb_store.specs.Stops.{IsNoPage}
 use Rattle.hb_ops.proofs.Facts.PageNumberLaws.{live_so}
 use Rattle.hb_lemmas.proofs.Options.{some_of_map, some_of_then}
 

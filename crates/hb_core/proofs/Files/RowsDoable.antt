@@ -7,7 +7,7 @@ use Rattle.hb_core.proofs.Files.RowTells.{Tells, tells_row}
 use Rattle.hb_core.specs.AllowedLaws.{AnyPage, RowsAreAllowed}
 use Rattle.hb_core.specs.Asking.{wanted_by}
 use Rattle.hb_core.specs.MachineLaws.{RowsMayBeDone}
-use Rattle.hb_store.proofs.MadeMeta.{op_has}
+use Rattle.hb_store.proofs.Facts.MadeMeta.{op_has}
 use Rattle.hb_store.specs.Making.{HaveFittingParts}
 
 pub rows_may_be_done : HaveFittingParts → HeldArePoints → RowsAreAllowed → RowsMayBeDone

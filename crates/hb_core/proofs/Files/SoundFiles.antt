@@ -32,12 +32,13 @@ use Rattle.hb_ops.specs.Files.{FileState, page_of}
 use Rattle.hb_ops.specs.Operations.{effect_of}
 use Rattle.hb_ops.specs.Sound.{IsSound}
 use Rattle.hb_sound.specs.LawsOfOperations.{OperationsKeepSound}
-use Rattle.hb_store.specs.Calls.{IsAllowedHere, durable_after, later_after}
+use Rattle.hb_store.specs.Calls.{IsAllowedHere}
 use Rattle.hb_store.specs.Keeps.{last_of}
 use Rattle.hb_store.specs.Making.{HaveFittingParts, MakesGoodPages}
 use Rattle.hb_store.proofs.Facts.ReplayLaws.{last_of-append}
 use Rattle.hb_store.specs.States.{StoreState, in_memory}
 use Rattle.hb_wal.specs.Log.{Waiting, left_waiting}
+use Rattle.hb_store.specs.Forced.{durable_after, later_after}
 
 -- What a store and the files over its disk have in common.
 pub record FilesHold (st : StoreState) (files : Files) : Type 0 where

@@ -3,17 +3,15 @@ use Rattle.std.proofs.Common.{◌≡◌, inl, inr, ℕ, Option, Some, None, IsSo
 use Rattle.std.proofs.lemmas.Bool.{cases_Bool}
 use Rattle.hb_frag.specs.declared.pages.Page.{Page}
 use Rattle.hb_ops.specs.declared.operations.Op.{Op}
-use Rattle.hb_store.specs.Calls.{Commits, change_here}
-use Rattle.hb_store.specs.Marks.{has_page}
-use Rattle.hb_store.specs.Replay.{set_pages}
+use Rattle.hb_store.specs.Calls.{Commits, change_here, NoneComes}
+use Rattle.hb_store.specs.Replay.{set_pages, has_page}
 use Rattle.hb_store.proofs.Facts.ReplayLists.{set_not}
 use Rattle.hb_store.specs.States.{StoreState, in_memory}
-use Rattle.hb_store.specs.Staying.{NoneComes}
 
 -- Whatever was in memory stays there today in a commit, so what left wasn't there.
 same_still : (old new : StoreState) (id : ℕ) → NoneComes old new id → in_memory new id ≡ in_memory old id
 same_still old new id (inl same) = same
-same_still old new id (inr left) = left.gone ∙ sym (nothing (in_memory old id) left.loose)
+same_still old new id (inr left) = left.0 ∙ sym (nothing (in_memory old id) left.1)
   where
     nothing : (o : Option Page) → (IsSome o → ⊥) → o ≡ None
     nothing None none = refl

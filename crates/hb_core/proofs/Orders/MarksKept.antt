@@ -17,7 +17,7 @@ use Rattle.hb_core.specs.Steps.{StepsTo, Works}
 use Rattle.hb_latch.specs.Tables.{MayLatch}
 use Rattle.hb_log_codec.specs.Groups.{group_bytes}
 use Rattle.hb_set.specs.Order.{Entry}
-use Rattle.hb_store.specs.Images.{group_here}
+use Rattle.hb_store.specs.Making.{group_here}
 use Rattle.hb_store.specs.States.{StoreState}
 use Rattle.hb_wal.specs.Log.{LogState, Waiting, left_waiting}
 

@@ -28,8 +28,8 @@ use Rattle.hb_log_codec.specs.Groups.{group_bytes}
 use Rattle.hb_ops.specs.Files.{FileState, contents_of}
 use Rattle.hb_set.specs.Machine.{RecordSet}
 use Rattle.hb_set.specs.Order.{Entry, IsLegalOrder, result_of}
-use Rattle.hb_store.specs.Calls.{durable_after, later_after}
-use Rattle.hb_store.specs.Images.{group_here}
+use Rattle.hb_store.specs.Forced.{durable_after, later_after}
+use Rattle.hb_store.specs.Making.{group_here}
 use Rattle.hb_store.specs.Keeps.{last_of}
 use Rattle.hb_store.specs.States.{StoreState}
 use Rattle.hb_wal.specs.Log.{LogState, Waiting, left_waiting, mark_of}

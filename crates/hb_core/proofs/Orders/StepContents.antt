@@ -36,7 +36,7 @@ use Rattle.hb_set.specs.Order.{Entry}
 use Rattle.hb_sound.specs.Laws.{LackIsContents, StandingIsContents}
 use Rattle.hb_sound.specs.LawsOfOperations.{ContentsBecome, OperationsKeepContents}
 use Rattle.hb_space.specs.Points.{point_cmp}
-use Rattle.hb_store.specs.Calls.{durable_after, later_after}
+use Rattle.hb_store.specs.Forced.{durable_after, later_after}
 use Rattle.hb_store.specs.Keeps.{last_of}
 use Rattle.hb_store.specs.Making.{HaveFittingParts, MakesGoodPages}
 use Rattle.hb_store.proofs.Facts.ReplayLaws.{last_of-append}

@@ -28,9 +28,8 @@ use Rattle.hb_log_codec.specs.Groups.{Logged, group_bytes}
 use Rattle.hb_ops.specs.Files.{if_live}
 use Rattle.hb_ops.specs.Operations.{Change, IsAllowedOn, change_of, reads_of}
 use Rattle.hb_store.specs.Calls.{IsAllowedHere, KeepsAllButPages, change_here, read_here}
-use Rattle.hb_store.specs.Images.{group_here, image_needed, images_needed}
-use Rattle.hb_store.specs.Marks.{has_page, is_among}
-use Rattle.hb_store.specs.Replay.{set_pages}
+use Rattle.hb_store.specs.Making.{group_here, image_needed, images_needed}
+use Rattle.hb_store.specs.Replay.{set_pages, has_page, is_among}
 use Rattle.hb_store.specs.States.{StoreState, in_memory, is_imaged}
 use Rattle.hb_wal.specs.Log.{LogState, Waiting}
 use Rattle.hb_ops.proofs.Facts.PageNumberLaws.{live_so}

@@ -4,7 +4,6 @@ use Rattle.std.specs.Ordering.{is_eq, eq_by_cmp}
 use Rattle.std.specs.declared.cmp.Ordering.TheVariants.{Less, Equal, Greater}
 use Rattle.std.specs.List.{AllByRecursion}
 use Rattle.std.specs.FinMap as map
-use Rattle.std.specs.FinMap.{IsAntisymmetric, nat_cmp-IsAntisymmetric, slice_cmp-IsAntisymmetric}
 use Rattle.std.specs.FinMap.Entries.{where_key, put, by_order, is_sorted-where_key, find-where_key}
 use Rattle.std.proofs.lemmas.Cmp.{nat_list_cmp_total, alike_right, eq_by_cmp_equiv}
 use Rattle.std.proofs.lemmas.List.{length-map}
@@ -12,15 +11,12 @@ use Rattle.std.proofs.lemmas.List.Elements.{All-from_recursion, recursion_from_A
 use Rattle.hb_lemmas.proofs.Booleans.{cond-not}
 use Rattle.hb_space.specs.Points.{point_cmp}
 use Rattle.hb_space.specs.declared.records.Record.{Record}
+use Rattle.hb_space.proofs.Facts.PointOrder.{exact_points}
 use Rattle.hb_set.specs.declared.commands.Command.{Command}
 use Rattle.hb_set.specs.declared.commands.Command.TheVariants.{Insert, Delete, Lookup, Search}
 use Rattle.hb_set.specs.declared.commands.Reply.{Reply}
 use Rattle.hb_set.specs.declared.commands.Reply.TheVariants.{Done, Duplicate, Absent, Full, NoMemory, ReadFault}
 use Rattle.hb_set.specs.Machine.{RecordSet, record_of, set_records, if_there, found_or_missing, reply_of, set_after, Answers, attributes, HasAttributes}
-
--- points that compare alike are one
-pub exact_points : IsAntisymmetric point_cmp
-exact_points = slice_cmp-IsAntisymmetric nat_cmp-IsAntisymmetric
 
 -- the machine never answers `full`, `no memory` or `read fault`
 abbrev pub is_replied : Reply → Bool

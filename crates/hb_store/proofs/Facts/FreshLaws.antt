@@ -48,9 +48,7 @@ IsFresh-from d is_disk tells turn meta s room meta_is count newest places no_bod
   meta_is = meta_is;
   newest = newest;
   images = λ c image. record { turn = turn; said = meta; payloads = []; groups = []; by = fresh_image c image };
-  places = places;
-  no_body = no_body;
-  logged = logged;
+  running = record { places = places; no_body = no_body; logged = logged };
   pages = pages;
 }
   where

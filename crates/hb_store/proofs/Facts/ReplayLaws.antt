@@ -9,10 +9,9 @@ use Rattle.hb_layout.specs.declared.meta.Meta.{Meta}
 use Rattle.hb_ops.specs.Files.{FileState, page_of}
 use Rattle.hb_ops.specs.Operations.{IsAllowed, IsLicensed, change_of, effect_of}
 use Rattle.hb_log_codec.specs.Groups.{Logged}
-use Rattle.hb_store.specs.Payloads.{SpellAll}
 use Rattle.hb_store.specs.Replay.{Replayed, untouched, with_images, after_group, MayFollow, replay, MayReplay}
 use Rattle.hb_layout.specs.Offsets.{file_size}
-use Rattle.hb_store.specs.Opening.{IsPageIn, OpensBy, log_bytes, place_bytes}
+use Rattle.hb_store.specs.Opening.{IsPageIn, OpensBy, log_bytes, place_bytes, SpellAll}
 use Rattle.hb_store.specs.Parts.{AreImagesOf, Leads}
 use Rattle.hb_store.specs.Keeps.{last_of}
 use Rattle.hb_store.proofs.Facts.ReplayLists.{set_pages-some}
@@ -29,6 +28,10 @@ MayReplay-append t (g ∷ xs) ys front behind = (front.0, MayReplay-append (afte
 pub MayReplay-front : (t : Replayed) (xs ys : List Logged) → MayReplay t (xs ++ ys) → MayReplay t xs
 MayReplay-front t [] ys all = tt
 MayReplay-front t (g ∷ xs) ys all = (all.0, MayReplay-front (after_group t g) xs ys all.1)
+
+pub MayReplay-back : (t : Replayed) (xs ys : List Logged) → MayReplay t (xs ++ ys) → MayReplay (replay t xs) ys
+MayReplay-back t [] ys all = all
+MayReplay-back t (g ∷ xs) ys all = MayReplay-back (after_group t g) xs ys all.1
 
 pub SpellAll-append : (k : ℕ) (ps qs : List (List ℕ)) (xs ys : List Logged) → SpellAll k ps xs → SpellAll k qs ys → SpellAll k (ps ++ qs) (xs ++ ys)
 SpellAll-append k [] qs xs ys front behind =

@@ -1,6 +1,6 @@
 use Rattle.hb_core.proofs.file_laws.contents_follow_the_order.Goals as goal
 use Rattle.hb_core.proofs.Orders.StepContents.{contents_follow_order, points_stay}
-use Rattle.hb_store.proofs.MadePages.{fitting_parts, good_pages}
+use Rattle.hb_store.proofs.Facts.MadePages.{fitting_parts, good_pages}
 
 pub returns-clause-contents : goal.returns-clause-contents
 returns-clause-contents c =

@@ -1,6 +1,6 @@
 use Rattle.hb_core.proofs.file_laws.pages_stay_pages_of_the_file.Goals as goal
 use Rattle.hb_core.proofs.Memory.KeptPages.{marks_stay_in_place, pages_stay_of_file}
-use Rattle.hb_store.proofs.MadePages.{fitting_parts, good_pages}
+use Rattle.hb_store.proofs.Facts.MadePages.{fitting_parts, good_pages}
 
 pub returns-clause-pages : goal.returns-clause-pages
 returns-clause-pages c =

@@ -1,6 +1,6 @@
 use Rattle.hb_core.proofs.file_laws.rows_are_licensed.Goals as goal
 use Rattle.hb_core.proofs.Files.SoundFiles.{rows_are_licensed}
-use Rattle.hb_store.proofs.MadePages.{fitting_parts, good_pages}
+use Rattle.hb_store.proofs.Facts.MadePages.{fitting_parts, good_pages}
 
 pub returns : goal.returns
 returns c =

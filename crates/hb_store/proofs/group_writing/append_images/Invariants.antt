@@ -4,7 +4,7 @@ use Rattle.std.specs.HashMap.{get}
 use Rattle.std.specs.HashSet.{contains}
 use Rattle.std.specs.List.{flat_map}
 use Rattle.hb_log_codec.specs.Groups.{image_bytes}
-use Rattle.hb_store.specs.Images.{images_needed}
+use Rattle.hb_store.specs.Making.{images_needed}
 use Rattle.hb_store.proofs.group_writing.append_images.Given as goal
 
 -- the images of the numbers so far were added and counted

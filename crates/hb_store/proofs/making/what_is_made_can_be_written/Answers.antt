@@ -1,4 +1,4 @@
-use Rattle.hb_store.proofs.MadePages.{fitting_parts, good_pages}
+use Rattle.hb_store.proofs.Facts.MadePages.{fitting_parts, good_pages}
 use Rattle.hb_store.proofs.making.what_is_made_can_be_written.Goals as goal
 
 pub returns-clause-pages : goal.returns-clause-pages

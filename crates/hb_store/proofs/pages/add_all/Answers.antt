@@ -2,7 +2,7 @@ use Rattle.std.proofs.Common.{◌≡◌, ℕ, ◌+◌, ◌<◌, List, ◌∷◌,
 use Rattle.std.proofs.Math.Seq.{drop-cons}
 use Rattle.std.specs.Prelude.{◌||◌, nat_eq}
 use Rattle.std.specs.HashSet.{contains}
-use Rattle.hb_store.specs.Marks.{is_among}
+use Rattle.hb_store.specs.Replay.{is_among}
 use Rattle.hb_store.proofs.Setting.{add_next}
 use Rattle.hb_store.proofs.pages.add_all.Goals as goal
 

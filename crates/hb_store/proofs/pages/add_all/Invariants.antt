@@ -1,7 +1,7 @@
 use Rattle.std.proofs.Common.{◌≡◌, ℕ, ◌+◌, ◌≤◌, length, drop}
 use Rattle.std.specs.Prelude.{◌||◌, nat_eq}
 use Rattle.std.specs.HashSet.{contains, spare}
-use Rattle.hb_store.specs.Marks.{is_among}
+use Rattle.hb_store.specs.Replay.{is_among}
 use Rattle.hb_store.proofs.pages.add_all.Given as goal
 
 -- to add the rest is to add all from the beginning, and there is room for it

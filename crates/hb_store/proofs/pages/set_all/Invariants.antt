@@ -2,8 +2,7 @@ use Rattle.std.proofs.Common.{◌≡◌, ℕ, ◌≤◌, length}
 use Rattle.std.specs.Prelude.{◌||◌, nat_eq}
 use Rattle.std.specs.HashMap.{get, spare}
 use Rattle.std.specs.HashSet.{contains, spare as spare_of}
-use Rattle.hb_store.specs.Marks.{has_page}
-use Rattle.hb_store.specs.Replay.{set_pages}
+use Rattle.hb_store.specs.Replay.{set_pages, has_page}
 use Rattle.hb_store.proofs.pages.set_all.Given as goal
 
 -- to set the rest is to set all from the beginning, and there is room for it

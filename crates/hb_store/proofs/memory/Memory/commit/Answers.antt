@@ -7,12 +7,12 @@ use Rattle.hb_wal.specs.Log.{LogState, room_of, pending_bytes}
 use Rattle.hb_store.specs.Calls.{Commits}
 use Rattle.hb_store.specs.Inside.{memory_seen}
 use Rattle.hb_store.specs.Making.{MakesWell}
-use Rattle.hb_store.specs.Marks.{has_page, is_among}
+use Rattle.hb_store.specs.Replay.{has_page, is_among}
 use Rattle.hb_store.specs.States.{IsMemory, StoreState, in_memory, is_imaged}
-use Rattle.hb_store.proofs.Changed.{changes_well}
+use Rattle.hb_store.proofs.Facts.Changed.{changes_well}
 use Rattle.hb_store.proofs.Committed.{commits_here, memory_after}
 use Rattle.hb_store.proofs.Held.{map_seen, set_seen, state_of, state_same}
-use Rattle.hb_store.proofs.Setting.{set_pages-same}
+use Rattle.hb_store.proofs.Facts.ReplayLists.{set_pages-same}
 use Rattle.hb_store.proofs.Touches.{on_err}
 use Rattle.hb_store.proofs.memory.Memory.commit.Goals as goal
 

@@ -5,9 +5,9 @@ use Rattle.std.specs.HashMap.{get}
 use Rattle.hb_ops.specs.Operations.{reads_of}
 use Rattle.hb_log_codec.specs.Groups.{FitsGroup, Logged, group_bytes}
 use Rattle.hb_store.specs.Calls.{read_here}
-use Rattle.hb_store.specs.Images.{group_here}
+use Rattle.hb_store.specs.Making.{group_here}
 use Rattle.hb_store.specs.States.{IsMemory, StoreState, in_memory, is_imaged}
-use Rattle.hb_store.proofs.Changed.{good_readable, limits_of}
+use Rattle.hb_store.proofs.Facts.Changed.{good_readable, limits_of}
 use Rattle.hb_store.proofs.Grouped.{fits_group, good_spelled, if_both, spelled_in}
 use Rattle.hb_store.proofs.Held.{group_seen, map_seen}
 use Rattle.hb_store.proofs.memory.Memory.group.Goals as goal

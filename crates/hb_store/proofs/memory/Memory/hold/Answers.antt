@@ -15,7 +15,7 @@ pub invariant_of-self-2 : goal.invariant_of-self-2
 invariant_of-self-2 c =
     let st = c.args.self.now in
     let is : IsMemory st = subst IsMemory c.self.view_is c.self.invariant in
-    subst IsMemory (sym (put_here c ∙ ap (with_held c.args.id c.args.page) c.self.view_is)) (memory_with st c.args.id c.args.page is c.requires.some c.requires.high c.requires.good)
+    subst IsMemory (sym (put_here c ∙ ap (with_held c.args.id c.args.page) c.self.view_is)) (memory_with st c.args.id c.args.page is c.requires.page.0 c.requires.page.1 c.requires.good)
 
 pub returns-clause-held : goal.returns-clause-held
 returns-clause-held c = put_here c ∙ ap (with_held c.args.id c.args.page) c.self.view_is

@@ -1,5 +1,5 @@
 use Rattle.std.proofs.Common.{Some, ◌∙◌}
-use Rattle.hb_store.proofs.Changed.{live_light}
+use Rattle.hb_store.proofs.Facts.Changed.{live_light}
 use Rattle.hb_store.proofs.memory.Memory.read.Goals as goal
 
 pub returns-in-Some-clause-light : goal.returns-in-Some-clause-light

@@ -1,4 +1,4 @@
-use Rattle.std.proofs.Common.{◌≡◌, ◌≢◌, ℕ, ap, sym, subst, ◌∙◌, arith}
+use Rattle.std.proofs.Common.{◌≡◌, ◌≢◌, ℕ, Err, ap, sym, subst, ◌∙◌, arith}
 use Rattle.std.proofs.lemmas.Result.{err_from_is_err_and}
 use Rattle.hb_frag.specs.declared.pages.Page.TheVariants.{Free}
 use Rattle.hb_layout.specs.declared.meta.Meta.{Meta}
@@ -8,6 +8,7 @@ use Rattle.hb_store.specs.Keeps.{last_of}
 use Rattle.hb_store.specs.NextPage.{MayFetch}
 use Rattle.hb_store.specs.States.{in_memory}
 use Rattle.hb_store.specs.Seen.{seen_as}
+use Rattle.hb_store.proofs.Facts.LookLaws.{LooksUp-none, LooksUp-as, LooksUp-stop}
 use Rattle.hb_store.proofs.Heads.{head_allocates, head_free, room_behind}
 use Rattle.hb_store.proofs.store.Store.next_page.Goals as goal
 
@@ -35,7 +36,7 @@ returns-then-meta-ne0-clause-allocates g c =
 
 pub returns-then-meta-ne0-clause-names : goal.returns-then-meta-ne0-clause-names
 returns-then-meta-ne0-clause-names g c =
-    λ durable later keeps some. (c.free_head.ensures.keeps durable later keeps).memory.cached c.meta-meta.result.now.free (Free c.in_ok-next.next) c.in_ok-next.ensures.named
+    λ durable later keeps some. (c.free_head.ensures.looks.keeps durable later keeps).memory.cached c.meta-meta.result.now.free (Free c.in_ok-next.next) c.in_ok-next.ensures.named
 
 pub returns-then-meta-2-clause-sound : goal.returns-then-meta-2-clause-sound
 returns-then-meta-2-clause-sound g c =
@@ -46,3 +47,15 @@ returns-then-meta-2-clause-sound g c =
     let high : self.memory.meta.high ≡ self.memory.meta.pages = omega (arith, c.if-meta-2.true, ap (λ (m : Meta). m.high) same, ap (λ (m : Meta). m.pages) same) in
     let full = room_behind (g.D.Device.model self.disk) (seen_as self) durable later keeps sound none high in
     absurd (omega (arith, c.if-meta.false, full, ap (λ (m : Meta). m.live) same, ap (λ (m : Meta). m.pages) same))
+
+pub returns-in_err-next-clause-looks : goal.returns-in_err-next-clause-looks
+returns-in_err-next-clause-looks g c =
+    let p = err_from_is_err_and c.from_residual.result c.from_residual.ensures.1 in
+    LooksUp-stop _ c.from_residual.result p.0 (ap Err (sym p.2)) p.1 (g.D.Device.model c.args.self.now.disk) (g.D.Device.model c.free_head.new.self.disk) (seen_as c.args.self.now) (seen_as c.free_head.new.self) c.in_err-next.ensures.looks
+
+pub returns-then-meta-ne0-clause-looks : goal.returns-then-meta-ne0-clause-looks
+returns-then-meta-ne0-clause-looks g c =
+    LooksUp-as (g.D.Device.model c.args.self.now.disk) (g.D.Device.model c.free_head.new.self.disk) (seen_as c.args.self.now) (seen_as c.free_head.new.self) (λ is. cc is) (λ is. cc is) c.in_ok-next.ensures.looks
+
+pub returns-then-meta-2-clause-looks : goal.returns-then-meta-2-clause-looks
+returns-then-meta-2-clause-looks g c = LooksUp-none (g.D.Device.model c.args.self.now.disk) (seen_as c.args.self.now) (λ is. cc (is, c.damaged.ensures))

@@ -12,4 +12,4 @@ pub returns-in-Ok-clause-keeps : goal.returns-in-Ok-clause-keeps
 returns-in-Ok-clause-keeps g c = λ s fresh.
     let d = g.D.Device.model c.args.disk in
     let told = some_value d.told fresh.told in
-    subst (λ (st : StoreState). StoreKeeps d st s []) (sym c.in-Ok.ensures) (fresh_keeps d (g.met.D.Device.is_disk c.args.disk) c.args.turn c.args.meta s fresh c.requires.holds.room told.0 told.1)
+    subst (λ (st : StoreState). StoreKeeps d st s []) (sym c.in-Ok.ensures) (fresh_keeps d (g.met.D.Device.is_disk c.args.disk) c.args.turn c.args.meta s fresh c.requires.room told.0 told.1)

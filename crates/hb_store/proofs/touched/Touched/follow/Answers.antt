@@ -1,16 +1,16 @@
 use Rattle.std.proofs.Common.{All, refl, sym, subst, ◌∙◌}
 use Rattle.hb_log_codec.specs.Reading.{logged}
-use Rattle.hb_store.specs.Replay.{IsAllowedIn, MayFollow, Replayed, after_op}
-use Rattle.hb_store.specs.Replaying.{AreItsPages, ComesAfter, IsPageOf, replayed_of}
-use Rattle.hb_store.proofs.Touches.{group_after, group_its, images_its, on_both, on_ok}
+use Rattle.hb_store.specs.Replay.{IsAllowedIn, MayFollow, after_op}
+use Rattle.hb_store.specs.Replaying.{IsPageOf, IsReplayable, ReplaysOn, replayed_of}
+use Rattle.hb_store.proofs.Touches.{group_leads, images_its, on_both, on_ok}
 use Rattle.hb_store.proofs.touched.Touched.follow.Goals as goal
 
-pub apply-requires-clause-pages : goal.apply-requires-clause-pages
-apply-requires-clause-pages c =
+pub apply-requires-clause-goes_on : goal.apply-requires-clause-goes_on
+apply-requires-clause-goes_on c =
     let t = replayed_of c.args.self.now in
     let g = logged c.args.group in
     let range : All (λ i. IsPageOf t.meta i.0) g.images = subst (λ l. All (λ i. IsPageOf t.meta i.0) l) c.as_slice.ensures.value (c.if-not-has_all.ensures.0 refl) in
-    subst AreItsPages (sym c.in_ok-set_all.ensures) (images_its t g t.meta.k c.requires.pages c.requires.fits range)
+    subst IsReplayable (sym c.in_ok-set_all.ensures) (record { limits = c.requires.goes_on.limits; pages = images_its t g t.meta.k c.requires.goes_on.pages c.requires.fits range })
 
 pub returns-clause-allowed : goal.returns-clause-allowed
 returns-clause-allowed c =
@@ -24,25 +24,15 @@ returns-clause-effect c =
     let g = logged c.args.group in
     on_ok c.apply.result (λ same. same ∙ (λ i. after_op (c.in_ok-set_all.ensures i) g.op)) c.apply.ensures.effect
 
-pub returns-clause-pages : goal.returns-clause-pages
-returns-clause-pages c =
+pub returns-clause-leads : goal.returns-clause-leads
+returns-clause-leads c =
     let t = replayed_of c.args.self.now in
     let g = logged c.args.group in
     let range : All (λ i. IsPageOf t.meta i.0) g.images = subst (λ l. All (λ i. IsPageOf t.meta i.0) l) c.as_slice.ensures.value (c.if-not-has_all.ensures.0 refl) in
     let may : IsAllowedIn (replayed_of c.set_all.new.self) g.op → MayFollow t g = λ allowed. record { images = range; allowed = subst (λ u. IsAllowedIn u g.op) c.in_ok-set_all.ensures allowed } in
     on_both c.apply.result
-    (λ allowed same. subst AreItsPages (sym (same ∙ (λ i. after_op (c.in_ok-set_all.ensures i) g.op)))
-    (group_its c.what_is_made_can_be_written.ensures.pages t g c.requires.pages c.requires.limits c.requires.fits (may allowed)))
-    c.apply.ensures.allowed c.apply.ensures.effect
-
-pub returns-clause-meta : goal.returns-clause-meta
-returns-clause-meta c =
-    let t = replayed_of c.args.self.now in
-    let g = logged c.args.group in
-    let range : All (λ i. IsPageOf t.meta i.0) g.images = subst (λ l. All (λ i. IsPageOf t.meta i.0) l) c.as_slice.ensures.value (c.if-not-has_all.ensures.0 refl) in
-    on_both c.apply.result
-    (λ allowed same. subst (λ (r : Replayed). ComesAfter t.meta r.meta) (sym (same ∙ (λ i. after_op (c.in_ok-set_all.ensures i) g.op)))
-    (group_after t g c.requires.limits c.requires.fits (record { images = range; allowed = subst (λ u. IsAllowedIn u g.op) c.in_ok-set_all.ensures allowed })))
+    (λ allowed same. subst (ReplaysOn t) (sym (same ∙ (λ i. after_op (c.in_ok-set_all.ensures i) g.op)))
+    (group_leads c.what_is_made_can_be_written.ensures.pages t g c.requires.goes_on c.requires.fits (may allowed)))
     c.apply.ensures.allowed c.apply.ensures.effect
 
 pub returns-clause-unfit : goal.returns-clause-unfit

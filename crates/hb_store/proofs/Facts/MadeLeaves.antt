@@ -21,6 +21,7 @@ use Rattle.hb_frag.specs.Grammar.{FitsLeaf, FitsRecord, FitsTree}
 use Rattle.hb_ops.specs.declared.leaf_cuts.LeafCut.{LeafCut}
 use Rattle.hb_ops.specs.Recording.{joined, on_records, without}
 use Rattle.hb_ops.specs.Cutting.{cut_through, cut_with, going, is_on, other_side, reached, records_in, staying}
+use Rattle.hb_lemmas.proofs.Lists.{All-front, All-behind, All-alone}
 
 -- what a leaf has is in its place, but for the number of its records
 abbrev pub FitsIn : ℕ → Leaf → Type 0
@@ -31,24 +32,13 @@ FitsIn k (Sibling page) = page < 2 ^ 32
 abbrev pub AllFit : ℕ → Tree → Type 0
 AllFit k tree = All (FitsIn k) (leaves tree)
 
-pub front_all : {A : Type 0} (P : A → Type 0) (xs ys : List A) → All P (xs ++ ys) → All P xs
-front_all P [] ys h = All-nil P
-front_all P (x ∷ xs) ys h = All-cons P x xs (All-head P x (xs ++ ys) h) (front_all P xs ys (All-tail P x (xs ++ ys) h))
-
-pub back_all : {A : Type 0} (P : A → Type 0) (xs ys : List A) → All P (xs ++ ys) → All P ys
-back_all P [] ys h = h
-back_all P (x ∷ xs) ys h = back_all P xs ys (All-tail P x (xs ++ ys) h)
-
-one_all : {A : Type 0} (P : A → Type 0) (x : A) → P x → All P (x ∷ [])
-one_all P x h = All-cons P x [] h (All-nil P)
-
 leaf_in : (k : ℕ) (leaf : Leaf) → FitsLeaf k leaf → FitsIn k leaf
 leaf_in k (Records records) fits = fits.1
 leaf_in k (Child page) fits = fits
 leaf_in k (Sibling page) fits = fits
 
 pub all_fit : (k : ℕ) (tree : Tree) → FitsTree k tree → AllFit k tree
-all_fit k (Tip leaf) fits = one_all (FitsIn k) leaf (leaf_in k leaf fits)
+all_fit k (Tip leaf) fits = All-alone (FitsIn k) leaf (leaf_in k leaf fits)
 all_fit k (Cut axis value left right) fits = All-append (FitsIn k) (leaves left) (leaves right) (all_fit k left fits.2) (all_fit k right fits.3)
 
 -- light leaves have few records
@@ -76,13 +66,13 @@ module _ (k : ℕ) (p : List ℕ) (change : List Record → List Record) (kept :
   leaf_changed true (Sibling page) fits = fits
 
   pub fit_changed : (tree : Tree) (area : Area) → AllFit k tree → AllFit k (with_leaf_at p (on_records change) tree area)
-  fit_changed (Tip leaf) area fit = one_all (FitsIn k) (cond (holds area p) (on_records change leaf) leaf) (leaf_changed (holds area p) leaf (All-head (FitsIn k) leaf [] fit))
+  fit_changed (Tip leaf) area fit = All-alone (FitsIn k) (cond (holds area p) (on_records change leaf) leaf) (leaf_changed (holds area p) leaf (All-head (FitsIn k) leaf [] fit))
   fit_changed (Cut axis value left right) area fit =
       let below = side_below area axis value in
       let from = side_from area axis value in
       All-append (FitsIn k) (leaves (with_leaf_at p (on_records change) left below)) (leaves (with_leaf_at p (on_records change) right from))
-      (fit_changed left below (front_all (FitsIn k) (leaves left) (leaves right) fit))
-      (fit_changed right from (back_all (FitsIn k) (leaves left) (leaves right) fit))
+      (fit_changed left below (All-front (FitsIn k) (leaves left) (leaves right) fit))
+      (fit_changed right from (All-behind (FitsIn k) (leaves left) (leaves right) fit))
 
 pub joined_fit : (k : ℕ) (rec : Record) → FitsRecord k rec → (records : List Record) → All (FitsRecord k) records → All (FitsRecord k) (joined rec records)
 joined_fit k rec fits records all =
@@ -101,17 +91,17 @@ fit_part k [] tree area part there fit = let same : tree ≡ part.0 = first_is (
   where
     first_is : (x y : Tree × Area) → Some x ≡ Some y → x.0 ≡ y.0
     first_is x y e = let same : x ≡ y = cc in ap (λ (z : Tree × Area). z.0) same
-fit_part k (Left ∷ path) (Cut axis value left right) area part there fit = fit_part k path left (side_below area axis value) part there (front_all (FitsIn k) (leaves left) (leaves right) fit)
-fit_part k (Right ∷ path) (Cut axis value left right) area part there fit = fit_part k path right (side_from area axis value) part there (back_all (FitsIn k) (leaves left) (leaves right) fit)
+fit_part k (Left ∷ path) (Cut axis value left right) area part there fit = fit_part k path left (side_below area axis value) part there (All-front (FitsIn k) (leaves left) (leaves right) fit)
+fit_part k (Right ∷ path) (Cut axis value left right) area part there fit = fit_part k path right (side_from area axis value) part there (All-behind (FitsIn k) (leaves left) (leaves right) fit)
 fit_part k (Left ∷ path) (Tip leaf) area part there fit = absurd cc
 fit_part k (Right ∷ path) (Tip leaf) area part there fit = absurd cc
 
 pub fit_with_part : (k : ℕ) (path : List Side) (tree other : Tree) → AllFit k tree → AllFit k other → AllFit k (with_part path tree other)
 fit_with_part k [] tree other fit new = new
 fit_with_part k (Left ∷ path) (Cut axis value left right) other fit new =
-    All-append (FitsIn k) (leaves (with_part path left other)) (leaves right) (fit_with_part k path left other (front_all (FitsIn k) (leaves left) (leaves right) fit) new) (back_all (FitsIn k) (leaves left) (leaves right) fit)
+    All-append (FitsIn k) (leaves (with_part path left other)) (leaves right) (fit_with_part k path left other (All-front (FitsIn k) (leaves left) (leaves right) fit) new) (All-behind (FitsIn k) (leaves left) (leaves right) fit)
 fit_with_part k (Right ∷ path) (Cut axis value left right) other fit new =
-    All-append (FitsIn k) (leaves left) (leaves (with_part path right other)) (front_all (FitsIn k) (leaves left) (leaves right) fit) (fit_with_part k path right other (back_all (FitsIn k) (leaves left) (leaves right) fit) new)
+    All-append (FitsIn k) (leaves left) (leaves (with_part path right other)) (All-front (FitsIn k) (leaves left) (leaves right) fit) (fit_with_part k path right other (All-behind (FitsIn k) (leaves left) (leaves right) fit) new)
 fit_with_part k (Left ∷ path) (Tip leaf) other fit new = fit
 fit_with_part k (Right ∷ path) (Tip leaf) other fit new = fit
 
@@ -125,7 +115,7 @@ records_fit k (Cut axis value left right) fit = All-nil (FitsRecord k)
 
 half_fits : (k : ℕ) (side : Side) (cut : LeafCut) (tree : Tree) → AllFit k tree → AllFit k (Tip (Records (filter (is_on side cut.axis cut.value) (records_in tree))))
 half_fits k side cut tree fit =
-    one_all (FitsIn k) (Records (filter (is_on side cut.axis cut.value) (records_in tree))) (All-filter (is_on side cut.axis cut.value) (FitsRecord k) (records_in tree) (records_fit k tree fit))
+    All-alone (FitsIn k) (Records (filter (is_on side cut.axis cut.value) (records_in tree))) (All-filter (is_on side cut.axis cut.value) (FitsRecord k) (records_in tree) (records_fit k tree fit))
 
 pub fit_reached : (k : ℕ) (cuts : List LeafCut) (tree : Tree) (area : Area) → AllFit k tree → AllFit k (reached cuts tree area).0
 fit_reached k [] tree area fit = fit
@@ -154,18 +144,18 @@ module _ (k outer inner : ℕ) (outer_fits : outer < 2 ^ 32) (inner_fits : inner
   fit_above : (axis : ℕ) (r c : Area) (rest : Tree) → AllFit k rest → AllFit k (carve_above axis r c outer rest)
   fit_above axis r c rest fit =
       elim (nat_lt (slice_index c.hi axis) (slice_index r.hi axis)) as (λ b. AllFit k (cond b (Cut axis (slice_index c.hi axis + 1) rest (Tip (Child outer))) rest)) [
-        | true ↦ All-append (FitsIn k) (leaves rest) (Child outer ∷ []) fit (one_all (FitsIn k) (Child outer) outer_fits)
+        | true ↦ All-append (FitsIn k) (leaves rest) (Child outer ∷ []) fit (All-alone (FitsIn k) (Child outer) outer_fits)
         | false ↦ fit
       ]
 
   pub fit_carved : (n axis : ℕ) (r c : Area) → AllFit k (carve_from n axis r c outer inner)
-  fit_carved zero axis r c = one_all (FitsIn k) (Child inner) inner_fits
+  fit_carved zero axis r c = All-alone (FitsIn k) (Child inner) inner_fits
   fit_carved (suc n) axis r c =
       fit_below axis r c (carve_above axis r c outer (carve_from n (axis + 1) r c outer inner))
       (fit_above axis r c (carve_from n (axis + 1) r c outer inner) (fit_carved n (axis + 1) r c))
 
 order_one : (P : Record → Type 0) (r : Record) (xs : List Record) → P r → All P xs → All P (with_record_in_order r xs)
-order_one P r [] one h = one_all P r one
+order_one P r [] one h = All-alone P r one
 order_one P r (s ∷ rest) one h =
     elim (is_gt (point_cmp r.key s.key)) as (λ b. All P (cond b (s ∷ with_record_in_order r rest) (r ∷ s ∷ rest))) [
       | true ↦ All-cons P s (with_record_in_order r rest) (All-head P s rest h) (order_one P r rest one (All-tail P s rest h))
@@ -182,7 +172,7 @@ module _ (k axis value : ℕ) where
 
   fit_joined : (left right : Tree) → AllFit k left → AllFit k right → AllFit k (one_leaf_or_cut axis value left right)
   fit_joined (Tip (Records xs)) (Tip (Records ys)) l r =
-      one_all (FitsIn k) (Records (in_point_order (xs ++ ys)))
+      All-alone (FitsIn k) (Records (in_point_order (xs ++ ys)))
       (order_all (FitsRecord k) (xs ++ ys) (All-append (FitsRecord k) xs ys (All-head (FitsIn k) (Records xs) [] l) (All-head (FitsIn k) (Records ys) [] r)))
   fit_joined (Tip (Child page)) (Tip (Child other)) l r =
       elim (page == other) as (λ b. AllFit k (cond b (Tip (Child page)) (Cut axis value (Tip (Child page)) (Tip (Child other))))) [
@@ -208,4 +198,4 @@ pub fit_normal : (k : ℕ) (tree : Tree) → AllFit k tree → AllFit k (normal 
 fit_normal k (Tip leaf) fit = fit
 fit_normal k (Cut axis value left right) fit =
     fit_joined k axis value (normal left) (normal right)
-    (fit_normal k left (front_all (FitsIn k) (leaves left) (leaves right) fit)) (fit_normal k right (back_all (FitsIn k) (leaves left) (leaves right) fit))
+    (fit_normal k left (All-front (FitsIn k) (leaves left) (leaves right) fit)) (fit_normal k right (All-behind (FitsIn k) (leaves left) (leaves right) fit))

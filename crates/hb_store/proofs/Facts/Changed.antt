@@ -20,12 +20,13 @@ use Rattle.hb_log_codec.specs.Groups.{FitsOp}
 use Rattle.hb_store.specs.States.{AreGood, IsGoodPage, IsMemory, IsSameLayout, IsStanding, StoreState, in_memory}
 use Rattle.hb_store.specs.Calls.{IsAllowedHere, change_here, read_here}
 use Rattle.hb_store.specs.Making.{ChangesWell, IsReadable, MakesGoodPages}
-use Rattle.hb_store.proofs.Facts.ReplayLists.{live_so}
+use Rattle.hb_ops.proofs.Facts.PageNumberLaws.{live_so}
 use Rattle.hb_store.specs.Replaying.{ComesAfter, HasLimits, IsPageOf}
-use Rattle.hb_store.proofs.Counting.{high_next}
+use Rattle.hb_ops.proofs.Facts.AllowedOps.{high_next, reads_some}
 use Rattle.hb_store.proofs.Grouped.{good_spelled}
-use Rattle.hb_store.proofs.MadeMeta.{comes_after, made_numbered, reads_some, some_page}
-use Rattle.hb_store.proofs.MadePages.{capacity_small}
+use Rattle.hb_store.proofs.Facts.MadeMeta.{comes_after, made_numbered}
+use Rattle.hb_store.proofs.Facts.MadePages.{capacity_small}
+use Rattle.hb_lemmas.proofs.Options.{some_value}
 
 pub limits_of : (turn : ℕ) (meta : Meta) → IsStanding turn meta → HasLimits meta
 limits_of turn meta stands = record { layout = stands.layout; root_fits = stands.root_fits }
@@ -68,7 +69,7 @@ good_readable meta page_in good id page is = good_spelled meta (Live page) (good
 pub reads_numbered : (st : StoreState) → IsMemory st → (op : Op) → IsAllowedHere st op → All (IsPageOf st.meta) (reads_of op)
 reads_numbered st is op allowed i d lt =
     let id = get_or (reads_of op) i d in
-    let page = some_page (in_memory st id) (reads_some op st.meta (in_memory st) (read_here st op 1) (read_here st op 2) allowed i d lt) in
+    let page = some_value (in_memory st id) (reads_some op st.meta (in_memory st) (read_here st op 1) (read_here st op 2) allowed i d lt) in
     let at = is.good id page.0 page.1 in
     (at.0, at.1)
 

@@ -1,6 +1,5 @@
 -- What a file says of itself after an allowed operation, and the numbers of the pages that change.
-use Rattle.std.proofs.Common.{◌≡◌, ◌≢◌, inl, inr, ℕ, ◌+◌, ◌<◌, ◌≤◌, ◌^◌, eqb, List, [], ◌∷◌, get_or, All, Option, Some, None, IsSome, refl, subst, ◌∙◌, arith}
-use Rattle.std.proofs.lemmas.Bool.{cases_Bool, eqb-true, eqb-false}
+use Rattle.std.proofs.Common.{◌≡◌, ℕ, ◌<◌, ◌≤◌, ◌^◌, List, [], ◌∷◌, All, max, Option, Some, None, refl, sym, subst, ◌∙◌, arith}
 use Rattle.std.proofs.lemmas.List.Elements.{All-cons, All-head, All-nil}
 use Rattle.hb_space.specs.Boxes.{Area}
 use Rattle.hb_frag.specs.declared.pages.LivePage.{LivePage}
@@ -12,13 +11,14 @@ use Rattle.hb_layout.specs.declared.meta.Meta.{Meta}
 use Rattle.hb_ops.specs.declared.leaf_cuts.LeafCut.{LeafCut}
 use Rattle.hb_ops.specs.declared.operations.Op.{Op}
 use Rattle.hb_ops.specs.declared.operations.Op.TheVariants.{Put, Del, Extract, Post, Grow}
-use Rattle.hb_ops.specs.Allocating.{Allocates, allocated}
-use Rattle.hb_ops.specs.Files.{if_live}
+use Rattle.hb_ops.specs.Allocating.{allocated}
 use Rattle.hb_ops.specs.Extracting.{fresh_page, source_page, split_pages}
 use Rattle.hb_ops.specs.Operations.{IsAllowedOn, OpHas, change_of, reads_of}
 use Rattle.hb_log_codec.specs.Groups.{FitsOp}
 use Rattle.hb_store.specs.States.{IsSameLayout}
+use Rattle.hb_store.proofs.Facts.FilePages.{greatest}
 use Rattle.hb_store.specs.Replaying.{ComesAfter, HasLimits, IsPageOf}
+use Rattle.hb_ops.proofs.Facts.AllowedOps.{taken_is}
 
 pub op_has : (k : ℕ) (op : Op) → FitsOp k op → OpHas k op
 op_has k (Put id rec) fits = fits.1.attributes
@@ -78,23 +78,6 @@ after_more a b c one two = record {
   free = λ h. two.free (one.free h);
 }
 
--- the page number that is taken
-pub record IsFresh (meta : Meta) (fresh : ℕ) : Type 0 where
-  pub some : 1 ≤ fresh
-  pub next : fresh ≤ meta.high + 1
-  pub inside : meta.high ≤ meta.pages → fresh ≤ meta.pages
-
-pub fresh_is : (meta : Meta) (fresh free_after : ℕ) → Allocates meta fresh free_after → IsFresh meta fresh
-fresh_is meta fresh free_after takes = elim (cases_Bool (eqb meta.free 0)) [
-  | inl none ↦
-      let at = takes.from_behind (eqb-true meta.free 0 none) in
-      record { some = omega (arith, at.0); next = omega (arith, at.0); inside = λ h. at.1 }
-  | inr some ↦
-      let ne : meta.free ≢ 0 = eqb-false meta.free 0 some in
-      let at = takes.from_chain ne in
-      record { some = omega (arith, at.0, ne); next = omega (arith, at.1); inside = λ h. omega (arith, at.1, h) }
-]
-
 pub comes_after : (op : Op) (meta : Meta) (first second third : Option LivePage) → HasLimits meta → FitsOp meta.k op → IsAllowedOn op meta first second third → ComesAfter meta (change_of op meta first second third).meta
 comes_after (Put id rec) meta None second third limits fits allowed = absurd allowed
 comes_after (Put id rec) meta (Some page) second third limits fits allowed = after_itself meta limits
@@ -102,7 +85,7 @@ comes_after (Del id point) meta None second third limits fits allowed = absurd a
 comes_after (Del id point) meta (Some page) second third limits fits allowed = after_itself meta limits
 comes_after (Extract source fresh path cuts free_after) meta None second third limits fits allowed = absurd allowed
 comes_after (Extract source fresh path cuts free_after) meta (Some page) second third limits fits allowed =
-    let is = fresh_is meta fresh free_after allowed.allocates in
+    let is = taken_is meta fresh free_after allowed.allocates in
     let same : IsSameLayout meta (allocated meta fresh free_after) = record { k = refl; pages = refl; log = refl; dcap = refl; icap = refl } in
     record {
       layout = same;
@@ -116,7 +99,7 @@ comes_after (Extract source fresh path cuts free_after) meta (Some page) second 
 comes_after (Post parent at inner area) meta None second third limits fits allowed = absurd allowed
 comes_after (Post parent at inner area) meta (Some page) second third limits fits allowed = after_itself meta limits
 comes_after (Grow fresh free_after) meta first second third limits fits allowed =
-    let is = fresh_is meta fresh free_after allowed.allocates in
+    let is = taken_is meta fresh free_after allowed.allocates in
     let new = (change_of (Grow fresh free_after) meta first second third).meta in
     let same : IsSameLayout meta new = record { k = refl; pages = refl; log = refl; dcap = refl; icap = refl } in
     record {
@@ -153,34 +136,34 @@ made_numbered (Del id point) meta None second third allowed reads = absurd allow
 made_numbered (Del id point) meta (Some page) second third allowed reads = one_numbered meta _ (All-head (IsPageOf meta) id [] reads)
 made_numbered (Extract source fresh path cuts free_after) meta None second third allowed reads = absurd allowed
 made_numbered (Extract source fresh path cuts free_after) meta (Some page) second third allowed reads =
-    let is = fresh_is meta fresh free_after allowed.allocates in
+    let is = taken_is meta fresh free_after allowed.allocates in
     let old = All-head (IsPageOf meta) source [] reads in
     split_numbered (allocated meta fresh free_after) source fresh path cuts page _ (old.0, omega (arith, old.1)) (is.some, omega arith)
 made_numbered (Post parent at inner area) meta None second third allowed reads = absurd allowed
 made_numbered (Post parent at inner area) meta (Some page) second third allowed reads = one_numbered meta _ (All-head (IsPageOf meta) parent [] reads)
 made_numbered (Grow fresh free_after) meta first second third allowed reads =
-    let is = fresh_is meta fresh free_after allowed.allocates in
+    let is = taken_is meta fresh free_after allowed.allocates in
     one_numbered (change_of (Grow fresh free_after) meta first second third).meta _ (is.some, omega arith)
 
--- ---- the pages that an allowed operation reads are there
+-- ---- the high mark
 
-pub some_page : (o : Option Page) → IsSome o → (page : Page) × (o ≡ Some page)
-some_page None h = cc h
-some_page (Some page) h = (page, refl)
+one_greatest : (high id : ℕ) → id ≤ high → max high id ≡ high
+one_greatest high id le = omega (arith, le)
 
-live_some : (o : Option Page) → (if_live o ≡ None → ⊥) → IsSome o
-live_some None h = absurd (h refl)
-live_some (Some page) h = refl
+split_greatest : (high source fresh : ℕ) (path : List Side) (cuts : List LeafCut) (page : LivePage) (part : Tree × Area) → source ≤ high → greatest high (split_pages source fresh path cuts page (Some part)) ≡ max high fresh
+split_greatest high source fresh path cuts page part le = omega (arith, le)
 
-module _ (op : Op) (meta : Meta) (f : ℕ → Option Page) (second third : Option LivePage) where
-  -- one page, without which the operation isn't allowed
-  one_read : (id : ℕ) → (IsAllowedOn op meta None second third → ⊥) → IsAllowedOn op meta (if_live (f id)) second third → All (λ n. IsSome (f n)) (id ∷ [])
-  one_read id not allowed =
-      All-cons (λ (n : ℕ). IsSome (f n)) id [] (live_some (f id) (λ none. not (subst (λ (o : Option LivePage). IsAllowedOn op meta o second third) none allowed))) (All-nil (λ (n : ℕ). IsSome (f n)))
-
-pub reads_some : (op : Op) (meta : Meta) (f : ℕ → Option Page) (second third : Option LivePage) → IsAllowedOn op meta (if_live (f (get_or (reads_of op) 0 0))) second third → All (λ id. IsSome (f id)) (reads_of op)
-reads_some (Put id rec) meta f second third h = one_read (Put id rec) meta f second third id (λ never. never) h
-reads_some (Del id point) meta f second third h = one_read (Del id point) meta f second third id (λ never. never) h
-reads_some (Extract source fresh path cuts free_after) meta f second third h = one_read (Extract source fresh path cuts free_after) meta f second third source (λ never. never) h
-reads_some (Post parent at inner area) meta f second third h = one_read (Post parent at inner area) meta f second third parent (λ never. never) h
-reads_some (Grow fresh free_after) meta f second third h = All-nil (λ (n : ℕ). IsSome (f n))
+-- it is the greatest number then
+pub grown_high : (op : Op) (meta : Meta) (first second third : Option LivePage) → IsAllowedOn op meta first second third → All (IsPageOf meta) (reads_of op)
+    → greatest meta.high (change_of op meta first second third).pages ≡ (change_of op meta first second third).meta.high
+grown_high (Put id rec) meta None second third allowed reads = absurd allowed
+grown_high (Put id rec) meta (Some page) second third allowed reads = one_greatest meta.high id (All-head (IsPageOf meta) id [] reads).1
+grown_high (Del id point) meta None second third allowed reads = absurd allowed
+grown_high (Del id point) meta (Some page) second third allowed reads = one_greatest meta.high id (All-head (IsPageOf meta) id [] reads).1
+grown_high (Extract source fresh path cuts free_after) meta None second third allowed reads = absurd allowed
+grown_high (Extract source fresh path cuts free_after) meta (Some page) second third allowed reads =
+    subst (λ (o : Option (Tree × Area)). greatest meta.high (split_pages source fresh path cuts page o) ≡ max meta.high fresh) (sym allowed.fits.there)
+    (split_greatest meta.high source fresh path cuts page allowed.part (All-head (IsPageOf meta) source [] reads).1)
+grown_high (Post parent at inner area) meta None second third allowed reads = absurd allowed
+grown_high (Post parent at inner area) meta (Some page) second third allowed reads = one_greatest meta.high parent (All-head (IsPageOf meta) parent [] reads).1
+grown_high (Grow fresh free_after) meta first second third allowed reads = refl

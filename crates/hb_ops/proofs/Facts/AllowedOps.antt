@@ -1,0 +1,75 @@
+-- What is allowed of an operation, whatever it is: the page number that it takes, the high mark behind it, and the pages
+-- that it reads.
+use Rattle.std.proofs.Common.{◌≡◌, ◌≢◌, inl, inr, ℕ, ◌+◌, ◌≤◌, eqb, [], ◌∷◌, get_or, All, Option, Some, None, IsSome, refl, subst, arith}
+use Rattle.std.proofs.lemmas.Bool.{cases_Bool, eqb-true, eqb-false}
+use Rattle.std.proofs.lemmas.List.Elements.{All-cons, All-nil}
+use Rattle.hb_frag.specs.declared.pages.LivePage.{LivePage}
+use Rattle.hb_frag.specs.declared.pages.Page.{Page}
+use Rattle.hb_layout.specs.declared.meta.Meta.{Meta}
+use Rattle.hb_ops.specs.declared.operations.Op.{Op}
+use Rattle.hb_ops.specs.declared.operations.Op.TheVariants.{Put, Del, Extract, Post, Grow}
+use Rattle.hb_ops.specs.Allocating.{Allocates}
+use Rattle.hb_ops.specs.Files.{if_live}
+use Rattle.hb_ops.specs.Operations.{IsAllowedOn, change_of, reads_of}
+
+-- the page number that is taken
+pub record IsTaken (meta : Meta) (fresh : ℕ) : Type 0 where
+  pub some : 1 ≤ fresh
+  pub next : fresh ≤ meta.high + 1
+  pub inside : meta.high ≤ meta.pages → fresh ≤ meta.pages
+
+pub taken_is : (meta : Meta) (fresh free_after : ℕ) → Allocates meta fresh free_after → IsTaken meta fresh
+taken_is meta fresh free_after takes = elim (cases_Bool (eqb meta.free 0)) [
+  | inl none ↦
+      let at = takes.from_behind (eqb-true meta.free 0 none) in
+      record { some = omega (arith, at.0); next = omega (arith, at.0); inside = λ h. at.1 }
+  | inr some ↦
+      let ne : meta.free ≢ 0 = eqb-false meta.free 0 some in
+      let at = takes.from_chain ne in
+      record { some = omega (arith, at.0, ne); next = omega (arith, at.1); inside = λ h. omega (arith, at.1, h) }
+]
+
+-- ---- the high mark
+
+-- it rises by one at most
+pub high_next : (op : Op) (meta : Meta) (first second third : Option LivePage) → IsAllowedOn op meta first second third → (change_of op meta first second third).meta.high ≤ meta.high + 1
+high_next (Put id rec) meta None second third allowed = absurd allowed
+high_next (Put id rec) meta (Some page) second third allowed = omega arith
+high_next (Del id point) meta None second third allowed = absurd allowed
+high_next (Del id point) meta (Some page) second third allowed = omega arith
+high_next (Extract source fresh path cuts free_after) meta None second third allowed = absurd allowed
+high_next (Extract source fresh path cuts free_after) meta (Some page) second third allowed = let is = taken_is meta fresh free_after allowed.allocates in omega (arith, is.next)
+high_next (Post parent at inner area) meta None second third allowed = absurd allowed
+high_next (Post parent at inner area) meta (Some page) second third allowed = omega arith
+high_next (Grow fresh free_after) meta first second third allowed = let is = taken_is meta fresh free_after allowed.allocates in omega (arith, is.next)
+
+-- ---- the same operation on the same pages
+
+pub same_change : (op : Op) (m n : Meta) (a a' b b' c c' : Option LivePage) → m ≡ n → a ≡ a' → b ≡ b' → c ≡ c' → change_of op m a b c ≡ change_of op n a' b' c'
+same_change op m n a a' b b' c c' em ea eb ec = λ i. change_of op (em i) (ea i) (eb i) (ec i)
+
+pub same_allowed : (op : Op) (m n : Meta) (a a' b b' c c' : Option LivePage) → m ≡ n → a ≡ a' → b ≡ b' → c ≡ c' → IsAllowedOn op m a b c → IsAllowedOn op n a' b' c'
+same_allowed op m n a a' b b' c c' em ea eb ec h =
+    subst (λ (x : Option LivePage). IsAllowedOn op n a' b' x) ec
+    (subst (λ (x : Option LivePage). IsAllowedOn op n a' x c) eb
+    (subst (λ (x : Option LivePage). IsAllowedOn op n x b c) ea
+    (subst (λ (x : Meta). IsAllowedOn op x a b c) em h)))
+
+-- ---- the pages that an allowed operation reads are there
+
+live_some : (o : Option Page) → (if_live o ≡ None → ⊥) → IsSome o
+live_some None h = absurd (h refl)
+live_some (Some page) h = refl
+
+module _ (op : Op) (meta : Meta) (f : ℕ → Option Page) (second third : Option LivePage) where
+  -- one page, without which the operation isn't allowed
+  one_read : (id : ℕ) → (IsAllowedOn op meta None second third → ⊥) → IsAllowedOn op meta (if_live (f id)) second third → All (λ n. IsSome (f n)) (id ∷ [])
+  one_read id not allowed =
+      All-cons (λ (n : ℕ). IsSome (f n)) id [] (live_some (f id) (λ none. not (subst (λ (o : Option LivePage). IsAllowedOn op meta o second third) none allowed))) (All-nil (λ (n : ℕ). IsSome (f n)))
+
+pub reads_some : (op : Op) (meta : Meta) (f : ℕ → Option Page) (second third : Option LivePage) → IsAllowedOn op meta (if_live (f (get_or (reads_of op) 0 0))) second third → All (λ id. IsSome (f id)) (reads_of op)
+reads_some (Put id rec) meta f second third h = one_read (Put id rec) meta f second third id (λ never. never) h
+reads_some (Del id point) meta f second third h = one_read (Del id point) meta f second third id (λ never. never) h
+reads_some (Extract source fresh path cuts free_after) meta f second third h = one_read (Extract source fresh path cuts free_after) meta f second third source (λ never. never) h
+reads_some (Post parent at inner area) meta f second third h = one_read (Post parent at inner area) meta f second third parent (λ never. never) h
+reads_some (Grow fresh free_after) meta f second third h = All-nil (λ (n : ℕ). IsSome (f n))

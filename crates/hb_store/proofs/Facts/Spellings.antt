@@ -1,0 +1,24 @@
+-- What bytes spell at most.
+use Rattle.std.proofs.Common.{◌≡◌, ℕ, List, [], ◌∷◌, ◌++◌, sym, ◌∙◌}
+use Rattle.hb_frag.specs.declared.pages.Page.{Page}
+use Rattle.hb_frag.specs.Grammar.{SpellsPage}
+use Rattle.hb_log_codec.specs.Groups.{FitsGroup, Logged, SpellsGroups, group_bytes}
+use Rattle.hb_store.specs.Opening.{SpellAll}
+
+-- bytes spell at most one page, and one list of groups; no group's spelling begins another's
+abbrev pub SpelledOnce : Type 0
+SpelledOnce = (bytes : List ℕ) (p q : Page) → SpellsPage bytes p → SpellsPage bytes q → p ≡ q
+
+abbrev pub OneList : Type 0
+OneList = (k : ℕ) (bytes : List ℕ) (xs ys : List Logged) → SpellsGroups k bytes xs → SpellsGroups k bytes ys → xs ≡ ys
+
+abbrev pub OneGroup : Type 0
+OneGroup = (k : ℕ) (x y : Logged) (r s : List ℕ) → FitsGroup k x → FitsGroup k y → group_bytes x ++ r ≡ group_bytes y ++ s → (x ≡ y) × (r ≡ s)
+
+-- so payloads spell one list of groups at most
+pub same_spelled : OneList → (k : ℕ) (payloads : List (List ℕ)) (xs ys : List Logged) → SpellAll k payloads xs → SpellAll k payloads ys → xs ≡ ys
+same_spelled one k [] xs ys x_spell y_spell = x_spell ∙ sym y_spell
+same_spelled one k (payload ∷ rest) xs ys x_spell y_spell =
+    let front = one k payload x_spell.0 y_spell.0 x_spell.3 y_spell.3 in
+    let behind = same_spelled one k rest x_spell.1 y_spell.1 x_spell.4 y_spell.4 in
+    x_spell.2 ∙ (λ i. front i ++ behind i) ∙ sym y_spell.2
