@@ -10,7 +10,7 @@ use Rattle.hb_disk.specs.Calls.{Ticks, Writes, Syncs}
 use Rattle.hb_disk.proofs.Facts.TornLaws.{IsOutside, cases_range, Torn-from, Torn-same, Torn-itself}
 use Rattle.hb_disk.proofs.Facts.OverwrittenLaws.{length-overwritten, overwritten-inside, overwritten-outside, All-overwritten}
 use Rattle.hb_disk.specs.Events.{IsOpen, IsImage, IsImageSince, undone, range_of, disk_after}
-use Rattle.hb_disk.specs.NotedCalls.{Notes, IsOver, Explains, LeavesTry, Passes}
+use Rattle.hb_disk.specs.NotedCalls.{Notes, IsOver, Refuses, Passes}
 use Rattle.hb_disk.specs.declared.event.Change.{Change}
 use Rattle.hb_disk.specs.declared.event.Change.TheVariants.{Tried, Synced}
 use Rattle.hb_disk.specs.declared.event.Event.{Event}
@@ -28,22 +28,17 @@ Notes-weaker P Q clock call old new weaker noted = record {
   time_left = noted.time_left;
 }
 
--- what a refused call left, and why, where it wasn't a listed one
-marked : (Mark Same : Type 0) (e : Refused) → LeavesTry ⊥ Same e → LeavesTry Mark Same e
-marked Mark Same Listed left = absurd left
-marked Mark Same Over left = left
-marked Mark Same NoMemory left = left
+-- a refused call that wasn't a listed one, said of any call
+refused_as : (Mark Same : Type 0) (listed : Bool) (clock : ℕ) (e : Refused) → Refuses ⊥ Same false clock e → Refuses Mark Same listed clock e
+refused_as Mark Same listed clock Listed why = absurd why.2
+refused_as Mark Same listed clock Over why = why
+refused_as Mark Same listed clock NoMemory why = why
 
-explained : (listed : Bool) (clock : ℕ) (e : Refused) → Explains false clock e → Explains listed clock e
-explained listed clock Listed why = cc (why.0)
-explained listed clock Over why = why
-explained listed clock NoMemory why = why
-
-pub unmarked : {T : Type 0} (r : Result T Refused) (Same : Type 0) → IfErr r (LeavesTry ⊥ Same) → OnErr r Same
-unmarked (Ok v) Same left = tt
-unmarked (Err Listed) Same left = absurd left
-unmarked (Err Over) Same left = left
-unmarked (Err NoMemory) Same left = left
+pub unmarked : {T : Type 0} (r : Result T Refused) (Same : Type 0) (clock : ℕ) → IfErr r (Refuses ⊥ Same false clock) → OnErr r Same
+unmarked (Ok v) Same clock why = tt
+unmarked (Err Listed) Same clock why = absurd why.2
+unmarked (Err Over) Same clock why = why.1
+unmarked (Err NoMemory) Same clock why = why.1
 
 -- a call that wasn't listed, whose change is noted
 pub Passes-noted : (P Q : Change → Type 0) (Mark : Type 0) (bytes : List ℕ) (call : ℕ) (listed : Bool) (r : Result (Unit {0}) Refused) (old new : History) → ((d : Change) → P d → Q d)
@@ -51,7 +46,6 @@ pub Passes-noted : (P Q : Change → Type 0) (Mark : Type 0) (bytes : List ℕ) 
 Passes-noted P Q Mark bytes call listed (Ok v) old new weaker not passes = record {
   noted = Notes-weaker P Q old.clock call old.events.items new.events.items weaker passes.noted;
   made = passes.made;
-  refused = tt;
   same = tt;
   why = tt;
   fails = λ l. absurd (true≢false (sym l ∙ not));
@@ -60,9 +54,8 @@ Passes-noted P Q Mark bytes call listed (Ok v) old new weaker not passes = recor
 Passes-noted P Q Mark bytes call listed (Err e) old new weaker not passes = record {
   noted = tt;
   made = tt;
-  refused = marked Mark (new.events.items ≡ old.events.items) e passes.refused;
   same = passes.same;
-  why = explained listed old.clock e passes.why;
+  why = refused_as Mark (new.events.items ≡ old.events.items) listed old.clock e passes.why;
   fails = λ l. refl;
   clock = passes.clock;
 }
@@ -73,7 +66,6 @@ pub Passes-put : (P : Change → Type 0) (Before After : Type 0) (bytes now : Li
 Passes-put P Before After bytes now call listed v old mid new passes events clock put = record {
   noted = subst (λ es. Notes P old.clock call old.events.items es) (sym (ap (λ v. v.items) events)) passes.noted;
   made = put;
-  refused = tt;
   same = tt;
   why = tt;
   fails = passes.fails;
@@ -221,7 +213,7 @@ module _ (bytes : List ℕ) (es : List Event) (clock : ℕ) (fit : All (λ x. x 
     silent = λ none. cc;
     crash = λ c image. (c, image, Torn-itself at (length piece) c image.fit);
     opened = tt;
-    opened_or_not = inr (record { told = refl; image = λ c image. image; image_kept = λ c image. image });
+    opened_or_not = inr (refl, λ c. (λ image. image, λ image. image));
     ticks = ticks_missed err;
     faults = record { writes = counts; reads = refl };
   }
@@ -307,10 +299,10 @@ module _ (bytes : List ℕ) (es : List Event) (clock : ℕ) (fit : All (λ x. x 
           subst Q (ap range_of is) is_open))
 
 -- what a refused call left is nothing, or a try
-pub left_by : (Tried Same : Type 0) (e : Refused) → LeavesTry Tried Same e → Same ⊎ Tried
-left_by Mark Same Listed left = inr left
-left_by Mark Same Over left = inl left
-left_by Mark Same NoMemory left = inl left
+pub left_by : (Mark Same : Type 0) (listed : Bool) (clock : ℕ) (e : Refused) → Refuses Mark Same listed clock e → Same ⊎ Mark
+left_by Mark Same listed clock Listed why = inr why.2
+left_by Mark Same listed clock Over why = inl why.1
+left_by Mark Same listed clock NoMemory why = inl why.1
 
 carried : (Q : List ℕ → List Event → ℕ → Type 0) (bytes now : List ℕ) (events after : List Event) (clock next : ℕ) → now ≡ bytes → after ≡ events → next ≡ clock → Q bytes events clock → Q now after next
 carried Q bytes now events after clock next same none ticked h =

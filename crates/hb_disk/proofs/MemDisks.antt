@@ -7,11 +7,24 @@ use Rattle.hb_outside.specs.Memory.{next_count}
 use Rattle.hb_disk.specs.Model.{DiskModel, last_value}
 use Rattle.hb_disk.specs.Calls.{Ticks, Writes, Syncs}
 use Rattle.hb_disk.proofs.Facts.FaultLaws.{WriteFaults-as}
-use Rattle.hb_disk.specs.NotedCalls.{Alike, Explains, LeavesTry, faults_after, starved_after}
+use Rattle.hb_disk.specs.NotedCalls.{Refuses, starved_after}
 use Rattle.hb_disk.specs.MemDisk.{bytes_of, IsListed, CalledExactly, FailsFor, HasSameRecord}
 use Rattle.hb_disk.specs.declared.event.Refused.{Refused}
 use Rattle.hb_disk.specs.declared.event.Refused.TheVariants.{Listed, Over, NoMemory}
 use Rattle.hb_disk.specs.declared.mem_disk.MemDisk.{MemDisk}
+
+-- two results are both a success, or both a failure
+abbrev pub Alike : {T E F : Type 0} → Result T E → Result T F → Type 0
+Alike (Ok v) (Ok w) = Unit {0}
+Alike (Ok v) (Err f) = ⊥
+Alike (Err e) (Ok w) = ⊥
+Alike (Err e) (Err f) = Unit {0}
+
+pub alike : {T E F : Type 0} (done : Result T E) (r : Result T F) → (IsErr done ↔ IsErr r) → Alike done r
+alike (Ok v) (Ok w) same = tt
+alike (Ok v) (Err f) same = cc (same.1 refl)
+alike (Err e) (Ok w) same = cc (same.0 refl)
+alike (Err e) (Err f) same = tt
 
 -- What is said of one result holds of another that is alike.
 told_err : {T E F : Type 0} (done : Result T E) (r : Result T F) → Alike done r → IsErr done → IsErr r
@@ -45,30 +58,25 @@ rose_next : (count : ℕ) → Rose count (next_count count)
 rose_next count = elim (cases_lt count last_value) [ inl before ↦ inl (omega arith) | inr at_end ↦ inr (omega arith) ]
 
 -- the count of faults after a call, by its history's answer
-pub counts_after : {T : Type 0} (done : Result T Refused) (before after : ℕ) → after ≡ faults_after done before → before ≤ after → Counts (IsErr done) before after
-counts_after (Ok v) before after is later = record { cause = λ failed. cc; no_fault = λ good. is; later = later }
-counts_after (Err e) before after is later = record { cause = λ failed. subst (λ n. Rose before n) (sym is) (rose_next before); no_fault = λ good. absurd (good refl); later = later }
-
--- the count of calls that found no memory doesn't go by the type of a success
-starved_alike : (T U : Type 0) (e : Refused) (n count : ℕ) → n ≡ starved_after {T = T} (Err e) count → n ≡ starved_after {T = U} (Err e) count
-starved_alike T U Listed n count is = is
-starved_alike T U Over n count is = is
-starved_alike T U NoMemory n count is = is
+pub counts_after : {T : Type 0} (done : Result T Refused) (before after : ℕ) (P : Type 0) → OnOk done ((after ≡ before) × P) → OnErr done (after ≡ next_count before) → before ≤ after → Counts (IsErr done) before after
+counts_after (Ok v) before after P good bad later = record { cause = λ failed. cc; no_fault = λ _. good.0; later = later }
+counts_after (Err e) before after P good bad later = record { cause = λ failed. subst (λ n. Rose before n) (sym bad) (rose_next before); no_fault = λ not. absurd (not refl); later = later }
 
 -- why a call failed, from what its history says
-blame_of : (old new : MemDisk) (listed : Bool) (Tried : Type 0) (e : Refused) → (IsTrue listed ↔ IsListed old) → Explains listed old.history.clock e → LeavesTry Tried (HasSameRecord old new) e
-    → new.starved ≡ starved_after {T = ℕ} (Err e) old.starved → FailsFor Tried old new
-blame_of old new listed Mark Listed listing why left starved = inl (listing.0 why.0, why.1, left, starved)
-blame_of old new listed Mark Over listing why left starved = inr (inl (why, left, starved))
-blame_of old new listed Mark NoMemory listing why left starved = inr (inr (why, left, starved))
+blame_of : (old new : MemDisk) (listed : Bool) (Tried : Type 0) (e : Refused) → (IsTrue listed ↔ IsListed old) → Refuses Tried (HasSameRecord old new) listed old.history.clock e
+    → new.starved ≡ starved_after e old.starved → FailsFor Tried old new
+blame_of old new listed Mark Listed listing why starved = inl (listing.0 why.0, why.1, why.2, starved)
+blame_of old new listed Mark Over listing why starved = inr (inl (why.0, why.1, starved))
+blame_of old new listed Mark NoMemory listing why starved = inr (inr (why.0, why.1, starved))
 
 -- exactly when a call fails, and what it counts
 module _ (old new : MemDisk) (listed : Bool) (listing : IsTrue listed ↔ IsListed old) (calls : new.calls ≡ next_count old.calls) (failing : new.failing ≡ old.failing)
     (reads : new.read_faults ≡ old.read_faults) (Tried : Type 0) {T F : Type 0} where
   pub called_exactly : (done : Result T Refused) (r : Result T F) → Alike done r → (IsTrue listed → IsErr done) → (old.history.clock ≡ last_value → IsErr done)
-      → IfErr done (Explains listed old.history.clock) → IfErr done (LeavesTry Tried (HasSameRecord old new)) → OnErr done (bytes_of new ≡ bytes_of old)
-      → new.write_faults ≡ faults_after done old.write_faults → new.starved ≡ starved_after done old.starved → CalledExactly Tried r old new
-  called_exactly (Ok v) (Ok w) alike must over why left same faults starved = record {
+      → IfErr done (Refuses Tried (HasSameRecord old new) listed old.history.clock) → OnErr done (bytes_of new ≡ bytes_of old)
+      → OnOk done ((new.write_faults ≡ old.write_faults) × (new.starved ≡ old.starved)) → OnErr done (new.write_faults ≡ next_count old.write_faults)
+      → IfErr done (λ e. new.starved ≡ starved_after e old.starved) → CalledExactly Tried r old new
+  called_exactly (Ok v) (Ok w) alike must over why same good bad starved = record {
     listed = λ l. cc (must (listing.1 l));
     ended = λ at_end. cc (over at_end);
     blame = tt;
@@ -76,19 +84,19 @@ module _ (old new : MemDisk) (listed : Bool) (listing : IsTrue listed ↔ IsList
     calls = calls;
     failing = failing;
     fault = tt;
-    no_fault = (faults, starved);
+    no_fault = good;
     read_faults = reads;
   }
-  called_exactly (Ok v) (Err f) alike must over why left same faults starved = absurd alike
-  called_exactly (Err e) (Ok w) alike must over why left same faults starved = absurd alike
-  called_exactly (Err e) (Err f) alike must over why left same faults starved = record {
+  called_exactly (Ok v) (Err f) alike must over why same good bad starved = absurd alike
+  called_exactly (Err e) (Ok w) alike must over why same good bad starved = absurd alike
+  called_exactly (Err e) (Err f) alike must over why same good bad starved = record {
     listed = λ l. refl;
     ended = λ at_end. refl;
-    blame = blame_of old new listed Tried e listing why left (starved_alike T ℕ e new.starved old.starved starved);
+    blame = blame_of old new listed Tried e listing why starved;
     unchanged = same;
     calls = calls;
     failing = failing;
-    fault = faults;
+    fault = bad;
     no_fault = tt;
     read_faults = reads;
   }

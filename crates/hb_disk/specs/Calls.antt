@@ -1,5 +1,5 @@
 -- What each call does to a disk, by the disk model.
-use Rattle.std.specs.Prelude.{◌≡◌, ◌⊎◌, ℕ, ◌+◌, ◌<◌, ◌≤◌, List, ◌∷◌, length, take, drop, get_or, Some, None, IfSome, IsSome, Result, IsErr, OnOk, OnErr}
+use Rattle.std.specs.Prelude.{◌≡◌, ◌⊎◌, ◌↔◌, ℕ, ◌+◌, ◌<◌, ◌≤◌, List, ◌∷◌, length, take, drop, get_or, Some, None, IfSome, IsSome, Result, IsErr, OnOk, OnErr}
 use Rattle.hb_outside.specs.Calls.{Counts}
 use Rattle.hb_disk.specs.Model.{DiskModel, last_value, overwritten, Torn, Elapses, Stays}
 
@@ -21,21 +21,16 @@ pub record WriteFaults (failed : Type 0) (old new : DiskModel) : Type 0 where
 abbrev pub LeavesOpen : ℕ → ℕ → DiskModel → DiskModel → Type 0
 LeavesOpen at n old new = (b c : List ℕ) → old.Image b → Torn at n b c → new.Image c
 
--- A call that wasn't done: the disk reads as before, and a crash leaves what it might have left before.
-pub record IsUndone (old new : DiskModel) : Type 0 where
-  pub told : new.told ≡ old.told
-  pub image : (c : List ℕ) → new.Image c → old.Image c
-  pub image_kept : (c : List ℕ) → old.Image c → new.Image c
-
 -- Writing a piece at a place. A crash leaves what it might have left before, with any bytes in the range, and each of
--- these, until a sync. Where the call failed, the range may read as any bytes, or the call wasn't done.
+-- these, until a sync. Where the call failed, the range may read as any bytes; or the call wasn't done, and the disk reads as
+-- before, and a crash leaves what it might have left before.
 pub record Writes {T E : Type 0} (at : ℕ) (piece : List ℕ) (result : Result T E) (old new : DiskModel) : Type 0 where
   pub written : OnOk result (IfSome old.told (λ b. new.told ≡ Some (overwritten b at piece)))
   pub tried : OnErr result (IfSome old.told (λ b. (c : List ℕ) × (new.told ≡ Some c) × Torn at (length piece) b c))
   pub silent : old.told ≡ None → new.told ≡ None
   pub crash : (c : List ℕ) → new.Image c → (b : List ℕ) × old.Image b × Torn at (length piece) b c
   pub opened : OnOk result (LeavesOpen at (length piece) old new)
-  pub opened_or_not : OnErr result (LeavesOpen at (length piece) old new ⊎ IsUndone old new)
+  pub opened_or_not : OnErr result (LeavesOpen at (length piece) old new ⊎ ((new.told ≡ old.told) × ((c : List ℕ) → new.Image c ↔ old.Image c)))
   pub ticks : Ticks result old new
   pub faults : WriteFaults (IsErr result) old new
 

@@ -1,5 +1,5 @@
 -- What a call of a disk in memory leaves on record, why it was refused, and what it counts.
-use Rattle.std.specs.Prelude.{Bool, true, ◌≡◌, ℕ, ◌<◌, List, [], ◌∷◌, ◌++◌, take, drop, Vec, Result, Ok, Err, IsErr, IfErr, OnOk, OnErr, ⊤}
+use Rattle.std.specs.Prelude.{Bool, true, ◌≡◌, ℕ, ◌<◌, List, [], ◌∷◌, ◌++◌, take, drop, Vec, Result, IsErr, IfErr, OnOk, OnErr}
 use Rattle.std.specs.declared.alloc.Global.{Global}
 use Rattle.hb_outside.specs.Memory.{next_count}
 use Rattle.hb_disk.specs.Model.{last_value}
@@ -27,44 +27,25 @@ IsNoted P call old new = Notes P old.clock call old.events.items new.events.item
 abbrev pub IsOver : ℕ → ℕ → List ℕ → Change → Type 0
 IsOver at len bytes change = (before : Vec ℕ Global) × (change ≡ Wrote at before) × (before.items ≡ take len (drop at bytes))
 
--- Why a call was refused: the clock was at its last value; or else it is a listed one, or memory was wanting.
-abbrev pub Explains : Bool → ℕ → Refused → Type 0
-Explains listed clock Listed = (listed ≡ true) × (clock < last_value)
-Explains listed clock Over = clock ≡ last_value
-Explains listed clock NoMemory = clock < last_value
-
--- What a call that was refused leaves on record: a listed one that it was tried, and the others nothing.
-abbrev pub LeavesTry : Type 0 → Type 0 → Refused → Type 0
-LeavesTry Mark Same Listed = Mark
-LeavesTry Mark Same Over = Same
-LeavesTry Mark Same NoMemory = Same
+-- Why a call was refused, and what it leaves on record: the clock was at its last value, or memory was wanting, and the record
+-- is the same; or it is a listed one, which leaves its mark.
+abbrev pub Refuses : Type 0 → Type 0 → Bool → ℕ → Refused → Type 0
+Refuses Mark Same listed clock Listed = (listed ≡ true) × (clock < last_value) × Mark
+Refuses Mark Same listed clock Over = (clock ≡ last_value) × Same
+Refuses Mark Same listed clock NoMemory = (clock < last_value) × Same
 
 -- A call of a history passed. Done, it stands on record, and the bytes are these. Refused, there is a cause, and the bytes are
 -- as they were; `Mark` is what a listed call leaves on record. The clock goes on.
 pub record Passes (done : Change → Type 0) (Mark : Type 0) (bytes : List ℕ) (call : ℕ) (listed : Bool) (result : Result (Unit {0}) Refused) (old new : History) : Type 0 where
   pub noted : OnOk result (IsNoted done call old new)
   pub made : OnOk result (new.bytes.items ≡ bytes)
-  pub refused : IfErr result (LeavesTry Mark (new.events.items ≡ old.events.items))
   pub same : OnErr result (new.bytes.items ≡ old.bytes.items)
-  pub why : IfErr result (Explains listed old.clock)
+  pub why : IfErr result (Refuses Mark (new.events.items ≡ old.events.items) listed old.clock)
   pub fails : listed ≡ true → IsErr result
   pub clock : new.clock ≡ next_count old.clock
 
--- two results are both a success, or both a failure
-abbrev pub Alike : {T E F : Type 0} → Result T E → Result T F → Type 0
-Alike (Ok v) (Ok w) = ⊤
-Alike (Ok v) (Err f) = ⊥
-Alike (Err e) (Ok w) = ⊥
-Alike (Err e) (Err f) = ⊤
-
--- the count of faults after a call
-abbrev pub faults_after : {T : Type 0} → Result T Refused → ℕ → ℕ
-faults_after (Ok v) count = count
-faults_after (Err refused) count = next_count count
-
--- the count of calls that found no memory, after a call
-abbrev pub starved_after : {T : Type 0} → Result T Refused → ℕ → ℕ
-starved_after (Ok v) count = count
-starved_after (Err Listed) count = count
-starved_after (Err Over) count = count
-starved_after (Err NoMemory) count = next_count count
+-- the count of calls that found no memory, after one that was refused
+abbrev pub starved_after : Refused → ℕ → ℕ
+starved_after Listed count = count
+starved_after Over count = count
+starved_after NoMemory count = next_count count

@@ -5,7 +5,7 @@ ghost use Rattle.hb_outside.specs.Memory.{next_count};
 ghost use Rattle.hb_disk.specs.Model.{last_value};
 ghost use Rattle.hb_disk.specs.Calls.{Writes, Syncs, ReadsAt};
 ghost use Rattle.hb_disk.specs.Events.{rewound, IsPicked, IsImage, disk_after};
-ghost use Rattle.hb_disk.specs.NotedCalls.{Alike, faults_after, starved_after};
+ghost use Rattle.hb_disk.specs.NotedCalls.{starved_after};
 ghost use Rattle.hb_disk.specs.EventLaws.{history_is_disk};
 
 use crate::event::{Pick, Refused};
@@ -104,9 +104,10 @@ fn is_listed(numbers: &[u64], number: u64) -> bool
 
 /// What a write, zero or sync answers. It counts the fault, and whether memory was wanting.
 fn answer(done: Result<(), Refused>, faults: &mut u64, starved: &mut u64) -> Result<(), Failed>
-    ensures alike { Alike done result }
-    ensures faults { faults.new ≡ faults_after done faults.old }
-    ensures starved { starved.new ≡ starved_after done starved.old }
+    ensures alike { IsErr done ↔ IsErr result }
+    ensures done { OnOk done ((faults.new ≡ faults.old) × (starved.new ≡ starved.old)) }
+    ensures failed { OnErr done (faults.new ≡ next_count faults.old) }
+    ensures starved { IfErr done (λ e. starved.new ≡ starved_after e starved.old) }
     ensures later { faults.old ≤ faults.new }
 {
     let Err(refused) = done else {

@@ -6,6 +6,7 @@ use Rattle.std.proofs.lemmas.List.{length-take, map-append}
 use Rattle.std.proofs.lemmas.Grind.{flat_map-append}
 use Rattle.std.proofs.lemmas.List.Elements.{All-cons, All-head, All-nil, All-tail}
 use Rattle.hb_layout.specs.declared.meta.Meta.{Meta}
+use Rattle.hb_wal.proofs.Facts.FrameCounts.{frames_count}
 use Rattle.hb_wal.specs.Frames.{frames, frame_bytes, IsPayload, HasFrames, HasBadFrame}
 use Rattle.hb_store.specs.Replay.{Replayed, untouched}
 use Rattle.hb_layout.specs.Offsets.{log_start}
@@ -47,10 +48,6 @@ first_bad said payloads before behind payload t replays.Unfit parts so_far bad =
 }
 
 -- ---- the bytes of the area
-
-frames_many : (payloads : List (List ℕ)) → length payloads ≤ length (frames payloads)
-frames_many [] = omega arith
-frames_many (p ∷ ps) = omega (arith, frames_many ps, length-append (frame_bytes p) (frames ps))
 
 in_middle : (P : List ℕ → Type 0) (before : List (List ℕ)) (p : List ℕ) (behind : List (List ℕ)) → All P (before ++ p ∷ behind) → P p
 in_middle P [] p behind h = All-head P p behind h
@@ -117,8 +114,8 @@ no_log_bad turn said frame before None stop limit framed names = tt
 no_log_bad turn said frame before (Some b) stop limit framed names =
     let area = log_bytes turn said b in
     let short : length area ≤ said.log = omega (arith, length-take said.log (drop (log_start turn said) b)) in
-    let few : length before < 2 ^ 32 = omega (arith, frames_many before, ap (λ (l : List ℕ). length l) framed.1.bytes, length-append (frames before) framed.1.rest, short, limit) in
+    let few : length before < 2 ^ 32 = omega (arith, frames_count before, ap (λ (l : List ℕ). length l) framed.1.bytes, length-append (frames before) framed.1.rest, short, limit) in
     at_bad_frame b turn said before stop framed.1 (names few framed.0)
 
 pub few_payloads : (payloads : List (List ℕ)) (len : ℕ) → length (frames payloads) ≤ len → len ≤ 67108864 → length payloads < 2 ^ 32
-few_payloads payloads len short limit = omega (arith, frames_many payloads, short, limit)
+few_payloads payloads len short limit = omega (arith, frames_count payloads, short, limit)

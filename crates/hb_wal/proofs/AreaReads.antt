@@ -12,11 +12,6 @@ use Rattle.hb_wal.specs.Loops.{HasRead}
 use Rattle.hb_wal.proofs.Kept.{length-frame}
 use Rattle.hb_wal.proofs.AreaBytes.{frames-push}
 
--- there are no more frames than bytes
-pub frames_count : (payloads : List (List ℕ)) → length payloads ≤ length (frames payloads)
-frames_count [] = omega arith
-frames_count (p ∷ payloads) = omega (arith, frames_count payloads, length-append (frame_bytes p) (frames payloads))
-
 module _ (area len left : ℕ) (b payload behind : List ℕ) (payloads : List (List ℕ)) (fits : 5 + length payload ≤ left) (inside : left ≤ len)
     (is : range (area + (len - left)) left b ≡ frame_bytes payload ++ behind) where
   abbrev after : ℕ

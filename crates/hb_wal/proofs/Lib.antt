@@ -1,3 +1,4 @@
+pub mod Facts
 mod Waiting
 mod Kept
 mod AreaBytes

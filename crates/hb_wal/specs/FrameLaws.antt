@@ -1,5 +1,5 @@
 -- Laws of frames.
-use Rattle.std.specs.Prelude.{◌≡◌, ◌⊎◌, ℕ, ◌<◌, ◌^◌, List, All}
+use Rattle.std.specs.Prelude.{◌≡◌, ℕ, List}
 use Rattle.hb_wal.specs.Frames.{HasFrames, HasBadFrame}
 
 -- an area has the frames of one list of payloads, and a bad frame behind one list, and not both
@@ -10,7 +10,3 @@ pub record OneWay (area : List ℕ) : Type 0 where
 
 abbrev pub ReadsOneWay : Type 0
 ReadsOneWay = (area : List ℕ) → OneWay area
-
--- one of the two is there
-abbrev pub ReadsSomehow : Type 0
-ReadsSomehow = (area : List ℕ) → All (λ x. x < 2 ^ 8) area → ((p : List (List ℕ)) × HasFrames area p) ⊎ ((p : List (List ℕ)) × HasBadFrame area p)

@@ -1,8 +1,8 @@
 //! What follows of frames from their definitions alone.
 
-ghost use Rattle.std.specs.Prelude.{◌≡◌, ◌↔◌, ℕ, List, [], length};
-ghost use Rattle.hb_wal.specs.Frames.{frames};
-ghost use Rattle.hb_wal.specs.FrameLaws.{ReadsOneWay, ReadsSomehow};
+ghost use Rattle.std.specs.Prelude.{◌≡◌, ◌↔◌, ◌⊎◌, ℕ, ◌<◌, ◌^◌, List, [], length, All};
+ghost use Rattle.hb_wal.specs.Frames.{frames, HasFrames, HasBadFrame};
+ghost use Rattle.hb_wal.specs.FrameLaws.{ReadsOneWay};
 
 use hb_outside::big_endian_law;
 
@@ -20,5 +20,6 @@ pub fn nothing_is_written_where_no_frame_stands()
 
 /// Every area is read to an end, or to a frame with a bad length.
 pub fn every_area_is_read()
-    ensures { ReadsSomehow }
+    ensures { (area : List ℕ) → All (λ x. x < 2 ^ 8) area →
+        ((p : List (List ℕ)) × HasFrames area p) ⊎ ((p : List (List ℕ)) × HasBadFrame area p) }
 {}

@@ -6,7 +6,7 @@ returns g c =
     let log = c.in-Ok.ensures.log in
     record {
       ready = rw (c.append-2.ensures, c.append.ensures, c.in_ok-log.ensures) (record {
-        inside = omega (arith, c.requires, c.zero_area.ensures.place.size);
+        inside = omega (arith, c.requires, c.zero_area.ensures.wrote.run.became.size);
         has = λ _. ([], record { synced = log.synced; payloads_fit = log.payloads_fit; count = log.count; reads = log.reads });
       });
     }

@@ -8,7 +8,8 @@ use Rattle.hb_wal.specs.declared.heads.FrameStop.TheVariants.{DiskFault}
 use Rattle.hb_wal.specs.declared.heads.FrameStop.TheVariants as frame_stops
 use Rattle.hb_wal.specs.declared.reading.ReadStop.{ReadStop}
 use Rattle.hb_wal.specs.declared.reading.ReadStop.TheVariants as stops
-use Rattle.hb_wal.proofs.AreaReads.{frames_count, HasRead-more}
+use Rattle.hb_wal.proofs.Facts.FrameCounts.{frames_count}
+use Rattle.hb_wal.proofs.AreaReads.{HasRead-more}
 use Rattle.hb_wal.proofs.reading.read_area.Goals as goal
 
 -- reading stops at a fault of the disk only where a frame did

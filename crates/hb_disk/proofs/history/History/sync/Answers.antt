@@ -8,7 +8,7 @@ returns-clause-syncs c =
     let old = c.args.self.now in
     let new = c.note.new.self in
     sync_noted old.bytes.items old.events.items old.clock old.bytes_fit old.clock_fits c.args.call new.bytes.items new.events.items new.clock c.note.ensures.clock c.note.result
-    c.note.ensures.made c.note.ensures.same c.note.ensures.noted (unmarked c.note.result (new.events.items ≡ old.events.items) c.note.ensures.refused)
+    c.note.ensures.made c.note.ensures.same c.note.ensures.noted (unmarked c.note.result (new.events.items ≡ old.events.items) old.clock c.note.ensures.why)
 
 pub returns-clause-passes : goal.returns-clause-passes
 returns-clause-passes c =

@@ -10,7 +10,7 @@ returns-in_err-keep-clause-writes c =
     let old = c.args.self.now in
     let new = c.keep.new.self in
     write_refused old.bytes.items old.events.items old.clock old.bytes_fit old.clock_fits c.args.call new.bytes.items new.events.items new.clock c.in_err-keep.ensures.clock c.from_residual.result c.args.at c.args.piece.now
-    c.from_residual.ensures.0 c.requires c.in_err-keep.ensures.same (left_by _ _ _ c.in_err-keep.ensures.refused)
+    c.from_residual.ensures.0 c.requires c.in_err-keep.ensures.same (left_by _ _ _ _ _ c.in_err-keep.ensures.why)
 
 pub returns-clause-writes : goal.returns-clause-writes
 returns-clause-writes c =

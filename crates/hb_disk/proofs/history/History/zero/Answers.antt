@@ -11,7 +11,7 @@ returns-in_err-keep-clause-writes c =
     let old = c.args.self.now in
     let new = c.keep.new.self in
     write_refused old.bytes.items old.events.items old.clock old.bytes_fit old.clock_fits c.args.call new.bytes.items new.events.items new.clock c.in_err-keep.ensures.clock c.from_residual.result c.args.at (replicate c.args.len 0)
-    c.from_residual.ensures.0 (subst (λ n. c.args.at + n ≤ length old.bytes.items) (sym (length-replicate c.args.len 0)) c.requires) c.in_err-keep.ensures.same (subst (λ n. (c.keep.new.self.events.items ≡ old.events.items) ⊎ Notes (λ d. d ≡ Tried c.args.at n) old.clock c.args.call old.events.items c.keep.new.self.events.items) (sym (length-replicate c.args.len 0)) (left_by _ _ _ c.in_err-keep.ensures.refused))
+    c.from_residual.ensures.0 (subst (λ n. c.args.at + n ≤ length old.bytes.items) (sym (length-replicate c.args.len 0)) c.requires) c.in_err-keep.ensures.same (subst (λ n. (c.keep.new.self.events.items ≡ old.events.items) ⊎ Notes (λ d. d ≡ Tried c.args.at n) old.clock c.args.call old.events.items c.keep.new.self.events.items) (sym (length-replicate c.args.len 0)) (left_by _ _ _ _ _ c.in_err-keep.ensures.why))
 
 pub returns-clause-writes : goal.returns-clause-writes
 returns-clause-writes c =
