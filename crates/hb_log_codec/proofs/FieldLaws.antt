@@ -1,10 +1,8 @@
 -- What is read is what was spelled, step by step.
-use Rattle.std.proofs.Common.{◌≡◌, ℕ, zero, suc, ◌+◌, ◌<◌, List, [], ◌∷◌, ◌++◌, length, get_or, drop, Option, Some, None, refl, sym, ap, subst, ◌∙◌, append_assoc, arith}
-use Rattle.std.specs.List.{flat_map, AllByRecursion}
+use Rattle.std.proofs.Common.{◌≡◌, ℕ, ◌+◌, ◌<◌, List, ◌++◌, length, get_or, drop, Option, Some, refl, ap, subst, ◌∙◌}
 use Rattle.std.proofs.lemmas.List.{drop_at, get_or-drop}
-use Rattle.std.proofs.lemmas.List.Concat.{flat_map-cons}
 use Rattle.hb_page_codec.specs.Exact.{AreBytes, IsExact}
-use Rattle.hb_page_codec.specs.Reading.{◌>>=◌, many_at}
+use Rattle.hb_page_codec.specs.Reading.{◌>>=◌}
 use Rattle.hb_page_codec.proofs.Facts.Fields.{Takes}
 
 pub bytes_behind : (bytes front rest : List ℕ) → bytes ≡ front ++ rest → AreBytes bytes → AreBytes rest

@@ -1,5 +1,5 @@
 -- What the readers of images, operations and groups find, step by step.
-use Rattle.std.proofs.Common.{◌≡◌, ◌≢◌, ◌⊎◌, inl, inr, ℕ, ◌+◌, ◌-◌, ◌^◌, ◌<◌, ◌≤◌, List, [], ◌∷◌, ◌++◌, length, map, take, drop, All, Option, Some, None, Result, Ok, Err, refl, sym, ap, subst, ◌∙◌, append_assoc, length-append, arith}
+use Rattle.std.proofs.Common.{◌≡◌, ◌≢◌, ◌⊎◌, inl, inr, ℕ, ◌+◌, ◌-◌, ◌<◌, ◌≤◌, List, [], ◌∷◌, ◌++◌, length, map, take, drop, All, Some, None, Result, Ok, Err, refl, sym, ap, subst, ◌∙◌, append_assoc, length-append, arith}
 use Rattle.std.specs.Prelude.{AllPairs}
 use Rattle.std.specs.List.{flat_map}
 use Rattle.std.proofs.lemmas.List.{take_at, drop_at, take-append-drop, length-take, length-drop, map-append, flat_map_more}
@@ -12,7 +12,7 @@ use Rattle.hb_frag.specs.Grammar.{SpellsPage}
 use Rattle.hb_ops.specs.declared.operations.Op.{Op}
 use Rattle.hb_page_codec.specs.declared.errors.PageError.{PageError}
 use Rattle.hb_page_codec.specs.declared.errors.PageError.TheVariants as pages
-use Rattle.hb_page_codec.specs.Reading.{ReadsAs, number_at}
+use Rattle.hb_page_codec.specs.Reading.{number_at}
 use Rattle.hb_log_codec.specs.Groups.{Logged, FitsGroup, FitsImage, FitsOp, group_bytes, image_bytes, op_bytes, page_bytes}
 use Rattle.hb_log_codec.specs.Fields.{op_at}
 use Rattle.hb_log_codec.specs.Reading.{Begins, BeginsNone, Finds, GivesOrStops, StopsFor, FitImages, GroupsEnd, images_bytes, logged, stop_of, stop_at}
@@ -26,7 +26,6 @@ use Rattle.hb_log_codec.specs.declared.reading.GroupStop.TheVariants as stops
 use Rattle.std.proofs.lemmas.Option.{same_Some}
 use Rattle.hb_lemmas.proofs.Lists.{same_fronts}
 use Rattle.hb_page_codec.proofs.Facts.PageLaws.{SpelledOnce}
-use Rattle.hb_page_codec.proofs.Facts.Refusals.{read_some}
 
 pub halves : (n : ℕ) (bytes front back : List ℕ) → front ≡ take n bytes → back ≡ drop n bytes → bytes ≡ front ++ back
 halves n bytes front back f b = sym (take-append-drop n bytes) ∙ (λ i. sym f i ++ sym b i)

@@ -2,11 +2,8 @@
 use Rattle.std.proofs.Common.{◌≡◌, ℕ, zero, suc, ◌+◌, ◌<◌, ◌↔◌, Bool, true, false, IsTrue, List, [], length, get_or, AllPairs, refl, sym, ap, ◌∙◌, arith, inl, inr, subst}
 use Rattle.std.specs.List.{IsAllAdjacentAnswer, AllAdjacentBelow}
 use Rattle.std.specs.Ordering.{is_lt}
-use Rattle.std.specs.declared.cmp.Ordering.{Ordering}
-use Rattle.std.specs.declared.cmp.Ordering.TheVariants.{Less, Equal, Greater}
 use Rattle.std.proofs.lemmas.Bool.{false≢true, cases_eq}
 use Rattle.std.proofs.lemmas.Cmp.{nat_list_cmp_total}
-use Rattle.hb_space.specs.Points.{point_cmp}
 use Rattle.hb_space.specs.declared.records.Record.{Record}
 use Rattle.hb_frag.specs.Rules.{Precedes}
 use Rattle.hb_lemmas.proofs.Orderings.{less_so}

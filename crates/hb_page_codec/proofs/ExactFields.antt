@@ -1,15 +1,9 @@
 -- Fields of pages are read exactly.
-use Rattle.std.proofs.Common.{◌≡◌, ℕ, ◌^◌, ◌<◌, ◌≤◌, List, [], ◌∷◌, ◌++◌, length, get_or, drop, All, Option, Some, refl, sym, ap, subst, ◌∙◌, append_assoc, arith}
-use Rattle.std.specs.List.{flat_map, AllByRecursion}
-use Rattle.std.proofs.lemmas.List.{drop_at, get_or-drop}
-use Rattle.std.proofs.lemmas.List.Elements.{All-from_recursion, recursion_from_All}
-use Rattle.hb_space.specs.Boxes.{Area, IsArea}
-use Rattle.hb_space.specs.declared.form.TheConstants.{KMAX}
+use Rattle.std.proofs.Common.{ℕ, ◌^◌, ◌<◌, ◌++◌, refl, sym, ap, subst, ◌∙◌}
 use Rattle.hb_space.specs.declared.records.Record.{Record}
-use Rattle.hb_frag.specs.Grammar.{FitsRecord, point_bytes, record_bytes}
+use Rattle.hb_frag.specs.Grammar.{point_bytes}
 use Rattle.hb_page_codec.specs.Exact.{BytesAreExact, NumbersAreExact, PointsAreExact, BoxesAreExact, RecordsAreExact, PagesAreExact}
-use Rattle.hb_page_codec.specs.Reading.{byte_at, number_at}
-use Rattle.hb_page_codec.specs.ReadingFields.{area_at, point_at, record_at}
+use Rattle.hb_page_codec.specs.ReadingFields.{area_at, point_at}
 use Rattle.hb_page_codec.proofs.Facts.PageLaws.{page_takes, page_again}
 use Rattle.hb_page_codec.proofs.Facts.Fields.{IsWide, wide_4, wide_8, byte_takes, number_takes, number_again, point_takes, point_again, area_takes, area_again, record_takes, record_again}
 

@@ -1,12 +1,10 @@
 -- The way down, from its end: of two sides at most one has more than two thirds of the whole, so the other has no step.
-use Rattle.std.proofs.Common.{◌≡◌, ℕ, ◌+◌, ◌*◌, ◌<◌, ◌≤◌, Bool, true, false, if◌then◌else◌, nat_lt, List, [], ◌∷◌, ◌++◌, reverse, refl, sym, ap, ◌∙◌, arith}
-use Rattle.std.proofs.lemmas.Bool.{ltb-false, ltb-true}
-use Rattle.std.proofs.lemmas.List.Sums.{sum-map, sum_by-append}
+use Rattle.std.proofs.Common.{◌≡◌, ℕ, ◌+◌, ◌*◌, ◌≤◌, if◌then◌else◌, nat_lt, List, [], ◌∷◌, ◌++◌, reverse, refl, sym, ap, ◌∙◌, arith}
 use Rattle.std.proofs.lemmas.List.{append-nil, append_assoc, reverse-append}
 use Rattle.hb_frag.specs.declared.paths.Side.{Side}
 use Rattle.hb_frag.specs.declared.paths.Side.TheVariants.{Left, Right}
 use Rattle.hb_frag.specs.Trees.{Tree, Tip, Cut}
-use Rattle.hb_frag.specs.Leaves.{leaf_weight, leaves, weight_of}
+use Rattle.hb_frag.specs.Leaves.{weight_of}
 use Rattle.hb_split.specs.Choosing.{heavier_side, is_heavy, way_down}
 use Rattle.hb_split.specs.Steps.{own_step}
 use Rattle.hb_frag.proofs.Facts.Parts.{weight_cut}

@@ -1,14 +1,13 @@
 -- The corners of a part's box, of which a walk over the cuts changes one value at a time and puts it back.
-use Rattle.std.proofs.Common.{◌≡◌, ◌↔◌, ◌<◌, ◌≤◌, ℕ, ◌-◌, Bool, false, IsTrue, List, [], ◌∷◌, ◌++◌, get_or, slice_set, length, take, sym, ap, ◌∙◌, subst, arith, length-append}
+use Rattle.std.proofs.Common.{◌≡◌, ◌↔◌, ◌<◌, ◌≤◌, ℕ, ◌-◌, Bool, false, IsTrue, List, [], ◌∷◌, ◌++◌, slice_set, length, take, sym, ap, ◌∙◌, subst, arith, length-append}
 use Rattle.std.proofs.Math.ListN.{length-set}
-use Rattle.std.proofs.Math.Seq.{take-append_seam}
 use Rattle.std.proofs.lemmas.Bool.{false≢true}
-use Rattle.std.proofs.lemmas.List.{length-take-le, set-get_or, set-set}
+use Rattle.std.proofs.lemmas.List.{length-take-le}
 use Rattle.hb_space.specs.Boxes.{Area, Cuts}
 use Rattle.hb_space.specs.Points.{IsPoint}
 use Rattle.hb_frag.specs.Leaves.{IsWellCut}
 use Rattle.hb_frag.specs.Trees.{Tree, Cut}
-use Rattle.hb_lemmas.proofs.Lists.{put_back, front_copied}
+use Rattle.hb_lemmas.proofs.Lists.{front_copied}
 
 -- where the plane cuts the box, both corners have a value there
 pub in_hi : (lo hi : List ℕ) (axis at value : ℕ) → at ≡ axis → length lo ≡ length hi → Cuts (record { lo = lo; hi = hi }) axis value → at < length hi

@@ -1,6 +1,5 @@
 -- A records leaf that is cut: no cut of it has two like sides, and it is no heavier.
 use Rattle.std.proofs.Common.{◌≡◌, ℕ, ◌+◌, ◌≤◌, List, [], ◌∷◌, refl, ap, arith}
-use Rattle.std.proofs.lemmas.Grind.{common_steps}
 use Rattle.hb_space.specs.Boxes.{Area}
 use Rattle.hb_frag.specs.declared.leaves.Leaf.TheVariants.{Records, Child, Sibling}
 use Rattle.hb_frag.specs.declared.paths.Side.{Side}

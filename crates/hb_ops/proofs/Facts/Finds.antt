@@ -6,14 +6,11 @@ use Rattle.std.specs.Ordering.{eq_by_cmp, is_eq, is_gt, is_lt, is_ne}
 use Rattle.std.specs.declared.cmp.Ordering.{Ordering}
 use Rattle.std.specs.declared.cmp.Ordering.TheVariants.{Less, Equal, Greater}
 use Rattle.std.specs.FinMap as finite
-use Rattle.std.specs.FinMap.{IsAntisymmetric, nat_cmp-IsAntisymmetric, slice_cmp-IsAntisymmetric}
 use Rattle.std.specs.FinMap.Entries.{find-where_key, where_key}
-use Rattle.std.proofs.lemmas.Bool.{false≢true}
 use Rattle.std.proofs.lemmas.Cmp.{nat_list_cmp_total, tied_itself}
 use Rattle.hb_space.specs.Points.{point_cmp}
 use Rattle.hb_space.specs.declared.records.Record.{Record}
 use Rattle.hb_ops.specs.Recording.{joined, without}
-use Rattle.hb_lemmas.proofs.Orderings.{equal_so}
 use Rattle.hb_space.proofs.Facts.PointOrder.{exact_points, same_point, other_point}
 
 -- a record as an entry, and the first body under a point

@@ -1,7 +1,6 @@
 -- How many bytes a page takes, by what it weighs.
-use Rattle.std.proofs.Common.{◌≡◌, ℕ, zero, suc, ◌+◌, ◌*◌, ◌<◌, ◌≤◌, ◌^◌, List, [], ◌∷◌, ◌++◌, length, sym, ap, ◌∙◌, length-append, arith}
-use Rattle.std.specs.List.{flat_map, AllByRecursion, sum_by}
-use Rattle.std.proofs.lemmas.List.Sums.{sum-map, sum_by-append}
+use Rattle.std.proofs.Common.{◌≡◌, ℕ, zero, suc, ◌+◌, ◌*◌, ◌<◌, ◌≤◌, ◌^◌, List, [], ◌∷◌, ◌++◌, length, ap, ◌∙◌, length-append, arith}
+use Rattle.std.specs.List.{flat_map, AllByRecursion}
 use Rattle.std.proofs.lemmas.List.Concat.{flat_map-cons}
 use Rattle.std.proofs.lemmas.List.Elements.{recursion_from_All}
 use Rattle.hb_lemmas.specs.Numbers.{big_endian}
@@ -12,7 +11,7 @@ use Rattle.hb_frag.specs.declared.pages.LivePage.{LivePage}
 use Rattle.hb_frag.specs.declared.pages.Page.{Page}
 use Rattle.hb_frag.specs.declared.pages.Page.TheVariants.{Live, Free}
 use Rattle.hb_frag.specs.Trees.{Tree, Tip, Cut}
-use Rattle.hb_frag.specs.Leaves.{leaves, leaf_weight, weight_of}
+use Rattle.hb_frag.specs.Leaves.{leaves, weight_of}
 use Rattle.hb_frag.specs.Rules.{BelongsAt, IsFilledRight, capacity_of}
 use Rattle.hb_frag.specs.Grammar.{point_bytes, record_bytes, tree_bytes, page_fields, FitsRecord, FitsTree, FitsPage, HasSpelling, SpellsPage}
 use Rattle.hb_page_codec.specs.Weight.{IsLight}

@@ -1,19 +1,17 @@
 -- What is chosen may leave the page.
 use Rattle.std.proofs.Common.{◌≡◌, ℕ, ◌*◌, ◌≤◌, List, [], ◌∷◌, length, get_or, filter, Option, Some, None, refl, sym, ◌∙◌, arith, subst}
 use Rattle.std.specs.List.{All}
-use Rattle.std.proofs.lemmas.List.{length-set}
 use Rattle.std.proofs.lemmas.List.Elements.{All-filter, filter_passes}
 use Rattle.hb_space.specs.Boxes.{Area, Cuts, Holds}
 use Rattle.hb_space.specs.declared.records.Record.{Record}
 use Rattle.hb_frag.specs.declared.leaves.Leaf.TheVariants.{Records, Child, Sibling}
 use Rattle.hb_frag.specs.declared.pages.LivePage.{LivePage}
 use Rattle.hb_frag.specs.declared.paths.Side.{Side}
-use Rattle.hb_frag.specs.declared.paths.Side.TheVariants.{Left, Right}
 use Rattle.hb_frag.specs.Trees.{Tree, Tip, Cut}
 use Rattle.hb_frag.specs.Leaves.{weight_of}
 use Rattle.hb_frag.specs.Paths.{part_at}
 use Rattle.hb_frag.specs.Rules.{AreInOrder, IsSiblingTip}
-use Rattle.hb_ops.specs.Cutting.{area_on, going, half_area, is_on, other_side, records_in, reached, PartLeaves}
+use Rattle.hb_ops.specs.Cutting.{going, half_area, is_on, other_side, records_in, reached, PartLeaves}
 use Rattle.hb_ops.specs.declared.leaf_cuts.LeafCut.{LeafCut}
 use Rattle.hb_split.specs.Choosing.{way_down, MayCut, AreChosen}
 use Rattle.hb_split.specs.Laws.{IsThirds, MayLeave}

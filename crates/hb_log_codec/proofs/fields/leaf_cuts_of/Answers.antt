@@ -1,4 +1,3 @@
-use Rattle.std.proofs.Common.{◌≡◌, ap, arith}
 use Rattle.std.proofs.lemmas.Result.{err_from_is_err_and}
 use Rattle.hb_page_codec.specs.Reading.{many_at}
 use Rattle.hb_log_codec.specs.Fields.{leaf_cut_at}
