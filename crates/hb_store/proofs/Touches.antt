@@ -1,15 +1,13 @@
 -- What images and operations make of touched pages.
-use Rattle.std.proofs.Common.{◌≡◌, ℕ, ◌<◌, ◌^◌, true, false, cond, eqb, List, [], ◌∷◌, length, get_or, All, Option, Some, None, Result, Ok, Err, refl, sym, ap, subst, ◌∙◌, arith}
-use Rattle.std.specs.Prelude.{◌↔◌, OnErr, OnOk}
+use Rattle.std.proofs.Common.{◌≡◌, ℕ, ◌<◌, true, false, cond, eqb, List, [], ◌∷◌, length, get_or, All, Option, Some, None, Result, Ok, Err, refl, sym, ap, subst, ◌∙◌, arith}
+use Rattle.std.specs.Prelude.{OnErr, OnOk}
 use Rattle.std.specs.List.{remove}
 use Rattle.std.proofs.lemmas.Bool.{eqb-true}
 use Rattle.std.proofs.lemmas.List.Elements.{All-head, All-tail}
 use Rattle.hb_frag.specs.declared.pages.LivePage.{LivePage}
 use Rattle.hb_frag.specs.declared.pages.Page.{Page}
 use Rattle.hb_frag.specs.declared.pages.Page.TheVariants.{Live}
-use Rattle.hb_frag.specs.Leaves.{weight_of}
-use Rattle.hb_frag.specs.Grammar.{HasSpelling, SpellsPage}
-use Rattle.hb_page_codec.specs.Weight.{IsLight}
+use Rattle.hb_frag.specs.Grammar.{HasSpelling}
 use Rattle.hb_layout.specs.declared.meta.Meta.{Meta}
 use Rattle.hb_ops.specs.declared.operations.Op.{Op}
 use Rattle.hb_ops.specs.declared.operations.Op.TheVariants.{Put, Del, Extract, Post, Grow}
@@ -103,12 +101,6 @@ pub set_next : (items : List (ℕ × Page)) (x : ℕ × Page) (left : List (ℕ 
 set_next [] x left t u total some first rest one all = absurd (omega (arith, some))
 set_next (y ∷ ys) x left t u total some first rest one all =
     (λ i. with_pages (rest i) (one i)) ∙ ap (λ (z : ℕ × Page). with_pages ys (with_pages (z ∷ []) t)) first ∙ all
-
--- a page that can be written weighs little
-pub light_enough : ((page : Page) → HasSpelling page ↔ ((bytes : List ℕ) × SpellsPage bytes page)) → ((bytes : List ℕ) (page : Page) → SpellsPage bytes page → IsLight page) → (page : LivePage) → HasSpelling (Live page) → weight_of page.frag < 2 ^ 32
-light_enough exists light page has =
-    let spelled = (exists (Live page)).0 has in
-    omega (arith, light spelled.0 (Live page) spelled.1)
 
 -- a result with a weaker clause
 pub on_ok : {X E P Q : Type 0} (r : Result X E) → (P → Q) → OnOk r P → OnOk r Q

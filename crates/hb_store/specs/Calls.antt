@@ -33,22 +33,15 @@ NoneComes old new id = (in_memory new id ≡ in_memory old id) ⊎ ((in_memory n
 
 -- all but the pages in memory is the same
 pub record KeepsAllButPages (old new : StoreState) : Type 0 where
-  -- the turn is as before
   pub turn : new.turn ≡ old.turn
-  -- what the file says is as before
   pub meta : new.meta ≡ old.meta
-  -- the log is as before
   pub log : new.log ≡ old.log
-  -- no page more is imaged
   pub imaged : new.imaged ≡ old.imaged
-  -- it was stopped where it was before
   pub stopped : new.stopped ≡ old.stopped
 
 -- A fetch: the page of the number is in memory now, and no other page came.
 pub record Fetched (id : ℕ) (old new : StoreState) : Type 0 where
-  -- all but the pages in memory is as before
   pub rest : KeepsAllButPages old new
-  -- the page is in memory
   pub there : IsSome (in_memory new id)
   -- where it was there before, it is the same
   pub same : IsSome (in_memory old id) → in_memory new id ≡ in_memory old id
@@ -60,9 +53,7 @@ pub record Fetched (id : ℕ) (old new : StoreState) : Type 0 where
 -- A commit: the changed pages are in memory, they and those that were read are imaged or made in this turn, and one group
 -- more waits, with its mark.
 pub record Commits (op : Op) (mark : ℕ) (old new : StoreState) : Type 0 where
-  -- the turn is as before
   pub turn : new.turn ≡ old.turn
-  -- it was stopped where it was before
   pub stopped : new.stopped ≡ old.stopped
   -- the file says what the operation makes of it
   pub meta : new.meta ≡ (change_here old op).meta
@@ -74,13 +65,9 @@ pub record Commits (op : Op) (mark : ℕ) (old new : StoreState) : Type 0 where
   pub others : (id : ℕ) → has_page id (change_here old op).pages ≡ false → NoneComes old new id
   -- these and the pages that it reads are imaged or made in this turn
   pub imaged : (id : ℕ) → is_imaged new id ≡ (has_page id (change_here old op).pages || (is_among id (reads_of op) || is_imaged old id))
-  -- the log lies where it did
   pub area : new.log.area ≡ old.log.area
-  -- it is as long as before
   pub len : new.log.len ≡ old.log.len
-  -- no frame was written
   pub written : new.log.written ≡ old.log.written
-  -- the bytes of the group
   pub group : List ℕ
   -- it waits behind the others, with its mark
   pub groups : new.log.groups ≡ old.log.groups ++ record { bytes = group; mark = mark } ∷ []

@@ -86,17 +86,11 @@ new_state turn meta = record {
 }
 
 pub record IsNew (turn : ℕ) (meta : Meta) (st : StoreState) : Type 0 where
-  -- the turn is this one
   pub turn_is : st.turn ≡ turn
-  -- the file says this of itself
   pub meta_is : st.meta ≡ meta
-  -- the log has no frame and no group
   pub log_is : st.log ≡ record { area = log_start turn meta; len = meta.log; written = 0; groups = [] }
-  -- no page is in memory
   pub no_page : (id : ℕ) → in_memory st id ≡ None
-  -- none was imaged or made
   pub none_imaged : (id : ℕ) → is_imaged st id ≡ false
-  -- it was not stopped
   pub running : st.stopped ≡ false
 
 -- The parts of a file that no operation changes.

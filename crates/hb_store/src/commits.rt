@@ -1,7 +1,6 @@
 //! Operations in memory, and the groups that wait for them.
-ghost use Rattle.std.specs.Prelude.{◌≡◌, ◌<◌, ◌≤◌, ◌^◌, ◌∷◌, ◌++◌, [], false, get_or, List, All, length, IfOk, IfSome, OnOk, OnErr, Some};
+ghost use Rattle.std.specs.Prelude.{◌≡◌, ◌<◌, ◌≤◌, ◌∷◌, ◌++◌, [], false, get_or, List, All, length, IfOk, OnOk, OnErr, Some};
 ghost use Rattle.hb_space.specs.declared.form.TheConstants.{GROUP};
-ghost use Rattle.hb_frag.specs.Leaves.{weight_of};
 ghost use Rattle.hb_ops.specs.Given.{given as live_given};
 ghost use Rattle.hb_ops.specs.Files.{FileState, if_live};
 ghost use Rattle.hb_ops.specs.Operations.{IsLicensed, OpHas, reads_of};
@@ -86,10 +85,8 @@ impl Memory {
 
     /// The page in use that an operation reads at a place of its list, where it is in memory.
     pub(crate) fn read(&self, op: &Op, place: usize) -> Option<&LivePage>
-        ensures page { live_given result ≡ read_here self.now op.now place }
-        ensures light { IfSome result (λ page. weight_of page.now.frag < 2 ^ 32) }
+        ensures { live_given result ≡ read_here self.now op.now place }
     {
-        let _ = self.meta();
         match self.get(read_at(op, place)) {
             Some(page) => live_of(page),
             None => None,

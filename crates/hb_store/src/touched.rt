@@ -1,5 +1,4 @@
-ghost use Rattle.std.specs.Prelude.{◌≡◌, ◌<◌, ◌^◌, ◌↔◌, [], ◌∷◌, get_or, All, IfOk, IfSome, IsErrOf, IsTrue, OnOk};
-ghost use Rattle.hb_frag.specs.Leaves.{weight_of};
+ghost use Rattle.std.specs.Prelude.{◌≡◌, ◌<◌, ◌↔◌, [], ◌∷◌, get_or, All, IfOk, IsErrOf, IsTrue, OnOk};
 ghost use Rattle.hb_ops.specs.Files.{if_live};
 ghost use Rattle.hb_ops.specs.Given.{given};
 ghost use Rattle.hb_ops.specs.Operations.{reads_of};
@@ -7,7 +6,7 @@ ghost use Rattle.hb_log_codec.specs.Groups.{FitsGroup, FitsOp};
 ghost use Rattle.hb_log_codec.specs.Reading.{logged};
 ghost use Rattle.hb_store.specs.Opening.{IsBadPayload};
 ghost use Rattle.hb_store.specs.Replay.{MayFollow, IsAllowedIn, after_group, after_op, change_in, untouched};
-ghost use Rattle.hb_store.specs.Replaying.{AreItsPages, Follows, IsPageOf, IsReplayable, ReplaysOn, replayed_of, with_pages};
+ghost use Rattle.hb_store.specs.Replaying.{Follows, HasLimits, IsPageOf, IsReplayable, replayed_of, ReplaysOn, with_pages};
 ghost use Rattle.hb_store.specs.declared.touched.ReplayStop.TheVariants.{Unfit};
 
 use crate::making::what_is_made_can_be_written;
@@ -16,7 +15,6 @@ use hb_frag::{LivePage, Page};
 use hb_log_codec::laws::groups_are_read_in_one_way;
 use hb_log_codec::{Group, GroupsError, decode_all};
 use hb_ops::{ChangeError, Changed, Meta, Op, change};
-use hb_page_codec::laws::spelling_law;
 use hb_space::NoMemory;
 use std::alloc::Global;
 use std::collections::BTreeMap;
@@ -132,11 +130,8 @@ impl Touched {
 
     /// The page in use of a number, where it was touched.
     fn live(&self, id: u32) -> Option<&LivePage>
-        requires { AreItsPages (replayed_of self.now) }
-        ensures page { given result ≡ if_live ((replayed_of self.now).page id) }
-        ensures light { IfSome result (λ p. weight_of p.now.frag < 2 ^ 32) }
+        ensures { given result ≡ if_live ((replayed_of self.now).page id) }
     {
-        spelling_law();
         match self.pages.get(&id) {
             Some(Page::Live(page)) => Some(page),
             _ => None,
@@ -147,7 +142,7 @@ impl Touched {
     ///
     /// `Unfit` exactly where it isn't allowed on them.
     fn changed(&self, alloc: Global, op: &Op) -> Result<Changed, ReplayStop>
-        requires goes_on { IsReplayable (replayed_of self.now) }
+        requires limits { HasLimits self.now.meta }
         requires fits { FitsOp self.now.meta.k op.now }
         ensures allowed { OnOk result (IsAllowedIn (replayed_of self.now) op.now) }
         ensures effect { IfOk result (λ c. record { meta = c.meta; pages = c.pages.items } ≡ change_in (replayed_of self.now) op.now) }
@@ -161,7 +156,7 @@ impl Touched {
     ///
     /// `Unfit` exactly where it isn't allowed on them.
     fn apply(&mut self, alloc: Global, op: &Op) -> Result<(), ReplayStop>
-        requires goes_on { IsReplayable (replayed_of self.old) }
+        requires limits { HasLimits self.old.meta }
         requires fits { FitsOp self.old.meta.k op.now }
         ensures allowed { OnOk result (IsAllowedIn (replayed_of self.old) op.now) }
         ensures effect { OnOk result (replayed_of self.new ≡ after_op (replayed_of self.old) op.now) }

@@ -1,19 +1,14 @@
 -- What an allowed operation makes of the pages in memory is good for the file afterwards.
-use Rattle.std.proofs.Common.{◌≡◌, ℕ, ◌+◌, ◌*◌, ◌^◌, ◌<◌, ◌≤◌, get_or, All, Option, Some, None, sym, subst, arith}
-use Rattle.std.specs.Option.{IfSome}
-use denote.Bor.{Bor}
+use Rattle.std.proofs.Common.{◌≡◌, ℕ, ◌+◌, ◌*◌, get_or, All, Option, sym, subst, arith}
 use Rattle.hb_space.specs.declared.form.TheConstants.{PAGE}
 use Rattle.hb_frag.specs.declared.pages.LivePage.{LivePage}
 use Rattle.hb_frag.specs.declared.pages.Page.{Page}
 use Rattle.hb_frag.specs.declared.pages.Page.TheVariants.{Live, Free}
-use Rattle.hb_frag.specs.Leaves.{weight_of}
 use Rattle.hb_frag.specs.Rules.{IsFilledRight}
 use Rattle.hb_layout.specs.declared.meta.Meta.{Meta}
-use Rattle.hb_layout.specs.Limits.{IsLayout}
 use Rattle.hb_layout.specs.Offsets.{file_size}
 use Rattle.hb_ops.specs.declared.operations.Op.{Op}
 use Rattle.hb_ops.specs.Files.{if_live}
-use Rattle.hb_ops.specs.Given.{given}
 use Rattle.hb_ops.specs.Operations.{reads_of}
 use Rattle.hb_ops.specs.Sound.{FitsFile}
 use Rattle.hb_log_codec.specs.Groups.{FitsOp}
@@ -25,7 +20,6 @@ use Rattle.hb_store.specs.Replaying.{ComesAfter, HasLimits, IsPageOf}
 use Rattle.hb_ops.proofs.Facts.AllowedOps.{high_next, reads_some}
 use Rattle.hb_store.proofs.Grouped.{good_spelled}
 use Rattle.hb_store.proofs.Facts.MadeMeta.{comes_after, made_numbered}
-use Rattle.hb_store.proofs.Facts.MadePages.{capacity_small}
 use Rattle.hb_lemmas.proofs.Options.{some_value}
 
 pub limits_of : (turn : ℕ) (meta : Meta) → IsStanding turn meta → HasLimits meta
@@ -89,12 +83,3 @@ changes_well makes st is op fits allowed =
       others = still_good meta (change_here st op).meta after;
       pages = λ i d lt. (numbered i d lt, good i d lt);
     }
-
--- a page in use in memory is light
-pub live_light : (o : Option (Bor LivePage)) (meta : Meta) (page : Option Page) → IsLayout meta → ((p : Page) → page ≡ Some p → IsGoodPage meta p) → given o ≡ if_live page → IfSome o (λ p. weight_of p.now.frag < 2 ^ 32)
-live_light None meta page layout good e = tt
-live_light (Some p) meta page layout good e =
-    let there : page ≡ Some (Live p.now) = live_so page p.now (sym e) in
-    let well = good (Live p.now) there in
-    let small : weight_of p.now.frag ≤ 256 = capacity_small p.now.level meta.dcap meta.icap layout.dcap_most layout.icap_most well.1.filled.light in
-    omega (arith, small)

@@ -1,16 +1,12 @@
 use Rattle.std.proofs.Common.{All, refl, sym, subst, ◌∙◌}
 use Rattle.hb_log_codec.specs.Reading.{logged}
-use Rattle.hb_store.specs.Replay.{IsAllowedIn, MayFollow, after_op}
-use Rattle.hb_store.specs.Replaying.{IsPageOf, IsReplayable, ReplaysOn, replayed_of}
-use Rattle.hb_store.proofs.Touches.{group_leads, images_its, on_both, on_ok}
+use Rattle.hb_store.specs.Replay.{IsAllowedIn, MayFollow, Replayed, after_op}
+use Rattle.hb_store.specs.Replaying.{HasLimits, IsPageOf, ReplaysOn, replayed_of}
+use Rattle.hb_store.proofs.Touches.{group_leads, on_both, on_ok}
 use Rattle.hb_store.proofs.touched.Touched.follow.Goals as goal
 
-pub apply-requires-clause-goes_on : goal.apply-requires-clause-goes_on
-apply-requires-clause-goes_on c =
-    let t = replayed_of c.args.self.now in
-    let g = logged c.args.group in
-    let range : All (λ i. IsPageOf t.meta i.0) g.images = subst (λ l. All (λ i. IsPageOf t.meta i.0) l) c.as_slice.ensures.value (c.if-not-has_all.ensures.0 refl) in
-    subst IsReplayable (sym c.in_ok-set_all.ensures) (record { limits = c.requires.goes_on.limits; pages = images_its t g t.meta.k c.requires.goes_on.pages c.requires.fits range })
+pub apply-requires-clause-limits : goal.apply-requires-clause-limits
+apply-requires-clause-limits c = subst (λ (r : Replayed). HasLimits r.meta) (sym c.in_ok-set_all.ensures) c.requires.goes_on.limits
 
 pub returns-clause-allowed : goal.returns-clause-allowed
 returns-clause-allowed c =
