@@ -1,5 +1,5 @@
 -- What is done in memory is done in the file: an operation is allowed and licensed there, and makes the same of it.
-use Rattle.std.proofs.Common.{◌≡◌, ◌≢◌, inl, inr, ℕ, ◌≤◌, ◌==◌, true, false, cond, List, [], ◌∷◌, length, get_or, All, Option, Some, None, IsSome, refl, sym, ap, ◌∙◌, subst, arith}
+use Rattle.std.proofs.Common.{◌≡◌, ◌≢◌, inl, inr, ℕ, ◌≤◌, List, length, get_or, All, Option, Some, None, IsSome, refl, sym, ap, ◌∙◌, subst, arith}
 use Rattle.std.proofs.lemmas.Bool.{cases_lt}
 use Rattle.std.proofs.lemmas.List.{get_or_past}
 use Rattle.hb_frag.specs.declared.leaves.Leaf.TheVariants.{Child}
@@ -32,19 +32,13 @@ use Rattle.hb_store.specs.States.{StoreState, in_memory}
 use Rattle.hb_terms.proofs.Facts.Owing.{planned_may_be, way_ends_there}
 use Rattle.hb_lemmas.proofs.Options.{some_value}
 use Rattle.hb_ops.proofs.Facts.AllowedOps.{reads_some}
+use Rattle.hb_store.proofs.Facts.ReplayLists.{set_both}
 
 -- What a store has of a sound file: its words about itself, and its pages in frames.
 pub record ShowsFile (st : StoreState) (s : FileState) : Type 0 where
   pub sound : IsSound s
   pub meta : s.meta ≡ st.meta
   pub shown : (id : ℕ) (page : Page) → (in_memory st) id ≡ Some page → page_of s id ≡ Some page
-
--- pages that others have too are so once the same were set in both
-pub set_both : (pages : List (ℕ × Page)) (f g : ℕ → Option Page) → ((q : ℕ) (page : Page) → f q ≡ Some page → g q ≡ Some page) → (q : ℕ) (page : Page) → set_pages pages f q ≡ Some page → set_pages pages g q ≡ Some page
-set_both [] f g h q page e = h q page e
-set_both (one ∷ rest) f g h q page e =
-    set_both rest (λ r. cond (r == one.0) (Some one.1) (f r)) (λ r. cond (r == one.0) (Some one.1) (g r))
-    (λ r page. elim (r == one.0) as (λ b. cond b (Some one.1) (f r) ≡ Some page → cond b (Some one.1) (g r) ≡ Some page) [ true ↦ λ e. e | false ↦ h r page ]) q page e
 
 module _ (st : StoreState) (s : FileState) (keeps : KeepsPages st) (file : ShowsFile st s) (op : Op) (allowed : IsAllowedHere st op) where
   none_at_zero : (o : Option Page) → ((page : Page) → o ≡ Some page → 1 ≤ 0) → o ≡ None

@@ -1,7 +1,5 @@
 -- What an allowed operation makes of the pages in memory is good for the file afterwards.
-use Rattle.std.proofs.Common.{◌≡◌, inl, inr, ℕ, ◌+◌, ◌≤◌, ◌==◌, Bool, cond, List, [], ◌∷◌, get_or, All, Option, Some, sym, ap, ◌∙◌, subst}
-use Rattle.std.proofs.lemmas.Bool.{cases_Bool, eqb-true}
-use Rattle.std.proofs.lemmas.List.Elements.{All-head, All-tail}
+use Rattle.std.proofs.Common.{ℕ, ◌+◌, ◌≤◌, get_or, All, Option}
 use Rattle.hb_frag.specs.declared.pages.LivePage.{LivePage}
 use Rattle.hb_frag.specs.declared.pages.Page.{Page}
 use Rattle.hb_layout.specs.declared.meta.Meta.{Meta}
@@ -13,8 +11,6 @@ use Rattle.hb_store.proofs.Facts.Changed.{good_readable, still_good}
 use Rattle.hb_ops.proofs.Facts.AllowedOps.{high_next, reads_some}
 use Rattle.hb_store.proofs.Facts.MadeMeta.{comes_after, made_numbered}
 use Rattle.hb_store.specs.Making.{MakesGoodPages}
-use Rattle.hb_store.specs.Replay.{set_pages}
-use Rattle.hb_store.proofs.Facts.ReplayLists.{set_one-same}
 use Rattle.hb_store.specs.Replaying.{ComesAfter, HasLimits, IsPageOf}
 use Rattle.hb_store.specs.States.{AreGood, IsGoodPage}
 use Rattle.hb_lemmas.proofs.Options.{some_value}
@@ -47,22 +43,3 @@ module _ (makes : MakesGoodPages) (meta : Meta) (limits : HasLimits meta) (frame
         others = still_good meta (change_of op meta first second third).meta after;
         pages = λ i d lt. (numbered i d lt, good i d lt);
       }
-
--- ---- pages, once others were set
-
--- what holds of the pages set and of the others holds of each that is there then
-pub each_set : (P : ℕ → Page → Type 0) (pages : List (ℕ × Page)) (f : ℕ → Option Page) → All (λ c. P c.0 c.1) pages → ((q : ℕ) (page : Page) → f q ≡ Some page → P q page)
-    → (q : ℕ) (page : Page) → set_pages pages f q ≡ Some page → P q page
-each_set P [] f set others q page e = others q page e
-each_set P (one ∷ rest) f set others q page e =
-    let C = λ (c : ℕ × Page). P c.0 c.1 in
-    each_set P rest (λ r. cond (r == one.0) (Some one.1) (f r)) (All-tail C one rest set)
-    (λ r other is. elim (cases_Bool (r == one.0)) [
-      | inl here ↦
-          let same : r ≡ one.0 = eqb-true r one.0 here in
-          let page_is : Some one.1 ≡ Some other = sym (set_one-same f one.0 one.1 r same) ∙ is in
-          let page_same : one.1 ≡ other = cc in
-          subst (λ (n : ℕ). P n other) (sym same) (subst (λ (p : Page). P one.0 p) page_same (All-head C one rest set))
-      | inr off ↦ others r other (sym (ap (λ (b : Bool). cond b (Some one.1) (f r)) off) ∙ is)
-    ])
-    q page e

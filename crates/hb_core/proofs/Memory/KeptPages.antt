@@ -9,7 +9,7 @@ use Rattle.hb_core.specs.declared.outcomes.Outcome.TheVariants as outcomes
 use Rattle.hb_activity.specs.Deeds.{Deed, does}
 use Rattle.hb_core.proofs.Memory.BroughtPages.{same_there}
 use Rattle.hb_core.proofs.Files.FitOps.{HeldArePoints, fits_op}
-use Rattle.hb_core.proofs.Files.GoodChanges.{IsGoodChange, good_change, each_set}
+use Rattle.hb_core.proofs.Files.GoodChanges.{IsGoodChange, good_change}
 use Rattle.hb_core.proofs.Memory.OwnPages.{gives_up_nothing, runs_out_nothing}
 use Rattle.hb_core.proofs.Files.RowTells.{Tells, tells_row, tells_none}
 use Rattle.hb_core.specs.AllowedLaws.{IsLicensedHere}
@@ -28,6 +28,7 @@ use Rattle.hb_store.specs.Calls.{IsAllowedHere, change_here, read_here}
 use Rattle.hb_store.specs.Making.{HaveFittingParts, MakesGoodPages}
 use Rattle.hb_store.specs.Replaying.{HasLimits}
 use Rattle.hb_store.specs.States.{AreGood, IsGoodPage, StoreState, in_memory}
+use Rattle.hb_store.proofs.Facts.ReplayLists.{all_set}
 
 -- What a store keeps of its pages and of what its file says of itself.
 pub record KeepsPages (st : StoreState) : Type 0 where
@@ -91,7 +92,7 @@ module _ (makes : MakesGoodPages) (parts : HaveFittingParts) (points : HeldArePo
         live = subst (λ (meta : Meta). meta.live ≤ meta.pages) meta (after.live keeps.live);
         free = subst (λ (meta : Meta). meta.free < 2 ^ 32) meta (after.free keeps.free);
         framed = λ id page there. subst (λ (meta : Meta). (1 ≤ id) × (id ≤ meta.high) × IsGoodPage meta page) meta
-            (each_set (λ n p. (1 ≤ n) × (n ≤ change.meta.high) × IsGoodPage change.meta p) change.pages (in_memory old)
+            (all_set (λ n p. (1 ≤ n) × (n ≤ change.meta.high) × IsGoodPage change.meta p) change.pages (in_memory old)
             (λ k d lt. let c = well.pages k d lt in (c.0.0, c.0.1, c.1))
             (λ n p is. let was = keeps.framed n p is in (was.0, omega (arith, was.1, after.rises), well.others p was.2))
             id page (sym (commit_pages _ _ _ _ does.commits id) ∙ there));
