@@ -82,24 +82,7 @@ walk_has_line (at.SessionWalk line held rest found) walks none = nothing none
   where
     nothing : HasLine line ≡ Empty → ⊥
     nothing is = cc
-walk_has_line at.SessionIdle walks none = absurd walks
-walk_has_line (at.SessionSplit line held) walks none = absurd walks
-walk_has_line (at.SessionPut line source fresh) walks none = absurd walks
-walk_has_line (at.SessionAwait number reply place) walks none = absurd walks
-walk_has_line at.PosterIdle walks none = absurd walks
-walk_has_line (at.PosterGrow job) walks none = absurd walks
-walk_has_line (at.PosterWalk job held) walks none = absurd walks
-walk_has_line (at.PosterChild job parent) walks none = absurd walks
-walk_has_line (at.PosterPromote job parent) walks none = absurd walks
-walk_has_line (at.PosterAgain job parent) walks none = absurd walks
-walk_has_line at.ConsolidatorIdle walks none = absurd walks
-walk_has_line (at.ConsolidatorWalk job held) walks none = absurd walks
-walk_has_line (at.ConsolidatorScan job parent child) walks none = absurd walks
-walk_has_line (at.ConsolidatorTry job parent keep gone leaf) walks none = absurd walks
-walk_has_line (at.ConsolidatorPromote job parent keep gone) walks none = absurd walks
-walk_has_line (at.ConsolidatorKeep job parent keep gone) walks none = absurd walks
-walk_has_line (at.ConsolidatorDecide job parent keep gone) walks none = absurd walks
-walk_has_line at.Flusher walks none = absurd walks
+walk_has_line activity walks none = absurd walks
 
 -- with nothing in hand
 empty_fits : (k : ℕ) (activity : Activity) → hand_of activity ≡ Empty → StandsFit k activity
