@@ -7,7 +7,7 @@ ghost use Rattle.hb_layout.specs.Limits.{IsLayout};
 ghost use Rattle.hb_ops.specs.Sound.{FitsFile};
 ghost use Rattle.hb_activity.specs.Deciding.{FitsFree, deed_of, given_sight};
 ghost use Rattle.hb_activity.specs.Sights.{Sight};
-ghost use Rattle.hb_poster.specs.Asks.{AsksMemory, LooksAgainBelow, LooksBelow, PlansPosting};
+ghost use Rattle.hb_poster.specs.Asks.{AsksMemory, LooksAgainBelow, LooksAt, PlansPosting};
 ghost use Rattle.hb_poster.specs.PosterRows.{PosterRow, SplitsParent};
 ghost use Rattle.hb_terms.specs.Plans.{IsPlan, LacksRoom};
 
@@ -30,8 +30,7 @@ pub(crate) fn look(
     child: &LivePage,
     meta: &Meta,
 ) -> Result<Next, NoMemory>
-    requires both { LooksBelow meta.now job over.now child.now }
-    requires child { FitsFile meta.now child.now }
+    requires { LooksAt meta.now job over.now child.now }
     ensures row { (id : ℕ) (free : Option (ℕ × ℕ)) → IfOk result (λ next. PosterRow (Activity.PosterChild job parent)
         (given_sight meta.now ((parent, over.now) ∷ (id, child.now) ∷ []) free) id child.now
         (deed_of (Activity.PosterChild job parent) next)) }
@@ -92,8 +91,7 @@ pub(crate) fn lacks_room(
     child: &LivePage,
     meta: &Meta,
 ) -> bool
-    requires both { LooksBelow meta.now job.now over.now child.now }
-    requires child { FitsFile meta.now child.now }
+    requires { LooksAt meta.now job.now over.now child.now }
     ensures { IsTrue result ↔ LacksRoom over.now child.now job.now.point meta.now.icap }
 {
     match plan_for(alloc, job, over, child, meta) {
@@ -110,8 +108,7 @@ fn plan_for(
     child: &LivePage,
     meta: &Meta,
 ) -> Result<PostPlan, NoMemory>
-    requires both { LooksBelow meta.now job.now over.now child.now }
-    requires child { FitsFile meta.now child.now }
+    requires { LooksAt meta.now job.now over.now child.now }
     ensures plan { IfOk result (IsPlan over.now child.now job.now.point meta.now.icap) }
     ensures memory { OnErr result (PlansPosting meta.now job.now over.now child.now) }
 {
