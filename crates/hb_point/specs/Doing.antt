@@ -64,7 +64,7 @@ pub record InsertsInto (line : Line) (page : LivePage) : Type 0 where
   pub can : CanHold page rec.key
 
 -- the page keeps the rules of a page alone, and its leaf at the point, which its box has, has records
-pub record HasRecordsAt (meta : Meta) (page : LivePage) (p : List ℕ) : Type 0 where
+pub record HasLeafOfRecords (meta : Meta) (page : LivePage) (p : List ℕ) : Type 0 where
   pub made : FitsFile meta page
   pub inside : Holds page.area p
   pub records : RecordsThere page p

@@ -7,7 +7,7 @@ ghost use Rattle.hb_layout.specs.Limits.{IsLayout};
 ghost use Rattle.hb_ops.specs.Sound.{FitsFile};
 ghost use Rattle.hb_ops.specs.Standing.{StandsNot, StandsThere};
 ghost use Rattle.hb_point.specs.Asks.{WalksInside};
-ghost use Rattle.hb_point.specs.Doing.{DoesBy, HasRecordsAt, RecordsThere, WalksBy, line_with};
+ghost use Rattle.hb_point.specs.Doing.{DoesBy, HasLeafOfRecords, RecordsThere, WalksBy, line_with};
 ghost use Rattle.hb_set.specs.declared.commands.Command.TheVariants as commands;
 ghost use Rattle.hb_space.specs.Boxes.{Area as Extent, Holds};
 
@@ -96,7 +96,7 @@ fn does_there(line: Line, id: u32, page: &LivePage, meta: &Meta) -> Next
 
 /// The record of the point in a page whose leaf there has records.
 fn record_at<'a>(page: &'a LivePage, meta: &Meta, point: &Point) -> Option<&'a Record>
-    requires { HasRecordsAt meta.now page.now point.now }
+    requires { HasLeafOfRecords meta.now page.now point.now }
     ensures { MatchOption result
         (StandsNot page.now point.now)
         (λ found. StandsThere page.now point.now found.now) }
@@ -113,7 +113,7 @@ fn record_at<'a>(page: &'a LivePage, meta: &Meta, point: &Point) -> Option<&'a R
 #[tactic(auto, using(crate::proofs::Facts::RecordLeaves::no_room_left, crate::proofs::Facts::RecordLeaves::records_below))]
 fn insert(number: u32, session: u8, rec: Record, id: u32, page: &LivePage, meta: &Meta) -> Next
     requires layout { IsLayout meta.now }
-    requires given { HasRecordsAt meta.now page.now rec.key }
+    requires given { HasLeafOfRecords meta.now page.now rec.key }
     ensures { DoesBy meta.now (line_with number session (commands.Insert rec)) id page.now result }
 {
     if record_at(page, meta, &rec.key).is_some() {
@@ -132,7 +132,7 @@ fn insert(number: u32, session: u8, rec: Record, id: u32, page: &LivePage, meta:
 
 /// A delete takes the record of its point, where it is there.
 fn delete(number: u32, point: Point, id: u32, page: &LivePage, meta: &Meta) -> Next
-    requires { HasRecordsAt meta.now page.now point }
+    requires { HasLeafOfRecords meta.now page.now point }
     ensures { (session : ℕ) → DoesBy meta.now (line_with number session (commands.Delete point)) id page.now result }
 {
     match record_at(page, meta, &point) {
@@ -143,7 +143,7 @@ fn delete(number: u32, point: Point, id: u32, page: &LivePage, meta: &Meta) -> N
 
 /// A lookup is answered with the body under its point, where it is there.
 fn lookup(number: u32, point: &Point, page: &LivePage, meta: &Meta) -> Next
-    requires { HasRecordsAt meta.now page.now point.now }
+    requires { HasLeafOfRecords meta.now page.now point.now }
     ensures { (session id : ℕ) → DoesBy meta.now (line_with number session (commands.Lookup point.now)) id page.now result }
 {
     match record_at(page, meta, point) {
