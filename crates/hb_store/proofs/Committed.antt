@@ -2,7 +2,7 @@
 use Rattle.std.proofs.Common.{◌≡◌, inl, inr, ℕ, ◌+◌, ◌*◌, ◌%◌, ◌≤◌, Bool, false, List, [], ◌∷◌, ◌++◌, length, get_or, map, All, Option, Some, None, IsSome, IsTrue, Result, Ok, Err, refl, sym, ap, ◌∙◌, subst, arith}
 use Rattle.std.specs.Prelude.{◌||◌, OnErr, OnOk}
 use Rattle.std.specs.Option.{is_some}
-use Rattle.std.proofs.lemmas.Bool.{or_parts, cases_Bool, cases_lt}
+use Rattle.std.proofs.lemmas.Bool.{or_parts, cases_Bool, cases_lt, or_cases}
 use Rattle.std.proofs.lemmas.List.{get_or_past, map-append}
 use Rattle.std.proofs.lemmas.List.Elements.{All-append, All-cons, All-nil}
 use Rattle.hb_disk.specs.Model.{DiskModel, IsDisk}
@@ -33,7 +33,7 @@ use Rattle.hb_store.proofs.Facts.FilePages.{Reaches, pages_set}
 use Rattle.hb_ops.proofs.Facts.AllowedOps.{reads_some, same_change, same_allowed}
 use Rattle.hb_store.proofs.Shown.{Shows-leads}
 use Rattle.hb_store.proofs.Grouped.{all_needed}
-use Rattle.hb_store.proofs.Setting.{among_all, has_all, none_set, or_either, set_some}
+use Rattle.hb_store.proofs.Setting.{among_all, has_all, none_set, set_some}
 use Rattle.hb_store.proofs.Imaging.{imaged_all, read_page}
 use Rattle.hb_ops.proofs.Facts.FilePages.{in_file_at}
 use Rattle.hb_ops.proofs.Facts.PageNumberLaws.{page_at-zero}
@@ -88,9 +88,9 @@ module _ (st new : StoreState) (op : Op) (mark : ℕ) (well : MakesWell op st) (
   marked_after id on =
       let P = λ (n : ℕ). (1 ≤ n) × (n ≤ new.meta.high) in
       let reads = reads_numbered st well.memory op allowed in
-      elim (or_either (has_page id change.pages) (is_among id (reads_of op) || is_imaged st id) (sym (commits.imaged id) ∙ on)) [
+      elim (or_cases (has_page id change.pages) (is_among id (reads_of op) || is_imaged st id) (sym (commits.imaged id) ∙ on)) [
         | inl made ↦ has_all P change.pages id (λ k d lt. subst (λ (m : Meta). (1 ≤ (get_or change.pages k d).0) × ((get_or change.pages k d).0 ≤ m.high)) (sym commits.meta) (well.change.pages k d lt).0) made
-        | inr rest ↦ elim (or_either (is_among id (reads_of op)) (is_imaged st id) rest) [
+        | inr rest ↦ elim (or_cases (is_among id (reads_of op)) (is_imaged st id) rest) [
           | inl read ↦ among_all P (reads_of op) id (λ k d lt. let at = reads k d lt in (at.0, omega (arith, at.1, rises))) read
           | inr before ↦ let at = well.memory.marked id before in (at.0, omega (arith, at.1, rises))
         ]

@@ -3,7 +3,7 @@
 use Rattle.std.proofs.Common.{◌≡◌, ◌⊎◌, inl, inr, ℕ, zero, suc, ◌<◌, ◌==◌, Bool, true, false, cond, List, [], ◌∷◌, ◌++◌, length, get_or, All, Option, Some, None, IsSome, IsTrue, refl, sym, ap, ◌∙◌, subst, arith}
 use Rattle.std.specs.Prelude.{◌||◌}
 use Rattle.std.specs.Option.{is_some}
-use Rattle.std.proofs.lemmas.Bool.{cases_Bool, cases_lt, eq-eqb, eqb-false, eqb-true}
+use Rattle.std.proofs.lemmas.Bool.{cases_Bool, cases_lt, eq-eqb, eqb-false, eqb-true, or_right}
 use Rattle.std.proofs.lemmas.List.{get_or_past}
 use Rattle.std.proofs.lemmas.List.Elements.{All-head, All-tail}
 use Rattle.hb_frag.specs.declared.pages.Page.{Page}
@@ -11,13 +11,13 @@ use Rattle.hb_store.specs.Making.{image_needed, images_needed}
 use Rattle.hb_store.specs.Replay.{set_pages, has_page, is_among}
 use Rattle.hb_store.proofs.Facts.ReplayLists.{set_one-same, set_one-other}
 use Rattle.hb_lemmas.proofs.Options.{some_value}
-use Rattle.hb_store.proofs.Setting.{or_true, set_some}
+use Rattle.hb_store.proofs.Setting.{set_some}
 
 among_at : (ids : List ℕ) (place : ℕ) → place < length ids → is_among (get_or ids place 0) ids ≡ true
 among_at [] place lt = absurd (omega (arith, lt))
 among_at (id ∷ rest) zero lt = ap (λ (b : Bool). b || is_among id rest) (eq-eqb id id refl)
 among_at (id ∷ rest) (suc place) lt =
-    ap (λ (b : Bool). (get_or rest place 0 == id) || b) (among_at rest place (omega (arith, lt))) ∙ or_true (get_or rest place 0 == id)
+    ap (λ (b : Bool). (get_or rest place 0 == id) || b) (among_at rest place (omega (arith, lt))) ∙ or_right (get_or rest place 0 == id) true refl
 
 none_of : (o : Option Page) → is_some o ≡ false → o ≡ None
 none_of None e = refl
@@ -30,7 +30,7 @@ module _ (P : ℕ → Option Page) (I : ℕ → Bool) where
   imaged_with id q None b more among some is ih = cc some
   imaged_with id q (Some page) true more among some is ih =
       ih ∙ elim (q == id) as (λ b. (q == id) ≡ b → (among || I q) ≡ ((b || among) || I q)) [
-        | true ↦ λ here. ap (λ (b : Bool). among || b) (ap I (eqb-true q id here) ∙ is) ∙ or_true among
+        | true ↦ λ here. ap (λ (b : Bool). among || b) (ap I (eqb-true q id here) ∙ is) ∙ or_right among true refl
         | false ↦ λ off. refl
       ] refl
   imaged_with id q (Some page) false more among some is ih =

@@ -1,10 +1,11 @@
 -- What reading a log tells, from what its payloads make of the file.
-use Rattle.std.proofs.Common.{◌≡◌, inl, inr, ℕ, ◌<◌, ◌≤◌, ◌^◌, List, [], ◌∷◌, ◌++◌, length, map, drop, All, Option, Some, None, Result, Ok, Err, Vec, refl, ap, subst, ◌∙◌, append_assoc, length-append, arith}
+use Rattle.std.proofs.Common.{◌≡◌, inl, inr, ℕ, ◌<◌, ◌≤◌, ◌^◌, List, ◌∷◌, ◌++◌, length, map, drop, All, Option, Some, None, Result, Ok, Err, Vec, refl, ap, subst, ◌∙◌, append_assoc, length-append, arith}
 use Rattle.std.specs.Prelude.{IfErr, IfSome}
 use Rattle.std.specs.declared.alloc.Global.{Global}
 use Rattle.std.proofs.lemmas.List.{length-take, map-append}
 use Rattle.std.proofs.lemmas.Grind.{flat_map-append}
-use Rattle.std.proofs.lemmas.List.Elements.{All-cons, All-head, All-nil, All-tail}
+use Rattle.std.proofs.lemmas.List.Elements.{All-head}
+use Rattle.hb_lemmas.proofs.Lists.{All-front, All-behind}
 use Rattle.hb_layout.specs.declared.meta.Meta.{Meta}
 use Rattle.hb_wal.proofs.Facts.FrameCounts.{frames_count}
 use Rattle.hb_wal.specs.Frames.{frames, frame_bytes, IsPayload, HasFrames, HasBadFrame}
@@ -49,14 +50,6 @@ first_bad said payloads before behind payload t replays.Unfit parts so_far bad =
 
 -- ---- the bytes of the area
 
-in_middle : (P : List ℕ → Type 0) (before : List (List ℕ)) (p : List ℕ) (behind : List (List ℕ)) → All P (before ++ p ∷ behind) → P p
-in_middle P [] p behind h = All-head P p behind h
-in_middle P (x ∷ xs) p behind h = in_middle P xs p behind (All-tail P x (xs ++ p ∷ behind) h)
-
-in_front : (P : List ℕ → Type 0) (before behind : List (List ℕ)) → All P (before ++ behind) → All P before
-in_front P [] behind h = All-nil P
-in_front P (x ∷ xs) behind h = All-cons P x xs (All-head P x (xs ++ behind) h) (in_front P xs behind (All-tail P x (xs ++ behind) h))
-
 bad_payload : (bytes : List ℕ) (turn : ℕ) (said : Meta) (payloads : List (List ℕ)) (rest : List ℕ) (frame : ℕ) → All IsPayload payloads → log_bytes turn said bytes ≡ frames payloads ++ rest → IsFirstBad said payloads frame → HasBadGroup bytes turn said frame
 bad_payload bytes turn said payloads rest frame fit parts first =
     let p = first.payload in
@@ -70,13 +63,13 @@ bad_payload bytes turn said payloads rest frame fit parts first =
       groups = first.replayed.groups;
       rest = frame_bytes p ++ behind;
       counted = first.counted;
-      payloads_fit = in_front IsPayload first.before (p ∷ first.behind) all_fit;
+      payloads_fit = All-front IsPayload first.before (p ∷ first.behind) all_fit;
       framed = parts ∙ split;
       spelled = first.replayed.spelled;
       replayed = first.replayed.may;
       bad = inr (
         p,
-        record { fits = in_middle IsPayload first.before p first.behind all_fit; behind = behind; bytes = refl },
+        record { fits = All-head IsPayload p first.behind (All-behind IsPayload first.before (p ∷ first.behind) all_fit); behind = behind; bytes = refl },
         subst (λ r. IsBadPayload said.k r p) first.replayed.leads first.bad,
       );
     }

@@ -1,10 +1,11 @@
 -- Replaying groups one after the other.
 use Rattle.std.proofs.Common.{◌≡◌, ℕ, ◌+◌, ◌<◌, List, [], ◌∷◌, ◌++◌, length, get_or, map, take, drop, All, refl, sym, ap, subst, ◌∙◌}
 use Rattle.std.proofs.lemmas.List.{append-nil, drop_more, map-append, take-append-drop}
-use Rattle.std.proofs.lemmas.List.Elements.{All-head, All-tail}
+use Rattle.std.proofs.lemmas.List.Elements.{All-head}
+use Rattle.hb_lemmas.proofs.Lists.{All-behind}
 use Rattle.hb_layout.specs.declared.meta.Meta.{Meta}
 use Rattle.hb_log_codec.specs.declared.groups.Group.{Group}
-use Rattle.hb_log_codec.specs.Groups.{FitsGroup, SpellsGroups}
+use Rattle.hb_log_codec.specs.Groups.{Logged, FitsGroup, SpellsGroups}
 use Rattle.hb_log_codec.specs.Reading.{logged}
 use Rattle.hb_store.proofs.Facts.Spellings.{OneList}
 use Rattle.hb_store.specs.Replay.{Replayed, MayFollow, MayReplay, after_group, replay, untouched}
@@ -25,11 +26,9 @@ splits all xs x front next =
     sym (take-append-drop (length xs) all) ∙ (λ i. (sym front ∙ all_of xs) i ++ (drop_more all (length xs) x next.0 ∙ (λ j. sym next.1 j ∷ drop (length xs + 1) all)) i)
 
 pub next_fits : (k : ℕ) (all xs : List Group) (x : Group) (behind : List Group) → all ≡ xs ++ x ∷ behind → All (FitsGroup k) (map logged all) → FitsGroup k (logged x)
-next_fits k all xs x behind split fits = in_middle xs (subst (λ l. All (FitsGroup k) (map logged l)) split fits)
-  where
-    in_middle : (ys : List Group) → All (FitsGroup k) (map logged (ys ++ x ∷ behind)) → FitsGroup k (logged x)
-    in_middle [] h = All-head (FitsGroup k) (logged x) (map logged behind) h
-    in_middle (y ∷ ys) h = in_middle ys (All-tail (FitsGroup k) (logged y) (map logged (ys ++ x ∷ behind)) h)
+next_fits k all xs x behind split fits =
+    let F = FitsGroup k in
+    All-head F (logged x) (map logged behind) (All-behind F (map logged xs) (map logged (x ∷ behind)) (subst (λ (l : List Logged). All F l) (ap (map logged) split ∙ map-append logged xs (x ∷ behind)) fits))
 
 -- one more group
 pub may_more : (t : Replayed) (xs : List Group) (x : Group) → MayReplay t (map logged xs) → MayFollow (replay t (map logged xs)) (logged x) → MayReplay t (map logged (xs ++ x ∷ []))

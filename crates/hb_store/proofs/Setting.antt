@@ -1,17 +1,13 @@
 -- Pages that were set, one after the other.
-use Rattle.std.proofs.Common.{◌≡◌, ◌⊎◌, inl, inr, ℕ, suc, ◌<◌, ◌==◌, Bool, true, false, cond, List, [], ◌∷◌, length, get_or, All, Option, Some, None, IsTrue, refl, sym, ap, ◌∙◌, subst, arith}
+use Rattle.std.proofs.Common.{◌≡◌, inl, inr, ℕ, suc, ◌<◌, ◌==◌, Bool, true, false, cond, List, [], ◌∷◌, length, get_or, All, Option, Some, None, IsTrue, refl, sym, ap, ◌∙◌, subst, arith}
 use Rattle.std.specs.Prelude.{◌||◌, nat_eq}
 use Rattle.std.specs.Option.{is_some}
 use Rattle.std.specs.List.{remove}
-use Rattle.std.proofs.lemmas.Bool.{or_parts, eqb-true}
+use Rattle.std.proofs.lemmas.Bool.{or_parts, eqb-true, or_right, or_cases}
 use Rattle.std.proofs.lemmas.List.Elements.{All-head, All-tail}
 use Rattle.hb_frag.specs.declared.pages.Page.{Page}
 use Rattle.hb_store.specs.Replay.{set_pages, has_page, is_among}
 use Rattle.hb_store.proofs.Facts.ReplayLists.{set_not, set_pages-same}
-
-pub or_true : (a : Bool) → (a || true) ≡ true
-or_true true = refl
-or_true false = refl
 
 or_swap : (a b c : Bool) → (a || (b || c)) ≡ (b || (a || c))
 or_swap true true c = refl
@@ -27,27 +23,23 @@ pub set_some : (pages : List (ℕ × Page)) (f : ℕ → Option Page) (q : ℕ) 
 set_some [] f q = refl
 set_some (one ∷ rest) f q =
     set_some rest (λ r. cond (r == one.0) (Some one.1) (f r)) q
-    ∙ elim (q == one.0) as (λ b. (has_page q rest || is_some (cond b (Some one.1) (f q))) ≡ ((b || has_page q rest) || is_some (f q))) [ true ↦ or_true (has_page q rest) | false ↦ refl ]
+    ∙ elim (q == one.0) as (λ b. (has_page q rest || is_some (cond b (Some one.1) (f q))) ≡ ((b || has_page q rest) || is_some (f q))) [ true ↦ or_right (has_page q rest) true refl | false ↦ refl ]
 
 -- ---- numbers in lists
-
-pub or_either : (a b : Bool) → IsTrue (a || b) → IsTrue a ⊎ IsTrue b
-or_either true b e = inl refl
-or_either false b e = inr e
 
 -- what holds of the number of each page holds of one of them
 pub has_all : (Q : ℕ → Type 0) (pages : List (ℕ × Page)) (q : ℕ) → All (λ c. Q c.0) pages → IsTrue (has_page q pages) → Q q
 has_all Q [] q all is = cc is
 has_all Q (one ∷ rest) q all is =
     let R = λ (c : ℕ × Page). Q c.0 in
-    elim (or_either (q == one.0) (has_page q rest) is) [
+    elim (or_cases (q == one.0) (has_page q rest) is) [
       | inl here ↦ subst Q (sym (eqb-true q one.0 here)) (All-head R one rest all)
       | inr later ↦ has_all Q rest q (All-tail R one rest all) later
     ]
 
 pub among_all : (Q : ℕ → Type 0) (ids : List ℕ) (q : ℕ) → All Q ids → IsTrue (is_among q ids) → Q q
 among_all Q [] q all is = cc is
-among_all Q (id ∷ rest) q all is = elim (or_either (q == id) (is_among q rest) is) [
+among_all Q (id ∷ rest) q all is = elim (or_cases (q == id) (is_among q rest) is) [
   | inl here ↦ subst Q (sym (eqb-true q id here)) (All-head Q id rest all)
   | inr later ↦ among_all Q rest q (All-tail Q id rest all) later
 ]

@@ -103,10 +103,6 @@ set_next (y ∷ ys) x left t u total some first rest one all =
     (λ i. with_pages (rest i) (one i)) ∙ ap (λ (z : ℕ × Page). with_pages ys (with_pages (z ∷ []) t)) first ∙ all
 
 -- a result with a weaker clause
-pub on_ok : {X E P Q : Type 0} (r : Result X E) → (P → Q) → OnOk r P → OnOk r Q
-on_ok (Ok x) f h = f h
-on_ok (Err e) f h = tt
-
 pub on_both : {X E P Q R : Type 0} (r : Result X E) → (P → Q → R) → OnOk r P → OnOk r Q → OnOk r R
 on_both (Ok x) f h k = f h k
 on_both (Err e) f h k = tt

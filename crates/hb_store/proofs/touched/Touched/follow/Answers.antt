@@ -1,8 +1,9 @@
 use Rattle.std.proofs.Common.{All, refl, sym, subst, ◌∙◌}
+use Rattle.std.proofs.lemmas.Result.{on_ok_weaker}
 use Rattle.hb_log_codec.specs.Reading.{logged}
 use Rattle.hb_store.specs.Replay.{IsAllowedIn, MayFollow, Replayed, after_op}
 use Rattle.hb_store.specs.Replaying.{HasLimits, IsPageOf, ReplaysOn, replayed_of}
-use Rattle.hb_store.proofs.Touches.{group_leads, on_both, on_ok}
+use Rattle.hb_store.proofs.Touches.{group_leads, on_both}
 use Rattle.hb_store.proofs.touched.Touched.follow.Goals as goal
 
 pub apply-requires-clause-limits : goal.apply-requires-clause-limits
@@ -13,12 +14,12 @@ returns-clause-allowed c =
     let t = replayed_of c.args.self.now in
     let g = logged c.args.group in
     let range : All (λ i. IsPageOf t.meta i.0) g.images = subst (λ l. All (λ i. IsPageOf t.meta i.0) l) c.as_slice.ensures.value (c.if-not-has_all.ensures.0 refl) in
-    on_ok c.apply.result (λ allowed. record { images = range; allowed = subst (λ u. IsAllowedIn u g.op) c.in_ok-set_all.ensures allowed }) c.apply.ensures.allowed
+    on_ok_weaker c.apply.result (λ allowed. record { images = range; allowed = subst (λ u. IsAllowedIn u g.op) c.in_ok-set_all.ensures allowed }) c.apply.ensures.allowed
 
 pub returns-clause-effect : goal.returns-clause-effect
 returns-clause-effect c =
     let g = logged c.args.group in
-    on_ok c.apply.result (λ same. same ∙ (λ i. after_op (c.in_ok-set_all.ensures i) g.op)) c.apply.ensures.effect
+    on_ok_weaker c.apply.result (λ same. same ∙ (λ i. after_op (c.in_ok-set_all.ensures i) g.op)) c.apply.ensures.effect
 
 pub returns-clause-leads : goal.returns-clause-leads
 returns-clause-leads c =
