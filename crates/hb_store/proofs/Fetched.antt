@@ -1,7 +1,7 @@
 -- A page that a fetch brings into memory is the file's.
 use Rattle.std.proofs.Common.{◌≡◌, ◌≢◌, inl, inr, ℕ, ◌+◌, ◌-◌, ◌*◌, ◌≤◌, ◌++◌, true, false, cond, eqb, List, length, take, drop, Option, Some, None, Result, Ok, Err, refl, sym, ap, subst, ◌∙◌, arith}
 use Rattle.std.specs.Prelude.{replicate, IfOk, IfErr, IfSome, IsSome, MatchOption}
-use Rattle.std.specs.Option.{is_some}
+use Rattle.std.specs.Option.{is_some, option_map}
 use denote.Bor.{Bor}
 use Rattle.std.proofs.lemmas.Bool.{cases_eq, eqb-true, eq-eqb, ne_eqb}
 use Rattle.hb_space.specs.declared.form.TheConstants.{PAGE}
@@ -24,7 +24,7 @@ use Rattle.hb_store.specs.States.{IsGoodPage, IsMemory, StoreState, in_memory}
 use Rattle.hb_store.specs.Keeps.{StoreKeeps, last_of}
 use Rattle.hb_store.specs.Calls.{Fetched}
 use Rattle.hb_store.proofs.Facts.StayingLaws.{was_there, reads_in_place}
-use Rattle.hb_store.specs.Fetching.{HoldsNot, with_held, IsDamagedBy, IsNoPage}
+use Rattle.hb_store.specs.Fetching.{FetchesNot, HoldsNot, with_held, IsDamagedBy, IsNoPage}
 use Rattle.hb_store.specs.declared.stops.FetchStop.{FetchStop}
 use Rattle.hb_store.specs.declared.stops.FetchStop.TheVariants as fetches
 use Rattle.hb_store.specs.declared.stops.Why.TheVariants.{Rule, Level, Extent}
@@ -48,11 +48,31 @@ read_there (Ok page) None bytes place there read = tt
 read_there (Ok page) (Some b) bytes place there read = subst (λ l. SpellsPage l page) read there
 read_there (Err stop) told bytes place there read = tt
 
-pub read_not : {X : Type 0} (result : Result X FetchStop) (told : Option (List ℕ)) (bytes : List ℕ) (place : List ℕ → List ℕ) (meta : Meta) (id : ℕ) → IfErr result (HoldsNot meta bytes id) → IfSome told (λ b. bytes ≡ place b)
-    → IfErr result (λ stop. IfSome told (λ b. HoldsNot meta (place b) id stop))
+-- what is said of bytes that are known holds where they aren't
+forgotten : (meta : Meta) (b : List ℕ) (id : ℕ) (stop : FetchStop) → HoldsNot meta (Some b) id stop → HoldsNot meta None id stop
+forgotten meta b id (fetches.Damaged at (Rule rule)) holds = (holds.0, holds.1, tt)
+forgotten meta b id (fetches.Damaged at (Level asked found)) holds = holds
+forgotten meta b id (fetches.Damaged at (Extent asked found)) holds = holds
+forgotten meta b id fetches.ReadFault holds = tt
+forgotten meta b id fetches.NoMemory holds = tt
+
+pub read_not : {X : Type 0} (result : Result X FetchStop) (told : Option (List ℕ)) (bytes : List ℕ) (place : List ℕ → List ℕ) (meta : Meta) (id : ℕ) → IfErr result (HoldsNot meta (Some bytes) id) → IfSome told (λ b. bytes ≡ place b)
+    → IfErr result (HoldsNot meta (option_map place told) id)
 read_not (Ok page) told bytes place meta id why read = tt
-read_not (Err stop) None bytes place meta id why read = tt
-read_not (Err stop) (Some b) bytes place meta id why read = subst (λ l. HoldsNot meta l id stop) read why
+read_not (Err stop) None bytes place meta id why read = forgotten meta bytes id stop why
+read_not (Err stop) (Some b) bytes place meta id why read = subst (λ l. HoldsNot meta (Some l) id stop) read why
+
+if_mapped : (told : Option (List ℕ)) (place : List ℕ → List ℕ) (P : List ℕ → Type 0) → IfSome (option_map place told) P → IfSome told (λ b. P (place b))
+if_mapped None place P h = tt
+if_mapped (Some b) place P h = h
+
+-- so a page of the file isn't fetched
+pub fetches_not : (meta : Meta) (d : DiskModel) (id : ℕ) (stop : FetchStop) → ¬ (IsNoPage meta id) → HoldsNot meta (option_map (place_bytes meta id) d.told) id stop → FetchesNot meta d id stop
+fetches_not meta d id (fetches.Damaged at (Rule rule)) page holds = (holds.0, inr (holds.1, page, if_mapped d.told (place_bytes meta id) (λ b. IsDamagedBy meta b rule) holds.2))
+fetches_not meta d id (fetches.Damaged at (Level asked found)) page holds = holds
+fetches_not meta d id (fetches.Damaged at (Extent asked found)) page holds = holds
+fetches_not meta d id fetches.ReadFault page holds = page
+fetches_not meta d id fetches.NoMemory page holds = page
 
 -- ---- a page brought into memory
 
@@ -215,14 +235,14 @@ not_damaged once s id rule p bytes sound there spelled damaged = elim damaged [
 ]
 
 pub sound_stop : SpelledOnce → (d : DiskModel) (st : StoreState) (durable : FileState) (later : List FileState) (id : ℕ) (stop : FetchStop) → IsDisk d → StoreKeeps d st durable later → 1 ≤ id → id ≤ st.meta.high → in_memory st id ≡ None
-    → IfSome d.told (λ b. HoldsNot st.meta (place_bytes st.meta id b) id stop) → IsSound (last_of durable later) → stop ≢ fetches.ReadFault → stop ≢ fetches.NoMemory → ⊥
+    → HoldsNot st.meta (option_map (place_bytes st.meta id) d.told) id stop → IsSound (last_of durable later) → stop ≢ fetches.ReadFault → stop ≢ fetches.NoMemory → ⊥
 sound_stop once d st durable later id stop disk k some high none why sound fault memory =
     let b = some_value d.told k.disk.told in
     let p = there_in_place d st durable later id b.0 disk k some high none b.1 in
-    let holds : HoldsNot st.meta (place_bytes st.meta id b.0) id stop = subst (λ (t : Option (List ℕ)). IfSome t (λ l. HoldsNot st.meta (place_bytes st.meta id l) id stop)) b.1 why in
+    let holds : HoldsNot st.meta (Some (place_bytes st.meta id b.0)) id stop = subst (λ (t : Option (List ℕ)). HoldsNot st.meta (option_map (place_bytes st.meta id) t) id stop) b.1 why in
     by_stop stop holds fault memory p
   where
-    by_stop : (stop : FetchStop) → HoldsNot st.meta (place_bytes st.meta id (some_value d.told k.disk.told).0) id stop → stop ≢ fetches.ReadFault → stop ≢ fetches.NoMemory → PageThere d st durable later id (some_value d.told k.disk.told).0 → ⊥
+    by_stop : (stop : FetchStop) → HoldsNot st.meta (Some (place_bytes st.meta id (some_value d.told k.disk.told).0)) id stop → stop ≢ fetches.ReadFault → stop ≢ fetches.NoMemory → PageThere d st durable later id (some_value d.told k.disk.told).0 → ⊥
     by_stop (fetches.Damaged at (Rule rule)) holds fault memory p =
         not_damaged once (last_of durable later) id rule p.0 _ sound p.1 p.2 (subst (λ m. IsDamagedBy m (place_bytes st.meta id (some_value d.told k.disk.told).0) rule) (sym k.memory.meta_is) holds.2)
     by_stop (fetches.Damaged at (Level asked found)) holds fault memory p = holds

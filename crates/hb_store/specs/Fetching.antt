@@ -1,5 +1,5 @@
 -- What a fetch reads and makes of a store, and why it brings no page.
-use Rattle.std.specs.Prelude.{◌≡◌, ◌≢◌, ◌⊎◌, ℕ, ◌<◌, List, IfSome}
+use Rattle.std.specs.Prelude.{◌≡◌, ◌≢◌, ◌⊎◌, ℕ, ◌<◌, List, Option, IfSome}
 use Rattle.hb_disk.specs.Model.{DiskModel}
 use Rattle.hb_frag.specs.declared.pages.Page.{Page}
 use Rattle.hb_frag.specs.declared.pages.Page.TheVariants.{Live}
@@ -59,18 +59,11 @@ BreaksHere meta id page (fetches.Damaged at (Extent asked found)) = ⊥
 BreaksHere meta id page fetches.ReadFault = ⊥
 BreaksHere meta id page fetches.NoMemory = ⊥
 
--- The bytes hold no good page, and the stop says why. A fault and want of memory say nothing of them.
-abbrev pub HoldsNot : Meta → List ℕ → ℕ → FetchStop → Type 0
-HoldsNot meta bytes id (fetches.Damaged at (Rule rule)) = (at ≡ id) × (rule ≢ 1) × IsDamagedBy meta bytes rule
+-- Why the place of a page gave none: it holds no good page, by its bytes where they are known, and the stop says why. A
+-- fault and want of memory say nothing of it.
+abbrev pub HoldsNot : Meta → Option (List ℕ) → ℕ → FetchStop → Type 0
+HoldsNot meta bytes id (fetches.Damaged at (Rule rule)) = (at ≡ id) × (rule ≢ 1) × IfSome bytes (λ b. IsDamagedBy meta b rule)
 HoldsNot meta bytes id (fetches.Damaged at (Level asked found)) = ⊥
 HoldsNot meta bytes id (fetches.Damaged at (Extent asked found)) = ⊥
 HoldsNot meta bytes id fetches.ReadFault = Unit {0}
 HoldsNot meta bytes id fetches.NoMemory = Unit {0}
-
--- what may stop a fetch whose number is a page's
-abbrev pub IsFetchStop : ℕ → FetchStop → Type 0
-IsFetchStop id (fetches.Damaged at (Rule rule)) = (at ≡ id) × (rule ≢ 1)
-IsFetchStop id (fetches.Damaged at (Level asked found)) = ⊥
-IsFetchStop id (fetches.Damaged at (Extent asked found)) = ⊥
-IsFetchStop id fetches.ReadFault = Unit {0}
-IsFetchStop id fetches.NoMemory = Unit {0}

@@ -1,4 +1,4 @@
-ghost use Rattle.std.specs.Prelude.{◌≡◌, ◌≢◌, List, None, IfOk, IfErr, IfSome, IsErrOf, IsOk, OnOk, OnErr, IsSome};
+ghost use Rattle.std.specs.Prelude.{◌≡◌, ◌≢◌, List, None, IfOk, IfErr, IfSome, IsErrOf, IsOk, OnOk, OnErr, IsSome, Some, option_map};
 ghost use Rattle.hb_ops.specs.Files.{FileState};
 ghost use Rattle.hb_ops.specs.Sound.{IsSound};
 ghost use Rattle.hb_frag.specs.Grammar.{HasSpelling, SpellsPage};
@@ -7,7 +7,7 @@ ghost use Rattle.hb_store.specs.States.{IsGoodPage, in_memory};
 ghost use Rattle.hb_store.specs.Keeps.{StoreKeeps, last_of};
 ghost use Rattle.hb_store.specs.Opening.{place_bytes};
 ghost use Rattle.hb_store.specs.Replaying.{IsPageOf};
-ghost use Rattle.hb_store.specs.Fetching.{LooksUp, BreaksHere, HoldsNot, IsFetchStop, FetchesNot, IsNoPage};
+ghost use Rattle.hb_store.specs.Fetching.{LooksUp, BreaksHere, HoldsNot, FetchesNot, IsNoPage};
 ghost use Rattle.hb_store.specs.Seen.{seen_as};
 ghost use Rattle.hb_store.specs.Calls.{Fetched};
 ghost use Rattle.hb_store.specs.declared.stops.FetchStop.TheVariants.{ReadFault};
@@ -57,8 +57,7 @@ impl<D: Device> Store<D> {
         requires { IsPageOf (seen_as self.old).meta id }
         ensures there { IfOk result (λ page. IfSome (D.model self.old.disk).told (λ b. SpellsPage (place_bytes (seen_as self.old).meta id b) page)) }
         ensures good { IfOk result (λ page. IsGoodPage (seen_as self.old).meta page) }
-        ensures why { IfErr result (λ stop. IfSome (D.model self.old.disk).told (λ b. HoldsNot (seen_as self.old).meta (place_bytes (seen_as self.old).meta id b) id stop)) }
-        ensures kinds { IfErr result (IsFetchStop id) }
+        ensures why { IfErr result (HoldsNot (seen_as self.old).meta (option_map (place_bytes (seen_as self.old).meta id) (D.model self.old.disk).told) id) }
         ensures kept { seen_as self.new ≡ seen_as self.old }
         ensures looks { LooksUp (IsErrOf result ReadFault) (D.model self.old.disk) (D.model self.new.disk) (seen_as self.old) (seen_as self.new) }
     {
@@ -85,7 +84,7 @@ pub(crate) fn damaged(page: u32, rule: u8) -> FetchStop
 fn page_in(alloc: Global, meta: &Meta, id: u32, bytes: &[u8]) -> Result<Page, FetchStop>
     ensures there { IfOk result (λ page. SpellsPage bytes.now page) }
     ensures good { IfOk result (λ page. IsGoodPage meta.now page) }
-    ensures why { IfErr result (HoldsNot meta.now bytes.now id) }
+    ensures why { IfErr result (HoldsNot meta.now (Some bytes.now) id) }
     ensures no_fault { IsErrOf result ReadFault → ⊥ }
 {
     match decode(alloc, bytes) {

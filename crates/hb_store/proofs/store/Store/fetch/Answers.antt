@@ -10,7 +10,7 @@ use Rattle.hb_disk.proofs.Facts.FaultLaws.{ReadsOnly-as}
 use Rattle.hb_store.specs.declared.stops.FetchStop.TheVariants.{ReadFault}
 use Rattle.hb_store.proofs.Facts.LookLaws.{LooksUp-none, LooksUp-as, LooksUp-stop}
 use Rattle.hb_store.specs.Seen.{seen_as}
-use Rattle.hb_store.proofs.Fetched.{none_there, no_page_in, keeps_read, keeps_fetched, held_there, is_the_page, fetched_with, sound_stop}
+use Rattle.hb_store.proofs.Fetched.{fetches_not, none_there, no_page_in, keeps_read, keeps_fetched, held_there, is_the_page, fetched_with, sound_stop}
 use Rattle.hb_store.proofs.store.Store.fetch.Goals.{then-id-eq0-via-then-id-eq0, then-id-eq0-via-else-id-eq0+then-id-high}
 use Rattle.hb_store.proofs.store.Store.fetch.Goals as goal
 
@@ -24,6 +24,16 @@ pub returns-in_err-page-clause-looks : goal.returns-in_err-page-clause-looks
 returns-in_err-page-clause-looks g c =
     let p = err_from_is_err_and c.from_residual.result c.from_residual.ensures.1 in
     LooksUp-stop _ c.from_residual.result p.0 (ap Err (sym p.2)) p.1 (g.D.Device.model c.args.self.now.disk) (g.D.Device.model c.read_page.new.self.disk) (seen_as c.args.self.now) (seen_as c.read_page.new.self) c.in_err-page.ensures.looks
+
+pub returns-in_err-page-clause-why : goal.returns-in_err-page-clause-why
+returns-in_err-page-clause-why g c =
+    let st = seen_as c.args.self.now in
+    let p = err_from_is_err_and c.from_residual.result c.from_residual.ensures.1 in
+    let page : ¬ (IsNoPage st.meta c.args.id) = λ no. elim no [
+      | inl zero ↦ absurd (omega (arith, zero, c.if-id-eq0.false))
+      | inr above ↦ absurd (omega (arith, above, c.if-id-high.false, ap (λ (m : Meta). m.high) c.meta.ensures.meta))
+    ] in
+    rw (p.1, p.2) (fetches_not st.meta (g.D.Device.model c.args.self.now.disk) c.args.id c.in_err-page.field-0.0 page c.in_err-page.ensures.why)
 
 pub returns-in_err-page-clause-sound : goal.returns-in_err-page-clause-sound
 returns-in_err-page-clause-sound g c =

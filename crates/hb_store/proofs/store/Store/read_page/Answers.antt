@@ -1,4 +1,4 @@
-use Rattle.std.proofs.Common.{◌≡◌, ◌∙◌, ap, refl, subst}
+use Rattle.std.proofs.Common.{◌≡◌, ◌∙◌, Some, ap, refl, subst}
 use Rattle.std.specs.Prelude.{IfErr, IfSome}
 use Rattle.hb_layout.specs.Offsets.{page_offset}
 use Rattle.hb_layout.specs.declared.meta.Meta.{Meta}
@@ -26,7 +26,7 @@ returns-in-Ok-clause-why g c =
     let place = place_bytes meta c.args.id in
     let at : c.page_offset-place.result ≡ page_offset meta c.args.id = c.page_offset-place.ensures ∙ ap (λ (m : Meta). page_offset m c.args.id) c.meta.ensures.meta in
     let read : IfSome d.told (λ b. c.read.new.into ≡ place b) = placed_read d c.page_offset-place.result c.read.new.into meta c.args.id c.in-Ok.ensures.bytes c.read.auto.into at in
-    let why : IfErr c.page_in.result (HoldsNot meta c.read.new.into c.args.id) = subst (λ (m : Meta). IfErr c.page_in.result (HoldsNot m c.read.new.into c.args.id)) c.meta-in-Ok.ensures.meta c.page_in.ensures.why in
+    let why : IfErr c.page_in.result (HoldsNot meta (Some c.read.new.into) c.args.id) = subst (λ (m : Meta). IfErr c.page_in.result (HoldsNot m (Some c.read.new.into) c.args.id)) c.meta-in-Ok.ensures.meta c.page_in.ensures.why in
     read_not c.page_in.result d.told c.read.new.into place meta c.args.id why read
 
 pub returns-in-Ok-clause-looks : goal.returns-in-Ok-clause-looks
