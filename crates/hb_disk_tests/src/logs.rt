@@ -222,9 +222,9 @@ const PUT: [u8; 16] = [0, 1, 0, 0, 0, 1, 0, 0, 0, 0, 0, 0, 0, 5, 1, b'a'];
 fn put<D: Device>(alloc: Global, disk: &mut D) -> Result<[u32; 3], Fail>
     requires { 22 ≤ (D.model disk.old).size }
 {
-    if zero_area(disk, 1, 21).is_err() {
+    let Ok(()) = zero_area(disk, 1, 21) else {
         return Err("the area wasn't zeroed".into());
-    }
+    };
     let mut log = Wal::new(alloc, 1, 21)?;
     let before = log.room();
     log.append(&PUT, 0);
