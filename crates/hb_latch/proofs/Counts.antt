@@ -4,15 +4,14 @@ use Rattle.std.specs.Ordering.{is_lt, is_eq, eq_by_cmp}
 use Rattle.std.specs.FinMap as map
 use Rattle.std.specs.FinMap.{find, put, is_sorted}
 use Rattle.std.specs.FinMap.Entries.{below_all, by_order}
-use Rattle.std.specs.declared.cmp.Ordering.{Ordering}
 use Rattle.std.specs.declared.cmp.Ordering.TheVariants.{Less, Equal, Greater}
 use Rattle.std.proofs.Math.Dec.{T}
-use Rattle.std.proofs.lemmas.Bool.{and_parts, false≢true}
+use Rattle.std.proofs.lemmas.Bool.{and_parts}
 use Rattle.std.proofs.lemmas.List.Sums.{sum_by-cons}
 use Rattle.hb_latch.specs.declared.modes.Mode.{Mode}
 use Rattle.hb_latch.specs.Tables.{LatchTable, latch_cmp, mode_at, latches_of}
 use Rattle.hb_latch.proofs.KeyOrder.{latch_order, exact_keys, without, entries-remove}
-use Rattle.hb_latch.proofs.KeyPlaces.{less_so}
+use Rattle.hb_lemmas.proofs.Orderings.{equal_so, less_so}
 
 abbrev Entry : Type 0
 Entry = (ℕ × ℕ) × Mode
@@ -23,11 +22,6 @@ share actor es = count_by (λ e. e.0.0 == actor) es
 
 share_cons : (actor : ℕ) (e : Entry) (es : List Entry) → share actor (e ∷ es) ≡ cond (e.0.0 == actor) 1 0 + share actor es
 share_cons actor e es = sum_by-cons (λ (x : Entry). cond (x.0.0 == actor) 1 0) e es
-
-equal_so : (o : Ordering) → is_eq o ≡ true → o ≡ Equal
-equal_so Less h = absurd (false≢true h)
-equal_so Equal h = refl
-equal_so Greater h = absurd (false≢true h)
 
 -- a key isn't found among greater ones
 find_less : (key k : ℕ × ℕ) (es : List Entry) → latch_cmp key k ≡ Less → below_all latch_cmp k es ≡ true → find latch_cmp key es ≡ None

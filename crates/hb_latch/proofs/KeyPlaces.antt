@@ -16,15 +16,11 @@ use Rattle.hb_latch.specs.declared.entries.Held.{Held}
 use Rattle.hb_latch.specs.Tables.{latch_cmp}
 use Rattle.hb_latch.specs.Entries.{key_of, table_entries, IsHeldAt, IsGapOf}
 use Rattle.hb_latch.proofs.KeyOrder.{latch_order, exact_keys, without}
+use Rattle.hb_lemmas.proofs.Orderings.{less_so}
 
 -- their keys rise
 abbrev pub KeysRise : List Held → Type 0
 KeysRise latches = IsTrue (is_sorted latch_cmp (table_entries latches))
-
-pub less_so : (o : Ordering) → is_lt o ≡ true → o ≡ Less
-less_so Less h = refl
-less_so Equal h = absurd (false≢true h)
-less_so Greater h = absurd (false≢true h)
 
 -- of two keys the lesser one is first
 turned : (p q : ℕ × ℕ) (o : Ordering) → latch_cmp p q ≡ o → latch_cmp q p ≡ ordering_reverse o

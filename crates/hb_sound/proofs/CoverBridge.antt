@@ -31,6 +31,7 @@ use Rattle.hb_sound.proofs.Bridge.{live_seen, page_item, seen_live}
 use Rattle.hb_lemmas.proofs.Lists.{only_one}
 use Rattle.hb_sound.proofs.LeafBridge.{known_area}
 use Rattle.hb_sound.proofs.Levels.{seen_fact}
+use Rattle.hb_ops.proofs.Facts.PlacedLaws.{placed}
 
 -- how often sibling leaves name each page, as counts that go up to two
 abbrev pub IsNamedBy : List Fact → List Page → List Times → Type 0
@@ -187,9 +188,6 @@ to_loose meta facts list named are keeps match names id (inr loose) =
         record { here = here; least = λ other at. loose.1.least other (from_is_loose meta facts list are named names other at) },
       ),
     )
-
-abbrev placed : Leaf → Area → Placed
-placed leaf area = record { leaf = leaf; area = area }
 
 -- a sibling leaf with this box names the page
 record IsNaming (id : ℕ) (all : List Placed) (a : Area) : Type 0 where

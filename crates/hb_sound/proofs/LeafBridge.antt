@@ -28,13 +28,10 @@ use Rattle.hb_sound.specs.Told.{item_at}
 use Rattle.hb_sound.specs.Walks.{IsLeast}
 use Rattle.hb_sound.proofs.Bridge.{live_seen, seen_live}
 use Rattle.hb_sound.proofs.Firsts.{item_within}
-use Rattle.hb_lemmas.proofs.Lists.{only_one}
+use Rattle.hb_lemmas.proofs.Lists.{only_one, first_member}
 use Rattle.hb_sound.proofs.Levels.{seen_fact}
 use Rattle.hb_sound.proofs.LocalBridge.{fits}
 use Rattle.hb_ops.proofs.Facts.PlacedLaws.{placed, leaf_is_sibling, sibling_is_leaf}
-
-contains_head : {X : Type 0} (x : X) (xs : List X) → Contains (x ∷ xs) x
-contains_head x xs = (0, omega arith, refl)
 
 -- the box of a leaf has as many attributes as that of its tree
 leaf_attributes : (tree : Tree) (area : Area) (leaf : Leaf) (a : Area) → Contains (leaves_of tree area) (placed leaf a) → length a.lo ≡ length area.lo
@@ -131,7 +128,7 @@ module _ (facts : List Fact) (level : ℕ) where
 bad_one : (P : Placed → Type 0) → ((x : Placed) → Known (P x)) → (xs : List Placed) → ¬ (All P xs) → (x : Placed) × Contains xs x × (¬ (P x))
 bad_one P know [] fails = absurd (fails (All-nil P))
 bad_one P know (x ∷ xs) fails = elim (know x) [
-  | inr bad ↦ (x, contains_head {X = Placed} x xs, bad)
+  | inr bad ↦ (x, first_member {X = Placed} x xs, bad)
   | inl good ↦
       let rest = bad_one P know xs (λ all. fails (All-cons P x xs good all)) in
       (rest.0, Contains-append_right (x ∷ []) xs rest.0 rest.1, rest.2)

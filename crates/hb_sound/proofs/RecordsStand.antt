@@ -1,12 +1,9 @@
 -- Where the records of a file stand: what its contents have under a point is the body of a record of some leaf, and the other way round.
-use Rattle.std.proofs.Common.{◌≡◌, ℕ, zero, suc, ◌==◌, inl, inr, Bool, true, false, cond, List, [], ◌∷◌, map, flat_map, length, slice_get, Option, Some, refl, sym, ap, subst, ◌∙◌, arith, eq-eqb, ne_eqb}
+use Rattle.std.proofs.Common.{◌≡◌, ℕ, zero, suc, ◌==◌, inl, inr, Bool, true, false, cond, List, [], ◌∷◌, map, flat_map, length, slice_get, Some, refl, sym, ap, subst, ◌∙◌, arith, eq-eqb, ne_eqb}
 use Rattle.std.specs.List.{Contains}
-use Rattle.std.specs.Ordering.{eq_by_cmp, is_eq}
-use Rattle.std.specs.declared.cmp.Ordering.{Ordering}
-use Rattle.std.specs.declared.cmp.Ordering.TheVariants.{Less, Equal, Greater}
+use Rattle.std.specs.Ordering.{eq_by_cmp}
 use Rattle.std.specs.FinMap as finite
-use Rattle.std.specs.FinMap.{IsAntisymmetric, nat_cmp-IsAntisymmetric, slice_cmp-IsAntisymmetric}
-use Rattle.std.proofs.lemmas.Bool.{cases_eq, false≢true}
+use Rattle.std.proofs.lemmas.Bool.{cases_eq}
 use Rattle.std.proofs.lemmas.Cmp.{nat_list_cmp_total}
 use Rattle.std.proofs.lemmas.Grind.{flat_map-append}
 use Rattle.std.proofs.lemmas.List.Elements.{All-contains, Contains-append_cases, Contains-append_left, Contains-append_right}
@@ -28,6 +25,9 @@ use Rattle.hb_sound.specs.PointWalks.{IsPointOf}
 use Rattle.hb_sound.proofs.OneLevel.{TreeLaws}
 use Rattle.hb_sound.proofs.PagePlaces.{live_there}
 use Rattle.hb_ops.proofs.Facts.PlacedLaws.{placed}
+use Rattle.hb_lemmas.proofs.Orderings.{equal_so}
+use Rattle.hb_space.proofs.Facts.PointOrder.{exact_points}
+use Rattle.hb_ops.proofs.Facts.Finds.{body_at, entry_of}
 
 -- a leaf of a page of level 0 has the record
 pub record HasRecord (s : FileState) (r : Record) : Type 0 where
@@ -38,21 +38,6 @@ pub record HasRecord (s : FileState) (r : Record) : Type 0 where
   pub leaf : Placed
   pub there : Contains (leaves_of page.frag page.area) leaf
   pub among : Contains (records_of leaf.leaf) r
-
--- the first body under a point, and the record that has it
-pub exact_points : IsAntisymmetric point_cmp
-exact_points = slice_cmp-IsAntisymmetric nat_cmp-IsAntisymmetric
-
-equal_so : (o : Ordering) → is_eq o ≡ true → o ≡ Equal
-equal_so Less h = absurd (false≢true h)
-equal_so Equal h = refl
-equal_so Greater h = absurd (false≢true h)
-
-abbrev entry_of : Record → List ℕ × List ℕ
-entry_of r = (r.key, r.body)
-
-abbrev body_at : List ℕ → List Record → Option (List ℕ)
-body_at q records = finite.find point_cmp q (map entry_of records)
 
 -- a record of the list has this point and this body
 record Gives (records : List Record) (q body : List ℕ) : Type 0 where

@@ -1,8 +1,8 @@
 -- What is left of the leaves of a page, leaf by leaf, and what that adds once all pages were read.
-use Rattle.std.proofs.Common.{◌≡◌, ◌↔◌, ◌⊎◌, inl, inr, ℕ, zero, suc, ◌-◌, ◌≤◌, ◌==◌, Bool, true, false, IsTrue, if◌then◌else◌, List, [], ◌∷◌, ◌++◌, length, All, Contains, Option, Some, None, option_map, IfSome, get_or, slice_set, take, refl, sym, ap, ◌∙◌, subst, arith}
+use Rattle.std.proofs.Common.{◌≡◌, ◌↔◌, ◌⊎◌, inl, inr, ℕ, zero, suc, ◌-◌, ◌≤◌, ◌==◌, Bool, true, false, IsTrue, if◌then◌else◌, List, [], ◌∷◌, ◌++◌, length, All, Contains, Option, Some, None, option_map, IfSome, slice_set, take, refl, sym, ap, ◌∙◌, subst, arith}
 use Rattle.std.proofs.Math.Seq.{take-append_seam}
 use Rattle.std.proofs.lemmas.Bool.{false≢true}
-use Rattle.std.proofs.lemmas.List.{append-nil, append_assoc, set-get_or, set-set}
+use Rattle.std.proofs.lemmas.List.{append-nil, append_assoc}
 use Rattle.std.proofs.lemmas.List.Elements.{All-append, All-cons, All-contains, All-nil}
 use Rattle.hb_space.specs.Boxes.{Area}
 use Rattle.hb_frag.specs.declared.leaves.Leaf.{Leaf}
@@ -79,10 +79,6 @@ module _ (facts : List Fact) (level : ℕ) (before : List Placed) where
       let H : List ℕ → Type 0 = λ l. IsRestOf facts level ((before ++ first) ++ leaves_of right (record { lo = slice_set lo axis value; hi = l })) rest in
       let Q : List Placed → Type 0 = λ l. IsRestOf facts level l rest in
       subst Q (append_assoc before first (leaves_of right (record { lo = slice_set lo axis value; hi = hi }))) (subst H above (subst L below is))
-
--- a value that was changed and put back
-pub put_back : (xs changed : List ℕ) (at value d : ℕ) → changed ≡ slice_set xs at value → slice_set changed at (get_or xs at d) ≡ xs
-put_back xs changed at value d is = ap (λ (l : List ℕ). slice_set l at (get_or xs at d)) is ∙ set-set xs at value (get_or xs at d) ∙ set-get_or xs at d
 
 -- the values that were copied into a longer list
 pub front : (copied behind values : List ℕ) (n : ℕ) → n ≡ length values → copied ≡ values → take n (copied ++ behind) ≡ values

@@ -22,10 +22,11 @@ use Rattle.hb_sound.proofs.OneLevel.{TreeLaws}
 use Rattle.hb_ops.proofs.Facts.StemLaws.{PartLaws}
 use Rattle.hb_sound.proofs.Partition.{SpaceLaws, pages_have_boxes, standing_is_contents}
 use Rattle.hb_sound.proofs.RecordsParted.{AmongLeaves, ShareRecords, share_records}
-use Rattle.hb_sound.proofs.RecordsStand.{HasRecord, contents_stand, exact_points, stands_at}
+use Rattle.hb_sound.proofs.RecordsStand.{HasRecord, contents_stand, stands_at}
 use Rattle.hb_sound.proofs.SplitChains.{not_fresh, same_Some}
 use Rattle.hb_sound.proofs.SplitSound.{comes_from, split_sound}
 use Rattle.hb_sound.proofs.Widths.{width, width_between}
+use Rattle.hb_space.proofs.Facts.PointOrder.{exact_points}
 
 -- a record of a leaf of a page is one of the file
 in_file : (s : FileState) (id : ℕ) (page : LivePage) (r : Record) → live_page s id ≡ Some page → page.level ≡ 0 → AmongLeaves (leaves_of page.frag page.area) r → HasRecord s r

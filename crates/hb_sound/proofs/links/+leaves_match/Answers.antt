@@ -1,9 +1,8 @@
 use Rattle.std.proofs.Common.{ℕ, ◌-◌, List, length, ap, sym, ◌∙◌, rules}
 use Rattle.std.proofs.lemmas.List.{length-set}
-use Rattle.hb_lemmas.proofs.Lists.{one_tells}
+use Rattle.hb_lemmas.proofs.Lists.{one_tells, put_back}
 use Rattle.hb_sound.specs.Facts.{FindsBelow, FindsSame}
 use Rattle.hb_sound.proofs.LeafTests.{both_match, right_cut}
-use Rattle.hb_sound.proofs.RestSteps.{put_back}
 use Rattle.hb_sound.proofs.links.+leaves_match.Goals as goal
 
 pub returns-in-Tip-clause-siblings : goal.returns-in-Tip-clause-siblings

@@ -2,8 +2,9 @@ use Rattle.std.proofs.Common.{ℕ, ◌++◌, ◌-◌, slice_set, subst}
 use Rattle.hb_frag.specs.Leaves.{leaves_of}
 use Rattle.hb_frag.specs.Trees.{Cut}
 use Rattle.hb_sound.specs.Rests.{IsRestOf}
-use Rattle.hb_sound.proofs.RestSteps.{cut_more, put_back}
+use Rattle.hb_sound.proofs.RestSteps.{cut_more}
 use Rattle.hb_sound.proofs.rests.+add_leaves.Goals as goal
+use Rattle.hb_lemmas.proofs.Lists.{put_back}
 
 pub returns-in-Tip-clause-rest : goal.returns-in-Tip-clause-rest
 returns-in-Tip-clause-rest t c before is = rw (← c.frag.view_is, c.in-Tip.is) (c.add_leaf.ensures before is)
