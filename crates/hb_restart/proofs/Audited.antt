@@ -1,10 +1,15 @@
 -- What an audit's answer says of the bytes of a file that is opened.
-use Rattle.std.proofs.Common.{◌≡◌, inl, inr, ℕ, zero, suc, ◌+◌, ◌-◌, ◌*◌, ◌<◌, ◌≤◌, ◌^◌, List, [], ◌∷◌, length, take, drop, get_or, slice_get, All, Option, Some, None, IfSome, refl, sym, ap, subst, ◌∙◌, arith, length-take}
+use Rattle.std.proofs.Common.{◌≡◌, inl, inr, ℕ, zero, suc, ◌+◌, ◌-◌, ◌*◌, ◌<◌, ◌≤◌, ◌^◌, List, [], ◌∷◌, length, take, drop, get_or, slice_get, All, Option, Some, None, IfSome, IfErr, Result, Ok, Err, refl, sym, ap, subst, ◌∙◌, arith, length-take}
 use Rattle.std.specs.Ordering.{nat_cmp}
 use Rattle.std.specs.BTreeMap.{BTreeMap, get}
 use Rattle.std.proofs.lemmas.Bool.{cases_lt}
 use Rattle.std.proofs.lemmas.List.{get_or-take, get_or-drop}
 use Rattle.std.proofs.lemmas.List.Elements.{All-get_or}
+use Rattle.hb_outside.specs.Calls.{Counts}
+use Rattle.hb_disk.specs.Model.{DiskModel, Stays}
+use Rattle.hb_disk.specs.Calls.{OnlyReads, ReadsOnly}
+use Rattle.hb_disk.proofs.Facts.FaultLaws.{Counts-as}
+use Rattle.hb_lemmas.proofs.Options.{at_value, if_value}
 use Rattle.hb_frag.specs.declared.pages.Page.{Page}
 use Rattle.hb_frag.specs.Grammar.{SpellsPage}
 use Rattle.hb_layout.specs.declared.meta.Meta.{Meta}
@@ -21,12 +26,13 @@ use Rattle.hb_store.specs.States.{IsSameLayout}
 use Rattle.hb_store.specs.Opening.{IsPageIn, Shows, place_bytes}
 use Rattle.hb_store.specs.Replay.{Replayed, untouched, replay}
 use Rattle.hb_restart.specs.Found.{IsFoundIn, IsReadIn, audit_fault, touched_pages}
-use Rattle.hb_restart.specs.Refusals.{LogSays, IsUnsound, LacksPage, Refuses}
+use Rattle.hb_restart.specs.Refusals.{IsRefusal, IsShut, LogSays, IsUnsound, LacksPage, Refuses}
 use Rattle.hb_restart.specs.Source.{touched_or, page_there, pages_from, told_pages}
 use Rattle.hb_restart.specs.declared.faults.OpenFault.{OpenFault}
 use Rattle.hb_restart.specs.declared.faults.OpenFault.TheVariants as faults
 use Rattle.hb_restart.specs.declared.reading.LogRead.{LogRead}
-use Rattle.hb_restart.proofs.Numbered.{page_at-place, some_number}
+use Rattle.hb_restart.proofs.Numbered.{some_number}
+use Rattle.hb_ops.proofs.Facts.PageNumberLaws.{page_at-suc}
 use Rattle.hb_restart.proofs.Told.{front_at, shown_each, told_at, told_is, told_long}
 
 -- bytes behind and in front of others are bytes
@@ -132,7 +138,7 @@ module _ (exact : PagesAreExact) (b : List ℕ) (are : AreBytes b) (said meta : 
         at : (id : ℕ) (p : Page) → page_of (file_of meta told) id ≡ Some p → ((k : ℕ) (q : Page) → slice_get (shown_pages front) k ≡ Some q → slice_get front k ≡ Some (Some q)) → IsPageIn b said id (t.page id) p
         at zero p is each = absurd (let first = some_number (shown_pages front) zero p is in omega (arith, first))
         at (suc k) p is each =
-            let here = each k p (sym (page_at-place (shown_pages front) k) ∙ is) in
+            let here = each k p (sym (page_at-suc (shown_pages front) k) ∙ is) in
             is_in (suc k) p (told_is page said.pages (suc k) (Some p) (front_at meta.high told k (Some p) here).1).2
 
 -- What the audit answers where the superblock and the log were read.
@@ -214,3 +220,23 @@ module _ (exact : PagesAreExact) (o : Option (List ℕ)) (are : (b : List ℕ) �
       by (Some b) are (stops.Broken page rule) names = λ there. names_unsound exact b (are b refl) read there layout same page rule names
       by (Some b) are stops.Failed names = λ there. tt
       by (Some b) are stops.NoMemory names = λ there. tt
+
+-- the audit fails where the source does
+pub failed_is : (stop : AuditStop) → audit_fault stop ≡ faults.DiskFault → stop ≡ stops.Failed
+failed_is (stops.Broken page rule) same = absurd (let never : ⊥ = cc same in never)
+failed_is stops.Failed same = refl
+failed_is stops.NoMemory same = absurd (let never : ⊥ = cc same in never)
+
+-- what asking for pages did to the disk
+pub asked_only : {F : Type 0} (failed : Type 0) (old new : DiskModel) → (failed → F) → (F → failed) → OnlyReads old new → Counts failed old.read_faults new.read_faults → ReadsOnly F old new
+asked_only failed old new to from reads counts = record { stays = reads.stays; reads = Counts-as old.read_faults new.read_faults to from counts; writes = reads.writes }
+
+-- a refusal of what was read, behind the reads
+pub refused_there : {A D : Type 0} (r : Result A (OpenFault × D)) (old mid : DiskModel) (read : LogRead) → Stays old mid → IfSome old.told (λ b. IsReadIn b read)
+    → IfErr r (λ e. IfSome mid.told (λ b. IsReadIn b read → Refuses e.0 b)) → IfErr r (λ e. IsShut mid.size e.0) → IfErr r (λ e. IsRefusal old e.0)
+refused_there (Ok v) old mid read stays here why shut = tt
+refused_there (Err e) old mid read stays here why shut = record {
+  why = if_value old.told (Refuses e.0) (λ b told.
+      at_value mid.told (λ b. IsReadIn b read → Refuses e.0 b) b (stays.told ∙ told) why (at_value old.told (λ b. IsReadIn b read) b told here));
+  shut = let Q : ℕ → Type 0 = λ n. IsShut n e.0 in subst Q stays.size shut;
+}

@@ -10,15 +10,12 @@ use Rattle.hb_layout.specs.Offsets.{file_size}
 use Rattle.hb_store.specs.Opening.{HasBadGroup, log_bytes, SpellAll, OpensToOne}
 use Rattle.hb_store.specs.Replay.{untouched, replay}
 use Rattle.hb_sound.specs.Names.{NamesIn, OneIsNamed}
-use Rattle.hb_sound.specs.Walks.{IsLeast}
 use Rattle.hb_restart.specs.Refusals.{Refuses, IsUnwritten, IsSmall, IsUnsound, HasLayout, LogSays, LacksPage}
 use Rattle.hb_restart.specs.declared.faults.OpenFault.{OpenFault}
 use Rattle.hb_restart.specs.declared.faults.OpenFault.TheVariants as faults
 use Rattle.hb_restart.proofs.BadFrames.{one_bad_group, bad_or_whole}
 use Rattle.hb_restart.proofs.NotRefused.{least_size, opens_so}
-
-least_one : (p : ℕ → Type 0) (m n : ℕ) → IsLeast p m → IsLeast p n → m ≡ n
-least_one p m n a b = let x = a.least n b.here in let y = b.least m a.here in omega (arith, x, y)
+use Rattle.hb_sound.proofs.LeastLaws.{least_one}
 
 same_small : (a b c d : ℕ) → a ≡ c → b ≡ d → ◌≡◌ {A = OpenFault} (faults.Small a b) (faults.Small c d)
 same_small a b c d e f = cc (e, f)

@@ -1,6 +1,7 @@
 -- Why a file isn't opened.
-use Rattle.std.specs.Prelude.{◌≡◌, ◌⊎◌, ℕ, ◌*◌, ◌≤◌, ◌<◌, List, length, None}
+use Rattle.std.specs.Prelude.{◌≡◌, ◌⊎◌, ℕ, ◌*◌, ◌≤◌, ◌<◌, List, length, None, IfSome}
 use Rattle.hb_space.specs.declared.form.TheConstants.{PAGE}
+use Rattle.hb_disk.specs.Model.{DiskModel}
 use Rattle.hb_wal.specs.Frames.{HasFrames}
 use Rattle.hb_super.specs.Superblocks.{IsNewest, HasNone}
 use Rattle.hb_frag.specs.declared.pages.Page.{Page}
@@ -63,6 +64,11 @@ IsShut size (faults.BadGroup frame) = Unit {0}
 IsShut size (faults.Unsound page rule) = Unit {0}
 IsShut size faults.DiskFault = Unit {0}
 IsShut size faults.NoMemory = Unit {0}
+
+-- why a disk isn't opened
+pub record IsRefusal (d : DiskModel) (fault : OpenFault) : Type 0 where
+  pub why : IfSome d.told (Refuses fault)
+  pub shut : IsShut d.size fault
 
 -- nothing is written before these
 abbrev pub IsUnwritten : OpenFault → Type 0
