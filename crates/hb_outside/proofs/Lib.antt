@@ -1,2 +1,4 @@
 pub mod Counts
 pub mod KnownLemmas
+pub mod Spelling
+pub mod Facts
