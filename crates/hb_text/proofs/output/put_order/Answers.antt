@@ -41,7 +41,7 @@ pub returns-in_err-put_numbers-2 : goal.returns-in_err-put_numbers-2
 returns-in_err-put_numbers-2 g c =
     let head = c.add.ensures ∙ ap (λ x. x ++ codes "order") c.new-piece.ensures in
     let settled = c.in_ok-put_numbers.ensures.buffers in
-    order_ends_later _ _ _ _ c.args.order.now c.args.settled _ _ _ _ _ c.from_residual.ensures.0 settled.done (settled.counts.no_fault (λ e. false≢true e)) head c.cut_at.ensures.front
+    order_ends_later _ _ _ _ c.args.order.now c.args.settled _ _ _ _ _ c.from_residual-in_err-put_numbers-2.ensures.0 settled.done (settled.counts.no_fault (λ e. false≢true e)) head c.cut_at.ensures.front
     c.bar.ensures.word c.add-2.ensures c.cut_at.ensures.rest c.in_err-put_numbers-2.ensures.buffers
 
 pub returns : goal.returns
