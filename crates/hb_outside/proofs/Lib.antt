@@ -1,4 +1,3 @@
 pub mod Counts
 pub mod KnownLemmas
-pub mod Spelling
 pub mod Facts
