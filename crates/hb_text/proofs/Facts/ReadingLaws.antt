@@ -10,10 +10,6 @@ pub bound : {A B E : Type 0} (r : Result A E) (f : A → Result B E) (y : B) →
 bound (Ok x) f y e = (x, refl, e)
 bound (Err d) f y e = cc
 
-pub chosen : {A : Type 0} (b : Bool) (x y z : A) → cond b x y ≡ z → ((b ≡ true) × (x ≡ z)) ⊎ ((b ≡ false) × (y ≡ z))
-chosen true x y z e = inl (refl, e)
-chosen false x y z e = inr (refl, e)
-
 pub ok_same : {A E : Type 0} (x y : A) → ◌≡◌ {A = Result A E} (Ok x) (Ok y) → x ≡ y
 ok_same x y e = cc
 
