@@ -1,5 +1,5 @@
 -- A number of a text is its decimal digits.
-use Rattle.std.specs.Prelude.{◌≡◌, ℕ, suc, ◌<◌, ◌^◌, ◌↔◌, Bool, true, false, ◌&&◌, nat_lt, List, [], ◌∷◌, length, Ok, Err}
+use Rattle.std.specs.Prelude.{◌≡◌, ℕ, suc, ◌<◌, ◌^◌, ◌↔◌, true, nat_lt, List, [], ◌∷◌, length, Ok, Err}
 use Rattle.std.proofs.Common.{rules, zero, refl, sym, ap, ◌∙◌, inl, inr, arith, get_or}
 use Rattle.std.specs.List.{list_all}
 use Rattle.std.specs.Char.{is_ascii_digit}
