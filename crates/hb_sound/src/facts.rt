@@ -80,7 +80,6 @@ fn records_in(page: &LivePage) -> u64
 
 /// The first rule that a page breaks by itself, 0 for none.
 fn own_rule(page: &LivePage, meta: &Meta) -> u8
-    requires { weight_of page.now.frag < 2 ^ 32 }
     ensures own { IsOwnRule result page.now meta.now }
     ensures cut { result ≡ 0 → WellCut page.now }
 {
