@@ -1,4 +1,4 @@
-ghost use Rattle.std.specs.Prelude.{◌≡◌, ◌<◌, ◌≤◌, ◌↔◌, None, Some, IsOk, IsSome, IfOk, IfErr, IfSome, OnOk, OnErr, option_map, find, count_by, ◌==◌, length, slice_set};
+ghost use Rattle.std.specs.Prelude.{◌≡◌, ◌<◌, ◌≤◌, ◌↔◌, None, Some, IsOk, IsSome, IfOk, IfErr, OnOk, OnErr, option_map, find, count_by, ◌==◌, length, slice_set};
 ghost use Rattle.std.specs.FinMap as map;
 ghost use Rattle.hb_latch.specs.declared.modes.Mode.TheVariants.{Update, Exclusive};
 ghost use Rattle.std.specs.FinMap.{find as lookup};

@@ -1,12 +1,11 @@
 //! Making a file.
-ghost use Rattle.std.specs.Prelude.{◌≡◌, ◌≢◌, ◌⊎◌, ℕ, ◌*◌, ◌+◌, ◌≤◌, ◌<◌, List, [], length, Some, None, OnOk, IfOk, IfErr, IfSome, IsSome, IsNone};
+ghost use Rattle.std.specs.Prelude.{◌≡◌, ◌≢◌, ◌⊎◌, ℕ, ◌*◌, ◌+◌, ◌≤◌, ◌<◌, List, [], Some, None, OnOk, IfOk, IfErr, IfSome, IsSome, IsNone};
 ghost use Rattle.hb_space.specs.declared.form.TheConstants.{PAGE};
 ghost use Rattle.hb_disk.specs.Model.{Torn};
 ghost use Rattle.hb_disk.specs.Runs.{Lasts, Rewrites};
 ghost use Rattle.hb_frag.specs.declared.pages.Page.{Page as Content};
 ghost use Rattle.hb_frag.specs.Grammar.{SpellsPage};
 ghost use Rattle.hb_layout.specs.Limits.{IsLayout};
-ghost use Rattle.hb_layout.specs.declared.meta.Meta.{Meta as Said};
 ghost use Rattle.hb_layout.specs.Offsets.{file_size};
 ghost use Rattle.hb_store.specs.Keeps.{IsFresh};
 ghost use Rattle.hb_store.specs.Seen.{seen_as, disk_of};

@@ -1,5 +1,5 @@
 //! The command `create`.
-ghost use Rattle.std.specs.Prelude.{◌≡◌, ◌≢◌, ℕ, ◌≤◌, ◌<◌, List, Option, IfOk, IfErr, IsSome, Some, None};
+ghost use Rattle.std.specs.Prelude.{◌≡◌, ◌≢◌, ℕ, ◌≤◌, ◌<◌, IfOk, IfErr, IsSome, Some, None};
 ghost use Rattle.hb_store.specs.Opening.{IsEven};
 ghost use Rattle.hb_outside.specs.Calls.{SourceModel};
 ghost use Rattle.hbpi.specs.SeenRuns.{seen_by};

@@ -1,12 +1,12 @@
 //! The steps of a schedule, and the output of its run.
-ghost use Rattle.std.specs.Prelude.{◌≡◌, ◌⊎◌, ◌≢◌, ◌↔◌, ℕ, ◌+◌, ◌^◌, ◌<◌, ◌≤◌, List, [], ◌++◌, length, map, drop, vec_len, IsSome, is_some, Some, None, IsTrue};
+ghost use Rattle.std.specs.Prelude.{◌≡◌, ◌⊎◌, ◌≢◌, ◌↔◌, ℕ, ◌+◌, ◌^◌, ◌<◌, ◌≤◌, [], ◌++◌, length, map, drop, vec_len, IsSome, is_some, Some, IsTrue};
 ghost use Rattle.std.specs.List.{flat_map};
 ghost use Rattle.std.specs.Vec.{vec_capacity};
 ghost use Rattle.hb_outside.specs.Calls.{Puts};
 ghost use Rattle.hb_set.specs.Machine.{RecordSet};
 ghost use Rattle.hb_set.specs.Scripts.{IsScriptFor};
 ghost use Rattle.hb_set.specs.declared.scripts.Line.{Line as Entry};
-ghost use Rattle.hb_text.specs.Output.{reply_text, answer_text, left_text, order_text};
+ghost use Rattle.hb_text.specs.Output.{answer_text, left_text, order_text};
 ghost use Rattle.hbpi.specs.DryParts.{PutsOn};
 ghost use Rattle.hbpi.specs.Beyond.{StaysInLog};
 ghost use Rattle.hbpi.specs.Core.{IsCore, settled_of};

@@ -1,5 +1,5 @@
 //! The command `drive`.
-ghost use Rattle.std.specs.Prelude.{◌≡◌, ℕ, ◌<◌, ◌≤◌, ◌↔◌, [], List, length, Option, All, IfOk, IfErr, OnOk, IsSome, IsTrue, Some, None};
+ghost use Rattle.std.specs.Prelude.{◌≡◌, ℕ, ◌<◌, ◌≤◌, ◌↔◌, [], Option, IfOk, IfErr, OnOk, IsSome, IsTrue, Some, None};
 ghost use Rattle.hb_outside.specs.Calls.{SourceModel};
 ghost use Rattle.hbpi.specs.SeenRuns.{seen_by};
 ghost use Rattle.hb_ops.specs.Files.{FileState};

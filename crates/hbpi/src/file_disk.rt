@@ -1,7 +1,7 @@
 //! A file as a disk.
-ghost use Rattle.std.specs.Prelude.{◌≡◌, ◌+◌, ◌≤◌, length, replicate, OnOk, OnErr};
-ghost use Rattle.hb_disk.specs.Model.{Stays, last_value};
-ghost use Rattle.hb_disk.specs.Calls.{Ticks, WriteFaults, Writes, Syncs, Reads, ReadFaults};
+ghost use Rattle.std.specs.Prelude.{◌≡◌, ◌+◌, ◌≤◌, length, OnOk, OnErr};
+ghost use Rattle.hb_disk.specs.Model.{last_value};
+ghost use Rattle.hb_disk.specs.Calls.{Writes};
 ghost use Rattle.hb_outside.specs.Streams.{Rose};
 ghost use Rattle.hb_disk.specs.Untold.{untold_of, untold_is_disk};
 

@@ -1,6 +1,6 @@
 ghost use Rattle.std.specs.Prelude.{◌≡◌, ◌+◌, ◌<◌, ◌≤◌, false, length, IsTrue, OnOk, IfOk, IsErrOf};
 ghost use Rattle.hb_outside.specs.Calls.{Counts};
-ghost use Rattle.hbpi.specs.Outcome.{IsTextOf, greatest_text};
+ghost use Rattle.hbpi.specs.Outcome.{IsTextOf};
 ghost use Rattle.hbpi.specs.Taking.{TakesPiece, IsAtEnd};
 ghost use Rattle.hbpi.specs.declared.texts.TextStop.TheVariants.{NoMemory};
 
