@@ -3,7 +3,7 @@ use Rattle.std.proofs.Common.{◌≡◌, inl, inr, ℕ, zero, suc, ◌+◌, ◌-
 use Rattle.std.specs.Ordering.{nat_cmp}
 use Rattle.std.specs.BTreeMap.{BTreeMap, get}
 use Rattle.std.proofs.lemmas.Bool.{cases_lt}
-use Rattle.std.proofs.lemmas.List.{get_or-take, get_or-drop}
+use Rattle.std.proofs.lemmas.List.{get_or-drop}
 use Rattle.std.proofs.lemmas.List.Elements.{All-get_or}
 use Rattle.hb_outside.specs.Calls.{Counts}
 use Rattle.hb_disk.specs.Model.{DiskModel, Stays}
@@ -34,22 +34,10 @@ use Rattle.hb_restart.specs.declared.reading.LogRead.{LogRead}
 use Rattle.hb_restart.proofs.Numbered.{some_number}
 use Rattle.hb_ops.proofs.Facts.PageNumberLaws.{page_at-suc}
 use Rattle.hb_restart.proofs.Told.{front_at, shown_each, told_at, told_is, told_long}
-
--- bytes behind and in front of others are bytes
-pub front_bytes : (n : ℕ) (bytes : List ℕ) → AreBytes bytes → AreBytes (take n bytes)
-front_bytes n bytes are i = elim (cases_lt i n) [
-  | inl less ↦ (let e = get_or-take n bytes i 0 less in let here = are i in omega (arith, e, here))
-  | inr most ↦ (let e = beyond n bytes i most in omega (arith, e))
-]
-  where
-    beyond : (n : ℕ) (bytes : List ℕ) (i : ℕ) → n ≤ i → get_or (take n bytes) i 0 ≡ 0
-    beyond zero bytes i most = refl
-    beyond (suc n) [] i most = refl
-    beyond (suc n) (b ∷ bytes) zero most = absurd (omega (arith, most))
-    beyond (suc n) (b ∷ bytes) (suc i) most = beyond n bytes i (omega (arith, most))
+use Rattle.hb_page_codec.proofs.Facts.Fields.{AreBytes-take}
 
 pub place_is_bytes : (said : Meta) (id : ℕ) (b : List ℕ) → AreBytes b → AreBytes (place_bytes said id b)
-place_is_bytes said id b are = front_bytes 4096 (drop (8192 + 2 * said.log + 4096 * (id - 1)) b) (λ i. let e = get_or-drop (8192 + 2 * said.log + 4096 * (id - 1)) b i 0 in let there = are (8192 + 2 * said.log + 4096 * (id - 1) + i) in omega (arith, e, there))
+place_is_bytes said id b are = AreBytes-take 4096 (drop (8192 + 2 * said.log + 4096 * (id - 1)) b) (λ i. let e = get_or-drop (8192 + 2 * said.log + 4096 * (id - 1)) b i 0 in let there = are (8192 + 2 * said.log + 4096 * (id - 1) + i) in omega (arith, e, there))
 
 pub disk_bytes : (b : List ℕ) → All (λ x. x < 2 ^ 8) b → AreBytes b
 disk_bytes b all i = elim (cases_lt i (length b)) [

@@ -1,17 +1,12 @@
 -- What making a file leaves of its disk.
-use Rattle.std.proofs.Common.{◌≡◌, ℕ, IsErr, Result, refl, subst}
-use Rattle.hb_disk.specs.Model.{DiskModel, IsDisk, Torn}
+use Rattle.std.proofs.Common.{◌≡◌, ℕ, IsErr, Result, subst}
+use Rattle.hb_disk.specs.Model.{DiskModel, Torn}
 use Rattle.hb_disk.specs.Runs.{Rewrites}
-use Rattle.hb_disk.proofs.Facts.FaultLaws.{Counts-as, Counts-none}
+use Rattle.hb_disk.proofs.Facts.FaultLaws.{Counts-as}
 use Rattle.hb_restart.specs.Beyond.{KeepsBeyond}
 use Rattle.hb_restart.specs.Creation.{LeavesMaking}
 use Rattle.hb_restart.specs.Layouts.{layout_size}
 use Rattle.hb_restart.specs.declared.layout.Layout.{Layout}
-use Rattle.hb_restart.proofs.Facts.Beyond.{beyond_none}
-
--- nothing
-pub leaves_unmade : {F : Type 0} (layout : Layout) (d : DiskModel) → IsDisk d → (F → ⊥) → LeavesMaking layout F d d
-leaves_unmade layout d is_d fine = record { beyond = beyond_none (layout_size layout) d is_d; writes = Counts-none d.write_faults fine; reads = refl }
 
 -- a run that writes the file
 pub leaves_written : {T E F : Type 0} (r : Result T E) (layout : Layout) (n : ℕ) (old new : DiskModel) → n ≡ layout_size layout → (IsErr r → F) → (F → IsErr r)

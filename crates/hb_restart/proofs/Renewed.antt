@@ -414,6 +414,3 @@ module _ (turn next : ℕ) (said meta : Meta) (small : turn ≤ 3) (is : next �
         let N : ℕ → Type 0 = λ n. IsFresh new n meta s in
         subst N is (written_fresh old ready b.0 b.1 super_long super_opens new is_new run (omega (arith, room, run.size)) durable
         (at_value old.told (λ b. IsNewest b turn said → IfSome new.told (λ c. IsNewest c next meta)) b.0 b.1 newest super_newest))
-
-pub not_none : {X : Type 0} (o : Option X) (x : X) → o ≡ Some x → o ≡ None → ⊥
-not_none o x is none = cc

@@ -23,11 +23,6 @@ pub on_ok_two : {T E : Type 0} (r : Result T E) (P Q S : Type 0) → (P → Q �
 on_ok_two (Ok v) P Q S f p q = f p q
 on_ok_two (Err e) P Q S f p q = tt
 
--- what a success gives where something holds
-pub on_ok_given : {T E : Type 0} (r : Result T E) (P Q : Type 0) → (P → OnOk r Q) → OnOk r (P → Q)
-on_ok_given (Ok v) P Q f = f
-on_ok_given (Err e) P Q f = tt
-
 -- what a success gives for each value
 pub on_ok_each : {T E X : Type 0} (r : Result T E) (P : X → Type 0) → ((x : X) → OnOk r (P x)) → OnOk r ((x : X) → P x)
 on_ok_each (Ok v) P f = f

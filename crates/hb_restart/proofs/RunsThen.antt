@@ -9,7 +9,7 @@ use Rattle.hb_layout.specs.Offsets.{slot_offset}
 use Rattle.hb_super.specs.Hidden.{Clears}
 use Rattle.hb_super.proofs.Facts.ClearLaws.{cleared_cause, cleared_faults_later, cleared_few, cleared_lasts, cleared_no_fault, cleared_place, cleared_synced}
 use Rattle.hb_restart.specs.Renewing.{DiskFaults, Runs}
-use Rattle.hb_restart.proofs.Facts.Beyond.{beyond_none, beyond_reads, beyond_then, beyond_wider}
+use Rattle.hb_restart.proofs.Facts.Beyond.{beyond_none, beyond_then, beyond_wider}
 
 -- no call failed
 pub faults_none : {F : Type 0} (d : DiskModel) → (F → ⊥) → DiskFaults F d d
@@ -60,14 +60,6 @@ faults_write old new faults = record {
 -- no call
 pub runs_none : {F : Type 0} (m within : ℕ) (d : DiskModel) → IsDisk d → (F → ⊥) → Runs m within F d d
 runs_none m within d is_d fine = record { beyond = beyond_none within d is_d; few = λ tells. omega arith; faults = faults_none d fine }
-
--- reads alone
-pub runs_read : {F : Type 0} (m within : ℕ) (old new : DiskModel) → IsDisk old → OnlyReads old new → ReadsOnly F old new → Runs m within F old new
-runs_read m within old new is_old reads only = record {
-  beyond = beyond_reads within old new is_old reads;
-  few = λ tells. omega (arith, only.stays.clock);
-  faults = faults_read old new only;
-}
 
 -- a run that writes in a range within the first bytes
 pub runs_rewrite : {T E : Type 0} (r : Result T E) (at n m within : ℕ) (old new : DiskModel) → at + n ≤ within → Rewrites (Torn at n) m r old new → Runs m within (IsErr r) old new

@@ -1,7 +1,7 @@
 use Rattle.std.proofs.Common.{◌≡◌, ◌+◌, ℕ, List, Some, refl, sym, arith}
 use Rattle.std.specs.Ordering.{nat_cmp}
 use Rattle.std.specs.BTreeMap.{get}
-use Rattle.hb_lemmas.proofs.Options.{on_ok_weaker}
+use Rattle.hb_lemmas.proofs.Options.{not_none, on_ok_weaker}
 use Rattle.hb_super.specs.Superblocks.{next_turn}
 use Rattle.hb_layout.specs.declared.meta.Meta.{Meta}
 use Rattle.hb_layout.specs.Offsets.{file_size, page_offset}
@@ -9,7 +9,7 @@ use Rattle.hb_frag.specs.Grammar.{SpellsPage}
 use Rattle.hb_ops.specs.Files.{FileState}
 use Rattle.hb_store.specs.Opening.{place_bytes}
 use Rattle.hb_restart.specs.Renewing.{IsPlacedTo}
-use Rattle.hb_restart.proofs.Renewed.{placed_moments, placed_there, placed_untouched, not_none}
+use Rattle.hb_restart.proofs.Renewed.{placed_moments, placed_there, placed_untouched}
 use Rattle.hb_restart.proofs.Facts.Beyond.{beyond_wider, page_within}
 use Rattle.hb_restart.proofs.RunsThen.{faults_write, runs_none}
 use Rattle.hb_disk.proofs.Facts.RunLaws.{one_tick}
