@@ -26,7 +26,7 @@ use Rattle.hb_store.specs.States.{IsSameLayout}
 use Rattle.hb_store.specs.Opening.{IsPageIn, Shows, place_bytes}
 use Rattle.hb_store.specs.Replay.{Replayed, untouched, replay}
 use Rattle.hb_restart.specs.Found.{IsFoundIn, IsReadIn, audit_fault, touched_pages}
-use Rattle.hb_restart.specs.Refusals.{IsRefusal, IsShut, LogSays, IsUnsound, LacksPage, Refuses}
+use Rattle.hb_restart.specs.Refusals.{IsRefusal, IsShut, LogSays, IsUnsound, LacksPage, RefusesBytes}
 use Rattle.hb_restart.specs.Source.{touched_or, page_there, pages_from, told_pages}
 use Rattle.hb_restart.specs.declared.faults.OpenFault.{OpenFault}
 use Rattle.hb_restart.specs.declared.faults.OpenFault.TheVariants as faults
@@ -172,7 +172,7 @@ module _ (exact : PagesAreExact) (b : List ℕ) (are : AreBytes b) (read : LogRe
     counted = sound.2;
   }
 
-  pub names_unsound : (page rule : ℕ) → Names says all page rule → Refuses (faults.Unsound page rule) b
+  pub names_unsound : (page rule : ℕ) → Names says all page rule → RefusesBytes (faults.Unsound page rule) b
   names_unsound page rule names = (read.turn, read.said, is.has, is.log.groups, log_read, by names)
     where
       lacks : (id : ℕ) → IsHole says all id → LacksPage b read.said last id
@@ -198,12 +198,12 @@ module _ (exact : PagesAreExact) (o : Option (List ℕ)) (are : (b : List ℕ) �
           subst (λ (p : BTreeMap ℕ Page). IsFoundIn b read.turn read.touched.meta (get nat_cmp p) count) (sym is) (found_sound exact b (are b refl) read there layout same count sound)
 
   pub named_err : (stop : AuditStop) → OnBroken (λ page rule. IfSome (told_pages o read.said (touched_pages read.touched)) (λ told. Names read.touched.meta told page rule)) stop
-      → (fault : OpenFault) → fault ≡ audit_fault stop → IfSome o (λ b. IsReadIn b read → Refuses fault b)
-  named_err stop names fault is = subst (λ (f : OpenFault). IfSome o (λ b. IsReadIn b read → Refuses f b)) (sym is) (by o are stop names)
+      → (fault : OpenFault) → fault ≡ audit_fault stop → IfSome o (λ b. IsReadIn b read → RefusesBytes fault b)
+  named_err stop names fault is = subst (λ (f : OpenFault). IfSome o (λ b. IsReadIn b read → RefusesBytes f b)) (sym is) (by o are stop names)
     where
       by : (o : Option (List ℕ)) → ((b : List ℕ) → o ≡ Some b → AreBytes b) → (stop : AuditStop)
           → OnBroken (λ page rule. IfSome (told_pages o read.said (touched_pages read.touched)) (λ told. Names read.touched.meta told page rule)) stop
-          → IfSome o (λ b. IsReadIn b read → Refuses (audit_fault stop) b)
+          → IfSome o (λ b. IsReadIn b read → RefusesBytes (audit_fault stop) b)
       by None are stop names = tt
       by (Some b) are (stops.Broken page rule) names = λ there. names_unsound exact b (are b refl) read there layout same page rule names
       by (Some b) are stops.Failed names = λ there. tt
@@ -221,10 +221,10 @@ asked_only failed old new to from reads counts = record { stays = reads.stays; r
 
 -- a refusal of what was read, behind the reads
 pub refused_there : {A D : Type 0} (r : Result A (OpenFault × D)) (old mid : DiskModel) (read : LogRead) → Stays old mid → IfSome old.told (λ b. IsReadIn b read)
-    → IfErr r (λ e. IfSome mid.told (λ b. IsReadIn b read → Refuses e.0 b)) → IfErr r (λ e. IsShut mid.size e.0) → IfErr r (λ e. IsRefusal old e.0)
+    → IfErr r (λ e. IfSome mid.told (λ b. IsReadIn b read → RefusesBytes e.0 b)) → IfErr r (λ e. IsShut mid.size e.0) → IfErr r (λ e. IsRefusal old e.0)
 refused_there (Ok v) old mid read stays here why shut = tt
 refused_there (Err e) old mid read stays here why shut = record {
-  why = if_value old.told (Refuses e.0) (λ b told.
-      at_value mid.told (λ b. IsReadIn b read → Refuses e.0 b) b (stays.told ∙ told) why (at_value old.told (λ b. IsReadIn b read) b told here));
+  why = if_value old.told (RefusesBytes e.0) (λ b told.
+      at_value mid.told (λ b. IsReadIn b read → RefusesBytes e.0 b) b (stays.told ∙ told) why (at_value old.told (λ b. IsReadIn b read) b told here));
   shut = let Q : ℕ → Type 0 = λ n. IsShut n e.0 in subst Q stays.size shut;
 }

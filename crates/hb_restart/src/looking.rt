@@ -5,7 +5,7 @@ ghost use Rattle.std.specs.BTreeMap.{get};
 ghost use Rattle.hb_disk.specs.Calls.{ReadsOnly};
 ghost use Rattle.hb_restart.specs.Found.{IsFoundIn, IsReadIn, IsRenewable, IsWholeRead};
 ghost use Rattle.hb_restart.specs.Leaving.{FailedBy, disk_left};
-ghost use Rattle.hb_restart.specs.Refusals.{IsRefusal, IsShut, Refuses};
+ghost use Rattle.hb_restart.specs.Refusals.{IsRefusal, IsShut, RefusesBytes};
 ghost use Rattle.hb_restart.specs.declared.faults.OpenFault.TheVariants.{DiskFault};
 
 use crate::faults::OpenFault;
@@ -35,7 +35,7 @@ fn audited<D: Device>(alloc: Global, disk: D, read: LogRead) -> Result<(Found, D
     requires { IsWholeRead (D.model disk).size read }
     ensures found { IfOk result (λ r. IfSome (D.model disk).told (λ b. IsReadIn b read → IsFoundIn b r.0.turn r.0.meta (get nat_cmp r.0.touched) r.0.count)) }
     ensures renewable { IfOk result (λ r. IsRenewable (D.model disk).size r.0) }
-    ensures refused { IfErr result (λ e. IfSome (D.model disk).told (λ b. IsReadIn b read → Refuses e.0 b)) }
+    ensures refused { IfErr result (λ e. IfSome (D.model disk).told (λ b. IsReadIn b read → RefusesBytes e.0 b)) }
     ensures shut { IfErr result (λ e. IsShut (D.model disk).size e.0) }
     ensures only { ReadsOnly (FailedBy DiskFault result) (D.model disk) (D.model (disk_left result (λ r. r.1))) }
 {
