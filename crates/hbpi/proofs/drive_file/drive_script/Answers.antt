@@ -23,7 +23,7 @@ use Rattle.hbpi.specs.declared.statuses.Status.TheVariants.{NoMemory}
 use Rattle.hbpi.proofs.ScheduleRuns.{schedule_ends, even_store, one_page_of, turned_away, away_on, refused_on}
 use Rattle.hb_layout.specs.Offsets.{file_size}
 use Rattle.hb_restart.specs.Beyond.{KeepsBeyond}
-use Rattle.hbpi.proofs.Beyond.{beyond_none}
+use Rattle.hb_restart.proofs.Facts.Beyond.{beyond_none}
 use Rattle.hbpi.proofs.InLog.{new_beyond}
 use Rattle.hbpi.proofs.drive_file.drive_script.Goals as goal
 

@@ -9,7 +9,7 @@ use Rattle.hbpi.specs.declared.statuses.Status.{Status}
 use Rattle.hbpi.proofs.ScheduleRuns.{turned_away, away_on, source_kept, not_scheduled_ends}
 use Rattle.hb_layout.specs.Offsets.{file_size}
 use Rattle.hb_restart.specs.Beyond.{KeepsBeyond}
-use Rattle.hbpi.proofs.Beyond.{beyond_none}
+use Rattle.hb_restart.proofs.Facts.Beyond.{beyond_none}
 use Rattle.hbpi.proofs.drive_file.drive_store.Goals as goal
 
 pub returns-in-Ok-clause-ends : goal.returns-in-Ok-clause-ends

@@ -64,3 +64,9 @@ returns-in-Err-clause-late_after_fault g c =
       | inl never ↦ absurd (not_larger c.in-Err.fault (sym c.from.ensures ∙ never))
       | inr later ↦ at_value d.told (λ b. (s : FileState) → OpensTo b s → d.clock + 2 ≤ new.clock → (e : List ℕ) → new.ImageSince (d.clock + 1) e → OpensTo e s) b is c.in-Err.ensures.leaves.late s opens later
     ])
+
+pub returns-in-Ok-clause-beyond : goal.returns-in-Ok-clause-beyond
+returns-in-Ok-clause-beyond g c = c.in-Ok.ensures.leaves.beyond
+
+pub returns-in-Err-clause-beyond_after_fault : goal.returns-in-Err-clause-beyond_after_fault
+returns-in-Err-clause-beyond_after_fault g c = c.in-Err.ensures.leaves.beyond
