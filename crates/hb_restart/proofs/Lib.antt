@@ -17,6 +17,5 @@ pub mod SamePages
 pub mod Opened
 pub mod Recovered
 pub mod SoundFiles
-pub mod BadFrames
 pub mod NotRefused
 pub mod OneRefusal

@@ -12,6 +12,7 @@ ghost use Rattle.hb_store.specs.Seen.{seen_as, disk_of};
 ghost use Rattle.hb_restart.specs.Creation.{HasEmptyPlaces, IsLaidOut, LeavesMaking, MakesStore, RefusesMaking};
 ghost use Rattle.hb_restart.specs.Leaving.{FailedBy, disk_left};
 ghost use Rattle.hb_restart.specs.NewFiles.{lone};
+ghost use Rattle.hb_restart.specs.Source.{HasPlaceFor};
 ghost use Rattle.hb_restart.specs.Layouts.{layout_fault, layout_size};
 ghost use Rattle.hb_restart.specs.declared.faults.CreateFault.TheVariants.{DiskFault, NoMemory};
 
@@ -39,8 +40,7 @@ fn zero_places<D: Device>(disk: &mut D) -> Result<(), hb_disk::DiskFault>
 
 /// Zeroes log area 0 and writes page 1, and syncs. Three device calls.
 fn write_parts<D: Device>(disk: &mut D, meta: &Meta, page: &[u8; PAGE]) -> Result<(), Failed>
-    requires room { file_size meta.now ≤ (D.model disk.old).size }
-    requires some { 1 ≤ meta.now.pages }
+    requires { HasPlaceFor (D.model disk.old).size meta.now 1 }
     ensures laid { OnOk result (IfSome (D.model disk.old).told (λ b. HasEmptyPlaces b →
         (c : List ℕ) × ((D.model disk.new).told ≡ Some c) × IsLaidOut c meta.now page.now)) }
     ensures lasts { OnOk result (Lasts (D.model disk.new)) }
@@ -57,8 +57,7 @@ fn lay_out<D: Device>(
     meta: &Meta,
     page: &[u8; PAGE],
 ) -> Result<(), hb_disk::DiskFault>
-    requires room { file_size meta.now ≤ (D.model disk.old).size }
-    requires some { 1 ≤ meta.now.pages }
+    requires { HasPlaceFor (D.model disk.old).size meta.now 1 }
     ensures laid { OnOk result (IfSome (D.model disk.old).told (λ b. (c : List ℕ) × ((D.model disk.new).told ≡ Some c) × IsLaidOut c meta.now page.now)) }
     ensures lasts { OnOk result (Lasts (D.model disk.new)) }
     ensures wrote { Rewrites (Torn 0 (file_size meta.now)) 5 result (D.model disk.old) (D.model disk.new) }
