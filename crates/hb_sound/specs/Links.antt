@@ -8,7 +8,6 @@ use Rattle.hb_ops.specs.Files.{page_at, if_live}
 use Rattle.hb_ops.specs.Sound.{times_named}
 use Rattle.hb_sound.specs.declared.facts.Fact.{Fact}
 use Rattle.hb_sound.specs.declared.links.Links.{Links}
-use Rattle.hb_sound.specs.declared.names.Times.{Times}
 use Rattle.hb_sound.specs.declared.names.Times.TheVariants.{Never}
 use Rattle.hb_sound.specs.Facts.{FindsBelow, FindsSame, more, names_in}
 use Rattle.hb_sound.specs.Rests.{KnowsTold}
@@ -45,13 +44,9 @@ FindsSiblings facts page = All (FindsSame facts page.level) (leaves_of page.frag
 abbrev pub FindsChildren : List Fact → LivePage → Type 0
 FindsChildren facts page = All (FindsBelow facts page.level) (leaves_of page.frag page.area)
 
--- what was counted, before and after the leaves of one page
-abbrev pub IsCountedOn : LivePage → List Times → List Times → Type 0
-IsCountedOn page old new = (id : ℕ) → item_at new id ≡ option_map (more (names_in id (leaves page.frag))) (item_at old id)
-
 -- the page of this number was added
 pub record Adds (facts : List Fact) (id : ℕ) (page : LivePage) (old new : Links) : Type 0 where
-  pub named : IsCountedOn page old.named.items new.named.items
+  pub named : (other : ℕ) → item_at new.named.items other ≡ option_map (more (names_in other (leaves page.frag))) (item_at old.named.items other)
   pub sibling : IsNextBad (FindsSiblings facts page) id old.sibling new.sibling
   pub child : IsNextBad (FindsChildren facts page) id old.child new.child
 
