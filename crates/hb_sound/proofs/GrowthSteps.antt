@@ -1,13 +1,12 @@
 -- A file of one level grows three times: twice by the free pages of its chain, and then by a page behind the last.
 use Rattle.std.proofs.Common.{◌≡◌, ℕ, zero, suc, ◌≤◌, [], ◌∷◌, slice_get, Some, refl, sym, ap, subst, ◌∙◌, arith}
 use Rattle.std.specs.List.{Contains}
-use Rattle.hb_space.specs.Boxes.{Area, whole_area}
+use Rattle.hb_space.specs.Boxes.{Area}
 use Rattle.hb_frag.specs.declared.leaves.Leaf.TheVariants.{Child}
 use Rattle.hb_frag.specs.declared.pages.LivePage.{LivePage}
 use Rattle.hb_frag.specs.declared.pages.Page.TheVariants.{Live, Free}
 use Rattle.hb_frag.specs.Leaves.{Placed, leaves, leaves_of, siblings_of}
 use Rattle.hb_frag.specs.Rules.{BelongsAt, IsInOrder}
-use Rattle.hb_frag.specs.Trees.{Tip}
 use Rattle.hb_ops.specs.Files.{FileState, live_page, page_of}
 use Rattle.hb_ops.specs.Sound.{ChildrenMatch, FitsFile, IsCounted, IsCovered, IsSound, SiblingsMatch, times_named}
 use Rattle.hb_sound.proofs.Growths.{Growth, LicensesGrowth, MayGrow, grown}

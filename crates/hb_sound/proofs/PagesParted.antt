@@ -38,7 +38,6 @@ module _ (laws : PartLaws) (x : Extraction) (page : LivePage) (part : Tree × Ar
   abbrev pub opened : Tree
   opened = cut_through x.cuts part.0 (Tip (Sibling x.fresh))
 
-
   -- the names of both pages are those of the page before, and the new one's
   named_three : (id : ℕ) (f m b : List Placed) → named id ((f ++ m) ++ b) ≡ (named id f + named id m) + named id b
   named_three id f m b = let one = named-append id (f ++ m) b in let two = named-append id f m in omega (arith, one, two)

@@ -51,6 +51,8 @@ pub record Adds (facts : List Fact) (id : ℕ) (page : LivePage) (old new : Link
   pub named : (other : ℕ) → item_at new.named.items other ≡ option_map (more (names_in other (leaves page.frag))) (item_at old.named.items other)
   pub sibling : IsNextBad (FindsSiblings facts page) id old.sibling new.sibling
   pub child : IsNextBad (FindsChildren facts page) id old.child new.child
+  -- as many pages are counted
+  pub same : vec_len new.named ≡ vec_len old.named
 
 abbrev pub AddsPage : List Fact → ℕ → Page → Links → Links → Type 0
 AddsPage facts id (pages.Live page) old new = Adds facts id page old new

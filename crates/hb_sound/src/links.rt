@@ -186,8 +186,7 @@ impl Links {
     /// Adds those of a page in use.
     fn add(&mut self, facts: &[Fact], id: u32, page: &LivePage)
         requires { WellCut page.now }
-        ensures adds { Adds facts.now id page.now self.old self.new }
-        ensures same { vec_len self.new.named ≡ vec_len self.old.named }
+        ensures { Adds facts.now id page.now self.old self.new }
     {
         let (same, below) = page_matches(facts, page);
         self.sibling = first_bad(self.sibling, id, same);
