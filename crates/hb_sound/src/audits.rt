@@ -10,9 +10,8 @@ ghost use Rattle.hb_sound.specs.Facts.{AreFactsOf, HasFacts};
 ghost use Rattle.hb_sound.specs.RecordCounts.{IsLightFact, all_records, records_seen};
 ghost use Rattle.hb_sound.specs.Links.{AreLinks};
 ghost use Rattle.hb_sound.specs.Names.{IsSoundWith, KeepsSix, Names, NamesIn, OneIsNamed, SoundBreaksNone};
-ghost use Rattle.hb_sound.specs.Tests.{file_with};
 ghost use Rattle.hb_sound.specs.Stops.{OnBroken};
-ghost use Rattle.hb_sound.specs.Told.{CoversFile};
+ghost use Rattle.hb_sound.specs.Told.{CoversFile, file_with};
 ghost use Rattle.hb_sound.specs.Walks.{IsLeast};
 ghost use Rattle.hb_sound.specs.declared.pages.AuditStop.TheVariants.{Broken, Failed};
 
