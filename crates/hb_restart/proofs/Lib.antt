@@ -3,7 +3,6 @@ pub mod Numbered
 pub mod NoChild
 pub mod NewFile
 pub mod Made
-pub mod MadeOrNot
 pub mod RunSteps
 pub mod RunsThen
 pub mod PageWrites

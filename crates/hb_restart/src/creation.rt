@@ -1,5 +1,5 @@
 //! Making a file.
-ghost use Rattle.std.specs.Prelude.{◌≡◌, ◌≢◌, ℕ, ◌*◌, ◌+◌, ◌≤◌, ◌<◌, List, [], Some, None, OnOk, IfOk, IfErr, IfSome, IsSome};
+ghost use Rattle.std.specs.Prelude.{◌≡◌, ◌≢◌, ℕ, ◌*◌, ◌+◌, ◌≤◌, ◌<◌, List, [], Some, OnOk, IfOk, IfErr, IfSome, IsSome};
 ghost use Rattle.hb_space.specs.declared.form.TheConstants.{PAGE};
 ghost use Rattle.hb_disk.specs.Model.{Torn};
 ghost use Rattle.hb_disk.specs.Runs.{Lasts, Rewrites};
