@@ -14,6 +14,7 @@
 //! completed late, and Evangelidis, Lomet and Salzberg 1997.
 #![tactic(auto)]
 
+mod asking;
 pub mod asked_laws;
 pub mod cause_laws;
 pub mod examples;
@@ -22,11 +23,18 @@ pub mod keeping_laws;
 pub mod laws;
 pub mod machine_laws;
 pub mod outcome_laws;
+mod endings;
+mod halts;
 mod outcomes;
 pub mod progress_laws;
+mod state;
+mod stepping;
 mod threads;
 pub mod waiting_laws;
+mod working;
 pub mod written_chains;
 
 pub use hb_activity::DropWhy;
 pub use outcomes::Outcome;
+pub use endings::{End, Ran};
+pub use state::Core;

@@ -107,6 +107,23 @@ impl Latches {
         self.held.remove(place);
     }
 
+    /// Gives back all latches of the actor.
+    pub fn release_all(&mut self, actor: Actor)
+        ensures own { (page : ℕ) → mode_at self.new actor page ≡ None }
+        ensures others { (other page : ℕ) → other ≢ actor → mode_at self.new other page ≡ mode_at self.old other page }
+    {
+        self.held.retain(|held| held.actor != actor);
+    }
+
+    /// The least other actor whose latch on the page doesn't go beside the mode. `None` where there is none: then the actor may
+    /// have the page so.
+    pub fn in_the_way(&self, actor: Actor, page: u32, mode: Mode) -> Option<Actor>
+        ensures free { (result ≡ None) ↔ IsGrantable self.now actor page mode }
+        ensures least { IfSome result (IsLeastInTheWay self.now actor page mode) }
+    {
+        in_the_way(self.held.as_slice(), actor, page, mode)
+    }
+
     /// The mode in which the actor holds the page, if it does.
     pub fn mode_of(&self, actor: Actor, page: u32) -> Option<Mode>
         ensures value { result ≡ mode_at self.now actor page }
