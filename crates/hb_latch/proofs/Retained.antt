@@ -1,12 +1,13 @@
 -- What a table keeps once an actor has given all its latches back.
-use Rattle.std.proofs.Common.{◌≡◌, ℕ, ◌≤◌, ◌==◌, Bool, true, false, cond, List, [], ◌∷◌, filter, None, T, refl, sym, ap, subst, ◌∙◌, arith}
+use Rattle.std.proofs.Common.{◌≡◌, ℕ, ◌≤◌, ◌==◌, Bool, true, false, cond, not, List, [], ◌∷◌, filter, None, T, refl, sym, ap, subst, ◌∙◌, arith}
 use Rattle.std.specs.declared.cmp.Ordering.TheVariants.{Equal}
 use Rattle.std.specs.FinMap as map
 use Rattle.std.specs.FinMap.Entries.{where_key, is_sorted-where_key, find-where_key}
 use Rattle.std.proofs.lemmas.List.Elements.{All-filter}
 use Rattle.std.proofs.lemmas.List.Sums.{sum_by-cons}
+use Rattle.hb_lemmas.proofs.Booleans.{cond-not}
 use Rattle.hb_latch.specs.declared.entries.Held.{Held}
-use Rattle.hb_latch.specs.Tables.{MayLatch, latch_cmp}
+use Rattle.hb_latch.specs.Tables.{LatchTable, MayLatch, latch_cmp, mode_at}
 use Rattle.hb_latch.specs.Entries.{IsKept, key_of, table_entries}
 use Rattle.hb_latch.proofs.KeyOrder.{exact_keys, latch_order}
 use Rattle.hb_latch.proofs.KeyPlaces.{KeysRise}
@@ -51,3 +52,16 @@ module _ (p : ℕ → Bool) where
     actors = All-filter (λ (h : Held). p h.actor) (λ (h : Held). MayLatch h.actor) hs kept.actors;
     few = λ a. omega (arith, fewer a hs, kept.few a);
   }
+
+-- what an actor leaves that gives all back: nothing of its own, and all of the others
+pub modes_left : (table : LatchTable) (actor other page : ℕ) → mode_at (map.retain_keys table (λ k. not (k.0 == actor))) other page ≡ cond (other == actor) None (mode_at table other page)
+modes_left table actor other page =
+    map.get-retain_keys table (λ k. not (k.0 == actor)) (other, page) (λ x tied. ap (λ k. not (k.0 == actor)) (sym (exact_keys (other, page) x tied)))
+    ∙ cond-not (other == actor) (mode_at table other page) None
+
+pub none_left : (actor : ℕ) (hs : List Held) → share actor (filter (λ h. not (h.actor == actor)) hs) ≡ 0
+none_left actor [] = refl
+none_left actor (h ∷ hs) = elim (h.actor == actor) as (λ b. (h.actor == actor) ≡ b → share actor (cond (not b) (h ∷ filter (λ h. not (h.actor == actor)) hs) (filter (λ h. not (h.actor == actor)) hs)) ≡ 0) [
+  | true ↦ λ is. none_left actor hs
+  | false ↦ λ is. omega (arith, none_left actor hs, sum_by-cons (λ (h : Held). cond (h.actor == actor) 1 0) h (filter (λ h. not (h.actor == actor)) hs), ap (λ (b : Bool). cond {A = ℕ} b 1 0) is)
+] refl

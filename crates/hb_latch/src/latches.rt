@@ -1,4 +1,4 @@
-ghost use Rattle.std.specs.Prelude.{◌≡◌, ◌<◌, ◌≤◌, ◌↔◌, None, Some, IsOk, IsSome, IfOk, IfErr, IfSome, OnOk, OnErr, option_map, find, count_by, not, ◌==◌, length, slice_set};
+ghost use Rattle.std.specs.Prelude.{◌≡◌, ◌<◌, ◌≤◌, ◌↔◌, None, Some, IsOk, IsSome, IfOk, IfErr, IfSome, OnOk, OnErr, option_map, find, count_by, if◌then◌else◌, ℕ, ◌==◌, length, slice_set};
 ghost use Rattle.std.specs.FinMap as map;
 ghost use Rattle.hb_latch.specs.declared.modes.Mode.TheVariants.{Update, Exclusive};
 ghost use Rattle.std.specs.FinMap.{find as lookup};
@@ -109,7 +109,9 @@ impl Latches {
 
     /// Gives back all latches of the actor.
     pub fn release_all(&mut self, actor: Actor)
-        ensures { self.new ≡ map.retain_keys self.old (λ key. not (key.0 == actor)) }
+        ensures left { (other page : ℕ) → mode_at self.new other page
+            ≡ (if other == actor then None else mode_at self.old other page) }
+        ensures none { latches_of self.new actor ≡ 0 }
     {
         self.held.retain(|held| held.actor != actor);
     }
