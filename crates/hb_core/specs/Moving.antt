@@ -1,12 +1,15 @@
 -- What the private calls of a core make of it, said of what it holds.
-use Rattle.std.specs.Prelude.{◌≡◌, ℕ, ◌-◌, List, [], ◌∷◌, ◌++◌, length, Option, Some, None}
+use Rattle.std.specs.Prelude.{◌≡◌, ℕ, ◌-◌, List, [], ◌∷◌, ◌++◌, length, replicate, Option, Some, None}
 use Rattle.std.specs.List.{slice_get, slice_set}
+use Rattle.std.specs.FinMap as map
 use Rattle.hb_disk.specs.Model.{DiskModel}
 use Rattle.hb_activity.specs.declared.activities.Activity.{Activity}
+use Rattle.hb_activity.specs.declared.activities.Activity.TheVariants as at
 use Rattle.hb_activity.specs.Deeds.{Deed}
 use Rattle.hb_ops.specs.Files.{FileState}
 use Rattle.hb_ops.specs.declared.operations.Op.{Op}
 use Rattle.hb_set.specs.Order.{Entry}
+use Rattle.hb_set.specs.declared.scripts.Line.{Line}
 use Rattle.hb_store.specs.Calls.{with_op}
 use Rattle.hb_store.specs.Keeps.{StoreKeeps}
 use Rattle.hb_store.specs.States.{StoreState}
@@ -47,3 +50,21 @@ later_with (Some op) durable later = with_op durable later op
 
 abbrev pub KeepsFilesBy : Option Op → DiskModel → StoreState → DiskModel → StoreState → Type 0
 KeepsFilesBy op d old e new = (durable : FileState) (later : List FileState) → StoreKeeps d old durable later → StoreKeeps e new durable (later_with op durable later)
+
+-- all actors with nothing in hand, and a core that has taken no step
+abbrev pub all_idle : List Activity
+all_idle = replicate 16 at.SessionIdle ++ at.PosterIdle ∷ at.ConsolidatorIdle ∷ at.Flusher ∷ []
+
+abbrev pub begun_core : List Line → List ℕ → StoreState → RunningCore
+begun_core lines steps store = record {
+  lines = lines;
+  steps = steps;
+  behind = replicate 16 0;
+  activities = all_idle;
+  latches = map.empty;
+  jobs = [];
+  order = [];
+  stop = None;
+  store = store;
+  taken = 0;
+}

@@ -27,6 +27,7 @@ mod endings;
 mod halts;
 mod outcomes;
 pub mod progress_laws;
+mod reading;
 mod state;
 mod stepping;
 mod threads;

@@ -2,7 +2,8 @@
 
 use crate::halts::copy_of;
 use crate::outcomes::Outcome;
-use crate::state::{Core, idle};
+use crate::reading::idle;
+use crate::state::Core;
 use hb_activity::{Activity, JobKind};
 use hb_disk::Device;
 use hb_set::{Command, Line};

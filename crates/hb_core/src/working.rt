@@ -2,7 +2,8 @@
 
 use crate::halts::Halt;
 use crate::outcomes::Outcome;
-use crate::state::{Core, POSTER, idle};
+use crate::reading::idle;
+use crate::state::{Core, POSTER};
 use arrayvec::ArrayVec;
 use hb_activity::{Activity, DropWhy, Fate, Job, Latch, Next, Wanted};
 use hb_disk::Device;
@@ -160,12 +161,14 @@ impl<D: Device> Core<D> {
 
     /// The actor stands so from now on, with the latches of that and no other.
     pub(crate) fn stand(&mut self, actor: Actor, next: Activity) {
-        let held = next.held(match next.walk_held() {
-            Some(page) => self.live(page),
-            None => None,
-        });
+        let held = next.held(self.walked(&next));
         self.latch_all(actor, held.as_slice());
         let _ = self.replace(actor, next);
+    }
+
+    /// The page that a walk holds.
+    fn walked(&self, activity: &Activity) -> Option<&LivePage> {
+        self.live(activity.walk_held()?)
     }
 
     /// The actor has these latches and no other.
