@@ -16,7 +16,7 @@ use Rattle.hb_consol.specs.MergeRows.{ConsolidatorRow}
 use Rattle.hb_core.specs.Asking.{HasAskedBox, asked_box}
 use Rattle.hb_core.specs.Machines.{Machine, live_here, sight}
 use Rattle.hb_point.specs.SessionRows.{DoesThere}
-use Rattle.hb_point.specs.SplitRows.{Puts, SplitsOrFull}
+use Rattle.hb_point.specs.SplitRows.{PutsInHalf, SplitsOrFull}
 use Rattle.hb_poster.specs.PosterRows.{PosterRow}
 use Rattle.hb_search.specs.SearchRows.{Gathers}
 use Rattle.hb_space.specs.Boxes.{Area}
@@ -24,7 +24,7 @@ use Rattle.hb_space.specs.Boxes.{Area}
 -- The row of an activity that wants no page.
 abbrev pub RowAlone : Activity → Sight → Deed → Type 0
 RowAlone (at.SessionSplit line held) s deed = SplitsOrFull s line held deed
-RowAlone (at.SessionPut line source fresh) s deed = Puts s line source fresh deed
+RowAlone (at.SessionPut line source fresh) s deed = PutsInHalf s line source fresh deed
 RowAlone other s deed = ⊥
 
 -- What a session does at a page whose leaf at the point of its walk has records.

@@ -1,5 +1,5 @@
 //! Bytes in memory with the record of all that changed them.
-ghost use Rattle.std.specs.Prelude.{◌≡◌, ◌⊎◌, ℕ, ◌+◌, ◌^◌, ◌<◌, ◌≤◌, ◌↔◌, List, [], length, reverse, replicate, All, IsTrue, true, false, IsErr, IfOk, IfErr, OnOk, OnErr, Ok, Err};
+ghost use Rattle.std.specs.Prelude.{◌≡◌, ◌⊎◌, ℕ, ◌+◌, ◌^◌, ◌<◌, ◌≤◌, ◌↔◌, List, [], length, reverse, replicate, All, true, false, IsErr, IfOk, Ok, Err};
 ghost use Rattle.std.proofs.Props.{props};
 ghost use Rattle.hb_outside.specs.Calls.{Counts};
 ghost use Rattle.hb_outside.specs.Memory.{next_count};

@@ -1,8 +1,6 @@
 //! A disk in memory that keeps a record of its calls and fails at chosen ones.
 ghost use Rattle.std.specs.Prelude.{◌≡◌, ◌⊎◌, ℕ, ◌+◌, ◌<◌, ◌≤◌, ◌↔◌, [], length, reverse, replicate, Contains, IsTrue, IsSome, IsErr, IfOk, IfSome, IfErr, OnOk, OnErr, Err};
-ghost use Rattle.hb_outside.specs.Streams.{Rose};
 ghost use Rattle.hb_outside.specs.Memory.{next_count};
-ghost use Rattle.hb_disk.specs.Model.{last_value};
 ghost use Rattle.hb_disk.specs.Calls.{Writes, Syncs, ReadsAt};
 ghost use Rattle.hb_disk.specs.Events.{rewound, IsPicked, IsImage, disk_after};
 ghost use Rattle.hb_disk.specs.NotedCalls.{starved_after};

@@ -1,6 +1,5 @@
 //! A disk that tells nothing, and in which one byte goes bad.
-ghost use Rattle.std.specs.Prelude.{◌≡◌, ℕ, ◌+◌, ◌<◌, ◌≤◌, [], ◌∷◌, length, replicate, OnOk, OnErr, IsErr};
-ghost use Rattle.hb_disk.specs.Model.{overwritten};
+ghost use Rattle.std.specs.Prelude.{◌≡◌, ℕ, ◌+◌, ◌<◌, ◌≤◌, [], ◌∷◌, length, replicate, OnOk};
 ghost use Rattle.hb_disk.specs.Calls.{Writes, Syncs, ReadsAt};
 ghost use Rattle.hb_disk.specs.MemDisk.{SetsByte, mem_disk_seen, ReadExactly, CalledExactly};
 ghost use Rattle.hb_disk.specs.Untold.{untold_of, untold_is_disk};

@@ -1,4 +1,4 @@
-ghost use Rattle.std.specs.Prelude.{◌≡◌, ℕ, ◌+◌, ◌<◌, ◌≤◌, List, replicate, length, IsSome};
+ghost use Rattle.std.specs.Prelude.{◌≡◌, ℕ, ◌+◌, ◌<◌, ◌≤◌, replicate, length, IsSome};
 ghost use Rattle.hb_disk.specs.Model.{DiskModel, IsDisk};
 ghost use Rattle.hb_disk.specs.Calls.{Writes, Syncs, ReadsAt};
 

@@ -2,7 +2,7 @@
 //!
 //! A superblock is spelled as what differs from `SUPER`, `PLACE=BYTE` for each such byte, or `zeros`.
 
-ghost use Rattle.std.specs.Prelude.{◌≡◌, ◌≤◌, IfOk, length};
+ghost use Rattle.std.specs.Prelude.{◌≡◌, ◌≤◌};
 
 use crate::letters::{PICKS, numbers_of};
 use crate::rows::expect_all;

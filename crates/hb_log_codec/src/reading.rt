@@ -1,7 +1,6 @@
 //! Groups from bytes.
 ghost use Rattle.std.specs.Prelude.{◌≡◌, ◌≢◌, ◌<◌, ◌≤◌, ◌↔◌, ◌∷◌, length, map, AllPairs, IfOk, IfErr, IsTrue};
 ghost use Rattle.hb_space.specs.Points.{IsAttributeCount};
-ghost use Rattle.hb_space.specs.declared.form.TheConstants.{PAGE as PageBytes};
 ghost use Rattle.hb_log_codec.specs.Groups.{FitsImage, FitsOp, FitsGroup, SpellsGroups, image_bytes, op_bytes, group_bytes};
 ghost use Rattle.hb_log_codec.specs.Reading.{FitImages, Finds, GroupsEnd, images_bytes, logged, stop_at};
 

@@ -4,7 +4,6 @@ ghost use Rattle.std.specs.Prelude.{◌≡◌, ◌≢◌, ◌<◌, ◌≤◌, �
 ghost use Rattle.hb_space.specs.Boxes.{Area as Extent, Cuts as Parts};
 ghost use Rattle.hb_space.specs.declared.records.Record.{Record as Entry};
 ghost use Rattle.hb_frag.specs.declared.leaves.Leaf.TheVariants as kinds;
-ghost use Rattle.hb_frag.specs.Leaves.{weight_of};
 ghost use Rattle.hb_frag.specs.Paths.{part_at, StaysInside};
 ghost use Rattle.hb_frag.specs.Trees.{Tree, Tip};
 ghost use Rattle.hb_ops.specs.Cutting as cutting;

@@ -3,7 +3,6 @@
 ghost use Rattle.std.specs.Prelude.{◌≡◌, ◌<◌, ◌≤◌, ◌↔◌, [], ◌∷◌, IsTrue};
 ghost use Rattle.hb_frag.specs.declared.pages.Page.TheVariants.{Live};
 ghost use Rattle.hb_layout.specs.declared.limits.TheConstants.{HEIGHT_MAX as HIGHEST};
-ghost use Rattle.hb_ops.specs.Allocating.{allocated};
 ghost use Rattle.hb_ops.specs.Growing.{FitsGrow, new_root, raised};
 
 use crate::Meta;

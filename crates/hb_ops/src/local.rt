@@ -2,7 +2,7 @@
 
 ghost use Rattle.std.specs.Prelude.{◌≡◌, ◌<◌, ◌^◌, ◌↔◌, length, All, AllPairs, IfSome, IsNone, IsTrue};
 ghost use Rattle.hb_space.specs.Boxes.{Cuts, Holds};
-ghost use Rattle.hb_frag.specs.Leaves.{IsWellCut, WellCut, leaves, leaves_of, weight_of};
+ghost use Rattle.hb_frag.specs.Leaves.{IsWellCut, WellCut, leaves, leaves_of};
 ghost use Rattle.hb_frag.specs.Trees.{Tip};
 ghost use Rattle.hb_frag.specs.Rules.{AreAlike, AreInOrder, BelongsAt, Fits, IsFilledRight, IsInOrder, IsNormal, IsSiblingTip, Precedes, capacity_of};
 ghost use Rattle.hb_ops.specs.Sound.{FitsFile};

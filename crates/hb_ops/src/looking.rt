@@ -1,8 +1,7 @@
 //! What stands at a point of a page.
 
-ghost use Rattle.std.specs.Prelude.{◌≡◌, ◌<◌, ◌^◌, ◌↔◌, length, AllPairs, IsTrue};
+ghost use Rattle.std.specs.Prelude.{◌≡◌, ◌<◌, ◌^◌, ◌↔◌, AllPairs, IsTrue};
 ghost use Rattle.hb_space.specs.Boxes.{Holds};
-ghost use Rattle.hb_frag.specs.Leaves.{weight_of};
 ghost use Rattle.hb_frag.specs.Rules.{Precedes};
 ghost use Rattle.hb_ops.specs.Sound.{FitsFile};
 ghost use Rattle.hb_ops.specs.Recording.{FitsPut};

@@ -1,2 +1,3 @@
 pub mod Counts
 pub mod KnownLemmas
+pub mod Facts

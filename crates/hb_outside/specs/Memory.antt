@@ -1,5 +1,6 @@
 -- What sources and sinks in memory are seen as, and how their counts go on.
-use Rattle.std.specs.Prelude.{ℕ, ◌+◌, ◌-◌, ◌^◌, min, List}
+use Rattle.std.specs.Prelude.{ℕ, ◌+◌, ◌-◌, ◌^◌, min, List, Some}
+use Rattle.hb_outside.specs.Calls.{SourceModel, SinkModel}
 
 -- the next value of a count, which stands still at its last one
 abbrev pub next_count : ℕ → ℕ
@@ -21,3 +22,10 @@ pub record SinkState : Type 0 where
   pub call : ℕ
   pub faults : ℕ
   pub starved : ℕ
+
+-- both tell all
+abbrev pub memory_source : SourceState → SourceModel
+memory_source s = record { left = Some s.left; faults = s.faults }
+
+abbrev pub memory_sink : SinkState → SinkModel
+memory_sink s = record { written = Some s.written; faults = s.faults }

@@ -1,7 +1,7 @@
 //! A sink of bytes in memory that fails at chosen calls.
-ghost use Rattle.std.specs.Prelude.{◌≡◌, ℕ, ◌+◌, ◌<◌, ◌≤◌, ◌⊎◌, [], ◌++◌, Some, Contains, IsErr, OnErr, OnOk};
-ghost use Rattle.hb_outside.specs.Streams.{Rose, Appends, AppendsFront};
-ghost use Rattle.hb_outside.specs.Memory.{next_count};
+ghost use Rattle.std.specs.Prelude.{◌≡◌, ◌⊎◌, [], Contains, IsErr, OnErr, OnOk};
+ghost use Rattle.hb_outside.specs.Calls.{Puts};
+ghost use Rattle.hb_outside.specs.Memory.{next_count, memory_sink as seen};
 
 use crate::memory_source::is_listed;
 use crate::traits::{Failed, Sink};
@@ -76,18 +76,10 @@ impl MemSink {
 }
 
 impl Sink for MemSink {
-    ghost written = { λ s. Some s.written };
-
-    ghost faults = { λ s. s.faults };
+    ghost model = { λ s. seen s };
 
     fn put(&mut self, piece: &[u8]) -> Result<(), Failed>
-        ensures ok { OnOk result
-            (Appends (Some self.old.written) (Some self.new.written) piece.now) }
-        ensures failed { OnErr result
-            (AppendsFront (Some self.old.written) (Some self.new.written) piece.now) }
-        ensures cause { OnErr result (Rose self.old.faults self.new.faults) }
-        ensures no_fault { OnOk result (self.new.faults ≡ self.old.faults) }
-        ensures later { self.old.faults ≤ self.new.faults }
+        ensures put { Puts piece.now result (seen self.old) (seen self.new) }
 
         // It fails at the calls that were chosen, and else only for want of memory.
         ensures listed { Contains self.old.calls self.old.call → IsErr result }

@@ -1,7 +1,8 @@
 //! A source of bytes in memory that fails at chosen calls.
-ghost use Rattle.std.specs.Prelude.{◌≡◌, ℕ, ◌+◌, ◌<◌, ◌≤◌, ◌↔◌, [], Some, length, take, drop, min, Contains, IsTrue, IsErr, IfOk, OnErr, OnOk};
-ghost use Rattle.hb_outside.specs.Streams.{Rose, Takes, TakesFront};
-ghost use Rattle.hb_outside.specs.Memory.{next_count};
+ghost use Rattle.std.specs.Prelude.{◌≡◌, ◌<◌, ◌↔◌, length, drop, min, Contains, IsTrue, IsErr, IfOk, OnErr};
+ghost use Rattle.hb_outside.specs.Calls.{Took};
+ghost use Rattle.hb_outside.specs.Streams.{TakesFront};
+ghost use Rattle.hb_outside.specs.Memory.{next_count, memory_source as seen};
 
 use crate::traits::{Failed, Source};
 use std::marker::Model;
@@ -68,19 +69,11 @@ impl MemSource {
 }
 
 impl Source for MemSource {
-    ghost left = { λ s. Some s.left };
-
-    ghost faults = { λ s. s.faults };
+    ghost model = { λ s. seen s };
 
     fn take(&mut self, into: &mut [u8]) -> Result<usize, Failed>
         requires { 0 < length into.old }
-        ensures bound { IfOk result (λ n. n ≤ length into.old) }
-        ensures moved { IfOk result
-            (λ n. Takes (Some self.old.left) (Some self.new.left) into.new n) }
-        ensures failed { OnErr result (self.new.left ≡ self.old.left) }
-        ensures cause { OnErr result (Rose self.old.faults self.new.faults) }
-        ensures no_fault { OnOk result (self.new.faults ≡ self.old.faults) }
-        ensures later { self.old.faults ≤ self.new.faults }
+        ensures took { Took result into.new (seen self.old) (seen self.new) }
 
         // It fails at the calls that were chosen, and at no other.
         ensures exact { IsErr result ↔ Contains self.old.calls self.old.call }

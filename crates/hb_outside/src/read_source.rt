@@ -1,9 +1,9 @@
 //! A reader of std as a source of bytes.
-ghost use Rattle.std.specs.Prelude.{◌≡◌, ℕ, ◌<◌, ◌≤◌, None, Some, length, IsTrue, IsSome, IfSome, IfOk, OnErr, OnOk};
+ghost use Rattle.std.specs.Prelude.{◌≡◌, ◌<◌, ◌≤◌, None, Some, length, IsTrue, IsSome, IfSome, IfOk, OnErr};
 ghost use Rattle.std.specs.Io.KnownBytes.{ReadConsumes};
-ghost use Rattle.hb_outside.specs.Streams.{Rose, Takes};
+ghost use Rattle.hb_outside.specs.Calls.{Took};
 ghost use Rattle.hb_outside.specs.Memory.{next_count};
-ghost use Rattle.hb_outside.specs.Told.{told_bytes};
+ghost use Rattle.hb_outside.specs.Told.{told_source};
 
 use crate::traits::{Failed, Source};
 use std::io::{ErrorKind, Read};
@@ -25,8 +25,10 @@ impl<R: Read> ReadSource<R> {
     /// A source over any reader, which tells nothing of what is left.
     pub fn new(inner: R) -> ReadSource<R>
         ensures reader { result.inner ≡ inner }
-        ensures left { ⟦<ReadSource<R> as Source>⟧.left result ≡ None }
-        ensures faults { ⟦<ReadSource<R> as Source>⟧.faults result ≡ 0 }
+        ensures silent { ⟦<ReadSource<R> as Source>⟧.model result ≡ record {
+          left = None;
+          faults = 0;
+        } }
     {
         ReadSource {
             inner,
@@ -39,8 +41,10 @@ impl<R: Read> ReadSource<R> {
     pub fn telling(inner: R) -> ReadSource<R>
         requires { IsSome (R.remaining inner) }
         ensures reader { result.inner ≡ inner }
-        ensures left { ⟦<ReadSource<R> as Source>⟧.left result ≡ R.remaining inner }
-        ensures faults { ⟦<ReadSource<R> as Source>⟧.faults result ≡ 0 }
+        ensures told { ⟦<ReadSource<R> as Source>⟧.model result ≡ record {
+          left = R.remaining inner;
+          faults = 0;
+        } }
     {
         ReadSource {
             inner,
@@ -52,7 +56,7 @@ impl<R: Read> ReadSource<R> {
     /// The reader, with what is left in it.
     pub fn into_inner(self) -> R
         ensures reader { result ≡ self.inner }
-        ensures left { IfSome (⟦<ReadSource<R> as Source>⟧.left self)
+        ensures left { IfSome ((⟦<ReadSource<R> as Source>⟧.model self).left)
             (λ bytes. R.remaining result ≡ Some bytes) }
     {
         let ReadSource { inner, .. } = self;
@@ -61,21 +65,13 @@ impl<R: Read> ReadSource<R> {
 }
 
 impl<R: Read> Source for ReadSource<R> {
-    ghost left = { λ s. told_bytes s.tells (R.remaining s.inner) };
-
-    ghost faults = { λ s. s.faults };
+    ghost model = { λ s. told_source s.tells (R.remaining s.inner) s.faults };
 
     fn take(&mut self, into: &mut [u8]) -> Result<usize, Failed>
         requires { 0 < length into.old }
-        ensures bound { IfOk result (λ n. n ≤ length into.old) }
-        ensures moved { IfOk result (λ n. Takes
-            (told_bytes self.old.tells (R.remaining self.old.inner))
-            (told_bytes self.new.tells (R.remaining self.new.inner)) into.new n) }
-        ensures failed { OnErr result (told_bytes self.new.tells (R.remaining self.new.inner)
-            ≡ told_bytes self.old.tells (R.remaining self.old.inner)) }
-        ensures cause { OnErr result (Rose self.old.faults self.new.faults) }
-        ensures no_fault { OnOk result (self.new.faults ≡ self.old.faults) }
-        ensures later { self.old.faults ≤ self.new.faults }
+        ensures took { Took result into.new
+            (told_source self.old.tells (R.remaining self.old.inner) self.old.faults)
+            (told_source self.new.tells (R.remaining self.new.inner) self.new.faults) }
 
         // The bytes are the reader's, whether this source tells or not.
         ensures read { ReadConsumes (R.remaining self.old.inner) (R.remaining self.new.inner)

@@ -1,21 +1,13 @@
-//! That sources and sinks may be moved into other threads.
-use crate::memory_sink::MemSink;
-use crate::memory_source::MemSource;
-use crate::read_source::ReadSource;
-use crate::write_sink::WriteSink;
+//! The types of this crate may go to another thread, and be read by several.
+use crate::{Failed, MemSink, MemSource, ReadSource, WriteSink};
+use hb_lemmas::crosses;
 use std::io::{Read, Write};
 
-/// Takes only what may be moved into another thread.
-fn movable<T: Send>(_value: &T) {}
-
-/// Each type of this crate may be, over a reader and a writer that may be.
-fn all_movable<R: Read + Send, W: Write + Send>(
-    memory: (&MemSource, &MemSink),
-    source: &ReadSource<R>,
-    sink: &WriteSink<W>,
-) {
-    movable(memory.0);
-    movable(memory.1);
-    movable(source);
-    movable(sink);
+/// Each type does, a source over a reader and a sink over a writer where these do.
+fn types_cross_threads<R: Read + Send + Sync, W: Write + Send + Sync>() {
+    crosses::<Failed>();
+    crosses::<MemSource>();
+    crosses::<MemSink>();
+    crosses::<ReadSource<R>>();
+    crosses::<WriteSink<W>>();
 }

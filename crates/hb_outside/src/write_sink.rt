@@ -1,9 +1,9 @@
 //! A writer of std as a sink of bytes.
-ghost use Rattle.std.specs.Prelude.{◌≡◌, ℕ, ◌<◌, ◌≤◌, None, Some, length, IsTrue, IsSome, IfSome, OnErr, OnOk};
+ghost use Rattle.std.specs.Prelude.{◌≡◌, None, Some, IsTrue, IsSome, IfSome, OnErr, OnOk};
 ghost use Rattle.std.specs.Io.KnownBytes.{Appends as WriterAppends, Keeps};
-ghost use Rattle.hb_outside.specs.Streams.{Rose, Appends, AppendsFront};
+ghost use Rattle.hb_outside.specs.Calls.{Puts};
 ghost use Rattle.hb_outside.specs.Memory.{next_count};
-ghost use Rattle.hb_outside.specs.Told.{told_bytes, AppendsSome};
+ghost use Rattle.hb_outside.specs.Told.{told_sink, AppendsSome};
 
 use crate::traits::{Failed, Sink};
 use std::io::{ErrorKind, Write};
@@ -26,8 +26,10 @@ impl<W: Write> WriteSink<W> {
     /// A sink over any writer, which tells nothing of what was written.
     pub fn new(inner: W) -> WriteSink<W>
         ensures writer { result.inner ≡ inner }
-        ensures written { ⟦<WriteSink<W> as Sink>⟧.written result ≡ None }
-        ensures faults { ⟦<WriteSink<W> as Sink>⟧.faults result ≡ 0 }
+        ensures silent { ⟦<WriteSink<W> as Sink>⟧.model result ≡ record {
+          written = None;
+          faults = 0;
+        } }
     {
         WriteSink {
             inner,
@@ -40,8 +42,10 @@ impl<W: Write> WriteSink<W> {
     pub fn telling(inner: W) -> WriteSink<W>
         requires { IsSome (W.contents inner) }
         ensures writer { result.inner ≡ inner }
-        ensures written { ⟦<WriteSink<W> as Sink>⟧.written result ≡ W.contents inner }
-        ensures faults { ⟦<WriteSink<W> as Sink>⟧.faults result ≡ 0 }
+        ensures told { ⟦<WriteSink<W> as Sink>⟧.model result ≡ record {
+          written = W.contents inner;
+          faults = 0;
+        } }
     {
         WriteSink {
             inner,
@@ -53,7 +57,7 @@ impl<W: Write> WriteSink<W> {
     /// The writer, with what was written in it.
     pub fn into_inner(self) -> W
         ensures writer { result ≡ self.inner }
-        ensures written { IfSome (⟦<WriteSink<W> as Sink>⟧.written self)
+        ensures written { IfSome ((⟦<WriteSink<W> as Sink>⟧.model self).written)
             (λ bytes. W.contents result ≡ Some bytes) }
     {
         let WriteSink { inner, .. } = self;
@@ -62,8 +66,8 @@ impl<W: Write> WriteSink<W> {
 
     /// Flushes the writer. What was written stays as it is, and an error is a fault.
     pub fn flush(&mut self) -> Result<(), Failed>
-        ensures written { ⟦<WriteSink<W> as Sink>⟧.written self.new
-            ≡ ⟦<WriteSink<W> as Sink>⟧.written self.old }
+        ensures written { (⟦<WriteSink<W> as Sink>⟧.model self.new).written
+            ≡ (⟦<WriteSink<W> as Sink>⟧.model self.old).written }
         ensures kept { Keeps (W.contents self.old.inner) (W.contents self.new.inner) }
         ensures fault { OnErr result (self.new.faults ≡ next_count self.old.faults) }
         ensures no_fault { OnOk result (self.new.faults ≡ self.old.faults) }
@@ -77,19 +81,12 @@ impl<W: Write> WriteSink<W> {
 }
 
 impl<W: Write> Sink for WriteSink<W> {
-    ghost written = { λ s. told_bytes s.tells (W.contents s.inner) };
-
-    ghost faults = { λ s. s.faults };
+    ghost model = { λ s. told_sink s.tells (W.contents s.inner) s.faults };
 
     fn put(&mut self, piece: &[u8]) -> Result<(), Failed>
-        ensures ok { OnOk result (Appends (told_bytes self.old.tells (W.contents self.old.inner))
-            (told_bytes self.new.tells (W.contents self.new.inner)) piece.now) }
-        ensures failed { OnErr result (AppendsFront
-            (told_bytes self.old.tells (W.contents self.old.inner))
-            (told_bytes self.new.tells (W.contents self.new.inner)) piece.now) }
-        ensures cause { OnErr result (Rose self.old.faults self.new.faults) }
-        ensures no_fault { OnOk result (self.new.faults ≡ self.old.faults) }
-        ensures later { self.old.faults ≤ self.new.faults }
+        ensures put { Puts piece.now result
+            (told_sink self.old.tells (W.contents self.old.inner) self.old.faults)
+            (told_sink self.new.tells (W.contents self.new.inner) self.new.faults) }
 
         // The bytes go to the writer, whether this sink tells or not.
         ensures wrote { OnOk result

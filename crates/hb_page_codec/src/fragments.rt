@@ -1,5 +1,5 @@
 //! A page's inside, from the front of bytes.
-ghost use Rattle.std.specs.Prelude.{◌≡◌, ◌<◌, ◌≤◌, length};
+ghost use Rattle.std.specs.Prelude.{◌≡◌, ◌<◌, ◌≤◌};
 ghost use Rattle.hb_space.specs.Points.{IsAttributeCount};
 ghost use Rattle.hb_page_codec.specs.Memory.{WantsOnly, IsSomeCount, IsCutOrRecords};
 ghost use Rattle.hb_page_codec.specs.Reading.{ReadsAs, Gives};

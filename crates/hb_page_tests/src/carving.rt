@@ -1,7 +1,6 @@
 //! Boxes carved in one to four attributes, and leaves joined.
 
-ghost use Rattle.std.specs.Prelude.{◌≡◌, length, IfOk};
-ghost use Rattle.hb_frag.specs.Leaves.{weight_of};
+ghost use Rattle.std.specs.Prelude.{◌≡◌};
 
 use crate::drawn::{frag_text, push_frag};
 use crate::rows::expect_all;

@@ -1,6 +1,6 @@
 //! Plans of postings and merges for pages that were drawn by hand, each read off the drawing.
 
-ghost use Rattle.std.specs.Prelude.{◌≡◌, ◌<◌, ◌^◌, IfOk, IsTrue, length};
+ghost use Rattle.std.specs.Prelude.{◌≡◌, ◌<◌, ◌^◌, IfOk, IsTrue};
 ghost use Rattle.hb_space.specs.Boxes.{Holds};
 ghost use Rattle.hb_frag.specs.Leaves.{weight_of, WellCut};
 ghost use Rattle.hb_frag.specs.Rules.{IsNormal};

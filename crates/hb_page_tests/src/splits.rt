@@ -1,6 +1,6 @@
 //! The part that leaves a full page, as it was worked out by hand from the rule: its path, and the cuts there.
 
-ghost use Rattle.std.specs.Prelude.{◌<◌, ◌^◌, IfOk};
+ghost use Rattle.std.specs.Prelude.{◌<◌, ◌^◌};
 ghost use Rattle.hb_frag.specs.Leaves.{weight_of};
 
 use crate::operations::{push_cuts, push_path};

@@ -22,7 +22,7 @@ use Rattle.hb_point.specs.Asks.{MayAsk}
 use Rattle.hb_point.specs.Doing.{DoesBy, IsHalfFor, PutsBy, WalksBy, deed_for, line_with}
 use Rattle.hb_point.specs.PointRows.{PointRow}
 use Rattle.hb_point.specs.SessionRows.{DoesThere}
-use Rattle.hb_point.specs.SplitRows.{Puts, SplitsOrFull}
+use Rattle.hb_point.specs.SplitRows.{PutsInHalf, SplitsOrFull}
 use Rattle.hb_set.specs.declared.commands.Command.{Command}
 use Rattle.hb_set.specs.declared.commands.Command.TheVariants.{Insert}
 use Rattle.hb_set.specs.declared.commands.Reply.TheVariants as replies
@@ -80,7 +80,7 @@ pub puts_half : (line : Line) (rec : Record) (source fresh half : ℕ) (page : L
 puts_half line rec source fresh half page next command chosen then_is op_is jobs_is fate_is = λ meta id first free halves.
     let same : halves.rec ≡ rec = cc (sym halves.command ∙ command) in
     let among = subst (λ (o : Option LivePage). page_among (given_pages (at.SessionPut line source fresh) id page o) half ≡ page_among ((id, page) ∷ (fresh, halves.other) ∷ []) half) (sym halves.half) refl in
-    let puts : (there : LivePage) → (half ≡ source) ⊎ (half ≡ fresh) → page_among ((id, page) ∷ (fresh, halves.other) ∷ []) half ≡ Some there → DirectlyHolds there rec.key → Puts (given_sight meta (given_pages (at.SessionPut line source fresh) id page first) free) line source fresh (deed_for line next) = λ there either live holds. record {
+    let puts : (there : LivePage) → (half ≡ source) ⊎ (half ≡ fresh) → page_among ((id, page) ∷ (fresh, halves.other) ∷ []) half ≡ Some there → DirectlyHolds there rec.key → PutsInHalf (given_sight meta (given_pages (at.SessionPut line source fresh) id page first) free) line source fresh (deed_for line next) = λ there either live holds. record {
       rec = rec;
       command = command;
       half = half;

@@ -22,7 +22,7 @@ use Rattle.hb_frag.specs.Trees.{Tree}
 use Rattle.hb_ops.specs.Cutting.{reached}
 use Rattle.hb_point.proofs.Facts.ChosenCuts.{one_choice}
 use Rattle.hb_point.specs.Examples.{PutsByHand, SplitsByHand, at_forty, given_half, kept_half, rec_at, six_records}
-use Rattle.hb_point.specs.SplitRows.{Puts, SplitsOrFull}
+use Rattle.hb_point.specs.SplitRows.{PutsInHalf, SplitsOrFull}
 use Rattle.hb_space.specs.Boxes.{Area, Holds}
 use Rattle.hb_split.specs.Choosing.{AreChosen, IsBest, IsChosen, MayCut, NotBehind, heavier_count}
 
@@ -163,26 +163,26 @@ module _ (s : Sight) (line : Line) (kept : s.page_at 5 ≡ Some kept_half) (give
   abbrev put_deed : ℕ → Record → Deed
   put_deed half rec = takes_effect s.place line replies.Done (Some (Put half rec)) []
 
-  puts_below : line.command ≡ Insert (rec_at (39 ∷ []) 2) → IsOnly (Puts s line 5 9) (put_deed 5 (rec_at (39 ∷ []) 2))
+  puts_below : line.command ≡ Insert (rec_at (39 ∷ []) 2) → IsOnly (PutsInHalf s line 5 9) (put_deed 5 (rec_at (39 ∷ []) 2))
   puts_below command = record {
     done = record { rec = rec_at (39 ∷ []) 2; command = command; half = 5; either = inl refl; page = kept_half; live = kept; holds = below_held; deed_is = refl };
     only = λ other row. by other row row.either;
   }
     where
-      by : (other : Deed) (row : Puts s line 5 9 other) → (row.half ≡ 5) ⊎ (row.half ≡ 9) → other ≡ put_deed 5 (rec_at (39 ∷ []) 2)
+      by : (other : Deed) (row : PutsInHalf s line 5 9 other) → (row.half ≡ 5) ⊎ (row.half ≡ 9) → other ≡ put_deed 5 (rec_at (39 ∷ []) 2)
       by other row (inl five) = row.deed_is ∙ ap (λ (n : ℕ). put_deed n row.rec) five ∙ ap (put_deed 5) (same_rec row.rec (rec_at (39 ∷ []) 2) (sym row.command ∙ command))
       by other row (inr nine) =
           let page : row.page ≡ given_half = same_Some row.page given_half (sym row.live ∙ ap s.page_at nine ∙ given) in
           let rec = same_rec row.rec (rec_at (39 ∷ []) 2) (sym row.command ∙ command) in
           absurd (below_not_given (subst (λ (r : Record). DirectlyHolds given_half r.key) rec (subst (λ (q : LivePage). DirectlyHolds q row.rec.key) page row.holds)))
 
-  puts_from : line.command ≡ Insert (rec_at (40 ∷ []) 2) → IsOnly (Puts s line 5 9) (put_deed 9 (rec_at (40 ∷ []) 2))
+  puts_from : line.command ≡ Insert (rec_at (40 ∷ []) 2) → IsOnly (PutsInHalf s line 5 9) (put_deed 9 (rec_at (40 ∷ []) 2))
   puts_from command = record {
     done = record { rec = rec_at (40 ∷ []) 2; command = command; half = 9; either = inr refl; page = given_half; live = given; holds = from_held; deed_is = refl };
     only = λ other row. by other row row.either;
   }
     where
-      by : (other : Deed) (row : Puts s line 5 9 other) → (row.half ≡ 5) ⊎ (row.half ≡ 9) → other ≡ put_deed 9 (rec_at (40 ∷ []) 2)
+      by : (other : Deed) (row : PutsInHalf s line 5 9 other) → (row.half ≡ 5) ⊎ (row.half ≡ 9) → other ≡ put_deed 9 (rec_at (40 ∷ []) 2)
       by other row (inl five) =
           let page : row.page ≡ kept_half = same_Some row.page kept_half (sym row.live ∙ ap s.page_at five ∙ kept) in
           let rec = same_rec row.rec (rec_at (40 ∷ []) 2) (sym row.command ∙ command) in

@@ -13,7 +13,7 @@ use Rattle.hb_activity.specs.Classes.{HasLine}
 use Rattle.hb_activity.specs.Deciding.{given_pages, given_sight, joined_by, said_by}
 use Rattle.hb_activity.specs.Deeds.{Deed}
 use Rattle.hb_point.specs.Asks.{HasHalves, MustSplit}
-use Rattle.hb_point.specs.SplitRows.{Puts}
+use Rattle.hb_point.specs.SplitRows.{PutsInHalf}
 use Rattle.hb_point.specs.PointRows.{PointRow}
 use Rattle.hb_point.specs.SessionRows.{DoesThere}
 use Rattle.hb_layout.specs.Limits.{IsLayout}
@@ -78,7 +78,7 @@ pub record PartsPage (meta : Meta) (free : Option (ℕ × ℕ)) (line : Line) (h
 -- An answer is the row that puts, whatever is given as the other half.
 abbrev pub PutsBy : Line → ℕ → ℕ → LivePage → Next → Type 0
 PutsBy line source fresh page next = (meta : Meta) (id : ℕ) (first : Option LivePage) (free : Option (ℕ × ℕ)) → HasHalves meta line source fresh id page first →
-    Puts (given_sight meta (given_pages (at.SessionPut line source fresh) id page first) free) line source fresh (deed_for line next)
+    PutsInHalf (given_sight meta (given_pages (at.SessionPut line source fresh) id page first) free) line source fresh (deed_for line next)
 
 -- The half is the page, where that directly holds the point, and else the other one.
 abbrev pub IsHalfFor : LivePage → List ℕ → ℕ → ℕ → ℕ → Type 0

@@ -18,7 +18,7 @@ use Rattle.hb_activity.specs.Sights.{Sight}
 use Rattle.hb_activity.specs.Stages.{pages_are_merged}
 use Rattle.hb_frag.specs.Trees.{Tip, Cut}
 use Rattle.hb_point.specs.SessionRows.{DoesThere, next_line}
-use Rattle.hb_point.specs.SplitRows.{Puts, SplitsOrFull}
+use Rattle.hb_point.specs.SplitRows.{PutsInHalf, SplitsOrFull}
 use Rattle.hb_space.specs.Boxes.{side_from, whole_area}
 
 abbrev pub rec_at : List ℕ → ℕ → Record
@@ -80,9 +80,9 @@ given_half = record { level = 0; area = side_from (whole_area 1) 0 40; frag = Ti
 -- A record of 39 goes into page 5, and one of 40 into page 9.
 pub record PutsByHand (s : Sight) (line : Line) : Type 0 where
   pub below : s.page_at 5 ≡ Some kept_half → s.page_at 9 ≡ Some given_half → line.command ≡ Insert (rec_at (39 ∷ []) 2) →
-      IsOnly (Puts s line 5 9) (takes_effect s.place line replies.Done (Some (Put 5 (rec_at (39 ∷ []) 2))) [])
+      IsOnly (PutsInHalf s line 5 9) (takes_effect s.place line replies.Done (Some (Put 5 (rec_at (39 ∷ []) 2))) [])
   pub from : s.page_at 5 ≡ Some kept_half → s.page_at 9 ≡ Some given_half → line.command ≡ Insert (rec_at (40 ∷ []) 2) →
-      IsOnly (Puts s line 5 9) (takes_effect s.place line replies.Done (Some (Put 9 (rec_at (40 ∷ []) 2))) [])
+      IsOnly (PutsInHalf s line 5 9) (takes_effect s.place line replies.Done (Some (Put 9 (rec_at (40 ∷ []) 2))) [])
 
 -- a line that asks for a point, and its answer
 abbrev pub asks : ℕ → ℕ → ℕ → Line

@@ -12,7 +12,7 @@ use Rattle.hb_ops.specs.Recording.{put_page}
 use Rattle.hb_ops.specs.Sound.{FitsFile}
 use Rattle.hb_ops.specs.Standing.{StandsNot}
 use Rattle.hb_point.specs.SessionRows.{DoesThere, FindsNoRoom}
-use Rattle.hb_point.specs.SplitRows.{Puts, Splits}
+use Rattle.hb_point.specs.SplitRows.{PutsInHalf, Splits}
 use Rattle.hb_space.specs.declared.records.Record.{Record}
 
 -- A command on a point that has an operation may do it, where the page keeps the rules of a page alone.
@@ -32,7 +32,7 @@ SplitsAreAllowed = (s : Sight) (line : Line) (held : ℕ) (deed : Deed) (op : Op
 
 -- The record may be put into its half, where it isn't there and the half has room for it.
 abbrev pub PutsAreAllowed : Type 0
-PutsAreAllowed = (s : Sight) (line : Line) (source fresh : ℕ) (deed : Deed) (op : Op) (row : Puts s line source fresh deed) → FitsFile s.meta row.page →
+PutsAreAllowed = (s : Sight) (line : Line) (source fresh : ℕ) (deed : Deed) (op : Op) (row : PutsInHalf s line source fresh deed) → FitsFile s.meta row.page →
     StandsNot row.page row.rec.key → weight_of (put_page row.rec row.page).frag ≤ s.meta.dcap → deed.op ≡ Some op → IsAllowedAlone s row.half row.page op
 
 -- A command on a point has one deed at a page.

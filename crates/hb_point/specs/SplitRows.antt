@@ -25,7 +25,7 @@ pub record Splits (s : Sight) (line : Line) (held : ℕ) (deed : Deed) : Type 0 
       (record { kind = Post; level = 1; point = corner_of leaves } ∷ [])
 
 -- Putting: the record goes into the half that directly holds its point.
-pub record Puts (s : Sight) (line : Line) (source fresh : ℕ) (deed : Deed) : Type 0 where
+pub record PutsInHalf (s : Sight) (line : Line) (source fresh : ℕ) (deed : Deed) : Type 0 where
   pub rec : Record
   pub command : line.command ≡ Insert rec
   pub half : ℕ

@@ -1,19 +1,12 @@
 //! A full page is split, and the record that had no room is put into one of the halves.
 
-ghost use Rattle.std.specs.Prelude.{◌≡◌, ◌⊎◌, ◌↔◌, ℕ, [], ◌∷◌, length, Some, IfOk, IsTrue, IsSome, OnErr};
+ghost use Rattle.std.specs.Prelude.{◌≡◌, ◌⊎◌, ◌↔◌, ℕ, [], ◌∷◌, Some, IfOk, IsTrue, IsSome, OnErr};
 ghost use Rattle.hb_activity.specs.Deciding.{given_sight};
-ghost use Rattle.hb_frag.specs.Leaves.{DirectlyHolds, WellCut};
-ghost use Rattle.hb_frag.specs.Paths.{part_at};
-ghost use Rattle.hb_frag.specs.Trees.{Tree};
-ghost use Rattle.hb_layout.specs.Limits.{IsLayout};
-ghost use Rattle.hb_ops.specs.Cutting.{half_area, reached};
-ghost use Rattle.hb_ops.specs.Sound.{FitsFile};
-ghost use Rattle.hb_ops.specs.Splits.{PlanesCut};
+ghost use Rattle.hb_frag.specs.Leaves.{DirectlyHolds};
 ghost use Rattle.hb_point.specs.Doing.{CanHold, InsertsInto, IsHalfFor, PartsPage, PutsBy, deed_for, line_with};
 ghost use Rattle.hb_point.specs.SplitRows.{SplitsOrFull};
 ghost use Rattle.hb_set.specs.declared.commands.Command.TheVariants as commands;
-ghost use Rattle.hb_space.specs.Boxes.{Area as Extent, Cuts as Parts};
-ghost use Rattle.hb_split.specs.Laws.{MayLeave};
+ghost use Rattle.hb_space.specs.Boxes.{Cuts as Parts};
 
 use hb_activity::{Activity, Job, JobKind, Next, corner_of};
 use hb_frag::{LivePage, Path, Side};

@@ -1,10 +1,15 @@
 -- What an audit's answer says of the bytes of a file that is opened.
-use Rattle.std.proofs.Common.{◌≡◌, inl, inr, ℕ, zero, suc, ◌+◌, ◌-◌, ◌*◌, ◌<◌, ◌≤◌, ◌^◌, List, [], ◌∷◌, length, take, drop, get_or, slice_get, All, Option, Some, None, IfSome, refl, sym, ap, subst, ◌∙◌, arith, length-take}
+use Rattle.std.proofs.Common.{◌≡◌, inl, inr, ℕ, zero, suc, ◌+◌, ◌-◌, ◌*◌, ◌<◌, ◌≤◌, ◌^◌, List, [], ◌∷◌, length, take, drop, get_or, slice_get, All, Option, Some, None, IfSome, IfErr, Result, Ok, Err, refl, sym, ap, subst, ◌∙◌, arith, length-take}
 use Rattle.std.specs.Ordering.{nat_cmp}
 use Rattle.std.specs.BTreeMap.{BTreeMap, get}
 use Rattle.std.proofs.lemmas.Bool.{cases_lt}
-use Rattle.std.proofs.lemmas.List.{get_or-take, get_or-drop}
+use Rattle.std.proofs.lemmas.List.{get_or-drop}
 use Rattle.std.proofs.lemmas.List.Elements.{All-get_or}
+use Rattle.hb_outside.specs.Calls.{Counts}
+use Rattle.hb_disk.specs.Model.{DiskModel, Stays}
+use Rattle.hb_disk.specs.Calls.{OnlyReads, ReadsOnly}
+use Rattle.hb_disk.proofs.Facts.FaultLaws.{Counts-as}
+use Rattle.hb_lemmas.proofs.Options.{at_value, if_value}
 use Rattle.hb_frag.specs.declared.pages.Page.{Page}
 use Rattle.hb_frag.specs.Grammar.{SpellsPage}
 use Rattle.hb_layout.specs.declared.meta.Meta.{Meta}
@@ -21,29 +26,18 @@ use Rattle.hb_store.specs.States.{IsSameLayout}
 use Rattle.hb_store.specs.Opening.{IsPageIn, Shows, place_bytes}
 use Rattle.hb_store.specs.Replay.{Replayed, untouched, replay}
 use Rattle.hb_restart.specs.Found.{IsFoundIn, IsReadIn, audit_fault, touched_pages}
-use Rattle.hb_restart.specs.Refusals.{LogSays, IsUnsound, LacksPage, Refuses}
+use Rattle.hb_restart.specs.Refusals.{IsRefusal, IsShut, LogSays, IsUnsound, LacksPage, RefusesBytes}
 use Rattle.hb_restart.specs.Source.{touched_or, page_there, pages_from, told_pages}
 use Rattle.hb_restart.specs.declared.faults.OpenFault.{OpenFault}
 use Rattle.hb_restart.specs.declared.faults.OpenFault.TheVariants as faults
 use Rattle.hb_restart.specs.declared.reading.LogRead.{LogRead}
-use Rattle.hb_restart.proofs.Numbered.{page_at-place, some_number}
+use Rattle.hb_restart.proofs.Numbered.{some_number}
+use Rattle.hb_ops.proofs.Facts.PageNumberLaws.{page_at-suc}
 use Rattle.hb_restart.proofs.Told.{front_at, shown_each, told_at, told_is, told_long}
-
--- bytes behind and in front of others are bytes
-pub front_bytes : (n : ℕ) (bytes : List ℕ) → AreBytes bytes → AreBytes (take n bytes)
-front_bytes n bytes are i = elim (cases_lt i n) [
-  | inl less ↦ (let e = get_or-take n bytes i 0 less in let here = are i in omega (arith, e, here))
-  | inr most ↦ (let e = beyond n bytes i most in omega (arith, e))
-]
-  where
-    beyond : (n : ℕ) (bytes : List ℕ) (i : ℕ) → n ≤ i → get_or (take n bytes) i 0 ≡ 0
-    beyond zero bytes i most = refl
-    beyond (suc n) [] i most = refl
-    beyond (suc n) (b ∷ bytes) zero most = absurd (omega (arith, most))
-    beyond (suc n) (b ∷ bytes) (suc i) most = beyond n bytes i (omega (arith, most))
+use Rattle.hb_page_codec.proofs.Facts.Fields.{AreBytes-take}
 
 pub place_is_bytes : (said : Meta) (id : ℕ) (b : List ℕ) → AreBytes b → AreBytes (place_bytes said id b)
-place_is_bytes said id b are = front_bytes 4096 (drop (8192 + 2 * said.log + 4096 * (id - 1)) b) (λ i. let e = get_or-drop (8192 + 2 * said.log + 4096 * (id - 1)) b i 0 in let there = are (8192 + 2 * said.log + 4096 * (id - 1) + i) in omega (arith, e, there))
+place_is_bytes said id b are = AreBytes-take 4096 (drop (8192 + 2 * said.log + 4096 * (id - 1)) b) (λ i. let e = get_or-drop (8192 + 2 * said.log + 4096 * (id - 1)) b i 0 in let there = are (8192 + 2 * said.log + 4096 * (id - 1) + i) in omega (arith, e, there))
 
 pub disk_bytes : (b : List ℕ) → All (λ x. x < 2 ^ 8) b → AreBytes b
 disk_bytes b all i = elim (cases_lt i (length b)) [
@@ -132,7 +126,7 @@ module _ (exact : PagesAreExact) (b : List ℕ) (are : AreBytes b) (said meta : 
         at : (id : ℕ) (p : Page) → page_of (file_of meta told) id ≡ Some p → ((k : ℕ) (q : Page) → slice_get (shown_pages front) k ≡ Some q → slice_get front k ≡ Some (Some q)) → IsPageIn b said id (t.page id) p
         at zero p is each = absurd (let first = some_number (shown_pages front) zero p is in omega (arith, first))
         at (suc k) p is each =
-            let here = each k p (sym (page_at-place (shown_pages front) k) ∙ is) in
+            let here = each k p (sym (page_at-suc (shown_pages front) k) ∙ is) in
             is_in (suc k) p (told_is page said.pages (suc k) (Some p) (front_at meta.high told k (Some p) here).1).2
 
 -- What the audit answers where the superblock and the log were read.
@@ -178,7 +172,7 @@ module _ (exact : PagesAreExact) (b : List ℕ) (are : AreBytes b) (read : LogRe
     counted = sound.2;
   }
 
-  pub names_unsound : (page rule : ℕ) → Names says all page rule → Refuses (faults.Unsound page rule) b
+  pub names_unsound : (page rule : ℕ) → Names says all page rule → RefusesBytes (faults.Unsound page rule) b
   names_unsound page rule names = (read.turn, read.said, is.has, is.log.groups, log_read, by names)
     where
       lacks : (id : ℕ) → IsHole says all id → LacksPage b read.said last id
@@ -204,13 +198,33 @@ module _ (exact : PagesAreExact) (o : Option (List ℕ)) (are : (b : List ℕ) �
           subst (λ (p : BTreeMap ℕ Page). IsFoundIn b read.turn read.touched.meta (get nat_cmp p) count) (sym is) (found_sound exact b (are b refl) read there layout same count sound)
 
   pub named_err : (stop : AuditStop) → OnBroken (λ page rule. IfSome (told_pages o read.said (touched_pages read.touched)) (λ told. Names read.touched.meta told page rule)) stop
-      → (fault : OpenFault) → fault ≡ audit_fault stop → IfSome o (λ b. IsReadIn b read → Refuses fault b)
-  named_err stop names fault is = subst (λ (f : OpenFault). IfSome o (λ b. IsReadIn b read → Refuses f b)) (sym is) (by o are stop names)
+      → (fault : OpenFault) → fault ≡ audit_fault stop → IfSome o (λ b. IsReadIn b read → RefusesBytes fault b)
+  named_err stop names fault is = subst (λ (f : OpenFault). IfSome o (λ b. IsReadIn b read → RefusesBytes f b)) (sym is) (by o are stop names)
     where
       by : (o : Option (List ℕ)) → ((b : List ℕ) → o ≡ Some b → AreBytes b) → (stop : AuditStop)
           → OnBroken (λ page rule. IfSome (told_pages o read.said (touched_pages read.touched)) (λ told. Names read.touched.meta told page rule)) stop
-          → IfSome o (λ b. IsReadIn b read → Refuses (audit_fault stop) b)
+          → IfSome o (λ b. IsReadIn b read → RefusesBytes (audit_fault stop) b)
       by None are stop names = tt
       by (Some b) are (stops.Broken page rule) names = λ there. names_unsound exact b (are b refl) read there layout same page rule names
       by (Some b) are stops.Failed names = λ there. tt
       by (Some b) are stops.NoMemory names = λ there. tt
+
+-- the audit fails where the source does
+pub failed_is : (stop : AuditStop) → audit_fault stop ≡ faults.DiskFault → stop ≡ stops.Failed
+failed_is (stops.Broken page rule) same = absurd (let never : ⊥ = cc same in never)
+failed_is stops.Failed same = refl
+failed_is stops.NoMemory same = absurd (let never : ⊥ = cc same in never)
+
+-- what asking for pages did to the disk
+pub asked_only : {F : Type 0} (failed : Type 0) (old new : DiskModel) → (failed → F) → (F → failed) → OnlyReads old new → Counts failed old.read_faults new.read_faults → ReadsOnly F old new
+asked_only failed old new to from reads counts = record { stays = reads.stays; reads = Counts-as old.read_faults new.read_faults to from counts; writes = reads.writes }
+
+-- a refusal of what was read, behind the reads
+pub refused_there : {A D : Type 0} (r : Result A (OpenFault × D)) (old mid : DiskModel) (read : LogRead) → Stays old mid → IfSome old.told (λ b. IsReadIn b read)
+    → IfErr r (λ e. IfSome mid.told (λ b. IsReadIn b read → RefusesBytes e.0 b)) → IfErr r (λ e. IsShut mid.size e.0) → IfErr r (λ e. IsRefusal old e.0)
+refused_there (Ok v) old mid read stays here why shut = tt
+refused_there (Err e) old mid read stays here why shut = record {
+  why = if_value old.told (RefusesBytes e.0) (λ b told.
+      at_value mid.told (λ b. IsReadIn b read → RefusesBytes e.0 b) b (stays.told ∙ told) why (at_value old.told (λ b. IsReadIn b read) b told here));
+  shut = let Q : ℕ → Type 0 = λ n. IsShut n e.0 in subst Q stays.size shut;
+}

@@ -8,7 +8,7 @@ use Rattle.hb_wal.specs.Frames.{frames, frame_bytes, IsPayload, IsEnd, IsBadFram
 use Rattle.hb_wal.specs.Reading.{BeginsFrame}
 use Rattle.hb_log_codec.specs.Groups.{Logged, SpellsGroups}
 use Rattle.hb_store.proofs.Facts.Spellings.{OneList}
-use Rattle.hb_store.specs.Replay.{Replayed, MayReplay, after_group, replay, untouched}
+use Rattle.hb_store.specs.Replay.{Replayed, MayReplay, replay, untouched}
 use Rattle.hb_store.proofs.Facts.ReplayLaws.{MayReplay-front, replay-append, MayReplay-back}
 use Rattle.hb_store.specs.Opening.{HasBadGroup, IsBadPayload, SpellAll}
 use Rattle.hb_restart.specs.Refusals.{LogSays}

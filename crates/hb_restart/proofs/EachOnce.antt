@@ -16,7 +16,8 @@ use Rattle.hb_layout.specs.Offsets.{page_offset}
 use Rattle.hb_store.specs.Opening.{place_bytes}
 use Rattle.hb_restart.specs.WritingBack.{one_for, touched_to, WritesEachOnce, WritesAll, IsWrittenTo}
 use Rattle.hb_restart.proofs.Renewed.{other_place}
-use Rattle.hb_restart.proofs.RunSteps.{told_on, ok_tick}
+use Rattle.hb_restart.proofs.RunSteps.{ok_tick}
+use Rattle.hb_disk.proofs.Facts.RewriteLaws.{Becomes-tells}
 
 -- the count doesn't fall
 pub touched_more : (touched : ℕ → Option Page) (m n : ℕ) → m ≤ n → touched_to touched m ≤ touched_to touched n
@@ -148,7 +149,7 @@ module _ (from : ℕ) (bytes : List ℕ) (meta : Meta) (touched : ℕ → Option
     -- and once it succeeded
     pub written_there : (v : T) → r ≡ Ok v → ((b : List ℕ) → new.told ≡ Some b → SpellsPage (place_bytes meta at b) q) → IsWrittenTo at from bytes meta touched new
     written_there v ok there = record {
-      tells = told_on (Torn (page_offset meta at) PAGE) old new run stands.tells;
+      tells = Becomes-tells (Torn (page_offset meta at) PAGE) old new run stands.tells;
       time = (let tick = ok_tick r v old new ok is_old stands.tells ticks in omega (arith, tick, stands.time, one_more));
       written = λ id page some most is c told. elim (cases_eq id at) [
         | inl same ↦

@@ -1,1 +1,2 @@
 pub mod LoneLaws
+pub mod Beyond

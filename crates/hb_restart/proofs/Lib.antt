@@ -3,8 +3,9 @@ pub mod Numbered
 pub mod NoChild
 pub mod NewFile
 pub mod Made
-pub mod Beyond
+pub mod MadeOrNot
 pub mod RunSteps
+pub mod RunsThen
 pub mod PageWrites
 pub mod PlaceReads
 pub mod Told
@@ -13,6 +14,7 @@ pub mod Renewed
 pub mod SyncedRuns
 pub mod EachOnce
 pub mod SamePages
+pub mod Opened
 pub mod Recovered
 pub mod SoundFiles
 pub mod BadFrames

@@ -163,17 +163,19 @@ module _ (d : DiskModel) (is_disk : IsDisk d) (meta : Meta) (page c : List ℕ) 
       groups = [];
       by = opens_fresh e 0 meta (lone meta p) is_newest (omega (arith, e_long, fits)) log_is refl (sym one) (spelled p spells);
     });
-    places = IsSynced-durable d 0 8192 durable;
-    no_body = λ b is.
-        let same : e ≡ b = same_Some e b (sym told ∙ is) in
-        let Q : List ℕ → Type 0 = λ l. HasNoBody l 1 in
-        subst Q same (HasNoBody-same c e 1 (part_kept c 0 frame 4097 40 frame_fits (inr (omega (arith, short)))) laid.places.no_body);
-    logged = record {
-      synced = IsSynced-durable d (log_start 0 meta) meta.log durable;
-      payloads_fit = λ i x lt. absurd (omega (arith, lt));
-      count = refl;
-      reads = of_value d.told (λ b. range (log_start 0 meta) meta.log b ≡ [] ++ replicate (meta.log - 0) 0) e told
-          (log_is ∙ ap (λ (n : ℕ). replicate n 0) (let none : meta.log ≡ meta.log - 0 = omega arith in none));
+    running = record {
+      places = IsSynced-durable d 0 8192 durable;
+      no_body = λ b is.
+          let same : e ≡ b = same_Some e b (sym told ∙ is) in
+          let Q : List ℕ → Type 0 = λ l. HasNoBody l 1 in
+          subst Q same (HasNoBody-same c e 1 (part_kept c 0 frame 4097 40 frame_fits (inr (omega (arith, short)))) laid.places.no_body);
+      logged = record {
+        synced = IsSynced-durable d (log_start 0 meta) meta.log durable;
+        payloads_fit = λ i x lt. absurd (omega (arith, lt));
+        count = refl;
+        reads = of_value d.told (λ b. range (log_start 0 meta) meta.log b ≡ [] ++ replicate (meta.log - 0) 0) e told
+            (log_is ∙ ap (λ (n : ℕ). replicate n 0) (let none : meta.log ≡ meta.log - 0 = omega arith in none));
+      };
     };
     pages = λ id q is x image. let Q : List ℕ → Type 0 = λ l. SpellsPage (place_bytes meta id l) q in subst Q (sym (only x image)) (spelled p spells id q is);
   }

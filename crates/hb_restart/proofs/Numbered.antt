@@ -1,18 +1,10 @@
 -- The numbers of the pages of a file.
-use Rattle.std.proofs.Common.{◌≡◌, ℕ, zero, suc, ◌+◌, ◌-◌, ◌≤◌, ◌==◌, Bool, cond, List, [], ◌∷◌, length, slice_get, Some, None, refl, sym, ap, ◌∙◌, arith, ne_eqb}
+use Rattle.std.proofs.Common.{◌≡◌, ℕ, zero, suc, ◌+◌, ◌-◌, ◌≤◌, List, [], ◌∷◌, length, slice_get, Some, None, refl, sym, ◌∙◌, arith}
 use Rattle.hb_frag.specs.declared.pages.Page.{Page}
 use Rattle.hb_ops.specs.Files.{page_at}
+use Rattle.hb_ops.proofs.Facts.PageNumberLaws.{page_at-suc}
 
 -- the page of a number above 0 stands one place before it
-pub page_at-place : (pages : List Page) (n : ℕ) → page_at pages (suc n) ≡ slice_get pages n
-page_at-place [] n = refl
-page_at-place (page ∷ rest) zero = refl
-page_at-place (page ∷ rest) (suc n) =
-    ap (λ (b : Bool). cond b None (cond (suc (suc n) == 1) (Some page) (page_at rest (suc (suc n) - 1)))) (ne_eqb (suc (suc n)) 0 (λ e. omega arith))
-    ∙ ap (λ (b : Bool). cond b (Some page) (page_at rest (suc (suc n) - 1))) (ne_eqb (suc (suc n)) 1 (λ e. omega arith))
-    ∙ ap (page_at rest) (let e : suc (suc n) - 1 ≡ suc n = omega arith in e)
-    ∙ page_at-place rest n
-
 pub inside : {A : Type 0} (xs : List A) (n : ℕ) → n + 1 ≤ length xs → (x : A) × (slice_get xs n ≡ Some x)
 inside {A} [] n most = absurd (omega (arith, most))
 inside {A} (x ∷ xs) zero most = (x, refl)
@@ -31,8 +23,8 @@ some_number pages (suc n) page e = omega arith
 
 pub last_number : (pages : List Page) (id : ℕ) (page : Page) → page_at pages id ≡ Some page → id ≤ length pages
 last_number pages zero page e = omega arith
-last_number pages (suc n) page e = let most = within pages n page (sym (page_at-place pages n) ∙ e) in omega (arith, most)
+last_number pages (suc n) page e = let most = within pages n page (sym (page_at-suc pages n) ∙ e) in omega (arith, most)
 
 pub page_there_is : (pages : List Page) (id : ℕ) → 1 ≤ id → id ≤ length pages → (page : Page) × (page_at pages id ≡ Some page)
 page_there_is pages zero some most = absurd (omega (arith, some))
-page_there_is pages (suc n) some most = let here = inside pages n (omega (arith, most)) in (here.0, page_at-place pages n ∙ here.1)
+page_there_is pages (suc n) some most = let here = inside pages n (omega (arith, most)) in (here.0, page_at-suc pages n ∙ here.1)

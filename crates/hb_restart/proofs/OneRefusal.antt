@@ -10,15 +10,12 @@ use Rattle.hb_layout.specs.Offsets.{file_size}
 use Rattle.hb_store.specs.Opening.{HasBadGroup, log_bytes, SpellAll, OpensToOne}
 use Rattle.hb_store.specs.Replay.{untouched, replay}
 use Rattle.hb_sound.specs.Names.{NamesIn, OneIsNamed}
-use Rattle.hb_sound.specs.Walks.{IsLeast}
-use Rattle.hb_restart.specs.Refusals.{Refuses, IsUnwritten, IsSmall, IsUnsound, HasLayout, LogSays, LacksPage}
+use Rattle.hb_restart.specs.Refusals.{RefusesBytes, IsUnwritten, IsSmall, IsUnsound, HasLayout, LogSays, LacksPage}
 use Rattle.hb_restart.specs.declared.faults.OpenFault.{OpenFault}
 use Rattle.hb_restart.specs.declared.faults.OpenFault.TheVariants as faults
 use Rattle.hb_restart.proofs.BadFrames.{one_bad_group, bad_or_whole}
 use Rattle.hb_restart.proofs.NotRefused.{least_size, opens_so}
-
-least_one : (p : ℕ → Type 0) (m n : ℕ) → IsLeast p m → IsLeast p n → m ≡ n
-least_one p m n a b = let x = a.least n b.here in let y = b.least m a.here in omega (arith, x, y)
+use Rattle.hb_sound.proofs.LeastLaws.{least_one}
 
 same_small : (a b c d : ℕ) → a ≡ c → b ≡ d → ◌≡◌ {A = OpenFault} (faults.Small a b) (faults.Small c d)
 same_small a b c d e f = cc (e, f)
@@ -79,7 +76,7 @@ module _ (once : OneList) (turns : (bytes : List ℕ) (t s : ℕ) (m n : Meta) �
   bad_not : (t s : ℕ) (m n : Meta) (f : ℕ) (groups : List Logged) → HasLayout b t m → HasLayout b s n → HasBadGroup b t m f → LogSays b s n groups → ⊥
   bad_not t s m n f groups x y bad log = bad_or_whole once b s n f groups (moved (λ k said. HasBadGroup b k said f) t s m n x y bad) log
 
-  pub refused_once : (f g : OpenFault) → Refuses f b → Refuses g b → IsUnwritten f → IsUnwritten g → f ≡ g
+  pub refused_once : (f g : OpenFault) → RefusesBytes f b → RefusesBytes g b → IsUnwritten f → IsUnwritten g → f ≡ g
   refused_once faults.DiskFault g x y u v = absurd u
   refused_once faults.NoMemory g x y u v = absurd u
   refused_once (faults.Small needed found) (faults.Small wanted there) x y u v = same_small needed found wanted there (small_same needed found wanted there x y) (x.0 ∙ sym y.0)

@@ -31,6 +31,14 @@ module _ (old mid new : DiskModel) (reads : OnlyReads old mid) (turn : ℕ) (met
       Leaves-then old mid new (λ c. OpensTo c s) (Leaves-read old old mid (λ c. OpensTo c s) (Leaves-start old (λ c. OpensTo c s) is_old is_even.images) stays)
       (at_value mid.told (λ b. IsFoundIn b turn meta touched count → (s : FileState) → IsEven mid s → Leaves mid new (λ c. OpensTo c s)) b.0 (stays.told ∙ b.1) run (found_at b.0 b.1) s still)
 
+  -- over any other disk, once the first sync was done
+  pub recovered_late_on : IfSome mid.told (λ b. IsFoundIn b turn meta touched count → (s : FileState) → OpensTo b s → mid.clock + 2 ≤ new.clock → (c : List ℕ) → new.ImageSince (mid.clock + 1) c → OpensTo c s)
+      → IfSome old.told (λ b. (s : FileState) → OpensTo b s → old.clock + 2 ≤ new.clock → (c : List ℕ) → new.ImageSince (old.clock + 1) c → OpensTo c s)
+  recovered_late_on run = if_value old.told (λ b. (s : FileState) → OpensTo b s → old.clock + 2 ≤ new.clock → (c : List ℕ) → new.ImageSince (old.clock + 1) c → OpensTo c s) (λ b told s opens later c left.
+      let N : ℕ → Type 0 = λ n. new.ImageSince (n + 1) c in
+      at_value mid.told (λ b. IsFoundIn b turn meta touched count → (s : FileState) → OpensTo b s → mid.clock + 2 ≤ new.clock → (c : List ℕ) → new.ImageSince (mid.clock + 1) c → OpensTo c s)
+      b (reads.stays.told ∙ told) run (found_at b told) s opens (omega (arith, reads.stays.clock, later)) c (subst N (sym reads.stays.clock) left))
+
   -- at least the first sync has moved the clock
   pub recovered_time : IfSome mid.told (λ b. IsFoundIn b turn meta touched count → WritesAll (mid.clock + 1) b meta touched new) → IsSome old.told → old.clock + 1 ≤ new.clock
   recovered_time run tells =

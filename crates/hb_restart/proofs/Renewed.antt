@@ -28,7 +28,8 @@ use Rattle.hb_store.proofs.Facts.ReplayLaws.{opens_elsewhere, opens_fresh}
 use Rattle.hb_store.proofs.Facts.FreshLaws.{IsNewest-elsewhere, IsFresh-from}
 use Rattle.hb_restart.specs.Renewing.{StillOpens, IsHere, IsPlaced, IsPlacedTo, IsReadyFor}
 use Rattle.hb_restart.proofs.Numbered.{last_number, some_number}
-use Rattle.hb_restart.proofs.RunSteps.{now_has, told_on}
+use Rattle.hb_restart.proofs.RunSteps.{now_has}
+use Rattle.hb_disk.proofs.Facts.RewriteLaws.{Becomes-tells}
 
 -- where the log areas of a turn and of the next one lie
 pub record Areas (turn next : ℕ) (meta : Meta) : Type 0 where
@@ -239,7 +240,7 @@ module _ (turn next : ℕ) (said meta : Meta) (small : turn ≤ 3) (is : next �
 
     placed_here : IsHere new turn said meta touched s
     placed_here = record {
-      told = told_on (Torn (page_offset meta at) PAGE) old new run here.told;
+      told = Becomes-tells (Torn (page_offset meta at) PAGE) old new run here.told;
       images = placed_images;
       places = IsSynced-elsewhere old new 0 8192 (page_offset meta at) PAGE (inl (omega arith)) run here.places;
     }
@@ -313,7 +314,7 @@ module _ (turn next : ℕ) (said meta : Meta) (small : turn ≤ 3) (is : next �
     zeroed_ready long durable zeroed = record {
       placed = record {
         here = record {
-          told = told_on (Torn area meta.log) mid new run mid_told;
+          told = Becomes-tells (Torn area meta.log) mid new run mid_told;
           images = now_has old new P is_new zeroed_moments;
           places = IsSynced-durable new 0 8192 durable;
         };
@@ -373,7 +374,7 @@ module _ (turn next : ℕ) (said meta : Meta) (small : turn ≤ 3) (is : next �
     cleared_ready hidden synced durable = record {
       placed = record {
         here = record {
-          told = told_on (Torn (slot_offset next + 1) 40) old new run zeroed.placed.here.told;
+          told = Becomes-tells (Torn (slot_offset next + 1) 40) old new run zeroed.placed.here.told;
           images = now_has old new P is_new cleared_moments;
           places = synced;
         };
@@ -413,6 +414,3 @@ module _ (turn next : ℕ) (said meta : Meta) (small : turn ≤ 3) (is : next �
         let N : ℕ → Type 0 = λ n. IsFresh new n meta s in
         subst N is (written_fresh old ready b.0 b.1 super_long super_opens new is_new run (omega (arith, room, run.size)) durable
         (at_value old.told (λ b. IsNewest b turn said → IfSome new.told (λ c. IsNewest c next meta)) b.0 b.1 newest super_newest))
-
-pub not_none : {X : Type 0} (o : Option X) (x : X) → o ≡ Some x → o ≡ None → ⊥
-not_none o x is none = cc

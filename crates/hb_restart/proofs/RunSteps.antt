@@ -1,17 +1,8 @@
 -- What follows of runs of calls: of the disk once they succeeded, and of its images.
-use Rattle.std.proofs.Common.{◌≡◌, inl, inr, ℕ, ◌+◌, ◌≤◌, List, Some, IsSome, Result, Ok, Err, OnOk, IsErr, refl, subst, arith}
+use Rattle.std.proofs.Common.{◌≡◌, inl, inr, ℕ, ◌+◌, List, IsSome, Result, Ok, Err, OnOk, IsErr, refl, subst}
 use Rattle.std.proofs.Math.Nat.{eq-or-lt_of_le}
 use Rattle.hb_disk.specs.Model.{DiskModel, IsDisk}
-use Rattle.hb_disk.specs.Calls.{Ticks, Becomes, Leaves}
-use Rattle.hb_lemmas.proofs.Options.{some_value, at_value, has_value}
-use Rattle.hb_restart.specs.Renewing.{Runs}
-
--- a disk that tells still does
-pub told_on : (R : List ℕ → List ℕ → Type 0) (old new : DiskModel) → Becomes R old new → IsSome old.told → IsSome new.told
-told_on R old new run tells =
-    let b = some_value old.told tells in
-    let c = at_value old.told (λ b. (c : List ℕ) × (new.told ≡ Some c) × R b c) b.0 b.1 run.told in
-    has_value new.told c.0 c.1
+use Rattle.hb_disk.specs.Calls.{Ticks, Leaves}
 
 -- An image of now has what each image since an earlier moment has.
 pub now_has : (old new : DiskModel) (P : List ℕ → Type 0) → IsDisk new → Leaves old new P → (c : List ℕ) → new.Image c → P c
@@ -31,15 +22,6 @@ ok_tick {T = T} {E = E} r v old new ok is_old tells ticks = elim (eq-or-lt_of_le
 pub on_ok_two : {T E : Type 0} (r : Result T E) (P Q S : Type 0) → (P → Q → S) → OnOk r P → OnOk r Q → OnOk r S
 on_ok_two (Ok v) P Q S f p q = f p q
 on_ok_two (Err e) P Q S f p q = tt
-
--- the disk has as much room after a run
-pub size_after : {T E : Type 0} {n : ℕ} (r : Result T E) (m : ℕ) (old new : DiskModel) → Runs m r old new → n ≤ old.size → n ≤ new.size
-size_after r m old new run room = omega (arith, run.size, room)
-
--- what a success gives where something holds
-pub on_ok_given : {T E : Type 0} (r : Result T E) (P Q : Type 0) → (P → OnOk r Q) → OnOk r (P → Q)
-on_ok_given (Ok v) P Q f = f
-on_ok_given (Err e) P Q f = tt
 
 -- what a success gives for each value
 pub on_ok_each : {T E X : Type 0} (r : Result T E) (P : X → Type 0) → ((x : X) → OnOk r (P x)) → OnOk r ((x : X) → P x)

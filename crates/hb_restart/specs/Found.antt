@@ -19,6 +19,7 @@ use Rattle.hb_restart.specs.Refusals.{HasLayout}
 use Rattle.hb_restart.specs.Renewing.{StillOpens}
 use Rattle.hb_restart.specs.declared.faults.OpenFault.{OpenFault}
 use Rattle.hb_restart.specs.declared.faults.OpenFault.TheVariants as faults
+use Rattle.hb_restart.specs.declared.looking.Found.{Found}
 use Rattle.hb_restart.specs.declared.reading.LogRead.{LogRead}
 
 -- the pages that a log touches, by their numbers
@@ -55,6 +56,11 @@ pub record IsWhole (size turn : ℕ) (meta : Meta) : Type 0 where
   pub legal : IsLegal turn meta
   pub room : file_size meta ≤ size
   pub marks : HasMarks meta
+
+-- what may be renewed: such a file, of which each touched page has a spelling
+pub record IsRenewable (size : ℕ) (found : Found) : Type 0 where
+  pub whole : IsWhole size found.turn found.meta
+  pub spelled : AreSpelled (get nat_cmp found.touched)
 
 -- no refusal by the size of the disk
 abbrev pub NamesNoSize : OpenFault → Type 0

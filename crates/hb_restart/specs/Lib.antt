@@ -7,3 +7,4 @@ pub mod Found
 pub mod Source
 pub mod Beyond
 pub mod WritingBack
+pub mod Leaving

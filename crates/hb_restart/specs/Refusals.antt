@@ -1,6 +1,7 @@
 -- Why a file isn't opened.
-use Rattle.std.specs.Prelude.{◌≡◌, ◌⊎◌, ℕ, ◌*◌, ◌≤◌, ◌<◌, List, length, None}
+use Rattle.std.specs.Prelude.{◌≡◌, ◌⊎◌, ℕ, ◌*◌, ◌≤◌, ◌<◌, List, length, None, IfSome}
 use Rattle.hb_space.specs.declared.form.TheConstants.{PAGE}
+use Rattle.hb_disk.specs.Model.{DiskModel}
 use Rattle.hb_wal.specs.Frames.{HasFrames}
 use Rattle.hb_super.specs.Superblocks.{IsNewest, HasNone}
 use Rattle.hb_frag.specs.declared.pages.Page.{Page}
@@ -47,13 +48,13 @@ IsSmall bytes needed found = (found ≡ length bytes) × (found < needed)
     × ((needed ≡ 2 * PAGE) ⊎ ((2 * PAGE ≤ found) × (turn : ℕ) × (said : Meta) × IsNewest bytes turn said × (needed ≡ file_size said)))
 
 -- Why bytes aren't opened, in the order in which it is tested. A fault of the disk and want of memory say nothing of them.
-abbrev pub Refuses : OpenFault → List ℕ → Type 0
-Refuses (faults.Small needed found) bytes = IsSmall bytes needed found
-Refuses faults.NoSuper bytes = (2 * PAGE ≤ length bytes) × HasNone bytes
-Refuses (faults.BadGroup frame) bytes = (turn : ℕ) × (said : Meta) × HasLayout bytes turn said × HasBadGroup bytes turn said frame
-Refuses (faults.Unsound page rule) bytes = (turn : ℕ) × (said : Meta) × HasLayout bytes turn said × (groups : List Logged) × LogSays bytes turn said groups × IsUnsound bytes said groups page rule
-Refuses faults.DiskFault bytes = Unit {0}
-Refuses faults.NoMemory bytes = Unit {0}
+abbrev pub RefusesBytes : OpenFault → List ℕ → Type 0
+RefusesBytes (faults.Small needed found) bytes = IsSmall bytes needed found
+RefusesBytes faults.NoSuper bytes = (2 * PAGE ≤ length bytes) × HasNone bytes
+RefusesBytes (faults.BadGroup frame) bytes = (turn : ℕ) × (said : Meta) × HasLayout bytes turn said × HasBadGroup bytes turn said frame
+RefusesBytes (faults.Unsound page rule) bytes = (turn : ℕ) × (said : Meta) × HasLayout bytes turn said × (groups : List Logged) × LogSays bytes turn said groups × IsUnsound bytes said groups page rule
+RefusesBytes faults.DiskFault bytes = Unit {0}
+RefusesBytes faults.NoMemory bytes = Unit {0}
 
 -- whatever the disk was, it is small by its size
 abbrev pub IsShut : ℕ → OpenFault → Type 0
@@ -63,6 +64,11 @@ IsShut size (faults.BadGroup frame) = Unit {0}
 IsShut size (faults.Unsound page rule) = Unit {0}
 IsShut size faults.DiskFault = Unit {0}
 IsShut size faults.NoMemory = Unit {0}
+
+-- why a disk isn't opened
+pub record IsRefusal (d : DiskModel) (fault : OpenFault) : Type 0 where
+  pub why : IfSome d.told (RefusesBytes fault)
+  pub shut : IsShut d.size fault
 
 -- nothing is written before these
 abbrev pub IsUnwritten : OpenFault → Type 0
@@ -76,8 +82,8 @@ IsNoRefusal fault = (fault ≡ faults.DiskFault) ⊎ (fault ≡ faults.NoMemory)
 
 -- bytes that open to a sound file are refused for no reason of theirs
 abbrev pub GoodIsNotRefused : Type 0
-GoodIsNotRefused = (fault : OpenFault) (bytes : List ℕ) (s : FileState) → OpensTo bytes s → IsSound s → Refuses fault bytes → IsNoRefusal fault
+GoodIsNotRefused = (fault : OpenFault) (bytes : List ℕ) (s : FileState) → OpensTo bytes s → IsSound s → RefusesBytes fault bytes → IsNoRefusal fault
 
 -- Bytes are refused in one way: two refusals of them are the same.
 abbrev pub IsRefusedOnce : Type 0
-IsRefusedOnce = (bytes : List ℕ) (fault other : OpenFault) → Refuses fault bytes → Refuses other bytes → IsUnwritten fault → IsUnwritten other → fault ≡ other
+IsRefusedOnce = (bytes : List ℕ) (fault other : OpenFault) → RefusesBytes fault bytes → RefusesBytes other bytes → IsUnwritten fault → IsUnwritten other → fault ≡ other

@@ -1,6 +1,6 @@
 -- What opening a file makes of its disk, once it is found: the touched pages are written to their places, and the next
 -- turn begins.
-use Rattle.std.specs.Prelude.{◌≡◌, ◌⊎◌, ℕ, ◌*◌, ◌+◌, ◌≤◌, List, replicate, Option, Some, None, IsSome, Result, OnOk, OnErr}
+use Rattle.std.specs.Prelude.{◌≡◌, ◌⊎◌, ℕ, ◌*◌, ◌+◌, ◌≤◌, List, replicate, Option, Some, IsSome}
 use Rattle.hb_space.specs.declared.form.TheConstants.{PAGE}
 use Rattle.hb_outside.specs.Streams.{Rose}
 use Rattle.hb_disk.specs.Model.{DiskModel}
@@ -14,6 +14,7 @@ use Rattle.hb_log_codec.specs.Groups.{Logged}
 use Rattle.hb_ops.specs.Files.{FileState, page_of}
 use Rattle.hb_store.specs.States.{IsSameLayout}
 use Rattle.hb_store.specs.Replay.{untouched, replay}
+use Rattle.hb_restart.specs.Beyond.{KeepsBeyond}
 use Rattle.hb_store.specs.Opening.{OpensBy, log_bytes, place_bytes}
 
 -- Bytes open to this file, which says this of itself, by the superblock of this turn, which says that; and these are the
@@ -49,14 +50,15 @@ pub record IsReadyFor (d : DiskModel) (turn : ℕ) (said meta : Meta) (touched :
   pub zeroed : (b : List ℕ) → d.told ≡ Some b → log_bytes (next_turn turn) meta b ≡ replicate meta.log 0
   pub hides : (b : List ℕ) → d.told ≡ Some b → HidesNoOther b (next_turn turn) meta
 
--- A run of at most n calls that write: the size stays, no count falls, the disk tells after it exactly where it told
--- before, and a count of failed calls has risen where it answers an error, and nowhere else.
-pub record Runs {T E : Type 0} (n : ℕ) (result : Result T E) (old new : DiskModel) : Type 0 where
-  pub size : new.size ≡ old.size
-  pub silent : old.told ≡ None → new.told ≡ None
-  pub tells : IsSome old.told → IsSome new.told
-  pub clock : IsSome old.told → new.clock ≤ old.clock + n
-  pub cause : OnErr result (Rose old.read_faults new.read_faults ⊎ Rose old.write_faults new.write_faults)
-  pub no_fault : OnOk result ((new.read_faults ≡ old.read_faults) × (new.write_faults ≡ old.write_faults))
+-- Calls of a disk, reads and others: where they failed so, a count of failed ones rose, elsewhere none did, and none falls.
+pub record DiskFaults (failed : Type 0) (old new : DiskModel) : Type 0 where
+  pub cause : failed → Rose old.read_faults new.read_faults ⊎ Rose old.write_faults new.write_faults
+  pub no_fault : (failed → ⊥) → (new.read_faults ≡ old.read_faults) × (new.write_faults ≡ old.write_faults)
   pub reads : old.read_faults ≤ new.read_faults
   pub writes : old.write_faults ≤ new.write_faults
+
+-- A run of at most so many calls that write, on the first so many bytes, which may fail so.
+pub record Runs (most within : ℕ) (failed : Type 0) (old new : DiskModel) : Type 0 where
+  pub beyond : KeepsBeyond within old new
+  pub few : IsSome old.told → new.clock ≤ old.clock + most
+  pub faults : DiskFaults failed old new

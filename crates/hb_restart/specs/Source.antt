@@ -48,6 +48,12 @@ pub record IsSource (size : ℕ) (said : Meta) (touched : BTreeMap ℕ Page) : T
 pub IsSource-prop : (size : ℕ) (said : Meta) (touched : BTreeMap ℕ Page) → IsProp (IsSource size said touched)
 IsSource-prop size said touched = hlevel props
 
+-- the disk has room for the file, which has a place for a page of this number
+pub record HasPlaceFor (size : ℕ) (meta : Meta) (id : ℕ) : Type 0 where
+  pub room : file_size meta ≤ size
+  pub some : 1 ≤ id
+  pub most : id ≤ meta.pages
+
 -- Asking for pages only reads, and leaves all else as it is.
 pub record AsksOnly (old new : DiskModel) (said before : Meta) (touched then : BTreeMap ℕ Page) : Type 0 where
   pub reads : OnlyReads old new

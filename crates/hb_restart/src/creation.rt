@@ -1,20 +1,18 @@
 //! Making a file.
-ghost use Rattle.std.specs.Prelude.{◌≡◌, ◌≢◌, ◌⊎◌, ℕ, ◌*◌, ◌+◌, ◌≤◌, ◌<◌, List, [], length, Some, None, OnOk, IfOk, IfErr, IfSome, IsSome, IsNone};
+ghost use Rattle.std.specs.Prelude.{◌≡◌, ◌≢◌, ◌⊎◌, ℕ, ◌*◌, ◌+◌, ◌≤◌, ◌<◌, List, [], Some, None, OnOk, IfOk, IfErr, IfSome, IsSome, IsNone};
 ghost use Rattle.hb_space.specs.declared.form.TheConstants.{PAGE};
-ghost use Rattle.hb_outside.specs.Streams.{Rose};
-ghost use Rattle.hb_disk.specs.Calls.{WriteFaults};
+ghost use Rattle.hb_disk.specs.Model.{Torn};
+ghost use Rattle.hb_disk.specs.Runs.{Lasts, Rewrites};
 ghost use Rattle.hb_frag.specs.declared.pages.Page.{Page as Content};
 ghost use Rattle.hb_frag.specs.Grammar.{SpellsPage};
 ghost use Rattle.hb_layout.specs.Limits.{IsLayout};
-ghost use Rattle.hb_layout.specs.declared.meta.Meta.{Meta as Said};
 ghost use Rattle.hb_layout.specs.Offsets.{file_size};
-ghost use Rattle.hb_store.specs.States.{IsNew};
-ghost use Rattle.hb_store.specs.Keeps.{IsFresh, StoreKeeps};
+ghost use Rattle.hb_store.specs.Keeps.{IsFresh};
 ghost use Rattle.hb_store.specs.Seen.{seen_as, disk_of};
-ghost use Rattle.hb_restart.specs.Beyond.{KeepsBeyond};
-ghost use Rattle.hb_restart.specs.Creation.{HasEmptyPlaces, IsLaidOut};
-ghost use Rattle.hb_restart.specs.NewFiles.{lone, new_file, new_meta};
-ghost use Rattle.hb_restart.specs.Layouts.{RefusesLayout, layout_fault, layout_size};
+ghost use Rattle.hb_restart.specs.Creation.{HasEmptyPlaces, IsLaidOut, LeavesMaking, MakesStore, RefusesMaking};
+ghost use Rattle.hb_restart.specs.Leaving.{FailedBy, disk_left};
+ghost use Rattle.hb_restart.specs.NewFiles.{lone};
+ghost use Rattle.hb_restart.specs.Layouts.{layout_fault, layout_size};
 ghost use Rattle.hb_restart.specs.declared.faults.CreateFault.TheVariants.{DiskFault, NoMemory};
 
 use crate::faults::CreateFault;
@@ -34,10 +32,7 @@ use std::alloc::Global;
 fn zero_places<D: Device>(disk: &mut D) -> Result<(), hb_disk::DiskFault>
     requires room { 2 * PAGE ≤ (D.model disk.old).size }
     ensures closed { OnOk result (IfSome (D.model disk.old).told (λ b. (c : List ℕ) × ((D.model disk.new).told ≡ Some c) × HasEmptyPlaces c)) }
-    ensures silent { (D.model disk.old).told ≡ None → (D.model disk.new).told ≡ None }
-    ensures size { (D.model disk.new).size ≡ (D.model disk.old).size }
-    ensures beyond { KeepsBeyond (2 * PAGE) (D.model disk.old) (D.model disk.new) }
-    ensures faults { WriteFaults result (D.model disk.old) (D.model disk.new) }
+    ensures wrote { Rewrites (Torn 0 (2 * PAGE)) 2 result (D.model disk.old) (D.model disk.new) }
 {
     zero_area(disk, 0, 2 * PAGE as u32)
 }
@@ -48,11 +43,8 @@ fn write_parts<D: Device>(disk: &mut D, meta: &Meta, page: &[u8; PAGE]) -> Resul
     requires some { 1 ≤ meta.now.pages }
     ensures laid { OnOk result (IfSome (D.model disk.old).told (λ b. HasEmptyPlaces b →
         (c : List ℕ) × ((D.model disk.new).told ≡ Some c) × IsLaidOut c meta.now page.now)) }
-    ensures durable { OnOk result (IfSome (D.model disk.new).told (λ b. (c : List ℕ) → (D.model disk.new).Image c → c ≡ b)) }
-    ensures silent { (D.model disk.old).told ≡ None → (D.model disk.new).told ≡ None }
-    ensures size { (D.model disk.new).size ≡ (D.model disk.old).size }
-    ensures beyond { KeepsBeyond (file_size meta.now) (D.model disk.old) (D.model disk.new) }
-    ensures faults { WriteFaults result (D.model disk.old) (D.model disk.new) }
+    ensures lasts { OnOk result (Lasts (D.model disk.new)) }
+    ensures wrote { Rewrites (Torn 0 (file_size meta.now)) 3 result (D.model disk.old) (D.model disk.new) }
 {
     disk.zero(log_start(0, meta), u64::from(meta.log))?;
     disk.write(page_offset(meta, 1), page)?;
@@ -68,11 +60,8 @@ fn lay_out<D: Device>(
     requires room { file_size meta.now ≤ (D.model disk.old).size }
     requires some { 1 ≤ meta.now.pages }
     ensures laid { OnOk result (IfSome (D.model disk.old).told (λ b. (c : List ℕ) × ((D.model disk.new).told ≡ Some c) × IsLaidOut c meta.now page.now)) }
-    ensures durable { OnOk result (IfSome (D.model disk.new).told (λ b. (c : List ℕ) → (D.model disk.new).Image c → c ≡ b)) }
-    ensures silent { (D.model disk.old).told ≡ None → (D.model disk.new).told ≡ None }
-    ensures size { (D.model disk.new).size ≡ (D.model disk.old).size }
-    ensures beyond { KeepsBeyond (file_size meta.now) (D.model disk.old) (D.model disk.new) }
-    ensures faults { WriteFaults result (D.model disk.old) (D.model disk.new) }
+    ensures lasts { OnOk result (Lasts (D.model disk.new)) }
+    ensures wrote { Rewrites (Torn 0 (file_size meta.now)) 5 result (D.model disk.old) (D.model disk.new) }
 {
     zero_places(disk)?;
     Ok(write_parts(disk, meta, page)?)
@@ -89,10 +78,7 @@ fn write_file<D: Device>(
     requires one { (meta.now.root ≡ 1) × (meta.now.high ≡ 1) × (meta.now.live ≡ 1) × (meta.now.free ≡ 0) }
     ensures fresh { OnOk result (IsSome (D.model disk.old).told → (p : Content) → SpellsPage page.now p →
         IsFresh (D.model disk.new) 0 meta.now (lone meta.now p)) }
-    ensures size { (D.model disk.new).size ≡ (D.model disk.old).size }
-    ensures told { IsSome (D.model disk.new).told → IsSome (D.model disk.old).told }
-    ensures beyond { KeepsBeyond (file_size meta.now) (D.model disk.old) (D.model disk.new) }
-    ensures faults { WriteFaults result (D.model disk.old) (D.model disk.new) }
+    ensures wrote { Rewrites (Torn 0 (file_size meta.now)) 9 result (D.model disk.old) (D.model disk.new) }
 {
     lay_out(disk, meta, page)?;
     write_first_super(disk, meta)
@@ -102,17 +88,10 @@ fn write_file<D: Device>(
 fn make<D: Device>(alloc: Global, disk: D, layout: Layout) -> Result<Store<D>, (CreateFault, D)>
     requires good { IsNone (layout_fault layout) }
     requires large { layout_size layout ≤ (D.model disk).size }
-    ensures made { IfOk result (λ st. IsSome (D.model disk).told → StoreKeeps (D.model (disk_of st)) (seen_as st) (new_file layout) []) }
-    ensures new { IfOk result (λ st. IsNew 0 (new_meta layout) (seen_as st)) }
-    ensures refused { IfErr result (λ e. RefusesLayout layout (D.model disk).size e.0) }
+    ensures made { IfOk result (λ st. MakesStore layout (D.model disk) (D.model (disk_of st)) (seen_as st)) }
+    ensures refused { IfErr result (λ e. RefusesMaking layout (D.model disk) (D.model e.1) e.0) }
     ensures behind_tests { IfErr result (λ e. (e.0 ≡ DiskFault) ⊎ (e.0 ≡ NoMemory)) }
-    ensures made_anyway { IfErr result (λ e. e.0 ≡ NoMemory → IsSome (D.model disk).told → IsFresh (D.model e.1) 0 (new_meta layout) (new_file layout)) }
-    ensures beyond { IfOk result (λ st. KeepsBeyond (layout_size layout) (D.model disk) (D.model (disk_of st))) }
-    ensures beyond_after_fault { IfErr result (λ e. KeepsBeyond (layout_size layout) (D.model disk) (D.model e.1)) }
-    ensures cause { IfErr result (λ e. e.0 ≡ DiskFault → (Rose (D.model disk).write_faults (D.model e.1).write_faults)) }
-    ensures no_fault { IfOk result (λ st. ((D.model (disk_of st)).read_faults ≡ (D.model disk).read_faults) × ((D.model (disk_of st)).write_faults ≡ (D.model disk).write_faults)) }
-    ensures no_fault_refused { IfErr result (λ e. (e.0 ≡ DiskFault → ⊥) → (D.model e.1).write_faults ≡ (D.model disk).write_faults) }
-    ensures later_after_fault { IfErr result (λ e. ((D.model e.1).read_faults ≡ (D.model disk).read_faults) × ((D.model disk).write_faults ≤ (D.model e.1).write_faults)) }
+    ensures leaves { LeavesMaking layout (FailedBy DiskFault result) (D.model disk) (D.model (disk_left result disk_of)) }
 {
     let mut disk = disk;
     let meta = layout.meta();
@@ -134,20 +113,10 @@ pub fn create<D: Device>(
     disk: D,
     layout: Layout,
 ) -> Result<Store<D>, (CreateFault, D)>
-    ensures made { IfOk result (λ st. IsSome (D.model disk).told → StoreKeeps (D.model (disk_of st)) (seen_as st) (new_file layout) []) }
-    ensures new { IfOk result (λ st. IsNew 0 (new_meta layout) (seen_as st)) }
-    ensures good { IfOk result (λ st. IsNone (layout_fault layout)) }
-    ensures large { IfOk result (λ st. layout_size layout ≤ (D.model disk).size) }
-    ensures refused { IfErr result (λ e. RefusesLayout layout (D.model disk).size e.0) }
+    ensures made { IfOk result (λ st. MakesStore layout (D.model disk) (D.model (disk_of st)) (seen_as st)) }
+    ensures refused { IfErr result (λ e. RefusesMaking layout (D.model disk) (D.model e.1) e.0) }
     ensures unwritten { IfErr result (λ e. e.0 ≢ DiskFault → e.0 ≢ NoMemory → e.1 ≡ disk) }
-    // memory is refused only once the file is made
-    ensures made_anyway { IfErr result (λ e. e.0 ≡ NoMemory → IsSome (D.model disk).told → IsFresh (D.model e.1) 0 (new_meta layout) (new_file layout)) }
-    ensures beyond { IfOk result (λ st. KeepsBeyond (layout_size layout) (D.model disk) (D.model (disk_of st))) }
-    ensures beyond_after_fault { IfErr result (λ e. KeepsBeyond (layout_size layout) (D.model disk) (D.model e.1)) }
-    ensures cause { IfErr result (λ e. e.0 ≡ DiskFault → (Rose (D.model disk).write_faults (D.model e.1).write_faults)) }
-    ensures no_fault { IfOk result (λ st. ((D.model (disk_of st)).read_faults ≡ (D.model disk).read_faults) × ((D.model (disk_of st)).write_faults ≡ (D.model disk).write_faults)) }
-    ensures no_fault_refused { IfErr result (λ e. (e.0 ≡ DiskFault → ⊥) → (D.model e.1).write_faults ≡ (D.model disk).write_faults) }
-    ensures later_after_fault { IfErr result (λ e. ((D.model e.1).read_faults ≡ (D.model disk).read_faults) × ((D.model disk).write_faults ≤ (D.model e.1).write_faults)) }
+    ensures leaves { LeavesMaking layout (FailedBy DiskFault result) (D.model disk) (D.model (disk_left result disk_of)) }
 {
     if let Some(fault) = layout.fault() {
         return Err((CreateFault::BadLayout(fault), disk));

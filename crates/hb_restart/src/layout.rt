@@ -1,5 +1,5 @@
 //! What a new file is to be.
-ghost use Rattle.std.specs.Prelude.{◌≡◌, [], ◌≤◌, Some, IsNone, IfOk, IfErr, IfSome};
+ghost use Rattle.std.specs.Prelude.{◌≡◌, [], ◌≤◌, Some, IsNone, IfOk, IfErr};
 ghost use Rattle.hb_space.specs.declared.form.TheConstants.{KMAX};
 ghost use Rattle.hb_frag.specs.Grammar.{HasSpelling};
 ghost use Rattle.std.specs.FinMap as finite;

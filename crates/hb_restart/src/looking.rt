@@ -1,11 +1,11 @@
 //! What a file is, before it is opened: a sound one, or the first rule that it breaks. Nothing is written.
-ghost use Rattle.std.specs.Prelude.{◌≡◌, IfOk, IfErr, IfSome};
+ghost use Rattle.std.specs.Prelude.{IfOk, IfErr, IfSome};
 ghost use Rattle.std.specs.Ordering.{nat_cmp};
 ghost use Rattle.std.specs.BTreeMap.{get};
-ghost use Rattle.hb_outside.specs.Streams.{Rose};
-ghost use Rattle.hb_disk.specs.Calls.{OnlyReads};
-ghost use Rattle.hb_restart.specs.Found.{AreSpelled, IsFoundIn, IsReadIn, IsWhole, IsWholeRead};
-ghost use Rattle.hb_restart.specs.Refusals.{Refuses, IsShut};
+ghost use Rattle.hb_disk.specs.Calls.{ReadsOnly};
+ghost use Rattle.hb_restart.specs.Found.{IsFoundIn, IsReadIn, IsRenewable, IsWholeRead};
+ghost use Rattle.hb_restart.specs.Leaving.{FailedBy, disk_left};
+ghost use Rattle.hb_restart.specs.Refusals.{IsRefusal, IsShut, RefusesBytes};
 ghost use Rattle.hb_restart.specs.declared.faults.OpenFault.TheVariants.{DiskFault};
 
 use crate::faults::OpenFault;
@@ -34,15 +34,10 @@ pub(crate) struct Found {
 fn audited<D: Device>(alloc: Global, disk: D, read: LogRead) -> Result<(Found, D), (OpenFault, D)>
     requires { IsWholeRead (D.model disk).size read }
     ensures found { IfOk result (λ r. IfSome (D.model disk).told (λ b. IsReadIn b read → IsFoundIn b r.0.turn r.0.meta (get nat_cmp r.0.touched) r.0.count)) }
-    ensures whole { IfOk result (λ r. IsWhole (D.model disk).size r.0.turn r.0.meta) }
-    ensures spelled { IfOk result (λ r. AreSpelled (get nat_cmp r.0.touched)) }
-    ensures refused { IfErr result (λ e. IfSome (D.model disk).told (λ b. IsReadIn b read → Refuses e.0 b)) }
+    ensures renewable { IfOk result (λ r. IsRenewable (D.model disk).size r.0) }
+    ensures refused { IfErr result (λ e. IfSome (D.model disk).told (λ b. IsReadIn b read → RefusesBytes e.0 b)) }
     ensures shut { IfErr result (λ e. IsShut (D.model disk).size e.0) }
-    ensures cause { IfErr result (λ e. e.0 ≡ DiskFault → Rose (D.model disk).read_faults (D.model e.1).read_faults) }
-    ensures no_fault { IfOk result (λ r. (D.model r.1).read_faults ≡ (D.model disk).read_faults) }
-    ensures no_fault_refused { IfErr result (λ e. (e.0 ≡ DiskFault → ⊥) → (D.model e.1).read_faults ≡ (D.model disk).read_faults) }
-    ensures only_reads { IfOk result (λ r. OnlyReads (D.model disk) (D.model r.1)) }
-    ensures only_reads_refused { IfErr result (λ e. OnlyReads (D.model disk) (D.model e.1)) }
+    ensures only { ReadsOnly (FailedBy DiskFault result) (D.model disk) (D.model (disk_left result (λ r. r.1))) }
 {
     spelling_law();
     fields_are_read_exactly();
@@ -74,15 +69,9 @@ fn audited<D: Device>(alloc: Global, disk: D, read: LogRead) -> Result<(Found, D
 /// The file of a disk, or why there is none. The tests come in the order in which `recover` names them.
 pub(crate) fn look<D: Device>(alloc: Global, disk: D) -> Result<(Found, D), (OpenFault, D)>
     ensures found { IfOk result (λ r. IfSome (D.model disk).told (λ b. IsFoundIn b r.0.turn r.0.meta (get nat_cmp r.0.touched) r.0.count)) }
-    ensures whole { IfOk result (λ r. IsWhole (D.model disk).size r.0.turn r.0.meta) }
-    ensures spelled { IfOk result (λ r. AreSpelled (get nat_cmp r.0.touched)) }
-    ensures refused { IfErr result (λ e. IfSome (D.model disk).told (Refuses e.0)) }
-    ensures shut { IfErr result (λ e. IsShut (D.model disk).size e.0) }
-    ensures cause { IfErr result (λ e. e.0 ≡ DiskFault → Rose (D.model disk).read_faults (D.model e.1).read_faults) }
-    ensures no_fault { IfOk result (λ r. (D.model r.1).read_faults ≡ (D.model disk).read_faults) }
-    ensures no_fault_refused { IfErr result (λ e. (e.0 ≡ DiskFault → ⊥) → (D.model e.1).read_faults ≡ (D.model disk).read_faults) }
-    ensures only_reads { IfOk result (λ r. OnlyReads (D.model disk) (D.model r.1)) }
-    ensures only_reads_refused { IfErr result (λ e. OnlyReads (D.model disk) (D.model e.1)) }
+    ensures renewable { IfOk result (λ r. IsRenewable (D.model disk).size r.0) }
+    ensures refused { IfErr result (λ e. IsRefusal (D.model disk) e.0) }
+    ensures only { ReadsOnly (FailedBy DiskFault result) (D.model disk) (D.model (disk_left result (λ r. r.1))) }
 {
     let mut disk = disk;
     match read_file(alloc, &mut disk) {

@@ -1,13 +1,12 @@
 //! What a file is by its superblock and its log. Nothing is written.
 ghost use Rattle.std.specs.Prelude.{◌≡◌, ◌*◌, ◌≤◌, IfOk, IfErr, IfSome, IsErrOf};
 ghost use Rattle.hb_space.specs.declared.form.TheConstants.{PAGE};
-ghost use Rattle.hb_outside.specs.Streams.{Rose};
-ghost use Rattle.hb_disk.specs.Calls.{OnlyReads};
+ghost use Rattle.hb_disk.specs.Calls.{ReadsOnly};
 ghost use Rattle.hb_super.specs.Superblocks.{IsLegal, IsNewest};
 ghost use Rattle.hb_layout.specs.Offsets.{file_size as bytes_of};
 ghost use Rattle.hb_store.specs.LogReading.{ReadsLog, IsTouched};
 ghost use Rattle.hb_restart.specs.Found.{IsReadIn, IsWholeRead, FindsNone, LogRefuses, NamesNoSize};
-ghost use Rattle.hb_restart.specs.Refusals.{Refuses, IsShut};
+ghost use Rattle.hb_restart.specs.Refusals.{IsRefusal};
 ghost use Rattle.hb_restart.specs.declared.faults.OpenFault.TheVariants.{DiskFault};
 
 use crate::faults::OpenFault;
@@ -34,9 +33,7 @@ fn newest<D: Device>(disk: &mut D) -> Result<(u8, Meta), OpenFault>
     ensures legal { IfOk result (λ said. IsLegal said.0 said.1) }
     ensures refused { IfErr result (λ fault. IfSome (D.model disk.old).told (FindsNone fault)) }
     ensures no_size { IfErr result NamesNoSize }
-    ensures cause { IsErrOf result DiskFault → Rose (D.model disk.old).read_faults (D.model disk.new).read_faults }
-    ensures no_fault { (IsErrOf result DiskFault → ⊥) → (D.model disk.new).read_faults ≡ (D.model disk.old).read_faults }
-    ensures only_reads { OnlyReads (D.model disk.old) (D.model disk.new) }
+    ensures only { ReadsOnly (IsErrOf result DiskFault) (D.model disk.old) (D.model disk.new) }
 {
     match read_super(disk) {
         Ok(said) => Ok(said),
@@ -58,9 +55,7 @@ fn log_of<D: Device>(
     ensures touched { IfOk result (λ t. IsTouched meta.now t) }
     ensures refused { IfErr result (λ fault. IfSome (D.model disk.old).told (λ b. LogRefuses fault b turn meta.now)) }
     ensures no_size { IfErr result NamesNoSize }
-    ensures cause { IsErrOf result DiskFault → Rose (D.model disk.old).read_faults (D.model disk.new).read_faults }
-    ensures no_fault { (IsErrOf result DiskFault → ⊥) → (D.model disk.new).read_faults ≡ (D.model disk.old).read_faults }
-    ensures only_reads { OnlyReads (D.model disk.old) (D.model disk.new) }
+    ensures only { ReadsOnly (IsErrOf result DiskFault) (D.model disk.old) (D.model disk.new) }
 {
     match read_log(alloc, disk, turn, meta) {
         Ok(touched) => Ok(touched),
@@ -75,11 +70,8 @@ fn log_of<D: Device>(
 pub(crate) fn read_file<D: Device>(alloc: Global, disk: &mut D) -> Result<LogRead, OpenFault>
     ensures read { IfOk result (λ read. IfSome (D.model disk.old).told (λ b. IsReadIn b read)) }
     ensures whole { IfOk result (IsWholeRead (D.model disk.old).size) }
-    ensures refused { IfErr result (λ fault. IfSome (D.model disk.old).told (Refuses fault)) }
-    ensures shut { IfErr result (IsShut (D.model disk.old).size) }
-    ensures cause { IsErrOf result DiskFault → Rose (D.model disk.old).read_faults (D.model disk.new).read_faults }
-    ensures no_fault { (IsErrOf result DiskFault → ⊥) → (D.model disk.new).read_faults ≡ (D.model disk.old).read_faults }
-    ensures only_reads { OnlyReads (D.model disk.old) (D.model disk.new) }
+    ensures refused { IfErr result (IsRefusal (D.model disk.old)) }
+    ensures only { ReadsOnly (IsErrOf result DiskFault) (D.model disk.old) (D.model disk.new) }
 {
     let found = disk.size();
     if found < 2 * PAGE as u64 {

@@ -2,7 +2,7 @@
 //!
 //! Nothing that is written before the superblock matters to the opening of an image: the places of the pages that the log
 //! touches, the log area of the other turn, and what a closed gate hides.
-ghost use Rattle.std.specs.Prelude.{◌≡◌, ℕ, ◌+◌, ◌≤◌, List, Option, Some, IfSome, OnOk};
+ghost use Rattle.std.specs.Prelude.{◌≡◌, ℕ, ◌+◌, ◌≤◌, List, Option, Some, IfSome, IsErr, OnOk};
 ghost use Rattle.std.specs.Ordering.{nat_cmp};
 ghost use Rattle.std.specs.BTreeMap.{get};
 ghost use Rattle.hb_disk.specs.Model.{Torn};
@@ -16,9 +16,9 @@ ghost use Rattle.hb_layout.specs.Offsets as offsets;
 ghost use Rattle.hb_layout.specs.Offsets.{file_size};
 ghost use Rattle.hb_store.specs.Opening.{OpensTo, IsEven, place_bytes};
 ghost use Rattle.hb_store.specs.Keeps.{IsFresh};
-ghost use Rattle.hb_restart.specs.Beyond.{KeepsBeyond};
-ghost use Rattle.hb_restart.specs.Found.{AreSpelled, IsFoundIn, IsWhole};
+ghost use Rattle.hb_restart.specs.Found.{IsFoundIn, IsRenewable};
 ghost use Rattle.hb_restart.specs.Renewing.{StillOpens, IsHere, IsPlaced, IsPlacedTo, IsReadyFor, Runs};
+ghost use Rattle.hb_restart.specs.Source.{HasPlaceFor};
 ghost use Rattle.hb_restart.specs.WritingBack.{IsWrittenTo, WritesAll, WritesEachOnce};
 
 use crate::looking::Found;
@@ -43,14 +43,12 @@ pub(crate) fn turn_after(turn: u8) -> u8
 
 /// Writes a page to its place. One device call.
 fn write_page<D: Device>(disk: &mut D, meta: &Meta, id: u32, page: &Page) -> Result<(), Failed>
-    requires room { file_size meta.now ≤ (D.model disk.old).size }
-    requires some { 1 ≤ id }
-    requires most { id ≤ meta.now.pages }
+    requires has { HasPlaceFor (D.model disk.old).size meta.now id }
     requires spelling { HasSpelling page.now }
     ensures there { OnOk result ((b : List ℕ) → (D.model disk.new).told ≡ Some b → SpellsPage (place_bytes meta.now id b) page.now) }
     ensures place { Becomes (Torn (offsets.page_offset meta.now id) PAGE) (D.model disk.old) (D.model disk.new) }
     ensures ticks { Ticks result (D.model disk.old) (D.model disk.new) }
-    ensures faults { WriteFaults result (D.model disk.old) (D.model disk.new) }
+    ensures faults { WriteFaults (IsErr result) (D.model disk.old) (D.model disk.new) }
 {
     let mut bytes = [0; PAGE];
     encode(page, &mut bytes);
@@ -59,12 +57,10 @@ fn write_page<D: Device>(disk: &mut D, meta: &Meta, id: u32, page: &Page) -> Res
 
 /// Writes the page of a number to its place, where the log touches it. At most one device call.
 fn settle_one<D: Device>(disk: &mut D, found: &Found, id: u32) -> Result<(), Failed>
-    requires whole { IsWhole (D.model disk.old).size found.now.turn found.now.meta }
-    requires spelled { AreSpelled (get nat_cmp found.now.touched) }
+    requires renewable { IsRenewable (D.model disk.old).size found.now }
     requires some { 1 ≤ id }
     requires most { id ≤ found.now.meta.high }
-    ensures run { Runs 1 result (D.model disk.old) (D.model disk.new) }
-    ensures beyond { KeepsBeyond (file_size found.now.meta) (D.model disk.old) (D.model disk.new) }
+    ensures run { Runs 1 (file_size found.now.meta) (IsErr result) (D.model disk.old) (D.model disk.new) }
     ensures moments { (said : Said) (s : FileState) → IsHere (D.model disk.old) found.now.turn said found.now.meta (get nat_cmp found.now.touched) s →
         Leaves (D.model disk.old) (D.model disk.new) (StillOpens found.now.turn said found.now.meta (get nat_cmp found.now.touched) s) }
     ensures placed { OnOk result ((said : Said) (s : FileState) (before : ℕ) → before + 1 ≡ id →
@@ -83,10 +79,8 @@ fn settle_one<D: Device>(disk: &mut D, found: &Found, id: u32) -> Result<(), Fai
 
 /// Writes each page that the log touches to its place, once. At most a device call for each page of the file.
 fn settle<D: Device>(disk: &mut D, found: &Found) -> Result<(), Failed>
-    requires whole { IsWhole (D.model disk.old).size found.now.turn found.now.meta }
-    requires spelled { AreSpelled (get nat_cmp found.now.touched) }
-    ensures run { Runs found.now.meta.high result (D.model disk.old) (D.model disk.new) }
-    ensures beyond { KeepsBeyond (file_size found.now.meta) (D.model disk.old) (D.model disk.new) }
+    requires renewable { IsRenewable (D.model disk.old).size found.now }
+    ensures run { Runs found.now.meta.high (file_size found.now.meta) (IsErr result) (D.model disk.old) (D.model disk.new) }
     ensures moments { (said : Said) (s : FileState) → IsHere (D.model disk.old) found.now.turn said found.now.meta (get nat_cmp found.now.touched) s →
         Leaves (D.model disk.old) (D.model disk.new) (StillOpens found.now.turn said found.now.meta (get nat_cmp found.now.touched) s) }
     ensures placed { OnOk result ((said : Said) (s : FileState) → IsHere (D.model disk.old) found.now.turn said found.now.meta (get nat_cmp found.now.touched) s →
@@ -107,9 +101,7 @@ fn settle<D: Device>(disk: &mut D, found: &Found) -> Result<(), Failed>
 fn make_room<D: Device>(disk: &mut D, turn: u8, meta: &Meta) -> Result<(), DiskFault>
     requires room { file_size meta.now ≤ (D.model disk.old).size }
     requires legal { IsLegal turn meta.now }
-    ensures run { Runs 5 result (D.model disk.old) (D.model disk.new) }
-    // what stands in front of the pages alone may be other
-    ensures front { KeepsBeyond (offsets.page_offset meta.now 1) (D.model disk.old) (D.model disk.new) }
+    ensures run { Runs 5 (offsets.page_offset meta.now 1) (IsErr result) (D.model disk.old) (D.model disk.new) }
     ensures moments { (said : Said) (touched : ℕ → Option Content) (s : FileState) → IsPlaced (D.model disk.old) turn said meta.now touched s →
         Leaves (D.model disk.old) (D.model disk.new) (StillOpens turn said meta.now touched s) }
     ensures ready { OnOk result ((said : Said) (touched : ℕ → Option Content) (s : FileState) → IsPlaced (D.model disk.old) turn said meta.now touched s →
@@ -125,9 +117,7 @@ fn make_room<D: Device>(disk: &mut D, turn: u8, meta: &Meta) -> Result<(), DiskF
 fn switch<D: Device>(disk: &mut D, turn: u8, meta: &Meta) -> Result<(), DiskFault>
     requires room { file_size meta.now ≤ (D.model disk.old).size }
     requires legal { IsLegal turn meta.now }
-    ensures run { Runs 11 result (D.model disk.old) (D.model disk.new) }
-    // what stands in front of the pages alone may be other
-    ensures front { KeepsBeyond (offsets.page_offset meta.now 1) (D.model disk.old) (D.model disk.new) }
+    ensures run { Runs 11 (offsets.page_offset meta.now 1) (IsErr result) (D.model disk.old) (D.model disk.new) }
     ensures moments { (said : Said) (touched : ℕ → Option Content) (s : FileState) → IsPlaced (D.model disk.old) turn said meta.now touched s →
         Leaves (D.model disk.old) (D.model disk.new) (λ c. OpensTo c s) }
     ensures fresh { OnOk result ((said : Said) (touched : ℕ → Option Content) (s : FileState) → IsPlaced (D.model disk.old) turn said meta.now touched s →
@@ -140,10 +130,8 @@ fn switch<D: Device>(disk: &mut D, turn: u8, meta: &Meta) -> Result<(), DiskFaul
 /// Writes the touched pages to their places and begins the next turn, on a disk that was just synced. At most eleven device
 /// calls and one for each page.
 fn rewrite<D: Device>(disk: &mut D, found: &Found) -> Result<(), DiskFault>
-    requires whole { IsWhole (D.model disk.old).size found.now.turn found.now.meta }
-    requires spelled { AreSpelled (get nat_cmp found.now.touched) }
-    ensures run { Runs (found.now.meta.high + 11) result (D.model disk.old) (D.model disk.new) }
-    ensures beyond { KeepsBeyond (file_size found.now.meta) (D.model disk.old) (D.model disk.new) }
+    requires renewable { IsRenewable (D.model disk.old).size found.now }
+    ensures run { Runs (found.now.meta.high + 11) (file_size found.now.meta) (IsErr result) (D.model disk.old) (D.model disk.new) }
     ensures moments { (said : Said) (s : FileState) → IsHere (D.model disk.old) found.now.turn said found.now.meta (get nat_cmp found.now.touched) s →
         Leaves (D.model disk.old) (D.model disk.new) (λ c. OpensTo c s) }
     ensures fresh { OnOk result ((said : Said) (s : FileState) → IsHere (D.model disk.old) found.now.turn said found.now.meta (get nat_cmp found.now.touched) s →
@@ -160,10 +148,8 @@ fn rewrite<D: Device>(disk: &mut D, found: &Found) -> Result<(), DiskFault>
 /// Syncs, so that from then on the disk has one image; then writes the touched pages to their places and begins the next
 /// turn. At most twelve device calls and one for each page.
 pub(crate) fn renew<D: Device>(disk: &mut D, found: &Found) -> Result<(), DiskFault>
-    requires whole { IsWhole (D.model disk.old).size found.now.turn found.now.meta }
-    requires spelled { AreSpelled (get nat_cmp found.now.touched) }
-    ensures run { Runs (found.now.meta.high + 12) result (D.model disk.old) (D.model disk.new) }
-    ensures beyond { KeepsBeyond (file_size found.now.meta) (D.model disk.old) (D.model disk.new) }
+    requires renewable { IsRenewable (D.model disk.old).size found.now }
+    ensures run { Runs (found.now.meta.high + 12) (file_size found.now.meta) (IsErr result) (D.model disk.old) (D.model disk.new) }
     ensures even { IfSome (D.model disk.old).told (λ b. IsFoundIn b found.now.turn found.now.meta (get nat_cmp found.now.touched) found.now.count →
         (s : FileState) → IsEven (D.model disk.old) s → Leaves (D.model disk.old) (D.model disk.new) (λ c. OpensTo c s)) }
     // a second tick of the clock comes only after the first sync has succeeded

@@ -1,12 +1,10 @@
 //! Where the audit has the pages of a file from that is opened.
-ghost use Rattle.std.specs.Prelude.{◌≡◌, ◌≤◌, IfOk, IfSome, IsErrOf, OnErr, OnOk};
+ghost use Rattle.std.specs.Prelude.{◌≡◌, IfOk, IfSome, IsErr, IsErrOf, OnOk};
 ghost use Rattle.hb_space.specs.declared.form.TheConstants.{PAGE};
-ghost use Rattle.hb_outside.specs.Streams.{Rose};
-ghost use Rattle.hb_disk.specs.Calls.{OnlyReads};
-ghost use Rattle.hb_layout.specs.Offsets.{file_size};
+ghost use Rattle.hb_disk.specs.Calls.{ReadsOnly};
 ghost use Rattle.hb_page_codec.specs.ReadingPages.{page_of_bytes};
 ghost use Rattle.hb_page_codec.specs.Weight.{IsLight};
-ghost use Rattle.hb_restart.specs.Source.{IsSource, IsSource-prop};
+ghost use Rattle.hb_restart.specs.Source.{HasPlaceFor, IsSource, IsSource-prop};
 ghost use Rattle.hb_sound.specs.declared.pages.PageStop.TheVariants.{Failed};
 ghost use Rattle.hb_store.specs.Opening.{place_bytes};
 
@@ -58,13 +56,9 @@ fn read_place<D: Device>(
     id: u32,
     into: &mut [u8; PAGE],
 ) -> Result<(), Broken>
-    requires room { file_size meta.now ≤ (D.model disk.old).size }
-    requires some { 1 ≤ id }
-    requires most { id ≤ meta.now.pages }
+    requires has { HasPlaceFor (D.model disk.old).size meta.now id }
     ensures there { OnOk result (IfSome (D.model disk.old).told (λ b. into.new ≡ place_bytes meta.now id b)) }
-    ensures cause { OnErr result (Rose (D.model disk.old).read_faults (D.model disk.new).read_faults) }
-    ensures no_fault { OnOk result ((D.model disk.new).read_faults ≡ (D.model disk.old).read_faults) }
-    ensures only_reads { OnlyReads (D.model disk.old) (D.model disk.new) }
+    ensures only { ReadsOnly (IsErr result) (D.model disk.old) (D.model disk.new) }
 {
     disk.read(page_offset(meta, id), into)
 }
@@ -77,14 +71,10 @@ fn page_in_place<D: Device>(
     id: u32,
     into: &mut [u8; PAGE],
 ) -> Result<Option<Page>, PageStop>
-    requires room { file_size meta.now ≤ (D.model disk.old).size }
-    requires some { 1 ≤ id }
-    requires most { id ≤ meta.now.pages }
+    requires has { HasPlaceFor (D.model disk.old).size meta.now id }
     ensures there { IfOk result (λ page. IfSome (D.model disk.old).told (λ b. page ≡ page_of_bytes (place_bytes meta.now id b))) }
     ensures light { IfOk result (λ page. IfSome page IsLight) }
-    ensures cause { IsErrOf result Failed → Rose (D.model disk.old).read_faults (D.model disk.new).read_faults }
-    ensures no_fault { (IsErrOf result Failed → ⊥) → (D.model disk.new).read_faults ≡ (D.model disk.old).read_faults }
-    ensures only_reads { OnlyReads (D.model disk.old) (D.model disk.new) }
+    ensures only { ReadsOnly (IsErrOf result Failed) (D.model disk.old) (D.model disk.new) }
 {
     match read_place(disk, meta, id, into) {
         Ok(()) => spelled(alloc, into),
@@ -111,9 +101,7 @@ impl<D: Device> Pages for FilePages<D> {
     ghost use Rattle.std.specs.BTreeMap.{get};
     ghost use Rattle.hb_restart.specs.Source.{AsksOnly, AsksOnly-none, AsksOnly-then, told_pages};
 
-    ghost told = { λ s. told_pages (D.model s.disk).told s.said (get nat_cmp s.touched) };
-
-    ghost faults = { λ s. (D.model s.disk).read_faults };
+    ghost model = { λ s. record { told = told_pages (D.model s.disk).told s.said (get nat_cmp s.touched); faults = (D.model s.disk).read_faults } };
 
     ghost asked = { λ s t. AsksOnly (D.model s.disk) (D.model t.disk) s.said t.said s.touched t.touched };
 

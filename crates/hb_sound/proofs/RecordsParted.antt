@@ -53,7 +53,7 @@ other_passes : (side : Side) (axis value : ℕ) (r : Record) → is_on side axis
 other_passes Left axis value r f = not_from_false (is_on Left axis value r) f
 other_passes Right axis value r f = not-false (is_on Left axis value r) f
 
-cut_has_on : (side : Side) (axis value : ℕ) (on off : Tree) (area : Area) (x : Placed) → Contains (leaves_of on (area_on side axis value area)) x → Contains (leaves_of (cut_with side axis value on off) area) x
+pub cut_has_on : (side : Side) (axis value : ℕ) (on off : Tree) (area : Area) (x : Placed) → Contains (leaves_of on (area_on side axis value area)) x → Contains (leaves_of (cut_with side axis value on off) area) x
 cut_has_on Left axis value on off area x has = Contains-append_left (leaves_of on (side_below area axis value)) (leaves_of off (side_from area axis value)) x has
 cut_has_on Right axis value on off area x has = Contains-append_right (leaves_of off (side_below area axis value)) (leaves_of on (side_from area axis value)) x has
 

@@ -108,16 +108,3 @@ pub record HasFacts (meta : Meta) (facts : List Fact) : Type 0 where
   pub layout : IsLayout meta
   pub count : length facts ≡ meta.high
   pub within : meta.high ≤ meta.pages
-
--- how many records the page has, fewer than 2^32
-abbrev pub records_seen : Fact → ℕ
-records_seen (Live seen) = seen.records
-records_seen (Free next) = 0
-
-abbrev pub IsLightFact : Fact → Type 0
-IsLightFact fact = records_seen fact < 2 ^ 32
-
--- how many records the pages have together
-abbrev pub all_records : List Fact → ℕ
-all_records [] = 0
-all_records (fact ∷ rest) = records_seen fact + all_records rest

@@ -15,6 +15,7 @@ pub mod Names
 pub mod Marks
 pub mod Stops
 pub mod Facts
+pub mod RecordCounts
 pub mod Chains
 pub mod Links
 pub mod Covers

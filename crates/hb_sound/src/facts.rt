@@ -6,7 +6,8 @@ ghost use Rattle.hb_frag.specs.declared.pages.Page.TheVariants as content;
 ghost use Rattle.hb_sound.specs.Asking.{Asks};
 ghost use Rattle.hb_page_codec.specs.Weight.{IsLight};
 ghost use Rattle.hb_ops.specs.Files.{page_records};
-ghost use Rattle.hb_sound.specs.Facts.{AreFactsOf, IsFactOf, IsLightFact, IsOwnRule, IsSeenOf, next_at, seen_at};
+ghost use Rattle.hb_sound.specs.Facts.{AreFactsOf, IsFactOf, IsOwnRule, IsSeenOf, next_at, seen_at};
+ghost use Rattle.hb_sound.specs.RecordCounts.{IsLightFact};
 ghost use Rattle.hb_sound.specs.Rests.{IsRestOf, Knows, KnowsTold};
 ghost use Rattle.hb_sound.specs.Stops.{OnBroken};
 ghost use Rattle.hb_sound.specs.Told.{CoversFile, IsHole, IsWholeFile, file_of, item_at};
@@ -80,7 +81,6 @@ fn records_in(page: &LivePage) -> u64
 
 /// The first rule that a page breaks by itself, 0 for none.
 fn own_rule(page: &LivePage, meta: &Meta) -> u8
-    requires { weight_of page.now.frag < 2 ^ 32 }
     ensures own { IsOwnRule result page.now meta.now }
     ensures cut { result ≡ 0 → WellCut page.now }
 {

@@ -1,4 +1,4 @@
-ghost use Rattle.std.specs.Prelude.{◌≡◌, ◌<◌, ◌≤◌, ◌^◌, ◌↔◌, max, min, length, slice_set, ⊤, IsOk, IsTrue};
+ghost use Rattle.std.specs.Prelude.{◌≡◌, ◌<◌, ◌≤◌, ◌^◌, ◌↔◌, max, min, length, slice_set, ⊤, IsTrue};
 ghost use Rattle.hb_space.specs.Points.{IsPoint, AtMost};
 ghost use Rattle.hb_space.specs.Boxes.{zip_by};
 

@@ -1,4 +1,4 @@
-ghost use Rattle.std.specs.Prelude.{◌≡◌, ◌<◌, ◌≤◌, ◌↔◌, ℕ, List, length, slice_index, IsTrue};
+ghost use Rattle.std.specs.Prelude.{◌≡◌, ◌<◌, ◌≤◌, ◌↔◌, ℕ, List, slice_index, IsTrue};
 ghost use Rattle.hb_space.specs.Boxes.{Holds, Cuts, side_below, side_from};
 
 use crate::Area;

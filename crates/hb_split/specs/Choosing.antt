@@ -1,5 +1,5 @@
 -- Which part leaves a full page.
-use Rattle.std.specs.Prelude.{◌≡◌, ℕ, ◌+◌, ◌*◌, ◌<◌, ◌≤◌, ◌⊎◌, max, Bool, nat_lt, if◌then◌else◌, List, [], ◌∷◌, length, map, filter, slice_index, Any, Some}
+use Rattle.std.specs.Prelude.{◌≡◌, ℕ, ◌+◌, ◌*◌, ◌<◌, ◌≤◌, ◌⊎◌, max, Bool, nat_lt, if◌then◌else◌, List, [], ◌∷◌, length, filter, slice_index, Any, Some}
 use Rattle.hb_space.specs.Boxes.{Area}
 use Rattle.hb_space.specs.declared.records.Record.{Record}
 use Rattle.hb_frag.specs.declared.leaves.Leaf.TheVariants.{Records}

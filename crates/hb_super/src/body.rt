@@ -1,5 +1,5 @@
 //! The body of a superblock as bytes.
-ghost use Rattle.std.specs.Prelude.{◌≡◌, ℕ, ◌+◌, ◌<◌, ◌≤◌, ◌^◌, List, length, get_or, IsTrue, slice_range};
+ghost use Rattle.std.specs.Prelude.{◌≡◌, ℕ, ◌+◌, ◌<◌, ◌≤◌, ◌^◌, length, slice_range};
 ghost use Rattle.hb_lemmas.specs.Numbers.{big_endian};
 ghost use Rattle.hb_layout.specs.declared.meta.Meta.{Meta as Said};
 ghost use Rattle.hb_super.specs.Superblocks.{IsLegal, FitsMarks, body_bytes};

@@ -1,5 +1,5 @@
 //! What stands behind a closed gate.
-ghost use Rattle.std.specs.Prelude.{◌≡◌, ◌≢◌, ◌⊎◌, ℕ, ◌+◌, ◌*◌, ◌≤◌, List, length, drop, get_or, replicate, false, IsTrue, IsErr, IsSome, IfSome, IfOk, OnOk, OnErr};
+ghost use Rattle.std.specs.Prelude.{◌≡◌, ◌≢◌, ◌⊎◌, ℕ, ◌+◌, ◌*◌, ◌≤◌, List, length, drop, get_or, replicate, false, IsTrue, IsErr, IfSome, IfOk, OnOk};
 ghost use Rattle.hb_space.specs.declared.form.TheConstants.{PAGE};
 ghost use Rattle.hb_disk.specs.Model.{Torn, overwritten};
 ghost use Rattle.hb_disk.specs.Calls.{Leaves, IsSynced, ReadsOnly, OnlyReads, open_gate};

@@ -1,11 +1,10 @@
-ghost use Rattle.std.specs.Prelude.{◌≡◌, ℕ, ◌+◌, ◌*◌, ◌%◌, ◌<◌, ◌≤◌, List, length, Some, IsTrue, IfOk, IfSome, IsErr, IsErrOf, OnOk, OnErr};
+ghost use Rattle.std.specs.Prelude.{◌≡◌, ℕ, ◌+◌, ◌*◌, ◌%◌, ◌<◌, ◌≤◌, List, length, Some, IsTrue, IfOk, IfSome, IsErr, IsErrOf};
 ghost use Rattle.hb_space.specs.declared.form.TheConstants.{PAGE};
 ghost use Rattle.hb_disk.specs.Calls.{ReadsOnly};
-ghost use Rattle.hb_layout.specs.declared.meta.Meta.{Meta as Said};
 ghost use Rattle.hb_super.specs.declared.reading.SuperStop.TheVariants.{NoSuper, DiskFault};
 ghost use Rattle.hb_layout.specs.Limits.{IsLayout};
 ghost use Rattle.hb_layout.specs.Offsets.{slot_offset};
-ghost use Rattle.hb_super.specs.Superblocks.{IsLegal, IsNewest, HasNone, next_turn};
+ghost use Rattle.hb_super.specs.Superblocks.{IsLegal, IsNewest, HasNone};
 ghost use Rattle.hb_super.specs.Reading.{IsOf, StandsInPlace, NewestIs, MayBeLegal};
 
 use crate::body::{BODY, body_of, fields_of};

@@ -1,5 +1,5 @@
 -- Number words: digits by place, and the value so far.
-use Rattle.std.proofs.Common.{◌≡◌, ℕ, zero, suc, ◌+◌, ◌-◌, ◌*◌, ◌<◌, ◌≤◌, Bool, true, false, ◌&&◌, ltb, List, [], ◌∷◌, length, drop, get_or, refl, sym, ap, ◌∙◌, arith}
+use Rattle.std.proofs.Common.{◌≡◌, ℕ, zero, suc, ◌+◌, ◌-◌, ◌*◌, ◌<◌, ◌≤◌, true, ◌&&◌, ltb, List, [], ◌∷◌, length, drop, get_or, refl, sym, ap, ◌∙◌, arith}
 use Rattle.std.specs.List.{list_all}
 use Rattle.std.specs.Char.{is_ascii_digit, digit_value}
 use Rattle.std.specs.Str.Parse.{digits_value, digits_value_after}
@@ -7,6 +7,7 @@ use Rattle.std.proofs.Math.Seq.{drop-cons}
 use Rattle.std.proofs.Math.Numerals.{add-one}
 use Rattle.std.proofs.lemmas.List.{drop_all}
 use Rattle.std.proofs.lemmas.Bool.Decides.{nat_tests}
+use Rattle.std.proofs.lemmas.Bool.{and_parts}
 use Rattle.hb_text.specs.Numbers.{is_number}
 
 -- of two bytes or more the first is no 0
@@ -19,20 +20,16 @@ is_number_long (c ∷ d ∷ rest) h = refl
 digit_test : (c : ℕ) → is_ascii_digit c ≡ true → digit_value c ≡ c - 48
 digit_test c h = grind (arith, nat_tests)
 
-both_true : (a b : Bool) → (a && b) ≡ true → (a ≡ true) × (b ≡ true)
-both_true true b h = (refl, h)
-both_true false b h = absurd (cc)
-
 all_digit_at : (w : List ℕ) → list_all is_ascii_digit w ≡ true → (i : ℕ) → i < length w → digit_value (get_or w i 0) ≡ get_or w i 0 - 48
 all_digit_at [] h i lt = absurd (omega arith)
-all_digit_at (c ∷ w) h zero lt = digit_test c (both_true _ _ h).0
-all_digit_at (c ∷ w) h (suc i) lt = all_digit_at w (both_true _ _ h).1 i (omega arith)
+all_digit_at (c ∷ w) h zero lt = digit_test c (and_parts _ _ h).0
+all_digit_at (c ∷ w) h (suc i) lt = all_digit_at w (and_parts _ _ h).1 i (omega arith)
 
 pub digit_at : (w : List ℕ) → is_number w ≡ true → (i : ℕ) → i < length w → digit_value (get_or w i 0) ≡ get_or w i 0 - 48
 digit_at [] h i lt = absurd (omega arith)
 digit_at (c ∷ []) h zero lt = digit_test c h
 digit_at (c ∷ []) h (suc i) lt = absurd (omega arith)
-digit_at (c ∷ d ∷ rest) h i lt = all_digit_at (c ∷ d ∷ rest) (both_true _ _ h).1 i lt
+digit_at (c ∷ d ∷ rest) h i lt = all_digit_at (c ∷ d ∷ rest) (and_parts _ _ h).1 i lt
 
 -- more digits never make the number smaller
 pub value_grows : (n : ℕ) (w : List ℕ) → n ≤ digits_value_after 10 n w

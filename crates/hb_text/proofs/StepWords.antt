@@ -1,37 +1,33 @@
 -- Where the word of a step line is cut, and how many steps are left behind words.
-use Rattle.std.proofs.Common.{◌≡◌, ℕ, ◌+◌, ◌-◌, ◌<◌, ◌≤◌, Bool, true, false, cond, eqb, ◌&&◌, List, [], ◌∷◌, ◌++◌, length, take, drop, replicate, Option, Some, None, Result, Ok, Err, refl, sym, ap, subst, ◌∙◌, arith, append_assoc, nat_le, nat_lt, inl, inr}
+use Rattle.std.proofs.Common.{◌≡◌, ℕ, ◌+◌, ◌-◌, ◌<◌, ◌≤◌, true, false, cond, eqb, ◌&&◌, List, [], ◌∷◌, ◌++◌, length, take, drop, replicate, Option, Some, None, Result, Ok, Err, refl, sym, ap, subst, ◌∙◌, arith, append_assoc, nat_le, nat_lt, inl, inr}
 use Rattle.std.specs.List.{position, position_or_len, slice_split, list_all}
 use Rattle.std.specs.Char.{is_ascii_digit}
 use Rattle.std.proofs.lemmas.Bool.Decides.{nat_tests}
 use Rattle.std.proofs.lemmas.List.{length-append, length-replicate}
 use Rattle.std.proofs.lemmas.List.Splits.{length-slice_split}
+use Rattle.std.proofs.lemmas.Bool.{and_parts}
 use Rattle.hb_text.specs.declared.numbers.NumberFault.{NumberFault}
 use Rattle.hb_text.specs.declared.rules.TextRule.TheVariants.{BadStep}
 use Rattle.hb_text.specs.Numbers.{is_number, number_read}
 use Rattle.hb_text.specs.StepWords.{actor_of, count_number, repeated, steps_of_parts, word_steps, joined_steps, steps_of, within_schedule, steps_read}
 use Rattle.hb_text.specs.Steps.{left_after, then_left, steps_left}
-use Rattle.hb_text.proofs.Facts.ReadingLaws.{chosen}
+use Rattle.hb_lemmas.proofs.Booleans.{chosen}
 use Rattle.hb_text.proofs.WordCuts.{cut_at, cut_nowhere, made}
 
 abbrev parts : List ℕ → List (List ℕ)
 parts word = slice_split (λ c. eqb c 120) word
 
--- a number has no `x`
-both : (a b : Bool) → (a && b) ≡ true → (a ≡ true) × (b ≡ true)
-both true b e = (refl, e)
-both false b e = absurd (cc)
-
 no_x : (w : List ℕ) → list_all is_ascii_digit w ≡ true → length w ≤ position_or_len (λ c. eqb c 120) w
 no_x [] h = omega arith
 no_x (c ∷ w) h =
-    let digit = both (is_ascii_digit c) (list_all is_ascii_digit w) h in
+    let digit = and_parts (is_ascii_digit c) (list_all is_ascii_digit w) h in
     let other : eqb c 120 ≡ false = grind (arith, nat_tests, digit.0) in
     rw other (omega (arith, no_x w digit.1))
 
 digits_of : (w : List ℕ) → is_number w ≡ true → list_all is_ascii_digit w ≡ true
 digits_of [] e = refl
 digits_of (c ∷ []) e = rw e refl
-digits_of (c ∷ d ∷ rest) e = (both (nat_lt 48 c) (list_all is_ascii_digit (c ∷ d ∷ rest)) e).1
+digits_of (c ∷ d ∷ rest) e = (and_parts (nat_lt 48 c) (list_all is_ascii_digit (c ∷ d ∷ rest)) e).1
 
 no_count : (w : List ℕ) (j : ℕ) → position (λ c. eqb c 120) w ≡ Some j → count_number (number_read w) ≡ None
 no_count w j e = elim (is_number w) as (λ b. is_number w ≡ b → count_number (number_read w) ≡ None) [
@@ -158,10 +154,6 @@ said_more word words said one e is = split (word_steps word) (steps_of words) re
 
 pub said_none : (word : List ℕ) (words : List (List ℕ)) (said : List ℕ) → steps_of (word ∷ words) ≡ Some said → word_steps word ≡ None → ⊥
 said_none word words said e is = cc (ap (λ (o : Option (List ℕ)). joined_steps o (steps_of words)) (sym is) ∙ e)
-
--- a choice whose test holds
-pub when : {A : Type 0} (b : Bool) (x y : A) → b ≡ true → cond b x y ≡ x
-when b x y e = rw e refl
 
 -- the steps so far and the rest, after one word more
 pub steps_grow : (before now new : List ℕ) (word : List ℕ) (words : List (List ℕ)) (said all one rest : List ℕ) → now ++ said ≡ before ++ all → said ≡ one ++ rest → new ≡ now ++ one → new ++ rest ≡ before ++ all

@@ -12,5 +12,5 @@ pub mod Operands
 pub mod Steps
 pub mod Output
 pub mod Reading
-pub mod OutputLaws
+pub mod Waiting
 pub mod TextLaws

@@ -9,7 +9,7 @@ ghost use Rattle.hb_text.specs.Words.{lines_of, words_of};
 ghost use Rattle.hb_text.specs.TextLaws.{HasNo, with_line_feeds};
 
 /// A word says a number exactly where it is that number's decimal spelling.
-#[tactic(auto, using(crate::specs::NumberLaws::numbers_are_decimal))]
+#[tactic(auto, using(crate::proofs::Facts::NumberLaws::numbers_are_decimal))]
 pub fn numbers_are_decimal()
     ensures { (word : List ℕ) (n : ℕ) → n < 2 ^ 64 → ((number_read word ≡ Ok n) ↔ (word ≡ decimal n)) }
 {}
@@ -17,7 +17,7 @@ pub fn numbers_are_decimal()
 /// A text that ends in a line feed is its lines, each with a line feed behind it, and any lines
 /// without a line feed in them come back from such a text. Without its last line feed a text has
 /// the same lines.
-#[tactic(auto, using(crate::specs::TextLaws::lines_give_the_text, crate::specs::TextLaws::lines_come_back, crate::specs::TextLaws::last_feed_is_free, crate::specs::TextLaws::lines_have_no_feed))]
+#[tactic(auto, using(crate::proofs::Facts::TextLaws::lines_give_the_text, crate::proofs::Facts::TextLaws::lines_come_back, crate::proofs::Facts::TextLaws::last_feed_is_free, crate::proofs::Facts::TextLaws::lines_have_no_feed))]
 pub fn lines_make_the_text()
     ensures whole { (text : List ℕ) → with_line_feeds (lines_of (text ++ 10 ∷ [])) ≡ text ++ 10 ∷ [] }
     ensures back { (lines : List (List ℕ)) → AllByRecursion (HasNo 10) lines → lines_of (with_line_feeds lines) ≡ lines }
@@ -27,7 +27,7 @@ pub fn lines_make_the_text()
 
 /// A line is its words with a space between any two, and any words without a space in them come
 /// back from such a line.
-#[tactic(auto, using(crate::specs::WordLaws::words_give_the_line, crate::specs::WordLaws::words_come_back, crate::specs::WordLaws::words_have_no_space))]
+#[tactic(auto, using(crate::proofs::Facts::WordLaws::words_give_the_line, crate::proofs::Facts::WordLaws::words_come_back, crate::proofs::Facts::WordLaws::words_have_no_space))]
 pub fn words_make_the_line()
     ensures whole { (line : List ℕ) → join_with_byte 32 (words_of line) ≡ line }
     ensures back { (words : List (List ℕ)) → 0 < length words → AllByRecursion (HasNo 32) words → words_of (join_with_byte 32 words) ≡ words }

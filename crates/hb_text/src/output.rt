@@ -1,8 +1,8 @@
 // The lines of the output text, each put to a sink from a buffer on the stack.
-ghost use Rattle.std.specs.Prelude.{◌≡◌, ◌+◌, ◌≤◌, max, [], ◌++◌, length, take, drop, codes, decimal, if◌then◌else◌, OnOk, OnErr};
-ghost use Rattle.hb_outside.specs.Streams.{Rose, Appends, AppendsFront};
+ghost use Rattle.std.specs.Prelude.{◌≡◌, ◌+◌, ◌≤◌, max, [], ◌++◌, length, take, drop, codes, decimal, if◌then◌else◌, OnOk};
+ghost use Rattle.hb_outside.specs.Calls.{Puts};
 ghost use Rattle.hb_text.specs.Output.{numbers_text, record_text, reply_text, left_text, order_text};
-ghost use Rattle.hb_text.specs.OutputLaws.{Waits};
+ghost use Rattle.hb_text.specs.Waiting.{Buffers};
 ghost use Rattle.std.specs.List.{flat_map};
 
 use crate::output_line::LineBuffer;
@@ -16,13 +16,7 @@ const FULL: usize = 160;
 /// Puts the lines of a reply to the line of this number: one put for each line. After `Failed` a
 /// front of them was put.
 pub fn put_reply<K: Sink>(sink: &mut K, line: u32, reply: &Reply) -> Result<(), Failed>
-    ensures ok { OnOk result
-        (Appends (K.written sink.old) (K.written sink.new) (reply_text line reply.now)) }
-    ensures failed { OnErr result
-        (AppendsFront (K.written sink.old) (K.written sink.new) (reply_text line reply.now)) }
-    ensures cause { OnErr result (Rose (K.faults sink.old) (K.faults sink.new)) }
-    ensures no_fault { OnOk result (K.faults sink.new ≡ K.faults sink.old) }
-    ensures later { K.faults sink.old ≤ K.faults sink.new }
+    ensures { Puts (reply_text line reply.now) result (K.model sink.old) (K.model sink.new) }
 {
     match reply {
         Reply::Done => put_said(sink, line, b" ok\n"),
@@ -40,13 +34,7 @@ pub fn put_reply<K: Sink>(sink: &mut K, line: u32, reply: &Reply) -> Result<(), 
 /// Puts a line that has no answer, because the run was stopped or the schedule ended before it.
 /// After `Failed` a front of it was put.
 pub fn put_left<K: Sink>(sink: &mut K, line: u32, stopped: bool) -> Result<(), Failed>
-    ensures ok { OnOk result
-        (Appends (K.written sink.old) (K.written sink.new) (left_text stopped line)) }
-    ensures failed { OnErr result
-        (AppendsFront (K.written sink.old) (K.written sink.new) (left_text stopped line)) }
-    ensures cause { OnErr result (Rose (K.faults sink.old) (K.faults sink.new)) }
-    ensures no_fault { OnOk result (K.faults sink.new ≡ K.faults sink.old) }
-    ensures later { K.faults sink.old ≤ K.faults sink.new }
+    ensures { Puts (left_text stopped line) result (K.model sink.old) (K.model sink.new) }
 {
     put_said(sink, line, left_word(stopped))
 }
@@ -67,13 +55,7 @@ fn left_word(stopped: bool) -> &'static [u8]
 /// all where it exceeds their count. A put takes as many numbers as the buffer has room for. After
 /// `Failed` a front of the order was put.
 pub fn put_order<K: Sink>(sink: &mut K, order: &[u32], settled: u32) -> Result<(), Failed>
-    ensures ok { OnOk result
-        (Appends (K.written sink.old) (K.written sink.new) (order_text order.now settled)) }
-    ensures failed { OnErr result
-        (AppendsFront (K.written sink.old) (K.written sink.new) (order_text order.now settled)) }
-    ensures cause { OnErr result (Rose (K.faults sink.old) (K.faults sink.new)) }
-    ensures no_fault { OnOk result (K.faults sink.new ≡ K.faults sink.old) }
-    ensures later { K.faults sink.old ≤ K.faults sink.new }
+    ensures { Puts (order_text order.now settled) result (K.model sink.old) (K.model sink.new) }
 {
     let settled = settled as usize;
     let (front, rest) = cut_at(order, settled);
@@ -109,17 +91,10 @@ fn bar(is_left: bool) -> &'static [u8]
 // Adds numbers to a piece, each after a space, and puts the piece whenever it is full. What is in
 // the piece at the end still has to be put.
 fn put_numbers<K: Sink>(sink: &mut K, piece: &mut LineBuffer, numbers: &[u32]) -> Result<(), Failed>
-    ensures ok { OnOk result
-        (Waits (K.written sink.old) (K.written sink.new)
-        piece.new.bytes.items (piece.old.bytes.items ++ numbers_text numbers.now)) }
+    ensures buffers { Buffers (piece.old.bytes.items ++ numbers_text numbers.now)
+        piece.new.bytes.items result (K.model sink.old) (K.model sink.new) }
     ensures room { OnOk result
         (length piece.new.bytes.items ≤ max (FULL + 21) (length piece.old.bytes.items)) }
-    ensures failed { OnErr result
-        (AppendsFront (K.written sink.old) (K.written sink.new)
-        (piece.old.bytes.items ++ numbers_text numbers.now)) }
-    ensures cause { OnErr result (Rose (K.faults sink.old) (K.faults sink.new)) }
-    ensures no_fault { OnOk result (K.faults sink.new ≡ K.faults sink.old) }
-    ensures later { K.faults sink.old ≤ K.faults sink.new }
 {
     for number in numbers {
         make_room(sink, piece)?;
@@ -130,15 +105,9 @@ fn put_numbers<K: Sink>(sink: &mut K, piece: &mut LineBuffer, numbers: &[u32]) -
 
 // Puts a piece that is full.
 fn make_room<K: Sink>(sink: &mut K, piece: &mut LineBuffer) -> Result<(), Failed>
-    ensures ok { OnOk result
-        (Waits (K.written sink.old) (K.written sink.new)
-        piece.new.bytes.items piece.old.bytes.items) }
+    ensures buffers { Buffers piece.old.bytes.items piece.new.bytes.items result
+        (K.model sink.old) (K.model sink.new) }
     ensures room { OnOk result (length piece.new.bytes.items ≤ FULL) }
-    ensures failed { OnErr result
-        (AppendsFront (K.written sink.old) (K.written sink.new) piece.old.bytes.items) }
-    ensures cause { OnErr result (Rose (K.faults sink.old) (K.faults sink.new)) }
-    ensures no_fault { OnOk result (K.faults sink.new ≡ K.faults sink.old) }
-    ensures later { K.faults sink.old ≤ K.faults sink.new }
 {
     if piece.len() <= FULL {
         return Ok(());
@@ -151,13 +120,7 @@ fn make_room<K: Sink>(sink: &mut K, piece: &mut LineBuffer) -> Result<(), Failed
 // Puts a line's number and what is said of that line, which is short.
 fn put_said<K: Sink>(sink: &mut K, line: u32, said: &[u8]) -> Result<(), Failed>
     requires { length said.now ≤ 64 }
-    ensures ok { OnOk result
-        (Appends (K.written sink.old) (K.written sink.new) (decimal line ++ said.now)) }
-    ensures failed { OnErr result
-        (AppendsFront (K.written sink.old) (K.written sink.new) (decimal line ++ said.now)) }
-    ensures cause { OnErr result (Rose (K.faults sink.old) (K.faults sink.new)) }
-    ensures no_fault { OnOk result (K.faults sink.new ≡ K.faults sink.old) }
-    ensures later { K.faults sink.old ≤ K.faults sink.new }
+    ensures { Puts (decimal line ++ said.now) result (K.model sink.old) (K.model sink.new) }
 {
     let mut text = LineBuffer::new();
     text.add_number(u64::from(line));
@@ -167,15 +130,7 @@ fn put_said<K: Sink>(sink: &mut K, line: u32, said: &[u8]) -> Result<(), Failed>
 
 // Puts the reply to a lookup that found a body.
 fn put_found<K: Sink>(sink: &mut K, line: u32, body: &Body) -> Result<(), Failed>
-    ensures ok { OnOk result
-        (Appends (K.written sink.old) (K.written sink.new)
-        (reply_text line (Reply.Found body.now))) }
-    ensures failed { OnErr result
-        (AppendsFront (K.written sink.old) (K.written sink.new)
-        (reply_text line (Reply.Found body.now))) }
-    ensures cause { OnErr result (Rose (K.faults sink.old) (K.faults sink.new)) }
-    ensures no_fault { OnOk result (K.faults sink.new ≡ K.faults sink.old) }
-    ensures later { K.faults sink.old ≤ K.faults sink.new }
+    ensures { Puts (reply_text line (Reply.Found body.now)) result (K.model sink.old) (K.model sink.new) }
 {
     let mut said = LineBuffer::new();
     said.add(b" found =");
@@ -186,15 +141,7 @@ fn put_found<K: Sink>(sink: &mut K, line: u32, body: &Body) -> Result<(), Failed
 
 // Puts the reply to a search: how many records the box holds, and a line for each.
 fn put_box<K: Sink>(sink: &mut K, line: u32, records: &[Record]) -> Result<(), Failed>
-    ensures ok { OnOk result
-        (Appends (K.written sink.old) (K.written sink.new)
-        (reply_text line (Reply.Within records.now))) }
-    ensures failed { OnErr result
-        (AppendsFront (K.written sink.old) (K.written sink.new)
-        (reply_text line (Reply.Within records.now))) }
-    ensures cause { OnErr result (Rose (K.faults sink.old) (K.faults sink.new)) }
-    ensures no_fault { OnOk result (K.faults sink.new ≡ K.faults sink.old) }
-    ensures later { K.faults sink.old ≤ K.faults sink.new }
+    ensures { Puts (reply_text line (Reply.Within records.now)) result (K.model sink.old) (K.model sink.new) }
 {
     let count = count_word(records.len());
     put_said(sink, line, count.as_slice())?;
@@ -215,14 +162,7 @@ fn count_word(count: usize) -> LineBuffer
 
 // Puts a line for each record.
 fn put_records<K: Sink>(sink: &mut K, records: &[Record]) -> Result<(), Failed>
-    ensures ok { OnOk result
-        (Appends (K.written sink.old) (K.written sink.new) (flat_map record_text records.now)) }
-    ensures failed { OnErr result
-        (AppendsFront (K.written sink.old) (K.written sink.new)
-        (flat_map record_text records.now)) }
-    ensures cause { OnErr result (Rose (K.faults sink.old) (K.faults sink.new)) }
-    ensures no_fault { OnOk result (K.faults sink.new ≡ K.faults sink.old) }
-    ensures later { K.faults sink.old ≤ K.faults sink.new }
+    ensures { Puts (flat_map record_text records.now) result (K.model sink.old) (K.model sink.new) }
 {
     for record in records {
         put_record(sink, record)?;
@@ -232,13 +172,7 @@ fn put_records<K: Sink>(sink: &mut K, records: &[Record]) -> Result<(), Failed>
 
 // Puts the line of a record.
 fn put_record<K: Sink>(sink: &mut K, record: &Record) -> Result<(), Failed>
-    ensures ok { OnOk result
-        (Appends (K.written sink.old) (K.written sink.new) (record_text «record».now)) }
-    ensures failed { OnErr result
-        (AppendsFront (K.written sink.old) (K.written sink.new) (record_text «record».now)) }
-    ensures cause { OnErr result (Rose (K.faults sink.old) (K.faults sink.new)) }
-    ensures no_fault { OnOk result (K.faults sink.new ≡ K.faults sink.old) }
-    ensures later { K.faults sink.old ≤ K.faults sink.new }
+    ensures { Puts (record_text «record».now) result (K.model sink.old) (K.model sink.new) }
 {
     let line = record_line(record);
     sink.put(line.as_slice())

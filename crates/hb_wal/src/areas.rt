@@ -1,4 +1,4 @@
-ghost use Rattle.std.specs.Prelude.{◌≡◌, ℕ, ◌<◌, ◌≤◌, ◌+◌, List, [], ◌++◌, length, replicate, Some, IsSome, IfSome, OnOk};
+ghost use Rattle.std.specs.Prelude.{◌≡◌, ℕ, ◌<◌, ◌≤◌, ◌+◌, List, [], ◌++◌, replicate, Some, IsSome, OnOk};
 ghost use Rattle.hb_disk.specs.Model.{overwritten, Torn};
 ghost use Rattle.hb_disk.specs.Calls.{Leaves};
 ghost use Rattle.hb_disk.specs.Runs.{WritesThrough};

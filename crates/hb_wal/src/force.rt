@@ -1,4 +1,4 @@
-ghost use Rattle.std.specs.Prelude.{◌≡◌, ℕ, ◌<◌, ◌≤◌, ◌+◌, List, [], ◌++◌, length, IsSome, IfSome, IsOk, OnOk, OnErr};
+ghost use Rattle.std.specs.Prelude.{◌≡◌, ℕ, ◌<◌, ◌≤◌, ◌+◌, List, [], ◌++◌, IsSome, IfSome, IsOk, OnOk, OnErr};
 ghost use Rattle.hb_disk.specs.Model.{overwritten, Torn, Stays};
 ghost use Rattle.hb_disk.specs.Calls.{Leaves};
 ghost use Rattle.hb_disk.specs.Runs.{Rewrites};

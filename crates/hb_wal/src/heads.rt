@@ -1,4 +1,4 @@
-ghost use Rattle.std.specs.Prelude.{◌≡◌, ◌⊎◌, ℕ, ◌<◌, ◌≤◌, ◌+◌, ◌-◌, ◌^◌, List, length, take, drop, IfSome, IsErr, IsErrOf, IfOk, IfErr, OnOk, OnErr, option_map};
+ghost use Rattle.std.specs.Prelude.{◌≡◌, ◌⊎◌, ℕ, ◌<◌, ◌≤◌, ◌+◌, ◌-◌, ◌^◌, List, length, take, drop, IfSome, IsErr, IsErrOf, IfOk, IfErr, option_map};
 ghost use Rattle.hb_disk.specs.Calls.{ReadsOnly};
 ghost use Rattle.hb_wal.specs.declared.heads.FrameStop.TheVariants.{BadLength, NoMemory, DiskFault};
 ghost use Rattle.hb_wal.specs.Frames.{IsPayload, IsBadFrame, range};

@@ -1,9 +1,8 @@
-ghost use Rattle.std.specs.Prelude.{◌≡◌, ℕ, ◌<◌, ◌≤◌, ◌+◌, ◌^◌, List, ◌++◌, length, All, IfSome, IsErrOf, IfOk, IfErr};
+ghost use Rattle.std.specs.Prelude.{◌≡◌, ℕ, ◌<◌, ◌≤◌, ◌+◌, ◌^◌, ◌++◌, length, All, IfSome, IsErrOf, IfOk, IfErr};
 ghost use Rattle.hb_disk.specs.Calls.{ReadsOnly};
 ghost use Rattle.hb_wal.specs.declared.reading.ReadStop.TheVariants.{NoMemory, DiskFault};
 ghost use Rattle.hb_wal.specs.Frames.{frames, IsPayload, HasFrames, range};
 ghost use Rattle.hb_wal.specs.Stops.{StopsAt, stop_after};
-ghost use Rattle.hb_wal.specs.Reading.{BeginsFrame};
 
 use crate::Payloads;
 use crate::heads::{FRAME, FrameStop, read_frame};

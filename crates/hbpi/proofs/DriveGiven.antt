@@ -30,9 +30,9 @@ no_memory seen status (Ok reading) is = (λ served sink. inr is, λ unserved. in
 no_memory seen status (Err bad) is = inr is
 
 -- a script that is read of the whole text is what the text says
-scheduled_reads : (k : ℕ) (left : List ℕ) (seen : Seen) (lines : List Line) (steps : List ℕ) → seen.left ≡ Some left → IsScheduled k seen.left seen.rest lines steps → text_read true k left ≡ Ok (record { lines = lines; steps = steps })
+scheduled_reads : (k : ℕ) (left : List ℕ) (seen : Seen) (lines : List Line) (steps : List ℕ) → seen.source_before.left ≡ Some left → IsScheduled k seen.source_before.left seen.source_after.left lines steps → text_read true k left ≡ Ok (record { lines = lines; steps = steps })
 scheduled_reads k left seen lines steps text scheduled =
-    let whole = subst (λ (o : Option (List ℕ)). IsWholeText o seen.rest scheduled.text) text scheduled.whole in
+    let whole = subst (λ (o : Option (List ℕ)). IsWholeText o seen.source_after.left scheduled.text) text scheduled.whole in
     ap (text_read true k) (sym whole.0) ∙ scheduled.says
 
 gives : (seen : Seen) (status : Status) (k n : ℕ) (left : List ℕ) (read : Result Reading BadLine) → n ≡ k → text_read true n left ≡ read → GivesFor seen status read → GivesFor seen status (text_read true k left)
@@ -52,7 +52,7 @@ module _ (s : FileState) (left : List ℕ) (d e : DiskModel) (seen : Seen) (one 
       let same : here.0 ≡ s = one calm.bytes here.0 s here.1 calm.opens in
       sym (ap (λ (f : FileState). f.meta.k) (sym same) ∙ here.3)
 
-  ran_gives : (status : Status) (after : CoreState) (drove : Drove d e seen after) → (¬ (Rose seen.sink_before seen.sink_after) → (status ≡ Done) ⊎ (status ≡ NoMemory)) → GivesFor seen status (text_read true s.meta.k left)
+  ran_gives : (status : Status) (after : CoreState) (drove : Drove d e seen after) → (¬ (Rose seen.sink_before.faults seen.sink_after.faults) → (status ≡ Done) ⊎ (status ≡ NoMemory)) → GivesFor seen status (text_read true s.meta.k left)
   ran_gives status after drove done =
       gives seen status s.meta.k drove.k left _ (drove_k after drove) (scheduled_reads drove.k left seen drove.before.lines drove.run.steps calm.text drove.run.scheduled)
       (λ served sink. done sink, λ unserved. absurd (unserved drove.run.served))
@@ -62,7 +62,7 @@ module _ (s : FileState) (left : List ℕ) (d e : DiskModel) (seen : Seen) (one 
   opened_gives SinkFault ends = ran_gives SinkFault ends.0 ends.1 (λ sink. absurd (sink ends.3))
   opened_gives DiskFault ends = absurd (calm.disk ends.1)
   opened_gives (BadText bad) ends =
-      let text = subst (λ (o : Option (List ℕ)). IsTextOf o seen.rest ends.2) calm.text ends.3 in
+      let text = subst (λ (o : Option (List ℕ)). IsTextOf o seen.source_after.left ends.2) calm.text ends.3 in
       gives seen (BadText bad) s.meta.k ends.0 left (Err bad) (away_k ends.0 (BadText bad) ends.1) (sym (front_reads true ends.0 left) ∙ ap (text_read true ends.0) (sym text.0) ∙ ends.4) (inl refl)
   opened_gives SourceFault ends = absurd (calm.source ends.2)
   opened_gives NotBuilt ends =

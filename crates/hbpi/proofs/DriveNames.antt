@@ -29,7 +29,7 @@ no_line (starts.Closed faults.DiskFault) bad is = cc is
 no_line (starts.Closed faults.NoMemory) bad is = cc is
 
 module _ (d e : DiskModel) (seen : Seen) (one : OpensToOne) (b : List ℕ) (s : FileState) (left : List ℕ) (bad : BadLine)
-    (told : d.told ≡ Some b) (opens : OpensTo b s) (text : seen.left ≡ Some left) where
+    (told : d.told ≡ Some b) (opens : OpensTo b s) (text : seen.source_before.left ≡ Some left) where
   -- the file that was opened is the one that the bytes open to
   away_k : (k : ℕ) (status : Status) → IsTurnedAway k d e seen status → k ≡ s.meta.k
   away_k k status away =
@@ -39,7 +39,7 @@ module _ (d e : DiskModel) (seen : Seen) (one : OpensToOne) (b : List ℕ) (s : 
 
   opened_names : (status : Status) → OpenedEnds d e seen status → status ≡ BadText bad → text_read true s.meta.k left ≡ Err bad
   opened_names (BadText found) ends is =
-      let read = subst (λ (o : Option (List ℕ)). IsTextOf o seen.rest ends.2) text ends.3 in
+      let read = subst (λ (o : Option (List ℕ)). IsTextOf o seen.source_after.left ends.2) text ends.3 in
       let same : found ≡ bad = cc (is) in
       ap (λ (k : ℕ). text_read true k left) (sym (away_k ends.0 (BadText found) ends.1)) ∙ sym (front_reads true ends.0 left) ∙ ap (text_read true ends.0) (sym read.0) ∙ ends.4 ∙ ap Err same
   opened_names Done _ is = cc is

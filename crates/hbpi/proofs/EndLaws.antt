@@ -41,11 +41,11 @@ not_both k text reading bad good e = cc
 same_attributes : (m n : ℕ) → ◌≡◌ {A = Option Form} (Some (Dry m)) (Some (Dry n)) → m ≡ n
 same_attributes m n e = cc
 
-dry_complete : (k : ℕ) (seen : Seen) (status : Status) → DryEnds k seen status → (left : List ℕ) (reading : Reading) → seen.left ≡ Some left → text_read false k left ≡ Ok reading → ¬ (Rose seen.source_before seen.source_after) → ¬ (Rose seen.sink_before seen.sink_after) → (status ≡ Done) ⊎ (status ≡ NoMemory)
+dry_complete : (k : ℕ) (seen : Seen) (status : Status) → DryEnds k seen status → (left : List ℕ) (reading : Reading) → seen.source_before.left ≡ Some left → text_read false k left ≡ Ok reading → ¬ (Rose seen.source_before.faults seen.source_after.faults) → ¬ (Rose seen.sink_before.faults seen.sink_after.faults) → (status ≡ Done) ⊎ (status ≡ NoMemory)
 dry_complete k seen Done ends left reading told good source sink = inl refl
 dry_complete k seen Usage ends left reading told good source sink = absurd ends
 dry_complete k seen (BadText bad) ends left reading told good source sink =
-    let read = subst (λ (o : Option (List ℕ)). IsTextOf o seen.rest ends.0) told ends.1 in
+    let read = subst (λ (o : Option (List ℕ)). IsTextOf o seen.source_after.left ends.0) told ends.1 in
     absurd (not_both k left reading bad good (ap (text_read false k) (sym (read.0 ∙ good_is_whole false k left reading good)) ∙ ends.2))
 dry_complete k seen SourceFault ends left reading told good source sink = absurd (source ends.0)
 dry_complete k seen SinkFault ends left reading told good source sink = absurd (sink ends.3)
@@ -56,20 +56,20 @@ dry_complete k seen (BadLayout field value) ends left reading told good source s
 dry_complete k seen (Small needed found) ends left reading told good source sink = absurd ends
 dry_complete k seen NotBuilt ends left reading told good source sink = absurd ends
 
-answered_not_bad : (k : ℕ) (seen : Seen) (lines : _) (left : List ℕ) (bad : BadLine) → IsAnswered k seen lines → seen.left ≡ Some left → text_read false k (take greatest_text left) ≡ Err bad → ⊥
+answered_not_bad : (k : ℕ) (seen : Seen) (lines : _) (left : List ℕ) (bad : BadLine) → IsAnswered k seen lines → seen.source_before.left ≡ Some left → text_read false k (take greatest_text left) ≡ Err bad → ⊥
 answered_not_bad k seen lines left bad answered told wrong =
-    let whole = subst (λ (o : Option (List ℕ)). IsWholeText o seen.rest answered.text) told answered.whole in
+    let whole = subst (λ (o : Option (List ℕ)). IsWholeText o seen.source_after.left answered.text) told answered.whole in
     let good = ap (text_read false k) (sym whole.0) ∙ answered.says in
     not_both k left _ bad good (ap (text_read false k) (sym (good_is_whole false k left _ good)) ∙ wrong)
 
 same_bad : (a b : BadLine) (read : Result Reading BadLine) → read ≡ Err a → read ≡ Err b → a ≡ b
 same_bad a b read e f = cc
 
-dry_refuses : (k : ℕ) (seen : Seen) (status : Status) → DryEnds k seen status → (left : List ℕ) (bad : BadLine) → seen.left ≡ Some left → text_read false k (take greatest_text left) ≡ Err bad → ¬ (Rose seen.source_before seen.source_after) → (status ≡ BadText bad) ⊎ (status ≡ NoMemory)
+dry_refuses : (k : ℕ) (seen : Seen) (status : Status) → DryEnds k seen status → (left : List ℕ) (bad : BadLine) → seen.source_before.left ≡ Some left → text_read false k (take greatest_text left) ≡ Err bad → ¬ (Rose seen.source_before.faults seen.source_after.faults) → (status ≡ BadText bad) ⊎ (status ≡ NoMemory)
 dry_refuses k seen Done ends left bad told wrong source = absurd (answered_not_bad k seen ends.0 left bad ends.1 told wrong)
 dry_refuses k seen Usage ends left bad told wrong source = absurd ends
 dry_refuses k seen (BadText found) ends left bad told wrong source =
-    let read = subst (λ (o : Option (List ℕ)). IsTextOf o seen.rest ends.0) told ends.1 in
+    let read = subst (λ (o : Option (List ℕ)). IsTextOf o seen.source_after.left ends.0) told ends.1 in
     inl (ap BadText (same_bad found bad (text_read false k (take greatest_text left)) (ap (text_read false k) (sym read.0) ∙ ends.2) wrong))
 dry_refuses k seen SourceFault ends left bad told wrong source = absurd (source ends.0)
 dry_refuses k seen SinkFault ends left bad told wrong source = absurd (answered_not_bad k seen ends.0 left bad ends.1 told wrong)
@@ -95,9 +95,9 @@ ends_refuses (Some form) _ _ _ _ _ _ _ _ is _ _ _ = cc (is)
 same_named : (found bad : BadLine) → BadText found ≡ BadText bad → found ≡ bad
 same_named found bad is = cc (is)
 
-dry_names : (k : ℕ) (seen : Seen) (status : Status) → DryEnds k seen status → (left : List ℕ) (bad : BadLine) → seen.left ≡ Some left → status ≡ BadText bad → text_read false k left ≡ Err bad
+dry_names : (k : ℕ) (seen : Seen) (status : Status) → DryEnds k seen status → (left : List ℕ) (bad : BadLine) → seen.source_before.left ≡ Some left → status ≡ BadText bad → text_read false k left ≡ Err bad
 dry_names k seen (BadText found) ends left bad told is =
-    let read = subst (λ (o : Option (List ℕ)). IsTextOf o seen.rest ends.0) told ends.1 in
+    let read = subst (λ (o : Option (List ℕ)). IsTextOf o seen.source_after.left ends.0) told ends.1 in
     let same : found ≡ bad = same_named found bad is in
     sym (front_reads false k left) ∙ ap (text_read false k) (sym read.0) ∙ ends.2 ∙ ap Err same
 dry_names _ _ Done _ _ _ _ is = cc (is)
@@ -125,7 +125,7 @@ same_layout a b c d e f g h i j P is p =
     let icap : j ≡ e = cc in
     subst (λ (x : ℕ). P x b c d e) k (subst (λ (x : ℕ). P f x c d e) pages (subst (λ (x : ℕ). P f g x d e) log (subst (λ (x : ℕ). P f g h x e) dcap (subst (λ (x : ℕ). P f g h i x) icap p))))
 
-create_complete : (fault : Option BadField) (needed : ℕ) (seen : Seen) (disk : DiskSeen) (status : Status) → CreateEnds fault needed seen disk status → fault ≡ None → needed ≤ disk.size → ¬ (Rose disk.writes_before disk.writes_after) → ¬ (Rose seen.sink_before seen.sink_after) → (status ≡ Done) ⊎ (status ≡ NoMemory)
+create_complete : (fault : Option BadField) (needed : ℕ) (seen : Seen) (disk : DiskSeen) (status : Status) → CreateEnds fault needed seen disk status → fault ≡ None → needed ≤ disk.size → ¬ (Rose disk.writes_before disk.writes_after) → ¬ (Rose seen.sink_before.faults seen.sink_after.faults) → (status ≡ Done) ⊎ (status ≡ NoMemory)
 create_complete fault needed seen disk Done ends good large writes sink = inl refl
 create_complete fault needed seen disk SinkFault ends good large writes sink = absurd (sink ends.2)
 create_complete fault needed seen disk (BadLayout field value) ends good large writes sink = cc (ends.0, good)

@@ -6,7 +6,7 @@ use Rattle.hb_outside.specs.Streams.{Rose}
 use Rattle.hb_disk.specs.Model.{DiskModel}
 use Rattle.hb_set.specs.declared.commands.Reply.TheVariants.{ReadFault}
 use Rattle.hb_set.specs.declared.scripts.Answered.{Answered}
-use Rattle.hb_text.proofs.Facts.OutputLaws.{Rose-later}
+use Rattle.hb_outside.proofs.Facts.CountLaws.{Rose-later}
 use Rattle.hb_store.specs.declared.stops.StopWhy.{StopWhy}
 use Rattle.hb_store.specs.declared.stops.StopWhy.TheVariants.{WriteFault}
 use Rattle.hbpi.specs.Core.{CoreState}

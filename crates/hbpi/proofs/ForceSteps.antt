@@ -27,6 +27,7 @@ use Rattle.hbpi.specs.Steps.{Forced, ForcesOnce, KeepsAt, StepsSafely, with_stop
 use Rattle.hbpi.proofs.PrefixOpens.{force_moments, order_long}
 use Rattle.hbpi.proofs.CoreStays.{stands, stays_kept, step_kept, steps_going}
 use Rattle.hbpi.proofs.AnswerSteps.{along}
+use Rattle.hb_store.proofs.Facts.StoreLaws.{last_forced}
 
 pub some_so : {X : Type 0} (o : Option X) → is_some o ≡ true → IsSome o
 some_so None e = cc
@@ -60,10 +61,6 @@ after_force_awaits [] done awaits = tt
 after_force_awaits (first ∷ []) done awaits = tt
 after_force_awaits (first ∷ second ∷ rest) done awaits = absurd awaits
 
-same_last : (durable : FileState) (later : List FileState) → last_of (durable_after durable later) (later_after later) ≡ last_of durable later
-same_last durable [] = refl
-same_last durable (next ∷ later) = refl
-
 after_force_sound : (durable : FileState) (later : List FileState) → length later ≤ 1 → IsSound durable → IsSound (last_of durable later) → IsSound (durable_after durable later)
 after_force_sound durable [] few sound last = sound
 after_force_sound durable (next ∷ []) few sound last = last
@@ -90,7 +87,7 @@ module _ (d e : DiskModel) (old : CoreState) (going : old.stop ≡ None) where
     forced_kept : StandsIn old.session forced_core n done → StoreKeeps e (forced_state old.store) (durable_after kept.durable kept.later) (later_after kept.later)
         → (k : EngineKeeps e forced_core n done) × (last_of k.durable k.later ≡ last_of kept.durable kept.later)
     forced_kept there keeps =
-        let same = same_last kept.durable kept.later in
+        let same = last_forced kept.durable kept.later in
         let count = StoreKeeps-one d old.store kept.durable kept.later kept.keeps in
         let S : FileState → Type 0 = λ s. IsSound s in
         let O : FileState → Type 0 = λ s. (length s.pages ≡ 1) × (s.meta.root ≡ 1) × (s.meta.height ≡ 1) in (

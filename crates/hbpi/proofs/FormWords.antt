@@ -1,11 +1,12 @@
 -- Too few words, or too many, are no form.
-use Rattle.std.proofs.Common.{◌≡◌, ℕ, ◌<◌, ◌≤◌, ◌⊎◌, inl, inr, Bool, true, false, cond, ◌&&◌, List, [], ◌∷◌, length, Option, Some, None, refl, arith}
+use Rattle.std.proofs.Common.{◌≡◌, ℕ, ◌<◌, ◌≤◌, ◌⊎◌, inl, inr, cond, ◌&&◌, List, [], ◌∷◌, length, Option, Some, None, refl, arith}
 use Rattle.std.specs.Prelude.{nat_le, codes}
 use Rattle.std.specs.Str.{bytes_eq}
 use Rattle.std.proofs.lemmas.Bool.Decides.{nat_tests}
 use Rattle.hbpi.specs.declared.forms.Form.{Form}
 use Rattle.hbpi.specs.declared.forms.Form.TheVariants.{Dry, Run, Drive, Check, Map, Tidy}
 use Rattle.hbpi.specs.Forms.{◌>>=◌, number_of, attributes_of, line_count_of, create_of, dry_of, gen_of, work_of, alone, form_from, form_of}
+use Rattle.hb_lemmas.proofs.Booleans.{chosen}
 
 pub create_short : (ws : List (List ℕ)) → length ws < 5 → create_of ws ≡ None
 create_short [] h = refl
@@ -41,10 +42,6 @@ gen_long (a ∷ b ∷ c ∷ d ∷ ws) h = refl
 fed : {A B : Type 0} (o : Option A) (f : A → Option B) (y : B) → (o >>= f) ≡ Some y → (x : A) × (f x ≡ Some y)
 fed (Some x) f y e = (x, e)
 fed None f y e = cc
-
-chosen : {A : Type 0} (b : Bool) (x y z : A) → cond b x y ≡ z → ((b ≡ true) × (x ≡ z)) ⊎ ((b ≡ false) × (y ≡ z))
-chosen true x y z e = inl (refl, e)
-chosen false x y z e = inr (refl, e)
 
 some_form : (f g : Form) → Some f ≡ Some g → f ≡ g
 some_form f g e = cc

@@ -78,7 +78,7 @@ ran b s d e seen status after one told opens drove going =
       said = inr (
         drove.before.lines,
         drove.run.steps,
-        subst (λ (n : ℕ). IsScheduled n seen.left seen.rest drove.before.lines drove.run.steps) k drove.run.scheduled,
+        subst (λ (n : ℕ). IsScheduled n seen.source_before.left seen.source_after.left drove.before.lines drove.run.steps) k drove.run.scheduled,
         subst (λ (ls : List Line). AreAmong run.done ls) (same_lines (length drove.run.steps) (shown d drove.before) seen.answered (shown e after) drove.run.moves) (among_whole run.done after.lines after.taken run.among),
       );
       legal = run.legal;

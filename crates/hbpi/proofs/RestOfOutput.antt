@@ -1,37 +1,28 @@
 -- What is put behind the replies: the lines that have no answer, which are those behind the first ones, and the order.
-use Rattle.std.proofs.Common.{◌≡◌, ℕ, zero, suc, ◌+◌, ◌<◌, ◌==◌, Bool, true, false, not, ◌||◌, List, [], ◌∷◌, ◌++◌, length, take, drop, get_or, filter, Option, Some, None, is_some, refl, sym, ap, ◌∙◌, subst, arith, append-nil, append_assoc, eq-eqb, ne_eqb}
+use Rattle.std.proofs.Common.{◌≡◌, ℕ, zero, suc, ◌+◌, ◌<◌, ◌==◌, Bool, true, false, not, ◌||◌, List, [], ◌∷◌, ◌++◌, length, take, drop, get_or, filter, Option, Some, None, Result, Ok, Err, is_some, refl, sym, ap, ◌∙◌, subst, arith, append-nil, append_assoc, eq-eqb, ne_eqb}
 use Rattle.std.proofs.lemmas.List.{map-append, take_more, take_min, take-append-drop}
 use Rattle.std.proofs.lemmas.List.Elements.{filter-append}
 use Rattle.std.proofs.lemmas.Grind.{flat_map-append}
 use Rattle.std.specs.List.{AllByRecursion, flat_map, list_any}
-use Rattle.hb_outside.specs.Streams.{Appends}
+use Rattle.std.specs.Result.{is_err}
+use Rattle.std.proofs.lemmas.Bool.{false≢true}
+use Rattle.hb_outside.specs.Calls.{Puts, SinkModel}
+use Rattle.hb_outside.specs.Streams.{Rose, Appends, AppendsFront}
 use Rattle.hb_text.specs.Output.{answer_text, left_text, order_text}
-use Rattle.hb_text.proofs.Facts.OutputLaws.{Appends-none}
 use Rattle.hb_set.specs.Order.{AreRising}
 use Rattle.hb_set.specs.declared.scripts.Line.{Line}
 use Rattle.hb_set.specs.declared.scripts.Answered.{Answered}
 use Rattle.hb_store.specs.declared.stops.StopWhy.{StopWhy}
-use Rattle.hbpi.specs.DryParts.{HasPutText, PutsMore}
+use Rattle.hbpi.specs.DryParts.{PutsOn}
 use Rattle.hbpi.specs.Core.{CoreState, settled_of}
 use Rattle.hbpi.specs.AnsweredLines.{AnswersFirst, answered_count, left_lines}
 use Rattle.hbpi.specs.Drives.{DriveEnds, EndsAs, run_output}
 use Rattle.hbpi.specs.declared.drive.End.{End}
 use Rattle.hbpi.specs.declared.drive.End.TheVariants as ends
-use Rattle.hbpi.proofs.PutTexts.{has_put_more}
+use Rattle.hbpi.proofs.PutTexts.{has_put_more, puts_then}
 use Rattle.hbpi.proofs.LinesInOrder.{numbers, Above, Below}
 use Rattle.hbpi.proofs.FirstAnswers.{answer_numbers, lower_lines}
 use Rattle.hbpi.proofs.TakenSteps.{answered_length}
-
--- nothing is put
-pub puts_none : (a : Option (List ℕ)) (f : ℕ) (failed : Bool) → PutsMore a a f f failed failed []
-puts_none a f false = (Appends-none a, refl)
-puts_none a f true = (refl, refl, refl)
-
--- one piece more
-pub puts_then : (a b c : Option (List ℕ)) (f g h : ℕ) (failed mid next : Bool) (p q : List ℕ) → PutsMore a b f g failed mid p → PutsMore b c g h mid next q → PutsMore a c f h failed next (p ++ q)
-puts_then a b c f g h false mid next p q first second = has_put_more a b c f g h mid next p q first second
-puts_then a b c f g h true false next p q first second = cc (first.2)
-puts_then a b c f g h true true next p q first second = (second.0 ∙ first.0, second.1 ∙ first.1, second.2)
 
 -- the text of one line more
 pub left_more : (stopped : Bool) (lines : List Line) (i : ℕ) (line : Line) → i < length lines → line ≡ get_or lines i line
@@ -42,25 +33,25 @@ left_more stopped lines i line lt is =
     ∙ flat_map-append (left_text stopped) (numbers (take i lines)) (line.number ∷ [])
     ∙ ap (λ (t : List ℕ). flat_map (left_text stopped) (numbers (take i lines)) ++ t) (append-nil (left_text stopped line.number))
 
-pub left_puts : (a b c : Option (List ℕ)) (f g h : ℕ) (failed mid next stopped : Bool) (lines : List Line) (i : ℕ) (line : Line) → i < length lines → line ≡ get_or lines i line
-    → PutsMore a b f g failed mid (flat_map (left_text stopped) (numbers (take i lines))) → PutsMore b c g h mid next (left_text stopped line.number)
-    → PutsMore a c f h failed next (flat_map (left_text stopped) (numbers (take (i + 1) lines)))
-left_puts a b c f g h failed mid next stopped lines i line lt is first second =
-    let P : List ℕ → Type 0 = λ t. PutsMore a c f h failed next t in
+pub left_puts : {T E : Type 0} (a b c : SinkModel) (so_far mid next : Result T E) (stopped : Bool) (lines : List Line) (i : ℕ) (line : Line) → i < length lines → line ≡ get_or lines i line
+    → PutsOn so_far (flat_map (left_text stopped) (numbers (take i lines))) mid a b → PutsOn mid (left_text stopped line.number) next b c
+    → PutsOn so_far (flat_map (left_text stopped) (numbers (take (i + 1) lines))) next a c
+left_puts a b c so_far mid next stopped lines i line lt is first second =
+    let P : List ℕ → Type 0 = λ t. PutsOn so_far t next a c in
     subst P (sym (left_more stopped lines i line lt is))
-    (puts_then a b c f g h failed mid next (flat_map (left_text stopped) (numbers (take i lines))) (left_text stopped line.number) first second)
+    (puts_then a b c so_far mid next (flat_map (left_text stopped) (numbers (take i lines))) (left_text stopped line.number) first second)
 
 -- the lines and the order
-pub rest_puts : (a b c : Option (List ℕ)) (f g h : ℕ) (failed mid next says stopped : Bool) (ls left : List Line) (ns order : List ℕ) (count settled : ℕ)
-    → PutsMore a b f g failed mid (flat_map (left_text says) (numbers ls)) → PutsMore b c g h mid next (order_text ns count)
+pub rest_puts : {T E : Type 0} (a b c : SinkModel) (so_far mid next : Result T E) (says stopped : Bool) (ls left : List Line) (ns order : List ℕ) (count settled : ℕ)
+    → PutsOn so_far (flat_map (left_text says) (numbers ls)) mid a b → PutsOn mid (order_text ns count) next b c
     → says ≡ stopped → ls ≡ left → ns ≡ order → count ≡ settled
-    → PutsMore a c f h failed next (flat_map (left_text stopped) (numbers left) ++ order_text order settled)
-rest_puts a b c f g h failed mid next says stopped ls left ns order count settled first second says_is ls_is ns_is count_is =
-    let S : Bool → Type 0 = λ s. PutsMore a b f g failed mid (flat_map (left_text s) (numbers left)) in
-    let L : List Line → Type 0 = λ l. PutsMore a b f g failed mid (flat_map (left_text says) (numbers l)) in
-    let N : List ℕ → Type 0 = λ n. PutsMore b c g h mid next (order_text n count) in
-    let C : ℕ → Type 0 = λ n. PutsMore b c g h mid next (order_text order n) in
-    puts_then a b c f g h failed mid next (flat_map (left_text stopped) (numbers left)) (order_text order settled)
+    → PutsOn so_far (flat_map (left_text stopped) (numbers left) ++ order_text order settled) next a c
+rest_puts a b c so_far mid next says stopped ls left ns order count settled first second says_is ls_is ns_is count_is =
+    let S : Bool → Type 0 = λ s. PutsOn so_far (flat_map (left_text s) (numbers left)) mid a b in
+    let L : List Line → Type 0 = λ l. PutsOn so_far (flat_map (left_text says) (numbers l)) mid a b in
+    let N : List ℕ → Type 0 = λ n. PutsOn mid (order_text n count) next b c in
+    let C : ℕ → Type 0 = λ n. PutsOn mid (order_text order n) next b c in
+    puts_then a b c so_far mid next (flat_map (left_text stopped) (numbers left)) (order_text order settled)
     (subst S says_is (subst L ls_is first)) (subst C count_is (subst N ns_is second))
 
 -- whether an answer has this number
@@ -145,25 +136,34 @@ going : (stop : Option StopWhy) (stopped : Bool) → stopped ≡ is_some stop �
 going None stopped is none = refl
 going (Some why) stopped is none = cc
 
+-- what is known of a put that failed, and of one that didn't
+failed_put : {T E : Type 0} (result : Result T E) (a b : SinkModel) (text : List ℕ) → Puts text result a b → is_err result ≡ true → AppendsFront a.written b.written text × Rose a.faults b.faults
+failed_put (Ok x) a b text put bad = absurd (false≢true bad)
+failed_put (Err e) a b text put bad = (put.tried, put.counts.cause refl)
+
+whole_put : {T E : Type 0} (result : Result T E) (a b : SinkModel) (text : List ℕ) → Puts text result a b → is_err result ≡ false → Appends a.written b.written text × (b.faults ≡ a.faults)
+whole_put (Ok x) a b text put good = (put.done, put.counts.no_fault (λ e. false≢true e))
+whole_put (Err e) a b text put good = absurd (false≢true (sym good))
+
 -- How a run ends, by what was put and the flags.
-module _ (held mid holds : Option (List ℕ)) (f g h : ℕ) (early failed stopped : Bool) (answered : List Answered) (c : CoreState) (from : ℕ)
-    (put : HasPutText held mid f g early (flat_map answer_text answered))
-    (more : PutsMore mid holds g h early failed (flat_map (left_text (is_some c.stop)) (numbers (drop from c.lines)) ++ order_text c.order (settled_of c)))
-    (left : left_lines c.lines answered ≡ numbers (drop from c.lines)) (stop : stopped ≡ is_some c.stop) where
-  all_put : HasPutText held holds f h failed (run_output answered c)
+module _ {T E : Type 0} (before mid after : SinkModel) (early last : Result T E) (failed stopped : Bool) (answered : List Answered) (c : CoreState) (from : ℕ)
+    (put : Puts (flat_map answer_text answered) early before mid)
+    (more : PutsOn early (flat_map (left_text (is_some c.stop)) (numbers (drop from c.lines)) ++ order_text c.order (settled_of c)) last mid after)
+    (left : left_lines c.lines answered ≡ numbers (drop from c.lines)) (fails : failed ≡ is_err last) (stop : stopped ≡ is_some c.stop) where
+  all_put : Puts (run_output answered c) last before after
   all_put =
-      let P : List ℕ → Type 0 = λ t. HasPutText held holds f h failed t in
+      let P : List ℕ → Type 0 = λ t. Puts t last before after in
       let lefts = flat_map (left_text (is_some c.stop)) (numbers (drop from c.lines)) in
       subst P (sym (append_assoc (flat_map answer_text answered) lefts (order_text c.order (settled_of c)))
       ∙ ap (λ (ns : List ℕ). flat_map answer_text answered ++ flat_map (left_text (is_some c.stop)) ns ++ order_text c.order (settled_of c)) (sym left))
-      (has_put_more held mid holds f g h early failed (flat_map answer_text answered) (lefts ++ order_text c.order (settled_of c)) put more)
+      (has_put_more before mid after early last (flat_map answer_text answered) (lefts ++ order_text c.order (settled_of c)) put more)
 
-  good_put : failed ≡ false → Appends held holds (run_output answered c) × (h ≡ f)
-  good_put good = let B : Bool → Type 0 = λ b. HasPutText held holds f h b (run_output answered c) in subst B good all_put
+  good_put : failed ≡ false → Appends before.written after.written (run_output answered c) × (after.faults ≡ before.faults)
+  good_put good = whole_put last before after (run_output answered c) all_put (sym fails ∙ good)
 
-  pub drive_ends : (end : End) → EndsAs end failed stopped answered → DriveEnds end held holds f h answered c
+  pub drive_ends : (end : End) → EndsAs end failed stopped answered → DriveEnds end before after answered c
   drive_ends ends.NoMemory as_said = absurd as_said
-  drive_ends ends.SinkFault as_said = let B : Bool → Type 0 = λ b. HasPutText held holds f h b (run_output answered c) in let bad = subst B as_said all_put in (bad.0, bad.1)
+  drive_ends ends.SinkFault as_said = failed_put last before after (run_output answered c) all_put (sym fails ∙ as_said)
   drive_ends ends.Stopped as_said = let good = good_put as_said.0 in (good.0, sym stop ∙ as_said.1, good.1)
   drive_ends ends.ReadFault as_said = let good = good_put as_said.0 in (good.0, going c.stop stopped stop as_said.1, as_said.2, good.1)
   drive_ends ends.Finished as_said = let good = good_put as_said.0 in (good.0, going c.stop stopped stop as_said.1, as_said.2, good.1)

@@ -1,5 +1,5 @@
 -- What a run of a schedule leaves, as the command `drive` says it.
-use Rattle.std.proofs.Common.{◌≡◌, ◌≢◌, inl, inr, ℕ, zero, suc, ◌≤◌, List, [], ◌++◌, length, take, Option, Some, None, IfSome, IsSome, false, refl, sym, ap, subst, ◌∙◌, arith, MatchOption}
+use Rattle.std.proofs.Common.{◌≡◌, ◌≢◌, inl, inr, ℕ, zero, suc, ◌≤◌, List, [], ◌++◌, length, take, Option, Some, None, Ok, IfSome, IsSome, false, refl, sym, ap, subst, ◌∙◌, arith, MatchOption}
 use Rattle.hb_disk.specs.Model.{DiskModel, IsDisk}
 use Rattle.hb_layout.specs.declared.meta.Meta.{Meta}
 use Rattle.hb_disk.specs.Calls.{Leaves}
@@ -16,7 +16,11 @@ use Rattle.hb_store.specs.Opening.{OpensTo, IsEven}
 use Rattle.hb_store.specs.declared.stops.StopWhy.{StopWhy}
 use Rattle.hb_store.specs.declared.stops.StopWhy.TheVariants as stops
 use Rattle.hb_store.specs.declared.stops.Why.{Why}
-use Rattle.hb_text.proofs.Facts.OutputLaws.{Appends-both, Appends-front, Rose-later}
+use Rattle.std.proofs.lemmas.Bool.{false≢true}
+use Rattle.hb_outside.specs.Calls.{Puts, SinkModel, SourceModel}
+use Rattle.hb_outside.specs.declared.traits.Failed.{Failed}
+use Rattle.hb_outside.proofs.Facts.CountLaws.{Counts-same}
+use Rattle.hb_outside.proofs.Facts.PutLaws.{Puts-then}
 use Rattle.hbpi.specs.Core.{CoreState, settled_of}
 use Rattle.hbpi.specs.Keeping.{EngineKeeps, OpensToPrefix, set_of}
 use Rattle.hbpi.specs.StepTable.{StepsOn}
@@ -93,24 +97,24 @@ steps_may (suc n) from answered to reaches may =
     step_may mid.core.stop mid.core mid.file step.outcome to.core to.file refl step.steps (steps_may n from reaches.1 mid reaches.3 may)
 
 -- What is known of a run of a schedule.
-pub record IsRun (d e : DiskModel) (seen : Seen) (k : ℕ) (before after : CoreState) (steps : List ℕ) (end : End) (mid : Option (List ℕ)) (faults : ℕ) : Type 0 where
-  pub scheduled : IsScheduled k seen.left seen.rest before.lines steps
+pub record IsRun (d e : DiskModel) (seen : Seen) (k : ℕ) (before after : CoreState) (steps : List ℕ) (end : End) (mid : SinkModel) : Type 0 where
+  pub scheduled : IsScheduled k seen.source_before.left seen.source_after.left before.lines steps
   pub served : IsServedScript before.lines steps
   pub start : IsStart before
   pub opened : IsNew before.store.turn before.store.meta before.store
   pub attributes : before.store.meta.k ≡ k
   pub one_page : IsOnePage before.store.meta
   pub told : IfSome d.told (λ b. (s : FileState) × OpensTo b s × IsSound s × (s.meta ≡ before.store.meta) × (end ≢ ends.NoMemory → RunsTo (length steps) d before s seen.answered e after (contents_of s)))
-  pub source : seen.source_after ≡ seen.source_before
+  pub source : seen.source_after.faults ≡ seen.source_before.faults
   pub moves : end ≢ ends.NoMemory → MovesOn (length steps) (shown d before) seen.answered (shown e after)
   pub first : AnswersFirst after seen.answered
   pub ordered : HasOrder after
   pub order : seen.order ≡ after.order
-  pub put : DriveEnds end seen.held mid seen.sink_before faults seen.answered after
+  pub put : DriveEnds end seen.sink_before mid seen.answered after
   pub counts : RunFaults d e seen.answered after
-  pub sooner : seen.sink_before ≤ faults
-  pub silent : end ≡ ends.SinkFault → (seen.holds ≡ mid) × (seen.sink_after ≡ faults)
-  pub silent_done : end ≡ ends.Finished → (seen.holds ≡ mid) × (seen.sink_after ≡ faults)
+  pub sooner : seen.sink_before.faults ≤ mid.faults
+  pub silent : end ≡ ends.SinkFault → seen.sink_after ≡ mid
+  pub silent_done : end ≡ ends.Finished → seen.sink_after ≡ mid
 
 apart_stopped : ends.Stopped ≢ ends.NoMemory
 apart_stopped same = cc (same)
@@ -142,7 +146,7 @@ pub since_start : (d e : DiskModel) (P : List ℕ → Type 0) → Leaves d e P �
 since_start d e P run = record { since = d.clock; soon = omega arith; each = run.each }
 
 -- no command was done over a store that was just opened
-pub turned_away : (d : DiskModel) (st : StoreState) (seen : Seen) (status : Status) → IsDisk d → (IsSome d.told → (s : FileState) × IsSound s × StoreKeeps d st s []) → st.stopped ≡ false → (st.meta.high ≡ 1) × (st.meta.height ≡ 1) → IsRefused seen status → (¬ (status ≡ SourceFault) → seen.source_after ≡ seen.source_before) → IsTurnedAway st.meta.k d d seen status
+pub turned_away : (d : DiskModel) (st : StoreState) (seen : Seen) (status : Status) → IsDisk d → (IsSome d.told → (s : FileState) × IsSound s × StoreKeeps d st s []) → st.stopped ≡ false → (st.meta.high ≡ 1) × (st.meta.height ≡ 1) → IsRefused seen status → (¬ (status ≡ SourceFault) → seen.source_after.faults ≡ seen.source_before.faults) → IsTurnedAway st.meta.k d d seen status
 turned_away d st seen status disk kept running one_page refused source = record {
   refused = refused;
   no_fault = (refl, refl);
@@ -166,8 +170,8 @@ pub away_on : {X : Type 0} (M : X → DiskModel) (k : ℕ) (d : DiskModel) (seen
 away_on {X = X} M k d seen status x y same away = subst (λ (z : X). IsTurnedAway k d (M z) seen status) (sym same) away
 
 -- a line of a refusal, with nothing done
-pub refused_on : {X : Type 0} (W : X → Option (List ℕ)) (F : X → ℕ) (x y : X) (holds : Option (List ℕ)) (after : ℕ) (line : List ℕ) → y ≡ x → GetsLine (W y) holds (F y) after line → GetsLine (W x) holds (F x) after line
-refused_on {X = X} W F x y holds after line same gets = subst (λ (z : X). GetsLine (W z) holds (F z) after line) same gets
+pub refused_on : {X : Type 0} (W : X → SinkModel) (x y : X) (after : SinkModel) (line : List ℕ) → y ≡ x → GetsLine (W y) after line → GetsLine (W x) after line
+refused_on {X = X} W x y after line same gets = subst (λ (z : X). GetsLine (W z) after line) same gets
 
 even_run : (e : DiskModel) (s : FileState) (after : CoreState) (done : List Line) → EngineKeeps e after (contents_of s) done → after.stop ≡ None
     → (t : FileState) × IsEven e t × IsSound t × (contents_of t ≡ set_of (contents_of s) (take (settled_of after) done))
@@ -193,8 +197,8 @@ runs_from s steps d e before after answered runs = record {
   late = since_start d e (OpensToPrefix (contents_of s) runs.done 0) runs.crashes.each;
 }
 
-drove : (d e : DiskModel) (seen : Seen) (k : ℕ) (before after : CoreState) (steps : List ℕ) (end : End) (mid : Option (List ℕ)) (faults : ℕ) → IsRun d e seen k before after steps end mid faults → end ≢ ends.NoMemory → Drove d e seen after
-drove d e seen k before after steps end mid faults run ran = record {
+drove : (d e : DiskModel) (seen : Seen) (k : ℕ) (before after : CoreState) (steps : List ℕ) (end : End) (mid : SinkModel) → IsRun d e seen k before after steps end mid → end ≢ ends.NoMemory → Drove d e seen after
+drove d e seen k before after steps end mid run ran = record {
   k = k;
   before = before;
   run = record { steps = steps; scheduled = run.scheduled; served = run.served; start = run.start; opened = run.opened; attributes = run.attributes; one_page = run.one_page; moves = run.moves ran; first = run.first; ordered = run.ordered; order = run.order; source = run.source };
@@ -204,90 +208,86 @@ drove d e seen k before after steps end mid faults run ran = record {
       (here.0, here.1, here.2, here.3, runs_from here.0 (length steps) d e before after seen.answered (here.4 ran)));
 }
 
--- a line behind an output that was put whole, or in front
-line_behind : (a b c : Option (List ℕ)) (f g : ℕ) (text line : List ℕ) → Appends a b text → GetsLine b c f g line → GetsLine a c f g (text ++ line)
-line_behind a b c f g text line put more = elim more [
-  | inl whole ↦ inl (Appends-both a b c text line put whole.0, whole.1)
-  | inr front ↦ inr (Appends-front a b c text line put front.0, front.1)
-]
+-- a line behind an output that was put whole
+pub line_behind : (a b c : SinkModel) (text line : List ℕ) → Appends a.written b.written text → b.faults ≡ a.faults → GetsLine b c line → GetsLine a c (text ++ line)
+line_behind a b c text line put same more =
+    let first : Puts {E = Failed} text (Ok (tt {0})) a b = record { done = put; tried = tt; counts = Counts-same (λ e. false≢true e) same } in
+    record { result = more.result; put = Puts-then more.result a b c text line first more.put }
 
-gets_output : (d e : DiskModel) (seen : Seen) (k : ℕ) (before after : CoreState) (steps : List ℕ) (end : End) (mid : Option (List ℕ)) (faults : ℕ) (status : Status) → IsRun d e seen k before after steps end mid faults
-    → Appends seen.held mid (run_output seen.answered after) → faults ≡ seen.sink_before → GetsLine mid seen.holds faults seen.sink_after (fault_line status) → GetsOutput seen after status
-gets_output d e seen k before after steps end mid faults status run put same line = elim (line_behind seen.held mid seen.holds faults seen.sink_after (run_output seen.answered after) (fault_line status) put line) [
-  | inl whole ↦ inl (whole.0, whole.1 ∙ same)
-  | inr front ↦ inr (front.0, Rose-later seen.sink_before faults seen.sink_after run.sooner front.1)
-]
+gets_output : (d e : DiskModel) (seen : Seen) (k : ℕ) (before after : CoreState) (steps : List ℕ) (end : End) (mid : SinkModel) (status : Status) → IsRun d e seen k before after steps end mid
+    → Appends seen.sink_before.written mid.written (run_output seen.answered after) → mid.faults ≡ seen.sink_before.faults → GetsLine mid seen.sink_after (fault_line status) → GetsOutput seen after status
+gets_output d e seen k before after steps end mid status run put same line = line_behind seen.sink_before mid seen.sink_after (run_output seen.answered after) (fault_line status) put same line
 
 -- over a disk that tells the core is never met damaged
-untold : (d e : DiskModel) (seen : Seen) (k : ℕ) (before after : CoreState) (steps : List ℕ) (end : End) (mid : Option (List ℕ)) (faults page : ℕ) (why : Why) → IsRun d e seen k before after steps end mid faults → end ≢ ends.NoMemory → after.stop ≡ Some (stops.Damaged page why)
+untold : (d e : DiskModel) (seen : Seen) (k : ℕ) (before after : CoreState) (steps : List ℕ) (end : End) (mid : SinkModel) (page : ℕ) (why : Why) → IsRun d e seen k before after steps end mid → end ≢ ends.NoMemory → after.stop ≡ Some (stops.Damaged page why)
     → (told : Option (List ℕ)) → d.told ≡ told → told ≡ None
-untold d e seen k before after steps end mid faults page why run ran stop None is = refl
-untold d e seen k before after steps end mid faults page why run ran stop (Some b) is =
+untold d e seen k before after steps end mid page why run ran stop None is = refl
+untold d e seen k before after steps end mid page why run ran stop (Some b) is =
     let here = at_value d.told _ b is run.told in
     let runs = here.4 ran in
     absurd (subst MayStop stop (steps_may (length steps) _ seen.answered _ runs.reaches (may_none before.stop run.start.going)))
 
-stopped_ends : (stop : Option StopWhy) (d e : DiskModel) (seen : Seen) (k : ℕ) (before after : CoreState) (steps : List ℕ) (mid : Option (List ℕ)) (faults : ℕ) → IsRun d e seen k before after steps ends.Stopped mid faults → after.stop ≡ stop
-    → GetsLine mid seen.holds faults seen.sink_after (fault_line (status_by stop)) → OpenedEnds d e seen (status_by stop)
-stopped_ends None d e seen k before after steps mid faults run is line = cc (run.put.1, is)
-stopped_ends (Some stops.WriteFault) d e seen k before after steps mid faults run is line =
-    (after, inr (run.counts.write_fault is), drove d e seen k before after steps ends.Stopped mid faults run apart_stopped, inl (is, run.counts.write_fault is), gets_output d e seen k before after steps ends.Stopped mid faults DiskFault run run.put.0 run.put.2 line)
-stopped_ends (Some (stops.Damaged page why)) d e seen k before after steps mid faults run is line = record {
-  untold = untold d e seen k before after steps ends.Stopped mid faults page why run apart_stopped is d.told refl;
+stopped_ends : (stop : Option StopWhy) (d e : DiskModel) (seen : Seen) (k : ℕ) (before after : CoreState) (steps : List ℕ) (mid : SinkModel) → IsRun d e seen k before after steps ends.Stopped mid → after.stop ≡ stop
+    → GetsLine mid seen.sink_after (fault_line (status_by stop)) → OpenedEnds d e seen (status_by stop)
+stopped_ends None d e seen k before after steps mid run is line = cc (run.put.1, is)
+stopped_ends (Some stops.WriteFault) d e seen k before after steps mid run is line =
+    (after, inr (run.counts.write_fault is), drove d e seen k before after steps ends.Stopped mid run apart_stopped, inl (is, run.counts.write_fault is), gets_output d e seen k before after steps ends.Stopped mid DiskFault run run.put.0 run.put.2 line)
+stopped_ends (Some (stops.Damaged page why)) d e seen k before after steps mid run is line = record {
+  untold = untold d e seen k before after steps ends.Stopped mid page why run apart_stopped is d.told refl;
   after = after;
-  drove = drove d e seen k before after steps ends.Stopped mid faults run apart_stopped;
+  drove = drove d e seen k before after steps ends.Stopped mid run apart_stopped;
   page = page;
   why = why;
   stop = is;
   damage_is = refl;
-  output = gets_output d e seen k before after steps ends.Stopped mid faults (status_by (Some (stops.Damaged page why))) run run.put.0 run.put.2 line;
+  output = gets_output d e seen k before after steps ends.Stopped mid (status_by (Some (stops.Damaged page why))) run run.put.0 run.put.2 line;
 }
 
-run_ends : (end : End) (d e : DiskModel) (seen : Seen) (k : ℕ) (before after : CoreState) (steps : List ℕ) (mid : Option (List ℕ)) (faults : ℕ) → IsRun d e seen k before after steps end mid faults
-    → (end ≡ ends.NoMemory → IsTurnedAway k d e seen NoMemory) → GetsLine mid seen.holds faults seen.sink_after (fault_line (status_after end after.stop)) → OpenedEnds d e seen (status_after end after.stop)
-run_ends ends.Finished d e seen k before after steps mid faults run idle line =
+run_ends : (end : End) (d e : DiskModel) (seen : Seen) (k : ℕ) (before after : CoreState) (steps : List ℕ) (mid : SinkModel) → IsRun d e seen k before after steps end mid
+    → (end ≡ ends.NoMemory → IsTurnedAway k d e seen NoMemory) → GetsLine mid seen.sink_after (fault_line (status_after end after.stop)) → OpenedEnds d e seen (status_after end after.stop)
+run_ends ends.Finished d e seen k before after steps mid run idle line =
     let still = run.silent_done refl in (
       after,
-      drove d e seen k before after steps ends.Finished mid faults run apart_finished,
-      subst (λ (o : Option (List ℕ)). Appends seen.held o (run_output seen.answered after)) (sym still.0) run.put.0,
+      drove d e seen k before after steps ends.Finished mid run apart_finished,
+      subst (λ (k : SinkModel). Appends seen.sink_before.written k.written (run_output seen.answered after)) (sym still) run.put.0,
       run.put.1,
       run.put.2,
-      still.1 ∙ run.put.3,
+      ap (λ (k : SinkModel). k.faults) still ∙ run.put.3,
     )
-run_ends ends.NoMemory d e seen k before after steps mid faults run idle line = (k, idle refl)
-run_ends ends.SinkFault d e seen k before after steps mid faults run idle line =
+run_ends ends.NoMemory d e seen k before after steps mid run idle line = (k, idle refl)
+run_ends ends.SinkFault d e seen k before after steps mid run idle line =
     let still = run.silent refl in (
       after,
-      drove d e seen k before after steps ends.SinkFault mid faults run apart_sinkfault,
-      subst (λ (o : Option (List ℕ)). AppendsFront seen.held o (run_output seen.answered after)) (sym still.0) run.put.0,
-      subst (λ (n : ℕ). Rose seen.sink_before n) (sym still.1) run.put.1,
+      drove d e seen k before after steps ends.SinkFault mid run apart_sinkfault,
+      subst (λ (k : SinkModel). AppendsFront seen.sink_before.written k.written (run_output seen.answered after)) (sym still) run.put.0,
+      subst (λ (k : SinkModel). Rose seen.sink_before.faults k.faults) (sym still) run.put.1,
     )
-run_ends ends.ReadFault d e seen k before after steps mid faults run idle line =
-    (after, inl (run.counts.read_fault run.put.2), drove d e seen k before after steps ends.ReadFault mid faults run apart_readfault, inr (run.put.1, run.put.2, run.counts.read_fault run.put.2), gets_output d e seen k before after steps ends.ReadFault mid faults DiskFault run run.put.0 run.put.3 line)
-run_ends ends.Stopped d e seen k before after steps mid faults run idle line = stopped_ends after.stop d e seen k before after steps mid faults run refl line
+run_ends ends.ReadFault d e seen k before after steps mid run idle line =
+    (after, inl (run.counts.read_fault run.put.2), drove d e seen k before after steps ends.ReadFault mid run apart_readfault, inr (run.put.1, run.put.2, run.counts.read_fault run.put.2), gets_output d e seen k before after steps ends.ReadFault mid DiskFault run run.put.0 run.put.3 line)
+run_ends ends.Stopped d e seen k before after steps mid run idle line = stopped_ends after.stop d e seen k before after steps mid run refl line
 
-pub schedule_ends : (end : End) (status : Status) (d e : DiskModel) (seen : Seen) (k : ℕ) (before after : CoreState) (steps : List ℕ) (mid : Option (List ℕ)) (faults : ℕ) → IsRun d e seen k before after steps end mid faults
-    → status ≡ status_after end after.stop → (end ≡ ends.NoMemory → IsTurnedAway k d e seen NoMemory) → GetsLine mid seen.holds faults seen.sink_after (fault_line status) → OpenedEnds d e seen status
-schedule_ends end status d e seen k before after steps mid faults run is idle line =
-    let onward : GetsLine mid seen.holds faults seen.sink_after (fault_line (status_after end after.stop)) = subst (λ (x : Status). GetsLine mid seen.holds faults seen.sink_after (fault_line x)) is line in
-    subst (λ (x : Status). OpenedEnds d e seen x) (sym is) (run_ends end d e seen k before after steps mid faults run idle onward)
+pub schedule_ends : (end : End) (status : Status) (d e : DiskModel) (seen : Seen) (k : ℕ) (before after : CoreState) (steps : List ℕ) (mid : SinkModel) → IsRun d e seen k before after steps end mid
+    → status ≡ status_after end after.stop → (end ≡ ends.NoMemory → IsTurnedAway k d e seen NoMemory) → GetsLine mid seen.sink_after (fault_line status) → OpenedEnds d e seen status
+schedule_ends end status d e seen k before after steps mid run is idle line =
+    let onward : GetsLine mid seen.sink_after (fault_line (status_after end after.stop)) = subst (λ (x : Status). GetsLine mid seen.sink_after (fault_line x)) is line in
+    subst (λ (x : Status). OpenedEnds d e seen x) (sym is) (run_ends end d e seen k before after steps mid run idle onward)
 
 -- where no schedule was read, the source failed by its status alone
-pub source_kept : (status : Status) (k : ℕ) (left rest : Option (List ℕ)) (before after : ℕ) → NotScheduled k left rest before after status → ¬ (status ≡ SourceFault) → after ≡ before
-source_kept (BadText bad) k left rest before after why other = why.3
-source_kept SourceFault k left rest before after why other = absurd (other refl)
-source_kept NotBuilt k left rest before after why other = why.4
-source_kept NoMemory k left rest before after why other = why
-source_kept Done k left rest before after why other = absurd why
-source_kept SinkFault k left rest before after why other = absurd why
-source_kept DiskFault k left rest before after why other = absurd why
-source_kept Usage k left rest before after why other = absurd why
-source_kept (Damaged damage) k left rest before after why other = absurd why
-source_kept (Small needed found) k left rest before after why other = absurd why
-source_kept (BadLayout field value) k left rest before after why other = absurd why
+pub source_kept : (status : Status) (k : ℕ) (before after : SourceModel) → NotScheduled k before after status → ¬ (status ≡ SourceFault) → after.faults ≡ before.faults
+source_kept (BadText bad) k before after why other = why.3
+source_kept SourceFault k before after why other = absurd (other refl)
+source_kept NotBuilt k before after why other = why.4
+source_kept NoMemory k before after why other = why
+source_kept Done k before after why other = absurd why
+source_kept SinkFault k before after why other = absurd why
+source_kept DiskFault k before after why other = absurd why
+source_kept Usage k before after why other = absurd why
+source_kept (Damaged damage) k before after why other = absurd why
+source_kept (Small needed found) k before after why other = absurd why
+source_kept (BadLayout field value) k before after why other = absurd why
 
 -- why no schedule was read of the text
-pub not_scheduled_ends : (status : Status) (k : ℕ) (d e : DiskModel) (seen : Seen) → NotScheduled k seen.left seen.rest seen.source_before seen.source_after status → IsTurnedAway k d e seen status → OpenedEnds d e seen status
+pub not_scheduled_ends : (status : Status) (k : ℕ) (d e : DiskModel) (seen : Seen) → NotScheduled k seen.source_before seen.source_after status → IsTurnedAway k d e seen status → OpenedEnds d e seen status
 not_scheduled_ends (BadText bad) k d e seen why away = (k, away, why.0, why.1, why.2)
 not_scheduled_ends SourceFault k d e seen why away = (k, away, why)
 not_scheduled_ends NotBuilt k d e seen why away = (k, away, why.0, why.1, why.2, why.3)

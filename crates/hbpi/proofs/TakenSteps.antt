@@ -1,12 +1,13 @@
 -- One step more of a loop over steps: room for its answer, and what the loop begins with and ends in.
-use Rattle.std.proofs.Common.{◌≡◌, inl, inr, ℕ, zero, suc, ◌+◌, ◌-◌, ◌<◌, ◌≤◌, min, Bool, List, [], ◌++◌, length, map, take, Option, Some, None, IsSome, refl, sym, ap, ◌∙◌, subst, arith, length-take, add-one}
+use Rattle.std.proofs.Common.{◌≡◌, inl, inr, ℕ, zero, suc, ◌+◌, ◌-◌, ◌<◌, ◌≤◌, min, List, [], ◌++◌, length, map, take, Option, Some, None, IsSome, refl, sym, ap, ◌∙◌, subst, arith, length-take, add-one, Result}
 use Rattle.std.proofs.lemmas.List.{length-map}
 use Rattle.std.proofs.lemmas.Grind.{flat_map-append}
 use Rattle.std.specs.List.{flat_map}
 use Rattle.hb_set.specs.declared.scripts.Line.{Line}
 use Rattle.hb_set.specs.declared.scripts.Answered.{Answered}
 use Rattle.hb_text.specs.Output.{answer_text}
-use Rattle.hbpi.specs.DryParts.{HasPutText, PutsMore}
+use Rattle.hb_outside.specs.Calls.{Puts, SinkModel}
+use Rattle.hbpi.specs.DryParts.{PutsOn}
 use Rattle.hbpi.specs.Core.{CoreState}
 use Rattle.hbpi.specs.Keeping.{AreAmong}
 use Rattle.hbpi.specs.AnsweredLines.{AnswersFirst, answered_in, answered_count}
@@ -50,12 +51,12 @@ moves_more n from mid to before answered outcome at was moves faults is =
     let M : ℕ → Type 0 = λ k. MovesOn k from answered to in
     subst M (sym (add-one n)) (mid, before, outcome, at, was, moves, faults, is)
 
-pub puts_more : (a b c : Option (List ℕ)) (f g h : ℕ) (failed next : Bool) (before answered given : List Answered) → answered ≡ before ++ given → HasPutText a b f g failed (flat_map answer_text before)
-    → PutsMore b c g h failed next (flat_map answer_text given) → HasPutText a c f h next (flat_map answer_text answered)
-puts_more a b c f g h failed next before answered given is put more =
-    let P : List ℕ → Type 0 = λ t. HasPutText a c f h next t in
+pub puts_more : {T E : Type 0} (a b c : SinkModel) (so_far next : Result T E) (before answered given : List Answered) → answered ≡ before ++ given → Puts (flat_map answer_text before) so_far a b
+    → PutsOn so_far (flat_map answer_text given) next b c → Puts (flat_map answer_text answered) next a c
+puts_more a b c so_far next before answered given is put more =
+    let P : List ℕ → Type 0 = λ t. Puts t next a c in
     subst P (sym (ap (flat_map answer_text) is ∙ flat_map-append answer_text before given))
-    (has_put_more a b c f g h failed next (flat_map answer_text before) (flat_map answer_text given) put more)
+    (has_put_more a b c so_far next (flat_map answer_text before) (flat_map answer_text given) put more)
 
 -- a disk that tells now told before
 pub told_before : {X : Type 0} (before after : Option X) → (before ≡ None → after ≡ None) → IsSome after → IsSome before

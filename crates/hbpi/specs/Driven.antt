@@ -49,12 +49,12 @@ pub record IsShutOut (d e : DiskModel) (seen : Seen) (fault : StartFault) : Type
 pub record IsTurnedAway (k : ℕ) (d e : DiskModel) (seen : Seen) (status : Status) : Type 0 where
   pub refused : IsRefused seen status
   pub no_fault : HasNotFailed d e
-  pub source : ¬ (status ≡ SourceFault) → seen.source_after ≡ seen.source_before
+  pub source : ¬ (status ≡ SourceFault) → seen.source_after.faults ≡ seen.source_before.faults
   pub told : IfSome d.told (λ b. (s : FileState) × OpensTo b s × IsSound s × (s.meta.k ≡ k) × IsEven e s × (IsEven d s → Leaves d e (λ c. OpensTo c s)) × IsOnePage s.meta × LeavesLate d e (λ c. OpensTo c s))
 
 -- the whole output and the fault line behind it, or a front of these where the sink failed
 abbrev pub GetsOutput : Seen → CoreState → Status → Type 0
-GetsOutput seen after status = GetsLine seen.held seen.holds seen.sink_before seen.sink_after (run_output seen.answered after ++ fault_line status)
+GetsOutput seen after status = GetsLine seen.sink_before seen.sink_after (run_output seen.answered after ++ fault_line status)
 
 -- why a run that got to its steps ends with a fault of the disk: a write failed, or a reply is a read fault
 abbrev pub EndsByFault : DiskModel → DiskModel → Seen → CoreState → Type 0
@@ -75,11 +75,11 @@ pub record IsMetDamaged (d e : DiskModel) (seen : Seen) (damage : Damage) : Type
 
 -- How a run ends whose file was opened.
 abbrev pub OpenedEnds : DiskModel → DiskModel → Seen → Status → Type 0
-OpenedEnds d e seen Done = (after : CoreState) × Drove d e seen after × Appends seen.held seen.holds (run_output seen.answered after) × (after.stop ≡ None) × (¬ (HasReadFault seen.answered)) × (seen.sink_after ≡ seen.sink_before)
-OpenedEnds d e seen SinkFault = (after : CoreState) × Drove d e seen after × AppendsFront seen.held seen.holds (run_output seen.answered after) × Rose seen.sink_before seen.sink_after
-OpenedEnds d e seen (BadText bad) = (k : ℕ) × IsTurnedAway k d e seen (BadText bad) × (text : List ℕ) × IsTextOf seen.left seen.rest text × (text_read true k text ≡ Err bad)
-OpenedEnds d e seen SourceFault = (k : ℕ) × IsTurnedAway k d e seen SourceFault × Rose seen.source_before seen.source_after
-OpenedEnds d e seen NotBuilt = (k : ℕ) × IsTurnedAway k d e seen NotBuilt × (lines : List Line) × (steps : List ℕ) × IsScheduled k seen.left seen.rest lines steps × (¬ (IsServedScript lines steps))
+OpenedEnds d e seen Done = (after : CoreState) × Drove d e seen after × Appends seen.sink_before.written seen.sink_after.written (run_output seen.answered after) × (after.stop ≡ None) × (¬ (HasReadFault seen.answered)) × (seen.sink_after.faults ≡ seen.sink_before.faults)
+OpenedEnds d e seen SinkFault = (after : CoreState) × Drove d e seen after × AppendsFront seen.sink_before.written seen.sink_after.written (run_output seen.answered after) × Rose seen.sink_before.faults seen.sink_after.faults
+OpenedEnds d e seen (BadText bad) = (k : ℕ) × IsTurnedAway k d e seen (BadText bad) × (text : List ℕ) × IsTextOf seen.source_before.left seen.source_after.left text × (text_read true k text ≡ Err bad)
+OpenedEnds d e seen SourceFault = (k : ℕ) × IsTurnedAway k d e seen SourceFault × Rose seen.source_before.faults seen.source_after.faults
+OpenedEnds d e seen NotBuilt = (k : ℕ) × IsTurnedAway k d e seen NotBuilt × (lines : List Line) × (steps : List ℕ) × IsScheduled k seen.source_before.left seen.source_after.left lines steps × (¬ (IsServedScript lines steps))
 OpenedEnds d e seen DiskFault = (after : CoreState) × HasFailed d e × Drove d e seen after × EndsByFault d e seen after × GetsOutput seen after DiskFault
 OpenedEnds d e seen (Damaged damage) = IsMetDamaged d e seen damage
 OpenedEnds d e seen NoMemory = (k : ℕ) × IsTurnedAway k d e seen NoMemory

@@ -23,7 +23,7 @@ use Rattle.hbpi.specs.Schedules.{IsScheduled, IsServedScript}
 -- has raised no count of faults, so the steps lead from the counts at the run's beginning to those of now.
 pub record HasRun (d e : DiskModel) (seen : Seen) (k : ℕ) (before after : CoreState) : Type 0 where
   pub steps : List ℕ
-  pub scheduled : IsScheduled k seen.left seen.rest before.lines steps
+  pub scheduled : IsScheduled k seen.source_before.left seen.source_after.left before.lines steps
   pub served : IsServedScript before.lines steps
   pub start : IsStart before
   pub opened : IsNew before.store.turn before.store.meta before.store
@@ -33,7 +33,7 @@ pub record HasRun (d e : DiskModel) (seen : Seen) (k : ℕ) (before after : Core
   pub first : AnswersFirst after seen.answered
   pub ordered : HasOrder after
   pub order : seen.order ≡ after.order
-  pub source : seen.source_after ≡ seen.source_before
+  pub source : seen.source_after.faults ≡ seen.source_before.faults
 
 -- The same over a disk that tells, from the file that was opened: the steps lead from this file at the clock's value
 -- after the opening to a file at its value now. The lines that took effect have the numbers of the order, and are a legal

@@ -1,6 +1,7 @@
 -- What a run of a schedule leaves.
-use Rattle.std.specs.Prelude.{◌≡◌, ℕ, Bool, true, false, List, [], Option, Some, None, IsSome, All, Any, is_some}
+use Rattle.std.specs.Prelude.{◌≡◌, ℕ, Bool, true, false, List, [], Some, None, IsSome, All, Any, is_some}
 use Rattle.hb_disk.specs.Model.{DiskModel}
+use Rattle.hb_outside.specs.Calls.{SinkModel}
 use Rattle.hb_outside.specs.Streams.{Rose, Appends, AppendsFront}
 use Rattle.hb_set.specs.Machine.{RecordSet}
 use Rattle.hb_set.specs.Order.{IsLegalOrder}
@@ -67,9 +68,9 @@ EndsAs ends.Finished failed stopped answered = (failed ≡ false) × (stopped �
 
 -- How it ended: the whole output was written, or the sink failed and has a front of it. Of the other ends a fault of the
 -- sink comes first, then a stop, then a read fault.
-abbrev pub DriveEnds : End → Option (List ℕ) → Option (List ℕ) → ℕ → ℕ → List Answered → CoreState → Type 0
-DriveEnds ends.NoMemory held holds before after answered c = Appends held holds [] × (after ≡ before)
-DriveEnds ends.SinkFault held holds before after answered c = AppendsFront held holds (run_output answered c) × Rose before after
-DriveEnds ends.Stopped held holds before after answered c = Appends held holds (run_output answered c) × IsSome c.stop × (after ≡ before)
-DriveEnds ends.ReadFault held holds before after answered c = Appends held holds (run_output answered c) × (c.stop ≡ None) × HasReadFault answered × (after ≡ before)
-DriveEnds ends.Finished held holds before after answered c = Appends held holds (run_output answered c) × (c.stop ≡ None) × (¬ (HasReadFault answered)) × (after ≡ before)
+abbrev pub DriveEnds : End → SinkModel → SinkModel → List Answered → CoreState → Type 0
+DriveEnds ends.NoMemory before after answered c = Appends before.written after.written [] × (after.faults ≡ before.faults)
+DriveEnds ends.SinkFault before after answered c = AppendsFront before.written after.written (run_output answered c) × Rose before.faults after.faults
+DriveEnds ends.Stopped before after answered c = Appends before.written after.written (run_output answered c) × IsSome c.stop × (after.faults ≡ before.faults)
+DriveEnds ends.ReadFault before after answered c = Appends before.written after.written (run_output answered c) × (c.stop ≡ None) × HasReadFault answered × (after.faults ≡ before.faults)
+DriveEnds ends.Finished before after answered c = Appends before.written after.written (run_output answered c) × (c.stop ≡ None) × (¬ (HasReadFault answered)) × (after.faults ≡ before.faults)

@@ -1,5 +1,7 @@
 -- What the parts of a run of `dry` say.
-use Rattle.std.specs.Prelude.{◌≡◌, ℕ, ◌≤◌, Bool, true, false, List, [], length, Option, Ok, Err}
+use Rattle.std.specs.Prelude.{◌≡◌, ℕ, ◌≤◌, false, List, [], length, Option, Result, Ok, Err, IsErr, OnOk, OnErr}
+use Rattle.hb_outside.specs.Calls.{SourceModel, SinkModel, Puts}
+use Rattle.hb_outside.specs.declared.traits.Failed.{Failed}
 use Rattle.hb_outside.specs.Streams.{Rose, Appends, AppendsFront}
 use Rattle.hb_set.specs.declared.scripts.Line.{Line}
 use Rattle.hb_set.specs.declared.scripts.Answered.{Answered}
@@ -10,15 +12,11 @@ use Rattle.hbpi.specs.declared.statuses.Status.{Status}
 use Rattle.hbpi.specs.declared.statuses.Status.TheVariants.{Done, BadText, SourceFault, SinkFault, NoMemory}
 use Rattle.hbpi.specs.Outcome.{fault_line, GetsLine, IsTextOf, IsWholeText, IsDryRun}
 
--- What was put of a text so far: all of it and with no fault, or a front where the sink failed.
-abbrev pub HasPutText : Option (List ℕ) → Option (List ℕ) → ℕ → ℕ → Bool → List ℕ → Type 0
-HasPutText before after faults_before faults_after false text = Appends before after text × (faults_after ≡ faults_before)
-HasPutText before after faults_before faults_after true text = AppendsFront before after text × Rose faults_before faults_after × (faults_before ≤ faults_after)
-
 -- One piece more is put only where none failed before.
-abbrev pub PutsMore : Option (List ℕ) → Option (List ℕ) → ℕ → ℕ → Bool → Bool → List ℕ → Type 0
-PutsMore before after faults_before faults_after false failed piece = HasPutText before after faults_before faults_after failed piece
-PutsMore before after faults_before faults_after true failed piece = (after ≡ before) × (faults_after ≡ faults_before) × (failed ≡ true)
+pub record PutsOn {T E : Type 0} (so_far : Result T E) (piece : List ℕ) (result : Result T E) (before after : SinkModel) : Type 0 where
+  pub put : OnOk so_far (Puts piece result before after)
+  pub left : OnErr so_far ((after ≡ before) × IsErr result)
+  pub later : before.faults ≤ after.faults
 
 -- a text that was read and says a script over k attributes
 pub record IsRead (k : ℕ) (left rest : Option (List ℕ)) (lines : List Line) : Type 0 where
@@ -28,21 +26,26 @@ pub record IsRead (k : ℕ) (left rest : Option (List ℕ)) (lines : List Line) 
   pub script : IsScriptFor k lines
 
 -- why no script was read
-abbrev pub NotRead : ℕ → Option (List ℕ) → Option (List ℕ) → ℕ → ℕ → Status → Type 0
-NotRead k left rest before after (BadText bad) = (text : List ℕ) × IsTextOf left rest text × (text_read false k text ≡ Err bad) × (after ≡ before)
-NotRead k left rest before after SourceFault = Rose before after
-NotRead k left rest before after NoMemory = after ≡ before
-NotRead k left rest before after _ = ⊥
+abbrev pub NotRead : ℕ → SourceModel → SourceModel → Status → Type 0
+NotRead k before after (BadText bad) = (text : List ℕ) × IsTextOf before.left after.left text × (text_read false k text ≡ Err bad) × (after.faults ≡ before.faults)
+NotRead k before after SourceFault = Rose before.faults after.faults
+NotRead k before after NoMemory = after.faults ≡ before.faults
+NotRead k before after _ = ⊥
+
+-- the status behind the last put
+abbrev pub put_status : Result (Unit {0}) Failed → Status
+put_status (Ok done) = Done
+put_status (Err failed) = SinkFault
 
 -- the order is put behind the answers, and the status tells whether the sink failed
-abbrev pub EndsBySink : Option (List ℕ) → Option (List ℕ) → ℕ → ℕ → Bool → List ℕ → Status → Type 0
-EndsBySink before after faults_before faults_after failed order Done = PutsMore before after faults_before faults_after failed false (order_text order (length order))
-EndsBySink before after faults_before faults_after failed order SinkFault = PutsMore before after faults_before faults_after failed true (order_text order (length order))
-EndsBySink before after faults_before faults_after failed order _ = ⊥
+pub record EndsBySink (so_far : Result (Unit {0}) Failed) (order : List ℕ) (status : Status) (before after : SinkModel) : Type 0 where
+  pub result : Result (Unit {0}) Failed
+  pub status_is : status ≡ put_status result
+  pub put : PutsOn so_far (order_text order (length order)) result before after
 
 -- how a run of these lines ends
-abbrev pub EndsRun : Option (List ℕ) → Option (List ℕ) → ℕ → ℕ → List Line → List Answered → List ℕ → Status → Type 0
-EndsRun held holds before after lines answered order Done = IsDryRun lines answered order × Appends held holds (output_text answered [] false order (length order)) × (after ≡ before)
-EndsRun held holds before after lines answered order SinkFault = IsDryRun lines answered order × AppendsFront held holds (output_text answered [] false order (length order)) × Rose before after
-EndsRun held holds before after lines answered order NoMemory = GetsLine held holds before after (fault_line NoMemory) × (answered ≡ []) × (order ≡ [])
-EndsRun held holds before after lines answered order _ = ⊥
+abbrev pub EndsRun : SinkModel → SinkModel → List Line → List Answered → List ℕ → Status → Type 0
+EndsRun before after lines answered order Done = IsDryRun lines answered order × Appends before.written after.written (output_text answered [] false order (length order)) × (after.faults ≡ before.faults)
+EndsRun before after lines answered order SinkFault = IsDryRun lines answered order × AppendsFront before.written after.written (output_text answered [] false order (length order)) × Rose before.faults after.faults
+EndsRun before after lines answered order NoMemory = GetsLine before after (fault_line NoMemory) × (answered ≡ []) × (order ≡ [])
+EndsRun before after lines answered order _ = ⊥

@@ -15,10 +15,10 @@ use Rattle.hbpi.specs.SeenRuns.{Seen, IsRefused, IsUnread}
 -- the text was read whole and with no fault, says these lines, and they were answered
 pub record IsAnswered (k : ℕ) (seen : Seen) (lines : List Line) : Type 0 where
   pub text : List ℕ
-  pub whole : IsWholeText seen.left seen.rest text
+  pub whole : IsWholeText seen.source_before.left seen.source_after.left text
   pub says : text_read false k text ≡ Ok (record { lines = lines; steps = [] })
   pub run : IsDryRun lines seen.answered seen.order
-  pub faults : seen.source_after ≡ seen.source_before
+  pub faults : seen.source_after.faults ≡ seen.source_before.faults
 
 -- the output of a run in which every line has an answer, and every line of the order is settled
 abbrev pub whole_output : Seen → List ℕ
@@ -26,11 +26,11 @@ whole_output seen = output_text seen.answered [] false seen.order (length seen.o
 
 -- the plain record set over k attributes
 abbrev pub DryEnds : ℕ → Seen → Status → Type 0
-DryEnds k seen Done = (lines : List Line) × IsAnswered k seen lines × Appends seen.held seen.holds (whole_output seen) × (seen.sink_after ≡ seen.sink_before)
-DryEnds k seen SinkFault = (lines : List Line) × IsAnswered k seen lines × AppendsFront seen.held seen.holds (whole_output seen) × Rose seen.sink_before seen.sink_after
-DryEnds k seen (BadText bad) = (text : List ℕ) × IsTextOf seen.left seen.rest text × (text_read false k text ≡ Err bad) × IsRefused seen (BadText bad) × (seen.source_after ≡ seen.source_before)
-DryEnds k seen SourceFault = Rose seen.source_before seen.source_after × IsRefused seen SourceFault
-DryEnds k seen NoMemory = IsRefused seen NoMemory × (seen.source_after ≡ seen.source_before)
+DryEnds k seen Done = (lines : List Line) × IsAnswered k seen lines × Appends seen.sink_before.written seen.sink_after.written (whole_output seen) × (seen.sink_after.faults ≡ seen.sink_before.faults)
+DryEnds k seen SinkFault = (lines : List Line) × IsAnswered k seen lines × AppendsFront seen.sink_before.written seen.sink_after.written (whole_output seen) × Rose seen.sink_before.faults seen.sink_after.faults
+DryEnds k seen (BadText bad) = (text : List ℕ) × IsTextOf seen.source_before.left seen.source_after.left text × (text_read false k text ≡ Err bad) × IsRefused seen (BadText bad) × (seen.source_after.faults ≡ seen.source_before.faults)
+DryEnds k seen SourceFault = Rose seen.source_before.faults seen.source_after.faults × IsRefused seen SourceFault
+DryEnds k seen NoMemory = IsRefused seen NoMemory × (seen.source_after.faults ≡ seen.source_before.faults)
 DryEnds k seen Usage = ⊥
 DryEnds k seen DiskFault = ⊥
 DryEnds k seen (Damaged damage) = ⊥
@@ -56,12 +56,12 @@ UsesNoDisk (Some form) = Unit {0}
 
 -- A good text is answered whole, unless the source or the sink failed or memory was refused.
 abbrev pub IsComplete : Option Form → Seen → Status → Type 0
-IsComplete form seen status = (k : ℕ) (left : List ℕ) (reading : Reading) → form ≡ Some (Dry k) → seen.left ≡ Some left → text_read false k left ≡ Ok reading → ¬ (Rose seen.source_before seen.source_after) → ¬ (Rose seen.sink_before seen.sink_after) → (status ≡ Done) ⊎ (status ≡ NoMemory)
+IsComplete form seen status = (k : ℕ) (left : List ℕ) (reading : Reading) → form ≡ Some (Dry k) → seen.source_before.left ≡ Some left → text_read false k left ≡ Ok reading → ¬ (Rose seen.source_before.faults seen.source_after.faults) → ¬ (Rose seen.sink_before.faults seen.sink_after.faults) → (status ≡ Done) ⊎ (status ≡ NoMemory)
 
 -- A text that breaks a rule is refused with its first bad line, unless the source failed or memory was refused.
 abbrev pub RefusesBadText : Option Form → Seen → Status → Type 0
-RefusesBadText form seen status = (k : ℕ) (left : List ℕ) (bad : BadLine) → form ≡ Some (Dry k) → seen.left ≡ Some left → text_read false k left ≡ Err bad → ¬ (Rose seen.source_before seen.source_after) → (status ≡ BadText bad) ⊎ (status ≡ NoMemory)
+RefusesBadText form seen status = (k : ℕ) (left : List ℕ) (bad : BadLine) → form ≡ Some (Dry k) → seen.source_before.left ≡ Some left → text_read false k left ≡ Err bad → ¬ (Rose seen.source_before.faults seen.source_after.faults) → (status ≡ BadText bad) ⊎ (status ≡ NoMemory)
 
 -- The line and the rule that are named are the first bad line of all that the source had left, and its first rule.
 abbrev pub NamesBadLine : Option Form → Seen → Status → Type 0
-NamesBadLine form seen status = (k : ℕ) (left : List ℕ) (bad : BadLine) → form ≡ Some (Dry k) → seen.left ≡ Some left → status ≡ BadText bad → text_read false k left ≡ Err bad
+NamesBadLine form seen status = (k : ℕ) (left : List ℕ) (bad : BadLine) → form ≡ Some (Dry k) → seen.source_before.left ≡ Some left → status ≡ BadText bad → text_read false k left ≡ Err bad

@@ -26,8 +26,8 @@ pub record IsNotMade (fault : Option BadField) (seen : Seen) (status : Status) :
 
 -- a new file, whose layout has this bad field and wants so many bytes
 abbrev pub CreateEnds : Option BadField → ℕ → Seen → DiskSeen → Status → Type 0
-CreateEnds fault needed seen disk Done = IsMade fault needed seen disk × Appends seen.held seen.holds (codes "created\n") × (seen.sink_after ≡ seen.sink_before)
-CreateEnds fault needed seen disk SinkFault = IsMade fault needed seen disk × AppendsFront seen.held seen.holds (codes "created\n") × Rose seen.sink_before seen.sink_after
+CreateEnds fault needed seen disk Done = IsMade fault needed seen disk × Appends seen.sink_before.written seen.sink_after.written (codes "created\n") × (seen.sink_after.faults ≡ seen.sink_before.faults)
+CreateEnds fault needed seen disk SinkFault = IsMade fault needed seen disk × AppendsFront seen.sink_before.written seen.sink_after.written (codes "created\n") × Rose seen.sink_before.faults seen.sink_after.faults
 CreateEnds fault needed seen disk (BadLayout field value) = (fault ≡ Some (record { field = field; value = value })) × IsRefused seen (BadLayout field value) × IsUnread seen × KeepsFaults disk
 CreateEnds fault needed seen disk (Small wanted found) = (wanted ≡ needed) × (found ≡ disk.size) × (disk.size < needed) × IsNotMade fault seen (Small wanted found) × KeepsFaults disk
 CreateEnds fault needed seen disk DiskFault = (needed ≤ disk.size) × Rose disk.writes_before disk.writes_after × IsNotMade fault seen DiskFault × (disk.reads_after ≡ disk.reads_before)
@@ -42,7 +42,7 @@ CreateEnds fault needed seen disk NotBuilt = ⊥
 -- was refused.
 abbrev pub IsMadeWhole : Option Form → Seen → DiskSeen → Status → Type 0
 IsMadeWhole form seen disk status = (k pages log dcap icap : ℕ) → form ≡ Some (Create k pages log dcap icap) → first_fault k pages log dcap icap ≡ None → size_of pages log ≤ disk.size →
-    ¬ (Rose disk.writes_before disk.writes_after) → ¬ (Rose seen.sink_before seen.sink_after) → (status ≡ Done) ⊎ (status ≡ NoMemory)
+    ¬ (Rose disk.writes_before disk.writes_after) → ¬ (Rose seen.sink_before.faults seen.sink_after.faults) → (status ≡ Done) ⊎ (status ≡ NoMemory)
 
 -- after a status of a file that was made
 abbrev pub HasMade : Status → Type 0

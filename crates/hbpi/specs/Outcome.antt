@@ -1,8 +1,9 @@
 -- How a run of the program ends, and what it leaves in the source and the sink.
-use Rattle.std.specs.Prelude.{◌≡◌, ℕ, ◌⊎◌, List, [], ◌++◌, take, drop, codes, Option, Some, None}
+use Rattle.std.specs.Prelude.{◌≡◌, ℕ, List, [], ◌++◌, take, drop, codes, Option, Some, None, Result}
 use Rattle.std.specs.FinMap as map
 use Rattle.std.specs.Fmt.{decimal}
-use Rattle.hb_outside.specs.Streams.{Rose, Appends, AppendsFront}
+use Rattle.hb_outside.specs.Calls.{SinkModel, Puts}
+use Rattle.hb_outside.specs.declared.traits.Failed.{Failed}
 use Rattle.hb_set.specs.Machine.{RecordSet}
 use Rattle.hb_set.specs.Order.{IsLegalOrder, entries_of, order_of, Ran}
 use Rattle.hb_set.specs.declared.scripts.Line.{Line}
@@ -61,9 +62,10 @@ fault_line (Small needed found) = codes "small " ++ decimal needed ++ codes " " 
 fault_line NoMemory = codes "no memory\n"
 fault_line NotBuilt = codes "not built\n"
 
--- The line stands behind what the sink held, whole and with no fault, or a front of it where the sink failed.
-abbrev pub GetsLine : Option (List ℕ) → Option (List ℕ) → ℕ → ℕ → List ℕ → Type 0
-GetsLine before after faults_before faults_after line = (Appends before after line × (faults_after ≡ faults_before)) ⊎ (AppendsFront before after line × Rose faults_before faults_after)
+-- The line was put, whole or in front, and nobody is told which.
+pub record GetsLine (before after : SinkModel) (line : List ℕ) : Type 0 where
+  pub result : Result (Unit {0}) Failed
+  pub put : Puts line result before after
 
 -- The text that was read is what the source had left, up to 257,000,001 bytes, where the source tells.
 unfoldable pub greatest_text : ℕ

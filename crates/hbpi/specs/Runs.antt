@@ -63,7 +63,7 @@ LeavesBeyond _ d e = Unit {0}
 pub record KeepsPromise (s : FileState) (d e : DiskModel) (seen : Seen) (status : Status) : Type 0 where
   pub done : List Line
   pub numbers : map (λ (l : Line). l.number) done ≡ seen.order
-  pub said : (done ≡ []) ⊎ ((lines : List Line) × (steps : List ℕ) × IsScheduled s.meta.k seen.left seen.rest lines steps × AreAmong done lines)
+  pub said : (done ≡ []) ⊎ ((lines : List Line) × (steps : List ℕ) × IsScheduled s.meta.k seen.source_before.left seen.source_after.left lines steps × AreAmong done lines)
   pub legal : IsLegalOrder (contents_of s) (entries_from (contents_of s) done)
   pub replied : All (IsReplied (contents_of s) done) seen.answered
   pub held : HoldsAnswers e (contents_of s) done seen.answered
@@ -79,14 +79,14 @@ pub record IsCalm (s : FileState) (left : List ℕ) (d e : DiskModel) (seen : Se
   pub opens : OpensTo bytes s
   pub sound : IsSound s
   pub one_page : IsOnePage s.meta
-  pub text : seen.left ≡ Some left
-  pub source : ¬ (Rose seen.source_before seen.source_after)
+  pub text : seen.source_before.left ≡ Some left
+  pub source : ¬ (Rose seen.source_before.faults seen.source_after.faults)
   pub disk : ¬ (HasFailed d e)
 
 -- what `drive` answers to a text, but for want of memory: that it is done, unless the sink failed, or why not
 abbrev pub GivesFor : Seen → Status → Result Reading BadLine → Type 0
 GivesFor seen status (Ok reading) =
-    (IsServedScript reading.lines reading.steps → ¬ (Rose seen.sink_before seen.sink_after) → (status ≡ Done) ⊎ (status ≡ NoMemory))
+    (IsServedScript reading.lines reading.steps → ¬ (Rose seen.sink_before.faults seen.sink_after.faults) → (status ≡ Done) ⊎ (status ≡ NoMemory))
     × (¬ (IsServedScript reading.lines reading.steps) → (status ≡ NotBuilt) ⊎ (status ≡ NoMemory))
 GivesFor seen status (Err bad) = (status ≡ BadText bad) ⊎ (status ≡ NoMemory)
 
@@ -96,7 +96,7 @@ IsDriven d e seen status = (s : FileState) (left : List ℕ) → IsCalm s left d
 -- The line and the rule that `drive` names are the first bad line of all that the source had left, by the attributes of
 -- the file that the disk opens to, and its first rule.
 abbrev pub NamesScheduleLine : DiskModel → Seen → Status → Type 0
-NamesScheduleLine d seen status = (bytes : List ℕ) (s : FileState) (left : List ℕ) (bad : BadLine) → d.told ≡ Some bytes → OpensTo bytes s → seen.left ≡ Some left → status ≡ BadText bad → text_read true s.meta.k left ≡ Err bad
+NamesScheduleLine d seen status = (bytes : List ℕ) (s : FileState) (left : List ℕ) (bad : BadLine) → d.told ≡ Some bytes → OpensTo bytes s → seen.source_before.left ≡ Some left → status ≡ BadText bad → text_read true s.meta.k left ≡ Err bad
 
 -- Where no call of a disk that tells failed: bytes that open to no sound file are refused, by a refusal that is true of
 -- them; and a refusal that is true of them is the one that is answered. Memory may be refused in their place.

@@ -1,5 +1,6 @@
 -- Which texts are a schedule that `drive` serves.
 use Rattle.std.specs.Prelude.{◌≡◌, ℕ, true, List, All, Option, Ok, Err}
+use Rattle.hb_outside.specs.Calls.{SourceModel}
 use Rattle.hb_outside.specs.Streams.{Rose}
 use Rattle.hb_set.specs.declared.scripts.Line.{Line}
 use Rattle.hb_text.specs.Grammar.{text_read}
@@ -19,15 +20,15 @@ abbrev pub IsServedScript : List Line → List ℕ → Type 0
 IsServedScript lines steps = IsServed lines × All (λ (a : ℕ). a ≡ 1) steps
 
 -- why no schedule was read of a text over k attributes
-abbrev pub NotScheduled : ℕ → Option (List ℕ) → Option (List ℕ) → ℕ → ℕ → Status → Type 0
-NotScheduled k left rest before after (BadText bad) = (text : List ℕ) × IsTextOf left rest text × (text_read true k text ≡ Err bad) × (after ≡ before)
-NotScheduled k left rest before after SourceFault = Rose before after
-NotScheduled k left rest before after NotBuilt = (lines : List Line) × (steps : List ℕ) × IsScheduled k left rest lines steps × (¬ (IsServedScript lines steps)) × (after ≡ before)
-NotScheduled k left rest before after NoMemory = after ≡ before
-NotScheduled k left rest before after Done = ⊥
-NotScheduled k left rest before after SinkFault = ⊥
-NotScheduled k left rest before after DiskFault = ⊥
-NotScheduled k left rest before after Usage = ⊥
-NotScheduled k left rest before after (Damaged damage) = ⊥
-NotScheduled k left rest before after (Small needed found) = ⊥
-NotScheduled k left rest before after (BadLayout field value) = ⊥
+abbrev pub NotScheduled : ℕ → SourceModel → SourceModel → Status → Type 0
+NotScheduled k before after (BadText bad) = (text : List ℕ) × IsTextOf before.left after.left text × (text_read true k text ≡ Err bad) × (after.faults ≡ before.faults)
+NotScheduled k before after SourceFault = Rose before.faults after.faults
+NotScheduled k before after NotBuilt = (lines : List Line) × (steps : List ℕ) × IsScheduled k before.left after.left lines steps × (¬ (IsServedScript lines steps)) × (after.faults ≡ before.faults)
+NotScheduled k before after NoMemory = after.faults ≡ before.faults
+NotScheduled k before after Done = ⊥
+NotScheduled k before after SinkFault = ⊥
+NotScheduled k before after DiskFault = ⊥
+NotScheduled k before after Usage = ⊥
+NotScheduled k before after (Damaged damage) = ⊥
+NotScheduled k before after (Small needed found) = ⊥
+NotScheduled k before after (BadLayout field value) = ⊥

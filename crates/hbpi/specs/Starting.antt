@@ -3,7 +3,7 @@ use Rattle.std.specs.Prelude.{◌≡◌, ℕ, ◌≤◌, List}
 use Rattle.hb_layout.specs.declared.meta.Meta.{Meta}
 use Rattle.hb_ops.specs.Files.{FileState}
 use Rattle.hb_ops.specs.Sound.{IsSound}
-use Rattle.hb_restart.specs.Refusals.{IsNoRefusal, IsShut, IsUnwritten, Refuses}
+use Rattle.hb_restart.specs.Refusals.{IsNoRefusal, IsShut, IsUnwritten, RefusesBytes}
 use Rattle.hb_store.specs.Opening.{OpensTo}
 use Rattle.hbpi.specs.declared.starting.StartFault.{StartFault}
 use Rattle.hbpi.specs.declared.starting.StartFault.TheVariants.{Closed, NotBuilt}
@@ -14,7 +14,7 @@ IsOnePage said = (said.high ≤ 1) × (said.height ≤ 1)
 
 -- what is true of bytes that aren't driven: they don't open, or they open to a sound file that is larger
 abbrev pub RefusesStart : StartFault → List ℕ → Type 0
-RefusesStart (Closed fault) bytes = Refuses fault bytes
+RefusesStart (Closed fault) bytes = RefusesBytes fault bytes
 RefusesStart NotBuilt bytes = (s : FileState) × OpensTo bytes s × IsSound s × (¬ (IsOnePage s.meta))
 
 -- the same of the size of every disk

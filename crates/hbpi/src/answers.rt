@@ -1,46 +1,56 @@
-ghost use Rattle.std.specs.Prelude.{◌≡◌, ℕ, ◌+◌, ◌^◌, ◌<◌, ◌≤◌, [], ◌∷◌, ◌++◌, length, vec_len, IfOk, OnErr};
+ghost use Rattle.std.specs.Prelude.{◌≡◌, ℕ, ◌+◌, ◌<◌, ◌≤◌, [], ◌∷◌, ◌++◌, length, vec_len, IfOk, OnErr};
 ghost use Rattle.std.specs.Vec.{vec_capacity};
 ghost use Rattle.std.specs.List.{flat_map};
 ghost use Rattle.hb_set.specs.Order.{with_entry, order_of};
 ghost use Rattle.hb_set.specs.Scripts.{IsScriptFor};
 ghost use Rattle.hb_text.specs.Output.{reply_text, answer_text, order_text};
 ghost use Rattle.hbpi.specs.Outcome.{IsDryRun};
-ghost use Rattle.hbpi.specs.DryParts.{HasPutText, PutsMore};
+ghost use Rattle.hb_outside.specs.Calls.{Puts};
+ghost use Rattle.hbpi.specs.DryParts.{PutsOn};
 
-use hb_outside::Sink;
+use hb_outside::{Failed, Sink};
 use hb_set::{Answered, Line, Reply, Set};
 use hb_space::NoMemory;
 use hb_text::{put_order, put_reply};
 use std::alloc::Global;
 
-/// The answers to lines in the order of the text, and whether the sink failed under their text.
+/// The answers to lines in the order of the text, and how their text was put.
 pub(crate) struct Answers {
     pub(crate) answered: Vec<Answered>,
     pub(crate) order: Vec<u32>,
-    pub(crate) failed: bool,
+    pub(crate) put: Result<(), Failed>,
 }
 
-/// Puts a reply, unless the sink failed before. True where it has failed.
-pub(crate) fn put_answer<K: Sink>(sink: &mut K, failed: bool, line: u32, reply: &Reply) -> bool
-    ensures puts { PutsMore (K.written sink.old) (K.written sink.new) (K.faults sink.old) (K.faults sink.new) failed result (reply_text line reply.now) }
-    ensures later { K.faults sink.old ≤ K.faults sink.new }
+/// Puts a reply, unless the sink failed before.
+#[tactic(auto, using(crate::proofs::PutTexts::puts_on, crate::proofs::PutTexts::puts_off))]
+pub(crate) fn put_answer<K: Sink>(
+    sink: &mut K,
+    so_far: Result<(), Failed>,
+    line: u32,
+    reply: &Reply,
+) -> Result<(), Failed>
+    ensures { PutsOn so_far (reply_text line reply.now) result (K.model sink.old) (K.model sink.new) }
 {
-    if failed {
-        return true;
+    match so_far {
+        Ok(()) => put_reply(sink, line, reply),
+        Err(failed) => Err(failed),
     }
-    put_reply(sink, line, reply).is_err()
 }
 
-/// Puts the order, all of it settled, unless the sink failed before. True where it has failed.
-pub(crate) fn put_whole_order<K: Sink>(sink: &mut K, failed: bool, order: &[u32]) -> bool
-    requires { length order.now < 2 ^ 32 }
-    ensures puts { PutsMore (K.written sink.old) (K.written sink.new) (K.faults sink.old) (K.faults sink.new) failed result (order_text order.now (length order.now)) }
-    ensures later { K.faults sink.old ≤ K.faults sink.new }
+/// Puts the order, so many of it settled, unless the sink failed before.
+#[tactic(auto, using(crate::proofs::PutTexts::puts_on, crate::proofs::PutTexts::puts_off))]
+pub(crate) fn put_order_on<K: Sink>(
+    sink: &mut K,
+    so_far: Result<(), Failed>,
+    order: &[u32],
+    settled: u32,
+) -> Result<(), Failed>
+    ensures { PutsOn so_far (order_text order.now settled) result (K.model sink.old) (K.model sink.new) }
 {
-    if failed {
-        return true;
+    match so_far {
+        Ok(()) => put_order(sink, order, settled),
+        Err(failed) => Err(failed),
     }
-    put_order(sink, order, order.len() as u32).is_err()
 }
 
 /// The line joins the order, unless its reply stands outside it. There has to be room.
@@ -74,24 +84,24 @@ pub(crate) fn answer_lines<K: Sink>(
 ) -> Result<Answers, NoMemory>
     requires { (k : ℕ) × IsScriptFor k lines.now }
     ensures run { IfOk result (λ a. IsDryRun lines.now a.answered.items a.order.items) }
-    ensures put { IfOk result (λ a. HasPutText (K.written sink.old) (K.written sink.new) (K.faults sink.old) (K.faults sink.new) a.failed (flat_map answer_text a.answered.items)) }
+    ensures put { IfOk result (λ a. Puts (flat_map answer_text a.answered.items) a.put (K.model sink.old) (K.model sink.new)) }
     ensures few { IfOk result (λ a. length a.order.items ≤ 1000000) }
     ensures err { OnErr result (sink.new ≡ sink.old) }
-    ensures later { K.faults sink.old ≤ K.faults sink.new }
+    ensures later { (K.model sink.old).faults ≤ (K.model sink.new).faults }
 {
     let mut set = Set::new(alloc)?;
     let mut answered = Vec::with_capacity(alloc, lines.len())?;
     let mut order = Vec::with_capacity(alloc, lines.len())?;
-    let mut failed = false;
+    let mut put = Ok(());
     for line in lines {
         let reply = set.answer(&line.command);
-        failed = put_answer(sink, failed, line.number, &reply);
+        put = put_answer(sink, put, line.number, &reply);
         join_order(&mut order, line, &reply);
         keep_answer(&mut answered, line.number, reply);
     }
     Ok(Answers {
         answered,
         order,
-        failed,
+        put,
     })
 }

@@ -1,6 +1,8 @@
 //! The command `create`.
-ghost use Rattle.std.specs.Prelude.{◌≡◌, ◌≢◌, ℕ, ◌≤◌, ◌<◌, List, Option, IfOk, IfErr, IsSome, Some, None};
+ghost use Rattle.std.specs.Prelude.{◌≡◌, ◌≢◌, ℕ, ◌≤◌, ◌<◌, IfOk, IfErr, IsSome, Some, None};
 ghost use Rattle.hb_store.specs.Opening.{IsEven};
+ghost use Rattle.hb_outside.specs.Calls.{SourceModel};
+ghost use Rattle.hbpi.specs.SeenRuns.{seen_by};
 ghost use Rattle.hbpi.specs.MadeEnds.{CreateEnds, HasMade};
 ghost use Rattle.hb_restart.specs.Layouts.{first_fault, size_of};
 ghost use Rattle.hb_restart.specs.NewFiles.{new_file};
@@ -52,8 +54,8 @@ fn make<D: Device>(
 
 /// Says that the file was made.
 fn put_created<K: Sink>(sink: &mut K) -> Status
-    ensures done { IsMadeOn (K.written sink.old) (K.written sink.new) (K.faults sink.old) (K.faults sink.new) result }
-    ensures later { K.faults sink.old ≤ K.faults sink.new }
+    ensures done { IsMadeOn (K.model sink.old) (K.model sink.new) result }
+    ensures later { (K.model sink.old).faults ≤ (K.model sink.new).faults }
 {
     match sink.put(b"created\n") {
         Ok(()) => Status::Done,
@@ -72,29 +74,19 @@ pub(crate) fn create_file<K: Sink, D: Device>(
     mut sink: K,
     disk: D,
 ) -> Finished<K, D>
-    ensures ends { (left : Option (List ℕ)) (faults : ℕ) → CreateEnds (first_fault k pages log dcap icap) (size_of pages log) (record {
-      left = left;
-      rest = left;
-      source_before = faults;
-      source_after = faults;
-      held = K.written sink;
-      holds = K.written result.sink;
-      sink_before = K.faults sink;
-      sink_after = K.faults result.sink;
-      answered = result.answered.items;
-      order = result.order.items;
-    }) (record {
-      size = (D.model disk).size;
-      reads_before = (D.model disk).read_faults;
-      reads_after = (D.model result.disk).read_faults;
-      writes_before = (D.model disk).write_faults;
-      writes_after = (D.model result.disk).write_faults;
-    }) result.status }
+    ensures ends { (source : SourceModel) → CreateEnds (first_fault k pages log dcap icap) (size_of pages log)
+        (seen_by source source (K.model sink) (K.model result.sink) result.answered.items result.order.items) (record {
+          size = (D.model disk).size;
+          reads_before = (D.model disk).read_faults;
+          reads_after = (D.model result.disk).read_faults;
+          writes_before = (D.model disk).write_faults;
+          writes_after = (D.model result.disk).write_faults;
+        }) result.status }
     ensures opens { HasMade result.status → IsSome (D.model disk).told → IsEven (D.model result.disk)
         (new_file (record { k = k; pages = pages; log = log; dcap = dcap; icap = icap })) }
     ensures beyond { KeepsBeyond (size_of pages log) (D.model disk) (D.model result.disk) }
     ensures unmade { IsUnmade result.status → result.disk ≡ disk }
-    ensures sink_later { K.faults sink ≤ K.faults result.sink }
+    ensures sink_later { (K.model sink).faults ≤ (K.model result.sink).faults }
     ensures reads_later { (D.model disk).read_faults ≤ (D.model result.disk).read_faults }
     ensures writes_later { (D.model disk).write_faults ≤ (D.model result.disk).write_faults }
 {

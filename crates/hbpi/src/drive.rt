@@ -1,13 +1,13 @@
 //! The steps of a schedule, and the output of its run.
-ghost use Rattle.std.specs.Prelude.{◌≡◌, ◌⊎◌, ◌≢◌, ◌↔◌, ℕ, ◌+◌, ◌^◌, ◌<◌, ◌≤◌, List, [], ◌++◌, length, map, drop, vec_len, IsSome, is_some, Some, None, IsTrue};
+ghost use Rattle.std.specs.Prelude.{◌≡◌, ◌⊎◌, ◌≢◌, ◌↔◌, ℕ, ◌+◌, ◌^◌, ◌<◌, ◌≤◌, [], ◌++◌, length, map, drop, vec_len, IsSome, is_some, Some, IsTrue};
 ghost use Rattle.std.specs.List.{flat_map};
 ghost use Rattle.std.specs.Vec.{vec_capacity};
-ghost use Rattle.hb_outside.specs.Streams.{Rose, Appends, AppendsFront};
+ghost use Rattle.hb_outside.specs.Calls.{Puts};
 ghost use Rattle.hb_set.specs.Machine.{RecordSet};
 ghost use Rattle.hb_set.specs.Scripts.{IsScriptFor};
 ghost use Rattle.hb_set.specs.declared.scripts.Line.{Line as Entry};
-ghost use Rattle.hb_text.specs.Output.{reply_text, answer_text, left_text, order_text};
-ghost use Rattle.hbpi.specs.DryParts.{HasPutText, PutsMore};
+ghost use Rattle.hb_text.specs.Output.{answer_text, left_text, order_text};
+ghost use Rattle.hbpi.specs.DryParts.{PutsOn};
 ghost use Rattle.hbpi.specs.Beyond.{StaysInLog};
 ghost use Rattle.hbpi.specs.Core.{IsCore, settled_of};
 ghost use Rattle.hbpi.specs.Keeping.{EngineKeeps};
@@ -19,13 +19,13 @@ ghost use Rattle.hbpi.specs.CoreSeen.{core_seen, core_disk};
 ghost use Rattle.hb_store.specs.Keeps.{last_of};
 ghost use Rattle.hbpi.specs.Drives.{DriveEnds, EndsAs, HasReadFault, IsStart, RunFaults, RunsTo};
 
-use crate::answers::put_answer;
+use crate::answers::{put_answer, put_order_on};
 use crate::engine::session::Outcome;
 use crate::engine::state::Core;
 use hb_disk::Disk;
-use hb_outside::Sink;
+use hb_outside::{Failed, Sink};
 use hb_set::{Answered, Line, Reply};
-use hb_text::{put_left, put_order, put_reply};
+use hb_text::put_left;
 use std::alloc::Global;
 
 /// How a run of a schedule ended.
@@ -53,37 +53,37 @@ pub(crate) struct Ran<D: Disk, K> {
     pub(crate) end: End,
 }
 
-/// Puts and keeps the answer that a step gave, where it gave one. There has to be room. True where the sink has failed.
+/// Puts and keeps the answer that a step gave, where it gave one. There has to be room.
+#[tactic(auto, using(crate::proofs::PutTexts::puts_none, crate::proofs::PutTexts::puts_answer))]
 fn take_answer<K: Sink>(
     sink: &mut K,
-    failed: bool,
+    so_far: Result<(), Failed>,
     outcome: Outcome,
     at: u64,
     answered: &mut Vec<Answered>,
-) -> bool
+) -> Result<(), Failed>
     requires { vec_len answered.old + length (answers_of outcome at) ≤ vec_capacity answered.old }
     ensures kept { answered.new.items ≡ answered.old.items ++ answers_of outcome at }
     ensures room { vec_capacity answered.old ≤ vec_capacity answered.new }
-    ensures puts { PutsMore (K.written sink.old) (K.written sink.new) (K.faults sink.old) (K.faults sink.new) failed result (flat_map answer_text (answers_of outcome at)) }
-    ensures later { K.faults sink.old ≤ K.faults sink.new }
+    ensures puts { PutsOn so_far (flat_map answer_text (answers_of outcome at)) result (K.model sink.old) (K.model sink.new) }
 {
     match outcome {
         Outcome::Answered { line, reply } => {
-            let failed = put_answer(sink, failed, line, &reply);
+            let put = put_answer(sink, so_far, line, &reply);
             answered.push(Answered { line, reply, at }).unwrap();
-            failed
+            put
         }
-        _ => failed,
+        _ => so_far,
     }
 }
 
-/// Takes so many steps, and keeps each answer with the disk's clock after its step. True where the sink failed.
+/// Takes so many steps, and keeps each answer with the disk's clock after its step.
 fn take_steps<D: Disk, K: Sink>(
     core: &mut Core<D>,
     steps: usize,
     sink: &mut K,
     answered: &mut Vec<Answered>,
-) -> bool
+) -> Result<(), Failed>
     requires script { IsScriptFor (core_seen core.old).store.meta.k (core_seen core.old).lines }
     requires served { IsServed (core_seen core.old).lines }
     requires start { IsStart (core_seen core.old) }
@@ -99,66 +99,69 @@ fn take_steps<D: Disk, K: Sink>(
     ensures whole { IsCore (core_seen core.new) }
     ensures lines { (core_seen core.new).lines ≡ (core_seen core.old).lines }
     ensures in_log { StaysInLog (D.model (core_disk core.old)) (core_seen core.old) (D.model (core_disk core.new)) (core_seen core.new) }
-    ensures put { HasPutText (K.written sink.old) (K.written sink.new) (K.faults sink.old) (K.faults sink.new) result (flat_map answer_text answered.new.items) }
+    ensures put { Puts (flat_map answer_text answered.new.items) result (K.model sink.old) (K.model sink.new) }
     ensures faults { RunFaults (D.model (core_disk core.old)) (D.model (core_disk core.new)) answered.new.items (core_seen core.new) }
     ensures reads_later { (D.model (core_disk core.old)).read_faults ≤ (D.model (core_disk core.new)).read_faults }
     ensures writes_later { (D.model (core_disk core.old)).write_faults ≤ (D.model (core_disk core.new)).write_faults }
 {
-    let mut failed = false;
+    let mut put = Ok(());
     for _ in 0..steps {
         let outcome = core.step();
         let at = core.store.clock();
-        failed = take_answer(sink, failed, outcome, at, answered);
+        put = take_answer(sink, put, outcome, at, answered);
     }
-    failed
+    put
 }
 
-/// Puts a line that has no answer, unless the sink failed before. True where it has failed.
-fn put_one_left<K: Sink>(sink: &mut K, failed: bool, line: u32, stopped: bool) -> bool
-    ensures puts { PutsMore (K.written sink.old) (K.written sink.new) (K.faults sink.old) (K.faults sink.new) failed result (left_text stopped line) }
-    ensures later { K.faults sink.old ≤ K.faults sink.new }
+/// Puts a line that has no answer, unless the sink failed before.
+#[tactic(auto, using(crate::proofs::PutTexts::puts_on, crate::proofs::PutTexts::puts_off))]
+fn put_one_left<K: Sink>(
+    sink: &mut K,
+    so_far: Result<(), Failed>,
+    line: u32,
+    stopped: bool,
+) -> Result<(), Failed>
+    ensures { PutsOn so_far (left_text stopped line) result (K.model sink.old) (K.model sink.new) }
 {
-    if failed {
-        return true;
+    match so_far {
+        Ok(()) => put_left(sink, line, stopped),
+        Err(failed) => Err(failed),
     }
-    put_left(sink, line, stopped).is_err()
 }
 
-/// Puts lines that have no answer, until the sink fails. True where it has failed.
-fn put_all_left<K: Sink>(sink: &mut K, mut failed: bool, lines: &[Line], stopped: bool) -> bool
-    ensures puts { PutsMore (K.written sink.old) (K.written sink.new) (K.faults sink.old) (K.faults sink.new) failed result (flat_map (left_text stopped) (map (λ (l : Entry). l.number) lines.now)) }
-    ensures later { K.faults sink.old ≤ K.faults sink.new }
+/// Puts lines that have no answer, until the sink fails.
+fn put_all_left<K: Sink>(
+    sink: &mut K,
+    so_far: Result<(), Failed>,
+    lines: &[Line],
+    stopped: bool,
+) -> Result<(), Failed>
+    ensures { PutsOn so_far (flat_map (left_text stopped) (map (λ (l : Entry). l.number) lines.now)) result (K.model sink.old) (K.model sink.new) }
 {
+    let mut put = so_far;
     for line in lines {
-        failed = put_one_left(sink, failed, line.number, stopped);
+        put = put_one_left(sink, put, line.number, stopped);
     }
-    failed
+    put
 }
 
-/// Puts the order, so many of it settled, unless the sink failed before. True where it has failed.
-fn put_settled_order<K: Sink>(sink: &mut K, failed: bool, order: &[u32], settled: u32) -> bool
-    ensures puts { PutsMore (K.written sink.old) (K.written sink.new) (K.faults sink.old) (K.faults sink.new) failed result (order_text order.now settled) }
-    ensures later { K.faults sink.old ≤ K.faults sink.new }
-{
-    if failed {
-        return true;
-    }
-    put_order(sink, order, settled).is_err()
-}
-
-/// Puts what follows the replies: the lines that have no answer, all behind the first so many, and the order. True where
-/// the sink has failed.
-fn put_rest<D: Disk, K: Sink>(core: &Core<D>, sink: &mut K, failed: bool, answered: usize) -> bool
+/// Puts what follows the replies: the lines that have no answer, all behind the first so many, and the order.
+fn put_rest<D: Disk, K: Sink>(
+    core: &Core<D>,
+    sink: &mut K,
+    so_far: Result<(), Failed>,
+    answered: usize,
+) -> Result<(), Failed>
     requires few { answered ≤ length (core_seen core.now).lines }
     requires short { length (core_seen core.now).order < 2 ^ 32 }
-    ensures puts { PutsMore (K.written sink.old) (K.written sink.new) (K.faults sink.old) (K.faults sink.new) failed result
-        (flat_map (left_text (is_some (core_seen core.now).stop)) (map (λ (l : Entry). l.number) (drop answered (core_seen core.now).lines)) ++ order_text (core_seen core.now).order (settled_of (core_seen core.now))) }
-    ensures later { K.faults sink.old ≤ K.faults sink.new }
+    ensures { PutsOn so_far
+        (flat_map (left_text (is_some (core_seen core.now).stop)) (map (λ (l : Entry). l.number) (drop answered (core_seen core.now).lines)) ++ order_text (core_seen core.now).order (settled_of (core_seen core.now)))
+        result (K.model sink.old) (K.model sink.new) }
 {
     let left = &core.lines.as_slice()[answered..];
-    let failed = put_all_left(sink, failed, left, core.stop.is_some());
+    let put = put_all_left(sink, so_far, left, core.stop.is_some());
     let settled = core.store.settled(core.order.len() as u32);
-    put_settled_order(sink, failed, core.order.as_slice(), settled)
+    put_order_on(sink, put, core.order.as_slice(), settled)
 }
 
 /// Whether some reply is `read fault`.
@@ -206,11 +209,11 @@ pub(crate) fn drive<D: Disk, K: Sink>(
     ensures unbegun { result.end ≡ End.NoMemory → (result.core ≡ core) × (result.sink ≡ sink) × (result.answered.items ≡ []) }
     // no byte is another one but those of the log's area
     ensures in_log { StaysInLog (D.model (core_disk core)) (core_seen core) (D.model (core_disk result.core)) (core_seen result.core) }
-    ensures ends { DriveEnds result.end (K.written sink) (K.written result.sink) (K.faults sink) (K.faults result.sink) result.answered.items (core_seen result.core) }
+    ensures ends { DriveEnds result.end (K.model sink) (K.model result.sink) result.answered.items (core_seen result.core) }
     ensures faults { RunFaults (D.model (core_disk core)) (D.model (core_disk result.core)) result.answered.items (core_seen result.core) }
     ensures reads_later { (D.model (core_disk core)).read_faults ≤ (D.model (core_disk result.core)).read_faults }
     ensures writes_later { (D.model (core_disk core)).write_faults ≤ (D.model (core_disk result.core)).write_faults }
-    ensures sink_later { K.faults sink ≤ K.faults result.sink }
+    ensures sink_later { (K.model sink).faults ≤ (K.model result.sink).faults }
 {
     let Ok(mut answered) = Vec::with_capacity(alloc, core.lines.len()) else {
         return Ran {
@@ -220,8 +223,9 @@ pub(crate) fn drive<D: Disk, K: Sink>(
             end: End::NoMemory,
         };
     };
-    let failed = take_steps(&mut core, steps, &mut sink, &mut answered);
-    let failed = put_rest(&core, &mut sink, failed, answered.len());
+    let put = take_steps(&mut core, steps, &mut sink, &mut answered);
+    let last = put_rest(&core, &mut sink, put, answered.len());
+    let failed = last.is_err();
     let end = end_of(failed, core.stop.is_some(), answered.as_slice());
     Ran {
         core,

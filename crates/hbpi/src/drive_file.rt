@@ -1,6 +1,7 @@
 //! The command `drive`.
-ghost use Rattle.std.specs.Prelude.{◌≡◌, ℕ, ◌<◌, ◌≤◌, ◌↔◌, [], List, length, Option, All, IfOk, IfErr, OnOk, IsSome, IsTrue, Some, None};
-ghost use Rattle.hb_outside.specs.Streams.{Rose};
+ghost use Rattle.std.specs.Prelude.{◌≡◌, ℕ, ◌<◌, ◌≤◌, ◌↔◌, [], Option, IfOk, IfErr, OnOk, IsSome, IsTrue, Some, None};
+ghost use Rattle.hb_outside.specs.Calls.{SourceModel};
+ghost use Rattle.hbpi.specs.SeenRuns.{seen_by};
 ghost use Rattle.hb_ops.specs.Files.{FileState};
 ghost use Rattle.hb_ops.specs.Sound.{IsSound};
 ghost use Rattle.hb_set.specs.Scripts.{IsScriptFor};
@@ -60,11 +61,11 @@ fn serves(script: &Script) -> bool
 fn read_schedule<S: Source>(alloc: Global, k: u8, source: &mut S) -> Result<Script, Status>
     requires some { 0 < k }
     requires few { k ≤ KMAX }
-    ensures read { IfOk result (λ script. IsScheduled k (S.left source.old) (S.left source.new) script.lines script.steps) }
+    ensures read { IfOk result (λ script. IsScheduled k (S.model source.old).left (S.model source.new).left script.lines script.steps) }
     ensures script { IfOk result (λ script. IsScriptFor k script.lines × IsServedScript script.lines script.steps) }
-    ensures refused { IfErr result (NotScheduled k (S.left source.old) (S.left source.new) (S.faults source.old) (S.faults source.new)) }
-    ensures no_fault { OnOk result (S.faults source.new ≡ S.faults source.old) }
-    ensures later { S.faults source.old ≤ S.faults source.new }
+    ensures refused { IfErr result (NotScheduled k (S.model source.old) (S.model source.new)) }
+    ensures no_fault { OnOk result ((S.model source.new).faults ≡ (S.model source.old).faults) }
+    ensures later { (S.model source.old).faults ≤ (S.model source.new).faults }
 {
     let text = match read_text(alloc, source) {
         Ok(text) => text,
@@ -103,8 +104,8 @@ fn finish<K: Sink, D: Disk>(ran: Ran<D, K>) -> Finished<K, D>
     ensures order { result.order.items ≡ (core_seen ran.core).order }
     ensures silent { ran.end ≡ End.SinkFault → result.sink ≡ ran.sink }
     ensures silent_done { ran.end ≡ End.Finished → result.sink ≡ ran.sink }
-    ensures line { GetsLine (K.written ran.sink) (K.written result.sink) (K.faults ran.sink) (K.faults result.sink) (fault_line result.status) }
-    ensures later { K.faults ran.sink ≤ K.faults result.sink }
+    ensures line { GetsLine (K.model ran.sink) (K.model result.sink) (fault_line result.status) }
+    ensures later { (K.model ran.sink).faults ≤ (K.model result.sink).faults }
 {
     let Ran {
         core,
@@ -136,21 +137,10 @@ fn drive_script<K: Sink, D: Disk>(
     requires new { IsNew (seen_as store).turn (seen_as store).meta (seen_as store) }
     requires one_page { ((seen_as store).meta.root ≡ 1) × ((seen_as store).meta.high ≡ 1) × ((seen_as store).meta.height ≡ 1) }
     requires kept { IsSome (D.model (disk_of store)).told → (s : FileState) × IsSound s × StoreKeeps (D.model (disk_of store)) (seen_as store) s [] }
-    ensures ends { (left rest : Option (List ℕ)) (before after : ℕ) → IsScheduled (seen_as store).meta.k left rest script.lines script.steps → after ≡ before →
-        OpenedEnds (D.model (disk_of store)) (D.model result.disk) (record {
-          left = left;
-          rest = rest;
-          source_before = before;
-          source_after = after;
-          held = K.written sink;
-          holds = K.written result.sink;
-          sink_before = K.faults sink;
-          sink_after = K.faults result.sink;
-          answered = result.answered.items;
-          order = result.order.items;
-        }) result.status }
+    ensures ends { (before after : SourceModel) → IsScheduled (seen_as store).meta.k before.left after.left script.lines script.steps → after.faults ≡ before.faults →
+        OpenedEnds (D.model (disk_of store)) (D.model result.disk) (seen_by before after (K.model sink) (K.model result.sink) result.answered.items result.order.items) result.status }
     ensures beyond { KeepsBeyond (file_size (seen_as store).meta) (D.model (disk_of store)) (D.model result.disk) }
-    ensures sink_later { K.faults sink ≤ K.faults result.sink }
+    ensures sink_later { (K.model sink).faults ≤ (K.model result.sink).faults }
     ensures reads_later { (D.model (disk_of store)).read_faults ≤ (D.model result.disk).read_faults }
     ensures writes_later { (D.model (disk_of store)).write_faults ≤ (D.model result.disk).write_faults }
 {
@@ -171,21 +161,10 @@ fn drive_store<S: Source, K: Sink, D: Disk>(
     requires new { IsNew (seen_as store).turn (seen_as store).meta (seen_as store) }
     requires one_page { ((seen_as store).meta.root ≡ 1) × ((seen_as store).meta.high ≡ 1) × ((seen_as store).meta.height ≡ 1) }
     requires kept { IsSome (D.model (disk_of store)).told → (s : FileState) × IsSound s × StoreKeeps (D.model (disk_of store)) (seen_as store) s [] }
-    ensures ends { OpenedEnds (D.model (disk_of store)) (D.model result.disk) (record {
-      left = S.left source.old;
-      rest = S.left source.new;
-      source_before = S.faults source.old;
-      source_after = S.faults source.new;
-      held = K.written sink;
-      holds = K.written result.sink;
-      sink_before = K.faults sink;
-      sink_after = K.faults result.sink;
-      answered = result.answered.items;
-      order = result.order.items;
-    }) result.status }
+    ensures ends { OpenedEnds (D.model (disk_of store)) (D.model result.disk) (seen_by (S.model source.old) (S.model source.new) (K.model sink) (K.model result.sink) result.answered.items result.order.items) result.status }
     ensures beyond { KeepsBeyond (file_size (seen_as store).meta) (D.model (disk_of store)) (D.model result.disk) }
-    ensures source_later { S.faults source.old ≤ S.faults source.new }
-    ensures sink_later { K.faults sink ≤ K.faults result.sink }
+    ensures source_later { (S.model source.old).faults ≤ (S.model source.new).faults }
+    ensures sink_later { (K.model sink).faults ≤ (K.model result.sink).faults }
     ensures reads_later { (D.model (disk_of store)).read_faults ≤ (D.model result.disk).read_faults }
     ensures writes_later { (D.model (disk_of store)).write_faults ≤ (D.model result.disk).write_faults }
 {
@@ -204,21 +183,10 @@ pub(crate) fn drive_file<S: Source, K: Sink, D: Disk>(
     sink: K,
     disk: D,
 ) -> Finished<K, D>
-    ensures ends { DriveCommandEnds (D.model disk) (D.model result.disk) (record {
-      left = S.left source.old;
-      rest = S.left source.new;
-      source_before = S.faults source.old;
-      source_after = S.faults source.new;
-      held = K.written sink;
-      holds = K.written result.sink;
-      sink_before = K.faults sink;
-      sink_after = K.faults result.sink;
-      answered = result.answered.items;
-      order = result.order.items;
-    }) result.status }
+    ensures ends { DriveCommandEnds (D.model disk) (D.model result.disk) (seen_by (S.model source.old) (S.model source.new) (K.model sink) (K.model result.sink) result.answered.items result.order.items) result.status }
     ensures beyond { KeepsBeyondFile (D.model disk) (D.model result.disk) }
-    ensures source_later { S.faults source.old ≤ S.faults source.new }
-    ensures sink_later { K.faults sink ≤ K.faults result.sink }
+    ensures source_later { (S.model source.old).faults ≤ (S.model source.new).faults }
+    ensures sink_later { (K.model sink).faults ≤ (K.model result.sink).faults }
     ensures reads_later { (D.model disk).read_faults ≤ (D.model result.disk).read_faults }
     ensures writes_later { (D.model disk).write_faults ≤ (D.model result.disk).write_faults }
 {

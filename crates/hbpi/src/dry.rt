@@ -1,16 +1,16 @@
 ghost use Rattle.std.specs.Prelude.{◌≡◌, ℕ, ◌<◌, ◌≤◌, [], length, IfOk, IfErr, OnOk};
-ghost use Rattle.hb_outside.specs.Streams.{Rose};
 ghost use Rattle.hb_set.specs.Scripts.{IsScriptFor};
 ghost use Rattle.hbpi.specs.Outcome.{fault_line, GetsLine};
 ghost use Rattle.hbpi.specs.Ends.{DryEnds};
-ghost use Rattle.hbpi.specs.DryParts.{IsRead, NotRead, EndsBySink, EndsRun};
+ghost use Rattle.hbpi.specs.DryParts.{IsRead, NotRead, EndsBySink, EndsRun, put_status};
+ghost use Rattle.hbpi.specs.SeenRuns.{seen_by};
 
-use crate::answers::{Answers, answer_lines, put_whole_order};
+use crate::answers::{Answers, answer_lines, put_order_on};
 use crate::faults::put_fault;
 use crate::finished::Finished;
 use crate::statuses::Status;
 use crate::texts::{TextStop, read_text};
-use hb_outside::{Sink, Source};
+use hb_outside::{Failed, Sink, Source};
 use hb_set::Script;
 use hb_space::form::KMAX;
 use hb_text::{TextError, read_commands};
@@ -20,10 +20,10 @@ use std::alloc::Global;
 fn read_script<S: Source>(alloc: Global, k: u8, source: &mut S) -> Result<Script, Status>
     requires some { 0 < k }
     requires few { k ≤ KMAX }
-    ensures read { IfOk result (λ script. IsRead k (S.left source.old) (S.left source.new) script.lines) }
-    ensures refused { IfErr result (λ status. NotRead k (S.left source.old) (S.left source.new) (S.faults source.old) (S.faults source.new) status) }
-    ensures no_fault { OnOk result (S.faults source.new ≡ S.faults source.old) }
-    ensures later { S.faults source.old ≤ S.faults source.new }
+    ensures read { IfOk result (λ script. IsRead k (S.model source.old).left (S.model source.new).left script.lines) }
+    ensures refused { IfErr result (NotRead k (S.model source.old) (S.model source.new)) }
+    ensures no_fault { OnOk result ((S.model source.new).faults ≡ (S.model source.old).faults) }
+    ensures later { (S.model source.old).faults ≤ (S.model source.new).faults }
 {
     let text = match read_text(alloc, source) {
         Ok(text) => text,
@@ -46,8 +46,8 @@ pub(crate) fn refused<K: Sink, D>(
 ) -> Finished<K, D>
     ensures status { result.status ≡ status }
     ensures disk { result.disk ≡ disk }
-    ensures line { GetsLine (K.written sink) (K.written result.sink) (K.faults sink) (K.faults result.sink) (fault_line status) }
-    ensures later { K.faults sink ≤ K.faults result.sink }
+    ensures line { GetsLine (K.model sink) (K.model result.sink) (fault_line status) }
+    ensures later { (K.model sink).faults ≤ (K.model result.sink).faults }
     ensures answered { result.answered.items ≡ [] }
     ensures order { result.order.items ≡ [] }
 {
@@ -61,26 +61,32 @@ pub(crate) fn refused<K: Sink, D>(
     }
 }
 
+/// The status behind the last put.
+fn status_of(put: Result<(), Failed>) -> Status
+    ensures { result ≡ put_status put }
+{
+    match put {
+        Ok(()) => Status::Done,
+        Err(_) => Status::SinkFault,
+    }
+}
+
 /// Writes the order behind the answers, unless the sink failed, and ends the run.
 fn finish<K: Sink, D>(answers: Answers, mut sink: K, disk: D) -> Finished<K, D>
     requires { length answers.order.items ≤ 1000000 }
     ensures disk { result.disk ≡ disk }
     ensures answered { result.answered.items ≡ answers.answered.items }
     ensures order { result.order.items ≡ answers.order.items }
-    ensures ends { EndsBySink (K.written sink) (K.written result.sink) (K.faults sink) (K.faults result.sink) answers.failed answers.order.items result.status }
-    ensures later { K.faults sink ≤ K.faults result.sink }
+    ensures ends { EndsBySink answers.put answers.order.items result.status (K.model sink) (K.model result.sink) }
+    ensures later { (K.model sink).faults ≤ (K.model result.sink).faults }
 {
     let Answers {
         answered,
         order,
-        failed,
+        put,
     } = answers;
-    let failed = put_whole_order(&mut sink, failed, order.as_slice());
-    let status = if failed {
-        Status::SinkFault
-    } else {
-        Status::Done
-    };
+    let put = put_order_on(&mut sink, put, order.as_slice(), order.len() as u32);
+    let status = status_of(put);
     Finished {
         status,
         sink,
@@ -94,8 +100,8 @@ fn finish<K: Sink, D>(answers: Answers, mut sink: K, disk: D) -> Finished<K, D>
 fn run_script<K: Sink, D>(alloc: Global, script: &Script, mut sink: K, disk: D) -> Finished<K, D>
     requires { (k : ℕ) × IsScriptFor k script.now.lines }
     ensures disk { result.disk ≡ disk }
-    ensures ends { EndsRun (K.written sink) (K.written result.sink) (K.faults sink) (K.faults result.sink) script.now.lines result.answered.items result.order.items result.status }
-    ensures later { K.faults sink ≤ K.faults result.sink }
+    ensures ends { EndsRun (K.model sink) (K.model result.sink) script.now.lines result.answered.items result.order.items result.status }
+    ensures later { (K.model sink).faults ≤ (K.model result.sink).faults }
 {
     match answer_lines(alloc, script.lines.as_slice(), &mut sink) {
         Ok(answers) => finish(answers, sink, disk),
@@ -114,21 +120,10 @@ pub(crate) fn dry<S: Source, K: Sink, D>(
 ) -> Finished<K, D>
     requires some { 0 < k }
     requires few { k ≤ KMAX }
-    ensures ends { DryEnds k (record {
-      left = S.left source.old;
-      rest = S.left source.new;
-      source_before = S.faults source.old;
-      source_after = S.faults source.new;
-      held = K.written sink;
-      holds = K.written result.sink;
-      sink_before = K.faults sink;
-      sink_after = K.faults result.sink;
-      answered = result.answered.items;
-      order = result.order.items;
-    }) result.status }
+    ensures ends { DryEnds k (seen_by (S.model source.old) (S.model source.new) (K.model sink) (K.model result.sink) result.answered.items result.order.items) result.status }
     ensures disk { result.disk ≡ disk }
-    ensures source_later { S.faults source.old ≤ S.faults source.new }
-    ensures sink_later { K.faults sink ≤ K.faults result.sink }
+    ensures source_later { (S.model source.old).faults ≤ (S.model source.new).faults }
+    ensures sink_later { (K.model sink).faults ≤ (K.model result.sink).faults }
 {
     match read_script(alloc, k, source) {
         Ok(script) => run_script(alloc, &script, sink, disk),

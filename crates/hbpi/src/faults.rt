@@ -1,5 +1,4 @@
-ghost use Rattle.std.specs.Prelude.{◌≡◌, ◌≤◌, ◌++◌, [], length, codes, decimal, OnErr, OnOk, IsTrue};
-ghost use Rattle.hb_outside.specs.Streams.{Rose, Appends, AppendsFront};
+ghost use Rattle.std.specs.Prelude.{◌≡◌, ◌≤◌, ◌++◌, length, codes, decimal};
 ghost use Rattle.hbpi.specs.Outcome.{rule_name, field_name, fault_line, GetsLine};
 
 use crate::statuses::{Damage, Status};
@@ -127,8 +126,7 @@ fn page_line(page: u32, what: &[u8]) -> ArrayVec<u8, 64>
 
 /// Puts the line of what is wrong with a file.
 fn put_damage<K: Sink>(sink: &mut K, damage: Damage)
-    ensures line { GetsLine (K.written sink.old) (K.written sink.new) (K.faults sink.old) (K.faults sink.new) (fault_line (Status.Damaged damage)) }
-    ensures later { K.faults sink.old ≤ K.faults sink.new }
+    ensures { GetsLine (K.model sink.old) (K.model sink.new) (fault_line (Status.Damaged damage)) }
 {
     match damage {
         Damage::NoSuper => put_line(sink, b"no super\n"),
@@ -141,18 +139,17 @@ fn put_damage<K: Sink>(sink: &mut K, damage: Damage)
 
 /// Puts the line of a fault. Where the sink fails in it, nobody can be told.
 fn put_line<K: Sink>(sink: &mut K, line: &[u8])
-    ensures line { GetsLine (K.written sink.old) (K.written sink.new) (K.faults sink.old) (K.faults sink.new) line.now }
-    ensures later { K.faults sink.old ≤ K.faults sink.new }
+    ensures { GetsLine (K.model sink.old) (K.model sink.new) line.now }
 {
     let _failed = sink.put(line);
 }
 
 /// Puts the fault line of a status that has one.
+#[tactic(auto, using(crate::proofs::PutTexts::gets_nothing))]
 pub(crate) fn put_fault<K: Sink>(sink: &mut K, status: Status)
-    ensures line { GetsLine (K.written sink.old) (K.written sink.new) (K.faults sink.old) (K.faults sink.new) (fault_line status) }
+    ensures line { GetsLine (K.model sink.old) (K.model sink.new) (fault_line status) }
     ensures silent { status ≡ Status.SinkFault → sink.new ≡ sink.old }
     ensures silent_done { status ≡ Status.Done → sink.new ≡ sink.old }
-    ensures later { K.faults sink.old ≤ K.faults sink.new }
 {
     match status {
         Status::Done | Status::SinkFault => {}

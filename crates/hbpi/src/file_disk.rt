@@ -1,8 +1,8 @@
 //! A file as a disk.
-ghost use Rattle.std.specs.Prelude.{◌≡◌, ◌+◌, ◌≤◌, length, replicate, OnOk, OnErr};
-ghost use Rattle.hb_disk.specs.Model.{Stays, last_value};
-ghost use Rattle.hb_disk.specs.Calls.{Ticks, WriteFaults, Writes, Syncs, Reads, ReadFaults};
-ghost use Rattle.hb_outside.specs.Streams.{Rose};
+ghost use Rattle.std.specs.Prelude.{◌≡◌, ◌+◌, ◌≤◌, length, IsErr};
+ghost use Rattle.hb_disk.specs.Model.{last_value};
+ghost use Rattle.hb_disk.specs.Calls.{Writes};
+ghost use Rattle.hb_outside.specs.Calls.{Counts};
 ghost use Rattle.hb_disk.specs.Untold.{untold_of, untold_is_disk};
 
 use hb_disk::{Device, Disk};
@@ -99,9 +99,7 @@ fn zero_at(file: &File, at: u64, len: u64, is_whole: bool) -> Result<(), Failed>
 /// Counts a call that failed.
 fn counted(done: Result<(), Failed>, faults: &mut u64) -> Result<(), Failed>
     ensures same { result ≡ done }
-    ensures ok { OnOk result (faults.new ≡ faults.old) }
-    ensures failed { OnErr result (Rose faults.old faults.new) }
-    ensures later { faults.old ≤ faults.new }
+    ensures counts { Counts (IsErr result) faults.old faults.new }
 {
     if done.is_err() {
         *faults = faults.saturating_add(1);

@@ -1,9 +1,9 @@
 //! Files that the core serves: those of one page and one level.
-ghost use Rattle.std.specs.Prelude.{◌≡◌, ◌⊎◌, ◌+◌, ◌≤◌, ◌↔◌, [], ℕ, List, length, IfOk, IfErr, IfSome, IsSome, IsTrue};
+ghost use Rattle.std.specs.Prelude.{◌≡◌, ◌⊎◌, ◌+◌, ◌≤◌, ◌↔◌, [], ℕ, List, IfOk, IfErr, IfSome, IsSome, IsTrue};
 ghost use Rattle.hb_outside.specs.Streams.{Rose};
 ghost use Rattle.hb_disk.specs.Calls.{Leaves, OnlyReads};
 ghost use Rattle.hb_layout.specs.declared.meta.Meta.{Meta as Said};
-ghost use Rattle.hb_ops.specs.Files.{FileState, file_records};
+ghost use Rattle.hb_ops.specs.Files.{FileState};
 ghost use Rattle.hb_ops.specs.Sound.{IsSound};
 ghost use Rattle.hb_restart.specs.Beyond.{KeepsBeyondFile};
 ghost use Rattle.hb_store.specs.States.{IsNew, IsSameLayout};

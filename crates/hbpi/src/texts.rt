@@ -1,6 +1,6 @@
 ghost use Rattle.std.specs.Prelude.{◌≡◌, ◌+◌, ◌<◌, ◌≤◌, false, length, IsTrue, OnOk, IfOk, IsErrOf};
-ghost use Rattle.hb_outside.specs.Streams.{Rose};
-ghost use Rattle.hbpi.specs.Outcome.{IsTextOf, greatest_text};
+ghost use Rattle.hb_outside.specs.Calls.{Counts};
+ghost use Rattle.hbpi.specs.Outcome.{IsTextOf};
 ghost use Rattle.hbpi.specs.Taking.{TakesPiece, IsAtEnd};
 ghost use Rattle.hbpi.specs.declared.texts.TextStop.TheVariants.{NoMemory};
 
@@ -32,14 +32,12 @@ const PIECE: usize = 16384;
 /// ended. An `Err` leaves the text without the piece.
 fn take_piece<S: Source>(source: &mut S, text: &mut Vec<u8>, most: usize) -> Result<bool, TextStop>
     requires { 0 < most }
-    ensures piece { OnOk result (TakesPiece (S.left source.old) (S.left source.new) text.old.items text.new.items) }
+    ensures piece { OnOk result (TakesPiece (S.model source.old).left (S.model source.new).left text.old.items text.new.items) }
     ensures bound { OnOk result (length text.new.items ≤ length text.old.items + most) }
     ensures kept { length text.old.items ≤ length text.new.items }
     ensures grows { IfOk result (λ more. IsTrue more → length text.old.items < length text.new.items) }
-    ensures ended { IfOk result (λ more. more ≡ false → IsAtEnd (S.left source.new)) }
-    ensures cause { IsErrOf result TextStop.SourceFault → Rose (S.faults source.old) (S.faults source.new) }
-    ensures no_fault { (IsErrOf result TextStop.SourceFault → ⊥) → S.faults source.new ≡ S.faults source.old }
-    ensures later { S.faults source.old ≤ S.faults source.new }
+    ensures ended { IfOk result (λ more. more ≡ false → IsAtEnd (S.model source.new).left) }
+    ensures counts { Counts (IsErrOf result TextStop.SourceFault) (S.model source.old).faults (S.model source.new).faults }
 {
     let mut piece = [0; PIECE];
     let room = most.min(PIECE);
@@ -52,10 +50,8 @@ fn take_piece<S: Source>(source: &mut S, text: &mut Vec<u8>, most: usize) -> Res
 
 /// The text that the source has left, up to `GREATEST` bytes.
 pub(crate) fn read_text<S: Source>(alloc: Global, source: &mut S) -> Result<Vec<u8>, TextStop>
-    ensures text { IfOk result (λ text. IsTextOf (S.left source.old) (S.left source.new) text.items) }
-    ensures cause { IsErrOf result TextStop.SourceFault → Rose (S.faults source.old) (S.faults source.new) }
-    ensures no_fault { (IsErrOf result TextStop.SourceFault → ⊥) → S.faults source.new ≡ S.faults source.old }
-    ensures later { S.faults source.old ≤ S.faults source.new }
+    ensures text { IfOk result (λ text. IsTextOf (S.model source.old).left (S.model source.new).left text.items) }
+    ensures counts { Counts (IsErrOf result TextStop.SourceFault) (S.model source.old).faults (S.model source.new).faults }
 {
     let mut text = Vec::new(alloc);
     let mut more = true;

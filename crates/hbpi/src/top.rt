@@ -31,8 +31,7 @@ pub fn top<S: Source, K: Sink, D: Disk>(
     disk: D,
 ) -> Finished<K, D>
     // What each status says: its cause, what was read and written, what was answered, and what is on the disk.
-    ensures ends { RunEnds (form_of (map string_bytes words.now)) (D.model disk) (D.model result.disk) (seen_by (S.left source.old) (S.left source.new) (S.faults source.old) (S.faults source.new)
-        (K.written sink) (K.written result.sink) (K.faults sink) (K.faults result.sink) result.answered.items result.order.items) result.status }
+    ensures ends { RunEnds (form_of (map string_bytes words.now)) (D.model disk) (D.model result.disk) (seen_by (S.model source.old) (S.model source.new) (K.model sink) (K.model result.sink) result.answered.items result.order.items) result.status }
 
     // The words alone decide the first two; and beyond them only `drive` may come to what isn't built.
     ensures usage { (result.status ≡ Status.Usage) ↔ (form_of (map string_bytes words.now) ≡ None) }
@@ -40,16 +39,12 @@ pub fn top<S: Source, K: Sink, D: Disk>(
     ensures built { result.status ≡ Status.NotBuilt → IsUnbuilt (form_of (map string_bytes words.now)) ⊎ (form_of (map string_bytes words.now) ≡ Some Form.Drive) }
 
     // `dry` answers a good text and refuses a bad one, unless something failed.
-    ensures complete { IsComplete (form_of (map string_bytes words.now)) (seen_by (S.left source.old) (S.left source.new) (S.faults source.old) (S.faults source.new)
-        (K.written sink) (K.written result.sink) (K.faults sink) (K.faults result.sink) result.answered.items result.order.items) result.status }
-    ensures bad_text { RefusesBadText (form_of (map string_bytes words.now)) (seen_by (S.left source.old) (S.left source.new) (S.faults source.old) (S.faults source.new)
-        (K.written sink) (K.written result.sink) (K.faults sink) (K.faults result.sink) result.answered.items result.order.items) result.status }
-    ensures named { NamesBadLine (form_of (map string_bytes words.now)) (seen_by (S.left source.old) (S.left source.new) (S.faults source.old) (S.faults source.new)
-        (K.written sink) (K.written result.sink) (K.faults sink) (K.faults result.sink) result.answered.items result.order.items) result.status }
+    ensures complete { IsComplete (form_of (map string_bytes words.now)) (seen_by (S.model source.old) (S.model source.new) (K.model sink) (K.model result.sink) result.answered.items result.order.items) result.status }
+    ensures bad_text { RefusesBadText (form_of (map string_bytes words.now)) (seen_by (S.model source.old) (S.model source.new) (K.model sink) (K.model result.sink) result.answered.items result.order.items) result.status }
+    ensures named { NamesBadLine (form_of (map string_bytes words.now)) (seen_by (S.model source.old) (S.model source.new) (K.model sink) (K.model result.sink) result.answered.items result.order.items) result.status }
 
     // A good layout is made into a file, on a disk that has room for it, unless something failed.
-    ensures made { IsMadeWhole (form_of (map string_bytes words.now)) (seen_by (S.left source.old) (S.left source.new) (S.faults source.old) (S.faults source.new)
-        (K.written sink) (K.written result.sink) (K.faults sink) (K.faults result.sink) result.answered.items result.order.items) (disk_seen (D.model disk) (D.model result.disk)) result.status }
+    ensures made { IsMadeWhole (form_of (map string_bytes words.now)) (seen_by (S.model source.old) (S.model source.new) (K.model sink) (K.model result.sink) result.answered.items result.order.items) (disk_seen (D.model disk) (D.model result.disk)) result.status }
 
     // Once a file is made, every image of the disk opens to that file: it has no record.
     ensures created { (k pages log dcap icap : ℕ) → form_of (map string_bytes words.now) ≡ Some (Form.Create k pages log dcap icap) →
@@ -61,25 +56,22 @@ pub fn top<S: Source, K: Sink, D: Disk>(
 
     // Over a disk that tells and opens to a sound file, `drive` keeps its promise: replies, order and crashes.
     ensures promise { (b : List ℕ) (s : FileState) → form_of (map string_bytes words.now) ≡ Some Form.Drive → (D.model disk).told ≡ Some b → OpensTo b s → IsSound s →
-        KeepsPromise s (D.model disk) (D.model result.disk) (seen_by (S.left source.old) (S.left source.new) (S.faults source.old) (S.faults source.new)
-        (K.written sink) (K.written result.sink) (K.faults sink) (K.faults result.sink) result.answered.items result.order.items) result.status }
+        KeepsPromise s (D.model disk) (D.model result.disk) (seen_by (S.model source.old) (S.model source.new) (K.model sink) (K.model result.sink) result.answered.items result.order.items) result.status }
     // Where nothing fails, a good file is driven by a good text; and a text that is bad or not built, and a file that
     // doesn't open, are refused.
-    ensures driven { form_of (map string_bytes words.now) ≡ Some Form.Drive → IsDriven (D.model disk) (D.model result.disk) (seen_by (S.left source.old) (S.left source.new) (S.faults source.old) (S.faults source.new)
-        (K.written sink) (K.written result.sink) (K.faults sink) (K.faults result.sink) result.answered.items result.order.items) result.status }
-    ensures driven_named { form_of (map string_bytes words.now) ≡ Some Form.Drive → NamesScheduleLine (D.model disk) (seen_by (S.left source.old) (S.left source.new) (S.faults source.old) (S.faults source.new)
-        (K.written sink) (K.written result.sink) (K.faults sink) (K.faults result.sink) result.answered.items result.order.items) result.status }
+    ensures driven { form_of (map string_bytes words.now) ≡ Some Form.Drive → IsDriven (D.model disk) (D.model result.disk) (seen_by (S.model source.old) (S.model source.new) (K.model sink) (K.model result.sink) result.answered.items result.order.items) result.status }
+    ensures driven_named { form_of (map string_bytes words.now) ≡ Some Form.Drive → NamesScheduleLine (D.model disk) (seen_by (S.model source.old) (S.model source.new) (K.model sink) (K.model result.sink) result.answered.items result.order.items) result.status }
     ensures refused { form_of (map string_bytes words.now) ≡ Some Form.Drive → RefusesFile (D.model disk) (D.model result.disk) result.status }
     // What lies on the disk behind the file is never touched.
     ensures beyond { LeavesBeyond (form_of (map string_bytes words.now)) (D.model disk) (D.model result.disk) }
     ensures untouched { UsesNoDisk (form_of (map string_bytes words.now)) → result.disk ≡ disk }
 
     // The count of the source's faults is as it was, unless the status says that the source failed.
-    ensures source_exact { (result.status ≡ Status.SourceFault → ⊥) → S.faults source.new ≡ S.faults source.old }
+    ensures source_exact { (result.status ≡ Status.SourceFault → ⊥) → (S.model source.new).faults ≡ (S.model source.old).faults }
 
     // No count of faults falls.
-    ensures source_later { S.faults source.old ≤ S.faults source.new }
-    ensures sink_later { K.faults sink ≤ K.faults result.sink }
+    ensures source_later { (S.model source.old).faults ≤ (S.model source.new).faults }
+    ensures sink_later { (K.model sink).faults ≤ (K.model result.sink).faults }
     ensures reads_later { (D.model disk).read_faults ≤ (D.model result.disk).read_faults }
     ensures writes_later { (D.model disk).write_faults ≤ (D.model result.disk).write_faults }
 {

@@ -36,12 +36,12 @@ use Rattle.hb_set.specs.Order.{Entry}
 use Rattle.hb_sound.specs.Laws.{LackIsContents, StandingIsContents}
 use Rattle.hb_sound.specs.LawsOfOperations.{ContentsBecome, OperationsKeepContents}
 use Rattle.hb_space.specs.Points.{point_cmp}
-use Rattle.hb_store.specs.Forced.{durable_after, later_after}
 use Rattle.hb_store.specs.Keeps.{last_of}
 use Rattle.hb_store.specs.Making.{HaveFittingParts, MakesGoodPages}
 use Rattle.hb_store.proofs.Facts.ReplayLaws.{last_of-append}
 use Rattle.hb_store.specs.States.{StoreState}
 use Rattle.hb_space.proofs.Facts.PointOrder.{same_point}
+use Rattle.hb_store.proofs.Facts.StoreLaws.{last_forced}
 
 -- ---- what an operation does
 
@@ -51,11 +51,6 @@ becomes_so s (ops.Del id point) becomes = becomes
 becomes_so s (ops.Extract source fresh path cuts free_after) becomes = becomes
 becomes_so s (ops.Post parent at inner area) becomes = becomes
 becomes_so s (ops.Grow fresh free_after) becomes = becomes
-
--- a force leaves the file as the steps see it
-last_forced : (durable : FileState) (later : List FileState) → last_of (durable_after durable later) (later_after later) ≡ last_of durable later
-last_forced durable [] = refl
-last_forced durable (next ∷ later) = refl
 
 module _ (makes : MakesGoodPages) (parts : HaveFittingParts) (points : HeldArePoints) (keep_contents : OperationsKeepContents) (standing : StandingIsContents) (lacking : LackIsContents)
     (m : Machine) (files : Files) (actor : ℕ) (outcome : Outcome) (new : Machine) (told : m.files ≡ Some files) (fit : LinesFit m) (keeps : KeepsPages m.store) (holds : FilesHold m.store files) where

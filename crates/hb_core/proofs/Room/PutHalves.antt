@@ -19,7 +19,7 @@ use Rattle.hb_core.specs.Keeps.{HasRoomFor, OneHasRoom}
 use Rattle.hb_core.specs.Machines.{Machine, live_here, with_disk, sight}
 use Rattle.hb_core.specs.Rows.{Row}
 use Rattle.hb_frag.specs.Leaves.{DirectlyHolds}
-use Rattle.hb_point.specs.SplitRows.{Puts}
+use Rattle.hb_point.specs.SplitRows.{PutsInHalf}
 use Rattle.hb_store.specs.States.{StoreState}
 
 -- the operation of a put tells its half and its record
@@ -33,7 +33,7 @@ put_of half other rec same is = record { where_it_goes = cc; what_goes = cc }
 pub insert_of : (rec same : Record) → Insert rec ≡ Insert same → rec ≡ same
 insert_of rec same is = cc
 
-module _ (m : Machine) (fetched : StoreState) (brings : Brings m AnyPage fetched) (line : Line) (source fresh : ℕ) (deed : Deed) (row : Puts (sight (with_disk fetched m.files m.clock m)) line source fresh deed) where
+module _ (m : Machine) (fetched : StoreState) (brings : Brings m AnyPage fetched) (line : Line) (source fresh : ℕ) (deed : Deed) (row : PutsInHalf (sight (with_disk fetched m.files m.clock m)) line source fresh deed) where
   -- the page that holds the point is the one that the machine knows
   the_half : (id : ℕ) (page : LivePage) → live_here m.store id ≡ Some page → row.half ≡ id → DirectlyHolds page row.rec.key
   the_half id page live is =
@@ -67,7 +67,7 @@ pub puts_find_room : PutsFindRoom
 puts_find_room m actor fetched deed op knows brings row does line source fresh half rec is put =
     by (knows.puts actor source fresh line is)
   where
-    puts : Puts (sight (with_disk fetched m.files m.clock m)) line source fresh deed
+    puts : PutsInHalf (sight (with_disk fetched m.files m.clock m)) line source fresh deed
     puts = subst (λ (a : Activity). Row a (wanted_of a m.store.meta (looked_live m.store a)) (with_disk fetched m.files m.clock m) deed) is row
 
     by : (same : Record) × (line.command ≡ Insert same) × OneHasRoom m source fresh same.key same.body → HasRoomFor m half rec.key rec.body

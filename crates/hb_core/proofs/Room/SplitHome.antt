@@ -9,20 +9,20 @@ use Rattle.hb_frag.specs.declared.leaves.Leaf.{Leaf}
 use Rattle.hb_frag.specs.declared.leaves.Leaf.TheVariants.{Records, Child, Sibling}
 use Rattle.hb_frag.specs.declared.pages.LivePage.{LivePage}
 use Rattle.hb_frag.specs.declared.paths.Side.{Side}
-use Rattle.hb_frag.specs.declared.paths.Side.TheVariants.{Left, Right}
 use Rattle.hb_ops.specs.declared.leaf_cuts.LeafCut.{LeafCut}
 use Rattle.hb_frag.specs.Leaves.{DirectlyHolds, Placed, leaf_at, leaves, leaves_of, records_of, siblings_of}
 use Rattle.hb_frag.specs.Rules.{BelongsAt, IsInOrder}
 use Rattle.hb_frag.specs.Trees.{Tree, Tip}
 use Rattle.hb_ops.proofs.Facts.Tips.{first_held}
 use Rattle.hb_ops.proofs.Facts.CutLeafLaws.{StemsFrom}
-use Rattle.hb_ops.specs.Cutting.{area_on, cut_through, cut_with, going, half_area, reached, staying}
+use Rattle.hb_ops.specs.Cutting.{cut_through, going, half_area, reached, staying}
 use Rattle.hb_ops.specs.Extracting.{FitsPart, fresh_page, source_page}
 use Rattle.hb_ops.proofs.Facts.PartedPageLaws.{fresh_made, source_made}
 use Rattle.hb_ops.proofs.Facts.PlacedLaws.{leaf_is_sibling, placed, placed_is_leaf, sibling_is_leaf}
 use Rattle.hb_ops.specs.Sound.{FitsFile}
 use Rattle.hb_ops.specs.Standing.{StandsNot}
 use Rattle.hb_ops.proofs.Facts.StemLaws.{PartLaws, fresh_stems, source_stems, stretch}
+use Rattle.hb_sound.proofs.RecordsParted.{cut_has_on}
 use Rattle.hb_sound.proofs.OneLevel.{TreeLaws}
 use Rattle.hb_sound.proofs.PagesParted.{stems_sibling}
 use Rattle.hb_space.specs.Boxes.{Area, Holds, IsArea}
@@ -113,10 +113,6 @@ module _ (trees : TreeLaws) (meta : Meta) (page : LivePage) (p : List ℕ) (box 
     home_at has stems = home_by has.leaf.leaf has.leaf.area has.is has.there has.held stems
 
 -- ---- the leaf that names the new page
-
-cut_has_on : (side : Side) (axis value : ℕ) (on off : Tree) (area : Area) (x : Placed) → Contains (leaves_of on (area_on side axis value area)) x → Contains (leaves_of (cut_with side axis value on off) area) x
-cut_has_on Left axis value on off area x has = Contains-append_left (leaves_of on (area_on Left axis value area)) (leaves_of off (area_on Right axis value area)) x has
-cut_has_on Right axis value on off area x has = Contains-append_right (leaves_of off (area_on Left axis value area)) (leaves_of on (area_on Right axis value area)) x has
 
 -- it stands where the cuts lead, with the box of the part that left
 names_new : (fresh : ℕ) (cuts : List LeafCut) (tree : Tree) (area : Area) → Contains (leaves_of (cut_through cuts tree (Tip (Sibling fresh))) area) (placed (Sibling fresh) (reached cuts tree area).1)

@@ -27,7 +27,7 @@ use Rattle.hb_core.specs.Rows.{Row}
 use Rattle.hb_frag.specs.Leaves.{DirectlyHolds}
 use Rattle.hb_frag.specs.Rules.{AreInOrder}
 use Rattle.hb_ops.specs.Files.{if_live}
-use Rattle.hb_point.specs.SplitRows.{Puts}
+use Rattle.hb_point.specs.SplitRows.{PutsInHalf}
 use Rattle.hb_store.specs.Calls.{KeepsAllButPages}
 use Rattle.hb_store.specs.States.{StoreState, in_memory}
 use Rattle.hb_core.proofs.Table.NextPlaces.{place_after}
@@ -87,7 +87,7 @@ module _ (m : Machine) (files : Files) (tells : m.files ≡ Some files) (may mig
   in_order inside id page live = (good_there m may f first id (Live page) inside (live_so (in_memory f id) page live)).1.1.in_order
 
   -- a record goes into one of the halves
-  module _ (line : Line) (source fresh : ℕ) (d e : Deed) (a : Puts (sight m1) line source fresh d) (b : Puts (sight m2) line source fresh e) (rec : Record) (command : line.command ≡ Insert rec) (one : OneHasRoom m source fresh rec.key rec.body) where
+  module _ (line : Line) (source fresh : ℕ) (d e : Deed) (a : PutsInHalf (sight m1) line source fresh d) (b : PutsInHalf (sight m2) line source fresh e) (rec : Record) (command : line.command ≡ Insert rec) (one : OneHasRoom m source fresh rec.key rec.body) where
     rec_a : a.rec ≡ rec
     rec_a = insert_of a.rec rec (sym a.command ∙ command)
 

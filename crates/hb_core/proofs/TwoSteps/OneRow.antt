@@ -37,7 +37,7 @@ use Rattle.hb_frag.specs.Rules.{AreInOrder}
 use Rattle.hb_frag.specs.Trees.{Tree}
 use Rattle.hb_ops.specs.Cutting.{reached}
 use Rattle.hb_point.specs.SessionRows.{merges_due, DoesThere}
-use Rattle.hb_point.specs.SplitRows.{Puts, Splits}
+use Rattle.hb_point.specs.SplitRows.{PutsInHalf, Splits}
 use Rattle.hb_poster.specs.PosterRows.{Arrives, DoesPlan, GrowsFile, GrowsNot, LooksAgain, LooksAtChild, MayGrow, PosterPasses, after_look}
 use Rattle.hb_search.specs.SearchRows.{Gathers, SearchGoesOn}
 use Rattle.hb_space.specs.Boxes.{Area, holds}
@@ -257,7 +257,7 @@ module _ (m : Machine) (f g : StoreState) (meta : f.meta ≡ g.meta) (agree : (i
   one_at activity id page d e order a b = absurd a
 
   abbrev PutsAgree : Activity → Type 0
-  PutsAgree activity = (line : Line) (source fresh : ℕ) (d e : Deed) → activity ≡ at.SessionPut line source fresh → Puts (sight m1) line source fresh d → Puts (sight m2) line source fresh e → d ≡ e
+  PutsAgree activity = (line : Line) (source fresh : ℕ) (d e : Deed) → activity ≡ at.SessionPut line source fresh → PutsInHalf (sight m1) line source fresh d → PutsInHalf (sight m2) line source fresh e → d ≡ e
 
   one_alone : (activity : Activity) (d e : Deed) → PutsAgree activity → RowAlone activity (sight m1) d → RowAlone activity (sight m2) e → d ≡ e
   one_alone (at.SessionSplit line held) d e puts (inl a) (inl b) = a.deed_is ∙ sym b.deed_is

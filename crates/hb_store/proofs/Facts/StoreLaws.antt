@@ -9,7 +9,8 @@ use Rattle.hb_store.specs.Replay.{Replayed}
 use Rattle.hb_store.specs.Opening.{OpensBy, OpensTo}
 use Rattle.hb_store.specs.States.{StoreState}
 use Rattle.hb_store.specs.Parts.{Parts, Leads, OpensNext}
-use Rattle.hb_store.specs.Keeps.{StoreKeeps, OpensToFirst}
+use Rattle.hb_store.specs.Keeps.{StoreKeeps, OpensToFirst, last_of}
+use Rattle.hb_store.specs.Forced.{durable_after, later_after}
 
 -- By the durable file's groups, or by those and the first that waits. `OpensHere` and `OpensOn` say so of a store's parts.
 abbrev pub OpensHere : List ℕ → ℕ → Parts → FileState → Type 0
@@ -77,3 +78,8 @@ none_left (next ∷ later) count = absurd (omega (arith, count))
 pub StoreKeeps-alone : (d : DiskModel) (st : StoreState) (durable : FileState) (later : List FileState) → StoreKeeps d st durable later → st.log.groups ≡ [] → later ≡ []
 StoreKeeps-alone d st durable later keeps none =
     none_left later (StoreKeeps-one d st durable later keeps ∙ ap (λ (l : List Waiting). length l) none)
+
+-- a force leaves the file as the steps see it
+pub last_forced : (durable : FileState) (later : List FileState) → last_of (durable_after durable later) (later_after later) ≡ last_of durable later
+last_forced durable [] = refl
+last_forced durable (next ∷ later) = refl

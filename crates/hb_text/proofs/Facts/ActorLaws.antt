@@ -7,7 +7,8 @@ use Rattle.std.proofs.lemmas.Bool.Decides.{nat_tests}
 use Rattle.hb_text.specs.Numbers.{number_read}
 use Rattle.hb_text.specs.declared.numbers.NumberFault.{NumberFault}
 use Rattle.hb_text.specs.StepWords.{actor_of, count_number, repeated, steps_of_parts, word_steps, joined_steps, steps_of, session_number, session_of}
-use Rattle.hb_text.proofs.Facts.ReadingLaws.{chosen, some_same}
+use Rattle.hb_lemmas.proofs.Booleans.{chosen}
+use Rattle.hb_text.proofs.Facts.ReadingLaws.{some_same}
 
 -- an actor: 1 to 16 the sessions, then the poster, the consolidator and the flusher
 abbrev pub IsActor : ℕ → Type 0

@@ -9,11 +9,11 @@ use Rattle.hb_text.specs.Numbers.{number_read}
 use Rattle.hb_text.specs.declared.rules.TextRule.TheVariants.{BadCount, EmptyBox}
 use Rattle.hb_text.specs.declared.verbs.Verb.{Verb}
 use Rattle.hb_text.specs.declared.verbs.Verb.TheVariants as verbs
-use Rattle.hb_text.specs.Words.{◌>>=◌}
 use Rattle.hb_text.specs.Operands.{or_fault, values_read, lows, highs, pairs_are_ordered, box_read, box_words_read, body_read, operand_count, operands_read, verb_of, verb_read, command_read}
 use Rattle.std.proofs.lemmas.Bool.Decides.{nat_tests}
 use Rattle.std.proofs.lemmas.List.{length-take}
-use Rattle.hb_text.proofs.Facts.ReadingLaws.{bound, chosen, ok_same}
+use Rattle.hb_lemmas.proofs.Booleans.{chosen}
+use Rattle.hb_text.proofs.Facts.ReadingLaws.{bound, ok_same}
 
 -- as many values as words
 values_length : (words : List (List ℕ)) (values : List ℕ) → values_read words ≡ Ok values → length values ≡ length words

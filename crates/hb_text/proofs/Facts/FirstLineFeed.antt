@@ -1,7 +1,8 @@
 -- A text has a line feed or none: what its first line is then, whatever follows the text.
-use Rattle.std.specs.Prelude.{◌≡◌, ℕ, ◌⊎◌, ◌+◌, ◌≤◌, Bool, true, false, cond, ◌==◌, List, [], ◌∷◌, ◌++◌, length, refl}
+use Rattle.std.specs.Prelude.{◌≡◌, ℕ, ◌⊎◌, ◌+◌, ◌≤◌, true, false, ◌==◌, List, [], ◌∷◌, ◌++◌, length, refl}
 use Rattle.std.proofs.Common.{inl, inr, ap, ◌∙◌, arith}
 use Rattle.std.specs.List.{onto_first}
+use Rattle.std.proofs.lemmas.Bool.{cond-true, cond-false}
 use Rattle.hb_text.specs.Words.{lines_of}
 
 -- the first of some lines
@@ -20,13 +21,6 @@ pub record HasFeed (text : List ℕ) : Type 0 where
 abbrev pub HasNoFeed : List ℕ → Type 0
 HasNoFeed text = (rest : List ℕ) → length text ≤ length (first_of (lines_of (text ++ rest)))
 
--- a choice whose test is known
-pub on_true : {A : Type 0} (b : Bool) (x y : A) → b ≡ true → cond b x y ≡ x
-on_true b x y e = rw e refl
-
-pub on_false : {A : Type 0} (b : Bool) (x y : A) → b ≡ false → cond b x y ≡ y
-on_false b x y e = rw e refl
-
 onto_longer : (c : ℕ) (lines : List (List ℕ)) → length (first_of (onto_first c lines)) ≡ length (first_of lines) + 1
 onto_longer c [] = omega arith
 onto_longer c (line ∷ lines) = omega arith
@@ -35,11 +29,11 @@ other_cut : (c : ℕ) (text : List ℕ) → (c == 10) ≡ false → HasFeed text
 other_cut c text e (inl h) = inl (record {
   line = c ∷ h.line;
   behind = h.behind;
-  cuts = λ rest. on_false (c == 10) ([] ∷ lines_of (text ++ rest)) (onto_first c (lines_of (text ++ rest))) e ∙ ap (onto_first c) (h.cuts rest);
+  cuts = λ rest. cond-false (c == 10) ([] ∷ lines_of (text ++ rest)) (onto_first c (lines_of (text ++ rest))) e ∙ ap (onto_first c) (h.cuts rest);
   bytes = omega (arith, h.bytes);
 })
 other_cut c text e (inr h) = inr (λ rest.
-    let is = ap (λ (lines : List (List ℕ)). length (first_of lines)) (on_false (c == 10) ([] ∷ lines_of (text ++ rest)) (onto_first c (lines_of (text ++ rest))) e) in
+    let is = ap (λ (lines : List (List ℕ)). length (first_of lines)) (cond-false (c == 10) ([] ∷ lines_of (text ++ rest)) (onto_first c (lines_of (text ++ rest))) e) in
     omega (arith, is, onto_longer c (lines_of (text ++ rest)), h rest))
 
 -- each text has a line feed or none
@@ -50,7 +44,7 @@ cut (c ∷ text) =
       | true ↦ λ e. inl (record {
         line = [];
         behind = text;
-        cuts = λ rest. on_true (c == 10) ([] ∷ lines_of (text ++ rest)) (onto_first c (lines_of (text ++ rest))) e;
+        cuts = λ rest. cond-true (c == 10) ([] ∷ lines_of (text ++ rest)) (onto_first c (lines_of (text ++ rest))) e;
         bytes = omega arith;
       })
       | false ↦ λ e. other_cut c text e (cut text)

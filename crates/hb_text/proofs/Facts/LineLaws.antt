@@ -10,11 +10,11 @@ use Rattle.hb_text.specs.declared.numbers.NumberFault.{NumberFault}
 use Rattle.hb_text.specs.declared.rules.TextRule.{TextRule}
 use Rattle.hb_text.specs.declared.rules.TextRule.TheVariants.{BadStep}
 use Rattle.hb_text.specs.Grammar.{says_command, session_read, says_steps, Said}
-use Rattle.hb_text.specs.Words.{◌>>=◌}
 use Rattle.hb_text.specs.Operands.{command_read}
 use Rattle.hb_text.specs.StepWords.{session_number}
 use Rattle.std.proofs.lemmas.Bool.Decides.{nat_tests}
-use Rattle.hb_text.proofs.Facts.ReadingLaws.{chosen, ok_same, some_same}
+use Rattle.hb_lemmas.proofs.Booleans.{chosen}
+use Rattle.hb_text.proofs.Facts.ReadingLaws.{ok_same, some_same}
 use Rattle.hb_text.proofs.Facts.CommandLaws.{command_attributes}
 
 -- a session is a number from 1 to 16

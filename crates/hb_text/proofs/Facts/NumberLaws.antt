@@ -1,5 +1,5 @@
 -- A number of a text is its decimal digits.
-use Rattle.std.specs.Prelude.{◌≡◌, ℕ, suc, ◌<◌, ◌^◌, ◌↔◌, Bool, true, false, ◌&&◌, nat_lt, List, [], ◌∷◌, length, Ok, Err}
+use Rattle.std.specs.Prelude.{◌≡◌, ℕ, suc, ◌<◌, ◌^◌, ◌↔◌, true, nat_lt, List, [], ◌∷◌, length, Ok, Err}
 use Rattle.std.proofs.Common.{rules, zero, refl, sym, ap, ◌∙◌, inl, inr, arith, get_or}
 use Rattle.std.specs.List.{list_all}
 use Rattle.std.specs.Char.{is_ascii_digit}
@@ -8,16 +8,13 @@ use Rattle.std.specs.Str.Parse.{digits_value}
 use Rattle.std.proofs.lemmas.Bool.Decides.{nat_tests}
 use Rattle.std.proofs.lemmas.Fmt.{decimal_digit, first_decimal, decimal_nonempty, digits_decimal, digits_value-decimal, decimal-digits_value}
 use Rattle.std.proofs.lemmas.Str.Parse.{IsNumeralModel, numerals_by_value}
+use Rattle.std.proofs.lemmas.Bool.{and_parts}
 use Rattle.hb_text.specs.declared.numbers.NumberFault.TheVariants.{NotANumber, AboveLimit}
 use Rattle.hb_text.specs.Numbers.{is_number, number_read}
-use Rattle.hb_text.proofs.Facts.ReadingLaws.{chosen}
+use Rattle.hb_lemmas.proofs.Booleans.{chosen}
 
 own : IsNumeralModel (λ ds. list_all is_ascii_digit ds ≡ true) (digits_value 10)
 own = numerals_by_value _ (search rules)
-
-both : (a b : Bool) → (a && b) ≡ true → (a ≡ true) × (b ≡ true)
-both true b e = (refl, e)
-both false b e = absurd (cc)
 
 -- decimal digits, one or more, with no leading zero
 record IsPlain (ds : List ℕ) : Type 0 where
@@ -29,13 +26,13 @@ plain : (word : List ℕ) → is_number word ≡ true → IsPlain word
 plain [] e = absurd (cc)
 plain (c ∷ []) e = record { digits = grind (arith, nat_tests, e); some = omega arith; leading = λ zero. refl }
 plain (c ∷ d ∷ rest) e =
-    let parts = both (nat_lt 48 c) (list_all is_ascii_digit (c ∷ d ∷ rest)) e in
+    let parts = and_parts (nat_lt 48 c) (list_all is_ascii_digit (c ∷ d ∷ rest)) e in
     let high : 48 < c = grind (arith, nat_tests, parts.0) in
     record { digits = parts.1; some = omega arith; leading = λ zero. absurd (omega (arith, zero, high)) }
 
 number_from : (ds : List ℕ) → list_all is_ascii_digit ds ≡ true → 0 < length ds → 48 < get_or ds 0 0 → is_number ds ≡ true
 number_from [] digits some high = absurd (omega arith)
-number_from (c ∷ []) digits some high = (both (is_ascii_digit c) true digits).0
+number_from (c ∷ []) digits some high = (and_parts (is_ascii_digit c) true digits).0
 number_from (c ∷ d ∷ rest) digits some high =
     let first : nat_lt 48 c ≡ true = grind (arith, nat_tests, high) in
     rw (first, digits) refl

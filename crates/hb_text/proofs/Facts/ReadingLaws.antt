@@ -1,6 +1,6 @@
 -- A step of reading, taken apart: what it gave, and what was made of it.
-use Rattle.std.specs.Prelude.{◌≡◌, ℕ, ◌⊎◌, Bool, true, false, cond, Some, Result, Ok, Err, refl}
-use Rattle.std.proofs.Common.{inl, inr, ap}
+use Rattle.std.specs.Prelude.{◌≡◌, ℕ, Some, Result, Ok, Err, refl}
+use Rattle.std.proofs.Common.{ap}
 use Rattle.hb_text.specs.declared.rules.TextRule.{TextRule}
 use Rattle.hb_text.specs.Grammar.{at_line, Said}
 use Rattle.hb_text.specs.Words.{◌>>=◌}
@@ -9,10 +9,6 @@ use Rattle.hb_text.specs.Words.{◌>>=◌}
 pub bound : {A B E : Type 0} (r : Result A E) (f : A → Result B E) (y : B) → (r >>= f) ≡ Ok y → (x : A) × (r ≡ Ok x) × (f x ≡ Ok y)
 bound (Ok x) f y e = (x, refl, e)
 bound (Err d) f y e = cc
-
-pub chosen : {A : Type 0} (b : Bool) (x y z : A) → cond b x y ≡ z → ((b ≡ true) × (x ≡ z)) ⊎ ((b ≡ false) × (y ≡ z))
-chosen true x y z e = inl (refl, e)
-chosen false x y z e = inr (refl, e)
 
 pub ok_same : {A E : Type 0} (x y : A) → ◌≡◌ {A = Result A E} (Ok x) (Ok y) → x ≡ y
 ok_same x y e = cc

@@ -12,10 +12,11 @@ use Rattle.hb_text.specs.declared.rules.TextRule.{TextRule}
 use Rattle.hb_text.specs.declared.rules.TextRule.TheVariants.{TooMany, LongLine, BadByte, BadSpacing, BadStep}
 use Rattle.hb_space.specs.declared.form.TheConstants.{LINE}
 use Rattle.hb_text.specs.Grammar.{session_read, words_read, says_steps, line_read, lines_read, at_line, text_read, Said, Reading}
-use Rattle.hb_text.specs.Words.{◌>>=◌, words_of, lines_of, is_empty, is_printable}
+use Rattle.hb_text.specs.Words.{words_of, lines_of, is_empty, is_printable}
 use Rattle.hb_text.specs.StepWords.{session_of, steps_read}
 use Rattle.std.proofs.lemmas.Bool.Decides.{nat_tests}
-use Rattle.hb_text.proofs.Facts.ReadingLaws.{bound, chosen, ok_same, at_line_ok}
+use Rattle.hb_lemmas.proofs.Booleans.{chosen}
+use Rattle.hb_text.proofs.Facts.ReadingLaws.{bound, ok_same, at_line_ok}
 use Rattle.hb_text.proofs.Facts.LineLaws.{session_fits, FitsLine, session_line_fits, steps_fit}
 
 -- whether step lines are allowed

@@ -14,7 +14,8 @@ use Rattle.hb_text.specs.Grammar.{Said, Reading, says_steps, says_command, sessi
 use Rattle.hb_text.specs.StepWords.{steps_of, within_schedule, steps_read, session_of}
 use Rattle.hb_text.specs.Operands.{command_read}
 use Rattle.hb_text.specs.Words.{words_of, lines_of, is_empty, is_printable}
-use Rattle.hb_text.proofs.Facts.ReadingLaws.{bound, chosen, at_line_ok, ok_same}
+use Rattle.hb_lemmas.proofs.Booleans.{chosen}
+use Rattle.hb_text.proofs.Facts.ReadingLaws.{bound, at_line_ok, ok_same}
 use Rattle.hb_text.proofs.Facts.ActorLaws.{IsActor, AreActors, all_append, words_actors}
 
 -- the steps of a line: actors, within the schedule, and none where step lines aren't allowed

@@ -2,13 +2,14 @@
 use Rattle.std.specs.Prelude.{◌≡◌, ℕ, suc, ◌+◌, ◌*◌, ◌<◌, ◌≤◌, Bool, true, false, nat_lt, List, [], ◌∷◌, ◌++◌, length, Result, Ok, Err, refl}
 use Rattle.std.proofs.Common.{zero, inl, inr, sym, ap, ◌∙◌, arith, append-nil}
 use Rattle.std.proofs.lemmas.Bool.Decides.{nat_tests}
+use Rattle.std.proofs.lemmas.Bool.{cond-true, cond-false}
 use Rattle.hb_text.specs.declared.rules.TextRule.{TextRule}
 use Rattle.hb_text.specs.declared.rules.TextRule.TheVariants.{TooMany, LongLine}
 use Rattle.hb_text.specs.declared.rules.BadLine.{BadLine}
 use Rattle.hb_space.specs.declared.form.TheConstants.{LINE}
 use Rattle.hb_text.specs.Grammar.{line_read, lines_read, at_line, text_read, with_said, Said, Reading}
 use Rattle.hb_text.specs.Words.{◌>>=◌, lines_of, is_empty}
-use Rattle.hb_text.proofs.Facts.FirstLineFeed.{first_of, HasFeed, HasNoFeed, on_true, on_false, cut}
+use Rattle.hb_text.proofs.Facts.FirstLineFeed.{first_of, HasFeed, HasNoFeed, cut}
 
 -- the rule that a line breaks which is longer than all lines that may follow it, by how many may
 abbrev broken_rule : ℕ → TextRule
@@ -20,14 +21,14 @@ module _ (allowed : Bool) where
   -- the rules that bound the number of lines, and their bytes
   too_many : (k taken number : ℕ) (line : List ℕ) → 1000000 < number → line_read allowed k taken number line ≡ Err TooMany
   unfolding line_read
-  too_many k taken number line many = on_true (nat_lt 1000000 number) _ _ (grind (arith, nat_tests, many))
+  too_many k taken number line many = cond-true (nat_lt 1000000 number) _ _ (grind (arith, nat_tests, many))
 
   too_long : (k taken number : ℕ) (line : List ℕ) → number ≤ 1000000 → 256 < length line → line_read allowed k taken number line ≡ Err LongLine
   unfolding line_read
   too_long k taken number line few long =
-      on_false (nat_lt 1000000 number) _ _ (grind (arith, nat_tests, few))
-      ∙ on_false (is_empty line) _ _ (grind (arith, nat_tests, long))
-      ∙ on_true (nat_lt LINE (length line)) _ _ (grind (arith, nat_tests, long))
+      cond-false (nat_lt 1000000 number) _ _ (grind (arith, nat_tests, few))
+      ∙ cond-false (is_empty line) _ _ (grind (arith, nat_tests, long))
+      ∙ cond-true (nat_lt LINE (length line)) _ _ (grind (arith, nat_tests, long))
 
   line_breaks : (k taken number m : ℕ) (line : List ℕ) → number + m ≡ 1000001 → 257 * m < length line → line_read allowed k taken number line ≡ Err (broken_rule m)
   line_breaks k taken number zero line sum long = too_many k taken number line (omega arith)

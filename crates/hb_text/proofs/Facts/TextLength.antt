@@ -7,7 +7,8 @@ use Rattle.hb_text.specs.declared.rules.TextRule.TheVariants.{TooMany, LongLine,
 use Rattle.hb_space.specs.declared.form.TheConstants.{LINE}
 use Rattle.hb_text.specs.Grammar.{words_read, line_read, lines_read, at_line, text_read, Said, Reading}
 use Rattle.hb_text.specs.Words.{words_of, lines_of, is_empty, is_printable}
-use Rattle.hb_text.proofs.Facts.ReadingLaws.{bound, chosen, at_line_ok}
+use Rattle.hb_lemmas.proofs.Booleans.{chosen}
+use Rattle.hb_text.proofs.Facts.ReadingLaws.{bound, at_line_ok}
 use Rattle.std.proofs.lemmas.Bool.Decides.{nat_tests}
 
 -- the bytes of the lines, each with a line feed behind it

@@ -15,4 +15,7 @@ returns-clause-closed g c =
     (λ zeroed. if_value d.told (λ b. (x : List ℕ) × (new.told ≡ Some x) × HasEmptyPlaces x) (λ b told.
     let long : 8192 ≤ length b = omega (arith, c.requires.room, is_disk.long b (is_disk.as_read b told)) in
     (overwritten b 0 (replicate 8192 0), at_value d.told (λ x. new.told ≡ Some (overwritten x 0 (replicate 8192 0))) b told zeroed, zeroed_places b 8192 (omega arith) long)))
-    c.zero_area.ensures.zeroed
+    c.zero_area.ensures.wrote.written
+
+pub returns-clause-wrote : goal.returns-clause-wrote
+returns-clause-wrote g c = c.zero_area.ensures.wrote.run

@@ -1,4 +1,4 @@
-use Rattle.std.proofs.Common.{◌≡◌, ℕ, List, Option, Some}
+use Rattle.std.proofs.Common.{◌≡◌, ◌+◌, ℕ, List, Option, Some, IsErr, ap, is_err, arith}
 use Rattle.std.specs.Ordering.{nat_cmp}
 use Rattle.std.specs.BTreeMap.{get}
 use Rattle.hb_disk.proofs.Facts.RunLaws.{Leaves-weaker, Leaves-then}
@@ -11,8 +11,10 @@ use Rattle.hb_store.specs.Opening.{OpensTo}
 use Rattle.hb_store.specs.Keeps.{IsFresh}
 use Rattle.hb_restart.specs.Renewing.{StillOpens, IsHere, IsPlaced}
 use Rattle.hb_restart.proofs.Renewed.{still_to}
-use Rattle.hb_layout.specs.Offsets.{file_size}
-use Rattle.hb_restart.proofs.Beyond.{beyond_front, beyond_then}
+use Rattle.hb_layout.specs.Offsets.{file_size, page_offset}
+use Rattle.hb_restart.proofs.Facts.Beyond.{front_within}
+use Rattle.hb_disk.proofs.Facts.FaultLaws.{not_failed}
+use Rattle.hb_restart.proofs.RunsThen.{runs_as, runs_given_up, runs_then}
 use Rattle.hb_restart.specs.WritingBack.{WritesAll}
 use Rattle.hb_restart.proofs.EachOnce.{behind_all, all_written}
 use Rattle.hb_restart.proofs.renewal.rewrite.Goals as goal
@@ -47,10 +49,20 @@ returns-clause-fresh g c =
     (λ fresh said s here. fresh said touched s (c.in_ok-settle.ensures.placed said s here))
     c.switch.ensures.fresh
 
-pub returns-clause-beyond : goal.returns-clause-beyond
-returns-clause-beyond g c =
-    beyond_then (file_size c.args.found.now.meta) (g.D.Device.model c.args.disk.now) (g.D.Device.model c.settle.new.disk) (g.D.Device.model c.switch.new.disk)
-    c.settle.ensures.beyond (beyond_front c.args.found.now.meta (g.D.Device.model c.settle.new.disk) (g.D.Device.model c.switch.new.disk) c.switch.ensures.front)
+pub returns-in_err-settle-clause-run : goal.returns-in_err-settle-clause-run
+returns-in_err-settle-clause-run g c =
+    let n = file_size c.args.found.now.meta in
+    let high = c.args.found.now.meta.high in
+    runs_given_up c.settle.result c.from_residual.result high (high + 11) n n (g.D.Device.model c.args.disk.now) (g.D.Device.model c.settle.new.disk) (ap is_err c.in_err-settle.was) c.from_residual.ensures.0 (omega arith) (omega arith) c.settle.ensures.run
+
+pub returns-clause-run : goal.returns-clause-run
+returns-clause-run g c =
+    let meta = c.args.found.now.meta in
+    let n = file_size meta in
+    let mid = g.D.Device.model c.settle.new.disk in
+    let new = g.D.Device.model c.switch.new.disk in
+    runs_then meta.high 11 n (g.D.Device.model c.args.disk.now) mid new (not_failed c.settle.result c.in_ok-settle.field-0 c.in_ok-settle.was) c.settle.ensures.run
+    (runs_as {F = IsErr c.switch.result} {G = IsErr c.switch.result} 11 11 (page_offset meta 1) n mid new (omega arith) (front_within meta) (λ f. f) (λ f. f) c.switch.ensures.run)
 
 pub returns-in_err-settle-clause-once : goal.returns-in_err-settle-clause-once
 returns-in_err-settle-clause-once g c = λ said s b here told. c.settle.ensures.once b told
@@ -60,7 +72,7 @@ returns-clause-once g c = λ said s b here told.
     let mid = g.D.Device.model c.settle.new.disk in
     let touched = get nat_cmp c.args.found.now.touched in
     behind_all (g.D.Device.model c.args.disk.now).clock b c.args.found.now.meta touched mid (g.D.Device.model c.switch.new.disk) (c.in_ok-settle.ensures.written b told)
-    (c.switch.ensures.moments said touched s (c.in_ok-settle.ensures.placed said s here)).later c.switch.ensures.front
+    (c.switch.ensures.moments said touched s (c.in_ok-settle.ensures.placed said s here)).later c.switch.ensures.run.beyond
 
 pub returns-clause-all : goal.returns-clause-all
 returns-clause-all g c =
@@ -72,5 +84,5 @@ returns-clause-all g c =
     on_ok c.switch.result ((said : Meta) (s : FileState) (b : List ℕ) → IsHere d c.args.found.now.turn said meta touched s → d.told ≡ Some b → WritesAll d.clock b meta touched new)
     (λ said s b here told.
     let written = c.in_ok-settle.ensures.written b told in
-    all_written d.clock b meta touched mid new written (c.switch.ensures.moments said touched s (c.in_ok-settle.ensures.placed said s here)).later c.switch.ensures.front
-    (c.switch.ensures.run.clock written.tells))
+    all_written d.clock b meta touched mid new written (c.switch.ensures.moments said touched s (c.in_ok-settle.ensures.placed said s here)).later c.switch.ensures.run.beyond
+    (c.switch.ensures.run.few written.tells))

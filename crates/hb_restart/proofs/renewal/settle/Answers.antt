@@ -1,11 +1,12 @@
-use Rattle.std.proofs.Common.{◌≡◌, ◌∙◌, ℕ, refl, subst, arith}
+use Rattle.std.proofs.Common.{◌≡◌, ◌+◌, ◌≤◌, ℕ, IsErr, ap, is_err, refl, subst, arith}
 use Rattle.std.specs.Ordering.{nat_cmp}
 use Rattle.std.specs.BTreeMap.{get}
 use Rattle.hb_disk.proofs.Facts.RunLaws.{Leaves-start, Leaves-then}
 use Rattle.hb_layout.specs.Offsets.{file_size}
 use Rattle.hb_super.specs.Superblocks.{next_turn}
 use Rattle.hb_restart.specs.Renewing.{IsPlacedTo, StillOpens}
-use Rattle.hb_restart.proofs.Beyond.{beyond_none, beyond_then}
+use Rattle.hb_disk.proofs.Facts.FaultLaws.{not_failed}
+use Rattle.hb_restart.proofs.RunsThen.{runs_as, runs_none, runs_then}
 use Rattle.hb_restart.proofs.Renewed.{placed_none}
 use Rattle.hb_restart.specs.WritingBack.{IsWrittenTo}
 use Rattle.hb_restart.proofs.EachOnce.{between, written_none}
@@ -17,25 +18,31 @@ returns-in_err-settle_one-clause-moments g c = λ said s here.
     Leaves-then (g.D.Device.model c.args.disk.now) (g.D.Device.model c.loop-place.disk) (g.D.Device.model c.settle_one.new.disk) (StillOpens found.turn said found.meta (get nat_cmp found.touched) s)
     (c.loop-place.invariant.moments said s here) (c.settle_one.ensures.moments said s (c.loop-place.invariant.placed said s here).here)
 
-pub returns-in_err-settle_one-clause-beyond : goal.returns-in_err-settle_one-clause-beyond
-returns-in_err-settle_one-clause-beyond g c =
-    beyond_then (file_size c.args.found.now.meta) (g.D.Device.model c.args.disk.now) (g.D.Device.model c.loop-place.disk) (g.D.Device.model c.settle_one.new.disk)
-    c.loop-place.invariant.beyond c.settle_one.ensures.beyond
+pub returns-in_err-settle_one-clause-run : goal.returns-in_err-settle_one-clause-run
+returns-in_err-settle_one-clause-run g c =
+    let n = file_size c.args.found.now.meta in
+    let d = g.D.Device.model c.args.disk.now in
+    let mid = g.D.Device.model c.loop-place.disk in
+    let new = g.D.Device.model c.settle_one.new.disk in
+    runs_as {F = IsErr c.settle_one.result} {G = IsErr c.from_residual.result} (c.loop-place.place + 1) c.args.found.now.meta.high n n d new (omega (arith, c.loop-place-test.true)) (omega arith)
+    (λ f. c.from_residual.ensures.0) (λ f. ap is_err c.in_err-settle_one.was)
+    (runs_then c.loop-place.place 1 n d mid new (λ never. never) c.loop-place.invariant.run c.settle_one.ensures.run)
+
+pub returns-clause-run : goal.returns-clause-run
+returns-clause-run g c =
+    let n = file_size c.args.found.now.meta in
+    let last : c.loop-place.place ≤ c.args.found.now.meta.high = omega (arith, c.loop-place-test.false, c.loop-place.auto.place-end) in
+    runs_as {F = ⊥} c.loop-place.place c.args.found.now.meta.high n n (g.D.Device.model c.args.disk.now) (g.D.Device.model c.loop-place.disk) last (omega arith)
+    (λ never. absurd never) (λ f. let never : ⊥ = cc f in never) c.loop-place.invariant.run
 
 pub loop-place-init : goal.loop-place-init
 loop-place-init g c =
     let found = c.args.found.now in
     let d = g.D.Device.model c.args.disk.now in
     record {
-      size = refl;
-      silent = λ e. e;
-      tells = λ e. e;
-      clock = λ e. omega arith;
-      reads = refl;
-      writes = refl;
-      beyond = beyond_none (file_size found.meta) d (g.met.D.Device.is_disk c.args.disk.now);
+      run = runs_none {F = ⊥} 0 (file_size found.meta) d (g.met.D.Device.is_disk c.args.disk.now) (λ never. never);
       moments = λ said s here. Leaves-start d (StillOpens found.turn said found.meta (get nat_cmp found.touched) s) (g.met.D.Device.is_disk c.args.disk.now) here.images;
-      placed = λ said s here. placed_none found.turn (next_turn found.turn) said found.meta c.requires.whole.legal.turn_fits refl (get nat_cmp found.touched) s d here;
+      placed = λ said s here. placed_none found.turn (next_turn found.turn) said found.meta c.requires.renewable.whole.legal.turn_fits refl (get nat_cmp found.touched) s d here;
       written = λ b told. written_none d.clock b found.meta (get nat_cmp found.touched) d told refl;
     }
 
@@ -43,19 +50,14 @@ pub loop-place-preserved : goal.loop-place-preserved
 loop-place-preserved g c =
     let found = c.args.found.now in
     let kept = c.loop-place.invariant in
-    let run = c.settle_one.ensures.run in
-    let no_fault = c.in_ok-settle_one.ensures.run.no_fault in
+    let n = file_size found.meta in
     let d = g.D.Device.model c.args.disk.now in
     let mid = g.D.Device.model c.loop-place.disk in
     let new = g.D.Device.model c.settle_one.new.disk in
     record {
-      size = run.size ∙ kept.size;
-      silent = λ e. run.silent (kept.silent e);
-      tells = λ e. run.tells (kept.tells e);
-      clock = λ e. let one = run.clock (kept.tells e) in let before = kept.clock e in omega (arith, one, before);
-      reads = no_fault.0 ∙ kept.reads;
-      writes = no_fault.1 ∙ kept.writes;
-      beyond = beyond_then (file_size found.meta) d mid new kept.beyond c.settle_one.ensures.beyond;
+      run = runs_as {F = IsErr c.settle_one.result} {G = ⊥} (c.loop-place.place + 1) (c.loop-place.place + 1) n n d new (omega arith) (omega arith)
+          (λ f. not_failed c.settle_one.result c.in_ok-settle_one.field-0 c.in_ok-settle_one.was f) (λ never. absurd never)
+          (runs_then c.loop-place.place 1 n d mid new (λ never. never) kept.run c.settle_one.ensures.run);
       moments = λ said s here. Leaves-then d mid new (StillOpens found.turn said found.meta (get nat_cmp found.touched) s)
           (kept.moments said s here) (c.settle_one.ensures.moments said s (kept.placed said s here).here);
       placed = λ said s here. c.in_ok-settle_one.ensures.placed said s c.loop-place.place refl (kept.placed said s here);

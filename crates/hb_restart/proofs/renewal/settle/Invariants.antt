@@ -1,25 +1,18 @@
-use Rattle.std.proofs.Common.{◌≡◌, ◌+◌, ◌≤◌, ℕ, List, Some, None, IsSome}
+use Rattle.std.proofs.Common.{◌≡◌, ℕ, List, Some}
 use Rattle.std.specs.Ordering.{nat_cmp}
 use Rattle.std.specs.BTreeMap.{get}
 use Rattle.hb_disk.specs.Calls.{Leaves}
 use Rattle.hb_layout.specs.Offsets.{file_size}
 use Rattle.hb_layout.specs.declared.meta.Meta.{Meta}
 use Rattle.hb_ops.specs.Files.{FileState}
-use Rattle.hb_restart.specs.Beyond.{KeepsBeyond}
-use Rattle.hb_restart.specs.Renewing.{StillOpens, IsHere, IsPlacedTo}
+use Rattle.hb_restart.specs.Renewing.{StillOpens, IsHere, IsPlacedTo, Runs}
 use Rattle.hb_restart.specs.WritingBack.{IsWrittenTo}
 use Rattle.hb_restart.proofs.renewal.settle.Given as goal
 
 -- the pages up to this one stand in their places, and no call failed
 abbrev pub invariant-loop-place : goal.invariant-loop-place
 invariant-loop-place g l = record {
-  size : (g.D.Device.model l.disk).size ≡ (g.D.Device.model l.fn.disk).size;
-  silent : (g.D.Device.model l.fn.disk).told ≡ None → (g.D.Device.model l.disk).told ≡ None;
-  tells : IsSome (g.D.Device.model l.fn.disk).told → IsSome (g.D.Device.model l.disk).told;
-  clock : IsSome (g.D.Device.model l.fn.disk).told → (g.D.Device.model l.disk).clock ≤ (g.D.Device.model l.fn.disk).clock + l.place;
-  reads : (g.D.Device.model l.disk).read_faults ≡ (g.D.Device.model l.fn.disk).read_faults;
-  writes : (g.D.Device.model l.disk).write_faults ≡ (g.D.Device.model l.fn.disk).write_faults;
-  beyond : KeepsBeyond (file_size l.found.meta) (g.D.Device.model l.fn.disk) (g.D.Device.model l.disk);
+  run : Runs l.place (file_size l.found.meta) ⊥ (g.D.Device.model l.fn.disk) (g.D.Device.model l.disk);
   moments : (said : Meta) (s : FileState) → IsHere (g.D.Device.model l.fn.disk) l.found.turn said l.found.meta (get nat_cmp l.found.touched) s →
       Leaves (g.D.Device.model l.fn.disk) (g.D.Device.model l.disk) (StillOpens l.found.turn said l.found.meta (get nat_cmp l.found.touched) s);
   placed : (said : Meta) (s : FileState) → IsHere (g.D.Device.model l.fn.disk) l.found.turn said l.found.meta (get nat_cmp l.found.touched) s →

@@ -15,9 +15,9 @@ returns-clause-there g c =
     let bytes = c.encode.new.into in
     on_ok_weaker c.write.result (IfSome d.told (λ b. new.told ≡ Some (overwritten b c.page_offset.result bytes)))
     ((b : List ℕ) → new.told ≡ Some b → SpellsPage (place_bytes meta c.args.id b) c.args.page.now)
-    (page_written d new (g.met.D.Device.is_disk c.args.disk.now) c.page_offset.result bytes meta c.args.id c.args.page.now c.page_offset.ensures c.encode.ensures c.requires.room c.requires.some c.requires.most
-    c.write.ensures.writes.silent)
-    c.write.ensures.writes.written
+    (page_written d new (g.met.D.Device.is_disk c.args.disk.now) c.page_offset.result bytes meta c.args.id c.args.page.now c.page_offset.ensures c.encode.ensures c.requires.has.room c.requires.has.some c.requires.has.most
+    c.write.ensures.silent)
+    c.write.ensures.written
 
 pub returns-clause-place : goal.returns-clause-place
 returns-clause-place g c =
@@ -27,4 +27,4 @@ returns-clause-place g c =
     let bytes = c.encode.new.into in
     becomes_there d new c.page_offset.result (length bytes) meta c.args.id c.page_offset.ensures c.encode.ensures.long
     (Becomes-write c.write.result c.page_offset.result bytes d new (g.met.D.Device.is_disk c.args.disk.now) (g.met.D.Device.is_disk c.write.new.self)
-    (omega (arith, c.page_offset.ensures, c.encode.ensures.long, c.requires.room, c.requires.some, c.requires.most)) c.write.ensures.writes c.write.ensures.ticks)
+    (omega (arith, c.page_offset.ensures, c.encode.ensures.long, c.requires.has.room, c.requires.has.some, c.requires.has.most)) c.write.ensures)

@@ -13,3 +13,6 @@ returns-clause-there g c =
     (IfSome told (λ b. into ≡ place_bytes meta c.args.id b))
     (λ reads. place_read told into meta c.args.id c.page_offset.result c.page_offset.ensures (omega (arith, c.told-into, c.read.auto.into)) reads)
     c.read.ensures.bytes
+
+pub returns-clause-only : goal.returns-clause-only
+returns-clause-only g c = c.read.ensures.only

@@ -1,37 +1,40 @@
 use Rattle.hb_sound.proofs.PostSound.{postings_change_parent, postings_keep_contents, postings_keep_direct, postings_keep_sound, postings_name}
+use Rattle.hb_sound.proofs.OneLevel.{TreeLaws}
+use Rattle.hb_sound.proofs.PostedPage.{PostLaws}
+use Rattle.hb_sound.proofs.Partition.{SpaceLaws}
 use Rattle.hb_sound.proofs.laws.a_posting_keeps_a_file_sound.Goals as goal
+use Rattle.hb_sound.proofs.laws.a_posting_keeps_a_file_sound.Goals.{After-common_box_is_a_box}
+
+trees : After-common_box_is_a_box → TreeLaws
+trees c = record { areas = c.leaves_part_the_box.ensures.areas; attributes = c.leaves_part_the_box.ensures.attributes; within = c.leaves_part_the_box.ensures.within; some = c.each_point_has_one_leaf.ensures.some; only = c.each_point_has_one_leaf.ensures.only }
+
+space : After-common_box_is_a_box → SpaceLaws
+space c = record { area = c.whole_space_holds_every_point.ensures.area; points = c.whole_space_holds_every_point.ensures.points }
+
+posts : After-common_box_is_a_box → PostLaws
+posts c = record { parts = c.parts_are_stretches.ensures.leaves; carves = c.carving_parts_a_leaf.ensures.parts; no_siblings = c.carving_parts_a_leaf.ensures.siblings; all_joined = c.normal_says_the_same.ensures.normal; same = c.normal_says_the_same.ensures.same; common = c.common_box_is_a_box.ensures.points }
 
 pub returns-clause-sound : goal.returns-clause-sound
 returns-clause-sound c =
-    postings_keep_sound
-    (record { areas = c.leaves_part_the_box.ensures.areas; attributes = c.leaves_part_the_box.ensures.attributes; within = c.leaves_part_the_box.ensures.within; some = c.each_point_has_one_leaf.ensures.some; only = c.each_point_has_one_leaf.ensures.only })
-    (record { area = c.whole_space_holds_every_point.ensures.area; points = c.whole_space_holds_every_point.ensures.points })
-    (record { parts = c.parts_are_stretches.ensures.leaves; carves = c.carving_parts_a_leaf.ensures.parts; no_siblings = c.carving_parts_a_leaf.ensures.siblings; all_joined = c.normal_says_the_same.ensures.normal; same = c.normal_says_the_same.ensures.same; common = c.common_box_is_a_box.ensures.points })
+    let at = (goal.at.returns-clause-sound c).After-common_box_is_a_box in
+    postings_keep_sound (trees at) (space at) (posts at)
 
 pub returns-clause-contents : goal.returns-clause-contents
 returns-clause-contents c =
-    postings_keep_contents
-    (record { areas = c.leaves_part_the_box.ensures.areas; attributes = c.leaves_part_the_box.ensures.attributes; within = c.leaves_part_the_box.ensures.within; some = c.each_point_has_one_leaf.ensures.some; only = c.each_point_has_one_leaf.ensures.only })
-    (record { area = c.whole_space_holds_every_point.ensures.area; points = c.whole_space_holds_every_point.ensures.points })
-    (record { parts = c.parts_are_stretches.ensures.leaves; carves = c.carving_parts_a_leaf.ensures.parts; no_siblings = c.carving_parts_a_leaf.ensures.siblings; all_joined = c.normal_says_the_same.ensures.normal; same = c.normal_says_the_same.ensures.same; common = c.common_box_is_a_box.ensures.points })
+    let at = (goal.at.returns-clause-contents c).After-common_box_is_a_box in
+    postings_keep_contents (trees at) (space at) (posts at)
 
 pub returns-clause-direct : goal.returns-clause-direct
 returns-clause-direct c =
-    postings_keep_direct
-    (record { areas = c.leaves_part_the_box.ensures.areas; attributes = c.leaves_part_the_box.ensures.attributes; within = c.leaves_part_the_box.ensures.within; some = c.each_point_has_one_leaf.ensures.some; only = c.each_point_has_one_leaf.ensures.only })
-    (record { area = c.whole_space_holds_every_point.ensures.area; points = c.whole_space_holds_every_point.ensures.points })
-    (record { parts = c.parts_are_stretches.ensures.leaves; carves = c.carving_parts_a_leaf.ensures.parts; no_siblings = c.carving_parts_a_leaf.ensures.siblings; all_joined = c.normal_says_the_same.ensures.normal; same = c.normal_says_the_same.ensures.same; common = c.common_box_is_a_box.ensures.points })
+    let at = (goal.at.returns-clause-direct c).After-common_box_is_a_box in
+    postings_keep_direct (trees at) (space at) (posts at)
 
 pub returns-clause-pages : goal.returns-clause-pages
 returns-clause-pages c =
-    postings_change_parent
-    (record { areas = c.leaves_part_the_box.ensures.areas; attributes = c.leaves_part_the_box.ensures.attributes; within = c.leaves_part_the_box.ensures.within; some = c.each_point_has_one_leaf.ensures.some; only = c.each_point_has_one_leaf.ensures.only })
-    (record { area = c.whole_space_holds_every_point.ensures.area; points = c.whole_space_holds_every_point.ensures.points })
-    (record { parts = c.parts_are_stretches.ensures.leaves; carves = c.carving_parts_a_leaf.ensures.parts; no_siblings = c.carving_parts_a_leaf.ensures.siblings; all_joined = c.normal_says_the_same.ensures.normal; same = c.normal_says_the_same.ensures.same; common = c.common_box_is_a_box.ensures.points })
+    let at = (goal.at.returns-clause-pages c).After-common_box_is_a_box in
+    postings_change_parent (trees at) (space at) (posts at)
 
 pub returns-clause-names : goal.returns-clause-names
 returns-clause-names c =
-    postings_name
-    (record { areas = c.leaves_part_the_box.ensures.areas; attributes = c.leaves_part_the_box.ensures.attributes; within = c.leaves_part_the_box.ensures.within; some = c.each_point_has_one_leaf.ensures.some; only = c.each_point_has_one_leaf.ensures.only })
-    (record { area = c.whole_space_holds_every_point.ensures.area; points = c.whole_space_holds_every_point.ensures.points })
-    (record { parts = c.parts_are_stretches.ensures.leaves; carves = c.carving_parts_a_leaf.ensures.parts; no_siblings = c.carving_parts_a_leaf.ensures.siblings; all_joined = c.normal_says_the_same.ensures.normal; same = c.normal_says_the_same.ensures.same; common = c.common_box_is_a_box.ensures.points })
+    let at = (goal.at.returns-clause-names c).After-common_box_is_a_box in
+    postings_name (trees at) (space at) (posts at)

@@ -1,14 +1,15 @@
 use Rattle.std.proofs.Common.{◌∙◌, ap}
 use Rattle.std.proofs.lemmas.Bool.{false≢true}
+use Rattle.std.proofs.lemmas.Bool.{cond-true}
 use Rattle.hb_text.specs.Grammar.{says_steps}
-use Rattle.hb_text.proofs.StepWords.{read_some, read_none, when}
+use Rattle.hb_text.proofs.StepWords.{read_some, read_none}
 use Rattle.hb_text.proofs.lines.read_step_line.Goals as goal
 
 pub returns-in-Some : goal.returns-in-Some
 returns-in-Some c =
     let found = read_some c.args.taken c.args.words.now c.in-Some.field-0 c.left_behind.result c.requires (λ none. false≢true (c.if-is_done.ensures.1 none)) c.left_behind.ensures c.in-Some.is in
-    (found.0, when c.args.allowed _ _ (c.if-not-allowed.false) ∙ ap says_steps found.1, found.2, found.3)
+    (found.0, cond-true c.args.allowed _ _ (c.if-not-allowed.false) ∙ ap says_steps found.1, found.2, found.3)
 
 pub returns-in-None : goal.returns-in-None
 returns-in-None c =
-    when c.args.allowed _ _ (c.if-not-allowed.false) ∙ ap says_steps (read_none c.args.taken c.args.words.now c.left_behind.result c.requires c.left_behind.ensures c.in-None.is)
+    cond-true c.args.allowed _ _ (c.if-not-allowed.false) ∙ ap says_steps (read_none c.args.taken c.args.words.now c.left_behind.result c.requires c.left_behind.ensures c.in-None.is)

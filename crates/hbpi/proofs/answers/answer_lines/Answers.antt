@@ -15,8 +15,7 @@ loop-line-init g c = record {
   answered_room = omega (arith, c.in_ok-answered.ensures.exact);
   order_count = omega (arith, ap length c.in_ok-order.ensures.items);
   order_room = omega (arith, c.in_ok-order.ensures.exact);
-  later = omega arith;
-  put = has_put_none _ _ _ c.in_ok-answered.ensures.items;
+  put = has_put_none _ _ c.in_ok-answered.ensures.items;
 }
 
 pub answer-reply-requires : goal.answer-reply-requires
@@ -40,8 +39,7 @@ loop-line-preserved g c =
       answered_room = omega (arith, c.keep_answer.ensures.room, before.answered_room);
       order_count = omega (arith, c.join_order.ensures.one, before.order_count, c.join_order.new.order.ok.0, c.loop-line.order.ok.0);
       order_room = omega (arith, c.join_order.ensures.room, before.order_room);
-      later = omega (arith, c.put_answer-failed.ensures.later, before.later);
-      put = rw (answer_texts c.loop-line.answered.items _ _ kept) (has_put_more _ _ _ _ _ _ _ _ _ _ before.put c.put_answer-failed.ensures.puts);
+      put = rw (answer_texts c.loop-line.answered.items _ _ kept) (has_put_more _ _ _ _ _ _ _ before.put c.put_answer-put.ensures);
     }
 
 pub returns-clause-run : goal.returns-clause-run
@@ -50,3 +48,6 @@ returns-clause-run g c =
 
 pub returns-clause-few : goal.returns-clause-few
 returns-clause-few g c = omega (arith, script_is_short c.requires.0 c.args.lines.now c.requires.1, c.loop-line.invariant.order_count, c.loop-line.auto.line-index-end)
+
+pub returns-clause-later : goal.returns-clause-later
+returns-clause-later g c = c.loop-line.invariant.put.counts.later

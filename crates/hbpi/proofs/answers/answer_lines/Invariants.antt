@@ -6,7 +6,7 @@ use Rattle.hb_set.specs.Machine.{HasAttributes}
 use Rattle.hb_set.specs.Order.{Ran, entries_of, order_of}
 use Rattle.hb_set.specs.Scripts.{IsScriptFor}
 use Rattle.hb_text.specs.Output.{answer_text}
-use Rattle.hbpi.specs.DryParts.{HasPutText}
+use Rattle.hb_outside.specs.Calls.{Puts}
 use Rattle.hbpi.proofs.answers.answer_lines.Given as goal
 
 -- the lines so far were answered, and the text of their answers was put
@@ -19,6 +19,5 @@ invariant-loop-line g l = record {
   answered_room : length l.lines ≤ vec_capacity l.answered;
   order_count : length l.order.items ≤ l.line-index;
   order_room : length l.lines ≤ vec_capacity l.order;
-  later : g.K.Sink.faults l.fn.sink ≤ g.K.Sink.faults l.sink;
-  put : HasPutText (g.K.Sink.written l.fn.sink) (g.K.Sink.written l.sink) (g.K.Sink.faults l.fn.sink) (g.K.Sink.faults l.sink) l.failed (flat_map answer_text l.answered.items);
+  put : Puts (flat_map answer_text l.answered.items) l.put (g.K.Sink.model l.fn.sink) (g.K.Sink.model l.sink);
 }

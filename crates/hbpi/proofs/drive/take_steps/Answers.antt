@@ -31,7 +31,7 @@ loop-init g c =
       whole = c.requires.whole;
       lines = refl;
       attributes = refl;
-      put = has_put_none _ _ _ none;
+      put = has_put_none _ _ none;
       room = c.requires.room;
       in_log = in_log_same (g.D.Device.model (core_disk c.args.core.now)) (core_seen c.args.core.now) (core_seen c.args.core.now) (core_seen c.args.core.now) (g.met.D.Device.is_disk (core_disk c.args.core.now)) refl refl refl;
       silent = λ told. told;
@@ -46,8 +46,8 @@ step-outcome-requires-clause-kept g c = λ told.
     let run = c.loop.invariant.runs first.0 first.1 in
     (first.0, run.done, run.keeps)
 
-pub take_answer-failed-requires : goal.take_answer-failed-requires
-take_answer-failed-requires g c =
+pub take_answer-put-requires : goal.take_answer-put-requires
+take_answer-put-requires g c =
     let before = c.loop.invariant in
     omega (
       arith,
@@ -64,7 +64,7 @@ loop-preserved g c =
     let outcome = c.step-outcome.result in
     let at = c.clock-at.result in
     let step = c.step-outcome.ensures in
-    let kept = c.take_answer-failed.ensures.kept in
+    let kept = c.take_answer-put.ensures.kept in
     let F : List Answered → Type 0 = λ answered. AnswersFirst new answered in
     let order = order_more old new outcome before.order.0 step.moves before.order.1 in
     let rising = subst (λ (ls : List Line). AreRising ls) (sym before.lines) c.requires.script.rising in
@@ -83,8 +83,8 @@ loop-preserved g c =
       whole = step.whole;
       lines = step.moves.lines ∙ before.lines;
       attributes = step.attributes ∙ before.attributes;
-      put = puts_more _ (g.K.Sink.written c.loop.sink) _ _ (g.K.Sink.faults c.loop.sink) _ c.loop.failed _ c.loop.answered.items _ (answers_of outcome at) kept before.put c.take_answer-failed.ensures.puts;
-      room = omega (arith, before.room, c.take_answer-failed.ensures.room, ap length step.moves.lines);
+      put = puts_more _ (g.K.Sink.model c.loop.sink) _ c.loop.put _ c.loop.answered.items _ (answers_of outcome at) kept before.put c.take_answer-put.ensures.puts;
+      room = omega (arith, before.room, c.take_answer-put.ensures.room, ap length step.moves.lines);
       in_log = in_log_then (g.D.Device.model (core_disk c.args.core.now)) (g.D.Device.model (core_disk c.loop.core)) (g.D.Device.model (core_disk c.step-outcome.new.self)) (core_seen c.args.core.now) old new before.in_log step.in_log;
       silent = λ none. step.silent (before.silent none);
       runs = λ n first.

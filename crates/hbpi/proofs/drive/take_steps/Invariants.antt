@@ -5,7 +5,7 @@ use Rattle.hb_set.specs.Machine.{RecordSet}
 use Rattle.hb_set.specs.declared.scripts.Line.{Line}
 use Rattle.hb_text.specs.Output.{answer_text}
 use Rattle.hb_store.specs.Keeps.{last_of}
-use Rattle.hbpi.specs.DryParts.{HasPutText}
+use Rattle.hb_outside.specs.Calls.{Puts}
 use Rattle.hbpi.specs.Beyond.{StaysInLog}
 use Rattle.hbpi.specs.Core.{IsCore}
 use Rattle.hbpi.specs.Keeping.{EngineKeeps}
@@ -24,7 +24,7 @@ invariant-loop g l = record {
   whole : IsCore (core_seen l.core);
   lines : (core_seen l.core).lines ≡ (core_seen l.fn.core).lines;
   attributes : (core_seen l.core).store.meta.k ≡ (core_seen l.fn.core).store.meta.k;
-  put : HasPutText (g.K.Sink.written l.fn.sink) (g.K.Sink.written l.sink) (g.K.Sink.faults l.fn.sink) (g.K.Sink.faults l.sink) l.failed (flat_map answer_text l.answered.items);
+  put : Puts (flat_map answer_text l.answered.items) l.put (g.K.Sink.model l.fn.sink) (g.K.Sink.model l.sink);
   room : length (core_seen l.core).lines ≤ vec_capacity l.answered;
   in_log : StaysInLog (g.D.Device.model (core_disk l.fn.core)) (core_seen l.fn.core) (g.D.Device.model (core_disk l.core)) (core_seen l.core);
   silent : (g.D.Device.model (core_disk l.fn.core)).told ≡ None → (g.D.Device.model (core_disk l.core)).told ≡ None;

@@ -6,7 +6,7 @@ use Rattle.hb_store.specs.Opening.{OpensTo}
 use Rattle.hb_store.specs.Seen.{seen_as, disk_of}
 use Rattle.hbpi.specs.Codes.{start_status}
 use Rattle.hbpi.specs.Driven.{DriveCommandEnds, IsShutOut}
-use Rattle.hbpi.specs.SeenRuns.{Seen}
+use Rattle.hbpi.specs.SeenRuns.{Seen, seen_by}
 use Rattle.hbpi.specs.Outcome.{GetsLine, fault_line}
 use Rattle.hbpi.specs.declared.starting.StartFault.TheVariants as starts
 use Rattle.hbpi.specs.declared.statuses.Status.{Status}
@@ -40,22 +40,11 @@ returns-in-Err-clause-ends g c =
     let d : DiskModel = M c.args.disk in
     let facts = c.in-Err.ensures in
     let fault = c.in-Err.fault in
-    let seen : Seen = record {
-      left = g.S.Source.left c.args.source.now;
-      rest = g.S.Source.left c.args.source.now;
-      source_before = g.S.Source.faults c.args.source.now;
-      source_after = g.S.Source.faults c.args.source.now;
-      held = g.K.Sink.written c.args.sink;
-      holds = g.K.Sink.written c.refused.result.sink;
-      sink_before = g.K.Sink.faults c.args.sink;
-      sink_after = g.K.Sink.faults c.refused.result.sink;
-      answered = c.refused.result.answered.items;
-      order = c.refused.result.order.items;
-    } in
+    let seen : Seen = seen_by (g.S.Source.model c.args.source.now) (g.S.Source.model c.args.source.now) (g.K.Sink.model c.args.sink) (g.K.Sink.model c.refused.result.sink) c.refused.result.answered.items c.refused.result.order.items in
     let status : c.refused.result.status ≡ start_status fault = c.refused.ensures.status ∙ c.from.ensures in
     let out : IsShutOut d (M c.in-Err.disk) seen fault = record {
       refused = record {
-        line = subst (λ (x : Status). GetsLine seen.held seen.holds seen.sink_before seen.sink_after (fault_line x)) c.from.ensures c.refused.ensures.line;
+        line = subst (λ (x : Status). GetsLine seen.sink_before seen.sink_after (fault_line x)) c.from.ensures c.refused.ensures.line;
         none_answered = c.refused.ensures.answered;
         none_ordered = c.refused.ensures.order;
       };

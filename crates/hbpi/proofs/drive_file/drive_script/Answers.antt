@@ -15,7 +15,7 @@ use Rattle.hbpi.specs.Drives.{RunsTo}
 use Rattle.hbpi.specs.Driven.{OpenedEnds, status_after}
 use Rattle.hbpi.specs.Schedules.{IsScheduled, IsServedScript}
 use Rattle.hbpi.specs.Moves.{MovesOn, shown}
-use Rattle.hbpi.specs.SeenRuns.{Seen, IsRefused}
+use Rattle.hbpi.specs.SeenRuns.{Seen, IsRefused, seen_by}
 use Rattle.hbpi.specs.Starting.{IsOnePage}
 use Rattle.hbpi.specs.Outcome.{GetsLine, fault_line}
 use Rattle.hbpi.specs.declared.statuses.Status.{Status}
@@ -23,7 +23,7 @@ use Rattle.hbpi.specs.declared.statuses.Status.TheVariants.{NoMemory}
 use Rattle.hbpi.proofs.ScheduleRuns.{schedule_ends, even_store, one_page_of, turned_away, away_on, refused_on}
 use Rattle.hb_layout.specs.Offsets.{file_size}
 use Rattle.hb_restart.specs.Beyond.{KeepsBeyond}
-use Rattle.hbpi.proofs.Beyond.{beyond_none}
+use Rattle.hb_restart.proofs.Facts.Beyond.{beyond_none}
 use Rattle.hbpi.proofs.InLog.{new_beyond}
 use Rattle.hbpi.proofs.drive_file.drive_script.Goals as goal
 
@@ -34,25 +34,14 @@ drive-requires-clause-kept g c tells =
     (contents_of kept.0, (c.in-Ok.ensures.keeps kept.0 c.requires.new kept.1 (ap (λ (m : Meta). m.root) meta ∙ c.requires.one_page.0) (ap (λ (m : Meta). m.high) meta ∙ c.requires.one_page.1) (ap (λ (m : Meta). m.height) meta ∙ c.requires.one_page.2) kept.2).0)
 
 pub returns-in-Ok-clause-ends : goal.returns-in-Ok-clause-ends
-returns-in-Ok-clause-ends g c left rest before after scheduled same_source =
+returns-in-Ok-clause-ends g c before after scheduled same_source =
     let M : g.row.D.Denot → DiskModel = g.D.Device.model in
     let store = c.args.store in
     let core = core_seen c.in-Ok.core in
     let ran = core_seen c.drive.result.core in
     let d : DiskModel = M (core_disk c.in-Ok.core) in
     let e : DiskModel = M (core_disk c.drive.result.core) in
-    let S : List Answered → List ℕ → Seen = λ a o. record {
-      left = left;
-      rest = rest;
-      source_before = before;
-      source_after = after;
-      held = g.K.Sink.written c.args.sink;
-      holds = g.K.Sink.written c.finish.result.sink;
-      sink_before = g.K.Sink.faults c.args.sink;
-      sink_after = g.K.Sink.faults c.finish.result.sink;
-      answered = a;
-      order = o;
-    } in
+    let S : List Answered → List ℕ → Seen = λ a o. seen_by before after (g.K.Sink.model c.args.sink) (g.K.Sink.model c.finish.result.sink) a o in
     let seen : Seen = S c.drive.result.answered.items ran.order in
     let stored : core.store ≡ seen_as store = ap (λ (x : CoreState). x.store) c.in-Ok.ensures.seen in
     let lines : core.lines ≡ c.args.script.lines = ap (λ (x : CoreState). x.lines) c.in-Ok.ensures.seen ∙ c.into_vec.ensures in
@@ -60,8 +49,8 @@ returns-in-Ok-clause-ends g c left rest before after scheduled same_source =
     let kept : IsSome d.told → (s : FileState) × IsSound s × StoreKeeps d (seen_as store) s [] = λ t.
     let here = c.requires.kept (tells t) in
     (here.0, here.1, subst (λ (x : g.row.D.Denot). StoreKeeps (M x) (seen_as store) here.0 []) (sym c.in-Ok.ensures.disk) here.2) in
-    let ends = schedule_ends c.drive.result.end c.finish.result.status d e seen store.memory.meta.k core ran c.args.script.steps (g.K.Sink.written c.drive.result.sink) (g.K.Sink.faults c.drive.result.sink) (record {
-      scheduled = subst (λ (ls : List Line). IsScheduled store.memory.meta.k left rest ls c.args.script.steps) (sym lines) scheduled;
+    let ends = schedule_ends c.drive.result.end c.finish.result.status d e seen store.memory.meta.k core ran c.args.script.steps (g.K.Sink.model c.drive.result.sink) (record {
+      scheduled = subst (λ (ls : List Line). IsScheduled store.memory.meta.k before.left after.left ls c.args.script.steps) (sym lines) scheduled;
       served = subst (λ (ls : List Line). IsServedScript ls c.args.script.steps) (sym lines) c.requires.served;
       start = record {
         taken = ap (λ (x : CoreState). x.taken) c.in-Ok.ensures.seen;
@@ -93,14 +82,14 @@ returns-in-Ok-clause-ends g c left rest before after scheduled same_source =
       put = c.drive.ensures.ends;
       counts = c.drive.ensures.faults;
       sooner = c.drive.ensures.sink_later;
-      silent = λ failed. let same = c.finish.ensures.silent failed in (ap (λ (k : g.row.K.Denot). g.K.Sink.written k) same, ap (λ (k : g.row.K.Denot). g.K.Sink.faults k) same);
-      silent_done = λ done. let same = c.finish.ensures.silent_done done in (ap (λ (k : g.row.K.Denot). g.K.Sink.written k) same, ap (λ (k : g.row.K.Denot). g.K.Sink.faults k) same);
+      silent = λ failed. ap (λ (k : g.row.K.Denot). g.K.Sink.model k) (c.finish.ensures.silent failed);
+      silent_done = λ done. ap (λ (k : g.row.K.Denot). g.K.Sink.model k) (c.finish.ensures.silent_done done);
     }) c.finish.ensures.status
     (λ none.
     let same = c.drive.ensures.unbegun none in
     let status : c.finish.result.status ≡ NoMemory = c.finish.ensures.status ∙ ap (λ x. status_after x ran.stop) none in
-    let line = refused_on (λ k. g.K.Sink.written k) (λ k. g.K.Sink.faults k) c.args.sink c.drive.result.sink (g.K.Sink.written c.finish.result.sink) (g.K.Sink.faults c.finish.result.sink) (fault_line NoMemory) same.1
-    (subst (λ (x : Status). GetsLine (g.K.Sink.written c.drive.result.sink) (g.K.Sink.written c.finish.result.sink) (g.K.Sink.faults c.drive.result.sink) (g.K.Sink.faults c.finish.result.sink) (fault_line x)) status c.finish.ensures.line) in
+    let line = refused_on (λ k. g.K.Sink.model k) c.args.sink c.drive.result.sink (g.K.Sink.model c.finish.result.sink) (fault_line NoMemory) same.1
+    (subst (λ (x : Status). GetsLine (g.K.Sink.model c.drive.result.sink) (g.K.Sink.model c.finish.result.sink) (fault_line x)) status c.finish.ensures.line) in
     let refused : IsRefused seen NoMemory = record { line = line; none_answered = same.2; none_ordered = ap (λ x. (core_seen x).order) same.0 ∙ ap (λ (x : CoreState). x.order) c.in-Ok.ensures.seen } in
     away_on (λ x. g.D.Device.model (core_disk x)) store.memory.meta.k d seen NoMemory c.in-Ok.core c.drive.result.core same.0 (turned_away d (seen_as store) seen NoMemory (g.met.D.Device.is_disk (core_disk c.in-Ok.core)) kept c.requires.new.running (c.requires.one_page.1, c.requires.one_page.2) refused (λ other. same_source)))
     c.finish.ensures.line in
@@ -110,22 +99,11 @@ returns-in-Ok-clause-ends g c left rest before after scheduled same_source =
     subst (λ (o : List ℕ). OpenedEnds (M (disk_of store)) (M c.finish.result.disk) (S c.finish.result.answered.items o) c.finish.result.status) (sym c.finish.ensures.order) with_answers
 
 pub returns-clause-ends : goal.returns-clause-ends
-returns-clause-ends g c left rest before after scheduled same_source =
+returns-clause-ends g c before after scheduled same_source =
     let M : g.row.D.Denot → DiskModel = g.D.Device.model in
     let store = c.args.store in
     let d : DiskModel = M (disk_of store) in
-    let seen : Seen = record {
-      left = left;
-      rest = rest;
-      source_before = before;
-      source_after = after;
-      held = g.K.Sink.written c.args.sink;
-      holds = g.K.Sink.written c.refused.result.sink;
-      sink_before = g.K.Sink.faults c.args.sink;
-      sink_after = g.K.Sink.faults c.refused.result.sink;
-      answered = c.refused.result.answered.items;
-      order = c.refused.result.order.items;
-    } in
+    let seen : Seen = seen_by before after (g.K.Sink.model c.args.sink) (g.K.Sink.model c.refused.result.sink) c.refused.result.answered.items c.refused.result.order.items in
     let refused : IsRefused seen NoMemory = record { line = c.refused.ensures.line; none_answered = c.refused.ensures.answered; none_ordered = c.refused.ensures.order } in
     let back : c.refused.result.disk ≡ disk_of store = c.refused.ensures.disk ∙ c.into_disk.ensures ∙ ap (λ x. disk_of x) c.in-Err.ensures.back in
     subst (λ (x : Status). OpenedEnds d (M c.refused.result.disk) seen x) (sym c.refused.ensures.status)

@@ -22,5 +22,5 @@ returns-in-Ok-2-clause-refused g c =
         says = facts.exact;
       },
       λ served. let t : IsTrue c.serves.result = c.serves.ensures.1 served in cc (t, c.if-serves.false),
-      c.in-Ok.ensures.no_fault (λ is. cc is),
+      c.in-Ok.ensures.counts.no_fault (λ is. cc is),
     )

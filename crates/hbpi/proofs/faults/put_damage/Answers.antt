@@ -11,14 +11,14 @@ level_line page = sym (append_assoc (codes "damaged " ++ decimal page) (codes " 
 extent_line : (page : ℕ) → codes "damaged " ++ decimal page ++ codes " extent\n" ≡ codes "damaged " ++ decimal page ++ codes " extent" ++ codes "\n"
 extent_line page = sym (append_assoc (codes "damaged " ++ decimal page) (codes " extent") (codes "\n"))
 
-pub returns-in-Level-clause-line : goal.returns-in-Level-clause-line
-returns-in-Level-clause-line g c =
-    subst (λ (line : List ℕ). GetsLine (g.K.Sink.written c.args.sink.now) (g.K.Sink.written c.put_line-in-Level.new.sink) (g.K.Sink.faults c.args.sink.now) (g.K.Sink.faults c.put_line-in-Level.new.sink) line)
+pub returns-in-Level : goal.returns-in-Level
+returns-in-Level g c =
+    subst (λ (line : List ℕ). GetsLine (g.K.Sink.model c.args.sink.now) (g.K.Sink.model c.put_line-in-Level.new.sink) line)
     (c.as_slice-in-Level.ensures.value ∙ c.page_line.ensures ∙ level_line c.in-Level.page ∙ ap (λ (damage : Damage). fault_line (Damaged damage)) (sym c.in-Level.is))
-    c.put_line-in-Level.ensures.line
+    c.put_line-in-Level.ensures
 
-pub returns-in-Extent-clause-line : goal.returns-in-Extent-clause-line
-returns-in-Extent-clause-line g c =
-    subst (λ (line : List ℕ). GetsLine (g.K.Sink.written c.args.sink.now) (g.K.Sink.written c.put_line-in-Extent.new.sink) (g.K.Sink.faults c.args.sink.now) (g.K.Sink.faults c.put_line-in-Extent.new.sink) line)
+pub returns-in-Extent : goal.returns-in-Extent
+returns-in-Extent g c =
+    subst (λ (line : List ℕ). GetsLine (g.K.Sink.model c.args.sink.now) (g.K.Sink.model c.put_line-in-Extent.new.sink) line)
     (c.as_slice-in-Extent.ensures.value ∙ c.page_line-in-Extent.ensures ∙ extent_line c.in-Extent.page ∙ ap (λ (damage : Damage). fault_line (Damaged damage)) (sym c.in-Extent.is))
-    c.put_line-in-Extent.ensures.line
+    c.put_line-in-Extent.ensures

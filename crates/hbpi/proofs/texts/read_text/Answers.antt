@@ -16,7 +16,7 @@ loop-more-preserved g c = record {
   so_far = piece_joins _ _ _ c.loop-more.text.items _ c.loop-more.invariant.so_far c.in_ok-more.ensures.piece;
   room = omega (arith, c.in_ok-more.ensures.bound, c.len-most.ensures, c.loop-more.text.ok.0, c.loop-more.invariant.room);
   ended = c.in_ok-more.ensures.ended;
-  same = c.in_ok-more.ensures.no_fault (λ is. cc is) ∙ c.loop-more.invariant.same;
+  same = c.in_ok-more.ensures.counts.no_fault (λ is. cc is) ∙ c.loop-more.invariant.same;
 }
 
 pub returns-clause-text : goal.returns-clause-text

@@ -5,10 +5,10 @@ use Rattle.hbpi.proofs.texts.read_text.Given as goal
 -- the text so far is the front of what the source had left
 abbrev pub invariant-loop-more : goal.invariant-loop-more
 invariant-loop-more g l = record {
-  so_far : TakesSoFar (g.S.Source.left l.fn.source) (g.S.Source.left l.source) l.text.items;
+  so_far : TakesSoFar (g.S.Source.model l.fn.source).left (g.S.Source.model l.source).left l.text.items;
   room : length l.text.items ≤ 257000001;
-  ended : l.more ≡ false → IsAtEnd (g.S.Source.left l.source);
-  same : g.S.Source.faults l.source ≡ g.S.Source.faults l.fn.source;
+  ended : l.more ≡ false → IsAtEnd (g.S.Source.model l.source).left;
+  same : (g.S.Source.model l.source).faults ≡ (g.S.Source.model l.fn.source).faults;
 }
 
 abbrev pub decreases-loop-more : goal.decreases-loop-more

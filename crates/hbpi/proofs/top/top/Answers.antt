@@ -14,20 +14,17 @@ use Rattle.hbpi.proofs.top.top.Goals as goal
 
 pub returns-in-Some-Dry-clause-complete : goal.returns-in-Some-Dry-clause-complete
 returns-in-Some-Dry-clause-complete g c =
-    let seen = seen_by (g.S.Source.left c.args.source.now) (g.S.Source.left c.dry.new.source) (g.S.Source.faults c.args.source.now) (g.S.Source.faults c.dry.new.source)
-    (g.K.Sink.written c.args.sink) (g.K.Sink.written c.dry.result.sink) (g.K.Sink.faults c.args.sink) (g.K.Sink.faults c.dry.result.sink) c.dry.result.answered.items c.dry.result.order.items in
+    let seen = seen_by (g.S.Source.model c.args.source.now) (g.S.Source.model c.dry.new.source) (g.K.Sink.model c.args.sink) (g.K.Sink.model c.dry.result.sink) c.dry.result.answered.items c.dry.result.order.items in
     subst (λ (form : Option Form). IsComplete form seen c.dry.result.status) (sym (ap Some c.in-Some-Dry.field-0-is) ∙ c.in-Some-Dry.ensures.form) (ends_complete (Some (Dry c.in-Some-Dry.k)) seen (g.D.Device.model c.args.disk) (g.D.Device.model c.dry.result.disk) c.dry.result.status c.dry.ensures.ends)
 
 pub returns-in-Some-Dry-clause-bad_text : goal.returns-in-Some-Dry-clause-bad_text
 returns-in-Some-Dry-clause-bad_text g c =
-    let seen = seen_by (g.S.Source.left c.args.source.now) (g.S.Source.left c.dry.new.source) (g.S.Source.faults c.args.source.now) (g.S.Source.faults c.dry.new.source)
-    (g.K.Sink.written c.args.sink) (g.K.Sink.written c.dry.result.sink) (g.K.Sink.faults c.args.sink) (g.K.Sink.faults c.dry.result.sink) c.dry.result.answered.items c.dry.result.order.items in
+    let seen = seen_by (g.S.Source.model c.args.source.now) (g.S.Source.model c.dry.new.source) (g.K.Sink.model c.args.sink) (g.K.Sink.model c.dry.result.sink) c.dry.result.answered.items c.dry.result.order.items in
     subst (λ (form : Option Form). RefusesBadText form seen c.dry.result.status) (sym (ap Some c.in-Some-Dry.field-0-is) ∙ c.in-Some-Dry.ensures.form) (ends_refuses (Some (Dry c.in-Some-Dry.k)) seen (g.D.Device.model c.args.disk) (g.D.Device.model c.dry.result.disk) c.dry.result.status c.dry.ensures.ends)
 
 pub returns-in-Some-Dry-clause-named : goal.returns-in-Some-Dry-clause-named
 returns-in-Some-Dry-clause-named g c =
-    let seen = seen_by (g.S.Source.left c.args.source.now) (g.S.Source.left c.dry.new.source) (g.S.Source.faults c.args.source.now) (g.S.Source.faults c.dry.new.source)
-    (g.K.Sink.written c.args.sink) (g.K.Sink.written c.dry.result.sink) (g.K.Sink.faults c.args.sink) (g.K.Sink.faults c.dry.result.sink) c.dry.result.answered.items c.dry.result.order.items in
+    let seen = seen_by (g.S.Source.model c.args.source.now) (g.S.Source.model c.dry.new.source) (g.K.Sink.model c.args.sink) (g.K.Sink.model c.dry.result.sink) c.dry.result.answered.items c.dry.result.order.items in
     subst (λ (form : Option Form). NamesBadLine form seen c.dry.result.status) (sym (ap Some c.in-Some-Dry.field-0-is) ∙ c.in-Some-Dry.ensures.form) (ends_names (Some (Dry c.in-Some-Dry.k)) seen (g.D.Device.model c.args.disk) (g.D.Device.model c.dry.result.disk) c.dry.result.status c.dry.ensures.ends)
 
 pub returns-in-Some-Drive-clause-promise : goal.returns-in-Some-Drive-clause-promise
@@ -48,29 +45,27 @@ returns-in-Some-Drive-clause-refused g c is =
 
 pub returns-in-Some-Create-clause-ends : goal.returns-in-Some-Create-clause-ends
 returns-in-Some-Create-clause-ends g c =
-    let seen = seen_by (g.S.Source.left c.args.source.now) (g.S.Source.left c.args.source.now) (g.S.Source.faults c.args.source.now) (g.S.Source.faults c.args.source.now)
-    (g.K.Sink.written c.args.sink) (g.K.Sink.written c.create_file.result.sink) (g.K.Sink.faults c.args.sink) (g.K.Sink.faults c.create_file.result.sink) c.create_file.result.answered.items c.create_file.result.order.items in
+    let seen = seen_by (g.S.Source.model c.args.source.now) (g.S.Source.model c.args.source.now) (g.K.Sink.model c.args.sink) (g.K.Sink.model c.create_file.result.sink) c.create_file.result.answered.items c.create_file.result.order.items in
     subst (λ (form : Option Form). RunEnds form (g.D.Device.model c.args.disk) (g.D.Device.model c.create_file.result.disk) seen c.create_file.result.status) (sym (ap Some c.in-Some-Create.field-0-is) ∙ c.in-Some-Create.ensures.form)
-    (c.create_file.ensures.ends (g.S.Source.left c.args.source.now) (g.S.Source.faults c.args.source.now))
+    (c.create_file.ensures.ends (g.S.Source.model c.args.source.now))
 
 pub returns-in-Some-Create-clause-usage : goal.returns-in-Some-Create-clause-usage
 returns-in-Some-Create-clause-usage g c = (
-  λ is. absurd (never_usage _ _ _ _ c.create_file.result.status (c.create_file.ensures.ends (g.S.Source.left c.args.source.now) (g.S.Source.faults c.args.source.now)) is),
+  λ is. absurd (never_usage _ _ _ _ c.create_file.result.status (c.create_file.ensures.ends (g.S.Source.model c.args.source.now)) is),
   λ none. cc (c.in-Some-Create.ensures.form, none),
 )
 
 pub returns-in-Some-Create-clause-built : goal.returns-in-Some-Create-clause-built
-returns-in-Some-Create-clause-built g c is = absurd (never_unbuilt _ _ _ _ c.create_file.result.status (c.create_file.ensures.ends (g.S.Source.left c.args.source.now) (g.S.Source.faults c.args.source.now)) is)
+returns-in-Some-Create-clause-built g c is = absurd (never_unbuilt _ _ _ _ c.create_file.result.status (c.create_file.ensures.ends (g.S.Source.model c.args.source.now)) is)
 
 pub returns-in-Some-Create-clause-made : goal.returns-in-Some-Create-clause-made
 returns-in-Some-Create-clause-made g c =
-    let seen = seen_by (g.S.Source.left c.args.source.now) (g.S.Source.left c.args.source.now) (g.S.Source.faults c.args.source.now) (g.S.Source.faults c.args.source.now)
-    (g.K.Sink.written c.args.sink) (g.K.Sink.written c.create_file.result.sink) (g.K.Sink.faults c.args.sink) (g.K.Sink.faults c.create_file.result.sink) c.create_file.result.answered.items c.create_file.result.order.items in
+    let seen = seen_by (g.S.Source.model c.args.source.now) (g.S.Source.model c.args.source.now) (g.K.Sink.model c.args.sink) (g.K.Sink.model c.create_file.result.sink) c.create_file.result.answered.items c.create_file.result.order.items in
     let d = g.D.Device.model c.args.disk in
     let e = g.D.Device.model c.create_file.result.disk in
     let form = Create c.in-Some-Create.k c.in-Some-Create.pages c.in-Some-Create.log c.in-Some-Create.dcap c.in-Some-Create.icap in
     subst (λ (form : Option Form). IsMadeWhole form seen (disk_seen d e) c.create_file.result.status) (sym (ap Some c.in-Some-Create.field-0-is) ∙ c.in-Some-Create.ensures.form)
-    (ends_made (Some form) seen d e c.create_file.result.status (c.create_file.ensures.ends (g.S.Source.left c.args.source.now) (g.S.Source.faults c.args.source.now)))
+    (ends_made (Some form) seen d e c.create_file.result.status (c.create_file.ensures.ends (g.S.Source.model c.args.source.now)))
 
 pub returns-in-Some-Create-clause-beyond : goal.returns-in-Some-Create-clause-beyond
 returns-in-Some-Create-clause-beyond g c =

@@ -1,10 +1,10 @@
 -- Runs that leave alone what lies behind the first bytes of a disk.
-use Rattle.std.proofs.Common.{◌≡◌, ℕ, zero, suc, ◌+◌, ◌*◌, ◌-◌, ◌%◌, ◌≤◌, List, length, Option, Some, IfSome, Result, sym, subst, arith}
+use Rattle.std.proofs.Common.{◌≡◌, ℕ, zero, suc, ◌+◌, ◌*◌, ◌-◌, ◌%◌, ◌≤◌, List, Option, Some, IfSome, sym, subst, arith}
 use Rattle.hb_disk.specs.Model.{DiskModel, IsDisk, Torn}
-use Rattle.hb_disk.specs.Calls.{Becomes, OnlyReads, Syncs, Ticks, Writes}
+use Rattle.hb_disk.specs.Calls.{Becomes, OnlyReads}
 use Rattle.hb_disk.proofs.Facts.RunLaws.{OnlyReads-none}
 use Rattle.hb_lemmas.proofs.Options.{at_value}
-use Rattle.hb_disk.proofs.Facts.BecomesLaws.{Becomes-read, Becomes-torn, Becomes-torn_sync, Becomes-torn_write, Becomes-weaker}
+use Rattle.hb_disk.proofs.Facts.BecomesLaws.{Becomes-read, Becomes-torn, Becomes-weaker}
 use Rattle.hb_disk.proofs.Facts.TornLaws.{Torn-itself, Torn-wider}
 use Rattle.hb_frag.specs.declared.pages.Page.{Page}
 use Rattle.hb_layout.specs.Offsets.{slot_offset, file_size, log_start, page_offset}
@@ -30,16 +30,6 @@ beyond_then n old mid new first second = Becomes-torn 0 n old mid new first seco
 pub beyond_wider : (at m n : ℕ) (old new : DiskModel) → at + m ≤ n → Becomes (Torn at m) old new → KeepsBeyond n old new
 beyond_wider at m n old new within run = Becomes-weaker (Torn at m) (Torn 0 n) old new (λ b c torn. Torn-wider at m 0 n b c (omega arith) (omega (arith, within)) torn) run
 
--- a write within them
-pub beyond_write : {T E : Type 0} (r : Result T E) (at : ℕ) (piece : List ℕ) (n : ℕ) (old new : DiskModel) → IsDisk old → IsDisk new → n ≤ old.size → at + length piece ≤ n
-    → Writes at piece r old new → Ticks r old new → KeepsBeyond n old new
-beyond_write r at piece n old new is_old is_new fits within writes ticks =
-    Becomes-torn_write r at piece 0 n old new is_old is_new (omega (arith, fits, within)) (omega arith) (omega (arith, within)) writes ticks
-
--- a sync
-pub beyond_sync : {T E : Type 0} (r : Result T E) (n : ℕ) (old new : DiskModel) → IsDisk old → Syncs r old new → Ticks r old new → KeepsBeyond n old new
-beyond_sync r n old new is_old syncs ticks = Becomes-torn_sync r 0 n old new is_old syncs ticks
-
 -- what a file has in front of its pages: a log area, a superblock, and a body; and below its end a page
 by_bit : (bit log rest : ℕ) → bit ≤ 1 → 8192 + bit * log + log ≤ 8192 + 2 * log + rest
 by_bit zero log rest low = omega arith
@@ -49,22 +39,17 @@ by_bit (suc (suc n)) log rest low = absurd (omega (arith, low))
 pub log_within : (turn : ℕ) (meta : Meta) → log_start turn meta + meta.log ≤ page_offset meta 1
 log_within turn meta = by_bit (turn % 2) meta.log (4096 * (1 - 1)) (omega arith)
 
-pub beyond_log : (turn at : ℕ) (meta : Meta) (old new : DiskModel) → at ≡ log_start turn meta → Becomes (Torn at meta.log) old new → KeepsBeyond (page_offset meta 1) old new
-beyond_log turn at meta old new is run =
-    beyond_wider at meta.log (page_offset meta 1) old new (let within = log_within turn meta in omega (arith, is, within)) run
+pub super_within : (turn : ℕ) (meta : Meta) → slot_offset turn + 41 ≤ page_offset meta 1
+super_within turn meta = let low : turn % 2 ≤ 1 = omega arith in omega (arith, low)
 
-pub beyond_page : (meta : Meta) (id : ℕ) (old new : DiskModel) → 1 ≤ id → id ≤ meta.pages → Becomes (Torn (page_offset meta id) 4096) old new → KeepsBeyond (file_size meta) old new
-beyond_page meta id old new some most run = beyond_wider (page_offset meta id) 4096 (file_size meta) old new (omega (arith, some, most)) run
+pub body_within : (turn : ℕ) (meta : Meta) → slot_offset turn + 1 + 40 ≤ page_offset meta 1
+body_within turn meta = let low : turn % 2 ≤ 1 = omega arith in omega (arith, low)
 
-pub beyond_super : (turn : ℕ) (meta : Meta) (old new : DiskModel) → Becomes (Torn (slot_offset turn) 41) old new → KeepsBeyond (page_offset meta 1) old new
-beyond_super turn meta old new run = beyond_wider (slot_offset turn) 41 (page_offset meta 1) old new (let low : turn % 2 ≤ 1 = omega arith in omega (arith, low)) run
+pub front_within : (meta : Meta) → page_offset meta 1 ≤ file_size meta
+front_within meta = omega arith
 
-pub beyond_body : (turn : ℕ) (meta : Meta) (old new : DiskModel) → Becomes (Torn (slot_offset turn + 1) 40) old new → KeepsBeyond (page_offset meta 1) old new
-beyond_body turn meta old new run = beyond_wider (slot_offset turn + 1) 40 (page_offset meta 1) old new (let low : turn % 2 ≤ 1 = omega arith in omega (arith, low)) run
-
--- what leaves alone all that isn't in front of the pages leaves alone what lies behind the file
-pub beyond_front : (meta : Meta) (old new : DiskModel) → KeepsBeyond (page_offset meta 1) old new → KeepsBeyond (file_size meta) old new
-beyond_front meta old new run = beyond_wider 0 (page_offset meta 1) (file_size meta) old new (omega arith) run
+pub page_within : (meta : Meta) (id : ℕ) → 1 ≤ id → id ≤ meta.pages → page_offset meta id + 4096 ≤ file_size meta
+page_within meta id some most = omega (arith, some, most)
 
 -- A run behind the reads that found the file: it leaves alone what lies behind the file by the newest superblock.
 pub found_said : (one : (bytes : List ℕ) (t s : ℕ) (m n : Meta) → IsNewest bytes t m → IsNewest bytes s n → m ≡ n) (told : Option (List ℕ)) (turn : ℕ) (meta : Meta) (touched : ℕ → Option Page) (count : ℕ)
@@ -75,7 +60,7 @@ found_said one told turn meta touched count found b at said is newest =
     subst S (sym (one b at turn said here.said newest here.opens.by.newest)) here.opens.layout
 
 -- a file that is laid down as another is as long
-same_size : (said meta : Meta) → IsSameLayout said meta → file_size said ≡ file_size meta
+pub same_size : (said meta : Meta) → IsSameLayout said meta → file_size said ≡ file_size meta
 same_size said meta same = let pages = same.pages in let log = same.log in omega (arith, pages, log)
 
 pub beyond_found : (one : (bytes : List ℕ) (t s : ℕ) (m n : Meta) → IsNewest bytes t m → IsNewest bytes s n → m ≡ n) (d m e : DiskModel) (turn : ℕ) (meta : Meta) (touched : ℕ → Option Page) (count : ℕ)
