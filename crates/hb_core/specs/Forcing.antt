@@ -1,10 +1,10 @@
 -- What flushing makes of a machine: a force, what is flushed besides, and the step of the flusher.
-use Rattle.std.specs.Prelude.{◌≡◌, ◌≢◌, ◌⊎◌, ℕ, ◌+◌, ◌≤◌, Bool, true, false, [], option_map}
+use Rattle.std.specs.Prelude.{◌≡◌, ◌≢◌, ◌⊎◌, ℕ, ◌+◌, ◌≤◌, [], option_map}
 use Rattle.hb_store.specs.declared.stops.StopWhy.TheVariants.{WriteFault}
 use Rattle.hb_core.specs.declared.outcomes.Outcome.{Outcome}
 use Rattle.hb_core.specs.declared.outcomes.Outcome.TheVariants as outcomes
 use Rattle.hb_core.specs.Machines.{Files, Machine, stopped_for, with_disk}
-use Rattle.hb_core.specs.Stages.{HasMoreToFlush, IsFlushedTo}
+use Rattle.hb_core.specs.Stages.{FlusherSteps, HasMoreToFlush, IsFlushedTo}
 use Rattle.hb_store.specs.Forced.{durable_after, forced_state, later_after, stopped_state}
 use Rattle.hb_store.specs.States.{StoreState, in_memory}
 use Rattle.hb_wal.specs.Forces.{calls_of_force}
@@ -58,6 +58,7 @@ abbrev pub FlushesOnce : Machine → Outcome → Type 0 → Outcome → Machine 
 FlushesOnce m due nothing outcome new = ((m.store.log.groups ≢ []) × ForcesFirst m due outcome new) ⊎ ((m.store.log.groups ≡ []) × FlushesRest m due nothing outcome new)
 
 -- A step of the flusher, where it takes any.
-abbrev pub Flushes : Bool → Machine → Outcome → Machine → Type 0
-Flushes false m outcome new = StaysSo m outcomes.Idle outcome new
-Flushes true m outcome new = FlushesOnce m outcomes.Moved (StaysSo m outcomes.Idle outcome new) outcome new
+abbrev pub Flushes : Machine → Outcome → Machine → Type 0
+Flushes m outcome new =
+    (FlusherSteps × FlushesOnce m outcomes.Moved (StaysSo m outcomes.Idle outcome new) outcome new)
+    ⊎ ((¬ FlusherSteps) × StaysSo m outcomes.Idle outcome new)

@@ -1,10 +1,10 @@
 -- What of the machine isn't built yet. Its steps stand, and none comes to them before these change.
-use Rattle.std.specs.Prelude.{ℕ, Bool, false}
+use Rattle.std.specs.Prelude.{ℕ}
 use Rattle.hb_store.specs.States.{StoreState}
 
 -- The flusher takes steps: it flushes.
-abbrev pub flusher_steps : Bool
-flusher_steps = false
+abbrev pub FlusherSteps : Type 0
+FlusherSteps = ⊥
 
 -- Once no group waits there is something left to flush: a page that reads otherwise in its place, or a log that has frames.
 abbrev pub HasMoreToFlush : StoreState → Type 0

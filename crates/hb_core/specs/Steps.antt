@@ -17,7 +17,7 @@ use Rattle.hb_core.specs.Forcing.{Flushes, ForcesFirst, StaysSo, FlushesOnce}
 use Rattle.hb_core.specs.GivingUp.{runs_out}
 use Rattle.hb_core.specs.Machines.{Machine, settled_count}
 use Rattle.hb_core.specs.Performing.{Performs}
-use Rattle.hb_core.specs.Stages.{flusher_steps, HasNoPlace}
+use Rattle.hb_core.specs.Stages.{HasNoPlace}
 use Rattle.hb_point.specs.SessionRows.{next_line, taking, WantsBoxes}
 use Rattle.hb_poster.specs.PosterRows.{IsPostingOf}
 use Rattle.hb_store.specs.Calls.{IsReady}
@@ -84,7 +84,7 @@ StepsAs at.SessionIdle m actor outcome new = MatchOption (next_line actor m.answ
 StepsAs (at.SessionAwait number reply place) m actor outcome new = AwaitsPlace m actor number reply place outcome new
 StepsAs at.PosterIdle m actor outcome new = TakesPosting m actor outcome new
 StepsAs at.ConsolidatorIdle m actor outcome new = TakesJobToMerge m actor outcome new
-StepsAs at.Flusher m actor outcome new = Flushes flusher_steps m outcome new
+StepsAs at.Flusher m actor outcome new = Flushes m outcome new
 StepsAs (at.SessionWalk line held rest found) m actor outcome new = Works m actor outcome new
 StepsAs (at.SessionSplit line held) m actor outcome new = Works m actor outcome new
 StepsAs (at.SessionPut line source fresh) m actor outcome new = Works m actor outcome new

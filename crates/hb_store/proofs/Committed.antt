@@ -34,7 +34,7 @@ use Rattle.hb_ops.proofs.Facts.AllowedOps.{reads_some, same_change, same_allowed
 use Rattle.hb_store.proofs.Shown.{Shows-leads}
 use Rattle.hb_store.proofs.Grouped.{all_needed}
 use Rattle.hb_store.proofs.Setting.{among_all, has_all, none_set, set_some}
-use Rattle.hb_store.proofs.Imaging.{imaged_all, read_page}
+use Rattle.hb_store.proofs.Imaging.{imaged_all, none_of, read_page}
 use Rattle.hb_ops.proofs.Facts.FilePages.{in_file_at}
 use Rattle.hb_ops.proofs.Facts.PageNumberLaws.{page_at-zero}
 
@@ -152,14 +152,10 @@ module _ (st new : StoreState) (op : Op) (mark : ℕ) (well : MakesWell op st) (
     no_page : in_memory st 0 ≡ None
     no_page = none_at_zero (in_memory st 0) (λ page e. (well.memory.good 0 page e).0)
 
-    none_touched : (o : Option Page) → is_some o ≡ false → o ≡ None
-    none_touched None e = refl
-    none_touched (Some page) e = cc e
-
     untouched_zero : t.page 0 ≡ None
     untouched_zero = elim (cases_Bool (is_imaged st 0)) [
       | inl on ↦ absurd (omega (arith, (well.memory.marked 0 on).0))
-      | inr off ↦ none_touched (t.page 0) (sym (marks 0) ∙ off)
+      | inr off ↦ none_of (t.page 0) (sym (marks 0) ∙ off)
     ]
 
     reads : All (λ id. IsSome (in_memory st id)) (reads_of op)

@@ -10,3 +10,4 @@ pub mod MadeMeta
 pub mod MadePages
 pub mod Changed
 pub mod LookLaws
+pub mod BadGroups

@@ -17,7 +17,7 @@ use Rattle.hb_ops.specs.Files.{FileState, if_live, page_of}
 use Rattle.hb_ops.specs.LocalRule.{BreaksFirst}
 use Rattle.hb_ops.specs.Sound.{FitsFile, IsSound}
 use Rattle.hb_wal.specs.Frames.{frames, range}
-use Rattle.hb_store.proofs.Facts.Spellings.{SpelledOnce}
+use Rattle.hb_page_codec.proofs.Facts.PageLaws.{SpelledOnce}
 use Rattle.hb_layout.specs.Offsets.{page_offset}
 use Rattle.hb_store.specs.Opening.{place_bytes}
 use Rattle.hb_store.specs.States.{IsGoodPage, IsMemory, StoreState, in_memory}

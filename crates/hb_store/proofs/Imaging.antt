@@ -19,7 +19,7 @@ among_at (id ∷ rest) zero lt = ap (λ (b : Bool). b || is_among id rest) (eq-e
 among_at (id ∷ rest) (suc place) lt =
     ap (λ (b : Bool). (get_or rest place 0 == id) || b) (among_at rest place (omega (arith, lt))) ∙ or_right (get_or rest place 0 == id) true refl
 
-none_of : (o : Option Page) → is_some o ≡ false → o ≡ None
+pub none_of : (o : Option Page) → is_some o ≡ false → o ≡ None
 none_of None e = refl
 none_of (Some page) e = cc e
 

@@ -1,24 +1,16 @@
 -- Bytes open to one file at most, and where they do no frame of their log is bad.
-use Rattle.std.proofs.Common.{◌≡◌, ◌⊎◌, inl, inr, ℕ, ◌+◌, ◌<◌, ◌≤◌, ◌^◌, List, [], ◌∷◌, ◌++◌, length, get_or, drop, All, Option, Some, None, refl, sym, ap, subst, ◌∙◌, append_assoc, length-append, arith}
-use Rattle.std.proofs.lemmas.List.{length-take}
-use Rattle.std.proofs.lemmas.List.Elements.{All-head, All-nil, All-tail}
-use Rattle.hb_lemmas.specs.Numbers.{big_endian}
+use Rattle.std.proofs.Common.{◌≡◌, ℕ, ◌+◌, ◌≤◌, List, [], ◌∷◌, length, Option, Some, None, refl, sym, subst, ◌∙◌, arith}
 use Rattle.hb_frag.specs.declared.pages.Page.{Page}
 use Rattle.hb_layout.specs.declared.meta.Meta.{Meta}
 use Rattle.hb_ops.specs.Files.{FileState, page_at}
 use Rattle.hb_super.specs.Superblocks.{IsNewest}
-use Rattle.hb_wal.specs.Frames.{frames, frame_bytes, IsPayload, IsEnd, IsBadFrame}
 use Rattle.hb_wal.specs.FrameLaws.{ReadsOneWay}
-use Rattle.hb_wal.specs.Reading.{BeginsFrame}
-use Rattle.hb_log_codec.specs.Groups.{Logged, SpellsGroups}
-use Rattle.hb_store.proofs.Facts.Spellings.{OneList, SpelledOnce, same_spelled}
-use Rattle.hb_store.specs.Replay.{Replayed, MayReplay, replay, untouched}
-use Rattle.hb_layout.specs.Offsets.{log_start}
-use Rattle.hb_store.specs.Opening.{IsBadPayload, IsPageIn, OpensBy, OpensTo, Shows, log_bytes, SpellAll, OpensToOne, OpensWhole}
+use Rattle.hb_page_codec.proofs.Facts.PageLaws.{SpelledOnce}
+use Rattle.hb_store.proofs.Facts.Spellings.{OneList, same_spelled}
+use Rattle.hb_store.specs.Replay.{Replayed, replay, untouched}
+use Rattle.hb_store.specs.Opening.{IsPageIn, OpensBy, OpensTo, Shows, log_bytes, SpellAll, OpensToOne, OpensWhole}
 use Rattle.hb_ops.proofs.Facts.FilePages.{page_behind, page_in_range}
-use Rattle.hb_store.proofs.Facts.ReplayLaws.{MayReplay-front, MayReplay-back, replay-append}
-use Rattle.hb_lemmas.proofs.Numbers.{length_big_endian, same_number}
-use Rattle.hb_lemmas.proofs.Lists.{same_fronts}
+use Rattle.hb_store.proofs.Facts.BadGroups.{not_both}
 
 abbrev pub OneTurn : Type 0
 OneTurn = (bytes : List ℕ) (t s : ℕ) (m n : Meta) → IsNewest bytes t m → IsNewest bytes s n → t ≡ s
@@ -67,57 +59,8 @@ module _ (once : SpelledOnce) (one : OneList) where
 
   -- ---- no bad frame
 
-  -- no frame stands at an end
-  no_frame_at_end : (p xs rest : List ℕ) → IsEnd rest → rest ≡ frame_bytes p ++ xs → ⊥
-  no_frame_at_end p xs [] end e = absurd (omega (arith, ap (λ (l : List ℕ). length l) e, length-append (frame_bytes p) xs))
-  no_frame_at_end p xs (gate ∷ rest) (inl few) e =
-      absurd (omega (arith, few, ap (λ (l : List ℕ). length l) e, length-append (frame_bytes p) xs, length-append (big_endian 4 (length p)) p, length_big_endian 4 (length p)))
-  no_frame_at_end p xs (gate ∷ rest) (inr closed) e = closed (ap (λ (l : List ℕ). get_or l 0 0) e)
-
-  -- a frame tells its payload and what is behind it
-  same_frame : (p q xs ys : List ℕ) → length p < 2 ^ 32 → length q < 2 ^ 32 → frame_bytes p ++ xs ≡ frame_bytes q ++ ys → (p ≡ q) × (xs ≡ ys)
-  same_frame p q xs ys p_short q_short e =
-      let lengths = same_number (length p) (length q) (p ++ xs) (q ++ ys) p_short q_short
-      (sym (append_assoc (big_endian 4 (length p)) p xs) ∙ ap (λ (l : List ℕ). drop 1 l) e ∙ append_assoc (big_endian 4 (length q)) q ys) in
-      same_fronts p q xs ys lengths.0 lengths.1
-
-  abbrev IsBadAt : ℕ → Replayed → List ℕ → Type 0
-  IsBadAt k t rest = IsBadFrame rest ⊎ ((payload : List ℕ) × BeginsFrame rest payload × IsBadPayload k t payload)
-
-  short_front : (b : List ℕ) (bs : List (List ℕ)) (rest : List ℕ) → length (frames (b ∷ bs) ++ rest) < 2 ^ 32 → (length b < 2 ^ 32) × (length (frames bs ++ rest) < 2 ^ 32)
-  short_front b bs rest small =
-      let whole = length-append (frames (b ∷ bs)) rest in
-      let parts = length-append (frame_bytes b) (frames bs) in
-      let one = length-append (big_endian 4 (length b)) b in
-      let tail = length-append (frames bs) rest in
-      (omega (arith, small, whole, parts, one), omega (arith, small, whole, parts, tail))
-
-  -- where frames are read to an end and their groups replayed, none of them is bad
-  bad_here : ReadsOneWay → (k : ℕ) (t : Replayed) (payloads : List (List ℕ)) (end rest : List ℕ) (groups : List Logged) → frames payloads ++ end ≡ rest → All IsPayload payloads → IsEnd end → SpellAll k payloads groups → MayReplay t groups → IsBadAt k t rest → ⊥
-  bad_here way k t payloads end rest groups e fit at_end spelled may (inl bad) =
-      (way rest).not_both payloads [] (record { payloads_fit = fit; rest = end; bytes = sym e; at_end = at_end }) (record { payloads_fit = All-nil IsPayload; rest = rest; bytes = refl; bad = bad })
-  bad_here way k t [] end rest groups e fit at_end spelled may (inr bad) = no_frame_at_end bad.0 bad.1.behind end at_end (e ∙ bad.1.bytes)
-  bad_here way k t (p ∷ ps) end rest groups e fit at_end spelled may (inr bad) =
-      let same = same_frame p bad.0 (frames ps ++ end) bad.1.behind (All-head IsPayload p ps fit).short bad.1.fits.short (sym (append_assoc (frame_bytes p) (frames ps) end) ∙ e ∙ bad.1.bytes) in
-      bad.2 spelled.0 (subst (λ q. SpellsGroups k q spelled.0) same.0 spelled.3) (MayReplay-front t spelled.0 spelled.1 (subst (MayReplay t) spelled.2 may))
-
-  none_bad : ReadsOneWay → (k : ℕ) (before payloads : List (List ℕ)) (t : Replayed) (end rest : List ℕ) (groups others : List Logged) → frames payloads ++ end ≡ frames before ++ rest → length (frames before ++ rest) < 2 ^ 32
-      → All IsPayload payloads → IsEnd end → SpellAll k payloads groups → MayReplay t groups → SpellAll k before others → IsBadAt k (replay t others) rest → ⊥
-  none_bad way k [] payloads t end rest groups others e small fit at_end spelled may front bad =
-      bad_here way k t payloads end rest groups e fit at_end spelled may (subst (λ g. IsBadAt k (replay t g) rest) front bad)
-  none_bad way k (b ∷ bs) [] t end rest groups others e small fit at_end spelled may front bad = no_frame_at_end b (frames bs ++ rest) end at_end (e ∙ append_assoc (frame_bytes b) (frames bs) rest)
-  none_bad way k (b ∷ bs) (p ∷ ps) t end rest groups others e small fit at_end spelled may front bad =
-      let short = short_front b bs rest small in
-      let same = same_frame p b (frames ps ++ end) (frames bs ++ rest) (All-head IsPayload p ps fit).short short.0 (sym (append_assoc (frame_bytes p) (frames ps) end) ∙ e ∙ append_assoc (frame_bytes b) (frames bs) rest) in
-      let groups_same : spelled.0 ≡ front.0 = one k b spelled.0 front.0 (subst (λ q. SpellsGroups k q spelled.0) same.0 spelled.3) front.3 in
-      none_bad way k bs ps (replay t front.0) end rest spelled.1 front.1 same.1 short.1 (All-tail IsPayload p ps fit) at_end spelled.4
-      (subst (λ g. MayReplay (replay t g) spelled.1) groups_same (MayReplay-back t spelled.0 spelled.1 (subst (MayReplay t) spelled.2 may))) front.4
-      (subst (λ r. IsBadAt k r rest) (ap (replay t) front.2 ∙ replay-append t front.0 front.1) bad)
-
-  pub no_bad_frame : OneTurn → OneMeta → ReadsOneWay → OpensWhole
-  no_bad_frame turns metas way bytes s turn said frame opens newest bad =
+  pub no_bad_frame : OneTurn → OneMeta → OpensWhole
+  no_bad_frame turns metas bytes s turn said frame opens newest bad =
       let o = by_newest turns metas bytes turn said s opens newest in
-      let area = log_bytes turn said bytes in
-      let small : length area < 2 ^ 32 = omega (arith, length-take said.log (drop (log_start turn said) bytes), newest.there.legal.layout.log_limit) in
-      none_bad way said.k bad.before opens.payloads (untouched said) o.framed.rest bad.rest opens.groups bad.groups (sym o.framed.bytes ∙ bad.framed) (subst (λ (l : List ℕ). length l < 2 ^ 32) bad.framed small)
-      o.framed.payloads_fit o.framed.at_end o.spelled o.replayed bad.spelled bad.bad
+      not_both one said.k (untouched said) opens.payloads bad.before o.framed.rest bad.rest opens.groups bad.groups (sym o.framed.bytes ∙ bad.framed) o.framed.payloads_fit bad.payloads_fit o.framed.at_end
+      o.spelled bad.spelled o.replayed bad.bad

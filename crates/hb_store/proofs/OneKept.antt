@@ -11,12 +11,14 @@ use Rattle.hb_wal.specs.Log.{Waiting}
 use Rattle.hb_layout.specs.declared.meta.Meta.{Meta}
 use Rattle.hb_ops.specs.Files.{FileState}
 use Rattle.hb_log_codec.specs.Groups.{Logged, FitsGroup, group_bytes}
-use Rattle.hb_store.proofs.Facts.Spellings.{OneGroup, OneList, SpelledOnce, same_spelled}
+use Rattle.hb_page_codec.proofs.Facts.PageLaws.{SpelledOnce}
+use Rattle.hb_store.proofs.Facts.Spellings.{OneGroup, OneList, same_spelled}
 use Rattle.hb_store.specs.Replay.{Replayed, untouched, replay, after_group}
 use Rattle.hb_store.specs.Opening.{OpensBy, Shows, log_bytes, SpellAll}
 use Rattle.hb_store.specs.States.{StoreState}
 use Rattle.hb_store.specs.Parts.{Leads, OpensNext}
 use Rattle.hb_store.specs.Keeps.{StoreKeeps}
+use Rattle.hb_store.proofs.Facts.StoreLaws.{as_waits}
 use Rattle.hb_store.proofs.OneFile.{OneTurn, OneMeta, same_shown}
 
 -- ---- lists
@@ -126,16 +128,12 @@ module _ (once : SpelledOnce) (one : OneList) (group : OneGroup) (turns : OneTur
           (subst (λ f. Leads (replay (untouched said) xs) f hs later) durable_is
           (subst (λ l. Leads (replay (untouched said) xs) s l later) waiting_is here.leads))) there.leads
 
-  either : (A B C : Type 0) → A ⊎ (B × C) → A ⊎ C
-  either A B C (inl a) = inl a
-  either A B C (inr (b, c)) = inr c
-
   module _ (d : DiskModel) (is_disk : IsDisk d) (st : StoreState) (b : List ℕ) (told : d.told ≡ Some b) where
     tells : (durable : FileState) (later : List FileState) → (keeps : StoreKeeps d st durable later)
         → Tells b st.turn st.log.written st.log.groups keeps.parts.said keeps.parts.payloads keeps.parts.written keeps.parts.waiting durable later
     tells durable later keeps = record {
       count = keeps.disk.count;
-      opens = either (OpensBy b st.turn keeps.parts.said keeps.parts.payloads keeps.parts.written durable) (IsTrue st.stopped) (OpensNext b st.turn keeps.parts.said keeps.parts.payloads keeps.parts.written keeps.parts.waiting later)
+      opens = as_waits (OpensBy b st.turn keeps.parts.said keeps.parts.payloads keeps.parts.written durable) (IsTrue st.stopped) (OpensNext b st.turn keeps.parts.said keeps.parts.payloads keeps.parts.written keeps.parts.waiting later)
           (keeps.disk.images b (is_disk.as_read b told));
       shows = keeps.disk.shows b (is_disk.as_read b told);
       spelled = keeps.waits.spelled;

@@ -73,3 +73,4 @@ pub record Follows (k : ℕ) (old : Replayed) (payload : List ℕ) (new : Replay
   pub spelled : SpellsGroups k payload groups
   pub may : MayReplay old groups
   pub leads : new ≡ replay old groups
+  pub goes_on : ReplaysOn old new

@@ -195,7 +195,6 @@ impl Touched {
         requires { IsReplayable (replayed_of self.old) }
         ensures followed { OnOk result (Follows self.old.meta.k (replayed_of self.old) payload.now (replayed_of self.new)) }
         ensures unfit { IsErrOf result Unfit → IsBadPayload self.old.meta.k (replayed_of self.old) payload.now }
-        ensures leads { OnOk result (ReplaysOn (replayed_of self.old) (replayed_of self.new)) }
     {
         groups_are_read_in_one_way();
         let groups = decode_all(alloc, payload, self.meta.k)?;

@@ -1,6 +1,6 @@
 -- The kinds of steps: nothing happens, a group is forced, a deed is done outright, or the step works. What holds of each kind
 -- holds of each step.
-use Rattle.std.proofs.Common.{◌≡◌, ◌⊎◌, inl, inr, ℕ, Bool, true, false, [], Option, Some, None, refl, sym, ap, ◌∙◌, subst, ◌<◌}
+use Rattle.std.proofs.Common.{◌≡◌, ◌⊎◌, inl, inr, ℕ, [], Option, Some, None, refl, sym, ap, ◌∙◌, subst, ◌<◌}
 use Rattle.std.specs.Prelude.{MatchOption}
 use Rattle.hb_set.specs.declared.commands.Reply.{Reply}
 use Rattle.hb_set.specs.declared.commands.Reply.TheVariants as replies
@@ -18,7 +18,7 @@ use Rattle.hb_core.specs.Forcing.{Flushes, ForcesFirst, StaysSo, FailsToWrite, F
 use Rattle.hb_core.specs.KeptMerges.{merging_at}
 use Rattle.hb_core.specs.Machines.{Machine, settled_count}
 use Rattle.hb_core.specs.Performing.{Performs, given_by, latches_held}
-use Rattle.hb_core.specs.Stages.{flusher_steps, HasMoreToFlush}
+use Rattle.hb_core.specs.Stages.{HasMoreToFlush}
 use Rattle.hb_core.specs.Steps.{AwaitsPlace, StepsAs, StepsTo, TakesJobToMerge, TakesPosting, Works, TakesJob, TakesMerging}
 use Rattle.hb_point.specs.SessionRows.{next_line, taking, WantsBoxes}
 use Rattle.hb_poster.specs.PosterRows.{IsPostingOf}
@@ -110,10 +110,10 @@ module _ (m : Machine) (actor : ℕ) (outcome : Outcome) (new : Machine) (G : Ty
   took_merging idle (inl (none, so)) = shows.stays outcomes.Idle tt so
   took_merging idle (inr (deed, takes, performs)) = shows.merges deed idle takes performs
 
-  flushed : (on : Bool) → Flushes on m outcome new → G
-  flushed false so = shows.stays outcomes.Idle tt so
-  flushed true (inl (waits, force)) = shows.forces outcomes.Moved tt force
-  flushed true (inr (none, rest)) = rest_kind m outcomes.Moved outcome new (StaysSo m outcomes.Idle outcome new) G none tt shows.more (shows.stays outcomes.Idle tt) rest
+  flushed : Flushes m outcome new → G
+  flushed (inr (off, so)) = shows.stays outcomes.Idle tt so
+  flushed (inl (on, inl (waits, force))) = shows.forces outcomes.Moved tt force
+  flushed (inl (on, inr (none, rest))) = rest_kind m outcomes.Moved outcome new (StaysSo m outcomes.Idle outcome new) G none tt shows.more (shows.stays outcomes.Idle tt) rest
 
   awaited : (number place : ℕ) (reply : Reply) → m.activity actor ≡ at.SessionAwait number reply place → AwaitsPlace m actor number reply place outcome new → G
   awaited number place reply is (inl (settled, performs)) = shows.settles number place reply is settled performs
@@ -127,7 +127,7 @@ module _ (m : Machine) (actor : ℕ) (outcome : Outcome) (new : Machine) (G : Ty
   stepped (at.SessionAwait number reply place) is one = awaited number place reply is one
   stepped at.PosterIdle is one = took_posting is one
   stepped at.ConsolidatorIdle is one = took_merging is one
-  stepped at.Flusher is one = flushed flusher_steps one
+  stepped at.Flusher is one = flushed one
   stepped activity is one = works_as _ is (λ never. never) one
 
   ran : (stop : Option StopWhy) → MatchOption stop (StepsAs (m.activity actor) m actor outcome new) (λ why. StaysSo m (outcomes.Stopped why) outcome new) → G

@@ -1,5 +1,5 @@
 -- Two steps of one actor from one machine go the same way, unless one was turned aside.
-use Rattle.std.proofs.Common.{ap, ◌≡◌, ◌≢◌, ◌⊎◌, inl, inr, ℕ, ◌++◌, Bool, true, false, List, ◌∷◌, All, Option, Some, None, IfSome, IsSomeAnd, IsTrue, refl, sym, ◌∙◌, subst, arith}
+use Rattle.std.proofs.Common.{ap, ◌≡◌, ◌≢◌, ◌⊎◌, inl, inr, ℕ, ◌++◌, List, ◌∷◌, All, Option, Some, None, IfSome, IsSomeAnd, IsTrue, refl, sym, ◌∙◌, subst, arith}
 use Rattle.std.specs.Prelude.{MatchOption}
 use Rattle.std.specs.List.{Contains}
 use Rattle.std.proofs.lemmas.Bool.{cases_lt}
@@ -30,7 +30,6 @@ use Rattle.hb_core.specs.GivingUp.{runs_out}
 use Rattle.hb_core.specs.Machines.{Machine}
 use Rattle.hb_core.specs.OutcomeLaws.{IsTurnedAside}
 use Rattle.hb_core.specs.Performing.{ChangesQueue, Performs}
-use Rattle.hb_core.specs.Stages.{flusher_steps}
 use Rattle.hb_core.specs.Steps.{TakesJob, TakesMerging, AwaitsPlace, GetsReady, StepsAs, StepsTo, TakesJobToMerge, TakesPosting, Works}
 use Rattle.hb_latch.specs.Modes.{goes_beside}
 use Rattle.hb_latch.specs.Tables.{IsGrantable, IsLeastInTheWay, LatchTable, mode_at}
@@ -169,9 +168,11 @@ module _ (m : Machine) (actor : ℕ) (outcome other : Outcome) (new next : Machi
   both_merge (inr (d, takes, first)) (inr (e, again, second)) =
       shows.deeds d e (one_merging m d e new.jobs next.jobs first.jobs second.jobs takes again) (ap (λ (x : Deed). walk_held x.next) takes.deed_is ∙ merging_holds_nothing takes.job m.store.meta.height takes.next takes.merging) first second
 
-  both_flush : (on : Bool) → Flushes on m outcome new → Flushes on m other next → G
-  both_flush false first second = both_stay outcomes.Idle first second
-  both_flush true first second = both_flush_once outcomes.Moved (StaysSo m outcomes.Idle outcome new) (StaysSo m outcomes.Idle other next) (λ a b. both_stay outcomes.Idle a b) first second
+  both_flush : Flushes m outcome new → Flushes m other next → G
+  both_flush (inr (off, first)) (inr (off', second)) = both_stay outcomes.Idle first second
+  both_flush (inl (on, first)) (inr (off, second)) = absurd (off on)
+  both_flush (inr (off, first)) (inl (on, second)) = absurd (off on)
+  both_flush (inl (on, first)) (inl (on', second)) = both_flush_once outcomes.Moved (StaysSo m outcomes.Idle outcome new) (StaysSo m outcomes.Idle other next) (λ a b. both_stay outcomes.Idle a b) first second
 
   both_await : (number : ℕ) (reply : Reply) (place : ℕ) → AwaitsPlace m actor number reply place outcome new → AwaitsPlace m actor number reply place other next → G
   both_await number reply place (inl (lt, first)) (inl (lt', second)) = shows.deeds (answers_now number reply) (answers_now number reply) refl refl first second
@@ -184,7 +185,7 @@ module _ (m : Machine) (actor : ℕ) (outcome other : Outcome) (new next : Machi
   both_step (at.SessionAwait number reply place) is first second = both_await number reply place first second
   both_step at.PosterIdle is first second = both_post first second
   both_step at.ConsolidatorIdle is first second = both_merge first second
-  both_step at.Flusher is first second = both_flush flusher_steps first second
+  both_step at.Flusher is first second = both_flush first second
   both_step activity is first second = both_work first second
 
   both_run : (stop : Option StopWhy)

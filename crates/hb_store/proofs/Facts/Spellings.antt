@@ -1,14 +1,9 @@
 -- What bytes spell at most.
 use Rattle.std.proofs.Common.{◌≡◌, ℕ, List, [], ◌∷◌, ◌++◌, sym, ◌∙◌}
-use Rattle.hb_frag.specs.declared.pages.Page.{Page}
-use Rattle.hb_frag.specs.Grammar.{SpellsPage}
 use Rattle.hb_log_codec.specs.Groups.{FitsGroup, Logged, SpellsGroups, group_bytes}
 use Rattle.hb_store.specs.Opening.{SpellAll}
 
--- bytes spell at most one page, and one list of groups; no group's spelling begins another's
-abbrev pub SpelledOnce : Type 0
-SpelledOnce = (bytes : List ℕ) (p q : Page) → SpellsPage bytes p → SpellsPage bytes q → p ≡ q
-
+-- bytes spell at most one list of groups; no group's spelling begins another's
 abbrev pub OneList : Type 0
 OneList = (k : ℕ) (bytes : List ℕ) (xs ys : List Logged) → SpellsGroups k bytes xs → SpellsGroups k bytes ys → xs ≡ ys
 

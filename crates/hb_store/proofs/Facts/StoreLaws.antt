@@ -32,7 +32,7 @@ running_only : (b : Bool) (A B : Type 0) → b ≡ false → A ⊎ (IsTrue b × 
 running_only b A B going (inl a) = a
 running_only b A B going (inr (stopped, h)) = cc (going, stopped)
 
-as_waits : (A B C : Type 0) → A ⊎ (B × C) → A ⊎ C
+pub as_waits : (A B C : Type 0) → A ⊎ (B × C) → A ⊎ C
 as_waits A B C (inl a) = inl a
 as_waits A B C (inr (b, c)) = inr c
 

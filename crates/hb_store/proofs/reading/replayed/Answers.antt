@@ -33,8 +33,8 @@ loop-payload-preserved c =
       replayed = subst (λ l. HasReplayed said l (replayed_of c.follow_all.new.self)) more
           (replayed_more said (map (λ v. v.items) came) (replayed_of c.loop-payload.touched) (replayed_of c.follow_all.new.self) next.items c.loop-payload.invariant.replayed here);
       on = record {
-        meta = after_more said c.loop-payload.touched.meta c.follow_all.new.self.meta c.loop-payload.invariant.on.meta c.in-Ok.ensures.leads.meta;
-        pages = c.in-Ok.ensures.leads.pages;
+        meta = after_more said c.loop-payload.touched.meta c.follow_all.new.self.meta c.loop-payload.invariant.on.meta c.in-Ok.ensures.followed.goes_on.meta;
+        pages = c.in-Ok.ensures.followed.goes_on.pages;
       };
       counted = omega (arith, c.loop-payload.invariant.counted, length-append came (next ∷ []));
     }
