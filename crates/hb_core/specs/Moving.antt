@@ -1,11 +1,14 @@
 -- What the private calls of a core make of it, said of what it holds.
-use Rattle.std.specs.Prelude.{◌≡◌, ℕ, ◌-◌, List, [], ◌∷◌, ◌++◌, length, replicate, Option, Some, None}
+use Rattle.std.specs.Prelude.{◌≡◌, ◌≢◌, AllPairs, ℕ, ◌-◌, List, [], ◌∷◌, ◌++◌, length, replicate, Option, Some, None}
 use Rattle.std.specs.List.{slice_get, slice_set}
 use Rattle.std.specs.FinMap as map
 use Rattle.hb_disk.specs.Model.{DiskModel}
 use Rattle.hb_activity.specs.declared.activities.Activity.{Activity}
 use Rattle.hb_activity.specs.declared.activities.Activity.TheVariants as at
+use Rattle.hb_activity.specs.declared.holding.Latch.{Latch}
+use Rattle.hb_activity.specs.declared.jobs.Job.{Job}
 use Rattle.hb_activity.specs.Deeds.{Deed}
+use Rattle.hb_latch.specs.Tables.{LatchTable}
 use Rattle.hb_ops.specs.Files.{FileState}
 use Rattle.hb_ops.specs.declared.operations.Op.{Op}
 use Rattle.hb_set.specs.Order.{Entry}
@@ -24,6 +27,17 @@ StandsAs c actor activity = slice_get c.activities (actor - 1) ≡ Some activity
 -- where it stands elsewhere, all else is as it was
 abbrev pub with_standing : ℕ → Activity → RunningCore → RunningCore
 with_standing actor next c = record c { activities = slice_set c.activities (actor - 1) next }
+
+-- the same with other jobs, and with other latches
+abbrev pub with_jobs : List Job → RunningCore → RunningCore
+with_jobs jobs c = record c { jobs = jobs }
+
+abbrev pub with_latches : LatchTable → RunningCore → RunningCore
+with_latches latches c = record c { latches = latches }
+
+-- latches on different pages
+abbrev pub AreApart : List Latch → Type 0
+AreApart latches = AllPairs (λ (l : Latch) (m : Latch). l.page ≢ m.page) latches
 
 -- An actor stands elsewhere, and has the latches of that and no other. All else is as it was.
 pub record Stands (actor : ℕ) (next : Activity) (old new : RunningCore) : Type 0 where

@@ -14,17 +14,17 @@
 //! completed late, and Evangelidis, Lomet and Salzberg 1997.
 #![tactic(auto)]
 
-mod asking;
 pub mod asked_laws;
+mod asking;
 pub mod cause_laws;
+mod endings;
 pub mod examples;
 pub mod file_laws;
+mod halts;
 pub mod keeping_laws;
 pub mod laws;
 pub mod machine_laws;
 pub mod outcome_laws;
-mod endings;
-mod halts;
 mod outcomes;
 pub mod progress_laws;
 mod reading;
@@ -35,7 +35,7 @@ pub mod waiting_laws;
 mod working;
 pub mod written_chains;
 
+pub use endings::{End, Ran};
 pub use hb_activity::DropWhy;
 pub use outcomes::Outcome;
-pub use endings::{End, Ran};
 pub use state::Core;

@@ -132,8 +132,7 @@ impl<D: Device> Core<D> {
     /// Whether the line, which stands at the place, has no answer: its session hasn't come to it, or has it in hand.
     fn is_left(&self, place: usize, line: &Line) -> bool {
         let session = usize::from(line.session) - 1;
-        self.behind[session] <= place
-            || self.line_in_hand(line.session) == Some(line.number)
+        self.behind[session] <= place || self.line_in_hand(line.session) == Some(line.number)
     }
 
     /// Whether a worker has a job of the kind in work.
@@ -202,13 +201,21 @@ fn idle_actors() -> ArrayVec<Activity, ACTORS>
     ensures { result.items ≡ all_idle }
 {
     let mut actors = ArrayVec::new();
-    for _ in 0..SESSIONS {
-        actors.push(Activity::SessionIdle);
-    }
+    push_sessions(&mut actors);
     actors.push(Activity::PosterIdle);
     actors.push(Activity::ConsolidatorIdle);
     actors.push(Activity::Flusher);
     actors
+}
+
+/// Sixteen sessions without a line.
+fn push_sessions(actors: &mut ArrayVec<Activity, ACTORS>)
+    requires { actors.old.items ≡ [] }
+    ensures { actors.new.items ≡ replicate 16 Activity.SessionIdle }
+{
+    for _ in 0..SESSIONS {
+        actors.push(Activity::SessionIdle);
+    }
 }
 
 /// How an actor stands with nothing in hand.

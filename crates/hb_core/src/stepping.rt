@@ -1,4 +1,8 @@
 //! One step of an actor.
+ghost use Rattle.std.specs.Prelude.{◌≡◌};
+ghost use Rattle.hb_latch.specs.Tables.{MayLatch};
+ghost use Rattle.hb_core.specs.CoreSeen.{core_seen, core_disk};
+ghost use Rattle.hb_core.specs.Moving.{StandsAs, with_standing};
 
 use crate::halts::copy_of;
 use crate::outcomes::Outcome;
@@ -7,7 +11,7 @@ use crate::state::Core;
 use hb_activity::{Activity, JobKind};
 use hb_disk::Device;
 use hb_set::{Command, Line};
-use hb_space::{Actor, Areas, Records, Record};
+use hb_space::{Actor, Areas, Record, Records};
 use hb_store::{Flushed, StopWhy};
 use std::mem;
 
@@ -105,7 +109,12 @@ impl<D: Device> Core<D> {
     }
 
     /// The actor stands elsewhere. What it stood as before is given back.
-    pub(crate) fn replace(&mut self, actor: Actor, next: Activity) -> Activity {
+    pub(crate) fn replace(&mut self, actor: Actor, next: Activity) -> Activity
+        requires actor { MayLatch actor }
+        ensures old { StandsAs (core_seen self.old) actor result }
+        ensures new { core_seen self.new ≡ with_standing actor next (core_seen self.old) }
+        ensures disk { core_disk self.new ≡ core_disk self.old }
+    {
         mem::replace(
             &mut self.activities.as_mut_slice()[usize::from(actor) - 1],
             next,

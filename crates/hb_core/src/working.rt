@@ -1,4 +1,11 @@
 //! A step that wants a latch or changes the file.
+ghost use Rattle.std.specs.Prelude.{◌≡◌, ℕ, ◌<◌, ◌≤◌, length, take, drop, Some, None};
+ghost use Rattle.std.specs.FinMap as map;
+ghost use Rattle.hb_latch.specs.Tables.{IsGrantable, MayLatch, latches_of, mode_at};
+ghost use Rattle.hb_activity.specs.Queue.{AddsJobs};
+ghost use Rattle.hb_core.specs.CoreSeen.{core_seen, core_disk};
+ghost use Rattle.hb_core.specs.Moving.{AreApart, with_jobs, with_latches};
+ghost use Rattle.hb_core.specs.Performing.{Relatches, mode_among};
 
 use crate::halts::Halt;
 use crate::outcomes::Outcome;
@@ -8,6 +15,8 @@ use arrayvec::ArrayVec;
 use hb_activity::{Activity, DropWhy, Fate, Job, Latch, Next, Wanted};
 use hb_disk::Device;
 use hb_frag::LivePage;
+use hb_latch::Latches;
+use hb_latch::laws::{each_call_changes_one_latch, each_latch_counts_once};
 use hb_set::Reply;
 use hb_space::{Actor, NoMemory};
 use hb_store::StopWhy;
@@ -37,7 +46,12 @@ impl<D: Device> Core<D> {
     }
 
     /// Does the row: brings what it needs, asks the decider, and performs what that says.
-    fn do_row(&mut self, actor: Actor, wanted: Option<Wanted>, line: Option<u32>) -> Result<Outcome, Halt> {
+    fn do_row(
+        &mut self,
+        actor: Actor,
+        wanted: Option<Wanted>,
+        line: Option<u32>,
+    ) -> Result<Outcome, Halt> {
         if let Some(wanted) = wanted {
             self.bring(actor, wanted)?;
         }
@@ -138,8 +152,23 @@ impl<D: Device> Core<D> {
     }
 
     /// Lets the jobs wait, one after the other.
-    fn add_all(&mut self, mut jobs: ArrayVec<Job, 2>) {
-        while !jobs.is_empty() {
+    fn add_all(&mut self, mut jobs: ArrayVec<Job, 2>)
+        ensures jobs { AddsJobs jobs.items (core_seen self.old).jobs (core_seen self.new).jobs }
+        ensures rest { core_seen self.new ≡ with_jobs (core_seen self.new).jobs (core_seen self.old) }
+        ensures disk { core_disk self.new ≡ core_disk self.old }
+    {
+        self.add_first(&mut jobs);
+        self.add_first(&mut jobs);
+    }
+
+    /// Lets the first of the jobs wait, where there is one.
+    fn add_first(&mut self, jobs: &mut ArrayVec<Job, 2>)
+        ensures jobs { AddsJobs (take 1 jobs.old.items) (core_seen self.old).jobs (core_seen self.new).jobs }
+        ensures left { jobs.new.items ≡ drop 1 jobs.old.items }
+        ensures rest { core_seen self.new ≡ with_jobs (core_seen self.new).jobs (core_seen self.old) }
+        ensures disk { core_disk self.new ≡ core_disk self.old }
+    {
+        if !jobs.is_empty() {
             let _ = self.jobs.add(jobs.remove(0));
         }
     }
@@ -171,14 +200,28 @@ impl<D: Device> Core<D> {
         self.live(activity.walk_held()?)
     }
 
-    /// The actor has these latches and no other.
-    fn latch_all(&mut self, actor: Actor, latches: &[Latch]) {
+    /// The actor has these latches and no other. Nobody is in the way of them.
+    fn latch_all(&mut self, actor: Actor, latches: &[Latch])
+        requires actor { MayLatch actor }
+        requires few { length latches.now ≤ 2 }
+        requires apart { AreApart latches.now }
+        requires free { (page : ℕ) (mode : _) → mode_among page latches.now ≡ Some mode →
+            IsGrantable (core_seen self.old).latches actor page mode }
+        ensures latches { Relatches actor latches.now (core_seen self.old).latches (core_seen self.new).latches }
+        ensures rest { core_seen self.new ≡ with_latches (core_seen self.new).latches (core_seen self.old) }
+        ensures disk { core_disk self.new ≡ core_disk self.old }
+    {
+        each_call_changes_one_latch();
+        each_latch_counts_once();
         self.latches.release_all(actor);
-        for latch in latches {
-            match self.latches.try_take(actor, latch.page, latch.mode) {
-                Ok(()) => {}
-                Err(_) => unreachable!(),
+        match latches {
+            [] => {}
+            [one] => take(&mut self.latches, actor, *one),
+            [one, other] => {
+                take(&mut self.latches, actor, *one);
+                take(&mut self.latches, actor, *other);
             }
+            _ => unreachable!(),
         }
     }
 
@@ -208,6 +251,20 @@ impl<D: Device> Core<D> {
             },
             None => Outcome::Moved,
         }
+    }
+}
+
+/// Takes a latch that nobody is in the way of.
+fn take(latches: &mut Latches, actor: Actor, latch: Latch)
+    requires actor { MayLatch actor }
+    requires few { latches_of latches.old actor < 3 }
+    requires absent { mode_at latches.old actor latch.page ≡ None }
+    requires free { IsGrantable latches.old actor latch.page latch.mode }
+    ensures { latches.new ≡ map.insert latches.old (actor, latch.page) latch.mode }
+{
+    match latches.try_take(actor, latch.page, latch.mode) {
+        Ok(()) => {}
+        Err(_) => unreachable!(),
     }
 }
 

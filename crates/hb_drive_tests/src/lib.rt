@@ -2,6 +2,6 @@
 #![tactic(auto)]
 
 #[cfg(test)]
-mod runs;
-#[cfg(test)]
 mod rows;
+#[cfg(test)]
+mod runs;

@@ -6,10 +6,12 @@ use std::alloc::Global;
 use std::process::Abort;
 
 /// Seven points in three attributes, of which one lies between the others.
-const BETWEEN: &str = "1 insert 1 5 5 =\n1 insert 9 5 5 =\n1 insert 5 1 5 =\n1 insert 5 9 5 =\n1 insert 5 5 1 =\n1 insert 5 5 9 =\n1 insert 5 5 5 =\nstep 1x40\n";
+const BETWEEN: &str =
+    "1 insert 1 5 5 =\n1 insert 9 5 5 =\n1 insert 5 1 5 =\n1 insert 5 9 5 =\n1 insert 5 5 1 =\n1 insert 5 5 9 =\n1 insert 5 5 5 =\nstep 1x40\n";
 
 /// Seven points in one attribute.
-const SEVEN: &str = "1 insert 10 =\n1 insert 20 =\n1 insert 30 =\n1 insert 40 =\n1 insert 50 =\n1 insert 60 =\n1 insert 70 =\nstep 1x40\n";
+const SEVEN: &str =
+    "1 insert 10 =\n1 insert 20 =\n1 insert 30 =\n1 insert 40 =\n1 insert 50 =\n1 insert 60 =\n1 insert 70 =\nstep 1x40\n";
 
 const SEVEN_OK: &str = "1 ok\n2 ok\n3 ok\n4 ok\n5 ok\n6 ok\n7 ok\norder 1 2 3 4 5 6 7\n";
 
@@ -22,7 +24,12 @@ fn seven(alloc: Global) -> Option<MemDisk> {
 }
 
 fn by_a_sibling(alloc: Global) -> Option<MemDisk> {
-    says(alloc, seven(alloc)?, "1 lookup 10\nstep 1x4\n", "1 found =\norder 1\n")
+    says(
+        alloc,
+        seven(alloc)?,
+        "1 lookup 10\nstep 1x4\n",
+        "1 found =\norder 1\n",
+    )
 }
 
 fn posted(alloc: Global) -> Option<MemDisk> {
