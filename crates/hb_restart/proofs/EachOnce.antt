@@ -7,7 +7,7 @@ use Rattle.hb_disk.specs.Model.{DiskModel, IsDisk, Torn}
 use Rattle.hb_disk.specs.Calls.{Ticks, Becomes}
 use Rattle.hb_disk.proofs.Facts.RunLaws.{one_tick}
 use Rattle.hb_disk.proofs.Facts.TornLaws.{Torn-elsewhere}
-use Rattle.hb_lemmas.proofs.Options.{at_value, has_value, some_value}
+use Rattle.hb_lemmas.proofs.Options.{has_value}
 use Rattle.std.proofs.lemmas.Option.{same_Some}
 use Rattle.hb_frag.specs.declared.pages.Page.{Page}
 use Rattle.hb_frag.specs.Grammar.{SpellsPage}
@@ -16,7 +16,7 @@ use Rattle.hb_layout.specs.Offsets.{page_offset}
 use Rattle.hb_store.specs.Opening.{place_bytes}
 use Rattle.hb_restart.specs.WritingBack.{one_for, touched_to, WritesEachOnce, WritesAll, IsWrittenTo}
 use Rattle.hb_restart.proofs.Renewed.{other_place}
-use Rattle.hb_restart.proofs.RunSteps.{ok_tick}
+use Rattle.hb_restart.proofs.RunSteps.{ok_tick, Tore, tore}
 use Rattle.hb_disk.proofs.Facts.RewriteLaws.{Becomes-tells}
 
 -- the count doesn't fall
@@ -94,11 +94,8 @@ module _ (from : ℕ) (bytes : List ℕ) (meta : Meta) (touched : ℕ → Option
   -- A call that may change the place of the next page, which the log touches.
   module _ {T E : Type 0} (r : Result T E) (old new : DiskModel) (is_old : IsDisk old) (before at : ℕ) (is_at : before + 1 ≡ at) (q : Page) (is_q : touched at ≡ Some q)
       (stands : IsWrittenTo before from bytes meta touched old) (ticks : Ticks r old new) (run : Becomes (Torn (page_offset meta at) PAGE) old new) where
-    was : (x : List ℕ) × (old.told ≡ Some x)
-    was = some_value old.told stands.tells
-
-    after : (x : List ℕ) × (new.told ≡ Some x) × Torn (page_offset meta at) PAGE was.0 x
-    after = at_value old.told (λ b. (c : List ℕ) × (new.told ≡ Some c) × Torn (page_offset meta at) PAGE b c) was.0 was.1 run.told
+    tears : Tore old new (page_offset meta at) PAGE
+    tears = tore old new (page_offset meta at) PAGE stands.tells run
 
     one_more : touched_to touched at ≡ touched_to touched before + 1
     one_more =
@@ -107,18 +104,18 @@ module _ (from : ℕ) (bytes : List ℕ) (meta : Meta) (touched : ℕ → Option
         ap (λ (n : ℕ). touched_to touched n) (sym next) ∙ touched_one touched before q (subst Q (sym next) is_q)
 
     -- the place of another page is as it was
-    elsewhere : (id : ℕ) → 1 ≤ id → (id ≡ at → ⊥) → (c : List ℕ) → new.told ≡ Some c → place_bytes meta id c ≡ place_bytes meta id was.0
+    elsewhere : (id : ℕ) → 1 ≤ id → (id ≡ at → ⊥) → (c : List ℕ) → new.told ≡ Some c → place_bytes meta id c ≡ place_bytes meta id tears.before
     elsewhere id some other c told =
-        ap (λ (l : List ℕ). place_bytes meta id l) (same_Some c after.0 (sym told ∙ after.1))
-        ∙ Torn-elsewhere (page_offset meta at) PAGE (page_offset meta id) PAGE was.0 after.0 (other_place meta id at some (omega (arith, is_at)) other) after.2
+        ap (λ (l : List ℕ). place_bytes meta id l) (same_Some c tears.after (sym told ∙ tears.is))
+        ∙ Torn-elsewhere (page_offset meta at) PAGE (page_offset meta id) PAGE tears.before tears.after (other_place meta id at some (omega (arith, is_at)) other) tears.torn
 
-    elsewhere_spelled : (id : ℕ) (page : Page) → 1 ≤ id → (id ≡ at → ⊥) → SpellsPage (place_bytes meta id was.0) page → (c : List ℕ) → new.told ≡ Some c → SpellsPage (place_bytes meta id c) page
+    elsewhere_spelled : (id : ℕ) (page : Page) → 1 ≤ id → (id ≡ at → ⊥) → SpellsPage (place_bytes meta id tears.before) page → (c : List ℕ) → new.told ≡ Some c → SpellsPage (place_bytes meta id c) page
     elsewhere_spelled id page some other spells c told = let S : List ℕ → Type 0 = λ l. SpellsPage l page in subst S (sym (elsewhere id some other c told)) spells
 
     untouched_still : (id : ℕ) → 1 ≤ id → touched id ≡ None → (c : List ℕ) → new.told ≡ Some c → place_bytes meta id c ≡ place_bytes meta id bytes
     untouched_still id some none c told =
         elsewhere id some (λ same. let Q : ℕ → Type 0 = λ n. touched n ≡ Some q in let never : touched id ≡ Some q = subst Q (sym same) is_q in cc (none, never)) c told
-        ∙ stands.others id some none was.0 was.1
+        ∙ stands.others id some none tears.before tears.was
 
     waits_still : (id : ℕ) → 1 ≤ id → new.clock < from + touched_to touched id → (c : List ℕ) → new.told ≡ Some c → place_bytes meta id c ≡ place_bytes meta id bytes
     waits_still id some early c told = elim (cases_lt before id) [
@@ -128,7 +125,7 @@ module _ (from : ℕ) (bytes : List ℕ) (meta : Meta) (touched : ℕ → Option
         | inr counts ↦
             let here = ticks.tick stands.tells counts in
             elsewhere id some (λ same. let count : touched_to touched id ≡ touched_to touched at = ap (λ (n : ℕ). touched_to touched n) same in omega (arith, count, one_more, early, here, stands.time)) c told
-            ∙ stands.waits id behind was.0 was.1
+            ∙ stands.waits id behind tears.before tears.was
       ]
     ]
 
@@ -140,7 +137,7 @@ module _ (from : ℕ) (bytes : List ℕ) (meta : Meta) (touched : ℕ → Option
             let more = touched_more touched at id (omega (arith, behind, is_at)) in
             let tick = one_tick r old new is_old ticks stands.tells in
             absurd (omega (arith, more, one_more, later, tick, stands.time))
-        | inr reached ↦ elsewhere_spelled id page some (λ same. omega (arith, same, reached, is_at)) (stands.written id page some reached is was.0 was.1) c told
+        | inr reached ↦ elsewhere_spelled id page some (λ same. omega (arith, same, reached, is_at)) (stands.written id page some reached is tears.before tears.was) c told
       ];
       waits = λ id some most early c told. waits_still id some early c told;
       others = untouched_still;
@@ -158,31 +155,28 @@ module _ (from : ℕ) (bytes : List ℕ) (meta : Meta) (touched : ℕ → Option
             let S : Page → Type 0 = λ x. SpellsPage (place_bytes meta at c) x in
             let N : ℕ → Type 0 = λ n. SpellsPage (place_bytes meta n c) page in
             subst N (sym same) (subst S page_is (there c told))
-        | inr other ↦ elsewhere_spelled id page some other (stands.written id page some (omega (arith, most, other, is_at)) is was.0 was.1) c told
+        | inr other ↦ elsewhere_spelled id page some other (stands.written id page some (omega (arith, most, other, is_at)) is tears.before tears.was) c told
       ];
-      waits = λ id behind c told. elsewhere id (omega (arith, behind, is_at)) (λ same. omega (arith, same, behind)) c told ∙ stands.waits id (omega (arith, behind, is_at)) was.0 was.1;
+      waits = λ id behind c told. elsewhere id (omega (arith, behind, is_at)) (λ same. omega (arith, same, behind)) c told ∙ stands.waits id (omega (arith, behind, is_at)) tears.before tears.was;
       others = untouched_still;
     }
 
   -- Behind the last page no call changes the place of any.
   module _ (old new : DiskModel) (stands : IsWrittenTo meta.high from bytes meta touched old) (later : old.clock ≤ new.clock) (run : Becomes (Torn 0 (page_offset meta 1)) old new) where
-    old_bytes : (x : List ℕ) × (old.told ≡ Some x)
-    old_bytes = some_value old.told stands.tells
+    front : Tore old new 0 (page_offset meta 1)
+    front = tore old new 0 (page_offset meta 1) stands.tells run
 
-    new_bytes : (x : List ℕ) × (new.told ≡ Some x) × Torn 0 (page_offset meta 1) old_bytes.0 x
-    new_bytes = at_value old.told (λ b. (c : List ℕ) × (new.told ≡ Some c) × Torn 0 (page_offset meta 1) b c) old_bytes.0 old_bytes.1 run.told
-
-    page_kept : (id : ℕ) (c : List ℕ) → new.told ≡ Some c → place_bytes meta id c ≡ place_bytes meta id old_bytes.0
+    page_kept : (id : ℕ) (c : List ℕ) → new.told ≡ Some c → place_bytes meta id c ≡ place_bytes meta id front.before
     page_kept id c told =
-        ap (λ (l : List ℕ). place_bytes meta id l) (same_Some c new_bytes.0 (sym told ∙ new_bytes.1))
-        ∙ Torn-elsewhere 0 (page_offset meta 1) (page_offset meta id) PAGE old_bytes.0 new_bytes.0 (inr (omega arith)) new_bytes.2
+        ap (λ (l : List ℕ). place_bytes meta id l) (same_Some c front.after (sym told ∙ front.is))
+        ∙ Torn-elsewhere 0 (page_offset meta 1) (page_offset meta id) PAGE front.before front.after (inr (omega arith)) front.torn
 
     pub behind_all : WritesEachOnce from bytes meta touched new
     behind_all = record {
       written = λ id page some most is late c told. let S : List ℕ → Type 0 = λ l. SpellsPage l page in
-          subst S (sym (page_kept id c told)) (stands.written id page some most is old_bytes.0 old_bytes.1);
+          subst S (sym (page_kept id c told)) (stands.written id page some most is front.before front.was);
       waits = λ id some most early c told. let more = touched_more touched id meta.high most in absurd (omega (arith, more, early, later, stands.time));
-      others = λ id some none c told. page_kept id c told ∙ stands.others id some none old_bytes.0 old_bytes.1;
+      others = λ id some none c told. page_kept id c told ∙ stands.others id some none front.before front.was;
     }
 
     pub all_written : new.clock ≤ old.clock + 11 → WritesAll from bytes meta touched new

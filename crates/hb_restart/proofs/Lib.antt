@@ -3,7 +3,6 @@ pub mod Numbered
 pub mod NoChild
 pub mod NewFile
 pub mod Made
-pub mod MadeOrNot
 pub mod RunSteps
 pub mod RunsThen
 pub mod PageWrites
@@ -17,6 +16,5 @@ pub mod SamePages
 pub mod Opened
 pub mod Recovered
 pub mod SoundFiles
-pub mod BadFrames
 pub mod NotRefused
 pub mod OneRefusal

@@ -1,4 +1,4 @@
--- The file that is made first: its page has a spelling, it is sound, and it has no record.
+-- The file that is made first: its page has a spelling, and it is sound.
 use Rattle.std.proofs.Common.{◌≡◌, nat_le, ◌&&◌, Bool, true, false, cond, Option, Some, None, IsNone, ℕ, zero, suc, ◌+◌, ◌-◌, ◌*◌, ◌^◌, ◌<◌, ◌≤◌, List, [], ◌++◌, length, replicate, slice_index, Contains, refl, sym, ◌∙◌, subst, arith, length-append}
 use Rattle.std.proofs.lemmas.List.{length-replicate}
 use Rattle.std.proofs.lemmas.List.Elements.{All-replicate, All-nil, All-cons}
@@ -11,12 +11,12 @@ use Rattle.hb_frag.specs.declared.pages.Page.TheVariants.{Live}
 use Rattle.hb_frag.specs.Leaves.{leaves_of, siblings_of}
 use Rattle.hb_frag.specs.Grammar.{HasSpelling, FitsRecord, leaf_bytes, tree_bytes, point_bytes}
 use Rattle.hb_frag.specs.Trees.{Tip}
-use Rattle.std.proofs.lemmas.Bool.{false≢true, leb-true}
+use Rattle.std.proofs.lemmas.Bool.{and_parts, leb-true}
 use Rattle.hb_frag.specs.declared.pages.LivePage.{LivePage}
 use Rattle.hb_frag.specs.Rules.{BelongsAt, IsInOrder}
 use Rattle.hb_layout.specs.Limits.{IsLayout}
 use Rattle.hb_ops.specs.Sound.{FitsFile, SiblingsMatch, ChildrenMatch, IsCovered, IsSound}
-use Rattle.hb_ops.specs.Files.{file_records, live_page}
+use Rattle.hb_ops.specs.Files.{live_page}
 use Rattle.hb_restart.specs.NewFiles.{new_meta, new_file, new_page}
 use Rattle.hb_restart.specs.Layouts.{layout_fault}
 use Rattle.hb_restart.specs.declared.faults.Field.TheVariants as fields
@@ -76,12 +76,8 @@ none_left : (b : Bool) (rest : Option BadField) (fault : BadField) → cond b re
 none_left true rest fault e = (refl, e)
 none_left false rest fault e = absurd (let never : Some fault ≡ None = e in cc)
 
-both_true : (a b : Bool) → a && b ≡ true → (a ≡ true) × (b ≡ true)
-both_true true b e = (refl, e)
-both_true false b e = absurd (false≢true e)
-
 within : (low n high : ℕ) → nat_le low n && nat_le n high ≡ true → (low ≤ n) × (n ≤ high)
-within low n high e = let both = both_true (nat_le low n) (nat_le n high) e in (leb-true low n both.0, leb-true n high both.1)
+within low n high e = let both = and_parts (nat_le low n) (nat_le n high) e in (leb-true low n both.0, leb-true n high both.1)
 
 pub layout_is : (l : Layout) → layout_fault l ≡ None → IsLayout (new_meta l)
 layout_is l none =
@@ -174,6 +170,3 @@ new_is_sound l none =
       children = new_children l;
       covered = new_covered l;
     }
-
-pub new_has_none : (l : Layout) → file_records (new_file l) ≡ []
-new_has_none l = refl

@@ -13,7 +13,7 @@ use Rattle.hb_sound.specs.Names.{NamesIn, OneIsNamed}
 use Rattle.hb_restart.specs.Refusals.{RefusesBytes, IsUnwritten, IsSmall, IsUnsound, HasLayout, LogSays, LacksPage}
 use Rattle.hb_restart.specs.declared.faults.OpenFault.{OpenFault}
 use Rattle.hb_restart.specs.declared.faults.OpenFault.TheVariants as faults
-use Rattle.hb_restart.proofs.BadFrames.{one_bad_group, bad_or_whole}
+use Rattle.hb_store.proofs.Facts.BadGroups.{not_both, one_bad_group}
 use Rattle.hb_restart.proofs.NotRefused.{least_size, opens_so}
 use Rattle.hb_sound.proofs.LeastLaws.{least_one}
 
@@ -74,7 +74,10 @@ module _ (once : OneList) (turns : (bytes : List ℕ) (t s : ℕ) (m n : Meta) �
   bad_same t s m n f g x y bad_f bad_g = one_bad_group once b s n f g (moved (λ k said. HasBadGroup b k said f) t s m n x y bad_f) bad_g
 
   bad_not : (t s : ℕ) (m n : Meta) (f : ℕ) (groups : List Logged) → HasLayout b t m → HasLayout b s n → HasBadGroup b t m f → LogSays b s n groups → ⊥
-  bad_not t s m n f groups x y bad log = bad_or_whole once b s n f groups (moved (λ k said. HasBadGroup b k said f) t s m n x y bad) log
+  bad_not t s m n f groups x y bad log =
+      let here : HasBadGroup b s n f = moved (λ k said. HasBadGroup b k said f) t s m n x y bad in
+      not_both once n.k (untouched n) log.payloads here.before log.framed.rest here.rest groups here.groups (sym log.framed.bytes ∙ here.framed) log.framed.payloads_fit here.payloads_fit log.framed.at_end
+      log.spelled here.spelled log.replayed here.bad
 
   pub refused_once : (f g : OpenFault) → RefusesBytes f b → RefusesBytes g b → IsUnwritten f → IsUnwritten g → f ≡ g
   refused_once faults.DiskFault g x y u v = absurd u

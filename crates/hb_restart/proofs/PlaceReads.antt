@@ -1,5 +1,5 @@
 -- What is read in the place of a page.
-use Rattle.std.proofs.Common.{◌≡◌, ◌⊎◌, inl, inr, ℕ, ◌∙◌, List, length, take, drop, Option, Some, None, IfSome, Result, Ok, Err, refl, ap}
+use Rattle.std.proofs.Common.{◌≡◌, ◌⊎◌, inl, inr, ℕ, ◌∙◌, List, length, take, drop, Option, Some, None, IfSome, IfOk, Result, Ok, Err, refl, ap}
 use Rattle.hb_space.specs.declared.form.TheConstants.{PAGE}
 use Rattle.hb_frag.specs.declared.pages.Page.{Page}
 use Rattle.hb_frag.specs.Grammar.{SpellsPage}
@@ -16,6 +16,13 @@ pub place_read : (told : Option (List ℕ)) (into : List ℕ) (meta : Meta) (id 
 place_read None into meta id at same long reads = tt
 place_read (Some b) into meta id at same long reads =
     reads ∙ ap (λ (n : ℕ). take n (drop at b)) long ∙ ap (λ (n : ℕ). take PAGE (drop n b)) same
+
+-- so the page that they are read as is that of its place
+pub page_read : {E : Type 0} (r : Result (Option Page) E) (told : Option (List ℕ)) (into : List ℕ) (meta : Meta) (id : ℕ) → IfOk r (λ page. page ≡ page_of_bytes into)
+    → IfSome told (λ b. into ≡ place_bytes meta id b) → IfOk r (λ page. IfSome told (λ b. page ≡ page_of_bytes (place_bytes meta id b)))
+page_read (Ok page) (Some b) into meta id is place = is ∙ ap page_of_bytes place
+page_read (Ok page) None into meta id is place = tt
+page_read (Err e) told into meta id is place = tt
 
 -- bytes that were read as no page spell none
 none_read : (exact : PagesAreExact) (bytes : List ℕ) → AreBytes bytes → ((page : Page) → SpellsPage bytes page → ⊥) → (read : Option Page) → page_of_bytes bytes ≡ read → None ≡ read

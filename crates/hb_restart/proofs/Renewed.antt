@@ -28,7 +28,7 @@ use Rattle.hb_store.proofs.Facts.ReplayLaws.{opens_elsewhere, opens_fresh}
 use Rattle.hb_store.proofs.Facts.FreshLaws.{IsNewest-elsewhere, IsFresh-from}
 use Rattle.hb_restart.specs.Renewing.{StillOpens, IsHere, IsPlaced, IsPlacedTo, IsReadyFor}
 use Rattle.hb_restart.proofs.Numbered.{last_number, some_number}
-use Rattle.hb_restart.proofs.RunSteps.{now_has}
+use Rattle.hb_restart.proofs.RunSteps.{now_has, Tore, tore}
 use Rattle.hb_disk.proofs.Facts.RewriteLaws.{Becomes-tells}
 
 -- where the log areas of a turn and of the next one lie
@@ -253,24 +253,21 @@ module _ (turn next : ℕ) (said meta : Meta) (small : turn ≤ 3) (is : next �
       there = λ id page most is. elim (cases_eq id at) [
         | inl same ↦
             let I : ℕ → Type 0 = λ n. page_of s n ≡ Some page in
-            let page_is : q ≡ page = the_page was.0 (here.images was.0 (is_old.as_read was.0 was.1)) at page (subst I same is) (Some q) is_q in
+            let page_is : q ≡ page = the_page tears.before (here.images tears.before (is_old.as_read tears.before tears.was)) at page (subst I same is) (Some q) is_q in
             let S : Page → Type 0 = λ x. (b : List ℕ) → new.told ≡ Some b → SpellsPage (place_bytes meta at b) x in
             let N : ℕ → Type 0 = λ n. (b : List ℕ) → new.told ≡ Some b → SpellsPage (place_bytes meta n b) page in
             subst N (sym same) (subst S page_is there)
         | inr other ↦ λ b told.
             let S : List ℕ → Type 0 = λ l. SpellsPage l page in
             let B : List ℕ → Type 0 = λ l. SpellsPage (place_bytes meta id l) page in
-            let same : after.0 ≡ b = same_Some after.0 b (sym after.1 ∙ told) in
-            subst B same (subst S (sym (Torn-elsewhere (page_offset meta at) PAGE (page_offset meta id) PAGE was.0 after.0 (other_place meta id at (some_number s.pages id page is) first other) after.2))
-            (placed.there id page (omega (arith, most, other, is_at)) is was.0 was.1))
+            let same : tears.after ≡ b = same_Some tears.after b (sym tears.is ∙ told) in
+            subst B same (subst S (sym (Torn-elsewhere (page_offset meta at) PAGE (page_offset meta id) PAGE tears.before tears.after (other_place meta id at (some_number s.pages id page is) first other) tears.torn))
+            (placed.there id page (omega (arith, most, other, is_at)) is tears.before tears.was))
       ];
     }
       where
-        was : (x : List ℕ) × (old.told ≡ Some x)
-        was = some_value old.told here.told
-
-        after : (x : List ℕ) × (new.told ≡ Some x) × Torn (page_offset meta at) PAGE was.0 x
-        after = at_value old.told (λ b. (c : List ℕ) × (new.told ≡ Some c) × Torn (page_offset meta at) PAGE b c) was.0 was.1 run.told
+        tears : Tore old new (page_offset meta at) PAGE
+        tears = tore old new (page_offset meta at) PAGE here.told run
 
   -- a page that the log doesn't touch stands there
   pub placed_untouched : (d : DiskModel) → IsDisk d → (at before : ℕ) → before + 1 ≡ at → touched at ≡ None → IsPlacedTo before d turn said meta touched s → IsPlacedTo at d turn said meta touched s
@@ -319,51 +316,44 @@ module _ (turn next : ℕ) (said meta : Meta) (small : turn ≤ 3) (is : next �
           places = IsSynced-durable new 0 8192 durable;
         };
         there = λ id page most is b told.
-            let same : after.0 ≡ b = same_Some after.0 b (sym after.1 ∙ told) in
+            let same : tears.after ≡ b = same_Some tears.after b (sym tears.is ∙ told) in
             let S : List ℕ → Type 0 = λ l. SpellsPage l page in
             let B : List ℕ → Type 0 = λ l. SpellsPage (place_bytes meta id l) page in
             let h = lies.next_high in
-            subst B same (subst S (sym (Torn-elsewhere (log_start next meta) meta.log (page_offset meta id) PAGE before.0 after.0 (inr (omega (arith, h))) (at_area before.0 after.0 after.2)))
-            (placed.there id page most is before.0 (sym syncs.same ∙ before.1)));
+            subst B same (subst S (sym (Torn-elsewhere (log_start next meta) meta.log (page_offset meta id) PAGE tears.before tears.after (inr (omega (arith, h))) (at_area tears.before tears.after tears.torn)))
+            (placed.there id page most is tears.before (sym syncs.same ∙ tears.was)));
       };
       alone = λ b c told image. at_value new.told (λ b. (c : List ℕ) → new.Image c → c ≡ b) b told durable c image;
       zeroed = λ b told.
-          let is_b : overwritten before.0 area (replicate meta.log 0) ≡ b = same_Some (overwritten before.0 area (replicate meta.log 0)) b (sym (at_value mid.told (λ b. new.told ≡ Some (overwritten b area (replicate meta.log 0))) before.0 before.1 zeroed) ∙ told) in
+          let is_b : overwritten tears.before area (replicate meta.log 0) ≡ b = same_Some (overwritten tears.before area (replicate meta.log 0)) b (sym (at_value mid.told (λ b. new.told ≡ Some (overwritten b area (replicate meta.log 0))) tears.before tears.was zeroed) ∙ told) in
           let n : length {A = ℕ} (replicate meta.log 0) ≡ meta.log = length-replicate meta.log 0 in
           let h = lies.next_high in
           let as_long : length b ≡ new.size = is_new.long b (is_new.as_read b told) in
-          let fits : area + length {A = ℕ} (replicate meta.log 0) ≤ length before.0 = omega (arith, n, h, area_is, long, run.size, is_mid.long before.0 (is_mid.as_read before.0 before.1)) in
+          let fits : area + length {A = ℕ} (replicate meta.log 0) ≤ length tears.before = omega (arith, n, h, area_is, long, run.size, is_mid.long tears.before (is_mid.as_read tears.before tears.was)) in
           ap (λ (k : ℕ). take meta.log (drop k b)) (sym area_is) ∙ ap (λ (l : List ℕ). take meta.log (drop area l)) (sym is_b)
-          ∙ ap (λ (k : ℕ). take k (drop area (overwritten before.0 area (replicate meta.log 0)))) (sym n) ∙ overwritten-reads before.0 area (replicate meta.log 0) fits;
+          ∙ ap (λ (k : ℕ). take k (drop area (overwritten tears.before area (replicate meta.log 0)))) (sym n) ∙ overwritten-reads tears.before area (replicate meta.log 0) fits;
     }
       where
-        before : (x : List ℕ) × (mid.told ≡ Some x)
-        before = some_value mid.told mid_told
-
-        after : (x : List ℕ) × (new.told ≡ Some x) × Torn area meta.log before.0 x
-        after = at_value mid.told (λ b. (c : List ℕ) × (new.told ≡ Some c) × Torn area meta.log b c) before.0 before.1 run.told
+        tears : Tore mid new area meta.log
+        tears = tore mid new area meta.log mid_told run
 
   -- What the place of the next turn hides is cleared.
   module _ (old new : DiskModel) (is_old : IsDisk old) (is_new : IsDisk new) (zeroed : IsZeroed turn next said meta touched s old) (run : Becomes (Torn (slot_offset next + 1) 40) old new)
       (moments : IfSome old.told (λ b. IsNewest b turn said → Leaves old new (ClearLeaves old turn said next))) where
-    cleared_before : (x : List ℕ) × (old.told ≡ Some x)
-    cleared_before = some_value old.told zeroed.placed.here.told
-
-    cleared_after : (x : List ℕ) × (new.told ≡ Some x) × Torn (slot_offset next + 1) 40 cleared_before.0 x
-    cleared_after = at_value old.told (λ b. (c : List ℕ) × (new.told ≡ Some c) × Torn (slot_offset next + 1) 40 b c) cleared_before.0 cleared_before.1 run.told
+    clears : Tore old new (slot_offset next + 1) 40
+    clears = tore old new (slot_offset next + 1) 40 zeroed.placed.here.told run
 
     pub cleared_moments : Leaves old new (StillOpens turn said meta touched s)
     cleared_moments =
-        let b = cleared_before in
         Leaves-weaker old new (ClearLeaves old turn said next) P (still_cleared old zeroed.placed.here.images)
-        (at_value old.told (λ b. IsNewest b turn said → Leaves old new (ClearLeaves old turn said next)) b.0 b.1 moments (zeroed.placed.here.images b.0 (is_old.as_read b.0 b.1)).by.newest)
+        (at_value old.told (λ b. IsNewest b turn said → Leaves old new (ClearLeaves old turn said next)) clears.before clears.was moments (zeroed.placed.here.images clears.before (is_old.as_read clears.before clears.was)).by.newest)
 
     -- a part that the place of the next turn doesn't meet
-    same_part : (b : List ℕ) → new.told ≡ Some b → (from m : ℕ) → 8192 ≤ from → take m (drop from b) ≡ take m (drop from cleared_before.0)
+    same_part : (b : List ℕ) → new.told ≡ Some b → (from m : ℕ) → 8192 ≤ from → take m (drop from b) ≡ take m (drop from clears.before)
     same_part b told from m low =
         let h = lies.place in
-        ap (λ (l : List ℕ). take m (drop from l)) (same_Some b cleared_after.0 (sym told ∙ cleared_after.1))
-        ∙ Torn-elsewhere (slot_offset next + 1) 40 from m cleared_before.0 cleared_after.0 (inr (omega (arith, h, low))) cleared_after.2
+        ap (λ (l : List ℕ). take m (drop from l)) (same_Some b clears.after (sym told ∙ clears.is))
+        ∙ Torn-elsewhere (slot_offset next + 1) 40 from m clears.before clears.after (inr (omega (arith, h, low))) clears.torn
 
     cleared_alone : OnlyReads old new ⊎ IfSome new.told (λ b. (c : List ℕ) → new.Image c → c ≡ b) → (b c : List ℕ) → new.told ≡ Some b → new.Image c → c ≡ b
     cleared_alone (inl only) b c told image = zeroed.alone b c (sym only.stays.told ∙ told) (only.stays.image c image)
@@ -379,11 +369,11 @@ module _ (turn next : ℕ) (said meta : Meta) (small : turn ≤ 3) (is : next �
           places = synced;
         };
         there = λ id page most is b told. let S : List ℕ → Type 0 = λ l. SpellsPage l page in
-            subst S (sym (same_part b told (page_offset meta id) PAGE (omega arith))) (zeroed.placed.there id page most is cleared_before.0 cleared_before.1);
+            subst S (sym (same_part b told (page_offset meta id) PAGE (omega arith))) (zeroed.placed.there id page most is clears.before clears.was);
       };
       alone = cleared_alone durable;
       zeroed = λ b told. let N : ℕ → Type 0 = λ n. log_bytes n meta b ≡ replicate meta.log 0 in
-          subst N is (same_part b told (log_start next meta) meta.log lies.next_low ∙ zeroed.zeroed cleared_before.0 cleared_before.1);
+          subst N is (same_part b told (log_start next meta) meta.log lies.next_low ∙ zeroed.zeroed clears.before clears.was);
       hides = λ b told. let N : ℕ → Type 0 = λ n. HidesNoOther b n meta in subst N is (at_value new.told (λ b. HidesNoOther b next meta) b told hidden);
     }
 

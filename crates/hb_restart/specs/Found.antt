@@ -4,7 +4,9 @@ use Rattle.std.specs.Ordering.{nat_cmp}
 use Rattle.std.specs.BTreeMap.{get}
 use Rattle.hb_frag.specs.declared.pages.Page.{Page}
 use Rattle.hb_frag.specs.Grammar.{HasSpelling}
-use Rattle.hb_super.specs.Superblocks.{IsLegal, HasNone}
+use Rattle.hb_super.specs.Superblocks.{IsLegal}
+use Rattle.hb_super.specs.declared.reading.SuperStop.{SuperStop}
+use Rattle.hb_super.specs.declared.reading.SuperStop.TheVariants as supers
 use Rattle.hb_layout.specs.declared.meta.Meta.{Meta}
 use Rattle.hb_layout.specs.Offsets.{file_size}
 use Rattle.hb_ops.specs.Files.{FileState, file_records}
@@ -12,8 +14,9 @@ use Rattle.hb_ops.specs.Sound.{IsSound}
 use Rattle.hb_sound.specs.Marks.{HasMarks}
 use Rattle.hb_sound.specs.declared.pages.AuditStop.{AuditStop}
 use Rattle.hb_sound.specs.declared.pages.AuditStop.TheVariants as stops
-use Rattle.hb_store.specs.Opening.{HasBadGroup}
 use Rattle.hb_store.specs.LogReading.{ReadsLog, IsTouched}
+use Rattle.hb_store.specs.declared.touched.LogStop.{LogStop}
+use Rattle.hb_store.specs.declared.touched.LogStop.TheVariants as logs
 use Rattle.hb_store.specs.declared.touched.Touched.{Touched}
 use Rattle.hb_restart.specs.Refusals.{HasLayout}
 use Rattle.hb_restart.specs.Renewing.{StillOpens}
@@ -26,6 +29,11 @@ use Rattle.hb_restart.specs.declared.reading.LogRead.{LogRead}
 abbrev pub touched_pages : Touched → ℕ → Option Page
 touched_pages touched id = get nat_cmp touched.pages id
 
+-- a legal turn, over what a file says, on a disk that has room for the file
+pub record LiesOn (size turn : ℕ) (meta : Meta) : Type 0 where
+  pub legal : IsLegal turn meta
+  pub room : file_size meta ≤ size
+
 -- What is read before the audit: the newest superblock, on bytes that have room for its layout, and what its log makes
 -- of the file.
 pub record IsReadIn (bytes : List ℕ) (read : LogRead) : Type 0 where
@@ -34,8 +42,7 @@ pub record IsReadIn (bytes : List ℕ) (read : LogRead) : Type 0 where
 
 -- whatever the disk was, that is within its limits
 pub record IsWholeRead (size : ℕ) (read : LogRead) : Type 0 where
-  pub legal : IsLegal read.turn read.said
-  pub room : file_size read.said ≤ size
+  pub lies : LiesOn size read.turn read.said
   pub touched : IsTouched read.said read.touched
 
 -- The bytes open to a sound file by the superblock of this turn. It says this of itself and has so many records, and
@@ -47,38 +54,22 @@ pub record IsFoundIn (bytes : List ℕ) (turn : ℕ) (meta : Meta) (touched : �
   pub sound : IsSound file
   pub counted : count ≡ length (file_records file)
 
--- each of these pages has a spelling
-abbrev pub AreSpelled : (ℕ → Option Page) → Type 0
-AreSpelled touched = (id : ℕ) (page : Page) → touched id ≡ Some page → HasSpelling page
-
--- whatever the disk was: what the file says is legal, it has room, and its marks are within their limits
-pub record IsWhole (size turn : ℕ) (meta : Meta) : Type 0 where
-  pub legal : IsLegal turn meta
-  pub room : file_size meta ≤ size
-  pub marks : HasMarks meta
-
--- what may be renewed: such a file, of which each touched page has a spelling
+-- What may be renewed, whatever the disk was: such a file, whose marks are within their limits, and of which each touched
+-- page has a spelling.
 pub record IsRenewable (size : ℕ) (found : Found) : Type 0 where
-  pub whole : IsWhole size found.turn found.meta
-  pub spelled : AreSpelled (get nat_cmp found.touched)
+  pub lies : LiesOn size found.turn found.meta
+  pub marks : HasMarks found.meta
+  pub spelled : (id : ℕ) (page : Page) → get nat_cmp found.touched id ≡ Some page → HasSpelling page
 
--- no refusal by the size of the disk
-abbrev pub NamesNoSize : OpenFault → Type 0
-NamesNoSize (faults.Small needed found) = ⊥
-NamesNoSize _ = Unit {0}
+-- the refusal where no superblock is read, and where no log is
+abbrev pub super_fault : SuperStop → OpenFault
+super_fault supers.NoSuper = faults.NoSuper
+super_fault supers.DiskFault = faults.DiskFault
 
--- why no superblock is found
-abbrev pub FindsNone : OpenFault → List ℕ → Type 0
-FindsNone faults.NoSuper bytes = HasNone bytes
-FindsNone faults.DiskFault bytes = Unit {0}
-FindsNone _ bytes = ⊥
-
--- why a log isn't read
-abbrev pub LogRefuses : OpenFault → List ℕ → ℕ → Meta → Type 0
-LogRefuses (faults.BadGroup frame) bytes turn said = HasBadGroup bytes turn said frame
-LogRefuses faults.DiskFault bytes turn said = Unit {0}
-LogRefuses faults.NoMemory bytes turn said = Unit {0}
-LogRefuses _ bytes turn said = ⊥
+abbrev pub log_fault : LogStop → OpenFault
+log_fault (logs.BadGroup frame) = faults.BadGroup frame
+log_fault logs.NoMemory = faults.NoMemory
+log_fault logs.DiskFault = faults.DiskFault
 
 -- the refusal for which an audit stops
 abbrev pub audit_fault : AuditStop → OpenFault

@@ -1,5 +1,5 @@
 //! Making a file.
-ghost use Rattle.std.specs.Prelude.{◌≡◌, ◌≢◌, ◌⊎◌, ℕ, ◌*◌, ◌+◌, ◌≤◌, ◌<◌, List, [], Some, None, OnOk, IfOk, IfErr, IfSome, IsSome, IsNone};
+ghost use Rattle.std.specs.Prelude.{◌≡◌, ◌≢◌, ℕ, ◌*◌, ◌+◌, ◌≤◌, ◌<◌, List, [], Some, OnOk, IfOk, IfErr, IfSome, IsSome};
 ghost use Rattle.hb_space.specs.declared.form.TheConstants.{PAGE};
 ghost use Rattle.hb_disk.specs.Model.{Torn};
 ghost use Rattle.hb_disk.specs.Runs.{Lasts, Rewrites};
@@ -12,7 +12,7 @@ ghost use Rattle.hb_store.specs.Seen.{seen_as, disk_of};
 ghost use Rattle.hb_restart.specs.Creation.{HasEmptyPlaces, IsLaidOut, LeavesMaking, MakesStore, RefusesMaking};
 ghost use Rattle.hb_restart.specs.Leaving.{FailedBy, disk_left};
 ghost use Rattle.hb_restart.specs.NewFiles.{lone};
-ghost use Rattle.hb_restart.specs.Layouts.{layout_fault, layout_size};
+ghost use Rattle.hb_restart.specs.Source.{HasPlaceFor};
 ghost use Rattle.hb_restart.specs.declared.faults.CreateFault.TheVariants.{DiskFault, NoMemory};
 
 use crate::faults::CreateFault;
@@ -39,8 +39,7 @@ fn zero_places<D: Device>(disk: &mut D) -> Result<(), hb_disk::DiskFault>
 
 /// Zeroes log area 0 and writes page 1, and syncs. Three device calls.
 fn write_parts<D: Device>(disk: &mut D, meta: &Meta, page: &[u8; PAGE]) -> Result<(), Failed>
-    requires room { file_size meta.now ≤ (D.model disk.old).size }
-    requires some { 1 ≤ meta.now.pages }
+    requires { HasPlaceFor (D.model disk.old).size meta.now 1 }
     ensures laid { OnOk result (IfSome (D.model disk.old).told (λ b. HasEmptyPlaces b →
         (c : List ℕ) × ((D.model disk.new).told ≡ Some c) × IsLaidOut c meta.now page.now)) }
     ensures lasts { OnOk result (Lasts (D.model disk.new)) }
@@ -57,8 +56,7 @@ fn lay_out<D: Device>(
     meta: &Meta,
     page: &[u8; PAGE],
 ) -> Result<(), hb_disk::DiskFault>
-    requires room { file_size meta.now ≤ (D.model disk.old).size }
-    requires some { 1 ≤ meta.now.pages }
+    requires { HasPlaceFor (D.model disk.old).size meta.now 1 }
     ensures laid { OnOk result (IfSome (D.model disk.old).told (λ b. (c : List ℕ) × ((D.model disk.new).told ≡ Some c) × IsLaidOut c meta.now page.now)) }
     ensures lasts { OnOk result (Lasts (D.model disk.new)) }
     ensures wrote { Rewrites (Torn 0 (file_size meta.now)) 5 result (D.model disk.old) (D.model disk.new) }
@@ -84,30 +82,9 @@ fn write_file<D: Device>(
     write_first_super(disk, meta)
 }
 
-/// The disk's file is made, and the store is opened over it. Memory is wanted only once the file is made.
-fn make<D: Device>(alloc: Global, disk: D, layout: Layout) -> Result<Store<D>, (CreateFault, D)>
-    requires good { IsNone (layout_fault layout) }
-    requires large { layout_size layout ≤ (D.model disk).size }
-    ensures made { IfOk result (λ st. MakesStore layout (D.model disk) (D.model (disk_of st)) (seen_as st)) }
-    ensures refused { IfErr result (λ e. RefusesMaking layout (D.model disk) (D.model e.1) e.0) }
-    ensures behind_tests { IfErr result (λ e. (e.0 ≡ DiskFault) ⊎ (e.0 ≡ NoMemory)) }
-    ensures leaves { LeavesMaking layout (FailedBy DiskFault result) (D.model disk) (D.model (disk_left result disk_of)) }
-{
-    let mut disk = disk;
-    let meta = layout.meta();
-    let mut page = [0; PAGE];
-    encode(&empty_page(alloc, layout.k), &mut page);
-    if write_file(&mut disk, &meta, &page).is_err() {
-        return Err((CreateFault::DiskFault, disk));
-    }
-    match Store::opened(alloc, disk, 0, meta) {
-        Ok(store) => Ok(store),
-        Err((_, disk)) => Err((CreateFault::NoMemory, disk)),
-    }
-}
-
 /// Makes a new file on a disk: no record, one page. `BadLayout` names the first field that is out of its limits; then
-/// `Small` comes exactly where the disk has fewer bytes than the layout. Nothing is written before these two.
+/// `Small` comes exactly where the disk has fewer bytes than the layout. Nothing is written before these two. Memory is
+/// wanted only once the file is made.
 pub fn create<D: Device>(
     alloc: Global,
     disk: D,
@@ -126,5 +103,15 @@ pub fn create<D: Device>(
     if found < needed {
         return Err((CreateFault::Small { needed, found }, disk));
     }
-    make(alloc, disk, layout)
+    let mut disk = disk;
+    let meta = layout.meta();
+    let mut page = [0; PAGE];
+    encode(&empty_page(alloc, layout.k), &mut page);
+    if write_file(&mut disk, &meta, &page).is_err() {
+        return Err((CreateFault::DiskFault, disk));
+    }
+    match Store::opened(alloc, disk, 0, meta) {
+        Ok(store) => Ok(store),
+        Err((_, disk)) => Err((CreateFault::NoMemory, disk)),
+    }
 }

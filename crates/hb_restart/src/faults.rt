@@ -1,6 +1,8 @@
 //! Why a file wasn't made or opened.
 
 use hb_sound::AuditStop;
+use hb_store::LogStop;
+use hb_super::SuperStop;
 
 /// A field of a file's layout.
 #[derive(Clone, Copy, Debug, PartialEq, Eq)]
@@ -60,6 +62,35 @@ impl From<AuditStop> for OpenFault {
             AuditStop::Broken { page, rule } => OpenFault::Unsound { page, rule },
             AuditStop::Failed => OpenFault::DiskFault,
             AuditStop::NoMemory => OpenFault::NoMemory,
+        }
+    }
+}
+
+impl From<SuperStop> for OpenFault {
+    ghost use Rattle.std.specs.Prelude.{◌≡◌};
+    ghost use Rattle.hb_restart.specs.Found.{super_fault};
+
+    ghost from_gives = { λ stop fault. fault ≡ super_fault stop };
+
+    fn from(stop: SuperStop) -> OpenFault {
+        match stop {
+            SuperStop::NoSuper => OpenFault::NoSuper,
+            SuperStop::DiskFault => OpenFault::DiskFault,
+        }
+    }
+}
+
+impl From<LogStop> for OpenFault {
+    ghost use Rattle.std.specs.Prelude.{◌≡◌};
+    ghost use Rattle.hb_restart.specs.Found.{log_fault};
+
+    ghost from_gives = { λ stop fault. fault ≡ log_fault stop };
+
+    fn from(stop: LogStop) -> OpenFault {
+        match stop {
+            LogStop::BadGroup { frame } => OpenFault::BadGroup { frame },
+            LogStop::NoMemory => OpenFault::NoMemory,
+            LogStop::DiskFault => OpenFault::DiskFault,
         }
     }
 }

@@ -9,14 +9,14 @@ ghost use Rattle.hb_disk.specs.Model.{Torn};
 ghost use Rattle.hb_disk.specs.Calls.{Becomes, Leaves, Ticks, WriteFaults};
 ghost use Rattle.hb_frag.specs.declared.pages.Page.{Page as Content};
 ghost use Rattle.hb_frag.specs.Grammar.{HasSpelling, SpellsPage};
-ghost use Rattle.hb_super.specs.Superblocks.{IsLegal, next_turn};
+ghost use Rattle.hb_super.specs.Superblocks.{next_turn};
 ghost use Rattle.hb_ops.specs.Files.{FileState};
 ghost use Rattle.hb_layout.specs.declared.meta.Meta.{Meta as Said};
 ghost use Rattle.hb_layout.specs.Offsets as offsets;
 ghost use Rattle.hb_layout.specs.Offsets.{file_size};
 ghost use Rattle.hb_store.specs.Opening.{OpensTo, IsEven, place_bytes};
 ghost use Rattle.hb_store.specs.Keeps.{IsFresh};
-ghost use Rattle.hb_restart.specs.Found.{IsFoundIn, IsRenewable};
+ghost use Rattle.hb_restart.specs.Found.{IsFoundIn, IsRenewable, LiesOn};
 ghost use Rattle.hb_restart.specs.Renewing.{StillOpens, IsHere, IsPlaced, IsPlacedTo, IsReadyFor, Runs};
 ghost use Rattle.hb_restart.specs.Source.{HasPlaceFor};
 ghost use Rattle.hb_restart.specs.WritingBack.{IsWrittenTo, WritesAll, WritesEachOnce};
@@ -99,8 +99,7 @@ fn settle<D: Device>(disk: &mut D, found: &Found) -> Result<(), Failed>
 
 /// Makes the log area and the place of the next turn ready. At most five device calls.
 fn make_room<D: Device>(disk: &mut D, turn: u8, meta: &Meta) -> Result<(), DiskFault>
-    requires room { file_size meta.now ≤ (D.model disk.old).size }
-    requires legal { IsLegal turn meta.now }
+    requires { LiesOn (D.model disk.old).size turn meta.now }
     ensures run { Runs 5 (offsets.page_offset meta.now 1) (IsErr result) (D.model disk.old) (D.model disk.new) }
     ensures moments { (said : Said) (touched : ℕ → Option Content) (s : FileState) → IsPlaced (D.model disk.old) turn said meta.now touched s →
         Leaves (D.model disk.old) (D.model disk.new) (StillOpens turn said meta.now touched s) }
@@ -115,8 +114,7 @@ fn make_room<D: Device>(disk: &mut D, turn: u8, meta: &Meta) -> Result<(), DiskF
 
 /// Begins the next turn, by its superblock. At most eleven device calls.
 fn switch<D: Device>(disk: &mut D, turn: u8, meta: &Meta) -> Result<(), DiskFault>
-    requires room { file_size meta.now ≤ (D.model disk.old).size }
-    requires legal { IsLegal turn meta.now }
+    requires { LiesOn (D.model disk.old).size turn meta.now }
     ensures run { Runs 11 (offsets.page_offset meta.now 1) (IsErr result) (D.model disk.old) (D.model disk.new) }
     ensures moments { (said : Said) (touched : ℕ → Option Content) (s : FileState) → IsPlaced (D.model disk.old) turn said meta.now touched s →
         Leaves (D.model disk.old) (D.model disk.new) (λ c. OpensTo c s) }

@@ -1,5 +1,5 @@
 //! Where the audit has the pages of a file from that is opened.
-ghost use Rattle.std.specs.Prelude.{◌≡◌, IfOk, IfSome, IsErr, IsErrOf, OnOk};
+ghost use Rattle.std.specs.Prelude.{◌≡◌, IfOk, IfSome, IsErrOf};
 ghost use Rattle.hb_space.specs.declared.form.TheConstants.{PAGE};
 ghost use Rattle.hb_disk.specs.Calls.{ReadsOnly};
 ghost use Rattle.hb_page_codec.specs.ReadingPages.{page_of_bytes};
@@ -12,7 +12,6 @@ use hb_disk::Device;
 use hb_frag::{LivePage, Page};
 use hb_layout::page_offset;
 use hb_ops::Meta;
-use hb_outside::Failed as Broken;
 use hb_page_codec::laws::fields_are_read_exactly;
 use hb_page_codec::{PageError, decode};
 use hb_sound::{PageStop, Pages};
@@ -49,20 +48,6 @@ fn spelled(alloc: Global, bytes: &[u8]) -> Result<Option<Page>, PageStop>
     }
 }
 
-/// Reads the bytes in the place of a page.
-fn read_place<D: Device>(
-    disk: &mut D,
-    meta: &Meta,
-    id: u32,
-    into: &mut [u8; PAGE],
-) -> Result<(), Broken>
-    requires has { HasPlaceFor (D.model disk.old).size meta.now id }
-    ensures there { OnOk result (IfSome (D.model disk.old).told (λ b. into.new ≡ place_bytes meta.now id b)) }
-    ensures only { ReadsOnly (IsErr result) (D.model disk.old) (D.model disk.new) }
-{
-    disk.read(page_offset(meta, id), into)
-}
-
 /// The page in its place, or that the bytes there are none. They are read into `into`.
 fn page_in_place<D: Device>(
     alloc: Global,
@@ -76,7 +61,7 @@ fn page_in_place<D: Device>(
     ensures light { IfOk result (λ page. IfSome page IsLight) }
     ensures only { ReadsOnly (IsErrOf result Failed) (D.model disk.old) (D.model disk.new) }
 {
-    match read_place(disk, meta, id, into) {
+    match disk.read(page_offset(meta, id), into) {
         Ok(()) => spelled(alloc, into),
         Err(_) => Err(PageStop::Failed),
     }

@@ -1,5 +1,5 @@
 -- Calls that ask a source for pages, one after another.
-use Rattle.std.proofs.Common.{◌≡◌, ◌∙◌, ℕ, subst}
+use Rattle.std.proofs.Common.{◌∙◌, ℕ, subst}
 use Rattle.hb_outside.specs.Calls.{Counts}
 use Rattle.hb_sound.specs.Asking.{Asks, PagesModel}
 

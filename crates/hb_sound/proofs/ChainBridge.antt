@@ -12,7 +12,7 @@ use Rattle.hb_sound.specs.declared.facts.Fact.TheVariants.{Live, Free}
 use Rattle.hb_sound.specs.Chains.{IsFreeBreak, live_facts}
 use Rattle.hb_sound.specs.Facts.{AreFactsOf, next_at}
 use Rattle.hb_sound.specs.Names.{NamesFree}
-use Rattle.hb_sound.specs.Tests.{file_with}
+use Rattle.hb_sound.specs.Told.{file_with}
 use Rattle.hb_sound.specs.Walks.{IsLeast, IsLeftOut, IsChainWalk, LeadsAlong, if_free, next_free}
 use Rattle.hb_sound.proofs.Bridge.{next_same, page_none}
 

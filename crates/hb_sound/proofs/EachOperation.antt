@@ -11,24 +11,15 @@ use Rattle.hb_frag.specs.Leaves.{Placed, leaf_at, leaves_of}
 use Rattle.hb_ops.specs.declared.operations.Op.{Op}
 use Rattle.hb_ops.specs.declared.operations.Op.TheVariants.{Put, Del, Extract, Post, Grow}
 use Rattle.hb_ops.specs.Files.{FileState, live_page}
-use Rattle.hb_ops.specs.LawsOfContents.{DelStaysSound, DelTakesOne, PutAddsOne, PutStaysSound}
+use Rattle.hb_ops.specs.LawsOfContents.{DelStaysSound, PutStaysSound}
 use Rattle.hb_ops.specs.Operations.{IsAllowed, IsAllowedOn, IsLicensed, OpHas, change_of, nth_read}
 use Rattle.hb_ops.specs.Sound.{IsSound}
-use Rattle.hb_ops.specs.Standing.{RecordsAreContents}
-use Rattle.hb_sound.specs.LawsOfOperations.{OperationsKeepContents, OperationsKeepLayout, OperationsKeepSound}
-use Rattle.hb_sound.specs.LawsOfPostings.{MayBeDone}
+use Rattle.hb_sound.specs.Laws.{DelsTakeOne, PagesHaveBoxes, PutsAddOne, TreeLaws}
+use Rattle.hb_sound.specs.LawsOfOperations.{GrowthKeepsContents, GrowthKeepsSound, OperationsKeepContents, OperationsKeepLayout, OperationsKeepSound, SplitsKeepContents, SplitsKeepSound}
+use Rattle.hb_sound.specs.LawsOfPostings.{MayBeDone, PostingsKeepContents, PostingsKeepSound}
 use Rattle.hb_sound.specs.PointWalks.{IsPointOf}
-use Rattle.hb_sound.proofs.GrowthKept.{growth_keeps_contents}
-use Rattle.hb_sound.proofs.GrowthSound.{growth_keeps_sound}
-use Rattle.hb_sound.proofs.OneLevel.{TreeLaws}
-use Rattle.hb_ops.proofs.Facts.StemLaws.{PartLaws}
-use Rattle.hb_sound.proofs.Partition.{SpaceLaws, dels_take_one, pages_have_boxes, puts_add_one}
 use Rattle.hb_ops.proofs.Facts.Contents.{del_on, put_on}
-use Rattle.hb_sound.proofs.PostedPage.{PostLaws}
-use Rattle.hb_sound.proofs.PostSound.{postings_keep_contents, postings_keep_sound}
 use Rattle.hb_ops.proofs.Facts.PlacedLaws.{placed}
-use Rattle.hb_sound.proofs.SplitContents.{splits_keep_contents}
-use Rattle.hb_sound.proofs.SplitSound.{splits_keep_sound}
 
 may_be_done : (s : FileState) (op : Op) → IsSound s → IsLayout s.meta → OpHas s.meta.k op → IsAllowed s op → IsLicensed s op → MayBeDone s op
 may_be_done s op sound layout has allowed licensed = record {
@@ -84,39 +75,39 @@ change_keeps (Grow fresh free_after) meta o second third h allowed = record {
 pub operations_keep_layout : OperationsKeepLayout
 operations_keep_layout s op layout allowed = change_keeps op s.meta (nth_read s op 0) (nth_read s op 1) (nth_read s op 2) layout allowed
 
-module _ (trees : TreeLaws) (space : SpaceLaws) (parts : PartLaws) (posts : PostLaws) where
-  pub operations_keep_sound : PutStaysSound → DelStaysSound → OperationsKeepSound
-  operations_keep_sound puts dels s (Put id rec) sound layout has allowed licensed = puts s id rec sound has allowed
-  operations_keep_sound puts dels s (Del id point) sound layout has allowed licensed = dels s id point sound has allowed
-  operations_keep_sound puts dels s (Extract source fresh path cuts free_after) sound layout has allowed licensed = splits_keep_sound trees parts s source fresh path cuts free_after sound allowed licensed
-  operations_keep_sound puts dels s (Post parent at inner area) sound layout has allowed licensed =
-      postings_keep_sound trees space posts s parent at inner area (may_be_done s (Post parent at inner area) sound layout has allowed licensed)
-  operations_keep_sound puts dels s (Grow fresh free_after) sound layout has allowed licensed =
-      growth_keeps_sound s fresh free_after sound (let least = layout.icap_least in omega (arith, least)) allowed licensed
+pub operations_keep_sound : PutStaysSound → DelStaysSound → SplitsKeepSound → PostingsKeepSound → GrowthKeepsSound → OperationsKeepSound
+operations_keep_sound puts dels splits posts grows s (Put id rec) sound layout has allowed licensed = puts s id rec sound has allowed
+operations_keep_sound puts dels splits posts grows s (Del id point) sound layout has allowed licensed = dels s id point sound has allowed
+operations_keep_sound puts dels splits posts grows s (Extract source fresh path cuts free_after) sound layout has allowed licensed = splits s source fresh path cuts free_after sound allowed licensed
+operations_keep_sound puts dels splits posts grows s (Post parent at inner area) sound layout has allowed licensed =
+    posts s parent at inner area (may_be_done s (Post parent at inner area) sound layout has allowed licensed)
+operations_keep_sound puts dels splits posts grows s (Grow fresh free_after) sound layout has allowed licensed =
+    grows s fresh free_after sound (let least = layout.icap_least in omega (arith, least)) allowed licensed
 
-  -- a leaf of a page is at points of the file alone
-  module _ (points : (a : Area) (p : List ℕ) → IsArea a → Holds a p → IsPoint p) where
-    point_there : (s : FileState) (id : ℕ) (page : LivePage) (p : List ℕ) (x : Placed) → IsSound s → IsLayout s.meta → live_page s id ≡ Some page → leaf_at page p ≡ Some x → length p ≡ s.meta.k → IsPointOf s p
-    point_there s id page p x sound layout live at attributes =
-        let box = pages_have_boxes trees space s id page sound layout.some_attributes layout.few_attributes live in
-        let cut = (sound.well_made id page live).well_cut in
-        let there = (trees.only page.frag page.area p x box cut).0 at in
-        record {
-          point = points x.area p (All-contains (λ (l : Placed). IsArea l.area) (leaves_of page.frag page.area) x (trees.areas page.frag page.area box cut) there.0) there.1;
-          attributes = attributes;
-        }
+-- a leaf of a page is at points of the file alone
+point_there : TreeLaws → PagesHaveBoxes → ((a : Area) (p : List ℕ) → IsArea a → Holds a p → IsPoint p)
+    → (s : FileState) (id : ℕ) (page : LivePage) (p : List ℕ) (x : Placed) → IsSound s → IsLayout s.meta → live_page s id ≡ Some page → leaf_at page p ≡ Some x → length p ≡ s.meta.k → IsPointOf s p
+point_there trees boxes points s id page p x sound layout live at attributes =
+    let box = boxes s id page sound layout.some_attributes layout.few_attributes live in
+    let cut = (sound.well_made id page live).well_cut in
+    let there = (trees.only page.frag page.area p x box cut).0 at in
+    record {
+      point = points x.area p (All-contains (λ (l : Placed). IsArea l.area) (leaves_of page.frag page.area) x (trees.areas page.frag page.area box cut) there.0) there.1;
+      attributes = attributes;
+    }
 
-    pub operations_keep_contents : RecordsAreContents → PutAddsOne → DelTakesOne → OperationsKeepContents
-    operations_keep_contents standing adds takes s (Put id rec) sound layout has allowed licensed =
-        let on = put_on id rec s.meta (live_page s id) (live_page s 0) (live_page s 0) allowed in
-        let absent = on.2.absent in
-        puts_add_one trees space adds s id rec sound (point_there s id on.0 rec.key (placed (Records absent.records) absent.area) sound layout on.1 absent.leaf has) allowed
-    operations_keep_contents standing adds takes s (Del id point) sound layout has allowed licensed =
-        let on = del_on id point s.meta (live_page s id) (live_page s 0) (live_page s 0) allowed in
-        let there = on.2.there in
-        dels_take_one trees space takes s id point sound (point_there s id on.0 point (placed (Records there.records) there.area) sound layout on.1 there.leaf has) allowed
-    operations_keep_contents standing adds takes s (Extract source fresh path cuts free_after) sound layout has allowed licensed =
-        splits_keep_contents trees space points standing parts s source fresh path cuts free_after sound layout.few_attributes allowed licensed
-    operations_keep_contents standing adds takes s (Post parent at inner area) sound layout has allowed licensed =
-        postings_keep_contents trees space posts s parent at inner area (may_be_done s (Post parent at inner area) sound layout has allowed licensed)
-    operations_keep_contents standing adds takes s (Grow fresh free_after) sound layout has allowed licensed = growth_keeps_contents s fresh free_after sound allowed licensed
+module _ (trees : TreeLaws) (boxes : PagesHaveBoxes) (points : (a : Area) (p : List ℕ) → IsArea a → Holds a p → IsPoint p) where
+  pub operations_keep_contents : PutsAddOne → DelsTakeOne → SplitsKeepContents → PostingsKeepContents → GrowthKeepsContents → OperationsKeepContents
+  operations_keep_contents puts dels splits posts grows s (Put id rec) sound layout has allowed licensed =
+      let on = put_on id rec s.meta (live_page s id) (live_page s 0) (live_page s 0) allowed in
+      let absent = on.2.absent in
+      puts s id rec sound (point_there trees boxes points s id on.0 rec.key (placed (Records absent.records) absent.area) sound layout on.1 absent.leaf has) allowed
+  operations_keep_contents puts dels splits posts grows s (Del id point) sound layout has allowed licensed =
+      let on = del_on id point s.meta (live_page s id) (live_page s 0) (live_page s 0) allowed in
+      let there = on.2.there in
+      dels s id point sound (point_there trees boxes points s id on.0 point (placed (Records there.records) there.area) sound layout on.1 there.leaf has) allowed
+  operations_keep_contents puts dels splits posts grows s (Extract source fresh path cuts free_after) sound layout has allowed licensed =
+      splits s source fresh path cuts free_after sound layout.few_attributes allowed licensed
+  operations_keep_contents puts dels splits posts grows s (Post parent at inner area) sound layout has allowed licensed =
+      posts s parent at inner area (may_be_done s (Post parent at inner area) sound layout has allowed licensed)
+  operations_keep_contents puts dels splits posts grows s (Grow fresh free_after) sound layout has allowed licensed = grows s fresh free_after sound allowed licensed

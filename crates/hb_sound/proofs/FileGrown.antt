@@ -16,7 +16,8 @@ use Rattle.hb_sound.proofs.Extractions.{Extraction}
 use Rattle.hb_ops.specs.Allocating.{allocated}
 use Rattle.hb_sound.proofs.FileParted.{IsParted, is_parted}
 use Rattle.hb_ops.proofs.Facts.PageNumberLaws.{in_range, live_so, place_of, with_page-there}
-use Rattle.hb_sound.proofs.SplitChains.{counted_again, high_fits, same_Some}
+use Rattle.hb_sound.proofs.SplitChains.{counted_again, high_fits}
+use Rattle.std.proofs.lemmas.Option.{same_Some}
 
 -- a page put where it stands already changes nothing
 set_same : (pages : List Page) (n : ℕ) (q : Page) → slice_get pages n ≡ Some q → set pages n q ≡ pages

@@ -15,13 +15,13 @@ use Rattle.hb_ops.specs.Files.{FileState, file_records, if_live, page_records}
 use Rattle.hb_ops.specs.Operations.{with_page}
 use Rattle.hb_ops.specs.Sound.{IsSound}
 use Rattle.hb_ops.proofs.Facts.PageNumberLaws.{in_range, place_of, with_page-behind, with_page-there}
+use Rattle.hb_sound.specs.Laws.{SpaceLaws}
 use Rattle.hb_sound.proofs.Growths.{Growth, LicensesGrowth, MayGrow, growth, grown}
 use Rattle.hb_sound.specs.LawsOfOperations.{GrowthKeepsContents, GrowthKeepsDirect}
 use Rattle.hb_ops.specs.Growing.{new_root}
 use Rattle.std.proofs.lemmas.List.Elements.{All-from_recursion}
 use Rattle.hb_sound.proofs.FileGrown.{comes_from, is_grown, stays_live}
-use Rattle.hb_sound.proofs.Partition.{SpaceLaws}
-use Rattle.hb_sound.proofs.SplitChains.{same_Some}
+use Rattle.std.proofs.lemmas.Option.{same_Some}
 
 -- a page in place of one with the same records
 pub records-set : (pages : List Page) (n : ℕ) (was now : Page) → slice_get pages n ≡ Some was → page_records now ≡ page_records was → flat_map page_records (set pages n now) ≡ flat_map page_records pages

@@ -1,17 +1,16 @@
 -- A file of one level grows three times: twice by the free pages of its chain, and then by a page behind the last.
 use Rattle.std.proofs.Common.{◌≡◌, ℕ, zero, suc, ◌≤◌, [], ◌∷◌, slice_get, Some, refl, sym, ap, subst, ◌∙◌, arith}
 use Rattle.std.specs.List.{Contains}
-use Rattle.hb_space.specs.Boxes.{Area, whole_area}
+use Rattle.hb_space.specs.Boxes.{Area}
 use Rattle.hb_frag.specs.declared.leaves.Leaf.TheVariants.{Child}
 use Rattle.hb_frag.specs.declared.pages.LivePage.{LivePage}
 use Rattle.hb_frag.specs.declared.pages.Page.TheVariants.{Live, Free}
 use Rattle.hb_frag.specs.Leaves.{Placed, leaves, leaves_of, siblings_of}
 use Rattle.hb_frag.specs.Rules.{BelongsAt, IsInOrder}
-use Rattle.hb_frag.specs.Trees.{Tip}
 use Rattle.hb_ops.specs.Files.{FileState, live_page, page_of}
 use Rattle.hb_ops.specs.Sound.{ChildrenMatch, FitsFile, IsCounted, IsCovered, IsSound, SiblingsMatch, times_named}
 use Rattle.hb_sound.proofs.Growths.{Growth, LicensesGrowth, MayGrow, grown}
-use Rattle.hb_sound.specs.TowerFile.{tower_ground}
+use Rattle.hb_sound.specs.TowerFile.{passing, tower_ground}
 use Rattle.hb_sound.proofs.ExampleParts.{held, in_order, interval, top}
 use Rattle.std.proofs.lemmas.List.Elements.{All-from_recursion}
 use Rattle.hb_sound.proofs.GrowthSound.{growth_keeps_sound}
@@ -26,9 +25,6 @@ record Grows (s : FileState) (x : Growth) (t : FileState) : Type 0 where
   licensed : LicensesGrowth s x
   is : grown s x ≡ t
 
-abbrev above : ℕ → ℕ → LivePage
-above level child = record { level = level; area = whole_area 1; frag = Tip (Child child) }
-
 -- the chain of free pages is 3, 2
 abbrev low : FileState
 low = record {
@@ -39,19 +35,19 @@ low = record {
 abbrev of_two : FileState
 of_two = record {
   meta = record { k = 1; pages = 4; log = 4096; dcap = 6; icap = 1; root = 3; height = 2; high = 3; live = 2; free = 2 };
-  pages = Live tower_ground ∷ Free 0 ∷ Live (above 1 1) ∷ [];
+  pages = Live tower_ground ∷ Free 0 ∷ Live (passing 1 1) ∷ [];
 }
 
 abbrev of_three : FileState
 of_three = record {
   meta = record { k = 1; pages = 4; log = 4096; dcap = 6; icap = 1; root = 2; height = 3; high = 3; live = 3; free = 0 };
-  pages = Live tower_ground ∷ Live (above 2 3) ∷ Live (above 1 1) ∷ [];
+  pages = Live tower_ground ∷ Live (passing 2 3) ∷ Live (passing 1 1) ∷ [];
 }
 
 abbrev of_four : FileState
 of_four = record {
   meta = record { k = 1; pages = 4; log = 4096; dcap = 6; icap = 1; root = 4; height = 4; high = 4; live = 4; free = 0 };
-  pages = Live tower_ground ∷ Live (above 2 3) ∷ Live (above 1 1) ∷ Live (above 3 2) ∷ [];
+  pages = Live tower_ground ∷ Live (passing 2 3) ∷ Live (passing 1 1) ∷ Live (passing 3 2) ∷ [];
 }
 
 first_step : Grows low (record { fresh = 3; free_after = 2 }) of_two

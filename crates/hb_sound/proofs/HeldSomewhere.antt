@@ -9,8 +9,9 @@ use Rattle.hb_frag.specs.declared.pages.LivePage.{LivePage}
 use Rattle.hb_frag.specs.Leaves.{DirectlyHolds, Placed, leaf_at, leaves_of, siblings_of}
 use Rattle.hb_ops.specs.Files.{FileState, live_page}
 use Rattle.hb_ops.specs.Sound.{AreWellMade, IsCovered, SiblingsMatch}
+use Rattle.hb_sound.specs.Laws.{TreeLaws}
 use Rattle.hb_sound.specs.PointWalks.{HasOn, IsWalk}
-use Rattle.hb_sound.proofs.OneLevel.{TreeLaws, narrower, page_area, sibling_there}
+use Rattle.hb_sound.proofs.OneLevel.{narrower, page_area, sibling_there}
 use Rattle.hb_ops.proofs.Facts.PlacedLaws.{leaf_is_sibling, placed}
 use Rattle.hb_sound.proofs.Widths.{width}
 

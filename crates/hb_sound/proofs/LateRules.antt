@@ -11,8 +11,7 @@ use Rattle.hb_sound.specs.Covers.{AreBelow, IsCoverBreak, SeesRule}
 use Rattle.hb_sound.specs.Facts.{AreFactsOf, more}
 use Rattle.hb_sound.specs.Links.{AreLinks, IsFirstUpTo, LosesChild, LosesSibling}
 use Rattle.hb_sound.specs.Names.{KeepsSix, NamesIn}
-use Rattle.hb_sound.specs.Tests.{file_with}
-use Rattle.hb_sound.specs.Told.{item_at}
+use Rattle.hb_sound.specs.Told.{item_at, file_with}
 use Rattle.hb_sound.specs.Walks.{IsLeast}
 use Rattle.hb_sound.proofs.Bridge.{same_length}
 use Rattle.hb_sound.proofs.CoverBridge.{IsNamedBy, are_below, to_covered, to_loose}

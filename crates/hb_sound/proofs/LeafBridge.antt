@@ -23,8 +23,7 @@ use Rattle.hb_sound.specs.Broken.{HasBelow, HasSame, MissesChild, MissesSibling}
 use Rattle.hb_sound.specs.Facts.{AreFactsOf, FindsBelow, FindsSame, SeesBelow, SeesSame, seen_at}
 use Rattle.hb_sound.specs.Links.{IsFirstUpTo, LosesChild, LosesSibling}
 use Rattle.hb_sound.specs.Names.{KeepsLocally}
-use Rattle.hb_sound.specs.Tests.{file_with}
-use Rattle.hb_sound.specs.Told.{item_at}
+use Rattle.hb_sound.specs.Told.{item_at, file_with}
 use Rattle.hb_sound.specs.Walks.{IsLeast}
 use Rattle.hb_sound.proofs.Bridge.{live_seen, seen_live}
 use Rattle.hb_sound.proofs.Firsts.{item_within}

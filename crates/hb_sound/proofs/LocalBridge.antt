@@ -14,8 +14,7 @@ use Rattle.hb_sound.specs.Broken.{BreaksRule}
 use Rattle.hb_sound.specs.Covers.{HasRule, IsLeastRule, SeesRule}
 use Rattle.hb_sound.specs.Facts.{AreFactsOf, if_seen}
 use Rattle.hb_sound.specs.Names.{KeepsLocally, NamesLocal}
-use Rattle.hb_sound.specs.Tests.{file_with}
-use Rattle.hb_sound.specs.Told.{item_at}
+use Rattle.hb_sound.specs.Told.{item_at, file_with}
 use Rattle.hb_sound.specs.Walks.{IsLeast}
 use Rattle.hb_sound.proofs.Bridge.{live_seen, seen_live}
 use Rattle.hb_sound.proofs.Levels.{seen_fact}

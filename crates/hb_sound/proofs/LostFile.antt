@@ -5,13 +5,14 @@ use Rattle.hb_frag.specs.declared.pages.LivePage.{LivePage}
 use Rattle.hb_frag.specs.Leaves.{leaves, leaves_of}
 use Rattle.hb_frag.specs.Rules.{BelongsAt, IsInOrder}
 use Rattle.hb_ops.specs.Sound.{FitsFile, IsSound, SiblingsMatch, ChildrenMatch, IsCovered}
-use Rattle.hb_sound.specs.LostFile.{lost_file, lost_first, lost_last, lost_meta, lost_root, lost_second, lost_third}
+use Rattle.hb_sound.specs.Examples.{small_left}
+use Rattle.hb_sound.specs.LostFile.{lost_file, lost_last, lost_meta, lost_root, lost_second, lost_third}
 use Rattle.hb_sound.specs.PointWalks.{IsResponsible, IsWholeWalk}
 use Rattle.hb_sound.proofs.ExampleParts.{children_match, counted, cuts, each_page, first, held, in_order, interval, is_covered, later, no_records, none_given, not_whole, siblings_match, top, within}
 use Rattle.std.proofs.lemmas.List.Elements.{All-from_recursion}
 
 abbrev all_pages : List LivePage
-all_pages = lost_root ∷ lost_first ∷ lost_second ∷ lost_third ∷ lost_last ∷ []
+all_pages = lost_root ∷ small_left ∷ lost_second ∷ lost_third ∷ lost_last ∷ []
 
 root_fits : FitsFile lost_meta lost_root
 root_fits = record {
@@ -22,12 +23,12 @@ root_fits = record {
   normal = tt;
 }
 
-first_fits : FitsFile lost_meta lost_first
+first_fits : FitsFile lost_meta small_left
 first_fits = record {
   fits = record { level = omega arith; attributes = refl };
   well_cut = (cuts 0 top 100 (omega arith) (omega arith), tt, tt);
-  filled = record { kinds = All-from_recursion (BelongsAt 0) (leaves lost_first.frag) (refl, (tt, tt)); light = omega arith; own = λ none. none };
-  in_order = All-from_recursion IsInOrder (leaves_of lost_first.frag lost_first.area) (in_order _ (interval 0 99) (held 0 7 99 (omega arith) (omega arith), tt) (tt, tt), (none_given 3 _, tt));
+  filled = record { kinds = All-from_recursion (BelongsAt 0) (leaves small_left.frag) (refl, (tt, tt)); light = omega arith; own = λ none. none };
+  in_order = All-from_recursion IsInOrder (leaves_of small_left.frag small_left.area) (in_order _ (interval 0 99) (held 0 7 99 (omega arith) (omega arith), tt) (tt, tt), (none_given 3 _, tt));
   normal = (λ none. none, tt, tt);
 }
 
@@ -62,10 +63,10 @@ siblings : SiblingsMatch lost_file
 siblings = siblings_match lost_meta all_pages (tt, (((lost_second, refl, refl, refl), tt), (((lost_third, refl, refl, refl), tt), (((lost_last, refl, refl, refl), tt), (tt, tt)))))
 
 children : ChildrenMatch lost_file
-children = children_match lost_meta all_pages (((lost_first, refl, refl, within 0 top 0 top (omega arith) (omega arith)), tt), ((tt, (tt, tt)), ((tt, (tt, tt)), ((tt, (tt, tt)), ((tt, tt), tt)))))
+children = children_match lost_meta all_pages (((small_left, refl, refl, within 0 top 0 top (omega arith) (omega arith)), tt), ((tt, (tt, tt)), ((tt, (tt, tt)), ((tt, (tt, tt)), ((tt, tt), tt)))))
 
 covered : IsCovered lost_file
-covered = is_covered lost_meta all_pages (λ level. 2 - level) (first refl refl refl, (first refl refl refl, (later (not_whole 100 top (omega arith)) refl, (later (not_whole 200 top (omega arith)) refl, (later (not_whole 300 top (omega arith)) refl, tt))))) ((1, lost_root, refl, refl, refl), ((2, lost_first, refl, refl, refl), tt))
+covered = is_covered lost_meta all_pages (λ level. 2 - level) (first refl refl refl, (first refl refl refl, (later (not_whole 100 top (omega arith)) refl, (later (not_whole 200 top (omega arith)) refl, (later (not_whole 300 top (omega arith)) refl, tt))))) ((1, lost_root, refl, refl, refl), ((2, small_left, refl, refl, refl), tt))
 
 pub lost_is_sound : IsSound lost_file
 lost_is_sound = record {
@@ -83,7 +84,7 @@ lost_is_found = record {
   walk = (
     inl (record { page = lost_root; area = _; live = refl; there = refl }),
     (
-      inr (record { page = lost_first; area = _; live = refl; there = refl }),
+      inr (record { page = small_left; area = _; live = refl; there = refl }),
       (
         inr (record { page = lost_second; area = _; live = refl; there = refl }),
         (

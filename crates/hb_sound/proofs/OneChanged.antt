@@ -10,14 +10,11 @@ use Rattle.hb_frag.specs.Leaves.{leaves_of, siblings_of}
 use Rattle.hb_ops.specs.Files.{FileState, if_live, live_page, page_of}
 use Rattle.hb_ops.specs.Operations.{with_page}
 use Rattle.hb_ops.specs.Sound.{ChildrenMatch, FitsFile, IsChain, IsCounted, IsCovered, IsRooted, IsSound, SiblingsMatch, count_name, times_named}
+use Rattle.hb_sound.specs.Broken.{HasBelow}
 use Rattle.hb_sound.proofs.PageLists.{HasInstead, put_instead}
 use Rattle.hb_ops.proofs.Facts.PageNumberLaws.{live_so}
 use Rattle.hb_ops.proofs.Facts.PlacedLaws.{placed}
-use Rattle.hb_sound.proofs.SplitChains.{same_Some}
-
--- a page in use one level down, whose box has this one within it
-abbrev pub IsBelow : FileState → ℕ → ℕ → Area → Type 0
-IsBelow s level name area = (named : LivePage) × (live_page s name ≡ Some named) × (named.level + 1 ≡ level) × Within area named.area
+use Rattle.std.proofs.lemmas.Option.{same_Some}
 
 -- what the new page has in common with the one of before
 pub record IsLike (page new : LivePage) : Type 0 where
@@ -119,7 +116,7 @@ module _ (s : FileState) (id : ℕ) (page new : LivePage) (live : live_page s id
       let again = pair_of_old name named.0 named.1 in
       (again.0, again.1.later, again.1.level ∙ named.2 ∙ sym old.1.level, again.1.area ∙ named.3)
 
-  below_stays : (level name : ℕ) (area : Area) → IsBelow s level name area → IsBelow after level name area
+  below_stays : (level name : ℕ) (area : Area) → HasBelow s level name area → HasBelow after level name area
   below_stays level name area b =
       let again = pair_of_old name b.0 b.1 in
       (again.0, again.1.later, ap (λ (k : ℕ). k + 1) again.1.level ∙ b.2, subst (λ (a : Area). Within area a) (sym again.1.area) b.3)
@@ -142,13 +139,13 @@ module _ (s : FileState) (id : ℕ) (page new : LivePage) (live : live_page s id
   }
 
   -- where the new page is well made, and its child leaves name pages one level down
-  module _ (made : FitsFile s.meta new) (children : (name : ℕ) (area : Area) → Contains (leaves_of new.frag new.area) (placed (Child name) area) → IsBelow s new.level name area) where
+  module _ (made : FitsFile s.meta new) (children : (name : ℕ) (area : Area) → Contains (leaves_of new.frag new.area) (placed (Child name) area) → HasBelow s new.level name area) where
     children_match : ChildrenMatch s → ChildrenMatch after
     children_match h other now name area there has = elim (cases_eq other id) [
       | inl is ↦
           let same : new ≡ now = same_Some new now (sym new_live ∙ ap (live_page after) (sym is) ∙ there) in
           below_stays now.level name area
-          (subst (λ (q : LivePage). Contains (leaves_of q.frag q.area) (placed (Child name) area) → IsBelow s q.level name area) same (children name area) has)
+          (subst (λ (q : LivePage). Contains (leaves_of q.frag q.area) (placed (Child name) area) → HasBelow s q.level name area) same (children name area) has)
       | inr ne ↦ below_stays now.level name area (h other now name area (sym (ap if_live (others_stay other ne)) ∙ there) has)
     ]
 

@@ -1,27 +1,19 @@
 -- The pages of one level, of which one has the whole space and each other one is named by exactly one sibling leaf of the level.
-use Rattle.std.proofs.Common.{◌≡◌, ◌≢◌, ℕ, zero, suc, ◌+◌, ◌<◌, ◌≤◌, ◌↔◌, inl, inr, List, length, Option, Some, IsSome, refl, sym, ap, subst, ◌∙◌, arith}
-use Rattle.std.specs.List.{All, Contains}
+use Rattle.std.proofs.Common.{◌≡◌, ◌≢◌, ℕ, zero, suc, ◌+◌, ◌<◌, ◌≤◌, inl, inr, List, Option, Some, IsSome, refl, sym, ap, subst, ◌∙◌, arith}
+use Rattle.std.specs.List.{Contains}
 use Rattle.std.proofs.lemmas.List.Elements.{All-contains}
-use Rattle.hb_space.specs.Boxes.{Area, IsArea, Holds, Within, whole_area}
+use Rattle.hb_space.specs.Boxes.{Area, IsArea, Holds, whole_area}
 use Rattle.hb_frag.specs.declared.leaves.Leaf.{Leaf}
 use Rattle.hb_frag.specs.declared.leaves.Leaf.TheVariants.{Sibling}
 use Rattle.hb_frag.specs.declared.pages.LivePage.{LivePage}
-use Rattle.hb_frag.specs.Trees.{Tree}
-use Rattle.hb_frag.specs.Leaves.{Placed, IsWellCut, first_at, leaf_at, leaves_of, siblings_of}
+use Rattle.hb_frag.specs.Leaves.{Placed, leaf_at, leaves_of, siblings_of}
 use Rattle.hb_ops.specs.Files.{FileState, live_page}
 use Rattle.hb_ops.specs.Sound.{AreWellMade, IsCovered, SiblingsMatch}
+pub use Rattle.hb_sound.specs.Laws.{TreeLaws}
 use Rattle.hb_sound.proofs.PagePlaces.{areas_same, live_there, page_no_wider, total}
 use Rattle.hb_sound.proofs.SiblingLeaves.{named_among}
 use Rattle.hb_ops.proofs.Facts.PlacedLaws.{placed, sibling_is_leaf}
 use Rattle.hb_sound.proofs.Widths.{sibling_narrower, width}
-
--- what the laws of trees say
-pub record TreeLaws : Type 0 where
-  pub areas : (t : Tree) (a : Area) → IsArea a → IsWellCut t a → All (λ l. IsArea l.area) (leaves_of t a)
-  pub attributes : (t : Tree) (a : Area) → All (λ l. length l.area.lo ≡ length a.lo) (leaves_of t a)
-  pub within : (t : Tree) (a : Area) → IsArea a → IsWellCut t a → All (λ l. Within l.area a) (leaves_of t a)
-  pub some : (t : Tree) (a : Area) (p : List ℕ) → IsArea a → IsWellCut t a → IsSome (first_at p (leaves_of t a)) ↔ Holds a p
-  pub only : (t : Tree) (a : Area) (p : List ℕ) (l : Placed) → IsArea a → IsWellCut t a → (first_at p (leaves_of t a) ≡ Some l) ↔ (Contains (leaves_of t a) l × Holds l.area p)
 
 -- the page is named by a sibling leaf of a page of its level, which is wider
 pub record IsNamed (s : FileState) (id : ℕ) (page : LivePage) : Type 0 where

@@ -5,17 +5,14 @@ use Rattle.hb_space.specs.Boxes.{Area, IsArea, Holds, Within}
 use Rattle.hb_frag.specs.declared.leaves.Leaf.TheVariants.{Child}
 use Rattle.hb_frag.specs.declared.pages.LivePage.{LivePage}
 use Rattle.hb_frag.specs.Leaves.{DirectlyCovers, DirectlyHolds, Placed, leaf_at, leaves_of, siblings_of}
+use Rattle.hb_sound.specs.Laws.{SpaceLaws, TreeLaws}
 use Rattle.hb_sound.specs.PointWalks.{IsPointOf}
 use Rattle.hb_sound.specs.Settled.{NoOtherParent}
 use Rattle.hb_sound.proofs.HeldSomewhere.{holds_directly}
-use Rattle.hb_sound.proofs.OneLevel.{TreeLaws, holds_where_leaf, page_area, same_page}
-use Rattle.hb_sound.proofs.Partition.{SpaceLaws, no_point_is_held_twice}
-use Rattle.hb_space.proofs.Facts.Boxes.{Meets-from_point}
+use Rattle.hb_sound.proofs.OneLevel.{holds_where_leaf, page_area, same_page}
+use Rattle.hb_sound.proofs.Partition.{no_point_is_held_twice}
 use Rattle.hb_ops.proofs.Facts.PlacedLaws.{placed}
-use Rattle.hb_space.proofs.Facts.Boxes.{Holds-within}
-
-least_held : (a : Area) → IsArea a → Holds a a.lo
-least_held a h = record { same = refl; between = λ i lt. (omega arith, h.ordered i lt) }
+use Rattle.hb_space.proofs.Facts.Boxes.{Holds-within, Meets-from_point, lo_held}
 
 -- a page that directly holds a box directly holds each point of it
 directly_at : (page : LivePage) (a : Area) (p : List ℕ) → length a.lo ≡ length page.area.lo → DirectlyCovers page a → Holds a p → DirectlyHolds page p
@@ -34,7 +31,7 @@ no_other_parent trees space s id parent other page above holder area sound some 
     let as_many : length area.lo ≡ length holder.area.lo = All-contains (λ (l : Placed). length l.area.lo ≡ length holder.area.lo) (leaves_of holder.frag holder.area) leaf (trees.attributes holder.frag holder.area) child in
     let p = area.lo in
     let point : IsPointOf s p = record { point = leaf_box.lo_point; attributes = as_many ∙ well.fits.attributes } in
-    let held = least_held area leaf_box in
+    let held = lo_held area leaf_box in
     let there : leaf_at holder p ≡ Some leaf = (trees.only holder.frag holder.area p leaf box well.well_cut).1 (child, held) in
     let inside = holds_where_leaf trees s sound.well_made sound.siblings sound.covered whole other holder p (Child id) area live_other there in
     let direct = holds_directly trees s sound.well_made sound.siblings sound.covered whole p other holder (Child id) area live_other inside there (λ name f. let no : ⊥ = cc in no) in

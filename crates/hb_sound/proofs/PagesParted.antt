@@ -7,7 +7,6 @@ use Rattle.hb_frag.specs.declared.pages.LivePage.{LivePage}
 use Rattle.hb_frag.specs.declared.paths.Side.{Side}
 use Rattle.hb_frag.specs.Trees.{Tree, Tip}
 use Rattle.hb_frag.specs.Leaves.{Placed, leaves_of, IsWellCut}
-use Rattle.hb_frag.specs.Laws.{IsStretch}
 use Rattle.hb_frag.specs.Paths.{part_at}
 use Rattle.hb_sound.proofs.Extractions.{Extraction, FitsPart, fresh_page, source_page}
 use Rattle.hb_ops.specs.Cutting.{cut_through}
@@ -16,7 +15,7 @@ use Rattle.hb_ops.proofs.Facts.CutLeafLaws.{StemsFrom}
 use Rattle.hb_sound.proofs.CutNames.{named, named-append, once, through_names}
 use Rattle.hb_ops.proofs.Facts.PlacedLaws.{placed}
 use Rattle.hb_sound.proofs.Widths.{width}
-use Rattle.hb_ops.proofs.Facts.StemLaws.{PartLaws}
+use Rattle.hb_ops.proofs.Facts.StemLaws.{PartLaws, stretch as stretch_of}
 use Rattle.std.proofs.lemmas.Option.{same_Some}
 
 -- a leaf that names a page and comes from old ones is one of them
@@ -39,9 +38,6 @@ module _ (laws : PartLaws) (x : Extraction) (page : LivePage) (part : Tree × Ar
   abbrev pub opened : Tree
   opened = cut_through x.cuts part.0 (Tip (Sibling x.fresh))
 
-  stretch : IsStretch x.path page.frag page.area part
-  stretch = laws.leaves x.path page.frag page.area part fits.there
-
   -- the names of both pages are those of the page before, and the new one's
   named_three : (id : ℕ) (f m b : List Placed) → named id ((f ++ m) ++ b) ≡ (named id f + named id m) + named id b
   named_three id f m b = let one = named-append id (f ++ m) b in let two = named-append id f m in omega (arith, one, two)
@@ -49,6 +45,7 @@ module _ (laws : PartLaws) (x : Extraction) (page : LivePage) (part : Tree × Ar
   pub names_parted : (id : ℕ) → named id (leaves_of source.frag source.area) + named id (leaves_of fresh.frag fresh.area) ≡ named id old + once id x.fresh
   names_parted id =
       let through = through_names x.fresh id x.cuts part.0 part.1 fits.parted in
+      let stretch = stretch_of laws x.fresh x.path x.cuts page part fits in
       let before = ap (named id) stretch.whole in
       let after = ap (named id) (stretch.other opened) in
       let three = named_three id stretch.front (leaves_of part.0 part.1) stretch.behind in

@@ -1,8 +1,6 @@
 -- The laws of a sound file, from those of trees and of the space.
-use Rattle.std.proofs.Common.{◌≡◌, ℕ, ◌+◌, ◌<◌, ◌≤◌, List, length, Some, refl, sym, ap, subst, ◌∙◌, arith}
+use Rattle.std.proofs.Common.{◌≡◌, ℕ, ◌+◌, ◌<◌, List, Some, refl, sym, ap, subst, ◌∙◌, arith}
 use Rattle.hb_space.specs.Boxes.{Area, IsArea, Holds, whole_area}
-use Rattle.hb_space.specs.Points.{IsPoint}
-use Rattle.hb_space.specs.declared.form.TheConstants.{KMAX}
 use Rattle.hb_space.specs.declared.records.Record.{Record}
 use Rattle.hb_frag.specs.declared.leaves.Leaf.TheVariants.{Records}
 use Rattle.hb_frag.specs.declared.pages.LivePage.{LivePage}
@@ -13,7 +11,7 @@ use Rattle.hb_ops.specs.declared.operations.Op.TheVariants.{Put, Del}
 use Rattle.hb_ops.specs.LawsOfContents.{DelTakesOne, PutAddsOne}
 use Rattle.hb_ops.specs.Operations.{nth_read}
 use Rattle.hb_ops.specs.Standing.{AbsenceIsContents, RecordsAreContents}
-use Rattle.hb_sound.specs.Laws.{DelsTakeOne, EachPageHasWalks, EachPointIsHeld, LackIsContents, NoPointIsHeldTwice, PagesHaveBoxes, PutsAddOne, RecordsAreAtHome, RootHasWalks, StandingIsContents, StepsLeadFurther}
+use Rattle.hb_sound.specs.Laws.{DelsTakeOne, EachPageHasWalks, EachPointIsHeld, LackIsContents, NoPointIsHeldTwice, PagesHaveBoxes, PutsAddOne, RecordsAreAtHome, RootHasWalks, SpaceLaws, StandingIsContents, StepsLeadFurther, TreeLaws}
 use Rattle.hb_sound.specs.PointWalks.{IsPointOf, IsResponsible}
 use Rattle.hb_sound.proofs.HeldOnce.{held_once}
 use Rattle.hb_sound.proofs.RecordsAtHome.{others_lack}
@@ -21,14 +19,9 @@ use Rattle.hb_sound.proofs.WalksDown.{responsible_for, walks_down}
 use Rattle.hb_sound.proofs.WalkSteps.{step_leads}
 use Rattle.hb_ops.proofs.Facts.PlacedLaws.{placed}
 use Rattle.hb_sound.proofs.HeldSomewhere.{found}
-use Rattle.hb_sound.proofs.OneLevel.{TreeLaws, page_area, same_page}
+use Rattle.hb_sound.proofs.OneLevel.{page_area, same_page}
 use Rattle.hb_sound.proofs.Widths.{width}
 use Rattle.hb_ops.proofs.Facts.Contents.{del_on, put_on}
-
--- what the laws of the space say
-pub record SpaceLaws : Type 0 where
-  pub area : (k : ℕ) → 1 ≤ k → k ≤ KMAX → IsArea (whole_area k)
-  pub points : (k : ℕ) (p : List ℕ) → IsPoint p → length p ≡ k → Holds (whole_area k) p
 
 module _ (trees : TreeLaws) (space : SpaceLaws) where
   pub whole_is_area : (s : FileState) (p : List ℕ) → IsPointOf s p → IsArea (whole_area s.meta.k)

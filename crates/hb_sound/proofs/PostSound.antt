@@ -17,17 +17,19 @@ use Rattle.hb_ops.specs.Files.{FileState, contents_of, file_records, live_page, 
 use Rattle.hb_ops.specs.Operations.{IsAllowedOn, change_of, effect_of, with_page, with_changed_pages}
 use Rattle.hb_ops.specs.Posting.{FitsPost, GaveAway, IsChildAt, post_page}
 use Rattle.hb_ops.specs.Sound.{IsSound}
+use Rattle.hb_sound.specs.Laws.{SpaceLaws, TreeLaws}
+use Rattle.hb_sound.specs.Broken.{HasBelow}
 use Rattle.hb_sound.specs.LawsOfPostings.{ChangesParent, MayBeDone, NamesAt, PostingsChangeParent, PostingsKeepContents, PostingsKeepDirect, PostingsKeepSound, PostingsName}
 use Rattle.hb_sound.specs.PointWalks.{HasOn}
 use Rattle.hb_sound.proofs.GrowthKept.{contents_from, records-set}
-use Rattle.hb_sound.proofs.OneChanged.{IsBelow, IsLike, after as changed, new_live, others_stay, pair_of_new, pair_of_old, sound_again}
-use Rattle.hb_sound.proofs.OneLevel.{TreeLaws, same_page}
+use Rattle.hb_sound.proofs.OneChanged.{IsLike, after as changed, new_live, others_stay, pair_of_new, pair_of_old, sound_again}
+use Rattle.hb_sound.proofs.OneLevel.{same_page}
 use Rattle.hb_ops.proofs.Facts.PageNumberLaws.{in_range, live_so, place_of, with_page-there}
-use Rattle.hb_sound.proofs.Partition.{SpaceLaws, pages_have_boxes}
+use Rattle.hb_sound.proofs.Partition.{pages_have_boxes}
 use Rattle.hb_sound.proofs.PostedPage.{PostLaws, SaysAsBefore, keeps, leaf_there, names_at, new as posted_page, new_cut, new_made, origin, posted_so, siblings_stay}
 use Rattle.hb_ops.proofs.Facts.PlacedLaws.{placed}
-use Rattle.hb_sound.proofs.SplitChains.{same_Some}
-use Rattle.hb_space.proofs.Facts.Boxes.{Holds-within}
+use Rattle.std.proofs.lemmas.Option.{same_Some}
+use Rattle.hb_space.proofs.Facts.Boxes.{Holds-within, hi_held, lo_held}
 
 -- the same box and sibling leaves directly hold the same points
 direct_again : (was now : LivePage) (p : List ℕ) → now.area ≡ was.area → siblings_of now ≡ siblings_of was → DirectlyHolds was p → DirectlyHolds now p
@@ -40,13 +42,6 @@ direct_again was now p area siblings h = record {
 post_on : (parent : ℕ) (at : List Side) (inner : ℕ) (area : Area) (meta : Meta) (o second third : Option LivePage) → IsAllowedOn (Post parent at inner area) meta o second third → (page : LivePage) × (o ≡ Some page) × FitsPost meta page at inner area
 post_on parent at inner area meta None second third h = absurd h
 post_on parent at inner area meta (Some page) second third h = (page, refl, h)
-
--- the corners of a box lie in it
-low_corner : (a : Area) → IsArea a → Holds a a.lo
-low_corner a h = record { same = refl; between = λ i lt. (omega arith, h.ordered i lt) }
-
-high_corner : (a : Area) → IsArea a → Holds a a.hi
-high_corner a h = record { same = sym h.same; between = λ i lt. (h.ordered i (omega (arith, h.same, lt)), omega arith) }
 
 within_by_corners : (a b : Area) → IsArea a → Holds b a.lo → Holds b a.hi → Within a b
 within_by_corners a b h low high i lt = ((low.between i lt).0, (high.between i (omega (arith, h.same, lt))).1)
@@ -131,11 +126,11 @@ module _ (trees : TreeLaws) (space : SpaceLaws) (laws : PostLaws) (s : FileState
       ]
 
   -- so each child leaf lies in the box of the page that it names
-  children_below : (name : ℕ) (a : Area) → Contains (leaves_of new.frag new.area) (placed (Child name) a) → IsBelow s page.level name a
+  children_below : (name : ℕ) (a : Area) → Contains (leaves_of new.frag new.area) (placed (Child name) a) → HasBelow s page.level name a
   children_below name a has =
       let box : IsArea a = All-contains (λ (l : Placed). IsArea l.area) (leaves_of new.frag new.area) (placed (Child name) a) (trees.areas new.frag new.area page_box cut) has in
-      let low = at_point name a has a.lo (low_corner a box) in
-      let high = at_point name a has a.hi (high_corner a box) in
+      let low = at_point name a has a.lo (lo_held a box) in
+      let high = at_point name a has a.hi (hi_held a box) in
       let same : high.named ≡ low.named = same_page s name high.named low.named high.there low.there in
       (low.named, low.there, low.level, within_by_corners a low.named.area box low.inside (subst (λ (q : LivePage). Holds q.area a.hi) same high.inside))
 

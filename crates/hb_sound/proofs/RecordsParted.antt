@@ -19,7 +19,7 @@ use Rattle.hb_ops.specs.declared.leaf_cuts.LeafCut.{LeafCut}
 use Rattle.hb_ops.specs.Cutting.{PartLeaves, PartsLeaf, area_on, cut_through, cut_with, going, half_area, half_on, is_on, other_side, reached, records_in, staying}
 use Rattle.hb_lemmas.proofs.Lists.{only_one}
 use Rattle.hb_ops.proofs.Facts.CutLeafLaws.{StemsFrom}
-use Rattle.hb_ops.proofs.Facts.StemLaws.{fresh_stems, source_stems, PartLaws}
+use Rattle.hb_ops.proofs.Facts.StemLaws.{PartLaws, fresh_stems, source_stems, stretch as stretch_of}
 use Rattle.hb_ops.proofs.Facts.PlacedLaws.{placed}
 
 -- what passes stays among what a filter keeps
@@ -113,8 +113,8 @@ module _ (laws : PartLaws) (meta : Meta) (x : Extraction) (page : LivePage) (par
   abbrev old : List Placed
   old = leaves_of page.frag page.area
 
-  stretch : IsStretch x.path page.frag page.area part
-  stretch = laws.leaves x.path page.frag page.area part fits.there
+  abbrev stretch : IsStretch x.path page.frag page.area part
+  stretch = stretch_of laws x.fresh x.path x.cuts page part fits
 
   abbrev opened : List Placed
   opened = leaves_of (cut_through x.cuts part.0 (Tip (Sibling x.fresh))) part.1

@@ -21,8 +21,8 @@ use Rattle.hb_frag.specs.Rules.{IsInOrder}
 use Rattle.hb_ops.specs.Files.{FileState, contents_of, file_records, live_page, page_records}
 use Rattle.hb_ops.specs.Sound.{FitsFile}
 use Rattle.hb_ops.specs.Standing.{StandsThere}
+use Rattle.hb_sound.specs.Laws.{TreeLaws}
 use Rattle.hb_sound.specs.PointWalks.{IsPointOf}
-use Rattle.hb_sound.proofs.OneLevel.{TreeLaws}
 use Rattle.hb_sound.proofs.PagePlaces.{live_there}
 use Rattle.hb_ops.proofs.Facts.PlacedLaws.{placed}
 use Rattle.hb_lemmas.proofs.Orderings.{equal_so}

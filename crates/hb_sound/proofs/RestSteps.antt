@@ -1,5 +1,5 @@
 -- What is left of the leaves of a page, leaf by leaf, and what that adds once all pages were read.
-use Rattle.std.proofs.Common.{◌≡◌, ◌↔◌, ◌⊎◌, inl, inr, ℕ, zero, suc, ◌-◌, ◌≤◌, ◌==◌, Bool, true, false, IsTrue, if◌then◌else◌, List, [], ◌∷◌, ◌++◌, length, All, Contains, Option, Some, None, option_map, IfSome, slice_set, take, refl, sym, ap, ◌∙◌, subst, arith}
+use Rattle.std.proofs.Common.{◌≡◌, ◌↔◌, ◌⊎◌, inl, inr, ℕ, zero, suc, ◌-◌, ◌≤◌, ◌==◌, Bool, true, false, IsTrue, if◌then◌else◌, List, [], ◌∷◌, ◌++◌, length, All, Contains, Option, Some, None, option_map, IfSome, slice_set, take, vec_len, refl, sym, ap, ◌∙◌, subst, arith}
 use Rattle.std.proofs.Math.Seq.{take-append_seam}
 use Rattle.std.proofs.lemmas.Bool.{false≢true}
 use Rattle.std.proofs.lemmas.List.{append-nil, append_assoc}
@@ -131,6 +131,7 @@ module _ (facts : List Fact) (page : LivePage) where
         sym (ap (λ (n : ℕ). option_map (more n) (item_at links.named.items other)) none ∙ none_more (item_at links.named.items other));
     sibling = inl (none_find is.0, refl);
     child = inl (is.1, refl);
+    same = refl;
   }
 
   module _ (name : ℕ) (area : Area) (is : IsRestOf facts page.level all (Lone name area)) where
@@ -154,11 +155,12 @@ module _ (facts : List Fact) (page : LivePage) where
 
     -- a page of which one sibling leaf is left adds that
     pub lone_adds : (id : ℕ) (old new : Links) (good : Bool) → ((other : ℕ) → item_at new.named.items other ≡ option_map (more (if name == other then 1 else 0)) (item_at old.named.items other))
-        → (IsTrue good ↔ SeesSame facts page.level name area) → new.sibling ≡ (if good then old.sibling else or_else old.sibling id) → new.child ≡ old.child → Adds facts id page old new
-    lone_adds id old new good counted tells next same = record {
+        → (IsTrue good ↔ SeesSame facts page.level name area) → new.sibling ≡ (if good then old.sibling else or_else old.sibling id) → new.child ≡ old.child → vec_len new.named ≡ vec_len old.named → Adds facts id page old new
+    lone_adds id old new good counted tells next child same = record {
       named = λ other. counted other ∙ ap (λ (n : ℕ). option_map (more n) (item_at old.named.items other)) (sym (lone_names other));
       sibling = next_by (FindsSiblings facts page) good id old.sibling new.sibling (λ t. lone_finds.0 (tells.0 t), λ f. tells.1 (lone_finds.1 f)) next;
-      child = inl (is.1, same);
+      child = inl (is.1, child);
+      same = same;
     }
 
 -- a page of which nothing is left, whatever it is

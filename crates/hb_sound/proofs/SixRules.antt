@@ -11,7 +11,7 @@ use Rattle.hb_sound.specs.Facts.{AreFactsOf}
 use Rattle.hb_sound.specs.Marks.{HasMarks}
 use Rattle.hb_sound.specs.Names.{KeepsSix, NamesIn}
 use Rattle.hb_sound.specs.Stops.{OnBroken}
-use Rattle.hb_sound.specs.Tests.{file_with}
+use Rattle.hb_sound.specs.Told.{file_with}
 use Rattle.hb_sound.proofs.Bridge.{to_rooted}
 use Rattle.hb_sound.proofs.ChainBridge.{not_counted, to_counted}
 use Rattle.hb_sound.proofs.LocalBridge.{keeps_local, to_local}

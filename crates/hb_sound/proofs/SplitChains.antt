@@ -12,6 +12,7 @@ use Rattle.hb_ops.specs.Allocating.{Allocates, allocated}
 use Rattle.hb_sound.proofs.FileParted.{ArePartsOf, IsParted}
 use Rattle.hb_sound.proofs.PageLists.{live_few}
 use Rattle.hb_ops.proofs.Facts.PageNumberLaws.{in_range, live_so, place_of}
+use Rattle.std.proofs.lemmas.Option.{same_Some}
 
 -- a chain is told by its head
 same_length : (s : FileState) (head : ℕ) (chain other : List ℕ) → IsChain s head chain → IsChain s head other → length chain ≡ length other
@@ -55,9 +56,6 @@ head_there s head (id ∷ chain) h =
     let here = place_of s.pages id (Free h.2) h.3 in
     let lt = in_range s.pages here.0 (Free h.2) here.2 in
     omega (arith, h.0, here.1, lt)
-
-pub same_Some : {A : Type 0} (x y : A) → Some x ≡ Some y → x ≡ y
-same_Some x y e = cc
 
 module _ (s : FileState) (x : Extraction) (pages : List Page) (page source fresh : LivePage) (allocates : Allocates s.meta x.fresh x.free_after) (parted : IsParted s (record { meta = allocated s.meta x.fresh x.free_after; pages = pages }) x page source fresh) where
   abbrev pub after : FileState

@@ -14,16 +14,17 @@ use Rattle.hb_ops.specs.Files.{FileState, contents_of, if_live, live_page}
 use Rattle.hb_ops.specs.Operations.{effect_of}
 use Rattle.hb_ops.specs.Sound.{FitsFile, IsSound}
 use Rattle.hb_ops.specs.Standing.{RecordsAreContents}
+use Rattle.hb_sound.specs.Laws.{SpaceLaws, TreeLaws}
 use Rattle.hb_sound.proofs.Extractions.{Extraction, LicensesExtraction, MayExtract, extracted_so, fresh_page, may_extract, source_page, split_of, with_fields}
 use Rattle.hb_sound.specs.LawsOfOperations.{SplitsKeepContents}
 use Rattle.hb_ops.specs.Allocating.{Allocates, allocated}
 use Rattle.hb_sound.proofs.FileParted.{ArePartsOf, IsParted, after as parted_file, is_parted, parts_of}
-use Rattle.hb_sound.proofs.OneLevel.{TreeLaws}
 use Rattle.hb_ops.proofs.Facts.StemLaws.{PartLaws}
-use Rattle.hb_sound.proofs.Partition.{SpaceLaws, pages_have_boxes, standing_is_contents}
+use Rattle.hb_sound.proofs.Partition.{pages_have_boxes, standing_is_contents}
 use Rattle.hb_sound.proofs.RecordsParted.{AmongLeaves, ShareRecords, share_records}
 use Rattle.hb_sound.proofs.RecordsStand.{HasRecord, contents_stand, stands_at}
-use Rattle.hb_sound.proofs.SplitChains.{not_fresh, same_Some}
+use Rattle.hb_sound.proofs.SplitChains.{not_fresh}
+use Rattle.std.proofs.lemmas.Option.{same_Some}
 use Rattle.hb_sound.proofs.SplitSound.{comes_from, split_sound}
 use Rattle.hb_sound.proofs.Widths.{width, width_between}
 use Rattle.hb_space.proofs.Facts.PointOrder.{exact_points}

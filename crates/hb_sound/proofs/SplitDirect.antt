@@ -6,14 +6,15 @@ use Rattle.hb_frag.specs.declared.pages.Page.{Page}
 use Rattle.hb_ops.specs.Files.{FileState, if_live, live_page}
 use Rattle.hb_ops.specs.Operations.{effect_of}
 use Rattle.hb_ops.specs.Sound.{IsSound}
+use Rattle.hb_sound.specs.Laws.{SpaceLaws, TreeLaws}
 use Rattle.hb_sound.proofs.Extractions.{Extraction, LicensesExtraction, MayExtract, extracted_so, fresh_page, may_extract, source_page, split_of, with_fields}
 use Rattle.hb_sound.specs.LawsOfOperations.{ArePartedAt, HasDirectly, SplitsPartDirect}
 use Rattle.hb_sound.specs.PointWalks.{HasOn, IsPointOf}
 use Rattle.hb_ops.specs.Allocating.{Allocates, allocated}
 use Rattle.hb_sound.proofs.FileParted.{ArePartsOf, IsParted, after as parted_file, is_parted, parts_of}
-use Rattle.hb_sound.proofs.OneLevel.{TreeLaws, same_page}
+use Rattle.hb_sound.proofs.OneLevel.{same_page}
 use Rattle.hb_ops.proofs.Facts.StemLaws.{PartLaws}
-use Rattle.hb_sound.proofs.Partition.{SpaceLaws, each_point_is_held, no_point_is_held_twice}
+use Rattle.hb_sound.proofs.Partition.{each_point_is_held, no_point_is_held_twice}
 use Rattle.hb_sound.proofs.SplitChains.{not_fresh}
 use Rattle.hb_sound.proofs.SplitSound.{comes_from, split_sound}
 

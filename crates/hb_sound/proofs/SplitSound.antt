@@ -10,17 +10,19 @@ use Rattle.hb_frag.specs.Leaves.{leaves_of, siblings_of}
 use Rattle.hb_ops.specs.Files.{FileState, if_live, live_page}
 use Rattle.hb_ops.specs.Operations.{effect_of}
 use Rattle.hb_ops.specs.Sound.{AreWellMade, ChildrenMatch, FitsFile, IsCovered, IsSound, SiblingsMatch, times_named}
+use Rattle.hb_sound.specs.Laws.{TreeLaws}
 use Rattle.hb_sound.specs.LawsOfOperations.{ChangesTwo, SplitsChangeTwo, SplitsKeepSound}
 use Rattle.hb_sound.proofs.Extractions.{Extraction, LicensesExtraction, MayExtract, extracted_so, fresh_page, may_extract, source_page, split_of, with_fields}
 use Rattle.hb_ops.specs.Allocating.{Allocates, allocated}
 use Rattle.hb_sound.proofs.CutNames.{once}
 use Rattle.hb_sound.proofs.FileParted.{ArePartsOf, IsParted, after as parted_file, is_parted, parts_of}
-use Rattle.hb_sound.proofs.OneLevel.{TreeLaws, spread}
+use Rattle.hb_sound.proofs.OneLevel.{spread}
 use Rattle.hb_sound.proofs.PagePlaces.{live_there}
 use Rattle.hb_ops.proofs.Facts.StemLaws.{PartLaws}
 use Rattle.hb_sound.proofs.SiblingLeaves.{named_among}
 use Rattle.hb_ops.proofs.Facts.PlacedLaws.{placed}
-use Rattle.hb_sound.proofs.SplitChains.{counted_again, not_fresh, rooted_again, same_Some, stays_live}
+use Rattle.hb_sound.proofs.SplitChains.{counted_again, not_fresh, rooted_again, stays_live}
+use Rattle.std.proofs.lemmas.Option.{same_Some}
 use Rattle.hb_sound.proofs.Widths.{width}
 
 -- no box is wider than the whole space

@@ -8,9 +8,10 @@ use Rattle.hb_frag.specs.declared.pages.LivePage.{LivePage}
 use Rattle.hb_frag.specs.Leaves.{Placed, leaf_at, leaves_of}
 use Rattle.hb_ops.specs.Files.{FileState, live_page}
 use Rattle.hb_ops.specs.Sound.{AreWellMade, ChildrenMatch, IsCovered, SiblingsMatch}
+use Rattle.hb_sound.specs.Laws.{TreeLaws}
 use Rattle.hb_sound.specs.PointWalks.{LeadsFurther, LeadsOn, Sees}
 use Rattle.hb_sound.proofs.HeldSomewhere.{leaf_there}
-use Rattle.hb_sound.proofs.OneLevel.{TreeLaws, narrower, page_area, same_page}
+use Rattle.hb_sound.proofs.OneLevel.{narrower, page_area, same_page}
 use Rattle.hb_ops.proofs.Facts.PlacedLaws.{leaf_is_sibling, placed}
 use Rattle.hb_sound.proofs.WalksDown.{child_below}
 use Rattle.hb_sound.proofs.Widths.{width}

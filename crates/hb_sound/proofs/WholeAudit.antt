@@ -18,8 +18,7 @@ use Rattle.hb_sound.specs.Links.{AreLinks, AreRead, IsCut, Tells}
 use Rattle.hb_sound.specs.Names.{IsSoundWith, KeepsSix, Names, NamesIn}
 use Rattle.hb_sound.specs.Rests.{KnowsTold}
 use Rattle.hb_sound.specs.Stops.{OnBroken}
-use Rattle.hb_sound.specs.Tests.{file_with}
-use Rattle.hb_sound.specs.Told.{IsWholeFile, file_of, item_at, shown_pages}
+use Rattle.hb_sound.specs.Told.{IsWholeFile, file_of, item_at, shown_pages, file_with}
 use Rattle.hb_sound.proofs.Bridge.{page_item, same_length}
 use Rattle.hb_sound.proofs.LocalBridge.{cut}
 

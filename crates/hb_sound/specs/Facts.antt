@@ -1,5 +1,5 @@
 -- The few facts that the audit keeps of each page, and what they say together.
-use Rattle.std.specs.Prelude.{◌≡◌, ◌⊎◌, ℕ, zero, suc, ◌+◌, ◌^◌, ◌<◌, ◌≤◌, ◌==◌, if◌then◌else◌, List, [], ◌∷◌, length, Option, Some, None}
+use Rattle.std.specs.Prelude.{◌≡◌, ◌⊎◌, ℕ, zero, suc, ◌+◌, ◌≤◌, ◌==◌, if◌then◌else◌, List, [], ◌∷◌, length, option_map, Option, Some, None}
 use Rattle.hb_space.specs.Boxes.{Area, Within}
 use Rattle.hb_frag.specs.declared.leaves.Leaf.{Leaf}
 use Rattle.hb_frag.specs.declared.leaves.Leaf.TheVariants.{Records, Child, Sibling}
@@ -102,6 +102,11 @@ once_more Often = Often
 abbrev pub more : ℕ → Times → Times
 more zero times = times
 more (suc n) times = once_more (more n times)
+
+-- the counts before, and after each page was met so often
+pub record IsCountedOn (met : ℕ → ℕ) (old new : List Times) : Type 0 where
+  pub same : length new ≡ length old
+  pub counted : (id : ℕ) → item_at new id ≡ option_map (more (met id)) (item_at old id)
 
 -- a legal layout, and a fact of each page up to the high mark
 pub record HasFacts (meta : Meta) (facts : List Fact) : Type 0 where

@@ -1,10 +1,13 @@
 -- What every sound file has, as laws.
-use Rattle.std.specs.Prelude.{◌≡◌, ℕ, ◌<◌, ◌≤◌, List, Some, None}
+use Rattle.std.specs.Prelude.{◌≡◌, ◌↔◌, ℕ, ◌<◌, ◌≤◌, List, All, Contains, length, IsSome, Some, None}
 use Rattle.std.specs.FinMap as finite
 use Rattle.hb_space.specs.declared.form.TheConstants.{KMAX}
 use Rattle.hb_space.specs.declared.records.Record.{Record}
-use Rattle.hb_space.specs.Boxes.{IsArea, Holds}
+use Rattle.hb_space.specs.Boxes.{Area, IsArea, Holds, Within, whole_area}
+use Rattle.hb_space.specs.Points.{IsPoint}
 use Rattle.hb_frag.specs.declared.pages.LivePage.{LivePage}
+use Rattle.hb_frag.specs.Leaves.{IsWellCut, Placed, first_at, leaves_of}
+use Rattle.hb_frag.specs.Trees.{Tree}
 use Rattle.hb_ops.specs.declared.operations.Op.TheVariants.{Put, Del}
 use Rattle.hb_ops.specs.Files.{FileState, live_page, contents_of}
 use Rattle.hb_ops.specs.Operations.{IsAllowed, effect_of}
@@ -12,6 +15,18 @@ use Rattle.hb_ops.specs.Sound.{IsSound}
 use Rattle.hb_ops.specs.LawsOfContents.{OthersLack}
 use Rattle.hb_ops.specs.Standing.{StandsThere, StandsNot}
 use Rattle.hb_sound.specs.PointWalks.{IsPointOf, HasOn, HasWalk, IsResponsible, IsWholeWalk, LeadsFurther, LeadsOn}
+
+-- what the laws of trees say, and those of the space, from which the others follow
+pub record TreeLaws : Type 0 where
+  pub areas : (t : Tree) (a : Area) → IsArea a → IsWellCut t a → All (λ l. IsArea l.area) (leaves_of t a)
+  pub attributes : (t : Tree) (a : Area) → All (λ l. length l.area.lo ≡ length a.lo) (leaves_of t a)
+  pub within : (t : Tree) (a : Area) → IsArea a → IsWellCut t a → All (λ l. Within l.area a) (leaves_of t a)
+  pub some : (t : Tree) (a : Area) (p : List ℕ) → IsArea a → IsWellCut t a → IsSome (first_at p (leaves_of t a)) ↔ Holds a p
+  pub only : (t : Tree) (a : Area) (p : List ℕ) (l : Placed) → IsArea a → IsWellCut t a → (first_at p (leaves_of t a) ≡ Some l) ↔ (Contains (leaves_of t a) l × Holds l.area p)
+
+pub record SpaceLaws : Type 0 where
+  pub area : (k : ℕ) → 1 ≤ k → k ≤ KMAX → IsArea (whole_area k)
+  pub points : (k : ℕ) (p : List ℕ) → IsPoint p → length p ≡ k → Holds (whole_area k) p
 
 -- On each level some page directly holds each point of the space, and no other page of the level does.
 abbrev pub EachPointIsHeld : Type 0

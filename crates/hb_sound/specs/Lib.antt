@@ -19,5 +19,4 @@ pub mod RecordCounts
 pub mod Chains
 pub mod Links
 pub mod Covers
-pub mod Tests
 pub mod Rests

@@ -1,5 +1,5 @@
 -- What the leaves of the pages name, by the facts of the pages.
-use Rattle.std.specs.Prelude.{◌≡◌, ◌⊎◌, ℕ, ◌≤◌, List, length, All, take, option_map, Option, Some, None}
+use Rattle.std.specs.Prelude.{◌≡◌, ◌⊎◌, ℕ, ◌≤◌, List, length, All, take, option_map, vec_len, Option, Some, None, Result, IfErr, IfSome, OnOk}
 use Rattle.hb_frag.specs.declared.pages.LivePage.{LivePage}
 use Rattle.hb_frag.specs.declared.pages.Page.{Page}
 use Rattle.hb_frag.specs.declared.pages.Page.TheVariants as pages
@@ -8,10 +8,11 @@ use Rattle.hb_ops.specs.Files.{page_at, if_live}
 use Rattle.hb_ops.specs.Sound.{times_named}
 use Rattle.hb_sound.specs.declared.facts.Fact.{Fact}
 use Rattle.hb_sound.specs.declared.links.Links.{Links}
-use Rattle.hb_sound.specs.declared.names.Times.{Times}
 use Rattle.hb_sound.specs.declared.names.Times.TheVariants.{Never}
+use Rattle.hb_sound.specs.declared.pages.AuditStop.{AuditStop}
 use Rattle.hb_sound.specs.Facts.{FindsBelow, FindsSame, more, names_in}
 use Rattle.hb_sound.specs.Rests.{KnowsTold}
+use Rattle.hb_sound.specs.Stops.{OnBroken}
 use Rattle.hb_sound.specs.Told.{item_at}
 use Rattle.hb_sound.specs.Walks.{IsLeast}
 
@@ -45,19 +46,26 @@ FindsSiblings facts page = All (FindsSame facts page.level) (leaves_of page.frag
 abbrev pub FindsChildren : List Fact → LivePage → Type 0
 FindsChildren facts page = All (FindsBelow facts page.level) (leaves_of page.frag page.area)
 
--- what was counted, before and after the leaves of one page
-abbrev pub IsCountedOn : LivePage → List Times → List Times → Type 0
-IsCountedOn page old new = (id : ℕ) → item_at new id ≡ option_map (more (names_in id (leaves page.frag))) (item_at old id)
-
 -- the page of this number was added
 pub record Adds (facts : List Fact) (id : ℕ) (page : LivePage) (old new : Links) : Type 0 where
-  pub named : IsCountedOn page old.named.items new.named.items
+  pub named : (other : ℕ) → item_at new.named.items other ≡ option_map (more (names_in other (leaves page.frag))) (item_at old.named.items other)
   pub sibling : IsNextBad (FindsSiblings facts page) id old.sibling new.sibling
   pub child : IsNextBad (FindsChildren facts page) id old.child new.child
+  -- as many pages are counted
+  pub same : vec_len new.named ≡ vec_len old.named
 
 abbrev pub AddsPage : List Fact → ℕ → Page → Links → Links → Type 0
 AddsPage facts id (pages.Live page) old new = Adds facts id page old new
 AddsPage facts id (pages.Free next) old new = new ≡ old
+
+-- What reading the page of this number for its links did.
+pub record ReadsLinks (told : Option (List (Option Page))) (facts : List Fact) (id : ℕ) (known : List (Option Page) → Page → Type 0) (result : Result (Unit {0}) AuditStop) (old new : Links) : Type 0 where
+  -- the page that is told under it was added, where this is known of it
+  pub adds : OnOk result (IfSome told (λ told. (page : Page) → item_at told id ≡ Some (Some page) → known told page → AddsPage facts id page old new))
+  -- it is broken only where a cut of that page doesn't cut
+  pub never : IfErr result (OnBroken (λ _ _. IfSome told (λ told. (page : Page) → item_at told id ≡ Some (Some page) → IsCut page → ⊥)))
+  -- as many pages are counted
+  pub same : vec_len new.named ≡ vec_len old.named
 
 -- the page under the number has a leaf that names no page as its rule wants it
 abbrev pub LosesSibling : List Fact → List Page → ℕ → Type 0

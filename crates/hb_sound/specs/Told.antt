@@ -20,9 +20,13 @@ shown_pages [] = []
 shown_pages (None ∷ rest) = shown_pages rest
 shown_pages (Some page ∷ rest) = page ∷ shown_pages rest
 
--- the file of them, up to the high mark
+-- the file that says this of itself, with these pages
+abbrev pub file_with : Meta → List Page → FileState
+file_with meta list = record { meta = meta; pages = list }
+
+-- the file of those that are there, up to the high mark
 abbrev pub file_of : Meta → List (Option Page) → FileState
-file_of meta told = record { meta = meta; pages = shown_pages (take meta.high told) }
+file_of meta told = file_with meta (shown_pages (take meta.high told))
 
 -- S0: a number from 1 to the high mark beyond the pages that the file may have, or with bytes that are no page
 abbrev pub IsHole : Meta → List (Option Page) → ℕ → Type 0

@@ -1,6 +1,5 @@
 //! Whether a file is sound.
 ghost use Rattle.std.specs.Prelude.{◌≡◌, ◌+◌, ◌<◌, ◌≤◌, ◌^◌, ◌↔◌, ℕ, List, Some, None, All, length, vec_len, IfErr, IfOk, IfSome, IsErrOf, IsTrue, MatchOption, OnOk};
-ghost use Rattle.hb_space.specs.Boxes.{whole_area};
 ghost use Rattle.hb_frag.specs.declared.pages.Page.{Page as Content};
 ghost use Rattle.hb_sound.specs.Asking.{Asks};
 ghost use Rattle.hb_layout.specs.Limits.{IsLayout};
@@ -11,9 +10,8 @@ ghost use Rattle.hb_sound.specs.Facts.{AreFactsOf, HasFacts};
 ghost use Rattle.hb_sound.specs.RecordCounts.{IsLightFact, all_records, records_seen};
 ghost use Rattle.hb_sound.specs.Links.{AreLinks};
 ghost use Rattle.hb_sound.specs.Names.{IsSoundWith, KeepsSix, Names, NamesIn, OneIsNamed, SoundBreaksNone};
-ghost use Rattle.hb_sound.specs.Tests.{file_with};
 ghost use Rattle.hb_sound.specs.Stops.{OnBroken};
-ghost use Rattle.hb_sound.specs.Told.{CoversFile};
+ghost use Rattle.hb_sound.specs.Told.{CoversFile, file_with};
 ghost use Rattle.hb_sound.specs.Walks.{IsLeast};
 ghost use Rattle.hb_sound.specs.declared.pages.AuditStop.TheVariants.{Broken, Failed};
 
@@ -27,11 +25,10 @@ use hb_space::Area;
 use std::alloc::Global;
 
 /// Whether what was seen is at the top of the file and has the whole space.
-fn is_top_page(meta: &Meta, seen: &Seen) -> bool
-    requires { IsLayout meta.now }
-    ensures { IsTrue result ↔ ((seen.now.level + 1 ≡ meta.now.height) × (seen.now.area ≡ whole_area meta.now.k)) }
+fn is_top_page(meta: &Meta, seen: &Seen, whole: &Area) -> bool
+    ensures { IsTrue result ↔ ((seen.now.level + 1 ≡ meta.now.height) × (seen.now.area ≡ whole.now)) }
 {
-    u16::from(seen.level) + 1 == u16::from(meta.height) && seen.area == Area::whole(meta.k)
+    u16::from(seen.level) + 1 == u16::from(meta.height) && seen.area == *whole
 }
 
 /// Whether the root is in use at the top of the file and has the whole space.
@@ -40,7 +37,7 @@ fn is_top(meta: &Meta, facts: &[Fact]) -> bool
     ensures { IsTrue result ↔ SeesTop meta.now facts.now }
 {
     match seen_in(facts, meta.root) {
-        Some(root) => is_top_page(meta, root),
+        Some(root) => is_top_page(meta, root, &Area::whole(meta.k)),
         None => false,
     }
 }

@@ -101,20 +101,6 @@ fn end_break(meta: &Meta, facts: &[Fact], end: u32) -> Option<u32>
     }
 }
 
-/// The page that is named where rule 2 is broken, with a mark for each page.
-fn break_by(meta: &Meta, facts: &[Fact], chained: &mut [bool]) -> Option<u32>
-    requires few { length facts.now < 2 ^ 32 }
-    requires same { length chained.old ≡ length facts.now }
-    requires fresh { All (λ b. b ≡ false) chained.old }
-    ensures { IsFreeBreak meta.now facts.now result }
-{
-    let end = walk(facts, meta.free, chained);
-    match first_left_out(facts, chained) {
-        Some(id) => Some(id),
-        None => end_break(meta, facts, end),
-    }
-}
-
 /// The page that is named where rule 2 is broken.
 pub(crate) fn free_break(
     alloc: Global,
@@ -125,5 +111,9 @@ pub(crate) fn free_break(
     ensures { IfOk result (λ broken. IsFreeBreak meta.now facts.now broken) }
 {
     let mut chained = vec![in alloc; false; facts.len()]?;
-    Ok(break_by(meta, facts, &mut chained))
+    let end = walk(facts, meta.free, &mut chained);
+    match first_left_out(facts, &chained) {
+        Some(id) => Ok(Some(id)),
+        None => Ok(end_break(meta, facts, end)),
+    }
 }

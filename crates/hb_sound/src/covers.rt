@@ -1,9 +1,8 @@
 //! Rule 9: one page of the whole space on each level, and one sibling leaf for each other page.
-ghost use Rattle.std.specs.Prelude.{◌≡◌, ◌<◌, ◌≤◌, ◌^◌, ◌↔◌, ℕ, List, Some, length, slice_get, IfOk, IsTrue, MatchOption};
-ghost use Rattle.hb_space.specs.declared.form.TheConstants.{KMAX};
+ghost use Rattle.std.specs.Prelude.{◌≡◌, ◌<◌, ◌^◌, ◌↔◌, ℕ, List, Some, length, slice_get, IfOk, IsTrue, MatchOption};
 ghost use Rattle.hb_sound.specs.Covers.{AreBelow, AreFirsts, HasBox, IsCoverBreak, IsLooseFact, IsLooseSeen, LacksLevel, SeesSome, SeesLoose};
 ghost use Rattle.hb_sound.specs.declared.facts.Fact.{Fact as FactSeen};
-ghost use Rattle.hb_sound.specs.Facts.{seen_at};
+ghost use Rattle.hb_sound.specs.Facts.{HasFacts, seen_at};
 ghost use Rattle.hb_sound.specs.Told.{item_at};
 ghost use Rattle.hb_sound.specs.Walks.{IsLeast};
 
@@ -120,10 +119,8 @@ pub(crate) fn cover_break(
     facts: &[Fact],
     named: &[Times],
 ) -> Result<Option<u32>, NoMemory>
-    requires few { length facts.now < 2 ^ 32 }
+    requires facts { HasFacts meta.now facts.now }
     requires same { length named.now ≡ length facts.now }
-    requires some { 1 ≤ meta.now.k }
-    requires most { meta.now.k ≤ KMAX }
     ensures { IfOk result (λ broken. AreBelow meta.now.height facts.now → IsCoverBreak meta.now facts.now named.now broken) }
 {
     let whole = Area::whole(meta.k);

@@ -90,18 +90,6 @@ fn own_rule(page: &LivePage, meta: &Meta) -> u8
     }
 }
 
-/// What of the leaves of a page that breaks this rule by itself, or none, is still to be looked up behind these facts.
-fn rest_by(rule: u8, facts: &[Fact], page: &LivePage) -> Rest
-    requires { rule ≡ 0 → WellCut page.now }
-    ensures { IsRestOf facts.now page.now.level (leaves_of page.now.frag page.now.area) result }
-{
-    if rule == 0 {
-        rest_of(facts, page)
-    } else {
-        Rest::More
-    }
-}
-
 /// What is kept of a page in use, behind these facts.
 fn seen_of(page: LivePage, meta: &Meta, facts: &[Fact]) -> Seen
     requires { weight_of page.frag < 2 ^ 32 }
@@ -111,7 +99,7 @@ fn seen_of(page: LivePage, meta: &Meta, facts: &[Fact]) -> Seen
 {
     let rule = own_rule(&page, meta);
     let records = records_in(&page);
-    let rest = rest_by(rule, facts, &page);
+    let rest = rest_of(rule, facts, &page);
     Seen {
         level: page.level,
         area: page.area,

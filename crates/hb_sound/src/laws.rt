@@ -1,7 +1,7 @@
 //! What follows of a sound file, whatever was done to it. Each law is the contract of a function
 //! that does nothing: a caller learns it by the call.
 
-ghost use Rattle.hb_sound.specs.Laws.{DelsTakeOne, EachPageHasWalks, EachPointIsHeld, LackIsContents, NoPointIsHeldTwice, PagesHaveBoxes, PutsAddOne, RecordsAreAtHome, RootHasWalks, StandingIsContents, StepsLeadFurther, WalksAreOne};
+ghost use Rattle.hb_sound.specs.Laws.{DelsTakeOne, EachPageHasWalks, EachPointIsHeld, LackIsContents, NoPointIsHeldTwice, PagesHaveBoxes, PutsAddOne, RecordsAreAtHome, RootHasWalks, SpaceLaws, StandingIsContents, StepsLeadFurther, TreeLaws, WalksAreOne};
 ghost use Rattle.hb_sound.specs.LawsOfOperations.{GrowthChangesOne, GrowthKeepsContents, GrowthKeepsDirect, GrowthKeepsSound, OperationsKeepContents, OperationsKeepLayout, OperationsKeepSound, SplitsChangeTwo, SplitsKeepContents, SplitsKeepSound, SplitsPartDirect};
 ghost use Rattle.hb_sound.specs.LawsOfPostings.{PostingsChangeParent, PostingsKeepContents, PostingsKeepDirect, PostingsKeepSound, PostingsName};
 ghost use Rattle.hb_sound.specs.Settled.{NoOtherParent, SettledWalksAreShort};
@@ -16,15 +16,23 @@ use hb_ops::{
 };
 use hb_space::laws::{common_box_is_a_box, held_is_a_point, whole_space_holds_every_point};
 
+/// What the crates below say of trees and of the space, from which the laws of this one follow.
+fn trees_and_space()
+    ensures trees { TreeLaws }
+    ensures space { SpaceLaws }
+{
+    leaves_part_the_box();
+    each_point_has_one_leaf();
+    whole_space_holds_every_point();
+}
+
 /// The pages of each level part the space: each point is directly held by one page of the level, and
 /// by no other one.
 pub fn a_level_parts_the_space()
     ensures some { EachPointIsHeld }
     ensures alone { NoPointIsHeldTwice }
 {
-    leaves_part_the_box();
-    each_point_has_one_leaf();
-    whole_space_holds_every_point();
+    trees_and_space();
 }
 
 /// From the root there is one walk for each point, and from each page for each point of its box: from
@@ -35,9 +43,7 @@ pub fn a_walk_ends_at_the_responsible_page()
     ensures pages { EachPageHasWalks }
     ensures alone { WalksAreOne }
 {
-    leaves_part_the_box();
-    each_point_has_one_leaf();
-    whole_space_holds_every_point();
+    trees_and_space();
 }
 
 /// Each step of a walk leads one level down, or to a page of the same level whose box is part of the
@@ -45,18 +51,14 @@ pub fn a_walk_ends_at_the_responsible_page()
 pub fn each_step_of_a_walk_leads_further()
     ensures { StepsLeadFurther }
 {
-    leaves_part_the_box();
-    each_point_has_one_leaf();
-    whole_space_holds_every_point();
+    trees_and_space();
 }
 
 /// A record of a point stands in the page that is responsible for it, and in no other one.
 pub fn records_are_at_home()
     ensures { RecordsAreAtHome }
 {
-    leaves_part_the_box();
-    each_point_has_one_leaf();
-    whole_space_holds_every_point();
+    trees_and_space();
 }
 
 /// What a page has at a point is what the contents of the file have there: where its leaf at the point
@@ -65,9 +67,7 @@ pub fn what_stands_is_what_the_contents_have()
     ensures there { StandingIsContents }
     ensures absent { LackIsContents }
 {
-    leaves_part_the_box();
-    each_point_has_one_leaf();
-    whole_space_holds_every_point();
+    trees_and_space();
     what_stands_is_in_the_contents();
 }
 
@@ -77,9 +77,7 @@ pub fn puts_and_deletes_change_one_record()
     ensures put { PutsAddOne }
     ensures del { DelsTakeOne }
 {
-    leaves_part_the_box();
-    each_point_has_one_leaf();
-    whole_space_holds_every_point();
+    trees_and_space();
     put_adds_one_record();
     delete_takes_one_record();
 }
@@ -88,9 +86,7 @@ pub fn puts_and_deletes_change_one_record()
 pub fn each_page_has_a_box()
     ensures { PagesHaveBoxes }
 {
-    leaves_part_the_box();
-    each_point_has_one_leaf();
-    whole_space_holds_every_point();
+    trees_and_space();
 }
 
 /// In a settled file whose root has no sibling leaf, each whole walk from the root has as many pages as
@@ -98,18 +94,14 @@ pub fn each_page_has_a_box()
 pub fn settled_walks_are_short()
     ensures { SettledWalksAreShort }
 {
-    leaves_part_the_box();
-    each_point_has_one_leaf();
-    whole_space_holds_every_point();
+    trees_and_space();
 }
 
 /// Where a page directly holds the whole box of a page one level down, that one has no other parent.
 pub fn no_page_has_another_parent()
     ensures { NoOtherParent }
 {
-    leaves_part_the_box();
-    each_point_has_one_leaf();
-    whole_space_holds_every_point();
+    trees_and_space();
 }
 
 /// A split moves a part of a page into a page of its own and leaves a sibling leaf in its place. Where
@@ -122,10 +114,8 @@ pub fn a_split_keeps_a_file_sound()
     ensures direct { SplitsPartDirect }
     ensures pages { SplitsChangeTwo }
 {
-    leaves_part_the_box();
-    each_point_has_one_leaf();
+    trees_and_space();
     parts_are_stretches();
-    whole_space_holds_every_point();
     held_is_a_point();
     what_stands_is_in_the_contents();
 }
@@ -141,12 +131,10 @@ pub fn a_posting_keeps_a_file_sound()
     ensures pages { PostingsChangeParent }
     ensures names { PostingsName }
 {
-    leaves_part_the_box();
-    each_point_has_one_leaf();
+    trees_and_space();
     parts_are_stretches();
     carving_parts_a_leaf();
     normal_says_the_same();
-    whole_space_holds_every_point();
     common_box_is_a_box();
 }
 
@@ -160,7 +148,7 @@ pub fn growing_keeps_a_file_sound()
     ensures direct { GrowthKeepsDirect }
     ensures pages { GrowthChangesOne }
 {
-    whole_space_holds_every_point();
+    trees_and_space();
 }
 
 /// Whatever operation is allowed and licensed, a sound file of a legal layout stays sound, and its
@@ -171,16 +159,12 @@ pub fn operations_keep_a_file_sound()
     ensures layout { OperationsKeepLayout }
     ensures contents { OperationsKeepContents }
 {
-    leaves_part_the_box();
-    each_point_has_one_leaf();
-    parts_are_stretches();
-    carving_parts_a_leaf();
-    normal_says_the_same();
-    whole_space_holds_every_point();
+    trees_and_space();
     held_is_a_point();
-    common_box_is_a_box();
-    put_adds_one_record();
-    delete_takes_one_record();
+    each_page_has_a_box();
     puts_and_deletes_keep_a_file_sound();
-    what_stands_is_in_the_contents();
+    puts_and_deletes_change_one_record();
+    a_split_keeps_a_file_sound();
+    a_posting_keeps_a_file_sound();
+    growing_keeps_a_file_sound();
 }

@@ -1,15 +1,14 @@
 //! Rules 7 and 8: what leaves name.
-ghost use Rattle.std.specs.Prelude.{◌≡◌, ◌+◌, ◌<◌, ◌≤◌, ◌^◌, ◌↔◌, ℕ, if◌then◌else◌, List, Some, None, All, length, replicate, vec_len, IfErr, IfOk, IfSome, IsErrOf, IsTrue, OnOk};
+ghost use Rattle.std.specs.Prelude.{◌≡◌, ◌+◌, ◌<◌, ◌≤◌, ◌^◌, ◌↔◌, ℕ, if◌then◌else◌, List, Some, None, All, length, replicate, vec_len, IfErr, IfOk, IfSome, IsErrOf, IsTrue};
 ghost use Rattle.hb_space.specs.Boxes.{Within};
 ghost use Rattle.hb_frag.specs.Leaves.{IsWellCut, WellCut, leaves_of};
 ghost use Rattle.hb_frag.specs.declared.pages.LivePage.{LivePage as Live};
 ghost use Rattle.hb_frag.specs.declared.pages.Page.{Page as Content};
 ghost use Rattle.hb_sound.specs.Asking.{Asks};
 ghost use Rattle.hb_sound.specs.Facts.{FindsBelow, FindsSame, SeesBelow, SeesSame};
-ghost use Rattle.hb_sound.specs.Links.{Adds, AddsPage, FindsChildren, FindsSiblings, AreLinks, AreRead, IsCut, or_else};
+ghost use Rattle.hb_sound.specs.Links.{Adds, AreLinks, AreRead, FindsChildren, FindsSiblings, ReadsLinks, or_else};
 ghost use Rattle.hb_sound.specs.Rests.{IsRestOf, Knows, KnowsTold};
 ghost use Rattle.hb_sound.specs.Stops.{OnBroken};
-ghost use Rattle.hb_sound.specs.Told.{item_at};
 ghost use Rattle.hb_sound.specs.declared.facts.Fact.TheVariants.{Live as SeenLive};
 ghost use Rattle.hb_sound.specs.declared.names.Times.TheVariants.{Never};
 ghost use Rattle.hb_sound.specs.declared.pages.AuditStop.TheVariants.{Failed};
@@ -187,8 +186,7 @@ impl Links {
     /// Adds those of a page in use.
     fn add(&mut self, facts: &[Fact], id: u32, page: &LivePage)
         requires { WellCut page.now }
-        ensures adds { Adds facts.now id page.now self.old self.new }
-        ensures same { vec_len self.new.named ≡ vec_len self.old.named }
+        ensures { Adds facts.now id page.now self.old self.new }
     {
         let (same, below) = page_matches(facts, page);
         self.sibling = first_bad(self.sibling, id, same);
@@ -203,9 +201,7 @@ impl Links {
         pages: &mut P,
         id: u32,
     ) -> Result<(), AuditStop>
-        ensures adds { OnOk result (IfSome (P.model pages.old).told (λ told. (page : Content) → item_at told id ≡ Some (Some page) → AddsPage facts.now id page self.old self.new)) }
-        ensures never { IfErr result (OnBroken (λ _ _. IfSome (P.model pages.old).told (λ told. (page : Content) → item_at told id ≡ Some (Some page) → IsCut page → ⊥))) }
-        ensures same { vec_len self.new.named ≡ vec_len self.old.named }
+        ensures reads { ReadsLinks (P.model pages.old).told facts.now id (λ _ _. Unit {0}) result self.old self.new }
         ensures asks { Asks P.model P.asked (IsErrOf result Failed) pages.old pages.new }
     {
         match pages.page(id)? {
@@ -241,10 +237,7 @@ impl Links {
         pages: &mut P,
         id: u32,
     ) -> Result<(), AuditStop>
-        ensures adds { OnOk result (IfSome (P.model pages.old).told (λ told. (page : Content) → item_at told id ≡ Some (Some page) → Knows facts.now (SeenLive seen.now) page
-            → AddsPage facts.now id page self.old self.new)) }
-        ensures never { IfErr result (OnBroken (λ _ _. IfSome (P.model pages.old).told (λ told. (page : Content) → item_at told id ≡ Some (Some page) → IsCut page → ⊥))) }
-        ensures same { vec_len self.new.named ≡ vec_len self.old.named }
+        ensures reads { ReadsLinks (P.model pages.old).told facts.now id (λ _ page. Knows facts.now (SeenLive seen.now) page) result self.old self.new }
         ensures asks { Asks P.model P.asked (IsErrOf result Failed) pages.old pages.new }
     {
         match &seen.rest {
@@ -261,10 +254,7 @@ impl Links {
     fn read<P: Pages>(&mut self, facts: &[Fact], pages: &mut P, id: u32) -> Result<(), AuditStop>
         requires some { 1 ≤ id }
         requires within { id ≤ length facts.now }
-        ensures adds { OnOk result (IfSome (P.model pages.old).told (λ told. (page : Content) → item_at told id ≡ Some (Some page) → KnowsTold facts.now told
-            → AddsPage facts.now id page self.old self.new)) }
-        ensures never { IfErr result (OnBroken (λ _ _. IfSome (P.model pages.old).told (λ told. (page : Content) → item_at told id ≡ Some (Some page) → IsCut page → ⊥))) }
-        ensures same { vec_len self.new.named ≡ vec_len self.old.named }
+        ensures reads { ReadsLinks (P.model pages.old).told facts.now id (λ told _. KnowsTold facts.now told) result self.old self.new }
         ensures asks { Asks P.model P.asked (IsErrOf result Failed) pages.old pages.new }
     {
         match seen_in(facts, id) {

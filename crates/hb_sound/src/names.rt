@@ -1,8 +1,7 @@
 //! How often sibling leaves name a page.
-ghost use Rattle.std.specs.Prelude.{◌≡◌, ◌==◌, if◌then◌else◌, ℕ, [], ◌∷◌, length, option_map};
+ghost use Rattle.std.specs.Prelude.{◌≡◌, ◌==◌, if◌then◌else◌, [], ◌∷◌};
 ghost use Rattle.hb_frag.specs.Leaves.{leaves};
-ghost use Rattle.hb_sound.specs.Facts.{more, names_in, once_more};
-ghost use Rattle.hb_sound.specs.Told.{item_at};
+ghost use Rattle.hb_sound.specs.Facts.{IsCountedOn, names_in, once_more};
 
 use hb_frag::{Frag, Leaf, Node};
 
@@ -28,8 +27,7 @@ impl Times {
 
 /// Counts the page of this number, which may be any, once more. A number of no page counts nothing.
 pub(crate) fn count_one(id: u32, named: &mut [Times])
-    ensures same { length named.new ≡ length named.old }
-    ensures counted { (other : ℕ) → item_at named.new other ≡ option_map (more (if id == other then 1 else 0)) (item_at named.old other) }
+    ensures { IsCountedOn (λ other. if id == other then 1 else 0) named.old named.new }
 {
     let Some(place) = id.checked_sub(1) else {
         return;
@@ -42,8 +40,7 @@ pub(crate) fn count_one(id: u32, named: &mut [Times])
 
 /// Counts the page that the leaf names, where it is a sibling leaf.
 fn count_leaf(leaf: &Leaf, named: &mut [Times])
-    ensures same { length named.new ≡ length named.old }
-    ensures counted { (id : ℕ) → item_at named.new id ≡ option_map (more (names_in id (leaf.now ∷ []))) (item_at named.old id) }
+    ensures { IsCountedOn (λ id. names_in id (leaf.now ∷ [])) named.old named.new }
 {
     match leaf {
         Leaf::Sibling(id) => count_one(*id, named),
@@ -53,8 +50,7 @@ fn count_leaf(leaf: &Leaf, named: &mut [Times])
 
 /// Counts the pages that the sibling leaves of a page name.
 pub(crate) fn count_names(frag: &Frag, named: &mut [Times])
-    ensures same { length named.new ≡ length named.old }
-    ensures counted { (id : ℕ) → item_at named.new id ≡ option_map (more (names_in id (leaves frag.now))) (item_at named.old id) }
+    ensures { IsCountedOn (λ id. names_in id (leaves frag.now)) named.old named.new }
 {
     match &frag.node {
         Node::Tip(leaf) => count_leaf(leaf, named),

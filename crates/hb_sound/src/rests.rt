@@ -115,11 +115,14 @@ fn add_leaves(
     }
 }
 
-/// What of the page's leaves is still to be looked up behind these facts.
-pub(crate) fn rest_of(facts: &[Fact], page: &LivePage) -> Rest
-    requires { WellCut page.now }
+/// What of the leaves of a page that breaks this rule by itself, or none, is still to be looked up behind these facts.
+pub(crate) fn rest_of(rule: u8, facts: &[Fact], page: &LivePage) -> Rest
+    requires { rule ≡ 0 → WellCut page.now }
     ensures { IsRestOf facts.now page.now.level (leaves_of page.now.frag page.now.area) result }
 {
+    if rule != 0 {
+        return Rest::More;
+    }
     let count = page.area.lo().values().len();
     let mut lo = [0; KMAX];
     let mut hi = [0; KMAX];

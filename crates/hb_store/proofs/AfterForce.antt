@@ -115,9 +115,6 @@ module _ (d : DiskModel) (is_disk : IsDisk d) (st : StoreState) (is : IsMemory s
       let Q : ℕ → ℕ → Type 0 = λ at n. HasFrames (range at n c) payloads in
       subst (λ (n : ℕ). Q (log_start st.turn p.said) n) len_is (subst (λ (at : ℕ). Q at st.log.len) area_is framed)
 
-  pub may_force : (payloads : List (List ℕ)) × HasLog d st.log payloads
-  may_force = (p.payloads, (keeps.disk.running going).logged)
-
   -- inside
   pub inside_opens : (c : List ℕ) → ForceLeaves d st.log p.payloads c
       → OpensBy c st.turn p.said p.payloads p.written durable ⊎ OpensNext c st.turn p.said p.payloads p.written p.waiting later

@@ -11,7 +11,7 @@ use Rattle.hb_frag.specs.Grammar.{HasSpelling}
 use Rattle.hb_layout.specs.declared.meta.Meta.{Meta}
 use Rattle.hb_ops.specs.declared.operations.Op.{Op}
 use Rattle.hb_ops.specs.declared.operations.Op.TheVariants.{Put, Del, Extract, Post, Grow}
-use Rattle.hb_ops.specs.Operations.{IsAllowedOn, change_of, reads_of}
+use Rattle.hb_ops.specs.Operations.{change_of, reads_of}
 use Rattle.hb_log_codec.specs.Groups.{Logged, FitsGroup, FitsOp}
 use Rattle.hb_store.specs.Replay.{Replayed, with_images, IsAllowedIn, MayFollow, after_group, after_op, change_in, touched_read}
 use Rattle.hb_ops.proofs.Facts.PageNumberLaws.{live_so}
@@ -49,17 +49,6 @@ pub images_its : (t : Replayed) (g : Logged) (k : ℕ) → AreItsPages t → Fit
 images_its t g k its fits range = set_its g.images t its (λ i d lt. (range i d lt, (fits.images i d lt).page))
 
 -- what an operation reads beside its first page plays no part
-pub allowed_by_first : (op : Op) (meta : Meta) (first a b c d : Option LivePage) → IsAllowedOn op meta first a b → IsAllowedOn op meta first c d
-allowed_by_first (Put id rec) meta None a b c d h = h
-allowed_by_first (Put id rec) meta (Some page) a b c d h = h
-allowed_by_first (Del id point) meta None a b c d h = h
-allowed_by_first (Del id point) meta (Some page) a b c d h = h
-allowed_by_first (Extract source fresh path cuts free_after) meta None a b c d h = h
-allowed_by_first (Extract source fresh path cuts free_after) meta (Some page) a b c d h = h
-allowed_by_first (Post parent at inner area) meta None a b c d h = h
-allowed_by_first (Post parent at inner area) meta (Some page) a b c d h = h
-allowed_by_first (Grow fresh free_after) meta first a b c d h = h
-
 pub change_by_first : (op : Op) (meta : Meta) (first a b c d : Option LivePage) → change_of op meta first a b ≡ change_of op meta first c d
 change_by_first (Put id rec) meta None a b c d = refl
 change_by_first (Put id rec) meta (Some page) a b c d = refl

@@ -1,5 +1,5 @@
 -- What follows of groups that are replayed: one after the other, and what they make of a file.
-use Rattle.std.proofs.Common.{◌≡◌, inr, ℕ, zero, suc, ◌≤◌, List, [], ◌∷◌, ◌++◌, length, replicate, Option, Some, None, IsSome, refl, sym, ap, ◌∙◌, subst, arith, append_assoc}
+use Rattle.std.proofs.Common.{◌≡◌, inr, ℕ, zero, suc, ◌≤◌, List, [], ◌∷◌, ◌++◌, length, replicate, Option, Some, None, refl, sym, ap, ◌∙◌, subst, arith, append_assoc}
 use Rattle.std.proofs.lemmas.List.Elements.{All-nil}
 use Rattle.hb_frag.specs.declared.pages.Page.{Page}
 use Rattle.hb_frag.specs.Grammar.{SpellsPage}
@@ -7,14 +7,13 @@ use Rattle.hb_wal.specs.Frames.{HasFrames, IsEnd, IsPayload}
 use Rattle.hb_super.specs.Superblocks.{IsNewest}
 use Rattle.hb_layout.specs.declared.meta.Meta.{Meta}
 use Rattle.hb_ops.specs.Files.{FileState, page_of}
-use Rattle.hb_ops.specs.Operations.{IsAllowed, IsLicensed, change_of, effect_of}
+use Rattle.hb_ops.specs.Operations.{IsAllowed, IsLicensed, effect_of}
 use Rattle.hb_log_codec.specs.Groups.{Logged}
-use Rattle.hb_store.specs.Replay.{Replayed, untouched, with_images, after_group, MayFollow, replay, MayReplay}
+use Rattle.hb_store.specs.Replay.{Replayed, untouched, after_group, MayFollow, replay, MayReplay}
 use Rattle.hb_layout.specs.Offsets.{file_size}
 use Rattle.hb_store.specs.Opening.{IsPageIn, OpensBy, log_bytes, place_bytes, SpellAll}
 use Rattle.hb_store.specs.Parts.{AreImagesOf, Leads}
 use Rattle.hb_store.specs.Keeps.{last_of}
-use Rattle.hb_store.proofs.Facts.ReplayLists.{set_pages-some}
 
 -- groups after groups
 pub replay-append : (t : Replayed) (xs ys : List Logged) → replay t (xs ++ ys) ≡ replay (replay t xs) ys
@@ -39,11 +38,6 @@ SpellAll-append k [] qs xs ys front behind =
     subst Q (sym front) behind
 SpellAll-append k (p ∷ ps) qs xs ys front behind =
     (front.0, front.1 ++ ys, ap (λ (l : List Logged). l ++ ys) front.2 ∙ append_assoc front.0 front.1 ys, front.3, SpellAll-append k ps qs front.1 ys front.4 behind)
-
--- a page that was touched stays so
-pub touched_kept : (t : Replayed) (g : Logged) (id : ℕ) → IsSome (t.page id) → IsSome ((after_group t g).page id)
-touched_kept t g id some =
-    set_pages-some (change_of g.op t.meta _ _ _).pages (with_images t g).page id (set_pages-some g.images t.page id some)
 
 pub Leads-replayed : (t : Replayed) (s : FileState) (gs : List Logged) (later : List FileState) → Leads t s gs later → MayReplay t gs
 Leads-replayed t s [] later leads = tt

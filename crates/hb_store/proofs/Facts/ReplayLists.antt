@@ -1,5 +1,5 @@
 -- Pages by their numbers: what setting one of them makes of touched pages.
-use Rattle.std.proofs.Common.{◌≡◌, ◌≢◌, inl, inr, ℕ, ◌==◌, Bool, true, false, cond, List, [], ◌∷◌, All, Option, Some, IsSome, refl, sym, ap, ◌∙◌, subst, ne_eqb}
+use Rattle.std.proofs.Common.{◌≡◌, ◌≢◌, inl, inr, ℕ, ◌==◌, Bool, true, false, cond, List, [], ◌∷◌, All, Option, Some, refl, sym, ap, ◌∙◌, subst, ne_eqb}
 use Rattle.std.proofs.Math.Dec.{eqb}
 use Rattle.std.proofs.lemmas.Bool.{cases_Bool, eqb-true, eqb-false, or_parts}
 use Rattle.hb_frag.specs.declared.pages.Page.{Page}
@@ -15,17 +15,6 @@ set_one-same page id new q e = ap (λ (b : Bool). cond b (Some new) (page q)) (e
 
 pub set_one-other : (page : ℕ → Option Page) (id : ℕ) (new : Page) (q : ℕ) → q ≢ id → cond (q == id) (Some new) (page q) ≡ page q
 set_one-other page id new q ne = ap (λ (b : Bool). cond b (Some new) (page q)) (ne_eqb q id ne)
-
--- a page that was set stays set
-pub set_one-some : (page : ℕ → Option Page) (id : ℕ) (new : Page) (q : ℕ) → IsSome (page q) → IsSome (cond (q == id) (Some new) (page q))
-set_one-some page id new q some = elim (cases_Bool (q == id)) [
-  | inl here ↦ let Q : Bool → Type 0 = λ b. IsSome (cond b (Some new) (page q)) in subst Q (sym here) refl
-  | inr other ↦ let Q : Bool → Type 0 = λ b. IsSome (cond b (Some new) (page q)) in subst Q (sym other) some
-]
-
-pub set_pages-some : (images : List (ℕ × Page)) (page : ℕ → Option Page) (q : ℕ) → IsSome (page q) → IsSome (set_pages images page q)
-set_pages-some [] page q some = some
-set_pages-some (one ∷ rest) page q some = set_pages-some rest (λ id. cond (id == one.0) (Some one.1) (page id)) q (set_one-some page one.0 one.1 q some)
 
 -- a page that isn't one of those that were set is as before
 pub set_not : (pages : List (ℕ × Page)) (f : ℕ → Option Page) (q : ℕ) → has_page q pages ≡ false → set_pages pages f q ≡ f q

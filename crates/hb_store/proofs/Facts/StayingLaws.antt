@@ -11,7 +11,7 @@ use Rattle.hb_store.specs.Replay.{set_pages, has_page}
 use Rattle.hb_store.proofs.Facts.ReplayLists.{set_not}
 use Rattle.hb_store.specs.Opening.{place_bytes}
 use Rattle.hb_store.specs.Keeps.{StoreKeeps, last_of}
-use Rattle.hb_store.specs.Calls.{Commits, change_here, StaysHere, NoneComes}
+use Rattle.hb_store.specs.Calls.{Commits, change_here, NoneComes}
 
 -- a page that is there where none came was there as it is
 pub was_there : (old new : StoreState) (id : ℕ) → NoneComes old new id → (page : Page) → in_memory new id ≡ Some page → in_memory old id ≡ Some page
@@ -30,11 +30,4 @@ module _ (op : Op) (mark : ℕ) (old new : StoreState) (commits : Commits op mar
   Commits-there id page is = elim (cases_Bool (has_page id (change_here old op).pages)) [
     | inl made ↦ sym (commits.made id made) ∙ is
     | inr off ↦ set_not (change_here old op).pages (in_memory old) id off ∙ was_there old new id (commits.others id off) page is
-  ]
-
-  -- and of the pages that stay each is there, as it was or as it was made
-  pub Commits-stays : (id : ℕ) → StaysHere old id → in_memory new id ≡ set_pages (change_here old op).pages (in_memory old) id
-  Commits-stays id stays = elim (cases_Bool (has_page id (change_here old op).pages)) [
-    | inl made ↦ commits.made id made
-    | inr off ↦ commits.kept id off stays ∙ sym (set_not (change_here old op).pages (in_memory old) id off)
   ]

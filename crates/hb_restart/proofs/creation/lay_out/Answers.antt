@@ -6,6 +6,9 @@ use Rattle.hb_disk.proofs.Facts.TornLaws.{Torn-wider}
 use Rattle.hb_layout.specs.Offsets.{file_size}
 use Rattle.hb_restart.proofs.creation.lay_out.Goals as goal
 
+pub write_parts-requires : goal.write_parts-requires
+write_parts-requires g c = record { room = omega (arith, c.requires.room, c.zero_places.ensures.wrote.became.size); some = omega arith; most = c.requires.most }
+
 pub returns-in_err-zero_places-clause-wrote : goal.returns-in_err-zero_places-clause-wrote
 returns-in_err-zero_places-clause-wrote g c =
     let d = g.D.Device.model c.args.disk.now in

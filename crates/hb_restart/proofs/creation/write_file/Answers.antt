@@ -14,6 +14,9 @@ use Rattle.hb_disk.proofs.Facts.TornLaws.{Torn-wider}
 use Rattle.hb_restart.proofs.Made.{told_before, frame_long, on_ok_three, made_fresh}
 use Rattle.hb_restart.proofs.creation.write_file.Goals as goal
 
+pub lay_out-requires : goal.lay_out-requires
+lay_out-requires g c = record { room = c.requires.room; some = omega arith; most = c.requires.layout.some_pages }
+
 pub returns-in_err-lay_out-clause-wrote : goal.returns-in_err-lay_out-clause-wrote
 returns-in_err-lay_out-clause-wrote g c =
     (Rewrites-as c.lay_out.result c.from_residual.result (Torn 0 (file_size c.args.meta.now)) 5 9 (g.D.Device.model c.args.disk.now) (g.D.Device.model c.lay_out.new.disk) (λ f. c.from_residual.ensures.0) (λ f. ap is_err c.in_err-lay_out.was) (omega arith) c.lay_out.ensures.wrote)

@@ -32,7 +32,7 @@ returns-clause-laid g c =
     let fits : 8192 + 2 * meta.log + 4096 * meta.pages ≤ length b = omega (arith, c.requires.room, is_disk.long b (is_disk.as_read b told)) in (
       overwritten (overwritten b 8192 (replicate meta.log 0)) (8192 + 2 * meta.log) page,
       c.sync.ensures.same ∙ both,
-      laid_out b meta page c.requires.some fits c.told-page empty,
+      laid_out b meta page c.requires.most fits c.told-page empty,
     )))
 
 pub returns-in_err-zero-clause-wrote : goal.returns-in_err-zero-clause-wrote
@@ -57,8 +57,8 @@ returns-in_err-write-clause-wrote g c =
     (omega (arith, length-replicate {A = ℕ} c.from.result 0, c.from.ensures, c.log_start.ensures, c.requires.room)) (omega arith)
     (omega (arith, length-replicate {A = ℕ} c.from.result 0, c.from.ensures, c.log_start.ensures)) c.zero.ensures)
     (Rewrites-write c.write.result c.page_offset.result c.args.page.now 0 n one two (g.met.D.Device.is_disk c.zero.new.self) (g.met.D.Device.is_disk c.write.new.self)
-    (omega (arith, c.requires.room, c.zero.ensures.ticks.size, c.told-page, c.page_offset.ensures, c.requires.some)) (omega arith)
-    (omega (arith, c.told-page, c.page_offset.ensures, c.requires.some)) c.write.ensures)))
+    (omega (arith, c.requires.room, c.zero.ensures.ticks.size, c.told-page, c.page_offset.ensures, c.requires.most)) (omega arith)
+    (omega (arith, c.told-page, c.page_offset.ensures, c.requires.most)) c.write.ensures)))
 
 pub returns-clause-wrote : goal.returns-clause-wrote
 returns-clause-wrote g c =
@@ -73,6 +73,6 @@ returns-clause-wrote g c =
     (omega (arith, length-replicate {A = ℕ} c.from.result 0, c.from.ensures, c.log_start.ensures, c.requires.room)) (omega arith)
     (omega (arith, length-replicate {A = ℕ} c.from.result 0, c.from.ensures, c.log_start.ensures)) c.zero.ensures)
     (Rewrites-write c.write.result c.page_offset.result c.args.page.now 0 n one two (g.met.D.Device.is_disk c.zero.new.self) (g.met.D.Device.is_disk c.write.new.self)
-    (omega (arith, c.requires.room, c.zero.ensures.ticks.size, c.told-page, c.page_offset.ensures, c.requires.some)) (omega arith)
-    (omega (arith, c.told-page, c.page_offset.ensures, c.requires.some)) c.write.ensures))
+    (omega (arith, c.requires.room, c.zero.ensures.ticks.size, c.told-page, c.page_offset.ensures, c.requires.most)) (omega arith)
+    (omega (arith, c.told-page, c.page_offset.ensures, c.requires.most)) c.write.ensures))
     (Rewrites-sync c.sync.result 0 n two new (g.met.D.Device.is_disk c.write.new.self) c.sync.ensures)

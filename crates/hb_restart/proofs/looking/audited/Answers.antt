@@ -11,7 +11,7 @@ use Rattle.hb_restart.proofs.looking.audited.Goals as goal
 pub invariant_of-pages : goal.invariant_of-pages
 invariant_of-pages g c = record {
   is_source = record {
-    room = c.requires.room;
+    room = c.requires.lies.room;
     light = λ id page at.
         let law = c.spelling_law.ensures in
         let bytes = (law.exists page).0 (c.requires.touched.pages id page at).2 in

@@ -49,14 +49,14 @@ renew-requires g c =
 
 pub opened-requires-clause-room : goal.opened-requires-clause-room
 opened-requires-clause-room g c =
-    let room = c.in_ok-found.ensures.renewable.whole.room in
+    let room = c.in_ok-found.ensures.renewable.lies.room in
     omega (arith, room, c.in_ok-found.ensures.only.stays.size, c.renew.ensures.run.beyond.size)
 
 pub opened-requires-clause-stands : goal.opened-requires-clause-stands
 opened-requires-clause-stands g c =
-    let whole = c.in_ok-found.ensures.renewable.whole in
-    let marks = whole.marks in
-    let layout = whole.legal.layout in
+    let found = c.in_ok-found.ensures.renewable in
+    let marks = found.marks in
+    let layout = found.lies.legal.layout in
     record {
       turn_fits = omega (arith, c.turn_after.ensures);
       layout = layout;
@@ -96,7 +96,7 @@ returns-in-Ok-clause-opened g c =
       file = recovered_opened d mid new reads found.turn found.meta (get nat_cmp found.touched) found.count c.in_ok-found.ensures.found
           c.turn_after.result c.turn_after.ensures renewed (λ s. StoreKeeps (g.D.Device.model (disk_of store)) (seen_as store) s []) c.in-Ok.ensures.keeps;
       is_new = new_again c.turn_after.result found.meta (seen_as store) c.in-Ok.ensures.new;
-      marks = let M : Meta → Type 0 = λ m. HasMarks m in subst M (sym c.in-Ok.ensures.new.meta_is) c.in_ok-found.ensures.renewable.whole.marks;
+      marks = let M : Meta → Type 0 = λ m. HasMarks m in subst M (sym c.in-Ok.ensures.new.meta_is) c.in_ok-found.ensures.renewable.marks;
       meta = recovered_meta d mid new reads found.turn found.meta (get nat_cmp found.touched) found.count c.in_ok-found.ensures.found
           c.turn_after.result c.turn_after.ensures renewed (seen_as store).meta c.in-Ok.ensures.new.meta_is;
       said = if_value d.told (λ b. (turn : ℕ) (said : Meta) → IsNewest b turn said → IsSameLayout said (seen_as store).meta) (λ b told turn said newest.

@@ -42,7 +42,7 @@ loop-place-init g c =
     record {
       run = runs_none {F = ⊥} 0 (file_size found.meta) d (g.met.D.Device.is_disk c.args.disk.now) (λ never. never);
       moments = λ said s here. Leaves-start d (StillOpens found.turn said found.meta (get nat_cmp found.touched) s) (g.met.D.Device.is_disk c.args.disk.now) here.images;
-      placed = λ said s here. placed_none found.turn (next_turn found.turn) said found.meta c.requires.renewable.whole.legal.turn_fits refl (get nat_cmp found.touched) s d here;
+      placed = λ said s here. placed_none found.turn (next_turn found.turn) said found.meta c.requires.renewable.lies.legal.turn_fits refl (get nat_cmp found.touched) s d here;
       written = λ b told. written_none d.clock b found.meta (get nat_cmp found.touched) d told refl;
     }
 

@@ -23,16 +23,16 @@ write_page-requires-clause-spelling g c = c.requires.renewable.spelled c.args.id
 
 pub write_page-requires-clause-has : goal.write_page-requires-clause-has
 write_page-requires-clause-has g c = record {
-  room = c.requires.renewable.whole.room;
+  room = c.requires.renewable.lies.room;
   some = c.requires.some;
-  most = let most = c.requires.most in let few = c.requires.renewable.whole.marks.high in omega (arith, most, few);
+  most = let most = c.requires.most in let few = c.requires.renewable.marks.high in omega (arith, most, few);
 }
 
 pub returns-in-Some-clause-moments : goal.returns-in-Some-clause-moments
 returns-in-Some-clause-moments g c = λ said s here.
     let found = c.args.found.now in
     let touched = get nat_cmp found.touched in
-    placed_moments found.turn (next_turn found.turn) said found.meta c.requires.renewable.whole.legal.turn_fits refl touched s
+    placed_moments found.turn (next_turn found.turn) said found.meta c.requires.renewable.lies.legal.turn_fits refl touched s
     c.write_page.result (g.D.Device.model c.args.disk.now) (g.D.Device.model c.write_page.new.disk) (g.met.D.Device.is_disk c.args.disk.now) here
     c.args.id c.requires.some (not_none (touched c.args.id) c.in-Some.page.now (sym c.in-Some.ensures.value)) c.write_page.ensures.ticks c.write_page.ensures.place
 
@@ -45,7 +45,7 @@ returns-in-Some-clause-placed g c =
     on_ok_weaker c.write_page.result ((b : List ℕ) → new.told ≡ Some b → SpellsPage (place_bytes found.meta c.args.id b) c.in-Some.page.now)
     ((said : Meta) (s : FileState) (before : ℕ) → before + 1 ≡ c.args.id → IsPlacedTo before d found.turn said found.meta touched s → IsPlacedTo c.args.id new found.turn said found.meta touched s)
     (λ there said s before is placed.
-    placed_there found.turn (next_turn found.turn) said found.meta c.requires.renewable.whole.legal.turn_fits refl touched s c.write_page.result d new (g.met.D.Device.is_disk c.args.disk.now) placed.here
+    placed_there found.turn (next_turn found.turn) said found.meta c.requires.renewable.lies.legal.turn_fits refl touched s c.write_page.result d new (g.met.D.Device.is_disk c.args.disk.now) placed.here
     c.args.id c.requires.some (not_none (touched c.args.id) c.in-Some.page.now (sym c.in-Some.ensures.value)) c.write_page.ensures.ticks c.write_page.ensures.place
     c.in-Some.page.now (sym c.in-Some.ensures.value) there before is placed)
     c.write_page.ensures.there
@@ -53,7 +53,7 @@ returns-in-Some-clause-placed g c =
 pub returns-in-None-clause-placed : goal.returns-in-None-clause-placed
 returns-in-None-clause-placed g c = λ said s before is placed.
     let found = c.args.found.now in
-    placed_untouched found.turn (next_turn found.turn) said found.meta c.requires.renewable.whole.legal.turn_fits refl (get nat_cmp found.touched) s
+    placed_untouched found.turn (next_turn found.turn) said found.meta c.requires.renewable.lies.legal.turn_fits refl (get nat_cmp found.touched) s
     (g.D.Device.model c.args.disk.now) (g.met.D.Device.is_disk c.args.disk.now) c.args.id before is (sym c.in-None.ensures.value) placed
 
 pub returns-in-Some-clause-run : goal.returns-in-Some-clause-run
@@ -63,7 +63,7 @@ returns-in-Some-clause-run g c =
     let meta = c.args.found.now.meta in
     record {
       beyond = beyond_wider (page_offset meta c.args.id) 4096 (file_size meta) d new
-          (page_within meta c.args.id c.requires.some (let most = c.requires.most in let few = c.requires.renewable.whole.marks.high in omega (arith, most, few))) c.write_page.ensures.place;
+          (page_within meta c.args.id c.requires.some (let most = c.requires.most in let few = c.requires.renewable.marks.high in omega (arith, most, few))) c.write_page.ensures.place;
       few = one_tick c.write_page.result d new (g.met.D.Device.is_disk c.args.disk.now) c.write_page.ensures.ticks;
       faults = faults_write d new c.write_page.ensures.faults;
     }

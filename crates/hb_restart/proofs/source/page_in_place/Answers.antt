@@ -1,10 +1,19 @@
-use Rattle.std.proofs.Common.{refl}
+use Rattle.std.proofs.Common.{refl, arith}
 use Rattle.hb_disk.proofs.Facts.FaultLaws.{ReadsOnly-as}
+use Rattle.hb_restart.proofs.PlaceReads.{page_read, place_read}
 use Rattle.hb_restart.proofs.source.page_in_place.Goals as goal
+
+pub returns-in-Ok-clause-there : goal.returns-in-Ok-clause-there
+returns-in-Ok-clause-there g c =
+    let told = (g.D.Device.model c.args.disk.now).told in
+    let meta = c.args.meta.now in
+    let into = c.read.new.into in
+    page_read c.spelled.result told into meta c.args.id c.spelled.ensures.page
+    (place_read told into meta c.args.id c.page_offset.result c.page_offset.ensures (omega (arith, c.told-into, c.read.auto.into)) c.in-Ok.ensures.bytes)
 
 pub returns-in-Ok-clause-only : goal.returns-in-Ok-clause-only
 returns-in-Ok-clause-only g c =
-    ReadsOnly-as (g.D.Device.model c.args.disk.now) (g.D.Device.model c.read_place.new.disk) (λ e. let never : ⊥ = cc e in absurd never) (λ failed. absurd (c.spelled.ensures.memory failed)) c.in-Ok.ensures.only
+    ReadsOnly-as (g.D.Device.model c.args.disk.now) (g.D.Device.model c.read.new.self) (λ e. let never : ⊥ = cc e in absurd never) (λ failed. absurd (c.spelled.ensures.memory failed)) c.in-Ok.ensures.only
 
 pub returns-in-Err-clause-only : goal.returns-in-Err-clause-only
-returns-in-Err-clause-only g c = ReadsOnly-as (g.D.Device.model c.args.disk.now) (g.D.Device.model c.read_place.new.disk) (λ e. refl) (λ e. refl) c.in-Err.ensures.only
+returns-in-Err-clause-only g c = ReadsOnly-as (g.D.Device.model c.args.disk.now) (g.D.Device.model c.read.new.self) (λ e. refl) (λ e. refl) c.in-Err.ensures.only

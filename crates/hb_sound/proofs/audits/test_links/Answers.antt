@@ -4,7 +4,7 @@ use Rattle.hb_frag.specs.declared.pages.Page.{Page}
 use Rattle.hb_sound.specs.Facts.{AreFactsOf}
 use Rattle.hb_sound.specs.Links.{AreLinks}
 use Rattle.hb_sound.specs.Names.{KeepsSix, NamesIn}
-use Rattle.hb_sound.specs.Tests.{file_with}
+use Rattle.hb_sound.specs.Told.{file_with}
 use Rattle.hb_sound.proofs.LateRules.{eighth, ninth, none_ten, seventh, some_ten, sound, tenth}
 use Rattle.hb_sound.proofs.SixRules.{err_then, ok_then, on_broken_at}
 use Rattle.hb_sound.proofs.audits.test_links.Goals as goal

@@ -5,7 +5,7 @@ use Rattle.hb_frag.specs.declared.pages.Page.{Page}
 use Rattle.hb_sound.specs.Chains.{IsFreeBreak}
 use Rattle.hb_sound.specs.Facts.{AreFactsOf}
 use Rattle.hb_sound.specs.Names.{NamesIn}
-use Rattle.hb_sound.specs.Tests.{file_with}
+use Rattle.hb_sound.specs.Told.{file_with}
 use Rattle.hb_sound.proofs.Bridge.{from_rooted}
 use Rattle.hb_sound.proofs.SixRules.{err_then, free_named, local_named, ok_then, on_broken_at, six_kept}
 use Rattle.hb_sound.proofs.audits.test_pages.Goals as goal

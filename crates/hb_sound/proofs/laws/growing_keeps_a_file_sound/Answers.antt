@@ -10,7 +10,7 @@ pub returns-clause-contents : goal.returns-clause-contents
 returns-clause-contents c = growth_keeps_contents
 
 pub returns-clause-direct : goal.returns-clause-direct
-returns-clause-direct c = growth_keeps_direct (record { area = c.whole_space_holds_every_point.ensures.area; points = c.whole_space_holds_every_point.ensures.points })
+returns-clause-direct c = growth_keeps_direct c.trees_and_space.ensures.space
 
 pub returns-clause-pages : goal.returns-clause-pages
 returns-clause-pages c = growth_changes_one

@@ -2,7 +2,4 @@ use Rattle.hb_sound.proofs.OneParent.{no_other_parent}
 use Rattle.hb_sound.proofs.laws.no_page_has_another_parent.Goals as goal
 
 pub returns : goal.returns
-returns c =
-    no_other_parent
-    (record { areas = c.leaves_part_the_box.ensures.areas; attributes = c.leaves_part_the_box.ensures.attributes; within = c.leaves_part_the_box.ensures.within; some = c.each_point_has_one_leaf.ensures.some; only = c.each_point_has_one_leaf.ensures.only })
-    (record { area = c.whole_space_holds_every_point.ensures.area; points = c.whole_space_holds_every_point.ensures.points })
+returns c = no_other_parent c.trees_and_space.ensures.trees c.trees_and_space.ensures.space

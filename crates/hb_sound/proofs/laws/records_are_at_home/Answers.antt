@@ -2,7 +2,4 @@ use Rattle.hb_sound.proofs.Partition.{records_are_at_home}
 use Rattle.hb_sound.proofs.laws.records_are_at_home.Goals as goal
 
 pub returns : goal.returns
-returns c =
-    records_are_at_home
-    (record { areas = c.leaves_part_the_box.ensures.areas; attributes = c.leaves_part_the_box.ensures.attributes; within = c.leaves_part_the_box.ensures.within; some = c.each_point_has_one_leaf.ensures.some; only = c.each_point_has_one_leaf.ensures.only })
-    (record { area = c.whole_space_holds_every_point.ensures.area; points = c.whole_space_holds_every_point.ensures.points })
+returns c = records_are_at_home c.trees_and_space.ensures.trees c.trees_and_space.ensures.space

@@ -15,4 +15,4 @@ returns-clause-adds c page level is =
     let items = with_items_is c.args.self.now.named c.count_one.new.named (long ∙ sym c.args.self.now.named.ok.0) in
     let counted = rw c.deref_mut.ensures.value at c.count_one.ensures.counted in
     lone_adds c.args.facts.now page c.args.name c.args.area.now (subst Q (sym level) is) c.args.id c.args.self.now _ c.sees_same-same.result
-    (λ other. ap (λ (l : List Times). item_at l other) items ∙ counted other) (rw (sym level, c.values.ensures.value, c.lo.ensures.value, c.values-2.ensures.value, c.hi.ensures.value) at c.sees_same-same.ensures) c.first_bad-self.ensures refl
+    (λ other. ap (λ (l : List Times). item_at l other) items ∙ counted other) (rw (sym level, c.values.ensures.value, c.lo.ensures.value, c.values-2.ensures.value, c.hi.ensures.value) at c.sees_same-same.ensures) c.first_bad-self.ensures refl refl
