@@ -34,6 +34,8 @@ pub mod AskedLaws
 pub mod CauseLaws
 pub mod JobLaws
 pub mod Showing
+pub mod CoreSeen
+pub mod Moving
 pub mod MomentLaws
 pub mod ProgressLaws
 pub mod Examples

@@ -1,5 +1,5 @@
 -- When a core over a disk shows a machine, and when a machine is reached.
-use Rattle.std.specs.Prelude.{◌≡◌, ℕ, ◌-◌, not, List, ◌++◌, map, filter, length, Option, Some, None, IsSome}
+use Rattle.std.specs.Prelude.{◌≡◌, ◌≢◌, ◌⊎◌, ℕ, ◌-◌, ◌≤◌, All, List, ◌++◌, map, take, drop, length, Option, Some, None, IsSome}
 use Rattle.std.specs.List.{slice_get}
 use Rattle.hb_disk.specs.Model.{DiskModel}
 use Rattle.hb_latch.specs.Tables.{LatchTable, MayLatch}
@@ -7,19 +7,22 @@ use Rattle.hb_set.specs.declared.scripts.Line.{Line}
 use Rattle.hb_set.specs.declared.scripts.Answered.{Answered}
 use Rattle.hb_activity.specs.declared.jobs.Job.{Job}
 use Rattle.hb_activity.specs.declared.activities.Activity.{Activity}
-use Rattle.hb_point.specs.SessionRows.{is_answered}
+use Rattle.hb_activity.specs.declared.activities.Activity.TheVariants as at
 use Rattle.hb_store.specs.Keeps.{StoreKeeps}
 use Rattle.hb_store.specs.States.{StoreState}
 use Rattle.hb_store.specs.declared.stops.StopWhy.{StopWhy}
 use Rattle.hb_core.specs.Keeps.{HasNobodyElse}
+use Rattle.hb_core.specs.KeptTurns.{HasAnswer}
 use Rattle.hb_core.specs.Machines.{Files, Machine}
 use Rattle.hb_core.specs.Steps.{StepsInTurn}
 
 -- What a core holds. It has no replies of the order, no answers and no files: these are in the machines that it shows.
 pub record RunningCore : Type 0 where
-  -- the script, and the numbers of its lines that have no answer, in their order
+  -- the script: its lines, and who takes each step
   pub lines : List Line
-  pub unanswered : List ℕ
+  pub steps : List ℕ
+  -- how many of the lines lie behind each session, session 1 first: all that it took, and those of others between them
+  pub behind : List ℕ
   -- where the 19 actors stand, actor 1 first
   pub activities : List Activity
   pub latches : LatchTable
@@ -28,9 +31,28 @@ pub record RunningCore : Type 0 where
   pub order : List ℕ
   pub stop : Option StopWhy
   pub store : StoreState
+  -- how many steps were taken
+  pub taken : ℕ
 
-abbrev pub numbers_unanswered : Machine → List ℕ
-numbers_unanswered m = map (λ line. line.number) (filter (λ line. not (is_answered line.number m.answered)) m.lines)
+-- the number of the line that an actor has in hand, or for whose place it waits
+abbrev pub number_in_hand : Activity → Option ℕ
+number_in_hand (at.SessionWalk line held rest found) = Some line.number
+number_in_hand (at.SessionSplit line held) = Some line.number
+number_in_hand (at.SessionPut line source fresh) = Some line.number
+number_in_hand (at.SessionAwait number reply place) = Some number
+number_in_hand other = None
+
+-- Of a session's lines those behind it were answered, but for the one in hand; and none of those before it was.
+abbrev pub IsDealtWith : Machine → ℕ → Line → Type 0
+IsDealtWith m session line = line.session ≡ session → HasAnswer m line ⊎ (number_in_hand (m.activity session) ≡ Some line.number)
+
+abbrev pub IsToCome : Machine → ℕ → Line → Type 0
+IsToCome m session line = line.session ≡ session → (HasAnswer m line → ⊥) × (number_in_hand (m.activity session) ≢ Some line.number)
+
+pub record HasTurn (m : Machine) (session behind : ℕ) : Type 0 where
+  pub few : behind ≤ length m.lines
+  pub front : All (IsDealtWith m session) (take behind m.lines)
+  pub back : All (IsToCome m session) (drop behind m.lines)
 
 -- Over a disk that tells the machine has files, which the store keeps, and the disk's clock. Over one that doesn't it has none, and
 -- its clock is tied to nothing.
@@ -43,7 +65,8 @@ pub record ShowsFiles (d : DiskModel) (m : Machine) : Type 0 where
 -- A core over a disk shows a machine: all that it holds is the machine's.
 pub record ShowsMachine (d : DiskModel) (c : RunningCore) (m : Machine) : Type 0 where
   pub lines : m.lines ≡ c.lines
-  pub unanswered : numbers_unanswered m ≡ c.unanswered
+  pub sessions : length c.behind ≡ 16
+  pub turns : (session behind : ℕ) → 1 ≤ session → session ≤ 16 → slice_get c.behind (session - 1) ≡ Some behind → HasTurn m session behind
   pub all_actors : length c.activities ≡ 19
   pub activities : (actor : ℕ) → MayLatch actor → slice_get c.activities (actor - 1) ≡ Some (m.activity actor)
   pub nobody_else : HasNobodyElse m

@@ -15,18 +15,27 @@
 #![tactic(auto)]
 
 pub mod asked_laws;
+mod asking;
 pub mod cause_laws;
+mod endings;
 pub mod examples;
 pub mod file_laws;
+mod halts;
 pub mod keeping_laws;
 pub mod laws;
 pub mod machine_laws;
 pub mod outcome_laws;
 mod outcomes;
 pub mod progress_laws;
+mod reading;
+mod state;
+mod stepping;
 mod threads;
 pub mod waiting_laws;
+mod working;
 pub mod written_chains;
 
+pub use endings::{End, Ran};
 pub use hb_activity::DropWhy;
 pub use outcomes::Outcome;
+pub use state::Core;

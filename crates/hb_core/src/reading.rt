@@ -1,0 +1,231 @@
+//! A core that has taken no step, and what can be read of a core.
+ghost use Rattle.std.specs.Prelude.{◌≡◌, ◌<◌, ◌≤◌, ◌^◌, length, vec_capacity, IfOk, IfErr, IsSome, Some, None, [], replicate};
+ghost use Rattle.hb_latch.specs.Tables.{MayLatch};
+ghost use Rattle.hb_store.specs.Seen.{seen_as, disk_of};
+ghost use Rattle.hb_store.specs.States.{in_memory};
+ghost use Rattle.hb_ops.specs.Files.{if_live};
+ghost use Rattle.hb_ops.specs.Given.{given as live_given};
+ghost use Rattle.hb_wal.specs.Log.{mark_of};
+ghost use Rattle.hb_core.specs.CoreSeen.{core_seen, core_disk};
+ghost use Rattle.hb_activity.specs.Classes.{idle_of};
+ghost use Rattle.hb_core.specs.KeptFits.{class_for};
+ghost use Rattle.hb_core.specs.Machines.{live_here};
+ghost use Rattle.hb_core.specs.Moving.{StandsAs, all_idle, begun_core};
+ghost use Rattle.hb_core.specs.Showing.{number_in_hand};
+
+use crate::halts::copy_of;
+use crate::state::{ACTORS, Core, POSTER, SESSIONS};
+use arrayvec::ArrayVec;
+use hb_activity::{Activity, JobKind, Jobs};
+use hb_disk::{Device, Disk};
+use hb_frag::{LivePage, Page};
+use hb_latch::Latches;
+use hb_set::{Line, Script};
+use hb_space::{Actor, NoMemory};
+use hb_store::{StopWhy, Store};
+use std::alloc::Global;
+
+impl<D: Device> Core<D> {
+    /// A core over a store of which no page is latched yet. It reserves the order and the jobs, so that these take no
+    /// memory afterwards. For want of memory the store comes back.
+    pub fn over(
+        alloc: Global,
+        store: Store<D>,
+        script: Script,
+    ) -> Result<Core<D>, (NoMemory, Store<D>)>
+        requires few { length script.lines < 2 ^ 32 }
+        ensures seen { IfOk result (λ c. core_seen c ≡ begun_core script.lines script.steps (seen_as store)) }
+        ensures disk { IfOk result (λ c. core_disk c ≡ disk_of store) }
+        ensures back { IfErr result (λ e. e.1 ≡ store) }
+    {
+        match rooms(alloc, script.lines.as_slice().len()) {
+            Ok((jobs, order)) => Ok(Core {
+                alloc,
+                store,
+                script,
+                behind: [0; SESSIONS],
+                activities: idle_actors(),
+                latches: Latches::new(),
+                jobs,
+                order,
+                stop: None,
+                taken: 0,
+            }),
+            Err(refused) => Err((refused, store)),
+        }
+    }
+
+    /// The script that the core was made with.
+    pub fn script(&self) -> &Script
+        ensures lines { result.now.lines ≡ (core_seen self.now).lines }
+        ensures steps { result.now.steps ≡ (core_seen self.now).steps }
+    {
+        &self.script
+    }
+
+    /// The numbers of the lines that took effect, in the order of their effect.
+    pub fn order(&self) -> &[u32]
+        ensures { result.now ≡ (core_seen self.now).order }
+    {
+        &self.order
+    }
+
+    /// How many places of the order are settled: no group of theirs waits.
+    pub fn settled(&self) -> u32
+        requires { length (core_seen self.now).order < 2 ^ 32 }
+        ensures { result ≡ mark_of (core_seen self.now).store.log.groups (length (core_seen self.now).order) }
+    {
+        self.store.settled(self.order.len() as u32)
+    }
+
+    /// Why nothing more is done. `None` where the core isn't stopped.
+    pub fn stop(&self) -> Option<StopWhy>
+        ensures { result ≡ (core_seen self.now).stop }
+    {
+        match &self.stop {
+            Some(why) => Some(copy_of(why)),
+            None => None,
+        }
+    }
+
+    /// How many lines have no answer.
+    pub fn left(&self) -> u32 {
+        self.script
+            .lines
+            .as_slice()
+            .iter()
+            .enumerate()
+            .filter(|(place, line)| self.is_left(*place, line))
+            .count() as u32
+    }
+
+    /// Puts the numbers of the lines without an answer into the vector, in their order.
+    pub fn unanswered(&self, into: &mut Vec<u32>) {
+        for (place, line) in self.script.lines.as_slice().iter().enumerate() {
+            if self.is_left(place, line) {
+                into.push(line.number).unwrap();
+            }
+        }
+    }
+
+    /// How many jobs of the kind wait or are in work.
+    pub fn jobs(&self, kind: JobKind) -> u32 {
+        self.jobs.count(kind) as u32 + u32::from(self.is_in_work(kind))
+    }
+
+    /// How many steps were taken. The count stands still at its last value.
+    pub fn taken(&self) -> u64
+        ensures { result ≡ (core_seen self.now).taken }
+    {
+        self.taken
+    }
+
+    /// The store, and the order.
+    pub fn into_store(self) -> (Store<D>, Vec<u32>)
+        ensures store { result.0 ≡ self.store }
+        ensures order { result.1.items ≡ (core_seen self).order }
+    {
+        let Core { store, order, .. } = self;
+        (store, order)
+    }
+
+    /// Whether the line, which stands at the place, has no answer: its session hasn't come to it, or has it in hand.
+    fn is_left(&self, place: usize, line: &Line) -> bool {
+        let session = usize::from(line.session) - 1;
+        self.behind[session] <= place || self.line_in_hand(line.session) == Some(line.number)
+    }
+
+    /// Whether a worker has a job of the kind in work.
+    fn is_in_work(&self, kind: JobKind) -> bool {
+        match kind {
+            JobKind::Post => !matches!(self.activity(POSTER), Activity::PosterIdle),
+            JobKind::Merge => !matches!(self.activity(POSTER + 1), Activity::ConsolidatorIdle),
+        }
+    }
+
+    /// Where the actor stands.
+    pub(crate) fn activity(&self, actor: Actor) -> &Activity
+        requires actor { MayLatch actor }
+        ensures { StandsAs (core_seen self.now) actor result.now }
+    {
+        &self.activities.as_slice()[usize::from(actor) - 1]
+    }
+
+    /// The number of the line that the actor has in hand.
+    pub(crate) fn line_in_hand(&self, actor: Actor) -> Option<u32>
+        requires actor { MayLatch actor }
+        ensures { (activity : _) → StandsAs (core_seen self.now) actor activity → result ≡ number_in_hand activity }
+    {
+        match self.activity(actor) {
+            Activity::SessionWalk { line, .. }
+            | Activity::SessionSplit { line, .. }
+            | Activity::SessionPut { line, .. } => Some(line.number),
+            Activity::SessionAwait { line, .. } => Some(*line),
+            _ => None,
+        }
+    }
+
+    /// The page of the number, where it is in memory and in use.
+    pub(crate) fn live(&self, id: u32) -> Option<&LivePage>
+        ensures { live_given result ≡ live_here (core_seen self.now).store id }
+    {
+        match self.store.get(id) {
+            Some(Page::Live(page)) => Some(page),
+            _ => None,
+        }
+    }
+}
+
+impl<D: Disk> Core<D> {
+    /// The disk's clock, where the disk tells, and any number where it doesn't.
+    pub fn clock(&self) -> u64
+        ensures { IsSome (D.model (core_disk self.now)).told → result ≡ (D.model (core_disk self.now)).clock }
+    {
+        self.store.clock()
+    }
+}
+
+/// The jobs and the order of a core of so many lines, with the room that they will take.
+fn rooms(alloc: Global, lines: usize) -> Result<(Jobs, Vec<u32>), NoMemory>
+    ensures jobs { IfOk result (λ r. r.0 ≡ []) }
+    ensures order { IfOk result (λ r. r.1.items ≡ []) }
+    ensures room { IfOk result (λ r. lines ≤ vec_capacity r.1) }
+{
+    let jobs = Jobs::new(alloc)?;
+    let order = Vec::with_capacity(alloc, lines)?;
+    Ok((jobs, order))
+}
+
+/// All actors, with nothing in hand.
+fn idle_actors() -> ArrayVec<Activity, ACTORS>
+    ensures { result.items ≡ all_idle }
+{
+    let mut actors = ArrayVec::new();
+    push_sessions(&mut actors);
+    actors.push(Activity::PosterIdle);
+    actors.push(Activity::ConsolidatorIdle);
+    actors.push(Activity::Flusher);
+    actors
+}
+
+/// Sixteen sessions without a line.
+fn push_sessions(actors: &mut ArrayVec<Activity, ACTORS>)
+    requires { actors.old.items ≡ [] }
+    ensures { actors.new.items ≡ replicate 16 Activity.SessionIdle }
+{
+    for _ in 0..SESSIONS {
+        actors.push(Activity::SessionIdle);
+    }
+}
+
+/// How an actor stands with nothing in hand.
+pub(crate) fn idle(actor: Actor) -> Activity
+    ensures { result ≡ idle_of (class_for actor) }
+{
+    match actor {
+        17 => Activity::PosterIdle,
+        18 => Activity::ConsolidatorIdle,
+        19 => Activity::Flusher,
+        _ => Activity::SessionIdle,
+    }
+}

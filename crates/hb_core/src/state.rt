@@ -1,0 +1,47 @@
+//! The core: a store, and where its actors stand.
+ghost use Rattle.std.specs.Prelude.{◌≡◌, ◌<◌, ◌≤◌, ◌^◌, length, vec_capacity};
+
+use arrayvec::ArrayVec;
+use hb_activity::{Activity, Jobs};
+use hb_disk::Device;
+use hb_latch::Latches;
+use hb_set::Script;
+use hb_space::Actor;
+use hb_store::{StopWhy, Store};
+use std::alloc::Global;
+
+/// How many sessions there are: actors 1 to 16.
+pub(crate) const SESSIONS: usize = 16;
+
+/// How many actors there are: the sessions, and who posts, who merges and who flushes.
+pub(crate) const ACTORS: usize = 19;
+
+/// The actor that posts.
+pub(crate) const POSTER: Actor = 17;
+
+/// A file with its command lines, and the actors that do them, each by steps of its own.
+#[derive(Drop)]
+pub struct Core<D: Device> {
+    pub(crate) alloc: Global,
+    /// The file.
+    pub(crate) store: Store<D>,
+    /// The command lines, which no step changes.
+    pub(crate) script: Script,
+    /// How many of the lines lie behind each session: all that it took, and those of others between them.
+    pub(crate) behind: [usize; SESSIONS],
+    /// Where the actors stand, actor 1 first.
+    pub(crate) activities: ArrayVec<Activity, ACTORS>,
+    /// Which pages they have latched.
+    pub(crate) latches: Latches,
+    /// The jobs that wait for the workers.
+    pub(crate) jobs: Jobs,
+    /// The numbers of the lines that took effect, in the order of their effect. There is room for all.
+    pub(crate) order: Vec<u32>,
+    /// Why nothing more is done, where that is so.
+    pub(crate) stop: Option<StopWhy>,
+    /// How many steps were taken.
+    pub(crate) taken: u64,
+    ghost actors: { length activities.items ≡ 19 },
+    ghost few: { length script.lines < 2 ^ 32 },
+    ghost room: { length script.lines ≤ vec_capacity order },
+}

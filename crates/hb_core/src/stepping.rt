@@ -1,0 +1,147 @@
+//! One step of an actor.
+ghost use Rattle.std.specs.Prelude.{◌≡◌};
+ghost use Rattle.hb_latch.specs.Tables.{MayLatch};
+ghost use Rattle.hb_core.specs.CoreSeen.{core_seen, core_disk};
+ghost use Rattle.hb_core.specs.Moving.{StandsAs, with_standing};
+
+use crate::halts::copy_of;
+use crate::outcomes::Outcome;
+use crate::reading::idle;
+use crate::state::Core;
+use hb_activity::{Activity, JobKind};
+use hb_disk::Device;
+use hb_set::{Command, Line};
+use hb_space::{Actor, Areas, Record, Records};
+use hb_store::{Flushed, StopWhy};
+use std::mem;
+
+impl<D: Device> Core<D> {
+    /// Takes one step of the actor, which is 1 to 19: sessions 1 to 16, who posts, who merges, who flushes.
+    pub fn step(&mut self, actor: Actor) -> Outcome {
+        self.taken = self.taken.saturating_add(1);
+        if let Some(why) = &self.stop {
+            return Outcome::Stopped(copy_of(why));
+        }
+        match self.activity(actor) {
+            Activity::SessionIdle => self.take_line(actor),
+            Activity::SessionAwait { place, .. } => {
+                let place = *place;
+                self.await_place(actor, place)
+            }
+            Activity::PosterIdle => self.take_posting(actor),
+            Activity::ConsolidatorIdle | Activity::Flusher => Outcome::Idle,
+            _ => self.work(actor),
+        }
+    }
+
+    /// The session takes its next line, where one is left.
+    fn take_line(&mut self, actor: Actor) -> Outcome {
+        let session = usize::from(actor) - 1;
+        let from = self.behind[session];
+        let Some(place) = next_of(&self.script.lines.as_slice()[from..], actor) else {
+            return Outcome::Idle;
+        };
+        let line = copy_of_line(&self.script.lines.as_slice()[from + place]);
+        self.behind[session] = from + place + 1;
+        self.stand(
+            actor,
+            Activity::SessionWalk {
+                line,
+                held: None,
+                rest: Areas::new(Vec::new(self.alloc)),
+                found: Records::new(Vec::new(self.alloc)),
+            },
+        );
+        Outcome::Moved
+    }
+
+    /// The poster takes its oldest job, where one waits.
+    fn take_posting(&mut self, actor: Actor) -> Outcome {
+        let Some(job) = self.jobs.take(JobKind::Post) else {
+            return Outcome::Idle;
+        };
+        let height = self.store.meta().height;
+        let next = if height < job.level {
+            Activity::PosterIdle
+        } else if height == job.level {
+            Activity::PosterGrow { job }
+        } else {
+            Activity::PosterWalk { job, held: None }
+        };
+        self.stand(actor, next);
+        Outcome::Moved
+    }
+
+    /// Answers the line, where its place is settled, and else forces.
+    fn await_place(&mut self, actor: Actor, place: u32) -> Outcome {
+        if place < self.settled() {
+            return self.answer_kept(actor);
+        }
+        match self.store.force() {
+            Ok(()) => Outcome::Moved,
+            Err(_fault) => self.stop_for(StopWhy::WriteFault),
+        }
+    }
+
+    /// Answers the line with the reply that was kept.
+    fn answer_kept(&mut self, actor: Actor) -> Outcome {
+        match self.replace(actor, idle(actor)) {
+            Activity::SessionAwait { line, reply, .. } => Outcome::Answered { line, reply },
+            _ => unreachable!(),
+        }
+    }
+
+    /// Flushes once, where a change isn't ready. Where nothing is left to flush, the line is answered `full`, or the job is
+    /// dropped.
+    pub(crate) fn get_ready(&mut self, actor: Actor) -> Outcome {
+        match self.store.flush_step() {
+            Ok(Flushed::Forced) => Outcome::Helped,
+            Ok(Flushed::Nothing) => self.run_out(actor),
+            Err(_fault) => self.stop_for(StopWhy::WriteFault),
+        }
+    }
+
+    /// The core is stopped from now on.
+    pub(crate) fn stop_for(&mut self, why: StopWhy) -> Outcome {
+        let said = copy_of(&why);
+        self.stop = Some(why);
+        Outcome::Stopped(said)
+    }
+
+    /// The actor stands elsewhere. What it stood as before is given back.
+    pub(crate) fn replace(&mut self, actor: Actor, next: Activity) -> Activity
+        requires actor { MayLatch actor }
+        ensures old { StandsAs (core_seen self.old) actor result }
+        ensures new { core_seen self.new ≡ with_standing actor next (core_seen self.old) }
+        ensures disk { core_disk self.new ≡ core_disk self.old }
+    {
+        mem::replace(
+            &mut self.activities.as_mut_slice()[usize::from(actor) - 1],
+            next,
+        )
+    }
+}
+
+/// The place of the session's first line among these.
+fn next_of(lines: &[Line], session: Actor) -> Option<usize> {
+    lines.iter().position(|line| line.session == session)
+}
+
+/// The same line once more.
+fn copy_of_line(line: &Line) -> Line {
+    Line {
+        number: line.number,
+        session: line.session,
+        command: copy_of_command(&line.command),
+    }
+}
+
+/// The same command once more.
+fn copy_of_command(command: &Command) -> Command {
+    match command {
+        Command::Insert(record) => Command::Insert(Record::copy(record)),
+        Command::Delete(point) => Command::Delete(point.copy()),
+        Command::Lookup(point) => Command::Lookup(point.copy()),
+        Command::Search(area) => Command::Search(area.copy()),
+    }
+}
