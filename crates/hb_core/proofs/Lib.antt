@@ -8,3 +8,4 @@ pub mod Orders
 pub mod TwoSteps
 pub mod Machines
 pub mod Chains
+pub mod Running

@@ -36,6 +36,10 @@ pub mod JobLaws
 pub mod Showing
 pub mod CoreSeen
 pub mod Moving
+pub mod Taking
+pub mod Stopping
+pub mod Looking
+pub mod Working
 pub mod MomentLaws
 pub mod ProgressLaws
 pub mod Examples

@@ -1,23 +1,32 @@
 -- What the private calls of a core make of it, said of what it holds.
-use Rattle.std.specs.Prelude.{◌≡◌, ◌≢◌, AllPairs, ℕ, ◌-◌, List, [], ◌∷◌, ◌++◌, length, replicate, Option, Some, None}
+use Rattle.std.specs.Prelude.{◌≡◌, ◌≢◌, ℕ, ◌-◌, ◌≤◌, All, AllPairs, List, [], ◌∷◌, ◌++◌, length, false, Option, Some, None, IsSome, option_map}
+use Rattle.std.specs.Option.{option_and_then}
 use Rattle.std.specs.List.{slice_get, slice_set}
-use Rattle.std.specs.FinMap as map
 use Rattle.hb_disk.specs.Model.{DiskModel}
+use Rattle.hb_latch.specs.declared.modes.Mode.{Mode}
 use Rattle.hb_activity.specs.declared.activities.Activity.{Activity}
 use Rattle.hb_activity.specs.declared.activities.Activity.TheVariants as at
 use Rattle.hb_activity.specs.declared.holding.Latch.{Latch}
 use Rattle.hb_activity.specs.declared.jobs.Job.{Job}
+use Rattle.hb_activity.specs.declared.deciding.Fate.{Fate}
+use Rattle.hb_activity.specs.declared.deciding.Fate.TheVariants as fates
+use Rattle.hb_activity.specs.Classes.{Hand, line_of}
 use Rattle.hb_activity.specs.Deeds.{Deed}
-use Rattle.hb_latch.specs.Tables.{LatchTable}
+use Rattle.hb_activity.specs.Walks.{walk_held}
+use Rattle.hb_latch.specs.Tables.{IsGrantable, LatchTable}
 use Rattle.hb_ops.specs.Files.{FileState}
+use Rattle.hb_ops.specs.Operations.{IsLicensed, OpHas}
 use Rattle.hb_ops.specs.declared.operations.Op.{Op}
 use Rattle.hb_set.specs.Order.{Entry}
-use Rattle.hb_set.specs.declared.scripts.Line.{Line}
-use Rattle.hb_store.specs.Calls.{with_op}
-use Rattle.hb_store.specs.Keeps.{StoreKeeps}
+use Rattle.hb_store.specs.Calls.{IsAllowedHere, IsReady, with_op}
+use Rattle.hb_store.specs.Keeps.{StoreKeeps, last_of}
+use Rattle.hb_store.specs.declared.stops.StopWhy.{StopWhy}
 use Rattle.hb_store.specs.States.{StoreState}
+use Rattle.hb_wal.specs.Log.{Waiting}
 use Rattle.hb_core.specs.declared.outcomes.Outcome.{Outcome}
-use Rattle.hb_core.specs.Performing.{ChangesQueue, MayDo, Relatches, latches_held, outcome_of}
+use Rattle.hb_core.specs.declared.outcomes.Outcome.TheVariants as outcomes
+use Rattle.hb_core.specs.Machines.{live_here}
+use Rattle.hb_core.specs.Performing.{ChangesQueue, MayDo, Relatches, latches_held, mode_among, outcome_of}
 use Rattle.hb_core.specs.Showing.{RunningCore}
 
 -- the actor stands so
@@ -28,9 +37,15 @@ StandsAs c actor activity = slice_get c.activities (actor - 1) ≡ Some activity
 abbrev pub with_standing : ℕ → Activity → RunningCore → RunningCore
 with_standing actor next c = record c { activities = slice_set c.activities (actor - 1) next }
 
--- the same with other jobs, and with other latches
+-- the same with other jobs, a stop, another order, other latches
 abbrev pub with_jobs : List Job → RunningCore → RunningCore
 with_jobs jobs c = record c { jobs = jobs }
+
+abbrev pub with_stop : StopWhy → RunningCore → RunningCore
+with_stop why c = record c { stop = Some why }
+
+abbrev pub with_order : List ℕ → RunningCore → RunningCore
+with_order order c = record c { order = order }
 
 abbrev pub with_latches : LatchTable → RunningCore → RunningCore
 with_latches latches c = record c { latches = latches }
@@ -38,6 +53,13 @@ with_latches latches c = record c { latches = latches }
 -- latches on different pages
 abbrev pub AreApart : List Latch → Type 0
 AreApart latches = AllPairs (λ (l : Latch) (m : Latch). l.page ≢ m.page) latches
+
+-- An actor may stand so, with its latches among these: nobody is in the way of them, they are on different pages, and the page that
+-- a walk holds is in memory and in use.
+pub record MayStand (actor : ℕ) (table : LatchTable) (st : StoreState) (activity : Activity) : Type 0 where
+  pub walks : IsSome (walk_held activity) → IsSome (option_and_then (live_here st) (walk_held activity))
+  pub apart : AreApart (latches_held st activity)
+  pub free : (page : ℕ) (mode : Mode) → mode_among page (latches_held st activity) ≡ Some mode → IsGrantable table actor page mode
 
 -- An actor stands elsewhere, and has the latches of that and no other. All else is as it was.
 pub record Stands (actor : ℕ) (next : Activity) (old new : RunningCore) : Type 0 where
@@ -47,6 +69,40 @@ pub record Stands (actor : ℕ) (next : Activity) (old new : RunningCore) : Type
 abbrev pub numbers_joined : Option Entry → List ℕ
 numbers_joined None = []
 numbers_joined (Some entry) = entry.line.number ∷ []
+
+-- A decider doesn't know the order's length: the place for which a session waits is put in afterwards.
+abbrev pub placed_at : ℕ → Activity → Activity
+placed_at place (at.SessionAwait number reply before) = at.SessionAwait number reply place
+placed_at place other = other
+
+abbrev pub placed : ℕ → Deed → Deed
+placed place deed = record deed { next = placed_at place deed.next }
+
+-- the number of the line that is in hand
+abbrev pub number_of : Hand → Option ℕ
+number_of hand = option_map (λ line. line.number) (line_of hand)
+
+-- It joins the order, where the line takes effect and its session awaits its place; and what a step comes to with it in hand.
+abbrev pub joins_order : Option ℕ → Activity → Fate → Option ℕ
+joins_order line (at.SessionAwait number reply place) fates.TakesEffect = line
+joins_order line then fate = None
+
+abbrev pub pushed : Option ℕ → List ℕ
+pushed None = []
+pushed (Some number) = number ∷ []
+
+abbrev pub said : Option ℕ → Fate → Outcome
+said (Some number) (fates.Answers reply) = outcomes.Answered number reply
+said line fate = outcomes.Moved
+
+-- An operation may be committed for a line that joins the order at its end.
+pub record MayCommit (d : DiskModel) (c : RunningCore) (op : Op) : Type 0 where
+  pub running : c.store.stopped ≡ false
+  pub ready : IsReady c.store
+  pub points : OpHas c.store.meta.k op
+  pub allowed : IsAllowedHere c.store op
+  pub licensed : (durable : FileState) (later : List FileState) → StoreKeeps d c.store durable later → IsLicensed (last_of durable later) op
+  pub marks : All (λ (g : Waiting). g.mark ≤ length c.order) c.store.log.groups
 
 -- A deed of an actor is done: its latches, the queue, the store and the order are as it says, and all else is as it was.
 pub record DoesDeed (actor : ℕ) (deed : Deed) (outcome : Outcome) (old new : RunningCore) : Type 0 where
@@ -64,21 +120,3 @@ later_with (Some op) durable later = with_op durable later op
 
 abbrev pub KeepsFilesBy : Option Op → DiskModel → StoreState → DiskModel → StoreState → Type 0
 KeepsFilesBy op d old e new = (durable : FileState) (later : List FileState) → StoreKeeps d old durable later → StoreKeeps e new durable (later_with op durable later)
-
--- all actors with nothing in hand, and a core that has taken no step
-abbrev pub all_idle : List Activity
-all_idle = replicate 16 at.SessionIdle ++ at.PosterIdle ∷ at.ConsolidatorIdle ∷ at.Flusher ∷ []
-
-abbrev pub begun_core : List Line → List ℕ → StoreState → RunningCore
-begun_core lines steps store = record {
-  lines = lines;
-  steps = steps;
-  behind = replicate 16 0;
-  activities = all_idle;
-  latches = map.empty;
-  jobs = [];
-  order = [];
-  stop = None;
-  store = store;
-  taken = 0;
-}

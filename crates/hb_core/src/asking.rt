@@ -1,4 +1,17 @@
 //! Which page a step asks for, and what it tests of that page before it latches it.
+ghost use Rattle.std.specs.Prelude.{◌≡◌, ◌↔◌, ◌≢◌, true, IsTrue, IsSome, IfErr, IfSome, OnOk, MatchOption, option_map};
+ghost use Rattle.hb_activity.specs.Changing.{may_commit};
+ghost use Rattle.hb_activity.specs.Wanting.{HasLeafAt};
+ghost use Rattle.hb_frag.specs.Leaves.{leaf_at};
+ghost use Rattle.hb_frag.specs.declared.pages.Page.TheVariants.{Live};
+ghost use Rattle.hb_latch.specs.Tables.{MayLatch};
+ghost use Rattle.hb_ops.specs.Given.{given as live_given};
+ghost use Rattle.hb_store.specs.States.{in_memory};
+ghost use Rattle.hb_core.specs.Asking.{HasAskedBox, IsNotAsked, asked_box, box_by_leaf, looked_live, looked_page};
+ghost use Rattle.hb_core.specs.CoreSeen.{core_seen, core_disk};
+ghost use Rattle.hb_core.specs.Looking.{FailsTest, IsOfOtherLevel, MayLook, PassesTest, wanted_in};
+ghost use Rattle.hb_core.specs.Moving.{StandsAs};
+ghost use Rattle.hb_core.specs.Working.{IsWorking};
 
 use crate::state::Core;
 use hb_activity::{Activity, Wanted};
@@ -27,24 +40,42 @@ impl AskedBox {
 
 impl<D: Device> Core<D> {
     /// The latch that the actor's next step wants.
-    pub(crate) fn wanted(&self, actor: Actor) -> Option<Wanted> {
+    pub(crate) fn wanted(&self, actor: Actor) -> Option<Wanted>
+        requires actor { MayLatch actor }
+        requires look { (activity : _) → StandsAs (core_seen self.now) actor activity → MayLook (core_seen self.now).store activity }
+        ensures { (activity : _) → StandsAs (core_seen self.now) actor activity → result ≡ wanted_in (core_seen self.now).store activity }
+    {
         let activity = self.activity(actor);
         activity.wanted(self.store.meta(), self.looked(activity))
     }
 
     /// Whether the actor's next step may change the file.
-    pub(crate) fn may_commit(&self, actor: Actor) -> bool {
+    pub(crate) fn may_commit(&self, actor: Actor) -> bool
+        requires actor { MayLatch actor }
+        requires look { (activity : _) → StandsAs (core_seen self.now) actor activity → MayLook (core_seen self.now).store activity }
+        ensures { (activity : _) → StandsAs (core_seen self.now) actor activity →
+            result ≡ may_commit activity (core_seen self.now).store.meta (looked_live (core_seen self.now).store activity) }
+    {
         let activity = self.activity(actor);
         activity.may_commit(self.store.meta(), self.looked(activity))
     }
 
     /// The page into which the next step of the activity looks.
-    fn looked(&self, activity: &Activity) -> Option<&LivePage> {
+    fn looked(&self, activity: &Activity) -> Option<&LivePage>
+        ensures { live_given result ≡ looked_live (core_seen self.now).store activity.now }
+    {
         self.live(looked_page(activity)?)
     }
 
     /// Tests the page that is wanted, which is in memory: it is in use, and of the level and the box that are asked for.
-    pub(crate) fn test(&self, actor: Actor, wanted: Wanted) -> Result<(), Why> {
+    pub(crate) fn test(&self, actor: Actor, wanted: Wanted) -> Result<(), Why>
+        requires actor { MayLatch actor }
+        requires there { IsSome (in_memory (core_seen self.now).store wanted.page) }
+        requires working { (activity : _) → StandsAs (core_seen self.now) actor activity → IsWorking activity }
+        requires look { (activity : _) → StandsAs (core_seen self.now) actor activity → MayLook (core_seen self.now).store activity }
+        ensures passes { OnOk result ((activity : _) → StandsAs (core_seen self.now) actor activity → PassesTest (core_seen self.now).store activity wanted) }
+        ensures fails { IfErr result (λ why. (activity : _) → StandsAs (core_seen self.now) actor activity → FailsTest (core_seen self.now).store activity wanted why) }
+    {
         match self.store.get(wanted.page) {
             Some(Page::Live(page)) => test_page(page, wanted, self.asked_box(self.activity(actor))),
             _ => Err(Why::Rule(2)),

@@ -1,4 +1,8 @@
 //! Why a step comes to no row.
+ghost use Rattle.std.specs.Prelude.{◌≡◌};
+ghost use Rattle.hb_core.specs.declared.halts.Halt.TheVariants as halts;
+ghost use Rattle.hb_activity.specs.declared.dropping.DropWhy.TheVariants as drops;
+ghost use Rattle.hb_core.specs.Stopping.{halt_of};
 
 use hb_activity::DropWhy;
 use hb_space::NoMemory;
@@ -14,7 +18,9 @@ pub(crate) enum Halt {
 }
 
 impl From<FetchStop> for Halt {
-    fn from(stop: FetchStop) -> Halt {
+    fn from(stop: FetchStop) -> Halt
+        ensures { result ≡ halt_of stop }
+    {
         match stop {
             FetchStop::Damaged { page, why } => Halt::Stops(StopWhy::Damaged { page, why }),
             FetchStop::ReadFault => Halt::GivesUp(DropWhy::ReadFault),
@@ -24,13 +30,17 @@ impl From<FetchStop> for Halt {
 }
 
 impl From<NoMemory> for Halt {
-    fn from(_refused: NoMemory) -> Halt {
+    fn from(_refused: NoMemory) -> Halt
+        ensures { result ≡ halts.GivesUp drops.NoMemory }
+    {
         Halt::GivesUp(DropWhy::NoMemory)
     }
 }
 
 /// The same cause once more.
-pub(crate) fn copy_of(stop: &StopWhy) -> StopWhy {
+pub(crate) fn copy_of(stop: &StopWhy) -> StopWhy
+    ensures { result ≡ stop.now }
+{
     match stop {
         StopWhy::WriteFault => StopWhy::WriteFault,
         StopWhy::Damaged { page, why } => StopWhy::Damaged {
@@ -40,7 +50,9 @@ pub(crate) fn copy_of(stop: &StopWhy) -> StopWhy {
     }
 }
 
-fn copy_of_why(why: &Why) -> Why {
+fn copy_of_why(why: &Why) -> Why
+    ensures { result ≡ why.now }
+{
     match why {
         Why::Rule(rule) => Why::Rule(*rule),
         Why::Level { asked, found } => Why::Level {

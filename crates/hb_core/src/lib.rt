@@ -16,6 +16,7 @@
 
 pub mod asked_laws;
 mod asking;
+mod bringing;
 pub mod cause_laws;
 mod endings;
 pub mod examples;
@@ -26,6 +27,7 @@ pub mod laws;
 pub mod machine_laws;
 pub mod outcome_laws;
 mod outcomes;
+mod performing;
 pub mod progress_laws;
 mod reading;
 mod state;

@@ -10,7 +10,8 @@ ghost use Rattle.hb_core.specs.CoreSeen.{core_seen, core_disk};
 ghost use Rattle.hb_activity.specs.Classes.{idle_of};
 ghost use Rattle.hb_core.specs.KeptFits.{class_for};
 ghost use Rattle.hb_core.specs.Machines.{live_here};
-ghost use Rattle.hb_core.specs.Moving.{StandsAs, all_idle, begun_core};
+ghost use Rattle.hb_core.specs.Moving.{StandsAs};
+ghost use Rattle.hb_core.specs.Taking.{all_idle, begun_core};
 ghost use Rattle.hb_core.specs.Showing.{number_in_hand};
 
 use crate::halts::copy_of;

@@ -1,14 +1,23 @@
 //! One step of an actor.
-ghost use Rattle.std.specs.Prelude.{◌≡◌};
+ghost use Rattle.std.specs.Prelude.{◌≡◌, ◌≤◌, ◌-◌, ◌==◌, ℕ, Some, None, length};
+ghost use Rattle.std.specs.List.{position, slice_get};
 ghost use Rattle.hb_latch.specs.Tables.{MayLatch};
+ghost use Rattle.hb_activity.specs.declared.activities.Activity.TheVariants as at;
+ghost use Rattle.hb_core.specs.declared.outcomes.Outcome.TheVariants as outcomes;
 ghost use Rattle.hb_core.specs.CoreSeen.{core_seen, core_disk};
-ghost use Rattle.hb_core.specs.Moving.{StandsAs, with_standing};
+ghost use Rattle.hb_core.specs.Machines.{Machine};
+ghost use Rattle.hb_poster.specs.PosterRows.{IsPostingOf};
+ghost use Rattle.hb_core.specs.Moving.{StandsAs, with_standing, with_stop};
+ghost use Rattle.hb_core.specs.Showing.{ShowsMachine};
+ghost use Rattle.hb_core.specs.Steps.{AwaitsPlace, GetsReady, StepsTo};
+ghost use Rattle.hb_core.specs.Taking.{TakesNextLine, TakesNextPosting};
+ghost use Rattle.hb_core.specs.Working.{IsWorking, MayStep};
 
 use crate::halts::copy_of;
 use crate::outcomes::Outcome;
 use crate::reading::idle;
 use crate::state::Core;
-use hb_activity::{Activity, JobKind};
+use hb_activity::{Activity, Job, JobKind};
 use hb_disk::Device;
 use hb_set::{Command, Line};
 use hb_space::{Actor, Areas, Record, Records};
@@ -17,7 +26,15 @@ use std::mem;
 
 impl<D: Device> Core<D> {
     /// Takes one step of the actor, which is 1 to 19: sessions 1 to 16, who posts, who merges, who flushes.
-    pub fn step(&mut self, actor: Actor) -> Outcome {
+    ///
+    /// For each machine that the core shows there is a step of the table that leads to a machine which it shows then, and says
+    /// what the call answers.
+    pub fn step(&mut self, actor: Actor) -> Outcome
+        requires actor { MayLatch actor }
+        requires may { (m : Machine) × MayStep (D.model (core_disk self.old)) (core_seen self.old) m }
+        ensures steps { (m : Machine) → MayStep (D.model (core_disk self.old)) (core_seen self.old) m →
+            (new : Machine) × StepsTo m actor result new × ShowsMachine (D.model (core_disk self.new)) (core_seen self.new) new }
+    {
         self.taken = self.taken.saturating_add(1);
         if let Some(why) = &self.stop {
             return Outcome::Stopped(copy_of(why));
@@ -35,7 +52,12 @@ impl<D: Device> Core<D> {
     }
 
     /// The session takes its next line, where one is left.
-    fn take_line(&mut self, actor: Actor) -> Outcome {
+    fn take_line(&mut self, actor: Actor) -> Outcome
+        requires actor { MayLatch actor }
+        requires behind { (behind : ℕ) × (slice_get (core_seen self.old).behind (actor - 1) ≡ Some behind) × (behind ≤ length (core_seen self.old).lines) }
+        ensures takes { (behind : ℕ) → slice_get (core_seen self.old).behind (actor - 1) ≡ Some behind → TakesNextLine actor behind result (core_seen self.old) (core_seen self.new) }
+        ensures disk { core_disk self.new ≡ core_disk self.old }
+    {
         let session = usize::from(actor) - 1;
         let from = self.behind[session];
         let Some(place) = next_of(&self.script.lines.as_slice()[from..], actor) else {
@@ -56,24 +78,29 @@ impl<D: Device> Core<D> {
     }
 
     /// The poster takes its oldest job, where one waits.
-    fn take_posting(&mut self, actor: Actor) -> Outcome {
+    fn take_posting(&mut self, actor: Actor) -> Outcome
+        requires actor { MayLatch actor }
+        ensures takes { TakesNextPosting actor result (core_seen self.old) (core_seen self.new) }
+        ensures disk { core_disk self.new ≡ core_disk self.old }
+    {
         let Some(job) = self.jobs.take(JobKind::Post) else {
             return Outcome::Idle;
         };
         let height = self.store.meta().height;
-        let next = if height < job.level {
-            Activity::PosterIdle
-        } else if height == job.level {
-            Activity::PosterGrow { job }
-        } else {
-            Activity::PosterWalk { job, held: None }
-        };
+        let next = posting_of(job, height);
         self.stand(actor, next);
         Outcome::Moved
     }
 
     /// Answers the line, where its place is settled, and else forces.
-    fn await_place(&mut self, actor: Actor, place: u32) -> Outcome {
+    fn await_place(&mut self, actor: Actor, place: u32) -> Outcome
+        requires actor { MayLatch actor }
+        requires may { (m : Machine) × MayStep (D.model (core_disk self.old)) (core_seen self.old) m × (m.stop ≡ None) }
+        requires awaits { (number : ℕ) × (reply : _) × StandsAs (core_seen self.old) actor (at.SessionAwait number reply place) }
+        ensures awaits { (m : Machine) (number : ℕ) (reply : _) → MayStep (D.model (core_disk self.old)) (core_seen self.old) m → m.stop ≡ None →
+            m.activity actor ≡ at.SessionAwait number reply place →
+            (new : Machine) × AwaitsPlace m actor number reply place result new × ShowsMachine (D.model (core_disk self.new)) (core_seen self.new) new }
+    {
         if place < self.settled() {
             return self.answer_kept(actor);
         }
@@ -84,8 +111,14 @@ impl<D: Device> Core<D> {
     }
 
     /// Answers the line with the reply that was kept.
-    fn answer_kept(&mut self, actor: Actor) -> Outcome {
-        match self.replace(actor, idle(actor)) {
+    fn answer_kept(&mut self, actor: Actor) -> Outcome
+        requires actor { MayLatch actor }
+        requires awaits { (number place : ℕ) × (reply : _) × StandsAs (core_seen self.old) actor (at.SessionAwait number reply place) }
+        ensures answers { (number place : ℕ) (reply : _) → StandsAs (core_seen self.old) actor (at.SessionAwait number reply place) →
+            (result ≡ outcomes.Answered number reply) × (core_seen self.new ≡ with_standing actor at.SessionIdle (core_seen self.old)) }
+        ensures disk { core_disk self.new ≡ core_disk self.old }
+    {
+        match self.replace(actor, Activity::SessionIdle) {
             Activity::SessionAwait { line, reply, .. } => Outcome::Answered { line, reply },
             _ => unreachable!(),
         }
@@ -93,7 +126,12 @@ impl<D: Device> Core<D> {
 
     /// Flushes once, where a change isn't ready. Where nothing is left to flush, the line is answered `full`, or the job is
     /// dropped.
-    pub(crate) fn get_ready(&mut self, actor: Actor) -> Outcome {
+    pub(crate) fn get_ready(&mut self, actor: Actor) -> Outcome
+        requires actor { MayLatch actor }
+        requires may { (m : Machine) × MayStep (D.model (core_disk self.old)) (core_seen self.old) m × (m.stop ≡ None) × IsWorking (m.activity actor) }
+        ensures readies { (m : Machine) → MayStep (D.model (core_disk self.old)) (core_seen self.old) m → m.stop ≡ None → IsWorking (m.activity actor) →
+            (new : Machine) × GetsReady m actor result new × ShowsMachine (D.model (core_disk self.new)) (core_seen self.new) new }
+    {
         match self.store.flush_step() {
             Ok(Flushed::Forced) => Outcome::Helped,
             Ok(Flushed::Nothing) => self.run_out(actor),
@@ -102,7 +140,11 @@ impl<D: Device> Core<D> {
     }
 
     /// The core is stopped from now on.
-    pub(crate) fn stop_for(&mut self, why: StopWhy) -> Outcome {
+    pub(crate) fn stop_for(&mut self, why: StopWhy) -> Outcome
+        ensures says { result ≡ outcomes.Stopped why }
+        ensures stops { core_seen self.new ≡ with_stop why (core_seen self.old) }
+        ensures disk { core_disk self.new ≡ core_disk self.old }
+    {
         let said = copy_of(&why);
         self.stop = Some(why);
         Outcome::Stopped(said)
@@ -122,13 +164,30 @@ impl<D: Device> Core<D> {
     }
 }
 
+/// How the poster begins with a job, in a file of this height: a job above it is dropped.
+fn posting_of(job: Job, height: u8) -> Activity
+    ensures { IsPostingOf job height result }
+{
+    if height < job.level {
+        return Activity::PosterIdle;
+    }
+    if height == job.level {
+        return Activity::PosterGrow { job };
+    }
+    Activity::PosterWalk { job, held: None }
+}
+
 /// The place of the session's first line among these.
-fn next_of(lines: &[Line], session: Actor) -> Option<usize> {
+fn next_of(lines: &[Line], session: Actor) -> Option<usize>
+    ensures { result ≡ position (λ line. line.session == session) lines.now }
+{
     lines.iter().position(|line| line.session == session)
 }
 
 /// The same line once more.
-fn copy_of_line(line: &Line) -> Line {
+fn copy_of_line(line: &Line) -> Line
+    ensures { result ≡ line.now }
+{
     Line {
         number: line.number,
         session: line.session,
@@ -137,7 +196,9 @@ fn copy_of_line(line: &Line) -> Line {
 }
 
 /// The same command once more.
-fn copy_of_command(command: &Command) -> Command {
+fn copy_of_command(command: &Command) -> Command
+    ensures { result ≡ command.now }
+{
     match command {
         Command::Insert(record) => Command::Insert(Record::copy(record)),
         Command::Delete(point) => Command::Delete(point.copy()),

@@ -1,0 +1,1 @@
+-- What the steps of a core come to, as lemmas: a file for each part.

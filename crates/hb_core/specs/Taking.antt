@@ -1,0 +1,54 @@
+-- How an idle actor of a core takes a line or a job, and a core that has taken no step.
+use Rattle.std.specs.Prelude.{◌≡◌, ◌≢◌, ◌⊎◌, ℕ, ◌-◌, ◌+◌, All, List, [], ◌∷◌, ◌++◌, take, drop, replicate, Some, None}
+use Rattle.std.specs.List.{slice_get, slice_set}
+use Rattle.std.specs.FinMap as map
+use Rattle.hb_activity.specs.declared.activities.Activity.{Activity}
+use Rattle.hb_activity.specs.declared.activities.Activity.TheVariants as at
+use Rattle.hb_activity.specs.declared.jobs.Job.{Job}
+use Rattle.hb_activity.specs.declared.jobs.JobKind.TheVariants.{Post}
+use Rattle.hb_activity.specs.Deeds.{takes_job}
+use Rattle.hb_poster.specs.PosterRows.{IsPostingOf}
+use Rattle.hb_set.specs.declared.scripts.Line.{Line}
+use Rattle.hb_store.specs.States.{StoreState}
+use Rattle.hb_core.specs.declared.outcomes.Outcome.{Outcome}
+use Rattle.hb_core.specs.declared.outcomes.Outcome.TheVariants as outcomes
+use Rattle.hb_core.specs.Moving.{DoesDeed, with_standing}
+use Rattle.hb_core.specs.Performing.{Relatches}
+use Rattle.hb_core.specs.Showing.{RunningCore}
+
+-- A session takes its next line, none of which is a search, and walks from the root; or none is left.
+pub record TakesLine (actor : ℕ) (behind place : ℕ) (line : Line) (old new : RunningCore) : Type 0 where
+  pub skipped : All (λ (l : Line). l.session ≢ actor) (take place (drop behind old.lines))
+  pub there : slice_get (drop behind old.lines) place ≡ Some line
+  pub own : line.session ≡ actor
+  pub latches : Relatches actor [] old.latches new.latches
+  pub rest : new ≡ record (with_standing actor (at.SessionWalk line None [] []) old) { latches = new.latches; behind = slice_set old.behind (actor - 1) (behind + place + 1) }
+
+abbrev pub TakesNextLine : ℕ → ℕ → Outcome → RunningCore → RunningCore → Type 0
+TakesNextLine actor behind outcome old new =
+    ((outcome ≡ outcomes.Idle) × (new ≡ old) × All (λ (l : Line). l.session ≢ actor) (drop behind old.lines))
+    ⊎ ((outcome ≡ outcomes.Moved) × (place : ℕ) × (line : Line) × TakesLine actor behind place line old new)
+
+-- The poster takes its oldest job; or none waits.
+abbrev pub TakesNextPosting : ℕ → Outcome → RunningCore → RunningCore → Type 0
+TakesNextPosting actor outcome old new =
+    ((outcome ≡ outcomes.Idle) × (new ≡ old) × All (λ (job : Job). job.kind ≢ Post) old.jobs)
+    ⊎ ((job : Job) × (next : Activity) × (job.kind ≡ Post) × IsPostingOf job old.store.meta.height next × DoesDeed actor (takes_job next job) outcome old new)
+
+-- all actors with nothing in hand, and a core that has taken no step
+abbrev pub all_idle : List Activity
+all_idle = replicate 16 at.SessionIdle ++ at.PosterIdle ∷ at.ConsolidatorIdle ∷ at.Flusher ∷ []
+
+abbrev pub begun_core : List Line → List ℕ → StoreState → RunningCore
+begun_core lines steps store = record {
+  lines = lines;
+  steps = steps;
+  behind = replicate 16 0;
+  activities = all_idle;
+  latches = map.empty;
+  jobs = [];
+  order = [];
+  stop = None;
+  store = store;
+  taken = 0;
+}

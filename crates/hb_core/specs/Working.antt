@@ -1,0 +1,91 @@
+-- The stages of a step that wants a page or changes the file: what the core shows, and what of the machine is known.
+use Rattle.std.specs.Prelude.{◌≡◌, ◌⊎◌, ℕ, Option, Some, None, IsSome, IfSome, MatchOption}
+use Rattle.hb_disk.specs.Model.{DiskModel}
+use Rattle.hb_activity.specs.declared.activities.Activity.{Activity}
+use Rattle.hb_activity.specs.declared.activities.Activity.TheVariants as at
+use Rattle.hb_frag.specs.declared.pages.LivePage.{LivePage}
+use Rattle.hb_store.specs.declared.stops.StopWhy.TheVariants.{Damaged, WriteFault}
+use Rattle.hb_store.specs.States.{StoreState}
+use Rattle.hb_core.specs.declared.halts.Halt.{Halt}
+use Rattle.hb_core.specs.declared.halts.Halt.TheVariants.{GivesUp, Stops}
+use Rattle.hb_core.specs.Acting.{GivesUpFor, IsBadWanted, MayNeed, NeedsNumber}
+use Rattle.hb_core.specs.Asking.{HasWayFree, asked_box, wanted_by}
+use Rattle.hb_core.specs.Fetching.{Brings, IsBadHead, IsFreeHead, IsWantedPage}
+use Rattle.hb_core.specs.KeptMachine.{MachineKeeps}
+use Rattle.hb_core.specs.Keeps.{HasSoundFile}
+use Rattle.hb_core.specs.Machines.{Machine, next_of, with_disk}
+use Rattle.hb_core.specs.Moving.{with_standing}
+use Rattle.hb_core.specs.Rows.{IsAtHand}
+use Rattle.hb_core.specs.Showing.{RunningCore, ShowsMachine}
+use Rattle.hb_core.specs.StageLaws.{HasNothingToMerge}
+use Rattle.hb_core.specs.Steps.{IsUnready}
+use Rattle.hb_core.specs.SteppingLaws.{HasNoSearches}
+
+-- What is known of a machine of which a core takes a step: it keeps what every machine keeps, its files are sound, no line of its script
+-- is a search, and nothing is to be merged.
+pub record MayGoOn (m : Machine) : Type 0 where
+  pub kept : MachineKeeps m
+  pub sound : IfSome m.files (HasSoundFile m)
+  pub searches : HasNoSearches m
+  pub merges : HasNothingToMerge m
+
+-- A core over a disk shows such a machine.
+pub record MayStep (d : DiskModel) (c : RunningCore) (m : Machine) : Type 0 where
+  pub shows : ShowsMachine d c m
+  pub goes_on : MayGoOn m
+
+-- the activities of sessions and of the poster that want a latch or change the file
+abbrev pub IsWorking : Activity → Type 0
+IsWorking (at.SessionWalk line held rest found) = Unit {0}
+IsWorking (at.SessionSplit line held) = Unit {0}
+IsWorking (at.SessionPut line source fresh) = Unit {0}
+IsWorking (at.PosterGrow job) = Unit {0}
+IsWorking (at.PosterWalk job held) = Unit {0}
+IsWorking (at.PosterChild job parent) = Unit {0}
+IsWorking (at.PosterPromote job parent) = Unit {0}
+IsWorking (at.PosterAgain job parent) = Unit {0}
+IsWorking other = ⊥
+
+-- Such a step may be done: the machine runs, nobody is in the way, and the log is ready for a change, where one may come.
+pub record MayWork (m : Machine) (actor : ℕ) : Type 0 where
+  pub goes_on : MayGoOn m
+  pub runs : m.stop ≡ None
+  pub working : IsWorking (m.activity actor)
+  pub free : HasWayFree m actor
+  pub ready : ¬ (IsUnready m actor)
+
+-- the machine with the pages that a core has in memory now
+abbrev pub with_pages : RunningCore → Machine → Machine
+with_pages c m = with_disk c.store m.files m.clock m
+
+-- The wanted page is at hand, where one is wanted.
+pub record HasCome (m : Machine) (actor : ℕ) (d : DiskModel) (c : RunningCore) : Type 0 where
+  pub may : MayWork m actor
+  pub brings : Brings m (IsWantedPage (wanted_by m actor)) c.store
+  pub shows : ShowsMachine d c (with_pages c m)
+  pub at_hand : IfSome (wanted_by m actor) (λ wanted. (page : LivePage) × IsAtHand (with_pages c m) (m.activity actor) wanted page)
+
+-- And so is the number of a page, with the free head afterwards: given exactly where the row makes one.
+pub record HasPages (m : Machine) (actor : ℕ) (free : Option (ℕ × ℕ)) (d : DiskModel) (c : RunningCore) : Type 0 where
+  pub may : MayWork m actor
+  pub brings : Brings m (λ id. IsWantedPage (wanted_by m actor) id ⊎ (IsSome free × IsFreeHead m.store id)) c.store
+  pub shows : ShowsMachine d c (with_pages c m)
+  pub at_hand : IfSome (wanted_by m actor) (λ wanted. (page : LivePage) × IsAtHand (with_pages c m) (m.activity actor) wanted page)
+  pub number : MatchOption free (¬ (NeedsNumber (m.activity actor) (wanted_by m actor) (with_pages c m)))
+      (λ next. NeedsNumber (m.activity actor) (wanted_by m actor) (with_pages c m) × (next_of c.store ≡ Some next))
+
+-- A core shows a machine but for where this actor stands.
+abbrev pub ShowsBut : DiskModel → RunningCore → ℕ → Machine → Type 0
+ShowsBut d c actor m = ShowsMachine d (with_standing actor (m.activity actor) c) m
+
+-- Why a step that may be done comes to no row: what the actor has in hand is given up, or the machine stops.
+abbrev pub IsHalt : Machine → ℕ → StoreState → Halt → Type 0
+IsHalt m actor st (GivesUp why) = GivesUpFor why m actor st
+IsHalt m actor st (Stops WriteFault) = ⊥
+IsHalt m actor st (Stops (Damaged page why)) = IsBadWanted m.files st (wanted_by m actor) (asked_box (m.activity actor) st) page why
+    ⊎ (NeedsNumber (m.activity actor) (wanted_by m actor) (with_disk st m.files m.clock m) × IsBadHead m.files st page why)
+
+pub record Halts (m : Machine) (actor : ℕ) (halt : Halt) (d : DiskModel) (c : RunningCore) : Type 0 where
+  pub brings : Brings m (MayNeed m actor c.store) c.store
+  pub shows : ShowsBut d c actor (with_pages c m)
+  pub cause : IsHalt m actor c.store halt

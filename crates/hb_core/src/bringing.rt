@@ -1,0 +1,161 @@
+//! How a step gets its pages, and asks its decider.
+ghost use Rattle.std.specs.Prelude.{◌≡◌, ◌↔◌, IsTrue, IfOk, IfErr, OnErr, length};
+ghost use Rattle.hb_latch.specs.Tables.{MayLatch};
+ghost use Rattle.hb_activity.specs.Deciding.{deed_of};
+ghost use Rattle.hb_activity.specs.Classes.{idle_of};
+ghost use Rattle.hb_activity.specs.Deeds.{Deed};
+ghost use Rattle.hb_ops.specs.Given.{given as live_given};
+ghost use Rattle.hb_core.specs.Acting.{NeedsNumber, TakesMemory};
+ghost use Rattle.hb_core.specs.Asking.{wanted_by};
+ghost use Rattle.hb_core.specs.CoreSeen.{core_seen, core_disk};
+ghost use Rattle.hb_core.specs.KeptFits.{class_for};
+ghost use Rattle.hb_core.specs.Looking.{number_of_row, other_number, other_page};
+ghost use Rattle.hb_core.specs.Machines.{Machine};
+ghost use Rattle.hb_core.specs.Moving.{placed, with_standing};
+ghost use Rattle.hb_core.specs.Rows.{Row};
+ghost use Rattle.hb_core.specs.Working.{Halts, HasCome, HasPages, MayStep, MayWork, with_pages};
+
+use crate::halts::Halt;
+use crate::reading::idle;
+use crate::state::{Core, POSTER};
+use hb_activity::{Activity, Next, Wanted};
+use hb_disk::Device;
+use hb_frag::LivePage;
+use hb_space::{Actor, NoMemory};
+use hb_store::StopWhy;
+
+impl<D: Device> Core<D> {
+    /// Brings the page that is wanted into memory, where one is, and tests it.
+    pub(crate) fn bring(&mut self, actor: Actor, wanted: Option<Wanted>) -> Result<(), Halt>
+        requires actor { MayLatch actor }
+        requires may { (m : Machine) × MayStep (D.model (core_disk self.old)) (core_seen self.old) m × MayWork m actor }
+        requires wanted { (m : Machine) → MayStep (D.model (core_disk self.old)) (core_seen self.old) m → wanted ≡ wanted_by m actor }
+        ensures comes { IfOk result (λ done. (m : Machine) → MayStep (D.model (core_disk self.old)) (core_seen self.old) m → MayWork m actor →
+            HasCome m actor (D.model (core_disk self.new)) (core_seen self.new)) }
+        ensures halts { IfErr result (λ halt. (m : Machine) → MayStep (D.model (core_disk self.old)) (core_seen self.old) m → MayWork m actor →
+            Halts m actor halt (D.model (core_disk self.new)) (core_seen self.new)) }
+    {
+        let Some(wanted) = wanted else {
+            return Ok(());
+        };
+        self.store.fetch(wanted.page)?;
+        match self.test(actor, wanted) {
+            Ok(()) => Ok(()),
+            Err(why) => Err(Halt::Stops(StopWhy::Damaged {
+                page: wanted.page,
+                why,
+            })),
+        }
+    }
+
+    /// The number of the page that the row makes, with the free head afterwards. `None` where it makes none, or none is
+    /// free.
+    pub(crate) fn number(
+        &mut self,
+        actor: Actor,
+        wanted: Option<Wanted>,
+    ) -> Result<Option<(u32, u32)>, Halt>
+        requires actor { MayLatch actor }
+        requires come { (m : Machine) × HasCome m actor (D.model (core_disk self.old)) (core_seen self.old) }
+        requires wanted { (m : Machine) → HasCome m actor (D.model (core_disk self.old)) (core_seen self.old) → wanted ≡ wanted_by m actor }
+        ensures numbered { IfOk result (λ free. (m : Machine) → HasCome m actor (D.model (core_disk self.old)) (core_seen self.old) →
+            HasPages m actor free (D.model (core_disk self.new)) (core_seen self.new)) }
+        ensures halts { IfErr result (λ halt. (m : Machine) → HasCome m actor (D.model (core_disk self.old)) (core_seen self.old) →
+            Halts m actor halt (D.model (core_disk self.new)) (core_seen self.new)) }
+    {
+        if self.needs_number(actor, wanted) {
+            return Ok(self.store.next_page()?);
+        }
+        Ok(None)
+    }
+
+    /// Whether the row makes a page, if one is free.
+    fn needs_number(&self, actor: Actor, wanted: Option<Wanted>) -> bool
+        requires actor { MayLatch actor }
+        requires come { (m : Machine) × HasCome m actor (D.model (core_disk self.now)) (core_seen self.now) }
+        requires wanted { (m : Machine) → HasCome m actor (D.model (core_disk self.now)) (core_seen self.now) → wanted ≡ wanted_by m actor }
+        ensures { (m : Machine) → HasCome m actor (D.model (core_disk self.now)) (core_seen self.now) →
+            (IsTrue result ↔ NeedsNumber (m.activity actor) (wanted_by m actor) (with_pages (core_seen self.now) m)) }
+    {
+        let activity = self.activity(actor);
+        match activity {
+            Activity::SessionSplit { .. } => 0 < self.store.free_pages(),
+            Activity::PosterGrow { .. } | Activity::PosterAgain { .. } => {
+                match self.live(page_of(activity, wanted)) {
+                    Some(page) => hb_poster::needs_number(
+                        self.alloc,
+                        activity,
+                        page,
+                        self.other(activity),
+                        self.store.meta(),
+                    ),
+                    None => unreachable!(),
+                }
+            }
+            _ => false,
+        }
+    }
+
+    /// The other page that the row reads: the half that left, or the parent.
+    pub(crate) fn other(&self, activity: &Activity) -> Option<&LivePage>
+        ensures { live_given result ≡ other_page (core_seen self.now).store activity.now }
+    {
+        self.live(other_of(activity)?)
+    }
+
+    /// What the actor's decider says. The actor has nothing in hand meanwhile.
+    pub(crate) fn decide(
+        &mut self,
+        actor: Actor,
+        wanted: Option<Wanted>,
+        free: Option<(u32, u32)>,
+    ) -> Result<Next, NoMemory>
+        requires actor { MayLatch actor }
+        requires pages { (m : Machine) × HasPages m actor free (D.model (core_disk self.old)) (core_seen self.old) }
+        requires wanted { (m : Machine) → HasPages m actor free (D.model (core_disk self.old)) (core_seen self.old) → wanted ≡ wanted_by m actor }
+        ensures row { IfOk result (λ next. (m : Machine) → HasPages m actor free (D.model (core_disk self.old)) (core_seen self.old) →
+            Row (m.activity actor) (wanted_by m actor) (with_pages (core_seen self.old) m) (placed (length m.order) (deed_of (m.activity actor) next))) }
+        ensures memory { OnErr result ((m : Machine) → HasPages m actor free (D.model (core_disk self.old)) (core_seen self.old) →
+            (deed : Deed) × Row (m.activity actor) (wanted_by m actor) (with_pages (core_seen self.old) m) deed × TakesMemory (m.activity actor) deed) }
+        ensures rest { core_seen self.new ≡ with_standing actor (idle_of (class_for actor)) (core_seen self.old) }
+        ensures disk { core_disk self.new ≡ core_disk self.old }
+    {
+        let state = self.replace(actor, idle(actor));
+        let id = page_of(&state, wanted);
+        let other = self.other(&state);
+        let Some(page) = self.live(id) else {
+            unreachable!();
+        };
+        let meta = self.store.meta();
+        if actor == POSTER {
+            hb_poster::next(self.alloc, state, id, page, other, None, free, meta)
+        } else {
+            hb_point::next(self.alloc, state, id, page, other, None, free, meta)
+        }
+    }
+}
+
+/// The number of the other page that the row reads: the half that left, or the parent.
+fn other_of(activity: &Activity) -> Option<u32>
+    ensures { result ≡ other_number activity.now }
+{
+    match activity {
+        Activity::SessionPut { fresh, .. } => Some(*fresh),
+        Activity::PosterChild { parent, .. } | Activity::PosterAgain { parent, .. } => {
+            Some(*parent)
+        }
+        _ => None,
+    }
+}
+
+/// The page that the row speaks of: the wanted one, or the one that is held.
+fn page_of(activity: &Activity, wanted: Option<Wanted>) -> u32
+    ensures { result ≡ number_of_row activity.now wanted }
+{
+    match (activity, wanted) {
+        (_, Some(wanted)) => wanted.page,
+        (Activity::SessionSplit { held, .. }, None) => *held,
+        (Activity::SessionPut { source, .. }, None) => *source,
+        (_, None) => 0,
+    }
+}

@@ -1,0 +1,236 @@
+//! How a core does what its deciders say: latches, the queue, the order, and what becomes of the line in hand.
+ghost use Rattle.std.specs.Prelude.{◌≡◌, ℕ, ◌<◌, ◌≤◌, ◌++◌, length, take, drop, Some, None, IsSome, IfSome, IfOk, IfErr, List};
+ghost use Rattle.std.specs.FinMap as map;
+ghost use Rattle.hb_latch.specs.Tables.{IsGrantable, MayLatch, latches_of, mode_at};
+ghost use Rattle.hb_activity.specs.Classes.{class_of, hand_of};
+ghost use Rattle.hb_activity.specs.Deciding.{deed_of};
+ghost use Rattle.hb_activity.specs.Queue.{AddsJobs};
+ghost use Rattle.hb_activity.specs.Walks.{walk_held};
+ghost use Rattle.std.specs.Option.{option_and_then};
+ghost use Rattle.hb_ops.specs.Given.{given as live_given};
+ghost use Rattle.hb_store.specs.States.{StoreState};
+ghost use Rattle.hb_core.specs.declared.halts.Halt.TheVariants as halts;
+ghost use Rattle.hb_activity.specs.declared.dropping.DropWhy.TheVariants as drops;
+ghost use Rattle.hb_core.specs.CoreSeen.{core_seen, core_disk};
+ghost use Rattle.hb_core.specs.GivingUp.{gives_up, reply_for, runs_out};
+ghost use Rattle.hb_core.specs.KeptFits.{class_for};
+ghost use Rattle.hb_core.specs.Machines.{live_here};
+ghost use Rattle.hb_core.specs.Moving.{AreApart, DoesDeed, KeepsFilesBy, MayCommit, MayStand, Stands, StandsAs, joins_order, number_of, placed, placed_at, pushed, said, with_jobs, with_latches, with_order};
+ghost use Rattle.hb_core.specs.Performing.{MayDo, Relatches, mode_among};
+ghost use Rattle.hb_core.specs.Working.{IsWorking};
+
+use crate::halts::Halt;
+use crate::outcomes::Outcome;
+use crate::reading::idle;
+use crate::state::Core;
+use arrayvec::ArrayVec;
+use hb_activity::{Activity, DropWhy, Fate, Job, Latch, Next};
+use hb_disk::Device;
+use hb_frag::LivePage;
+use hb_latch::Latches;
+use hb_latch::laws::{each_call_changes_one_latch, each_latch_counts_once};
+use hb_set::Reply;
+use hb_space::Actor;
+
+impl<D: Device> Core<D> {
+    /// Performs what the decider said, with the number of the line that was in hand. For want of memory nothing changes.
+    pub(crate) fn perform(
+        &mut self,
+        actor: Actor,
+        line: Option<u32>,
+        next: Next,
+    ) -> Result<Outcome, Halt>
+        requires actor { MayLatch actor }
+        requires commit { IfSome next.op (MayCommit (D.model (core_disk self.old)) (core_seen self.old)) }
+        requires stand { (st : StoreState) → MayDo next.op (length (core_seen self.old).order) (core_seen self.old).store st →
+            MayStand actor (core_seen self.old).latches st (placed_at (length (core_seen self.old).order) next.then) }
+        requires room { IsSome (joins_order line next.then next.fate) → length (core_seen self.old).order < length (core_seen self.old).lines }
+        ensures does { IfOk result (λ outcome. (state : _) → line ≡ number_of (hand_of state) →
+            DoesDeed actor (placed (length (core_seen self.old).order) (deed_of state next)) outcome (core_seen self.old) (core_seen self.new)) }
+        ensures files { IfOk result (λ outcome. KeepsFilesBy next.op (D.model (core_disk self.old)) (core_seen self.old).store (D.model (core_disk self.new)) (core_seen self.new).store) }
+        ensures why { IfErr result (λ halt. (halt ≡ halts.GivesUp drops.NoMemory) × IsSome next.op × (core_seen self.new ≡ core_seen self.old)) }
+        ensures disk { core_disk self.new ≡ core_disk self.old }
+    {
+        let Next {
+            then,
+            op,
+            jobs,
+            fate,
+        } = next;
+        let place = self.order.len() as u32;
+        if let Some(op) = op {
+            self.store.commit(op, place)?;
+        }
+        self.add_all(jobs);
+        let joins = joins(line, &then, &fate);
+        self.stand(actor, at_place(then, place));
+        self.join(joins);
+        Ok(outcome_of(line, fate))
+    }
+
+    /// Lets the jobs wait, one after the other.
+    fn add_all(&mut self, mut jobs: ArrayVec<Job, 2>)
+        ensures jobs { AddsJobs jobs.items (core_seen self.old).jobs (core_seen self.new).jobs }
+        ensures rest { core_seen self.new ≡ with_jobs (core_seen self.new).jobs (core_seen self.old) }
+        ensures disk { core_disk self.new ≡ core_disk self.old }
+    {
+        self.add_first(&mut jobs);
+        self.add_first(&mut jobs);
+    }
+
+    /// Lets the first of the jobs wait, where there is one.
+    fn add_first(&mut self, jobs: &mut ArrayVec<Job, 2>)
+        ensures jobs { AddsJobs (take 1 jobs.old.items) (core_seen self.old).jobs (core_seen self.new).jobs }
+        ensures left { jobs.new.items ≡ drop 1 jobs.old.items }
+        ensures rest { core_seen self.new ≡ with_jobs (core_seen self.new).jobs (core_seen self.old) }
+        ensures disk { core_disk self.new ≡ core_disk self.old }
+    {
+        if !jobs.is_empty() {
+            let _ = self.jobs.add(jobs.remove(0));
+        }
+    }
+
+    /// The line of the number takes effect, where there is one.
+    fn join(&mut self, line: Option<u32>)
+        requires room { IsSome line → length (core_seen self.old).order < length (core_seen self.old).lines }
+        ensures joined { core_seen self.new ≡ with_order ((core_seen self.old).order ++ pushed line) (core_seen self.old) }
+        ensures disk { core_disk self.new ≡ core_disk self.old }
+    {
+        if let Some(line) = line {
+            self.order.push(line).unwrap();
+        }
+    }
+
+    /// The actor stands so from now on, with the latches of that and no other.
+    pub(crate) fn stand(&mut self, actor: Actor, next: Activity)
+        requires actor { MayLatch actor }
+        requires may { MayStand actor (core_seen self.old).latches (core_seen self.old).store next }
+        ensures stands { Stands actor next (core_seen self.old) (core_seen self.new) }
+        ensures disk { core_disk self.new ≡ core_disk self.old }
+    {
+        let held = next.held(self.walked(&next));
+        self.latch_all(actor, held.as_slice());
+        let _ = self.replace(actor, next);
+    }
+
+    /// The page that a walk holds.
+    fn walked(&self, activity: &Activity) -> Option<&LivePage>
+        ensures { live_given result ≡ option_and_then (live_here (core_seen self.now).store) (walk_held activity.now) }
+    {
+        self.live(activity.walk_held()?)
+    }
+
+    /// The actor has these latches and no other. Nobody is in the way of them.
+    fn latch_all(&mut self, actor: Actor, latches: &[Latch])
+        requires actor { MayLatch actor }
+        requires few { length latches.now ≤ 2 }
+        requires apart { AreApart latches.now }
+        requires free { (page : ℕ) (mode : _) → mode_among page latches.now ≡ Some mode →
+            IsGrantable (core_seen self.old).latches actor page mode }
+        ensures latches { Relatches actor latches.now (core_seen self.old).latches (core_seen self.new).latches }
+        ensures rest { core_seen self.new ≡ with_latches (core_seen self.new).latches (core_seen self.old) }
+        ensures disk { core_disk self.new ≡ core_disk self.old }
+    {
+        each_call_changes_one_latch();
+        each_latch_counts_once();
+        self.latches.release_all(actor);
+        match latches {
+            [] => {}
+            [one] => take(&mut self.latches, actor, *one),
+            [one, other] => {
+                take(&mut self.latches, actor, *one);
+                take(&mut self.latches, actor, *other);
+            }
+            _ => unreachable!(),
+        }
+    }
+
+    /// What the actor has in hand is given up: a line is answered outside the order, and a job is dropped.
+    pub(crate) fn give_up(&mut self, actor: Actor, line: Option<u32>, why: DropWhy) -> Outcome
+        requires actor { MayLatch actor }
+        ensures does { (state : _) → IsWorking state → class_of state ≡ class_for actor → line ≡ number_of (hand_of state) →
+            DoesDeed actor (gives_up why state) result (core_seen self.old) (core_seen self.new) }
+        ensures disk { core_disk self.new ≡ core_disk self.old }
+    {
+        self.stand(actor, idle(actor));
+        match line {
+            Some(line) => Outcome::Answered {
+                line,
+                reply: reply_for(why),
+            },
+            None => Outcome::Dropped(why),
+        }
+    }
+
+    /// The log has no room, and nothing is left to flush: the line is `full`, and a job is dropped.
+    pub(crate) fn run_out(&mut self, actor: Actor) -> Outcome
+        requires actor { MayLatch actor }
+        ensures does { (state : _) → StandsAs (core_seen self.old) actor state → IsWorking state → class_of state ≡ class_for actor →
+            DoesDeed actor (runs_out state) result (core_seen self.old) (core_seen self.new) }
+        ensures disk { core_disk self.new ≡ core_disk self.old }
+    {
+        let line = self.line_in_hand(actor);
+        self.stand(actor, idle(actor));
+        match line {
+            Some(line) => Outcome::Answered {
+                line,
+                reply: Reply::Full,
+            },
+            None => Outcome::Moved,
+        }
+    }
+}
+
+/// Takes a latch that nobody is in the way of.
+fn take(latches: &mut Latches, actor: Actor, latch: Latch)
+    requires actor { MayLatch actor }
+    requires few { latches_of latches.old actor < 3 }
+    requires absent { mode_at latches.old actor latch.page ≡ None }
+    requires free { IsGrantable latches.old actor latch.page latch.mode }
+    ensures { latches.new ≡ map.insert latches.old (actor, latch.page) latch.mode }
+{
+    match latches.try_take(actor, latch.page, latch.mode) {
+        Ok(()) => {}
+        Err(_) => unreachable!(),
+    }
+}
+
+/// A session that awaits its place awaits this one.
+fn at_place(then: Activity, place: u32) -> Activity
+    ensures { result ≡ placed_at place then }
+{
+    match then {
+        Activity::SessionAwait { line, reply, .. } => Activity::SessionAwait { line, reply, place },
+        other => other,
+    }
+}
+
+/// The number of the line that joins the order: of the one in hand, where it takes effect and its session awaits its place.
+fn joins(line: Option<u32>, then: &Activity, fate: &Fate) -> Option<u32>
+    ensures { result ≡ joins_order line then.now fate.now }
+{
+    match (then, fate) {
+        (Activity::SessionAwait { .. }, Fate::TakesEffect) => line,
+        _ => None,
+    }
+}
+
+/// What a step comes to that has this line in hand: its fate.
+fn outcome_of(line: Option<u32>, fate: Fate) -> Outcome
+    ensures { result ≡ said line fate }
+{
+    match (line, fate) {
+        (Some(line), Fate::Answers(reply)) => Outcome::Answered { line, reply },
+        _ => Outcome::Moved,
+    }
+}
+
+/// What a line is answered that is given up.
+fn reply_for(why: DropWhy) -> Reply
+    ensures { result ≡ reply_for why }
+{
+    match why {
+        DropWhy::NoMemory => Reply::NoMemory,
+        DropWhy::ReadFault => Reply::ReadFault,
+    }
+}
