@@ -6,3 +6,5 @@ pub mod DeedShows
 pub mod ForcedShows
 pub mod LinesAhead
 pub mod LineTaken
+pub mod PlacesAwaited
+pub mod MadeReady
