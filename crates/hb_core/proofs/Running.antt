@@ -8,3 +8,4 @@ pub mod LinesAhead
 pub mod LineTaken
 pub mod PlacesAwaited
 pub mod MadeReady
+pub mod StepTaken
