@@ -40,7 +40,7 @@ next_is session answered (first ∷ rest) line is =
 
 -- ---- numbers that rise
 
-above_all : (first : Line) (lines : List Line) (line : Line) → IsAbove first lines → Contains lines line → first.number < line.number
+pub above_all : (first : Line) (lines : List Line) (line : Line) → IsAbove first lines → Contains lines line → first.number < line.number
 above_all first [] line above (k, lt, e) = absurd (omega (arith, lt))
 above_all first (x ∷ lines) line above (zero, lt, e) = subst (λ (l : Line). first.number < l.number) e above.0
 above_all first (x ∷ lines) line above (suc k, lt, e) = above_all first lines line above.1 (k, omega (arith, lt), e)
