@@ -1,1 +1,5 @@
 -- What the steps of a core come to, as lemmas: a file for each part.
+pub mod StandsElsewhere
+pub mod Looks
+pub mod Brought
+pub mod Coming
