@@ -8,3 +8,7 @@ pub mod LinesAhead
 pub mod LineTaken
 pub mod PlacesAwaited
 pub mod MadeReady
+pub mod StandsElsewhere
+pub mod Looks
+pub mod Brought
+pub mod Coming
