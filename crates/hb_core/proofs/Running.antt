@@ -8,7 +8,10 @@ pub mod LinesAhead
 pub mod LineTaken
 pub mod PlacesAwaited
 pub mod MadeReady
-pub mod StandsElsewhere
 pub mod Looks
 pub mod Brought
 pub mod Coming
+pub mod OneWanted
+pub mod RowsDone
+pub mod RowsPerformed
+pub mod WorkDone

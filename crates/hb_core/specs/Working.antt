@@ -90,3 +90,7 @@ pub record Halts (m : Machine) (actor : ℕ) (halt : Halt) (d : DiskModel) (c : 
   pub brings : Brings m (MayNeed m actor c.store) c.store
   pub shows : ShowsBut d c actor (with_pages c m)
   pub cause : IsHalt m actor c.store halt
+
+abbrev pub IsStop : Halt → Type 0
+IsStop (GivesUp why) = ⊥
+IsStop (Stops why) = Unit {0}

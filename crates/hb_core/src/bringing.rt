@@ -34,6 +34,7 @@ impl<D: Device> Core<D> {
             HasCome m actor (D.model (core_disk self.new)) (core_seen self.new)) }
         ensures halts { IfErr result (λ halt. (m : Machine) → MayStep (D.model (core_disk self.old)) (core_seen self.old) m → MayWork m actor →
             Halts m actor halt (D.model (core_disk self.new)) (core_seen self.new)) }
+        ensures intact { (core_seen self.new).activities ≡ (core_seen self.old).activities }
     {
         let Some(wanted) = wanted else {
             return Ok(());
@@ -62,6 +63,7 @@ impl<D: Device> Core<D> {
             HasPages m actor free (D.model (core_disk self.new)) (core_seen self.new)) }
         ensures halts { IfErr result (λ halt. (m : Machine) → HasCome m actor (D.model (core_disk self.old)) (core_seen self.old) →
             Halts m actor halt (D.model (core_disk self.new)) (core_seen self.new)) }
+        ensures intact { (core_seen self.new).activities ≡ (core_seen self.old).activities }
     {
         if self.needs_number(actor, wanted) {
             return Ok(self.store.next_page()?);
