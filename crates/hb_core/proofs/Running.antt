@@ -15,3 +15,7 @@ pub mod OneWanted
 pub mod RowsDone
 pub mod RowsPerformed
 pub mod WorkDone
+pub mod Queueing
+pub mod Deeds
+pub mod Latching
+pub mod NextLine
