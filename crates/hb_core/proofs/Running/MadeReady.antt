@@ -1,5 +1,5 @@
 -- A core that isn't ready for a change flushes once, as a step of the machine that it shows.
-use Rattle.std.proofs.Common.{◌≡◌, ◌≢◌, ◌↔◌, inl, inr, ℕ, [], None, Ok, Err, refl, sym, ap, ◌∙◌, subst}
+use Rattle.std.proofs.Common.{◌≡◌, ◌≢◌, ◌↔◌, inl, inr, ℕ, List, [], None, Ok, Err, refl, sym, ap, ◌∙◌, subst}
 use Rattle.hb_activity.specs.Classes.{class_of}
 use Rattle.hb_activity.specs.Deeds.{Deed}
 use Rattle.hb_activity.specs.declared.activities.Activity.{Activity}
@@ -7,8 +7,10 @@ use Rattle.hb_disk.specs.Model.{DiskModel}
 use Rattle.hb_latch.specs.Tables.{MayLatch}
 use Rattle.hb_store.specs.Forced.{WritesOldest}
 use Rattle.hb_store.specs.States.{StoreState}
+use Rattle.hb_store.specs.declared.stops.Flushed.{Flushed}
 use Rattle.hb_store.specs.declared.stops.StopWhy.TheVariants as stops
 use Rattle.hb_store.specs.declared.stops.WriteFault.{WriteFault}
+use Rattle.hb_wal.specs.Log.{Waiting}
 use Rattle.hb_core.specs.declared.outcomes.Outcome.{Outcome}
 use Rattle.hb_core.specs.declared.outcomes.Outcome.TheVariants as outcomes
 use Rattle.hb_core.specs.GivingUp.{runs_out}
@@ -25,6 +27,13 @@ use Rattle.hb_core.proofs.Table.GivenUp.{run_out_is}
 
 no_operation : (activity : Activity) → (runs_out activity).op ≡ None
 no_operation activity = run_out_is (λ (deed : Deed). deed.op ≡ None) activity (λ line is. refl) (λ job is. refl) (λ is. refl)
+
+-- a flush that forced found a group, and one that did nothing found none
+pub some_forced : (did : Flushed) (groups : List Waiting) → did ≡ Flushed.Forced → ((did ≡ Flushed.Nothing) ↔ (groups ≡ [])) → groups ≢ []
+some_forced did groups forced which none = differ (sym forced ∙ which.1 none)
+  where
+    differ : Flushed.Forced ≡ Flushed.Nothing → ⊥
+    differ is = cc
 
 module _ {D : Type 0} (model : D → DiskModel) (x y : D) (c : RunningCore) (m : Machine) (actor : ℕ) (st : StoreState) (step : MayStep (model x) c m) where
   some_waits : c.store.log.groups ≢ [] → m.store.log.groups ≢ []
