@@ -1,7 +1,7 @@
 -- The number of a page that a row makes, and the first page of the free chain, which comes for it.
 use Rattle.std.proofs.Common.{◌≡◌, ◌≢◌, ◌⊎◌, ◌↔◌, inl, inr, ℕ, ◌+◌, ◌<◌, ◌≤◌, ◌==◌, Bool, true, false, cond, nat_lt, [], List, Option, Some, None, IfSome, IsSome, IsTrue, refl, sym, ap, ◌∙◌, subst, arith}
 use Rattle.std.specs.Option.{option_and_then, MatchOption}
-use Rattle.std.proofs.lemmas.Bool.{cases_Bool, eqb-true, eqb-false, lt-ltb}
+use Rattle.std.proofs.lemmas.Bool.{cases_Bool, eqb-true, eqb-false, false≢true, lt-ltb}
 use Rattle.std.proofs.lemmas.Option.{same_Some}
 use Rattle.hb_disk.specs.Model.{DiskModel}
 use Rattle.hb_frag.specs.declared.leaves.Leaf.TheVariants.{Child}
@@ -203,7 +203,7 @@ module _ (m : Machine) (d : DiskModel) (c : RunningCore) (actor : ℕ) (latches 
   hand_then = if_value (wanted_by m actor) (AtHand then) (λ wanted wants. let hand = at_value (wanted_by m actor) (AtHand now) wanted wants come.at_hand in (hand.0, move.hand wanted hand.0 hand.1))
 
   -- a number is given
-  pub given_number : (fresh after : ℕ) → IsNext st fresh after → HasPages m actor (Some (fresh, after)) e (with_store st c)
+  given_number : (fresh after : ℕ) → IsNext st fresh after → HasPages m actor (Some (fresh, after)) e (with_store st c)
   given_number fresh after next = record {
     may = come.may;
     brings = brings_wider m _ _ st (λ id may. elim may [ | inl wants ↦ inl wants | inr head ↦ inr (refl, head) ]) joined;
@@ -213,8 +213,12 @@ module _ (m : Machine) (d : DiskModel) (c : RunningCore) (actor : ℕ) (latches 
   }
 
   -- and one is, as a page is free
-  pub some_free : c.store.meta.live ≢ c.store.meta.pages
+  some_free : c.store.meta.live ≢ c.store.meta.pages
   some_free full = let room : c.store.meta.live < c.store.meta.pages = needs_room now activity (wanted_by m actor) needs in omega (arith, room, full)
+
+  pub number_then : (next : Option (ℕ × ℕ)) → IfSome next (λ p. IsNext st p.0 p.1) → (c.store.meta.live ≢ c.store.meta.pages → IsSome next) → HasPages m actor next e (with_store st c)
+  number_then None is some = absurd (false≢true (some some_free))
+  number_then (Some (fresh, after)) is some = given_number fresh after is
 
   -- ---- the head of the chain is none that is free
 
