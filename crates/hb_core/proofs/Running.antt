@@ -9,6 +9,7 @@ pub mod LineTaken
 pub mod PlacesAwaited
 pub mod MadeReady
 pub mod Looks
+pub mod Boxes
 pub mod Brought
 pub mod Coming
 pub mod OneWanted
@@ -19,3 +20,5 @@ pub mod Queueing
 pub mod Deeds
 pub mod Latching
 pub mod NextLine
+pub mod Numbered
+pub mod Postings

@@ -1,6 +1,7 @@
 -- The wanted page comes and is the one that was asked for, or the step halts.
-use Rattle.std.proofs.Common.{◌≡◌, ◌≢◌, ◌⊎◌, inl, inr, ℕ, List, Option, Some, None, IfSome, IsSome, refl, sym, ap, ◌∙◌, subst, arith}
+use Rattle.std.proofs.Common.{◌≡◌, ◌≢◌, ◌⊎◌, inl, inr, ℕ, true, false, List, Option, Some, None, Result, Ok, Err, IfOk, IfSome, IsSome, refl, sym, ap, ◌∙◌, subst, arith}
 use Rattle.std.specs.Option.{option_and_then, option_map, MatchOption}
+use Rattle.std.specs.Result.{OnOk}
 use Rattle.std.proofs.lemmas.Option.{same_Some}
 use Rattle.hb_disk.specs.Model.{DiskModel}
 use Rattle.hb_frag.specs.declared.leaves.Leaf.{Leaf}
@@ -13,7 +14,7 @@ use Rattle.hb_latch.specs.declared.modes.Mode.{Mode}
 use Rattle.hb_latch.specs.declared.modes.Mode.TheVariants.{Shared, Exclusive}
 use Rattle.hb_latch.specs.Tables.{MayLatch}
 use Rattle.hb_layout.specs.declared.meta.Meta.{Meta}
-use Rattle.hb_lemmas.proofs.Options.{at_value, has_value, not_none}
+use Rattle.hb_lemmas.proofs.Options.{at_value, has_value, if_value, not_none}
 use Rattle.hb_ops.proofs.Facts.PageNumberLaws.{live_so}
 use Rattle.hb_ops.specs.Files.{FileState}
 use Rattle.hb_ops.specs.Sound.{IsSound}
@@ -37,19 +38,29 @@ use Rattle.hb_core.specs.declared.halts.Halt.{Halt}
 use Rattle.hb_core.specs.declared.halts.Halt.TheVariants.{GivesUp, Stops}
 use Rattle.hb_core.proofs.Files.SoundFiles.{current_sound, files_hold}
 use Rattle.hb_core.proofs.Running.Brought.{brings_none, brings_wider, fetch_brings, fetch_keeps, shows_again, shows_store, with_store}
-use Rattle.hb_core.proofs.Running.Looks.{wants_same}
-use Rattle.hb_core.proofs.Running.StandsElsewhere.{shows_but}
+use Rattle.hb_core.proofs.Running.Looks.{may_look, wants_same}
+use Rattle.hb_core.proofs.Running.StandsElsewhere.{shows_but, stands_as}
 use Rattle.hb_core.specs.Acting.{GivesUpFor, IsBadWanted, LacksNeeded, MayNeed}
 use Rattle.hb_core.specs.Asking.{AskedBox, IsNotAsked, asked_box, box_at, box_by_leaf, looked_live, wanted_by, whole_box}
 use Rattle.hb_core.specs.Fetching.{Brings, IsBadRead, IsDamaged, IsWantedPage}
 use Rattle.hb_core.specs.Keeps.{HasSoundFile}
 use Rattle.hb_core.specs.KeptMachine.{MachineKeeps}
-use Rattle.hb_core.specs.Looking.{FailsTest, IsOfOtherLevel, PassesTest, wanted_in}
-use Rattle.hb_core.specs.Machines.{Files, Machine, live_here, with_disk}
+use Rattle.hb_core.specs.Looking.{FailsTest, IsOfOtherLevel, MayLook, PassesTest, wanted_in}
+use Rattle.hb_core.specs.Moving.{StandsAs}
+use Rattle.hb_core.specs.Machines.{Files, Machine, current_file, live_here, with_disk}
 use Rattle.hb_core.specs.Rows.{IsAtHand}
 use Rattle.hb_core.specs.Showing.{RunningCore, ShowsMachine}
 use Rattle.hb_core.specs.Stopping.{halt_of}
 use Rattle.hb_core.specs.Working.{HasCome, Halts, IsHalt, IsWorking, MayStep, MayWork, with_pages}
+
+-- what is known where a call went well is known of its value
+pub ok_then : {T E : Type 0} (r : Result T E) (P : Type 0) (Q : T → Type 0) → (P → (x : T) → Q x) → OnOk r P → IfOk r Q
+ok_then (Ok x) P Q so known = so known x
+ok_then (Err e) P Q so known = known
+
+pub none_where : {T : Type 0} (o : Option T) → (IsSome o → ⊥) → o ≡ None
+none_where None never = refl
+none_where (Some x) never = absurd (never refl)
 
 -- ---- the box that is asked for
 
@@ -117,17 +128,24 @@ asks_or_promotes st activity wanted working wants = absurd working
 
 -- ---- a disk that tells has no damaged page
 
--- where a store that tells would have a sound file, and none is, nothing is told
-pub untold : (d : DiskModel) (c : RunningCore) (m : Machine) → ShowsMachine d c m → IfSome m.files (HasSoundFile m)
-    → ((durable : FileState) (later : List FileState) → StoreKeeps d c.store durable later → IsSound (last_of durable later) → ⊥) → m.files ≡ None
-untold d c m shows sound never = by d.told refl
+-- the file that is told is sound
+abbrev pub SoundWhereTold : Machine → Type 0
+SoundWhereTold m = IfSome m.files (λ files. IsSound (current_file files))
+
+pub sound_where_told : (m : Machine) → IfSome m.files (HasSoundFile m) → SoundWhereTold m
+sound_where_told m sound = if_value m.files (λ (files : Files). IsSound (current_file files)) (λ files told. current_sound m.store files (files_hold m files (at_value m.files (HasSoundFile m) files told sound)))
+
+-- a disk that tells has a file, which is sound, and which the store keeps; or nothing is told
+pub told_or_not : (d : DiskModel) (c : RunningCore) (m : Machine) (P : Type 0) → ShowsMachine d c m → SoundWhereTold m
+    → ((durable : FileState) (later : List FileState) → StoreKeeps d c.store durable later → IsSound (last_of durable later) → P) → (m.files ≡ None) ⊎ P
+told_or_not d c m P shows sound so = by d.told refl
   where
-    by : (o : Option (List ℕ)) → d.told ≡ o → m.files ≡ None
-    by None none = shows.silent none
+    by : (o : Option (List ℕ)) → d.told ≡ o → (m.files ≡ None) ⊎ P
+    by None none = inl (shows.silent none)
     by (Some bytes) told =
         let s = shows.tells (has_value d.told bytes told) in
-        let has = at_value m.files (HasSoundFile m) s.files s.told sound in
-        absurd (never s.files.durable s.files.later (subst (λ (x : StoreState). StoreKeeps d x s.files.durable s.files.later) shows.store s.kept) (current_sound m.store s.files (files_hold m s.files has)))
+        let kept = subst (λ (x : StoreState). StoreKeeps d x s.files.durable s.files.later) shows.store s.kept in
+        inr (so s.files.durable s.files.later kept (at_value m.files (λ (files : Files). IsSound (current_file files)) s.files s.told sound))
 
 module _ (m : Machine) (d : DiskModel) (c : RunningCore) (actor : ℕ) (latches : MayLatch actor) (step : MayStep d c m) (work : MayWork m actor) where
   abbrev here : StoreState
@@ -167,7 +185,7 @@ module _ (m : Machine) (d : DiskModel) (c : RunningCore) (actor : ℕ) (latches 
 
       breaks : (rule : ℕ) → (m.files ≡ None ⊎ IsNoPage m.store.meta wanted.page) → Breaks m.store.meta d wanted.page rule → (asked : AskedBox) → IsDamaged m.files m.store wanted asked (Rule rule)
       breaks rule silent (inl (first, lacks)) asked = inl (lacks, ap Rule first)
-      breaks rule (inl silent) (inr (other, some, told)) asked = inr (inl (some, silent, absent, other))
+      breaks rule (inl silent) (inr (other, some, told)) asked = inr (inl (some, (silent, absent, other)))
       breaks rule (inr lacks) (inr (other, some, told)) asked = absurd (some lacks)
 
       lacks : ¬ (IsNoPage m.store.meta wanted.page) → LacksNeeded m actor m.store
@@ -184,19 +202,16 @@ module _ (m : Machine) (d : DiskModel) (c : RunningCore) (actor : ℕ) (latches 
       refused_by fetches.NoMemory some sound = inl (lacks some)
 
     -- a file that is told is sound, so that the stop is of a number that no page has
-    pub sound_or_untold : (stop : FetchStop)
-        → ((durable : FileState) (later : List FileState) → StoreKeeps d c.store durable later → IsSound (last_of durable later) → (stop ≢ fetches.ReadFault) → (stop ≢ fetches.NoMemory) → IsNoPage c.store.meta wanted.page)
-        → (o : Option (List ℕ)) → d.told ≡ o → (stop ≢ fetches.ReadFault) → (stop ≢ fetches.NoMemory) → m.files ≡ None ⊎ IsNoPage m.store.meta wanted.page
-    sound_or_untold stop sound None none fault memory = inl (step.shows.silent none)
-    sound_or_untold stop sound (Some bytes) told fault memory =
-        let s = step.shows.tells (has_value d.told bytes told) in
-        let has = at_value m.files (HasSoundFile m) s.files s.told work.goes_on.sound in
-        let kept = subst (λ (x : StoreState). StoreKeeps d x s.files.durable s.files.later) step.shows.store s.kept in
-        inr (subst (λ (x : StoreState). IsNoPage x.meta wanted.page) (sym step.shows.store) (sound s.files.durable s.files.later kept (current_sound m.store s.files (files_hold m s.files has)) fault memory))
+    abbrev IsSoundly : FetchStop → Type 0
+    IsSoundly stop = (durable : FileState) (later : List FileState) → StoreKeeps d c.store durable later → IsSound (last_of durable later)
+        → (stop ≢ fetches.ReadFault) → (stop ≢ fetches.NoMemory) → IsNoPage c.store.meta wanted.page
+
+    sound_or_untold : (stop : FetchStop) → IsSoundly stop → (stop ≢ fetches.ReadFault) → (stop ≢ fetches.NoMemory) → (m.files ≡ None) ⊎ IsNoPage m.store.meta wanted.page
+    sound_or_untold stop sound fault memory = told_or_not d c m (IsNoPage m.store.meta wanted.page) step.shows (sound_where_told m work.goes_on.sound)
+        (λ durable later kept is. subst (λ (x : StoreState). IsNoPage x.meta wanted.page) (sym step.shows.store) (sound durable later kept is fault memory))
 
     pub refused : (e : DiskModel) (failed : Type 0) (st : StoreState) (stop : FetchStop) → LooksUp failed d e c.store st → st ≡ c.store → in_memory c.store wanted.page ≡ None → FetchesNot c.store.meta d wanted.page stop
-        → ((durable : FileState) (later : List FileState) → StoreKeeps d c.store durable later → IsSound (last_of durable later) → (stop ≢ fetches.ReadFault) → (stop ≢ fetches.NoMemory) → IsNoPage c.store.meta wanted.page)
-        → Halts m actor (halt_of stop) e (with_store st c)
+        → IsSoundly stop → Halts m actor (halt_of stop) e (with_store st c)
     refused e failed st stop looks kept absent why sound =
         let same : m.store ≡ st = step.shows.store ∙ sym kept in
         let none : in_memory m.store wanted.page ≡ None = ap (λ (x : StoreState). in_memory x wanted.page) step.shows.store ∙ absent in
@@ -204,7 +219,7 @@ module _ (m : Machine) (d : DiskModel) (c : RunningCore) (actor : ℕ) (latches 
         record {
           brings = brings_none m (MayNeed m actor st) st same;
           shows = shows_but e (with_store st c) (with_disk st m.files m.clock m) actor latches (shows_store m d e c failed st step.shows looks);
-          cause = subst (λ (x : StoreState). IsHalt m actor x (halt_of stop)) same (refused_by none stop not_there (sound_or_untold stop sound d.told refl));
+          cause = subst (λ (x : StoreState). IsHalt m actor x (halt_of stop)) same (refused_by none stop not_there (sound_or_untold stop sound));
         }
 
     -- ---- it is fetched, and tested
@@ -212,6 +227,10 @@ module _ (m : Machine) (d : DiskModel) (c : RunningCore) (actor : ℕ) (latches 
     module _ (e : DiskModel) (failed : Type 0) (st : StoreState) (looks : LooksUp failed d e c.store st) (memory : IsMemory st) (fetched : Fetched wanted.page c.store st) where
       brings_it : Brings m (λ id. id ≡ wanted.page) st
       brings_it = fetch_brings m d e c failed st step.shows looks wanted.page memory fetched
+
+      -- so that the core may look for the box
+      pub looks_as : (stands : Activity) → StandsAs c actor stands → MayLook st stands
+      looks_as stands is = subst (MayLook st) (stands_as d c m actor stands latches step.shows is) (may_look m actor latches work.goes_on.kept (λ id. id ≡ wanted.page) st brings_it)
 
       wants_then : wanted_in st activity ≡ Some wanted
       wants_then = wants_same m actor latches work.goes_on.kept (λ id. id ≡ wanted.page) st brings_it ∙ wants

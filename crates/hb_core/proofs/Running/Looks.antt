@@ -1,6 +1,7 @@
 -- The page into which an actor's next step looks is in memory, as it was before other pages came, and can be looked into.
 use Rattle.std.proofs.Common.{◌≡◌, ◌⊎◌, inl, inr, ℕ, List, Option, Some, None, IfSome, IsSome, refl, sym, ap, ◌∙◌, subst}
 use Rattle.std.specs.Option.{option_and_then}
+use Rattle.std.proofs.lemmas.Bool.{false≢true}
 use Rattle.std.proofs.lemmas.Option.{same_Some}
 use Rattle.hb_frag.specs.declared.leaves.Leaf.TheVariants.{Child}
 use Rattle.hb_frag.specs.declared.pages.LivePage.{LivePage}
@@ -114,18 +115,18 @@ module _ (m : Machine) (actor : ℕ) (may : MayLatch actor) (keeps : MachineKeep
 
 -- who looks into a page says which
 names_looked : (activity : Activity) → LooksIntoPage activity → IsSome (looked_page activity)
-names_looked (at.PosterChild job parent) into = tt
-names_looked (at.PosterAgain job parent) into = tt
-names_looked (at.PosterPromote job parent) into = tt
-names_looked (at.ConsolidatorPromote job parent keep gone) into = tt
-names_looked (at.ConsolidatorScan job parent child) into = tt
-names_looked (at.ConsolidatorTry job parent keep gone leaf) into = tt
-names_looked (at.ConsolidatorKeep job parent keep gone) into = tt
-names_looked (at.ConsolidatorDecide job parent keep gone) into = tt
+names_looked (at.PosterChild job parent) into = refl
+names_looked (at.PosterAgain job parent) into = refl
+names_looked (at.PosterPromote job parent) into = refl
+names_looked (at.ConsolidatorPromote job parent keep gone) into = refl
+names_looked (at.ConsolidatorScan job parent child) into = refl
+names_looked (at.ConsolidatorTry job parent keep gone leaf) into = refl
+names_looked (at.ConsolidatorKeep job parent keep gone) into = refl
+names_looked (at.ConsolidatorDecide job parent keep gone) into = refl
 names_looked (at.SessionWalk line held rest found) into = into
 names_looked (at.PosterWalk job held) into = into
 names_looked (at.ConsolidatorWalk job held) into = into
-names_looked activity into = absurd into
+names_looked activity into = absurd (false≢true into)
 
 module _ (m : Machine) (actor : ℕ) (may : MayLatch actor) (keeps : MachineKeeps m) (st : StoreState)
     (stays : (id : ℕ) (mode : Mode) (page : LivePage) → mode_among id (latches_held m.store (m.activity actor)) ≡ Some mode → live_here m.store id ≡ Some page → live_here st id ≡ Some page) where
@@ -143,8 +144,8 @@ module _ (m : Machine) (actor : ℕ) (may : MayLatch actor) (keeps : MachineKeep
   Given o = IsSome (option_and_then (live_here st) o)
 
   given_by : (o : Option ℕ) → looked_page (m.activity actor) ≡ o → IsSome o → Given o
-  given_by None is some = absurd some
-  given_by (Some id) is some = subst (λ (o : Option LivePage). IsSome o) (sym (looked_into id is).1) tt
+  given_by None is some = absurd (false≢true some)
+  given_by (Some id) is some = subst (λ (o : Option LivePage). IsSome o) (sym (looked_into id is).1) refl
 
   leaf_by : (page : LivePage) (o : Option (List ℕ)) → IsGoodPage m.store.meta (Live page) → IfSome o (Holds page.area) → IfSome o (HasLeafAt page)
   leaf_by page None good holds = tt
