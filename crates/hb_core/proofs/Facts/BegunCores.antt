@@ -1,5 +1,5 @@
 -- A core that has taken no step shows a machine that has taken none.
-use Rattle.std.proofs.Common.{◌≡◌, ◌≢◌, ◌⊎◌, inl, inr, ℕ, zero, suc, ◌-◌, ◌<◌, ◌≤◌, ◌==◌, Bool, cond, List, [], ◌∷◌, ◌++◌, All, Option, Some, None, IfSome, IsSome, refl, sym, ap, ◌∙◌, subst, arith, ne_eqb, replicate, slice_get}
+use Rattle.std.proofs.Common.{◌≡◌, ◌≢◌, ◌⊎◌, inl, inr, ℕ, zero, suc, ◌+◌, ◌-◌, ◌<◌, ◌≤◌, ◌==◌, Bool, cond, List, [], ◌∷◌, ◌++◌, All, Option, Some, None, IfSome, IsSome, refl, sym, ap, ◌∙◌, subst, arith, ne_eqb, replicate, slice_get}
 use Rattle.std.specs.FinMap as map
 use Rattle.std.proofs.Math.Nat.{eq-or-lt_of_le}
 use Rattle.std.proofs.lemmas.List.Elements.{All-nil}
@@ -100,6 +100,10 @@ begun_machine lines store files clock = record {
   clock = clock;
 }
 
+-- a file that is durable, and behind which none waits
+abbrev file_alone : FileState → Option Files
+file_alone s = Some (record { durable = s; later = [] })
+
 -- what is known of the store and of the lines, over any disk
 pub record MayBegin (lines : List Line) (store : StoreState) : Type 0 where
   pub new : IsNew store.turn store.meta store
@@ -192,23 +196,20 @@ begins_silent d lines steps store may silent = record {
 
 pub begins_telling : (d : DiskModel) (lines : List Line) (steps : List ℕ) (store : StoreState) (s : FileState) → MayBegin lines store → IsSome d.told → KeepsSound d store s → BeginsWith d lines steps store
 begins_telling d lines steps store s may tells keeps = record {
-  m = begun_machine lines store files d.clock;
-  may = may_step_begun lines store may files d.clock d steps
-      (shows_begun lines store may files d.clock d steps (λ known. record { files = record { durable = s; later = [] }; told = refl; kept = keeps.kept; clock = refl }) (λ none. absurd (never none)))
-      (beginning_keeps_all (begun_machine lines store files d.clock) s over).sound_file;
-  begun = is_begun lines store may files d.clock;
+  m = begun_machine lines store (file_alone s) d.clock;
+  may = may_step_begun lines store may (file_alone s) d.clock d steps
+      (shows_begun lines store may (file_alone s) d.clock d steps (λ known. record { files = record { durable = s; later = [] }; told = refl; kept = keeps.kept; clock = refl }) (λ none. absurd (never none)))
+      (beginning_keeps_all (begun_machine lines store (file_alone s) d.clock) s over).sound_file;
+  begun = is_begun lines store may (file_alone s) d.clock;
   told = λ known. (s, keeps.kept, over);
 }
   where
-    abbrev files : Option Files
-    files = Some (record { durable = s; later = [] })
-
     never : d.told ≡ None → ⊥
     never none = cc (subst (λ (o : Option (List ℕ)). IsSome o) none tells)
 
-    over : IsBegunOver (begun_machine lines store files d.clock) s
+    over : IsBegunOver (begun_machine lines store (file_alone s) d.clock) s
     over = record {
-      begun = is_begun lines store may files d.clock;
+      begun = is_begun lines store may (file_alone s) d.clock;
       told = refl;
       meta = keeps.kept.memory.meta_is;
       shown = λ id page is. absurd (not_none (in_memory store id) page is (may.new.no_page id));
