@@ -16,10 +16,14 @@ use Rattle.hb_sound.specs.PointWalks.{IsPointOf}
 use Rattle.hb_store.specs.declared.stops.StopWhy.{StopWhy}
 use Rattle.hb_store.specs.declared.stops.StopWhy.TheVariants as stops
 use Rattle.hb_store.specs.Opening.{OpensTo}
+use Rattle.hb_core.specs.FileLaws.{FilesStaySound}
+use Rattle.hb_core.specs.KeepingLaws.{ChangesKeepAll}
 use Rattle.hb_core.specs.KeptMachine.{CoreKeeps}
 use Rattle.hb_core.specs.KeptOrder.{StandsInOrder}
 use Rattle.hb_core.specs.Laws.{HasOnePage}
+use Rattle.hb_core.specs.MachineLaws.{MachineStaysKept}
 use Rattle.hb_core.specs.Machines.{Files, Machine}
+use Rattle.hb_core.specs.MomentLaws.{ImagesHavePrefixes}
 use Rattle.hb_core.specs.Showing.{RunningCore, ShowsMachine}
 use Rattle.hb_core.specs.Steps.{StepsInTurn}
 use Rattle.hb_core.specs.Working.{MayGoOn}
@@ -89,3 +93,10 @@ pub record HasRun (d : DiskModel) (m : Machine) (actors : List ℕ) (answers : L
   pub faults : CountsFaults d e answers m.stop new.stop
   pub in_log : Becomes (Torn m.store.log.area m.store.log.len) d e
   pub crashes : (n : RecordSet) (files : Files) → CoreKeeps n m files → CrashesTo n d e new answers
+
+-- The laws of one step and of many by which a run goes on.
+pub record RunningLaws : Type 0 where
+  pub kept : MachineStaysKept
+  pub files : FilesStaySound
+  pub changes : ChangesKeepAll
+  pub images : ImagesHavePrefixes

@@ -19,6 +19,10 @@ same_but_clock outcomes.Helped a b = refl
 same_but_clock (outcomes.Dropped why) a b = refl
 same_but_clock outcomes.Moved a b = refl
 
+-- what a caller keeps of a step, by a clock that is the disk's where it tells
+pub given_at : (now : Option (List ℕ)) (outcome : Outcome) (kept clock : ℕ) → (IsSome now → kept ≡ clock) → AreAnswers now (given_by outcome kept) (given_by outcome clock)
+given_at now outcome kept clock same = record { alike = same_but_clock outcome kept clock; same = λ tells. ap (given_by outcome) (same tells) }
+
 -- `given` is what a caller kept of a step, by the disk's clock; `clock` is the machine's
 pub answers_more : (told now : Option (List ℕ)) (answers came given : List Answered) (outcome : Outcome) (disk_clock clock : ℕ) → AreAnswers told answers came → AreAnswers now given (given_by outcome disk_clock)
     → (IsSome told → IsSome now) → (IsSome told → clock ≡ disk_clock) → AreAnswers told (answers ++ given) (came ++ given_by outcome clock)

@@ -1,12 +1,12 @@
 -- How many lines have no answer after a step: one less where it answered one, and else as many.
-use Rattle.std.proofs.Common.{◌≡◌, ◌≢◌, inl, inr, ℕ, zero, suc, ◌+◌, ◌<◌, not, Bool, true, false, cond, count_by, List, [], ◌∷◌, ◌++◌, length, Option, Some, None, IfSome, refl, sym, ap, ◌∙◌, subst, arith, append-nil, length-append}
+use Rattle.std.proofs.Common.{◌≡◌, ◌≢◌, inl, inr, ℕ, zero, suc, ◌+◌, not, Bool, true, false, cond, count_by, List, [], ◌∷◌, ◌++◌, length, Option, Some, None, IfSome, refl, sym, ap, ◌∙◌, subst, arith, append-nil, length-append}
 use Rattle.std.specs.List.{Contains}
 use Rattle.std.specs.Option.{IsSomeAnd}
 use Rattle.std.proofs.lemmas.List.{append_cancel_left}
 use Rattle.std.proofs.lemmas.List.Sums.{sum_by-cons}
 use Rattle.hb_core.proofs.Memory.Moments.{answers_are_timed}
 use Rattle.hb_core.proofs.Orders.NextLines.{IsNextOf, above_all, next_is, now_answered, unanswered_same}
-use Rattle.hb_core.proofs.Table.StepLines.{LineAnswered, LinesAfter, PlaceSettled, lines_after}
+use Rattle.hb_core.proofs.Table.StepLines.{LinesAfter, PlaceSettled, lines_after}
 use Rattle.hb_core.proofs.Table.Ways.{order_grows}
 use Rattle.hb_core.specs.KeptTurns.{LinesInTurn, awaited_number}
 use Rattle.hb_core.specs.Machines.{Machine}

@@ -1,12 +1,12 @@
 -- A run of a core: it begins, and goes on by a step.
-use Rattle.std.proofs.Common.{◌≡◌, inl, inr, ℕ, ◌+◌, ◌≤◌, List, [], ◌∷◌, ◌++◌, length, map, All, Option, Some, None, IfSome, IsSome, refl, sym, ap, ◌∙◌, subst, arith, append-nil, append_assoc}
+use Rattle.std.proofs.Common.{◌≡◌, ℕ, ◌+◌, ◌≤◌, List, [], ◌∷◌, ◌++◌, All, Option, Some, None, IfSome, IsSome, refl, sym, ap, ◌∙◌, subst, arith, append-nil, append_assoc}
 use Rattle.std.proofs.lemmas.List.{append_cancel_left}
 use Rattle.std.proofs.lemmas.List.Elements.{All-append, All-nil, All-weaker}
-use Rattle.hb_core.proofs.Facts.AnswersGiven.{answers_more, given_now}
+use Rattle.hb_core.proofs.Facts.AnswersGiven.{answers_more, given_at, given_now}
 use Rattle.hb_core.proofs.Facts.LinesLeft.{left_after, left_more}
 use Rattle.hb_core.proofs.Facts.LogAndStop.{log_stays, step_tells}
 use Rattle.hb_core.proofs.Facts.PrefixImages.{prefix_less, settled_prefix}
-use Rattle.hb_core.proofs.Facts.RunCrashes.{StepKeepsAll, crashes_more}
+use Rattle.hb_core.proofs.Facts.RunCrashes.{crashes_more}
 use Rattle.hb_core.proofs.Facts.RunDisks.{log_more, log_touched, moments_touched, shows_them, told_before}
 use Rattle.hb_core.proofs.Facts.RunFaults.{faults_more}
 use Rattle.hb_core.proofs.Machines.GoingOn.{steps_go_on}
@@ -14,15 +14,12 @@ use Rattle.hb_core.proofs.Memory.Moments.{answers_are_timed}
 use Rattle.hb_core.proofs.Orders.PendingKept.{grown_by}
 use Rattle.hb_core.proofs.Table.NoMerges.{nothing_comes_to_merge}
 use Rattle.hb_core.proofs.Table.Ways.{order_grows}
-use Rattle.hb_core.specs.FileLaws.{FilesStaySound}
 use Rattle.hb_core.specs.Keeps.{HasSoundFile}
-use Rattle.hb_core.specs.KeepingLaws.{ChangesKeepAll}
 use Rattle.hb_core.specs.KeptMachine.{CoreKeeps}
-use Rattle.hb_core.specs.MachineLaws.{MachineStaysKept}
 use Rattle.hb_core.specs.Machines.{Files, Machine, settled_count}
 use Rattle.hb_core.specs.MomentLaws.{ImagesHavePrefixes}
 use Rattle.hb_core.specs.Performing.{given_by}
-use Rattle.hb_core.specs.Runs.{AreAnswers, CountsFaults, CrashesTo, HasReadFault, HasRun, HoldsSince, IsPrefixImage, left_count}
+use Rattle.hb_core.specs.Runs.{AreAnswers, CountsFaults, CrashesTo, HasReadFault, HasRun, HoldsSince, IsPrefixImage, RunningLaws, left_count}
 use Rattle.hb_core.specs.Showing.{RunningCore, ShowsMachine}
 use Rattle.hb_core.specs.Steps.{StepsInTurn, StepsTo}
 use Rattle.hb_core.specs.SteppingLaws.{HasNoSearches, IsBetween}
@@ -46,14 +43,6 @@ use Rattle.hb_set.specs.declared.scripts.Line.{Line}
 use Rattle.hb_store.proofs.Facts.StoreLaws.{StoreKeeps-opens}
 use Rattle.hb_store.specs.Keeps.{StoreKeeps}
 use Rattle.hb_store.specs.States.{StoreState}
-
--- The laws of steps that it takes, each the contract of a function that does nothing: `machines_stay_kept`, `files_stay_sound`,
--- `steps_keep_all` and `images_have_prefixes`.
-pub record RunningLaws : Type 0 where
-  pub kept : MachineStaysKept
-  pub files : FilesStaySound
-  pub changes : ChangesKeepAll
-  pub images : ImagesHavePrefixes
 
 -- ---- it begins
 
@@ -229,3 +218,17 @@ module _ (laws : RunningLaws) (d : DiskModel) (m : Machine) (actors : List ℕ) 
     in_log = in_log;
     crashes = crashes;
   }
+
+-- ---- as a caller has it
+
+-- what a core wants to take a step
+pub may_go_on : (d : DiskModel) (m : Machine) (actors : List ℕ) (answers : List Answered) (e : DiskModel) (c : RunningCore) → (run : HasRun d m actors answers e c) → MayStep e c run.new
+may_go_on d m actors answers e c run = record { shows = run.shows; goes_on = run.goes_on }
+
+-- By the contract of the core's step, where the caller keeps each answer with what the core told of the clock.
+pub run_by_step : RunningLaws → (d : DiskModel) (m : Machine) (actors : List ℕ) (answers : List Answered) (e : DiskModel) (old : RunningCore) (actor : ℕ) (outcome : Outcome) (clock : ℕ) (f : DiskModel) (new : RunningCore) → HasRun d m actors answers e old → IsDisk e → IsDisk f → MayLatch actor
+    → ((x : Machine) → MayStep e old x → (next : Machine) × StepsTo x actor outcome next × ShowsMachine f new next) → Touches e old outcome f new → (IsSome f.told → clock ≡ f.clock) → HasRun d m (actors ++ actor ∷ []) (answers ++ given_by outcome clock) f new
+run_by_step laws d m actors answers e old actor outcome clock f new run disk disk_next may steps touches same =
+    let took = steps run.new (may_go_on d m actors answers e old run) in
+    run_goes_on laws d m actors answers e old run actor outcome (given_by outcome clock) f new disk disk_next
+    (record { next = took.0; may = may; step = took.1; shows = took.2; touches = touches; given_is = given_at f.told outcome clock f.clock same })
