@@ -2,6 +2,7 @@
 use Rattle.std.specs.Prelude.{◌≡◌, ℕ, ◌+◌, ◌≤◌, Bool, not, All, Any, List, ◌++◌, count_by, filter, length, map, take, Option, Some, IsSome}
 use Rattle.hb_disk.specs.Calls.{Becomes, Leaves}
 use Rattle.hb_disk.specs.Model.{DiskModel, Torn}
+use Rattle.hb_latch.specs.Tables.{MayLatch}
 use Rattle.hb_ops.specs.Files.{FileState, contents_of}
 use Rattle.hb_ops.specs.Sound.{IsSound}
 use Rattle.hb_outside.specs.Streams.{Rose}
@@ -15,10 +16,14 @@ use Rattle.hb_sound.specs.PointWalks.{IsPointOf}
 use Rattle.hb_store.specs.declared.stops.StopWhy.{StopWhy}
 use Rattle.hb_store.specs.declared.stops.StopWhy.TheVariants as stops
 use Rattle.hb_store.specs.Opening.{OpensTo}
+use Rattle.hb_core.specs.FileLaws.{FilesStaySound}
+use Rattle.hb_core.specs.KeepingLaws.{ChangesKeepAll}
 use Rattle.hb_core.specs.KeptMachine.{CoreKeeps}
 use Rattle.hb_core.specs.KeptOrder.{StandsInOrder}
 use Rattle.hb_core.specs.Laws.{HasOnePage}
+use Rattle.hb_core.specs.MachineLaws.{MachineStaysKept}
 use Rattle.hb_core.specs.Machines.{Files, Machine}
+use Rattle.hb_core.specs.MomentLaws.{ImagesHavePrefixes}
 use Rattle.hb_core.specs.Showing.{RunningCore, ShowsMachine}
 use Rattle.hb_core.specs.Steps.{StepsInTurn}
 use Rattle.hb_core.specs.Working.{MayGoOn}
@@ -77,6 +82,7 @@ pub record CountsFaults (d e : DiskModel) (answers : List Answered) (before afte
 -- machine that keeps all that it should there, crashes leave prefixes.
 pub record HasRun (d : DiskModel) (m : Machine) (actors : List ℕ) (answers : List Answered) (e : DiskModel) (c : RunningCore) : Type 0 where
   pub new : Machine
+  pub may : All MayLatch actors
   pub steps : StepsInTurn actors m new
   pub shows : ShowsMachine e c new
   pub goes_on : MayGoOn new
@@ -87,3 +93,10 @@ pub record HasRun (d : DiskModel) (m : Machine) (actors : List ℕ) (answers : L
   pub faults : CountsFaults d e answers m.stop new.stop
   pub in_log : Becomes (Torn m.store.log.area m.store.log.len) d e
   pub crashes : (n : RecordSet) (files : Files) → CoreKeeps n m files → CrashesTo n d e new answers
+
+-- The laws of one step and of many by which a run goes on.
+pub record RunningLaws : Type 0 where
+  pub kept : MachineStaysKept
+  pub files : FilesStaySound
+  pub changes : ChangesKeepAll
+  pub images : ImagesHavePrefixes
